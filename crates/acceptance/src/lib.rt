@@ -1,0 +1,6 @@
+//! Tests that cross crates, through the library's public face alone.
+#![tactic(auto)]
+
+#[cfg(test)]
+mod matrices;
+pub mod residue7;

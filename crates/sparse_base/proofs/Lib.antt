@@ -1,0 +1,13 @@
+pub mod RingLemmas
+pub mod SumLemmas
+pub mod Lanes
+pub mod LaneOrder
+pub mod SamePlaces
+pub mod NextLane
+pub mod TripletLists
+mod FirstTripletFault
+pub mod PlainLemmas
+pub mod FirstFaults
+pub mod PlainLaws
+pub mod RingMapLemmas
+pub mod WholeNumbers

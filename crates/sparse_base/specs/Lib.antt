@@ -1,0 +1,16 @@
+pub mod Algebra
+pub mod Sums
+pub mod Classes
+pub mod Residues
+pub mod Wrapping
+pub mod Numbers
+pub mod Raw
+pub mod FirstFault
+pub mod PatternFaults
+pub mod Rest
+pub mod Coo
+pub mod CooEquality
+pub mod TripletFaults
+pub mod Plain
+pub mod RingMaps
+pub mod Whole

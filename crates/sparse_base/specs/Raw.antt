@@ -1,0 +1,80 @@
+-- The raw data of a pattern, and what it stands for.
+use Rattle.std.specs.Prelude.{◌≡◌, ℕ, zero, suc, ◌+◌, ◌-◌, ◌<◌, ◌≤◌, ◌↔◌, ◌==◌, Bool, List, [], ◌++◌, map, length, replicate, slice_index, slice_range}
+use Rattle.std.specs.Cmp.Lexicographic.{pointwise}
+use Rattle.std.specs.Ordering.{on, eq_of_both}
+
+-- sizes, offsets and indices as they are given
+pub record Raw : Type 0 where
+  pub major_dim : ℕ
+  pub minor_dim : ℕ
+  pub offsets : List ℕ
+  pub indices : List ℕ
+
+abbrev pub raw_of : ℕ → ℕ → List ℕ → List ℕ → Raw
+raw_of major_dim minor_dim offsets indices = record { major_dim = major_dim; minor_dim = minor_dim; offsets = offsets; indices = indices }
+
+-- the data of these sizes without indices
+abbrev pub empty_raw : ℕ → ℕ → Raw
+empty_raw major_dim minor_dim = raw_of major_dim minor_dim (replicate (major_dim + 1) 0) []
+
+-- where lane i begins in the indices, and where it ends
+abbrev pub start_of : Raw → ℕ → ℕ
+start_of d i = slice_index d.offsets i
+
+abbrev pub end_of : Raw → ℕ → ℕ
+end_of d i = slice_index d.offsets (i + 1)
+
+-- the indices of lane i
+abbrev pub lane_of : Raw → ℕ → List ℕ
+lane_of d i = slice_range d.indices (start_of d i) (end_of d i)
+
+abbrev pub nnz_of : Raw → ℕ
+nnz_of d = length d.indices
+
+-- position p is in lane i
+pub record IsInLane (d : Raw) (i p : ℕ) : Type 0 where
+  pub lane : i < d.major_dim
+  pub from : start_of d i ≤ p
+  pub to : p < end_of d i
+
+-- (i, j) is a place: some position of lane i has the index j
+pub record IsPlace (d : Raw) (i j : ℕ) : Type 0 where
+  pub at : ℕ
+  pub in_lane : IsInLane d i at
+  pub index : slice_index d.indices at ≡ j
+
+-- lane i lies within the indices, and its indices rise below the minor size
+pub record IsValidLane (d : Raw) (i : ℕ) : Type 0 where
+  pub ordered : start_of d i ≤ end_of d i
+  pub inside : end_of d i ≤ length d.indices
+  pub bounded : (p : ℕ) → start_of d i ≤ p → p < end_of d i → slice_index d.indices p < d.minor_dim
+  pub rising : (p : ℕ) → start_of d i < p → p < end_of d i → slice_index d.indices (p - 1) < slice_index d.indices p
+
+pub record IsValid (d : Raw) : Type 0 where
+  pub count : length d.offsets ≡ d.major_dim + 1
+  pub first : slice_index d.offsets 0 ≡ 0
+  pub last : slice_index d.offsets d.major_dim ≡ length d.indices
+  pub lanes : (i : ℕ) → i < d.major_dim → IsValidLane d i
+
+-- each index with the lane i
+abbrev pub paired : ℕ → List ℕ → List (ℕ × ℕ)
+paired i js = map (λ j. (i, j)) js
+
+-- the pairs of the n lanes from lane i on, rising by lane and then as the indices of the lane stand
+abbrev pub entries_from : List ℕ → List ℕ → ℕ → ℕ → List (ℕ × ℕ)
+entries_from offsets indices i zero = []
+entries_from offsets indices i (suc n) = paired i (slice_range indices (slice_index offsets i) (slice_index offsets (i + 1))) ++ entries_from offsets indices (i + 1) n
+
+-- all pairs in lane order
+abbrev pub entries_of : Raw → List (ℕ × ℕ)
+entries_of d = entries_from d.offsets d.indices 0 d.major_dim
+
+-- the answer of `==`
+abbrev pub raw_eq : Raw → Raw → Bool
+raw_eq = eq_of_both (eq_of_both (on (λ d. d.minor_dim) ◌==◌) (on (λ d. d.offsets) (pointwise ◌==◌))) (on (λ d. d.indices) (pointwise ◌==◌))
+
+-- equal sizes, and the same places
+pub record HasSamePlaces (a b : Raw) : Type 0 where
+  pub major_dim : a.major_dim ≡ b.major_dim
+  pub minor_dim : a.minor_dim ≡ b.minor_dim
+  pub places : (i j : ℕ) → IsPlace a i j ↔ IsPlace b i j

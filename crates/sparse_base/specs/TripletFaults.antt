@@ -1,0 +1,38 @@
+-- The faults of triplets that are given as three lists, and their order.
+use Rattle.std.specs.Prelude.{◌≡◌, ◌≢◌, ℕ, ◌≤◌, List, Any, length}
+use Rattle.sparse_base.specs.FirstFault.{IsFirst}
+use Rattle.sparse_base.specs.declared.error.SparseFormatErrorKind.{SparseFormatErrorKind}
+use Rattle.sparse_base.specs.declared.error.SparseFormatErrorKind.TheVariants.{InvalidStructure, IndexOutOfBounds}
+
+-- where a fault can be: rows against columns in number, columns against values in number, the bounds of the rows, those of the columns
+pub data TripletSpot : Type 0 where
+  ColCount : TripletSpot
+  ValueCount : TripletSpot
+  RowBounds : TripletSpot
+  ColBounds : TripletSpot
+
+-- rows, columns and a number of values have a fault at this spot
+abbrev pub HasTripletFault : ℕ → ℕ → List ℕ → List ℕ → ℕ → TripletSpot → Type 0
+HasTripletFault nrows ncols rows cols count ColCount = length rows ≢ length cols
+HasTripletFault nrows ncols rows cols count ValueCount = length cols ≢ count
+HasTripletFault nrows ncols rows cols count RowBounds = Any (λ i. nrows ≤ i) rows
+HasTripletFault nrows ncols rows cols count ColBounds = Any (λ j. ncols ≤ j) cols
+
+-- the kind of the error that a fault at this spot is
+abbrev pub triplet_kind : TripletSpot → SparseFormatErrorKind
+triplet_kind ColCount = InvalidStructure
+triplet_kind ValueCount = InvalidStructure
+triplet_kind RowBounds = IndexOutOfBounds
+triplet_kind ColBounds = IndexOutOfBounds
+
+abbrev pub triplet_rank : TripletSpot → ℕ × ℕ × ℕ
+triplet_rank ColCount = (0, 0, 0)
+triplet_rank ValueCount = (1, 0, 0)
+triplet_rank RowBounds = (2, 0, 0)
+triplet_rank ColBounds = (3, 0, 0)
+
+-- the first fault is of this kind
+pub record IsFirstTripletFault (nrows ncols : ℕ) (rows cols : List ℕ) (count : ℕ) (kind : SparseFormatErrorKind) : Type 0 where
+  pub spot : TripletSpot
+  pub first : IsFirst triplet_rank (HasTripletFault nrows ncols rows cols count) spot
+  pub is : kind ≡ triplet_kind spot

@@ -1,0 +1,316 @@
+//! Matrices as lists of triplets.
+
+ghost use Rattle.std.specs.Prelude.{◌≡◌, ◌<◌, ◌≤◌, [], ◌∷◌, length, map, All, Any, MatchBool, IsOk, IfOk, IfErr, OnOk, OnErr};
+ghost use Rattle.std.specs.Iterator.{YieldsFirstBy, item_count};
+ghost use Rattle.sparse_base.specs.Coo.{coo_of, zip_triplets, appended, AreParts, IsInside};
+ghost use Rattle.sparse_base.specs.TripletFaults.{IsFirstTripletFault};
+
+use crate::error::{SparseFormatError, SparseFormatErrorKind};
+use std::alloc::{AllocError, Global};
+use std::marker::Model;
+
+/// A matrix as a list of triplets (row, column, value).
+///
+/// A pair may occur more than once: its value is then the sum over its triplets.
+#[derive(Debug, Drop)]
+pub struct CooMatrix<T> {
+    nrows: usize,
+    ncols: usize,
+    row_indices: Vec<usize>,
+    col_indices: Vec<usize>,
+    values: Vec<T>,
+}
+
+impl<T> Model for CooMatrix<T> {
+    ghost use Rattle.sparse_base.specs.Coo.{Coo, coo_code, coo_of, zip_triplets};
+
+    ghost Value = { Coo T };
+
+    ghost coded = { coo_code T.code };
+
+    ghost use Rattle.sparse_base.specs.Coo.{AreParts};
+
+    ghost view = { λ m. coo_of m.nrows m.ncols (zip_triplets m.row_indices.items m.col_indices.items m.values.items) };
+
+    ghost invariant = { λ m. AreParts m.nrows m.ncols m.row_indices.items m.col_indices.items m.values.items };
+}
+
+impl<T> CooMatrix<T> {
+    /// A matrix without triplets. It takes no memory.
+    pub fn new(alloc: Global, nrows: usize, ncols: usize) -> Self
+        ensures { result ≡ coo_of nrows ncols [] }
+    {
+        CooMatrix {
+            nrows,
+            ncols,
+            row_indices: Vec::new(alloc),
+            col_indices: Vec::new(alloc),
+            values: Vec::new(alloc),
+        }
+    }
+
+    /// A matrix without triplets, as `new` makes it. It takes no memory.
+    pub fn zeros(alloc: Global, nrows: usize, ncols: usize) -> Self
+        ensures { result ≡ coo_of nrows ncols [] }
+    {
+        CooMatrix::new(alloc, nrows, ncols)
+    }
+
+    /// The triplets of three lists, or the first fault: rows against columns in number, columns against values in number, then all
+    /// rows against the size, then all columns.
+    ///
+    /// It takes no memory, and drops lists that it refuses.
+    pub fn try_from_triplets(
+        nrows: usize,
+        ncols: usize,
+        row_indices: Vec<usize>,
+        col_indices: Vec<usize>,
+        values: Vec<T>,
+    ) -> Result<Self, SparseFormatError>
+    where
+        T: Drop,
+        ensures ok { IfOk result (λ m. m ≡ coo_of nrows ncols (zip_triplets row_indices.items col_indices.items values.items)) }
+        ensures valid { OnOk result (AreParts nrows ncols row_indices.items col_indices.items values.items) }
+        ensures fault { IfErr result (IsFirstTripletFault nrows ncols row_indices.items col_indices.items (length values.items)) }
+        ensures taken { AreParts nrows ncols row_indices.items col_indices.items values.items → IsOk result }
+    {
+        if row_indices.len() != col_indices.len() {
+            return Err(SparseFormatError::new(
+                SparseFormatErrorKind::InvalidStructure,
+                "Number of row and col indices must be the same.",
+            ));
+        }
+        if col_indices.len() != values.len() {
+            return Err(SparseFormatError::new(
+                SparseFormatErrorKind::InvalidStructure,
+                "Number of col indices and values must be the same.",
+            ));
+        }
+        if !all_below(&row_indices, nrows) {
+            return Err(SparseFormatError::new(
+                SparseFormatErrorKind::IndexOutOfBounds,
+                "Row index out of bounds.",
+            ));
+        }
+        if !all_below(&col_indices, ncols) {
+            return Err(SparseFormatError::new(
+                SparseFormatErrorKind::IndexOutOfBounds,
+                "Col index out of bounds.",
+            ));
+        }
+        Ok(CooMatrix {
+            nrows,
+            ncols,
+            row_indices,
+            col_indices,
+            values,
+        })
+    }
+
+    /// Makes room for more triplets.
+    pub fn reserve(&mut self, additional: usize) -> Result<(), AllocError>
+        ensures { self.new ≡ self.old }
+    {
+        self.row_indices.reserve(additional)?;
+        self.col_indices.reserve(additional)?;
+        self.values.reserve(additional)
+    }
+
+    /// Adds a triplet at the end. Where memory is refused, the triplets stay as they were.
+    pub fn push(&mut self, i: usize, j: usize, v: T) -> Result<(), AllocError>
+    where
+        T: Drop,
+        requires row { i < self.old.nrows }
+        requires col { j < self.old.ncols }
+        ensures ok { OnOk result (self.new ≡ appended self.old ((i, j, v) ∷ [])) }
+        ensures err { OnErr result (self.new ≡ self.old) }
+    {
+        self.row_indices.reserve(1)?;
+        self.col_indices.reserve(1)?;
+        self.values.reserve(1)?;
+        self.row_indices.push_reserved(i);
+        self.col_indices.push_reserved(j);
+        self.values.push_reserved(v);
+        Ok(())
+    }
+
+    /// The number of rows.
+    pub fn nrows(&self) -> usize
+        ensures { result ≡ self.now.nrows }
+    {
+        self.nrows
+    }
+
+    /// The number of columns.
+    pub fn ncols(&self) -> usize
+        ensures { result ≡ self.now.ncols }
+    {
+        self.ncols
+    }
+
+    /// The number of triplets, repeated ones too.
+    pub fn nnz(&self) -> usize
+        ensures { result ≡ length self.now.triplets }
+    {
+        self.values.len()
+    }
+
+    /// The row of each triplet.
+    pub fn row_indices(&self) -> &[usize]
+        ensures rows { result.now ≡ map (λ t. t.0) self.now.triplets }
+        ensures inside { IsInside self.now }
+    {
+        &self.row_indices
+    }
+
+    /// The column of each triplet.
+    pub fn col_indices(&self) -> &[usize]
+        ensures cols { result.now ≡ map (λ t. t.1) self.now.triplets }
+        ensures inside { IsInside self.now }
+    {
+        &self.col_indices
+    }
+
+    /// The value of each triplet.
+    pub fn values(&self) -> &[T]
+        ensures { result.now ≡ map (λ t. t.2) self.now.triplets }
+    {
+        &self.values
+    }
+
+    /// The triplets in the order of pushing.
+    pub fn triplet_iter(&self) -> CooTripletIter<'_, T>
+        ensures all { result ≡ self.now.triplets }
+        ensures inside { IsInside self.now }
+    {
+        CooTripletIter {
+            rows: &self.row_indices,
+            cols: &self.col_indices,
+            values: &self.values,
+        }
+    }
+
+    /// The rows, the columns and the values, moved out of the matrix.
+    pub fn disassemble(self) -> (Vec<usize>, Vec<usize>, Vec<T>)
+        ensures rows { result.0.items ≡ map (λ t. t.0) self.triplets }
+        ensures cols { result.1.items ≡ map (λ t. t.1) self.triplets }
+        ensures values { result.2.items ≡ map (λ t. t.2) self.triplets }
+        ensures inside { IsInside self }
+    {
+        let CooMatrix {
+            nrows: _,
+            ncols: _,
+            row_indices,
+            col_indices,
+            values,
+        } = self;
+        (row_indices, col_indices, values)
+    }
+}
+
+// Whether each index lies below the bound.
+fn all_below(indices: &[usize], bound: usize) -> bool
+    ensures { MatchBool result (All (λ i. i < bound) indices.now) (Any (λ i. bound ≤ i) indices.now) }
+{
+    indices.iter().all(|&index| index < bound)
+}
+
+impl<T: Copy> CooMatrix<T> {
+    /// A copy with the same sizes and triplets.
+    pub fn clone(&self, alloc: Global) -> Result<Self, AllocError>
+        ensures { IfOk result (λ m. m ≡ self.now) }
+    {
+        Ok(CooMatrix {
+            nrows: self.nrows,
+            ncols: self.ncols,
+            row_indices: Vec::from_slice(alloc, &self.row_indices)?,
+            col_indices: Vec::from_slice(alloc, &self.col_indices)?,
+            values: Vec::from_slice(alloc, &self.values)?,
+        })
+    }
+}
+
+impl<T> CooMatrix<T> {
+    ghost use Rattle.sparse_base.specs.CooEquality.{coo_sizes_eq, coo_places_eq};
+
+    // Whether the sizes are equal.
+    fn has_same_sizes(&self, other: &Self) -> bool
+        ensures { result ≡ coo_sizes_eq self.now other.now }
+    {
+        self.nrows() == other.nrows() && self.ncols() == other.ncols()
+    }
+
+    // Whether the sizes and the lists of rows and of columns are equal.
+    fn has_same_places(&self, other: &Self) -> bool
+        ensures { result ≡ coo_places_eq self.now other.now }
+    {
+        self.has_same_sizes(other)
+            && self.row_indices() == other.row_indices()
+            && self.col_indices() == other.col_indices()
+    }
+}
+
+/// Equal sizes, and equal lists of rows, columns and values.
+impl<T: PartialEq> PartialEq for CooMatrix<T> {
+    ghost use Rattle.sparse_base.specs.CooEquality.{coo_eq, coo_eq-laws};
+
+    ghost eq = { coo_eq T.eq };
+
+    ghost laws = { coo_eq-laws T.laws };
+
+    fn eq(&self, other: &Self) -> bool {
+        self.has_same_places(other) && self.values() == other.values()
+    }
+}
+
+impl<T: Eq> Eq for CooMatrix<T> {
+    ghost use Rattle.sparse_base.specs.CooEquality.{coo_eq-equiv};
+
+    ghost laws = { coo_eq-equiv T.Eq.laws };
+}
+
+/// The triplets of a [`CooMatrix`] in the order of pushing.
+#[derive(Drop)]
+pub struct CooTripletIter<'a, T> {
+    rows: &'a [usize],
+    cols: &'a [usize],
+    values: &'a [T],
+}
+
+impl<'a, T> Model for CooTripletIter<'a, T> {
+    ghost use Rattle.std.specs.Prelude.{◌≡◌, ℕ, List, length};
+    ghost use Rattle.sparse_base.specs.Coo.{zip_triplets};
+
+    ghost Value = { List (ℕ × ℕ × T) };
+
+    ghost view = { λ it. zip_triplets it.rows.now it.cols.now it.values.now };
+
+    ghost invariant = { λ it. (length it.rows.now ≡ length it.values.now) × (length it.cols.now ≡ length it.values.now) };
+}
+
+impl<'a, T> Iterator for CooTripletIter<'a, T> {
+    type Item = (usize, usize, &'a T);
+
+    ghost next_gives = { YieldsFirstBy (λ x. (x.0, x.1, x.2.now)) (λ rest. rest) };
+
+    ghost remaining = { item_count (λ rest. rest) };
+
+    fn next(&mut self) -> Option<(usize, usize, &'a T)> {
+        match (
+            self.rows.split_first(),
+            self.cols.split_first(),
+            self.values.split_first(),
+        ) {
+            (Some((row, rows)), Some((col, cols)), Some((value, values))) => {
+                self.rows = rows;
+                self.cols = cols;
+                self.values = values;
+                Some((*row, *col, value))
+            }
+            _ => None,
+        }
+    }
+}
+
+#[cfg(test)]
+mod tests;

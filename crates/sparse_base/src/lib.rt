@@ -1,0 +1,9 @@
+//! Scalars, patterns and lists of triplets: what every crate of the library stands on.
+#![tactic(auto)]
+
+pub mod coo;
+pub mod error;
+pub mod laws;
+pub mod pattern;
+pub mod scalar;
+pub mod steps;

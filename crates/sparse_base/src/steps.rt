@@ -1,0 +1,87 @@
+//! A count of steps that takes no memory.
+
+ghost use Rattle.std.specs.Prelude.{◌≡◌, ℕ, ◌+◌};
+ghost use base.Fml.{ftrue};
+
+use std::marker::Model;
+
+// A number that contracts read and a program doesn't. It has no bytes.
+#[derive(Drop)]
+struct Count {
+    ghost number: { ℕ },
+}
+
+impl Model for Count {
+    ghost also_owns = { λ _. ftrue };
+}
+
+impl Count {
+    fn new() -> Count
+        ensures { result.number ≡ 0 }
+    {
+        Count {}
+    }
+
+    fn next(&self) -> Count
+        ensures { result.number ≡ self.now.number + 1 }
+    {
+        Count {}
+    }
+}
+
+/// How many steps were taken.
+///
+/// Contracts see it as a number. It has no bytes at run time, and a program can't read it.
+#[derive(Drop)]
+pub struct Steps {
+    taken: Count,
+}
+
+impl Model for Steps {
+    ghost use Rattle.std.specs.Prelude.{ℕ};
+
+    ghost Value = { ℕ };
+
+    ghost view = { λ s. s.taken.number };
+}
+
+impl Steps {
+    /// No step taken.
+    pub fn new() -> Steps
+        ensures { result ≡ 0 }
+    {
+        Steps {
+            taken: Count::new(),
+        }
+    }
+
+    /// Counts one more step.
+    pub fn tick(&mut self)
+        ensures { self.new ≡ self.old + 1 }
+    {
+        self.taken = self.taken.next();
+    }
+}
+
+const _: () = prove!(size_of::<Steps>() == 0);
+
+#[cfg(test)]
+mod tests {
+    use super::*;
+
+    fn two_steps() -> Steps
+        ensures { result ≡ 2 }
+    {
+        let mut steps = Steps::new();
+        steps.tick();
+        steps.tick();
+        steps
+    }
+
+    #[test]
+    fn counts_two_steps(rt: HostRuntime) {
+        let steps = two_steps();
+        assert_eq!(rt; size_of::<Steps>(), 0);
+        drop(steps);
+    }
+}

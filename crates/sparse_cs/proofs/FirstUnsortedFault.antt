@@ -1,0 +1,114 @@
+-- The first fault of arrays whose lanes needn't be sorted.
+use Rattle.std.proofs.Common.{◌≡◌, ℕ, ◌+◌, ◌<◌, ◌≤◌, ◌⊎◌, inl, inr, List, length, slice_index, All, Any, refl, arith}
+use Rattle.sparse_base.specs.Raw.{start_of, end_of, lane_of}
+use Rattle.sparse_base.specs.FirstFault.{IsBefore}
+use Rattle.sparse_base.specs.declared.error.SparseFormatErrorKind.{SparseFormatErrorKind}
+use Rattle.sparse_base.specs.declared.error.SparseFormatErrorKind.TheVariants.{IndexOutOfBounds, DuplicateEntry, InvalidStructure}
+use Rattle.sparse_cs.specs.Compressed.{Compressed}
+use Rattle.sparse_cs.specs.LaneSorting.{IsLaneFault}
+use Rattle.sparse_cs.specs.UnsortedFaults.{UnsortedSpot, ValueCount, NoOffsets, OffsetCount, FirstLast, LaneFall, LaneEnd, LaneBounds, LaneRepeat, unsorted_rank, HasRepeat, HasUnsortedFault, HasFineCounts, IsFaultless, IsUnsortedRefusal}
+
+-- lane k has no fault
+pub record IsFineLane {T : Type 0} (m : Compressed T) (k : ℕ) : Type 0 where
+  pub ordered : start_of m.pattern k ≤ end_of m.pattern k
+  pub inside : end_of m.pattern k ≤ length m.pattern.indices
+  pub bounded : All (λ j. j < m.pattern.minor_dim) (lane_of m.pattern k)
+  pub distinct : HasRepeat (lane_of m.pattern k) → ⊥
+
+le_cases : (a b : ℕ) → a ≤ b → (a < b) ⊎ (a ≡ b)
+le_cases a b h = grind arith
+
+-- not both all below and some past the bound
+not_past : (bound : ℕ) (xs : List ℕ) → All (λ j. j < bound) xs → Any (λ j. bound ≤ j) xs → ⊥
+not_past bound xs below past = omega (arith, below past.0 past.1 past.2, past.3, past.4)
+
+module _ {T : Type 0} (m : Compressed T) where
+  -- no spot has a fault where all lanes are fine
+  pub faultless : HasFineCounts m → ((k : ℕ) → k < m.pattern.major_dim → IsFineLane m k) → IsFaultless m
+  faultless counts lanes ValueCount h = h counts.values
+  faultless counts lanes NoOffsets h = absurd (omega (arith, counts.offsets))
+  faultless counts lanes OffsetCount h = h counts.offsets
+  faultless counts lanes FirstLast h = elim h [ inl x ↦ x counts.first | inr x ↦ x counts.last ]
+  faultless counts lanes (LaneFall k) h = omega (arith, (lanes k h.0).ordered, h.1)
+  faultless counts lanes (LaneEnd k) h = omega (arith, (lanes k h.0).inside, h.1)
+  faultless counts lanes (LaneBounds k) h = not_past _ _ (lanes k h.0).bounded h.1
+  faultless counts lanes (LaneRepeat k) h = (lanes k h.0).distinct h.1
+
+  module _ (counts : HasFineCounts m) (i : ℕ) (lane : i < m.pattern.major_dim) (fine : (k : ℕ) → k < i → IsFineLane m k) where
+    -- no spot before the n-th of lane i has a fault, where those of that lane before it have none
+    none_before : (n : ℕ) → n ≤ 3 → (0 < n → start_of m.pattern i ≤ end_of m.pattern i) → (1 < n → end_of m.pattern i ≤ length m.pattern.indices) → (2 < n → All (λ j. j < m.pattern.minor_dim) (lane_of m.pattern i)) → (t : UnsortedSpot) → IsBefore (unsorted_rank t) (i + 4, n, 0) → HasUnsortedFault m t → ⊥
+    none_before n top ordered inside bounded ValueCount b h = h counts.values
+    none_before n top ordered inside bounded NoOffsets b h = absurd (omega (arith, counts.offsets))
+    none_before n top ordered inside bounded OffsetCount b h = h counts.offsets
+    none_before n top ordered inside bounded FirstLast b h = elim h [ inl x ↦ x counts.first | inr x ↦ x counts.last ]
+    none_before n top ordered inside bounded (LaneFall k) b h = elim (le_cases k i (grind arith)) [
+      | inl lt ↦ omega (arith, (fine k lt).ordered, h.1)
+      | inr same ↦ let some : 0 < n = grind arith in omega (arith, rw (← same) at (ordered some), h.1)
+    ]
+    none_before n top ordered inside bounded (LaneEnd k) b h = elim (le_cases k i (grind arith)) [
+      | inl lt ↦ omega (arith, (fine k lt).inside, h.1)
+      | inr same ↦ let some : 1 < n = grind arith in omega (arith, rw (← same) at (inside some), h.1)
+    ]
+    none_before n top ordered inside bounded (LaneBounds k) b h = elim (le_cases k i (grind arith)) [
+      | inl lt ↦ not_past _ _ (fine k lt).bounded h.1
+      | inr same ↦ let some : 2 < n = grind arith in not_past _ _ (bounded some) (rw same at h.1)
+    ]
+    none_before n top ordered inside bounded (LaneRepeat k) b h = let lt : k < i = grind arith in (fine k lt).distinct h.1
+
+    pub first_fall : end_of m.pattern i < start_of m.pattern i → IsUnsortedRefusal m InvalidStructure
+    first_fall bad = record { spot = LaneFall i; first = record { here = (lane, bad); none_before = none_before 0 (omega arith) (λ h. absurd (omega arith)) (λ h. absurd (omega arith)) (λ h. absurd (omega arith)) }; is = refl }
+
+    pub first_end : start_of m.pattern i ≤ end_of m.pattern i → length m.pattern.indices < end_of m.pattern i → IsUnsortedRefusal m IndexOutOfBounds
+    first_end ordered bad = record { spot = LaneEnd i; first = record { here = (lane, bad); none_before = none_before 1 (omega arith) (λ _. ordered) (λ h. absurd (omega arith)) (λ h. absurd (omega arith)) }; is = refl }
+
+    pub first_in_lane : start_of m.pattern i ≤ end_of m.pattern i → end_of m.pattern i ≤ length m.pattern.indices → (kind : SparseFormatErrorKind) → IsLaneFault m.pattern.minor_dim (lane_of m.pattern i) kind → IsUnsortedRefusal m kind
+    first_in_lane ordered inside kind fault = elim fault [
+      | inl past ↦ record { spot = LaneBounds i; first = record { here = (lane, past.0); none_before = none_before 2 (omega arith) (λ _. ordered) (λ _. inside) (λ h. absurd (omega arith)) }; is = past.1 }
+      | inr twice ↦ record { spot = LaneRepeat i; first = record { here = (lane, twice.1); none_before = none_before 3 (omega arith) (λ _. ordered) (λ _. inside) (λ _. twice.0) }; is = twice.2 }
+    ]
+
+  -- the faults of the arrays as a whole
+  pub first_value_count : (length m.values ≡ length m.pattern.indices → ⊥) → IsUnsortedRefusal m InvalidStructure
+  first_value_count bad = record { spot = ValueCount; first = record { here = bad; none_before = λ s b h. absurd (before_value_count s b) }; is = refl }
+    where
+      before_value_count : (s : UnsortedSpot) → IsBefore (unsorted_rank s) (0, 0, 0) → ⊥
+      before_value_count s b = grind arith
+
+  pub first_no_offsets : length m.values ≡ length m.pattern.indices → length m.pattern.offsets ≡ 0 → IsUnsortedRefusal m InvalidStructure
+  first_no_offsets values bad = record { spot = NoOffsets; first = record { here = bad; none_before = before }; is = refl }
+    where
+      before : (s : UnsortedSpot) → IsBefore (unsorted_rank s) (1, 0, 0) → HasUnsortedFault m s → ⊥
+      before ValueCount b h = h values
+      before NoOffsets b h = absurd (grind arith)
+      before OffsetCount b h = absurd (grind arith)
+      before FirstLast b h = absurd (grind arith)
+      before (LaneFall k) b h = absurd (grind arith)
+      before (LaneEnd k) b h = absurd (grind arith)
+      before (LaneBounds k) b h = absurd (grind arith)
+      before (LaneRepeat k) b h = absurd (grind arith)
+
+  pub first_offset_count : length m.values ≡ length m.pattern.indices → 0 < length m.pattern.offsets → (length m.pattern.offsets ≡ m.pattern.major_dim + 1 → ⊥) → IsUnsortedRefusal m InvalidStructure
+  first_offset_count values some bad = record { spot = OffsetCount; first = record { here = bad; none_before = before }; is = refl }
+    where
+      before : (s : UnsortedSpot) → IsBefore (unsorted_rank s) (2, 0, 0) → HasUnsortedFault m s → ⊥
+      before ValueCount b h = h values
+      before NoOffsets b h = absurd (omega arith)
+      before OffsetCount b h = absurd (grind arith)
+      before FirstLast b h = absurd (grind arith)
+      before (LaneFall k) b h = absurd (grind arith)
+      before (LaneEnd k) b h = absurd (grind arith)
+      before (LaneBounds k) b h = absurd (grind arith)
+      before (LaneRepeat k) b h = absurd (grind arith)
+
+  pub first_first_last : length m.values ≡ length m.pattern.indices → length m.pattern.offsets ≡ m.pattern.major_dim + 1 → HasUnsortedFault m FirstLast → IsUnsortedRefusal m InvalidStructure
+  first_first_last values count bad = record { spot = FirstLast; first = record { here = bad; none_before = before }; is = refl }
+    where
+      before : (s : UnsortedSpot) → IsBefore (unsorted_rank s) (3, 0, 0) → HasUnsortedFault m s → ⊥
+      before ValueCount b h = h values
+      before NoOffsets b h = absurd (omega arith)
+      before OffsetCount b h = h count
+      before FirstLast b h = absurd (grind arith)
+      before (LaneFall k) b h = absurd (grind arith)
+      before (LaneEnd k) b h = absurd (grind arith)
+      before (LaneBounds k) b h = absurd (grind arith)
+      before (LaneRepeat k) b h = absurd (grind arith)

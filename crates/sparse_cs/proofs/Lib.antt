@@ -1,0 +1,9 @@
+pub mod Arrays
+pub mod RowOrder
+pub mod Inside
+mod IdentityArrays
+mod Repeats
+mod LaneSorting
+mod UnsortedLanes
+mod FirstUnsortedFault
+mod SortedForm

@@ -1,0 +1,6 @@
+pub mod Compressed
+pub mod SortedFaults
+pub mod UnsortedFaults
+pub mod LaneSorting
+pub mod Forms
+pub mod Laws

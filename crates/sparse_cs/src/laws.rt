@@ -1,0 +1,20 @@
+//! Laws of compressed matrices, each the contract of a function that does nothing.
+
+ghost use Rattle.std.specs.Prelude.{◌≡◌, ◌↔◌, true};
+ghost use Rattle.sparse_base.specs.Plain.{row_order};
+ghost use Rattle.sparse_cs.specs.Compressed.{Compressed, IsSound, lane_triplets, compressed_eq};
+ghost use Rattle.sparse_cs.specs.Forms.{meant, plain_of_rows};
+
+use sparse_base::scalar::Ring;
+
+/// `==` of compressed matrices over a ring answers whether they stand for one plain matrix.
+pub fn equal_law<T: Ring>()
+    ensures { (m n : Compressed T)
+        → IsSound m → IsSound n → (compressed_eq T.eq m n ≡ true) ↔ (plain_of_rows T.ring T.value m ≡ plain_of_rows T.ring T.value n) }
+{}
+
+/// The triplets of rows are the places of the plain matrix with their values, row after row, columns rising.
+pub fn row_order_law<T: Ring>()
+    ensures { (m : Compressed T)
+        → IsSound m → meant T.ring T.value (lane_triplets m) ≡ row_order T.ring (plain_of_rows T.ring T.value m) }
+{}

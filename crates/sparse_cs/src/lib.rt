@@ -1,0 +1,173 @@
+//! Compressed matrices: the one core that CSR and CSC stand on.
+#![tactic(auto)]
+
+ghost use Rattle.std.specs.Prelude.{◌≡◌, ◌<◌, ◌≤◌, ℕ, IfOk, length, List, ⊤};
+ghost use Rattle.std.specs.Iterator.{YieldsFirstBy, item_count};
+ghost use Rattle.sparse_base.specs.Raw.{lane_of};
+ghost use Rattle.sparse_cs.specs.Compressed.{Compressed, compressed_of, IsSound, lane_triplets};
+
+pub mod laws;
+mod sorted;
+mod special;
+mod unsorted;
+
+pub use sorted::SortedFault;
+use sparse_base::pattern::{SparsityPattern, SparsityPatternIter};
+use std::alloc::{AllocError, Global};
+use std::marker::Model;
+
+/// A pattern with a value at each of its places.
+#[derive(Debug, Drop)]
+pub struct CsMatrix<T> {
+    sparsity_pattern: SparsityPattern,
+    values: Vec<T>,
+}
+
+impl<T> Model for CsMatrix<T> {
+    ghost use Rattle.sparse_cs.specs.Compressed.{Compressed, compressed_code, compressed_of};
+
+    ghost Value = { Compressed T };
+
+    ghost coded = { compressed_code T.code };
+
+    ghost use Rattle.sparse_cs.specs.Compressed.{IsSound};
+
+    ghost view = { λ m. compressed_of m.sparsity_pattern m.values.items };
+
+    ghost invariant = { λ m. IsSound (compressed_of m.sparsity_pattern m.values.items) };
+}
+
+impl<T> CsMatrix<T> {
+    /// The matrix of a pattern and as many values.
+    pub fn from_pattern_and_values(pattern: SparsityPattern, values: Vec<T>) -> Self
+        requires { length values.items ≡ length pattern.indices }
+        ensures is { result ≡ compressed_of pattern values.items }
+        ensures sound { IsSound result }
+    {
+        let _ = pattern.major_offsets();
+        CsMatrix {
+            sparsity_pattern: pattern,
+            values,
+        }
+    }
+
+    /// The offsets, the indices and the values, moved out of the matrix.
+    pub fn disassemble(self) -> (Vec<usize>, Vec<usize>, Vec<T>)
+        ensures offsets { result.0.items ≡ self.pattern.offsets }
+        ensures indices { result.1.items ≡ self.pattern.indices }
+        ensures values { result.2.items ≡ self.values }
+        ensures sound { IsSound self }
+    {
+        let (pattern, values) = self.into_pattern_and_values();
+        let (major_offsets, minor_indices) = pattern.disassemble();
+        (major_offsets, minor_indices, values)
+    }
+
+    /// The pattern and the values, moved out of the matrix.
+    pub fn into_pattern_and_values(self) -> (SparsityPattern, Vec<T>)
+        ensures pattern { result.0 ≡ self.pattern }
+        ensures values { result.1.items ≡ self.values }
+        ensures sound { IsSound self }
+    {
+        let CsMatrix {
+            sparsity_pattern,
+            values,
+        } = self;
+        (sparsity_pattern, values)
+    }
+
+    pub fn pattern(&self) -> &SparsityPattern
+        ensures pattern { result.now ≡ self.now.pattern }
+        ensures sound { IsSound self.now }
+    {
+        &self.sparsity_pattern
+    }
+
+    pub fn values(&self) -> &[T]
+        ensures values { result.now ≡ self.now.values }
+        ensures sound { IsSound self.now }
+    {
+        &self.values
+    }
+
+    /// The triplets (lane, index, value) in lane order.
+    pub fn triplet_iter(&self) -> CsTripletIter<'_, T>
+        ensures all { result ≡ lane_triplets self.now }
+        ensures sound { IsSound self.now }
+    {
+        CsTripletIter {
+            entries: self.sparsity_pattern.entries(),
+            values: &self.values,
+        }
+    }
+}
+
+impl<T: Copy> CsMatrix<T> {
+    /// A copy with the same sizes, places and values.
+    pub fn clone(&self, alloc: Global) -> Result<Self, AllocError>
+        ensures { IfOk result (λ m. m ≡ self.now) }
+    {
+        Ok(CsMatrix {
+            sparsity_pattern: self.sparsity_pattern.clone(alloc)?,
+            values: Vec::from_slice(alloc, &self.values)?,
+        })
+    }
+}
+
+impl<T: PartialEq> PartialEq for CsMatrix<T> {
+    ghost use Rattle.sparse_cs.specs.Compressed.{compressed_eq};
+    ghost use Rattle.sparse_cs.specs.Laws.{compressed_eq-laws};
+
+    ghost eq = { compressed_eq T.eq };
+
+    ghost laws = { compressed_eq-laws T.laws };
+
+    fn eq(&self, other: &Self) -> bool {
+        self.sparsity_pattern == other.sparsity_pattern && self.values == other.values
+    }
+}
+
+impl<T: Eq> Eq for CsMatrix<T> {
+    ghost use Rattle.sparse_cs.specs.Laws.{compressed_eq-equiv};
+
+    ghost laws = { compressed_eq-equiv T.Eq.laws };
+}
+
+/// The triplets (lane, index, value) of a compressed matrix in lane order.
+#[derive(Drop)]
+pub struct CsTripletIter<'a, T> {
+    entries: SparsityPatternIter<'a>,
+    values: &'a [T],
+}
+
+impl<'a, T> Model for CsTripletIter<'a, T> {
+    ghost use Rattle.std.specs.Prelude.{◌≡◌, ℕ, List, length};
+    ghost use Rattle.sparse_cs.specs.Compressed.{zip_values};
+
+    ghost Value = { List (ℕ × ℕ × T) };
+
+    ghost view = { λ it. zip_values it.entries it.values.now };
+
+    ghost invariant = { λ it. length it.entries ≡ length it.values.now };
+}
+
+impl<'a, T> Iterator for CsTripletIter<'a, T> {
+    type Item = (usize, usize, &'a T);
+
+    ghost next_gives = { YieldsFirstBy (λ x. (x.0, x.1, x.2.now)) (λ rest. rest) };
+
+    ghost remaining = { item_count (λ rest. rest) };
+
+    fn next(&mut self) -> Option<(usize, usize, &'a T)> {
+        match self.entries.next() {
+            Some((lane, index)) => match self.values.split_first() {
+                Some((value, values)) => {
+                    self.values = values;
+                    Some((lane, index, value))
+                }
+                None => None,
+            },
+            None => None,
+        }
+    }
+}

@@ -1,0 +1,5 @@
+pub mod Values
+pub mod Digits
+pub mod Postfix
+pub mod Loading
+pub mod Outcome

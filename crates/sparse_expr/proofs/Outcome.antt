@@ -1,0 +1,146 @@
+-- What is loaded and written, as plain matrices over the integers modulo 2^64.
+use Rattle.std.proofs.Common.{◌≡◌, ◌⊎◌, inl, inr, ℕ, zero, suc, ℤ, ◌+◌, Bool, true, false, List, [], ◌∷◌, ◌++◌, length, map, slice_get, Option, Some, None, Result, Ok, Err, refl, sym, ap, subst, ◌∙◌}
+use Rattle.std.specs.Prelude.{codes, nat_eq, if◌then◌else◌, ◌||◌, IfErr}
+use Rattle.std.specs.List.{list_any, flat_map}
+use Rattle.std.specs.Int.{w64}
+use Rattle.std.specs.Fmt.{signed_decimal, decimal}
+use Rattle.std.proofs.lemmas.List.{length-map}
+use Rattle.sparse_base.specs.Algebra.{CommRing}
+use Rattle.sparse_base.specs.Sums.{sum_by, where_true}
+use Rattle.sparse_base.specs.Coo.{Coo}
+use Rattle.sparse_base.specs.Plain.{Plain, is_at, plain_of_triplets, plain_product, row_order}
+use Rattle.sparse_base.specs.Wrapping.{class_of}
+use Rattle.sparse_base.specs.Numbers.{w64_number}
+use Rattle.sparse_base.specs.declared.scalar.wrapping.W64.{W64}
+use Rattle.sparse_base.proofs.PlainLemmas.{same_plain}
+use Rattle.sparse_base.proofs.WholeNumbers.{number_of-class}
+use Rattle.sparse_cs.specs.Compressed.{Compressed, IsSound, lane_triplets}
+use Rattle.sparse_cs.specs.Forms.{plain_of_coo, plain_of_rows, meant}
+use Rattle.sparse_cs.proofs.RowOrder.{row_order-rows}
+use Rattle.sparse_io.specs.Meaning.{numbers_of}
+use Rattle.sparse_io.specs.Written.{written_text, heading, size_line, triplet_line}
+use Rattle.sparse_expr.specs.declared.calculator.Form.{Form}
+use Rattle.sparse_expr.specs.declared.calculator.Form.TheVariants.{Rows}
+use Rattle.sparse_expr.specs.declared.expr.Expr.{Expr}
+use Rattle.sparse_expr.specs.declared.expr.Expr.TheVariants as tree
+use Rattle.sparse_expr.specs.declared.error.ExprError.{ExprError}
+use Rattle.sparse_expr.specs.declared.error.ExprError.TheVariants as errors
+use Rattle.sparse_expr.specs.Value.{value_of, found, input_at, both, product_of}
+use Rattle.sparse_expr.specs.Run.{ring64, element_text, text_in, plains, rows_text, AllMean, HasOutcome, WritesSome, Effect, IsUntouched, RefusesRun, RefusesLoad, RefusesSave}
+
+-- ---- triplets whose values are read by way of another type
+
+module _ {T V : Type 0} (h : T → V) where
+  abbrev via : List (ℕ × ℕ × T) → List (ℕ × ℕ × V)
+  via ts = map (λ t. (t.0, t.1, h t.2)) ts
+
+  any-via : (i j : ℕ) (ts : List (ℕ × ℕ × T)) → list_any (is_at i j) ts ≡ list_any (is_at i j) (via ts)
+  any-via i j [] = refl
+  any-via i j (t ∷ ts) = ap (λ b. is_at i j t || b) (any-via i j ts)
+
+  module _ (R : CommRing) (f : V → R.Carrier) where
+    sum-via : (i j : ℕ) (ts : List (ℕ × ℕ × T)) → sum_by R (λ t. where_true R (is_at i j t) (f (h t.2))) ts ≡ sum_by R (λ t. where_true R (is_at i j t) (f t.2)) (via ts)
+    sum-via i j [] = refl
+    sum-via i j (t ∷ ts) = ap (R.add (where_true R (is_at i j t) (f (h t.2)))) (sum-via i j ts)
+
+    plain-via : (rows cols : ℕ) (ts : List (ℕ × ℕ × T)) → plain_of_triplets R (λ x. f (h x)) rows cols ts ≡ plain_of_triplets R f rows cols (via ts)
+    plain-via rows cols ts = same_plain (plain_of_triplets R (λ x. f (h x)) rows cols ts) (plain_of_triplets R f rows cols (via ts)) refl refl (λ i j. any-via i j ts) (λ i j. sum-via i j ts)
+
+  module _ (text : V → List ℕ) (own : T → List ℕ) (same : (x : T) → text (h x) ≡ own x) where
+    lines-via : (ts : List (ℕ × ℕ × T)) → flat_map (triplet_line text) (via ts) ≡ flat_map (triplet_line own) ts
+    unfolding triplet_line
+    lines-via [] = refl
+    lines-via (t ∷ ts) = ap (λ v. (decimal (t.0 + 1) ++ (32 ∷ (decimal (t.1 + 1) ++ (32 ∷ (v ++ (10 ∷ [])))))) ++ flat_map (triplet_line text) (via ts)) (same t.2) ∙ ap (λ l. triplet_line own t ++ l) (lines-via ts)
+
+    written-via : (name : List ℕ) (rows cols : ℕ) (ts : List (ℕ × ℕ × T)) → written_text name text rows cols (via ts) ≡ written_text name own rows cols ts
+    unfolding written_text
+    written-via name rows cols ts = ap (λ n. heading name ++ (size_line rows cols n ++ flat_map (triplet_line text) (via ts))) (length-map ts (λ t. (t.0, t.1, h t.2))) ∙ ap (λ l. heading name ++ (size_line rows cols (length ts) ++ l)) (lines-via ts)
+
+-- ---- what is loaded
+
+pub plains-loaded : (ms : List (Coo W64)) → map (λ m. plain_of_coo ring64 (λ x. class_of w64 (w64_number x)) m) ms ≡ plains (map numbers_of ms)
+plains-loaded [] = refl
+plains-loaded (m ∷ ms) =
+    ap (λ p. p ∷ map (λ m. plain_of_coo ring64 (λ x. class_of w64 (w64_number x)) m) ms) (plain-via w64_number ring64 (class_of w64) m.nrows m.ncols m.triplets)
+    ∙ ap (λ ps. plain_of_coo ring64 (class_of w64) (numbers_of m) ∷ ps) (plains-loaded ms)
+
+-- ---- what is written
+
+element-text : (x : W64) → element_text (class_of w64 (w64_number x)) ≡ signed_decimal (w64_number x)
+element-text x = ap signed_decimal (number_of-class w64 x.number x.in_range)
+
+pub text_in-rows : (m : Compressed W64) → IsSound m → text_in Rows (plain_of_rows ring64 (λ x. class_of w64 (w64_number x)) m) ≡ rows_text m
+text_in-rows m sound =
+    ap (written_text (codes "integer") element_text m.pattern.major_dim m.pattern.minor_dim) (row_order-rows ring64 (λ x. class_of w64 (w64_number x)) m sound)
+    ∙ written-via (λ x. class_of w64 (w64_number x)) element_text (λ x. signed_decimal (w64_number x)) element-text (codes "integer") m.pattern.major_dim m.pattern.minor_dim (lane_triplets m)
+
+pub text_in-any : (form : Form) (m : Compressed W64) → IsSound m → text_in form (plain_of_rows ring64 (λ x. class_of w64 (w64_number x)) m) ≡ rows_text m
+text_in-any Rows m sound = text_in-rows m sound
+
+-- ---- the answer of a run
+
+abbrev Value : Type 0
+Value = Plain ring64
+
+pub has_outcome : (texts : List (List ℕ)) (expr : Expr) (outcome : Result Value ExprError) (ms : List (Coo W64)) → AllMean texts (map numbers_of ms) → value_of ring64 (map (λ m. plain_of_coo ring64 (λ x. class_of w64 (w64_number x)) m) ms) expr ≡ outcome → HasOutcome texts expr outcome
+has_outcome texts expr outcome ms meant is = record {
+  ms = map numbers_of ms;
+  meant = meant;
+  evaluated = ap (λ ps. value_of ring64 ps expr) (sym (plains-loaded ms)) ∙ is;
+}
+
+-- an expression has no other refusal than these
+found-refuses : (o : Option Value) (e : ExprError) → found ring64 o ≡ Err e → (e ≡ errors.NoSuchInput) ⊎ (e ≡ errors.Shape)
+found-refuses (Some a) e h = absurd cc
+found-refuses None e h = inl cc
+
+input-refuses : (inputs : List Value) (n : ℕ) (e : ExprError) → input_at ring64 inputs n ≡ Err e → (e ≡ errors.NoSuchInput) ⊎ (e ≡ errors.Shape)
+input-refuses inputs zero e h = inl cc
+input-refuses inputs (suc n) e h = found-refuses (slice_get inputs n) e h
+
+product-refuses : (b : Bool) (c : Value) (e : ExprError) → (if b then Ok c else Err errors.Shape) ≡ Err e → (e ≡ errors.NoSuchInput) ⊎ (e ≡ errors.Shape)
+product-refuses true c e h = absurd cc
+product-refuses false c e h = inr cc
+
+both-refuses : (r s : Result Value ExprError) (e : ExprError) → ((f : ExprError) → r ≡ Err f → (f ≡ errors.NoSuchInput) ⊎ (f ≡ errors.Shape)) → ((f : ExprError) → s ≡ Err f → (f ≡ errors.NoSuchInput) ⊎ (f ≡ errors.Shape)) → both ring64 (product_of ring64) r s ≡ Err e → (e ≡ errors.NoSuchInput) ⊎ (e ≡ errors.Shape)
+both-refuses (Err f) s e left right h = left e h
+both-refuses (Ok a) (Err f) e left right h = right e h
+both-refuses (Ok a) (Ok b) e left right h = product-refuses (nat_eq a.cols b.rows) (plain_product ring64 a b) e h
+
+value-refuses : (inputs : List Value) (expr : Expr) (e : ExprError) → value_of ring64 inputs expr ≡ Err e → (e ≡ errors.NoSuchInput) ⊎ (e ≡ errors.Shape)
+value-refuses inputs (tree.Input n) e h = input-refuses inputs n e h
+value-refuses inputs (tree.Mul' p a q b) e h = both-refuses (value_of ring64 inputs a) (value_of ring64 inputs b) e (value-refuses inputs a) (value-refuses inputs b) h
+
+pub refuses-value : (form : Form) (texts : List (List ℕ)) (expr : Expr) (eff : Effect) (e : ExprError) → IsUntouched eff → (e ≡ errors.OutOfMemory) ⊎ HasOutcome texts expr (Err e) → RefusesRun form texts expr eff e
+refuses-value form texts expr eff e same h = elim h [
+  | inl memory ↦ subst (RefusesRun form texts expr eff) (sym memory) (same.1, inl same.0)
+  | inr outcome ↦ elim (value-refuses (plains outcome.ms) expr e outcome.evaluated) [
+    | inl none ↦ subst (RefusesRun form texts expr eff) (sym none) (subst (λ f. HasOutcome texts expr (Err f)) none outcome, same)
+    | inr shape ↦ subst (RefusesRun form texts expr eff) (sym shape) (subst (λ f. HasOutcome texts expr (Err f)) shape outcome, same)
+  ]
+]
+
+pub refuses-save : (form : Form) (texts : List (List ℕ)) (expr : Expr) (eff : Effect) (e : ExprError) → WritesSome form texts expr eff.taken_before eff.taken → RefusesSave eff e → RefusesRun form texts expr eff e
+refuses-save form texts expr eff errors.BadWord some h = absurd h
+refuses-save form texts expr eff errors.MissingOperand some h = absurd h
+refuses-save form texts expr eff errors.LeftOver some h = absurd h
+refuses-save form texts expr eff errors.NoSuchInput some h = absurd h
+refuses-save form texts expr eff errors.Shape some h = absurd h
+refuses-save form texts expr eff (errors.Input n k) some h = absurd h
+refuses-save form texts expr eff (errors.Write kind) some h = (some, h.0, h.1)
+refuses-save form texts expr eff errors.OutOfMemory some h = (h, inr some)
+
+pub refuses-load : (form : Form) (texts : List (List ℕ)) (expr : Expr) (eff : Effect) (e : ExprError) → IsUntouched eff → RefusesLoad texts e → RefusesRun form texts expr eff e
+refuses-load form texts expr eff errors.BadWord same h = absurd h
+refuses-load form texts expr eff errors.MissingOperand same h = absurd h
+refuses-load form texts expr eff errors.LeftOver same h = absurd h
+refuses-load form texts expr eff errors.NoSuchInput same h = absurd h
+refuses-load form texts expr eff errors.Shape same h = absurd h
+refuses-load form texts expr eff (errors.Input n k) same h = (h, same)
+refuses-load form texts expr eff (errors.Write kind) same h = absurd h
+refuses-load form texts expr eff errors.OutOfMemory same h = (same.1, inl same.0)
+
+-- two facts of one refusal
+pub both_of_err : {T E : Type 0} (r : Result T E) (P Q S : E → Type 0) → ((e : E) → P e → Q e → S e) → IfErr r P → IfErr r Q → IfErr r S
+both_of_err (Ok x) P Q S f p q = q
+both_of_err (Err e) P Q S f p q = f e p q

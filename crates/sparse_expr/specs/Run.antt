@@ -1,0 +1,116 @@
+-- From texts and an expression to a text.
+use Rattle.std.specs.Prelude.{◌≡◌, ◌⊎◌, ℕ, ℤ, ◌+◌, List, [], ◌∷◌, ◌++◌, map, length, codes, Result, Ok, Err, Option, Some}
+use Rattle.std.specs.Int.{w64}
+use Rattle.std.specs.Fmt.{signed_decimal}
+use Rattle.std.specs.declared.io.ErrorKind.{ErrorKind}
+use Rattle.std.specs.Io.KnownBytes.{Appends}
+use Rattle.sparse_base.specs.Algebra.{CommRing}
+use Rattle.sparse_base.specs.Wrapping.{wrapping_ring, class_of}
+use Rattle.sparse_base.specs.Whole.{number_of}
+use Rattle.sparse_base.specs.Coo.{Coo}
+use Rattle.sparse_base.specs.Plain.{Plain, row_order}
+use Rattle.sparse_base.specs.Numbers.{w64_number}
+use Rattle.sparse_base.specs.declared.scalar.wrapping.W64.{W64}
+use Rattle.sparse_cs.specs.Compressed.{Compressed, lane_triplets}
+use Rattle.sparse_cs.specs.Forms.{plain_of_coo}
+use Rattle.sparse_io.specs.Meaning.{Means}
+use Rattle.sparse_io.specs.Sink.{AppendsSome}
+use Rattle.sparse_io.specs.Written.{written_text}
+use Rattle.sparse_io.specs.declared.error.MatrixMarketErrorKind.{MatrixMarketErrorKind}
+use Rattle.sparse_expr.specs.declared.expr.Expr.{Expr}
+use Rattle.sparse_expr.specs.declared.error.ExprError.{ExprError}
+use Rattle.sparse_expr.specs.declared.error.ExprError.TheVariants as refusal
+use Rattle.sparse_expr.specs.declared.calculator.Form.{Form}
+use Rattle.sparse_expr.specs.declared.calculator.Form.TheVariants.{Rows}
+use Rattle.sparse_expr.specs.Value.{value_of}
+
+-- the integers modulo 2^64
+abbrev pub ring64 : CommRing
+ring64 = wrapping_ring w64
+
+-- a ring element in signed form, in decimal
+abbrev pub element_text : ring64.Carrier → List ℕ
+element_text c = signed_decimal (number_of w64 c)
+
+-- the text of a plain matrix, in the order of a form
+abbrev pub text_in : Form → Plain ring64 → List ℕ
+text_in Rows a = written_text (codes "integer") element_text a.rows a.cols (row_order ring64 a)
+
+-- each text means its list of triplets
+abbrev pub AllMean : List (List ℕ) → List (Coo ℤ) → Type 0
+AllMean [] [] = Unit {0}
+AllMean (text ∷ texts) (m ∷ ms) = Means text (Ok m) × AllMean texts ms
+AllMean _ _ = ⊥
+
+-- the number-th text, counted from 1, is the first that is refused, for this reason
+pub record IsFirstRefused (texts : List (List ℕ)) (number : ℕ) (kind : MatrixMarketErrorKind) : Type 0 where
+  pub before : List (List ℕ)
+  pub text : List ℕ
+  pub after : List (List ℕ)
+  pub ms : List (Coo ℤ)
+  pub split : texts ≡ before ++ text ∷ after
+  pub counted : number ≡ length before + 1
+  pub taken : AllMean before ms
+  pub refused : Means text (Err kind)
+
+-- lists of triplets as plain matrices, their numbers read modulo 2^64
+abbrev pub plains : List (Coo ℤ) → List (Plain ring64)
+plains ms = map (λ m. plain_of_coo ring64 (class_of w64) m) ms
+
+-- the texts have meanings, and over these the expression has this value or this refusal
+pub record HasOutcome (texts : List (List ℕ)) (expr : Expr) (outcome : Result (Plain ring64) ExprError) : Type 0 where
+  pub ms : List (Coo ℤ)
+  pub meant : AllMean texts ms
+  pub evaluated : value_of ring64 (plains ms) expr ≡ outcome
+
+-- the text of the expression's value was appended
+pub record Writes (form : Form) (texts : List (List ℕ)) (expr : Expr) (old new : Option (List ℕ)) : Type 0 where
+  pub value : Plain ring64
+  pub is_value : HasOutcome texts expr (Ok value)
+  pub appended : Appends old new (text_in form value)
+
+-- a beginning of it was
+pub record WritesSome (form : Form) (texts : List (List ℕ)) (expr : Expr) (old new : Option (List ℕ)) : Type 0 where
+  pub value : Plain ring64
+  pub is_value : HasOutcome texts expr (Ok value)
+  pub appended : AppendsSome old new (text_in form value)
+
+-- what a call did to its sink: the bytes taken, the failed writes, and the kind of the last of these
+pub record Effect : Type 0 where
+  pub taken_before : Option (List ℕ)
+  pub taken : Option (List ℕ)
+  pub failures_before : ℕ
+  pub failures : ℕ
+  pub last : Option ErrorKind
+
+-- no byte was written, and no write failed
+abbrev pub IsUntouched : Effect → Type 0
+IsUntouched e = (e.taken ≡ e.taken_before) × (e.failures ≡ e.failures_before)
+
+-- when a run is refused, and what it has then written
+abbrev pub RefusesRun : Form → List (List ℕ) → Expr → Effect → ExprError → Type 0
+RefusesRun form texts expr e (refusal.Input number kind) = IsFirstRefused texts number kind × IsUntouched e
+RefusesRun form texts expr e refusal.NoSuchInput = HasOutcome texts expr (Err refusal.NoSuchInput) × IsUntouched e
+RefusesRun form texts expr e refusal.Shape = HasOutcome texts expr (Err refusal.Shape) × IsUntouched e
+RefusesRun form texts expr e (refusal.Write kind) = WritesSome form texts expr e.taken_before e.taken × (e.failures ≡ e.failures_before + 1) × (e.last ≡ Some kind)
+RefusesRun form texts expr e refusal.OutOfMemory = (e.failures ≡ e.failures_before) × ((e.taken ≡ e.taken_before) ⊎ WritesSome form texts expr e.taken_before e.taken)
+RefusesRun form texts expr e _ = ⊥
+
+-- why texts were not loaded
+abbrev pub RefusesLoad : List (List ℕ) → ExprError → Type 0
+RefusesLoad texts (refusal.Input number kind) = IsFirstRefused texts number kind
+RefusesLoad texts refusal.OutOfMemory = Unit {0}
+RefusesLoad texts _ = ⊥
+
+-- why a matrix was not written
+abbrev pub RefusesSave : Effect → ExprError → Type 0
+RefusesSave e (refusal.Write kind) = (e.failures ≡ e.failures_before + 1) × (e.last ≡ Some kind)
+RefusesSave e refusal.OutOfMemory = e.failures ≡ e.failures_before
+RefusesSave e _ = ⊥
+
+abbrev pub effect : Option (List ℕ) → Option (List ℕ) → ℕ → ℕ → Option ErrorKind → Effect
+effect taken_before taken failures_before failures last = record { taken_before = taken_before; taken = taken; failures_before = failures_before; failures = failures; last = last }
+
+-- the text of a matrix by rows
+abbrev pub rows_text : Compressed W64 → List ℕ
+rows_text m = written_text (codes "integer") (λ x. signed_decimal (w64_number x)) m.pattern.major_dim m.pattern.minor_dim (lane_triplets m)

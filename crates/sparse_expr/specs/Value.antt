@@ -1,0 +1,38 @@
+-- The value of an expression over plain matrices, or its refusal.
+use Rattle.std.specs.Prelude.{◌≡◌, ◌⊎◌, ℕ, zero, suc, nat_eq, if◌then◌else◌, List, Result, Ok, Err, Option, Some, None, slice_get}
+use Rattle.sparse_base.specs.Algebra.{CommRing}
+use Rattle.sparse_base.specs.Plain.{Plain, plain_product}
+use Rattle.sparse_expr.specs.declared.expr.Expr.{Expr}
+use Rattle.sparse_expr.specs.declared.expr.Expr.TheVariants as tree
+use Rattle.sparse_expr.specs.declared.error.ExprError.{ExprError}
+use Rattle.sparse_expr.specs.declared.error.ExprError.TheVariants.{NoSuchInput, Shape, OutOfMemory}
+
+module _ (R : CommRing) where
+  abbrev pub found : Option (Plain R) → Result (Plain R) ExprError
+  found (Some a) = Ok a
+  found None = Err NoSuchInput
+
+  -- the n-th input, counted from 1
+  abbrev pub input_at : List (Plain R) → ℕ → Result (Plain R) ExprError
+  input_at inputs zero = Err NoSuchInput
+  input_at inputs (suc n) = found (slice_get inputs n)
+
+  -- the product, where the inner sizes are the same
+  abbrev pub product_of : Plain R → Plain R → Result (Plain R) ExprError
+  product_of a b = if nat_eq a.cols b.rows then Ok (plain_product R a b) else Err Shape
+
+  -- the left operand's refusal, then the right one's, then what is made of both
+  abbrev pub both : (Plain R → Plain R → Result (Plain R) ExprError) → Result (Plain R) ExprError → Result (Plain R) ExprError → Result (Plain R) ExprError
+  both make (Err e) y = Err e
+  both make (Ok a) (Err e) = Err e
+  both make (Ok a) (Ok b) = make a b
+
+  -- the value of an expression, or its refusal
+  abbrev pub value_of : List (Plain R) → Expr → Result (Plain R) ExprError
+  value_of inputs (tree.Input n) = input_at inputs n
+  value_of inputs (tree.Mul' p a q b) = both product_of (value_of inputs a) (value_of inputs b)
+
+  -- the answer stands for the value, or is the refusal, or memory was refused
+  abbrev pub Meets : {M : Type 0} → (M → Plain R) → Result (Plain R) ExprError → Result M ExprError → Type 0
+  Meets plain a (Ok m) = a ≡ Ok (plain m)
+  Meets plain a (Err e) = (e ≡ OutOfMemory) ⊎ (a ≡ Err e)

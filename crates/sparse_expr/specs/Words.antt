@@ -1,0 +1,90 @@
+-- Words in postfix order, and the expression that they say.
+use Rattle.std.specs.Prelude.{◌≡◌, ◌⊎◌, ℕ, ◌+◌, ◌-◌, ◌<◌, ◌≤◌, ◌^◌, ◌==◌, ◌&&◌, Bool, true, false, if◌then◌else◌, nat_lt, List, [], ◌∷◌, ◌++◌, length, map, take, slice_get, filter, count_by, Option, Some, None}
+use Rattle.std.specs.List.{list_all, slice_split}
+use Rattle.std.specs.Char.{is_ascii_digit}
+use Rattle.std.specs.Str.{bytes_eq}
+use Rattle.std.specs.Str.Parse.{digits_value}
+use denote.Ref.{Bor}
+use Rattle.sparse_expr.specs.declared.words.Token.{Token}
+use Rattle.sparse_expr.specs.declared.words.Token.TheVariants.{Operand, Times}
+use Rattle.sparse_expr.specs.declared.expr.Expr.{Expr}
+use Rattle.sparse_expr.specs.declared.expr.Expr.TheVariants as tree
+use Rattle.sparse_expr.specs.declared.error.ExprError.{ExprError}
+use Rattle.sparse_expr.specs.declared.error.ExprError.TheVariants.{BadWord, MissingOperand, LeftOver}
+
+-- what borrowed words say
+abbrev pub texts : List (Bor (List ℕ)) → List (List ℕ)
+texts words = map (λ word. word.now) words
+
+abbrev pub is_space : ℕ → Bool
+is_space b = b == 32
+
+abbrev pub is_some_word : List ℕ → Bool
+is_some_word word = nat_lt 0 (length word)
+
+-- the longest runs of a text without a space
+abbrev pub words_of : List ℕ → List (List ℕ)
+words_of text = filter is_some_word (slice_split is_space text)
+
+-- a nonempty run of digits
+abbrev pub is_number : List ℕ → Bool
+is_number word = nat_lt 0 (length word) && list_all is_ascii_digit word
+
+-- inputs are counted from 1, and their number is a usize
+abbrev pub operand_of : ℕ → Option Token
+operand_of n = if nat_lt 0 n && nat_lt n (2 ^ 64) then Some (Operand n) else None
+
+-- the token that a word is: the number of an input, or `*`
+abbrev pub token_of : List ℕ → Option Token
+token_of word = if is_number word then operand_of (digits_value 10 word) else (if bytes_eq word (42 ∷ []) then Some Times else None)
+
+abbrev pub is_operand : Token → Bool
+is_operand (Operand n) = true
+is_operand Times = false
+
+abbrev pub is_operator : Token → Bool
+is_operator (Operand n) = false
+is_operator Times = true
+
+-- how many operands a token takes
+abbrev pub takes : Token → ℕ
+takes (Operand n) = 0
+takes Times = 2
+
+-- the operands at hand after these tokens: each operator makes one of two
+abbrev pub height : List Token → ℕ
+height tokens = count_by is_operand tokens - count_by is_operator tokens
+
+-- the words are these tokens, and each finds its operands before it
+pub record AreFine (words : List (List ℕ)) (tokens : List Token) : Type 0 where
+  pub said : map token_of words ≡ map Some tokens
+  pub enough : (k : ℕ) (t : Token) → slice_get tokens k ≡ Some t → takes t ≤ height (take k tokens)
+
+-- after these tokens the word is no token, or takes more operands than there are
+abbrev pub IsFault : List Token → List ℕ → ExprError → Type 0
+IsFault before word e = ((token_of word ≡ None) × (e ≡ BadWord))
+    ⊎ ((t : Token) × (token_of word ≡ Some t) × (height before < takes t) × (e ≡ MissingOperand))
+
+-- the first faulty word
+pub record IsFirstFault (words : List (List ℕ)) (e : ExprError) : Type 0 where
+  pub before : List (List ℕ)
+  pub word : List ℕ
+  pub after : List (List ℕ)
+  pub tokens : List Token
+  pub split : words ≡ before ++ word ∷ after
+  pub fine : AreFine before tokens
+  pub here : IsFault tokens word e
+
+-- the words say no expression: a word is faulty, or at the end there is no operand or more than one
+abbrev pub IsRefused : List (List ℕ) → ExprError → Type 0
+IsRefused words e = IsFirstFault words e
+    ⊎ ((tokens : List Token) × AreFine words tokens × (((height tokens ≡ 0) × (e ≡ MissingOperand)) ⊎ ((1 < height tokens) × (e ≡ LeftOver))))
+
+-- an expression in postfix order
+abbrev pub postfix : Expr → List Token
+postfix (tree.Input n) = Operand n ∷ []
+postfix (tree.Mul' p a q b) = postfix a ++ (postfix b ++ (Times ∷ []))
+
+-- the words say the expression
+abbrev pub IsSaid : List (List ℕ) → Expr → Type 0
+IsSaid words expr = map token_of words ≡ map Some (postfix expr)

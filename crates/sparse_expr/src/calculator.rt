@@ -1,0 +1,97 @@
+//! From texts and an expression to a text.
+
+ghost use Rattle.std.specs.Prelude.{◌≡◌, ◌⊎◌, ◌+◌, Ok, Err, map, OnOk, IfOk, OnErr, IfErr};
+ghost use Rattle.std.specs.Io.KnownBytes.{Appends};
+ghost use Rattle.sparse_io.specs.Meaning.{Means, numbers_of};
+ghost use Rattle.sparse_io.specs.Sink.{AppendsSome};
+ghost use Rattle.sparse_cs.specs.Compressed.{IsSound};
+ghost use Rattle.sparse_io.specs.declared.error.MatrixMarketErrorKind.{MatrixMarketErrorKind};
+ghost use Rattle.sparse_expr.specs.Words.{texts};
+ghost use Rattle.sparse_expr.specs.Run.{AllMean, Writes, RefusesRun, RefusesLoad, RefusesSave, effect, rows_text};
+ghost use Rattle.sparse_expr.specs.declared.error.ExprError.TheVariants.{Input, OutOfMemory};
+
+use crate::error::ExprError;
+use crate::expr::{Expr, evaluate_rows};
+use sparse_base::coo::CooMatrix;
+use sparse_base::scalar::W64;
+use sparse_forms::csr::CsrMatrix;
+use sparse_io::{
+    MatrixMarketErrorKind, Sink, load_coo_from_matrix_market_str, save_to_matrix_market,
+};
+use std::alloc::Global;
+
+/// The order in which a matrix is written.
+#[derive(Clone, Copy, Debug, PartialEq, Eq)]
+pub enum Form {
+    /// Row after row, columns rising.
+    Rows,
+}
+
+/// Loads the texts in order, evaluates the expression over them, and writes its value.
+///
+/// The first text that is refused is answered as `Input` with its number, counted from 1; else the expression's own
+/// refusal. Before that nothing is written. A failed write is answered as `Write` with its kind, and what was written is
+/// then a beginning of the value's text.
+pub fn run<W: Sink>(
+    alloc: Global,
+    form: Form,
+    expr: &Expr,
+    sources: &[&str],
+    out: &mut W,
+) -> Result<(), ExprError>
+    ensures written { OnOk result (Writes form (texts sources.now) expr.now (W.taken out.old) (W.taken out.new)) }
+    ensures none_failed { OnOk result (W.failures out.new ≡ W.failures out.old) }
+    ensures refused { IfErr result (RefusesRun form (texts sources.now) expr.now (effect (W.taken out.old) (W.taken out.new) (W.failures out.old) (W.failures out.new) (W.last out.new))) }
+{
+    let inputs = load_all(alloc, sources)?;
+    match form {
+        Form::Rows => {
+            let value = evaluate_rows(alloc, expr, &inputs)?;
+            save_rows(alloc, &value, out)
+        }
+    }
+}
+
+// The lists of triplets that the texts mean.
+fn load_all(alloc: Global, sources: &[&str]) -> Result<Vec<CooMatrix<W64>>, ExprError>
+    ensures meant { IfOk result (λ v. AllMean (texts sources.now) (map numbers_of v.items)) }
+    ensures refused { IfErr result (RefusesLoad (texts sources.now)) }
+{
+    let mut inputs = Vec::new(alloc);
+    for (index, text) in sources.iter().enumerate() {
+        inputs.push(load(alloc, index + 1, text)?)?;
+    }
+    Ok(inputs)
+}
+
+// The list of triplets that the text of this number means.
+fn load(alloc: Global, number: usize, text: &str) -> Result<CooMatrix<W64>, ExprError>
+    ensures meant { IfOk result (λ m. Means text.now (Ok (numbers_of m))) }
+    ensures refused { IfErr result (λ e. (e ≡ OutOfMemory) ⊎ ((kind : MatrixMarketErrorKind) × (e ≡ Input number kind) × Means text.now (Err kind))) }
+{
+    match load_coo_from_matrix_market_str(alloc, text) {
+        Ok(matrix) => Ok(matrix),
+        Err(error) => match error.kind() {
+            MatrixMarketErrorKind::OutOfMemory => Err(ExprError::OutOfMemory),
+            kind => Err(ExprError::Input(number, kind)),
+        },
+    }
+}
+
+// Writes a matrix row after row.
+fn save_rows<W: Sink>(alloc: Global, matrix: &CsrMatrix<W64>, out: &mut W) -> Result<(), ExprError>
+    ensures none_failed { OnOk result (W.failures out.new ≡ W.failures out.old) }
+    ensures all { OnOk result (Appends (W.taken out.old) (W.taken out.new) (rows_text matrix.now)) }
+    ensures sound { IsSound matrix.now }
+    ensures beginning { OnErr result (AppendsSome (W.taken out.old) (W.taken out.new) (rows_text matrix.now)) }
+    ensures refused { IfErr result (RefusesSave (effect (W.taken out.old) (W.taken out.new) (W.failures out.old) (W.failures out.new) (W.last out.new))) }
+{
+    let _ = matrix.values();
+    match save_to_matrix_market(alloc, out, matrix) {
+        Ok(()) => Ok(()),
+        Err(error) => match error.kind() {
+            MatrixMarketErrorKind::IOError(kind) => Err(ExprError::Write(kind)),
+            _ => Err(ExprError::OutOfMemory),
+        },
+    }
+}

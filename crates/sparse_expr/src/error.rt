@@ -1,0 +1,57 @@
+//! Why an expression has no value, or a run ended.
+
+use sparse_io::MatrixMarketErrorKind;
+use std::alloc::{AllocError, AllocFailed};
+use std::io;
+use thiserror::Error;
+
+/// Why words are no expression, an expression has no value, or a run ended.
+#[derive(Debug, Clone, Copy, PartialEq, Eq, Error)]
+pub enum ExprError {
+    /// A word is none of an expression's.
+    #[error("expression: unknown word")]
+    BadWord,
+    /// An operator has too few operands, or there is no word.
+    #[error("expression: operand missing")]
+    MissingOperand,
+    /// Operands are left over at the end.
+    #[error("expression: operands left over")]
+    LeftOver,
+    /// There is no input of this number.
+    #[error("expression: no such input")]
+    NoSuchInput,
+    /// The operands' sizes don't fit.
+    #[error("expression: shapes do not fit")]
+    Shape,
+    /// The text of this number, counted from 1, is refused.
+    #[error("input {}: {}", .0, .1.name())]
+    Input(usize, MatrixMarketErrorKind),
+    /// A write failed.
+    #[error("write failed")]
+    Write(io::ErrorKind),
+    /// Memory was refused.
+    #[error("out of memory")]
+    OutOfMemory,
+}
+
+impl From<AllocError> for ExprError {
+    ghost use Rattle.std.specs.Prelude.{◌≡◌};
+    ghost use Rattle.sparse_expr.specs.declared.error.ExprError.TheVariants.{OutOfMemory};
+
+    ghost from_gives = { λ _ e. e ≡ OutOfMemory };
+
+    fn from(_refused: AllocError) -> ExprError {
+        ExprError::OutOfMemory
+    }
+}
+
+impl<T: Drop> From<AllocFailed<T>> for ExprError {
+    ghost use Rattle.std.specs.Prelude.{◌≡◌};
+    ghost use Rattle.sparse_expr.specs.declared.error.ExprError.TheVariants.{OutOfMemory};
+
+    ghost from_gives = { λ _ e. e ≡ OutOfMemory };
+
+    fn from(_refused: AllocFailed<T>) -> ExprError {
+        ExprError::OutOfMemory
+    }
+}

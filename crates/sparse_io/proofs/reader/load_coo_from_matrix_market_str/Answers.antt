@@ -1,0 +1,9 @@
+use Rattle.std.proofs.Common.{rules}
+use Rattle.sparse_io.proofs.Parts.{means_ok, means_refused}
+use Rattle.sparse_io.proofs.reader.load_coo_from_matrix_market_str.Goals as goal
+
+pub returns-clause-ok : goal.returns-clause-ok
+returns-clause-ok c = means_ok c.args.text.now _ (rw c.as_bytes.ensures.value at c.document.ensures)
+
+pub returns-clause-refused : goal.returns-clause-refused
+returns-clause-refused c = means_refused c.args.text.now _ (rw c.as_bytes.ensures.value at c.document.ensures)

@@ -1,0 +1,102 @@
+//! Matrices whose text can be written.
+
+ghost use Rattle.std.specs.Prelude.{◌≡◌, length};
+ghost use Rattle.std.specs.Iterator.{YieldsFirstBy, item_count};
+
+use sparse_base::coo::{CooMatrix, CooTripletIter};
+use sparse_forms::csr::{CsrMatrix, CsrTripletIter};
+
+/// A matrix that can be written.
+pub trait MatrixMarketExport<T> {
+    ghost use Rattle.sparse_base.specs.Coo.{Coo, IsInside};
+    ghost use Rattle.sparse_io.specs.Export.{triplets_left};
+
+    // The sizes, and the triplets in the order in which they are written.
+    ghost exported: { Self → Coo T };
+
+    /// The triplets in the order of the matrix's form.
+    fn triplet_iter(&self) -> ExportIter<'_, T>
+        ensures all { triplets_left result ≡ (exported self.now).triplets }
+        ensures inside { IsInside (exported self.now) };
+
+    /// The number of rows.
+    fn nrows(&self) -> usize
+        ensures { result ≡ (exported self.now).nrows };
+
+    /// The number of columns.
+    fn ncols(&self) -> usize
+        ensures { result ≡ (exported self.now).ncols };
+
+    /// The number of triplets.
+    fn nnz(&self) -> usize
+        ensures { result ≡ length (exported self.now).triplets };
+}
+
+/// The triplets of a matrix in the order of its form.
+#[derive(Drop)]
+pub enum ExportIter<'a, T> {
+    /// The triplets of a list, in the order of pushing.
+    Coo(CooTripletIter<'a, T>),
+    /// The triplets of a matrix by rows, row after row.
+    Csr(CsrTripletIter<'a, T>),
+}
+
+impl<'a, T> Iterator for ExportIter<'a, T> {
+    ghost use Rattle.sparse_io.specs.Export.{triplets_left};
+
+    type Item = (usize, usize, &'a T);
+
+    ghost next_gives = { YieldsFirstBy (λ x. (x.0, x.1, x.2.now)) triplets_left };
+
+    ghost remaining = { item_count triplets_left };
+
+    fn next(&mut self) -> Option<(usize, usize, &'a T)> {
+        match self {
+            ExportIter::Coo(triplets) => triplets.next(),
+            ExportIter::Csr(triplets) => triplets.next(),
+        }
+    }
+}
+
+impl<T> MatrixMarketExport<T> for CooMatrix<T> {
+    ghost exported = { λ m. m };
+
+    fn triplet_iter(&self) -> ExportIter<'_, T> {
+        ExportIter::Coo(CooMatrix::triplet_iter(self))
+    }
+
+    fn nrows(&self) -> usize {
+        CooMatrix::nrows(self)
+    }
+
+    fn ncols(&self) -> usize {
+        CooMatrix::ncols(self)
+    }
+
+    fn nnz(&self) -> usize {
+        CooMatrix::nnz(self)
+    }
+}
+
+impl<T> MatrixMarketExport<T> for CsrMatrix<T> {
+    ghost use Rattle.sparse_base.specs.Coo.{coo_of};
+    ghost use Rattle.sparse_cs.specs.Compressed.{lane_triplets};
+
+    ghost exported = { λ m. coo_of m.pattern.major_dim m.pattern.minor_dim (lane_triplets m) };
+
+    fn triplet_iter(&self) -> ExportIter<'_, T> {
+        ExportIter::Csr(CsrMatrix::triplet_iter(self))
+    }
+
+    fn nrows(&self) -> usize {
+        CsrMatrix::nrows(self)
+    }
+
+    fn ncols(&self) -> usize {
+        CsrMatrix::ncols(self)
+    }
+
+    fn nnz(&self) -> usize {
+        CsrMatrix::nnz(self)
+    }
+}

@@ -1,0 +1,51 @@
+//! What takes bytes.
+
+ghost use Rattle.std.specs.Prelude.{◌≡◌, ℕ, ◌+◌, List, OnOk, OnErr, IfErr, Option, None, Some};
+ghost use Rattle.std.specs.Io.{WritesAtMost};
+ghost use Rattle.std.specs.Io.KnownBytes.{Appends, WriteAppends};
+ghost use Rattle.sparse_io.specs.Sink.{failure_of, CountsFailure, AppendsSome};
+
+use std::io::ErrorKind;
+
+/// What takes bytes, a front of a slice at a time.
+///
+/// A write fails where it is refused, and where it takes none of some bytes: that is a failure of the kind
+/// `WriteZero`. Contracts see the bytes taken, where the type tells them, and count the failures.
+pub trait Sink {
+    ghost use Rattle.std.specs.declared.io.ErrorKind.{ErrorKind};
+
+    // The bytes taken, where the type tells them.
+    ghost taken: { Self → Option (List ℕ) } = { λ _. None };
+
+    // How many writes failed.
+    ghost failures: { Self → ℕ };
+
+    // The kind of the last failure.
+    ghost last: { Self → Option ErrorKind };
+
+    /// Takes a front of the bytes, and answers how many. A write that is refused takes none.
+    fn write(&mut self, bytes: &[u8]) -> Result<usize, ErrorKind>
+        ensures bound { WritesAtMost result bytes.now }
+        ensures bytes { WriteAppends (taken self.old) (taken self.new) result bytes.now }
+        ensures failed { CountsFailure (failure_of result bytes.now) (failures self.old) (failures self.new)
+            (last self.old) (last self.new) };
+}
+
+/// Writes all the bytes. It goes on after a short write, and ends at the first that fails, which is not tried again.
+pub fn write_all_to<W: Sink>(sink: &mut W, bytes: &[u8]) -> Result<(), ErrorKind>
+    ensures unfailed { OnOk result (W.failures sink.new ≡ W.failures sink.old) }
+    ensures all { OnOk result (Appends (W.taken sink.old) (W.taken sink.new) bytes.now) }
+    ensures one_failed { OnErr result (W.failures sink.new ≡ W.failures sink.old + 1) }
+    ensures kind { IfErr result (λ kind. W.last sink.new ≡ Some kind) }
+    ensures beginning { OnErr result (AppendsSome (W.taken sink.old) (W.taken sink.new) bytes.now) }
+{
+    let mut rest = bytes;
+    while !rest.is_empty() {
+        match sink.write(rest) {
+            Ok(0) => return Err(ErrorKind::WriteZero),
+            Ok(count) => rest = &rest[count..],
+            Err(kind) => return Err(kind),
+        }
+    }
+    Ok(())
+}

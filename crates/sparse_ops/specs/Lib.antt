@@ -1,0 +1,5 @@
+pub mod Lanes
+pub mod Merged
+pub mod Marks
+pub mod Products
+pub mod Rows

@@ -1,0 +1,5 @@
+//! Conversions between the forms of a matrix.
+
+mod lanes;
+mod merge;
+pub mod serial;

@@ -1,0 +1,78 @@
+//! Worked conversions.
+
+use super::{convert_coo_csr, order_law};
+use sparse_base::coo::CooMatrix;
+use sparse_base::scalar::{W32, W64};
+use std::test::Fail;
+
+#[test]
+fn rows_are_sorted(rt: HostRuntime) -> Result<(), Fail> {
+    let mut coo = CooMatrix::new(rt.alloc(), 3, 4);
+    coo.push(1, 3, W64::new(4))?;
+    coo.push(0, 1, W64::new(2))?;
+    coo.push(2, 0, W64::new(1))?;
+    coo.push(2, 3, W64::new(2))?;
+    coo.push(2, 2, W64::new(1))?;
+    let csr = convert_coo_csr(rt.alloc(), &coo)?;
+    assert_eq!(rt; csr.row_offsets(), [0, 1, 2, 5].as_slice());
+    assert_eq!(rt; csr.col_indices(), [1, 3, 0, 2, 3].as_slice());
+    let values = [2, 4, 1, 1, 2].map(W64::new);
+    assert_eq!(rt; csr.values(), values.as_slice());
+    Ok(())
+}
+
+#[test]
+fn sums_of_zero_stay(rt: HostRuntime) -> Result<(), Fail> {
+    let mut coo = CooMatrix::new(rt.alloc(), 1, 2);
+    coo.push(0, 1, W64::new(5))?;
+    coo.push(0, 1, W64::new(-5))?;
+    let csr = convert_coo_csr(rt.alloc(), &coo)?;
+    assert_eq!(rt; csr.row_offsets(), [0, 1].as_slice());
+    assert_eq!(rt; csr.col_indices(), [1].as_slice());
+    assert_eq!(rt; csr.values(), [W64::new(0)].as_slice());
+    Ok(())
+}
+
+#[test]
+fn any_order_gives_one_matrix(rt: HostRuntime) -> Result<(), Fail> {
+    order_law::<W64>();
+    let mut forth = CooMatrix::new(rt.alloc(), 2, 3);
+    forth.push(1, 2, W64::new(4))?;
+    forth.push(0, 0, W64::new(7))?;
+    forth.push(1, 2, W64::new(3))?;
+    let mut back = CooMatrix::new(rt.alloc(), 2, 3);
+    back.push(1, 2, W64::new(3))?;
+    back.push(0, 0, W64::new(7))?;
+    back.push(1, 2, W64::new(4))?;
+    assert!(rt; convert_coo_csr(rt.alloc(), &forth)? == convert_coo_csr(rt.alloc(), &back)?);
+    Ok(())
+}
+
+#[test]
+fn width_takes_no_memory(rt: HostRuntime) -> Result<(), Fail> {
+    let mut coo = CooMatrix::new(rt.alloc(), 1, usize::MAX);
+    coo.push(0, usize::MAX - 1, W32::new(3))?;
+    coo.push(0, 0, W32::new(1))?;
+    let csr = convert_coo_csr(rt.alloc(), &coo)?;
+    assert_eq!(rt; csr.row_offsets(), [0, 2].as_slice());
+    assert_eq!(rt; csr.col_indices(), [0, usize::MAX - 1].as_slice());
+    assert_eq!(rt; csr.values(), [W32::new(1), W32::new(3)].as_slice());
+    Ok(())
+}
+
+#[test]
+fn nothing_is_converted(rt: HostRuntime) -> Result<(), Fail> {
+    let coo: CooMatrix<W32> = CooMatrix::new(rt.alloc(), 0, 0);
+    let csr = convert_coo_csr(rt.alloc(), &coo)?;
+    assert_eq!(rt; csr.row_offsets(), [0].as_slice());
+    assert_eq!(rt; csr.nnz(), 0);
+    Ok(())
+}
+
+#[test]
+fn too_many_rows_are_refused(rt: HostRuntime) -> Result<(), Fail> {
+    let mut coo = CooMatrix::new(rt.alloc(), usize::MAX, 1);
+    coo.push(usize::MAX - 1, 0, W64::new(5))?;
+    assert!(rt; convert_coo_csr(rt.alloc(), &coo).is_err());
+    Ok(())
+}

@@ -1,0 +1,3 @@
+//! Matrix operations.
+
+pub mod serial;
