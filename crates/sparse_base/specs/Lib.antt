@@ -8,6 +8,7 @@ pub mod Raw
 pub mod FirstFault
 pub mod PatternFaults
 pub mod Rest
+pub mod Entries
 pub mod Coo
 pub mod CooEquality
 pub mod TripletFaults
