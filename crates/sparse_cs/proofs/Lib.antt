@@ -3,6 +3,7 @@ pub mod RowOrder
 pub mod Inside
 mod IdentityArrays
 mod Repeats
+pub mod LaneSearch
 mod LaneSorting
 mod UnsortedLanes
 mod FirstUnsortedFault
