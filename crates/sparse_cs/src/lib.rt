@@ -7,10 +7,13 @@ ghost use Rattle.sparse_base.specs.Raw.{lane_of};
 ghost use Rattle.sparse_cs.specs.Compressed.{Compressed, compressed_of, IsSound, lane_triplets};
 
 pub mod lane;
+pub mod lane_iter_mut;
 pub mod laws;
 mod sorted;
 mod special;
 mod unsorted;
+pub mod triplet_iter_mut;
+mod writing;
 
 pub use sorted::SortedFault;
 use sparse_base::pattern::{SparsityPattern, SparsityPatternIter};

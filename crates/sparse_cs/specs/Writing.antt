@@ -1,0 +1,72 @@
+-- Values that are lent for writing, and what the matrix is once the loan is over.
+use Rattle.std.specs.Prelude.{◌≡◌, ℕ, ◌++◌, List, Option, Some, None, length, take, drop, slice_set, slice_index_or, unwrap_or}
+use Rattle.std.specs.Borrow.{Lends, follows_if, MutBor, Fml, Array, RattleType}
+use Rattle.sparse_base.specs.Raw.{start_of}
+use Rattle.sparse_base.specs.Entries.{found_name, indexed_name}
+use Rattle.sparse_base.specs.declared.entry.SparseEntryMut.{SparseEntryMut}
+use Rattle.sparse_base.specs.declared.entry.SparseEntryMut.TheVariants.{NonZero, Zero}
+use Rattle.sparse_base.specs.declared.entry.Found.{Found}
+use Rattle.sparse_base.specs.declared.entry.Found.TheVariants.{Value, Nothing}
+use Rattle.sparse_base.specs.declared.entry.Missing.TheVariants.{OutOfBounds, NotStored}
+use Rattle.sparse_cs.specs.Compressed.{Compressed}
+use Rattle.sparse_cs.specs.Entries.{IsInBounds, place_of}
+use Rattle.sparse_cs.specs.contracts.CsMatrix.{the_row}
+
+-- xs with ws written over its front
+abbrev pub refill : {X : Type 0} → List X → List X → List X
+refill xs ws = take (length xs) (ws ++ drop (length ws) xs)
+
+-- xs with ws written over it from position i on
+abbrev pub refill_from : {X : Type 0} → List X → ℕ → List X → List X
+refill_from xs i ws = refill xs (take i xs ++ (ws ++ drop (length ws) (drop i xs)))
+
+module _ {T : Type 0} where
+  -- the matrix with other values
+  abbrev pub with_values : Compressed T → List T → Compressed T
+  with_values m ws = record m { values = refill m.values ws }
+
+  -- the matrix with other values in lane i
+  abbrev pub with_lane : Compressed T → ℕ → List T → Compressed T
+  with_lane m i ws = record m { values = refill_from m.values (start_of m.pattern i) ws }
+
+  -- the matrix with another value at the stored place (i, j)
+  abbrev pub with_value : Compressed T → ℕ → ℕ → T → Compressed T
+  with_value m i j w = record m { values = slice_set m.values (unwrap_or (place_of m.pattern i j) 0) w }
+
+  -- x has the value at the stored place (i, j)
+  pub record IsValueAt (m : Compressed T) (i j : ℕ) (x : MutBor T) : Type 0 where
+    pub position : ℕ
+    pub stored : place_of m.pattern i j ≡ Some position
+    pub value : x.now ≡ slice_index_or m.values position x.now
+
+  -- the value at the place, or that the pair isn't stored, or that it is out of bounds
+  abbrev pub IsFoundAt : Compressed T → ℕ → ℕ → Found T → Type 0
+  IsFoundAt m i j (Value x) = IsInBounds m.pattern i j × IsValueAt m i j x
+  IsFoundAt m i j (Nothing NotStored) = IsInBounds m.pattern i j × (place_of m.pattern i j ≡ None)
+  IsFoundAt m i j (Nothing OutOfBounds) = ¬ IsInBounds m.pattern i j
+
+  -- the value at the place, or Zero where the pair isn't stored
+  abbrev pub IsEntryMutAt : Compressed T → ℕ → ℕ → SparseEntryMut T → Type 0
+  IsEntryMutAt m i j (NonZero x) = IsValueAt m i j x
+  IsEntryMutAt m i j Zero = place_of m.pattern i j ≡ None
+
+  -- that entry in bounds, and None out of bounds
+  abbrev pub IsEntryMutOf : Compressed T → ℕ → ℕ → Option (SparseEntryMut T) → Type 0
+  IsEntryMutOf m i j (Some entry) = IsInBounds m.pattern i j × IsEntryMutAt m i j entry
+  IsEntryMutOf m i j None = ¬ IsInBounds m.pattern i j
+
+module _ (T : RattleType) (s : MutBor (Compressed T.Denot)) where
+  -- the core ends with the values that are left behind the slice
+  abbrev pub LendsValues : MutBor (List T.Denot) → Fml
+  LendsValues r = Lends (the_row T) (Array T 0) s r (with_values s.now)
+
+  -- the core ends with the values of lane i that are left behind the slice
+  abbrev pub LendsLane : ℕ → MutBor (List T.Denot) → Fml
+  LendsLane i r = Lends (the_row T) (Array T 0) s r (with_lane s.now i)
+
+  -- the core ends with the value that is left behind the reference, or as it was where there is none
+  abbrev pub LendsFound : ℕ → ℕ → Found T.Denot → Fml
+  LendsFound i j r = follows_if (the_row T) T s.ghost_name (found_name r) (with_value s.now i j) s.now
+
+  abbrev pub LendsIndexed : ℕ → ℕ → SparseEntryMut T.Denot → Fml
+  LendsIndexed i j r = follows_if (the_row T) T s.ghost_name (indexed_name r) (with_value s.now i j) s.now

@@ -1,0 +1,92 @@
+//! The lanes of a compressed matrix, with their values lent for writing.
+
+ghost use Rattle.std.specs.Prelude.{◌≡◌, ◌<◌, take, drop};
+ghost use Rattle.std.specs.Borrow.{sem};
+ghost use Rattle.std.specs.Iterator.{YieldsFirstBy, item_count};
+ghost use Rattle.sparse_cs.specs.Lanes.{lane_at, lanes_of};
+ghost use Rattle.sparse_cs.specs.Left.{lent_lane, lanes_left};
+ghost use Rattle.sparse_cs.specs.Writing.{LendsLane};
+
+use crate::CsMatrix;
+use crate::lane::LaneIndices;
+use sparse_base::pattern::SparsityPattern;
+use std::mem;
+
+/// One lane, its values for writing.
+#[derive(Drop)]
+pub struct CsLaneMut<'a, T> {
+    pub minor_dim: usize,
+    pub indices: LaneIndices<'a>,
+    pub values: &'a mut [T],
+}
+
+impl<T> CsMatrix<T> {
+    /// A lane, its values for writing.
+    pub fn lane_mut(&mut self, major_index: usize) -> CsLaneMut<'_, T>
+        requires { major_index < self.old.pattern.major_dim }
+        ensures* writes_back { sem 𝓛 (LendsLane T.row self.entry major_index result.values) }
+        ensures lane { lent_lane result ≡ lane_at self.old major_index }
+    {
+        let start = self.sparsity_pattern.major_offsets()[major_index];
+        let end = self.sparsity_pattern.major_offsets()[major_index + 1];
+        CsLaneMut {
+            minor_dim: self.sparsity_pattern.minor_dim(),
+            indices: LaneIndices::of_lane(&self.sparsity_pattern, major_index),
+            values: self.values.slice_mut(start..end),
+        }
+    }
+
+    /// The lanes in order, the empty ones too, their values for writing.
+    pub fn lane_iter_mut(&mut self) -> CsLaneIterMut<'_, T>
+        ensures { lanes_left result ≡ lanes_of self.old }
+    {
+        CsLaneIterMut {
+            pattern: &self.sparsity_pattern,
+            current_lane: 0,
+            values: &mut self.values,
+        }
+    }
+}
+
+/// The lanes of a compressed matrix in order, the empty ones too, their values for writing.
+#[derive(Drop)]
+pub struct CsLaneIterMut<'a, T> {
+    pattern: &'a SparsityPattern,
+    current_lane: usize,
+    values: &'a mut [T],
+}
+
+impl<'a, T> Iterator for CsLaneIterMut<'a, T> {
+    type Item = CsLaneMut<'a, T>;
+
+    ghost next_gives = { YieldsFirstBy lent_lane lanes_left };
+
+    ghost remaining = { item_count lanes_left };
+
+    #[tactic(auto, using(crate::proofs::LanesLeft::lanes_with_next, crate::proofs::LanesLeft::lanes_with_end))]
+    fn next(&mut self) -> Option<CsLaneMut<'a, T>> {
+        let pattern = self.pattern;
+        if self.current_lane >= pattern.major_dim() {
+            return None;
+        }
+        let indices = LaneIndices::of_lane(pattern, self.current_lane);
+        let (front, rest) = split_front(mem::take(&mut self.values), indices.len());
+        self.current_lane += 1;
+        self.values = rest;
+        Some(CsLaneMut {
+            minor_dim: pattern.minor_dim(),
+            indices,
+            values: front,
+        })
+    }
+}
+
+// The first values, and the others.
+#[tactic(auto, using(std::proofs::lemmas::List::take_min, std::proofs::lemmas::List::drop_min))]
+fn split_front<'a, T>(values: &'a mut [T], count: usize) -> (&'a mut [T], &'a mut [T])
+    ensures front { result.0.now ≡ take count values.old }
+    ensures rest { result.1.now ≡ drop count values.old }
+{
+    let within = count.min(values.len());
+    values.split_at_mut(within)
+}

@@ -1,0 +1,92 @@
+//! Values lent for writing: all of them, or the value at one place.
+
+ghost use Rattle.std.specs.Prelude.{◌≡◌, ◌<◌, length, IfSome};
+ghost use Rattle.std.specs.Borrow.{sem};
+ghost use Rattle.sparse_cs.specs.Compressed.{IsSound};
+ghost use Rattle.sparse_cs.specs.Entries.{IsInBounds, place_of};
+ghost use Rattle.sparse_cs.specs.Writing.{LendsValues, LendsFound, LendsIndexed, IsFoundAt, IsEntryMutAt};
+
+use crate::CsMatrix;
+use crate::lane::LaneIndices;
+use sparse_base::entry::{Found, Missing, SparseEntryMut};
+use sparse_base::pattern::SparsityPattern;
+
+impl<T> CsMatrix<T> {
+    /// The values for writing.
+    pub fn values_mut(&mut self) -> &mut [T]
+        ensures* writes_back { sem 𝓛 (LendsValues T.row self.entry result) }
+        ensures values { result.now ≡ self.old.values }
+    {
+        &mut self.values[..]
+    }
+
+    /// The pattern, and the values for writing.
+    pub fn pattern_and_values_mut(&mut self) -> (&SparsityPattern, &mut [T])
+        ensures* writes_back { sem 𝓛 (LendsValues T.row self.entry result.1) }
+        ensures pattern { result.0.now ≡ self.old.pattern }
+        ensures values { result.1.now ≡ self.old.values }
+    {
+        (&self.sparsity_pattern, &mut self.values[..])
+    }
+
+    /// The offsets, the indices, and the values for writing.
+    pub fn cs_data_mut(&mut self) -> (&[usize], &[usize], &mut [T])
+        ensures* writes_back { sem 𝓛 (LendsValues T.row self.entry result.2) }
+        ensures offsets { result.0.now ≡ self.old.pattern.offsets }
+        ensures indices { result.1.now ≡ self.old.pattern.indices }
+        ensures values { result.2.now ≡ self.old.values }
+    {
+        let pattern = &self.sparsity_pattern;
+        (
+            pattern.major_offsets(),
+            pattern.minor_indices(),
+            &mut self.values[..],
+        )
+    }
+
+    /// Where the value of a place is stored, if it is, by binary search in the lane.
+    pub fn position_of(&self, major_index: usize, minor_index: usize) -> Option<usize>
+        requires { major_index < self.now.pattern.major_dim }
+        ensures position { result ≡ place_of self.now.pattern major_index minor_index }
+        ensures within { IfSome result (λ p. p < length self.now.values) }
+    {
+        let start = self.sparsity_pattern.major_offsets()[major_index];
+        let lane = LaneIndices::of_lane(&self.sparsity_pattern, major_index);
+        match lane.position_of(minor_index) {
+            Some(at) => Some(start + at),
+            None => None,
+        }
+    }
+
+    /// The value at a pair of indices for writing, or why there is none.
+    pub fn find_mut(&mut self, major_index: usize, minor_index: usize) -> Found<'_, T>
+        ensures* writes_back { sem 𝓛 (LendsFound T.row self.entry major_index minor_index result) }
+        ensures found { IsFoundAt self.old major_index minor_index result }
+    {
+        if major_index >= self.sparsity_pattern.major_dim()
+            || minor_index >= self.sparsity_pattern.minor_dim()
+        {
+            return Found::Nothing(Missing::OutOfBounds);
+        }
+        match self.position_of(major_index, minor_index) {
+            Some(p) => Found::Value(&mut self.values[p]),
+            None => Found::Nothing(Missing::NotStored),
+        }
+    }
+
+    /// What the matrix has at a pair of indices in bounds, for writing.
+    pub fn index_entry_mut(
+        &mut self,
+        major_index: usize,
+        minor_index: usize,
+    ) -> SparseEntryMut<'_, T>
+        requires { IsInBounds self.old.pattern major_index minor_index }
+        ensures* writes_back { sem 𝓛 (LendsIndexed T.row self.entry major_index minor_index result) }
+        ensures entry { IsEntryMutAt self.old major_index minor_index result }
+    {
+        match self.position_of(major_index, minor_index) {
+            Some(p) => SparseEntryMut::NonZero(&mut self.values[p]),
+            None => SparseEntryMut::Zero,
+        }
+    }
+}
