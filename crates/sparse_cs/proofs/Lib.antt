@@ -1,6 +1,7 @@
 pub mod Arrays
 pub mod RowOrder
 pub mod Inside
+pub mod FoundEntries
 mod IdentityArrays
 mod Repeats
 pub mod LaneSearch

@@ -1,5 +1,5 @@
 -- Values that are lent for writing, and what the matrix is once the loan is over.
-use Rattle.std.specs.Prelude.{◌≡◌, ℕ, ◌++◌, List, Option, Some, None, length, take, drop, slice_set, slice_index_or, unwrap_or}
+use Rattle.std.specs.Prelude.{◌≡◌, ℕ, ◌<◌, ◌≤◌, ◌==◌, ◌++◌, List, Option, Some, None, length, take, drop, position, slice_set, slice_index_or, unwrap_or}
 use Rattle.std.specs.Borrow.{Lends, follows_if, MutBor, Fml, Array, RattleType}
 use Rattle.sparse_base.specs.Raw.{start_of}
 use Rattle.sparse_base.specs.Entries.{found_name, indexed_name}
@@ -10,6 +10,7 @@ use Rattle.sparse_base.specs.declared.entry.Found.TheVariants.{Value, Nothing}
 use Rattle.sparse_base.specs.declared.entry.Missing.TheVariants.{OutOfBounds, NotStored}
 use Rattle.sparse_cs.specs.Compressed.{Compressed}
 use Rattle.sparse_cs.specs.Entries.{IsInBounds, place_of}
+use Rattle.sparse_cs.specs.Lanes.{Lane}
 use Rattle.sparse_cs.specs.contracts.CsMatrix.{the_row}
 
 -- xs with ws written over its front
@@ -19,6 +20,10 @@ refill xs ws = take (length xs) (ws ++ drop (length ws) xs)
 -- xs with ws written over it from position i on
 abbrev pub refill_from : {X : Type 0} → List X → ℕ → List X → List X
 refill_from xs i ws = refill xs (take i xs ++ (ws ++ drop (length ws) (drop i xs)))
+
+-- where the index j stands in a lane
+abbrev pub index_in : List ℕ → ℕ → Option ℕ
+index_in indices j = position (λ i. i == j) indices
 
 module _ {T : Type 0} where
   -- the matrix with other values
@@ -55,6 +60,29 @@ module _ {T : Type 0} where
   IsEntryMutOf m i j (Some entry) = IsInBounds m.pattern i j × IsEntryMutAt m i j entry
   IsEntryMutOf m i j None = ¬ IsInBounds m.pattern i j
 
+  -- j is the index at this position of the lane, which has a value
+  pub record IsStoredIn (l : Lane T) (j position : ℕ) : Type 0 where
+    pub index : index_in l.indices j ≡ Some position
+    pub within : position < length l.values
+
+  -- x has the value that is stored with the index j
+  pub record IsLaneValueAt (l : Lane T) (j : ℕ) (x : MutBor T) : Type 0 where
+    pub position : ℕ
+    pub stored : IsStoredIn l j position
+    pub value : x.now ≡ slice_index_or l.values position x.now
+
+  -- the value at the index, or that the index isn't stored, or that it is out of bounds
+  abbrev pub IsLaneFoundAt : Lane T → ℕ → Found T → Type 0
+  IsLaneFoundAt l j (Value x) = (j < l.minor_dim) × IsLaneValueAt l j x
+  IsLaneFoundAt l j (Nothing NotStored) = (j < l.minor_dim) × ((p : ℕ) → ¬ IsStoredIn l j p)
+  IsLaneFoundAt l j (Nothing OutOfBounds) = l.minor_dim ≤ j
+
+  -- the same as an entry: None out of bounds
+  abbrev pub IsLaneEntryMutOf : Lane T → ℕ → Option (SparseEntryMut T) → Type 0
+  IsLaneEntryMutOf l j (Some (NonZero x)) = (j < l.minor_dim) × IsLaneValueAt l j x
+  IsLaneEntryMutOf l j (Some Zero) = (j < l.minor_dim) × ((p : ℕ) → ¬ IsStoredIn l j p)
+  IsLaneEntryMutOf l j None = l.minor_dim ≤ j
+
 module _ (T : RattleType) (s : MutBor (Compressed T.Denot)) where
   -- the core ends with the values that are left behind the slice
   abbrev pub LendsValues : MutBor (List T.Denot) → Fml
@@ -70,3 +98,7 @@ module _ (T : RattleType) (s : MutBor (Compressed T.Denot)) where
 
   abbrev pub LendsIndexed : ℕ → ℕ → SparseEntryMut T.Denot → Fml
   LendsIndexed i j r = follows_if (the_row T) T s.ghost_name (indexed_name r) (with_value s.now i j) s.now
+
+-- the slice ends with the element that is left behind the reference
+abbrev pub LendsElement : (T : RattleType) → MutBor (List T.Denot) → ℕ → MutBor T.Denot → Fml
+LendsElement T s k r = Lends (Array T 0) T s r (λ w. slice_set s.now k w)

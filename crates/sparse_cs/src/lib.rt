@@ -13,7 +13,7 @@ mod sorted;
 mod special;
 mod unsorted;
 pub mod triplet_iter_mut;
-mod writing;
+pub mod writing;
 
 pub use sorted::SortedFault;
 use sparse_base::pattern::{SparsityPattern, SparsityPatternIter};

@@ -1,10 +1,10 @@
 //! Values lent for writing: all of them, or the value at one place.
 
-ghost use Rattle.std.specs.Prelude.{◌≡◌, ◌<◌, length, IfSome};
+ghost use Rattle.std.specs.Prelude.{◌≡◌, ◌<◌, length, slice_index_or, IfSome};
 ghost use Rattle.std.specs.Borrow.{sem};
 ghost use Rattle.sparse_cs.specs.Compressed.{IsSound};
 ghost use Rattle.sparse_cs.specs.Entries.{IsInBounds, place_of};
-ghost use Rattle.sparse_cs.specs.Writing.{LendsValues, LendsFound, LendsIndexed, IsFoundAt, IsEntryMutAt};
+ghost use Rattle.sparse_cs.specs.Writing.{LendsValues, LendsFound, LendsIndexed, LendsElement, IsFoundAt, IsEntryMutAt};
 
 use crate::CsMatrix;
 use crate::lane::LaneIndices;
@@ -89,4 +89,13 @@ impl<T> CsMatrix<T> {
             None => SparseEntryMut::Zero,
         }
     }
+}
+
+/// An element of a slice for writing.
+pub fn element_mut<'a, T>(values: &'a mut [T], position: usize) -> &'a mut T
+    requires { position < length values.old }
+    ensures* writes_back { sem 𝓛 (LendsElement T.row values.entry position result) }
+    ensures value { result.now ≡ slice_index_or values.old position result.now }
+{
+    &mut values[position]
 }

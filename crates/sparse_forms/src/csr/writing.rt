@@ -1,0 +1,93 @@
+//! Values of a CSR matrix lent for writing: all of them, those of a row, or the value at one place.
+
+ghost use Rattle.std.specs.Prelude.{◌≡◌, ◌<◌, ◌↔◌, IfSome, IsSome};
+ghost use Rattle.std.specs.Borrow.{sem};
+ghost use Rattle.sparse_cs.specs.Entries.{IsInBounds};
+ghost use Rattle.sparse_cs.specs.Lanes.{lane_at};
+ghost use Rattle.sparse_cs.specs.Writing.{IsFoundAt, IsEntryMutAt, IsEntryMutOf};
+ghost use Rattle.sparse_forms.specs.CsrWriting.{LendsValues, LendsRow, LendsRowIf, LendsFound, LendsEntry, LendsIndexed, lent_row, row_values};
+
+use super::CsrMatrix;
+use super::row_mut::CsrRowMut;
+use sparse_base::entry::{Found, SparseEntryMut, into_entry};
+use sparse_base::pattern::SparsityPattern;
+
+impl<T> CsrMatrix<T> {
+    /// The values of the stored places for writing, row after row.
+    pub fn values_mut(&mut self) -> &mut [T]
+        ensures* writes_back { sem 𝓛 (LendsValues T.row self.entry result) }
+        ensures values { result.now ≡ self.old.values }
+    {
+        self.cs.values_mut()
+    }
+
+    /// A row, its values for writing.
+    pub fn row_mut(&mut self, index: usize) -> CsrRowMut<'_, T>
+        requires { index < self.old.pattern.major_dim }
+        ensures* writes_back { sem 𝓛 (LendsRow T.row self.entry index (row_values result)) }
+        ensures row { lent_row result ≡ lane_at self.old index }
+    {
+        CsrRowMut::new(self.cs.lane_mut(index))
+    }
+
+    /// A row, its values for writing, or `None` out of bounds.
+    pub fn get_row_mut(&mut self, index: usize) -> Option<CsrRowMut<'_, T>>
+        ensures* writes_back { sem 𝓛 (LendsRowIf T.row self.entry index result) }
+        ensures bounds { IsSome result ↔ (index < self.old.pattern.major_dim) }
+        ensures row { IfSome result (λ row. lent_row row ≡ lane_at self.old index) }
+    {
+        if index < self.nrows() {
+            Some(self.row_mut(index))
+        } else {
+            None
+        }
+    }
+
+    /// The pattern, and the values for writing.
+    pub fn pattern_and_values_mut(&mut self) -> (&SparsityPattern, &mut [T])
+        ensures* writes_back { sem 𝓛 (LendsValues T.row self.entry result.1) }
+        ensures pattern { result.0.now ≡ self.old.pattern }
+        ensures values { result.1.now ≡ self.old.values }
+    {
+        self.cs.pattern_and_values_mut()
+    }
+
+    /// The entry at a row and a column for writing, by binary search in the row, or `None` out of bounds.
+    pub fn get_entry_mut(
+        &mut self,
+        row_index: usize,
+        col_index: usize,
+    ) -> Option<SparseEntryMut<'_, T>>
+        ensures* writes_back { sem 𝓛 (LendsEntry T.row self.entry row_index col_index result) }
+        ensures entry { IsEntryMutOf self.old row_index col_index result }
+    {
+        into_entry(self.find_mut(row_index, col_index))
+    }
+
+    /// The entry at a row and a column in bounds for writing, by binary search in the row.
+    pub fn index_entry_mut(&mut self, row_index: usize, col_index: usize) -> SparseEntryMut<'_, T>
+        requires { IsInBounds self.old.pattern row_index col_index }
+        ensures* writes_back { sem 𝓛 (LendsIndexed T.row self.entry row_index col_index result) }
+        ensures entry { IsEntryMutAt self.old row_index col_index result }
+    {
+        self.cs.index_entry_mut(row_index, col_index)
+    }
+
+    /// The row offsets, the columns, and the values for writing.
+    pub fn csr_data_mut(&mut self) -> (&[usize], &[usize], &mut [T])
+        ensures* writes_back { sem 𝓛 (LendsValues T.row self.entry result.2) }
+        ensures offsets { result.0.now ≡ self.old.pattern.offsets }
+        ensures indices { result.1.now ≡ self.old.pattern.indices }
+        ensures values { result.2.now ≡ self.old.values }
+    {
+        self.cs.cs_data_mut()
+    }
+
+    // The value at a row and a column, or why there is none.
+    fn find_mut(&mut self, row: usize, col: usize) -> Found<'_, T>
+        ensures* writes_back { sem 𝓛 (LendsFound T.row self.entry row col result) }
+        ensures found { IsFoundAt self.old row col result }
+    {
+        self.cs.find_mut(row, col)
+    }
+}
