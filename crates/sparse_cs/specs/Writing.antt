@@ -3,6 +3,8 @@ use Rattle.std.specs.Prelude.{◌≡◌, ℕ, ◌<◌, ◌≤◌, ◌==◌, ◌+
 use Rattle.std.specs.Borrow.{Lends, follows_if, MutBor, Fml, Array, RattleType}
 use Rattle.sparse_base.specs.Raw.{start_of}
 use Rattle.sparse_base.specs.Entries.{found_name, indexed_name}
+use Rattle.sparse_base.specs.declared.entry.SparseEntry.{SparseEntry}
+use Rattle.sparse_base.specs.declared.entry.SparseEntry.TheVariants as entry
 use Rattle.sparse_base.specs.declared.entry.SparseEntryMut.{SparseEntryMut}
 use Rattle.sparse_base.specs.declared.entry.SparseEntryMut.TheVariants.{NonZero, Zero}
 use Rattle.sparse_base.specs.declared.entry.Found.{Found}
@@ -82,6 +84,12 @@ module _ {T : Type 0} where
   IsLaneEntryMutOf l j (Some (NonZero x)) = (j < l.minor_dim) × IsLaneValueAt l j x
   IsLaneEntryMutOf l j (Some Zero) = (j < l.minor_dim) × ((p : ℕ) → ¬ IsStoredIn l j p)
   IsLaneEntryMutOf l j None = l.minor_dim ≤ j
+
+  -- the entry of a lane that is lent, for reading: None out of bounds
+  abbrev pub IsLentEntryOf : Lane T → ℕ → Option (SparseEntry T) → Type 0
+  IsLentEntryOf l j (Some (entry.NonZero x)) = (j < l.minor_dim) × ((p : ℕ) × IsStoredIn l j p × (x.now ≡ slice_index_or l.values p x.now))
+  IsLentEntryOf l j (Some entry.Zero) = (j < l.minor_dim) × ((p : ℕ) → ¬ IsStoredIn l j p)
+  IsLentEntryOf l j None = l.minor_dim ≤ j
 
 module _ (T : RattleType) (s : MutBor (Compressed T.Denot)) where
   -- the core ends with the values that are left behind the slice

@@ -4,11 +4,12 @@ ghost use Rattle.std.specs.Prelude.{◌≡◌, ◌<◌, length, slice_index_or, 
 ghost use Rattle.std.specs.Borrow.{sem};
 ghost use Rattle.sparse_cs.specs.Compressed.{IsSound};
 ghost use Rattle.sparse_cs.specs.Entries.{IsInBounds, place_of};
-ghost use Rattle.sparse_cs.specs.Writing.{LendsValues, LendsFound, LendsIndexed, LendsElement, IsFoundAt, IsEntryMutAt};
+ghost use Rattle.sparse_cs.specs.Lanes.{lane_parts};
+ghost use Rattle.sparse_cs.specs.Writing.{LendsValues, LendsFound, LendsIndexed, LendsElement, IsFoundAt, IsEntryMutAt, IsLentEntryOf};
 
 use crate::CsMatrix;
 use crate::lane::LaneIndices;
-use sparse_base::entry::{Found, Missing, SparseEntryMut};
+use sparse_base::entry::{Found, Missing, SparseEntry, SparseEntryMut};
 use sparse_base::pattern::SparsityPattern;
 
 impl<T> CsMatrix<T> {
@@ -98,4 +99,28 @@ pub fn element_mut<'a, T>(values: &'a mut [T], position: usize) -> &'a mut T
     ensures value { result.now ≡ slice_index_or values.old position result.now }
 {
     &mut values[position]
+}
+
+/// The entry at an index of a lane of these parts, by binary search, or `None` out of bounds.
+pub fn entry_in<'a, T>(
+    minor_dim: usize,
+    indices: &LaneIndices<'_>,
+    values: &'a [T],
+    minor_index: usize,
+) -> Option<SparseEntry<'a, T>>
+    ensures { IsLentEntryOf (lane_parts minor_dim indices.now values.now) minor_index result }
+{
+    if minor_index >= minor_dim {
+        return None;
+    }
+    match indices.position_of(minor_index) {
+        Some(position) => {
+            if position < values.len() {
+                Some(SparseEntry::NonZero(&values[position]))
+            } else {
+                Some(SparseEntry::Zero)
+            }
+        }
+        None => Some(SparseEntry::Zero),
+    }
 }

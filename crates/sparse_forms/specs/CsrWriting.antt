@@ -1,7 +1,6 @@
 -- Values of a CSR matrix that are lent for writing, and what the matrix or the row is once the loan is over.
-use Rattle.std.specs.Prelude.{ℕ, List, [], Option, Some, None, slice_set, unwrap_or}
-use Rattle.std.specs.Borrow.{Lends, follows_if, MutBor, Fml, Array, RattleType, GName}
-use mathlib.Core.Option as maybe
+use Rattle.std.specs.Prelude.{ℕ, List, [], Option, slice_set, unwrap_or}
+use Rattle.std.specs.Borrow.{Lends, follows_if, MutBor, Fml, Array, RattleType}
 use mir.Syntax.{named}
 use Rattle.sparse_base.specs.Entries.{found_name, entry_name, indexed_name}
 use Rattle.sparse_base.specs.declared.entry.SparseEntryMut.{SparseEntryMut}
@@ -37,11 +36,6 @@ module _ {T : Type 0} where
   abbrev pub row_with_value : CsrRowMut T → ℕ → T → CsrRowMut T
   row_with_value s j w = row_with_value_at s (unwrap_or (index_in s.col_indices j) 0) w
 
-  -- the name of the reference in a row, if there is a row
-  abbrev pub row_name : Option (CsrRowMut T) → maybe.Option GName
-  row_name (Some s) = maybe.some s.values.ghost_name
-  row_name None = maybe.none
-
   -- the triplets that are still to come
   abbrev pub csr_triplets_left : CsrTripletIterMut T → List (ℕ × ℕ × T)
   csr_triplets_left it = triplets_left it.lanes
@@ -57,9 +51,6 @@ module _ (T : RattleType) (s : MutBor (Compressed T.Denot)) where
 
   abbrev pub LendsRow : ℕ → MutBor (List T.Denot) → Fml
   LendsRow i r = Lends (matrix_type T) (Array T 0) s r (with_lane s.now i)
-
-  abbrev pub LendsRowIf : ℕ → Option (CsrRowMut T.Denot) → Fml
-  LendsRowIf i r = follows_if (matrix_type T) (Array T 0) s.ghost_name (row_name r) (with_lane s.now i) s.now
 
   abbrev pub LendsFound : ℕ → ℕ → Found T.Denot → Fml
   LendsFound i j r = follows_if (matrix_type T) T s.ghost_name (found_name r) (with_value s.now i j) s.now

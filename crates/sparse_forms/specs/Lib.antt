@@ -1,1 +1,2 @@
 pub mod CsrWriting
+pub mod CscWriting

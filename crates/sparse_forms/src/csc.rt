@@ -9,7 +9,13 @@ ghost use Rattle.sparse_cs.specs.Forms.{plain_of_cols};
 ghost use Rattle.sparse_cs.specs.SortedFaults.{IsSortedRefusal, sorted_kind};
 ghost use Rattle.sparse_cs.specs.UnsortedFaults.{IsFaultless, IsSortedForm, IsUnsortedRefusal};
 
+mod col_mut;
+mod iter_mut;
+mod writing;
+
 use crate::csr::CsrMatrix;
+pub use col_mut::CscColMut;
+pub use iter_mut::{CscColIterMut, CscTripletIterMut};
 use sparse_base::error::{SparseFormatError, SparseFormatErrorKind};
 use sparse_base::pattern::{SparsityPattern, SparsityPatternFormatError};
 use sparse_base::scalar::Ring;

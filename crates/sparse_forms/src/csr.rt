@@ -13,10 +13,9 @@ mod iter_mut;
 mod row_mut;
 mod writing;
 
+use crate::csc::CscMatrix;
 pub use iter_mut::{CsrRowIterMut, CsrTripletIterMut};
 pub use row_mut::CsrRowMut;
-
-use crate::csc::CscMatrix;
 use sparse_base::error::{SparseFormatError, SparseFormatErrorKind};
 use sparse_base::pattern::{SparsityPattern, SparsityPatternFormatError};
 use sparse_base::scalar::Ring;

@@ -3,13 +3,13 @@
 ghost use Rattle.std.specs.Prelude.{◌≡◌, ◌<◌, length, slice_index_or};
 ghost use Rattle.std.specs.Borrow.{sem};
 ghost use Rattle.sparse_cs.specs.Left.{lent_lane};
-ghost use Rattle.sparse_cs.specs.Writing.{IsLaneFoundAt, IsLaneEntryMutOf};
+ghost use Rattle.sparse_cs.specs.Writing.{IsLaneFoundAt, IsLaneEntryMutOf, IsLentEntryOf};
 ghost use Rattle.sparse_forms.specs.CsrWriting.{lent_row, row_values, LendsRowValues, LendsRowAt, LendsRowFound, LendsRowEntry};
 
-use sparse_base::entry::{Found, Missing, SparseEntryMut, into_entry};
+use sparse_base::entry::{Found, Missing, SparseEntry, SparseEntryMut, into_entry};
 use sparse_cs::lane::LaneIndices;
 use sparse_cs::lane_iter_mut::CsLaneMut;
-use sparse_cs::writing::element_mut;
+use sparse_cs::writing::{element_mut, entry_in};
 use std::marker::PhantomData;
 
 /// A row of a CSR matrix, its values for writing.
@@ -66,6 +66,18 @@ impl<'a, T> CsrRowMut<'a, T> {
         ensures { result.now ≡ (lent_row self.now).values }
     {
         &*self.values
+    }
+
+    /// The entry at a column, by binary search, or `None` out of bounds.
+    pub fn get_entry(&self, global_col_index: usize) -> Option<SparseEntry<'_, T>>
+        ensures { IsLentEntryOf (lent_row self.now) global_col_index result }
+    {
+        entry_in(
+            self.ncols,
+            &self.col_indices,
+            self.values(),
+            global_col_index,
+        )
     }
 
     /// The values of the stored places for writing.

@@ -5,7 +5,7 @@ ghost use Rattle.std.specs.Borrow.{sem};
 ghost use Rattle.sparse_cs.specs.Entries.{IsInBounds};
 ghost use Rattle.sparse_cs.specs.Lanes.{lane_at};
 ghost use Rattle.sparse_cs.specs.Writing.{IsFoundAt, IsEntryMutAt, IsEntryMutOf};
-ghost use Rattle.sparse_forms.specs.CsrWriting.{LendsValues, LendsRow, LendsRowIf, LendsFound, LendsEntry, LendsIndexed, lent_row, row_values};
+ghost use Rattle.sparse_forms.specs.CsrWriting.{LendsValues, LendsRow, LendsFound, LendsEntry, LendsIndexed, lent_row, row_values};
 
 use super::CsrMatrix;
 use super::row_mut::CsrRowMut;
@@ -32,7 +32,6 @@ impl<T> CsrMatrix<T> {
 
     /// A row, its values for writing, or `None` out of bounds.
     pub fn get_row_mut(&mut self, index: usize) -> Option<CsrRowMut<'_, T>>
-        ensures* writes_back { sem 𝓛 (LendsRowIf T.row self.entry index result) }
         ensures bounds { IsSome result ↔ (index < self.old.pattern.major_dim) }
         ensures row { IfSome result (λ row. lent_row row ≡ lane_at self.old index) }
     {

@@ -1,0 +1,92 @@
+//! Values of a CSC matrix lent for writing: all of them, those of a column, or the value at one place.
+
+ghost use Rattle.std.specs.Prelude.{◌≡◌, ◌<◌, ◌↔◌, IfSome, IsSome};
+ghost use Rattle.std.specs.Borrow.{sem};
+ghost use Rattle.sparse_cs.specs.Entries.{IsInBounds};
+ghost use Rattle.sparse_cs.specs.Lanes.{lane_at};
+ghost use Rattle.sparse_cs.specs.Writing.{IsFoundAt, IsEntryMutAt, IsEntryMutOf};
+ghost use Rattle.sparse_forms.specs.CscWriting.{LendsValues, LendsCol, LendsFound, LendsEntry, LendsIndexed, lent_col, col_values};
+
+use super::CscMatrix;
+use super::col_mut::CscColMut;
+use sparse_base::entry::{Found, SparseEntryMut, into_entry};
+use sparse_base::pattern::SparsityPattern;
+
+impl<T> CscMatrix<T> {
+    /// The values of the stored places for writing, column after column.
+    pub fn values_mut(&mut self) -> &mut [T]
+        ensures* writes_back { sem 𝓛 (LendsValues T.row self.entry result) }
+        ensures values { result.now ≡ self.old.values }
+    {
+        self.cs.values_mut()
+    }
+
+    /// A column, its values for writing.
+    pub fn col_mut(&mut self, index: usize) -> CscColMut<'_, T>
+        requires { index < self.old.pattern.major_dim }
+        ensures* writes_back { sem 𝓛 (LendsCol T.row self.entry index (col_values result)) }
+        ensures col { lent_col result ≡ lane_at self.old index }
+    {
+        CscColMut::new(self.cs.lane_mut(index))
+    }
+
+    /// A column, its values for writing, or `None` out of bounds.
+    pub fn get_col_mut(&mut self, index: usize) -> Option<CscColMut<'_, T>>
+        ensures bounds { IsSome result ↔ (index < self.old.pattern.major_dim) }
+        ensures col { IfSome result (λ col. lent_col col ≡ lane_at self.old index) }
+    {
+        if index < self.ncols() {
+            Some(self.col_mut(index))
+        } else {
+            None
+        }
+    }
+
+    /// The pattern, and the values for writing.
+    pub fn pattern_and_values_mut(&mut self) -> (&SparsityPattern, &mut [T])
+        ensures* writes_back { sem 𝓛 (LendsValues T.row self.entry result.1) }
+        ensures pattern { result.0.now ≡ self.old.pattern }
+        ensures values { result.1.now ≡ self.old.values }
+    {
+        self.cs.pattern_and_values_mut()
+    }
+
+    /// The entry at a row and a column for writing, by binary search in the column, or `None` out of bounds.
+    pub fn get_entry_mut(
+        &mut self,
+        row_index: usize,
+        col_index: usize,
+    ) -> Option<SparseEntryMut<'_, T>>
+        ensures* writes_back { sem 𝓛 (LendsEntry T.row self.entry col_index row_index result) }
+        ensures entry { IsEntryMutOf self.old col_index row_index result }
+    {
+        into_entry(self.find_mut(row_index, col_index))
+    }
+
+    /// The entry at a row and a column in bounds for writing, by binary search in the column.
+    pub fn index_entry_mut(&mut self, row_index: usize, col_index: usize) -> SparseEntryMut<'_, T>
+        requires { IsInBounds self.old.pattern col_index row_index }
+        ensures* writes_back { sem 𝓛 (LendsIndexed T.row self.entry col_index row_index result) }
+        ensures entry { IsEntryMutAt self.old col_index row_index result }
+    {
+        self.cs.index_entry_mut(col_index, row_index)
+    }
+
+    /// The column offsets, the rows, and the values for writing.
+    pub fn csc_data_mut(&mut self) -> (&[usize], &[usize], &mut [T])
+        ensures* writes_back { sem 𝓛 (LendsValues T.row self.entry result.2) }
+        ensures offsets { result.0.now ≡ self.old.pattern.offsets }
+        ensures indices { result.1.now ≡ self.old.pattern.indices }
+        ensures values { result.2.now ≡ self.old.values }
+    {
+        self.cs.cs_data_mut()
+    }
+
+    // The value at a row and a column, or why there is none.
+    fn find_mut(&mut self, row: usize, col: usize) -> Found<'_, T>
+        ensures* writes_back { sem 𝓛 (LendsFound T.row self.entry col row result) }
+        ensures found { IsFoundAt self.old col row result }
+    {
+        self.cs.find_mut(col, row)
+    }
+}
