@@ -3,6 +3,7 @@
 ghost use Rattle.std.specs.Prelude.{◌≡◌, ◌<◌, take, drop};
 ghost use Rattle.std.specs.Borrow.{sem};
 ghost use Rattle.std.specs.Iterator.{YieldsFirstBy, item_count};
+ghost use Rattle.sparse_cs.specs.Compressed.{IsSound};
 ghost use Rattle.sparse_cs.specs.Lanes.{lane_at, lanes_of};
 ghost use Rattle.sparse_cs.specs.Left.{lent_lane, lanes_left};
 ghost use Rattle.sparse_cs.specs.Writing.{LendsLane};
@@ -26,6 +27,7 @@ impl<T> CsMatrix<T> {
         requires { major_index < self.old.pattern.major_dim }
         ensures* writes_back { sem 𝓛 (LendsLane T.row self.entry major_index result.values) }
         ensures lane { lent_lane result ≡ lane_at self.old major_index }
+        ensures sound { IsSound self.old }
     {
         let start = self.sparsity_pattern.major_offsets()[major_index];
         let end = self.sparsity_pattern.major_offsets()[major_index + 1];

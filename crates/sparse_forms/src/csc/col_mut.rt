@@ -15,10 +15,10 @@ use std::marker::PhantomData;
 /// A column of a CSC matrix, its values for writing.
 #[derive(Drop)]
 pub struct CscColMut<'a, T> {
-    nrows: usize,
-    row_indices: LaneIndices<'a>,
-    values: &'a mut [T],
-    lent: PhantomData<&'a mut T>,
+    pub(super) nrows: usize,
+    pub(super) row_indices: LaneIndices<'a>,
+    pub(super) values: &'a mut [T],
+    pub(super) lent: PhantomData<&'a mut T>,
 }
 
 impl<'a, T> CscColMut<'a, T> {

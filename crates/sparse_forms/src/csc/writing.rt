@@ -2,6 +2,7 @@
 
 ghost use Rattle.std.specs.Prelude.{◌≡◌, ◌<◌, ◌↔◌, IfSome, IsSome};
 ghost use Rattle.std.specs.Borrow.{sem};
+ghost use Rattle.sparse_cs.specs.Compressed.{IsSound};
 ghost use Rattle.sparse_cs.specs.Entries.{IsInBounds};
 ghost use Rattle.sparse_cs.specs.Lanes.{lane_at};
 ghost use Rattle.sparse_cs.specs.Writing.{IsFoundAt, IsEntryMutAt, IsEntryMutOf};
@@ -26,6 +27,7 @@ impl<T> CscMatrix<T> {
         requires { index < self.old.pattern.major_dim }
         ensures* writes_back { sem 𝓛 (LendsCol T.row self.entry index (col_values result)) }
         ensures col { lent_col result ≡ lane_at self.old index }
+        ensures sound { IsSound self.old }
     {
         CscColMut::new(self.cs.lane_mut(index))
     }

@@ -15,10 +15,10 @@ use std::marker::PhantomData;
 /// A row of a CSR matrix, its values for writing.
 #[derive(Drop)]
 pub struct CsrRowMut<'a, T> {
-    ncols: usize,
-    col_indices: LaneIndices<'a>,
-    values: &'a mut [T],
-    lent: PhantomData<&'a mut T>,
+    pub(super) ncols: usize,
+    pub(super) col_indices: LaneIndices<'a>,
+    pub(super) values: &'a mut [T],
+    pub(super) lent: PhantomData<&'a mut T>,
 }
 
 impl<'a, T> CsrRowMut<'a, T> {

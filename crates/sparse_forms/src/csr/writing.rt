@@ -2,6 +2,7 @@
 
 ghost use Rattle.std.specs.Prelude.{◌≡◌, ◌<◌, ◌↔◌, IfSome, IsSome};
 ghost use Rattle.std.specs.Borrow.{sem};
+ghost use Rattle.sparse_cs.specs.Compressed.{IsSound};
 ghost use Rattle.sparse_cs.specs.Entries.{IsInBounds};
 ghost use Rattle.sparse_cs.specs.Lanes.{lane_at};
 ghost use Rattle.sparse_cs.specs.Writing.{IsFoundAt, IsEntryMutAt, IsEntryMutOf};
@@ -26,6 +27,7 @@ impl<T> CsrMatrix<T> {
         requires { index < self.old.pattern.major_dim }
         ensures* writes_back { sem 𝓛 (LendsRow T.row self.entry index (row_values result)) }
         ensures row { lent_row result ≡ lane_at self.old index }
+        ensures sound { IsSound self.old }
     {
         CsrRowMut::new(self.cs.lane_mut(index))
     }
@@ -90,3 +92,6 @@ impl<T> CsrMatrix<T> {
         self.cs.find_mut(row, col)
     }
 }
+
+#[cfg(test)]
+mod tests;
