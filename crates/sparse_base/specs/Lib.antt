@@ -10,7 +10,7 @@ pub mod PatternFaults
 pub mod Rest
 pub mod Coo
 pub mod CooEquality
-pub mod TripletsLeft
+pub mod CooLending
 pub mod TripletFaults
 pub mod Plain
 pub mod RingMaps

@@ -3,7 +3,7 @@
 ghost use Rattle.std.specs.Prelude.{◌≡◌, ⊤};
 ghost use Rattle.std.specs.Iterator.{YieldsFirstBy, item_count};
 ghost use Rattle.sparse_base.specs.Coo.{IsInside};
-ghost use Rattle.sparse_base.specs.TripletsLeft.{triplets_left};
+ghost use Rattle.sparse_base.specs.CooLending.{triplets_to_lend};
 
 use super::CooMatrix;
 use std::alloc::AllocError;
@@ -25,7 +25,7 @@ impl<T> CooMatrix<T> {
 
     /// The triplets in the order of pushing, with each value lent for writing. Rows and columns stay as they are.
     pub fn triplet_iter_mut(&mut self) -> CooTripletIterMut<'_, T>
-        ensures all { triplets_left result ≡ self.old.triplets }
+        ensures all { triplets_to_lend result ≡ self.old.triplets }
         ensures inside { IsInside self.old }
     {
         CooTripletIterMut {
@@ -104,9 +104,9 @@ pub struct CooTripletIterMut<'a, T> {
 impl<'a, T> Iterator for CooTripletIterMut<'a, T> {
     type Item = (usize, usize, &'a mut T);
 
-    ghost next_gives = { YieldsFirstBy (λ x. (x.0, x.1, x.2.now)) triplets_left };
+    ghost next_gives = { YieldsFirstBy (λ x. (x.0, x.1, x.2.now)) triplets_to_lend };
 
-    ghost remaining = { item_count triplets_left };
+    ghost remaining = { item_count triplets_to_lend };
 
     fn next(&mut self) -> Option<(usize, usize, &'a mut T)> {
         let (row, rows) = self.rows.split_first()?;
