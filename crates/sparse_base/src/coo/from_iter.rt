@@ -14,7 +14,8 @@ use std::alloc::{AllocError, Global};
 impl<T> CooMatrix<T> {
     /// The triplets that an iterator gives, in order.
     ///
-    /// All of them are taken first, and memory grows with them. Then a row outside the sizes is refused, and else a column.
+    /// All of them are taken first, and memory grows with them: `OutOfMemory` where it is refused. Then a row outside the
+    /// sizes is `IndexOutOfBounds`, and else a column outside them.
     pub fn try_from_triplets_iter<I: Iterator<Item = (usize, usize, T)>>(
         alloc: Global,
         nrows: usize,
@@ -28,7 +29,8 @@ impl<T> CooMatrix<T> {
         ensures ok { IfOk result (λ m. WholeRun I.next_gives triplets (λ run. m ≡ coo_of nrows ncols run.items)) }
         ensures inside { IfOk result IsInside }
         ensures kinds { IfErr result (λ e. (e ≡ OutOfMemory) ⊎ (e ≡ IndexOutOfBounds)) }
-        ensures outside { IfErr result (λ e. e ≡ IndexOutOfBounds → WholeRun I.next_gives triplets (λ run. IsSomeOutside nrows ncols run.items)) }
+        ensures outside { IfErr result (λ e. e ≡ IndexOutOfBounds
+            → WholeRun I.next_gives triplets (λ run. IsSomeOutside nrows ncols run.items)) }
     {
         let (row_indices, col_indices, values) = split_triplets(alloc, triplets)?;
         CooMatrix::try_from_triplets(nrows, ncols, row_indices, col_indices, values)
