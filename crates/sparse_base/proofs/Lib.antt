@@ -6,6 +6,7 @@ pub mod SamePlaces
 pub mod NextLane
 pub mod TripletLists
 mod FirstTripletFault
+pub mod TripletRuns
 pub mod PlainLemmas
 pub mod FirstFaults
 pub mod PlainLaws

@@ -11,6 +11,7 @@ pub mod Rest
 pub mod Entries
 pub mod Coo
 pub mod CooEquality
+pub mod CooLending
 pub mod TripletFaults
 pub mod Plain
 pub mod RingMaps

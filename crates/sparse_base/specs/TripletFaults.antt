@@ -1,5 +1,5 @@
 -- The faults of triplets that are given as three lists, and their order.
-use Rattle.std.specs.Prelude.{◌≡◌, ◌≢◌, ℕ, ◌≤◌, List, Any, length}
+use Rattle.std.specs.Prelude.{◌≡◌, ◌≢◌, ℕ, ◌≤◌, ◌⊎◌, List, Any, length}
 use Rattle.sparse_base.specs.FirstFault.{IsFirst}
 use Rattle.sparse_base.specs.declared.error.SparseFormatErrorKind.{SparseFormatErrorKind}
 use Rattle.sparse_base.specs.declared.error.SparseFormatErrorKind.TheVariants.{InvalidStructure, IndexOutOfBounds}
@@ -36,3 +36,7 @@ pub record IsFirstTripletFault (nrows ncols : ℕ) (rows cols : List ℕ) (count
   pub spot : TripletSpot
   pub first : IsFirst triplet_rank (HasTripletFault nrows ncols rows cols count) spot
   pub is : kind ≡ triplet_kind spot
+
+-- some triplet has a row or a column outside the sizes
+abbrev pub IsSomeOutside : {T : Type 0} → ℕ → ℕ → List (ℕ × ℕ × T) → Type 0
+IsSomeOutside nrows ncols triplets = Any (λ t. (nrows ≤ t.0) ⊎ (ncols ≤ t.1)) triplets

@@ -1,13 +1,17 @@
 //! Matrices as lists of triplets.
 
 ghost use Rattle.std.specs.Prelude.{◌≡◌, ◌<◌, ◌≤◌, [], ◌∷◌, length, map, All, Any, MatchBool, IsOk, IfOk, IfErr, OnOk, OnErr};
-ghost use Rattle.std.specs.Iterator.{YieldsFirstBy, item_count};
 ghost use Rattle.sparse_base.specs.Coo.{coo_of, zip_triplets, appended, AreParts, IsInside};
 ghost use Rattle.sparse_base.specs.TripletFaults.{IsFirstTripletFault};
 
 use crate::error::{SparseFormatError, SparseFormatErrorKind};
 use std::alloc::{AllocError, Global};
 use std::marker::Model;
+
+mod from_iter;
+mod iter;
+
+pub use iter::{CooTripletIter, CooTripletIterMut};
 
 /// A matrix as a list of triplets (row, column, value).
 ///
@@ -134,6 +138,17 @@ impl<T> CooMatrix<T> {
         Ok(())
     }
 
+    /// Drops all triplets. The sizes stay, and so does the room.
+    pub fn clear_triplets(&mut self)
+    where
+        T: Drop,
+        ensures { self.new ≡ coo_of self.old.nrows self.old.ncols [] }
+    {
+        self.row_indices.clear();
+        self.col_indices.clear();
+        self.values.clear();
+    }
+
     /// The number of rows.
     pub fn nrows(&self) -> usize
         ensures { result ≡ self.now.nrows }
@@ -176,18 +191,6 @@ impl<T> CooMatrix<T> {
         ensures { result.now ≡ map (λ t. t.2) self.now.triplets }
     {
         &self.values
-    }
-
-    /// The triplets in the order of pushing.
-    pub fn triplet_iter(&self) -> CooTripletIter<'_, T>
-        ensures all { result ≡ self.now.triplets }
-        ensures inside { IsInside self.now }
-    {
-        CooTripletIter {
-            rows: &self.row_indices,
-            cols: &self.col_indices,
-            values: &self.values,
-        }
     }
 
     /// The rows, the columns and the values, moved out of the matrix.
@@ -267,49 +270,6 @@ impl<T: Eq> Eq for CooMatrix<T> {
     ghost use Rattle.sparse_base.specs.CooEquality.{coo_eq-equiv};
 
     ghost laws = { coo_eq-equiv T.Eq.laws };
-}
-
-/// The triplets of a [`CooMatrix`] in the order of pushing.
-#[derive(Drop)]
-pub struct CooTripletIter<'a, T> {
-    rows: &'a [usize],
-    cols: &'a [usize],
-    values: &'a [T],
-}
-
-impl<'a, T> Model for CooTripletIter<'a, T> {
-    ghost use Rattle.std.specs.Prelude.{◌≡◌, ℕ, List, length};
-    ghost use Rattle.sparse_base.specs.Coo.{zip_triplets};
-
-    ghost Value = { List (ℕ × ℕ × T) };
-
-    ghost view = { λ it. zip_triplets it.rows.now it.cols.now it.values.now };
-
-    ghost invariant = { λ it. (length it.rows.now ≡ length it.values.now) × (length it.cols.now ≡ length it.values.now) };
-}
-
-impl<'a, T> Iterator for CooTripletIter<'a, T> {
-    type Item = (usize, usize, &'a T);
-
-    ghost next_gives = { YieldsFirstBy (λ x. (x.0, x.1, x.2.now)) (λ rest. rest) };
-
-    ghost remaining = { item_count (λ rest. rest) };
-
-    fn next(&mut self) -> Option<(usize, usize, &'a T)> {
-        match (
-            self.rows.split_first(),
-            self.cols.split_first(),
-            self.values.split_first(),
-        ) {
-            (Some((row, rows)), Some((col, cols)), Some((value, values))) => {
-                self.rows = rows;
-                self.cols = cols;
-                self.values = values;
-                Some((*row, *col, value))
-            }
-            _ => None,
-        }
-    }
 }
 
 #[cfg(test)]

@@ -3,6 +3,7 @@
 ghost use Rattle.std.specs.Prelude.{◌≡◌, ◌↔◌, true};
 ghost use Rattle.sparse_base.specs.Algebra.{CommRing};
 
+pub mod integers;
 pub mod wrapping;
 
 pub use wrapping::{W32, W64};

@@ -94,23 +94,38 @@ fn without_places(rt: HostRuntime) -> Result<(), Fail> {
 }
 
 #[test]
-fn texts_and_kinds(rt: HostRuntime) -> Result<(), Fail> {
+fn texts_of_bad_structure(rt: HostRuntime) -> Result<(), Fail> {
     let cases = [
         (
             InvalidOffsetArrayLength,
             "Length of offset array is not equal to (major_dim + 1).",
-            SparseFormatErrorKind::InvalidStructure,
         ),
         (
             InvalidOffsetFirstLast,
             "First or last offset is incompatible with format.",
-            SparseFormatErrorKind::InvalidStructure,
         ),
         (
             NonmonotonicOffsets,
             "Offsets are not monotonically increasing.",
-            SparseFormatErrorKind::InvalidStructure,
         ),
+        (
+            NonmonotonicMinorIndices,
+            "Minor indices are not monotonically increasing within each lane.",
+        ),
+    ];
+    for (fault, text) in cases {
+        assert_eq!(rt; fault.to_string(rt.alloc())?.as_str(), text);
+        let error = SparseFormatError::from(fault);
+        assert_eq!(rt; error.to_string(rt.alloc())?.as_str(), text);
+        let kind = SparseFormatErrorKind::InvalidStructure;
+        assert_eq!(rt; (error.message(), *error.kind()), (text, kind));
+    }
+    Ok(())
+}
+
+#[test]
+fn texts_of_other_kinds(rt: HostRuntime) -> Result<(), Fail> {
+    let cases = [
         (
             MinorIndexOutOfBounds,
             "A minor index is out of bounds.",
@@ -120,11 +135,6 @@ fn texts_and_kinds(rt: HostRuntime) -> Result<(), Fail> {
             DuplicateEntry,
             "Input data contains duplicate entries.",
             SparseFormatErrorKind::DuplicateEntry,
-        ),
-        (
-            NonmonotonicMinorIndices,
-            "Minor indices are not monotonically increasing within each lane.",
-            SparseFormatErrorKind::InvalidStructure,
         ),
     ];
     for (fault, text, kind) in cases {

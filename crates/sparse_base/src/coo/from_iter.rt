@@ -1,0 +1,60 @@
+//! Matrices of the triplets that an iterator gives.
+
+ghost use Rattle.std.specs.Prelude.{◌≡◌, ◌⊎◌, map, IfOk, IfErr};
+ghost use Rattle.std.specs.Iterator.{IsFinite};
+ghost use Rattle.std.specs.Iterator.Runs.{WholeRun};
+ghost use Rattle.sparse_base.specs.Coo.{coo_of, IsInside};
+ghost use Rattle.sparse_base.specs.TripletFaults.{IsSomeOutside};
+ghost use Rattle.sparse_base.specs.declared.error.SparseFormatErrorKind.TheVariants.{IndexOutOfBounds, OutOfMemory};
+
+use super::CooMatrix;
+use crate::error::SparseFormatError;
+use std::alloc::{AllocError, Global};
+
+impl<T> CooMatrix<T> {
+    /// The triplets that an iterator gives, in order.
+    ///
+    /// All of them are taken first, and memory grows with them: `OutOfMemory` where it is refused. Then a row outside the
+    /// sizes is `IndexOutOfBounds`, and else a column outside them.
+    pub fn try_from_triplets_iter<I: Iterator<Item = (usize, usize, T)>>(
+        alloc: Global,
+        nrows: usize,
+        ncols: usize,
+        triplets: I,
+    ) -> Result<Self, SparseFormatError>
+    where
+        T: Drop,
+        requires can { I.can_next triplets }
+        requires ends { IsFinite (I.remaining triplets) }
+        ensures ok { IfOk result (λ m. WholeRun I.next_gives triplets (λ run. m ≡ coo_of nrows ncols run.items)) }
+        ensures inside { IfOk result IsInside }
+        ensures kinds { IfErr result (λ e. (e ≡ OutOfMemory) ⊎ (e ≡ IndexOutOfBounds)) }
+        ensures outside { IfErr result (λ e. e ≡ IndexOutOfBounds
+            → WholeRun I.next_gives triplets (λ run. IsSomeOutside nrows ncols run.items)) }
+    {
+        let (row_indices, col_indices, values) = split_triplets(alloc, triplets)?;
+        CooMatrix::try_from_triplets(nrows, ncols, row_indices, col_indices, values)
+    }
+}
+
+// The rows, the columns and the values of the triplets that an iterator gives.
+fn split_triplets<T: Drop, I: Iterator<Item = (usize, usize, T)>>(
+    alloc: Global,
+    triplets: I,
+) -> Result<(Vec<usize>, Vec<usize>, Vec<T>), AllocError>
+    requires can { I.can_next triplets }
+    requires ends { IsFinite (I.remaining triplets) }
+    ensures { IfOk result (λ parts. WholeRun I.next_gives triplets (λ run. (parts.0.items ≡ map (λ t. t.0) run.items)
+        × (parts.1.items ≡ map (λ t. t.1) run.items)
+        × (parts.2.items ≡ map (λ t. t.2) run.items))) }
+{
+    let mut row_indices = Vec::new(alloc);
+    let mut col_indices = Vec::new(alloc);
+    let mut values = Vec::new(alloc);
+    for (row, col, value) in triplets {
+        row_indices.push(row)?;
+        col_indices.push(col)?;
+        values.push(value)?;
+    }
+    Ok((row_indices, col_indices, values))
+}
