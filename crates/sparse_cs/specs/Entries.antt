@@ -10,7 +10,7 @@ abbrev pub place_of : Raw → ℕ → ℕ → Option ℕ
 place_of d i j = option_map (λ k. start_of d i + k) (position (λ x. x == j) (lane_of d i))
 
 -- both indices are in bounds
-pub record IsInside (d : Raw) (i j : ℕ) : Type 0 where
+pub record IsInBounds (d : Raw) (i j : ℕ) : Type 0 where
   pub major : i < d.major_dim
   pub minor : j < d.minor_dim
 
@@ -22,5 +22,5 @@ module _ {T : Type 0} where
 
   -- that entry in bounds, and None out of bounds
   abbrev pub IsEntryOf : Compressed T → ℕ → ℕ → Option (SparseEntry T) → Type 0
-  IsEntryOf m i j (Some entry) = IsInside m.pattern i j × IsEntryAt m i j entry
-  IsEntryOf m i j None = ¬ IsInside m.pattern i j
+  IsEntryOf m i j (Some entry) = IsInBounds m.pattern i j × IsEntryAt m i j entry
+  IsEntryOf m i j None = ¬ IsInBounds m.pattern i j

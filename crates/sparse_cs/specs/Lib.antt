@@ -5,3 +5,5 @@ pub mod LaneSorting
 pub mod Forms
 pub mod Laws
 pub mod Entries
+pub mod Lanes
+pub mod LaneEquality
