@@ -4,6 +4,7 @@ pub mod Inside
 mod IdentityArrays
 mod Repeats
 pub mod LaneSearch
+pub mod NextLane
 mod LaneSorting
 mod UnsortedLanes
 mod FirstUnsortedFault

@@ -6,7 +6,9 @@ ghost use Rattle.std.specs.Iterator.{YieldsFirstBy, item_count};
 ghost use Rattle.sparse_base.specs.Raw.{lane_of};
 ghost use Rattle.sparse_cs.specs.Compressed.{Compressed, compressed_of, IsSound, lane_triplets};
 
+mod entries;
 pub mod lane;
+pub mod lane_iter;
 pub mod laws;
 mod sorted;
 mod special;
