@@ -7,17 +7,21 @@ ghost use Rattle.sparse_base.specs.Raw.{lane_of};
 ghost use Rattle.sparse_cs.specs.Compressed.{Compressed, compressed_of, IsSound, lane_triplets};
 
 mod entries;
-pub mod lane;
-pub mod lane_iter;
+mod lane;
+mod lane_iter;
 pub mod laws;
 mod sorted;
 mod special;
+mod triplets;
 mod unsorted;
 
+pub use lane::{CsLane, LaneIndices};
+pub use lane_iter::CsLaneIter;
 pub use sorted::SortedFault;
 use sparse_base::pattern::{SparsityPattern, SparsityPatternIter};
 use std::alloc::{AllocError, Global};
 use std::marker::Model;
+pub use triplets::CsTripletValues;
 
 /// A pattern with a value at each of its places.
 #[derive(Debug, Drop)]
