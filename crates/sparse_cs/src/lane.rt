@@ -8,10 +8,11 @@ ghost use Rattle.sparse_cs.specs.Lanes.{IsLaneEntryAt, IsLaneEntryOf, IsSoundLan
 use sparse_base::entry::SparseEntry;
 use sparse_base::pattern::SparsityPattern;
 use std::alloc::AllocError;
+use std::fmt::{self, Debug, Formatter, Write};
 use std::marker::Model;
 
 /// The minor indices of a lane, which rise strictly.
-#[derive(Debug, Drop)]
+#[derive(Drop)]
 pub struct LaneIndices<'a> {
     indices: &'a [usize],
 }
@@ -78,6 +79,12 @@ impl<'a> Clone for LaneIndices<'a> {
         Ok(LaneIndices {
             indices: self.indices,
         })
+    }
+}
+
+impl<'a> Debug for LaneIndices<'a> {
+    fn fmt<W: Write>(&self, f: &mut Formatter<W>) -> fmt::Result {
+        Debug::fmt(&self.indices, f)
     }
 }
 
