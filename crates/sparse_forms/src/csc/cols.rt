@@ -199,3 +199,6 @@ impl<'a, T> Clone for CscColIter<'a, T> {
         })
     }
 }
+
+#[cfg(test)]
+mod tests;

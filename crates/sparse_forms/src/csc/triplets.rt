@@ -115,3 +115,6 @@ impl<'a, T> Clone for CscTripletValues<'a, T> {
         })
     }
 }
+
+#[cfg(test)]
+mod tests;

@@ -199,3 +199,6 @@ impl<'a, T> Clone for CsrRowIter<'a, T> {
         })
     }
 }
+
+#[cfg(test)]
+mod tests;

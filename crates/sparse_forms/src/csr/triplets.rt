@@ -107,3 +107,6 @@ impl<'a, T> Clone for CsrTripletValues<'a, T> {
         })
     }
 }
+
+#[cfg(test)]
+mod tests;
