@@ -6,6 +6,7 @@ mod IdentityArrays
 mod Repeats
 pub mod LaneSearch
 mod LanesLeft
+pub mod NextLane
 mod LaneSorting
 mod UnsortedLanes
 mod FirstUnsortedFault

@@ -8,3 +8,4 @@ pub mod Entries
 pub mod Lanes
 pub mod Writing
 pub mod Left
+pub mod LaneEquality

@@ -3,9 +3,12 @@
 ghost use Rattle.std.specs.Prelude.{◌≡◌, ◌<◌, ◌==◌, ⊤, length, position, IfSome};
 ghost use Rattle.std.specs.List.Sorted.{IsStrictlyIncreasing};
 ghost use Rattle.sparse_base.specs.Raw.{lane_of};
+ghost use Rattle.sparse_cs.specs.Lanes.{IsLaneEntryAt, IsLaneEntryOf, IsSoundLane, lane_parts};
 
+use sparse_base::entry::SparseEntry;
 use sparse_base::pattern::SparsityPattern;
 use std::alloc::AllocError;
+use std::fmt::{self, Debug, Formatter, Write};
 use std::marker::Model;
 
 /// The minor indices of a lane, which rise strictly.
@@ -77,4 +80,131 @@ impl<'a> Clone for LaneIndices<'a> {
             indices: self.indices,
         })
     }
+}
+
+impl<'a> Debug for LaneIndices<'a> {
+    fn fmt<W: Write>(&self, f: &mut Formatter<W>) -> fmt::Result {
+        Debug::fmt(&self.indices, f)
+    }
+}
+
+/// One lane of a compressed matrix: its length, the indices of its stored places, and their values.
+#[derive(Debug, Drop)]
+pub struct CsLane<'a, T> {
+    minor_dim: usize,
+    minor_indices: LaneIndices<'a>,
+    values: &'a [T],
+}
+
+impl<'a, T> Model for CsLane<'a, T> {
+    ghost use Rattle.sparse_cs.specs.Lanes.{Lane, lane_code, lane_parts, IsSoundLane};
+
+    ghost Value = { Lane T };
+
+    ghost coded = { lane_code T.code };
+
+    ghost view = { λ lane. lane_parts lane.minor_dim lane.minor_indices lane.values.now };
+
+    ghost invariant = { λ lane. IsSoundLane (lane_parts lane.minor_dim lane.minor_indices lane.values.now) };
+}
+
+impl<'a, T> CsLane<'a, T> {
+    /// The lane of its parts.
+    pub fn new(minor_dim: usize, minor_indices: LaneIndices<'a>, values: &'a [T]) -> Self
+        requires { IsSoundLane (lane_parts minor_dim minor_indices values.now) }
+        ensures { result ≡ lane_parts minor_dim minor_indices.entry values.now }
+    {
+        CsLane {
+            minor_dim,
+            minor_indices,
+            values,
+        }
+    }
+
+    /// The length of the lane.
+    pub fn minor_dim(&self) -> usize
+        ensures { result ≡ self.now.minor_dim }
+    {
+        self.minor_dim
+    }
+
+    /// The number of stored places, zeros among them.
+    pub fn nnz(&self) -> usize
+        ensures { result ≡ length self.now.indices }
+    {
+        self.minor_indices.len()
+    }
+
+    /// The indices of the stored places, rising.
+    pub fn minor_indices(&self) -> &'a [usize]
+        ensures indices { result.now ≡ self.now.indices }
+        ensures sound { IsSoundLane self.now }
+    {
+        self.minor_indices.as_slice()
+    }
+
+    /// The values of the stored places, in the order of their indices.
+    pub fn values(&self) -> &'a [T]
+        ensures values { result.now ≡ self.now.values }
+        ensures sound { IsSoundLane self.now }
+    {
+        self.values
+    }
+
+    /// The entry at an index, by binary search, or `None` out of bounds.
+    pub fn get_entry(&self, minor_index: usize) -> Option<SparseEntry<'a, T>>
+        ensures { IsLaneEntryOf self.now minor_index result }
+    {
+        if minor_index < self.minor_dim {
+            Some(self.index_entry(minor_index))
+        } else {
+            None
+        }
+    }
+
+    /// The entry at an index in bounds, by binary search.
+    pub fn index_entry(&self, minor_index: usize) -> SparseEntry<'a, T>
+        requires { minor_index < self.now.minor_dim }
+        ensures { IsLaneEntryAt self.now minor_index result }
+    {
+        match self.minor_indices.position_of(minor_index) {
+            Some(at) => SparseEntry::NonZero(&self.values[at]),
+            None => SparseEntry::Zero,
+        }
+    }
+}
+
+impl<'a, T> Clone for CsLane<'a, T> {
+    ghost is_clone = { λ s t. t ≡ s };
+
+    ghost is_infallible = { λ _. ⊤ };
+
+    fn clone(&self) -> Result<CsLane<'a, T>, AllocError> {
+        Ok(CsLane {
+            minor_dim: self.minor_dim,
+            minor_indices: self.minor_indices.clone()?,
+            values: self.values,
+        })
+    }
+}
+
+impl<'a, T: PartialEq> PartialEq for CsLane<'a, T> {
+    ghost use Rattle.sparse_cs.specs.Lanes.{lane_eq};
+    ghost use Rattle.sparse_cs.specs.LaneEquality.{lane_eq-laws};
+
+    ghost eq = { lane_eq T.eq };
+
+    ghost laws = { lane_eq-laws T.laws };
+
+    fn eq(&self, other: &Self) -> bool {
+        self.minor_dim == other.minor_dim
+            && self.minor_indices() == other.minor_indices()
+            && self.values == other.values
+    }
+}
+
+impl<'a, T: Eq> Eq for CsLane<'a, T> {
+    ghost use Rattle.sparse_cs.specs.LaneEquality.{lane_eq-equiv};
+
+    ghost laws = { lane_eq-equiv T.Eq.laws };
 }

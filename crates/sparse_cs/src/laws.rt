@@ -1,8 +1,10 @@
 //! Laws of compressed matrices, each the contract of a function that does nothing.
 
-ghost use Rattle.std.specs.Prelude.{◌≡◌, ◌↔◌, true};
+ghost use Rattle.std.specs.Prelude.{◌≡◌, ◌↔◌, ℕ, true, Some};
 ghost use Rattle.sparse_base.specs.Plain.{row_order};
-ghost use Rattle.sparse_cs.specs.Compressed.{Compressed, IsSound, lane_triplets, compressed_eq};
+ghost use Rattle.sparse_base.specs.Raw.{Raw, IsValid};
+ghost use Rattle.sparse_cs.specs.Compressed.{Compressed, IsPosition, IsSound, lane_triplets, compressed_eq};
+ghost use Rattle.sparse_cs.specs.Entries.{place_of};
 ghost use Rattle.sparse_cs.specs.Forms.{meant, plain_of_rows};
 
 use sparse_base::scalar::Ring;
@@ -17,4 +19,9 @@ pub fn equal_law<T: Ring>()
 pub fn row_order_law<T: Ring>()
     ensures { (m : Compressed T)
         → IsSound m → meant T.ring T.value (lane_triplets m) ≡ row_order T.ring (plain_of_rows T.ring T.value m) }
+{}
+
+/// A look-up finds the position of a place exactly where the place is stored.
+pub fn place_law()
+    ensures { (d : Raw) → IsValid d → (i j p : ℕ) → (place_of d i j ≡ Some p) ↔ IsPosition d i j p }
 {}

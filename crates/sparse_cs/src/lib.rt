@@ -6,19 +6,28 @@ ghost use Rattle.std.specs.Iterator.{YieldsFirstBy, item_count};
 ghost use Rattle.sparse_base.specs.Raw.{lane_of};
 ghost use Rattle.sparse_cs.specs.Compressed.{Compressed, compressed_of, IsSound, lane_triplets};
 
-pub mod lane;
-pub mod lane_iter_mut;
+mod entries;
+mod lane;
+mod lane_iter;
+mod lane_iter_mut;
 pub mod laws;
 mod sorted;
 mod special;
+mod triplet_iter_mut;
+mod triplets;
 mod unsorted;
-pub mod triplet_iter_mut;
-pub mod writing;
+mod writing;
 
+pub use lane::{CsLane, LaneIndices};
+pub use lane_iter::CsLaneIter;
+pub use lane_iter_mut::{CsLaneIterMut, CsLaneMut};
 pub use sorted::SortedFault;
+pub use triplet_iter_mut::CsTripletIterMut;
+pub use writing::{element_mut, entry_in};
 use sparse_base::pattern::{SparsityPattern, SparsityPatternIter};
 use std::alloc::{AllocError, Global};
 use std::marker::Model;
+pub use triplets::CsTripletValues;
 
 /// A pattern with a value at each of its places.
 #[derive(Debug, Drop)]

@@ -1,27 +1,30 @@
 //! CSC matrices: compressed by columns.
 
-ghost use Rattle.std.specs.Prelude.{◌≡◌, ◌≢◌, ◌⊎◌, [], length, map, IfOk, IfErr, IsOk, OnOk, IsOkUnless};
-ghost use Rattle.std.specs.Iterator.{YieldsFirstBy, item_count};
+ghost use Rattle.std.specs.Prelude.{◌≡◌, ◌≢◌, ◌⊎◌, [], length, IfOk, IfErr, IsOk, OnOk, IsOkUnless};
 ghost use Rattle.sparse_base.specs.Raw.{empty_raw};
 ghost use Rattle.sparse_base.specs.Plain.{plain_identity};
-ghost use Rattle.sparse_cs.specs.Compressed.{compressed_of, arrays_of, IsSound, lane_triplets, turned};
+ghost use Rattle.sparse_cs.specs.Compressed.{compressed_of, arrays_of, IsSound};
 ghost use Rattle.sparse_cs.specs.Forms.{plain_of_cols};
 ghost use Rattle.sparse_cs.specs.SortedFaults.{IsSortedRefusal, sorted_kind};
 ghost use Rattle.sparse_cs.specs.UnsortedFaults.{IsFaultless, IsSortedForm, IsUnsortedRefusal};
 
 mod col_mut;
+mod cols;
 mod iter_mut;
+mod triplets;
 mod writing;
 
 use crate::csr::CsrMatrix;
 pub use col_mut::CscColMut;
+pub use cols::{CscCol, CscColIter};
 pub use iter_mut::{CscColIterMut, CscTripletIterMut};
 use sparse_base::error::{SparseFormatError, SparseFormatErrorKind};
 use sparse_base::pattern::{SparsityPattern, SparsityPatternFormatError};
 use sparse_base::scalar::Ring;
-use sparse_cs::{CsMatrix, CsTripletIter, SortedFault};
+use sparse_cs::{CsMatrix, SortedFault};
 use std::alloc::{AllocError, Global};
 use std::marker::Model;
+pub use triplets::{CscTripletIter, CscTripletValues};
 
 /// A sparse matrix compressed by columns.
 ///
@@ -143,16 +146,6 @@ impl<T> CscMatrix<T> {
         ensures sound { IsSound self.now }
     {
         self.cs.values()
-    }
-
-    /// The triplets (row, column, value) column after column, rows rising.
-    pub fn triplet_iter(&self) -> CscTripletIter<'_, T>
-        ensures all { result ≡ map turned (lane_triplets self.now) }
-        ensures sound { IsSound self.now }
-    {
-        CscTripletIter {
-            lanes: self.cs.triplet_iter(),
-        }
     }
 
     /// The pattern of the stored places.
@@ -306,36 +299,6 @@ impl<T: Eq> Eq for CscMatrix<T> {
     ghost use Rattle.sparse_cs.specs.Laws.{compressed_eq-equiv};
 
     ghost laws = { compressed_eq-equiv T.Eq.laws };
-}
-
-/// The triplets of a [`CscMatrix`], column after column.
-#[derive(Drop)]
-pub struct CscTripletIter<'a, T> {
-    lanes: CsTripletIter<'a, T>,
-}
-
-impl<'a, T> Model for CscTripletIter<'a, T> {
-    ghost use Rattle.std.specs.Prelude.{ℕ, List, map};
-    ghost use Rattle.sparse_cs.specs.Compressed.{turned};
-
-    ghost Value = { List (ℕ × ℕ × T) };
-
-    ghost view = { λ it. map turned it.lanes };
-}
-
-impl<'a, T> Iterator for CscTripletIter<'a, T> {
-    type Item = (usize, usize, &'a T);
-
-    ghost next_gives = { YieldsFirstBy (λ x. (x.0, x.1, x.2.now)) (λ rest. rest) };
-
-    ghost remaining = { item_count (λ rest. rest) };
-
-    fn next(&mut self) -> Option<(usize, usize, &'a T)> {
-        match self.lanes.next() {
-            Some((column, row, value)) => Some((row, column, value)),
-            None => None,
-        }
-    }
 }
 
 #[cfg(test)]

@@ -1,27 +1,30 @@
 //! CSR matrices: compressed by rows.
 
 ghost use Rattle.std.specs.Prelude.{◌≡◌, ◌≢◌, ◌⊎◌, [], length, IfOk, IfErr, IsOk, OnOk, IsOkUnless};
-ghost use Rattle.std.specs.Iterator.{YieldsFirstBy, item_count};
 ghost use Rattle.sparse_base.specs.Raw.{empty_raw};
 ghost use Rattle.sparse_base.specs.Plain.{plain_identity};
-ghost use Rattle.sparse_cs.specs.Compressed.{compressed_of, arrays_of, IsSound, lane_triplets};
+ghost use Rattle.sparse_cs.specs.Compressed.{compressed_of, arrays_of, IsSound};
 ghost use Rattle.sparse_cs.specs.Forms.{plain_of_rows};
 ghost use Rattle.sparse_cs.specs.SortedFaults.{IsSortedRefusal, sorted_kind};
 ghost use Rattle.sparse_cs.specs.UnsortedFaults.{IsFaultless, IsSortedForm, IsUnsortedRefusal};
 
 mod iter_mut;
 mod row_mut;
+mod rows;
+mod triplets;
 mod writing;
 
 use crate::csc::CscMatrix;
 pub use iter_mut::{CsrRowIterMut, CsrTripletIterMut};
 pub use row_mut::CsrRowMut;
+pub use rows::{CsrRow, CsrRowIter};
 use sparse_base::error::{SparseFormatError, SparseFormatErrorKind};
 use sparse_base::pattern::{SparsityPattern, SparsityPatternFormatError};
 use sparse_base::scalar::Ring;
-use sparse_cs::{CsMatrix, CsTripletIter, SortedFault};
+use sparse_cs::{CsMatrix, SortedFault};
 use std::alloc::{AllocError, Global};
 use std::marker::Model;
+pub use triplets::{CsrTripletIter, CsrTripletValues};
 
 /// A sparse matrix compressed by rows.
 ///
@@ -143,16 +146,6 @@ impl<T> CsrMatrix<T> {
         ensures sound { IsSound self.now }
     {
         self.cs.values()
-    }
-
-    /// The triplets (row, column, value) row after row, columns rising.
-    pub fn triplet_iter(&self) -> CsrTripletIter<'_, T>
-        ensures all { result ≡ lane_triplets self.now }
-        ensures sound { IsSound self.now }
-    {
-        CsrTripletIter {
-            lanes: self.cs.triplet_iter(),
-        }
     }
 
     /// The pattern of the stored places.
@@ -306,32 +299,6 @@ impl<T: Eq> Eq for CsrMatrix<T> {
     ghost use Rattle.sparse_cs.specs.Laws.{compressed_eq-equiv};
 
     ghost laws = { compressed_eq-equiv T.Eq.laws };
-}
-
-/// The triplets of a [`CsrMatrix`], row after row.
-#[derive(Drop)]
-pub struct CsrTripletIter<'a, T> {
-    lanes: CsTripletIter<'a, T>,
-}
-
-impl<'a, T> Model for CsrTripletIter<'a, T> {
-    ghost use Rattle.std.specs.Prelude.{ℕ, List};
-
-    ghost Value = { List (ℕ × ℕ × T) };
-
-    ghost view = { λ it. it.lanes };
-}
-
-impl<'a, T> Iterator for CsrTripletIter<'a, T> {
-    type Item = (usize, usize, &'a T);
-
-    ghost next_gives = { YieldsFirstBy (λ x. (x.0, x.1, x.2.now)) (λ rest. rest) };
-
-    ghost remaining = { item_count (λ rest. rest) };
-
-    fn next(&mut self) -> Option<(usize, usize, &'a T)> {
-        self.lanes.next()
-    }
 }
 
 #[cfg(test)]

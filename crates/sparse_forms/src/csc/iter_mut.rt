@@ -8,8 +8,7 @@ ghost use Rattle.sparse_forms.specs.CscWriting.{csc_triplets_left, cols_left, le
 
 use super::CscMatrix;
 use super::col_mut::CscColMut;
-use sparse_cs::lane_iter_mut::CsLaneIterMut;
-use sparse_cs::triplet_iter_mut::CsTripletIterMut;
+use sparse_cs::{CsLaneIterMut, CsTripletIterMut};
 
 impl<T> CscMatrix<T> {
     /// The triplets (row, column, value) column after column, rows rising, each value for writing.

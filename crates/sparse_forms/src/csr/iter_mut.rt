@@ -8,8 +8,7 @@ ghost use Rattle.sparse_forms.specs.CsrWriting.{csr_triplets_left, rows_left, le
 
 use super::CsrMatrix;
 use super::row_mut::CsrRowMut;
-use sparse_cs::lane_iter_mut::CsLaneIterMut;
-use sparse_cs::triplet_iter_mut::CsTripletIterMut;
+use sparse_cs::{CsLaneIterMut, CsTripletIterMut};
 
 impl<T> CsrMatrix<T> {
     /// The triplets (row, column, value) row after row, columns rising, each value for writing.

@@ -1,0 +1,74 @@
+//! The lanes and the entries of a compressed matrix.
+
+ghost use Rattle.std.specs.Prelude.{◌≡◌, ◌<◌, ◌↔◌, IfSome, IsSome};
+ghost use Rattle.sparse_cs.specs.Compressed.{IsSound};
+ghost use Rattle.sparse_cs.specs.Entries.{IsEntryAt, IsEntryOf, IsInBounds};
+ghost use Rattle.sparse_cs.specs.Lanes.{lane_at};
+
+use crate::CsMatrix;
+use crate::lane::{CsLane, LaneIndices};
+use sparse_base::entry::SparseEntry;
+
+impl<T> CsMatrix<T> {
+    /// The offsets, the indices and the values.
+    pub fn cs_data(&self) -> (&[usize], &[usize], &[T])
+        ensures offsets { result.0.now ≡ self.now.pattern.offsets }
+        ensures indices { result.1.now ≡ self.now.pattern.indices }
+        ensures values { result.2.now ≡ self.now.values }
+        ensures sound { IsSound self.now }
+    {
+        let pattern = self.pattern();
+        (
+            pattern.major_offsets(),
+            pattern.minor_indices(),
+            self.values(),
+        )
+    }
+
+    /// A lane.
+    pub fn lane(&self, major_index: usize) -> CsLane<'_, T>
+        requires { major_index < self.now.pattern.major_dim }
+        ensures { result ≡ lane_at self.now major_index }
+    {
+        let pattern = self.pattern();
+        let begin = pattern.major_offsets()[major_index];
+        let end = pattern.major_offsets()[major_index + 1];
+        CsLane::new(
+            pattern.minor_dim(),
+            LaneIndices::of_lane(pattern, major_index),
+            &self.values()[begin..end],
+        )
+    }
+
+    /// A lane, or `None` out of bounds.
+    pub fn get_lane(&self, major_index: usize) -> Option<CsLane<'_, T>>
+        ensures bounds { IsSome result ↔ (major_index < self.now.pattern.major_dim) }
+        ensures lane { IfSome result (λ lane. lane ≡ lane_at self.now major_index) }
+    {
+        if major_index < self.pattern().major_dim() {
+            Some(self.lane(major_index))
+        } else {
+            None
+        }
+    }
+
+    /// The entry at a pair of indices in bounds, by binary search in the lane.
+    pub fn index_entry(&self, major_index: usize, minor_index: usize) -> SparseEntry<'_, T>
+        requires { IsInBounds self.now.pattern major_index minor_index }
+        ensures { IsEntryAt self.now major_index minor_index result }
+    {
+        self.lane(major_index).index_entry(minor_index)
+    }
+
+    /// The entry at a pair of indices, by binary search in the lane, or `None` out of bounds.
+    pub fn get_entry(&self, major_index: usize, minor_index: usize) -> Option<SparseEntry<'_, T>>
+        ensures { IsEntryOf self.now major_index minor_index result }
+    {
+        let pattern = self.pattern();
+        if major_index < pattern.major_dim() && minor_index < pattern.minor_dim() {
+            Some(self.index_entry(major_index, minor_index))
+        } else {
+            None
+        }
+    }
+}
