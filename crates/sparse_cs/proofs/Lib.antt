@@ -7,3 +7,5 @@ mod LaneSorting
 mod UnsortedLanes
 mod FirstUnsortedFault
 mod SortedForm
+pub mod Kept
+mod KeptLanes

@@ -4,3 +4,4 @@ pub mod UnsortedFaults
 pub mod LaneSorting
 pub mod Forms
 pub mod Laws
+pub mod Filter

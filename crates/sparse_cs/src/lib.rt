@@ -6,6 +6,7 @@ ghost use Rattle.std.specs.Iterator.{YieldsFirstBy, item_count};
 ghost use Rattle.sparse_base.specs.Raw.{lane_of};
 ghost use Rattle.sparse_cs.specs.Compressed.{Compressed, compressed_of, IsSound, lane_triplets};
 
+mod filter;
 pub mod laws;
 mod sorted;
 mod special;
