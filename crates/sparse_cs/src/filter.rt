@@ -3,7 +3,7 @@
 ghost use Rattle.std.specs.Prelude.{◌≡◌, ℕ, Bool, OnOk, IfOk, length};
 ghost use Rattle.std.specs.List.{filter, zip};
 ghost use Rattle.sparse_cs.specs.Compressed.{IsSound, lane_triplets};
-ghost use Rattle.sparse_cs.specs.Filter.{Answers, AnswersAs, HasSizesOf, IsKept, IsGrown, is_upper, is_lower, is_diagonal};
+ghost use Rattle.sparse_cs.specs.Filter.{Answers, AnswersAs, HasSizesOf, IsKept, IsGrown};
 
 use crate::CsMatrix;
 use sparse_base::pattern::SparsityPattern;
@@ -49,33 +49,6 @@ impl<T: Copy> CsMatrix<T> {
             kept_indices,
         );
         Ok(CsMatrix::from_pattern_and_values(kept_pattern, kept_values))
-    }
-
-    /// The matrix of the same sizes with the places (lane, index) where the lane is at most the index, with their values.
-    pub fn upper_triangle(&self, alloc: Global) -> Result<Self, AllocError>
-        ensures sizes { IfOk result (HasSizesOf self.now) }
-        ensures kept { IfOk result (λ m. lane_triplets m ≡ filter is_upper (lane_triplets self.now)) }
-        ensures sound { IfOk result IsSound }
-    {
-        self.filter(alloc, |lane, index, _| lane <= index)
-    }
-
-    /// The matrix of the same sizes with the places (lane, index) where the lane is at least the index, with their values.
-    pub fn lower_triangle(&self, alloc: Global) -> Result<Self, AllocError>
-        ensures sizes { IfOk result (HasSizesOf self.now) }
-        ensures kept { IfOk result (λ m. lane_triplets m ≡ filter is_lower (lane_triplets self.now)) }
-        ensures sound { IfOk result IsSound }
-    {
-        self.filter(alloc, |lane, index, _| lane >= index)
-    }
-
-    /// The matrix of the same sizes with the places (lane, index) where the lane is the index, with their values.
-    pub fn diagonal(&self, alloc: Global) -> Result<Self, AllocError>
-        ensures sizes { IfOk result (HasSizesOf self.now) }
-        ensures kept { IfOk result (λ m. lane_triplets m ≡ filter is_diagonal (lane_triplets self.now)) }
-        ensures sound { IfOk result IsSound }
-    {
-        self.filter(alloc, |lane, index, _| lane == index)
     }
 }
 

@@ -9,6 +9,8 @@ ghost use Rattle.sparse_cs.specs.Forms.{plain_of_cols};
 ghost use Rattle.sparse_cs.specs.SortedFaults.{IsSortedRefusal, sorted_kind};
 ghost use Rattle.sparse_cs.specs.UnsortedFaults.{IsFaultless, IsSortedForm, IsUnsortedRefusal};
 
+mod filter;
+
 use crate::csr::CsrMatrix;
 use sparse_base::error::{SparseFormatError, SparseFormatErrorKind};
 use sparse_base::pattern::{SparsityPattern, SparsityPatternFormatError};
