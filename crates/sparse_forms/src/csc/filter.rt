@@ -57,3 +57,6 @@ impl<T: Copy> CscMatrix<T> {
         self.filter(alloc, |row, column, _| row == column)
     }
 }
+
+#[cfg(test)]
+mod tests;

@@ -55,3 +55,6 @@ impl<T: Copy> CsrMatrix<T> {
         self.filter(alloc, |row, column, _| row == column)
     }
 }
+
+#[cfg(test)]
+mod tests;
