@@ -11,3 +11,5 @@ mod LaneSorting
 mod UnsortedLanes
 mod FirstUnsortedFault
 mod SortedForm
+pub mod Kept
+mod KeptLanes

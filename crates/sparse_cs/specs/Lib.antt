@@ -9,3 +9,4 @@ pub mod Lanes
 pub mod Writing
 pub mod Left
 pub mod LaneEquality
+pub mod Filter

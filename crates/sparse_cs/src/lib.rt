@@ -7,6 +7,7 @@ ghost use Rattle.sparse_base.specs.Raw.{lane_of};
 ghost use Rattle.sparse_cs.specs.Compressed.{Compressed, compressed_of, IsSound, lane_triplets};
 
 mod entries;
+mod filter;
 mod lane;
 mod lane_iter;
 mod lane_iter_mut;

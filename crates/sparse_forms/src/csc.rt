@@ -10,6 +10,7 @@ ghost use Rattle.sparse_cs.specs.UnsortedFaults.{IsFaultless, IsSortedForm, IsUn
 
 mod col_mut;
 mod cols;
+mod filter;
 mod iter_mut;
 mod triplets;
 mod writing;

@@ -8,6 +8,7 @@ ghost use Rattle.sparse_cs.specs.Forms.{plain_of_rows};
 ghost use Rattle.sparse_cs.specs.SortedFaults.{IsSortedRefusal, sorted_kind};
 ghost use Rattle.sparse_cs.specs.UnsortedFaults.{IsFaultless, IsSortedForm, IsUnsortedRefusal};
 
+mod filter;
 mod iter_mut;
 mod row_mut;
 mod rows;

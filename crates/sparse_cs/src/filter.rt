@@ -1,0 +1,78 @@
+//! The places of a matrix that a test keeps.
+
+ghost use Rattle.std.specs.Prelude.{◌≡◌, ℕ, Bool, OnOk, IfOk, length};
+ghost use Rattle.std.specs.List.{filter, zip};
+ghost use Rattle.sparse_cs.specs.Compressed.{IsSound, lane_triplets};
+ghost use Rattle.sparse_cs.specs.Filter.{Answers, AnswersAs, HasSizesOf, IsKept, IsGrown};
+
+use crate::CsMatrix;
+use sparse_base::pattern::SparsityPattern;
+use std::alloc::{AllocError, Global};
+
+impl<T: Copy> CsMatrix<T> {
+    /// The matrix of the same sizes with the places (lane, index) at which the predicate answers `true`, with their values.
+    ///
+    /// The predicate is asked once at each stored place, zeros among them, lane after lane, indices rising. Memory is needed for the
+    /// offsets and for what is kept.
+    pub fn filter<P>(&self, alloc: Global, predicate: P) -> Result<Self, AllocError>
+    where
+        P: Fn(usize, usize, &T) -> bool,
+        requires { P.IsAlwaysCallable predicate }
+        ensures sizes { IfOk result (HasSizesOf self.now) }
+        ensures kept { IfOk result (λ m. IsKept (Answers P.Fn predicate) (lane_triplets self.now) (lane_triplets m)) }
+        ensures tested { (test : ℕ × ℕ × T → Bool) → AnswersAs P.Fn predicate test
+            → IfOk result (λ m. lane_triplets m ≡ filter test (lane_triplets self.now)) }
+        ensures sound { IfOk result IsSound }
+    {
+        let pattern = self.pattern();
+        let offsets = pattern.major_offsets();
+        let values = self.values();
+        let mut kept_offsets = Vec::with_capacity(alloc, offsets.len())?;
+        let mut kept_indices = Vec::new(alloc);
+        let mut kept_values = Vec::new(alloc);
+        kept_offsets.push(0)?;
+        for lane in 0..pattern.major_dim() {
+            keep_lane(
+                lane,
+                pattern.lane(lane),
+                &values[offsets[lane]..offsets[lane + 1]],
+                &predicate,
+                &mut kept_indices,
+                &mut kept_values,
+            )?;
+            kept_offsets.push(kept_indices.len())?;
+        }
+        let kept_pattern = SparsityPattern::from_offset_and_indices_unchecked(
+            pattern.major_dim(),
+            pattern.minor_dim(),
+            kept_offsets,
+            kept_indices,
+        );
+        Ok(CsMatrix::from_pattern_and_values(kept_pattern, kept_values))
+    }
+}
+
+// Appends the indices and the values of a lane at which the predicate answers `true`.
+fn keep_lane<T: Copy, P: Fn(usize, usize, &T) -> bool>(
+    lane: usize,
+    indices: &[usize],
+    values: &[T],
+    predicate: &P,
+    kept_indices: &mut Vec<usize>,
+    kept_values: &mut Vec<T>,
+) -> Result<(), AllocError>
+    requires count { length values.now ≡ length indices.now }
+    requires callable { P.IsAlwaysCallable predicate.now }
+    ensures { OnOk result (IsGrown (λ p b. Answers P.Fn predicate.now (lane, p.0, p.1) b) (zip indices.now values.now)
+        kept_indices.old.items kept_values.old.items kept_indices.new.items kept_values.new.items) }
+{
+    for at in 0..indices.len() {
+        let index = indices[at];
+        let value = values[at];
+        if predicate(lane, index, &value) {
+            kept_indices.push(index)?;
+            kept_values.push(value)?;
+        }
+    }
+    Ok(())
+}

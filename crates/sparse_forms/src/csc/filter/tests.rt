@@ -1,0 +1,46 @@
+use super::*;
+use sparse_base::error::SparseFormatError;
+use std::process::Abort;
+use std::test::Fail;
+
+// 1 and a stored 0 in the first row, 4 in the second.
+fn example(alloc: Global) -> Result<Result<CscMatrix<i32>, SparseFormatError>, AllocError> {
+    Ok(CscMatrix::try_from_csc_data(
+        2,
+        3,
+        [0, 1, 2, 3].to_vec(alloc)?,
+        [0, 1, 0].to_vec(alloc)?,
+        [1, 4, 0].to_vec(alloc)?,
+    ))
+}
+
+fn expect_arrays(
+    rt: &impl Abort,
+    matrix: &CscMatrix<i32>,
+    offsets: &[usize],
+    rows: &[usize],
+    values: &[i32],
+) {
+    assert_eq!(rt; matrix.col_offsets(), offsets);
+    assert_eq!(rt; matrix.row_indices(), rows);
+    assert_eq!(rt; matrix.values(), values);
+}
+
+#[test]
+fn a_stored_zero_stays(rt: HostRuntime) -> Result<(), Fail> {
+    let matrix = example(rt.alloc())??;
+    let corner = matrix.filter(rt.alloc(), |row, column, _| row == 0 && column == 2)?;
+    expect_arrays(&rt, &corner, &[0, 0, 0, 1], &[0], &[0]);
+    Ok(())
+}
+
+#[test]
+fn triangles(rt: HostRuntime) -> Result<(), Fail> {
+    let matrix = example(rt.alloc())??;
+    let lower = matrix.lower_triangle(rt.alloc())?;
+    expect_arrays(&rt, &lower, &[0, 1, 2, 2], &[0, 1], &[1, 4]);
+    assert!(rt; matrix.upper_triangle(rt.alloc())? == matrix);
+    let diagonal = matrix.diagonal_as_csc(rt.alloc())?;
+    expect_arrays(&rt, &diagonal, &[0, 1, 2, 2], &[0, 1], &[1, 4]);
+    Ok(())
+}
