@@ -5,6 +5,7 @@
 #![tactic(auto)]
 
 pub use sparse_base::coo::CooMatrix;
+pub use sparse_base::entry::{SparseEntry, SparseEntryMut};
 pub use sparse_base::error::{SparseFormatError, SparseFormatErrorKind};
 pub use sparse_base::{coo, pattern, scalar};
 pub use sparse_expr as expr;

@@ -17,14 +17,13 @@ mod special;
 mod triplet_iter_mut;
 mod triplets;
 mod unsorted;
-mod writing;
+pub mod writing;
 
 pub use lane::{CsLane, LaneIndices};
 pub use lane_iter::CsLaneIter;
 pub use lane_iter_mut::{CsLaneIterMut, CsLaneMut};
 pub use sorted::SortedFault;
 pub use triplet_iter_mut::CsTripletIterMut;
-pub use writing::{element_mut, entry_in};
 use sparse_base::pattern::{SparsityPattern, SparsityPatternIter};
 use std::alloc::{AllocError, Global};
 use std::marker::Model;

@@ -7,7 +7,8 @@ ghost use Rattle.sparse_cs.specs.Writing.{IsLaneFoundAt, IsLaneEntryMutOf, IsLen
 ghost use Rattle.sparse_forms.specs.CscWriting.{lent_col, col_values, LendsColValues, LendsColAt, LendsColFound, LendsColEntry};
 
 use sparse_base::entry::{Found, Missing, SparseEntry, SparseEntryMut, into_entry};
-use sparse_cs::{CsLaneMut, LaneIndices, element_mut, entry_in};
+use sparse_cs::writing::{element_mut, entry_in};
+use sparse_cs::{CsLaneMut, LaneIndices};
 use std::marker::PhantomData;
 
 /// A column of a CSC matrix, its values for writing.

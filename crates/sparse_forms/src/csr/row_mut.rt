@@ -7,7 +7,8 @@ ghost use Rattle.sparse_cs.specs.Writing.{IsLaneFoundAt, IsLaneEntryMutOf, IsLen
 ghost use Rattle.sparse_forms.specs.CsrWriting.{lent_row, row_values, LendsRowValues, LendsRowAt, LendsRowFound, LendsRowEntry};
 
 use sparse_base::entry::{Found, Missing, SparseEntry, SparseEntryMut, into_entry};
-use sparse_cs::{CsLaneMut, LaneIndices, element_mut, entry_in};
+use sparse_cs::writing::{element_mut, entry_in};
+use sparse_cs::{CsLaneMut, LaneIndices};
 use std::marker::PhantomData;
 
 /// A row of a CSR matrix, its values for writing.
