@@ -1,11 +1,11 @@
 -- Values of a CSC matrix that are lent for writing, and what the matrix or the column is once the loan is over.
-use Rattle.std.specs.Prelude.{ℕ, List, [], Option, slice_set, unwrap_or}
+use Rattle.std.specs.Prelude.{ℕ, List, [], Option, map, slice_set, unwrap_or}
 use Rattle.std.specs.Borrow.{Lends, follows_if, MutBor, Fml, Array, RattleType}
 use mir.Syntax.{named}
 use Rattle.sparse_base.specs.Entries.{found_name, entry_name, indexed_name}
 use Rattle.sparse_base.specs.declared.entry.SparseEntryMut.{SparseEntryMut}
 use Rattle.sparse_base.specs.declared.entry.Found.{Found}
-use Rattle.sparse_cs.specs.Compressed.{Compressed}
+use Rattle.sparse_cs.specs.Compressed.{Compressed, turned}
 use Rattle.sparse_cs.specs.Lanes.{Lane, lane_parts}
 use Rattle.sparse_cs.specs.Left.{triplets_left, lanes_left}
 use Rattle.sparse_cs.specs.Writing.{with_values, with_lane, with_value, index_in}
@@ -36,9 +36,9 @@ module _ {T : Type 0} where
   abbrev pub col_with_value : CscColMut T → ℕ → T → CscColMut T
   col_with_value s j w = col_with_value_at s (unwrap_or (index_in s.row_indices j) 0) w
 
-  -- the triplets that are still to come
+  -- the triplets (row, column, value) that are still to come
   abbrev pub csc_triplets_left : CscTripletIterMut T → List (ℕ × ℕ × T)
-  csc_triplets_left it = triplets_left it.lanes
+  csc_triplets_left it = map turned (triplets_left it.lanes)
 
   -- the columns that are still to come
   abbrev pub cols_left : CscColIterMut T → List (Lane T)

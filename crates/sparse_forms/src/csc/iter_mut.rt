@@ -1,8 +1,8 @@
 //! The triplets and the columns of a CSC matrix, their values for writing.
 
-ghost use Rattle.std.specs.Prelude.{◌≡◌};
+ghost use Rattle.std.specs.Prelude.{◌≡◌, map};
 ghost use Rattle.std.specs.Iterator.{YieldsFirstBy, item_count};
-ghost use Rattle.sparse_cs.specs.Compressed.{lane_triplets};
+ghost use Rattle.sparse_cs.specs.Compressed.{lane_triplets, turned};
 ghost use Rattle.sparse_cs.specs.Lanes.{lanes_of};
 ghost use Rattle.sparse_forms.specs.CscWriting.{csc_triplets_left, cols_left, lent_col};
 
@@ -13,7 +13,7 @@ use sparse_cs::{CsLaneIterMut, CsTripletIterMut};
 impl<T> CscMatrix<T> {
     /// The triplets (row, column, value) column after column, rows rising, each value for writing.
     pub fn triplet_iter_mut(&mut self) -> CscTripletIterMut<'_, T>
-        ensures { csc_triplets_left result ≡ lane_triplets self.old }
+        ensures { csc_triplets_left result ≡ map turned (lane_triplets self.old) }
     {
         CscTripletIterMut {
             lanes: self.cs.triplet_iter_mut(),
@@ -44,7 +44,10 @@ impl<'a, T> Iterator for CscTripletIterMut<'a, T> {
     ghost remaining = { item_count csc_triplets_left };
 
     fn next(&mut self) -> Option<(usize, usize, &'a mut T)> {
-        self.lanes.next()
+        match self.lanes.next() {
+            Some((column, row, value)) => Some((row, column, value)),
+            None => None,
+        }
     }
 }
 

@@ -92,3 +92,6 @@ impl<T> CscMatrix<T> {
         self.cs.find_mut(col, row)
     }
 }
+
+#[cfg(test)]
+mod tests;
