@@ -9,3 +9,4 @@ mod FirstUnsortedFault
 mod SortedForm
 pub mod Kept
 mod KeptLanes
+mod KeptPlain
