@@ -1,11 +1,13 @@
 //! Laws of compressed matrices, each the contract of a function that does nothing.
 
-ghost use Rattle.std.specs.Prelude.{◌≡◌, ◌↔◌, ℕ, true, Some};
-ghost use Rattle.sparse_base.specs.Plain.{row_order};
+ghost use Rattle.std.specs.Prelude.{◌≡◌, ℕ, ◌↔◌, Bool, true, map, Some};
+ghost use Rattle.std.specs.List.{filter};
+ghost use Rattle.sparse_base.specs.Plain.{plain_kept, row_order};
 ghost use Rattle.sparse_base.specs.Raw.{Raw, IsValid};
-ghost use Rattle.sparse_cs.specs.Compressed.{Compressed, IsPosition, IsSound, lane_triplets, compressed_eq};
+ghost use Rattle.sparse_cs.specs.Compressed.{Compressed, IsPosition, IsSound, lane_triplets, turned, compressed_eq};
 ghost use Rattle.sparse_cs.specs.Entries.{place_of};
-ghost use Rattle.sparse_cs.specs.Forms.{meant, plain_of_rows};
+ghost use Rattle.sparse_cs.specs.Filter.{HasSizesOf};
+ghost use Rattle.sparse_cs.specs.Forms.{meant, plain_of_rows, plain_of_cols};
 
 use sparse_base::scalar::Ring;
 
@@ -24,4 +26,18 @@ pub fn row_order_law<T: Ring>()
 /// A look-up finds the position of a place exactly where the place is stored.
 pub fn place_law()
     ensures { (d : Raw) → IsValid d → (i j p : ℕ) → (place_of d i j ≡ Some p) ↔ IsPosition d i j p }
+{}
+
+/// Keeping the triplets of rows whose pair passes a test keeps those places of the plain matrix, with their values.
+pub fn kept_rows_law<T: Ring>()
+    ensures { (test : ℕ → ℕ → Bool) (m n : Compressed T)
+        → HasSizesOf m n → lane_triplets n ≡ filter (λ t. test t.0 t.1) (lane_triplets m)
+        → plain_of_rows T.ring T.value n ≡ plain_kept T.ring test (plain_of_rows T.ring T.value m) }
+{}
+
+/// The same of columns, whose triplets are turned to (row, column, value).
+pub fn kept_cols_law<T: Ring>()
+    ensures { (test : ℕ → ℕ → Bool) (m n : Compressed T)
+        → HasSizesOf m n → map turned (lane_triplets n) ≡ filter (λ t. test t.0 t.1) (map turned (lane_triplets m))
+        → plain_of_cols T.ring T.value n ≡ plain_kept T.ring test (plain_of_cols T.ring T.value m) }
 {}
