@@ -14,3 +14,4 @@ pub mod RingMapLemmas
 pub mod WholeNumbers
 pub mod KeyCounts
 pub mod StableOrders
+pub mod Transposes

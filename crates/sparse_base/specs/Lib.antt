@@ -17,3 +17,4 @@ pub mod Plain
 pub mod RingMaps
 pub mod Whole
 pub mod Counting
+pub mod Transposed
