@@ -13,3 +13,4 @@ mod FirstUnsortedFault
 mod SortedForm
 pub mod Kept
 mod KeptLanes
+mod Transposes

@@ -1,11 +1,12 @@
 //! Laws of compressed matrices, each the contract of a function that does nothing.
 
 ghost use Rattle.std.specs.Prelude.{◌≡◌, ◌↔◌, ℕ, true, Some};
-ghost use Rattle.sparse_base.specs.Plain.{row_order};
+ghost use Rattle.sparse_base.specs.Plain.{plain_transpose, row_order};
 ghost use Rattle.sparse_base.specs.Raw.{Raw, IsValid};
 ghost use Rattle.sparse_cs.specs.Compressed.{Compressed, IsPosition, IsSound, lane_triplets, compressed_eq};
 ghost use Rattle.sparse_cs.specs.Entries.{place_of};
-ghost use Rattle.sparse_cs.specs.Forms.{meant, plain_of_rows};
+ghost use Rattle.sparse_cs.specs.Forms.{meant, plain_of_cols, plain_of_rows};
+ghost use Rattle.sparse_cs.specs.Transposed.{IsTranspose};
 
 use sparse_base::scalar::Ring;
 
@@ -24,4 +25,22 @@ pub fn row_order_law<T: Ring>()
 /// A look-up finds the position of a place exactly where the place is stored.
 pub fn place_law()
     ensures { (d : Raw) → IsValid d → (i j p : ℕ) → (place_of d i j ≡ Some p) ↔ IsPosition d i j p }
+{}
+
+/// A transpose stands for the transposed plain matrix, by rows and by columns.
+pub fn transpose_law<T: Ring>()
+    ensures rows { (m n : Compressed T) → IsSound m → IsSound n → IsTranspose m n
+        → plain_of_rows T.ring T.value n ≡ plain_transpose T.ring (plain_of_rows T.ring T.value m) }
+    ensures cols { (m n : Compressed T) → IsSound m → IsSound n → IsTranspose m n
+        → plain_of_cols T.ring T.value n ≡ plain_transpose T.ring (plain_of_cols T.ring T.value m) }
+{}
+
+/// A matrix has one transpose.
+pub fn one_transpose_law<T>()
+    ensures { (m n k : Compressed T) → IsSound n → IsSound k → IsTranspose m n → IsTranspose m k → n ≡ k }
+{}
+
+/// A matrix transposed twice is itself.
+pub fn transpose_twice_law<T>()
+    ensures { (m n k : Compressed T) → IsSound m → IsSound k → IsTranspose m n → IsTranspose n k → k ≡ m }
 {}
