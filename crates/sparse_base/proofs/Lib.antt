@@ -12,3 +12,6 @@ pub mod FirstFaults
 pub mod PlainLaws
 pub mod RingMapLemmas
 pub mod WholeNumbers
+pub mod KeyCounts
+pub mod StableOrders
+pub mod Transposes

@@ -16,3 +16,5 @@ pub mod TripletFaults
 pub mod Plain
 pub mod RingMaps
 pub mod Whole
+pub mod Counting
+pub mod Transposed

@@ -9,6 +9,7 @@ use std::marker::Model;
 
 mod entries;
 mod faults;
+mod transpose;
 
 pub use entries::SparsityPatternIter;
 pub use faults::{SparsityPatternFormatError, one_first_fault};

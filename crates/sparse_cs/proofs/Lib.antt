@@ -14,3 +14,4 @@ mod SortedForm
 pub mod Kept
 mod KeptLanes
 mod KeptPlain
+mod Transposes

@@ -10,3 +10,4 @@ pub mod Writing
 pub mod Left
 pub mod LaneEquality
 pub mod Filter
+pub mod Transposed

@@ -2,12 +2,13 @@
 
 ghost use Rattle.std.specs.Prelude.{◌≡◌, ℕ, ◌↔◌, Bool, true, map, Some};
 ghost use Rattle.std.specs.List.{filter};
-ghost use Rattle.sparse_base.specs.Plain.{plain_kept, row_order};
+ghost use Rattle.sparse_base.specs.Plain.{plain_kept, plain_transpose, row_order};
 ghost use Rattle.sparse_base.specs.Raw.{Raw, IsValid};
 ghost use Rattle.sparse_cs.specs.Compressed.{Compressed, IsPosition, IsSound, lane_triplets, turned, compressed_eq};
 ghost use Rattle.sparse_cs.specs.Entries.{place_of};
 ghost use Rattle.sparse_cs.specs.Filter.{HasSizesOf};
 ghost use Rattle.sparse_cs.specs.Forms.{meant, plain_of_rows, plain_of_cols};
+ghost use Rattle.sparse_cs.specs.Transposed.{IsTranspose};
 
 use sparse_base::scalar::Ring;
 
@@ -40,4 +41,22 @@ pub fn kept_cols_law<T: Ring>()
     ensures { (test : ℕ → ℕ → Bool) (m n : Compressed T)
         → HasSizesOf m n → map turned (lane_triplets n) ≡ filter (λ t. test t.0 t.1) (map turned (lane_triplets m))
         → plain_of_cols T.ring T.value n ≡ plain_kept T.ring test (plain_of_cols T.ring T.value m) }
+{}
+
+/// A transpose stands for the transposed plain matrix, by rows and by columns.
+pub fn transpose_law<T: Ring>()
+    ensures rows { (m n : Compressed T) → IsSound m → IsSound n → IsTranspose m n
+        → plain_of_rows T.ring T.value n ≡ plain_transpose T.ring (plain_of_rows T.ring T.value m) }
+    ensures cols { (m n : Compressed T) → IsSound m → IsSound n → IsTranspose m n
+        → plain_of_cols T.ring T.value n ≡ plain_transpose T.ring (plain_of_cols T.ring T.value m) }
+{}
+
+/// A matrix has one transpose.
+pub fn one_transpose_law<T>()
+    ensures { (m n k : Compressed T) → IsSound n → IsSound k → IsTranspose m n → IsTranspose m k → n ≡ k }
+{}
+
+/// A matrix transposed twice is itself.
+pub fn transpose_twice_law<T>()
+    ensures { (m n k : Compressed T) → IsSound m → IsSound k → IsTranspose m n → IsTranspose n k → k ≡ m }
 {}

@@ -14,6 +14,7 @@ mod lane_iter_mut;
 pub mod laws;
 mod sorted;
 mod special;
+mod transpose;
 mod triplet_iter_mut;
 mod triplets;
 mod unsorted;
@@ -23,10 +24,10 @@ pub use lane::{CsLane, LaneIndices};
 pub use lane_iter::CsLaneIter;
 pub use lane_iter_mut::{CsLaneIterMut, CsLaneMut};
 pub use sorted::SortedFault;
-pub use triplet_iter_mut::CsTripletIterMut;
 use sparse_base::pattern::{SparsityPattern, SparsityPatternIter};
 use std::alloc::{AllocError, Global};
 use std::marker::Model;
+pub use triplet_iter_mut::CsTripletIterMut;
 pub use triplets::CsTripletValues;
 
 /// A pattern with a value at each of its places.

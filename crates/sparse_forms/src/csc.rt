@@ -12,6 +12,7 @@ mod col_mut;
 mod cols;
 mod filter;
 mod iter_mut;
+mod transpose;
 mod triplets;
 mod writing;
 

@@ -12,6 +12,7 @@ mod filter;
 mod iter_mut;
 mod row_mut;
 mod rows;
+mod transpose;
 mod triplets;
 mod writing;
 

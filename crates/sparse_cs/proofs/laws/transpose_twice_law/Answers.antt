@@ -1,0 +1,5 @@
+use Rattle.sparse_cs.proofs.Transposes.{twice}
+use Rattle.sparse_cs.proofs.laws.transpose_twice_law.Goals as goal
+
+pub returns : goal.returns
+returns g c = twice

@@ -1,0 +1,26 @@
+//! The transpose of a CSR matrix, in the same form.
+
+ghost use Rattle.std.specs.Prelude.{IfOk};
+ghost use Rattle.sparse_cs.specs.Compressed.{IsSound};
+ghost use Rattle.sparse_cs.specs.Transposed.{IsTranspose};
+
+use super::CsrMatrix;
+use std::alloc::{AllocError, Global};
+
+impl<T: Copy> CsrMatrix<T> {
+    /// The matrix with sizes and pairs exchanged, by rows again: it has at (j, i) the value of (i, j), zeros among them.
+    ///
+    /// It takes time in the number of places, rows and columns. Memory is needed for the result, and for numbers: two for each place and
+    /// one for each of the new rows.
+    pub fn transpose(&self, alloc: Global) -> Result<Self, AllocError>
+        ensures transposed { IfOk result (IsTranspose self.now) }
+        ensures sound { IfOk result IsSound }
+    {
+        Ok(CsrMatrix {
+            cs: self.cs.transpose(alloc)?,
+        })
+    }
+}
+
+#[cfg(test)]
+mod tests;
