@@ -12,3 +12,4 @@ pub mod FirstFaults
 pub mod PlainLaws
 pub mod RingMapLemmas
 pub mod WholeNumbers
+pub mod DenseLemmas

@@ -16,3 +16,8 @@ pub mod TripletFaults
 pub mod Plain
 pub mod RingMaps
 pub mod Whole
+pub mod Refill
+pub mod Dense
+pub mod DenseEquality
+pub mod DenseLending
+pub mod DensePlain

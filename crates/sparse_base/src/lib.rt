@@ -2,6 +2,7 @@
 #![tactic(auto)]
 
 pub mod coo;
+pub mod dense;
 pub mod entry;
 pub mod error;
 pub mod laws;
