@@ -13,3 +13,4 @@ pub mod PlainLaws
 pub mod RingMapLemmas
 pub mod WholeNumbers
 pub mod DenseLemmas
+pub mod BlockLemmas

@@ -21,3 +21,4 @@ pub mod Dense
 pub mod DenseEquality
 pub mod DenseLending
 pub mod DensePlain
+pub mod Blocks

@@ -233,3 +233,6 @@ fn column_by_column<T: Copy>(
     }
     Ok(columns)
 }
+
+#[cfg(test)]
+mod tests;
