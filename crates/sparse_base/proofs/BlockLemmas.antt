@@ -72,7 +72,10 @@ module _ {T : Type 0} where
   pub empty_block : (r c : ℕ) (d : Dense T) → length d.values ≡ 0 → block_triplets r c d ≡ []
   empty_block r c d none = flat_map-nothing _ (below d.ncols) (λ j. flat_map-nothing _ (below d.nrows) (λ i. rw (slice_get_past d.values (j * d.nrows + i) (omega arith)) refl))
 
+  pub empty_size : (d : Dense T) → length d.values ≡ d.nrows * d.ncols → IsEmptyBlock d → length d.values ≡ 0
+  empty_size d full (inl rows) = full ∙ ap (λ n. n * d.ncols) rows ∙ omega arith
+  empty_size d full (inr cols) = full ∙ ap (λ n. d.nrows * n) cols ∙ omega arith
+
   pub block_inside : (m : Coo T) (r c : ℕ) (d : Dense T) → length d.values ≡ d.nrows * d.ncols → length d.values ≢ 0 → IsEmptyBlock d ⊎ IsBlockInside m r c d → IsBlockInside m r c d
-  block_inside m r c d full some (inl (inl rows)) = absurd (some (full ∙ ap (λ n. n * d.ncols) rows ∙ omega arith))
-  block_inside m r c d full some (inl (inr cols)) = absurd (some (full ∙ ap (λ n. d.nrows * n) cols ∙ omega arith))
+  block_inside m r c d full some (inl empty) = absurd (some (empty_size d full empty))
   block_inside m r c d full some (inr inside) = inside

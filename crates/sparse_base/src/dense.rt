@@ -54,7 +54,7 @@ impl<T: Copy> DMatrix<T> {
         })
     }
 
-    /// A matrix of values that stand column by column.
+    /// A matrix of values that stand column by column. `AllocError` where memory is refused.
     pub fn from_column_slice(
         alloc: Global,
         nrows: usize,
@@ -72,7 +72,7 @@ impl<T: Copy> DMatrix<T> {
         })
     }
 
-    /// A matrix of values that stand row by row.
+    /// A matrix of values that stand row by row. `AllocError` where memory is refused.
     pub fn from_row_slice(
         alloc: Global,
         nrows: usize,
@@ -89,7 +89,7 @@ impl<T: Copy> DMatrix<T> {
         })
     }
 
-    /// A copy with the same sizes and values.
+    /// A copy with the same sizes and values. `AllocError` where memory is refused.
     pub fn clone(&self, alloc: Global) -> Result<Self, AllocError>
         ensures { IfOk result (λ d. d ≡ self.now) }
     {
@@ -133,7 +133,7 @@ impl<T> DMatrix<T> {
         &self.values
     }
 
-    /// Replaces the value at a place, and drops the old one.
+    /// Replaces the value at a place, and drops the old one. Sizes and all other values stay.
     pub fn set(&mut self, i: usize, j: usize, value: T)
     where
         T: Drop,
@@ -157,7 +157,7 @@ impl<T> DMatrix<T> {
         &self.values[start..start + self.nrows]
     }
 
-    /// The values of a column for writing.
+    /// The values of a column for writing. All other values stay.
     pub fn column_mut(&mut self, j: usize) -> &mut [T]
         requires { j < self.old.ncols }
         ensures* writes_back { sem 𝓛 (LendsColumn T.row self.entry j result) }

@@ -1,6 +1,6 @@
 //! Dense blocks as triplets.
 
-ghost use Rattle.std.specs.Prelude.{◌≡◌, ◌+◌, ◌*◌, ◌<◌, ◌≤◌, ◌^◌, ◌⊎◌, ℕ, ◌++◌, length, vec_len, vec_capacity, OnOk, OnErr};
+ghost use Rattle.std.specs.Prelude.{◌≡◌, ◌+◌, ◌*◌, ◌<◌, ◌≤◌, ◌^◌, ◌⊎◌, ℕ, ◌++◌, length, vec_len, vec_capacity, IsOk, OnOk, OnErr};
 ghost use Rattle.sparse_base.specs.Coo.{zip_triplets, appended, AreParts};
 ghost use Rattle.sparse_base.specs.Blocks.{block_triplets, IsEmptyBlock, IsBlockInside};
 
@@ -16,6 +16,7 @@ impl<T: Copy> CooMatrix<T> {
         requires { IsEmptyBlock matrix.now ⊎ IsBlockInside self.old r c matrix.now }
         ensures ok { OnOk result (self.new ≡ appended self.old (block_triplets r c matrix.now)) }
         ensures err { OnErr result (self.new ≡ self.old) }
+        ensures empty { IsEmptyBlock matrix.now → IsOk result }
     {
         let count = matrix.as_slice().len();
         if count == 0 {
