@@ -15,3 +15,5 @@ pub mod WholeNumbers
 pub mod KeyCounts
 pub mod StableOrders
 pub mod Transposes
+pub mod DenseLemmas
+pub mod BlockLemmas

@@ -18,3 +18,9 @@ pub mod RingMaps
 pub mod Whole
 pub mod Counting
 pub mod Transposed
+pub mod Refill
+pub mod Dense
+pub mod DenseEquality
+pub mod DenseLending
+pub mod DensePlain
+pub mod Blocks

@@ -10,6 +10,7 @@ use std::marker::Model;
 
 mod from_iter;
 mod iter;
+mod push_matrix;
 
 pub use iter::{CooTripletIter, CooTripletIterMut};
 

@@ -3,6 +3,7 @@
 
 pub mod coo;
 pub mod counting;
+pub mod dense;
 pub mod entry;
 pub mod error;
 pub mod laws;

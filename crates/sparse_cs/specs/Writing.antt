@@ -1,7 +1,8 @@
 -- Values that are lent for writing, and what the matrix is once the loan is over.
-use Rattle.std.specs.Prelude.{◌≡◌, ℕ, ◌<◌, ◌≤◌, ◌==◌, ◌++◌, List, Option, Some, None, length, take, drop, position, slice_set, slice_index_or, unwrap_or}
+use Rattle.std.specs.Prelude.{◌≡◌, ℕ, ◌<◌, ◌≤◌, ◌==◌, List, Option, Some, None, length, position, slice_set, slice_index_or, unwrap_or}
 use Rattle.std.specs.Borrow.{Lends, follows_if, MutBor, Fml, Array, RattleType}
 use Rattle.sparse_base.specs.Raw.{start_of}
+use Rattle.sparse_base.specs.Refill.{refill, refill_from}
 use Rattle.sparse_base.specs.Entries.{found_name, indexed_name}
 use Rattle.sparse_base.specs.declared.entry.SparseEntry.{SparseEntry}
 use Rattle.sparse_base.specs.declared.entry.SparseEntry.TheVariants as entry
@@ -14,14 +15,6 @@ use Rattle.sparse_cs.specs.Compressed.{Compressed}
 use Rattle.sparse_cs.specs.Entries.{IsInBounds, place_of}
 use Rattle.sparse_cs.specs.Lanes.{Lane}
 use Rattle.sparse_cs.specs.contracts.CsMatrix.{the_row}
-
--- xs with ws written over its front
-abbrev pub refill : {X : Type 0} → List X → List X → List X
-refill xs ws = take (length xs) (ws ++ drop (length ws) xs)
-
--- xs with ws written over it from position i on
-abbrev pub refill_from : {X : Type 0} → List X → ℕ → List X → List X
-refill_from xs i ws = refill xs (take i xs ++ (ws ++ drop (length ws) (drop i xs)))
 
 -- where the index j stands in a lane
 abbrev pub index_in : List ℕ → ℕ → Option ℕ

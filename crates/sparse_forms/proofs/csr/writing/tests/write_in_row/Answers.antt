@@ -2,7 +2,7 @@ use Rattle.std.proofs.Common.{◌≡◌, ℕ, ◌+◌, ◌-◌, ◌<◌, length,
 use Rattle.std.proofs.lemmas.List.{length-take-le, length-drop}
 use Rattle.sparse_base.specs.Raw.{start_of, end_of, lane_of}
 use Rattle.sparse_cs.specs.Lanes.{lane_at}
-use Rattle.sparse_cs.specs.Writing.{refill_from}
+use Rattle.sparse_base.specs.Refill.{refill_from}
 use Rattle.sparse_forms.proofs.Written.{refill_from_at}
 use Rattle.sparse_forms.proofs.csr.writing.tests.write_in_row.Goals as goal
 

@@ -1,0 +1,40 @@
+-- What a contract sees of a dense matrix.
+use Rattle.std.specs.Prelude.{◌≡◌, ℕ, ◌+◌, ◌*◌, ◌<◌, List, length, slice_index_or, slice_set, slice_range, refl}
+use Rattle.std.specs.Coded.{Coded, code_by, coded×, coded_ℕ, coded_list}
+use Rattle.sparse_base.specs.Refill.{refill_from}
+
+-- two sizes, and the values column after column
+pub record Dense (T : Type 0) : Type 0 where
+  pub nrows : ℕ
+  pub ncols : ℕ
+  pub values : List T
+
+abbrev pub dense_code : {T : Type 0} → Coded T → Coded (Dense T)
+dense_code {T} code = code_by (ℕ × (ℕ × List T)) (coded× coded_ℕ (coded× coded_ℕ (coded_list code))) (λ d. (d.nrows, (d.ncols, d.values))) (λ p. record { nrows = p.0; ncols = p.1.0; values = p.1.1 }) (λ _. refl)
+
+module _ {T : Type 0} where
+  abbrev pub dense_of : ℕ → ℕ → List T → Dense T
+  dense_of nrows ncols values = record { nrows = nrows; ncols = ncols; values = values }
+
+  -- the value at (i, j), or z where none is stored
+  abbrev pub value_at : Dense T → ℕ → ℕ → T → T
+  value_at d i j z = slice_index_or d.values (j * d.nrows + i) z
+
+  -- the values of column j
+  abbrev pub column_of : Dense T → ℕ → List T
+  column_of d j = slice_range d.values (j * d.nrows) (j * d.nrows + d.nrows)
+
+  -- the matrix with another value at (i, j)
+  abbrev pub with_value_at : Dense T → ℕ → ℕ → T → Dense T
+  with_value_at d i j w = record d { values = slice_set d.values (j * d.nrows + i) w }
+
+  -- the matrix with other values in column j
+  abbrev pub with_column : Dense T → ℕ → List T → Dense T
+  with_column d j ws = record d { values = refill_from d.values (j * d.nrows) ws }
+
+  -- a matrix of these sizes that has at each (i, j) inside them this value
+  pub record HasValues (nrows ncols : ℕ) (value : ℕ → ℕ → T → T) (d : Dense T) : Type 0 where
+    pub rows : d.nrows ≡ nrows
+    pub cols : d.ncols ≡ ncols
+    pub count : length d.values ≡ nrows * ncols
+    pub values : (i j : ℕ) (z : T) → i < nrows → j < ncols → value_at d i j z ≡ value i j z

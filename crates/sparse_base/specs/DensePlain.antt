@@ -1,0 +1,19 @@
+-- The plain matrix that a dense one stands for.
+use Rattle.std.specs.Prelude.{ℕ, nat_lt, ◌&&◌, Bool, map}
+use Rattle.sparse_base.specs.Algebra.{CommRing}
+use Rattle.sparse_base.specs.Sums.{where_true}
+use Rattle.sparse_base.specs.Plain.{Plain}
+use Rattle.sparse_base.specs.Dense.{Dense, dense_of, value_at}
+
+-- whether (i, j) is inside the sizes
+abbrev pub is_inside : {T : Type 0} → Dense T → ℕ → ℕ → Bool
+is_inside d i j = nat_lt i d.nrows && nat_lt j d.ncols
+
+-- its places are all pairs inside, also those of value zero; its value is what the stored one means, and zero outside
+abbrev pub plain_of_dense : (R : CommRing) {T : Type 0} → (T → R.Carrier) → Dense T → Plain R
+plain_of_dense R f d = record {
+  rows = d.nrows;
+  cols = d.ncols;
+  has = is_inside d;
+  value = λ i j. where_true R (is_inside d i j) (value_at (dense_of d.nrows d.ncols (map f d.values)) i j R.zero);
+}

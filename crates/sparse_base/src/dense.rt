@@ -1,0 +1,238 @@
+//! Dense matrices, stored column by column.
+
+ghost use Rattle.std.specs.Prelude.{◌≡◌, ◌+◌, ◌*◌, ◌<◌, ℕ, ◌==◌, ◌&&◌, if◌then◌else◌, length, replicate, slice_index_or, IfOk};
+ghost use Rattle.std.specs.Borrow.{sem};
+ghost use Rattle.sparse_base.specs.Dense.{dense_of, value_at, column_of, with_value_at, HasValues};
+ghost use Rattle.sparse_base.specs.DenseLending.{LendsColumn};
+
+use crate::scalar::Zero;
+use std::alloc::{AllocError, Global};
+use std::marker::Model;
+
+/// A dense matrix: a value at each place, stored column by column.
+#[derive(Debug, Drop)]
+pub struct DMatrix<T> {
+    nrows: usize,
+    ncols: usize,
+    values: Vec<T>,
+}
+
+impl<T> Model for DMatrix<T> {
+    ghost use Rattle.std.specs.Prelude.{◌≡◌, ◌*◌, length};
+    ghost use Rattle.sparse_base.specs.Dense.{Dense, dense_code, dense_of};
+
+    ghost Value = { Dense T };
+
+    ghost coded = { dense_code T.code };
+
+    ghost view = { λ d. dense_of d.nrows d.ncols d.values.items };
+
+    ghost invariant = { λ d. length d.values.items ≡ d.nrows * d.ncols };
+}
+
+impl<T: Zero + Copy> DMatrix<T> {
+    /// A matrix of zeros. `AllocError` where memory is refused, or no memory could hold the size.
+    pub fn zeros(alloc: Global, nrows: usize, ncols: usize) -> Result<Self, AllocError>
+        ensures { IfOk result (HasValues nrows ncols (λ _ _ _. T.zero_value)) }
+    {
+        DMatrix::repeat(alloc, nrows, ncols, T::zero())
+    }
+}
+
+impl<T: Copy> DMatrix<T> {
+    /// A matrix with one value everywhere. `AllocError` where memory is refused, or no memory could hold the size.
+    pub fn repeat(alloc: Global, nrows: usize, ncols: usize, value: T) -> Result<Self, AllocError>
+        ensures { IfOk result (HasValues nrows ncols (λ _ _ _. value)) }
+    {
+        let Some(count) = nrows.checked_mul(ncols) else {
+            return Err(AllocError);
+        };
+        Ok(DMatrix {
+            nrows,
+            ncols,
+            values: copies_of(alloc, value, count)?,
+        })
+    }
+
+    /// A matrix of values that stand column by column. `AllocError` where memory is refused.
+    pub fn from_column_slice(
+        alloc: Global,
+        nrows: usize,
+        ncols: usize,
+        values: &[T],
+    ) -> Result<Self, AllocError>
+        requires { length values.now ≡ nrows * ncols }
+        ensures exact { IfOk result (λ d. d ≡ dense_of nrows ncols values.now) }
+        ensures values { IfOk result (HasValues nrows ncols (λ i j z. slice_index_or values.now (j * nrows + i) z)) }
+    {
+        Ok(DMatrix {
+            nrows,
+            ncols,
+            values: Vec::from_slice(alloc, values)?,
+        })
+    }
+
+    /// A matrix of values that stand row by row. `AllocError` where memory is refused.
+    pub fn from_row_slice(
+        alloc: Global,
+        nrows: usize,
+        ncols: usize,
+        values: &[T],
+    ) -> Result<Self, AllocError>
+        requires { length values.now ≡ nrows * ncols }
+        ensures { IfOk result (HasValues nrows ncols (λ i j z. slice_index_or values.now (i * ncols + j) z)) }
+    {
+        Ok(DMatrix {
+            nrows,
+            ncols,
+            values: column_by_column(alloc, nrows, ncols, values)?,
+        })
+    }
+
+    /// A copy with the same sizes and values. `AllocError` where memory is refused.
+    pub fn clone(&self, alloc: Global) -> Result<Self, AllocError>
+        ensures { IfOk result (λ d. d ≡ self.now) }
+    {
+        Ok(DMatrix {
+            nrows: self.nrows,
+            ncols: self.ncols,
+            values: Vec::from_slice(alloc, &self.values)?,
+        })
+    }
+
+    /// The value at a place.
+    pub fn get(&self, i: usize, j: usize) -> T
+        requires row { i < self.now.nrows }
+        requires col { j < self.now.ncols }
+        ensures { result ≡ value_at self.now i j result }
+    {
+        self.values[j * self.nrows + i]
+    }
+}
+
+impl<T> DMatrix<T> {
+    /// The number of rows.
+    pub fn nrows(&self) -> usize
+        ensures { result ≡ self.now.nrows }
+    {
+        self.nrows
+    }
+
+    /// The number of columns.
+    pub fn ncols(&self) -> usize
+        ensures { result ≡ self.now.ncols }
+    {
+        self.ncols
+    }
+
+    /// The values column by column.
+    pub fn as_slice(&self) -> &[T]
+        ensures values { result.now ≡ self.now.values }
+        ensures count { length result.now ≡ self.now.nrows * self.now.ncols }
+    {
+        &self.values
+    }
+
+    /// Replaces the value at a place, and drops the old one. Sizes and all other values stay.
+    pub fn set(&mut self, i: usize, j: usize, value: T)
+    where
+        T: Drop,
+        requires row { i < self.old.nrows }
+        requires col { j < self.old.ncols }
+        ensures exact { self.new ≡ with_value_at self.old i j value }
+        ensures values { HasValues self.old.nrows self.old.ncols
+            (λ k l z. if k == i && l == j then value else value_at self.old k l z) self.new }
+    {
+        self.values[j * self.nrows + i] = value;
+    }
+
+    /// The values of a column.
+    pub fn column(&self, j: usize) -> &[T]
+        requires { j < self.now.ncols }
+        ensures exact { result.now ≡ column_of self.now j }
+        ensures rows { length result.now ≡ self.now.nrows }
+        ensures values { (i : ℕ) (z : T) → i < self.now.nrows → slice_index_or result.now i z ≡ value_at self.now i j z }
+    {
+        let start = j * self.nrows;
+        &self.values[start..start + self.nrows]
+    }
+
+    /// The values of a column for writing. All other values stay.
+    pub fn column_mut(&mut self, j: usize) -> &mut [T]
+        requires { j < self.old.ncols }
+        ensures* writes_back { sem 𝓛 (LendsColumn T.row self.entry j result) }
+        ensures exact { result.now ≡ column_of self.old j }
+        ensures rows { length result.now ≡ self.old.nrows }
+        ensures values { (i : ℕ) (z : T) → i < self.old.nrows → slice_index_or result.now i z ≡ value_at self.old i j z }
+    {
+        let start = j * self.nrows;
+        self.values.slice_mut(start..start + self.nrows)
+    }
+}
+
+impl<T> DMatrix<T> {
+    ghost use Rattle.sparse_base.specs.DenseEquality.{dense_sizes_eq};
+
+    // Whether the sizes are equal.
+    fn has_same_sizes(&self, other: &Self) -> bool
+        ensures { result ≡ dense_sizes_eq self.now other.now }
+    {
+        self.nrows() == other.nrows() && self.ncols() == other.ncols()
+    }
+}
+
+/// Equal sizes, and equal values at equal places.
+impl<T: PartialEq> PartialEq for DMatrix<T> {
+    ghost use Rattle.sparse_base.specs.DenseEquality.{dense_eq, dense_eq-laws};
+
+    ghost eq = { dense_eq T.eq };
+
+    ghost laws = { dense_eq-laws T.laws };
+
+    fn eq(&self, other: &Self) -> bool {
+        self.has_same_sizes(other) && self.as_slice() == other.as_slice()
+    }
+}
+
+impl<T: Eq> Eq for DMatrix<T> {
+    ghost use Rattle.sparse_base.specs.DenseEquality.{dense_eq-equiv};
+
+    ghost laws = { dense_eq-equiv T.Eq.laws };
+}
+
+// Copies of a value, as many as asked for.
+fn copies_of<T: Copy>(alloc: Global, value: T, count: usize) -> Result<Vec<T>, AllocError>
+    ensures { IfOk result (λ copies. copies.items ≡ replicate count value) }
+{
+    let mut copies = Vec::with_capacity(alloc, count)?;
+    for _ in 0..count {
+        copies.push(value)?;
+    }
+    Ok(copies)
+}
+
+// Values that stand row by row, rearranged column by column.
+fn column_by_column<T: Copy>(
+    alloc: Global,
+    nrows: usize,
+    ncols: usize,
+    rows: &[T],
+) -> Result<Vec<T>, AllocError>
+    requires { length rows.now ≡ nrows * ncols }
+    ensures { IfOk result (λ columns.
+        HasValues nrows ncols (λ i j z. slice_index_or rows.now (i * ncols + j) z) (dense_of nrows ncols columns.items)) }
+{
+    let mut columns = Vec::with_capacity(alloc, rows.len())?;
+    if rows.is_empty() {
+        return Ok(columns);
+    }
+    for j in 0..ncols {
+        for i in 0..nrows {
+            columns.push(rows[i * ncols + j])?;
+        }
+    }
+    Ok(columns)
+}
+
+#[cfg(test)]
+mod tests;

@@ -1,0 +1,54 @@
+use super::*;
+use crate::scalar::W64;
+use std::test::Fail;
+
+#[test]
+fn rows_against_columns(rt: HostRuntime) -> Result<(), Fail> {
+    let by_rows = DMatrix::from_row_slice(rt.alloc(), 2, 3, &[1, 2, 3, 4, 5, 6])?;
+    let by_columns = DMatrix::from_column_slice(rt.alloc(), 2, 3, &[1, 4, 2, 5, 3, 6])?;
+    assert!(rt; by_rows == by_columns);
+    assert_eq!(rt; by_rows.as_slice(), [1, 4, 2, 5, 3, 6].as_slice());
+    assert_eq!(rt; (by_rows.nrows(), by_rows.ncols()), (2, 3));
+    Ok(())
+}
+
+#[test]
+fn values_written(rt: HostRuntime) -> Result<(), Fail> {
+    let mut matrix = DMatrix::zeros(rt.alloc(), 2, 2)?;
+    matrix.set(1, 0, 7);
+    assert_eq!(rt; matrix.get(1, 0), 7);
+    assert_eq!(rt; matrix.column(0), [0, 7].as_slice());
+    assert_eq!(rt; matrix.as_slice(), [0, 7, 0, 0].as_slice());
+    Ok(())
+}
+
+#[test]
+fn column_written(rt: HostRuntime) -> Result<(), Fail> {
+    let mut matrix = DMatrix::repeat(rt.alloc(), 2, 2, W64::new(3))?;
+    let copy = matrix.clone(rt.alloc())?;
+    matrix.column_mut(1)[0] = W64::new(-8);
+    assert!(rt; matrix != copy);
+    let three = W64::new(3);
+    assert_eq!(rt; copy.as_slice(), [three, three, three, three].as_slice());
+    assert_eq!(rt;
+        matrix.as_slice(),
+        [three, three, W64::new(-8), three].as_slice()
+    );
+    Ok(())
+}
+
+#[test]
+fn sizes_apart(rt: HostRuntime) -> Result<(), Fail> {
+    let wide = DMatrix::from_row_slice(rt.alloc(), 1, 2, &[W64::new(1), W64::new(2)])?;
+    let high = DMatrix::from_row_slice(rt.alloc(), 2, 1, &[W64::new(1), W64::new(2)])?;
+    assert!(rt; wide != high);
+    Ok(())
+}
+
+#[test]
+fn too_large(rt: HostRuntime) -> Result<(), Fail> {
+    assert!(rt; DMatrix::repeat(rt.alloc(), usize::MAX, 2, 1).is_err());
+    let empty: DMatrix<i32> = DMatrix::zeros(rt.alloc(), 0, usize::MAX)?;
+    assert_eq!(rt; empty.ncols(), usize::MAX);
+    Ok(())
+}
