@@ -51,6 +51,14 @@ pub fn transpose_law<T: Ring>()
         → plain_of_cols T.ring T.value n ≡ plain_transpose T.ring (plain_of_cols T.ring T.value m) }
 {}
 
+/// Arrays by columns that are the transpose of arrays by rows stand for the same plain matrix, and the other way round.
+pub fn other_form_law<T: Ring>()
+    ensures rows_to_cols { (m n : Compressed T) → IsSound m → IsSound n → IsTranspose m n
+        → plain_of_cols T.ring T.value n ≡ plain_of_rows T.ring T.value m }
+    ensures cols_to_rows { (m n : Compressed T) → IsSound m → IsSound n → IsTranspose m n
+        → plain_of_rows T.ring T.value n ≡ plain_of_cols T.ring T.value m }
+{}
+
 /// A matrix has one transpose.
 pub fn one_transpose_law<T>()
     ensures { (m n k : Compressed T) → IsSound n → IsSound k → IsTranspose m n → IsTranspose m k → n ≡ k }

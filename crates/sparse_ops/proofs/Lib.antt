@@ -16,3 +16,4 @@ pub mod RowSums
 pub mod Gathering
 pub mod LaneValues
 pub mod ProductValues
+mod TurnedTriplets

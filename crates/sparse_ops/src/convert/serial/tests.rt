@@ -1,8 +1,9 @@
 //! Worked conversions.
 
-use super::{convert_coo_csr, order_law};
+use super::{convert_coo_csc, convert_coo_csr, convert_csc_csr, convert_csr_csc, order_law};
 use sparse_base::coo::CooMatrix;
 use sparse_base::scalar::{W32, W64};
+use sparse_forms::csr::CsrMatrix;
 use std::test::Fail;
 
 #[test]
@@ -74,5 +75,36 @@ fn too_many_rows_are_refused(rt: HostRuntime) -> Result<(), Fail> {
     let mut coo = CooMatrix::new(rt.alloc(), usize::MAX, 1);
     coo.push(usize::MAX - 1, 0, W64::new(5))?;
     assert!(rt; convert_coo_csr(rt.alloc(), &coo).is_err());
+    Ok(())
+}
+
+#[test]
+fn columns_are_sorted(rt: HostRuntime) -> Result<(), Fail> {
+    let mut coo = CooMatrix::new(rt.alloc(), 2, 3);
+    coo.push(1, 1, W64::new(4))?;
+    coo.push(0, 2, W64::new(0))?;
+    coo.push(0, 0, W64::new(1))?;
+    let csc = convert_coo_csc(rt.alloc(), &coo)?;
+    assert_eq!(rt; csc.col_offsets(), [0, 1, 2, 3].as_slice());
+    assert_eq!(rt; csc.row_indices(), [0, 1, 0].as_slice());
+    let values = [1, 4, 0].map(W64::new);
+    assert_eq!(rt; csc.values(), values.as_slice());
+    Ok(())
+}
+
+#[test]
+fn rows_to_columns_and_back(rt: HostRuntime) -> Result<(), Fail> {
+    let csr = CsrMatrix::try_from_csr_data(
+        2,
+        3,
+        vec![in rt.alloc(); 0, 2, 3]?,
+        vec![in rt.alloc(); 0, 2, 1]?,
+        vec![in rt.alloc(); 1, 0, 4]?,
+    )?;
+    let csc = convert_csr_csc(rt.alloc(), &csr)?;
+    assert_eq!(rt; csc.col_offsets(), [0, 1, 2, 3].as_slice());
+    assert_eq!(rt; csc.row_indices(), [0, 1, 0].as_slice());
+    assert_eq!(rt; csc.values(), [1, 4, 0].as_slice());
+    assert!(rt; convert_csc_csr(rt.alloc(), &csc)? == csr);
     Ok(())
 }
