@@ -7,7 +7,7 @@
 pub use sparse_base::coo::CooMatrix;
 pub use sparse_base::entry::{SparseEntry, SparseEntryMut};
 pub use sparse_base::error::{SparseFormatError, SparseFormatErrorKind};
-pub use sparse_base::{coo, pattern, scalar};
+pub use sparse_base::{coo, dense, pattern, scalar};
 pub use sparse_expr as expr;
 pub use sparse_forms::csc::CscMatrix;
 pub use sparse_forms::csr::CsrMatrix;
