@@ -1,5 +1,6 @@
 use super::*;
 use sparse_base::error::SparseFormatError;
+use sparse_base::scalar::W64;
 use std::process::Abort;
 use std::test::Fail;
 
@@ -42,5 +43,24 @@ fn triangles(rt: HostRuntime) -> Result<(), Fail> {
     assert!(rt; matrix.upper_triangle(rt.alloc())? == matrix);
     let diagonal = matrix.diagonal_as_csr(rt.alloc())?;
     expect_arrays(&rt, &diagonal, &[0, 1, 2], &[0, 1], &[1, 4]);
+    Ok(())
+}
+
+#[test]
+fn wrapping_values(rt: HostRuntime) -> Result<(), Fail> {
+    let w = W64::new;
+    let matrix = CsrMatrix::try_from_csr_data(
+        2,
+        3,
+        vec![in rt.alloc(); 0, 2, 3]?,
+        vec![in rt.alloc(); 0, 2, 1]?,
+        vec![in rt.alloc(); w(1), w(0), w(4)]?,
+    )?;
+    let lower = matrix.lower_triangle(rt.alloc())?;
+    assert_eq!(rt; lower.col_indices(), [0, 1].as_slice());
+    assert!(rt; lower.values() == [w(1), w(4)].as_slice());
+    let corner = matrix.filter(rt.alloc(), |row, column, _| row == 0 && column == 2)?;
+    assert_eq!(rt; corner.row_offsets(), [0, 1, 1].as_slice());
+    assert!(rt; corner.values() == [w(0)].as_slice());
     Ok(())
 }

@@ -5,7 +5,7 @@ ghost use Rattle.sparse_cs.specs.Writing.{with_value};
 
 use super::*;
 use sparse_base::entry::SparseEntry;
-use sparse_base::scalar::W64;
+use sparse_base::scalar::{Ring, W64};
 use std::alloc::Global;
 use std::process::Abort;
 use std::test::Fail;
@@ -183,5 +183,35 @@ fn rows_for_writing(rt: HostRuntime) -> Result<(), Fail> {
     );
     assert!(rt; rows.next().is_none());
     assert!(rt; rows.next().is_none());
+    Ok(())
+}
+
+// Writes through the entry of a row.
+fn write_through_row<T: Copy>(matrix: &mut CsrMatrix<T>, row: usize, col: usize, value: T)
+    requires { row < matrix.old.pattern.major_dim }
+{
+    if let Some(SparseEntryMut::NonZero(lent)) = matrix.row_mut(row).get_entry_mut(col) {
+        *lent = value;
+    }
+}
+
+#[test]
+fn wrapping_values(rt: HostRuntime) -> Result<(), Fail> {
+    let w = W64::new;
+    let mut matrix = CsrMatrix::try_from_csr_data(
+        2,
+        3,
+        vec![in rt.alloc(); 0, 2, 3]?,
+        vec![in rt.alloc(); 0, 2, 1]?,
+        vec![in rt.alloc(); w(1), w(0), w(4)]?,
+    )?;
+    for (_, _, value) in matrix.triplet_iter_mut() {
+        *value = (*value).add(*value);
+    }
+    assert!(rt; matrix.values() == [w(2), w(0), w(8)].as_slice());
+    if matrix.nrows() > 1 {
+        write_through_row(&mut matrix, 1, 1, w(9));
+    }
+    assert!(rt; matrix.values() == [w(2), w(0), w(9)].as_slice());
     Ok(())
 }
