@@ -1,4 +1,4 @@
-//! Scalars, patterns and lists of triplets: what every crate of the library stands on.
+//! Scalars, patterns, lists of triplets, dense matrices and entries: what every crate of the library stands on.
 #![tactic(auto)]
 
 pub mod coo;
