@@ -1,0 +1,26 @@
+//! The checksum that all measured programs print, so that one can see that their answers agree.
+
+use nalgebra_sparse::CsrMatrix;
+use nalgebra_sparse::scalar::W64;
+
+/// The wrapping sum of a number for each place of the matrix, which depends on its row, its column and its value.
+pub fn checksum(matrix: &CsrMatrix<W64>) -> u64 {
+    let mut sum: u64 = 0;
+    for (row, col, value) in matrix.triplet_iter() {
+        sum = sum.wrapping_add(mixed(
+            row as u64,
+            col as u64,
+            value.get().cast_unsigned(),
+        ));
+    }
+    sum
+}
+
+// The number of one place.
+fn mixed(row: u64, col: u64, value: u64) -> u64 {
+    let row_part = row.wrapping_add(1).wrapping_mul(0x9E37_79B9_7F4A_7C15);
+    let col_part = col.wrapping_add(1).wrapping_mul(0xC2B2_AE3D_27D4_EB4F);
+    let place = row_part ^ col_part;
+    let spread = (place ^ (place >> 29)).wrapping_mul(0xBF58_476D_1CE4_E5B9);
+    spread.wrapping_mul(value.wrapping_mul(2).wrapping_add(1))
+}
