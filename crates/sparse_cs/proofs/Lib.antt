@@ -14,4 +14,4 @@ mod SortedForm
 pub mod Kept
 mod KeptLanes
 mod KeptPlain
-mod Transposes
+pub mod Transposes

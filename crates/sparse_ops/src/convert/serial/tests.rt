@@ -62,6 +62,18 @@ fn width_takes_no_memory(rt: HostRuntime) -> Result<(), Fail> {
 }
 
 #[test]
+fn height_takes_no_memory(rt: HostRuntime) -> Result<(), Fail> {
+    let mut coo = CooMatrix::new(rt.alloc(), usize::MAX, 1);
+    coo.push(usize::MAX - 1, 0, W32::new(3))?;
+    coo.push(0, 0, W32::new(1))?;
+    let csc = convert_coo_csc(rt.alloc(), &coo)?;
+    assert_eq!(rt; csc.col_offsets(), [0, 2].as_slice());
+    assert_eq!(rt; csc.row_indices(), [0, usize::MAX - 1].as_slice());
+    assert_eq!(rt; csc.values(), [W32::new(1), W32::new(3)].as_slice());
+    Ok(())
+}
+
+#[test]
 fn nothing_is_converted(rt: HostRuntime) -> Result<(), Fail> {
     let coo: CooMatrix<W32> = CooMatrix::new(rt.alloc(), 0, 0);
     let csr = convert_coo_csr(rt.alloc(), &coo)?;
