@@ -17,3 +17,6 @@ pub mod Gathering
 pub mod LaneValues
 pub mod ProductValues
 mod TurnedTriplets
+mod LaneGrowth
+mod FullLanes
+mod NonzeroParts
