@@ -159,3 +159,6 @@ pub fn from_dense_law<T: Ring>()
         → lane_triplets m ≡ filter (differs_from T.eq T.zero_value) (row_triplets T.zero_value d)
         → IsNonzeroPart (plain_of_dense T.ring T.value d) (plain_of_rows T.ring T.value m) }
 {}
+
+#[cfg(test)]
+mod tests;
