@@ -17,7 +17,7 @@ module _ (m n : ℕ) (offsets indices lane : List ℕ) (valid : IsValid (raw_of 
   long : length (indices ++ lane) ≡ length indices + length lane
   long = length-append indices lane
 
-  offset_kept : (i : ℕ) → i ≤ n → get_or (offsets ++ length (indices ++ lane) ∷ []) i 0 ≡ get_or offsets i 0
+  pub offset_kept : (i : ℕ) → i ≤ n → get_or (offsets ++ length (indices ++ lane) ∷ []) i 0 ≡ get_or offsets i 0
   offset_kept i le = get_or_append_left offsets (length (indices ++ lane) ∷ []) 0 i (omega (arith, valid.count))
 
   offset_last : get_or (offsets ++ length (indices ++ lane) ∷ []) (n + 1) 0 ≡ length (indices ++ lane)
@@ -84,7 +84,7 @@ module _ (m n : ℕ) (offsets indices lane : List ℕ) (valid : IsValid (raw_of 
         },
       )
 
-  lane_is : lane_of pushed n ≡ lane
+  pub lane_is : lane_of pushed n ≡ lane
   lane_is =
       let whole : length (indices ++ lane) - length indices ≡ length lane = omega (arith, long) in
       ap (λ s. slice_range (indices ++ lane) s (end_of pushed n)) start_last ∙ ap (slice_range (indices ++ lane) (length indices)) offset_last ∙ ap (take (length (indices ++ lane) - length indices)) (drop_at indices lane (length indices) refl) ∙ take_all (length (indices ++ lane) - length indices) lane (omega arith)

@@ -19,3 +19,6 @@ pub mod ProductValues
 mod TurnedTriplets
 mod StoredTriplets
 mod Reaching
+mod LaneGrowth
+mod FullLanes
+mod NonzeroParts

@@ -4,3 +4,4 @@ pub mod Marks
 pub mod Products
 pub mod Rows
 pub mod OneMatrix
+pub mod FromDense
