@@ -17,3 +17,5 @@ pub mod Gathering
 pub mod LaneValues
 pub mod ProductValues
 mod TurnedTriplets
+mod DenseWriting
+mod DenseValues

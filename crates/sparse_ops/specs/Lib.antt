@@ -3,3 +3,4 @@ pub mod Merged
 pub mod Marks
 pub mod Products
 pub mod Rows
+pub mod ToDense
