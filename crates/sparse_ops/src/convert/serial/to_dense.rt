@@ -34,7 +34,8 @@ pub fn convert_coo_dense<T: Ring>(
 
 /// The dense matrix of a CSR matrix: its value at each stored place, and zero elsewhere.
 ///
-/// It takes time and memory for all pairs. The only error is want of memory, also where no memory could hold the size.
+/// It takes time for the rows and for all pairs, and memory for all pairs. The only error is want of memory, also where no memory could
+/// hold the size.
 pub fn convert_csr_dense<T: Zero + Copy>(
     alloc: Global,
     csr: &CsrMatrix<T>,
@@ -50,7 +51,8 @@ pub fn convert_csr_dense<T: Zero + Copy>(
 
 /// The dense matrix of a CSC matrix: its value at each stored place, and zero elsewhere.
 ///
-/// It takes time and memory for all pairs. The only error is want of memory, also where no memory could hold the size.
+/// It takes time for the columns and for all pairs, and memory for all pairs. The only error is want of memory, also where no memory could
+/// hold the size.
 pub fn convert_csc_dense<T: Zero + Copy>(
     alloc: Global,
     csc: &CscMatrix<T>,
