@@ -17,3 +17,12 @@ plain_of_dense R f d = record {
   has = is_inside d;
   value = λ i j. where_true R (is_inside d i j) (value_at (dense_of d.nrows d.ncols (map f d.values)) i j R.zero);
 }
+
+-- the plain matrix with the same values, and every pair inside its sizes as a place
+abbrev pub plain_full : (R : CommRing) → Plain R → Plain R
+plain_full R a = record {
+  rows = a.rows;
+  cols = a.cols;
+  has = λ i j. nat_lt i a.rows && nat_lt j a.cols;
+  value = a.value;
+}

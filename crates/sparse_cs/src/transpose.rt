@@ -11,8 +11,8 @@ use std::alloc::{AllocError, Global};
 impl<T: Copy> CsMatrix<T> {
     /// The matrix with sizes and places exchanged: it has at (j, i) the value of (i, j), zeros among them.
     ///
-    /// It takes time in the number of places and of lanes in both directions. Memory is needed for the result, and for numbers: two for
-    /// each place and one for each new lane.
+    /// It takes time in the number of places and of lanes in both directions. Memory is needed for the result, and for a number for each
+    /// place and for each new lane.
     pub fn transpose(&self, alloc: Global) -> Result<Self, AllocError>
         ensures transposed { IfOk result (IsTranspose self.now) }
         ensures sound { IfOk result IsSound }

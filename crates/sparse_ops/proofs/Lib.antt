@@ -22,3 +22,5 @@ mod Reaching
 mod LaneGrowth
 mod FullLanes
 mod NonzeroParts
+mod DenseWriting
+mod DenseValues

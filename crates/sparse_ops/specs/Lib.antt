@@ -5,3 +5,4 @@ pub mod Products
 pub mod Rows
 pub mod OneMatrix
 pub mod FromDense
+pub mod ToDense
