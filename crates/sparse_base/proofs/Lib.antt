@@ -13,7 +13,6 @@ pub mod PlainLaws
 pub mod RingMapLemmas
 pub mod WholeNumbers
 pub mod KeyCounts
-pub mod LaneOffsets
 pub mod StableOrders
 pub mod Transposes
 pub mod DenseLemmas

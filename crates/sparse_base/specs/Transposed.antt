@@ -1,5 +1,5 @@
 -- The transpose of a pattern.
-use Rattle.std.specs.Prelude.{◌≡◌, ℕ, ◌<◌, ◌↔◌, List, length, slice_index}
+use Rattle.std.specs.Prelude.{◌≡◌, ℕ, ◌+◌, ◌<◌, ◌≤◌, ◌↔◌, List, length, slice_index}
 use Rattle.sparse_base.specs.Raw.{Raw, IsInLane, IsPlace}
 
 -- t has the sizes of d exchanged, and (j, i) is a place exactly where (i, j) is one of d
@@ -13,3 +13,9 @@ pub record ArePositionsIn (d t : Raw) (positions : List ℕ) : Type 0 where
   pub count : length positions ≡ length t.indices
   pub inside : (q : ℕ) → q < length t.indices → slice_index positions q < length d.indices
   pub exchanged : (i j q : ℕ) → IsInLane t j q → slice_index t.indices q ≡ i → IsInLane d i (slice_index positions q) × (slice_index d.indices (slice_index positions q) ≡ j)
+
+-- n lanes begin at the first n offsets, and each ends where the next one begins
+pub record AreLaneOffsets (n : ℕ) (offsets : List ℕ) : Type 0 where
+  pub count : length offsets ≡ n + 1
+  pub first : slice_index offsets 0 ≡ 0
+  pub ordered : (i : ℕ) → i < n → slice_index offsets i ≤ slice_index offsets (i + 1)
