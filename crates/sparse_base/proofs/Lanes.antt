@@ -1,11 +1,11 @@
 -- A lane of valid data, as a list and by its positions.
-use Rattle.std.proofs.Common.{◌≡◌, ℕ, zero, suc, ◌+◌, ◌-◌, ◌<◌, ◌≤◌, ◌⊎◌, inl, inr, List, length, get_or, slice_range, Result, Ok, Err, MatchResult, subst, sym, arith, refl, ◌∙◌}
+use Rattle.std.proofs.Common.{◌≡◌, ℕ, zero, suc, ◌+◌, ◌-◌, ◌<◌, ◌≤◌, length, get_or, Result, Ok, Err, MatchResult, subst, sym, arith, ◌∙◌}
 use Rattle.std.proofs.lemmas.Grind.{common_steps}
-use Rattle.std.proofs.lemmas.List.Edits.{length-between, get_or-between}
+use Rattle.std.proofs.lemmas.List.Edits.{length-between}
 use Rattle.std.proofs.lemmas.List.Sorted.{searched}
 use Rattle.std.specs.List.Sorted.{IsBinarySearchResult}
 use Rattle.std.specs.Ordering.{nat_cmp}
-use Rattle.sparse_base.specs.Raw.{Raw, start_of, end_of, lane_of, IsInLane, IsValidLane, IsValid, IsPlace}
+use Rattle.sparse_base.specs.Raw.{Raw, start_of, end_of, lane_of, IsInLane, IsValidLane, IsPlace}
 
 module _ (d : Raw) (i : ℕ) (valid : IsValidLane d i) where
   pub length-lane : length (lane_of d i) ≡ end_of d i - start_of d i

@@ -5,7 +5,7 @@ ghost use Rattle.sparse_cs.specs.Compressed.{IsSound};
 ghost use Rattle.sparse_cs.specs.Transposed.{IsTranspose};
 
 use crate::CsMatrix;
-use sparse_base::counting::gather;
+use sparse_base::counting::{gather, order_by};
 use std::alloc::{AllocError, Global};
 
 impl<T: Copy> CsMatrix<T> {
@@ -17,8 +17,10 @@ impl<T: Copy> CsMatrix<T> {
         ensures transposed { IfOk result (IsTranspose self.now) }
         ensures sound { IfOk result IsSound }
     {
-        let (pattern, positions) = self.pattern().transpose_with_positions(alloc)?;
+        let pattern = self.pattern();
+        let (offsets, positions) = order_by(alloc, pattern.minor_indices(), pattern.minor_dim())?;
         let values = gather(alloc, &positions, self.values())?;
-        Ok(CsMatrix::from_pattern_and_values(pattern, values))
+        let transposed = pattern.transpose_in_order(alloc, offsets, positions)?;
+        Ok(CsMatrix::from_pattern_and_values(transposed, values))
     }
 }
