@@ -67,6 +67,10 @@ filter-map test f (x ∷ xs) = chosen (test (f x)) (filter-map test f xs)
     chosen true rest = ap (λ l. f x ∷ l) rest
     chosen false rest = rest
 
+pub filter_map_next : {X : Type 0} (test : X → Bool) (f : ℕ → X) (n : ℕ) (b : Bool) → test (f n) ≡ b → filter test (map f (below (n + 1))) ≡ filter test (map f (below n)) ++ cond b (f n ∷ []) []
+filter_map_next test f n b e =
+    ap (λ k. filter test (map f (below k))) (add-one n) ∙ ap (filter test) (map-append f (below n) (n ∷ [])) ∙ filter-append test (map f (below n)) (f n ∷ []) ∙ ap (λ c. filter test (map f (below n)) ++ cond c (f n ∷ []) []) e
+
 pub flat_map_next : {X : Type 0} (f : ℕ → List X) (n : ℕ) → flat_map f (below (n + 1)) ≡ flat_map f (below n) ++ f n
 flat_map_next f n = ap (λ k. flat_map f (below k)) (add-one n) ∙ flat_map-append f (below n) (n ∷ []) ∙ ap (λ l. flat_map f (below n) ++ l) (append-nil (f n))
 

@@ -10,7 +10,7 @@ module _ {T : Type 0} where
   abbrev pub full_lanes : ℕ → ℕ → (ℕ → ℕ → T) → List (ℕ × ℕ × T)
   full_lanes n m value = flat_map (λ i. map {B = ℕ × ℕ × T} (λ k. (i, k, value i k)) (below m)) (below n)
 
-  -- the triplets of all places of a dense matrix, row after row
+  -- the triplets of all places of a dense matrix, row after row (z is read where no value is stored, as outside the sizes)
   abbrev pub row_triplets : T → Dense T → List (ℕ × ℕ × T)
   row_triplets z d = full_lanes d.nrows d.ncols (λ i j. value_at d i j z)
 

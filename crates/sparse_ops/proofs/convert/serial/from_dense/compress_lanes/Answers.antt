@@ -1,4 +1,7 @@
-use Rattle.std.proofs.Common.{◌≡◌, ℕ, ◌+◌, ◌*◌, ◌++◌, [], ◌∷◌, length, map, get_or, ap, sym, ◌∙◌}
+use Rattle.std.proofs.Common.{◌≡◌, ℕ, ◌+◌, ◌*◌, ◌++◌, [], ◌∷◌, length, map, get_or, ap, sym, subst, ◌∙◌, arith}
+use Rattle.std.specs.List.{filter}
+use Rattle.sparse_cs.specs.Compressed.{compressed_of, arrays_of, lane_triplets}
+use Rattle.sparse_ops.specs.FromDense.{full_lanes, differs_from}
 use Rattle.sparse_ops.proofs.FullLanes.{kept_indices, kept_lane, rising_kept, bounded_kept}
 use Rattle.sparse_ops.proofs.LaneGrowth.{sound_grown, triplets_grown}
 use Rattle.sparse_ops.proofs.convert.serial.from_dense.compress_lanes.Goals as goal
@@ -26,3 +29,17 @@ loop-lane-preserved g c =
       sound = rw (offsets_is, indices_is, kept_is) (sound_grown n m offsets indices js kept (value n) inv.sound rising bounded);
       triplets = rw (offsets_is, indices_is, kept_is) (triplets_grown n m offsets indices js kept (value n) inv.sound rising bounded ∙ ap (λ l. l ++ map (λ k. (n, k, value n k)) js) inv.triplets ∙ sym (kept_lane E z m value n));
     }
+
+pub returns-clause-kept : goal.returns-clause-kept
+returns-clause-kept g c =
+    let E = g.T.PartialEq.eq in
+    let z = g.T.Zero.zero_value in
+    let T = g.row.T.Denot in
+    let m = c.args.minor_dim in
+    let value : ℕ → ℕ → T = λ i k. get_or c.args.values.now (i * c.args.lane_step + k * c.args.step) z in
+    let offsets = c.loop-lane.offsets.items in
+    let indices = c.loop-lane.indices.items in
+    let kept = c.loop-lane.kept.items in
+    let end : c.loop-lane.lane ≡ c.args.major_dim = omega arith in
+    let all = subst (λ n. lane_triplets (arrays_of n m offsets indices kept) ≡ filter (differs_from E z) (full_lanes n m value)) end c.loop-lane.invariant.triplets in
+    ap lane_triplets (c.from_pattern_and_values.ensures.is ∙ ap (λ d. compressed_of d kept) c.from_offset_and_indices_unchecked-pattern.ensures) ∙ all
