@@ -6,7 +6,8 @@ ghost use Rattle.sparse_cs.specs.Compressed.{IsSound};
 ghost use Rattle.sparse_cs.specs.Entries.{IsInBounds};
 ghost use Rattle.sparse_cs.specs.Lanes.{lane_at};
 ghost use Rattle.sparse_cs.specs.Writing.{IsFoundAt, IsEntryMutAt, IsEntryMutOf};
-ghost use Rattle.sparse_forms.specs.CsrWriting.{LendsValues, LendsCoreIf, LendsRow, LendsRowIf, LendsFound, LendsEntry, LendsIndexed, lent_row, row_values};
+ghost use Rattle.sparse_forms.specs.CsrWriting.{LendsValues, LendsCoreIf, LendsRow, LendsRowIf, LendsFound, LendsEntry, LendsIndexed};
+ghost use Rattle.sparse_forms.specs.CsrWriting.{lent_row, row_values};
 
 use super::CsrMatrix;
 use super::row_mut::CsrRowMut;

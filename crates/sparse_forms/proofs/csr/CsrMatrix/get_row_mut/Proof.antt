@@ -78,7 +78,7 @@ get_row_mut_spec 𝓤 𝓛 𝓜 𝓡 wired T L =
     let y : W.Ghost = ((κs, qs, bounds, a, vss), tt) in
     let within = κs.1.0 ⊑ T.lives in
     let toks = raw (alive 𝓛 (f.signature T) κs qs) in
-        let Row = row_row (named_lft 2 0 tt κs) P in
+    let Row = row_row (named_lft 2 0 tt κs) P in
     let Got = option_row (MutRef (named 0) κs.0 S) in let Out = option_row Row in
     let row_lawful = row_laws (named_lft 2 0 tt κs) P (param_laws 0 T L) in
     let Lent = λ (m : maybe.Option GName). follows_if R (Array P 0) s.ghost_name m (with_lane s.now i) s.now in
