@@ -1,6 +1,7 @@
 -- Values of a CSC matrix that are lent for writing, and what the matrix or the column is once the loan is over.
 use Rattle.std.specs.Prelude.{ℕ, List, [], Option, map, slice_set, unwrap_or}
-use Rattle.std.specs.Borrow.{Lends, follows_if, MutBor, Fml, Array, RattleType}
+use Rattle.std.specs.Borrow.{Lends, LendsIf, follows_if, name_if_some, MutBor, Fml, GName, Array, RattleType}
+use mathlib.Core.Option as maybe
 use mir.Syntax.{named}
 use Rattle.sparse_base.specs.Entries.{found_name, entry_name, indexed_name}
 use Rattle.sparse_base.specs.declared.entry.SparseEntryMut.{SparseEntryMut}
@@ -8,6 +9,7 @@ use Rattle.sparse_base.specs.declared.entry.Found.{Found}
 use Rattle.sparse_cs.specs.Compressed.{Compressed, turned}
 use Rattle.sparse_cs.specs.Lanes.{Lane, lane_parts}
 use Rattle.sparse_cs.specs.Left.{triplets_left, lanes_left}
+use Rattle.sparse_cs.specs.contracts.CsMatrix.{the_row as core_type}
 use Rattle.sparse_cs.specs.Writing.{with_values, with_lane, with_value, index_in}
 use Rattle.sparse_forms.specs.declared.csc.iter_mut.CscTripletIterMut.{CscTripletIterMut}
 use Rattle.sparse_forms.specs.declared.csc.iter_mut.CscColIterMut.{CscColIterMut}
@@ -23,6 +25,10 @@ module _ {T : Type 0} where
   -- the values of the column
   abbrev pub col_values : CscColMut T → MutBor (List T)
   col_values s = s.values
+
+  -- the name of the column's reference, if there is a column
+  abbrev pub col_name : Option (CscColMut T) → maybe.Option GName
+  col_name = name_if_some (λ s. s.values.ghost_name)
 
   -- the column with ws behind its reference
   abbrev pub col_with_values : CscColMut T → List T → CscColMut T
@@ -49,8 +55,16 @@ module _ (T : RattleType) (s : MutBor (Compressed T.Denot)) where
   abbrev pub LendsValues : MutBor (List T.Denot) → Fml
   LendsValues r = Lends (matrix_type T) (Array T 0) s r (with_values s.now)
 
+  -- the core where there is one, and otherwise the matrix stays as it is
+  abbrev pub LendsCoreIf : Option (MutBor (Compressed T.Denot)) → Fml
+  LendsCoreIf r = LendsIf (matrix_type T) (core_type T) s r (λ m. m) s.now
+
   abbrev pub LendsCol : ℕ → MutBor (List T.Denot) → Fml
   LendsCol i r = Lends (matrix_type T) (Array T 0) s r (with_lane s.now i)
+
+  -- the column where there is one, and otherwise the matrix stays as it is
+  abbrev pub LendsColIf : ℕ → Option (CscColMut T.Denot) → Fml
+  LendsColIf i r = follows_if (matrix_type T) (Array T 0) s.ghost_name (col_name r) (with_lane s.now i) s.now
 
   abbrev pub LendsFound : ℕ → ℕ → Found T.Denot → Fml
   LendsFound i j r = follows_if (matrix_type T) T s.ghost_name (found_name r) (with_value s.now i j) s.now

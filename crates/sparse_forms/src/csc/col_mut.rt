@@ -2,13 +2,15 @@
 
 ghost use Rattle.std.specs.Prelude.{◌≡◌, ◌<◌, length, slice_index_or};
 ghost use Rattle.std.specs.Borrow.{sem};
+ghost use Rattle.sparse_cs.specs.Compressed.{IsSound};
+ghost use Rattle.sparse_cs.specs.Lanes.{lane_at};
 ghost use Rattle.sparse_cs.specs.Left.{lent_lane};
-ghost use Rattle.sparse_cs.specs.Writing.{IsLaneFoundAt, IsLaneEntryMutOf, IsLentEntryOf};
+ghost use Rattle.sparse_cs.specs.Writing.{LendsLane, IsLaneFoundAt, IsLaneEntryMutOf, IsLentEntryOf};
 ghost use Rattle.sparse_forms.specs.CscWriting.{lent_col, col_values, LendsColValues, LendsColAt, LendsColFound, LendsColEntry};
 
 use sparse_base::entry::{Found, Missing, SparseEntry, SparseEntryMut, into_entry};
 use sparse_cs::writing::{element_mut, entry_in};
-use sparse_cs::{CsLaneMut, LaneIndices};
+use sparse_cs::{CsLaneMut, CsMatrix, LaneIndices};
 use std::marker::PhantomData;
 
 /// A column of a CSC matrix, its values for writing.
@@ -37,6 +39,16 @@ impl<'a, T> CscColMut<'a, T> {
             values,
             lent: PhantomData,
         }
+    }
+
+    // A lane of the core as a column.
+    pub(super) fn of(cs: &'a mut CsMatrix<T>, index: usize) -> Self
+        requires { index < cs.old.pattern.major_dim }
+        ensures* writes_back { sem 𝓛 (LendsLane T.row cs.entry index (col_values result)) }
+        ensures col { lent_col result ≡ lane_at cs.old index }
+        ensures sound { IsSound cs.old }
+    {
+        CscColMut::new(cs.lane_mut(index))
     }
 
     /// The length of the column.

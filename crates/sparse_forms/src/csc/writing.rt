@@ -6,12 +6,14 @@ ghost use Rattle.sparse_cs.specs.Compressed.{IsSound};
 ghost use Rattle.sparse_cs.specs.Entries.{IsInBounds};
 ghost use Rattle.sparse_cs.specs.Lanes.{lane_at};
 ghost use Rattle.sparse_cs.specs.Writing.{IsFoundAt, IsEntryMutAt, IsEntryMutOf};
-ghost use Rattle.sparse_forms.specs.CscWriting.{LendsValues, LendsCol, LendsFound, LendsEntry, LendsIndexed, lent_col, col_values};
+ghost use Rattle.sparse_forms.specs.CscWriting.{LendsValues, LendsCoreIf, LendsCol, LendsColIf, LendsFound, LendsEntry, LendsIndexed};
+ghost use Rattle.sparse_forms.specs.CscWriting.{lent_col, col_values};
 
 use super::CscMatrix;
 use super::col_mut::CscColMut;
 use sparse_base::entry::{Found, SparseEntryMut, into_entry};
 use sparse_base::pattern::SparsityPattern;
+use sparse_cs::CsMatrix;
 
 impl<T> CscMatrix<T> {
     /// The values of the stored places for writing, column after column.
@@ -29,19 +31,31 @@ impl<T> CscMatrix<T> {
         ensures col { lent_col result ≡ lane_at self.old index }
         ensures sound { IsSound self.old }
     {
-        CscColMut::new(self.cs.lane_mut(index))
+        CscColMut::of(&mut self.cs, index)
     }
 
     /// A column, its values for writing, or `None` out of bounds.
     pub fn get_col_mut(&mut self, index: usize) -> Option<CscColMut<'_, T>>
+        ensures* writes_back { sem 𝓛 (LendsColIf T.row self.entry index result) }
         ensures bounds { IsSome result ↔ (index < self.old.pattern.major_dim) }
         ensures col { IfSome result (λ col. lent_col col ≡ lane_at self.old index) }
     {
-        if index < self.ncols() {
-            Some(self.col_mut(index))
-        } else {
-            None
+        match self.cs_with_col(index) {
+            Some(cs) => Some(CscColMut::of(cs, index)),
+            None => None,
         }
+    }
+
+    // The core, or `None` if it has no such column.
+    fn cs_with_col(&mut self, index: usize) -> Option<&mut CsMatrix<T>>
+        ensures* writes_back { sem 𝓛 (LendsCoreIf T.row self.entry result) }
+        ensures bounds { IsSome result ↔ (index < self.old.pattern.major_dim) }
+        ensures core { IfSome result (λ cs. cs.now ≡ self.old) }
+    {
+        if index >= self.ncols() {
+            return None;
+        }
+        Some(&mut self.cs)
     }
 
     /// The pattern, and the values for writing.

@@ -6,12 +6,14 @@ ghost use Rattle.sparse_cs.specs.Compressed.{IsSound};
 ghost use Rattle.sparse_cs.specs.Entries.{IsInBounds};
 ghost use Rattle.sparse_cs.specs.Lanes.{lane_at};
 ghost use Rattle.sparse_cs.specs.Writing.{IsFoundAt, IsEntryMutAt, IsEntryMutOf};
-ghost use Rattle.sparse_forms.specs.CsrWriting.{LendsValues, LendsRow, LendsFound, LendsEntry, LendsIndexed, lent_row, row_values};
+ghost use Rattle.sparse_forms.specs.CsrWriting.{LendsValues, LendsCoreIf, LendsRow, LendsRowIf, LendsFound, LendsEntry, LendsIndexed};
+ghost use Rattle.sparse_forms.specs.CsrWriting.{lent_row, row_values};
 
 use super::CsrMatrix;
 use super::row_mut::CsrRowMut;
 use sparse_base::entry::{Found, SparseEntryMut, into_entry};
 use sparse_base::pattern::SparsityPattern;
+use sparse_cs::CsMatrix;
 
 impl<T> CsrMatrix<T> {
     /// The values of the stored places for writing, row after row.
@@ -29,19 +31,31 @@ impl<T> CsrMatrix<T> {
         ensures row { lent_row result ≡ lane_at self.old index }
         ensures sound { IsSound self.old }
     {
-        CsrRowMut::new(self.cs.lane_mut(index))
+        CsrRowMut::of(&mut self.cs, index)
     }
 
     /// A row, its values for writing, or `None` out of bounds.
     pub fn get_row_mut(&mut self, index: usize) -> Option<CsrRowMut<'_, T>>
+        ensures* writes_back { sem 𝓛 (LendsRowIf T.row self.entry index result) }
         ensures bounds { IsSome result ↔ (index < self.old.pattern.major_dim) }
         ensures row { IfSome result (λ row. lent_row row ≡ lane_at self.old index) }
     {
-        if index < self.nrows() {
-            Some(self.row_mut(index))
-        } else {
-            None
+        match self.cs_with_row(index) {
+            Some(cs) => Some(CsrRowMut::of(cs, index)),
+            None => None,
         }
+    }
+
+    // The core, or `None` if it has no such row.
+    fn cs_with_row(&mut self, index: usize) -> Option<&mut CsMatrix<T>>
+        ensures* writes_back { sem 𝓛 (LendsCoreIf T.row self.entry result) }
+        ensures bounds { IsSome result ↔ (index < self.old.pattern.major_dim) }
+        ensures core { IfSome result (λ cs. cs.now ≡ self.old) }
+    {
+        if index >= self.nrows() {
+            return None;
+        }
+        Some(&mut self.cs)
     }
 
     /// The pattern, and the values for writing.

@@ -1,10 +1,21 @@
-ghost use Rattle.std.specs.Prelude.{◌≡◌, IfOk};
+ghost use Rattle.std.specs.Prelude.{◌≡◌, ◌+◌, ◌<◌, IfOk, length, slice_set};
+ghost use Rattle.sparse_base.specs.Raw.{start_of, lane_of};
 
 use super::*;
 use sparse_base::entry::SparseEntry;
 use std::alloc::Global;
 use std::process::Abort;
 use std::test::Fail;
+
+// What is left after a write at a position of a column: another value there.
+fn write_in_col<T: Copy>(matrix: &mut CscMatrix<T>, col: usize, position: usize, value: T)
+    requires col { col < matrix.old.pattern.major_dim }
+    requires within { position < length (lane_of matrix.old.pattern col) }
+    ensures { matrix.new ≡ record matrix.old { values = slice_set matrix.old.values (start_of matrix.old.pattern col + position) value } }
+{
+    let CscColMut { values, .. } = matrix.col_mut(col);
+    values[position] = value;
+}
 
 // The rows 1 . 0 and . 4 ., whose zero is stored: 1, then 4, then 0 by columns.
 fn three_columns(alloc: Global) -> Result<CscMatrix<i32>, Fail>
@@ -17,6 +28,17 @@ fn three_columns(alloc: Global) -> Result<CscMatrix<i32>, Fail>
         vec![in alloc; 0, 1, 0]?,
         vec![in alloc; 1, 4, 0]?,
     )?)
+}
+
+#[test]
+fn writes_in_a_column(rt: HostRuntime) -> Result<(), Fail> {
+    let mut matrix = three_columns(rt.alloc())?;
+    if matrix.pattern().lane(1).len() != 1 {
+        return Err(Fail::from("another column"));
+    }
+    write_in_col(&mut matrix, 1, 0, 7);
+    assert_eq!(rt; matrix.values(), [1, 7, 0].as_slice());
+    Ok(())
 }
 
 #[test]
