@@ -1,6 +1,9 @@
 //! Worked conversions.
 
-use super::{convert_coo_csc, convert_coo_csr, convert_csc_csr, convert_csr_csc, order_law};
+use super::{
+    convert_coo_csc, convert_coo_csr, convert_csc_csr, convert_csr_csc, convert_csr_dense,
+    convert_dense_csr, order_law,
+};
 use sparse_base::coo::CooMatrix;
 use sparse_base::scalar::{W32, W64};
 use sparse_forms::csr::CsrMatrix;
@@ -118,5 +121,42 @@ fn rows_to_columns_and_back(rt: HostRuntime) -> Result<(), Fail> {
     assert_eq!(rt; csc.row_indices(), [0, 1, 0].as_slice());
     assert_eq!(rt; csc.values(), [1, 4, 0].as_slice());
     assert!(rt; convert_csc_csr(rt.alloc(), &csc)? == csr);
+    Ok(())
+}
+
+#[test]
+fn stored_zeros_are_lost_in_a_dense_matrix(rt: HostRuntime) -> Result<(), Fail> {
+    let csr = CsrMatrix::try_from_csr_data(
+        2,
+        3,
+        vec![in rt.alloc(); 0, 2, 3]?,
+        vec![in rt.alloc(); 0, 2, 1]?,
+        vec![in rt.alloc(); 1, 0, 4]?,
+    )?;
+    let dense = convert_csr_dense(rt.alloc(), &csr)?;
+    let back = convert_dense_csr(rt.alloc(), &dense)?;
+    assert_eq!(rt; back.row_offsets(), [0, 1, 2].as_slice());
+    assert_eq!(rt; back.col_indices(), [0, 1].as_slice());
+    assert_eq!(rt; back.values(), [1, 4].as_slice());
+    Ok(())
+}
+
+#[test]
+fn rows_without_columns_are_converted(rt: HostRuntime) -> Result<(), Fail> {
+    let coo: CooMatrix<W32> = CooMatrix::new(rt.alloc(), 3, 0);
+    let csr = convert_coo_csr(rt.alloc(), &coo)?;
+    assert_eq!(rt; csr.row_offsets(), [0, 0, 0, 0].as_slice());
+    let csc = convert_csr_csc(rt.alloc(), &csr)?;
+    assert_eq!(rt; csc.col_offsets(), [0].as_slice());
+    Ok(())
+}
+
+#[test]
+fn columns_without_rows_are_converted(rt: HostRuntime) -> Result<(), Fail> {
+    let coo: CooMatrix<W32> = CooMatrix::new(rt.alloc(), 0, 2);
+    let csc = convert_coo_csc(rt.alloc(), &coo)?;
+    assert_eq!(rt; csc.col_offsets(), [0, 0, 0].as_slice());
+    let csr = convert_csc_csr(rt.alloc(), &csc)?;
+    assert_eq!(rt; csr.row_offsets(), [0].as_slice());
     Ok(())
 }
