@@ -7,11 +7,7 @@ use nalgebra_sparse::scalar::W64;
 pub fn checksum(matrix: &CsrMatrix<W64>) -> u64 {
     let mut sum: u64 = 0;
     for (row, col, value) in matrix.triplet_iter() {
-        sum = sum.wrapping_add(mixed(
-            row as u64,
-            col as u64,
-            value.get().cast_unsigned(),
-        ));
+        sum = sum.wrapping_add(mixed(row as u64, col as u64, value.get().cast_unsigned()));
     }
     sum
 }

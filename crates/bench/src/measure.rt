@@ -67,10 +67,7 @@ pub fn measure<R: Files + Clock + AllocGlobal>(
 }
 
 // One run: its nanoseconds, and the answer.
-fn timed<R: Clock + AllocGlobal>(
-    rt: &R,
-    input: &Input,
-) -> Result<(u128, CsrMatrix<W64>), Failure> {
+fn timed<R: Clock + AllocGlobal>(rt: &R, input: &Input) -> Result<(u128, CsrMatrix<W64>), Failure> {
     let start = Instant::now(rt)?;
     let answer = input.answer(rt.alloc())?;
     let time = start.elapsed(rt)?;

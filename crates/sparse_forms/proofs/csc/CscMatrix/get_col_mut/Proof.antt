@@ -86,9 +86,9 @@ get_col_mut_spec 𝓤 𝓛 𝓜 𝓡 wired T L =
     let In = i < s.now.pattern.major_dim in
     -- from [the column, if there is one; the tokens; what the matrix follows]
     let leaves : (r : Out.Denot) (v : Val) → IsSome r ↔ In → IfSome r (λ col. lent_col col ≡ lane_at s.now i)
-            → Sq 𝓛 (‵ (Out.own_val r (v ∷ [])) ∷ toks ∷ ‵ (Lent (col_name r)) ∷ []) (prop (W.post y v)) = λ r v inside is-lane.
-        suffices ! _ (ends_at 𝓛 (f.ended T) (stayed T) c y v r (tt, (tt, tt)) (tt, (tt, tt))) $
-        nothing ! $ nothing ! $ fjoin ! $ nothing ! $ fjoin ! $ join ! $ move ! (1 ∷ 0 ∷ []) $ join ! $ frame ! $ says_two ! (inside, is-lane) $ done ! in
+    → Sq 𝓛 (‵ (Out.own_val r (v ∷ [])) ∷ toks ∷ ‵ (Lent (col_name r)) ∷ []) (prop (W.post y v)) = λ r v inside is-lane.
+    suffices ! _ (ends_at 𝓛 (f.ended T) (stayed T) c y v r (tt, (tt, tt)) (tt, (tt, tt))) $
+    nothing ! $ nothing ! $ fjoin ! $ nothing ! $ fjoin ! $ join ! $ move ! (1 ∷ 0 ∷ []) $ join ! $ frame ! $ says_two ! (inside, is-lane) $ done ! in
     let G = triple_of 𝓛 (g.signature T) (g.spec T 𝓛 𝓜.mem 𝓡.returns) in
     let z : G.Ghost = ((κs, qs, bounds, a, vss), tt) in
     qed 𝓛 (raw (on_entry 𝓛 (f.signature T) κs qs a vss) ∷ (raw (fact 𝓤 within) ⊛ raw (emp 𝓤)) ∷ []) ∵ move ! (1 ∷ []) $ split ! $ heard ! _ (λ le. drop ! $
