@@ -1,12 +1,15 @@
 """growth.py [FOLDER]: how the cost of each task grows over three sizes, a factor of ten apart, in places plus multiplications.
 
-`run` builds the programs that it times. The inputs are made in FOLDER (/tmp/nalgebra_sparse_growth): a square grid with a place for each
-node and each pair of neighbours, row by row or shuffled, and ten places of each row drawn at random.
+The cost of one run is counted in instructions, by valgrind, and timed. An exponent of 1 is growth by the factor by which places plus
+multiplications grow. Times grow faster where an input leaves a cache, which instructions don't see; C++ by hand, built by `run` in BENCH_DIR,
+is timed beside ours where it is there. The inputs are made in FOLDER (/tmp/nalgebra_sparse_growth): a square grid with a place for each node
+and each pair of neighbours, row by row or shuffled, and ten places of each row drawn at random.
 """
 
 import math
 import os
 import random
+import re
 import subprocess
 import sys
 import time
@@ -14,6 +17,7 @@ import time
 TOP = os.path.dirname(os.path.dirname(os.path.abspath(__file__)))
 BENCH = os.path.join(TOP, "crates/bench/out/bench")
 MTX = os.path.join(TOP, "crates/mtx/out/mtx")
+HAND = os.path.join(os.environ.get("BENCH_DIR", "/tmp/nalgebra_sparse_peers"), "peers/bin/hand")
 KERNELS = ("coo2csr", "transpose", "spgemm")
 SIZES = (1_000, 10_000, 100_000)
 RUNS = 7
@@ -56,26 +60,66 @@ def written(folder, name, size, pairs):
     return path
 
 
-def kernel_time(task, path):
-    line = subprocess.run([BENCH, task, path, str(RUNS)], stdout=subprocess.PIPE, check=True, text=True).stdout
-    return int(line.split()[3])
+def kernel_time(program, task, path):
+    lines = subprocess.run([program, task, path, str(RUNS)], stdout=subprocess.PIPE, check=True, text=True).stdout.splitlines()
+    return int(lines[0].split()[3])
 
 
-def process_time(path):
+def process_time(command):
     best = None
     for _ in range(RUNS):
         start = time.perf_counter_ns()
-        subprocess.run([MTX, "rows", "1", path], stdout=subprocess.DEVNULL, check=True)
+        subprocess.run(command, stdout=subprocess.DEVNULL, check=True)
         spent = time.perf_counter_ns() - start
         best = spent if best is None else min(best, spent)
     return best
 
 
+def instructions(command):
+    tool = ["valgrind", "--tool=cachegrind", "--cache-sim=no", "--cachegrind-out-file=/dev/null"]
+    said = subprocess.run(tool + command, stdout=subprocess.DEVNULL, stderr=subprocess.PIPE, check=True, text=True).stderr
+    return int(re.search(r"I +refs: +([0-9,]+)", said).group(1).replace(",", ""))
+
+
+def ours(task, path):
+    """The instructions and the time of one run."""
+    if task == "rw":
+        command = [MTX, "rows", "1", path]
+        return instructions(command), process_time(command)
+    runs = [instructions([BENCH, task, path, str(count)]) for count in (1, 3)]
+    return (runs[1] - runs[0]) // 2, kernel_time(BENCH, task, path)
+
+
+def by_hand(task, path):
+    if not os.path.exists(HAND):
+        return None
+    return process_time([HAND, "rw", path]) if task == "rw" else kernel_time(HAND, task, path)
+
+
+def exponents(values, costs):
+    if None in values:
+        return "-"
+    steps = range(len(values) - 1)
+    return ", ".join("%.2f" % (math.log(values[k + 1] / values[k]) / math.log(costs[k + 1] / costs[k])) for k in steps)
+
+
+def row(task, name, inputs):
+    costs = [both if task == "spgemm" else places for _, places, both in inputs]
+    measured = [ours(task, path) for path, _, _ in inputs]
+    counts, times = [count for count, _ in measured], [spent for _, spent in measured]
+    each = ", ".join("%.0f" % (count / cost) for count, cost in zip(counts, costs))
+    hand = [by_hand(task, path) for path, _, _ in inputs]
+    cells = [task, name, each, exponents(counts, costs)]
+    cells += [", ".join("%.2f" % (spent / 1e6) for spent in times), exponents(times, costs), exponents(hand, costs)]
+    return "| " + " | ".join(cells) + " |"
+
+
 def main(folder):
     os.makedirs(folder, exist_ok=True)
     random.seed(1)
-    print("| Task | Input | " + " | ".join("ms at %d rows" % size for size in SIZES) + " | exponent from step to step |")
-    print("|---" * (len(SIZES) + 3) + "|")
+    heads = ["Task", "Input", "instructions for each", "exponents", "ms at %d, %d, %d rows" % SIZES, "exponents of time", "of the C++"]
+    print("| " + " | ".join(heads) + " |")
+    print("|---" * len(heads) + "|")
     for name, make in (("grid", grid), ("shuffled grid", shuffled_grid), ("uniform", uniform)):
         inputs = []
         for size in SIZES:
@@ -83,11 +127,7 @@ def main(folder):
             path = written(folder, name.replace(" ", "_"), count, pairs)
             inputs.append((path, len(pairs), len(pairs) + multiplications(count, pairs)))
         for task in KERNELS + ("rw",):
-            times = [process_time(path) if task == "rw" else kernel_time(task, path) for path, _, _ in inputs]
-            costs = [both if task == "spgemm" else places for _, places, both in inputs]
-            steps = [math.log(times[k + 1] / times[k]) / math.log(costs[k + 1] / costs[k]) for k in range(len(times) - 1)]
-            cells = ["%.3f" % (spent / 1e6) for spent in times] + [", ".join("%.2f" % step for step in steps)]
-            print("| %s | %s | " % (task, name) + " | ".join(cells) + " |", flush=True)
+            print(row(task, name, inputs), flush=True)
 
 
 if __name__ == "__main__":
