@@ -2,9 +2,9 @@
 
 use crate::checksum::checksum;
 use crate::task::{Input, Task};
-use nalgebra_sparse::CsrMatrix;
 use nalgebra_sparse::io::{MatrixMarketError, load_coo_from_matrix_market_str};
 use nalgebra_sparse::scalar::W64;
+use nalgebra_sparse::{CooMatrix, CsrMatrix};
 use std::alloc::AllocError;
 use std::rt::Files;
 use std::time::{Clock, Instant};
@@ -49,9 +49,7 @@ pub fn measure<R: Files + Clock + AllocGlobal>(
     path: &str,
     reps: usize,
 ) -> Result<Best, Failure> {
-    let text = fs::read_to_string(rt, path)?;
-    let coo = load_coo_from_matrix_market_str(rt.alloc(), text.as_str())?;
-    let input = task.prepare(rt.alloc(), coo)?;
+    let input = task.prepare(rt.alloc(), read_list(rt, path)?)?;
     let (mut nanoseconds, answer) = timed(rt, &input)?;
     let (checksum, places) = (checksum(&answer), answer.nnz());
     drop(answer);
@@ -64,6 +62,12 @@ pub fn measure<R: Files + Clock + AllocGlobal>(
         checksum,
         places,
     })
+}
+
+// The list in a file. Its text is dropped before anything is timed.
+fn read_list<R: Files + AllocGlobal>(rt: &R, path: &str) -> Result<CooMatrix<W64>, Failure> {
+    let text = fs::read_to_string(rt, path)?;
+    Ok(load_coo_from_matrix_market_str(rt.alloc(), text.as_str())?)
 }
 
 // One run: its nanoseconds, and the answer.
