@@ -15,5 +15,6 @@ pub mod WholeNumbers
 pub mod KeyCounts
 pub mod StableOrders
 pub mod Transposes
+mod Placing
 pub mod DenseLemmas
 pub mod BlockLemmas

@@ -1,6 +1,7 @@
 -- The transpose of a pattern.
-use Rattle.std.specs.Prelude.{◌≡◌, ℕ, ◌+◌, ◌<◌, ◌≤◌, ◌↔◌, List, length, slice_index}
-use Rattle.sparse_base.specs.Raw.{Raw, IsInLane, IsPlace}
+use Rattle.std.specs.Prelude.{◌≡◌, ℕ, ◌+◌, ◌<◌, ◌≤◌, ◌↔◌, List, length, slice_get, slice_index}
+use Rattle.sparse_base.specs.Raw.{Raw, IsInLane, IsPlace, start_of, end_of}
+use Rattle.sparse_base.specs.Counting.{slot_of}
 
 -- t has the sizes of d exchanged, and (j, i) is a place exactly where (i, j) is one of d
 pub record IsTransposedPattern (d t : Raw) : Type 0 where
@@ -8,11 +9,17 @@ pub record IsTransposedPattern (d t : Raw) : Type 0 where
   pub minor_dim : t.minor_dim ≡ d.major_dim
   pub places : (i j : ℕ) → IsPlace t j i ↔ IsPlace d i j
 
--- for each position of t, the position in d of the exchanged pair
-pub record ArePositionsIn (d t : Raw) (positions : List ℕ) : Type 0 where
-  pub count : length positions ≡ length t.indices
-  pub inside : (q : ℕ) → q < length t.indices → slice_index positions q < length d.indices
-  pub exchanged : (i j q : ℕ) → IsInLane t j q → slice_index t.indices q ≡ i → IsInLane d i (slice_index positions q) × (slice_index d.indices (slice_index positions q) ≡ j)
+-- ws has for the place (j, i) of t what vs has for the place (i, j) of d
+abbrev pub AreTransposedValues : {T : Type 0} → Raw → Raw → List T → List T → Type 0
+AreTransposedValues d t vs ws = (i j p q : ℕ) → IsInLane d i p → slice_index d.indices p ≡ j → IsInLane t j q → slice_index t.indices q ≡ i → slice_get ws q ≡ slice_get vs p
+
+-- the positions below p, each with its lane at the slot of its index
+abbrev pub AreLanesBelow : Raw → List ℕ → ℕ → Type 0
+AreLanesBelow d lanes p = (i q : ℕ) → i < d.major_dim → start_of d i ≤ q → q < end_of d i → q < p → slice_index lanes (slot_of d.indices q) ≡ i
+
+-- the positions below p, each with its value at the slot of its key
+abbrev pub AreValuesBelow : {T : Type 0} → List ℕ → List T → List T → ℕ → Type 0
+AreValuesBelow keys vs ws p = (q : ℕ) → q < p → slice_get ws (slot_of keys q) ≡ slice_get vs q
 
 -- n lanes begin at the first n offsets, and each ends where the next one begins
 pub record AreLaneOffsets (n : ℕ) (offsets : List ℕ) : Type 0 where
