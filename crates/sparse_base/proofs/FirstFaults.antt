@@ -1,10 +1,10 @@
 -- Data that is free of faults so far, and the first fault from there.
-use Rattle.std.proofs.Common.{◌≡◌, ℕ, ◌+◌, ◌-◌, ◌<◌, ◌≤◌, ◌⊎◌, inl, inr, length, slice_index, refl, arith, sym}
-use Rattle.sparse_base.specs.Raw.{Raw, start_of, end_of, IsInLane, IsValidLane, IsValid}
+use Rattle.std.proofs.Common.{◌≡◌, ℕ, ◌+◌, ◌-◌, ◌<◌, ◌≤◌, ◌⊎◌, inl, inr, length, slice_index, refl, arith}
+use Rattle.sparse_base.specs.Raw.{Raw, start_of, end_of, IsInLane, IsValidLane}
 use Rattle.sparse_base.specs.FirstFault.{IsBefore}
 use Rattle.sparse_base.specs.PatternFaults.{Spot, OffsetCount, FirstLast, LaneEnd, Bound, Fall, Repeat, rank_of, HasFault, IsFirstFault, IsRisingBelow, IsFirstAmong}
 use Rattle.sparse_base.specs.declared.pattern.faults.SparsityPatternFormatError.{SparsityPatternFormatError}
-use Rattle.sparse_base.specs.declared.pattern.faults.SparsityPatternFormatError.TheVariants.{NonmonotonicOffsets, MinorIndexOutOfBounds, DuplicateEntry, NonmonotonicMinorIndices}
+use Rattle.sparse_base.specs.declared.pattern.faults.SparsityPatternFormatError.TheVariants.{NonmonotonicOffsets}
 
 -- the number of offsets, the first and the last have no fault, nor have the lanes below i
 pub record LanesFine (d : Raw) (i : ℕ) : Type 0 where

@@ -1,8 +1,8 @@
 -- The pairs in lane order are the places.
-use Rattle.std.proofs.Common.{◌≡◌, ℕ, zero, suc, ◌+◌, ◌-◌, ◌<◌, ◌≤◌, ◌⊎◌, inl, inr, ◌↔◌, List, [], ◌∷◌, ◌++◌, length, get_or, map, slice_index, slice_range, Contains, ap, subst, sym, ◌∙◌, refl, arith, length-append}
+use Rattle.std.proofs.Common.{◌≡◌, ℕ, zero, suc, ◌+◌, ◌<◌, ◌≤◌, ◌⊎◌, inl, inr, ◌↔◌, List, [], ◌∷◌, length, get_or, slice_index, Contains, ap, subst, arith, length-append}
 use Rattle.std.proofs.lemmas.List.{length-map}
 use Rattle.std.proofs.lemmas.List.Elements.{Contains-append_left, Contains-append_right, Contains-append_cases}
-use Rattle.sparse_base.specs.Raw.{Raw, start_of, end_of, lane_of, IsValid, IsPlace, entries_from, entries_of, paired}
+use Rattle.sparse_base.specs.Raw.{Raw, start_of, lane_of, IsValid, IsPlace, entries_from, entries_of, paired}
 use Rattle.sparse_base.proofs.Lanes.{length-lane}
 use Rattle.sparse_base.proofs.SamePlaces.{Has, has_head, has_later, has_cases, has_from_place, place_from_has}
 

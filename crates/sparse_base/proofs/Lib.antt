@@ -14,6 +14,7 @@ pub mod RingMapLemmas
 pub mod WholeNumbers
 pub mod KeyCounts
 pub mod StableOrders
+pub mod CountLemmas
 pub mod Transposes
 mod Placing
 pub mod DenseLemmas

@@ -1,11 +1,11 @@
 -- Valid data is the same where its sizes and places are.
-use Rattle.std.proofs.Common.{◌≡◌, ℕ, zero, suc, ◌+◌, ◌-◌, ◌<◌, ◌≤◌, ◌⊎◌, inl, inr, ◌↔◌, List, [], ◌∷◌, length, get_or, ap, subst, sym, ◌∙◌, refl, arith, Bool, true, false, ◌&&◌, IsTrue, Decides, eqb, rules}
+use Rattle.std.proofs.Common.{◌≡◌, ℕ, zero, suc, ◌+◌, ◌-◌, ◌<◌, ◌≤◌, ◌⊎◌, inl, inr, ◌↔◌, List, [], ◌∷◌, length, get_or, ap, subst, sym, ◌∙◌, refl, arith, Bool, true, false, ◌&&◌, IsTrue, rules}
 use Rattle.std.specs.Cmp.{IsEquivalence}
 use Rattle.std.specs.Cmp.Rules.{comparing}
 use Rattle.std.proofs.lemmas.Slice.Eq.{bytes_eq-Decides}
-use Rattle.std.proofs.lemmas.Grind.{common_steps, same_number_lists}
-use Rattle.std.proofs.lemmas.Bool.Decides.{Decides-eqb, nat_tests}
-use Rattle.sparse_base.specs.Raw.{Raw, raw_of, raw_eq, start_of, end_of, lane_of, IsInLane, IsValidLane, IsValid, IsPlace, HasSamePlaces}
+use Rattle.std.proofs.lemmas.Grind.{same_number_lists}
+use Rattle.std.proofs.lemmas.Bool.Decides.{Decides-eqb}
+use Rattle.sparse_base.specs.Raw.{Raw, raw_of, raw_eq, start_of, end_of, lane_of, IsValidLane, IsValid, IsPlace, HasSamePlaces}
 use Rattle.sparse_base.proofs.Lanes.{length-lane, get_or-lane, lane_rises}
 
 -- x is in the list

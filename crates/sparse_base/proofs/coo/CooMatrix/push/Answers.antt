@@ -1,4 +1,4 @@
-use Rattle.std.proofs.Common.{arith, ap, ◌∙◌, sym}
+use Rattle.std.proofs.Common.{ap}
 use Rattle.sparse_base.specs.Coo.{coo_of}
 use Rattle.sparse_base.proofs.TripletLists.{triplets-push}
 use Rattle.sparse_base.proofs.coo.CooMatrix.push.Goals as goal

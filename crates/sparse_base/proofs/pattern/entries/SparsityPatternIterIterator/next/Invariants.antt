@@ -1,5 +1,5 @@
-use Rattle.std.proofs.Common.{◌≡◌, ◌+◌, ◌-◌, length}
-use Rattle.sparse_base.specs.Rest.{rest_of, IsOrderedOffsets}
+use Rattle.std.proofs.Common.{◌≡◌, ◌-◌, length}
+use Rattle.sparse_base.specs.Rest.{rest_of}
 use Rattle.sparse_base.proofs.pattern.entries.SparsityPatternIterIterator.next.Given as goal
 
 abbrev pub invariant-loop-left : goal.invariant-loop-left
