@@ -1,5 +1,5 @@
 -- Compressed matrices as plain matrices.
-use Rattle.std.proofs.Common.{◌≡◌, ◌≢◌, ℕ, zero, suc, ◌+◌, ◌-◌, ◌<◌, ◌≤◌, ◌⊎◌, inl, inr, ◌↔◌, Bool, true, false, ◌&&◌, List, [], ◌∷◌, ◌++◌, length, get_or, map, Contains, slice_index, ap, sym, subst, ◌∙◌, refl, arith, length-append}
+use Rattle.std.proofs.Common.{◌≡◌, ℕ, zero, suc, ◌+◌, ◌-◌, ◌<◌, ◌≤◌, ◌⊎◌, inl, inr, ◌↔◌, Bool, true, false, ◌&&◌, List, [], ◌∷◌, ◌++◌, length, get_or, map, Contains, slice_index, ap, sym, subst, ◌∙◌, refl, arith}
 use Rattle.std.specs.Prelude.{nat_eq, ◌||◌}
 use Rattle.std.specs.List.{list_any}
 use Rattle.std.proofs.lemmas.Grind.{common_steps}
@@ -14,7 +14,6 @@ use Rattle.sparse_cs.specs.Compressed.{Compressed, IsSound, zip_values, IsPositi
 use Rattle.std.specs.Cmp.Lexicographic.{pointwise}
 use Rattle.sparse_base.specs.Raw.{raw_eq, HasSamePlaces}
 use Rattle.sparse_base.proofs.SamePlaces.{places_decide, same_from_places}
-use Rattle.std.proofs.Common.{IsTrue}
 use Rattle.sparse_base.specs.Plain.{Plain, IsProper, is_at, plain_of_triplets}
 use Rattle.sparse_cs.specs.Forms.{plain_of_rows}
 use Rattle.sparse_base.proofs.PlainLemmas.{same_plain, same_bool}

@@ -1,9 +1,9 @@
 -- The first fault of arrays whose lanes needn't be sorted.
-use Rattle.std.proofs.Common.{◌≡◌, ℕ, ◌+◌, ◌<◌, ◌≤◌, ◌⊎◌, inl, inr, List, length, slice_index, All, Any, refl, arith}
+use Rattle.std.proofs.Common.{◌≡◌, ℕ, ◌+◌, ◌<◌, ◌≤◌, ◌⊎◌, inl, inr, List, length, All, Any, refl, arith}
 use Rattle.sparse_base.specs.Raw.{start_of, end_of, lane_of}
 use Rattle.sparse_base.specs.FirstFault.{IsBefore}
 use Rattle.sparse_base.specs.declared.error.SparseFormatErrorKind.{SparseFormatErrorKind}
-use Rattle.sparse_base.specs.declared.error.SparseFormatErrorKind.TheVariants.{IndexOutOfBounds, DuplicateEntry, InvalidStructure}
+use Rattle.sparse_base.specs.declared.error.SparseFormatErrorKind.TheVariants.{IndexOutOfBounds, InvalidStructure}
 use Rattle.sparse_cs.specs.Compressed.{Compressed}
 use Rattle.sparse_cs.specs.LaneSorting.{IsLaneFault}
 use Rattle.sparse_cs.specs.UnsortedFaults.{UnsortedSpot, ValueCount, NoOffsets, OffsetCount, FirstLast, LaneFall, LaneEnd, LaneBounds, LaneRepeat, unsorted_rank, HasRepeat, HasUnsortedFault, HasFineCounts, IsFaultless, IsUnsortedRefusal}

@@ -1,13 +1,12 @@
 -- Arrays whose offsets and indices count up and whose values are ones stand for the identity.
-use Rattle.std.proofs.Common.{◌≡◌, ℕ, ◌+◌, ◌<◌, ◌≤◌, ◌↔◌, Bool, true, false, ◌&&◌, List, length, get_or, ap, sym, ◌∙◌, refl, subst, arith}
+use Rattle.std.proofs.Common.{◌≡◌, ℕ, ◌+◌, ◌<◌, ◌↔◌, true, ◌&&◌, List, get_or, ap, sym, ◌∙◌, refl, arith}
 use Rattle.std.specs.Prelude.{nat_eq, nat_lt}
-use Rattle.std.proofs.lemmas.Bool.Decides.{Decides-eqb, nat_tests}
+use Rattle.std.proofs.lemmas.Bool.Decides.{nat_tests}
 use Rattle.sparse_base.specs.Algebra.{CommRing}
-use Rattle.sparse_base.specs.Sums.{where_true}
-use Rattle.sparse_base.specs.Raw.{Raw, raw_of, start_of, end_of, IsInLane, IsPlace}
-use Rattle.sparse_base.specs.Plain.{Plain, plain_identity}
+use Rattle.sparse_base.specs.Raw.{raw_of, IsInLane, IsPlace}
+use Rattle.sparse_base.specs.Plain.{plain_identity}
 use Rattle.sparse_base.proofs.PlainLaws.{proper_identity}
-use Rattle.sparse_cs.specs.Compressed.{Compressed, arrays_of, IsSound, IsPosition}
+use Rattle.sparse_cs.specs.Compressed.{arrays_of, IsSound}
 use Rattle.sparse_cs.specs.Forms.{plain_of_rows}
 use Rattle.sparse_cs.proofs.Arrays.{stands, where_yes}
 

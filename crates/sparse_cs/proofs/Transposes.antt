@@ -4,25 +4,21 @@ use Rattle.std.specs.Prelude.{unwrap_or}
 use Rattle.std.proofs.lemmas.List.{same_lists}
 use Rattle.std.proofs.lemmas.Option.{unwrap_or-slice_get}
 use Rattle.sparse_base.specs.Algebra.{CommRing}
-use Rattle.sparse_base.specs.Raw.{Raw, IsValid}
+use Rattle.sparse_base.specs.Raw.{Raw}
 use Rattle.sparse_base.specs.Plain.{plain_transpose}
-use Rattle.sparse_base.specs.Transposed.{IsTransposedPattern, ArePositionsIn}
+use Rattle.sparse_base.specs.Transposed.{IsTransposedPattern, AreTransposedValues}
 use Rattle.sparse_base.proofs.SamePlaces.{same_from_places}
 use Rattle.sparse_cs.specs.Compressed.{Compressed, compressed_of, IsSound, IsPosition}
 use Rattle.sparse_cs.specs.Forms.{plain_of_rows}
 use Rattle.sparse_cs.specs.Transposed.{IsTranspose}
-use Rattle.sparse_cs.proofs.Arrays.{position_within, one_position, lane_of_position, value_at_position, has_is_place, stands, proper_rows}
+use Rattle.sparse_cs.proofs.Arrays.{lane_of_position, value_at_position, has_is_place, stands, proper_rows}
 
 module _ {T : Type 0} where
-  -- values gathered at the positions of a transposed pattern
-  pub gathered : (m : Compressed T) (t : Raw) (positions : List ℕ) (values : List T) → IsValid m.pattern → IsValid t → IsTransposedPattern m.pattern t → ArePositionsIn m.pattern t positions
-      → ((q : ℕ) → q < length positions → slice_get values q ≡ slice_get m.values (slice_index positions q))
-      → IsTranspose m (compressed_of t values)
-  gathered m t positions values valid valid' transposed are read = record {
+  -- a transposed pattern with its values
+  pub with_values : (m : Compressed T) (t : Raw) (values : List T) → IsTransposedPattern m.pattern t → AreTransposedValues m.pattern t m.values values → IsTranspose m (compressed_of t values)
+  with_values m t values transposed moved = record {
     pattern = transposed;
-    values = λ i j p q here there.
-        let same = one_position m.pattern valid i j (slice_index positions q) p (are.exchanged i j q there.0 there.1) here in
-        read q (omega (arith, are.count, position_within t valid' j i q there)) ∙ ap (slice_get m.values) same;
+    values = λ i j p q here there. moved i j p q here.0 here.1 there.0 there.1;
   }
 
   -- lists that have the same element at a position

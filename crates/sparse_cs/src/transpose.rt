@@ -5,22 +5,18 @@ ghost use Rattle.sparse_cs.specs.Compressed.{IsSound};
 ghost use Rattle.sparse_cs.specs.Transposed.{IsTranspose};
 
 use crate::CsMatrix;
-use sparse_base::counting::{gather, order_by};
 use std::alloc::{AllocError, Global};
 
 impl<T: Copy> CsMatrix<T> {
     /// The matrix with sizes and places exchanged: it has at (j, i) the value of (i, j), zeros among them.
     ///
-    /// It takes time in the number of places and of lanes in both directions. Memory is needed for the result, and for a number for each
-    /// place and for each new lane.
+    /// It takes time in the number of places and of lanes in both directions. Memory is needed for the result, and for a count for each
+    /// new lane.
     pub fn transpose(&self, alloc: Global) -> Result<Self, AllocError>
         ensures transposed { IfOk result (IsTranspose self.now) }
         ensures sound { IfOk result IsSound }
     {
-        let pattern = self.pattern();
-        let (offsets, positions) = order_by(alloc, pattern.minor_indices(), pattern.minor_dim())?;
-        let values = gather(alloc, &positions, self.values())?;
-        let transposed = pattern.transpose_in_order(alloc, offsets, positions)?;
+        let (transposed, values) = self.pattern().transpose_with(alloc, self.values())?;
         Ok(CsMatrix::from_pattern_and_values(transposed, values))
     }
 }

@@ -1,4 +1,4 @@
-use Rattle.std.proofs.Common.{rules, ◌≡◌, ℕ, List, length, take, drop, ◌++◌, ◌-◌, ap, ◌∙◌, arith}
+use Rattle.std.proofs.Common.{rules, ◌-◌, ap, ◌∙◌}
 use Rattle.std.proofs.lemmas.List.{places}
 use Rattle.sparse_cs.specs.Compressed.{compressed_of}
 use Rattle.sparse_cs.specs.Lanes.{lanes_of}
