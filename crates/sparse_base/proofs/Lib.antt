@@ -16,6 +16,6 @@ pub mod KeyCounts
 pub mod StableOrders
 pub mod CountLemmas
 pub mod Transposes
-mod Placing
+pub mod Placing
 pub mod DenseLemmas
 pub mod BlockLemmas

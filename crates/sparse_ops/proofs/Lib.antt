@@ -1,5 +1,4 @@
 pub mod Cases
-pub mod Counts
 pub mod Placing
 pub mod Sorting
 pub mod IndexSums
