@@ -1,5 +1,5 @@
 -- The transpose of a pattern.
-use Rattle.std.specs.Prelude.{◌≡◌, ℕ, ◌+◌, ◌<◌, ◌≤◌, ◌↔◌, List, length, slice_get, slice_index}
+use Rattle.std.specs.Prelude.{◌≡◌, ℕ, ◌<◌, ◌≤◌, ◌↔◌, List, slice_get, slice_index}
 use Rattle.sparse_base.specs.Raw.{Raw, IsInLane, IsPlace, start_of, end_of}
 use Rattle.sparse_base.specs.Counting.{slot_of}
 
@@ -20,9 +20,3 @@ AreLanesBelow d lanes p = (i q : ℕ) → i < d.major_dim → start_of d i ≤ q
 -- the positions below p, each with its value at the slot of its key
 abbrev pub AreValuesBelow : {T : Type 0} → List ℕ → List T → List T → ℕ → Type 0
 AreValuesBelow keys vs ws p = (q : ℕ) → q < p → slice_get ws (slot_of keys q) ≡ slice_get vs q
-
--- n lanes begin at the first n offsets, and each ends where the next one begins
-pub record AreLaneOffsets (n : ℕ) (offsets : List ℕ) : Type 0 where
-  pub count : length offsets ≡ n + 1
-  pub first : slice_index offsets 0 ≡ 0
-  pub ordered : (i : ℕ) → i < n → slice_index offsets i ≤ slice_index offsets (i + 1)
