@@ -1,9 +1,11 @@
 pub mod RingLemmas
 pub mod SumLemmas
 pub mod Lanes
+pub mod Positions
 pub mod LaneOrder
 pub mod SamePlaces
 pub mod NextLane
+pub mod Packing
 pub mod TripletLists
 mod FirstTripletFault
 pub mod TripletRuns

@@ -1,6 +1,6 @@
 -- The transpose of a pattern.
-use Rattle.std.specs.Prelude.{◌≡◌, ℕ, ◌<◌, ◌≤◌, ◌↔◌, List, slice_get, slice_index}
-use Rattle.sparse_base.specs.Raw.{Raw, IsInLane, IsPlace, start_of, end_of}
+use Rattle.std.specs.Prelude.{◌≡◌, ℕ, ◌+◌, ◌*◌, ◌^◌, ◌<◌, ◌↔◌, List, slice_get, slice_index}
+use Rattle.sparse_base.specs.Raw.{Raw, IsInLane, IsPlace}
 use Rattle.sparse_base.specs.Counting.{slot_of}
 
 -- t has the sizes of d exchanged, and (j, i) is a place exactly where (i, j) is one of d
@@ -13,9 +13,21 @@ pub record IsTransposedPattern (d t : Raw) : Type 0 where
 abbrev pub AreTransposedValues : {T : Type 0} → Raw → Raw → List T → List T → Type 0
 AreTransposedValues d t vs ws = (i j p q : ℕ) → IsInLane d i p → slice_index d.indices p ≡ j → IsInLane t j q → slice_index t.indices q ≡ i → slice_get ws q ≡ slice_get vs p
 
--- the positions below p, each with its lane at the slot of its index
+-- the positions q below p, each with the number of its lane i and of itself at the slot of its index
+abbrev pub AreNumbersBelow : (ℕ → ℕ → ℕ) → Raw → List ℕ → ℕ → Type 0
+AreNumbersBelow number d xs p = (i q : ℕ) → IsInLane d i q → q < p → slice_index xs (slot_of d.indices q) ≡ number i q
+
+-- with its lane
 abbrev pub AreLanesBelow : Raw → List ℕ → ℕ → Type 0
-AreLanesBelow d lanes p = (i q : ℕ) → i < d.major_dim → start_of d i ≤ q → q < end_of d i → q < p → slice_index lanes (slot_of d.indices q) ≡ i
+AreLanesBelow = AreNumbersBelow (λ i q. i)
+
+-- a lane and a position as one word, the lane in its upper half
+abbrev pub word_of : ℕ → ℕ → ℕ
+word_of i q = i * 2 ^ 32 + q
+
+-- with its lane and itself as one word
+abbrev pub AreWordsBelow : Raw → List ℕ → ℕ → Type 0
+AreWordsBelow = AreNumbersBelow word_of
 
 -- the positions below p, each with its value at the slot of its key
 abbrev pub AreValuesBelow : {T : Type 0} → List ℕ → List T → List T → ℕ → Type 0

@@ -8,7 +8,8 @@ use Rattle.sparse_base.specs.Algebra.{CommRing}
 use Rattle.sparse_base.specs.Sums.{sum_by, where_true}
 use Rattle.sparse_base.proofs.RingLemmas.{zero_add}
 use Rattle.sparse_base.specs.Raw.{Raw, start_of, end_of, lane_of, IsInLane, IsValid, IsPlace, entries_from, entries_of, paired}
-use Rattle.sparse_base.proofs.Lanes.{rises_at, length-lane, get_or-lane}
+use Rattle.sparse_base.proofs.Lanes.{length-lane, get_or-lane}
+use Rattle.sparse_base.proofs.Positions.{starts_ordered, one_position, lane_of_position}
 use Rattle.sparse_base.proofs.LaneOrder.{length-entries, entries_are_places}
 use Rattle.sparse_cs.specs.Compressed.{Compressed, IsSound, zip_values, IsPosition, compressed_eq}
 use Rattle.std.specs.Cmp.Lexicographic.{pointwise}
@@ -32,52 +33,6 @@ module _ (d : Raw) (valid : IsValid d) where
   pub position_within : (i j p : ℕ) → IsPosition d i j p → p < length d.indices
   position_within i j p h = omega (arith, (valid.lanes i h.0.lane).inside, h.0.to)
 
-  starts_rise : (i n : ℕ) → i + n ≤ d.major_dim → start_of d i ≤ start_of d (i + n)
-  starts_rise i zero le = let e : i ≡ i + zero = omega arith in subst (λ k. start_of d i ≤ start_of d k) e (omega arith)
-  starts_rise i (suc n) le =
-      let before = starts_rise i n (omega arith) in
-      let step = (valid.lanes (i + n) (omega arith)).ordered in
-      let e : i + n + 1 ≡ i + suc n = omega arith in
-      subst (λ k. start_of d i ≤ start_of d k) e (omega (arith, before, step))
-
-  pub starts_ordered : (i k : ℕ) → i ≤ k → k ≤ d.major_dim → start_of d i ≤ start_of d k
-  starts_ordered i k lt le =
-      let e : i + (k - i) ≡ k = omega arith in
-      subst (λ l. start_of d i ≤ start_of d l) e (starts_rise i (k - i) (omega arith))
-
-  pub one_lane : (i k p : ℕ) → IsInLane d i p → IsInLane d k p → i ≡ k
-  one_lane i k p h g = elim (three i k) [
-    | inl lt ↦ absurd (omega (arith, starts_ordered (i + 1) k (omega arith) (omega (arith, g.lane)), h.to, g.from))
-    | inr rest ↦ elim rest [
-      | inl gt ↦ absurd (omega (arith, starts_ordered (k + 1) i (omega arith) (omega (arith, h.lane)), g.to, h.from))
-      | inr same ↦ same
-    ]
-  ]
-
-  pub one_position : (i j p q : ℕ) → IsPosition d i j p → IsPosition d i j q → p ≡ q
-  one_position i j p q h g =
-      let lane = valid.lanes i h.0.lane in
-      elim (three p q) [
-        | inl lt ↦ absurd (omega (arith, rises_at d i lane p q h.0.from lt g.0.to, h.1, g.1))
-        | inr rest ↦ elim rest [
-          | inl gt ↦ absurd (omega (arith, rises_at d i lane q p g.0.from gt h.0.to, h.1, g.1))
-          | inr same ↦ same
-        ]
-      ]
-
-  -- each position is in a lane
-  lane_before : (n q : ℕ) → n ≤ d.major_dim → q < start_of d n → (l : ℕ) × IsInLane d l q
-  lane_before zero q le lt = absurd (omega (arith, valid.first))
-  lane_before (suc n) q le lt = elim (lt_or_ge q (start_of d n)) [
-    | inl below ↦ lane_before n q (omega arith) below
-    | inr from ↦
-        let e : suc n ≡ n + 1 = omega arith in
-        (n, record { lane = omega arith; from = from; to = rw e at lt })
-  ]
-
-  pub lane_of_position : (q : ℕ) → q < length d.indices → (l : ℕ) × IsInLane d l q
-  lane_of_position q lt = lane_before d.major_dim q (omega arith) (omega (arith, valid.last))
-
   -- the entry at a position of lane i
   entry_from : (k n i p : ℕ) → k + n ≡ d.major_dim → k ≤ i → IsInLane d i p → get_or (entries_from d.offsets d.indices k n) (p - start_of d k) (0, 0) ≡ (i, slice_index d.indices p)
   entry_from k zero i p e le h = absurd (omega (arith, h.lane))
@@ -85,11 +40,11 @@ module _ (d : Raw) (valid : IsValid d) where
       let lane = valid.lanes k (omega arith) in
       let front = paired k (lane_of d k) in
       let rest = entries_from d.offsets d.indices (k + 1) n in
-      let low = starts_ordered k i le (omega (arith, h.lane)) in
+      let low = starts_ordered d valid k i le (omega (arith, h.lane)) in
       let long : length front ≡ end_of d k - start_of d k = grind (arith, common_steps, length-lane d k lane) in
       elim (three k i) [
         | inl lt ↦
-            let after = starts_ordered (k + 1) i (omega arith) (omega (arith, h.lane)) in
+            let after = starts_ordered d valid (k + 1) i (omega arith) (omega (arith, h.lane)) in
             let ih = entry_from (k + 1) n i p (omega arith) (omega arith) h in
             let off : length front ≤ p - start_of d k = omega (arith, long, h.from, after, lane.ordered) in
             let less : p - start_of d k - length front ≡ p - start_of d (k + 1) = omega (arith, long, h.from, after, lane.ordered) in
@@ -116,7 +71,7 @@ module _ (d : Raw) (valid : IsValid d) where
 
   pub position_of_entry : (i j q : ℕ) → q < length d.indices → get_or (entries_of d) q (0, 0) ≡ (i, j) → IsPosition d i j q
   position_of_entry i j q lt is =
-      let l = lane_of_position q lt in
+      let l = lane_of_position d valid q lt in
       let pair = sym (entry_at l.0 q l.1) ∙ is in
       let row : l.0 ≡ i = ap (λ x. x.0) pair in
       (subst (λ k. IsInLane d k q) row l.1, ap (λ x. x.1) pair)
@@ -235,7 +190,7 @@ module _ (R : CommRing) {T : Type 0} (f : T → R.Carrier) (d : Raw) (valid : Is
   value_at_position z i j p h =
       let long = length-entries d valid in
       one_named R f i j p z (entries_of d) vs (long ∙ sym count) (omega (arith, long, position_within d valid i j p h)) (entry_at d valid i p h.0 ∙ ap (λ x. (i, x)) h.1)
-      (λ q lt is. sym (one_position d valid i j p q h (position_of_entry d valid i j q (omega (arith, long, lt)) is)))
+      (λ q lt is. let there = position_of_entry d valid i j q (omega (arith, long, lt)) is in sym (one_position d valid i p q h.0 there.0 (h.1 ∙ sym there.1)))
 
   pub has_is_place : (i j : ℕ) → (list_any (is_at i j) (zip_values (entries_of d) vs) ≡ true) ↔ IsPlace d i j
   has_is_place i j =

@@ -3,7 +3,8 @@ use Rattle.std.proofs.Common.{◌≡◌, ℕ, zero, suc, ◌<◌, List, [], ◌�
 use Rattle.sparse_base.specs.Raw.{entries_of}
 use Rattle.sparse_base.proofs.LaneOrder.{length-entries}
 use Rattle.sparse_cs.specs.Compressed.{Compressed, IsSound, zip_values, lane_triplets}
-use Rattle.sparse_cs.proofs.Arrays.{entry_at, lane_of_position}
+use Rattle.sparse_base.proofs.Positions.{lane_of_position}
+use Rattle.sparse_cs.proofs.Arrays.{entry_at}
 
 module _ {T : Type 0} where
   length-zip : (ps : List (ℕ × ℕ)) (vs : List T) → length ps ≡ length vs → length (zip_values ps vs) ≡ length vs

@@ -13,7 +13,8 @@ use Rattle.sparse_base.proofs.Lanes.{lane_rises}
 use Rattle.sparse_base.proofs.LaneOrder.{length-entries}
 use Rattle.sparse_cs.specs.Compressed.{Compressed, IsSound, zip_values, lane_triplets}
 use Rattle.sparse_cs.specs.Forms.{meant, plain_of_rows}
-use Rattle.sparse_cs.proofs.Arrays.{has_is_place, value_at_position, entry_at, lane_of_position}
+use Rattle.sparse_base.proofs.Positions.{lane_of_position}
+use Rattle.sparse_cs.proofs.Arrays.{has_is_place, value_at_position, entry_at}
 
 -- ---- the numbers below n that pass a test
 

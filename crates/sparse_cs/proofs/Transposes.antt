@@ -11,7 +11,8 @@ use Rattle.sparse_base.proofs.SamePlaces.{same_from_places}
 use Rattle.sparse_cs.specs.Compressed.{Compressed, compressed_of, IsSound, IsPosition}
 use Rattle.sparse_cs.specs.Forms.{plain_of_rows}
 use Rattle.sparse_cs.specs.Transposed.{IsTranspose}
-use Rattle.sparse_cs.proofs.Arrays.{lane_of_position, value_at_position, has_is_place, stands, proper_rows}
+use Rattle.sparse_base.proofs.Positions.{lane_of_position}
+use Rattle.sparse_cs.proofs.Arrays.{value_at_position, has_is_place, stands, proper_rows}
 
 module _ {T : Type 0} where
   -- a transposed pattern with its values

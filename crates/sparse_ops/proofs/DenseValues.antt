@@ -21,7 +21,8 @@ use Rattle.sparse_base.proofs.RingLemmas.{zero_add}
 use Rattle.sparse_cs.specs.Compressed.{Compressed, IsSound, zip_values, lane_triplets, turned}
 use Rattle.sparse_cs.specs.Entries.{place_of}
 use Rattle.sparse_cs.specs.Forms.{plain_of_coo, plain_of_rows, plain_of_cols}
-use Rattle.sparse_cs.proofs.Arrays.{two, where_yes, where_no, unnamed, named, pairs_of-triplets, pair_is, test_yes, position_within, one_position, entry_at, position_of_entry, value_at_position, proper_rows, proper_triplets}
+use Rattle.sparse_base.proofs.Positions.{one_position}
+use Rattle.sparse_cs.proofs.Arrays.{two, where_yes, where_no, unnamed, named, pairs_of-triplets, pair_is, test_yes, position_within, entry_at, position_of_entry, value_at_position, proper_rows, proper_triplets}
 use Rattle.sparse_cs.proofs.Arrays.{value_at as sum_at}
 use Rattle.sparse_cs.proofs.Inside.{lane_triplets-inside}
 use Rattle.sparse_cs.proofs.LaneSearch.{place_of_is_position}
@@ -79,7 +80,7 @@ module _ {T : Type 0} where
           let at = (place_of_is_position d sound.valid i j p).0 some.1 in
           let long = length-entries d sound.valid in
           rw some.1 (written_once i j p zero_value zero_value (entries_of d) m.values (long ∙ sym sound.count) (omega (arith, long, position_within d sound.valid i j p at)) (entry_at d sound.valid i p at.0 ∙ ap (λ x. (i, x)) at.1)
-          (λ q lt is. sym (one_position d sound.valid i j p q at (position_of_entry d sound.valid i j q (omega (arith, long, lt)) is))))
+          (λ q lt is. let there = position_of_entry d sound.valid i j q (omega (arith, long, lt)) is in sym (one_position d sound.valid i p q at.0 there.0 (at.1 ∙ sym there.1))))
     ]
 
     pub rows_written : (rest : List (ℕ × ℕ × T)) (d : Dense T) → rest ≡ [] → IsWritten replaced (λ v. v) zero_value m.pattern.major_dim m.pattern.minor_dim (lane_triplets m) rest d → IsDenseOfRows zero_value m d

@@ -9,7 +9,8 @@ use Rattle.sparse_base.proofs.PlainLemmas.{any_is, proper_product}
 use Rattle.sparse_base.proofs.Lanes.{length-lane, get_or-lane, lane_rises}
 use Rattle.sparse_cs.specs.Compressed.{Compressed, IsSound, IsPosition}
 use Rattle.sparse_cs.specs.Forms.{plain_of_rows}
-use Rattle.sparse_cs.proofs.Arrays.{two, proper_rows, has_is_place, starts_ordered}
+use Rattle.sparse_base.proofs.Positions.{starts_ordered}
+use Rattle.sparse_cs.proofs.Arrays.{two, proper_rows, has_is_place}
 use Rattle.sparse_ops.specs.Products.{IsProductOf}
 use Rattle.sparse_ops.proofs.LaneLists.{lane_has}
 use Rattle.sparse_ops.proofs.LanePush.{below_or_last}

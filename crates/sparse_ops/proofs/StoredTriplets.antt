@@ -8,7 +8,8 @@ use Rattle.sparse_base.specs.Plain.{plain_of_triplets, plain_transpose}
 use Rattle.sparse_base.specs.Raw.{Raw, IsValid, entries_of}
 use Rattle.sparse_base.proofs.LaneOrder.{length-entries}
 use Rattle.sparse_cs.specs.Compressed.{Compressed, IsSound, zip_values, lane_triplets, turned}
-use Rattle.sparse_cs.proofs.Arrays.{entry_at, lane_of_position}
+use Rattle.sparse_base.proofs.Positions.{lane_of_position}
+use Rattle.sparse_cs.proofs.Arrays.{entry_at}
 use Rattle.sparse_cs.proofs.Inside.{lane_triplets-inside}
 use Rattle.sparse_ops.proofs.Compressing.{zip_of_parts}
 use Rattle.sparse_ops.proofs.TurnedTriplets.{plain_of_turned}
