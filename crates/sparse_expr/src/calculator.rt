@@ -41,7 +41,8 @@ pub fn run<W: Sink>(
 ) -> Result<(), ExprError>
     ensures written { OnOk result (Writes form (texts sources.now) expr.now (W.taken out.old) (W.taken out.new)) }
     ensures none_failed { OnOk result (W.failures out.new ≡ W.failures out.old) }
-    ensures refused { IfErr result (RefusesRun form (texts sources.now) expr.now (effect (W.taken out.old) (W.taken out.new) (W.failures out.old) (W.failures out.new) (W.last out.new))) }
+    ensures refused { IfErr result (RefusesRun form (texts sources.now) expr.now
+        (effect (W.taken out.old) (W.taken out.new) (W.failures out.old) (W.failures out.new) (W.last out.new))) }
 {
     let inputs = load_all(alloc, sources)?;
     match form {
@@ -67,7 +68,8 @@ fn load_all(alloc: Global, sources: &[&str]) -> Result<Vec<CooMatrix<W64>>, Expr
 // The list of triplets that the text of this number means.
 fn load(alloc: Global, number: usize, text: &str) -> Result<CooMatrix<W64>, ExprError>
     ensures meant { IfOk result (λ m. Means text.now (Ok (numbers_of m))) }
-    ensures refused { IfErr result (λ e. (e ≡ OutOfMemory) ⊎ ((kind : MatrixMarketErrorKind) × (e ≡ Input number kind) × Means text.now (Err kind))) }
+    ensures refused { IfErr result (λ e. (e ≡ OutOfMemory)
+        ⊎ ((kind : MatrixMarketErrorKind) × (e ≡ Input number kind) × Means text.now (Err kind))) }
 {
     match load_coo_from_matrix_market_str(alloc, text) {
         Ok(matrix) => Ok(matrix),
@@ -84,7 +86,8 @@ fn save_rows<W: Sink>(alloc: Global, matrix: &CsrMatrix<W64>, out: &mut W) -> Re
     ensures all { OnOk result (Appends (W.taken out.old) (W.taken out.new) (rows_text matrix.now)) }
     ensures sound { IsSound matrix.now }
     ensures beginning { OnErr result (AppendsSome (W.taken out.old) (W.taken out.new) (rows_text matrix.now)) }
-    ensures refused { IfErr result (RefusesSave (effect (W.taken out.old) (W.taken out.new) (W.failures out.old) (W.failures out.new) (W.last out.new))) }
+    ensures refused { IfErr result (RefusesSave
+        (effect (W.taken out.old) (W.taken out.new) (W.failures out.old) (W.failures out.new) (W.last out.new))) }
 {
     let _ = matrix.values();
     match save_to_matrix_market(alloc, out, matrix) {

@@ -27,7 +27,8 @@ pub(crate) fn evaluate_rows<T: Ring>(
     expr: &Expr,
     inputs: &[CooMatrix<T>],
 ) -> Result<CsrMatrix<T>, ExprError>
-    ensures { Meets T.ring (λ m. plain_of_rows T.ring T.value m) (value_of T.ring (map (λ m. plain_of_coo T.ring T.value m) inputs.now) expr.now) result }
+    ensures { Meets T.ring (λ m. plain_of_rows T.ring T.value m)
+        (value_of T.ring (map (λ m. plain_of_coo T.ring T.value m) inputs.now) expr.now) result }
 {
     match expr {
         Expr::Input(number) => {

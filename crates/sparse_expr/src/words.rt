@@ -123,7 +123,8 @@ fn operands(stack: &mut Vec<Expr>) -> Result<(Expr, Expr), ExprError>
 // The only tree on the stack.
 fn only_one(mut stack: Vec<Expr>) -> Result<Expr, ExprError>
     ensures one { IfOk result (λ e. stack.items ≡ e ∷ []) }
-    ensures refused { IfErr result (λ e. ((length stack.items ≡ 0) × (e ≡ MissingOperand)) ⊎ ((1 < length stack.items) × (e ≡ LeftOver))) }
+    ensures refused { IfErr result (λ e. ((length stack.items ≡ 0) × (e ≡ MissingOperand))
+        ⊎ ((1 < length stack.items) × (e ≡ LeftOver))) }
 {
     if stack.len() > 1 {
         return Err(ExprError::LeftOver);

@@ -190,7 +190,8 @@ impl<T: Drop> CsrMatrix<T> {
     ) -> Result<Self, SparseFormatError>
         ensures ok { IfOk result (λ m. m ≡ compressed_of pattern values.items) }
         ensures sound { IfOk result IsSound }
-        ensures fault { IfErr result (λ kind. (kind ≡ SparseFormatErrorKind.InvalidStructure) × (length values.items ≢ length pattern.indices)) }
+        ensures fault { IfErr result (λ kind. (kind ≡ SparseFormatErrorKind.InvalidStructure)
+            × (length values.items ≢ length pattern.indices)) }
         ensures taken { length values.items ≡ length pattern.indices → IsOk result }
     {
         match CsMatrix::try_from_pattern_and_values(pattern, values) {

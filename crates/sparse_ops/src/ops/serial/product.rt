@@ -22,7 +22,8 @@ pub fn mul_csr<T: Ring>(
     b: &CsrMatrix<T>,
 ) -> Result<CsrMatrix<T>, AllocError>
     requires { a.now.pattern.minor_dim ≡ b.now.pattern.major_dim }
-    ensures { IfOk result (λ m. plain_of_rows T.ring T.value m ≡ plain_product T.ring (plain_of_rows T.ring T.value a.now) (plain_of_rows T.ring T.value b.now)) }
+    ensures { IfOk result (λ m. plain_of_rows T.ring T.value m
+        ≡ plain_product T.ring (plain_of_rows T.ring T.value a.now) (plain_of_rows T.ring T.value b.now)) }
 {
     let pattern = spmm_csr_pattern(alloc, a.pattern(), b.pattern())?;
     let mut row = Vec::new(alloc);
@@ -41,7 +42,9 @@ fn add_product_row<T: Ring>(a: &CsrMatrix<T>, i: usize, b: &CsrMatrix<T>, row: &
     requires inner { a.now.pattern.minor_dim ≡ b.now.pattern.major_dim }
     requires lane { i < a.now.pattern.major_dim }
     requires width { length row.old ≡ b.now.pattern.minor_dim }
-    ensures { (j : ℕ) → j < length row.old → T.value (slice_index_or row.new j T.zero_value) ≡ T.ring.add (T.value (slice_index_or row.old j T.zero_value)) ((plain_product T.ring (plain_of_rows T.ring T.value a.now) (plain_of_rows T.ring T.value b.now)).value i j) }
+    ensures { (j : ℕ) → j < length row.old → T.value (slice_index_or row.new j T.zero_value)
+        ≡ T.ring.add (T.value (slice_index_or row.old j T.zero_value))
+        ((plain_product T.ring (plain_of_rows T.ring T.value a.now) (plain_of_rows T.ring T.value b.now)).value i j) }
 {
     let offsets = a.row_offsets();
     let (begin, end) = (offsets[i], offsets[i + 1]);
@@ -56,7 +59,9 @@ fn add_product_row<T: Ring>(a: &CsrMatrix<T>, i: usize, b: &CsrMatrix<T>, row: &
 fn add_matrix_row<T: Ring>(scale: T, b: &CsrMatrix<T>, k: usize, row: &mut [T])
     requires lane { k < b.now.pattern.major_dim }
     requires width { length row.old ≡ b.now.pattern.minor_dim }
-    ensures { (j : ℕ) → j < length row.old → T.value (slice_index_or row.new j T.zero_value) ≡ T.ring.add (T.value (slice_index_or row.old j T.zero_value)) (T.ring.mul (T.value scale) ((plain_of_rows T.ring T.value b.now).value k j)) }
+    ensures { (j : ℕ) → j < length row.old → T.value (slice_index_or row.new j T.zero_value)
+        ≡ T.ring.add (T.value (slice_index_or row.old j T.zero_value))
+        (T.ring.mul (T.value scale) ((plain_of_rows T.ring T.value b.now).value k j)) }
 {
     let offsets = b.row_offsets();
     let (begin, end) = (offsets[k], offsets[k + 1]);
@@ -72,7 +77,9 @@ fn add_matrix_row<T: Ring>(scale: T, b: &CsrMatrix<T>, k: usize, row: &mut [T])
 fn add_row<T: Ring>(scale: T, columns: &[usize], values: &[T], row: &mut [T])
     requires fits { length values.now ≡ length columns.now }
     requires inside { All (λ j. j < length row.old) columns.now }
-    ensures { (j : ℕ) → j < length row.old → T.value (slice_index_or row.new j T.zero_value) ≡ T.ring.add (T.value (slice_index_or row.old j T.zero_value)) (T.ring.mul (T.value scale) (lane_value T.ring T.value columns.now values.now j)) }
+    ensures { (j : ℕ) → j < length row.old → T.value (slice_index_or row.new j T.zero_value)
+        ≡ T.ring.add (T.value (slice_index_or row.old j T.zero_value))
+        (T.ring.mul (T.value scale) (lane_value T.ring T.value columns.now values.now j)) }
 {
     for (j, value) in columns.iter().zip(values) {
         let entry = &mut row[*j];
@@ -88,7 +95,8 @@ fn gather_row<T: Ring>(columns: &[usize], row: &mut [T], values: &mut Vec<T>)
     ensures capacity { vec_capacity values.new ≡ vec_capacity values.old }
     ensures gathered { values.new.items ≡ values.old.items ++ map (λ j. slice_index_or row.old j T.zero_value) columns.now }
     ensures cleared { (j : ℕ) → Contains columns.now j → slice_index_or row.new j T.zero_value ≡ T.zero_value }
-    ensures kept { (j : ℕ) → (Contains columns.now j → ⊥) → slice_index_or row.new j T.zero_value ≡ slice_index_or row.old j T.zero_value }
+    ensures kept { (j : ℕ) → (Contains columns.now j → ⊥)
+        → slice_index_or row.new j T.zero_value ≡ slice_index_or row.old j T.zero_value }
 {
     for j in columns {
         values.push_reserved(row[*j]);
