@@ -1,6 +1,6 @@
 pub mod Arrays
-pub mod RowOrder
 pub mod Inside
+pub mod RowOrder
 pub mod FoundEntries
 mod IdentityArrays
 mod Repeats

@@ -14,6 +14,7 @@ use Rattle.sparse_base.proofs.LaneOrder.{length-entries}
 use Rattle.sparse_cs.specs.Compressed.{Compressed, IsSound, zip_values, lane_triplets}
 use Rattle.sparse_cs.specs.Forms.{meant, plain_of_rows}
 use Rattle.sparse_base.proofs.Positions.{lane_of_position}
+use Rattle.sparse_cs.proofs.Inside.{length-lane_triplets}
 use Rattle.sparse_cs.proofs.Arrays.{has_is_place, value_at_position, entry_at}
 
 -- ---- the numbers below n that pass a test
@@ -147,12 +148,6 @@ module _ {T C : Type 0} (f : T → C) (value : ℕ → ℕ → C) where
       let rest = map-zip_values ps vs (omega arith) (λ z k lt. h z (suc k) (omega arith)) in
       ap (λ c. (p.0, p.1, c) ∷ map {B = ℕ × ℕ × C} (λ t. (t.0, t.1, f t.2)) (zip_values ps vs)) (h v 0 (omega arith)) ∙ ap (λ l. (p.0, p.1, value p.0 p.1) ∷ l) rest
 
-length-zip_values : {T : Type 0} (ps : List (ℕ × ℕ)) (vs : List T) → length ps ≡ length vs → length (zip_values ps vs) ≡ length vs
-length-zip_values [] [] e = refl
-length-zip_values [] (v ∷ vs) e = absurd (omega arith)
-length-zip_values (p ∷ ps) [] e = absurd (omega arith)
-length-zip_values (p ∷ ps) (v ∷ vs) e = omega (arith, length-zip_values ps vs (omega arith))
-
 -- ---- the theorem
 
 module _ (R : CommRing) {T : Type 0} (f : T → R.Carrier) (m : Compressed T) (sound : IsSound m) where
@@ -179,4 +174,4 @@ module _ (R : CommRing) {T : Type 0} (f : T → R.Carrier) (m : Compressed T) (s
       ∙ sym triplets_are_entries
 
   pub length-row_order-rows : length (row_order R (plain_of_rows R f m)) ≡ length m.values
-  length-row_order-rows = ap length row_order-rows ∙ length-map {B = ℕ × ℕ × R.Carrier} (lane_triplets m) (λ t. (t.0, t.1, f t.2)) ∙ length-zip_values (entries_of m.pattern) m.values long
+  length-row_order-rows = ap length row_order-rows ∙ length-map {B = ℕ × ℕ × R.Carrier} (lane_triplets m) (λ t. (t.0, t.1, f t.2)) ∙ length-lane_triplets m sound
