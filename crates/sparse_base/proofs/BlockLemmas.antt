@@ -6,7 +6,7 @@ use Rattle.std.proofs.lemmas.Grind.{flat_map-append}
 use Rattle.std.proofs.lemmas.List.{append-nil}
 use Rattle.std.proofs.Math.ListN.{length-append}
 use Rattle.std.proofs.lemmas.Option.{slice_get_read, slice_get_past}
-use Rattle.sparse_base.specs.Plain.{below}
+use Rattle.sparse_algebra.specs.Plain.{below}
 use Rattle.sparse_base.specs.Coo.{Coo, zip_triplets, AreParts}
 use Rattle.sparse_base.specs.Dense.{Dense, value_at}
 use Rattle.sparse_base.specs.Blocks.{triplet_at, block_triplets, IsEmptyBlock, IsBlockInside}

@@ -1,8 +1,8 @@
 -- The last fault of triplets that are given as three lists.
 use Rattle.std.proofs.Common.{◌≡◌, ℕ, ◌<◌, ◌≤◌, List, length, All, Any, refl, arith}
-use Rattle.sparse_base.specs.FirstFault.{IsBefore}
+use Rattle.sparse_pattern.specs.FirstFault.{IsBefore}
 use Rattle.sparse_base.specs.TripletFaults.{TripletSpot, ColCount, ValueCount, RowBounds, ColBounds, HasTripletFault, triplet_rank, IsFirstTripletFault}
-use Rattle.sparse_base.specs.declared.error.SparseFormatErrorKind.TheVariants.{IndexOutOfBounds}
+use Rattle.sparse_pattern.specs.declared.error.SparseFormatErrorKind.TheVariants.{IndexOutOfBounds}
 
 module _ (nrows ncols : ℕ) (rows cols : List ℕ) (count : ℕ) (cols_fit : length rows ≡ length cols) (values_fit : length cols ≡ count) (rows_below : All (λ i. i < nrows) rows) where
   none_before : (s : TripletSpot) → IsBefore (triplet_rank s) (3, 0, 0) → HasTripletFault nrows ncols rows cols count s → ⊥

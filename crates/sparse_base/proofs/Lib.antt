@@ -1,23 +1,5 @@
-pub mod RingLemmas
-pub mod SumLemmas
-pub mod Lanes
-pub mod Positions
-pub mod LaneOrder
-pub mod SamePlaces
-pub mod NextLane
-pub mod Packing
 pub mod TripletLists
 mod FirstTripletFault
 pub mod TripletRuns
-pub mod PlainLemmas
-pub mod FirstFaults
-pub mod PlainLaws
-pub mod RingMapLemmas
-pub mod WholeNumbers
-pub mod KeyCounts
-pub mod StableOrders
-pub mod CountLemmas
-pub mod Transposes
-pub mod Placing
 pub mod DenseLemmas
 pub mod BlockLemmas

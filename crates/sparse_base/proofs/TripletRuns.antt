@@ -3,8 +3,8 @@ use Rattle.std.proofs.Common.{◌≡◌, ℕ, zero, suc, ◌<◌, ◌≤◌, ◌
 use Rattle.std.proofs.lemmas.List.{length-map}
 use Rattle.sparse_base.specs.Coo.{Coo, zip_triplets, IsInside, AreParts, coo_of}
 use Rattle.sparse_base.specs.TripletFaults.{IsFirstTripletFault, IsSomeOutside, HasTripletFault, TripletSpot, ColCount, ValueCount, RowBounds, ColBounds, triplet_kind}
-use Rattle.sparse_base.specs.declared.error.SparseFormatErrorKind.{SparseFormatErrorKind}
-use Rattle.sparse_base.specs.declared.error.SparseFormatErrorKind.TheVariants.{IndexOutOfBounds}
+use Rattle.sparse_pattern.specs.declared.error.SparseFormatErrorKind.{SparseFormatErrorKind}
+use Rattle.sparse_pattern.specs.declared.error.SparseFormatErrorKind.TheVariants.{IndexOutOfBounds}
 use Rattle.sparse_base.proofs.TripletLists.{bounded}
 
 any_of_map : {A : Type 0} (f : A → ℕ) (P : ℕ → Type 0) (Q : A → Type 0) → ((x : A) → P (f x) → Q x) → (xs : List A) (k i : ℕ) → k < length (map f xs) → get_or (map f xs) k i ≡ i → P i → Any Q xs

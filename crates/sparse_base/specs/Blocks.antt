@@ -2,7 +2,7 @@
 use Rattle.std.specs.Prelude.{◌≡◌, ℕ, ◌+◌, ◌*◌, ◌≤◌, ◌⊎◌, List, map, slice_get}
 use Rattle.std.specs.Option.{option_to_list}
 use Rattle.std.specs.List.{flat_map}
-use Rattle.sparse_base.specs.Plain.{below}
+use Rattle.sparse_algebra.specs.Plain.{below}
 use Rattle.sparse_base.specs.Coo.{Coo}
 use Rattle.sparse_base.specs.Dense.{Dense}
 

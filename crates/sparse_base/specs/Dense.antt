@@ -1,7 +1,7 @@
 -- What a contract sees of a dense matrix.
 use Rattle.std.specs.Prelude.{◌≡◌, ℕ, ◌+◌, ◌*◌, ◌<◌, List, length, slice_index_or, slice_set, slice_range, refl}
 use Rattle.std.specs.Coded.{Coded, code_by, coded×, coded_ℕ, coded_list}
-use Rattle.sparse_base.specs.Refill.{refill_from}
+use Rattle.sparse_pattern.specs.Refill.{refill_from}
 
 -- two sizes, and the values column after column
 pub record Dense (T : Type 0) : Type 0 where

@@ -1,8 +1,8 @@
 -- The plain matrix that a dense one stands for.
 use Rattle.std.specs.Prelude.{ℕ, nat_lt, ◌&&◌, Bool, map}
-use Rattle.sparse_base.specs.Algebra.{CommRing}
-use Rattle.sparse_base.specs.Sums.{where_true}
-use Rattle.sparse_base.specs.Plain.{Plain}
+use Rattle.sparse_algebra.specs.Algebra.{CommRing}
+use Rattle.sparse_algebra.specs.Sums.{where_true}
+use Rattle.sparse_algebra.specs.Plain.{Plain}
 use Rattle.sparse_base.specs.Dense.{Dense, dense_of, value_at}
 
 -- whether (i, j) is inside the sizes

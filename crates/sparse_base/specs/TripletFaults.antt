@@ -1,8 +1,8 @@
 -- The faults of triplets that are given as three lists, and their order.
 use Rattle.std.specs.Prelude.{◌≡◌, ◌≢◌, ℕ, ◌≤◌, ◌⊎◌, List, Any, length}
-use Rattle.sparse_base.specs.FirstFault.{IsFirst}
-use Rattle.sparse_base.specs.declared.error.SparseFormatErrorKind.{SparseFormatErrorKind}
-use Rattle.sparse_base.specs.declared.error.SparseFormatErrorKind.TheVariants.{InvalidStructure, IndexOutOfBounds}
+use Rattle.sparse_pattern.specs.FirstFault.{IsFirst}
+use Rattle.sparse_pattern.specs.declared.error.SparseFormatErrorKind.{SparseFormatErrorKind}
+use Rattle.sparse_pattern.specs.declared.error.SparseFormatErrorKind.TheVariants.{InvalidStructure, IndexOutOfBounds}
 
 -- where a fault can be: rows against columns in number, columns against values in number, the bounds of the rows, those of the columns
 pub data TripletSpot : Type 0 where

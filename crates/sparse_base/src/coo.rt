@@ -4,7 +4,7 @@ ghost use Rattle.std.specs.Prelude.{◌≡◌, ◌<◌, ◌≤◌, [], ◌∷◌
 ghost use Rattle.sparse_base.specs.Coo.{coo_of, zip_triplets, appended, AreParts, IsInside};
 ghost use Rattle.sparse_base.specs.TripletFaults.{IsFirstTripletFault};
 
-use crate::error::{SparseFormatError, SparseFormatErrorKind};
+use sparse_pattern::error::{SparseFormatError, SparseFormatErrorKind};
 use std::alloc::{AllocError, Global};
 use std::marker::Model;
 
@@ -272,6 +272,3 @@ impl<T: Eq> Eq for CooMatrix<T> {
 
     ghost laws = { coo_eq-equiv T.Eq.laws };
 }
-
-#[cfg(test)]
-mod tests;

@@ -5,7 +5,7 @@ ghost use Rattle.std.specs.Borrow.{sem};
 ghost use Rattle.sparse_base.specs.Dense.{dense_of, value_at, column_of, with_value_at, HasValues};
 ghost use Rattle.sparse_base.specs.DenseLending.{LendsColumn};
 
-use crate::scalar::Zero;
+use sparse_algebra::scalar::Zero;
 use std::alloc::{AllocError, Global};
 use std::marker::Model;
 
@@ -233,6 +233,3 @@ fn column_by_column<T: Copy>(
     }
     Ok(columns)
 }
-
-#[cfg(test)]
-mod tests;

@@ -1,12 +1,6 @@
-//! Scalars, patterns, lists of triplets, dense matrices and entries: what every crate of the library stands on.
+//! Coordinate lists, dense matrices, and a counter without bytes.
 #![tactic(auto)]
 
 pub mod coo;
-pub mod counting;
 pub mod dense;
-pub mod entry;
-pub mod error;
-pub mod laws;
-pub mod pattern;
-pub mod scalar;
 pub mod steps;

@@ -4,30 +4,21 @@ use Rattle.std.specs.Prelude.{nat_eq, ◌||◌}
 use Rattle.std.specs.List.{list_any}
 use Rattle.std.proofs.lemmas.Grind.{common_steps}
 use Rattle.std.proofs.lemmas.Bool.Decides.{Decides-eqb, nat_tests}
-use Rattle.sparse_base.specs.Algebra.{CommRing}
-use Rattle.sparse_base.specs.Sums.{sum_by, where_true}
-use Rattle.sparse_base.proofs.RingLemmas.{zero_add}
-use Rattle.sparse_base.specs.Raw.{Raw, start_of, end_of, lane_of, IsInLane, IsValid, IsPlace, entries_from, entries_of, paired}
-use Rattle.sparse_base.proofs.Lanes.{length-lane, get_or-lane}
-use Rattle.sparse_base.proofs.Positions.{starts_ordered, one_position, lane_of_position}
-use Rattle.sparse_base.proofs.LaneOrder.{length-entries, entries_are_places}
+use Rattle.sparse_lemmas.proofs.Cases.{lt_or_ge, three, true_or_false}
+use Rattle.sparse_algebra.specs.Algebra.{CommRing}
+use Rattle.sparse_algebra.specs.Sums.{sum_by, where_true}
+use Rattle.sparse_algebra.proofs.RingLemmas.{zero_add}
+use Rattle.sparse_pattern.specs.Raw.{Raw, start_of, end_of, lane_of, IsInLane, IsValid, IsPlace, entries_from, entries_of, paired}
+use Rattle.sparse_pattern.proofs.PatternLanes.{length-lane, get_or-lane}
+use Rattle.sparse_pattern.proofs.Positions.{starts_ordered, one_position, lane_of_position}
+use Rattle.sparse_pattern.proofs.LaneOrder.{length-entries, entries_are_places}
 use Rattle.sparse_cs.specs.Compressed.{Compressed, IsSound, zip_values, IsPosition, compressed_eq}
 use Rattle.std.specs.Cmp.Lexicographic.{pointwise}
-use Rattle.sparse_base.specs.Raw.{raw_eq, HasSamePlaces}
-use Rattle.sparse_base.proofs.SamePlaces.{places_decide, same_from_places}
-use Rattle.sparse_base.specs.Plain.{Plain, IsProper, is_at, plain_of_triplets}
-use Rattle.sparse_cs.specs.Forms.{plain_of_rows}
-use Rattle.sparse_base.proofs.PlainLemmas.{same_plain, same_bool}
-
-three : (a b : ℕ) → (a < b) ⊎ ((b < a) ⊎ (a ≡ b))
-three a b = grind arith
-
-lt_or_ge : (a b : ℕ) → (a < b) ⊎ (b ≤ a)
-lt_or_ge a b = grind arith
-
-pub two : (b : Bool) → (b ≡ true) ⊎ (b ≡ false)
-two true = inl refl
-two false = inr refl
+use Rattle.sparse_pattern.specs.Raw.{raw_eq, HasSamePlaces}
+use Rattle.sparse_pattern.proofs.SamePlaces.{places_decide, same_from_places}
+use Rattle.sparse_algebra.specs.Plain.{Plain, IsProper, is_at, plain_of_triplets}
+use Rattle.sparse_cs.specs.PlainOfLanes.{plain_of_rows}
+use Rattle.sparse_algebra.proofs.PlainLemmas.{same_plain, same_bool}
 
 module _ (d : Raw) (valid : IsValid d) where
   pub position_within : (i j p : ℕ) → IsPosition d i j p → p < length d.indices
@@ -107,7 +98,7 @@ contains_cases x y xs (suc k) lt is = inr (k, omega arith, is)
 module _ {T : Type 0} (i j : ℕ) where
   named_forth : (ts : List (ℕ × ℕ × T)) → list_any (is_at i j) ts ≡ true → Contains (pairs_of ts) (i, j)
   named_forth [] h = cc
-  named_forth (t ∷ ts) h = elim (two (is_at i j t)) [
+  named_forth (t ∷ ts) h = elim (true_or_false (is_at i j t)) [
     | inl hit ↦ (0, omega arith, pair_is (t.0, t.1) i j hit)
     | inr miss ↦ contains_tail (t.0, t.1) (i, j) (pairs_of ts) (named_forth ts (later (is_at i j t) (list_any (is_at i j) ts) miss h))
   ]
@@ -169,7 +160,7 @@ module _ (R : CommRing) {T : Type 0} (f : T → R.Carrier) where
   one_named i j zero z (x ∷ ps) (v ∷ vs) e lt is only =
       let e' : length ps ≡ length vs = omega arith in
       let hit : is_at i j (x.0, x.1, v) ≡ true = rw (ap (λ y. y.0) is, ap (λ y. y.1) is) (test_yes i j) in
-      let none : list_any (is_at i j) (zip_values ps vs) ≡ false = elim (two (list_any (is_at i j) (zip_values ps vs))) [
+      let none : list_any (is_at i j) (zip_values ps vs) ≡ false = elim (true_or_false (list_any (is_at i j) (zip_values ps vs))) [
         | inl some ↦
             let at = subst (λ l. Contains l (i, j)) (pairs_of-triplets ps vs e') ((named i j (zip_values ps vs)).0 some) in
             let read : get_or ps at.0 (0, 0) ≡ (i, j) = grind (arith, common_steps, at.1, at.2) in
@@ -178,7 +169,7 @@ module _ (R : CommRing) {T : Type 0} (f : T → R.Carrier) where
       ] in
       ap (λ c. R.add c (value_at (zip_values ps vs) i j)) (where_yes (is_at i j (x.0, x.1, v)) (f v) hit) ∙ ap (R.add (f v)) (unnamed i j (zip_values ps vs) none) ∙ R.laws.add_zero (f v)
   one_named i j (suc p) z (x ∷ ps) (v ∷ vs) e lt is only =
-      let miss : is_at i j (x.0, x.1, v) ≡ false = elim (two (is_at i j (x.0, x.1, v))) [
+      let miss : is_at i j (x.0, x.1, v) ≡ false = elim (true_or_false (is_at i j (x.0, x.1, v))) [
         | inl hit ↦ absurd (omega (arith, only 0 (omega arith) (pair_is x i j hit)))
         | inr miss ↦ miss
       ] in
@@ -212,7 +203,7 @@ stands R {T} f z m a sound proper rows cols places values = same_plain (plain_of
         same_bool _ _ (λ h. (places i j).0 (here.0 h)) (λ h. here.1 ((places i j).1 h))
 
     value_same : (i j : ℕ) → (plain_of_rows R f m).value i j ≡ a.value i j
-    value_same i j = elim (two (a.has i j)) [
+    value_same i j = elim (true_or_false (a.has i j)) [
       | inl hit ↦
           let place = (places i j).1 hit in
           let position : IsPosition m.pattern i j place.at = (place.in_lane, place.index) in

@@ -1,9 +1,10 @@
 -- The first fault of arrays whose lanes needn't be sorted.
 use Rattle.std.proofs.Common.{◌≡◌, ℕ, ◌+◌, ◌<◌, ◌≤◌, ◌⊎◌, inl, inr, List, length, All, Any, refl, arith}
-use Rattle.sparse_base.specs.Raw.{start_of, end_of, lane_of}
-use Rattle.sparse_base.specs.FirstFault.{IsBefore}
-use Rattle.sparse_base.specs.declared.error.SparseFormatErrorKind.{SparseFormatErrorKind}
-use Rattle.sparse_base.specs.declared.error.SparseFormatErrorKind.TheVariants.{IndexOutOfBounds, InvalidStructure}
+use Rattle.sparse_lemmas.proofs.Cases.{le_cases}
+use Rattle.sparse_pattern.specs.Raw.{start_of, end_of, lane_of}
+use Rattle.sparse_pattern.specs.FirstFault.{IsBefore}
+use Rattle.sparse_pattern.specs.declared.error.SparseFormatErrorKind.{SparseFormatErrorKind}
+use Rattle.sparse_pattern.specs.declared.error.SparseFormatErrorKind.TheVariants.{IndexOutOfBounds, InvalidStructure}
 use Rattle.sparse_cs.specs.Compressed.{Compressed}
 use Rattle.sparse_cs.specs.LaneSorting.{IsLaneFault}
 use Rattle.sparse_cs.specs.UnsortedFaults.{UnsortedSpot, ValueCount, NoOffsets, OffsetCount, FirstLast, LaneFall, LaneEnd, LaneBounds, LaneRepeat, unsorted_rank, HasRepeat, HasUnsortedFault, HasFineCounts, IsFaultless, IsUnsortedRefusal}
@@ -14,9 +15,6 @@ pub record IsFineLane {T : Type 0} (m : Compressed T) (k : ℕ) : Type 0 where
   pub inside : end_of m.pattern k ≤ length m.pattern.indices
   pub bounded : All (λ j. j < m.pattern.minor_dim) (lane_of m.pattern k)
   pub distinct : HasRepeat (lane_of m.pattern k) → ⊥
-
-le_cases : (a b : ℕ) → a ≤ b → (a < b) ⊎ (a ≡ b)
-le_cases a b h = grind arith
 
 -- not both all below and some past the bound
 not_past : (bound : ℕ) (xs : List ℕ) → All (λ j. j < bound) xs → Any (λ j. bound ≤ j) xs → ⊥

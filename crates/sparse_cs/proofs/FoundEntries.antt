@@ -4,10 +4,10 @@ use Prim.Native.Nat.{ℕ}
 use seplogic.Ra.Ura.{Ura}
 use base.Logic.{SProp, ent, sep, emp, via, emp∗, comm∗, mono_l, mono_r}
 use contract.Monad.{fact, fact_i}
-use Rattle.sparse_base.specs.Entries.{entry_of_found, entry_name, found_name}
-use Rattle.sparse_base.specs.declared.entry.Found.{Found}
-use Rattle.sparse_base.specs.declared.entry.Found.TheVariants.{Value, Nothing}
-use Rattle.sparse_base.specs.declared.entry.Missing.TheVariants.{OutOfBounds, NotStored}
+use Rattle.sparse_pattern.specs.SparseEntries.{entry_of_found, entry_name, found_name}
+use Rattle.sparse_pattern.specs.declared.entry.Found.{Found}
+use Rattle.sparse_pattern.specs.declared.entry.Found.TheVariants.{Value, Nothing}
+use Rattle.sparse_pattern.specs.declared.entry.Missing.TheVariants.{OutOfBounds, NotStored}
 use Rattle.sparse_cs.specs.Compressed.{Compressed}
 use Rattle.sparse_cs.specs.Lanes.{Lane}
 use Rattle.sparse_cs.specs.Writing.{IsFoundAt, IsEntryMutOf, IsLaneFoundAt, IsLaneEntryMutOf}

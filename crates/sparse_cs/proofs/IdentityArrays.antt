@@ -2,12 +2,12 @@
 use Rattle.std.proofs.Common.{◌≡◌, ℕ, ◌+◌, ◌<◌, ◌↔◌, true, ◌&&◌, List, get_or, ap, sym, ◌∙◌, refl, arith}
 use Rattle.std.specs.Prelude.{nat_eq, nat_lt}
 use Rattle.std.proofs.lemmas.Bool.Decides.{nat_tests}
-use Rattle.sparse_base.specs.Algebra.{CommRing}
-use Rattle.sparse_base.specs.Raw.{raw_of, IsInLane, IsPlace}
-use Rattle.sparse_base.specs.Plain.{plain_identity}
-use Rattle.sparse_base.proofs.PlainLaws.{proper_identity}
+use Rattle.sparse_algebra.specs.Algebra.{CommRing}
+use Rattle.sparse_pattern.specs.Raw.{raw_of, IsInLane, IsPlace}
+use Rattle.sparse_algebra.specs.Plain.{plain_identity}
+use Rattle.sparse_algebra.proofs.PlainLaws.{proper_identity}
 use Rattle.sparse_cs.specs.Compressed.{arrays_of, IsSound}
-use Rattle.sparse_cs.specs.Forms.{plain_of_rows}
+use Rattle.sparse_cs.specs.PlainOfLanes.{plain_of_rows}
 use Rattle.sparse_cs.proofs.Arrays.{stands, where_yes}
 
 on_diagonal : (i j n : ℕ) → ((nat_eq i j && nat_lt i n) ≡ true) ↔ ((i ≡ j) × (i < n))

@@ -1,9 +1,9 @@
 -- The triplets of a sound matrix, in number and inside its sizes.
 use Rattle.std.proofs.Common.{◌≡◌, ℕ, zero, suc, ◌<◌, List, [], ◌∷◌, length, get_or, All, ap, sym, ◌∙◌, refl, arith}
-use Rattle.sparse_base.specs.Raw.{entries_of}
-use Rattle.sparse_base.proofs.LaneOrder.{length-entries}
+use Rattle.sparse_pattern.specs.Raw.{entries_of}
+use Rattle.sparse_pattern.proofs.LaneOrder.{length-entries}
 use Rattle.sparse_cs.specs.Compressed.{Compressed, IsSound, zip_values, lane_triplets}
-use Rattle.sparse_base.proofs.Positions.{lane_of_position}
+use Rattle.sparse_pattern.proofs.Positions.{lane_of_position}
 use Rattle.sparse_cs.proofs.Arrays.{entry_at}
 
 module _ {T : Type 0} where

@@ -7,7 +7,7 @@ use Rattle.std.proofs.lemmas.List.Kept.{AllPairs-cons}
 use denote.Ref.{Bor}
 use Rattle.std.specs.Fn.{Shared}
 use Rattle.sparse_cs.specs.Filter.{IsKept, IsGrown, Answers}
-use Rattle.sparse_cs.proofs.LaneSorting.{zip-push, pairs_more}
+use Rattle.sparse_cs.proofs.LaneSortingLemmas.{zip-push, pairs_more}
 
 module _ {X : Type 0} (R : X → Bool → Type 0) where
   cond-append : (b : Bool) (x : X) (ys zs : List X) → cond b (x ∷ ys) ys ++ zs ≡ cond b (x ∷ (ys ++ zs)) (ys ++ zs)

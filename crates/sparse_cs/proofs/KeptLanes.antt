@@ -7,8 +7,9 @@ use Rattle.std.proofs.lemmas.List.{take-append-le, drop-append-le, length-drop}
 use Rattle.std.proofs.lemmas.List.Edits.{length-between, get_or-between}
 use Rattle.std.proofs.lemmas.List.Kept.{AllPairs-from_increasing}
 use Rattle.std.proofs.lemmas.Slice.Zip.{firsts-zip}
-use Rattle.sparse_base.specs.Raw.{start_of, end_of, lane_of, IsValidLane, IsValid, entries_from}
-use Rattle.sparse_base.proofs.Lanes.{lane_rises, length-lane, get_or-lane}
+use Rattle.sparse_lemmas.proofs.Cases.{lt_add_one_cases}
+use Rattle.sparse_pattern.specs.Raw.{start_of, end_of, lane_of, IsValidLane, IsValid, entries_from}
+use Rattle.sparse_pattern.proofs.PatternLanes.{lane_rises, length-lane, get_or-lane}
 use Rattle.sparse_cs.specs.Compressed.{Compressed, arrays_of, IsSound, zip_values, lane_triplets}
 use Rattle.sparse_cs.specs.Filter.{IsKept, IsGrown}
 use Rattle.sparse_cs.proofs.Kept.{IsKept-append, IsKept-map, All-kept, AllPairs-kept}
@@ -30,9 +31,6 @@ module _ {X : Type 0} where
   between_end xs ys =
       let long : length xs + length ys - length xs ≡ length ys = omega arith in
       ap (take (length xs + length ys - length xs)) (drop_front xs ys) ∙ rw long (grind (arith, common_steps))
-
-split_below : (k i : ℕ) → k < i + 1 → (k < i) ⊎ (k ≡ i)
-split_below k i lt = grind arith
 
 module _ {T : Type 0} (R : ℕ × ℕ × T → Bool → Type 0) (m : Compressed T) where
   -- lane k of the arrays is what is kept of lane k of the matrix
@@ -83,7 +81,7 @@ module _ {T : Type 0} (R : ℕ × ℕ × T → Bool → Type 0) (m : Compressed 
       first = earlier 0 (omega arith) ∙ h.first;
       last = newest ∙ sym (length-append indices more);
       value_count = omega (arith, length-append values more_values, length-append indices more, h.value_count, count);
-      lanes = λ k lt. elim (split_below k i lt) [ inl below ↦ old_lane k below | inr here ↦ subst (IsKeptLane (offsets ++ end ∷ []) (indices ++ more) (values ++ more_values)) (sym here) (new_lane kept) ];
+      lanes = λ k lt. elim (lt_add_one_cases k i lt) [ inl below ↦ old_lane k below | inr here ↦ subst (IsKeptLane (offsets ++ end ∷ []) (indices ++ more) (values ++ more_values)) (sym here) (new_lane kept) ];
     }
 
   -- one more lane is gone through

@@ -2,15 +2,16 @@
 use Rattle.std.proofs.Common.{◌≡◌, ℕ, inl, inr, Bool, true, false, ◌&&◌, cond, List, [], ◌∷◌, map, ap, sym, ◌∙◌, refl}
 use Rattle.std.specs.List.{filter, list_any}
 use Rattle.std.proofs.lemmas.Map.Views.{any-filter_same}
-use Rattle.sparse_base.specs.Algebra.{CommRing}
-use Rattle.sparse_base.specs.Sums.{where_true}
-use Rattle.sparse_base.specs.Plain.{is_at, plain_kept, plain_transpose}
-use Rattle.sparse_base.proofs.RingLemmas.{zero_add}
-use Rattle.sparse_base.proofs.PlainLemmas.{same_plain, and_comm}
+use Rattle.sparse_lemmas.proofs.Cases.{and_both, true_or_false}
+use Rattle.sparse_algebra.specs.Algebra.{CommRing}
+use Rattle.sparse_algebra.specs.Sums.{where_true}
+use Rattle.sparse_algebra.specs.Plain.{is_at, plain_kept, plain_transpose}
+use Rattle.sparse_algebra.proofs.RingLemmas.{zero_add}
+use Rattle.sparse_algebra.proofs.PlainLemmas.{same_plain, and_comm}
 use Rattle.sparse_cs.specs.Compressed.{Compressed, lane_triplets, turned}
 use Rattle.sparse_cs.specs.Filter.{HasSizesOf}
-use Rattle.sparse_cs.specs.Forms.{plain_of_rows, plain_of_cols}
-use Rattle.sparse_cs.proofs.Arrays.{two, pair_is, value_at, where_no, where_yes, unnamed}
+use Rattle.sparse_cs.specs.PlainOfLanes.{plain_of_rows, plain_of_cols}
+use Rattle.sparse_cs.proofs.Arrays.{pair_is, value_at, where_no, where_yes, unnamed}
 
 and_no : (b c : Bool) → c ≡ false → (b && c) ≡ false
 and_no true c e = e
@@ -20,11 +21,7 @@ no_and : (b c : Bool) → b ≡ false → (b && c) ≡ false
 no_and true c e = cc
 no_and false c e = refl
 
-and_yes : (b c : Bool) → b ≡ true → c ≡ true → (b && c) ≡ true
-and_yes true c e h = h
-and_yes false c e h = e
-
--- a filter of triplets whose first two parts have changed places
+-- a filter of triplets whose first true_or_false parts have changed places
 filter-turned : {T : Type 0} (test : ℕ × ℕ × T → Bool) (ts : List (ℕ × ℕ × T)) → map turned (filter test (map turned ts)) ≡ filter (λ t. test (turned t)) ts
 filter-turned test [] = refl
 filter-turned test (t ∷ ts) = chosen (test (turned t)) ∙ ap (λ us. cond (test (turned t)) (t ∷ us) us) (filter-turned test ts)
@@ -53,16 +50,16 @@ module _ (R : CommRing) {T : Type 0} (f : T → R.Carrier) (test : ℕ → ℕ �
   sum_kept i j (t ∷ ts) pass = chosen (sum_kept i j ts pass) (passes t) refl
     where
       missed : passes t ≡ false → is_at i j t ≡ false
-      missed e = elim (two (is_at i j t)) [ inl hit ↦ let at = passes_at i j t hit in cc | inr miss ↦ miss ]
+      missed e = elim (true_or_false (is_at i j t)) [ inl hit ↦ let at = passes_at i j t hit in cc | inr miss ↦ miss ]
 
       chosen : value_at R f (filter passes ts) i j ≡ value_at R f ts i j → (b : Bool) → passes t ≡ b → value_at R f (cond b (t ∷ filter passes ts) (filter passes ts)) i j ≡ value_at R f (t ∷ ts) i j
       chosen rest true e = ap (R.add (where_true R (is_at i j t) (f t.2))) rest
       chosen rest false e = rest ∙ sym (zero_add R (value_at R f ts i j)) ∙ sym (ap (λ c. R.add c (value_at R f ts i j)) (where_no R f (is_at i j t) (f t.2) (missed e)))
 
   value_kept : (i j : ℕ) (ts : List (ℕ × ℕ × T)) → value_at R f (filter passes ts) i j ≡ where_true R (list_any (is_at i j) ts && test i j) (value_at R f ts i j)
-  value_kept i j ts = elim (two (test i j)) [
-    | inl pass ↦ elim (two (list_any (is_at i j) ts)) [
-      | inl some ↦ sum_kept i j ts pass ∙ sym (where_yes R f _ _ (and_yes (list_any (is_at i j) ts) (test i j) some pass))
+  value_kept i j ts = elim (true_or_false (test i j)) [
+    | inl pass ↦ elim (true_or_false (list_any (is_at i j) ts)) [
+      | inl some ↦ sum_kept i j ts pass ∙ sym (where_yes R f _ _ (and_both (list_any (is_at i j) ts) (test i j) some pass))
       | inr none ↦ sum_kept i j ts pass ∙ unnamed R f i j ts none ∙ sym (where_no R f _ _ (no_and (list_any (is_at i j) ts) (test i j) none))
     ]
     | inr fails ↦

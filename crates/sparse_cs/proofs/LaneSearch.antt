@@ -12,10 +12,11 @@ use Rattle.std.proofs.lemmas.List.Sums.{position_or_len_is}
 use Rattle.std.proofs.lemmas.List.{get_or_past}
 use Rattle.std.proofs.lemmas.List.Quantifiers.{position-Some}
 use Rattle.std.proofs.lemmas.Option.{none-some, same_Some}
-use Rattle.sparse_base.specs.Raw.{Raw, start_of, end_of, lane_of, IsValid, IsValidLane}
-use Rattle.sparse_base.proofs.Lanes.{lane_rises, length-lane, get_or-lane}
+use Rattle.sparse_lemmas.proofs.Cases.{lt_or_ge}
+use Rattle.sparse_pattern.specs.Raw.{Raw, start_of, end_of, lane_of, IsValid, IsValidLane}
+use Rattle.sparse_pattern.proofs.PatternLanes.{lane_rises, length-lane, get_or-lane}
 use Rattle.sparse_cs.specs.Compressed.{IsPosition}
-use Rattle.sparse_cs.specs.Entries.{place_of}
+use Rattle.sparse_cs.specs.StoredEntries.{place_of}
 
 -- the indices of a valid lane rise
 pub rising_lane : (d : Raw) (i : ℕ) → IsValidLane d i → IsStrictlyIncreasing (lane_of d i)
@@ -39,9 +40,6 @@ search_is_position xs j (Err k) rising is =
     let gap = searched xs j (Err k) is (not_falling xs rising) in
     let past = position_or_len_is (λ x. x == j) xs (length xs) 0 (omega arith) (λ l lt. grind (arith, nat_tests, gap.1 l, gap.2 l)) (λ lt. absurd (omega arith)) in
     grind (arith, common_steps, nat_tests, past)
-
-lt_or_ge : (a b : ℕ) → (a < b) ⊎ (b ≤ a)
-lt_or_ge a b = grind arith
 
 none_or_some : {X : Type 0} (o : Option X) → (o ≡ None) ⊎ ((x : X) × (o ≡ Some x))
 none_or_some None = inl refl

@@ -1,7 +1,7 @@
 -- What the iterators that lend values have left.
 use Rattle.std.proofs.Common.{◌≡◌, ℕ, zero, suc, ◌+◌, ◌-◌, ◌<◌, ◌≤◌, List, [], ◌∷◌, length, take, drop, ap, sym, ◌∙◌, refl, arith}
 use Rattle.std.proofs.lemmas.List.{drop-drop, length-take-le, length-drop}
-use Rattle.sparse_base.specs.Raw.{Raw, start_of, end_of, lane_of}
+use Rattle.sparse_pattern.specs.Raw.{Raw, start_of, end_of, lane_of}
 use Rattle.sparse_cs.specs.Compressed.{Compressed, IsSound, zip_values}
 use Rattle.sparse_cs.specs.Lanes.{lane_parts, lane_at, lanes_from, lanes_of}
 use Rattle.sparse_cs.specs.Left.{lanes_with}

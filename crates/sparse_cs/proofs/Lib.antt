@@ -7,11 +7,11 @@ mod Repeats
 pub mod LaneSearch
 mod LanesLeft
 pub mod NextLane
-mod LaneSorting
+mod LaneSortingLemmas
 mod UnsortedLanes
 mod FirstUnsortedFault
 mod SortedForm
 pub mod Kept
 mod KeptLanes
 mod KeptPlain
-pub mod Transposes
+pub mod MatrixTransposes

@@ -5,15 +5,16 @@ use Rattle.std.specs.List.{flat_map}
 use Rattle.std.proofs.lemmas.List.{map-append, length-map, append-nil, append_assoc}
 use Rattle.std.proofs.lemmas.List.Concat.{flat_map-append}
 use Rattle.std.proofs.lemmas.Grind.{common_steps}
-use Rattle.sparse_base.specs.Algebra.{CommRing}
-use Rattle.sparse_base.specs.Plain.{below, row_order}
-use Rattle.sparse_base.specs.Raw.{Raw, lane_of, IsValid, IsPlace, entries_from, entries_of, paired}
-use Rattle.sparse_base.proofs.SamePlaces.{Has, rising_same, has_from_place, place_from_has}
-use Rattle.sparse_base.proofs.Lanes.{lane_rises}
-use Rattle.sparse_base.proofs.LaneOrder.{length-entries}
+use Rattle.sparse_lemmas.proofs.Cases.{lt_add_one_cases}
+use Rattle.sparse_algebra.specs.Algebra.{CommRing}
+use Rattle.sparse_algebra.specs.Plain.{below, row_order}
+use Rattle.sparse_pattern.specs.Raw.{Raw, lane_of, IsValid, IsPlace, entries_from, entries_of, paired}
+use Rattle.sparse_pattern.proofs.SamePlaces.{Has, rising_same, has_from_place, place_from_has}
+use Rattle.sparse_pattern.proofs.PatternLanes.{lane_rises}
+use Rattle.sparse_pattern.proofs.LaneOrder.{length-entries}
 use Rattle.sparse_cs.specs.Compressed.{Compressed, IsSound, zip_values, lane_triplets}
-use Rattle.sparse_cs.specs.Forms.{meant, plain_of_rows}
-use Rattle.sparse_base.proofs.Positions.{lane_of_position}
+use Rattle.sparse_cs.specs.PlainOfLanes.{meant, plain_of_rows}
+use Rattle.sparse_pattern.proofs.Positions.{lane_of_position}
 use Rattle.sparse_cs.proofs.Inside.{length-lane_triplets}
 use Rattle.sparse_cs.proofs.Arrays.{has_is_place, value_at_position, entry_at}
 
@@ -43,11 +44,8 @@ has_left xs ys x h = record { at = h.at; within = omega (arith, length-append xs
 has_push : (xs : List ℕ) (x : ℕ) → Has (xs ++ x ∷ []) x
 has_push xs x = record { at = length xs; within = omega (arith, length-append xs (x ∷ [])); is = grind (arith, common_steps) }
 
-lt_or_is : (k n : ℕ) → k < n + 1 → (k < n) ⊎ (k ≡ n)
-lt_or_is k n h = grind arith
-
 has_push_cases : (xs : List ℕ) (x y : ℕ) → Has (xs ++ x ∷ []) y → Has xs y ⊎ (x ≡ y)
-has_push_cases xs x y h = elim (lt_or_is h.at (length xs) (omega (arith, length-append xs (x ∷ []), h.within))) [
+has_push_cases xs x y h = elim (lt_add_one_cases h.at (length xs) (omega (arith, length-append xs (x ∷ []), h.within))) [
   | inl lt ↦ inl record { at = h.at; within = lt; is = grind (arith, common_steps, h.is) }
   | inr same ↦ inr (grind (arith, common_steps, h.is))
 ]
@@ -56,7 +54,7 @@ rises_push : (xs : List ℕ) (x : ℕ) → Rises xs → ((y : ℕ) → Has xs y 
 rises_push xs x rises above a b lt within =
     let first : a < length xs = omega (arith, length-append xs (x ∷ [])) in
     let at : get_or (xs ++ x ∷ []) a 0 ≡ get_or xs a 0 = grind (arith, common_steps) in
-    elim (lt_or_is b (length xs) (omega (arith, length-append xs (x ∷ [])))) [
+    elim (lt_add_one_cases b (length xs) (omega (arith, length-append xs (x ∷ [])))) [
       | inl inside ↦
           let to : get_or (xs ++ x ∷ []) b 0 ≡ get_or xs b 0 = grind (arith, common_steps) in
           omega (arith, rises a b lt inside)
@@ -68,7 +66,7 @@ rises_push xs x rises above a b lt within =
 module _ (test : ℕ → Bool) where
   passing_has : (n j : ℕ) → j < n → test j ≡ true → Has (passing n test) j
   passing_has zero j lt pass = absurd (omega arith)
-  passing_has (suc n) j lt pass = elim (lt_or_is j n (omega arith)) [
+  passing_has (suc n) j lt pass = elim (lt_add_one_cases j n (omega arith)) [
     | inl before ↦ has_left (passing n test) _ j (passing_has n j before pass)
     | inr same ↦ subst (λ k. Has (passing n test ++ (if test n then n ∷ [] else [])) k) (sym same) (added (test n) (ap test (sym same) ∙ pass))
   ]

@@ -3,7 +3,7 @@ use Rattle.std.specs.Prelude.{◌≡◌, ℕ, Bool, List, [], ◌∷◌, length,
 use Rattle.std.specs.Cmp.Lexicographic.{pointwise}
 use Rattle.std.specs.Ordering.{on, eq_of_both}
 use Rattle.std.specs.Coded.{Coded, code_by, coded×, coded_ℕ, coded_list}
-use Rattle.sparse_base.specs.Raw.{Raw, raw_of, IsInLane, IsValid, entries_of, raw_eq}
+use Rattle.sparse_pattern.specs.Raw.{Raw, raw_of, IsInLane, IsValid, entries_of, raw_eq}
 
 -- a pattern, and the value of each of its positions
 pub record Compressed (T : Type 0) : Type 0 where

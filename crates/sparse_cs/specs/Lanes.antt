@@ -4,9 +4,9 @@ use Rattle.std.specs.Cmp.Lexicographic.{pointwise}
 use Rattle.std.specs.Coded.{Coded, code_by, coded×, coded_ℕ, coded_list}
 use Rattle.std.specs.List.Sorted.{IsStrictlyIncreasing}
 use Rattle.std.specs.Ordering.{on, eq_of_both}
-use Rattle.sparse_base.specs.Raw.{start_of, end_of, lane_of}
-use Rattle.sparse_base.specs.declared.entry.SparseEntry.{SparseEntry}
-use Rattle.sparse_base.specs.declared.entry.SparseEntry.TheVariants.{NonZero, Zero}
+use Rattle.sparse_pattern.specs.Raw.{start_of, end_of, lane_of}
+use Rattle.sparse_pattern.specs.declared.entry.SparseEntry.{SparseEntry}
+use Rattle.sparse_pattern.specs.declared.entry.SparseEntry.TheVariants.{NonZero, Zero}
 use Rattle.sparse_cs.specs.Compressed.{Compressed}
 
 -- a lane's length, its stored indices, and the value at each of them

@@ -4,7 +4,7 @@ use Rattle.std.specs.Cmp.{IsPartialEquivalence, IsEquivalence, and_per, on_per, 
 use Rattle.std.specs.Cmp.Lexicographic.{lists_per, lists_equiv}
 use Rattle.std.specs.Cmp.Rules.{comparing}
 use Rattle.std.proofs.Common.{rules}
-use Rattle.sparse_base.specs.Raw.{raw_eq}
+use Rattle.sparse_pattern.specs.Raw.{raw_eq}
 use Rattle.sparse_cs.specs.Compressed.{compressed_eq}
 
 raw_equiv : IsEquivalence raw_eq

@@ -1,6 +1,6 @@
 -- What the iterators that lend values for writing have left.
 use Rattle.std.specs.Prelude.{ℕ, zero, suc, ◌+◌, ◌-◌, List, [], ◌∷◌, length, take, drop}
-use Rattle.sparse_base.specs.Raw.{Raw, lane_of}
+use Rattle.sparse_pattern.specs.Raw.{Raw, lane_of}
 use Rattle.sparse_cs.specs.Compressed.{zip_values}
 use Rattle.sparse_cs.specs.Lanes.{Lane, lane_parts}
 use Rattle.sparse_cs.specs.declared.lane_iter_mut.CsLaneMut.{CsLaneMut}

@@ -2,12 +2,12 @@ pub mod Compressed
 pub mod SortedFaults
 pub mod UnsortedFaults
 pub mod LaneSorting
-pub mod Forms
+pub mod PlainOfLanes
 pub mod Laws
-pub mod Entries
+pub mod StoredEntries
 pub mod Lanes
 pub mod Writing
 pub mod Left
 pub mod LaneEquality
 pub mod Filter
-pub mod Transposed
+pub mod TransposedMatrix

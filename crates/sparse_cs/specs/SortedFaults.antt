@@ -1,9 +1,9 @@
 -- The first fault of arrays whose lanes are to be sorted already.
 use Rattle.std.specs.Prelude.{◌≡◌, ◌≢◌, length}
-use Rattle.sparse_base.specs.Raw.{IsValid}
-use Rattle.sparse_base.specs.PatternFaults.{IsFirstFault, kind_of}
-use Rattle.sparse_base.specs.declared.error.SparseFormatErrorKind.{SparseFormatErrorKind}
-use Rattle.sparse_base.specs.declared.error.SparseFormatErrorKind.TheVariants.{InvalidStructure}
+use Rattle.sparse_pattern.specs.Raw.{IsValid}
+use Rattle.sparse_pattern.specs.PatternFaults.{IsFirstFault, kind_of}
+use Rattle.sparse_pattern.specs.declared.error.SparseFormatErrorKind.{SparseFormatErrorKind}
+use Rattle.sparse_pattern.specs.declared.error.SparseFormatErrorKind.TheVariants.{InvalidStructure}
 use Rattle.sparse_cs.specs.Compressed.{Compressed}
 use Rattle.sparse_cs.specs.declared.sorted.SortedFault.{SortedFault}
 use Rattle.sparse_cs.specs.declared.sorted.SortedFault.TheVariants.{Pattern, ValueCount}

@@ -1,10 +1,10 @@
 -- The faults of arrays whose lanes needn't be sorted, and their order.
 use Rattle.std.specs.Prelude.{◌≡◌, ◌≢◌, ℕ, ◌+◌, ◌<◌, ◌≤◌, ◌⊎◌, List, Any, length, slice_index}
 use Rattle.std.specs.List.Sorted.{IsPermutation}
-use Rattle.sparse_base.specs.Raw.{start_of, end_of, lane_of}
-use Rattle.sparse_base.specs.FirstFault.{IsFirst}
-use Rattle.sparse_base.specs.declared.error.SparseFormatErrorKind.{SparseFormatErrorKind}
-use Rattle.sparse_base.specs.declared.error.SparseFormatErrorKind.TheVariants.{IndexOutOfBounds, DuplicateEntry, InvalidStructure}
+use Rattle.sparse_pattern.specs.Raw.{start_of, end_of, lane_of}
+use Rattle.sparse_pattern.specs.FirstFault.{IsFirst}
+use Rattle.sparse_pattern.specs.declared.error.SparseFormatErrorKind.{SparseFormatErrorKind}
+use Rattle.sparse_pattern.specs.declared.error.SparseFormatErrorKind.TheVariants.{IndexOutOfBounds, DuplicateEntry, InvalidStructure}
 use Rattle.sparse_cs.specs.Compressed.{Compressed, IsSound, lane_triplets}
 
 -- where a fault can be: the number of values, no offset at all, the number of offsets, the first and the last of them, and of a lane its

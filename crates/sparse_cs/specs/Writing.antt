@@ -1,18 +1,18 @@
 -- Values that are lent for writing, and what the matrix is once the loan is over.
 use Rattle.std.specs.Prelude.{◌≡◌, ℕ, ◌<◌, ◌≤◌, ◌==◌, List, Option, Some, None, length, position, slice_set, slice_index_or, unwrap_or}
 use Rattle.std.specs.Borrow.{Lends, follows_if, MutBor, Fml, Array, RattleType}
-use Rattle.sparse_base.specs.Raw.{start_of}
-use Rattle.sparse_base.specs.Refill.{refill, refill_from}
-use Rattle.sparse_base.specs.Entries.{found_name, indexed_name}
-use Rattle.sparse_base.specs.declared.entry.SparseEntry.{SparseEntry}
-use Rattle.sparse_base.specs.declared.entry.SparseEntry.TheVariants as entry
-use Rattle.sparse_base.specs.declared.entry.SparseEntryMut.{SparseEntryMut}
-use Rattle.sparse_base.specs.declared.entry.SparseEntryMut.TheVariants.{NonZero, Zero}
-use Rattle.sparse_base.specs.declared.entry.Found.{Found}
-use Rattle.sparse_base.specs.declared.entry.Found.TheVariants.{Value, Nothing}
-use Rattle.sparse_base.specs.declared.entry.Missing.TheVariants.{OutOfBounds, NotStored}
+use Rattle.sparse_pattern.specs.Raw.{start_of}
+use Rattle.sparse_pattern.specs.Refill.{refill, refill_from}
+use Rattle.sparse_pattern.specs.SparseEntries.{found_name, indexed_name}
+use Rattle.sparse_pattern.specs.declared.entry.SparseEntry.{SparseEntry}
+use Rattle.sparse_pattern.specs.declared.entry.SparseEntry.TheVariants as entry
+use Rattle.sparse_pattern.specs.declared.entry.SparseEntryMut.{SparseEntryMut}
+use Rattle.sparse_pattern.specs.declared.entry.SparseEntryMut.TheVariants.{NonZero, Zero}
+use Rattle.sparse_pattern.specs.declared.entry.Found.{Found}
+use Rattle.sparse_pattern.specs.declared.entry.Found.TheVariants.{Value, Nothing}
+use Rattle.sparse_pattern.specs.declared.entry.Missing.TheVariants.{OutOfBounds, NotStored}
 use Rattle.sparse_cs.specs.Compressed.{Compressed}
-use Rattle.sparse_cs.specs.Entries.{IsInBounds, place_of}
+use Rattle.sparse_cs.specs.StoredEntries.{IsInBounds, place_of}
 use Rattle.sparse_cs.specs.Lanes.{Lane}
 use Rattle.sparse_cs.specs.contracts.CsMatrix.{the_row}
 

@@ -2,12 +2,12 @@
 
 ghost use Rattle.std.specs.Prelude.{◌≡◌, ◌<◌, ◌↔◌, IfSome, IsSome};
 ghost use Rattle.sparse_cs.specs.Compressed.{IsSound};
-ghost use Rattle.sparse_cs.specs.Entries.{IsEntryAt, IsEntryOf, IsInBounds};
+ghost use Rattle.sparse_cs.specs.StoredEntries.{IsEntryAt, IsEntryOf, IsInBounds};
 ghost use Rattle.sparse_cs.specs.Lanes.{lane_at};
 
 use crate::CsMatrix;
 use crate::lane::{CsLane, LaneIndices};
-use sparse_base::entry::SparseEntry;
+use sparse_pattern::entry::SparseEntry;
 
 impl<T> CsMatrix<T> {
     /// The offsets, the indices and the values.

@@ -6,7 +6,7 @@ ghost use Rattle.sparse_cs.specs.Compressed.{IsSound, lane_triplets};
 ghost use Rattle.sparse_cs.specs.Filter.{Answers, AnswersAs, HasSizesOf, IsKept, IsGrown};
 
 use crate::CsMatrix;
-use sparse_base::pattern::SparsityPattern;
+use sparse_pattern::pattern::SparsityPattern;
 use std::alloc::{AllocError, Global};
 
 impl<T: Copy> CsMatrix<T> {

@@ -2,11 +2,11 @@
 
 ghost use Rattle.std.specs.Prelude.{◌≡◌, ◌<◌, ◌==◌, ⊤, length, position, IfSome};
 ghost use Rattle.std.specs.List.Sorted.{IsStrictlyIncreasing};
-ghost use Rattle.sparse_base.specs.Raw.{lane_of};
+ghost use Rattle.sparse_pattern.specs.Raw.{lane_of};
 ghost use Rattle.sparse_cs.specs.Lanes.{IsLaneEntryAt, IsLaneEntryOf, IsSoundLane, lane_parts};
 
-use sparse_base::entry::SparseEntry;
-use sparse_base::pattern::SparsityPattern;
+use sparse_pattern::entry::SparseEntry;
+use sparse_pattern::pattern::SparsityPattern;
 use std::alloc::AllocError;
 use std::fmt::{self, Debug, Formatter, Write};
 use std::marker::Model;

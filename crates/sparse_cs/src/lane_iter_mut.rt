@@ -10,7 +10,7 @@ ghost use Rattle.sparse_cs.specs.Writing.{LendsLane};
 
 use crate::CsMatrix;
 use crate::lane::LaneIndices;
-use sparse_base::pattern::SparsityPattern;
+use sparse_pattern::pattern::SparsityPattern;
 use std::mem;
 
 /// One lane, its values for writing.

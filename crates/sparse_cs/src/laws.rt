@@ -2,15 +2,15 @@
 
 ghost use Rattle.std.specs.Prelude.{◌≡◌, ℕ, ◌↔◌, Bool, true, map, Some};
 ghost use Rattle.std.specs.List.{filter};
-ghost use Rattle.sparse_base.specs.Plain.{plain_kept, plain_transpose, row_order};
-ghost use Rattle.sparse_base.specs.Raw.{Raw, IsValid};
+ghost use Rattle.sparse_algebra.specs.Plain.{plain_kept, plain_transpose, row_order};
+ghost use Rattle.sparse_pattern.specs.Raw.{Raw, IsValid};
 ghost use Rattle.sparse_cs.specs.Compressed.{Compressed, IsPosition, IsSound, lane_triplets, turned, compressed_eq};
-ghost use Rattle.sparse_cs.specs.Entries.{place_of};
+ghost use Rattle.sparse_cs.specs.StoredEntries.{place_of};
 ghost use Rattle.sparse_cs.specs.Filter.{HasSizesOf};
-ghost use Rattle.sparse_cs.specs.Forms.{meant, plain_of_rows, plain_of_cols};
-ghost use Rattle.sparse_cs.specs.Transposed.{IsTranspose};
+ghost use Rattle.sparse_cs.specs.PlainOfLanes.{meant, plain_of_rows, plain_of_cols};
+ghost use Rattle.sparse_cs.specs.TransposedMatrix.{IsTranspose};
 
-use sparse_base::scalar::Ring;
+use sparse_algebra::scalar::Ring;
 
 /// `==` of compressed matrices over a ring answers whether they stand for one plain matrix.
 pub fn equal_law<T: Ring>()

@@ -3,7 +3,7 @@
 
 ghost use Rattle.std.specs.Prelude.{◌≡◌, ◌<◌, ◌≤◌, ℕ, IfOk, length, List, ⊤};
 ghost use Rattle.std.specs.Iterator.{YieldsFirstBy, item_count};
-ghost use Rattle.sparse_base.specs.Raw.{lane_of};
+ghost use Rattle.sparse_pattern.specs.Raw.{lane_of};
 ghost use Rattle.sparse_cs.specs.Compressed.{Compressed, compressed_of, IsSound, lane_triplets};
 
 mod entries;
@@ -13,18 +13,18 @@ mod lane_iter;
 mod lane_iter_mut;
 pub mod laws;
 mod sorted;
-mod special;
 mod transpose;
 mod triplet_iter_mut;
 mod triplets;
 mod unsorted;
 pub mod writing;
+mod zeros_identity;
 
 pub use lane::{CsLane, LaneIndices};
 pub use lane_iter::CsLaneIter;
 pub use lane_iter_mut::{CsLaneIterMut, CsLaneMut};
 pub use sorted::SortedFault;
-use sparse_base::pattern::{SparsityPattern, SparsityPatternIter};
+use sparse_pattern::pattern::{SparsityPattern, SparsityPatternIter};
 use std::alloc::{AllocError, Global};
 use std::marker::Model;
 pub use triplet_iter_mut::CsTripletIterMut;

@@ -5,8 +5,8 @@ ghost use Rattle.sparse_cs.specs.Compressed.{compressed_of, arrays_of, IsSound};
 ghost use Rattle.sparse_cs.specs.SortedFaults.{IsFirstSortedFault, sorted_kind};
 
 use crate::CsMatrix;
-use sparse_base::error::{SparseFormatError, SparseFormatErrorKind};
-use sparse_base::pattern::{SparsityPattern, SparsityPatternFormatError};
+use sparse_pattern::error::{SparseFormatError, SparseFormatErrorKind};
+use sparse_pattern::pattern::{SparsityPattern, SparsityPatternFormatError};
 
 /// What is wrong with arrays whose lanes are to be sorted.
 #[derive(Debug, Clone, Copy, PartialEq, Eq)]

@@ -2,7 +2,7 @@
 
 ghost use Rattle.std.specs.Prelude.{IfOk};
 ghost use Rattle.sparse_cs.specs.Compressed.{IsSound};
-ghost use Rattle.sparse_cs.specs.Transposed.{IsTranspose};
+ghost use Rattle.sparse_cs.specs.TransposedMatrix.{IsTranspose};
 
 use crate::CsMatrix;
 use std::alloc::{AllocError, Global};

@@ -6,7 +6,7 @@ ghost use Rattle.sparse_cs.specs.Compressed.{lane_triplets};
 ghost use Rattle.sparse_cs.specs.Left.{triplets_left};
 
 use crate::CsMatrix;
-use sparse_base::pattern::SparsityPatternIter;
+use sparse_pattern::pattern::SparsityPatternIter;
 use std::mem;
 
 impl<T> CsMatrix<T> {

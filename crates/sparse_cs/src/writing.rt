@@ -3,14 +3,14 @@
 ghost use Rattle.std.specs.Prelude.{◌≡◌, ◌<◌, length, slice_index_or, IfSome};
 ghost use Rattle.std.specs.Borrow.{sem};
 ghost use Rattle.sparse_cs.specs.Compressed.{IsSound};
-ghost use Rattle.sparse_cs.specs.Entries.{IsInBounds, place_of};
+ghost use Rattle.sparse_cs.specs.StoredEntries.{IsInBounds, place_of};
 ghost use Rattle.sparse_cs.specs.Lanes.{lane_parts};
 ghost use Rattle.sparse_cs.specs.Writing.{LendsValues, LendsFound, LendsIndexed, LendsElement, IsFoundAt, IsEntryMutAt, IsLentEntryOf};
 
 use crate::CsMatrix;
 use crate::lane::LaneIndices;
-use sparse_base::entry::{Found, Missing, SparseEntry, SparseEntryMut};
-use sparse_base::pattern::SparsityPattern;
+use sparse_pattern::entry::{Found, Missing, SparseEntry, SparseEntryMut};
+use sparse_pattern::pattern::SparsityPattern;
 
 impl<T> CsMatrix<T> {
     /// The values for writing.

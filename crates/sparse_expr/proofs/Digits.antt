@@ -14,17 +14,14 @@ use Rattle.std.proofs.lemmas.Str.Ascii.{IsAscii-cons}
 use Rattle.std.proofs.lemmas.Str.{IsUtf8-from_ascii}
 use Rattle.std.proofs.lemmas.Fmt.{IsAscii-from_digits}
 use Rattle.std.proofs.lemmas.Bool.{ltb-true, eqb-true}
+use Rattle.sparse_lemmas.proofs.Cases.{and_parts}
 use Rattle.sparse_expr.specs.Words.{is_number}
 
 pub own : IsNumeralModel (λ ds. list_all is_ascii_digit ds ≡ true) (digits_value 10)
 own = numerals_by_value _ (search rules)
 
-both : (a b : Bool) → (a && b) ≡ true → (a ≡ true) × (b ≡ true)
-both true b e = (refl, e)
-both false b e = absurd cc
-
 pub number-parts : (word : List ℕ) → is_number word ≡ true → (0 < length word) × (list_all is_ascii_digit word ≡ true)
-number-parts word e = let p = both _ _ e in (ltb-true _ _ p.0, p.1)
+number-parts word e = let p = and_parts _ _ e in (ltb-true _ _ p.0, p.1)
 
 pub number-IsNumeral : (word : List ℕ) → is_number word ≡ true → IsNumeral 10 word
 number-IsNumeral word e = let p = number-parts word e in (p.0, own.to word p.1)

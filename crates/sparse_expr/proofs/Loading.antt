@@ -5,10 +5,10 @@ use Rattle.std.proofs.Math.ListN.{get_or-map}
 use denote.Ref.{Bor}
 use Rattle.std.specs.declared.io.ErrorKind.{ErrorKind}
 use Rattle.sparse_base.specs.Coo.{Coo}
-use Rattle.sparse_io.specs.Meaning.{Means}
+use Rattle.sparse_parser.specs.Meaning.{Means}
 use Rattle.sparse_io.specs.Written.{IsRefusedWrite}
-use Rattle.sparse_io.specs.declared.error.MatrixMarketErrorKind.{MatrixMarketErrorKind}
-use Rattle.sparse_io.specs.declared.error.MatrixMarketErrorKind.TheVariants as kinds
+use Rattle.sparse_parser.specs.declared.error.MatrixMarketErrorKind.{MatrixMarketErrorKind}
+use Rattle.sparse_parser.specs.declared.error.MatrixMarketErrorKind.TheVariants as kinds
 use Rattle.sparse_expr.specs.Words.{texts}
 use Rattle.sparse_expr.specs.Run.{AllMean, IsFirstRefused}
 

@@ -5,19 +5,20 @@ use Rattle.std.specs.List.{list_any, flat_map}
 use Rattle.std.specs.Int.{w64}
 use Rattle.std.specs.Fmt.{signed_decimal, decimal}
 use Rattle.std.proofs.lemmas.List.{length-map}
-use Rattle.sparse_base.specs.Algebra.{CommRing}
-use Rattle.sparse_base.specs.Sums.{sum_by, where_true}
+use Rattle.sparse_algebra.specs.Algebra.{CommRing}
+use Rattle.sparse_algebra.specs.Sums.{sum_by, where_true}
 use Rattle.sparse_base.specs.Coo.{Coo}
-use Rattle.sparse_base.specs.Plain.{Plain, is_at, plain_of_triplets, plain_product, row_order}
-use Rattle.sparse_base.specs.Wrapping.{class_of}
-use Rattle.sparse_base.specs.Numbers.{w64_number}
-use Rattle.sparse_base.specs.declared.scalar.wrapping.W64.{W64}
-use Rattle.sparse_base.proofs.PlainLemmas.{same_plain}
-use Rattle.sparse_base.proofs.WholeNumbers.{number_of-class}
+use Rattle.sparse_algebra.specs.Plain.{Plain, is_at, plain_of_triplets, plain_product, row_order}
+use Rattle.sparse_algebra.specs.Wrapping.{class_of}
+use Rattle.sparse_algebra.specs.Numbers.{w64_number}
+use Rattle.sparse_algebra.specs.declared.scalar.wrapping.W64.{W64}
+use Rattle.sparse_algebra.proofs.PlainLemmas.{same_plain}
+use Rattle.sparse_algebra.proofs.WholeNumbers.{number_of-class}
 use Rattle.sparse_cs.specs.Compressed.{Compressed, IsSound, lane_triplets}
-use Rattle.sparse_cs.specs.Forms.{plain_of_coo, plain_of_rows, meant}
+use Rattle.sparse_base.specs.CooPlain.{plain_of_coo}
+use Rattle.sparse_cs.specs.PlainOfLanes.{plain_of_rows, meant}
 use Rattle.sparse_cs.proofs.RowOrder.{row_order-rows}
-use Rattle.sparse_io.specs.Meaning.{numbers_of}
+use Rattle.sparse_parser.specs.Meaning.{numbers_of}
 use Rattle.sparse_io.specs.Written.{written_text, heading, size_line, triplet_line}
 use Rattle.sparse_expr.specs.declared.calculator.Form.{Form}
 use Rattle.sparse_expr.specs.declared.calculator.Form.TheVariants.{Rows}

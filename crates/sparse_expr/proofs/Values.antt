@@ -2,8 +2,8 @@
 use Rattle.std.proofs.Common.{◌≡◌, ◌<◌, ◌≤◌, ◌-◌, ◌≢◌, ℕ, zero, suc, Bool, true, false, List, [], ◌∷◌, length, map, get_or, Result, Ok, Some, ap, sym, ◌∙◌, refl, arith}
 use Rattle.std.specs.Prelude.{nat_eq, if◌then◌else◌, slice_get}
 use Rattle.std.proofs.lemmas.Bool.Decides.{Decides-eqb}
-use Rattle.sparse_base.specs.Algebra.{CommRing}
-use Rattle.sparse_base.specs.Plain.{Plain, plain_product}
+use Rattle.sparse_algebra.specs.Algebra.{CommRing}
+use Rattle.sparse_algebra.specs.Plain.{Plain, plain_product}
 use Rattle.sparse_expr.specs.Value.{both, product_of, input_at, found}
 use Rattle.sparse_expr.specs.declared.error.ExprError.{ExprError}
 

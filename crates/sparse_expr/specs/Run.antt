@@ -4,19 +4,19 @@ use Rattle.std.specs.Int.{w64}
 use Rattle.std.specs.Fmt.{signed_decimal}
 use Rattle.std.specs.declared.io.ErrorKind.{ErrorKind}
 use Rattle.std.specs.Io.KnownBytes.{Appends}
-use Rattle.sparse_base.specs.Algebra.{CommRing}
-use Rattle.sparse_base.specs.Wrapping.{wrapping_ring, class_of}
-use Rattle.sparse_base.specs.Whole.{number_of}
+use Rattle.sparse_algebra.specs.Algebra.{CommRing}
+use Rattle.sparse_algebra.specs.Wrapping.{wrapping_ring, class_of}
+use Rattle.sparse_algebra.specs.Whole.{number_of}
 use Rattle.sparse_base.specs.Coo.{Coo}
-use Rattle.sparse_base.specs.Plain.{Plain, row_order}
-use Rattle.sparse_base.specs.Numbers.{w64_number}
-use Rattle.sparse_base.specs.declared.scalar.wrapping.W64.{W64}
+use Rattle.sparse_algebra.specs.Plain.{Plain, row_order}
+use Rattle.sparse_algebra.specs.Numbers.{w64_number}
+use Rattle.sparse_algebra.specs.declared.scalar.wrapping.W64.{W64}
 use Rattle.sparse_cs.specs.Compressed.{Compressed, lane_triplets}
-use Rattle.sparse_cs.specs.Forms.{plain_of_coo}
-use Rattle.sparse_io.specs.Meaning.{Means}
+use Rattle.sparse_base.specs.CooPlain.{plain_of_coo}
+use Rattle.sparse_parser.specs.Meaning.{Means}
 use Rattle.sparse_io.specs.Sink.{AppendsSome}
 use Rattle.sparse_io.specs.Written.{written_text}
-use Rattle.sparse_io.specs.declared.error.MatrixMarketErrorKind.{MatrixMarketErrorKind}
+use Rattle.sparse_parser.specs.declared.error.MatrixMarketErrorKind.{MatrixMarketErrorKind}
 use Rattle.sparse_expr.specs.declared.expr.Expr.{Expr}
 use Rattle.sparse_expr.specs.declared.error.ExprError.{ExprError}
 use Rattle.sparse_expr.specs.declared.error.ExprError.TheVariants as refusal

@@ -2,18 +2,18 @@
 
 ghost use Rattle.std.specs.Prelude.{◌≡◌, ◌⊎◌, ◌+◌, Ok, Err, map, OnOk, IfOk, OnErr, IfErr};
 ghost use Rattle.std.specs.Io.KnownBytes.{Appends};
-ghost use Rattle.sparse_io.specs.Meaning.{Means, numbers_of};
+ghost use Rattle.sparse_parser.specs.Meaning.{Means, numbers_of};
 ghost use Rattle.sparse_io.specs.Sink.{AppendsSome};
 ghost use Rattle.sparse_cs.specs.Compressed.{IsSound};
-ghost use Rattle.sparse_io.specs.declared.error.MatrixMarketErrorKind.{MatrixMarketErrorKind};
+ghost use Rattle.sparse_parser.specs.declared.error.MatrixMarketErrorKind.{MatrixMarketErrorKind};
 ghost use Rattle.sparse_expr.specs.Words.{texts};
 ghost use Rattle.sparse_expr.specs.Run.{AllMean, Writes, RefusesRun, RefusesLoad, RefusesSave, effect, rows_text};
 ghost use Rattle.sparse_expr.specs.declared.error.ExprError.TheVariants.{Input, OutOfMemory};
 
 use crate::error::ExprError;
 use crate::expr::{Expr, evaluate_rows};
+use sparse_algebra::scalar::W64;
 use sparse_base::coo::CooMatrix;
-use sparse_base::scalar::W64;
 use sparse_forms::csr::CsrMatrix;
 use sparse_io::{
     MatrixMarketErrorKind, Sink, load_coo_from_matrix_market_str, save_to_matrix_market,

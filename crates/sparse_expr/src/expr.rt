@@ -1,15 +1,16 @@
 //! Expressions and their values.
 
 ghost use Rattle.std.specs.Prelude.{map};
-ghost use Rattle.sparse_cs.specs.Forms.{plain_of_rows, plain_of_coo};
+ghost use Rattle.sparse_base.specs.CooPlain.{plain_of_coo};
+ghost use Rattle.sparse_cs.specs.PlainOfLanes.{plain_of_rows};
 ghost use Rattle.sparse_expr.specs.Value.{value_of, Meets};
 
 use crate::error::ExprError;
+use sparse_algebra::scalar::Ring;
 use sparse_base::coo::CooMatrix;
-use sparse_base::scalar::Ring;
+use sparse_convert::serial::convert_coo_csr;
 use sparse_forms::csr::CsrMatrix;
-use sparse_ops::convert::serial::convert_coo_csr;
-use sparse_ops::ops::serial::mul_csr;
+use sparse_ops::serial::mul_csr;
 use std::alloc::Global;
 
 /// An expression over inputs.

@@ -1,7 +1,7 @@
 -- A write in a lane is a write at its position.
 use Rattle.std.proofs.Common.{◌≡◌, ℕ, ◌+◌, ◌-◌, ◌<◌, ◌≤◌, List, ◌++◌, length, take, drop, slice_range, slice_set, arith, rules, ◌∙◌, ap, sym}
 use Rattle.std.proofs.lemmas.List.{places, take_at, set-append_left, set-append_right, take-append-drop, length-take-le}
-use Rattle.sparse_base.specs.Refill.{refill_from}
+use Rattle.sparse_pattern.specs.Refill.{refill_from}
 
 refill_from_is : {X : Type 0} (xs : List X) (i : ℕ) (ws : List X) → i + length ws ≤ length xs
     → refill_from xs i ws ≡ take i xs ++ (ws ++ drop (length ws) (drop i xs))

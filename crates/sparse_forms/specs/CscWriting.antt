@@ -3,9 +3,9 @@ use Rattle.std.specs.Prelude.{ℕ, List, [], Option, map, slice_set, unwrap_or}
 use Rattle.std.specs.Borrow.{Lends, LendsIf, follows_if, name_if_some, MutBor, Fml, GName, Array, RattleType}
 use mathlib.Core.Option as maybe
 use mir.Syntax.{named}
-use Rattle.sparse_base.specs.Entries.{found_name, entry_name, indexed_name}
-use Rattle.sparse_base.specs.declared.entry.SparseEntryMut.{SparseEntryMut}
-use Rattle.sparse_base.specs.declared.entry.Found.{Found}
+use Rattle.sparse_pattern.specs.SparseEntries.{found_name, entry_name, indexed_name}
+use Rattle.sparse_pattern.specs.declared.entry.SparseEntryMut.{SparseEntryMut}
+use Rattle.sparse_pattern.specs.declared.entry.Found.{Found}
 use Rattle.sparse_cs.specs.Compressed.{Compressed, turned}
 use Rattle.sparse_cs.specs.Lanes.{Lane, lane_parts}
 use Rattle.sparse_cs.specs.Left.{triplets_left, lanes_left}

@@ -1,10 +1,10 @@
 //! CSR matrices: compressed by rows.
 
 ghost use Rattle.std.specs.Prelude.{◌≡◌, ◌≢◌, ◌⊎◌, [], length, IfOk, IfErr, IsOk, OnOk, IsOkUnless};
-ghost use Rattle.sparse_base.specs.Raw.{empty_raw};
-ghost use Rattle.sparse_base.specs.Plain.{plain_identity};
+ghost use Rattle.sparse_pattern.specs.Raw.{empty_raw};
+ghost use Rattle.sparse_algebra.specs.Plain.{plain_identity};
 ghost use Rattle.sparse_cs.specs.Compressed.{compressed_of, arrays_of, IsSound};
-ghost use Rattle.sparse_cs.specs.Forms.{plain_of_rows};
+ghost use Rattle.sparse_cs.specs.PlainOfLanes.{plain_of_rows};
 ghost use Rattle.sparse_cs.specs.SortedFaults.{IsSortedRefusal, sorted_kind};
 ghost use Rattle.sparse_cs.specs.UnsortedFaults.{IsFaultless, IsSortedForm, IsUnsortedRefusal};
 
@@ -20,10 +20,10 @@ use crate::csc::CscMatrix;
 pub use iter_mut::{CsrRowIterMut, CsrTripletIterMut};
 pub use row_mut::CsrRowMut;
 pub use rows::{CsrRow, CsrRowIter};
-use sparse_base::error::{SparseFormatError, SparseFormatErrorKind};
-use sparse_base::pattern::{SparsityPattern, SparsityPatternFormatError};
-use sparse_base::scalar::Ring;
+use sparse_algebra::scalar::Ring;
 use sparse_cs::{CsMatrix, SortedFault};
+use sparse_pattern::error::{SparseFormatError, SparseFormatErrorKind};
+use sparse_pattern::pattern::{SparsityPattern, SparsityPatternFormatError};
 use std::alloc::{AllocError, Global};
 use std::marker::Model;
 pub use triplets::{CsrTripletIter, CsrTripletValues};
@@ -303,6 +303,3 @@ impl<T: Eq> Eq for CsrMatrix<T> {
 
     ghost laws = { compressed_eq-equiv T.Eq.laws };
 }
-
-#[cfg(test)]
-mod tests;

@@ -5,19 +5,19 @@ use Rattle.std.specs.List.{list_all}
 use Rattle.std.proofs.lemmas.List.{append-nil}
 use Rattle.std.proofs.lemmas.Bool.Decides.{eqb_tells}
 use Rattle.sparse_base.specs.Coo.{Coo, coo_of, appended}
-use Rattle.sparse_base.specs.declared.scalar.wrapping.W64.{W64}
-use Rattle.sparse_io.specs.declared.error.Cause.{Cause}
-use Rattle.sparse_io.specs.Errors.{kind_of_cause}
-use Rattle.sparse_base.specs.declared.error.SparseFormatErrorKind.TheVariants.{IndexOutOfBounds}
-use Rattle.sparse_io.specs.declared.error.MatrixMarketErrorKind.{MatrixMarketErrorKind}
-use Rattle.sparse_io.specs.declared.error.MatrixMarketErrorKind.TheVariants.{ParsingError, EntryMismatch, SparseFormatError}
-use Rattle.sparse_io.specs.Bytes.{is_blank, is_space, is_within_line, front, after, BeginsLine}
-use Rattle.sparse_io.specs.Grammar.{is_entry}
-use Rattle.sparse_io.specs.Meaning.{Read, ◌>>=◌, entry_of, entries_of, is_inside, listed_of, numbers_of}
-use Rattle.sparse_io.specs.Reading.{words_of, contents_of, entry_at, count_of, among_entries, settled_of, found}
-use Rattle.sparse_io.proofs.Fronts.{IsStopped, length-after-lt}
-use Rattle.sparse_io.proofs.LineLaws.{outside, contents_of-line, contents_of-nil}
-use Rattle.sparse_io.proofs.EntryGrammar.{entry_found, entry_complete}
+use Rattle.sparse_algebra.specs.declared.scalar.wrapping.W64.{W64}
+use Rattle.sparse_parser.specs.declared.error.Cause.{Cause}
+use Rattle.sparse_parser.specs.Errors.{kind_of_cause}
+use Rattle.sparse_pattern.specs.declared.error.SparseFormatErrorKind.TheVariants.{IndexOutOfBounds}
+use Rattle.sparse_parser.specs.declared.error.MatrixMarketErrorKind.{MatrixMarketErrorKind}
+use Rattle.sparse_parser.specs.declared.error.MatrixMarketErrorKind.TheVariants.{ParsingError, EntryMismatch, SparseFormatError}
+use Rattle.sparse_parser.specs.Bytes.{is_blank, is_space, is_within_line, front, after, BeginsLine}
+use Rattle.sparse_parser.specs.Grammar.{is_entry}
+use Rattle.sparse_parser.specs.Meaning.{Read, ◌>>=◌, entry_of, entries_of, is_inside, listed_of, numbers_of}
+use Rattle.sparse_parser.specs.Reading.{words_of, contents_of, entry_at, count_of, among_entries, settled_of, found}
+use Rattle.sparse_parser.proofs.Fronts.{IsStopped, length-after-lt}
+use Rattle.sparse_parser.proofs.LineLaws.{outside, contents_of-line, contents_of-nil}
+use Rattle.sparse_parser.proofs.EntryGrammar.{entry_found, entry_complete}
 
 -- a data line was read, and the search went on to the next line
 pub record IsRead (text next : List ℕ) (e : Read (ℕ × ℕ × ℤ)) : Type 0 where

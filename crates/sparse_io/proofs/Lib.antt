@@ -1,11 +1,4 @@
 pub mod Buffering
-pub mod ByteClasses
-pub mod Digits
-pub mod EntryGrammar
-pub mod EntryLaws
 pub mod EntryLoop
-pub mod Fronts
-pub mod LineLaws
 pub mod OneMeaning
 pub mod Parts
-pub mod WordLaws

@@ -3,13 +3,13 @@ use Rattle.std.proofs.Common.{◌≡◌, ℕ, ℤ, Bool, true, false, cond, ◌&
 use Rattle.std.specs.Prelude.{◌⊎◌, filter}
 use Rattle.std.specs.List.{list_all}
 use Rattle.sparse_base.specs.Coo.{Coo}
-use Rattle.sparse_io.specs.declared.error.MatrixMarketErrorKind.TheVariants.{ParsingError, InvalidHeader}
-use Rattle.sparse_io.specs.declared.header.Header.{Header}
-use Rattle.sparse_io.specs.Header.{header_of, is_carried}
-use Rattle.sparse_io.specs.Grammar.{is_size, is_entry, IsHeaded, IsBody}
-use Rattle.sparse_io.specs.Meaning.{Read, matrix_of, BodyMeans, Means}
-use Rattle.sparse_io.specs.Reading.{is_content, written_of, among_entries, body_of, document_of, read, judged}
-use Rattle.sparse_io.proofs.LineLaws.{Begins, lines_only, some_lines, headed_only, headed_are}
+use Rattle.sparse_parser.specs.declared.error.MatrixMarketErrorKind.TheVariants.{ParsingError, InvalidHeader}
+use Rattle.sparse_parser.specs.declared.header.Header.{Header}
+use Rattle.sparse_parser.specs.Header.{header_of, is_carried}
+use Rattle.sparse_parser.specs.Grammar.{is_size, is_entry, IsHeaded, IsBody}
+use Rattle.sparse_parser.specs.Meaning.{Read, matrix_of, BodyMeans, Means}
+use Rattle.sparse_parser.specs.Reading.{is_content, written_of, among_entries, body_of, document_of, read, judged}
+use Rattle.sparse_parser.proofs.LineLaws.{Begins, lines_only, some_lines, headed_only, headed_are}
 
 pub headed_lines : (text : List ℕ) (header : Header) (contents : List (List (List ℕ))) (h : IsHeaded text header contents) → Begins (written_of text) h.words contents
 headed_lines text header contents h = let b = headed_only h.lines h.words contents h.headed in (b.0, sym (lines_only text h.lines h.cut) ∙ b.1, b.2)

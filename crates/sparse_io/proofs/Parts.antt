@@ -3,23 +3,23 @@ use Rattle.std.proofs.Common.{◌≡◌, ◌≢◌, ℕ, ℤ, Bool, true, false,
 use Rattle.std.specs.Prelude.{filter, IfOk, IfErr, ◌⊎◌}
 use Rattle.std.specs.List.{list_all}
 use Rattle.sparse_base.specs.Coo.{Coo}
-use Rattle.sparse_io.specs.declared.error.Cause.{Cause}
-use Rattle.sparse_io.specs.declared.error.MatrixMarketErrorKind.{MatrixMarketErrorKind}
-use Rattle.sparse_io.specs.declared.error.MatrixMarketErrorKind.TheVariants.{ParsingError, InvalidHeader, OutOfMemory}
-use Rattle.sparse_io.specs.declared.error.MatrixMarketError.{MatrixMarketError}
-use Rattle.sparse_base.specs.declared.scalar.wrapping.W64.{W64}
-use Rattle.sparse_io.specs.declared.header.Header.{Header}
-use Rattle.sparse_io.specs.declared.size.Size.{Size}
-use Rattle.sparse_io.specs.Errors.{kind_of, kind_of_cause}
-use Rattle.sparse_io.specs.Bytes.{is_space, is_within_line, front, after, BeginsLine}
-use Rattle.sparse_io.specs.Header.{fields_of, header_of, is_carried}
-use Rattle.sparse_io.specs.Grammar.{is_size, is_entry}
-use Rattle.sparse_io.specs.Meaning.{Read, ◌>>=◌, sizes_of, listed_of, matrix_of, Means, numbers_of}
-use Rattle.sparse_io.specs.Reading.{Gives, words_of, written_of, is_content, contents_of, among_entries, body_of, judged, document_of, read, size_at, size_numbers, grammar_kind_of}
+use Rattle.sparse_parser.specs.declared.error.Cause.{Cause}
+use Rattle.sparse_parser.specs.declared.error.MatrixMarketErrorKind.{MatrixMarketErrorKind}
+use Rattle.sparse_parser.specs.declared.error.MatrixMarketErrorKind.TheVariants.{ParsingError, InvalidHeader, OutOfMemory}
+use Rattle.sparse_parser.specs.declared.error.MatrixMarketError.{MatrixMarketError}
+use Rattle.sparse_algebra.specs.declared.scalar.wrapping.W64.{W64}
+use Rattle.sparse_parser.specs.declared.header.Header.{Header}
+use Rattle.sparse_parser.specs.declared.size.Size.{Size}
+use Rattle.sparse_parser.specs.Errors.{kind_of, kind_of_cause}
+use Rattle.sparse_parser.specs.Bytes.{is_space, is_within_line, front, after, BeginsLine}
+use Rattle.sparse_parser.specs.Header.{fields_of, header_of, is_carried}
+use Rattle.sparse_parser.specs.Grammar.{is_size, is_entry}
+use Rattle.sparse_parser.specs.Meaning.{Read, ◌>>=◌, sizes_of, listed_of, matrix_of, Means, numbers_of}
+use Rattle.sparse_parser.specs.Reading.{Gives, words_of, written_of, is_content, contents_of, among_entries, body_of, judged, document_of, read, size_at, size_numbers, grammar_kind_of}
 use Rattle.sparse_io.proofs.OneMeaning.{read_means}
-use Rattle.sparse_io.proofs.Fronts.{IsStopped, IsStopped-after}
-use Rattle.sparse_io.proofs.WordLaws.{words_of-nil}
-use Rattle.sparse_io.proofs.LineLaws.{contents_of-nil, contents_of-line, written_of-nil, written_of-first, written_of-after_space}
+use Rattle.sparse_parser.proofs.Fronts.{IsStopped, IsStopped-after}
+use Rattle.sparse_parser.proofs.WordLaws.{words_of-nil}
+use Rattle.sparse_parser.proofs.LineLaws.{contents_of-nil, contents_of-line, written_of-nil, written_of-first, written_of-after_space}
 
 -- ---- the size line
 

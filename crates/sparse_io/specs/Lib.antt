@@ -1,10 +1,4 @@
-pub mod Errors
 pub mod Sink
 pub mod Out
 pub mod Export
 pub mod Written
-pub mod Bytes
-pub mod Header
-pub mod Grammar
-pub mod Meaning
-pub mod Reading

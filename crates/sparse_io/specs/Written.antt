@@ -4,8 +4,8 @@ use Rattle.std.specs.List.{flat_map}
 use Rattle.std.specs.Fmt.{decimal}
 use Rattle.std.specs.declared.io.ErrorKind.{ErrorKind}
 use Rattle.sparse_base.specs.Coo.{Coo}
-use Rattle.sparse_io.specs.declared.error.MatrixMarketErrorKind.{MatrixMarketErrorKind}
-use Rattle.sparse_io.specs.declared.error.MatrixMarketErrorKind.TheVariants.{IOError, OutOfMemory}
+use Rattle.sparse_parser.specs.declared.error.MatrixMarketErrorKind.{MatrixMarketErrorKind}
+use Rattle.sparse_parser.specs.declared.error.MatrixMarketErrorKind.TheVariants.{IOError, OutOfMemory}
 
 -- the header line, with the name of the values' type, and the comment below it
 unfoldable pub heading : List ℕ → List ℕ

@@ -2,19 +2,19 @@
 
 ghost use Rattle.std.specs.Prelude.{◌≡◌, ℕ, ℤ, ◌⊎◌, ◌&&◌, List, [], ◌∷◌, IsTrue, IfOk, IfErr, OnOk, Ok, Err};
 ghost use Rattle.sparse_base.specs.Coo.{Coo, appended};
-ghost use Rattle.sparse_io.specs.declared.error.MatrixMarketErrorKind.TheVariants.{OutOfMemory};
-ghost use Rattle.sparse_io.specs.Errors.{kind_of, kind_of_cause};
-ghost use Rattle.sparse_io.specs.Meaning.{Read, is_inside, listed_of, Means, numbers_of};
-ghost use Rattle.sparse_io.specs.Reading.{Gives, contents_of, among_entries, grammar_kind_of, count_of, settled_of, body_of, read};
+ghost use Rattle.sparse_parser.specs.declared.error.MatrixMarketErrorKind.TheVariants.{OutOfMemory};
+ghost use Rattle.sparse_parser.specs.Errors.{kind_of, kind_of_cause};
+ghost use Rattle.sparse_parser.specs.Meaning.{Read, is_inside, listed_of, Means, numbers_of};
+ghost use Rattle.sparse_parser.specs.Reading.{Gives, contents_of, among_entries, grammar_kind_of, count_of, settled_of, body_of, read};
 
-use crate::entries::{Triplet, entry};
-use crate::error::{Cause, MatrixMarketError};
-use crate::header::Header;
-use crate::lines::{after_space, next_line, split_line};
-use crate::size::Size;
+use sparse_algebra::scalar::wrapping::W64;
 use sparse_base::coo::CooMatrix;
-use sparse_base::error::SparseFormatErrorKind;
-use sparse_base::scalar::wrapping::W64;
+use sparse_parser::data_lines::{Triplet, entry};
+use sparse_parser::error::{Cause, MatrixMarketError};
+use sparse_parser::header::Header;
+use sparse_parser::lines::{after_space, next_line, split_line};
+use sparse_parser::size::Size;
+use sparse_pattern::error::SparseFormatErrorKind;
 use std::alloc::{AllocError, Global};
 
 /// The least bytes that a data line takes with its end, as `1 1 1` does.
@@ -66,7 +66,7 @@ fn body(alloc: Global, text: &[u8]) -> Result<CooMatrix<W64>, MatrixMarketError>
 }
 
 /// This cause, unless a later line is no data line.
-#[tactic(auto, unfolding(crate::specs::Reading::grammar_kind_of, crate::specs::Reading::count_of))]
+#[tactic(auto, unfolding(sparse_parser::specs::Reading::grammar_kind_of, sparse_parser::specs::Reading::count_of))]
 fn in_grammar(cause: Cause, text: &[u8]) -> Cause
     ensures { kind_of_cause result ≡ grammar_kind_of (kind_of_cause cause) (contents_of text.now) }
 {
@@ -123,7 +123,7 @@ fn add(matrix: &mut CooMatrix<W64>, inside: bool, triplet: Triplet) -> Result<bo
 }
 
 /// The first fault, where an entry is refused. So many data lines were read with it, and this text follows.
-#[tactic(auto, unfolding(crate::specs::Reading::settled_of, crate::specs::Reading::count_of))]
+#[tactic(auto, unfolding(sparse_parser::specs::Reading::settled_of, sparse_parser::specs::Reading::count_of))]
 fn settled(cause: Cause, read: usize, count: usize, text: &[u8]) -> Cause
     ensures { kind_of_cause result ≡ settled_of (kind_of_cause cause) read count (contents_of text.now) }
 {

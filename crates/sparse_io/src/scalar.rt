@@ -2,10 +2,10 @@
 
 ghost use Rattle.std.specs.Prelude.{◌≡◌, ℕ, ◌++◌, List, OnOk, codes, string_bytes};
 ghost use Rattle.std.specs.Fmt.{signed_decimal};
-ghost use Rattle.sparse_base.specs.Numbers.{w64_number};
+ghost use Rattle.sparse_algebra.specs.Numbers.{w64_number};
 
 use itoa::Buffer;
-use sparse_base::scalar::W64;
+use sparse_algebra::scalar::W64;
 use std::alloc::AllocError;
 
 /// A type of values that stand in Matrix Market texts.

@@ -3,21 +3,19 @@
 ghost use Rattle.std.specs.Prelude.{◌≡◌, ℕ, ◌+◌, ◌<◌, ◌≤◌, ◌++◌, [], OnOk, OnErr, IfOk, IfErr, string_bytes};
 ghost use Rattle.std.specs.Fmt.{decimal};
 ghost use Rattle.std.specs.Io.KnownBytes.{Appends};
-ghost use Rattle.sparse_io.specs.Errors.{kind_of};
+ghost use Rattle.sparse_parser.specs.Errors.{kind_of};
 ghost use Rattle.sparse_io.specs.Sink.{AppendsSome, IsBuffered};
 ghost use Rattle.sparse_io.specs.Written.{heading, size_line, triplet_line, head_of, text_of, IsRefusedWrite};
 
-use crate::error::MatrixMarketError;
 use crate::export::MatrixMarketExport;
 use crate::scalar::MatrixMarketScalar;
 use crate::sinks::{Sink, write_all_to};
 use indices::format_indices;
 use itoa::Buffer;
+use sparse_parser::error::MatrixMarketError;
 use std::alloc::{AllocError, Global};
 
 mod indices;
-#[cfg(test)]
-mod tests;
 
 // The room of the buffer that a text goes through, and the length at which it is emptied.
 const CAPACITY: usize = 64 * 1024;

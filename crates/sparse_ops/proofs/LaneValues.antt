@@ -6,29 +6,27 @@ use Rattle.std.proofs.lemmas.Bool.{cases_eq}
 use Rattle.std.proofs.lemmas.List.{get_or_default}
 use Rattle.std.proofs.lemmas.List.Edits.{length-between, get_or-between}
 use Rattle.std.proofs.lemmas.List.Elements.{Contains-get_or}
-use Rattle.sparse_base.specs.Algebra.{CommRing}
-use Rattle.sparse_base.specs.Sums.{sum_by, sum_below, where_true}
-use Rattle.sparse_base.specs.Plain.{is_at}
-use Rattle.sparse_base.specs.Raw.{Raw, start_of, end_of, lane_of, entries_of}
-use Rattle.sparse_base.proofs.RingLemmas.{zero_add, mul_zero}
-use Rattle.sparse_base.proofs.SumLemmas.{sum_below-same, sum_below-zero, sum_below-add}
-use Rattle.sparse_base.proofs.Lanes.{length-lane, get_or-lane, lane_rises}
+use Rattle.sparse_lemmas.proofs.Cases.{nat_eq_no, three, true_or_false}
+use Rattle.sparse_algebra.specs.Algebra.{CommRing}
+use Rattle.sparse_algebra.specs.Sums.{sum_by, sum_below, where_true}
+use Rattle.sparse_algebra.specs.Plain.{is_at}
+use Rattle.sparse_pattern.specs.Raw.{Raw, start_of, end_of, lane_of, entries_of}
+use Rattle.sparse_algebra.proofs.RingLemmas.{zero_add, mul_zero}
+use Rattle.sparse_algebra.proofs.SumLemmas.{sum_below-same, sum_below-zero, sum_below-add}
+use Rattle.sparse_pattern.proofs.PatternLanes.{length-lane, get_or-lane, lane_rises}
 use Rattle.sparse_cs.specs.Compressed.{Compressed, IsSound, zip_values}
-use Rattle.sparse_cs.specs.Forms.{plain_of_rows}
-use Rattle.sparse_cs.proofs.Arrays.{two, where_yes, where_no, unnamed, value_at_position, has_is_place}
+use Rattle.sparse_cs.specs.PlainOfLanes.{plain_of_rows}
+use Rattle.sparse_cs.proofs.Arrays.{where_yes, where_no, unnamed, value_at_position, has_is_place}
 use Rattle.sparse_ops.specs.Rows.{lane_value}
-use Rattle.sparse_ops.proofs.LaneLists.{lane_has}
-use Rattle.sparse_ops.proofs.RowSums.{eq_refl, eq_no, sum_zip_more}
-
-three : (a b : ℕ) → (a < b) ⊎ ((b < a) ⊎ (a ≡ b))
-three a b = grind arith
+use Rattle.sparse_pattern.proofs.LaneLists.{lane_has}
+use Rattle.sparse_ops.proofs.RowSums.{eq_refl, sum_zip_more}
 
 module _ (R : CommRing) {T : Type 0} (f : T → R.Carrier) where
   yes : (k j : ℕ) (c : R.Carrier) → k ≡ j → where_true R (nat_eq k j) c ≡ c
   yes k j c e = where_yes R (λ (c : R.Carrier). c) (nat_eq k j) c (rw e (eq_refl j))
 
   no : (k j : ℕ) (c : R.Carrier) → k ≢ j → where_true R (nat_eq k j) c ≡ R.zero
-  no k j c ne = where_no R (λ (c : R.Carrier). c) (nat_eq k j) c (eq_no k j ne)
+  no k j c ne = where_no R (λ (c : R.Carrier). c) (nat_eq k j) c (nat_eq_no k j ne)
 
   -- where the index isn't in the lane
   lane_value_none : (j : ℕ) (ks : List ℕ) (vs : List T) → ((q : ℕ) → q < length ks → get_or ks q 0 ≢ j) → lane_value R f ks vs j ≡ R.zero
@@ -61,7 +59,7 @@ module _ (R : CommRing) {T : Type 0} (f : T → R.Carrier) (z : T) (m : Compress
 
   -- the value of a lane given as lists is the matrix's
   pub lane_value_is : (j : ℕ) → lane_value R f (lane_of m.pattern i) (values_of m i) j ≡ (plain_of_rows R f m).value i j
-  lane_value_is j = elim (two (list_any (is_at i j) (zip_values (entries_of m.pattern) m.values))) [
+  lane_value_is j = elim (true_or_false (list_any (is_at i j) (zip_values (entries_of m.pattern) m.values))) [
     | inl hit ↦
         let place = (has_is_place R f m.pattern sound.valid m.values sound.count i j).0 hit in
         let valid = sound.valid.lanes i lane in

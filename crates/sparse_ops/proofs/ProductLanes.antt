@@ -1,9 +1,10 @@
 -- The pattern of a product, lane after lane.
 use Rattle.std.proofs.Common.{◌≡◌, ℕ, ◌+◌, ◌<◌, inl, inr, ◌↔◌, List, [], ◌∷◌, ◌++◌, length, Contains, ap, sym, subst, ◌∙◌, arith}
-use Rattle.sparse_base.specs.Raw.{Raw, raw_of, lane_of, IsValid, IsPlace}
+use Rattle.sparse_lemmas.proofs.Cases.{lt_add_one_cases}
+use Rattle.sparse_pattern.specs.Raw.{Raw, raw_of, lane_of, IsValid, IsPlace}
 use Rattle.sparse_ops.specs.Products.{IsProductOf, IsInLanes, GainsLane}
-use Rattle.sparse_ops.proofs.LaneLists.{lane_has}
-use Rattle.sparse_ops.proofs.LanePush.{below_or_last, valid_pushed, places_kept, places_last}
+use Rattle.sparse_pattern.proofs.LaneLists.{lane_has}
+use Rattle.sparse_pattern.proofs.PushedLanes.{valid_pushed, places_kept, places_last}
 
 pub place_within : (d : Raw) → IsValid d → (i j : ℕ) → IsPlace d i j → j < d.minor_dim
 place_within d valid i j place =
@@ -24,7 +25,7 @@ lane_more n a b offsets offsets' indices indices' va vb lt below gains is =
     let bounded : (j : ℕ) → Contains gains.lane j → j < b.minor_dim = λ j h. let place = ((gains.holds j).0 h).2 in place_within b vb _ j place in
     let more : IsProductBelow (n + 1) a b (offsets ++ length (indices ++ gains.lane) ∷ []) (indices ++ gains.lane) = record {
       valid = valid_pushed b.minor_dim n offsets indices gains.lane below.valid gains.rising bounded;
-      places = λ i j i_lt. elim (below_or_last i n i_lt) [
+      places = λ i j i_lt. elim (lt_add_one_cases i n i_lt) [
         | inl old ↦
             let kept = places_kept b.minor_dim n offsets indices gains.lane below.valid gains.rising bounded i j old in
             let was = below.places i j old in

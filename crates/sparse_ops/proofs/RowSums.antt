@@ -4,9 +4,10 @@ use Rattle.std.specs.Prelude.{nat_eq, zip}
 use Rattle.std.proofs.lemmas.Bool.{cases_eq}
 use Rattle.std.proofs.lemmas.Bool.Decides.{Decides-eqb}
 use Rattle.std.proofs.lemmas.List.{get_or-set_same, get_or-set_other, get_or_default}
-use Rattle.sparse_base.specs.Algebra.{CommRing}
-use Rattle.sparse_base.specs.Sums.{sum_by, where_true}
-use Rattle.sparse_cs.proofs.Arrays.{two, where_yes, where_no}
+use Rattle.sparse_lemmas.proofs.Cases.{nat_eq_no, true_or_false}
+use Rattle.sparse_algebra.specs.Algebra.{CommRing}
+use Rattle.sparse_algebra.specs.Sums.{sum_by, where_true}
+use Rattle.sparse_cs.proofs.Arrays.{where_yes, where_no}
 use Rattle.sparse_ops.specs.Rows.{lane_value}
 
 pub offset_fits : (j n size : ℕ) → j < n → n * size < 9223372036854775808 → Fits w64 (j * size)
@@ -14,9 +15,6 @@ offset_fits j n size lt fits = grind arith
 
 pub eq_refl : (n : ℕ) → nat_eq n n ≡ true
 eq_refl n = (Decides-eqb n n).1 refl
-
-pub eq_no : (m n : ℕ) → m ≢ n → nat_eq m n ≡ false
-eq_no m n ne = elim (two (nat_eq m n)) [ inl hit ↦ absurd (ne ((Decides-eqb m n).0 hit)) | inr miss ↦ miss ]
 
 module _ (R : CommRing) {T : Type 0} where
   sum_zip_suc : (g : ℕ × T → R.Carrier) (ks : List ℕ) (vs : List T) (n k : ℕ) (v : T) → n < length ks → n < length vs → k ≡ get_or ks n k → v ≡ get_or vs n v → sum_by R g (zip (take (suc n) ks) (take (suc n) vs)) ≡ R.add (sum_by R g (zip (take n ks) (take n vs))) (g (k, v))
@@ -46,6 +44,6 @@ module _ (R : CommRing) {T : Type 0} (f : T → R.Carrier) where
             let written : get_or (set row k new) j z ≡ new = ap (λ m. get_or (set row k new) m z) same ∙ get_or-set_same row k new z within in
             ap f written ∙ added ∙ ap (λ x. R.add x (R.mul scale (f v))) (ap f old_is ∙ so_far j j_lt) ∙ R.laws.add_assoc base (R.mul scale s) (R.mul scale (f v)) ∙ ap (R.add base) (sym (R.laws.distrib scale s (f v)) ∙ ap (R.mul scale) (ap (R.add s) (sym hit) ∙ sym more))
         | inr differs ↦
-            let miss : where_true R (nat_eq k j) (f v) ≡ R.zero = where_no R (λ (c : R.Carrier). c) (nat_eq k j) (f v) (eq_no k j (λ e. differs (sym e))) in
+            let miss : where_true R (nat_eq k j) (f v) ≡ R.zero = where_no R (λ (c : R.Carrier). c) (nat_eq k j) (f v) (nat_eq_no k j (λ e. differs (sym e))) in
             ap f (get_or-set_other row k j new z differs) ∙ so_far j j_lt ∙ ap (λ x. R.add base (R.mul scale x)) (sym (more ∙ ap (R.add s) miss ∙ R.laws.add_zero s))
       ]

@@ -1,7 +1,7 @@
 -- Products of patterns.
 use Rattle.std.specs.Prelude.{◌≡◌, ℕ, List, ◌++◌, Contains, ◌↔◌}
 use Rattle.std.specs.List.Sorted.{IsStrictlyIncreasing}
-use Rattle.sparse_base.specs.Raw.{Raw, IsPlace}
+use Rattle.sparse_pattern.specs.Raw.{Raw, IsPlace}
 
 -- (i, j) is a place exactly where some k has (i, k) in a and (k, j) in b
 abbrev pub IsProductOf : Raw → Raw → Raw → Type 0

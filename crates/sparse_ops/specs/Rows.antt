@@ -1,7 +1,7 @@
 -- Rows of values.
 use Rattle.std.specs.Prelude.{ℕ, List, nat_eq, zip}
-use Rattle.sparse_base.specs.Algebra.{CommRing}
-use Rattle.sparse_base.specs.Sums.{sum_by, where_true}
+use Rattle.sparse_algebra.specs.Algebra.{CommRing}
+use Rattle.sparse_algebra.specs.Sums.{sum_by, where_true}
 
 -- the value at index j of a lane that is given by its indices and values
 abbrev pub lane_value : (R : CommRing) {T : Type 0} → (T → R.Carrier) → List ℕ → List T → ℕ → R.Carrier

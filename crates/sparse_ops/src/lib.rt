@@ -1,5 +1,6 @@
-//! Operations on sparse matrices: conversions, and arithmetic.
+//! Operations on sparse matrices.
 #![tactic(auto)]
 
-pub mod convert;
-pub mod ops;
+pub mod serial;
+
+pub use sparse_base::steps::Steps;

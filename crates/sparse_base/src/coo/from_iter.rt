@@ -5,10 +5,10 @@ ghost use Rattle.std.specs.Iterator.{IsFinite};
 ghost use Rattle.std.specs.Iterator.Runs.{WholeRun};
 ghost use Rattle.sparse_base.specs.Coo.{coo_of, IsInside};
 ghost use Rattle.sparse_base.specs.TripletFaults.{IsSomeOutside};
-ghost use Rattle.sparse_base.specs.declared.error.SparseFormatErrorKind.TheVariants.{IndexOutOfBounds, OutOfMemory};
+ghost use Rattle.sparse_pattern.specs.declared.error.SparseFormatErrorKind.TheVariants.{IndexOutOfBounds, OutOfMemory};
 
 use super::CooMatrix;
-use crate::error::SparseFormatError;
+use sparse_pattern::error::SparseFormatError;
 use std::alloc::{AllocError, Global};
 
 impl<T> CooMatrix<T> {

@@ -67,6 +67,3 @@ fn push_block<T: Copy>(
         }
     }
 }
-
-#[cfg(test)]
-mod tests;

@@ -8,9 +8,9 @@ ghost use Rattle.sparse_cs.specs.Left.{lent_lane};
 ghost use Rattle.sparse_cs.specs.Writing.{LendsLane, IsLaneFoundAt, IsLaneEntryMutOf, IsLentEntryOf};
 ghost use Rattle.sparse_forms.specs.CscWriting.{lent_col, col_values, LendsColValues, LendsColAt, LendsColFound, LendsColEntry};
 
-use sparse_base::entry::{Found, Missing, SparseEntry, SparseEntryMut, into_entry};
 use sparse_cs::writing::{element_mut, entry_in};
 use sparse_cs::{CsLaneMut, CsMatrix, LaneIndices};
+use sparse_pattern::entry::{Found, Missing, SparseEntry, SparseEntryMut, into_entry};
 use std::marker::PhantomData;
 
 /// A column of a CSC matrix, its values for writing.

@@ -57,6 +57,3 @@ impl<T: Copy> CscMatrix<T> {
         self.filter(alloc, |row, column, _| row == column)
     }
 }
-
-#[cfg(test)]
-mod tests;

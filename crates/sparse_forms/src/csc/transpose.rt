@@ -2,7 +2,7 @@
 
 ghost use Rattle.std.specs.Prelude.{IfOk};
 ghost use Rattle.sparse_cs.specs.Compressed.{IsSound};
-ghost use Rattle.sparse_cs.specs.Transposed.{IsTranspose};
+ghost use Rattle.sparse_cs.specs.TransposedMatrix.{IsTranspose};
 
 use super::CscMatrix;
 use std::alloc::{AllocError, Global};
@@ -21,6 +21,3 @@ impl<T: Copy> CscMatrix<T> {
         })
     }
 }
-
-#[cfg(test)]
-mod tests;

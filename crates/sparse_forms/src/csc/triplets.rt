@@ -115,6 +115,3 @@ impl<'a, T> Clone for CscTripletValues<'a, T> {
         })
     }
 }
-
-#[cfg(test)]
-mod tests;

@@ -3,7 +3,7 @@
 ghost use Rattle.std.specs.Prelude.{◌≡◌, ◌<◌, ◌↔◌, IfSome, IsSome};
 ghost use Rattle.std.specs.Borrow.{sem};
 ghost use Rattle.sparse_cs.specs.Compressed.{IsSound};
-ghost use Rattle.sparse_cs.specs.Entries.{IsInBounds};
+ghost use Rattle.sparse_cs.specs.StoredEntries.{IsInBounds};
 ghost use Rattle.sparse_cs.specs.Lanes.{lane_at};
 ghost use Rattle.sparse_cs.specs.Writing.{IsFoundAt, IsEntryMutAt, IsEntryMutOf};
 ghost use Rattle.sparse_forms.specs.CscWriting.{LendsValues, LendsCoreIf, LendsCol, LendsColIf, LendsFound, LendsEntry, LendsIndexed};
@@ -11,9 +11,9 @@ ghost use Rattle.sparse_forms.specs.CscWriting.{lent_col, col_values};
 
 use super::CscMatrix;
 use super::col_mut::CscColMut;
-use sparse_base::entry::{Found, SparseEntryMut, into_entry};
-use sparse_base::pattern::SparsityPattern;
 use sparse_cs::CsMatrix;
+use sparse_pattern::entry::{Found, SparseEntryMut, into_entry};
+use sparse_pattern::pattern::SparsityPattern;
 
 impl<T> CscMatrix<T> {
     /// The values of the stored places for writing, column after column.
@@ -106,6 +106,3 @@ impl<T> CscMatrix<T> {
         self.cs.find_mut(col, row)
     }
 }
-
-#[cfg(test)]
-mod tests;

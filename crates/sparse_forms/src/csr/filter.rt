@@ -55,6 +55,3 @@ impl<T: Copy> CsrMatrix<T> {
         self.filter(alloc, |row, column, _| row == column)
     }
 }
-
-#[cfg(test)]
-mod tests;

@@ -8,9 +8,9 @@ ghost use Rattle.sparse_cs.specs.Left.{lent_lane};
 ghost use Rattle.sparse_cs.specs.Writing.{LendsLane, IsLaneFoundAt, IsLaneEntryMutOf, IsLentEntryOf};
 ghost use Rattle.sparse_forms.specs.CsrWriting.{lent_row, row_values, LendsRowValues, LendsRowAt, LendsRowFound, LendsRowEntry};
 
-use sparse_base::entry::{Found, Missing, SparseEntry, SparseEntryMut, into_entry};
 use sparse_cs::writing::{element_mut, entry_in};
 use sparse_cs::{CsLaneMut, CsMatrix, LaneIndices};
+use sparse_pattern::entry::{Found, Missing, SparseEntry, SparseEntryMut, into_entry};
 use std::marker::PhantomData;
 
 /// A row of a CSR matrix, its values for writing.

@@ -3,12 +3,12 @@
 ghost use Rattle.std.specs.Prelude.{◌≡◌, ◌<◌, ◌↔◌, ⊤, length, IfSome, IsSome};
 ghost use Rattle.std.specs.Iterator.{YieldsFirst, item_count};
 ghost use Rattle.sparse_cs.specs.Compressed.{IsSound};
-ghost use Rattle.sparse_cs.specs.Entries.{IsEntryAt, IsEntryOf, IsInBounds};
+ghost use Rattle.sparse_cs.specs.StoredEntries.{IsEntryAt, IsEntryOf, IsInBounds};
 ghost use Rattle.sparse_cs.specs.Lanes.{IsLaneEntryOf, IsSoundLane, lane_at, lanes_of};
 
 use super::CsrMatrix;
-use sparse_base::entry::SparseEntry;
 use sparse_cs::{CsLane, CsLaneIter};
+use sparse_pattern::entry::SparseEntry;
 use std::alloc::AllocError;
 use std::marker::Model;
 
@@ -199,6 +199,3 @@ impl<'a, T> Clone for CsrRowIter<'a, T> {
         })
     }
 }
-
-#[cfg(test)]
-mod tests;

@@ -107,6 +107,3 @@ impl<'a, T> Clone for CsrTripletValues<'a, T> {
         })
     }
 }
-
-#[cfg(test)]
-mod tests;

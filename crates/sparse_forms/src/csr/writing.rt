@@ -3,7 +3,7 @@
 ghost use Rattle.std.specs.Prelude.{◌≡◌, ◌<◌, ◌↔◌, IfSome, IsSome};
 ghost use Rattle.std.specs.Borrow.{sem};
 ghost use Rattle.sparse_cs.specs.Compressed.{IsSound};
-ghost use Rattle.sparse_cs.specs.Entries.{IsInBounds};
+ghost use Rattle.sparse_cs.specs.StoredEntries.{IsInBounds};
 ghost use Rattle.sparse_cs.specs.Lanes.{lane_at};
 ghost use Rattle.sparse_cs.specs.Writing.{IsFoundAt, IsEntryMutAt, IsEntryMutOf};
 ghost use Rattle.sparse_forms.specs.CsrWriting.{LendsValues, LendsCoreIf, LendsRow, LendsRowIf, LendsFound, LendsEntry, LendsIndexed};
@@ -11,9 +11,9 @@ ghost use Rattle.sparse_forms.specs.CsrWriting.{lent_row, row_values};
 
 use super::CsrMatrix;
 use super::row_mut::CsrRowMut;
-use sparse_base::entry::{Found, SparseEntryMut, into_entry};
-use sparse_base::pattern::SparsityPattern;
 use sparse_cs::CsMatrix;
+use sparse_pattern::entry::{Found, SparseEntryMut, into_entry};
+use sparse_pattern::pattern::SparsityPattern;
 
 impl<T> CsrMatrix<T> {
     /// The values of the stored places for writing, row after row.
@@ -106,6 +106,3 @@ impl<T> CsrMatrix<T> {
         self.cs.find_mut(row, col)
     }
 }
-
-#[cfg(test)]
-mod tests;

@@ -1,5 +1,5 @@
 use Rattle.std.proofs.Common.{◌≡◌, length, refl, rules}
-use Rattle.sparse_base.specs.Raw.{lane_of}
+use Rattle.sparse_pattern.specs.Raw.{lane_of}
 use Rattle.sparse_cs.proofs.Kept.{filter_from_kept}
 use Rattle.sparse_cs.proofs.KeptLanes.{kept_step, kept_valid, kept_triplets}
 use Rattle.sparse_cs.proofs.CsMatrix.filter.Goals as goal

@@ -1,4 +1,4 @@
-use Rattle.sparse_cs.proofs.Transposes.{with_values}
+use Rattle.sparse_cs.proofs.MatrixTransposes.{with_values}
 use Rattle.sparse_cs.proofs.CsMatrix.transpose.Goals as goal
 
 pub returns-clause-transposed : goal.returns-clause-transposed

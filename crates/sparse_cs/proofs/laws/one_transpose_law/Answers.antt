@@ -1,4 +1,4 @@
-use Rattle.sparse_cs.proofs.Transposes.{one_transpose}
+use Rattle.sparse_cs.proofs.MatrixTransposes.{one_transpose}
 use Rattle.sparse_cs.proofs.laws.one_transpose_law.Goals as goal
 
 pub returns : goal.returns

@@ -1,6 +1,6 @@
 use Rattle.std.proofs.Common.{ap}
-use Rattle.sparse_base.specs.Plain.{plain_transpose}
-use Rattle.sparse_cs.proofs.Transposes.{plain_transposed}
+use Rattle.sparse_algebra.specs.Plain.{plain_transpose}
+use Rattle.sparse_cs.proofs.MatrixTransposes.{plain_transposed}
 use Rattle.sparse_cs.proofs.laws.transpose_law.Goals as goal
 
 pub returns-clause-rows : goal.returns-clause-rows

@@ -1,4 +1,4 @@
-use Rattle.sparse_cs.proofs.Transposes.{twice}
+use Rattle.sparse_cs.proofs.MatrixTransposes.{twice}
 use Rattle.sparse_cs.proofs.laws.transpose_twice_law.Goals as goal
 
 pub returns : goal.returns

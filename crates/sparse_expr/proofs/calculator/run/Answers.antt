@@ -2,9 +2,10 @@ use Rattle.std.proofs.Common.{refl, sym, ap, ◌∙◌, inl, inr, Ok, Err, ◌�
 use Rattle.std.specs.Int.{w64}
 use Rattle.std.specs.Io.KnownBytes.{Appends}
 use Rattle.std.proofs.lemmas.Result.{err_from_is_err_and, on_ok_weaker}
-use Rattle.sparse_base.specs.Wrapping.{class_of}
-use Rattle.sparse_base.specs.Numbers.{w64_number}
-use Rattle.sparse_cs.specs.Forms.{plain_of_coo, plain_of_rows}
+use Rattle.sparse_algebra.specs.Wrapping.{class_of}
+use Rattle.sparse_algebra.specs.Numbers.{w64_number}
+use Rattle.sparse_base.specs.CooPlain.{plain_of_coo}
+use Rattle.sparse_cs.specs.PlainOfLanes.{plain_of_rows}
 use Rattle.sparse_io.specs.Sink.{AppendsSome}
 use Rattle.sparse_expr.specs.Words.{texts}
 use Rattle.sparse_expr.specs.Value.{value_of}

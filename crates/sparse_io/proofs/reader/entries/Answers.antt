@@ -1,7 +1,7 @@
 use Rattle.std.proofs.Common.{◌≡◌, ◌≢◌, ◌<◌, length, Ok, Err, refl, sym, ap, ◌∙◌, inr, arith}
 use Rattle.std.proofs.lemmas.Bool.{eqb-true, eqb-false}
-use Rattle.sparse_io.specs.declared.error.MatrixMarketErrorKind.{MatrixMarketErrorKind}
-use Rattle.sparse_io.specs.Errors.{kind_of_cause}
+use Rattle.sparse_parser.specs.declared.error.MatrixMarketErrorKind.{MatrixMarketErrorKind}
+use Rattle.sparse_parser.specs.Errors.{kind_of_cause}
 use Rattle.sparse_io.proofs.EntryLoop.{IsRead, line_read, line_refused, read_as, fault_as, read_fault, read_refused, matrix_start, matrix_more, matrix_mismatch, matrix_outside, matrix_end, fault_is}
 use Rattle.sparse_io.proofs.reader.entries.Goals as goal
 

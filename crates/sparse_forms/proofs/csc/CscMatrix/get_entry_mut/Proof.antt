@@ -35,13 +35,13 @@ use denote.Triple.Table.{framed}
 use denote.Triple.Walked.{Stays, walk_of, says, stay_dropped, Goes-dropped, Goes-spent_ref, ends_at}
 use Rattle.std.proofs.raw_atomic.Walks.{proved}
 use Rattle.std.proofs.option.Option.TheLaws.{the_row_laws as option_laws}
-use Rattle.sparse_base.proofs.entry.Found.TheLaws.{the_row_laws as found_laws}
-use Rattle.sparse_base.proofs.entry.SparseEntryMut.TheLaws.{the_row_laws as entry_laws}
+use Rattle.sparse_pattern.proofs.entry.Found.TheLaws.{the_row_laws as found_laws}
+use Rattle.sparse_pattern.proofs.entry.SparseEntryMut.TheLaws.{the_row_laws as entry_laws}
 use Rattle.std.specs.contracts.option.Option.{the_row as option_row}
-use Rattle.sparse_base.specs.contracts.entry.Found.{the_row as found_row}
-use Rattle.sparse_base.specs.contracts.entry.SparseEntryMut.{the_row as entry_row}
+use Rattle.sparse_pattern.specs.contracts.entry.Found.{the_row as found_row}
+use Rattle.sparse_pattern.specs.contracts.entry.SparseEntryMut.{the_row as entry_row}
 use Rattle.sparse_forms.specs.contracts.csc.CscMatrix.{the_row as matrix_row}
-use Rattle.sparse_base.specs.Entries.{entry_of_found, entry_name, found_name}
+use Rattle.sparse_pattern.specs.SparseEntries.{entry_of_found, entry_name, found_name}
 use Rattle.sparse_cs.specs.Writing.{IsFoundAt, IsEntryMutOf, with_value}
 use Rattle.sparse_cs.proofs.FoundEntries.{name_is, entry_is, with_fact}
 use Rattle.sparse_forms.specs.contracts.csc.CscMatrix.get_entry_mut as f
@@ -49,8 +49,8 @@ use Rattle.sparse_forms.proofs.csc.CscMatrix.get_entry_mut.Statement.{statement}
 use Rattle.sparse_forms.proofs.csc.CscMatrix.get_entry_mut.Code as code
 use Rattle.sparse_forms.specs.contracts.csc.CscMatrix.find_mut as g
 use Rattle.sparse_forms.proofs.csc.CscMatrix.find_mut.Met.{met as find_met}
-use Rattle.sparse_base.specs.contracts.entry.into_entry as h
-use Rattle.sparse_base.proofs.entry.into_entry.Met.{met as entry_met}
+use Rattle.sparse_pattern.specs.contracts.entry.into_entry as h
+use Rattle.sparse_pattern.proofs.entry.into_entry.Met.{met as entry_met}
 
 abbrev stayed : (T : RattleType) → Stays (f.ended T).signature.params (f.ended T).kept
 stayed T = (stay_dropped _ no, (stay_dropped _ yes, (stay_dropped _ yes, tt)))
@@ -89,7 +89,7 @@ get_entry_mut_spec 𝓤 𝓛 𝓜 𝓡 wired T L =
     let E = triple_of 𝓛 (h.signature T) (h.spec T 𝓛 𝓜.mem 𝓡.returns) in
     let x : E.Ghost = ((κs, qs, bounds, (r, tt), (v ∷ [], tt)), tt) in
     use1 𝓛 (raw (E.pre x)) (with_fact 𝓤 within (on_entry 𝓛 (h.signature T) κs qs (r, tt) (v ∷ [], tt)) le) $
-    calls_at ! (framed 𝓤 𝓛.H 𝓜 𝓣) E (entry_met 𝓤 𝓛 𝓜 𝓡 (code.calls-sparse_base::entry::into_entry 𝓡.env wired) T L) x
+    calls_at ! (framed 𝓤 𝓛.H 𝓜 𝓣) E (entry_met 𝓤 𝓛 𝓜 𝓡 (code.calls-sparse_pattern::entry::into_entry 𝓡.env wired) T L) x
     (and_then ! (get ! refl) (no_more !)) (λ u.
     use1 𝓛 (later (some (λ (e : Out.Denot). (toks ⊛ ‵ (Out.own_val e (u ∷ []))) ⊛ some (λ (ws : Lasts (h.ended T) κs (r, tt)). ‵ (lasts (h.ended T) κs (r, tt) ws) ⊛ raw (fact 𝓤 (e ≡ entry_of_found r)))))) (id⊢ 𝓤 _) $
     await ! tt $ pick ! (λ e. split ! $ split ! $ move ! (1 ∷ []) $ peeks ! Out (Is Out) (shows 𝓛 Out) e (u ∷ []) (λ is-out.

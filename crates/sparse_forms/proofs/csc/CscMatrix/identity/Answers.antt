@@ -1,6 +1,6 @@
 use Rattle.std.proofs.Common.{ap, ◌∙◌}
-use Rattle.sparse_base.specs.Plain.{plain_transpose}
-use Rattle.sparse_base.proofs.PlainLaws.{transpose_identity}
+use Rattle.sparse_algebra.specs.Plain.{plain_transpose}
+use Rattle.sparse_algebra.proofs.PlainLaws.{transpose_identity}
 use Rattle.sparse_forms.proofs.csc.CscMatrix.identity.Goals as goal
 
 pub returns-clause-plain : goal.returns-clause-plain

@@ -1,0 +1,7 @@
+use Rattle.std.proofs.Common.{refl}
+use Rattle.std.specs.Int.{w64}
+use Rattle.sparse_algebra.specs.Wrapping.{class_of_add}
+use Rattle.sparse_algebra.proofs.scalar.wrapping.W64Ring.add.Goals as goal
+
+pub returns : goal.returns
+returns c = class_of_add w64 c.args.self.number c.args.other.number _ refl

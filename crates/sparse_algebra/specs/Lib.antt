@@ -1,0 +1,9 @@
+pub mod Algebra
+pub mod Sums
+pub mod Classes
+pub mod Residues
+pub mod Wrapping
+pub mod Numbers
+pub mod Plain
+pub mod RingMaps
+pub mod Whole

@@ -1,9 +1,0 @@
-use Rattle.std.proofs.Common.{refl}
-use Rattle.sparse_base.proofs.PlainLaws.{identity-product, product-identity}
-use Rattle.sparse_base.proofs.laws.identity_product_law.Goals as goal
-
-pub returns-clause-left : goal.returns-clause-left
-returns-clause-left g c = λ a. identity-product g.T.Ring.ring a.rows a refl
-
-pub returns-clause-right : goal.returns-clause-right
-returns-clause-right g c = λ a. product-identity g.T.Ring.ring a.cols a refl

@@ -1,5 +1,0 @@
-use Rattle.sparse_base.proofs.PlainLemmas.{order_free}
-use Rattle.sparse_base.proofs.laws.order_law.Goals as goal
-
-pub returns : goal.returns
-returns g c = order_free g.T.Ring.ring g.T.Ring.value

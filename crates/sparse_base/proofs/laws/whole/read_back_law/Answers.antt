@@ -1,5 +1,0 @@
-use Rattle.sparse_base.proofs.WholeNumbers.{wrapped-number_of}
-use Rattle.sparse_base.proofs.laws.whole.read_back_law.Goals as goal
-
-pub returns-clause-element : goal.returns-clause-element
-returns-clause-element c = wrapped-number_of

@@ -1,8 +1,0 @@
-use Rattle.std.proofs.Common.{arith, ◌∙◌}
-use Rattle.std.proofs.lemmas.Bool.Decides.{nat_tests}
-use Rattle.sparse_base.proofs.NextLane.{skip_lane}
-use Rattle.sparse_base.proofs.pattern.entries.SparsityPatternIterIterator.next.Goals as goal
-
-pub loop-left-preserved : goal.loop-left-preserved
-loop-left-preserved c =
-    skip_lane _ _ c.loop-left.left.now c.loop-left.lane (grind (arith, nat_tests)) (omega arith) ∙ c.loop-left.invariant

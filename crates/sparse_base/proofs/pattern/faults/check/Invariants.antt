@@ -1,6 +1,0 @@
-use Rattle.sparse_base.specs.Raw.{raw_of}
-use Rattle.sparse_base.proofs.FirstFaults.{LanesFine}
-use Rattle.sparse_base.proofs.pattern.faults.check.Given as goal
-
-abbrev pub invariant-loop-lane : goal.invariant-loop-lane
-invariant-loop-lane l = LanesFine (raw_of l.major_dim l.minor_dim l.offsets l.indices) l.lane

@@ -1,5 +1,0 @@
-use Rattle.sparse_base.specs.PatternFaults.{IsRisingBelow}
-use Rattle.sparse_base.proofs.pattern.faults.check_lane.Given as goal
-
-abbrev pub invariant-loop-at : goal.invariant-loop-at
-invariant-loop-at l = IsRisingBelow l.minor_dim l.indices l.start l.at

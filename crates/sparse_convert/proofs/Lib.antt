@@ -1,0 +1,15 @@
+pub mod LentLists
+pub mod PlacedTriplets
+pub mod SortedTriplets
+pub mod IndexSums
+pub mod Merging
+pub mod MergedLanes
+pub mod Compressing
+mod TurnedTriplets
+mod StoredTriplets
+mod Reaching
+mod LaneGrowth
+mod FullLanes
+mod NonzeroParts
+mod DenseWriting
+mod DenseValues

@@ -1,0 +1,17 @@
+use Rattle.std.proofs.Common.{map, get_or, length, ap, ◌∙◌}
+use Rattle.std.specs.List.{filter}
+use Rattle.sparse_base.specs.Coo.{coo_of, appended}
+use Rattle.sparse_algebra.specs.Plain.{below}
+use Rattle.sparse_convert.specs.FromDense.{differs_from}
+use Rattle.sparse_convert.proofs.FullLanes.{column_more}
+use Rattle.sparse_convert.proofs.serial.from_dense.convert_dense_coo.Goals as goal
+
+pub loop-j-preserved : goal.loop-j-preserved
+loop-j-preserved g c =
+    let E = g.T.PartialEq.eq in
+    let z = g.T.Zero.zero_value in
+    let d = c.args.dense.now in
+    let j = c.loop-j.j in
+    let column = c.column.result.now in
+    c.in_ok-push_column.ensures ∙ ap (λ m. appended m (filter (differs_from E z) (map (λ i. (i, j, get_or column i z)) (below (length column))))) c.loop-j.invariant
+    ∙ ap (coo_of d.nrows d.ncols) (column_more E z d j column c.column.ensures.rows c.column.ensures.values)

@@ -1,0 +1,5 @@
+pub mod TripletLanes
+pub mod Merged
+pub mod OneMatrix
+pub mod FromDense
+pub mod ToDense

@@ -1,0 +1,69 @@
+//! Lanes of entries merged into compressed matrices.
+
+ghost use Rattle.std.specs.Prelude.{◌≡◌, ℕ, ◌+◌, ◌-◌, ◌<◌, ◌≤◌, All, IfOk, length, vec_len, vec_capacity};
+ghost use Rattle.std.specs.List.Sorted.{IsNonDecreasingBy};
+ghost use Rattle.sparse_cs.specs.Compressed.{IsSound};
+ghost use Rattle.sparse_cs.specs.PlainOfLanes.{plain_of_rows};
+ghost use Rattle.sparse_convert.specs.TripletLanes.{AreOffsets, entries_of_lane, plain_of_lanes};
+ghost use Rattle.sparse_convert.specs.Merged.{AreMerged, KeepsFirst};
+
+use sparse_algebra::scalar::Ring;
+use sparse_cs::CsMatrix;
+use sparse_pattern::pattern::SparsityPattern;
+use std::alloc::{AllocError, Global};
+
+// Adds a lane at the end of the arrays. There is room for all of it.
+fn merge_lane<T: Ring>(lane: &[(usize, T)], indices: &mut Vec<usize>, values: &mut Vec<T>)
+    requires sorted { IsNonDecreasingBy (λ e. e.0) lane.now }
+    requires sizes { vec_len values.old ≡ vec_len indices.old }
+    requires index_room { vec_len indices.old + length lane.now ≤ vec_capacity indices.old }
+    requires value_room { vec_len values.old + length lane.now ≤ vec_capacity values.old }
+    ensures merged { AreMerged T.ring T.value T.zero_value lane.now indices.new.items values.new.items
+        (vec_len indices.old) (vec_len indices.new) }
+    ensures grown { (vec_len indices.old ≤ vec_len indices.new) × (vec_len indices.new ≤ vec_len indices.old + length lane.now) }
+    ensures sizes { vec_len values.new ≡ vec_len indices.new }
+    ensures kept_indices { KeepsFirst 0 (vec_len indices.old) indices.old.items indices.new.items }
+    ensures kept_values { KeepsFirst T.zero_value (vec_len values.old) values.old.items values.new.items }
+    ensures capacities { (vec_capacity indices.new ≡ vec_capacity indices.old) × (vec_capacity values.new ≡ vec_capacity values.old) }
+{
+    let start = indices.len();
+    for &(index, value) in lane {
+        if indices.len() > start && indices[indices.len() - 1] == index {
+            let last = values.len() - 1;
+            values[last] = values[last].add(value);
+        } else {
+            indices.push_reserved(index);
+            values.push_reserved(value);
+        }
+    }
+}
+
+/// The matrix of lanes of entries, each lane in the order of its indices. Neighbours with one index are added.
+pub(crate) fn merge_lanes<T: Ring>(
+    alloc: Global,
+    minor_dim: usize,
+    offsets: &[usize],
+    entries: &[(usize, T)],
+) -> Result<CsMatrix<T>, AllocError>
+    requires offsets { AreOffsets (length offsets.now - 1) (length entries.now) offsets.now }
+    requires sorted { (i : ℕ) → IsNonDecreasingBy (λ e. e.0) (entries_of_lane offsets.now entries.now i) }
+    requires below { (i : ℕ) → All (λ e. e.0 < minor_dim) (entries_of_lane offsets.now entries.now i) }
+    ensures plain { IfOk result (λ m. plain_of_rows T.ring T.value m
+        ≡ plain_of_lanes T.ring T.value (length offsets.now - 1) minor_dim offsets.now entries.now) }
+    ensures sound { IfOk result (λ m. IsSound m) }
+{
+    let major_dim = offsets.len() - 1;
+    let mut starts = Vec::with_capacity(alloc, offsets.len())?;
+    let mut indices = Vec::with_capacity(alloc, entries.len())?;
+    let mut values = Vec::with_capacity(alloc, entries.len())?;
+    starts.push_reserved(0);
+    for lane in 0..major_dim {
+        let (start, end) = (offsets[lane], offsets[lane + 1]);
+        merge_lane(&entries[start..end], &mut indices, &mut values);
+        starts.push_reserved(indices.len());
+    }
+    let pattern = SparsityPattern::from_offset_and_indices_unchecked(
+        major_dim, minor_dim, starts, indices,
+    );
+    Ok(CsMatrix::from_pattern_and_values(pattern, values))
+}

@@ -1,0 +1,34 @@
+//! The three forms of one matrix.
+
+ghost use Rattle.std.specs.Prelude.{◌≡◌, true};
+ghost use Rattle.sparse_base.specs.Coo.{Coo};
+ghost use Rattle.sparse_cs.specs.Compressed.{Compressed, IsSound, compressed_eq};
+ghost use Rattle.sparse_base.specs.CooPlain.{plain_of_coo};
+ghost use Rattle.sparse_cs.specs.PlainOfLanes.{plain_of_rows, plain_of_cols};
+ghost use Rattle.sparse_convert.specs.OneMatrix.{Form, Triplets, Rows, Cols, coo_of_rows, coo_of_cols, IsSoundForm, IsReached, MeanOneMatrix};
+
+use sparse_algebra::scalar::Ring;
+
+/// A list of triplets, a CSR matrix and a CSC matrix that come from one another by conversions mean one matrix.
+///
+/// It does not matter which form one begins with, nor which conversions one takes and how many of them (`three_forms`). Matrices of one
+/// form that are reached from the same beginning are `==` (`rows_equal`, `cols_equal`), so a matrix that is converted to a list and back
+/// is `==` to what it was (`rows_and_back`, `cols_and_back`). Lists that mean the same have rows that are `==`, and columns that are `==`
+/// (`same_lists`).
+pub fn one_matrix_law<T: Ring>()
+    ensures three_forms { (x : Form T) (a : Coo T) (m n : Compressed T) → IsSoundForm x
+        → IsReached T.ring T.value x (Triplets a) → IsReached T.ring T.value x (Rows m) → IsReached T.ring T.value x (Cols n)
+        → MeanOneMatrix T.ring T.value a m n }
+    ensures rows_equal { (x : Form T) (m n : Compressed T) → IsSoundForm x
+        → IsReached T.ring T.value x (Rows m) → IsReached T.ring T.value x (Rows n) → compressed_eq T.eq m n ≡ true }
+    ensures cols_equal { (x : Form T) (m n : Compressed T) → IsSoundForm x
+        → IsReached T.ring T.value x (Cols m) → IsReached T.ring T.value x (Cols n) → compressed_eq T.eq m n ≡ true }
+    ensures rows_and_back { (m n : Compressed T) → IsSound m → IsSound n
+        → plain_of_rows T.ring T.value n ≡ plain_of_coo T.ring T.value (coo_of_rows m) → compressed_eq T.eq m n ≡ true }
+    ensures cols_and_back { (m n : Compressed T) → IsSound m → IsSound n
+        → plain_of_cols T.ring T.value n ≡ plain_of_coo T.ring T.value (coo_of_cols m) → compressed_eq T.eq m n ≡ true }
+    ensures same_lists { (a b : Coo T) (m n k l : Compressed T) → IsSound m → IsSound n → IsSound k → IsSound l
+        → plain_of_coo T.ring T.value a ≡ plain_of_coo T.ring T.value b
+        → MeanOneMatrix T.ring T.value a m n → MeanOneMatrix T.ring T.value b k l
+        → (compressed_eq T.eq m k ≡ true) × (compressed_eq T.eq n l ≡ true) }
+{}

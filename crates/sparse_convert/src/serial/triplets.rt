@@ -1,0 +1,84 @@
+//! Compressed matrices as lists of triplets.
+
+ghost use Rattle.std.specs.Prelude.{◌≡◌, IfOk, map};
+ghost use Rattle.sparse_base.specs.Coo.{AreParts, coo_of, zip_triplets};
+ghost use Rattle.sparse_pattern.specs.Raw.{entries_of};
+ghost use Rattle.sparse_cs.specs.Compressed.{IsSound, lane_triplets};
+ghost use Rattle.sparse_convert.specs.OneMatrix.{coo_of_rows, coo_of_cols};
+
+use sparse_base::coo::CooMatrix;
+use sparse_cs::CsMatrix;
+use sparse_forms::csc::CscMatrix;
+use sparse_forms::csr::CsrMatrix;
+use sparse_pattern::pattern::SparsityPattern;
+use std::alloc::{AllocError, Global};
+
+/// The list of the stored places with their values, zeros among them, row after row.
+///
+/// It takes time for the places and the rows, and memory for the places. The only error is want of memory.
+pub fn convert_csr_coo<T: Copy>(
+    alloc: Global,
+    csr: &CsrMatrix<T>,
+) -> Result<CooMatrix<T>, AllocError>
+    ensures { IfOk result (λ m. m ≡ coo_of_rows csr.now) }
+{
+    let (rows, cols, values) = triplet_lists(alloc, csr.cs())?;
+    Ok(coo_from_lists(csr.nrows(), csr.ncols(), rows, cols, values))
+}
+
+/// The list of the stored places with their values, zeros among them, column after column.
+///
+/// It takes time for the places and the columns, and memory for the places. The only error is want of memory.
+pub fn convert_csc_coo<T: Copy>(
+    alloc: Global,
+    csc: &CscMatrix<T>,
+) -> Result<CooMatrix<T>, AllocError>
+    ensures { IfOk result (λ m. m ≡ coo_of_cols csc.now) }
+{
+    let (cols, rows, values) = triplet_lists(alloc, csc.cs())?;
+    Ok(coo_from_lists(csc.nrows(), csc.ncols(), rows, cols, values))
+}
+
+// The lane, the index and the value of each stored place, in lane order.
+fn triplet_lists<T: Copy>(
+    alloc: Global,
+    cs: &CsMatrix<T>,
+) -> Result<(Vec<usize>, Vec<usize>, Vec<T>), AllocError>
+    ensures lanes { IfOk result (λ lists. lists.0.items ≡ map (λ t. t.0) (lane_triplets cs.now)) }
+    ensures indices { IfOk result (λ lists. lists.1.items ≡ map (λ t. t.1) (lane_triplets cs.now)) }
+    ensures values { IfOk result (λ lists. lists.2.items ≡ map (λ t. t.2) (lane_triplets cs.now)) }
+    ensures sound { IsSound cs.now }
+{
+    let lanes = lanes_of_places(alloc, cs.pattern())?;
+    let indices = Vec::from_slice(alloc, cs.pattern().minor_indices())?;
+    let values = Vec::from_slice(alloc, cs.values())?;
+    Ok((lanes, indices, values))
+}
+
+// The lane of each stored place.
+fn lanes_of_places(alloc: Global, pattern: &SparsityPattern) -> Result<Vec<usize>, AllocError>
+    ensures { IfOk result (λ v. v.items ≡ map (λ place. place.0) (entries_of pattern.now)) }
+{
+    let mut lanes = Vec::with_capacity(alloc, pattern.nnz())?;
+    for (lane, _) in pattern.entries() {
+        lanes.push(lane)?;
+    }
+    Ok(lanes)
+}
+
+// The matrix of lists that are known to fit each other and the sizes.
+fn coo_from_lists<T: Copy>(
+    nrows: usize,
+    ncols: usize,
+    rows: Vec<usize>,
+    cols: Vec<usize>,
+    values: Vec<T>,
+) -> CooMatrix<T>
+    requires { AreParts nrows ncols rows.items cols.items values.items }
+    ensures { result ≡ coo_of nrows ncols (zip_triplets rows.items cols.items values.items) }
+{
+    match CooMatrix::try_from_triplets(nrows, ncols, rows, cols, values) {
+        Ok(coo) => coo,
+        Err(_) => unreachable!(),
+    }
+}

@@ -1,7 +1,0 @@
-use Rattle.std.proofs.Common.{refl}
-use Rattle.sparse_io.specs.declared.error.Cause.TheVariants.{SizeTooLarge}
-use Rattle.sparse_io.proofs.EntryLaws.{number_found}
-use Rattle.sparse_io.proofs.size.number.Goals as goal
-
-pub returns : goal.returns
-returns c = number_found c.args.word.now _ _ SizeTooLarge c.requires c.leading_number-number.ensures.number c.ok_or.ensures.value refl

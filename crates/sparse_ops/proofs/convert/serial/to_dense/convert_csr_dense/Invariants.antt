@@ -1,7 +1,0 @@
-use Rattle.sparse_cs.specs.Compressed.{lane_triplets}
-use Rattle.sparse_ops.proofs.DenseWriting.{IsWritten}
-use Rattle.sparse_ops.proofs.DenseValues.{replaced}
-use Rattle.sparse_ops.proofs.convert.serial.to_dense.convert_csr_dense.Given as goal
-
-abbrev pub invariant-loop-i : goal.invariant-loop-i
-invariant-loop-i g l = IsWritten replaced (λ v. v) g.T.Zero.zero_value l.csr.pattern.major_dim l.csr.pattern.minor_dim (lane_triplets l.csr) l.i-iterator l.dense

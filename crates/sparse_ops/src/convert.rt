@@ -1,5 +1,0 @@
-//! Conversions between the forms of a matrix.
-
-mod lanes;
-mod merge;
-pub mod serial;

@@ -1,3 +1,0 @@
-//! Matrix operations.
-
-pub mod serial;

@@ -1,0 +1,105 @@
+//! The product of two matrices.
+
+ghost use Rattle.std.specs.Prelude.{◌≡◌, ℕ, ◌<◌, ◌≤◌, ◌+◌, ◌++◌, length, map, slice_index_or, vec_len, vec_capacity, All, Contains, IfOk};
+ghost use Rattle.std.specs.List.Sorted.{IsStrictlyIncreasing};
+ghost use Rattle.sparse_algebra.specs.Plain.{plain_product};
+ghost use Rattle.sparse_cs.specs.PlainOfLanes.{plain_of_rows};
+ghost use Rattle.sparse_ops.specs.Rows.{lane_value};
+
+use super::pattern::spmm_csr_pattern;
+use sparse_algebra::scalar::Ring;
+use sparse_cs::CsMatrix;
+use sparse_forms::csr::CsrMatrix;
+use std::alloc::{AllocError, Global};
+
+/// The product of two matrices.
+///
+/// It stores the places of [`spmm_csr_pattern`], also where the sum is zero. It takes time for each scalar
+/// multiplication and for sorting the rows, and scratch memory for one row.
+pub fn mul_csr<T: Ring>(
+    alloc: Global,
+    a: &CsrMatrix<T>,
+    b: &CsrMatrix<T>,
+) -> Result<CsrMatrix<T>, AllocError>
+    requires { a.now.pattern.minor_dim ≡ b.now.pattern.major_dim }
+    ensures { IfOk result (λ m. plain_of_rows T.ring T.value m
+        ≡ plain_product T.ring (plain_of_rows T.ring T.value a.now) (plain_of_rows T.ring T.value b.now)) }
+{
+    let pattern = spmm_csr_pattern(alloc, a.pattern(), b.pattern())?;
+    let mut row = Vec::new(alloc);
+    row.resize(b.ncols(), T::zero())?;
+    let mut values = Vec::with_capacity(alloc, pattern.nnz())?;
+    for i in 0..a.nrows() {
+        add_product_row(a, i, b, &mut row);
+        gather_row(pattern.lane(i), &mut row, &mut values);
+    }
+    let cs = CsMatrix::from_pattern_and_values(pattern, values);
+    Ok(CsrMatrix::from_cs(cs))
+}
+
+// Adds row i of the product into a row.
+fn add_product_row<T: Ring>(a: &CsrMatrix<T>, i: usize, b: &CsrMatrix<T>, row: &mut [T])
+    requires inner { a.now.pattern.minor_dim ≡ b.now.pattern.major_dim }
+    requires lane { i < a.now.pattern.major_dim }
+    requires width { length row.old ≡ b.now.pattern.minor_dim }
+    ensures { (j : ℕ) → j < length row.old → T.value (slice_index_or row.new j T.zero_value)
+        ≡ T.ring.add (T.value (slice_index_or row.old j T.zero_value))
+        ((plain_product T.ring (plain_of_rows T.ring T.value a.now) (plain_of_rows T.ring T.value b.now)).value i j) }
+{
+    let offsets = a.row_offsets();
+    let (begin, end) = (offsets[i], offsets[i + 1]);
+    let lanes = &a.col_indices()[begin..end];
+    let scales = &a.values()[begin..end];
+    for (k, scale) in lanes.iter().zip(scales) {
+        add_matrix_row(*scale, b, *k, row);
+    }
+}
+
+// Adds a multiple of row k of a matrix into a row.
+fn add_matrix_row<T: Ring>(scale: T, b: &CsrMatrix<T>, k: usize, row: &mut [T])
+    requires lane { k < b.now.pattern.major_dim }
+    requires width { length row.old ≡ b.now.pattern.minor_dim }
+    ensures { (j : ℕ) → j < length row.old → T.value (slice_index_or row.new j T.zero_value)
+        ≡ T.ring.add (T.value (slice_index_or row.old j T.zero_value))
+        (T.ring.mul (T.value scale) ((plain_of_rows T.ring T.value b.now).value k j)) }
+{
+    let offsets = b.row_offsets();
+    let (begin, end) = (offsets[k], offsets[k + 1]);
+    add_row(
+        scale,
+        &b.col_indices()[begin..end],
+        &b.values()[begin..end],
+        row,
+    );
+}
+
+// Adds a multiple of the values at the columns into a row.
+fn add_row<T: Ring>(scale: T, columns: &[usize], values: &[T], row: &mut [T])
+    requires fits { length values.now ≡ length columns.now }
+    requires inside { All (λ j. j < length row.old) columns.now }
+    ensures { (j : ℕ) → j < length row.old → T.value (slice_index_or row.new j T.zero_value)
+        ≡ T.ring.add (T.value (slice_index_or row.old j T.zero_value))
+        (T.ring.mul (T.value scale) (lane_value T.ring T.value columns.now values.now j)) }
+{
+    for (j, value) in columns.iter().zip(values) {
+        let entry = &mut row[*j];
+        *entry = entry.add(scale.mul(*value));
+    }
+}
+
+// Moves the values at the columns out of a row, which is zero there afterwards.
+fn gather_row<T: Ring>(columns: &[usize], row: &mut [T], values: &mut Vec<T>)
+    requires rising { IsStrictlyIncreasing columns.now }
+    requires inside { All (λ j. j < length row.old) columns.now }
+    requires room { vec_len values.old + length columns.now ≤ vec_capacity values.old }
+    ensures capacity { vec_capacity values.new ≡ vec_capacity values.old }
+    ensures gathered { values.new.items ≡ values.old.items ++ map (λ j. slice_index_or row.old j T.zero_value) columns.now }
+    ensures cleared { (j : ℕ) → Contains columns.now j → slice_index_or row.new j T.zero_value ≡ T.zero_value }
+    ensures kept { (j : ℕ) → (Contains columns.now j → ⊥)
+        → slice_index_or row.new j T.zero_value ≡ slice_index_or row.old j T.zero_value }
+{
+    for j in columns {
+        values.push_reserved(row[*j]);
+        row[*j] = T::zero();
+    }
+}

@@ -1,0 +1,131 @@
+-- The longest front of a text that passes a test, as a loop goes over it.
+use Rattle.std.proofs.Common.{◌≡◌, ℕ, zero, suc, ◌+◌, ◌≤◌, ◌<◌, Bool, true, false, List, [], ◌∷◌, ◌++◌, length, get_or, take, drop, refl, sym, ap, subst, ◌∙◌, append_assoc, arith}
+use Rattle.std.proofs.lemmas.List.{drop_more, drop_all, take_more, append-nil}
+use Rattle.std.specs.List.{AllByRecursion}
+use Rattle.sparse_parser.specs.Bytes.{front, after}
+
+pub front-yes : (p : ℕ → Bool) (b : ℕ) (text : List ℕ) → p b ≡ true → front p (b ∷ text) ≡ b ∷ front p text
+front-yes p b text e = rw e refl
+
+pub front-no : (p : ℕ → Bool) (b : ℕ) (text : List ℕ) → p b ≡ false → front p (b ∷ text) ≡ []
+front-no p b text e = rw e refl
+
+pub after-yes : (p : ℕ → Bool) (b : ℕ) (text : List ℕ) → p b ≡ true → after p (b ∷ text) ≡ after p text
+after-yes p b text e = rw e refl
+
+pub after-no : (p : ℕ → Bool) (b : ℕ) (text : List ℕ) → p b ≡ false → after p (b ∷ text) ≡ b ∷ text
+after-no p b text e = rw e refl
+
+-- the first i bytes pass
+pub record IsPassed (p : ℕ → Bool) (text : List ℕ) (i : ℕ) : Type 0 where
+  pub room : i ≤ length text
+  pub rest : after p (drop i text) ≡ after p text
+  pub passed : take i text ++ front p (drop i text) ≡ front p text
+
+pub passed_none : (p : ℕ → Bool) (text : List ℕ) → IsPassed p text 0
+passed_none p text = record { room = omega arith; rest = refl; passed = refl }
+
+pub passed_more : (p : ℕ → Bool) (text : List ℕ) (i : ℕ) → IsPassed p text i → i < length text → p (get_or text i 0) ≡ true → IsPassed p text (i + 1)
+passed_more p text i h lt e =
+    let d = drop_more text i 0 lt in
+    let a : after p (drop i text) ≡ after p (drop (i + 1) text) = ap (after p) d ∙ after-yes p _ _ e in
+    let f : front p (drop i text) ≡ get_or text i 0 ∷ front p (drop (i + 1) text) = ap (front p) d ∙ front-yes p _ _ e in
+    record {
+      room = omega arith;
+      rest = sym a ∙ h.rest;
+      passed = ap (λ (t : List ℕ). t ++ front p (drop (i + 1) text)) (take_more text i 0 lt) ∙ append_assoc (take i text) _ _ ∙ sym (ap (λ (t : List ℕ). take i text ++ t) f) ∙ h.passed;
+    }
+
+-- the loop's end: of the text, or at a byte that fails
+pub record IsFront (p : ℕ → Bool) (text : List ℕ) (i : ℕ) : Type 0 where
+  pub rest : drop i text ≡ after p text
+  pub passed : take i text ≡ front p text
+
+pub passed_all : (p : ℕ → Bool) (text : List ℕ) (i : ℕ) → IsPassed p text i → length text ≤ i → IsFront p text i
+passed_all p text i h le =
+    let d = drop_all i text le in
+    record {
+      rest = d ∙ sym (ap (after p) d) ∙ h.rest;
+      passed = sym (append-nil _) ∙ sym (ap (λ (t : List ℕ). take i text ++ front p t) d) ∙ h.passed;
+    }
+
+pub passed_stop : (p : ℕ → Bool) (text : List ℕ) (i : ℕ) → IsPassed p text i → i < length text → p (get_or text i 0) ≡ false → IsFront p text i
+passed_stop p text i h lt e =
+    let d = drop_more text i 0 lt in
+    record {
+      rest = d ∙ sym (ap (after p) d ∙ after-no p _ _ e) ∙ h.rest;
+      passed = sym (append-nil _) ∙ sym (ap (λ (t : List ℕ). take i text ++ t) (ap (front p) d ∙ front-no p _ _ e)) ∙ h.passed;
+    }
+
+-- ---- the parts, without a loop
+
+pub front-append-after : (p : ℕ → Bool) (text : List ℕ) → front p text ++ after p text ≡ text
+front-append-after p [] = refl
+front-append-after p (b ∷ text) = by (p b) refl (front-append-after p text)
+  where
+    by : (t : Bool) → p b ≡ t → front p text ++ after p text ≡ text → front p (b ∷ text) ++ after p (b ∷ text) ≡ b ∷ text
+    by true e h = rw e (ap (λ (t : List ℕ). b ∷ t) h)
+    by false e h = rw e refl
+
+-- every byte passes
+abbrev pub Passes : (ℕ → Bool) → List ℕ → Type 0
+Passes p text = AllByRecursion (λ b. p b ≡ true) text
+
+-- the text is empty or begins with a byte that fails
+abbrev pub IsStopped : (ℕ → Bool) → List ℕ → Type 0
+IsStopped p [] = Unit {0}
+IsStopped p (b ∷ text) = p b ≡ false
+
+pub Passes-front : (p : ℕ → Bool) (text : List ℕ) → Passes p (front p text)
+Passes-front p [] = tt
+Passes-front p (b ∷ text) = by (p b) refl (Passes-front p text)
+  where
+    by : (t : Bool) → p b ≡ t → Passes p (front p text) → Passes p (front p (b ∷ text))
+    by true e h = subst (Passes p) (sym (front-yes p b text e)) (e, h)
+    by false e h = subst (Passes p) (sym (front-no p b text e)) tt
+
+pub IsStopped-after : (p : ℕ → Bool) (text : List ℕ) → IsStopped p (after p text)
+IsStopped-after p [] = tt
+IsStopped-after p (b ∷ text) = by (p b) refl (IsStopped-after p text)
+  where
+    by : (t : Bool) → p b ≡ t → IsStopped p (after p text) → IsStopped p (after p (b ∷ text))
+    by true e h = subst (IsStopped p) (sym (after-yes p b text e)) h
+    by false e h = subst (IsStopped p) (sym (after-no p b text e)) e
+
+-- a front that passes, before what doesn't
+pub front-append : (p : ℕ → Bool) (passed rest : List ℕ) → Passes p passed → IsStopped p rest → front p (passed ++ rest) ≡ passed
+front-append p [] [] h stop = refl
+front-append p [] (b ∷ rest) h stop = front-no p b rest stop
+front-append p (b ∷ passed) rest h stop = front-yes p b (passed ++ rest) h.0 ∙ ap (λ (t : List ℕ). b ∷ t) (front-append p passed rest h.1 stop)
+
+pub after-append : (p : ℕ → Bool) (passed rest : List ℕ) → Passes p passed → IsStopped p rest → after p (passed ++ rest) ≡ rest
+after-append p [] [] h stop = refl
+after-append p [] (b ∷ rest) h stop = after-no p b rest stop
+after-append p (b ∷ passed) rest h stop = after-yes p b (passed ++ rest) h.0 ∙ after-append p passed rest h.1 stop
+
+-- a part that passes stands in front of the front
+pub front-append_passes : (p : ℕ → Bool) (passed rest : List ℕ) → Passes p passed → front p (passed ++ rest) ≡ passed ++ front p rest
+front-append_passes p [] rest h = refl
+front-append_passes p (b ∷ passed) rest h = front-yes p b (passed ++ rest) h.0 ∙ ap (λ (t : List ℕ). b ∷ t) (front-append_passes p passed rest h.1)
+
+pub after-append_passes : (p : ℕ → Bool) (passed rest : List ℕ) → Passes p passed → after p (passed ++ rest) ≡ after p rest
+after-append_passes p [] rest h = refl
+after-append_passes p (b ∷ passed) rest h = after-yes p b (passed ++ rest) h.0 ∙ after-append_passes p passed rest h.1
+
+pub length-after : (p : ℕ → Bool) (text : List ℕ) → length (after p text) ≤ length text
+length-after p [] = omega arith
+length-after p (b ∷ text) = by (p b) refl (length-after p text)
+  where
+    by : (t : Bool) → p b ≡ t → length (after p text) ≤ length text → length (after p (b ∷ text)) ≤ length (b ∷ text)
+    by true e h = rw e (omega arith)
+    by false e h = rw e (omega arith)
+
+pub length-after-lt : (p : ℕ → Bool) (b : ℕ) (text : List ℕ) → p b ≡ true → length (after p (b ∷ text)) < length (b ∷ text)
+length-after-lt p b text e = rw e (let h = length-after p text in omega arith)
+
+-- nothing of the front is left where the loop ends
+pub front-drop_all : (p : ℕ → Bool) (text : List ℕ) (i : ℕ) → length text ≤ i → front p (drop i text) ≡ []
+front-drop_all p text i le = ap (front p) (drop_all i text le)
+
+pub front-drop_stop : (p : ℕ → Bool) (text : List ℕ) (i : ℕ) → i < length text → p (get_or text i 0) ≡ false → front p (drop i text) ≡ []
+front-drop_stop p text i lt e = ap (front p) (drop_more text i 0 lt) ∙ front-no p _ _ e

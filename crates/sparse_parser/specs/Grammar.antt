@@ -1,0 +1,78 @@
+-- The grammar of a Matrix Market text, by cases on whole lines.
+use Rattle.std.specs.Prelude.{◌≡◌, ◌≢◌, ℕ, ◌<◌, Bool, true, false, ◌&&◌, nat_lt, List, [], ◌∷◌, ◌++◌, length, slice_index, ◌⊎◌, Some}
+use Rattle.std.specs.List.{AllByRecursion, list_all}
+use Rattle.std.specs.Char.{is_ascii_digit}
+use Rattle.std.specs.Str.Parse.{without_leading_sign}
+use Rattle.sparse_parser.specs.declared.header.Header.{Header}
+use Rattle.sparse_parser.specs.Bytes.{is_blank, is_line_end}
+use Rattle.sparse_parser.specs.Header.{header_of}
+
+-- LF, CR LF, or a CR that no LF follows
+abbrev pub IsLineEnd : List ℕ → List ℕ → Type 0
+IsLineEnd end rest = (end ≡ 10 ∷ []) ⊎ ((end ≡ 13 ∷ 10 ∷ []) ⊎ ((end ≡ 13 ∷ []) × (slice_index rest 0 ≢ 10)))
+
+-- the text is these lines, each with its end; the last may lack one, if it isn't empty
+abbrev pub AreLines : List ℕ → List (List ℕ) → Type 0
+AreLines text [] = text ≡ []
+AreLines text (line ∷ lines) = AllByRecursion (λ b. is_line_end b ≡ false) line
+    × (((0 < length line) × (text ≡ line) × (lines ≡ []))
+    ⊎ ((end : List ℕ) × (rest : List ℕ) × IsLineEnd end rest × (text ≡ line ++ (end ++ rest)) × AreLines rest lines))
+
+abbrev pub AreBlanks : List ℕ → Type 0
+AreBlanks bytes = AllByRecursion (λ b. is_blank b ≡ true) bytes
+
+-- a word is followed by a blank or by the end of its line
+abbrev pub IsApart : List ℕ → Type 0
+IsApart [] = Unit {0}
+IsApart (b ∷ rest) = is_blank b ≡ true
+
+-- the line has these words, parted by blanks
+abbrev pub AreWords : List ℕ → List (List ℕ) → Type 0
+AreWords line [] = AreBlanks line
+AreWords line (word ∷ words) = (before : List ℕ) × (rest : List ℕ) × AreBlanks before × (0 < length word) × AllByRecursion (λ b. is_blank b ≡ false) word
+    × (line ≡ before ++ (word ++ rest)) × IsApart rest × AreWords rest words
+
+-- the words of the lines that are neither blank nor comments
+abbrev pub AreContents : List (List ℕ) → List (List (List ℕ)) → Type 0
+AreContents [] contents = contents ≡ []
+AreContents (line ∷ lines) contents = (AreBlanks line × AreContents lines contents)
+    ⊎ (((before : List ℕ) × (rest : List ℕ) × AreBlanks before × (line ≡ before ++ (37 ∷ rest)) × AreContents lines contents)
+    ⊎ ((word : List ℕ) × (words : List (List ℕ)) × (others : List (List (List ℕ))) × AreWords line (word ∷ words) × (slice_index word 0 ≢ 37)
+    × (contents ≡ (word ∷ words) ∷ others) × AreContents lines others))
+
+-- the first line that isn't blank has the words of the header, and these are the contents below it
+abbrev pub AreHeaded : List (List ℕ) → List (List ℕ) → List (List (List ℕ)) → Type 0
+AreHeaded [] header contents = ⊥
+AreHeaded (line ∷ lines) header contents = (AreBlanks line × AreHeaded lines header contents)
+    ⊎ ((word : List ℕ) × (words : List (List ℕ)) × AreWords line (word ∷ words) × (header ≡ word ∷ words) × AreContents lines contents)
+
+-- the text has this header, and these contents below it
+pub record IsHeaded (text : List ℕ) (header : Header) (contents : List (List (List ℕ))) : Type 0 where
+  pub lines : List (List ℕ)
+  pub words : List (List ℕ)
+  pub cut : AreLines text lines
+  pub headed : AreHeaded lines words contents
+  pub says : header_of words ≡ Some header
+
+-- an index: a nonempty run of digits
+abbrev pub is_index : List ℕ → Bool
+is_index word = nat_lt 0 (length word) && list_all is_ascii_digit word
+
+-- an integer: an optional sign and digits
+abbrev pub is_integer : List ℕ → Bool
+is_integer word = is_index (without_leading_sign word)
+
+-- a size line: two or three indices
+unfoldable pub is_size : List (List ℕ) → Bool
+is_size (rows ∷ cols ∷ count ∷ []) = is_index rows && is_index cols && is_index count
+is_size (rows ∷ cols ∷ []) = is_index rows && is_index cols
+is_size words = false
+
+-- a data line: two indices and an integer
+unfoldable pub is_entry : List (List ℕ) → Bool
+is_entry (row ∷ col ∷ value ∷ []) = is_index row && is_index col && is_integer value
+is_entry words = false
+
+-- the contents are a size line and data lines
+abbrev pub IsBody : List (List (List ℕ)) → List (List ℕ) → List (List (List ℕ)) → Type 0
+IsBody contents size entries = (contents ≡ size ∷ entries) × (is_size size ≡ true) × (list_all is_entry entries ≡ true)

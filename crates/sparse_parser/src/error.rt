@@ -1,0 +1,203 @@
+//! Why a Matrix Market text could not be read or written.
+
+ghost use Rattle.std.specs.Prelude.{◌≡◌};
+ghost use Rattle.std.specs.IoError.{error_kind};
+ghost use Rattle.sparse_parser.specs.declared.error.MatrixMarketErrorKind.TheVariants.{SparseFormatError, IOError, OutOfMemory};
+ghost use Rattle.sparse_parser.specs.Errors.{kind_of, kind_of_cause};
+
+use sparse_pattern::error::SparseFormatErrorKind;
+use std::alloc::{AllocError, AllocFailed};
+use std::io;
+use thiserror::Error;
+
+/// What is wrong with a Matrix Market text, or what kept it from being read or written.
+#[derive(Clone, Copy, Debug, PartialEq, Eq)]
+pub enum MatrixMarketErrorKind {
+    /// The text is outside the grammar, or a number in it is too large.
+    ParsingError,
+    /// A matrix with this header is not read.
+    InvalidHeader,
+    /// The number of entries is not the one that the size line says.
+    EntryMismatch,
+    /// A value is not one of the scalar type.
+    TypeMismatch,
+    /// An index is zero, where indices are counted from 1.
+    ZeroError,
+    /// The entries don't make a matrix of these sizes.
+    SparseFormatError(SparseFormatErrorKind),
+    /// A skew-symmetric matrix has an entry on its diagonal.
+    DiagonalError,
+    /// The reader or writer failed.
+    IOError(io::ErrorKind),
+    /// An entry of a matrix with a symmetry lies above the diagonal.
+    NotLowerTriangle,
+    /// A matrix with a symmetry is not square.
+    NonSquare,
+    /// Memory was refused.
+    OutOfMemory,
+}
+
+impl MatrixMarketErrorKind {
+    /// The name of the case, without what it carries.
+    pub fn name(self) -> &'static str {
+        match self {
+            MatrixMarketErrorKind::ParsingError => "ParsingError",
+            MatrixMarketErrorKind::InvalidHeader => "InvalidHeader",
+            MatrixMarketErrorKind::EntryMismatch => "EntryMismatch",
+            MatrixMarketErrorKind::TypeMismatch => "TypeMismatch",
+            MatrixMarketErrorKind::ZeroError => "ZeroError",
+            MatrixMarketErrorKind::SparseFormatError(_) => "SparseFormatError",
+            MatrixMarketErrorKind::DiagonalError => "DiagonalError",
+            MatrixMarketErrorKind::IOError(_) => "IOError",
+            MatrixMarketErrorKind::NotLowerTriangle => "NotLowerTriangle",
+            MatrixMarketErrorKind::NonSquare => "NonSquare",
+            MatrixMarketErrorKind::OutOfMemory => "OutOfMemory",
+        }
+    }
+}
+
+/// The causes of errors. Each has one kind and one text.
+#[derive(Clone, Copy, Debug)]
+pub enum Cause {
+    Grammar,
+    RealHermitian,
+    IntegerHermitian,
+    PatternHermitian,
+    PatternSkewSymmetric,
+    PatternArray,
+    HeaderNotCarried,
+    SizeCount,
+    SizeTooLarge,
+    EntryCount,
+    IndexTooLarge,
+    ZeroIndex,
+    NotAnI128,
+    ValueOutOfRange,
+    Format(SparseFormatErrorKind),
+    Io(io::ErrorKind),
+    Memory,
+}
+
+impl Cause {
+    fn kind(self) -> MatrixMarketErrorKind
+        ensures { result ≡ kind_of_cause self }
+    {
+        match self {
+            Cause::Grammar
+            | Cause::SizeCount
+            | Cause::SizeTooLarge
+            | Cause::IndexTooLarge
+            | Cause::NotAnI128 => MatrixMarketErrorKind::ParsingError,
+            Cause::RealHermitian
+            | Cause::IntegerHermitian
+            | Cause::PatternHermitian
+            | Cause::PatternSkewSymmetric
+            | Cause::PatternArray
+            | Cause::HeaderNotCarried => MatrixMarketErrorKind::InvalidHeader,
+            Cause::EntryCount => MatrixMarketErrorKind::EntryMismatch,
+            Cause::ZeroIndex => MatrixMarketErrorKind::ZeroError,
+            Cause::ValueOutOfRange => MatrixMarketErrorKind::TypeMismatch,
+            Cause::Format(kind) => MatrixMarketErrorKind::SparseFormatError(kind),
+            Cause::Io(kind) => MatrixMarketErrorKind::IOError(kind),
+            Cause::Memory => MatrixMarketErrorKind::OutOfMemory,
+        }
+    }
+
+    fn message(self) -> &'static str {
+        match self {
+            Cause::Grammar => "Can't parse the data.",
+            Cause::RealHermitian => "Real matrix can't be hermitian.",
+            Cause::IntegerHermitian => "Integer matrix can't be hermitian.",
+            Cause::PatternHermitian => "Pattern matrix can't be hermitian.",
+            Cause::PatternSkewSymmetric => "Pattern matrix can't be skew-symmetric.",
+            Cause::PatternArray => "Dense matrix can't be pattern matrix.",
+            Cause::HeaderNotCarried => "Only coordinate integer general matrices are carried.",
+            Cause::SizeCount => "Shape line doesn't fit the header.",
+            Cause::SizeTooLarge => "A size is too large.",
+            Cause::EntryCount => "The number of entries doesn't match the shape line.",
+            Cause::IndexTooLarge => "An index is too large.",
+            Cause::ZeroIndex => "The data has to be one-indexed",
+            Cause::NotAnI128 => "Can't parse data as i128.",
+            Cause::ValueOutOfRange => "Please consider using a larger integer type.",
+            Cause::Format(kind) => format_message(kind),
+            Cause::Io(_) => "The reader or writer failed.",
+            Cause::Memory => "Out of memory.",
+        }
+    }
+}
+
+fn format_message(kind: SparseFormatErrorKind) -> &'static str {
+    match kind {
+        SparseFormatErrorKind::IndexOutOfBounds => "An index is out of bounds.",
+        SparseFormatErrorKind::DuplicateEntry => "Input data contains duplicate entries.",
+        SparseFormatErrorKind::InvalidStructure => "The data doesn't fit the format.",
+        SparseFormatErrorKind::OutOfMemory => "Out of memory.",
+    }
+}
+
+/// An error in reading or writing a Matrix Market text.
+#[derive(Debug, Drop, Error)]
+#[error("Matrix Market error: {}, message: {}", .cause.kind().name(), .cause.message())]
+pub struct MatrixMarketError {
+    cause: Cause,
+}
+
+impl MatrixMarketError {
+    pub fn new(cause: Cause) -> MatrixMarketError
+        ensures { kind_of result ≡ kind_of_cause cause }
+    {
+        MatrixMarketError { cause }
+    }
+
+    /// What is wrong.
+    pub fn kind(&self) -> MatrixMarketErrorKind
+        ensures { result ≡ kind_of self.now }
+    {
+        self.cause.kind()
+    }
+
+    /// The text for this cause.
+    pub fn message(&self) -> &str {
+        self.cause.message()
+    }
+}
+
+impl From<AllocError> for MatrixMarketError {
+    ghost from_gives = { λ _ e. kind_of e ≡ OutOfMemory };
+
+    fn from(_refused: AllocError) -> MatrixMarketError {
+        MatrixMarketError::new(Cause::Memory)
+    }
+}
+
+impl<T: Drop> From<AllocFailed<T>> for MatrixMarketError {
+    ghost from_gives = { λ _ e. kind_of e ≡ OutOfMemory };
+
+    fn from(_refused: AllocFailed<T>) -> MatrixMarketError {
+        MatrixMarketError::new(Cause::Memory)
+    }
+}
+
+impl From<SparseFormatErrorKind> for MatrixMarketError {
+    ghost from_gives = { λ kind e. kind_of e ≡ SparseFormatError kind };
+
+    fn from(kind: SparseFormatErrorKind) -> MatrixMarketError {
+        MatrixMarketError::new(Cause::Format(kind))
+    }
+}
+
+impl From<io::ErrorKind> for MatrixMarketError {
+    ghost from_gives = { λ kind e. kind_of e ≡ IOError kind };
+
+    fn from(kind: io::ErrorKind) -> MatrixMarketError {
+        MatrixMarketError::new(Cause::Io(kind))
+    }
+}
+
+impl From<io::Error> for MatrixMarketError {
+    ghost from_gives = { λ error e. kind_of e ≡ IOError (error_kind error) };
+
+    fn from(error: io::Error) -> MatrixMarketError {
+        MatrixMarketError::new(Cause::Io(error.kind()))
+    }
+}

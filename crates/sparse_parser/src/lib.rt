@@ -1,0 +1,9 @@
+//! The parts of a Matrix Market text: lines, words, numbers, the header line, the size line and data lines.
+#![tactic(auto)]
+
+pub mod data_lines;
+pub mod error;
+pub mod header;
+pub mod lines;
+pub mod numbers;
+pub mod size;

@@ -1,0 +1,92 @@
+//! Numbers at the front of a text.
+
+ghost use Rattle.std.specs.Prelude.{◌≡◌, ◌<◌, ◌+◌, ◌*◌, ◌^◌, IsTrue, FitsSigned};
+ghost use Rattle.std.specs.Option.{SomeIff};
+ghost use Rattle.std.specs.List.{list_all};
+ghost use Rattle.std.specs.Char.{is_ascii_digit};
+ghost use Rattle.std.specs.Str.Parse.{digits_value, digits_value_after, signed_digits_value};
+ghost use Rattle.std.specs.Int.{w128};
+ghost use Rattle.sparse_parser.specs.Grammar.{is_index, is_integer};
+ghost use Rattle.sparse_parser.specs.Bytes.{front, after};
+
+/// So many digits always fit.
+const SHORT: usize = 19;
+
+/// The number that the digits at the front of a text write, where it fits, and what stands after them.
+pub fn leading_number(text: &[u8]) -> (Option<usize>, &[u8])
+    ensures number { SomeIff result.0
+        (digits_value 10 (front is_ascii_digit text.now) < 2 ^ 64)
+        (digits_value 10 (front is_ascii_digit text.now)) }
+    ensures rest { result.1.now ≡ after is_ascii_digit text.now }
+{
+    let end = text.len().min(SHORT);
+    let mut number = 0;
+    let mut at = 0;
+    while at < end && text[at].is_ascii_digit() {
+        number = number * 10 + usize::from(text[at] - b'0');
+        at += 1;
+    }
+    if at == SHORT {
+        return long_number(number, &text[at..]);
+    }
+    (Some(number), &text[at..])
+}
+
+/// The same, where the digits of a number stand before the text.
+#[cold]
+fn long_number(before: usize, text: &[u8]) -> (Option<usize>, &[u8])
+    ensures number { SomeIff result.0
+        (digits_value_after 10 before (front is_ascii_digit text.now) < 2 ^ 64)
+        (digits_value_after 10 before (front is_ascii_digit text.now)) }
+    ensures rest { result.1.now ≡ after is_ascii_digit text.now }
+{
+    let mut number = before;
+    let mut at = 0;
+    while at < text.len() && text[at].is_ascii_digit() {
+        match with_digit(number, text[at] - b'0') {
+            Some(longer) => number = longer,
+            None => return (None, after_digits(&text[at..])),
+        }
+        at += 1;
+    }
+    (Some(number), &text[at..])
+}
+
+fn with_digit(number: usize, digit: u8) -> Option<usize>
+    ensures { SomeIff result (number * 10 + digit < 2 ^ 64) (number * 10 + digit) }
+{
+    number.checked_mul(10)?.checked_add(usize::from(digit))
+}
+
+/// What stands after the digits at the front.
+fn after_digits(text: &[u8]) -> &[u8]
+    ensures { result.now ≡ after is_ascii_digit text.now }
+{
+    let mut at = 0;
+    while at < text.len() && text[at].is_ascii_digit() {
+        at += 1;
+    }
+    &text[at..]
+}
+
+/// The number that an optional sign and digits write, where it fits.
+#[cold]
+pub fn integer(word: &[u8]) -> Option<i128>
+    requires { IsTrue (is_integer word.now) }
+    ensures { SomeIff result (FitsSigned w128 (signed_digits_value 10 word.now)) (signed_digits_value 10 word.now) }
+{
+    std::str::from_utf8(word).unwrap().parse().ok()
+}
+
+/// Whether a word is an index.
+pub fn is_index(word: &[u8]) -> bool
+    ensures { result ≡ is_index word.now }
+{
+    !word.is_empty() && all_digits(word)
+}
+
+fn all_digits(word: &[u8]) -> bool
+    ensures { result ≡ list_all is_ascii_digit word.now }
+{
+    word.iter().all(|byte| byte.is_ascii_digit())
+}

@@ -1,0 +1,11 @@
+pub mod PatternLanes
+pub mod Positions
+pub mod LaneOrder
+pub mod SamePlaces
+pub mod NextEntry
+pub mod PackedWords
+pub mod FirstFaults
+pub mod PatternTransposes
+pub mod PlacedValues
+pub mod LaneLists
+pub mod PushedLanes

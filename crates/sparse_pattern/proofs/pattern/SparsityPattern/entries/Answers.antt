@@ -1,0 +1,8 @@
+use Rattle.sparse_pattern.proofs.LaneOrder.{length-entries, entries_are_places}
+use Rattle.sparse_pattern.proofs.pattern.SparsityPattern.entries.Goals as goal
+
+pub returns-clause-count : goal.returns-clause-count
+returns-clause-count c = rw c.all_entries.ensures.all (length-entries _ c.all_entries.ensures.valid)
+
+pub returns-clause-places : goal.returns-clause-places
+returns-clause-places c i j = rw c.all_entries.ensures.all (entries_are_places _ c.all_entries.ensures.valid i j)

@@ -1,0 +1,8 @@
+use Rattle.std.proofs.Common.{arith, ◌∙◌}
+use Rattle.std.proofs.lemmas.Bool.Decides.{nat_tests}
+use Rattle.sparse_pattern.proofs.NextEntry.{skip_lane}
+use Rattle.sparse_pattern.proofs.pattern.iter.SparsityPatternIterIterator.next.Goals as goal
+
+pub loop-left-preserved : goal.loop-left-preserved
+loop-left-preserved c =
+    skip_lane _ _ c.loop-left.left.now c.loop-left.lane (grind (arith, nat_tests)) (omega arith) ∙ c.loop-left.invariant

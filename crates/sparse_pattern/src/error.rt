@@ -1,0 +1,76 @@
+//! Errors in the format of a sparse matrix.
+
+ghost use Rattle.std.specs.Prelude.{◌≡◌};
+ghost use Rattle.sparse_pattern.specs.PatternFaults.{kind_of};
+ghost use Rattle.sparse_pattern.specs.declared.error.SparseFormatErrorKind.TheVariants.{OutOfMemory};
+
+use crate::pattern::SparsityPatternFormatError;
+use std::alloc::AllocError;
+use std::marker::Model;
+use thiserror::Error;
+
+/// What is wrong with the data of a sparse matrix.
+#[derive(Debug, Clone, Copy, PartialEq, Eq)]
+pub enum SparseFormatErrorKind {
+    /// An index lies outside the sizes.
+    IndexOutOfBounds,
+    /// A place is given twice.
+    DuplicateEntry,
+    /// The arrays don't fit each other or the format.
+    InvalidStructure,
+    /// Memory was refused.
+    OutOfMemory,
+}
+
+/// Why data isn't a sparse matrix: a kind, which contracts see, and a text.
+#[derive(Debug, Drop, Error)]
+#[error("{message}")]
+pub struct SparseFormatError {
+    kind: SparseFormatErrorKind,
+    message: &'static str,
+}
+
+impl Model for SparseFormatError {
+    ghost use Rattle.sparse_pattern.specs.declared.error.SparseFormatErrorKind.{SparseFormatErrorKind};
+
+    ghost Value = { SparseFormatErrorKind };
+
+    ghost view = { λ e. e.kind };
+}
+
+impl SparseFormatError {
+    /// An error of a kind, with the text that it is shown by.
+    pub fn new(kind: SparseFormatErrorKind, message: &'static str) -> Self
+        ensures { result ≡ kind }
+    {
+        SparseFormatError { kind, message }
+    }
+
+    /// The kind of the error.
+    pub fn kind(&self) -> &SparseFormatErrorKind
+        ensures { result.now ≡ self.now }
+    {
+        &self.kind
+    }
+
+    /// The text of the error.
+    pub fn message(&self) -> &'static str {
+        self.message
+    }
+}
+
+impl From<SparsityPatternFormatError> for SparseFormatError {
+    ghost from_gives = { λ fault e. e ≡ kind_of fault };
+
+    fn from(fault: SparsityPatternFormatError) -> SparseFormatError {
+        SparseFormatError::new(fault.kind(), fault.message())
+    }
+}
+
+impl From<AllocError> for SparseFormatError {
+    ghost from_gives = { λ _ e. e ≡ OutOfMemory };
+
+    fn from(_refused: AllocError) -> SparseFormatError {
+        SparseFormatError::new(SparseFormatErrorKind::OutOfMemory, "Out of memory.")
+    }
+}

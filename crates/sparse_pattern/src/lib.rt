@@ -1,0 +1,6 @@
+//! Sparsity patterns, and what every matrix over one shares: format errors and entries.
+#![tactic(auto)]
+
+pub mod entry;
+pub mod error;
+pub mod pattern;

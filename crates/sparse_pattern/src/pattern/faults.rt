@@ -1,0 +1,128 @@
+//! What can be wrong with the raw data of a pattern, and the search for the first fault.
+
+ghost use Rattle.std.specs.Prelude.{◌≡◌, ◌<◌, ◌≤◌, length, OnOk, IfErr};
+ghost use Rattle.sparse_pattern.specs.Raw.{Raw, IsValid, raw_of};
+ghost use Rattle.sparse_pattern.specs.PatternFaults.{IsFirstFault, IsRisingBelow, IsFirstAmong, IsBadOrder, kind_of};
+
+use crate::error::SparseFormatErrorKind;
+use std::cmp::Ordering;
+use thiserror::Error;
+
+/// What is wrong with the raw data of a pattern.
+#[derive(Debug, Clone, Copy, PartialEq, Eq, Error)]
+#[error("{}", self.message())]
+pub enum SparsityPatternFormatError {
+    /// The number of offsets isn't one more than the number of lanes.
+    InvalidOffsetArrayLength,
+    /// The first offset isn't zero, or the last isn't the number of indices.
+    InvalidOffsetFirstLast,
+    /// A lane ends before it begins, or past the indices.
+    NonmonotonicOffsets,
+    /// A minor index doesn't lie below the minor size.
+    MinorIndexOutOfBounds,
+    /// A minor index stands twice in a lane.
+    DuplicateEntry,
+    /// A minor index is smaller than the one before it in its lane.
+    NonmonotonicMinorIndices,
+}
+
+impl SparsityPatternFormatError {
+    // The kind of the error that a matrix with such data is refused by.
+    pub(crate) fn kind(self) -> SparseFormatErrorKind
+        ensures { result ≡ kind_of self }
+    {
+        match self {
+            SparsityPatternFormatError::InvalidOffsetArrayLength
+            | SparsityPatternFormatError::InvalidOffsetFirstLast
+            | SparsityPatternFormatError::NonmonotonicOffsets
+            | SparsityPatternFormatError::NonmonotonicMinorIndices =>
+                SparseFormatErrorKind::InvalidStructure,
+            SparsityPatternFormatError::MinorIndexOutOfBounds =>
+                SparseFormatErrorKind::IndexOutOfBounds,
+            SparsityPatternFormatError::DuplicateEntry => SparseFormatErrorKind::DuplicateEntry,
+        }
+    }
+
+    // The text of the error.
+    pub(crate) fn message(self) -> &'static str {
+        match self {
+            SparsityPatternFormatError::InvalidOffsetArrayLength =>
+                "Length of offset array is not equal to (major_dim + 1).",
+            SparsityPatternFormatError::InvalidOffsetFirstLast =>
+                "First or last offset is incompatible with format.",
+            SparsityPatternFormatError::NonmonotonicOffsets =>
+                "Offsets are not monotonically increasing.",
+            SparsityPatternFormatError::MinorIndexOutOfBounds => "A minor index is out of bounds.",
+            SparsityPatternFormatError::DuplicateEntry => "Input data contains duplicate entries.",
+            SparsityPatternFormatError::NonmonotonicMinorIndices =>
+                "Minor indices are not monotonically increasing within each lane.",
+        }
+    }
+}
+
+/// Raw data has one first fault at most.
+pub fn one_first_fault()
+    ensures { (d : Raw) (e f : SparsityPatternFormatError) → IsFirstFault d e → IsFirstFault d f → e ≡ f }
+{}
+
+// Answers the first fault of the data, in one pass and without memory.
+pub(super) fn check(
+    major_dim: usize,
+    minor_dim: usize,
+    offsets: &[usize],
+    indices: &[usize],
+) -> Result<(), SparsityPatternFormatError>
+    ensures ok { OnOk result (IsValid (raw_of major_dim minor_dim offsets.now indices.now)) }
+    ensures fault { IfErr result (IsFirstFault (raw_of major_dim minor_dim offsets.now indices.now)) }
+{
+    if major_dim == usize::MAX || offsets.len() != major_dim + 1 {
+        return Err(SparsityPatternFormatError::InvalidOffsetArrayLength);
+    }
+    if offsets[0] != 0 || offsets[major_dim] != indices.len() {
+        return Err(SparsityPatternFormatError::InvalidOffsetFirstLast);
+    }
+    for lane in 0..major_dim {
+        let start = offsets[lane];
+        let end = offsets[lane + 1];
+        if end < start || indices.len() < end {
+            return Err(SparsityPatternFormatError::NonmonotonicOffsets);
+        }
+        check_lane(minor_dim, indices, start, end)?;
+    }
+    Ok(())
+}
+
+// Answers the first fault among the indices of one lane.
+fn check_lane(
+    minor_dim: usize,
+    indices: &[usize],
+    start: usize,
+    end: usize,
+) -> Result<(), SparsityPatternFormatError>
+    requires { end ≤ length indices.now }
+    ensures ok { OnOk result (IsRisingBelow minor_dim indices.now start end) }
+    ensures fault { IfErr result (IsFirstAmong minor_dim indices.now start end) }
+{
+    for at in start..end {
+        let index = indices[at];
+        if index >= minor_dim {
+            return Err(SparsityPatternFormatError::MinorIndexOutOfBounds);
+        }
+        if at > start {
+            check_order(indices[at - 1], index)?;
+        }
+    }
+    Ok(())
+}
+
+// Whether an index rises above the one before it.
+fn check_order(before: usize, index: usize) -> Result<(), SparsityPatternFormatError>
+    ensures ok { OnOk result (before < index) }
+    ensures fault { IfErr result (IsBadOrder before index) }
+{
+    match before.cmp(&index) {
+        Ordering::Less => Ok(()),
+        Ordering::Equal => Err(SparsityPatternFormatError::DuplicateEntry),
+        Ordering::Greater => Err(SparsityPatternFormatError::NonmonotonicMinorIndices),
+    }
+}
