@@ -3,8 +3,8 @@ use Rattle.std.specs.Prelude.{◌≡◌, ℕ, ◌+◌, ◌*◌, ◌%◌, nat_eq,
 use Rattle.std.proofs.Common.{sym, ap, ◌∙◌, refl, arith}
 use Rattle.std.proofs.Math.Nat.{add-mod}
 use Rattle.std.proofs.lemmas.Bool.Decides.{Decides-eqb}
-use Rattle.sparse_algebra.specs.Residues.{mul-mod_left, mul-mod_right}
-use Rattle.sparse_algebra.specs.Classes.{LawsUpTo, class, class_decides}
+use Rattle.nalgebra_sparse.specs.Residues.{mul-mod_left, mul-mod_right}
+use Rattle.nalgebra_sparse.specs.Classes.{LawsUpTo, class, class_decides}
 use Rattle.acceptance.specs.declared.residue7.Residue7.{Residue7}
 
 abbrev pub residue7_of : ℕ → Residue7

@@ -38,7 +38,7 @@ impl Zero for Residue7 {
 }
 
 impl Ring for Residue7 {
-    ghost use Rattle.sparse_algebra.specs.Classes.{class_ring, class, class_decides};
+    ghost use Rattle.nalgebra_sparse.specs.Classes.{class_ring, class, class_decides};
     ghost use Rattle.acceptance.specs.Residue7.{residue7_laws};
 
     ghost ring = { class_ring residue7_laws };

@@ -3,6 +3,8 @@
 //! The crates behind this one hold the code. This one gives each module its public path.
 #![tactic(auto)]
 
+pub mod laws;
+
 pub use sparse_algebra::scalar;
 pub use sparse_base::coo::CooMatrix;
 pub use sparse_base::{coo, dense};

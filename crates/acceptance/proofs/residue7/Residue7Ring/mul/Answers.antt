@@ -1,5 +1,5 @@
 use Rattle.std.proofs.Common.{◌%◌, ◌∙◌}
-use Rattle.sparse_algebra.specs.Residues.{mul-mod_left, mul-mod_right}
+use Rattle.nalgebra_sparse.specs.Residues.{mul-mod_left, mul-mod_right}
 use Rattle.acceptance.specs.Residue7.{residue7_same}
 use Rattle.acceptance.proofs.residue7.Residue7Ring.mul.Goals as goal
 

@@ -1,0 +1,77 @@
+-- The definitions that the contracts of the library cite, and those that an implementation of `Ring` needs.
+-- A crate above names them by `Rattle.nalgebra_sparse.specs.Plain.{Plain}` and the like.
+
+-- rings, sums, plain matrices and their algebra
+pub use Rattle.sparse_algebra.specs.Algebra
+pub use Rattle.sparse_algebra.specs.Classes
+pub use Rattle.sparse_algebra.specs.Numbers
+pub use Rattle.sparse_algebra.specs.Plain
+pub use Rattle.sparse_algebra.specs.Residues
+pub use Rattle.sparse_algebra.specs.RingMaps
+pub use Rattle.sparse_algebra.specs.Sums
+pub use Rattle.sparse_algebra.specs.Whole
+pub use Rattle.sparse_algebra.specs.Wrapping
+-- counting by keys
+pub use Rattle.sparse_counting.specs.Counting
+-- patterns, format errors and entries
+pub use Rattle.sparse_pattern.specs.FirstFault
+pub use Rattle.sparse_pattern.specs.PatternFaults
+pub use Rattle.sparse_pattern.specs.Raw
+pub use Rattle.sparse_pattern.specs.Refill
+pub use Rattle.sparse_pattern.specs.Rest
+pub use Rattle.sparse_pattern.specs.SparseEntries
+pub use Rattle.sparse_pattern.specs.TransposedPattern
+-- coordinate lists and dense matrices
+pub use Rattle.sparse_base.specs.Blocks
+pub use Rattle.sparse_base.specs.Coo
+pub use Rattle.sparse_base.specs.CooEquality
+pub use Rattle.sparse_base.specs.CooLending
+pub use Rattle.sparse_base.specs.CooPlain
+pub use Rattle.sparse_base.specs.Dense
+pub use Rattle.sparse_base.specs.DenseEquality
+pub use Rattle.sparse_base.specs.DenseLending
+pub use Rattle.sparse_base.specs.DensePlain
+pub use Rattle.sparse_base.specs.TripletFaults
+-- compressed matrices, their lanes and entries
+pub use Rattle.sparse_cs.specs.Compressed
+pub use Rattle.sparse_cs.specs.Filter
+pub use Rattle.sparse_cs.specs.LaneEquality
+pub use Rattle.sparse_cs.specs.LaneSorting
+pub use Rattle.sparse_cs.specs.Lanes
+pub use Rattle.sparse_cs.specs.Laws
+pub use Rattle.sparse_cs.specs.Left
+pub use Rattle.sparse_cs.specs.PlainOfLanes
+pub use Rattle.sparse_cs.specs.SortedFaults
+pub use Rattle.sparse_cs.specs.StoredEntries
+pub use Rattle.sparse_cs.specs.TransposedMatrix
+pub use Rattle.sparse_cs.specs.UnsortedFaults
+pub use Rattle.sparse_cs.specs.Writing
+-- CSR and CSC matrices
+pub use Rattle.sparse_forms.specs.CscWriting
+pub use Rattle.sparse_forms.specs.CsrWriting
+-- conversions
+pub use Rattle.sparse_convert.specs.FromDense
+pub use Rattle.sparse_convert.specs.Merged
+pub use Rattle.sparse_convert.specs.OneMatrix
+pub use Rattle.sparse_convert.specs.ToDense
+pub use Rattle.sparse_convert.specs.TripletLanes
+-- operations
+pub use Rattle.sparse_ops.specs.Marks
+pub use Rattle.sparse_ops.specs.Products
+pub use Rattle.sparse_ops.specs.Rows
+-- the grammar and the meaning of Matrix Market texts
+pub use Rattle.sparse_parser.specs.Bytes
+pub use Rattle.sparse_parser.specs.Errors
+pub use Rattle.sparse_parser.specs.Grammar
+pub use Rattle.sparse_parser.specs.Header
+pub use Rattle.sparse_parser.specs.Meaning
+pub use Rattle.sparse_parser.specs.Reading
+-- sinks and written texts
+pub use Rattle.sparse_io.specs.Export
+pub use Rattle.sparse_io.specs.Out
+pub use Rattle.sparse_io.specs.Sink
+pub use Rattle.sparse_io.specs.Written
+-- expressions and `run`
+pub use Rattle.sparse_expr.specs.Run
+pub use Rattle.sparse_expr.specs.Value
+pub use Rattle.sparse_expr.specs.Words
