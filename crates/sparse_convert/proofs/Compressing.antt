@@ -14,7 +14,7 @@ use Rattle.sparse_algebra.proofs.RingLemmas.{zero_add}
 use Rattle.sparse_algebra.proofs.SumLemmas.{sum_by-permutation}
 use Rattle.sparse_algebra.proofs.PlainLemmas.{same_plain}
 use Rattle.sparse_cs.proofs.Arrays.{value_at}
-use Rattle.sparse_convert.specs.TripletLanes.{entries_of_lane, triplets_of_lane, index_sum, plain_of_lanes}
+use Rattle.sparse_convert.specs.InnerTripletLanes.{entries_of_lane, triplets_of_lane, index_sum, plain_of_lanes}
 use Rattle.sparse_convert.proofs.IndexSums.{has_index}
 
 module _ {T : Type 0} where

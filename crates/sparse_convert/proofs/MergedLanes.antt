@@ -12,8 +12,8 @@ use Rattle.sparse_algebra.specs.Plain.{IsProper}
 use Rattle.sparse_cs.specs.Compressed.{compressed_of, IsSound}
 use Rattle.sparse_cs.specs.PlainOfLanes.{plain_of_rows}
 use Rattle.sparse_cs.proofs.Arrays.{stands}
-use Rattle.sparse_convert.specs.TripletLanes.{AreOffsets, entries_of_lane, index_sum, plain_of_lanes}
-use Rattle.sparse_convert.specs.Merged.{AreMerged, KeepsFirst}
+use Rattle.sparse_convert.specs.InnerTripletLanes.{AreOffsets, entries_of_lane, index_sum, plain_of_lanes}
+use Rattle.sparse_convert.specs.InnerMerged.{AreMerged, KeepsFirst}
 use Rattle.sparse_convert.proofs.IndexSums.{has_index, index_sum-none}
 use Rattle.sparse_convert.proofs.SortedTriplets.{no_lane}
 use Rattle.sparse_convert.proofs.Merging.{merged_kept}

@@ -5,8 +5,8 @@ use Rattle.std.proofs.lemmas.List.{get_or_append_left, get_or_push, get_or_defau
 use Rattle.sparse_lemmas.proofs.Cases.{lt_or_ge, same_or_not, true_or_false}
 use Rattle.sparse_algebra.specs.Algebra.{CommRing}
 use Rattle.sparse_algebra.proofs.RingLemmas.{zero_add}
-use Rattle.sparse_convert.specs.TripletLanes.{index_sum}
-use Rattle.sparse_convert.specs.Merged.{AreMerged, KeepsFirst}
+use Rattle.sparse_convert.specs.InnerTripletLanes.{index_sum}
+use Rattle.sparse_convert.specs.InnerMerged.{AreMerged, KeepsFirst}
 use Rattle.sparse_convert.proofs.IndexSums.{has_index, has_index-here, has_index-other, index_sum-none, index_sum-here, index_sum-other}
 
 module _ (R : CommRing) {T : Type 0} (f : T → R.Carrier) (z : T) where

@@ -1,5 +1,5 @@
-pub mod TripletLanes
-pub mod Merged
+pub mod InnerTripletLanes
+pub mod InnerMerged
 pub mod OneMatrix
 pub mod FromDense
 pub mod ToDense

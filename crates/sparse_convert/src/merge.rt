@@ -4,8 +4,8 @@ ghost use Rattle.std.specs.Prelude.{◌≡◌, ℕ, ◌+◌, ◌-◌, ◌<◌, �
 ghost use Rattle.std.specs.List.Sorted.{IsNonDecreasingBy};
 ghost use Rattle.sparse_cs.specs.Compressed.{IsSound};
 ghost use Rattle.sparse_cs.specs.PlainOfLanes.{plain_of_rows};
-ghost use Rattle.sparse_convert.specs.TripletLanes.{AreOffsets, entries_of_lane, plain_of_lanes};
-ghost use Rattle.sparse_convert.specs.Merged.{AreMerged, KeepsFirst};
+ghost use Rattle.sparse_convert.specs.InnerTripletLanes.{AreOffsets, entries_of_lane, plain_of_lanes};
+ghost use Rattle.sparse_convert.specs.InnerMerged.{AreMerged, KeepsFirst};
 
 use sparse_algebra::scalar::Ring;
 use sparse_cs::CsMatrix;

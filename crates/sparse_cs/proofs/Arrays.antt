@@ -4,7 +4,7 @@ use Rattle.std.specs.Prelude.{nat_eq, ◌||◌}
 use Rattle.std.specs.List.{list_any}
 use Rattle.std.proofs.lemmas.Grind.{common_steps}
 use Rattle.std.proofs.lemmas.Bool.Decides.{Decides-eqb, nat_tests}
-use Rattle.sparse_lemmas.proofs.Cases.{lt_or_ge, three, true_or_false}
+use Rattle.sparse_lemmas.proofs.Cases.{three, true_or_false}
 use Rattle.sparse_algebra.specs.Algebra.{CommRing}
 use Rattle.sparse_algebra.specs.Sums.{sum_by, where_true}
 use Rattle.sparse_algebra.proofs.RingLemmas.{zero_add}

@@ -1,13 +1,14 @@
 -- The first fault of arrays whose lanes needn't be sorted.
-use Rattle.std.proofs.Common.{◌≡◌, ℕ, ◌+◌, ◌<◌, ◌≤◌, ◌⊎◌, inl, inr, List, length, All, Any, refl, arith}
+use Rattle.std.proofs.Common.{◌≡◌, ℕ, ◌+◌, ◌<◌, ◌≤◌, inl, inr, List, length, All, Any, refl, arith}
 use Rattle.sparse_lemmas.proofs.Cases.{le_cases}
 use Rattle.sparse_pattern.specs.Raw.{start_of, end_of, lane_of}
 use Rattle.sparse_pattern.specs.FirstFault.{IsBefore}
 use Rattle.sparse_pattern.specs.declared.error.SparseFormatErrorKind.{SparseFormatErrorKind}
 use Rattle.sparse_pattern.specs.declared.error.SparseFormatErrorKind.TheVariants.{IndexOutOfBounds, InvalidStructure}
 use Rattle.sparse_cs.specs.Compressed.{Compressed}
-use Rattle.sparse_cs.specs.LaneSorting.{IsLaneFault}
-use Rattle.sparse_cs.specs.UnsortedFaults.{UnsortedSpot, ValueCount, NoOffsets, OffsetCount, FirstLast, LaneFall, LaneEnd, LaneBounds, LaneRepeat, unsorted_rank, HasRepeat, HasUnsortedFault, HasFineCounts, IsFaultless, IsUnsortedRefusal}
+use Rattle.sparse_cs.specs.InnerLaneSorting.{IsLaneFault}
+use Rattle.sparse_cs.specs.UnsortedFaults.{UnsortedSpot, ValueCount, NoOffsets, OffsetCount, FirstLast, LaneFall, LaneEnd, LaneBounds, LaneRepeat, unsorted_rank, HasRepeat, HasUnsortedFault, IsFaultless, IsUnsortedRefusal}
+use Rattle.sparse_cs.specs.InnerUnsortedFaults.{HasFineCounts}
 
 -- lane k has no fault
 pub record IsFineLane {T : Type 0} (m : Compressed T) (k : ℕ) : Type 0 where

@@ -6,7 +6,8 @@ use Rattle.std.proofs.lemmas.List.Elements.{All-cons, All-head, All-tail}
 use Rattle.std.proofs.lemmas.List.Kept.{AllPairs-cons}
 use denote.Ref.{Bor}
 use Rattle.std.specs.Fn.{Shared}
-use Rattle.sparse_cs.specs.Filter.{IsKept, IsGrown, Answers}
+use Rattle.sparse_cs.specs.Filter.{IsKept, Answers}
+use Rattle.sparse_cs.specs.InnerFilter.{IsGrown}
 use Rattle.sparse_cs.proofs.LaneSortingLemmas.{zip-push, pairs_more}
 
 module _ {X : Type 0} (R : X → Bool → Type 0) where

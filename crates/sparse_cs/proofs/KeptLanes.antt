@@ -1,5 +1,5 @@
 -- Keeping places lane by lane.
-use Rattle.std.proofs.Common.{◌≡◌, ℕ, zero, suc, ◌+◌, ◌-◌, ◌<◌, ◌≤◌, ◌⊎◌, inl, inr, Bool, List, [], ◌∷◌, ◌++◌, length, take, drop, map, get_or, slice_range, All, refl, ap, sym, subst, ◌∙◌, arith, length-append}
+use Rattle.std.proofs.Common.{◌≡◌, ℕ, zero, suc, ◌+◌, ◌-◌, ◌<◌, ◌≤◌, inl, inr, Bool, List, [], ◌∷◌, ◌++◌, length, take, drop, map, get_or, slice_range, All, refl, ap, sym, subst, ◌∙◌, arith, length-append}
 use Rattle.std.specs.Prelude.{⊤}
 use Rattle.std.specs.List.{zip, AllPairs}
 use Rattle.std.proofs.lemmas.Grind.{common_steps, get_or_default_zero}
@@ -11,7 +11,8 @@ use Rattle.sparse_lemmas.proofs.Cases.{lt_add_one_cases}
 use Rattle.sparse_pattern.specs.Raw.{start_of, end_of, lane_of, IsValidLane, IsValid, entries_from}
 use Rattle.sparse_pattern.proofs.PatternLanes.{lane_rises, length-lane, get_or-lane}
 use Rattle.sparse_cs.specs.Compressed.{Compressed, arrays_of, IsSound, zip_values, lane_triplets}
-use Rattle.sparse_cs.specs.Filter.{IsKept, IsGrown}
+use Rattle.sparse_cs.specs.Filter.{IsKept}
+use Rattle.sparse_cs.specs.InnerFilter.{IsGrown}
 use Rattle.sparse_cs.proofs.Kept.{IsKept-append, IsKept-map, All-kept, AllPairs-kept}
 use Rattle.sparse_cs.proofs.SortedForm.{in_lane, split_lane}
 use Rattle.sparse_cs.proofs.UnsortedLanes.{lane_values}

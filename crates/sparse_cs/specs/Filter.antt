@@ -1,6 +1,5 @@
 -- What a test of the stored places keeps.
-use Rattle.std.specs.Prelude.{◌≡◌, ℕ, Bool, nat_eq, nat_le, cond, List, [], ◌∷◌, ◌++◌, length}
-use Rattle.std.specs.List.{zip}
+use Rattle.std.specs.Prelude.{◌≡◌, ℕ, Bool, nat_eq, nat_le, cond, List, [], ◌∷◌}
 use Rattle.std.specs.Fn.{Shared, FnReturns}
 use denote.Ref.{Bor}
 use Rattle.sparse_cs.specs.Compressed.{Compressed}
@@ -35,12 +34,3 @@ module _ {T : Type 0} where
 pub record HasSizesOf {T : Type 0} (m now : Compressed T) : Type 0 where
   pub major_dim : now.pattern.major_dim ≡ m.pattern.major_dim
   pub minor_dim : now.pattern.minor_dim ≡ m.pattern.minor_dim
-
--- two lists have grown by the kept ones of the pairs
-pub record IsGrown {T : Type 0} (R : ℕ × T → Bool → Type 0) (pairs : List (ℕ × T)) (xs : List ℕ) (vs : List T) (ys : List ℕ) (ws : List T) : Type 0 where
-  pub indices : List ℕ
-  pub values : List T
-  pub index_end : ys ≡ xs ++ indices
-  pub value_end : ws ≡ vs ++ values
-  pub count : length values ≡ length indices
-  pub kept : IsKept R pairs (zip indices values)

@@ -1,7 +1,8 @@
 pub mod Compressed
 pub mod SortedFaults
 pub mod UnsortedFaults
-pub mod LaneSorting
+pub mod InnerUnsortedFaults
+pub mod InnerLaneSorting
 pub mod PlainOfLanes
 pub mod Laws
 pub mod StoredEntries
@@ -10,4 +11,5 @@ pub mod Writing
 pub mod Left
 pub mod LaneEquality
 pub mod Filter
+pub mod InnerFilter
 pub mod TransposedMatrix

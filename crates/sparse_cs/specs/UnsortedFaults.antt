@@ -61,13 +61,6 @@ module _ {T : Type 0} where
   HasUnsortedFault m (LaneBounds i) = (i < m.pattern.major_dim) × Any (λ j. m.pattern.minor_dim ≤ j) (lane_of m.pattern i)
   HasUnsortedFault m (LaneRepeat i) = (i < m.pattern.major_dim) × HasRepeat (lane_of m.pattern i)
 
-  -- the number of values and the offsets as a whole have no fault
-  pub record HasFineCounts (m : Compressed T) : Type 0 where
-    pub values : length m.values ≡ length m.pattern.indices
-    pub offsets : length m.pattern.offsets ≡ m.pattern.major_dim + 1
-    pub first : slice_index m.pattern.offsets 0 ≡ 0
-    pub last : slice_index m.pattern.offsets m.pattern.major_dim ≡ length m.pattern.indices
-
   abbrev pub IsFaultless : Compressed T → Type 0
   IsFaultless m = (s : UnsortedSpot) → HasUnsortedFault m s → ⊥
 

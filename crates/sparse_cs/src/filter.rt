@@ -3,7 +3,8 @@
 ghost use Rattle.std.specs.Prelude.{◌≡◌, ℕ, Bool, OnOk, IfOk, length};
 ghost use Rattle.std.specs.List.{filter, zip};
 ghost use Rattle.sparse_cs.specs.Compressed.{IsSound, lane_triplets};
-ghost use Rattle.sparse_cs.specs.Filter.{Answers, AnswersAs, HasSizesOf, IsKept, IsGrown};
+ghost use Rattle.sparse_cs.specs.Filter.{Answers, AnswersAs, HasSizesOf, IsKept};
+ghost use Rattle.sparse_cs.specs.InnerFilter.{IsGrown};
 
 use crate::CsMatrix;
 use sparse_pattern::pattern::SparsityPattern;

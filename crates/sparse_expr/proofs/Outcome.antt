@@ -27,7 +27,8 @@ use Rattle.sparse_expr.specs.declared.expr.Expr.TheVariants as tree
 use Rattle.sparse_expr.specs.declared.error.ExprError.{ExprError}
 use Rattle.sparse_expr.specs.declared.error.ExprError.TheVariants as errors
 use Rattle.sparse_expr.specs.Value.{value_of, found, input_at, both, product_of}
-use Rattle.sparse_expr.specs.Run.{ring64, element_text, text_in, plains, rows_text, AllMean, HasOutcome, WritesSome, Effect, IsUntouched, RefusesRun, RefusesLoad, RefusesSave}
+use Rattle.sparse_expr.specs.Run.{ring64, element_text, text_in, plains, AllMean, HasOutcome, WritesSome, Effect, IsUntouched, RefusesRun}
+use Rattle.sparse_expr.specs.InnerRun.{rows_text, RefusesLoad, RefusesSave}
 
 -- ---- triplets whose values are read by way of another type
 

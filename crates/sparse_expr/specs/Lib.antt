@@ -1,3 +1,4 @@
 pub mod Value
 pub mod Words
 pub mod Run
+pub mod InnerRun

@@ -83,6 +83,10 @@ pub record Effect : Type 0 where
   pub failures : ℕ
   pub last : Option ErrorKind
 
+-- the effect between two moments
+abbrev pub effect : Option (List ℕ) → Option (List ℕ) → ℕ → ℕ → Option ErrorKind → Effect
+effect taken_before taken failures_before failures last = record { taken_before = taken_before; taken = taken; failures_before = failures_before; failures = failures; last = last }
+
 -- no byte was written, and no write failed
 abbrev pub IsUntouched : Effect → Type 0
 IsUntouched e = (e.taken ≡ e.taken_before) × (e.failures ≡ e.failures_before)
@@ -95,22 +99,3 @@ RefusesRun form texts expr e refusal.Shape = HasOutcome texts expr (Err refusal.
 RefusesRun form texts expr e (refusal.Write kind) = WritesSome form texts expr e.taken_before e.taken × (e.failures ≡ e.failures_before + 1) × (e.last ≡ Some kind)
 RefusesRun form texts expr e refusal.OutOfMemory = (e.failures ≡ e.failures_before) × ((e.taken ≡ e.taken_before) ⊎ WritesSome form texts expr e.taken_before e.taken)
 RefusesRun form texts expr e _ = ⊥
-
--- why texts were not loaded
-abbrev pub RefusesLoad : List (List ℕ) → ExprError → Type 0
-RefusesLoad texts (refusal.Input number kind) = IsFirstRefused texts number kind
-RefusesLoad texts refusal.OutOfMemory = Unit {0}
-RefusesLoad texts _ = ⊥
-
--- why a matrix was not written
-abbrev pub RefusesSave : Effect → ExprError → Type 0
-RefusesSave e (refusal.Write kind) = (e.failures ≡ e.failures_before + 1) × (e.last ≡ Some kind)
-RefusesSave e refusal.OutOfMemory = e.failures ≡ e.failures_before
-RefusesSave e _ = ⊥
-
-abbrev pub effect : Option (List ℕ) → Option (List ℕ) → ℕ → ℕ → Option ErrorKind → Effect
-effect taken_before taken failures_before failures last = record { taken_before = taken_before; taken = taken; failures_before = failures_before; failures = failures; last = last }
-
--- the text of a matrix by rows
-abbrev pub rows_text : Compressed W64 → List ℕ
-rows_text m = written_text (codes "integer") (λ x. signed_decimal (w64_number x)) m.pattern.major_dim m.pattern.minor_dim (lane_triplets m)

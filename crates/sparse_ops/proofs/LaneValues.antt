@@ -17,7 +17,7 @@ use Rattle.sparse_pattern.proofs.PatternLanes.{length-lane, get_or-lane, lane_ri
 use Rattle.sparse_cs.specs.Compressed.{Compressed, IsSound, zip_values}
 use Rattle.sparse_cs.specs.PlainOfLanes.{plain_of_rows}
 use Rattle.sparse_cs.proofs.Arrays.{where_yes, where_no, unnamed, value_at_position, has_is_place}
-use Rattle.sparse_ops.specs.Rows.{lane_value}
+use Rattle.sparse_ops.specs.InnerRows.{lane_value}
 use Rattle.sparse_pattern.proofs.LaneLists.{lane_has}
 use Rattle.sparse_ops.proofs.RowSums.{eq_refl, sum_zip_more}
 

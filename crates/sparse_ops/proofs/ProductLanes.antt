@@ -2,7 +2,8 @@
 use Rattle.std.proofs.Common.{◌≡◌, ℕ, ◌+◌, ◌<◌, inl, inr, ◌↔◌, List, [], ◌∷◌, ◌++◌, length, Contains, ap, sym, subst, ◌∙◌, arith}
 use Rattle.sparse_lemmas.proofs.Cases.{lt_add_one_cases}
 use Rattle.sparse_pattern.specs.Raw.{Raw, raw_of, lane_of, IsValid, IsPlace}
-use Rattle.sparse_ops.specs.Products.{IsProductOf, IsInLanes, GainsLane}
+use Rattle.sparse_ops.specs.Products.{IsProductOf}
+use Rattle.sparse_ops.specs.InnerProducts.{IsInLanes, GainsLane}
 use Rattle.sparse_pattern.proofs.LaneLists.{lane_has}
 use Rattle.sparse_pattern.proofs.PushedLanes.{valid_pushed, places_kept, places_last}
 

@@ -8,7 +8,7 @@ use Rattle.sparse_lemmas.proofs.Cases.{nat_eq_no, true_or_false}
 use Rattle.sparse_algebra.specs.Algebra.{CommRing}
 use Rattle.sparse_algebra.specs.Sums.{sum_by, where_true}
 use Rattle.sparse_cs.proofs.Arrays.{where_yes, where_no}
-use Rattle.sparse_ops.specs.Rows.{lane_value}
+use Rattle.sparse_ops.specs.InnerRows.{lane_value}
 
 pub offset_fits : (j n size : ℕ) → j < n → n * size < 9223372036854775808 → Fits w64 (j * size)
 offset_fits j n size lt fits = grind arith

@@ -1,3 +1,4 @@
-pub mod Marks
+pub mod InnerMarks
 pub mod Products
-pub mod Rows
+pub mod InnerProducts
+pub mod InnerRows

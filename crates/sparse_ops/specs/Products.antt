@@ -6,14 +6,3 @@ use Rattle.sparse_pattern.specs.Raw.{Raw, IsPlace}
 -- (i, j) is a place exactly where some k has (i, k) in a and (k, j) in b
 abbrev pub IsProductOf : Raw → Raw → Raw → Type 0
 IsProductOf d a b = (i j : ℕ) → IsPlace d i j ↔ ((k : ℕ) × IsPlace a i k × IsPlace b k j)
-
--- one of the lanes has the index j
-abbrev pub IsInLanes : Raw → List ℕ → ℕ → Type 0
-IsInLanes d lanes j = (k : ℕ) × Contains lanes k × IsPlace d k j
-
--- the list gains a rising lane at its end, of the indices for which P holds
-pub record GainsLane (old new : List ℕ) (P : ℕ → Type 0) : Type 0 where
-  pub lane : List ℕ
-  pub pushed : new ≡ old ++ lane
-  pub rising : IsStrictlyIncreasing lane
-  pub holds : (j : ℕ) → Contains lane j ↔ P j

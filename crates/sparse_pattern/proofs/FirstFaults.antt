@@ -3,7 +3,8 @@ use Rattle.std.proofs.Common.{◌≡◌, ℕ, ◌+◌, ◌-◌, ◌<◌, ◌≤�
 use Rattle.sparse_lemmas.proofs.Cases.{le_cases}
 use Rattle.sparse_pattern.specs.Raw.{Raw, start_of, end_of, IsInLane, IsValidLane}
 use Rattle.sparse_pattern.specs.FirstFault.{IsBefore}
-use Rattle.sparse_pattern.specs.PatternFaults.{Spot, OffsetCount, FirstLast, LaneEnd, Bound, Fall, Repeat, rank_of, HasFault, IsFirstFault, IsRisingBelow, IsFirstAmong}
+use Rattle.sparse_pattern.specs.PatternFaults.{Spot, OffsetCount, FirstLast, LaneEnd, Bound, Fall, Repeat, rank_of, HasFault, IsFirstFault}
+use Rattle.sparse_pattern.specs.InnerPatternFaults.{IsRisingBelow, IsFirstAmong}
 use Rattle.sparse_pattern.specs.declared.pattern.faults.SparsityPatternFormatError.{SparsityPatternFormatError}
 use Rattle.sparse_pattern.specs.declared.pattern.faults.SparsityPatternFormatError.TheVariants.{NonmonotonicOffsets}
 

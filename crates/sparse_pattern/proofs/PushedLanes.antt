@@ -1,5 +1,5 @@
 -- A pattern in the making that gains a lane at its end.
-use Rattle.std.proofs.Common.{◌≡◌, ℕ, ◌+◌, ◌-◌, ◌<◌, ◌≤◌, ◌⊎◌, inl, inr, ◌↔◌, List, [], ◌∷◌, ◌++◌, length, take, get_or, slice_range, Contains, length-append, ap, sym, subst, ◌∙◌, refl, arith}
+use Rattle.std.proofs.Common.{◌≡◌, ℕ, ◌+◌, ◌-◌, ◌<◌, ◌≤◌, inl, inr, ◌↔◌, List, [], ◌∷◌, ◌++◌, length, take, get_or, slice_range, Contains, length-append, ap, sym, subst, ◌∙◌, refl, arith}
 use Rattle.std.specs.List.Sorted.{IsStrictlyIncreasing}
 use Rattle.std.proofs.lemmas.List.{get_or_append_left, get_or_push, get_or-append_right, length_push, drop_at, take_all}
 use Rattle.std.proofs.lemmas.List.Elements.{Contains-get_or}

@@ -1,7 +1,9 @@
 pub mod Raw
 pub mod FirstFault
 pub mod PatternFaults
+pub mod InnerPatternFaults
 pub mod Rest
 pub mod SparseEntries
 pub mod TransposedPattern
+pub mod InnerTransposes
 pub mod Refill

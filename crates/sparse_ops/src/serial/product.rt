@@ -4,7 +4,7 @@ ghost use Rattle.std.specs.Prelude.{◌≡◌, ℕ, ◌<◌, ◌≤◌, ◌+◌,
 ghost use Rattle.std.specs.List.Sorted.{IsStrictlyIncreasing};
 ghost use Rattle.sparse_algebra.specs.Plain.{plain_product};
 ghost use Rattle.sparse_cs.specs.PlainOfLanes.{plain_of_rows};
-ghost use Rattle.sparse_ops.specs.Rows.{lane_value};
+ghost use Rattle.sparse_ops.specs.InnerRows.{lane_value};
 
 use super::pattern::spmm_csr_pattern;
 use sparse_algebra::scalar::Ring;

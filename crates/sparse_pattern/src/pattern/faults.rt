@@ -2,7 +2,8 @@
 
 ghost use Rattle.std.specs.Prelude.{◌≡◌, ◌<◌, ◌≤◌, length, OnOk, IfErr};
 ghost use Rattle.sparse_pattern.specs.Raw.{Raw, IsValid, raw_of};
-ghost use Rattle.sparse_pattern.specs.PatternFaults.{IsFirstFault, IsRisingBelow, IsFirstAmong, IsBadOrder, kind_of};
+ghost use Rattle.sparse_pattern.specs.PatternFaults.{IsFirstFault, kind_of};
+ghost use Rattle.sparse_pattern.specs.InnerPatternFaults.{IsRisingBelow, IsFirstAmong, IsBadOrder};
 
 use crate::error::SparseFormatErrorKind;
 use std::cmp::Ordering;

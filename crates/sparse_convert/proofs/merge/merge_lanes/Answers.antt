@@ -1,8 +1,8 @@
 use Rattle.std.proofs.Common.{◌≡◌, [], ◌∷◌, ◌++◌, ◌+◌, ◌-◌, length, ap, ◌∙◌, subst, refl, arith, slice_index}
 use Rattle.std.proofs.lemmas.List.Edits.{length-between}
 use Rattle.sparse_cs.specs.Compressed.{IsSound, compressed_of}
-use Rattle.sparse_convert.specs.TripletLanes.{entries_of_lane}
-use Rattle.sparse_convert.specs.Merged.{AreMerged}
+use Rattle.sparse_convert.specs.InnerTripletLanes.{entries_of_lane}
+use Rattle.sparse_convert.specs.InnerMerged.{AreMerged}
 use Rattle.sparse_cs.specs.PlainOfLanes.{plain_of_rows}
 use Rattle.sparse_convert.proofs.SortedTriplets.{offsets_within}
 use Rattle.sparse_convert.proofs.MergedLanes.{AreLanesMerged, no_lanes_merged, lanes_merged_more, merged_valid, merged_stand}

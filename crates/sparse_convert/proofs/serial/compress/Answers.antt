@@ -4,7 +4,7 @@ use Rattle.std.proofs.lemmas.Result.{IfOk-weaker}
 use Rattle.sparse_base.specs.Coo.{zip_triplets}
 use Rattle.sparse_base.proofs.TripletLists.{bounded}
 use Rattle.sparse_algebra.specs.Plain.{plain_of_triplets}
-use Rattle.sparse_convert.specs.TripletLanes.{entries_of_lane, plain_of_lanes}
+use Rattle.sparse_convert.specs.InnerTripletLanes.{entries_of_lane, plain_of_lanes}
 use Rattle.sparse_convert.proofs.LentLists.{lent_back}
 use Rattle.sparse_convert.proofs.Compressing.{lane_below, lanes_stand}
 use Rattle.sparse_convert.proofs.serial.compress.Goals as goal

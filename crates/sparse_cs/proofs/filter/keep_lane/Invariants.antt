@@ -1,6 +1,7 @@
 use Rattle.std.proofs.Common.{take}
 use Rattle.std.specs.List.{zip}
-use Rattle.sparse_cs.specs.Filter.{Answers, IsGrown}
+use Rattle.sparse_cs.specs.Filter.{Answers}
+use Rattle.sparse_cs.specs.InnerFilter.{IsGrown}
 use Rattle.sparse_cs.proofs.filter.keep_lane.Given as goal
 
 abbrev pub invariant-loop-at : goal.invariant-loop-at

@@ -9,7 +9,8 @@ use Rattle.sparse_cs.specs.PlainOfLanes.{plain_of_rows}
 use Rattle.sparse_io.specs.Sink.{AppendsSome}
 use Rattle.sparse_expr.specs.Words.{texts}
 use Rattle.sparse_expr.specs.Value.{value_of}
-use Rattle.sparse_expr.specs.Run.{ring64, HasOutcome, RefusesRun, effect}
+use Rattle.sparse_expr.specs.Run.{ring64, HasOutcome, RefusesRun}
+use Rattle.sparse_expr.specs.Run.{effect}
 use Rattle.sparse_expr.proofs.Outcome.{has_outcome, refuses-value, refuses-save, text_in-any, both_of_err}
 use Rattle.sparse_expr.proofs.calculator.run.Goals as goal
 

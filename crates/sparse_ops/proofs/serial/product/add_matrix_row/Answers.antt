@@ -1,6 +1,6 @@
 use Rattle.std.proofs.Common.{◌≡◌, ◌<◌, ℕ, length, get_or, ◌∙◌, ap}
 use Rattle.sparse_pattern.specs.Raw.{lane_of}
-use Rattle.sparse_ops.specs.Rows.{lane_value}
+use Rattle.sparse_ops.specs.InnerRows.{lane_value}
 use Rattle.sparse_ops.proofs.LaneValues.{values_of, lane_value_is}
 use Rattle.sparse_ops.proofs.serial.product.add_matrix_row.Goals as goal
 

@@ -1,4 +1,4 @@
-use Rattle.sparse_pattern.specs.PatternFaults.{IsRisingBelow}
+use Rattle.sparse_pattern.specs.InnerPatternFaults.{IsRisingBelow}
 use Rattle.sparse_pattern.proofs.pattern.faults.check_lane.Given as goal
 
 abbrev pub invariant-loop-at : goal.invariant-loop-at

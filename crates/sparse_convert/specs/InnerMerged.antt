@@ -2,7 +2,7 @@
 use Rattle.std.specs.Prelude.{◌≡◌, ℕ, ◌-◌, ◌<◌, ◌≤◌, true, List, nat_eq, slice_index, slice_index_or}
 use Rattle.std.specs.List.{list_any}
 use Rattle.sparse_algebra.specs.Algebra.{CommRing}
-use Rattle.sparse_convert.specs.TripletLanes.{index_sum}
+use Rattle.sparse_convert.specs.InnerTripletLanes.{index_sum}
 
 -- from start to end stand the indices of the lane's entries, each once and rising, and the sums of their values
 pub record AreMerged (R : CommRing) {T : Type 0} (f : T → R.Carrier) (zero : T) (lane : List (ℕ × T)) (indices : List ℕ) (values : List T) (start end : ℕ) : Type 0 where
