@@ -1,63 +1,18 @@
--- Values of a CSR matrix that are lent for writing, and what the matrix or the row is once the loan is over.
-use Rattle.std.specs.Prelude.{ℕ, List, [], Option, slice_set, unwrap_or}
-use Rattle.std.specs.Borrow.{Lends, LendsIf, follows_if, name_if_some, MutBor, Fml, GName, Array, RattleType}
-use mathlib.Core.Option as maybe
-use mir.Syntax.{named}
-use Rattle.sparse_pattern.specs.SparseEntries.{found_name, entry_name, indexed_name}
+-- Values of a CSR matrix that are lent for writing, and what the matrix is once the loan is over.
+use Rattle.std.specs.Prelude.{ℕ, List, Option}
+use Rattle.std.specs.Borrow.{Lends, follows_if, MutBor, Fml, Array, RattleType}
+use Rattle.sparse_pattern.specs.SparseEntries.{entry_name, indexed_name}
 use Rattle.sparse_pattern.specs.declared.entry.SparseEntryMut.{SparseEntryMut}
-use Rattle.sparse_pattern.specs.declared.entry.Found.{Found}
 use Rattle.sparse_cs.specs.Compressed.{Compressed}
-use Rattle.sparse_cs.specs.Lanes.{Lane, lane_parts}
-use Rattle.sparse_cs.specs.Left.{triplets_left, lanes_left}
-use Rattle.sparse_cs.specs.contracts.CsMatrix.{the_row as core_type}
-use Rattle.sparse_cs.specs.Writing.{with_values, with_lane, with_value, index_in}
-use Rattle.sparse_forms.specs.declared.csr.iter_mut.CsrTripletIterMut.{CsrTripletIterMut}
-use Rattle.sparse_forms.specs.declared.csr.iter_mut.CsrRowIterMut.{CsrRowIterMut}
-use Rattle.sparse_forms.specs.declared.csr.row_mut.CsrRowMut.{CsrRowMut}
+use Rattle.sparse_cs.specs.Writing.{with_values, with_lane, with_value}
+use Rattle.sparse_lanes.specs.RowWriting.{row_name}
+use Rattle.sparse_lanes.specs.declared.row_mut.CsrRowMut.{CsrRowMut}
 use Rattle.sparse_forms.specs.contracts.csr.CsrMatrix.{the_row as matrix_type}
-use Rattle.sparse_forms.specs.contracts.csr.row_mut.CsrRowMut.{the_row as row_type}
-
-module _ {T : Type 0} where
-  -- the row as a lane
-  abbrev pub lent_row : CsrRowMut T → Lane T
-  lent_row s = lane_parts s.ncols s.col_indices s.values.now
-
-  -- the values of the row
-  abbrev pub row_values : CsrRowMut T → MutBor (List T)
-  row_values s = s.values
-
-  -- the name of the row's reference, if there is a row
-  abbrev pub row_name : Option (CsrRowMut T) → maybe.Option GName
-  row_name = name_if_some (λ s. s.values.ghost_name)
-
-  -- the row with ws behind its reference
-  abbrev pub row_with_values : CsrRowMut T → List T → CsrRowMut T
-  row_with_values s ws = record s { values = record s.values { now = ws } }
-
-  -- the row with another value at the position k
-  abbrev pub row_with_value_at : CsrRowMut T → ℕ → T → CsrRowMut T
-  row_with_value_at s k w = row_with_values s (slice_set s.values.now k w)
-
-  -- the row with another value at the stored column j
-  abbrev pub row_with_value : CsrRowMut T → ℕ → T → CsrRowMut T
-  row_with_value s j w = row_with_value_at s (unwrap_or (index_in s.col_indices j) 0) w
-
-  -- the triplets that are still to come
-  abbrev pub csr_triplets_left : CsrTripletIterMut T → List (ℕ × ℕ × T)
-  csr_triplets_left it = triplets_left it.lanes
-
-  -- the rows that are still to come
-  abbrev pub rows_left : CsrRowIterMut T → List (Lane T)
-  rows_left it = lanes_left it.lanes
 
 -- the matrix ends with the values that are left behind what was lent
 module _ (T : RattleType) (s : MutBor (Compressed T.Denot)) where
   abbrev pub LendsValues : MutBor (List T.Denot) → Fml
   LendsValues r = Lends (matrix_type T) (Array T 0) s r (with_values s.now)
-
-  -- the core where there is one, and otherwise the matrix stays as it is
-  abbrev pub LendsCoreIf : Option (MutBor (Compressed T.Denot)) → Fml
-  LendsCoreIf r = LendsIf (matrix_type T) (core_type T) s r (λ m. m) s.now
 
   abbrev pub LendsRow : ℕ → MutBor (List T.Denot) → Fml
   LendsRow i r = Lends (matrix_type T) (Array T 0) s r (with_lane s.now i)
@@ -66,25 +21,8 @@ module _ (T : RattleType) (s : MutBor (Compressed T.Denot)) where
   abbrev pub LendsRowIf : ℕ → Option (CsrRowMut T.Denot) → Fml
   LendsRowIf i r = follows_if (matrix_type T) (Array T 0) s.ghost_name (row_name r) (with_lane s.now i) s.now
 
-  abbrev pub LendsFound : ℕ → ℕ → Found T.Denot → Fml
-  LendsFound i j r = follows_if (matrix_type T) T s.ghost_name (found_name r) (with_value s.now i j) s.now
-
   abbrev pub LendsEntry : ℕ → ℕ → Option (SparseEntryMut T.Denot) → Fml
   LendsEntry i j r = follows_if (matrix_type T) T s.ghost_name (entry_name r) (with_value s.now i j) s.now
 
   abbrev pub LendsIndexed : ℕ → ℕ → SparseEntryMut T.Denot → Fml
   LendsIndexed i j r = follows_if (matrix_type T) T s.ghost_name (indexed_name r) (with_value s.now i j) s.now
-
--- the row ends with the values that are left behind what was lent
-module _ (T : RattleType) (s : MutBor (CsrRowMut T.Denot)) where
-  abbrev pub LendsRowValues : MutBor (List T.Denot) → Fml
-  LendsRowValues r = Lends (row_type (record { mir = named 1; lft = [] }) T) (Array T 0) s r (row_with_values s.now)
-
-  abbrev pub LendsRowAt : ℕ → MutBor T.Denot → Fml
-  LendsRowAt k r = Lends (row_type (record { mir = named 1; lft = [] }) T) T s r (row_with_value_at s.now k)
-
-  abbrev pub LendsRowFound : ℕ → Found T.Denot → Fml
-  LendsRowFound j r = follows_if (row_type (record { mir = named 1; lft = [] }) T) T s.ghost_name (found_name r) (row_with_value s.now j) s.now
-
-  abbrev pub LendsRowEntry : ℕ → Option (SparseEntryMut T.Denot) → Fml
-  LendsRowEntry j r = follows_if (row_type (record { mir = named 1; lft = [] }) T) T s.ghost_name (entry_name r) (row_with_value s.now j) s.now

@@ -1,2 +1,4 @@
 pub mod CsrWriting
 pub mod CscWriting
+pub mod InnerCsrWriting
+pub mod InnerCscWriting

@@ -8,25 +8,21 @@ ghost use Rattle.sparse_cs.specs.PlainOfLanes.{plain_of_cols};
 ghost use Rattle.sparse_cs.specs.SortedFaults.{IsSortedRefusal, sorted_kind};
 ghost use Rattle.sparse_cs.specs.UnsortedFaults.{IsFaultless, IsSortedForm, IsUnsortedRefusal};
 
-mod col_mut;
-mod cols;
 mod filter;
-mod iter_mut;
+mod reading;
 mod transpose;
-mod triplets;
 mod writing;
 
 use crate::csr::CsrMatrix;
-pub use col_mut::CscColMut;
-pub use cols::{CscCol, CscColIter};
-pub use iter_mut::{CscColIterMut, CscTripletIterMut};
 use sparse_algebra::scalar::Ring;
 use sparse_cs::{CsMatrix, SortedFault};
+pub use sparse_lanes::col::{CscCol, CscColIter};
+pub use sparse_lanes::col_mut::{CscColIterMut, CscColMut};
+pub use sparse_lanes::col_triplets::{CscTripletIter, CscTripletIterMut, CscTripletValues};
 use sparse_pattern::error::{SparseFormatError, SparseFormatErrorKind};
 use sparse_pattern::pattern::{SparsityPattern, SparsityPatternFormatError};
 use std::alloc::{AllocError, Global};
 use std::marker::Model;
-pub use triplets::{CscTripletIter, CscTripletValues};
 
 /// A sparse matrix compressed by columns.
 ///
@@ -124,38 +120,6 @@ impl<T> CscMatrix<T> {
         ensures sound { IsSound self.now }
     {
         self.cs.values().len()
-    }
-
-    /// Where each column begins in the rows, and at last their number.
-    pub fn col_offsets(&self) -> &[usize]
-        ensures offsets { result.now ≡ self.now.pattern.offsets }
-        ensures sound { IsSound self.now }
-    {
-        self.cs.pattern().major_offsets()
-    }
-
-    /// The rows of the stored places, column after column.
-    pub fn row_indices(&self) -> &[usize]
-        ensures indices { result.now ≡ self.now.pattern.indices }
-        ensures sound { IsSound self.now }
-    {
-        self.cs.pattern().minor_indices()
-    }
-
-    /// The values of the stored places, column after column.
-    pub fn values(&self) -> &[T]
-        ensures values { result.now ≡ self.now.values }
-        ensures sound { IsSound self.now }
-    {
-        self.cs.values()
-    }
-
-    /// The pattern of the stored places.
-    pub fn pattern(&self) -> &SparsityPattern
-        ensures pattern { result.now ≡ self.now.pattern }
-        ensures sound { IsSound self.now }
-    {
-        self.cs.pattern()
     }
 }
 

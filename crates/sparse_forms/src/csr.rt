@@ -9,24 +9,20 @@ ghost use Rattle.sparse_cs.specs.SortedFaults.{IsSortedRefusal, sorted_kind};
 ghost use Rattle.sparse_cs.specs.UnsortedFaults.{IsFaultless, IsSortedForm, IsUnsortedRefusal};
 
 mod filter;
-mod iter_mut;
-mod row_mut;
-mod rows;
+mod reading;
 mod transpose;
-mod triplets;
 mod writing;
 
 use crate::csc::CscMatrix;
-pub use iter_mut::{CsrRowIterMut, CsrTripletIterMut};
-pub use row_mut::CsrRowMut;
-pub use rows::{CsrRow, CsrRowIter};
 use sparse_algebra::scalar::Ring;
 use sparse_cs::{CsMatrix, SortedFault};
+pub use sparse_lanes::row::{CsrRow, CsrRowIter};
+pub use sparse_lanes::row_mut::{CsrRowIterMut, CsrRowMut};
+pub use sparse_lanes::row_triplets::{CsrTripletIter, CsrTripletIterMut, CsrTripletValues};
 use sparse_pattern::error::{SparseFormatError, SparseFormatErrorKind};
 use sparse_pattern::pattern::{SparsityPattern, SparsityPatternFormatError};
 use std::alloc::{AllocError, Global};
 use std::marker::Model;
-pub use triplets::{CsrTripletIter, CsrTripletValues};
 
 /// A sparse matrix compressed by rows.
 ///
@@ -124,38 +120,6 @@ impl<T> CsrMatrix<T> {
         ensures sound { IsSound self.now }
     {
         self.cs.values().len()
-    }
-
-    /// Where each row begins in the columns, and at last their number.
-    pub fn row_offsets(&self) -> &[usize]
-        ensures offsets { result.now ≡ self.now.pattern.offsets }
-        ensures sound { IsSound self.now }
-    {
-        self.cs.pattern().major_offsets()
-    }
-
-    /// The columns of the stored places, row after row.
-    pub fn col_indices(&self) -> &[usize]
-        ensures indices { result.now ≡ self.now.pattern.indices }
-        ensures sound { IsSound self.now }
-    {
-        self.cs.pattern().minor_indices()
-    }
-
-    /// The values of the stored places, row after row.
-    pub fn values(&self) -> &[T]
-        ensures values { result.now ≡ self.now.values }
-        ensures sound { IsSound self.now }
-    {
-        self.cs.values()
-    }
-
-    /// The pattern of the stored places.
-    pub fn pattern(&self) -> &SparsityPattern
-        ensures pattern { result.now ≡ self.now.pattern }
-        ensures sound { IsSound self.now }
-    {
-        self.cs.pattern()
     }
 }
 

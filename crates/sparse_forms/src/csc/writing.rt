@@ -1,17 +1,19 @@
-//! Values of a CSC matrix lent for writing: all of them, those of a column, or the value at one place.
+//! Values of a CSC matrix lent for writing: all of them, column after column, those of a column, or the value at one place.
 
-ghost use Rattle.std.specs.Prelude.{◌≡◌, ◌<◌, ◌↔◌, IfSome, IsSome};
+ghost use Rattle.std.specs.Prelude.{◌≡◌, ◌<◌, ◌↔◌, IfSome, IsSome, map};
 ghost use Rattle.std.specs.Borrow.{sem};
-ghost use Rattle.sparse_cs.specs.Compressed.{IsSound};
+ghost use Rattle.sparse_cs.specs.Compressed.{IsSound, lane_triplets, turned};
 ghost use Rattle.sparse_cs.specs.StoredEntries.{IsInBounds};
-ghost use Rattle.sparse_cs.specs.Lanes.{lane_at};
+ghost use Rattle.sparse_cs.specs.Lanes.{lane_at, lanes_of};
 ghost use Rattle.sparse_cs.specs.Writing.{IsFoundAt, IsEntryMutAt, IsEntryMutOf};
-ghost use Rattle.sparse_forms.specs.CscWriting.{LendsValues, LendsCoreIf, LendsCol, LendsColIf, LendsFound, LendsEntry, LendsIndexed};
-ghost use Rattle.sparse_forms.specs.CscWriting.{lent_col, col_values};
+ghost use Rattle.sparse_forms.specs.CscWriting.{LendsValues, LendsCol, LendsColIf, LendsEntry, LendsIndexed};
+ghost use Rattle.sparse_forms.specs.InnerCscWriting.{LendsCoreIf, LendsFound};
+ghost use Rattle.sparse_lanes.specs.ColWriting.{lent_col, col_values, cols_left, csc_triplets_left};
 
 use super::CscMatrix;
-use super::col_mut::CscColMut;
 use sparse_cs::CsMatrix;
+use sparse_lanes::col_mut::{CscColIterMut, CscColMut};
+use sparse_lanes::col_triplets::CscTripletIterMut;
 use sparse_pattern::entry::{Found, SparseEntryMut, into_entry};
 use sparse_pattern::pattern::SparsityPattern;
 
@@ -96,6 +98,20 @@ impl<T> CscMatrix<T> {
         ensures values { result.2.now ≡ self.old.values }
     {
         self.cs.cs_data_mut()
+    }
+
+    /// The triplets (row, column, value) column after column, rows rising, each value for writing.
+    pub fn triplet_iter_mut(&mut self) -> CscTripletIterMut<'_, T>
+        ensures { csc_triplets_left result ≡ map turned (lane_triplets self.old) }
+    {
+        CscTripletIterMut::from_triplets(self.cs.triplet_iter_mut())
+    }
+
+    /// The columns in order, the empty ones too, their values for writing.
+    pub fn col_iter_mut(&mut self) -> CscColIterMut<'_, T>
+        ensures { cols_left result ≡ lanes_of self.old }
+    {
+        CscColIterMut::from_lanes(self.cs.lane_iter_mut())
     }
 
     // The value at a row and a column, or why there is none.

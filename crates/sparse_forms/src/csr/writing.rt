@@ -1,17 +1,19 @@
-//! Values of a CSR matrix lent for writing: all of them, those of a row, or the value at one place.
+//! Values of a CSR matrix lent for writing: all of them, row after row, those of a row, or the value at one place.
 
 ghost use Rattle.std.specs.Prelude.{◌≡◌, ◌<◌, ◌↔◌, IfSome, IsSome};
 ghost use Rattle.std.specs.Borrow.{sem};
-ghost use Rattle.sparse_cs.specs.Compressed.{IsSound};
+ghost use Rattle.sparse_cs.specs.Compressed.{IsSound, lane_triplets};
 ghost use Rattle.sparse_cs.specs.StoredEntries.{IsInBounds};
-ghost use Rattle.sparse_cs.specs.Lanes.{lane_at};
+ghost use Rattle.sparse_cs.specs.Lanes.{lane_at, lanes_of};
 ghost use Rattle.sparse_cs.specs.Writing.{IsFoundAt, IsEntryMutAt, IsEntryMutOf};
-ghost use Rattle.sparse_forms.specs.CsrWriting.{LendsValues, LendsCoreIf, LendsRow, LendsRowIf, LendsFound, LendsEntry, LendsIndexed};
-ghost use Rattle.sparse_forms.specs.CsrWriting.{lent_row, row_values};
+ghost use Rattle.sparse_forms.specs.CsrWriting.{LendsValues, LendsRow, LendsRowIf, LendsEntry, LendsIndexed};
+ghost use Rattle.sparse_forms.specs.InnerCsrWriting.{LendsCoreIf, LendsFound};
+ghost use Rattle.sparse_lanes.specs.RowWriting.{lent_row, row_values, rows_left, csr_triplets_left};
 
 use super::CsrMatrix;
-use super::row_mut::CsrRowMut;
 use sparse_cs::CsMatrix;
+use sparse_lanes::row_mut::{CsrRowIterMut, CsrRowMut};
+use sparse_lanes::row_triplets::CsrTripletIterMut;
 use sparse_pattern::entry::{Found, SparseEntryMut, into_entry};
 use sparse_pattern::pattern::SparsityPattern;
 
@@ -96,6 +98,20 @@ impl<T> CsrMatrix<T> {
         ensures values { result.2.now ≡ self.old.values }
     {
         self.cs.cs_data_mut()
+    }
+
+    /// The triplets (row, column, value) row after row, columns rising, each value for writing.
+    pub fn triplet_iter_mut(&mut self) -> CsrTripletIterMut<'_, T>
+        ensures { csr_triplets_left result ≡ lane_triplets self.old }
+    {
+        CsrTripletIterMut::from_triplets(self.cs.triplet_iter_mut())
+    }
+
+    /// The rows in order, the empty ones too, their values for writing.
+    pub fn row_iter_mut(&mut self) -> CsrRowIterMut<'_, T>
+        ensures { rows_left result ≡ lanes_of self.old }
+    {
+        CsrRowIterMut::from_lanes(self.cs.lane_iter_mut())
     }
 
     // The value at a row and a column, or why there is none.

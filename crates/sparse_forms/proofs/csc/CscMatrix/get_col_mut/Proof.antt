@@ -49,18 +49,18 @@ use Rattle.sparse_cs.specs.Lanes.{lane_at}
 use Rattle.sparse_cs.specs.Writing.{with_lane}
 use Rattle.sparse_cs.proofs.FoundEntries.{with_fact, with_facts}
 use Rattle.sparse_forms.proofs.LentOptions.{some_val, none_val, some_in, none_in, lent_cases, lent_on, none_lent}
-use Rattle.sparse_forms.proofs.csc.col_mut.CscColMut.TheLaws.{the_row_laws as col_laws}
-use Rattle.sparse_forms.specs.CscWriting.{lent_col, col_name}
+use Rattle.sparse_lanes.proofs.col_mut.CscColMut.TheLaws.{the_row_laws as col_laws}
+use Rattle.sparse_lanes.specs.ColWriting.{lent_col, col_name}
 use Rattle.sparse_cs.specs.contracts.CsMatrix.{the_row as core_row}
 use Rattle.sparse_forms.specs.contracts.csc.CscMatrix.{the_row as matrix_row}
-use Rattle.sparse_forms.specs.contracts.csc.col_mut.CscColMut.{the_row as col_row}
+use Rattle.sparse_lanes.specs.contracts.col_mut.CscColMut.{the_row as col_row}
 use Rattle.sparse_forms.specs.contracts.csc.CscMatrix.get_col_mut as f
 use Rattle.sparse_forms.proofs.csc.CscMatrix.get_col_mut.Statement.{statement}
 use Rattle.sparse_forms.proofs.csc.CscMatrix.get_col_mut.Code as code
 use Rattle.sparse_forms.specs.contracts.csc.CscMatrix.cs_with_col as g
 use Rattle.sparse_forms.proofs.csc.CscMatrix.cs_with_col.Met.{met as core_met}
-use Rattle.sparse_forms.specs.contracts.csc.col_mut.CscColMut.of as h
-use Rattle.sparse_forms.proofs.csc.col_mut.CscColMut.of.Met.{met as of_met}
+use Rattle.sparse_lanes.specs.contracts.col_mut.CscColMut.of as h
+use Rattle.sparse_lanes.proofs.col_mut.CscColMut.of.Met.{met as of_met}
 
 abbrev stayed : (T : RattleType) → Stays (f.ended T).signature.params (f.ended T).kept
 stayed T = (stay_dropped _ no, (stay_dropped _ yes, tt))
@@ -116,7 +116,7 @@ get_col_mut_spec 𝓤 𝓛 𝓜 𝓡 wired T L =
     let E = triple_of 𝓛 (h.signature T) (h.spec T 𝓛 𝓜.mem 𝓡.returns) in
     let x : E.Ghost = ((κs, qs, bounds, (m, (i, tt)), (mut_vals m, (uint_vals w64 i, tt))), tt) in
     use1 𝓛 (raw (E.pre x)) (with_facts 𝓤 within (i < m.now.pattern.major_dim) (on_entry 𝓛 (h.signature T) κs qs (m, (i, tt)) (mut_vals m, (uint_vals w64 i, tt))) le (subst (λ (d : S.Denot). i < d.pattern.major_dim) (sym same-now) below)) $
-    calls_at ! (framed 𝓤 𝓛.H 𝓜 𝓣) E (of_met 𝓤 𝓛 𝓜 𝓡 (code.calls-sparse_forms::csc::col_mut::CscColMut::of 𝓡.env wired) T L) x
+    calls_at ! (framed 𝓤 𝓛.H 𝓜 𝓣) E (of_met 𝓤 𝓛 𝓜 𝓡 (code.calls-sparse_lanes::col_mut::CscColMut::of 𝓡.env wired) T L) x
     (and_then ! (get ! refl) (and_then ! (get ! refl) (no_more !))) (λ u.
     use1 𝓛 (later (some (λ (w : Col.Denot). (toks ⊛ ‵ (Col.own_val w (u ∷ []))) ⊛ some (λ (ws' : Lasts (h.ended T) κs (m, (i, tt))). ‵ (lasts (h.ended T) κs (m, (i, tt)) ws') ⊛ (‵ (follows S (Array P 0) m.ghost_name w.values.ghost_name (with_lane m.now i)) ⊛ (raw (fact 𝓤 (lent_col w ≡ lane_at m.now i)) ⊛ raw (fact 𝓤 (IsSound m.now)))))))) (id⊢ 𝓤 _) $
     await ! tt $ pick ! (λ w. split ! $ split ! $ move ! (1 ∷ []) $ peeks ! Col (Is Col) (shows 𝓛 Col) w (u ∷ []) (λ is-col.

@@ -1,0 +1,4 @@
+pub mod RowWriting
+pub mod ColWriting
+pub mod InnerRowWriting
+pub mod InnerColWriting

@@ -1,0 +1,157 @@
+//! A column of a CSC matrix, and the columns in order.
+
+ghost use Rattle.std.specs.Prelude.{◌≡◌, ⊤, length};
+ghost use Rattle.std.specs.Iterator.{YieldsFirst, item_count};
+ghost use Rattle.sparse_cs.specs.Lanes.{IsLaneEntryOf, IsSoundLane};
+
+use sparse_cs::{CsLane, CsLaneIter};
+use sparse_pattern::entry::SparseEntry;
+use std::alloc::AllocError;
+use std::marker::Model;
+
+/// A column of a CSC matrix.
+#[derive(Debug, Drop)]
+pub struct CscCol<'a, T> {
+    lane: CsLane<'a, T>,
+}
+
+impl<'a, T> Model for CscCol<'a, T> {
+    ghost use Rattle.sparse_cs.specs.Lanes.{Lane, lane_code};
+
+    ghost Value = { Lane T };
+
+    ghost coded = { lane_code T.code };
+
+    ghost view = { λ col. col.lane };
+}
+
+impl<'a, T> CscCol<'a, T> {
+    /// A lane of the core as a column.
+    pub fn from_lane(lane: CsLane<'a, T>) -> Self
+        ensures { result ≡ lane.entry }
+    {
+        CscCol { lane }
+    }
+
+    /// The number of rows, which is the length of the column.
+    pub fn nrows(&self) -> usize
+        ensures { result ≡ self.now.minor_dim }
+    {
+        self.lane.minor_dim()
+    }
+
+    /// The number of stored places, zeros among them.
+    pub fn nnz(&self) -> usize
+        ensures { result ≡ length self.now.indices }
+    {
+        self.lane.nnz()
+    }
+
+    /// The rows of the stored places, rising.
+    pub fn row_indices(&self) -> &'a [usize]
+        ensures indices { result.now ≡ self.now.indices }
+        ensures sound { IsSoundLane self.now }
+    {
+        self.lane.minor_indices()
+    }
+
+    /// The values of the stored places, in the order of their rows.
+    pub fn values(&self) -> &'a [T]
+        ensures values { result.now ≡ self.now.values }
+        ensures sound { IsSoundLane self.now }
+    {
+        self.lane.values()
+    }
+
+    /// The entry at a row, by binary search, or `None` out of bounds.
+    pub fn get_entry(&self, row_index: usize) -> Option<SparseEntry<'a, T>>
+        ensures { IsLaneEntryOf self.now row_index result }
+    {
+        self.lane.get_entry(row_index)
+    }
+}
+
+impl<'a, T> Clone for CscCol<'a, T> {
+    ghost is_clone = { λ s t. t ≡ s };
+
+    ghost is_infallible = { λ _. ⊤ };
+
+    fn clone(&self) -> Result<CscCol<'a, T>, AllocError> {
+        Ok(CscCol {
+            lane: self.lane.clone()?,
+        })
+    }
+}
+
+impl<'a, T: PartialEq> PartialEq for CscCol<'a, T> {
+    ghost use Rattle.sparse_cs.specs.Lanes.{lane_eq};
+    ghost use Rattle.sparse_cs.specs.LaneEquality.{lane_eq-laws};
+
+    ghost eq = { lane_eq T.eq };
+
+    ghost laws = { lane_eq-laws T.laws };
+
+    fn eq(&self, other: &Self) -> bool {
+        self.lane == other.lane
+    }
+}
+
+impl<'a, T: Eq> Eq for CscCol<'a, T> {
+    ghost use Rattle.sparse_cs.specs.LaneEquality.{lane_eq-equiv};
+
+    ghost laws = { lane_eq-equiv T.Eq.laws };
+}
+
+/// The columns of a CSC matrix in order, those without stored places too.
+#[derive(Drop)]
+pub struct CscColIter<'a, T> {
+    lanes: CsLaneIter<'a, T>,
+}
+
+impl<'a, T> Model for CscColIter<'a, T> {
+    ghost use Rattle.std.specs.Prelude.{List};
+    ghost use Rattle.std.specs.Coded.{coded_list};
+    ghost use Rattle.sparse_cs.specs.Lanes.{Lane, lane_code};
+
+    ghost Value = { List (Lane T) };
+
+    ghost coded = { coded_list (lane_code T.code) };
+
+    ghost view = { λ it. it.lanes };
+}
+
+impl<'a, T> CscColIter<'a, T> {
+    /// The lanes of the core as columns.
+    pub fn from_lanes(lanes: CsLaneIter<'a, T>) -> Self
+        ensures { result ≡ lanes.entry }
+    {
+        CscColIter { lanes }
+    }
+}
+
+impl<'a, T> Iterator for CscColIter<'a, T> {
+    type Item = CscCol<'a, T>;
+
+    ghost next_gives = { YieldsFirst (λ rest. rest) };
+
+    ghost remaining = { item_count (λ rest. rest) };
+
+    fn next(&mut self) -> Option<CscCol<'a, T>> {
+        match self.lanes.next() {
+            Some(lane) => Some(CscCol::from_lane(lane)),
+            None => None,
+        }
+    }
+}
+
+impl<'a, T> Clone for CscColIter<'a, T> {
+    ghost is_clone = { λ s t. t ≡ s };
+
+    ghost is_infallible = { λ _. ⊤ };
+
+    fn clone(&self) -> Result<CscColIter<'a, T>, AllocError> {
+        Ok(CscColIter {
+            lanes: self.lanes.clone()?,
+        })
+    }
+}
