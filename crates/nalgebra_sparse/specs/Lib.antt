@@ -11,8 +11,10 @@ pub use Rattle.sparse_algebra.specs.RingMaps
 pub use Rattle.sparse_algebra.specs.Sums
 pub use Rattle.sparse_algebra.specs.Whole
 pub use Rattle.sparse_algebra.specs.Wrapping
+
 -- counting by keys
 pub use Rattle.sparse_counting.specs.Counting
+
 -- patterns, format errors and entries
 pub use Rattle.sparse_pattern.specs.FirstFault
 pub use Rattle.sparse_pattern.specs.PatternFaults
@@ -21,6 +23,7 @@ pub use Rattle.sparse_pattern.specs.Refill
 pub use Rattle.sparse_pattern.specs.Rest
 pub use Rattle.sparse_pattern.specs.SparseEntries
 pub use Rattle.sparse_pattern.specs.TransposedPattern
+
 -- coordinate lists and dense matrices
 pub use Rattle.sparse_base.specs.Blocks
 pub use Rattle.sparse_base.specs.Coo
@@ -32,11 +35,11 @@ pub use Rattle.sparse_base.specs.DenseEquality
 pub use Rattle.sparse_base.specs.DenseLending
 pub use Rattle.sparse_base.specs.DensePlain
 pub use Rattle.sparse_base.specs.TripletFaults
+
 -- compressed matrices, their lanes and entries
 pub use Rattle.sparse_cs.specs.Compressed
 pub use Rattle.sparse_cs.specs.Filter
 pub use Rattle.sparse_cs.specs.LaneEquality
-pub use Rattle.sparse_cs.specs.LaneSorting
 pub use Rattle.sparse_cs.specs.Lanes
 pub use Rattle.sparse_cs.specs.Laws
 pub use Rattle.sparse_cs.specs.Left
@@ -46,19 +49,23 @@ pub use Rattle.sparse_cs.specs.StoredEntries
 pub use Rattle.sparse_cs.specs.TransposedMatrix
 pub use Rattle.sparse_cs.specs.UnsortedFaults
 pub use Rattle.sparse_cs.specs.Writing
+
+-- rows and columns
+pub use Rattle.sparse_lanes.specs.ColWriting
+pub use Rattle.sparse_lanes.specs.RowWriting
+
 -- CSR and CSC matrices
 pub use Rattle.sparse_forms.specs.CscWriting
 pub use Rattle.sparse_forms.specs.CsrWriting
+
 -- conversions
 pub use Rattle.sparse_convert.specs.FromDense
-pub use Rattle.sparse_convert.specs.Merged
 pub use Rattle.sparse_convert.specs.OneMatrix
 pub use Rattle.sparse_convert.specs.ToDense
-pub use Rattle.sparse_convert.specs.TripletLanes
+
 -- operations
-pub use Rattle.sparse_ops.specs.Marks
 pub use Rattle.sparse_ops.specs.Products
-pub use Rattle.sparse_ops.specs.Rows
+
 -- the grammar and the meaning of Matrix Market texts
 pub use Rattle.sparse_parser.specs.Bytes
 pub use Rattle.sparse_parser.specs.Errors
@@ -66,11 +73,13 @@ pub use Rattle.sparse_parser.specs.Grammar
 pub use Rattle.sparse_parser.specs.Header
 pub use Rattle.sparse_parser.specs.Meaning
 pub use Rattle.sparse_parser.specs.Reading
+
 -- sinks and written texts
 pub use Rattle.sparse_io.specs.Export
 pub use Rattle.sparse_io.specs.Out
 pub use Rattle.sparse_io.specs.Sink
 pub use Rattle.sparse_io.specs.Written
+
 -- expressions and `run`
 pub use Rattle.sparse_expr.specs.Run
 pub use Rattle.sparse_expr.specs.Value

@@ -1,10 +1,10 @@
 -- Triplets with rows and columns exchanged.
-use Rattle.std.proofs.Common.{◌≡◌, ℕ, zero, suc, ◌+◌, Bool, true, false, nat_eq, ◌&&◌, ◌||◌, List, [], ◌∷◌, length, ap, sym, ◌∙◌, refl, arith}
+use Rattle.std.proofs.Common.{◌≡◌, ℕ, nat_eq, ◌&&◌, ◌||◌, List, [], ◌∷◌, ap, ◌∙◌, refl}
 use Rattle.std.specs.List.{list_any}
 use Rattle.sparse_algebra.specs.Algebra.{CommRing}
 use Rattle.sparse_algebra.specs.Sums.{sum_by, where_true}
 use Rattle.sparse_base.specs.Coo.{zip_triplets}
-use Rattle.sparse_algebra.specs.Plain.{Plain, plain_of_triplets, plain_transpose, is_at}
+use Rattle.sparse_algebra.specs.Plain.{plain_of_triplets, plain_transpose, is_at}
 use Rattle.sparse_algebra.proofs.PlainLemmas.{same_plain, and_comm}
 
 module _ (R : CommRing) {T : Type 0} (f : T → R.Carrier) where

@@ -42,6 +42,7 @@ impl<'a> LaneIndices<'a> {
         requires { major_index < pattern.now.major_dim }
         ensures { result ≡ lane_of pattern.now major_index }
     {
+        // The call costs nothing: its contract tells the prover that the pattern is valid.
         let _ = pattern.major_offsets();
         LaneIndices::new(pattern.lane(major_index))
     }

@@ -58,6 +58,7 @@ impl<T> CsMatrix<T> {
         ensures is { result ≡ compressed_of pattern values.items }
         ensures sound { IsSound result }
     {
+        // The call costs nothing: its contract tells the prover that the pattern is valid.
         let _ = pattern.major_offsets();
         CsMatrix {
             sparsity_pattern: pattern,

@@ -1,5 +1,5 @@
 -- What is loaded and written, as plain matrices over the integers modulo 2^64.
-use Rattle.std.proofs.Common.{◌≡◌, ◌⊎◌, inl, inr, ℕ, zero, suc, ℤ, ◌+◌, Bool, true, false, List, [], ◌∷◌, ◌++◌, length, map, slice_get, Option, Some, None, Result, Ok, Err, refl, sym, ap, subst, ◌∙◌}
+use Rattle.std.proofs.Common.{◌≡◌, ◌⊎◌, inl, inr, ℕ, zero, suc, ◌+◌, Bool, true, false, List, [], ◌∷◌, ◌++◌, length, map, slice_get, Option, Some, None, Result, Ok, Err, refl, sym, ap, subst, ◌∙◌}
 use Rattle.std.specs.Prelude.{codes, nat_eq, if◌then◌else◌, ◌||◌, IfErr}
 use Rattle.std.specs.List.{list_any, flat_map}
 use Rattle.std.specs.Int.{w64}
@@ -8,7 +8,7 @@ use Rattle.std.proofs.lemmas.List.{length-map}
 use Rattle.sparse_algebra.specs.Algebra.{CommRing}
 use Rattle.sparse_algebra.specs.Sums.{sum_by, where_true}
 use Rattle.sparse_base.specs.Coo.{Coo}
-use Rattle.sparse_algebra.specs.Plain.{Plain, is_at, plain_of_triplets, plain_product, row_order}
+use Rattle.sparse_algebra.specs.Plain.{Plain, is_at, plain_of_triplets, plain_product}
 use Rattle.sparse_algebra.specs.Wrapping.{class_of}
 use Rattle.sparse_algebra.specs.Numbers.{w64_number}
 use Rattle.sparse_algebra.specs.declared.scalar.wrapping.W64.{W64}

@@ -9,9 +9,6 @@ use Rattle.sparse_algebra.specs.Wrapping.{wrapping_ring, class_of}
 use Rattle.sparse_algebra.specs.Whole.{number_of}
 use Rattle.sparse_base.specs.Coo.{Coo}
 use Rattle.sparse_algebra.specs.Plain.{Plain, row_order}
-use Rattle.sparse_algebra.specs.Numbers.{w64_number}
-use Rattle.sparse_algebra.specs.declared.scalar.wrapping.W64.{W64}
-use Rattle.sparse_cs.specs.Compressed.{Compressed, lane_triplets}
 use Rattle.sparse_base.specs.CooPlain.{plain_of_coo}
 use Rattle.sparse_parser.specs.Meaning.{Means}
 use Rattle.sparse_io.specs.Sink.{AppendsSome}

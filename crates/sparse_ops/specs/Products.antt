@@ -1,6 +1,5 @@
 -- Products of patterns.
-use Rattle.std.specs.Prelude.{◌≡◌, ℕ, List, ◌++◌, Contains, ◌↔◌}
-use Rattle.std.specs.List.Sorted.{IsStrictlyIncreasing}
+use Rattle.std.specs.Prelude.{ℕ, ◌↔◌}
 use Rattle.sparse_pattern.specs.Raw.{Raw, IsPlace}
 
 -- (i, j) is a place exactly where some k has (i, k) in a and (k, j) in b

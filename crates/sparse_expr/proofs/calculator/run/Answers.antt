@@ -1,4 +1,4 @@
-use Rattle.std.proofs.Common.{refl, sym, ap, ◌∙◌, inl, inr, Ok, Err, ◌⊎◌, ◌≡◌, map, subst}
+use Rattle.std.proofs.Common.{refl, sym, ap, ◌∙◌, inl, inr, map, subst}
 use Rattle.std.specs.Int.{w64}
 use Rattle.std.specs.Io.KnownBytes.{Appends}
 use Rattle.std.proofs.lemmas.Result.{err_from_is_err_and, on_ok_weaker}
@@ -9,8 +9,7 @@ use Rattle.sparse_cs.specs.PlainOfLanes.{plain_of_rows}
 use Rattle.sparse_io.specs.Sink.{AppendsSome}
 use Rattle.sparse_expr.specs.Words.{texts}
 use Rattle.sparse_expr.specs.Value.{value_of}
-use Rattle.sparse_expr.specs.Run.{ring64, HasOutcome, RefusesRun}
-use Rattle.sparse_expr.specs.Run.{effect}
+use Rattle.sparse_expr.specs.Run.{ring64}
 use Rattle.sparse_expr.proofs.Outcome.{has_outcome, refuses-value, refuses-save, text_in-any, both_of_err}
 use Rattle.sparse_expr.proofs.calculator.run.Goals as goal
 

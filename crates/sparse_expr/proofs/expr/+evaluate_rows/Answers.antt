@@ -1,6 +1,5 @@
-use Rattle.std.proofs.Common.{◌≡◌, ap, sym, ◌∙◌, map, arith}
+use Rattle.std.proofs.Common.{ap, sym, ◌∙◌, map, arith}
 use Rattle.sparse_base.specs.CooPlain.{plain_of_coo}
-use Rattle.sparse_cs.specs.PlainOfLanes.{plain_of_rows}
 use Rattle.sparse_expr.specs.Value.{value_of}
 use Rattle.sparse_expr.proofs.Values.{product_met, input_met}
 use Rattle.sparse_expr.proofs.expr.+evaluate_rows.Goals as goal

@@ -1,4 +1,4 @@
-use Rattle.std.proofs.Common.{◌≡◌, ◌⊎◌, inl, inr, ◌<◌, ◌≤◌, ℕ, Some, None, sym, subst, ap, refl, ◌∙◌, arith}
+use Rattle.std.proofs.Common.{inl, inr, sym, subst, ap, refl, ◌∙◌, arith}
 use Rattle.std.specs.List.{flat_map}
 use Rattle.std.proofs.lemmas.Result.{MatchResult-weaker, err_from_is_err_and}
 use Rattle.sparse_expr.specs.Words.{texts, words_of, postfix, IsRefused}
