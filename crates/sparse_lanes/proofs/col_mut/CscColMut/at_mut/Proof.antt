@@ -1,16 +1,14 @@
 -- `at_mut` lends one value of what `values_mut` lends.
-use mathlib.Core.Path.{◌≡◌, refl, sym, ap, ◌∙◌, subst}
+use mathlib.Core.Path.{◌≡◌, refl, sym, subst}
 use mathlib.Core.List.{List, [], ◌∷◌}
 use lib.ListN.{length}
 use mir.Val.{Val}
-use Prim.Native.Nat.{ℕ, ◌<◌}
-use seplogic.Ra.Ura.{Ura}
+use Prim.Native.Nat.{◌<◌}
 use mir.Syntax.{w64, named, a_type}
 use mir.MapTy.{inst_fn}
 use base.Logic.{emp, id⊢}
-use base.Fml.{GName, flft, ftrue}
-use types.Logic.{Logic}
-use types.Kit.{‵, raw, ◌⊛◌, some, later, ◌$◌, ◌∵◌, !, qed, done, move, drop, use1, use2, split, split3, join, fsplit, fjoin, pick, await, rewrite, suffices, frame}
+use base.Fml.{flft, ftrue}
+use types.Kit.{‵, raw, ◌⊛◌, some, later, ◌$◌, ◌∵◌, !, qed, done, move, drop, use1, use2, split, join, fjoin, pick, await, rewrite, suffices, frame}
 use types.Run.{enter, addr, stop, no_more, and_then, returns}
 use types.ByLocal.{alloc_all, pass_all, free_all, look_at, get, through, sets, lands_as}
 use contract.Monad.{fact}
@@ -23,16 +21,15 @@ use denote.Builtin.{usize}
 use denote.Exit.{yes, no}
 use denote.Laws.{Is, shows}
 use denote.Param.{param, layouts}
-use denote.Param.Laws.{param_laws}
 use denote.Plain.{uint_vals, uint_Tells, uint_Makes}
 use denote.Ref.{MutBor, MutRef, mut_vals, mut_Tells, mut_Lawful}
-use denote.Slice.{MutSlice, mut_slice_vals, mut_slice_Lawful}
+use denote.Slice.{MutSlice, mut_slice_Lawful}
 use denote.Follow.{follows, follows_then}
 use denote.Signature.{plain, named_lft}
 use denote.Steps.{nothing, heard, owned, peeks}
 use denote.Triple.Call.{calls_at}
 use denote.Triple.Clauses.{Lasts, lasts}
-use denote.Triple.Entry.{alive, on_entry}
+use denote.Triple.Entry.{on_entry}
 use denote.Triple.Spec.{triple_of}
 use denote.Triple.Table.{framed}
 use denote.Triple.Walked.{Stays, walk_of, says, stay_dropped, Goes-dropped, Goes-spent_ref, ends_at}

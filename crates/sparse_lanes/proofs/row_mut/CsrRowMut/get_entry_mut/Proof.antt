@@ -3,13 +3,10 @@ use mathlib.Core.Path.{◌≡◌, refl, sym, ap, ◌∙◌, subst}
 use mathlib.Core.List.{List, [], ◌∷◌}
 use mir.Val.{Val}
 use mathlib.Core.Option as maybe
-use Prim.Native.Nat.{ℕ}
-use seplogic.Ra.Ura.{Ura}
 use mir.Syntax.{w64, named, a_type}
 use mir.MapTy.{inst_fn}
 use base.Logic.{emp, id⊢}
 use base.Fml.{GName, flft}
-use types.Logic.{Logic}
 use types.Kit.{‵, raw, ◌⊛◌, some, later, ◌$◌, ◌∵◌, !, qed, done, move, drop, use1, split, join, fjoin, pick, await, rewrite, suffices, frame}
 use types.Run.{enter, addr, stop, no_more, and_then, returns}
 use types.ByLocal.{alloc_all, pass_all, free_all, look_at, get, through, sets, lands_as}
@@ -30,7 +27,7 @@ use denote.Signature.{plain, named_lft}
 use denote.Steps.{nothing, heard, peeks}
 use denote.Triple.Call.{calls_at}
 use denote.Triple.Clauses.{Lasts, lasts}
-use denote.Triple.Entry.{alive, on_entry}
+use denote.Triple.Entry.{on_entry}
 use denote.Triple.Spec.{triple_of}
 use denote.Triple.Table.{framed}
 use denote.Triple.Walked.{Stays, walk_of, says, stay_dropped, Goes-dropped, Goes-spent_ref, ends_at}
