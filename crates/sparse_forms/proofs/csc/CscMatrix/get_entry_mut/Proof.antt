@@ -3,17 +3,14 @@ use mathlib.Core.Path.{◌≡◌, refl, sym, ap, ◌∙◌, subst}
 use mathlib.Core.List.{List, [], ◌∷◌}
 use mir.Val.{Val}
 use mathlib.Core.Option as maybe
-use Prim.Native.Nat.{ℕ}
-use seplogic.Ra.Ura.{Ura}
 use mir.Syntax.{w64, named, a_type}
 use mir.MapTy.{inst_fn}
-use base.Logic.{SProp, ent, sep, emp, via, emp∗, comm∗, mono_l, mono_r, id⊢}
+use base.Logic.{emp, id⊢}
 use base.Fml.{GName}
-use types.Logic.{Logic}
 use types.Kit.{‵, raw, ◌⊛◌, some, later, ◌$◌, ◌∵◌, !, qed, done, move, drop, use1, split, join, fjoin, pick, await, rewrite, suffices, frame}
 use types.Run.{enter, addr, stop, no_more, and_then, returns}
 use types.ByLocal.{alloc_all, pass_all, free_all, look_at, get, through, sets, lands_as}
-use contract.Monad.{fact, fact_i}
+use contract.Monad.{fact}
 use contract.BorrowLft.{◌⊑◌}
 use contract.Running.{tables}
 use denote.RattleType.{RattleType}
