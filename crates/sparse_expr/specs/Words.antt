@@ -5,6 +5,8 @@ use Rattle.std.specs.Char.{is_ascii_digit}
 use Rattle.std.specs.Str.{bytes_eq}
 use Rattle.std.specs.Str.Parse.{digits_value}
 use denote.Ref.{Bor}
+use Rattle.sparse_parser.specs.Words.{words_between}
+use Rattle.sparse_parser.specs.Grammar.{is_index}
 use Rattle.sparse_expr.specs.declared.words.Token.{Token}
 use Rattle.sparse_expr.specs.declared.words.Token.TheVariants.{Operand, Times}
 use Rattle.sparse_expr.specs.declared.expr.Expr.{Expr}
@@ -19,16 +21,9 @@ texts words = map (λ word. word.now) words
 abbrev pub is_space : ℕ → Bool
 is_space b = b == 32
 
-abbrev pub is_some_word : List ℕ → Bool
-is_some_word word = nat_lt 0 (length word)
-
 -- the longest runs of a text without a space
 abbrev pub words_of : List ℕ → List (List ℕ)
-words_of text = filter is_some_word (slice_split is_space text)
-
--- a nonempty run of digits
-abbrev pub is_number : List ℕ → Bool
-is_number word = nat_lt 0 (length word) && list_all is_ascii_digit word
+words_of text = words_between is_space text
 
 -- inputs are counted from 1, and their number is a usize
 abbrev pub operand_of : ℕ → Option Token
@@ -36,7 +31,7 @@ operand_of n = if nat_lt 0 n && nat_lt n (2 ^ 64) then Some (Operand n) else Non
 
 -- the token that a word is: the number of an input, or `*`
 abbrev pub token_of : List ℕ → Option Token
-token_of word = if is_number word then operand_of (digits_value 10 word) else (if bytes_eq word (42 ∷ []) then Some Times else None)
+token_of word = if is_index word then operand_of (digits_value 10 word) else (if bytes_eq word (42 ∷ []) then Some Times else None)
 
 abbrev pub is_operand : Token → Bool
 is_operand (Operand n) = true

@@ -1,15 +1,13 @@
 //! From words to an expression.
 
-ghost use Rattle.std.specs.Prelude.{◌≡◌, ◌⊎◌, ◌<◌, ◌≤◌, ◌^◌, ◌+◌, ℕ, IsTrue, [], ◌∷◌, ◌++◌, OnOk, IfOk, IfErr, length};
-ghost use Rattle.std.specs.Option.{SomeIff};
-ghost use Rattle.std.specs.List.{list_all, flat_map};
-ghost use Rattle.std.specs.Char.{is_ascii_digit};
-ghost use Rattle.std.specs.Str.Parse.{digits_value};
-ghost use Rattle.sparse_expr.specs.Words.{is_number, token_of, words_of, texts, takes, postfix, IsSaid, IsRefused};
+ghost use Rattle.std.specs.Prelude.{◌≡◌, ◌⊎◌, ◌<◌, ◌≤◌, [], ◌∷◌, ◌++◌, OnOk, IfOk, IfErr, length};
+ghost use Rattle.std.specs.List.{flat_map};
+ghost use Rattle.sparse_expr.specs.Words.{token_of, words_of, texts, takes, postfix, IsSaid, IsRefused};
 ghost use Rattle.sparse_expr.specs.declared.error.ExprError.TheVariants.{MissingOperand, LeftOver, OutOfMemory};
 
 use crate::error::ExprError;
 use crate::expr::Expr;
+use sparse_parser::numbers::{index, is_index};
 use std::alloc::{AllocError, Global};
 
 /// A word of an expression.
@@ -26,8 +24,8 @@ impl Token {
     fn from_word(word: &[u8]) -> Option<Token>
         ensures { result ≡ token_of word.now }
     {
-        if is_number(word) {
-            match number(word) {
+        if is_index(word) {
+            match index(word) {
                 Some(0) | None => None,
                 Some(n) => Some(Token::Operand(n)),
             }
@@ -37,26 +35,6 @@ impl Token {
             None
         }
     }
-}
-
-fn is_number(word: &[u8]) -> bool
-    ensures { result ≡ is_number word.now }
-{
-    !word.is_empty() && are_digits(word)
-}
-
-fn are_digits(word: &[u8]) -> bool
-    ensures { result ≡ list_all is_ascii_digit word.now }
-{
-    word.iter().all(|byte| byte.is_ascii_digit())
-}
-
-// The number that digits spell, where it fits.
-fn number(word: &[u8]) -> Option<usize>
-    requires { IsTrue (is_number word.now) }
-    ensures { SomeIff result (digits_value 10 word.now < 2 ^ 64) (digits_value 10 word.now) }
-{
-    std::str::from_utf8(word).unwrap().parse().ok()
 }
 
 // The longest runs without a space.

@@ -5,8 +5,9 @@ use Rattle.std.specs.Io.KnownBytes.{Appends}
 use Rattle.std.proofs.KnownBytes.{Appends-nil, Appends-trans}
 use Rattle.std.proofs.lemmas.List.Concat.{flat_map-append}
 use Rattle.sparse_base.specs.Coo.{Coo}
-use Rattle.sparse_io.specs.Sink.{AppendsSome, IsBuffered}
-use Rattle.sparse_io.specs.Written.{heading, size_line, head_of, triplet_line, written_text, text_of}
+use Rattle.sparse_io.specs.Sink.{AppendsSome}
+use Rattle.sparse_io.specs.Written.{heading, size_line, triplet_line, written_text, text_of}
+use Rattle.sparse_io.specs.InnerWriting.{head_of, IsBuffered}
 
 -- two splits, one after the other
 middle : (a b c d e f : List ℕ) → a ≡ b ++ c → c ++ d ≡ e ++ f → a ++ d ≡ (b ++ e) ++ f

@@ -11,10 +11,11 @@ use Rattle.sparse_parser.specs.Errors.{kind_of_cause}
 use Rattle.sparse_pattern.specs.declared.error.SparseFormatErrorKind.TheVariants.{IndexOutOfBounds}
 use Rattle.sparse_parser.specs.declared.error.MatrixMarketErrorKind.{MatrixMarketErrorKind}
 use Rattle.sparse_parser.specs.declared.error.MatrixMarketErrorKind.TheVariants.{ParsingError, EntryMismatch, SparseFormatError}
-use Rattle.sparse_parser.specs.Bytes.{is_blank, is_space, is_within_line, front, after, BeginsLine}
+use Rattle.sparse_parser.specs.Bytes.{is_blank}
+use Rattle.sparse_parser.specs.InnerBytes.{is_space, is_within_line, front, after, BeginsLine}
 use Rattle.sparse_parser.specs.Grammar.{is_entry}
 use Rattle.sparse_parser.specs.Meaning.{Read, ◌>>=◌, entry_of, entries_of, is_inside, listed_of, numbers_of}
-use Rattle.sparse_parser.specs.Reading.{words_of, contents_of, entry_at, count_of, among_entries, settled_of, found}
+use Rattle.sparse_parser.specs.InnerReading.{words_of, contents_of, entry_at, count_of, among_entries, settled_of, found}
 use Rattle.sparse_parser.proofs.Fronts.{IsStopped, length-after-lt}
 use Rattle.sparse_parser.proofs.LineLaws.{outside, contents_of-line, contents_of-nil}
 use Rattle.sparse_parser.proofs.EntryGrammar.{entry_found, entry_complete}

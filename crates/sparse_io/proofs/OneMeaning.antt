@@ -8,7 +8,7 @@ use Rattle.sparse_parser.specs.declared.header.Header.{Header}
 use Rattle.sparse_parser.specs.Header.{header_of, is_carried}
 use Rattle.sparse_parser.specs.Grammar.{is_size, is_entry, IsHeaded, IsBody}
 use Rattle.sparse_parser.specs.Meaning.{Read, matrix_of, BodyMeans, Means}
-use Rattle.sparse_parser.specs.Reading.{is_content, written_of, among_entries, body_of, document_of, read, judged}
+use Rattle.sparse_parser.specs.InnerReading.{is_content, written_of, among_entries, body_of, document_of, read, judged}
 use Rattle.sparse_parser.proofs.LineLaws.{Begins, lines_only, some_lines, headed_only, headed_are}
 
 pub headed_lines : (text : List ℕ) (header : Header) (contents : List (List (List ℕ))) (h : IsHeaded text header contents) → Begins (written_of text) h.words contents

@@ -11,11 +11,11 @@ use Rattle.sparse_algebra.specs.declared.scalar.wrapping.W64.{W64}
 use Rattle.sparse_parser.specs.declared.header.Header.{Header}
 use Rattle.sparse_parser.specs.declared.size.Size.{Size}
 use Rattle.sparse_parser.specs.Errors.{kind_of, kind_of_cause}
-use Rattle.sparse_parser.specs.Bytes.{is_space, is_within_line, front, after, BeginsLine}
+use Rattle.sparse_parser.specs.InnerBytes.{is_space, is_within_line, front, after, BeginsLine}
 use Rattle.sparse_parser.specs.Header.{fields_of, header_of, is_carried}
 use Rattle.sparse_parser.specs.Grammar.{is_size, is_entry}
 use Rattle.sparse_parser.specs.Meaning.{Read, ◌>>=◌, sizes_of, listed_of, matrix_of, Means, numbers_of}
-use Rattle.sparse_parser.specs.Reading.{Gives, words_of, written_of, is_content, contents_of, among_entries, body_of, judged, document_of, read, size_at, size_numbers, grammar_kind_of}
+use Rattle.sparse_parser.specs.InnerReading.{Gives, words_of, written_of, is_content, contents_of, among_entries, body_of, judged, document_of, read, size_at, size_numbers, grammar_kind_of}
 use Rattle.sparse_io.proofs.OneMeaning.{read_means}
 use Rattle.sparse_parser.proofs.Fronts.{IsStopped, IsStopped-after}
 use Rattle.sparse_parser.proofs.WordLaws.{words_of-nil}

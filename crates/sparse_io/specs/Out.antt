@@ -3,10 +3,10 @@ use Rattle.std.specs.Prelude.{ℕ, Option}
 use Rattle.std.specs.declared.io.ErrorKind.{ErrorKind}
 
 -- the writer, how many writes failed, and the kind of the last of these
-pub record Outlet (W : Type 0) : Type 0 where
+pub record OutState (W : Type 0) : Type 0 where
   pub inner : W
   pub failures : ℕ
   pub last : Option ErrorKind
 
-abbrev pub outlet : {W : Type 0} → W → ℕ → Option ErrorKind → Outlet W
-outlet inner failures last = record { inner = inner; failures = failures; last = last }
+abbrev pub out_state : {W : Type 0} → W → ℕ → Option ErrorKind → OutState W
+out_state inner failures last = record { inner = inner; failures = failures; last = last }

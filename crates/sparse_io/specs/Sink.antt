@@ -22,9 +22,3 @@ pub record AppendsSome (old new : Option (List ℕ)) (bytes : List ℕ) : Type 0
   pub rest : List ℕ
   pub parts : bytes ≡ done ++ rest
   pub appended : Appends old new done
-
--- of the bytes, a beginning was appended, and a buffer holds the rest
-pub record IsBuffered (old new : Option (List ℕ)) (buffer bytes : List ℕ) : Type 0 where
-  pub done : List ℕ
-  pub parts : bytes ≡ done ++ buffer
-  pub appended : Appends old new done

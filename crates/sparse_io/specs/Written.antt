@@ -26,10 +26,6 @@ module _ {V : Type 0} where
   written_text name text nrows ncols triplets =
       heading name ++ (size_line nrows ncols (length triplets) ++ flat_map (triplet_line text) triplets)
 
-  -- what a matrix's text has before the lines of its triplets
-  abbrev pub head_of : List ℕ → Coo V → List ℕ
-  head_of name m = heading name ++ size_line m.nrows m.ncols (length m.triplets)
-
   -- the text of a matrix
   abbrev pub text_of : List ℕ → (V → List ℕ) → Coo V → List ℕ
   text_of name text m = written_text name text m.nrows m.ncols m.triplets

@@ -1,7 +1,7 @@
 //! A sink over a writer.
 
 ghost use Rattle.std.specs.Prelude.{◌≡◌, ◌+◌, None, Some};
-ghost use Rattle.sparse_io.specs.Out.{outlet};
+ghost use Rattle.sparse_io.specs.Out.{out_state};
 
 use crate::sinks::Sink;
 use sparse_base::steps::Steps;
@@ -19,17 +19,17 @@ pub struct Out<W> {
 }
 
 impl<W> Model for Out<W> {
-    ghost use Rattle.sparse_io.specs.Out.{Outlet, outlet};
+    ghost use Rattle.sparse_io.specs.Out.{OutState, out_state};
 
-    ghost Value = { Outlet W };
+    ghost Value = { OutState W };
 
-    ghost view = { λ out. outlet out.inner out.failures out.last };
+    ghost view = { λ out. out_state out.inner out.failures out.last };
 }
 
 impl<W> Out<W> {
     /// A sink over the writer, with no failure yet.
     pub fn new(inner: W) -> Out<W>
-        ensures { result ≡ outlet inner 0 None }
+        ensures { result ≡ out_state inner 0 None }
     {
         Out {
             inner,
@@ -51,7 +51,7 @@ impl<W> Out<W> {
     }
 
     fn fail(&mut self, kind: ErrorKind)
-        ensures { self.new ≡ outlet self.old.inner (self.old.failures + 1) (Some kind) }
+        ensures { self.new ≡ out_state self.old.inner (self.old.failures + 1) (Some kind) }
     {
         self.failures.tick();
         self.last = Some(kind);

@@ -5,7 +5,7 @@ ghost use Rattle.sparse_base.specs.Coo.{Coo, appended};
 ghost use Rattle.sparse_parser.specs.declared.error.MatrixMarketErrorKind.TheVariants.{OutOfMemory};
 ghost use Rattle.sparse_parser.specs.Errors.{kind_of, kind_of_cause};
 ghost use Rattle.sparse_parser.specs.Meaning.{Read, is_inside, listed_of, Means, numbers_of};
-ghost use Rattle.sparse_parser.specs.Reading.{Gives, contents_of, among_entries, grammar_kind_of, count_of, settled_of, body_of, read};
+ghost use Rattle.sparse_parser.specs.InnerReading.{Gives, contents_of, among_entries, grammar_kind_of, count_of, settled_of, body_of, read};
 
 use sparse_algebra::scalar::wrapping::W64;
 use sparse_base::coo::CooMatrix;
@@ -66,7 +66,7 @@ fn body(alloc: Global, text: &[u8]) -> Result<CooMatrix<W64>, MatrixMarketError>
 }
 
 /// This cause, unless a later line is no data line.
-#[tactic(auto, unfolding(sparse_parser::specs::Reading::grammar_kind_of, sparse_parser::specs::Reading::count_of))]
+#[tactic(auto, unfolding(sparse_parser::specs::InnerReading::grammar_kind_of, sparse_parser::specs::InnerReading::count_of))]
 fn in_grammar(cause: Cause, text: &[u8]) -> Cause
     ensures { kind_of_cause result ≡ grammar_kind_of (kind_of_cause cause) (contents_of text.now) }
 {
@@ -123,7 +123,7 @@ fn add(matrix: &mut CooMatrix<W64>, inside: bool, triplet: Triplet) -> Result<bo
 }
 
 /// The first fault, where an entry is refused. So many data lines were read with it, and this text follows.
-#[tactic(auto, unfolding(sparse_parser::specs::Reading::settled_of, sparse_parser::specs::Reading::count_of))]
+#[tactic(auto, unfolding(sparse_parser::specs::InnerReading::settled_of, sparse_parser::specs::InnerReading::count_of))]
 fn settled(cause: Cause, read: usize, count: usize, text: &[u8]) -> Cause
     ensures { kind_of_cause result ≡ settled_of (kind_of_cause cause) read count (contents_of text.now) }
 {

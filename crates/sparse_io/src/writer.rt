@@ -4,8 +4,9 @@ ghost use Rattle.std.specs.Prelude.{◌≡◌, ℕ, ◌+◌, ◌<◌, ◌≤◌,
 ghost use Rattle.std.specs.Fmt.{decimal};
 ghost use Rattle.std.specs.Io.KnownBytes.{Appends};
 ghost use Rattle.sparse_parser.specs.Errors.{kind_of};
-ghost use Rattle.sparse_io.specs.Sink.{AppendsSome, IsBuffered};
-ghost use Rattle.sparse_io.specs.Written.{heading, size_line, triplet_line, head_of, text_of, IsRefusedWrite};
+ghost use Rattle.sparse_io.specs.Sink.{AppendsSome};
+ghost use Rattle.sparse_io.specs.Written.{heading, size_line, triplet_line, text_of, IsRefusedWrite};
+ghost use Rattle.sparse_io.specs.InnerWriting.{head_of, IsBuffered};
 
 use crate::export::MatrixMarketExport;
 use crate::scalar::MatrixMarketScalar;
@@ -17,10 +18,14 @@ use std::alloc::{AllocError, Global};
 
 mod indices;
 
-// The room of the buffer that a text goes through, and the length at which it is emptied.
+// The room of the buffer that a text goes through.
 const CAPACITY: usize = 64 * 1024;
 
-const FULL: usize = CAPACITY - 256;
+// More than the line of a triplet takes: two indices and a value of 20 bytes each make a line of 63 bytes.
+const LINE_ROOM: usize = 256;
+
+// The length at which the buffer is emptied, so that the next line finds room in it.
+const FULL: usize = CAPACITY - LINE_ROOM;
 
 fn push_number(text: &mut String, number: usize) -> Result<(), AllocError>
     ensures { OnOk result (string_bytes text.new ≡ string_bytes text.old ++ decimal number) }

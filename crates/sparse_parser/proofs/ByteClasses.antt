@@ -3,8 +3,9 @@ use Rattle.std.proofs.Common.{◌≡◌, ℕ, Bool, true, false, eqb, ◌||◌, 
 use Rattle.std.specs.List.{AllByRecursion}
 use Rattle.std.specs.Char.{is_ascii_digit}
 use Rattle.std.proofs.lemmas.Bool.Decides.{nat_tests}
-use Rattle.sparse_parser.specs.Bytes.{is_blank, is_line_end, is_within_line, is_within_word}
-use Rattle.sparse_parser.proofs.Fronts.{Passes, IsStopped}
+use Rattle.sparse_parser.specs.Bytes.{is_blank, is_line_end}
+use Rattle.sparse_parser.specs.InnerBytes.{is_within_line}
+use Rattle.sparse_parser.proofs.Fronts.{Passes}
 
 pub digit_within_line : (b : ℕ) → is_ascii_digit b ≡ true → is_within_line b ≡ true
 digit_within_line b e = grind (arith, nat_tests)

@@ -1,6 +1,5 @@
 -- The number that digits write, digit by digit.
-use Rattle.std.proofs.Common.{◌≡◌, ℕ, ◌+◌, ◌-◌, ◌*◌, ◌^◌, ◌≤◌, ◌<◌, Bool, true, false, cond, eqb, ◌&&◌, List, [], ◌∷◌, length, get_or, drop, Result, Ok, Err, Option, refl, sym, ap, ◌∙◌, arith, rules}
-use Rattle.std.specs.Prelude.{IsTrue}
+use Rattle.std.proofs.Common.{◌≡◌, ℕ, ◌+◌, ◌-◌, ◌*◌, ◌^◌, ◌≤◌, ◌<◌, Bool, true, false, cond, eqb, List, [], ◌∷◌, length, get_or, drop, Result, Ok, Err, Option, refl, sym, ap, subst, ◌∙◌, arith, rules}
 use Rattle.std.specs.List.{list_all}
 use Rattle.std.specs.Option.{SomeIff}
 use Rattle.std.specs.Result.{OkIff, result_ok, MatchResult, IsOk}
@@ -21,8 +20,14 @@ use Rattle.std.proofs.lemmas.List.{drop_more}
 use Rattle.std.proofs.lemmas.Bool.Decides.{nat_tests}
 use Rattle.std.proofs.lemmas.Grind.{pow_more}
 use Rattle.std.proofs.Math.Nat.{pow-le-pow_right}
-use Rattle.sparse_parser.specs.Bytes.{front}
-use Rattle.sparse_parser.proofs.Fronts.{front-yes}
+use Rattle.sparse_parser.specs.InnerBytes.{front}
+use Rattle.sparse_parser.proofs.Fronts.{front-yes, list_all-front}
+
+-- a word that is an index has no other digits
+pub index_number : (word : List ℕ) (n : Option ℕ) → is_index word ≡ true → SomeIff n (digits_value 10 (front is_ascii_digit word) < 2 ^ 64) (digits_value 10 (front is_ascii_digit word))
+    → SomeIff n (digits_value 10 word < 2 ^ 64) (digits_value 10 word)
+index_number word n i h =
+    subst (λ (ds : List ℕ). SomeIff n (digits_value 10 ds < 2 ^ 64) (digits_value 10 ds)) (list_all-front is_ascii_digit word (and_parts _ _ i).1) h
 
 -- more digits make no smaller number
 pub digits_value_after-ge : (n : ℕ) (digits : List ℕ) → n ≤ digits_value_after 10 n digits

@@ -1,5 +1,5 @@
 -- A data line that is read from its front is one of the grammar, and the other way round.
-use Rattle.std.proofs.Common.{◌≡◌, ◌≢◌, ℕ, ℤ, ◌+◌, ◌≤◌, ◌<◌, Bool, true, false, cond, ltb, eqb, ◌&&◌, ◌||◌, not, List, [], ◌∷◌, ◌++◌, length, drop, Option, Some, None, refl, sym, ap, subst, ◌∙◌, arith, append_assoc}
+use Rattle.std.proofs.Common.{◌≡◌, ℕ, ℤ, ◌<◌, Bool, true, false, cond, eqb, ◌&&◌, ◌||◌, not, List, [], ◌∷◌, ◌++◌, length, Option, Some, None, refl, sym, ap, subst, ◌∙◌, arith, append_assoc}
 use Rattle.std.specs.Prelude.{option_and_then}
 use Rattle.std.specs.List.{list_all, AllByRecursion}
 use Rattle.std.specs.Char.{is_ascii_digit}
@@ -7,12 +7,13 @@ use Rattle.std.specs.Str.Parse.{without_leading_sign}
 use Rattle.std.proofs.lemmas.Bool.{ltb-true}
 use Rattle.std.proofs.lemmas.List.{append-nil}
 use Rattle.sparse_lemmas.proofs.Cases.{and_parts}
-use Rattle.sparse_parser.specs.Bytes.{is_blank, is_line_end, is_within_line, is_within_word, front, after}
-use Rattle.sparse_parser.specs.Grammar.{AreBlanks, IsApart, AreWords, is_index, is_integer, is_entry}
+use Rattle.sparse_parser.specs.Bytes.{is_blank, is_line_end}
+use Rattle.sparse_parser.specs.InnerBytes.{is_within_line, is_within_word, front, after}
+use Rattle.sparse_parser.specs.Grammar.{IsApart, AreWords, is_index, is_integer, is_entry}
 use Rattle.sparse_parser.specs.Meaning.{Read, number_of, value_of, entry_of, triplet_of}
-use Rattle.sparse_parser.specs.Reading.{words_of, begins_blank, ends_line, sign_of, index_at, value_at, entry_at}
-use Rattle.sparse_parser.proofs.Fronts.{Passes, IsStopped, Passes-front, IsStopped-after, front-append-after, front-yes, front-no, after-yes, after-no, front-append, after-append, front-append_passes, after-append_passes}
-use Rattle.sparse_parser.proofs.ByteClasses.{digit_within_line, digit_no_blank, blank_within_line, blank_no_digit, sign_no_blank, sign_within_line, end_no_digit, end_no_blank, Passes-weaker, Passes-append, Solid-digits}
+use Rattle.sparse_parser.specs.InnerReading.{words_of, begins_blank, ends_line, sign_of, index_at, value_at, entry_at}
+use Rattle.sparse_parser.proofs.Fronts.{Passes, IsStopped, Passes-front, IsStopped-after, front-append-after, front-yes, front-no, after-no, front-append, after-append, front-append_passes, after-append_passes}
+use Rattle.sparse_parser.proofs.ByteClasses.{digit_within_line, blank_within_line, blank_no_digit, sign_no_blank, sign_within_line, end_no_digit, end_no_blank, Passes-weaker, Passes-append, Solid-digits}
 use Rattle.sparse_parser.proofs.LineLaws.{end-from}
 use Rattle.sparse_parser.proofs.WordLaws.{apart-from, words_of-nil, words_of-blanks, words_of-word, words_of-front, words_are}
 use Rattle.sparse_parser.proofs.EntryLaws.{value_word, without_leading_sign-value_word, value_word-append}

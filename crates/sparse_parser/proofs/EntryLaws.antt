@@ -1,8 +1,8 @@
 -- The parts of a data line, read from its front.
-use Rattle.std.proofs.Common.{◌≡◌, ◌≢◌, ℕ, ℤ, zero, suc, ◌+◌, ◌-◌, ◌^◌, ◌≤◌, ◌<◌, Bool, true, false, cond, ltb, eqb, ◌&&◌, ◌||◌, List, [], ◌∷◌, ◌++◌, length, take, drop, Option, Some, None, Result, Ok, Err, refl, sym, ap, subst, ◌∙◌, arith, inl, inr, append_assoc, length-append}
+use Rattle.std.proofs.Common.{◌≡◌, ◌≢◌, ℕ, ℤ, ◌+◌, ◌-◌, ◌^◌, ◌≤◌, ◌<◌, Bool, true, false, ltb, eqb, List, [], ◌∷◌, ◌++◌, length, take, Option, Some, None, Result, Err, refl, sym, ap, subst, ◌∙◌, arith, inl, inr, append_assoc, length-append}
 use Rattle.std.specs.Prelude.{◌⊎◌}
 use Rattle.std.specs.Option.{SomeIff, ok_or}
-use Rattle.std.specs.List.{list_all, AllByRecursion}
+use Rattle.std.specs.List.{list_all}
 use Rattle.std.specs.Char.{is_ascii_digit}
 use Rattle.std.specs.Str.Parse.{digits_value, without_leading_sign}
 use Rattle.std.proofs.lemmas.Bool.{lt-ltb, ltb-true}
@@ -11,11 +11,12 @@ use Rattle.sparse_parser.specs.declared.error.Cause.{Cause}
 use Rattle.sparse_parser.specs.declared.error.MatrixMarketErrorKind.{MatrixMarketErrorKind}
 use Rattle.sparse_parser.specs.declared.error.MatrixMarketErrorKind.TheVariants.{ParsingError}
 use Rattle.sparse_parser.specs.Errors.{kind_of_cause}
-use Rattle.sparse_parser.specs.Bytes.{is_blank, is_line_end, front, after}
+use Rattle.sparse_parser.specs.Bytes.{is_blank}
+use Rattle.sparse_parser.specs.InnerBytes.{front, after}
 use Rattle.sparse_parser.specs.Grammar.{is_index, is_integer}
 use Rattle.sparse_parser.specs.Meaning.{Read, number_of, value_of}
-use Rattle.sparse_parser.specs.Reading.{found, found_number, begins_blank, ends_line, sign_of, index_at, value_at}
-use Rattle.sparse_parser.proofs.Fronts.{Passes, IsStopped, front-yes, Passes-front, IsStopped-after, front-append-after, after-yes, after-no, length-after}
+use Rattle.sparse_parser.specs.InnerReading.{found, found_number, begins_blank, ends_line, sign_of, index_at, value_at}
+use Rattle.sparse_parser.proofs.Fronts.{Passes, Passes-front, front-append-after, after-yes, after-no, length-after}
 
 length-front-after : (p : ℕ → Bool) (text : List ℕ) → length (front p text) + length (after p text) ≡ length text
 length-front-after p text = sym (length-append (front p text) (after p text)) ∙ ap length (front-append-after p text)
@@ -172,25 +173,10 @@ value_some text digits digits' rest word v d a r n e w h =
 
 -- ---- a word that is an index as a whole
 
-list_all-front : (p : ℕ → Bool) (word : List ℕ) → list_all p word ≡ true → front p word ≡ word
-list_all-front p [] h = refl
-list_all-front p (b ∷ word) h = by (p b) refl (list_all-front p word)
-  where
-    by : (t : Bool) → p b ≡ t → (list_all p word ≡ true → front p word ≡ word) → front p (b ∷ word) ≡ b ∷ word
-    by true e rest = let k : list_all p word ≡ true = sym (let r : list_all p (b ∷ word) ≡ list_all p word = rw e refl in r) ∙ h in front-yes p b word e ∙ ap (λ (t : List ℕ). b ∷ t) (rest k)
-    by false e rest = absurd (let r : list_all p (b ∷ word) ≡ false = rw e refl in cc)
-
-second : (a b : Bool) → (a && b) ≡ true → b ≡ true
-second true b e = e
-second false b e = absurd cc
-
 -- the number of an index, or why it is none
-pub number_found : (word : List ℕ) (n : Option ℕ) (r : Result ℕ Cause) (cause : Cause) → is_index word ≡ true → SomeIff n (digits_value 10 (front is_ascii_digit word) < 2 ^ 64) (digits_value 10 (front is_ascii_digit word)) → r ≡ ok_or n cause
+pub number_found : (word : List ℕ) (n : Option ℕ) (r : Result ℕ Cause) (cause : Cause) → SomeIff n (digits_value 10 word < 2 ^ 64) (digits_value 10 word) → r ≡ ok_or n cause
     → kind_of_cause cause ≡ ParsingError → found r ≡ number_of word
-number_found word n r cause i h e k =
-    let f = list_all-front is_ascii_digit word (second _ _ i) in
-    let s : SomeIff n (digits_value 10 word < 2 ^ 64) (digits_value 10 word) = subst (λ (ds : List ℕ). SomeIff n (digits_value 10 ds < 2 ^ 64) (digits_value 10 ds)) f h in
-    ap found e ∙ by n ∙ found-number word n s
+number_found word n r cause h e k = ap found e ∙ by n ∙ found-number word n h
   where
     by : (n : Option ℕ) → found (ok_or n cause) ≡ found_number n
     by None = ap (λ (x : MatrixMarketErrorKind). Err x) k

@@ -1,8 +1,8 @@
 -- The longest front of a text that passes a test, as a loop goes over it.
-use Rattle.std.proofs.Common.{◌≡◌, ℕ, zero, suc, ◌+◌, ◌≤◌, ◌<◌, Bool, true, false, List, [], ◌∷◌, ◌++◌, length, get_or, take, drop, refl, sym, ap, subst, ◌∙◌, append_assoc, arith}
+use Rattle.std.proofs.Common.{◌≡◌, ℕ, ◌+◌, ◌≤◌, ◌<◌, Bool, true, false, List, [], ◌∷◌, ◌++◌, length, get_or, take, drop, refl, sym, ap, subst, ◌∙◌, append_assoc, arith}
 use Rattle.std.proofs.lemmas.List.{drop_more, drop_all, take_more, append-nil}
-use Rattle.std.specs.List.{AllByRecursion}
-use Rattle.sparse_parser.specs.Bytes.{front, after}
+use Rattle.std.specs.List.{AllByRecursion, list_all}
+use Rattle.sparse_parser.specs.InnerBytes.{front, after}
 
 pub front-yes : (p : ℕ → Bool) (b : ℕ) (text : List ℕ) → p b ≡ true → front p (b ∷ text) ≡ b ∷ front p text
 front-yes p b text e = rw e refl
@@ -129,3 +129,12 @@ front-drop_all p text i le = ap (front p) (drop_all i text le)
 
 pub front-drop_stop : (p : ℕ → Bool) (text : List ℕ) (i : ℕ) → i < length text → p (get_or text i 0) ≡ false → front p (drop i text) ≡ []
 front-drop_stop p text i lt e = ap (front p) (drop_more text i 0 lt) ∙ front-no p _ _ e
+
+-- a text that passes as a whole is its own front
+pub list_all-front : (p : ℕ → Bool) (word : List ℕ) → list_all p word ≡ true → front p word ≡ word
+list_all-front p [] h = refl
+list_all-front p (b ∷ word) h = by (p b) refl (list_all-front p word)
+  where
+    by : (t : Bool) → p b ≡ t → (list_all p word ≡ true → front p word ≡ word) → front p (b ∷ word) ≡ b ∷ word
+    by true e rest = let k : list_all p word ≡ true = sym (let r : list_all p (b ∷ word) ≡ list_all p word = rw e refl in r) ∙ h in front-yes p b word e ∙ ap (λ (t : List ℕ). b ∷ t) (rest k)
+    by false e rest = absurd (let r : list_all p (b ∷ word) ≡ false = rw e refl in cc)

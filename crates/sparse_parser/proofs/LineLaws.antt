@@ -1,15 +1,16 @@
 -- The written lines of a text are one list, however its lines end.
-use Rattle.std.proofs.Common.{◌≡◌, ◌≢◌, ℕ, zero, suc, ◌<◌, ◌≤◌, Bool, true, false, cond, eqb, not, ◌&&◌, ◌||◌, List, [], ◌∷◌, ◌++◌, length, get_or, drop, refl, sym, ap, subst, ◌∙◌, append_assoc, arith, inl, inr}
-use Rattle.std.specs.Prelude.{filter, ◌⊎◌, map}
-use Rattle.std.specs.List.{AllByRecursion, slice_split}
+use Rattle.std.proofs.Common.{◌≡◌, ◌≢◌, ℕ, ◌<◌, ◌≤◌, Bool, true, false, cond, eqb, not, List, [], ◌∷◌, ◌++◌, length, get_or, drop, refl, sym, ap, subst, ◌∙◌, arith, inl, inr}
+use Rattle.std.specs.Prelude.{filter, ◌⊎◌}
+use Rattle.std.specs.List.{AllByRecursion}
 use Rattle.std.proofs.lemmas.Bool.{eqb-true, eqb-false}
 use Rattle.std.proofs.lemmas.Bool.Decides.{eqb_tells}
 use Rattle.std.proofs.lemmas.List.Splits.{slice_split_none, slice_split_at}
 use Rattle.std.proofs.lemmas.List.Elements.{All-from_recursion}
 use Rattle.std.proofs.lemmas.List.{append-nil}
-use Rattle.sparse_parser.specs.Bytes.{is_blank, is_line_end, is_space, is_within_line, front, after, BeginsLine}
+use Rattle.sparse_parser.specs.Bytes.{is_blank, is_line_end}
+use Rattle.sparse_parser.specs.InnerBytes.{is_space, is_within_line, front, after}
 use Rattle.sparse_parser.specs.Grammar.{IsLineEnd, AreLines, AreBlanks, AreWords, AreContents, AreHeaded}
-use Rattle.sparse_parser.specs.Reading.{is_some_line, is_content, words_of, written_lines, written_of, contents_of}
+use Rattle.sparse_parser.specs.InnerReading.{is_some_line, is_content, words_of, written_lines, written_of, contents_of}
 use Rattle.sparse_parser.proofs.Fronts.{Passes, IsStopped, front-yes, after-yes, after-no, Passes-front, IsStopped-after, front-append-after, length-after, length-after-lt}
 use Rattle.sparse_parser.proofs.WordLaws.{words_of-nil, words_of-blank, words_of-blanks, words_only, words_are}
 

@@ -1,14 +1,16 @@
 -- The words of a line are one list.
-use Rattle.std.proofs.Common.{◌≡◌, ℕ, zero, suc, ◌<◌, Bool, true, false, cond, ltb, not, List, [], ◌∷◌, ◌++◌, length, refl, sym, ap, subst, ◌∙◌, append_assoc, arith, inl, inr}
-use Rattle.std.specs.Prelude.{filter, ◌⊎◌, All}
+use Rattle.std.proofs.Common.{◌≡◌, ℕ, ◌<◌, Bool, true, false, not, List, [], ◌∷◌, ◌++◌, length, refl, sym, ap, subst, ◌∙◌, arith}
+use Rattle.std.specs.Prelude.{filter}
 use Rattle.std.specs.List.{AllByRecursion, slice_split}
 use Rattle.std.proofs.lemmas.Bool.{lt-ltb}
 use Rattle.std.proofs.lemmas.List.Splits.{slice_split_none, slice_split_at, slice_split-cons_yes}
 use Rattle.std.proofs.lemmas.List.Elements.{All-from_recursion}
 use Rattle.std.proofs.lemmas.List.{append-nil, nil_from_length}
-use Rattle.sparse_parser.specs.Bytes.{is_blank, is_within_word, front, after}
+use Rattle.sparse_parser.specs.Bytes.{is_blank}
+use Rattle.sparse_parser.specs.InnerBytes.{is_within_word, front, after}
 use Rattle.sparse_parser.specs.Grammar.{AreBlanks, IsApart, AreWords}
-use Rattle.sparse_parser.specs.Reading.{is_some_word, words_of}
+use Rattle.sparse_parser.specs.Words.{is_some_word}
+use Rattle.sparse_parser.specs.InnerReading.{words_of}
 use Rattle.sparse_parser.proofs.Fronts.{Passes, IsStopped, Passes-front, IsStopped-after, front-append-after}
 
 pub words_of-nil : words_of [] ≡ []

@@ -1,5 +1,5 @@
--- Bytes that part a text.
-use Rattle.std.specs.Prelude.{◌≡◌, ◌≢◌, ℕ, Bool, true, false, ◌||◌, ◌==◌, not, if◌then◌else◌, List, [], ◌∷◌}
+-- Bytes that separate the words and lines of a text.
+use Rattle.std.specs.Prelude.{ℕ, Bool, ◌||◌, ◌==◌}
 
 -- space or tab
 abbrev pub is_blank : ℕ → Bool
@@ -8,26 +8,3 @@ is_blank b = (b == 32) || (b == 9)
 -- LF or CR
 abbrev pub is_line_end : ℕ → Bool
 is_line_end b = (b == 10) || (b == 13)
-
-abbrev pub is_space : ℕ → Bool
-is_space b = is_blank b || is_line_end b
-
--- the longest front whose bytes pass the test, and what stands after it
-abbrev pub front : (ℕ → Bool) → List ℕ → List ℕ
-front p [] = []
-front p (b ∷ text) = if p b then b ∷ front p text else []
-
-abbrev pub after : (ℕ → Bool) → List ℕ → List ℕ
-after p [] = []
-after p (b ∷ text) = if p b then after p text else b ∷ text
-
-abbrev pub is_within_line : ℕ → Bool
-is_within_line b = not (is_line_end b)
-
-abbrev pub is_within_word : ℕ → Bool
-is_within_word b = not (is_blank b)
-
--- nothing, or the first byte of a line that is neither blank nor a comment
-abbrev pub BeginsLine : List ℕ → Type 0
-BeginsLine [] = Unit {0}
-BeginsLine (b ∷ text) = (is_space b ≡ false) × (b ≢ 37)

@@ -6,7 +6,7 @@ ghost use Rattle.std.specs.Str.Parse.{digits_value, starts_with_minus, without_l
 ghost use lib.IntN.{neg_ℤ};
 ghost use Rattle.sparse_parser.specs.Grammar.{is_integer};
 ghost use Rattle.sparse_parser.specs.Meaning.{triplet_of, value_of};
-ghost use Rattle.sparse_parser.specs.Reading.{found, found_number, ends_line, index_at, value_at, entry_at};
+ghost use Rattle.sparse_parser.specs.InnerReading.{found, found_number, ends_line, index_at, value_at, entry_at};
 
 use crate::error::Cause;
 use crate::lines::{after_blanks, is_line_end};
@@ -19,7 +19,7 @@ const LARGEST: usize = i64::MAX as usize;
 pub type Triplet = (usize, usize, i64);
 
 /// A data line at the front of a text, and what stands after it; nothing where the line is outside the grammar.
-#[tactic(auto, unfolding(crate::specs::Reading::entry_at))]
+#[tactic(auto, unfolding(crate::specs::InnerReading::entry_at))]
 #[inline(always)]
 pub fn entry(text: &[u8]) -> Option<(Result<Triplet, Cause>, &[u8])>
     ensures { option_map (λ x. (found x.0, x.1.now)) result ≡ entry_at text.now }
@@ -47,7 +47,7 @@ fn triplet(
 }
 
 /// An index and the blanks after it.
-#[tactic(auto, unfolding(crate::specs::Reading::index_at))]
+#[tactic(auto, unfolding(crate::specs::InnerReading::index_at))]
 fn index(text: &[u8]) -> Option<(Option<usize>, &[u8])>
     ensures { option_map (λ x. (found_number x.0, x.1.now)) result ≡ index_at text.now }
 {
@@ -60,7 +60,7 @@ fn index(text: &[u8]) -> Option<(Option<usize>, &[u8])>
 }
 
 /// A value at the end of its line.
-#[tactic(auto, unfolding(crate::specs::Reading::value_at))]
+#[tactic(auto, unfolding(crate::specs::InnerReading::value_at))]
 fn value(text: &[u8]) -> Option<(Result<i64, Cause>, &[u8])>
     ensures { option_map (λ x. (found x.0, x.1.now)) result ≡ value_at text.now }
 {

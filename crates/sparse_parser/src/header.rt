@@ -3,7 +3,7 @@
 ghost use Rattle.std.specs.Prelude.{◌≡◌, true, false, [], ◌∷◌, MatchOption};
 ghost use Rattle.sparse_parser.specs.declared.error.MatrixMarketErrorKind.TheVariants.{InvalidHeader};
 ghost use Rattle.sparse_parser.specs.Errors.{kind_of_cause};
-ghost use Rattle.sparse_parser.specs.Reading.{words_of};
+ghost use Rattle.sparse_parser.specs.InnerReading.{words_of};
 ghost use Rattle.sparse_parser.specs.Header.{says, format_of, field_of, symmetry_of, fields_of, header_of, is_carried};
 
 use crate::error::Cause;

@@ -1,8 +1,9 @@
 //! Lines of a text, and the words of a line.
 
-ghost use Rattle.std.specs.Prelude.{◌≡◌, ◌≤◌, [], ◌∷◌, length, MatchOption};
-ghost use Rattle.sparse_parser.specs.Bytes.{is_blank, is_line_end, is_space, is_within_line, is_within_word, front, after, BeginsLine};
-ghost use Rattle.sparse_parser.specs.Reading.{words_of, contents_of};
+ghost use Rattle.std.specs.Prelude.{◌≡◌, ◌≤◌, ℕ, Bool, [], ◌∷◌, length, MatchOption};
+ghost use Rattle.sparse_parser.specs.Bytes.{is_blank, is_line_end};
+ghost use Rattle.sparse_parser.specs.InnerBytes.{is_space, is_within_line, is_within_word, front, after, Decides, BeginsLine};
+ghost use Rattle.sparse_parser.specs.InnerReading.{words_of, contents_of};
 
 pub fn is_blank(byte: u8) -> bool
     ensures { result ≡ is_blank byte }
@@ -22,26 +23,34 @@ pub fn is_line_end(byte: u8) -> bool
     byte == b'\n' || byte == b'\r'
 }
 
+/// The longest front of a text whose bytes pass a test, and what stands after it.
+#[inline(always)]
+pub fn split_front<F: Fn(u8) -> bool>(text: &[u8], passes: F) -> (&[u8], &[u8])
+    requires { F.IsAlwaysCallable passes }
+    ensures front { (p : ℕ → Bool) → Decides (F.post passes) p → result.0.now ≡ front p text.now }
+    ensures after { (p : ℕ → Bool) → Decides (F.post passes) p → result.1.now ≡ after p text.now }
+{
+    let mut at = 0;
+    while at < text.len() && passes(text[at]) {
+        at += 1;
+    }
+    text.split_at(at)
+}
+
 /// What stands after the blanks at the front.
 pub fn after_blanks(text: &[u8]) -> &[u8]
     ensures { result.now ≡ after is_blank text.now }
 {
-    let mut at = 0;
-    while at < text.len() && is_blank(text[at]) {
-        at += 1;
-    }
-    &text[at..]
+    let (_, rest) = split_front(text, |byte| is_blank(byte));
+    rest
 }
 
 /// What stands after the blanks and line ends at the front.
 pub fn after_space(text: &[u8]) -> &[u8]
     ensures { result.now ≡ after is_space text.now }
 {
-    let mut at = 0;
-    while at < text.len() && is_space(text[at]) {
-        at += 1;
-    }
-    &text[at..]
+    let (_, rest) = split_front(text, |byte| is_space(byte));
+    rest
 }
 
 /// The line at the front of a text, and what stands after it, from its end on.
@@ -49,11 +58,7 @@ pub fn split_line(text: &[u8]) -> (&[u8], &[u8])
     ensures line { result.0.now ≡ front is_within_line text.now }
     ensures rest { result.1.now ≡ after is_within_line text.now }
 {
-    let mut at = 0;
-    while at < text.len() && !is_line_end(text[at]) {
-        at += 1;
-    }
-    text.split_at(at)
+    split_front(text, |byte| !is_line_end(byte))
 }
 
 /// The front of the first line that is neither blank nor a comment, and what stands after it; nothing where there is none.
@@ -75,11 +80,7 @@ fn split_word(line: &[u8]) -> (&[u8], &[u8])
     ensures word { result.0.now ≡ front is_within_word line.now }
     ensures rest { result.1.now ≡ after is_within_word line.now }
 {
-    let mut at = 0;
-    while at < line.len() && !is_blank(line[at]) {
-        at += 1;
-    }
-    line.split_at(at)
+    split_front(line, |byte| !is_blank(byte))
 }
 
 /// The first word of a line, and what stands after it.

@@ -7,9 +7,11 @@ ghost use Rattle.std.specs.Char.{is_ascii_digit};
 ghost use Rattle.std.specs.Str.Parse.{digits_value, digits_value_after, signed_digits_value};
 ghost use Rattle.std.specs.Int.{w128};
 ghost use Rattle.sparse_parser.specs.Grammar.{is_index, is_integer};
-ghost use Rattle.sparse_parser.specs.Bytes.{front, after};
+ghost use Rattle.sparse_parser.specs.InnerBytes.{front, after};
 
-/// So many digits always fit.
+use crate::lines::split_front;
+
+/// 19 digits always fit in 64 bits.
 const SHORT: usize = 19;
 
 /// The number that the digits at the front of a text write, where it fits, and what stands after them.
@@ -62,11 +64,8 @@ fn with_digit(number: usize, digit: u8) -> Option<usize>
 fn after_digits(text: &[u8]) -> &[u8]
     ensures { result.now ≡ after is_ascii_digit text.now }
 {
-    let mut at = 0;
-    while at < text.len() && text[at].is_ascii_digit() {
-        at += 1;
-    }
-    &text[at..]
+    let (_, rest) = split_front(text, |byte| byte.is_ascii_digit());
+    rest
 }
 
 /// The number that an optional sign and digits write, where it fits.
@@ -83,6 +82,15 @@ pub fn is_index(word: &[u8]) -> bool
     ensures { result ≡ is_index word.now }
 {
     !word.is_empty() && all_digits(word)
+}
+
+/// The number that an index writes, where it fits.
+pub fn index(word: &[u8]) -> Option<usize>
+    requires { IsTrue (is_index word.now) }
+    ensures { SomeIff result (digits_value 10 word.now < 2 ^ 64) (digits_value 10 word.now) }
+{
+    let (number, _) = leading_number(word);
+    number
 }
 
 fn all_digits(word: &[u8]) -> bool

@@ -4,11 +4,11 @@ ghost use Rattle.std.specs.Prelude.{◌≡◌, [], ◌∷◌, IsTrue};
 ghost use Rattle.std.specs.Option.{option_map};
 ghost use Rattle.sparse_parser.specs.Grammar.{is_index};
 ghost use Rattle.sparse_parser.specs.Meaning.{number_of, sizes_of};
-ghost use Rattle.sparse_parser.specs.Reading.{found, words_of, size_numbers, size_at};
+ghost use Rattle.sparse_parser.specs.InnerReading.{found, words_of, size_numbers, size_at};
 
 use crate::error::Cause;
 use crate::lines::next_word;
-use crate::numbers::{is_index, leading_number};
+use crate::numbers::{index, is_index};
 
 /// The numbers of a size line.
 #[derive(Clone, Copy)]
@@ -20,7 +20,7 @@ pub struct Size {
 
 impl Size {
     /// What a size line says; nothing where the line is outside the grammar.
-    #[tactic(auto, unfolding(crate::specs::Reading::size_at, crate::specs::Grammar::is_size, crate::specs::Meaning::sizes_of))]
+    #[tactic(auto, unfolding(crate::specs::InnerReading::size_at, crate::specs::Grammar::is_size, crate::specs::Meaning::sizes_of))]
     pub fn from_line(line: &[u8]) -> Option<Result<Size, Cause>>
         ensures { option_map (λ r. size_numbers r) result ≡ size_at (words_of line.now) }
     {
@@ -56,6 +56,5 @@ fn number(word: &[u8]) -> Result<usize, Cause>
     requires { IsTrue (is_index word.now) }
     ensures { found result ≡ number_of word.now }
 {
-    let (number, _) = leading_number(word);
-    number.ok_or(Cause::SizeTooLarge)
+    index(word).ok_or(Cause::SizeTooLarge)
 }

@@ -1,6 +1,6 @@
 use Rattle.std.proofs.Common.{◌≡◌, ◌≢◌, ◌<◌, length, sym, ◌∙◌, arith, rules}
 use Rattle.std.proofs.lemmas.Bool.{eqb-true, eqb-false}
-use Rattle.sparse_parser.specs.Reading.{found}
+use Rattle.sparse_parser.specs.InnerReading.{found}
 use Rattle.sparse_io.proofs.EntryLoop.{IsRead, line_read, line_refused, count_start, count_more, count_refused, count_end}
 use Rattle.sparse_io.proofs.reader.count_entries.Goals as goal
 

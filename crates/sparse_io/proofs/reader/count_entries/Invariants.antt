@@ -1,6 +1,6 @@
 use Rattle.std.proofs.Common.{◌≡◌, ◌+◌, ◌≤◌, length}
-use Rattle.sparse_parser.specs.Bytes.{BeginsLine}
-use Rattle.sparse_parser.specs.Reading.{contents_of, count_of}
+use Rattle.sparse_parser.specs.InnerBytes.{BeginsLine}
+use Rattle.sparse_parser.specs.InnerReading.{contents_of, count_of}
 use Rattle.sparse_io.proofs.EntryLoop.{count_from}
 use Rattle.sparse_io.proofs.reader.count_entries.Given as goal
 

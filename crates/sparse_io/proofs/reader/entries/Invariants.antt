@@ -1,7 +1,7 @@
 use Rattle.std.proofs.Common.{◌≡◌, ◌+◌, ◌≤◌, length}
-use Rattle.sparse_parser.specs.Bytes.{BeginsLine}
+use Rattle.sparse_parser.specs.InnerBytes.{BeginsLine}
 use Rattle.sparse_parser.specs.Meaning.{listed_of, numbers_of}
-use Rattle.sparse_parser.specs.Reading.{contents_of, among_entries}
+use Rattle.sparse_parser.specs.InnerReading.{contents_of, among_entries}
 use Rattle.sparse_io.proofs.EntryLoop.{still_read}
 use Rattle.sparse_io.proofs.reader.entries.Given as goal
 

@@ -1,4 +1,4 @@
-use Rattle.std.proofs.Common.{◌≡◌, ◌∷◌, ◌<◌, drop, length, get_or, arith}
+use Rattle.std.proofs.Common.{◌≡◌, get_or, arith}
 use Rattle.sparse_parser.proofs.LineLaws.{head_byte, sought_first, sought_more}
 use Rattle.sparse_parser.proofs.lines.next_line.Goals as goal
 

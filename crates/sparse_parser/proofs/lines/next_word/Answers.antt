@@ -1,4 +1,4 @@
-use Rattle.std.proofs.Common.{◌≡◌, ◌<◌, ◌≢◌, length, sym, ◌∙◌, arith}
+use Rattle.std.proofs.Common.{◌≢◌, length, sym, ◌∙◌, arith}
 use Rattle.std.proofs.lemmas.Bool.{eqb-true, eqb-false}
 use Rattle.sparse_parser.proofs.WordLaws.{no_word, first_word}
 use Rattle.sparse_parser.proofs.lines.next_word.Goals as goal

@@ -4,4 +4,4 @@ use Rattle.sparse_parser.proofs.EntryLaws.{number_found}
 use Rattle.sparse_parser.proofs.size.number.Goals as goal
 
 pub returns : goal.returns
-returns c = number_found c.args.word.now _ _ SizeTooLarge c.requires c.leading_number-number.ensures.number c.ok_or.ensures.value refl
+returns c = number_found c.args.word.now _ _ SizeTooLarge c.index.ensures c.ok_or.ensures.value refl

@@ -1,5 +1,5 @@
 -- The same meaning as a function, for what reads it piece by piece.
-use Rattle.std.specs.Prelude.{◌≡◌, ℕ, Bool, true, false, ◌==◌, ◌&&◌, ◌||◌, not, nat_lt, List, [], ◌∷◌, ◌++◌, ◌+◌, length, map, filter, slice_index, Option, Some, None, Result, Ok, Err, MatchResult, if◌then◌else◌, ◌⊎◌, ℤ}
+use Rattle.std.specs.Prelude.{◌≡◌, ℕ, Bool, true, false, ◌==◌, ◌&&◌, ◌||◌, not, List, [], ◌∷◌, ◌++◌, ◌+◌, length, map, filter, slice_index, Option, Some, None, Result, Ok, Err, MatchResult, if◌then◌else◌, ◌⊎◌, ℤ}
 use Rattle.std.specs.List.{slice_split, list_all}
 use Rattle.std.specs.Char.{is_ascii_digit}
 use Rattle.std.specs.Str.Parse.{without_leading_sign}
@@ -12,13 +12,12 @@ use Rattle.sparse_parser.specs.declared.error.MatrixMarketError.{MatrixMarketErr
 use Rattle.sparse_parser.specs.declared.size.Size.{Size}
 use Rattle.sparse_parser.specs.declared.header.Header.{Header}
 use Rattle.sparse_parser.specs.Errors.{kind_of_cause, kind_of}
-use Rattle.sparse_parser.specs.Bytes.{is_blank, is_line_end, front, after}
+use Rattle.sparse_parser.specs.Bytes.{is_blank, is_line_end}
+use Rattle.sparse_parser.specs.InnerBytes.{front, after}
+use Rattle.sparse_parser.specs.Words.{words_between}
 use Rattle.sparse_parser.specs.Header.{◌>>=◌, header_of, is_carried}
 use Rattle.sparse_parser.specs.Grammar.{is_index, is_size, is_entry}
 use Rattle.sparse_parser.specs.Meaning.{Read, number_of, value_of, sizes_of, triplet_of, matrix_of, numbers_of}
-
-abbrev pub is_some_word : List ℕ → Bool
-is_some_word word = nat_lt 0 (length word)
 
 abbrev pub is_some_line : List (List ℕ) → Bool
 is_some_line [] = false
@@ -26,7 +25,7 @@ is_some_line (word ∷ words) = true
 
 -- what stands between the blanks of a line
 unfoldable pub words_of : List ℕ → List (List ℕ)
-words_of line = filter is_some_word (slice_split is_blank line)
+words_of line = words_between is_blank line
 
 -- the words of the lines that aren't blank
 abbrev pub written_lines : List (List ℕ) → List (List (List ℕ))

@@ -1,0 +1,15 @@
+-- The state of the writer between two lines.
+use Rattle.std.specs.Prelude.{◌≡◌, ℕ, List, ◌++◌, length, Option}
+use Rattle.std.specs.Io.KnownBytes.{Appends}
+use Rattle.sparse_base.specs.Coo.{Coo}
+use Rattle.sparse_io.specs.Written.{heading, size_line}
+
+-- what a matrix's text has before the lines of its triplets
+abbrev pub head_of : {V : Type 0} → List ℕ → Coo V → List ℕ
+head_of name m = heading name ++ size_line m.nrows m.ncols (length m.triplets)
+
+-- of the bytes, a prefix was appended, and a buffer holds the rest
+pub record IsBuffered (old new : Option (List ℕ)) (buffer bytes : List ℕ) : Type 0 where
+  pub done : List ℕ
+  pub parts : bytes ≡ done ++ buffer
+  pub appended : Appends old new done

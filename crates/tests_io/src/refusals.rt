@@ -1,0 +1,173 @@
+//! Texts that are refused: the kind of the first fault, and the text for its cause.
+
+use crate::reading::{HEADER, load};
+use sparse_io::MatrixMarketErrorKind;
+use sparse_io::MatrixMarketErrorKind::{
+    EntryMismatch, InvalidHeader, ParsingError, SparseFormatError, TypeMismatch, ZeroError,
+};
+use sparse_pattern::error::SparseFormatErrorKind::IndexOutOfBounds;
+use std::test::Fail;
+
+/// Texts of two parts, and the kind of the first fault of each.
+const KINDS: [(&str, &str, MatrixMarketErrorKind); 36] = [
+    // Headers.
+    ("", "", ParsingError),
+    (" \n\r\n", "", ParsingError),
+    ("% matrix\n", "1 1 0", ParsingError),
+    (
+        "%%MatrixMarket matrix coordinate integer\n",
+        "1 1 0",
+        ParsingError,
+    ),
+    (
+        "%%MatrixMarket matrix coordinate integer general x\n",
+        "1 1 0",
+        ParsingError,
+    ),
+    (
+        "%%MatrixMarket vector coordinate integer general\n",
+        "1 1 0",
+        ParsingError,
+    ),
+    (
+        "%%MatrixMarket matrix coordinate real general\n",
+        "1 1 x",
+        InvalidHeader,
+    ),
+    (
+        "%%MatrixMarket matrix array integer general\n",
+        "1 1 x",
+        InvalidHeader,
+    ),
+    (
+        "%%MatrixMarket matrix coordinate integer skew-symmetric\n",
+        "1 1 x",
+        InvalidHeader,
+    ),
+    // Lines outside the grammar.
+    (HEADER, "", ParsingError),
+    (HEADER, "% 1 1 0\n", ParsingError),
+    (HEADER, "1\n", ParsingError),
+    (HEADER, "1 1 1 1\n", ParsingError),
+    (HEADER, "+1 1 0\n", ParsingError),
+    (HEADER, "2 2 2\n0 1 1\n1 x 1", ParsingError),
+    (HEADER, "9 9 18446744073709551616\n1 1", ParsingError),
+    (HEADER, "1 1 1\n1 1 1.0", ParsingError),
+    (HEADER, "1 1 1\n1 1 +", ParsingError),
+    (HEADER, "1 1 1\n1 -1 1", ParsingError),
+    (HEADER, "1 1 1\n1 1 1 %", ParsingError),
+    (HEADER, "1 1 1\n1 1\x0c1", ParsingError),
+    // The first of several faults.
+    (HEADER, "2 2\n", ParsingError),
+    (HEADER, "1 18446744073709551616 2\n1 1 1", ParsingError),
+    (HEADER, "2 2 2\n1 1 1\n", EntryMismatch),
+    (HEADER, "2 2 2\n0 1 1", EntryMismatch),
+    (HEADER, "2 2 18446744073709551615\n3 1 1", EntryMismatch),
+    (HEADER, "2 2 0\n1 1 1", EntryMismatch),
+    (HEADER, "1 1 1\n0 1 5", ZeroError),
+    (HEADER, "1 1 1\n1 000 9223372036854775808", ZeroError),
+    (HEADER, "1 1 1\n0 18446744073709551616 5", ParsingError),
+    (
+        HEADER,
+        "1 1 2\n1 1 9223372036854775808\n0 1 1",
+        TypeMismatch,
+    ),
+    (
+        HEADER,
+        "1 1 1\n1 1 -170141183460469231731687303715884105728",
+        TypeMismatch,
+    ),
+    (
+        HEADER,
+        "1 1 1\n1 1 170141183460469231731687303715884105728",
+        ParsingError,
+    ),
+    (HEADER, "1 1 2\n1 2 3\n1 0 3", ZeroError),
+    (HEADER, "1 1 1\n1 2 3", SparseFormatError(IndexOutOfBounds)),
+    (
+        HEADER,
+        "1 1 2\n2 1 3\n1 1 3",
+        SparseFormatError(IndexOutOfBounds),
+    ),
+];
+
+#[test]
+fn answers_the_kind_of_the_first_fault(rt: HostRuntime) {
+    for (head, below, kind) in KINDS {
+        let refusal = load(&rt, head, below).err().map(|error| error.kind());
+        assert_eq!(rt; refusal, Some(kind), "at {head}{below}");
+    }
+}
+
+/// Texts of two parts, and the text for the cause of each refusal.
+const MESSAGES: [(&str, &str, &str); 14] = [
+    (HEADER, "2 2\n", "Shape line doesn't fit the header."),
+    (HEADER, "2 2\n1 x 1", "Can't parse the data."),
+    (HEADER, "18446744073709551616 2 0", "A size is too large."),
+    (
+        HEADER,
+        "1 1 1",
+        "The number of entries doesn't match the shape line.",
+    ),
+    (
+        HEADER,
+        "1 1 1\n18446744073709551616 1 1",
+        "An index is too large.",
+    ),
+    (HEADER, "1 1 1\n1 0 1", "The data has to be one-indexed"),
+    (
+        HEADER,
+        "1 1 1\n1 1 170141183460469231731687303715884105728",
+        "Can't parse data as i128.",
+    ),
+    (
+        HEADER,
+        "1 1 1\n1 1 9223372036854775808",
+        "Please consider using a larger integer type.",
+    ),
+    (
+        "%%MatrixMarket matrix ",
+        "coordinate real hermitian\n",
+        "Real matrix can't be hermitian.",
+    ),
+    (
+        "%%MatrixMarket matrix ",
+        "array integer hermitian\n",
+        "Integer matrix can't be hermitian.",
+    ),
+    (
+        "%%MatrixMarket matrix ",
+        "coordinate pattern hermitian\n",
+        "Pattern matrix can't be hermitian.",
+    ),
+    (
+        "%%MatrixMarket matrix ",
+        "array pattern skew-symmetric\n",
+        "Pattern matrix can't be skew-symmetric.",
+    ),
+    (
+        "%%MatrixMarket matrix ",
+        "array pattern general\n",
+        "Dense matrix can't be pattern matrix.",
+    ),
+    (
+        "%%MatrixMarket matrix ",
+        "coordinate complex hermitian\n",
+        "Only coordinate integer general matrices are carried.",
+    ),
+];
+
+#[test]
+fn tells_the_cause(rt: HostRuntime) -> Result<(), Fail> {
+    for (head, below, message) in MESSAGES {
+        let error = load(&rt, head, below).expect_err(&rt, "a refusal");
+        assert_eq!(rt; error.message(), message);
+    }
+    let error = load(&rt, HEADER, "1 1 1\n2 1 1").expect_err(&rt, "a refusal");
+    let text = error.to_string(rt.alloc())?;
+    assert_eq!(rt;
+        text.as_str(),
+        "Matrix Market error: SparseFormatError, message: An index is out of bounds."
+    );
+    Ok(())
+}
