@@ -1,4 +1,4 @@
-//! Lanes of entries merged into compressed matrices.
+//! Compressed matrices of sorted lanes; entries with the same index are added.
 
 ghost use Rattle.std.specs.Prelude.{◌≡◌, ℕ, ◌+◌, ◌-◌, ◌<◌, ◌≤◌, All, IfOk, length, vec_len, vec_capacity};
 ghost use Rattle.std.specs.List.Sorted.{IsNonDecreasingBy};
@@ -12,7 +12,7 @@ use sparse_cs::CsMatrix;
 use sparse_pattern::pattern::SparsityPattern;
 use std::alloc::{AllocError, Global};
 
-// Adds a lane at the end of the arrays. There is room for all of it.
+// Appends a lane to the arrays, whose capacity suffices. Entries with the same index are added.
 fn merge_lane<T: Ring>(lane: &[(usize, T)], indices: &mut Vec<usize>, values: &mut Vec<T>)
     requires sorted { IsNonDecreasingBy (λ e. e.0) lane.now }
     requires sizes { vec_len values.old ≡ vec_len indices.old }
@@ -38,7 +38,7 @@ fn merge_lane<T: Ring>(lane: &[(usize, T)], indices: &mut Vec<usize>, values: &m
     }
 }
 
-/// The matrix of lanes of entries, each lane in the order of its indices. Neighbours with one index are added.
+/// The matrix of lanes of entries that are sorted by index. Entries with the same index are added.
 pub(crate) fn merge_lanes<T: Ring>(
     alloc: Global,
     minor_dim: usize,

@@ -1,4 +1,4 @@
-//! Sparse matrices of the values of a dense one that are not zero.
+//! Conversions from dense matrices, which store the nonzero values.
 
 ghost use Rattle.std.specs.Prelude.{◌≡◌, ◌+◌, ◌*◌, ◌<◌, ◌≤◌, ◌^◌, ◌++◌, ℕ, IfOk, OnOk, length, map, not, slice_index_or};
 ghost use Rattle.std.specs.List.{filter};
@@ -20,9 +20,9 @@ use sparse_forms::csr::CsrMatrix;
 use sparse_pattern::pattern::SparsityPattern;
 use std::alloc::{AllocError, Global};
 
-/// The triplets of the values that are not `==` to zero, column after column.
+/// Returns the triplets of the values that are not `==` to zero, column by column.
 ///
-/// It takes one pass over the values. The lists grow as they are filled, and the only error is want of memory.
+/// Takes one pass over the values. The arrays grow as they are filled. Fails only if an allocation fails.
 pub fn convert_dense_coo<T: Zero + Copy>(
     alloc: Global,
     dense: &DMatrix<T>,
@@ -37,7 +37,7 @@ pub fn convert_dense_coo<T: Zero + Copy>(
     Ok(coo)
 }
 
-// Appends the triplets of the values of a column that are not zero.
+// Appends the triplets of the nonzero values of a column.
 fn push_column<T: Zero + Copy>(
     coo: &mut CooMatrix<T>,
     j: usize,
@@ -56,9 +56,9 @@ fn push_column<T: Zero + Copy>(
     Ok(())
 }
 
-/// The CSC matrix of the values that are not `==` to zero.
+/// Returns the CSC matrix of the values that are not `==` to zero.
 ///
-/// It takes one pass over the values. The lists grow as they are filled, and the only error is want of memory.
+/// Takes one pass over the values. The arrays grow as they are filled. Fails only if an allocation fails.
 pub fn convert_dense_csc<T: Zero + Copy>(
     alloc: Global,
     dense: &DMatrix<T>,
@@ -74,9 +74,9 @@ pub fn convert_dense_csc<T: Zero + Copy>(
     Ok(CscMatrix::from_cs(cs))
 }
 
-/// The CSR matrix of the values that are not `==` to zero.
+/// Returns the CSR matrix of the values that are not `==` to zero.
 ///
-/// It takes one pass over the values. The lists grow as they are filled, and the only error is want of memory.
+/// Takes one pass over the values. The arrays grow as they are filled. Fails only if an allocation fails.
 pub fn convert_dense_csr<T: Zero + Copy>(
     alloc: Global,
     dense: &DMatrix<T>,
@@ -92,7 +92,7 @@ pub fn convert_dense_csr<T: Zero + Copy>(
     Ok(CsrMatrix::from_cs(cs))
 }
 
-// The compressed matrix of the values that are not zero, where lanes begin `lane_step` apart and a lane's values stand `step` apart.
+// The compressed matrix of the nonzero values. Lanes start `lane_step` apart, and the values of a lane are `step` apart.
 fn compress_lanes<T: Zero + Copy>(
     alloc: Global,
     major_dim: usize,
@@ -124,7 +124,7 @@ fn compress_lanes<T: Zero + Copy>(
     Ok(CsMatrix::from_pattern_and_values(pattern, kept))
 }
 
-// Appends the indices and the values of a lane that are not zero. Its values begin at `start` and stand `step` apart.
+// Appends the indices and values of the nonzero values of a lane, which starts at `start` with its values `step` apart.
 fn push_lane<T: Zero + Copy>(
     values: &[T],
     start: usize,
@@ -149,7 +149,7 @@ fn push_lane<T: Zero + Copy>(
     Ok(())
 }
 
-/// As plain matrices, the three results have the places of the dense matrix whose value is not zero, with their values.
+/// As plain matrices, the three results have the places of the dense matrix with a nonzero value, and these values.
 pub fn from_dense_law<T: Ring>()
     ensures coo { (d : Dense T) → IsNonzeroPart (plain_of_dense T.ring T.value d) (plain_of_coo T.ring T.value
         (coo_of d.nrows d.ncols (filter (differs_from T.eq T.zero_value) (column_triplets T.zero_value d)))) }

@@ -1,4 +1,4 @@
-//! The three forms of one matrix.
+//! The three representations of a matrix: a list of triplets, CSR and CSC.
 
 ghost use Rattle.std.specs.Prelude.{◌≡◌, true};
 ghost use Rattle.sparse_base.specs.Coo.{Coo};
@@ -9,12 +9,12 @@ ghost use Rattle.sparse_convert.specs.OneMatrix.{Form, Triplets, Rows, Cols, coo
 
 use sparse_algebra::scalar::Ring;
 
-/// A list of triplets, a CSR matrix and a CSC matrix that come from one another by conversions mean one matrix.
+/// A list of triplets, a CSR matrix and a CSC matrix that are converted from one another represent the same matrix.
 ///
-/// It does not matter which form one begins with, nor which conversions one takes and how many of them (`three_forms`). Matrices of one
-/// form that are reached from the same beginning are `==` (`rows_equal`, `cols_equal`), so a matrix that is converted to a list and back
-/// is `==` to what it was (`rows_and_back`, `cols_and_back`). Lists that mean the same have rows that are `==`, and columns that are `==`
-/// (`same_lists`).
+/// This holds for any first representation and any sequence of conversions (`three_forms`). CSR matrices converted from the same
+/// representation are `==`, and so are CSC matrices (`rows_equal`, `cols_equal`). A matrix converted to a list and back is `==` to the
+/// original (`rows_and_back`, `cols_and_back`). Lists that represent the same matrix convert to CSR matrices that are `==`, and to CSC
+/// matrices that are `==` (`same_lists`).
 pub fn one_matrix_law<T: Ring>()
     ensures three_forms { (x : Form T) (a : Coo T) (m n : Compressed T) → IsSoundForm x
         → IsReached T.ring T.value x (Triplets a) → IsReached T.ring T.value x (Rows m) → IsReached T.ring T.value x (Cols n)

@@ -1,4 +1,4 @@
-//! Dense matrices of the sparse forms.
+//! Conversions to dense matrices.
 
 ghost use Rattle.std.specs.Prelude.{◌≡◌, IfOk};
 ghost use Rattle.sparse_base.specs.Dense.{Dense};
@@ -15,10 +15,10 @@ use sparse_forms::csc::CscMatrix;
 use sparse_forms::csr::CsrMatrix;
 use std::alloc::{AllocError, Global};
 
-/// The dense matrix of a list of triplets: at each pair the sum of the values of the triplets there, zero where there is none.
+/// Returns the dense matrix of a list of triplets: at each pair (i, j) the sum of the values of the triplets there, or zero.
 ///
-/// It takes time for the triplets and for all pairs, and memory for all pairs. The only error is want of memory, also where no memory
-/// could hold the size.
+/// Takes time for the triplets and for all pairs, and memory for all pairs. Fails only if an allocation fails, as it does where the
+/// number of pairs exceeds what memory can hold.
 pub fn convert_coo_dense<T: Ring>(
     alloc: Global,
     coo: &CooMatrix<T>,
@@ -33,10 +33,10 @@ pub fn convert_coo_dense<T: Ring>(
     Ok(dense)
 }
 
-/// The dense matrix of a CSR matrix: its value at each stored place, and zero elsewhere.
+/// Returns the dense matrix of a CSR matrix: its value at each stored place, and zero elsewhere.
 ///
-/// It takes time for the rows and for all pairs, and memory for all pairs. The only error is want of memory, also where no memory could
-/// hold the size.
+/// Takes time for the rows and for all pairs, and memory for all pairs. Fails only if an allocation fails, as it does where the number of
+/// pairs exceeds what memory can hold.
 pub fn convert_csr_dense<T: Zero + Copy>(
     alloc: Global,
     csr: &CsrMatrix<T>,
@@ -50,10 +50,10 @@ pub fn convert_csr_dense<T: Zero + Copy>(
     Ok(dense)
 }
 
-/// The dense matrix of a CSC matrix: its value at each stored place, and zero elsewhere.
+/// Returns the dense matrix of a CSC matrix: its value at each stored place, and zero elsewhere.
 ///
-/// It takes time for the columns and for all pairs, and memory for all pairs. The only error is want of memory, also where no memory could
-/// hold the size.
+/// Takes time for the columns and for all pairs, and memory for all pairs. Fails only if an allocation fails, as it does where the number
+/// of pairs exceeds what memory can hold.
 pub fn convert_csc_dense<T: Zero + Copy>(
     alloc: Global,
     csc: &CscMatrix<T>,
@@ -67,7 +67,7 @@ pub fn convert_csc_dense<T: Zero + Copy>(
     Ok(dense)
 }
 
-/// The dense matrix of rows, or of columns, stands for the same plain matrix, with every pair inside as a place.
+/// The dense matrix of a CSR or CSC matrix is the same plain matrix, with every pair of indices as a place.
 pub fn to_dense_law<T: Ring>()
     ensures rows { (m : Compressed T) (d : Dense T) → IsSound m → IsDenseOfRows T.zero_value m d
         → plain_of_dense T.ring T.value d ≡ plain_full T.ring (plain_of_rows T.ring T.value m) }

@@ -13,9 +13,9 @@ use sparse_forms::csr::CsrMatrix;
 use sparse_pattern::pattern::SparsityPattern;
 use std::alloc::{AllocError, Global};
 
-/// The list of the stored places with their values, zeros among them, row after row.
+/// Returns the list of the stored places with their values, stored zeros included, row by row.
 ///
-/// It takes time for the places and the rows, and memory for the places. The only error is want of memory.
+/// Takes time for the places and the rows, and memory for the places. Fails only if an allocation fails.
 pub fn convert_csr_coo<T: Copy>(
     alloc: Global,
     csr: &CsrMatrix<T>,
@@ -26,9 +26,9 @@ pub fn convert_csr_coo<T: Copy>(
     Ok(coo_from_lists(csr.nrows(), csr.ncols(), rows, cols, values))
 }
 
-/// The list of the stored places with their values, zeros among them, column after column.
+/// Returns the list of the stored places with their values, stored zeros included, column by column.
 ///
-/// It takes time for the places and the columns, and memory for the places. The only error is want of memory.
+/// Takes time for the places and the columns, and memory for the places. Fails only if an allocation fails.
 pub fn convert_csc_coo<T: Copy>(
     alloc: Global,
     csc: &CscMatrix<T>,
@@ -39,7 +39,7 @@ pub fn convert_csc_coo<T: Copy>(
     Ok(coo_from_lists(csc.nrows(), csc.ncols(), rows, cols, values))
 }
 
-// The lane, the index and the value of each stored place, in lane order.
+// The lane, the index and the value of each stored place, lane by lane.
 fn triplet_lists<T: Copy>(
     alloc: Global,
     cs: &CsMatrix<T>,

@@ -12,10 +12,12 @@ use sparse_cs::CsMatrix;
 use sparse_forms::csr::CsrMatrix;
 use std::alloc::{AllocError, Global};
 
-/// The product of two matrices.
+/// Returns the product `a * b`.
 ///
-/// It stores the places of [`spmm_csr_pattern`], also where the sum is zero. It takes time for each scalar
-/// multiplication and for sorting the rows, and scratch memory for one row.
+/// The result stores every place of [`spmm_csr_pattern`], even where the sum is zero. `a.ncols()` must equal `b.nrows()`.
+///
+/// Gustavson's algorithm (1978): one multiplication for each triple (i, k, j), then a sort of each row. It uses scratch memory for one row
+/// of `b`. Fails only if an allocation fails.
 pub fn mul_csr<T: Ring>(
     alloc: Global,
     a: &CsrMatrix<T>,
@@ -37,7 +39,7 @@ pub fn mul_csr<T: Ring>(
     Ok(CsrMatrix::from_cs(cs))
 }
 
-// Adds row i of the product into a row.
+// Adds row i of the product to a row.
 fn add_product_row<T: Ring>(a: &CsrMatrix<T>, i: usize, b: &CsrMatrix<T>, row: &mut [T])
     requires inner { a.now.pattern.minor_dim ≡ b.now.pattern.major_dim }
     requires lane { i < a.now.pattern.major_dim }
@@ -55,7 +57,7 @@ fn add_product_row<T: Ring>(a: &CsrMatrix<T>, i: usize, b: &CsrMatrix<T>, row: &
     }
 }
 
-// Adds a multiple of row k of a matrix into a row.
+// Adds a multiple of row k of a matrix to a row.
 fn add_matrix_row<T: Ring>(scale: T, b: &CsrMatrix<T>, k: usize, row: &mut [T])
     requires lane { k < b.now.pattern.major_dim }
     requires width { length row.old ≡ b.now.pattern.minor_dim }
@@ -73,7 +75,7 @@ fn add_matrix_row<T: Ring>(scale: T, b: &CsrMatrix<T>, k: usize, row: &mut [T])
     );
 }
 
-// Adds a multiple of the values at the columns into a row.
+// Adds a multiple of the values at the columns to a row.
 fn add_row<T: Ring>(scale: T, columns: &[usize], values: &[T], row: &mut [T])
     requires fits { length values.now ≡ length columns.now }
     requires inside { All (λ j. j < length row.old) columns.now }
@@ -87,7 +89,7 @@ fn add_row<T: Ring>(scale: T, columns: &[usize], values: &[T], row: &mut [T])
     }
 }
 
-// Moves the values at the columns out of a row, which is zero there afterwards.
+// Appends the values of a row at the columns to `values`, and sets the row to zero there.
 fn gather_row<T: Ring>(columns: &[usize], row: &mut [T], values: &mut Vec<T>)
     requires rising { IsStrictlyIncreasing columns.now }
     requires inside { All (λ j. j < length row.old) columns.now }
