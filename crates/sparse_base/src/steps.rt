@@ -64,24 +64,3 @@ impl Steps {
 }
 
 const _: () = prove!(size_of::<Steps>() == 0);
-
-#[cfg(test)]
-mod tests {
-    use super::*;
-
-    fn two_steps() -> Steps
-        ensures { result ≡ 2 }
-    {
-        let mut steps = Steps::new();
-        steps.tick();
-        steps.tick();
-        steps
-    }
-
-    #[test]
-    fn counts_two_steps(rt: HostRuntime) {
-        let steps = two_steps();
-        assert_eq!(rt; size_of::<Steps>(), 0);
-        drop(steps);
-    }
-}

@@ -156,7 +156,7 @@ impl SparsityPattern {
         requires { IsValid (raw_of major_dim minor_dim major_offsets.items minor_indices.items) }
         ensures { result ≡ raw_of major_dim minor_dim major_offsets.items minor_indices.items }
     {
-        // The size is a part of the value that contracts see; the arrays alone make the pattern.
+        // The number of lanes is the length of the offsets less one: only the contract reads this argument.
         let _ = major_dim;
         SparsityPattern {
             major_offsets,

@@ -1,0 +1,19 @@
+//! Tests of the crates below the compressed forms: scalars, counting by keys, patterns, triplet lists and dense matrices.
+#![tactic(auto)]
+
+#[cfg(test)]
+mod counting;
+#[cfg(test)]
+mod dense;
+#[cfg(test)]
+mod integers;
+#[cfg(test)]
+mod patterns;
+#[cfg(test)]
+mod push_matrix;
+#[cfg(test)]
+mod steps;
+#[cfg(test)]
+mod transposes;
+#[cfg(test)]
+mod triplets;
