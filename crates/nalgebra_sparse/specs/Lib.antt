@@ -11,10 +11,8 @@ pub use Rattle.sparse_algebra.specs.RingMaps
 pub use Rattle.sparse_algebra.specs.Sums
 pub use Rattle.sparse_algebra.specs.Whole
 pub use Rattle.sparse_algebra.specs.Wrapping
-
 -- counting by keys
 pub use Rattle.sparse_counting.specs.Counting
-
 -- patterns, format errors and entries
 pub use Rattle.sparse_pattern.specs.FirstFault
 pub use Rattle.sparse_pattern.specs.PatternFaults
@@ -23,7 +21,6 @@ pub use Rattle.sparse_pattern.specs.Refill
 pub use Rattle.sparse_pattern.specs.Rest
 pub use Rattle.sparse_pattern.specs.SparseEntries
 pub use Rattle.sparse_pattern.specs.TransposedPattern
-
 -- coordinate lists and dense matrices
 pub use Rattle.sparse_base.specs.Blocks
 pub use Rattle.sparse_base.specs.Coo
@@ -35,7 +32,6 @@ pub use Rattle.sparse_base.specs.DenseEquality
 pub use Rattle.sparse_base.specs.DenseLending
 pub use Rattle.sparse_base.specs.DensePlain
 pub use Rattle.sparse_base.specs.TripletFaults
-
 -- compressed matrices, their lanes and entries
 pub use Rattle.sparse_cs.specs.Compressed
 pub use Rattle.sparse_cs.specs.Filter
@@ -49,38 +45,31 @@ pub use Rattle.sparse_cs.specs.StoredEntries
 pub use Rattle.sparse_cs.specs.TransposedMatrix
 pub use Rattle.sparse_cs.specs.UnsortedFaults
 pub use Rattle.sparse_cs.specs.Writing
-
 -- rows and columns
 pub use Rattle.sparse_lanes.specs.ColWriting
 pub use Rattle.sparse_lanes.specs.RowWriting
-
 -- CSR and CSC matrices
 pub use Rattle.sparse_forms.specs.CscWriting
 pub use Rattle.sparse_forms.specs.CsrWriting
-
 -- conversions
 pub use Rattle.sparse_convert.specs.FromDense
 pub use Rattle.sparse_convert.specs.OneMatrix
 pub use Rattle.sparse_convert.specs.ToDense
-
 -- operations
 pub use Rattle.sparse_ops.specs.Products
-
 -- the grammar and the meaning of Matrix Market texts
 pub use Rattle.sparse_parser.specs.Bytes
 pub use Rattle.sparse_parser.specs.Errors
 pub use Rattle.sparse_parser.specs.Grammar
 pub use Rattle.sparse_parser.specs.Header
 pub use Rattle.sparse_parser.specs.Meaning
-pub use Rattle.sparse_parser.specs.Reading
-
+pub use Rattle.sparse_parser.specs.Words
 -- sinks and written texts
 pub use Rattle.sparse_io.specs.Export
 pub use Rattle.sparse_io.specs.Out
 pub use Rattle.sparse_io.specs.Sink
 pub use Rattle.sparse_io.specs.Written
-
 -- expressions and `run`
+pub use Rattle.sparse_expr.specs.PostfixWords
 pub use Rattle.sparse_expr.specs.Run
 pub use Rattle.sparse_expr.specs.Value
-pub use Rattle.sparse_expr.specs.Words

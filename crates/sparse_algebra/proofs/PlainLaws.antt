@@ -37,25 +37,30 @@ any_below-none : (n : ℕ) → any_below n (λ k. false) ≡ false
 any_below-none zero = refl
 any_below-none (suc n) = ap (λ b. b || false) (any_below-none n)
 
-any_below-or : (n : ℕ) (s t : ℕ → Bool) → any_below n (λ k. s k || t k) ≡ (any_below n s || any_below n t)
+any_below-or : (n : ℕ) (s t : ℕ → Bool)
+    → any_below n (λ k. s k || t k) ≡ (any_below n s || any_below n t)
 any_below-or zero s t = refl
 any_below-or (suc n) s t = ap (λ b. b || (s n || t n)) (any_below-or n s t) ∙ or_cross (any_below n s) (any_below n t) (s n) (t n)
 
-any_below-and_left : (n : ℕ) (b : Bool) (t : ℕ → Bool) → any_below n (λ k. b && t k) ≡ (b && any_below n t)
+any_below-and_left : (n : ℕ) (b : Bool) (t : ℕ → Bool)
+    → any_below n (λ k. b && t k) ≡ (b && any_below n t)
 any_below-and_left n true t = refl
 any_below-and_left n false t = any_below-none n
 
-any_below-and_right : (n : ℕ) (t : ℕ → Bool) (b : Bool) → any_below n (λ k. t k && b) ≡ (any_below n t && b)
+any_below-and_right : (n : ℕ) (t : ℕ → Bool) (b : Bool)
+    → any_below n (λ k. t k && b) ≡ (any_below n t && b)
 any_below-and_right zero t b = refl
 any_below-and_right (suc n) t b = ap (λ c. c || (t n && b)) (any_below-and_right n t b) ∙ sym (or-and (any_below n t) (t n) b)
 
 -- whether some pair passes, in true_or_false order
-any_below-exchange : (m n : ℕ) (t : ℕ → ℕ → Bool) → any_below m (λ i. any_below n (λ j. t i j)) ≡ any_below n (λ j. any_below m (λ i. t i j))
+any_below-exchange : (m n : ℕ) (t : ℕ → ℕ → Bool)
+    → any_below m (λ i. any_below n (λ j. t i j)) ≡ any_below n (λ j. any_below m (λ i. t i j))
 any_below-exchange zero n t = sym (any_below-none n)
 any_below-exchange (suc m) n t = ap (λ b. b || any_below n (λ j. t m j)) (any_below-exchange m n t) ∙ sym (any_below-or n (λ j. any_below m (λ i. t i j)) (λ j. t m j))
 
 -- some l has some k with a k and b k l, and c l: some k has a k, and some l with b k l and c l
-any_below-assoc : (m n : ℕ) (a : ℕ → Bool) (b : ℕ → ℕ → Bool) (c : ℕ → Bool) → any_below n (λ l. any_below m (λ k. a k && b k l) && c l) ≡ any_below m (λ k. a k && any_below n (λ l. b k l && c l))
+any_below-assoc : (m n : ℕ) (a : ℕ → Bool) (b : ℕ → ℕ → Bool) (c : ℕ → Bool)
+    → any_below n (λ l. any_below m (λ k. a k && b k l) && c l) ≡ any_below m (λ k. a k && any_below n (λ l. b k l && c l))
 any_below-assoc m n a b c =
     any_below-same n _ (λ l. any_below m (λ k. a k && (b k l && c l))) (λ l. sym (any_below-and_right m (λ k. a k && b k l) (c l)) ∙ any_below-same m _ _ (λ k. and_assoc (a k) (b k l) (c l)))
     ∙ any_below-exchange n m (λ l k. a k && (b k l && c l))
@@ -75,10 +80,12 @@ module _ (R : CommRing) where
   zero_mul : (c : R.Carrier) → R.mul R.zero c ≡ R.zero
   zero_mul c = R.laws.mul_comm R.zero c ∙ mul_zero R c
 
-  sum_below-none : (n : ℕ) (f : ℕ → R.Carrier) → ((k : ℕ) → k < n → f k ≡ R.zero) → sum_below R n f ≡ R.zero
+  sum_below-none : (n : ℕ) (f : ℕ → R.Carrier) → ((k : ℕ) → k < n → f k ≡ R.zero)
+      → sum_below R n f ≡ R.zero
   sum_below-none n f h = sum_below-same R n f (λ k. R.zero) h ∙ sum_below-zero R n
 
-  sum_below-one : (n i : ℕ) (f : ℕ → R.Carrier) → i < n → ((k : ℕ) → k ≢ i → f k ≡ R.zero) → sum_below R n f ≡ f i
+  sum_below-one : (n i : ℕ) (f : ℕ → R.Carrier) → i < n → ((k : ℕ) → k ≢ i → f k ≡ R.zero)
+      → sum_below R n f ≡ f i
   sum_below-one zero i f lt h = absurd (omega arith)
   sum_below-one (suc n) i f lt h = elim (true_or_false (nat_eq n i)) [
     | inl same ↦
@@ -94,17 +101,20 @@ module _ (R : CommRing) where
 
   -- ---- products
 
-  pub product_associative : (a b c : Plain R) → plain_product R (plain_product R a b) c ≡ plain_product R a (plain_product R b c)
+  pub product_associative : (a b c : Plain R)
+      → plain_product R (plain_product R a b) c ≡ plain_product R a (plain_product R b c)
   product_associative a b c = same_plain (plain_product R (plain_product R a b) c) (plain_product R a (plain_product R b c)) refl refl
       (λ i j. any_below-assoc a.cols b.cols (λ k. a.has i k) b.has (λ l. c.has l j))
       (λ i j. product_assoc R a.cols b.cols (λ k. a.value i k) b.value (λ l. c.value l j))
 
-  pub product-sum : (a b c : Plain R) → plain_product R a (plain_sum R b c) ≡ plain_sum R (plain_product R a b) (plain_product R a c)
+  pub product-sum : (a b c : Plain R)
+      → plain_product R a (plain_sum R b c) ≡ plain_sum R (plain_product R a b) (plain_product R a c)
   product-sum a b c = same_plain (plain_product R a (plain_sum R b c)) (plain_sum R (plain_product R a b) (plain_product R a c)) refl refl
       (λ i j. any_below-same a.cols _ _ (λ k. and-or (a.has i k) (b.has k j) (c.has k j)) ∙ any_below-or a.cols _ _)
       (λ i j. sum_below-same R a.cols _ _ (λ k _. R.laws.distrib (a.value i k) (b.value k j) (c.value k j)) ∙ sum_below-add R a.cols _ _)
 
-  pub sum-product : (a b c : Plain R) → a.cols ≡ b.cols → plain_product R (plain_sum R a b) c ≡ plain_sum R (plain_product R a c) (plain_product R b c)
+  pub sum-product : (a b c : Plain R) → a.cols ≡ b.cols
+      → plain_product R (plain_sum R a b) c ≡ plain_sum R (plain_product R a c) (plain_product R b c)
   sum-product a b c e = same_plain (plain_product R (plain_sum R a b) c) (plain_sum R (plain_product R a c) (plain_product R b c)) refl refl
       (λ i j. any_below-same a.cols _ _ (λ k. or-and (a.has i k) (b.has i k) (c.has k j)) ∙ any_below-or a.cols _ _ ∙ ap (λ n. any_below a.cols (λ k. a.has i k && c.has k j) || any_below n (λ k. b.has i k && c.has k j)) e)
       (λ i j.
@@ -124,7 +134,8 @@ module _ (R : CommRing) where
   pub proper_negation : (a : Plain R) → IsProper a → IsProper (plain_negation R a)
   proper_negation a p i j h = ap R.neg (p i j h) ∙ neg_zero
 
-  pub proper_difference : (a b : Plain R) → IsProper a → IsProper b → IsProper (plain_difference R a b)
+  pub proper_difference : (a b : Plain R) → IsProper a → IsProper b
+      → IsProper (plain_difference R a b)
   proper_difference a b pa pb = proper_sum a (plain_negation R b) pa (proper_negation b pb)
 
   pub proper_scaled : (s : R.Carrier) (a : Plain R) → IsProper a → IsProper (plain_scaled R s a)
@@ -139,7 +150,8 @@ module _ (R : CommRing) where
   pub proper_kept : (test : ℕ → ℕ → Bool) (a : Plain R) → IsProper (plain_kept R test a)
   proper_kept test a i j h = where_no _ (a.value i j) h
 
-  pub proper_plain_of_triplets : {T : Type 0} (f : T → R.Carrier) (rows cols : ℕ) (ts : List (ℕ × ℕ × T)) → IsProper (plain_of_triplets R f rows cols ts)
+  pub proper_plain_of_triplets : {T : Type 0} (f : T → R.Carrier) (rows cols : ℕ) (ts : List (ℕ × ℕ × T))
+      → IsProper (plain_of_triplets R f rows cols ts)
   proper_plain_of_triplets f rows cols [] i j h = refl
   proper_plain_of_triplets f rows cols (t ∷ ts) i j h =
       let parts = neither (is_at i j t) (list_any (is_at i j) ts) h in
@@ -147,7 +159,8 @@ module _ (R : CommRing) where
 
   -- ---- places inside the sizes
 
-  pub within_plain_of_triplets : {T : Type 0} (f : T → R.Carrier) (rows cols : ℕ) (ts : List (ℕ × ℕ × T)) → All (λ t. (t.0 < rows) × (t.1 < cols)) ts → IsWithin (plain_of_triplets R f rows cols ts)
+  pub within_plain_of_triplets : {T : Type 0} (f : T → R.Carrier) (rows cols : ℕ) (ts : List (ℕ × ℕ × T))
+      → All (λ t. (t.0 < rows) × (t.1 < cols)) ts → IsWithin (plain_of_triplets R f rows cols ts)
   within_plain_of_triplets f rows cols [] inside i j h = cc
   within_plain_of_triplets f rows cols (t ∷ ts) inside i j h = elim (or_cases (is_at i j t) (list_any (is_at i j) ts) h) [
     | inl here ↦
@@ -159,7 +172,8 @@ module _ (R : CommRing) where
     | inr later ↦ within_plain_of_triplets f rows cols ts (λ k d lt. inside (suc k) d (omega arith)) i j later
   ]
 
-  pub within_sum : (a b : Plain R) → a.rows ≡ b.rows → a.cols ≡ b.cols → IsWithin a → IsWithin b → IsWithin (plain_sum R a b)
+  pub within_sum : (a b : Plain R) → a.rows ≡ b.rows → a.cols ≡ b.cols → IsWithin a → IsWithin b
+      → IsWithin (plain_sum R a b)
   within_sum a b rows cols wa wb i j h = elim (or_cases (a.has i j) (b.has i j) h) [
     | inl left ↦ wa i j left
     | inr right ↦ let w = wb i j right in (omega (arith, w.0), omega (arith, w.1))
@@ -181,12 +195,14 @@ module _ (R : CommRing) where
       let lt : i < n = (Decides-ltb i n).0 both.1 in
       (lt, subst (λ k. k < n) at lt)
 
-  pub within_kept : (test : ℕ → ℕ → Bool) (a : Plain R) → IsWithin a → IsWithin (plain_kept R test a)
+  pub within_kept : (test : ℕ → ℕ → Bool) (a : Plain R) → IsWithin a
+      → IsWithin (plain_kept R test a)
   within_kept test a w i j h = w i j (and_parts _ _ h).0
 
   -- ---- the identity
 
-  pub identity-product : (n : ℕ) (a : Plain R) → n ≡ a.rows → IsProper a → IsWithin a → plain_product R (plain_identity R n) a ≡ a
+  pub identity-product : (n : ℕ) (a : Plain R) → n ≡ a.rows → IsProper a → IsWithin a
+      → plain_product R (plain_identity R n) a ≡ a
   identity-product n a e proper within = same_plain (plain_product R (plain_identity R n) a) a e refl places values
     where
       on_diagonal : (i : ℕ) → i < n → (nat_eq i i && nat_lt i n) ≡ true
@@ -206,7 +222,8 @@ module _ (R : CommRing) where
           let lt : i < n = omega (arith, (within i j h).0) in
           (any_is n (λ k. (nat_eq i k && nat_lt i n) && a.has k j)).1 (i, lt, and_both _ _ (on_diagonal i lt) h))
 
-      values : (i j : ℕ) → sum_below R n (λ k. R.mul (where_true R (nat_eq i k && nat_lt i n) R.one) (a.value k j)) ≡ a.value i j
+      values : (i j : ℕ)
+          → sum_below R n (λ k. R.mul (where_true R (nat_eq i k && nat_lt i n) R.one) (a.value k j)) ≡ a.value i j
       values i j = elim (true_or_false (nat_lt i n)) [
         | inl inside ↦
             let lt : i < n = (Decides-ltb i n).0 inside in
@@ -230,7 +247,8 @@ module _ (R : CommRing) where
       same : (i j : ℕ) → (nat_eq j i && nat_lt j n) ≡ (nat_eq i j && nat_lt i n)
       same i j = grind (arith, nat_tests)
 
-  pub product-identity : (n : ℕ) (a : Plain R) → n ≡ a.cols → IsProper a → IsWithin a → plain_product R a (plain_identity R n) ≡ a
+  pub product-identity : (n : ℕ) (a : Plain R) → n ≡ a.cols → IsProper a → IsWithin a
+      → plain_product R a (plain_identity R n) ≡ a
   product-identity n a e proper within =
       let turned = identity-product n (plain_transpose R a) e (proper_transpose a proper) (within_transpose a within) in
       ap (plain_transpose R) (transpose_product R a (plain_identity R n) (sym e) ∙ ap (λ b. plain_product R b (plain_transpose R a)) (transpose_identity n) ∙ turned)

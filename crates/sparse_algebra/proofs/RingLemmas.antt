@@ -11,7 +11,8 @@ module _ (R : CommRing) where
   add_swap a b c = sym (R.laws.add_assoc a b c) ∙ ap (λ x. R.add x c) (R.laws.add_comm a b) ∙ R.laws.add_assoc b a c
 
   -- (a + b) + (c + d) is (a + c) + (b + d)
-  pub add_cross : (a b c d : R.Carrier) → R.add (R.add a b) (R.add c d) ≡ R.add (R.add a c) (R.add b d)
+  pub add_cross : (a b c d : R.Carrier)
+      → R.add (R.add a b) (R.add c d) ≡ R.add (R.add a c) (R.add b d)
   add_cross a b c d = R.laws.add_assoc a b (R.add c d) ∙ ap (R.add a) (add_swap b c d) ∙ sym (R.laws.add_assoc a c (R.add b d))
 
   -- a sum's inverse is unique: a + b is zero where b is -a

@@ -74,40 +74,51 @@ module _ (w : Width) where
 
   -- ---- plain matrices
 
-  pub wrapped-sum : (a b : Plain whole_ring) → plain_wrapped w (plain_sum whole_ring a b) ≡ plain_sum (wrapping_ring w) (plain_wrapped w a) (plain_wrapped w b)
+  pub wrapped-sum : (a b : Plain whole_ring)
+      → plain_wrapped w (plain_sum whole_ring a b) ≡ plain_sum (wrapping_ring w) (plain_wrapped w a) (plain_wrapped w b)
   wrapped-sum = map-sum whole_ring (wrapping_ring w) (wrapped w) wrapped-IsRingMap
 
-  pub wrapped-negation : (a : Plain whole_ring) → plain_wrapped w (plain_negation whole_ring a) ≡ plain_negation (wrapping_ring w) (plain_wrapped w a)
+  pub wrapped-negation : (a : Plain whole_ring)
+      → plain_wrapped w (plain_negation whole_ring a) ≡ plain_negation (wrapping_ring w) (plain_wrapped w a)
   wrapped-negation = map-negation whole_ring (wrapping_ring w) (wrapped w) wrapped-IsRingMap
 
-  pub wrapped-difference : (a b : Plain whole_ring) → plain_wrapped w (plain_difference whole_ring a b) ≡ plain_difference (wrapping_ring w) (plain_wrapped w a) (plain_wrapped w b)
+  pub wrapped-difference : (a b : Plain whole_ring)
+      → plain_wrapped w (plain_difference whole_ring a b) ≡ plain_difference (wrapping_ring w) (plain_wrapped w a) (plain_wrapped w b)
   wrapped-difference = map-difference whole_ring (wrapping_ring w) (wrapped w) wrapped-IsRingMap
 
-  pub wrapped-scaled : (s : ℤ) (a : Plain whole_ring) → plain_wrapped w (plain_scaled whole_ring s a) ≡ plain_scaled (wrapping_ring w) (wrapped w s) (plain_wrapped w a)
+  pub wrapped-scaled : (s : ℤ) (a : Plain whole_ring)
+      → plain_wrapped w (plain_scaled whole_ring s a) ≡ plain_scaled (wrapping_ring w) (wrapped w s) (plain_wrapped w a)
   wrapped-scaled = map-scaled whole_ring (wrapping_ring w) (wrapped w) wrapped-IsRingMap
 
-  pub wrapped-product : (a b : Plain whole_ring) → plain_wrapped w (plain_product whole_ring a b) ≡ plain_product (wrapping_ring w) (plain_wrapped w a) (plain_wrapped w b)
+  pub wrapped-product : (a b : Plain whole_ring)
+      → plain_wrapped w (plain_product whole_ring a b) ≡ plain_product (wrapping_ring w) (plain_wrapped w a) (plain_wrapped w b)
   wrapped-product = map-product whole_ring (wrapping_ring w) (wrapped w) wrapped-IsRingMap
 
-  pub wrapped-identity : (n : ℕ) → plain_wrapped w (plain_identity whole_ring n) ≡ plain_identity (wrapping_ring w) n
+  pub wrapped-identity : (n : ℕ)
+      → plain_wrapped w (plain_identity whole_ring n) ≡ plain_identity (wrapping_ring w) n
   wrapped-identity = map-identity whole_ring (wrapping_ring w) (wrapped w) wrapped-IsRingMap
 
-  pub wrapped-kept : (test : ℕ → ℕ → Bool) (a : Plain whole_ring) → plain_wrapped w (plain_kept whole_ring test a) ≡ plain_kept (wrapping_ring w) test (plain_wrapped w a)
+  pub wrapped-kept : (test : ℕ → ℕ → Bool) (a : Plain whole_ring)
+      → plain_wrapped w (plain_kept whole_ring test a) ≡ plain_kept (wrapping_ring w) test (plain_wrapped w a)
   wrapped-kept = map-kept whole_ring (wrapping_ring w) (wrapped w) wrapped-IsRingMap
 
   -- triplets of scalars that mean the classes of numbers that fit
-  pub wrapped-triplets : {T : Type 0} (number : T → ℤ) (rows cols : ℕ) (ts : List (ℕ × ℕ × T)) → ((x : T) → FitsSigned w (number x)) → plain_wrapped w (plain_of_triplets whole_ring number rows cols ts) ≡ plain_of_triplets (wrapping_ring w) (λ x. class_of w (number x)) rows cols ts
+  pub wrapped-triplets : {T : Type 0} (number : T → ℤ) (rows cols : ℕ) (ts : List (ℕ × ℕ × T))
+      → ((x : T) → FitsSigned w (number x))
+      → plain_wrapped w (plain_of_triplets whole_ring number rows cols ts) ≡ plain_of_triplets (wrapping_ring w) (λ x. class_of w (number x)) rows cols ts
   wrapped-triplets {T} number rows cols ts fits =
       map-triplets whole_ring (wrapping_ring w) (wrapped w) wrapped-IsRingMap number rows cols ts
       ∙ ap (λ (f : T → Residue (2 ^ bits w)). plain_of_triplets (wrapping_ring w) f rows cols ts) (λ k x. wrapped_fits (number x) (fits x) k)
 
-  pub plain_wrapped-numbers : (a : Plain (wrapping_ring w)) → plain_wrapped w (plain_numbers w a) ≡ a
+  pub plain_wrapped-numbers : (a : Plain (wrapping_ring w))
+      → plain_wrapped w (plain_numbers w a) ≡ a
   plain_wrapped-numbers a = same_plain (plain_wrapped w (plain_numbers w a)) a refl refl (λ i j. refl) (λ i j. wrapped-number_of (a.value i j))
 
   -- ---- entries
 
   -- what is wrapped from whole numbers shows those that fit
-  pub wrapped_shows : (a : Plain (wrapping_ring w)) (z : Plain whole_ring) → plain_wrapped w z ≡ a → Shows w a z
+  pub wrapped_shows : (a : Plain (wrapping_ring w)) (z : Plain whole_ring) → plain_wrapped w z ≡ a
+      → Shows w a z
   wrapped_shows a z e i j f = ap (λ b. number_of w (b.value i j)) (sym e) ∙ number_of-wrapped (z.value i j) f
 
   module _ (a b : Plain (wrapping_ring w)) where
@@ -124,8 +135,11 @@ module _ (w : Width) where
     pub negation_shows : Shows w (plain_negation (wrapping_ring w) a) (plain_negation whole_ring (plain_numbers w a))
     negation_shows = wrapped_shows _ _ (wrapped-negation (plain_numbers w a) ∙ ap (plain_negation (wrapping_ring w)) (plain_wrapped-numbers a))
 
-    pub scaled_shows : (s : Residue (2 ^ bits w)) → Shows w (plain_scaled (wrapping_ring w) s a) (plain_scaled whole_ring (number_of w s) (plain_numbers w a))
+    pub scaled_shows : (s : Residue (2 ^ bits w))
+        → Shows w (plain_scaled (wrapping_ring w) s a) (plain_scaled whole_ring (number_of w s) (plain_numbers w a))
     scaled_shows s = wrapped_shows _ _ (wrapped-scaled (number_of w s) (plain_numbers w a) ∙ ap (λ c. plain_scaled (wrapping_ring w) c (plain_wrapped w (plain_numbers w a))) (wrapped-number_of s) ∙ ap (plain_scaled (wrapping_ring w) s) (plain_wrapped-numbers a))
 
-  pub triplets_show : {T : Type 0} (number : T → ℤ) (rows cols : ℕ) (ts : List (ℕ × ℕ × T)) → ((x : T) → FitsSigned w (number x)) → Shows w (plain_of_triplets (wrapping_ring w) (λ x. class_of w (number x)) rows cols ts) (plain_of_triplets whole_ring number rows cols ts)
+  pub triplets_show : {T : Type 0} (number : T → ℤ) (rows cols : ℕ) (ts : List (ℕ × ℕ × T))
+      → ((x : T) → FitsSigned w (number x))
+      → Shows w (plain_of_triplets (wrapping_ring w) (λ x. class_of w (number x)) rows cols ts) (plain_of_triplets whole_ring number rows cols ts)
   triplets_show number rows cols ts fits = wrapped_shows _ _ (wrapped-triplets number rows cols ts fits)

@@ -33,10 +33,13 @@ module _ {C : Type 0} {eq : C → C → Bool} {zero one : C} {add mul : C → C 
   pub class_set : IsSet Class
   class_set = Quot-set
 
-  abbrev pub class_map : (f : C → C) → ((a b : C) → eq a b ≡ true → eq (f a) (f b) ≡ true) → Class → Class
+  abbrev pub class_map : (f : C → C) → ((a b : C) → eq a b ≡ true → eq (f a) (f b) ≡ true) → Class
+      → Class
   class_map f h p = lift class_set (λ a. class (f a)) (λ a b e. sound (h a b e)) p
 
-  abbrev pub class_map2 : (f : C → C → C) → ((a b c d : C) → eq a b ≡ true → eq c d ≡ true → eq (f a c) (f b d) ≡ true) → Class → Class → Class
+  abbrev pub class_map2 : (f : C → C → C)
+      → ((a b c d : C) → eq a b ≡ true → eq c d ≡ true → eq (f a c) (f b d) ≡ true) → Class → Class
+      → Class
   class_map2 f h p q =
       lift class_set (λ a. lift class_set (λ b. class (f a b)) (λ b c e. sound (h a a b c (l.reflexive a) e)) q) (λ a b e. ind (λ q. class_set (lift class_set (λ c. class (f a c)) (λ c d k. sound (h a a c d (l.reflexive a) k)) q) (lift class_set (λ c. class (f b c)) (λ c d k. sound (h b b c d (l.reflexive b) k)) q)) (λ c. sound (h a b c c e (l.reflexive c))) q) p
 
@@ -53,10 +56,13 @@ module _ {C : Type 0} {eq : C → C → Bool} {zero one : C} {add mul : C → C 
   same_one : (f g : Class → Class) → ((a : C) → f (class a) ≡ g (class a)) → (p : Class) → f p ≡ g p
   same_one f g h p = ind {β = λ p. f p ≡ g p} (λ p. class_set (f p) (g p)) h p
 
-  same_two : (f g : Class → Class → Class) → ((a b : C) → f (class a) (class b) ≡ g (class a) (class b)) → (p q : Class) → f p q ≡ g p q
+  same_two : (f g : Class → Class → Class)
+      → ((a b : C) → f (class a) (class b) ≡ g (class a) (class b)) → (p q : Class) → f p q ≡ g p q
   same_two f g h p q = same_one (λ p. f p q) (λ p. g p q) (λ a. same_one (f (class a)) (g (class a)) (h a) q) p
 
-  same_three : (f g : Class → Class → Class → Class) → ((a b c : C) → f (class a) (class b) (class c) ≡ g (class a) (class b) (class c)) → (p q r : Class) → f p q r ≡ g p q r
+  same_three : (f g : Class → Class → Class → Class)
+      → ((a b c : C) → f (class a) (class b) (class c) ≡ g (class a) (class b) (class c))
+      → (p q r : Class) → f p q r ≡ g p q r
   same_three f g h p q r = same_one (λ p. f p q r) (λ p. g p q r) (λ a. same_two (f (class a)) (g (class a)) (h a) q r) p
 
   pub class_laws : RingLaws (class zero) (class one) class_add class_mul class_neg

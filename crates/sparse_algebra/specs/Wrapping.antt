@@ -20,7 +20,8 @@ abbrev pub class_of : (w : Width) → ℤ → Residue (2 ^ bits w)
 class_of w z = residue (2 ^ bits w) (pow_pos (bits w)) (cast_unsigned w z)
 
 -- a number below 2 ^ bits w, read as signed, has its class
-pub class_of_bits : (w : Width) (n : ℕ) → class_of w (cast_signed w (n % 2 ^ bits w)) ≡ residue (2 ^ bits w) (pow_pos (bits w)) n
+pub class_of_bits : (w : Width) (n : ℕ)
+    → class_of w (cast_signed w (n % 2 ^ bits w)) ≡ residue (2 ^ bits w) (pow_pos (bits w)) n
 class_of_bits w n =
     let small : n % 2 ^ bits w < 2 ^ bits w = mod-lt n (pow_pos (bits w)) in
     same_class (2 ^ bits w) (pow_pos (bits w)) _ _ (ap (λ x. x % 2 ^ bits w) (of_z-to_z w (n % 2 ^ bits w) small) ∙ mod-mod n (2 ^ bits w))
@@ -30,27 +31,32 @@ pub unsigned_below : (w : Width) (z : ℤ) → FitsSigned w z → cast_unsigned 
 unsigned_below w z f = (Fits-of_z f).fits
 
 module _ (w : Width) (x y r : ℤ) where
-  pub class_of_add : r ≡ int_wrapping_add w x y → class_of w r ≡ (wrapping_ring w).add (class_of w x) (class_of w y)
+  pub class_of_add : r ≡ int_wrapping_add w x y
+      → class_of w r ≡ (wrapping_ring w).add (class_of w x) (class_of w y)
   class_of_add e =
       ap (class_of w) e ∙ class_of_bits w (cast_unsigned w x + cast_unsigned w y) ∙ same_class (2 ^ bits w) (pow_pos (bits w)) _ _ (add-mod (cast_unsigned w x) (cast_unsigned w y) (2 ^ bits w))
 
-  pub class_of_mul : r ≡ int_wrapping_mul w x y → class_of w r ≡ (wrapping_ring w).mul (class_of w x) (class_of w y)
+  pub class_of_mul : r ≡ int_wrapping_mul w x y
+      → class_of w r ≡ (wrapping_ring w).mul (class_of w x) (class_of w y)
   class_of_mul e =
       ap (class_of w) e ∙ class_of_bits w (cast_unsigned w x * cast_unsigned w y)
       ∙ same_class (2 ^ bits w) (pow_pos (bits w)) _ _ (sym (mul-mod_left (cast_unsigned w x) (cast_unsigned w y % 2 ^ bits w) (2 ^ bits w) ∙ mul-mod_right (cast_unsigned w x) (cast_unsigned w y) (2 ^ bits w)))
 
-pub class_of_neg : (w : Width) (x r : ℤ) → FitsSigned w x → r ≡ int_wrapping_neg w x → class_of w r ≡ (wrapping_ring w).neg (class_of w x)
+pub class_of_neg : (w : Width) (x r : ℤ) → FitsSigned w x → r ≡ int_wrapping_neg w x
+    → class_of w r ≡ (wrapping_ring w).neg (class_of w x)
 class_of_neg w x r f e =
     ap (class_of w) e ∙ class_of_bits w (2 ^ bits w - cast_unsigned w x)
     ∙ same_class (2 ^ bits w) (pow_pos (bits w)) _ _ (ap (λ n. (2 ^ bits w - n) % 2 ^ bits w) (sym (mod-eq_of_lt (unsigned_below w x f))))
 
-pub class_one_to_one : (w : Width) (x y : ℤ) → FitsSigned w x → FitsSigned w y → class_of w x ≡ class_of w y → x ≡ y
+pub class_one_to_one : (w : Width) (x y : ℤ) → FitsSigned w x → FitsSigned w y
+    → class_of w x ≡ class_of w y → x ≡ y
 class_one_to_one w x y f g e =
     let p : cast_unsigned w x % 2 ^ bits w ≡ cast_unsigned w y % 2 ^ bits w = ap (λ a. a.number) e in
     let q : cast_unsigned w x ≡ cast_unsigned w y = sym (mod-eq_of_lt (unsigned_below w x f)) ∙ p ∙ mod-eq_of_lt (unsigned_below w y g) in
     sym (to_z-of_z w x f) ∙ ap (cast_signed w) q ∙ to_z-of_z w y g
 
-pub class_decides : (w : Width) (x y : ℤ) → FitsSigned w x → FitsSigned w y → (int_eq x y ≡ true) ↔ (class_of w x ≡ class_of w y)
+pub class_decides : (w : Width) (x y : ℤ) → FitsSigned w x → FitsSigned w y
+    → (int_eq x y ≡ true) ↔ (class_of w x ≡ class_of w y)
 class_decides w x y f g = (λ e. ap (class_of w) ((Decides-int_eq x y).0 e), λ e. (Decides-int_eq x y).1 (class_one_to_one w x y f g e))
 
 pub fits_zero : (w : Width) → FitsSigned w (pos 0)

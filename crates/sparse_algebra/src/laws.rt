@@ -54,10 +54,13 @@ pub fn proper_law<T: Ring>()
     ensures triplets { (rows cols : ℕ) (ts : List (ℕ × ℕ × T))
         → IsProper (plain_of_triplets T.ring T.value rows cols ts) }
     ensures sum { (a b : Plain T.ring) → IsProper a → IsProper b → IsProper (plain_sum T.ring a b) }
-    ensures difference { (a b : Plain T.ring) → IsProper a → IsProper b → IsProper (plain_difference T.ring a b) }
+    ensures difference { (a b : Plain T.ring) → IsProper a → IsProper b
+        → IsProper (plain_difference T.ring a b) }
     ensures negation { (a : Plain T.ring) → IsProper a → IsProper (plain_negation T.ring a) }
-    ensures scaled { (s : T.ring.Carrier) (a : Plain T.ring) → IsProper a → IsProper (plain_scaled T.ring s a) }
-    ensures product { (a b : Plain T.ring) → IsProper a → IsProper b → IsProper (plain_product T.ring a b) }
+    ensures scaled { (s : T.ring.Carrier) (a : Plain T.ring) → IsProper a
+        → IsProper (plain_scaled T.ring s a) }
+    ensures product { (a b : Plain T.ring) → IsProper a → IsProper b
+        → IsProper (plain_product T.ring a b) }
     ensures transpose { (a : Plain T.ring) → IsProper a → IsProper (plain_transpose T.ring a) }
     ensures identity { (n : ℕ) → IsProper (plain_identity T.ring n) }
     ensures kept { (test : ℕ → ℕ → Bool) (a : Plain T.ring) → IsProper (plain_kept T.ring test a) }
@@ -68,7 +71,8 @@ pub fn within_law<T: Ring>()
     ensures triplets { (rows cols : ℕ) (ts : List (ℕ × ℕ × T))
         → All (λ t. (t.0 < rows) × (t.1 < cols)) ts
         → IsWithin (plain_of_triplets T.ring T.value rows cols ts) }
-    ensures sum { (a b : Plain T.ring) → a.rows ≡ b.rows → a.cols ≡ b.cols → IsWithin a → IsWithin b → IsWithin (plain_sum T.ring a b) }
+    ensures sum { (a b : Plain T.ring) → a.rows ≡ b.rows → a.cols ≡ b.cols → IsWithin a → IsWithin b
+        → IsWithin (plain_sum T.ring a b) }
     ensures difference { (a b : Plain T.ring)
         → a.rows ≡ b.rows
         → a.cols ≡ b.cols
@@ -76,9 +80,12 @@ pub fn within_law<T: Ring>()
         → IsWithin b
         → IsWithin (plain_difference T.ring a b) }
     ensures negation { (a : Plain T.ring) → IsWithin a → IsWithin (plain_negation T.ring a) }
-    ensures scaled { (s : T.ring.Carrier) (a : Plain T.ring) → IsWithin a → IsWithin (plain_scaled T.ring s a) }
-    ensures product { (a b : Plain T.ring) → IsWithin a → IsWithin b → IsWithin (plain_product T.ring a b) }
+    ensures scaled { (s : T.ring.Carrier) (a : Plain T.ring) → IsWithin a
+        → IsWithin (plain_scaled T.ring s a) }
+    ensures product { (a b : Plain T.ring) → IsWithin a → IsWithin b
+        → IsWithin (plain_product T.ring a b) }
     ensures transpose { (a : Plain T.ring) → IsWithin a → IsWithin (plain_transpose T.ring a) }
     ensures identity { (n : ℕ) → IsWithin (plain_identity T.ring n) }
-    ensures kept { (test : ℕ → ℕ → Bool) (a : Plain T.ring) → IsWithin a → IsWithin (plain_kept T.ring test a) }
+    ensures kept { (test : ℕ → ℕ → Bool) (a : Plain T.ring) → IsWithin a
+        → IsWithin (plain_kept T.ring test a) }
 {}

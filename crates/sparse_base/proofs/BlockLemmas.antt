@@ -13,10 +13,12 @@ use Rattle.sparse_base.specs.Blocks.{triplet_at, block_triplets, IsEmptyBlock, I
 use Rattle.sparse_base.proofs.TripletLists.{triplets-push, sound_push}
 
 -- one number more
-flat_map-next : {X : Type 0} (f : ℕ → List X) (n : ℕ) → flat_map f (below (n + 1)) ≡ flat_map f (below n) ++ f n
+flat_map-next : {X : Type 0} (f : ℕ → List X) (n : ℕ)
+    → flat_map f (below (n + 1)) ≡ flat_map f (below n) ++ f n
 flat_map-next f n = ap (λ k. flat_map f (below k)) (add-one n) ∙ flat_map-append f (below n) (n ∷ []) ∙ ap (λ l. flat_map f (below n) ++ l) (append-nil (f n))
 
-flat_map-nothing : {X : Type 0} (f : ℕ → List X) (ns : List ℕ) → ((n : ℕ) → f n ≡ []) → flat_map f ns ≡ []
+flat_map-nothing : {X : Type 0} (f : ℕ → List X) (ns : List ℕ) → ((n : ℕ) → f n ≡ [])
+    → flat_map f ns ≡ []
 flat_map-nothing f [] none = refl
 flat_map-nothing f (n ∷ ns) none = rw none (flat_map-nothing f ns none)
 
@@ -30,15 +32,20 @@ module _ {T : Type 0} where
     pub row_count : length is ≡ length vs
     pub col_count : length js ≡ length vs
     pub triplets : zip_triplets is js vs ≡ zip_triplets is0 js0 vs0 ++ triplets_before r c d j i
-    pub parts : (n m : ℕ) → AreParts n m is0 js0 vs0 → r + d.nrows ≤ n → c + d.ncols ≤ m → AreParts n m is js vs
+    pub parts : (n m : ℕ) → AreParts n m is0 js0 vs0 → r + d.nrows ≤ n → c + d.ncols ≤ m
+        → AreParts n m is js vs
 
-  pub none_pushed : (r c : ℕ) (d : Dense T) (is js : List ℕ) (vs : List T) → length is ≡ length vs → length js ≡ length vs → IsPushed r c d is js vs 0 0 is js vs
+  pub none_pushed : (r c : ℕ) (d : Dense T) (is js : List ℕ) (vs : List T) → length is ≡ length vs
+      → length js ≡ length vs → IsPushed r c d is js vs 0 0 is js vs
   none_pushed r c d is js vs rows cols = record { row_count = rows; col_count = cols; triplets = sym (append-nil _); parts = λ n m parts _ _. parts }
 
-  at_place : (r c : ℕ) (d : Dense T) (j i : ℕ) (v : T) → j * d.nrows + i < length d.values → v ≡ value_at d i j v → triplet_at r c d j i ≡ (r + i, c + j, v) ∷ []
+  at_place : (r c : ℕ) (d : Dense T) (j i : ℕ) (v : T) → j * d.nrows + i < length d.values
+      → v ≡ value_at d i j v → triplet_at r c d j i ≡ (r + i, c + j, v) ∷ []
   at_place r c d j i v within is = rw (slice_get_read d.values (length d.values) (j * d.nrows + i) v refl within is) refl
 
-  next_before : (r c : ℕ) (d : Dense T) (j i : ℕ) (v : T) → j * d.nrows + i < length d.values → v ≡ value_at d i j v → triplets_before r c d j (i + 1) ≡ triplets_before r c d j i ++ (r + i, c + j, v) ∷ []
+  next_before : (r c : ℕ) (d : Dense T) (j i : ℕ) (v : T) → j * d.nrows + i < length d.values
+      → v ≡ value_at d i j v
+      → triplets_before r c d j (i + 1) ≡ triplets_before r c d j i ++ (r + i, c + j, v) ∷ []
   next_before r c d j i v within is =
       let columns = flat_map (λ j. flat_map (triplet_at r c d j) (below d.nrows)) (below j) in
       let rows = flat_map (triplet_at r c d j) (below i) in
@@ -72,10 +79,12 @@ module _ {T : Type 0} where
   pub empty_block : (r c : ℕ) (d : Dense T) → length d.values ≡ 0 → block_triplets r c d ≡ []
   empty_block r c d none = flat_map-nothing _ (below d.ncols) (λ j. flat_map-nothing _ (below d.nrows) (λ i. rw (slice_get_past d.values (j * d.nrows + i) (omega arith)) refl))
 
-  pub empty_size : (d : Dense T) → length d.values ≡ d.nrows * d.ncols → IsEmptyBlock d → length d.values ≡ 0
+  pub empty_size : (d : Dense T) → length d.values ≡ d.nrows * d.ncols → IsEmptyBlock d
+      → length d.values ≡ 0
   empty_size d full (inl rows) = full ∙ ap (λ n. n * d.ncols) rows ∙ omega arith
   empty_size d full (inr cols) = full ∙ ap (λ n. d.nrows * n) cols ∙ omega arith
 
-  pub block_inside : (m : Coo T) (r c : ℕ) (d : Dense T) → length d.values ≡ d.nrows * d.ncols → length d.values ≢ 0 → IsEmptyBlock d ⊎ IsBlockInside m r c d → IsBlockInside m r c d
+  pub block_inside : (m : Coo T) (r c : ℕ) (d : Dense T) → length d.values ≡ d.nrows * d.ncols
+      → length d.values ≢ 0 → IsEmptyBlock d ⊎ IsBlockInside m r c d → IsBlockInside m r c d
   block_inside m r c d full some (inl empty) = absurd (some (empty_size d full empty))
   block_inside m r c d full some (inr inside) = inside

@@ -6,14 +6,17 @@ use Rattle.std.proofs.lemmas.List.Elements.{All-push, All-get_or}
 use Rattle.sparse_base.specs.Coo.{zip_triplets, AreParts, coo_of, appended}
 
 module _ {T : Type 0} where
-  pub length-triplets : (is js : List ℕ) (vs : List T) → length is ≡ length vs → length js ≡ length vs → length (zip_triplets is js vs) ≡ length vs
+  pub length-triplets : (is js : List ℕ) (vs : List T) → length is ≡ length vs
+      → length js ≡ length vs → length (zip_triplets is js vs) ≡ length vs
   length-triplets [] js [] e f = refl
   length-triplets [] js (v ∷ vs) e f = absurd (omega arith)
   length-triplets (i ∷ is) js [] e f = absurd (omega arith)
   length-triplets (i ∷ is) [] (v ∷ vs) e f = absurd (omega arith)
   length-triplets (i ∷ is) (j ∷ js) (v ∷ vs) e f = omega (arith, length-triplets is js vs (omega arith) (omega arith))
 
-  pub triplets-push : (is js : List ℕ) (vs : List T) (i j : ℕ) (v : T) → length is ≡ length vs → length js ≡ length vs → zip_triplets (is ++ i ∷ []) (js ++ j ∷ []) (vs ++ v ∷ []) ≡ zip_triplets is js vs ++ (i, j, v) ∷ []
+  pub triplets-push : (is js : List ℕ) (vs : List T) (i j : ℕ) (v : T) → length is ≡ length vs
+      → length js ≡ length vs
+      → zip_triplets (is ++ i ∷ []) (js ++ j ∷ []) (vs ++ v ∷ []) ≡ zip_triplets is js vs ++ (i, j, v) ∷ []
   triplets-push [] [] [] i j v e f = refl
   triplets-push [] (x ∷ js) [] i j v e f = absurd (omega arith)
   triplets-push [] js (x ∷ vs) i j v e f = absurd (omega arith)
@@ -21,7 +24,9 @@ module _ {T : Type 0} where
   triplets-push (x ∷ is) [] (z ∷ vs) i j v e f = absurd (omega arith)
   triplets-push (x ∷ is) (y ∷ js) (z ∷ vs) i j v e f = ap (λ ts. (x, y, z) ∷ ts) (triplets-push is js vs i j v (omega arith) (omega arith))
 
-  pub sound_push : (n m : ℕ) (is js : List ℕ) (vs : List T) (i j : ℕ) (v : T) → AreParts n m is js vs → i < n → j < m → AreParts n m (is ++ i ∷ []) (js ++ j ∷ []) (vs ++ v ∷ [])
+  pub sound_push : (n m : ℕ) (is js : List ℕ) (vs : List T) (i j : ℕ) (v : T)
+      → AreParts n m is js vs → i < n → j < m
+      → AreParts n m (is ++ i ∷ []) (js ++ j ∷ []) (vs ++ v ∷ [])
   sound_push n m is js vs i j v sound row col = record {
     row_count = grind (arith, common_steps, sound.row_count);
     col_count = grind (arith, common_steps, sound.col_count);
@@ -29,21 +34,30 @@ module _ {T : Type 0} where
     cols_bounded = All-push (λ j. j < m) js j sound.cols_bounded col;
   }
 
-  pub triplets_more : (n m : ℕ) (is js : List ℕ) (vs : List T) (base ts : List (ℕ × ℕ × T)) (k : ℕ) (x : ℕ × ℕ × T) → AreParts n m is js vs → zip_triplets is js vs ≡ base ++ take k ts → k < length ts → x ≡ get_or ts k x → zip_triplets (is ++ x.0 ∷ []) (js ++ x.1 ∷ []) (vs ++ x.2 ∷ []) ≡ base ++ take (k + 1) ts
+  pub triplets_more : (n m : ℕ) (is js : List ℕ) (vs : List T) (base ts : List (ℕ × ℕ × T)) (k : ℕ) (x : ℕ × ℕ × T)
+      → AreParts n m is js vs → zip_triplets is js vs ≡ base ++ take k ts → k < length ts
+      → x ≡ get_or ts k x
+      → zip_triplets (is ++ x.0 ∷ []) (js ++ x.1 ∷ []) (vs ++ x.2 ∷ []) ≡ base ++ take (k + 1) ts
   triplets_more n m is js vs base ts k x sound so_far lt is_at =
       let more : take (k + 1) ts ≡ take k ts ++ x ∷ [] = grind (arith, common_steps) in
       triplets-push is js vs x.0 x.1 x.2 sound.row_count sound.col_count ∙ ap (λ l. l ++ x ∷ []) so_far ∙ append_assoc base (take k ts) (x ∷ []) ∙ ap (λ l. base ++ l) (sym more)
 
-  pub item_in_bounds : (n m : ℕ) (ts : List (ℕ × ℕ × T)) (k : ℕ) (x : ℕ × ℕ × T) → All (λ t. (t.0 < n) × (t.1 < m)) ts → k < length ts → x ≡ get_or ts k x → (x.0 < n) × (x.1 < m)
+  pub item_in_bounds : (n m : ℕ) (ts : List (ℕ × ℕ × T)) (k : ℕ) (x : ℕ × ℕ × T)
+      → All (λ t. (t.0 < n) × (t.1 < m)) ts → k < length ts → x ≡ get_or ts k x
+      → (x.0 < n) × (x.1 < m)
   item_in_bounds n m ts k x all lt is_at = rw is_at (All-get_or (λ t. (t.0 < n) × (t.1 < m)) ts k x lt all)
 
-  pub all_pushed : (nrows ncols n m k : ℕ) (triplets base ts : List (ℕ × ℕ × T)) → n ≡ nrows → m ≡ ncols → triplets ≡ base ++ take k ts → length ts ≤ k → coo_of n m triplets ≡ appended (coo_of nrows ncols base) ts
+  pub all_pushed : (nrows ncols n m k : ℕ) (triplets base ts : List (ℕ × ℕ × T)) → n ≡ nrows
+      → m ≡ ncols → triplets ≡ base ++ take k ts → length ts ≤ k
+      → coo_of n m triplets ≡ appended (coo_of nrows ncols base) ts
   all_pushed nrows ncols n m k triplets base ts rows cols so_far all =
       let whole : take k ts ≡ ts = take_all k ts all in
       rw (rows, cols, so_far, whole) refl
 
 module _ {T : Type 0} where
-  pub row_at : (is js : List ℕ) (vs : List T) (k : ℕ) (t : ℕ × ℕ × T) → length is ≡ length vs → length js ≡ length vs → k < length vs → ((get_or (zip_triplets is js vs) k t).0 ≡ get_or is k 0) × ((get_or (zip_triplets is js vs) k t).1 ≡ get_or js k 0)
+  pub row_at : (is js : List ℕ) (vs : List T) (k : ℕ) (t : ℕ × ℕ × T) → length is ≡ length vs
+      → length js ≡ length vs → k < length vs
+      → ((get_or (zip_triplets is js vs) k t).0 ≡ get_or is k 0) × ((get_or (zip_triplets is js vs) k t).1 ≡ get_or js k 0)
   row_at [] js [] k t e f lt = absurd (omega arith)
   row_at [] js (v ∷ vs) k t e f lt = absurd (omega arith)
   row_at (i ∷ is) js [] k t e f lt = absurd (omega arith)
@@ -51,18 +65,24 @@ module _ {T : Type 0} where
   row_at (i ∷ is) (j ∷ js) (v ∷ vs) zero t e f lt = (refl, refl)
   row_at (i ∷ is) (j ∷ js) (v ∷ vs) (suc k) t e f lt = row_at is js vs k t (omega arith) (omega arith) (omega arith)
 
-  pub bounded : (n m : ℕ) (is js : List ℕ) (vs : List T) → AreParts n m is js vs → All (λ t. (t.0 < n) × (t.1 < m)) (zip_triplets is js vs)
+  pub bounded : (n m : ℕ) (is js : List ℕ) (vs : List T) → AreParts n m is js vs
+      → All (λ t. (t.0 < n) × (t.1 < m)) (zip_triplets is js vs)
   bounded n m is js vs sound k t lt =
       let long = length-triplets is js vs sound.row_count sound.col_count in
       let within : k < length vs = omega (arith, long, lt) in
       let both = row_at is js vs k t sound.row_count sound.col_count within in
       (rw both.0 (sound.rows_bounded k 0 (omega (arith, sound.row_count))), rw both.1 (sound.cols_bounded k 0 (omega (arith, sound.col_count))))
 
-  pub triplet_at : (is js : List ℕ) (vs : List T) (k : ℕ) (i j : ℕ) (v : T) → length is ≡ length vs → length js ≡ length vs → k < length vs → i ≡ get_or is k i → j ≡ get_or js k j → v ≡ get_or vs k v → take (k + 1) (zip_triplets is js vs) ≡ take k (zip_triplets is js vs) ++ (i, j, v) ∷ []
+  pub triplet_at : (is js : List ℕ) (vs : List T) (k : ℕ) (i j : ℕ) (v : T) → length is ≡ length vs
+      → length js ≡ length vs → k < length vs → i ≡ get_or is k i → j ≡ get_or js k j
+      → v ≡ get_or vs k v
+      → take (k + 1) (zip_triplets is js vs) ≡ take k (zip_triplets is js vs) ++ (i, j, v) ∷ []
   triplet_at is js vs k i j v e f lt ei ej ev =
       take_more (zip_triplets is js vs) k (i, j, v) (rw (length-triplets is js vs e f) lt) ∙ ap (λ t. take k (zip_triplets is js vs) ++ t ∷ []) (read is js vs k i j v e f lt ei ej ev)
     where
-      read : (is js : List ℕ) (vs : List T) (k : ℕ) (i j : ℕ) (v : T) → length is ≡ length vs → length js ≡ length vs → k < length vs → i ≡ get_or is k i → j ≡ get_or js k j → v ≡ get_or vs k v → get_or (zip_triplets is js vs) k (i, j, v) ≡ (i, j, v)
+      read : (is js : List ℕ) (vs : List T) (k : ℕ) (i j : ℕ) (v : T) → length is ≡ length vs
+          → length js ≡ length vs → k < length vs → i ≡ get_or is k i → j ≡ get_or js k j
+          → v ≡ get_or vs k v → get_or (zip_triplets is js vs) k (i, j, v) ≡ (i, j, v)
       read [] js [] k i j v e f lt ei ej ev = absurd (omega arith)
       read [] js (x ∷ vs) k i j v e f lt ei ej ev = absurd (omega arith)
       read (a ∷ is) js [] k i j v e f lt ei ej ev = absurd (omega arith)
@@ -71,20 +91,23 @@ module _ {T : Type 0} where
       read (a ∷ is) (b ∷ js) (x ∷ vs) (suc k) i j v e f lt ei ej ev = read is js vs k i j v (omega arith) (omega arith) (omega arith) ei ej ev
 
   -- the three lists, read back from the triplets
-  pub rows-zip : (is js : List ℕ) (vs : List T) → length is ≡ length vs → length js ≡ length vs → map (λ (t : ℕ × ℕ × T). t.0) (zip_triplets is js vs) ≡ is
+  pub rows-zip : (is js : List ℕ) (vs : List T) → length is ≡ length vs → length js ≡ length vs
+      → map (λ (t : ℕ × ℕ × T). t.0) (zip_triplets is js vs) ≡ is
   rows-zip [] js vs e f = refl
   rows-zip (i ∷ is) js [] e f = absurd (omega arith)
   rows-zip (i ∷ is) [] (v ∷ vs) e f = absurd (omega arith)
   rows-zip (i ∷ is) (j ∷ js) (v ∷ vs) e f = ap (λ l. i ∷ l) (rows-zip is js vs (omega arith) (omega arith))
 
-  pub cols-zip : (is js : List ℕ) (vs : List T) → length is ≡ length vs → length js ≡ length vs → map (λ (t : ℕ × ℕ × T). t.1) (zip_triplets is js vs) ≡ js
+  pub cols-zip : (is js : List ℕ) (vs : List T) → length is ≡ length vs → length js ≡ length vs
+      → map (λ (t : ℕ × ℕ × T). t.1) (zip_triplets is js vs) ≡ js
   cols-zip [] [] vs e f = refl
   cols-zip [] (j ∷ js) vs e f = absurd (omega arith)
   cols-zip (i ∷ is) js [] e f = absurd (omega arith)
   cols-zip (i ∷ is) [] (v ∷ vs) e f = absurd (omega arith)
   cols-zip (i ∷ is) (j ∷ js) (v ∷ vs) e f = ap (λ l. j ∷ l) (cols-zip is js vs (omega arith) (omega arith))
 
-  pub values-zip : (is js : List ℕ) (vs : List T) → length is ≡ length vs → length js ≡ length vs → map (λ (t : ℕ × ℕ × T). t.2) (zip_triplets is js vs) ≡ vs
+  pub values-zip : (is js : List ℕ) (vs : List T) → length is ≡ length vs → length js ≡ length vs
+      → map (λ (t : ℕ × ℕ × T). t.2) (zip_triplets is js vs) ≡ vs
   values-zip [] js [] e f = refl
   values-zip [] js (v ∷ vs) e f = absurd (omega arith)
   values-zip (i ∷ is) js [] e f = absurd (omega arith)

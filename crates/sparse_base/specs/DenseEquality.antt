@@ -17,7 +17,8 @@ module _ {T : Type 0} where
   sizes_equiv : IsEquivalence dense_sizes_eq
   sizes_equiv = and_equiv (on_equiv (λ d. d.nrows) nat_eq_equiv) (on_equiv (λ d. d.ncols) nat_eq_equiv)
 
-  pub dense_eq-laws : {E : T → T → Bool} → IsPartialEquivalence E → IsPartialEquivalence (dense_eq E)
+  pub dense_eq-laws : {E : T → T → Bool} → IsPartialEquivalence E
+      → IsPartialEquivalence (dense_eq E)
   dense_eq-laws laws = and_per (partial_equiv_from_equiv sizes_equiv) (on_per (λ d. d.values) (lists_per laws))
 
   pub dense_eq-equiv : {E : T → T → Bool} → IsEquivalence E → IsEquivalence (dense_eq E)

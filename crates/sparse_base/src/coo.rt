@@ -77,7 +77,8 @@ impl<T> CooMatrix<T> {
         ensures ok { IfOk result (λ m. m ≡ coo_of nrows ncols (zip_triplets row_indices.items col_indices.items values.items)) }
         ensures valid { OnOk result (AreParts nrows ncols row_indices.items col_indices.items values.items) }
         ensures fault { IfErr result (IsFirstTripletFault nrows ncols row_indices.items col_indices.items (length values.items)) }
-        ensures taken { AreParts nrows ncols row_indices.items col_indices.items values.items → IsOk result }
+        ensures taken { AreParts nrows ncols row_indices.items col_indices.items values.items
+            → IsOk result }
     {
         if row_indices.len() != col_indices.len() {
             return Err(SparseFormatError::new(

@@ -151,7 +151,8 @@ impl<T> DMatrix<T> {
         requires { j < self.now.ncols }
         ensures exact { result.now ≡ column_of self.now j }
         ensures rows { length result.now ≡ self.now.nrows }
-        ensures values { (i : ℕ) (z : T) → i < self.now.nrows → slice_index_or result.now i z ≡ value_at self.now i j z }
+        ensures values { (i : ℕ) (z : T) → i < self.now.nrows
+            → slice_index_or result.now i z ≡ value_at self.now i j z }
     {
         let start = j * self.nrows;
         &self.values[start..start + self.nrows]
@@ -163,7 +164,8 @@ impl<T> DMatrix<T> {
         ensures* writes_back { sem 𝓛 (LendsColumn T.row self.entry j result) }
         ensures exact { result.now ≡ column_of self.old j }
         ensures rows { length result.now ≡ self.old.nrows }
-        ensures values { (i : ℕ) (z : T) → i < self.old.nrows → slice_index_or result.now i z ≡ value_at self.old i j z }
+        ensures values { (i : ℕ) (z : T) → i < self.old.nrows
+            → slice_index_or result.now i z ≡ value_at self.old i j z }
     {
         let start = j * self.nrows;
         self.values.slice_mut(start..start + self.nrows)

@@ -19,7 +19,8 @@ use Rattle.sparse_convert.proofs.IndexSums.{has_index}
 
 module _ {T : Type 0} where
   -- no triplet is in a lane past the bound
-  pub lane_past : (n i : ℕ) (majors minors : List ℕ) (values : List T) → n ≤ i → All (λ k. k < n) majors → triplets_of_lane (zip_triplets majors minors values) i ≡ []
+  pub lane_past : (n i : ℕ) (majors minors : List ℕ) (values : List T) → n ≤ i
+      → All (λ k. k < n) majors → triplets_of_lane (zip_triplets majors minors values) i ≡ []
   lane_past n i [] minors values le below = refl
   lane_past n i (k ∷ majors) [] values le below = refl
   lane_past n i (k ∷ majors) (j ∷ minors) [] le below = refl
@@ -31,11 +32,13 @@ module _ {T : Type 0} where
       other : (a b : ℕ) → a < b → eqb a b ≡ false
       other a b lt = grind (arith, nat_tests)
 
-  pub lane_below : (m i : ℕ) (ts : List (ℕ × ℕ × T)) → All (λ t. t.1 < m) ts → All (λ e. e.0 < m) (triplets_of_lane ts i)
+  pub lane_below : (m i : ℕ) (ts : List (ℕ × ℕ × T)) → All (λ t. t.1 < m) ts
+      → All (λ e. e.0 < m) (triplets_of_lane ts i)
   lane_below m i ts below = All-map (λ e. e.0 < m) (λ t. (t.1, t.2)) (filter (λ t. eqb t.0 i) ts) (All-filter (λ t. eqb t.0 i) (λ t. t.1 < m) ts below)
 
   -- the indices of a lane are the places of its row
-  lane_has : (i j : ℕ) (ts : List (ℕ × ℕ × T)) → has_index j (triplets_of_lane ts i) ≡ list_any (is_at i j) ts
+  lane_has : (i j : ℕ) (ts : List (ℕ × ℕ × T))
+      → has_index j (triplets_of_lane ts i) ≡ list_any (is_at i j) ts
   lane_has i j [] = refl
   lane_has i j (t ∷ ts) = elim (true_or_false (eqb t.0 i)) [
     | inl hit ↦
@@ -49,7 +52,8 @@ module _ {T : Type 0} where
   ]
 
 module _ (R : CommRing) {T : Type 0} (f : T → R.Carrier) where
-  lane_sum : (i j : ℕ) (ts : List (ℕ × ℕ × T)) → index_sum R f (triplets_of_lane ts i) j ≡ value_at R f ts i j
+  lane_sum : (i j : ℕ) (ts : List (ℕ × ℕ × T))
+      → index_sum R f (triplets_of_lane ts i) j ≡ value_at R f ts i j
   lane_sum i j [] = refl
   lane_sum i j (t ∷ ts) = elim (true_or_false (eqb t.0 i)) [
     | inl hit ↦
@@ -64,12 +68,15 @@ module _ (R : CommRing) {T : Type 0} (f : T → R.Carrier) where
   ]
 
   -- lanes that hold the triplets of their rows, in any order, stand for the triplets
-  pub lanes_stand : (rows cols : ℕ) (offsets : List ℕ) (entries : List (ℕ × T)) (ts : List (ℕ × ℕ × T)) → ((i : ℕ) → IsPermutation (triplets_of_lane ts i) (entries_of_lane offsets entries i)) → plain_of_lanes R f rows cols offsets entries ≡ plain_of_triplets R f rows cols ts
+  pub lanes_stand : (rows cols : ℕ) (offsets : List ℕ) (entries : List (ℕ × T)) (ts : List (ℕ × ℕ × T))
+      → ((i : ℕ) → IsPermutation (triplets_of_lane ts i) (entries_of_lane offsets entries i))
+      → plain_of_lanes R f rows cols offsets entries ≡ plain_of_triplets R f rows cols ts
   lanes_stand rows cols offsets entries ts moved = same_plain (plain_of_lanes R f rows cols offsets entries) (plain_of_triplets R f rows cols ts) refl refl
       (λ i j. sym (list_any-IsPermutation (λ e. eqb e.0 j) (triplets_of_lane ts i) (entries_of_lane offsets entries i) (moved i)) ∙ lane_has i j ts)
       (λ i j. sym (sum_by-permutation R (λ e. where_true R (eqb e.0 j) (f e.1)) (triplets_of_lane ts i) (entries_of_lane offsets entries i) (moved i)) ∙ lane_sum i j ts)
 
 -- triplets from their rows, columns and values
-pub zip_of_parts : {T : Type 0} (ts : List (ℕ × ℕ × T)) → zip_triplets (map (λ t. t.0) ts) (map (λ t. t.1) ts) (map (λ t. t.2) ts) ≡ ts
+pub zip_of_parts : {T : Type 0} (ts : List (ℕ × ℕ × T))
+    → zip_triplets (map (λ t. t.0) ts) (map (λ t. t.1) ts) (map (λ t. t.2) ts) ≡ ts
 zip_of_parts [] = refl
 zip_of_parts (t ∷ ts) = ap (λ l. t ∷ l) (zip_of_parts ts)

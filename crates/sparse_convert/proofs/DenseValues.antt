@@ -41,7 +41,10 @@ none_or_some (Some x) = inr (x, refl)
 
 module _ {T : Type 0} where
   -- one triplet alone is at the pair
-  written_once : (i j p : ℕ) (c z : T) (ps : List (ℕ × ℕ)) (vs : List T) → length ps ≡ length vs → p < length ps → get_or ps p (0, 0) ≡ (i, j) → ((q : ℕ) → q < length ps → get_or ps q (0, 0) ≡ (i, j) → q ≡ p) → written replaced c (zip_values ps vs) i j ≡ get_or vs p z
+  written_once : (i j p : ℕ) (c z : T) (ps : List (ℕ × ℕ)) (vs : List T) → length ps ≡ length vs
+      → p < length ps → get_or ps p (0, 0) ≡ (i, j)
+      → ((q : ℕ) → q < length ps → get_or ps q (0, 0) ≡ (i, j) → q ≡ p)
+      → written replaced c (zip_values ps vs) i j ≡ get_or vs p z
   written_once i j p c z [] vs e lt is only = absurd (omega arith)
   written_once i j p c z (x ∷ ps) [] e lt is only = absurd (omega arith)
   written_once i j zero c z (x ∷ ps) (v ∷ vs) e lt is only =
@@ -63,7 +66,8 @@ module _ {T : Type 0} where
       ap (λ b. written replaced (if b then v else c) (zip_values ps vs) i j) miss ∙ written_once i j p c z ps vs (omega arith) (omega arith) is (λ q l h. omega (arith, only (suc q) (omega arith) h))
 
   module _ (zero_value : T) (m : Compressed T) (sound : IsSound m) where
-    unstored : (i j : ℕ) → place_of m.pattern i j ≡ None → list_any (is_at i j) (lane_triplets m) ≡ false
+    unstored : (i j : ℕ) → place_of m.pattern i j ≡ None
+        → list_any (is_at i j) (lane_triplets m) ≡ false
     unstored i j none = elim (true_or_false (list_any (is_at i j) (lane_triplets m))) [
       | inl hit ↦
           let pairs = pairs_of-triplets (entries_of m.pattern) m.values (length-entries m.pattern sound.valid ∙ sym sound.count) in
@@ -73,7 +77,8 @@ module _ {T : Type 0} where
     ]
 
     -- what is written at a pair is what is stored there
-    pub written_stored : (i j : ℕ) → written replaced zero_value (lane_triplets m) i j ≡ stored_or_zero zero_value m i j
+    pub written_stored : (i j : ℕ)
+        → written replaced zero_value (lane_triplets m) i j ≡ stored_or_zero zero_value m i j
     written_stored i j = elim (none_or_some (place_of m.pattern i j)) [
       | inl none ↦ rw none (written-nowhere replaced zero_value (lane_triplets m) i j (unstored i j none))
       | inr some ↦
@@ -85,7 +90,9 @@ module _ {T : Type 0} where
           (λ q lt is. let there = position_of_entry d sound.valid i j q (omega (arith, long, lt)) is in sym (one_position d sound.valid i p q at.0 there.0 (at.1 ∙ sym there.1))))
     ]
 
-    pub rows_written : (rest : List (ℕ × ℕ × T)) (d : Dense T) → rest ≡ [] → IsWritten replaced (λ v. v) zero_value m.pattern.major_dim m.pattern.minor_dim (lane_triplets m) rest d → IsDenseOfRows zero_value m d
+    pub rows_written : (rest : List (ℕ × ℕ × T)) (d : Dense T) → rest ≡ []
+        → IsWritten replaced (λ v. v) zero_value m.pattern.major_dim m.pattern.minor_dim (lane_triplets m) rest d
+        → IsDenseOfRows zero_value m d
     rows_written rest d end done = record {
       rows = done.rows;
       cols = done.cols;
@@ -93,7 +100,9 @@ module _ {T : Type 0} where
       values = λ i j z row col. ap (λ l. written replaced (value_at d i j z) l i j) (sym end) ∙ done.values i j z row col ∙ written_stored i j;
     }
 
-    pub cols_written : (rest : List (ℕ × ℕ × T)) (d : Dense T) → rest ≡ [] → IsWritten replaced (λ v. v) zero_value m.pattern.minor_dim m.pattern.major_dim (map turned (lane_triplets m)) rest d → IsDenseOfCols zero_value m d
+    pub cols_written : (rest : List (ℕ × ℕ × T)) (d : Dense T) → rest ≡ []
+        → IsWritten replaced (λ v. v) zero_value m.pattern.minor_dim m.pattern.major_dim (map turned (lane_triplets m)) rest d
+        → IsDenseOfCols zero_value m d
     cols_written rest d end done = record {
       rows = done.rows;
       cols = done.cols;
@@ -114,7 +123,8 @@ module _ (R : CommRing) {T : Type 0} (f : T → R.Carrier) where
   added_there w x y v sum same = sum ∙ ap (λ z. added (f z) v) same
 
   -- what is added up at a pair is the sum there
-  pub written_sum : (c : R.Carrier) (ts : List (ℕ × ℕ × T)) (i j : ℕ) → written added c ts i j ≡ R.add c (sum_at R f ts i j)
+  pub written_sum : (c : R.Carrier) (ts : List (ℕ × ℕ × T)) (i j : ℕ)
+      → written added c ts i j ≡ R.add c (sum_at R f ts i j)
   written_sum c [] i j = sym (R.laws.add_zero c)
   written_sum c (t ∷ ts) i j = elim (true_or_false (is_at i j t)) [
     | inl hit ↦
@@ -127,7 +137,10 @@ module _ (R : CommRing) {T : Type 0} (f : T → R.Carrier) where
 
   module _ (z : T) (zero_law : f z ≡ R.zero) where
     -- a dense matrix with the values of a plain one at all pairs inside
-    pub dense_stands : (d : Dense T) (a : Plain R) → IsProper a → IsWithin a → d.nrows ≡ a.rows → d.ncols ≡ a.cols → ((i j : ℕ) → i < a.rows → j < a.cols → f (value_at d i j z) ≡ a.value i j) → plain_of_dense R f d ≡ plain_full R a
+    pub dense_stands : (d : Dense T) (a : Plain R) → IsProper a → IsWithin a → d.nrows ≡ a.rows
+        → d.ncols ≡ a.cols
+        → ((i j : ℕ) → i < a.rows → j < a.cols → f (value_at d i j z) ≡ a.value i j)
+        → plain_of_dense R f d ≡ plain_full R a
     dense_stands d a proper within rows cols values = same_plain (plain_of_dense R f d) (plain_full R a) rows cols has_same value_same
       where
         has_same : (i j : ℕ) → is_inside d i j ≡ (nat_lt i a.rows && nat_lt j a.cols)
@@ -151,7 +164,10 @@ module _ (R : CommRing) {T : Type 0} (f : T → R.Carrier) where
               where_no R f (is_inside d i j) _ (has_same i j ∙ miss) ∙ sym (proper i j off)
         ]
 
-    pub coo_stands : (m : Coo T) (d : Dense T) → All (λ t. (t.0 < m.nrows) × (t.1 < m.ncols)) m.triplets → (rest : List (ℕ × ℕ × T)) → rest ≡ [] → IsWritten added f (f z) m.nrows m.ncols m.triplets rest d → plain_of_dense R f d ≡ plain_full R (plain_of_coo R f m)
+    pub coo_stands : (m : Coo T) (d : Dense T)
+        → All (λ t. (t.0 < m.nrows) × (t.1 < m.ncols)) m.triplets → (rest : List (ℕ × ℕ × T))
+        → rest ≡ [] → IsWritten added f (f z) m.nrows m.ncols m.triplets rest d
+        → plain_of_dense R f d ≡ plain_full R (plain_of_coo R f m)
     coo_stands m d inside rest end done = dense_stands d (plain_of_coo R f m) (proper_triplets R f m.nrows m.ncols m.triplets) (within_plain_of_triplets R f m.nrows m.ncols m.triplets inside) done.rows done.cols
         (λ i j row col. ap (λ l. written added (f (value_at d i j z)) l i j) (sym end) ∙ done.values i j z row col ∙ written_sum (f z) m.triplets i j ∙ ap (λ c. R.add c (sum_at R f m.triplets i j)) zero_law ∙ zero_add R (sum_at R f m.triplets i j))
 
@@ -165,10 +181,12 @@ module _ (R : CommRing) {T : Type 0} (f : T → R.Carrier) where
       within_rows : IsWithin (plain_of_rows R f m)
       within_rows = within_plain_of_triplets R f m.pattern.major_dim m.pattern.minor_dim (lane_triplets m) (lane_triplets-inside m sound)
 
-      pub rows_stand : (d : Dense T) → IsDenseOfRows z m d → plain_of_dense R f d ≡ plain_full R (plain_of_rows R f m)
+      pub rows_stand : (d : Dense T) → IsDenseOfRows z m d
+          → plain_of_dense R f d ≡ plain_full R (plain_of_rows R f m)
       rows_stand d has = dense_stands d (plain_of_rows R f m) (proper_rows R f m) within_rows has.rows has.cols
           (λ i j row col. ap f (has.values i j z row col) ∙ stored_means i j)
 
-      pub cols_stand : (d : Dense T) → IsDenseOfCols z m d → plain_of_dense R f d ≡ plain_full R (plain_of_cols R f m)
+      pub cols_stand : (d : Dense T) → IsDenseOfCols z m d
+          → plain_of_dense R f d ≡ plain_full R (plain_of_cols R f m)
       cols_stand d has = dense_stands d (plain_of_cols R f m) (proper_transpose R (plain_of_rows R f m) (proper_rows R f m)) (within_transpose R (plain_of_rows R f m) within_rows) has.rows has.cols
           (λ i j row col. ap f (has.values i j z row col) ∙ stored_means j i)

@@ -22,7 +22,8 @@ module _ {T C : Type 0} (step : C → T → C) where
   written c [] i j = c
   written c (t ∷ ts) i j = written (if is_at i j t then step c t.2 else c) ts i j
 
-  pub written-nowhere : (c : C) (ts : List (ℕ × ℕ × T)) (i j : ℕ) → list_any (is_at i j) ts ≡ false → written c ts i j ≡ c
+  pub written-nowhere : (c : C) (ts : List (ℕ × ℕ × T)) (i j : ℕ) → list_any (is_at i j) ts ≡ false
+      → written c ts i j ≡ c
   written-nowhere c [] i j none = refl
   written-nowhere c (t ∷ ts) i j none =
       let parts = neither (is_at i j t) (list_any (is_at i j) ts) none in
@@ -33,7 +34,8 @@ module _ {T C : Type 0} (step : C → T → C) where
       neither false c h = (refl, h)
 
   -- rows and columns exchanged
-  pub written-turned : (c : C) (ts : List (ℕ × ℕ × T)) (i j : ℕ) → written c (map turned ts) i j ≡ written c ts j i
+  pub written-turned : (c : C) (ts : List (ℕ × ℕ × T)) (i j : ℕ)
+      → written c (map turned ts) i j ≡ written c ts j i
   written-turned c [] i j = refl
   written-turned c (t ∷ ts) i j =
       ap (λ b. written (if b then step c t.2 else c) (map turned ts) i j) (and_comm (nat_eq t.1 i) (nat_eq t.0 j)) ∙ written-turned (if is_at j i t then step c t.2 else c) ts i j
@@ -45,9 +47,12 @@ module _ {T C : Type 0} (step : C → T → C) where
       pub cols : d.ncols ≡ ncols
       pub count : length d.values ≡ nrows * ncols
       pub inside : All (λ t. (t.0 < nrows) × (t.1 < ncols)) rest
-      pub values : (i j : ℕ) (z : T) → i < nrows → j < ncols → written (f (value_at d i j z)) rest i j ≡ written c all i j
+      pub values : (i j : ℕ) (z : T) → i < nrows → j < ncols
+          → written (f (value_at d i j z)) rest i j ≡ written c all i j
 
-    pub none_written : (nrows ncols : ℕ) (all : List (ℕ × ℕ × T)) (x : T) (d : Dense T) → HasValues nrows ncols (λ _ _ _. x) d → All (λ t. (t.0 < nrows) × (t.1 < ncols)) all → IsWritten (f x) nrows ncols all all d
+    pub none_written : (nrows ncols : ℕ) (all : List (ℕ × ℕ × T)) (x : T) (d : Dense T)
+        → HasValues nrows ncols (λ _ _ _. x) d → All (λ t. (t.0 < nrows) × (t.1 < ncols)) all
+        → IsWritten (f x) nrows ncols all all d
     none_written nrows ncols all x d has inside = record {
       rows = has.rows;
       cols = has.cols;
@@ -56,7 +61,9 @@ module _ {T C : Type 0} (step : C → T → C) where
       values = λ i j z row col. ap (λ v. written (f v) all i j) (has.values i j z row col);
     }
 
-    chosen : (t : ℕ × ℕ × T) (d : Dense T) (w : T) (i j : ℕ) (z : T) → f w ≡ step (f (value_at d t.0 t.1 z)) t.2 → f (if i == t.0 && j == t.1 then w else value_at d i j z) ≡ (if is_at i j t then step (f (value_at d i j z)) t.2 else f (value_at d i j z))
+    chosen : (t : ℕ × ℕ × T) (d : Dense T) (w : T) (i j : ℕ) (z : T)
+        → f w ≡ step (f (value_at d t.0 t.1 z)) t.2
+        → f (if i == t.0 && j == t.1 then w else value_at d i j z) ≡ (if is_at i j t then step (f (value_at d i j z)) t.2 else f (value_at d i j z))
     chosen t d w i j z is = ap (λ b. f (if b then w else value_at d i j z)) (same_test t.0 t.1 i j) ∙ elim (true_or_false (is_at i j t)) [
       | inl hit ↦
           let pair = pair_is (t.0, t.1) i j hit in

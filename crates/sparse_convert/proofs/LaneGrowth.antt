@@ -8,12 +8,15 @@ use Rattle.sparse_cs.specs.Compressed.{Compressed, arrays_of, IsSound, zip_value
 use Rattle.sparse_pattern.proofs.PushedLanes.{valid_pushed, offset_kept, lane_is}
 
 -- a part of the front
-range_front : (xs ys : List ℕ) (a b : ℕ) → a ≤ b → b ≤ length xs → slice_range (xs ++ ys) a b ≡ slice_range xs a b
+range_front : (xs ys : List ℕ) (a b : ℕ) → a ≤ b → b ≤ length xs
+    → slice_range (xs ++ ys) a b ≡ slice_range xs a b
 range_front xs ys a b le within =
     ap (take (b - a)) (drop-append-le a xs ys (omega arith)) ∙ take-append-le (b - a) (drop a xs) ys (omega (arith, length-drop a xs))
 
 -- with one more lane, whose offsets and indices come after the others
-entries_gain : (os os' is js : List ℕ) (i n : ℕ) → ((k : ℕ) → k ≤ i + n → slice_index os' k ≡ slice_index os k) → ((k : ℕ) → k < i + n → (slice_index os k ≤ slice_index os (k + 1)) × (slice_index os (k + 1) ≤ length is))
+entries_gain : (os os' is js : List ℕ) (i n : ℕ)
+    → ((k : ℕ) → k ≤ i + n → slice_index os' k ≡ slice_index os k)
+    → ((k : ℕ) → k < i + n → (slice_index os k ≤ slice_index os (k + 1)) × (slice_index os (k + 1) ≤ length is))
     → entries_from os' (is ++ js) i (suc n) ≡ entries_from os is i n ++ paired (i + n) (slice_range (is ++ js) (slice_index os' (i + n)) (slice_index os' (i + n + 1)))
 entries_gain os os' is js i zero same fine =
     let at : i ≡ i + 0 = omega arith in
@@ -28,13 +31,15 @@ entries_gain os os' is js i (suc n) same fine =
     ∙ sym (append_assoc front (entries_from os is (i + 1) n) _)
 
 module _ {T : Type 0} where
-  zip_more : (ps qs : List (ℕ × ℕ)) (vs us : List T) → length ps ≡ length vs → zip_values (ps ++ qs) (vs ++ us) ≡ zip_values ps vs ++ zip_values qs us
+  zip_more : (ps qs : List (ℕ × ℕ)) (vs us : List T) → length ps ≡ length vs
+      → zip_values (ps ++ qs) (vs ++ us) ≡ zip_values ps vs ++ zip_values qs us
   zip_more [] qs [] us e = refl
   zip_more [] qs (v ∷ vs) us e = absurd (omega arith)
   zip_more (p ∷ ps) qs [] us e = absurd (omega arith)
   zip_more (p ∷ ps) qs (v ∷ vs) us e = ap (λ ts. (p.0, p.1, v) ∷ ts) (zip_more ps qs vs us (omega arith))
 
-  zip_lane : (i : ℕ) (js : List ℕ) (value : ℕ → T) → zip_values (paired i js) (map value js) ≡ map (λ j. (i, j, value j)) js
+  zip_lane : (i : ℕ) (js : List ℕ) (value : ℕ → T)
+      → zip_values (paired i js) (map value js) ≡ map (λ j. (i, j, value j)) js
   zip_lane i [] value = refl
   zip_lane i (j ∷ js) value = ap (λ ts. (i, j, value j) ∷ ts) (zip_lane i js value)
 

@@ -45,7 +45,13 @@ module _ (R : CommRing) {T : Type 0} (f : T → R.Carrier) (z : T) (offsets : Li
   }
 
   -- one more lane
-  pub lanes_merged_more : (n : ℕ) (starts is js : List ℕ) (vs ws : List T) → slice_index offsets n ≤ slice_index offsets (n + 1) → slice_index offsets (n + 1) ≤ length entries → AreLanesMerged n starts is vs → length is ≤ length js → length js ≤ length is + length (entries_of_lane offsets entries n) → length ws ≡ length js → KeepsFirst 0 (length is) is js → KeepsFirst z (length vs) vs ws → AreMerged R f z (entries_of_lane offsets entries n) js ws (length is) (length js) → AreLanesMerged (n + 1) (starts ++ length js ∷ []) js ws
+  pub lanes_merged_more : (n : ℕ) (starts is js : List ℕ) (vs ws : List T)
+      → slice_index offsets n ≤ slice_index offsets (n + 1)
+      → slice_index offsets (n + 1) ≤ length entries → AreLanesMerged n starts is vs
+      → length is ≤ length js → length js ≤ length is + length (entries_of_lane offsets entries n)
+      → length ws ≡ length js → KeepsFirst 0 (length is) is js → KeepsFirst z (length vs) vs ws
+      → AreMerged R f z (entries_of_lane offsets entries n) js ws (length is) (length js)
+      → AreLanesMerged (n + 1) (starts ++ length js ∷ []) js ws
   lanes_merged_more n starts is js vs ws ordered within h longer most sizes keeps_is keeps_vs merged =
       let all = starts ++ length js ∷ [] in
       let front : (p : ℕ) → p ≤ n → slice_index all p ≡ slice_index starts p = λ p le. get_or_append_left starts (length js ∷ []) 0 p (omega (arith, h.count)) in
@@ -80,7 +86,8 @@ module _ (R : CommRing) {T : Type 0} (f : T → R.Carrier) (z : T) (offsets : Li
       }
 
   -- an index that a lane has is that of one of its entries
-  bounded_from_any : (m : ℕ) (es : List (ℕ × T)) (j : ℕ) → All (λ e. e.0 < m) es → has_index j es ≡ true → j < m
+  bounded_from_any : (m : ℕ) (es : List (ℕ × T)) (j : ℕ) → All (λ e. e.0 < m) es
+      → has_index j es ≡ true → j < m
   bounded_from_any m [] j all has = cc
   bounded_from_any m (e ∷ es) j all has = elim (true_or_false (eqb e.0 j)) [
     | inl hit ↦
@@ -118,7 +125,8 @@ module _ (R : CommRing) {T : Type 0} (f : T → R.Carrier) (z : T) (offsets : Li
           cc
     ]
 
-    merged_places : (i j : ℕ) → IsPlace (raw_of n minor starts indices) i j ↔ (has_index j (entries_of_lane offsets entries i) ≡ true)
+    merged_places : (i j : ℕ)
+        → IsPlace (raw_of n minor starts indices) i j ↔ (has_index j (entries_of_lane offsets entries i) ≡ true)
     merged_places i j = (
       λ place.
           let lane = h.lanes i place.in_lane.lane in
@@ -132,7 +140,8 @@ module _ (R : CommRing) {T : Type 0} (f : T → R.Carrier) (z : T) (offsets : Li
     proper_lanes : IsProper (plain_of_lanes R f n minor offsets entries)
     proper_lanes i j none = index_sum-none R f (entries_of_lane offsets entries i) j none
 
-    pub merged_stand : IsSound (compressed_of (raw_of n minor starts indices) values) → plain_of_rows R f (compressed_of (raw_of n minor starts indices) values) ≡ plain_of_lanes R f n minor offsets entries
+    pub merged_stand : IsSound (compressed_of (raw_of n minor starts indices) values)
+        → plain_of_rows R f (compressed_of (raw_of n minor starts indices) values) ≡ plain_of_lanes R f n minor offsets entries
     merged_stand sound =
         stands R f z (compressed_of (raw_of n minor starts indices) values) (plain_of_lanes R f n minor offsets entries) sound proper_lanes refl refl merged_places
         (λ i j p at.

@@ -11,7 +11,9 @@ use Rattle.sparse_convert.proofs.IndexSums.{has_index, has_index-here, has_index
 
 module _ (R : CommRing) {T : Type 0} (f : T → R.Carrier) (z : T) where
   -- positions of a merged lane rise
-  merged_rise : (lane : List (ℕ × T)) (indices : List ℕ) (values : List T) (start end : ℕ) → AreMerged R f z lane indices values start end → (p n : ℕ) → start ≤ p → p + suc n < end → slice_index indices p < slice_index indices (p + suc n)
+  merged_rise : (lane : List (ℕ × T)) (indices : List ℕ) (values : List T) (start end : ℕ)
+      → AreMerged R f z lane indices values start end → (p n : ℕ) → start ≤ p → p + suc n < end
+      → slice_index indices p < slice_index indices (p + suc n)
   merged_rise lane indices values start end m p zero from to =
       let e : p + 1 - 1 ≡ p = omega arith in
       subst (λ q. slice_index indices q < slice_index indices (p + 1)) e (m.rising (p + 1) (omega arith) to)
@@ -20,13 +22,17 @@ module _ (R : CommRing) {T : Type 0} (f : T → R.Carrier) (z : T) where
       let step = subst (λ q. slice_index indices q < slice_index indices (p + suc (suc n))) e (m.rising (p + suc (suc n)) (omega arith) to) in
       omega (arith, merged_rise lane indices values start end m p n from (omega arith))
 
-  pub merged_rises : (lane : List (ℕ × T)) (indices : List ℕ) (values : List T) (start end : ℕ) → AreMerged R f z lane indices values start end → (p q : ℕ) → start ≤ p → p < q → q < end → slice_index indices p < slice_index indices q
+  pub merged_rises : (lane : List (ℕ × T)) (indices : List ℕ) (values : List T) (start end : ℕ)
+      → AreMerged R f z lane indices values start end → (p q : ℕ) → start ≤ p → p < q → q < end
+      → slice_index indices p < slice_index indices q
   merged_rises lane indices values start end m p q from lt to =
       let e : p + suc (q - p - 1) ≡ q = omega arith in
       subst (λ r. slice_index indices p < slice_index indices r) e (merged_rise lane indices values start end m p (q - p - 1) from (omega arith))
 
   -- arrays that keep what stands before the end keep the lane
-  pub merged_kept : (lane : List (ℕ × T)) (is js : List ℕ) (vs ws : List T) (start end : ℕ) → KeepsFirst 0 end is js → KeepsFirst z end vs ws → AreMerged R f z lane is vs start end → AreMerged R f z lane js ws start end
+  pub merged_kept : (lane : List (ℕ × T)) (is js : List ℕ) (vs ws : List T) (start end : ℕ)
+      → KeepsFirst 0 end is js → KeepsFirst z end vs ws → AreMerged R f z lane is vs start end
+      → AreMerged R f z lane js ws start end
   merged_kept lane is js vs ws start end keeps_is keeps_vs m = record {
     rising = λ p from to. rw (keeps_is p to, keeps_is (p - 1) (omega arith)) (m.rising p from to);
     named = λ p from to. ap (λ j. has_index j lane) (keeps_is p to) ∙ m.named p from to;
@@ -43,7 +49,8 @@ module _ (R : CommRing) {T : Type 0} (f : T → R.Carrier) (z : T) where
       pub sizes : length vs ≡ length is
       pub keeps_indices : KeepsFirst 0 start is₀ is
       pub keeps_values : KeepsFirst z start vs₀ vs
-      pub last : 0 < k → (start < length is) × (slice_index is (length is - 1) ≡ (slice_index_or lane (k - 1) (0, z)).0)
+      pub last : 0 < k
+          → (start < length is) × (slice_index is (length is - 1) ≡ (slice_index_or lane (k - 1) (0, z)).0)
 
     pub none_merged : length is₀ ≡ start → length vs₀ ≡ start → IsMergedTo 0 is₀ vs₀
     none_merged indices values = record {
@@ -62,7 +69,10 @@ module _ (R : CommRing) {T : Type 0} (f : T → R.Carrier) (z : T) where
     }
 
     -- one more entry with the last index
-    pub merged_same : (k q : ℕ) (is : List ℕ) (vs : List T) (e : ℕ × T) (w : T) → k < length lane → e ≡ get_or lane k e → start < length is → q ≡ length is - 1 → slice_index is q ≡ e.0 → f w ≡ R.add (f (get_or vs q z)) (f e.1) → IsMergedTo k is vs → IsMergedTo (k + 1) is (set vs q w)
+    pub merged_same : (k q : ℕ) (is : List ℕ) (vs : List T) (e : ℕ × T) (w : T) → k < length lane
+        → e ≡ get_or lane k e → start < length is → q ≡ length is - 1 → slice_index is q ≡ e.0
+        → f w ≡ R.add (f (get_or vs q z)) (f e.1) → IsMergedTo k is vs
+        → IsMergedTo (k + 1) is (set vs q w)
     merged_same k q is vs e w lt at some end last sum_at h =
         let m = h.merged in
         record {
@@ -101,7 +111,10 @@ module _ (R : CommRing) {T : Type 0} (f : T → R.Carrier) (z : T) where
         }
 
     -- what is merged comes before an entry with another index than the last
-    before_new : (k : ℕ) (is : List ℕ) (vs : List T) (e : ℕ × T) → IsNonDecreasingBy (λ e. e.0) lane → k < length lane → e ≡ get_or lane k e → (start < length is → slice_index is (length is - 1) ≢ e.0) → IsMergedTo k is vs → (p : ℕ) → start ≤ p → p < length is → slice_index is p < e.0
+    before_new : (k : ℕ) (is : List ℕ) (vs : List T) (e : ℕ × T) → IsNonDecreasingBy (λ e. e.0) lane
+        → k < length lane → e ≡ get_or lane k e
+        → (start < length is → slice_index is (length is - 1) ≢ e.0) → IsMergedTo k is vs → (p : ℕ)
+        → start ≤ p → p < length is → slice_index is p < e.0
     before_new k is vs e up lt at new h p from to =
         let some : 0 < k = omega (arith, h.to) in
         let last = h.last some in
@@ -117,7 +130,10 @@ module _ (R : CommRing) {T : Type 0} (f : T → R.Carrier) (z : T) where
         below a b h g = grind arith
 
     -- an entry with a new index
-    pub merged_new : (k : ℕ) (is : List ℕ) (vs : List T) (e : ℕ × T) → IsNonDecreasingBy (λ e. e.0) lane → k < length lane → e ≡ get_or lane k e → (start < length is → slice_index is (length is - 1) ≢ e.0) → IsMergedTo k is vs → IsMergedTo (k + 1) (is ++ e.0 ∷ []) (vs ++ e.1 ∷ [])
+    pub merged_new : (k : ℕ) (is : List ℕ) (vs : List T) (e : ℕ × T)
+        → IsNonDecreasingBy (λ e. e.0) lane → k < length lane → e ≡ get_or lane k e
+        → (start < length is → slice_index is (length is - 1) ≢ e.0) → IsMergedTo k is vs
+        → IsMergedTo (k + 1) (is ++ e.0 ∷ []) (vs ++ e.1 ∷ [])
     merged_new k is vs e up lt at new h =
         let m = h.merged in
         let js = is ++ e.0 ∷ [] in

@@ -19,11 +19,13 @@ use Rattle.sparse_convert.proofs.FullLanes.{column_lanes, kept_columns}
 
 -- ---- tests over lists
 
-any-filter : {X : Type 0} (p q : X → Bool) (xs : List X) → list_any p (filter q xs) ≡ list_any (λ x. p x && q x) xs
+any-filter : {X : Type 0} (p q : X → Bool) (xs : List X)
+    → list_any p (filter q xs) ≡ list_any (λ x. p x && q x) xs
 any-filter p q [] = refl
 any-filter p q (x ∷ xs) = chosen (q x) ∙ swapped (p x) (q x) (list_any p (filter q xs)) ∙ ap (λ b. (p x && q x) || b) (any-filter p q xs)
   where
-    chosen : (c : Bool) → list_any p (cond c (x ∷ filter q xs) (filter q xs)) ≡ cond c (p x || list_any p (filter q xs)) (list_any p (filter q xs))
+    chosen : (c : Bool)
+        → list_any p (cond c (x ∷ filter q xs) (filter q xs)) ≡ cond c (p x || list_any p (filter q xs)) (list_any p (filter q xs))
     chosen true = refl
     chosen false = refl
 
@@ -33,11 +35,13 @@ any-filter p q (x ∷ xs) = chosen (q x) ∙ swapped (p x) (q x) (list_any p (fi
     swapped false true d = refl
     swapped false false d = refl
 
-any-map : {X Y : Type 0} (p : Y → Bool) (f : X → Y) (xs : List X) → list_any p (map f xs) ≡ list_any (λ x. p (f x)) xs
+any-map : {X Y : Type 0} (p : Y → Bool) (f : X → Y) (xs : List X)
+    → list_any p (map f xs) ≡ list_any (λ x. p (f x)) xs
 any-map p f [] = refl
 any-map p f (x ∷ xs) = ap (λ b. p (f x) || b) (any-map p f xs)
 
-any-flat_map : {X Y : Type 0} (p : Y → Bool) (f : X → List Y) (xs : List X) → list_any p (flat_map f xs) ≡ list_any (λ x. list_any p (f x)) xs
+any-flat_map : {X Y : Type 0} (p : Y → Bool) (f : X → List Y) (xs : List X)
+    → list_any p (flat_map f xs) ≡ list_any (λ x. list_any p (f x)) xs
 any-flat_map p f [] = refl
 any-flat_map p f (x ∷ xs) = list_any-append p (f x) (flat_map f xs) ∙ ap (λ b. list_any p (f x) || b) (any-flat_map p f xs)
 
@@ -59,19 +63,23 @@ eq_yes k n e = (Decides-eqb k n).1 e
 -- ---- sums over lists
 
 module _ (R : CommRing) where
-  sum_by-map : {X Y : Type 0} (g : Y → R.Carrier) (f : X → Y) (xs : List X) → sum_by R g (map f xs) ≡ sum_by R (λ x. g (f x)) xs
+  sum_by-map : {X Y : Type 0} (g : Y → R.Carrier) (f : X → Y) (xs : List X)
+      → sum_by R g (map f xs) ≡ sum_by R (λ x. g (f x)) xs
   sum_by-map g f [] = refl
   sum_by-map g f (x ∷ xs) = ap (R.add (g (f x))) (sum_by-map g f xs)
 
-  sum_by-flat_map : {X Y : Type 0} (g : Y → R.Carrier) (f : X → List Y) (xs : List X) → sum_by R g (flat_map f xs) ≡ sum_by R (λ x. sum_by R g (f x)) xs
+  sum_by-flat_map : {X Y : Type 0} (g : Y → R.Carrier) (f : X → List Y) (xs : List X)
+      → sum_by R g (flat_map f xs) ≡ sum_by R (λ x. sum_by R g (f x)) xs
   sum_by-flat_map g f [] = refl
   sum_by-flat_map g f (x ∷ xs) = sum_by-append R g (f x) (flat_map f xs) ∙ ap (R.add (sum_by R g (f x))) (sum_by-flat_map g f xs)
 
-  where_and : (b c : Bool) (x : R.Carrier) → where_true R (b && c) x ≡ where_true R b (where_true R c x)
+  where_and : (b c : Bool) (x : R.Carrier)
+      → where_true R (b && c) x ≡ where_true R b (where_true R c x)
   where_and true c x = refl
   where_and false c x = refl
 
-  sum_where : {X : Type 0} (b : Bool) (g : X → R.Carrier) (xs : List X) → sum_by R (λ x. where_true R b (g x)) xs ≡ where_true R b (sum_by R g xs)
+  sum_where : {X : Type 0} (b : Bool) (g : X → R.Carrier) (xs : List X)
+      → sum_by R (λ x. where_true R b (g x)) xs ≡ where_true R b (sum_by R g xs)
   sum_where true g xs = refl
   sum_where false g xs = sum_by-zero R xs
 
@@ -80,7 +88,8 @@ module _ (R : CommRing) where
   nothing false x e = refl
 
   -- of all values below n that at k is picked
-  pick : (n k : ℕ) (h : ℕ → R.Carrier) → sum_by R (λ l. where_true R (nat_eq l k) (h l)) (below n) ≡ where_true R (nat_lt k n) (h k)
+  pick : (n k : ℕ) (h : ℕ → R.Carrier)
+      → sum_by R (λ l. where_true R (nat_eq l k) (h l)) (below n) ≡ where_true R (nat_lt k n) (h k)
   pick zero k h = sym (ap (λ b. where_true R b (h k)) (lt_no k zero (omega arith)))
   pick (suc n) k h =
       sum_by-append R (λ l. where_true R (nat_eq l k) (h l)) (below n) (n ∷ [])
@@ -106,7 +115,8 @@ module _ (R : CommRing) where
 
   module _ {T : Type 0} (f : T → R.Carrier) where
     -- the value at (i, j) of all triplets
-    full_sum : (n m : ℕ) (value : ℕ → ℕ → T) (i j : ℕ) → sum_by R (λ t. where_true R (is_at i j t) (f t.2)) (full_lanes n m value) ≡ where_true R (nat_lt i n && nat_lt j m) (f (value i j))
+    full_sum : (n m : ℕ) (value : ℕ → ℕ → T) (i j : ℕ)
+        → sum_by R (λ t. where_true R (is_at i j t) (f t.2)) (full_lanes n m value) ≡ where_true R (nat_lt i n && nat_lt j m) (f (value i j))
     full_sum n m value i j =
         let g : ℕ × ℕ × T → R.Carrier = λ t. where_true R (is_at i j t) (f t.2) in
         let lane : ℕ → List (ℕ × ℕ × T) = λ a. map {B = ℕ × ℕ × T} (λ k. (a, k, value a k)) (below m) in
@@ -122,11 +132,13 @@ module _ (R : CommRing) where
 
     module _ (E : T → T → Bool) (z : T) (zero_is : f z ≡ R.zero) (decides : (x y : T) → (E x y ≡ true) ↔ (f x ≡ f y)) where
       -- a value that is dropped adds nothing
-      sum_differs : (i j : ℕ) (ts : List (ℕ × ℕ × T)) → sum_by R (λ t. where_true R (is_at i j t) (f t.2)) (filter (differs_from E z) ts) ≡ sum_by R (λ t. where_true R (is_at i j t) (f t.2)) ts
+      sum_differs : (i j : ℕ) (ts : List (ℕ × ℕ × T))
+          → sum_by R (λ t. where_true R (is_at i j t) (f t.2)) (filter (differs_from E z) ts) ≡ sum_by R (λ t. where_true R (is_at i j t) (f t.2)) ts
       sum_differs i j [] = refl
       sum_differs i j (t ∷ ts) = chosen (E t.2 z) refl (sum_differs i j ts)
         where
-          chosen : (b : Bool) → E t.2 z ≡ b → sum_by R (λ t. where_true R (is_at i j t) (f t.2)) (filter (differs_from E z) ts) ≡ sum_by R (λ t. where_true R (is_at i j t) (f t.2)) ts
+          chosen : (b : Bool) → E t.2 z ≡ b
+              → sum_by R (λ t. where_true R (is_at i j t) (f t.2)) (filter (differs_from E z) ts) ≡ sum_by R (λ t. where_true R (is_at i j t) (f t.2)) ts
               → sum_by R (λ t. where_true R (is_at i j t) (f t.2)) (cond (not b) (t ∷ filter (differs_from E z) ts) (filter (differs_from E z) ts)) ≡ sum_by R (λ t. where_true R (is_at i j t) (f t.2)) (t ∷ ts)
           chosen true e rest = rest ∙ sym (zero_add R _) ∙ ap (λ c. R.add c (sum_by R (λ t. where_true R (is_at i j t) (f t.2)) ts)) (sym (nothing (is_at i j t) (f t.2) ((decides t.2 z).0 e ∙ zero_is)))
           chosen false e rest = ap (R.add (where_true R (is_at i j t) (f t.2))) rest
@@ -141,7 +153,8 @@ module _ (R : CommRing) where
             ∙ any-below n _
             ∙ any_below-same n _ _ (λ a. any-map test (λ k. (a, k, value a k)) (below m) ∙ any-below m _)
 
-        has_forth : list_any (is_at i j) (filter (differs_from E z) (full_lanes n m value)) ≡ true → (i < n) × (j < m) × (not (E (value i j) z) ≡ true)
+        has_forth : list_any (is_at i j) (filter (differs_from E z) (full_lanes n m value)) ≡ true
+            → (i < n) × (j < m) × (not (E (value i j) z) ≡ true)
         has_forth h =
             let outer = (any_is n (λ a. any_below m (λ k. (nat_eq a i && nat_eq k j) && not (E (value a k) z)))).0 (sym any_full ∙ h) in
             let inner = (any_is m (λ k. (nat_eq outer.0 i && nat_eq k j) && not (E (value outer.0 k) z))).0 outer.2 in
@@ -151,13 +164,16 @@ module _ (R : CommRing) where
             let col : inner.0 ≡ j = (Decides-eqb inner.0 j).0 at.1 in
             (subst (λ a. a < n) row outer.1, subst (λ k. k < m) col inner.1, subst (λ a. not (E (value a j) z) ≡ true) row (subst (λ k. not (E (value outer.0 k) z) ≡ true) col both.1))
 
-        has_back : (i < n) × (j < m) × (not (E (value i j) z) ≡ true) → list_any (is_at i j) (filter (differs_from E z) (full_lanes n m value)) ≡ true
+        has_back : (i < n) × (j < m) × (not (E (value i j) z) ≡ true)
+            → list_any (is_at i j) (filter (differs_from E z) (full_lanes n m value)) ≡ true
         has_back h =
             let here = and_both _ _ (and_both _ _ (eq_yes i i refl) (eq_yes j j refl)) h.2 in
             any_full ∙ (any_is n _).1 (i, h.0, (any_is m _).1 (j, h.1, here))
 
       -- the kept triplets of a plain matrix whose places are all pairs inside
-      full_part : (n m : ℕ) (value : ℕ → ℕ → T) (a : Plain R) → n ≡ a.rows → m ≡ a.cols → ((i j : ℕ) → a.has i j ≡ (nat_lt i n && nat_lt j m)) → ((i j : ℕ) → a.value i j ≡ where_true R (nat_lt i n && nat_lt j m) (f (value i j)))
+      full_part : (n m : ℕ) (value : ℕ → ℕ → T) (a : Plain R) → n ≡ a.rows → m ≡ a.cols
+          → ((i j : ℕ) → a.has i j ≡ (nat_lt i n && nat_lt j m))
+          → ((i j : ℕ) → a.value i j ≡ where_true R (nat_lt i n && nat_lt j m) (f (value i j)))
           → IsNonzeroPart a (plain_of_triplets R f n m (filter (differs_from E z) (full_lanes n m value)))
       full_part n m value a rows cols places values = record {
         rows = rows;
@@ -183,32 +199,39 @@ module _ (R : CommRing) where
           differs true h = absurd (h refl)
           differs false h = refl
 
-      dense_value : (d : Dense T) (i j : ℕ) → (plain_of_dense R f d).value i j ≡ where_true R (nat_lt i d.nrows && nat_lt j d.ncols) (f (value_at d i j z))
+      dense_value : (d : Dense T) (i j : ℕ)
+          → (plain_of_dense R f d).value i j ≡ where_true R (nat_lt i d.nrows && nat_lt j d.ncols) (f (value_at d i j z))
       dense_value d i j = ap (where_true R (nat_lt i d.nrows && nat_lt j d.ncols)) (ap (value_of) (sym zero_is) ∙ get_or-map f d.values (j * d.nrows + i) z)
         where
           value_of : R.Carrier → R.Carrier
           value_of x = value_at (record { nrows = d.nrows; ncols = d.ncols; values = map f d.values }) i j x
 
       -- row after row
-      pub rows_part : (d : Dense T) (ts : List (ℕ × ℕ × T)) → ts ≡ filter (differs_from E z) (row_triplets z d) → IsNonzeroPart (plain_of_dense R f d) (plain_of_triplets R f d.nrows d.ncols ts)
+      pub rows_part : (d : Dense T) (ts : List (ℕ × ℕ × T))
+          → ts ≡ filter (differs_from E z) (row_triplets z d)
+          → IsNonzeroPart (plain_of_dense R f d) (plain_of_triplets R f d.nrows d.ncols ts)
       rows_part d ts is = subst (λ l. IsNonzeroPart (plain_of_dense R f d) (plain_of_triplets R f d.nrows d.ncols l)) (sym is)
           (full_part d.nrows d.ncols (λ i j. value_at d i j z) (plain_of_dense R f d) refl refl (λ i j. refl) (dense_value d))
 
       -- column after column
-      columns_part : (d : Dense T) → IsNonzeroPart (plain_of_dense R f d) (plain_transpose R (plain_of_triplets R f d.ncols d.nrows (filter (differs_from E z) (column_lanes z d))))
+      columns_part : (d : Dense T)
+          → IsNonzeroPart (plain_of_dense R f d) (plain_transpose R (plain_of_triplets R f d.ncols d.nrows (filter (differs_from E z) (column_lanes z d))))
       columns_part d =
           let h = full_part d.ncols d.nrows (λ j i. value_at d i j z) (plain_transpose R (plain_of_dense R f d)) refl refl (λ j i. and_comm (nat_lt i d.nrows) (nat_lt j d.ncols)) (λ j i. dense_value d i j ∙ ap (λ b. where_true R b (f (value_at d i j z))) (and_comm (nat_lt i d.nrows) (nat_lt j d.ncols))) in
           record { rows = h.cols; cols = h.rows; has = λ i j. h.has j i; value = λ i j. h.value j i }
 
-      any_turned : (i j : ℕ) (ts : List (ℕ × ℕ × T)) → list_any (is_at i j) (map turned ts) ≡ list_any (is_at j i) ts
+      any_turned : (i j : ℕ) (ts : List (ℕ × ℕ × T))
+          → list_any (is_at i j) (map turned ts) ≡ list_any (is_at j i) ts
       any_turned i j [] = refl
       any_turned i j (t ∷ ts) = ap (λ b. b || list_any (is_at i j) (map turned ts)) (and_comm (nat_eq t.1 i) (nat_eq t.0 j)) ∙ ap (λ b. (nat_eq t.0 j && nat_eq t.1 i) || b) (any_turned i j ts)
 
-      sum_turned : (i j : ℕ) (ts : List (ℕ × ℕ × T)) → sum_by R (λ t. where_true R (is_at i j t) (f t.2)) (map turned ts) ≡ sum_by R (λ t. where_true R (is_at j i t) (f t.2)) ts
+      sum_turned : (i j : ℕ) (ts : List (ℕ × ℕ × T))
+          → sum_by R (λ t. where_true R (is_at i j t) (f t.2)) (map turned ts) ≡ sum_by R (λ t. where_true R (is_at j i t) (f t.2)) ts
       sum_turned i j [] = refl
       sum_turned i j (t ∷ ts) = ap (λ b. R.add (where_true R b (f t.2)) (sum_by R (λ t. where_true R (is_at i j t) (f t.2)) (map turned ts))) (and_comm (nat_eq t.1 i) (nat_eq t.0 j)) ∙ ap (R.add (where_true R (nat_eq t.0 j && nat_eq t.1 i) (f t.2))) (sum_turned i j ts)
 
-      pub triplets_part : (d : Dense T) → IsNonzeroPart (plain_of_dense R f d) (plain_of_triplets R f d.nrows d.ncols (filter (differs_from E z) (column_triplets z d)))
+      pub triplets_part : (d : Dense T)
+          → IsNonzeroPart (plain_of_dense R f d) (plain_of_triplets R f d.nrows d.ncols (filter (differs_from E z) (column_triplets z d)))
       triplets_part d =
           let kept = filter (differs_from E z) (column_lanes z d) in
           let same : plain_of_triplets R f d.nrows d.ncols (map turned kept) ≡ plain_transpose R (plain_of_triplets R f d.ncols d.nrows kept) = same_plain _ _ refl refl (λ i j. any_turned i j kept) (λ i j. sum_turned i j kept) in
@@ -218,7 +241,9 @@ module _ (R : CommRing) where
       turned_twice [] = refl
       turned_twice (t ∷ ts) = ap (λ us. t ∷ us) (turned_twice ts)
 
-      pub cols_part : (d : Dense T) (ts : List (ℕ × ℕ × T)) → map turned ts ≡ filter (differs_from E z) (column_triplets z d) → IsNonzeroPart (plain_of_dense R f d) (plain_transpose R (plain_of_triplets R f d.ncols d.nrows ts))
+      pub cols_part : (d : Dense T) (ts : List (ℕ × ℕ × T))
+          → map turned ts ≡ filter (differs_from E z) (column_triplets z d)
+          → IsNonzeroPart (plain_of_dense R f d) (plain_transpose R (plain_of_triplets R f d.ncols d.nrows ts))
       cols_part d ts is =
           let kept = filter (differs_from E z) (column_lanes z d) in
           let same : ts ≡ kept = sym (turned_twice ts) ∙ ap (map turned) (is ∙ kept_columns E z d) ∙ turned_twice kept in

@@ -10,7 +10,8 @@ use Rattle.sparse_convert.proofs.StoredTriplets.{plain_of_turned_list}
 
 module _ (R : CommRing) {T : Type 0} (f : T → R.Carrier) (z : T) where
   -- one conversion
-  converted_same : (x y : Form T) → IsSoundForm x → IsSoundForm y → IsConverted R f x y → plain_of_form R f y ≡ plain_of_form R f x
+  converted_same : (x y : Form T) → IsSoundForm x → IsSoundForm y → IsConverted R f x y
+      → plain_of_form R f y ≡ plain_of_form R f x
   converted_same (Triplets a) (Triplets b) sx sy h = absurd h
   converted_same (Triplets a) (Rows m) sx sy h = h
   converted_same (Triplets a) (Cols n) sx sy h = h
@@ -22,13 +23,15 @@ module _ (R : CommRing) {T : Type 0} (f : T → R.Carrier) (z : T) where
   converted_same (Cols m) (Cols n) sx sy h = absurd h
 
   -- any number of them
-  led_same : (x : Form T) (ys : List (Form T)) (y : Form T) → IsSoundForm x → Leads R f x ys y → (plain_of_form R f y ≡ plain_of_form R f x) × IsSoundForm y
+  led_same : (x : Form T) (ys : List (Form T)) (y : Form T) → IsSoundForm x → Leads R f x ys y
+      → (plain_of_form R f y ≡ plain_of_form R f x) × IsSoundForm y
   led_same x [] y sound h = (ap (plain_of_form R f) (sym h), subst IsSoundForm h sound)
   led_same x (w ∷ ws) y sound h =
       let rest = led_same w ws y h.0 h.2 in
       (rest.0 ∙ converted_same x w sound h.0 h.1, rest.1)
 
-  pub reached_same : (x y : Form T) → IsSoundForm x → IsReached R f x y → plain_of_form R f y ≡ plain_of_form R f x
+  pub reached_same : (x y : Form T) → IsSoundForm x → IsReached R f x y
+      → plain_of_form R f y ≡ plain_of_form R f x
   reached_same x y sound h = (led_same x h.0 y sound h.1).0
 
   pub reached_sound : (x y : Form T) → IsSoundForm x → IsReached R f x y → IsSoundForm y

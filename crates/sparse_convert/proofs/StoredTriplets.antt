@@ -30,24 +30,28 @@ indices-entries d valid =
     same_read (x ∷ xs) (suc p) z lt = same_read xs p z (omega arith)
 
 module _ {T : Type 0} where
-  lanes-zip : (ps : List (ℕ × ℕ)) (vs : List T) → length ps ≡ length vs → map (λ (t : ℕ × ℕ × T). t.0) (zip_values ps vs) ≡ map (λ (p : ℕ × ℕ). p.0) ps
+  lanes-zip : (ps : List (ℕ × ℕ)) (vs : List T) → length ps ≡ length vs
+      → map (λ (t : ℕ × ℕ × T). t.0) (zip_values ps vs) ≡ map (λ (p : ℕ × ℕ). p.0) ps
   lanes-zip [] vs e = refl
   lanes-zip (p ∷ ps) [] e = absurd (omega arith)
   lanes-zip (p ∷ ps) (v ∷ vs) e = ap (λ l. p.0 ∷ l) (lanes-zip ps vs (omega arith))
 
-  indices-zip : (ps : List (ℕ × ℕ)) (vs : List T) → length ps ≡ length vs → map (λ (t : ℕ × ℕ × T). t.1) (zip_values ps vs) ≡ map (λ (p : ℕ × ℕ). p.1) ps
+  indices-zip : (ps : List (ℕ × ℕ)) (vs : List T) → length ps ≡ length vs
+      → map (λ (t : ℕ × ℕ × T). t.1) (zip_values ps vs) ≡ map (λ (p : ℕ × ℕ). p.1) ps
   indices-zip [] vs e = refl
   indices-zip (p ∷ ps) [] e = absurd (omega arith)
   indices-zip (p ∷ ps) (v ∷ vs) e = ap (λ l. p.1 ∷ l) (indices-zip ps vs (omega arith))
 
-  values-zip : (ps : List (ℕ × ℕ)) (vs : List T) → length ps ≡ length vs → map (λ (t : ℕ × ℕ × T). t.2) (zip_values ps vs) ≡ vs
+  values-zip : (ps : List (ℕ × ℕ)) (vs : List T) → length ps ≡ length vs
+      → map (λ (t : ℕ × ℕ × T). t.2) (zip_values ps vs) ≡ vs
   values-zip [] [] e = refl
   values-zip [] (v ∷ vs) e = absurd (omega arith)
   values-zip (p ∷ ps) [] e = absurd (omega arith)
   values-zip (p ∷ ps) (v ∷ vs) e = ap (λ l. v ∷ l) (values-zip ps vs (omega arith))
 
   -- rows, columns and values of triplets whose first two parts have changed places
-  pub zip_of_turned : (ts : List (ℕ × ℕ × T)) → zip_triplets (map (λ t. t.1) ts) (map (λ t. t.0) ts) (map (λ t. t.2) ts) ≡ map turned ts
+  pub zip_of_turned : (ts : List (ℕ × ℕ × T))
+      → zip_triplets (map (λ t. t.1) ts) (map (λ t. t.0) ts) (map (λ t. t.2) ts) ≡ map turned ts
   zip_of_turned [] = refl
   zip_of_turned (t ∷ ts) = ap (λ l. turned t ∷ l) (zip_of_turned ts)
 
@@ -71,7 +75,8 @@ module _ {T : Type 0} where
     indices_below : All (λ j. j < m.pattern.minor_dim) (map (λ (t : ℕ × ℕ × T). t.1) (lane_triplets m))
     indices_below = All-map (λ j. j < m.pattern.minor_dim) (λ (t : ℕ × ℕ × T). t.1) (lane_triplets m) (λ k d lt. (lane_triplets-inside m sound k d lt).1)
 
-    same_long : {A B : Type 0} (f : ℕ × ℕ × T → A) (g : ℕ × ℕ × T → B) → length (map f (lane_triplets m)) ≡ length (map g (lane_triplets m))
+    same_long : {A B : Type 0} (f : ℕ × ℕ × T → A) (g : ℕ × ℕ × T → B)
+        → length (map f (lane_triplets m)) ≡ length (map g (lane_triplets m))
     same_long f g = length-map (lane_triplets m) f ∙ sym (length-map (lane_triplets m) g)
 
     -- they fit each other and the sizes, as rows and columns and the other way round
@@ -82,7 +87,8 @@ module _ {T : Type 0} where
     parts_by_cols = record { row_count = same_long _ _; col_count = same_long _ _; rows_bounded = indices_below; cols_bounded = lanes_below }
 
 -- turned triplets stand for the transpose
-pub plain_of_turned_list : (R : CommRing) {T : Type 0} (f : T → R.Carrier) (rows cols : ℕ) (ts : List (ℕ × ℕ × T)) → plain_of_triplets R f cols rows (map turned ts) ≡ plain_transpose R (plain_of_triplets R f rows cols ts)
+pub plain_of_turned_list : (R : CommRing) {T : Type 0} (f : T → R.Carrier) (rows cols : ℕ) (ts : List (ℕ × ℕ × T))
+    → plain_of_triplets R f cols rows (map turned ts) ≡ plain_transpose R (plain_of_triplets R f rows cols ts)
 plain_of_turned_list R {T} f rows cols ts =
     let majors = map (λ (t : ℕ × ℕ × T). t.0) ts in
     let minors = map (λ (t : ℕ × ℕ × T). t.1) ts in

@@ -8,7 +8,8 @@ use Rattle.sparse_algebra.specs.Plain.{plain_of_triplets, plain_transpose, is_at
 use Rattle.sparse_algebra.proofs.PlainLemmas.{same_plain, and_comm}
 
 module _ (R : CommRing) {T : Type 0} (f : T → R.Carrier) where
-  has_turned : (is js : List ℕ) (vs : List T) (i j : ℕ) → list_any (is_at j i) (zip_triplets js is vs) ≡ list_any (is_at i j) (zip_triplets is js vs)
+  has_turned : (is js : List ℕ) (vs : List T) (i j : ℕ)
+      → list_any (is_at j i) (zip_triplets js is vs) ≡ list_any (is_at i j) (zip_triplets is js vs)
   has_turned (x ∷ is) (y ∷ js) (v ∷ vs) i j = ap (λ b. b || list_any (is_at j i) (zip_triplets js is vs)) (and_comm (nat_eq y j) (nat_eq x i)) ∙ ap (λ b. (nat_eq x i && nat_eq y j) || b) (has_turned is js vs i j)
   has_turned [] [] vs i j = refl
   has_turned [] (y ∷ js) [] i j = refl

@@ -7,9 +7,12 @@ use Rattle.sparse_convert.specs.InnerTripletLanes.{index_sum}
 -- from start to end stand the indices of the lane's entries, each once and rising, and the sums of their values
 pub record AreMerged (R : CommRing) {T : Type 0} (f : T → R.Carrier) (zero : T) (lane : List (ℕ × T)) (indices : List ℕ) (values : List T) (start end : ℕ) : Type 0 where
   pub rising : (p : ℕ) → start < p → p < end → slice_index indices (p - 1) < slice_index indices p
-  pub named : (p : ℕ) → start ≤ p → p < end → list_any (λ e. nat_eq e.0 (slice_index indices p)) lane ≡ true
-  pub found : (j : ℕ) → list_any (λ e. nat_eq e.0 j) lane ≡ true → (p : ℕ) × (start ≤ p) × (p < end) × (slice_index indices p ≡ j)
-  pub sums : (p : ℕ) → start ≤ p → p < end → f (slice_index_or values p zero) ≡ index_sum R f lane (slice_index indices p)
+  pub named : (p : ℕ) → start ≤ p → p < end
+      → list_any (λ e. nat_eq e.0 (slice_index indices p)) lane ≡ true
+  pub found : (j : ℕ) → list_any (λ e. nat_eq e.0 j) lane ≡ true
+      → (p : ℕ) × (start ≤ p) × (p < end) × (slice_index indices p ≡ j)
+  pub sums : (p : ℕ) → start ≤ p → p < end
+      → f (slice_index_or values p zero) ≡ index_sum R f lane (slice_index indices p)
 
 -- the first n elements stay
 abbrev pub KeepsFirst : {X : Type 0} → X → ℕ → List X → List X → Type 0

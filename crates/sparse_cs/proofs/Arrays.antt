@@ -25,7 +25,8 @@ module _ (d : Raw) (valid : IsValid d) where
   position_within i j p h = omega (arith, (valid.lanes i h.0.lane).inside, h.0.to)
 
   -- the entry at a position of lane i
-  entry_from : (k n i p : ℕ) → k + n ≡ d.major_dim → k ≤ i → IsInLane d i p → get_or (entries_from d.offsets d.indices k n) (p - start_of d k) (0, 0) ≡ (i, slice_index d.indices p)
+  entry_from : (k n i p : ℕ) → k + n ≡ d.major_dim → k ≤ i → IsInLane d i p
+      → get_or (entries_from d.offsets d.indices k n) (p - start_of d k) (0, 0) ≡ (i, slice_index d.indices p)
   entry_from k zero i p e le h = absurd (omega (arith, h.lane))
   entry_from k (suc n) i p e le h =
       let lane = valid.lanes k (omega arith) in
@@ -55,12 +56,14 @@ module _ (d : Raw) (valid : IsValid d) where
         ]
       ]
 
-  pub entry_at : (i p : ℕ) → IsInLane d i p → get_or (entries_of d) p (0, 0) ≡ (i, slice_index d.indices p)
+  pub entry_at : (i p : ℕ) → IsInLane d i p
+      → get_or (entries_of d) p (0, 0) ≡ (i, slice_index d.indices p)
   entry_at i p h =
       let e : p - start_of d 0 ≡ p = omega (arith, valid.first) in
       ap (λ q. get_or (entries_of d) q (0, 0)) (sym e) ∙ entry_from 0 d.major_dim i p (omega arith) (omega arith) h
 
-  pub position_of_entry : (i j q : ℕ) → q < length d.indices → get_or (entries_of d) q (0, 0) ≡ (i, j) → IsPosition d i j q
+  pub position_of_entry : (i j q : ℕ) → q < length d.indices
+      → get_or (entries_of d) q (0, 0) ≡ (i, j) → IsPosition d i j q
   position_of_entry i j q lt is =
       let l = lane_of_position d valid q lt in
       let pair = sym (entry_at l.0 q l.1) ∙ is in
@@ -91,12 +94,14 @@ pairs_of ts = map (λ t. (t.0, t.1)) ts
 contains_tail : (x y : ℕ × ℕ) (xs : List (ℕ × ℕ)) → Contains xs y → Contains (x ∷ xs) y
 contains_tail x y xs h = (suc h.0, omega (arith, h.1), h.2)
 
-contains_cases : (x y : ℕ × ℕ) (xs : List (ℕ × ℕ)) (k : ℕ) → k < length (x ∷ xs) → get_or (x ∷ xs) k y ≡ y → (x ≡ y) ⊎ Contains xs y
+contains_cases : (x y : ℕ × ℕ) (xs : List (ℕ × ℕ)) (k : ℕ) → k < length (x ∷ xs)
+    → get_or (x ∷ xs) k y ≡ y → (x ≡ y) ⊎ Contains xs y
 contains_cases x y xs zero lt is = inl is
 contains_cases x y xs (suc k) lt is = inr (k, omega arith, is)
 
 module _ {T : Type 0} (i j : ℕ) where
-  named_forth : (ts : List (ℕ × ℕ × T)) → list_any (is_at i j) ts ≡ true → Contains (pairs_of ts) (i, j)
+  named_forth : (ts : List (ℕ × ℕ × T)) → list_any (is_at i j) ts ≡ true
+      → Contains (pairs_of ts) (i, j)
   named_forth [] h = cc
   named_forth (t ∷ ts) h = elim (true_or_false (is_at i j t)) [
     | inl hit ↦ (0, omega arith, pair_is (t.0, t.1) i j hit)
@@ -107,7 +112,8 @@ module _ {T : Type 0} (i j : ℕ) where
       later true c e h = cc
       later false c e h = h
 
-  named_back : (ts : List (ℕ × ℕ × T)) → Contains (pairs_of ts) (i, j) → list_any (is_at i j) ts ≡ true
+  named_back : (ts : List (ℕ × ℕ × T)) → Contains (pairs_of ts) (i, j)
+      → list_any (is_at i j) ts ≡ true
   named_back [] h = absurd (omega (arith, h.1))
   named_back (t ∷ ts) h = elim (contains_cases (t.0, t.1) (i, j) (pairs_of ts) h.0 h.1 h.2) [
     | inl same ↦ front (is_at i j t) _ (rw (ap (λ x. x.0) same, ap (λ x. x.1) same) (test_yes i j))
@@ -122,10 +128,12 @@ module _ {T : Type 0} (i j : ℕ) where
       back true c e = refl
       back false c e = e
 
-  pub named : (ts : List (ℕ × ℕ × T)) → (list_any (is_at i j) ts ≡ true) ↔ Contains (pairs_of ts) (i, j)
+  pub named : (ts : List (ℕ × ℕ × T))
+      → (list_any (is_at i j) ts ≡ true) ↔ Contains (pairs_of ts) (i, j)
   named ts = (named_forth ts, named_back ts)
 
-pub pairs_of-triplets : {T : Type 0} (ps : List (ℕ × ℕ)) (vs : List T) → length ps ≡ length vs → pairs_of (zip_values ps vs) ≡ ps
+pub pairs_of-triplets : {T : Type 0} (ps : List (ℕ × ℕ)) (vs : List T) → length ps ≡ length vs
+    → pairs_of (zip_values ps vs) ≡ ps
 pairs_of-triplets [] vs e = refl
 pairs_of-triplets (p ∷ ps) [] e = absurd (omega arith)
 pairs_of-triplets ((a, b) ∷ ps) (v ∷ vs) e = ap (λ l. (a, b) ∷ l) (pairs_of-triplets ps vs (omega arith))
@@ -143,7 +151,8 @@ module _ (R : CommRing) {T : Type 0} (f : T → R.Carrier) where
   where_yes false c e = cc
 
   -- nothing is added where no triplet names the pair
-  pub unnamed : (i j : ℕ) (ts : List (ℕ × ℕ × T)) → list_any (is_at i j) ts ≡ false → value_at ts i j ≡ R.zero
+  pub unnamed : (i j : ℕ) (ts : List (ℕ × ℕ × T)) → list_any (is_at i j) ts ≡ false
+      → value_at ts i j ≡ R.zero
   unnamed i j [] h = refl
   unnamed i j (t ∷ ts) h =
       let parts = neither (is_at i j t) (list_any (is_at i j) ts) h in
@@ -154,7 +163,10 @@ module _ (R : CommRing) {T : Type 0} (f : T → R.Carrier) where
       neither false c h = (refl, h)
 
   -- one triplet alone names the pair
-  pub one_named : (i j p : ℕ) (z : T) (ps : List (ℕ × ℕ)) (vs : List T) → length ps ≡ length vs → p < length ps → get_or ps p (0, 0) ≡ (i, j) → ((q : ℕ) → q < length ps → get_or ps q (0, 0) ≡ (i, j) → q ≡ p) → value_at (zip_values ps vs) i j ≡ f (get_or vs p z)
+  pub one_named : (i j p : ℕ) (z : T) (ps : List (ℕ × ℕ)) (vs : List T) → length ps ≡ length vs
+      → p < length ps → get_or ps p (0, 0) ≡ (i, j)
+      → ((q : ℕ) → q < length ps → get_or ps q (0, 0) ≡ (i, j) → q ≡ p)
+      → value_at (zip_values ps vs) i j ≡ f (get_or vs p z)
   one_named i j p z [] vs e lt is only = absurd (omega arith)
   one_named i j p z (x ∷ ps) [] e lt is only = absurd (omega arith)
   one_named i j zero z (x ∷ ps) (v ∷ vs) e lt is only =
@@ -177,13 +189,15 @@ module _ (R : CommRing) {T : Type 0} (f : T → R.Carrier) where
       ∙ one_named i j p z ps vs (omega arith) (omega arith) is (λ q l h. omega (arith, only (suc q) (omega arith) h))
 
 module _ (R : CommRing) {T : Type 0} (f : T → R.Carrier) (d : Raw) (valid : IsValid d) (vs : List T) (count : length vs ≡ length d.indices) where
-  pub value_at_position : (z : T) (i j p : ℕ) → IsPosition d i j p → value_at R f (zip_values (entries_of d) vs) i j ≡ f (get_or vs p z)
+  pub value_at_position : (z : T) (i j p : ℕ) → IsPosition d i j p
+      → value_at R f (zip_values (entries_of d) vs) i j ≡ f (get_or vs p z)
   value_at_position z i j p h =
       let long = length-entries d valid in
       one_named R f i j p z (entries_of d) vs (long ∙ sym count) (omega (arith, long, position_within d valid i j p h)) (entry_at d valid i p h.0 ∙ ap (λ x. (i, x)) h.1)
       (λ q lt is. let there = position_of_entry d valid i j q (omega (arith, long, lt)) is in sym (one_position d valid i p q h.0 there.0 (h.1 ∙ sym there.1)))
 
-  pub has_is_place : (i j : ℕ) → (list_any (is_at i j) (zip_values (entries_of d) vs) ≡ true) ↔ IsPlace d i j
+  pub has_is_place : (i j : ℕ)
+      → (list_any (is_at i j) (zip_values (entries_of d) vs) ≡ true) ↔ IsPlace d i j
   has_is_place i j =
       let pairs = pairs_of-triplets (entries_of d) vs (length-entries d valid ∙ sym count) in
       let places = entries_are_places d valid i j in
@@ -191,7 +205,11 @@ module _ (R : CommRing) {T : Type 0} (f : T → R.Carrier) (d : Raw) (valid : Is
       (λ h. places.0 (subst (λ l. Contains l (i, j)) pairs (names.0 h)), λ h. names.1 (subst (λ l. Contains l (i, j)) (sym pairs) (places.1 h)))
 
 -- what makes a matrix by rows stand for a plain matrix: the sizes, the places, and the values at their positions
-pub stands : (R : CommRing) {T : Type 0} (f : T → R.Carrier) (z : T) (m : Compressed T) (a : Plain R) → IsSound m → IsProper a → m.pattern.major_dim ≡ a.rows → m.pattern.minor_dim ≡ a.cols → ((i j : ℕ) → IsPlace m.pattern i j ↔ (a.has i j ≡ true)) → ((i j p : ℕ) → IsPosition m.pattern i j p → f (get_or m.values p z) ≡ a.value i j) → plain_of_rows R f m ≡ a
+pub stands : (R : CommRing) {T : Type 0} (f : T → R.Carrier) (z : T) (m : Compressed T) (a : Plain R)
+    → IsSound m → IsProper a → m.pattern.major_dim ≡ a.rows → m.pattern.minor_dim ≡ a.cols
+    → ((i j : ℕ) → IsPlace m.pattern i j ↔ (a.has i j ≡ true))
+    → ((i j p : ℕ) → IsPosition m.pattern i j p → f (get_or m.values p z) ≡ a.value i j)
+    → plain_of_rows R f m ≡ a
 stands R {T} f z m a sound proper rows cols places values = same_plain (plain_of_rows R f m) a rows cols has_same value_same
   where
     d : Raw
@@ -211,16 +229,20 @@ stands R {T} f z m a sound proper rows cols places values = same_plain (plain_of
       | inr miss ↦ unnamed R f i j (zip_values (entries_of m.pattern) m.values) (has_same i j ∙ miss) ∙ sym (proper i j miss)
     ]
 
-pub proper_rows : (R : CommRing) {T : Type 0} (f : T → R.Carrier) (m : Compressed T) → IsProper (plain_of_rows R f m)
+pub proper_rows : (R : CommRing) {T : Type 0} (f : T → R.Carrier) (m : Compressed T)
+    → IsProper (plain_of_rows R f m)
 proper_rows R f m i j h = unnamed R f i j (zip_values (entries_of m.pattern) m.values) h
 
-pub proper_triplets : (R : CommRing) {T : Type 0} (f : T → R.Carrier) (rows cols : ℕ) (ts : List (ℕ × ℕ × T)) → IsProper (plain_of_triplets R f rows cols ts)
+pub proper_triplets : (R : CommRing) {T : Type 0} (f : T → R.Carrier) (rows cols : ℕ) (ts : List (ℕ × ℕ × T))
+    → IsProper (plain_of_triplets R f rows cols ts)
 proper_triplets R f rows cols ts i j h = unnamed R f i j ts h
 
 -- ---- `==` decides whether the plain matrices are the same
 
 module _ {X : Type 0} (E : X → X → Bool) where
-  pub pointwise_from : (z : X) (xs ys : List X) → length xs ≡ length ys → ((p : ℕ) → p < length xs → E (get_or xs p z) (get_or ys p z) ≡ true) → pointwise E xs ys ≡ true
+  pub pointwise_from : (z : X) (xs ys : List X) → length xs ≡ length ys
+      → ((p : ℕ) → p < length xs → E (get_or xs p z) (get_or ys p z) ≡ true)
+      → pointwise E xs ys ≡ true
   pointwise_from z [] [] e h = refl
   pointwise_from z [] (y ∷ ys) e h = absurd (omega arith)
   pointwise_from z (x ∷ xs) [] e h = absurd (omega arith)
@@ -230,7 +252,8 @@ module _ {X : Type 0} (E : X → X → Bool) where
       both true t h k = k
       both false t h k = h
 
-  pub pointwise_at : (z : X) (xs ys : List X) → pointwise E xs ys ≡ true → (p : ℕ) → p < length xs → E (get_or xs p z) (get_or ys p z) ≡ true
+  pub pointwise_at : (z : X) (xs ys : List X) → pointwise E xs ys ≡ true → (p : ℕ) → p < length xs
+      → E (get_or xs p z) (get_or ys p z) ≡ true
   pointwise_at z [] ys h p lt = absurd (omega arith)
   pointwise_at z (x ∷ xs) [] h p lt = cc
   pointwise_at z (x ∷ xs) (y ∷ ys) h zero lt = front (E x y) _ h

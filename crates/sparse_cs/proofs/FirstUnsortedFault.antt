@@ -23,7 +23,8 @@ not_past bound xs below past = omega (arith, below past.0 past.1 past.2, past.3,
 
 module _ {T : Type 0} (m : Compressed T) where
   -- no spot has a fault where all lanes are fine
-  pub faultless : HasFineCounts m → ((k : ℕ) → k < m.pattern.major_dim → IsFineLane m k) → IsFaultless m
+  pub faultless : HasFineCounts m → ((k : ℕ) → k < m.pattern.major_dim → IsFineLane m k)
+      → IsFaultless m
   faultless counts lanes ValueCount h = h counts.values
   faultless counts lanes NoOffsets h = absurd (omega (arith, counts.offsets))
   faultless counts lanes OffsetCount h = h counts.offsets
@@ -35,7 +36,10 @@ module _ {T : Type 0} (m : Compressed T) where
 
   module _ (counts : HasFineCounts m) (i : ℕ) (lane : i < m.pattern.major_dim) (fine : (k : ℕ) → k < i → IsFineLane m k) where
     -- no spot before the n-th of lane i has a fault, where those of that lane before it have none
-    none_before : (n : ℕ) → n ≤ 3 → (0 < n → start_of m.pattern i ≤ end_of m.pattern i) → (1 < n → end_of m.pattern i ≤ length m.pattern.indices) → (2 < n → All (λ j. j < m.pattern.minor_dim) (lane_of m.pattern i)) → (t : UnsortedSpot) → IsBefore (unsorted_rank t) (i + 4, n, 0) → HasUnsortedFault m t → ⊥
+    none_before : (n : ℕ) → n ≤ 3 → (0 < n → start_of m.pattern i ≤ end_of m.pattern i)
+        → (1 < n → end_of m.pattern i ≤ length m.pattern.indices)
+        → (2 < n → All (λ j. j < m.pattern.minor_dim) (lane_of m.pattern i)) → (t : UnsortedSpot)
+        → IsBefore (unsorted_rank t) (i + 4, n, 0) → HasUnsortedFault m t → ⊥
     none_before n top ordered inside bounded ValueCount b h = h counts.values
     none_before n top ordered inside bounded NoOffsets b h = absurd (omega (arith, counts.offsets))
     none_before n top ordered inside bounded OffsetCount b h = h counts.offsets
@@ -54,26 +58,32 @@ module _ {T : Type 0} (m : Compressed T) where
     ]
     none_before n top ordered inside bounded (LaneRepeat k) b h = let lt : k < i = grind arith in (fine k lt).distinct h.1
 
-    pub first_fall : end_of m.pattern i < start_of m.pattern i → IsUnsortedRefusal m InvalidStructure
+    pub first_fall : end_of m.pattern i < start_of m.pattern i
+        → IsUnsortedRefusal m InvalidStructure
     first_fall bad = record { spot = LaneFall i; first = record { here = (lane, bad); none_before = none_before 0 (omega arith) (λ h. absurd (omega arith)) (λ h. absurd (omega arith)) (λ h. absurd (omega arith)) }; is = refl }
 
-    pub first_end : start_of m.pattern i ≤ end_of m.pattern i → length m.pattern.indices < end_of m.pattern i → IsUnsortedRefusal m IndexOutOfBounds
+    pub first_end : start_of m.pattern i ≤ end_of m.pattern i
+        → length m.pattern.indices < end_of m.pattern i → IsUnsortedRefusal m IndexOutOfBounds
     first_end ordered bad = record { spot = LaneEnd i; first = record { here = (lane, bad); none_before = none_before 1 (omega arith) (λ _. ordered) (λ h. absurd (omega arith)) (λ h. absurd (omega arith)) }; is = refl }
 
-    pub first_in_lane : start_of m.pattern i ≤ end_of m.pattern i → end_of m.pattern i ≤ length m.pattern.indices → (kind : SparseFormatErrorKind) → IsLaneFault m.pattern.minor_dim (lane_of m.pattern i) kind → IsUnsortedRefusal m kind
+    pub first_in_lane : start_of m.pattern i ≤ end_of m.pattern i
+        → end_of m.pattern i ≤ length m.pattern.indices → (kind : SparseFormatErrorKind)
+        → IsLaneFault m.pattern.minor_dim (lane_of m.pattern i) kind → IsUnsortedRefusal m kind
     first_in_lane ordered inside kind fault = elim fault [
       | inl past ↦ record { spot = LaneBounds i; first = record { here = (lane, past.0); none_before = none_before 2 (omega arith) (λ _. ordered) (λ _. inside) (λ h. absurd (omega arith)) }; is = past.1 }
       | inr twice ↦ record { spot = LaneRepeat i; first = record { here = (lane, twice.1); none_before = none_before 3 (omega arith) (λ _. ordered) (λ _. inside) (λ _. twice.0) }; is = twice.2 }
     ]
 
   -- the faults of the arrays as a whole
-  pub first_value_count : (length m.values ≡ length m.pattern.indices → ⊥) → IsUnsortedRefusal m InvalidStructure
+  pub first_value_count : (length m.values ≡ length m.pattern.indices → ⊥)
+      → IsUnsortedRefusal m InvalidStructure
   first_value_count bad = record { spot = ValueCount; first = record { here = bad; none_before = λ s b h. absurd (before_value_count s b) }; is = refl }
     where
       before_value_count : (s : UnsortedSpot) → IsBefore (unsorted_rank s) (0, 0, 0) → ⊥
       before_value_count s b = grind arith
 
-  pub first_no_offsets : length m.values ≡ length m.pattern.indices → length m.pattern.offsets ≡ 0 → IsUnsortedRefusal m InvalidStructure
+  pub first_no_offsets : length m.values ≡ length m.pattern.indices → length m.pattern.offsets ≡ 0
+      → IsUnsortedRefusal m InvalidStructure
   first_no_offsets values bad = record { spot = NoOffsets; first = record { here = bad; none_before = before }; is = refl }
     where
       before : (s : UnsortedSpot) → IsBefore (unsorted_rank s) (1, 0, 0) → HasUnsortedFault m s → ⊥
@@ -86,7 +96,9 @@ module _ {T : Type 0} (m : Compressed T) where
       before (LaneBounds k) b h = absurd (grind arith)
       before (LaneRepeat k) b h = absurd (grind arith)
 
-  pub first_offset_count : length m.values ≡ length m.pattern.indices → 0 < length m.pattern.offsets → (length m.pattern.offsets ≡ m.pattern.major_dim + 1 → ⊥) → IsUnsortedRefusal m InvalidStructure
+  pub first_offset_count : length m.values ≡ length m.pattern.indices → 0 < length m.pattern.offsets
+      → (length m.pattern.offsets ≡ m.pattern.major_dim + 1 → ⊥)
+      → IsUnsortedRefusal m InvalidStructure
   first_offset_count values some bad = record { spot = OffsetCount; first = record { here = bad; none_before = before }; is = refl }
     where
       before : (s : UnsortedSpot) → IsBefore (unsorted_rank s) (2, 0, 0) → HasUnsortedFault m s → ⊥
@@ -99,7 +111,9 @@ module _ {T : Type 0} (m : Compressed T) where
       before (LaneBounds k) b h = absurd (grind arith)
       before (LaneRepeat k) b h = absurd (grind arith)
 
-  pub first_first_last : length m.values ≡ length m.pattern.indices → length m.pattern.offsets ≡ m.pattern.major_dim + 1 → HasUnsortedFault m FirstLast → IsUnsortedRefusal m InvalidStructure
+  pub first_first_last : length m.values ≡ length m.pattern.indices
+      → length m.pattern.offsets ≡ m.pattern.major_dim + 1 → HasUnsortedFault m FirstLast
+      → IsUnsortedRefusal m InvalidStructure
   first_first_last values count bad = record { spot = FirstLast; first = record { here = bad; none_before = before }; is = refl }
     where
       before : (s : UnsortedSpot) → IsBefore (unsorted_rank s) (3, 0, 0) → HasUnsortedFault m s → ⊥

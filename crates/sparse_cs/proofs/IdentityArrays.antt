@@ -21,13 +21,17 @@ module _ (n : ℕ) (offsets indices : List ℕ) (starts : (k : ℕ) → k < n + 
   in_own_lane : (i : ℕ) → i < n → IsInLane (raw_of n n offsets indices) i i
   in_own_lane i lt = record { lane = lt; from = omega (arith, starts i (omega arith)); to = omega (arith, starts (i + 1) (omega arith)) }
 
-  diagonal_places : (i j : ℕ) → IsPlace (raw_of n n offsets indices) i j ↔ ((nat_eq i j && nat_lt i n) ≡ true)
+  diagonal_places : (i j : ℕ)
+      → IsPlace (raw_of n n offsets indices) i j ↔ ((nat_eq i j && nat_lt i n) ≡ true)
   diagonal_places i j = (
     λ h. let same = position_is i h.at h.in_lane in (on_diagonal i j n).1 (sym (own i h.in_lane.lane) ∙ ap (λ p. get_or indices p 0) (sym same) ∙ h.index, h.in_lane.lane),
     λ h. let d = (on_diagonal i j n).0 h in record { at = i; in_lane = in_own_lane i d.1; index = own i d.1 ∙ d.0 },
   )
 
-  pub counting_is_identity : (R : CommRing) {T : Type 0} (f : T → R.Carrier) (z : T) (values : List T) → IsSound (arrays_of n n offsets indices values) → ((k : ℕ) → k < n → f (get_or values k z) ≡ R.one) → plain_of_rows R f (arrays_of n n offsets indices values) ≡ plain_identity R n
+  pub counting_is_identity : (R : CommRing) {T : Type 0} (f : T → R.Carrier) (z : T) (values : List T)
+      → IsSound (arrays_of n n offsets indices values)
+      → ((k : ℕ) → k < n → f (get_or values k z) ≡ R.one)
+      → plain_of_rows R f (arrays_of n n offsets indices values) ≡ plain_identity R n
   counting_is_identity R f z values sound ones =
       stands R f z (arrays_of n n offsets indices values) (plain_identity R n) sound (proper_identity R n) refl refl diagonal_places
       (λ i j p at.

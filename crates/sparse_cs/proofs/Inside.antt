@@ -7,13 +7,16 @@ use Rattle.sparse_pattern.proofs.Positions.{lane_of_position}
 use Rattle.sparse_cs.proofs.Arrays.{entry_at}
 
 module _ {T : Type 0} where
-  length-zip : (ps : List (ℕ × ℕ)) (vs : List T) → length ps ≡ length vs → length (zip_values ps vs) ≡ length vs
+  length-zip : (ps : List (ℕ × ℕ)) (vs : List T) → length ps ≡ length vs
+      → length (zip_values ps vs) ≡ length vs
   length-zip [] [] e = refl
   length-zip [] (v ∷ vs) e = absurd (omega arith)
   length-zip (p ∷ ps) [] e = absurd (omega arith)
   length-zip (p ∷ ps) (v ∷ vs) e = ap suc (length-zip ps vs (omega arith))
 
-  zip-pair : (ps : List (ℕ × ℕ)) (vs : List T) (k : ℕ) (t : ℕ × ℕ × T) → length ps ≡ length vs → k < length vs → ((get_or (zip_values ps vs) k t).0 ≡ (get_or ps k (0, 0)).0) × ((get_or (zip_values ps vs) k t).1 ≡ (get_or ps k (0, 0)).1)
+  zip-pair : (ps : List (ℕ × ℕ)) (vs : List T) (k : ℕ) (t : ℕ × ℕ × T) → length ps ≡ length vs
+      → k < length vs
+      → ((get_or (zip_values ps vs) k t).0 ≡ (get_or ps k (0, 0)).0) × ((get_or (zip_values ps vs) k t).1 ≡ (get_or ps k (0, 0)).1)
   zip-pair [] [] k t e lt = absurd (omega arith)
   zip-pair [] (v ∷ vs) k t e lt = absurd (omega arith)
   zip-pair (p ∷ ps) [] k t e lt = absurd (omega arith)

@@ -11,18 +11,21 @@ use Rattle.sparse_cs.specs.InnerFilter.{IsGrown}
 use Rattle.sparse_cs.proofs.LaneSortingLemmas.{zip-push, pairs_more}
 
 module _ {X : Type 0} (R : X → Bool → Type 0) where
-  cond-append : (b : Bool) (x : X) (ys zs : List X) → cond b (x ∷ ys) ys ++ zs ≡ cond b (x ∷ (ys ++ zs)) (ys ++ zs)
+  cond-append : (b : Bool) (x : X) (ys zs : List X)
+      → cond b (x ∷ ys) ys ++ zs ≡ cond b (x ∷ (ys ++ zs)) (ys ++ zs)
   cond-append true x ys zs = refl
   cond-append false x ys zs = refl
 
   -- what is kept of one list and then of another
-  pub IsKept-append : (xs us ys vs : List X) → IsKept R xs ys → IsKept R us vs → IsKept R (xs ++ us) (ys ++ vs)
+  pub IsKept-append : (xs us ys vs : List X) → IsKept R xs ys → IsKept R us vs
+      → IsKept R (xs ++ us) (ys ++ vs)
   IsKept-append [] us ys vs h k = subst (λ zs. IsKept R us (zs ++ vs)) (sym h) k
   IsKept-append (x ∷ xs) us ys vs h k =
       (h.0, h.1, h.2 ++ vs, IsKept-append xs us h.2 vs h.3 k, ap (λ zs. zs ++ vs) h.4 ∙ cond-append h.0 x h.2 vs)
 
   -- one more element is kept or left
-  pub IsKept-push : (xs ys : List X) (x : X) (b : Bool) → IsKept R xs ys → R x b → IsKept R (xs ++ x ∷ []) (ys ++ cond b (x ∷ []) [])
+  pub IsKept-push : (xs ys : List X) (x : X) (b : Bool) → IsKept R xs ys → R x b
+      → IsKept R (xs ++ x ∷ []) (ys ++ cond b (x ∷ []) [])
   IsKept-push xs ys x b h r = IsKept-append xs (x ∷ []) ys _ h (b, r, [], refl, refl)
 
   -- where each answer is a test's, what is kept is what the test passes
@@ -33,7 +36,9 @@ module _ {X : Type 0} (R : X → Bool → Type 0) where
         h.4 ∙ ap (λ zs. cond h.0 (x ∷ zs) zs) (filter_from_kept xs h.2 h.3) ∙ ap (λ b. cond b (x ∷ filter test xs) (filter test xs)) (says x h.0 h.1)
 
 -- what is kept of the images
-pub IsKept-map : {X Y : Type 0} (R : X → Bool → Type 0) (S : Y → Bool → Type 0) (f : X → Y) → ((x : X) (b : Bool) → R x b → S (f x) b) → (xs ys : List X) → IsKept R xs ys → IsKept S (map f xs) (map f ys)
+pub IsKept-map : {X Y : Type 0} (R : X → Bool → Type 0) (S : Y → Bool → Type 0) (f : X → Y)
+    → ((x : X) (b : Bool) → R x b → S (f x) b) → (xs ys : List X) → IsKept R xs ys
+    → IsKept S (map f xs) (map f ys)
 IsKept-map R S f says [] ys h = ap (map f) h
 IsKept-map R S f says (x ∷ xs) ys h = (h.0, says x h.0 h.1, map f h.2, IsKept-map R S f says xs h.2 h.3, ap (map f) h.4 ∙ chosen h.0)
   where
@@ -66,7 +71,8 @@ module _ {T : Type 0} (R : ℕ × T → Bool → Type 0) where
     more : zip (take k indices) (take k values) ++ (x, v) ∷ [] ≡ zip (take (k + 1) indices) (take (k + 1) values)
     more = pairs_more indices values k x v e lt is_x is_v
 
-    pub keep_more : R (x, v) true → IsGrown R (zip (take (k + 1) indices) (take (k + 1) values)) xs vs (ys ++ x ∷ []) (ws ++ v ∷ [])
+    pub keep_more : R (x, v) true
+        → IsGrown R (zip (take (k + 1) indices) (take (k + 1) values)) xs vs (ys ++ x ∷ []) (ws ++ v ∷ [])
     keep_more answer = record {
       indices = grown.indices ++ x ∷ [];
       values = grown.values ++ v ∷ [];
@@ -77,7 +83,8 @@ module _ {T : Type 0} (R : ℕ × T → Bool → Type 0) where
           (subst (IsKept R (zip (take k indices) (take k values) ++ (x, v) ∷ [])) (sym (zip-push grown.indices grown.values x v grown.count)) (IsKept-push R _ _ (x, v) true grown.kept answer));
     }
 
-    pub leave_more : R (x, v) false → IsGrown R (zip (take (k + 1) indices) (take (k + 1) values)) xs vs ys ws
+    pub leave_more : R (x, v) false
+        → IsGrown R (zip (take (k + 1) indices) (take (k + 1) values)) xs vs ys ws
     leave_more answer = record {
       indices = grown.indices;
       values = grown.values;
@@ -88,5 +95,6 @@ module _ {T : Type 0} (R : ℕ × T → Bool → Type 0) where
     }
 
 -- what a call answers
-pub answered : {F T : Type 0} (g : Shared F (ℕ × (ℕ × (Bor T × Unit {0}))) Bool) {f : F} {i j : ℕ} {y : Bor T} {r b : Bool} → g.post f (i, (j, (y, tt))) r → r ≡ b → Answers g f (i, j, y.now) b
+pub answered : {F T : Type 0} (g : Shared F (ℕ × (ℕ × (Bor T × Unit {0}))) Bool) {f : F} {i j : ℕ} {y : Bor T} {r b : Bool}
+    → g.post f (i, (j, (y, tt))) r → r ≡ b → Answers g f (i, j, y.now) b
 answered g {f} {i} {j} {y} h e = record { shown = y; shows = refl; says = record { met = subst (λ b. g.post f (i, (j, (y, tt))) b) e h } }

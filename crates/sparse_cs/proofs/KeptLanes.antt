@@ -19,7 +19,8 @@ use Rattle.sparse_cs.proofs.UnsortedLanes.{lane_values}
 
 module _ {X : Type 0} where
   -- a part of the front
-  between_front : (xs ys : List X) (a b : ℕ) → a ≤ b → b ≤ length xs → slice_range (xs ++ ys) a b ≡ slice_range xs a b
+  between_front : (xs ys : List X) (a b : ℕ) → a ≤ b → b ≤ length xs
+      → slice_range (xs ++ ys) a b ≡ slice_range xs a b
   between_front xs ys a b le within =
       ap (take (b - a)) (drop-append-le a xs ys (omega arith)) ∙ take-append-le (b - a) (drop a xs) ys (omega (arith, length-drop a xs))
 
@@ -58,7 +59,8 @@ module _ {T : Type 0} (R : ℕ × ℕ × T → Bool → Type 0) (m : Compressed 
     newest : get_or (offsets ++ end ∷ []) (i + 1) 0 ≡ end
     newest = let at : length offsets ≡ i + 1 = h.offset_count in grind (arith, common_steps)
 
-    old_lane : (k : ℕ) → k < i → IsKeptLane (offsets ++ end ∷ []) (indices ++ more) (values ++ more_values) k
+    old_lane : (k : ℕ) → k < i
+        → IsKeptLane (offsets ++ end ∷ []) (indices ++ more) (values ++ more_values) k
     old_lane k lt =
         let l = h.lanes k lt in
         record {
@@ -67,7 +69,8 @@ module _ {T : Type 0} (R : ℕ × ℕ × T → Bool → Type 0) (m : Compressed 
           kept = rw (earlier k (omega arith), earlier (k + 1) (omega arith), between_front indices more (get_or offsets k 0) (get_or offsets (k + 1) 0) l.ordered l.inside, between_front values more_values (get_or offsets k 0) (get_or offsets (k + 1) 0) l.ordered (omega (arith, l.inside, h.value_count))) l.kept;
         }
 
-    new_lane : IsKept (λ p b. R (i, p.0, p.1) b) (zip (lane_of m.pattern i) (lane_values m i)) (zip more more_values) → IsKeptLane (offsets ++ end ∷ []) (indices ++ more) (values ++ more_values) i
+    new_lane : IsKept (λ p b. R (i, p.0, p.1) b) (zip (lane_of m.pattern i) (lane_values m i)) (zip more more_values)
+        → IsKeptLane (offsets ++ end ∷ []) (indices ++ more) (values ++ more_values) i
     new_lane kept =
         let values_end : slice_range (values ++ more_values) (length indices) end ≡ more_values = ap (λ n. slice_range (values ++ more_values) n (n + length more)) (sym h.value_count) ∙ ap (λ n. slice_range (values ++ more_values) (length values) (length values + n)) (sym count) ∙ between_end values more_values in
         record {
@@ -76,7 +79,8 @@ module _ {T : Type 0} (R : ℕ × ℕ × T → Bool → Type 0) (m : Compressed 
           kept = rw (earlier i (omega arith), newest, h.last, between_end indices more, values_end) kept;
         }
 
-    one_more : IsKept (λ p b. R (i, p.0, p.1) b) (zip (lane_of m.pattern i) (lane_values m i)) (zip more more_values) → AreKeptLanes (offsets ++ end ∷ []) (indices ++ more) (values ++ more_values) (i + 1)
+    one_more : IsKept (λ p b. R (i, p.0, p.1) b) (zip (lane_of m.pattern i) (lane_values m i)) (zip more more_values)
+        → AreKeptLanes (offsets ++ end ∷ []) (indices ++ more) (values ++ more_values) (i + 1)
     one_more kept = record {
       offset_count = omega (arith, length-append offsets (end ∷ []), h.offset_count);
       first = earlier 0 (omega arith) ∙ h.first;
@@ -86,7 +90,10 @@ module _ {T : Type 0} (R : ℕ × ℕ × T → Bool → Type 0) (m : Compressed 
     }
 
   -- one more lane is gone through
-  pub kept_step : (offsets indices indices' : List ℕ) (values values' : List T) (i e : ℕ) (js : List ℕ) (us : List T) → AreKeptLanes offsets indices values i → js ≡ lane_of m.pattern i → us ≡ lane_values m i → IsGrown (λ p b. R (i, p.0, p.1) b) (zip js us) indices values indices' values' → e ≡ length indices' → AreKeptLanes (offsets ++ e ∷ []) indices' values' (i + 1)
+  pub kept_step : (offsets indices indices' : List ℕ) (values values' : List T) (i e : ℕ) (js : List ℕ) (us : List T)
+      → AreKeptLanes offsets indices values i → js ≡ lane_of m.pattern i → us ≡ lane_values m i
+      → IsGrown (λ p b. R (i, p.0, p.1) b) (zip js us) indices values indices' values'
+      → e ≡ length indices' → AreKeptLanes (offsets ++ e ∷ []) indices' values' (i + 1)
   kept_step offsets indices indices' values values' i e js us h here here_values grown is =
       let kept = rw (here, here_values) at grown.kept in
       let long : e ≡ length indices + length grown.indices = is ∙ ap length grown.index_end ∙ length-append indices grown.indices in
@@ -98,7 +105,8 @@ module _ {T : Type 0} (R : ℕ × ℕ × T → Bool → Type 0) (m : Compressed 
     now = arrays_of m.pattern.major_dim m.pattern.minor_dim offsets indices values
 
     -- the indices of a lane are some of those that it had
-    indices_kept : (i : ℕ) → i < m.pattern.major_dim → IsKept (λ _ _. ⊤) (lane_of m.pattern i) (lane_of now.pattern i)
+    indices_kept : (i : ℕ) → i < m.pattern.major_dim
+        → IsKept (λ _ _. ⊤) (lane_of m.pattern i) (lane_of now.pattern i)
     indices_kept i lt =
         let l = done.lanes i lt in
         let v = sound.valid.lanes i lt in
@@ -153,7 +161,8 @@ module _ {T : Type 0} (R : ℕ × ℕ × T → Bool → Type 0) (m : Compressed 
     pub kept_valid : IsValid now.pattern
     kept_valid = record { count = done.offset_count; first = done.first; last = done.last; lanes = valid_lane }
 
-    kept_from : (n i : ℕ) → i + n ≡ m.pattern.major_dim → IsKept R (zip_values (entries_from m.pattern.offsets m.pattern.indices i n) (drop (start_of m.pattern i) m.values)) (zip_values (entries_from offsets indices i n) (drop (get_or offsets i 0) values))
+    kept_from : (n i : ℕ) → i + n ≡ m.pattern.major_dim
+        → IsKept R (zip_values (entries_from m.pattern.offsets m.pattern.indices i n) (drop (start_of m.pattern i) m.values)) (zip_values (entries_from offsets indices i n) (drop (get_or offsets i 0) values))
     kept_from zero i e = refl
     kept_from (suc n) i e =
         let v = sound.valid.lanes i (omega arith) in

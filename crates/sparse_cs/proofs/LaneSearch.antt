@@ -22,17 +22,20 @@ use Rattle.sparse_cs.specs.StoredEntries.{place_of}
 pub rising_lane : (d : Raw) (i : ℕ) → IsValidLane d i → IsStrictlyIncreasing (lane_of d i)
 rising_lane d i valid k within = lane_rises d i valid k (k + 1) (omega arith) within
 
-not_falling : (xs : List ℕ) → IsStrictlyIncreasing xs → (a b : ℕ) → a ≤ b → b < length xs → get_or xs a 0 ≤ get_or xs b 0
+not_falling : (xs : List ℕ) → IsStrictlyIncreasing xs → (a b : ℕ) → a ≤ b → b < length xs
+    → get_or xs a 0 ≤ get_or xs b 0
 not_falling xs rising a b le within = grind (arith, AllPairs-from_increasing xs rising a b 0)
 
 -- the position of a number in rising numbers
-pub position_at : (xs : List ℕ) (j k : ℕ) → IsStrictlyIncreasing xs → k < length xs → get_or xs k 0 ≡ j → position (λ x. x == j) xs ≡ Some k
+pub position_at : (xs : List ℕ) (j k : ℕ) → IsStrictlyIncreasing xs → k < length xs
+    → get_or xs k 0 ≡ j → position (λ x. x == j) xs ≡ Some k
 position_at xs j k rising within is =
     let here = position_or_len_is (λ x. x == j) xs k 0 (omega arith) (λ l lt. grind (arith, nat_tests, AllPairs-from_increasing xs rising l k 0)) (λ lt. grind (arith, nat_tests)) in
     grind (arith, common_steps, nat_tests, here)
 
 -- a binary search in rising indices finds the position
-pub search_is_position : (xs : List ℕ) (j : ℕ) (r : Result ℕ ℕ) → IsStrictlyIncreasing xs → IsBinarySearchResult (λ y. nat_cmp y j) xs r → result_ok r ≡ position (λ x. x == j) xs
+pub search_is_position : (xs : List ℕ) (j : ℕ) (r : Result ℕ ℕ) → IsStrictlyIncreasing xs
+    → IsBinarySearchResult (λ y. nat_cmp y j) xs r → result_ok r ≡ position (λ x. x == j) xs
 search_is_position xs j (Ok k) rising is =
     let at = searched xs j (Ok k) is (not_falling xs rising) in
     sym (position_at xs j k rising at.0 at.1)

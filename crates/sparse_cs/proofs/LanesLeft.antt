@@ -22,7 +22,8 @@ module _ {T : Type 0} where
   lanes_with_next d i values lt = lanes_with_suc d i (d.major_dim - i) (d.major_dim - (i + 1)) values (omega arith)
 
   -- no lane is left
-  pub lanes_with_end : (d : Raw) (i : ℕ) (values : List T) → d.major_dim ≤ i → lanes_with d i (d.major_dim - i) values ≡ []
+  pub lanes_with_end : (d : Raw) (i : ℕ) (values : List T) → d.major_dim ≤ i
+      → lanes_with d i (d.major_dim - i) values ≡ []
   lanes_with_end d i values le =
       let none : d.major_dim - i ≡ 0 = omega arith in
       ap (λ k. lanes_with d i k values) none
@@ -43,7 +44,8 @@ module _ {T : Type 0} where
       ∙ ap (λ ls. lane_at m i ∷ ls) (cut_lanes m sound n (i + 1) (omega arith))
 
   -- the values are cut into the lanes of the matrix
-  pub lanes_with_all : (m : Compressed T) → IsSound m → lanes_with m.pattern 0 (m.pattern.major_dim - 0) m.values ≡ lanes_of m
+  pub lanes_with_all : (m : Compressed T) → IsSound m
+      → lanes_with m.pattern 0 (m.pattern.major_dim - 0) m.values ≡ lanes_of m
   lanes_with_all m sound =
       let whole : m.pattern.major_dim - 0 ≡ m.pattern.major_dim = omega arith in
       ap (λ n. lanes_with m.pattern 0 n m.values) whole

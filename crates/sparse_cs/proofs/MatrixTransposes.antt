@@ -16,14 +16,16 @@ use Rattle.sparse_cs.proofs.Arrays.{value_at_position, has_is_place, stands, pro
 
 module _ {T : Type 0} where
   -- a transposed pattern with its values
-  pub with_values : (m : Compressed T) (t : Raw) (values : List T) → IsTransposedPattern m.pattern t → AreTransposedValues m.pattern t m.values values → IsTranspose m (compressed_of t values)
+  pub with_values : (m : Compressed T) (t : Raw) (values : List T) → IsTransposedPattern m.pattern t
+      → AreTransposedValues m.pattern t m.values values → IsTranspose m (compressed_of t values)
   with_values m t values transposed moved = record {
     pattern = transposed;
     values = λ i j p q here there. moved i j p q here.0 here.1 there.0 there.1;
   }
 
   -- lists that have the same element at a position
-  same_read : (xs ys : List T) (p q : ℕ) (z : T) → slice_get xs p ≡ slice_get ys q → get_or xs p z ≡ get_or ys q z
+  same_read : (xs ys : List T) (p q : ℕ) (z : T) → slice_get xs p ≡ slice_get ys q
+      → get_or xs p z ≡ get_or ys q z
   same_read xs ys p q z same = sym (unwrap_or-slice_get xs p z) ∙ ap (λ x. unwrap_or x z) same ∙ unwrap_or-slice_get ys q z
 
   turned_back : (m n : Compressed T) → IsTranspose m n → IsTranspose n m
@@ -37,7 +39,8 @@ module _ {T : Type 0} where
   }
 
   -- a matrix transposed twice
-  pub twice : (m n k : Compressed T) → IsSound m → IsSound k → IsTranspose m n → IsTranspose n k → k ≡ m
+  pub twice : (m n k : Compressed T) → IsSound m → IsSound k → IsTranspose m n → IsTranspose n k
+      → k ≡ m
   twice m n k sm sk once again = ap (λ d. compressed_of d k.values) patterns ∙ ap (compressed_of m.pattern) values
     where
       patterns : k.pattern ≡ m.pattern
@@ -58,11 +61,13 @@ module _ {T : Type 0} where
           let home : IsPosition k.pattern lane.0 j p = subst (λ d. IsPosition d lane.0 j p) (sym patterns) here in
           same_read k.values m.values p p z (again.values j lane.0 place.at p there home ∙ once.values lane.0 j p place.at here there))
 
-  pub one_transpose : (m n k : Compressed T) → IsSound n → IsSound k → IsTranspose m n → IsTranspose m k → n ≡ k
+  pub one_transpose : (m n k : Compressed T) → IsSound n → IsSound k → IsTranspose m n
+      → IsTranspose m k → n ≡ k
   one_transpose m n k sn sk left right = twice k m n sk sn (turned_back m k right) left
 
   -- the plain matrix of a transpose
-  pub plain_transposed : (R : CommRing) (f : T → R.Carrier) (z : T) (m n : Compressed T) → IsSound m → IsSound n → IsTranspose m n → plain_of_rows R f n ≡ plain_transpose R (plain_of_rows R f m)
+  pub plain_transposed : (R : CommRing) (f : T → R.Carrier) (z : T) (m n : Compressed T) → IsSound m
+      → IsSound n → IsTranspose m n → plain_of_rows R f n ≡ plain_transpose R (plain_of_rows R f m)
   plain_transposed R f z m n sm sn h =
       stands R f z n (plain_transpose R (plain_of_rows R f m)) sn (λ i j. proper_rows R f m j i) h.pattern.major_dim h.pattern.minor_dim
       (λ i j.

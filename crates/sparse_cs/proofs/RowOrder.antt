@@ -25,7 +25,8 @@ passing zero test = []
 passing (suc n) test = passing n test ++ (if test n then n ∷ [] else [])
 
 -- a list of a place or none, for each number below n
-passing_is : {X : Type 0} (n : ℕ) (test : ℕ → Bool) (f : ℕ → X) → flat_map (λ j. if test j then f j ∷ [] else []) (below n) ≡ map f (passing n test)
+passing_is : {X : Type 0} (n : ℕ) (test : ℕ → Bool) (f : ℕ → X)
+    → flat_map (λ j. if test j then f j ∷ [] else []) (below n) ≡ map f (passing n test)
 passing_is zero test f = refl
 passing_is (suc n) test f =
     flat_map-append (λ j. if test j then f j ∷ [] else []) (below n) (n ∷ []) ∙ ap (λ l. l ++ ((if test n then f n ∷ [] else []) ++ [])) (passing_is n test f) ∙ ap (λ l. map f (passing n test) ++ l) (last (test n))
@@ -82,7 +83,8 @@ module _ (test : ℕ → Bool) where
     | inr here ↦ (omega (arith, here.0), ap test (sym here.0) ∙ here.1)
   ]
     where
-      cases : (b : Bool) → test n ≡ b → Has (passing n test ++ (if b then n ∷ [] else [])) j → Has (passing n test) j ⊎ ((n ≡ j) × (test n ≡ true))
+      cases : (b : Bool) → test n ≡ b → Has (passing n test ++ (if b then n ∷ [] else [])) j
+          → Has (passing n test) j ⊎ ((n ≡ j) × (test n ≡ true))
       cases true e h = elim (has_push_cases (passing n test) n j h) [ inl before ↦ inl before | inr here ↦ inr (here, e) ]
       cases false e h = inl (subst (λ l. Has l j) (append-nil (passing n test)) h)
 
@@ -90,7 +92,8 @@ module _ (test : ℕ → Bool) where
   rises-passing zero = λ a b lt within. absurd (omega arith)
   rises-passing (suc n) = step (rises-passing n) (test n)
     where
-      step : Rises (passing n test) → (b : Bool) → Rises (passing n test ++ (if b then n ∷ [] else []))
+      step : Rises (passing n test) → (b : Bool)
+          → Rises (passing n test ++ (if b then n ∷ [] else []))
       step before true = rises_push (passing n test) n before (λ y h. (has_passing n y h).0)
       step before false = subst Rises (sym (append-nil (passing n test))) before
 
@@ -107,7 +110,8 @@ module _ (d : Raw) (valid : IsValid d) (test : ℕ → ℕ → Bool) (places : (
       passing_has (test i) d.minor_dim j (subst (λ k. k < d.minor_dim) place.index (v.bounded place.at place.in_lane.from place.in_lane.to)) ((places i j).1 place))
 
 -- the pairs of n lanes, with the last lane at the end
-entries_from-suc : (offsets indices : List ℕ) (i n : ℕ) → entries_from offsets indices i (suc n) ≡ entries_from offsets indices i n ++ paired (i + n) (slice_range indices (slice_index offsets (i + n)) (slice_index offsets (i + n + 1)))
+entries_from-suc : (offsets indices : List ℕ) (i n : ℕ)
+    → entries_from offsets indices i (suc n) ≡ entries_from offsets indices i n ++ paired (i + n) (slice_range indices (slice_index offsets (i + n)) (slice_index offsets (i + n + 1)))
 entries_from-suc offsets indices i zero = append-nil _ ∙ ap (λ k. paired k (slice_range indices (slice_index offsets k) (slice_index offsets (k + 1)))) (omega arith)
 entries_from-suc offsets indices i (suc n) =
     let front = paired i (slice_range indices (slice_index offsets i) (slice_index offsets (i + 1))) in
@@ -115,7 +119,8 @@ entries_from-suc offsets indices i (suc n) =
     ap (λ l. front ++ l) (entries_from-suc offsets indices (i + 1) n ∙ ap (λ k. entries_from offsets indices (i + 1) n ++ paired k (slice_range indices (slice_index offsets k) (slice_index offsets (k + 1)))) at)
     ∙ sym (append_assoc front (entries_from offsets indices (i + 1) n) _)
 
-entries_from_below : (d : Raw) (n : ℕ) → entries_from d.offsets d.indices 0 n ≡ flat_map (λ i. paired i (lane_of d i)) (below n)
+entries_from_below : (d : Raw) (n : ℕ)
+    → entries_from d.offsets d.indices 0 n ≡ flat_map (λ i. paired i (lane_of d i)) (below n)
 entries_from_below d zero = refl
 entries_from_below d (suc n) =
     let at : 0 + n ≡ n = omega arith in
@@ -124,22 +129,27 @@ entries_from_below d (suc n) =
 
 -- ---- lists
 
-flat_map_below-same : {X : Type 0} (n : ℕ) (f g : ℕ → List X) → ((k : ℕ) → k < n → f k ≡ g k) → flat_map f (below n) ≡ flat_map g (below n)
+flat_map_below-same : {X : Type 0} (n : ℕ) (f g : ℕ → List X) → ((k : ℕ) → k < n → f k ≡ g k)
+    → flat_map f (below n) ≡ flat_map g (below n)
 flat_map_below-same zero f g h = refl
 flat_map_below-same (suc n) f g h =
     flat_map-append f (below n) (n ∷ []) ∙ ap (λ l. l ++ (f n ++ [])) (flat_map_below-same n f g (λ k lt. h k (omega arith))) ∙ ap (λ l. flat_map g (below n) ++ (l ++ [])) (h n (omega arith)) ∙ sym (flat_map-append g (below n) (n ∷ []))
 
-map-flat_map : {X Y Z : Type 0} (h : Y → Z) (f : X → List Y) (xs : List X) → map h (flat_map f xs) ≡ flat_map (λ x. map h (f x)) xs
+map-flat_map : {X Y Z : Type 0} (h : Y → Z) (f : X → List Y) (xs : List X)
+    → map h (flat_map f xs) ≡ flat_map (λ x. map h (f x)) xs
 map-flat_map h f [] = refl
 map-flat_map h f (x ∷ xs) = map-append h (f x) (flat_map f xs) ∙ ap (λ l. map h (f x) ++ l) (map-flat_map h f xs)
 
-map-paired : {X : Type 0} (h : ℕ × ℕ → X) (i : ℕ) (js : List ℕ) → map h (paired i js) ≡ map (λ j. h (i, j)) js
+map-paired : {X : Type 0} (h : ℕ × ℕ → X) (i : ℕ) (js : List ℕ)
+    → map h (paired i js) ≡ map (λ j. h (i, j)) js
 map-paired h i [] = refl
 map-paired h i (j ∷ js) = ap (λ l. h (i, j) ∷ l) (map-paired h i js)
 
 module _ {T C : Type 0} (f : T → C) (value : ℕ → ℕ → C) where
   -- a value at each pair, which is the one that stands beside it
-  map-zip_values : (ps : List (ℕ × ℕ)) (vs : List T) → length ps ≡ length vs → ((z : T) (k : ℕ) → k < length ps → f (get_or vs k z) ≡ value (get_or ps k (0, 0)).0 (get_or ps k (0, 0)).1) → map {B = ℕ × ℕ × C} (λ t. (t.0, t.1, f t.2)) (zip_values ps vs) ≡ map (λ p. (p.0, p.1, value p.0 p.1)) ps
+  map-zip_values : (ps : List (ℕ × ℕ)) (vs : List T) → length ps ≡ length vs
+      → ((z : T) (k : ℕ) → k < length ps → f (get_or vs k z) ≡ value (get_or ps k (0, 0)).0 (get_or ps k (0, 0)).1)
+      → map {B = ℕ × ℕ × C} (λ t. (t.0, t.1, f t.2)) (zip_values ps vs) ≡ map (λ p. (p.0, p.1, value p.0 p.1)) ps
   map-zip_values [] vs e h = refl
   map-zip_values (p ∷ ps) [] e h = absurd (omega arith)
   map-zip_values (p ∷ ps) (v ∷ vs) e h =

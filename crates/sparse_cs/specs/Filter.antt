@@ -16,7 +16,8 @@ pub record Answers {F T : Type 0} (g : Shared F (ℕ × (ℕ × (Bor T × Unit {
   pub says : FnReturns g f (t.0, (t.1, (shown, tt))) b
 
 -- f answers at each triplet as the test does
-abbrev pub AnswersAs : {F T : Type 0} → Shared F (ℕ × (ℕ × (Bor T × Unit {0}))) Bool → F → (ℕ × ℕ × T → Bool) → Type 0
+abbrev pub AnswersAs : {F T : Type 0} → Shared F (ℕ × (ℕ × (Bor T × Unit {0}))) Bool → F
+    → (ℕ × ℕ × T → Bool) → Type 0
 AnswersAs {T = T} g f test = (t : ℕ × ℕ × T) (b : Bool) → Answers g f t b → b ≡ test t
 
 module _ {T : Type 0} where

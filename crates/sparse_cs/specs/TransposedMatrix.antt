@@ -6,4 +6,5 @@ use Rattle.sparse_cs.specs.Compressed.{Compressed, IsPosition}
 -- n has the transposed pattern of m, and at (j, i) the value of (i, j)
 pub record IsTranspose {T : Type 0} (m n : Compressed T) : Type 0 where
   pub pattern : IsTransposedPattern m.pattern n.pattern
-  pub values : (i j p q : ℕ) → IsPosition m.pattern i j p → IsPosition n.pattern j i q → slice_get n.values q ≡ slice_get m.values p
+  pub values : (i j p q : ℕ) → IsPosition m.pattern i j p → IsPosition n.pattern j i q
+      → slice_get n.values q ≡ slice_get m.values p

@@ -61,10 +61,12 @@ pub fn other_form_law<T: Ring>()
 
 /// A matrix has one transpose.
 pub fn one_transpose_law<T>()
-    ensures { (m n k : Compressed T) → IsSound n → IsSound k → IsTranspose m n → IsTranspose m k → n ≡ k }
+    ensures { (m n k : Compressed T) → IsSound n → IsSound k → IsTranspose m n → IsTranspose m k
+        → n ≡ k }
 {}
 
 /// A matrix transposed twice is itself.
 pub fn transpose_twice_law<T>()
-    ensures { (m n k : Compressed T) → IsSound m → IsSound k → IsTranspose m n → IsTranspose n k → k ≡ m }
+    ensures { (m n k : Compressed T) → IsSound m → IsSound k → IsTranspose m n → IsTranspose n k
+        → k ≡ m }
 {}

@@ -43,7 +43,8 @@ impl<T: Drop> CsMatrix<T> {
         ensures ok { IfOk result (λ m. m ≡ arrays_of major_dim minor_dim major_offsets.items minor_indices.items values.items) }
         ensures sound { IfOk result IsSound }
         ensures fault { IfErr result (IsFirstSortedFault (arrays_of major_dim minor_dim major_offsets.items minor_indices.items values.items)) }
-        ensures taken { IsSound (arrays_of major_dim minor_dim major_offsets.items minor_indices.items values.items) → IsOk result }
+        ensures taken { IsSound (arrays_of major_dim minor_dim major_offsets.items minor_indices.items values.items)
+            → IsOk result }
     {
         match SparsityPattern::try_from_offsets_and_indices(
             major_dim,
@@ -63,7 +64,8 @@ impl<T: Drop> CsMatrix<T> {
     ) -> Result<Self, SortedFault>
         ensures ok { IfOk result (λ m. m ≡ compressed_of pattern values.items) }
         ensures sound { IfOk result IsSound }
-        ensures fault { IfErr result (λ e. (e ≡ SortedFault.ValueCount) × (length values.items ≢ length pattern.indices)) }
+        ensures fault { IfErr result (λ e. (e ≡ SortedFault.ValueCount)
+            × (length values.items ≢ length pattern.indices)) }
         ensures taken { length values.items ≡ length pattern.indices → IsOk result }
     {
         if values.len() != pattern.nnz() {

@@ -36,16 +36,19 @@ module _ {T V : Type 0} (h : T → V) where
   abbrev via : List (ℕ × ℕ × T) → List (ℕ × ℕ × V)
   via ts = map (λ t. (t.0, t.1, h t.2)) ts
 
-  any-via : (i j : ℕ) (ts : List (ℕ × ℕ × T)) → list_any (is_at i j) ts ≡ list_any (is_at i j) (via ts)
+  any-via : (i j : ℕ) (ts : List (ℕ × ℕ × T))
+      → list_any (is_at i j) ts ≡ list_any (is_at i j) (via ts)
   any-via i j [] = refl
   any-via i j (t ∷ ts) = ap (λ b. is_at i j t || b) (any-via i j ts)
 
   module _ (R : CommRing) (f : V → R.Carrier) where
-    sum-via : (i j : ℕ) (ts : List (ℕ × ℕ × T)) → sum_by R (λ t. where_true R (is_at i j t) (f (h t.2))) ts ≡ sum_by R (λ t. where_true R (is_at i j t) (f t.2)) (via ts)
+    sum-via : (i j : ℕ) (ts : List (ℕ × ℕ × T))
+        → sum_by R (λ t. where_true R (is_at i j t) (f (h t.2))) ts ≡ sum_by R (λ t. where_true R (is_at i j t) (f t.2)) (via ts)
     sum-via i j [] = refl
     sum-via i j (t ∷ ts) = ap (R.add (where_true R (is_at i j t) (f (h t.2)))) (sum-via i j ts)
 
-    plain-via : (rows cols : ℕ) (ts : List (ℕ × ℕ × T)) → plain_of_triplets R (λ x. f (h x)) rows cols ts ≡ plain_of_triplets R f rows cols (via ts)
+    plain-via : (rows cols : ℕ) (ts : List (ℕ × ℕ × T))
+        → plain_of_triplets R (λ x. f (h x)) rows cols ts ≡ plain_of_triplets R f rows cols (via ts)
     plain-via rows cols ts = same_plain (plain_of_triplets R (λ x. f (h x)) rows cols ts) (plain_of_triplets R f rows cols (via ts)) refl refl (λ i j. any-via i j ts) (λ i j. sum-via i j ts)
 
   module _ (text : V → List ℕ) (own : T → List ℕ) (same : (x : T) → text (h x) ≡ own x) where
@@ -60,7 +63,8 @@ module _ {T V : Type 0} (h : T → V) where
 
 -- ---- what is loaded
 
-pub plains-loaded : (ms : List (Coo W64)) → map (λ m. plain_of_coo ring64 (λ x. class_of w64 (w64_number x)) m) ms ≡ plains (map numbers_of ms)
+pub plains-loaded : (ms : List (Coo W64))
+    → map (λ m. plain_of_coo ring64 (λ x. class_of w64 (w64_number x)) m) ms ≡ plains (map numbers_of ms)
 plains-loaded [] = refl
 plains-loaded (m ∷ ms) =
     ap (λ p. p ∷ map (λ m. plain_of_coo ring64 (λ x. class_of w64 (w64_number x)) m) ms) (plain-via w64_number ring64 (class_of w64) m.nrows m.ncols m.triplets)
@@ -68,15 +72,18 @@ plains-loaded (m ∷ ms) =
 
 -- ---- what is written
 
-element-text : (x : W64) → element_text (class_of w64 (w64_number x)) ≡ signed_decimal (w64_number x)
+element-text : (x : W64)
+    → element_text (class_of w64 (w64_number x)) ≡ signed_decimal (w64_number x)
 element-text x = ap signed_decimal (number_of-class w64 x.number x.in_range)
 
-pub text_in-rows : (m : Compressed W64) → IsSound m → text_in Rows (plain_of_rows ring64 (λ x. class_of w64 (w64_number x)) m) ≡ rows_text m
+pub text_in-rows : (m : Compressed W64) → IsSound m
+    → text_in Rows (plain_of_rows ring64 (λ x. class_of w64 (w64_number x)) m) ≡ rows_text m
 text_in-rows m sound =
     ap (written_text (codes "integer") element_text m.pattern.major_dim m.pattern.minor_dim) (row_order-rows ring64 (λ x. class_of w64 (w64_number x)) m sound)
     ∙ written-via (λ x. class_of w64 (w64_number x)) element_text (λ x. signed_decimal (w64_number x)) element-text (codes "integer") m.pattern.major_dim m.pattern.minor_dim (lane_triplets m)
 
-pub text_in-any : (form : Form) (m : Compressed W64) → IsSound m → text_in form (plain_of_rows ring64 (λ x. class_of w64 (w64_number x)) m) ≡ rows_text m
+pub text_in-any : (form : Form) (m : Compressed W64) → IsSound m
+    → text_in form (plain_of_rows ring64 (λ x. class_of w64 (w64_number x)) m) ≡ rows_text m
 text_in-any Rows m sound = text_in-rows m sound
 
 -- ---- the answer of a run
@@ -84,7 +91,10 @@ text_in-any Rows m sound = text_in-rows m sound
 abbrev Value : Type 0
 Value = Plain ring64
 
-pub has_outcome : (texts : List (List ℕ)) (expr : Expr) (outcome : Result Value ExprError) (ms : List (Coo W64)) → AllMean texts (map numbers_of ms) → value_of ring64 (map (λ m. plain_of_coo ring64 (λ x. class_of w64 (w64_number x)) m) ms) expr ≡ outcome → HasOutcome texts expr outcome
+pub has_outcome : (texts : List (List ℕ)) (expr : Expr) (outcome : Result Value ExprError) (ms : List (Coo W64))
+    → AllMean texts (map numbers_of ms)
+    → value_of ring64 (map (λ m. plain_of_coo ring64 (λ x. class_of w64 (w64_number x)) m) ms) expr ≡ outcome
+    → HasOutcome texts expr outcome
 has_outcome texts expr outcome ms meant is = record {
   ms = map numbers_of ms;
   meant = meant;
@@ -92,28 +102,37 @@ has_outcome texts expr outcome ms meant is = record {
 }
 
 -- an expression has no other refusal than these
-found-refuses : (o : Option Value) (e : ExprError) → found ring64 o ≡ Err e → (e ≡ errors.NoSuchInput) ⊎ (e ≡ errors.Shape)
+found-refuses : (o : Option Value) (e : ExprError) → found ring64 o ≡ Err e
+    → (e ≡ errors.NoSuchInput) ⊎ (e ≡ errors.Shape)
 found-refuses (Some a) e h = absurd cc
 found-refuses None e h = inl cc
 
-input-refuses : (inputs : List Value) (n : ℕ) (e : ExprError) → input_at ring64 inputs n ≡ Err e → (e ≡ errors.NoSuchInput) ⊎ (e ≡ errors.Shape)
+input-refuses : (inputs : List Value) (n : ℕ) (e : ExprError) → input_at ring64 inputs n ≡ Err e
+    → (e ≡ errors.NoSuchInput) ⊎ (e ≡ errors.Shape)
 input-refuses inputs zero e h = inl cc
 input-refuses inputs (suc n) e h = found-refuses (slice_get inputs n) e h
 
-product-refuses : (b : Bool) (c : Value) (e : ExprError) → (if b then Ok c else Err errors.Shape) ≡ Err e → (e ≡ errors.NoSuchInput) ⊎ (e ≡ errors.Shape)
+product-refuses : (b : Bool) (c : Value) (e : ExprError)
+    → (if b then Ok c else Err errors.Shape) ≡ Err e → (e ≡ errors.NoSuchInput) ⊎ (e ≡ errors.Shape)
 product-refuses true c e h = absurd cc
 product-refuses false c e h = inr cc
 
-both-refuses : (r s : Result Value ExprError) (e : ExprError) → ((f : ExprError) → r ≡ Err f → (f ≡ errors.NoSuchInput) ⊎ (f ≡ errors.Shape)) → ((f : ExprError) → s ≡ Err f → (f ≡ errors.NoSuchInput) ⊎ (f ≡ errors.Shape)) → both ring64 (product_of ring64) r s ≡ Err e → (e ≡ errors.NoSuchInput) ⊎ (e ≡ errors.Shape)
+both-refuses : (r s : Result Value ExprError) (e : ExprError)
+    → ((f : ExprError) → r ≡ Err f → (f ≡ errors.NoSuchInput) ⊎ (f ≡ errors.Shape))
+    → ((f : ExprError) → s ≡ Err f → (f ≡ errors.NoSuchInput) ⊎ (f ≡ errors.Shape))
+    → both ring64 (product_of ring64) r s ≡ Err e → (e ≡ errors.NoSuchInput) ⊎ (e ≡ errors.Shape)
 both-refuses (Err f) s e left right h = left e h
 both-refuses (Ok a) (Err f) e left right h = right e h
 both-refuses (Ok a) (Ok b) e left right h = product-refuses (nat_eq a.cols b.rows) (plain_product ring64 a b) e h
 
-value-refuses : (inputs : List Value) (expr : Expr) (e : ExprError) → value_of ring64 inputs expr ≡ Err e → (e ≡ errors.NoSuchInput) ⊎ (e ≡ errors.Shape)
+value-refuses : (inputs : List Value) (expr : Expr) (e : ExprError)
+    → value_of ring64 inputs expr ≡ Err e → (e ≡ errors.NoSuchInput) ⊎ (e ≡ errors.Shape)
 value-refuses inputs (tree.Input n) e h = input-refuses inputs n e h
 value-refuses inputs (tree.Mul' p a q b) e h = both-refuses (value_of ring64 inputs a) (value_of ring64 inputs b) e (value-refuses inputs a) (value-refuses inputs b) h
 
-pub refuses-value : (form : Form) (texts : List (List ℕ)) (expr : Expr) (eff : Effect) (e : ExprError) → IsUntouched eff → (e ≡ errors.OutOfMemory) ⊎ HasOutcome texts expr (Err e) → RefusesRun form texts expr eff e
+pub refuses-value : (form : Form) (texts : List (List ℕ)) (expr : Expr) (eff : Effect) (e : ExprError)
+    → IsUntouched eff → (e ≡ errors.OutOfMemory) ⊎ HasOutcome texts expr (Err e)
+    → RefusesRun form texts expr eff e
 refuses-value form texts expr eff e same h = elim h [
   | inl memory ↦ subst (RefusesRun form texts expr eff) (sym memory) (same.1, inl same.0)
   | inr outcome ↦ elim (value-refuses (plains outcome.ms) expr e outcome.evaluated) [
@@ -122,7 +141,9 @@ refuses-value form texts expr eff e same h = elim h [
   ]
 ]
 
-pub refuses-save : (form : Form) (texts : List (List ℕ)) (expr : Expr) (eff : Effect) (e : ExprError) → WritesSome form texts expr eff.taken_before eff.taken → RefusesSave eff e → RefusesRun form texts expr eff e
+pub refuses-save : (form : Form) (texts : List (List ℕ)) (expr : Expr) (eff : Effect) (e : ExprError)
+    → WritesSome form texts expr eff.taken_before eff.taken → RefusesSave eff e
+    → RefusesRun form texts expr eff e
 refuses-save form texts expr eff errors.BadWord some h = absurd h
 refuses-save form texts expr eff errors.MissingOperand some h = absurd h
 refuses-save form texts expr eff errors.LeftOver some h = absurd h
@@ -132,7 +153,8 @@ refuses-save form texts expr eff (errors.Input n k) some h = absurd h
 refuses-save form texts expr eff (errors.Write kind) some h = (some, h.0, h.1)
 refuses-save form texts expr eff errors.OutOfMemory some h = (h, inr some)
 
-pub refuses-load : (form : Form) (texts : List (List ℕ)) (expr : Expr) (eff : Effect) (e : ExprError) → IsUntouched eff → RefusesLoad texts e → RefusesRun form texts expr eff e
+pub refuses-load : (form : Form) (texts : List (List ℕ)) (expr : Expr) (eff : Effect) (e : ExprError)
+    → IsUntouched eff → RefusesLoad texts e → RefusesRun form texts expr eff e
 refuses-load form texts expr eff errors.BadWord same h = absurd h
 refuses-load form texts expr eff errors.MissingOperand same h = absurd h
 refuses-load form texts expr eff errors.LeftOver same h = absurd h
@@ -143,6 +165,7 @@ refuses-load form texts expr eff (errors.Write kind) same h = absurd h
 refuses-load form texts expr eff errors.OutOfMemory same h = (same.1, inl same.0)
 
 -- two facts of one refusal
-pub both_of_err : {T E : Type 0} (r : Result T E) (P Q S : E → Type 0) → ((e : E) → P e → Q e → S e) → IfErr r P → IfErr r Q → IfErr r S
+pub both_of_err : {T E : Type 0} (r : Result T E) (P Q S : E → Type 0) → ((e : E) → P e → Q e → S e)
+    → IfErr r P → IfErr r Q → IfErr r S
 both_of_err (Ok x) P Q S f p q = q
 both_of_err (Err e) P Q S f p q = f e p q

@@ -1,4 +1,4 @@
 pub mod Value
-pub mod Words
+pub mod PostfixWords
 pub mod Run
 pub mod InnerRun

@@ -22,7 +22,8 @@ module _ (R : CommRing) where
   product_of a b = if nat_eq a.cols b.rows then Ok (plain_product R a b) else Err Shape
 
   -- the left operand's refusal, then the right one's, then what is made of both
-  abbrev pub both : (Plain R → Plain R → Result (Plain R) ExprError) → Result (Plain R) ExprError → Result (Plain R) ExprError → Result (Plain R) ExprError
+  abbrev pub both : (Plain R → Plain R → Result (Plain R) ExprError) → Result (Plain R) ExprError
+      → Result (Plain R) ExprError → Result (Plain R) ExprError
   both make (Err e) y = Err e
   both make (Ok a) (Err e) = Err e
   both make (Ok a) (Ok b) = make a b
@@ -33,6 +34,7 @@ module _ (R : CommRing) where
   value_of inputs (tree.Mul' p a q b) = both product_of (value_of inputs a) (value_of inputs b)
 
   -- the answer stands for the value, or is the refusal, or memory was refused
-  abbrev pub Meets : {M : Type 0} → (M → Plain R) → Result (Plain R) ExprError → Result M ExprError → Type 0
+  abbrev pub Meets : {M : Type 0} → (M → Plain R) → Result (Plain R) ExprError → Result M ExprError
+      → Type 0
   Meets plain a (Ok m) = a ≡ Ok (plain m)
   Meets plain a (Err e) = (e ≡ OutOfMemory) ⊎ (a ≡ Err e)

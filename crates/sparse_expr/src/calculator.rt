@@ -6,7 +6,7 @@ ghost use Rattle.sparse_parser.specs.Meaning.{Means, numbers_of};
 ghost use Rattle.sparse_io.specs.Sink.{AppendsSome};
 ghost use Rattle.sparse_cs.specs.Compressed.{IsSound};
 ghost use Rattle.sparse_parser.specs.declared.error.MatrixMarketErrorKind.{MatrixMarketErrorKind};
-ghost use Rattle.sparse_expr.specs.Words.{texts};
+ghost use Rattle.sparse_expr.specs.PostfixWords.{texts};
 ghost use Rattle.sparse_expr.specs.Run.{AllMean, Writes, RefusesRun};
 ghost use Rattle.sparse_expr.specs.InnerRun.{RefusesLoad, RefusesSave, rows_text};
 ghost use Rattle.sparse_expr.specs.Run.{effect};

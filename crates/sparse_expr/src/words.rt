@@ -2,7 +2,7 @@
 
 ghost use Rattle.std.specs.Prelude.{◌≡◌, ◌⊎◌, ◌<◌, ◌≤◌, [], ◌∷◌, ◌++◌, OnOk, IfOk, IfErr, length};
 ghost use Rattle.std.specs.List.{flat_map};
-ghost use Rattle.sparse_expr.specs.Words.{token_of, words_of, texts, takes, postfix, IsSaid, IsRefused};
+ghost use Rattle.sparse_expr.specs.PostfixWords.{token_of, words_of, texts, takes, postfix, IsSaid, IsRefused};
 ghost use Rattle.sparse_expr.specs.declared.error.ExprError.TheVariants.{MissingOperand, LeftOver, OutOfMemory};
 
 use crate::error::ExprError;
@@ -72,7 +72,8 @@ impl Expr {
 fn apply(alloc: Global, token: Token, stack: &mut Vec<Expr>) -> Result<(), ExprError>
     ensures said { OnOk result (flat_map postfix stack.new.items ≡ flat_map postfix stack.old.items ++ token ∷ []) }
     ensures enough { OnOk result (takes token ≤ length stack.old.items) }
-    ensures refused { IfErr result (λ e. (e ≡ OutOfMemory) ⊎ ((e ≡ MissingOperand) × (length stack.old.items < takes token))) }
+    ensures refused { IfErr result (λ e. (e ≡ OutOfMemory)
+        ⊎ ((e ≡ MissingOperand) × (length stack.old.items < takes token))) }
 {
     let tree = match token {
         Token::Operand(number) => Expr::Input(number),

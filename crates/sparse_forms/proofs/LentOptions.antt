@@ -36,7 +36,8 @@ module _ {M : Type 1} {𝓤 : Ura M} (𝓛 : Logic 𝓤) (R : RattleType) where
       feq_i ! (List Val) (none_val ∷ []) (none_val ∷ []) refl $ fjoin ! $
       fpack ! (List Val) (tagged_with (form_of (shape (the_type R))) (form_of (shape (the_type R))).payload ((the_type R).to None) (none_val ∷ [])) [] $ done !
 
-  pub some_in : (x : R.Denot) (v : Val) → ent 𝓤 (sem 𝓛 (R.own_val x (v ∷ []))) (sem 𝓛 ((the_row R).own_val (Some x) (some_val v ∷ [])))
+  pub some_in : (x : R.Denot) (v : Val)
+      → ent 𝓤 (sem 𝓛 (R.own_val x (v ∷ []))) (sem 𝓛 ((the_row R).own_val (Some x) (some_val v ∷ [])))
   some_in x v =
       qed 𝓛 (‵ (R.own_val x (v ∷ [])) ∷ []) ∵ nothing ! $ move ! (1 ∷ 0 ∷ []) $ fjoin ! $ feq_i ! (List Val) (v ∷ []) (v ∷ []) refl $ fjoin ! $
       fpack ! (Valss (R ∷ [])) (in_a_row (R ∷ []) (owns (R ∷ []) (x, tt)) (v ∷ [])) (v ∷ [], tt) $
@@ -45,10 +46,13 @@ module _ {M : Type 1} {𝓤 : Ura M} (𝓛 : Logic 𝓤) (R : RattleType) where
 
 -- an option of a `&mut` is taken apart
 module _ {M : Type 1} {𝓤 : Ura M} {𝓛 : Logic 𝓤} {K : Type 0} {Γ : List (Item 𝓤)} {G : Goal 𝓤 𝓛.H} (t : K) where
-  none_out : (R : RattleType) (vs : List Val) → (vs ≡ none_val ∷ [] → Seq K 𝓛 Γ G) → Seq K 𝓛 (‵ ((the_row R).own_val None vs) ∷ Γ) G
+  none_out : (R : RattleType) (vs : List Val) → (vs ≡ none_val ∷ [] → Seq K 𝓛 Γ G)
+      → Seq K 𝓛 (‵ ((the_row R).own_val None vs) ∷ Γ) G
   none_out R vs k = fpick t (λ us. fsplit t $ feq_l t (λ e. fpick t (λ vss. fsplit t $ feq_l t (λ e'. drop t $ k (subst⁻¹ (λ (ws : List Val). vs ≡ live 0 (of_list ws) ∷ [] → vs ≡ none_val ∷ []) e' (λ p. p) e)))))
 
-  some_out : (R : RattleType) (x : R.Denot) (vs : List Val) → ((xs : List Val) → vs ≡ live 1 (of_list (xs ++ [])) ∷ [] → Seq K 𝓛 (‵ (R.own_val x xs) ∷ Γ) G) → Seq K 𝓛 (‵ ((the_row R).own_val (Some x) vs) ∷ Γ) G
+  some_out : (R : RattleType) (x : R.Denot) (vs : List Val)
+      → ((xs : List Val) → vs ≡ live 1 (of_list (xs ++ [])) ∷ [] → Seq K 𝓛 (‵ (R.own_val x xs) ∷ Γ) G)
+      → Seq K 𝓛 (‵ ((the_row R).own_val (Some x) vs) ∷ Γ) G
   some_out R x vs k = fpick t (λ us. fsplit t $ feq_l t (λ e. fpick t (λ vss. fsplit t $ feq_l t (λ e'. fsplit t $ move t (1 ∷ []) $ drop t $
       k vss.0 (subst⁻¹ (λ (ws : List Val). vs ≡ live 1 (of_list ws) ∷ [] → vs ≡ live 1 (of_list (vss.0 ++ [])) ∷ []) e' (λ p. p) e)))))
 
@@ -68,6 +72,7 @@ module _ {M : Type 1} {𝓤 : Ura M} (𝓛 : Logic 𝓤) (R S T : RattleType) (�
   unfolding follows_by
   lent_on γ' γ'' F F' = follows_then 𝓛 R S T F F' γ γ' γ''
 
-  pub none_lent : (F : S.Denot → R.Denot) (F' : T.Denot → R.Denot) → ent 𝓤 (sem 𝓛 (follows_if R S γ maybe.none F v)) (sem 𝓛 (follows_if R T γ maybe.none F' v))
+  pub none_lent : (F : S.Denot → R.Denot) (F' : T.Denot → R.Denot)
+      → ent 𝓤 (sem 𝓛 (follows_if R S γ maybe.none F v)) (sem 𝓛 (follows_if R T γ maybe.none F' v))
   unfolding follows_by
   none_lent F F' = id⊢ 𝓤 _

@@ -137,7 +137,8 @@ impl<T: Drop> CscMatrix<T> {
         ensures ok { IfOk result (λ m. m ≡ arrays_of ncols nrows col_offsets.items row_indices.items values.items) }
         ensures sound { IfOk result IsSound }
         ensures fault { IfErr result (IsSortedRefusal (arrays_of ncols nrows col_offsets.items row_indices.items values.items)) }
-        ensures taken { IsSound (arrays_of ncols nrows col_offsets.items row_indices.items values.items) → IsOk result }
+        ensures taken { IsSound (arrays_of ncols nrows col_offsets.items row_indices.items values.items)
+            → IsOk result }
     {
         match CsMatrix::try_from_sorted_arrays(ncols, nrows, col_offsets, row_indices, values) {
             Ok(cs) => Ok(CscMatrix { cs }),

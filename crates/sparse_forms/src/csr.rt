@@ -137,7 +137,8 @@ impl<T: Drop> CsrMatrix<T> {
         ensures ok { IfOk result (λ m. m ≡ arrays_of nrows ncols row_offsets.items col_indices.items values.items) }
         ensures sound { IfOk result IsSound }
         ensures fault { IfErr result (IsSortedRefusal (arrays_of nrows ncols row_offsets.items col_indices.items values.items)) }
-        ensures taken { IsSound (arrays_of nrows ncols row_offsets.items col_indices.items values.items) → IsOk result }
+        ensures taken { IsSound (arrays_of nrows ncols row_offsets.items col_indices.items values.items)
+            → IsOk result }
     {
         match CsMatrix::try_from_sorted_arrays(nrows, ncols, row_offsets, col_indices, values) {
             Ok(cs) => Ok(CsrMatrix { cs }),

@@ -29,10 +29,12 @@ module _ {V : Type 0} (name : List ℕ) (text : V → List ℕ) (m : Coo V) wher
     pub order : m.triplets ≡ front ++ left
     pub is : bytes ≡ begun front
 
-  pub IsBegun-none : (bytes : List ℕ) (left : Triplets) → bytes ≡ head_of name m → left ≡ m.triplets → IsBegun bytes left
+  pub IsBegun-none : (bytes : List ℕ) (left : Triplets) → bytes ≡ head_of name m → left ≡ m.triplets
+      → IsBegun bytes left
   IsBegun-none bytes left b l = record { front = []; order = sym l; is = b ∙ sym (append-nil (head_of name m)) }
 
-  pub IsBegun-more : (bytes : List ℕ) (t : ℕ × ℕ × V) (left left' : Triplets) → IsBegun bytes left → left ≡ t ∷ left'
+  pub IsBegun-more : (bytes : List ℕ) (t : ℕ × ℕ × V) (left left' : Triplets) → IsBegun bytes left
+      → left ≡ t ∷ left'
       → IsBegun (bytes ++ triplet_line text t) left'
   IsBegun-more bytes t left left' b e =
       record {
@@ -44,14 +46,16 @@ module _ {V : Type 0} (name : List ℕ) (text : V → List ℕ) (m : Coo V) wher
       }
 
   -- the lines of the triplets that are left come next
-  pub text_of-begun : (bytes : List ℕ) (left : Triplets) → IsBegun bytes left → text_of name text m ≡ bytes ++ lines left
+  pub text_of-begun : (bytes : List ℕ) (left : Triplets) → IsBegun bytes left
+      → text_of name text m ≡ bytes ++ lines left
   unfolding written_text
   text_of-begun bytes left b =
       sym (append_assoc (heading name) (size_line m.nrows m.ncols (length m.triplets)) (lines m.triplets))
       ∙ ap begun b.order ∙ ap (λ l. head_of name m ++ l) (flat_map-append (triplet_line text) b.front left)
       ∙ sym (append_assoc (head_of name m) (lines b.front) (lines left)) ∙ ap (λ l. l ++ lines left) (sym b.is)
 
-  pub IsBegun-all : (bytes : List ℕ) (left : Triplets) → IsBegun bytes left → left ≡ [] → bytes ≡ text_of name text m
+  pub IsBegun-all : (bytes : List ℕ) (left : Triplets) → IsBegun bytes left → left ≡ []
+      → bytes ≡ text_of name text m
   IsBegun-all bytes left b none = sym (text_of-begun bytes left b ∙ ap (λ ts. bytes ++ lines ts) none ∙ append-nil bytes)
 
   -- what the text has before the triplets that are left went to the sink, but for what the buffer holds
@@ -60,11 +64,13 @@ module _ {V : Type 0} (name : List ℕ) (text : V → List ℕ) (m : Coo V) wher
     pub begun : IsBegun bytes left
     pub buffered : IsBuffered old new buffer bytes
 
-  pub IsWriting-none : (old : Option (List ℕ)) (buffer : List ℕ) (left : Triplets) → buffer ≡ head_of name m → left ≡ m.triplets → IsWriting old old buffer left
+  pub IsWriting-none : (old : Option (List ℕ)) (buffer : List ℕ) (left : Triplets)
+      → buffer ≡ head_of name m → left ≡ m.triplets → IsWriting old old buffer left
   IsWriting-none old buffer left b l =
       record { bytes = buffer; begun = IsBegun-none buffer left b l; buffered = record { done = []; parts = refl; appended = Appends-nil old } }
 
-  pub IsWriting-more : (old mid new : Option (List ℕ)) (buffer buffer' : List ℕ) (t : ℕ × ℕ × V) (left left' : Triplets) → IsWriting old mid buffer left
+  pub IsWriting-more : (old mid new : Option (List ℕ)) (buffer buffer' : List ℕ) (t : ℕ × ℕ × V) (left left' : Triplets)
+      → IsWriting old mid buffer left
       → left ≡ t ∷ left' → IsBuffered mid new buffer' (buffer ++ triplet_line text t) → IsWriting old new buffer' left'
   IsWriting-more old mid new buffer buffer' t left left' w e b =
       let d = w.buffered in
@@ -79,14 +85,16 @@ module _ {V : Type 0} (name : List ℕ) (text : V → List ℕ) (m : Coo V) wher
       }
 
   -- the sink takes the buffer, and no triplet is left
-  pub IsWriting-all : (old mid new : Option (List ℕ)) (buffer : List ℕ) (left : Triplets) → IsWriting old mid buffer left
+  pub IsWriting-all : (old mid new : Option (List ℕ)) (buffer : List ℕ) (left : Triplets)
+      → IsWriting old mid buffer left
       → left ≡ [] → Appends mid new buffer → Appends old new (text_of name text m)
   IsWriting-all old mid new buffer left w none h =
       let d = w.buffered in
       subst (Appends old new) (sym d.parts ∙ IsBegun-all w.bytes left w.begun none) (Appends-trans old mid new d.done buffer d.appended h)
 
   -- the sink refuses a part of the buffer
-  pub IsWriting-refused : (old mid new : Option (List ℕ)) (buffer : List ℕ) (left : Triplets) → IsWriting old mid buffer left
+  pub IsWriting-refused : (old mid new : Option (List ℕ)) (buffer : List ℕ) (left : Triplets)
+      → IsWriting old mid buffer left
       → AppendsSome mid new buffer → AppendsSome old new (text_of name text m)
   IsWriting-refused old mid new buffer left w h =
       let d = w.buffered in

@@ -11,10 +11,13 @@ use Rattle.sparse_parser.specs.Meaning.{Read, matrix_of, BodyMeans, Means}
 use Rattle.sparse_parser.specs.InnerReading.{is_content, written_of, among_entries, body_of, document_of, read, judged}
 use Rattle.sparse_parser.proofs.LineLaws.{Begins, lines_only, some_lines, headed_only, headed_are}
 
-pub headed_lines : (text : List ℕ) (header : Header) (contents : List (List (List ℕ))) (h : IsHeaded text header contents) → Begins (written_of text) h.words contents
+pub headed_lines : (text : List ℕ) (header : Header) (contents : List (List (List ℕ))) (h : IsHeaded text header contents)
+    → Begins (written_of text) h.words contents
 headed_lines text header contents h = let b = headed_only h.lines h.words contents h.headed in (b.0, sym (lines_only text h.lines h.cut) ∙ b.1, b.2)
 
-pub lines_headed : (text : List ℕ) (words : List (List ℕ)) (others : List (List (List ℕ))) (header : Header) → written_of text ≡ words ∷ others → header_of words ≡ Some header → IsHeaded text header (filter is_content others)
+pub lines_headed : (text : List ℕ) (words : List (List ℕ)) (others : List (List (List ℕ))) (header : Header)
+    → written_of text ≡ words ∷ others → header_of words ≡ Some header
+    → IsHeaded text header (filter is_content others)
 lines_headed text words others header e h =
     let l = some_lines text in
     record { lines = l.0; words = words; cut = l.1; headed = headed_are l.0 words others (lines_only text l.0 l.1 ∙ e); says = h }
@@ -34,11 +37,14 @@ pub read_means : (text : List ℕ) → Means text (read text)
 unfolding read document_of
 read_means text = by (written_of text) refl
   where
-    headed : (words : List (List ℕ)) (others : List (List (List ℕ))) (o : Option Header) → written_of text ≡ words ∷ others → header_of words ≡ o → Means text (judged o (filter is_content others))
+    headed : (words : List (List ℕ)) (others : List (List (List ℕ))) (o : Option Header)
+        → written_of text ≡ words ∷ others → header_of words ≡ o
+        → Means text (judged o (filter is_content others))
     headed words others None e h = inl ((λ header contents k. absurd (let l = headed_lines text header contents k in let m = l.1 in let w : k.words ≡ words = cc in let s = k.says in let t : header_of k.words ≡ None = rw w h in cc)), refl)
     headed words others (Some header) e h = plain (is_carried header) refl
       where
-        plain : (b : Bool) → is_carried header ≡ b → Means text (judged (Some header) (filter is_content others))
+        plain : (b : Bool) → is_carried header ≡ b
+            → Means text (judged (Some header) (filter is_content others))
         plain true p = inr (header, filter is_content others, lines_headed text words others header e h, inr (p, rw p (body_means (filter is_content others))))
         plain false p = inr (header, filter is_content others, lines_headed text words others header e h, inl (p, rw p refl))
 
@@ -48,7 +54,8 @@ read_means text = by (written_of text) refl
 
 -- ---- one document, one meaning
 
-pub headed_one : (text : List ℕ) (h g : Header) (cs ds : List (List (List ℕ))) → IsHeaded text h cs → IsHeaded text g ds → (h ≡ g) × (cs ≡ ds)
+pub headed_one : (text : List ℕ) (h g : Header) (cs ds : List (List (List ℕ))) → IsHeaded text h cs
+    → IsHeaded text g ds → (h ≡ g) × (cs ≡ ds)
 headed_one text h g cs ds a b =
     let e = headed_lines text h cs a in
     let f = headed_lines text g ds b in
@@ -60,7 +67,8 @@ headed_one text h g cs ds a b =
     let t = a.says in
     (cc, sym e.2 ∙ ap (filter is_content) o ∙ f.2)
 
-body_one : (cs : List (List (List ℕ))) (r s : Read (Coo ℤ)) → BodyMeans cs r → BodyMeans cs s → r ≡ s
+body_one : (cs : List (List (List ℕ))) (r s : Read (Coo ℤ)) → BodyMeans cs r → BodyMeans cs s
+    → r ≡ s
 body_one cs r s (inl (size, entries, h, e)) (inl (size', entries', h', e')) =
     let f = h.0 in let f' = h'.0 in let p : size ≡ size' = cc in let q : entries ≡ entries' = cc in cc
 body_one cs r s (inl (size, entries, h, e)) (inr (none_is, e')) = absurd (none_is size entries h)

@@ -30,7 +30,8 @@ pub fn load_coo_from_matrix_market_str(
     text: &str,
 ) -> Result<CooMatrix<W64>, MatrixMarketError>
     ensures ok { IfOk result (λ m. Means text.now (Ok (numbers_of m))) }
-    ensures refused { IfErr result (λ e. (kind_of e ≡ OutOfMemory) ⊎ Means text.now (Err (kind_of e))) }
+    ensures refused { IfErr result (λ e. (kind_of e ≡ OutOfMemory)
+        ⊎ Means text.now (Err (kind_of e))) }
 {
     document(alloc, text.as_bytes())
 }
@@ -110,7 +111,8 @@ fn entries(alloc: Global, size: Size, text: &[u8]) -> Result<CooMatrix<W64>, Mat
 /// Adds a triplet, unless it or one before lies outside the sizes, and answers whether it did.
 fn add(matrix: &mut CooMatrix<W64>, inside: bool, triplet: Triplet) -> Result<bool, AllocError>
     ensures inside { IfOk result (λ is. is ≡ (inside && is_inside matrix.old.nrows matrix.old.ncols triplet)) }
-    ensures added { IfOk result (λ is. IsTrue is → numbers_of matrix.new ≡ appended (numbers_of matrix.old) (triplet ∷ [])) }
+    ensures added { IfOk result (λ is. IsTrue is
+        → numbers_of matrix.new ≡ appended (numbers_of matrix.old) (triplet ∷ [])) }
     ensures rows { matrix.new.nrows ≡ matrix.old.nrows }
     ensures cols { matrix.new.ncols ≡ matrix.old.ncols }
 {

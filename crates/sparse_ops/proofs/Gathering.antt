@@ -7,7 +7,8 @@ use Rattle.std.proofs.lemmas.List.Elements.{Contains-push, Contains-push_cases, 
 use Rattle.std.proofs.lemmas.List.Kept.{AllPairs-from_increasing}
 
 -- an element of a rising list isn't among those before it
-pub later_element : (xs : List ℕ) (p : ℕ) → IsStrictlyIncreasing xs → p < length xs → Contains (take p xs) (get_or xs p 0) → ⊥
+pub later_element : (xs : List ℕ) (p : ℕ) → IsStrictlyIncreasing xs → p < length xs
+    → Contains (take p xs) (get_or xs p 0) → ⊥
 later_element xs p rising lt h =
     let k = get_or xs p 0 in
     let q_lt : h.0 < p = omega (arith, h.1, length-take-le p xs (omega arith)) in
@@ -23,7 +24,8 @@ module _ {T : Type 0} (z : T) (start row : List T) (columns : List ℕ) (p : ℕ
   one_more : take (p + 1) columns ≡ take p columns ++ get_or columns p 0 ∷ []
   one_more = take_more columns p 0 lt
 
-  pub cleared_next : (x : T) → x ≡ z → get_or columns p 0 < length row → IsCleared z start (set row (get_or columns p 0) x) (take (p + 1) columns)
+  pub cleared_next : (x : T) → x ≡ z → get_or columns p 0 < length row
+      → IsCleared z start (set row (get_or columns p 0) x) (take (p + 1) columns)
   cleared_next x is within =
       let k = get_or columns p 0 in
       rw one_more record {
@@ -40,7 +42,9 @@ module _ {T : Type 0} (z : T) (start row : List T) (columns : List ℕ) (p : ℕ
       }
 
   -- the next entry is still there
-  pub gathered_next : (items old : List T) (x : T) → x ≡ get_or row (get_or columns p 0) z → items ≡ old ++ map (λ j. get_or start j z) (take p columns) → items ++ x ∷ [] ≡ old ++ map (λ j. get_or start j z) (take (p + 1) columns)
+  pub gathered_next : (items old : List T) (x : T) → x ≡ get_or row (get_or columns p 0) z
+      → items ≡ old ++ map (λ j. get_or start j z) (take p columns)
+      → items ++ x ∷ [] ≡ old ++ map (λ j. get_or start j z) (take (p + 1) columns)
   gathered_next items old x read is =
       let k = get_or columns p 0 in
       let g : ℕ → T = λ j. get_or start j z in

@@ -29,14 +29,17 @@ module _ (R : CommRing) {T : Type 0} (f : T → R.Carrier) where
   no k j c ne = where_no R (λ (c : R.Carrier). c) (nat_eq k j) c (nat_eq_no k j ne)
 
   -- where the index isn't in the lane
-  lane_value_none : (j : ℕ) (ks : List ℕ) (vs : List T) → ((q : ℕ) → q < length ks → get_or ks q 0 ≢ j) → lane_value R f ks vs j ≡ R.zero
+  lane_value_none : (j : ℕ) (ks : List ℕ) (vs : List T)
+      → ((q : ℕ) → q < length ks → get_or ks q 0 ≢ j) → lane_value R f ks vs j ≡ R.zero
   lane_value_none j [] vs none = refl
   lane_value_none j (k ∷ ks) [] none = refl
   lane_value_none j (k ∷ ks) (v ∷ vs) none =
       ap (λ c. R.add c (lane_value R f ks vs j)) (no k j (f v) (none 0 (omega arith))) ∙ zero_add R _ ∙ lane_value_none j ks vs (λ q lt. none (suc q) (omega arith))
 
   -- where one position alone has the index
-  lane_value_at : (z : T) (j q : ℕ) (ks : List ℕ) (vs : List T) → length vs ≡ length ks → q < length ks → get_or ks q 0 ≡ j → ((r : ℕ) → r < length ks → get_or ks r 0 ≡ j → r ≡ q) → lane_value R f ks vs j ≡ f (get_or vs q z)
+  lane_value_at : (z : T) (j q : ℕ) (ks : List ℕ) (vs : List T) → length vs ≡ length ks
+      → q < length ks → get_or ks q 0 ≡ j → ((r : ℕ) → r < length ks → get_or ks r 0 ≡ j → r ≡ q)
+      → lane_value R f ks vs j ≡ f (get_or vs q z)
   lane_value_at z j q [] vs long lt is only = absurd (omega arith)
   lane_value_at z j q (k ∷ ks) [] long lt is only = absurd (omega arith)
   lane_value_at z j zero (k ∷ ks) (v ∷ vs) long lt is only =
@@ -58,7 +61,8 @@ module _ (R : CommRing) {T : Type 0} (f : T → R.Carrier) (z : T) (m : Compress
   length-values = length-between _ _ _ (omega (arith, (sound.valid.lanes i lane).inside, sound.count)) ∙ sym (length-lane m.pattern i (sound.valid.lanes i lane))
 
   -- the value of a lane given as lists is the matrix's
-  pub lane_value_is : (j : ℕ) → lane_value R f (lane_of m.pattern i) (values_of m i) j ≡ (plain_of_rows R f m).value i j
+  pub lane_value_is : (j : ℕ)
+      → lane_value R f (lane_of m.pattern i) (values_of m i) j ≡ (plain_of_rows R f m).value i j
   lane_value_is j = elim (true_or_false (list_any (is_at i j) (zip_values (entries_of m.pattern) m.values))) [
     | inl hit ↦
         let place = (has_is_place R f m.pattern sound.valid m.values sound.count i j).0 hit in
@@ -85,7 +89,8 @@ module _ (R : CommRing) {T : Type 0} (f : T → R.Carrier) (z : T) (m : Compress
   ]
 
 module _ (R : CommRing) {T : Type 0} (f : T → R.Carrier) where
-  pick : (n k : ℕ) (h : ℕ → R.Carrier) → k < n → sum_below R n (λ l. where_true R (nat_eq k l) (h l)) ≡ h k
+  pick : (n k : ℕ) (h : ℕ → R.Carrier) → k < n
+      → sum_below R n (λ l. where_true R (nat_eq k l) (h l)) ≡ h k
   pick zero k h lt = absurd (omega arith)
   pick (suc n) k h lt = elim (cases_eq k n) [
     | inl same ↦
@@ -101,7 +106,9 @@ module _ (R : CommRing) {T : Type 0} (f : T → R.Carrier) where
   scaled false c x = R.laws.mul_comm R.zero x ∙ mul_zero R x
 
   -- the sum over all k below n is the sum over the lane
-  pub product_by_lane : (n : ℕ) (g : ℕ → R.Carrier) (ks : List ℕ) (vs : List T) → All (λ k. k < n) ks → sum_below R n (λ k. R.mul (lane_value R f ks vs k) (g k)) ≡ sum_by R (λ t. R.mul (f t.1) (g t.0)) (zip ks vs)
+  pub product_by_lane : (n : ℕ) (g : ℕ → R.Carrier) (ks : List ℕ) (vs : List T)
+      → All (λ k. k < n) ks
+      → sum_below R n (λ k. R.mul (lane_value R f ks vs k) (g k)) ≡ sum_by R (λ t. R.mul (f t.1) (g t.0)) (zip ks vs)
   product_by_lane n g [] vs within = zeros n g
     where
       zeros : (n : ℕ) (g : ℕ → R.Carrier) → sum_below R n (λ k. R.mul R.zero (g k)) ≡ R.zero
@@ -115,18 +122,27 @@ module _ (R : CommRing) {T : Type 0} (f : T → R.Carrier) where
 
 module _ (R : CommRing) {T : Type 0} (f : T → R.Carrier) (z : T) where
   -- one matrix row more, added into the row
-  pub row_step : (b : ℕ → ℕ → R.Carrier) (ks : List ℕ) (vs row start new : List T) (n k : ℕ) (v : T) → n < length ks → n < length vs → k ≡ get_or ks n k → v ≡ get_or vs n v → ((j : ℕ) → j < length row → f (get_or new j z) ≡ R.add (f (get_or row j z)) (R.mul (f v) (b k j))) → ((j : ℕ) → j < length row → f (get_or row j z) ≡ R.add (f (get_or start j z)) (sum_by R (λ t. R.mul (f t.1) (b t.0 j)) (zip (take n ks) (take n vs)))) → (j : ℕ) → j < length row → f (get_or new j z) ≡ R.add (f (get_or start j z)) (sum_by R (λ t. R.mul (f t.1) (b t.0 j)) (zip (take (n + 1) ks) (take (n + 1) vs)))
+  pub row_step : (b : ℕ → ℕ → R.Carrier) (ks : List ℕ) (vs row start new : List T) (n k : ℕ) (v : T)
+      → n < length ks → n < length vs → k ≡ get_or ks n k → v ≡ get_or vs n v
+      → ((j : ℕ) → j < length row → f (get_or new j z) ≡ R.add (f (get_or row j z)) (R.mul (f v) (b k j)))
+      → ((j : ℕ) → j < length row → f (get_or row j z) ≡ R.add (f (get_or start j z)) (sum_by R (λ t. R.mul (f t.1) (b t.0 j)) (zip (take n ks) (take n vs))))
+      → (j : ℕ) → j < length row
+      → f (get_or new j z) ≡ R.add (f (get_or start j z)) (sum_by R (λ t. R.mul (f t.1) (b t.0 j)) (zip (take (n + 1) ks) (take (n + 1) vs)))
   row_step b ks vs row start new n k v lt lt' is is' added so_far j j_lt =
       let term = λ (t : ℕ × T). R.mul (f t.1) (b t.0 j) in
       added j j_lt ∙ ap (λ x. R.add x (R.mul (f v) (b k j))) (so_far j j_lt) ∙ R.laws.add_assoc _ _ _ ∙ ap (R.add (f (get_or start j z))) (sym (sum_zip_more R term ks vs n k v lt lt' is is'))
 
   -- the sum over row i of a matrix is the sum over all k below its width
-  pub row_sum : (a : Compressed T) → IsSound a → (i : ℕ) → i < a.pattern.major_dim → (b : ℕ → R.Carrier) → sum_by R (λ t. R.mul (f t.1) (b t.0)) (zip (lane_of a.pattern i) (values_of a i)) ≡ sum_below R a.pattern.minor_dim (λ k. R.mul ((plain_of_rows R f a).value i k) (b k))
+  pub row_sum : (a : Compressed T) → IsSound a → (i : ℕ) → i < a.pattern.major_dim
+      → (b : ℕ → R.Carrier)
+      → sum_by R (λ t. R.mul (f t.1) (b t.0)) (zip (lane_of a.pattern i) (values_of a i)) ≡ sum_below R a.pattern.minor_dim (λ k. R.mul ((plain_of_rows R f a).value i k) (b k))
   row_sum a sound i lane b =
       let within : All (λ k. k < a.pattern.minor_dim) (lane_of a.pattern i) = λ q d lt. rw (get_or_default (lane_of a.pattern i) q d 0 lt) (lane_within a sound i lane q lt) in
       sym (product_by_lane R f a.pattern.minor_dim b (lane_of a.pattern i) (values_of a i) within) ∙ sum_below-same R a.pattern.minor_dim _ _ (λ k _. ap (λ x. R.mul x (b k)) (lane_value_is R f z a sound i lane k))
     where
-      lane_within : (a : Compressed T) → IsSound a → (i : ℕ) → i < a.pattern.major_dim → (q : ℕ) → q < length (lane_of a.pattern i) → get_or (lane_of a.pattern i) q 0 < a.pattern.minor_dim
+      lane_within : (a : Compressed T) → IsSound a → (i : ℕ) → i < a.pattern.major_dim → (q : ℕ)
+          → q < length (lane_of a.pattern i)
+          → get_or (lane_of a.pattern i) q 0 < a.pattern.minor_dim
       lane_within a sound i lane q lt =
           let valid = sound.valid.lanes i lane in
           rw (get_or-lane a.pattern i valid q lt) (valid.bounded (start_of a.pattern i + q) (omega arith) (omega (arith, length-lane a.pattern i valid)))

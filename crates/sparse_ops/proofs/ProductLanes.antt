@@ -15,13 +15,18 @@ place_within d valid i j place =
 -- the first n lanes of the product of a and b
 pub record IsProductBelow (n : ℕ) (a b : Raw) (offsets indices : List ℕ) : Type 0 where
   pub valid : IsValid (raw_of n b.minor_dim offsets indices)
-  pub places : (i j : ℕ) → i < n → IsPlace (raw_of n b.minor_dim offsets indices) i j ↔ ((k : ℕ) × IsPlace a i k × IsPlace b k j)
+  pub places : (i j : ℕ) → i < n
+      → IsPlace (raw_of n b.minor_dim offsets indices) i j ↔ ((k : ℕ) × IsPlace a i k × IsPlace b k j)
 
 -- the lanes that lane i of a names have the indices of lane i of the product
-in_lanes_is : (a b : Raw) → IsValid a → (i j : ℕ) → i < a.major_dim → IsInLanes b (lane_of a i) j ↔ ((k : ℕ) × IsPlace a i k × IsPlace b k j)
+in_lanes_is : (a b : Raw) → IsValid a → (i j : ℕ) → i < a.major_dim
+    → IsInLanes b (lane_of a i) j ↔ ((k : ℕ) × IsPlace a i k × IsPlace b k j)
 in_lanes_is a b valid i j lt = (λ h. (h.0, (lane_has a valid i h.0 lt).0 h.1, h.2), λ h. (h.0, (lane_has a valid i h.0 lt).1 h.1, h.2))
 
-pub lane_more : (n : ℕ) (a b : Raw) (offsets offsets' indices indices' : List ℕ) → IsValid a → IsValid b → n < a.major_dim → IsProductBelow n a b offsets indices → GainsLane indices indices' (IsInLanes b (lane_of a n)) → offsets' ≡ offsets ++ length indices' ∷ [] → IsProductBelow (n + 1) a b offsets' indices'
+pub lane_more : (n : ℕ) (a b : Raw) (offsets offsets' indices indices' : List ℕ) → IsValid a
+    → IsValid b → n < a.major_dim → IsProductBelow n a b offsets indices
+    → GainsLane indices indices' (IsInLanes b (lane_of a n))
+    → offsets' ≡ offsets ++ length indices' ∷ [] → IsProductBelow (n + 1) a b offsets' indices'
 lane_more n a b offsets offsets' indices indices' va vb lt below gains is =
     let bounded : (j : ℕ) → Contains gains.lane j → j < b.minor_dim = λ j h. let place = ((gains.holds j).0 h).2 in place_within b vb _ j place in
     let more : IsProductBelow (n + 1) a b (offsets ++ length (indices ++ gains.lane) ∷ []) (indices ++ gains.lane) = record {
@@ -41,7 +46,9 @@ lane_more n a b offsets offsets' indices indices' va vb lt below gains is =
     rw (is, gains.pushed) more
 
 -- all lanes make the product
-pub all_lanes : (n : ℕ) (a b d : Raw) (offsets indices : List ℕ) → n ≡ a.major_dim → d ≡ raw_of a.major_dim b.minor_dim offsets indices → IsProductBelow n a b offsets indices → IsProductOf d a b
+pub all_lanes : (n : ℕ) (a b d : Raw) (offsets indices : List ℕ) → n ≡ a.major_dim
+    → d ≡ raw_of a.major_dim b.minor_dim offsets indices → IsProductBelow n a b offsets indices
+    → IsProductOf d a b
 all_lanes n a b d offsets indices whole is below i j =
     let so_far : Raw = raw_of n b.minor_dim offsets indices in
     let same : d ≡ so_far = is ∙ ap (λ k. raw_of k b.minor_dim offsets indices) (sym whole) in (

@@ -17,10 +17,12 @@ use Rattle.sparse_pattern.proofs.LaneLists.{lane_has}
 use Rattle.sparse_ops.proofs.Gathering.{IsCleared}
 
 -- the indices of a lane rise
-pub lane_rising : (d : Raw) → IsValid d → (i : ℕ) → i < d.major_dim → IsStrictlyIncreasing (lane_of d i)
+pub lane_rising : (d : Raw) → IsValid d → (i : ℕ) → i < d.major_dim
+    → IsStrictlyIncreasing (lane_of d i)
 lane_rising d valid i lt k k_lt = lane_rises d i (valid.lanes i lt) k (k + 1) (omega arith) k_lt
 
-pub lane_bounded : (d : Raw) → IsValid d → (i n : ℕ) → i < d.major_dim → d.minor_dim ≡ n → All (λ j. j < n) (lane_of d i)
+pub lane_bounded : (d : Raw) → IsValid d → (i n : ℕ) → i < d.major_dim → d.minor_dim ≡ n
+    → All (λ j. j < n) (lane_of d i)
 lane_bounded d valid i n lt width q e q_lt =
     let lane = valid.lanes i lt in
     rw (← width, get_or_default (lane_of d i) q e 0 q_lt, get_or-lane d i lane q q_lt) (lane.bounded (start_of d i + q) (omega arith) (omega (arith, length-lane d i lane)))
@@ -44,7 +46,8 @@ module _ (R : CommRing) {T : Type 0} (f : T → R.Carrier) (a b : Compressed T) 
 
   module _ (z : T) (zero : f z ≡ R.zero) (valid : IsValid d) (i : ℕ) (lane : i < d.major_dim) (row : List T) (is_row : (j : ℕ) → j < length row → f (get_or row j z) ≡ product.value i j) where
     -- what is left of the row once it is gathered
-    pub left_zero : (left : List T) → IsCleared z row left (lane_of d i) → (j : ℕ) → f (get_or left j z) ≡ R.zero
+    pub left_zero : (left : List T) → IsCleared z row left (lane_of d i) → (j : ℕ)
+        → f (get_or left j z) ≡ R.zero
     left_zero left cleared j = elim (true_or_false (product.has i j)) [
       | inl hit ↦ ap f (cleared.cleared j ((lane_has d valid i j lane).1 ((product_has i j).1 hit))) ∙ zero
       | inr miss ↦
@@ -59,7 +62,10 @@ module _ (R : CommRing) {T : Type 0} (f : T → R.Carrier) (a b : Compressed T) 
         below_or_past a b = grind arith
 
     -- the values after the row is gathered
-    pub gathered_more : (old new : List T) → All (λ j. j < length row) (lane_of d i) → length old ≡ start_of d i → new ≡ old ++ map (λ j. get_or row j z) (lane_of d i) → ((l j p : ℕ) → l < i → IsPosition d l j p → f (get_or old p z) ≡ product.value l j) → (l j p : ℕ) → l < i + 1 → IsPosition d l j p → f (get_or new p z) ≡ product.value l j
+    pub gathered_more : (old new : List T) → All (λ j. j < length row) (lane_of d i)
+        → length old ≡ start_of d i → new ≡ old ++ map (λ j. get_or row j z) (lane_of d i)
+        → ((l j p : ℕ) → l < i → IsPosition d l j p → f (get_or old p z) ≡ product.value l j)
+        → (l j p : ℕ) → l < i + 1 → IsPosition d l j p → f (get_or new p z) ≡ product.value l j
     gathered_more old new inside long is before l j p lt at = elim (lt_add_one_cases l i lt) [
       | inl earlier ↦
           let p_lt : p < length old = omega (arith, at.0.to, starts_ordered d valid (l + 1) i (omega arith) (omega arith), long) in

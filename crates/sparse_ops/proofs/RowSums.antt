@@ -17,7 +17,9 @@ pub eq_refl : (n : ℕ) → nat_eq n n ≡ true
 eq_refl n = (Decides-eqb n n).1 refl
 
 module _ (R : CommRing) {T : Type 0} where
-  sum_zip_suc : (g : ℕ × T → R.Carrier) (ks : List ℕ) (vs : List T) (n k : ℕ) (v : T) → n < length ks → n < length vs → k ≡ get_or ks n k → v ≡ get_or vs n v → sum_by R g (zip (take (suc n) ks) (take (suc n) vs)) ≡ R.add (sum_by R g (zip (take n ks) (take n vs))) (g (k, v))
+  sum_zip_suc : (g : ℕ × T → R.Carrier) (ks : List ℕ) (vs : List T) (n k : ℕ) (v : T)
+      → n < length ks → n < length vs → k ≡ get_or ks n k → v ≡ get_or vs n v
+      → sum_by R g (zip (take (suc n) ks) (take (suc n) vs)) ≡ R.add (sum_by R g (zip (take n ks) (take n vs))) (g (k, v))
   sum_zip_suc g [] vs n k v lt lt' is is' = absurd (omega arith)
   sum_zip_suc g (x ∷ ks) [] n k v lt lt' is is' = absurd (omega arith)
   sum_zip_suc g (x ∷ ks) (y ∷ vs) zero k v lt lt' is is' = R.laws.add_comm (g (x, y)) R.zero ∙ ap (R.add R.zero) (ap (λ x. g (x, y)) (sym is) ∙ ap (λ y. g (k, y)) (sym is'))
@@ -25,14 +27,21 @@ module _ (R : CommRing) {T : Type 0} where
       ap (R.add (g (x, y))) (sum_zip_suc g ks vs n k v (omega arith) (omega arith) is is') ∙ sym (R.laws.add_assoc (g (x, y)) (sum_by R g (zip (take n ks) (take n vs))) (g (k, v)))
 
   -- one pair more
-  pub sum_zip_more : (g : ℕ × T → R.Carrier) (ks : List ℕ) (vs : List T) (n k : ℕ) (v : T) → n < length ks → n < length vs → k ≡ get_or ks n k → v ≡ get_or vs n v → sum_by R g (zip (take (n + 1) ks) (take (n + 1) vs)) ≡ R.add (sum_by R g (zip (take n ks) (take n vs))) (g (k, v))
+  pub sum_zip_more : (g : ℕ × T → R.Carrier) (ks : List ℕ) (vs : List T) (n k : ℕ) (v : T)
+      → n < length ks → n < length vs → k ≡ get_or ks n k → v ≡ get_or vs n v
+      → sum_by R g (zip (take (n + 1) ks) (take (n + 1) vs)) ≡ R.add (sum_by R g (zip (take n ks) (take n vs))) (g (k, v))
   sum_zip_more g ks vs n k v lt lt' is is' =
       let e : n + 1 ≡ suc n = omega arith in
       ap (λ m. sum_by R g (zip (take m ks) (take m vs))) e ∙ sum_zip_suc g ks vs n k v lt lt' is is'
 
 module _ (R : CommRing) {T : Type 0} (f : T → R.Carrier) where
   -- one entry of a lane more, added into the row
-  pub lane_step : (scale : R.Carrier) (columns : List ℕ) (values row start : List T) (z : T) (n k : ℕ) (v old new : T) → n < length columns → n < length values → k ≡ get_or columns n k → v ≡ get_or values n v → k < length row → old ≡ get_or row k old → f new ≡ R.add (f old) (R.mul scale (f v)) → ((j : ℕ) → j < length row → f (get_or row j z) ≡ R.add (f (get_or start j z)) (R.mul scale (lane_value R f (take n columns) (take n values) j))) → (j : ℕ) → j < length row → f (get_or (set row k new) j z) ≡ R.add (f (get_or start j z)) (R.mul scale (lane_value R f (take (n + 1) columns) (take (n + 1) values) j))
+  pub lane_step : (scale : R.Carrier) (columns : List ℕ) (values row start : List T) (z : T) (n k : ℕ) (v old new : T)
+      → n < length columns → n < length values → k ≡ get_or columns n k → v ≡ get_or values n v
+      → k < length row → old ≡ get_or row k old → f new ≡ R.add (f old) (R.mul scale (f v))
+      → ((j : ℕ) → j < length row → f (get_or row j z) ≡ R.add (f (get_or start j z)) (R.mul scale (lane_value R f (take n columns) (take n values) j)))
+      → (j : ℕ) → j < length row
+      → f (get_or (set row k new) j z) ≡ R.add (f (get_or start j z)) (R.mul scale (lane_value R f (take (n + 1) columns) (take (n + 1) values) j))
   lane_step scale columns values row start z n k v old new lt lt' is is' within read added so_far j j_lt =
       let base = f (get_or start j z) in
       let s = lane_value R f (take n columns) (take n values) j in

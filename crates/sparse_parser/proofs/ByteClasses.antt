@@ -31,7 +31,8 @@ sign_no_blank b e = grind (arith, nat_tests)
 pub sign_within_line : (b : ℕ) → (eqb b 43 || eqb b 45) ≡ true → is_within_line b ≡ true
 sign_within_line b e = grind (arith, nat_tests)
 
-pub Passes-weaker : (p q : ℕ → Bool) (text : List ℕ) → ((b : ℕ) → p b ≡ true → q b ≡ true) → Passes p text → Passes q text
+pub Passes-weaker : (p q : ℕ → Bool) (text : List ℕ) → ((b : ℕ) → p b ≡ true → q b ≡ true)
+    → Passes p text → Passes q text
 Passes-weaker p q [] f h = tt
 Passes-weaker p q (b ∷ text) f h = (f b h.0, Passes-weaker p q text f h.1)
 
@@ -40,6 +41,7 @@ Passes-append p [] t h k = k
 Passes-append p (b ∷ s) t h k = (h.0, Passes-append p s t h.1 k)
 
 -- digits are a part of a word
-pub Solid-digits : (text : List ℕ) → Passes is_ascii_digit text → AllByRecursion (λ b. is_blank b ≡ false) text
+pub Solid-digits : (text : List ℕ) → Passes is_ascii_digit text
+    → AllByRecursion (λ b. is_blank b ≡ false) text
 Solid-digits [] h = tt
 Solid-digits (b ∷ text) h = (digit_no_blank b h.0, Solid-digits text h.1)

@@ -24,7 +24,8 @@ use Rattle.sparse_parser.specs.InnerBytes.{front}
 use Rattle.sparse_parser.proofs.Fronts.{front-yes, list_all-front}
 
 -- a word that is an index has no other digits
-pub index_number : (word : List ℕ) (n : Option ℕ) → is_index word ≡ true → SomeIff n (digits_value 10 (front is_ascii_digit word) < 2 ^ 64) (digits_value 10 (front is_ascii_digit word))
+pub index_number : (word : List ℕ) (n : Option ℕ) → is_index word ≡ true
+    → SomeIff n (digits_value 10 (front is_ascii_digit word) < 2 ^ 64) (digits_value 10 (front is_ascii_digit word))
     → SomeIff n (digits_value 10 word < 2 ^ 64) (digits_value 10 word)
 index_number word n i h =
     subst (λ (ds : List ℕ). SomeIff n (digits_value 10 ds < 2 ^ 64) (digits_value 10 ds)) (list_all-front is_ascii_digit word (and_parts _ _ i).1) h
@@ -38,7 +39,9 @@ pub digit_value-digit : (c : ℕ) → is_ascii_digit c ≡ true → digit_value 
 digit_value-digit c e = grind (arith, nat_tests)
 
 -- at a digit that doesn't fit any more
-pub too_long : (n : ℕ) (text : List ℕ) (i total : ℕ) → i < length text → is_ascii_digit (get_or text i 0) ≡ true → ¬ (n * 10 + (get_or text i 0 - 48) < 2 ^ 64) → digits_value_after 10 n (front is_ascii_digit (drop i text)) ≡ total → ¬ (total < 2 ^ 64)
+pub too_long : (n : ℕ) (text : List ℕ) (i total : ℕ) → i < length text
+    → is_ascii_digit (get_or text i 0) ≡ true → ¬ (n * 10 + (get_or text i 0 - 48) < 2 ^ 64)
+    → digits_value_after 10 n (front is_ascii_digit (drop i text)) ≡ total → ¬ (total < 2 ^ 64)
 too_long n text i total lt e large same small =
     let d = ap (front is_ascii_digit) (drop_more text i 0 lt) ∙ front-yes is_ascii_digit (get_or text i 0) (drop (i + 1) text) e in
     let v : digits_value_after 10 (n * 10 + digit_value (get_or text i 0)) (front is_ascii_digit (drop (i + 1) text)) ≡ total = sym (ap (digits_value_after 10 n) d) ∙ same in
@@ -47,7 +50,9 @@ too_long n text i total lt e large same small =
     large (omega arith)
 
 -- at the end of the digits
-pub fits_all : (n : ℕ) (text : List ℕ) (i total : ℕ) → front is_ascii_digit (drop i text) ≡ [] → n < 2 ^ 64 → digits_value_after 10 n (front is_ascii_digit (drop i text)) ≡ total → (total < 2 ^ 64) × (n ≡ total)
+pub fits_all : (n : ℕ) (text : List ℕ) (i total : ℕ) → front is_ascii_digit (drop i text) ≡ []
+    → n < 2 ^ 64 → digits_value_after 10 n (front is_ascii_digit (drop i text)) ≡ total
+    → (total < 2 ^ 64) × (n ≡ total)
 fits_all n text i total e fits same =
     let v : n ≡ total = sym (ap (digits_value_after 10 n) e) ∙ same in
     (omega arith, v)
@@ -57,13 +62,15 @@ fits_all n text i total e fits same =
 own : IsNumeralModel (λ ds. list_all is_ascii_digit ds ≡ true) (digits_value 10)
 own = numerals_by_value _ (search rules)
 
-pub index-parts : (word : List ℕ) → is_index word ≡ true → (0 < length word) × (list_all is_ascii_digit word ≡ true)
+pub index-parts : (word : List ℕ) → is_index word ≡ true
+    → (0 < length word) × (list_all is_ascii_digit word ≡ true)
 index-parts word e = let p = and_parts _ _ e in (ltb-true _ _ p.0, p.1)
 
 pub index-IsNumeral : (word : List ℕ) → is_index word ≡ true → IsNumeral 10 word
 index-IsNumeral word e = let p = index-parts word e in (p.0, own.to word p.1)
 
-integer-IsAscii-by : (c : ℕ) (cs : List ℕ) (minus plus : Bool) → eqb c 45 ≡ minus → eqb c 43 ≡ plus → IsAscii (cond minus cs (drop (cond plus 1 0) (c ∷ cs))) → IsAscii (c ∷ cs)
+integer-IsAscii-by : (c : ℕ) (cs : List ℕ) (minus plus : Bool) → eqb c 45 ≡ minus → eqb c 43 ≡ plus
+    → IsAscii (cond minus cs (drop (cond plus 1 0) (c ∷ cs))) → IsAscii (c ∷ cs)
 integer-IsAscii-by c cs true plus m p h = IsAscii-cons c cs (omega (arith, eqb-true _ _ m)) h
 integer-IsAscii-by c cs false true m p h = IsAscii-cons c cs (omega (arith, eqb-true _ _ p)) h
 integer-IsAscii-by c cs false false m p h = h
@@ -76,15 +83,18 @@ pub integer-IsUtf8 : (word : List ℕ) → is_integer word ≡ true → IsUtf8 w
 integer-IsUtf8 word e = IsUtf8-from_ascii word (integer-IsAscii word (IsAscii-from_digits _ (index-IsNumeral _ e).1))
 
 -- of what `ok` makes of a result
-pub some_iff : {T E : Type 0} (r : Result T E) (P Q : Type 0) (v : T) → OkIff r (P × Q) v → P → SomeIff (result_ok r) Q v
+pub some_iff : {T E : Type 0} (r : Result T E) (P Q : Type 0) (v : T) → OkIff r (P × Q) v → P
+    → SomeIff (result_ok r) Q v
 some_iff (Ok x) P Q v h p = (h.0.1, h.1)
 some_iff (Err e) P Q v h p = λ q. h (p, q)
 
 -- the text that `from_utf8` gives
-pub text_is : {E : Type 0} (bytes : List ℕ) (r : Result (Bor (List ℕ)) E) (s : Bor (List ℕ)) (Q : E → Type 0) → r ≡ Ok s → MatchResult r (λ t. (t.now ≡ bytes) × IsUtf8 bytes) Q → s.now ≡ bytes
+pub text_is : {E : Type 0} (bytes : List ℕ) (r : Result (Bor (List ℕ)) E) (s : Bor (List ℕ)) (Q : E → Type 0)
+    → r ≡ Ok s → MatchResult r (λ t. (t.now ≡ bytes) × IsUtf8 bytes) Q → s.now ≡ bytes
 text_is bytes r s Q e h = (MatchResult-at_ok (λ t. (t.now ≡ bytes) × IsUtf8 bytes) Q s e h).0
 
-pub no_fault : {T E : Type 0} (P : Type 0) (r : Result T E) (Good : T → Type 0) (Bad : E → Type 0) → P → MatchResult r Good (λ e. (¬ P) × Bad e) → IsOk r
+pub no_fault : {T E : Type 0} (P : Type 0) (r : Result T E) (Good : T → Type 0) (Bad : E → Type 0)
+    → P → MatchResult r Good (λ e. (¬ P) × Bad e) → IsOk r
 no_fault P (Ok x) Good Bad p h = refl
 no_fault P (Err e) Good Bad p h = absurd (h.0 p)
 

@@ -19,7 +19,8 @@ use Rattle.sparse_parser.proofs.WordLaws.{apart-from, words_of-nil, words_of-bla
 use Rattle.sparse_parser.proofs.EntryLaws.{value_word, without_leading_sign-value_word, value_word-append}
 
 -- of a choice that is some value
-chosen : {A : Type 0} (b : Bool) (x y : A) → cond {A = Option A} b (Some x) None ≡ Some y → (b ≡ true) × (x ≡ y)
+chosen : {A : Type 0} (b : Bool) (x y : A) → cond {A = Option A} b (Some x) None ≡ Some y
+    → (b ≡ true) × (x ≡ y)
 chosen true x y e = (refl, cc)
 chosen false x y e = absurd cc
 
@@ -32,12 +33,14 @@ digits-of word e = let p = and_parts _ _ e in (ltb-true _ _ p.0, passes word p.1
     passes (b ∷ word) h = let p = and_parts _ _ h in (p.0, passes word p.1)
 
 -- the line of what stands after blanks
-words-after_blanks : (text : List ℕ) → words_of (front is_within_line (after is_blank text)) ≡ words_of (front is_within_line text)
+words-after_blanks : (text : List ℕ)
+    → words_of (front is_within_line (after is_blank text)) ≡ words_of (front is_within_line text)
 words-after_blanks text =
     sym (words_of-blanks (front is_blank text) (front is_within_line (after is_blank text)) (Passes-front is_blank text))
     ∙ ap words_of (sym (front-append_passes is_within_line (front is_blank text) (after is_blank text) (Passes-weaker is_blank is_within_line _ blank_within_line (Passes-front is_blank text))) ∙ ap (front is_within_line) (front-append-after is_blank text))
 
-line-after_blanks : (text : List ℕ) → after is_within_line (after is_blank text) ≡ after is_within_line text
+line-after_blanks : (text : List ℕ)
+    → after is_within_line (after is_blank text) ≡ after is_within_line text
 line-after_blanks text =
     sym (after-append_passes is_within_line (front is_blank text) (after is_blank text) (Passes-weaker is_blank is_within_line _ blank_within_line (Passes-front is_blank text)))
     ∙ ap (after is_within_line) (front-append-after is_blank text)
@@ -53,7 +56,8 @@ pub record HasIndex (text rest : List ℕ) (n : Read ℕ) : Type 0 where
   pub line : after is_within_line rest ≡ after is_within_line text
   pub stop : IsStopped is_blank rest
 
-index-before : (word next : List ℕ) → is_index word ≡ true → begins_blank next ≡ true → HasIndex (word ++ next) (after is_blank next) (number_of word)
+index-before : (word next : List ℕ) → is_index word ≡ true → begins_blank next ≡ true
+    → HasIndex (word ++ next) (after is_blank next) (number_of word)
 index-before word [] i b = absurd cc
 index-before word (b ∷ next) i e =
     let d = digits-of word i in
@@ -69,7 +73,8 @@ index-before word (b ∷ next) i e =
       stop = IsStopped-after is_blank (b ∷ next);
     }
 
-pub index_found : (text rest : List ℕ) (n : Read ℕ) → index_at text ≡ Some (n, rest) → HasIndex text rest n
+pub index_found : (text rest : List ℕ) (n : Read ℕ) → index_at text ≡ Some (n, rest)
+    → HasIndex text rest n
 unfolding index_at
 index_found text rest n e =
     let word = front is_ascii_digit text in
@@ -88,7 +93,8 @@ pub record HasValue (text rest : List ℕ) (v : Read ℤ) : Type 0 where
   pub value : v ≡ value_of word
   pub line : rest ≡ after is_within_line text
 
-at_end : (text : List ℕ) → ends_line text ≡ true → (front is_within_line text ≡ []) × (after is_within_line text ≡ text)
+at_end : (text : List ℕ) → ends_line text ≡ true
+    → (front is_within_line text ≡ []) × (after is_within_line text ≡ text)
 at_end [] e = (refl, refl)
 at_end (b ∷ text) e = let n : not (is_line_end b) ≡ false = rw e refl in (front-no is_within_line b text n, after-no is_within_line b text n)
 
@@ -97,7 +103,8 @@ apart-blanks [] h = tt
 apart-blanks (b ∷ blanks) h = h.0
 
 -- the blanks before the end of a line
-blanks_last : (text : List ℕ) → ends_line (after is_blank text) ≡ true → (front is_within_line text ≡ front is_blank text) × (after is_within_line text ≡ after is_blank text)
+blanks_last : (text : List ℕ) → ends_line (after is_blank text) ≡ true
+    → (front is_within_line text ≡ front is_blank text) × (after is_within_line text ≡ after is_blank text)
 blanks_last text e =
     let blanks = Passes-weaker is_blank is_within_line _ blank_within_line (Passes-front is_blank text) in
     let end = at_end (after is_blank text) e in (
@@ -105,7 +112,10 @@ blanks_last text e =
       sym (ap (after is_within_line) (front-append-after is_blank text)) ∙ after-append_passes is_within_line (front is_blank text) (after is_blank text) blanks ∙ end.1,
     )
 
-value-before : (word next : List ℕ) → is_integer word ≡ true → 0 < length word → AllByRecursion (λ b. is_blank b ≡ false) word → Passes is_within_line word → ends_line (after is_blank next) ≡ true → HasValue (word ++ next) (after is_blank next) (value_of word)
+value-before : (word next : List ℕ) → is_integer word ≡ true → 0 < length word
+    → AllByRecursion (λ b. is_blank b ≡ false) word → Passes is_within_line word
+    → ends_line (after is_blank next) ≡ true
+    → HasValue (word ++ next) (after is_blank next) (value_of word)
 value-before word next i lt solid inside e =
     let l = blanks_last next e in
     let apart = apart-blanks (front is_blank next) (Passes-front is_blank next) in
@@ -122,7 +132,8 @@ sign-solid : (text : List ℕ) → AllByRecursion (λ b. is_blank b ≡ false) (
 sign-solid [] = tt
 sign-solid (b ∷ text) = by (eqb b 43 || eqb b 45) refl
   where
-    by : (t : Bool) → (eqb b 43 || eqb b 45) ≡ t → AllByRecursion (λ b. is_blank b ≡ false) (sign_of (b ∷ text))
+    by : (t : Bool) → (eqb b 43 || eqb b 45) ≡ t
+        → AllByRecursion (λ b. is_blank b ≡ false) (sign_of (b ∷ text))
     by true e = rw e (sign_no_blank b e, tt)
     by false e = rw e tt
 
@@ -134,7 +145,8 @@ sign-inside (b ∷ text) = by (eqb b 43 || eqb b 45) refl
     by true e = rw e (sign_within_line b e, tt)
     by false e = rw e tt
 
-solid-append : (s t : List ℕ) → AllByRecursion (λ b. is_blank b ≡ false) s → AllByRecursion (λ b. is_blank b ≡ false) t → AllByRecursion (λ b. is_blank b ≡ false) (s ++ t)
+solid-append : (s t : List ℕ) → AllByRecursion (λ b. is_blank b ≡ false) s
+    → AllByRecursion (λ b. is_blank b ≡ false) t → AllByRecursion (λ b. is_blank b ≡ false) (s ++ t)
 solid-append [] t h k = k
 solid-append (b ∷ s) t h k = (h.0, solid-append s t h.1 k)
 
@@ -142,7 +154,8 @@ length-second : (s t : List ℕ) → 0 < length t → 0 < length (s ++ t)
 length-second [] t lt = lt
 length-second (b ∷ s) t lt = omega arith
 
-pub value_found : (text rest : List ℕ) (v : Read ℤ) → value_at text ≡ Some (v, rest) → HasValue text rest v
+pub value_found : (text rest : List ℕ) (v : Read ℤ) → value_at text ≡ Some (v, rest)
+    → HasValue text rest v
 unfolding value_at
 value_found text rest v e =
     let digits = front is_ascii_digit (without_leading_sign text) in
@@ -162,11 +175,13 @@ pub record HasEntry (text rest : List ℕ) (e : Read (ℕ × ℕ × ℤ)) : Type
   pub entry : e ≡ entry_of (words_of (front is_within_line text))
   pub line : rest ≡ after is_within_line text
 
-some_then : {A B : Type 0} (o : Option A) (f : A → Option B) (y : B) → option_and_then f o ≡ Some y → (x : A) × (o ≡ Some x) × (f x ≡ Some y)
+some_then : {A B : Type 0} (o : Option A) (f : A → Option B) (y : B) → option_and_then f o ≡ Some y
+    → (x : A) × (o ≡ Some x) × (f x ≡ Some y)
 some_then None f y e = absurd cc
 some_then (Some x) f y e = (x, refl, e)
 
-pub entry_found : (text rest : List ℕ) (e : Read (ℕ × ℕ × ℤ)) → entry_at text ≡ Some (e, rest) → HasEntry text rest e
+pub entry_found : (text rest : List ℕ) (e : Read (ℕ × ℕ × ℤ)) → entry_at text ≡ Some (e, rest)
+    → HasEntry text rest e
 unfolding entry_at is_entry entry_of
 entry_found text rest e same =
     let row = some_then (index_at text) _ (let x : Read (ℕ × ℕ × ℤ) × List ℕ = (e, rest) in x) same in
@@ -193,7 +208,8 @@ pub record HasWord (text : List ℕ) (word : List ℕ) (words : List (List ℕ))
   pub apart : IsApart rest
   pub words_of_rest : words_of rest ≡ words
 
-line-stops : (text : List ℕ) → IsStopped is_blank text → IsStopped is_blank (front is_within_line text)
+line-stops : (text : List ℕ) → IsStopped is_blank text
+    → IsStopped is_blank (front is_within_line text)
 line-stops [] stop = tt
 line-stops (b ∷ text) stop = by (is_within_line b) refl
   where
@@ -201,11 +217,13 @@ line-stops (b ∷ text) stop = by (is_within_line b) refl
     by true e = subst (IsStopped is_blank) (sym (front-yes is_within_line b text e)) stop
     by false e = subst (IsStopped is_blank) (sym (front-no is_within_line b text e)) tt
 
-some_line : (line word : List ℕ) (words : List (List ℕ)) → words_of line ≡ word ∷ words → 0 < length line
+some_line : (line word : List ℕ) (words : List (List ℕ)) → words_of line ≡ word ∷ words
+    → 0 < length line
 some_line [] word words e = absurd (let n = words_of-nil in cc)
 some_line (b ∷ line) word words e = omega arith
 
-first_word_found : (text word : List ℕ) (words : List (List ℕ)) → IsStopped is_blank text → words_of (front is_within_line text) ≡ word ∷ words → HasWord text word words
+first_word_found : (text word : List ℕ) (words : List (List ℕ)) → IsStopped is_blank text
+    → words_of (front is_within_line text) ≡ word ∷ words → HasWord text word words
 first_word_found text word words stop e =
     let line = front is_within_line text in
     let f : words_of line ≡ front is_within_word line ∷ words_of (after is_within_word line) = words_of-front line (line-stops text stop) (some_line line word words e) in
@@ -234,13 +252,16 @@ index_read word (b ∷ next) i e =
     let a : after is_ascii_digit (word ++ (b ∷ next)) ≡ b ∷ next = after-append is_ascii_digit word (b ∷ next) d.1 (blank_no_digit b e) in
     rw (f, a, i, e) refl
 
-index_complete : (text word second : List ℕ) (words : List (List ℕ)) → IsStopped is_blank text → words_of (front is_within_line text) ≡ word ∷ (second ∷ words) → is_index word ≡ true → FindsIndex text word (second ∷ words)
+index_complete : (text word second : List ℕ) (words : List (List ℕ)) → IsStopped is_blank text
+    → words_of (front is_within_line text) ≡ word ∷ (second ∷ words) → is_index word ≡ true
+    → FindsIndex text word (second ∷ words)
 index_complete text word second words stop e i = by h.rest h.same h.apart h.words_of_rest
   where
     h : HasWord text word (second ∷ words)
     h = first_word_found text word (second ∷ words) stop e
 
-    by : (rest : List ℕ) → text ≡ word ++ (rest ++ after is_within_line text) → IsApart rest → words_of rest ≡ second ∷ words → FindsIndex text word (second ∷ words)
+    by : (rest : List ℕ) → text ≡ word ++ (rest ++ after is_within_line text) → IsApart rest
+        → words_of rest ≡ second ∷ words → FindsIndex text word (second ∷ words)
     by [] same apart ws = absurd (let n = words_of-nil in cc)
     by (b ∷ rest) same apart ws =
         let at : index_at text ≡ Some (number_of word, after is_blank (b ∷ (rest ++ after is_within_line text))) = ap index_at same ∙ index_read word (b ∷ (rest ++ after is_within_line text)) i apart in
@@ -251,7 +272,8 @@ index_complete text word second words stop e i = by h.rest h.same h.apart h.word
 all_blank : (rest : List ℕ) → words_of rest ≡ [] → Passes is_blank rest
 all_blank rest e = subst (AreWords rest) e (words_are rest)
 
-stops-digit : (blanks next : List ℕ) → Passes is_blank blanks → IsStopped is_within_line next → IsStopped is_ascii_digit (blanks ++ next)
+stops-digit : (blanks next : List ℕ) → Passes is_blank blanks → IsStopped is_within_line next
+    → IsStopped is_ascii_digit (blanks ++ next)
 stops-digit [] [] h stop = tt
 stops-digit [] (b ∷ next) h stop = end_no_digit b (end-from b stop)
 stops-digit (b ∷ blanks) next h stop = blank_no_digit b h.0
@@ -265,11 +287,13 @@ ends-line [] stop = refl
 ends-line (b ∷ next) stop = end-from b stop
 
 -- a sign and what stands after it, before more
-sign-split : (word next : List ℕ) → is_integer word ≡ true → without_leading_sign (word ++ next) ≡ without_leading_sign word ++ next
+sign-split : (word next : List ℕ) → is_integer word ≡ true
+    → without_leading_sign (word ++ next) ≡ without_leading_sign word ++ next
 sign-split [] next i = absurd cc
 sign-split (b ∷ word) next i = by (eqb b 45) (eqb b 43) refl refl
   where
-    by : (minus plus : Bool) → eqb b 45 ≡ minus → eqb b 43 ≡ plus → without_leading_sign (b ∷ (word ++ next)) ≡ without_leading_sign (b ∷ word) ++ next
+    by : (minus plus : Bool) → eqb b 45 ≡ minus → eqb b 43 ≡ plus
+        → without_leading_sign (b ∷ (word ++ next)) ≡ without_leading_sign (b ∷ word) ++ next
     by true plus m p = rw m refl
     by false true m p = rw (m, p) refl
     by false false m p = rw (m, p) refl
@@ -287,7 +311,9 @@ value_read text word blanks next e i h stop =
     let l : ends_line (after is_blank (after is_ascii_digit (without_leading_sign text))) ≡ true = ap ends_line r ∙ ends-line next stop in
     (value_of (value_word text), rw (t, l, r) refl)
 
-value_complete : (text word : List ℕ) → IsStopped is_blank text → words_of (front is_within_line text) ≡ word ∷ [] → is_integer word ≡ true → (v : Read ℤ) × (value_at text ≡ Some (v, after is_within_line text))
+value_complete : (text word : List ℕ) → IsStopped is_blank text
+    → words_of (front is_within_line text) ≡ word ∷ [] → is_integer word ≡ true
+    → (v : Read ℤ) × (value_at text ≡ Some (v, after is_within_line text))
 value_complete text word stop e i =
     let h = first_word_found text word [] stop e in
     value_read text word h.rest (after is_within_line text) h.same i (all_blank h.rest h.words_of_rest) (IsStopped-after is_within_line text)
@@ -296,11 +322,14 @@ entry_by_parts : (text : List ℕ) (row col : Read ℕ × List ℕ) (value : Rea
 unfolding entry_at
 entry_by_parts text row col value r c v = rw (r, c, v) refl
 
-pub entry_complete : (text : List ℕ) → IsStopped is_blank text → entry_at text ≡ None → is_entry (words_of (front is_within_line text)) ≡ false
+pub entry_complete : (text : List ℕ) → IsStopped is_blank text → entry_at text ≡ None
+    → is_entry (words_of (front is_within_line text)) ≡ false
 unfolding is_entry
 entry_complete text stop none = by (words_of (front is_within_line text)) refl
   where
-    three : (row col value : List ℕ) (t : Bool) → words_of (front is_within_line text) ≡ row ∷ col ∷ value ∷ [] → is_entry (row ∷ col ∷ value ∷ []) ≡ t → is_entry (row ∷ col ∷ value ∷ []) ≡ false
+    three : (row col value : List ℕ) (t : Bool)
+        → words_of (front is_within_line text) ≡ row ∷ col ∷ value ∷ []
+        → is_entry (row ∷ col ∷ value ∷ []) ≡ t → is_entry (row ∷ col ∷ value ∷ []) ≡ false
     three row col value false e i = i
     three row col value true e i =
         let p = and_parts _ _ i in
@@ -311,7 +340,8 @@ entry_complete text stop none = by (words_of (front is_within_line text)) refl
         let some : entry_at text ≡ Some (triplet_of r.found.0 c.found.0 v.0, after is_within_line c.found.1) = entry_by_parts text r.found c.found (v.0, after is_within_line c.found.1) r.at c.at v.1 in
         absurd cc
 
-    by : (words : List (List ℕ)) → words_of (front is_within_line text) ≡ words → is_entry (words_of (front is_within_line text)) ≡ false
+    by : (words : List (List ℕ)) → words_of (front is_within_line text) ≡ words
+        → is_entry (words_of (front is_within_line text)) ≡ false
     by [] e = rw e refl
     by (a ∷ []) e = rw e refl
     by (a ∷ b ∷ []) e = rw e refl

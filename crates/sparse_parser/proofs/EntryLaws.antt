@@ -18,13 +18,15 @@ use Rattle.sparse_parser.specs.Meaning.{Read, number_of, value_of}
 use Rattle.sparse_parser.specs.InnerReading.{found, found_number, begins_blank, ends_line, sign_of, index_at, value_at}
 use Rattle.sparse_parser.proofs.Fronts.{Passes, Passes-front, front-append-after, after-yes, after-no, length-after}
 
-length-front-after : (p : ℕ → Bool) (text : List ℕ) → length (front p text) + length (after p text) ≡ length text
+length-front-after : (p : ℕ → Bool) (text : List ℕ)
+    → length (front p text) + length (after p text) ≡ length text
 length-front-after p text = sym (length-append (front p text) (after p text)) ∙ ap length (front-append-after p text)
 
 no_front : (p : ℕ → Bool) (text : List ℕ) → length (after p text) ≡ length text → front p text ≡ []
 no_front p text e = nil_from_length (front p text) (let l = length-front-after p text in omega arith)
 
-some_front : (p : ℕ → Bool) (text : List ℕ) → length (after p text) ≢ length text → 0 < length (front p text)
+some_front : (p : ℕ → Bool) (text : List ℕ) → length (after p text) ≢ length text
+    → 0 < length (front p text)
 some_front p text n = let l = length-front-after p text in omega (arith, n)
 
 no_blank : (text : List ℕ) → length (after is_blank text) ≡ length text → begins_blank text ≡ false
@@ -47,7 +49,8 @@ list_all-passes : (p : ℕ → Bool) (text : List ℕ) → Passes p text → lis
 list_all-passes p [] h = refl
 list_all-passes p (b ∷ text) h = rw (h.0, list_all-passes p text h.1) refl
 
-pub is_index-front : (text : List ℕ) → 0 < length (front is_ascii_digit text) → is_index (front is_ascii_digit text) ≡ true
+pub is_index-front : (text : List ℕ) → 0 < length (front is_ascii_digit text)
+    → is_index (front is_ascii_digit text) ≡ true
 is_index-front text lt = rw (lt-ltb 0 (length (front is_ascii_digit text)) lt, list_all-passes is_ascii_digit (front is_ascii_digit text) (Passes-front is_ascii_digit text)) refl
 
 -- what a function found is the number
@@ -60,7 +63,9 @@ found-number word None h = by (ltb (digits_value 10 word) (2 ^ 64)) refl
     by true e = absurd (h (ltb-true _ _ e))
     by false e = rw e refl
 
-pub index_none : (text digits rest : List ℕ) → digits ≡ after is_ascii_digit text → rest ≡ after is_blank digits → (length digits ≡ length text) ⊎ (length rest ≡ length digits) → index_at text ≡ None
+pub index_none : (text digits rest : List ℕ) → digits ≡ after is_ascii_digit text
+    → rest ≡ after is_blank digits → (length digits ≡ length text) ⊎ (length rest ≡ length digits)
+    → index_at text ≡ None
 unfolding index_at
 index_none text digits rest d r (inl e) = rw (no_front is_ascii_digit text (ap length (sym d) ∙ e)) refl
 index_none text digits rest d r (inr e) = by (is_index (front is_ascii_digit text)) refl
@@ -72,7 +77,8 @@ index_none text digits rest d r (inr e) = by (is_index (front is_ascii_digit tex
     by true f = rw (f, no) refl
     by false f = rw f refl
 
-pub index_some : (text digits rest : List ℕ) (n : Option ℕ) → digits ≡ after is_ascii_digit text → rest ≡ after is_blank digits → length digits ≢ length text → length rest ≢ length digits
+pub index_some : (text digits rest : List ℕ) (n : Option ℕ) → digits ≡ after is_ascii_digit text
+    → rest ≡ after is_blank digits → length digits ≢ length text → length rest ≢ length digits
     → SomeIff n (digits_value 10 (front is_ascii_digit text) < 2 ^ 64) (digits_value 10 (front is_ascii_digit text)) → Some (found_number n, rest) ≡ index_at text
 unfolding index_at
 index_some text digits rest n d r some blank h =
@@ -86,7 +92,8 @@ sign_of-append : (text : List ℕ) → sign_of text ++ without_leading_sign text
 sign_of-append [] = refl
 sign_of-append (b ∷ text) = by (eqb b 45) (eqb b 43) refl refl
   where
-    by : (minus plus : Bool) → eqb b 45 ≡ minus → eqb b 43 ≡ plus → sign_of (b ∷ text) ++ without_leading_sign (b ∷ text) ≡ b ∷ text
+    by : (minus plus : Bool) → eqb b 45 ≡ minus → eqb b 43 ≡ plus
+        → sign_of (b ∷ text) ++ without_leading_sign (b ∷ text) ≡ b ∷ text
     by true true m p = rw (m, p) refl
     by true false m p = rw (m, p) refl
     by false true m p = rw (m, p) refl
@@ -96,11 +103,13 @@ sign_of-append (b ∷ text) = by (eqb b 45) (eqb b 43) refl refl
 abbrev pub value_word : List ℕ → List ℕ
 value_word text = sign_of text ++ front is_ascii_digit (without_leading_sign text)
 
-pub without_leading_sign-value_word : (text : List ℕ) → without_leading_sign (value_word text) ≡ front is_ascii_digit (without_leading_sign text)
+pub without_leading_sign-value_word : (text : List ℕ)
+    → without_leading_sign (value_word text) ≡ front is_ascii_digit (without_leading_sign text)
 without_leading_sign-value_word [] = refl
 without_leading_sign-value_word (b ∷ text) = by (eqb b 45) (eqb b 43) (is_ascii_digit b) refl refl refl
   where
-    by : (minus plus digit : Bool) → eqb b 45 ≡ minus → eqb b 43 ≡ plus → is_ascii_digit b ≡ digit → without_leading_sign (value_word (b ∷ text)) ≡ front is_ascii_digit (without_leading_sign (b ∷ text))
+    by : (minus plus digit : Bool) → eqb b 45 ≡ minus → eqb b 43 ≡ plus → is_ascii_digit b ≡ digit
+        → without_leading_sign (value_word (b ∷ text)) ≡ front is_ascii_digit (without_leading_sign (b ∷ text))
     by true plus d m p e =
         let s : sign_of (b ∷ text) ≡ b ∷ [] = both_signs plus p in
         let w : value_word (b ∷ text) ≡ b ∷ front is_ascii_digit text = rw (s, m) refl in
@@ -126,44 +135,61 @@ without_leading_sign-value_word (b ∷ text) = by (eqb b 45) (eqb b 43) (is_asci
         let f : front is_ascii_digit (without_leading_sign (b ∷ text)) ≡ [] = rw (m, p, e) refl in
         ap without_leading_sign w ∙ sym f
 
-pub value_word-append : (text : List ℕ) → value_word text ++ after is_ascii_digit (without_leading_sign text) ≡ text
+pub value_word-append : (text : List ℕ)
+    → value_word text ++ after is_ascii_digit (without_leading_sign text) ≡ text
 value_word-append text =
     append_assoc (sign_of text) _ _ ∙ ap (λ (t : List ℕ). sign_of text ++ t) (front-append-after is_ascii_digit (without_leading_sign text)) ∙ sign_of-append text
 
-pub value_word-is : (text digits after' : List ℕ) → digits ≡ without_leading_sign text → after' ≡ after is_ascii_digit digits → (length after' ≤ length text) × (take (length text - length after') text ≡ value_word text)
+pub value_word-is : (text digits after' : List ℕ) → digits ≡ without_leading_sign text
+    → after' ≡ after is_ascii_digit digits
+    → (length after' ≤ length text) × (take (length text - length after') text ≡ value_word text)
 value_word-is text digits after' d a =
     let e : value_word text ++ after' ≡ text = ap (λ (t : List ℕ). value_word text ++ t) (a ∙ ap (after is_ascii_digit) d) ∙ value_word-append text in
     let l : length (value_word text) + length after' ≡ length text = sym (length-append (value_word text) after') ∙ ap length e in
     (omega arith, ap (take (length text - length after')) (sym e) ∙ take_at (value_word text) after' (length text - length after') (omega arith))
 
-some_value : (text digits digits' : List ℕ) → digits ≡ without_leading_sign text → digits' ≡ after is_ascii_digit digits → length digits' ≢ length digits → is_index (front is_ascii_digit (without_leading_sign text)) ≡ true
+some_value : (text digits digits' : List ℕ) → digits ≡ without_leading_sign text
+    → digits' ≡ after is_ascii_digit digits → length digits' ≢ length digits
+    → is_index (front is_ascii_digit (without_leading_sign text)) ≡ true
 some_value text digits digits' d a n = is_index-front (without_leading_sign text) (some_front is_ascii_digit (without_leading_sign text) (λ e. n (ap length (a ∙ ap (after is_ascii_digit) d) ∙ e ∙ ap length (sym d))))
 
-pub value_word-is_integer : (text digits digits' word : List ℕ) → digits ≡ without_leading_sign text → digits' ≡ after is_ascii_digit digits → length digits' ≢ length digits → word ≡ value_word text → is_integer word ≡ true
+pub value_word-is_integer : (text digits digits' word : List ℕ) → digits ≡ without_leading_sign text
+    → digits' ≡ after is_ascii_digit digits → length digits' ≢ length digits
+    → word ≡ value_word text → is_integer word ≡ true
 value_word-is_integer text digits digits' word d a n w = ap is_index (ap without_leading_sign w ∙ without_leading_sign-value_word text) ∙ some_value text digits digits' d a n
 
-pub value_word-number : (text digits word : List ℕ) (n : Option ℕ) → digits ≡ without_leading_sign text → SomeIff n (digits_value 10 (front is_ascii_digit digits) < 2 ^ 64) (digits_value 10 (front is_ascii_digit digits)) → word ≡ value_word text
+pub value_word-number : (text digits word : List ℕ) (n : Option ℕ)
+    → digits ≡ without_leading_sign text
+    → SomeIff n (digits_value 10 (front is_ascii_digit digits) < 2 ^ 64) (digits_value 10 (front is_ascii_digit digits))
+    → word ≡ value_word text
     → SomeIff n (digits_value 10 (without_leading_sign word) < 2 ^ 64) (digits_value 10 (without_leading_sign word))
 value_word-number text digits word n d h w =
     let e : front is_ascii_digit digits ≡ without_leading_sign word = ap (front is_ascii_digit) d ∙ sym (ap without_leading_sign w ∙ without_leading_sign-value_word text) in
     subst (λ (ds : List ℕ). SomeIff n (digits_value 10 ds < 2 ^ 64) (digits_value 10 ds)) e h
 
-pub value_no_digits : (text digits digits' : List ℕ) → digits ≡ without_leading_sign text → digits' ≡ after is_ascii_digit digits → length digits' ≡ length digits → value_at text ≡ None
+pub value_no_digits : (text digits digits' : List ℕ) → digits ≡ without_leading_sign text
+    → digits' ≡ after is_ascii_digit digits → length digits' ≡ length digits → value_at text ≡ None
 unfolding value_at
 value_no_digits text digits digits' d a e = rw (no_front is_ascii_digit (without_leading_sign text) (ap length (sym (a ∙ ap (after is_ascii_digit) d)) ∙ e ∙ ap length d)) refl
 
-pub value_no_end : (text digits digits' rest : List ℕ) → digits ≡ without_leading_sign text → digits' ≡ after is_ascii_digit digits → rest ≡ after is_blank digits' → ends_line rest ≡ false → value_at text ≡ None
+pub value_no_end : (text digits digits' rest : List ℕ) → digits ≡ without_leading_sign text
+    → digits' ≡ after is_ascii_digit digits → rest ≡ after is_blank digits' → ends_line rest ≡ false
+    → value_at text ≡ None
 unfolding value_at
 value_no_end text digits digits' rest d a r e = by (is_index (front is_ascii_digit (without_leading_sign text))) refl
   where
     no : ends_line (after is_blank (after is_ascii_digit (without_leading_sign text))) ≡ false
     no = ap ends_line (sym (r ∙ ap (after is_blank) (a ∙ ap (after is_ascii_digit) d))) ∙ e
 
-    by : (t : Bool) → is_index (front is_ascii_digit (without_leading_sign text)) ≡ t → value_at text ≡ None
+    by : (t : Bool) → is_index (front is_ascii_digit (without_leading_sign text)) ≡ t
+        → value_at text ≡ None
     by true f = rw (f, no) refl
     by false f = rw f refl
 
-pub value_some : (text digits digits' rest word : List ℕ) (v : Read ℤ) → digits ≡ without_leading_sign text → digits' ≡ after is_ascii_digit digits → rest ≡ after is_blank digits' → length digits' ≢ length digits → ends_line rest ≡ true → word ≡ value_word text → v ≡ value_of word → Some (v, rest) ≡ value_at text
+pub value_some : (text digits digits' rest word : List ℕ) (v : Read ℤ)
+    → digits ≡ without_leading_sign text → digits' ≡ after is_ascii_digit digits
+    → rest ≡ after is_blank digits' → length digits' ≢ length digits → ends_line rest ≡ true
+    → word ≡ value_word text → v ≡ value_of word → Some (v, rest) ≡ value_at text
 unfolding value_at
 value_some text digits digits' rest word v d a r n e w h =
     let s : rest ≡ after is_blank (after is_ascii_digit (without_leading_sign text)) = r ∙ ap (after is_blank) (a ∙ ap (after is_ascii_digit) d) in
@@ -174,7 +200,8 @@ value_some text digits digits' rest word v d a r n e w h =
 -- ---- a word that is an index as a whole
 
 -- the number of an index, or why it is none
-pub number_found : (word : List ℕ) (n : Option ℕ) (r : Result ℕ Cause) (cause : Cause) → SomeIff n (digits_value 10 word < 2 ^ 64) (digits_value 10 word) → r ≡ ok_or n cause
+pub number_found : (word : List ℕ) (n : Option ℕ) (r : Result ℕ Cause) (cause : Cause)
+    → SomeIff n (digits_value 10 word < 2 ^ 64) (digits_value 10 word) → r ≡ ok_or n cause
     → kind_of_cause cause ≡ ParsingError → found r ≡ number_of word
 number_found word n r cause h e k = ap found e ∙ by n ∙ found-number word n h
   where

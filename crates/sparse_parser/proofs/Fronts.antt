@@ -4,13 +4,15 @@ use Rattle.std.proofs.lemmas.List.{drop_more, drop_all, take_more, append-nil}
 use Rattle.std.specs.List.{AllByRecursion, list_all}
 use Rattle.sparse_parser.specs.InnerBytes.{front, after}
 
-pub front-yes : (p : ℕ → Bool) (b : ℕ) (text : List ℕ) → p b ≡ true → front p (b ∷ text) ≡ b ∷ front p text
+pub front-yes : (p : ℕ → Bool) (b : ℕ) (text : List ℕ) → p b ≡ true
+    → front p (b ∷ text) ≡ b ∷ front p text
 front-yes p b text e = rw e refl
 
 pub front-no : (p : ℕ → Bool) (b : ℕ) (text : List ℕ) → p b ≡ false → front p (b ∷ text) ≡ []
 front-no p b text e = rw e refl
 
-pub after-yes : (p : ℕ → Bool) (b : ℕ) (text : List ℕ) → p b ≡ true → after p (b ∷ text) ≡ after p text
+pub after-yes : (p : ℕ → Bool) (b : ℕ) (text : List ℕ) → p b ≡ true
+    → after p (b ∷ text) ≡ after p text
 after-yes p b text e = rw e refl
 
 pub after-no : (p : ℕ → Bool) (b : ℕ) (text : List ℕ) → p b ≡ false → after p (b ∷ text) ≡ b ∷ text
@@ -25,7 +27,8 @@ pub record IsPassed (p : ℕ → Bool) (text : List ℕ) (i : ℕ) : Type 0 wher
 pub passed_none : (p : ℕ → Bool) (text : List ℕ) → IsPassed p text 0
 passed_none p text = record { room = omega arith; rest = refl; passed = refl }
 
-pub passed_more : (p : ℕ → Bool) (text : List ℕ) (i : ℕ) → IsPassed p text i → i < length text → p (get_or text i 0) ≡ true → IsPassed p text (i + 1)
+pub passed_more : (p : ℕ → Bool) (text : List ℕ) (i : ℕ) → IsPassed p text i → i < length text
+    → p (get_or text i 0) ≡ true → IsPassed p text (i + 1)
 passed_more p text i h lt e =
     let d = drop_more text i 0 lt in
     let a : after p (drop i text) ≡ after p (drop (i + 1) text) = ap (after p) d ∙ after-yes p _ _ e in
@@ -41,7 +44,8 @@ pub record IsFront (p : ℕ → Bool) (text : List ℕ) (i : ℕ) : Type 0 where
   pub rest : drop i text ≡ after p text
   pub passed : take i text ≡ front p text
 
-pub passed_all : (p : ℕ → Bool) (text : List ℕ) (i : ℕ) → IsPassed p text i → length text ≤ i → IsFront p text i
+pub passed_all : (p : ℕ → Bool) (text : List ℕ) (i : ℕ) → IsPassed p text i → length text ≤ i
+    → IsFront p text i
 passed_all p text i h le =
     let d = drop_all i text le in
     record {
@@ -49,7 +53,8 @@ passed_all p text i h le =
       passed = sym (append-nil _) ∙ sym (ap (λ (t : List ℕ). take i text ++ front p t) d) ∙ h.passed;
     }
 
-pub passed_stop : (p : ℕ → Bool) (text : List ℕ) (i : ℕ) → IsPassed p text i → i < length text → p (get_or text i 0) ≡ false → IsFront p text i
+pub passed_stop : (p : ℕ → Bool) (text : List ℕ) (i : ℕ) → IsPassed p text i → i < length text
+    → p (get_or text i 0) ≡ false → IsFront p text i
 passed_stop p text i h lt e =
     let d = drop_more text i 0 lt in
     record {
@@ -63,7 +68,8 @@ pub front-append-after : (p : ℕ → Bool) (text : List ℕ) → front p text +
 front-append-after p [] = refl
 front-append-after p (b ∷ text) = by (p b) refl (front-append-after p text)
   where
-    by : (t : Bool) → p b ≡ t → front p text ++ after p text ≡ text → front p (b ∷ text) ++ after p (b ∷ text) ≡ b ∷ text
+    by : (t : Bool) → p b ≡ t → front p text ++ after p text ≡ text
+        → front p (b ∷ text) ++ after p (b ∷ text) ≡ b ∷ text
     by true e h = rw e (ap (λ (t : List ℕ). b ∷ t) h)
     by false e h = rw e refl
 
@@ -93,22 +99,26 @@ IsStopped-after p (b ∷ text) = by (p b) refl (IsStopped-after p text)
     by false e h = subst (IsStopped p) (sym (after-no p b text e)) e
 
 -- a front that passes, before what doesn't
-pub front-append : (p : ℕ → Bool) (passed rest : List ℕ) → Passes p passed → IsStopped p rest → front p (passed ++ rest) ≡ passed
+pub front-append : (p : ℕ → Bool) (passed rest : List ℕ) → Passes p passed → IsStopped p rest
+    → front p (passed ++ rest) ≡ passed
 front-append p [] [] h stop = refl
 front-append p [] (b ∷ rest) h stop = front-no p b rest stop
 front-append p (b ∷ passed) rest h stop = front-yes p b (passed ++ rest) h.0 ∙ ap (λ (t : List ℕ). b ∷ t) (front-append p passed rest h.1 stop)
 
-pub after-append : (p : ℕ → Bool) (passed rest : List ℕ) → Passes p passed → IsStopped p rest → after p (passed ++ rest) ≡ rest
+pub after-append : (p : ℕ → Bool) (passed rest : List ℕ) → Passes p passed → IsStopped p rest
+    → after p (passed ++ rest) ≡ rest
 after-append p [] [] h stop = refl
 after-append p [] (b ∷ rest) h stop = after-no p b rest stop
 after-append p (b ∷ passed) rest h stop = after-yes p b (passed ++ rest) h.0 ∙ after-append p passed rest h.1 stop
 
 -- a part that passes stands in front of the front
-pub front-append_passes : (p : ℕ → Bool) (passed rest : List ℕ) → Passes p passed → front p (passed ++ rest) ≡ passed ++ front p rest
+pub front-append_passes : (p : ℕ → Bool) (passed rest : List ℕ) → Passes p passed
+    → front p (passed ++ rest) ≡ passed ++ front p rest
 front-append_passes p [] rest h = refl
 front-append_passes p (b ∷ passed) rest h = front-yes p b (passed ++ rest) h.0 ∙ ap (λ (t : List ℕ). b ∷ t) (front-append_passes p passed rest h.1)
 
-pub after-append_passes : (p : ℕ → Bool) (passed rest : List ℕ) → Passes p passed → after p (passed ++ rest) ≡ after p rest
+pub after-append_passes : (p : ℕ → Bool) (passed rest : List ℕ) → Passes p passed
+    → after p (passed ++ rest) ≡ after p rest
 after-append_passes p [] rest h = refl
 after-append_passes p (b ∷ passed) rest h = after-yes p b (passed ++ rest) h.0 ∙ after-append_passes p passed rest h.1
 
@@ -116,18 +126,22 @@ pub length-after : (p : ℕ → Bool) (text : List ℕ) → length (after p text
 length-after p [] = omega arith
 length-after p (b ∷ text) = by (p b) refl (length-after p text)
   where
-    by : (t : Bool) → p b ≡ t → length (after p text) ≤ length text → length (after p (b ∷ text)) ≤ length (b ∷ text)
+    by : (t : Bool) → p b ≡ t → length (after p text) ≤ length text
+        → length (after p (b ∷ text)) ≤ length (b ∷ text)
     by true e h = rw e (omega arith)
     by false e h = rw e (omega arith)
 
-pub length-after-lt : (p : ℕ → Bool) (b : ℕ) (text : List ℕ) → p b ≡ true → length (after p (b ∷ text)) < length (b ∷ text)
+pub length-after-lt : (p : ℕ → Bool) (b : ℕ) (text : List ℕ) → p b ≡ true
+    → length (after p (b ∷ text)) < length (b ∷ text)
 length-after-lt p b text e = rw e (let h = length-after p text in omega arith)
 
 -- nothing of the front is left where the loop ends
-pub front-drop_all : (p : ℕ → Bool) (text : List ℕ) (i : ℕ) → length text ≤ i → front p (drop i text) ≡ []
+pub front-drop_all : (p : ℕ → Bool) (text : List ℕ) (i : ℕ) → length text ≤ i
+    → front p (drop i text) ≡ []
 front-drop_all p text i le = ap (front p) (drop_all i text le)
 
-pub front-drop_stop : (p : ℕ → Bool) (text : List ℕ) (i : ℕ) → i < length text → p (get_or text i 0) ≡ false → front p (drop i text) ≡ []
+pub front-drop_stop : (p : ℕ → Bool) (text : List ℕ) (i : ℕ) → i < length text
+    → p (get_or text i 0) ≡ false → front p (drop i text) ≡ []
 front-drop_stop p text i lt e = ap (front p) (drop_more text i 0 lt) ∙ front-no p _ _ e
 
 -- a text that passes as a whole is its own front
@@ -135,6 +149,7 @@ pub list_all-front : (p : ℕ → Bool) (word : List ℕ) → list_all p word �
 list_all-front p [] h = refl
 list_all-front p (b ∷ word) h = by (p b) refl (list_all-front p word)
   where
-    by : (t : Bool) → p b ≡ t → (list_all p word ≡ true → front p word ≡ word) → front p (b ∷ word) ≡ b ∷ word
+    by : (t : Bool) → p b ≡ t → (list_all p word ≡ true → front p word ≡ word)
+        → front p (b ∷ word) ≡ b ∷ word
     by true e rest = let k : list_all p word ≡ true = sym (let r : list_all p (b ∷ word) ≡ list_all p word = rw e refl in r) ∙ h in front-yes p b word e ∙ ap (λ (t : List ℕ). b ∷ t) (rest k)
     by false e rest = absurd (let r : list_all p (b ∷ word) ≡ false = rw e refl in cc)

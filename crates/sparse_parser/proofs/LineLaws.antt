@@ -24,7 +24,8 @@ IsPlain line = AllByRecursion (λ b. is_line_end b ≡ false) line
 pub blank_line : (line : List ℕ) → AreBlanks line → words_of line ≡ []
 blank_line line h = ap words_of (sym (append-nil line)) ∙ words_of-blanks line [] h ∙ words_of-nil
 
-add-blank : (line : List ℕ) (lines : List (List (List ℕ))) → words_of line ≡ [] → add line lines ≡ lines
+add-blank : (line : List ℕ) (lines : List (List (List ℕ))) → words_of line ≡ []
+    → add line lines ≡ lines
 add-blank line lines e = rw e refl
 
 ended : (line : List ℕ) (b : ℕ) (rest : List ℕ) → IsPlain line → is_line_end b ≡ true → written_of (line ++ (b ∷ rest)) ≡ add line (written_of rest)
@@ -35,15 +36,18 @@ last : (line : List ℕ) → IsPlain line → written_of line ≡ add line []
 unfolding written_of
 last line plain = ap written_lines (slice_split_none is_line_end line (All-from_recursion (λ b. is_line_end b ≡ false) line plain))
 
-written_of-end : (b : ℕ) (rest : List ℕ) → is_line_end b ≡ true → written_of (b ∷ rest) ≡ written_of rest
+written_of-end : (b : ℕ) (rest : List ℕ) → is_line_end b ≡ true
+    → written_of (b ∷ rest) ≡ written_of rest
 written_of-end b rest e = ended [] b rest tt e ∙ add-blank [] (written_of rest) words_of-nil
 
-after_end : (line end rest : List ℕ) → IsPlain line → IsLineEnd end rest → written_of (line ++ (end ++ rest)) ≡ add line (written_of rest)
+after_end : (line end rest : List ℕ) → IsPlain line → IsLineEnd end rest
+    → written_of (line ++ (end ++ rest)) ≡ add line (written_of rest)
 after_end line end rest plain (inl e) = ap (λ (x : List ℕ). written_of (line ++ (x ++ rest))) e ∙ ended line 10 rest plain refl
 after_end line end rest plain (inr (inl e)) = ap (λ (x : List ℕ). written_of (line ++ (x ++ rest))) e ∙ ended line 13 (10 ∷ rest) plain refl ∙ ap (add line) (written_of-end 10 rest refl)
 after_end line end rest plain (inr (inr e)) = ap (λ (x : List ℕ). written_of (line ++ (x ++ rest))) e.0 ∙ ended line 13 rest plain refl
 
-pub lines_only : (text : List ℕ) (lines : List (List ℕ)) → AreLines text lines → written_lines lines ≡ written_of text
+pub lines_only : (text : List ℕ) (lines : List (List ℕ)) → AreLines text lines
+    → written_lines lines ≡ written_of text
 lines_only text [] e = sym (ap written_of e ∙ last [] tt ∙ add-blank [] [] words_of-nil)
 lines_only text (line ∷ lines) (plain, inl (lt, e, none)) = ap (λ (ls : List (List ℕ)). add line (written_lines ls)) none ∙ sym (ap written_of e ∙ last line plain)
 lines_only text (line ∷ lines) (plain, inr (end, rest, is_end, e, others)) = ap (add line) (lines_only rest lines others) ∙ sym (ap written_of e ∙ after_end line end rest plain is_end)
@@ -53,7 +57,8 @@ lines_only text (line ∷ lines) (plain, inr (end, rest, is_end, e, others)) = a
 abbrev Some_lines : List ℕ → Type 0
 Some_lines text = (lines : List (List ℕ)) × AreLines text lines
 
-plain_one : (c : ℕ) (text : List ℕ) → is_line_end c ≡ false → Some_lines text → Some_lines (c ∷ text)
+plain_one : (c : ℕ) (text : List ℕ) → is_line_end c ≡ false → Some_lines text
+    → Some_lines (c ∷ text)
 plain_one c text e ([], h) = ((c ∷ []) ∷ [], ((e, tt), inl (omega arith, ap (λ (t : List ℕ). c ∷ t) h, refl)))
 plain_one c text e (line ∷ lines, (plain, inl (lt, same, none))) = ((c ∷ line) ∷ lines, ((e, plain), inl (omega arith, ap (λ (t : List ℕ). c ∷ t) same, none)))
 plain_one c text e (line ∷ lines, (plain, inr (end, rest, is_end, same, others))) = ((c ∷ line) ∷ lines, ((e, plain), inr (end, rest, is_end, ap (λ (t : List ℕ). c ∷ t) same, others)))
@@ -65,7 +70,8 @@ first_is : (text : List ℕ) → get_or text 0 0 ≡ 10 → text ≡ 10 ∷ drop
 first_is [] e = absurd (omega arith)
 first_is (c ∷ text) e = ap (λ (x : ℕ). x ∷ text) e
 
-one_line : (c : ℕ) (text : List ℕ) → Some_lines text → Some_lines (drop 1 text) → Some_lines (c ∷ text)
+one_line : (c : ℕ) (text : List ℕ) → Some_lines text → Some_lines (drop 1 text)
+    → Some_lines (c ∷ text)
 one_line c text whole less = by (eqb c 10) (eqb c 13) refl refl
   where
     lone : (b : Bool) → eqb (get_or text 0 0) 10 ≡ b → c ≡ 13 → Some_lines (c ∷ text)
@@ -86,36 +92,43 @@ some_lines text = (both_lines text).0
 
 -- ---- comments and contents
 
-heads : (c : ℕ) (rest word after : List ℕ) → 0 < length word → c ∷ rest ≡ word ++ after → get_or word 0 0 ≡ c
+heads : (c : ℕ) (rest word after : List ℕ) → 0 < length word → c ∷ rest ≡ word ++ after
+    → get_or word 0 0 ≡ c
 heads c rest [] after lt e = absurd (omega arith)
 heads c rest (d ∷ word) after lt e = cc
 
 not_both : {P : Type 0} {b : Bool} → b ≡ false → b ≡ true → P
 not_both e f = absurd cc
 
-starts : (c : ℕ) (rest word : List ℕ) (words : List (List ℕ)) → is_blank c ≡ false → AreWords (c ∷ rest) (word ∷ words) → get_or word 0 0 ≡ c
+starts : (c : ℕ) (rest word : List ℕ) (words : List (List ℕ)) → is_blank c ≡ false
+    → AreWords (c ∷ rest) (word ∷ words) → get_or word 0 0 ≡ c
 starts c rest word words e ([], after, blanks, lt, solid, same, apart, others) = heads c rest word after lt same
 starts c rest word words e (b ∷ before, after, blanks, lt, solid, same, apart, others) = not_both e (let h : c ≡ b = cc in rw h blanks.0)
 
 -- the words of what begins with c
-first_word_of : (c : ℕ) (rest : List ℕ) → is_blank c ≡ false → (word : List ℕ) × (words : List (List ℕ)) × (words_of (c ∷ rest) ≡ word ∷ words) × (get_or word 0 0 ≡ c)
+first_word_of : (c : ℕ) (rest : List ℕ) → is_blank c ≡ false
+    → (word : List ℕ) × (words : List (List ℕ)) × (words_of (c ∷ rest) ≡ word ∷ words) × (get_or word 0 0 ≡ c)
 first_word_of c rest e = by (words_of (c ∷ rest)) refl (words_are (c ∷ rest))
   where
-    by : (ws : List (List ℕ)) → words_of (c ∷ rest) ≡ ws → AreWords (c ∷ rest) ws → (word : List ℕ) × (words : List (List ℕ)) × (words_of (c ∷ rest) ≡ word ∷ words) × (get_or word 0 0 ≡ c)
+    by : (ws : List (List ℕ)) → words_of (c ∷ rest) ≡ ws → AreWords (c ∷ rest) ws
+        → (word : List ℕ) × (words : List (List ℕ)) × (words_of (c ∷ rest) ≡ word ∷ words) × (get_or word 0 0 ≡ c)
     by [] same h = not_both e h.0
     by (word ∷ words) same h = (word, words, same, starts c rest word words e h)
 
 abbrev content_lines : List (List ℕ) → List (List (List ℕ))
 content_lines lines = filter is_content (written_lines lines)
 
-skip : (line : List ℕ) (lines : List (List ℕ)) (words : List (List ℕ)) → words_of line ≡ words → is_content words ≡ false → content_lines (line ∷ lines) ≡ content_lines lines
+skip : (line : List ℕ) (lines : List (List ℕ)) (words : List (List ℕ)) → words_of line ≡ words
+    → is_content words ≡ false → content_lines (line ∷ lines) ≡ content_lines lines
 skip line lines [] e c = rw e refl
 skip line lines (word ∷ words) e c = rw (e, c) refl
 
-blank_first : (line : List ℕ) (lines : List (List ℕ)) → AreBlanks line → written_lines (line ∷ lines) ≡ written_lines lines
+blank_first : (line : List ℕ) (lines : List (List ℕ)) → AreBlanks line
+    → written_lines (line ∷ lines) ≡ written_lines lines
 blank_first line lines h = rw (blank_line line h) refl
 
-pub comment_line : (before rest : List ℕ) → AreBlanks before → is_content (words_of (before ++ (37 ∷ rest))) ≡ false
+pub comment_line : (before rest : List ℕ) → AreBlanks before
+    → is_content (words_of (before ++ (37 ∷ rest))) ≡ false
 unfolding is_content
 comment_line before rest h =
     let w = first_word_of 37 rest refl in
@@ -128,10 +141,13 @@ content_line : (word : List ℕ) (words : List (List ℕ)) → get_or word 0 0 �
 unfolding is_content
 content_line word words h = rw (not_37 (get_or word 0 0) h) refl
 
-keep : (line : List ℕ) (lines : List (List ℕ)) (word : List ℕ) (words : List (List ℕ)) → words_of line ≡ word ∷ words → is_content (word ∷ words) ≡ true → content_lines (line ∷ lines) ≡ (word ∷ words) ∷ content_lines lines
+keep : (line : List ℕ) (lines : List (List ℕ)) (word : List ℕ) (words : List (List ℕ))
+    → words_of line ≡ word ∷ words → is_content (word ∷ words) ≡ true
+    → content_lines (line ∷ lines) ≡ (word ∷ words) ∷ content_lines lines
 keep line lines word words e c = rw (e, c) refl
 
-pub contents_only : (lines : List (List ℕ)) (contents : List (List (List ℕ))) → AreContents lines contents → content_lines lines ≡ contents
+pub contents_only : (lines : List (List ℕ)) (contents : List (List (List ℕ)))
+    → AreContents lines contents → content_lines lines ≡ contents
 contents_only [] contents h = sym h
 contents_only (line ∷ lines) contents (inl h) = ap (filter is_content) (blank_first line lines h.0) ∙ contents_only lines contents h.1
 contents_only (line ∷ lines) contents (inr (inl (before, rest, blanks, e, others))) =
@@ -143,7 +159,8 @@ contents_only (line ∷ lines) contents (inr (inr (word, words, more, are, plain
 abbrev pub Begins : List (List (List ℕ)) → List (List ℕ) → List (List (List ℕ)) → Type 0
 Begins lines header contents = (others : List (List (List ℕ))) × (lines ≡ header ∷ others) × (filter is_content others ≡ contents)
 
-pub headed_only : (lines : List (List ℕ)) (header : List (List ℕ)) (contents : List (List (List ℕ))) → AreHeaded lines header contents → Begins (written_lines lines) header contents
+pub headed_only : (lines : List (List ℕ)) (header : List (List ℕ)) (contents : List (List (List ℕ)))
+    → AreHeaded lines header contents → Begins (written_lines lines) header contents
 headed_only [] header contents h = absurd h
 headed_only (line ∷ lines) header contents (inl h) = let b = headed_only lines header contents h.1 in (b.0, blank_first line lines h.0 ∙ b.1, b.2)
 headed_only (line ∷ lines) header contents (inr (word, words, are, e, others)) =
@@ -153,22 +170,28 @@ headed_only (line ∷ lines) header contents (inr (word, words, are, e, others))
 
 -- ---- and back
 
-head_is : (c : ℕ) (word after : List ℕ) → 0 < length word → get_or word 0 0 ≡ c → word ++ after ≡ c ∷ (drop 1 word ++ after)
+head_is : (c : ℕ) (word after : List ℕ) → 0 < length word → get_or word 0 0 ≡ c
+    → word ++ after ≡ c ∷ (drop 1 word ++ after)
 head_is c [] after lt e = absurd (omega arith)
 head_is c (d ∷ word) after lt e = ap (λ (x : ℕ). x ∷ (word ++ after)) e
 
-commented : (line word : List ℕ) (words : List (List ℕ)) → AreWords line (word ∷ words) → get_or word 0 0 ≡ 37 → (before : List ℕ) × (rest : List ℕ) × AreBlanks before × (line ≡ before ++ (37 ∷ rest))
+commented : (line word : List ℕ) (words : List (List ℕ)) → AreWords line (word ∷ words)
+    → get_or word 0 0 ≡ 37
+    → (before : List ℕ) × (rest : List ℕ) × AreBlanks before × (line ≡ before ++ (37 ∷ rest))
 commented line word words (before, rest, blanks, lt, solid, same, apart, others) p = (before, drop 1 word ++ rest, blanks, same ∙ ap (λ (l : List ℕ). before ++ l) (head_is 37 word rest lt p))
 
 is_content-comment : (word : List ℕ) (words : List (List ℕ)) → get_or word 0 0 ≡ 37 → is_content (word ∷ words) ≡ false
 unfolding is_content
 is_content-comment word words e = rw e refl
 
-more_contents : (line : List ℕ) (lines : List (List ℕ)) (ws : List (List ℕ)) → words_of line ≡ ws → AreWords line ws → AreContents lines (content_lines lines) → AreContents (line ∷ lines) (content_lines (line ∷ lines))
+more_contents : (line : List ℕ) (lines : List (List ℕ)) (ws : List (List ℕ)) → words_of line ≡ ws
+    → AreWords line ws → AreContents lines (content_lines lines)
+    → AreContents (line ∷ lines) (content_lines (line ∷ lines))
 more_contents line lines [] e h rest = inl (h, subst (AreContents lines) (sym (ap (filter is_content) (blank_first line lines h))) rest)
 more_contents line lines (word ∷ words) e h rest = tested (eqb_tells (get_or word 0 0) 37)
   where
-    tested : ((eqb (get_or word 0 0) 37 ≡ true) × (get_or word 0 0 ≡ 37)) ⊎ ((eqb (get_or word 0 0) 37 ≡ false) × (get_or word 0 0 ≢ 37)) → AreContents (line ∷ lines) (content_lines (line ∷ lines))
+    tested : ((eqb (get_or word 0 0) 37 ≡ true) × (get_or word 0 0 ≡ 37)) ⊎ ((eqb (get_or word 0 0) 37 ≡ false) × (get_or word 0 0 ≢ 37))
+        → AreContents (line ∷ lines) (content_lines (line ∷ lines))
     tested (inl f) = let k = commented line word words h f.1 in inr (inl (k.0, k.1, k.2, k.3, subst (AreContents lines) (sym (skip line lines (word ∷ words) e (is_content-comment word words f.1))) rest))
     tested (inr f) = inr (inr (word, words, content_lines lines, h, f.1, keep line lines word words e (content_line word words f.1), rest))
 
@@ -176,7 +199,8 @@ pub contents_are : (lines : List (List ℕ)) → AreContents lines (content_line
 contents_are [] = refl
 contents_are (line ∷ lines) = more_contents line lines (words_of line) refl (words_are line) (contents_are lines)
 
-more_headed : (line : List ℕ) (lines : List (List ℕ)) (header : List (List ℕ)) (others : List (List (List ℕ))) (ws : List (List ℕ)) → words_of line ≡ ws → AreWords line ws → written_lines (line ∷ lines) ≡ header ∷ others
+more_headed : (line : List ℕ) (lines : List (List ℕ)) (header : List (List ℕ)) (others : List (List (List ℕ))) (ws : List (List ℕ))
+    → words_of line ≡ ws → AreWords line ws → written_lines (line ∷ lines) ≡ header ∷ others
     → (written_lines lines ≡ header ∷ others → AreHeaded lines header (filter is_content others)) → AreHeaded (line ∷ lines) header (filter is_content others)
 more_headed line lines header others [] e h k rest = inl (h, rest (sym (blank_first line lines h) ∙ k))
 more_headed line lines header others (word ∷ words) e h k rest =
@@ -186,7 +210,8 @@ more_headed line lines header others (word ∷ words) e h k rest =
     let c-is : written_lines lines ≡ others = cc in
     inr (word, words, h, h-is, subst (λ (ls : List (List (List ℕ))). AreContents lines (filter is_content ls)) c-is (contents_are lines))
 
-pub headed_are : (lines : List (List ℕ)) (header : List (List ℕ)) (others : List (List (List ℕ))) → written_lines lines ≡ header ∷ others → AreHeaded lines header (filter is_content others)
+pub headed_are : (lines : List (List ℕ)) (header : List (List ℕ)) (others : List (List (List ℕ)))
+    → written_lines lines ≡ header ∷ others → AreHeaded lines header (filter is_content others)
 headed_are [] header others e = absurd cc
 headed_are (line ∷ lines) header others e = more_headed line lines header others (words_of line) refl (words_are line) e (headed_are lines header others)
 
@@ -208,18 +233,21 @@ end-from b h = by (is_line_end b) refl
     by false e = absurd (let f : not (is_line_end b) ≡ true = rw e refl in cc)
 
 -- the front line, and the lines after it
-written_of-parts : (line rest : List ℕ) → IsPlain line → IsStopped is_within_line rest → written_of (line ++ rest) ≡ add line (written_of rest)
+written_of-parts : (line rest : List ℕ) → IsPlain line → IsStopped is_within_line rest
+    → written_of (line ++ rest) ≡ add line (written_of rest)
 written_of-parts line [] plain stop = ap written_of (append-nil line) ∙ last line plain ∙ ap (add line) (sym (last [] tt ∙ add-blank [] [] words_of-nil))
 written_of-parts line (b ∷ rest) plain stop = ended line b rest plain (end-from b stop) ∙ ap (add line) (sym (written_of-end b rest (end-from b stop)))
 
-pub written_of-line : (text : List ℕ) → written_of text ≡ add (front is_within_line text) (written_of (after is_within_line text))
+pub written_of-line : (text : List ℕ)
+    → written_of text ≡ add (front is_within_line text) (written_of (after is_within_line text))
 written_of-line text = ap written_of (sym (front-append-after is_within_line text)) ∙ written_of-parts _ _ (plain-from _ (Passes-front is_within_line text)) (IsStopped-after is_within_line text)
 
 -- what is neither a blank nor a line end
 pub outside : (b : ℕ) → is_space b ≡ false → (is_blank b ≡ false) × (is_within_line b ≡ true)
 outside b e = by (is_blank b) (is_line_end b) refl refl
   where
-    by : (t u : Bool) → is_blank b ≡ t → is_line_end b ≡ u → (is_blank b ≡ false) × (is_within_line b ≡ true)
+    by : (t u : Bool) → is_blank b ≡ t → is_line_end b ≡ u
+        → (is_blank b ≡ false) × (is_within_line b ≡ true)
     by true u f g = absurd (let h : is_space b ≡ true = rw f refl in cc)
     by false true f g = absurd (let h : is_space b ≡ true = rw (f, g) refl in cc)
     by false false f g = (f, rw g refl)
@@ -232,11 +260,13 @@ blank-within b e = by (eqb b 10) (eqb b 13) refl refl
     by false true f g = absurd (let h : is_blank 13 ≡ true = subst (λ (x : ℕ). is_blank x ≡ true) (eqb-true b 13 g) e in cc)
     by false false f g = rw (f, g) refl
 
-written_of-blank : (b : ℕ) (text : List ℕ) → is_blank b ≡ true → written_of (b ∷ text) ≡ written_of text
+written_of-blank : (b : ℕ) (text : List ℕ) → is_blank b ≡ true
+    → written_of (b ∷ text) ≡ written_of text
 written_of-blank b text e =
     written_of-line (b ∷ text) ∙ rw (front-yes is_within_line b text (blank-within b e), after-yes is_within_line b text (blank-within b e), words_of-blank b (front is_within_line text) e) refl ∙ sym (written_of-line text)
 
-written_of-space : (b : ℕ) (text : List ℕ) → is_space b ≡ true → written_of (b ∷ text) ≡ written_of text
+written_of-space : (b : ℕ) (text : List ℕ) → is_space b ≡ true
+    → written_of (b ∷ text) ≡ written_of text
 written_of-space b text e = by (is_blank b) (is_line_end b) refl refl
   where
     by : (t u : Bool) → is_blank b ≡ t → is_line_end b ≡ u → written_of (b ∷ text) ≡ written_of text
@@ -248,7 +278,8 @@ pub written_of-after_space : (text : List ℕ) → written_of (after is_space te
 written_of-after_space [] = refl
 written_of-after_space (b ∷ text) = by (is_space b) refl (written_of-after_space text)
   where
-    by : (t : Bool) → is_space b ≡ t → written_of (after is_space text) ≡ written_of text → written_of (after is_space (b ∷ text)) ≡ written_of (b ∷ text)
+    by : (t : Bool) → is_space b ≡ t → written_of (after is_space text) ≡ written_of text
+        → written_of (after is_space (b ∷ text)) ≡ written_of (b ∷ text)
     by true e h = ap written_of (after-yes is_space b text e) ∙ h ∙ sym (written_of-space b text e)
     by false e h = ap written_of (after-no is_space b text e)
 
@@ -257,7 +288,8 @@ unfolding contents_of
 contents_of-after_space text = ap (filter is_content) (written_of-after_space text)
 
 -- the words of the front line, where it is neither blank nor a comment, and the contents after it
-pub contents_of-line : (b : ℕ) (text : List ℕ) → is_space b ≡ false → b ≢ 37 → contents_of (b ∷ text) ≡ words_of (front is_within_line (b ∷ text)) ∷ contents_of (after is_within_line (b ∷ text))
+pub contents_of-line : (b : ℕ) (text : List ℕ) → is_space b ≡ false → b ≢ 37
+    → contents_of (b ∷ text) ≡ words_of (front is_within_line (b ∷ text)) ∷ contents_of (after is_within_line (b ∷ text))
 unfolding contents_of
 contents_of-line b text e n =
     let o = outside b e in
@@ -266,7 +298,8 @@ contents_of-line b text e n =
     let c : is_content (w.0 ∷ w.1) ≡ true = content_line w.0 w.1 (subst (λ (x : ℕ). x ≢ 37) (sym w.3) n) in
     ap (filter is_content) (written_of-line (b ∷ text)) ∙ rw (f, c) refl
 
-pub contents_of-comment : (text : List ℕ) → contents_of (37 ∷ text) ≡ contents_of (after is_within_line (37 ∷ text))
+pub contents_of-comment : (text : List ℕ)
+    → contents_of (37 ∷ text) ≡ contents_of (after is_within_line (37 ∷ text))
 unfolding contents_of
 contents_of-comment text =
     let w = first_word_of 37 (front is_within_line text) refl in
@@ -274,7 +307,8 @@ contents_of-comment text =
     ap (filter is_content) (written_of-line (37 ∷ text)) ∙ rw (f, is_content-comment w.0 w.1 w.3) refl
 
 -- the first line that isn't blank
-pub written_of-first : (b : ℕ) (text : List ℕ) → is_space b ≡ false → written_of (b ∷ text) ≡ words_of (front is_within_line (b ∷ text)) ∷ written_of (after is_within_line (b ∷ text))
+pub written_of-first : (b : ℕ) (text : List ℕ) → is_space b ≡ false
+    → written_of (b ∷ text) ≡ words_of (front is_within_line (b ∷ text)) ∷ written_of (after is_within_line (b ∷ text))
 written_of-first b text e =
     let o = outside b e in
     let w = first_word_of b (front is_within_line text) o.0 in
@@ -303,11 +337,14 @@ sought_first text rest e = record {
   stop = subst (IsStopped is_space) (sym e) (IsStopped-after is_space text);
 }
 
-pub head_byte : (b : ℕ) (text : List ℕ) → 0 < length text → get_or text 0 0 ≡ b → text ≡ b ∷ drop 1 text
+pub head_byte : (b : ℕ) (text : List ℕ) → 0 < length text → get_or text 0 0 ≡ b
+    → text ≡ b ∷ drop 1 text
 head_byte b [] lt e = absurd (omega arith)
 head_byte b (c ∷ text) lt e = ap (λ (x : ℕ). x ∷ text) e
 
-pub sought_more : (text comment others rest : List ℕ) → IsSought text comment → comment ≡ 37 ∷ drop 1 comment → others ≡ after is_within_line comment → rest ≡ after is_space others → IsSought text rest × (length rest < length comment)
+pub sought_more : (text comment others rest : List ℕ) → IsSought text comment
+    → comment ≡ 37 ∷ drop 1 comment → others ≡ after is_within_line comment
+    → rest ≡ after is_space others → IsSought text rest × (length rest < length comment)
 sought_more text comment others rest h c o e =
     let next = sought_first others rest e in
     let a : others ≡ after is_within_line (37 ∷ drop 1 comment) = o ∙ ap (after is_within_line) c in

@@ -17,19 +17,24 @@ pub words_of-nil : words_of [] ≡ []
 unfolding words_of
 words_of-nil = refl
 
-pub words_of-blank : (b : ℕ) (rest : List ℕ) → is_blank b ≡ true → words_of (b ∷ rest) ≡ words_of rest
+pub words_of-blank : (b : ℕ) (rest : List ℕ) → is_blank b ≡ true
+    → words_of (b ∷ rest) ≡ words_of rest
 unfolding words_of
 words_of-blank b rest e = ap (filter is_some_word) (slice_split-cons_yes is_blank b rest e)
 
-pub words_of-blanks : (before rest : List ℕ) → AreBlanks before → words_of (before ++ rest) ≡ words_of rest
+pub words_of-blanks : (before rest : List ℕ) → AreBlanks before
+    → words_of (before ++ rest) ≡ words_of rest
 words_of-blanks [] rest h = refl
 words_of-blanks (b ∷ before) rest h = words_of-blank b (before ++ rest) h.0 ∙ words_of-blanks before rest h.1
 
-kept : (word : List ℕ) (parts : List (List ℕ)) → 0 < length word → filter is_some_word (word ∷ parts) ≡ word ∷ filter is_some_word parts
+kept : (word : List ℕ) (parts : List (List ℕ)) → 0 < length word
+    → filter is_some_word (word ∷ parts) ≡ word ∷ filter is_some_word parts
 kept word parts lt = rw (lt-ltb 0 (length word) lt) refl
 
 -- a word, and those of what stands after it
-pub words_of-word : (word rest : List ℕ) → 0 < length word → AllByRecursion (λ b. is_blank b ≡ false) word → IsApart rest → words_of (word ++ rest) ≡ word ∷ words_of rest
+pub words_of-word : (word rest : List ℕ) → 0 < length word
+    → AllByRecursion (λ b. is_blank b ≡ false) word → IsApart rest
+    → words_of (word ++ rest) ≡ word ∷ words_of rest
 unfolding words_of
 words_of-word word [] lt solid apart =
     ap words_of (append-nil word) ∙ ap (filter is_some_word) (slice_split_none is_blank word (All-from_recursion (λ b. is_blank b ≡ false) word solid)) ∙ kept word [] lt
@@ -37,7 +42,8 @@ words_of-word word (b ∷ rest) lt solid apart =
     ap (filter is_some_word) (slice_split_at is_blank word b rest (All-from_recursion (λ b. is_blank b ≡ false) word solid) apart) ∙ kept word (slice_split is_blank rest) lt ∙ ap (λ (ws : List (List ℕ)). word ∷ ws) (sym (words_of-blank b rest apart))
 
 -- a line has no other words
-pub words_only : (line : List ℕ) (words : List (List ℕ)) → AreWords line words → words_of line ≡ words
+pub words_only : (line : List ℕ) (words : List (List ℕ)) → AreWords line words
+    → words_of line ≡ words
 words_only line [] h = ap words_of (sym (append-nil line)) ∙ words_of-blanks line [] h ∙ words_of-nil
 words_only line (word ∷ words) (before, rest, blanks, lt, solid, e, apart, others) =
     ap words_of e ∙ words_of-blanks before (word ++ rest) blanks ∙ words_of-word word rest lt solid apart ∙ ap (λ (ws : List (List ℕ)). word ∷ ws) (words_only rest words others)
@@ -49,7 +55,8 @@ Some_words line = (words : List (List ℕ)) × AreWords line words
 false-true : {P : Type 0} {b : Bool} → b ≡ false → b ≡ true → P
 false-true e f = absurd cc
 
-one_more : (c : ℕ) (line : List ℕ) (b : Bool) → is_blank c ≡ b → Some_words line → Some_words (c ∷ line)
+one_more : (c : ℕ) (line : List ℕ) (b : Bool) → is_blank c ≡ b → Some_words line
+    → Some_words (c ∷ line)
 one_more c line true e ([], h) = ([], (e, h))
 one_more c line true e (word ∷ words, h) = (word ∷ words, (c ∷ h.0, h.1, (e, h.2), h.3, h.4, ap (λ (l : List ℕ). c ∷ l) h.5, h.6, h.7))
 one_more c [] false e h = ((c ∷ []) ∷ [], ([], [], tt, omega arith, (e, tt), refl, tt, tt))
@@ -73,7 +80,8 @@ words_are line = let w = some_words line in subst (λ (words : List (List ℕ)).
 pub words_of-after_blanks : (line : List ℕ) → words_of (after is_blank line) ≡ words_of line
 words_of-after_blanks line = sym (words_of-blanks (front is_blank line) (after is_blank line) (Passes-front is_blank line)) ∙ ap words_of (front-append-after is_blank line)
 
-solid-from : (word : List ℕ) → Passes is_within_word word → AllByRecursion (λ b. is_blank b ≡ false) word
+solid-from : (word : List ℕ) → Passes is_within_word word
+    → AllByRecursion (λ b. is_blank b ≡ false) word
 solid-from [] h = tt
 solid-from (b ∷ word) h = (by (is_blank b) refl, solid-from word h.1)
   where
@@ -89,20 +97,25 @@ apart-from (b ∷ rest) h = by (is_blank b) refl
     by true e = e
     by false e = absurd (let f : not (is_blank b) ≡ true = rw e refl in cc)
 
-some_front : (b : ℕ) (line : List ℕ) → is_blank b ≡ false → 0 < length (front is_within_word (b ∷ line))
+some_front : (b : ℕ) (line : List ℕ) → is_blank b ≡ false
+    → 0 < length (front is_within_word (b ∷ line))
 some_front b line e = rw e (omega arith)
 
-pub words_of-front : (line : List ℕ) → IsStopped is_blank line → 0 < length line → words_of line ≡ front is_within_word line ∷ words_of (after is_within_word line)
+pub words_of-front : (line : List ℕ) → IsStopped is_blank line → 0 < length line
+    → words_of line ≡ front is_within_word line ∷ words_of (after is_within_word line)
 words_of-front [] stop lt = absurd (omega arith)
 words_of-front (b ∷ line) stop lt =
     ap words_of (sym (front-append-after is_within_word (b ∷ line)))
     ∙ words_of-word (front is_within_word (b ∷ line)) (after is_within_word (b ∷ line)) (some_front b line stop) (solid-from _ (Passes-front is_within_word (b ∷ line))) (apart-from _ (IsStopped-after is_within_word (b ∷ line)))
 
 -- what is left after the blanks tells whether there is a word
-pub no_word : (line rest : List ℕ) → rest ≡ after is_blank line → length rest ≡ 0 → words_of line ≡ []
+pub no_word : (line rest : List ℕ) → rest ≡ after is_blank line → length rest ≡ 0
+    → words_of line ≡ []
 no_word line rest e l = sym (words_of-after_blanks line) ∙ ap words_of (sym e ∙ nil_from_length rest l) ∙ words_of-nil
 
-pub first_word : (line rest word others : List ℕ) → rest ≡ after is_blank line → 0 < length rest → word ≡ front is_within_word rest → others ≡ after is_within_word rest → words_of line ≡ word ∷ words_of others
+pub first_word : (line rest word others : List ℕ) → rest ≡ after is_blank line → 0 < length rest
+    → word ≡ front is_within_word rest → others ≡ after is_within_word rest
+    → words_of line ≡ word ∷ words_of others
 first_word line rest word others e lt w o =
     sym (words_of-after_blanks line) ∙ ap words_of (sym e) ∙ words_of-front rest (subst (IsStopped is_blank) (sym e) (IsStopped-after is_blank line)) lt
     ∙ ap (λ (x : List ℕ). x ∷ words_of (after is_within_word rest)) (sym w) ∙ ap (λ (x : List ℕ). word ∷ words_of x) (sym o)

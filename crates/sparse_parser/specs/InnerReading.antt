@@ -74,11 +74,13 @@ unfoldable pub count_of : List (List (List ℕ)) → Option ℕ
 count_of lines = if list_all is_entry lines then Some (length lines) else None
 
 -- a fault of the size line, where these lines follow
-unfoldable pub grammar_kind_of : MatrixMarketErrorKind → List (List (List ℕ)) → MatrixMarketErrorKind
+unfoldable pub grammar_kind_of : MatrixMarketErrorKind → List (List (List ℕ))
+    → MatrixMarketErrorKind
 grammar_kind_of kind lines = if list_all is_entry lines then kind else ParsingError
 
 -- the first fault, where an entry is refused, so many lines were read with it, and these lines follow
-unfoldable pub settled_of : MatrixMarketErrorKind → ℕ → ℕ → List (List (List ℕ)) → MatrixMarketErrorKind
+unfoldable pub settled_of : MatrixMarketErrorKind → ℕ → ℕ → List (List (List ℕ))
+    → MatrixMarketErrorKind
 settled_of kind read count lines = if list_all is_entry lines then if read + length lines == count then kind else EntryMismatch else ParsingError
 
 abbrev pub size_numbers : Result Size Cause → Read (ℕ × ℕ × ℕ)

@@ -20,7 +20,8 @@ NoneBefore d s = (t : Spot) → IsBefore (rank_of t) (rank_of s) → HasFault d 
 
 module _ (d : Raw) where
   -- a valid lane has no fault at a spot of its own
-  end_fine : (k : ℕ) → start_of d k ≤ end_of d k → end_of d k ≤ length d.indices → HasFault d (LaneEnd k) → ⊥
+  end_fine : (k : ℕ) → start_of d k ≤ end_of d k → end_of d k ≤ length d.indices
+      → HasFault d (LaneEnd k) → ⊥
   end_fine k ordered inside h = elim h.1 [ inl x ↦ omega arith | inr x ↦ omega arith ]
 
   -- no fault stands before the end of lane i
@@ -32,12 +33,16 @@ module _ (d : Raw) where
   none_before_lane i fine (Fall k q) b h = omega (arith, (fine.lanes k (grind arith)).rising q h.1 h.0.to, h.2)
   none_before_lane i fine (Repeat k q) b h = omega (arith, (fine.lanes k (grind arith)).rising q h.1 h.0.to, h.2)
 
-  pub first_at_end : (i : ℕ) → LanesFine d i → i < d.major_dim → (end_of d i < start_of d i) ⊎ (length d.indices < end_of d i) → IsFirstFault d NonmonotonicOffsets
+  pub first_at_end : (i : ℕ) → LanesFine d i → i < d.major_dim
+      → (end_of d i < start_of d i) ⊎ (length d.indices < end_of d i)
+      → IsFirstFault d NonmonotonicOffsets
   first_at_end i fine lane bad = record { spot = LaneEnd i; first = record { here = (lane, bad); none_before = none_before_lane i fine }; is = refl }
 
   -- nor before the n-th spot of position p of lane i, where the spots of that position before it are fine
   module _ (i p : ℕ) (fine : LanesFine d i) (ordered : start_of d i ≤ end_of d i) (inside : end_of d i ≤ length d.indices) (so_far : IsRisingBelow d.minor_dim d.indices (start_of d i) p) where
-    none_before_position : (n : ℕ) → n ≤ 2 → (0 < n → slice_index d.indices p < d.minor_dim) → (1 < n → slice_index d.indices (p - 1) ≤ slice_index d.indices p) → (t : Spot) → IsBefore (rank_of t) (i + 2, p + 1, n) → HasFault d t → ⊥
+    none_before_position : (n : ℕ) → n ≤ 2 → (0 < n → slice_index d.indices p < d.minor_dim)
+        → (1 < n → slice_index d.indices (p - 1) ≤ slice_index d.indices p) → (t : Spot)
+        → IsBefore (rank_of t) (i + 2, p + 1, n) → HasFault d t → ⊥
     none_before_position n top bound order OffsetCount b h = h fine.count
     none_before_position n top bound order FirstLast b h = elim h [ inl x ↦ x fine.first | inr x ↦ x fine.last ]
     none_before_position n top bound order (LaneEnd k) b h = elim (le_cases k i (grind arith)) [
@@ -64,7 +69,9 @@ module _ (d : Raw) where
     ]
 
   -- the first fault among the indices of lane i is the first of the data
-  pub first_among : (i : ℕ) → LanesFine d i → i < d.major_dim → start_of d i ≤ end_of d i → end_of d i ≤ length d.indices → (e : SparsityPatternFormatError) → IsFirstAmong d.minor_dim d.indices (start_of d i) (end_of d i) e → IsFirstFault d e
+  pub first_among : (i : ℕ) → LanesFine d i → i < d.major_dim → start_of d i ≤ end_of d i
+      → end_of d i ≤ length d.indices → (e : SparsityPatternFormatError)
+      → IsFirstAmong d.minor_dim d.indices (start_of d i) (end_of d i) e → IsFirstFault d e
   first_among i fine lane ordered inside e among =
       let p = among.at in
       let in_lane : IsInLane d i p = record { lane = lane; from = among.from; to = among.to } in

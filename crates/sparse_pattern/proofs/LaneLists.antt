@@ -11,7 +11,8 @@ pub contains_from_has : (xs : List ℕ) (x : ℕ) → Has xs x → Contains xs x
 contains_from_has xs x h = (h.at, h.within, get_or_default xs h.at x 0 h.within ∙ h.is)
 
 -- the elements of a lane are its places
-pub lane_has : (d : Raw) → IsValid d → (i j : ℕ) → i < d.major_dim → Contains (lane_of d i) j ↔ IsPlace d i j
+pub lane_has : (d : Raw) → IsValid d → (i j : ℕ) → i < d.major_dim
+    → Contains (lane_of d i) j ↔ IsPlace d i j
 lane_has d valid i j lt = (
   λ h. place_from_has d i j lt (valid.lanes i lt) (has_from_contains (lane_of d i) j h),
   λ place. contains_from_has (lane_of d i) j (has_from_place d i j (valid.lanes i lt) place),

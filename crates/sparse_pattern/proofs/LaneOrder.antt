@@ -10,7 +10,8 @@ length-paired : (i : ℕ) (js : List ℕ) → length (paired i js) ≡ length js
 length-paired i js = length-map js (λ j. (i, j))
 
 module _ (d : Raw) (valid : IsValid d) where
-  length-entries_from : (i n : ℕ) → i + n ≡ d.major_dim → length (entries_from d.offsets d.indices i n) + start_of d i ≡ length d.indices
+  length-entries_from : (i n : ℕ) → i + n ≡ d.major_dim
+      → length (entries_from d.offsets d.indices i n) + start_of d i ≡ length d.indices
   length-entries_from i zero e =
       let here : i ≡ d.major_dim = omega arith in
       let last = valid.last in
@@ -36,7 +37,8 @@ contains_map i j (x ∷ xs) h = elim (has_cases x j xs h) [
   | inr later ↦ contains_cons (i, x) (i, j) (paired i xs) (contains_map i j xs later)
 ]
 
-contains_cases : (x y : ℕ × ℕ) (xs : List (ℕ × ℕ)) (k : ℕ) → k < length (x ∷ xs) → get_or (x ∷ xs) k y ≡ y → (x ≡ y) ⊎ Contains xs y
+contains_cases : (x y : ℕ × ℕ) (xs : List (ℕ × ℕ)) (k : ℕ) → k < length (x ∷ xs)
+    → get_or (x ∷ xs) k y ≡ y → (x ≡ y) ⊎ Contains xs y
 contains_cases x y xs zero lt is = inl is
 contains_cases x y xs (suc k) lt is = inr (k, omega arith, is)
 
@@ -51,7 +53,8 @@ eq_or_lt : (a b : ℕ) → a ≤ b → (a ≡ b) ⊎ (a < b)
 eq_or_lt a b h = grind arith
 
 module _ (d : Raw) (valid : IsValid d) (i j : ℕ) where
-  place_from_entry : (k n : ℕ) → k + n ≡ d.major_dim → Contains (entries_from d.offsets d.indices k n) (i, j) → IsPlace d i j
+  place_from_entry : (k n : ℕ) → k + n ≡ d.major_dim
+      → Contains (entries_from d.offsets d.indices k n) (i, j) → IsPlace d i j
   place_from_entry k zero e h = absurd (omega (arith, h.1))
   place_from_entry k (suc n) e h = elim (Contains-append_cases (paired k (lane_of d k)) (entries_from d.offsets d.indices (k + 1) n) (i, j) h) [
     | inl here ↦
@@ -60,7 +63,8 @@ module _ (d : Raw) (valid : IsValid d) (i j : ℕ) where
     | inr later ↦ place_from_entry (k + 1) n (omega arith) later
   ]
 
-  entry_from_place : IsPlace d i j → (k n : ℕ) → k ≤ i → k + n ≡ d.major_dim → Contains (entries_from d.offsets d.indices k n) (i, j)
+  entry_from_place : IsPlace d i j → (k n : ℕ) → k ≤ i → k + n ≡ d.major_dim
+      → Contains (entries_from d.offsets d.indices k n) (i, j)
   entry_from_place place k zero le e = absurd (omega (arith, place.in_lane.lane))
   entry_from_place place k (suc n) le e = elim (eq_or_lt k i le) [
     | inl same ↦

@@ -28,7 +28,8 @@ module _ (d : Raw) (valid : IsValid d) where
     ]
   ]
 
-  pub one_position : (i p q : ℕ) → IsInLane d i p → IsInLane d i q → slice_index d.indices p ≡ slice_index d.indices q → p ≡ q
+  pub one_position : (i p q : ℕ) → IsInLane d i p → IsInLane d i q
+      → slice_index d.indices p ≡ slice_index d.indices q → p ≡ q
   one_position i p q h g same =
       let lane = valid.lanes i h.lane in
       elim (three p q) [

@@ -14,7 +14,8 @@ module _ (m n : ℕ) (offsets indices lane : List ℕ) (valid : IsValid (raw_of 
   long : length (indices ++ lane) ≡ length indices + length lane
   long = length-append indices lane
 
-  pub offset_kept : (i : ℕ) → i ≤ n → get_or (offsets ++ length (indices ++ lane) ∷ []) i 0 ≡ get_or offsets i 0
+  pub offset_kept : (i : ℕ) → i ≤ n
+      → get_or (offsets ++ length (indices ++ lane) ∷ []) i 0 ≡ get_or offsets i 0
   offset_kept i le = get_or_append_left offsets (length (indices ++ lane) ∷ []) 0 i (omega (arith, valid.count))
 
   offset_last : get_or (offsets ++ length (indices ++ lane) ∷ []) (n + 1) 0 ≡ length (indices ++ lane)
@@ -23,7 +24,8 @@ module _ (m n : ℕ) (offsets indices lane : List ℕ) (valid : IsValid (raw_of 
   index_kept : (p : ℕ) → p < length indices → get_or (indices ++ lane) p 0 ≡ get_or indices p 0
   index_kept p lt = get_or_append_left indices lane 0 p lt
 
-  index_new : (p : ℕ) → length indices ≤ p → get_or (indices ++ lane) p 0 ≡ get_or lane (p - length indices) 0
+  index_new : (p : ℕ) → length indices ≤ p
+      → get_or (indices ++ lane) p 0 ≡ get_or lane (p - length indices) 0
   index_new p le = get_or-append_right indices lane (length indices) p 0 refl le
 
   lane_kept : (i : ℕ) → i < n → IsValidLane pushed i
@@ -64,7 +66,8 @@ module _ (m n : ℕ) (offsets indices lane : List ℕ) (valid : IsValid (raw_of 
     lanes = λ i lt. elim (lt_add_one_cases i n lt) [ inl old ↦ lane_kept i old | inr last ↦ subst (λ k. IsValidLane pushed k) (sym last) lane_last ];
   }
 
-  pub places_kept : (i j : ℕ) → i < n → IsPlace pushed i j ↔ IsPlace (raw_of n m offsets indices) i j
+  pub places_kept : (i j : ℕ) → i < n
+      → IsPlace pushed i j ↔ IsPlace (raw_of n m offsets indices) i j
   places_kept i j lt =
       let start = offset_kept i (omega arith) in
       let end = offset_kept (i + 1) (omega arith) in

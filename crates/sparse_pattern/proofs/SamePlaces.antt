@@ -24,7 +24,8 @@ has_head x xs = record { at = 0; within = omega arith; is = refl }
 pub has_later : (x y : ℕ) (xs : List ℕ) → Has xs y → Has (x ∷ xs) y
 has_later x y xs h = record { at = suc h.at; within = omega (arith, h.within); is = h.is }
 
-has_cases_at : (x y : ℕ) (xs : List ℕ) (k : ℕ) → k < length (x ∷ xs) → get_or (x ∷ xs) k 0 ≡ y → (x ≡ y) ⊎ Has xs y
+has_cases_at : (x y : ℕ) (xs : List ℕ) (k : ℕ) → k < length (x ∷ xs) → get_or (x ∷ xs) k 0 ≡ y
+    → (x ≡ y) ⊎ Has xs y
 has_cases_at x y xs zero lt is = inl is
 has_cases_at x y xs (suc k) lt is = inr record { at = k; within = omega arith; is = is }
 
@@ -38,7 +39,8 @@ head_below : (x y : ℕ) (xs : List ℕ) → Rises (x ∷ xs) → Has xs y → x
 head_below x y xs rises h = subst (λ v. x < v) h.is (rises 0 (suc h.at) (omega arith) (omega (arith, h.within)))
 
 -- rising lists with the same elements are the same
-pub rising_same : (xs ys : List ℕ) → Rises xs → Rises ys → ((x : ℕ) → Has xs x → Has ys x) → ((x : ℕ) → Has ys x → Has xs x) → xs ≡ ys
+pub rising_same : (xs ys : List ℕ) → Rises xs → Rises ys → ((x : ℕ) → Has xs x → Has ys x)
+    → ((x : ℕ) → Has ys x → Has xs x) → xs ≡ ys
 rising_same [] [] up vp to from = refl
 rising_same [] (y ∷ ys) up vp to from = absurd (omega (arith, (from y (has_head y ys)).within))
 rising_same (x ∷ xs) [] up vp to from = absurd (omega (arith, (to x (has_head x xs)).within))
@@ -69,14 +71,16 @@ has_from_place d i j valid place =
     let back : start_of d i + n ≡ place.at = omega (arith, place.in_lane.from) in
     record { at = n; within = inside; is = get_or-lane d i valid n inside ∙ rw back place.index }
 
-pub place_from_has : (d : Raw) (i j : ℕ) → i < d.major_dim → IsValidLane d i → Has (lane_of d i) j → IsPlace d i j
+pub place_from_has : (d : Raw) (i j : ℕ) → i < d.major_dim → IsValidLane d i → Has (lane_of d i) j
+    → IsPlace d i j
 place_from_has d i j lane valid h = record {
   at = start_of d i + h.at;
   in_lane = record { lane = lane; from = omega arith; to = omega (arith, length-lane d i valid, h.within) };
   index = sym (get_or-lane d i valid h.at h.within) ∙ h.is;
 }
 
-raw_parts : (a b : Raw) → a.major_dim ≡ b.major_dim → a.minor_dim ≡ b.minor_dim → a.offsets ≡ b.offsets → a.indices ≡ b.indices → a ≡ b
+raw_parts : (a b : Raw) → a.major_dim ≡ b.major_dim → a.minor_dim ≡ b.minor_dim
+    → a.offsets ≡ b.offsets → a.indices ≡ b.indices → a ≡ b
 raw_parts a b major minor offsets indices = ap (λ m. raw_of m a.minor_dim a.offsets a.indices) major ∙ ap (λ m. raw_of b.major_dim m a.offsets a.indices) minor ∙ ap (λ o. raw_of b.major_dim b.minor_dim o a.indices) offsets ∙ ap (raw_of b.major_dim b.minor_dim b.offsets) indices
 
 and_left : (s t : Bool) → (s && t) ≡ true → s ≡ true
@@ -114,7 +118,8 @@ module _ (a b : Raw) (va : IsValid a) (vb : IsValid b) (same : HasSamePlaces a b
   offsets_same : a.offsets ≡ b.offsets
   offsets_same = same_number_lists _ _ (omega (arith, va.count, vb.count, same.major_dim)) (λ k lt. starts_same k (omega (arith, va.count)))
 
-  indices_below : (i : ℕ) → i ≤ a.major_dim → (p : ℕ) → p < start_of a i → get_or a.indices p 0 ≡ get_or b.indices p 0
+  indices_below : (i : ℕ) → i ≤ a.major_dim → (p : ℕ) → p < start_of a i
+      → get_or a.indices p 0 ≡ get_or b.indices p 0
   indices_below zero le p lt = absurd (omega (arith, va.first))
   indices_below (suc i) le p lt = elim (lt_or_ge p (start_of a i)) [
     | inl below ↦ indices_below i (omega arith) p below
@@ -157,7 +162,8 @@ same_from_raw_eq a b major is =
     let indices = (bytes_eq-Decides a.indices b.indices).0 (and_right _ _ is) in
     raw_parts a b major minors offsets indices
 
-pub places_decide : (a b : Raw) → IsValid a → IsValid b → (r : Bool) → r ≡ raw_eq a b → IsTrue r ↔ HasSamePlaces a b
+pub places_decide : (a b : Raw) → IsValid a → IsValid b → (r : Bool) → r ≡ raw_eq a b
+    → IsTrue r ↔ HasSamePlaces a b
 places_decide a b va vb r is = (
   λ yes.
       let offsets = (bytes_eq-Decides a.offsets b.offsets).0 (and_right _ _ (and_left _ _ (sym is ∙ yes))) in

@@ -48,7 +48,8 @@ pub record IsValidLane (d : Raw) (i : ℕ) : Type 0 where
   pub ordered : start_of d i ≤ end_of d i
   pub inside : end_of d i ≤ length d.indices
   pub bounded : (p : ℕ) → start_of d i ≤ p → p < end_of d i → slice_index d.indices p < d.minor_dim
-  pub rising : (p : ℕ) → start_of d i < p → p < end_of d i → slice_index d.indices (p - 1) < slice_index d.indices p
+  pub rising : (p : ℕ) → start_of d i < p → p < end_of d i
+      → slice_index d.indices (p - 1) < slice_index d.indices p
 
 pub record IsValid (d : Raw) : Type 0 where
   pub count : length d.offsets ≡ d.major_dim + 1

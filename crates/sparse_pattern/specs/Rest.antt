@@ -8,5 +8,6 @@ rest_of offsets indices i left = map (λ j. (i, j)) left ++ entries_from offsets
 
 -- each lane lies within the indices
 pub record IsOrderedOffsets (offsets indices : List ℕ) : Type 0 where
-  pub ordered : (k : ℕ) → k + 1 < length offsets → slice_index offsets k ≤ slice_index offsets (k + 1)
+  pub ordered : (k : ℕ) → k + 1 < length offsets
+      → slice_index offsets k ≤ slice_index offsets (k + 1)
   pub inside : (k : ℕ) → k + 1 < length offsets → slice_index offsets (k + 1) ≤ length indices

@@ -63,7 +63,8 @@ impl SparsityPattern {
         ensures ok { IfOk result (λ p. p ≡ raw_of major_dim minor_dim major_offsets.items minor_indices.items) }
         ensures valid { OnOk result (IsValid (raw_of major_dim minor_dim major_offsets.items minor_indices.items)) }
         ensures fault { IfErr result (IsFirstFault (raw_of major_dim minor_dim major_offsets.items minor_indices.items)) }
-        ensures taken { IsValid (raw_of major_dim minor_dim major_offsets.items minor_indices.items) → IsOk result }
+        ensures taken { IsValid (raw_of major_dim minor_dim major_offsets.items minor_indices.items)
+            → IsOk result }
     {
         faults::check(major_dim, minor_dim, &major_offsets, &minor_indices)?;
         Ok(SparsityPattern {

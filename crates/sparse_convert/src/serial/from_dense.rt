@@ -102,7 +102,8 @@ fn compress_lanes<T: Zero + Copy>(
     values: &[T],
 ) -> Result<CsMatrix<T>, AllocError>
     requires starts { (i : ℕ) → i < major_dim → i * lane_step < 2 ^ 64 }
-    requires inside { (i k : ℕ) → i < major_dim → k < minor_dim → i * lane_step + k * step < length values.now }
+    requires inside { (i k : ℕ) → i < major_dim → k < minor_dim
+        → i * lane_step + k * step < length values.now }
     ensures major_dim { IfOk result (λ m. m.pattern.major_dim ≡ major_dim) }
     ensures minor_dim { IfOk result (λ m. m.pattern.minor_dim ≡ minor_dim) }
     ensures kept { IfOk result (λ m. lane_triplets m ≡ filter (differs_from T.eq T.zero_value)
@@ -151,12 +152,15 @@ fn push_lane<T: Zero + Copy>(
 
 /// As plain matrices, the three results have the places of the dense matrix with a nonzero value, and these values.
 pub fn from_dense_law<T: Ring>()
-    ensures coo { (d : Dense T) → IsNonzeroPart (plain_of_dense T.ring T.value d) (plain_of_coo T.ring T.value
+    ensures coo { (d : Dense T)
+        → IsNonzeroPart (plain_of_dense T.ring T.value d) (plain_of_coo T.ring T.value
         (coo_of d.nrows d.ncols (filter (differs_from T.eq T.zero_value) (column_triplets T.zero_value d)))) }
-    ensures csc { (d : Dense T) (m : Compressed T) → m.pattern.minor_dim ≡ d.nrows → m.pattern.major_dim ≡ d.ncols
+    ensures csc { (d : Dense T) (m : Compressed T) → m.pattern.minor_dim ≡ d.nrows
+        → m.pattern.major_dim ≡ d.ncols
         → map turned (lane_triplets m) ≡ filter (differs_from T.eq T.zero_value) (column_triplets T.zero_value d)
         → IsNonzeroPart (plain_of_dense T.ring T.value d) (plain_of_cols T.ring T.value m) }
-    ensures csr { (d : Dense T) (m : Compressed T) → m.pattern.major_dim ≡ d.nrows → m.pattern.minor_dim ≡ d.ncols
+    ensures csr { (d : Dense T) (m : Compressed T) → m.pattern.major_dim ≡ d.nrows
+        → m.pattern.minor_dim ≡ d.ncols
         → lane_triplets m ≡ filter (differs_from T.eq T.zero_value) (row_triplets T.zero_value d)
         → IsNonzeroPart (plain_of_dense T.ring T.value d) (plain_of_rows T.ring T.value m) }
 {}

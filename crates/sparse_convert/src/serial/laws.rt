@@ -27,7 +27,8 @@ pub fn one_matrix_law<T: Ring>()
         → plain_of_rows T.ring T.value n ≡ plain_of_coo T.ring T.value (coo_of_rows m) → compressed_eq T.eq m n ≡ true }
     ensures cols_and_back { (m n : Compressed T) → IsSound m → IsSound n
         → plain_of_cols T.ring T.value n ≡ plain_of_coo T.ring T.value (coo_of_cols m) → compressed_eq T.eq m n ≡ true }
-    ensures same_lists { (a b : Coo T) (m n k l : Compressed T) → IsSound m → IsSound n → IsSound k → IsSound l
+    ensures same_lists { (a b : Coo T) (m n k l : Compressed T) → IsSound m → IsSound n → IsSound k
+        → IsSound l
         → plain_of_coo T.ring T.value a ≡ plain_of_coo T.ring T.value b
         → MeanOneMatrix T.ring T.value a m n → MeanOneMatrix T.ring T.value b k l
         → (compressed_eq T.eq m k ≡ true) × (compressed_eq T.eq n l ≡ true) }

@@ -96,7 +96,8 @@ fn gather_row<T: Ring>(columns: &[usize], row: &mut [T], values: &mut Vec<T>)
     requires room { vec_len values.old + length columns.now ≤ vec_capacity values.old }
     ensures capacity { vec_capacity values.new ≡ vec_capacity values.old }
     ensures gathered { values.new.items ≡ values.old.items ++ map (λ j. slice_index_or row.old j T.zero_value) columns.now }
-    ensures cleared { (j : ℕ) → Contains columns.now j → slice_index_or row.new j T.zero_value ≡ T.zero_value }
+    ensures cleared { (j : ℕ) → Contains columns.now j
+        → slice_index_or row.new j T.zero_value ≡ T.zero_value }
     ensures kept { (j : ℕ) → (Contains columns.now j → ⊥)
         → slice_index_or row.new j T.zero_value ≡ slice_index_or row.old j T.zero_value }
 {

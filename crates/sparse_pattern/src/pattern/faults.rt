@@ -63,7 +63,8 @@ impl SparsityPatternFormatError {
 
 /// Raw data has one first fault at most.
 pub fn one_first_fault()
-    ensures { (d : Raw) (e f : SparsityPatternFormatError) → IsFirstFault d e → IsFirstFault d f → e ≡ f }
+    ensures { (d : Raw) (e f : SparsityPatternFormatError) → IsFirstFault d e → IsFirstFault d f
+        → e ≡ f }
 {}
 
 // Answers the first fault of the data, in one pass and without memory.

@@ -7,7 +7,7 @@ use Rattle.sparse_algebra.specs.Numbers.{w64_number}
 use Rattle.sparse_base.specs.CooPlain.{plain_of_coo}
 use Rattle.sparse_cs.specs.PlainOfLanes.{plain_of_rows}
 use Rattle.sparse_io.specs.Sink.{AppendsSome}
-use Rattle.sparse_expr.specs.Words.{texts}
+use Rattle.sparse_expr.specs.PostfixWords.{texts}
 use Rattle.sparse_expr.specs.Value.{value_of}
 use Rattle.sparse_expr.specs.Run.{ring64}
 use Rattle.sparse_expr.proofs.Outcome.{has_outcome, refuses-value, refuses-save, text_in-any, both_of_err}

@@ -18,7 +18,8 @@ returns-in_err-after c =
     c.from_residual.ensures ∙ count_refused c.loop-rest.rest.now c.loop-rest.count _ r c.loop-rest.invariant.counted
 
 -- what this turn of the loop read
-was_read : (c : goal.After-next_line-rest-in-loop-rest) → IsRead c.loop-rest.rest.now c.next_line-rest-in-loop-rest.result.now (found c.in_ok-after.field-0-0)
+was_read : (c : goal.After-next_line-rest-in-loop-rest)
+    → IsRead c.loop-rest.rest.now c.next_line-rest-in-loop-rest.result.now (found c.in_ok-after.field-0-0)
 was_read c =
     let some : length c.loop-rest.rest.now ≢ 0 = eqb-false _ _ (sym c.is_empty.ensures ∙ c.loop-rest-test.true) in
     line_read _ _ _ _ c.loop-rest.invariant.begins (omega arith) (sym c.in_ok-after.ensures) c.next_line-rest-in-loop-rest.ensures.same c.next_line-rest-in-loop-rest.ensures.len

@@ -30,7 +30,8 @@ returns-in-Some-Err-default c =
     inr (fault_is _ _ _ (read_fault _ _ _ _ _ _ _ _ f c.loop-rest.invariant.read) (c.new-in-Some-Err-default.ensures ∙ c.settled.ensures))
 
 -- what this turn of the loop read
-was_read : (c : goal.After-next_line-rest-in-Some-Ok-default) → IsRead c.loop-rest.rest.now c.next_line-rest-in-Some-Ok-default.result.now (Ok c.in-Some-Ok-default.triplet)
+was_read : (c : goal.After-next_line-rest-in-Some-Ok-default)
+    → IsRead c.loop-rest.rest.now c.next_line-rest-in-Some-Ok-default.result.now (Ok c.in-Some-Ok-default.triplet)
 was_read c =
     let some : length c.loop-rest.rest.now ≢ 0 = eqb-false _ _ (sym c.is_empty.ensures ∙ c.loop-rest-test.true) in
     let r =

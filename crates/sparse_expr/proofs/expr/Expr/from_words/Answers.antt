@@ -1,7 +1,7 @@
 use Rattle.std.proofs.Common.{inl, inr, sym, subst, ap, refl, ◌∙◌, arith}
 use Rattle.std.specs.List.{flat_map}
 use Rattle.std.proofs.lemmas.Result.{MatchResult-weaker, err_from_is_err_and}
-use Rattle.sparse_expr.specs.Words.{texts, words_of, postfix, IsRefused}
+use Rattle.sparse_expr.specs.PostfixWords.{texts, words_of, postfix, IsRefused}
 use Rattle.sparse_expr.specs.declared.error.ExprError.TheVariants.{BadWord}
 use Rattle.sparse_expr.proofs.Postfix.{height-stack, fine-more, fine-all, ends-at}
 use Rattle.sparse_expr.proofs.expr.Expr.from_words.Goals as goal

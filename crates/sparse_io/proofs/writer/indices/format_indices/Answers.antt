@@ -11,12 +11,14 @@ abbrev field : ℕ → List ℕ → List ℕ
 field number after = decimal number ++ 32 ∷ after
 
 -- the rest of the bytes, from where the second field starts
-fields : (old mid new : List ℕ) (row col end start : ℕ) → length old ≡ 42 → length new ≡ 42 → drop end mid ≡ field col (drop 42 old)
+fields : (old mid new : List ℕ) (row col end start : ℕ) → length old ≡ 42 → length new ≡ 42
+    → drop end mid ≡ field col (drop 42 old)
     → drop start new ≡ field row (drop end mid) → take (42 - start) (drop start new) ≡ field row (field col [])
 fields old mid new row col end start l l' p q =
     rw (take_all (42 - start) (drop start new) (omega (arith, length-drop start new)), q, p, drop_all 42 old (omega arith))
 
-field-IsAscii : (number : ℕ) (after : List ℕ) → number < 2 ^ 64 → IsAscii after → IsAscii (field number after)
+field-IsAscii : (number : ℕ) (after : List ℕ) → number < 2 ^ 64 → IsAscii after
+    → IsAscii (field number after)
 field-IsAscii number after small h = IsAscii-append (decimal number) (32 ∷ after) (IsAscii-decimal number small) (IsAscii-cons 32 after (omega arith) h)
 
 pub from_utf8_unchecked-requires : goal.from_utf8_unchecked-requires
