@@ -41,7 +41,7 @@ impl<T> Model for CooMatrix<T> {
 }
 
 impl<T> CooMatrix<T> {
-    /// A matrix without triplets. It takes no memory.
+    /// Returns a matrix without triplets. It allocates nothing.
     pub fn new(alloc: Global, nrows: usize, ncols: usize) -> Self
         ensures { result ≡ coo_of nrows ncols [] }
     {
@@ -54,17 +54,17 @@ impl<T> CooMatrix<T> {
         }
     }
 
-    /// A matrix without triplets, as `new` makes it. It takes no memory.
+    /// Returns a matrix without triplets, as `new` does. It allocates nothing.
     pub fn zeros(alloc: Global, nrows: usize, ncols: usize) -> Self
         ensures { result ≡ coo_of nrows ncols [] }
     {
         CooMatrix::new(alloc, nrows, ncols)
     }
 
-    /// The triplets of three lists, or the first fault: rows against columns in number, columns against values in number, then all
-    /// rows against the size, then all columns.
+    /// Returns the matrix of the triplets in three lists, or their first fault. The numbers of rows and of columns are compared first,
+    /// then those of columns and of values, then all rows are checked against `nrows`, then all columns against `ncols`.
     ///
-    /// It takes no memory, and drops lists that it refuses.
+    /// It allocates nothing. Invalid lists are dropped.
     pub fn try_from_triplets(
         nrows: usize,
         ncols: usize,
@@ -113,7 +113,7 @@ impl<T> CooMatrix<T> {
         })
     }
 
-    /// Makes room for more triplets.
+    /// Reserves memory for more triplets. Fails only if an allocation fails.
     pub fn reserve(&mut self, additional: usize) -> Result<(), AllocError>
         ensures { self.new ≡ self.old }
     {
@@ -122,7 +122,7 @@ impl<T> CooMatrix<T> {
         self.values.reserve(additional)
     }
 
-    /// Adds a triplet at the end. Where memory is refused, the triplets stay as they were.
+    /// Appends a triplet. If an allocation fails, the triplets are unchanged.
     pub fn push(&mut self, i: usize, j: usize, v: T) -> Result<(), AllocError>
     where
         T: Drop,
@@ -140,7 +140,7 @@ impl<T> CooMatrix<T> {
         Ok(())
     }
 
-    /// Drops all triplets. The sizes stay, and so does the room.
+    /// Drops all triplets. The sizes are unchanged, and the memory is kept.
     pub fn clear_triplets(&mut self)
     where
         T: Drop,
@@ -151,28 +151,28 @@ impl<T> CooMatrix<T> {
         self.values.clear();
     }
 
-    /// The number of rows.
+    /// Returns the number of rows.
     pub fn nrows(&self) -> usize
         ensures { result ≡ self.now.nrows }
     {
         self.nrows
     }
 
-    /// The number of columns.
+    /// Returns the number of columns.
     pub fn ncols(&self) -> usize
         ensures { result ≡ self.now.ncols }
     {
         self.ncols
     }
 
-    /// The number of triplets, repeated ones too.
+    /// Returns the number of triplets, repeated ones included.
     pub fn nnz(&self) -> usize
         ensures { result ≡ length self.now.triplets }
     {
         self.values.len()
     }
 
-    /// The row of each triplet.
+    /// Returns the row of each triplet.
     pub fn row_indices(&self) -> &[usize]
         ensures rows { result.now ≡ map (λ t. t.0) self.now.triplets }
         ensures inside { IsInside self.now }
@@ -180,7 +180,7 @@ impl<T> CooMatrix<T> {
         &self.row_indices
     }
 
-    /// The column of each triplet.
+    /// Returns the column of each triplet.
     pub fn col_indices(&self) -> &[usize]
         ensures cols { result.now ≡ map (λ t. t.1) self.now.triplets }
         ensures inside { IsInside self.now }
@@ -188,14 +188,14 @@ impl<T> CooMatrix<T> {
         &self.col_indices
     }
 
-    /// The value of each triplet.
+    /// Returns the value of each triplet.
     pub fn values(&self) -> &[T]
         ensures { result.now ≡ map (λ t. t.2) self.now.triplets }
     {
         &self.values
     }
 
-    /// The rows, the columns and the values, moved out of the matrix.
+    /// Moves the rows, the columns and the values out of the matrix.
     pub fn disassemble(self) -> (Vec<usize>, Vec<usize>, Vec<T>)
         ensures rows { result.0.items ≡ map (λ t. t.0) self.triplets }
         ensures cols { result.1.items ≡ map (λ t. t.1) self.triplets }
@@ -221,7 +221,7 @@ fn all_below(indices: &[usize], bound: usize) -> bool
 }
 
 impl<T: Copy> CooMatrix<T> {
-    /// A copy with the same sizes and triplets.
+    /// Returns a copy with the same sizes and triplets. Fails only if an allocation fails.
     pub fn clone(&self, alloc: Global) -> Result<Self, AllocError>
         ensures { IfOk result (λ m. m ≡ self.now) }
     {

@@ -31,7 +31,7 @@ impl<T> Model for DMatrix<T> {
 }
 
 impl<T: Zero + Copy> DMatrix<T> {
-    /// A matrix of zeros. `AllocError` where memory is refused, or no memory could hold the size.
+    /// Returns a matrix of zeros. Fails only if an allocation fails or the size exceeds `usize::MAX`.
     pub fn zeros(alloc: Global, nrows: usize, ncols: usize) -> Result<Self, AllocError>
         ensures { IfOk result (HasValues nrows ncols (λ _ _ _. T.zero_value)) }
     {
@@ -40,7 +40,7 @@ impl<T: Zero + Copy> DMatrix<T> {
 }
 
 impl<T: Copy> DMatrix<T> {
-    /// A matrix with one value everywhere. `AllocError` where memory is refused, or no memory could hold the size.
+    /// Returns a matrix with one value everywhere. Fails only if an allocation fails or the size exceeds `usize::MAX`.
     pub fn repeat(alloc: Global, nrows: usize, ncols: usize, value: T) -> Result<Self, AllocError>
         ensures { IfOk result (HasValues nrows ncols (λ _ _ _. value)) }
     {
@@ -54,7 +54,7 @@ impl<T: Copy> DMatrix<T> {
         })
     }
 
-    /// A matrix of values that stand column by column. `AllocError` where memory is refused.
+    /// Returns a matrix of values given column by column. Fails only if an allocation fails.
     pub fn from_column_slice(
         alloc: Global,
         nrows: usize,
@@ -72,7 +72,7 @@ impl<T: Copy> DMatrix<T> {
         })
     }
 
-    /// A matrix of values that stand row by row. `AllocError` where memory is refused.
+    /// Returns a matrix of values given row by row. Fails only if an allocation fails.
     pub fn from_row_slice(
         alloc: Global,
         nrows: usize,
@@ -89,7 +89,7 @@ impl<T: Copy> DMatrix<T> {
         })
     }
 
-    /// A copy with the same sizes and values. `AllocError` where memory is refused.
+    /// Returns a copy with the same sizes and values. Fails only if an allocation fails.
     pub fn clone(&self, alloc: Global) -> Result<Self, AllocError>
         ensures { IfOk result (λ d. d ≡ self.now) }
     {
@@ -100,7 +100,7 @@ impl<T: Copy> DMatrix<T> {
         })
     }
 
-    /// The value at a place.
+    /// Returns the value at a place.
     pub fn get(&self, i: usize, j: usize) -> T
         requires row { i < self.now.nrows }
         requires col { j < self.now.ncols }
@@ -111,21 +111,21 @@ impl<T: Copy> DMatrix<T> {
 }
 
 impl<T> DMatrix<T> {
-    /// The number of rows.
+    /// Returns the number of rows.
     pub fn nrows(&self) -> usize
         ensures { result ≡ self.now.nrows }
     {
         self.nrows
     }
 
-    /// The number of columns.
+    /// Returns the number of columns.
     pub fn ncols(&self) -> usize
         ensures { result ≡ self.now.ncols }
     {
         self.ncols
     }
 
-    /// The values column by column.
+    /// Returns the values column by column.
     pub fn as_slice(&self) -> &[T]
         ensures values { result.now ≡ self.now.values }
         ensures count { length result.now ≡ self.now.nrows * self.now.ncols }
@@ -133,7 +133,7 @@ impl<T> DMatrix<T> {
         &self.values
     }
 
-    /// Replaces the value at a place, and drops the old one. Sizes and all other values stay.
+    /// Replaces the value at a place, and drops the old one. All other values are unchanged.
     pub fn set(&mut self, i: usize, j: usize, value: T)
     where
         T: Drop,
@@ -146,7 +146,7 @@ impl<T> DMatrix<T> {
         self.values[j * self.nrows + i] = value;
     }
 
-    /// The values of a column.
+    /// Returns the values of a column.
     pub fn column(&self, j: usize) -> &[T]
         requires { j < self.now.ncols }
         ensures exact { result.now ≡ column_of self.now j }
@@ -158,7 +158,7 @@ impl<T> DMatrix<T> {
         &self.values[start..start + self.nrows]
     }
 
-    /// The values of a column for writing. All other values stay.
+    /// Returns the values of a column, borrowed mutably. All other values are unchanged.
     pub fn column_mut(&mut self, j: usize) -> &mut [T]
         requires { j < self.old.ncols }
         ensures* writes_back { sem 𝓛 (LendsColumn T.row self.entry j result) }
@@ -202,7 +202,7 @@ impl<T: Eq> Eq for DMatrix<T> {
     ghost laws = { dense_eq-equiv T.Eq.laws };
 }
 
-// Copies of a value, as many as asked for.
+// Returns `count` copies of a value.
 fn copies_of<T: Copy>(alloc: Global, value: T, count: usize) -> Result<Vec<T>, AllocError>
     ensures { IfOk result (λ copies. copies.items ≡ replicate count value) }
 {
@@ -213,7 +213,7 @@ fn copies_of<T: Copy>(alloc: Global, value: T, count: usize) -> Result<Vec<T>, A
     Ok(copies)
 }
 
-// Values that stand row by row, rearranged column by column.
+// Returns values given row by row rearranged column by column.
 fn column_by_column<T: Copy>(
     alloc: Global,
     nrows: usize,

@@ -1,4 +1,4 @@
-//! A count of steps that takes no memory.
+//! A count of steps that contracts read. It takes no memory.
 
 ghost use Rattle.std.specs.Prelude.{◌≡◌, ℕ, ◌+◌};
 ghost use base.Fml.{ftrue};
@@ -29,7 +29,7 @@ impl Count {
     }
 }
 
-/// How many steps were taken.
+/// The number of steps taken.
 ///
 /// Contracts see it as a number. It has no bytes at run time, and a program can't read it.
 #[derive(Drop)]
@@ -46,7 +46,7 @@ impl Model for Steps {
 }
 
 impl Steps {
-    /// No step taken.
+    /// Returns a count of no steps.
     pub fn new() -> Steps
         ensures { result ≡ 0 }
     {

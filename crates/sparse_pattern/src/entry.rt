@@ -5,7 +5,7 @@ ghost use Rattle.sparse_pattern.specs.SparseEntries.{entry_value, entry_mut_valu
 
 use sparse_algebra::scalar::Zero;
 
-/// What a matrix has at a pair of indices.
+/// The entry of a matrix at a pair of indices.
 #[derive(Debug, PartialEq, Eq, Drop)]
 pub enum SparseEntry<'a, T> {
     /// The pair is stored. Its value may be zero.
@@ -15,7 +15,7 @@ pub enum SparseEntry<'a, T> {
 }
 
 impl<'a, T: Zero + Copy> SparseEntry<'a, T> {
-    /// The stored value, or zero.
+    /// Returns the stored value, or zero.
     pub fn into_value(self) -> T
         ensures { result ≡ entry_value T.zero_value self.entry }
     {
@@ -26,7 +26,7 @@ impl<'a, T: Zero + Copy> SparseEntry<'a, T> {
     }
 }
 
-/// What a matrix has at a pair of indices, for writing.
+/// The entry of a matrix at a pair of indices, borrowed mutably.
 #[derive(Drop)]
 pub enum SparseEntryMut<'a, T> {
     /// The pair is stored. Its value may be zero.
@@ -36,7 +36,7 @@ pub enum SparseEntryMut<'a, T> {
 }
 
 impl<'a, T: Zero + Copy> SparseEntryMut<'a, T> {
-    /// The stored value, or zero.
+    /// Returns the stored value, or zero.
     pub fn into_value(self) -> T
         ensures { result ≡ entry_mut_value T.zero_value self.entry }
     {
@@ -47,7 +47,7 @@ impl<'a, T: Zero + Copy> SparseEntryMut<'a, T> {
     }
 }
 
-/// What a look-up of a pair of indices finds: a value for writing, or why there is none.
+/// What looking up a pair of indices finds: a value, borrowed mutably, or why there is none.
 #[derive(Drop)]
 pub enum Found<'a, T> {
     Value(&'a mut T),
@@ -63,7 +63,7 @@ pub enum Missing {
     NotStored,
 }
 
-/// What was found, as an entry: `None` out of bounds.
+/// Returns what was found as an entry, or `None` if the pair is out of bounds.
 pub fn into_entry<'a, T>(found: Found<'a, T>) -> Option<SparseEntryMut<'a, T>>
     ensures { result ≡ entry_of_found found.entry }
 {

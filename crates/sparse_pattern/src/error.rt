@@ -18,7 +18,7 @@ pub enum SparseFormatErrorKind {
     DuplicateEntry,
     /// The arrays don't fit each other or the format.
     InvalidStructure,
-    /// Memory was refused.
+    /// An allocation failed.
     OutOfMemory,
 }
 
@@ -39,21 +39,21 @@ impl Model for SparseFormatError {
 }
 
 impl SparseFormatError {
-    /// An error of a kind, with the text that it is shown by.
+    /// Returns an error of this kind, which is displayed as `message`.
     pub fn new(kind: SparseFormatErrorKind, message: &'static str) -> Self
         ensures { result ≡ kind }
     {
         SparseFormatError { kind, message }
     }
 
-    /// The kind of the error.
+    /// Returns the kind of the error.
     pub fn kind(&self) -> &SparseFormatErrorKind
         ensures { result.now ≡ self.now }
     {
         &self.kind
     }
 
-    /// The text of the error.
+    /// Returns the text of the error.
     pub fn message(&self) -> &'static str {
         self.message
     }

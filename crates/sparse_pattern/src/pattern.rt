@@ -37,7 +37,7 @@ impl Model for SparsityPattern {
 }
 
 impl SparsityPattern {
-    /// A pattern without places. Memory is needed for one offset more than there are lanes.
+    /// Returns a pattern without places. It needs memory for `major_dim + 1` offsets, and fails only if that allocation fails.
     pub fn zeros(alloc: Global, major_dim: usize, minor_dim: usize) -> Result<Self, AllocError>
         ensures is { IfOk result (λ p. p ≡ empty_raw major_dim minor_dim) }
         ensures valid { OnOk result (IsValid (empty_raw major_dim minor_dim)) }
@@ -50,10 +50,10 @@ impl SparsityPattern {
         })
     }
 
-    /// A pattern of raw data, or the first fault of the data: the number of offsets, then the first and the last of them, then
-    /// lane after lane the lane's end and its indices, each against the minor size and then against the one before it.
+    /// Returns a pattern of raw data, or the first fault of the data. The number of offsets is checked first, then the first and the last
+    /// offset, then lane after lane the lane's end and its indices, each against the minor size and then against the one before it.
     ///
-    /// It takes no memory, and drops data that it refuses.
+    /// It allocates nothing. Invalid data is dropped.
     pub fn try_from_offsets_and_indices(
         major_dim: usize,
         minor_dim: usize,
@@ -74,7 +74,7 @@ impl SparsityPattern {
         })
     }
 
-    /// Where each lane begins in the indices, and at last the number of indices.
+    /// Returns where each lane begins in the indices, and then the number of indices.
     pub fn major_offsets(&self) -> &[usize]
         ensures offsets { result.now ≡ self.now.offsets }
         ensures valid { IsValid self.now }
@@ -82,7 +82,7 @@ impl SparsityPattern {
         &self.major_offsets
     }
 
-    /// The minor indices of all lanes, lane after lane.
+    /// Returns the minor indices of all lanes, lane after lane.
     pub fn minor_indices(&self) -> &[usize]
         ensures indices { result.now ≡ self.now.indices }
         ensures valid { IsValid self.now }
@@ -90,28 +90,28 @@ impl SparsityPattern {
         &self.minor_indices
     }
 
-    /// The number of lanes.
+    /// Returns the number of lanes.
     pub fn major_dim(&self) -> usize
         ensures { result ≡ self.now.major_dim }
     {
         self.major_offsets.len() - 1
     }
 
-    /// The length of a lane.
+    /// Returns the number of possible minor indices.
     pub fn minor_dim(&self) -> usize
         ensures { result ≡ self.now.minor_dim }
     {
         self.minor_dim
     }
 
-    /// The number of stored places.
+    /// Returns the number of stored places.
     pub fn nnz(&self) -> usize
         ensures { result ≡ length self.now.indices }
     {
         self.minor_indices.len()
     }
 
-    /// The minor indices of a lane.
+    /// Returns the minor indices of a lane.
     pub fn lane(&self, major_index: usize) -> &[usize]
         requires { major_index < self.now.major_dim }
         ensures { result.now ≡ lane_of self.now major_index }
@@ -121,7 +121,7 @@ impl SparsityPattern {
         &self.minor_indices[begin..end]
     }
 
-    /// The minor indices of a lane, or `None` out of bounds.
+    /// Returns the minor indices of a lane, or `None` if it is out of bounds.
     pub fn get_lane(&self, major_index: usize) -> Option<&[usize]>
         ensures bounds { IsSome result ↔ (major_index < self.now.major_dim) }
         ensures lane { IfSome result (λ lane. lane.now ≡ lane_of self.now major_index) }
@@ -133,7 +133,7 @@ impl SparsityPattern {
         }
     }
 
-    /// The offsets and the indices, moved out of the pattern.
+    /// Moves the offsets and the indices out of the pattern.
     pub fn disassemble(self) -> (Vec<usize>, Vec<usize>)
         ensures offsets { result.0.items ≡ self.offsets }
         ensures indices { result.1.items ≡ self.indices }
@@ -147,7 +147,7 @@ impl SparsityPattern {
         (major_offsets, minor_indices)
     }
 
-    /// A pattern of data that the caller knows to be valid.
+    /// Returns a pattern of data that the caller knows to be valid.
     pub fn from_offset_and_indices_unchecked(
         major_dim: usize,
         minor_dim: usize,
@@ -166,7 +166,7 @@ impl SparsityPattern {
         }
     }
 
-    /// A copy with the same sizes and places.
+    /// Returns a copy with the same sizes and places. Fails only if an allocation fails.
     pub fn clone(&self, alloc: Global) -> Result<Self, AllocError>
         ensures { IfOk result (λ p. p ≡ self.now) }
     {

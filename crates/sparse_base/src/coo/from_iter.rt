@@ -1,4 +1,4 @@
-//! Matrices of the triplets that an iterator gives.
+//! Matrices of the triplets that an iterator yields.
 
 ghost use Rattle.std.specs.Prelude.{◌≡◌, ◌⊎◌, map, IfOk, IfErr};
 ghost use Rattle.std.specs.Iterator.{IsFinite};
@@ -12,10 +12,10 @@ use sparse_pattern::error::SparseFormatError;
 use std::alloc::{AllocError, Global};
 
 impl<T> CooMatrix<T> {
-    /// The triplets that an iterator gives, in order.
+    /// Returns the matrix of the triplets that an iterator yields, in order.
     ///
-    /// All of them are taken first, and memory grows with them: `OutOfMemory` where it is refused. Then a row outside the
-    /// sizes is `IndexOutOfBounds`, and else a column outside them.
+    /// All triplets are collected first: `OutOfMemory` if an allocation fails. Then the rows are checked against `nrows`, and the columns
+    /// against `ncols`: `IndexOutOfBounds` if one is outside.
     pub fn try_from_triplets_iter<I: Iterator<Item = (usize, usize, T)>>(
         alloc: Global,
         nrows: usize,
@@ -37,7 +37,7 @@ impl<T> CooMatrix<T> {
     }
 }
 
-// The rows, the columns and the values of the triplets that an iterator gives.
+// Returns the rows, the columns and the values of the triplets that an iterator yields.
 fn split_triplets<T: Drop, I: Iterator<Item = (usize, usize, T)>>(
     alloc: Global,
     triplets: I,

@@ -1,4 +1,4 @@
-//! The triplets of a matrix in the order of pushing, for reading and for writing.
+//! Iterators over the triplets of a matrix, in the order of pushing.
 
 ghost use Rattle.std.specs.Prelude.{◌≡◌, ⊤};
 ghost use Rattle.std.specs.Iterator.{YieldsFirstBy, item_count};
@@ -11,7 +11,7 @@ use std::marker::Model;
 use std::mem;
 
 impl<T> CooMatrix<T> {
-    /// The triplets in the order of pushing.
+    /// Returns an iterator over the triplets, in the order of pushing.
     pub fn triplet_iter(&self) -> CooTripletIter<'_, T>
         ensures all { result ≡ self.now.triplets }
         ensures inside { IsInside self.now }
@@ -23,7 +23,7 @@ impl<T> CooMatrix<T> {
         }
     }
 
-    /// The triplets in the order of pushing, with each value lent for writing. Rows and columns stay as they are.
+    /// Returns an iterator over the triplets, in the order of pushing, with each value borrowed mutably. Rows and columns are unchanged.
     pub fn triplet_iter_mut(&mut self) -> CooTripletIterMut<'_, T>
         ensures all { triplets_to_lend result ≡ self.old.triplets }
         ensures inside { IsInside self.old }
@@ -36,7 +36,7 @@ impl<T> CooMatrix<T> {
     }
 }
 
-/// The triplets of a [`CooMatrix`] in the order of pushing.
+/// An iterator over the triplets of a [`CooMatrix`], in the order of pushing.
 #[derive(Drop)]
 pub struct CooTripletIter<'a, T> {
     rows: &'a [usize],
@@ -93,7 +93,7 @@ impl<'a, T> Clone for CooTripletIter<'a, T> {
     }
 }
 
-/// The triplets of a [`CooMatrix`] in the order of pushing, with each value lent for writing.
+/// An iterator over the triplets of a [`CooMatrix`], in the order of pushing, with each value borrowed mutably.
 #[derive(Drop)]
 pub struct CooTripletIterMut<'a, T> {
     rows: &'a [usize],

@@ -9,9 +9,9 @@ use crate::dense::DMatrix;
 use std::alloc::AllocError;
 
 impl<T: Copy> CooMatrix<T> {
-    /// Appends a triplet for each value of a block that begins at row `r` and column `c`, column by column, zeros too.
+    /// Appends a triplet for each value of a block that begins at row `r` and column `c`, column by column, zeros included.
     ///
-    /// An empty block adds nothing, wherever it stands. Where memory is refused, the triplets stay as they were.
+    /// An empty block adds nothing at any offset. If an allocation fails, the triplets are unchanged.
     pub fn push_matrix(&mut self, r: usize, c: usize, matrix: &DMatrix<T>) -> Result<(), AllocError>
         requires { IsEmptyBlock matrix.now ⊎ IsBlockInside self.old r c matrix.now }
         ensures ok { OnOk result (self.new ≡ appended self.old (block_triplets r c matrix.now)) }
