@@ -6,14 +6,19 @@ use nalgebra_sparse::ops::serial::{mul_csr, spmm_csr_pattern};
 use nalgebra_sparse::scalar::{Ring, W32, W64, Zero};
 use nalgebra_sparse::{CooMatrix, CsrMatrix};
 use std::alloc::{AllocError, Global};
+use std::process::Abort;
 use std::test::Fail;
+
+// A size, and triplets.
+type List<'a, T> = ((usize, usize), &'a [(usize, usize, T)]);
+
+// The offsets, the columns and the values of a matrix.
+type Rows<'a, T> = (&'a [usize], &'a [usize], &'a [T]);
 
 // The list of these triplets; those outside the sizes are left out.
 fn coo<T: Ring>(
     alloc: Global,
-    nrows: usize,
-    ncols: usize,
-    triplets: &[(usize, usize, T)],
+    ((nrows, ncols), triplets): List<'_, T>,
 ) -> Result<CooMatrix<T>, AllocError> {
     let mut matrix = CooMatrix::new(alloc, nrows, ncols);
     for (row, col, value) in triplets {
@@ -24,64 +29,102 @@ fn coo<T: Ring>(
     Ok(matrix)
 }
 
-fn csr<T: Ring>(
-    alloc: Global,
-    nrows: usize,
-    ncols: usize,
-    triplets: &[(usize, usize, T)],
-) -> Result<CsrMatrix<T>, AllocError> {
-    convert_coo_csr(alloc, &coo(alloc, nrows, ncols, triplets)?)
+fn csr<T: Ring>(alloc: Global, list: List<'_, T>) -> Result<CsrMatrix<T>, AllocError> {
+    convert_coo_csr(alloc, &coo(alloc, list)?)
 }
 
-// The product, where the inner sizes are the same.
-fn product<T: Ring>(
-    alloc: Global,
-    a: &CsrMatrix<T>,
-    b: &CsrMatrix<T>,
-) -> Result<CsrMatrix<T>, Fail> {
-    if a.ncols() != b.nrows() {
-        return Err(Fail::from("the inner sizes differ"));
-    }
-    Ok(mul_csr(alloc, a, b)?)
+fn expect_rows<T: Ring>(
+    rt: &impl Abort,
+    matrix: &CsrMatrix<T>,
+    (offsets, columns, values): Rows<'_, T>,
+) {
+    assert_eq!(rt; matrix.row_offsets(), offsets);
+    assert_eq!(rt; matrix.col_indices(), columns);
+    assert!(rt; matrix.values() == values);
 }
 
-fn numbers(alloc: Global, matrix: &CsrMatrix<W64>) -> Result<Vec<i64>, AllocError> {
-    matrix
-        .values()
-        .iter()
-        .map(|value| value.get())
-        .collect(alloc)
+// The factors of a product, its places and its rows.
+#[derive(Drop)]
+struct Product<'a, T> {
+    factors: [List<'a, T>; 2],
+    places: &'a [(usize, usize)],
+    rows: Rows<'a, T>,
+}
+
+// The pattern of the product of two matrices has these places, and is that of their product.
+fn expect_pattern<T: Ring>(
+    rt: &impl Abort,
+    alloc: Global,
+    [a, b, product]: [&CsrMatrix<T>; 3],
+    places: &[(usize, usize)],
+) -> Result<(), Fail> {
+    assert_eq!(rt; a.ncols(), b.nrows());
+    let pattern = spmm_csr_pattern(alloc, a.pattern(), b.pattern())?;
+    assert!(rt; pattern == *product.pattern());
+    let found: Vec<(usize, usize)> = pattern.entries().collect(alloc)?;
+    assert_eq!(rt; found.as_slice(), places);
+    Ok(())
+}
+
+fn expect_product<T: Ring>(
+    rt: &impl Abort,
+    alloc: Global,
+    case: &Product<'_, T>,
+) -> Result<(), Fail> {
+    let [left, right] = case.factors;
+    let a = csr(alloc, left)?;
+    let b = csr(alloc, right)?;
+    assert_eq!(rt; a.ncols(), b.nrows());
+    let product = mul_csr(alloc, &a, &b)?;
+    assert_eq!(rt; (product.nrows(), product.ncols()), (left.0.0, right.0.1));
+    expect_rows(rt, &product, case.rows);
+    expect_pattern(rt, alloc, [&a, &b, &product], case.places)
 }
 
 #[test]
 fn a_user_scalar(rt: HostRuntime) -> Result<(), Fail> {
     let x = |number: u64| Residue7::new(number, 9);
-    let a = csr(
-        rt.alloc(),
-        1,
-        2,
-        &[(0, 1, x(5)), (0, 0, x(3)), (0, 1, x(9))],
-    )?;
-    assert_eq!(rt; a.col_indices(), [0, 1].as_slice());
-    assert!(rt; a.values() == [x(10), x(0)].as_slice());
-    let b = csr(rt.alloc(), 2, 1, &[(0, 0, x(4)), (1, 0, x(6))])?;
-    assert!(rt; product(rt.alloc(), &a, &b)?.values() == [x(5)].as_slice());
+    let a: List<'_, Residue7> = ((1, 2), &[(0, 1, x(5)), (0, 0, x(3)), (0, 1, x(9))]);
+    let matrix = csr(rt.alloc(), a)?;
+    expect_rows(&rt, &matrix, (&[0, 2], &[0, 1], &[x(10), x(0)]));
+    let b: List<'_, Residue7> = ((2, 1), &[(0, 0, x(4)), (1, 0, x(6))]);
+    let product = Product {
+        factors: [a, b],
+        places: &[(0, 0)],
+        rows: (&[0, 1], &[0], &[x(5)]),
+    };
+    expect_product(&rt, rt.alloc(), &product)?;
     assert!(rt; x(3).add(x(3).neg()) == Residue7::zero());
     assert!(rt; x(3).mul(Residue7::one()) == x(3));
     Ok(())
 }
 
 #[test]
-fn triplets_are_sorted_into_rows(rt: HostRuntime) -> Result<(), Fail> {
+fn triplets_become_rows(rt: HostRuntime) -> Result<(), Fail> {
     let w = W64::new;
-    let triplets = [(1, 3, w(4)), (2, 0, w(1)), (2, 3, w(2)), (2, 2, w(1))];
-    let matrix = csr(rt.alloc(), 3, 4, &triplets)?;
-    assert_eq!(rt; matrix.row_offsets(), [0, 0, 1, 4].as_slice());
-    assert_eq!(rt; matrix.col_indices(), [3, 0, 2, 3].as_slice());
-    assert_eq!(rt;
-        numbers(rt.alloc(), &matrix)?.as_slice(),
-        [4, 1, 1, 2].as_slice()
-    );
+    let last = usize::MAX - 1;
+    let cases: [(List<'_, W64>, Rows<'_, W64>); 3] = [
+        (
+            (
+                (3, 4),
+                &[(1, 3, w(4)), (2, 0, w(1)), (2, 3, w(2)), (2, 2, w(1))],
+            ),
+            (&[0, 0, 1, 4], &[3, 0, 2, 3], &[w(4), w(1), w(1), w(2)]),
+        ),
+        // A sum of zero stays.
+        (
+            ((1, 2), &[(0, 1, w(5)), (0, 1, w(-5))]),
+            (&[0, 1], &[1], &[w(0)]),
+        ),
+        // Memory does not depend on the number of columns.
+        (
+            ((1, usize::MAX), &[(0, last, w(3)), (0, 0, w(1))]),
+            (&[0, 2], &[0, last], &[w(1), w(3)]),
+        ),
+    ];
+    for (list, rows) in cases {
+        expect_rows(&rt, &csr(rt.alloc(), list)?, rows);
+    }
     Ok(())
 }
 
@@ -90,15 +133,11 @@ fn any_order_gives_one_matrix(rt: HostRuntime) -> Result<(), Fail> {
     let w = W64::new;
     let one = csr(
         rt.alloc(),
-        3,
-        4,
-        &[(1, 3, w(4)), (2, 0, w(1)), (2, 3, w(2))],
+        ((3, 4), &[(1, 3, w(4)), (2, 0, w(1)), (2, 3, w(2))]),
     )?;
     let other = csr(
         rt.alloc(),
-        3,
-        4,
-        &[(2, 3, w(2)), (2, 0, w(1)), (1, 3, w(4))],
+        ((3, 4), &[(2, 3, w(2)), (2, 0, w(1)), (1, 3, w(4))]),
     )?;
     assert!(rt; one == other);
     assert!(rt; one.clone(rt.alloc())? == other);
@@ -106,138 +145,86 @@ fn any_order_gives_one_matrix(rt: HostRuntime) -> Result<(), Fail> {
 }
 
 #[test]
-fn a_sum_of_zero_stays(rt: HostRuntime) -> Result<(), Fail> {
-    let w = W64::new;
-    let matrix = csr(rt.alloc(), 1, 2, &[(0, 1, w(5)), (0, 1, w(-5))])?;
-    assert_eq!(rt; matrix.row_offsets(), [0, 1].as_slice());
-    assert_eq!(rt; matrix.col_indices(), [1].as_slice());
-    assert_eq!(rt; numbers(rt.alloc(), &matrix)?.as_slice(), [0].as_slice());
-    Ok(())
-}
-
-#[test]
-fn width_takes_no_memory(rt: HostRuntime) -> Result<(), Fail> {
-    let w = W64::new;
-    let last = usize::MAX - 1;
-    let matrix = csr(rt.alloc(), 1, usize::MAX, &[(0, last, w(3)), (0, 0, w(1))])?;
-    assert_eq!(rt; matrix.row_offsets(), [0, 2].as_slice());
-    assert_eq!(rt; matrix.col_indices(), [0, last].as_slice());
-    Ok(())
-}
-
-#[test]
 fn too_many_rows_are_refused(rt: HostRuntime) -> Result<(), Fail> {
     let tall = coo(
         rt.alloc(),
-        usize::MAX,
-        1,
-        &[(usize::MAX - 1, 0, W64::new(5))],
+        ((usize::MAX, 1), &[(usize::MAX - 1, 0, W64::new(5))]),
     )?;
     assert!(rt; convert_coo_csr(rt.alloc(), &tall).is_err());
     assert_eq!(rt; tall.nnz(), 1);
     Ok(())
 }
 
-// The row 2, 3 and the column 3, -2.
-fn row_and_column(alloc: Global) -> Result<(CsrMatrix<W64>, CsrMatrix<W64>), AllocError> {
+#[test]
+fn products(rt: HostRuntime) -> Result<(), Fail> {
     let w = W64::new;
-    Ok((
-        csr(alloc, 1, 2, &[(0, 0, w(2)), (0, 1, w(3))])?,
-        csr(alloc, 2, 1, &[(0, 0, w(3)), (1, 0, w(-2))])?,
-    ))
-}
-
-#[test]
-fn a_row_times_a_column(rt: HostRuntime) -> Result<(), Fail> {
-    let (row, column) = row_and_column(rt.alloc())?;
-    let dot = product(rt.alloc(), &row, &column)?;
-    assert_eq!(rt; numbers(rt.alloc(), &dot)?.as_slice(), [0].as_slice());
-    Ok(())
-}
-
-#[test]
-fn a_column_times_a_row(rt: HostRuntime) -> Result<(), Fail> {
-    let (row, column) = row_and_column(rt.alloc())?;
-    let outer = product(rt.alloc(), &column, &row)?;
-    assert_eq!(rt;
-        numbers(rt.alloc(), &outer)?.as_slice(),
-        [6, 9, -4, -6].as_slice()
-    );
-    Ok(())
-}
-
-#[test]
-fn the_square_of_a_triangle(rt: HostRuntime) -> Result<(), Fail> {
-    let w = W64::new;
-    let triplets = [(0, 0, w(1)), (0, 1, w(2)), (1, 1, w(3))];
-    let triangle = csr(rt.alloc(), 2, 2, &triplets)?;
-    let square = product(rt.alloc(), &triangle, &triangle)?;
-    assert_eq!(rt; square.row_offsets(), [0, 2, 3].as_slice());
-    assert_eq!(rt;
-        numbers(rt.alloc(), &square)?.as_slice(),
-        [1, 8, 9].as_slice()
-    );
-    Ok(())
-}
-
-#[test]
-fn an_empty_inner_size(rt: HostRuntime) -> Result<(), Fail> {
-    let tall = csr::<W64>(rt.alloc(), 2, 0, &[])?;
-    let wide = csr::<W64>(rt.alloc(), 0, 2, &[])?;
-    let none = product(rt.alloc(), &tall, &wide)?;
-    assert_eq!(rt; none.row_offsets(), [0, 0, 0].as_slice());
-    assert_eq!(rt; none.ncols(), 2);
-    Ok(())
-}
-
-#[test]
-fn sums_that_pass_the_type(rt: HostRuntime) -> Result<(), Fail> {
-    let w = W32::new;
-    let entries = [(0, 0, w(2147483647)), (0, 1, w(1)), (0, 2, w(-1))];
-    let row = csr(rt.alloc(), 1, 3, &entries)?;
-    let ones = csr(
-        rt.alloc(),
-        3,
-        1,
-        &[(0, 0, w(1)), (1, 0, w(1)), (2, 0, w(1))],
-    )?;
-    assert!(rt; product(rt.alloc(), &row, &ones)?.values() == [w(2147483647)].as_slice());
-    Ok(())
-}
-
-#[test]
-fn products_wrap(rt: HostRuntime) -> Result<(), Fail> {
-    let w = W32::new;
-    let large = csr(rt.alloc(), 1, 1, &[(0, 0, w(2147483647))])?;
-    let two = csr(rt.alloc(), 1, 1, &[(0, 0, w(2))])?;
-    assert!(rt; product(rt.alloc(), &large, &two)?.values() == [w(-2)].as_slice());
-    Ok(())
-}
-
-#[test]
-fn the_pattern_of_a_product(rt: HostRuntime) -> Result<(), Fail> {
-    let w = W64::new;
-    let a = csr(
-        rt.alloc(),
-        2,
-        2,
-        &[(0, 0, w(0)), (1, 0, w(1)), (1, 1, w(-1))],
-    )?;
-    let b = csr(
-        rt.alloc(),
-        2,
-        3,
-        &[(0, 2, w(1)), (0, 0, w(1)), (1, 1, w(1))],
-    )?;
-    if a.ncols() != b.nrows() {
-        return Err(Fail::from("the inner sizes differ"));
+    let row: List<'_, W64> = ((1, 2), &[(0, 0, w(2)), (0, 1, w(3))]);
+    let column: List<'_, W64> = ((2, 1), &[(0, 0, w(3)), (1, 0, w(-2))]);
+    let triangle: List<'_, W64> = ((2, 2), &[(0, 0, w(1)), (0, 1, w(2)), (1, 1, w(3))]);
+    let outer = [w(6), w(9), w(-4), w(-6)];
+    let cases = [
+        Product {
+            factors: [row, column],
+            places: &[(0, 0)],
+            rows: (&[0, 1], &[0], &[w(0)]),
+        },
+        Product {
+            factors: [column, row],
+            places: &[(0, 0), (0, 1), (1, 0), (1, 1)],
+            rows: (&[0, 2, 4], &[0, 1, 0, 1], &outer),
+        },
+        Product {
+            factors: [triangle, triangle],
+            places: &[(0, 0), (0, 1), (1, 1)],
+            rows: (&[0, 2, 3], &[0, 1, 1], &[w(1), w(8), w(9)]),
+        },
+        // An inner size of zero.
+        Product {
+            factors: [((2, 0), &[]), ((0, 2), &[])],
+            places: &[],
+            rows: (&[0, 0, 0], &[], &[]),
+        },
+        // The places do not depend on the values.
+        Product {
+            factors: [
+                ((2, 2), &[(0, 0, w(0)), (1, 0, w(1)), (1, 1, w(-1))]),
+                ((2, 3), &[(0, 2, w(1)), (0, 0, w(1)), (1, 1, w(1))]),
+            ],
+            places: &[(0, 0), (0, 2), (1, 0), (1, 1), (1, 2)],
+            rows: (
+                &[0, 2, 5],
+                &[0, 2, 0, 1, 2],
+                &[w(0), w(0), w(1), w(-1), w(1)],
+            ),
+        },
+    ];
+    for case in &cases {
+        expect_product(&rt, rt.alloc(), case)?;
     }
-    let pattern = spmm_csr_pattern(rt.alloc(), a.pattern(), b.pattern())?;
-    let places: Vec<(usize, usize)> = pattern.entries().collect(rt.alloc())?;
-    assert_eq!(rt;
-        places.as_slice(),
-        [(0, 0), (0, 2), (1, 0), (1, 1), (1, 2)].as_slice()
-    );
-    assert!(rt; pattern == *product(rt.alloc(), &a, &b)?.pattern());
+    Ok(())
+}
+
+#[test]
+fn sums_and_products_wrap(rt: HostRuntime) -> Result<(), Fail> {
+    let w = W32::new;
+    let large = w(2147483647);
+    let cases = [
+        Product {
+            factors: [
+                ((1, 3), &[(0, 0, large), (0, 1, w(1)), (0, 2, w(-1))]),
+                ((3, 1), &[(0, 0, w(1)), (1, 0, w(1)), (2, 0, w(1))]),
+            ],
+            places: &[(0, 0)],
+            rows: (&[0, 1], &[0], &[large]),
+        },
+        Product {
+            factors: [((1, 1), &[(0, 0, large)]), ((1, 1), &[(0, 0, w(2))])],
+            places: &[(0, 0)],
+            rows: (&[0, 1], &[0], &[w(-2)]),
+        },
+    ];
+    for case in &cases {
+        expect_product(&rt, rt.alloc(), case)?;
+    }
     Ok(())
 }
