@@ -1,0 +1,169 @@
+//! Matrices from arrays and from patterns, copies, zeros and identities.
+
+use crate::fixtures::{Arrays, BY_ROWS, csc, csc_is, csr, csr_is, unsorted_csc, unsorted_csr};
+use SparseFormatErrorKind::InvalidStructure;
+use sparse_algebra::scalar::W64;
+use sparse_forms::csc::CscMatrix;
+use sparse_forms::csr::CsrMatrix;
+use sparse_pattern::error::{SparseFormatError, SparseFormatErrorKind};
+use sparse_pattern::pattern::SparsityPattern;
+use std::alloc::{AllocError, Global};
+use std::process::Abort;
+use std::test::Fail;
+
+// Arrays whose lanes are not sorted, with their indices and values once they are.
+const UNSORTED: [(Arrays<'static, i32>, &[usize], &[i32]); 3] = [
+    (
+        (1, 4, &[0, 3], &[2, 0, 3], &[7, 8, 9]),
+        &[0, 2, 3],
+        &[8, 7, 9],
+    ),
+    (
+        (
+            3,
+            usize::MAX,
+            &[0, 2, 2, 5],
+            &[1, usize::MAX - 1, 9, 7, 8],
+            &[1, 2, 3, 4, 5],
+        ),
+        &[1, usize::MAX - 1, 7, 8, 9],
+        &[1, 2, 4, 5, 3],
+    ),
+    (
+        (2, 4, &[0, 2, 3], &[3, 1, 0], &[5, 6, 7]),
+        &[1, 3, 0],
+        &[6, 5, 7],
+    ),
+];
+
+#[test]
+fn lanes_are_sorted_with_their_values(rt: HostRuntime) -> Result<(), Fail> {
+    for (arrays, indices, values) in UNSORTED {
+        let sorted = (arrays.0, arrays.1, arrays.2, indices, values);
+        assert!(rt; csr_is(&unsorted_csr(rt.alloc(), arrays)?, sorted));
+        assert!(rt; csc_is(&unsorted_csc(rt.alloc(), arrays)?, sorted));
+    }
+    Ok(())
+}
+
+// Whether a copy by rows is equal to the matrix, and zeros are not.
+fn copies_by_rows(alloc: Global, matrix: &CsrMatrix<i32>) -> Result<bool, AllocError> {
+    let copy = matrix.clone(alloc)?;
+    let zeros = CsrMatrix::zeros(alloc, matrix.nrows(), matrix.ncols())?;
+    Ok(copy == *matrix && zeros != *matrix)
+}
+
+// The matrix by rows made again from its pattern and its values.
+fn rebuilt_by_rows(
+    alloc: Global,
+    matrix: &CsrMatrix<i32>,
+) -> Result<CsrMatrix<i32>, SparseFormatError> {
+    let turned = matrix.clone(alloc)?.transpose_as_csc();
+    let (pattern, values) = turned.transpose_as_csr().into_pattern_and_values();
+    CsrMatrix::try_from_pattern_and_values(pattern, values)
+}
+
+// The matrix by rows made again from its arrays.
+fn reassembled_by_rows(
+    alloc: Global,
+    matrix: &CsrMatrix<i32>,
+) -> Result<CsrMatrix<i32>, SparseFormatError> {
+    let (nrows, ncols) = (matrix.nrows(), matrix.ncols());
+    let (offsets, columns, values) = matrix.clone(alloc)?.disassemble();
+    csr(alloc, (nrows, ncols, &offsets, &columns, &values))
+}
+
+#[test]
+fn parts_and_copies_by_rows(rt: HostRuntime) -> Result<(), Fail> {
+    let matrix = csr(rt.alloc(), BY_ROWS)?;
+    assert!(rt; copies_by_rows(rt.alloc(), &matrix)?);
+    let rebuilt = rebuilt_by_rows(rt.alloc(), &matrix)?;
+    assert!(rt; rebuilt == matrix && rebuilt.pattern() == matrix.pattern());
+    assert!(rt; reassembled_by_rows(rt.alloc(), &matrix)? == matrix);
+    let pattern = matrix.pattern().clone(rt.alloc())?;
+    let refused = CsrMatrix::try_from_pattern_and_values(pattern, [1, 2].to_vec(rt.alloc())?);
+    assert!(rt; *refused.err().ok_or("taken")?.kind() == InvalidStructure);
+    Ok(())
+}
+
+// Whether a copy by columns is equal to the matrix, and zeros are not.
+fn copies_by_columns(alloc: Global, matrix: &CscMatrix<i32>) -> Result<bool, AllocError> {
+    let copy = matrix.clone(alloc)?;
+    let zeros = CscMatrix::zeros(alloc, matrix.nrows(), matrix.ncols())?;
+    Ok(copy == *matrix && zeros != *matrix)
+}
+
+// The matrix by columns made again from its pattern and its values.
+fn rebuilt_by_columns(
+    alloc: Global,
+    matrix: &CscMatrix<i32>,
+) -> Result<CscMatrix<i32>, SparseFormatError> {
+    let turned = matrix.clone(alloc)?.transpose_as_csr();
+    let (pattern, values) = turned.transpose_as_csc().into_pattern_and_values();
+    CscMatrix::try_from_pattern_and_values(pattern, values)
+}
+
+// The matrix by columns made again from its arrays.
+fn reassembled_by_columns(
+    alloc: Global,
+    matrix: &CscMatrix<i32>,
+) -> Result<CscMatrix<i32>, SparseFormatError> {
+    let (nrows, ncols) = (matrix.nrows(), matrix.ncols());
+    let (offsets, rows, values) = matrix.clone(alloc)?.disassemble();
+    csc(alloc, (ncols, nrows, &offsets, &rows, &values))
+}
+
+#[test]
+fn parts_and_copies_by_columns(rt: HostRuntime) -> Result<(), Fail> {
+    let matrix = unsorted_csc(rt.alloc(), UNSORTED[2].0)?;
+    assert!(rt; copies_by_columns(rt.alloc(), &matrix)?);
+    let rebuilt = rebuilt_by_columns(rt.alloc(), &matrix)?;
+    assert!(rt; rebuilt == matrix && rebuilt.pattern() == matrix.pattern());
+    assert!(rt; reassembled_by_columns(rt.alloc(), &matrix)? == matrix);
+    let by_rows = rebuilt.transpose_as_csr();
+    assert!(rt; (by_rows.nrows(), by_rows.ncols()) == (2, 4));
+    Ok(())
+}
+
+// Zeros by rows of these sizes.
+fn zeros_by_rows(alloc: Global, nrows: usize, ncols: usize) -> Result<CsrMatrix<i32>, AllocError> {
+    CsrMatrix::zeros(alloc, nrows, ncols)
+}
+
+// Zeros by columns of these sizes.
+fn zeros_by_columns(
+    alloc: Global,
+    nrows: usize,
+    ncols: usize,
+) -> Result<CscMatrix<i32>, AllocError> {
+    CscMatrix::zeros(alloc, nrows, ncols)
+}
+
+// The number of lanes, their length, and the offsets of a matrix without stored places.
+const EMPTY: [(usize, usize, &[usize]); 2] = [(2, usize::MAX, &[0, 0, 0]), (0, 3, &[0])];
+
+#[test]
+fn zeros_and_identities(rt: HostRuntime) -> Result<(), Fail> {
+    for (lanes, length, offsets) in EMPTY {
+        let want: Arrays<'_, i32> = (lanes, length, offsets, &[], &[]);
+        assert!(rt; csr_is(&zeros_by_rows(rt.alloc(), lanes, length)?, want));
+        let by_columns = zeros_by_columns(rt.alloc(), length, lanes)?;
+        let pattern = SparsityPattern::zeros(rt.alloc(), lanes, length)?;
+        assert!(rt; csc_is(&by_columns, want) && *by_columns.pattern() == pattern);
+    }
+    assert!(rt; zeros_by_rows(rt.alloc(), usize::MAX, 0).is_err());
+    assert!(rt; zeros_by_columns(rt.alloc(), 0, usize::MAX).is_err());
+    expect_identities(&rt)
+}
+
+// Compares identities over wrapping integers.
+fn expect_identities(rt: &(impl Abort + AllocGlobal)) -> Result<(), Fail> {
+    let ones = [W64::new(1), W64::new(1), W64::new(1)];
+    let by_rows = CsrMatrix::identity(rt.alloc(), 3)?;
+    assert!(rt; csr_is(&by_rows, (3, 3, &[0, 1, 2, 3], &[0, 1, 2], &ones)));
+    let by_columns = CscMatrix::identity(rt.alloc(), 2)?;
+    assert!(rt; csc_is(&by_columns, (2, 2, &[0, 1, 2], &[0, 1], &ones[..2])));
+    let too_long: Result<CsrMatrix<W64>, AllocError> = CsrMatrix::identity(rt.alloc(), usize::MAX);
+    assert!(rt; too_long.is_err());
+    Ok(())
+}

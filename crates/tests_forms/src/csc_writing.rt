@@ -1,0 +1,161 @@
+//! Writing into a CSC matrix: through entries, columns, slices and iterators.
+
+ghost use Rattle.std.specs.Prelude.{◌<◌};
+
+use crate::fixtures::{BY_COLUMNS, csc};
+use sparse_forms::csc::{CscColMut, CscMatrix};
+use sparse_pattern::entry::{SparseEntry, SparseEntryMut};
+use std::process::Abort;
+use std::test::Fail;
+
+// Writes through an entry, where the matrix has the place.
+fn write_where_stored(matrix: &mut CscMatrix<i32>, row: usize, col: usize, value: i32) {
+    if let Some(SparseEntryMut::NonZero(lent)) = matrix.get_entry_mut(row, col) {
+        *lent = value;
+    }
+}
+
+// Writes through the entry of a column.
+fn write_through_col(matrix: &mut CscMatrix<i32>, row: usize, col: usize, value: i32)
+    requires { col < matrix.old.pattern.major_dim }
+{
+    if let Some(SparseEntryMut::NonZero(lent)) = matrix.col_mut(col).get_entry_mut(row) {
+        *lent = value;
+    }
+}
+
+// Writes at a position of a column, where the column has it.
+fn write_in_col(matrix: &mut CscMatrix<i32>, col: usize, position: usize, value: i32)
+    requires { col < matrix.old.pattern.major_dim }
+{
+    let mut lent = matrix.col_mut(col);
+    let values = lent.values_mut();
+    if position < values.len() {
+        values[position] = value;
+    }
+}
+
+// Where a value is written, and the way to it.
+#[derive(Clone, Copy)]
+enum Place {
+    Entry(usize, usize),
+    EntryOfColumn(usize, usize),
+    PositionInColumn(usize, usize),
+}
+
+const WRITES: [(Place, i32, [i32; 3]); 6] = [
+    (Place::PositionInColumn(1, 0), 7, [1, 7, 0]),
+    (Place::EntryOfColumn(1, 1), 9, [1, 9, 0]),
+    (Place::Entry(0, 2), 5, [1, 4, 5]),
+    (Place::Entry(0, 1), 5, [1, 4, 0]),
+    (Place::Entry(2, 0), 5, [1, 4, 0]),
+    (Place::Entry(0, 3), 5, [1, 4, 0]),
+];
+
+// Writes a value, where the matrix has such a place.
+fn write(matrix: &mut CscMatrix<i32>, place: Place, value: i32) {
+    let ncols = matrix.ncols();
+    match place {
+        Place::Entry(row, col) => write_where_stored(matrix, row, col, value),
+        Place::EntryOfColumn(row, col) if col < ncols => write_through_col(matrix, row, col, value),
+        Place::PositionInColumn(col, position) if col < ncols => {
+            write_in_col(matrix, col, position, value)
+        }
+        _ => {}
+    }
+}
+
+#[test]
+fn writes_by_columns(rt: HostRuntime) -> Result<(), Fail> {
+    for (place, value, want) in WRITES {
+        let mut matrix = csc(rt.alloc(), BY_COLUMNS)?;
+        write(&mut matrix, place, value);
+        assert!(rt; matrix.values() == want.as_slice());
+    }
+    Ok(())
+}
+
+// Whether a column for writing is the last one, whose zero is stored in row 0.
+fn is_last_column(column: &CscColMut<'_, i32>) -> bool {
+    column.nrows() == 2
+        && column.nnz() == 1
+        && column.row_indices() == [0].as_slice()
+        && column.values() == [0].as_slice()
+        && column.get_entry(0) == Some(SparseEntry::NonZero(&0))
+        && column.get_entry(1) == Some(SparseEntry::Zero)
+        && column.get_entry(2) == None
+}
+
+// Writes into a column, and answers whether it has as many rows as values.
+fn fill_column(column: &mut CscColMut<'_, i32>) -> bool {
+    let (rows, values) = column.rows_and_values_mut();
+    let same = rows.len() == values.len();
+    for value in column.values_mut() {
+        *value = 8;
+    }
+    same
+}
+
+#[test]
+fn a_column_for_writing(rt: HostRuntime) -> Result<(), Fail> {
+    let mut matrix = csc(rt.alloc(), BY_COLUMNS)?;
+    assert!(rt; matrix.get_col_mut(3).is_none());
+    if let Some(mut column) = matrix.get_col_mut(2) {
+        assert!(rt; is_last_column(&column));
+        assert!(rt; fill_column(&mut column));
+    }
+    assert!(rt; matrix.values() == [1, 4, 8].as_slice());
+    slices_for_writing(&rt, &mut matrix);
+    Ok(())
+}
+
+// Writes through the slices of the example.
+fn slices_for_writing(rt: &impl Abort, matrix: &mut CscMatrix<i32>) {
+    for value in matrix.values_mut().iter_mut() {
+        *value = 7;
+    }
+    let (pattern, values) = matrix.pattern_and_values_mut();
+    assert!(rt; pattern.nnz() == values.len());
+    let (offsets, rows, values) = matrix.csc_data_mut();
+    assert!(rt; offsets == [0, 1, 2, 3].as_slice() && rows == [0, 1, 0].as_slice());
+    assert!(rt; &*values == [7, 7, 7].as_slice());
+}
+
+// Writes 9 into each column whose first row is 1, and 5 into the others.
+fn fill_columns(matrix: &mut CscMatrix<i32>) {
+    for mut column in matrix.col_iter_mut() {
+        let first = column.row_indices().first().copied().unwrap_or(0);
+        for value in column.values_mut() {
+            *value = if first == 1 { 9 } else { 5 };
+        }
+    }
+}
+
+#[test]
+fn iterators_for_writing_by_columns(rt: HostRuntime) -> Result<(), Fail> {
+    let mut matrix = csc(rt.alloc(), BY_COLUMNS)?;
+    for (_, _, value) in matrix.triplet_iter_mut() {
+        *value = value.wrapping_mul(2);
+    }
+    assert!(rt; matrix.values() == [2, 8, 0].as_slice());
+    let mut triplets = matrix.triplet_iter_mut();
+    for place in [(0, 0), (1, 1), (0, 2)] {
+        assert!(rt; triplets.next().map(|t| (t.0, t.1)) == Some(place));
+    }
+    assert!(rt; triplets.next().is_none());
+    fill_columns(&mut matrix);
+    assert!(rt; matrix.values() == [5, 9, 5].as_slice());
+    expect_columns(&rt, &mut matrix)
+}
+
+// Compares the columns for writing of the example, in order.
+fn expect_columns(rt: &impl Abort, matrix: &mut CscMatrix<i32>) -> Result<(), Fail> {
+    let mut columns = matrix.col_iter_mut();
+    let lanes: [&[usize]; 3] = [&[0], &[1], &[0]];
+    for rows in lanes {
+        let column = columns.next().ok_or("no column")?;
+        assert!(rt; column.row_indices() == rows && column.nnz() == rows.len());
+    }
+    assert!(rt; columns.next().is_none());
+    Ok(())
+}

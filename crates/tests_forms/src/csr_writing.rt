@@ -1,0 +1,213 @@
+//! Writing into a CSR matrix: through entries, rows, slices and iterators.
+
+ghost use Rattle.std.specs.Prelude.{◌≡◌, ℕ, ◌<◌, Some, None};
+ghost use Rattle.sparse_cs.specs.StoredEntries.{IsInBounds, place_of};
+ghost use Rattle.sparse_cs.specs.Writing.{with_value};
+
+use crate::fixtures::{BY_ROWS, csr, wrapping_csr};
+use sparse_algebra::scalar::{Ring, W64};
+use sparse_forms::csr::{CsrMatrix, CsrRowMut};
+use sparse_pattern::entry::{SparseEntry, SparseEntryMut};
+use std::process::Abort;
+use std::test::Fail;
+
+// What is left after a write through an entry: another value at its own place, or nothing changed.
+fn write_entry<T: Copy>(matrix: &mut CsrMatrix<T>, row: usize, col: usize, value: T)
+    requires { IsInBounds matrix.old.pattern row col }
+    ensures stored { (p : ℕ) → place_of matrix.old.pattern row col ≡ Some p → matrix.new ≡ with_value matrix.old row col value }
+    ensures other { place_of matrix.old.pattern row col ≡ None → matrix.new ≡ matrix.old }
+{
+    if let SparseEntryMut::NonZero(lent) = matrix.index_entry_mut(row, col) {
+        *lent = value;
+    }
+}
+
+// Writes through the entry of a row.
+fn write_through_row<T: Copy>(matrix: &mut CsrMatrix<T>, row: usize, col: usize, value: T)
+    requires { row < matrix.old.pattern.major_dim }
+{
+    if let Some(SparseEntryMut::NonZero(lent)) = matrix.row_mut(row).get_entry_mut(col) {
+        *lent = value;
+    }
+}
+
+// Writes through an entry, where the matrix has the place.
+fn write_where_stored(matrix: &mut CsrMatrix<i32>, row: usize, col: usize, value: i32) {
+    if let Some(SparseEntryMut::NonZero(lent)) = matrix.get_entry_mut(row, col) {
+        *lent = value;
+    }
+}
+
+// Writes at a position of a row, where the row has it.
+fn write_in_row(matrix: &mut CsrMatrix<i32>, row: usize, position: usize, value: i32)
+    requires { row < matrix.old.pattern.major_dim }
+{
+    let mut lent = matrix.row_mut(row);
+    let values = lent.values_mut();
+    if position < values.len() {
+        values[position] = value;
+    }
+}
+
+// Writes the first value of all, where the first row has two.
+fn write_first(matrix: &mut CsrMatrix<i32>, value: i32) {
+    if matrix.nrows() > 0 && matrix.row_mut(0).nnz() == 2 && matrix.nnz() > 0 {
+        matrix.values_mut()[0] = value;
+    }
+}
+
+// Where a value is written, and the way to it.
+#[derive(Clone, Copy)]
+enum Place {
+    First,
+    Entry(usize, usize),
+    IndexedEntry(usize, usize),
+    EntryOfRow(usize, usize),
+    PositionInRow(usize, usize),
+}
+
+const WRITES: [(Place, i32, [i32; 3]); 8] = [
+    (Place::IndexedEntry(1, 1), 9, [1, 0, 9]),
+    (Place::First, 3, [3, 0, 4]),
+    (Place::PositionInRow(0, 1), 7, [1, 7, 4]),
+    (Place::EntryOfRow(1, 1), 9, [1, 0, 9]),
+    (Place::Entry(0, 2), 5, [1, 5, 4]),
+    (Place::Entry(0, 1), 5, [1, 0, 4]),
+    (Place::Entry(2, 0), 5, [1, 0, 4]),
+    (Place::Entry(0, 3), 5, [1, 0, 4]),
+];
+
+// Writes a value, where the matrix has such a place.
+fn write(matrix: &mut CsrMatrix<i32>, place: Place, value: i32) {
+    let (nrows, ncols) = (matrix.nrows(), matrix.ncols());
+    match place {
+        Place::First => write_first(matrix, value),
+        Place::Entry(row, col) => write_where_stored(matrix, row, col, value),
+        Place::IndexedEntry(row, col) if row < nrows && col < ncols => {
+            write_entry(matrix, row, col, value)
+        }
+        Place::EntryOfRow(row, col) if row < nrows => write_through_row(matrix, row, col, value),
+        Place::PositionInRow(row, position) if row < nrows => {
+            write_in_row(matrix, row, position, value)
+        }
+        _ => {}
+    }
+}
+
+#[test]
+fn writes_by_rows(rt: HostRuntime) -> Result<(), Fail> {
+    for (place, value, want) in WRITES {
+        let mut matrix = csr(rt.alloc(), BY_ROWS)?;
+        write(&mut matrix, place, value);
+        assert!(rt; matrix.values() == want.as_slice());
+    }
+    Ok(())
+}
+
+// Whether a row for writing is the row 1 . 0.
+fn is_first_row(row: &CsrRowMut<'_, i32>) -> bool {
+    row.ncols() == 3
+        && row.nnz() == 2
+        && row.col_indices() == [0, 2].as_slice()
+        && row.values() == [1, 0].as_slice()
+        && row.get_entry(2) == Some(SparseEntry::NonZero(&0))
+        && row.get_entry(1) == Some(SparseEntry::Zero)
+        && row.get_entry(3) == None
+}
+
+// Writes into a row, and answers whether it has as many columns as values.
+fn fill_row(row: &mut CsrRowMut<'_, i32>) -> bool {
+    let (columns, values) = row.cols_and_values_mut();
+    let same = columns.len() == values.len();
+    for value in row.values_mut() {
+        *value = 8;
+    }
+    same
+}
+
+#[test]
+fn a_row_for_writing(rt: HostRuntime) -> Result<(), Fail> {
+    let mut matrix = csr(rt.alloc(), BY_ROWS)?;
+    assert!(rt; matrix.get_row_mut(2).is_none());
+    if let Some(mut row) = matrix.get_row_mut(0) {
+        assert!(rt; is_first_row(&row));
+        assert!(rt; fill_row(&mut row));
+    }
+    assert!(rt; matrix.values() == [8, 8, 4].as_slice());
+    slices_for_writing(&rt, &mut matrix);
+    Ok(())
+}
+
+// Writes through the slices of the example.
+fn slices_for_writing(rt: &impl Abort, matrix: &mut CsrMatrix<i32>) {
+    for value in matrix.values_mut().iter_mut() {
+        *value = 7;
+    }
+    let (pattern, values) = matrix.pattern_and_values_mut();
+    assert!(rt; pattern.nnz() == values.len());
+    let (offsets, columns, values) = matrix.csr_data_mut();
+    assert!(rt; offsets == [0, 2, 3].as_slice() && columns == [0, 2, 1].as_slice());
+    assert!(rt; &*values == [7, 7, 7].as_slice());
+}
+
+#[test]
+fn triplets_for_writing_by_rows(rt: HostRuntime) -> Result<(), Fail> {
+    let mut matrix = csr(rt.alloc(), BY_ROWS)?;
+    for (_, _, value) in matrix.triplet_iter_mut() {
+        *value = value.wrapping_mul(2);
+    }
+    assert!(rt; matrix.values() == [2, 0, 8].as_slice());
+    let mut triplets = matrix.triplet_iter_mut();
+    for place in [(0, 0), (0, 2), (1, 1)] {
+        assert!(rt; triplets.next().map(|t| (t.0, t.1)) == Some(place));
+    }
+    assert!(rt; triplets.next().is_none());
+    assert!(rt; triplets.next().is_none());
+    expect_wrapping_writes(&rt, wrapping_csr(rt.alloc())?);
+    Ok(())
+}
+
+// Writes into the example over wrapping integers.
+fn expect_wrapping_writes(rt: &impl Abort, mut matrix: CsrMatrix<W64>) {
+    let w = W64::new;
+    for (_, _, value) in matrix.triplet_iter_mut() {
+        *value = (*value).add(*value);
+    }
+    assert!(rt; matrix.values() == [w(2), w(0), w(8)].as_slice());
+    if matrix.nrows() > 1 {
+        write_through_row(&mut matrix, 1, 1, w(9));
+    }
+    assert!(rt; matrix.values() == [w(2), w(0), w(9)].as_slice());
+}
+
+// Writes 9 into each row of one value, and 5 into the others.
+fn fill_rows(matrix: &mut CsrMatrix<W64>) {
+    for mut row in matrix.row_iter_mut() {
+        let value = if row.nnz() == 1 {
+            W64::new(9)
+        } else {
+            W64::new(5)
+        };
+        for old in row.values_mut() {
+            *old = value;
+        }
+    }
+}
+
+#[test]
+fn rows_for_writing(rt: HostRuntime) -> Result<(), Fail> {
+    let w = W64::new;
+    let values = [w(2), w(3), w(4)];
+    let mut matrix = csr(rt.alloc(), (3, 2, &[0, 1, 1, 3], &[1, 0, 1], &values))?;
+    fill_rows(&mut matrix);
+    assert!(rt; matrix.values() == [w(9), w(5), w(5)].as_slice());
+    let mut rows = matrix.row_iter_mut();
+    let lanes: [&[usize]; 3] = [&[1], &[], &[0, 1]];
+    for columns in lanes {
+        let row = rows.next().ok_or("no row")?;
+        assert!(rt; row.col_indices() == columns && row.nnz() == columns.len());
+    }
+    assert!(rt; rows.next().is_none());
+    assert!(rt; rows.next().is_none());
+    Ok(())
+}

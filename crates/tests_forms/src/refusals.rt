@@ -1,0 +1,174 @@
+//! Arrays that the constructors refuse, with the kind and the text of the error.
+
+use crate::fixtures::{Arrays, csc, csr, unsorted_csc, unsorted_csr};
+use SparseFormatErrorKind::{DuplicateEntry, IndexOutOfBounds, InvalidStructure};
+use sparse_pattern::error::{SparseFormatError, SparseFormatErrorKind};
+use std::process::Abort;
+use std::test::Fail;
+
+// Arrays, the kind of the error, and its text by rows and by columns.
+type SortedRefusal = (
+    Arrays<'static, i32>,
+    SparseFormatErrorKind,
+    &'static str,
+    &'static str,
+);
+
+const SORTED: [SortedRefusal; 9] = [
+    (
+        (2, 4, &[0, 3], &[], &[]),
+        InvalidStructure,
+        "Length of row offset array is not equal to nrows + 1.",
+        "Length of col offset array is not equal to ncols + 1.",
+    ),
+    (
+        (usize::MAX, 0, &[0], &[], &[]),
+        InvalidStructure,
+        "Length of row offset array is not equal to nrows + 1.",
+        "Length of col offset array is not equal to ncols + 1.",
+    ),
+    (
+        (1, 4, &[0, 2], &[1], &[7]),
+        InvalidStructure,
+        "First or last row offset is inconsistent with format specification.",
+        "First or last col offset is inconsistent with format specification.",
+    ),
+    (
+        (2, 4, &[0, 3, 1], &[1], &[7]),
+        InvalidStructure,
+        "Row offsets are not monotonically increasing.",
+        "Col offsets are not monotonically increasing.",
+    ),
+    (
+        (1, 4, &[0, 2], &[2, 1], &[7, 8]),
+        InvalidStructure,
+        "Column indices are not monotonically increasing (sorted) within each row.",
+        "Row indices are not monotonically increasing (sorted) within each column.",
+    ),
+    (
+        (1, 4, &[0, 1], &[4], &[7]),
+        IndexOutOfBounds,
+        "Column indices are out of bounds.",
+        "Row indices are out of bounds.",
+    ),
+    (
+        (1, 4, &[0, 2], &[2, 2], &[7, 8]),
+        DuplicateEntry,
+        "Matrix data contains duplicate entries.",
+        "Matrix data contains duplicate entries.",
+    ),
+    (
+        (1, 2, &[0, 1], &[0], &[]),
+        InvalidStructure,
+        "Number of values and column indices must be the same",
+        "Number of values and row indices must be the same",
+    ),
+    // The pattern is tested before the number of values.
+    (
+        (1, 2, &[0, 1], &[5], &[]),
+        IndexOutOfBounds,
+        "Column indices are out of bounds.",
+        "Row indices are out of bounds.",
+    ),
+];
+
+// Arrays, the kind of the error, and its text.
+type UnsortedRefusal = (Arrays<'static, i32>, SparseFormatErrorKind, &'static str);
+
+const UNSORTED: [UnsortedRefusal; 13] = [
+    (
+        (1, 4, &[0, 1], &[0], &[]),
+        InvalidStructure,
+        "Number of values and minor indices must be the same.",
+    ),
+    (
+        (0, 4, &[], &[], &[]),
+        InvalidStructure,
+        "Number of offsets should be greater than 0.",
+    ),
+    (
+        (2, 4, &[0, 1], &[0], &[7]),
+        InvalidStructure,
+        "Length of offset array is not equal to (major_dim + 1).",
+    ),
+    (
+        (usize::MAX, 4, &[0], &[], &[]),
+        InvalidStructure,
+        "Length of offset array is not equal to (major_dim + 1).",
+    ),
+    (
+        (1, 4, &[1, 1], &[0], &[7]),
+        InvalidStructure,
+        "First or last offset is incompatible with format.",
+    ),
+    (
+        (3, 2, &[0, 2, 1, 3], &[1, 0, 0], &[1, 2, 3]),
+        InvalidStructure,
+        "Offsets are not monotonically increasing.",
+    ),
+    (
+        (3, 6, &[0, 10, 2, 5], &[0, 5, 1, 2, 3], &[0, 1, 2, 3, 4]),
+        IndexOutOfBounds,
+        "A major offset is out of bounds.",
+    ),
+    (
+        (1, 4, &[0, 3], &[2, 2, 4], &[7, 8, 9]),
+        IndexOutOfBounds,
+        "A minor index is out of bounds.",
+    ),
+    (
+        (2, 4, &[0, 2, 3], &[3, 2, 4], &[1, 2, 3]),
+        IndexOutOfBounds,
+        "A minor index is out of bounds.",
+    ),
+    (
+        (1, usize::MAX, &[0, 1], &[usize::MAX], &[7]),
+        IndexOutOfBounds,
+        "A minor index is out of bounds.",
+    ),
+    (
+        (1, 4, &[0, 3], &[2, 0, 2], &[7, 8, 9]),
+        DuplicateEntry,
+        "Input data contains duplicate entries.",
+    ),
+    (
+        (3, 2, &[0, 2, 1, 3], &[1, 1, 0], &[1, 2, 3]),
+        DuplicateEntry,
+        "Input data contains duplicate entries.",
+    ),
+    (
+        (2, 4, &[0, 2, 4], &[3, 2, 1, 1], &[1, 2, 3, 4]),
+        DuplicateEntry,
+        "Input data contains duplicate entries.",
+    ),
+];
+
+fn expect_refusal<M: Drop>(
+    rt: &(impl Abort + AllocGlobal),
+    answer: Result<M, SparseFormatError>,
+    kind: SparseFormatErrorKind,
+    text: &str,
+) -> Result<(), Fail> {
+    let error = answer.err().ok_or("taken")?;
+    assert!(rt; *error.kind() == kind);
+    assert_eq!(rt; error.to_string(rt.alloc())?.as_str(), text);
+    Ok(())
+}
+
+#[test]
+fn sorted_arrays_are_refused(rt: HostRuntime) -> Result<(), Fail> {
+    for (arrays, kind, by_rows, by_columns) in SORTED {
+        expect_refusal(&rt, csr(rt.alloc(), arrays), kind, by_rows)?;
+        expect_refusal(&rt, csc(rt.alloc(), arrays), kind, by_columns)?;
+    }
+    Ok(())
+}
+
+#[test]
+fn unsorted_arrays_are_refused(rt: HostRuntime) -> Result<(), Fail> {
+    for (arrays, kind, text) in UNSORTED {
+        expect_refusal(&rt, unsorted_csr(rt.alloc(), arrays), kind, text)?;
+        expect_refusal(&rt, unsorted_csc(rt.alloc(), arrays), kind, text)?;
+    }
+    Ok(())
+}
