@@ -1,11 +1,14 @@
 //! What the program writes and answers.
 
 use crate::cli::{command, finish};
+use cases::CASES;
 use nalgebra_sparse::io::Out;
 use std::io::{self, ErrorKind, Write};
 use std::process::Abort;
 use std::test::Fail;
 use std::{env, fs};
+
+mod cases;
 
 const HEADER: &str = "%%MatrixMarket matrix coordinate integer general\n";
 
@@ -109,115 +112,26 @@ fn expect_refused(rt: &impl Abort, answer: &Answer, line: &str, status: u8) {
 }
 
 #[test]
-fn one_file_by_rows(rt: HostRuntime) -> Result<(), Fail> {
-    for (lines, written) in [
-        (
-            "2 3 4\n2 1 4\n1 3 5\n1 3 -5\n1 1 7\n",
-            "2 3 3\n1 1 7\n1 3 0\n2 1 4\n",
-        ),
-        ("0 0 0\n", "0 0 0\n"),
-        (
-            "2 2 3\n1 1 1\n1 2 2\n2 1 4\n",
-            "2 2 3\n1 1 1\n1 2 2\n2 1 4\n",
-        ),
-        (
-            "% turned about\n2 2 3\n2 1 4\n1 2 2\n1 1 1",
-            "2 2 3\n1 1 1\n1 2 2\n2 1 4\n",
-        ),
-        (
-            "2 2 2\n2 2 -9223372036854775808\n1 1 9223372036854775807\n",
-            "2 2 2\n1 1 9223372036854775807\n2 2 -9223372036854775808\n",
-        ),
-    ] {
-        expect_written(&rt, &rows(&rt, "1", &[lines])?, written)?;
+fn rows_of_files(rt: HostRuntime) -> Result<(), Fail> {
+    for (expression, files, wanted) in CASES {
+        let answer = rows(&rt, expression, files)?;
+        match wanted {
+            Ok(lines) => expect_written(&rt, &answer, lines)?,
+            Err(line) => expect_refused(&rt, &answer, line, 1),
+        }
     }
     Ok(())
 }
 
 #[test]
-fn products(rt: HostRuntime) -> Result<(), Fail> {
-    let a = "1 2 2\n1 1 2\n1 2 3\n";
-    let b = "2 1 2\n1 1 3\n2 1 -2\n";
-    let f = "2 2 3\n1 1 1\n1 2 2\n2 2 3\n";
-    expect_written(&rt, &rows(&rt, "1 2 *", &[a, b])?, "1 1 1\n1 1 0\n")?;
-    expect_written(
-        &rt,
-        &rows(&rt, "2 1 *", &[a, b])?,
-        "2 2 4\n1 1 6\n1 2 9\n2 1 -4\n2 2 -6\n",
-    )?;
-    expect_written(
-        &rt,
-        &rows(&rt, "1 1 *", &[f])?,
-        "2 2 3\n1 1 1\n1 2 8\n2 2 9\n",
-    )?;
-    expect_written(
-        &rt,
-        &rows(&rt, " 01  1 * ", &[f])?,
-        "2 2 3\n1 1 1\n1 2 8\n2 2 9\n",
-    )?;
-    expect_written(
-        &rt,
-        &rows(&rt, "1 1 *", &["1 1 1\n1 1 2147483648\n"])?,
-        "1 1 1\n1 1 4611686018427387904\n",
-    )
-}
-
-#[test]
-fn refused_texts(rt: HostRuntime) -> Result<(), Fail> {
-    for (lines, line) in [
-        ("1 1 1\n0 1 5", "mtx: input 1: ZeroError\n"),
-        ("2 2 2\n1 1 1\n", "mtx: input 1: EntryMismatch\n"),
-        (
-            "1 1 1\n1 1 9223372036854775808",
-            "mtx: input 1: TypeMismatch\n",
-        ),
-        ("1 1 1\n1 2 3", "mtx: input 1: SparseFormatError\n"),
-        ("1 1 1\n1 1 1.0", "mtx: input 1: ParsingError\n"),
-        ("", "mtx: input 1: ParsingError\n"),
-    ] {
-        expect_refused(&rt, &rows(&rt, "1", &[lines])?, line, 1);
-    }
-    let second = rows(&rt, "1 2 *", &["1 1 0\n", "1 1 1\n"])?;
-    expect_refused(&rt, &second, "mtx: input 2: EntryMismatch\n", 1);
+fn wrong_usage_and_unreadable_files(rt: HostRuntime) -> Result<(), Fail> {
+    let good = matrix(&rt, "good", "0 0 0\n")?;
+    let bad = file(&rt, "bad", &[0xff, 0xfe])?;
     let array = file(
         &rt,
         "array",
         b"%%MatrixMarket matrix array integer general\n1 1\n5\n",
     )?;
-    expect_refused(
-        &rt,
-        &answered(&rt, &["rows", "1", array.as_str()])?,
-        "mtx: input 1: InvalidHeader\n",
-        1,
-    );
-    fs::remove_file(&rt, array.as_str())?;
-    Ok(())
-}
-
-#[test]
-fn refused_expressions(rt: HostRuntime) -> Result<(), Fail> {
-    let a = "1 2 2\n1 1 2\n1 2 3\n";
-    for (expression, line) in [
-        ("1 1 *", "mtx: expression: shapes do not fit\n"),
-        ("1 2 *", "mtx: expression: no such input\n"),
-        ("2 1 1 * *", "mtx: expression: no such input\n"),
-        ("1 1 * 2 *", "mtx: expression: shapes do not fit\n"),
-        ("0", "mtx: expression: unknown word\n"),
-        ("1 x", "mtx: expression: unknown word\n"),
-        ("+1", "mtx: expression: unknown word\n"),
-        ("18446744073709551616", "mtx: expression: unknown word\n"),
-        ("1 *", "mtx: expression: operand missing\n"),
-        ("1 * x", "mtx: expression: operand missing\n"),
-        ("", "mtx: expression: operand missing\n"),
-        ("1 2", "mtx: expression: operands left over\n"),
-    ] {
-        expect_refused(&rt, &rows(&rt, expression, &[a])?, line, 1);
-    }
-    Ok(())
-}
-
-#[test]
-fn wrong_usage(rt: HostRuntime) -> Result<(), Fail> {
     let usage = "usage: mtx rows EXPR FILE.. | mtx cols EXPR FILE.. | mtx fill FILE\n";
     let wrong: [&[&str]; 6] = [
         &[],
@@ -230,48 +144,18 @@ fn wrong_usage(rt: HostRuntime) -> Result<(), Fail> {
     for words in wrong {
         expect_refused(&rt, &answered(&rt, words)?, usage, 2);
     }
-    Ok(())
-}
-
-#[test]
-fn want_of_memory(rt: HostRuntime) -> Result<(), Fail> {
-    // The offsets of so many rows can't be had.
-    let tall = rows(&rt, "1", &["18446744073709551615 1 0\n"])?;
-    expect_refused(&rt, &tall, "mtx: out of memory\n", 1);
-    // A width asks for no memory.
-    let wide = rows(
-        &rt,
-        "1",
-        &["1 18446744073709551615 1\n1 18446744073709551615 3\n"],
-    )?;
-    expect_written(
-        &rt,
-        &wide,
-        "1 18446744073709551615 1\n1 18446744073709551615 3\n",
-    )
-}
-
-#[test]
-fn unreadable_files(rt: HostRuntime) -> Result<(), Fail> {
-    let good = matrix(&rt, "good", "0 0 0\n")?;
-    let bad = file(&rt, "bad", &[0xff, 0xfe])?;
     let missing = answered(&rt, &["rows", "1", good.as_str(), "/no/such/file.mtx"])?;
     expect_refused(&rt, &missing, "mtx: input 2: IOError\n", 1);
-    expect_refused(
-        &rt,
-        &answered(&rt, &["rows", "1", bad.as_str()])?,
-        "mtx: input 1: IOError\n",
-        1,
-    );
+    let unread = answered(&rt, &["rows", "1", bad.as_str()])?;
+    expect_refused(&rt, &unread, "mtx: input 1: IOError\n", 1);
     // The expression is read before the files.
-    expect_refused(
-        &rt,
-        &answered(&rt, &["rows", "x", bad.as_str()])?,
-        "mtx: expression: unknown word\n",
-        1,
-    );
+    let unknown = answered(&rt, &["rows", "x", bad.as_str()])?;
+    expect_refused(&rt, &unknown, "mtx: expression: unknown word\n", 1);
+    let dense = answered(&rt, &["rows", "1", array.as_str()])?;
+    expect_refused(&rt, &dense, "mtx: input 1: InvalidHeader\n", 1);
     fs::remove_file(&rt, good.as_str())?;
     fs::remove_file(&rt, bad.as_str())?;
+    fs::remove_file(&rt, array.as_str())?;
     Ok(())
 }
 
