@@ -13,7 +13,7 @@ use std::test::Fail;
 type List<'a, T> = ((usize, usize), &'a [(usize, usize, T)]);
 
 // The offsets, the columns and the values of a matrix.
-type Rows<'a, T> = (&'a [usize], &'a [usize], &'a [T]);
+type Rows<'i, 'v, T> = (&'i [usize], &'i [usize], &'v [T]);
 
 // The list of these triplets; those outside the sizes are left out.
 fn coo<T: Ring>(
@@ -36,7 +36,7 @@ fn csr<T: Ring>(alloc: Global, list: List<'_, T>) -> Result<CsrMatrix<T>, AllocE
 fn expect_rows<T: Ring>(
     rt: &impl Abort,
     matrix: &CsrMatrix<T>,
-    (offsets, columns, values): Rows<'_, T>,
+    (offsets, columns, values): Rows<'_, '_, T>,
 ) {
     assert_eq!(rt; matrix.row_offsets(), offsets);
     assert_eq!(rt; matrix.col_indices(), columns);
@@ -45,17 +45,20 @@ fn expect_rows<T: Ring>(
 
 // The factors of a product, its places and its rows.
 #[derive(Drop)]
-struct Product<'a, T> {
-    factors: [List<'a, T>; 2],
-    places: &'a [(usize, usize)],
-    rows: Rows<'a, T>,
+struct Product<'i, 'v, T> {
+    left: List<'v, T>,
+    right: List<'v, T>,
+    places: &'i [(usize, usize)],
+    rows: Rows<'i, 'v, T>,
 }
 
 // The pattern of the product of two matrices has these places, and is that of their product.
 fn expect_pattern<T: Ring>(
     rt: &impl Abort,
     alloc: Global,
-    [a, b, product]: [&CsrMatrix<T>; 3],
+    a: &CsrMatrix<T>,
+    b: &CsrMatrix<T>,
+    product: &CsrMatrix<T>,
     places: &[(usize, usize)],
 ) -> Result<(), Fail> {
     assert_eq!(rt; a.ncols(), b.nrows());
@@ -69,16 +72,16 @@ fn expect_pattern<T: Ring>(
 fn expect_product<T: Ring>(
     rt: &impl Abort,
     alloc: Global,
-    case: &Product<'_, T>,
+    case: &Product<'_, '_, T>,
 ) -> Result<(), Fail> {
-    let [left, right] = case.factors;
+    let (left, right) = (case.left, case.right);
     let a = csr(alloc, left)?;
     let b = csr(alloc, right)?;
     assert_eq!(rt; a.ncols(), b.nrows());
     let product = mul_csr(alloc, &a, &b)?;
     assert_eq!(rt; (product.nrows(), product.ncols()), (left.0.0, right.0.1));
     expect_rows(rt, &product, case.rows);
-    expect_pattern(rt, alloc, [&a, &b, &product], case.places)
+    expect_pattern(rt, alloc, &a, &b, &product, case.places)
 }
 
 #[test]
@@ -89,7 +92,8 @@ fn a_user_scalar(rt: HostRuntime) -> Result<(), Fail> {
     expect_rows(&rt, &matrix, (&[0, 2], &[0, 1], &[x(10), x(0)]));
     let b: List<'_, Residue7> = ((2, 1), &[(0, 0, x(4)), (1, 0, x(6))]);
     let product = Product {
-        factors: [a, b],
+        left: a,
+        right: b,
         places: &[(0, 0)],
         rows: (&[0, 1], &[0], &[x(5)]),
     };
@@ -103,7 +107,7 @@ fn a_user_scalar(rt: HostRuntime) -> Result<(), Fail> {
 fn triplets_become_rows(rt: HostRuntime) -> Result<(), Fail> {
     let w = W64::new;
     let last = usize::MAX - 1;
-    let cases: [(List<'_, W64>, Rows<'_, W64>); 3] = [
+    let cases: [(List<'_, W64>, Rows<'_, '_, W64>); 3] = [
         (
             (
                 (3, 4),
@@ -164,32 +168,34 @@ fn products(rt: HostRuntime) -> Result<(), Fail> {
     let outer = [w(6), w(9), w(-4), w(-6)];
     let cases = [
         Product {
-            factors: [row, column],
+            left: row,
+            right: column,
             places: &[(0, 0)],
             rows: (&[0, 1], &[0], &[w(0)]),
         },
         Product {
-            factors: [column, row],
+            left: column,
+            right: row,
             places: &[(0, 0), (0, 1), (1, 0), (1, 1)],
             rows: (&[0, 2, 4], &[0, 1, 0, 1], &outer),
         },
         Product {
-            factors: [triangle, triangle],
+            left: triangle,
+            right: triangle,
             places: &[(0, 0), (0, 1), (1, 1)],
             rows: (&[0, 2, 3], &[0, 1, 1], &[w(1), w(8), w(9)]),
         },
         // An inner size of zero.
         Product {
-            factors: [((2, 0), &[]), ((0, 2), &[])],
+            left: ((2, 0), &[]),
+            right: ((0, 2), &[]),
             places: &[],
             rows: (&[0, 0, 0], &[], &[]),
         },
         // The places do not depend on the values.
         Product {
-            factors: [
-                ((2, 2), &[(0, 0, w(0)), (1, 0, w(1)), (1, 1, w(-1))]),
-                ((2, 3), &[(0, 2, w(1)), (0, 0, w(1)), (1, 1, w(1))]),
-            ],
+            left: ((2, 2), &[(0, 0, w(0)), (1, 0, w(1)), (1, 1, w(-1))]),
+            right: ((2, 3), &[(0, 2, w(1)), (0, 0, w(1)), (1, 1, w(1))]),
             places: &[(0, 0), (0, 2), (1, 0), (1, 1), (1, 2)],
             rows: (
                 &[0, 2, 5],
@@ -210,15 +216,14 @@ fn sums_and_products_wrap(rt: HostRuntime) -> Result<(), Fail> {
     let large = w(2147483647);
     let cases = [
         Product {
-            factors: [
-                ((1, 3), &[(0, 0, large), (0, 1, w(1)), (0, 2, w(-1))]),
-                ((3, 1), &[(0, 0, w(1)), (1, 0, w(1)), (2, 0, w(1))]),
-            ],
+            left: ((1, 3), &[(0, 0, large), (0, 1, w(1)), (0, 2, w(-1))]),
+            right: ((3, 1), &[(0, 0, w(1)), (1, 0, w(1)), (2, 0, w(1))]),
             places: &[(0, 0)],
             rows: (&[0, 1], &[0], &[large]),
         },
         Product {
-            factors: [((1, 1), &[(0, 0, large)]), ((1, 1), &[(0, 0, w(2))])],
+            left: ((1, 1), &[(0, 0, large)]),
+            right: ((1, 1), &[(0, 0, w(2))]),
             places: &[(0, 0)],
             rows: (&[0, 1], &[0], &[w(-2)]),
         },
