@@ -11,10 +11,10 @@ use std::test::Fail;
 fn keeps_zero_by_rows<T: Copy + PartialEq>(
     alloc: Global,
     matrix: &CsrMatrix<T>,
-    zero: T,
+    zero: &[T],
 ) -> Result<bool, AllocError> {
     let corner = matrix.filter(alloc, |row, column, _| row == 0 && column == 2)?;
-    Ok(csr_is(&corner, (2, 3, &[0, 1, 1], &[2], &[zero])))
+    Ok(csr_is(&corner, (2, 3, &[0, 1, 1], &[2], zero)))
 }
 
 // Whether the example by rows has these values on its diagonal, nothing else below it, and nothing below that.
@@ -32,10 +32,10 @@ fn triangles_by_rows<T: Copy + PartialEq>(
 #[test]
 fn places_kept_by_rows(rt: HostRuntime) -> Result<(), Fail> {
     let numbers = csr(rt.alloc(), BY_ROWS)?;
-    assert!(rt; keeps_zero_by_rows(rt.alloc(), &numbers, 0)?);
+    assert!(rt; keeps_zero_by_rows(rt.alloc(), &numbers, &[0])?);
     assert!(rt; triangles_by_rows(rt.alloc(), &numbers, &[1, 4])?);
     let wrapping = wrapping_csr(rt.alloc())?;
-    assert!(rt; keeps_zero_by_rows(rt.alloc(), &wrapping, W64::new(0))?);
+    assert!(rt; keeps_zero_by_rows(rt.alloc(), &wrapping, &[W64::new(0)])?);
     assert!(rt; triangles_by_rows(rt.alloc(), &wrapping, &[W64::new(1), W64::new(4)])?);
     Ok(())
 }
