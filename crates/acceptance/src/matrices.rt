@@ -185,6 +185,17 @@ fn products(rt: HostRuntime) -> Result<(), Fail> {
             places: &[(0, 0), (0, 1), (1, 1)],
             rows: (&[0, 2, 3], &[0, 1, 1], &[w(1), w(8), w(9)]),
         },
+    ];
+    for case in &cases {
+        expect_product(&rt, rt.alloc(), case)?;
+    }
+    Ok(())
+}
+
+#[test]
+fn places_of_products(rt: HostRuntime) -> Result<(), Fail> {
+    let w = W64::new;
+    let cases = [
         // An inner size of zero.
         Product {
             left: ((2, 0), &[]),

@@ -1,13 +1,37 @@
 //! The checksum that all measured programs print, so that one can see that their answers agree.
+//!
+//! It is the wrapping sum of a number for each place, which depends on its row, its column and its value.
 
 use nalgebra_sparse::CsrMatrix;
+use nalgebra_sparse::dense::DMatrix;
+use nalgebra_sparse::pattern::SparsityPattern;
 use nalgebra_sparse::scalar::W64;
 
-/// The wrapping sum of a number for each place of the matrix, which depends on its row, its column and its value.
-pub fn checksum(matrix: &CsrMatrix<W64>) -> u64 {
+/// Returns the checksum of a matrix by rows.
+pub fn checksum_of_rows(matrix: &CsrMatrix<W64>) -> u64 {
     let mut sum: u64 = 0;
     for (row, col, value) in matrix.triplet_iter() {
         sum = sum.wrapping_add(mixed(row as u64, col as u64, value.get().cast_unsigned()));
+    }
+    sum
+}
+
+/// Returns the checksum of a dense matrix, zeros included.
+pub fn checksum_of_columns(matrix: &DMatrix<W64>) -> u64 {
+    let mut sum: u64 = 0;
+    for col in 0..matrix.ncols() {
+        for (row, value) in matrix.column(col).iter().enumerate() {
+            sum = sum.wrapping_add(mixed(row as u64, col as u64, value.get().cast_unsigned()));
+        }
+    }
+    sum
+}
+
+/// Returns the checksum of a pattern by columns, with the value one at each place.
+pub fn checksum_of_pattern(pattern: &SparsityPattern) -> u64 {
+    let mut sum: u64 = 0;
+    for (col, row) in pattern.entries() {
+        sum = sum.wrapping_add(mixed(row as u64, col as u64, 1));
     }
     sum
 }

@@ -1,7 +1,9 @@
 //! The program `bench`: times the library's kernels on a Matrix Market file.
 #![tactic(auto)]
 
+mod answer;
 mod checksum;
+mod dense;
 mod measure;
 mod task;
 
@@ -10,7 +12,7 @@ use std::process::ExitCode;
 use std::{env, io};
 use task::Task;
 
-const USAGE: &str = "usage: bench coo2csr|transpose|spgemm FILE REPS";
+const USAGE: &str = "usage: bench coo2csr|transpose|spgemm|spadd|solve|fill FILE REPS";
 
 fn main(rt: HostRuntime) -> io::Result<ExitCode> {
     let mut words = Vec::new(rt.alloc());

@@ -1,11 +1,11 @@
 //! The best of several runs of a task.
 
-use crate::checksum::checksum;
+use crate::answer::Answer;
 use crate::task::{Input, Task};
+use nalgebra_sparse::CooMatrix;
 use nalgebra_sparse::io::{MatrixMarketError, load_coo_from_matrix_market_str};
 use nalgebra_sparse::scalar::W64;
-use nalgebra_sparse::{CooMatrix, CsrMatrix};
-use std::alloc::AllocError;
+use std::alloc::{AllocError, Global};
 use std::rt::Files;
 use std::time::{Clock, Instant};
 use std::{fs, io};
@@ -49,9 +49,11 @@ pub fn measure<R: Files + Clock + AllocGlobal>(
     path: &str,
     reps: usize,
 ) -> Result<Best, Failure> {
-    let input = task.prepare(rt.alloc(), read_list(rt, path)?)?;
+    let Some(input) = task.prepare(rt.alloc(), read_list(rt, task, path)?)? else {
+        return Err(Failure::NotSquare);
+    };
     let (mut nanoseconds, answer) = timed(rt, &input)?;
-    let (checksum, places) = (checksum(&answer), answer.nnz());
+    let (checksum, places) = (answer.checksum(), answer.places());
     drop(answer);
     for _ in 1..reps {
         let (run, _) = timed(rt, &input)?;
@@ -64,19 +66,42 @@ pub fn measure<R: Files + Clock + AllocGlobal>(
     })
 }
 
-// The list in a file. Its text is dropped before anything is timed.
-fn read_list<R: Files + AllocGlobal>(rt: &R, path: &str) -> Result<CooMatrix<W64>, Failure> {
+// The list in a file, of a pattern with ones as its values. Its text is dropped before anything is timed.
+fn read_list<R: Files + AllocGlobal>(
+    rt: &R,
+    task: Task,
+    path: &str,
+) -> Result<CooMatrix<W64>, Failure> {
     let text = fs::read_to_string(rt, path)?;
+    if task == Task::Fill
+        && let Ok(places) = load_coo_from_matrix_market_str::<()>(rt.alloc(), text.as_str())
+    {
+        return Ok(ones_at(rt.alloc(), &places)?);
+    }
     Ok(load_coo_from_matrix_market_str(rt.alloc(), text.as_str())?)
 }
 
-// One run: its nanoseconds, and the answer.
-fn timed<R: Clock + AllocGlobal>(rt: &R, input: &Input) -> Result<(u128, CsrMatrix<W64>), Failure> {
+// The places of a list, each with the value one.
+fn ones_at(alloc: Global, places: &CooMatrix<()>) -> Result<CooMatrix<W64>, AllocError> {
+    let mut ones: CooMatrix<W64> = CooMatrix::new(alloc, places.nrows(), places.ncols());
+    ones.reserve(places.nnz())?;
+    for (row, col, _) in places.triplet_iter() {
+        // Always so: the places of a list lie inside its sizes. The test spares the proof an invariant.
+        if row < ones.nrows() && col < ones.ncols() {
+            ones.push(row, col, W64::new(1))?;
+        }
+    }
+    Ok(ones)
+}
+
+// One run: its nanoseconds, and the answer. What the run uses up is copied before it is timed.
+fn timed<R: Clock + AllocGlobal>(rt: &R, input: &Input) -> Result<(u128, Answer), Failure> {
+    let run = input.run(rt.alloc())?;
     let start = Instant::now(rt)?;
-    let answer = input.answer(rt.alloc())?;
+    let answer = run.answer(rt.alloc())?;
     let time = start.elapsed(rt)?;
     match answer {
-        Some(matrix) => Ok((time.as_nanos(), matrix)),
+        Some(answer) => Ok((time.as_nanos(), answer)),
         None => Err(Failure::NotSquare),
     }
 }

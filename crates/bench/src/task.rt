@@ -1,10 +1,19 @@
 //! What is timed.
 
-use nalgebra_sparse::convert::serial::convert_coo_csr;
-use nalgebra_sparse::ops::serial::mul_csr;
+use crate::answer::Answer;
+use crate::dense::dense_matrix;
+use nalgebra_sparse::convert::serial::{convert_coo_csc, convert_coo_csr};
+use nalgebra_sparse::dense::DMatrix;
+use nalgebra_sparse::factorization::CscSymbolicCholesky;
+use nalgebra_sparse::ops::Op;
+use nalgebra_sparse::ops::serial::{add_csc, add_csr, mul_csr, spsolve_csc_lower_triangular};
+use nalgebra_sparse::pattern::SparsityPattern;
 use nalgebra_sparse::scalar::W64;
-use nalgebra_sparse::{CooMatrix, CsrMatrix};
+use nalgebra_sparse::{CooMatrix, CscMatrix, CsrMatrix};
 use std::alloc::{AllocError, Global};
+
+// How many columns are solved for at once.
+const SOLVED_COLUMNS: usize = 4;
 
 /// A kernel of the library.
 #[derive(Clone, Copy, Debug, PartialEq, Eq)]
@@ -15,36 +24,84 @@ pub enum Task {
     Transpose,
     /// The product of a square matrix with itself.
     Spgemm,
+    /// The sum of a square matrix and its transpose.
+    Spadd,
+    /// The lower triangle of a square matrix, with ones on its diagonal, solved for four columns.
+    Solve,
+    /// The pattern of the Cholesky factor.
+    Fill,
 }
 
 impl Task {
-    /// The task of this name.
+    /// Returns the task of this name.
     pub fn from_word(word: &str) -> Option<Task> {
         match word {
             "coo2csr" => Some(Task::CooToCsr),
             "transpose" => Some(Task::Transpose),
             "spgemm" => Some(Task::Spgemm),
+            "spadd" => Some(Task::Spadd),
+            "solve" => Some(Task::Solve),
+            "fill" => Some(Task::Fill),
             _ => None,
         }
     }
 
-    /// The name of the task.
+    /// Returns the name of the task.
     pub fn word(self) -> &'static str {
         match self {
             Task::CooToCsr => "coo2csr",
             Task::Transpose => "transpose",
             Task::Spgemm => "spgemm",
+            Task::Spadd => "spadd",
+            Task::Solve => "solve",
+            Task::Fill => "fill",
         }
     }
 
-    /// What the task works on: the list, or the matrix of the list.
-    pub fn prepare(self, alloc: Global, coo: CooMatrix<W64>) -> Result<Input, AllocError> {
+    /// Returns what the task works on, or `None` if the matrix has to be square and is not.
+    pub fn prepare(self, alloc: Global, coo: CooMatrix<W64>) -> Result<Option<Input>, AllocError> {
+        if coo.nrows() != coo.ncols() && self.asks_square() {
+            return Ok(None);
+        }
         match self {
-            Task::CooToCsr => Ok(Input::List(coo)),
-            Task::Transpose => Ok(Input::Transposed(convert_coo_csr(alloc, &coo)?)),
-            Task::Spgemm => Ok(Input::Squared(convert_coo_csr(alloc, &coo)?)),
+            Task::CooToCsr => Ok(Some(Input::List(coo))),
+            Task::Transpose => Ok(Some(Input::Transposed(convert_coo_csr(alloc, &coo)?))),
+            Task::Spgemm => Ok(Some(Input::Squared(convert_coo_csr(alloc, &coo)?))),
+            Task::Spadd => {
+                let csr = convert_coo_csr(alloc, &coo)?;
+                let transposed = csr.transpose(alloc)?;
+                Ok(Some(Input::Added(csr, transposed)))
+            }
+            Task::Solve => {
+                let Some(lower) = unit_lower(alloc, &convert_coo_csc(alloc, &coo)?)? else {
+                    return Ok(None);
+                };
+                let right_sides = dense_matrix(alloc, coo.nrows(), SOLVED_COLUMNS)?;
+                Ok(Some(Input::Solved(lower, right_sides)))
+            }
+            Task::Fill => {
+                let (pattern, _) = convert_coo_csc(alloc, &coo)?.into_pattern_and_values();
+                Ok(Some(Input::Factored(pattern)))
+            }
         }
     }
+
+    fn asks_square(self) -> bool {
+        match self {
+            Task::CooToCsr | Task::Transpose => false,
+            Task::Spgemm | Task::Spadd | Task::Solve | Task::Fill => true,
+        }
+    }
+}
+
+// Returns the places of a square matrix below the diagonal, and ones on it, or `None` if it is not square.
+fn unit_lower(alloc: Global, csc: &CscMatrix<W64>) -> Result<Option<CscMatrix<W64>>, AllocError> {
+    let below = csc.filter(alloc, |i, j, _value| i > j)?;
+    let ones: CscMatrix<W64> = CscMatrix::identity(alloc, csc.nrows())?;
+    if below.nrows() != ones.nrows() || below.ncols() != ones.ncols() {
+        return Ok(None);
+    }
+    Ok(Some(add_csc(alloc, &below, &ones)?))
 }
 
 /// What a task works on.
@@ -53,20 +110,73 @@ pub enum Input {
     List(CooMatrix<W64>),
     Transposed(CsrMatrix<W64>),
     Squared(CsrMatrix<W64>),
+    Added(CsrMatrix<W64>, CsrMatrix<W64>),
+    Solved(CscMatrix<W64>, DMatrix<W64>),
+    Factored(SparsityPattern),
 }
 
 impl Input {
-    /// The answer of the task, or nothing where the matrix has to be square and isn't.
-    pub fn answer(&self, alloc: Global) -> Result<Option<CsrMatrix<W64>>, AllocError> {
+    /// Returns one run of the task, with copies of what it uses up.
+    pub fn run(&self, alloc: Global) -> Result<Run<'_>, AllocError> {
         match self {
-            Input::List(coo) => Ok(Some(convert_coo_csr(alloc, coo)?)),
-            Input::Transposed(csr) => Ok(Some(csr.transpose(alloc)?)),
-            Input::Squared(csr) => {
+            Input::List(coo) => Ok(Run::Compress(coo)),
+            Input::Transposed(csr) => Ok(Run::Transpose(csr)),
+            Input::Squared(csr) => Ok(Run::Square(csr)),
+            Input::Added(a, b) => Ok(Run::Add(a, b)),
+            Input::Solved(lower, right_sides) => Ok(Run::Solve(lower, right_sides.clone(alloc)?)),
+            Input::Factored(pattern) => Ok(Run::Factor(pattern.clone(alloc)?)),
+        }
+    }
+}
+
+/// One run of a task.
+#[derive(Drop)]
+pub enum Run<'a> {
+    Compress(&'a CooMatrix<W64>),
+    Transpose(&'a CsrMatrix<W64>),
+    Square(&'a CsrMatrix<W64>),
+    Add(&'a CsrMatrix<W64>, &'a CsrMatrix<W64>),
+    Solve(&'a CscMatrix<W64>, DMatrix<W64>),
+    Factor(SparsityPattern),
+}
+
+impl<'a> Run<'a> {
+    /// Returns the answer, or `None` if the sizes do not fit.
+    pub fn answer(self, alloc: Global) -> Result<Option<Answer>, AllocError> {
+        match self {
+            Run::Compress(coo) => Ok(Some(Answer::Rows(convert_coo_csr(alloc, coo)?))),
+            Run::Transpose(csr) => Ok(Some(Answer::Rows(csr.transpose(alloc)?))),
+            Run::Square(csr) => {
                 if csr.nrows() != csr.ncols() {
                     return Ok(None);
                 }
-                Ok(Some(mul_csr(alloc, csr, csr)?))
+                Ok(Some(Answer::Rows(mul_csr(alloc, csr, csr)?)))
+            }
+            Run::Add(a, b) => {
+                if a.nrows() != b.nrows() || a.ncols() != b.ncols() {
+                    return Ok(None);
+                }
+                Ok(Some(Answer::Rows(add_csr(alloc, a, b)?)))
+            }
+            Run::Solve(lower, right_sides) => Ok(solved(lower, right_sides)),
+            Run::Factor(pattern) => {
+                if pattern.major_dim() != pattern.minor_dim() {
+                    return Ok(None);
+                }
+                let factor = CscSymbolicCholesky::factor(alloc, pattern)?;
+                Ok(Some(Answer::Factor(factor)))
             }
         }
+    }
+}
+
+// Returns the solution, or `None` if the sizes do not fit or the matrix is singular.
+fn solved(lower: &CscMatrix<W64>, mut right_sides: DMatrix<W64>) -> Option<Answer> {
+    if lower.nrows() != lower.ncols() || right_sides.nrows() != lower.ncols() {
+        return None;
+    }
+    match spsolve_csc_lower_triangular(Op::NoOp(lower), &mut right_sides) {
+        Ok(()) => Some(Answer::Dense(right_sides)),
+        Err(_) => None,
     }
 }

@@ -11,6 +11,14 @@ pub use Rattle.sparse_algebra.specs.RingMaps
 pub use Rattle.sparse_algebra.specs.Sums
 pub use Rattle.sparse_algebra.specs.Whole
 pub use Rattle.sparse_algebra.specs.Wrapping
+-- inverses, residues, wide wrapping integers
+pub use Rattle.sparse_units.specs.Inverses
+pub use Rattle.sparse_units.specs.ModNumbers
+pub use Rattle.sparse_units.specs.Moduli
+pub use Rattle.sparse_units.specs.WrappingValues
+-- operands and the errors of operations
+pub use Rattle.sparse_op.specs.Operands
+pub use Rattle.sparse_op.specs.Prealloc
 -- counting by keys
 pub use Rattle.sparse_counting.specs.Counting
 -- patterns, format errors and entries
@@ -32,7 +40,9 @@ pub use Rattle.sparse_base.specs.DenseEquality
 pub use Rattle.sparse_base.specs.DenseLending
 pub use Rattle.sparse_base.specs.DensePlain
 pub use Rattle.sparse_base.specs.TripletFaults
--- compressed matrices, their lanes and entries
+-- the core of CSR and CSC
+pub use Rattle.sparse_cs.specs.ChangedValues
+pub use Rattle.sparse_cs.specs.ColumnOrder
 pub use Rattle.sparse_cs.specs.Compressed
 pub use Rattle.sparse_cs.specs.Filter
 pub use Rattle.sparse_cs.specs.LaneEquality
@@ -41,35 +51,53 @@ pub use Rattle.sparse_cs.specs.Laws
 pub use Rattle.sparse_cs.specs.Left
 pub use Rattle.sparse_cs.specs.PlainOfLanes
 pub use Rattle.sparse_cs.specs.SortedFaults
+pub use Rattle.sparse_cs.specs.Standing
 pub use Rattle.sparse_cs.specs.StoredEntries
 pub use Rattle.sparse_cs.specs.TransposedMatrix
 pub use Rattle.sparse_cs.specs.UnsortedFaults
 pub use Rattle.sparse_cs.specs.Writing
--- rows and columns
+-- rows, columns and their iterators
 pub use Rattle.sparse_lanes.specs.ColWriting
 pub use Rattle.sparse_lanes.specs.RowWriting
--- CSR and CSC matrices
+-- CSR and CSC
 pub use Rattle.sparse_forms.specs.CscWriting
 pub use Rattle.sparse_forms.specs.CsrWriting
 -- conversions
 pub use Rattle.sparse_convert.specs.FromDense
 pub use Rattle.sparse_convert.specs.OneMatrix
 pub use Rattle.sparse_convert.specs.ToDense
--- operations
+-- data structs
+pub use Rattle.sparse_data.specs.DataStructs
+-- sums and differences
+pub use Rattle.sparse_sums.specs.PatternSums
+-- products
 pub use Rattle.sparse_ops.specs.Products
--- the grammar and the meaning of Matrix Market texts
+-- triangular systems and division
+pub use Rattle.sparse_solve.specs.Quotients
+pub use Rattle.sparse_solve.specs.Solutions
+-- the symbolic factor
+pub use Rattle.sparse_factor.specs.Fill
+pub use Rattle.sparse_factor.specs.Symbolic
+pub use Rattle.sparse_factor.specs.Walks
+-- Matrix Market texts: grammar and meaning
+pub use Rattle.sparse_parser.specs.ArrayPlaces
 pub use Rattle.sparse_parser.specs.Bytes
 pub use Rattle.sparse_parser.specs.Errors
 pub use Rattle.sparse_parser.specs.Grammar
 pub use Rattle.sparse_parser.specs.Header
 pub use Rattle.sparse_parser.specs.Meaning
+pub use Rattle.sparse_parser.specs.Reads
+pub use Rattle.sparse_parser.specs.Scalars
 pub use Rattle.sparse_parser.specs.Words
--- sinks and written texts
+-- reading and writing
 pub use Rattle.sparse_io.specs.Export
+pub use Rattle.sparse_io.specs.IntegerTexts
 pub use Rattle.sparse_io.specs.Out
+pub use Rattle.sparse_io.specs.ScalarTypes
 pub use Rattle.sparse_io.specs.Sink
 pub use Rattle.sparse_io.specs.Written
--- expressions and `run`
+-- expressions
+pub use Rattle.sparse_expr.specs.OneTree
 pub use Rattle.sparse_expr.specs.PostfixWords
 pub use Rattle.sparse_expr.specs.Run
 pub use Rattle.sparse_expr.specs.Value

@@ -10,9 +10,9 @@ pub mod patterns {
     pub use sparse_pattern::pattern::one_first_fault;
 }
 
-/// Matrix Market texts: a text has one meaning.
+/// Matrix Market texts: a text is at most one document, has one meaning, and means what was written.
 pub mod texts {
-    pub use sparse_io::one_meaning;
+    pub use sparse_io::{each_text_means, one_document, one_meaning, round_trip};
 }
 
 /// The algebra of plain matrices.
@@ -21,3 +21,11 @@ pub use sparse_algebra::laws as plain;
 pub use sparse_algebra::laws::whole as wrapping;
 /// Compressed matrices: `==`, places, transposes, kept places, row order.
 pub use sparse_cs::laws as compressed;
+/// Data structs: what is copied out is taken back as an equal value.
+pub use sparse_data::laws as data;
+/// Expressions: words say one tree.
+pub use sparse_expr::laws as expressions;
+/// Operations: the product distributes over sums, its transpose is the product of the transposes, the identity is neutral.
+pub use sparse_ops::laws as operations;
+/// Triangular systems: a solution is unique.
+pub use sparse_solve::laws as systems;

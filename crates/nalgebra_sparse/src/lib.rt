@@ -4,17 +4,19 @@
 #![tactic(auto)]
 
 pub mod laws;
+pub mod ops;
+pub mod scalar;
 
-pub use sparse_algebra::scalar;
 pub use sparse_base::coo::CooMatrix;
 pub use sparse_base::{coo, dense};
 pub use sparse_convert as convert;
+pub use sparse_data as data;
 pub use sparse_expr as expr;
+pub use sparse_factor::factorization;
 pub use sparse_forms::csc::CscMatrix;
 pub use sparse_forms::csr::CsrMatrix;
 pub use sparse_forms::{csc, csr};
 pub use sparse_io as io;
-pub use sparse_ops as ops;
 pub use sparse_pattern::entry::{SparseEntry, SparseEntryMut};
 pub use sparse_pattern::error::{SparseFormatError, SparseFormatErrorKind};
 pub use sparse_pattern::pattern;

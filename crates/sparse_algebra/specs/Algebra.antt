@@ -1,4 +1,4 @@
--- Commutative rings, as algebra has them.
+-- Commutative rings.
 use Rattle.std.specs.Prelude.{◌≡◌}
 
 pub record RingLaws {C : Type 0} (zero one : C) (add mul : C → C → C) (neg : C → C) : Type 0 where

@@ -1,4 +1,4 @@
--- A type with a test `eq`, and operations that keep the ring laws up to it: its classes are a commutative ring.
+-- The quotient of a type by an equivalence `eq` that the ring operations respect. It is a commutative ring.
 use Rattle.std.specs.Prelude.{◌≡◌, Bool, true, ◌↔◌}
 use mathlib.Core.Bool.{Bool-set}
 use mathlib.Core.HProp.{HProp}
@@ -6,7 +6,7 @@ use mathlib.Core.Quot.{Quot, mk, sound, ind, lift, lift_prop, Quot-set}
 use Rattle.std.proofs.Common.{subst}
 use Rattle.sparse_algebra.specs.Algebra.{RingLaws, CommRing}
 
--- the ring laws up to `eq`, which is an equivalence that the operations keep
+-- the ring laws up to `eq`, which is an equivalence that the operations respect
 pub record LawsUpTo {C : Type 0} (eq : C → C → Bool) (zero one : C) (add mul : C → C → C) (neg : C → C) : Type 0 where
   pub reflexive : (x : C) → eq x x ≡ true
   pub symmetric : (x y : C) → eq x y ≡ true → eq y x ≡ true
@@ -52,7 +52,7 @@ module _ {C : Type 0} {eq : C → C → Bool} {zero one : C} {add mul : C → C 
   abbrev pub class_mul : Class → Class → Class
   class_mul = class_map2 mul l.mul_same
 
-  -- two functions of classes agree where they agree at the classes of elements
+  -- two functions on classes are equal if they agree on the class of each element
   same_one : (f g : Class → Class) → ((a : C) → f (class a) ≡ g (class a)) → (p : Class) → f p ≡ g p
   same_one f g h p = ind {β = λ p. f p ≡ g p} (λ p. class_set (f p) (g p)) h p
 
@@ -83,7 +83,7 @@ module _ {C : Type 0} {eq : C → C → Bool} {zero one : C} {add mul : C → C 
   rel_to : C → Class → HProp {0}
   rel_to a = lift_prop (λ x. (eq a x ≡ true, Bool-set (eq a x) true)) (λ x y p. (λ h. l.transitive a x y h p, λ h. l.transitive a y x h (l.symmetric x y p)))
 
-  -- `eq` answers whether the classes are one
+  -- `eq` decides whether two elements have the same class
   pub class_decides : (x y : C) → (eq x y ≡ true) ↔ (class x ≡ class y)
   unfolding rel_to
   class_decides x y = (λ e. sound e, λ e. subst (λ q. (rel_to x q).0) e (l.reflexive x))

@@ -1,4 +1,4 @@
--- The whole number that a wrapping integer shows.
+-- The integer that represents a wrapping integer.
 use Rattle.std.specs.Prelude.{ℤ}
 use Rattle.sparse_algebra.specs.declared.scalar.wrapping.W32.{W32}
 use Rattle.sparse_algebra.specs.declared.scalar.wrapping.W64.{W64}

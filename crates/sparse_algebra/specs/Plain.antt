@@ -4,7 +4,7 @@ use Rattle.std.specs.List.{list_any, flat_map}
 use Rattle.sparse_algebra.specs.Algebra.{CommRing}
 use Rattle.sparse_algebra.specs.Sums.{sum_by, sum_below, where_true}
 
--- two sizes, the test whether a pair is a place, and the value at each pair
+-- the shape, the test whether a pair is a place, and the value at each pair
 pub record Plain (R : CommRing) : Type 0 where
   pub rows : ℕ
   pub cols : ℕ
@@ -21,7 +21,7 @@ abbrev pub is_at : {T : Type 0} → ℕ → ℕ → ℕ × ℕ × T → Bool
 is_at i j t = nat_eq t.0 i && nat_eq t.1 j
 
 module _ (R : CommRing) where
-  -- the plain matrix of a list of triplets: its places are the pairs that occur, and its value at a pair is the sum over the triplets at that pair
+  -- the plain matrix of a list of triplets: its places are the pairs that occur, and its value at a pair is the sum over the triplets there
   abbrev pub plain_of_triplets : {T : Type 0} → (T → R.Carrier) → ℕ → ℕ → List (ℕ × ℕ × T) → Plain R
   plain_of_triplets f rows cols ts = record {
     rows = rows;
@@ -30,7 +30,7 @@ module _ (R : CommRing) where
     value = λ i j. sum_by R (λ t. where_true R (is_at i j t) (f t.2)) ts;
   }
 
-  -- union of the places, and values added
+  -- the union of the places, and the sums of the values
   abbrev pub plain_sum : Plain R → Plain R → Plain R
   plain_sum a b = record {
     rows = a.rows;
@@ -39,7 +39,7 @@ module _ (R : CommRing) where
     value = λ i j. R.add (a.value i j) (b.value i j);
   }
 
-  -- the same places, and values negated
+  -- the same places, and the negated values
   abbrev pub plain_negation : Plain R → Plain R
   plain_negation a = record { rows = a.rows; cols = a.cols; has = a.has; value = λ i j. R.neg (a.value i j) }
 
@@ -49,7 +49,7 @@ module _ (R : CommRing) where
   abbrev pub plain_scaled : R.Carrier → Plain R → Plain R
   plain_scaled s a = record { rows = a.rows; cols = a.cols; has = a.has; value = λ i j. R.mul s (a.value i j) }
 
-  -- (i, j) is a place where some k has (i, k) in a and (k, j) in b, and its value is the sum over all k below the shared size
+  -- (i, j) is a place if for some k, (i, k) is one of a and (k, j) one of b; the value is the sum over all k below the inner dimension
   abbrev pub plain_product : Plain R → Plain R → Plain R
   plain_product a b = record {
     rows = a.rows;
@@ -69,7 +69,7 @@ module _ (R : CommRing) where
     value = λ i j. where_true R (nat_eq i j && nat_lt i n) R.one;
   }
 
-  -- the places that the test keeps, with their values
+  -- the places that pass the test, with their values
   abbrev pub plain_kept : (ℕ → ℕ → Bool) → Plain R → Plain R
   plain_kept test a = record {
     rows = a.rows;
@@ -78,19 +78,19 @@ module _ (R : CommRing) where
     value = λ i j. where_true R (a.has i j && test i j) (a.value i j);
   }
 
--- a pair that is no place has the value zero
+-- the value is zero at each pair that is not a place
 abbrev pub IsProper : {R : CommRing} → Plain R → Type 0
 IsProper {R} a = (i j : ℕ) → a.has i j ≡ false → a.value i j ≡ R.zero
 
--- each place is inside the sizes
+-- each place lies within the shape
 abbrev pub IsWithin : {R : CommRing} → Plain R → Type 0
 IsWithin {R} a = (i j : ℕ) → a.has i j ≡ true → (i < a.rows) × (j < a.cols)
 
--- the numbers below n, rising
+-- the numbers below n, increasing
 abbrev pub below : ℕ → List ℕ
 below zero = []
 below (suc n) = below n ++ n ∷ []
 
--- the places of a plain matrix with their values, row after row, columns rising
+-- the places of a plain matrix with their values, row by row, columns increasing
 abbrev pub row_order : (R : CommRing) → Plain R → List (ℕ × ℕ × R.Carrier)
 row_order R a = flat_map (λ i. flat_map (λ j. if a.has i j then (i, j, a.value i j) ∷ [] else []) (below a.cols)) (below a.rows)

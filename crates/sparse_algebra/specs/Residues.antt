@@ -1,4 +1,4 @@
--- The numbers modulo m, as a commutative ring.
+-- The integers modulo m, as a commutative ring.
 use Rattle.std.specs.Prelude.{◌≡◌, ℕ, ◌+◌, ◌-◌, ◌*◌, ◌%◌, ◌/◌, ◌<◌}
 use Rattle.std.proofs.Common.{sym, ap, ◌∙◌, arith}
 use Rattle.std.proofs.Math.Nat.{ℕ_set, mod-lt, mod-eq_of_lt, mod-add-mod, add-mod-mod, mod-add-div, add-mul-mod_self_left, mod_self}
@@ -27,7 +27,7 @@ pub mul-mod_left : (a b m : ℕ) → ((a % m) * b) % m ≡ (a * b) % m
 mul-mod_left a b m = ap (λ x. x % m) (omega arith) ∙ mul-mod_right b a m ∙ ap (λ x. x % m) (omega arith)
 
 module _ (m : ℕ) (some : 0 < m) where
-  -- the class of n
+  -- the residue class of n
   abbrev pub residue : ℕ → Residue m
   residue n = record { number = n % m; below = mod-lt n some }
 

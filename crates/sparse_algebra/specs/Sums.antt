@@ -7,12 +7,12 @@ abbrev pub sum_below : (R : CommRing) → ℕ → (ℕ → R.Carrier) → R.Carr
 sum_below R zero f = R.zero
 sum_below R (suc n) f = R.add (sum_below R n f) (f n)
 
--- f of each element, added up
+-- the sum of f over the elements of a list
 abbrev pub sum_by : (R : CommRing) {X : Type 0} → (X → R.Carrier) → List X → R.Carrier
 sum_by R f [] = R.zero
 sum_by R f (x ∷ xs) = R.add (f x) (sum_by R f xs)
 
--- c where the test holds, else zero
+-- c if the test holds, otherwise zero
 abbrev pub where_true : (R : CommRing) → Bool → R.Carrier → R.Carrier
 where_true R true c = c
 where_true R false c = R.zero

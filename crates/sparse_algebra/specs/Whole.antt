@@ -1,4 +1,4 @@
--- The ring of whole numbers, and what a wrapping type shows of them.
+-- The ring of integers, and its relation to the wrapping integers.
 use Rattle.std.specs.Prelude.{◌≡◌, ℕ, ◌+◌, ◌*◌, ◌^◌, ℤ, pos, ◌+ℤ◌, ◌*ℤ◌}
 use Rattle.std.specs.Int.{Width, cast_signed, int_wrap}
 use Rattle.std.specs.Int.RustNames.{FitsSigned}
@@ -44,26 +44,26 @@ whole_laws = record {
   distrib = whole_distrib;
 }
 
--- the whole numbers
+-- the ring of integers
 abbrev pub whole_ring : CommRing
 whole_ring = record { Carrier = ℤ; zero = pos 0; one = pos 1; add = ◌+ℤ◌; mul = ◌*ℤ◌; neg = neg_ℤ; laws = whole_laws }
 
--- the element that a whole number wraps to
+-- the class of an integer
 abbrev pub wrapped : (w : Width) → ℤ → Residue (2 ^ bits w)
 wrapped w z = class_of w (int_wrap w z)
 
--- the number in signed form that stands for an element
+-- the signed representative of a class
 abbrev pub number_of : (w : Width) → Residue (2 ^ bits w) → ℤ
 number_of w c = cast_signed w c.number
 
--- each entry wrapped
+-- each entry reduced to its class
 abbrev pub plain_wrapped : (w : Width) → Plain whole_ring → Plain (wrapping_ring w)
 plain_wrapped w a = plain_map (wrapped w) a
 
--- each entry as a number in signed form
+-- the signed representative of each entry
 abbrev pub plain_numbers : (w : Width) → Plain (wrapping_ring w) → Plain whole_ring
 plain_numbers w a = plain_map (number_of w) a
 
--- where the whole number at a pair fits, it is the number that the wrapping matrix has there
+-- if the integer at a pair fits the signed range, it is the signed representative of the entry there
 abbrev pub Shows : (w : Width) → Plain (wrapping_ring w) → Plain whole_ring → Type 0
 Shows w a z = (i j : ℕ) → FitsSigned w (z.value i j) → number_of w (a.value i j) ≡ z.value i j

@@ -1,4 +1,4 @@
--- A signed number of w bits, read as its class modulo 2 ^ bits w.
+-- A signed number of w bits, read as its residue class modulo 2 ^ bits w.
 use Rattle.std.specs.Prelude.{◌≡◌, ℕ, ℤ, pos, ◌+◌, ◌-◌, ◌*◌, ◌%◌, ◌^◌, ◌<◌, ◌↔◌, true}
 use Rattle.std.specs.Int.{Width, cast_unsigned, cast_signed, int_wrapping_add, int_wrapping_mul, int_wrapping_neg}
 use Rattle.std.specs.Int.RustNames.{FitsSigned}
@@ -19,14 +19,14 @@ wrapping_ring w = residues (2 ^ bits w) (pow_pos (bits w))
 abbrev pub class_of : (w : Width) → ℤ → Residue (2 ^ bits w)
 class_of w z = residue (2 ^ bits w) (pow_pos (bits w)) (cast_unsigned w z)
 
--- a number below 2 ^ bits w, read as signed, has its class
+-- a number below 2 ^ bits w and its signed reading have the same class
 pub class_of_bits : (w : Width) (n : ℕ)
     → class_of w (cast_signed w (n % 2 ^ bits w)) ≡ residue (2 ^ bits w) (pow_pos (bits w)) n
 class_of_bits w n =
     let small : n % 2 ^ bits w < 2 ^ bits w = mod-lt n (pow_pos (bits w)) in
     same_class (2 ^ bits w) (pow_pos (bits w)) _ _ (ap (λ x. x % 2 ^ bits w) (of_z-to_z w (n % 2 ^ bits w) small) ∙ mod-mod n (2 ^ bits w))
 
--- what fits is below 2 ^ bits w as bits
+-- the bits of a number in the signed range are below 2 ^ bits w
 pub unsigned_below : (w : Width) (z : ℤ) → FitsSigned w z → cast_unsigned w z < 2 ^ bits w
 unsigned_below w z f = (Fits-of_z f).fits
 

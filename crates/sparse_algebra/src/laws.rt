@@ -1,4 +1,4 @@
-//! Laws of plain matrices, each the contract of a function that does nothing.
+//! Laws of plain matrices. Each is stated as the postcondition of an empty function.
 
 ghost use Rattle.std.specs.Prelude.{◌≡◌, ℕ, ◌<◌, Bool, List, All};
 ghost use Rattle.std.specs.List.Sorted.{IsPermutation};
@@ -8,19 +8,19 @@ pub mod whole;
 
 use crate::scalar::Ring;
 
-/// Triplets in any order give one plain matrix.
+/// The plain matrix of a list of triplets does not depend on their order.
 pub fn order_law<T: Ring>()
     ensures { (rows cols : ℕ) (xs ys : List (ℕ × ℕ × T))
         → IsPermutation xs ys → plain_of_triplets T.ring T.value rows cols xs ≡ plain_of_triplets T.ring T.value rows cols ys }
 {}
 
-/// A product of three is the same, places and values, whichever two are multiplied first.
+/// Products are associative: `(a * b) * c` and `a * (b * c)` have the same places and the same values.
 pub fn product_associative_law<T: Ring>()
     ensures { (a b c : Plain T.ring)
         → plain_product T.ring (plain_product T.ring a b) c ≡ plain_product T.ring a (plain_product T.ring b c) }
 {}
 
-/// Products distribute over sums, places and values, on both sides.
+/// Products distribute over sums on both sides, in places and values.
 pub fn product_distributes_law<T: Ring>()
     ensures right { (a b c : Plain T.ring)
         → plain_product T.ring a (plain_sum T.ring b c) ≡ plain_sum T.ring (plain_product T.ring a b) (plain_product T.ring a c) }
@@ -36,12 +36,12 @@ pub fn transpose_product_law<T: Ring>()
         → plain_transpose T.ring (plain_product T.ring a b) ≡ plain_product T.ring (plain_transpose T.ring b) (plain_transpose T.ring a) }
 {}
 
-/// A matrix transposed twice is itself.
+/// The transpose of the transpose of a matrix is the matrix itself.
 pub fn transpose_twice_law<T: Ring>()
     ensures { (a : Plain T.ring) → plain_transpose T.ring (plain_transpose T.ring a) ≡ a }
 {}
 
-/// The identity of the fitting size changes nothing, places and values, on both sides.
+/// A product with the identity of the matching size is the other factor, in places and values.
 pub fn identity_product_law<T: Ring>()
     ensures left { (a : Plain T.ring)
         → IsProper a → IsWithin a → plain_product T.ring (plain_identity T.ring a.rows) a ≡ a }
@@ -49,7 +49,7 @@ pub fn identity_product_law<T: Ring>()
         → IsProper a → IsWithin a → plain_product T.ring a (plain_identity T.ring a.cols) ≡ a }
 {}
 
-/// The value of a pair that is no place is zero in each plain matrix that the operations make.
+/// Every operation on plain matrices gives a matrix whose value is zero at each pair that is not a place.
 pub fn proper_law<T: Ring>()
     ensures triplets { (rows cols : ℕ) (ts : List (ℕ × ℕ × T))
         → IsProper (plain_of_triplets T.ring T.value rows cols ts) }
@@ -66,7 +66,7 @@ pub fn proper_law<T: Ring>()
     ensures kept { (test : ℕ → ℕ → Bool) (a : Plain T.ring) → IsProper (plain_kept T.ring test a) }
 {}
 
-/// Each plain matrix that the operations make has its places inside its sizes.
+/// Every operation on plain matrices gives a matrix whose places all lie within its shape.
 pub fn within_law<T: Ring>()
     ensures triplets { (rows cols : ℕ) (ts : List (ℕ × ℕ × T))
         → All (λ t. (t.0 < rows) × (t.1 < cols)) ts

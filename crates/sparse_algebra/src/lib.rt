@@ -1,4 +1,4 @@
-//! Scalars: types with a zero, commutative rings and wrapping integers; and the laws of plain matrices over them.
+//! Scalar types and the algebra of matrices over them.
 #![tactic(auto)]
 
 pub mod laws;

@@ -8,19 +8,29 @@ pub mod wrapping;
 
 pub use wrapping::{W32, W64};
 
-/// A type with a zero, which a place that isn't stored is read as.
+/// A type with a zero, the value of every place that is not stored.
 pub trait Zero: PartialEq {
     // The value that `zero` gives.
     ghost zero_value: { Self };
 
+    /// Returns zero.
     fn zero() -> Self
         ensures { result ≡ zero_value };
 }
 
 /// A commutative ring.
 ///
-/// What a scalar means is an element of `ring`. Two scalars are the same value where they mean the same element, and
-/// `==` answers exactly that.
+/// Each value of the type represents an element of the mathematical ring `ring`, given by `value`. Two values are `==` if and only if they
+/// represent the same element.
+///
+/// # Examples
+///
+/// ```rust
+/// fn negation_cancels() -> bool {
+///     let seven = W64::new(7);
+///     seven.add(seven.neg()) == W64::zero() && seven.mul(W64::one()) == seven
+/// }
+/// ```
 pub trait Ring: Zero + Copy {
     // The commutative ring, with its laws.
     ghost ring: { CommRing };
@@ -28,15 +38,19 @@ pub trait Ring: Zero + Copy {
     // The element that a scalar means.
     ghost value: { Self → ring.Carrier };
 
+    /// Returns one.
     fn one() -> Self
         ensures { value result ≡ ring.one };
 
+    /// Returns the sum.
     fn add(self, other: Self) -> Self
         ensures { value result ≡ ring.add (value self) (value other) };
 
+    /// Returns the product.
     fn mul(self, other: Self) -> Self
         ensures { value result ≡ ring.mul (value self) (value other) };
 
+    /// Returns the additive inverse.
     fn neg(self) -> Self
         ensures { value result ≡ ring.neg (value self) };
 

@@ -1,8 +1,8 @@
--- What a contract sees of a list of triplets.
+-- The value of a coordinate list, as contracts see it.
 use Rattle.std.specs.Prelude.{◌≡◌, ℕ, ◌<◌, List, [], ◌∷◌, ◌++◌, All, length, refl}
 use Rattle.std.specs.Coded.{Coded, code_by, coded×, coded_ℕ, coded_list}
 
--- two sizes, and triplets in order
+-- the shape, and the triplets in order
 pub record Coo (T : Type 0) : Type 0 where
   pub nrows : ℕ
   pub ncols : ℕ
@@ -18,20 +18,20 @@ module _ {T : Type 0} where
   abbrev pub coo_of : ℕ → ℕ → List (ℕ × ℕ × T) → Coo T
   coo_of nrows ncols triplets = record { nrows = nrows; ncols = ncols; triplets = triplets }
 
-  -- the triplets that a list of rows, one of columns and one of values give
+  -- the triplets given by a list of rows, one of columns and one of values
   abbrev pub zip_triplets : List ℕ → List ℕ → List T → List (ℕ × ℕ × T)
   zip_triplets (i ∷ is) (j ∷ js) (v ∷ vs) = (i, j, v) ∷ zip_triplets is js vs
   zip_triplets _ _ _ = []
 
-  -- m with more triplets at its end
+  -- m with more triplets appended
   abbrev pub appended : Coo T → List (ℕ × ℕ × T) → Coo T
   appended m more = coo_of m.nrows m.ncols (m.triplets ++ more)
 
-  -- each triplet lies inside the sizes
+  -- each triplet lies within the shape
   abbrev pub IsInside : Coo T → Type 0
   IsInside m = All (λ t. (t.0 < m.nrows) × (t.1 < m.ncols)) m.triplets
 
-  -- three lists of one length, with indices inside the sizes
+  -- three lists of the same length, with indices within the shape
   pub record AreParts (nrows ncols : ℕ) (rows cols : List ℕ) (values : List T) : Type 0 where
     pub row_count : length rows ≡ length values
     pub col_count : length cols ≡ length values

@@ -1,4 +1,4 @@
--- The answer of `==` on lists of triplets, and its laws.
+-- The result of `==` on coordinate lists, and its laws.
 use Rattle.std.specs.Prelude.{ℕ, Bool, List, map, ◌==◌}
 use Rattle.std.specs.Cmp.{IsPartialEquivalence, IsEquivalence, and_per, on_per, and_equiv, on_equiv, partial_equiv_from_equiv, nat_eq_equiv}
 use Rattle.std.specs.Cmp.Lexicographic.{pointwise, lists_per, lists_equiv}
@@ -15,15 +15,15 @@ module _ {T : Type 0} where
   abbrev pub values_of : Coo T → List T
   values_of m = map (λ t. t.2) m.triplets
 
-  -- the sizes are equal
+  -- the shapes are equal
   abbrev pub coo_sizes_eq : Coo T → Coo T → Bool
   coo_sizes_eq = eq_of_both (on (λ m. m.nrows) ◌==◌) (on (λ m. m.ncols) ◌==◌)
 
-  -- the sizes are equal, and so are the lists of rows and of columns
+  -- the shapes are equal, and so are the lists of rows and of columns
   abbrev pub coo_places_eq : Coo T → Coo T → Bool
   coo_places_eq = eq_of_both (eq_of_both coo_sizes_eq (on rows_of (pointwise ◌==◌))) (on cols_of (pointwise ◌==◌))
 
-  -- the sizes are equal, and so are the lists of rows, of columns and of values
+  -- the shapes are equal, and so are the lists of rows, of columns and of values
   abbrev pub coo_eq : (T → T → Bool) → Coo T → Coo T → Bool
   coo_eq E = eq_of_both coo_places_eq (on values_of (pointwise E))
 

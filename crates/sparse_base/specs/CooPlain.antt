@@ -1,4 +1,4 @@
--- The plain matrix of a list of triplets.
+-- The plain matrix of a coordinate list.
 use Rattle.sparse_algebra.specs.Algebra.{CommRing}
 use Rattle.sparse_algebra.specs.Plain.{Plain, plain_of_triplets}
 use Rattle.sparse_base.specs.Coo.{Coo}

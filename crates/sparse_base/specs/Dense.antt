@@ -1,9 +1,9 @@
--- What a contract sees of a dense matrix.
+-- The value of a dense matrix, as contracts see it.
 use Rattle.std.specs.Prelude.{◌≡◌, ℕ, ◌+◌, ◌*◌, ◌<◌, List, length, slice_index_or, slice_set, slice_range, refl}
 use Rattle.std.specs.Coded.{Coded, code_by, coded×, coded_ℕ, coded_list}
 use Rattle.sparse_pattern.specs.Refill.{refill_from}
 
--- two sizes, and the values column after column
+-- the shape, and the values column by column
 pub record Dense (T : Type 0) : Type 0 where
   pub nrows : ℕ
   pub ncols : ℕ
@@ -16,7 +16,7 @@ module _ {T : Type 0} where
   abbrev pub dense_of : ℕ → ℕ → List T → Dense T
   dense_of nrows ncols values = record { nrows = nrows; ncols = ncols; values = values }
 
-  -- the value at (i, j), or z where none is stored
+  -- the value at (i, j), or z if none is stored
   abbrev pub value_at : Dense T → ℕ → ℕ → T → T
   value_at d i j z = slice_index_or d.values (j * d.nrows + i) z
 
@@ -32,7 +32,7 @@ module _ {T : Type 0} where
   abbrev pub with_column : Dense T → ℕ → List T → Dense T
   with_column d j ws = record d { values = refill_from d.values (j * d.nrows) ws }
 
-  -- a matrix of these sizes that has at each (i, j) inside them this value
+  -- a matrix of this shape with this value at each (i, j) within it
   pub record HasValues (nrows ncols : ℕ) (value : ℕ → ℕ → T → T) (d : Dense T) : Type 0 where
     pub rows : d.nrows ≡ nrows
     pub cols : d.ncols ≡ ncols

@@ -1,4 +1,4 @@
--- The answer of `==` on dense matrices, and its laws.
+-- The result of `==` on dense matrices, and its laws.
 use Rattle.std.specs.Prelude.{Bool, ◌==◌}
 use Rattle.std.specs.Cmp.{IsPartialEquivalence, IsEquivalence, and_per, on_per, and_equiv, on_equiv, partial_equiv_from_equiv, nat_eq_equiv}
 use Rattle.std.specs.Cmp.Lexicographic.{pointwise, lists_per, lists_equiv}
@@ -6,11 +6,11 @@ use Rattle.std.specs.Ordering.{on, eq_of_both}
 use Rattle.sparse_base.specs.Dense.{Dense}
 
 module _ {T : Type 0} where
-  -- the sizes are equal
+  -- the shapes are equal
   abbrev pub dense_sizes_eq : Dense T → Dense T → Bool
   dense_sizes_eq = eq_of_both (on (λ d. d.nrows) ◌==◌) (on (λ d. d.ncols) ◌==◌)
 
-  -- the sizes are equal, and so are the values at equal places
+  -- the shapes are equal, and so are the values at each place
   abbrev pub dense_eq : (T → T → Bool) → Dense T → Dense T → Bool
   dense_eq E = eq_of_both dense_sizes_eq (on (λ d. d.values) (pointwise E))
 

@@ -1,24 +1,24 @@
--- The faults of triplets that are given as three lists, and their order.
+-- The faults of triplets given as three lists, and their order.
 use Rattle.std.specs.Prelude.{◌≡◌, ◌≢◌, ℕ, ◌≤◌, ◌⊎◌, List, Any, length}
 use Rattle.sparse_pattern.specs.FirstFault.{IsFirst}
 use Rattle.sparse_pattern.specs.declared.error.SparseFormatErrorKind.{SparseFormatErrorKind}
 use Rattle.sparse_pattern.specs.declared.error.SparseFormatErrorKind.TheVariants.{InvalidStructure, IndexOutOfBounds}
 
--- where a fault can be: rows against columns in number, columns against values in number, the bounds of the rows, those of the columns
+-- where a fault can occur: the number of rows against columns, of columns against values, the bounds of the rows, those of the columns
 pub data TripletSpot : Type 0 where
   ColCount : TripletSpot
   ValueCount : TripletSpot
   RowBounds : TripletSpot
   ColBounds : TripletSpot
 
--- rows, columns and a number of values have a fault at this spot
+-- rows, columns and a number of values have a fault here
 abbrev pub HasTripletFault : ℕ → ℕ → List ℕ → List ℕ → ℕ → TripletSpot → Type 0
 HasTripletFault nrows ncols rows cols count ColCount = length rows ≢ length cols
 HasTripletFault nrows ncols rows cols count ValueCount = length cols ≢ count
 HasTripletFault nrows ncols rows cols count RowBounds = Any (λ i. nrows ≤ i) rows
 HasTripletFault nrows ncols rows cols count ColBounds = Any (λ j. ncols ≤ j) cols
 
--- the kind of the error that a fault at this spot is
+-- the kind of the error for a fault here
 abbrev pub triplet_kind : TripletSpot → SparseFormatErrorKind
 triplet_kind ColCount = InvalidStructure
 triplet_kind ValueCount = InvalidStructure
@@ -37,6 +37,6 @@ pub record IsFirstTripletFault (nrows ncols : ℕ) (rows cols : List ℕ) (count
   pub first : IsFirst triplet_rank (HasTripletFault nrows ncols rows cols count) spot
   pub is : kind ≡ triplet_kind spot
 
--- some triplet has a row or a column outside the sizes
+-- some triplet has a row or a column out of bounds
 abbrev pub IsSomeOutside : {T : Type 0} → ℕ → ℕ → List (ℕ × ℕ × T) → Type 0
 IsSomeOutside nrows ncols triplets = Any (λ t. (nrows ≤ t.0) ⊎ (ncols ≤ t.1)) triplets

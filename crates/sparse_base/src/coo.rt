@@ -1,22 +1,35 @@
-//! Matrices as lists of triplets.
+//! Matrices in coordinate form: lists of triplets.
 
-ghost use Rattle.std.specs.Prelude.{◌≡◌, ◌<◌, ◌≤◌, [], ◌∷◌, length, map, All, Any, MatchBool, IsOk, IfOk, IfErr, OnOk, OnErr};
+ghost use Rattle.std.specs.Prelude.{◌≡◌, ◌<◌, ◌≤◌, [], ◌∷◌, length, map, IsOk, IfOk, IfErr, OnOk, OnErr};
 ghost use Rattle.sparse_base.specs.Coo.{coo_of, zip_triplets, appended, AreParts, IsInside};
 ghost use Rattle.sparse_base.specs.TripletFaults.{IsFirstTripletFault};
 
-use sparse_pattern::error::{SparseFormatError, SparseFormatErrorKind};
+use sparse_pattern::error::SparseFormatError;
 use std::alloc::{AllocError, Global};
 use std::marker::Model;
+use triplet_fault::first_fault;
 
 mod from_iter;
 mod iter;
 mod push_matrix;
+mod triplet_fault;
 
 pub use iter::{CooTripletIter, CooTripletIterMut};
 
-/// A matrix as a list of triplets (row, column, value).
+/// A sparse matrix in coordinate form: a list of triplets (row, column, value).
 ///
-/// A pair may occur more than once: its value is then the sum over its triplets.
+/// The same row and column may occur in more than one triplet; the entry is then the sum of their values.
+///
+/// # Examples
+///
+/// ```rust
+/// fn repeated_triplets_are_kept(alloc: Global) -> Result<bool, Fail> {
+///     let mut matrix = CooMatrix::new(alloc, 2, 3);
+///     matrix.push(1, 2, 5)?;
+///     matrix.push(1, 2, 6)?;
+///     Ok(matrix.nnz() == 2 && matrix.values() == [5, 6].as_slice())
+/// }
+/// ```
 #[derive(Debug, Drop)]
 pub struct CooMatrix<T> {
     nrows: usize,
@@ -41,7 +54,7 @@ impl<T> Model for CooMatrix<T> {
 }
 
 impl<T> CooMatrix<T> {
-    /// Returns a matrix without triplets. It allocates nothing.
+    /// Returns a matrix without triplets. Allocates nothing.
     pub fn new(alloc: Global, nrows: usize, ncols: usize) -> Self
         ensures { result ≡ coo_of nrows ncols [] }
     {
@@ -54,17 +67,44 @@ impl<T> CooMatrix<T> {
         }
     }
 
-    /// Returns a matrix without triplets, as `new` does. It allocates nothing.
+    /// Returns a matrix without triplets, as [`CooMatrix::new`] does. Allocates nothing.
     pub fn zeros(alloc: Global, nrows: usize, ncols: usize) -> Self
         ensures { result ≡ coo_of nrows ncols [] }
     {
         CooMatrix::new(alloc, nrows, ncols)
     }
 
-    /// Returns the matrix of the triplets in three lists, or their first fault. The numbers of rows and of columns are compared first,
-    /// then those of columns and of values, then all rows are checked against `nrows`, then all columns against `ncols`.
+    /// Returns the matrix of the triplets given as three lists.
     ///
-    /// It allocates nothing. Invalid lists are dropped.
+    /// Linear in the number of triplets. Allocates nothing.
+    ///
+    /// # Errors
+    ///
+    /// Returns the first fault in this order: different numbers of rows and columns, different numbers of columns and values, a row index
+    /// not less than `nrows`, a column index not less than `ncols`. The lists are dropped.
+    ///
+    /// # Examples
+    ///
+    /// ```rust
+    /// fn lists_become_triplets(alloc: Global) -> Result<bool, Fail> {
+    ///     let rows = vec![in alloc; 0, 1]?;
+    ///     let cols = vec![in alloc; 2, 0]?;
+    ///     let values = vec![in alloc; 5, 7]?;
+    ///     let matrix = CooMatrix::try_from_triplets(2, 3, rows, cols, values)?;
+    ///     Ok(matrix.triplet_iter().next() == Some((0, 2, &5)))
+    /// }
+    /// ```
+    ///
+    /// ```rust
+    /// fn a_row_is_out_of_bounds(alloc: Global) -> Result<bool, Fail> {
+    ///     let rows = vec![in alloc; 2]?;
+    ///     let cols = vec![in alloc; 0]?;
+    ///     let values = vec![in alloc; 5]?;
+    ///     let refused = CooMatrix::try_from_triplets(2, 3, rows, cols, values).err();
+    ///     let error = refused.ok_or("no error")?;
+    ///     Ok(*error.kind() == SparseFormatErrorKind::IndexOutOfBounds)
+    /// }
+    /// ```
     pub fn try_from_triplets(
         nrows: usize,
         ncols: usize,
@@ -80,29 +120,8 @@ impl<T> CooMatrix<T> {
         ensures taken { AreParts nrows ncols row_indices.items col_indices.items values.items
             → IsOk result }
     {
-        if row_indices.len() != col_indices.len() {
-            return Err(SparseFormatError::new(
-                SparseFormatErrorKind::InvalidStructure,
-                "Number of row and col indices must be the same.",
-            ));
-        }
-        if col_indices.len() != values.len() {
-            return Err(SparseFormatError::new(
-                SparseFormatErrorKind::InvalidStructure,
-                "Number of col indices and values must be the same.",
-            ));
-        }
-        if !all_below(&row_indices, nrows) {
-            return Err(SparseFormatError::new(
-                SparseFormatErrorKind::IndexOutOfBounds,
-                "Row index out of bounds.",
-            ));
-        }
-        if !all_below(&col_indices, ncols) {
-            return Err(SparseFormatError::new(
-                SparseFormatErrorKind::IndexOutOfBounds,
-                "Col index out of bounds.",
-            ));
+        if let Some(fault) = first_fault(nrows, ncols, &row_indices, &col_indices, values.len()) {
+            return Err(fault.error());
         }
         Ok(CooMatrix {
             nrows,
@@ -113,7 +132,7 @@ impl<T> CooMatrix<T> {
         })
     }
 
-    /// Reserves memory for more triplets. Fails only if an allocation fails.
+    /// Reserves memory for at least `additional` more triplets. Fails only if an allocation fails.
     pub fn reserve(&mut self, additional: usize) -> Result<(), AllocError>
         ensures { self.new ≡ self.old }
     {
@@ -122,7 +141,9 @@ impl<T> CooMatrix<T> {
         self.values.reserve(additional)
     }
 
-    /// Appends a triplet. If an allocation fails, the triplets are unchanged.
+    /// Appends a triplet. `i` must be less than `nrows()`, and `j` less than `ncols()`.
+    ///
+    /// Amortised constant time. Fails only if an allocation fails; the matrix is then unchanged.
     pub fn push(&mut self, i: usize, j: usize, v: T) -> Result<(), AllocError>
     where
         T: Drop,
@@ -140,7 +161,18 @@ impl<T> CooMatrix<T> {
         Ok(())
     }
 
-    /// Drops all triplets. The sizes are unchanged, and the memory is kept.
+    /// Removes all triplets. The shape is unchanged, and the memory is kept for later triplets.
+    ///
+    /// # Examples
+    ///
+    /// ```rust
+    /// fn triplets_are_dropped(alloc: Global) -> Result<bool, Fail> {
+    ///     let mut matrix = CooMatrix::new(alloc, 2, 3);
+    ///     matrix.push(1, 2, 5)?;
+    ///     matrix.clear_triplets();
+    ///     Ok(matrix == CooMatrix::zeros(alloc, 2, 3))
+    /// }
+    /// ```
     pub fn clear_triplets(&mut self)
     where
         T: Drop,
@@ -165,7 +197,7 @@ impl<T> CooMatrix<T> {
         self.ncols
     }
 
-    /// Returns the number of triplets, repeated ones included.
+    /// Returns the number of triplets. Repeated places are counted each time.
     pub fn nnz(&self) -> usize
         ensures { result ≡ length self.now.triplets }
     {
@@ -195,7 +227,7 @@ impl<T> CooMatrix<T> {
         &self.values
     }
 
-    /// Moves the rows, the columns and the values out of the matrix.
+    /// Returns the rows, the columns and the values, and consumes the matrix.
     pub fn disassemble(self) -> (Vec<usize>, Vec<usize>, Vec<T>)
         ensures rows { result.0.items ≡ map (λ t. t.0) self.triplets }
         ensures cols { result.1.items ≡ map (λ t. t.1) self.triplets }
@@ -213,15 +245,8 @@ impl<T> CooMatrix<T> {
     }
 }
 
-// Whether each index lies below the bound.
-fn all_below(indices: &[usize], bound: usize) -> bool
-    ensures { MatchBool result (All (λ i. i < bound) indices.now) (Any (λ i. bound ≤ i) indices.now) }
-{
-    indices.iter().all(|&index| index < bound)
-}
-
 impl<T: Copy> CooMatrix<T> {
-    /// Returns a copy with the same sizes and triplets. Fails only if an allocation fails.
+    /// Returns a copy with the same triplets in the same order. Fails only if an allocation fails.
     pub fn clone(&self, alloc: Global) -> Result<Self, AllocError>
         ensures { IfOk result (λ m. m ≡ self.now) }
     {
@@ -255,7 +280,7 @@ impl<T> CooMatrix<T> {
     }
 }
 
-/// Equal sizes, and equal lists of rows, columns and values.
+/// Matrices are equal if their shapes and their lists of triplets are. Lists in a different order are not equal.
 impl<T: PartialEq> PartialEq for CooMatrix<T> {
     ghost use Rattle.sparse_base.specs.CooEquality.{coo_eq, coo_eq-laws};
 

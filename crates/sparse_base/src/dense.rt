@@ -1,4 +1,4 @@
-//! Dense matrices, stored column by column.
+//! Dense matrices in column-major order.
 
 ghost use Rattle.std.specs.Prelude.{◌≡◌, ◌+◌, ◌*◌, ◌<◌, ℕ, ◌==◌, ◌&&◌, if◌then◌else◌, length, replicate, slice_index_or, IfOk};
 ghost use Rattle.std.specs.Borrow.{sem};
@@ -9,7 +9,16 @@ use sparse_algebra::scalar::Zero;
 use std::alloc::{AllocError, Global};
 use std::marker::Model;
 
-/// A dense matrix: a value at each place, stored column by column.
+/// A dense matrix, stored column by column.
+///
+/// # Examples
+///
+/// ```rust
+/// fn rows_are_stored_by_columns(alloc: Global) -> Result<bool, Fail> {
+///     let matrix = DMatrix::from_row_slice(alloc, 2, 2, &[1, 2, 3, 4])?;
+///     Ok(matrix.as_slice() == [1, 3, 2, 4].as_slice())
+/// }
+/// ```
 #[derive(Debug, Drop)]
 pub struct DMatrix<T> {
     nrows: usize,
@@ -31,7 +40,7 @@ impl<T> Model for DMatrix<T> {
 }
 
 impl<T: Zero + Copy> DMatrix<T> {
-    /// Returns a matrix of zeros. Fails only if an allocation fails or the size exceeds `usize::MAX`.
+    /// Returns a matrix of zeros. Fails only if an allocation fails or `nrows * ncols` exceeds `usize::MAX`.
     pub fn zeros(alloc: Global, nrows: usize, ncols: usize) -> Result<Self, AllocError>
         ensures { IfOk result (HasValues nrows ncols (λ _ _ _. T.zero_value)) }
     {
@@ -40,7 +49,7 @@ impl<T: Zero + Copy> DMatrix<T> {
 }
 
 impl<T: Copy> DMatrix<T> {
-    /// Returns a matrix with one value everywhere. Fails only if an allocation fails or the size exceeds `usize::MAX`.
+    /// Returns a matrix with `value` at each place. Fails only if an allocation fails or `nrows * ncols` exceeds `usize::MAX`.
     pub fn repeat(alloc: Global, nrows: usize, ncols: usize, value: T) -> Result<Self, AllocError>
         ensures { IfOk result (HasValues nrows ncols (λ _ _ _. value)) }
     {
@@ -54,7 +63,9 @@ impl<T: Copy> DMatrix<T> {
         })
     }
 
-    /// Returns a matrix of values given column by column. Fails only if an allocation fails.
+    /// Returns the matrix of the values given column by column.
+    ///
+    /// `values.len()` must equal `nrows * ncols`. Fails only if an allocation fails.
     pub fn from_column_slice(
         alloc: Global,
         nrows: usize,
@@ -72,7 +83,9 @@ impl<T: Copy> DMatrix<T> {
         })
     }
 
-    /// Returns a matrix of values given row by row. Fails only if an allocation fails.
+    /// Returns the matrix of the values given row by row.
+    ///
+    /// `values.len()` must equal `nrows * ncols`. Fails only if an allocation fails.
     pub fn from_row_slice(
         alloc: Global,
         nrows: usize,
@@ -89,7 +102,7 @@ impl<T: Copy> DMatrix<T> {
         })
     }
 
-    /// Returns a copy with the same sizes and values. Fails only if an allocation fails.
+    /// Returns a copy. Fails only if an allocation fails.
     pub fn clone(&self, alloc: Global) -> Result<Self, AllocError>
         ensures { IfOk result (λ d. d ≡ self.now) }
     {
@@ -100,11 +113,12 @@ impl<T: Copy> DMatrix<T> {
         })
     }
 
-    /// Returns the value at a place.
+    /// Returns a copy of the value at row `i` and column `j`. Both must be within bounds.
     pub fn get(&self, i: usize, j: usize) -> T
         requires row { i < self.now.nrows }
         requires col { j < self.now.ncols }
-        ensures { result ≡ value_at self.now i j result }
+        ensures value { result ≡ value_at self.now i j result }
+        ensures full { length self.now.values ≡ self.now.nrows * self.now.ncols }
     {
         self.values[j * self.nrows + i]
     }
@@ -125,7 +139,7 @@ impl<T> DMatrix<T> {
         self.ncols
     }
 
-    /// Returns the values column by column.
+    /// Returns all values, column by column.
     pub fn as_slice(&self) -> &[T]
         ensures values { result.now ≡ self.now.values }
         ensures count { length result.now ≡ self.now.nrows * self.now.ncols }
@@ -133,7 +147,17 @@ impl<T> DMatrix<T> {
         &self.values
     }
 
-    /// Replaces the value at a place, and drops the old one. All other values are unchanged.
+    /// Replaces the value at row `i` and column `j`, which must be within bounds. The old value is dropped; all other values are unchanged.
+    ///
+    /// # Examples
+    ///
+    /// ```rust
+    /// fn one_place_is_set(alloc: Global) -> Result<bool, Fail> {
+    ///     let mut matrix = DMatrix::from_column_slice(alloc, 2, 2, &[1, 2, 3, 4])?;
+    ///     matrix.set(0, 1, 9);
+    ///     Ok(matrix.get(0, 1) == 9 && matrix.column(0) == [1, 2].as_slice())
+    /// }
+    /// ```
     pub fn set(&mut self, i: usize, j: usize, value: T)
     where
         T: Drop,
@@ -146,7 +170,7 @@ impl<T> DMatrix<T> {
         self.values[j * self.nrows + i] = value;
     }
 
-    /// Returns the values of a column.
+    /// Returns the values of column `j`. `j` must be less than `ncols()`.
     pub fn column(&self, j: usize) -> &[T]
         requires { j < self.now.ncols }
         ensures exact { result.now ≡ column_of self.now j }
@@ -158,7 +182,19 @@ impl<T> DMatrix<T> {
         &self.values[start..start + self.nrows]
     }
 
-    /// Returns the values of a column, borrowed mutably. All other values are unchanged.
+    /// Returns the values of column `j`, borrowed mutably. `j` must be less than `ncols()`. The other columns are unchanged.
+    ///
+    /// # Examples
+    ///
+    /// ```rust
+    /// fn one_column_is_filled(alloc: Global) -> Result<bool, Fail> {
+    ///     let mut matrix = DMatrix::from_column_slice(alloc, 2, 2, &[1, 2, 3, 4])?;
+    ///     for value in matrix.column_mut(1) {
+    ///         *value = 7;
+    ///     }
+    ///     Ok(matrix.as_slice() == [1, 2, 7, 7].as_slice())
+    /// }
+    /// ```
     pub fn column_mut(&mut self, j: usize) -> &mut [T]
         requires { j < self.old.ncols }
         ensures* writes_back { sem 𝓛 (LendsColumn T.row self.entry j result) }
@@ -183,7 +219,7 @@ impl<T> DMatrix<T> {
     }
 }
 
-/// Equal sizes, and equal values at equal places.
+/// Matrices are equal if their shapes are equal and they have equal values at each place.
 impl<T: PartialEq> PartialEq for DMatrix<T> {
     ghost use Rattle.sparse_base.specs.DenseEquality.{dense_eq, dense_eq-laws};
 

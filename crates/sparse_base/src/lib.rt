@@ -1,4 +1,4 @@
-//! Coordinate lists, dense matrices, and a counter without bytes.
+//! Coordinate lists, dense matrices, and a step counter that exists only in contracts.
 #![tactic(auto)]
 
 pub mod coo;

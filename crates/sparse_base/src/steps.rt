@@ -1,4 +1,4 @@
-//! A count of steps that contracts read. It takes no memory.
+//! A step counter that exists only in contracts.
 
 ghost use Rattle.std.specs.Prelude.{◌≡◌, ℕ, ◌+◌};
 ghost use base.Fml.{ftrue};
@@ -29,9 +29,9 @@ impl Count {
     }
 }
 
-/// The number of steps taken.
+/// The number of steps that an algorithm has taken.
 ///
-/// Contracts see it as a number. It has no bytes at run time, and a program can't read it.
+/// Contracts see it as a natural number. It occupies no memory at run time, and code cannot read it.
 #[derive(Drop)]
 pub struct Steps {
     taken: Count,
@@ -46,7 +46,7 @@ impl Model for Steps {
 }
 
 impl Steps {
-    /// Returns a count of no steps.
+    /// Returns a counter at zero.
     pub fn new() -> Steps
         ensures { result ≡ 0 }
     {
@@ -55,7 +55,7 @@ impl Steps {
         }
     }
 
-    /// Counts one more step.
+    /// Adds one step.
     pub fn tick(&mut self)
         ensures { self.new ≡ self.old + 1 }
     {

@@ -146,3 +146,15 @@ module _ {T : Type 0} where
   pub lanes_by_columns : (z : T) (d : Dense T)
       → full_lanes d.ncols d.nrows (λ j i. get_or d.values (j * d.nrows + i * 1) z) ≡ column_lanes z d
   lanes_by_columns z d = full_lanes_same d.ncols d.nrows _ _ (λ j i. let at : j * d.nrows + i * 1 ≡ j * d.nrows + i = omega arith in ap (λ p. get_or d.values p z) at)
+
+-- ---- no values
+
+columns_of_nothing : {T : Type 0} (value : ℕ → ℕ → T) (columns : List ℕ)
+    → flat_map (λ j. map {B = ℕ × ℕ × T} (λ i. (i, j, value i j)) (below 0)) columns ≡ []
+columns_of_nothing value [] = refl
+columns_of_nothing value (j ∷ js) = columns_of_nothing value js
+
+-- columns without rows have no triplets
+pub no_values : {T : Type 0} (z : T) (d : Dense T) → d.nrows ≡ 0 → column_triplets z d ≡ []
+no_values {T} z d e =
+    subst (λ n. flat_map (λ j. map {B = ℕ × ℕ × T} (λ i. (i, j, value_at d i j z)) (below n)) (below d.ncols) ≡ []) (sym e) (columns_of_nothing (λ i j. value_at d i j z) (below d.ncols))

@@ -5,13 +5,13 @@ use Rattle.sparse_algebra.specs.Plain.{plain_transpose}
 use Rattle.sparse_cs.specs.Compressed.{lane_triplets}
 use Rattle.sparse_base.specs.CooPlain.{plain_of_coo}
 use Rattle.sparse_cs.proofs.MatrixTransposes.{plain_transposed}
-use Rattle.sparse_convert.specs.OneMatrix.{Form, Triplets, Rows, Cols, IsSoundForm, plain_of_form, IsConverted, Leads, IsReached}
+use Rattle.sparse_convert.specs.OneMatrix.{Representation, Triplets, Rows, Cols, IsSoundRepresentation, plain_of_representation, IsConverted, Leads, IsReached}
 use Rattle.sparse_convert.proofs.StoredTriplets.{plain_of_turned_list}
 
 module _ (R : CommRing) {T : Type 0} (f : T → R.Carrier) (z : T) where
   -- one conversion
-  converted_same : (x y : Form T) → IsSoundForm x → IsSoundForm y → IsConverted R f x y
-      → plain_of_form R f y ≡ plain_of_form R f x
+  converted_same : (x y : Representation T) → IsSoundRepresentation x → IsSoundRepresentation y → IsConverted R f x y
+      → plain_of_representation R f y ≡ plain_of_representation R f x
   converted_same (Triplets a) (Triplets b) sx sy h = absurd h
   converted_same (Triplets a) (Rows m) sx sy h = h
   converted_same (Triplets a) (Cols n) sx sy h = h
@@ -23,16 +23,16 @@ module _ (R : CommRing) {T : Type 0} (f : T → R.Carrier) (z : T) where
   converted_same (Cols m) (Cols n) sx sy h = absurd h
 
   -- any number of them
-  led_same : (x : Form T) (ys : List (Form T)) (y : Form T) → IsSoundForm x → Leads R f x ys y
-      → (plain_of_form R f y ≡ plain_of_form R f x) × IsSoundForm y
-  led_same x [] y sound h = (ap (plain_of_form R f) (sym h), subst IsSoundForm h sound)
+  led_same : (x : Representation T) (ys : List (Representation T)) (y : Representation T) → IsSoundRepresentation x → Leads R f x ys y
+      → (plain_of_representation R f y ≡ plain_of_representation R f x) × IsSoundRepresentation y
+  led_same x [] y sound h = (ap (plain_of_representation R f) (sym h), subst IsSoundRepresentation h sound)
   led_same x (w ∷ ws) y sound h =
       let rest = led_same w ws y h.0 h.2 in
       (rest.0 ∙ converted_same x w sound h.0 h.1, rest.1)
 
-  pub reached_same : (x y : Form T) → IsSoundForm x → IsReached R f x y
-      → plain_of_form R f y ≡ plain_of_form R f x
+  pub reached_same : (x y : Representation T) → IsSoundRepresentation x → IsReached R f x y
+      → plain_of_representation R f y ≡ plain_of_representation R f x
   reached_same x y sound h = (led_same x h.0 y sound h.1).0
 
-  pub reached_sound : (x y : Form T) → IsSoundForm x → IsReached R f x y → IsSoundForm y
+  pub reached_sound : (x y : Representation T) → IsSoundRepresentation x → IsReached R f x y → IsSoundRepresentation y
   reached_sound x y sound h = (led_same x h.0 y sound h.1).1

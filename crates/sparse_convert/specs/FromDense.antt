@@ -6,15 +6,15 @@ use Rattle.sparse_algebra.specs.Plain.{Plain, below}
 use Rattle.sparse_base.specs.Dense.{Dense, value_at}
 
 module _ {T : Type 0} where
-  -- the triplets (i, k, value i k) of n lanes of m values, lane after lane
+  -- the triplets (i, k, value i k) of n lanes of m values, lane by lane
   abbrev pub full_lanes : ℕ → ℕ → (ℕ → ℕ → T) → List (ℕ × ℕ × T)
   full_lanes n m value = flat_map (λ i. map {B = ℕ × ℕ × T} (λ k. (i, k, value i k)) (below m)) (below n)
 
-  -- the triplets of all places of a dense matrix, row after row (z is read where no value is stored, as outside the sizes)
+  -- the triplets of all places of a dense matrix, row by row (z is the value outside the shape)
   abbrev pub row_triplets : T → Dense T → List (ℕ × ℕ × T)
   row_triplets z d = full_lanes d.nrows d.ncols (λ i j. value_at d i j z)
 
-  -- the same, column after column
+  -- the same, column by column
   abbrev pub column_triplets : T → Dense T → List (ℕ × ℕ × T)
   column_triplets z d = flat_map (λ j. map {B = ℕ × ℕ × T} (λ i. (i, j, value_at d i j z)) (below d.nrows)) (below d.ncols)
 

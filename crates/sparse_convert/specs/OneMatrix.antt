@@ -1,4 +1,4 @@
--- The forms of a matrix, and the conversions between them.
+-- The representations of a matrix, and the conversions between them.
 use Rattle.std.specs.Prelude.{◌≡◌, ⊤, List, [], ◌∷◌, map}
 use Rattle.sparse_algebra.specs.Algebra.{CommRing}
 use Rattle.sparse_base.specs.Coo.{Coo, coo_of}
@@ -9,10 +9,10 @@ use Rattle.sparse_cs.specs.PlainOfLanes.{plain_of_rows, plain_of_cols}
 use Rattle.sparse_cs.specs.TransposedMatrix.{IsTranspose}
 
 -- a matrix as a list of triplets, compressed by rows, or compressed by columns
-pub data Form (T : Type 0) : Type 0 where
-  Triplets : Coo T → Form T
-  Rows : Compressed T → Form T
-  Cols : Compressed T → Form T
+pub data Representation (T : Type 0) : Type 0 where
+  Triplets : Coo T → Representation T
+  Rows : Compressed T → Representation T
+  Cols : Compressed T → Representation T
 
 module _ {T : Type 0} where
   -- the stored places with their values row after row, and column after column
@@ -23,20 +23,20 @@ module _ {T : Type 0} where
   coo_of_cols n = coo_of n.pattern.minor_dim n.pattern.major_dim (map turned (lane_triplets n))
 
   -- compressed arrays are sound
-  abbrev pub IsSoundForm : Form T → Type 0
-  IsSoundForm (Triplets a) = ⊤
-  IsSoundForm (Rows m) = IsSound m
-  IsSoundForm (Cols n) = IsSound n
+  abbrev pub IsSoundRepresentation : Representation T → Type 0
+  IsSoundRepresentation (Triplets a) = ⊤
+  IsSoundRepresentation (Rows m) = IsSound m
+  IsSoundRepresentation (Cols n) = IsSound n
 
   module _ (R : CommRing) (f : T → R.Carrier) where
-    -- the plain matrix that a form stands for
-    abbrev pub plain_of_form : Form T → Plain R
-    plain_of_form (Triplets a) = plain_of_coo R f a
-    plain_of_form (Rows m) = plain_of_rows R f m
-    plain_of_form (Cols n) = plain_of_cols R f n
+    -- the plain matrix that a representation describes
+    abbrev pub plain_of_representation : Representation T → Plain R
+    plain_of_representation (Triplets a) = plain_of_coo R f a
+    plain_of_representation (Rows m) = plain_of_rows R f m
+    plain_of_representation (Cols n) = plain_of_cols R f n
 
-    -- what the conversion of the first to the form of the second promises; there is none from a form to itself
-    abbrev pub IsConverted : Form T → Form T → Type 0
+    -- what the conversion of the first to the representation of the second promises; there is none from a representation to itself
+    abbrev pub IsConverted : Representation T → Representation T → Type 0
     IsConverted (Triplets a) (Triplets b) = ⊥
     IsConverted (Triplets a) (Rows m) = plain_of_rows R f m ≡ plain_of_coo R f a
     IsConverted (Triplets a) (Cols n) = plain_of_cols R f n ≡ plain_of_coo R f a
@@ -47,16 +47,16 @@ module _ {T : Type 0} where
     IsConverted (Cols n) (Rows m) = IsTranspose n m
     IsConverted (Cols m) (Cols n) = ⊥
 
-    -- x converted to the first of the forms, that to the next, and so on, ends with z
-    abbrev pub Leads : Form T → List (Form T) → Form T → Type 0
+    -- x converted to the first of the representations, that to the next, and so on, ends with z
+    abbrev pub Leads : Representation T → List (Representation T) → Representation T → Type 0
     Leads x [] z = x ≡ z
-    Leads x (y ∷ ys) z = IsSoundForm y × IsConverted x y × Leads y ys z
+    Leads x (y ∷ ys) z = IsSoundRepresentation y × IsConverted x y × Leads y ys z
 
     -- z is x, or comes from x by conversions, any number of them
-    abbrev pub IsReached : Form T → Form T → Type 0
-    IsReached x z = (ys : List (Form T)) × Leads x ys z
+    abbrev pub IsReached : Representation T → Representation T → Type 0
+    IsReached x z = (ys : List (Representation T)) × Leads x ys z
 
-    -- a list, rows and columns that stand for one plain matrix
+    -- a list, a CSR and a CSC matrix that represent the same plain matrix
     pub record MeanOneMatrix (a : Coo T) (m n : Compressed T) : Type 0 where
       pub rows : plain_of_rows R f m ≡ plain_of_coo R f a
       pub cols : plain_of_cols R f n ≡ plain_of_coo R f a

@@ -1,4 +1,4 @@
--- The dense matrix of a compressed one.
+-- The dense matrix of a compressed matrix.
 use Rattle.std.specs.Prelude.{ℕ, slice_index_or}
 use Rattle.std.specs.Option.{option_map, unwrap_or}
 use Rattle.sparse_base.specs.Dense.{Dense, HasValues}
@@ -6,11 +6,11 @@ use Rattle.sparse_cs.specs.Compressed.{Compressed}
 use Rattle.sparse_cs.specs.StoredEntries.{place_of}
 
 module _ {T : Type 0} (zero : T) where
-  -- the value at the place (i, j), or zero where it isn't stored
+  -- the value at the place (i, j), or zero if it is not stored
   abbrev pub stored_or_zero : Compressed T → ℕ → ℕ → T
   stored_or_zero m i j = unwrap_or (option_map (λ p. slice_index_or m.values p zero) (place_of m.pattern i j)) zero
 
-  -- the sizes and the values of compressed arrays with rows as lanes
+  -- the shape and the values of compressed arrays with rows as lanes
   abbrev pub IsDenseOfRows : Compressed T → Dense T → Type 0
   IsDenseOfRows m = HasValues m.pattern.major_dim m.pattern.minor_dim (λ i j _. stored_or_zero m i j)
 

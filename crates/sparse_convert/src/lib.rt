@@ -1,4 +1,4 @@
-//! Conversions between coordinate lists, compressed rows and columns, and dense matrices.
+//! Conversions between coordinate lists, CSR, CSC and dense matrices.
 #![tactic(auto)]
 
 mod lanes;

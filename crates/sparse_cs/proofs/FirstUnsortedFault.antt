@@ -1,14 +1,11 @@
 -- The first fault of arrays whose lanes needn't be sorted.
-use Rattle.std.proofs.Common.{◌≡◌, ℕ, ◌+◌, ◌<◌, ◌≤◌, inl, inr, List, length, All, Any, refl, arith}
+use Rattle.std.proofs.Common.{◌≡◌, ℕ, ◌+◌, ◌<◌, ◌≤◌, inl, inr, List, length, All, Any, arith}
 use Rattle.sparse_lemmas.proofs.Cases.{le_cases}
 use Rattle.sparse_pattern.specs.Raw.{start_of, end_of, lane_of}
 use Rattle.sparse_pattern.specs.FirstFault.{IsBefore}
-use Rattle.sparse_pattern.specs.declared.error.SparseFormatErrorKind.{SparseFormatErrorKind}
-use Rattle.sparse_pattern.specs.declared.error.SparseFormatErrorKind.TheVariants.{IndexOutOfBounds, InvalidStructure}
 use Rattle.sparse_cs.specs.Compressed.{Compressed}
-use Rattle.sparse_cs.specs.InnerLaneSorting.{IsLaneFault}
-use Rattle.sparse_cs.specs.UnsortedFaults.{UnsortedSpot, ValueCount, NoOffsets, OffsetCount, FirstLast, LaneFall, LaneEnd, LaneBounds, LaneRepeat, unsorted_rank, HasRepeat, HasUnsortedFault, IsFaultless, IsUnsortedRefusal}
-use Rattle.sparse_cs.specs.InnerUnsortedFaults.{HasFineCounts}
+use Rattle.sparse_cs.specs.InnerUnsortedFaults.{IsFirstAt}
+use Rattle.sparse_cs.specs.UnsortedFaults.{HasFineCounts, UnsortedSpot, ValueCount, NoOffsets, OffsetCount, FirstLast, LaneFall, LaneEnd, LaneBounds, LaneRepeat, unsorted_rank, HasRepeat, HasUnsortedFault, IsFaultless}
 
 -- lane k has no fault
 pub record IsFineLane {T : Type 0} (m : Compressed T) (k : ℕ) : Type 0 where
@@ -59,32 +56,35 @@ module _ {T : Type 0} (m : Compressed T) where
     none_before n top ordered inside bounded (LaneRepeat k) b h = let lt : k < i = grind arith in (fine k lt).distinct h.1
 
     pub first_fall : end_of m.pattern i < start_of m.pattern i
-        → IsUnsortedRefusal m InvalidStructure
-    first_fall bad = record { spot = LaneFall i; first = record { here = (lane, bad); none_before = none_before 0 (omega arith) (λ h. absurd (omega arith)) (λ h. absurd (omega arith)) (λ h. absurd (omega arith)) }; is = refl }
+        → IsFirstAt m (LaneFall i)
+    first_fall bad = record { here = (lane, bad); none_before = none_before 0 (omega arith) (λ h. absurd (omega arith)) (λ h. absurd (omega arith)) (λ h. absurd (omega arith)) }
 
     pub first_end : start_of m.pattern i ≤ end_of m.pattern i
-        → length m.pattern.indices < end_of m.pattern i → IsUnsortedRefusal m IndexOutOfBounds
-    first_end ordered bad = record { spot = LaneEnd i; first = record { here = (lane, bad); none_before = none_before 1 (omega arith) (λ _. ordered) (λ h. absurd (omega arith)) (λ h. absurd (omega arith)) }; is = refl }
+        → length m.pattern.indices < end_of m.pattern i → IsFirstAt m (LaneEnd i)
+    first_end ordered bad = record { here = (lane, bad); none_before = none_before 1 (omega arith) (λ _. ordered) (λ h. absurd (omega arith)) (λ h. absurd (omega arith)) }
 
-    pub first_in_lane : start_of m.pattern i ≤ end_of m.pattern i
-        → end_of m.pattern i ≤ length m.pattern.indices → (kind : SparseFormatErrorKind)
-        → IsLaneFault m.pattern.minor_dim (lane_of m.pattern i) kind → IsUnsortedRefusal m kind
-    first_in_lane ordered inside kind fault = elim fault [
-      | inl past ↦ record { spot = LaneBounds i; first = record { here = (lane, past.0); none_before = none_before 2 (omega arith) (λ _. ordered) (λ _. inside) (λ h. absurd (omega arith)) }; is = past.1 }
-      | inr twice ↦ record { spot = LaneRepeat i; first = record { here = (lane, twice.1); none_before = none_before 3 (omega arith) (λ _. ordered) (λ _. inside) (λ _. twice.0) }; is = twice.2 }
-    ]
+    pub first_bounds : start_of m.pattern i ≤ end_of m.pattern i
+        → end_of m.pattern i ≤ length m.pattern.indices
+        → Any (λ j. m.pattern.minor_dim ≤ j) (lane_of m.pattern i) → IsFirstAt m (LaneBounds i)
+    first_bounds ordered inside bad = record { here = (lane, bad); none_before = none_before 2 (omega arith) (λ _. ordered) (λ _. inside) (λ h. absurd (omega arith)) }
+
+    pub first_repeat : start_of m.pattern i ≤ end_of m.pattern i
+        → end_of m.pattern i ≤ length m.pattern.indices
+        → All (λ j. j < m.pattern.minor_dim) (lane_of m.pattern i) → HasRepeat (lane_of m.pattern i)
+        → IsFirstAt m (LaneRepeat i)
+    first_repeat ordered inside below bad = record { here = (lane, bad); none_before = none_before 3 (omega arith) (λ _. ordered) (λ _. inside) (λ _. below) }
 
   -- the faults of the arrays as a whole
   pub first_value_count : (length m.values ≡ length m.pattern.indices → ⊥)
-      → IsUnsortedRefusal m InvalidStructure
-  first_value_count bad = record { spot = ValueCount; first = record { here = bad; none_before = λ s b h. absurd (before_value_count s b) }; is = refl }
+      → IsFirstAt m ValueCount
+  first_value_count bad = record { here = bad; none_before = λ s b h. absurd (before_value_count s b) }
     where
       before_value_count : (s : UnsortedSpot) → IsBefore (unsorted_rank s) (0, 0, 0) → ⊥
       before_value_count s b = grind arith
 
   pub first_no_offsets : length m.values ≡ length m.pattern.indices → length m.pattern.offsets ≡ 0
-      → IsUnsortedRefusal m InvalidStructure
-  first_no_offsets values bad = record { spot = NoOffsets; first = record { here = bad; none_before = before }; is = refl }
+      → IsFirstAt m NoOffsets
+  first_no_offsets values bad = record { here = bad; none_before = before }
     where
       before : (s : UnsortedSpot) → IsBefore (unsorted_rank s) (1, 0, 0) → HasUnsortedFault m s → ⊥
       before ValueCount b h = h values
@@ -98,8 +98,8 @@ module _ {T : Type 0} (m : Compressed T) where
 
   pub first_offset_count : length m.values ≡ length m.pattern.indices → 0 < length m.pattern.offsets
       → (length m.pattern.offsets ≡ m.pattern.major_dim + 1 → ⊥)
-      → IsUnsortedRefusal m InvalidStructure
-  first_offset_count values some bad = record { spot = OffsetCount; first = record { here = bad; none_before = before }; is = refl }
+      → IsFirstAt m OffsetCount
+  first_offset_count values some bad = record { here = bad; none_before = before }
     where
       before : (s : UnsortedSpot) → IsBefore (unsorted_rank s) (2, 0, 0) → HasUnsortedFault m s → ⊥
       before ValueCount b h = h values
@@ -113,8 +113,8 @@ module _ {T : Type 0} (m : Compressed T) where
 
   pub first_first_last : length m.values ≡ length m.pattern.indices
       → length m.pattern.offsets ≡ m.pattern.major_dim + 1 → HasUnsortedFault m FirstLast
-      → IsUnsortedRefusal m InvalidStructure
-  first_first_last values count bad = record { spot = FirstLast; first = record { here = bad; none_before = before }; is = refl }
+      → IsFirstAt m FirstLast
+  first_first_last values count bad = record { here = bad; none_before = before }
     where
       before : (s : UnsortedSpot) → IsBefore (unsorted_rank s) (3, 0, 0) → HasUnsortedFault m s → ⊥
       before ValueCount b h = h values

@@ -19,7 +19,7 @@ use Rattle.sparse_cs.proofs.UnsortedLanes.{lane_values}
 
 module _ {X : Type 0} where
   -- a part of the front
-  between_front : (xs ys : List X) (a b : ℕ) → a ≤ b → b ≤ length xs
+  pub between_front : (xs ys : List X) (a b : ℕ) → a ≤ b → b ≤ length xs
       → slice_range (xs ++ ys) a b ≡ slice_range xs a b
   between_front xs ys a b le within =
       ap (take (b - a)) (drop-append-le a xs ys (omega arith)) ∙ take-append-le (b - a) (drop a xs) ys (omega (arith, length-drop a xs))
@@ -29,7 +29,7 @@ module _ {X : Type 0} where
   drop_front (x ∷ xs) ys = drop_front xs ys
 
   -- the part that was appended
-  between_end : (xs ys : List X) → slice_range (xs ++ ys) (length xs) (length xs + length ys) ≡ ys
+  pub between_end : (xs ys : List X) → slice_range (xs ++ ys) (length xs) (length xs + length ys) ≡ ys
   between_end xs ys =
       let long : length xs + length ys - length xs ≡ length ys = omega arith in
       ap (take (length xs + length ys - length xs)) (drop_front xs ys) ∙ rw long (grind (arith, common_steps))

@@ -1,6 +1,13 @@
 pub mod Arrays
 pub mod Inside
+pub mod Standing
+mod ChangedPlain
+pub mod RowSums
+pub mod LaneValues
+pub mod BuiltMatrices
+pub mod Updates
 pub mod RowOrder
+pub mod ColOrder
 pub mod FoundEntries
 mod IdentityArrays
 mod Repeats
@@ -10,6 +17,8 @@ pub mod NextLane
 mod LaneSortingLemmas
 mod UnsortedLanes
 mod FirstUnsortedFault
+mod SoundLanes
+mod ReportedFaults
 mod SortedForm
 pub mod Kept
 mod KeptLanes

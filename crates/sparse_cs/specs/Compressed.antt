@@ -1,11 +1,11 @@
--- What a contract sees of a compressed matrix: CSR with rows as lanes, CSC with columns as lanes.
+-- The value of a compressed matrix, as contracts see it. The lanes are the rows of a CSR matrix or the columns of a CSC matrix.
 use Rattle.std.specs.Prelude.{◌≡◌, ℕ, Bool, List, [], ◌∷◌, length, slice_index, refl}
 use Rattle.std.specs.Cmp.Lexicographic.{pointwise}
 use Rattle.std.specs.Ordering.{on, eq_of_both}
 use Rattle.std.specs.Coded.{Coded, code_by, coded×, coded_ℕ, coded_list}
 use Rattle.sparse_pattern.specs.Raw.{Raw, raw_of, IsInLane, IsValid, entries_of, raw_eq}
 
--- a pattern, and the value of each of its positions
+-- a pattern, and the value at each of its positions
 pub record Compressed (T : Type 0) : Type 0 where
   pub pattern : Raw
   pub values : List T
@@ -23,11 +23,11 @@ module _ {T : Type 0} where
   abbrev pub compressed_of : Raw → List T → Compressed T
   compressed_of pattern values = record { pattern = pattern; values = values }
 
-  -- sizes, offsets, indices and values as they are given
+  -- shape, offsets, indices and values, unchecked
   abbrev pub arrays_of : ℕ → ℕ → List ℕ → List ℕ → List T → Compressed T
   arrays_of major_dim minor_dim offsets indices values = compressed_of (raw_of major_dim minor_dim offsets indices) values
 
-  -- a valid pattern, and as many values as it has places
+  -- a valid pattern with one value for each place
   pub record IsSound (m : Compressed T) : Type 0 where
     pub valid : IsValid m.pattern
     pub count : length m.values ≡ length m.pattern.indices
@@ -38,15 +38,15 @@ module _ {T : Type 0} where
   zip_values (p ∷ ps) [] = []
   zip_values (p ∷ ps) (v ∷ vs) = (p.0, p.1, v) ∷ zip_values ps vs
 
-  -- (lane, index, value) of each place, lane after lane
+  -- (lane, index, value) of each place, lane by lane
   abbrev pub lane_triplets : Compressed T → List (ℕ × ℕ × T)
   lane_triplets m = zip_values (entries_of m.pattern) m.values
 
-  -- a triplet whose first two parts have changed places
+  -- a triplet with its first two components exchanged
   abbrev pub turned : ℕ × ℕ × T → ℕ × ℕ × T
   turned t = (t.1, t.0, t.2)
 
-  -- the answer of `==`
+  -- the result of `==`
   abbrev pub compressed_eq : (T → T → Bool) → Compressed T → Compressed T → Bool
   compressed_eq E = eq_of_both (on (λ m. m.pattern) raw_eq) (on (λ m. m.values) (pointwise E))
 

@@ -9,7 +9,7 @@ use Rattle.sparse_pattern.specs.declared.entry.SparseEntry.{SparseEntry}
 use Rattle.sparse_pattern.specs.declared.entry.SparseEntry.TheVariants.{NonZero, Zero}
 use Rattle.sparse_cs.specs.Compressed.{Compressed}
 
--- a lane's length, its stored indices, and the value at each of them
+-- a lane's minor dimension, its stored indices, and the value at each of them
 pub record Lane (T : Type 0) : Type 0 where
   pub minor_dim : ℕ
   pub indices : List ℕ
@@ -22,7 +22,7 @@ module _ {T : Type 0} where
   abbrev pub lane_parts : ℕ → List ℕ → List T → Lane T
   lane_parts minor_dim indices values = record { minor_dim = minor_dim; indices = indices; values = values }
 
-  -- the indices rise below the lane's length, and there are as many values
+  -- the indices are strictly increasing and within bounds, and there is one value for each
   pub record IsSoundLane (l : Lane T) : Type 0 where
     pub rising : IsStrictlyIncreasing l.indices
     pub bounded : All (λ j. j < l.minor_dim) l.indices
@@ -37,24 +37,24 @@ module _ {T : Type 0} where
   lanes_from m i zero = []
   lanes_from m i (suc n) = lane_at m i ∷ lanes_from m (i + 1) n
 
-  -- all lanes in order, those without places too
+  -- all lanes in order, including those without places
   abbrev pub lanes_of : Compressed T → List (Lane T)
   lanes_of m = lanes_from m 0 m.pattern.major_dim
 
-  -- the value that stands with the index j, or Zero where j isn't stored
+  -- the value stored at the index j, or Zero if j is not stored
   abbrev pub IsLaneEntryAt : Lane T → ℕ → SparseEntry T → Type 0
   IsLaneEntryAt l j (NonZero x) = (k : ℕ) × (position (λ i. i == j) l.indices ≡ Some k) × (x.now ≡ slice_index_or l.values k x.now)
   IsLaneEntryAt l j Zero = position (λ i. i == j) l.indices ≡ None
 
-  -- that entry in bounds, and None out of bounds
+  -- the entry within bounds, and None out of bounds
   abbrev pub IsLaneEntryOf : Lane T → ℕ → Option (SparseEntry T) → Type 0
   IsLaneEntryOf l j (Some entry) = (j < l.minor_dim) × IsLaneEntryAt l j entry
   IsLaneEntryOf l j None = l.minor_dim ≤ j
 
-  -- the lengths are equal, and so are the indices
+  -- the minor dimensions are equal, and so are the indices
   abbrev pub lane_places_eq : Lane T → Lane T → Bool
   lane_places_eq = eq_of_both (on (λ l. l.minor_dim) ◌==◌) (on (λ l. l.indices) (pointwise ◌==◌))
 
-  -- the answer of `==`
+  -- the result of `==`
   abbrev pub lane_eq : (T → T → Bool) → Lane T → Lane T → Bool
   lane_eq E = eq_of_both lane_places_eq (on (λ l. l.values) (pointwise E))

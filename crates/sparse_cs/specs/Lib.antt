@@ -4,6 +4,9 @@ pub mod UnsortedFaults
 pub mod InnerUnsortedFaults
 pub mod InnerLaneSorting
 pub mod PlainOfLanes
+pub mod Standing
+pub mod InnerRows
+pub mod ChangedValues
 pub mod Laws
 pub mod StoredEntries
 pub mod Lanes
@@ -13,3 +16,4 @@ pub mod LaneEquality
 pub mod Filter
 pub mod InnerFilter
 pub mod TransposedMatrix
+pub mod ColumnOrder

@@ -1,11 +1,11 @@
--- The plain matrix of compressed lanes: read as rows, and read as columns.
+-- The plain matrix of compressed lanes, read as rows or as columns.
 use Rattle.std.specs.Prelude.{ℕ, List, map}
 use Rattle.sparse_algebra.specs.Algebra.{CommRing}
 use Rattle.sparse_algebra.specs.Plain.{Plain, plain_of_triplets, plain_transpose}
 use Rattle.sparse_cs.specs.Compressed.{Compressed, lane_triplets}
 
 module _ (R : CommRing) {T : Type 0} (f : T → R.Carrier) where
-  -- triplets with what their values mean
+  -- triplets with the ring elements that their values represent
   abbrev pub meant : List (ℕ × ℕ × T) → List (ℕ × ℕ × R.Carrier)
   meant ts = map (λ t. (t.0, t.1, f t.2)) ts
 

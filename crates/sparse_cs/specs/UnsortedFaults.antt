@@ -1,4 +1,4 @@
--- The faults of arrays whose lanes needn't be sorted, and their order.
+-- The faults of arrays whose lanes need not be sorted, and their order.
 use Rattle.std.specs.Prelude.{◌≡◌, ◌≢◌, ℕ, ◌+◌, ◌<◌, ◌≤◌, ◌⊎◌, List, Any, length, slice_index}
 use Rattle.std.specs.List.Sorted.{IsPermutation}
 use Rattle.sparse_pattern.specs.Raw.{start_of, end_of, lane_of}
@@ -7,8 +7,8 @@ use Rattle.sparse_pattern.specs.declared.error.SparseFormatErrorKind.{SparseForm
 use Rattle.sparse_pattern.specs.declared.error.SparseFormatErrorKind.TheVariants.{IndexOutOfBounds, DuplicateEntry, InvalidStructure}
 use Rattle.sparse_cs.specs.Compressed.{Compressed, IsSound, lane_triplets}
 
--- where a fault can be: the number of values, no offset at all, the number of offsets, the first and the last of them, and of a lane its
--- end before its start, its end past the indices, the bounds of its indices, and an index that stands twice
+-- where a fault can occur: the number of values, no offset, the number of offsets, the first and the last offset, and for each lane its
+-- end before its start, its end past the indices, the bounds of its indices, and an index that occurs twice
 pub data UnsortedSpot : Type 0 where
   ValueCount : UnsortedSpot
   NoOffsets : UnsortedSpot
@@ -27,7 +27,7 @@ pub record HasRepeat (xs : List ℕ) : Type 0 where
   pub within : other < length xs
   pub same : slice_index xs one ≡ slice_index xs other
 
--- the order of the spots: lane after lane, and in a lane as they are named
+-- the order of faults: lane by lane, and within a lane in the order of the list above
 abbrev pub unsorted_rank : UnsortedSpot → ℕ × ℕ × ℕ
 unsorted_rank ValueCount = (0, 0, 0)
 unsorted_rank NoOffsets = (1, 0, 0)
@@ -38,7 +38,7 @@ unsorted_rank (LaneEnd i) = (i + 4, 1, 0)
 unsorted_rank (LaneBounds i) = (i + 4, 2, 0)
 unsorted_rank (LaneRepeat i) = (i + 4, 3, 0)
 
--- the kind of the error that a fault at this spot is
+-- the kind of the error for a fault here
 abbrev pub unsorted_kind : UnsortedSpot → SparseFormatErrorKind
 unsorted_kind ValueCount = InvalidStructure
 unsorted_kind NoOffsets = InvalidStructure
@@ -50,7 +50,7 @@ unsorted_kind (LaneBounds i) = IndexOutOfBounds
 unsorted_kind (LaneRepeat i) = DuplicateEntry
 
 module _ {T : Type 0} where
-  -- the arrays have a fault at this spot
+  -- the arrays have a fault here
   abbrev pub HasUnsortedFault : Compressed T → UnsortedSpot → Type 0
   HasUnsortedFault m ValueCount = length m.values ≢ length m.pattern.indices
   HasUnsortedFault m NoOffsets = length m.pattern.offsets ≡ 0
@@ -64,13 +64,24 @@ module _ {T : Type 0} where
   abbrev pub IsFaultless : Compressed T → Type 0
   IsFaultless m = (s : UnsortedSpot) → HasUnsortedFault m s → ⊥
 
-  -- the first fault of the arrays is an error of this kind
+  -- the number of values and the offsets as a whole have no fault
+  pub record HasFineCounts (m : Compressed T) : Type 0 where
+    pub values : length m.values ≡ length m.pattern.indices
+    pub offsets : length m.pattern.offsets ≡ m.pattern.major_dim + 1
+    pub first : slice_index m.pattern.offsets 0 ≡ 0
+    pub last : slice_index m.pattern.offsets m.pattern.major_dim ≡ length m.pattern.indices
+
+  -- some lane of the arrays must be sorted
+  abbrev pub NeedsSorting : Compressed T → Type 0
+  NeedsSorting m = HasFineCounts m × ¬ IsSound m
+
+  -- the first fault of the arrays gives an error of this kind
   pub record IsUnsortedRefusal (m : Compressed T) (kind : SparseFormatErrorKind) : Type 0 where
     pub spot : UnsortedSpot
     pub first : IsFirst unsorted_rank (HasUnsortedFault m) spot
     pub is : kind ≡ unsorted_kind spot
 
-  -- sound, with the sizes and the offsets of the given arrays and their triplets, each lane's in rising order
+  -- sound, with the shape and the offsets of the given arrays and their triplets, those of each lane in increasing order
   pub record IsSortedForm (given m : Compressed T) : Type 0 where
     pub sound : IsSound m
     pub major_dim : m.pattern.major_dim ≡ given.pattern.major_dim

@@ -1,4 +1,4 @@
-//! The lanes and the entries of a compressed matrix.
+//! Lanes and entries of a compressed matrix.
 
 ghost use Rattle.std.specs.Prelude.{◌≡◌, ◌<◌, ◌↔◌, IfSome, IsSome};
 ghost use Rattle.sparse_cs.specs.Compressed.{IsSound};
@@ -10,7 +10,7 @@ use crate::lane::{CsLane, LaneIndices};
 use sparse_pattern::entry::SparseEntry;
 
 impl<T> CsMatrix<T> {
-    /// The offsets, the indices and the values.
+    /// Returns the offsets, the indices and the values.
     pub fn cs_data(&self) -> (&[usize], &[usize], &[T])
         ensures offsets { result.0.now ≡ self.now.pattern.offsets }
         ensures indices { result.1.now ≡ self.now.pattern.indices }
@@ -25,7 +25,7 @@ impl<T> CsMatrix<T> {
         )
     }
 
-    /// A lane.
+    /// Returns a lane. `major_index` must be less than the number of lanes.
     pub fn lane(&self, major_index: usize) -> CsLane<'_, T>
         requires { major_index < self.now.pattern.major_dim }
         ensures { result ≡ lane_at self.now major_index }
@@ -40,7 +40,7 @@ impl<T> CsMatrix<T> {
         )
     }
 
-    /// A lane, or `None` out of bounds.
+    /// Returns a lane, or `None` if `major_index` is out of bounds.
     pub fn get_lane(&self, major_index: usize) -> Option<CsLane<'_, T>>
         ensures bounds { IsSome result ↔ (major_index < self.now.pattern.major_dim) }
         ensures lane { IfSome result (λ lane. lane ≡ lane_at self.now major_index) }
@@ -52,7 +52,7 @@ impl<T> CsMatrix<T> {
         }
     }
 
-    /// The entry at a pair of indices in bounds, by binary search in the lane.
+    /// Returns the entry at a pair of indices, both of which must be within bounds. Binary search in the lane.
     pub fn index_entry(&self, major_index: usize, minor_index: usize) -> SparseEntry<'_, T>
         requires { IsInBounds self.now.pattern major_index minor_index }
         ensures { IsEntryAt self.now major_index minor_index result }
@@ -60,7 +60,7 @@ impl<T> CsMatrix<T> {
         self.lane(major_index).index_entry(minor_index)
     }
 
-    /// The entry at a pair of indices, by binary search in the lane, or `None` out of bounds.
+    /// Returns the entry at a pair of indices, or `None` if one is out of bounds. Binary search in the lane.
     pub fn get_entry(&self, major_index: usize, minor_index: usize) -> Option<SparseEntry<'_, T>>
         ensures { IsEntryOf self.now major_index minor_index result }
     {

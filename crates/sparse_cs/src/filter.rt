@@ -1,4 +1,4 @@
-//! The places of a matrix that a test keeps.
+//! Selection of stored places by a predicate.
 
 ghost use Rattle.std.specs.Prelude.{◌≡◌, ℕ, Bool, OnOk, IfOk, length};
 ghost use Rattle.std.specs.List.{filter, zip};
@@ -11,10 +11,11 @@ use sparse_pattern::pattern::SparsityPattern;
 use std::alloc::{AllocError, Global};
 
 impl<T: Copy> CsMatrix<T> {
-    /// The matrix of the same sizes with the places (lane, index) at which the predicate answers `true`, with their values.
+    /// Returns a matrix of the same shape with the stored places (lane, index) for which `predicate` returns `true`, and their values.
     ///
-    /// The predicate is asked once at each stored place, zeros among them, lane after lane, indices rising. Memory is needed for the
-    /// offsets and for what is kept.
+    /// The predicate is called once for each stored place, including those whose value is zero, lane by lane, indices increasing. It must
+    /// be callable with any arguments. Linear in lanes and places; the memory is proportional to the lanes and the places kept. Fails only
+    /// if an allocation fails.
     pub fn filter<P>(&self, alloc: Global, predicate: P) -> Result<Self, AllocError>
     where
         P: Fn(usize, usize, &T) -> bool,
@@ -53,7 +54,7 @@ impl<T: Copy> CsMatrix<T> {
     }
 }
 
-// Appends the indices and the values of a lane at which the predicate answers `true`.
+// Appends the indices and the values of a lane for which the predicate returns `true`.
 fn keep_lane<T: Copy, P: Fn(usize, usize, &T) -> bool>(
     lane: usize,
     indices: &[usize],

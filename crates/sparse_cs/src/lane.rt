@@ -11,7 +11,7 @@ use std::alloc::AllocError;
 use std::fmt::{self, Debug, Formatter, Write};
 use std::marker::Model;
 
-/// The minor indices of a lane, which rise strictly.
+/// The minor indices of a lane, strictly increasing.
 #[derive(Drop)]
 pub struct LaneIndices<'a> {
     indices: &'a [usize],
@@ -29,7 +29,7 @@ impl<'a> Model for LaneIndices<'a> {
 }
 
 impl<'a> LaneIndices<'a> {
-    /// Indices that rise strictly.
+    /// Returns the indices as those of a lane. They must be strictly increasing.
     pub fn new(indices: &'a [usize]) -> Self
         requires { IsStrictlyIncreasing indices.now }
         ensures { result ≡ indices.now }
@@ -37,7 +37,7 @@ impl<'a> LaneIndices<'a> {
         LaneIndices { indices }
     }
 
-    /// The minor indices of a lane of the pattern.
+    /// Returns the minor indices of a lane of a pattern. `major_index` must be within bounds.
     pub fn of_lane(pattern: &'a SparsityPattern, major_index: usize) -> Self
         requires { major_index < pattern.now.major_dim }
         ensures { result ≡ lane_of pattern.now major_index }
@@ -47,7 +47,7 @@ impl<'a> LaneIndices<'a> {
         LaneIndices::new(pattern.lane(major_index))
     }
 
-    /// The indices as a slice.
+    /// Returns the indices as a slice.
     pub fn as_slice(&self) -> &'a [usize]
         ensures indices { result.now ≡ self.now }
         ensures rising { IsStrictlyIncreasing self.now }
@@ -55,14 +55,14 @@ impl<'a> LaneIndices<'a> {
         self.indices
     }
 
-    /// The number of indices.
+    /// Returns the number of indices.
     pub fn len(&self) -> usize
         ensures { result ≡ length self.now }
     {
         self.indices.len()
     }
 
-    /// Where the index stands, if it does, by binary search.
+    /// Returns the position of `minor_index` in the lane, or `None` if it is not stored. Binary search.
     pub fn position_of(&self, minor_index: usize) -> Option<usize>
         ensures position { result ≡ position (λ x. x == minor_index) self.now }
         ensures within { IfSome result (λ at. at < length self.now) }
@@ -89,7 +89,7 @@ impl<'a> Debug for LaneIndices<'a> {
     }
 }
 
-/// One lane of a compressed matrix: its length, the indices of its stored places, and their values.
+/// One lane of a compressed matrix: the indices of its stored places, and their values.
 #[derive(Debug, Drop)]
 pub struct CsLane<'a, T> {
     minor_dim: usize,
@@ -110,7 +110,8 @@ impl<'a, T> Model for CsLane<'a, T> {
 }
 
 impl<'a, T> CsLane<'a, T> {
-    /// The lane of its parts.
+    /// Returns the lane with these indices and values. There must be one value for each index, and each index must be less than
+    /// `minor_dim`.
     pub fn new(minor_dim: usize, minor_indices: LaneIndices<'a>, values: &'a [T]) -> Self
         requires { IsSoundLane (lane_parts minor_dim minor_indices values.now) }
         ensures { result ≡ lane_parts minor_dim minor_indices.entry values.now }
@@ -122,21 +123,21 @@ impl<'a, T> CsLane<'a, T> {
         }
     }
 
-    /// The length of the lane.
+    /// Returns the number of possible minor indices.
     pub fn minor_dim(&self) -> usize
         ensures { result ≡ self.now.minor_dim }
     {
         self.minor_dim
     }
 
-    /// The number of stored places, zeros among them.
+    /// Returns the number of stored places, including those whose value is zero.
     pub fn nnz(&self) -> usize
         ensures { result ≡ length self.now.indices }
     {
         self.minor_indices.len()
     }
 
-    /// The indices of the stored places, rising.
+    /// Returns the indices of the stored places, strictly increasing.
     pub fn minor_indices(&self) -> &'a [usize]
         ensures indices { result.now ≡ self.now.indices }
         ensures sound { IsSoundLane self.now }
@@ -144,7 +145,7 @@ impl<'a, T> CsLane<'a, T> {
         self.minor_indices.as_slice()
     }
 
-    /// The values of the stored places, in the order of their indices.
+    /// Returns the values of the stored places, in the order of their indices.
     pub fn values(&self) -> &'a [T]
         ensures values { result.now ≡ self.now.values }
         ensures sound { IsSoundLane self.now }
@@ -152,7 +153,7 @@ impl<'a, T> CsLane<'a, T> {
         self.values
     }
 
-    /// The entry at an index, by binary search, or `None` out of bounds.
+    /// Returns the entry at an index, or `None` if it is out of bounds. Binary search.
     pub fn get_entry(&self, minor_index: usize) -> Option<SparseEntry<'a, T>>
         ensures { IsLaneEntryOf self.now minor_index result }
     {
@@ -163,7 +164,7 @@ impl<'a, T> CsLane<'a, T> {
         }
     }
 
-    /// The entry at an index in bounds, by binary search.
+    /// Returns the entry at an index, which must be within bounds. Binary search.
     pub fn index_entry(&self, minor_index: usize) -> SparseEntry<'a, T>
         requires { minor_index < self.now.minor_dim }
         ensures { IsLaneEntryAt self.now minor_index result }

@@ -1,7 +1,8 @@
-//! The lanes of a compressed matrix, one after another.
+//! The iterator over the lanes of a compressed matrix.
 
 ghost use Rattle.std.specs.Prelude.{◌≡◌, ⊤};
 ghost use Rattle.std.specs.Iterator.{YieldsFirst, item_count};
+ghost use Rattle.sparse_cs.specs.Compressed.{IsSound};
 ghost use Rattle.sparse_cs.specs.Lanes.{lanes_of};
 
 use crate::CsMatrix;
@@ -10,10 +11,13 @@ use std::alloc::AllocError;
 use std::marker::Model;
 
 impl<T> CsMatrix<T> {
-    /// The lanes in order, those without places too.
+    /// Returns an iterator over the lanes, including those without stored places.
     pub fn lane_iter(&self) -> CsLaneIter<'_, T>
-        ensures { result ≡ lanes_of self.now }
+        ensures all { result ≡ lanes_of self.now }
+        ensures sound { IsSound self.now }
     {
+        // Opens the matrix, so that its soundness can be stated.
+        let _ = &self.values;
         CsLaneIter {
             matrix: self,
             current_lane: 0,
@@ -21,7 +25,7 @@ impl<T> CsMatrix<T> {
     }
 }
 
-/// The lanes of a compressed matrix in order, those without places too.
+/// An iterator over the lanes of a [`CsMatrix`], including those without stored places.
 #[derive(Drop)]
 pub struct CsLaneIter<'a, T> {
     matrix: &'a CsMatrix<T>,

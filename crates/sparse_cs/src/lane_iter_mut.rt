@@ -1,19 +1,19 @@
-//! The lanes of a compressed matrix, with their values lent for writing.
+//! Lanes with values borrowed mutably, and the iterator over them.
 
 ghost use Rattle.std.specs.Prelude.{◌≡◌, ◌<◌, take, drop};
 ghost use Rattle.std.specs.Borrow.{sem};
 ghost use Rattle.std.specs.Iterator.{YieldsFirstBy, item_count};
 ghost use Rattle.sparse_cs.specs.Compressed.{IsSound};
 ghost use Rattle.sparse_cs.specs.Lanes.{lane_at, lanes_of};
-ghost use Rattle.sparse_cs.specs.Left.{lent_lane, lanes_left};
-ghost use Rattle.sparse_cs.specs.Writing.{LendsLane};
+ghost use Rattle.sparse_cs.specs.Left.{lent_lane, lanes_left, lane_values};
+ghost use Rattle.sparse_cs.specs.Writing.{LendsLane, LendsValues};
 
 use crate::CsMatrix;
 use crate::lane::LaneIndices;
 use sparse_pattern::pattern::SparsityPattern;
 use std::mem;
 
-/// One lane, its values for writing.
+/// One lane of a compressed matrix, with its values borrowed mutably.
 #[derive(Drop)]
 pub struct CsLaneMut<'a, T> {
     pub minor_dim: usize,
@@ -22,7 +22,7 @@ pub struct CsLaneMut<'a, T> {
 }
 
 impl<T> CsMatrix<T> {
-    /// A lane, its values for writing.
+    /// Returns a lane with its values borrowed mutably. `major_index` must be less than the number of lanes.
     pub fn lane_mut(&mut self, major_index: usize) -> CsLaneMut<'_, T>
         requires { major_index < self.old.pattern.major_dim }
         ensures* writes_back { sem 𝓛 (LendsLane T.row self.entry major_index result.values) }
@@ -38,9 +38,11 @@ impl<T> CsMatrix<T> {
         }
     }
 
-    /// The lanes in order, the empty ones too, their values for writing.
+    /// Returns an iterator over the lanes, including those without stored places, that borrows their values mutably.
     pub fn lane_iter_mut(&mut self) -> CsLaneIterMut<'_, T>
-        ensures { lanes_left result ≡ lanes_of self.old }
+        ensures* writes_back { sem 𝓛 (LendsValues T.row self.entry (lane_values result)) }
+        ensures all { lanes_left result ≡ lanes_of self.old }
+        ensures sound { IsSound self.old }
     {
         CsLaneIterMut {
             pattern: &self.sparsity_pattern,
@@ -50,7 +52,7 @@ impl<T> CsMatrix<T> {
     }
 }
 
-/// The lanes of a compressed matrix in order, the empty ones too, their values for writing.
+/// An iterator over the lanes of a [`CsMatrix`], including those without stored places, that borrows their values mutably.
 #[derive(Drop)]
 pub struct CsLaneIterMut<'a, T> {
     pattern: &'a SparsityPattern,

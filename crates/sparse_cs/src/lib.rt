@@ -1,4 +1,4 @@
-//! Compressed matrices: the one core that CSR and CSC stand on.
+//! The storage shared by CSR and CSC matrices.
 #![tactic(auto)]
 
 ghost use Rattle.std.specs.Prelude.{◌≡◌, ◌<◌, ◌≤◌, ℕ, IfOk, length, List, ⊤};
@@ -12,6 +12,7 @@ mod lane;
 mod lane_iter;
 mod lane_iter_mut;
 pub mod laws;
+pub mod scaling;
 mod sorted;
 mod transpose;
 mod triplet_iter_mut;
@@ -30,7 +31,7 @@ use std::marker::Model;
 pub use triplet_iter_mut::CsTripletIterMut;
 pub use triplets::CsTripletValues;
 
-/// A pattern with a value at each of its places.
+/// A sparsity pattern with a value for each of its places. The lanes are the rows of a CSR matrix or the columns of a CSC matrix.
 #[derive(Debug, Drop)]
 pub struct CsMatrix<T> {
     sparsity_pattern: SparsityPattern,
@@ -52,7 +53,7 @@ impl<T> Model for CsMatrix<T> {
 }
 
 impl<T> CsMatrix<T> {
-    /// The matrix of a pattern and as many values.
+    /// Returns the matrix of a pattern and its values. There must be one value for each place of the pattern.
     pub fn from_pattern_and_values(pattern: SparsityPattern, values: Vec<T>) -> Self
         requires { length values.items ≡ length pattern.indices }
         ensures is { result ≡ compressed_of pattern values.items }
@@ -66,7 +67,7 @@ impl<T> CsMatrix<T> {
         }
     }
 
-    /// The offsets, the indices and the values, moved out of the matrix.
+    /// Returns the offsets, the indices and the values, and consumes the matrix.
     pub fn disassemble(self) -> (Vec<usize>, Vec<usize>, Vec<T>)
         ensures offsets { result.0.items ≡ self.pattern.offsets }
         ensures indices { result.1.items ≡ self.pattern.indices }
@@ -78,7 +79,7 @@ impl<T> CsMatrix<T> {
         (major_offsets, minor_indices, values)
     }
 
-    /// The pattern and the values, moved out of the matrix.
+    /// Returns the pattern and the values, and consumes the matrix.
     pub fn into_pattern_and_values(self) -> (SparsityPattern, Vec<T>)
         ensures pattern { result.0 ≡ self.pattern }
         ensures values { result.1.items ≡ self.values }
@@ -91,6 +92,7 @@ impl<T> CsMatrix<T> {
         (sparsity_pattern, values)
     }
 
+    /// Returns the pattern.
     pub fn pattern(&self) -> &SparsityPattern
         ensures pattern { result.now ≡ self.now.pattern }
         ensures sound { IsSound self.now }
@@ -98,6 +100,7 @@ impl<T> CsMatrix<T> {
         &self.sparsity_pattern
     }
 
+    /// Returns the values, lane by lane.
     pub fn values(&self) -> &[T]
         ensures values { result.now ≡ self.now.values }
         ensures sound { IsSound self.now }
@@ -105,7 +108,7 @@ impl<T> CsMatrix<T> {
         &self.values
     }
 
-    /// The triplets (lane, index, value) in lane order.
+    /// Returns an iterator over the triplets (lane, index, value), lane by lane, indices increasing.
     pub fn triplet_iter(&self) -> CsTripletIter<'_, T>
         ensures all { result ≡ lane_triplets self.now }
         ensures sound { IsSound self.now }
@@ -118,7 +121,7 @@ impl<T> CsMatrix<T> {
 }
 
 impl<T: Copy> CsMatrix<T> {
-    /// A copy with the same sizes, places and values.
+    /// Returns a copy. Fails only if an allocation fails.
     pub fn clone(&self, alloc: Global) -> Result<Self, AllocError>
         ensures { IfOk result (λ m. m ≡ self.now) }
     {
@@ -148,7 +151,7 @@ impl<T: Eq> Eq for CsMatrix<T> {
     ghost laws = { compressed_eq-equiv T.Eq.laws };
 }
 
-/// The triplets (lane, index, value) of a compressed matrix in lane order.
+/// An iterator over the triplets (lane, index, value) of a [`CsMatrix`], lane by lane, indices increasing.
 #[derive(Drop)]
 pub struct CsTripletIter<'a, T> {
     entries: SparsityPatternIter<'a>,

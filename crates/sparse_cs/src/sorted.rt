@@ -1,4 +1,4 @@
-//! Compressed matrices from arrays whose lanes are sorted.
+//! Construction from arrays with sorted lanes.
 
 ghost use Rattle.std.specs.Prelude.{◌≡◌, ◌≢◌, length, IfOk, IfErr, IsOk};
 ghost use Rattle.sparse_cs.specs.Compressed.{compressed_of, arrays_of, IsSound};
@@ -8,17 +8,17 @@ use crate::CsMatrix;
 use sparse_pattern::error::{SparseFormatError, SparseFormatErrorKind};
 use sparse_pattern::pattern::{SparsityPattern, SparsityPatternFormatError};
 
-/// What is wrong with arrays whose lanes are to be sorted.
+/// A fault of arrays whose lanes must be sorted.
 #[derive(Debug, Clone, Copy, PartialEq, Eq)]
 pub enum SortedFault {
-    /// The first fault of the pattern.
+    /// The offsets and indices do not form a pattern; this is their first fault.
     Pattern(SparsityPatternFormatError),
-    /// The pattern is valid, and the number of values isn't that of its places.
+    /// The pattern is valid, but the number of values is not the number of its places.
     ValueCount,
 }
 
 impl SortedFault {
-    /// The kind of the error that the fault is.
+    /// Returns the kind of the corresponding error.
     pub fn kind(self) -> SparseFormatErrorKind
         ensures { result ≡ sorted_kind self }
     {
@@ -30,9 +30,9 @@ impl SortedFault {
 }
 
 impl<T: Drop> CsMatrix<T> {
-    /// The matrix of arrays whose lanes are sorted, or the first fault: that of the pattern, and then the number of values.
+    /// Returns the matrix of arrays whose lanes are sorted, or their first fault: first those of the pattern, then the number of values.
     ///
-    /// It takes no memory, and drops arrays that it refuses.
+    /// Linear in lanes and indices. Allocates nothing. Invalid arrays are dropped.
     pub fn try_from_sorted_arrays(
         major_dim: usize,
         minor_dim: usize,
@@ -57,7 +57,8 @@ impl<T: Drop> CsMatrix<T> {
         }
     }
 
-    /// The matrix of a pattern and its values, or `ValueCount` where the numbers differ. It takes no memory.
+    /// Returns the matrix of a pattern and its values, or `ValueCount` if the number of values is not the number of places. Allocates
+    /// nothing.
     pub fn try_from_pattern_and_values(
         pattern: SparsityPattern,
         values: Vec<T>,

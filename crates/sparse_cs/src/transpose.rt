@@ -1,4 +1,4 @@
-//! The transpose of a matrix.
+//! The transpose of a compressed matrix.
 
 ghost use Rattle.std.specs.Prelude.{IfOk};
 ghost use Rattle.sparse_cs.specs.Compressed.{IsSound};
@@ -8,10 +8,10 @@ use crate::CsMatrix;
 use std::alloc::{AllocError, Global};
 
 impl<T: Copy> CsMatrix<T> {
-    /// The matrix with sizes and places exchanged: it has at (j, i) the value of (i, j), zeros among them.
+    /// Returns the transpose: its value at (j, i) is the value of this matrix at (i, j). Stored zeros stay stored.
     ///
-    /// It takes time in the number of places and of lanes in both directions. Memory is needed for the result, and for a count for each
-    /// new lane.
+    /// A counting sort: linear in places, lanes and minor indices. Beside the result it allocates one counter for each lane of the result.
+    /// Fails only if an allocation fails.
     pub fn transpose(&self, alloc: Global) -> Result<Self, AllocError>
         ensures transposed { IfOk result (IsTranspose self.now) }
         ensures sound { IfOk result IsSound }

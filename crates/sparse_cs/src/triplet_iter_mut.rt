@@ -1,18 +1,22 @@
-//! The triplets of a compressed matrix, with the values lent for writing.
+//! The iterator over triplets that borrows values mutably.
 
 ghost use Rattle.std.specs.Prelude.{◌≡◌};
+ghost use Rattle.std.specs.Borrow.{sem};
 ghost use Rattle.std.specs.Iterator.{YieldsFirstBy, item_count};
-ghost use Rattle.sparse_cs.specs.Compressed.{lane_triplets};
-ghost use Rattle.sparse_cs.specs.Left.{triplets_left};
+ghost use Rattle.sparse_cs.specs.Compressed.{IsSound, lane_triplets};
+ghost use Rattle.sparse_cs.specs.Left.{triplets_left, triplet_values};
+ghost use Rattle.sparse_cs.specs.Writing.{LendsValues};
 
 use crate::CsMatrix;
 use sparse_pattern::pattern::SparsityPatternIter;
 use std::mem;
 
 impl<T> CsMatrix<T> {
-    /// The triplets (lane, index, value) in lane order, each value for writing.
+    /// Returns an iterator over the triplets (lane, index, value), lane by lane, indices increasing, that borrows each value mutably.
     pub fn triplet_iter_mut(&mut self) -> CsTripletIterMut<'_, T>
-        ensures { triplets_left result ≡ lane_triplets self.old }
+        ensures* writes_back { sem 𝓛 (LendsValues T.row self.entry (triplet_values result)) }
+        ensures all { triplets_left result ≡ lane_triplets self.old }
+        ensures sound { IsSound self.old }
     {
         CsTripletIterMut {
             entries: self.sparsity_pattern.entries(),
@@ -21,7 +25,7 @@ impl<T> CsMatrix<T> {
     }
 }
 
-/// The triplets (lane, index, value) of a compressed matrix in lane order, each value for writing.
+/// An iterator over the triplets (lane, index, value) of a [`CsMatrix`] that borrows each value mutably.
 #[derive(Drop)]
 pub struct CsTripletIterMut<'a, T> {
     entries: SparsityPatternIter<'a>,

@@ -1,4 +1,4 @@
-//! Copies of the iterators over triplets, and the triplets with copied values.
+//! Copies of the iterators over triplets, and the iterator over triplets with copied values.
 
 ghost use Rattle.std.specs.Prelude.{◌≡◌, ⊤};
 ghost use Rattle.std.specs.Iterator.{YieldsFirst, item_count};
@@ -21,7 +21,7 @@ impl<'a, T> Clone for CsTripletIter<'a, T> {
 }
 
 impl<'a, T: Copy> CsTripletIter<'a, T> {
-    /// The triplets that are left, with copies of their values.
+    /// Returns an iterator over the remaining triplets that yields copies of their values.
     pub fn cloned_values(self) -> CsTripletValues<'a, T>
         ensures { result ≡ self.entry }
     {
@@ -29,7 +29,7 @@ impl<'a, T: Copy> CsTripletIter<'a, T> {
     }
 }
 
-/// The triplets (lane, index, value) of a compressed matrix in lane order, with copies of the values.
+/// An iterator over the triplets (lane, index, value) of a [`CsMatrix`] that yields copies of the values.
 #[derive(Drop)]
 pub struct CsTripletValues<'a, T> {
     triplets: CsTripletIter<'a, T>,

@@ -1,4 +1,4 @@
-//! Values lent for writing: all of them, or the value at one place.
+//! Mutable borrows of the values: all of them, or the value at one place.
 
 ghost use Rattle.std.specs.Prelude.{◌≡◌, ◌<◌, length, slice_index_or, IfSome};
 ghost use Rattle.std.specs.Borrow.{sem};
@@ -13,7 +13,7 @@ use sparse_pattern::entry::{Found, Missing, SparseEntry, SparseEntryMut};
 use sparse_pattern::pattern::SparsityPattern;
 
 impl<T> CsMatrix<T> {
-    /// The values for writing.
+    /// Returns the values, borrowed mutably.
     pub fn values_mut(&mut self) -> &mut [T]
         ensures* writes_back { sem 𝓛 (LendsValues T.row self.entry result) }
         ensures values { result.now ≡ self.old.values }
@@ -21,7 +21,7 @@ impl<T> CsMatrix<T> {
         &mut self.values[..]
     }
 
-    /// The pattern, and the values for writing.
+    /// Returns the pattern, and the values borrowed mutably.
     pub fn pattern_and_values_mut(&mut self) -> (&SparsityPattern, &mut [T])
         ensures* writes_back { sem 𝓛 (LendsValues T.row self.entry result.1) }
         ensures pattern { result.0.now ≡ self.old.pattern }
@@ -30,7 +30,7 @@ impl<T> CsMatrix<T> {
         (&self.sparsity_pattern, &mut self.values[..])
     }
 
-    /// The offsets, the indices, and the values for writing.
+    /// Returns the offsets, the indices, and the values borrowed mutably.
     pub fn cs_data_mut(&mut self) -> (&[usize], &[usize], &mut [T])
         ensures* writes_back { sem 𝓛 (LendsValues T.row self.entry result.2) }
         ensures offsets { result.0.now ≡ self.old.pattern.offsets }
@@ -45,7 +45,9 @@ impl<T> CsMatrix<T> {
         )
     }
 
-    /// Where the value of a place is stored, if it is, by binary search in the lane.
+    /// Returns the position of a place among the values, or `None` if it is not stored. Binary search in the lane.
+    ///
+    /// `major_index` must be less than the number of lanes.
     pub fn position_of(&self, major_index: usize, minor_index: usize) -> Option<usize>
         requires { major_index < self.now.pattern.major_dim }
         ensures position { result ≡ place_of self.now.pattern major_index minor_index }
@@ -59,7 +61,7 @@ impl<T> CsMatrix<T> {
         }
     }
 
-    /// The value at a pair of indices for writing, or why there is none.
+    /// Returns the value at a pair of indices, borrowed mutably, or the reason why there is none. Binary search in the lane.
     pub fn find_mut(&mut self, major_index: usize, minor_index: usize) -> Found<'_, T>
         ensures* writes_back { sem 𝓛 (LendsFound T.row self.entry major_index minor_index result) }
         ensures found { IsFoundAt self.old major_index minor_index result }
@@ -75,7 +77,7 @@ impl<T> CsMatrix<T> {
         }
     }
 
-    /// What the matrix has at a pair of indices in bounds, for writing.
+    /// Returns the entry at a pair of indices, borrowed mutably. Both must be within bounds. Binary search in the lane.
     pub fn index_entry_mut(
         &mut self,
         major_index: usize,
@@ -92,7 +94,7 @@ impl<T> CsMatrix<T> {
     }
 }
 
-/// An element of a slice for writing.
+/// Returns an element of a slice, borrowed mutably. `position` must be less than the length of the slice.
 pub fn element_mut<'a, T>(values: &'a mut [T], position: usize) -> &'a mut T
     requires { position < length values.old }
     ensures* writes_back { sem 𝓛 (LendsElement T.row values.entry position result) }
@@ -101,7 +103,7 @@ pub fn element_mut<'a, T>(values: &'a mut [T], position: usize) -> &'a mut T
     &mut values[position]
 }
 
-/// The entry at an index of a lane of these parts, by binary search, or `None` out of bounds.
+/// Returns the entry at an index of a lane given by its parts, or `None` if the index is out of bounds. Binary search.
 pub fn entry_in<'a, T>(
     minor_dim: usize,
     indices: &LaneIndices<'_>,

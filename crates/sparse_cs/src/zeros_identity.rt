@@ -1,4 +1,4 @@
-//! The matrices without places, and the identity.
+//! Zero matrices and identity matrices.
 
 ghost use Rattle.std.specs.Prelude.{◌≡◌, [], All, IfOk, EachIndex, slice_index, vec_len};
 ghost use Rattle.sparse_pattern.specs.Raw.{empty_raw};
@@ -12,7 +12,7 @@ use sparse_pattern::pattern::SparsityPattern;
 use std::alloc::{AllocError, Global};
 
 impl<T> CsMatrix<T> {
-    /// The matrix without places.
+    /// Returns a matrix without stored places. Allocates `major_dim + 1` offsets, and fails only if that allocation fails.
     pub fn zeros(alloc: Global, major_dim: usize, minor_dim: usize) -> Result<Self, AllocError>
         ensures is { IfOk result (λ m. m ≡ compressed_of (empty_raw major_dim minor_dim) []) }
         ensures sound { IfOk result IsSound }
@@ -23,7 +23,8 @@ impl<T> CsMatrix<T> {
 }
 
 impl<T: Ring> CsMatrix<T> {
-    /// The identity of a size: a stored one at each place (i, i), also in a ring where one equals zero.
+    /// Returns the identity matrix of order `n`, with `n` stored ones, even in a ring where one equals zero. Fails only if an allocation
+    /// fails.
     pub fn identity(alloc: Global, n: usize) -> Result<Self, AllocError>
         ensures plain { IfOk result (λ m. plain_of_rows T.ring T.value m ≡ plain_identity T.ring n) }
         ensures sound { IfOk result IsSound }
@@ -44,13 +45,21 @@ fn numbers_below(alloc: Global, n: usize) -> Result<Vec<usize>, AllocError>
     ensures count { IfOk result (λ v. vec_len v ≡ n) }
     ensures numbers { IfOk result (λ v. EachIndex v.items (λ k. slice_index v.items k ≡ k)) }
 {
-    (0..n).collect(alloc)
+    let mut numbers = Vec::with_capacity(alloc, n)?;
+    for number in 0..n {
+        numbers.push(number)?;
+    }
+    Ok(numbers)
 }
 
-// As many ones.
+// n ones.
 fn ones<T: Ring>(alloc: Global, n: usize) -> Result<Vec<T>, AllocError>
     ensures count { IfOk result (λ v. vec_len v ≡ n) }
     ensures ones { IfOk result (λ v. All (λ x. T.value x ≡ T.ring.one) v.items) }
 {
-    (0..n).map(|_| T::one()).collect(alloc)
+    let mut ones = Vec::with_capacity(alloc, n)?;
+    for _ in 0..n {
+        ones.push(T::one())?;
+    }
+    Ok(ones)
 }

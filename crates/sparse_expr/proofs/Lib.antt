@@ -1,4 +1,5 @@
 pub mod Values
 pub mod Postfix
+pub mod Trees
 pub mod Loading
 pub mod Outcome

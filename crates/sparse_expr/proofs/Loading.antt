@@ -10,10 +10,10 @@ use Rattle.sparse_io.specs.Written.{IsRefusedWrite}
 use Rattle.sparse_parser.specs.declared.error.MatrixMarketErrorKind.{MatrixMarketErrorKind}
 use Rattle.sparse_parser.specs.declared.error.MatrixMarketErrorKind.TheVariants as kinds
 use Rattle.sparse_expr.specs.PostfixWords.{texts}
-use Rattle.sparse_expr.specs.Run.{AllMean, IsFirstRefused}
+use Rattle.sparse_expr.specs.Run.{AllMean, IsFirstRefused, scalar64}
 
 AllMean-push : (ts : List (List ℕ)) (ms : List (Coo ℤ)) (t : List ℕ) (m : Coo ℤ) → AllMean ts ms
-    → Means t (Ok m) → AllMean (ts ++ t ∷ []) (ms ++ m ∷ [])
+    → Means scalar64 t (Ok m) → AllMean (ts ++ t ∷ []) (ms ++ m ∷ [])
 AllMean-push [] [] t m all here = (here, tt)
 AllMean-push [] (x ∷ ms) t m all here = absurd all
 AllMean-push (x ∷ ts) [] t m all here = absurd all
@@ -23,11 +23,11 @@ module _ (items : List (Bor (List ℕ))) (k : ℕ) (w : Bor (List ℕ)) (inside 
   more : take (k + 1) (texts items) ≡ take k (texts items) ++ (get_or items k w).now ∷ []
   more = take_more (texts items) k w.now (rw length-map inside) ∙ ap (λ t. take k (texts items) ++ t ∷ []) (get_or-map (λ (b : Bor (List ℕ)). b.now) items k w)
 
-  pub AllMean-more : (m : Coo ℤ) (ms' : List (Coo ℤ)) → Means (get_or items k w).now (Ok m)
+  pub AllMean-more : (m : Coo ℤ) (ms' : List (Coo ℤ)) → Means scalar64 (get_or items k w).now (Ok m)
       → ms' ≡ ms ++ m ∷ [] → AllMean (take (k + 1) (texts items)) ms'
   AllMean-more m ms' here e = rw (more, e) (AllMean-push (take k (texts items)) ms (get_or items k w).now m taken here)
 
-  pub refused-at : (kind : MatrixMarketErrorKind) → Means (get_or items k w).now (Err kind)
+  pub refused-at : (kind : MatrixMarketErrorKind) → Means scalar64 (get_or items k w).now (Err kind)
       → IsFirstRefused (texts items) (k + 1) kind
   refused-at kind refused = record {
     before = take k (texts items);
@@ -44,7 +44,7 @@ pub AllMean-all : (items : List (Bor (List ℕ))) (k : ℕ) (ms : List (Coo ℤ)
     → AllMean (take k (texts items)) ms → AllMean (texts items) ms
 AllMean-all items k ms all taken = subst (λ l. AllMean l ms) (take_all k (texts items) (rw length-map all)) taken
 
--- a refused write that isn't the sink's is want of memory
+-- a refused write that is not the sink's is an allocation failure
 pub memory-refused : (kind : MatrixMarketErrorKind) (before after : ℕ) (last : Option ErrorKind)
     → IsRefusedWrite kind before after last → ((k : ErrorKind) → kind ≡ kinds.IOError k → ⊥)
     → after ≡ before

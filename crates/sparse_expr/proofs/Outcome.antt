@@ -8,27 +8,27 @@ use Rattle.std.proofs.lemmas.List.{length-map}
 use Rattle.sparse_algebra.specs.Algebra.{CommRing}
 use Rattle.sparse_algebra.specs.Sums.{sum_by, where_true}
 use Rattle.sparse_base.specs.Coo.{Coo}
-use Rattle.sparse_algebra.specs.Plain.{Plain, is_at, plain_of_triplets, plain_product}
+use Rattle.sparse_algebra.specs.Plain.{Plain, is_at, plain_of_triplets, plain_sum, plain_difference, plain_product, plain_transpose, plain_negation}
 use Rattle.sparse_algebra.specs.Wrapping.{class_of}
 use Rattle.sparse_algebra.specs.Numbers.{w64_number}
 use Rattle.sparse_algebra.specs.declared.scalar.wrapping.W64.{W64}
 use Rattle.sparse_algebra.proofs.PlainLemmas.{same_plain}
 use Rattle.sparse_algebra.proofs.WholeNumbers.{number_of-class}
-use Rattle.sparse_cs.specs.Compressed.{Compressed, IsSound, lane_triplets}
+use Rattle.sparse_cs.specs.Compressed.{Compressed, IsSound, lane_triplets, turned}
 use Rattle.sparse_base.specs.CooPlain.{plain_of_coo}
-use Rattle.sparse_cs.specs.PlainOfLanes.{plain_of_rows, meant}
+use Rattle.sparse_cs.specs.PlainOfLanes.{plain_of_rows, plain_of_cols, meant}
 use Rattle.sparse_cs.proofs.RowOrder.{row_order-rows}
-use Rattle.sparse_parser.specs.Meaning.{numbers_of}
+use Rattle.sparse_cs.proofs.ColOrder.{col_order-cols}
 use Rattle.sparse_io.specs.Written.{written_text, heading, size_line, triplet_line}
 use Rattle.sparse_expr.specs.declared.calculator.Form.{Form}
-use Rattle.sparse_expr.specs.declared.calculator.Form.TheVariants.{Rows}
+use Rattle.sparse_expr.specs.declared.calculator.Form.TheVariants.{Rows, Cols}
 use Rattle.sparse_expr.specs.declared.expr.Expr.{Expr}
 use Rattle.sparse_expr.specs.declared.expr.Expr.TheVariants as tree
 use Rattle.sparse_expr.specs.declared.error.ExprError.{ExprError}
 use Rattle.sparse_expr.specs.declared.error.ExprError.TheVariants as errors
-use Rattle.sparse_expr.specs.Value.{value_of, found, input_at, both, product_of}
+use Rattle.sparse_expr.specs.Value.{value_of, found, input_at, both, one, same_sizes, sum_of, difference_of, product_of}
 use Rattle.sparse_expr.specs.Run.{ring64, element_text, text_in, plains, AllMean, HasOutcome, WritesSome, Effect, IsUntouched, RefusesRun}
-use Rattle.sparse_expr.specs.InnerRun.{rows_text, RefusesLoad, RefusesSave}
+use Rattle.sparse_expr.specs.InnerRun.{numbers_of, rows_text, cols_text, RefusesLoad, RefusesSave}
 
 -- ---- triplets whose values are read by way of another type
 
@@ -82,9 +82,11 @@ text_in-rows m sound =
     ap (written_text (codes "integer") element_text m.pattern.major_dim m.pattern.minor_dim) (row_order-rows ring64 (λ x. class_of w64 (w64_number x)) m sound)
     ∙ written-via (λ x. class_of w64 (w64_number x)) element_text (λ x. signed_decimal (w64_number x)) element-text (codes "integer") m.pattern.major_dim m.pattern.minor_dim (lane_triplets m)
 
-pub text_in-any : (form : Form) (m : Compressed W64) → IsSound m
-    → text_in form (plain_of_rows ring64 (λ x. class_of w64 (w64_number x)) m) ≡ rows_text m
-text_in-any Rows m sound = text_in-rows m sound
+pub text_in-cols : (m : Compressed W64) → IsSound m
+    → text_in Cols (plain_of_cols ring64 (λ x. class_of w64 (w64_number x)) m) ≡ cols_text m
+text_in-cols m sound =
+    ap (written_text (codes "integer") element_text m.pattern.minor_dim m.pattern.major_dim) (col_order-cols ring64 (λ x. class_of w64 (w64_number x)) m sound)
+    ∙ written-via (λ x. class_of w64 (w64_number x)) element_text (λ x. signed_decimal (w64_number x)) element-text (codes "integer") m.pattern.minor_dim m.pattern.major_dim (map turned (lane_triplets m))
 
 -- ---- the answer of a run
 
@@ -112,23 +114,36 @@ input-refuses : (inputs : List Value) (n : ℕ) (e : ExprError) → input_at rin
 input-refuses inputs zero e h = inl cc
 input-refuses inputs (suc n) e h = found-refuses (slice_get inputs n) e h
 
-product-refuses : (b : Bool) (c : Value) (e : ExprError)
+made-refuses : (b : Bool) (c : Value) (e : ExprError)
     → (if b then Ok c else Err errors.Shape) ≡ Err e → (e ≡ errors.NoSuchInput) ⊎ (e ≡ errors.Shape)
-product-refuses true c e h = absurd cc
-product-refuses false c e h = inr cc
+made-refuses true c e h = absurd cc
+made-refuses false c e h = inr cc
 
-both-refuses : (r s : Result Value ExprError) (e : ExprError)
-    → ((f : ExprError) → r ≡ Err f → (f ≡ errors.NoSuchInput) ⊎ (f ≡ errors.Shape))
-    → ((f : ExprError) → s ≡ Err f → (f ≡ errors.NoSuchInput) ⊎ (f ≡ errors.Shape))
-    → both ring64 (product_of ring64) r s ≡ Err e → (e ≡ errors.NoSuchInput) ⊎ (e ≡ errors.Shape)
-both-refuses (Err f) s e left right h = left e h
-both-refuses (Ok a) (Err f) e left right h = right e h
-both-refuses (Ok a) (Ok b) e left right h = product-refuses (nat_eq a.cols b.rows) (plain_product ring64 a b) e h
+abbrev Refuses : ExprError → Type 0
+Refuses e = (e ≡ errors.NoSuchInput) ⊎ (e ≡ errors.Shape)
+
+both-refuses : (make : Value → Value → Result Value ExprError)
+    → ((a b : Value) (f : ExprError) → make a b ≡ Err f → Refuses f)
+    → (r s : Result Value ExprError) (e : ExprError)
+    → ((f : ExprError) → r ≡ Err f → Refuses f) → ((f : ExprError) → s ≡ Err f → Refuses f)
+    → both ring64 make r s ≡ Err e → Refuses e
+both-refuses make made (Err f) s e left right h = left e h
+both-refuses make made (Ok a) (Err f) e left right h = right e h
+both-refuses make made (Ok a) (Ok b) e left right h = made a b e h
+
+one-refuses : (make : Value → Value) (r : Result Value ExprError) (e : ExprError)
+    → ((f : ExprError) → r ≡ Err f → Refuses f) → one ring64 make r ≡ Err e → Refuses e
+one-refuses make (Err f) e inner h = inner e h
+one-refuses make (Ok a) e inner h = absurd cc
 
 value-refuses : (inputs : List Value) (expr : Expr) (e : ExprError)
-    → value_of ring64 inputs expr ≡ Err e → (e ≡ errors.NoSuchInput) ⊎ (e ≡ errors.Shape)
+    → value_of ring64 inputs expr ≡ Err e → Refuses e
 value-refuses inputs (tree.Input n) e h = input-refuses inputs n e h
-value-refuses inputs (tree.Mul' p a q b) e h = both-refuses (value_of ring64 inputs a) (value_of ring64 inputs b) e (value-refuses inputs a) (value-refuses inputs b) h
+value-refuses inputs (tree.Add' p a q b) e h = both-refuses (sum_of ring64) (λ x y f. made-refuses (same_sizes ring64 x y) (plain_sum ring64 x y) f) (value_of ring64 inputs a) (value_of ring64 inputs b) e (value-refuses inputs a) (value-refuses inputs b) h
+value-refuses inputs (tree.Sub' p a q b) e h = both-refuses (difference_of ring64) (λ x y f. made-refuses (same_sizes ring64 x y) (plain_difference ring64 x y) f) (value_of ring64 inputs a) (value_of ring64 inputs b) e (value-refuses inputs a) (value-refuses inputs b) h
+value-refuses inputs (tree.Mul' p a q b) e h = both-refuses (product_of ring64) (λ x y f. made-refuses (nat_eq x.cols y.rows) (plain_product ring64 x y) f) (value_of ring64 inputs a) (value_of ring64 inputs b) e (value-refuses inputs a) (value-refuses inputs b) h
+value-refuses inputs (tree.Transpose' p a) e h = one-refuses (plain_transpose ring64) (value_of ring64 inputs a) e (value-refuses inputs a) h
+value-refuses inputs (tree.Neg' p a) e h = one-refuses (plain_negation ring64) (value_of ring64 inputs a) e (value-refuses inputs a) h
 
 pub refuses-value : (form : Form) (texts : List (List ℕ)) (expr : Expr) (eff : Effect) (e : ExprError)
     → IsUntouched eff → (e ≡ errors.OutOfMemory) ⊎ HasOutcome texts expr (Err e)

@@ -1,33 +1,57 @@
 -- Tokens of a stack of trees.
-use Rattle.std.proofs.Common.{◌≡◌, ℕ, zero, suc, ◌+◌, ◌<◌, ◌≤◌, ◌⊎◌, inl, inr, List, [], ◌∷◌, ◌++◌, length, map, take, drop, get_or, slice_get, Some, cond, refl, sym, ap, subst, ◌∙◌, append_assoc, take-append-drop, arith}
+use Rattle.std.proofs.Common.{◌≡◌, ℕ, zero, suc, ◌+◌, ◌<◌, ◌≤◌, ◌⊎◌, inl, inr, List, [], ◌∷◌, ◌++◌, length, map, take, drop, get_or, slice_get, Some, cond, true, false, refl, sym, ap, subst, ◌∙◌, append_assoc, take-append-drop, arith}
 use Rattle.std.specs.Prelude.{count_by}
 use Rattle.std.specs.List.{flat_map}
 use Rattle.std.proofs.lemmas.List.{map_push, take_more, take_all, length-map, get_or-map}
 use denote.Ref.{Bor}
 use Rattle.std.proofs.lemmas.List.Sums.{sum_by-append}
 use Rattle.sparse_expr.specs.declared.words.Token.{Token}
-use Rattle.sparse_expr.specs.declared.words.Token.TheVariants.{Times}
+use Rattle.sparse_expr.specs.declared.words.Token.TheVariants.{Plus, Minus, Times, Turn, Negate}
 use Rattle.sparse_expr.specs.declared.expr.Expr.{Expr}
 use Rattle.sparse_expr.specs.declared.expr.Expr.TheVariants as tree
 use Rattle.sparse_expr.specs.declared.error.ExprError.{ExprError}
-use Rattle.sparse_expr.specs.PostfixWords.{is_operand, is_operator, takes, height, token_of, texts, postfix, AreFine, IsFault, IsRefused}
+use Rattle.sparse_expr.specs.PostfixWords.{is_operand, is_binary, takes, height, token_of, texts, postfix, AreFine, IsFault, IsRefused}
 
-operands-append : (xs ys : List Token)
+pub operands-append : (xs ys : List Token)
     → count_by is_operand (xs ++ ys) ≡ count_by is_operand xs + count_by is_operand ys
 operands-append xs ys = sum_by-append (λ t. cond (is_operand t) 1 0) xs ys
 
-operators-append : (xs ys : List Token)
-    → count_by is_operator (xs ++ ys) ≡ count_by is_operator xs + count_by is_operator ys
-operators-append xs ys = sum_by-append (λ t. cond (is_operator t) 1 0) xs ys
+pub operators-append : (xs ys : List Token)
+    → count_by is_binary (xs ++ ys) ≡ count_by is_binary xs + count_by is_binary ys
+operators-append xs ys = sum_by-append (λ t. cond (is_binary t) 1 0) xs ys
 
--- a tree has one operand more than operators
+-- of two trees and a token that joins them
+joined : (a b : Expr) (t : Token) → is_operand t ≡ false → is_binary t ≡ true
+    → count_by is_operand (postfix a) ≡ count_by is_binary (postfix a) + 1
+    → count_by is_operand (postfix b) ≡ count_by is_binary (postfix b) + 1
+    → count_by is_operand (postfix a ++ (postfix b ++ (t ∷ [])))
+    ≡ count_by is_binary (postfix a ++ (postfix b ++ (t ∷ []))) + 1
+joined a b t eo eb ha hb =
+    let o : count_by is_operand (t ∷ []) ≡ 0 = ap (λ c. 0 + cond c 1 0) eo in
+    let k : count_by is_binary (t ∷ []) ≡ 1 = ap (λ c. 0 + cond c 1 0) eb in
+    omega (arith, operands-append (postfix a) (postfix b ++ (t ∷ [])), operators-append (postfix a) (postfix b ++ (t ∷ [])), operands-append (postfix b) (t ∷ []), operators-append (postfix b) (t ∷ []), ha, hb, o, k)
+
+-- of a tree and a token that changes it
+changed : (a : Expr) (t : Token) → is_operand t ≡ false → is_binary t ≡ false
+    → count_by is_operand (postfix a) ≡ count_by is_binary (postfix a) + 1
+    → count_by is_operand (postfix a ++ (t ∷ [])) ≡ count_by is_binary (postfix a ++ (t ∷ [])) + 1
+changed a t eo eb ha =
+    let o : count_by is_operand (t ∷ []) ≡ 0 = ap (λ c. 0 + cond c 1 0) eo in
+    let k : count_by is_binary (t ∷ []) ≡ 0 = ap (λ c. 0 + cond c 1 0) eb in
+    omega (arith, operands-append (postfix a) (t ∷ []), operators-append (postfix a) (t ∷ []), ha, o, k)
+
+-- a tree has one operand more than operators that join two
 operands-postfix : (e : Expr)
-    → count_by is_operand (postfix e) ≡ count_by is_operator (postfix e) + 1
+    → count_by is_operand (postfix e) ≡ count_by is_binary (postfix e) + 1
 operands-postfix (tree.Input n) = omega arith
-operands-postfix (tree.Mul' p a q b) = omega (arith, operands-append (postfix a) (postfix b ++ (Times ∷ [])), operators-append (postfix a) (postfix b ++ (Times ∷ [])), operands-append (postfix b) (Times ∷ []), operators-append (postfix b) (Times ∷ []), operands-postfix a, operands-postfix b)
+operands-postfix (tree.Add' p a q b) = joined a b Plus refl refl (operands-postfix a) (operands-postfix b)
+operands-postfix (tree.Sub' p a q b) = joined a b Minus refl refl (operands-postfix a) (operands-postfix b)
+operands-postfix (tree.Mul' p a q b) = joined a b Times refl refl (operands-postfix a) (operands-postfix b)
+operands-postfix (tree.Transpose' p a) = changed a Turn refl refl (operands-postfix a)
+operands-postfix (tree.Neg' p a) = changed a Negate refl refl (operands-postfix a)
 
 operands-stack : (es : List Expr)
-    → count_by is_operand (flat_map postfix es) ≡ count_by is_operator (flat_map postfix es) + length es
+    → count_by is_operand (flat_map postfix es) ≡ count_by is_binary (flat_map postfix es) + length es
 operands-stack [] = omega arith
 operands-stack (e ∷ es) = omega (arith, operands-append (postfix e) (flat_map postfix es), operators-append (postfix e) (flat_map postfix es), operands-postfix e, operands-stack es)
 

@@ -1,4 +1,6 @@
 pub mod Value
 pub mod PostfixWords
+pub mod OneTree
 pub mod Run
 pub mod InnerRun
+pub mod InnerTurned

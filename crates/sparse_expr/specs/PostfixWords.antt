@@ -1,14 +1,12 @@
 -- Words in postfix order, and the expression that they say.
-use Rattle.std.specs.Prelude.{◌≡◌, ◌⊎◌, ℕ, ◌-◌, ◌<◌, ◌≤◌, ◌^◌, ◌==◌, ◌&&◌, Bool, true, false, if◌then◌else◌, nat_lt, List, [], ◌∷◌, ◌++◌, length, map, take, slice_get, filter, count_by, Option, Some, None}
-use Rattle.std.specs.List.{list_all, slice_split}
-use Rattle.std.specs.Char.{is_ascii_digit}
+use Rattle.std.specs.Prelude.{◌≡◌, ◌⊎◌, ℕ, ◌-◌, ◌<◌, ◌≤◌, ◌^◌, ◌==◌, ◌&&◌, Bool, true, false, if◌then◌else◌, nat_lt, List, [], ◌∷◌, ◌++◌, map, take, slice_get, count_by, Option, Some, None}
 use Rattle.std.specs.Str.{bytes_eq}
 use Rattle.std.specs.Str.Parse.{digits_value}
 use denote.Ref.{Bor}
 use Rattle.sparse_parser.specs.Words.{words_between}
 use Rattle.sparse_parser.specs.Grammar.{is_index}
 use Rattle.sparse_expr.specs.declared.words.Token.{Token}
-use Rattle.sparse_expr.specs.declared.words.Token.TheVariants.{Operand, Times}
+use Rattle.sparse_expr.specs.declared.words.Token.TheVariants.{Operand, Plus, Minus, Times, Turn, Negate}
 use Rattle.sparse_expr.specs.declared.expr.Expr.{Expr}
 use Rattle.sparse_expr.specs.declared.expr.Expr.TheVariants as tree
 use Rattle.sparse_expr.specs.declared.error.ExprError.{ExprError}
@@ -29,26 +27,41 @@ words_of text = words_between is_space text
 abbrev pub operand_of : ℕ → Option Token
 operand_of n = if nat_lt 0 n && nat_lt n (2 ^ 64) then Some (Operand n) else None
 
--- the token that a word is: the number of an input, or `*`
+-- the token of a word that is no number: `+`, `-`, `*`, `t`, `n`
+abbrev pub operator_of : List ℕ → Option Token
+operator_of word = if bytes_eq word (43 ∷ []) then Some Plus
+    else (if bytes_eq word (45 ∷ []) then Some Minus
+    else (if bytes_eq word (42 ∷ []) then Some Times
+    else (if bytes_eq word (116 ∷ []) then Some Turn
+    else (if bytes_eq word (110 ∷ []) then Some Negate else None))))
+
+-- the token that a word is: the number of an input, or an operator
 abbrev pub token_of : List ℕ → Option Token
-token_of word = if is_index word then operand_of (digits_value 10 word) else (if bytes_eq word (42 ∷ []) then Some Times else None)
+token_of word = if is_index word then operand_of (digits_value 10 word) else operator_of word
 
 abbrev pub is_operand : Token → Bool
 is_operand (Operand n) = true
-is_operand Times = false
+is_operand _ = false
 
-abbrev pub is_operator : Token → Bool
-is_operator (Operand n) = false
-is_operator Times = true
+-- whether the token makes one operand of two
+abbrev pub is_binary : Token → Bool
+is_binary Plus = true
+is_binary Minus = true
+is_binary Times = true
+is_binary _ = false
 
 -- how many operands a token takes
 abbrev pub takes : Token → ℕ
 takes (Operand n) = 0
+takes Plus = 2
+takes Minus = 2
 takes Times = 2
+takes Turn = 1
+takes Negate = 1
 
--- the operands at hand after these tokens: each operator makes one of two
+-- the number of operands on the stack after these tokens: the inputs, less one for each of `+`, `-`, `*`
 abbrev pub height : List Token → ℕ
-height tokens = count_by is_operand tokens - count_by is_operator tokens
+height tokens = count_by is_operand tokens - count_by is_binary tokens
 
 -- the words are these tokens, and each finds its operands before it
 pub record AreFine (words : List (List ℕ)) (tokens : List Token) : Type 0 where
@@ -78,7 +91,11 @@ IsRefused words e = IsFirstFault words e
 -- an expression in postfix order
 abbrev pub postfix : Expr → List Token
 postfix (tree.Input n) = Operand n ∷ []
+postfix (tree.Add' p a q b) = postfix a ++ (postfix b ++ (Plus ∷ []))
+postfix (tree.Sub' p a q b) = postfix a ++ (postfix b ++ (Minus ∷ []))
 postfix (tree.Mul' p a q b) = postfix a ++ (postfix b ++ (Times ∷ []))
+postfix (tree.Transpose' p a) = postfix a ++ (Turn ∷ [])
+postfix (tree.Neg' p a) = postfix a ++ (Negate ∷ [])
 
 -- the words say the expression
 abbrev pub IsSaid : List (List ℕ) → Expr → Type 0

@@ -9,8 +9,11 @@ use Rattle.sparse_algebra.specs.Wrapping.{wrapping_ring, class_of}
 use Rattle.sparse_algebra.specs.Whole.{number_of}
 use Rattle.sparse_base.specs.Coo.{Coo}
 use Rattle.sparse_algebra.specs.Plain.{Plain, row_order}
+use Rattle.sparse_cs.specs.ColumnOrder.{col_order}
 use Rattle.sparse_base.specs.CooPlain.{plain_of_coo}
+use Rattle.sparse_parser.specs.Scalars.{Scalar}
 use Rattle.sparse_parser.specs.Meaning.{Means}
+use Rattle.sparse_io.specs.ScalarTypes.{wrapping_scalar}
 use Rattle.sparse_io.specs.Sink.{AppendsSome}
 use Rattle.sparse_io.specs.Written.{written_text}
 use Rattle.sparse_parser.specs.declared.error.MatrixMarketErrorKind.{MatrixMarketErrorKind}
@@ -18,7 +21,7 @@ use Rattle.sparse_expr.specs.declared.expr.Expr.{Expr}
 use Rattle.sparse_expr.specs.declared.error.ExprError.{ExprError}
 use Rattle.sparse_expr.specs.declared.error.ExprError.TheVariants as refusal
 use Rattle.sparse_expr.specs.declared.calculator.Form.{Form}
-use Rattle.sparse_expr.specs.declared.calculator.Form.TheVariants.{Rows}
+use Rattle.sparse_expr.specs.declared.calculator.Form.TheVariants.{Rows, Cols}
 use Rattle.sparse_expr.specs.Value.{value_of}
 
 -- the integers modulo 2^64
@@ -32,11 +35,16 @@ element_text c = signed_decimal (number_of w64 c)
 -- the text of a plain matrix, in the order of a form
 abbrev pub text_in : Form → Plain ring64 → List ℕ
 text_in Rows a = written_text (codes "integer") element_text a.rows a.cols (row_order ring64 a)
+text_in Cols a = written_text (codes "integer") element_text a.rows a.cols (col_order ring64 a)
+
+-- integers that wrap modulo 2^64, as values of texts
+abbrev pub scalar64 : Scalar
+scalar64 = wrapping_scalar w64
 
 -- each text means its list of triplets
 abbrev pub AllMean : List (List ℕ) → List (Coo ℤ) → Type 0
 AllMean [] [] = Unit {0}
-AllMean (text ∷ texts) (m ∷ ms) = Means text (Ok m) × AllMean texts ms
+AllMean (text ∷ texts) (m ∷ ms) = Means scalar64 text (Ok m) × AllMean texts ms
 AllMean _ _ = ⊥
 
 -- the number-th text, counted from 1, is the first that is refused, for this reason
@@ -48,7 +56,7 @@ pub record IsFirstRefused (texts : List (List ℕ)) (number : ℕ) (kind : Matri
   pub split : texts ≡ before ++ text ∷ after
   pub counted : number ≡ length before + 1
   pub taken : AllMean before ms
-  pub refused : Means text (Err kind)
+  pub refused : Means scalar64 text (Err kind)
 
 -- lists of triplets as plain matrices, their numbers read modulo 2^64
 abbrev pub plains : List (Coo ℤ) → List (Plain ring64)

@@ -2,20 +2,23 @@
 
 ghost use Rattle.std.specs.Prelude.{◌≡◌, ◌⊎◌, ◌+◌, Ok, Err, map, OnOk, IfOk, OnErr, IfErr};
 ghost use Rattle.std.specs.Io.KnownBytes.{Appends};
-ghost use Rattle.sparse_parser.specs.Meaning.{Means, numbers_of};
+ghost use Rattle.sparse_parser.specs.Meaning.{Means};
 ghost use Rattle.sparse_io.specs.Sink.{AppendsSome};
 ghost use Rattle.sparse_cs.specs.Compressed.{IsSound};
 ghost use Rattle.sparse_parser.specs.declared.error.MatrixMarketErrorKind.{MatrixMarketErrorKind};
 ghost use Rattle.sparse_expr.specs.PostfixWords.{texts};
-ghost use Rattle.sparse_expr.specs.Run.{AllMean, Writes, RefusesRun};
-ghost use Rattle.sparse_expr.specs.InnerRun.{RefusesLoad, RefusesSave, rows_text};
+ghost use Rattle.sparse_expr.specs.Run.{AllMean, Writes, RefusesRun, scalar64};
+ghost use Rattle.sparse_expr.specs.InnerRun.{RefusesLoad, RefusesSave, rows_text, cols_text, numbers_of};
 ghost use Rattle.sparse_expr.specs.Run.{effect};
+ghost use Rattle.sparse_expr.specs.declared.calculator.Form.TheVariants.{Rows, Cols};
 ghost use Rattle.sparse_expr.specs.declared.error.ExprError.TheVariants.{Input, OutOfMemory};
 
 use crate::error::ExprError;
-use crate::expr::{Expr, evaluate_rows};
+use crate::evaluate::{evaluate_cols, evaluate_rows};
+use crate::expr::Expr;
 use sparse_algebra::scalar::W64;
 use sparse_base::coo::CooMatrix;
+use sparse_forms::csc::CscMatrix;
 use sparse_forms::csr::CsrMatrix;
 use sparse_io::{
     MatrixMarketErrorKind, Sink, load_coo_from_matrix_market_str, save_to_matrix_market,
@@ -27,13 +30,28 @@ use std::alloc::Global;
 pub enum Form {
     /// Row after row, columns rising.
     Rows,
+    /// Column after column, rows rising.
+    Cols,
 }
 
 /// Loads the texts in order, evaluates the expression over them, and writes its value.
 ///
-/// The first text that is refused is answered as `Input` with its number, counted from 1; else the expression's own
-/// refusal. Before that nothing is written. A failed write is answered as `Write` with its kind, and what was written is
-/// then a beginning of the value's text.
+/// # Errors
+///
+/// Returns `Input`, with its number counted from 1, for the first text that has an error, and otherwise the error of the expression;
+/// nothing is written in these cases. Returns `Write` with its kind if a write fails; a prefix of the value's text has then been written.
+///
+/// # Examples
+///
+/// ```rust
+/// fn a_square_is_written(alloc: Global) -> Result<bool, Fail> {
+///     let text = "%%MatrixMarket matrix coordinate integer general\n1 1 1\n1 1 3\n";
+///     let square = Expr::from_words(alloc, "1 1 *")?;
+///     let mut out = Out::new(Vec::new(alloc));
+///     run(alloc, Form::Rows, &square, &[text], &mut out)?;
+///     Ok(out.into_inner().ends_with(b"1 1 1\n1 1 9\n"))
+/// }
+/// ```
 pub fn run<W: Sink>(
     alloc: Global,
     form: Form,
@@ -44,15 +62,51 @@ pub fn run<W: Sink>(
     ensures written { OnOk result (Writes form (texts sources.now) expr.now (W.taken out.old) (W.taken out.new)) }
     ensures none_failed { OnOk result (W.failures out.new ≡ W.failures out.old) }
     ensures refused { IfErr result (RefusesRun form (texts sources.now) expr.now
-        (effect (W.taken out.old) (W.taken out.new) (W.failures out.old) (W.failures out.new) (W.last out.new))) }
+        (effect (W.taken out.old) (W.taken out.new)
+        (W.failures out.old) (W.failures out.new) (W.last out.new))) }
+{
+    match form {
+        Form::Rows => run_rows(alloc, expr, sources, out),
+        Form::Cols => run_cols(alloc, expr, sources, out),
+    }
+}
+
+// Loads the texts, evaluates the expression, and writes its value row after row.
+fn run_rows<W: Sink>(
+    alloc: Global,
+    expr: &Expr,
+    sources: &[&str],
+    out: &mut W,
+) -> Result<(), ExprError>
+    ensures written { OnOk result
+        (Writes Rows (texts sources.now) expr.now (W.taken out.old) (W.taken out.new)) }
+    ensures none_failed { OnOk result (W.failures out.new ≡ W.failures out.old) }
+    ensures refused { IfErr result (RefusesRun Rows (texts sources.now) expr.now
+        (effect (W.taken out.old) (W.taken out.new)
+        (W.failures out.old) (W.failures out.new) (W.last out.new))) }
 {
     let inputs = load_all(alloc, sources)?;
-    match form {
-        Form::Rows => {
-            let value = evaluate_rows(alloc, expr, &inputs)?;
-            save_rows(alloc, &value, out)
-        }
-    }
+    let value = evaluate_rows(alloc, expr, &inputs)?;
+    save_rows(alloc, &value, out)
+}
+
+// Loads the texts, evaluates the expression, and writes its value column after column.
+fn run_cols<W: Sink>(
+    alloc: Global,
+    expr: &Expr,
+    sources: &[&str],
+    out: &mut W,
+) -> Result<(), ExprError>
+    ensures written { OnOk result
+        (Writes Cols (texts sources.now) expr.now (W.taken out.old) (W.taken out.new)) }
+    ensures none_failed { OnOk result (W.failures out.new ≡ W.failures out.old) }
+    ensures refused { IfErr result (RefusesRun Cols (texts sources.now) expr.now
+        (effect (W.taken out.old) (W.taken out.new)
+        (W.failures out.old) (W.failures out.new) (W.last out.new))) }
+{
+    let inputs = load_all(alloc, sources)?;
+    let value = evaluate_cols(alloc, expr, &inputs)?;
+    save_cols(alloc, &value, out)
 }
 
 // The lists of triplets that the texts mean.
@@ -69,9 +123,9 @@ fn load_all(alloc: Global, sources: &[&str]) -> Result<Vec<CooMatrix<W64>>, Expr
 
 // The list of triplets that the text of this number means.
 fn load(alloc: Global, number: usize, text: &str) -> Result<CooMatrix<W64>, ExprError>
-    ensures meant { IfOk result (λ m. Means text.now (Ok (numbers_of m))) }
+    ensures meant { IfOk result (λ m. Means scalar64 text.now (Ok (numbers_of m))) }
     ensures refused { IfErr result (λ e. (e ≡ OutOfMemory)
-        ⊎ ((kind : MatrixMarketErrorKind) × (e ≡ Input number kind) × Means text.now (Err kind))) }
+        ⊎ ((kind : MatrixMarketErrorKind) × (e ≡ Input number kind) × Means scalar64 text.now (Err kind))) }
 {
     match load_coo_from_matrix_market_str(alloc, text) {
         Ok(matrix) => Ok(matrix),
@@ -89,7 +143,29 @@ fn save_rows<W: Sink>(alloc: Global, matrix: &CsrMatrix<W64>, out: &mut W) -> Re
     ensures sound { IsSound matrix.now }
     ensures beginning { OnErr result (AppendsSome (W.taken out.old) (W.taken out.new) (rows_text matrix.now)) }
     ensures refused { IfErr result (RefusesSave
-        (effect (W.taken out.old) (W.taken out.new) (W.failures out.old) (W.failures out.new) (W.last out.new))) }
+        (effect (W.taken out.old) (W.taken out.new)
+        (W.failures out.old) (W.failures out.new) (W.last out.new))) }
+{
+    // The call costs nothing: its contract tells the prover that the matrix is sound.
+    let _ = matrix.values();
+    match save_to_matrix_market(alloc, out, matrix) {
+        Ok(()) => Ok(()),
+        Err(error) => match error.kind() {
+            MatrixMarketErrorKind::IOError(kind) => Err(ExprError::Write(kind)),
+            _ => Err(ExprError::OutOfMemory),
+        },
+    }
+}
+
+// Writes a matrix column after column.
+fn save_cols<W: Sink>(alloc: Global, matrix: &CscMatrix<W64>, out: &mut W) -> Result<(), ExprError>
+    ensures none_failed { OnOk result (W.failures out.new ≡ W.failures out.old) }
+    ensures all { OnOk result (Appends (W.taken out.old) (W.taken out.new) (cols_text matrix.now)) }
+    ensures sound { IsSound matrix.now }
+    ensures beginning { OnErr result (AppendsSome (W.taken out.old) (W.taken out.new) (cols_text matrix.now)) }
+    ensures refused { IfErr result (RefusesSave
+        (effect (W.taken out.old) (W.taken out.new)
+        (W.failures out.old) (W.failures out.new) (W.last out.new))) }
 {
     // The call costs nothing: its contract tells the prover that the matrix is sound.
     let _ = matrix.values();

@@ -23,13 +23,13 @@ pub enum ExprError {
     /// The operands' sizes don't fit.
     #[error("expression: shapes do not fit")]
     Shape,
-    /// The text of this number, counted from 1, is refused.
+    /// The text with this number, counted from 1, has an error.
     #[error("input {}: {}", .0, .1.name())]
     Input(usize, MatrixMarketErrorKind),
     /// A write failed.
     #[error("write failed")]
     Write(io::ErrorKind),
-    /// Memory was refused.
+    /// An allocation failed.
     #[error("out of memory")]
     OutOfMemory,
 }

@@ -3,9 +3,12 @@
 
 mod calculator;
 mod error;
+mod evaluate;
 mod expr;
+pub mod laws;
 mod words;
 
 pub use calculator::{Form, run};
 pub use error::ExprError;
+pub use evaluate::{evaluate_cols, evaluate_rows};
 pub use expr::Expr;

@@ -2,7 +2,7 @@
 
 ghost use Rattle.std.specs.Prelude.{◌≡◌, ◌⊎◌, ◌<◌, ◌≤◌, [], ◌∷◌, ◌++◌, OnOk, IfOk, IfErr, length};
 ghost use Rattle.std.specs.List.{flat_map};
-ghost use Rattle.sparse_expr.specs.PostfixWords.{token_of, words_of, texts, takes, postfix, IsSaid, IsRefused};
+ghost use Rattle.sparse_expr.specs.PostfixWords.{token_of, operator_of, words_of, texts, takes, postfix, IsSaid, IsRefused};
 ghost use Rattle.sparse_expr.specs.declared.error.ExprError.TheVariants.{MissingOperand, LeftOver, OutOfMemory};
 
 use crate::error::ExprError;
@@ -15,8 +15,16 @@ use std::alloc::{AllocError, Global};
 pub(crate) enum Token {
     /// The number of an input.
     Operand(usize),
+    /// `+`, which takes two operands.
+    Plus,
+    /// `-`, which takes two operands.
+    Minus,
     /// `*`, which takes two operands.
     Times,
+    /// `t`, which takes one operand.
+    Turn,
+    /// `n`, which takes one operand.
+    Negate,
 }
 
 impl Token {
@@ -29,11 +37,28 @@ impl Token {
                 Some(0) | None => None,
                 Some(n) => Some(Token::Operand(n)),
             }
-        } else if word == b"*".as_slice() {
-            Some(Token::Times)
         } else {
-            None
+            operator(word)
         }
+    }
+}
+
+// The operator that a word is.
+fn operator(word: &[u8]) -> Option<Token>
+    ensures { result ≡ operator_of word.now }
+{
+    if word == b"+".as_slice() {
+        Some(Token::Plus)
+    } else if word == b"-".as_slice() {
+        Some(Token::Minus)
+    } else if word == b"*".as_slice() {
+        Some(Token::Times)
+    } else if word == b"t".as_slice() {
+        Some(Token::Turn)
+    } else if word == b"n".as_slice() {
+        Some(Token::Negate)
+    } else {
+        None
     }
 }
 
@@ -47,11 +72,33 @@ fn words<'a>(alloc: Global, text: &'a [u8]) -> Result<Vec<&'a [u8]>, AllocError>
 }
 
 impl Expr {
-    /// The expression that words in postfix order say, as `"1 2 *"`.
+    /// Returns the expression given by words in postfix order, such as `"1 2 * t"`.
     ///
-    /// A word is the number of an input, counted from 1, or `*` for the product of the two operands before it; words are
-    /// parted by spaces. The first fault from the left is answered: `BadWord` for any other word, `MissingOperand` for an
-    /// operator without its operands or for no words, `LeftOver` where operands are left over at the end.
+    /// Words are separated by spaces. A word is the number of an input, counted from 1; `+`, `-` or `*` for the sum, the difference or the
+    /// product of the two operands before it; `t` or `n` for the transpose or the negation of the operand before it.
+    ///
+    /// Takes time and memory linear in the words.
+    ///
+    /// # Errors
+    ///
+    /// Returns the first error from the left: `BadWord` for any other word, `MissingOperand` for an operator without its operands or if
+    /// there are no words, `LeftOver` if operands are left at the end. `OutOfMemory` if an allocation fails.
+    ///
+    /// # Examples
+    ///
+    /// ```rust
+    /// fn words_become_a_tree(alloc: Global) -> Result<bool, Fail> {
+    ///     let product = Expr::from_words(alloc, "1 2 *")?;
+    ///     Ok(matches!(product, Expr::Mul(_, _)))
+    /// }
+    /// ```
+    ///
+    /// ```rust
+    /// fn an_operand_is_missing(alloc: Global) -> Result<bool, Fail> {
+    ///     let refused = Expr::from_words(alloc, "1 *").err();
+    ///     Ok(refused == Some(ExprError::MissingOperand))
+    /// }
+    /// ```
     pub fn from_words(alloc: Global, text: &str) -> Result<Expr, ExprError>
         ensures said { IfOk result (λ e. IsSaid (words_of text.now) e) }
         ensures refused { IfErr result (λ e. (e ≡ OutOfMemory) ⊎ IsRefused (words_of text.now) e) }
@@ -77,13 +124,31 @@ fn apply(alloc: Global, token: Token, stack: &mut Vec<Expr>) -> Result<(), ExprE
 {
     let tree = match token {
         Token::Operand(number) => Expr::Input(number),
+        Token::Plus => {
+            let (a, b) = operands(stack)?;
+            Expr::Add(Box::new(alloc, a)?, Box::new(alloc, b)?)
+        }
+        Token::Minus => {
+            let (a, b) = operands(stack)?;
+            Expr::Sub(Box::new(alloc, a)?, Box::new(alloc, b)?)
+        }
         Token::Times => {
             let (a, b) = operands(stack)?;
             Expr::Mul(Box::new(alloc, a)?, Box::new(alloc, b)?)
         }
+        Token::Turn => Expr::Transpose(Box::new(alloc, operand(stack)?)?),
+        Token::Negate => Expr::Neg(Box::new(alloc, operand(stack)?)?),
     };
     stack.push(tree)?;
     Ok(())
+}
+
+// Takes the last tree from the stack.
+fn operand(stack: &mut Vec<Expr>) -> Result<Expr, ExprError>
+    ensures taken { IfOk result (λ a. stack.old.items ≡ stack.new.items ++ a ∷ []) }
+    ensures refused { IfErr result (λ e. (e ≡ MissingOperand) × (length stack.old.items < 1)) }
+{
+    stack.pop().ok_or(ExprError::MissingOperand)
 }
 
 // Takes the last two trees from the stack.

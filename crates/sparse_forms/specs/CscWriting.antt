@@ -1,4 +1,4 @@
--- Values of a CSC matrix that are lent for writing, and what the matrix is once the loan is over.
+-- Values of a CSC matrix borrowed mutably, and the matrix after the borrow.
 use Rattle.std.specs.Prelude.{ℕ, List, Option}
 use Rattle.std.specs.Borrow.{Lends, follows_if, MutBor, Fml, Array, RattleType}
 use Rattle.sparse_pattern.specs.SparseEntries.{entry_name, indexed_name}
@@ -9,7 +9,7 @@ use Rattle.sparse_lanes.specs.ColWriting.{col_name}
 use Rattle.sparse_lanes.specs.declared.col_mut.CscColMut.{CscColMut}
 use Rattle.sparse_forms.specs.contracts.csc.CscMatrix.{the_row as matrix_type}
 
--- the matrix ends with the values that are left behind what was lent
+-- after the borrow the matrix has the values last written through it
 module _ (T : RattleType) (s : MutBor (Compressed T.Denot)) where
   abbrev pub LendsValues : MutBor (List T.Denot) → Fml
   LendsValues r = Lends (matrix_type T) (Array T 0) s r (with_values s.now)
@@ -17,7 +17,7 @@ module _ (T : RattleType) (s : MutBor (Compressed T.Denot)) where
   abbrev pub LendsCol : ℕ → MutBor (List T.Denot) → Fml
   LendsCol i r = Lends (matrix_type T) (Array T 0) s r (with_lane s.now i)
 
-  -- the column where there is one, and otherwise the matrix stays as it is
+  -- the column, if there is one; otherwise the matrix is unchanged
   abbrev pub LendsColIf : ℕ → Option (CscColMut T.Denot) → Fml
   LendsColIf i r = follows_if (matrix_type T) (Array T 0) s.ghost_name (col_name r) (with_lane s.now i) s.now
 

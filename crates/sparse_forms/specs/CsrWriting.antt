@@ -1,4 +1,4 @@
--- Values of a CSR matrix that are lent for writing, and what the matrix is once the loan is over.
+-- Values of a CSR matrix borrowed mutably, and the matrix after the borrow.
 use Rattle.std.specs.Prelude.{ℕ, List, Option}
 use Rattle.std.specs.Borrow.{Lends, follows_if, MutBor, Fml, Array, RattleType}
 use Rattle.sparse_pattern.specs.SparseEntries.{entry_name, indexed_name}
@@ -9,7 +9,7 @@ use Rattle.sparse_lanes.specs.RowWriting.{row_name}
 use Rattle.sparse_lanes.specs.declared.row_mut.CsrRowMut.{CsrRowMut}
 use Rattle.sparse_forms.specs.contracts.csr.CsrMatrix.{the_row as matrix_type}
 
--- the matrix ends with the values that are left behind what was lent
+-- after the borrow the matrix has the values last written through it
 module _ (T : RattleType) (s : MutBor (Compressed T.Denot)) where
   abbrev pub LendsValues : MutBor (List T.Denot) → Fml
   LendsValues r = Lends (matrix_type T) (Array T 0) s r (with_values s.now)
@@ -17,7 +17,7 @@ module _ (T : RattleType) (s : MutBor (Compressed T.Denot)) where
   abbrev pub LendsRow : ℕ → MutBor (List T.Denot) → Fml
   LendsRow i r = Lends (matrix_type T) (Array T 0) s r (with_lane s.now i)
 
-  -- the row where there is one, and otherwise the matrix stays as it is
+  -- the row, if there is one; otherwise the matrix is unchanged
   abbrev pub LendsRowIf : ℕ → Option (CsrRowMut T.Denot) → Fml
   LendsRowIf i r = follows_if (matrix_type T) (Array T 0) s.ghost_name (row_name r) (with_lane s.now i) s.now
 

@@ -1,4 +1,4 @@
-//! CSC matrices: compressed by columns.
+//! Matrices in compressed sparse column form.
 
 ghost use Rattle.std.specs.Prelude.{◌≡◌, ◌≢◌, ◌⊎◌, [], length, IfOk, IfErr, IsOk, OnOk, IsOkUnless};
 ghost use Rattle.sparse_pattern.specs.Raw.{empty_raw};
@@ -6,9 +6,10 @@ ghost use Rattle.sparse_algebra.specs.Plain.{plain_identity};
 ghost use Rattle.sparse_cs.specs.Compressed.{compressed_of, arrays_of, IsSound};
 ghost use Rattle.sparse_cs.specs.PlainOfLanes.{plain_of_cols};
 ghost use Rattle.sparse_cs.specs.SortedFaults.{IsSortedRefusal, sorted_kind};
-ghost use Rattle.sparse_cs.specs.UnsortedFaults.{IsFaultless, IsSortedForm, IsUnsortedRefusal};
+ghost use Rattle.sparse_cs.specs.UnsortedFaults.{NeedsSorting, IsFaultless, IsSortedForm, IsUnsortedRefusal};
 
 mod filter;
+mod operators;
 mod reading;
 mod transpose;
 mod writing;
@@ -24,9 +25,21 @@ use sparse_pattern::pattern::{SparsityPattern, SparsityPatternFormatError};
 use std::alloc::{AllocError, Global};
 use std::marker::Model;
 
-/// A sparse matrix compressed by columns.
+/// A sparse matrix in compressed sparse column (CSC) form.
 ///
-/// The rows of each column rise strictly, and each stored place has a value, zero or not.
+/// The row indices of each column are strictly increasing. A stored place has a value, which may be zero.
+///
+/// # Examples
+///
+/// ```rust
+/// fn sorted_arrays_become_columns(alloc: Global) -> Result<bool, Fail> {
+///     let offsets = vec![in alloc; 0, 2, 3]?;
+///     let rows = vec![in alloc; 0, 2, 1]?;
+///     let values = vec![in alloc; 4, 5, 6]?;
+///     let matrix = CscMatrix::try_from_csc_data(3, 2, offsets, rows, values)?;
+///     Ok(matrix.nnz() == 3 && matrix.get_entry(2, 0) == Some(SparseEntry::NonZero(&5)))
+/// }
+/// ```
 #[derive(Debug, Drop)]
 pub struct CscMatrix<T> {
     cs: CsMatrix<T>,
@@ -43,21 +56,21 @@ impl<T> Model for CscMatrix<T> {
 }
 
 impl<T> CscMatrix<T> {
-    /// The matrix whose columns are the lanes of the core.
+    /// Returns the matrix whose columns are the lanes of `cs`.
     pub fn from_cs(cs: CsMatrix<T>) -> Self
         ensures { result ≡ cs }
     {
         CscMatrix { cs }
     }
 
-    /// The core, whose lanes are the columns.
+    /// Returns the underlying storage, whose lanes are the columns.
     pub fn cs(&self) -> &CsMatrix<T>
         ensures core { result.now ≡ self.now }
     {
         &self.cs
     }
 
-    /// The matrix without stored places. Memory is needed for one offset more than there are columns.
+    /// Returns a matrix without stored places. Allocates `ncols + 1` offsets, and fails only if that allocation fails.
     pub fn zeros(alloc: Global, nrows: usize, ncols: usize) -> Result<Self, AllocError>
         ensures is { IfOk result (λ m. m ≡ compressed_of (empty_raw ncols nrows) []) }
         ensures sound { IfOk result IsSound }
@@ -67,7 +80,7 @@ impl<T> CscMatrix<T> {
         })
     }
 
-    /// The offsets, the rows and the values, moved out of the matrix.
+    /// Returns the column offsets, the row indices and the values, and consumes the matrix.
     pub fn disassemble(self) -> (Vec<usize>, Vec<usize>, Vec<T>)
         ensures offsets { result.0.items ≡ self.pattern.offsets }
         ensures indices { result.1.items ≡ self.pattern.indices }
@@ -77,7 +90,7 @@ impl<T> CscMatrix<T> {
         self.into_cs().disassemble()
     }
 
-    /// The pattern and the values, moved out of the matrix.
+    /// Returns the pattern and the values, and consumes the matrix.
     pub fn into_pattern_and_values(self) -> (SparsityPattern, Vec<T>)
         ensures pattern { result.0 ≡ self.pattern }
         ensures values { result.1.items ≡ self.values }
@@ -86,7 +99,20 @@ impl<T> CscMatrix<T> {
         self.into_cs().into_pattern_and_values()
     }
 
-    /// The transpose by rows: the same arrays, whose columns are now rows. It takes no memory.
+    /// Returns the transpose in CSR form, and consumes the matrix. The arrays are reused: constant time, and nothing is allocated.
+    ///
+    /// # Examples
+    ///
+    /// ```rust
+    /// fn columns_become_rows_in_place(alloc: Global) -> Result<bool, Fail> {
+    ///     let offsets = vec![in alloc; 0, 1, 1]?;
+    ///     let rows = vec![in alloc; 2]?;
+    ///     let values = vec![in alloc; 5]?;
+    ///     let matrix = CscMatrix::try_from_csc_data(3, 2, offsets, rows, values)?;
+    ///     let transpose = matrix.transpose_as_csr();
+    ///     Ok((transpose.nrows(), transpose.ncols()) == (2, 3))
+    /// }
+    /// ```
     pub fn transpose_as_csr(self) -> CsrMatrix<T>
         ensures { result ≡ self }
     {
@@ -100,21 +126,21 @@ impl<T> CscMatrix<T> {
         cs
     }
 
-    /// The number of rows.
+    /// Returns the number of rows.
     pub fn nrows(&self) -> usize
         ensures { result ≡ self.now.pattern.minor_dim }
     {
         self.cs.pattern().minor_dim()
     }
 
-    /// The number of columns.
+    /// Returns the number of columns.
     pub fn ncols(&self) -> usize
         ensures { result ≡ self.now.pattern.major_dim }
     {
         self.cs.pattern().major_dim()
     }
 
-    /// The number of stored places, zeros among them.
+    /// Returns the number of stored places, including those whose value is zero.
     pub fn nnz(&self) -> usize
         ensures count { result ≡ length self.now.values }
         ensures sound { IsSound self.now }
@@ -124,9 +150,15 @@ impl<T> CscMatrix<T> {
 }
 
 impl<T: Drop> CscMatrix<T> {
-    /// The matrix of arrays whose columns are sorted, or the first fault: that of the pattern, and then the number of values.
+    /// Returns the matrix of arrays whose columns are sorted by row.
     ///
-    /// It takes no memory, and drops arrays that it refuses.
+    /// Linear in the number of columns and stored places. Allocates nothing.
+    ///
+    /// # Errors
+    ///
+    /// Returns the first fault: that of the offsets and indices, in the order of
+    /// [`SparsityPattern::try_from_offsets_and_indices`](sparse_pattern::pattern::SparsityPattern::try_from_offsets_and_indices), and then
+    /// the number of values. The arrays are dropped.
     pub fn try_from_csc_data(
         nrows: usize,
         ncols: usize,
@@ -146,9 +178,10 @@ impl<T: Drop> CscMatrix<T> {
         }
     }
 
-    /// The matrix of a pattern, whose lanes are the columns, and its values, or `InvalidStructure` where the numbers differ.
+    /// Returns the matrix of a pattern, whose lanes are the columns, and its values.
     ///
-    /// It takes no memory, and drops what it refuses.
+    /// Returns `InvalidStructure` if the number of values is not the number of places; pattern and values are then dropped. Allocates
+    /// nothing.
     pub fn try_from_pattern_and_values(
         pattern: SparsityPattern,
         values: Vec<T>,
@@ -195,7 +228,8 @@ fn error_of(fault: SortedFault) -> SparseFormatError
 }
 
 impl<T: Ring> CscMatrix<T> {
-    /// The identity: n stored ones on the diagonal, also in a ring where one equals zero.
+    /// Returns the identity matrix of order `n`, with `n` stored ones, even in a ring where one equals zero. Fails only if an allocation
+    /// fails.
     pub fn identity(alloc: Global, n: usize) -> Result<Self, AllocError>
         ensures plain { IfOk result (λ m. plain_of_cols T.ring T.value m ≡ plain_identity T.ring n) }
         ensures sound { IfOk result IsSound }
@@ -207,12 +241,28 @@ impl<T: Ring> CscMatrix<T> {
 }
 
 impl<T: Copy> CscMatrix<T> {
-    /// The matrix of arrays whose columns needn't be sorted, each value going with its row, or the first fault: the number of values
-    /// against that of the rows, no offset at all, the number of offsets, the first and the last of them, and then column after column
-    /// an end before the start, an end past the rows, a row out of bounds, and a row that stands twice.
+    /// Returns the matrix of arrays whose columns need not be sorted. Each value moves with its row index.
     ///
-    /// Columns that are sorted already take one pass and no memory, and others are sorted. The arrays are dropped where they are refused,
-    /// and memory can be refused before a later fault is met.
+    /// Columns that are already sorted take one pass and no memory. Other columns are sorted.
+    ///
+    /// # Errors
+    ///
+    /// Returns the first fault in this order: the number of values is not the number of row indices; there is no offset; the number of
+    /// offsets; the first and the last offset; then for each column an end before its start, an end past the row indices, a row out of
+    /// bounds, a row that occurs twice. The arrays are dropped. `OutOfMemory` is returned if an allocation fails, possibly before a later
+    /// fault is found.
+    ///
+    /// # Examples
+    ///
+    /// ```rust
+    /// fn unsorted_rows_are_sorted(alloc: Global) -> Result<bool, Fail> {
+    ///     let offsets = vec![in alloc; 0, 2]?;
+    ///     let rows = vec![in alloc; 2, 0]?;
+    ///     let values = vec![in alloc; 5, 4]?;
+    ///     let matrix = CscMatrix::try_from_unsorted_csc_data(alloc, 3, 1, offsets, rows, values)?;
+    ///     Ok(matrix.row_indices() == [0, 2].as_slice() && matrix.values() == [4, 5].as_slice())
+    /// }
+    /// ```
     pub fn try_from_unsorted_csc_data(
         alloc: Global,
         nrows: usize,
@@ -225,6 +275,10 @@ impl<T: Copy> CscMatrix<T> {
         ensures faultless { OnOk result (IsFaultless (arrays_of ncols nrows col_offsets.items row_indices.items values.items)) }
         ensures fault { IfErr result (λ kind. (kind ≡ SparseFormatErrorKind.OutOfMemory)
             ⊎ IsUnsortedRefusal (arrays_of ncols nrows col_offsets.items row_indices.items values.items) kind) }
+        ensures memory { IfErr result (λ kind. kind ≡ SparseFormatErrorKind.OutOfMemory
+            → NeedsSorting (arrays_of ncols nrows col_offsets.items row_indices.items values.items)) }
+        ensures sound { IsSound (arrays_of ncols nrows col_offsets.items row_indices.items values.items)
+            → IsOk result }
         ensures taken { IsFaultless (arrays_of ncols nrows col_offsets.items row_indices.items values.items)
             → IsOkUnless result SparseFormatErrorKind.OutOfMemory }
     {
@@ -240,7 +294,7 @@ impl<T: Copy> CscMatrix<T> {
         })
     }
 
-    /// A copy with the same sizes, places and values.
+    /// Returns a copy. Fails only if an allocation fails.
     pub fn clone(&self, alloc: Global) -> Result<Self, AllocError>
         ensures { IfOk result (λ m. m ≡ self.now) }
     {

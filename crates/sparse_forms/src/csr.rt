@@ -1,4 +1,4 @@
-//! CSR matrices: compressed by rows.
+//! Matrices in compressed sparse row form.
 
 ghost use Rattle.std.specs.Prelude.{◌≡◌, ◌≢◌, ◌⊎◌, [], length, IfOk, IfErr, IsOk, OnOk, IsOkUnless};
 ghost use Rattle.sparse_pattern.specs.Raw.{empty_raw};
@@ -6,9 +6,10 @@ ghost use Rattle.sparse_algebra.specs.Plain.{plain_identity};
 ghost use Rattle.sparse_cs.specs.Compressed.{compressed_of, arrays_of, IsSound};
 ghost use Rattle.sparse_cs.specs.PlainOfLanes.{plain_of_rows};
 ghost use Rattle.sparse_cs.specs.SortedFaults.{IsSortedRefusal, sorted_kind};
-ghost use Rattle.sparse_cs.specs.UnsortedFaults.{IsFaultless, IsSortedForm, IsUnsortedRefusal};
+ghost use Rattle.sparse_cs.specs.UnsortedFaults.{NeedsSorting, IsFaultless, IsSortedForm, IsUnsortedRefusal};
 
 mod filter;
+mod operators;
 mod reading;
 mod transpose;
 mod writing;
@@ -24,9 +25,21 @@ use sparse_pattern::pattern::{SparsityPattern, SparsityPatternFormatError};
 use std::alloc::{AllocError, Global};
 use std::marker::Model;
 
-/// A sparse matrix compressed by rows.
+/// A sparse matrix in compressed sparse row (CSR) form.
 ///
-/// The columns of each row rise strictly, and each stored place has a value, zero or not.
+/// The column indices of each row are strictly increasing. A stored place has a value, which may be zero.
+///
+/// # Examples
+///
+/// ```rust
+/// fn sorted_arrays_become_rows(alloc: Global) -> Result<bool, Fail> {
+///     let offsets = vec![in alloc; 0, 2, 3]?;
+///     let columns = vec![in alloc; 0, 2, 1]?;
+///     let values = vec![in alloc; 4, 5, 6]?;
+///     let matrix = CsrMatrix::try_from_csr_data(2, 3, offsets, columns, values)?;
+///     Ok(matrix.nnz() == 3 && matrix.get_entry(0, 2) == Some(SparseEntry::NonZero(&5)))
+/// }
+/// ```
 #[derive(Debug, Drop)]
 pub struct CsrMatrix<T> {
     cs: CsMatrix<T>,
@@ -43,21 +56,21 @@ impl<T> Model for CsrMatrix<T> {
 }
 
 impl<T> CsrMatrix<T> {
-    /// The matrix whose rows are the lanes of the core.
+    /// Returns the matrix whose rows are the lanes of `cs`.
     pub fn from_cs(cs: CsMatrix<T>) -> Self
         ensures { result ≡ cs }
     {
         CsrMatrix { cs }
     }
 
-    /// The core, whose lanes are the rows.
+    /// Returns the underlying storage, whose lanes are the rows.
     pub fn cs(&self) -> &CsMatrix<T>
         ensures core { result.now ≡ self.now }
     {
         &self.cs
     }
 
-    /// The matrix without stored places. Memory is needed for one offset more than there are rows.
+    /// Returns a matrix without stored places. Allocates `nrows + 1` offsets, and fails only if that allocation fails.
     pub fn zeros(alloc: Global, nrows: usize, ncols: usize) -> Result<Self, AllocError>
         ensures is { IfOk result (λ m. m ≡ compressed_of (empty_raw nrows ncols) []) }
         ensures sound { IfOk result IsSound }
@@ -67,7 +80,7 @@ impl<T> CsrMatrix<T> {
         })
     }
 
-    /// The offsets, the columns and the values, moved out of the matrix.
+    /// Returns the row offsets, the column indices and the values, and consumes the matrix.
     pub fn disassemble(self) -> (Vec<usize>, Vec<usize>, Vec<T>)
         ensures offsets { result.0.items ≡ self.pattern.offsets }
         ensures indices { result.1.items ≡ self.pattern.indices }
@@ -77,7 +90,7 @@ impl<T> CsrMatrix<T> {
         self.into_cs().disassemble()
     }
 
-    /// The pattern and the values, moved out of the matrix.
+    /// Returns the pattern and the values, and consumes the matrix.
     pub fn into_pattern_and_values(self) -> (SparsityPattern, Vec<T>)
         ensures pattern { result.0 ≡ self.pattern }
         ensures values { result.1.items ≡ self.values }
@@ -86,7 +99,7 @@ impl<T> CsrMatrix<T> {
         self.into_cs().into_pattern_and_values()
     }
 
-    /// The transpose by columns: the same arrays, whose rows are now columns. It takes no memory.
+    /// Returns the transpose in CSC form, and consumes the matrix. The arrays are reused: constant time, and nothing is allocated.
     pub fn transpose_as_csc(self) -> CscMatrix<T>
         ensures { result ≡ self }
     {
@@ -100,21 +113,21 @@ impl<T> CsrMatrix<T> {
         cs
     }
 
-    /// The number of rows.
+    /// Returns the number of rows.
     pub fn nrows(&self) -> usize
         ensures { result ≡ self.now.pattern.major_dim }
     {
         self.cs.pattern().major_dim()
     }
 
-    /// The number of columns.
+    /// Returns the number of columns.
     pub fn ncols(&self) -> usize
         ensures { result ≡ self.now.pattern.minor_dim }
     {
         self.cs.pattern().minor_dim()
     }
 
-    /// The number of stored places, zeros among them.
+    /// Returns the number of stored places, including those whose value is zero.
     pub fn nnz(&self) -> usize
         ensures count { result ≡ length self.now.values }
         ensures sound { IsSound self.now }
@@ -124,9 +137,28 @@ impl<T> CsrMatrix<T> {
 }
 
 impl<T: Drop> CsrMatrix<T> {
-    /// The matrix of arrays whose rows are sorted, or the first fault: that of the pattern, and then the number of values.
+    /// Returns the matrix of arrays whose rows are sorted by column.
     ///
-    /// It takes no memory, and drops arrays that it refuses.
+    /// Linear in the number of rows and stored places. Allocates nothing.
+    ///
+    /// # Errors
+    ///
+    /// Returns the first fault: that of the offsets and indices, in the order of
+    /// [`SparsityPattern::try_from_offsets_and_indices`](sparse_pattern::pattern::SparsityPattern::try_from_offsets_and_indices), and then
+    /// the number of values. The arrays are dropped.
+    ///
+    /// # Examples
+    ///
+    /// ```rust
+    /// fn a_repeated_column_is_an_error(alloc: Global) -> Result<bool, Fail> {
+    ///     let offsets = vec![in alloc; 0, 2]?;
+    ///     let columns = vec![in alloc; 1, 1]?;
+    ///     let values = vec![in alloc; 4, 5]?;
+    ///     let refused = CsrMatrix::try_from_csr_data(1, 3, offsets, columns, values).err();
+    ///     let error = refused.ok_or("no error")?;
+    ///     Ok(*error.kind() == SparseFormatErrorKind::DuplicateEntry)
+    /// }
+    /// ```
     pub fn try_from_csr_data(
         nrows: usize,
         ncols: usize,
@@ -146,9 +178,10 @@ impl<T: Drop> CsrMatrix<T> {
         }
     }
 
-    /// The matrix of a pattern, whose lanes are the rows, and its values, or `InvalidStructure` where the numbers differ.
+    /// Returns the matrix of a pattern, whose lanes are the rows, and its values.
     ///
-    /// It takes no memory, and drops what it refuses.
+    /// Returns `InvalidStructure` if the number of values is not the number of places; pattern and values are then dropped. Allocates
+    /// nothing.
     pub fn try_from_pattern_and_values(
         pattern: SparsityPattern,
         values: Vec<T>,
@@ -195,7 +228,17 @@ fn error_of(fault: SortedFault) -> SparseFormatError
 }
 
 impl<T: Ring> CsrMatrix<T> {
-    /// The identity: n stored ones on the diagonal, also in a ring where one equals zero.
+    /// Returns the identity matrix of order `n`, with `n` stored ones, even in a ring where one equals zero. Fails only if an allocation
+    /// fails.
+    ///
+    /// # Examples
+    ///
+    /// ```rust
+    /// fn the_identity_stores_its_diagonal(alloc: Global) -> Result<bool, Fail> {
+    ///     let identity = CsrMatrix::<W64>::identity(alloc, 3)?;
+    ///     Ok(identity.row_offsets() == [0, 1, 2, 3].as_slice() && identity.values()[2] == W64::one())
+    /// }
+    /// ```
     pub fn identity(alloc: Global, n: usize) -> Result<Self, AllocError>
         ensures plain { IfOk result (λ m. plain_of_rows T.ring T.value m ≡ plain_identity T.ring n) }
         ensures sound { IfOk result IsSound }
@@ -207,12 +250,28 @@ impl<T: Ring> CsrMatrix<T> {
 }
 
 impl<T: Copy> CsrMatrix<T> {
-    /// The matrix of arrays whose rows needn't be sorted, each value going with its column, or the first fault: the number of values
-    /// against that of the columns, no offset at all, the number of offsets, the first and the last of them, and then row after row
-    /// an end before the start, an end past the columns, a column out of bounds, and a column that stands twice.
+    /// Returns the matrix of arrays whose rows need not be sorted. Each value moves with its column index.
     ///
-    /// Rows that are sorted already take one pass and no memory, and others are sorted. The arrays are dropped where they are refused,
-    /// and memory can be refused before a later fault is met.
+    /// Rows that are already sorted take one pass and no memory. Other rows are sorted.
+    ///
+    /// # Errors
+    ///
+    /// Returns the first fault in this order: the number of values is not the number of column indices; there is no offset; the number of
+    /// offsets; the first and the last offset; then for each row an end before its start, an end past the column indices, a column out of
+    /// bounds, a column that occurs twice. The arrays are dropped. `OutOfMemory` is returned if an allocation fails, possibly before a
+    /// later fault is found.
+    ///
+    /// # Examples
+    ///
+    /// ```rust
+    /// fn unsorted_arrays_are_sorted(alloc: Global) -> Result<bool, Fail> {
+    ///     let offsets = vec![in alloc; 0, 2]?;
+    ///     let columns = vec![in alloc; 2, 0]?;
+    ///     let values = vec![in alloc; 5, 4]?;
+    ///     let matrix = CsrMatrix::try_from_unsorted_csr_data(alloc, 1, 3, offsets, columns, values)?;
+    ///     Ok(matrix.col_indices() == [0, 2].as_slice() && matrix.values() == [4, 5].as_slice())
+    /// }
+    /// ```
     pub fn try_from_unsorted_csr_data(
         alloc: Global,
         nrows: usize,
@@ -225,6 +284,10 @@ impl<T: Copy> CsrMatrix<T> {
         ensures faultless { OnOk result (IsFaultless (arrays_of nrows ncols row_offsets.items col_indices.items values.items)) }
         ensures fault { IfErr result (λ kind. (kind ≡ SparseFormatErrorKind.OutOfMemory)
             ⊎ IsUnsortedRefusal (arrays_of nrows ncols row_offsets.items col_indices.items values.items) kind) }
+        ensures memory { IfErr result (λ kind. kind ≡ SparseFormatErrorKind.OutOfMemory
+            → NeedsSorting (arrays_of nrows ncols row_offsets.items col_indices.items values.items)) }
+        ensures sound { IsSound (arrays_of nrows ncols row_offsets.items col_indices.items values.items)
+            → IsOk result }
         ensures taken { IsFaultless (arrays_of nrows ncols row_offsets.items col_indices.items values.items)
             → IsOkUnless result SparseFormatErrorKind.OutOfMemory }
     {
@@ -240,7 +303,7 @@ impl<T: Copy> CsrMatrix<T> {
         })
     }
 
-    /// A copy with the same sizes, places and values.
+    /// Returns a copy. Fails only if an allocation fails.
     pub fn clone(&self, alloc: Global) -> Result<Self, AllocError>
         ensures { IfOk result (λ m. m ≡ self.now) }
     {

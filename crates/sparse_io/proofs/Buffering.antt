@@ -106,3 +106,11 @@ module _ {V : Type 0} (name : List ℕ) (text : V → List ℕ) (m : Coo V) wher
             ∙ middle w.bytes d.done buffer more h.done (h.rest ++ more) d.parts (ap (λ l. l ++ more) h.parts ∙ append_assoc h.done h.rest more);
         appended = Appends-trans old mid new d.done h.done d.appended h.appended;
       }
+
+-- all of some bytes, and none of them
+pub AppendsSome-all : (old new : Option (List ℕ)) (bytes : List ℕ) → Appends old new bytes
+    → AppendsSome old new bytes
+AppendsSome-all old new bytes h = record { done = bytes; rest = []; parts = sym (append-nil bytes); appended = h }
+
+pub AppendsSome-none : (old : Option (List ℕ)) (bytes : List ℕ) → AppendsSome old old bytes
+AppendsSome-none old bytes = record { done = []; rest = bytes; parts = refl; appended = Appends-nil old }

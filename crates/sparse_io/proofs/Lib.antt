@@ -2,3 +2,5 @@ pub mod Buffering
 pub mod EntryLoop
 pub mod OneMeaning
 pub mod Parts
+pub mod RoundTrip
+pub mod Turned

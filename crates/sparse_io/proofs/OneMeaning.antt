@@ -1,13 +1,15 @@
 -- `read` is the one meaning of a text.
-use Rattle.std.proofs.Common.{◌≡◌, ℕ, ℤ, Bool, true, false, cond, ◌&&◌, List, [], ◌∷◌, Option, Some, None, Result, Ok, Err, refl, sym, ap, subst, ◌∙◌, inl, inr}
+use Rattle.std.proofs.Common.{◌≡◌, ℕ, Bool, true, false, cond, ◌&&◌, List, [], ◌∷◌, Option, Some, None, Ok, Err, refl, sym, ap, subst, ◌∙◌, inl, inr}
 use Rattle.std.specs.Prelude.{◌⊎◌, filter}
 use Rattle.std.specs.List.{list_all}
 use Rattle.sparse_base.specs.Coo.{Coo}
-use Rattle.sparse_parser.specs.declared.error.MatrixMarketErrorKind.TheVariants.{ParsingError, InvalidHeader}
+use Rattle.sparse_parser.specs.declared.error.MatrixMarketErrorKind.TheVariants.{ParsingError}
 use Rattle.sparse_parser.specs.declared.header.Header.{Header}
-use Rattle.sparse_parser.specs.Header.{header_of, is_carried}
-use Rattle.sparse_parser.specs.Grammar.{is_size, is_entry, IsHeaded, IsBody}
-use Rattle.sparse_parser.specs.Meaning.{Read, matrix_of, BodyMeans, Means}
+use Rattle.sparse_parser.specs.Header.{header_of}
+use Rattle.sparse_parser.specs.Grammar.{is_size, is_entry, IsHeaded, IsDocument}
+use Rattle.sparse_parser.specs.Reads.{Read}
+use Rattle.sparse_parser.specs.Scalars.{Scalar}
+use Rattle.sparse_parser.specs.Meaning.{matrix_of, Means}
 use Rattle.sparse_parser.specs.InnerReading.{is_content, written_of, among_entries, body_of, document_of, read, judged}
 use Rattle.sparse_parser.proofs.LineLaws.{Begins, lines_only, some_lines, headed_only, headed_are}
 
@@ -22,72 +24,79 @@ lines_headed text words others header e h =
     let l = some_lines text in
     record { lines = l.0; words = words; cut = l.1; headed = headed_are l.0 words others (lines_only text l.0 l.1 ∙ e); says = h }
 
-not_body : (a b : Bool) (size : List (List ℕ)) (entries : List (List (List ℕ))) → is_size size ≡ a → list_all is_entry entries ≡ b → BodyMeans (size ∷ entries) (body_of (size ∷ entries))
-unfolding body_of among_entries
-not_body true true size entries s e = inl (size, entries, (refl, s, e), rw (s, e) refl)
-not_body true false size entries s e = inr ((λ z es h. absurd (let k : entries ≡ es = cc in let j : list_all is_entry es ≡ false = rw (← k) e in let i = h.2 in cc)), rw (s, e) refl)
-not_body false b size entries s e = inr ((λ z es h. absurd (let k : size ≡ z = cc in let j : is_size z ≡ false = rw (← k) s in let i = h.1 in cc)), rw s refl)
+-- what a document says of the lines that are written
+pub record IsWritten (text : List ℕ) (header : Header) (contents : List (List (List ℕ))) : Type 0 where
+  pub words : List (List ℕ)
+  pub others : List (List (List ℕ))
+  pub lines : written_of text ≡ words ∷ others
+  pub says : header_of words ≡ Some header
+  pub contents_are : filter is_content others ≡ contents
 
-pub body_means : (contents : List (List (List ℕ))) → BodyMeans contents (body_of contents)
-unfolding body_of
-body_means [] = inr ((λ z es h. absurd cc), refl)
-body_means (size ∷ entries) = not_body (is_size size) (list_all is_entry entries) size entries refl refl
+pub headed_written : (text : List ℕ) (header : Header) (contents : List (List (List ℕ)))
+    → IsHeaded text header contents → IsWritten text header contents
+headed_written text header contents h =
+    let b = headed_lines text header contents h in
+    record { words = h.words; others = b.0; lines = b.1; says = h.says; contents_are = b.2 }
 
-pub read_means : (text : List ℕ) → Means text (read text)
-unfolding read document_of
-read_means text = by (written_of text) refl
-  where
-    headed : (words : List (List ℕ)) (others : List (List (List ℕ))) (o : Option Header)
-        → written_of text ≡ words ∷ others → header_of words ≡ o
-        → Means text (judged o (filter is_content others))
-    headed words others None e h = inl ((λ header contents k. absurd (let l = headed_lines text header contents k in let m = l.1 in let w : k.words ≡ words = cc in let s = k.says in let t : header_of k.words ≡ None = rw w h in cc)), refl)
-    headed words others (Some header) e h = plain (is_carried header) refl
-      where
-        plain : (b : Bool) → is_carried header ≡ b
-            → Means text (judged (Some header) (filter is_content others))
-        plain true p = inr (header, filter is_content others, lines_headed text words others header e h, inr (p, rw p (body_means (filter is_content others))))
-        plain false p = inr (header, filter is_content others, lines_headed text words others header e h, inl (p, rw p refl))
+pub written_same : (text : List ℕ) (words : List (List ℕ)) (others : List (List (List ℕ))) (o : Option Header) (header : Header) (contents : List (List (List ℕ)))
+    → written_of text ≡ words ∷ others → header_of words ≡ o → IsHeaded text header contents
+    → (o ≡ Some header) × (filter is_content others ≡ contents)
+written_same text words others o header contents e h headed =
+    let w = headed_written text header contents headed in
+    let l = w.lines in
+    let same : words ≡ w.words = cc in
+    let rest : others ≡ w.others = cc in
+    (sym h ∙ ap header_of same ∙ w.says, ap (filter is_content) rest ∙ w.contents_are)
 
-    by : (lines : List (List (List ℕ))) → written_of text ≡ lines → Means text (read text)
-    by [] e = inl ((λ header contents h. absurd (let k = headed_lines text header contents h in let m = k.1 in cc)), rw e refl)
-    by (words ∷ others) e = rw e (headed words others (header_of words) e refl)
+pub one_document : (text : List ℕ) (h g : Header) (s z : List (List ℕ)) (ls ks : List (List (List ℕ)))
+    → IsDocument text h s ls → IsDocument text g z ks → (h ≡ g) × (s ≡ z) × (ls ≡ ks)
+one_document text h g s z ls ks a b =
+    let w = headed_written text h (s ∷ ls) a.headed in
+    let p = written_same text w.words w.others (Some h) g (z ∷ ks) w.lines w.says b.headed in
+    let c : s ∷ ls ≡ z ∷ ks = sym w.contents_are ∙ p.1 in
+    let q = p.0 in
+    (cc, cc, cc)
 
--- ---- one document, one meaning
+module _ (S : Scalar) where
+  not_document : (text : List ℕ) (r : Read (Coo S.Value)) → r ≡ Err ParsingError
+      → ((h : Header) (size : List (List ℕ)) (lines : List (List (List ℕ))) → IsDocument text h size lines → ⊥)
+      → Means S text r
+  not_document text r e none_is = inl (none_is, e)
 
-pub headed_one : (text : List ℕ) (h g : Header) (cs ds : List (List (List ℕ))) → IsHeaded text h cs
-    → IsHeaded text g ds → (h ≡ g) × (cs ≡ ds)
-headed_one text h g cs ds a b =
-    let e = headed_lines text h cs a in
-    let f = headed_lines text g ds b in
-    let m = e.1 in
-    let n = f.1 in
-    let w : a.words ≡ b.words = cc in
-    let o : e.0 ≡ f.0 = cc in
-    let s : header_of a.words ≡ Some g = rw w b.says in
-    let t = a.says in
-    (cc, sym e.2 ∙ ap (filter is_content) o ∙ f.2)
+  contents_mean : (text : List ℕ) (words : List (List ℕ)) (others : List (List (List ℕ))) (header : Header) (contents : List (List (List ℕ)))
+      → written_of text ≡ words ∷ others → header_of words ≡ Some header → filter is_content others ≡ contents → Means S text (body_of S header contents)
+  unfolding body_of among_entries
+  contents_mean text words others header [] e h c =
+      inl ((λ g size lines d. absurd (let p = written_same text words others (Some header) g (size ∷ lines) e h d.headed in let q : [] ≡ size ∷ lines = sym c ∙ p.1 in cc)), refl)
+  contents_mean text words others header (size ∷ lines) e h c = by (is_size size) (list_all is_entry lines) refl refl
+    where
+      headed : IsHeaded text header (size ∷ lines)
+      headed = subst (IsHeaded text header) c (lines_headed text words others header e h)
 
-body_one : (cs : List (List (List ℕ))) (r s : Read (Coo ℤ)) → BodyMeans cs r → BodyMeans cs s
-    → r ≡ s
-body_one cs r s (inl (size, entries, h, e)) (inl (size', entries', h', e')) =
-    let f = h.0 in let f' = h'.0 in let p : size ≡ size' = cc in let q : entries ≡ entries' = cc in cc
-body_one cs r s (inl (size, entries, h, e)) (inr (none_is, e')) = absurd (none_is size entries h)
-body_one cs r s (inr (none_is, e)) (inl (size, entries, h, e')) = absurd (none_is size entries h)
-body_one cs r s (inr (none_is, e)) (inr (other, e')) = e ∙ sym e'
+      by : (a b : Bool) → is_size size ≡ a → list_all is_entry lines ≡ b → Means S text (cond (is_size size) (among_entries lines (matrix_of S header size lines)) (Err ParsingError))
+      by true true s l = inr (header, size, lines, record { headed = headed; sized = s; listed = l }, rw (s, l) refl)
+      by true false s l = inl ((λ g z ks d. absurd (let p = written_same text words others (Some header) g (z ∷ ks) e h d.headed in let q : size ∷ lines ≡ z ∷ ks = sym c ∙ p.1 in let same : lines ≡ ks = cc in let k : list_all is_entry ks ≡ false = ap (list_all is_entry) (sym same) ∙ l in let m = d.listed in cc)), rw (s, l) refl)
+      by false b s l = inl ((λ g z ks d. absurd (let p = written_same text words others (Some header) g (z ∷ ks) e h d.headed in let q : size ∷ lines ≡ z ∷ ks = sym c ∙ p.1 in let same : size ≡ z = cc in let k : is_size z ≡ false = ap is_size (sym same) ∙ s in let m = d.sized in cc)), rw s refl)
 
-abbrev Judged : Header → List (List (List ℕ)) → Read (Coo ℤ) → Type 0
-Judged x c q = ((is_carried x ≡ false) × (q ≡ Err InvalidHeader)) ⊎ ((is_carried x ≡ true) × BodyMeans c q)
+  pub read_means : (text : List ℕ) → Means S text (read S text)
+  unfolding read document_of
+  read_means text = by (written_of text) refl
+    where
+      headed : (words : List (List ℕ)) (others : List (List (List ℕ))) (o : Option Header)
+          → written_of text ≡ words ∷ others → header_of words ≡ o
+          → Means S text (judged S o (filter is_content others))
+      headed words others None e h = inl ((λ g size lines d. absurd (let p = written_same text words others None g (size ∷ lines) e h d.headed in let q = p.0 in cc)), refl)
+      headed words others (Some header) e h = contents_mean text words others header (filter is_content others) e h refl
 
-pub means_one : (text : List ℕ) (r s : Read (Coo ℤ)) → Means text r → Means text s → r ≡ s
-means_one text r s (inl (none_is, e)) (inl (other, e')) = e ∙ sym e'
-means_one text r s (inl (none_is, e)) (inr (h, cs, is, m)) = absurd (none_is h cs is)
-means_one text r s (inr (h, cs, is, m)) (inl (none_is, e)) = absurd (none_is h cs is)
-means_one text r s (inr (h, cs, a, m)) (inr (g, ds, b, n)) =
-    let same = headed_one text h g cs ds a b in
-    judged_one (subst (λ (x : Header). Judged x cs r) same.0 m) (subst (λ (c : List (List (List ℕ))). Judged g c s) (sym same.1) n)
-  where
-    judged_one : Judged g cs r → Judged g cs s → r ≡ s
-    judged_one (inl p) (inl q) = p.1 ∙ sym q.1
-    judged_one (inl p) (inr q) = absurd (let a = p.0 in let b = q.0 in cc)
-    judged_one (inr p) (inl q) = absurd (let a = p.0 in let b = q.0 in cc)
-    judged_one (inr p) (inr q) = body_one cs r s p.1 q.1
+      by : (lines : List (List (List ℕ))) → written_of text ≡ lines → Means S text (document_of S (written_of text))
+      by [] e = rw e (inl ((λ g size lines d. absurd (let w = headed_written text g (size ∷ lines) d.headed in let k = w.lines in cc)), refl))
+      by (words ∷ others) e = rw e (headed words others (header_of words) e refl)
+
+  pub means_one : (text : List ℕ) (r s : Read (Coo S.Value)) → Means S text r → Means S text s
+      → r ≡ s
+  means_one text r s (inl (none_is, e)) (inl (other, e')) = e ∙ sym e'
+  means_one text r s (inl (none_is, e)) (inr (h, size, lines, d, e')) = absurd (none_is h size lines d)
+  means_one text r s (inr (h, size, lines, d, e)) (inl (none_is, e')) = absurd (none_is h size lines d)
+  means_one text r s (inr (h, size, lines, d, e)) (inr (g, z, ks, d', e')) =
+      let same = one_document text h g size z lines ks d d' in
+      e ∙ ap (λ (x : Header). matrix_of S x size lines) same.0 ∙ ap (λ (x : List (List ℕ)). matrix_of S g x lines) same.1 ∙ ap (matrix_of S g z) same.2 ∙ sym e'

@@ -4,6 +4,7 @@ ghost use Rattle.std.specs.Prelude.{◌≡◌, length};
 ghost use Rattle.std.specs.Iterator.{YieldsFirstBy, item_count};
 
 use sparse_base::coo::{CooMatrix, CooTripletIter};
+use sparse_forms::csc::{CscMatrix, CscTripletIter};
 use sparse_forms::csr::{CsrMatrix, CsrTripletIter};
 
 /// A matrix that can be written.
@@ -39,6 +40,8 @@ pub enum ExportIter<'a, T> {
     Coo(CooTripletIter<'a, T>),
     /// The triplets of a matrix by rows, row after row.
     Csr(CsrTripletIter<'a, T>),
+    /// The triplets of a matrix by columns, column after column.
+    Csc(CscTripletIter<'a, T>),
 }
 
 impl<'a, T> Iterator for ExportIter<'a, T> {
@@ -54,6 +57,7 @@ impl<'a, T> Iterator for ExportIter<'a, T> {
         match self {
             ExportIter::Coo(triplets) => triplets.next(),
             ExportIter::Csr(triplets) => triplets.next(),
+            ExportIter::Csc(triplets) => triplets.next(),
         }
     }
 }
@@ -98,5 +102,29 @@ impl<T> MatrixMarketExport<T> for CsrMatrix<T> {
 
     fn nnz(&self) -> usize {
         CsrMatrix::nnz(self)
+    }
+}
+
+impl<T> MatrixMarketExport<T> for CscMatrix<T> {
+    ghost use Rattle.std.specs.Prelude.{map};
+    ghost use Rattle.sparse_base.specs.Coo.{coo_of};
+    ghost use Rattle.sparse_cs.specs.Compressed.{lane_triplets, turned};
+
+    ghost exported = { λ m. coo_of m.pattern.minor_dim m.pattern.major_dim (map turned (lane_triplets m)) };
+
+    fn triplet_iter(&self) -> ExportIter<'_, T> {
+        ExportIter::Csc(CscMatrix::triplet_iter(self))
+    }
+
+    fn nrows(&self) -> usize {
+        CscMatrix::nrows(self)
+    }
+
+    fn ncols(&self) -> usize {
+        CscMatrix::ncols(self)
+    }
+
+    fn nnz(&self) -> usize {
+        CscMatrix::nnz(self)
     }
 }

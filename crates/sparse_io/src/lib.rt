@@ -2,6 +2,8 @@
 #![tactic(auto)]
 
 mod export;
+mod files;
+mod laws;
 mod out;
 mod reader;
 mod scalar;
@@ -9,8 +11,10 @@ mod sinks;
 mod writer;
 
 pub use export::{ExportIter, MatrixMarketExport};
+pub use files::{load_coo_from_matrix_market_file, save_to_matrix_market_file};
+pub use laws::{each_text_means, one_document, one_meaning, round_trip};
 pub use out::Out;
-pub use reader::{load_coo_from_matrix_market_str, one_meaning};
+pub use reader::load_coo_from_matrix_market_str;
 pub use scalar::MatrixMarketScalar;
 pub use sinks::{Sink, write_all_to};
 pub use sparse_parser::error::{MatrixMarketError, MatrixMarketErrorKind};

@@ -1,4 +1,4 @@
-//! What takes bytes.
+//! Byte sinks.
 
 ghost use Rattle.std.specs.Prelude.{◌≡◌, ℕ, ◌+◌, List, OnOk, OnErr, IfErr, Option, None, Some};
 ghost use Rattle.std.specs.Io.{WritesAtMost};
@@ -7,10 +7,10 @@ ghost use Rattle.sparse_io.specs.Sink.{failure_of, CountsFailure, AppendsSome};
 
 use std::io::ErrorKind;
 
-/// What takes bytes, a front of a slice at a time.
+/// A byte sink. Each write accepts a prefix of the slice.
 ///
-/// A write fails where it is refused, and where it takes none of some bytes: that is a failure of the kind
-/// `WriteZero`. Contracts see the bytes taken, where the type tells them, and count the failures.
+/// A write fails if it returns an error, or if it accepts nothing of a nonempty slice, which is a failure of the kind `WriteZero`.
+/// Contracts see the bytes accepted, where the type determines them, and the number of failures.
 pub trait Sink {
     ghost use Rattle.std.specs.declared.io.ErrorKind.{ErrorKind};
 
@@ -23,7 +23,7 @@ pub trait Sink {
     // The kind of the last failure.
     ghost last: { Self → Option ErrorKind };
 
-    /// Takes a front of the bytes, and answers how many. A write that is refused takes none.
+    /// Accepts a prefix of the bytes, and returns its length. A write that fails accepts nothing.
     fn write(&mut self, bytes: &[u8]) -> Result<usize, ErrorKind>
         ensures bound { WritesAtMost result bytes.now }
         ensures bytes { WriteAppends (taken self.old) (taken self.new) result bytes.now }

@@ -64,7 +64,7 @@ fn push_triplet<T: MatrixMarketScalar>(
 ) -> Result<(), AllocError>
     requires row { row < usize.MAX }
     requires col { col < usize.MAX }
-    ensures { OnOk result (string_bytes text.new ≡ string_bytes text.old ++ triplet_line T.text (row, col, value.now)) }
+    ensures { OnOk result (string_bytes text.new ≡ string_bytes text.old ++ triplet_line (λ x. T.scalar.text (T.value x)) (row, col, value.now)) }
 {
     let mut bytes = [b' '; indices::ROOM];
     text.push_str(format_indices(&mut bytes, row + 1, col + 1))?;
@@ -77,7 +77,7 @@ fn push_head<T, S>(text: &mut String, matrix: &S) -> Result<(), AllocError>
 where
     T: MatrixMarketScalar,
     S: MatrixMarketExport<T>,
-    ensures head { OnOk result (string_bytes text.new ≡ string_bytes text.old ++ head_of T.name (S.exported matrix.now)) }
+    ensures head { OnOk result (string_bytes text.new ≡ string_bytes text.old ++ head_of T.scalar.name (S.exported matrix.now)) }
     ensures nrows { OnOk result ((S.exported matrix.now).nrows ≤ usize.MAX) }
     ensures ncols { OnOk result ((S.exported matrix.now).ncols ≤ usize.MAX) }
 {
@@ -113,7 +113,7 @@ where
     requires col { col < usize.MAX }
     ensures unfailed { OnOk result (W.failures sink.new ≡ W.failures sink.old) }
     ensures buffered { OnOk result (IsBuffered (W.taken sink.old) (W.taken sink.new) (string_bytes text.new)
-        (string_bytes text.old ++ triplet_line T.text (row, col, value.now))) }
+        (string_bytes text.old ++ triplet_line (λ x. T.scalar.text (T.value x)) (row, col, value.now))) }
     ensures beginning { OnErr result (AppendsSome (W.taken sink.old) (W.taken sink.new) (string_bytes text.old)) }
     ensures refused { IfErr result (λ e. IsRefusedWrite (kind_of e) (W.failures sink.old) (W.failures sink.new) (W.last sink.new)) }
 {
@@ -124,11 +124,15 @@ where
     Ok(())
 }
 
-/// Writes a matrix to a sink: the header, the sizes, and a line for each triplet in the order of the matrix's form.
+/// Writes a matrix to a sink in Matrix Market format: the header, the size line, and a line for each triplet in the order of the matrix's
+/// form.
 ///
-/// The text goes through one buffer of bounded size. The writing goes on after a short write, and ends at the first
-/// that fails: the answer is then `IOError` of its kind. It is `OutOfMemory` where memory was refused for the buffer or
-/// for a value's text. After a refusal a beginning of the text was written.
+/// The text passes through one buffer of bounded size.
+///
+/// # Errors
+///
+/// Returns `IOError` with the kind of the first write that fails; short writes are continued. Returns `OutOfMemory` if an allocation fails.
+/// In both cases a prefix of the text has been written.
 pub fn save_to_matrix_market<T, W, S>(
     alloc: Global,
     sink: &mut W,
@@ -138,9 +142,9 @@ where
     T: MatrixMarketScalar,
     W: Sink,
     S: MatrixMarketExport<T>,
-    ensures ok { OnOk result (Appends (W.taken sink.old) (W.taken sink.new) (text_of T.name T.text (S.exported matrix.now))) }
+    ensures ok { OnOk result (Appends (W.taken sink.old) (W.taken sink.new) (text_of T.scalar.name (λ x. T.scalar.text (T.value x)) (S.exported matrix.now))) }
     ensures unfailed { OnOk result (W.failures sink.new ≡ W.failures sink.old) }
-    ensures beginning { OnErr result (AppendsSome (W.taken sink.old) (W.taken sink.new) (text_of T.name T.text (S.exported matrix.now))) }
+    ensures beginning { OnErr result (AppendsSome (W.taken sink.old) (W.taken sink.new) (text_of T.scalar.name (λ x. T.scalar.text (T.value x)) (S.exported matrix.now))) }
     ensures refused { IfErr result (λ e. IsRefusedWrite (kind_of e) (W.failures sink.old) (W.failures sink.new) (W.last sink.new)) }
 {
     let mut text = String::with_capacity(alloc, CAPACITY)?;
@@ -153,11 +157,22 @@ where
 }
 
 /// The text that [`save_to_matrix_market`] writes.
+///
+/// # Examples
+///
+/// ```rust
+/// fn what_is_written_is_read_back(alloc: Global) -> Result<bool, Fail> {
+///     let text = "%%MatrixMarket matrix coordinate integer general\n1 1 1\n1 1 7\n";
+///     let matrix = load_coo_from_matrix_market_str::<W64>(alloc, text)?;
+///     let written = save_to_matrix_market_str(alloc, &matrix)?;
+///     Ok(load_coo_from_matrix_market_str::<W64>(alloc, written.as_str())? == matrix)
+/// }
+/// ```
 pub fn save_to_matrix_market_str<T, S>(alloc: Global, matrix: &S) -> Result<String, AllocError>
 where
     T: MatrixMarketScalar,
     S: MatrixMarketExport<T>,
-    ensures { IfOk result (λ text. string_bytes text ≡ text_of T.name T.text (S.exported matrix.now)) }
+    ensures { IfOk result (λ text. string_bytes text ≡ text_of T.scalar.name (λ x. T.scalar.text (T.value x)) (S.exported matrix.now)) }
 {
     let mut text = String::new(alloc);
     push_head(&mut text, matrix)?;

@@ -1,4 +1,4 @@
--- A column of a CSC matrix with its values lent for writing, and what the column is once a loan from it is over.
+-- A column of a CSC matrix with its values borrowed mutably, and the column after a borrow from it.
 use Rattle.std.specs.Prelude.{ℕ, List, [], Option, map, slice_set, unwrap_or}
 use Rattle.std.specs.Borrow.{Lends, follows_if, name_if_some, MutBor, Fml, GName, Array, RattleType}
 use mathlib.Core.Option as maybe
@@ -7,7 +7,7 @@ use Rattle.sparse_pattern.specs.SparseEntries.{entry_name}
 use Rattle.sparse_pattern.specs.declared.entry.SparseEntryMut.{SparseEntryMut}
 use Rattle.sparse_cs.specs.Compressed.{turned}
 use Rattle.sparse_cs.specs.Lanes.{Lane, lane_parts}
-use Rattle.sparse_cs.specs.Left.{triplets_left, lanes_left}
+use Rattle.sparse_cs.specs.Left.{triplets_left, lanes_left, triplet_values, lane_values}
 use Rattle.sparse_cs.specs.Writing.{index_in}
 use Rattle.sparse_lanes.specs.declared.col_triplets.CscTripletIterMut.{CscTripletIterMut}
 use Rattle.sparse_lanes.specs.declared.col_mut.CscColIterMut.{CscColIterMut}
@@ -27,7 +27,7 @@ module _ {T : Type 0} where
   abbrev pub col_name : Option (CscColMut T) → maybe.Option GName
   col_name = name_if_some (λ s. s.values.ghost_name)
 
-  -- the column with ws behind its reference
+  -- the column with ws as its values
   abbrev pub col_with_values : CscColMut T → List T → CscColMut T
   col_with_values s ws = record s { values = record s.values { now = ws } }
 
@@ -39,15 +39,22 @@ module _ {T : Type 0} where
   abbrev pub col_with_value : CscColMut T → ℕ → T → CscColMut T
   col_with_value s j w = col_with_value_at s (unwrap_or (index_in s.row_indices j) 0) w
 
-  -- the triplets (row, column, value) that are still to come
+  -- the remaining triplets (row, column, value)
   abbrev pub csc_triplets_left : CscTripletIterMut T → List (ℕ × ℕ × T)
   csc_triplets_left it = map turned (triplets_left it.lanes)
 
-  -- the columns that are still to come
+  -- the values that the iterators borrow mutably
+  abbrev pub csc_triplet_values : CscTripletIterMut T → MutBor (List T)
+  csc_triplet_values it = triplet_values it.lanes
+
+  abbrev pub all_col_values : CscColIterMut T → MutBor (List T)
+  all_col_values it = lane_values it.lanes
+
+  -- the remaining columns
   abbrev pub cols_left : CscColIterMut T → List (Lane T)
   cols_left it = lanes_left it.lanes
 
--- the column ends with the values that are left behind what was lent
+-- after the borrow the column has the values last written through it
 module _ (T : RattleType) (s : MutBor (CscColMut T.Denot)) where
   abbrev pub LendsColValues : MutBor (List T.Denot) → Fml
   LendsColValues r = Lends (col_type (record { mir = named 1; lft = [] }) T) (Array T 0) s r (col_with_values s.now)

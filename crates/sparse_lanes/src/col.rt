@@ -1,4 +1,4 @@
-//! A column of a CSC matrix, and the columns in order.
+//! Columns of a CSC matrix, and the iterator over them.
 
 ghost use Rattle.std.specs.Prelude.{◌≡◌, ⊤, length};
 ghost use Rattle.std.specs.Iterator.{YieldsFirst, item_count};
@@ -26,28 +26,28 @@ impl<'a, T> Model for CscCol<'a, T> {
 }
 
 impl<'a, T> CscCol<'a, T> {
-    /// A lane of the core as a column.
+    /// Returns a lane as a column.
     pub fn from_lane(lane: CsLane<'a, T>) -> Self
         ensures { result ≡ lane.entry }
     {
         CscCol { lane }
     }
 
-    /// The number of rows, which is the length of the column.
+    /// Returns the number of rows.
     pub fn nrows(&self) -> usize
         ensures { result ≡ self.now.minor_dim }
     {
         self.lane.minor_dim()
     }
 
-    /// The number of stored places, zeros among them.
+    /// Returns the number of stored places in the column, including those whose value is zero.
     pub fn nnz(&self) -> usize
         ensures { result ≡ length self.now.indices }
     {
         self.lane.nnz()
     }
 
-    /// The rows of the stored places, rising.
+    /// Returns the rows of the stored places, strictly increasing.
     pub fn row_indices(&self) -> &'a [usize]
         ensures indices { result.now ≡ self.now.indices }
         ensures sound { IsSoundLane self.now }
@@ -55,7 +55,7 @@ impl<'a, T> CscCol<'a, T> {
         self.lane.minor_indices()
     }
 
-    /// The values of the stored places, in the order of their rows.
+    /// Returns the values of the stored places, in the order of their rows.
     pub fn values(&self) -> &'a [T]
         ensures values { result.now ≡ self.now.values }
         ensures sound { IsSoundLane self.now }
@@ -63,7 +63,7 @@ impl<'a, T> CscCol<'a, T> {
         self.lane.values()
     }
 
-    /// The entry at a row, by binary search, or `None` out of bounds.
+    /// Returns the entry at a row, or `None` if `row_index` is out of bounds. Binary search.
     pub fn get_entry(&self, row_index: usize) -> Option<SparseEntry<'a, T>>
         ensures { IsLaneEntryOf self.now row_index result }
     {
@@ -102,7 +102,7 @@ impl<'a, T: Eq> Eq for CscCol<'a, T> {
     ghost laws = { lane_eq-equiv T.Eq.laws };
 }
 
-/// The columns of a CSC matrix in order, those without stored places too.
+/// An iterator over the columns of a CSC matrix, including those without stored places.
 #[derive(Drop)]
 pub struct CscColIter<'a, T> {
     lanes: CsLaneIter<'a, T>,
@@ -121,7 +121,7 @@ impl<'a, T> Model for CscColIter<'a, T> {
 }
 
 impl<'a, T> CscColIter<'a, T> {
-    /// The lanes of the core as columns.
+    /// Returns an iterator over the remaining lanes as columns.
     pub fn from_lanes(lanes: CsLaneIter<'a, T>) -> Self
         ensures { result ≡ lanes.entry }
     {

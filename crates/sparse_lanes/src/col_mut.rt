@@ -1,13 +1,13 @@
-//! A column of a CSC matrix with its values for writing, and such columns in order.
+//! Columns of a CSC matrix with values borrowed mutably, and the iterator over them.
 
 ghost use Rattle.std.specs.Prelude.{◌≡◌, ◌<◌, length, slice_index_or};
 ghost use Rattle.std.specs.Borrow.{sem};
 ghost use Rattle.std.specs.Iterator.{YieldsFirstBy, item_count};
 ghost use Rattle.sparse_cs.specs.Compressed.{IsSound};
 ghost use Rattle.sparse_cs.specs.Lanes.{lane_at};
-ghost use Rattle.sparse_cs.specs.Left.{lanes_left, lent_lane};
+ghost use Rattle.sparse_cs.specs.Left.{lanes_left, lane_values, lent_lane};
 ghost use Rattle.sparse_cs.specs.Writing.{LendsLane, IsLaneFoundAt, IsLaneEntryMutOf, IsLentEntryOf};
-ghost use Rattle.sparse_lanes.specs.ColWriting.{lent_col, col_values, LendsColValues, cols_left, LendsColEntry};
+ghost use Rattle.sparse_lanes.specs.ColWriting.{lent_col, col_values, LendsColValues, all_col_values, cols_left, LendsColEntry};
 ghost use Rattle.sparse_lanes.specs.InnerColWriting.{LendsColAt, LendsColFound};
 
 use sparse_cs::writing::{element_mut, entry_in};
@@ -15,7 +15,7 @@ use sparse_cs::{CsLaneIterMut, CsLaneMut, CsMatrix, LaneIndices};
 use sparse_pattern::entry::{Found, Missing, SparseEntry, SparseEntryMut, into_entry};
 use std::marker::PhantomData;
 
-/// A column of a CSC matrix, its values for writing.
+/// A column of a CSC matrix, with its values borrowed mutably.
 #[derive(Drop)]
 pub struct CscColMut<'a, T> {
     nrows: usize,
@@ -43,7 +43,7 @@ impl<'a, T> CscColMut<'a, T> {
         }
     }
 
-    /// A lane of the core as a column, its values for writing.
+    /// Returns a lane as a column, with its values borrowed mutably. `index` must be less than the number of lanes.
     pub fn of(cs: &'a mut CsMatrix<T>, index: usize) -> Self
         requires { index < cs.old.pattern.major_dim }
         ensures* writes_back { sem 𝓛 (LendsLane T.row cs.entry index (col_values result)) }
@@ -53,35 +53,35 @@ impl<'a, T> CscColMut<'a, T> {
         CscColMut::new(cs.lane_mut(index))
     }
 
-    /// The length of the column.
+    /// Returns the number of rows.
     pub fn nrows(&self) -> usize
         ensures { result ≡ (lent_col self.now).minor_dim }
     {
         self.nrows
     }
 
-    /// The number of stored places in the column, zeros among them.
+    /// Returns the number of stored places in the column, including those whose value is zero.
     pub fn nnz(&self) -> usize
         ensures { result ≡ length (lent_col self.now).indices }
     {
         self.row_indices.len()
     }
 
-    /// The rows of the stored places, rising.
+    /// Returns the rows of the stored places, strictly increasing.
     pub fn row_indices(&self) -> &[usize]
         ensures { result.now ≡ (lent_col self.now).indices }
     {
         self.row_indices.as_slice()
     }
 
-    /// The values of the stored places.
+    /// Returns the values of the stored places, in the order of their rows.
     pub fn values(&self) -> &[T]
         ensures { result.now ≡ (lent_col self.now).values }
     {
         &*self.values
     }
 
-    /// The entry at a row, by binary search, or `None` out of bounds.
+    /// Returns the entry at a row, or `None` if `global_row_index` is out of bounds. Binary search.
     pub fn get_entry(&self, global_row_index: usize) -> Option<SparseEntry<'_, T>>
         ensures { IsLentEntryOf (lent_col self.now) global_row_index result }
     {
@@ -93,7 +93,7 @@ impl<'a, T> CscColMut<'a, T> {
         )
     }
 
-    /// The values of the stored places for writing.
+    /// Returns the values of the stored places, borrowed mutably.
     pub fn values_mut(&mut self) -> &mut [T]
         ensures* writes_back { sem 𝓛 (LendsColValues T.row self.entry result) }
         ensures values { result.now ≡ (lent_col self.old).values }
@@ -101,7 +101,7 @@ impl<'a, T> CscColMut<'a, T> {
         &mut *self.values
     }
 
-    /// The rows of the stored places, and their values for writing.
+    /// Returns the rows of the stored places, and their values borrowed mutably.
     pub fn rows_and_values_mut(&mut self) -> (&[usize], &mut [T])
         ensures* writes_back { sem 𝓛 (LendsColValues T.row self.entry result.1) }
         ensures rows { result.0.now ≡ (lent_col self.old).indices }
@@ -111,7 +111,7 @@ impl<'a, T> CscColMut<'a, T> {
         (rows, self.values_mut())
     }
 
-    /// The entry at a row for writing, by binary search, or `None` out of bounds.
+    /// Returns the entry at a row, borrowed mutably, or `None` if `global_row_index` is out of bounds. Binary search.
     pub fn get_entry_mut(&mut self, global_row_index: usize) -> Option<SparseEntryMut<'_, T>>
         ensures* writes_back { sem 𝓛 (LendsColEntry T.row self.entry global_row_index result) }
         ensures entry { IsLaneEntryMutOf (lent_col self.old) global_row_index result }
@@ -149,16 +149,17 @@ impl<'a, T> CscColMut<'a, T> {
     }
 }
 
-/// The columns of a CSC matrix in order, the empty ones too, their values for writing.
+/// An iterator over the columns of a CSC matrix, including those without stored places, that borrows their values mutably.
 #[derive(Drop)]
 pub struct CscColIterMut<'a, T> {
     lanes: CsLaneIterMut<'a, T>,
 }
 
 impl<'a, T> CscColIterMut<'a, T> {
-    /// The lanes of the core as columns.
+    /// Returns an iterator over the remaining lanes as columns.
     pub fn from_lanes(lanes: CsLaneIterMut<'a, T>) -> Self
-        ensures { cols_left result ≡ lanes_left lanes.entry }
+        ensures same_values { all_col_values result ≡ lane_values lanes.entry }
+        ensures all { cols_left result ≡ lanes_left lanes.entry }
     {
         CscColIterMut { lanes }
     }

@@ -1,16 +1,16 @@
-//! The triplets of a CSC matrix, column after column.
+//! Iterators over the triplets of a CSC matrix.
 
 ghost use Rattle.std.specs.Prelude.{◌≡◌, ⊤, map};
 ghost use Rattle.std.specs.Iterator.{YieldsFirst, YieldsFirstBy, item_count};
 ghost use Rattle.sparse_cs.specs.Compressed.{turned};
-ghost use Rattle.sparse_cs.specs.Left.{triplets_left};
-ghost use Rattle.sparse_lanes.specs.ColWriting.{csc_triplets_left};
+ghost use Rattle.sparse_cs.specs.Left.{triplets_left, triplet_values};
+ghost use Rattle.sparse_lanes.specs.ColWriting.{csc_triplets_left, csc_triplet_values};
 
 use sparse_cs::{CsTripletIter, CsTripletIterMut, CsTripletValues};
 use std::alloc::AllocError;
 use std::marker::Model;
 
-/// The triplets of a CSC matrix, column after column.
+/// An iterator over the triplets (row, column, value) of a CSC matrix, column by column, rows increasing.
 #[derive(Drop)]
 pub struct CscTripletIter<'a, T> {
     lanes: CsTripletIter<'a, T>,
@@ -26,7 +26,7 @@ impl<'a, T> Model for CscTripletIter<'a, T> {
 }
 
 impl<'a, T> CscTripletIter<'a, T> {
-    /// The triplets of the core, each as (row, column, value).
+    /// Returns an iterator over the remaining triplets (lane, index, value), each as (row, column, value).
     pub fn from_triplets(triplets: CsTripletIter<'a, T>) -> Self
         ensures { result ≡ map turned triplets.entry }
     {
@@ -62,7 +62,7 @@ impl<'a, T> Clone for CscTripletIter<'a, T> {
 }
 
 impl<'a, T: Copy> CscTripletIter<'a, T> {
-    /// The triplets that are left, with copies of their values.
+    /// Returns an iterator over the remaining triplets that yields copies of their values.
     pub fn cloned_values(self) -> CscTripletValues<'a, T>
         ensures { result ≡ self.entry }
     {
@@ -72,7 +72,7 @@ impl<'a, T: Copy> CscTripletIter<'a, T> {
     }
 }
 
-/// The triplets of a CSC matrix, column after column, with copies of the values.
+/// An iterator over the triplets (row, column, value) of a CSC matrix that yields copies of the values.
 #[derive(Drop)]
 pub struct CscTripletValues<'a, T> {
     lanes: CsTripletValues<'a, T>,
@@ -114,16 +114,17 @@ impl<'a, T> Clone for CscTripletValues<'a, T> {
     }
 }
 
-/// The triplets (row, column, value) of a CSC matrix column after column, each value for writing.
+/// An iterator over the triplets (row, column, value) of a CSC matrix that borrows each value mutably.
 #[derive(Drop)]
 pub struct CscTripletIterMut<'a, T> {
     lanes: CsTripletIterMut<'a, T>,
 }
 
 impl<'a, T> CscTripletIterMut<'a, T> {
-    /// The triplets of the core, each as (row, column, value).
+    /// Returns an iterator over the remaining triplets (lane, index, value), each as (row, column, value).
     pub fn from_triplets(triplets: CsTripletIterMut<'a, T>) -> Self
-        ensures { csc_triplets_left result ≡ map turned (triplets_left triplets.entry) }
+        ensures same_values { csc_triplet_values result ≡ triplet_values triplets.entry }
+        ensures all { csc_triplets_left result ≡ map turned (triplets_left triplets.entry) }
     {
         CscTripletIterMut { lanes: triplets }
     }

@@ -1,4 +1,4 @@
-//! The rows of a CSR matrix, the columns of a CSC matrix, and the iterators over them and over their triplets.
+//! Rows of CSR matrices, columns of CSC matrices, and the iterators over them and over triplets.
 #![tactic(auto)]
 
 pub mod col;

@@ -1,4 +1,4 @@
-//! A row of a CSR matrix, and the rows in order.
+//! Rows of a CSR matrix, and the iterator over them.
 
 ghost use Rattle.std.specs.Prelude.{◌≡◌, ⊤, length};
 ghost use Rattle.std.specs.Iterator.{YieldsFirst, item_count};
@@ -26,28 +26,28 @@ impl<'a, T> Model for CsrRow<'a, T> {
 }
 
 impl<'a, T> CsrRow<'a, T> {
-    /// A lane of the core as a row.
+    /// Returns a lane as a row.
     pub fn from_lane(lane: CsLane<'a, T>) -> Self
         ensures { result ≡ lane.entry }
     {
         CsrRow { lane }
     }
 
-    /// The number of columns, which is the length of the row.
+    /// Returns the number of columns.
     pub fn ncols(&self) -> usize
         ensures { result ≡ self.now.minor_dim }
     {
         self.lane.minor_dim()
     }
 
-    /// The number of stored places, zeros among them.
+    /// Returns the number of stored places in the row, including those whose value is zero.
     pub fn nnz(&self) -> usize
         ensures { result ≡ length self.now.indices }
     {
         self.lane.nnz()
     }
 
-    /// The columns of the stored places, rising.
+    /// Returns the columns of the stored places, strictly increasing.
     pub fn col_indices(&self) -> &'a [usize]
         ensures indices { result.now ≡ self.now.indices }
         ensures sound { IsSoundLane self.now }
@@ -55,7 +55,7 @@ impl<'a, T> CsrRow<'a, T> {
         self.lane.minor_indices()
     }
 
-    /// The values of the stored places, in the order of their columns.
+    /// Returns the values of the stored places, in the order of their columns.
     pub fn values(&self) -> &'a [T]
         ensures values { result.now ≡ self.now.values }
         ensures sound { IsSoundLane self.now }
@@ -63,7 +63,7 @@ impl<'a, T> CsrRow<'a, T> {
         self.lane.values()
     }
 
-    /// The entry at a column, by binary search, or `None` out of bounds.
+    /// Returns the entry at a column, or `None` if `col_index` is out of bounds. Binary search.
     pub fn get_entry(&self, col_index: usize) -> Option<SparseEntry<'a, T>>
         ensures { IsLaneEntryOf self.now col_index result }
     {
@@ -102,7 +102,7 @@ impl<'a, T: Eq> Eq for CsrRow<'a, T> {
     ghost laws = { lane_eq-equiv T.Eq.laws };
 }
 
-/// The rows of a CSR matrix in order, those without stored places too.
+/// An iterator over the rows of a CSR matrix, including those without stored places.
 #[derive(Drop)]
 pub struct CsrRowIter<'a, T> {
     lanes: CsLaneIter<'a, T>,
@@ -121,7 +121,7 @@ impl<'a, T> Model for CsrRowIter<'a, T> {
 }
 
 impl<'a, T> CsrRowIter<'a, T> {
-    /// The lanes of the core as rows.
+    /// Returns an iterator over the remaining lanes as rows.
     pub fn from_lanes(lanes: CsLaneIter<'a, T>) -> Self
         ensures { result ≡ lanes.entry }
     {

@@ -1,13 +1,13 @@
-//! A row of a CSR matrix with its values for writing, and such rows in order.
+//! Rows of a CSR matrix with values borrowed mutably, and the iterator over them.
 
 ghost use Rattle.std.specs.Prelude.{◌≡◌, ◌<◌, length, slice_index_or};
 ghost use Rattle.std.specs.Borrow.{sem};
 ghost use Rattle.std.specs.Iterator.{YieldsFirstBy, item_count};
 ghost use Rattle.sparse_cs.specs.Compressed.{IsSound};
 ghost use Rattle.sparse_cs.specs.Lanes.{lane_at};
-ghost use Rattle.sparse_cs.specs.Left.{lanes_left, lent_lane};
+ghost use Rattle.sparse_cs.specs.Left.{lanes_left, lane_values, lent_lane};
 ghost use Rattle.sparse_cs.specs.Writing.{LendsLane, IsLaneFoundAt, IsLaneEntryMutOf, IsLentEntryOf};
-ghost use Rattle.sparse_lanes.specs.RowWriting.{lent_row, row_values, LendsRowValues, rows_left, LendsRowEntry};
+ghost use Rattle.sparse_lanes.specs.RowWriting.{lent_row, row_values, LendsRowValues, all_row_values, rows_left, LendsRowEntry};
 ghost use Rattle.sparse_lanes.specs.InnerRowWriting.{LendsRowAt, LendsRowFound};
 
 use sparse_cs::writing::{element_mut, entry_in};
@@ -15,7 +15,7 @@ use sparse_cs::{CsLaneIterMut, CsLaneMut, CsMatrix, LaneIndices};
 use sparse_pattern::entry::{Found, Missing, SparseEntry, SparseEntryMut, into_entry};
 use std::marker::PhantomData;
 
-/// A row of a CSR matrix, its values for writing.
+/// A row of a CSR matrix, with its values borrowed mutably.
 #[derive(Drop)]
 pub struct CsrRowMut<'a, T> {
     ncols: usize,
@@ -43,7 +43,7 @@ impl<'a, T> CsrRowMut<'a, T> {
         }
     }
 
-    /// A lane of the core as a row, its values for writing.
+    /// Returns a lane as a row, with its values borrowed mutably. `index` must be less than the number of lanes.
     pub fn of(cs: &'a mut CsMatrix<T>, index: usize) -> Self
         requires { index < cs.old.pattern.major_dim }
         ensures* writes_back { sem 𝓛 (LendsLane T.row cs.entry index (row_values result)) }
@@ -53,35 +53,35 @@ impl<'a, T> CsrRowMut<'a, T> {
         CsrRowMut::new(cs.lane_mut(index))
     }
 
-    /// The length of the row.
+    /// Returns the number of columns.
     pub fn ncols(&self) -> usize
         ensures { result ≡ (lent_row self.now).minor_dim }
     {
         self.ncols
     }
 
-    /// The number of stored places in the row, zeros among them.
+    /// Returns the number of stored places in the row, including those whose value is zero.
     pub fn nnz(&self) -> usize
         ensures { result ≡ length (lent_row self.now).indices }
     {
         self.col_indices.len()
     }
 
-    /// The columns of the stored places, rising.
+    /// Returns the columns of the stored places, strictly increasing.
     pub fn col_indices(&self) -> &[usize]
         ensures { result.now ≡ (lent_row self.now).indices }
     {
         self.col_indices.as_slice()
     }
 
-    /// The values of the stored places.
+    /// Returns the values of the stored places, in the order of their columns.
     pub fn values(&self) -> &[T]
         ensures { result.now ≡ (lent_row self.now).values }
     {
         &*self.values
     }
 
-    /// The entry at a column, by binary search, or `None` out of bounds.
+    /// Returns the entry at a column, or `None` if `global_col_index` is out of bounds. Binary search.
     pub fn get_entry(&self, global_col_index: usize) -> Option<SparseEntry<'_, T>>
         ensures { IsLentEntryOf (lent_row self.now) global_col_index result }
     {
@@ -93,7 +93,7 @@ impl<'a, T> CsrRowMut<'a, T> {
         )
     }
 
-    /// The values of the stored places for writing.
+    /// Returns the values of the stored places, borrowed mutably.
     pub fn values_mut(&mut self) -> &mut [T]
         ensures* writes_back { sem 𝓛 (LendsRowValues T.row self.entry result) }
         ensures values { result.now ≡ (lent_row self.old).values }
@@ -101,7 +101,7 @@ impl<'a, T> CsrRowMut<'a, T> {
         &mut *self.values
     }
 
-    /// The columns of the stored places, and their values for writing.
+    /// Returns the columns of the stored places, and their values borrowed mutably.
     pub fn cols_and_values_mut(&mut self) -> (&[usize], &mut [T])
         ensures* writes_back { sem 𝓛 (LendsRowValues T.row self.entry result.1) }
         ensures cols { result.0.now ≡ (lent_row self.old).indices }
@@ -111,7 +111,7 @@ impl<'a, T> CsrRowMut<'a, T> {
         (cols, self.values_mut())
     }
 
-    /// The entry at a column for writing, by binary search, or `None` out of bounds.
+    /// Returns the entry at a column, borrowed mutably, or `None` if `global_col_index` is out of bounds. Binary search.
     pub fn get_entry_mut(&mut self, global_col_index: usize) -> Option<SparseEntryMut<'_, T>>
         ensures* writes_back { sem 𝓛 (LendsRowEntry T.row self.entry global_col_index result) }
         ensures entry { IsLaneEntryMutOf (lent_row self.old) global_col_index result }
@@ -149,16 +149,17 @@ impl<'a, T> CsrRowMut<'a, T> {
     }
 }
 
-/// The rows of a CSR matrix in order, the empty ones too, their values for writing.
+/// An iterator over the rows of a CSR matrix, including those without stored places, that borrows their values mutably.
 #[derive(Drop)]
 pub struct CsrRowIterMut<'a, T> {
     lanes: CsLaneIterMut<'a, T>,
 }
 
 impl<'a, T> CsrRowIterMut<'a, T> {
-    /// The lanes of the core as rows.
+    /// Returns an iterator over the remaining lanes as rows.
     pub fn from_lanes(lanes: CsLaneIterMut<'a, T>) -> Self
-        ensures { rows_left result ≡ lanes_left lanes.entry }
+        ensures same_values { all_row_values result ≡ lane_values lanes.entry }
+        ensures all { rows_left result ≡ lanes_left lanes.entry }
     {
         CsrRowIterMut { lanes }
     }

@@ -1,15 +1,15 @@
-//! The triplets of a CSR matrix, row after row.
+//! Iterators over the triplets of a CSR matrix.
 
 ghost use Rattle.std.specs.Prelude.{◌≡◌, ⊤};
 ghost use Rattle.std.specs.Iterator.{YieldsFirst, YieldsFirstBy, item_count};
-ghost use Rattle.sparse_cs.specs.Left.{triplets_left};
-ghost use Rattle.sparse_lanes.specs.RowWriting.{csr_triplets_left};
+ghost use Rattle.sparse_cs.specs.Left.{triplets_left, triplet_values};
+ghost use Rattle.sparse_lanes.specs.RowWriting.{csr_triplets_left, csr_triplet_values};
 
 use sparse_cs::{CsTripletIter, CsTripletIterMut, CsTripletValues};
 use std::alloc::AllocError;
 use std::marker::Model;
 
-/// The triplets of a CSR matrix, row after row.
+/// An iterator over the triplets (row, column, value) of a CSR matrix, row by row, columns increasing.
 #[derive(Drop)]
 pub struct CsrTripletIter<'a, T> {
     lanes: CsTripletIter<'a, T>,
@@ -24,7 +24,7 @@ impl<'a, T> Model for CsrTripletIter<'a, T> {
 }
 
 impl<'a, T> CsrTripletIter<'a, T> {
-    /// The triplets of the core, each as (row, column, value).
+    /// Returns an iterator over the remaining triplets (lane, index, value), each as (row, column, value).
     pub fn from_triplets(triplets: CsTripletIter<'a, T>) -> Self
         ensures { result ≡ triplets.entry }
     {
@@ -57,7 +57,7 @@ impl<'a, T> Clone for CsrTripletIter<'a, T> {
 }
 
 impl<'a, T: Copy> CsrTripletIter<'a, T> {
-    /// The triplets that are left, with copies of their values.
+    /// Returns an iterator over the remaining triplets that yields copies of their values.
     pub fn cloned_values(self) -> CsrTripletValues<'a, T>
         ensures { result ≡ self.entry }
     {
@@ -67,7 +67,7 @@ impl<'a, T: Copy> CsrTripletIter<'a, T> {
     }
 }
 
-/// The triplets of a CSR matrix, row after row, with copies of the values.
+/// An iterator over the triplets (row, column, value) of a CSR matrix that yields copies of the values.
 #[derive(Drop)]
 pub struct CsrTripletValues<'a, T> {
     lanes: CsTripletValues<'a, T>,
@@ -105,16 +105,17 @@ impl<'a, T> Clone for CsrTripletValues<'a, T> {
     }
 }
 
-/// The triplets (row, column, value) of a CSR matrix row after row, each value for writing.
+/// An iterator over the triplets (row, column, value) of a CSR matrix that borrows each value mutably.
 #[derive(Drop)]
 pub struct CsrTripletIterMut<'a, T> {
     lanes: CsTripletIterMut<'a, T>,
 }
 
 impl<'a, T> CsrTripletIterMut<'a, T> {
-    /// The triplets of the core, each as (row, column, value).
+    /// Returns an iterator over the remaining triplets (lane, index, value), each as (row, column, value).
     pub fn from_triplets(triplets: CsTripletIterMut<'a, T>) -> Self
-        ensures { csr_triplets_left result ≡ triplets_left triplets.entry }
+        ensures same_values { csr_triplet_values result ≡ triplet_values triplets.entry }
+        ensures all { csr_triplets_left result ≡ triplets_left triplets.entry }
     {
         CsrTripletIterMut { lanes: triplets }
     }

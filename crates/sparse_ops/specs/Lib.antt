@@ -1,4 +1,3 @@
 pub mod InnerMarks
 pub mod Products
 pub mod InnerProducts
-pub mod InnerRows

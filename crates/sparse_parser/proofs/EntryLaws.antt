@@ -1,5 +1,5 @@
--- The parts of a data line, read from its front.
-use Rattle.std.proofs.Common.{◌≡◌, ◌≢◌, ℕ, ℤ, ◌+◌, ◌-◌, ◌^◌, ◌≤◌, ◌<◌, Bool, true, false, ltb, eqb, List, [], ◌∷◌, ◌++◌, length, take, Option, Some, None, Result, Err, refl, sym, ap, subst, ◌∙◌, arith, inl, inr, append_assoc, length-append}
+-- A sign and digits at the front of a text.
+use Rattle.std.proofs.Common.{◌≡◌, ◌≢◌, ℕ, ℤ, ◌+◌, ◌-◌, ◌^◌, ◌≤◌, ◌<◌, Bool, true, false, ltb, eqb, cond, ◌||◌, List, [], ◌∷◌, ◌++◌, length, take, Option, Some, None, Result, Err, refl, sym, ap, subst, ◌∙◌, arith, inl, inr, append_assoc, length-append}
 use Rattle.std.specs.Prelude.{◌⊎◌}
 use Rattle.std.specs.Option.{SomeIff, ok_or}
 use Rattle.std.specs.List.{list_all}
@@ -11,41 +11,24 @@ use Rattle.sparse_parser.specs.declared.error.Cause.{Cause}
 use Rattle.sparse_parser.specs.declared.error.MatrixMarketErrorKind.{MatrixMarketErrorKind}
 use Rattle.sparse_parser.specs.declared.error.MatrixMarketErrorKind.TheVariants.{ParsingError}
 use Rattle.sparse_parser.specs.Errors.{kind_of_cause}
-use Rattle.sparse_parser.specs.Bytes.{is_blank}
-use Rattle.sparse_parser.specs.InnerBytes.{front, after}
+use Rattle.sparse_parser.specs.Bytes.{is_blank, front, after}
 use Rattle.sparse_parser.specs.Grammar.{is_index, is_integer}
-use Rattle.sparse_parser.specs.Meaning.{Read, number_of, value_of}
-use Rattle.sparse_parser.specs.InnerReading.{found, found_number, begins_blank, ends_line, sign_of, index_at, value_at}
+use Rattle.sparse_parser.specs.Meaning.{number_of}
+use Rattle.sparse_parser.specs.InnerReading.{found, found_number}
 use Rattle.sparse_parser.proofs.Fronts.{Passes, Passes-front, front-append-after, after-yes, after-no, length-after}
 
 length-front-after : (p : ℕ → Bool) (text : List ℕ)
     → length (front p text) + length (after p text) ≡ length text
 length-front-after p text = sym (length-append (front p text) (after p text)) ∙ ap length (front-append-after p text)
 
-no_front : (p : ℕ → Bool) (text : List ℕ) → length (after p text) ≡ length text → front p text ≡ []
+pub no_front : (p : ℕ → Bool) (text : List ℕ) → length (after p text) ≡ length text → front p text ≡ []
 no_front p text e = nil_from_length (front p text) (let l = length-front-after p text in omega arith)
 
-some_front : (p : ℕ → Bool) (text : List ℕ) → length (after p text) ≢ length text
+pub some_front : (p : ℕ → Bool) (text : List ℕ) → length (after p text) ≢ length text
     → 0 < length (front p text)
 some_front p text n = let l = length-front-after p text in omega (arith, n)
 
-no_blank : (text : List ℕ) → length (after is_blank text) ≡ length text → begins_blank text ≡ false
-no_blank [] e = refl
-no_blank (b ∷ text) e = by (is_blank b) refl
-  where
-    by : (t : Bool) → is_blank b ≡ t → is_blank b ≡ false
-    by true f = absurd (let l = length-after is_blank text in let g : length (after is_blank text) ≡ length (b ∷ text) = sym (ap length (after-yes is_blank b text f)) ∙ e in omega arith)
-    by false f = f
-
-some_blank : (text : List ℕ) → length (after is_blank text) ≢ length text → begins_blank text ≡ true
-some_blank [] n = absurd (n refl)
-some_blank (b ∷ text) n = by (is_blank b) refl
-  where
-    by : (t : Bool) → is_blank b ≡ t → is_blank b ≡ true
-    by true f = f
-    by false f = absurd (n (ap length (after-no is_blank b text f)))
-
-list_all-passes : (p : ℕ → Bool) (text : List ℕ) → Passes p text → list_all p text ≡ true
+pub list_all-passes : (p : ℕ → Bool) (text : List ℕ) → Passes p text → list_all p text ≡ true
 list_all-passes p [] h = refl
 list_all-passes p (b ∷ text) h = rw (h.0, list_all-passes p text h.1) refl
 
@@ -54,7 +37,7 @@ pub is_index-front : (text : List ℕ) → 0 < length (front is_ascii_digit text
 is_index-front text lt = rw (lt-ltb 0 (length (front is_ascii_digit text)) lt, list_all-passes is_ascii_digit (front is_ascii_digit text) (Passes-front is_ascii_digit text)) refl
 
 -- what a function found is the number
-found-number : (word : List ℕ) (n : Option ℕ) → SomeIff n (digits_value 10 word < 2 ^ 64) (digits_value 10 word) → found_number n ≡ number_of word
+pub found-number : (word : List ℕ) (n : Option ℕ) → SomeIff n (digits_value 10 word < 2 ^ 64) (digits_value 10 word) → found_number n ≡ number_of word
 unfolding number_of
 found-number word (Some n) h = rw (lt-ltb _ _ h.0, h.1) refl
 found-number word None h = by (ltb (digits_value 10 word) (2 ^ 64)) refl
@@ -63,32 +46,14 @@ found-number word None h = by (ltb (digits_value 10 word) (2 ^ 64)) refl
     by true e = absurd (h (ltb-true _ _ e))
     by false e = rw e refl
 
-pub index_none : (text digits rest : List ℕ) → digits ≡ after is_ascii_digit text
-    → rest ≡ after is_blank digits → (length digits ≡ length text) ⊎ (length rest ≡ length digits)
-    → index_at text ≡ None
-unfolding index_at
-index_none text digits rest d r (inl e) = rw (no_front is_ascii_digit text (ap length (sym d) ∙ e)) refl
-index_none text digits rest d r (inr e) = by (is_index (front is_ascii_digit text)) refl
-  where
-    no : begins_blank (after is_ascii_digit text) ≡ false
-    no = ap begins_blank (sym d) ∙ no_blank digits (ap length (sym r) ∙ e)
-
-    by : (t : Bool) → is_index (front is_ascii_digit text) ≡ t → index_at text ≡ None
-    by true f = rw (f, no) refl
-    by false f = rw f refl
-
-pub index_some : (text digits rest : List ℕ) (n : Option ℕ) → digits ≡ after is_ascii_digit text
-    → rest ≡ after is_blank digits → length digits ≢ length text → length rest ≢ length digits
-    → SomeIff n (digits_value 10 (front is_ascii_digit text) < 2 ^ 64) (digits_value 10 (front is_ascii_digit text)) → Some (found_number n, rest) ≡ index_at text
-unfolding index_at
-index_some text digits rest n d r some blank h =
-    let f = is_index-front text (some_front is_ascii_digit text (λ e. some (ap length d ∙ e))) in
-    let b : begins_blank (after is_ascii_digit text) ≡ true = ap begins_blank (sym d) ∙ some_blank digits (λ e. blank (ap length r ∙ e)) in
-    rw (f, b, found-number (front is_ascii_digit text) n h, r, d) refl
-
 -- ---- values
 
-sign_of-append : (text : List ℕ) → sign_of text ++ without_leading_sign text ≡ text
+-- the sign at the front of a text
+abbrev pub sign_of : List ℕ → List ℕ
+sign_of [] = []
+sign_of (b ∷ text) = cond (eqb b 43 || eqb b 45) (b ∷ []) []
+
+pub sign_of-append : (text : List ℕ) → sign_of text ++ without_leading_sign text ≡ text
 sign_of-append [] = refl
 sign_of-append (b ∷ text) = by (eqb b 45) (eqb b 43) refl refl
   where
@@ -148,7 +113,7 @@ value_word-is text digits after' d a =
     let l : length (value_word text) + length after' ≡ length text = sym (length-append (value_word text) after') ∙ ap length e in
     (omega arith, ap (take (length text - length after')) (sym e) ∙ take_at (value_word text) after' (length text - length after') (omega arith))
 
-some_value : (text digits digits' : List ℕ) → digits ≡ without_leading_sign text
+pub some_value : (text digits digits' : List ℕ) → digits ≡ without_leading_sign text
     → digits' ≡ after is_ascii_digit digits → length digits' ≢ length digits
     → is_index (front is_ascii_digit (without_leading_sign text)) ≡ true
 some_value text digits digits' d a n = is_index-front (without_leading_sign text) (some_front is_ascii_digit (without_leading_sign text) (λ e. n (ap length (a ∙ ap (after is_ascii_digit) d) ∙ e ∙ ap length (sym d))))
@@ -166,36 +131,6 @@ pub value_word-number : (text digits word : List ℕ) (n : Option ℕ)
 value_word-number text digits word n d h w =
     let e : front is_ascii_digit digits ≡ without_leading_sign word = ap (front is_ascii_digit) d ∙ sym (ap without_leading_sign w ∙ without_leading_sign-value_word text) in
     subst (λ (ds : List ℕ). SomeIff n (digits_value 10 ds < 2 ^ 64) (digits_value 10 ds)) e h
-
-pub value_no_digits : (text digits digits' : List ℕ) → digits ≡ without_leading_sign text
-    → digits' ≡ after is_ascii_digit digits → length digits' ≡ length digits → value_at text ≡ None
-unfolding value_at
-value_no_digits text digits digits' d a e = rw (no_front is_ascii_digit (without_leading_sign text) (ap length (sym (a ∙ ap (after is_ascii_digit) d)) ∙ e ∙ ap length d)) refl
-
-pub value_no_end : (text digits digits' rest : List ℕ) → digits ≡ without_leading_sign text
-    → digits' ≡ after is_ascii_digit digits → rest ≡ after is_blank digits' → ends_line rest ≡ false
-    → value_at text ≡ None
-unfolding value_at
-value_no_end text digits digits' rest d a r e = by (is_index (front is_ascii_digit (without_leading_sign text))) refl
-  where
-    no : ends_line (after is_blank (after is_ascii_digit (without_leading_sign text))) ≡ false
-    no = ap ends_line (sym (r ∙ ap (after is_blank) (a ∙ ap (after is_ascii_digit) d))) ∙ e
-
-    by : (t : Bool) → is_index (front is_ascii_digit (without_leading_sign text)) ≡ t
-        → value_at text ≡ None
-    by true f = rw (f, no) refl
-    by false f = rw f refl
-
-pub value_some : (text digits digits' rest word : List ℕ) (v : Read ℤ)
-    → digits ≡ without_leading_sign text → digits' ≡ after is_ascii_digit digits
-    → rest ≡ after is_blank digits' → length digits' ≢ length digits → ends_line rest ≡ true
-    → word ≡ value_word text → v ≡ value_of word → Some (v, rest) ≡ value_at text
-unfolding value_at
-value_some text digits digits' rest word v d a r n e w h =
-    let s : rest ≡ after is_blank (after is_ascii_digit (without_leading_sign text)) = r ∙ ap (after is_blank) (a ∙ ap (after is_ascii_digit) d) in
-    let l : ends_line (after is_blank (after is_ascii_digit (without_leading_sign text))) ≡ true = ap ends_line (sym s) ∙ e in
-    let x : v ≡ value_of (value_word text) = h ∙ ap value_of w in
-    rw (some_value text digits digits' d a n, l, x, s) refl
 
 -- ---- a word that is an index as a whole
 

@@ -2,7 +2,7 @@
 use Rattle.std.proofs.Common.{◌≡◌, ℕ, ◌+◌, ◌≤◌, ◌<◌, Bool, true, false, List, [], ◌∷◌, ◌++◌, length, get_or, take, drop, refl, sym, ap, subst, ◌∙◌, append_assoc, arith}
 use Rattle.std.proofs.lemmas.List.{drop_more, drop_all, take_more, append-nil}
 use Rattle.std.specs.List.{AllByRecursion, list_all}
-use Rattle.sparse_parser.specs.InnerBytes.{front, after}
+use Rattle.sparse_parser.specs.Bytes.{front, after}
 
 pub front-yes : (p : ℕ → Bool) (b : ℕ) (text : List ℕ) → p b ≡ true
     → front p (b ∷ text) ≡ b ∷ front p text

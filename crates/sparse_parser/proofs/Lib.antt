@@ -1,7 +1,10 @@
 pub mod ByteClasses
 pub mod Digits
-pub mod EntryGrammar
 pub mod EntryLaws
+pub mod FirstWord
 pub mod Fronts
 pub mod LineLaws
+pub mod LineShapes
+pub mod NumberLaws
+pub mod PlaceLaws
 pub mod WordLaws

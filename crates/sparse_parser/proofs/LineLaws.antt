@@ -7,8 +7,8 @@ use Rattle.std.proofs.lemmas.Bool.Decides.{eqb_tells}
 use Rattle.std.proofs.lemmas.List.Splits.{slice_split_none, slice_split_at}
 use Rattle.std.proofs.lemmas.List.Elements.{All-from_recursion}
 use Rattle.std.proofs.lemmas.List.{append-nil}
-use Rattle.sparse_parser.specs.Bytes.{is_blank, is_line_end}
-use Rattle.sparse_parser.specs.InnerBytes.{is_space, is_within_line, front, after}
+use Rattle.sparse_parser.specs.Bytes.{is_blank, is_line_end, front, after}
+use Rattle.sparse_parser.specs.InnerBytes.{is_space, is_within_line}
 use Rattle.sparse_parser.specs.Grammar.{IsLineEnd, AreLines, AreBlanks, AreWords, AreContents, AreHeaded}
 use Rattle.sparse_parser.specs.InnerReading.{is_some_line, is_content, words_of, written_lines, written_of, contents_of}
 use Rattle.sparse_parser.proofs.Fronts.{Passes, IsStopped, front-yes, after-yes, after-no, Passes-front, IsStopped-after, front-append-after, length-after, length-after-lt}

@@ -6,8 +6,8 @@ use Rattle.std.proofs.lemmas.Bool.{lt-ltb}
 use Rattle.std.proofs.lemmas.List.Splits.{slice_split_none, slice_split_at, slice_split-cons_yes}
 use Rattle.std.proofs.lemmas.List.Elements.{All-from_recursion}
 use Rattle.std.proofs.lemmas.List.{append-nil, nil_from_length}
-use Rattle.sparse_parser.specs.Bytes.{is_blank}
-use Rattle.sparse_parser.specs.InnerBytes.{is_within_word, front, after}
+use Rattle.sparse_parser.specs.Bytes.{is_blank, front, after}
+use Rattle.sparse_parser.specs.InnerBytes.{is_within_word}
 use Rattle.sparse_parser.specs.Grammar.{AreBlanks, IsApart, AreWords}
 use Rattle.sparse_parser.specs.Words.{is_some_word}
 use Rattle.sparse_parser.specs.InnerReading.{words_of}

@@ -1,5 +1,5 @@
--- Bytes that separate the words and lines of a text.
-use Rattle.std.specs.Prelude.{ℕ, Bool, ◌||◌, ◌==◌}
+-- Bytes of one kind, and the front of a text whose bytes pass a test.
+use Rattle.std.specs.Prelude.{ℕ, Bool, ◌||◌, ◌==◌, List, [], ◌∷◌, if◌then◌else◌}
 
 -- space or tab
 abbrev pub is_blank : ℕ → Bool
@@ -8,3 +8,20 @@ is_blank b = (b == 32) || (b == 9)
 -- LF or CR
 abbrev pub is_line_end : ℕ → Bool
 is_line_end b = (b == 10) || (b == 13)
+
+-- a decimal point
+abbrev pub is_point : ℕ → Bool
+is_point b = b == 46
+
+-- the letter before an exponent
+abbrev pub is_exponent_letter : ℕ → Bool
+is_exponent_letter b = (b == 101) || (b == 69)
+
+-- the longest front whose bytes pass the test, and what stands after it
+abbrev pub front : (ℕ → Bool) → List ℕ → List ℕ
+front p [] = []
+front p (b ∷ text) = if p b then b ∷ front p text else []
+
+abbrev pub after : (ℕ → Bool) → List ℕ → List ℕ
+after p [] = []
+after p (b ∷ text) = if p b then after p text else b ∷ text

@@ -1,8 +1,8 @@
 -- The kind of an error.
 use Rattle.sparse_parser.specs.declared.error.Cause.{Cause}
-use Rattle.sparse_parser.specs.declared.error.Cause.TheVariants.{Grammar, RealHermitian, IntegerHermitian, PatternHermitian, PatternSkewSymmetric, PatternArray, HeaderNotCarried, SizeCount, SizeTooLarge, EntryCount, IndexTooLarge, ZeroIndex, NotAnI128, ValueOutOfRange, Format, Io, Memory}
+use Rattle.sparse_parser.specs.declared.error.Cause.TheVariants.{Grammar, RealHermitian, IntegerHermitian, PatternHermitian, PatternSkewSymmetric, PatternArray, SizeCount, SizeTooLarge, NotSquare, EntryCount, EntryShape, IndexTooLarge, ZeroIndex, NotAnI128, ValueOutOfRange, RealEntry, ComplexEntry, NothingAsInteger, IntegerAsNothing, IntegerConjugate, PatternConjugate, PatternNegative, AboveDiagonal, OnDiagonal, Format, Io, Memory}
 use Rattle.sparse_parser.specs.declared.error.MatrixMarketErrorKind.{MatrixMarketErrorKind}
-use Rattle.sparse_parser.specs.declared.error.MatrixMarketErrorKind.TheVariants.{ParsingError, InvalidHeader, EntryMismatch, TypeMismatch, ZeroError, SparseFormatError, IOError, OutOfMemory}
+use Rattle.sparse_parser.specs.declared.error.MatrixMarketErrorKind.TheVariants.{ParsingError, InvalidHeader, EntryMismatch, TypeMismatch, ZeroError, SparseFormatError, DiagonalError, IOError, NotLowerTriangle, NonSquare, OutOfMemory}
 use Rattle.sparse_parser.specs.declared.error.MatrixMarketError.{MatrixMarketError}
 
 -- the kind of each cause
@@ -13,15 +13,25 @@ kind_of_cause IntegerHermitian = InvalidHeader
 kind_of_cause PatternHermitian = InvalidHeader
 kind_of_cause PatternSkewSymmetric = InvalidHeader
 kind_of_cause PatternArray = InvalidHeader
-kind_of_cause HeaderNotCarried = InvalidHeader
 kind_of_cause SizeCount = ParsingError
 kind_of_cause SizeTooLarge = ParsingError
+kind_of_cause NotSquare = NonSquare
 kind_of_cause EntryCount = EntryMismatch
+kind_of_cause EntryShape = ParsingError
 kind_of_cause IndexTooLarge = ParsingError
 kind_of_cause ZeroIndex = ZeroError
 kind_of_cause NotAnI128 = ParsingError
 kind_of_cause ValueOutOfRange = TypeMismatch
-kind_of_cause (Format kind) = SparseFormatError kind
+kind_of_cause RealEntry = TypeMismatch
+kind_of_cause ComplexEntry = TypeMismatch
+kind_of_cause NothingAsInteger = TypeMismatch
+kind_of_cause IntegerAsNothing = TypeMismatch
+kind_of_cause IntegerConjugate = TypeMismatch
+kind_of_cause PatternConjugate = TypeMismatch
+kind_of_cause PatternNegative = TypeMismatch
+kind_of_cause AboveDiagonal = NotLowerTriangle
+kind_of_cause OnDiagonal = DiagonalError
+kind_of_cause (Format kind text) = SparseFormatError kind
 kind_of_cause (Io kind) = IOError kind
 kind_of_cause Memory = OutOfMemory
 

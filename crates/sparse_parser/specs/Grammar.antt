@@ -1,10 +1,10 @@
 -- The grammar of a Matrix Market text, by cases on whole lines.
-use Rattle.std.specs.Prelude.{◌≡◌, ◌≢◌, ℕ, ◌<◌, Bool, true, false, ◌&&◌, nat_lt, List, [], ◌∷◌, ◌++◌, length, slice_index, ◌⊎◌, Some}
-use Rattle.std.specs.List.{AllByRecursion, list_all}
+use Rattle.std.specs.Prelude.{◌≡◌, ◌≢◌, ℕ, ◌<◌, Bool, true, false, ◌&&◌, ◌||◌, not, nat_lt, count_by, List, [], ◌∷◌, ◌++◌, length, slice_index, ◌⊎◌, Some}
+use Rattle.std.specs.List.{AllByRecursion, list_all, list_any}
 use Rattle.std.specs.Char.{is_ascii_digit}
 use Rattle.std.specs.Str.Parse.{without_leading_sign}
 use Rattle.sparse_parser.specs.declared.header.Header.{Header}
-use Rattle.sparse_parser.specs.Bytes.{is_blank, is_line_end}
+use Rattle.sparse_parser.specs.Bytes.{is_blank, is_line_end, is_point, is_exponent_letter, front, after}
 use Rattle.sparse_parser.specs.Header.{header_of}
 
 -- LF, CR LF, or a CR that no LF follows
@@ -26,7 +26,7 @@ abbrev pub IsApart : List ℕ → Type 0
 IsApart [] = Unit {0}
 IsApart (b ∷ rest) = is_blank b ≡ true
 
--- the line has these words, parted by blanks
+-- the line has these words, separated by blanks
 abbrev pub AreWords : List ℕ → List (List ℕ) → Type 0
 AreWords line [] = AreBlanks line
 AreWords line (word ∷ words) = (before : List ℕ) × (rest : List ℕ) × AreBlanks before × (0 < length word) × AllByRecursion (λ b. is_blank b ≡ false) word
@@ -62,17 +62,42 @@ is_index word = nat_lt 0 (length word) && list_all is_ascii_digit word
 abbrev pub is_integer : List ℕ → Bool
 is_integer word = is_index (without_leading_sign word)
 
+-- digits with at most one point, and at least one digit
+abbrev pub is_mantissa : List ℕ → Bool
+is_mantissa word = list_all (λ b. is_ascii_digit b || is_point b) word
+    && (list_any is_ascii_digit word && nat_lt (count_by is_point word) 2)
+
+-- nothing, or a letter and then an integer
+abbrev pub is_exponent : List ℕ → Bool
+is_exponent [] = true
+is_exponent (letter ∷ power) = is_integer power
+
+-- a mantissa, and then nothing or an exponent, which begins at the first letter e or E
+abbrev pub is_unsigned_number : List ℕ → Bool
+is_unsigned_number word = is_mantissa (front (λ b. not (is_exponent_letter b)) word)
+    && is_exponent (after (λ b. not (is_exponent_letter b)) word)
+
+-- a number: an optional sign before it
+unfoldable pub is_number : List ℕ → Bool
+is_number word = is_unsigned_number (without_leading_sign word)
+
 -- a size line: two or three indices
 unfoldable pub is_size : List (List ℕ) → Bool
 is_size (rows ∷ cols ∷ count ∷ []) = is_index rows && is_index cols && is_index count
 is_size (rows ∷ cols ∷ []) = is_index rows && is_index cols
 is_size words = false
 
--- a data line: two indices and an integer
+-- a data line: one or two numbers, or two indices and one or two numbers
 unfoldable pub is_entry : List (List ℕ) → Bool
-is_entry (row ∷ col ∷ value ∷ []) = is_index row && is_index col && is_integer value
+is_entry (v ∷ []) = is_number v
+is_entry (v ∷ w ∷ []) = is_number v && is_number w
+is_entry (row ∷ col ∷ v ∷ []) = is_index row && is_index col && is_number v
+is_entry (row ∷ col ∷ v ∷ w ∷ []) =
+    is_index row && is_index col && is_number v && is_number w
 is_entry words = false
 
--- the contents are a size line and data lines
-abbrev pub IsBody : List (List (List ℕ)) → List (List ℕ) → List (List (List ℕ)) → Type 0
-IsBody contents size entries = (contents ≡ size ∷ entries) × (is_size size ≡ true) × (list_all is_entry entries ≡ true)
+-- the text has this header, this size line and these data lines
+pub record IsDocument (text : List ℕ) (header : Header) (size : List (List ℕ)) (entries : List (List (List ℕ))) : Type 0 where
+  pub headed : IsHeaded text header (size ∷ entries)
+  pub sized : is_size size ≡ true
+  pub listed : list_all is_entry entries ≡ true

@@ -49,10 +49,13 @@ unfoldable pub header_of : List (List ℕ) → Option Header
 header_of (banner ∷ object ∷ fields) = if says banner (codes "%%MatrixMarket") then if says object (codes "matrix") then fields_of fields else None else None
 header_of words = None
 
--- coordinate integer general
-abbrev pub is_carried : Header → Bool
-is_carried h = are_carried h.format h.field h.symmetry
+-- a hermitian matrix is complex; a pattern is neither skew-symmetric nor an array
+abbrev pub is_allowed : Header → Bool
+is_allowed h = are_allowed h.format h.field h.symmetry
   where
-    are_carried : Format → Field → Symmetry → Bool
-    are_carried Coordinate Integer General = true
-    are_carried f g s = false
+    are_allowed : Format → Field → Symmetry → Bool
+    are_allowed f Complex Hermitian = true
+    are_allowed f g Hermitian = false
+    are_allowed f Pattern SkewSymmetric = false
+    are_allowed Array Pattern s = false
+    are_allowed f g s = true

@@ -1,24 +1,23 @@
--- The front of a text that passes a test, as the functions that scan bytes give it.
-use Rattle.std.specs.Prelude.{◌≡◌, ◌≢◌, ℕ, ◌<◌, Bool, false, ◌||◌, not, if◌then◌else◌, List, [], ◌∷◌}
-use Rattle.sparse_parser.specs.Bytes.{is_blank, is_line_end}
+-- Tests of bytes, as the functions that scan a text make them.
+use Rattle.std.specs.Prelude.{◌≡◌, ◌≢◌, ℕ, ◌<◌, Bool, false, ◌||◌, not, List, [], ◌∷◌}
+use Rattle.sparse_parser.specs.Bytes.{is_blank, is_line_end, is_exponent_letter}
 
 abbrev pub is_space : ℕ → Bool
 is_space b = is_blank b || is_line_end b
-
--- the longest front whose bytes pass the test, and what stands after it
-abbrev pub front : (ℕ → Bool) → List ℕ → List ℕ
-front p [] = []
-front p (b ∷ text) = if p b then b ∷ front p text else []
-
-abbrev pub after : (ℕ → Bool) → List ℕ → List ℕ
-after p [] = []
-after p (b ∷ text) = if p b then after p text else b ∷ text
 
 abbrev pub is_within_line : ℕ → Bool
 is_within_line b = not (is_line_end b)
 
 abbrev pub is_within_word : ℕ → Bool
 is_within_word b = not (is_blank b)
+
+-- neither a blank nor a line end
+abbrev pub is_solid : ℕ → Bool
+is_solid b = not (is_space b)
+
+-- before an exponent
+abbrev pub is_unscaled : ℕ → Bool
+is_unscaled b = not (is_exponent_letter b)
 
 -- the answers that a function may give of each byte are those of the test
 abbrev pub Decides : (ℕ → Bool → Type 0) → (ℕ → Bool) → Type 0

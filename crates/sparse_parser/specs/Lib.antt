@@ -1,8 +1,14 @@
 pub mod Errors
+pub mod Reads
 pub mod Bytes
 pub mod Words
 pub mod Header
 pub mod Grammar
+pub mod Scalars
+pub mod ArrayPlaces
 pub mod Meaning
 pub mod InnerBytes
 pub mod InnerReading
+pub mod InnerLines
+pub mod InnerPlaces
+pub mod InnerSize

@@ -1,94 +1,179 @@
--- What a Matrix Market text means: a list of triplets, or the first refusal.
-use Rattle.std.specs.Prelude.{◌≡◌, ℕ, ℤ, pos, negsuc, ◌-◌, ◌^◌, Bool, true, false, ◌||◌, ◌&&◌, ◌==◌, nat_lt, List, [], ◌∷◌, length, map, Result, Ok, Err, if◌then◌else◌, ◌⊎◌}
+-- What a Matrix Market text means to a scalar type: a list of triplets, or the first refusal.
+use Rattle.std.specs.Prelude.{◌≡◌, ℕ, ℤ, ◌-◌, ◌^◌, Bool, true, false, ◌||◌, ◌&&◌, ◌==◌, nat_lt, List, [], ◌∷◌, ◌++◌, length, map, drop, slice_get, Option, Some, None, Ok, Err, if◌then◌else◌, ◌⊎◌}
 use Rattle.std.specs.List.{list_all}
 use Rattle.std.specs.Str.Parse.{digits_value, signed_digits_value}
 use Rattle.sparse_pattern.specs.declared.error.SparseFormatErrorKind.TheVariants.{IndexOutOfBounds}
-use Rattle.sparse_algebra.specs.declared.scalar.wrapping.W64.{W64}
 use Rattle.sparse_base.specs.Coo.{Coo, coo_of}
-use Rattle.sparse_algebra.specs.Numbers.{w64_number}
-use Rattle.sparse_parser.specs.declared.error.MatrixMarketErrorKind.{MatrixMarketErrorKind}
-use Rattle.sparse_parser.specs.declared.error.MatrixMarketErrorKind.TheVariants.{ParsingError, InvalidHeader, EntryMismatch, TypeMismatch, ZeroError, SparseFormatError}
+use Rattle.sparse_parser.specs.declared.error.MatrixMarketErrorKind.TheVariants.{ParsingError, InvalidHeader, EntryMismatch, TypeMismatch, ZeroError, SparseFormatError, DiagonalError, NotLowerTriangle, NonSquare}
+use Rattle.sparse_parser.specs.declared.header.Format.{Format}
+use Rattle.sparse_parser.specs.declared.header.Format.TheVariants.{Coordinate, Array}
+use Rattle.sparse_parser.specs.declared.header.Field.{Field}
+use Rattle.sparse_parser.specs.declared.header.Field.TheVariants.{Real, Complex, Integer, Pattern}
+use Rattle.sparse_parser.specs.declared.header.Symmetry.{Symmetry}
+use Rattle.sparse_parser.specs.declared.header.Symmetry.TheVariants.{General, Symmetric, SkewSymmetric, Hermitian}
 use Rattle.sparse_parser.specs.declared.header.Header.{Header}
-use Rattle.sparse_parser.specs.Header.{is_carried}
-use Rattle.sparse_parser.specs.Grammar.{IsHeaded, IsBody}
-
--- a value, or the first refusal
-abbrev pub Read : Type 0 → Type 0
-Read A = Result A MatrixMarketErrorKind
-
-infixl 10 ◌>>=◌
-abbrev pub ◌>>=◌ : {A B : Type 0} → Read A → (A → Read B) → Read B
-(Ok x) >>= f = f x
-(Err e) >>= f = Err e
+use Rattle.sparse_parser.specs.Header.{is_allowed}
+use Rattle.sparse_parser.specs.Grammar.{is_index, is_integer, IsDocument}
+use Rattle.sparse_parser.specs.Reads.{Read, ◌>>=◌}
+use Rattle.sparse_parser.specs.Scalars.{Scalar, fits}
+use Rattle.sparse_parser.specs.ArrayPlaces.{places_of, array_count}
 
 -- an index within usize
 unfoldable pub number_of : List ℕ → Read ℕ
-number_of word = if nat_lt (digits_value 10 word) (2 ^ 64) then Ok (digits_value 10 word) else Err ParsingError
+number_of word =
+    if nat_lt (digits_value 10 word) (2 ^ 64) then Ok (digits_value 10 word) else Err ParsingError
 
--- z is at least -2 ^ k and below 2 ^ k
-abbrev pub fits : ℕ → ℤ → Bool
-fits k (pos n) = nat_lt n (2 ^ k)
-fits k (negsuc n) = nat_lt n (2 ^ k)
-
--- an integer within i128, and within i64
-unfoldable pub value_of : List ℕ → Read ℤ
-value_of word =
+-- an integer within i128
+unfoldable pub integer_of : List ℕ → Read ℤ
+integer_of word =
     let z = signed_digits_value 10 word in
-    if fits 127 z then if fits 63 z then Ok z else Err TypeMismatch else Err ParsingError
+    if is_integer word && fits 127 z then Ok z else Err ParsingError
 
--- the rows, the columns and the number of entries that a size line says
-unfoldable pub sizes_of : List (List ℕ) → Read (ℕ × ℕ × ℕ)
-sizes_of (rows ∷ cols ∷ count ∷ []) = do
+-- the place counted from 0, of a row and a column counted from 1
+unfoldable pub place_of : Read ℕ → Read ℕ → Read (ℕ × ℕ)
+place_of row col = do
+  r ← row
+  c ← col
+  if (r == 0) || (c == 0) then Err ZeroError else Ok (r - 1, c - 1)
+
+-- these are the words of a value of the field
+abbrev pub is_of_field : Field → List (List ℕ) → Bool
+is_of_field Integer (v ∷ []) = true
+is_of_field Real (v ∷ []) = true
+is_of_field Complex (v ∷ w ∷ []) = true
+is_of_field Pattern [] = true
+is_of_field field words = false
+
+-- ---- sizes
+
+-- the rows, the columns, and the number of data lines where it is a usize
+abbrev pub Sizes : Type 0
+Sizes = ℕ × ℕ × Option ℕ
+
+unfoldable pub within_usize : ℕ → Option ℕ
+within_usize n = if nat_lt n (2 ^ 64) then Some n else None
+
+-- what a size line says
+unfoldable pub numbers_of_size : Format → Symmetry → List (List ℕ) → Read Sizes
+numbers_of_size Coordinate s (rows ∷ cols ∷ count ∷ []) = do
   r ← number_of rows
   c ← number_of cols
   n ← number_of count
-  Ok (r, c, n)
-sizes_of words = Err ParsingError
+  Ok (r, c, Some n)
+numbers_of_size Array s (rows ∷ cols ∷ []) = do
+  r ← number_of rows
+  c ← number_of cols
+  Ok (r, c, within_usize (array_count s r c))
+numbers_of_size format s words = Err ParsingError
 
--- a triplet counted from 0, of indices that are counted from 1
-unfoldable pub triplet_of : Read ℕ → Read ℕ → Read ℤ → Read (ℕ × ℕ × ℤ)
-triplet_of row col value = do
-  r ← row
-  c ← col
-  if (r == 0) || (c == 0) then Err ZeroError else (value >>= λ v. Ok (r - 1, c - 1, v))
+-- a matrix with a symmetry is square
+abbrev pub is_fitting : Symmetry → ℕ → ℕ → Bool
+is_fitting General rows cols = true
+is_fitting Symmetric rows cols = rows == cols
+is_fitting SkewSymmetric rows cols = rows == cols
+is_fitting Hermitian rows cols = rows == cols
 
--- the triplet of a data line
-unfoldable pub entry_of : List (List ℕ) → Read (ℕ × ℕ × ℤ)
-entry_of (row ∷ col ∷ value ∷ []) = triplet_of (number_of row) (number_of col) (value_of value)
-entry_of words = Err ParsingError
+abbrev pub fitting : Symmetry → Sizes → Read Sizes
+fitting y s = if is_fitting y s.0 s.1 then Ok s else Err NonSquare
 
-unfoldable pub entries_of : List (List (List ℕ)) → Read (List (ℕ × ℕ × ℤ))
-entries_of [] = Ok []
-entries_of (words ∷ lines) = do
-  first ← entry_of words
-  others ← entries_of lines
-  Ok (first ∷ others)
+-- the header's rules, then the size line's numbers, then their fit to the symmetry
+unfoldable pub sizes_of : Header → List (List ℕ) → Read Sizes
+sizes_of h words =
+    if is_allowed h then (numbers_of_size h.format h.symmetry words >>= fitting h.symmetry)
+    else Err InvalidHeader
 
-abbrev pub is_inside : ℕ → ℕ → ℕ × ℕ × ℤ → Bool
-is_inside rows cols t = nat_lt t.0 rows && nat_lt t.1 cols
+-- as many data lines
+abbrev pub is_count : Option ℕ → ℕ → Bool
+is_count (Some n) lines = lines == n
+is_count None lines = false
 
--- the matrix of these sizes: the number of data lines, the entries one after the other, and then the bounds
-unfoldable pub listed_of : ℕ × ℕ × ℕ → List (List (List ℕ)) → Read (Coo ℤ)
-listed_of s entries = if length entries == s.2 then (entries_of entries >>= λ ts. if list_all (is_inside s.0 s.1) ts then Ok (coo_of s.0 s.1 ts) else Err (SparseFormatError IndexOutOfBounds)) else Err EntryMismatch
+-- ---- entries
 
--- the matrix of a size line and data lines
-unfoldable pub matrix_of : List (List ℕ) → List (List (List ℕ)) → Read (Coo ℤ)
-matrix_of size entries = sizes_of size >>= λ s. listed_of s entries
+-- a row, a column and a value
+abbrev pub Triplet : Type 0 → Type 0
+Triplet V = ℕ × ℕ × V
 
--- what the contents below a header that is coordinate integer general mean
-abbrev pub BodyMeans : List (List (List ℕ)) → Read (Coo ℤ) → Type 0
-BodyMeans contents r = ((size : List (List ℕ)) × (entries : List (List (List ℕ))) × IsBody contents size entries × (r ≡ matrix_of size entries))
-    ⊎ (((size : List (List ℕ)) (entries : List (List (List ℕ))) → IsBody contents size entries → ⊥) × (r ≡ Err ParsingError))
+module _ (S : Scalar) where
+  -- the value of a field that these words give
+  unfoldable pub value_of : Field → List (List ℕ) → Read S.Value
+  value_of Integer (word ∷ words) = integer_of word >>= S.from_number
+  value_of Pattern words = S.from_pattern
+  value_of field words = Err TypeMismatch
 
--- what a text means
-abbrev pub Means : List ℕ → Read (Coo ℤ) → Type 0
-Means text r = (((header : Header) (contents : List (List (List ℕ))) → IsHeaded text header contents → ⊥) × (r ≡ Err ParsingError))
-    ⊎ ((header : Header) × (contents : List (List (List ℕ))) × IsHeaded text header contents
-    × (((is_carried header ≡ false) × (r ≡ Err InvalidHeader)) ⊎ ((is_carried header ≡ true) × BodyMeans contents r)))
+  abbrev pub placed : Read (ℕ × ℕ) → Read S.Value → Read (Triplet S.Value)
+  placed place value = do
+    p ← place
+    v ← value
+    Ok (p.0, p.1, v)
 
--- the numbers that a matrix holds
-abbrev pub number_triplet : ℕ × ℕ × W64 → ℕ × ℕ × ℤ
-number_triplet t = (t.0, t.1, w64_number t.2)
+  -- the entry of a data line; an array's stands at the given place
+  unfoldable pub entry_of : Format → Field → Option (ℕ × ℕ) → List (List ℕ)
+      → Read (Triplet S.Value)
+  entry_of Coordinate field at (row ∷ col ∷ words) =
+      if is_index row && is_index col && is_of_field field words
+      then placed (place_of (number_of row) (number_of col)) (value_of field words)
+      else Err ParsingError
+  entry_of Array field (Some p) words =
+      if is_of_field field words then placed (Ok p) (value_of field words) else Err ParsingError
+  entry_of format field at words = Err ParsingError
 
-abbrev pub numbers_of : Coo W64 → Coo ℤ
-numbers_of m = coo_of m.nrows m.ncols (map number_triplet m.triplets)
+  -- an entry, and right behind it the one that the symmetry implies
+  unfoldable pub mirrored : Symmetry → Triplet S.Value → Read (List (Triplet S.Value))
+  mirrored General t = Ok (t ∷ [])
+  mirrored SkewSymmetric t =
+      if nat_lt t.0 t.1 then Err NotLowerTriangle
+      else if t.0 == t.1 then Err DiagonalError
+      else (S.negated t.2 >>= λ v. Ok (t ∷ (t.1, t.0, v) ∷ []))
+  mirrored y t =
+      if nat_lt t.0 t.1 then Err NotLowerTriangle
+      else if t.0 == t.1 then Ok (t ∷ [])
+      else Ok (t ∷ (t.1, t.0, t.2) ∷ [])
+
+  -- the triplets of a data line
+  unfoldable pub triplets_of : Header → Option (ℕ × ℕ) → List (List ℕ)
+      → Read (List (Triplet S.Value))
+  triplets_of h at words = entry_of h.format h.field at words >>= mirrored h.symmetry
+
+  -- the triplets of data lines, of which an array's stand at these places
+  unfoldable pub entries_of : Header → List (ℕ × ℕ) → List (List (List ℕ))
+      → Read (List (Triplet S.Value))
+  entries_of h places [] = Ok []
+  entries_of h places (words ∷ lines) = do
+    first ← triplets_of h (slice_get places 0) words
+    others ← entries_of h (drop 1 places) lines
+    Ok (first ++ others)
+
+  abbrev pub is_inside : ℕ → ℕ → Triplet S.Value → Bool
+  is_inside rows cols t = nat_lt t.0 rows && nat_lt t.1 cols
+
+  -- the matrix, where all triplets lie inside the sizes
+  abbrev pub inside_of : Sizes → List (Triplet S.Value) → Read (Coo S.Value)
+  inside_of s ts =
+      if list_all (is_inside s.0 s.1) ts then Ok (coo_of s.0 s.1 ts)
+      else Err (SparseFormatError IndexOutOfBounds)
+
+  -- the matrix of these sizes: the number of data lines, the entries in order, then the bounds
+  unfoldable pub listed_of : Header → Sizes → List (List (List ℕ)) → Read (Coo S.Value)
+  listed_of h s lines =
+      if is_count s.2 (length lines)
+      then (entries_of h (places_of h.format h.symmetry s.0 s.1) lines >>= inside_of s)
+      else Err EntryMismatch
+
+  -- the matrix of a header, a size line and data lines
+  unfoldable pub matrix_of : Header → List (List ℕ) → List (List (List ℕ)) → Read (Coo S.Value)
+  matrix_of h size lines = sizes_of h size >>= λ s. listed_of h s lines
+
+  -- what a text means: where it is no document it can't be parsed
+  abbrev pub Means : List ℕ → Read (Coo S.Value) → Type 0
+  Means text r = (((header : Header) (size : List (List ℕ)) (lines : List (List (List ℕ)))
+      → IsDocument text header size lines → ⊥) × (r ≡ Err ParsingError))
+      ⊎ ((header : Header) × (size : List (List ℕ)) × (lines : List (List (List ℕ)))
+      × IsDocument text header size lines × (r ≡ matrix_of header size lines))
+
+-- the values that contracts see of a matrix's scalars
+module _ {T V : Type 0} (value : T → V) where
+  abbrev pub value_triplet : Triplet T → Triplet V
+  value_triplet t = (t.0, t.1, value t.2)
+
+  abbrev pub values_of : Coo T → Coo V
+  values_of m = coo_of m.nrows m.ncols (map value_triplet m.triplets)

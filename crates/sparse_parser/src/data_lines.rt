@@ -1,87 +1,228 @@
 //! Data lines.
 
-ghost use Rattle.std.specs.Prelude.{◌≡◌, ◌<◌, ◌^◌, pos, ◌≤ℤ◌, if◌then◌else◌, IsTrue};
-ghost use Rattle.std.specs.Option.{option_map, SomeIff};
-ghost use Rattle.std.specs.Str.Parse.{digits_value, starts_with_minus, without_leading_sign};
+ghost use Rattle.std.specs.Prelude.{◌≡◌, pos, ◌+◌, ◌≤ℤ◌, ◌<ℤ◌, ◌≤◌, if◌then◌else◌, IsTrue, false, true, MatchOption, length};
+ghost use Rattle.std.specs.Str.Parse.{starts_with_minus, without_leading_sign};
 ghost use lib.IntN.{neg_ℤ};
-ghost use Rattle.sparse_parser.specs.Grammar.{is_integer};
-ghost use Rattle.sparse_parser.specs.Meaning.{triplet_of, value_of};
-ghost use Rattle.sparse_parser.specs.InnerReading.{found, found_number, ends_line, index_at, value_at, entry_at};
+ghost use Rattle.sparse_parser.specs.declared.data_lines.Found.TheVariants as found;
+ghost use Rattle.sparse_parser.specs.Bytes.{is_blank, front, after};
+ghost use Rattle.sparse_parser.specs.InnerBytes.{is_solid};
+ghost use Rattle.sparse_parser.specs.Grammar.{is_integer, is_number, is_entry};
+ghost use Rattle.sparse_parser.specs.Meaning.{integer_of, number_of};
+ghost use Rattle.sparse_parser.specs.InnerReading.{found as found_read, found_number, ends_line, line_words};
+ghost use Rattle.sparse_parser.specs.InnerLines.{is_plain, WriteNumber, IsNumber, IsFound, IsLine, StartsWord, ends_word};
 
 use crate::error::Cause;
-use crate::lines::{after_blanks, is_line_end};
-use crate::numbers::{integer, leading_number};
+use crate::lines::{after_blanks, is_line_end, is_space, split_solid};
+use crate::numbers::{after_sign, integer, is_number, leading_number};
 
-/// The largest number that is a value without a sign.
-const LARGEST: usize = i64::MAX as usize;
+/// What a number is made of.
+#[derive(Clone, Copy)]
+pub enum Kind {
+    /// Digits.
+    Index,
+    /// A sign and digits.
+    Signed,
+    /// Digits with a point or an exponent.
+    Other,
+}
 
-/// A row and a column, counted from 0, and a value.
-pub type Triplet = (usize, usize, i64);
+/// A number of a data line: its bytes, and the number that its digits write, where it fits.
+#[derive(Clone, Copy)]
+pub struct Number<'a> {
+    word: &'a [u8],
+    digits: Option<usize>,
+    kind: Kind,
+}
 
-/// A data line at the front of a text, and what stands after it; nothing where the line is outside the grammar.
-#[tactic(auto, unfolding(crate::specs::InnerReading::entry_at))]
+/// What stands at the front of a line.
+#[derive(Clone, Copy)]
+pub enum Found<'a> {
+    /// A number, and what stands after it.
+    Number(Number<'a>, &'a [u8]),
+    /// The line's end.
+    End(&'a [u8]),
+    /// A word that is no number.
+    Fault,
+}
+
+/// The numbers of a data line.
+#[derive(Clone, Copy)]
+pub enum Line<'a> {
+    One(Number<'a>),
+    Two(Number<'a>, Number<'a>),
+    Three(Number<'a>, Number<'a>, Number<'a>),
+    Four(Number<'a>, Number<'a>, Number<'a>, Number<'a>),
+}
+
+impl Number<'_> {
+    /// Whether the number is a run of digits.
+    #[inline(always)]
+    pub fn is_index(&self) -> bool
+        ensures { result ≡ is_plain self.now.kind }
+    {
+        matches!(self.kind, Kind::Index)
+    }
+
+    /// Returns the number of an index.
+    #[inline(always)]
+    pub fn index(&self) -> Result<usize, Cause>
+        requires number { IsNumber self.now }
+        requires index { is_plain self.now.kind ≡ true }
+        ensures { found_read result ≡ number_of self.now.word.now }
+    {
+        self.digits.ok_or(Cause::IndexTooLarge)
+    }
+
+    /// Returns the integer that the number writes.
+    #[tactic(auto, unfolding(crate::specs::Meaning::integer_of))]
+    #[inline(always)]
+    pub fn integer(&self) -> Result<i128, Cause>
+        requires { IsNumber self.now }
+        ensures { found_read result ≡ integer_of self.now.word.now }
+    {
+        match (self.kind, self.digits) {
+            (Kind::Other, _) => Err(Cause::NotAnI128),
+            (_, Some(digits)) => Ok(with_sign(digits, self.word)),
+            (_, None) => long_integer(self.word),
+        }
+    }
+}
+
+/// Returns the line at the front of a text where it is two indices and an integer.
+#[tactic(auto, unfolding(crate::specs::Grammar::is_entry))]
 #[inline(always)]
-pub fn entry(text: &[u8]) -> Option<(Result<Triplet, Cause>, &[u8])>
-    ensures { option_map (λ x. (found x.0, x.1.now)) result ≡ entry_at text.now }
+pub fn entry_line(text: &[u8]) -> Option<(Line<'_>, &[u8])>
+    ensures { MatchOption result (Unit {0}) (λ found. IsLine text.now found.0 found.1.now) }
 {
-    let (row, rest) = index(text)?;
-    let (col, rest) = index(rest)?;
-    let (value, rest) = value(rest)?;
-    Some((triplet(row, col, value), rest))
-}
-
-#[tactic(auto, unfolding(crate::specs::Meaning::triplet_of))]
-fn triplet(
-    row: Option<usize>,
-    col: Option<usize>,
-    value: Result<i64, Cause>,
-) -> Result<Triplet, Cause>
-    ensures { found result ≡ triplet_of (found_number row) (found_number col) (found value) }
-{
-    let row = row.ok_or(Cause::IndexTooLarge)?;
-    let col = col.ok_or(Cause::IndexTooLarge)?;
-    if row == 0 || col == 0 {
-        return Err(Cause::ZeroIndex);
-    }
-    Ok((row - 1, col - 1, value?))
-}
-
-/// An index and the blanks after it.
-#[tactic(auto, unfolding(crate::specs::InnerReading::index_at))]
-fn index(text: &[u8]) -> Option<(Option<usize>, &[u8])>
-    ensures { option_map (λ x. (found_number x.0, x.1.now)) result ≡ index_at text.now }
-{
-    let (number, after) = leading_number(text);
-    let rest = after_blanks(after);
-    if after.len() == text.len() || rest.len() == after.len() {
+    let (a, rest) = whole_number(text)?;
+    let (b, rest) = whole_number(rest)?;
+    let (c, rest) = whole_number(rest)?;
+    let end = line_end(rest)?;
+    if !a.is_index() || !b.is_index() {
         return None;
     }
-    Some((number, rest))
+    Some((Line::Three(a, b, c), end))
 }
 
-/// A value at the end of its line.
-#[tactic(auto, unfolding(crate::specs::InnerReading::value_at))]
-fn value(text: &[u8]) -> Option<(Result<i64, Cause>, &[u8])>
-    ensures { option_map (λ x. (found x.0, x.1.now)) result ≡ value_at text.now }
+/// Returns the line at the front of a text where it is two indices or integers.
+#[tactic(auto, unfolding(crate::specs::Grammar::is_entry))]
+#[inline(always)]
+pub fn place_line(text: &[u8]) -> Option<(Line<'_>, &[u8])>
+    ensures { MatchOption result (Unit {0}) (λ found. IsLine text.now found.0 found.1.now) }
 {
-    let digits = after_sign(text);
-    let (number, after) = leading_number(digits);
-    let rest = after_blanks(after);
-    if after.len() == digits.len() || !ends_line(rest) {
-        return None;
-    }
-    let word = &text[..text.len() - after.len()];
-    Some((narrow(number, word), rest))
+    let (a, rest) = whole_number(text)?;
+    let (b, rest) = whole_number(rest)?;
+    let end = line_end(rest)?;
+    Some((Line::Two(a, b), end))
 }
 
-fn after_sign(text: &[u8]) -> &[u8]
-    ensures { result.now ≡ without_leading_sign text.now }
+/// Returns the line at the front of a text where it is an integer.
+#[tactic(auto, unfolding(crate::specs::Grammar::is_entry))]
+#[inline(always)]
+pub fn value_line(text: &[u8]) -> Option<(Line<'_>, &[u8])>
+    ensures { MatchOption result (Unit {0}) (λ found. IsLine text.now found.0 found.1.now) }
 {
-    let is_signed = match text {
-        [first, ..] => (*first == b'+') | (*first == b'-'),
-        [] => false,
+    let (a, rest) = whole_number(text)?;
+    let end = line_end(rest)?;
+    Some((Line::One(a), end))
+}
+
+/// Returns the numbers of the line at the front of a text, and what stands after it, or nothing where it is no data line.
+#[tactic(auto, unfolding(crate::specs::Grammar::is_entry))]
+#[inline(never)]
+pub fn data_line(text: &[u8]) -> Option<(Line<'_>, &[u8])>
+    ensures { MatchOption result (is_entry (line_words text.now) ≡ false)
+        (λ found. IsLine text.now found.0 found.1.now) }
+{
+    let (a, rest) = match next_number(text) {
+        Found::Number(a, rest) => (a, rest),
+        Found::End(_) | Found::Fault => return None,
     };
-    &text[usize::from(is_signed)..]
+    let (b, rest) = match next_number(rest) {
+        Found::Number(b, rest) => (b, rest),
+        Found::End(after) => return Some((Line::One(a), after)),
+        Found::Fault => return None,
+    };
+    let (c, rest) = match next_number(rest) {
+        Found::Number(c, rest) => (c, rest),
+        Found::End(after) => return Some((Line::Two(a, b), after)),
+        Found::Fault => return None,
+    };
+    if !a.is_index() || !b.is_index() {
+        return None;
+    }
+    let (d, rest) = match next_number(rest) {
+        Found::Number(d, rest) => (d, rest),
+        Found::End(after) => return Some((Line::Three(a, b, c), after)),
+        Found::Fault => return None,
+    };
+    match next_number(rest) {
+        Found::End(after) => Some((Line::Four(a, b, c, d), after)),
+        Found::Number(_, _) | Found::Fault => None,
+    }
+}
+
+// What stands at the front of a line, after blanks.
+fn next_number(text: &[u8]) -> Found<'_>
+    ensures { IsFound text.now result }
+{
+    if let Some((number, rest)) = whole_number(text) {
+        return Found::Number(number, rest);
+    }
+    let text = after_blanks(text);
+    if ends_line(text) {
+        return Found::End(text);
+    }
+    other_number(text)
+}
+
+// The line's end, after blanks.
+#[inline(always)]
+fn line_end(text: &[u8]) -> Option<&[u8]>
+    ensures { MatchOption result (Unit {0}) (λ rest. IsFound text.now (found.End rest)) }
+{
+    let rest = after_blanks(text);
+    if ends_line(rest) { Some(rest) } else { None }
+}
+
+// An integer at the front of a line, after blanks.
+#[inline(always)]
+fn whole_number(text: &[u8]) -> Option<(Number<'_>, &[u8])>
+    ensures { MatchOption result (is_integer (front is_solid (after is_blank text.now)) ≡ false)
+        (λ x. IsFound text.now (found.Number x.0 x.1)) }
+{
+    let text = after_blanks(text);
+    let unsigned = after_sign(text);
+    let (digits, rest) = leading_number(unsigned);
+    if rest.len() == unsigned.len() || !ends_word(rest) {
+        return None;
+    }
+    let word = &text[..text.len() - rest.len()];
+    let kind = if unsigned.len() == text.len() {
+        Kind::Index
+    } else {
+        Kind::Signed
+    };
+    Some((Number { word, digits, kind }, rest))
+}
+
+/// Returns the word at the front of a text, which is no integer.
+#[cold]
+fn other_number(text: &[u8]) -> Found<'_>
+    requires start { StartsWord text.now }
+    requires no_integer { is_integer (front is_solid text.now) ≡ false }
+    ensures { IsFound text.now result }
+{
+    let (word, rest) = split_solid(text);
+    if !is_number(word) {
+        return Found::Fault;
+    }
+    let number = Number {
+        word,
+        digits: None,
+        kind: Kind::Other,
+    };
+    Found::Number(number, rest)
 }
 
 fn ends_line(text: &[u8]) -> bool
@@ -93,39 +234,29 @@ fn ends_line(text: &[u8]) -> bool
     }
 }
 
-/// The value that a word writes. Its digits write the number, where that is one.
-#[tactic(auto, unfolding(crate::specs::Meaning::value_of))]
-fn narrow(number: Option<usize>, word: &[u8]) -> Result<i64, Cause>
-    requires integer { IsTrue (is_integer word.now) }
-    requires number { SomeIff number
-        (digits_value 10 (without_leading_sign word.now) < 2 ^ 64)
-        (digits_value 10 (without_leading_sign word.now)) }
-    ensures { found result ≡ value_of word.now }
+fn ends_word(text: &[u8]) -> bool
+    ensures { result ≡ ends_word text.now }
 {
-    match number {
-        Some(number) if number <= LARGEST => Ok(with_sign(number as i64, word)),
-        _ => long_value(word),
+    match text {
+        [] => true,
+        [byte, ..] => is_space(*byte),
     }
 }
 
-fn with_sign(number: i64, word: &[u8]) -> i64
-    requires { pos 0 ≤ℤ number }
-    ensures { result ≡ (if starts_with_minus word.now then neg_ℤ number else number) }
+fn with_sign(digits: usize, word: &[u8]) -> i128
+    ensures { result ≡ (if starts_with_minus word.now then neg_ℤ (pos digits) else pos digits) }
 {
     match word {
-        [b'-', ..] => -number,
-        _ => number,
+        [b'-', ..] => -(digits as i128),
+        _ => digits as i128,
     }
 }
 
-#[tactic(auto, unfolding(crate::specs::Meaning::value_of))]
+#[tactic(auto, unfolding(crate::specs::Meaning::integer_of))]
 #[cold]
-fn long_value(word: &[u8]) -> Result<i64, Cause>
+fn long_integer(word: &[u8]) -> Result<i128, Cause>
     requires { IsTrue (is_integer word.now) }
-    ensures { found result ≡ value_of word.now }
+    ensures { found_read result ≡ integer_of word.now }
 {
-    match integer(word) {
-        None => Err(Cause::NotAnI128),
-        Some(wide) => i64::try_from(wide).map_err(|_| Cause::ValueOutOfRange),
-    }
+    integer(word).ok_or(Cause::NotAnI128)
 }

@@ -2,12 +2,13 @@
 
 ghost use Rattle.std.specs.Prelude.{◌≡◌};
 ghost use Rattle.std.specs.IoError.{error_kind};
-ghost use Rattle.sparse_parser.specs.declared.error.MatrixMarketErrorKind.TheVariants.{SparseFormatError, IOError, OutOfMemory};
+ghost use Rattle.sparse_parser.specs.declared.error.MatrixMarketErrorKind.TheVariants.{ParsingError, TypeMismatch, SparseFormatError, IOError, OutOfMemory};
 ghost use Rattle.sparse_parser.specs.Errors.{kind_of, kind_of_cause};
 
-use sparse_pattern::error::SparseFormatErrorKind;
+use sparse_pattern::error::{SparseFormatError, SparseFormatErrorKind};
 use std::alloc::{AllocError, AllocFailed};
 use std::io;
+use std::num::{ParseIntError, TryFromIntError};
 use thiserror::Error;
 
 /// What is wrong with a Matrix Market text, or what kept it from being read or written.
@@ -38,7 +39,7 @@ pub enum MatrixMarketErrorKind {
 }
 
 impl MatrixMarketErrorKind {
-    /// The name of the case, without what it carries.
+    /// Returns the name of the case, without what it carries.
     pub fn name(self) -> &'static str {
         match self {
             MatrixMarketErrorKind::ParsingError => "ParsingError",
@@ -65,15 +66,25 @@ pub enum Cause {
     PatternHermitian,
     PatternSkewSymmetric,
     PatternArray,
-    HeaderNotCarried,
     SizeCount,
     SizeTooLarge,
+    NotSquare,
     EntryCount,
+    EntryShape,
     IndexTooLarge,
     ZeroIndex,
     NotAnI128,
     ValueOutOfRange,
-    Format(SparseFormatErrorKind),
+    RealEntry,
+    ComplexEntry,
+    NothingAsInteger,
+    IntegerAsNothing,
+    IntegerConjugate,
+    PatternConjugate,
+    PatternNegative,
+    AboveDiagonal,
+    OnDiagonal,
+    Format(SparseFormatErrorKind, &'static str),
     Io(io::ErrorKind),
     Memory,
 }
@@ -86,18 +97,28 @@ impl Cause {
             Cause::Grammar
             | Cause::SizeCount
             | Cause::SizeTooLarge
+            | Cause::EntryShape
             | Cause::IndexTooLarge
             | Cause::NotAnI128 => MatrixMarketErrorKind::ParsingError,
             Cause::RealHermitian
             | Cause::IntegerHermitian
             | Cause::PatternHermitian
             | Cause::PatternSkewSymmetric
-            | Cause::PatternArray
-            | Cause::HeaderNotCarried => MatrixMarketErrorKind::InvalidHeader,
+            | Cause::PatternArray => MatrixMarketErrorKind::InvalidHeader,
+            Cause::NotSquare => MatrixMarketErrorKind::NonSquare,
             Cause::EntryCount => MatrixMarketErrorKind::EntryMismatch,
             Cause::ZeroIndex => MatrixMarketErrorKind::ZeroError,
-            Cause::ValueOutOfRange => MatrixMarketErrorKind::TypeMismatch,
-            Cause::Format(kind) => MatrixMarketErrorKind::SparseFormatError(kind),
+            Cause::ValueOutOfRange
+            | Cause::RealEntry
+            | Cause::ComplexEntry
+            | Cause::NothingAsInteger
+            | Cause::IntegerAsNothing
+            | Cause::IntegerConjugate
+            | Cause::PatternConjugate
+            | Cause::PatternNegative => MatrixMarketErrorKind::TypeMismatch,
+            Cause::AboveDiagonal => MatrixMarketErrorKind::NotLowerTriangle,
+            Cause::OnDiagonal => MatrixMarketErrorKind::DiagonalError,
+            Cause::Format(kind, _) => MatrixMarketErrorKind::SparseFormatError(kind),
             Cause::Io(kind) => MatrixMarketErrorKind::IOError(kind),
             Cause::Memory => MatrixMarketErrorKind::OutOfMemory,
         }
@@ -111,27 +132,28 @@ impl Cause {
             Cause::PatternHermitian => "Pattern matrix can't be hermitian.",
             Cause::PatternSkewSymmetric => "Pattern matrix can't be skew-symmetric.",
             Cause::PatternArray => "Dense matrix can't be pattern matrix.",
-            Cause::HeaderNotCarried => "Only coordinate integer general matrices are carried.",
             Cause::SizeCount => "Shape line doesn't fit the header.",
             Cause::SizeTooLarge => "A size is too large.",
+            Cause::NotSquare => "(Skew-)Symmetric or hermitian matrix should be square matrix.",
             Cause::EntryCount => "The number of entries doesn't match the shape line.",
+            Cause::EntryShape => "Entry line doesn't fit the header.",
             Cause::IndexTooLarge => "An index is too large.",
             Cause::ZeroIndex => "The data has to be one-indexed",
             Cause::NotAnI128 => "Can't parse data as i128.",
             Cause::ValueOutOfRange => "Please consider using a larger integer type.",
-            Cause::Format(kind) => format_message(kind),
+            Cause::RealEntry => "Real entries are not carried.",
+            Cause::ComplexEntry => "Complex entries are not carried.",
+            Cause::NothingAsInteger => "Int type can't be parsed from ()",
+            Cause::IntegerAsNothing => "Pattern type can't be parsed from i128",
+            Cause::IntegerConjugate => "Int type has no conjugate",
+            Cause::PatternConjugate => "Pattern type has no conjugate",
+            Cause::PatternNegative => "Pattern type has no negative",
+            Cause::AboveDiagonal => "Entry should be put into lower triangle.",
+            Cause::OnDiagonal => "There is a diagonal element in skew matrix.",
+            Cause::Format(_, text) => text,
             Cause::Io(_) => "The reader or writer failed.",
             Cause::Memory => "Out of memory.",
         }
-    }
-}
-
-fn format_message(kind: SparseFormatErrorKind) -> &'static str {
-    match kind {
-        SparseFormatErrorKind::IndexOutOfBounds => "An index is out of bounds.",
-        SparseFormatErrorKind::DuplicateEntry => "Input data contains duplicate entries.",
-        SparseFormatErrorKind::InvalidStructure => "The data doesn't fit the format.",
-        SparseFormatErrorKind::OutOfMemory => "Out of memory.",
     }
 }
 
@@ -149,16 +171,24 @@ impl MatrixMarketError {
         MatrixMarketError { cause }
     }
 
-    /// What is wrong.
+    /// Returns what is wrong.
     pub fn kind(&self) -> MatrixMarketErrorKind
         ensures { result ≡ kind_of self.now }
     {
         self.cause.kind()
     }
 
-    /// The text for this cause.
+    /// Returns the text for this cause.
     pub fn message(&self) -> &str {
         self.cause.message()
+    }
+}
+
+impl From<Cause> for MatrixMarketError {
+    ghost from_gives = { λ cause e. kind_of e ≡ kind_of_cause cause };
+
+    fn from(cause: Cause) -> MatrixMarketError {
+        MatrixMarketError::new(cause)
     }
 }
 
@@ -178,11 +208,27 @@ impl<T: Drop> From<AllocFailed<T>> for MatrixMarketError {
     }
 }
 
-impl From<SparseFormatErrorKind> for MatrixMarketError {
-    ghost from_gives = { λ kind e. kind_of e ≡ SparseFormatError kind };
+impl From<ParseIntError> for MatrixMarketError {
+    ghost from_gives = { λ _ e. kind_of e ≡ ParsingError };
 
-    fn from(kind: SparseFormatErrorKind) -> MatrixMarketError {
-        MatrixMarketError::new(Cause::Format(kind))
+    fn from(_fault: ParseIntError) -> MatrixMarketError {
+        MatrixMarketError::new(Cause::NotAnI128)
+    }
+}
+
+impl From<TryFromIntError> for MatrixMarketError {
+    ghost from_gives = { λ _ e. kind_of e ≡ TypeMismatch };
+
+    fn from(_fault: TryFromIntError) -> MatrixMarketError {
+        MatrixMarketError::new(Cause::ValueOutOfRange)
+    }
+}
+
+impl From<SparseFormatError> for MatrixMarketError {
+    ghost from_gives = { λ fault e. kind_of e ≡ SparseFormatError fault };
+
+    fn from(fault: SparseFormatError) -> MatrixMarketError {
+        MatrixMarketError::new(Cause::Format(*fault.kind(), fault.message()))
     }
 }
 

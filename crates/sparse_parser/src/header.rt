@@ -2,9 +2,10 @@
 
 ghost use Rattle.std.specs.Prelude.{◌≡◌, true, false, [], ◌∷◌, MatchOption};
 ghost use Rattle.sparse_parser.specs.declared.error.MatrixMarketErrorKind.TheVariants.{InvalidHeader};
+ghost use Rattle.sparse_parser.specs.declared.header.Format.TheVariants.{Coordinate, Array};
 ghost use Rattle.sparse_parser.specs.Errors.{kind_of_cause};
 ghost use Rattle.sparse_parser.specs.InnerReading.{words_of};
-ghost use Rattle.sparse_parser.specs.Header.{says, format_of, field_of, symmetry_of, fields_of, header_of, is_carried};
+ghost use Rattle.sparse_parser.specs.Header.{says, format_of, field_of, symmetry_of, fields_of, header_of, is_allowed};
 
 use crate::error::Cause;
 use crate::lines::next_word;
@@ -25,7 +26,7 @@ pub enum Field {
     Pattern,
 }
 
-/// Which entries stand for two.
+/// Which entries imply a mirrored one.
 #[derive(Clone, Copy)]
 pub enum Symmetry {
     General,
@@ -144,20 +145,31 @@ impl Header {
         })
     }
 
-    /// Why a matrix with this header is not read. One that says coordinate integer general is.
+    /// Returns why no matrix has this header: only a complex one is hermitian, and a pattern is neither skew-symmetric nor an array.
     pub fn fault(self) -> Option<Cause>
         ensures { MatchOption result
-            (is_carried self ≡ true)
-            (λ cause. (is_carried self ≡ false) × (kind_of_cause cause ≡ InvalidHeader)) }
+            (is_allowed self ≡ true)
+            (λ cause. (is_allowed self ≡ false) × (kind_of_cause cause ≡ InvalidHeader)) }
     {
-        match (self.format, self.field, self.symmetry) {
-            (Format::Coordinate, Field::Integer, Symmetry::General) => None,
-            (_, Field::Real, Symmetry::Hermitian) => Some(Cause::RealHermitian),
-            (_, Field::Integer, Symmetry::Hermitian) => Some(Cause::IntegerHermitian),
-            (_, Field::Pattern, Symmetry::Hermitian) => Some(Cause::PatternHermitian),
-            (_, Field::Pattern, Symmetry::SkewSymmetric) => Some(Cause::PatternSkewSymmetric),
-            (Format::Array, Field::Pattern, _) => Some(Cause::PatternArray),
-            _ => Some(Cause::HeaderNotCarried),
+        match (self.field, self.symmetry) {
+            (Field::Complex, _) => None,
+            (Field::Real, Symmetry::Hermitian) => Some(Cause::RealHermitian),
+            (Field::Integer, Symmetry::Hermitian) => Some(Cause::IntegerHermitian),
+            (Field::Pattern, Symmetry::Hermitian) => Some(Cause::PatternHermitian),
+            (Field::Pattern, Symmetry::SkewSymmetric) => Some(Cause::PatternSkewSymmetric),
+            (Field::Pattern, _) => self.array_fault(),
+            (Field::Real | Field::Integer, _) => None,
+        }
+    }
+
+    fn array_fault(self) -> Option<Cause>
+        ensures { MatchOption result
+            (self.format ≡ Coordinate)
+            (λ cause. (self.format ≡ Array) × (kind_of_cause cause ≡ InvalidHeader)) }
+    {
+        match self.format {
+            Format::Coordinate => None,
+            Format::Array => Some(Cause::PatternArray),
         }
     }
 }

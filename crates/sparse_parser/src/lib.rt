@@ -6,4 +6,5 @@ pub mod error;
 pub mod header;
 pub mod lines;
 pub mod numbers;
+pub mod places;
 pub mod size;

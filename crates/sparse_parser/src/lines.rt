@@ -1,8 +1,8 @@
 //! Lines of a text, and the words of a line.
 
 ghost use Rattle.std.specs.Prelude.{◌≡◌, ◌≤◌, ℕ, Bool, [], ◌∷◌, length, MatchOption};
-ghost use Rattle.sparse_parser.specs.Bytes.{is_blank, is_line_end};
-ghost use Rattle.sparse_parser.specs.InnerBytes.{is_space, is_within_line, is_within_word, front, after, Decides, BeginsLine};
+ghost use Rattle.sparse_parser.specs.Bytes.{is_blank, is_line_end, front, after};
+ghost use Rattle.sparse_parser.specs.InnerBytes.{is_space, is_within_line, is_within_word, is_solid, Decides, BeginsLine};
 ghost use Rattle.sparse_parser.specs.InnerReading.{words_of, contents_of};
 
 pub fn is_blank(byte: u8) -> bool
@@ -11,7 +11,7 @@ pub fn is_blank(byte: u8) -> bool
     byte == b' ' || byte == b'\t'
 }
 
-fn is_space(byte: u8) -> bool
+pub fn is_space(byte: u8) -> bool
     ensures { result ≡ is_space byte }
 {
     is_blank(byte) || is_line_end(byte)
@@ -81,6 +81,14 @@ fn split_word(line: &[u8]) -> (&[u8], &[u8])
     ensures rest { result.1.now ≡ after is_within_word line.now }
 {
     split_front(line, |byte| !is_blank(byte))
+}
+
+/// The bytes at the front of a text that are neither blanks nor line ends, and what stands after them.
+pub fn split_solid(text: &[u8]) -> (&[u8], &[u8])
+    ensures word { result.0.now ≡ front is_solid text.now }
+    ensures rest { result.1.now ≡ after is_solid text.now }
+{
+    split_front(text, |byte| !is_space(byte))
 }
 
 /// The first word of a line, and what stands after it.

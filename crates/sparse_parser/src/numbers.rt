@@ -1,13 +1,13 @@
 //! Numbers at the front of a text.
 
-ghost use Rattle.std.specs.Prelude.{◌≡◌, ◌<◌, ◌+◌, ◌*◌, ◌^◌, IsTrue, FitsSigned};
+ghost use Rattle.std.specs.Prelude.{◌≡◌, ◌<◌, ◌+◌, ◌*◌, ◌^◌, ◌||◌, IsTrue, FitsSigned, count_by};
 ghost use Rattle.std.specs.Option.{SomeIff};
-ghost use Rattle.std.specs.List.{list_all};
+ghost use Rattle.std.specs.List.{list_all, list_any};
 ghost use Rattle.std.specs.Char.{is_ascii_digit};
-ghost use Rattle.std.specs.Str.Parse.{digits_value, digits_value_after, signed_digits_value};
+ghost use Rattle.std.specs.Str.Parse.{without_leading_sign, digits_value, digits_value_after, signed_digits_value};
 ghost use Rattle.std.specs.Int.{w128};
-ghost use Rattle.sparse_parser.specs.Grammar.{is_index, is_integer};
-ghost use Rattle.sparse_parser.specs.InnerBytes.{front, after};
+ghost use Rattle.sparse_parser.specs.Grammar.{is_index, is_integer, is_mantissa, is_exponent, is_number};
+ghost use Rattle.sparse_parser.specs.Bytes.{front, after, is_exponent_letter, is_point};
 
 use crate::lines::split_front;
 
@@ -75,6 +75,67 @@ pub fn integer(word: &[u8]) -> Option<i128>
     ensures { SomeIff result (FitsSigned w128 (signed_digits_value 10 word.now)) (signed_digits_value 10 word.now) }
 {
     std::str::from_utf8(word).unwrap().parse().ok()
+}
+
+/// Whether a word is a number: an optional sign, digits with at most one point, and then nothing or an exponent.
+#[tactic(auto, unfolding(crate::specs::Grammar::is_number))]
+pub fn is_number(word: &[u8]) -> bool
+    ensures { result ≡ is_number word.now }
+{
+    let (mantissa, exponent) = split_front(after_sign(word), |byte| !is_exponent_letter(byte));
+    is_mantissa(mantissa) && is_exponent(exponent)
+}
+
+fn is_mantissa(word: &[u8]) -> bool
+    ensures { result ≡ is_mantissa word.now }
+{
+    is_unscaled(word) && has_digit(word) && points(word) < 2
+}
+
+// Whether there are digits and points alone.
+fn is_unscaled(word: &[u8]) -> bool
+    ensures { result ≡ list_all (λ b. is_ascii_digit b || is_point b) word.now }
+{
+    word.iter()
+        .all(|byte| byte.is_ascii_digit() || *byte == b'.')
+}
+
+fn has_digit(word: &[u8]) -> bool
+    ensures { result ≡ list_any is_ascii_digit word.now }
+{
+    word.iter().any(|byte| byte.is_ascii_digit())
+}
+
+fn points(word: &[u8]) -> usize
+    ensures { result ≡ count_by is_point word.now }
+{
+    word.iter().filter(|byte| **byte == b'.').count()
+}
+
+fn is_exponent(text: &[u8]) -> bool
+    ensures { result ≡ is_exponent text.now }
+{
+    match text {
+        [] => true,
+        [_, power @ ..] => is_index(after_sign(power)),
+    }
+}
+
+fn is_exponent_letter(byte: u8) -> bool
+    ensures { result ≡ is_exponent_letter byte }
+{
+    byte == b'e' || byte == b'E'
+}
+
+/// What stands after a sign at the front.
+pub fn after_sign(text: &[u8]) -> &[u8]
+    ensures { result.now ≡ without_leading_sign text.now }
+{
+    let is_signed = match text {
+        [first, ..] => (*first == b'+') | (*first == b'-'),
+        [] => false,
+    };
+    &text[usize::from(is_signed)..]
 }
 
 /// Whether a word is an index.

@@ -1,12 +1,15 @@
 //! The size line.
 
-ghost use Rattle.std.specs.Prelude.{◌≡◌, [], ◌∷◌, IsTrue};
-ghost use Rattle.std.specs.Option.{option_map};
-ghost use Rattle.sparse_parser.specs.Grammar.{is_index};
-ghost use Rattle.sparse_parser.specs.Meaning.{number_of, sizes_of};
+ghost use Rattle.std.specs.Prelude.{◌≡◌, [], ◌∷◌, ◌<◌, ◌^◌, IsTrue, MatchOption, None, Some, false, true};
+ghost use Rattle.std.specs.Option.{option_map, SomeIff};
+ghost use Rattle.sparse_parser.specs.Grammar.{is_index, is_size};
+ghost use Rattle.sparse_parser.specs.ArrayPlaces.{array_count};
+ghost use Rattle.sparse_parser.specs.Meaning.{number_of, numbers_of_size, sizes_of, is_fitting, within_usize};
 ghost use Rattle.sparse_parser.specs.InnerReading.{found, words_of, size_numbers, size_at};
+ghost use Rattle.sparse_parser.specs.InnerSize.{size_words, AreIndices};
 
 use crate::error::Cause;
+use crate::header::{Format, Header, Symmetry};
 use crate::lines::next_word;
 use crate::numbers::{index, is_index};
 
@@ -15,41 +18,93 @@ use crate::numbers::{index, is_index};
 pub struct Size {
     pub rows: usize,
     pub cols: usize,
-    pub count: usize,
+    /// The number of data lines, where it is a usize.
+    pub count: Option<usize>,
+}
+
+/// The words of a size line: rows, columns and, in the coordinate format, the number of entries.
+#[derive(Clone, Copy)]
+pub struct SizeWords<'a> {
+    rows: &'a [u8],
+    cols: &'a [u8],
+    count: Option<&'a [u8]>,
 }
 
 impl Size {
-    /// What a size line says; nothing where the line is outside the grammar.
-    #[tactic(auto, unfolding(crate::specs::InnerReading::size_at, crate::specs::Grammar::is_size, crate::specs::Meaning::sizes_of))]
-    pub fn from_line(line: &[u8]) -> Option<Result<Size, Cause>>
-        ensures { option_map (λ r. size_numbers r) result ≡ size_at (words_of line.now) }
+    /// Returns what a size line says below a header, or nothing where the line is outside the grammar.
+    #[tactic(auto, unfolding(crate::specs::InnerReading::size_at))]
+    pub fn from_line(header: Header, line: &[u8]) -> Option<Result<Size, Cause>>
+        ensures { option_map (λ r. size_numbers r) result ≡ size_at header (words_of line.now) }
     {
-        let (rows, rest) = next_word(line)?;
-        let (cols, rest) = next_word(rest)?;
-        if !is_index(rows) || !is_index(cols) {
-            return None;
-        }
-        let Some((count, rest)) = next_word(rest) else {
-            return Some(Err(Cause::SizeCount));
-        };
-        if !is_index(count) || next_word(rest).is_some() {
-            return None;
-        }
-        Some(Size::from_words(rows, cols, count))
+        let words = size_words(line)?;
+        Some(Size::checked(header, words))
     }
 
+    // The header's rules, then the numbers, then their fit to the symmetry.
     #[tactic(auto, unfolding(crate::specs::Meaning::sizes_of))]
-    fn from_words(rows: &[u8], cols: &[u8], count: &[u8]) -> Result<Size, Cause>
-        requires rows { IsTrue (is_index rows.now) }
-        requires cols { IsTrue (is_index cols.now) }
-        requires count { IsTrue (is_index count.now) }
-        ensures { size_numbers result ≡ sizes_of (rows.now ∷ cols.now ∷ count.now ∷ []) }
+    fn checked(header: Header, words: SizeWords<'_>) -> Result<Size, Cause>
+        requires { AreIndices words }
+        ensures { size_numbers result ≡ sizes_of header (size_words words.entry) }
     {
-        let rows = number(rows)?;
-        let cols = number(cols)?;
-        let count = number(count)?;
-        Ok(Size { rows, cols, count })
+        if let Some(cause) = header.fault() {
+            return Err(cause);
+        }
+        let size = Size::numbers(header.format, header.symmetry, words)?;
+        if !fits(header.symmetry, size.rows, size.cols) {
+            return Err(Cause::NotSquare);
+        }
+        Ok(size)
     }
+
+    #[tactic(auto, unfolding(crate::specs::Meaning::numbers_of_size))]
+    fn numbers(format: Format, symmetry: Symmetry, words: SizeWords<'_>) -> Result<Size, Cause>
+        requires { AreIndices words }
+        ensures { size_numbers result ≡ numbers_of_size format symmetry (size_words words.entry) }
+    {
+        match (format, words.count) {
+            (Format::Coordinate, Some(count)) => {
+                let rows = number(words.rows)?;
+                let cols = number(words.cols)?;
+                let count = Some(number(count)?);
+                Ok(Size { rows, cols, count })
+            }
+            (Format::Array, None) => {
+                let rows = number(words.rows)?;
+                let cols = number(words.cols)?;
+                let count = array_count(symmetry, rows, cols);
+                Ok(Size { rows, cols, count })
+            }
+            (Format::Coordinate, None) | (Format::Array, Some(_)) => Err(Cause::SizeCount),
+        }
+    }
+}
+
+#[tactic(auto, unfolding(crate::specs::Grammar::is_size))]
+fn size_words(line: &[u8]) -> Option<SizeWords<'_>>
+    ensures { MatchOption result (is_size (words_of line.now) ≡ false)
+        (λ w. (is_size (words_of line.now) ≡ true) × (words_of line.now ≡ size_words w)
+        × AreIndices w) }
+{
+    let (rows, rest) = next_word(line)?;
+    let (cols, rest) = next_word(rest)?;
+    if !is_index(rows) || !is_index(cols) {
+        return None;
+    }
+    let Some((count, rest)) = next_word(rest) else {
+        return Some(SizeWords {
+            rows,
+            cols,
+            count: None,
+        });
+    };
+    if !is_index(count) || next_word(rest).is_some() {
+        return None;
+    }
+    Some(SizeWords {
+        rows,
+        cols,
+        count: Some(count),
+    })
 }
 
 fn number(word: &[u8]) -> Result<usize, Cause>
@@ -57,4 +112,27 @@ fn number(word: &[u8]) -> Result<usize, Cause>
     ensures { found result ≡ number_of word.now }
 {
     index(word).ok_or(Cause::SizeTooLarge)
+}
+
+fn fits(symmetry: Symmetry, rows: usize, cols: usize) -> bool
+    ensures { result ≡ is_fitting symmetry rows cols }
+{
+    match symmetry {
+        Symmetry::General => true,
+        Symmetry::Symmetric | Symmetry::SkewSymmetric | Symmetry::Hermitian => rows == cols,
+    }
+}
+
+/// Returns how many data lines an array has, where that is a usize.
+#[tactic(auto, unfolding(crate::specs::ArrayPlaces::array_count, crate::specs::Meaning::within_usize))]
+fn array_count(symmetry: Symmetry, rows: usize, cols: usize) -> Option<usize>
+    ensures { result ≡ within_usize (array_count symmetry rows cols) }
+{
+    let wide = u128::from(rows as u64);
+    let count = match symmetry {
+        Symmetry::General => wide * u128::from(cols as u64),
+        Symmetry::Symmetric | Symmetry::Hermitian => wide * (wide + 1) / 2,
+        Symmetry::SkewSymmetric => wide * wide.saturating_sub(1) / 2,
+    };
+    usize::try_from(count).ok()
 }

@@ -6,7 +6,7 @@ use Rattle.sparse_pattern.specs.Raw.{Raw, start_of, lane_of, IsValid, IsPlace, e
 use Rattle.sparse_pattern.proofs.PatternLanes.{length-lane}
 use Rattle.sparse_pattern.proofs.SamePlaces.{Has, has_head, has_later, has_cases, has_from_place, place_from_has}
 
-length-paired : (i : ℕ) (js : List ℕ) → length (paired i js) ≡ length js
+pub length-paired : (i : ℕ) (js : List ℕ) → length (paired i js) ≡ length js
 length-paired i js = length-map js (λ j. (i, j))
 
 module _ (d : Raw) (valid : IsValid d) where

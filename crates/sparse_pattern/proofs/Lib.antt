@@ -1,5 +1,6 @@
 pub mod PatternLanes
 pub mod Positions
+mod EntryOrder
 pub mod LaneOrder
 pub mod SamePlaces
 pub mod NextEntry
@@ -9,3 +10,4 @@ pub mod PatternTransposes
 pub mod PlacedValues
 pub mod LaneLists
 pub mod PushedLanes
+pub mod BuiltLanes

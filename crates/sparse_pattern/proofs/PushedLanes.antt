@@ -18,7 +18,7 @@ module _ (m n : ℕ) (offsets indices lane : List ℕ) (valid : IsValid (raw_of 
       → get_or (offsets ++ length (indices ++ lane) ∷ []) i 0 ≡ get_or offsets i 0
   offset_kept i le = get_or_append_left offsets (length (indices ++ lane) ∷ []) 0 i (omega (arith, valid.count))
 
-  offset_last : get_or (offsets ++ length (indices ++ lane) ∷ []) (n + 1) 0 ≡ length (indices ++ lane)
+  pub offset_last : get_or (offsets ++ length (indices ++ lane) ∷ []) (n + 1) 0 ≡ length (indices ++ lane)
   offset_last = get_or_push offsets (length (indices ++ lane)) 0 (n + 1) valid.count
 
   index_kept : (p : ℕ) → p < length indices → get_or (indices ++ lane) p 0 ≡ get_or indices p 0

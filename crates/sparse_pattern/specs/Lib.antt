@@ -7,3 +7,4 @@ pub mod SparseEntries
 pub mod TransposedPattern
 pub mod InnerTransposes
 pub mod Refill
+pub mod InnerGainedLanes

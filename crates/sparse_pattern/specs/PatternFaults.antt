@@ -7,8 +7,8 @@ use Rattle.sparse_pattern.specs.declared.pattern.faults.SparsityPatternFormatErr
 use Rattle.sparse_pattern.specs.declared.error.SparseFormatErrorKind as kinds
 use Rattle.sparse_pattern.specs.declared.error.SparseFormatErrorKind.TheVariants as variants
 
--- where a fault can be: the number of offsets, the first and the last of them, the end of a lane, and of a position in a lane
--- its bound and how it stands to the one before it
+-- where a fault can occur: the number of offsets, the first and the last offset, the end of a lane, and an index, first
+-- compared with its bound and then with the index before it
 pub data Spot : Type 0 where
   OffsetCount : Spot
   FirstLast : Spot
@@ -17,7 +17,7 @@ pub data Spot : Type 0 where
   Fall : ℕ → ℕ → Spot
   Repeat : ℕ → ℕ → Spot
 
--- the data has a fault at this spot
+-- the data has a fault here
 abbrev pub HasFault : Raw → Spot → Type 0
 HasFault d OffsetCount = length d.offsets ≢ d.major_dim + 1
 HasFault d FirstLast = (slice_index d.offsets 0 ≢ 0) ⊎ (slice_index d.offsets d.major_dim ≢ length d.indices)
@@ -26,7 +26,7 @@ HasFault d (Bound i p) = IsInLane d i p × (d.minor_dim ≤ slice_index d.indice
 HasFault d (Fall i p) = IsInLane d i p × (start_of d i < p) × (slice_index d.indices p < slice_index d.indices (p - 1))
 HasFault d (Repeat i p) = IsInLane d i p × (start_of d i < p) × (slice_index d.indices p ≡ slice_index d.indices (p - 1))
 
--- the error that a fault at this spot is
+-- the error for a fault here
 abbrev pub error_of : Spot → SparsityPatternFormatError
 error_of OffsetCount = InvalidOffsetArrayLength
 error_of FirstLast = InvalidOffsetFirstLast
@@ -35,7 +35,7 @@ error_of (Bound i p) = MinorIndexOutOfBounds
 error_of (Fall i p) = NonmonotonicMinorIndices
 error_of (Repeat i p) = DuplicateEntry
 
--- the kind of the error that a matrix with such a fault is refused by
+-- the kind of the error that a matrix with this fault gives
 abbrev pub kind_of : SparsityPatternFormatError → kinds.SparseFormatErrorKind
 kind_of InvalidOffsetArrayLength = variants.InvalidStructure
 kind_of InvalidOffsetFirstLast = variants.InvalidStructure
@@ -44,7 +44,7 @@ kind_of MinorIndexOutOfBounds = variants.IndexOutOfBounds
 kind_of DuplicateEntry = variants.DuplicateEntry
 kind_of NonmonotonicMinorIndices = variants.InvalidStructure
 
--- the order of the spots: lane after lane, the end of a lane before its positions, and of a position its bound first
+-- the order of faults: lane by lane, the end of a lane before its indices, and for each index its bound first
 abbrev pub rank_of : Spot → ℕ × ℕ × ℕ
 rank_of OffsetCount = (0, 0, 0)
 rank_of FirstLast = (1, 0, 0)
@@ -53,7 +53,7 @@ rank_of (Bound i p) = (i + 2, p + 1, 0)
 rank_of (Fall i p) = (i + 2, p + 1, 1)
 rank_of (Repeat i p) = (i + 2, p + 1, 2)
 
--- the first fault of the data is this error
+-- this error is the first fault of the data
 pub record IsFirstFault (d : Raw) (e : SparsityPatternFormatError) : Type 0 where
   pub spot : Spot
   pub first : IsFirst rank_of (HasFault d) spot

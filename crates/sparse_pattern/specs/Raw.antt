@@ -1,9 +1,9 @@
--- The raw data of a pattern, and what it stands for.
-use Rattle.std.specs.Prelude.{◌≡◌, ℕ, zero, suc, ◌+◌, ◌-◌, ◌<◌, ◌≤◌, ◌↔◌, ◌==◌, Bool, List, [], ◌++◌, map, length, replicate, slice_index, slice_range}
+-- The raw data of a pattern, and the places that it describes.
+use Rattle.std.specs.Prelude.{◌≡◌, ℕ, zero, suc, ◌+◌, ◌-◌, ◌<◌, ◌≤◌, ◌⊎◌, ◌↔◌, ◌==◌, Bool, List, [], ◌++◌, map, length, replicate, slice_index, slice_range}
 use Rattle.std.specs.Cmp.Lexicographic.{pointwise}
 use Rattle.std.specs.Ordering.{on, eq_of_both}
 
--- sizes, offsets and indices as they are given
+-- shape, offsets and indices, unchecked
 pub record Raw : Type 0 where
   pub major_dim : ℕ
   pub minor_dim : ℕ
@@ -13,7 +13,7 @@ pub record Raw : Type 0 where
 abbrev pub raw_of : ℕ → ℕ → List ℕ → List ℕ → Raw
 raw_of major_dim minor_dim offsets indices = record { major_dim = major_dim; minor_dim = minor_dim; offsets = offsets; indices = indices }
 
--- the data of these sizes without indices
+-- the data of this shape without indices
 abbrev pub empty_raw : ℕ → ℕ → Raw
 empty_raw major_dim minor_dim = raw_of major_dim minor_dim (replicate (major_dim + 1) 0) []
 
@@ -43,7 +43,7 @@ pub record IsPlace (d : Raw) (i j : ℕ) : Type 0 where
   pub in_lane : IsInLane d i at
   pub index : slice_index d.indices at ≡ j
 
--- lane i lies within the indices, and its indices rise below the minor size
+-- lane i lies within the indices, and its indices are strictly increasing and below the minor dimension
 pub record IsValidLane (d : Raw) (i : ℕ) : Type 0 where
   pub ordered : start_of d i ≤ end_of d i
   pub inside : end_of d i ≤ length d.indices
@@ -57,24 +57,28 @@ pub record IsValid (d : Raw) : Type 0 where
   pub last : slice_index d.offsets d.major_dim ≡ length d.indices
   pub lanes : (i : ℕ) → i < d.major_dim → IsValidLane d i
 
--- each index with the lane i
+-- each index paired with the lane i
 abbrev pub paired : ℕ → List ℕ → List (ℕ × ℕ)
 paired i js = map (λ j. (i, j)) js
 
--- the pairs of the n lanes from lane i on, rising by lane and then as the indices of the lane stand
+-- the pairs of the n lanes from lane i on, in order
 abbrev pub entries_from : List ℕ → List ℕ → ℕ → ℕ → List (ℕ × ℕ)
 entries_from offsets indices i zero = []
 entries_from offsets indices i (suc n) = paired i (slice_range indices (slice_index offsets i) (slice_index offsets (i + 1))) ++ entries_from offsets indices (i + 1) n
 
--- all pairs in lane order
+-- all pairs, lane by lane
 abbrev pub entries_of : Raw → List (ℕ × ℕ)
 entries_of d = entries_from d.offsets d.indices 0 d.major_dim
 
--- the answer of `==`
+-- x comes before y: by lane, then by index
+abbrev pub Precedes : ℕ × ℕ → ℕ × ℕ → Type 0
+Precedes x y = (x.0 < y.0) ⊎ ((x.0 ≡ y.0) × (x.1 < y.1))
+
+-- the result of `==`
 abbrev pub raw_eq : Raw → Raw → Bool
 raw_eq = eq_of_both (eq_of_both (on (λ d. d.minor_dim) ◌==◌) (on (λ d. d.offsets) (pointwise ◌==◌))) (on (λ d. d.indices) (pointwise ◌==◌))
 
--- equal sizes, and the same places
+-- the same shape and the same places
 pub record HasSamePlaces (a b : Raw) : Type 0 where
   pub major_dim : a.major_dim ≡ b.major_dim
   pub minor_dim : a.minor_dim ≡ b.minor_dim

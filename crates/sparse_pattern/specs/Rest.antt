@@ -1,8 +1,8 @@
--- What an iterator over the places has left.
+-- The places that an iterator has yet to yield.
 use Rattle.std.specs.Prelude.{ℕ, ◌+◌, ◌-◌, ◌<◌, ◌≤◌, List, ◌++◌, map, length, slice_index}
 use Rattle.sparse_pattern.specs.Raw.{entries_from}
 
--- what is left of lane i, and then the lanes after it
+-- the rest of lane i, followed by the later lanes
 abbrev pub rest_of : List ℕ → List ℕ → ℕ → List ℕ → List (ℕ × ℕ)
 rest_of offsets indices i left = map (λ j. (i, j)) left ++ entries_from offsets indices (i + 1) (length offsets - (i + 2))
 

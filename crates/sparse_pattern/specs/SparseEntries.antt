@@ -20,7 +20,7 @@ module _ {T : Type 0} where
   entry_mut_value zero_value (entry_mut.NonZero x) = x.now
   entry_mut_value zero_value entry_mut.Zero = zero_value
 
-  -- what was found, as an entry: None out of bounds
+  -- the result of a lookup as an entry; None if out of bounds
   abbrev pub entry_of_found : Found T → Option (SparseEntryMut T)
   entry_of_found (Value x) = Some (entry_mut.NonZero x)
   entry_of_found (Nothing NotStored) = Some entry_mut.Zero

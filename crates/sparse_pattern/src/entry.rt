@@ -5,17 +5,17 @@ ghost use Rattle.sparse_pattern.specs.SparseEntries.{entry_value, entry_mut_valu
 
 use sparse_algebra::scalar::Zero;
 
-/// The entry of a matrix at a pair of indices.
+/// The entry of a matrix at a row and a column.
 #[derive(Debug, PartialEq, Eq, Drop)]
 pub enum SparseEntry<'a, T> {
-    /// The pair is stored. Its value may be zero.
+    /// The place is stored. Its value may be zero.
     NonZero(&'a T),
-    /// The pair isn't stored.
+    /// The place is not stored.
     Zero,
 }
 
 impl<'a, T: Zero + Copy> SparseEntry<'a, T> {
-    /// Returns the stored value, or zero.
+    /// Returns the stored value, or zero if the place is not stored.
     pub fn into_value(self) -> T
         ensures { result ≡ entry_value T.zero_value self.entry }
     {
@@ -26,17 +26,17 @@ impl<'a, T: Zero + Copy> SparseEntry<'a, T> {
     }
 }
 
-/// The entry of a matrix at a pair of indices, borrowed mutably.
+/// The entry of a matrix at a row and a column, with its value borrowed mutably.
 #[derive(Drop)]
 pub enum SparseEntryMut<'a, T> {
-    /// The pair is stored. Its value may be zero.
+    /// The place is stored. Its value may be zero.
     NonZero(&'a mut T),
-    /// The pair isn't stored.
+    /// The place is not stored.
     Zero,
 }
 
 impl<'a, T: Zero + Copy> SparseEntryMut<'a, T> {
-    /// Returns the stored value, or zero.
+    /// Returns the stored value, or zero if the place is not stored.
     pub fn into_value(self) -> T
         ensures { result ≡ entry_mut_value T.zero_value self.entry }
     {
@@ -47,23 +47,25 @@ impl<'a, T: Zero + Copy> SparseEntryMut<'a, T> {
     }
 }
 
-/// What looking up a pair of indices finds: a value, borrowed mutably, or why there is none.
+/// The result of looking up a pair of indices: the value, borrowed mutably, or the reason why there is none.
 #[derive(Drop)]
 pub enum Found<'a, T> {
+    /// The stored value.
     Value(&'a mut T),
+    /// No value is stored at the pair.
     Nothing(Missing),
 }
 
-/// Why there is no value at a pair of indices.
+/// The reason why there is no value at a pair of indices.
 #[derive(Debug, Clone, Copy, PartialEq, Eq)]
 pub enum Missing {
     /// The pair is out of bounds.
     OutOfBounds,
-    /// The pair isn't stored.
+    /// The pair is within bounds but not stored.
     NotStored,
 }
 
-/// Returns what was found as an entry, or `None` if the pair is out of bounds.
+/// Returns the entry that was found, or `None` if the pair is out of bounds.
 pub fn into_entry<'a, T>(found: Found<'a, T>) -> Option<SparseEntryMut<'a, T>>
     ensures { result ≡ entry_of_found found.entry }
 {

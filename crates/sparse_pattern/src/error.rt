@@ -1,4 +1,4 @@
-//! Errors in the format of a sparse matrix.
+//! Errors in the data of a sparse matrix.
 
 ghost use Rattle.std.specs.Prelude.{◌≡◌};
 ghost use Rattle.sparse_pattern.specs.PatternFaults.{kind_of};
@@ -9,20 +9,20 @@ use std::alloc::AllocError;
 use std::marker::Model;
 use thiserror::Error;
 
-/// What is wrong with the data of a sparse matrix.
+/// The kind of a [`SparseFormatError`].
 #[derive(Debug, Clone, Copy, PartialEq, Eq)]
 pub enum SparseFormatErrorKind {
-    /// An index lies outside the sizes.
+    /// A row or a column index is out of bounds.
     IndexOutOfBounds,
-    /// A place is given twice.
+    /// The same place is given more than once.
     DuplicateEntry,
-    /// The arrays don't fit each other or the format.
+    /// The arrays have lengths, offsets or an order that the format does not allow.
     InvalidStructure,
     /// An allocation failed.
     OutOfMemory,
 }
 
-/// Why data isn't a sparse matrix: a kind, which contracts see, and a text.
+/// The error returned when data does not describe a sparse matrix. It has a kind and a message; contracts see the kind.
 #[derive(Debug, Drop, Error)]
 #[error("{message}")]
 pub struct SparseFormatError {
@@ -39,7 +39,7 @@ impl Model for SparseFormatError {
 }
 
 impl SparseFormatError {
-    /// Returns an error of this kind, which is displayed as `message`.
+    /// Returns an error of this kind. `message` is the text that it displays.
     pub fn new(kind: SparseFormatErrorKind, message: &'static str) -> Self
         ensures { result ≡ kind }
     {
@@ -53,7 +53,7 @@ impl SparseFormatError {
         &self.kind
     }
 
-    /// Returns the text of the error.
+    /// Returns the message of the error.
     pub fn message(&self) -> &'static str {
         self.message
     }

@@ -1,4 +1,4 @@
-//! Sparsity patterns, and what every matrix over one shares: format errors and entries.
+//! Sparsity patterns, and the entries and format errors shared by all sparse matrices.
 #![tactic(auto)]
 
 pub mod entry;

@@ -14,10 +14,21 @@ mod transpose;
 pub use faults::{SparsityPatternFormatError, one_first_fault};
 pub use iter::SparsityPatternIter;
 
-/// The stored places of a compressed matrix, lane after lane: rows in CSR, columns in CSC.
+/// The stored places of a compressed matrix, lane by lane. The lanes are the rows of a CSR matrix or the columns of a CSC matrix.
 ///
-/// The data is always valid: the offsets begin with 0, end with the number of indices and never fall, and in each lane
-/// the indices rise strictly and lie below the minor size.
+/// The offsets start with 0, never decrease, and end with the number of indices. The minor indices of each lane are strictly increasing and
+/// less than `minor_dim`.
+///
+/// # Examples
+///
+/// ```rust
+/// fn lanes_are_read(alloc: Global) -> Result<bool, Fail> {
+///     let offsets = vec![in alloc; 0, 2, 3]?;
+///     let indices = vec![in alloc; 0, 2, 1]?;
+///     let pattern = SparsityPattern::try_from_offsets_and_indices(2, 3, offsets, indices)?;
+///     Ok(pattern.nnz() == 3 && pattern.get_lane(0) == Some([0, 2].as_slice()))
+/// }
+/// ```
 #[derive(Debug, Drop)]
 pub struct SparsityPattern {
     major_offsets: Vec<usize>,
@@ -37,7 +48,9 @@ impl Model for SparsityPattern {
 }
 
 impl SparsityPattern {
-    /// Returns a pattern without places. It needs memory for `major_dim + 1` offsets, and fails only if that allocation fails.
+    /// Returns a pattern without places.
+    ///
+    /// Allocates `major_dim + 1` offsets. Fails only if that allocation fails.
     pub fn zeros(alloc: Global, major_dim: usize, minor_dim: usize) -> Result<Self, AllocError>
         ensures is { IfOk result (λ p. p ≡ empty_raw major_dim minor_dim) }
         ensures valid { OnOk result (IsValid (empty_raw major_dim minor_dim)) }
@@ -50,10 +63,25 @@ impl SparsityPattern {
         })
     }
 
-    /// Returns a pattern of raw data, or the first fault of the data. The number of offsets is checked first, then the first and the last
-    /// offset, then lane after lane the lane's end and its indices, each against the minor size and then against the one before it.
+    /// Returns the pattern described by the offsets and the indices.
     ///
-    /// It allocates nothing. Invalid data is dropped.
+    /// Linear in the number of lanes and indices. Allocates nothing.
+    ///
+    /// # Errors
+    ///
+    /// Returns the first fault in this order: the number of offsets; the first and the last offset; then for each lane its end offset and
+    /// its indices, each compared first with `minor_dim` and then with the index before it. The arrays are dropped.
+    ///
+    /// # Examples
+    ///
+    /// ```rust
+    /// fn an_index_is_out_of_bounds(alloc: Global) -> Result<bool, Fail> {
+    ///     let offsets = vec![in alloc; 0, 1]?;
+    ///     let indices = vec![in alloc; 3]?;
+    ///     let refused = SparsityPattern::try_from_offsets_and_indices(1, 3, offsets, indices).err();
+    ///     Ok(refused == Some(SparsityPatternFormatError::MinorIndexOutOfBounds))
+    /// }
+    /// ```
     pub fn try_from_offsets_and_indices(
         major_dim: usize,
         minor_dim: usize,
@@ -74,7 +102,7 @@ impl SparsityPattern {
         })
     }
 
-    /// Returns where each lane begins in the indices, and then the number of indices.
+    /// Returns the offset of the first index of each lane, followed by the number of indices.
     pub fn major_offsets(&self) -> &[usize]
         ensures offsets { result.now ≡ self.now.offsets }
         ensures valid { IsValid self.now }
@@ -82,7 +110,7 @@ impl SparsityPattern {
         &self.major_offsets
     }
 
-    /// Returns the minor indices of all lanes, lane after lane.
+    /// Returns the minor indices of all lanes, lane by lane.
     pub fn minor_indices(&self) -> &[usize]
         ensures indices { result.now ≡ self.now.indices }
         ensures valid { IsValid self.now }
@@ -111,7 +139,7 @@ impl SparsityPattern {
         self.minor_indices.len()
     }
 
-    /// Returns the minor indices of a lane.
+    /// Returns the minor indices of a lane. `major_index` must be less than `major_dim()`.
     pub fn lane(&self, major_index: usize) -> &[usize]
         requires { major_index < self.now.major_dim }
         ensures { result.now ≡ lane_of self.now major_index }
@@ -121,7 +149,7 @@ impl SparsityPattern {
         &self.minor_indices[begin..end]
     }
 
-    /// Returns the minor indices of a lane, or `None` if it is out of bounds.
+    /// Returns the minor indices of a lane, or `None` if `major_index` is out of bounds.
     pub fn get_lane(&self, major_index: usize) -> Option<&[usize]>
         ensures bounds { IsSome result ↔ (major_index < self.now.major_dim) }
         ensures lane { IfSome result (λ lane. lane.now ≡ lane_of self.now major_index) }
@@ -133,7 +161,7 @@ impl SparsityPattern {
         }
     }
 
-    /// Moves the offsets and the indices out of the pattern.
+    /// Returns the offsets and the indices, and consumes the pattern.
     pub fn disassemble(self) -> (Vec<usize>, Vec<usize>)
         ensures offsets { result.0.items ≡ self.offsets }
         ensures indices { result.1.items ≡ self.indices }
@@ -147,7 +175,9 @@ impl SparsityPattern {
         (major_offsets, minor_indices)
     }
 
-    /// Returns a pattern of data that the caller knows to be valid.
+    /// Returns the pattern described by the offsets and the indices, without checking them.
+    ///
+    /// The data must be valid, as [`SparsityPattern::try_from_offsets_and_indices`] requires; the contract demands a proof of it.
     pub fn from_offset_and_indices_unchecked(
         major_dim: usize,
         minor_dim: usize,
@@ -166,7 +196,7 @@ impl SparsityPattern {
         }
     }
 
-    /// Returns a copy with the same sizes and places. Fails only if an allocation fails.
+    /// Returns a copy. Fails only if an allocation fails.
     pub fn clone(&self, alloc: Global) -> Result<Self, AllocError>
         ensures { IfOk result (λ p. p ≡ self.now) }
     {

@@ -34,3 +34,17 @@ fn values_are_placed_written_and_compared(rt: HostRuntime) -> Result<(), Fail> {
     assert!(rt; wide != high);
     Ok(())
 }
+
+// Sizes without values need no memory, whatever the other size is.
+#[test]
+fn matrices_without_values(rt: HostRuntime) -> Result<(), Fail> {
+    for (nrows, ncols) in [(0, 3), (3, 0), (0, usize::MAX), (usize::MAX, 0)] {
+        let zeros: DMatrix<i32> = DMatrix::zeros(rt.alloc(), nrows, ncols)?;
+        let by_rows = DMatrix::from_row_slice(rt.alloc(), nrows, ncols, &[])?;
+        let by_columns = DMatrix::from_column_slice(rt.alloc(), nrows, ncols, &[])?;
+        let copy = DMatrix::repeat(rt.alloc(), nrows, ncols, 7)?.clone(rt.alloc())?;
+        assert!(rt; zeros == by_rows && by_rows == by_columns && by_columns == copy);
+        assert!(rt; zeros.as_slice().is_empty());
+    }
+    Ok(())
+}

@@ -5,6 +5,7 @@ use sparse_algebra::scalar::{Ring, W64};
 use sparse_base::coo::CooMatrix;
 use sparse_pattern::error::{SparseFormatError, SparseFormatErrorKind};
 use std::alloc::{AllocError, Global};
+use std::rc::Rc;
 use std::test::Fail;
 
 const MAX: usize = usize::MAX;
@@ -37,13 +38,23 @@ type Fault = (
     &'static str,
 );
 
-const FAULTS: [Fault; 6] = [
+const FAULTS: [Fault; 7] = [
     (
         3,
         5,
         &[1],
         &[0, 0],
         &[0],
+        InvalidStructure,
+        "Number of row and col indices must be the same.",
+    ),
+    // The numbers of indices are compared before the number of values.
+    (
+        3,
+        5,
+        &[1],
+        &[0, 0],
+        &[],
         InvalidStructure,
         "Number of row and col indices must be the same.",
     ),
@@ -56,6 +67,7 @@ const FAULTS: [Fault; 6] = [
         InvalidStructure,
         "Number of col indices and values must be the same.",
     ),
+    // All rows are tested before the columns.
     (
         3,
         5,
@@ -102,6 +114,81 @@ fn the_first_fault_is_named(rt: HostRuntime) -> Result<(), Fail> {
         assert_eq!(rt; *error.kind(), kind);
         assert_eq!(rt; error.to_string(rt.alloc())?.as_str(), text);
     }
+    Ok(())
+}
+
+// How many values are left of three copies that a refused list is given.
+fn copies_after_refusal(
+    alloc: Global,
+    nrows: usize,
+    rows: &[usize],
+    cols: &[usize],
+) -> Result<Option<usize>, AllocError> {
+    let counted = Rc::new(alloc, 7)?;
+    let mut values = Vec::with_capacity(alloc, 3)?;
+    for _ in 0..3 {
+        values.push(counted.clone()?)?;
+    }
+    let (rows, cols) = (rows.to_vec(alloc)?, cols.to_vec(alloc)?);
+    match CooMatrix::try_from_triplets(nrows, 2, rows, cols, values) {
+        Ok(_) => Ok(None),
+        Err(_) => Ok(Some(Rc::strong_count(&counted))),
+    }
+}
+
+// No clause sees values that are neither kept nor dropped.
+#[test]
+fn a_refused_list_drops_its_values(rt: HostRuntime) -> Result<(), Fail> {
+    let cases: [(usize, &[usize], &[usize]); 4] = [
+        (3, &[0, 1, 2], &[0, 1]),
+        (3, &[0, 1], &[0, 1]),
+        (2, &[0, 1, 2], &[0, 1, 1]),
+        (3, &[0, 1, 2], &[0, 1, 2]),
+    ];
+    for (nrows, rows, cols) in cases {
+        assert_eq!(rt;
+            copies_after_refusal(rt.alloc(), nrows, rows, cols)?,
+            Some(1)
+        );
+    }
+    Ok(())
+}
+
+// The capacities of an empty list's three vectors for which `reserved` triplets were reserved, after `pushed` pushes.
+fn capacities(
+    alloc: Global,
+    reserved: usize,
+    pushed: usize,
+) -> Result<(usize, usize, usize), AllocError> {
+    let mut matrix = CooMatrix::new(alloc, 1, 1);
+    matrix.reserve(reserved)?;
+    for _ in 0..pushed {
+        matrix.push(0, 0, 7)?;
+    }
+    let (rows, cols, values) = matrix.disassemble();
+    Ok((rows.capacity(), cols.capacity(), values.capacity()))
+}
+
+// A vector that grew while triplets were pushed has another capacity than before.
+#[test]
+fn reserved_triplets_are_pushed_without_growth(rt: HostRuntime) -> Result<(), Fail> {
+    let before = capacities(rt.alloc(), 3, 0)?;
+    assert!(rt; before.0 >= 3 && before.1 >= 3 && before.2 >= 3);
+    assert_eq!(rt; capacities(rt.alloc(), 3, 3)?, before);
+    assert_eq!(rt; capacities(rt.alloc(), 0, 0)?, (0, 0, 0));
+    Ok(())
+}
+
+// Out of memory is no answer of a long list.
+#[test]
+fn a_long_list_is_pushed_and_copied(rt: HostRuntime) -> Result<(), Fail> {
+    let mut matrix = CooMatrix::new(rt.alloc(), 1, 1);
+    for number in 0..5000 {
+        matrix.push(0, 0, number)?;
+    }
+    let copy = matrix.clone(rt.alloc())?;
+    assert_eq!(rt; copy.nnz(), 5000);
+    assert!(rt; copy == matrix);
     Ok(())
 }
 

@@ -12,7 +12,7 @@ use std::process::Abort;
 use std::test::Fail;
 
 // Arrays whose lanes are not sorted, with their indices and values once they are.
-const UNSORTED: [(Arrays<'static, i32>, &[usize], &[i32]); 3] = [
+const UNSORTED: [(Arrays<'static, i32>, &[usize], &[i32]); 4] = [
     (
         (1, 4, &[0, 3], &[2, 0, 3], &[7, 8, 9]),
         &[0, 2, 3],
@@ -34,6 +34,8 @@ const UNSORTED: [(Arrays<'static, i32>, &[usize], &[i32]); 3] = [
         &[1, 3, 0],
         &[6, 5, 7],
     ),
+    // No lanes, which need no memory.
+    ((0, usize::MAX, &[0], &[], &[]), &[], &[]),
 ];
 
 #[test]

@@ -5,6 +5,7 @@ use sparse_algebra::scalar::W64;
 use sparse_forms::csc::CscMatrix;
 use sparse_forms::csr::CsrMatrix;
 use std::alloc::{AllocError, Global};
+use std::cell::Cell;
 use std::test::Fail;
 
 // Whether a predicate keeps the stored zero of the example by rows.
@@ -63,5 +64,35 @@ fn places_kept_by_columns(rt: HostRuntime) -> Result<(), Fail> {
     let matrix = csc(rt.alloc(), BY_COLUMNS)?;
     assert!(rt; keeps_zero_by_columns(rt.alloc(), &matrix)?);
     assert!(rt; triangles_by_columns(rt.alloc(), &matrix)?);
+    Ok(())
+}
+
+// How often a predicate that keeps every place is asked by rows.
+fn asked_by_rows(alloc: Global, matrix: &CsrMatrix<i32>) -> Result<u32, AllocError> {
+    let asked = Cell::new(0u32);
+    matrix.filter(alloc, |_, _, _| {
+        asked.set(asked.get().saturating_add(1));
+        true
+    })?;
+    Ok(asked.get())
+}
+
+// How often one is asked by columns that keeps none.
+fn asked_by_columns(alloc: Global, matrix: &CscMatrix<i32>) -> Result<u32, AllocError> {
+    let asked = Cell::new(0u32);
+    matrix.filter(alloc, |_, _, _| {
+        asked.set(asked.get().saturating_add(1));
+        false
+    })?;
+    Ok(asked.get())
+}
+
+#[test]
+fn a_predicate_is_asked_once_a_place(rt: HostRuntime) -> Result<(), Fail> {
+    assert_eq!(rt; asked_by_rows(rt.alloc(), &csr(rt.alloc(), BY_ROWS)?)?, 3);
+    assert_eq!(rt;
+        asked_by_columns(rt.alloc(), &csc(rt.alloc(), BY_COLUMNS)?)?,
+        3
+    );
     Ok(())
 }

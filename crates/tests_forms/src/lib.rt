@@ -8,6 +8,8 @@ mod csc_writing;
 #[cfg(test)]
 mod csr_writing;
 #[cfg(test)]
+mod drops;
+#[cfg(test)]
 mod entries;
 #[cfg(test)]
 mod filter;

@@ -2,7 +2,10 @@
 
 use crate::fixtures::{Arrays, csc, csr, unsorted_csc, unsorted_csr};
 use SparseFormatErrorKind::{DuplicateEntry, IndexOutOfBounds, InvalidStructure};
+use sparse_forms::csc::CscMatrix;
+use sparse_forms::csr::CsrMatrix;
 use sparse_pattern::error::{SparseFormatError, SparseFormatErrorKind};
+use sparse_pattern::pattern::SparsityPattern;
 use std::process::Abort;
 use std::test::Fail;
 
@@ -14,7 +17,7 @@ type SortedRefusal = (
     &'static str,
 );
 
-const SORTED: [SortedRefusal; 9] = [
+const SORTED: [SortedRefusal; 13] = [
     (
         (2, 4, &[0, 3], &[], &[]),
         InvalidStructure,
@@ -63,6 +66,31 @@ const SORTED: [SortedRefusal; 9] = [
         "Number of values and column indices must be the same",
         "Number of values and row indices must be the same",
     ),
+    // A fault comes before those below it, of the same kind too.
+    (
+        (2, 4, &[1, 3], &[], &[]),
+        InvalidStructure,
+        "Length of row offset array is not equal to nrows + 1.",
+        "Length of col offset array is not equal to ncols + 1.",
+    ),
+    (
+        (2, 4, &[0, 3, 2], &[1], &[7]),
+        InvalidStructure,
+        "First or last row offset is inconsistent with format specification.",
+        "First or last col offset is inconsistent with format specification.",
+    ),
+    (
+        (2, 4, &[0, 2, 1], &[2], &[]),
+        InvalidStructure,
+        "Row offsets are not monotonically increasing.",
+        "Col offsets are not monotonically increasing.",
+    ),
+    (
+        (2, 4, &[0, 2, 2], &[2, 1], &[7]),
+        InvalidStructure,
+        "Column indices are not monotonically increasing (sorted) within each row.",
+        "Row indices are not monotonically increasing (sorted) within each column.",
+    ),
     // The pattern is tested before the number of values.
     (
         (1, 2, &[0, 1], &[5], &[]),
@@ -75,9 +103,15 @@ const SORTED: [SortedRefusal; 9] = [
 // Arrays, the kind of the error, and its text.
 type UnsortedRefusal = (Arrays<'static, i32>, SparseFormatErrorKind, &'static str);
 
-const UNSORTED: [UnsortedRefusal; 13] = [
+const UNSORTED: [UnsortedRefusal; 18] = [
     (
         (1, 4, &[0, 1], &[0], &[]),
+        InvalidStructure,
+        "Number of values and minor indices must be the same.",
+    ),
+    // A fault comes before those below it, of the same kind too.
+    (
+        (0, 4, &[], &[0], &[]),
         InvalidStructure,
         "Number of values and minor indices must be the same.",
     ),
@@ -85,6 +119,26 @@ const UNSORTED: [UnsortedRefusal; 13] = [
         (0, 4, &[], &[], &[]),
         InvalidStructure,
         "Number of offsets should be greater than 0.",
+    ),
+    (
+        (1, 4, &[], &[0], &[7]),
+        InvalidStructure,
+        "Number of offsets should be greater than 0.",
+    ),
+    (
+        (2, 4, &[1, 3], &[0], &[7]),
+        InvalidStructure,
+        "Length of offset array is not equal to (major_dim + 1).",
+    ),
+    (
+        (2, 4, &[1, 0, 1], &[0], &[7]),
+        InvalidStructure,
+        "First or last offset is incompatible with format.",
+    ),
+    (
+        (2, 4, &[0, 2, 0], &[0, 1], &[7, 8]),
+        InvalidStructure,
+        "First or last offset is incompatible with format.",
     ),
     (
         (2, 4, &[0, 1], &[0], &[7]),
@@ -171,4 +225,16 @@ fn unsorted_arrays_are_refused(rt: HostRuntime) -> Result<(), Fail> {
         expect_refusal(&rt, unsorted_csc(rt.alloc(), arrays), kind, text)?;
     }
     Ok(())
+}
+
+#[test]
+fn a_wrong_number_of_values_is_refused(rt: HostRuntime) -> Result<(), Fail> {
+    let pattern = SparsityPattern::zeros(rt.alloc(), 2, 3)?;
+    let by_rows = CsrMatrix::try_from_pattern_and_values(pattern, [7].to_vec(rt.alloc())?);
+    let text = "Number of values and column indices must be the same";
+    expect_refusal(&rt, by_rows, InvalidStructure, text)?;
+    let pattern = SparsityPattern::zeros(rt.alloc(), 2, 3)?;
+    let by_columns = CscMatrix::try_from_pattern_and_values(pattern, [7].to_vec(rt.alloc())?);
+    let text = "Number of values and row indices must be the same";
+    expect_refusal(&rt, by_columns, InvalidStructure, text)
 }

@@ -4,10 +4,18 @@
 #[cfg(test)]
 mod errors;
 #[cfg(test)]
+mod fields;
+#[cfg(test)]
+mod files;
+#[cfg(test)]
+mod forms;
+#[cfg(test)]
 mod matrices;
 #[cfg(test)]
 mod reading;
 #[cfg(test)]
 mod refusals;
+#[cfg(test)]
+mod scalars;
 #[cfg(test)]
 mod writing;

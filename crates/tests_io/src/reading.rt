@@ -2,18 +2,18 @@
 
 use sparse_algebra::scalar::W64;
 use sparse_base::coo::CooMatrix;
-use sparse_io::{MatrixMarketError, load_coo_from_matrix_market_str};
+use sparse_io::{MatrixMarketError, MatrixMarketScalar, load_coo_from_matrix_market_str};
 use std::test::Fail;
 
-/// The header of every text that is read.
+/// The header of most texts that are read.
 pub const HEADER: &str = "%%MatrixMarket matrix coordinate integer general\n";
 
 /// What the text of two parts means.
-pub fn load(
+pub fn load<T: MatrixMarketScalar>(
     rt: &impl AllocGlobal,
     head: &str,
     below: &str,
-) -> Result<CooMatrix<W64>, MatrixMarketError> {
+) -> Result<CooMatrix<T>, MatrixMarketError> {
     let text = format!(in rt.alloc(); "{head}{below}")?;
     load_coo_from_matrix_market_str(rt.alloc(), text.as_str())
 }
@@ -77,7 +77,7 @@ const CASES: [Case; 5] = [
 #[test]
 fn reads_the_triplets_of_a_text(rt: HostRuntime) -> Result<(), Fail> {
     for case in &CASES {
-        let matrix = load(&rt, case.head, case.below)?;
+        let matrix: CooMatrix<W64> = load(&rt, case.head, case.below)?;
         assert_eq!(rt; (matrix.nrows(), matrix.ncols()), case.sizes);
         assert_eq!(rt; matrix.row_indices(), case.rows);
         assert_eq!(rt; matrix.col_indices(), case.cols);

@@ -1,6 +1,7 @@
 //! Texts that are refused: the kind of the first fault, and the text for its cause.
 
 use crate::reading::{HEADER, load};
+use sparse_algebra::scalar::W64;
 use sparse_io::MatrixMarketErrorKind;
 use sparse_io::MatrixMarketErrorKind::{
     EntryMismatch, InvalidHeader, ParsingError, SparseFormatError, TypeMismatch, ZeroError,
@@ -9,7 +10,7 @@ use sparse_pattern::error::SparseFormatErrorKind::IndexOutOfBounds;
 use std::test::Fail;
 
 /// Texts of two parts, and the kind of the first fault of each.
-const KINDS: [(&str, &str, MatrixMarketErrorKind); 36] = [
+const KINDS: [(&str, &str, MatrixMarketErrorKind); 37] = [
     // Headers.
     ("", "", ParsingError),
     (" \n\r\n", "", ParsingError),
@@ -32,16 +33,21 @@ const KINDS: [(&str, &str, MatrixMarketErrorKind); 36] = [
     (
         "%%MatrixMarket matrix coordinate real general\n",
         "1 1 x",
-        InvalidHeader,
+        ParsingError,
     ),
     (
         "%%MatrixMarket matrix array integer general\n",
         "1 1 x",
-        InvalidHeader,
+        ParsingError,
     ),
     (
         "%%MatrixMarket matrix coordinate integer skew-symmetric\n",
         "1 1 x",
+        ParsingError,
+    ),
+    (
+        "%%MatrixMarket matrix array pattern general\n",
+        "1 1\n1",
         InvalidHeader,
     ),
     // Lines outside the grammar.
@@ -94,13 +100,15 @@ const KINDS: [(&str, &str, MatrixMarketErrorKind); 36] = [
 #[test]
 fn answers_the_kind_of_the_first_fault(rt: HostRuntime) {
     for (head, below, kind) in KINDS {
-        let refusal = load(&rt, head, below).err().map(|error| error.kind());
+        let refusal = load::<W64>(&rt, head, below)
+            .err()
+            .map(|error| error.kind());
         assert_eq!(rt; refusal, Some(kind), "at {head}{below}");
     }
 }
 
 /// Texts of two parts, and the text for the cause of each refusal.
-const MESSAGES: [(&str, &str, &str); 14] = [
+const MESSAGES: [(&str, &str, &str); 21] = [
     (HEADER, "2 2\n", "Shape line doesn't fit the header."),
     (HEADER, "2 2\n1 x 1", "Can't parse the data."),
     (HEADER, "18446744073709551616 2 0", "A size is too large."),
@@ -127,47 +135,74 @@ const MESSAGES: [(&str, &str, &str); 14] = [
     ),
     (
         "%%MatrixMarket matrix ",
-        "coordinate real hermitian\n",
+        "coordinate real hermitian\n1 1 0",
         "Real matrix can't be hermitian.",
     ),
     (
         "%%MatrixMarket matrix ",
-        "array integer hermitian\n",
+        "array integer hermitian\n1 1",
         "Integer matrix can't be hermitian.",
     ),
     (
         "%%MatrixMarket matrix ",
-        "coordinate pattern hermitian\n",
+        "coordinate pattern hermitian\n1 1 0",
         "Pattern matrix can't be hermitian.",
     ),
     (
         "%%MatrixMarket matrix ",
-        "array pattern skew-symmetric\n",
+        "array pattern skew-symmetric\n1 1",
         "Pattern matrix can't be skew-symmetric.",
     ),
     (
         "%%MatrixMarket matrix ",
-        "array pattern general\n",
+        "array pattern general\n1 1",
         "Dense matrix can't be pattern matrix.",
     ),
     (
-        "%%MatrixMarket matrix ",
-        "coordinate complex hermitian\n",
-        "Only coordinate integer general matrices are carried.",
+        "%%MatrixMarket matrix coordinate complex ",
+        "hermitian\n1 1 1\n1 1 1 0",
+        "Complex entries are not carried.",
     ),
+    (
+        "%%MatrixMarket matrix coordinate real ",
+        "general\n1 1 1\n1 1 1",
+        "Real entries are not carried.",
+    ),
+    (
+        "%%MatrixMarket matrix coordinate pattern ",
+        "general\n1 1 1\n1 1",
+        "Int type can't be parsed from ()",
+    ),
+    (
+        "%%MatrixMarket matrix coordinate integer ",
+        "symmetric\n2 2 1\n1 2 1",
+        "Entry should be put into lower triangle.",
+    ),
+    (
+        "%%MatrixMarket matrix coordinate integer ",
+        "skew-symmetric\n2 2 1\n1 1 1",
+        "There is a diagonal element in skew matrix.",
+    ),
+    (
+        "%%MatrixMarket matrix coordinate integer ",
+        "symmetric\n2 3 0\n",
+        "(Skew-)Symmetric or hermitian matrix should be square matrix.",
+    ),
+    (HEADER, "1 1 1\n1 1", "Entry line doesn't fit the header."),
+    (HEADER, "1 1 1\n1 2 3", "Col index out of bounds."),
 ];
 
 #[test]
 fn tells_the_cause(rt: HostRuntime) -> Result<(), Fail> {
     for (head, below, message) in MESSAGES {
-        let error = load(&rt, head, below).expect_err(&rt, "a refusal");
+        let error = load::<W64>(&rt, head, below).expect_err(&rt, "a refusal");
         assert_eq!(rt; error.message(), message);
     }
-    let error = load(&rt, HEADER, "1 1 1\n2 1 1").expect_err(&rt, "a refusal");
+    let error = load::<W64>(&rt, HEADER, "1 1 1\n2 1 1").expect_err(&rt, "a refusal");
     let text = error.to_string(rt.alloc())?;
     assert_eq!(rt;
         text.as_str(),
-        "Matrix Market error: SparseFormatError, message: An index is out of bounds."
+        "Matrix Market error: SparseFormatError, message: Row index out of bounds."
     );
     Ok(())
 }

@@ -10,4 +10,6 @@ mod fixtures;
 #[cfg(test)]
 mod products;
 #[cfg(test)]
+mod sizes;
+#[cfg(test)]
 mod triplets;

@@ -1,4 +1,4 @@
-//! Laws of the wrapping integers as whole numbers, each the contract of a function that does nothing.
+//! Laws that relate the wrapping integers to the integers. Each is stated as the postcondition of an empty function.
 
 ghost use Rattle.std.specs.Prelude.{◌≡◌, ℕ, Bool, List, ℤ};
 ghost use Rattle.std.specs.Int.{Width, w32, w64};
@@ -11,14 +11,14 @@ ghost use Rattle.sparse_algebra.specs.Wrapping.{wrapping_ring, class_of};
 
 use crate::scalar::{W32, W64};
 
-/// To wrap whole numbers keeps zero, one, sums, products and negation.
+/// Reduction of the integers to residue classes preserves zero, one, sums, products and negation.
 pub fn wrapping_law()
     ensures { (w : Width) → IsRingMap whole_ring (wrapping_ring w) (wrapped w) }
 {}
 
-/// A whole number that fits is read back from the element that it wraps to, and an element is what its number wraps to.
+/// An integer within the signed range equals the representative of its class, and each class contains its representative.
 ///
-/// What `get` answers is the number of the element that the scalar means.
+/// `get` returns this representative.
 pub fn read_back_law()
     ensures number { (w : Width) (z : ℤ) → FitsSigned w z → number_of w (wrapped w z) ≡ z }
     ensures element { (w : Width) (c : (wrapping_ring w).Carrier) → wrapped w (number_of w c) ≡ c }
@@ -26,9 +26,9 @@ pub fn read_back_law()
     ensures w64 { (x : W64) → number_of w64 (class_of w64 (w64_number x)) ≡ w64_number x }
 {}
 
-/// Each operation on wrapped matrices gives what the operation on the whole numbers gives, wrapped.
+/// Each operation on wrapped matrices equals the same operation on integer matrices, reduced afterwards.
 ///
-/// So what is built from whole numbers by any of them, however large the numbers on the way, is the whole-number result, wrapped.
+/// So any matrix computed with these operations is the integer result reduced, whatever the size of the intermediate values.
 pub fn wrapped_matrix_law()
     ensures w32_triplets { (rows cols : ℕ) (ts : List (ℕ × ℕ × W32))
         → plain_wrapped w32 (plain_of_triplets whole_ring w32_number rows cols ts)
@@ -54,9 +54,9 @@ pub fn wrapped_matrix_law()
         → plain_wrapped w (plain_kept whole_ring test a) ≡ plain_kept (wrapping_ring w) test (plain_wrapped w a) }
 {}
 
-/// Where the whole-number entry of a result fits, the wrapping result's entry is read back as it, whatever partial sums did.
+/// If an entry of the integer result fits the signed range, the wrapping result has exactly that entry, even if partial sums overflow.
 ///
-/// The entry of a product is the whole-number sum of products, and that of triplets the whole-number sum over the triplets at the pair.
+/// The integer entry of a product is the sum of products; that of a list of triplets is the sum over the triplets at that pair.
 pub fn whole_entry_law()
     ensures w32_triplets { (rows cols : ℕ) (ts : List (ℕ × ℕ × W32))
         → Shows w32 (plain_of_triplets (wrapping_ring w32) (λ x. class_of w32 (w32_number x)) rows cols ts)

@@ -1,4 +1,4 @@
-//! The zero of the signed integers.
+//! The zero of the signed integer types.
 
 ghost use Rattle.std.specs.Prelude.{pos};
 

@@ -1,4 +1,4 @@
-//! The integers modulo 2^32 and 2^64, in signed form.
+//! The integers modulo 2^32 and modulo 2^64.
 
 ghost use Rattle.std.specs.Prelude.{◌≡◌, pos};
 ghost use Rattle.std.specs.Int.{w32, w64};
@@ -7,7 +7,16 @@ ghost use Rattle.sparse_algebra.specs.Wrapping.{wrapping_ring, class_of, class_d
 
 use crate::scalar::{Ring, Zero};
 
-/// The integers modulo 2^32. Sums and products wrap.
+/// An integer modulo 2^32, represented by an `i32`. Sums, products and negation wrap.
+///
+/// # Examples
+///
+/// ```rust
+/// fn sums_wrap() -> bool {
+///     let largest = W32::new(i32::MAX);
+///     largest.add(W32::one()).get() == i32::MIN
+/// }
+/// ```
 #[derive(Clone, Copy, Debug, PartialEq, Eq)]
 pub struct W32 {
     number: i32,
@@ -17,13 +26,14 @@ pub struct W32 {
 impl W32 {
     ghost use Rattle.sparse_algebra.specs.Numbers.{w32_number};
 
+    /// Returns the residue class of `number`.
     pub fn new(number: i32) -> W32
         ensures { w32_number result ≡ number }
     {
         W32 { number }
     }
 
-    /// The number in signed form.
+    /// Returns the representative of the class as an `i32`.
     pub fn get(self) -> i32
         ensures { result ≡ w32_number self }
     {
@@ -71,7 +81,16 @@ impl Ring for W32 {
     }
 }
 
-/// The integers modulo 2^64. Sums and products wrap.
+/// An integer modulo 2^64, represented by an `i64`. Sums, products and negation wrap.
+///
+/// # Examples
+///
+/// ```rust
+/// fn products_wrap() -> bool {
+///     let half = W64::new(1 << 62);
+///     half.mul(W64::new(4)).get() == 0
+/// }
+/// ```
 #[derive(Clone, Copy, Debug, PartialEq, Eq)]
 pub struct W64 {
     number: i64,
@@ -81,13 +100,14 @@ pub struct W64 {
 impl W64 {
     ghost use Rattle.sparse_algebra.specs.Numbers.{w64_number};
 
+    /// Returns the residue class of `number`.
     pub fn new(number: i64) -> W64
         ensures { w64_number result ≡ number }
     {
         W64 { number }
     }
 
-    /// The number in signed form.
+    /// Returns the representative of the class as an `i64`.
     pub fn get(self) -> i64
         ensures { result ≡ w64_number self }
     {

@@ -1,4 +1,4 @@
-//! Matrices of the triplets that an iterator yields.
+//! Construction from an iterator over triplets.
 
 ghost use Rattle.std.specs.Prelude.{◌≡◌, ◌⊎◌, map, IfOk, IfErr};
 ghost use Rattle.std.specs.Iterator.{IsFinite};
@@ -12,10 +12,14 @@ use sparse_pattern::error::SparseFormatError;
 use std::alloc::{AllocError, Global};
 
 impl<T> CooMatrix<T> {
-    /// Returns the matrix of the triplets that an iterator yields, in order.
+    /// Returns the matrix of the triplets that an iterator yields, in the same order.
     ///
-    /// All triplets are collected first: `OutOfMemory` if an allocation fails. Then the rows are checked against `nrows`, and the columns
-    /// against `ncols`: `IndexOutOfBounds` if one is outside.
+    /// The iterator must be finite.
+    ///
+    /// # Errors
+    ///
+    /// Returns `OutOfMemory` if an allocation fails while the triplets are collected. Otherwise returns `IndexOutOfBounds` if a row index
+    /// is not less than `nrows` or a column index is not less than `ncols`.
     pub fn try_from_triplets_iter<I: Iterator<Item = (usize, usize, T)>>(
         alloc: Global,
         nrows: usize,

@@ -1,9 +1,10 @@
-//! Iterators over the triplets of a matrix, in the order of pushing.
+//! Iterators over triplets.
 
 ghost use Rattle.std.specs.Prelude.{◌≡◌, ⊤};
+ghost use Rattle.std.specs.Borrow.{sem};
 ghost use Rattle.std.specs.Iterator.{YieldsFirstBy, item_count};
 ghost use Rattle.sparse_base.specs.Coo.{IsInside};
-ghost use Rattle.sparse_base.specs.CooLending.{triplets_to_lend};
+ghost use Rattle.sparse_base.specs.CooLending.{triplets_to_lend, values_lent, LendsTriplets};
 
 use super::CooMatrix;
 use std::alloc::AllocError;
@@ -11,7 +12,7 @@ use std::marker::Model;
 use std::mem;
 
 impl<T> CooMatrix<T> {
-    /// Returns an iterator over the triplets, in the order of pushing.
+    /// Returns an iterator over the triplets, in the order in which they were added.
     pub fn triplet_iter(&self) -> CooTripletIter<'_, T>
         ensures all { result ≡ self.now.triplets }
         ensures inside { IsInside self.now }
@@ -23,8 +24,24 @@ impl<T> CooMatrix<T> {
         }
     }
 
-    /// Returns an iterator over the triplets, in the order of pushing, with each value borrowed mutably. Rows and columns are unchanged.
+    /// Returns an iterator over the triplets that borrows each value mutably, in the order in which they were added.
+    ///
+    /// Writing through the references changes the values only; shape, rows and columns are unchanged.
+    ///
+    /// # Examples
+    ///
+    /// ```rust
+    /// fn values_are_doubled(alloc: Global) -> Result<bool, Fail> {
+    ///     let mut matrix = CooMatrix::new(alloc, 2, 2);
+    ///     matrix.push(0, 1, W64::new(5))?;
+    ///     for (_, _, value) in matrix.triplet_iter_mut() {
+    ///         *value = value.add(*value);
+    ///     }
+    ///     Ok(matrix.values() == [W64::new(10)].as_slice())
+    /// }
+    /// ```
     pub fn triplet_iter_mut(&mut self) -> CooTripletIterMut<'_, T>
+        ensures* writes_back { sem 𝓛 (LendsTriplets T.row self.entry (values_lent result)) }
         ensures all { triplets_to_lend result ≡ self.old.triplets }
         ensures inside { IsInside self.old }
     {
@@ -36,7 +53,7 @@ impl<T> CooMatrix<T> {
     }
 }
 
-/// An iterator over the triplets of a [`CooMatrix`], in the order of pushing.
+/// An iterator over the triplets of a [`CooMatrix`], in the order in which they were added.
 #[derive(Drop)]
 pub struct CooTripletIter<'a, T> {
     rows: &'a [usize],
@@ -93,7 +110,7 @@ impl<'a, T> Clone for CooTripletIter<'a, T> {
     }
 }
 
-/// An iterator over the triplets of a [`CooMatrix`], in the order of pushing, with each value borrowed mutably.
+/// An iterator over the triplets of a [`CooMatrix`] that borrows each value mutably, in the order in which they were added.
 #[derive(Drop)]
 pub struct CooTripletIterMut<'a, T> {
     rows: &'a [usize],

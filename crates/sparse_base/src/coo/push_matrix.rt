@@ -9,9 +9,24 @@ use crate::dense::DMatrix;
 use std::alloc::AllocError;
 
 impl<T: Copy> CooMatrix<T> {
-    /// Appends a triplet for each value of a block that begins at row `r` and column `c`, column by column, zeros included.
+    /// Appends a triplet for each value of a dense block whose first value is at row `r` and column `c`. Zeros are included; the triplets
+    /// follow the block column by column.
     ///
-    /// An empty block adds nothing at any offset. If an allocation fails, the triplets are unchanged.
+    /// The block must lie within the matrix, unless it is empty. An empty block adds nothing at any offset. Fails only if an allocation
+    /// fails; the matrix is then unchanged.
+    ///
+    /// # Examples
+    ///
+    /// ```rust
+    /// fn a_block_is_appended(alloc: Global) -> Result<bool, Fail> {
+    ///     let block = DMatrix::repeat(alloc, 1, 2, 4)?;
+    ///     let mut matrix = CooMatrix::new(alloc, 2, 3);
+    ///     if matrix.nrows() >= 1 + block.nrows() && matrix.ncols() >= 1 + block.ncols() {
+    ///         matrix.push_matrix(1, 1, &block)?;
+    ///     }
+    ///     Ok(matrix.row_indices() == [1, 1].as_slice() && matrix.col_indices() == [1, 2].as_slice())
+    /// }
+    /// ```
     pub fn push_matrix(&mut self, r: usize, c: usize, matrix: &DMatrix<T>) -> Result<(), AllocError>
         requires { IsEmptyBlock matrix.now ⊎ IsBlockInside self.old r c matrix.now }
         ensures ok { OnOk result (self.new ≡ appended self.old (block_triplets r c matrix.now)) }

@@ -1,4 +1,4 @@
-//! Conversions from dense matrices, which store the nonzero values.
+//! Conversions from dense matrices. They store the values that are not `==` to zero.
 
 ghost use Rattle.std.specs.Prelude.{◌≡◌, ◌+◌, ◌*◌, ◌<◌, ◌≤◌, ◌^◌, ◌++◌, ℕ, IfOk, OnOk, length, map, not, slice_index_or};
 ghost use Rattle.std.specs.List.{filter};
@@ -20,9 +20,9 @@ use sparse_forms::csr::CsrMatrix;
 use sparse_pattern::pattern::SparsityPattern;
 use std::alloc::{AllocError, Global};
 
-/// Returns the triplets of the values that are not `==` to zero, column by column.
+/// Returns a triplet for each value that is not `==` to zero, column by column.
 ///
-/// Takes one pass over the values. The arrays grow as they are filled. Fails only if an allocation fails.
+/// One pass over the values. Memory grows with the triplets. Fails only if an allocation fails.
 pub fn convert_dense_coo<T: Zero + Copy>(
     alloc: Global,
     dense: &DMatrix<T>,
@@ -31,6 +31,10 @@ pub fn convert_dense_coo<T: Zero + Copy>(
         (filter (differs_from T.eq T.zero_value) (column_triplets T.zero_value dense.now))) }
 {
     let mut coo = CooMatrix::new(alloc, dense.nrows(), dense.ncols());
+    // Columns without values take no time.
+    if dense.nrows() == 0 {
+        return Ok(coo);
+    }
     for j in 0..dense.ncols() {
         push_column(&mut coo, j, dense.column(j))?;
     }
@@ -58,7 +62,7 @@ fn push_column<T: Zero + Copy>(
 
 /// Returns the CSC matrix of the values that are not `==` to zero.
 ///
-/// Takes one pass over the values. The arrays grow as they are filled. Fails only if an allocation fails.
+/// One pass over the values. Memory grows with the stored places. Fails only if an allocation fails.
 pub fn convert_dense_csc<T: Zero + Copy>(
     alloc: Global,
     dense: &DMatrix<T>,
@@ -76,7 +80,17 @@ pub fn convert_dense_csc<T: Zero + Copy>(
 
 /// Returns the CSR matrix of the values that are not `==` to zero.
 ///
-/// Takes one pass over the values. The arrays grow as they are filled. Fails only if an allocation fails.
+/// One pass over the values. Memory grows with the stored places. Fails only if an allocation fails.
+///
+/// # Examples
+///
+/// ```rust
+/// fn zeros_are_not_stored(alloc: Global) -> Result<bool, Fail> {
+///     let dense = DMatrix::from_row_slice(alloc, 1, 2, &[W64::new(0), W64::new(4)])?;
+///     let csr = convert_dense_csr(alloc, &dense)?;
+///     Ok(csr.col_indices() == [1].as_slice())
+/// }
+/// ```
 pub fn convert_dense_csr<T: Zero + Copy>(
     alloc: Global,
     dense: &DMatrix<T>,
@@ -150,7 +164,7 @@ fn push_lane<T: Zero + Copy>(
     Ok(())
 }
 
-/// As plain matrices, the three results have the places of the dense matrix with a nonzero value, and these values.
+/// The plain matrix of each result has exactly the places of the dense matrix with a nonzero value, and these values.
 pub fn from_dense_law<T: Ring>()
     ensures coo { (d : Dense T)
         → IsNonzeroPart (plain_of_dense T.ring T.value d) (plain_of_coo T.ring T.value

@@ -5,23 +5,23 @@ ghost use Rattle.sparse_base.specs.Coo.{Coo};
 ghost use Rattle.sparse_cs.specs.Compressed.{Compressed, IsSound, compressed_eq};
 ghost use Rattle.sparse_base.specs.CooPlain.{plain_of_coo};
 ghost use Rattle.sparse_cs.specs.PlainOfLanes.{plain_of_rows, plain_of_cols};
-ghost use Rattle.sparse_convert.specs.OneMatrix.{Form, Triplets, Rows, Cols, coo_of_rows, coo_of_cols, IsSoundForm, IsReached, MeanOneMatrix};
+ghost use Rattle.sparse_convert.specs.OneMatrix.{Representation, Triplets, Rows, Cols, coo_of_rows, coo_of_cols, IsSoundRepresentation, IsReached, MeanOneMatrix};
 
 use sparse_algebra::scalar::Ring;
 
 /// A list of triplets, a CSR matrix and a CSC matrix that are converted from one another represent the same matrix.
 ///
-/// This holds for any first representation and any sequence of conversions (`three_forms`). CSR matrices converted from the same
+/// This holds for any first representation and any sequence of conversions (`three_representations`). CSR matrices converted from the same
 /// representation are `==`, and so are CSC matrices (`rows_equal`, `cols_equal`). A matrix converted to a list and back is `==` to the
 /// original (`rows_and_back`, `cols_and_back`). Lists that represent the same matrix convert to CSR matrices that are `==`, and to CSC
 /// matrices that are `==` (`same_lists`).
 pub fn one_matrix_law<T: Ring>()
-    ensures three_forms { (x : Form T) (a : Coo T) (m n : Compressed T) → IsSoundForm x
+    ensures three_representations { (x : Representation T) (a : Coo T) (m n : Compressed T) → IsSoundRepresentation x
         → IsReached T.ring T.value x (Triplets a) → IsReached T.ring T.value x (Rows m) → IsReached T.ring T.value x (Cols n)
         → MeanOneMatrix T.ring T.value a m n }
-    ensures rows_equal { (x : Form T) (m n : Compressed T) → IsSoundForm x
+    ensures rows_equal { (x : Representation T) (m n : Compressed T) → IsSoundRepresentation x
         → IsReached T.ring T.value x (Rows m) → IsReached T.ring T.value x (Rows n) → compressed_eq T.eq m n ≡ true }
-    ensures cols_equal { (x : Form T) (m n : Compressed T) → IsSoundForm x
+    ensures cols_equal { (x : Representation T) (m n : Compressed T) → IsSoundRepresentation x
         → IsReached T.ring T.value x (Cols m) → IsReached T.ring T.value x (Cols n) → compressed_eq T.eq m n ≡ true }
     ensures rows_and_back { (m n : Compressed T) → IsSound m → IsSound n
         → plain_of_rows T.ring T.value n ≡ plain_of_coo T.ring T.value (coo_of_rows m) → compressed_eq T.eq m n ≡ true }

@@ -15,10 +15,10 @@ use sparse_forms::csc::CscMatrix;
 use sparse_forms::csr::CsrMatrix;
 use std::alloc::{AllocError, Global};
 
-/// Returns the dense matrix of a list of triplets: at each pair (i, j) the sum of the values of the triplets there, or zero.
+/// Returns the dense matrix of a list of triplets. Values of triplets at the same place are added; all other places are zero.
 ///
-/// Takes time for the triplets and for all pairs, and memory for all pairs. Fails only if an allocation fails, as it does where the
-/// number of pairs exceeds what memory can hold.
+/// Time linear in the triplets and in `nrows * ncols`, memory for `nrows * ncols` values. Fails only if an allocation fails or `nrows *
+/// ncols` exceeds `usize::MAX`.
 pub fn convert_coo_dense<T: Ring>(
     alloc: Global,
     coo: &CooMatrix<T>,
@@ -33,10 +33,20 @@ pub fn convert_coo_dense<T: Ring>(
     Ok(dense)
 }
 
-/// Returns the dense matrix of a CSR matrix: its value at each stored place, and zero elsewhere.
+/// Returns the dense matrix of a CSR matrix, with zero at each place that is not stored.
 ///
-/// Takes time for the rows and for all pairs, and memory for all pairs. Fails only if an allocation fails, as it does where the number of
-/// pairs exceeds what memory can hold.
+/// Time linear in the rows and in `nrows * ncols`, memory for `nrows * ncols` values. Fails only if an allocation fails or `nrows * ncols`
+/// exceeds `usize::MAX`.
+///
+/// # Examples
+///
+/// ```rust
+/// fn missing_places_become_zeros(alloc: Global) -> Result<bool, Fail> {
+///     let csr = CsrMatrix::<W64>::zeros(alloc, 1, 2)?;
+///     let dense = convert_csr_dense(alloc, &csr)?;
+///     Ok(dense == DMatrix::zeros(alloc, 1, 2)?)
+/// }
+/// ```
 pub fn convert_csr_dense<T: Zero + Copy>(
     alloc: Global,
     csr: &CsrMatrix<T>,
@@ -50,10 +60,10 @@ pub fn convert_csr_dense<T: Zero + Copy>(
     Ok(dense)
 }
 
-/// Returns the dense matrix of a CSC matrix: its value at each stored place, and zero elsewhere.
+/// Returns the dense matrix of a CSC matrix, with zero at each place that is not stored.
 ///
-/// Takes time for the columns and for all pairs, and memory for all pairs. Fails only if an allocation fails, as it does where the number
-/// of pairs exceeds what memory can hold.
+/// Time linear in the columns and in `nrows * ncols`, memory for `nrows * ncols` values. Fails only if an allocation fails or `nrows *
+/// ncols` exceeds `usize::MAX`.
 pub fn convert_csc_dense<T: Zero + Copy>(
     alloc: Global,
     csc: &CscMatrix<T>,
@@ -67,7 +77,7 @@ pub fn convert_csc_dense<T: Zero + Copy>(
     Ok(dense)
 }
 
-/// The dense matrix of a CSR or CSC matrix is the same plain matrix, with every pair of indices as a place.
+/// The dense matrix of a compressed matrix represents the same plain matrix, with every pair within the shape as a place.
 pub fn to_dense_law<T: Ring>()
     ensures rows { (m : Compressed T) (d : Dense T) → IsSound m → IsDenseOfRows T.zero_value m d
         → plain_of_dense T.ring T.value d ≡ plain_full T.ring (plain_of_rows T.ring T.value m) }

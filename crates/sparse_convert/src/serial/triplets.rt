@@ -1,4 +1,4 @@
-//! Compressed matrices as lists of triplets.
+//! Conversions from compressed matrices to lists of triplets.
 
 ghost use Rattle.std.specs.Prelude.{◌≡◌, IfOk, map};
 ghost use Rattle.sparse_base.specs.Coo.{AreParts, coo_of, zip_triplets};
@@ -13,9 +13,19 @@ use sparse_forms::csr::CsrMatrix;
 use sparse_pattern::pattern::SparsityPattern;
 use std::alloc::{AllocError, Global};
 
-/// Returns the list of the stored places with their values, stored zeros included, row by row.
+/// Returns a triplet for each stored place, row by row, columns increasing. Stored zeros are included.
 ///
-/// Takes time for the places and the rows, and memory for the places. Fails only if an allocation fails.
+/// Linear in the number of places and rows, with memory for the triplets. Fails only if an allocation fails.
+///
+/// # Examples
+///
+/// ```rust
+/// fn stored_places_become_triplets(alloc: Global) -> Result<bool, Fail> {
+///     let csr = CsrMatrix::<W64>::identity(alloc, 2)?;
+///     let coo = convert_csr_coo(alloc, &csr)?;
+///     Ok(coo.row_indices() == [0, 1].as_slice() && coo.col_indices() == [0, 1].as_slice())
+/// }
+/// ```
 pub fn convert_csr_coo<T: Copy>(
     alloc: Global,
     csr: &CsrMatrix<T>,
@@ -26,9 +36,9 @@ pub fn convert_csr_coo<T: Copy>(
     Ok(coo_from_lists(csr.nrows(), csr.ncols(), rows, cols, values))
 }
 
-/// Returns the list of the stored places with their values, stored zeros included, column by column.
+/// Returns a triplet for each stored place, column by column, rows increasing. Stored zeros are included.
 ///
-/// Takes time for the places and the columns, and memory for the places. Fails only if an allocation fails.
+/// Linear in the number of places and columns, with memory for the triplets. Fails only if an allocation fails.
 pub fn convert_csc_coo<T: Copy>(
     alloc: Global,
     csc: &CscMatrix<T>,

@@ -1,4 +1,4 @@
-//! The places of a CSC matrix that a test keeps.
+//! Selection of stored places of a CSC matrix.
 
 ghost use Rattle.std.specs.Prelude.{◌≡◌, ℕ, Bool, map, IfOk};
 ghost use Rattle.std.specs.List.{filter};
@@ -9,10 +9,11 @@ use super::CscMatrix;
 use std::alloc::{AllocError, Global};
 
 impl<T: Copy> CscMatrix<T> {
-    /// The matrix of the same sizes with the places (row, column) at which the predicate answers `true`, with their values.
+    /// Returns a matrix of the same shape with the stored places (row, column) for which `predicate` returns `true`, and their values.
     ///
-    /// The predicate is asked once at each stored place, zeros among them, column after column, rows rising. Memory is needed for the
-    /// offsets and for what is kept.
+    /// The predicate is called once for each stored place, including those whose value is zero, column by column, rows increasing. It must
+    /// be callable with any arguments. Linear in columns and places; the memory is proportional to the columns and the places kept. Fails
+    /// only if an allocation fails.
     pub fn filter<P>(&self, alloc: Global, predicate: P) -> Result<Self, AllocError>
     where
         P: Fn(usize, usize, &T) -> bool,
@@ -30,7 +31,7 @@ impl<T: Copy> CscMatrix<T> {
         })
     }
 
-    /// The places (i, j) with i <= j, with their values, in a matrix of the same sizes.
+    /// Returns a matrix of the same shape with the stored places (i, j) where `i <= j`. Cost and errors are those of [`CscMatrix::filter`].
     pub fn upper_triangle(&self, alloc: Global) -> Result<Self, AllocError>
         ensures sizes { IfOk result (HasSizesOf self.now) }
         ensures kept { IfOk result (λ m. map turned (lane_triplets m) ≡ filter is_upper (map turned (lane_triplets self.now))) }
@@ -39,7 +40,7 @@ impl<T: Copy> CscMatrix<T> {
         self.filter(alloc, |row, column, _| row <= column)
     }
 
-    /// The places (i, j) with i >= j, with their values, in a matrix of the same sizes.
+    /// Returns a matrix of the same shape with the stored places (i, j) where `i >= j`. Cost and errors are those of [`CscMatrix::filter`].
     pub fn lower_triangle(&self, alloc: Global) -> Result<Self, AllocError>
         ensures sizes { IfOk result (HasSizesOf self.now) }
         ensures kept { IfOk result (λ m. map turned (lane_triplets m) ≡ filter is_lower (map turned (lane_triplets self.now))) }
@@ -48,7 +49,7 @@ impl<T: Copy> CscMatrix<T> {
         self.filter(alloc, |row, column, _| row >= column)
     }
 
-    /// The places (i, i), with their values, in a matrix of the same sizes.
+    /// Returns a matrix of the same shape with the stored places (i, i). Cost and errors are those of [`CscMatrix::filter`].
     pub fn diagonal_as_csc(&self, alloc: Global) -> Result<Self, AllocError>
         ensures sizes { IfOk result (HasSizesOf self.now) }
         ensures kept { IfOk result (λ m. map turned (lane_triplets m) ≡ filter is_diagonal (map turned (lane_triplets self.now))) }

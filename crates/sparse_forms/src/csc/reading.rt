@@ -1,4 +1,4 @@
-//! The arrays, the columns, the entries and the triplets of a CSC matrix.
+//! Arrays, columns, entries and triplets of a CSC matrix.
 
 ghost use Rattle.std.specs.Prelude.{◌≡◌, ◌<◌, ◌↔◌, IfSome, IsSome, map};
 ghost use Rattle.sparse_cs.specs.Compressed.{IsSound, lane_triplets, turned};
@@ -12,7 +12,7 @@ use sparse_pattern::entry::SparseEntry;
 use sparse_pattern::pattern::SparsityPattern;
 
 impl<T> CscMatrix<T> {
-    /// Where each column begins in the rows, and at last their number.
+    /// Returns the offset of the first stored place of each column, followed by the number of stored places.
     pub fn col_offsets(&self) -> &[usize]
         ensures offsets { result.now ≡ self.now.pattern.offsets }
         ensures sound { IsSound self.now }
@@ -20,7 +20,7 @@ impl<T> CscMatrix<T> {
         self.cs.pattern().major_offsets()
     }
 
-    /// The rows of the stored places, column after column.
+    /// Returns the row of each stored place, column by column.
     pub fn row_indices(&self) -> &[usize]
         ensures indices { result.now ≡ self.now.pattern.indices }
         ensures sound { IsSound self.now }
@@ -28,7 +28,7 @@ impl<T> CscMatrix<T> {
         self.cs.pattern().minor_indices()
     }
 
-    /// The values of the stored places, column after column.
+    /// Returns the value of each stored place, column by column.
     pub fn values(&self) -> &[T]
         ensures values { result.now ≡ self.now.values }
         ensures sound { IsSound self.now }
@@ -36,7 +36,7 @@ impl<T> CscMatrix<T> {
         self.cs.values()
     }
 
-    /// The pattern of the stored places.
+    /// Returns the pattern, whose lanes are the columns.
     pub fn pattern(&self) -> &SparsityPattern
         ensures pattern { result.now ≡ self.now.pattern }
         ensures sound { IsSound self.now }
@@ -44,7 +44,7 @@ impl<T> CscMatrix<T> {
         self.cs.pattern()
     }
 
-    /// The offsets, the rows and the values of the stored places, column after column.
+    /// Returns the column offsets, the row indices and the values.
     pub fn csc_data(&self) -> (&[usize], &[usize], &[T])
         ensures offsets { result.0.now ≡ self.now.pattern.offsets }
         ensures indices { result.1.now ≡ self.now.pattern.indices }
@@ -54,7 +54,7 @@ impl<T> CscMatrix<T> {
         self.cs.cs_data()
     }
 
-    /// A column.
+    /// Returns a column. `col_index` must be less than `ncols()`.
     pub fn col(&self, col_index: usize) -> CscCol<'_, T>
         requires { col_index < self.now.pattern.major_dim }
         ensures { result ≡ lane_at self.now col_index }
@@ -62,7 +62,7 @@ impl<T> CscMatrix<T> {
         CscCol::from_lane(self.cs.lane(col_index))
     }
 
-    /// A column, or `None` out of bounds.
+    /// Returns a column, or `None` if `col_index` is out of bounds.
     pub fn get_col(&self, col_index: usize) -> Option<CscCol<'_, T>>
         ensures bounds { IsSome result ↔ (col_index < self.now.pattern.major_dim) }
         ensures col { IfSome result (λ col. col ≡ lane_at self.now col_index) }
@@ -73,29 +73,47 @@ impl<T> CscMatrix<T> {
         }
     }
 
-    /// The columns in order, those without stored places too.
+    /// Returns an iterator over the columns, including those without stored places.
+    ///
+    /// # Examples
+    ///
+    /// ```rust
+    /// fn columns_are_read_in_order(alloc: Global) -> Result<bool, Fail> {
+    ///     let identity = CscMatrix::<W64>::identity(alloc, 2)?;
+    ///     let mut columns = identity.col_iter();
+    ///     let first = columns.next().ok_or("no column")?;
+    ///     Ok(first.row_indices() == [0].as_slice() && columns.count() == 1)
+    /// }
+    /// ```
     pub fn col_iter(&self) -> CscColIter<'_, T>
-        ensures { result ≡ lanes_of self.now }
+        ensures all { result ≡ lanes_of self.now }
+        ensures sound { IsSound self.now }
     {
         CscColIter::from_lanes(self.cs.lane_iter())
     }
 
-    /// The entry at a row and a column in bounds, by binary search in the column.
+    /// Returns the entry at a row and a column, both of which must be within bounds. Binary search in the column.
     pub fn index_entry(&self, row_index: usize, col_index: usize) -> SparseEntry<'_, T>
         requires { IsInBounds self.now.pattern col_index row_index }
-        ensures { IsEntryAt self.now col_index row_index result }
+        ensures entry { IsEntryAt self.now col_index row_index result }
+        ensures sound { IsSound self.now }
     {
+        // Shows that the matrix is sound.
+        let _ = self.cs.values();
         self.cs.index_entry(col_index, row_index)
     }
 
-    /// The entry at a row and a column, by binary search in the column, or `None` out of bounds.
+    /// Returns the entry at a row and a column, or `None` if one is out of bounds. Binary search in the column.
     pub fn get_entry(&self, row_index: usize, col_index: usize) -> Option<SparseEntry<'_, T>>
-        ensures { IsEntryOf self.now col_index row_index result }
+        ensures entry { IsEntryOf self.now col_index row_index result }
+        ensures sound { IsSound self.now }
     {
+        // Shows that the matrix is sound.
+        let _ = self.cs.values();
         self.cs.get_entry(col_index, row_index)
     }
 
-    /// The triplets (row, column, value) column after column, rows rising.
+    /// Returns an iterator over the triplets (row, column, value), column by column, rows increasing.
     pub fn triplet_iter(&self) -> CscTripletIter<'_, T>
         ensures all { result ≡ map turned (lane_triplets self.now) }
         ensures sound { IsSound self.now }

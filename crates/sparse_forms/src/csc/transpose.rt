@@ -8,10 +8,10 @@ use super::CscMatrix;
 use std::alloc::{AllocError, Global};
 
 impl<T: Copy> CscMatrix<T> {
-    /// The matrix with sizes and pairs exchanged, by columns again: it has at (j, i) the value of (i, j), zeros among them.
+    /// Returns the transpose in CSC form: its value at (j, i) is the value of this matrix at (i, j). Stored zeros stay stored.
     ///
-    /// It takes time in the number of places, rows and columns. Memory is needed for the result, and for a count for each of the new
-    /// columns.
+    /// A counting sort: linear in the number of places, columns and rows. Beside the result it allocates one counter for each column of the
+    /// result. Fails only if an allocation fails.
     pub fn transpose(&self, alloc: Global) -> Result<Self, AllocError>
         ensures transposed { IfOk result (IsTranspose self.now) }
         ensures sound { IfOk result IsSound }

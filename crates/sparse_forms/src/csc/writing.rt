@@ -1,4 +1,4 @@
-//! Values of a CSC matrix lent for writing: all of them, column after column, those of a column, or the value at one place.
+//! Mutable borrows of the values of a CSC matrix. The pattern never changes.
 
 ghost use Rattle.std.specs.Prelude.{◌≡◌, ◌<◌, ◌↔◌, IfSome, IsSome, map};
 ghost use Rattle.std.specs.Borrow.{sem};
@@ -8,7 +8,7 @@ ghost use Rattle.sparse_cs.specs.Lanes.{lane_at, lanes_of};
 ghost use Rattle.sparse_cs.specs.Writing.{IsFoundAt, IsEntryMutAt, IsEntryMutOf};
 ghost use Rattle.sparse_forms.specs.CscWriting.{LendsValues, LendsCol, LendsColIf, LendsEntry, LendsIndexed};
 ghost use Rattle.sparse_forms.specs.InnerCscWriting.{LendsCoreIf, LendsFound};
-ghost use Rattle.sparse_lanes.specs.ColWriting.{lent_col, col_values, cols_left, csc_triplets_left};
+ghost use Rattle.sparse_lanes.specs.ColWriting.{lent_col, col_values, all_col_values, cols_left, csc_triplet_values, csc_triplets_left};
 
 use super::CscMatrix;
 use sparse_cs::CsMatrix;
@@ -18,7 +18,19 @@ use sparse_pattern::entry::{Found, SparseEntryMut, into_entry};
 use sparse_pattern::pattern::SparsityPattern;
 
 impl<T> CscMatrix<T> {
-    /// The values of the stored places for writing, column after column.
+    /// Returns the value of each stored place, column by column, borrowed mutably.
+    ///
+    /// # Examples
+    ///
+    /// ```rust
+    /// fn one_value_is_replaced(alloc: Global) -> Result<bool, Fail> {
+    ///     let mut matrix = CscMatrix::<W64>::identity(alloc, 2)?;
+    ///     if let Some(value) = matrix.values_mut().get_mut(1) {
+    ///         *value = W64::new(8);
+    ///     }
+    ///     Ok(matrix.values() == [W64::new(1), W64::new(8)].as_slice())
+    /// }
+    /// ```
     pub fn values_mut(&mut self) -> &mut [T]
         ensures* writes_back { sem 𝓛 (LendsValues T.row self.entry result) }
         ensures values { result.now ≡ self.old.values }
@@ -26,7 +38,7 @@ impl<T> CscMatrix<T> {
         self.cs.values_mut()
     }
 
-    /// A column, its values for writing.
+    /// Returns a column with its values borrowed mutably. `index` must be less than `ncols()`.
     pub fn col_mut(&mut self, index: usize) -> CscColMut<'_, T>
         requires { index < self.old.pattern.major_dim }
         ensures* writes_back { sem 𝓛 (LendsCol T.row self.entry index (col_values result)) }
@@ -36,7 +48,7 @@ impl<T> CscMatrix<T> {
         CscColMut::of(&mut self.cs, index)
     }
 
-    /// A column, its values for writing, or `None` out of bounds.
+    /// Returns a column with its values borrowed mutably, or `None` if `index` is out of bounds.
     pub fn get_col_mut(&mut self, index: usize) -> Option<CscColMut<'_, T>>
         ensures* writes_back { sem 𝓛 (LendsColIf T.row self.entry index result) }
         ensures bounds { IsSome result ↔ (index < self.old.pattern.major_dim) }
@@ -60,7 +72,7 @@ impl<T> CscMatrix<T> {
         Some(&mut self.cs)
     }
 
-    /// The pattern, and the values for writing.
+    /// Returns the pattern, and the values borrowed mutably.
     pub fn pattern_and_values_mut(&mut self) -> (&SparsityPattern, &mut [T])
         ensures* writes_back { sem 𝓛 (LendsValues T.row self.entry result.1) }
         ensures pattern { result.0.now ≡ self.old.pattern }
@@ -69,7 +81,7 @@ impl<T> CscMatrix<T> {
         self.cs.pattern_and_values_mut()
     }
 
-    /// The entry at a row and a column for writing, by binary search in the column, or `None` out of bounds.
+    /// Returns the entry at a row and a column, borrowed mutably, or `None` if one is out of bounds. Binary search in the column.
     pub fn get_entry_mut(
         &mut self,
         row_index: usize,
@@ -81,7 +93,7 @@ impl<T> CscMatrix<T> {
         into_entry(self.find_mut(row_index, col_index))
     }
 
-    /// The entry at a row and a column in bounds for writing, by binary search in the column.
+    /// Returns the entry at a row and a column, borrowed mutably. Both must be within bounds. Binary search in the column.
     pub fn index_entry_mut(&mut self, row_index: usize, col_index: usize) -> SparseEntryMut<'_, T>
         requires { IsInBounds self.old.pattern col_index row_index }
         ensures* writes_back { sem 𝓛 (LendsIndexed T.row self.entry col_index row_index result) }
@@ -90,7 +102,7 @@ impl<T> CscMatrix<T> {
         self.cs.index_entry_mut(col_index, row_index)
     }
 
-    /// The column offsets, the rows, and the values for writing.
+    /// Returns the column offsets, the row indices, and the values borrowed mutably.
     pub fn csc_data_mut(&mut self) -> (&[usize], &[usize], &mut [T])
         ensures* writes_back { sem 𝓛 (LendsValues T.row self.entry result.2) }
         ensures offsets { result.0.now ≡ self.old.pattern.offsets }
@@ -100,16 +112,20 @@ impl<T> CscMatrix<T> {
         self.cs.cs_data_mut()
     }
 
-    /// The triplets (row, column, value) column after column, rows rising, each value for writing.
+    /// Returns an iterator over the triplets (row, column, value) that borrows each value mutably, column by column, rows increasing.
     pub fn triplet_iter_mut(&mut self) -> CscTripletIterMut<'_, T>
-        ensures { csc_triplets_left result ≡ map turned (lane_triplets self.old) }
+        ensures* writes_back { sem 𝓛 (LendsValues T.row self.entry (csc_triplet_values result)) }
+        ensures all { csc_triplets_left result ≡ map turned (lane_triplets self.old) }
+        ensures sound { IsSound self.old }
     {
         CscTripletIterMut::from_triplets(self.cs.triplet_iter_mut())
     }
 
-    /// The columns in order, the empty ones too, their values for writing.
+    /// Returns an iterator over the columns, including those without stored places, that borrows their values mutably.
     pub fn col_iter_mut(&mut self) -> CscColIterMut<'_, T>
-        ensures { cols_left result ≡ lanes_of self.old }
+        ensures* writes_back { sem 𝓛 (LendsValues T.row self.entry (all_col_values result)) }
+        ensures all { cols_left result ≡ lanes_of self.old }
+        ensures sound { IsSound self.old }
     {
         CscColIterMut::from_lanes(self.cs.lane_iter_mut())
     }

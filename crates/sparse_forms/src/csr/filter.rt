@@ -1,4 +1,4 @@
-//! The places of a CSR matrix that a test keeps.
+//! Selection of stored places of a CSR matrix.
 
 ghost use Rattle.std.specs.Prelude.{◌≡◌, ℕ, Bool, IfOk};
 ghost use Rattle.std.specs.List.{filter};
@@ -9,10 +9,21 @@ use super::CsrMatrix;
 use std::alloc::{AllocError, Global};
 
 impl<T: Copy> CsrMatrix<T> {
-    /// The matrix of the same sizes with the places (row, column) at which the predicate answers `true`, with their values.
+    /// Returns a matrix of the same shape with the stored places (row, column) for which `predicate` returns `true`, and their values.
     ///
-    /// The predicate is asked once at each stored place, zeros among them, row after row, columns rising. Memory is needed for the
-    /// offsets and for what is kept.
+    /// The predicate is called once for each stored place, including those whose value is zero, row by row, columns increasing. It must be
+    /// callable with any arguments. Linear in rows and places; the memory is proportional to the rows and the places kept. Fails only if an
+    /// allocation fails.
+    ///
+    /// # Examples
+    ///
+    /// ```rust
+    /// fn the_diagonal_is_filtered_out(alloc: Global) -> Result<bool, Fail> {
+    ///     let identity = CsrMatrix::<W64>::identity(alloc, 2)?;
+    ///     let rest = identity.filter(alloc, |row, column, _| row != column)?;
+    ///     Ok(rest == CsrMatrix::zeros(alloc, 2, 2)?)
+    /// }
+    /// ```
     pub fn filter<P>(&self, alloc: Global, predicate: P) -> Result<Self, AllocError>
     where
         P: Fn(usize, usize, &T) -> bool,
@@ -28,7 +39,19 @@ impl<T: Copy> CsrMatrix<T> {
         })
     }
 
-    /// The places (i, j) with i <= j, with their values, in a matrix of the same sizes.
+    /// Returns a matrix of the same shape with the stored places (i, j) where `i <= j`. Cost and errors are those of [`CsrMatrix::filter`].
+    ///
+    /// # Examples
+    ///
+    /// ```rust
+    /// fn the_upper_triangle_is_kept(alloc: Global) -> Result<bool, Fail> {
+    ///     let offsets = vec![in alloc; 0, 2, 4]?;
+    ///     let columns = vec![in alloc; 0, 1, 0, 1]?;
+    ///     let values = vec![in alloc; 1, 2, 3, 4]?;
+    ///     let matrix = CsrMatrix::try_from_csr_data(2, 2, offsets, columns, values)?;
+    ///     Ok(matrix.upper_triangle(alloc)?.values() == [1, 2, 4].as_slice())
+    /// }
+    /// ```
     pub fn upper_triangle(&self, alloc: Global) -> Result<Self, AllocError>
         ensures sizes { IfOk result (HasSizesOf self.now) }
         ensures kept { IfOk result (λ m. lane_triplets m ≡ filter is_upper (lane_triplets self.now)) }
@@ -37,7 +60,7 @@ impl<T: Copy> CsrMatrix<T> {
         self.filter(alloc, |row, column, _| row <= column)
     }
 
-    /// The places (i, j) with i >= j, with their values, in a matrix of the same sizes.
+    /// Returns a matrix of the same shape with the stored places (i, j) where `i >= j`. Cost and errors are those of [`CsrMatrix::filter`].
     pub fn lower_triangle(&self, alloc: Global) -> Result<Self, AllocError>
         ensures sizes { IfOk result (HasSizesOf self.now) }
         ensures kept { IfOk result (λ m. lane_triplets m ≡ filter is_lower (lane_triplets self.now)) }
@@ -46,7 +69,7 @@ impl<T: Copy> CsrMatrix<T> {
         self.filter(alloc, |row, column, _| row >= column)
     }
 
-    /// The places (i, i), with their values, in a matrix of the same sizes.
+    /// Returns a matrix of the same shape with the stored places (i, i). Cost and errors are those of [`CsrMatrix::filter`].
     pub fn diagonal_as_csr(&self, alloc: Global) -> Result<Self, AllocError>
         ensures sizes { IfOk result (HasSizesOf self.now) }
         ensures kept { IfOk result (λ m. lane_triplets m ≡ filter is_diagonal (lane_triplets self.now)) }

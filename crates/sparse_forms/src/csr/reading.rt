@@ -1,4 +1,4 @@
-//! The arrays, the rows, the entries and the triplets of a CSR matrix.
+//! Arrays, rows, entries and triplets of a CSR matrix.
 
 ghost use Rattle.std.specs.Prelude.{◌≡◌, ◌<◌, ◌↔◌, IfSome, IsSome};
 ghost use Rattle.sparse_cs.specs.Compressed.{IsSound, lane_triplets};
@@ -12,7 +12,7 @@ use sparse_pattern::entry::SparseEntry;
 use sparse_pattern::pattern::SparsityPattern;
 
 impl<T> CsrMatrix<T> {
-    /// Where each row begins in the columns, and at last their number.
+    /// Returns the offset of the first stored place of each row, followed by the number of stored places.
     pub fn row_offsets(&self) -> &[usize]
         ensures offsets { result.now ≡ self.now.pattern.offsets }
         ensures sound { IsSound self.now }
@@ -20,7 +20,7 @@ impl<T> CsrMatrix<T> {
         self.cs.pattern().major_offsets()
     }
 
-    /// The columns of the stored places, row after row.
+    /// Returns the column of each stored place, row by row.
     pub fn col_indices(&self) -> &[usize]
         ensures indices { result.now ≡ self.now.pattern.indices }
         ensures sound { IsSound self.now }
@@ -28,7 +28,7 @@ impl<T> CsrMatrix<T> {
         self.cs.pattern().minor_indices()
     }
 
-    /// The values of the stored places, row after row.
+    /// Returns the value of each stored place, row by row.
     pub fn values(&self) -> &[T]
         ensures values { result.now ≡ self.now.values }
         ensures sound { IsSound self.now }
@@ -36,7 +36,7 @@ impl<T> CsrMatrix<T> {
         self.cs.values()
     }
 
-    /// The pattern of the stored places.
+    /// Returns the pattern, whose lanes are the rows.
     pub fn pattern(&self) -> &SparsityPattern
         ensures pattern { result.now ≡ self.now.pattern }
         ensures sound { IsSound self.now }
@@ -44,7 +44,7 @@ impl<T> CsrMatrix<T> {
         self.cs.pattern()
     }
 
-    /// The offsets, the columns and the values of the stored places, row after row.
+    /// Returns the row offsets, the column indices and the values.
     pub fn csr_data(&self) -> (&[usize], &[usize], &[T])
         ensures offsets { result.0.now ≡ self.now.pattern.offsets }
         ensures indices { result.1.now ≡ self.now.pattern.indices }
@@ -54,7 +54,7 @@ impl<T> CsrMatrix<T> {
         self.cs.cs_data()
     }
 
-    /// A row.
+    /// Returns a row. `row_index` must be less than `nrows()`.
     pub fn row(&self, row_index: usize) -> CsrRow<'_, T>
         requires { row_index < self.now.pattern.major_dim }
         ensures { result ≡ lane_at self.now row_index }
@@ -62,7 +62,17 @@ impl<T> CsrMatrix<T> {
         CsrRow::from_lane(self.cs.lane(row_index))
     }
 
-    /// A row, or `None` out of bounds.
+    /// Returns a row, or `None` if `row_index` is out of bounds.
+    ///
+    /// # Examples
+    ///
+    /// ```rust
+    /// fn one_row_is_read(alloc: Global) -> Result<bool, Fail> {
+    ///     let identity = CsrMatrix::<W64>::identity(alloc, 2)?;
+    ///     let row = identity.get_row(1).ok_or("out of bounds")?;
+    ///     Ok(row.ncols() == 2 && row.col_indices() == [1].as_slice())
+    /// }
+    /// ```
     pub fn get_row(&self, row_index: usize) -> Option<CsrRow<'_, T>>
         ensures bounds { IsSome result ↔ (row_index < self.now.pattern.major_dim) }
         ensures row { IfSome result (λ row. row ≡ lane_at self.now row_index) }
@@ -73,29 +83,46 @@ impl<T> CsrMatrix<T> {
         }
     }
 
-    /// The rows in order, those without stored places too.
+    /// Returns an iterator over the rows, including those without stored places.
     pub fn row_iter(&self) -> CsrRowIter<'_, T>
-        ensures { result ≡ lanes_of self.now }
+        ensures all { result ≡ lanes_of self.now }
+        ensures sound { IsSound self.now }
     {
         CsrRowIter::from_lanes(self.cs.lane_iter())
     }
 
-    /// The entry at a row and a column in bounds, by binary search in the row.
+    /// Returns the entry at a row and a column, both of which must be within bounds. Binary search in the row.
     pub fn index_entry(&self, row_index: usize, col_index: usize) -> SparseEntry<'_, T>
         requires { IsInBounds self.now.pattern row_index col_index }
-        ensures { IsEntryAt self.now row_index col_index result }
+        ensures entry { IsEntryAt self.now row_index col_index result }
+        ensures sound { IsSound self.now }
     {
+        // Shows that the matrix is sound.
+        let _ = self.cs.values();
         self.cs.index_entry(row_index, col_index)
     }
 
-    /// The entry at a row and a column, by binary search in the row, or `None` out of bounds.
+    /// Returns the entry at a row and a column, or `None` if one is out of bounds. Binary search in the row.
+    ///
+    /// # Examples
+    ///
+    /// ```rust
+    /// fn a_missing_entry_is_zero(alloc: Global) -> Result<bool, Fail> {
+    ///     let matrix = CsrMatrix::<i32>::zeros(alloc, 1, 2)?;
+    ///     let outside = matrix.get_entry(0, 2);
+    ///     Ok(matrix.get_entry(0, 1) == Some(SparseEntry::Zero) && outside.is_none())
+    /// }
+    /// ```
     pub fn get_entry(&self, row_index: usize, col_index: usize) -> Option<SparseEntry<'_, T>>
-        ensures { IsEntryOf self.now row_index col_index result }
+        ensures entry { IsEntryOf self.now row_index col_index result }
+        ensures sound { IsSound self.now }
     {
+        // Shows that the matrix is sound.
+        let _ = self.cs.values();
         self.cs.get_entry(row_index, col_index)
     }
 
-    /// The triplets (row, column, value) row after row, columns rising.
+    /// Returns an iterator over the triplets (row, column, value), row by row, columns increasing.
     pub fn triplet_iter(&self) -> CsrTripletIter<'_, T>
         ensures all { result ≡ lane_triplets self.now }
         ensures sound { IsSound self.now }

@@ -8,10 +8,22 @@ use super::CsrMatrix;
 use std::alloc::{AllocError, Global};
 
 impl<T: Copy> CsrMatrix<T> {
-    /// The matrix with sizes and pairs exchanged, by rows again: it has at (j, i) the value of (i, j), zeros among them.
+    /// Returns the transpose in CSR form: its value at (j, i) is the value of this matrix at (i, j). Stored zeros stay stored.
     ///
-    /// It takes time in the number of places, rows and columns. Memory is needed for the result, and for a count for each of the new
-    /// rows.
+    /// A counting sort: linear in the number of places, rows and columns. Beside the result it allocates one counter for each row of the
+    /// result. Fails only if an allocation fails.
+    ///
+    /// # Examples
+    ///
+    /// ```rust
+    /// fn rows_become_columns(alloc: Global) -> Result<bool, Fail> {
+    ///     let offsets = vec![in alloc; 0, 2]?;
+    ///     let columns = vec![in alloc; 0, 2]?;
+    ///     let values = vec![in alloc; 4, 5]?;
+    ///     let matrix = CsrMatrix::try_from_csr_data(1, 3, offsets, columns, values)?;
+    ///     Ok(matrix.transpose(alloc)?.row_offsets() == [0, 1, 1, 2].as_slice())
+    /// }
+    /// ```
     pub fn transpose(&self, alloc: Global) -> Result<Self, AllocError>
         ensures transposed { IfOk result (IsTranspose self.now) }
         ensures sound { IfOk result IsSound }

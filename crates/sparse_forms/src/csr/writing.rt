@@ -1,4 +1,4 @@
-//! Values of a CSR matrix lent for writing: all of them, row after row, those of a row, or the value at one place.
+//! Mutable borrows of the values of a CSR matrix. The pattern never changes.
 
 ghost use Rattle.std.specs.Prelude.{◌≡◌, ◌<◌, ◌↔◌, IfSome, IsSome};
 ghost use Rattle.std.specs.Borrow.{sem};
@@ -8,7 +8,7 @@ ghost use Rattle.sparse_cs.specs.Lanes.{lane_at, lanes_of};
 ghost use Rattle.sparse_cs.specs.Writing.{IsFoundAt, IsEntryMutAt, IsEntryMutOf};
 ghost use Rattle.sparse_forms.specs.CsrWriting.{LendsValues, LendsRow, LendsRowIf, LendsEntry, LendsIndexed};
 ghost use Rattle.sparse_forms.specs.InnerCsrWriting.{LendsCoreIf, LendsFound};
-ghost use Rattle.sparse_lanes.specs.RowWriting.{lent_row, row_values, rows_left, csr_triplets_left};
+ghost use Rattle.sparse_lanes.specs.RowWriting.{lent_row, row_values, all_row_values, rows_left, csr_triplet_values, csr_triplets_left};
 
 use super::CsrMatrix;
 use sparse_cs::CsMatrix;
@@ -18,7 +18,7 @@ use sparse_pattern::entry::{Found, SparseEntryMut, into_entry};
 use sparse_pattern::pattern::SparsityPattern;
 
 impl<T> CsrMatrix<T> {
-    /// The values of the stored places for writing, row after row.
+    /// Returns the value of each stored place, row by row, borrowed mutably.
     pub fn values_mut(&mut self) -> &mut [T]
         ensures* writes_back { sem 𝓛 (LendsValues T.row self.entry result) }
         ensures values { result.now ≡ self.old.values }
@@ -26,7 +26,7 @@ impl<T> CsrMatrix<T> {
         self.cs.values_mut()
     }
 
-    /// A row, its values for writing.
+    /// Returns a row with its values borrowed mutably. `index` must be less than `nrows()`.
     pub fn row_mut(&mut self, index: usize) -> CsrRowMut<'_, T>
         requires { index < self.old.pattern.major_dim }
         ensures* writes_back { sem 𝓛 (LendsRow T.row self.entry index (row_values result)) }
@@ -36,7 +36,7 @@ impl<T> CsrMatrix<T> {
         CsrRowMut::of(&mut self.cs, index)
     }
 
-    /// A row, its values for writing, or `None` out of bounds.
+    /// Returns a row with its values borrowed mutably, or `None` if `index` is out of bounds.
     pub fn get_row_mut(&mut self, index: usize) -> Option<CsrRowMut<'_, T>>
         ensures* writes_back { sem 𝓛 (LendsRowIf T.row self.entry index result) }
         ensures bounds { IsSome result ↔ (index < self.old.pattern.major_dim) }
@@ -60,7 +60,7 @@ impl<T> CsrMatrix<T> {
         Some(&mut self.cs)
     }
 
-    /// The pattern, and the values for writing.
+    /// Returns the pattern, and the values borrowed mutably.
     pub fn pattern_and_values_mut(&mut self) -> (&SparsityPattern, &mut [T])
         ensures* writes_back { sem 𝓛 (LendsValues T.row self.entry result.1) }
         ensures pattern { result.0.now ≡ self.old.pattern }
@@ -69,7 +69,7 @@ impl<T> CsrMatrix<T> {
         self.cs.pattern_and_values_mut()
     }
 
-    /// The entry at a row and a column for writing, by binary search in the row, or `None` out of bounds.
+    /// Returns the entry at a row and a column, borrowed mutably, or `None` if one is out of bounds. Binary search in the row.
     pub fn get_entry_mut(
         &mut self,
         row_index: usize,
@@ -81,7 +81,7 @@ impl<T> CsrMatrix<T> {
         into_entry(self.find_mut(row_index, col_index))
     }
 
-    /// The entry at a row and a column in bounds for writing, by binary search in the row.
+    /// Returns the entry at a row and a column, borrowed mutably. Both must be within bounds. Binary search in the row.
     pub fn index_entry_mut(&mut self, row_index: usize, col_index: usize) -> SparseEntryMut<'_, T>
         requires { IsInBounds self.old.pattern row_index col_index }
         ensures* writes_back { sem 𝓛 (LendsIndexed T.row self.entry row_index col_index result) }
@@ -90,7 +90,7 @@ impl<T> CsrMatrix<T> {
         self.cs.index_entry_mut(row_index, col_index)
     }
 
-    /// The row offsets, the columns, and the values for writing.
+    /// Returns the row offsets, the column indices, and the values borrowed mutably.
     pub fn csr_data_mut(&mut self) -> (&[usize], &[usize], &mut [T])
         ensures* writes_back { sem 𝓛 (LendsValues T.row self.entry result.2) }
         ensures offsets { result.0.now ≡ self.old.pattern.offsets }
@@ -100,16 +100,32 @@ impl<T> CsrMatrix<T> {
         self.cs.cs_data_mut()
     }
 
-    /// The triplets (row, column, value) row after row, columns rising, each value for writing.
+    /// Returns an iterator over the triplets (row, column, value) that borrows each value mutably, row by row, columns increasing.
+    ///
+    /// # Examples
+    ///
+    /// ```rust
+    /// fn values_are_replaced(alloc: Global) -> Result<bool, Fail> {
+    ///     let mut matrix = CsrMatrix::<W64>::identity(alloc, 2)?;
+    ///     for (row, _, value) in matrix.triplet_iter_mut() {
+    ///         *value = W64::new(if row == 0 { 4 } else { 5 });
+    ///     }
+    ///     Ok(matrix.values() == [W64::new(4), W64::new(5)].as_slice())
+    /// }
+    /// ```
     pub fn triplet_iter_mut(&mut self) -> CsrTripletIterMut<'_, T>
-        ensures { csr_triplets_left result ≡ lane_triplets self.old }
+        ensures* writes_back { sem 𝓛 (LendsValues T.row self.entry (csr_triplet_values result)) }
+        ensures all { csr_triplets_left result ≡ lane_triplets self.old }
+        ensures sound { IsSound self.old }
     {
         CsrTripletIterMut::from_triplets(self.cs.triplet_iter_mut())
     }
 
-    /// The rows in order, the empty ones too, their values for writing.
+    /// Returns an iterator over the rows, including those without stored places, that borrows their values mutably.
     pub fn row_iter_mut(&mut self) -> CsrRowIterMut<'_, T>
-        ensures { rows_left result ≡ lanes_of self.old }
+        ensures* writes_back { sem 𝓛 (LendsValues T.row self.entry (all_row_values result)) }
+        ensures all { rows_left result ≡ lanes_of self.old }
+        ensures sound { IsSound self.old }
     {
         CsrRowIterMut::from_lanes(self.cs.lane_iter_mut())
     }

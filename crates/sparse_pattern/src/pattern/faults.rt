@@ -1,4 +1,4 @@
-//! What can be wrong with the raw data of a pattern, and the search for the first fault.
+//! Faults in the raw data of a pattern, and the search for the first one.
 
 ghost use Rattle.std.specs.Prelude.{◌≡◌, ◌<◌, ◌≤◌, length, OnOk, IfErr};
 ghost use Rattle.sparse_pattern.specs.Raw.{Raw, IsValid, raw_of};
@@ -9,21 +9,21 @@ use crate::error::SparseFormatErrorKind;
 use std::cmp::Ordering;
 use thiserror::Error;
 
-/// What is wrong with the raw data of a pattern.
+/// The error returned when offsets and indices do not describe a pattern.
 #[derive(Debug, Clone, Copy, PartialEq, Eq, Error)]
 #[error("{}", self.message())]
 pub enum SparsityPatternFormatError {
-    /// The number of offsets isn't one more than the number of lanes.
+    /// The number of offsets is not one more than the number of lanes.
     InvalidOffsetArrayLength,
-    /// The first offset isn't zero, or the last isn't the number of indices.
+    /// The first offset is not zero, or the last is not the number of indices.
     InvalidOffsetFirstLast,
     /// A lane ends before it begins, or past the indices.
     NonmonotonicOffsets,
-    /// A minor index doesn't lie below the minor size.
+    /// A minor index is out of bounds.
     MinorIndexOutOfBounds,
-    /// A minor index stands twice in a lane.
+    /// A minor index occurs twice in a lane.
     DuplicateEntry,
-    /// A minor index is smaller than the one before it in its lane.
+    /// A minor index is less than the one before it in its lane.
     NonmonotonicMinorIndices,
 }
 
@@ -61,7 +61,7 @@ impl SparsityPatternFormatError {
     }
 }
 
-/// Raw data has one first fault at most.
+/// The first fault of raw data is unique.
 pub fn one_first_fault()
     ensures { (d : Raw) (e f : SparsityPatternFormatError) → IsFirstFault d e → IsFirstFault d f
         → e ≡ f }

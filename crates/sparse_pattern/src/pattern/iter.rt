@@ -1,19 +1,20 @@
-//! The places of a pattern in lane order.
+//! The iterator over the places of a pattern.
 
-ghost use Rattle.std.specs.Prelude.{◌≡◌, ℕ, ◌↔◌, ⊤, length, Contains};
+ghost use Rattle.std.specs.Prelude.{◌≡◌, ℕ, ◌↔◌, ⊤, length, Contains, AllPairs};
 ghost use Rattle.std.specs.Iterator.{YieldsFirst, item_count};
-ghost use Rattle.sparse_pattern.specs.Raw.{IsValid, IsPlace, entries_of};
+ghost use Rattle.sparse_pattern.specs.Raw.{IsValid, IsPlace, Precedes, entries_of};
 
 use super::SparsityPattern;
 use std::alloc::AllocError;
 use std::marker::Model;
 
 impl SparsityPattern {
-    /// The places in lane order.
+    /// Returns an iterator over the places (lane, minor index), lane by lane, minor indices increasing.
     pub fn entries(&self) -> SparsityPatternIter<'_>
         ensures all { result ≡ entries_of self.now }
         ensures count { length result ≡ length self.now.indices }
         ensures places { (i j : ℕ) → Contains result (i, j) ↔ IsPlace self.now i j }
+        ensures rising { AllPairs Precedes result }
     {
         self.all_entries()
     }
@@ -36,7 +37,7 @@ impl SparsityPattern {
     }
 }
 
-/// The places of a pattern in lane order: by lane, then by rising minor index.
+/// An iterator over the places of a [`SparsityPattern`], lane by lane, minor indices increasing.
 #[derive(Drop)]
 pub struct SparsityPatternIter<'a> {
     major_offsets: &'a [usize],

@@ -1,4 +1,4 @@
-//! What `mtx rows` answers.
+//! What `mtx rows`, `mtx cols` and `mtx fill` answer.
 
 /// An expression, the lines of its files below their headers, and the lines that are written below the heading or the
 /// line of a refusal.
@@ -14,7 +14,7 @@ const B: &str = "2 1 2\n1 1 3\n2 1 -2\n";
 
 const F: &str = "2 2 3\n1 1 1\n1 2 2\n2 2 3\n";
 
-pub const CASES: [Case; 31] = [
+pub const CASES: [Case; 42] = [
     // One file by rows.
     (
         "1",
@@ -51,7 +51,24 @@ pub const CASES: [Case; 31] = [
         &["1 1 1\n1 1 2147483648\n"],
         Ok("1 1 1\n1 1 4611686018427387904\n"),
     ),
-    // Memory does not depend on the number of columns, and the offsets of so many rows can't be had.
+    // Ten files.
+    (
+        "10 1 *",
+        &[F, A, A, A, A, A, A, A, A, F],
+        Ok("2 2 3\n1 1 1\n1 2 8\n2 2 9\n"),
+    ),
+    // Sums, differences, transposes and negations.
+    ("1 t 1 -", &[F], Ok("2 2 4\n1 1 0\n1 2 -2\n2 1 2\n2 2 0\n")),
+    ("1 2 t +", &[A, B], Ok("1 2 2\n1 1 5\n1 2 1\n")),
+    ("1 t", &[A], Ok("2 1 2\n1 1 2\n2 1 3\n")),
+    ("1 t t", &[A], Ok("1 2 2\n1 1 2\n1 2 3\n")),
+    ("1 n", &[A], Ok("1 2 2\n1 1 -2\n1 2 -3\n")),
+    (
+        "1 2 * t n",
+        &[B, A],
+        Ok("2 2 4\n1 1 -6\n1 2 4\n2 1 -9\n2 2 6\n"),
+    ),
+    // Memory does not depend on the number of columns, and the offsets of 2^64 - 1 rows do not fit in memory.
     (
         "1",
         &["1 18446744073709551615 1\n1 18446744073709551615 3\n"],
@@ -99,6 +116,15 @@ pub const CASES: [Case; 31] = [
         &[A],
         Err("mtx: expression: shapes do not fit\n"),
     ),
+    // The left operand comes first.
+    (
+        "1 1 * 2 +",
+        &[A],
+        Err("mtx: expression: shapes do not fit\n"),
+    ),
+    ("2 1 1 * +", &[A], Err("mtx: expression: no such input\n")),
+    ("1 2 +", &[A], Err("mtx: expression: no such input\n")),
+    ("1 +", &[A], Err("mtx: expression: operand missing\n")),
     ("0", &[A], Err("mtx: expression: unknown word\n")),
     ("1 x", &[A], Err("mtx: expression: unknown word\n")),
     ("+1", &[A], Err("mtx: expression: unknown word\n")),
@@ -111,4 +137,42 @@ pub const CASES: [Case; 31] = [
     ("1 * x", &[A], Err("mtx: expression: operand missing\n")),
     ("", &[A], Err("mtx: expression: operand missing\n")),
     ("1 2", &[A], Err("mtx: expression: operands left over\n")),
+];
+
+/// The same of `mtx cols`.
+pub const COLUMN_CASES: [Case; 3] = [
+    ("1 t 1 -", &[F], Ok("2 2 4\n1 1 0\n2 1 2\n1 2 -2\n2 2 0\n")),
+    (
+        "1",
+        &["2 2 3\n1 1 1\n1 2 2\n2 1 4\n"],
+        Ok("2 2 3\n1 1 1\n2 1 4\n1 2 2\n"),
+    ),
+    ("1 1 *", &[A], Err("mtx: expression: shapes do not fit\n")),
+];
+
+/// A file, and the lines that `mtx fill` writes below the heading or the line of a refusal.
+pub const FILL_CASES: [(&str, Result<&str, &str>); 6] = [
+    (
+        "%%MatrixMarket matrix coordinate pattern symmetric\n3 3 2\n3 1\n3 2\n",
+        Ok("3 3 3\n3 1 \n3 2 \n3 3 \n"),
+    ),
+    // A repeated place counts once.
+    (
+        "%%MatrixMarket matrix coordinate pattern general\n1 1 2\n1 1\n1 1\n",
+        Ok("1 1 1\n1 1 \n"),
+    ),
+    // Places below the diagonal alone.
+    (
+        "%%MatrixMarket matrix coordinate pattern general\n2 2 1\n2 1\n",
+        Ok("2 2 0\n"),
+    ),
+    (
+        "%%MatrixMarket matrix coordinate pattern general\n2 3 1\n1 2\n",
+        Err("mtx: not square\n"),
+    ),
+    (
+        "%%MatrixMarket matrix coordinate integer general\n1 1 1\n1 1 5\n",
+        Err("mtx: input 1: TypeMismatch\n"),
+    ),
+    ("3 3 2\n", Err("mtx: input 1: ParsingError\n")),
 ];

@@ -1,13 +1,30 @@
 use Rattle.std.proofs.Common.{◌≡◌, ap, sym, ◌∙◌}
-use Rattle.sparse_algebra.specs.Plain.{plain_of_triplets}
+use Rattle.sparse_algebra.specs.Algebra.{CommRing}
+use Rattle.sparse_algebra.specs.Plain.{plain_of_triplets, plain_transpose}
 use Rattle.sparse_algebra.proofs.PlainLemmas.{order_free}
+use Rattle.sparse_base.specs.Coo.{Coo}
 use Rattle.sparse_base.specs.CooPlain.{plain_of_coo}
 use Rattle.sparse_cs.proofs.Arrays.{equal_decides}
+use Rattle.std.specs.List.Sorted.{IsPermutation}
 use Rattle.sparse_convert.proofs.serial.order_law.Goals as goal
 
-pub returns : goal.returns
-returns g c = λ a b m n rows cols moved sm is_a sn is_b.
+-- lists of one size in another order stand for one plain matrix
+same_plain : (R : CommRing) {T : Type 0} (f : T → R.Carrier) (a b : Coo T) → a.nrows ≡ b.nrows
+    → a.ncols ≡ b.ncols → IsPermutation a.triplets b.triplets → plain_of_coo R f a ≡ plain_of_coo R f b
+same_plain R f a b rows cols moved =
+    ap (λ k. plain_of_triplets R f k a.ncols a.triplets) rows ∙ ap (λ k. plain_of_triplets R f b.nrows k a.triplets) cols
+    ∙ order_free R f b.nrows b.ncols a.triplets b.triplets moved
+
+pub returns-clause-rows : goal.returns-clause-rows
+returns-clause-rows g c = λ a b m n rows cols moved sm is_a sn is_b.
     let R = g.T.Ring.ring in
     let f = g.T.Ring.value in
-    let same : plain_of_coo R f a ≡ plain_of_coo R f b = ap (λ k. plain_of_triplets R f k a.ncols a.triplets) rows ∙ ap (λ k. plain_of_triplets R f b.nrows k a.triplets) cols ∙ order_free R f b.nrows b.ncols a.triplets b.triplets moved in
-    (equal_decides R f g.T.PartialEq.eq g.met.T.Ring.eq_law g.T.Zero.zero_value m n sm sn).1 (is_a ∙ same ∙ sym is_b)
+    (equal_decides R f g.T.PartialEq.eq g.met.T.Ring.eq_law g.T.Zero.zero_value m n sm sn).1
+    (is_a ∙ same_plain R f a b rows cols moved ∙ sym is_b)
+
+pub returns-clause-cols : goal.returns-clause-cols
+returns-clause-cols g c = λ a b m n rows cols moved sm is_a sn is_b.
+    let R = g.T.Ring.ring in
+    let f = g.T.Ring.value in
+    (equal_decides R f g.T.PartialEq.eq g.met.T.Ring.eq_law g.T.Zero.zero_value m n sm sn).1
+    (ap (λ p. plain_transpose R p) (is_a ∙ same_plain R f a b rows cols moved ∙ sym is_b))

@@ -1,7 +1,7 @@
 use Rattle.std.proofs.Common.{inl, inr, map, ap, ◌∙◌}
 use Rattle.std.proofs.lemmas.List.{map_push}
 use Rattle.std.proofs.lemmas.Result.{err_from_is_err_and}
-use Rattle.sparse_parser.specs.Meaning.{numbers_of}
+use Rattle.sparse_expr.specs.InnerRun.{numbers_of}
 use Rattle.sparse_expr.proofs.Loading.{AllMean-more, AllMean-all, refused-at}
 use Rattle.sparse_expr.proofs.calculator.load_all.Goals as goal
 

@@ -1,5 +1,5 @@
 use Rattle.std.proofs.Common.{take, map}
-use Rattle.sparse_parser.specs.Meaning.{numbers_of}
+use Rattle.sparse_expr.specs.InnerRun.{numbers_of}
 use Rattle.sparse_expr.specs.PostfixWords.{texts}
 use Rattle.sparse_expr.specs.Run.{AllMean}
 use Rattle.sparse_expr.proofs.calculator.load_all.Given as goal

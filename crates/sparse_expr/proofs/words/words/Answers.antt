@@ -1,7 +1,6 @@
 use Rattle.std.proofs.Common.{rules}
 use Rattle.std.proofs.lemmas.Iterator.Consumers.{map_from_collect, YieldsList-from_filter}
 use Rattle.std.proofs.lemmas.Iterator.Splits.{YieldsList-from_slice_split}
-use borrow.Author.Tests.{tests}
 use Rattle.sparse_expr.specs.PostfixWords.{is_space}
 use Rattle.sparse_parser.specs.Words.{is_some_word}
 use Rattle.sparse_expr.proofs.words.words.Goals as goal

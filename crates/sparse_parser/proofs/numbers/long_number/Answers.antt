@@ -1,6 +1,6 @@
 use Rattle.std.proofs.Common.{◌≡◌, [], drop, sym, ◌∙◌}
 use Rattle.std.specs.Char.{is_ascii_digit}
-use Rattle.sparse_parser.specs.InnerBytes.{front}
+use Rattle.sparse_parser.specs.Bytes.{front}
 use Rattle.sparse_parser.proofs.Fronts.{front-drop_all, front-drop_stop}
 use Rattle.sparse_parser.proofs.Digits.{too_long, fits_all}
 use Rattle.sparse_parser.proofs.numbers.long_number.Goals as goal

@@ -1,7 +1,7 @@
 use Rattle.std.proofs.Common.{◌≡◌, length, drop, ◌-◌, ◌<◌, ◌^◌}
 use Rattle.std.specs.Char.{is_ascii_digit}
 use Rattle.std.specs.Str.Parse.{digits_value_after}
-use Rattle.sparse_parser.specs.InnerBytes.{front}
+use Rattle.sparse_parser.specs.Bytes.{front}
 use Rattle.sparse_parser.proofs.Fronts.{IsPassed}
 use Rattle.sparse_parser.proofs.numbers.long_number.Given as goal
 

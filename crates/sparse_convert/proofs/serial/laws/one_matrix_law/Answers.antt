@@ -7,8 +7,8 @@ use Rattle.sparse_convert.proofs.Reaching.{reached_same, reached_sound}
 use Rattle.sparse_convert.proofs.StoredTriplets.{plain_of_turned_list}
 use Rattle.sparse_convert.proofs.serial.laws.one_matrix_law.Goals as goal
 
-pub returns-clause-three_forms : goal.returns-clause-three_forms
-returns-clause-three_forms g c = λ x a m n sound list rows cols.
+pub returns-clause-three_representations : goal.returns-clause-three_representations
+returns-clause-three_representations g c = λ x a m n sound list rows cols.
     let R = g.T.Ring.ring in
     let f = g.T.Ring.value in
     let z = g.T.Zero.zero_value in

@@ -29,7 +29,7 @@ loop-i-preserved g c =
     let f = g.T.Ring.value in
     let v = c.in-Some.value.now in
     let t : ℕ × ℕ × g.row.T.Denot = (c.in-Some.i, c.in-Some.j, v) in
-    let read = read_there (added R f) f _ _ _ _ _ _ t c.in-Some.ensures.steps c.loop-i.dense c.loop-i.invariant c.get.result c.get.ensures in
+    let read = read_there (added R f) f _ _ _ _ _ _ t c.in-Some.ensures.steps c.loop-i.dense c.loop-i.invariant c.get.result c.get.ensures.value in
     one_written (added R f) f _ _ _ _ _ _ t c.in-Some.ensures.steps c.loop-i.dense c.loop-i.invariant c.set.new.self c.add-sum.result c.set.ensures.values (λ z. added_there R f c.add-sum.result c.get.result _ v c.add-sum.ensures (read z))
 
 pub returns : goal.returns

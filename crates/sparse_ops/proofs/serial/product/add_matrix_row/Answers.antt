@@ -1,7 +1,7 @@
 use Rattle.std.proofs.Common.{◌≡◌, ◌<◌, ℕ, length, get_or, ◌∙◌, ap}
 use Rattle.sparse_pattern.specs.Raw.{lane_of}
-use Rattle.sparse_ops.specs.InnerRows.{lane_value}
-use Rattle.sparse_ops.proofs.LaneValues.{values_of, lane_value_is}
+use Rattle.sparse_cs.specs.InnerRows.{lane_value}
+use Rattle.sparse_cs.proofs.LaneValues.{values_of, lane_value_is}
 use Rattle.sparse_ops.proofs.serial.product.add_matrix_row.Goals as goal
 
 pub returns : goal.returns
@@ -13,5 +13,5 @@ returns g c =
     let k = c.args.k in
     let start = c.args.row.now in
     let scale = f c.args.scale in
-    let added : (j : ℕ) → j < length start → f (get_or c.add_row.new.row j z) ≡ R.add (f (get_or start j z)) (R.mul scale (lane_value R f (lane_of b.pattern k) (values_of b k) j)) = rw (← c.row_offsets-offsets.ensures.offsets, ← c.col_indices.ensures.indices, ← c.values.ensures.values) c.add_row.ensures in
-    λ j lt. added j lt ∙ ap (λ x. R.add (f (get_or start j z)) (R.mul scale x)) (lane_value_is R f z b c.row_offsets-offsets.ensures.sound k c.requires.lane j)
+    let added : (j : ℕ) → j < length start → f (get_or c.add_row.new.row j z) ≡ R.add (f (get_or start j z)) (R.mul scale (lane_value R f (lane_of b.pattern k) (values_of b k) j)) = rw (← c.cs_data.ensures.offsets, ← c.cs_data.ensures.indices, ← c.cs_data.ensures.values) c.add_row.ensures in
+    λ j lt. added j lt ∙ ap (λ x. R.add (f (get_or start j z)) (R.mul scale x)) (lane_value_is R f z b c.cs_data.ensures.sound k c.requires.lane j)

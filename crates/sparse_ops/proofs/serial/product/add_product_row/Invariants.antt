@@ -3,7 +3,7 @@ use Rattle.std.specs.Prelude.{zip}
 use Rattle.sparse_pattern.specs.Raw.{lane_of}
 use Rattle.sparse_algebra.specs.Sums.{sum_by}
 use Rattle.sparse_cs.specs.PlainOfLanes.{plain_of_rows}
-use Rattle.sparse_ops.proofs.LaneValues.{values_of}
+use Rattle.sparse_cs.proofs.LaneValues.{values_of}
 use Rattle.sparse_ops.proofs.serial.product.add_product_row.Given as goal
 
 abbrev pub invariant-loop-k : goal.invariant-loop-k

@@ -2,7 +2,7 @@ use Rattle.std.proofs.Common.{◌<◌, length, get_or, sym, ◌∙◌, ap, arith
 use Rattle.std.proofs.lemmas.List.{get_or_default, length_push, length-set}
 use Rattle.std.proofs.lemmas.Slice.Zip.{zip_turn}
 use Rattle.sparse_algebra.proofs.RingLemmas.{mul_zero}
-use Rattle.sparse_ops.proofs.RowSums.{offset_fits, lane_step}
+use Rattle.sparse_cs.proofs.RowSums.{offset_fits, lane_step}
 use Rattle.sparse_ops.proofs.serial.product.add_row.Goals as goal
 
 pub loop-j-init : goal.loop-j-init

@@ -1,5 +1,5 @@
 use Rattle.std.proofs.Common.{◌≡◌, ◌<◌, ℕ, length, take, get_or}
-use Rattle.sparse_ops.specs.InnerRows.{lane_value}
+use Rattle.sparse_cs.specs.InnerRows.{lane_value}
 use Rattle.sparse_ops.proofs.serial.product.add_row.Given as goal
 
 abbrev pub invariant-loop-j : goal.invariant-loop-j

@@ -1,0 +1,35 @@
+//! The answer of a task.
+
+use crate::checksum::{checksum_of_columns, checksum_of_pattern, checksum_of_rows};
+use nalgebra_sparse::CsrMatrix;
+use nalgebra_sparse::dense::DMatrix;
+use nalgebra_sparse::factorization::CscSymbolicCholesky;
+use nalgebra_sparse::scalar::W64;
+
+/// The answer of a task.
+#[derive(Drop)]
+pub enum Answer {
+    Rows(CsrMatrix<W64>),
+    Dense(DMatrix<W64>),
+    Factor(CscSymbolicCholesky),
+}
+
+impl Answer {
+    /// Returns the checksum of its places and values.
+    pub fn checksum(&self) -> u64 {
+        match self {
+            Answer::Rows(matrix) => checksum_of_rows(matrix),
+            Answer::Dense(matrix) => checksum_of_columns(matrix),
+            Answer::Factor(factor) => checksum_of_pattern(factor.l_pattern()),
+        }
+    }
+
+    /// Returns the number of places.
+    pub fn places(&self) -> usize {
+        match self {
+            Answer::Rows(matrix) => matrix.nnz(),
+            Answer::Dense(matrix) => matrix.as_slice().len(),
+            Answer::Factor(factor) => factor.l_pattern().nnz(),
+        }
+    }
+}

@@ -1,0 +1,37 @@
+-- What the words of a command say, and what a command writes.
+use Rattle.std.specs.Prelude.{◌≡◌, ◌<◌, ◌⊎◌, ℕ, List, [], ◌∷◌, length, codes, Option}
+use Rattle.nalgebra_sparse.specs.PostfixWords.{words_of, IsSaid}
+use Rattle.nalgebra_sparse.specs.Run.{Writes}
+use Rattle.sparse_expr.specs.declared.expr.Expr.{Expr}
+use Rattle.sparse_expr.specs.declared.calculator.Form.{Form}
+use Rattle.sparse_expr.specs.declared.calculator.Form.TheVariants.{Rows, Cols}
+use Rattle.mtx.specs.declared.cli.Failure.{Failure}
+use Rattle.mtx.specs.declared.cli.Failure.TheVariants as failure
+
+-- over some texts, one for each file, the text of the expression's value was appended
+pub record IsEvaluated (form : Form) (expression : List ℕ) (files : ℕ) (old new : Option (List ℕ)) : Type 0 where
+  pub sources : List (List ℕ)
+  pub expr : Expr
+  pub read : length sources ≡ files
+  pub said : IsSaid (words_of expression) expr
+  pub written : Writes form sources expr old new
+
+-- the words are this one, an expression and files, and the expression's value was written
+pub record IsCalculated (form : Form) (order : List ℕ) (words : List (List ℕ)) (old new : Option (List ℕ)) : Type 0 where
+  pub expression : List ℕ
+  pub paths : List (List ℕ)
+  pub split : words ≡ order ∷ (expression ∷ paths)
+  pub some : 0 < length paths
+  pub evaluated : IsEvaluated form expression (length paths) old new
+
+-- the words are `rows` or `cols` and what was calculated, or `fill` and a file
+abbrev pub IsAnswered : List (List ℕ) → Option (List ℕ) → Option (List ℕ) → Type 0
+IsAnswered words old new = IsCalculated Rows (codes "rows") words old new
+    ⊎ (IsCalculated Cols (codes "cols") words old new
+    ⊎ ((path : List ℕ) × (words ≡ codes "fill" ∷ (path ∷ []))))
+
+-- the exit status of a failure
+abbrev pub status_of : Failure → ℕ
+status_of failure.Usage = 2
+status_of failure.NotSquare = 1
+status_of (failure.Refused error) = 1

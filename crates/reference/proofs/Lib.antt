@@ -1,0 +1,2 @@
+mod Closures
+mod Reaching

@@ -1,0 +1,2 @@
+pub mod InnerClosure
+pub mod InnerPositions

@@ -1,0 +1,9 @@
+//! Slow, plain programs that compute what a definition says, for comparison in tests.
+//!
+//! The contract of each is the definition. No library uses this crate.
+#![tactic(auto)]
+
+pub mod fill;
+pub mod pattern_faults;
+pub mod products;
+pub mod sums;

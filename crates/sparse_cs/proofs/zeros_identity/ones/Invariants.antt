@@ -1,0 +1,6 @@
+use Rattle.std.proofs.Common.{◌≡◌, All, vec_len}
+use Rattle.sparse_cs.proofs.zeros_identity.ones.Given as goal
+
+abbrev pub invariant-loop : goal.invariant-loop
+invariant-loop g l =
+    (vec_len l.ones ≡ l.counter) × All (λ x. g.T.Ring.value x ≡ g.T.Ring.ring.one) l.ones.items

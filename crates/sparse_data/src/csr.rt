@@ -1,0 +1,67 @@
+//! CSR matrices as data.
+
+ghost use Rattle.std.specs.Prelude.{◌≡◌, IfOk, IfErr, IsOk, OnOk};
+ghost use Rattle.sparse_cs.specs.Compressed.{IsSound};
+ghost use Rattle.sparse_cs.specs.SortedFaults.{IsSortedRefusal};
+ghost use Rattle.sparse_data.specs.DataStructs.{csr_in};
+
+use crate::exchange::{ToData, TryFromData};
+use serde::{Deserialize, Serialize};
+use sparse_forms::csr::CsrMatrix;
+use sparse_pattern::error::SparseFormatError;
+use std::alloc::{AllocError, Global};
+
+/// The sizes and the arrays of a [`CsrMatrix`], unchecked.
+#[derive(Debug, Drop, PartialEq, Eq, Serialize, Deserialize)]
+#[serde(deny_unknown_fields)]
+pub struct CsrData<T> {
+    /// The number of rows.
+    pub nrows: usize,
+    /// The number of columns.
+    pub ncols: usize,
+    /// Where each row begins in the columns, and then their number.
+    pub row_offsets: Vec<usize>,
+    /// The columns of the stored places, row after row.
+    pub col_indices: Vec<usize>,
+    /// The values of the stored places, row after row.
+    pub values: Vec<T>,
+}
+
+impl<T: Drop> TryFromData for CsrMatrix<T> {
+    type Data = CsrData<T>;
+
+    type Refusal = SparseFormatError;
+
+    /// Returns the matrix of the data, or its first fault, as [`CsrMatrix::try_from_csr_data`] does.
+    fn try_from_data(source: CsrData<T>) -> Result<CsrMatrix<T>, SparseFormatError>
+        ensures ok { IfOk result (λ m. m ≡ csr_in source) }
+        ensures sound { OnOk result (IsSound (csr_in source)) }
+        ensures fault { IfErr result (IsSortedRefusal (csr_in source)) }
+        ensures taken { IsSound (csr_in source) → IsOk result }
+    {
+        CsrMatrix::try_from_csr_data(
+            source.nrows,
+            source.ncols,
+            source.row_offsets,
+            source.col_indices,
+            source.values,
+        )
+    }
+}
+
+impl<T: Copy> ToData for CsrMatrix<T> {
+    type Copied = CsrData<T>;
+
+    fn to_data(&self, alloc: Global) -> Result<CsrData<T>, AllocError>
+        ensures is { IfOk result (λ d. csr_in d ≡ self.now) }
+        ensures sound { IsSound self.now }
+    {
+        Ok(CsrData {
+            nrows: self.nrows(),
+            ncols: self.ncols(),
+            row_offsets: Vec::from_slice(alloc, self.row_offsets())?,
+            col_indices: Vec::from_slice(alloc, self.col_indices())?,
+            values: Vec::from_slice(alloc, self.values())?,
+        })
+    }
+}

@@ -1,0 +1,17 @@
+//! Data structs: patterns and matrices as plain arrays with public fields, which `serde` reads and writes.
+//!
+//! `TryFromData` makes a pattern or a matrix of such a struct through its checked constructor, and `ToData` copies one out.
+#![tactic(auto)]
+
+mod coo;
+mod csc;
+mod csr;
+mod exchange;
+pub mod laws;
+mod pattern;
+
+pub use coo::CooData;
+pub use csc::CscData;
+pub use csr::CsrData;
+pub use exchange::{ToData, TryFromData};
+pub use pattern::PatternData;

@@ -1,0 +1,6 @@
+-- The fill by its rules, which is the set of `Fill` once it is decided.
+use Rattle.std.specs.Prelude.{ℕ, ◌<◌, ◌≤◌}
+
+pub data Filled (base : ℕ → ℕ → Type 0) : ℕ → ℕ → Type 0 where
+  given : {i j : ℕ} → base i j → Filled base i j
+  fill : {i j k : ℕ} → Filled base i k → Filled base j k → k < j → j ≤ i → Filled base i j

@@ -1,0 +1,21 @@
+-- The rows of the fill, one after another, as lists of nodes in any order.
+use Rattle.std.specs.Prelude.{◌≡◌, ℕ, ◌+◌, ◌-◌, ◌<◌, ◌≤◌, ◌↔◌, List, length, slice_index}
+use Rattle.sparse_pattern.specs.Raw.{Raw, raw_of, start_of, end_of, IsInLane, IsPlace}
+
+-- offsets that rise from 0 to the number of indices, and indices in bounds, each once in its lane
+pub record AreRowLists (d : Raw) : Type 0 where
+  pub count : length d.offsets ≡ d.major_dim + 1
+  pub first : slice_index d.offsets 0 ≡ 0
+  pub last : slice_index d.offsets d.major_dim ≡ length d.indices
+  pub ordered : (i : ℕ) → i < d.major_dim → start_of d i ≤ end_of d i
+  pub bounded : (p : ℕ) → p < length d.indices → slice_index d.indices p < d.minor_dim
+  pub once : (i p q : ℕ) → IsInLane d i p → IsInLane d i q
+      → slice_index d.indices p ≡ slice_index d.indices q → p ≡ q
+
+-- lane i has the columns of row i
+abbrev pub StoresByRows : (ℕ → ℕ → Type 0) → Raw → Type 0
+StoresByRows set d = (i j : ℕ) → IsPlace d i j ↔ set i j
+
+-- the rows of a square pattern, as many as the offsets tell
+abbrev pub square_of : List ℕ → List ℕ → Raw
+square_of offsets nodes = raw_of (length offsets - 1) (length offsets - 1) offsets nodes

@@ -1,0 +1,6 @@
+pub mod Fill
+pub mod Walks
+pub mod Symbolic
+pub mod InnerFilled
+pub mod InnerClimbs
+pub mod InnerRowLists

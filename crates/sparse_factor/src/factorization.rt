@@ -1,0 +1,166 @@
+//! Symbolic factorisations.
+
+ghost use Rattle.std.specs.Prelude.{◌≡◌, ℕ, ◌+◌, ◌<◌, ◌≤◌, ◌↔◌, List, length, IfOk, OnOk, IsTrue};
+ghost use Rattle.sparse_pattern.specs.Raw.{Raw, IsValid, nnz_of, HasSamePlaces};
+ghost use Rattle.sparse_factor.specs.Fill.{InFill, UpperBase, StoresByColumns, ListsFill};
+ghost use Rattle.sparse_factor.specs.Walks.{StoresWalks, StoresDiagonal};
+
+use sparse_base::steps::Steps;
+use sparse_counting::Count;
+use sparse_pattern::pattern::SparsityPattern;
+use std::alloc::{AllocError, Global};
+use std::marker::Model;
+
+mod climbs;
+mod columns;
+
+use climbs::climb_rows;
+use columns::columns_of_rows;
+
+// The greatest number of columns for which the lists of the rows use 32-bit numbers.
+const MAX_32_BITS: usize = u32::MAX as usize;
+
+/// The symbolic Cholesky factorisation of a square pattern by columns: the pattern, and the pattern of its factor.
+///
+/// # Examples
+///
+/// ```rust
+/// fn a_factor_fills_in(alloc: Global) -> Result<bool, Fail> {
+///     let offsets = vec![in alloc; 0, 1, 3, 5]?;
+///     let indices = vec![in alloc; 0, 0, 1, 0, 2]?;
+///     let pattern = SparsityPattern::try_from_offsets_and_indices(3, 3, offsets, indices)?;
+///     let factor = CscSymbolicCholesky::factor(alloc, pattern)?;
+///     Ok(factor.l_pattern().minor_indices() == [0, 1, 2, 1, 2, 2].as_slice())
+/// }
+/// ```
+#[derive(Debug, Drop)]
+pub struct CscSymbolicCholesky {
+    pattern: SparsityPattern,
+    l_pattern: SparsityPattern,
+}
+
+impl Model for CscSymbolicCholesky {
+    ghost use Rattle.sparse_factor.specs.Symbolic.{Symbolic, symbolic_of};
+
+    ghost Value = { Symbolic };
+
+    ghost view = { λ s. symbolic_of s.pattern s.l_pattern };
+}
+
+impl CscSymbolicCholesky {
+    /// Returns the symbolic factorisation of a square pattern, read by columns.
+    ///
+    /// The pattern of the factor is the fill of the upper triangle: the least set that has (c, r) for each stored row r of column c with
+    /// `r <= c`, and that, with (i, k) and (j, k) where `k < j` and `j <= i`, has (i, j). Entries below the diagonal are ignored. The
+    /// pattern need not be symmetric and need not store its diagonal. `pattern.major_dim()` must equal `pattern.minor_dim()`.
+    ///
+    /// Each row climbs the elimination tree from its entries (Liu, "The role of elimination trees in sparse factorization", 1990), and the
+    /// tree grows in the climbs. Takes time for each place of the pattern and of the factor, and scratch memory for one number a place of the
+    /// factor and four a column. Fails only if an allocation fails.
+    pub fn factor(alloc: Global, pattern: SparsityPattern) -> Result<Self, AllocError>
+        requires square { pattern.major_dim ≡ pattern.minor_dim }
+        ensures input { IfOk result (λ s. s.input ≡ pattern) }
+        ensures rows { IfOk result (λ s. s.factor.minor_dim ≡ pattern.minor_dim) }
+        ensures columns { IfOk result (λ s. s.factor.major_dim ≡ pattern.major_dim) }
+        ensures fill { IfOk result (λ s. StoresByColumns (InFill (UpperBase pattern)) s.factor) }
+        ensures walks { IfOk result (λ s. StoresWalks (UpperBase pattern) s.factor) }
+        ensures diagonal { IfOk result (λ s. StoresDiagonal (UpperBase pattern) s.factor) }
+        ensures valid { IfOk result (λ s. IsValid s.factor) }
+    {
+        Self::factor_counted(alloc, pattern, &mut Steps::new())
+    }
+
+    /// Returns what [`CscSymbolicCholesky::factor`] returns, and counts its steps: one for each place of the pattern that is read, and one
+    /// for each place of the factor that a climb comes to.
+    ///
+    /// The count grows by at most the number of places of the pattern and of the factor, also if an allocation fails. Fails only then.
+    pub fn factor_counted(
+        alloc: Global,
+        pattern: SparsityPattern,
+        steps: &mut Steps,
+    ) -> Result<Self, AllocError>
+        requires square { pattern.major_dim ≡ pattern.minor_dim }
+        ensures input { IfOk result (λ s. s.input ≡ pattern) }
+        ensures rows { IfOk result (λ s. s.factor.minor_dim ≡ pattern.minor_dim) }
+        ensures columns { IfOk result (λ s. s.factor.major_dim ≡ pattern.major_dim) }
+        ensures fill { IfOk result (λ s. StoresByColumns (InFill (UpperBase pattern)) s.factor) }
+        ensures walks { IfOk result (λ s. StoresWalks (UpperBase pattern) s.factor) }
+        ensures diagonal { IfOk result (λ s. StoresDiagonal (UpperBase pattern) s.factor) }
+        ensures valid { IfOk result (λ s. IsValid s.factor) }
+        ensures all_read { OnOk result (steps.old + nnz_of pattern ≤ steps.new) }
+        ensures no_more { (fill : List (ℕ × ℕ)) → ListsFill (UpperBase pattern) fill
+            → steps.new ≤ steps.old + nnz_of pattern + length fill }
+    {
+        let l_pattern = if MAX_32_BITS < pattern.major_dim() {
+            fill_of::<usize>(alloc, &pattern, steps)?
+        } else {
+            fill_of::<u32>(alloc, &pattern, steps)?
+        };
+        Ok(CscSymbolicCholesky { pattern, l_pattern })
+    }
+
+    /// Returns the pattern of the factor, by columns.
+    pub fn l_pattern(&self) -> &SparsityPattern
+        ensures { result.now ≡ self.now.factor }
+    {
+        &self.l_pattern
+    }
+
+    /// Returns a copy with the same pattern and the same factor. Fails only if an allocation fails.
+    pub fn clone(&self, alloc: Global) -> Result<Self, AllocError>
+        ensures { IfOk result (λ s. s ≡ self.now) }
+    {
+        Ok(CscSymbolicCholesky {
+            pattern: self.pattern.clone(alloc)?,
+            l_pattern: self.l_pattern.clone(alloc)?,
+        })
+    }
+}
+
+// Returns the pattern of the factor, by numbers that hold the size.
+fn fill_of<C: Count>(
+    alloc: Global,
+    pattern: &SparsityPattern,
+    steps: &mut Steps,
+) -> Result<SparsityPattern, AllocError>
+    requires square { pattern.now.major_dim ≡ pattern.now.minor_dim }
+    requires width { pattern.now.major_dim < C.limit }
+    ensures rows { IfOk result (λ l. l.minor_dim ≡ pattern.now.minor_dim) }
+    ensures columns { IfOk result (λ l. l.major_dim ≡ pattern.now.major_dim) }
+    ensures fill { IfOk result (StoresByColumns (InFill (UpperBase pattern.now))) }
+    ensures walks { IfOk result (StoresWalks (UpperBase pattern.now)) }
+    ensures diagonal { IfOk result (StoresDiagonal (UpperBase pattern.now)) }
+    ensures valid { IfOk result IsValid }
+    ensures all_read { OnOk result (steps.old + nnz_of pattern.now ≤ steps.new) }
+    ensures no_more { (fill : List (ℕ × ℕ)) → ListsFill (UpperBase pattern.now) fill
+        → steps.new ≤ steps.old + nnz_of pattern.now + length fill }
+{
+    let (offsets, nodes, counts) = climb_rows::<C>(alloc, pattern, steps)?;
+    let l_pattern = columns_of_rows(alloc, &offsets, &nodes, counts)?;
+    Ok(l_pattern)
+}
+
+impl PartialEq for CscSymbolicCholesky {
+    ghost use Rattle.std.specs.Cmp.Rules.{comparing};
+    ghost use Rattle.std.proofs.Common.{rules};
+    ghost use Rattle.sparse_factor.specs.Symbolic.{symbolic_eq};
+
+    ghost eq = { symbolic_eq };
+
+    ghost laws = { Prim.search (comparing, rules) };
+
+    fn eq(&self, other: &Self) -> bool
+        ensures value { result ≡ symbolic_eq self.now other.now }
+        ensures places { IsTrue result ↔ (HasSamePlaces self.now.input other.now.input
+            × HasSamePlaces self.now.factor other.now.factor) }
+    {
+        self.pattern == other.pattern && self.l_pattern == other.l_pattern
+    }
+}
+
+impl Eq for CscSymbolicCholesky {
+    ghost use Rattle.std.specs.Cmp.Rules.{comparing};
+    ghost use Rattle.std.proofs.Common.{rules};
+
+    ghost laws = { Prim.search (comparing, rules) };
+}

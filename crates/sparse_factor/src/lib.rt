@@ -1,0 +1,4 @@
+//! The symbolic Cholesky factor: the pattern that a factor of a sparse matrix has.
+#![tactic(auto)]
+
+pub mod factorization;

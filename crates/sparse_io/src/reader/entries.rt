@@ -1,0 +1,208 @@
+//! The data lines, one after another.
+
+ghost use Rattle.std.specs.Prelude.{◌≡◌, ◌&&◌, [], ◌∷◌, false, IsTrue, IfOk, MatchOption, map};
+ghost use Rattle.std.specs.List.{list_all};
+ghost use Rattle.sparse_base.specs.Coo.{appended};
+ghost use Rattle.sparse_parser.specs.Grammar.{is_entry};
+ghost use Rattle.sparse_parser.specs.Reads.{read_as};
+ghost use Rattle.sparse_parser.specs.Meaning.{is_count, is_inside, listed_of, values_of, value_triplet};
+ghost use Rattle.sparse_parser.specs.InnerReading.{Gives, line_words, contents_of, among_entries};
+ghost use Rattle.sparse_io.specs.InnerEntries.{both_of, ended_of, IsMeant};
+
+use crate::reader::entry::{Triplet, Triplets, triplets};
+use crate::reader::settled;
+use crate::scalar::MatrixMarketScalar;
+use sparse_base::coo::CooMatrix;
+use sparse_parser::data_lines::{data_line, entry_line, place_line, value_line};
+use sparse_parser::error::{Cause, MatrixMarketError};
+use sparse_parser::header::{Field, Format, Header, Symmetry};
+use sparse_parser::lines::next_line;
+use sparse_parser::places::Places;
+use sparse_parser::size::Size;
+use sparse_pattern::error::{SparseFormatError, SparseFormatErrorKind};
+use std::alloc::{AllocError, Global};
+
+/// Whether the triplets read so far lie inside the sizes, and whether their rows do.
+#[derive(Clone, Copy)]
+pub struct Bounds {
+    inside: bool,
+    rows: bool,
+}
+
+/// Returns the matrix of the data lines below a size line.
+pub fn entries<T: MatrixMarketScalar>(
+    alloc: Global,
+    header: Header,
+    size: Size,
+    text: &[u8],
+) -> Result<CooMatrix<T>, MatrixMarketError>
+    ensures { Gives T.scalar T.value result (among_entries (contents_of text.now)
+        (listed_of T.scalar header (size.rows, size.cols, size.count) (contents_of text.now))) }
+{
+    let mut matrix = CooMatrix::new(alloc, size.rows, size.cols);
+    matrix.reserve(room(header, size.count, text.len()))?;
+    let mut places = Places::new(header.format, header.symmetry, size.rows, size.cols);
+    let mut rest = next_line(text);
+    let mut read = 0;
+    let mut bounds = Bounds {
+        inside: true,
+        rows: true,
+    };
+    while !rest.is_empty() {
+        let Some((found, after)) = line_triplets(header, places.take_first(), rest) else {
+            return Err(MatrixMarketError::new(Cause::Grammar));
+        };
+        read += 1;
+        match found {
+            Err(fault) => return Err(settled(fault, read, size.count, after)),
+            Ok(found) => bounds = add_all(&mut matrix, bounds, found)?,
+        }
+        rest = next_line(after);
+    }
+    finished(matrix, is_count(size.count, read), bounds)
+}
+
+// The triplets of the line at the front of a text, and what stands after it, or nothing where it is no data line.
+#[inline(always)]
+fn line_triplets<T: MatrixMarketScalar>(
+    header: Header,
+    at: Option<(usize, usize)>,
+    text: &[u8],
+) -> Option<(Result<Triplets<T>, MatrixMarketError>, &[u8])>
+    ensures { MatchOption result (is_entry (line_words text.now) ≡ false) (λ x. IsMeant T.scalar header at text.now
+        (read_as (λ t. map (λ t. value_triplet T.value t) (both_of t)) x.0) x.1.now) }
+{
+    match (header.format, header.field) {
+        (Format::Coordinate, Field::Integer) => {
+            if let Some((line, after)) = entry_line(text) {
+                return Some((triplets(header, at, line), after));
+            }
+        }
+        (Format::Coordinate, Field::Pattern) => {
+            if let Some((line, after)) = place_line(text) {
+                return Some((triplets(header, at, line), after));
+            }
+        }
+        (Format::Array, Field::Integer) => {
+            if let Some((line, after)) = value_line(text) {
+                return Some((triplets(header, at, line), after));
+            }
+        }
+        _ => {}
+    }
+    general_triplets(header, at, text)
+}
+
+// The same, of a line of any shape.
+#[inline(never)]
+fn general_triplets<T: MatrixMarketScalar>(
+    header: Header,
+    at: Option<(usize, usize)>,
+    text: &[u8],
+) -> Option<(Result<Triplets<T>, MatrixMarketError>, &[u8])>
+    ensures { MatchOption result (is_entry (line_words text.now) ≡ false) (λ x. IsMeant T.scalar header at text.now
+        (read_as (λ t. map (λ t. value_triplet T.value t) (both_of t)) x.0) x.1.now) }
+{
+    let (line, after) = data_line(text)?;
+    Some((triplets(header, at, line), after))
+}
+
+// The matrix, where its data lines are as many as they should be and its triplets lie inside the sizes.
+fn finished<T: MatrixMarketScalar>(
+    matrix: CooMatrix<T>,
+    complete: bool,
+    bounds: Bounds,
+) -> Result<CooMatrix<T>, MatrixMarketError>
+    ensures { read_as (λ m. values_of T.value m) result
+        ≡ ended_of complete bounds.inside (values_of T.value matrix) }
+{
+    if !complete {
+        return Err(MatrixMarketError::new(Cause::EntryCount));
+    }
+    if bounds.inside {
+        return Ok(matrix);
+    }
+    let text = if bounds.rows {
+        "Col index out of bounds."
+    } else {
+        "Row index out of bounds."
+    };
+    Err(SparseFormatError::new(SparseFormatErrorKind::IndexOutOfBounds, text).into())
+}
+
+fn is_count(count: Option<usize>, lines: usize) -> bool
+    ensures { result ≡ is_count count lines }
+{
+    match count {
+        Some(count) => lines == count,
+        None => false,
+    }
+}
+
+// How many triplets to make room for: those of the size line, unless the text is too short for them.
+fn room(header: Header, count: Option<usize>, len: usize) -> usize {
+    let shortest = match (header.format, header.field) {
+        (Format::Array, _) => 2,
+        (Format::Coordinate, Field::Pattern) => 4,
+        (Format::Coordinate, _) => 6,
+    };
+    let lines = match count {
+        Some(count) if count / 2 <= len / shortest => count,
+        _ => 0,
+    };
+    match (header.field, header.symmetry) {
+        (Field::Real | Field::Complex, _) => 0,
+        (_, Symmetry::General) => lines,
+        _ => lines.saturating_mul(2),
+    }
+}
+
+// Adds an entry and the one that it implies, unless one of them or one before lies outside the sizes.
+#[inline(always)]
+fn add_all<T: MatrixMarketScalar>(
+    matrix: &mut CooMatrix<T>,
+    bounds: Bounds,
+    found: Triplets<T>,
+) -> Result<Bounds, AllocError>
+    ensures inside { IfOk result (λ b. b.inside ≡ (bounds.inside
+        && list_all (is_inside T.scalar matrix.old.nrows matrix.old.ncols)
+        (map (λ t. value_triplet T.value t) (both_of found)))) }
+    ensures added { IfOk result (λ b. IsTrue b.inside
+        → values_of T.value matrix.new
+        ≡ appended (values_of T.value matrix.old) (map (λ t. value_triplet T.value t) (both_of found))) }
+    ensures rows { matrix.new.nrows ≡ matrix.old.nrows }
+    ensures cols { matrix.new.ncols ≡ matrix.old.ncols }
+{
+    let (first, second) = found;
+    let bounds = add(matrix, bounds, first)?;
+    match second {
+        None => Ok(bounds),
+        Some(second) => add(matrix, bounds, second),
+    }
+}
+
+#[inline(always)]
+fn add<T: MatrixMarketScalar>(
+    matrix: &mut CooMatrix<T>,
+    bounds: Bounds,
+    triplet: Triplet<T>,
+) -> Result<Bounds, AllocError>
+    ensures inside { IfOk result (λ b. b.inside ≡ (bounds.inside
+        && is_inside T.scalar matrix.old.nrows matrix.old.ncols (value_triplet T.value triplet))) }
+    ensures added { IfOk result (λ b. IsTrue b.inside
+        → values_of T.value matrix.new
+        ≡ appended (values_of T.value matrix.old) (value_triplet T.value triplet ∷ [])) }
+    ensures rows { matrix.new.nrows ≡ matrix.old.nrows }
+    ensures cols { matrix.new.ncols ≡ matrix.old.ncols }
+{
+    let (row, col, value) = triplet;
+    let in_rows = row < matrix.nrows();
+    if !bounds.inside || !in_rows || col >= matrix.ncols() {
+        return Ok(Bounds {
+            inside: false,
+            rows: bounds.rows && in_rows,
+        });
+    }
+    matrix.push(row, col, value)?;
+    Ok(bounds)
+}

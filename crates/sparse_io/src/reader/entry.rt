@@ -1,0 +1,159 @@
+//! What a data line means.
+
+ghost use Rattle.std.specs.Prelude.{◌≡◌, [], ◌∷◌, ℕ, Option, None, true, IsTrue, map, Ok};
+ghost use Rattle.sparse_parser.specs.declared.header.Format.TheVariants.{Coordinate, Array};
+ghost use Rattle.sparse_parser.specs.declared.header.Field.TheVariants.{Integer};
+ghost use Rattle.sparse_parser.specs.Reads.{read_as};
+ghost use Rattle.sparse_parser.specs.Meaning.{number_of, place_of, value_of, entry_of, mirrored, triplets_of, value_triplet};
+ghost use Rattle.sparse_parser.specs.InnerReading.{found};
+ghost use Rattle.sparse_parser.specs.InnerLines.{is_plain, IsNumber, AreNumbers, words_in};
+ghost use Rattle.sparse_io.specs.InnerEntries.{both_of};
+
+use crate::scalar::MatrixMarketScalar;
+use sparse_parser::data_lines::{Line, Number};
+use sparse_parser::error::{Cause, MatrixMarketError};
+use sparse_parser::header::{Field, Format, Header, Symmetry};
+
+/// A row and a column, counted from 0, and a value.
+pub type Triplet<T> = (usize, usize, T);
+
+/// An entry, and the one that the symmetry implies.
+pub type Triplets<T> = (Triplet<T>, Option<Triplet<T>>);
+
+/// Returns the triplets of a data line; an array's entry stands at the given place.
+#[tactic(auto, unfolding(sparse_parser::specs::Meaning::triplets_of))]
+#[inline(always)]
+pub fn triplets<T: MatrixMarketScalar>(
+    header: Header,
+    at: Option<(usize, usize)>,
+    line: Line<'_>,
+) -> Result<Triplets<T>, MatrixMarketError>
+    requires { AreNumbers line }
+    ensures { read_as (λ t. map (λ t. value_triplet T.value t) (both_of t)) result
+        ≡ triplets_of T.scalar header at (words_in line.entry) }
+{
+    let entry = match header.format {
+        Format::Coordinate => coordinate_entry(header.field, line)?,
+        Format::Array => array_entry(header.field, at, line)?,
+    };
+    with_mirrored(header.symmetry, entry)
+}
+
+// The entry of a coordinate line.
+#[tactic(auto, unfolding(sparse_parser::specs::Meaning::entry_of, sparse_parser::specs::Meaning::value_of))]
+#[inline(always)]
+fn coordinate_entry<T: MatrixMarketScalar>(
+    field: Field,
+    line: Line<'_>,
+) -> Result<Triplet<T>, MatrixMarketError>
+    requires { AreNumbers line }
+    ensures { (at : Option (ℕ × ℕ)) → read_as (λ t. value_triplet T.value t) result
+        ≡ entry_of T.scalar Coordinate field at (words_in line.entry) }
+{
+    match (field, line) {
+        (Field::Pattern, Line::Two(row, col)) if row.is_index() && col.is_index() => {
+            let (row, col) = place(row, col)?;
+            Ok((row, col, T::from_pattern(())?))
+        }
+        (Field::Integer, Line::Three(row, col, value)) => {
+            let (row, col) = place(row, col)?;
+            Ok((row, col, integer_value(value)?))
+        }
+        (Field::Real, Line::Three(row, col, _)) => {
+            place(row, col)?;
+            Err(MatrixMarketError::new(Cause::RealEntry))
+        }
+        (Field::Complex, Line::Four(row, col, _, _)) => {
+            place(row, col)?;
+            Err(MatrixMarketError::new(Cause::ComplexEntry))
+        }
+        _ => Err(MatrixMarketError::new(Cause::EntryShape)),
+    }
+}
+
+// The entry of an array at its place.
+#[tactic(auto, unfolding(sparse_parser::specs::Meaning::entry_of, sparse_parser::specs::Meaning::value_of))]
+#[inline(always)]
+fn array_entry<T: MatrixMarketScalar>(
+    field: Field,
+    at: Option<(usize, usize)>,
+    line: Line<'_>,
+) -> Result<Triplet<T>, MatrixMarketError>
+    requires { AreNumbers line }
+    ensures { read_as (λ t. value_triplet T.value t) result
+        ≡ entry_of T.scalar Array field at (words_in line.entry) }
+{
+    let Some((row, col)) = at else {
+        return Err(MatrixMarketError::new(Cause::EntryShape));
+    };
+    match (field, line) {
+        (Field::Integer, Line::One(value)) => Ok((row, col, integer_value(value)?)),
+        (Field::Real, Line::One(_)) => Err(MatrixMarketError::new(Cause::RealEntry)),
+        (Field::Complex, Line::Two(_, _)) => Err(MatrixMarketError::new(Cause::ComplexEntry)),
+        _ => Err(MatrixMarketError::new(Cause::EntryShape)),
+    }
+}
+
+// The place of a row and a column counted from 1.
+#[tactic(auto, unfolding(sparse_parser::specs::Meaning::place_of))]
+#[inline(always)]
+fn place(row: Number<'_>, col: Number<'_>) -> Result<(usize, usize), Cause>
+    requires row_is { IsNumber row }
+    requires col_is { IsNumber col }
+    requires row_index { is_plain row.kind ≡ true }
+    requires col_index { is_plain col.kind ≡ true }
+    ensures { found result
+        ≡ place_of (number_of row.entry.word.now) (number_of col.entry.word.now) }
+{
+    let row = row.index()?;
+    let col = col.index()?;
+    if row == 0 || col == 0 {
+        return Err(Cause::ZeroIndex);
+    }
+    Ok((row - 1, col - 1))
+}
+
+// The value that an integer entry gives.
+#[tactic(auto, unfolding(sparse_parser::specs::Meaning::value_of))]
+#[inline(always)]
+fn integer_value<T: MatrixMarketScalar>(number: Number<'_>) -> Result<T, MatrixMarketError>
+    requires { IsNumber number }
+    ensures { read_as (λ x. T.value x) result
+        ≡ value_of T.scalar Integer (number.entry.word.now ∷ []) }
+{
+    T::from_i128(number.integer()?)
+}
+
+// An entry with the one that the symmetry implies.
+#[tactic(auto, unfolding(sparse_parser::specs::Meaning::mirrored))]
+#[inline(always)]
+fn with_mirrored<T: MatrixMarketScalar>(
+    symmetry: Symmetry,
+    entry: Triplet<T>,
+) -> Result<Triplets<T>, MatrixMarketError>
+    ensures { read_as (λ t. map (λ t. value_triplet T.value t) (both_of t)) result
+        ≡ mirrored T.scalar symmetry (value_triplet T.value entry) }
+{
+    let (row, col, value) = entry;
+    match symmetry {
+        Symmetry::General => Ok((entry, None)),
+        Symmetry::SkewSymmetric => {
+            if row < col {
+                return Err(MatrixMarketError::new(Cause::AboveDiagonal));
+            }
+            if row == col {
+                return Err(MatrixMarketError::new(Cause::OnDiagonal));
+            }
+            Ok((entry, Some((col, row, value.negative()?))))
+        }
+        Symmetry::Symmetric | Symmetry::Hermitian => {
+            if row < col {
+                return Err(MatrixMarketError::new(Cause::AboveDiagonal));
+            }
+            if row == col {
+                return Ok((entry, None));
+            }
+            Ok((entry, Some((col, row, value))))
+        }
+    }
+}

@@ -1,0 +1,201 @@
+//! Plain integers, of which the least has no negative.
+
+ghost use Rattle.std.specs.Int.{w8, w16, w32, w64, w128};
+ghost use Rattle.sparse_io.specs.ScalarTypes.{signed_scalar};
+
+use crate::scalar::MatrixMarketScalar;
+use itoa::Buffer;
+use sparse_parser::error::{Cause, MatrixMarketError};
+use std::alloc::AllocError;
+
+impl MatrixMarketScalar for i8 {
+    ghost scalar = { signed_scalar w8 };
+
+    ghost value = { λ x. x };
+
+    fn from_i128(number: i128) -> Result<i8, MatrixMarketError> {
+        match i8::try_from(number) {
+            Ok(number) => Ok(number),
+            Err(_) => Err(MatrixMarketError::new(Cause::ValueOutOfRange)),
+        }
+    }
+
+    fn from_pattern(_pattern: ()) -> Result<i8, MatrixMarketError> {
+        Err(MatrixMarketError::new(Cause::NothingAsInteger))
+    }
+
+    fn negative(self) -> Result<i8, MatrixMarketError> {
+        match self.checked_neg() {
+            Some(negative) => Ok(negative),
+            None => Err(MatrixMarketError::new(Cause::ValueOutOfRange)),
+        }
+    }
+
+    fn conjugate(self) -> Result<i8, MatrixMarketError> {
+        Err(MatrixMarketError::new(Cause::IntegerConjugate))
+    }
+
+    fn typename() -> &'static str {
+        "integer"
+    }
+
+    fn write_matrix_market(&self, out: &mut String) -> Result<(), AllocError> {
+        let mut digits = Buffer::new();
+        out.push_str(digits.format(*self))
+    }
+
+    fn in_range(self) {}
+}
+
+impl MatrixMarketScalar for i16 {
+    ghost scalar = { signed_scalar w16 };
+
+    ghost value = { λ x. x };
+
+    fn from_i128(number: i128) -> Result<i16, MatrixMarketError> {
+        match i16::try_from(number) {
+            Ok(number) => Ok(number),
+            Err(_) => Err(MatrixMarketError::new(Cause::ValueOutOfRange)),
+        }
+    }
+
+    fn from_pattern(_pattern: ()) -> Result<i16, MatrixMarketError> {
+        Err(MatrixMarketError::new(Cause::NothingAsInteger))
+    }
+
+    fn negative(self) -> Result<i16, MatrixMarketError> {
+        match self.checked_neg() {
+            Some(negative) => Ok(negative),
+            None => Err(MatrixMarketError::new(Cause::ValueOutOfRange)),
+        }
+    }
+
+    fn conjugate(self) -> Result<i16, MatrixMarketError> {
+        Err(MatrixMarketError::new(Cause::IntegerConjugate))
+    }
+
+    fn typename() -> &'static str {
+        "integer"
+    }
+
+    fn write_matrix_market(&self, out: &mut String) -> Result<(), AllocError> {
+        let mut digits = Buffer::new();
+        out.push_str(digits.format(*self))
+    }
+
+    fn in_range(self) {}
+}
+
+impl MatrixMarketScalar for i32 {
+    ghost scalar = { signed_scalar w32 };
+
+    ghost value = { λ x. x };
+
+    fn from_i128(number: i128) -> Result<i32, MatrixMarketError> {
+        match i32::try_from(number) {
+            Ok(number) => Ok(number),
+            Err(_) => Err(MatrixMarketError::new(Cause::ValueOutOfRange)),
+        }
+    }
+
+    fn from_pattern(_pattern: ()) -> Result<i32, MatrixMarketError> {
+        Err(MatrixMarketError::new(Cause::NothingAsInteger))
+    }
+
+    fn negative(self) -> Result<i32, MatrixMarketError> {
+        match self.checked_neg() {
+            Some(negative) => Ok(negative),
+            None => Err(MatrixMarketError::new(Cause::ValueOutOfRange)),
+        }
+    }
+
+    fn conjugate(self) -> Result<i32, MatrixMarketError> {
+        Err(MatrixMarketError::new(Cause::IntegerConjugate))
+    }
+
+    fn typename() -> &'static str {
+        "integer"
+    }
+
+    fn write_matrix_market(&self, out: &mut String) -> Result<(), AllocError> {
+        let mut digits = Buffer::new();
+        out.push_str(digits.format(*self))
+    }
+
+    fn in_range(self) {}
+}
+
+impl MatrixMarketScalar for i64 {
+    ghost scalar = { signed_scalar w64 };
+
+    ghost value = { λ x. x };
+
+    fn from_i128(number: i128) -> Result<i64, MatrixMarketError> {
+        match i64::try_from(number) {
+            Ok(number) => Ok(number),
+            Err(_) => Err(MatrixMarketError::new(Cause::ValueOutOfRange)),
+        }
+    }
+
+    fn from_pattern(_pattern: ()) -> Result<i64, MatrixMarketError> {
+        Err(MatrixMarketError::new(Cause::NothingAsInteger))
+    }
+
+    fn negative(self) -> Result<i64, MatrixMarketError> {
+        match self.checked_neg() {
+            Some(negative) => Ok(negative),
+            None => Err(MatrixMarketError::new(Cause::ValueOutOfRange)),
+        }
+    }
+
+    fn conjugate(self) -> Result<i64, MatrixMarketError> {
+        Err(MatrixMarketError::new(Cause::IntegerConjugate))
+    }
+
+    fn typename() -> &'static str {
+        "integer"
+    }
+
+    fn write_matrix_market(&self, out: &mut String) -> Result<(), AllocError> {
+        let mut digits = Buffer::new();
+        out.push_str(digits.format(*self))
+    }
+
+    fn in_range(self) {}
+}
+
+impl MatrixMarketScalar for i128 {
+    ghost scalar = { signed_scalar w128 };
+
+    ghost value = { λ x. x };
+
+    fn from_i128(number: i128) -> Result<i128, MatrixMarketError> {
+        Ok(number)
+    }
+
+    fn from_pattern(_pattern: ()) -> Result<i128, MatrixMarketError> {
+        Err(MatrixMarketError::new(Cause::NothingAsInteger))
+    }
+
+    fn negative(self) -> Result<i128, MatrixMarketError> {
+        match self.checked_neg() {
+            Some(negative) => Ok(negative),
+            None => Err(MatrixMarketError::new(Cause::ValueOutOfRange)),
+        }
+    }
+
+    fn conjugate(self) -> Result<i128, MatrixMarketError> {
+        Err(MatrixMarketError::new(Cause::IntegerConjugate))
+    }
+
+    fn typename() -> &'static str {
+        "integer"
+    }
+
+    fn write_matrix_market(&self, out: &mut String) -> Result<(), AllocError> {
+        let mut digits = Buffer::new();
+        out.push_str(digits.format(*self))
+    }
+
+    fn in_range(self) {}
+}

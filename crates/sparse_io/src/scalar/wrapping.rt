@@ -1,0 +1,118 @@
+//! Wrapping integers, in signed form.
+
+ghost use Rattle.std.specs.Int.{w32, w64, w128};
+ghost use Rattle.sparse_algebra.specs.Numbers.{w32_number, w64_number};
+ghost use Rattle.sparse_units.specs.WrappingValues.{w128_number};
+ghost use Rattle.sparse_io.specs.ScalarTypes.{wrapping_scalar};
+
+use crate::scalar::MatrixMarketScalar;
+use itoa::Buffer;
+use sparse_algebra::scalar::{W32, W64};
+use sparse_parser::error::{Cause, MatrixMarketError};
+use sparse_units::W128;
+use std::alloc::AllocError;
+
+impl MatrixMarketScalar for W32 {
+    ghost scalar = { wrapping_scalar w32 };
+
+    ghost value = { w32_number };
+
+    fn from_i128(number: i128) -> Result<W32, MatrixMarketError> {
+        match i32::try_from(number) {
+            Ok(number) => Ok(W32::new(number)),
+            Err(_) => Err(MatrixMarketError::new(Cause::ValueOutOfRange)),
+        }
+    }
+
+    fn from_pattern(_pattern: ()) -> Result<W32, MatrixMarketError> {
+        Err(MatrixMarketError::new(Cause::NothingAsInteger))
+    }
+
+    fn negative(self) -> Result<W32, MatrixMarketError> {
+        Ok(W32::new(self.get().wrapping_neg()))
+    }
+
+    fn conjugate(self) -> Result<W32, MatrixMarketError> {
+        Err(MatrixMarketError::new(Cause::IntegerConjugate))
+    }
+
+    fn typename() -> &'static str {
+        "integer"
+    }
+
+    fn write_matrix_market(&self, out: &mut String) -> Result<(), AllocError> {
+        let mut digits = Buffer::new();
+        out.push_str(digits.format(self.get()))
+    }
+
+    fn in_range(self) {}
+}
+
+impl MatrixMarketScalar for W64 {
+    ghost scalar = { wrapping_scalar w64 };
+
+    ghost value = { w64_number };
+
+    fn from_i128(number: i128) -> Result<W64, MatrixMarketError> {
+        match i64::try_from(number) {
+            Ok(number) => Ok(W64::new(number)),
+            Err(_) => Err(MatrixMarketError::new(Cause::ValueOutOfRange)),
+        }
+    }
+
+    fn from_pattern(_pattern: ()) -> Result<W64, MatrixMarketError> {
+        Err(MatrixMarketError::new(Cause::NothingAsInteger))
+    }
+
+    fn negative(self) -> Result<W64, MatrixMarketError> {
+        Ok(W64::new(self.get().wrapping_neg()))
+    }
+
+    fn conjugate(self) -> Result<W64, MatrixMarketError> {
+        Err(MatrixMarketError::new(Cause::IntegerConjugate))
+    }
+
+    fn typename() -> &'static str {
+        "integer"
+    }
+
+    fn write_matrix_market(&self, out: &mut String) -> Result<(), AllocError> {
+        let mut digits = Buffer::new();
+        out.push_str(digits.format(self.get()))
+    }
+
+    fn in_range(self) {}
+}
+
+impl MatrixMarketScalar for W128 {
+    ghost scalar = { wrapping_scalar w128 };
+
+    ghost value = { w128_number };
+
+    fn from_i128(number: i128) -> Result<W128, MatrixMarketError> {
+        Ok(W128::new(number))
+    }
+
+    fn from_pattern(_pattern: ()) -> Result<W128, MatrixMarketError> {
+        Err(MatrixMarketError::new(Cause::NothingAsInteger))
+    }
+
+    fn negative(self) -> Result<W128, MatrixMarketError> {
+        Ok(W128::new(self.get().wrapping_neg()))
+    }
+
+    fn conjugate(self) -> Result<W128, MatrixMarketError> {
+        Err(MatrixMarketError::new(Cause::IntegerConjugate))
+    }
+
+    fn typename() -> &'static str {
+        "integer"
+    }
+
+    fn write_matrix_market(&self, out: &mut String) -> Result<(), AllocError> {
+        let mut digits = Buffer::new();
+        out.push_str(digits.format(self.get()))
+    }
+
+    fn in_range(self) {}
+}

@@ -1,0 +1,17 @@
+-- Equations of what an answer gives at Ok, and the equations of plain matrices that they rest on.
+use Rattle.std.proofs.Common.{◌≡◌, ap, sym, ◌∙◌, refl}
+use Rattle.std.specs.Prelude.{Result, Ok, Err, IfOk}
+use Rattle.sparse_algebra.specs.Algebra.{CommRing}
+use Rattle.sparse_algebra.specs.Plain.{Plain, plain_negation}
+use Rattle.sparse_algebra.proofs.PlainLemmas.{same_plain}
+use Rattle.sparse_algebra.proofs.RingLemmas.{neg_unique}
+
+-- what is equal to one thing is equal to another
+pub ok_further : {X Y E : Type 0} (f : X → Y) (r : Result X E) (y z : Y) → y ≡ z
+    → IfOk r (λ x. f x ≡ y) → IfOk r (λ x. f x ≡ z)
+ok_further f (Ok x) y z e h = h ∙ e
+ok_further f (Err x) y z e h = tt
+
+pub negation_twice : (R : CommRing) (a : Plain R) → plain_negation R (plain_negation R a) ≡ a
+negation_twice R a = same_plain (plain_negation R (plain_negation R a)) a refl refl (λ i j. refl)
+    (λ i j. sym (neg_unique R (R.neg (a.value i j)) (a.value i j) (R.laws.add_comm (R.neg (a.value i j)) (a.value i j) ∙ R.laws.add_neg (a.value i j))))

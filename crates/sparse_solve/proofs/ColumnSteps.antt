@@ -1,0 +1,55 @@
+-- One column of a substitution over lists.
+use Rattle.std.proofs.Common.{◌≡◌, ℕ, ◌+◌, ◌<◌, ◌≤◌, Bool, true, false, ◌&&◌, List, length, get_or, set, ap, sym, ◌∙◌, refl, arith, add-one, get_or-set_same, get_or-set_other}
+use Rattle.std.specs.Prelude.{nat_le}
+use Rattle.std.proofs.lemmas.Bool.Decides.{nat_tests}
+use Rattle.sparse_algebra.specs.Algebra.{CommRing}
+use Rattle.sparse_algebra.specs.Sums.{sum_below, where_true}
+use Rattle.sparse_algebra.specs.Plain.{Plain, IsProper}
+use Rattle.sparse_cs.specs.InnerRows.{lane_value}
+use Rattle.sparse_cs.proofs.LaneValues.{product_by_lane}
+use Rattle.sparse_solve.specs.Solutions.{plain_lower}
+use Rattle.sparse_solve.specs.InnerColumns.{IsColumnBelow, dot_of, entries}
+use Rattle.sparse_solve.proofs.Substitutions.{IsLower, IsBackward, backward_step}
+
+module _ (R : CommRing) (a : Plain R) where
+  by_test : (b c : Bool) (v : R.Carrier) → c ≡ true → (b ≡ false → v ≡ R.zero)
+      → where_true R (b && c) v ≡ v
+  by_test true true v h off = refl
+  by_test true false v h off = cc
+  by_test false c v h off = sym (off refl)
+
+  off_test : (b c : Bool) (v : R.Carrier) → c ≡ false → where_true R (b && c) v ≡ R.zero
+  off_test true true v h = cc
+  off_test true false v h = refl
+  off_test false c v h = refl
+
+  pub lower_is : IsProper a → (i j : ℕ) → j ≤ i → (plain_lower R a).value i j ≡ a.value i j
+  lower_is proper i j le =
+      let test : nat_le j i ≡ true = grind (arith, nat_tests) in
+      by_test (a.has i j) (nat_le j i) (a.value i j) test (proper i j)
+
+  pub lower_zero : IsLower R (plain_lower R a).value
+  lower_zero i j lt =
+      let test : nat_le j i ≡ false = grind (arith, nat_tests) in
+      off_test (a.has i j) (nat_le j i) (a.value i j) test
+
+module _ (R : CommRing) {T : Type 0} (f : T → R.Carrier) (z : T) (a : Plain R) (proper : IsProper a) (n k : ℕ) (rows : List ℕ) (values : List T) (e : T) (column : IsColumnBelow R f a k rows values e) (x : List T) (b : ℕ → R.Carrier) (lt : k < n) (count : length x ≡ n) where
+  t : ℕ → ℕ → R.Carrier
+  t = (plain_lower R a).value
+
+  inverts : R.mul ((plain_lower R a).value k k) (f e) ≡ R.one
+  inverts = ap (λ c. R.mul c (f e)) (lower_is R a proper k k (omega arith)) ∙ column.inverts
+
+  pub backward_column : (new known : T) → a.rows ≡ n
+      → f known ≡ dot_of R f rows values (entries R f z x)
+      → f new ≡ R.mul (R.add (f (get_or x k z)) (R.neg (f known))) (f e)
+      → IsBackward R n (k + 1) (plain_lower R a).value (entries R f z x) b
+      → IsBackward R n k (plain_lower R a).value (entries R f z (set x k new)) b
+  backward_column new known square known_is is h =
+      let whole : f known ≡ sum_below R n (λ c. R.mul (lane_value R f rows values c) (f (get_or x c z))) = known_is ∙ sym (product_by_lane R f n (entries R f z x) rows values (rw (← square) column.inside)) in
+      backward_step R n k (plain_lower R a).value (entries R f z x) (entries R f z (set x k new)) b (f e) lt (lower_zero R a) inverts (lane_value R f rows values)
+      (λ i more. column.below i more ∙ sym (lower_is R a proper i k (omega arith)))
+      column.above
+      (rw (← add-one) h)
+      (λ i ne. ap f (get_or-set_other x k i new z ne))
+      (ap f (get_or-set_same x k new z (omega arith)) ∙ is ∙ ap (λ d. R.mul (R.add (f (get_or x k z)) (R.neg d)) (f e)) whole)

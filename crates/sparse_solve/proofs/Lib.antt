@@ -1,0 +1,11 @@
+pub mod RingSteps
+pub mod Substitutions
+pub mod BelowDiagonal
+pub mod Pivots
+pub mod ColumnSteps
+pub mod Refills
+pub mod SolvedColumns
+pub mod Taking
+pub mod PlainSolutions
+pub mod Uniqueness
+pub mod UniqueSolutions

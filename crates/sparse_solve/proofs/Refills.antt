@@ -1,0 +1,30 @@
+-- Reading a list of which a part was written over.
+use Rattle.std.proofs.Common.{◌≡◌, ℕ, ◌+◌, ◌<◌, ◌≤◌, List, ◌++◌, length, get_or, take, drop, ap, sym, ◌∙◌, arith}
+use Rattle.std.proofs.lemmas.Grind.{common_steps}
+use Rattle.std.proofs.Math.Seq.{take-append_seam}
+use Rattle.sparse_pattern.specs.Refill.{refill_from}
+
+module _ {X : Type 0} (xs ws : List X) (i : ℕ) (room : i + length ws ≤ length xs) where
+  length-parts : length (take i xs ++ (ws ++ drop (length ws) (drop i xs))) ≡ length xs
+  length-parts = grind (arith, common_steps, room)
+
+  refill_from-is : refill_from xs i ws ≡ take i xs ++ (ws ++ drop (length ws) (drop i xs))
+  refill_from-is =
+      let written = take i xs ++ (ws ++ drop (length ws) (drop i xs)) in
+      ap (λ n. take n (written ++ drop (length written) xs)) (sym length-parts) ∙ take-append_seam written (drop (length written) xs)
+
+  pub length-refill_from : length (refill_from xs i ws) ≡ length xs
+  length-refill_from = ap length refill_from-is ∙ length-parts
+
+  -- inside the part that was written
+  pub refill_from-inside : (q : ℕ) (z : X) → q < length ws
+      → get_or (refill_from xs i ws) (i + q) z ≡ get_or ws q z
+  refill_from-inside q z lt = ap (λ l. get_or l (i + q) z) refill_from-is ∙ grind (arith, common_steps, room, lt)
+
+  pub refill_from-before : (p : ℕ) (z : X) → p < i
+      → get_or (refill_from xs i ws) p z ≡ get_or xs p z
+  refill_from-before p z lt = ap (λ l. get_or l p z) refill_from-is ∙ grind (arith, common_steps, room, lt)
+
+  pub refill_from-after : (p : ℕ) (z : X) → i + length ws ≤ p
+      → get_or (refill_from xs i ws) p z ≡ get_or xs p z
+  refill_from-after p z le = ap (λ l. get_or l p z) refill_from-is ∙ grind (arith, common_steps, room, le)

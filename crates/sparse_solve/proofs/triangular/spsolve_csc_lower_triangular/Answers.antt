@@ -1,0 +1,72 @@
+use Rattle.std.proofs.Common.{◌<◌, ℕ, sym, ◌∙◌, refl, arith}
+use Rattle.sparse_op.specs.Operands.{inner_of}
+use Rattle.sparse_base.specs.DensePlain.{plain_of_dense}
+use Rattle.sparse_algebra.specs.Plain.{plain_transpose}
+use Rattle.sparse_algebra.proofs.PlainLaws.{proper_transpose, within_transpose}
+use Rattle.sparse_cs.specs.PlainOfLanes.{plain_of_cols}
+use Rattle.sparse_solve.specs.Solutions.{plain_lower}
+use Rattle.sparse_solve.proofs.PlainSolutions.{plain_solution, lower_proper, lower_within}
+use Rattle.sparse_cs.proofs.Arrays.{proper_rows}
+use Rattle.sparse_solve.proofs.UniqueSolutions.{pivot_of_lower, lower_has_pivot, op_one_solution}
+use Rattle.sparse_solve.proofs.triangular.spsolve_csc_lower_triangular.Goals.{in-NoOp, in-Transpose}
+use Rattle.sparse_solve.proofs.triangular.spsolve_csc_lower_triangular.Goals as goal
+
+pub returns-then-not-can_solve-clause-singular : goal.returns-then-not-can_solve-clause-singular
+returns-then-not-can_solve-clause-singular g c =
+    let R = g.T.Ring.ring in
+    let f = g.T.Ring.value in
+    let a = plain_of_cols R f (inner_of c.args.l).now in
+    let proper = λ (i j : ℕ). proper_rows R f (inner_of c.args.l).now j i in
+    let singular = rw (c.into_inner.ensures, c.ncols.ensures) at c.if-not-can_solve.ensures.cases in
+    (λ _. (singular.0, (singular.1.0, singular.1.1, λ pivot. singular.1.2 (pivot_of_lower R f a proper singular.1.0 pivot))), λ _. refl)
+
+pub solve_columns-requires-clause-pivots : goal.solve_columns-requires-clause-pivots
+solve_columns-requires-clause-pivots g c = rw (c.into_inner.ensures, c.ncols.ensures, c.in-NoOp.is) at c.if-not-can_solve.ensures.cases
+
+pub solve_transposed_columns-requires-clause-pivots : goal.solve_transposed_columns-requires-clause-pivots
+solve_transposed_columns-requires-clause-pivots g c = rw (c.into_inner.ensures, c.ncols.ensures, c.in-Transpose.is) at c.if-not-can_solve.ensures.cases
+
+pub returns-clause-solved : goal.returns-clause-solved
+returns-clause-solved g c =
+    let R = g.T.Ring.ring in
+    let f = g.T.Ring.value in
+    let z = g.T.Zero.zero_value in
+    let zero = g.met.T.Ring.zero_law in
+    let b = c.args.b.now in
+    elim c.match-l.branch [
+      | in-NoOp w ↦
+          let m = w.in-NoOp.l.now in
+          let square = rw w.in-NoOp.is at c.requires.square in
+          let rows = rw w.in-NoOp.is at c.requires.rows in
+          let sound = rw (c.into_inner.ensures, c.ncols.ensures, w.in-NoOp.is) at c.if-not-can_solve.ensures.sound in
+          let lower = plain_lower R (plain_of_cols R f m) in
+          rw (w.in-NoOp.is, w.b-is) (plain_solution R f z zero lower w.solve_columns.new.b b (square ∙ sym rows) (sym rows) (lower_proper R f m) (λ some. lower_within R f m (sound some)) w.solve_columns.ensures)
+      | in-Transpose w ↦
+          let m = w.in-Transpose.l.now in
+          let square = rw w.in-Transpose.is at c.requires.square in
+          let rows = rw w.in-Transpose.is at c.requires.rows in
+          let sound = rw (c.into_inner.ensures, c.ncols.ensures, w.in-Transpose.is) at c.if-not-can_solve.ensures.sound in
+          let lower = plain_lower R (plain_of_cols R f m) in
+          rw (w.in-Transpose.is, w.b-is) (plain_solution R f z zero (plain_transpose R lower) w.solve_transposed_columns.new.b b (sym rows) (square ∙ sym rows) (proper_transpose R lower (lower_proper R f m)) (λ some. within_transpose R lower (lower_within R f m (sound some))) w.solve_transposed_columns.ensures)
+    ]
+
+pub returns-clause-singular : goal.returns-clause-singular
+returns-clause-singular g c =
+    let R = g.T.Ring.ring in
+    let f = g.T.Ring.value in
+    let a = plain_of_cols R f (inner_of c.args.l).now in
+    let proper = λ (i j : ℕ). proper_rows R f (inner_of c.args.l).now j i in
+    let pivots = rw (c.into_inner.ensures, c.ncols.ensures) at c.if-not-can_solve.ensures.cases in
+    (λ ok. cc, λ refused. absurd (refused.1.2 (lower_has_pivot R f a proper refused.1.0 (pivots refused.0 refused.1.0 refused.1.1))))
+
+pub returns-clause-above : goal.returns-clause-above
+returns-clause-above g c = λ m x same solves i j row col.
+    let R = g.T.Ring.ring in
+    let f = g.T.Ring.value in
+    let l = (inner_of c.args.l).now in
+    let b = c.args.b.now in
+    let pivots = rw (c.into_inner.ensures, c.ncols.ensures) at c.if-not-can_solve.ensures.cases in
+    let some : 0 < b.ncols = omega arith in
+    op_one_solution R (λ m. plain_of_cols R f m.now) c.args.l (plain_lower R (plain_of_cols R f m)) x (plain_of_dense R f c.match-l.b) (plain_of_dense R f b) b.ncols
+    (λ i j. proper_rows R f l j i) (sym c.requires.square) (λ k lt. let pivot = pivots some k lt in (f pivot.1.0, pivot.1.1)) same solves (returns-clause-solved g c)
+    i j (omega (arith, row, c.requires.rows, c.requires.square)) col

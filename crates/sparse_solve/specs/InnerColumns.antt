@@ -1,0 +1,61 @@
+-- A column of a lower triangle, and a column of a solution.
+use Rattle.std.specs.Prelude.{◌≡◌, ◌≢◌, ℕ, ◌<◌, ◌≤◌, true, List, All, length, slice_index_or, zip}
+use Rattle.sparse_algebra.specs.Algebra.{CommRing}
+use Rattle.sparse_algebra.specs.Sums.{sum_below, sum_by}
+use Rattle.sparse_algebra.specs.Plain.{Plain}
+use Rattle.sparse_base.specs.Dense.{Dense, value_at}
+use Rattle.sparse_cs.specs.InnerRows.{lane_value}
+use Rattle.sparse_solve.specs.Solutions.{HasPivot}
+
+module _ (R : CommRing) {T : Type 0} (f : T → R.Carrier) where
+  -- the entries of column k below the diagonal, and the inverse of the stored diagonal entry
+  pub record IsColumnBelow (a : Plain R) (k : ℕ) (rows : List ℕ) (values : List T) (inverse : T) : Type 0 where
+    pub count : length values ≡ length rows
+    pub inside : All (λ i. i < a.rows) rows
+    pub stored : a.has k k ≡ true
+    pub inverts : R.mul (a.value k k) (f inverse) ≡ R.one
+    pub below : (i : ℕ) → k < i → lane_value R f rows values i ≡ a.value i k
+    pub above : (i : ℕ) → i ≤ k → lane_value R f rows values i ≡ R.zero
+
+  -- each diagonal entry is stored and has an inverse
+  abbrev pub HasPivots : Plain R → Type 0
+  HasPivots a = (k : ℕ) → k < a.rows → HasPivot R f a k
+
+  -- what each scalar of a list means, and past its end what z means
+  abbrev pub entries : T → List T → ℕ → R.Carrier
+  entries z xs i = f (slice_index_or xs i z)
+
+  -- the sum of the values, each times x in its row
+  abbrev pub dot_of : List ℕ → List T → (ℕ → R.Carrier) → R.Carrier
+  dot_of rows values x = sum_by R (λ t. R.mul (f t.1) (x t.0)) (zip rows values)
+
+-- x solves the n equations with these coefficients and right sides
+abbrev pub SolvesColumn : (R : CommRing) → ℕ → (ℕ → ℕ → R.Carrier) → (ℕ → R.Carrier)
+    → (ℕ → R.Carrier) → Type 0
+SolvesColumn R n t x b = (i : ℕ) → i < n → sum_below R n (λ k. R.mul (t i k) (x k)) ≡ b i
+
+-- each column of x solves the equations whose right sides are that column of b
+pub record SolvesColumns (R : CommRing) {T : Type 0} (f : T → R.Carrier) (z : T) (t : ℕ → ℕ → R.Carrier) (x b : Dense T) : Type 0 where
+  pub rows : x.nrows ≡ b.nrows
+  pub cols : x.ncols ≡ b.ncols
+  pub solved : (j : ℕ) → j < b.ncols → SolvesColumn R b.nrows t (λ i. f (value_at x i j z)) (λ i. f (value_at b i j z))
+
+module _ (R : CommRing) where
+  -- y is x with the answer of row k, which is x k times e, and its multiple of the values taken off
+  -- in their rows
+  pub record IsTaken {T : Type 0} (f : T → R.Carrier) (n k : ℕ) (rows : List ℕ) (values : List T) (e : R.Carrier) (x y : ℕ → R.Carrier) : Type 0 where
+    pub answer : y k ≡ R.mul (x k) e
+    pub others : (i : ℕ) → i < n → i ≢ k → y i ≡ R.add (x i) (R.mul (R.neg (y k)) (lane_value R f rows values i))
+
+module _ (R : CommRing) {T : Type 0} (f : T → R.Carrier) (z : T) where
+  -- column j of a dense matrix
+  abbrev pub column_entries : Dense T → ℕ → ℕ → R.Carrier
+  column_entries d j i = f (value_at d i j z)
+
+  -- P of each column from first to last, and the others are the same
+  pub record ChangesBlock (first last : ℕ) (P : (ℕ → R.Carrier) → (ℕ → R.Carrier) → Type 0) (old new : Dense T) : Type 0 where
+    pub rows : new.nrows ≡ old.nrows
+    pub cols : new.ncols ≡ old.ncols
+    pub inside : (j : ℕ) → first ≤ j → j < last → P (column_entries old j) (column_entries new j)
+    pub before : (i j : ℕ) → i < old.nrows → j < first → value_at new i j z ≡ value_at old i j z
+    pub behind : (i j : ℕ) → i < old.nrows → last ≤ j → value_at new i j z ≡ value_at old i j z

@@ -1,0 +1,17 @@
+-- Division by a scalar.
+use Rattle.std.specs.Prelude.{◌≡◌, ◌⊎◌}
+use Rattle.sparse_algebra.specs.Algebra.{CommRing}
+use Rattle.sparse_algebra.specs.Plain.{Plain, plain_scaled}
+use Rattle.sparse_op.specs.declared.error.OperationErrorKind.{OperationErrorKind}
+use Rattle.sparse_op.specs.declared.error.OperationErrorKind.TheVariants.{Singular, OutOfMemory}
+use Rattle.sparse_units.specs.Inverses.{HasInverse}
+
+module _ (R : CommRing) {T : Type 0} (f : T → R.Carrier) (s : T) where
+  -- q is a, scaled by the inverse of s
+  abbrev pub IsQuotient : Plain R → Plain R → Type 0
+  IsQuotient q a = (y : T) × (R.mul (f s) (f y) ≡ R.one) × (q ≡ plain_scaled R (f y) a)
+
+  -- Singular where s has no inverse, and OutOfMemory where it has one
+  abbrev pub IsDivisionRefusal : OperationErrorKind → Type 0
+  IsDivisionRefusal e = ((e ≡ Singular) × (HasInverse R f (f s) → ⊥))
+      ⊎ ((e ≡ OutOfMemory) × HasInverse R f (f s))

@@ -1,0 +1,46 @@
+//! Columns of a lower triangle.
+
+ghost use Rattle.std.specs.Prelude.{◌≡◌, ◌<◌, Contains, IfNone, IfSome, MatchOption, length, slice_index};
+ghost use Rattle.sparse_cs.specs.PlainOfLanes.{plain_of_cols};
+ghost use Rattle.sparse_solve.specs.Solutions.{HasPivot};
+ghost use Rattle.sparse_solve.specs.InnerColumns.{IsColumnBelow};
+
+use sparse_forms::csc::CscMatrix;
+use sparse_units::Units;
+
+// The entries of a column below its diagonal, and the inverse of its diagonal entry.
+#[derive(Drop)]
+pub struct Column<'a, T> {
+    pub rows: &'a [usize],
+    pub values: &'a [T],
+    pub inverse: T,
+}
+
+// Returns column k, or `None` where its diagonal entry isn't stored or has no inverse. The entries above the diagonal are passed over.
+pub fn column_below<T: Units>(l: &CscMatrix<T>, k: usize) -> Option<Column<'_, T>>
+    requires { k < l.now.pattern.major_dim }
+    ensures none { IfNone result
+        (HasPivot T.ring T.value (plain_of_cols T.ring T.value l.now) k → ⊥) }
+    ensures some { IfSome result (λ c. IsColumnBelow T.ring T.value
+        (plain_of_cols T.ring T.value l.now) k c.rows.now c.values.now c.inverse) }
+{
+    let offsets = l.col_offsets();
+    let (begin, end) = (offsets[k], offsets[k + 1]);
+    let rows = &l.row_indices()[begin..end];
+    let values = &l.values()[begin..end];
+    let at = position_of(rows, k)?;
+    let inverse = values[at].recip()?;
+    Some(Column {
+        rows: &rows[at + 1..],
+        values: &values[at + 1..],
+        inverse,
+    })
+}
+
+// Returns the position of a row.
+fn position_of(rows: &[usize], k: usize) -> Option<usize>
+    ensures { MatchOption result (Contains rows.now k → ⊥)
+        (λ at. (at < length rows.now) × (slice_index rows.now at ≡ k)) }
+{
+    rows.iter().position(|row| *row == k)
+}

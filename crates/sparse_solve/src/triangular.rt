@@ -1,0 +1,106 @@
+//! The solve of a triangular system.
+
+ghost use Rattle.std.specs.Prelude.{◌≡◌, ℕ, ◌<◌, ◌↔◌, IsErr, OnOk, OnErr, IfErr};
+ghost use Rattle.std.specs.Bool.{MatchBool};
+ghost use Rattle.sparse_op.specs.declared.error.OperationErrorKind.TheVariants.{Singular};
+ghost use Rattle.sparse_op.specs.Operands.{inner_of, plain_op};
+ghost use Rattle.sparse_base.specs.DensePlain.{plain_of_dense};
+ghost use Rattle.sparse_algebra.specs.Plain.{Plain};
+ghost use Rattle.sparse_cs.specs.Compressed.{Compressed, IsSound};
+ghost use Rattle.sparse_cs.specs.PlainOfLanes.{plain_of_cols};
+ghost use Rattle.sparse_solve.specs.Solutions.{plain_lower, IsSolution, IsSingular, HasSameValues};
+ghost use Rattle.sparse_solve.specs.InnerColumns.{HasPivots};
+
+use crate::column::column_below;
+use crate::substitution::{solve_columns, solve_transposed_columns};
+use sparse_base::dense::DMatrix;
+use sparse_forms::csc::CscMatrix;
+use sparse_op::{Op, OperationError};
+use sparse_units::Units;
+
+/// Solves `op(T) X = B` in place, where `T` is the part of `l` on and below its diagonal. `b` holds B on entry and X on return.
+///
+/// `l` must be square, with as many rows as `b`. Entries above the diagonal are never read.
+///
+/// Forward substitution, or backward for a transposed operand (Davis 2006, chapter 3): one multiplication for each place of `T` and column
+/// of `b`. Allocates nothing.
+///
+/// # Errors
+///
+/// Returns `Singular` if and only if `b` has a column and some diagonal entry of `l` is not stored or has no inverse. The whole diagonal is
+/// tested before anything is written, so `b` is then unchanged.
+///
+/// # Examples
+///
+/// ```rust
+/// fn a_triangular_system_is_solved(alloc: Global) -> Result<bool, Fail> {
+///     let offsets = vec![in alloc; 0, 2, 3]?;
+///     let rows = vec![in alloc; 0, 1, 1]?;
+///     let values = vec![in alloc; W64::new(1), W64::new(2), W64::new(1)]?;
+///     let l = CscMatrix::try_from_csc_data(2, 2, offsets, rows, values)?;
+///     let mut b = DMatrix::from_column_slice(alloc, 2, 1, &[W64::new(3), W64::new(8)])?;
+///     spsolve_csc_lower_triangular(Op::NoOp(&l), &mut b)?;
+///     Ok(b.as_slice() == [W64::new(3), W64::new(2)].as_slice())
+/// }
+/// ```
+pub fn spsolve_csc_lower_triangular<T: Units>(
+    l: Op<&CscMatrix<T>>,
+    b: &mut DMatrix<T>,
+) -> Result<(), OperationError>
+    requires square { (inner_of l).now.pattern.minor_dim ≡ (inner_of l).now.pattern.major_dim }
+    requires rows { b.old.nrows ≡ (inner_of l).now.pattern.major_dim }
+    ensures rows { b.new.nrows ≡ b.old.nrows }
+    ensures cols { b.new.ncols ≡ b.old.ncols }
+    ensures solved { OnOk result (IsSolution T.ring
+        (plain_op T.ring (λ m. plain_lower T.ring (plain_of_cols T.ring T.value m.now)) l.entry)
+        (plain_of_dense T.ring T.value b.new) (plain_of_dense T.ring T.value b.old)) }
+    ensures singular { IsErr result ↔ ((0 < b.old.ncols)
+        × IsSingular T.ring T.value
+        (plain_lower T.ring (plain_of_cols T.ring T.value (inner_of l.entry).now))) }
+    ensures above { (m : Compressed T) (x : Plain T.ring)
+        → plain_lower T.ring (plain_of_cols T.ring T.value m)
+        ≡ plain_lower T.ring (plain_of_cols T.ring T.value (inner_of l.entry).now)
+        → IsSolution T.ring
+        (plain_op T.ring (λ _. plain_lower T.ring (plain_of_cols T.ring T.value m)) l.entry)
+        x (plain_of_dense T.ring T.value b.old)
+        → OnOk result (HasSameValues T.ring b.old.nrows b.old.ncols x
+        (plain_of_dense T.ring T.value b.new)) }
+    ensures kind { IfErr result (λ e. e ≡ Singular) }
+    ensures unchanged { OnErr result (b.new ≡ b.old) }
+{
+    if !can_solve(l.into_inner(), b.ncols()) {
+        return Err(OperationError::of_singular_diagonal());
+    }
+    match l {
+        Op::NoOp(l) => solve_columns(l, b),
+        Op::Transpose(l) => solve_transposed_columns(l, b),
+    }
+    Ok(())
+}
+
+// Whether there is no column to solve for, or each diagonal entry is stored and has an inverse.
+fn can_solve<T: Units>(l: &CscMatrix<T>, ncols: usize) -> bool
+    requires { l.now.pattern.minor_dim ≡ l.now.pattern.major_dim }
+    ensures cases { MatchBool result
+        (0 < ncols → HasPivots T.ring T.value (plain_of_cols T.ring T.value l.now))
+        ((0 < ncols) × IsSingular T.ring T.value (plain_of_cols T.ring T.value l.now)) }
+    ensures sound { 0 < ncols → IsSound l.now }
+{
+    ncols == 0 || has_pivots(l)
+}
+
+// Whether each diagonal entry is stored and has an inverse.
+fn has_pivots<T: Units>(l: &CscMatrix<T>) -> bool
+    requires { l.now.pattern.minor_dim ≡ l.now.pattern.major_dim }
+    ensures cases { MatchBool result (HasPivots T.ring T.value (plain_of_cols T.ring T.value l.now))
+        (IsSingular T.ring T.value (plain_of_cols T.ring T.value l.now)) }
+    ensures sound { IsSound l.now }
+{
+    let count = l.pattern().major_dim();
+    for k in 0..count {
+        if column_below(l, k).is_none() {
+            return false;
+        }
+    }
+    true
+}

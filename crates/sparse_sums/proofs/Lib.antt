@@ -1,0 +1,6 @@
+pub mod Merging
+pub mod UnionLanes
+pub mod Adding
+pub mod SumLanes
+pub mod Placing
+pub mod Updating

@@ -1,0 +1,47 @@
+-- The pattern of a sum, lane after lane.
+use Rattle.std.proofs.Common.{◌≡◌, ℕ, ◌+◌, ◌<◌, ◌⊎◌, inl, inr, ◌↔◌, List, [], ◌∷◌, ◌++◌, length, Contains, arith}
+use Rattle.sparse_pattern.specs.Raw.{Raw, raw_of, lane_of, IsValid, IsPlace}
+use Rattle.sparse_pattern.specs.InnerGainedLanes.{GainsLane}
+use Rattle.sparse_pattern.proofs.BuiltLanes.{IsBuilt, lane_gained, all_built, place_within}
+use Rattle.sparse_pattern.proofs.LaneLists.{lane_has}
+use Rattle.sparse_sums.specs.PatternSums.{IsUnionOf}
+
+-- (i, j) is a place of the union
+abbrev pub IsEither : Raw → Raw → ℕ → ℕ → Type 0
+IsEither a b i j = IsPlace a i j ⊎ IsPlace b i j
+
+module _ (a b : Raw) (va : IsValid a) (vb : IsValid b) (lanes : a.major_dim ≡ b.major_dim) (width : a.minor_dim ≡ b.minor_dim) where
+  -- the indices of both lanes
+  pub lanes_have : (n j : ℕ) → n < a.major_dim
+      → (Contains (lane_of a n) j ⊎ Contains (lane_of b n) j) ↔ IsEither a b n j
+  lanes_have n j lt =
+      let left = lane_has a va n j lt in
+      let right = lane_has b vb n j (omega arith) in (
+        λ h. elim h [ inl x ↦ inl (left.0 x) | inr y ↦ inr (right.0 y) ],
+        λ h. elim h [ inl x ↦ inl (left.1 x) | inr y ↦ inr (right.1 y) ],
+      )
+
+  pub either_within : (i j : ℕ) → IsEither a b i j → (i < a.major_dim) × (j < a.minor_dim)
+  either_within i j h = elim h [
+    | inl x ↦ (x.in_lane.lane, place_within a va i j x)
+    | inr y ↦ (omega (arith, y.in_lane.lane), omega (arith, place_within b vb i j y))
+  ]
+
+  pub union_more : (n : ℕ) (offsets offsets' indices indices' : List ℕ) → n < a.major_dim
+      → IsBuilt a.minor_dim (IsEither a b) n offsets indices
+      → GainsLane indices indices' (λ j. Contains (lane_of a n) j ⊎ Contains (lane_of b n) j)
+      → offsets' ≡ offsets ++ length indices' ∷ []
+      → IsBuilt a.minor_dim (IsEither a b) (n + 1) offsets' indices'
+  union_more n offsets offsets' indices indices' lt built gains is =
+      let gained : GainsLane indices indices' (IsEither a b n) = record {
+        lane = gains.lane;
+        pushed = gains.pushed;
+        rising = gains.rising;
+        holds = λ j. let l = lanes_have n j lt in (λ h. l.0 ((gains.holds j).0 h), λ h. (gains.holds j).1 (l.1 h));
+      } in
+      lane_gained a.minor_dim (IsEither a b) n offsets offsets' indices indices' built (λ j h. (either_within n j h).1) gained is
+
+  pub union_all : (n : ℕ) (d : Raw) (offsets indices : List ℕ) → n ≡ a.major_dim
+      → d ≡ raw_of a.major_dim a.minor_dim offsets indices
+      → IsBuilt a.minor_dim (IsEither a b) n offsets indices → IsUnionOf d a b
+  union_all n d offsets indices whole is built = all_built a.minor_dim (IsEither a b) n a.major_dim d offsets indices whole is (λ i j h. (either_within i j h).0) built

@@ -1,0 +1,85 @@
+use Rattle.std.proofs.Common.{◌≡◌, not, eqb, get_or, refl, ap, ◌∙◌, arith}
+use Rattle.sparse_sums.specs.InnerSigns.{signed}
+use Rattle.sparse_sums.proofs.Adding.{none_added, adding_first, adding_second, adding_both}
+use Rattle.sparse_sums.proofs.merge.add_fronts.Goals as goal
+
+pub loop-p-init : goal.loop-p-init
+loop-p-init g c =
+    let R = g.T.Ring.ring in
+    let f = g.T.Ring.value in
+    let h = λ (x : g.row.T.Denot). signed R (not (eqb g.row.NEGATE 0)) (f x) in
+    record {
+      first = omega arith;
+      second = omega arith;
+      capacity = refl;
+      values_capacity = refl;
+      count = omega arith;
+      values_count = c.requires.count;
+      added = none_added R f h c.args.indices.now.items c.args.values.now.items c.args.a.now c.args.a_values.now c.args.b.now c.args.b_values.now;
+    }
+
+pub loop-p-preserved-then-j-k : goal.loop-p-preserved-then-j-k
+loop-p-preserved-then-j-k g c =
+    let R = g.T.Ring.ring in
+    let f = g.T.Ring.value in
+    let h = λ (x : g.row.T.Denot). signed R (not (eqb g.row.NEGATE 0)) (f x) in
+    let a = c.args.a.now in
+    let p = c.loop-p.p in
+    let inv = c.loop-p.invariant in
+    let index = c.push_reserved.ensures in
+    let value = c.push_reserved-then-j-k.ensures in
+    let next = adding_first R f h c.args.indices.now.items c.args.values.now.items a c.args.a_values.now c.args.b.now c.args.b_values.now c.loop-p.indices.items c.loop-p.values.items p c.loop-p.q c.requires.a_rising c.requires.b_rising c.requires.a_count c.requires.b_count inv.added (get_or a p 0) c.index-a_values-p.result (omega arith) refl (λ _. omega arith) c.index-a_values-p.is in
+    record {
+      first = omega arith;
+      second = omega arith;
+      capacity = index.capacity ∙ inv.capacity;
+      values_capacity = value.capacity ∙ inv.values_capacity;
+      count = omega (arith, index.len, inv.count);
+      values_count = omega (arith, index.len, value.len, inv.values_count);
+      added = rw (index.items, value.items) next;
+    }
+
+pub loop-p-preserved-then-k-j : goal.loop-p-preserved-then-k-j
+loop-p-preserved-then-k-j g c =
+    let R = g.T.Ring.ring in
+    let f = g.T.Ring.value in
+    let h = λ (x : g.row.T.Denot). signed R (not (eqb g.row.NEGATE 0)) (f x) in
+    let b = c.args.b.now in
+    let q = c.loop-p.q in
+    let inv = c.loop-p.invariant in
+    let index = c.push_reserved-then-k-j.ensures in
+    let value = c.push_reserved-then-k-j-2.ensures in
+    let next = adding_second R f h c.args.indices.now.items c.args.values.now.items c.args.a.now c.args.a_values.now b c.args.b_values.now c.loop-p.indices.items c.loop-p.values.items c.loop-p.p q c.requires.a_rising c.requires.b_rising c.requires.a_count c.requires.b_count inv.added (get_or b q 0) c.with_sign.result (omega arith) refl (λ _. omega arith) c.index-b_values-q.result c.index-b_values-q.is c.with_sign.ensures in
+    record {
+      first = omega arith;
+      second = omega arith;
+      capacity = index.capacity ∙ inv.capacity;
+      values_capacity = value.capacity ∙ inv.values_capacity;
+      count = omega (arith, index.len, inv.count);
+      values_count = omega (arith, index.len, value.len, inv.values_count);
+      added = rw (index.items, value.items) next;
+    }
+
+pub loop-p-preserved : goal.loop-p-preserved
+loop-p-preserved g c =
+    let R = g.T.Ring.ring in
+    let f = g.T.Ring.value in
+    let h = λ (x : g.row.T.Denot). signed R (not (eqb g.row.NEGATE 0)) (f x) in
+    let a = c.args.a.now in
+    let p = c.loop-p.p in
+    let q = c.loop-p.q in
+    let inv = c.loop-p.invariant in
+    let index = c.push_reserved-else-k-j.ensures in
+    let value = c.push_reserved-else-k-j-2.ensures in
+    let same : get_or a p 0 ≡ get_or c.args.b.now q 0 = omega arith in
+    let sum = c.add.ensures ∙ ap (R.add (f c.index-a_values-p-else-k-j.result)) c.with_sign-else-k-j.ensures in
+    let next = adding_both R f h c.args.indices.now.items c.args.values.now.items a c.args.a_values.now c.args.b.now c.args.b_values.now c.loop-p.indices.items c.loop-p.values.items p q c.requires.a_rising c.requires.b_rising c.requires.a_count c.requires.b_count inv.added (get_or a p 0) c.add.result (omega arith) (omega arith) refl same c.index-a_values-p-else-k-j.result c.index-b_values-q-else-k-j.result c.index-a_values-p-else-k-j.is c.index-b_values-q-else-k-j.is sum in
+    record {
+      first = omega arith;
+      second = omega arith;
+      capacity = index.capacity ∙ inv.capacity;
+      values_capacity = value.capacity ∙ inv.values_capacity;
+      count = omega (arith, index.len, inv.count);
+      values_count = omega (arith, index.len, value.len, inv.values_count);
+      added = rw (index.items, value.items) next;
+    }

@@ -1,0 +1,17 @@
+-- Two rising lists of indices, merged up to a position in each.
+use Rattle.std.specs.Prelude.{◌≡◌, ℕ, ◌+◌, ◌<◌, ◌≤◌, ◌⊎◌, ◌↔◌, List, ◌++◌, length, slice_index, take, Contains}
+use Rattle.std.specs.List.Sorted.{IsStrictlyIncreasing}
+
+-- the lane has the first p indices of a and the first q of b, and all that are left are greater
+pub record IsMerged (a b : List ℕ) (p q : ℕ) (lane : List ℕ) : Type 0 where
+  pub rising : IsStrictlyIncreasing lane
+  pub holds : (j : ℕ) → Contains lane j ↔ (Contains (take p a) j ⊎ Contains (take q b) j)
+  pub below_a : p < length a → (j : ℕ) → Contains lane j → j < slice_index a p
+  pub below_b : q < length b → (j : ℕ) → Contains lane j → j < slice_index b q
+  pub long : length lane ≤ p + q
+
+-- a list of indices that gains what is merged
+pub record IsMerging (old now a b : List ℕ) (p q : ℕ) : Type 0 where
+  pub lane : List ℕ
+  pub pushed : now ≡ old ++ lane
+  pub merged : IsMerged a b p q lane

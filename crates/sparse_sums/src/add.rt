@@ -1,0 +1,148 @@
+//! Sums and differences of matrices.
+
+ghost use Rattle.std.specs.Prelude.{◌≡◌, IfOk};
+ghost use Rattle.sparse_algebra.specs.Plain.{plain_sum, plain_difference};
+ghost use Rattle.sparse_cs.specs.PlainOfLanes.{plain_of_rows, plain_of_cols};
+ghost use Rattle.sparse_sums.specs.InnerSigns.{plain_signed};
+
+use crate::merge::add_lanes;
+use sparse_algebra::scalar::Ring;
+use sparse_cs::CsMatrix;
+use sparse_forms::csc::CscMatrix;
+use sparse_forms::csr::CsrMatrix;
+use sparse_pattern::pattern::SparsityPattern;
+use std::alloc::{AllocError, Global};
+
+/// Returns the sum `a + b`.
+///
+/// The result stores the union of the places, even where a sum is zero. Both matrices must have the same sizes.
+///
+/// One merge of two sorted rows for each row: linear in places and rows. Memory is asked for once, for as many places as both have
+/// together. Fails only if an allocation fails.
+///
+/// # Examples
+///
+/// ```rust
+/// fn a_matrix_is_doubled(alloc: Global) -> Result<bool, Fail> {
+///     let identity = CsrMatrix::<W64>::identity(alloc, 2)?;
+///     let double = add_csr(alloc, &identity, &identity)?;
+///     Ok(double == scale_csr(alloc, &identity, W64::new(2))?)
+/// }
+/// ```
+pub fn add_csr<T: Ring>(
+    alloc: Global,
+    a: &CsrMatrix<T>,
+    b: &CsrMatrix<T>,
+) -> Result<CsrMatrix<T>, AllocError>
+    requires rows { a.now.pattern.major_dim ≡ b.now.pattern.major_dim }
+    requires cols { a.now.pattern.minor_dim ≡ b.now.pattern.minor_dim }
+    ensures { IfOk result (λ m. plain_of_rows T.ring T.value m
+        ≡ plain_sum T.ring (plain_of_rows T.ring T.value a.now) (plain_of_rows T.ring T.value b.now)) }
+{
+    Ok(CsrMatrix::from_cs(merge::<T, false>(alloc, a.cs(), b.cs())?))
+}
+
+/// Returns the difference `a - b`.
+///
+/// The result stores the union of the places, even where a difference is zero. Both matrices must have the same sizes.
+///
+/// Time, memory and errors are those of [`add_csr`].
+///
+/// # Examples
+///
+/// ```rust
+/// fn a_difference_stores_zeros(alloc: Global) -> Result<bool, Fail> {
+///     let identity = CsrMatrix::<W64>::identity(alloc, 2)?;
+///     let zeros = sub_csr(alloc, &identity, &identity)?;
+///     Ok(zeros.values() == [W64::new(0), W64::new(0)].as_slice())
+/// }
+/// ```
+pub fn sub_csr<T: Ring>(
+    alloc: Global,
+    a: &CsrMatrix<T>,
+    b: &CsrMatrix<T>,
+) -> Result<CsrMatrix<T>, AllocError>
+    requires rows { a.now.pattern.major_dim ≡ b.now.pattern.major_dim }
+    requires cols { a.now.pattern.minor_dim ≡ b.now.pattern.minor_dim }
+    ensures { IfOk result (λ m. plain_of_rows T.ring T.value m
+        ≡ plain_difference T.ring (plain_of_rows T.ring T.value a.now) (plain_of_rows T.ring T.value b.now)) }
+{
+    Ok(CsrMatrix::from_cs(merge::<T, true>(alloc, a.cs(), b.cs())?))
+}
+
+/// Returns the sum `a + b`.
+///
+/// The result stores the union of the places, even where a sum is zero. Both matrices must have the same sizes.
+///
+/// One merge of two sorted columns for each column: linear in places and columns. Memory is asked for once, for as many places as both
+/// have together. Fails only if an allocation fails.
+pub fn add_csc<T: Ring>(
+    alloc: Global,
+    a: &CscMatrix<T>,
+    b: &CscMatrix<T>,
+) -> Result<CscMatrix<T>, AllocError>
+    requires rows { a.now.pattern.minor_dim ≡ b.now.pattern.minor_dim }
+    requires cols { a.now.pattern.major_dim ≡ b.now.pattern.major_dim }
+    ensures { IfOk result (λ m. plain_of_cols T.ring T.value m
+        ≡ plain_sum T.ring (plain_of_cols T.ring T.value a.now) (plain_of_cols T.ring T.value b.now)) }
+{
+    Ok(CscMatrix::from_cs(merge::<T, false>(alloc, a.cs(), b.cs())?))
+}
+
+/// Returns the difference `a - b`.
+///
+/// The result stores the union of the places, even where a difference is zero. Both matrices must have the same sizes.
+///
+/// Time, memory and errors are those of [`add_csc`].
+pub fn sub_csc<T: Ring>(
+    alloc: Global,
+    a: &CscMatrix<T>,
+    b: &CscMatrix<T>,
+) -> Result<CscMatrix<T>, AllocError>
+    requires rows { a.now.pattern.minor_dim ≡ b.now.pattern.minor_dim }
+    requires cols { a.now.pattern.major_dim ≡ b.now.pattern.major_dim }
+    ensures { IfOk result (λ m. plain_of_cols T.ring T.value m
+        ≡ plain_difference T.ring (plain_of_cols T.ring T.value a.now) (plain_of_cols T.ring T.value b.now)) }
+{
+    Ok(CscMatrix::from_cs(merge::<T, true>(alloc, a.cs(), b.cs())?))
+}
+
+// The sum of two matrices with the same sizes, or their difference.
+fn merge<T: Ring, const NEGATE: bool>(
+    alloc: Global,
+    a: &CsMatrix<T>,
+    b: &CsMatrix<T>,
+) -> Result<CsMatrix<T>, AllocError>
+    requires lanes { a.now.pattern.major_dim ≡ b.now.pattern.major_dim }
+    requires width { a.now.pattern.minor_dim ≡ b.now.pattern.minor_dim }
+    ensures { IfOk result (λ m. plain_of_rows T.ring T.value m
+        ≡ plain_sum T.ring (plain_of_rows T.ring T.value a.now) (plain_signed T.ring NEGATE (plain_of_rows T.ring T.value b.now))) }
+{
+    let (a_offsets, a_indices, a_values) = a.cs_data();
+    let (b_offsets, b_indices, b_values) = b.cs_data();
+    let room = a_indices.len() + b_indices.len();
+    let mut offsets = Vec::with_capacity(alloc, a_offsets.len())?;
+    let mut indices = Vec::with_capacity(alloc, room)?;
+    let mut values = Vec::with_capacity(alloc, room)?;
+    offsets.push(0)?;
+    for i in 0..a.pattern().major_dim() {
+        let (a_begin, a_end) = (a_offsets[i], a_offsets[i + 1]);
+        let (b_begin, b_end) = (b_offsets[i], b_offsets[i + 1]);
+        add_lanes::<T, NEGATE>(
+            &a_indices[a_begin..a_end],
+            &a_values[a_begin..a_end],
+            &b_indices[b_begin..b_end],
+            &b_values[b_begin..b_end],
+            &mut indices,
+            &mut values,
+        )?;
+        offsets.push(indices.len())?;
+    }
+    let pattern = SparsityPattern::from_offset_and_indices_unchecked(
+        a.pattern().major_dim(),
+        a.pattern().minor_dim(),
+        offsets,
+        indices,
+    );
+    Ok(CsMatrix::from_pattern_and_values(pattern, values))
+}

@@ -1,0 +1,13 @@
+//! Sums of sparse matrices and of their patterns.
+#![tactic(auto)]
+
+mod add;
+mod merge;
+mod pattern;
+mod prealloc;
+mod scale;
+
+pub use add::{add_csc, add_csr, sub_csc, sub_csr};
+pub use pattern::spadd_pattern;
+pub use prealloc::{spadd_csc_prealloc, spadd_csr_prealloc};
+pub use scale::{neg_csc, neg_csr, scale_csc, scale_csr};

@@ -1,0 +1,177 @@
+//! A sum into a given matrix.
+
+ghost use Rattle.std.specs.Prelude.{◌≡◌, ℕ, ◌<◌, ◌↔◌, IsTrue, IsOk, IfErr, OnOk, OnErr, IfSome, length, slice_index_or};
+ghost use Rattle.sparse_op.specs.declared.error.OperationErrorKind.TheVariants.{InvalidPattern};
+ghost use Rattle.sparse_pattern.specs.Raw.{IsPlace};
+ghost use Rattle.sparse_cs.specs.Compressed.{IsPosition, IsSound};
+ghost use Rattle.sparse_cs.specs.PlainOfLanes.{plain_of_rows, plain_of_cols};
+ghost use Rattle.sparse_cs.specs.StoredEntries.{place_of};
+ghost use Rattle.sparse_op.specs.Operands.{plain_op};
+ghost use Rattle.sparse_op.specs.Prealloc.{plain_update, IsCovered};
+ghost use Rattle.sparse_sums.specs.InnerPlacing.{lane_in, index_in, lanes_of_op, plain_turned, HasPlacesOf, AreAdded};
+
+use sparse_algebra::scalar::Ring;
+use sparse_cs::scaling::scale_values;
+use sparse_cs::{CsMatrix, LaneIndices};
+use sparse_forms::csc::CscMatrix;
+use sparse_forms::csr::CsrMatrix;
+use sparse_op::{Op, OperationError};
+use sparse_pattern::pattern::SparsityPattern;
+
+/// Replaces `c` by `beta * c + alpha * op(a)` on the places of `c`.
+///
+/// `op(a)` must have the sizes of `c`. Refuses with [`InvalidPattern`](sparse_op::OperationErrorKind::InvalidPattern) exactly where `op(a)`
+/// has a place that `c` lacks, whatever its value is; `c` is then unchanged.
+///
+/// Two binary searches in a row of `c` for each place of `a`, and one pass over `c`. Takes no memory.
+pub fn spadd_csr_prealloc<T: Ring>(
+    beta: T,
+    c: &mut CsrMatrix<T>,
+    alpha: T,
+    a: Op<&CsrMatrix<T>>,
+) -> Result<(), OperationError>
+    requires rows { (plain_op T.ring (λ m. plain_of_rows T.ring T.value m.now) a).rows ≡ c.old.pattern.major_dim }
+    requires cols { (plain_op T.ring (λ m. plain_of_rows T.ring T.value m.now) a).cols ≡ c.old.pattern.minor_dim }
+    ensures covered { IsOk result ↔ IsCovered (plain_op T.ring (λ m. plain_of_rows T.ring T.value m.now) a.entry)
+        (plain_of_rows T.ring T.value c.old) }
+    ensures kind { IfErr result (λ e. e ≡ InvalidPattern) }
+    ensures unchanged { OnErr result (c.new ≡ c.old) }
+    ensures pattern { c.new.pattern ≡ c.old.pattern }
+    ensures updated { OnOk result (plain_of_rows T.ring T.value c.new
+        ≡ plain_update T.ring (T.value beta) (plain_of_rows T.ring T.value c.old) (T.value alpha)
+        (plain_op T.ring (λ m. plain_of_rows T.ring T.value m.now) a.entry)) }
+{
+    // The call costs nothing: its contract tells the prover that the matrix is sound.
+    let _ = c.values();
+    let (pattern, values) = c.pattern_and_values_mut();
+    match a {
+        Op::NoOp(a) => add_into(beta, pattern, values, alpha, a.cs(), false),
+        Op::Transpose(a) => add_into(beta, pattern, values, alpha, a.cs(), true),
+    }
+}
+
+/// Replaces `c` by `beta * c + alpha * op(a)` on the places of `c`.
+///
+/// `op(a)` must have the sizes of `c`. Refuses with [`InvalidPattern`](sparse_op::OperationErrorKind::InvalidPattern) exactly where `op(a)`
+/// has a place that `c` lacks, whatever its value is; `c` is then unchanged.
+///
+/// Two binary searches in a column of `c` for each place of `a`, and one pass over `c`. Takes no memory.
+pub fn spadd_csc_prealloc<T: Ring>(
+    beta: T,
+    c: &mut CscMatrix<T>,
+    alpha: T,
+    a: Op<&CscMatrix<T>>,
+) -> Result<(), OperationError>
+    requires rows { (plain_op T.ring (λ m. plain_of_cols T.ring T.value m.now) a).rows ≡ c.old.pattern.minor_dim }
+    requires cols { (plain_op T.ring (λ m. plain_of_cols T.ring T.value m.now) a).cols ≡ c.old.pattern.major_dim }
+    ensures covered { IsOk result ↔ IsCovered (plain_op T.ring (λ m. plain_of_cols T.ring T.value m.now) a.entry)
+        (plain_of_cols T.ring T.value c.old) }
+    ensures kind { IfErr result (λ e. e ≡ InvalidPattern) }
+    ensures unchanged { OnErr result (c.new ≡ c.old) }
+    ensures pattern { c.new.pattern ≡ c.old.pattern }
+    ensures updated { OnOk result (plain_of_cols T.ring T.value c.new
+        ≡ plain_update T.ring (T.value beta) (plain_of_cols T.ring T.value c.old) (T.value alpha)
+        (plain_op T.ring (λ m. plain_of_cols T.ring T.value m.now) a.entry)) }
+{
+    // The call costs nothing: its contract tells the prover that the matrix is sound.
+    let _ = c.values();
+    let (pattern, values) = c.pattern_and_values_mut();
+    match a {
+        Op::NoOp(a) => add_into(beta, pattern, values, alpha, a.cs(), false),
+        Op::Transpose(a) => add_into(beta, pattern, values, alpha, a.cs(), true),
+    }
+}
+
+// Multiplies the values by `beta` and adds `alpha` times the operand's, or refuses before any value is written.
+pub(crate) fn add_into<T: Ring>(
+    beta: T,
+    pattern: &SparsityPattern,
+    values: &mut [T],
+    alpha: T,
+    a: &CsMatrix<T>,
+    turned: bool,
+) -> Result<(), OperationError>
+    requires count { length values.old ≡ length pattern.now.indices }
+    requires lanes { lanes_of_op turned a.now.pattern ≡ pattern.now.major_dim }
+    ensures count { length values.new ≡ length values.old }
+    ensures covered { IsOk result ↔ HasPlacesOf pattern.now turned a.now.pattern }
+    ensures kind { IfErr result (λ e. e ≡ InvalidPattern) }
+    ensures unchanged { OnErr result (values.new ≡ values.old) }
+    ensures sound { IsSound a.now }
+    ensures added { OnOk result (AreAdded T.ring T.value T.zero_value pattern.now (T.value beta) (T.value alpha)
+        (plain_turned T.ring turned (plain_of_rows T.ring T.value a.now)).value values.old values.new) }
+{
+    // The call costs nothing: its contract tells the prover that the pattern is valid.
+    let _ = pattern.major_offsets();
+    if !covers(pattern, a.pattern(), turned) {
+        return Err(OperationError::of_sum_pattern());
+    }
+    scale_values(beta, values);
+    add_entries(pattern, values, alpha, a, turned);
+    Ok(())
+}
+
+// Whether the target has each place of the operand.
+fn covers(target: &SparsityPattern, a: &SparsityPattern, turned: bool) -> bool
+    requires { lanes_of_op turned a.now ≡ target.now.major_dim }
+    ensures { IsTrue result ↔ HasPlacesOf target.now turned a.now }
+{
+    // The calls cost nothing: their contracts tell the prover that the patterns are valid.
+    let _ = target.major_offsets();
+    let _ = a.major_offsets();
+    for (i, j) in a.entries() {
+        let (lane, index) = place_in(turned, i, j);
+        match position_of(target, lane, index) {
+            Some(_) => {}
+            None => return false,
+        }
+    }
+    true
+}
+
+// Adds `alpha` times the operand's values at their places.
+fn add_entries<T: Ring>(
+    target: &SparsityPattern,
+    values: &mut [T],
+    alpha: T,
+    a: &CsMatrix<T>,
+    turned: bool,
+)
+    requires count { length values.old ≡ length target.now.indices }
+    requires covered { HasPlacesOf target.now turned a.now.pattern }
+    ensures count { length values.new ≡ length values.old }
+    ensures added { (i j p : ℕ) → IsPosition target.now i j p → T.value (slice_index_or values.new p T.zero_value)
+        ≡ T.ring.add (T.value (slice_index_or values.old p T.zero_value))
+        (T.ring.mul (T.value alpha) ((plain_turned T.ring turned (plain_of_rows T.ring T.value a.now)).value i j)) }
+{
+    // The call costs nothing: its contract tells the prover that the pattern is valid.
+    let _ = target.major_offsets();
+    for (i, j, value) in a.triplet_iter() {
+        let (lane, index) = place_in(turned, i, j);
+        match position_of(target, lane, index) {
+            Some(at) => values[at] = values[at].add(alpha.mul(*value)),
+            None => {}
+        }
+    }
+}
+
+// The pair, exchanged where the operand is transposed.
+fn place_in(turned: bool, i: usize, j: usize) -> (usize, usize)
+    ensures lane { result.0 ≡ lane_in turned i j }
+    ensures index { result.1 ≡ index_in turned i j }
+{
+    if turned { (j, i) } else { (i, j) }
+}
+
+// The position of a place, by binary search in the lane.
+fn position_of(target: &SparsityPattern, lane: usize, index: usize) -> Option<usize>
+    requires { lane < target.now.major_dim }
+    ensures position { result ≡ place_of target.now lane index }
+    ensures within { IfSome result (λ p. p < length target.now.indices) }
+{
+    let start = target.major_offsets()[lane];
+    match LaneIndices::of_lane(target, lane).position_of(index) {
+        Some(at) => Some(start + at),
+        None => None,
+    }
+}

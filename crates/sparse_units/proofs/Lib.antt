@@ -1,0 +1,5 @@
+pub mod Products
+pub mod NewtonSteps
+mod OddNumbers
+pub mod ModClasses
+mod Euclid

@@ -1,0 +1,8 @@
+use Rattle.std.proofs.Common.{◌≡◌}
+use Rattle.sparse_units.specs.InnerNewton.{squared, one_minus}
+use Rattle.sparse_units.proofs.newton.approach.Given as goal
+
+abbrev pub invariant-loop-step : goal.invariant-loop-step
+invariant-loop-step g l =
+    let T = g.T.Ring in
+    one_minus T.ring (T.ring.mul (T.value l.x) (T.value l.inverse)) ≡ squared T.ring l._step (one_minus T.ring (T.value l.x))

@@ -1,0 +1,7 @@
+//! Tests of expressions: words, refusals, values, and expressions of many words.
+#![tactic(auto)]
+
+#[cfg(test)]
+mod long;
+#[cfg(test)]
+mod texts;

@@ -1,0 +1,139 @@
+//! Factors of small patterns, whose arrays are known.
+
+use crate::fixtures::square;
+use sparse_base::steps::Steps;
+use sparse_factor::factorization::CscSymbolicCholesky;
+use std::alloc::Global;
+use std::test::Fail;
+
+// A pattern and its factor: the size, and the offsets and indices of both.
+struct Case {
+    size: usize,
+    offsets: &'static [usize],
+    indices: &'static [usize],
+    l_offsets: &'static [usize],
+    l_indices: &'static [usize],
+}
+
+const CASES: [Case; 9] = [
+    Case {
+        size: 0,
+        offsets: &[0],
+        indices: &[],
+        l_offsets: &[0],
+        l_indices: &[],
+    },
+    // Two columns that share the rows 2 and 4: the fill is (4, 2).
+    Case {
+        size: 5,
+        offsets: &[0, 3, 6, 9, 10, 13],
+        indices: &[0, 2, 4, 1, 2, 4, 0, 1, 2, 3, 0, 1, 4],
+        l_offsets: &[0, 3, 6, 8, 9, 10],
+        l_indices: &[0, 2, 4, 1, 2, 4, 2, 4, 3, 4],
+    },
+    // A diagonal that is not stored, and two empty columns.
+    Case {
+        size: 3,
+        offsets: &[0, 0, 0, 2],
+        indices: &[0, 1],
+        l_offsets: &[0, 1, 2, 3],
+        l_indices: &[2, 2, 2],
+    },
+    // Entries below the diagonal beside the diagonal.
+    Case {
+        size: 3,
+        offsets: &[0, 3, 4, 5],
+        indices: &[0, 1, 2, 1, 2],
+        l_offsets: &[0, 1, 2, 3],
+        l_indices: &[0, 1, 2],
+    },
+    // Entries below the diagonal alone.
+    Case {
+        size: 3,
+        offsets: &[0, 2, 3, 3],
+        indices: &[1, 2, 2],
+        l_offsets: &[0, 0, 0, 0],
+        l_indices: &[],
+    },
+    // One entry on each side of the diagonal.
+    Case {
+        size: 3,
+        offsets: &[0, 1, 1, 2],
+        indices: &[1, 0],
+        l_offsets: &[0, 1, 1, 2],
+        l_indices: &[2, 2],
+    },
+    // The first row full: the factor is a full triangle.
+    Case {
+        size: 4,
+        offsets: &[0, 1, 3, 5, 7],
+        indices: &[0, 0, 1, 0, 2, 0, 3],
+        l_offsets: &[0, 4, 7, 9, 10],
+        l_indices: &[0, 1, 2, 3, 1, 2, 3, 2, 3, 3],
+    },
+    // The last row full: no fill.
+    Case {
+        size: 4,
+        offsets: &[0, 1, 2, 3, 7],
+        indices: &[0, 1, 2, 0, 1, 2, 3],
+        l_offsets: &[0, 2, 4, 6, 7],
+        l_indices: &[0, 3, 1, 3, 2, 3, 3],
+    },
+    // A row that climbs past columns which it has no entry in.
+    Case {
+        size: 4,
+        offsets: &[0, 1, 2, 3, 5],
+        indices: &[0, 0, 1, 0, 2],
+        l_offsets: &[0, 3, 6, 8, 9],
+        l_indices: &[0, 1, 3, 1, 2, 3, 2, 3, 3],
+    },
+];
+
+fn has_its_factor(alloc: Global, case: &Case) -> Result<bool, Fail> {
+    let pattern = square(alloc, case.size, case.offsets, case.indices)?;
+    let factor = CscSymbolicCholesky::factor(alloc, pattern)?;
+    let l_pattern = factor.l_pattern();
+    Ok(
+        l_pattern.major_offsets() == case.l_offsets
+            && l_pattern.minor_indices() == case.l_indices
+            && l_pattern.minor_dim() == case.size,
+    )
+}
+
+#[test]
+fn factors_have_the_fill(rt: HostRuntime) -> Result<(), Fail> {
+    for case in &CASES {
+        assert!(rt; has_its_factor(rt.alloc(), case)?);
+    }
+    Ok(())
+}
+
+fn counts_the_same(alloc: Global, case: &Case) -> Result<bool, Fail> {
+    let pattern = square(alloc, case.size, case.offsets, case.indices)?;
+    let factor = CscSymbolicCholesky::factor(alloc, pattern.clone(alloc)?)?;
+    let counted = CscSymbolicCholesky::factor_counted(alloc, pattern, &mut Steps::new())?;
+    Ok(factor == counted && factor.clone(alloc)? == counted)
+}
+
+#[test]
+fn counting_changes_nothing(rt: HostRuntime) -> Result<(), Fail> {
+    for case in &CASES {
+        assert!(rt; counts_the_same(rt.alloc(), case)?);
+    }
+    Ok(())
+}
+
+// Whether two patterns of 3 columns have equal factorisations.
+fn are_equal(alloc: Global, offsets: &[usize], indices: &[usize]) -> Result<bool, Fail> {
+    let first = square(alloc, 3, &[0, 1, 2, 3], &[0, 1, 2])?;
+    let second = square(alloc, 3, offsets, indices)?;
+    Ok(CscSymbolicCholesky::factor(alloc, first)? == CscSymbolicCholesky::factor(alloc, second)?)
+}
+
+#[test]
+fn the_input_counts_for_equality(rt: HostRuntime) -> Result<(), Fail> {
+    assert!(rt; are_equal(rt.alloc(), &[0, 1, 2, 3], &[0, 1, 2])?);
+    // The same factor, of another pattern.
+    assert!(rt; !are_equal(rt.alloc(), &[0, 2, 3, 4], &[0, 1, 1, 2])?);
+    Ok(())
+}

@@ -1,0 +1,154 @@
+//! Formats, fields and symmetries: the triplets that texts mean as i32, and the kinds of their refusals.
+
+use crate::reading::load;
+use sparse_base::coo::CooMatrix;
+use sparse_io::MatrixMarketErrorKind::{
+    DiagonalError, EntryMismatch, InvalidHeader, NonSquare, NotLowerTriangle, ParsingError,
+    TypeMismatch, ZeroError,
+};
+use sparse_io::{MatrixMarketError, MatrixMarketErrorKind, MatrixMarketScalar};
+use std::test::Fail;
+
+const START: &str = "%%MatrixMarket matrix ";
+
+/// The sizes of a matrix and its triplets.
+type Listed<T> = ((usize, usize), &'static [(usize, usize, T)]);
+
+/// Texts below the first words of the header, and what they mean as i32.
+const MEANINGS: [(&str, Listed<i32>); 12] = [
+    (
+        "array integer symmetric\n2 2\n1\n2\n3\n",
+        ((2, 2), &[(0, 0, 1), (1, 0, 2), (0, 1, 2), (1, 1, 3)]),
+    ),
+    (
+        "array integer symmetric\r\n2 2\r\n1\r\n2\r\n% between\r\n3",
+        ((2, 2), &[(0, 0, 1), (1, 0, 2), (0, 1, 2), (1, 1, 3)]),
+    ),
+    (
+        "array integer symmetric\r2 2\r1\r2\r3\r",
+        ((2, 2), &[(0, 0, 1), (1, 0, 2), (0, 1, 2), (1, 1, 3)]),
+    ),
+    ("coordinate complex hermitian\n1 1 0", ((1, 1), &[])),
+    (
+        "coordinate integer symmetric\n2 2 2\n1 1 7\n2 1 3\n",
+        ((2, 2), &[(0, 0, 7), (1, 0, 3), (0, 1, 3)]),
+    ),
+    ("array integer skew-symmetric\n0 0\n", ((0, 0), &[])),
+    (
+        "array integer skew-symmetric\n4 4\n1\n2\n3\n4\n5\n6\n",
+        (
+            (4, 4),
+            &[
+                (1, 0, 1),
+                (0, 1, -1),
+                (2, 0, 2),
+                (0, 2, -2),
+                (3, 0, 3),
+                (0, 3, -3),
+                (2, 1, 4),
+                (1, 2, -4),
+                (3, 1, 5),
+                (1, 3, -5),
+                (3, 2, 6),
+                (2, 3, -6),
+            ],
+        ),
+    ),
+    ("coordinate real general\n 1 0 0", ((1, 0), &[])),
+    (
+        "array integer general\n2 2\n1\n0\n-3\n+4",
+        ((2, 2), &[(0, 0, 1), (1, 0, 0), (0, 1, -3), (1, 1, 4)]),
+    ),
+    (
+        "array integer general\n0 18446744073709551615\n",
+        ((0, usize::MAX), &[]),
+    ),
+    (
+        "coordinate integer general\n1 1 1\n0001 1 +5\n",
+        ((1, 1), &[(0, 0, 5)]),
+    ),
+    (
+        "CoOrdinate INTEGER gEneral\n\n2 2 2\n\n1 1 1\n \n2 2 2\n",
+        ((2, 2), &[(0, 0, 1), (1, 1, 2)]),
+    ),
+];
+
+/// Whether the text means these sizes and triplets.
+pub fn means<T: MatrixMarketScalar + PartialEq>(
+    rt: &impl AllocGlobal,
+    below: &str,
+    sizes: (usize, usize),
+    triplets: &[(usize, usize, T)],
+) -> Result<bool, MatrixMarketError> {
+    let matrix: CooMatrix<T> = load(rt, START, below)?;
+    let mut same = (matrix.nrows(), matrix.ncols()) == sizes && matrix.nnz() == triplets.len();
+    for (found, wanted) in matrix.triplet_iter().zip(triplets) {
+        let (row, col, value) = found;
+        same = same && row == wanted.0 && col == wanted.1 && *value == wanted.2;
+    }
+    Ok(same)
+}
+
+#[test]
+fn reads_each_format_and_symmetry(rt: HostRuntime) -> Result<(), Fail> {
+    for (below, (sizes, triplets)) in MEANINGS {
+        let same = means(&rt, below, sizes, triplets)?;
+        assert!(rt; same, "at {below}");
+    }
+    Ok(())
+}
+
+/// Texts below the first words of the header, and the kinds of their refusals as i32.
+const REFUSALS: [(&str, MatrixMarketErrorKind); 20] = [
+    (
+        "coordinate integer symmetric\n2 2 2\n1 1 7\n1 2 3\n",
+        NotLowerTriangle,
+    ),
+    (
+        "coordinate integer skew-symmetric\n1 1 1\n1 1 0",
+        DiagonalError,
+    ),
+    ("coordinate real general\n1 1 1\n1 1 2.5", TypeMismatch),
+    ("coordinate real general\n1 1 1\n0 1 2.5", ZeroError),
+    ("coordinate real general\n1 1 1\n", EntryMismatch),
+    ("array pattern general\n1 1\n1\n", InvalidHeader),
+    ("coordinate integer symmetric\n2 3 0\n", NonSquare),
+    (
+        "coordinate integer general\n1 1 2\n1 1 1.0\n",
+        EntryMismatch,
+    ),
+    ("coordinate integer general\n1 1 1\n1 1 1.0\n", ParsingError),
+    (
+        "array integer general\n4294967296 4294967296\n",
+        EntryMismatch,
+    ),
+    ("coordinate pattern general\n1 1 1\n1 1\n", TypeMismatch),
+    ("coordinate real hermitian\n1 1 0\n", InvalidHeader),
+    ("coordinate real hermitian\n1 1 0\n.\n", ParsingError),
+    (
+        "coordinate real general\n1 1 1\n1 1 -.5E+07\n",
+        TypeMismatch,
+    ),
+    ("coordinate real general\n1 1 1\n1 1 1.2.3\n", ParsingError),
+    ("coordinate real general\n1 1 1\n1 1 5e\n", ParsingError),
+    ("coordinate integer general\n1 1\n", ParsingError),
+    ("array integer general\n1 1 1\n1\n", ParsingError),
+    (
+        "array integer symmetric\n3 3\n1\n2\n3\n4\n5\n",
+        EntryMismatch,
+    ),
+    (
+        "coordinate complex symmetric\n2 2 1\n2 1 1 0\n",
+        TypeMismatch,
+    ),
+];
+
+#[test]
+fn refuses_by_the_first_fault(rt: HostRuntime) {
+    for (below, kind) in REFUSALS {
+        let refusal = load::<i32>(&rt, START, below)
+            .err()
+            .map(|error| error.kind());
+        assert_eq!(rt; refusal, Some(kind), "at {below}");
+    }
+}

@@ -1,0 +1,77 @@
+//! Sizes at which a call could take too much memory or time, or answer an allocation failure that there was none.
+
+use crate::fixtures::{list, scalars};
+use sparse_algebra::scalar::W64;
+use sparse_base::coo::CooMatrix;
+use sparse_base::dense::DMatrix;
+use sparse_convert::serial::{
+    convert_coo_csc, convert_coo_csr, convert_dense_coo, convert_dense_csc, convert_dense_csr,
+};
+use sparse_forms::csr::CsrMatrix;
+use sparse_ops::serial::mul_csr;
+use std::alloc::{AllocError, Global};
+use std::test::Fail;
+
+// Whether the product of matrices without places, of these sizes, has the sizes and no places.
+fn is_empty_product(
+    alloc: Global,
+    (nrows, inner, ncols): (usize, usize, usize),
+) -> Result<bool, AllocError> {
+    let a: CsrMatrix<W64> = CsrMatrix::zeros(alloc, nrows, inner)?;
+    let b: CsrMatrix<W64> = CsrMatrix::zeros(alloc, inner, ncols)?;
+    if a.ncols() != b.nrows() {
+        return Ok(false);
+    }
+    let product = mul_csr(alloc, &a, &b)?;
+    Ok((product.nrows(), product.ncols(), product.nnz()) == (nrows, ncols, 0))
+}
+
+#[test]
+fn products_without_places(rt: HostRuntime) -> Result<(), Fail> {
+    for sizes in [(2, 2, 0), (0, 2, 2), (2, 0, 2), (0, 0, 0)] {
+        assert!(rt; is_empty_product(rt.alloc(), sizes)?);
+    }
+    Ok(())
+}
+
+// A list of triplets that go round the places of a 3 by 5 matrix.
+fn long_list(alloc: Global, count: usize) -> Result<CooMatrix<W64>, AllocError> {
+    let mut coo = CooMatrix::new(alloc, 3, 5);
+    for number in 0..count {
+        coo.push(number % 3, number % 5, W64::new(1))?;
+    }
+    Ok(coo)
+}
+
+#[test]
+fn a_long_list_is_converted(rt: HostRuntime) -> Result<(), Fail> {
+    let coo = long_list(rt.alloc(), 3000)?;
+    // Each place is met once in 15 triplets.
+    let sums = scalars::<W64>(rt.alloc(), &[200; 15])?;
+    let csr = convert_coo_csr(rt.alloc(), &coo)?;
+    assert!(rt; csr.values() == sums.as_slice());
+    let csc = convert_coo_csc(rt.alloc(), &coo)?;
+    assert!(rt; csc.values() == sums.as_slice());
+    Ok(())
+}
+
+// Whether a dense matrix of this size, without values, is converted to a list, and to rows and columns just where
+// their offsets can be had.
+fn converts_at_once(alloc: Global, nrows: usize, ncols: usize) -> Result<bool, AllocError> {
+    let dense: DMatrix<i32> = DMatrix::zeros(alloc, nrows, ncols)?;
+    let coo = convert_dense_coo(alloc, &dense)?;
+    let has_rows = convert_dense_csr(alloc, &dense).is_ok();
+    let has_columns = convert_dense_csc(alloc, &dense).is_ok();
+    Ok(coo.nnz() == 0 && has_rows == (nrows < 1000) && has_columns == (ncols < 1000))
+}
+
+#[test]
+fn dense_matrices_without_values_end_at_once(rt: HostRuntime) -> Result<(), Fail> {
+    for (nrows, ncols) in [(0, usize::MAX), (usize::MAX, 0), (0, 5), (5, 0)] {
+        assert!(rt; converts_at_once(rt.alloc(), nrows, ncols)?);
+    }
+    let tall = list::<W64>(rt.alloc(), (usize::MAX, 0), &[])?;
+    assert!(rt; convert_coo_csr(rt.alloc(), &tall).is_err());
+    assert!(rt; convert_coo_csc(rt.alloc(), &tall).is_ok());
+    Ok(())
+}

@@ -1,0 +1,168 @@
+//! Lists of triplets by rows and columns, and their products.
+
+use crate::generated::{Generator, list};
+use reference::products::{product_at, product_has};
+use reference::sums::{has_triplet, sum_at};
+use sparse_algebra::scalar::W64;
+use sparse_base::coo::CooMatrix;
+use sparse_convert::serial::{convert_coo_csc, convert_coo_csr};
+use sparse_forms::csr::CsrMatrix;
+use sparse_ops::serial::mul_csr;
+use std::alloc::{AllocError, Global};
+use std::test::Fail;
+
+/// The offsets, the indices and the values of a compressed matrix.
+#[derive(Drop)]
+struct Arrays {
+    offsets: Vec<usize>,
+    indices: Vec<usize>,
+    values: Vec<W64>,
+}
+
+impl Arrays {
+    // No lane.
+    fn new(alloc: Global) -> Result<Arrays, AllocError> {
+        let mut offsets = Vec::new(alloc);
+        offsets.push(0)?;
+        Ok(Arrays {
+            offsets,
+            indices: Vec::new(alloc),
+            values: Vec::new(alloc),
+        })
+    }
+
+    // Whether a matrix has these arrays.
+    fn are(&self, offsets: &[usize], indices: &[usize], values: &[W64]) -> bool {
+        self.offsets.as_slice() == offsets
+            && self.indices.as_slice() == indices
+            && self.values.as_slice() == values
+    }
+
+    fn push(&mut self, index: usize, value: W64) -> Result<(), AllocError> {
+        self.indices.push(index)?;
+        self.values.push(value)?;
+        Ok(())
+    }
+
+    // Ends a lane.
+    fn end(&mut self) -> Result<(), AllocError> {
+        self.offsets.push(self.indices.len())?;
+        Ok(())
+    }
+}
+
+fn push_row_of_list(
+    arrays: &mut Arrays,
+    coo: &CooMatrix<W64>,
+    row: usize,
+) -> Result<(), AllocError> {
+    for col in 0..coo.ncols() {
+        if has_triplet(coo, row, col) {
+            arrays.push(col, sum_at(coo, row, col))?;
+        }
+    }
+    arrays.end()
+}
+
+fn rows_of_list(alloc: Global, coo: &CooMatrix<W64>) -> Result<Arrays, AllocError> {
+    let mut arrays = Arrays::new(alloc)?;
+    for row in 0..coo.nrows() {
+        push_row_of_list(&mut arrays, coo, row)?;
+    }
+    Ok(arrays)
+}
+
+fn push_column_of_list(
+    arrays: &mut Arrays,
+    coo: &CooMatrix<W64>,
+    col: usize,
+) -> Result<(), AllocError> {
+    for row in 0..coo.nrows() {
+        if has_triplet(coo, row, col) {
+            arrays.push(row, sum_at(coo, row, col))?;
+        }
+    }
+    arrays.end()
+}
+
+fn columns_of_list(alloc: Global, coo: &CooMatrix<W64>) -> Result<Arrays, AllocError> {
+    let mut arrays = Arrays::new(alloc)?;
+    for col in 0..coo.ncols() {
+        push_column_of_list(&mut arrays, coo, col)?;
+    }
+    Ok(arrays)
+}
+
+#[test]
+fn lists_by_rows_and_columns(rt: HostRuntime) -> Result<(), Fail> {
+    let mut generator = Generator::new(1);
+    for sizes in [(1, 1), (3, 5), (5, 3), (4, 4), (0, 3), (3, 0), (200, 2)] {
+        let coo = list(rt.alloc(), &mut generator, sizes, 12)?;
+        let rows = rows_of_list(rt.alloc(), &coo)?;
+        let csr = convert_coo_csr(rt.alloc(), &coo)?;
+        assert!(rt; rows.are(csr.row_offsets(), csr.col_indices(), csr.values()));
+        let columns = columns_of_list(rt.alloc(), &coo)?;
+        let csc = convert_coo_csc(rt.alloc(), &coo)?;
+        assert!(rt; columns.are(csc.col_offsets(), csc.row_indices(), csc.values()));
+    }
+    Ok(())
+}
+
+fn push_row_of_product(
+    arrays: &mut Arrays,
+    a: &CooMatrix<W64>,
+    b: &CooMatrix<W64>,
+    row: usize,
+) -> Result<(), AllocError> {
+    for col in 0..b.ncols() {
+        if product_has(a, b, row, col) {
+            arrays.push(col, product_at(a, b, row, col))?;
+        }
+    }
+    arrays.end()
+}
+
+fn rows_of_product(
+    alloc: Global,
+    a: &CooMatrix<W64>,
+    b: &CooMatrix<W64>,
+) -> Result<Arrays, AllocError> {
+    let mut arrays = Arrays::new(alloc)?;
+    for row in 0..a.nrows() {
+        push_row_of_product(&mut arrays, a, b, row)?;
+    }
+    Ok(arrays)
+}
+
+// The product of two lists by rows, or `None` where their sizes don't fit.
+fn product(
+    alloc: Global,
+    a: &CooMatrix<W64>,
+    b: &CooMatrix<W64>,
+) -> Result<Option<CsrMatrix<W64>>, AllocError> {
+    let (left, right) = (convert_coo_csr(alloc, a)?, convert_coo_csr(alloc, b)?);
+    if left.ncols() != right.nrows() {
+        return Ok(None);
+    }
+    Ok(Some(mul_csr(alloc, &left, &right)?))
+}
+
+#[test]
+fn products_by_rows(rt: HostRuntime) -> Result<(), Fail> {
+    let mut generator = Generator::new(2);
+    for (nrows, inner, ncols) in [(1, 1, 1), (4, 3, 5), (3, 5, 4), (5, 5, 5), (2, 0, 3)] {
+        let a = list(rt.alloc(), &mut generator, (nrows, inner), 8)?;
+        let b = list(rt.alloc(), &mut generator, (inner, ncols), 8)?;
+        let product = product(rt.alloc(), &a, &b)?.ok_or("sizes that don't fit")?;
+        let rows = rows_of_product(rt.alloc(), &a, &b)?;
+        assert!(rt; product.ncols() == usize::from(ncols));
+        assert!(rt;
+            rows.are(
+                product.row_offsets(),
+                product.col_indices(),
+                product.values()
+            )
+        );
+    }
+    Ok(())
+}

@@ -1,0 +1,84 @@
+//! Operands, and the texts of operation errors.
+
+use sparse_op::{Op, OperationError, OperationErrorKind};
+use std::alloc::{AllocError, Global};
+use std::test::Fail;
+
+fn doubled(number: u32) -> u32 {
+    number.wrapping_mul(2)
+}
+
+fn operands_are_right() -> bool {
+    let plain = Op::from(4_u32);
+    let turned = plain.transposed();
+    plain == Op::NoOp(4)
+        && turned == Op::Transpose(4)
+        && turned.transposed() == plain
+        && *turned.inner_ref() == 4
+        && *turned.as_ref().into_inner() == 4
+        && turned.map_same_op(doubled) == Op::Transpose(8)
+        && plain.map_same_op(doubled) == Op::NoOp(8)
+}
+
+#[test]
+fn operands(rt: HostRuntime) -> Result<(), Fail> {
+    assert!(rt; operands_are_right());
+    Ok(())
+}
+
+// Whether the error has this kind, and is displayed with its name and this message.
+fn says(
+    alloc: Global,
+    error: &OperationError,
+    kind: OperationErrorKind,
+    text: &str,
+) -> Result<bool, Fail> {
+    let shown = format!(in alloc; "{error}")?;
+    Ok(*error.kind() == kind && shown.as_str() == text)
+}
+
+fn texts_are_right(alloc: Global) -> Result<bool, Fail> {
+    let sum =
+        "Sparse matrix operation error: InvalidPattern Message: Found entry in `op(a)` that is not present in `c`.";
+    let product =
+        "Sparse matrix operation error: InvalidPattern Message: Found unexpected entry that is not present in `c`.";
+    let diagonal =
+        "Sparse matrix operation error: Singular Message: Matrix contains at least one diagonal entry that is zero.";
+    let scalar = "Sparse matrix operation error: Singular Message: Scalar has no inverse.";
+    let memory = "Sparse matrix operation error: OutOfMemory Message: Out of memory.";
+    Ok(
+        says(
+            alloc,
+            &OperationError::of_sum_pattern(),
+            OperationErrorKind::InvalidPattern,
+            sum,
+        )? && says(
+            alloc,
+            &OperationError::of_product_pattern(),
+            OperationErrorKind::InvalidPattern,
+            product,
+        )? && says(
+            alloc,
+            &OperationError::of_singular_diagonal(),
+            OperationErrorKind::Singular,
+            diagonal,
+        )? && says(
+            alloc,
+            &OperationError::of_singular_scalar(),
+            OperationErrorKind::Singular,
+            scalar,
+        )? && says(
+            alloc,
+            &OperationError::from(AllocError),
+            OperationErrorKind::OutOfMemory,
+            memory,
+        )?,
+    )
+}
+
+#[test]
+fn texts(rt: HostRuntime) -> Result<(), Fail> {
+    let right = texts_are_right(rt.alloc())?;
+    assert!(rt; right);
+    Ok(())
+}

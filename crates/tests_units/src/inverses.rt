@@ -1,0 +1,174 @@
+//! Inverses, and arithmetic at the ends of the types.
+
+use sparse_algebra::scalar::{Ring, W32, W64, Zero};
+use sparse_units::{Mod, Units, W128};
+use std::process::Abort;
+use std::test::Fail;
+
+const GREATEST: u64 = 18446744073709551615;
+
+const HALF: u64 = 9223372036854775808;
+
+// The number of the inverse, if there is one.
+fn inverse<const M: u64>(number: u64) -> Option<u64> {
+    match Mod::<M>::new(number).recip() {
+        Some(inverse) => Some(inverse.get()),
+        None => None,
+    }
+}
+
+#[test]
+fn inverses_of_residues(rt: HostRuntime) {
+    let small = inverse::<7>(3) == Some(5) && inverse::<6>(2) == None && inverse::<1>(0) == Some(0);
+    // A modulus of zero is read as one.
+    let zero = Mod::<0>::new(9).get() == 0 && inverse::<0>(9) == Some(0);
+    assert!(&rt; small && zero);
+}
+
+#[test]
+fn residues_of_large_moduli(rt: HostRuntime) {
+    // Products near 2^128: the last residue is minus one.
+    let last = Mod::<GREATEST>::new(GREATEST - 1);
+    let half = Mod::<HALF>::new(HALF - 1);
+    let products = last.mul(last).get() == 1 && half.mul(half).get() == 1;
+    let sums = last.add(last).get() == GREATEST - 2 && half.add(half).get() == HALF - 2;
+    let inverses = inverse::<GREATEST>(GREATEST - 1) == Some(GREATEST - 1)
+        && inverse::<GREATEST>(3) == None
+        && inverse::<HALF>(3) == Some(3074457345618258603)
+        && inverse::<HALF>(6) == None;
+    assert!(&rt; products && sums && inverses);
+}
+
+#[test]
+fn residues_are_compared_and_negated(rt: HostRuntime) {
+    let two = Mod::<7>::new(9);
+    let same = two == Mod::new(2) && two.neg() == Mod::new(5) && Mod::<7>::zero().neg().get() == 0;
+    assert!(&rt; same && Mod::<1>::one() == Mod::<1>::zero());
+}
+
+// Whether some residue times x is one, tried one after the other.
+fn has_inverse_by_trial<const M: u64>(x: Mod<M>) -> bool {
+    for y in 0..M {
+        if x.mul(Mod::new(y)) == Mod::one() {
+            return true;
+        }
+    }
+    false
+}
+
+// Whether the inverses of all residues modulo M are found.
+fn all_units<const M: u64>() -> bool {
+    for number in 0..M {
+        let x = Mod::<M>::new(number);
+        let right = match x.recip() {
+            Some(inverse) => x.mul(inverse) == Mod::one(),
+            None => !has_inverse_by_trial(x),
+        };
+        if !right {
+            return false;
+        }
+    }
+    true
+}
+
+fn units_to_16() -> bool {
+    all_units::<1>()
+        && all_units::<2>()
+        && all_units::<3>()
+        && all_units::<4>()
+        && all_units::<5>()
+        && all_units::<6>()
+        && all_units::<7>()
+        && all_units::<8>()
+        && all_units::<9>()
+        && all_units::<10>()
+        && all_units::<11>()
+        && all_units::<12>()
+        && all_units::<13>()
+        && all_units::<14>()
+        && all_units::<15>()
+        && all_units::<16>()
+}
+
+fn units_to_32() -> bool {
+    all_units::<17>()
+        && all_units::<18>()
+        && all_units::<19>()
+        && all_units::<20>()
+        && all_units::<21>()
+        && all_units::<22>()
+        && all_units::<23>()
+        && all_units::<24>()
+        && all_units::<25>()
+        && all_units::<26>()
+        && all_units::<27>()
+        && all_units::<28>()
+        && all_units::<29>()
+        && all_units::<30>()
+        && all_units::<31>()
+        && all_units::<32>()
+}
+
+fn units_to_48() -> bool {
+    all_units::<33>()
+        && all_units::<34>()
+        && all_units::<35>()
+        && all_units::<36>()
+        && all_units::<37>()
+        && all_units::<38>()
+        && all_units::<39>()
+        && all_units::<40>()
+        && all_units::<41>()
+        && all_units::<42>()
+        && all_units::<43>()
+        && all_units::<44>()
+        && all_units::<45>()
+        && all_units::<46>()
+        && all_units::<47>()
+        && all_units::<48>()
+}
+
+fn units_to_64() -> bool {
+    all_units::<49>()
+        && all_units::<50>()
+        && all_units::<51>()
+        && all_units::<52>()
+        && all_units::<53>()
+        && all_units::<54>()
+        && all_units::<55>()
+        && all_units::<56>()
+        && all_units::<57>()
+        && all_units::<58>()
+        && all_units::<59>()
+        && all_units::<60>()
+        && all_units::<61>()
+        && all_units::<62>()
+        && all_units::<63>()
+        && all_units::<64>()
+}
+
+#[test]
+fn units_of_small_moduli(rt: HostRuntime) {
+    assert!(&rt; units_to_16() && units_to_32() && units_to_48() && units_to_64());
+}
+
+#[test]
+fn inverses_of_wrapping_integers(rt: HostRuntime) {
+    let w32 = W32::new(3).recip() == Some(W32::new(-1431655765)) && W32::new(-6).recip() == None;
+    let w64 = W64::new(3).recip() == Some(W64::new(-6148914691236517205))
+        && W64::new(0).recip() == None;
+    let w128 = W128::new(3).recip() == Some(W128::new(-113427455640312821154458202477256070485));
+    assert!(&rt; w32 && w64 && w128);
+}
+
+#[test]
+fn the_ends_of_128_bits(rt: HostRuntime) {
+    let (least, greatest) = (W128::new(i128::MIN), W128::new(i128::MAX));
+    let sums = greatest.add(W128::one()) == least
+        && least.neg() == least
+        && greatest.neg().get() == i128::MIN + 1;
+    let inverses = greatest.mul(greatest) == W128::one()
+        && greatest.recip() == Some(greatest)
+        && least.recip() == None;
+    assert!(&rt; sums && inverses && least.add(least) == W128::zero());
+}

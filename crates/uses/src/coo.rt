@@ -1,0 +1,66 @@
+//! Examples of the module `coo`.
+
+use nalgebra_sparse::dense::DMatrix;
+use nalgebra_sparse::scalar::{Ring, W64};
+use nalgebra_sparse::{CooMatrix, SparseFormatErrorKind};
+use std::alloc::Global;
+use std::test::Fail;
+
+fn repeated_triplets_are_kept(alloc: Global) -> Result<bool, Fail> {
+    let mut matrix = CooMatrix::new(alloc, 2, 3);
+    matrix.push(1, 2, 5)?;
+    matrix.push(1, 2, 6)?;
+    Ok(matrix.nnz() == 2 && matrix.values() == [5, 6].as_slice())
+}
+
+fn lists_become_triplets(alloc: Global) -> Result<bool, Fail> {
+    let rows = vec![in alloc; 0, 1]?;
+    let cols = vec![in alloc; 2, 0]?;
+    let values = vec![in alloc; 5, 7]?;
+    let matrix = CooMatrix::try_from_triplets(2, 3, rows, cols, values)?;
+    Ok(matrix.triplet_iter().next() == Some((0, 2, &5)))
+}
+
+fn a_row_is_out_of_bounds(alloc: Global) -> Result<bool, Fail> {
+    let rows = vec![in alloc; 2]?;
+    let cols = vec![in alloc; 0]?;
+    let values = vec![in alloc; 5]?;
+    let refused = CooMatrix::try_from_triplets(2, 3, rows, cols, values).err();
+    let error = refused.ok_or("no error")?;
+    Ok(*error.kind() == SparseFormatErrorKind::IndexOutOfBounds)
+}
+
+fn values_are_doubled(alloc: Global) -> Result<bool, Fail> {
+    let mut matrix = CooMatrix::new(alloc, 2, 2);
+    matrix.push(0, 1, W64::new(5))?;
+    for (_, _, value) in matrix.triplet_iter_mut() {
+        *value = value.add(*value);
+    }
+    Ok(matrix.values() == [W64::new(10)].as_slice())
+}
+
+fn a_block_is_appended(alloc: Global) -> Result<bool, Fail> {
+    let block = DMatrix::repeat(alloc, 1, 2, 4)?;
+    let mut matrix = CooMatrix::new(alloc, 2, 3);
+    if matrix.nrows() >= 1 + block.nrows() && matrix.ncols() >= 1 + block.ncols() {
+        matrix.push_matrix(1, 1, &block)?;
+    }
+    Ok(matrix.row_indices() == [1, 1].as_slice() && matrix.col_indices() == [1, 2].as_slice())
+}
+
+fn triplets_are_dropped(alloc: Global) -> Result<bool, Fail> {
+    let mut matrix = CooMatrix::new(alloc, 2, 3);
+    matrix.push(1, 2, 5)?;
+    matrix.clear_triplets();
+    Ok(matrix == CooMatrix::zeros(alloc, 2, 3))
+}
+
+#[test]
+fn triplet_lists(rt: HostRuntime) -> Result<(), Fail> {
+    let alloc = rt.alloc();
+    let built = repeated_triplets_are_kept(alloc)? && lists_become_triplets(alloc)?;
+    let refused = a_row_is_out_of_bounds(alloc)?;
+    let changed = values_are_doubled(alloc)? && triplets_are_dropped(alloc)?;
+    assert!(rt; built && refused && changed && a_block_is_appended(alloc)?);
+    Ok(())
+}

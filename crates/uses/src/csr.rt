@@ -1,0 +1,109 @@
+//! Examples of the module `csr`.
+
+use nalgebra_sparse::scalar::{Ring, W64};
+use nalgebra_sparse::{CsrMatrix, SparseEntry, SparseFormatErrorKind};
+use std::alloc::Global;
+use std::test::Fail;
+
+fn sorted_arrays_become_rows(alloc: Global) -> Result<bool, Fail> {
+    let offsets = vec![in alloc; 0, 2, 3]?;
+    let columns = vec![in alloc; 0, 2, 1]?;
+    let values = vec![in alloc; 4, 5, 6]?;
+    let matrix = CsrMatrix::try_from_csr_data(2, 3, offsets, columns, values)?;
+    Ok(matrix.nnz() == 3 && matrix.get_entry(0, 2) == Some(SparseEntry::NonZero(&5)))
+}
+
+fn a_repeated_column_is_an_error(alloc: Global) -> Result<bool, Fail> {
+    let offsets = vec![in alloc; 0, 2]?;
+    let columns = vec![in alloc; 1, 1]?;
+    let values = vec![in alloc; 4, 5]?;
+    let refused = CsrMatrix::try_from_csr_data(1, 3, offsets, columns, values).err();
+    let error = refused.ok_or("no error")?;
+    Ok(*error.kind() == SparseFormatErrorKind::DuplicateEntry)
+}
+
+fn unsorted_arrays_are_sorted(alloc: Global) -> Result<bool, Fail> {
+    let offsets = vec![in alloc; 0, 2]?;
+    let columns = vec![in alloc; 2, 0]?;
+    let values = vec![in alloc; 5, 4]?;
+    let matrix = CsrMatrix::try_from_unsorted_csr_data(alloc, 1, 3, offsets, columns, values)?;
+    Ok(matrix.col_indices() == [0, 2].as_slice() && matrix.values() == [4, 5].as_slice())
+}
+
+fn the_identity_stores_its_diagonal(alloc: Global) -> Result<bool, Fail> {
+    let identity = CsrMatrix::<W64>::identity(alloc, 3)?;
+    Ok(identity.row_offsets() == [0, 1, 2, 3].as_slice() && identity.values()[2] == W64::one())
+}
+
+fn a_missing_entry_is_zero(alloc: Global) -> Result<bool, Fail> {
+    let matrix = CsrMatrix::<i32>::zeros(alloc, 1, 2)?;
+    let outside = matrix.get_entry(0, 2);
+    Ok(matrix.get_entry(0, 1) == Some(SparseEntry::Zero) && outside.is_none())
+}
+
+fn one_row_is_read(alloc: Global) -> Result<bool, Fail> {
+    let identity = CsrMatrix::<W64>::identity(alloc, 2)?;
+    let row = identity.get_row(1).ok_or("out of bounds")?;
+    Ok(row.ncols() == 2 && row.col_indices() == [1].as_slice())
+}
+
+fn values_are_replaced(alloc: Global) -> Result<bool, Fail> {
+    let mut matrix = CsrMatrix::<W64>::identity(alloc, 2)?;
+    for (row, _, value) in matrix.triplet_iter_mut() {
+        *value = W64::new(if row == 0 { 4 } else { 5 });
+    }
+    Ok(matrix.values() == [W64::new(4), W64::new(5)].as_slice())
+}
+
+fn the_diagonal_is_filtered_out(alloc: Global) -> Result<bool, Fail> {
+    let identity = CsrMatrix::<W64>::identity(alloc, 2)?;
+    let rest = identity.filter(alloc, |row, column, _| row != column)?;
+    Ok(rest == CsrMatrix::zeros(alloc, 2, 2)?)
+}
+
+fn the_upper_triangle_is_kept(alloc: Global) -> Result<bool, Fail> {
+    let offsets = vec![in alloc; 0, 2, 4]?;
+    let columns = vec![in alloc; 0, 1, 0, 1]?;
+    let values = vec![in alloc; 1, 2, 3, 4]?;
+    let matrix = CsrMatrix::try_from_csr_data(2, 2, offsets, columns, values)?;
+    Ok(matrix.upper_triangle(alloc)?.values() == [1, 2, 4].as_slice())
+}
+
+fn rows_become_columns(alloc: Global) -> Result<bool, Fail> {
+    let offsets = vec![in alloc; 0, 2]?;
+    let columns = vec![in alloc; 0, 2]?;
+    let values = vec![in alloc; 4, 5]?;
+    let matrix = CsrMatrix::try_from_csr_data(1, 3, offsets, columns, values)?;
+    Ok(matrix.transpose(alloc)?.row_offsets() == [0, 1, 1, 2].as_slice())
+}
+
+fn values_are_negated_and_scaled(alloc: Global) -> Result<bool, Fail> {
+    let mut matrix = -CsrMatrix::<W64>::identity(alloc, 1)?;
+    matrix *= W64::new(3);
+    Ok(matrix.values() == [W64::new(-3)].as_slice())
+}
+
+#[test]
+fn construction(rt: HostRuntime) -> Result<(), Fail> {
+    let alloc = rt.alloc();
+    let sorted = sorted_arrays_become_rows(alloc)? && a_repeated_column_is_an_error(alloc)?;
+    let unsorted = unsorted_arrays_are_sorted(alloc)?;
+    assert!(rt; sorted && unsorted && the_identity_stores_its_diagonal(alloc)?);
+    Ok(())
+}
+
+#[test]
+fn reading_and_writing(rt: HostRuntime) -> Result<(), Fail> {
+    let alloc = rt.alloc();
+    let read = a_missing_entry_is_zero(alloc)? && one_row_is_read(alloc)?;
+    assert!(rt; read && values_are_replaced(alloc)? && values_are_negated_and_scaled(alloc)?);
+    Ok(())
+}
+
+#[test]
+fn copies(rt: HostRuntime) -> Result<(), Fail> {
+    let alloc = rt.alloc();
+    let kept = the_diagonal_is_filtered_out(alloc)? && the_upper_triangle_is_kept(alloc)?;
+    assert!(rt; kept && rows_become_columns(alloc)?);
+    Ok(())
+}

@@ -1,0 +1,20 @@
+//! Examples of the module `factorization`.
+
+use nalgebra_sparse::factorization::CscSymbolicCholesky;
+use nalgebra_sparse::pattern::SparsityPattern;
+use std::alloc::Global;
+use std::test::Fail;
+
+fn a_factor_fills_in(alloc: Global) -> Result<bool, Fail> {
+    let offsets = vec![in alloc; 0, 1, 3, 5]?;
+    let indices = vec![in alloc; 0, 0, 1, 0, 2]?;
+    let pattern = SparsityPattern::try_from_offsets_and_indices(3, 3, offsets, indices)?;
+    let factor = CscSymbolicCholesky::factor(alloc, pattern)?;
+    Ok(factor.l_pattern().minor_indices() == [0, 1, 2, 1, 2, 2].as_slice())
+}
+
+#[test]
+fn factors(rt: HostRuntime) -> Result<(), Fail> {
+    assert!(rt; a_factor_fills_in(rt.alloc())?);
+    Ok(())
+}

@@ -1,0 +1,75 @@
+//! Examples of the module `ops`.
+
+use nalgebra_sparse::dense::DMatrix;
+use nalgebra_sparse::ops::Op;
+use nalgebra_sparse::ops::serial::{
+    OperationErrorKind, add_csr, div_scalar_csr, mul_csr, scale_csr, spmm_csr_pattern,
+    spsolve_csc_lower_triangular, sub_csr,
+};
+use nalgebra_sparse::pattern::SparsityPattern;
+use nalgebra_sparse::scalar::W64;
+use nalgebra_sparse::{CscMatrix, CsrMatrix};
+use std::alloc::Global;
+use std::test::Fail;
+
+fn a_matrix_is_squared(alloc: Global) -> Result<bool, Fail> {
+    let offsets = vec![in alloc; 0, 2, 3]?;
+    let columns = vec![in alloc; 0, 1, 1]?;
+    let values = vec![in alloc; W64::new(1), W64::new(2), W64::new(3)]?;
+    let matrix = CsrMatrix::try_from_csr_data(2, 2, offsets, columns, values)?;
+    let square = mul_csr(alloc, &matrix, &matrix)?;
+    Ok(square.values() == [W64::new(1), W64::new(8), W64::new(9)].as_slice())
+}
+
+fn places_of_a_square(alloc: Global) -> Result<bool, Fail> {
+    let offsets = vec![in alloc; 0, 1, 2]?;
+    let indices = vec![in alloc; 1, 0]?;
+    let pattern = SparsityPattern::try_from_offsets_and_indices(2, 2, offsets, indices)?;
+    let square = spmm_csr_pattern(alloc, &pattern, &pattern)?;
+    Ok(square.minor_indices() == [0, 1].as_slice())
+}
+
+fn a_matrix_is_doubled(alloc: Global) -> Result<bool, Fail> {
+    let identity = CsrMatrix::<W64>::identity(alloc, 2)?;
+    let double = add_csr(alloc, &identity, &identity)?;
+    Ok(double == scale_csr(alloc, &identity, W64::new(2))?)
+}
+
+fn a_difference_stores_zeros(alloc: Global) -> Result<bool, Fail> {
+    let identity = CsrMatrix::<W64>::identity(alloc, 2)?;
+    let zeros = sub_csr(alloc, &identity, &identity)?;
+    Ok(zeros.values() == [W64::new(0), W64::new(0)].as_slice())
+}
+
+fn two_has_no_inverse(alloc: Global) -> Result<bool, Fail> {
+    let identity = CsrMatrix::<W64>::identity(alloc, 2)?;
+    let refused = div_scalar_csr(alloc, &identity, W64::new(2)).err();
+    let error = refused.ok_or("no error")?;
+    Ok(*error.kind() == OperationErrorKind::Singular)
+}
+
+fn a_triangular_system_is_solved(alloc: Global) -> Result<bool, Fail> {
+    let offsets = vec![in alloc; 0, 2, 3]?;
+    let rows = vec![in alloc; 0, 1, 1]?;
+    let values = vec![in alloc; W64::new(1), W64::new(2), W64::new(1)]?;
+    let l = CscMatrix::try_from_csc_data(2, 2, offsets, rows, values)?;
+    let mut b = DMatrix::from_column_slice(alloc, 2, 1, &[W64::new(3), W64::new(8)])?;
+    spsolve_csc_lower_triangular(Op::NoOp(&l), &mut b)?;
+    Ok(b.as_slice() == [W64::new(3), W64::new(2)].as_slice())
+}
+
+#[test]
+fn products_and_solves(rt: HostRuntime) -> Result<(), Fail> {
+    let alloc = rt.alloc();
+    let products = a_matrix_is_squared(alloc)? && places_of_a_square(alloc)?;
+    assert!(rt; products && a_triangular_system_is_solved(alloc)?);
+    Ok(())
+}
+
+#[test]
+fn sums_and_multiples(rt: HostRuntime) -> Result<(), Fail> {
+    let alloc = rt.alloc();
+    let sums = a_matrix_is_doubled(alloc)? && a_difference_stores_zeros(alloc)?;
+    assert!(rt; sums && two_has_no_inverse(alloc)?);
+    Ok(())
+}
