@@ -1,15 +1,21 @@
 -- Laws of the algebra of plain matrices.
-use Rattle.std.proofs.Common.{◌≡◌, ◌≢◌, ℕ, zero, suc, ◌<◌, ◌⊎◌, inl, inr, Bool, true, false, ◌&&◌, ap, sym, subst, ◌∙◌, refl, arith}
+use Rattle.std.proofs.Common.{◌≡◌, ◌≢◌, ℕ, zero, suc, ◌<◌, ◌⊎◌, inl, inr, Bool, true, false, ◌&&◌}
+use Rattle.std.proofs.Common.{ap, sym, subst, ◌∙◌, refl, arith}
 use Rattle.std.specs.Prelude.{◌||◌, nat_eq, nat_lt, List, [], ◌∷◌, All}
 use Rattle.std.specs.List.{list_any}
 use Rattle.std.proofs.lemmas.Bool.Decides.{Decides-eqb, Decides-ltb, nat_tests}
 use Rattle.sparse_lemmas.proofs.Cases.{and_both, and_parts, neither, or_cases, true_or_false}
 use Rattle.sparse_algebra.specs.Algebra.{CommRing}
 use Rattle.sparse_algebra.specs.Sums.{sum_below, sum_by, where_true}
-use Rattle.sparse_algebra.specs.Plain.{Plain, IsProper, IsWithin, any_below, is_at, plain_of_triplets, plain_sum, plain_negation, plain_difference, plain_scaled, plain_product, plain_transpose, plain_identity, plain_kept}
+use Rattle.sparse_algebra.specs.Plain.{Plain, IsProper, IsWithin, any_below, is_at}
+use Rattle.sparse_algebra.specs.Plain.{plain_of_triplets, plain_sum, plain_negation}
+use Rattle.sparse_algebra.specs.Plain.{plain_difference, plain_scaled, plain_product}
+use Rattle.sparse_algebra.specs.Plain.{plain_transpose, plain_identity, plain_kept}
 use Rattle.sparse_algebra.proofs.RingLemmas.{zero_add, mul_zero, neg_unique}
-use Rattle.sparse_algebra.proofs.SumLemmas.{sum_below-same, sum_below-zero, sum_below-add, product_assoc}
-use Rattle.sparse_algebra.proofs.PlainLemmas.{same_plain, same_bool, any_below-same, any_is, transpose_product}
+use Rattle.sparse_algebra.proofs.SumLemmas.{sum_below-same, sum_below-zero, sum_below-add}
+use Rattle.sparse_algebra.proofs.SumLemmas.{product_assoc}
+use Rattle.sparse_algebra.proofs.PlainLemmas.{same_plain, same_bool, any_below-same, any_is}
+use Rattle.sparse_algebra.proofs.PlainLemmas.{transpose_product}
 
 -- ---- tests
 
@@ -40,7 +46,8 @@ any_below-none (suc n) = ap (λ b. b || false) (any_below-none n)
 any_below-or : (n : ℕ) (s t : ℕ → Bool)
     → any_below n (λ k. s k || t k) ≡ (any_below n s || any_below n t)
 any_below-or zero s t = refl
-any_below-or (suc n) s t = ap (λ b. b || (s n || t n)) (any_below-or n s t) ∙ or_cross (any_below n s) (any_below n t) (s n) (t n)
+any_below-or (suc n) s t = ap (λ b. b || (s n || t n)) (any_below-or n s t)
+    ∙ or_cross (any_below n s) (any_below n t) (s n) (t n)
 
 any_below-and_left : (n : ℕ) (b : Bool) (t : ℕ → Bool)
     → any_below n (λ k. b && t k) ≡ (b && any_below n t)
@@ -50,19 +57,24 @@ any_below-and_left n false t = any_below-none n
 any_below-and_right : (n : ℕ) (t : ℕ → Bool) (b : Bool)
     → any_below n (λ k. t k && b) ≡ (any_below n t && b)
 any_below-and_right zero t b = refl
-any_below-and_right (suc n) t b = ap (λ c. c || (t n && b)) (any_below-and_right n t b) ∙ sym (or-and (any_below n t) (t n) b)
+any_below-and_right (suc n) t b = ap (λ c. c || (t n && b)) (any_below-and_right n t b)
+    ∙ sym (or-and (any_below n t) (t n) b)
 
 -- whether some pair passes, in true_or_false order
 any_below-exchange : (m n : ℕ) (t : ℕ → ℕ → Bool)
     → any_below m (λ i. any_below n (λ j. t i j)) ≡ any_below n (λ j. any_below m (λ i. t i j))
 any_below-exchange zero n t = sym (any_below-none n)
-any_below-exchange (suc m) n t = ap (λ b. b || any_below n (λ j. t m j)) (any_below-exchange m n t) ∙ sym (any_below-or n (λ j. any_below m (λ i. t i j)) (λ j. t m j))
+any_below-exchange (suc m) n t = ap (λ b. b || any_below n (λ j. t m j)) (any_below-exchange m n t)
+    ∙ sym (any_below-or n (λ j. any_below m (λ i. t i j)) (λ j. t m j))
 
 -- some l has some k with a k and b k l, and c l: some k has a k, and some l with b k l and c l
 any_below-assoc : (m n : ℕ) (a : ℕ → Bool) (b : ℕ → ℕ → Bool) (c : ℕ → Bool)
-    → any_below n (λ l. any_below m (λ k. a k && b k l) && c l) ≡ any_below m (λ k. a k && any_below n (λ l. b k l && c l))
+    → any_below n (λ l. any_below m (λ k. a k && b k l) && c l) ≡ any_below m
+    (λ k. a k && any_below n (λ l. b k l && c l))
 any_below-assoc m n a b c =
-    any_below-same n _ (λ l. any_below m (λ k. a k && (b k l && c l))) (λ l. sym (any_below-and_right m (λ k. a k && b k l) (c l)) ∙ any_below-same m _ _ (λ k. and_assoc (a k) (b k l) (c l)))
+    any_below-same n _ (λ l. any_below m (λ k. a k && (b k l && c l)))
+    (λ l. sym (any_below-and_right m (λ k. a k && b k l) (c l))
+    ∙ any_below-same m _ _ (λ k. and_assoc (a k) (b k l) (c l)))
     ∙ any_below-exchange n m (λ l k. a k && (b k l && c l))
     ∙ any_below-same m _ _ (λ k. any_below-and_left n (a k) (λ l. b k l && c l))
 
@@ -90,10 +102,12 @@ module _ (R : CommRing) where
   sum_below-one (suc n) i f lt h = elim (true_or_false (nat_eq n i)) [
     | inl same ↦
         let at : n ≡ i = (Decides-eqb n i).0 same in
-        ap (λ c. R.add c (f n)) (sum_below-none n f (λ k less. h k (omega arith))) ∙ zero_add R (f n) ∙ ap f at
+        ap (λ c. R.add c (f n)) (sum_below-none n f (λ k less. h k (omega arith)))
+        ∙ zero_add R (f n) ∙ ap f at
     | inr other ↦
         let apart : n ≢ i = λ e. grind (arith, nat_tests) in
-        ap (R.add (sum_below R n f)) (h n apart) ∙ R.laws.add_zero _ ∙ sum_below-one n i f (omega arith) h
+        ap (R.add (sum_below R n f)) (h n apart) ∙ R.laws.add_zero _
+        ∙ sum_below-one n i f (omega arith) h
   ]
 
   neg_zero : R.neg R.zero ≡ R.zero
@@ -103,23 +117,39 @@ module _ (R : CommRing) where
 
   pub product_associative : (a b c : Plain R)
       → plain_product R (plain_product R a b) c ≡ plain_product R a (plain_product R b c)
-  product_associative a b c = same_plain (plain_product R (plain_product R a b) c) (plain_product R a (plain_product R b c)) refl refl
+  product_associative a b c = same_plain (plain_product R (plain_product R a b) c)
+      (plain_product R a (plain_product R b c)) refl refl
       (λ i j. any_below-assoc a.cols b.cols (λ k. a.has i k) b.has (λ l. c.has l j))
       (λ i j. product_assoc R a.cols b.cols (λ k. a.value i k) b.value (λ l. c.value l j))
 
   pub product-sum : (a b c : Plain R)
-      → plain_product R a (plain_sum R b c) ≡ plain_sum R (plain_product R a b) (plain_product R a c)
-  product-sum a b c = same_plain (plain_product R a (plain_sum R b c)) (plain_sum R (plain_product R a b) (plain_product R a c)) refl refl
-      (λ i j. any_below-same a.cols _ _ (λ k. and-or (a.has i k) (b.has k j) (c.has k j)) ∙ any_below-or a.cols _ _)
-      (λ i j. sum_below-same R a.cols _ _ (λ k _. R.laws.distrib (a.value i k) (b.value k j) (c.value k j)) ∙ sum_below-add R a.cols _ _)
+      → plain_product R a (plain_sum R b c) ≡ plain_sum R (plain_product R a b)
+      (plain_product R a c)
+  product-sum a b c = same_plain (plain_product R a (plain_sum R b c))
+      (plain_sum R (plain_product R a b) (plain_product R a c)) refl refl
+      (λ i j. any_below-same a.cols _ _ (λ k. and-or (a.has i k) (b.has k j) (c.has k j))
+      ∙ any_below-or a.cols _ _)
+      (λ i j. sum_below-same R a.cols _ _ (λ k _. R.laws.distrib (a.value i k) (b.value k j)
+      (c.value k j)) ∙ sum_below-add R a.cols _ _)
 
   pub sum-product : (a b c : Plain R) → a.cols ≡ b.cols
-      → plain_product R (plain_sum R a b) c ≡ plain_sum R (plain_product R a c) (plain_product R b c)
-  sum-product a b c e = same_plain (plain_product R (plain_sum R a b) c) (plain_sum R (plain_product R a c) (plain_product R b c)) refl refl
-      (λ i j. any_below-same a.cols _ _ (λ k. or-and (a.has i k) (b.has i k) (c.has k j)) ∙ any_below-or a.cols _ _ ∙ ap (λ n. any_below a.cols (λ k. a.has i k && c.has k j) || any_below n (λ k. b.has i k && c.has k j)) e)
+      → plain_product R (plain_sum R a b) c ≡ plain_sum R (plain_product R a c)
+      (plain_product R b c)
+  sum-product a b c e = same_plain (plain_product R (plain_sum R a b) c)
+      (plain_sum R (plain_product R a c) (plain_product R b c)) refl refl
+      (λ i j. any_below-same a.cols _ _ (λ k. or-and (a.has i k) (b.has i k) (c.has k j))
+      ∙ any_below-or a.cols _ _ ∙ ap (λ n. any_below a.cols (λ k. a.has i k && c.has k j)
+      || any_below n (λ k. b.has i k && c.has k j)) e)
       (λ i j.
-      sum_below-same R a.cols _ _ (λ k _. R.laws.mul_comm _ (c.value k j) ∙ R.laws.distrib (c.value k j) (a.value i k) (b.value i k) ∙ ap (λ x. R.add x (R.mul (c.value k j) (b.value i k))) (R.laws.mul_comm (c.value k j) (a.value i k)) ∙ ap (R.add (R.mul (a.value i k) (c.value k j))) (R.laws.mul_comm (c.value k j) (b.value i k)))
-      ∙ sum_below-add R a.cols _ _ ∙ ap (λ n. R.add (sum_below R a.cols (λ k. R.mul (a.value i k) (c.value k j))) (sum_below R n (λ k. R.mul (b.value i k) (c.value k j)))) e)
+      sum_below-same R a.cols _ _ (λ k _. R.laws.mul_comm _ (c.value k j)
+      ∙ R.laws.distrib (c.value k j) (a.value i k) (b.value i k)
+      ∙ ap (λ x. R.add x (R.mul (c.value k j) (b.value i k)))
+      (R.laws.mul_comm (c.value k j) (a.value i k))
+      ∙ ap (R.add (R.mul (a.value i k) (c.value k j)))
+      (R.laws.mul_comm (c.value k j) (b.value i k)))
+      ∙ sum_below-add R a.cols _ _
+      ∙ ap (λ n. R.add (sum_below R a.cols (λ k. R.mul (a.value i k) (c.value k j)))
+      (sum_below R n (λ k. R.mul (b.value i k) (c.value k j)))) e)
 
   pub transpose_twice : (a : Plain R) → plain_transpose R (plain_transpose R a) ≡ a
   transpose_twice a = refl
@@ -129,7 +159,8 @@ module _ (R : CommRing) where
   pub proper_sum : (a b : Plain R) → IsProper a → IsProper b → IsProper (plain_sum R a b)
   proper_sum a b pa pb i j h =
       let parts = neither (a.has i j) (b.has i j) h in
-      ap (λ c. R.add c (b.value i j)) (pa i j parts.0) ∙ ap (R.add R.zero) (pb i j parts.1) ∙ R.laws.add_zero R.zero
+      ap (λ c. R.add c (b.value i j)) (pa i j parts.0) ∙ ap (R.add R.zero) (pb i j parts.1)
+      ∙ R.laws.add_zero R.zero
 
   pub proper_negation : (a : Plain R) → IsProper a → IsProper (plain_negation R a)
   proper_negation a p i j h = ap R.neg (p i j h) ∙ neg_zero
@@ -150,27 +181,34 @@ module _ (R : CommRing) where
   pub proper_kept : (test : ℕ → ℕ → Bool) (a : Plain R) → IsProper (plain_kept R test a)
   proper_kept test a i j h = where_no _ (a.value i j) h
 
-  pub proper_plain_of_triplets : {T : Type 0} (f : T → R.Carrier) (rows cols : ℕ) (ts : List (ℕ × ℕ × T))
+  pub proper_plain_of_triplets : {T : Type 0} (f : T → R.Carrier) (rows cols : ℕ)
+      (ts : List (ℕ × ℕ × T))
       → IsProper (plain_of_triplets R f rows cols ts)
   proper_plain_of_triplets f rows cols [] i j h = refl
   proper_plain_of_triplets f rows cols (t ∷ ts) i j h =
       let parts = neither (is_at i j t) (list_any (is_at i j) ts) h in
-      ap (λ c. R.add c (sum_by R (λ t. where_true R (is_at i j t) (f t.2)) ts)) (where_no (is_at i j t) (f t.2) parts.0) ∙ zero_add R _ ∙ proper_plain_of_triplets f rows cols ts i j parts.1
+      ap (λ c. R.add c (sum_by R (λ t. where_true R (is_at i j t) (f t.2)) ts))
+      (where_no (is_at i j t) (f t.2) parts.0) ∙ zero_add R _
+      ∙ proper_plain_of_triplets f rows cols ts i j parts.1
 
   -- ---- places inside the sizes
 
-  pub within_plain_of_triplets : {T : Type 0} (f : T → R.Carrier) (rows cols : ℕ) (ts : List (ℕ × ℕ × T))
+  pub within_plain_of_triplets : {T : Type 0} (f : T → R.Carrier) (rows cols : ℕ)
+      (ts : List (ℕ × ℕ × T))
       → All (λ t. (t.0 < rows) × (t.1 < cols)) ts → IsWithin (plain_of_triplets R f rows cols ts)
   within_plain_of_triplets f rows cols [] inside i j h = cc
-  within_plain_of_triplets f rows cols (t ∷ ts) inside i j h = elim (or_cases (is_at i j t) (list_any (is_at i j) ts) h) [
-    | inl here ↦
-        let both = and_parts (nat_eq t.0 i) (nat_eq t.1 j) here in
-        let row : t.0 ≡ i = (Decides-eqb t.0 i).0 both.0 in
-        let col : t.1 ≡ j = (Decides-eqb t.1 j).0 both.1 in
-        let at = inside 0 t (omega arith) in
-        (omega (arith, at.0), omega (arith, at.1))
-    | inr later ↦ within_plain_of_triplets f rows cols ts (λ k d lt. inside (suc k) d (omega arith)) i j later
-  ]
+  within_plain_of_triplets f rows cols (t ∷ ts) inside i j h =
+      elim (or_cases (is_at i j t) (list_any (is_at i j) ts) h) [
+        | inl here ↦
+            let both = and_parts (nat_eq t.0 i) (nat_eq t.1 j) here in
+            let row : t.0 ≡ i = (Decides-eqb t.0 i).0 both.0 in
+            let col : t.1 ≡ j = (Decides-eqb t.1 j).0 both.1 in
+            let at = inside 0 t (omega arith) in
+            (omega (arith, at.0), omega (arith, at.1))
+        | inr later ↦ within_plain_of_triplets f rows cols ts
+            (λ k d lt. inside (suc k) d (omega arith))
+            i j later
+      ]
 
   pub within_sum : (a b : Plain R) → a.rows ≡ b.rows → a.cols ≡ b.cols → IsWithin a → IsWithin b
       → IsWithin (plain_sum R a b)
@@ -203,7 +241,8 @@ module _ (R : CommRing) where
 
   pub identity-product : (n : ℕ) (a : Plain R) → n ≡ a.rows → IsProper a → IsWithin a
       → plain_product R (plain_identity R n) a ≡ a
-  identity-product n a e proper within = same_plain (plain_product R (plain_identity R n) a) a e refl places values
+  identity-product n a e proper within = same_plain (plain_product R (plain_identity R n) a) a e
+      refl places values
     where
       on_diagonal : (i : ℕ) → i < n → (nat_eq i i && nat_lt i n) ≡ true
       on_diagonal i lt = and_both _ _ ((Decides-eqb i i).1 refl) ((Decides-ltb i n).1 lt)
@@ -220,21 +259,27 @@ module _ (R : CommRing) where
           ap (λ k. a.has k j) at ∙ both.1)
           (λ h.
           let lt : i < n = omega (arith, (within i j h).0) in
-          (any_is n (λ k. (nat_eq i k && nat_lt i n) && a.has k j)).1 (i, lt, and_both _ _ (on_diagonal i lt) h))
+          (any_is n (λ k. (nat_eq i k && nat_lt i n) && a.has k j)).1
+          (i, lt, and_both _ _ (on_diagonal i lt) h))
 
       values : (i j : ℕ)
-          → sum_below R n (λ k. R.mul (where_true R (nat_eq i k && nat_lt i n) R.one) (a.value k j)) ≡ a.value i j
+          → sum_below R n (λ k. R.mul (where_true R (nat_eq i k && nat_lt i n) R.one) (a.value k j))
+          ≡ a.value i j
       values i j = elim (true_or_false (nat_lt i n)) [
         | inl inside ↦
             let lt : i < n = (Decides-ltb i n).0 inside in
-            sum_below-one n i _ lt (λ k apart. ap (λ c. R.mul c (a.value k j)) (where_no _ R.one (off_diagonal i k apart)) ∙ zero_mul (a.value k j))
-            ∙ ap (λ c. R.mul c (a.value i j)) (where_yes _ R.one (on_diagonal i lt)) ∙ R.laws.mul_comm R.one (a.value i j) ∙ R.laws.mul_one (a.value i j)
+            sum_below-one n i _ lt (λ k apart. ap (λ c. R.mul c (a.value k j))
+            (where_no _ R.one (off_diagonal i k apart)) ∙ zero_mul (a.value k j))
+            ∙ ap (λ c. R.mul c (a.value i j)) (where_yes _ R.one (on_diagonal i lt))
+            ∙ R.laws.mul_comm R.one (a.value i j) ∙ R.laws.mul_one (a.value i j)
         | inr outside ↦
             let none : a.has i j ≡ false = elim (true_or_false (a.has i j)) [
               | inl hit ↦ absurd (grind (arith, nat_tests, (within i j hit).0))
               | inr miss ↦ miss
             ] in
-            sum_below-none n _ (λ k lt. ap (λ c. R.mul c (a.value k j)) (where_no _ R.one (off (nat_eq i k) outside)) ∙ zero_mul (a.value k j)) ∙ sym (proper i j none)
+            sum_below-none n _ (λ k lt. ap (λ c. R.mul c (a.value k j))
+            (where_no _ R.one (off (nat_eq i k) outside)) ∙ zero_mul (a.value k j))
+            ∙ sym (proper i j none)
       ]
         where
           off : (b : Bool) {c : Bool} → c ≡ false → (b && c) ≡ false
@@ -242,7 +287,8 @@ module _ (R : CommRing) where
           off false e = refl
 
   pub transpose_identity : (n : ℕ) → plain_transpose R (plain_identity R n) ≡ plain_identity R n
-  transpose_identity n = same_plain (plain_transpose R (plain_identity R n)) (plain_identity R n) refl refl same (λ i j. ap (λ b. where_true R b R.one) (same i j))
+  transpose_identity n = same_plain (plain_transpose R (plain_identity R n)) (plain_identity R n)
+      refl refl same (λ i j. ap (λ b. where_true R b R.one) (same i j))
     where
       same : (i j : ℕ) → (nat_eq j i && nat_lt j n) ≡ (nat_eq i j && nat_lt i n)
       same i j = grind (arith, nat_tests)
@@ -250,5 +296,7 @@ module _ (R : CommRing) where
   pub product-identity : (n : ℕ) (a : Plain R) → n ≡ a.cols → IsProper a → IsWithin a
       → plain_product R a (plain_identity R n) ≡ a
   product-identity n a e proper within =
-      let turned = identity-product n (plain_transpose R a) e (proper_transpose a proper) (within_transpose a within) in
-      ap (plain_transpose R) (transpose_product R a (plain_identity R n) (sym e) ∙ ap (λ b. plain_product R b (plain_transpose R a)) (transpose_identity n) ∙ turned)
+      let turned = identity-product n (plain_transpose R a) e (proper_transpose a proper)
+      (within_transpose a within) in
+      ap (plain_transpose R) (transpose_product R a (plain_identity R n) (sym e)
+      ∙ ap (λ b. plain_product R b (plain_transpose R a)) (transpose_identity n) ∙ turned)

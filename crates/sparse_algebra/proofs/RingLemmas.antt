@@ -8,27 +8,35 @@ module _ (R : CommRing) where
 
   -- a + (b + c) is b + (a + c)
   pub add_swap : (a b c : R.Carrier) → R.add a (R.add b c) ≡ R.add b (R.add a c)
-  add_swap a b c = sym (R.laws.add_assoc a b c) ∙ ap (λ x. R.add x c) (R.laws.add_comm a b) ∙ R.laws.add_assoc b a c
+  add_swap a b c = sym (R.laws.add_assoc a b c) ∙ ap (λ x. R.add x c) (R.laws.add_comm a b)
+      ∙ R.laws.add_assoc b a c
 
   -- (a + b) + (c + d) is (a + c) + (b + d)
   pub add_cross : (a b c d : R.Carrier)
       → R.add (R.add a b) (R.add c d) ≡ R.add (R.add a c) (R.add b d)
-  add_cross a b c d = R.laws.add_assoc a b (R.add c d) ∙ ap (R.add a) (add_swap b c d) ∙ sym (R.laws.add_assoc a c (R.add b d))
+  add_cross a b c d = R.laws.add_assoc a b (R.add c d) ∙ ap (R.add a) (add_swap b c d)
+      ∙ sym (R.laws.add_assoc a c (R.add b d))
 
   -- a sum's inverse is unique: a + b is zero where b is -a
   pub neg_unique : (a b : R.Carrier) → R.add a b ≡ R.zero → b ≡ R.neg a
   neg_unique a b e =
-      sym (zero_add b) ∙ ap (λ x. R.add x b) (sym (R.laws.add_neg a) ∙ R.laws.add_comm a (R.neg a)) ∙ R.laws.add_assoc (R.neg a) a b ∙ ap (R.add (R.neg a)) e ∙ R.laws.add_zero (R.neg a)
+      sym (zero_add b) ∙ ap (λ x. R.add x b) (sym (R.laws.add_neg a) ∙ R.laws.add_comm a (R.neg a))
+      ∙ R.laws.add_assoc (R.neg a) a b ∙ ap (R.add (R.neg a)) e ∙ R.laws.add_zero (R.neg a)
 
   -- a * 0 is 0
   pub mul_zero : (a : R.Carrier) → R.mul a R.zero ≡ R.zero
   mul_zero a =
       let t = R.mul a R.zero in
-      let twice : R.add t t ≡ t = sym (R.laws.distrib a R.zero R.zero) ∙ ap (R.mul a) (R.laws.add_zero R.zero) in
-      sym (R.laws.add_zero t) ∙ ap (R.add t) (sym (R.laws.add_neg t)) ∙ sym (R.laws.add_assoc t t (R.neg t)) ∙ ap (λ x. R.add x (R.neg t)) twice ∙ R.laws.add_neg t
+      let twice : R.add t t ≡ t = sym (R.laws.distrib a R.zero R.zero)
+      ∙ ap (R.mul a) (R.laws.add_zero R.zero) in
+      sym (R.laws.add_zero t) ∙ ap (R.add t) (sym (R.laws.add_neg t))
+      ∙ sym (R.laws.add_assoc t t (R.neg t)) ∙ ap (λ x. R.add x (R.neg t)) twice
+      ∙ R.laws.add_neg t
 
   -- what is added on both sides falls away
   pub cancel : (a b c : R.Carrier) → R.add a c ≡ R.add b c → a ≡ b
   cancel a b c e =
-      let back : (x : R.Carrier) → R.add (R.add x c) (R.neg c) ≡ x = λ x. R.laws.add_assoc x c (R.neg c) ∙ ap (R.add x) (R.laws.add_neg c) ∙ R.laws.add_zero x in
+      let back : (x : R.Carrier) → R.add (R.add x c) (R.neg c) ≡ x =
+      λ x. R.laws.add_assoc x c (R.neg c) ∙ ap (R.add x) (R.laws.add_neg c)
+      ∙ R.laws.add_zero x in
       sym (back a) ∙ ap (λ x. R.add x (R.neg c)) e ∙ back b

@@ -1,5 +1,6 @@
 -- Plain matrices over a commutative ring, and their algebra.
-use Rattle.std.specs.Prelude.{◌≡◌, ℕ, zero, suc, ◌<◌, Bool, true, false, nat_eq, nat_lt, ◌&&◌, ◌||◌, if◌then◌else◌, List, [], ◌∷◌, ◌++◌}
+use Rattle.std.specs.Prelude.{◌≡◌, ℕ, zero, suc, ◌<◌, Bool, true, false, nat_eq, nat_lt, ◌&&◌, ◌||◌}
+use Rattle.std.specs.Prelude.{if◌then◌else◌, List, [], ◌∷◌, ◌++◌}
 use Rattle.std.specs.List.{list_any, flat_map}
 use Rattle.sparse_algebra.specs.Algebra.{CommRing}
 use Rattle.sparse_algebra.specs.Sums.{sum_by, sum_below, where_true}
@@ -21,7 +22,8 @@ abbrev pub is_at : {T : Type 0} → ℕ → ℕ → ℕ × ℕ × T → Bool
 is_at i j t = nat_eq t.0 i && nat_eq t.1 j
 
 module _ (R : CommRing) where
-  -- the plain matrix of a list of triplets: its places are the pairs that occur, and its value at a pair is the sum over the triplets there
+  -- the plain matrix of a list of triplets: its places are the pairs that occur, and its value at a
+  -- pair is the sum over the triplets there
   abbrev pub plain_of_triplets : {T : Type 0} → (T → R.Carrier) → ℕ → ℕ → List (ℕ × ℕ × T) → Plain R
   plain_of_triplets f rows cols ts = record {
     rows = rows;
@@ -41,15 +43,28 @@ module _ (R : CommRing) where
 
   -- the same places, and the negated values
   abbrev pub plain_negation : Plain R → Plain R
-  plain_negation a = record { rows = a.rows; cols = a.cols; has = a.has; value = λ i j. R.neg (a.value i j) }
+  plain_negation a = record {
+    rows = a.rows;
+    cols = a.cols;
+    has = a.has;
+    value =
+        λ i j. R.neg (a.value i j);
+  }
 
   abbrev pub plain_difference : Plain R → Plain R → Plain R
   plain_difference a b = plain_sum a (plain_negation b)
 
   abbrev pub plain_scaled : R.Carrier → Plain R → Plain R
-  plain_scaled s a = record { rows = a.rows; cols = a.cols; has = a.has; value = λ i j. R.mul s (a.value i j) }
+  plain_scaled s a = record {
+    rows = a.rows;
+    cols = a.cols;
+    has = a.has;
+    value =
+        λ i j. R.mul s (a.value i j);
+  }
 
-  -- (i, j) is a place if for some k, (i, k) is one of a and (k, j) one of b; the value is the sum over all k below the inner dimension
+  -- (i, j) is a place if for some k, (i, k) is one of a and (k, j) one of b; the value is the sum
+  -- over all k below the inner dimension
   abbrev pub plain_product : Plain R → Plain R → Plain R
   plain_product a b = record {
     rows = a.rows;
@@ -59,7 +74,13 @@ module _ (R : CommRing) where
   }
 
   abbrev pub plain_transpose : Plain R → Plain R
-  plain_transpose a = record { rows = a.cols; cols = a.rows; has = λ i j. a.has j i; value = λ i j. a.value j i }
+  plain_transpose a = record {
+    rows = a.cols;
+    cols = a.rows;
+    has = λ i j. a.has j i;
+    value =
+        λ i j. a.value j i;
+  }
 
   abbrev pub plain_identity : ℕ → Plain R
   plain_identity n = record {
@@ -93,4 +114,5 @@ below (suc n) = below n ++ n ∷ []
 
 -- the places of a plain matrix with their values, row by row, columns increasing
 abbrev pub row_order : (R : CommRing) → Plain R → List (ℕ × ℕ × R.Carrier)
-row_order R a = flat_map (λ i. flat_map (λ j. if a.has i j then (i, j, a.value i j) ∷ [] else []) (below a.cols)) (below a.rows)
+row_order R a = flat_map (λ i. flat_map (λ j. if a.has i j then (i, j, a.value i j) ∷ [] else [])
+    (below a.cols)) (below a.rows)

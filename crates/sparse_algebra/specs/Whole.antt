@@ -19,17 +19,42 @@ whole_mul_assoc a b c =
     let bc = product_is b c in
     let times = λ (k : ℕ) (m n : ℕ) (e : m ≡ n). ap (λ x. x * k) e in
     let ups : up ((a *ℤ b) *ℤ c) ≡ up (a *ℤ (b *ℤ c)) =
-    omega (arith, product_is (a *ℤ b) c, product_is a (b *ℤ c), times (up c) _ _ ab.0, times (down c) _ _ ab.1, times (up a) _ _ bc.0, times (down a) _ _ bc.1) in
+    omega (
+      arith,
+      product_is (a *ℤ b) c,
+      product_is a (b *ℤ c),
+      times (up c) _ _ ab.0,
+      times (down c) _ _ ab.1,
+      times (up a) _ _ bc.0,
+      times (down a) _ _ bc.1,
+    ) in
     let downs : down ((a *ℤ b) *ℤ c) ≡ down (a *ℤ (b *ℤ c)) =
-    omega (arith, product_is (a *ℤ b) c, product_is a (b *ℤ c), times (down c) _ _ ab.0, times (up c) _ _ ab.1, times (down a) _ _ bc.0, times (up a) _ _ bc.1) in
+    omega (
+      arith,
+      product_is (a *ℤ b) c,
+      product_is a (b *ℤ c),
+      times (down c) _ _ ab.0,
+      times (up c) _ _ ab.1,
+      times (down a) _ _ bc.0,
+      times (up a) _ _ bc.1,
+    ) in
     same_in _ _ (omega arith)
 
 whole_distrib : (a b c : ℤ) → a *ℤ (b +ℤ c) ≡ a *ℤ b +ℤ a *ℤ c
 whole_distrib a b c =
     let times = λ (k : ℕ) (m n : ℕ) (e : m ≡ n). ap (λ x. x * k) e in
     let sum = sum_is_lem b c in
-    let both : up (a *ℤ (b +ℤ c)) + down (a *ℤ b +ℤ a *ℤ c) ≡ up (a *ℤ b +ℤ a *ℤ c) + down (a *ℤ (b +ℤ c)) =
-    omega (arith, product_is a (b +ℤ c), product_is a b, product_is a c, sum_is_lem (a *ℤ b) (a *ℤ c), times (up a) _ _ sum, times (down a) _ _ sum) in
+    let both : up (a *ℤ (b +ℤ c)) + down (a *ℤ b +ℤ a *ℤ c) ≡ up (a *ℤ b +ℤ a *ℤ c) + down
+    (a *ℤ (b +ℤ c)) =
+    omega (
+      arith,
+      product_is a (b +ℤ c),
+      product_is a b,
+      product_is a c,
+      sum_is_lem (a *ℤ b) (a *ℤ c),
+      times (up a) _ _ sum,
+      times (down a) _ _ sum,
+    ) in
     same_in _ _ both
 
 pub whole_laws : RingLaws (pos 0) (pos 1) ◌+ℤ◌ ◌*ℤ◌ neg_ℤ
@@ -46,7 +71,15 @@ whole_laws = record {
 
 -- the ring of integers
 abbrev pub whole_ring : CommRing
-whole_ring = record { Carrier = ℤ; zero = pos 0; one = pos 1; add = ◌+ℤ◌; mul = ◌*ℤ◌; neg = neg_ℤ; laws = whole_laws }
+whole_ring = record {
+  Carrier = ℤ;
+  zero = pos 0;
+  one = pos 1;
+  add = ◌+ℤ◌;
+  mul = ◌*ℤ◌;
+  neg = neg_ℤ;
+  laws = whole_laws;
+}
 
 -- the class of an integer
 abbrev pub wrapped : (w : Width) → ℤ → Residue (2 ^ bits w)
@@ -64,6 +97,7 @@ plain_wrapped w a = plain_map (wrapped w) a
 abbrev pub plain_numbers : (w : Width) → Plain (wrapping_ring w) → Plain whole_ring
 plain_numbers w a = plain_map (number_of w) a
 
--- if the integer at a pair fits the signed range, it is the signed representative of the entry there
+-- if the integer at a pair fits the signed range, it is the signed representative of the entry
+-- there
 abbrev pub Shows : (w : Width) → Plain (wrapping_ring w) → Plain whole_ring → Type 0
 Shows w a z = (i j : ℕ) → FitsSigned w (z.value i j) → number_of w (a.value i j) ≡ z.value i j

@@ -1,5 +1,6 @@
 -- The triplets of a block, pushed one by one.
-use Rattle.std.proofs.Common.{◌≡◌, ℕ, ◌+◌, ◌*◌, ◌<◌, ◌≤◌, ◌≢◌, ◌⊎◌, inl, inr, List, [], ◌∷◌, ◌++◌, length, append_assoc, add-one, ap, sym, ◌∙◌, refl, arith}
+use Rattle.std.proofs.Common.{◌≡◌, ℕ, ◌+◌, ◌*◌, ◌<◌, ◌≤◌, ◌≢◌, ◌⊎◌, inl, inr, List, [], ◌∷◌, ◌++◌}
+use Rattle.std.proofs.Common.{length, append_assoc, add-one, ap, sym, ◌∙◌, refl, arith}
 use Rattle.std.specs.List.{flat_map}
 use Rattle.std.proofs.lemmas.Nat.{mul-add-lt}
 use Rattle.std.proofs.lemmas.Grind.{flat_map-append}
@@ -15,7 +16,8 @@ use Rattle.sparse_base.proofs.TripletLists.{triplets-push, sound_push}
 -- one number more
 flat_map-next : {X : Type 0} (f : ℕ → List X) (n : ℕ)
     → flat_map f (below (n + 1)) ≡ flat_map f (below n) ++ f n
-flat_map-next f n = ap (λ k. flat_map f (below k)) (add-one n) ∙ flat_map-append f (below n) (n ∷ []) ∙ ap (λ l. flat_map f (below n) ++ l) (append-nil (f n))
+flat_map-next f n = ap (λ k. flat_map f (below k)) (add-one n)
+    ∙ flat_map-append f (below n) (n ∷ []) ∙ ap (λ l. flat_map f (below n) ++ l) (append-nil (f n))
 
 flat_map-nothing : {X : Type 0} (f : ℕ → List X) (ns : List ℕ) → ((n : ℕ) → f n ≡ [])
     → flat_map f ns ≡ []
@@ -25,10 +27,12 @@ flat_map-nothing f (n ∷ ns) none = rw none (flat_map-nothing f ns none)
 module _ {T : Type 0} where
   -- the block's triplets before the place (i, j)
   abbrev pub triplets_before : ℕ → ℕ → Dense T → ℕ → ℕ → List (ℕ × ℕ × T)
-  triplets_before r c d j i = flat_map (λ j. flat_map (triplet_at r c d j) (below d.nrows)) (below j) ++ flat_map (triplet_at r c d j) (below i)
+  triplets_before r c d j i = flat_map (λ j. flat_map (triplet_at r c d j) (below d.nrows))
+      (below j) ++ flat_map (triplet_at r c d j) (below i)
 
   -- the lists once the triplets before the place (i, j) were pushed
-  pub record IsPushed (r c : ℕ) (d : Dense T) (is0 js0 : List ℕ) (vs0 : List T) (j i : ℕ) (is js : List ℕ) (vs : List T) : Type 0 where
+  pub record IsPushed (r c : ℕ) (d : Dense T) (is0 js0 : List ℕ) (vs0 : List T) (j i : ℕ)
+      (is js : List ℕ) (vs : List T) : Type 0 where
     pub row_count : length is ≡ length vs
     pub col_count : length js ≡ length vs
     pub triplets : zip_triplets is js vs ≡ zip_triplets is0 js0 vs0 ++ triplets_before r c d j i
@@ -37,11 +41,18 @@ module _ {T : Type 0} where
 
   pub none_pushed : (r c : ℕ) (d : Dense T) (is js : List ℕ) (vs : List T) → length is ≡ length vs
       → length js ≡ length vs → IsPushed r c d is js vs 0 0 is js vs
-  none_pushed r c d is js vs rows cols = record { row_count = rows; col_count = cols; triplets = sym (append-nil _); parts = λ n m parts _ _. parts }
+  none_pushed r c d is js vs rows cols = record {
+    row_count = rows;
+    col_count = cols;
+    triplets = sym (append-nil _);
+    parts =
+        λ n m parts _ _. parts;
+  }
 
   at_place : (r c : ℕ) (d : Dense T) (j i : ℕ) (v : T) → j * d.nrows + i < length d.values
       → v ≡ value_at d i j v → triplet_at r c d j i ≡ (r + i, c + j, v) ∷ []
-  at_place r c d j i v within is = rw (slice_get_read d.values (length d.values) (j * d.nrows + i) v refl within is) refl
+  at_place r c d j i v within is = rw (slice_get_read d.values (length d.values) (j * d.nrows + i) v
+      refl within is) refl
 
   next_before : (r c : ℕ) (d : Dense T) (j i : ℕ) (v : T) → j * d.nrows + i < length d.values
       → v ≡ value_at d i j v
@@ -49,35 +60,54 @@ module _ {T : Type 0} where
   next_before r c d j i v within is =
       let columns = flat_map (λ j. flat_map (triplet_at r c d j) (below d.nrows)) (below j) in
       let rows = flat_map (triplet_at r c d j) (below i) in
-      ap (λ l. columns ++ l) (flat_map-next (triplet_at r c d j) i ∙ ap (λ l. rows ++ l) (at_place r c d j i v within is)) ∙ sym (append_assoc columns rows ((r + i, c + j, v) ∷ []))
+      ap (λ l. columns ++ l) (flat_map-next (triplet_at r c d j) i
+      ∙ ap (λ l. rows ++ l) (at_place r c d j i v within is))
+      ∙ sym (append_assoc columns rows ((r + i, c + j, v) ∷ []))
 
-  pub one_pushed : (r c : ℕ) (d : Dense T) (is0 js0 : List ℕ) (vs0 : List T) (j i : ℕ) (is js : List ℕ) (vs : List T) (v : T)
+  pub one_pushed : (r c : ℕ) (d : Dense T) (is0 js0 : List ℕ) (vs0 : List T) (j i : ℕ)
+      (is js : List ℕ) (vs : List T) (v : T)
       → length d.values ≡ d.nrows * d.ncols → i < d.nrows → j < d.ncols → v ≡ value_at d i j v
-      → IsPushed r c d is0 js0 vs0 j i is js vs → IsPushed r c d is0 js0 vs0 j (i + 1) (is ++ (r + i) ∷ []) (js ++ (c + j) ∷ []) (vs ++ v ∷ [])
+      → IsPushed r c d is0 js0 vs0 j i is js vs
+      → IsPushed r c d is0 js0 vs0 j (i + 1) (is ++ (r + i) ∷ []) (js ++ (c + j) ∷ [])
+      (vs ++ v ∷ [])
   one_pushed r c d is0 js0 vs0 j i is js vs v full row col value pushed =
-      let within : j * d.nrows + i < length d.values = rw full (mul-add-lt j d.nrows i d.ncols col row) in
+      let within : j * d.nrows + i < length d.values =
+      rw full (mul-add-lt j d.nrows i d.ncols col row) in
       record {
         row_count = simp length-append (omega (arith, pushed.row_count));
         col_count = simp length-append (omega (arith, pushed.col_count));
-        triplets = triplets-push is js vs (r + i) (c + j) v pushed.row_count pushed.col_count ∙ ap (λ l. l ++ (r + i, c + j, v) ∷ []) pushed.triplets ∙ append_assoc (zip_triplets is0 js0 vs0) (triplets_before r c d j i) ((r + i, c + j, v) ∷ []) ∙ ap (λ l. zip_triplets is0 js0 vs0 ++ l) (sym (next_before r c d j i v within value));
-        parts = λ n m parts rows cols. sound_push n m is js vs (r + i) (c + j) v (pushed.parts n m parts rows cols) (omega arith) (omega arith);
+        triplets = triplets-push is js vs (r + i) (c + j) v pushed.row_count pushed.col_count
+            ∙ ap (λ l. l ++ (r + i, c + j, v) ∷ []) pushed.triplets
+            ∙ append_assoc (zip_triplets is0 js0 vs0) (triplets_before r c d j i)
+            ((r + i, c + j, v) ∷ []) ∙ ap (λ l. zip_triplets is0 js0 vs0 ++ l)
+            (sym (next_before r c d j i v within value));
+        parts = λ n m parts rows cols. sound_push n m is js vs (r + i) (c + j) v
+            (pushed.parts n m parts rows cols) (omega arith) (omega arith);
       }
 
-  pub column_pushed : (r c : ℕ) (d : Dense T) (is0 js0 : List ℕ) (vs0 : List T) (j : ℕ) (is js : List ℕ) (vs : List T)
-      → IsPushed r c d is0 js0 vs0 j d.nrows is js vs → IsPushed r c d is0 js0 vs0 (j + 1) 0 is js vs
+  pub column_pushed : (r c : ℕ) (d : Dense T) (is0 js0 : List ℕ) (vs0 : List T) (j : ℕ)
+      (is js : List ℕ) (vs : List T)
+      → IsPushed r c d is0 js0 vs0 j d.nrows is js vs → IsPushed r c d is0 js0 vs0 (j + 1) 0 is js
+      vs
   column_pushed r c d is0 js0 vs0 j is js vs pushed = record {
     row_count = pushed.row_count;
     col_count = pushed.col_count;
-    triplets = pushed.triplets ∙ ap (λ l. zip_triplets is0 js0 vs0 ++ l) (sym (append-nil _ ∙ flat_map-next (λ j. flat_map (triplet_at r c d j) (below d.nrows)) j));
+    triplets = pushed.triplets ∙ ap (λ l. zip_triplets is0 js0 vs0 ++ l)
+        (sym (append-nil _ ∙ flat_map-next (λ j. flat_map (triplet_at r c d j) (below d.nrows)) j));
     parts = pushed.parts;
   }
 
-  pub all_pushed : (r c : ℕ) (d : Dense T) (is0 js0 : List ℕ) (vs0 : List T) (is js : List ℕ) (vs : List T)
-      → IsPushed r c d is0 js0 vs0 d.ncols 0 is js vs → zip_triplets is js vs ≡ zip_triplets is0 js0 vs0 ++ block_triplets r c d
-  all_pushed r c d is0 js0 vs0 is js vs pushed = pushed.triplets ∙ ap (λ l. zip_triplets is0 js0 vs0 ++ l) (append-nil _)
+  pub all_pushed : (r c : ℕ) (d : Dense T) (is0 js0 : List ℕ) (vs0 : List T) (is js : List ℕ)
+      (vs : List T)
+      → IsPushed r c d is0 js0 vs0 d.ncols 0 is js vs → zip_triplets is js vs ≡ zip_triplets is0 js0
+      vs0 ++ block_triplets r c d
+  all_pushed r c d is0 js0 vs0 is js vs pushed = pushed.triplets
+      ∙ ap (λ l. zip_triplets is0 js0 vs0 ++ l) (append-nil _)
 
   pub empty_block : (r c : ℕ) (d : Dense T) → length d.values ≡ 0 → block_triplets r c d ≡ []
-  empty_block r c d none = flat_map-nothing _ (below d.ncols) (λ j. flat_map-nothing _ (below d.nrows) (λ i. rw (slice_get_past d.values (j * d.nrows + i) (omega arith)) refl))
+  empty_block r c d none = flat_map-nothing _ (below d.ncols)
+      (λ j. flat_map-nothing _ (below d.nrows)
+      (λ i. rw (slice_get_past d.values (j * d.nrows + i) (omega arith)) refl))
 
   pub empty_size : (d : Dense T) → length d.values ≡ d.nrows * d.ncols → IsEmptyBlock d
       → length d.values ≡ 0

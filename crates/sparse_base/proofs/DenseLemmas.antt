@@ -1,19 +1,25 @@
 -- Places of a dense matrix, and its values.
-use Rattle.std.proofs.Common.{◌≡◌, ℕ, ◌+◌, ◌*◌, ◌/◌, ◌%◌, ◌<◌, ◌≢◌, ◌⊎◌, inl, inr, true, false, ◌&&◌, ◌==◌, if◌then◌else◌, List, [], ◌∷◌, ◌++◌, length, get_or, replicate, ap, sym, ◌∙◌, refl, arith}
+use Rattle.std.proofs.Common.{◌≡◌, ℕ, ◌+◌, ◌*◌, ◌/◌, ◌%◌, ◌<◌, ◌≢◌, ◌⊎◌, inl, inr, true, false}
+use Rattle.std.proofs.Common.{◌&&◌, ◌==◌, if◌then◌else◌, List, [], ◌∷◌, ◌++◌, length, get_or}
+use Rattle.std.proofs.Common.{replicate, ap, sym, ◌∙◌, refl, arith}
 use Rattle.std.proofs.Math.Nat.{add-mul, mul_comm, eq-or-lt_of_le}
 use Rattle.std.proofs.lemmas.Nat.{mul-add-lt, div-mul-add, mod-mul-add}
 use Rattle.std.proofs.lemmas.Bool.Decides.{eqb_tells}
-use Rattle.std.proofs.lemmas.List.{length-replicate, get_or-replicate, get_or_default, get_or-set_same, get_or-set_other, get_or_append_left, length-set}
+use Rattle.std.proofs.lemmas.List.{length-replicate, get_or-replicate, get_or_default}
+use Rattle.std.proofs.lemmas.List.{get_or-set_same, get_or-set_other, get_or_append_left}
+use Rattle.std.proofs.lemmas.List.{length-set}
 use Rattle.std.proofs.Math.ListN.{length-append}
 use Rattle.std.proofs.Math.Seq.{get_or-append_seam}
 use Rattle.sparse_base.specs.Dense.{Dense, dense_of, value_at, with_value_at, HasValues}
 
 -- equal positions belong to equal places
 pub position_row : (n i j k l : ℕ) → i < n → k < n → l * n + k ≡ j * n + i → k ≡ i
-position_row n i j k l row other e = sym (mod-mul-add l n k other) ∙ ap (λ p. p % n) e ∙ mod-mul-add j n i row
+position_row n i j k l row other e = sym (mod-mul-add l n k other) ∙ ap (λ p. p % n) e
+    ∙ mod-mul-add j n i row
 
 pub position_col : (n i j k l : ℕ) → i < n → k < n → l * n + k ≡ j * n + i → l ≡ j
-position_col n i j k l row other e = sym (div-mul-add l n k other) ∙ ap (λ p. p / n) e ∙ div-mul-add j n i row
+position_col n i j k l row other e = sym (div-mul-add l n k other) ∙ ap (λ p. p / n) e
+    ∙ div-mul-add j n i row
 
 module _ {T : Type 0} where
   pub repeated_values : (n m : ℕ) (v : T) (values : List T) → values ≡ replicate (n * m) v
@@ -22,7 +28,8 @@ module _ {T : Type 0} where
     rows = refl;
     cols = refl;
     count = ap length is ∙ length-replicate (n * m) v;
-    values = λ i j z row col. ap (λ l. get_or l (j * n + i) z) is ∙ get_or-replicate (n * m) (j * n + i) v z (mul-add-lt j n i m col row);
+    values = λ i j z row col. ap (λ l. get_or l (j * n + i) z) is
+        ∙ get_or-replicate (n * m) (j * n + i) v z (mul-add-lt j n i m col row);
   }
 
   one_set : (d : Dense T) (i j : ℕ) (w : T) (k l : ℕ) (z : T) → i < d.nrows → k < d.nrows
@@ -36,16 +43,21 @@ module _ {T : Type 0} where
 
       by_tests : ((k == i ≡ true) × (k ≡ i)) ⊎ ((k == i ≡ false) × (k ≢ i))
           → ((l == j ≡ true) × (l ≡ j)) ⊎ ((l == j ≡ false) × (l ≢ j))
-          → value_at (with_value_at d i j w) k l z ≡ (if k == i && l == j then w else value_at d k l z)
-      by_tests (inl e) (inl f) = rw (e.0, f.0, e.1, f.1) (get_or-set_same d.values (j * d.nrows + i) w z within)
-      by_tests (inl e) (inr f) = rw (e.0, f.0) (stays (λ p. f.1 (position_col d.nrows i j k l row other p)))
+          → value_at (with_value_at d i j w) k l z
+          ≡ (if k == i && l == j then w else value_at d k l z)
+      by_tests (inl e) (inl f) = rw (e.0, f.0, e.1, f.1)
+          (get_or-set_same d.values (j * d.nrows + i) w z within)
+      by_tests (inl e) (inr f) = rw (e.0, f.0)
+          (stays (λ p. f.1 (position_col d.nrows i j k l row other p)))
       by_tests (inr e) f = rw e.0 (stays (λ p. e.1 (position_row d.nrows i j k l row other p)))
 
   pub set_values : (d : Dense T) (i j : ℕ) (w : T) → length d.values ≡ d.nrows * d.ncols
       → i < d.nrows → j < d.ncols
-      → HasValues d.nrows d.ncols (λ k l z. if k == i && l == j then w else value_at d k l z) (with_value_at d i j w)
+      → HasValues d.nrows d.ncols (λ k l z. if k == i && l == j then w else value_at d k l z)
+      (with_value_at d i j w)
   set_values d i j w sound row col =
-      let within : j * d.nrows + i < length d.values = rw sound (mul-add-lt j d.nrows i d.ncols col row) in record {
+      let within : j * d.nrows + i < length d.values =
+      rw sound (mul-add-lt j d.nrows i d.ncols col row) in record {
         rows = refl;
         cols = refl;
         count = length-set d.values (j * d.nrows + i) w ∙ sound;
@@ -59,7 +71,11 @@ module _ {T : Type 0} where
         → get_or columns (l * n + k) z ≡ get_or rows (k * m + l) z
 
   pub filled_none : (n m : ℕ) (rows : List T) → IsFilled n m rows [] 0 0
-  filled_none n m rows = record { count = omega arith; placed = λ k l z inside below. absurd (omega arith) }
+  filled_none n m rows = record {
+    count = omega arith;
+    placed =
+        λ k l z inside below. absurd (omega arith);
+  }
 
   pub filled_more : (n m : ℕ) (rows columns : List T) (j i : ℕ) (v : T)
       → IsFilled n m rows columns j i → i < n → v ≡ get_or rows (i * m + j) v
@@ -71,12 +87,15 @@ module _ {T : Type 0} where
     where
       at_seam : (k l : ℕ) (z : T) → k ≡ i → l ≡ j
           → get_or (columns ++ v ∷ []) (l * n + k) z ≡ get_or rows (k * m + l) z
-      at_seam k l z e f = rw (e, f, ← filled.count) (get_or-append_seam columns v [] z ∙ is ∙ get_or_default rows (i * m + j) v z within)
+      at_seam k l z e f = rw (e, f, ← filled.count)
+          (get_or-append_seam columns v [] z ∙ is ∙ get_or_default rows (i * m + j) v z within)
 
       by_place : (k l : ℕ) (z : T) → k < n → (l * n + k ≡ j * n + i) ⊎ (l * n + k < j * n + i)
           → get_or (columns ++ v ∷ []) (l * n + k) z ≡ get_or rows (k * m + l) z
-      by_place k l z inside (inl here) = at_seam k l z (position_row n i j k l row inside here) (position_col n i j k l row inside here)
-      by_place k l z inside (inr before) = get_or_append_left columns (v ∷ []) z (l * n + k) (omega (arith, filled.count)) ∙ filled.placed k l z inside before
+      by_place k l z inside (inl here) = at_seam k l z (position_row n i j k l row inside here)
+          (position_col n i j k l row inside here)
+      by_place k l z inside (inr before) = get_or_append_left columns (v ∷ []) z (l * n + k)
+          (omega (arith, filled.count)) ∙ filled.placed k l z inside before
 
   pub filled_column : (n m : ℕ) (rows columns : List T) (j : ℕ) → IsFilled n m rows columns j n
       → IsFilled n m rows columns (j + 1) 0
@@ -93,5 +112,6 @@ module _ {T : Type 0} where
     rows = refl;
     cols = refl;
     count = omega (arith, filled.count, mul_comm n m);
-    values = λ i j z row col. filled.placed i j z row (omega (arith, mul-add-lt j n i m col row, mul_comm n m));
+    values = λ i j z row col. filled.placed i j z row
+        (omega (arith, mul-add-lt j n i m col row, mul_comm n m));
   }

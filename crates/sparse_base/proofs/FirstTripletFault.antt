@@ -1,10 +1,12 @@
 -- The last fault of triplets that are given as three lists.
 use Rattle.std.proofs.Common.{◌≡◌, ℕ, ◌<◌, ◌≤◌, List, length, All, Any, refl, arith}
 use Rattle.sparse_pattern.specs.FirstFault.{IsBefore}
-use Rattle.sparse_base.specs.TripletFaults.{TripletSpot, ColCount, ValueCount, RowBounds, ColBounds, HasTripletFault, triplet_rank, IsFirstTripletFault}
+use Rattle.sparse_base.specs.TripletFaults.{TripletSpot, ColCount, ValueCount, RowBounds, ColBounds}
+use Rattle.sparse_base.specs.TripletFaults.{HasTripletFault, triplet_rank, IsFirstTripletFault}
 use Rattle.sparse_pattern.specs.declared.error.SparseFormatErrorKind.TheVariants.{IndexOutOfBounds}
 
-module _ (nrows ncols : ℕ) (rows cols : List ℕ) (count : ℕ) (cols_fit : length rows ≡ length cols) (values_fit : length cols ≡ count) (rows_below : All (λ i. i < nrows) rows) where
+module _ (nrows ncols : ℕ) (rows cols : List ℕ) (count : ℕ) (cols_fit : length rows ≡ length cols)
+    (values_fit : length cols ≡ count) (rows_below : All (λ i. i < nrows) rows) where
   none_before : (s : TripletSpot) → IsBefore (triplet_rank s) (3, 0, 0)
       → HasTripletFault nrows ncols rows cols count s → ⊥
   none_before ColCount b h = h cols_fit
@@ -15,4 +17,9 @@ module _ (nrows ncols : ℕ) (rows cols : List ℕ) (count : ℕ) (cols_fit : le
   -- where all else is fine, a column past the size is the first fault
   pub first_col_bounds : Any (λ j. ncols ≤ j) cols
       → IsFirstTripletFault nrows ncols rows cols count IndexOutOfBounds
-  first_col_bounds bad = record { spot = ColBounds; first = record { here = bad; none_before = none_before }; is = refl }
+  first_col_bounds bad = record {
+    spot = ColBounds;
+    first =
+        record { here = bad; none_before = none_before };
+    is = refl;
+  }

@@ -1,5 +1,6 @@
 -- The triplets that three lists give.
-use Rattle.std.proofs.Common.{◌≡◌, ℕ, zero, suc, ◌+◌, ◌<◌, ◌≤◌, List, [], ◌∷◌, ◌++◌, length, take, get_or, map, All, append_assoc, refl, ap, ◌∙◌, sym, arith}
+use Rattle.std.proofs.Common.{◌≡◌, ℕ, zero, suc, ◌+◌, ◌<◌, ◌≤◌, List, [], ◌∷◌, ◌++◌, length, take}
+use Rattle.std.proofs.Common.{get_or, map, All, append_assoc, refl, ap, ◌∙◌, sym, arith}
 use Rattle.std.proofs.lemmas.Grind.{common_steps}
 use Rattle.std.proofs.lemmas.List.{take_more, take_all}
 use Rattle.std.proofs.lemmas.List.Elements.{All-push, All-get_or}
@@ -12,17 +13,20 @@ module _ {T : Type 0} where
   length-triplets [] js (v ∷ vs) e f = absurd (omega arith)
   length-triplets (i ∷ is) js [] e f = absurd (omega arith)
   length-triplets (i ∷ is) [] (v ∷ vs) e f = absurd (omega arith)
-  length-triplets (i ∷ is) (j ∷ js) (v ∷ vs) e f = omega (arith, length-triplets is js vs (omega arith) (omega arith))
+  length-triplets (i ∷ is) (j ∷ js) (v ∷ vs) e f =
+      omega (arith, length-triplets is js vs (omega arith) (omega arith))
 
   pub triplets-push : (is js : List ℕ) (vs : List T) (i j : ℕ) (v : T) → length is ≡ length vs
       → length js ≡ length vs
-      → zip_triplets (is ++ i ∷ []) (js ++ j ∷ []) (vs ++ v ∷ []) ≡ zip_triplets is js vs ++ (i, j, v) ∷ []
+      → zip_triplets (is ++ i ∷ []) (js ++ j ∷ []) (vs ++ v ∷ []) ≡ zip_triplets is js vs
+      ++ (i, j, v) ∷ []
   triplets-push [] [] [] i j v e f = refl
   triplets-push [] (x ∷ js) [] i j v e f = absurd (omega arith)
   triplets-push [] js (x ∷ vs) i j v e f = absurd (omega arith)
   triplets-push (x ∷ is) js [] i j v e f = absurd (omega arith)
   triplets-push (x ∷ is) [] (z ∷ vs) i j v e f = absurd (omega arith)
-  triplets-push (x ∷ is) (y ∷ js) (z ∷ vs) i j v e f = ap (λ ts. (x, y, z) ∷ ts) (triplets-push is js vs i j v (omega arith) (omega arith))
+  triplets-push (x ∷ is) (y ∷ js) (z ∷ vs) i j v e f =
+      ap (λ ts. (x, y, z) ∷ ts) (triplets-push is js vs i j v (omega arith) (omega arith))
 
   pub sound_push : (n m : ℕ) (is js : List ℕ) (vs : List T) (i j : ℕ) (v : T)
       → AreParts n m is js vs → i < n → j < m
@@ -34,18 +38,22 @@ module _ {T : Type 0} where
     cols_bounded = All-push (λ j. j < m) js j sound.cols_bounded col;
   }
 
-  pub triplets_more : (n m : ℕ) (is js : List ℕ) (vs : List T) (base ts : List (ℕ × ℕ × T)) (k : ℕ) (x : ℕ × ℕ × T)
+  pub triplets_more : (n m : ℕ) (is js : List ℕ) (vs : List T) (base ts : List (ℕ × ℕ × T)) (k : ℕ)
+      (x : ℕ × ℕ × T)
       → AreParts n m is js vs → zip_triplets is js vs ≡ base ++ take k ts → k < length ts
       → x ≡ get_or ts k x
       → zip_triplets (is ++ x.0 ∷ []) (js ++ x.1 ∷ []) (vs ++ x.2 ∷ []) ≡ base ++ take (k + 1) ts
   triplets_more n m is js vs base ts k x sound so_far lt is_at =
       let more : take (k + 1) ts ≡ take k ts ++ x ∷ [] = grind (arith, common_steps) in
-      triplets-push is js vs x.0 x.1 x.2 sound.row_count sound.col_count ∙ ap (λ l. l ++ x ∷ []) so_far ∙ append_assoc base (take k ts) (x ∷ []) ∙ ap (λ l. base ++ l) (sym more)
+      triplets-push is js vs x.0 x.1 x.2 sound.row_count sound.col_count
+      ∙ ap (λ l. l ++ x ∷ []) so_far ∙ append_assoc base (take k ts) (x ∷ [])
+      ∙ ap (λ l. base ++ l) (sym more)
 
   pub item_in_bounds : (n m : ℕ) (ts : List (ℕ × ℕ × T)) (k : ℕ) (x : ℕ × ℕ × T)
       → All (λ t. (t.0 < n) × (t.1 < m)) ts → k < length ts → x ≡ get_or ts k x
       → (x.0 < n) × (x.1 < m)
-  item_in_bounds n m ts k x all lt is_at = rw is_at (All-get_or (λ t. (t.0 < n) × (t.1 < m)) ts k x lt all)
+  item_in_bounds n m ts k x all lt is_at =
+      rw is_at (All-get_or (λ t. (t.0 < n) × (t.1 < m)) ts k x lt all)
 
   pub all_pushed : (nrows ncols n m k : ℕ) (triplets base ts : List (ℕ × ℕ × T)) → n ≡ nrows
       → m ≡ ncols → triplets ≡ base ++ take k ts → length ts ≤ k
@@ -57,28 +65,33 @@ module _ {T : Type 0} where
 module _ {T : Type 0} where
   pub row_at : (is js : List ℕ) (vs : List T) (k : ℕ) (t : ℕ × ℕ × T) → length is ≡ length vs
       → length js ≡ length vs → k < length vs
-      → ((get_or (zip_triplets is js vs) k t).0 ≡ get_or is k 0) × ((get_or (zip_triplets is js vs) k t).1 ≡ get_or js k 0)
+      → ((get_or (zip_triplets is js vs) k t).0 ≡ get_or is k 0)
+      × ((get_or (zip_triplets is js vs) k t).1 ≡ get_or js k 0)
   row_at [] js [] k t e f lt = absurd (omega arith)
   row_at [] js (v ∷ vs) k t e f lt = absurd (omega arith)
   row_at (i ∷ is) js [] k t e f lt = absurd (omega arith)
   row_at (i ∷ is) [] (v ∷ vs) k t e f lt = absurd (omega arith)
   row_at (i ∷ is) (j ∷ js) (v ∷ vs) zero t e f lt = (refl, refl)
-  row_at (i ∷ is) (j ∷ js) (v ∷ vs) (suc k) t e f lt = row_at is js vs k t (omega arith) (omega arith) (omega arith)
+  row_at (i ∷ is) (j ∷ js) (v ∷ vs) (suc k) t e f lt =
+      row_at is js vs k t (omega arith) (omega arith) (omega arith)
 
   pub bounded : (n m : ℕ) (is js : List ℕ) (vs : List T) → AreParts n m is js vs
       → All (λ t. (t.0 < n) × (t.1 < m)) (zip_triplets is js vs)
   bounded n m is js vs sound k t lt =
       let long = length-triplets is js vs sound.row_count sound.col_count in
       let within : k < length vs = omega (arith, long, lt) in
-      let both = row_at is js vs k t sound.row_count sound.col_count within in
-      (rw both.0 (sound.rows_bounded k 0 (omega (arith, sound.row_count))), rw both.1 (sound.cols_bounded k 0 (omega (arith, sound.col_count))))
+      let both = row_at is js vs k t sound.row_count sound.col_count within in (
+        rw both.0 (sound.rows_bounded k 0 (omega (arith, sound.row_count))),
+        rw both.1 (sound.cols_bounded k 0 (omega (arith, sound.col_count))),
+      )
 
   pub triplet_at : (is js : List ℕ) (vs : List T) (k : ℕ) (i j : ℕ) (v : T) → length is ≡ length vs
       → length js ≡ length vs → k < length vs → i ≡ get_or is k i → j ≡ get_or js k j
       → v ≡ get_or vs k v
       → take (k + 1) (zip_triplets is js vs) ≡ take k (zip_triplets is js vs) ++ (i, j, v) ∷ []
   triplet_at is js vs k i j v e f lt ei ej ev =
-      take_more (zip_triplets is js vs) k (i, j, v) (rw (length-triplets is js vs e f) lt) ∙ ap (λ t. take k (zip_triplets is js vs) ++ t ∷ []) (read is js vs k i j v e f lt ei ej ev)
+      take_more (zip_triplets is js vs) k (i, j, v) (rw (length-triplets is js vs e f) lt)
+      ∙ ap (λ t. take k (zip_triplets is js vs) ++ t ∷ []) (read is js vs k i j v e f lt ei ej ev)
     where
       read : (is js : List ℕ) (vs : List T) (k : ℕ) (i j : ℕ) (v : T) → length is ≡ length vs
           → length js ≡ length vs → k < length vs → i ≡ get_or is k i → j ≡ get_or js k j
@@ -88,7 +101,8 @@ module _ {T : Type 0} where
       read (a ∷ is) js [] k i j v e f lt ei ej ev = absurd (omega arith)
       read (a ∷ is) [] (x ∷ vs) k i j v e f lt ei ej ev = absurd (omega arith)
       read (a ∷ is) (b ∷ js) (x ∷ vs) zero i j v e f lt ei ej ev = cc
-      read (a ∷ is) (b ∷ js) (x ∷ vs) (suc k) i j v e f lt ei ej ev = read is js vs k i j v (omega arith) (omega arith) (omega arith) ei ej ev
+      read (a ∷ is) (b ∷ js) (x ∷ vs) (suc k) i j v e f lt ei ej ev =
+          read is js vs k i j v (omega arith) (omega arith) (omega arith) ei ej ev
 
   -- the three lists, read back from the triplets
   pub rows-zip : (is js : List ℕ) (vs : List T) → length is ≡ length vs → length js ≡ length vs
@@ -96,7 +110,8 @@ module _ {T : Type 0} where
   rows-zip [] js vs e f = refl
   rows-zip (i ∷ is) js [] e f = absurd (omega arith)
   rows-zip (i ∷ is) [] (v ∷ vs) e f = absurd (omega arith)
-  rows-zip (i ∷ is) (j ∷ js) (v ∷ vs) e f = ap (λ l. i ∷ l) (rows-zip is js vs (omega arith) (omega arith))
+  rows-zip (i ∷ is) (j ∷ js) (v ∷ vs) e f =
+      ap (λ l. i ∷ l) (rows-zip is js vs (omega arith) (omega arith))
 
   pub cols-zip : (is js : List ℕ) (vs : List T) → length is ≡ length vs → length js ≡ length vs
       → map (λ (t : ℕ × ℕ × T). t.1) (zip_triplets is js vs) ≡ js
@@ -104,7 +119,8 @@ module _ {T : Type 0} where
   cols-zip [] (j ∷ js) vs e f = absurd (omega arith)
   cols-zip (i ∷ is) js [] e f = absurd (omega arith)
   cols-zip (i ∷ is) [] (v ∷ vs) e f = absurd (omega arith)
-  cols-zip (i ∷ is) (j ∷ js) (v ∷ vs) e f = ap (λ l. j ∷ l) (cols-zip is js vs (omega arith) (omega arith))
+  cols-zip (i ∷ is) (j ∷ js) (v ∷ vs) e f =
+      ap (λ l. j ∷ l) (cols-zip is js vs (omega arith) (omega arith))
 
   pub values-zip : (is js : List ℕ) (vs : List T) → length is ≡ length vs → length js ≡ length vs
       → map (λ (t : ℕ × ℕ × T). t.2) (zip_triplets is js vs) ≡ vs
@@ -112,4 +128,5 @@ module _ {T : Type 0} where
   values-zip [] js (v ∷ vs) e f = absurd (omega arith)
   values-zip (i ∷ is) js [] e f = absurd (omega arith)
   values-zip (i ∷ is) [] (v ∷ vs) e f = absurd (omega arith)
-  values-zip (i ∷ is) (j ∷ js) (v ∷ vs) e f = ap (λ l. v ∷ l) (values-zip is js vs (omega arith) (omega arith))
+  values-zip (i ∷ is) (j ∷ js) (v ∷ vs) e f =
+      ap (λ l. v ∷ l) (values-zip is js vs (omega arith) (omega arith))

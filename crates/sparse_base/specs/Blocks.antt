@@ -9,11 +9,13 @@ use Rattle.sparse_base.specs.Dense.{Dense}
 module _ {T : Type 0} where
   -- the triplet of the place (i, j) of a block with its first value at (r, c)
   abbrev pub triplet_at : ℕ → ℕ → Dense T → ℕ → ℕ → List (ℕ × ℕ × T)
-  triplet_at r c d j i = map (λ v. (r + i, c + j, v)) (option_to_list (slice_get d.values (j * d.nrows + i)))
+  triplet_at r c d j i = map (λ v. (r + i, c + j, v))
+      (option_to_list (slice_get d.values (j * d.nrows + i)))
 
   -- its triplets, column by column
   abbrev pub block_triplets : ℕ → ℕ → Dense T → List (ℕ × ℕ × T)
-  block_triplets r c d = flat_map (λ j. flat_map (triplet_at r c d j) (below d.nrows)) (below d.ncols)
+  block_triplets r c d = flat_map (λ j. flat_map (triplet_at r c d j) (below d.nrows))
+      (below d.ncols)
 
   -- the block has no places
   abbrev pub IsEmptyBlock : Dense T → Type 0

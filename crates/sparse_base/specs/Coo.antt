@@ -9,10 +9,14 @@ pub record Coo (T : Type 0) : Type 0 where
   pub triplets : List (ℕ × ℕ × T)
 
 abbrev pub triplet_code : {T : Type 0} → Coded T → Coded (ℕ × ℕ × T)
-triplet_code {T} code = code_by (ℕ × (ℕ × T)) (coded× coded_ℕ (coded× coded_ℕ code)) (λ t. (t.0, (t.1, t.2))) (λ p. (p.0, p.1.0, p.1.1)) (λ _. refl)
+triplet_code {T} code = code_by (ℕ × (ℕ × T)) (coded× coded_ℕ (coded× coded_ℕ code))
+    (λ t. (t.0, (t.1, t.2))) (λ p. (p.0, p.1.0, p.1.1)) (λ _. refl)
 
 abbrev pub coo_code : {T : Type 0} → Coded T → Coded (Coo T)
-coo_code {T} code = code_by (ℕ × (ℕ × List (ℕ × ℕ × T))) (coded× coded_ℕ (coded× coded_ℕ (coded_list (triplet_code code)))) (λ m. (m.nrows, (m.ncols, m.triplets))) (λ p. record { nrows = p.0; ncols = p.1.0; triplets = p.1.1 }) (λ _. refl)
+coo_code {T} code = code_by (ℕ × (ℕ × List (ℕ × ℕ × T)))
+    (coded× coded_ℕ (coded× coded_ℕ (coded_list (triplet_code code))))
+    (λ m. (m.nrows, (m.ncols, m.triplets)))
+    (λ p. record { nrows = p.0; ncols = p.1.0; triplets = p.1.1 }) (λ _. refl)
 
 module _ {T : Type 0} where
   abbrev pub coo_of : ℕ → ℕ → List (ℕ × ℕ × T) → Coo T

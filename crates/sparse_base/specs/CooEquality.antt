@@ -1,6 +1,7 @@
 -- The result of `==` on coordinate lists, and its laws.
 use Rattle.std.specs.Prelude.{ℕ, Bool, List, map, ◌==◌}
-use Rattle.std.specs.Cmp.{IsPartialEquivalence, IsEquivalence, and_per, on_per, and_equiv, on_equiv, partial_equiv_from_equiv, nat_eq_equiv}
+use Rattle.std.specs.Cmp.{IsPartialEquivalence, IsEquivalence, and_per, on_per, and_equiv, on_equiv}
+use Rattle.std.specs.Cmp.{partial_equiv_from_equiv, nat_eq_equiv}
 use Rattle.std.specs.Cmp.Lexicographic.{pointwise, lists_per, lists_equiv}
 use Rattle.std.specs.Ordering.{on, eq_of_both}
 use Rattle.sparse_base.specs.Coo.{Coo}
@@ -21,7 +22,8 @@ module _ {T : Type 0} where
 
   -- the shapes are equal, and so are the lists of rows and of columns
   abbrev pub coo_places_eq : Coo T → Coo T → Bool
-  coo_places_eq = eq_of_both (eq_of_both coo_sizes_eq (on rows_of (pointwise ◌==◌))) (on cols_of (pointwise ◌==◌))
+  coo_places_eq = eq_of_both (eq_of_both coo_sizes_eq (on rows_of (pointwise ◌==◌)))
+      (on cols_of (pointwise ◌==◌))
 
   -- the shapes are equal, and so are the lists of rows, of columns and of values
   abbrev pub coo_eq : (T → T → Bool) → Coo T → Coo T → Bool
@@ -30,11 +32,13 @@ module _ {T : Type 0} where
   places_equiv : IsEquivalence coo_places_eq
   places_equiv =
       and_equiv
-      (and_equiv (and_equiv (on_equiv (λ m. m.nrows) nat_eq_equiv) (on_equiv (λ m. m.ncols) nat_eq_equiv)) (on_equiv rows_of (lists_equiv nat_eq_equiv)))
+      (and_equiv (and_equiv (on_equiv (λ m. m.nrows) nat_eq_equiv)
+      (on_equiv (λ m. m.ncols) nat_eq_equiv)) (on_equiv rows_of (lists_equiv nat_eq_equiv)))
       (on_equiv cols_of (lists_equiv nat_eq_equiv))
 
   pub coo_eq-laws : {E : T → T → Bool} → IsPartialEquivalence E → IsPartialEquivalence (coo_eq E)
-  coo_eq-laws laws = and_per (partial_equiv_from_equiv places_equiv) (on_per values_of (lists_per laws))
+  coo_eq-laws laws = and_per (partial_equiv_from_equiv places_equiv)
+      (on_per values_of (lists_per laws))
 
   pub coo_eq-equiv : {E : T → T → Bool} → IsEquivalence E → IsEquivalence (coo_eq E)
   coo_eq-equiv laws = and_equiv places_equiv (on_equiv values_of (lists_equiv laws))

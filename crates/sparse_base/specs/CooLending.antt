@@ -17,7 +17,8 @@ values_lent it = it.values
 
 -- the matrix with other values and the same shape, rows and columns
 abbrev pub with_values : {T : Type 0} → Coo T → List T → Coo T
-with_values m ws = coo_of m.nrows m.ncols (zip_triplets (rows_of m) (cols_of m) (refill (values_of m) ws))
+with_values m ws = coo_of m.nrows m.ncols
+    (zip_triplets (rows_of m) (cols_of m) (refill (values_of m) ws))
 
 -- after the borrow the matrix has the values last written through the items
 abbrev pub LendsTriplets : (T : RattleType) → MutBor (Coo T.Denot) → MutBor (List T.Denot) → Fml

@@ -1,5 +1,6 @@
 -- The value of a dense matrix, as contracts see it.
-use Rattle.std.specs.Prelude.{◌≡◌, ℕ, ◌+◌, ◌*◌, ◌<◌, List, length, slice_index_or, slice_set, slice_range, refl}
+use Rattle.std.specs.Prelude.{◌≡◌, ℕ, ◌+◌, ◌*◌, ◌<◌, List, length, slice_index_or, slice_set}
+use Rattle.std.specs.Prelude.{slice_range, refl}
 use Rattle.std.specs.Coded.{Coded, code_by, coded×, coded_ℕ, coded_list}
 use Rattle.sparse_pattern.specs.Refill.{refill_from}
 
@@ -10,7 +11,9 @@ pub record Dense (T : Type 0) : Type 0 where
   pub values : List T
 
 abbrev pub dense_code : {T : Type 0} → Coded T → Coded (Dense T)
-dense_code {T} code = code_by (ℕ × (ℕ × List T)) (coded× coded_ℕ (coded× coded_ℕ (coded_list code))) (λ d. (d.nrows, (d.ncols, d.values))) (λ p. record { nrows = p.0; ncols = p.1.0; values = p.1.1 }) (λ _. refl)
+dense_code {T} code = code_by (ℕ × (ℕ × List T)) (coded× coded_ℕ (coded× coded_ℕ (coded_list code)))
+    (λ d. (d.nrows, (d.ncols, d.values)))
+    (λ p. record { nrows = p.0; ncols = p.1.0; values = p.1.1 }) (λ _. refl)
 
 module _ {T : Type 0} where
   abbrev pub dense_of : ℕ → ℕ → List T → Dense T

@@ -9,13 +9,15 @@ use Rattle.sparse_base.specs.Dense.{Dense, dense_of, value_at}
 abbrev pub is_inside : {T : Type 0} → Dense T → ℕ → ℕ → Bool
 is_inside d i j = nat_lt i d.nrows && nat_lt j d.ncols
 
--- its places are all pairs within the shape, also those of value zero; its value is that of the stored scalar, and zero outside
+-- its places are all pairs within the shape, also those of value zero; its value is that of the
+-- stored scalar, and zero outside
 abbrev pub plain_of_dense : (R : CommRing) {T : Type 0} → (T → R.Carrier) → Dense T → Plain R
 plain_of_dense R f d = record {
   rows = d.nrows;
   cols = d.ncols;
   has = is_inside d;
-  value = λ i j. where_true R (is_inside d i j) (value_at (dense_of d.nrows d.ncols (map f d.values)) i j R.zero);
+  value = λ i j. where_true R (is_inside d i j)
+      (value_at (dense_of d.nrows d.ncols (map f d.values)) i j R.zero);
 }
 
 -- the plain matrix with the same values and every pair within the shape as a place

@@ -2,7 +2,10 @@
 use Rattle.sparse_base.specs.TripletFaults.{TripletSpot}
 use Rattle.sparse_base.specs.TripletFaults as at
 use Rattle.sparse_base.specs.declared.coo.triplet_fault.TripletFault.{TripletFault}
-use Rattle.sparse_base.specs.declared.coo.triplet_fault.TripletFault.TheVariants.{ColCount, ValueCount, RowBounds, ColBounds}
+use Rattle.sparse_base.specs.declared.coo.triplet_fault.TripletFault.TheVariants.{ColCount}
+use Rattle.sparse_base.specs.declared.coo.triplet_fault.TripletFault.TheVariants.{ValueCount}
+use Rattle.sparse_base.specs.declared.coo.triplet_fault.TripletFault.TheVariants.{RowBounds}
+use Rattle.sparse_base.specs.declared.coo.triplet_fault.TripletFault.TheVariants.{ColBounds}
 
 abbrev pub spot_of : TripletFault → TripletSpot
 spot_of ColCount = at.ColCount

@@ -2,9 +2,11 @@
 use Rattle.std.specs.Prelude.{◌≡◌, ◌≢◌, ℕ, ◌≤◌, ◌⊎◌, List, Any, length}
 use Rattle.sparse_pattern.specs.FirstFault.{IsFirst}
 use Rattle.sparse_pattern.specs.declared.error.SparseFormatErrorKind.{SparseFormatErrorKind}
-use Rattle.sparse_pattern.specs.declared.error.SparseFormatErrorKind.TheVariants.{InvalidStructure, IndexOutOfBounds}
+use Rattle.sparse_pattern.specs.declared.error.SparseFormatErrorKind.TheVariants.{InvalidStructure}
+use Rattle.sparse_pattern.specs.declared.error.SparseFormatErrorKind.TheVariants.{IndexOutOfBounds}
 
--- where a fault can occur: the number of rows against columns, of columns against values, the bounds of the rows, those of the columns
+-- where a fault can occur: the number of rows against columns, of columns against values, the
+-- bounds of the rows, those of the columns
 pub data TripletSpot : Type 0 where
   ColCount : TripletSpot
   ValueCount : TripletSpot
@@ -32,7 +34,8 @@ triplet_rank RowBounds = (2, 0, 0)
 triplet_rank ColBounds = (3, 0, 0)
 
 -- the first fault is of this kind
-pub record IsFirstTripletFault (nrows ncols : ℕ) (rows cols : List ℕ) (count : ℕ) (kind : SparseFormatErrorKind) : Type 0 where
+pub record IsFirstTripletFault (nrows ncols : ℕ) (rows cols : List ℕ) (count : ℕ)
+    (kind : SparseFormatErrorKind) : Type 0 where
   pub spot : TripletSpot
   pub first : IsFirst triplet_rank (HasTripletFault nrows ncols rows cols count) spot
   pub is : kind ≡ triplet_kind spot

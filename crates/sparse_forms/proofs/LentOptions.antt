@@ -1,4 +1,5 @@
--- How a walk goes on over a call that lends an `Option`: the option is taken apart or made, and what the lender follows is handed on.
+-- How a walk goes on over a call that lends an `Option`: the option is taken apart or made, and
+-- what the lender follows is handed on.
 use mathlib.Core.Path.{◌≡◌, refl, ap, ◌∙◌, subst⁻¹}
 use mathlib.Core.List.{List, [], ◌∷◌, ◌++◌}
 use mathlib.Core.Option as maybe
@@ -8,7 +9,8 @@ use mir.Val.{Val, vptr, of_list}
 use base.Logic.{ent, emp, sep, id⊢}
 use base.Fml.{Lft, GName}
 use types.Logic.{Logic, sem}
-use types.Kit.{Item, Goal, Seq, ‵, ◌$◌, ◌∵◌, !, qed, move, drop, rewrite, fsplit, fjoin, fpick, fpack, feq_l, feq_i, done}
+use types.Kit.{Item, Goal, Seq, ‵, ◌$◌, ◌∵◌, !, qed, move, drop, rewrite, fsplit, fjoin, fpick}
+use types.Kit.{fpack, feq_l, feq_i, done}
 use types.Match.{live}
 use denote.RattleType.{RattleType, Valss, owns}
 use denote.Enum.Row.{tagged_with}
@@ -32,43 +34,64 @@ none_val = live 0 (of_list [])
 module _ {M : Type 1} {𝓤 : Ura M} (𝓛 : Logic 𝓤) (R : RattleType) where
   pub none_in : ent 𝓤 (emp 𝓤) (sem 𝓛 ((the_row R).own_val None (none_val ∷ [])))
   none_in =
-      qed 𝓛 [] ∵ nothing ! $ feq_i ! (List Val) [] [] refl $ fjoin ! $ fpack ! (Valss []) (in_a_row [] (owns [] tt) []) tt $
+      qed 𝓛 [] ∵ nothing ! $ feq_i ! (List Val) [] [] refl $ fjoin ! $ fpack ! (Valss [])
+      (in_a_row [] (owns [] tt) []) tt $
       feq_i ! (List Val) (none_val ∷ []) (none_val ∷ []) refl $ fjoin ! $
-      fpack ! (List Val) (tagged_with (form_of (shape (the_type R))) (form_of (shape (the_type R))).payload ((the_type R).to None) (none_val ∷ [])) [] $ done !
+      fpack ! (List Val) (tagged_with (form_of (shape (the_type R)))
+      (form_of (shape (the_type R))).payload ((the_type R).to None) (none_val ∷ [])) [] $ done !
 
   pub some_in : (x : R.Denot) (v : Val)
-      → ent 𝓤 (sem 𝓛 (R.own_val x (v ∷ []))) (sem 𝓛 ((the_row R).own_val (Some x) (some_val v ∷ [])))
+      → ent 𝓤 (sem 𝓛 (R.own_val x (v ∷ [])))
+      (sem 𝓛 ((the_row R).own_val (Some x) (some_val v ∷ [])))
   some_in x v =
-      qed 𝓛 (‵ (R.own_val x (v ∷ [])) ∷ []) ∵ nothing ! $ move ! (1 ∷ 0 ∷ []) $ fjoin ! $ feq_i ! (List Val) (v ∷ []) (v ∷ []) refl $ fjoin ! $
+      qed 𝓛 (‵ (R.own_val x (v ∷ [])) ∷ []) ∵ nothing ! $ move ! (1 ∷ 0 ∷ []) $ fjoin ! $ feq_i !
+      (List Val) (v ∷ []) (v ∷ []) refl $ fjoin ! $
       fpack ! (Valss (R ∷ [])) (in_a_row (R ∷ []) (owns (R ∷ []) (x, tt)) (v ∷ [])) (v ∷ [], tt) $
       feq_i ! (List Val) (some_val v ∷ []) (some_val v ∷ []) refl $ fjoin ! $
-      fpack ! (List Val) (tagged_with (form_of (shape (the_type R))) (form_of (shape (the_type R))).payload ((the_type R).to (Some x)) (some_val v ∷ [])) (v ∷ []) $ done !
+      fpack ! (List Val) (tagged_with (form_of (shape (the_type R)))
+      (form_of (shape (the_type R))).payload ((the_type R).to (Some x)) (some_val v ∷ []))
+      (v ∷ []) $ done !
 
 -- an option of a `&mut` is taken apart
-module _ {M : Type 1} {𝓤 : Ura M} {𝓛 : Logic 𝓤} {K : Type 0} {Γ : List (Item 𝓤)} {G : Goal 𝓤 𝓛.H} (t : K) where
+module _ {M : Type 1} {𝓤 : Ura M} {𝓛 : Logic 𝓤} {K : Type 0} {Γ : List (Item 𝓤)} {G : Goal 𝓤 𝓛.H}
+    (t : K) where
   none_out : (R : RattleType) (vs : List Val) → (vs ≡ none_val ∷ [] → Seq K 𝓛 Γ G)
       → Seq K 𝓛 (‵ ((the_row R).own_val None vs) ∷ Γ) G
-  none_out R vs k = fpick t (λ us. fsplit t $ feq_l t (λ e. fpick t (λ vss. fsplit t $ feq_l t (λ e'. drop t $ k (subst⁻¹ (λ (ws : List Val). vs ≡ live 0 (of_list ws) ∷ [] → vs ≡ none_val ∷ []) e' (λ p. p) e)))))
+  none_out R vs k =
+      fpick t (λ us. fsplit t $ feq_l t
+      (λ e. fpick t (λ vss. fsplit t $ feq_l t
+      (λ e'. drop t $ k
+      (subst⁻¹ (λ (ws : List Val). vs ≡ live 0 (of_list ws) ∷ [] → vs ≡ none_val ∷ []) e' (λ p. p)
+      e)))))
 
   some_out : (R : RattleType) (x : R.Denot) (vs : List Val)
-      → ((xs : List Val) → vs ≡ live 1 (of_list (xs ++ [])) ∷ [] → Seq K 𝓛 (‵ (R.own_val x xs) ∷ Γ) G)
+      → ((xs : List Val) → vs ≡ live 1 (of_list (xs ++ [])) ∷ []
+      → Seq K 𝓛 (‵ (R.own_val x xs) ∷ Γ) G)
       → Seq K 𝓛 (‵ ((the_row R).own_val (Some x) vs) ∷ Γ) G
-  some_out R x vs k = fpick t (λ us. fsplit t $ feq_l t (λ e. fpick t (λ vss. fsplit t $ feq_l t (λ e'. fsplit t $ move t (1 ∷ []) $ drop t $
-      k vss.0 (subst⁻¹ (λ (ws : List Val). vs ≡ live 1 (of_list ws) ∷ [] → vs ≡ live 1 (of_list (vss.0 ++ [])) ∷ []) e' (λ p. p) e)))))
+  some_out R x vs k =
+      fpick t (λ us. fsplit t $ feq_l t
+      (λ e. fpick t (λ vss. fsplit t $ feq_l t (λ e'. fsplit t $ move t (1 ∷ []) $ drop t $
+      k vss.0 (subst⁻¹ (λ (ws : List Val). vs ≡ live 1 (of_list ws) ∷ []
+      → vs ≡ live 1 (of_list (vss.0 ++ [])) ∷ []) e' (λ p. p) e)))))
 
   module _ (ℓ : Lifetime) (κ : Lft) (R : RattleType) where
     pub lent_cases : (v : Val) (r : Option (MutBor R.Denot))
-        → ((x : MutBor R.Denot) → r ≡ Some x → v ≡ some_val (vptr x.ref_ptr.0 x.ref_ptr.1) → Seq K 𝓛 (‵ ((MutRef ℓ κ R).own_val x (mut_vals x)) ∷ Γ) G)
-        → (r ≡ None → v ≡ none_val → Seq K 𝓛 Γ G) → Seq K 𝓛 (‵ ((the_row (MutRef ℓ κ R)).own_val r (v ∷ [])) ∷ Γ) G
+        → ((x : MutBor R.Denot) → r ≡ Some x → v ≡ some_val (vptr x.ref_ptr.0 x.ref_ptr.1)
+        → Seq K 𝓛 (‵ ((MutRef ℓ κ R).own_val x (mut_vals x)) ∷ Γ) G)
+        → (r ≡ None → v ≡ none_val → Seq K 𝓛 Γ G)
+        → Seq K 𝓛 (‵ ((the_row (MutRef ℓ κ R)).own_val r (v ∷ [])) ∷ Γ) G
     lent_cases v None k none = none_out (MutRef ℓ κ R) (v ∷ []) (λ e. none refl (ap only e))
-    lent_cases v (Some x) k none = let Ref = MutRef ℓ κ R in some_out Ref x (v ∷ []) (λ us e. peeks t Ref (Is Ref) (shows 𝓛 Ref) x us (λ is.
+    lent_cases v (Some x) k none = let Ref = MutRef ℓ κ R in some_out Ref x (v ∷ [])
+        (λ us e. peeks t Ref (Is Ref) (shows 𝓛 Ref) x us (λ is.
         rewrite t 0 (λ (ws : List Val). ‵ (Ref.own_val x ws)) (mut_Tells ℓ κ R x us is) refl $
-        k x refl (ap only (e ∙ ap (λ (ws : List Val). live 1 (of_list (ws ++ [])) ∷ []) (mut_Tells ℓ κ R x us is)))))
+        k x refl (ap only (e ∙ ap (λ (ws : List Val). live 1 (of_list (ws ++ [])) ∷ [])
+        (mut_Tells ℓ κ R x us is)))))
 
 -- what was lent is lent on
 module _ {M : Type 1} {𝓤 : Ura M} (𝓛 : Logic 𝓤) (R S T : RattleType) (γ : GName) (v : R.Denot) where
   pub lent_on : (γ' γ'' : GName) (F : S.Denot → R.Denot) (F' : T.Denot → S.Denot)
-      → ent 𝓤 (sep 𝓤 (sem 𝓛 (follows_if R S γ (maybe.some γ') F v)) (sem 𝓛 (follows S T γ' γ'' F'))) (sem 𝓛 (follows_if R T γ (maybe.some γ'') (λ w. F (F' w)) v))
+      → ent 𝓤 (sep 𝓤 (sem 𝓛 (follows_if R S γ (maybe.some γ') F v)) (sem 𝓛 (follows S T γ' γ'' F')))
+      (sem 𝓛 (follows_if R T γ (maybe.some γ'') (λ w. F (F' w)) v))
   unfolding follows_by
   lent_on γ' γ'' F F' = follows_then 𝓛 R S T F F' γ γ' γ''
 

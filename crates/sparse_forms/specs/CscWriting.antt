@@ -19,10 +19,13 @@ module _ (T : RattleType) (s : MutBor (Compressed T.Denot)) where
 
   -- the column, if there is one; otherwise the matrix is unchanged
   abbrev pub LendsColIf : ℕ → Option (CscColMut T.Denot) → Fml
-  LendsColIf i r = follows_if (matrix_type T) (Array T 0) s.ghost_name (col_name r) (with_lane s.now i) s.now
+  LendsColIf i r = follows_if (matrix_type T) (Array T 0) s.ghost_name (col_name r)
+      (with_lane s.now i) s.now
 
   abbrev pub LendsEntry : ℕ → ℕ → Option (SparseEntryMut T.Denot) → Fml
-  LendsEntry i j r = follows_if (matrix_type T) T s.ghost_name (entry_name r) (with_value s.now i j) s.now
+  LendsEntry i j r = follows_if (matrix_type T) T s.ghost_name (entry_name r) (with_value s.now i j)
+      s.now
 
   abbrev pub LendsIndexed : ℕ → ℕ → SparseEntryMut T.Denot → Fml
-  LendsIndexed i j r = follows_if (matrix_type T) T s.ghost_name (indexed_name r) (with_value s.now i j) s.now
+  LendsIndexed i j r = follows_if (matrix_type T) T s.ghost_name (indexed_name r)
+      (with_value s.now i j) s.now

@@ -14,4 +14,5 @@ module _ (T : RattleType) (s : MutBor (Compressed T.Denot)) where
   LendsCoreIf r = LendsIf (matrix_type T) (core_type T) s r (λ m. m) s.now
 
   abbrev pub LendsFound : ℕ → ℕ → Found T.Denot → Fml
-  LendsFound i j r = follows_if (matrix_type T) T s.ghost_name (found_name r) (with_value s.now i j) s.now
+  LendsFound i j r = follows_if (matrix_type T) T s.ghost_name (found_name r) (with_value s.now i j)
+      s.now

@@ -57,7 +57,9 @@ module _ {T : Type 0} where
 -- after the borrow the column has the values last written through it
 module _ (T : RattleType) (s : MutBor (CscColMut T.Denot)) where
   abbrev pub LendsColValues : MutBor (List T.Denot) → Fml
-  LendsColValues r = Lends (col_type (record { mir = named 1; lft = [] }) T) (Array T 0) s r (col_with_values s.now)
+  LendsColValues r = Lends (col_type (record { mir = named 1; lft = [] }) T) (Array T 0) s r
+      (col_with_values s.now)
 
   abbrev pub LendsColEntry : ℕ → Option (SparseEntryMut T.Denot) → Fml
-  LendsColEntry j r = follows_if (col_type (record { mir = named 1; lft = [] }) T) T s.ghost_name (entry_name r) (col_with_value s.now j) s.now
+  LendsColEntry j r = follows_if (col_type (record { mir = named 1; lft = [] }) T) T s.ghost_name
+      (entry_name r) (col_with_value s.now j) s.now

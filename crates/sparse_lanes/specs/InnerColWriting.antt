@@ -10,7 +10,9 @@ use Rattle.sparse_lanes.specs.contracts.col_mut.CscColMut.{the_row as col_type}
 
 module _ (T : RattleType) (s : MutBor (CscColMut T.Denot)) where
   abbrev pub LendsColAt : ℕ → MutBor T.Denot → Fml
-  LendsColAt k r = Lends (col_type (record { mir = named 1; lft = [] }) T) T s r (col_with_value_at s.now k)
+  LendsColAt k r = Lends (col_type (record { mir = named 1; lft = [] }) T) T s r
+      (col_with_value_at s.now k)
 
   abbrev pub LendsColFound : ℕ → Found T.Denot → Fml
-  LendsColFound j r = follows_if (col_type (record { mir = named 1; lft = [] }) T) T s.ghost_name (found_name r) (col_with_value s.now j) s.now
+  LendsColFound j r = follows_if (col_type (record { mir = named 1; lft = [] }) T) T s.ghost_name
+      (found_name r) (col_with_value s.now j) s.now

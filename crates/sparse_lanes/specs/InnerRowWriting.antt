@@ -10,7 +10,9 @@ use Rattle.sparse_lanes.specs.contracts.row_mut.CsrRowMut.{the_row as row_type}
 
 module _ (T : RattleType) (s : MutBor (CsrRowMut T.Denot)) where
   abbrev pub LendsRowAt : ℕ → MutBor T.Denot → Fml
-  LendsRowAt k r = Lends (row_type (record { mir = named 1; lft = [] }) T) T s r (row_with_value_at s.now k)
+  LendsRowAt k r = Lends (row_type (record { mir = named 1; lft = [] }) T) T s r
+      (row_with_value_at s.now k)
 
   abbrev pub LendsRowFound : ℕ → Found T.Denot → Fml
-  LendsRowFound j r = follows_if (row_type (record { mir = named 1; lft = [] }) T) T s.ghost_name (found_name r) (row_with_value s.now j) s.now
+  LendsRowFound j r = follows_if (row_type (record { mir = named 1; lft = [] }) T) T s.ghost_name
+      (found_name r) (row_with_value s.now j) s.now

@@ -56,7 +56,9 @@ module _ {T : Type 0} where
 -- after the borrow the row has the values last written through it
 module _ (T : RattleType) (s : MutBor (CsrRowMut T.Denot)) where
   abbrev pub LendsRowValues : MutBor (List T.Denot) → Fml
-  LendsRowValues r = Lends (row_type (record { mir = named 1; lft = [] }) T) (Array T 0) s r (row_with_values s.now)
+  LendsRowValues r = Lends (row_type (record { mir = named 1; lft = [] }) T) (Array T 0) s r
+      (row_with_values s.now)
 
   abbrev pub LendsRowEntry : ℕ → Option (SparseEntryMut T.Denot) → Fml
-  LendsRowEntry j r = follows_if (row_type (record { mir = named 1; lft = [] }) T) T s.ghost_name (entry_name r) (row_with_value s.now j) s.now
+  LendsRowEntry j r = follows_if (row_type (record { mir = named 1; lft = [] }) T) T s.ghost_name
+      (entry_name r) (row_with_value s.now j) s.now

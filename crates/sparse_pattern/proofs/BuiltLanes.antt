@@ -1,5 +1,6 @@
 -- A pattern that is built lane after lane, for places that satisfy a given condition.
-use Rattle.std.proofs.Common.{◌≡◌, ℕ, ◌+◌, ◌<◌, inl, inr, ◌↔◌, List, [], ◌∷◌, ◌++◌, length, Contains, ap, sym, subst, ◌∙◌, arith}
+use Rattle.std.proofs.Common.{◌≡◌, ℕ, ◌+◌, ◌<◌, inl, inr, ◌↔◌, List, [], ◌∷◌, ◌++◌, length}
+use Rattle.std.proofs.Common.{Contains, ap, sym, subst, ◌∙◌, arith}
 use Rattle.std.specs.List.Sorted.{IsStrictlyIncreasing}
 use Rattle.sparse_lemmas.proofs.Cases.{lt_add_one_cases}
 use Rattle.sparse_pattern.specs.Raw.{Raw, raw_of, IsValid, IsPlace}
@@ -10,10 +11,12 @@ use Rattle.sparse_pattern.proofs.PushedLanes.{valid_pushed, places_kept, places_
 pub place_within : (d : Raw) → IsValid d → (i j : ℕ) → IsPlace d i j → j < d.minor_dim
 place_within d valid i j place =
     let at = place.in_lane in
-    subst (λ x. x < d.minor_dim) place.index ((valid.lanes i at.lane).bounded place.at at.from at.to)
+    subst (λ x. x < d.minor_dim) place.index
+    ((valid.lanes i at.lane).bounded place.at at.from at.to)
 
 -- the first n lanes have the places for which P holds
-pub record IsBuilt (minor_dim : ℕ) (P : ℕ → ℕ → Type 0) (n : ℕ) (offsets indices : List ℕ) : Type 0 where
+pub record IsBuilt (minor_dim : ℕ) (P : ℕ → ℕ → Type 0) (n : ℕ) (offsets indices : List ℕ) : Type
+    0 where
   pub valid : IsValid (raw_of n minor_dim offsets indices)
   pub places : (i j : ℕ) → i < n → IsPlace (raw_of n minor_dim offsets indices) i j ↔ P i j
 
@@ -33,7 +36,8 @@ module _ (m : ℕ) (P : ℕ → ℕ → Type 0) (n : ℕ) where
           (λ h. was.0 (kept.0 h), λ h. kept.1 (was.1 h))
       | inr last ↦
           let new = places_last m n offsets indices lane valid rising bounded j in
-          subst (λ i. IsPlace (raw_of (n + 1) m (offsets ++ length (indices ++ lane) ∷ []) (indices ++ lane)) i j ↔ P i j) (sym last)
+          subst (λ i. IsPlace (raw_of (n + 1) m (offsets ++ length (indices ++ lane) ∷ [])
+          (indices ++ lane)) i j ↔ P i j) (sym last)
           (λ h. (holds j).0 (new.0 h), λ h. new.1 ((holds j).1 h))
     ];
   }
@@ -43,7 +47,8 @@ module _ (m : ℕ) (P : ℕ → ℕ → Type 0) (n : ℕ) where
       → ((j : ℕ) → P n j → j < m) → GainsLane indices indices' (P n)
       → offsets' ≡ offsets ++ length indices' ∷ [] → IsBuilt m P (n + 1) offsets' indices'
   lane_gained offsets offsets' indices indices' built below gains is =
-      rw (is, gains.pushed) (lane_built offsets indices gains.lane built.valid built.places gains.rising (λ j h. below j ((gains.holds j).0 h)) gains.holds)
+      rw (is, gains.pushed) (lane_built offsets indices gains.lane built.valid built.places
+      gains.rising (λ j h. below j ((gains.holds j).0 h)) gains.holds)
 
 -- all lanes are built
 pub all_built : (m : ℕ) (P : ℕ → ℕ → Type 0) (n rows : ℕ) (d : Raw) (offsets indices : List ℕ)
@@ -52,6 +57,8 @@ pub all_built : (m : ℕ) (P : ℕ → ℕ → Type 0) (n rows : ℕ) (d : Raw) 
 all_built m P n rows d offsets indices whole is within built i j =
     let so_far : Raw = raw_of n m offsets indices in
     let same : d ≡ so_far = is ∙ ap (λ k. raw_of k m offsets indices) (sym whole) in (
-      λ h. let here = subst (λ d. IsPlace d i j) same h in (built.places i j here.in_lane.lane).0 here,
-      λ h. subst (λ d. IsPlace d i j) (sym same) ((built.places i j (omega (arith, within i j h))).1 h),
+      λ h. let here = subst (λ d. IsPlace d i j) same h in (built.places i j here.in_lane.lane).0
+          here,
+      λ h. subst (λ d. IsPlace d i j) (sym same)
+          ((built.places i j (omega (arith, within i j h))).1 h),
     )

@@ -1,9 +1,11 @@
 -- The pairs of valid data rise in lane order.
-use Rattle.std.proofs.Common.{◌≡◌, ℕ, zero, suc, ◌+◌, ◌-◌, ◌<◌, ◌≤◌, ◌⊎◌, inl, inr, ◌↔◌, List, length, get_or, ap, subst, refl, sym, arith, length-append}
+use Rattle.std.proofs.Common.{◌≡◌, ℕ, zero, suc, ◌+◌, ◌-◌, ◌<◌, ◌≤◌, ◌⊎◌, inl, inr, ◌↔◌, List}
+use Rattle.std.proofs.Common.{length, get_or, ap, subst, refl, sym, arith, length-append}
 use Rattle.std.specs.Prelude.{AllPairs}
 use Rattle.std.proofs.lemmas.List.{get_or-map, get_or_append_left, get_or-append_right}
 use Rattle.sparse_lemmas.proofs.Cases.{lt_or_ge}
-use Rattle.sparse_pattern.specs.Raw.{Raw, lane_of, IsValid, Precedes, entries_from, entries_of, paired}
+use Rattle.sparse_pattern.specs.Raw.{Raw, lane_of, IsValid, Precedes, entries_from, entries_of}
+use Rattle.sparse_pattern.specs.Raw.{paired}
 use Rattle.sparse_pattern.proofs.LaneOrder.{length-paired}
 use Rattle.sparse_pattern.proofs.PatternLanes.{lane_rises}
 
@@ -26,10 +28,15 @@ module _ (d : Raw) where
       → i ≤ (get_or (entries_from d.offsets d.indices i n) k e).0
   lanes_from i zero k e lt = absurd (omega arith)
   lanes_from i (suc n) k e lt = elim (lt_or_ge k (length (pairs_of i))) [
-    | inl front ↦ rw (get_or_append_left (pairs_of i) (rest_after i n) e k front, pair_at i k e front) (omega arith)
+    | inl front ↦ rw (
+      get_or_append_left (pairs_of i) (rest_after i n) e k front,
+      pair_at i k e front,
+    ) (omega arith)
     | inr behind ↦
-        let later = lanes_from (i + 1) n (k - length (pairs_of i)) e (omega (arith, length-append (pairs_of i) (rest_after i n))) in
-        rw (get_or-append_right (pairs_of i) (rest_after i n) (length (pairs_of i)) k e refl behind) (omega arith)
+        let later = lanes_from (i + 1) n (k - length (pairs_of i)) e
+        (omega (arith, length-append (pairs_of i) (rest_after i n))) in
+        rw (get_or-append_right (pairs_of i) (rest_after i n) (length (pairs_of i)) k e refl behind)
+        (omega arith)
   ]
 
   module _ (valid : IsValid d) where
@@ -38,18 +45,35 @@ module _ (d : Raw) where
     rising_from i zero whole p q e lt within = absurd (omega arith)
     rising_from i (suc n) whole p q e lt within = elim (lt_or_ge q (length (pairs_of i))) [
       | inl front ↦
-          rw (get_or_append_left (pairs_of i) (rest_after i n) e p (omega arith), get_or_append_left (pairs_of i) (rest_after i n) e q front, pair_at i p e (omega arith), pair_at i q e front)
+          rw (
+            get_or_append_left (pairs_of i) (rest_after i n) e p (omega arith),
+            get_or_append_left (pairs_of i) (rest_after i n) e q front,
+            pair_at i p e (omega arith),
+            pair_at i q e front,
+          )
           (inr (refl, lane_rises d i (valid.lanes i (omega arith)) p q lt (in_lane i q front)))
       | inr behind ↦
-          let inside : q - length (pairs_of i) < length (rest_after i n) = omega (arith, length-append (pairs_of i) (rest_after i n)) in
+          let inside : q - length (pairs_of i) < length (rest_after i n) =
+          omega (arith, length-append (pairs_of i) (rest_after i n)) in
           elim (lt_or_ge p (length (pairs_of i))) [
             | inl front ↦
                 let later = lanes_from (i + 1) n (q - length (pairs_of i)) e inside in
-                rw (get_or_append_left (pairs_of i) (rest_after i n) e p front, get_or-append_right (pairs_of i) (rest_after i n) (length (pairs_of i)) q e refl behind, pair_at i p e front)
+                rw (
+                  get_or_append_left (pairs_of i) (rest_after i n) e p front,
+                  get_or-append_right (pairs_of i) (rest_after i n) (length (pairs_of i)) q e refl
+                      behind,
+                  pair_at i p e front,
+                )
                 (inl (omega arith))
             | inr both ↦
-                rw (get_or-append_right (pairs_of i) (rest_after i n) (length (pairs_of i)) p e refl both, get_or-append_right (pairs_of i) (rest_after i n) (length (pairs_of i)) q e refl behind)
-                (rising_from (i + 1) n (omega arith) (p - length (pairs_of i)) (q - length (pairs_of i)) e (omega arith) inside)
+                rw (
+                  get_or-append_right (pairs_of i) (rest_after i n) (length (pairs_of i)) p e refl
+                      both,
+                  get_or-append_right (pairs_of i) (rest_after i n) (length (pairs_of i)) q e
+                      refl behind,
+                )
+                (rising_from (i + 1) n (omega arith) (p - length (pairs_of i))
+                (q - length (pairs_of i)) e (omega arith) inside)
           ]
     ]
 

@@ -1,9 +1,11 @@
 -- Data that is free of faults so far, and the first fault from there.
-use Rattle.std.proofs.Common.{◌≡◌, ℕ, ◌+◌, ◌-◌, ◌<◌, ◌≤◌, ◌⊎◌, inl, inr, length, slice_index, refl, arith}
+use Rattle.std.proofs.Common.{◌≡◌, ℕ, ◌+◌, ◌-◌, ◌<◌, ◌≤◌, ◌⊎◌, inl, inr, length, slice_index, refl}
+use Rattle.std.proofs.Common.{arith}
 use Rattle.sparse_lemmas.proofs.Cases.{le_cases}
 use Rattle.sparse_pattern.specs.Raw.{Raw, start_of, end_of, IsInLane, IsValidLane}
 use Rattle.sparse_pattern.specs.FirstFault.{IsBefore}
-use Rattle.sparse_pattern.specs.PatternFaults.{Spot, OffsetCount, FirstLast, LaneEnd, Bound, Fall, Repeat, rank_of, HasFault, IsFirstFault}
+use Rattle.sparse_pattern.specs.PatternFaults.{Spot, OffsetCount, FirstLast, LaneEnd, Bound, Fall}
+use Rattle.sparse_pattern.specs.PatternFaults.{Repeat, rank_of, HasFault, IsFirstFault}
 use Rattle.sparse_pattern.specs.InnerPatternFaults.{IsRisingBelow, IsFirstAmong}
 use Rattle.sparse_pattern.specs.declared.pattern.faults.SparsityPatternFormatError.{SparsityPatternFormatError}
 use Rattle.sparse_pattern.specs.declared.pattern.faults.SparsityPatternFormatError.TheVariants.{NonmonotonicOffsets}
@@ -28,23 +30,36 @@ module _ (d : Raw) where
   none_before_lane : (i : ℕ) → LanesFine d i → NoneBefore d (LaneEnd i)
   none_before_lane i fine OffsetCount b h = h fine.count
   none_before_lane i fine FirstLast b h = elim h [ inl x ↦ x fine.first | inr x ↦ x fine.last ]
-  none_before_lane i fine (LaneEnd k) b h = let v = fine.lanes k (grind arith) in end_fine k v.ordered v.inside h
-  none_before_lane i fine (Bound k q) b h = omega (arith, (fine.lanes k (grind arith)).bounded q h.0.from h.0.to, h.1)
-  none_before_lane i fine (Fall k q) b h = omega (arith, (fine.lanes k (grind arith)).rising q h.1 h.0.to, h.2)
-  none_before_lane i fine (Repeat k q) b h = omega (arith, (fine.lanes k (grind arith)).rising q h.1 h.0.to, h.2)
+  none_before_lane i fine (LaneEnd k) b h = let v = fine.lanes k (grind arith) in end_fine k
+      v.ordered v.inside h
+  none_before_lane i fine (Bound k q) b h =
+      omega (arith, (fine.lanes k (grind arith)).bounded q h.0.from h.0.to, h.1)
+  none_before_lane i fine (Fall k q) b h =
+      omega (arith, (fine.lanes k (grind arith)).rising q h.1 h.0.to, h.2)
+  none_before_lane i fine (Repeat k q) b h =
+      omega (arith, (fine.lanes k (grind arith)).rising q h.1 h.0.to, h.2)
 
   pub first_at_end : (i : ℕ) → LanesFine d i → i < d.major_dim
       → (end_of d i < start_of d i) ⊎ (length d.indices < end_of d i)
       → IsFirstFault d NonmonotonicOffsets
-  first_at_end i fine lane bad = record { spot = LaneEnd i; first = record { here = (lane, bad); none_before = none_before_lane i fine }; is = refl }
+  first_at_end i fine lane bad = record {
+    spot = LaneEnd i;
+    first =
+        record { here = (lane, bad); none_before = none_before_lane i fine };
+    is = refl;
+  }
 
-  -- nor before the n-th spot of position p of lane i, where the spots of that position before it are fine
-  module _ (i p : ℕ) (fine : LanesFine d i) (ordered : start_of d i ≤ end_of d i) (inside : end_of d i ≤ length d.indices) (so_far : IsRisingBelow d.minor_dim d.indices (start_of d i) p) where
+  -- nor before the n-th spot of position p of lane i, where the spots of that position before it
+  -- are fine
+  module _ (i p : ℕ) (fine : LanesFine d i) (ordered : start_of d i ≤ end_of d i)
+      (inside : end_of d i ≤ length d.indices)
+      (so_far : IsRisingBelow d.minor_dim d.indices (start_of d i) p) where
     none_before_position : (n : ℕ) → n ≤ 2 → (0 < n → slice_index d.indices p < d.minor_dim)
         → (1 < n → slice_index d.indices (p - 1) ≤ slice_index d.indices p) → (t : Spot)
         → IsBefore (rank_of t) (i + 2, p + 1, n) → HasFault d t → ⊥
     none_before_position n top bound order OffsetCount b h = h fine.count
-    none_before_position n top bound order FirstLast b h = elim h [ inl x ↦ x fine.first | inr x ↦ x fine.last ]
+    none_before_position n top bound order FirstLast b h =
+        elim h [ inl x ↦ x fine.first | inr x ↦ x fine.last ]
     none_before_position n top bound order (LaneEnd k) b h = elim (le_cases k i (grind arith)) [
       | inl lt ↦ let v = fine.lanes k lt in end_fine k v.ordered v.inside h
       | inr same ↦ end_fine k (rw same ordered) (rw same inside) h
@@ -53,7 +68,8 @@ module _ (d : Raw) where
       | inl lt ↦ omega (arith, (fine.lanes k lt).bounded q h.0.from h.0.to, h.1)
       | inr same ↦ elim (le_cases q p (grind arith)) [
         | inl before ↦ omega (arith, so_far.bounded q (rw (← same) h.0.from) before, h.1)
-        | inr here ↦ let some : 0 < n = grind arith in omega (arith, rw (← here) at (bound some), h.1)
+        | inr here ↦ let some : 0 < n = grind arith in omega
+            (arith, rw (← here) at (bound some), h.1)
       ]
     ]
     none_before_position n top bound order (Fall k q) b h = elim (le_cases k i (grind arith)) [
@@ -65,7 +81,8 @@ module _ (d : Raw) where
     ]
     none_before_position n top bound order (Repeat k q) b h = elim (le_cases k i (grind arith)) [
       | inl lt ↦ omega (arith, (fine.lanes k lt).rising q h.1 h.0.to, h.2)
-      | inr same ↦ let before : q < p = grind arith in omega (arith, so_far.rising q (rw (← same) h.1) before, h.2)
+      | inr same ↦ let before : q < p = grind arith in omega
+          (arith, so_far.rising q (rw (← same) h.1) before, h.2)
     ]
 
   -- the first fault among the indices of lane i is the first of the data
@@ -77,9 +94,37 @@ module _ (d : Raw) where
       let in_lane : IsInLane d i p = record { lane = lane; from = among.from; to = among.to } in
       let none = none_before_position i p fine ordered inside among.fine_before in
       elim among.here [
-        | inl outside ↦ record { spot = Bound i p; first = record { here = (in_lane, outside.1); none_before = none 0 (omega arith) (λ h. absurd (omega arith)) (λ h. absurd (omega arith)) }; is = outside.0 }
+        | inl outside ↦ record {
+          spot = Bound i p;
+          first =
+              record {
+                here = (in_lane, outside.1);
+                none_before =
+                    none 0 (omega arith) (λ h. absurd (omega arith)) (λ h. absurd (omega arith));
+              };
+          is =
+              outside.0;
+        }
         | inr order ↦ elim order.2 [
-          | inl falls ↦ record { spot = Fall i p; first = record { here = (in_lane, order.1, falls.1); none_before = none 1 (omega arith) (λ _. order.0) (λ h. absurd (omega arith)) }; is = falls.0 }
-          | inr repeats ↦ record { spot = Repeat i p; first = record { here = (in_lane, order.1, repeats.1); none_before = none 2 (omega arith) (λ _. order.0) (λ _. omega arith) }; is = repeats.0 }
+          | inl falls ↦ record {
+            spot = Fall i p;
+            first =
+                record {
+                  here = (in_lane, order.1, falls.1);
+                  none_before =
+                      none 1 (omega arith) (λ _. order.0) (λ h. absurd (omega arith));
+                };
+            is = falls.0;
+          }
+          | inr repeats ↦ record {
+            spot = Repeat i p;
+            first =
+                record {
+                  here = (in_lane, order.1, repeats.1);
+                  none_before =
+                      none 2 (omega arith) (λ _. order.0) (λ _. omega arith);
+                };
+            is = repeats.0;
+          }
         ]
       ]

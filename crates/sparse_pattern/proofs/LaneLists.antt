@@ -5,7 +5,12 @@ use Rattle.sparse_pattern.specs.Raw.{Raw, lane_of, IsValid, IsPlace}
 use Rattle.sparse_pattern.proofs.SamePlaces.{Has, has_from_place, place_from_has}
 
 pub has_from_contains : (xs : List ℕ) (x : ℕ) → Contains xs x → Has xs x
-has_from_contains xs x h = record { at = h.0; within = h.1; is = get_or_default xs h.0 0 x h.1 ∙ h.2 }
+has_from_contains xs x h = record {
+  at = h.0;
+  within = h.1;
+  is = get_or_default xs h.0 0 x h.1
+      ∙ h.2;
+}
 
 pub contains_from_has : (xs : List ℕ) (x : ℕ) → Has xs x → Contains xs x
 contains_from_has xs x h = (h.at, h.within, get_or_default xs h.at x 0 h.within ∙ h.is)

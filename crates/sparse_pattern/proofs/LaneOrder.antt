@@ -1,10 +1,15 @@
 -- The pairs in lane order are the places.
-use Rattle.std.proofs.Common.{◌≡◌, ℕ, zero, suc, ◌+◌, ◌<◌, ◌≤◌, ◌⊎◌, inl, inr, ◌↔◌, List, [], ◌∷◌, length, get_or, slice_index, Contains, ap, subst, arith, length-append}
+use Rattle.std.proofs.Common.{◌≡◌, ℕ, zero, suc, ◌+◌, ◌<◌, ◌≤◌, ◌⊎◌, inl, inr, ◌↔◌, List, [], ◌∷◌}
+use Rattle.std.proofs.Common.{length, get_or, slice_index, Contains, ap, subst, arith}
+use Rattle.std.proofs.Common.{length-append}
 use Rattle.std.proofs.lemmas.List.{length-map}
-use Rattle.std.proofs.lemmas.List.Elements.{Contains-append_left, Contains-append_right, Contains-append_cases}
-use Rattle.sparse_pattern.specs.Raw.{Raw, start_of, lane_of, IsValid, IsPlace, entries_from, entries_of, paired}
+use Rattle.std.proofs.lemmas.List.Elements.{Contains-append_left, Contains-append_right}
+use Rattle.std.proofs.lemmas.List.Elements.{Contains-append_cases}
+use Rattle.sparse_pattern.specs.Raw.{Raw, start_of, lane_of, IsValid, IsPlace, entries_from}
+use Rattle.sparse_pattern.specs.Raw.{entries_of, paired}
 use Rattle.sparse_pattern.proofs.PatternLanes.{length-lane}
-use Rattle.sparse_pattern.proofs.SamePlaces.{Has, has_head, has_later, has_cases, has_from_place, place_from_has}
+use Rattle.sparse_pattern.proofs.SamePlaces.{Has, has_head, has_later, has_cases, has_from_place}
+use Rattle.sparse_pattern.proofs.SamePlaces.{place_from_has}
 
 pub length-paired : (i : ℕ) (js : List ℕ) → length (paired i js) ≡ length js
 length-paired i js = length-map js (λ j. (i, j))
@@ -21,8 +26,14 @@ module _ (d : Raw) (valid : IsValid d) where
       let lane = valid.lanes i (omega arith) in
       let rest = length-entries_from (i + 1) n (omega arith) in
       let front = length-lane d i lane in
-      let mapped : length (paired i (lane_of d i)) ≡ length (lane_of d i) = length-paired i (lane_of d i) in
-      omega (arith, length-append (paired i (lane_of d i)) (entries_from d.offsets d.indices (i + 1) n), lane.ordered)
+      let mapped : length (paired i (lane_of d i)) ≡ length (lane_of d i) =
+      length-paired i (lane_of d i) in
+      omega (
+        arith,
+        length-append (paired i (lane_of d i))
+            (entries_from d.offsets d.indices (i + 1) n),
+        lane.ordered,
+      )
 
   pub length-entries : length (entries_of d) ≡ length d.indices
   length-entries = omega (arith, length-entries_from 0 d.major_dim (omega arith), valid.first)
@@ -45,7 +56,11 @@ contains_cases x y xs (suc k) lt is = inr (k, omega arith, is)
 has_from_map : (i j i' : ℕ) (xs : List ℕ) → Contains (paired i' xs) (i, j) → (i' ≡ i) × Has xs j
 has_from_map i j i' [] h = absurd (omega (arith, h.1))
 has_from_map i j i' (x ∷ xs) h = elim (contains_cases (i', x) (i, j) (paired i' xs) h.0 h.1 h.2) [
-  | inl same ↦ (ap (λ p. p.0) same, subst (λ y. Has (x ∷ xs) y) (ap (λ p. p.1) same) (has_head x xs))
+  | inl same ↦ (
+    ap (λ p. p.0) same,
+    subst (λ y. Has (x ∷ xs) y) (ap (λ p. p.1) same)
+        (has_head x xs),
+  )
   | inr later ↦ let r = has_from_map i j i' xs later in (r.0, has_later x j xs r.1)
 ]
 
@@ -56,12 +71,14 @@ module _ (d : Raw) (valid : IsValid d) (i j : ℕ) where
   place_from_entry : (k n : ℕ) → k + n ≡ d.major_dim
       → Contains (entries_from d.offsets d.indices k n) (i, j) → IsPlace d i j
   place_from_entry k zero e h = absurd (omega (arith, h.1))
-  place_from_entry k (suc n) e h = elim (Contains-append_cases (paired k (lane_of d k)) (entries_from d.offsets d.indices (k + 1) n) (i, j) h) [
-    | inl here ↦
-        let r = has_from_map i j k (lane_of d k) here in
-        subst (λ l. IsPlace d l j) r.0 (place_from_has d k j (omega arith) (valid.lanes k (omega arith)) r.1)
-    | inr later ↦ place_from_entry (k + 1) n (omega arith) later
-  ]
+  place_from_entry k (suc n) e h = elim (Contains-append_cases (paired k (lane_of d k))
+      (entries_from d.offsets d.indices (k + 1) n) (i, j) h) [
+        | inl here ↦
+            let r = has_from_map i j k (lane_of d k) here in
+            subst (λ l. IsPlace d l j) r.0 (place_from_has d k j (omega arith)
+            (valid.lanes k (omega arith)) r.1)
+        | inr later ↦ place_from_entry (k + 1) n (omega arith) later
+      ]
 
   entry_from_place : IsPlace d i j → (k n : ℕ) → k ≤ i → k + n ≡ d.major_dim
       → Contains (entries_from d.offsets d.indices k n) (i, j)
@@ -69,9 +86,15 @@ module _ (d : Raw) (valid : IsValid d) (i j : ℕ) where
   entry_from_place place k (suc n) le e = elim (eq_or_lt k i le) [
     | inl same ↦
         let has = has_from_place d i j (valid.lanes i place.in_lane.lane) place in
-        Contains-append_left (paired k (lane_of d k)) (entries_from d.offsets d.indices (k + 1) n) (i, j) (rw same (contains_map i j (lane_of d i) has))
-    | inr lt ↦ Contains-append_right (paired k (lane_of d k)) (entries_from d.offsets d.indices (k + 1) n) (i, j) (entry_from_place place (k + 1) n (omega arith) (omega arith))
+        Contains-append_left (paired k (lane_of d k)) (entries_from d.offsets d.indices (k + 1) n)
+        (i, j) (rw same (contains_map i j (lane_of d i) has))
+    | inr lt ↦ Contains-append_right (paired k (lane_of d k))
+        (entries_from d.offsets d.indices (k + 1) n) (i, j)
+        (entry_from_place place (k + 1) n (omega arith) (omega arith))
   ]
 
   pub entries_are_places : Contains (entries_of d) (i, j) ↔ IsPlace d i j
-  entries_are_places = (place_from_entry 0 d.major_dim (omega arith), λ place. entry_from_place place 0 d.major_dim (omega arith) (omega arith))
+  entries_are_places = (
+    place_from_entry 0 d.major_dim (omega arith),
+    λ place. entry_from_place place 0 d.major_dim (omega arith) (omega arith),
+  )

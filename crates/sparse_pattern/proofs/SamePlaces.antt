@@ -1,12 +1,15 @@
 -- Valid data is the same where its sizes and places are.
-use Rattle.std.proofs.Common.{◌≡◌, ℕ, zero, suc, ◌+◌, ◌-◌, ◌<◌, ◌≤◌, ◌⊎◌, inl, inr, ◌↔◌, List, [], ◌∷◌, length, get_or, ap, subst, sym, ◌∙◌, refl, arith, Bool, true, false, ◌&&◌, IsTrue, rules}
+use Rattle.std.proofs.Common.{◌≡◌, ℕ, zero, suc, ◌+◌, ◌-◌, ◌<◌, ◌≤◌, ◌⊎◌, inl, inr, ◌↔◌, List, []}
+use Rattle.std.proofs.Common.{◌∷◌, length, get_or, ap, subst, sym, ◌∙◌, refl, arith, Bool, true}
+use Rattle.std.proofs.Common.{false, ◌&&◌, IsTrue, rules}
 use Rattle.std.specs.Cmp.{IsEquivalence}
 use Rattle.std.specs.Cmp.Rules.{comparing}
 use Rattle.std.proofs.lemmas.Slice.Eq.{bytes_eq-Decides}
 use Rattle.std.proofs.lemmas.Grind.{same_number_lists}
 use Rattle.std.proofs.lemmas.Bool.Decides.{Decides-eqb}
 use Rattle.sparse_lemmas.proofs.Cases.{lt_or_ge}
-use Rattle.sparse_pattern.specs.Raw.{Raw, raw_of, raw_eq, start_of, end_of, lane_of, IsValidLane, IsValid, IsPlace, HasSamePlaces}
+use Rattle.sparse_pattern.specs.Raw.{Raw, raw_of, raw_eq, start_of, end_of, lane_of, IsValidLane}
+use Rattle.sparse_pattern.specs.Raw.{IsValid, IsPlace, HasSamePlaces}
 use Rattle.sparse_pattern.proofs.PatternLanes.{length-lane, get_or-lane, lane_rises}
 
 -- x is in the list
@@ -36,7 +39,8 @@ rises_tail : (x : ℕ) (xs : List ℕ) → Rises (x ∷ xs) → Rises xs
 rises_tail x xs rises a b lt within = rises (suc a) (suc b) (omega arith) (omega arith)
 
 head_below : (x y : ℕ) (xs : List ℕ) → Rises (x ∷ xs) → Has xs y → x < y
-head_below x y xs rises h = subst (λ v. x < v) h.is (rises 0 (suc h.at) (omega arith) (omega (arith, h.within)))
+head_below x y xs rises h = subst (λ v. x < v) h.is
+    (rises 0 (suc h.at) (omega arith) (omega (arith, h.within)))
 
 -- rising lists with the same elements are the same
 pub rising_same : (xs ys : List ℕ) → Rises xs → Rises ys → ((x : ℕ) → Has xs x → Has ys x)
@@ -52,11 +56,13 @@ rising_same (x ∷ xs) (y ∷ ys) up vp to from =
         | inr after ↦ absurd (omega (arith, head_below y x ys vp later, head_below x y xs up after))
       ]
     ] in
-    let to' : (z : ℕ) → Has xs z → Has ys z = λ z h. elim (has_cases y z ys (to z (has_later x z xs h))) [
+    let to' : (z : ℕ) → Has xs z → Has ys z =
+    λ z h. elim (has_cases y z ys (to z (has_later x z xs h))) [
       | inl same ↦ absurd (omega (arith, head_below x z xs up h))
       | inr later ↦ later
     ] in
-    let from' : (z : ℕ) → Has ys z → Has xs z = λ z h. elim (has_cases x z xs (from z (has_later y z ys h))) [
+    let from' : (z : ℕ) → Has ys z → Has xs z =
+    λ z h. elim (has_cases x z xs (from z (has_later y z ys h))) [
       | inl same ↦ absurd (omega (arith, head_below y z ys vp h))
       | inr later ↦ later
     ] in
@@ -67,7 +73,8 @@ rising_same (x ∷ xs) (y ∷ ys) up vp to from =
 pub has_from_place : (d : Raw) (i j : ℕ) → IsValidLane d i → IsPlace d i j → Has (lane_of d i) j
 has_from_place d i j valid place =
     let n = place.at - start_of d i in
-    let inside : n < length (lane_of d i) = omega (arith, length-lane d i valid, place.in_lane.from, place.in_lane.to) in
+    let inside : n < length (lane_of d i) = omega
+    (arith, length-lane d i valid, place.in_lane.from, place.in_lane.to) in
     let back : start_of d i + n ≡ place.at = omega (arith, place.in_lane.from) in
     record { at = n; within = inside; is = get_or-lane d i valid n inside ∙ rw back place.index }
 
@@ -75,13 +82,21 @@ pub place_from_has : (d : Raw) (i j : ℕ) → i < d.major_dim → IsValidLane d
     → IsPlace d i j
 place_from_has d i j lane valid h = record {
   at = start_of d i + h.at;
-  in_lane = record { lane = lane; from = omega arith; to = omega (arith, length-lane d i valid, h.within) };
+  in_lane = record {
+    lane = lane;
+    from = omega arith;
+    to =
+        omega (arith, length-lane d i valid, h.within);
+  };
   index = sym (get_or-lane d i valid h.at h.within) ∙ h.is;
 }
 
 raw_parts : (a b : Raw) → a.major_dim ≡ b.major_dim → a.minor_dim ≡ b.minor_dim
     → a.offsets ≡ b.offsets → a.indices ≡ b.indices → a ≡ b
-raw_parts a b major minor offsets indices = ap (λ m. raw_of m a.minor_dim a.offsets a.indices) major ∙ ap (λ m. raw_of b.major_dim m a.offsets a.indices) minor ∙ ap (λ o. raw_of b.major_dim b.minor_dim o a.indices) offsets ∙ ap (raw_of b.major_dim b.minor_dim b.offsets) indices
+raw_parts a b major minor offsets indices = ap (λ m. raw_of m a.minor_dim a.offsets a.indices) major
+    ∙ ap (λ m. raw_of b.major_dim m a.offsets a.indices) minor
+    ∙ ap (λ o. raw_of b.major_dim b.minor_dim o a.indices) offsets
+    ∙ ap (raw_of b.major_dim b.minor_dim b.offsets) indices
 
 and_left : (s t : Bool) → (s && t) ≡ true → s ≡ true
 and_left true t h = refl
@@ -111,12 +126,14 @@ module _ (a b : Raw) (va : IsValid a) (vb : IsValid b) (same : HasSamePlaces a b
       let wa = va.lanes i (omega arith) in
       let wb = vb.lanes i (omega (arith, same.major_dim)) in
       let lengths = ap length (lanes_same i (omega arith)) in
-      let ends : end_of a i ≡ end_of b i = omega (arith, length-lane a i wa, length-lane b i wb, wa.ordered, wb.ordered) in
+      let ends : end_of a i ≡ end_of b i = omega
+      (arith, length-lane a i wa, length-lane b i wb, wa.ordered, wb.ordered) in
       let e : i + 1 ≡ suc i = omega arith in
       subst (λ k. get_or a.offsets k 0 ≡ get_or b.offsets k 0) e ends
 
   offsets_same : a.offsets ≡ b.offsets
-  offsets_same = same_number_lists _ _ (omega (arith, va.count, vb.count, same.major_dim)) (λ k lt. starts_same k (omega (arith, va.count)))
+  offsets_same = same_number_lists _ _ (omega (arith, va.count, vb.count, same.major_dim))
+      (λ k lt. starts_same k (omega (arith, va.count)))
 
   indices_below : (i : ℕ) → i ≤ a.major_dim → (p : ℕ) → p < start_of a i
       → get_or a.indices p 0 ≡ get_or b.indices p 0
@@ -146,7 +163,8 @@ module _ (a b : Raw) (va : IsValid a) (vb : IsValid b) (same : HasSamePlaces a b
   indices_same =
       let end = starts_same a.major_dim (omega arith) in
       let last' = rw (sym same.major_dim) at vb.last in
-      same_number_lists _ _ (omega (arith, va.last)) (λ k lt. indices_below a.major_dim (omega arith) k (omega (arith, va.last)))
+      same_number_lists _ _ (omega (arith, va.last))
+      (λ k lt. indices_below a.major_dim (omega arith) k (omega (arith, va.last)))
 
   pub same_from_places : a ≡ b
   same_from_places = raw_parts a b same.major_dim same.minor_dim offsets_same indices_same
@@ -166,9 +184,16 @@ pub places_decide : (a b : Raw) → IsValid a → IsValid b → (r : Bool) → r
     → IsTrue r ↔ HasSamePlaces a b
 places_decide a b va vb r is = (
   λ yes.
-      let offsets = (bytes_eq-Decides a.offsets b.offsets).0 (and_right _ _ (and_left _ _ (sym is ∙ yes))) in
-      let major : a.major_dim ≡ b.major_dim = omega (arith, va.count, vb.count, ap length offsets) in
+      let offsets = (bytes_eq-Decides a.offsets b.offsets).0
+      (and_right _ _ (and_left _ _ (sym is ∙ yes))) in
+      let major : a.major_dim ≡ b.major_dim = omega
+      (arith, va.count, vb.count, ap length offsets) in
       let same = same_from_raw_eq a b major (sym is ∙ yes) in
-      subst (HasSamePlaces a) same record { major_dim = refl; minor_dim = refl; places = λ i j. (λ h. h, λ h. h) },
+      subst (HasSamePlaces a) same record {
+        major_dim = refl;
+        minor_dim = refl;
+        places =
+            λ i j. (λ h. h, λ h. h);
+      },
   λ same. is ∙ raw_eq-from_same a b (same_from_places a b va vb same),
 )

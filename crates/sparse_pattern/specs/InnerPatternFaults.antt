@@ -1,7 +1,9 @@
 -- What the private passes that look for a fault of a pattern find in one lane.
 use Rattle.std.specs.Prelude.{◌≡◌, ℕ, ◌-◌, ◌<◌, ◌≤◌, ◌⊎◌, List, slice_index}
 use Rattle.sparse_pattern.specs.declared.pattern.faults.SparsityPatternFormatError.{SparsityPatternFormatError}
-use Rattle.sparse_pattern.specs.declared.pattern.faults.SparsityPatternFormatError.TheVariants.{MinorIndexOutOfBounds, DuplicateEntry, NonmonotonicMinorIndices}
+use Rattle.sparse_pattern.specs.declared.pattern.faults.SparsityPatternFormatError.TheVariants.{MinorIndexOutOfBounds}
+use Rattle.sparse_pattern.specs.declared.pattern.faults.SparsityPatternFormatError.TheVariants.{DuplicateEntry}
+use Rattle.sparse_pattern.specs.declared.pattern.faults.SparsityPatternFormatError.TheVariants.{NonmonotonicMinorIndices}
 
 -- the indices from start to end lie below the minor size and rise
 pub record IsRisingBelow (minor_dim : ℕ) (indices : List ℕ) (start end : ℕ) : Type 0 where
@@ -10,16 +12,20 @@ pub record IsRisingBelow (minor_dim : ℕ) (indices : List ℕ) (start end : ℕ
 
 -- an index that doesn't rise above the one before it
 abbrev pub IsBadOrder : ℕ → ℕ → SparsityPatternFormatError → Type 0
-IsBadOrder before index e = ((e ≡ NonmonotonicMinorIndices) × (index < before)) ⊎ ((e ≡ DuplicateEntry) × (index ≡ before))
+IsBadOrder before index e = ((e ≡ NonmonotonicMinorIndices) × (index < before))
+    ⊎ ((e ≡ DuplicateEntry) × (index ≡ before))
 
--- the index at position p of a lane from start on lies past the minor size, or doesn't rise above the one before it
+-- the index at position p of a lane from start on lies past the minor size, or doesn't rise above
+-- the one before it
 abbrev pub IsBadAt : ℕ → List ℕ → ℕ → ℕ → SparsityPatternFormatError → Type 0
 IsBadAt minor_dim indices start p e =
     ((e ≡ MinorIndexOutOfBounds) × (minor_dim ≤ slice_index indices p))
-    ⊎ ((slice_index indices p < minor_dim) × (start < p) × IsBadOrder (slice_index indices (p - 1)) (slice_index indices p) e)
+    ⊎ ((slice_index indices p < minor_dim) × (start < p) × IsBadOrder (slice_index indices (p - 1))
+    (slice_index indices p) e)
 
 -- the first fault among the indices from start to end is this error
-pub record IsFirstAmong (minor_dim : ℕ) (indices : List ℕ) (start end : ℕ) (e : SparsityPatternFormatError) : Type 0 where
+pub record IsFirstAmong (minor_dim : ℕ) (indices : List ℕ) (start end : ℕ)
+    (e : SparsityPatternFormatError) : Type 0 where
   pub at : ℕ
   pub from : start ≤ at
   pub to : at < end

@@ -3,11 +3,17 @@ use Rattle.std.specs.Prelude.{◌≡◌, ◌≢◌, ℕ, ◌+◌, ◌-◌, ◌<�
 use Rattle.sparse_pattern.specs.Raw.{Raw, start_of, end_of, IsInLane}
 use Rattle.sparse_pattern.specs.FirstFault.{IsFirst}
 use Rattle.sparse_pattern.specs.declared.pattern.faults.SparsityPatternFormatError.{SparsityPatternFormatError}
-use Rattle.sparse_pattern.specs.declared.pattern.faults.SparsityPatternFormatError.TheVariants.{InvalidOffsetArrayLength, InvalidOffsetFirstLast, NonmonotonicOffsets, MinorIndexOutOfBounds, DuplicateEntry, NonmonotonicMinorIndices}
+use Rattle.sparse_pattern.specs.declared.pattern.faults.SparsityPatternFormatError.TheVariants.{InvalidOffsetArrayLength}
+use Rattle.sparse_pattern.specs.declared.pattern.faults.SparsityPatternFormatError.TheVariants.{InvalidOffsetFirstLast}
+use Rattle.sparse_pattern.specs.declared.pattern.faults.SparsityPatternFormatError.TheVariants.{NonmonotonicOffsets}
+use Rattle.sparse_pattern.specs.declared.pattern.faults.SparsityPatternFormatError.TheVariants.{MinorIndexOutOfBounds}
+use Rattle.sparse_pattern.specs.declared.pattern.faults.SparsityPatternFormatError.TheVariants.{DuplicateEntry}
+use Rattle.sparse_pattern.specs.declared.pattern.faults.SparsityPatternFormatError.TheVariants.{NonmonotonicMinorIndices}
 use Rattle.sparse_pattern.specs.declared.error.SparseFormatErrorKind as kinds
 use Rattle.sparse_pattern.specs.declared.error.SparseFormatErrorKind.TheVariants as variants
 
--- where a fault can occur: the number of offsets, the first and the last offset, the end of a lane, and an index, first
+-- where a fault can occur: the number of offsets, the first and the last offset, the end of a lane,
+-- and an index, first
 -- compared with its bound and then with the index before it
 pub data Spot : Type 0 where
   OffsetCount : Spot
@@ -20,11 +26,15 @@ pub data Spot : Type 0 where
 -- the data has a fault here
 abbrev pub HasFault : Raw → Spot → Type 0
 HasFault d OffsetCount = length d.offsets ≢ d.major_dim + 1
-HasFault d FirstLast = (slice_index d.offsets 0 ≢ 0) ⊎ (slice_index d.offsets d.major_dim ≢ length d.indices)
-HasFault d (LaneEnd i) = (i < d.major_dim) × ((end_of d i < start_of d i) ⊎ (length d.indices < end_of d i))
+HasFault d FirstLast = (slice_index d.offsets 0 ≢ 0)
+    ⊎ (slice_index d.offsets d.major_dim ≢ length d.indices)
+HasFault d (LaneEnd i) = (i < d.major_dim)
+    × ((end_of d i < start_of d i) ⊎ (length d.indices < end_of d i))
 HasFault d (Bound i p) = IsInLane d i p × (d.minor_dim ≤ slice_index d.indices p)
-HasFault d (Fall i p) = IsInLane d i p × (start_of d i < p) × (slice_index d.indices p < slice_index d.indices (p - 1))
-HasFault d (Repeat i p) = IsInLane d i p × (start_of d i < p) × (slice_index d.indices p ≡ slice_index d.indices (p - 1))
+HasFault d (Fall i p) = IsInLane d i p × (start_of d i < p)
+    × (slice_index d.indices p < slice_index d.indices (p - 1))
+HasFault d (Repeat i p) = IsInLane d i p × (start_of d i < p)
+    × (slice_index d.indices p ≡ slice_index d.indices (p - 1))
 
 -- the error for a fault here
 abbrev pub error_of : Spot → SparsityPatternFormatError
@@ -44,7 +54,8 @@ kind_of MinorIndexOutOfBounds = variants.IndexOutOfBounds
 kind_of DuplicateEntry = variants.DuplicateEntry
 kind_of NonmonotonicMinorIndices = variants.InvalidStructure
 
--- the order of faults: lane by lane, the end of a lane before its indices, and for each index its bound first
+-- the order of faults: lane by lane, the end of a lane before its indices, and for each index its
+-- bound first
 abbrev pub rank_of : Spot → ℕ × ℕ × ℕ
 rank_of OffsetCount = (0, 0, 0)
 rank_of FirstLast = (1, 0, 0)

@@ -1,5 +1,6 @@
 -- The raw data of a pattern, and the places that it describes.
-use Rattle.std.specs.Prelude.{◌≡◌, ℕ, zero, suc, ◌+◌, ◌-◌, ◌<◌, ◌≤◌, ◌⊎◌, ◌↔◌, ◌==◌, Bool, List, [], ◌++◌, map, length, replicate, slice_index, slice_range}
+use Rattle.std.specs.Prelude.{◌≡◌, ℕ, zero, suc, ◌+◌, ◌-◌, ◌<◌, ◌≤◌, ◌⊎◌, ◌↔◌, ◌==◌, Bool, List, []}
+use Rattle.std.specs.Prelude.{◌++◌, map, length, replicate, slice_index, slice_range}
 use Rattle.std.specs.Cmp.Lexicographic.{pointwise}
 use Rattle.std.specs.Ordering.{on, eq_of_both}
 
@@ -11,7 +12,8 @@ pub record Raw : Type 0 where
   pub indices : List ℕ
 
 abbrev pub raw_of : ℕ → ℕ → List ℕ → List ℕ → Raw
-raw_of major_dim minor_dim offsets indices = record { major_dim = major_dim; minor_dim = minor_dim; offsets = offsets; indices = indices }
+raw_of major_dim minor_dim offsets indices =
+    record { major_dim = major_dim; minor_dim = minor_dim; offsets = offsets; indices = indices }
 
 -- the data of this shape without indices
 abbrev pub empty_raw : ℕ → ℕ → Raw
@@ -43,7 +45,8 @@ pub record IsPlace (d : Raw) (i j : ℕ) : Type 0 where
   pub in_lane : IsInLane d i at
   pub index : slice_index d.indices at ≡ j
 
--- lane i lies within the indices, and its indices are strictly increasing and below the minor dimension
+-- lane i lies within the indices, and its indices are strictly increasing and below the minor
+-- dimension
 pub record IsValidLane (d : Raw) (i : ℕ) : Type 0 where
   pub ordered : start_of d i ≤ end_of d i
   pub inside : end_of d i ≤ length d.indices
@@ -64,7 +67,9 @@ paired i js = map (λ j. (i, j)) js
 -- the pairs of the n lanes from lane i on, in order
 abbrev pub entries_from : List ℕ → List ℕ → ℕ → ℕ → List (ℕ × ℕ)
 entries_from offsets indices i zero = []
-entries_from offsets indices i (suc n) = paired i (slice_range indices (slice_index offsets i) (slice_index offsets (i + 1))) ++ entries_from offsets indices (i + 1) n
+entries_from offsets indices i (suc n) =
+    paired i (slice_range indices (slice_index offsets i) (slice_index offsets (i + 1)))
+    ++ entries_from offsets indices (i + 1) n
 
 -- all pairs, lane by lane
 abbrev pub entries_of : Raw → List (ℕ × ℕ)
@@ -76,7 +81,8 @@ Precedes x y = (x.0 < y.0) ⊎ ((x.0 ≡ y.0) × (x.1 < y.1))
 
 -- the result of `==`
 abbrev pub raw_eq : Raw → Raw → Bool
-raw_eq = eq_of_both (eq_of_both (on (λ d. d.minor_dim) ◌==◌) (on (λ d. d.offsets) (pointwise ◌==◌))) (on (λ d. d.indices) (pointwise ◌==◌))
+raw_eq = eq_of_both (eq_of_both (on (λ d. d.minor_dim) ◌==◌) (on (λ d. d.offsets) (pointwise ◌==◌)))
+    (on (λ d. d.indices) (pointwise ◌==◌))
 
 -- the same shape and the same places
 pub record HasSamePlaces (a b : Raw) : Type 0 where

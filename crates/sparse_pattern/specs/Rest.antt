@@ -4,7 +4,8 @@ use Rattle.sparse_pattern.specs.Raw.{entries_from}
 
 -- the rest of lane i, followed by the later lanes
 abbrev pub rest_of : List ℕ → List ℕ → ℕ → List ℕ → List (ℕ × ℕ)
-rest_of offsets indices i left = map (λ j. (i, j)) left ++ entries_from offsets indices (i + 1) (length offsets - (i + 2))
+rest_of offsets indices i left = map (λ j. (i, j)) left ++ entries_from offsets indices (i + 1)
+    (length offsets - (i + 2))
 
 -- each lane lies within the indices
 pub record IsOrderedOffsets (offsets indices : List ℕ) : Type 0 where

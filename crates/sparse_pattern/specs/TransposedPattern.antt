@@ -10,4 +10,5 @@ pub record IsTransposedPattern (d t : Raw) : Type 0 where
 
 -- ws has at the place (j, i) of t the value that vs has at the place (i, j) of d
 abbrev pub AreTransposedValues : {T : Type 0} → Raw → Raw → List T → List T → Type 0
-AreTransposedValues d t vs ws = (i j p q : ℕ) → IsInLane d i p → slice_index d.indices p ≡ j → IsInLane t j q → slice_index t.indices q ≡ i → slice_get ws q ≡ slice_get vs p
+AreTransposedValues d t vs ws = (i j p q : ℕ) → IsInLane d i p → slice_index d.indices p ≡ j
+    → IsInLane t j q → slice_index t.indices q ≡ i → slice_get ws q ≡ slice_get vs p

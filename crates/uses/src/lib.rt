@@ -20,6 +20,8 @@ mod expr;
 #[cfg(test)]
 mod factorization;
 #[cfg(test)]
+mod first_steps;
+#[cfg(test)]
 mod io;
 #[cfg(test)]
 mod ops;

@@ -1,13 +1,16 @@
 use Rattle.std.specs.Int.{w32, w64}
 use Rattle.sparse_algebra.specs.Numbers.{w32_number, w64_number}
-use Rattle.sparse_algebra.proofs.WholeNumbers.{triplets_show, sum_shows, difference_shows, scaled_shows, product_shows}
+use Rattle.sparse_algebra.proofs.WholeNumbers.{triplets_show, sum_shows, difference_shows}
+use Rattle.sparse_algebra.proofs.WholeNumbers.{scaled_shows, product_shows}
 use Rattle.sparse_algebra.proofs.laws.whole.whole_entry_law.Goals as goal
 
 pub returns-clause-w32_triplets : goal.returns-clause-w32_triplets
-returns-clause-w32_triplets c = λ rows cols ts. triplets_show w32 w32_number rows cols ts (λ x. x.in_range)
+returns-clause-w32_triplets c = λ rows cols ts. triplets_show w32 w32_number rows cols ts
+    (λ x. x.in_range)
 
 pub returns-clause-w64_triplets : goal.returns-clause-w64_triplets
-returns-clause-w64_triplets c = λ rows cols ts. triplets_show w64 w64_number rows cols ts (λ x. x.in_range)
+returns-clause-w64_triplets c = λ rows cols ts. triplets_show w64 w64_number rows cols ts
+    (λ x. x.in_range)
 
 pub returns-clause-sum : goal.returns-clause-sum
 returns-clause-sum c = sum_shows

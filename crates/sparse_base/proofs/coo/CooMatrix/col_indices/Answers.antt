@@ -5,9 +5,12 @@ use Rattle.sparse_base.proofs.coo.CooMatrix.col_indices.Goals as goal
 pub returns-clause-cols : goal.returns-clause-cols
 returns-clause-cols g c =
     let m = c.self.inside in
-    rw (← c.self.view_is) (c.deref.ensures.value ∙ sym (cols-zip m.row_indices.items m.col_indices.items m.values.items c.self.invariant.row_count c.self.invariant.col_count))
+    rw (← c.self.view_is) (c.deref.ensures.value
+    ∙ sym (cols-zip m.row_indices.items m.col_indices.items m.values.items
+    c.self.invariant.row_count c.self.invariant.col_count))
 
 pub returns-clause-inside : goal.returns-clause-inside
 returns-clause-inside g c =
     let m = c.self.inside in
-    rw (← c.self.view_is) (bounded m.nrows m.ncols m.row_indices.items m.col_indices.items m.values.items c.self.invariant)
+    rw (← c.self.view_is) (bounded m.nrows m.ncols m.row_indices.items m.col_indices.items
+    m.values.items c.self.invariant)

@@ -5,19 +5,26 @@ use Rattle.sparse_base.proofs.coo.CooMatrix.disassemble.Goals as goal
 pub returns-clause-rows : goal.returns-clause-rows
 returns-clause-rows g c =
     let m = c.self.inside in
-    rw (← c.self.view_is) (sym (rows-zip m.row_indices.items m.col_indices.items m.values.items c.self.invariant.row_count c.self.invariant.col_count))
+    rw (← c.self.view_is)
+    (sym (rows-zip m.row_indices.items m.col_indices.items m.values.items
+    c.self.invariant.row_count c.self.invariant.col_count))
 
 pub returns-clause-cols : goal.returns-clause-cols
 returns-clause-cols g c =
     let m = c.self.inside in
-    rw (← c.self.view_is) (sym (cols-zip m.row_indices.items m.col_indices.items m.values.items c.self.invariant.row_count c.self.invariant.col_count))
+    rw (← c.self.view_is)
+    (sym (cols-zip m.row_indices.items m.col_indices.items m.values.items
+    c.self.invariant.row_count c.self.invariant.col_count))
 
 pub returns-clause-values : goal.returns-clause-values
 returns-clause-values g c =
     let m = c.self.inside in
-    rw (← c.self.view_is) (sym (values-zip m.row_indices.items m.col_indices.items m.values.items c.self.invariant.row_count c.self.invariant.col_count))
+    rw (← c.self.view_is)
+    (sym (values-zip m.row_indices.items m.col_indices.items m.values.items
+    c.self.invariant.row_count c.self.invariant.col_count))
 
 pub returns-clause-inside : goal.returns-clause-inside
 returns-clause-inside g c =
     let m = c.self.inside in
-    rw (← c.self.view_is) (bounded m.nrows m.ncols m.row_indices.items m.col_indices.items m.values.items c.self.invariant)
+    rw (← c.self.view_is) (bounded m.nrows m.ncols m.row_indices.items m.col_indices.items
+    m.values.items c.self.invariant)

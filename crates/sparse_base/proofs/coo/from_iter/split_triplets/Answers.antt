@@ -5,5 +5,10 @@ use Rattle.sparse_base.proofs.coo.from_iter.split_triplets.Goals as goal
 pub returns : goal.returns
 returns g c =
     let kept = c.loop-row.invariant in
-    let ended = to_end g.I.Iterator.next_gives _ c.loop-row.yielded (_, (_, c.loop-row.yielded_by, c.in-None.ensures.steps)) in
-    (run g.I.Iterator.next_gives _ c.loop-row.yielded true ended, c.into_iter-row-iterator.ensures.into_iter_gives, refl, (kept.rows, kept.cols, kept.values))
+    let ended = to_end g.I.Iterator.next_gives _ c.loop-row.yielded
+    (_, (_, c.loop-row.yielded_by, c.in-None.ensures.steps)) in (
+      run g.I.Iterator.next_gives _ c.loop-row.yielded true ended,
+      c.into_iter-row-iterator.ensures.into_iter_gives,
+      refl,
+      (kept.rows, kept.cols, kept.values),
+    )

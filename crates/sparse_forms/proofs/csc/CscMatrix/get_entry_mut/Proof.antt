@@ -7,7 +7,8 @@ use mir.Syntax.{w64, named, a_type}
 use mir.MapTy.{inst_fn}
 use base.Logic.{emp, id⊢}
 use base.Fml.{GName}
-use types.Kit.{‵, raw, ◌⊛◌, some, later, ◌$◌, ◌∵◌, !, qed, done, move, drop, use1, split, join, fjoin, pick, await, rewrite, suffices, frame}
+use types.Kit.{‵, raw, ◌⊛◌, some, later, ◌$◌, ◌∵◌, !, qed, done, move, drop, use1, split, join}
+use types.Kit.{fjoin, pick, await, rewrite, suffices, frame}
 use types.Run.{enter, addr, stop, no_more, and_then, returns}
 use types.ByLocal.{alloc_all, pass_all, free_all, look_at, get, through, sets, lands_as}
 use contract.Monad.{fact}
@@ -54,14 +55,23 @@ stayed T = (stay_dropped _ no, (stay_dropped _ yes, (stay_dropped _ yes, tt)))
 
 pub get_entry_mut_spec : {M : Type 1} → statement M
 get_entry_mut_spec 𝓤 𝓛 𝓜 𝓡 wired T L =
-    let c = f.clauses T 𝓛 𝓜.mem 𝓡.returns in let W = walk_of 𝓛 (f.ended T) (stayed T) c in let 𝓣 = tables 𝓤 𝓛.H 𝓜 𝓡 𝓡.env in
+    let c = f.clauses T 𝓛 𝓜.mem 𝓡.returns in let W = walk_of 𝓛 (f.ended T) (stayed T) c in let 𝓣 =
+    tables 𝓤 𝓛.H 𝓜 𝓡 𝓡.env in
     let R = matrix_row (param 0 T) in
     let index = Goes-dropped 𝓛 2 (plain (λ _. usize)) yes (λ κs x f. refl) in
-    proved 𝓛 (f.ended T) (stayed T) c 𝓜 𝓡 (Goes-spent_ref 𝓛 2 (0 ∷ []) tt (plain (λ _. R)), (index, (index, tt)))
-    (f.Key.name (layouts (a_type ∷ []) (T, tt))) (inst_fn (layouts (a_type ∷ []) (T, tt)) code.function) (code.unfolded 𝓤 𝓛.H 𝓜 𝓡 wired (T, tt))
-    (λ κs. (mut_vals, (uint_vals w64, (uint_vals w64, tt)))) (λ κs. (mut_Tells (named 0) κs.0 R, (uint_Tells w64, (uint_Tells w64, tt)))) (λ κs qs bounds a _ are.
+    proved 𝓛 (f.ended T) (stayed T) c 𝓜 𝓡 (
+      Goes-spent_ref 𝓛 2 (0 ∷ []) tt (plain (λ _. R)),
+      (index, (index, tt)),
+    )
+    (f.Key.name (layouts (a_type ∷ []) (T, tt)))
+    (inst_fn (layouts (a_type ∷ []) (T, tt)) code.function)
+    (code.unfolded 𝓤 𝓛.H 𝓜 𝓡 wired (T, tt))
+    (λ κs. (mut_vals, (uint_vals w64, (uint_vals w64, tt))))
+    (λ κs. (mut_Tells (named 0) κs.0 R, (uint_Tells w64, (uint_Tells w64, tt))))
+    (λ κs qs bounds a _ are.
     let i = a.1.0 in let j = a.1.1.0 in
-    let vss : List Val × (List Val × (List Val × Unit {0})) = (mut_vals a.0, (uint_vals w64 i, (uint_vals w64 j, tt))) in
+    let vss : List Val × (List Val × (List Val × Unit {0})) =
+    (mut_vals a.0, (uint_vals w64 i, (uint_vals w64 j, tt))) in
     let y : W.Ghost = ((κs, qs, bounds, a, vss), tt) in
     let within = κs.1.0 ⊑ T.lives in
     let toks = raw (alive 𝓛 (f.signature T) κs qs) in
@@ -70,31 +80,53 @@ get_entry_mut_spec 𝓤 𝓛 𝓜 𝓡 wired T L =
     let Out = option_row Entry in
     let G = triple_of 𝓛 (g.signature T) (g.spec T 𝓛 𝓜.mem 𝓡.returns) in
     let z : G.Ghost = ((κs, qs, bounds, a, vss), tt) in
-    let Lent = λ (m : maybe.Option GName). follows_if R (param 0 T) a.0.ghost_name m (with_value a.0.now j i) a.0.now in
-    qed 𝓛 (raw (on_entry 𝓛 (f.signature T) κs qs a vss) ∷ (raw (fact 𝓤 within) ⊛ raw (emp 𝓤)) ∷ []) ∵ move ! (1 ∷ []) $ split ! $ heard ! _ (λ le. drop ! $
+    let Lent = λ (m : maybe.Option GName). follows_if R (param 0 T) a.0.ghost_name m
+    (with_value a.0.now j i) a.0.now in
+    qed 𝓛 (raw (on_entry 𝓛 (f.signature T) κs qs a vss) ∷ (raw (fact 𝓤 within) ⊛ raw (emp 𝓤)) ∷ [])
+    ∵ move ! (1 ∷ []) $ split ! $ heard ! _ (λ le. drop ! $
     use1 𝓛 (raw (G.pre z)) (with_fact 𝓤 within (on_entry 𝓛 (f.signature T) κs qs a vss) le) $
-    enter ! _ _ _ _ _ $ alloc_all ! (λ l. pass_all ! refl ((tt, tt), ((tt, record { fits = are.1.0.1 }), ((tt, record { fits = are.1.1.0.1 }), tt))) $
+    enter ! _ _ _ _ _ $ alloc_all ! (λ l. pass_all ! refl
+    ((tt, tt), ((tt, record { fits = are.1.0.1 }), ((tt, record { fits = are.1.1.0.1 }), tt))) $
     sets ! (addr ! (through ! refl (stop !))) refl (tt, tt) $
-    calls_at ! (framed 𝓤 𝓛.H 𝓜 𝓣) G (find_met 𝓤 𝓛 𝓜 𝓡 (code.calls-sparse_forms::csc::CscMatrix::find_mut 𝓡.env wired) T L) z
+    calls_at ! (framed 𝓤 𝓛.H 𝓜 𝓣) G (find_met 𝓤 𝓛 𝓜 𝓡
+    (code.calls-sparse_forms::csc::CscMatrix::find_mut 𝓡.env wired) T L) z
     (and_then ! (get ! refl) (and_then ! (get ! refl) (and_then ! (get ! refl) (no_more !)))) (λ v.
-    use1 𝓛 (later (some (λ (r : Got.Denot). (toks ⊛ ‵ (Got.own_val r (v ∷ []))) ⊛ some (λ (ws : Unit {0} × (Unit {0} × (Unit {0} × Unit {0}))). ‵ (lasts (g.ended T) κs a ws) ⊛ (‵ (Lent (found_name r)) ⊛ raw (fact 𝓤 (IsFoundAt a.0.now j i r))))))) (id⊢ 𝓤 _) $
-    await ! tt $ pick ! (λ r. split ! $ split ! $ move ! (1 ∷ []) $ peeks ! Got (Is Got) (shows 𝓛 Got) r (v ∷ []) (λ is-got.
-    move ! (2 ∷ []) $ pick ! (λ ws. split ! $ drop ! $ split ! $ move ! (1 ∷ []) $ heard ! _ (λ found.
+    use1 𝓛 (later
+    (some (λ (r : Got.Denot). (toks ⊛ ‵ (Got.own_val r (v ∷ []))) ⊛ some
+    (λ (ws : Unit {0} × (Unit {0} × (Unit {0} × Unit {0}))). ‵ (lasts (g.ended T) κs a ws) ⊛
+    (‵ (Lent (found_name r)) ⊛ raw (fact 𝓤 (IsFoundAt a.0.now j i r))))))) (id⊢ 𝓤 _) $
+    await ! tt $ pick ! (λ r. split ! $ split ! $ move ! (1 ∷ []) $ peeks ! Got (Is Got)
+    (shows 𝓛 Got) r (v ∷ []) (λ is-got.
+    move ! (2 ∷ []) $ pick ! (λ ws. split ! $ drop ! $ split ! $ move ! (1 ∷ []) $ heard ! _
+    (λ found.
     -- [what the matrix follows; what was found; the tokens]
-    lands_as ! refl refl (((found_laws (named_lft 2 0 tt κs) (param 0 T) (param_laws 0 T L)).lawful 𝓛).typed r (v ∷ []) is-got).0 $
+    lands_as ! refl refl
+    (((found_laws (named_lft 2 0 tt κs) (param 0 T) (param_laws 0 T L)).lawful 𝓛).typed r (v ∷ [])
+    is-got).0 $
     move ! (1 ∷ []) $ nothing ! $ move ! (1 ∷ 0 ∷ []) $ fjoin ! $ move ! (2 ∷ 0 ∷ []) $ join ! $
     let E = triple_of 𝓛 (h.signature T) (h.spec T 𝓛 𝓜.mem 𝓡.returns) in
     let x : E.Ghost = ((κs, qs, bounds, (r, tt), (v ∷ [], tt)), tt) in
-    use1 𝓛 (raw (E.pre x)) (with_fact 𝓤 within (on_entry 𝓛 (h.signature T) κs qs (r, tt) (v ∷ [], tt)) le) $
-    calls_at ! (framed 𝓤 𝓛.H 𝓜 𝓣) E (entry_met 𝓤 𝓛 𝓜 𝓡 (code.calls-sparse_pattern::entry::into_entry 𝓡.env wired) T L) x
+    use1 𝓛 (raw (E.pre x)) (with_fact 𝓤 within
+    (on_entry 𝓛 (h.signature T) κs qs (r, tt) (v ∷ [], tt)) le) $
+    calls_at ! (framed 𝓤 𝓛.H 𝓜 𝓣) E (entry_met 𝓤 𝓛 𝓜 𝓡
+    (code.calls-sparse_pattern::entry::into_entry 𝓡.env wired) T L) x
     (and_then ! (get ! refl) (no_more !)) (λ u.
-    use1 𝓛 (later (some (λ (e : Out.Denot). (toks ⊛ ‵ (Out.own_val e (u ∷ []))) ⊛ some (λ (ws : Lasts (h.ended T) κs (r, tt)). ‵ (lasts (h.ended T) κs (r, tt) ws) ⊛ raw (fact 𝓤 (e ≡ entry_of_found r)))))) (id⊢ 𝓤 _) $
-    await ! tt $ pick ! (λ e. split ! $ split ! $ move ! (1 ∷ []) $ peeks ! Out (Is Out) (shows 𝓛 Out) e (u ∷ []) (λ is-out.
+    use1 𝓛 (later
+    (some (λ (e : Out.Denot). (toks ⊛ ‵ (Out.own_val e (u ∷ []))) ⊛ some
+    (λ (ws : Lasts (h.ended T) κs (r, tt)). ‵ (lasts (h.ended T) κs (r, tt) ws) ⊛ raw
+    (fact 𝓤 (e ≡ entry_of_found r)))))) (id⊢ 𝓤 _) $
+    await ! tt $ pick ! (λ e. split ! $ split ! $ move ! (1 ∷ []) $ peeks ! Out (Is Out)
+    (shows 𝓛 Out) e (u ∷ []) (λ is-out.
     move ! (2 ∷ []) $ pick ! (λ ws'. split ! $ drop ! $ heard ! _ (λ same.
     -- [the entry; the tokens; what the matrix follows]
-    lands_as ! refl refl (((option_laws Entry (entry_laws (named_lft 2 0 tt κs) (param 0 T) (param_laws 0 T L))).lawful 𝓛).typed e (u ∷ []) is-out).0 $
+    lands_as ! refl refl
+    (((option_laws Entry (entry_laws (named_lft 2 0 tt κs) (param 0 T) (param_laws 0 T L))).lawful
+    𝓛).typed e (u ∷ []) is-out).0 $
     returns ! (look_at ! 0 refl) $ free_all ! refl $
-    suffices ! _ (ends_at 𝓛 (f.ended T) (stayed T) c y u e (tt, (tt, (tt, tt))) (tt, (tt, (tt, tt)))) $
-    nothing ! $ nothing ! $ fjoin ! $ nothing ! $ fjoin ! $ nothing ! $ fjoin ! $ join ! $ move ! (1 ∷ 0 ∷ []) $ join ! $ frame ! $
+    suffices ! _ (ends_at 𝓛 (f.ended T) (stayed T) c y u e (tt, (tt, (tt, tt)))
+    (tt, (tt, (tt, tt)))) $
+    nothing ! $ nothing ! $ fjoin ! $ nothing ! $ fjoin ! $ nothing ! $ fjoin ! $ join ! $ move !
+    (1 ∷ 0 ∷ []) $ join ! $ frame ! $
     says ! (subst (λ o. IsEntryMutOf a.0.now j i o) (sym same) (entry_is a.0.now j i r found)) $
-    rewrite ! 0 (λ (m : maybe.Option GName). ‵ (Lent m)) (name_is r ∙ ap entry_name (sym same)) refl $ done !)))))))))))))
+    rewrite ! 0 (λ (m : maybe.Option GName). ‵ (Lent m)) (name_is r ∙ ap entry_name (sym same)) refl
+    $ done !)))))))))))))

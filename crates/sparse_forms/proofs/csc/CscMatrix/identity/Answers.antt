@@ -4,4 +4,5 @@ use Rattle.sparse_algebra.proofs.PlainLaws.{transpose_identity}
 use Rattle.sparse_forms.proofs.csc.CscMatrix.identity.Goals as goal
 
 pub returns-clause-plain : goal.returns-clause-plain
-returns-clause-plain g c = ap (plain_transpose g.T.Ring.ring) c.in_ok-identity.ensures.plain ∙ transpose_identity g.T.Ring.ring c.args.n
+returns-clause-plain g c = ap (plain_transpose g.T.Ring.ring) c.in_ok-identity.ensures.plain
+    ∙ transpose_identity g.T.Ring.ring c.args.n

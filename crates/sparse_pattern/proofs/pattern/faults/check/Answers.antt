@@ -2,11 +2,13 @@ use Rattle.std.proofs.Common.{arith, inl, inr}
 use Rattle.std.proofs.lemmas.Result.{err_from_is_err_and}
 use Rattle.sparse_pattern.proofs.FirstFaults.{first_at_end, first_among}
 use Rattle.sparse_pattern.proofs.pattern.faults.check.Goals as goal
-use Rattle.sparse_pattern.proofs.pattern.faults.check.Goals.{then-end-start-via-then-end-start, then-end-start-via-else-end-start+then-indices-end}
+use Rattle.sparse_pattern.proofs.pattern.faults.check.Goals.{then-end-start-via-then-end-start}
+use Rattle.sparse_pattern.proofs.pattern.faults.check.Goals.{then-end-start-via-else-end-start+then-indices-end}
 
 pub returns-then-end-start-clause-fault : goal.returns-then-end-start-clause-fault
 returns-then-end-start-clause-fault c =
-    first_at_end _ c.loop-lane.lane c.loop-lane.invariant (omega arith) (elim c.then-end-start.branch [
+    first_at_end _ c.loop-lane.lane c.loop-lane.invariant (omega arith)
+    (elim c.then-end-start.branch [
       | then-end-start-via-then-end-start w ↦ inl (omega arith)
       | then-end-start-via-else-end-start+then-indices-end w ↦ inr (omega arith)
     ])
@@ -14,4 +16,5 @@ returns-then-end-start-clause-fault c =
 pub returns-in_err-check_lane-clause-fault : goal.returns-in_err-check_lane-clause-fault
 returns-in_err-check_lane-clause-fault c =
     let p = err_from_is_err_and c.from_residual.result c.from_residual.ensures.1 in
-    rw (p.1, p.2) (first_among _ c.loop-lane.lane c.loop-lane.invariant (omega arith) (omega arith) (omega arith) _ c.in_err-check_lane.ensures.fault)
+    rw (p.1, p.2) (first_among _ c.loop-lane.lane c.loop-lane.invariant (omega arith) (omega arith)
+    (omega arith) _ c.in_err-check_lane.ensures.fault)

@@ -5,4 +5,5 @@ use Rattle.sparse_pattern.proofs.pattern.iter.SparsityPatternIterIterator.next.G
 
 pub loop-left-preserved : goal.loop-left-preserved
 loop-left-preserved c =
-    skip_lane _ _ c.loop-left.left.now c.loop-left.lane (grind (arith, nat_tests)) (omega arith) ∙ c.loop-left.invariant
+    skip_lane _ _ c.loop-left.left.now c.loop-left.lane (grind (arith, nat_tests)) (omega arith)
+    ∙ c.loop-left.invariant
