@@ -2,7 +2,7 @@
 use Rattle.std.specs.Prelude.{◌≡◌, ℕ, ◌+◌, ◌*◌, ◌<◌, List, length, slice_index_or, slice_set}
 use Rattle.std.specs.Prelude.{slice_range, refl}
 use Rattle.std.specs.Coded.{Coded, code_by, coded×, coded_ℕ, coded_list}
-use Rattle.sparse_pattern.specs.Refill.{refill_from}
+use Rattle.sparse_pattern.specs.Refill.{refill, refill_from}
 
 -- the shape, and the values column by column
 pub record Dense (T : Type 0) : Type 0 where
@@ -34,6 +34,10 @@ module _ {T : Type 0} where
   -- the matrix with other values in column j
   abbrev pub with_column : Dense T → ℕ → List T → Dense T
   with_column d j ws = record d { values = refill_from d.values (j * d.nrows) ws }
+
+  -- the matrix with other values
+  abbrev pub with_values : Dense T → List T → Dense T
+  with_values d ws = record d { values = refill d.values ws }
 
   -- a matrix of this shape with this value at each (i, j) within it
   pub record HasValues (nrows ncols : ℕ) (value : ℕ → ℕ → T → T) (d : Dense T) : Type 0 where

@@ -3,7 +3,7 @@
 ghost use Rattle.std.specs.Prelude.{◌≡◌, ◌+◌, ◌*◌, ◌<◌, ℕ, ◌==◌, ◌&&◌, if◌then◌else◌, length, replicate, slice_index_or, IfOk};
 ghost use Rattle.std.specs.Borrow.{sem};
 ghost use Rattle.sparse_base.specs.Dense.{dense_of, value_at, column_of, with_value_at, HasValues};
-ghost use Rattle.sparse_base.specs.DenseLending.{LendsColumn};
+ghost use Rattle.sparse_base.specs.DenseLending.{LendsColumn, LendsValues};
 
 use sparse_algebra::scalar::Zero;
 use std::alloc::{AllocError, Global};
@@ -145,6 +145,15 @@ impl<T> DMatrix<T> {
         ensures count { length result.now ≡ self.now.nrows * self.now.ncols }
     {
         &self.values
+    }
+
+    /// Returns all values, column by column, borrowed mutably.
+    pub fn as_mut_slice(&mut self) -> &mut [T]
+        ensures* writes_back { sem 𝓛 (LendsValues T.row self.entry result) }
+        ensures values { result.now ≡ self.old.values }
+        ensures count { length result.now ≡ self.old.nrows * self.old.ncols }
+    {
+        &mut self.values[..]
     }
 
     /// Replaces the value at row `i` and column `j`, which must be within bounds. The old value is dropped; all other values are unchanged.

@@ -1,0 +1,5 @@
+pub mod Operands
+pub mod DotSteps
+pub mod ColumnUpdates
+pub mod BlockUpdates
+pub mod PlainUpdates

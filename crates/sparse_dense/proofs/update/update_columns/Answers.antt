@@ -1,0 +1,19 @@
+use Rattle.std.proofs.Common.{◌+◌, ◌≤◌, arith}
+use Rattle.sparse_algebra.specs.Plain.{plain_product}
+use Rattle.sparse_cs.specs.PlainOfLanes.{plain_of_rows}
+use Rattle.sparse_dense.specs.DenseOperands.{op_dense}
+use Rattle.sparse_dense.specs.InnerUpdates.{plain_turned}
+use Rattle.sparse_dense.proofs.BlockUpdates.{block_more}
+use Rattle.sparse_dense.proofs.update.update_columns.Goals as goal
+
+pub loop-j-preserved : goal.loop-j-preserved
+loop-j-preserved g c =
+    let R = g.T.Ring.ring in
+    let f = g.T.Ring.value in
+    let z = g.T.Zero.zero_value in
+    let product = plain_product R (plain_turned R c.args.turned (plain_of_rows R f c.args.a.now)) (op_dense R f c.args.b) in
+    let room : c.loop-j.j + c.width_of_block-width.result ≤ c.args.size.1 = omega (arith, c.width_of_block-width.ensures.within, c.loop-j-test.true) in
+    record {
+      within = room;
+      done = block_more R f z (f c.args.beta) (f c.args.alpha) c.args.size.0 c.args.size.1 c.loop-j.j c.width_of_block-width.result product.value c.args.c.now c.loop-j.c c.update_block.new.c c.requires.count room c.loop-j.invariant.done c.update_block.ensures;
+    }

@@ -1,0 +1,2 @@
+pub mod DenseOperands
+pub mod InnerUpdates
