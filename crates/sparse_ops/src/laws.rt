@@ -1,7 +1,7 @@
 //! Laws of sums and products of matrices, over every ring.
 //!
 //! Each function computes both sides of an equation by the public calls, and its contract says that they stand for one plain matrix, with
-//! the same places and values.
+//! the same places and values. The functions here take matrices by rows, those of [`columns`] matrices by columns.
 
 ghost use Rattle.std.specs.Prelude.{◌≡◌, ◌↔◌, ℕ, true, IfOk};
 ghost use Rattle.sparse_algebra.specs.Plain.{plain_product, plain_sum};
@@ -10,6 +10,8 @@ ghost use Rattle.sparse_cs.specs.Compressed.{Compressed, IsSound};
 ghost use Rattle.sparse_cs.specs.PlainOfLanes.{plain_of_rows};
 ghost use Rattle.sparse_sums.specs.PatternSums.{IsUnionOf};
 ghost use Rattle.sparse_ops.specs.Products.{IsProductOf};
+
+pub mod columns;
 
 use crate::serial::prealloc::transposed_csr;
 use crate::serial::{add_csr, mul_csr, neg_csr, sub_csr};
@@ -33,6 +35,26 @@ pub fn product_of_sum<T: Ring>(
     let product = mul_csr(alloc, a, &sum)?;
     let first = mul_csr(alloc, a, b)?;
     let second = mul_csr(alloc, a, c)?;
+    let products = add_csr(alloc, &first, &second)?;
+    Ok((product, products))
+}
+
+/// Returns `(a + b) * c` and `a * c + b * c`, which are equal. Fails only if an allocation fails.
+pub fn sum_times<T: Ring>(
+    alloc: Global,
+    a: &CsrMatrix<T>,
+    b: &CsrMatrix<T>,
+    c: &CsrMatrix<T>,
+) -> Result<(CsrMatrix<T>, CsrMatrix<T>), AllocError>
+    requires rows { a.now.pattern.major_dim ≡ b.now.pattern.major_dim }
+    requires cols { a.now.pattern.minor_dim ≡ b.now.pattern.minor_dim }
+    requires inner { b.now.pattern.minor_dim ≡ c.now.pattern.major_dim }
+    ensures { IfOk result (λ m. plain_of_rows T.ring T.value m.0 ≡ plain_of_rows T.ring T.value m.1) }
+{
+    let sum = add_csr(alloc, a, b)?;
+    let product = mul_csr(alloc, &sum, c)?;
+    let first = mul_csr(alloc, a, c)?;
+    let second = mul_csr(alloc, b, c)?;
     let products = add_csr(alloc, &first, &second)?;
     Ok((product, products))
 }
@@ -69,6 +91,16 @@ pub fn identity_times<T: Ring>(alloc: Global, a: &CsrMatrix<T>) -> Result<CsrMat
     let _ = a.values();
     let identity = CsrMatrix::identity(alloc, a.nrows())?;
     mul_csr(alloc, &identity, a)
+}
+
+/// Returns the product of `a` and the identity, which is equal to `a`. Fails only if an allocation fails.
+pub fn times_identity<T: Ring>(alloc: Global, a: &CsrMatrix<T>) -> Result<CsrMatrix<T>, AllocError>
+    ensures { IfOk result (λ m. plain_of_rows T.ring T.value m ≡ plain_of_rows T.ring T.value a.now) }
+{
+    // The call costs nothing: its contract tells the prover that the matrix is sound.
+    let _ = a.values();
+    let identity = CsrMatrix::identity(alloc, a.ncols())?;
+    mul_csr(alloc, a, &identity)
 }
 
 /// Returns the transpose of `a * b`, and the product of the transposes in reverse order, which are equal. Fails only if an allocation fails.

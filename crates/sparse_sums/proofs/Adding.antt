@@ -147,25 +147,27 @@ gained_lane old lane P gains =
 
 module _ (R : CommRing) {T : Type 0} (f g : T → R.Carrier) (old : List ℕ) (us : List T) (a : List ℕ) (av : List T) (b : List ℕ) (bv : List T) (ra : IsStrictlyIncreasing a) (rb : IsStrictlyIncreasing b) (ca : length av ≡ length a) (cb : length bv ≡ length b) where
   -- what is left of both lanes, one of which is gone through, is appended
-  pub rest_added : (now : List ℕ) (ws new : List T) (p q : ℕ) → p ≤ length a → q ≤ length b
+  pub rest_added : (now : List ℕ) (ws mid new : List T) (p q : ℕ) → p ≤ length a → q ≤ length b
       → (p ≡ length a) ⊎ (q ≡ length b) → IsAdding R f g old now us ws a av b bv p q
-      → GainsValues R f g (ws ++ drop p av) new (drop q bv)
+      → GainsValues R f f ws mid (drop p av) → GainsValues R f g mid new (drop q bv)
       → GainsEntries R f old ((now ++ drop p a) ++ drop q b) us new (λ j. Contains a j ⊎ Contains b j) (λ j. R.add (lane_value R f a av j) (lane_value R g b bv j))
-  rest_added now ws new p q p_le q_le end m more =
+  rest_added now ws mid new p q p_le q_le end m front more =
       let lane = m.indices.lane in
       let whole = (lane ++ drop p a) ++ drop q b in
-      let values = (m.values ++ drop p av) ++ more.values in
+      let values = (m.values ++ front.values) ++ more.values in
       let is_whole : (now ++ drop p a) ++ drop q b ≡ old ++ whole = ap (λ l. (l ++ drop p a) ++ drop q b) m.indices.pushed ∙ ap (λ l. l ++ drop q b) (append_assoc old lane (drop p a)) ∙ append_assoc old (lane ++ drop p a) (drop q b) in
       let gains = rest_merged old a b ra rb now p q p_le q_le end m.indices in
       let is = gained_lane old whole (λ j. Contains a j ⊎ Contains b j) (subst (λ l. GainsLane old l (λ j. Contains a j ⊎ Contains b j)) is_whole gains) in
-      let count_front : length (m.values ++ drop p av) ≡ length (lane ++ drop p a) = omega (arith, length-append m.values (drop p av), length-append lane (drop p a), m.count, length-drop p av, length-drop p a) in
-      let count_rest : length more.values ≡ length (drop q b) = sym (length-map more.values f) ∙ ap length more.meaning ∙ length-map (drop q bv) g ∙ length-drop q bv ∙ ap (λ n. n - q) cb ∙ sym (length-drop q b) in
+      let long_front : length front.values ≡ length (drop p a) = sym (length-map front.values f) ∙ ap length front.meaning ∙ length-map (drop p av) f ∙ length-drop p av ∙ ap (λ n. n - p) ca ∙ sym (length-drop p a) in
+      let long_rest : length more.values ≡ length (drop q b) = sym (length-map more.values f) ∙ ap length more.meaning ∙ length-map (drop q bv) g ∙ length-drop q bv ∙ ap (λ n. n - q) cb ∙ sym (length-drop q b) in
+      let count_front : length (m.values ++ front.values) ≡ length (lane ++ drop p a) = omega (arith, length-append m.values front.values, length-append lane (drop p a), m.count, long_front) in
+      let front_pushed : mid ≡ us ++ (m.values ++ front.values) = front.pushed ∙ ap (λ l. l ++ front.values) m.values_pushed ∙ append_assoc us m.values front.values in
       record {
         lane = whole;
         values = values;
         pushed = is_whole;
-        values_pushed = more.pushed ∙ ap (λ l. (l ++ drop p av) ++ more.values) m.values_pushed ∙ ap (λ l. l ++ more.values) (append_assoc us m.values (drop p av)) ∙ append_assoc us (m.values ++ drop p av) more.values;
-        count = omega (arith, length-append (m.values ++ drop p av) more.values, length-append (lane ++ drop p a) (drop q b), count_front, count_rest);
+        values_pushed = more.pushed ∙ ap (λ l. l ++ more.values) front_pushed ∙ append_assoc us (m.values ++ front.values) more.values;
+        count = omega (arith, length-append (m.values ++ front.values) more.values, length-append (lane ++ drop p a) (drop q b), count_front, long_rest);
         rising = is.0;
         holds = is.1;
         sums = λ j.
@@ -173,8 +175,9 @@ module _ (R : CommRing) {T : Type 0} (f g : T → R.Carrier) (old : List ℕ) (u
             let A' = lane_value R f (drop p a) (drop p av) j in
             let B = lane_value R g (take q b) (take q bv) j in
             let B' = lane_value R g (drop q b) (drop q bv) j in
-            lane_value-append R f (lane ++ drop p a) (drop q b) (m.values ++ drop p av) more.values j count_front
-            ∙ ap (λ c. R.add c (lane_value R f (drop q b) more.values j)) (lane_value-append R f lane (drop p a) m.values (drop p av) j m.count ∙ ap (λ c. R.add c A') (m.sums j))
+            let fronts : lane_value R f (lane ++ drop p a) (m.values ++ front.values) j ≡ R.add (R.add A B) A' = lane_value-append R f lane (drop p a) m.values front.values j m.count ∙ ap (R.add (lane_value R f lane m.values j)) (lane_value-same R f f (drop p a) front.values (drop p av) j front.meaning) ∙ ap (λ c. R.add c A') (m.sums j) in
+            lane_value-append R f (lane ++ drop p a) (drop q b) (m.values ++ front.values) more.values j count_front
+            ∙ ap (λ c. R.add c (lane_value R f (drop q b) more.values j)) fronts
             ∙ ap (R.add (R.add (R.add A B) A')) (lane_value-same R f g (drop q b) more.values (drop q bv) j more.meaning)
             ∙ R.laws.add_assoc (R.add A B) A' B' ∙ add_cross R A B A' B'
             ∙ ap (λ c. R.add c (R.add B B')) (sym (lane_value_parts R f a av p j ca p_le))

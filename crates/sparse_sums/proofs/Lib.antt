@@ -1,6 +1,8 @@
 pub mod Merging
+pub mod UnionCounts
 pub mod UnionLanes
 pub mod Adding
 pub mod SumLanes
 pub mod Placing
+-- pub mod InOrder
 pub mod Updating

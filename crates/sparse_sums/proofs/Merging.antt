@@ -26,7 +26,7 @@ swapped a b p q lane m = record {
 }
 
 -- one element more of a front
-more : (xs : List ℕ) (p x j : ℕ) → p < length xs → x ≡ get_or xs p 0
+pub more : (xs : List ℕ) (p x j : ℕ) → p < length xs → x ≡ get_or xs p 0
     → Contains (take (p + 1) xs) j ↔ (Contains (take p xs) j ⊎ (x ≡ j))
 more xs p x j lt is =
     let e : take (p + 1) xs ≡ take p xs ++ x ∷ [] = take_more xs p 0 lt ∙ ap (λ y. take p xs ++ y ∷ []) (sym is) in (

@@ -1,5 +1,5 @@
 -- Where the entries of an operand go in the target.
-use Rattle.std.specs.Prelude.{◌≡◌, ℕ, Bool, true, false, List, slice_index_or}
+use Rattle.std.specs.Prelude.{◌≡◌, ℕ, Bool, true, false, List, slice_index_or, Contains}
 use Rattle.sparse_algebra.specs.Algebra.{CommRing}
 use Rattle.sparse_algebra.specs.Plain.{Plain, plain_transpose}
 use Rattle.sparse_pattern.specs.Raw.{Raw, IsPlace}
@@ -34,3 +34,7 @@ HasPlacesOf d turned a = (i j : ℕ) → IsPlace a i j → IsPlace d (lane_in tu
 abbrev pub AreAdded : (R : CommRing) {T : Type 0} → (T → R.Carrier) → T → Raw → R.Carrier → R.Carrier → (ℕ → ℕ → R.Carrier) → List T → List T → Type 0
 AreAdded R f z d beta alpha x old new = (i j p : ℕ) → IsPosition d i j p
     → f (slice_index_or new p z) ≡ R.add (R.mul beta (f (slice_index_or old p z))) (R.mul alpha (x i j))
+
+-- the target lane has each index of the lane
+abbrev pub HasIndicesOf : List ℕ → List ℕ → Type 0
+HasIndicesOf target lane = (j : ℕ) → Contains lane j → Contains target j

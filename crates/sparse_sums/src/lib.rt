@@ -2,6 +2,8 @@
 #![tactic(auto)]
 
 mod add;
+mod count;
+// mod in_order;
 mod merge;
 mod pattern;
 mod prealloc;

@@ -1,10 +1,23 @@
-use Rattle.std.proofs.Common.{not, eqb, ◌++◌, length, take, drop, Contains, ◌-◌, ◌⊎◌, subst, sym, ap, ◌∙◌}
-use Rattle.std.proofs.lemmas.List.{take_rest}
+use Rattle.std.proofs.Common.{not, eqb, ◌≡◌, ◌+◌, ◌-◌, ◌≤◌, ◌++◌, length, take, drop, Contains, ◌⊎◌, subst, sym, ap, ◌∙◌, arith}
+use Rattle.std.proofs.lemmas.List.{take_rest, length-drop}
 use Rattle.sparse_cs.specs.InnerRows.{lane_value}
 use Rattle.sparse_sums.specs.InnerSigns.{signed}
 use Rattle.sparse_sums.specs.InnerAdding.{GainsValues, GainsEntries}
 use Rattle.sparse_sums.proofs.Adding.{rest_added}
+use Rattle.sparse_sums.proofs.UnionCounts.{rest_fits}
 use Rattle.sparse_sums.proofs.merge.add_lanes.Goals as goal
+
+pub push_rest-requires-clause-room : goal.push_rest-requires-clause-room
+push_rest-requires-clause-room g c = rw take_rest (omega (arith, length-drop c.add_fronts-p.result.0 c.args.a.now, c.add_fronts-p.ensures.room, c.add_fronts-p.ensures.capacity))
+
+pub push_rest-requires-clause-values_room : goal.push_rest-requires-clause-values_room
+push_rest-requires-clause-values_room g c = rw take_rest (omega (arith, length-drop c.add_fronts-p.result.0 c.args.a.now, c.add_fronts-p.ensures.room, c.add_fronts-p.ensures.count, c.add_fronts-p.ensures.values_capacity))
+
+pub push_rest-requires-2-clause-room : goal.push_rest-requires-2-clause-room
+push_rest-requires-2-clause-room g c = rw take_rest (omega (arith, length-drop c.add_fronts-p.result.1 c.args.b.now, ap length (take_rest c.args.a.now c.add_fronts-p.result.0), length-drop c.add_fronts-p.result.0 c.args.a.now, c.add_fronts-p.ensures.room, c.add_fronts-p.ensures.capacity, c.push_rest.ensures.len, c.push_rest.ensures.capacity))
+
+pub push_rest-requires-2-clause-values_room : goal.push_rest-requires-2-clause-values_room
+push_rest-requires-2-clause-values_room g c = rw take_rest (omega (arith, length-drop c.add_fronts-p.result.1 c.args.b.now, ap length (take_rest c.args.a.now c.add_fronts-p.result.0), length-drop c.add_fronts-p.result.0 c.args.a.now, c.add_fronts-p.ensures.room, c.add_fronts-p.ensures.count, c.add_fronts-p.ensures.values_capacity, c.push_rest.ensures.values_len, c.push_rest.ensures.values_capacity))
 
 pub returns-clause-gained : goal.returns-clause-gained
 returns-clause-gained g c =
@@ -22,10 +35,11 @@ returns-clause-gained g c =
     let m = c.add_fronts-p.ensures in
     let p = c.add_fronts-p.result.0 in
     let q = c.add_fronts-p.result.1 in
-    let first = c.in_ok-extend_from_slice.ensures.items ∙ ap (λ l. now ++ l) (take_rest a p) in
-    let values = c.in_ok-extend_from_slice-2.ensures.items ∙ ap (λ l. ws ++ l) (take_rest av p) in
-    let second = c.in_ok-extend_from_slice-3.ensures.items ∙ ap (λ l. c.extend_from_slice.new.self.items ++ l) (take_rest b q) ∙ ap (λ l. l ++ drop q b) first in
-    let new = c.push_signed.new.values.items in
-    let more : GainsValues R f h (ws ++ drop p av) new (drop q bv) = subst (λ l. GainsValues R f h (ws ++ drop p av) new l) (take_rest bv q) (subst (λ l. GainsValues R f h l new (take (length bv - q) (drop q bv))) values c.push_signed.ensures.gained) in
-    let all = rest_added R f h old us a av b bv c.requires.a_rising c.requires.b_rising c.requires.a_count c.requires.b_count now ws new p q m.first m.second m.end m.added more in
+    let mid = c.push_rest.new.values.items in
+    let new = c.push_rest-2.new.values.items in
+    let first = c.push_rest.ensures.indices ∙ ap (λ l. now ++ l) (take_rest a p) in
+    let second = c.push_rest-2.ensures.indices ∙ ap (λ l. c.push_rest.new.indices.items ++ l) (take_rest b q) ∙ ap (λ l. l ++ drop q b) first in
+    let front : GainsValues R f f ws mid (drop p av) = subst (λ l. GainsValues R f f ws mid l) (take_rest av p) c.push_rest.ensures.values in
+    let more : GainsValues R f h mid new (drop q bv) = subst (λ l. GainsValues R f h mid new l) (take_rest bv q) c.push_rest-2.ensures.values in
+    let all = rest_added R f h old us a av b bv c.requires.a_rising c.requires.b_rising c.requires.a_count c.requires.b_count now ws mid new p q m.first m.second m.end m.added front more in
     subst (λ l. GainsEntries R f old l us new (λ j. Contains a j ⊎ Contains b j) (λ j. R.add (lane_value R f a av j) (lane_value R h b bv j))) (sym second) all
