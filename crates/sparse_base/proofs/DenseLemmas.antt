@@ -1,8 +1,9 @@
 -- Places of a dense matrix, and its values.
-use Rattle.std.proofs.Common.{◌≡◌, ℕ, ◌+◌, ◌*◌, ◌/◌, ◌%◌, ◌<◌, ◌≢◌, ◌⊎◌, inl, inr, true, false}
+use Rattle.std.proofs.Common.{◌≡◌, ℕ, ◌+◌, ◌*◌, ◌/◌, ◌%◌, ◌<◌, ◌≤◌, ◌≢◌, ◌⊎◌, inl, inr, true, false}
 use Rattle.std.proofs.Common.{◌&&◌, ◌==◌, if◌then◌else◌, List, [], ◌∷◌, ◌++◌, length, get_or}
-use Rattle.std.proofs.Common.{replicate, ap, sym, ◌∙◌, refl, arith}
-use Rattle.std.proofs.Math.Nat.{add-mul, mul_comm, eq-or-lt_of_le}
+use Rattle.std.proofs.Common.{replicate, slice_range, ap, sym, ◌∙◌, refl, arith}
+use Rattle.std.proofs.Math.Nat.{add-mul, mul_comm, mul-le-mul_right, eq-or-lt_of_le}
+use Rattle.std.proofs.lemmas.Grind.{common_steps}
 use Rattle.std.proofs.lemmas.Nat.{mul-add-lt, div-mul-add, mod-mul-add}
 use Rattle.std.proofs.lemmas.Bool.Decides.{eqb_tells}
 use Rattle.std.proofs.lemmas.List.{length-replicate, get_or-replicate, get_or_default}
@@ -115,3 +116,23 @@ module _ {T : Type 0} where
     values = λ i j z row col. filled.placed i j z row
         (omega (arith, mul-add-lt j n i m col row, mul_comm n m));
   }
+
+-- columns from the first one on, as a part of the values
+pub columns_within : (n first count cols : ℕ) → first + count ≤ cols
+    → first * n + count * n ≤ n * cols
+columns_within n first count cols le = omega (
+  arith,
+  mul-le-mul_right n le,
+  add-mul first count n,
+  mul_comm n cols,
+)
+
+pub columns_read : {T : Type 0} (xs : List T) (n first count i j : ℕ) (z : T) → i < n → j < count
+    → first * n + count * n ≤ length xs
+    → get_or (slice_range xs (first * n) (first * n + count * n)) (j * n + i) z ≡ get_or xs
+    ((first + j) * n + i) z
+columns_read xs n first count i j z row col room =
+    let place : (first + j) * n + i ≡ first * n + (j * n + i) = omega (arith, add-mul first j n) in
+    let within : j * n + i < count * n = omega
+    (arith, mul-add-lt j n i count col row, mul_comm n count) in
+    rw place (grind (arith, common_steps, within, room))

@@ -31,7 +31,7 @@ module _ {T : Type 0} where
   abbrev pub with_value_at : Dense T → ℕ → ℕ → T → Dense T
   with_value_at d i j w = record d { values = slice_set d.values (j * d.nrows + i) w }
 
-  -- the matrix with other values in column j
+  -- the matrix with other values in the columns from j on, as many as there are values for
   abbrev pub with_column : Dense T → ℕ → List T → Dense T
   with_column d j ws = record d { values = refill_from d.values (j * d.nrows) ws }
 

@@ -1,6 +1,6 @@
 //! Dense matrices in column-major order.
 
-ghost use Rattle.std.specs.Prelude.{◌≡◌, ◌+◌, ◌*◌, ◌<◌, ℕ, ◌==◌, ◌&&◌, if◌then◌else◌, length, replicate, slice_index_or, IfOk};
+ghost use Rattle.std.specs.Prelude.{◌≡◌, ◌+◌, ◌*◌, ◌<◌, ◌≤◌, ℕ, ◌==◌, ◌&&◌, if◌then◌else◌, length, replicate, slice_index_or, slice_range, IfOk};
 ghost use Rattle.std.specs.Borrow.{sem};
 ghost use Rattle.sparse_base.specs.Dense.{dense_of, value_at, column_of, with_value_at, HasValues};
 ghost use Rattle.sparse_base.specs.DenseLending.{LendsColumn, LendsValues};
@@ -214,6 +214,23 @@ impl<T> DMatrix<T> {
     {
         let start = j * self.nrows;
         self.values.slice_mut(start..start + self.nrows)
+    }
+
+    /// Returns the values of `count` columns from column `first` on, column by column, borrowed mutably.
+    ///
+    /// `first + count` must not exceed `ncols()`. The other columns are unchanged.
+    #[tactic(auto, using(crate::proofs::DenseLemmas::columns_within, crate::proofs::DenseLemmas::columns_read))]
+    pub fn columns_mut(&mut self, first: usize, count: usize) -> &mut [T]
+        requires { first + count ≤ self.old.ncols }
+        ensures* writes_back { sem 𝓛 (LendsColumn T.row self.entry first result) }
+        ensures exact { result.now ≡ slice_range self.old.values (first * self.old.nrows)
+            (first * self.old.nrows + count * self.old.nrows) }
+        ensures rows { length result.now ≡ count * self.old.nrows }
+        ensures values { (i j : ℕ) (z : T) → i < self.old.nrows → j < count
+            → slice_index_or result.now (j * self.old.nrows + i) z ≡ value_at self.old i (first + j) z }
+    {
+        let start = first * self.nrows;
+        self.values.slice_mut(start..start + count * self.nrows)
     }
 }
 

@@ -3,9 +3,11 @@ pub mod Substitutions
 pub mod BelowDiagonal
 pub mod Pivots
 pub mod ColumnSteps
+pub mod EntrySteps
 pub mod Refills
 pub mod SolvedColumns
 pub mod Taking
+pub mod FourColumns
 pub mod PlainSolutions
 pub mod Uniqueness
 pub mod UniqueSolutions

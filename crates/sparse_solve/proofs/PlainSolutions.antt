@@ -6,18 +6,21 @@ use Rattle.std.proofs.lemmas.Bool.Decides.{nat_tests}
 use Rattle.sparse_lemmas.proofs.Cases.{lt_or_ge}
 use Rattle.sparse_algebra.specs.Algebra.{CommRing}
 use Rattle.sparse_algebra.specs.Sums.{sum_below, where_true}
-use Rattle.sparse_algebra.specs.Plain.{Plain, IsProper, IsWithin, plain_product}
+use Rattle.sparse_algebra.specs.Plain.{Plain, IsProper, IsWithin, plain_product, plain_transpose}
 use Rattle.sparse_algebra.proofs.RingLemmas.{mul_zero}
 use Rattle.sparse_algebra.proofs.SumLemmas.{sum_below-same, sum_below-zero}
 use Rattle.sparse_algebra.proofs.PlainLemmas.{same_plain}
-use Rattle.sparse_algebra.proofs.PlainLaws.{proper_kept, within_kept, within_transpose, within_plain_of_triplets}
+use Rattle.sparse_algebra.proofs.PlainLaws.{proper_kept, proper_transpose, within_kept, within_transpose, within_plain_of_triplets}
 use Rattle.sparse_cs.specs.Compressed.{Compressed, IsSound, lane_triplets}
 use Rattle.sparse_cs.specs.PlainOfLanes.{plain_of_rows, plain_of_cols}
 use Rattle.sparse_cs.proofs.Inside.{lane_triplets-inside}
+use Rattle.sparse_op.specs.declared.operand.Op.{Op}
+use Rattle.sparse_op.specs.declared.operand.Op.TheVariants.{NoOp, Transpose}
+use Rattle.sparse_op.specs.Operands.{inner_of, plain_op}
 use Rattle.sparse_base.specs.Dense.{Dense, value_at}
 use Rattle.sparse_base.specs.DensePlain.{plain_of_dense}
 use Rattle.sparse_solve.specs.Solutions.{IsSolution, plain_lower}
-use Rattle.sparse_solve.specs.InnerColumns.{SolvesColumns}
+use Rattle.sparse_solve.specs.InnerColumns.{SolvesColumns, op_lower}
 use Rattle.sparse_solve.proofs.RingSteps.{mul_off}
 
 module _ (R : CommRing) {T : Type 0} (f : T → R.Carrier) (z : T) (zero : f z ≡ R.zero) where
@@ -89,3 +92,16 @@ module _ (R : CommRing) {T : Type 0} (f : T → R.Carrier) (m : Compressed T) wh
 
   pub lower_within : IsSound m → IsWithin (plain_lower R (plain_of_cols R f m))
   lower_within sound = within_kept R (λ i j. nat_le j i) (plain_of_cols R f m) (within_transpose R (plain_of_rows R f m) (within_plain_of_triplets R f m.pattern.major_dim m.pattern.minor_dim (lane_triplets m) (lane_triplets-inside m sound)))
+
+-- the solution of an operand, as plain matrices
+pub op_solution : (R : CommRing) {T X : Type 0} (f : T → R.Carrier) (z : T) (zero : f z ≡ R.zero) (see : X → Compressed T) (l : Op X) (x b : Dense T)
+    → (see (inner_of l)).pattern.minor_dim ≡ (see (inner_of l)).pattern.major_dim
+    → b.nrows ≡ (see (inner_of l)).pattern.major_dim
+    → (0 < b.ncols → IsSound (see (inner_of l)))
+    → SolvesColumns R f z (op_lower R f see l) x b
+    → IsSolution R (plain_op R (λ m. plain_lower R (plain_of_cols R f (see m))) l) (plain_of_dense R f x) (plain_of_dense R f b)
+op_solution R f z zero see (NoOp m) x b square rows sound solves =
+    plain_solution R f z zero (plain_lower R (plain_of_cols R f (see m))) x b (square ∙ sym rows) (sym rows) (lower_proper R f (see m)) (λ some. lower_within R f (see m) (sound some)) solves
+op_solution R f z zero see (Transpose m) x b square rows sound solves =
+    let lower = plain_lower R (plain_of_cols R f (see m)) in
+    plain_solution R f z zero (plain_transpose R lower) x b (sym rows) (square ∙ sym rows) (proper_transpose R lower (lower_proper R f (see m))) (λ some. within_transpose R lower (lower_within R f (see m) (sound some))) solves

@@ -1,18 +1,22 @@
--- The answers of one row, taken in some columns of a dense matrix.
-use Rattle.std.proofs.Common.{◌≡◌, ℕ, ◌+◌, ◌<◌, ◌≤◌, inl, inr, List, length, get_or, set, ap, sym, subst, ◌∙◌, refl, arith, add-one, get_or-set_same, get_or-set_other, length-set}
+-- The answers of one row, and the columns of a dense matrix that are solved.
+use Rattle.std.proofs.Common.{◌≡◌, ℕ, ◌+◌, ◌-◌, ◌*◌, ◌<◌, ◌≤◌, inl, inr, List, length, get_or, set, slice_range, ap, sym, subst, ◌∙◌, refl, arith, add-one, get_or-set_same, get_or-set_other, length-set}
+use Rattle.std.proofs.lemmas.List.{get_or_default}
 use Rattle.sparse_lemmas.proofs.Cases.{lt_add_one_cases, lt_or_ge}
 use Rattle.sparse_algebra.specs.Algebra.{CommRing}
 use Rattle.sparse_algebra.specs.Plain.{Plain, IsProper}
 use Rattle.sparse_algebra.proofs.RingLemmas.{mul_zero}
 use Rattle.sparse_units.proofs.Products.{mul_neg}
 use Rattle.sparse_base.specs.Dense.{Dense, value_at, column_of, with_column}
+use Rattle.sparse_cs.specs.Compressed.{Compressed}
 use Rattle.sparse_cs.specs.InnerRows.{lane_value}
+use Rattle.sparse_cs.specs.PlainOfLanes.{plain_of_cols}
+use Rattle.sparse_cs.proofs.Arrays.{proper_rows}
 use Rattle.sparse_solve.specs.Solutions.{plain_lower}
-use Rattle.sparse_solve.specs.InnerColumns.{ChangesBlock, IsColumnBelow, IsTaken, SolvesColumn, column_entries, entries}
+use Rattle.sparse_solve.specs.InnerColumns.{ChangesBlock, IsColumnBelow, IsTaken, SolvesColumn, SolvesList, TakesAnswer, column_entries, dot_of, entries, lower}
 use Rattle.sparse_solve.proofs.RingSteps.{add_off}
-use Rattle.sparse_solve.proofs.ColumnSteps.{lower_is, lower_zero}
-use Rattle.sparse_solve.proofs.SolvedColumns.{IsSolvedBelow, solves_same, with_column-here, with_column-other}
-use Rattle.sparse_solve.proofs.Substitutions.{IsForward, forward_step}
+use Rattle.sparse_solve.proofs.ColumnSteps.{lower_is, lower_zero, backward_column}
+use Rattle.sparse_solve.proofs.SolvedColumns.{IsSolvedBelow, solves_same, with_column-here, with_column-other, with_columns-inside, with_columns-before, with_columns-behind}
+use Rattle.sparse_solve.proofs.Substitutions.{IsForward, IsBackward, forward_step, forward_end, backward_start, backward_end}
 
 module _ (R : CommRing) {T : Type 0} (f : T → R.Carrier) (z : T) where
   -- the answer is written, and its multiple added
@@ -43,21 +47,59 @@ module _ (R : CommRing) {T : Type 0} (f : T → R.Carrier) (z : T) where
       (λ i more l. taken.others i l (λ same. absurd (omega (arith, same, more)))
       ∙ ap (R.add (x i)) (ap (R.mul (R.neg (y k))) (column.below i more ∙ sym (lower_is R a proper i k (omega arith))) ∙ R.laws.mul_comm _ _ ∙ mul_neg R (t i k) (y k))))
 
-  module _ (first : ℕ) (P : (ℕ → R.Carrier) → (ℕ → R.Carrier) → Type 0) where
-    pub changes_none : (d : Dense T) → ChangesBlock R f z first first P d d
-    changes_none d = record { rows = refl; cols = refl; inside = λ j le lt. absurd (omega arith); before = λ i j _ _. refl; behind = λ i j _ _. refl }
+  module _ (m : Compressed T) (k : ℕ) (rows : List ℕ) (values : List T) (e : T) (column : IsColumnBelow R f (plain_of_cols R f m) k rows values e) (b x : List T) (lt : k < length b) (same : length x ≡ length b) where
+    -- the answers of row k are taken in a list
+    pub forward_list : (y : List T) → TakesAnswer R f z k rows values e x y
+        → IsForward R (length b) k (lower R f m) (entries R f z x) (entries R f z b)
+        → IsForward R (length b) (k + 1) (lower R f m) (entries R f z y) (entries R f z b)
+    forward_list y takes h = forward_taken (plain_of_cols R f m) (λ i j. proper_rows R f m j i) (length b) k rows values e column lt (entries R f z x) (entries R f z y) (entries R f z b)
+        (subst (λ n. IsTaken R f n k rows values (f e) (entries R f z x) (entries R f z y)) same takes) h
+
+    -- the answer of row k is written, after the rows behind it
+    pub backward_list : (step : ℕ) (entry known minus rest new : T) → m.pattern.minor_dim ≡ length b → k + 1 + step ≡ length b
+        → entry ≡ get_or x k entry → f known ≡ dot_of R f rows values (entries R f z x)
+        → f minus ≡ R.neg (f known) → f rest ≡ R.add (f entry) (f minus) → f new ≡ R.mul (f rest) (f e)
+        → IsBackward R (length b) (length b - step) (lower R f m) (entries R f z x) (entries R f z b)
+        → IsBackward R (length b) (length b - (step + 1)) (lower R f m) (entries R f z (set x k new)) (entries R f z b)
+    backward_list step entry known minus rest new square place read known_is minus_is rest_is new_is h =
+        let n = length b in
+        let within : k < length x = omega (arith, lt, same) in
+        let old : n - step ≡ k + 1 = omega (arith, place) in
+        let next : n - (step + 1) ≡ k = omega (arith, place) in
+        let is : f new ≡ R.mul (R.add (f (get_or x k z)) (R.neg (f known))) (f e) = new_is ∙ ap (λ v. R.mul v (f e)) (rest_is ∙ ap (λ v. R.add v (f minus)) (ap f (read ∙ get_or_default x k entry z within)) ∙ ap (R.add (f (get_or x k z))) minus_is) in
+        let before = subst (λ j. IsBackward R n j (lower R f m) (entries R f z x) (entries R f z b)) old h in
+        let after = backward_column R f z (plain_of_cols R f m) (λ i j. proper_rows R f m j i) n k rows values e column x (entries R f z b) lt same new known square known_is is before in
+        subst (λ j. IsBackward R n j (lower R f m) (entries R f z (set x k new)) (entries R f z b)) (sym next) after
+
+  -- after the last row the list is solved
+  pub forward_solved : (t : ℕ → ℕ → R.Carrier) (k : ℕ) (b x : List T) → k ≡ length b
+      → IsForward R (length b) k t (entries R f z x) (entries R f z b) → SolvesList R f z t x b
+  forward_solved t k b x end h = forward_end R (length b) t (entries R f z x) (entries R f z b) (subst (λ k. IsForward R (length b) k t (entries R f z x) (entries R f z b)) end h)
+
+  pub backward_solved : (t : ℕ → ℕ → R.Carrier) (step : ℕ) (b x : List T) → step ≡ length b
+      → IsBackward R (length b) (length b - step) t (entries R f z x) (entries R f z b)
+      → SolvesList R f z (λ i j. t j i) x b
+  backward_solved t step b x end h =
+      let none : length b - step ≡ 0 = omega (arith, end) in
+      backward_end R (length b) t (entries R f z x) (entries R f z b) (subst (λ k. IsBackward R (length b) k t (entries R f z x) (entries R f z b)) none h)
+
+  pub backward_begun : (t : ℕ → ℕ → R.Carrier) (b : List T)
+      → IsBackward R (length b) (length b - 0) t (entries R f z b) (entries R f z b)
+  backward_begun t b =
+      let whole : length b ≡ length b - 0 = omega arith in
+      subst (λ k. IsBackward R (length b) k t (entries R f z b) (entries R f z b)) whole (backward_start R (length b) t (entries R f z b))
 
   -- columns that agree below the number of rows
   abbrev pub OnRows : ℕ → ((ℕ → R.Carrier) → (ℕ → R.Carrier) → Type 0) → Type 0
   OnRows n P = (x y v w : ℕ → R.Carrier) → ((i : ℕ) → i < n → v i ≡ x i) → ((i : ℕ) → i < n → w i ≡ y i) → P x y → P v w
 
-  pub taken_on_rows : (n k : ℕ) (rows : List ℕ) (values : List T) (e : R.Carrier) → k < n
-      → OnRows n (IsTaken R f n k rows values e)
-  taken_on_rows n k rows values e lt x y v w vx wy h = record {
-    answer = wy k lt ∙ h.answer ∙ ap (λ c. R.mul c e) (sym (vx k lt));
-    others = λ i l ne. wy i l ∙ h.others i l ne ∙ ap (λ c. R.add c (R.mul (R.neg (y k)) (lane_value R f rows values i))) (sym (vx i l))
-        ∙ ap (λ c. R.add (v i) (R.mul (R.neg c) (lane_value R f rows values i))) (sym (wy k lt));
-  }
+  -- a solution, read off columns that agree below the number of rows
+  pub solves_on_rows : (t : ℕ → ℕ → R.Carrier) (n : ℕ) → OnRows n (λ b x. SolvesColumn R n t x b)
+  solves_on_rows t n b x v w vb wx h = solves_same R f z t n x w b v wx vb h
+
+  module _ (first : ℕ) (P : (ℕ → R.Carrier) → (ℕ → R.Carrier) → Type 0) where
+    pub changes_none : (d : Dense T) → ChangesBlock R f z first first P d d
+    changes_none d = record { rows = refl; cols = refl; inside = λ j le lt. absurd (omega arith); before = λ i j _ _. refl; behind = λ i j _ _. refl }
 
   -- one column more is changed
   pub changes_more : (first j : ℕ) (P : (ℕ → R.Carrier) → (ℕ → R.Carrier) → Type 0) (b x : Dense T) (old ws : List T)
@@ -80,23 +122,28 @@ module _ (R : CommRing) {T : Type 0} (f : T → R.Carrier) (z : T) where
         behind = λ i l lt over. with_column-other x j ws full count i l z (omega (arith, lt, h.rows)) (λ e. omega (arith, e, over)) ∙ h.behind i l lt (omega arith);
       }
 
-  -- one change after the other
-  pub changes_then : (first last : ℕ) (P Q S : (ℕ → R.Carrier) → (ℕ → R.Carrier) → Type 0) (b x y : Dense T)
-      → ((u v w : ℕ → R.Carrier) → P u v → Q v w → S u w) → ChangesBlock R f z first last P b x
-      → ChangesBlock R f z first last Q x y → ChangesBlock R f z first last S b y
-  changes_then first last P Q S b x y joins h k = record {
-    rows = k.rows ∙ h.rows;
-    cols = k.cols ∙ h.cols;
-    inside = λ j le lt. joins _ _ _ (h.inside j le lt) (k.inside j le lt);
-    before = λ i j row lt. k.before i j (omega (arith, row, h.rows)) lt ∙ h.before i j row lt;
-    behind = λ i j row le. k.behind i j (omega (arith, row, h.rows)) le ∙ h.behind i j row le;
-  }
-
-  -- a weaker change
-  pub changes_so : (first last : ℕ) (P S : (ℕ → R.Carrier) → (ℕ → R.Carrier) → Type 0) (b x : Dense T)
-      → ((u v : ℕ → R.Carrier) → P u v → S u v) → ChangesBlock R f z first last P b x
-      → ChangesBlock R f z first last S b x
-  changes_so first last P S b x so h = record { rows = h.rows; cols = h.cols; inside = λ j le lt. so _ _ (h.inside j le lt); before = h.before; behind = h.behind }
+  -- several columns are changed at once
+  pub changes_columns : (from count : ℕ) (P : (ℕ → R.Carrier) → (ℕ → R.Carrier) → Type 0) (b : Dense T) (old ws : List T)
+      → 0 < count → OnRows b.nrows P → old ≡ slice_range b.values (from * b.nrows) (from * b.nrows + count * b.nrows)
+      → length old ≡ count * b.nrows → length ws ≡ length old
+      → ((i j : ℕ) (z : T) → i < b.nrows → j < count → get_or old (j * b.nrows + i) z ≡ value_at b i (from + j) z)
+      → ((j : ℕ) → j < count → P (λ i. f (get_or old (j * b.nrows + i) z)) (λ i. f (get_or ws (j * b.nrows + i) z)))
+      → ChangesBlock R f z from (from + count) P b (with_column b from ws)
+  changes_columns from count P b old ws some keeps is long same_long read changed =
+      let full : length (slice_range b.values (from * b.nrows) (from * b.nrows + count * b.nrows)) ≡ count * b.nrows = ap length (sym is) ∙ long in
+      let size : length ws ≡ count * b.nrows = same_long ∙ long in
+      record {
+        rows = refl;
+        cols = refl;
+        inside = λ l le lt.
+            let j : ℕ = l - from in
+            let place : from + j ≡ l = omega arith in
+            let within : j < count = omega arith in
+            subst (λ l. P (column_entries R f z b l) (column_entries R f z (with_column b from ws) l)) place
+            (keeps _ _ _ _ (λ i row. ap f (sym (read i j z row within))) (λ i row. ap f (with_columns-inside b from count some ws full size i j z row within)) (changed j within));
+        before = λ i l row lt. with_columns-before b from count some ws full size i l z row lt;
+        behind = λ i l row le. with_columns-behind b from count some ws full size i l z row le;
+      }
 
   -- a block more is solved
   pub solved_block : (t : ℕ → ℕ → R.Carrier) (first last : ℕ) (b x y : Dense T) → first ≤ last

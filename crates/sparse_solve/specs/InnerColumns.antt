@@ -5,7 +5,11 @@ use Rattle.sparse_algebra.specs.Sums.{sum_below, sum_by}
 use Rattle.sparse_algebra.specs.Plain.{Plain}
 use Rattle.sparse_base.specs.Dense.{Dense, value_at}
 use Rattle.sparse_cs.specs.InnerRows.{lane_value}
-use Rattle.sparse_solve.specs.Solutions.{HasPivot}
+use Rattle.sparse_cs.specs.Compressed.{Compressed}
+use Rattle.sparse_cs.specs.PlainOfLanes.{plain_of_cols}
+use Rattle.sparse_op.specs.declared.operand.Op.{Op}
+use Rattle.sparse_op.specs.Operands.{plain_op}
+use Rattle.sparse_solve.specs.Solutions.{HasPivot, plain_lower}
 
 module _ (R : CommRing) {T : Type 0} (f : T → R.Carrier) where
   -- the entries of column k below the diagonal, and the inverse of the stored diagonal entry
@@ -34,6 +38,19 @@ abbrev pub SolvesColumn : (R : CommRing) → ℕ → (ℕ → ℕ → R.Carrier)
     → (ℕ → R.Carrier) → Type 0
 SolvesColumn R n t x b = (i : ℕ) → i < n → sum_below R n (λ k. R.mul (t i k) (x k)) ≡ b i
 
+module _ (R : CommRing) {T : Type 0} (f : T → R.Carrier) where
+  -- the coefficients on and below the diagonal
+  abbrev pub lower : Compressed T → ℕ → ℕ → R.Carrier
+  lower m = (plain_lower R (plain_of_cols R f m)).value
+
+  -- those of an operand, as they are or transposed
+  abbrev pub op_lower : {X : Type 0} → (X → Compressed T) → Op X → ℕ → ℕ → R.Carrier
+  op_lower see l = (plain_op R (λ x. plain_lower R (plain_of_cols R f (see x))) l).value
+
+  -- the scalars of x solve the equations whose right sides are those of b
+  abbrev pub SolvesList : T → (ℕ → ℕ → R.Carrier) → List T → List T → Type 0
+  SolvesList z t x b = SolvesColumn R (length b) t (entries R f z x) (entries R f z b)
+
 -- each column of x solves the equations whose right sides are that column of b
 pub record SolvesColumns (R : CommRing) {T : Type 0} (f : T → R.Carrier) (z : T) (t : ℕ → ℕ → R.Carrier) (x b : Dense T) : Type 0 where
   pub rows : x.nrows ≡ b.nrows
@@ -48,6 +65,15 @@ module _ (R : CommRing) where
     pub others : (i : ℕ) → i < n → i ≢ k → y i ≡ R.add (x i) (R.mul (R.neg (y k)) (lane_value R f rows values i))
 
 module _ (R : CommRing) {T : Type 0} (f : T → R.Carrier) (z : T) where
+  -- the answer of row k is taken in a list
+  abbrev pub TakesAnswer : ℕ → List ℕ → List T → T → List T → List T → Type 0
+  TakesAnswer k rows values e old new = IsTaken R f (length old) k rows values (f e) (entries R f z old) (entries R f z new)
+
+  -- c times the values is added, each in its row
+  abbrev pub AddsMultiple : R.Carrier → List ℕ → List T → List T → List T → Type 0
+  AddsMultiple c rows values old new = (i : ℕ) → i < length old
+      → f (slice_index_or new i z) ≡ R.add (f (slice_index_or old i z)) (R.mul c (lane_value R f rows values i))
+
   -- column j of a dense matrix
   abbrev pub column_entries : Dense T → ℕ → ℕ → R.Carrier
   column_entries d j i = f (value_at d i j z)

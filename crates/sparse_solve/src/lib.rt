@@ -1,8 +1,11 @@
 //! Triangular solves, and division by a scalar.
 #![tactic(auto)]
 
+mod backward;
 mod column;
 mod division;
+mod forward;
+mod kernels;
 pub mod laws;
 mod substitution;
 mod triangular;

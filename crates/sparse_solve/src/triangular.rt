@@ -12,7 +12,7 @@ ghost use Rattle.sparse_solve.specs.Solutions.{plain_lower, IsSolution, IsSingul
 ghost use Rattle.sparse_solve.specs.InnerColumns.{HasPivots};
 
 use crate::column::column_below;
-use crate::substitution::{solve_columns, solve_transposed_columns};
+use crate::substitution::solve_columns;
 use sparse_base::dense::DMatrix;
 use sparse_forms::csc::CscMatrix;
 use sparse_op::{Op, OperationError};
@@ -71,10 +71,7 @@ pub fn spsolve_csc_lower_triangular<T: Units>(
     if !can_solve(l.into_inner(), b.ncols()) {
         return Err(OperationError::of_singular_diagonal());
     }
-    match l {
-        Op::NoOp(l) => solve_columns(l, b),
-        Op::Transpose(l) => solve_transposed_columns(l, b),
-    }
+    solve_columns(l, b);
     Ok(())
 }
 

@@ -11,12 +11,13 @@ pub fn approach<T: Ring>(x: T, steps: u32) -> T
         ≡ squared T.ring steps (one_minus T.ring (T.value x)) }
 {
     let mut inverse = T::one();
+    let mut missing = T::one().add(x.neg());
     for _step in 0..steps {
-        let rest = T::one().add(x.mul(inverse).neg());
-        if rest == T::zero() {
+        if missing == T::zero() {
             return inverse;
         }
-        inverse = inverse.mul(T::one().add(rest));
+        inverse = inverse.mul(T::one().add(missing));
+        missing = missing.mul(missing);
     }
     inverse
 }

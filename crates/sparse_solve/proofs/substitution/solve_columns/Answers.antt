@@ -1,15 +1,17 @@
-use Rattle.std.proofs.Common.{◌+◌, arith}
-use Rattle.sparse_cs.specs.PlainOfLanes.{plain_of_cols}
-use Rattle.sparse_solve.specs.Solutions.{plain_lower}
+use Rattle.std.proofs.Common.{arith}
+use Rattle.sparse_solve.specs.InnerColumns.{op_lower}
+use Rattle.sparse_solve.proofs.SolvedColumns.{solved_none, solved_all}
 use Rattle.sparse_solve.proofs.Taking.{solved_block}
 use Rattle.sparse_solve.proofs.substitution.solve_columns.Goals as goal
 
-pub solve_block-requires-clause-pivots : goal.solve_block-requires-clause-pivots
-solve_block-requires-clause-pivots g c = c.requires.pivots (omega (arith, c.loop-first-test.true, c.ncols-ncols.ensures))
+pub loop-from-init : goal.loop-from-init
+loop-from-init g c = solved_none g.T.Ring.ring g.T.Ring.value g.T.Zero.zero_value (op_lower g.T.Ring.ring g.T.Ring.value (λ m. m.now) c.args.l) c.args.b.now
 
-pub loop-first-preserved : goal.loop-first-preserved
-loop-first-preserved g c =
-    let R = g.T.Ring.ring in
-    let f = g.T.Ring.value in
-    let first = c.loop-first.first in
-    solved_block R f g.T.Zero.zero_value (plain_lower R (plain_of_cols R f c.args.l.now)).value first (first + c.min.result) c.args.b.now c.loop-first.b c.solve_block.new.b (omega arith) c.loop-first.invariant c.solve_block.ensures
+pub solve_next-from-requires-clause-pivots : goal.solve_next-from-requires-clause-pivots
+solve_next-from-requires-clause-pivots g c = c.requires.pivots (omega (arith, c.loop-from-test.true, c.ncols-ncols.ensures))
+
+pub loop-from-preserved : goal.loop-from-preserved
+loop-from-preserved g c = solved_block g.T.Ring.ring g.T.Ring.value g.T.Zero.zero_value (op_lower g.T.Ring.ring g.T.Ring.value (λ m. m.now) c.args.l) c.loop-from.from c.solve_next-from.result c.args.b.now c.loop-from.b c.solve_next-from.new.b (omega (arith, c.solve_next-from.ensures.order)) c.loop-from.invariant c.solve_next-from.ensures.solved
+
+pub returns : goal.returns
+returns g c = solved_all g.T.Ring.ring g.T.Ring.value g.T.Zero.zero_value (op_lower g.T.Ring.ring g.T.Ring.value (λ m. m.now) c.args.l) c.loop-from.b c.args.b.now c.loop-from.from (omega (arith, c.loop-from-test.false, c.ncols-ncols.ensures)) c.loop-from.invariant

@@ -1,14 +1,11 @@
 use Rattle.std.proofs.Common.{◌<◌, ℕ, sym, ◌∙◌, refl, arith}
 use Rattle.sparse_op.specs.Operands.{inner_of}
 use Rattle.sparse_base.specs.DensePlain.{plain_of_dense}
-use Rattle.sparse_algebra.specs.Plain.{plain_transpose}
-use Rattle.sparse_algebra.proofs.PlainLaws.{proper_transpose, within_transpose}
 use Rattle.sparse_cs.specs.PlainOfLanes.{plain_of_cols}
 use Rattle.sparse_solve.specs.Solutions.{plain_lower}
-use Rattle.sparse_solve.proofs.PlainSolutions.{plain_solution, lower_proper, lower_within}
+use Rattle.sparse_solve.proofs.PlainSolutions.{op_solution}
 use Rattle.sparse_cs.proofs.Arrays.{proper_rows}
 use Rattle.sparse_solve.proofs.UniqueSolutions.{pivot_of_lower, lower_has_pivot, op_one_solution}
-use Rattle.sparse_solve.proofs.triangular.spsolve_csc_lower_triangular.Goals.{in-NoOp, in-Transpose}
 use Rattle.sparse_solve.proofs.triangular.spsolve_csc_lower_triangular.Goals as goal
 
 pub returns-then-not-can_solve-clause-singular : goal.returns-then-not-can_solve-clause-singular
@@ -21,34 +18,12 @@ returns-then-not-can_solve-clause-singular g c =
     (λ _. (singular.0, (singular.1.0, singular.1.1, λ pivot. singular.1.2 (pivot_of_lower R f a proper singular.1.0 pivot))), λ _. refl)
 
 pub solve_columns-requires-clause-pivots : goal.solve_columns-requires-clause-pivots
-solve_columns-requires-clause-pivots g c = rw (c.into_inner.ensures, c.ncols.ensures, c.in-NoOp.is) at c.if-not-can_solve.ensures.cases
-
-pub solve_transposed_columns-requires-clause-pivots : goal.solve_transposed_columns-requires-clause-pivots
-solve_transposed_columns-requires-clause-pivots g c = rw (c.into_inner.ensures, c.ncols.ensures, c.in-Transpose.is) at c.if-not-can_solve.ensures.cases
+solve_columns-requires-clause-pivots g c = rw (c.into_inner.ensures, c.ncols.ensures) at c.if-not-can_solve.ensures.cases
 
 pub returns-clause-solved : goal.returns-clause-solved
 returns-clause-solved g c =
-    let R = g.T.Ring.ring in
-    let f = g.T.Ring.value in
-    let z = g.T.Zero.zero_value in
-    let zero = g.met.T.Ring.zero_law in
-    let b = c.args.b.now in
-    elim c.match-l.branch [
-      | in-NoOp w ↦
-          let m = w.in-NoOp.l.now in
-          let square = rw w.in-NoOp.is at c.requires.square in
-          let rows = rw w.in-NoOp.is at c.requires.rows in
-          let sound = rw (c.into_inner.ensures, c.ncols.ensures, w.in-NoOp.is) at c.if-not-can_solve.ensures.sound in
-          let lower = plain_lower R (plain_of_cols R f m) in
-          rw (w.in-NoOp.is, w.b-is) (plain_solution R f z zero lower w.solve_columns.new.b b (square ∙ sym rows) (sym rows) (lower_proper R f m) (λ some. lower_within R f m (sound some)) w.solve_columns.ensures)
-      | in-Transpose w ↦
-          let m = w.in-Transpose.l.now in
-          let square = rw w.in-Transpose.is at c.requires.square in
-          let rows = rw w.in-Transpose.is at c.requires.rows in
-          let sound = rw (c.into_inner.ensures, c.ncols.ensures, w.in-Transpose.is) at c.if-not-can_solve.ensures.sound in
-          let lower = plain_lower R (plain_of_cols R f m) in
-          rw (w.in-Transpose.is, w.b-is) (plain_solution R f z zero (plain_transpose R lower) w.solve_transposed_columns.new.b b (sym rows) (square ∙ sym rows) (proper_transpose R lower (lower_proper R f m)) (λ some. within_transpose R lower (lower_within R f m (sound some))) w.solve_transposed_columns.ensures)
-    ]
+    let sound = rw (c.into_inner.ensures, c.ncols.ensures) at c.if-not-can_solve.ensures.sound in
+    op_solution g.T.Ring.ring g.T.Ring.value g.T.Zero.zero_value g.met.T.Ring.zero_law (λ m. m.now) c.args.l c.solve_columns.new.b c.args.b.now c.requires.square c.requires.rows sound c.solve_columns.ensures
 
 pub returns-clause-singular : goal.returns-clause-singular
 returns-clause-singular g c =
@@ -67,6 +42,6 @@ returns-clause-above g c = λ m x same solves i j row col.
     let b = c.args.b.now in
     let pivots = rw (c.into_inner.ensures, c.ncols.ensures) at c.if-not-can_solve.ensures.cases in
     let some : 0 < b.ncols = omega arith in
-    op_one_solution R (λ m. plain_of_cols R f m.now) c.args.l (plain_lower R (plain_of_cols R f m)) x (plain_of_dense R f c.match-l.b) (plain_of_dense R f b) b.ncols
+    op_one_solution R (λ m. plain_of_cols R f m.now) c.args.l (plain_lower R (plain_of_cols R f m)) x (plain_of_dense R f c.solve_columns.new.b) (plain_of_dense R f b) b.ncols
     (λ i j. proper_rows R f l j i) (sym c.requires.square) (λ k lt. let pivot = pivots some k lt in (f pivot.1.0, pivot.1.1)) same solves (returns-clause-solved g c)
     i j (omega (arith, row, c.requires.rows, c.requires.square)) col

@@ -9,7 +9,11 @@ loop-step-init g c =
     let T = g.T.Ring in
     let R = T.ring in
     let x = T.value c.args.x in
-    ap (one_minus R) (ap (R.mul x) c.one-inverse.ensures ∙ R.laws.mul_one x)
+    let missing_is = c.add-missing.ensures ∙ ap (λ z. R.add z (T.value c.neg.result)) c.one.ensures ∙ ap (R.add R.one) c.neg.ensures in
+    record {
+      steps = missing_is;
+      rest = ap (one_minus R) (ap (R.mul x) c.one-inverse.ensures ∙ R.laws.mul_one x) ∙ sym missing_is;
+    }
 
 pub loop-step-preserved : goal.loop-step-preserved
 loop-step-preserved g c =
@@ -17,9 +21,13 @@ loop-step-preserved g c =
     let R = T.ring in
     let x = T.value c.args.x in
     let y = T.value c.loop-step.inverse in
-    let rest_is = c.add-rest.ensures ∙ ap (λ z. R.add z (T.value c.neg.result)) c.one.ensures ∙ ap (R.add R.one) (c.neg.ensures ∙ ap R.neg c.mul.ensures) in
-    let next_is = c.mul-inverse.ensures ∙ ap (R.mul y) (c.add.ensures ∙ ap (λ z. R.add z (T.value c.add-rest.result)) c.one-in-loop-step.ensures ∙ ap (R.add R.one) rest_is) in
-    rw add-one (ap (λ z. one_minus R (R.mul x z)) next_is ∙ newton_step R x y ∙ ap (λ z. R.mul z z) c.loop-step.invariant)
+    let m = T.value c.loop-step.missing in
+    let rest = c.loop-step.invariant.rest in
+    let next_is = c.mul-inverse.ensures ∙ ap (R.mul y) (c.add.ensures ∙ ap (λ z. R.add z m) c.one-in-loop-step.ensures ∙ ap (R.add R.one) (sym rest)) in
+    record {
+      steps = rw add-one (c.mul-missing.ensures ∙ ap (λ z. R.mul z z) c.loop-step.invariant.steps);
+      rest = ap (λ z. one_minus R (R.mul x z)) next_is ∙ newton_step R x y ∙ ap (λ z. R.mul z z) rest ∙ sym c.mul-missing.ensures;
+    }
 
 pub returns-then-eq : goal.returns-then-eq
 returns-then-eq g c =
@@ -27,8 +35,7 @@ returns-then-eq g c =
     let R = T.ring in
     let x = T.value c.args.x in
     let k = c.loop-step._step in
-    let rest_is = c.add-rest.ensures ∙ ap (λ z. R.add z (T.value c.neg.result)) c.one.ensures ∙ ap (R.add R.one) (c.neg.ensures ∙ ap R.neg c.mul.ensures) in
-    let same = (g.met.T.Ring.eq_law c.add-rest.result c.zero.result).0 (sym c.eq.ensures ∙ c.if-eq.true) in
-    let none : one_minus R (R.mul x (T.value c.loop-step.inverse)) ≡ R.zero = sym rest_is ∙ same ∙ ap T.value c.zero.ensures ∙ g.met.T.Ring.zero_law in
+    let same = (g.met.T.Ring.eq_law c.loop-step.missing c.zero.result).0 (sym c.eq.ensures ∙ c.if-eq.true) in
+    let none : T.value c.loop-step.missing ≡ R.zero = same ∙ ap T.value c.zero.ensures ∙ g.met.T.Ring.zero_law in
     let le : k ≤ c.args.steps = omega arith in
-    none ∙ sym (squared-zero R k c.args.steps (one_minus R x) le (sym c.loop-step.invariant ∙ none))
+    c.loop-step.invariant.rest ∙ none ∙ sym (squared-zero R k c.args.steps (one_minus R x) le (sym c.loop-step.invariant.steps ∙ none))

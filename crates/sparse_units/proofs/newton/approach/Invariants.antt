@@ -5,4 +5,7 @@ use Rattle.sparse_units.proofs.newton.approach.Given as goal
 abbrev pub invariant-loop-step : goal.invariant-loop-step
 invariant-loop-step g l =
     let T = g.T.Ring in
-    one_minus T.ring (T.ring.mul (T.value l.x) (T.value l.inverse)) ≡ squared T.ring l._step (one_minus T.ring (T.value l.x))
+    record {
+      steps : T.value l.missing ≡ squared T.ring l._step (one_minus T.ring (T.value l.fn.x));
+      rest : one_minus T.ring (T.ring.mul (T.value l.fn.x) (T.value l.inverse)) ≡ T.value l.missing;
+    }

@@ -1,6 +1,6 @@
 use Rattle.std.proofs.Common.{◌≡◌, length, take}
 use Rattle.sparse_solve.specs.InnerColumns.{dot_of, entries}
-use Rattle.sparse_solve.proofs.substitution.dot.Given as goal
+use Rattle.sparse_solve.proofs.kernels.dot.Given as goal
 
 abbrev pub invariant-loop-row : goal.invariant-loop-row
 invariant-loop-row g l =

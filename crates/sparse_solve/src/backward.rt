@@ -1,0 +1,67 @@
+//! Backward substitution with the transpose of a lower triangle: the column below the diagonal is the row of the transpose behind it.
+
+ghost use Rattle.std.specs.Prelude.{◌≡◌, length};
+ghost use Rattle.sparse_cs.specs.PlainOfLanes.{plain_of_cols};
+ghost use Rattle.sparse_solve.specs.InnerColumns.{HasPivots, SolvesList, lower};
+
+use crate::column::column_below;
+use crate::kernels::{dot, four_dots};
+use sparse_forms::csc::CscMatrix;
+use sparse_units::Units;
+
+// Solves `T^t x = b` over b, from the last row to the first.
+pub fn solve_backward<T: Units>(l: &CscMatrix<T>, x: &mut [T])
+    requires square { l.now.pattern.minor_dim ≡ l.now.pattern.major_dim }
+    requires rows { length x.old ≡ l.now.pattern.major_dim }
+    requires pivots { HasPivots T.ring T.value (plain_of_cols T.ring T.value l.now) }
+    ensures { SolvesList T.ring T.value T.zero_value (λ i j. lower T.ring T.value l.now j i)
+        x.new x.old }
+{
+    let count = x.len();
+    for step in 0..count {
+        let k = count - 1 - step;
+        let Some(column) = column_below(l, k) else {
+            return;
+        };
+        let known = dot(column.rows, column.values, x);
+        x[k] = x[k].add(known.neg()).mul(column.inverse);
+    }
+}
+
+// Solves `T^t x = b` over each of four columns, so that each column of T is read once for them.
+pub fn solve_four_backward<T: Units>(
+    l: &CscMatrix<T>,
+    first: &mut [T],
+    second: &mut [T],
+    third: &mut [T],
+    fourth: &mut [T],
+)
+    requires square { l.now.pattern.minor_dim ≡ l.now.pattern.major_dim }
+    requires rows { length first.old ≡ l.now.pattern.major_dim }
+    requires rows_2 { length second.old ≡ length first.old }
+    requires rows_3 { length third.old ≡ length first.old }
+    requires rows_4 { length fourth.old ≡ length first.old }
+    requires pivots { HasPivots T.ring T.value (plain_of_cols T.ring T.value l.now) }
+    ensures first { SolvesList T.ring T.value T.zero_value (λ i j. lower T.ring T.value l.now j i)
+        first.new first.old }
+    ensures second { SolvesList T.ring T.value T.zero_value (λ i j. lower T.ring T.value l.now j i)
+        second.new second.old }
+    ensures third { SolvesList T.ring T.value T.zero_value (λ i j. lower T.ring T.value l.now j i)
+        third.new third.old }
+    ensures fourth { SolvesList T.ring T.value T.zero_value (λ i j. lower T.ring T.value l.now j i)
+        fourth.new fourth.old }
+{
+    let count = first.len();
+    for step in 0..count {
+        let k = count - 1 - step;
+        let Some(column) = column_below(l, k) else {
+            return;
+        };
+        let (a, b, c, d) = four_dots(column.rows, column.values, first, second, third, fourth);
+        let e = column.inverse;
+        first[k] = first[k].add(a.neg()).mul(e);
+        second[k] = second[k].add(b.neg()).mul(e);
+        third[k] = third[k].add(c.neg()).mul(e);
+        fourth[k] = fourth[k].add(d.neg()).mul(e);
+    }
+}

@@ -1,0 +1,112 @@
+//! Forward substitution, column by column of a lower triangle.
+
+ghost use Rattle.std.specs.Prelude.{◌≡◌, ◌<◌, All, length};
+ghost use Rattle.sparse_cs.specs.PlainOfLanes.{plain_of_cols};
+ghost use Rattle.sparse_cs.specs.InnerRows.{lane_value};
+ghost use Rattle.sparse_solve.specs.InnerColumns.{HasPivots, SolvesList, TakesAnswer, lower};
+
+use crate::column::{Column, column_below};
+use crate::kernels::{divide_entry, take_off, take_off_four};
+use sparse_algebra::scalar::Ring;
+use sparse_forms::csc::CscMatrix;
+use sparse_units::Units;
+
+// Solves `T x = b` over b, from the first row to the last.
+pub fn solve_forward<T: Units>(l: &CscMatrix<T>, x: &mut [T])
+    requires square { l.now.pattern.minor_dim ≡ l.now.pattern.major_dim }
+    requires rows { length x.old ≡ l.now.pattern.major_dim }
+    requires pivots { HasPivots T.ring T.value (plain_of_cols T.ring T.value l.now) }
+    ensures { SolvesList T.ring T.value T.zero_value (lower T.ring T.value l.now) x.new x.old }
+{
+    for k in 0..x.len() {
+        let Some(column) = column_below(l, k) else {
+            return;
+        };
+        take_answer(&column, k, x);
+    }
+}
+
+// Solves `T x = b` over each of four columns, so that each column of T is read once for them.
+pub fn solve_four_forward<T: Units>(
+    l: &CscMatrix<T>,
+    first: &mut [T],
+    second: &mut [T],
+    third: &mut [T],
+    fourth: &mut [T],
+)
+    requires square { l.now.pattern.minor_dim ≡ l.now.pattern.major_dim }
+    requires rows { length first.old ≡ l.now.pattern.major_dim }
+    requires rows_2 { length second.old ≡ length first.old }
+    requires rows_3 { length third.old ≡ length first.old }
+    requires rows_4 { length fourth.old ≡ length first.old }
+    requires pivots { HasPivots T.ring T.value (plain_of_cols T.ring T.value l.now) }
+    ensures first { SolvesList T.ring T.value T.zero_value (lower T.ring T.value l.now)
+        first.new first.old }
+    ensures second { SolvesList T.ring T.value T.zero_value (lower T.ring T.value l.now)
+        second.new second.old }
+    ensures third { SolvesList T.ring T.value T.zero_value (lower T.ring T.value l.now)
+        third.new third.old }
+    ensures fourth { SolvesList T.ring T.value T.zero_value (lower T.ring T.value l.now)
+        fourth.new fourth.old }
+{
+    for k in 0..first.len() {
+        let Some(column) = column_below(l, k) else {
+            return;
+        };
+        take_four_answers(&column, k, first, second, third, fourth);
+    }
+}
+
+// Takes the answer of row k, and what it adds to the rows below off them.
+fn take_answer<T: Ring>(column: &Column<'_, T>, k: usize, x: &mut [T])
+    requires row { k < length x.old }
+    requires fits { length column.now.values.now ≡ length column.now.rows.now }
+    requires inside { All (λ i. i < length x.old) column.now.rows.now }
+    requires above { lane_value T.ring T.value column.now.rows.now column.now.values.now k ≡ T.ring.zero }
+    ensures { TakesAnswer T.ring T.value T.zero_value k column.now.rows.now column.now.values.now
+        column.now.inverse x.old x.new }
+{
+    let answer = divide_entry(k, column.inverse, x);
+    take_off(answer, column.rows, column.values, x);
+}
+
+// The same in each of four columns.
+fn take_four_answers<T: Ring>(
+    column: &Column<'_, T>,
+    k: usize,
+    first: &mut [T],
+    second: &mut [T],
+    third: &mut [T],
+    fourth: &mut [T],
+)
+    requires row { k < length first.old }
+    requires fits { length column.now.values.now ≡ length column.now.rows.now }
+    requires inside { All (λ i. i < length first.old) column.now.rows.now }
+    requires above { lane_value T.ring T.value column.now.rows.now column.now.values.now k ≡ T.ring.zero }
+    requires rows_2 { length second.old ≡ length first.old }
+    requires rows_3 { length third.old ≡ length first.old }
+    requires rows_4 { length fourth.old ≡ length first.old }
+    ensures first { TakesAnswer T.ring T.value T.zero_value k column.now.rows.now
+        column.now.values.now column.now.inverse first.old first.new }
+    ensures second { TakesAnswer T.ring T.value T.zero_value k column.now.rows.now
+        column.now.values.now column.now.inverse second.old second.new }
+    ensures third { TakesAnswer T.ring T.value T.zero_value k column.now.rows.now
+        column.now.values.now column.now.inverse third.old third.new }
+    ensures fourth { TakesAnswer T.ring T.value T.zero_value k column.now.rows.now
+        column.now.values.now column.now.inverse fourth.old fourth.new }
+{
+    let a = divide_entry(k, column.inverse, first);
+    let b = divide_entry(k, column.inverse, second);
+    let c = divide_entry(k, column.inverse, third);
+    let d = divide_entry(k, column.inverse, fourth);
+    let answers = (a, b, c, d);
+    take_off_four(
+        answers,
+        column.rows,
+        column.values,
+        first,
+        second,
+        third,
+        fourth,
+    );
+}
