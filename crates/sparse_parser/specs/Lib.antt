@@ -1,4 +1,5 @@
 pub mod Errors
+pub mod ErrorTexts
 pub mod Reads
 pub mod Bytes
 pub mod Words
@@ -10,5 +11,6 @@ pub mod Meaning
 pub mod InnerBytes
 pub mod InnerReading
 pub mod InnerLines
+pub mod InnerIntegers
 pub mod InnerPlaces
 pub mod InnerSize

@@ -15,6 +15,7 @@ use crate::lines::split_front;
 const SHORT: usize = 19;
 
 /// The number that the digits at the front of a text write, where it fits, and what stands after them.
+#[inline(always)]
 pub fn leading_number(text: &[u8]) -> (Option<usize>, &[u8])
     ensures number { SomeIff result.0
         (digits_value 10 (front is_ascii_digit text.now) < 2 ^ 64)
@@ -128,6 +129,7 @@ fn is_exponent_letter(byte: u8) -> bool
 }
 
 /// What stands after a sign at the front.
+#[inline(always)]
 pub fn after_sign(text: &[u8]) -> &[u8]
     ensures { result.now ≡ without_leading_sign text.now }
 {
