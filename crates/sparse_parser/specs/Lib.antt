@@ -10,6 +10,7 @@ pub mod ArrayPlaces
 pub mod Meaning
 pub mod InnerBytes
 pub mod InnerReading
+pub mod InnerNumbers
 pub mod InnerLines
 pub mod InnerIntegers
 pub mod InnerPlaces

@@ -82,7 +82,7 @@ impl Number<'_> {
     {
         match (self.kind, self.digits) {
             (Kind::Other, _) => Err(Cause::NotAnI128),
-            (_, Some(digits)) => Ok(signed_value(digits, self.word)),
+            (_, Some(digits)) => Ok(with_sign(digits, self.word)),
             (_, None) => long_integer(self.word),
         }
     }
@@ -177,18 +177,6 @@ fn other_number(text: &[u8]) -> Found<'_>
     Found::Number(number, rest)
 }
 
-/// Returns the integer that an optional sign and digits write, given the number of the digits.
-#[tactic(auto, unfolding(crate::specs::Meaning::integer_of))]
-#[inline(always)]
-pub fn signed_value(digits: usize, word: &[u8]) -> i128
-    requires integer { is_integer word.now ≡ true }
-    requires number { WriteNumber word.now (Some digits) }
-    ensures { integer_of word.now ≡ Ok result }
-{
-    with_sign(digits, word)
-}
-
-#[inline(always)]
 fn with_sign(digits: usize, word: &[u8]) -> i128
     ensures { result ≡ (if starts_with_minus word.now then neg_ℤ (pos digits) else pos digits) }
 {

@@ -33,6 +33,7 @@ pub struct Bounds {
 }
 
 /// Returns the matrix of the data lines below a size line.
+#[inline(never)]
 pub fn entries<T: MatrixMarketScalar>(
     alloc: Global,
     header: Header,
@@ -78,6 +79,7 @@ fn line_triplets<T: MatrixMarketScalar>(
     match (header.format, header.field) {
         (Format::Coordinate, Field::Integer) => {
             if let Some((row, col, value, after)) = integer_line(text) {
+                let value = i128::from(value);
                 return Some((integer_triplets(header.symmetry, row, col, value), after));
             }
         }
@@ -88,6 +90,7 @@ fn line_triplets<T: MatrixMarketScalar>(
         }
         (Format::Array, Field::Integer) => {
             if let (Some(at), Some((value, after))) = (at, value_line(text)) {
+                let value = i128::from(value);
                 return Some((value_triplets(header.symmetry, at, value), after));
             }
         }
