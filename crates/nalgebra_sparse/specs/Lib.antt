@@ -91,9 +91,9 @@ pub use Rattle.sparse_parser.specs.Scalars
 pub use Rattle.sparse_parser.specs.Words
 -- reading and writing
 pub use Rattle.sparse_io.specs.Export
-pub use Rattle.sparse_io.specs.IntegerTexts
+pub use Rattle.sparse_market_scalar.specs.IntegerTexts
 pub use Rattle.sparse_io.specs.Out
-pub use Rattle.sparse_io.specs.ScalarTypes
+pub use Rattle.sparse_market_scalar.specs.ScalarTypes
 pub use Rattle.sparse_io.specs.Sink
 pub use Rattle.sparse_io.specs.Written
 -- expressions

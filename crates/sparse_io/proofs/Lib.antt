@@ -1,5 +1,6 @@
 pub mod Buffering
 pub mod EntryLoop
+pub mod IntegerEntries
 pub mod OneMeaning
 pub mod Parts
 pub mod RoundTrip

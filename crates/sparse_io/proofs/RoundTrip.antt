@@ -27,7 +27,7 @@ use Rattle.sparse_parser.specs.InnerReading.{words_of}
 use Rattle.sparse_parser.proofs.WordLaws.{words_are}
 use Rattle.sparse_parser.proofs.NumberLaws.{digits-of, integer-number, index-number}
 use Rattle.sparse_parser.proofs.Fronts.{Passes}
-use Rattle.sparse_io.specs.IntegerTexts.{decimal-index, decimal-value}
+use Rattle.sparse_market_scalar.specs.IntegerTexts.{decimal-index, decimal-value}
 use Rattle.sparse_io.specs.Written.{heading, size_line, triplet_line, written_text, text_of}
 
 -- ---- words of a written text

@@ -3,18 +3,25 @@ use Rattle.std.specs.Prelude.{◌≡◌, ℕ, Bool, true, List, [], ◌∷◌, O
 use Rattle.sparse_pattern.specs.declared.error.SparseFormatErrorKind.TheVariants.{IndexOutOfBounds}
 use Rattle.sparse_base.specs.Coo.{Coo}
 use Rattle.sparse_parser.specs.declared.error.MatrixMarketErrorKind.TheVariants.{EntryMismatch, SparseFormatError}
+use Rattle.sparse_parser.specs.declared.header.Symmetry.{Symmetry}
 use Rattle.sparse_parser.specs.declared.header.Header.{Header}
 use Rattle.sparse_parser.specs.Bytes.{after}
 use Rattle.sparse_parser.specs.InnerBytes.{is_within_line}
 use Rattle.sparse_parser.specs.Grammar.{is_entry}
-use Rattle.sparse_parser.specs.Reads.{Read}
+use Rattle.sparse_parser.specs.Reads.{Read, ◌>>=◌}
 use Rattle.sparse_parser.specs.Scalars.{Scalar}
-use Rattle.sparse_parser.specs.Meaning.{Triplet, triplets_of}
+use Rattle.sparse_parser.specs.Meaning.{Triplet, placed, mirrored, triplets_of}
 use Rattle.sparse_parser.specs.InnerReading.{line_words}
 
-abbrev pub both_of : {T : Type 0} → (ℕ × ℕ × T) × Option (ℕ × ℕ × T) → List (ℕ × ℕ × T)
-both_of (first, None) = first ∷ []
-both_of (first, Some second) = first ∷ second ∷ []
+-- an entry, and the mirrored one where it has a value
+abbrev pub both_of : {T : Type 0} → (ℕ × ℕ × T) × Option T → List (ℕ × ℕ × T)
+both_of (entry, None) = entry ∷ []
+both_of (entry, Some value) = entry ∷ (entry.1, entry.0, value) ∷ []
+
+-- the triplets of a value at a place
+abbrev pub triplets_at : (S : Scalar) → Symmetry → Read (ℕ × ℕ) → Read S.Value
+    → Read (List (Triplet S.Value))
+triplets_at S symmetry place value = placed S place value >>= mirrored S symmetry
 
 -- where the number of data lines is right and all triplets lie inside, the matrix
 abbrev pub ended_of : {V : Type 0} → Bool → Bool → Coo V → Read (Coo V)

@@ -1,8 +1,7 @@
 pub mod Sink
 pub mod Out
 pub mod Export
-pub mod IntegerTexts
-pub mod ScalarTypes
+pub mod Files
 pub mod Written
 pub mod InnerEntries
 pub mod InnerWriting

@@ -1,38 +1,60 @@
 //! Matrix Market files.
 
-ghost use Rattle.std.specs.Prelude.{◌≡◌, ◌⊎◌, IfErr};
+ghost use Rattle.std.specs.Prelude.{◌≡◌, ◌⊎◌, ℕ, List, IfOk, IfErr, Ok, Err};
+ghost use Rattle.std.specs.Io.KnownBytes.{Appends};
 ghost use Rattle.std.specs.IoError.{error_kind};
+ghost use Rattle.sparse_parser.specs.Errors.{kind_of};
+ghost use Rattle.sparse_parser.specs.Meaning.{Means, values_of};
+ghost use Rattle.sparse_io.specs.Files.{file_fault, IsFileFault};
+ghost use Rattle.sparse_io.specs.Written.{text_of};
 
 use crate::export::MatrixMarketExport;
 use crate::out::Out;
 use crate::reader::load_coo_from_matrix_market_str;
-use crate::scalar::MatrixMarketScalar;
 use crate::writer::save_to_matrix_market;
 use sparse_base::coo::CooMatrix;
+use sparse_market_scalar::MatrixMarketScalar;
 use sparse_parser::error::MatrixMarketError;
-use std::alloc::AllocError;
+use std::alloc::{AllocError, Global};
 use std::fs::{self, File};
 use std::io::{self, Write};
 use std::rt::Files;
 
 /// Returns the matrix that a file in the Matrix Market format holds.
 ///
-/// The text is read as [`load_coo_from_matrix_market_str`] reads it. A file that can't be opened or read is `IOError` of its kind,
-/// as one that is not UTF-8 is `IOError(InvalidData)`; `OutOfMemory` comes where an allocation fails, in opening and reading too.
+/// The text is read as [`load_coo_from_matrix_market_str`] reads it.
+///
+/// # Errors
+///
+/// Returns the errors of [`load_coo_from_matrix_market_str`]. Returns `IOError` with its kind if the file cannot be opened or read, and
+/// `IOError(InvalidData)` if it is not UTF-8. Returns `OutOfMemory` if an allocation fails, also in opening and reading.
+///
+/// No contract describes what a file holds. It is proved that a matrix is the meaning of some text, and that an error is that of some
+/// text or one of the two kinds of a file.
 pub fn load_coo_from_matrix_market_file<T: MatrixMarketScalar>(
     rt: &(impl Files + AllocGlobal),
     path: &str,
-) -> Result<CooMatrix<T>, MatrixMarketError> {
+) -> Result<CooMatrix<T>, MatrixMarketError>
+    ensures ok { IfOk result (λ m. (text : List ℕ) × Means T.scalar text (Ok (values_of T.value m))) }
+    ensures refused { IfErr result (λ e. IsFileFault (kind_of e)
+        ⊎ ((text : List ℕ) × Means T.scalar text (Err (kind_of e)))) }
+{
     match fs::read_to_string(rt, path) {
         Ok(text) => load_coo_from_matrix_market_str(rt.alloc(), text.as_str()),
         Err(fault) => Err(file_fault(fault)),
     }
 }
 
-/// Writes a matrix to a file, which is made anew, and flushes it.
+/// Creates a file, or empties it, writes a matrix to it and flushes it.
 ///
-/// The text is that of [`save_to_matrix_market`]. A file that can't be made, written or flushed is `IOError` of the kind;
-/// `OutOfMemory` comes where an allocation fails. The file then holds a prefix of the text.
+/// The text is that of [`save_to_matrix_market`].
+///
+/// # Errors
+///
+/// Returns `IOError` with its kind if the file cannot be created, written or flushed. Returns `OutOfMemory` if an allocation fails. The
+/// file then holds a prefix of the text.
+///
+/// No contract describes what a file holds. It is proved which kinds of errors come.
 pub fn save_to_matrix_market_file<T, S>(
     rt: &(impl Files + AllocGlobal),
     matrix: &S,
@@ -41,29 +63,40 @@ pub fn save_to_matrix_market_file<T, S>(
 where
     T: MatrixMarketScalar,
     S: MatrixMarketExport<T>,
+    ensures { IfErr result (λ e. IsFileFault (kind_of e)) }
 {
     match File::create(rt, path) {
-        Ok(file) => write_file(rt, matrix, file),
+        Ok(file) => match save_whole(rt.alloc(), file, matrix) {
+            Ok(_) => Ok(()),
+            Err(error) => Err(error),
+        },
         Err(fault) => Err(file_fault(fault)),
     }
 }
 
-fn write_file<T, S, W>(rt: &impl AllocGlobal, matrix: &S, file: W) -> Result<(), MatrixMarketError>
+// Writes the text of a matrix to a writer and flushes it.
+fn save_whole<T, S, W>(alloc: Global, writer: W, matrix: &S) -> Result<W, MatrixMarketError>
 where
     T: MatrixMarketScalar,
     S: MatrixMarketExport<T>,
     W: Write + Drop,
+    ensures written { IfOk result (λ w. Appends (W.contents writer) (W.contents w)
+        (text_of T.scalar.name (λ x. T.scalar.text (T.value x)) (S.exported matrix.now))) }
+    ensures refused { IfErr result (λ e. IsFileFault (kind_of e)) }
 {
-    let mut out = Out::new(file);
-    save_to_matrix_market(rt.alloc(), &mut out, matrix)?;
-    match out.into_inner().flush() {
-        Ok(()) => Ok(()),
-        Err(fault) => Err(file_fault(fault)),
+    let mut out = Out::new(writer);
+    save_to_matrix_market(alloc, &mut out, matrix)?;
+    let mut writer = out.into_inner();
+    match writer.flush() {
+        Ok(()) => Ok(writer),
+        Err(fault) => Err(fault.into()),
     }
 }
 
-// A fault in opening, making, reading or writing a file.
-fn file_fault(fault: io::Error) -> MatrixMarketError {
+// The error of a fault in opening, creating or reading a file.
+fn file_fault(fault: io::Error) -> MatrixMarketError
+    ensures { kind_of result ≡ file_fault (error_kind fault) }
+{
     match fault.kind() {
         io::ErrorKind::OutOfMemory => AllocError.into(),
         kind => kind.into(),

@@ -8,7 +8,7 @@ ghost use Rattle.sparse_parser.specs.Reads.{Read};
 ghost use Rattle.sparse_parser.specs.Meaning.{Means};
 ghost use Rattle.sparse_io.specs.Written.{text_of};
 
-use crate::scalar::MatrixMarketScalar;
+use sparse_market_scalar::MatrixMarketScalar;
 
 /// A text has at most one header, one size line and one list of data lines.
 pub fn one_document()

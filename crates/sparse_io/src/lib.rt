@@ -6,7 +6,6 @@ mod files;
 mod laws;
 mod out;
 mod reader;
-mod scalar;
 mod sinks;
 mod writer;
 
@@ -15,7 +14,7 @@ pub use files::{load_coo_from_matrix_market_file, save_to_matrix_market_file};
 pub use laws::{each_text_means, one_document, one_meaning, round_trip};
 pub use out::Out;
 pub use reader::load_coo_from_matrix_market_str;
-pub use scalar::MatrixMarketScalar;
 pub use sinks::{Sink, write_all_to};
+pub use sparse_market_scalar::MatrixMarketScalar;
 pub use sparse_parser::error::{MatrixMarketError, MatrixMarketErrorKind};
 pub use writer::{save_to_matrix_market, save_to_matrix_market_str};

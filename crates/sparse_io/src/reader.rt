@@ -6,9 +6,9 @@ ghost use Rattle.sparse_parser.specs.Errors.{kind_of, kind_of_cause};
 ghost use Rattle.sparse_parser.specs.Meaning.{Means, values_of};
 ghost use Rattle.sparse_parser.specs.InnerReading.{Gives, contents_of, grammar_kind_of, count_of, settled_of, body_of, read};
 
-use crate::scalar::MatrixMarketScalar;
 use entries::entries;
 use sparse_base::coo::CooMatrix;
+use sparse_market_scalar::MatrixMarketScalar;
 use sparse_parser::data_lines::data_line;
 use sparse_parser::error::{Cause, MatrixMarketError};
 use sparse_parser::header::Header;

@@ -9,10 +9,10 @@ ghost use Rattle.sparse_io.specs.Written.{heading, size_line, triplet_line, text
 ghost use Rattle.sparse_io.specs.InnerWriting.{head_of, IsBuffered};
 
 use crate::export::MatrixMarketExport;
-use crate::scalar::MatrixMarketScalar;
 use crate::sinks::{Sink, write_all_to};
 use indices::format_indices;
 use itoa::Buffer;
+use sparse_market_scalar::MatrixMarketScalar;
 use sparse_parser::error::MatrixMarketError;
 use std::alloc::{AllocError, Global};
 

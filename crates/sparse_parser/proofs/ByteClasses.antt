@@ -46,6 +46,9 @@ solid_within_line b e = grind (arith, nat_tests)
 pub unsolid_no_digit : (b : ℕ) → is_solid b ≡ false → is_ascii_digit b ≡ false
 unsolid_no_digit b e = grind (arith, nat_tests)
 
+pub space_no_digit : (b : ℕ) → is_space b ≡ true → is_ascii_digit b ≡ false
+space_no_digit b e = grind (arith, nat_tests)
+
 pub unsolid_space : (b : ℕ) → is_solid b ≡ false → is_space b ≡ true
 unsolid_space b e = grind (arith, nat_tests)
 

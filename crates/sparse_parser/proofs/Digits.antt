@@ -1,5 +1,5 @@
 -- The number that digits write, digit by digit.
-use Rattle.std.proofs.Common.{◌≡◌, ℕ, ◌+◌, ◌-◌, ◌*◌, ◌^◌, ◌≤◌, ◌<◌, Bool, true, false, cond, eqb, List, [], ◌∷◌, length, get_or, drop, Result, Ok, Err, Option, refl, sym, ap, subst, ◌∙◌, arith, rules}
+use Rattle.std.proofs.Common.{◌≡◌, ℕ, ◌+◌, ◌-◌, ◌*◌, ◌^◌, ◌≤◌, ◌<◌, min, Bool, true, false, cond, ltb, eqb, inl, inr, length-drop, List, [], ◌∷◌, length, get_or, drop, Result, Ok, Err, Option, refl, sym, ap, subst, ◌∙◌, arith, rules}
 use Rattle.std.specs.List.{list_all}
 use Rattle.std.specs.Option.{SomeIff}
 use Rattle.std.specs.Result.{OkIff, result_ok, MatchResult, IsOk}
@@ -11,7 +11,7 @@ use Rattle.std.proofs.lemmas.Str.Parse.{IsNumeralModel, numerals_by_value}
 use Rattle.std.proofs.lemmas.Str.Ascii.{IsAscii-cons}
 use Rattle.std.proofs.lemmas.Str.{IsUtf8-from_ascii}
 use Rattle.std.proofs.lemmas.Fmt.{IsAscii-from_digits}
-use Rattle.std.proofs.lemmas.Bool.{ltb-true, eqb-true}
+use Rattle.std.proofs.lemmas.Bool.{ltb-true, ltb-false, eqb-true}
 use Rattle.sparse_lemmas.proofs.Cases.{and_parts}
 use Rattle.sparse_parser.specs.Grammar.{is_index, is_integer}
 use Rattle.std.specs.Char.{is_ascii_digit, digit_value}
@@ -21,7 +21,8 @@ use Rattle.std.proofs.lemmas.Bool.Decides.{nat_tests}
 use Rattle.std.proofs.lemmas.Grind.{pow_more}
 use Rattle.std.proofs.Math.Nat.{pow-le-pow_right}
 use Rattle.sparse_parser.specs.Bytes.{front}
-use Rattle.sparse_parser.proofs.Fronts.{front-yes, list_all-front}
+use Rattle.sparse_parser.specs.InnerNumbers.{HasStopped}
+use Rattle.sparse_parser.proofs.Fronts.{front-yes, front-drop_all, list_all-front}
 
 -- a word that is an index has no other digits
 pub index_number : (word : List ℕ) (n : Option ℕ) → is_index word ≡ true
@@ -107,3 +108,12 @@ short_fits n k d small short digit =
     let next : 10 ^ (k + 1) ≤ 10 ^ 19 = pow-le-pow_right {n = 10} (omega arith) {i = k + 1} {j = 19} (omega arith) in
     let more : 10 ^ (k + 1) ≡ 10 ^ k * 10 = pow_more 10 k in
     omega arith
+
+-- where 19 digits were read or the text ends
+pub stopped_end : (text : List ℕ) (at end : ℕ) → end ≡ min (length text) 19 → end ≤ at → at ≤ end
+    → HasStopped text (drop at text)
+stopped_end text at end e ge le = by (ltb at (length text)) refl
+  where
+    by : (t : Bool) → ltb at (length text) ≡ t → HasStopped text (drop at text)
+    by true f = inr (omega (arith, length-drop at text, ltb-true _ _ f))
+    by false f = inl (front-drop_all is_ascii_digit text at (ltb-false _ _ f))

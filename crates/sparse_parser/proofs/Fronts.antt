@@ -73,6 +73,9 @@ front-append-after p (b ∷ text) = by (p b) refl (front-append-after p text)
     by true e h = rw e (ap (λ (t : List ℕ). b ∷ t) h)
     by false e h = rw e refl
 
+pub after-none : (p : ℕ → Bool) (text : List ℕ) → front p text ≡ [] → after p text ≡ text
+after-none p text e = ap (λ (t : List ℕ). t ++ after p text) (sym e) ∙ front-append-after p text
+
 -- every byte passes
 abbrev pub Passes : (ℕ → Bool) → List ℕ → Type 0
 Passes p text = AllByRecursion (λ b. p b ≡ true) text

@@ -2,6 +2,7 @@ pub mod ByteClasses
 pub mod Digits
 pub mod EntryLaws
 pub mod FirstWord
+pub mod IntegerLaws
 pub mod Fronts
 pub mod LineLaws
 pub mod LineShapes

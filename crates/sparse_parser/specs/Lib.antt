@@ -1,4 +1,5 @@
 pub mod Errors
+pub mod ErrorTexts
 pub mod Reads
 pub mod Bytes
 pub mod Words
@@ -9,6 +10,8 @@ pub mod ArrayPlaces
 pub mod Meaning
 pub mod InnerBytes
 pub mod InnerReading
+pub mod InnerNumbers
 pub mod InnerLines
+pub mod InnerIntegers
 pub mod InnerPlaces
 pub mod InnerSize

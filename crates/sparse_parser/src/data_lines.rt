@@ -8,11 +8,11 @@ ghost use Rattle.sparse_parser.specs.Bytes.{is_blank, front, after};
 ghost use Rattle.sparse_parser.specs.InnerBytes.{is_solid};
 ghost use Rattle.sparse_parser.specs.Grammar.{is_integer, is_number, is_entry};
 ghost use Rattle.sparse_parser.specs.Meaning.{integer_of, number_of};
-ghost use Rattle.sparse_parser.specs.InnerReading.{found as found_read, found_number, ends_line, line_words};
-ghost use Rattle.sparse_parser.specs.InnerLines.{is_plain, WriteNumber, IsNumber, IsFound, IsLine, StartsWord, ends_word};
+ghost use Rattle.sparse_parser.specs.InnerReading.{found as found_read, found_number, line_words};
+ghost use Rattle.sparse_parser.specs.InnerLines.{is_plain, WriteNumber, IsNumber, IsFound, IsLine, StartsWord};
 
 use crate::error::Cause;
-use crate::lines::{after_blanks, is_line_end, is_space, split_solid};
+use crate::lines::{after_blanks, ends_line, ends_word, split_solid};
 use crate::numbers::{after_sign, integer, is_number, leading_number};
 
 /// What a number is made of.
@@ -88,45 +88,6 @@ impl Number<'_> {
     }
 }
 
-/// Returns the line at the front of a text where it is two indices and an integer.
-#[tactic(auto, unfolding(crate::specs::Grammar::is_entry))]
-#[inline(always)]
-pub fn entry_line(text: &[u8]) -> Option<(Line<'_>, &[u8])>
-    ensures { MatchOption result (Unit {0}) (λ found. IsLine text.now found.0 found.1.now) }
-{
-    let (a, rest) = whole_number(text)?;
-    let (b, rest) = whole_number(rest)?;
-    let (c, rest) = whole_number(rest)?;
-    let end = line_end(rest)?;
-    if !a.is_index() || !b.is_index() {
-        return None;
-    }
-    Some((Line::Three(a, b, c), end))
-}
-
-/// Returns the line at the front of a text where it is two indices or integers.
-#[tactic(auto, unfolding(crate::specs::Grammar::is_entry))]
-#[inline(always)]
-pub fn place_line(text: &[u8]) -> Option<(Line<'_>, &[u8])>
-    ensures { MatchOption result (Unit {0}) (λ found. IsLine text.now found.0 found.1.now) }
-{
-    let (a, rest) = whole_number(text)?;
-    let (b, rest) = whole_number(rest)?;
-    let end = line_end(rest)?;
-    Some((Line::Two(a, b), end))
-}
-
-/// Returns the line at the front of a text where it is an integer.
-#[tactic(auto, unfolding(crate::specs::Grammar::is_entry))]
-#[inline(always)]
-pub fn value_line(text: &[u8]) -> Option<(Line<'_>, &[u8])>
-    ensures { MatchOption result (Unit {0}) (λ found. IsLine text.now found.0 found.1.now) }
-{
-    let (a, rest) = whole_number(text)?;
-    let end = line_end(rest)?;
-    Some((Line::One(a), end))
-}
-
 /// Returns the numbers of the line at the front of a text, and what stands after it, or nothing where it is no data line.
 #[tactic(auto, unfolding(crate::specs::Grammar::is_entry))]
 #[inline(never)]
@@ -176,15 +137,6 @@ fn next_number(text: &[u8]) -> Found<'_>
     other_number(text)
 }
 
-// The line's end, after blanks.
-#[inline(always)]
-fn line_end(text: &[u8]) -> Option<&[u8]>
-    ensures { MatchOption result (Unit {0}) (λ rest. IsFound text.now (found.End rest)) }
-{
-    let rest = after_blanks(text);
-    if ends_line(rest) { Some(rest) } else { None }
-}
-
 // An integer at the front of a line, after blanks.
 #[inline(always)]
 fn whole_number(text: &[u8]) -> Option<(Number<'_>, &[u8])>
@@ -223,24 +175,6 @@ fn other_number(text: &[u8]) -> Found<'_>
         kind: Kind::Other,
     };
     Found::Number(number, rest)
-}
-
-fn ends_line(text: &[u8]) -> bool
-    ensures { result ≡ ends_line text.now }
-{
-    match text {
-        [] => true,
-        [byte, ..] => is_line_end(*byte),
-    }
-}
-
-fn ends_word(text: &[u8]) -> bool
-    ensures { result ≡ ends_word text.now }
-{
-    match text {
-        [] => true,
-        [byte, ..] => is_space(*byte),
-    }
 }
 
 fn with_sign(digits: usize, word: &[u8]) -> i128

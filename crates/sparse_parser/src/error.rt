@@ -4,6 +4,7 @@ ghost use Rattle.std.specs.Prelude.{◌≡◌};
 ghost use Rattle.std.specs.IoError.{error_kind};
 ghost use Rattle.sparse_parser.specs.declared.error.MatrixMarketErrorKind.TheVariants.{ParsingError, TypeMismatch, SparseFormatError, IOError, OutOfMemory};
 ghost use Rattle.sparse_parser.specs.Errors.{kind_of, kind_of_cause};
+ghost use Rattle.sparse_parser.specs.ErrorTexts.{kind_name, cause_message, message_of};
 
 use sparse_pattern::error::{SparseFormatError, SparseFormatErrorKind};
 use std::alloc::{AllocError, AllocFailed};
@@ -40,7 +41,9 @@ pub enum MatrixMarketErrorKind {
 
 impl MatrixMarketErrorKind {
     /// Returns the name of the case, without what it carries.
-    pub fn name(self) -> &'static str {
+    pub fn name(self) -> &'static str
+        ensures { result.now ≡ kind_name self }
+    {
         match self {
             MatrixMarketErrorKind::ParsingError => "ParsingError",
             MatrixMarketErrorKind::InvalidHeader => "InvalidHeader",
@@ -124,7 +127,9 @@ impl Cause {
         }
     }
 
-    fn message(self) -> &'static str {
+    fn message(self) -> &'static str
+        ensures { result.now ≡ cause_message self }
+    {
         match self {
             Cause::Grammar => "Can't parse the data.",
             Cause::RealHermitian => "Real matrix can't be hermitian.",
@@ -165,6 +170,7 @@ pub struct MatrixMarketError {
 }
 
 impl MatrixMarketError {
+    /// Returns the error of a cause.
     pub fn new(cause: Cause) -> MatrixMarketError
         ensures { kind_of result ≡ kind_of_cause cause }
     {
@@ -179,7 +185,9 @@ impl MatrixMarketError {
     }
 
     /// Returns the text for this cause.
-    pub fn message(&self) -> &str {
+    pub fn message(&self) -> &str
+        ensures { result.now ≡ message_of self.now }
+    {
         self.cause.message()
     }
 }

@@ -4,6 +4,7 @@
 pub mod data_lines;
 pub mod error;
 pub mod header;
+pub mod integer_lines;
 pub mod lines;
 pub mod numbers;
 pub mod places;

@@ -3,7 +3,8 @@
 ghost use Rattle.std.specs.Prelude.{◌≡◌, ◌≤◌, ℕ, Bool, [], ◌∷◌, length, MatchOption};
 ghost use Rattle.sparse_parser.specs.Bytes.{is_blank, is_line_end, front, after};
 ghost use Rattle.sparse_parser.specs.InnerBytes.{is_space, is_within_line, is_within_word, is_solid, Decides, BeginsLine};
-ghost use Rattle.sparse_parser.specs.InnerReading.{words_of, contents_of};
+ghost use Rattle.sparse_parser.specs.InnerReading.{words_of, contents_of, ends_line};
+ghost use Rattle.sparse_parser.specs.InnerLines.{ends_word};
 
 pub fn is_blank(byte: u8) -> bool
     ensures { result ≡ is_blank byte }
@@ -37,7 +38,30 @@ pub fn split_front<F: Fn(u8) -> bool>(text: &[u8], passes: F) -> (&[u8], &[u8])
     text.split_at(at)
 }
 
+/// Whether a text begins with a line end or is empty.
+#[inline(always)]
+pub fn ends_line(text: &[u8]) -> bool
+    ensures { result ≡ ends_line text.now }
+{
+    match text {
+        [] => true,
+        [byte, ..] => is_line_end(*byte),
+    }
+}
+
+/// Whether a text begins with a blank or a line end or is empty.
+#[inline(always)]
+pub fn ends_word(text: &[u8]) -> bool
+    ensures { result ≡ ends_word text.now }
+{
+    match text {
+        [] => true,
+        [byte, ..] => is_space(*byte),
+    }
+}
+
 /// What stands after the blanks at the front.
+#[inline(always)]
 pub fn after_blanks(text: &[u8]) -> &[u8]
     ensures { result.now ≡ after is_blank text.now }
 {

@@ -8,18 +8,18 @@ ghost use Rattle.std.specs.Str.Parse.{without_leading_sign, digits_value, digits
 ghost use Rattle.std.specs.Int.{w128};
 ghost use Rattle.sparse_parser.specs.Grammar.{is_index, is_integer, is_mantissa, is_exponent, is_number};
 ghost use Rattle.sparse_parser.specs.Bytes.{front, after, is_exponent_letter, is_point};
+ghost use Rattle.sparse_parser.specs.InnerNumbers.{IsNumberRead, HasStopped};
 
 use crate::lines::split_front;
 
 /// 19 digits always fit in 64 bits.
 const SHORT: usize = 19;
 
-/// The number that the digits at the front of a text write, where it fits, and what stands after them.
-pub fn leading_number(text: &[u8]) -> (Option<usize>, &[u8])
-    ensures number { SomeIff result.0
-        (digits_value 10 (front is_ascii_digit text.now) < 2 ^ 64)
-        (digits_value 10 (front is_ascii_digit text.now)) }
-    ensures rest { result.1.now ≡ after is_ascii_digit text.now }
+/// The number that at most 19 digits at the front of a text write, and what stands after them.
+#[inline(always)]
+pub fn short_number(text: &[u8]) -> (usize, &[u8])
+    ensures read { IsNumberRead text.now result.0 result.1.now }
+    ensures stopped { HasStopped text.now result.1.now }
 {
     let end = text.len().min(SHORT);
     let mut number = 0;
@@ -28,10 +28,21 @@ pub fn leading_number(text: &[u8]) -> (Option<usize>, &[u8])
         number = number * 10 + usize::from(text[at] - b'0');
         at += 1;
     }
-    if at == SHORT {
-        return long_number(number, &text[at..]);
+    (number, &text[at..])
+}
+
+/// The number that the digits at the front of a text write, where it fits, and what stands after them.
+pub fn leading_number(text: &[u8]) -> (Option<usize>, &[u8])
+    ensures number { SomeIff result.0
+        (digits_value 10 (front is_ascii_digit text.now) < 2 ^ 64)
+        (digits_value 10 (front is_ascii_digit text.now)) }
+    ensures rest { result.1.now ≡ after is_ascii_digit text.now }
+{
+    let (number, rest) = short_number(text);
+    if text.len() - rest.len() == SHORT {
+        return long_number(number, rest);
     }
-    (Some(number), &text[at..])
+    (Some(number), rest)
 }
 
 /// The same, where the digits of a number stand before the text.
@@ -128,6 +139,7 @@ fn is_exponent_letter(byte: u8) -> bool
 }
 
 /// What stands after a sign at the front.
+#[inline(always)]
 pub fn after_sign(text: &[u8]) -> &[u8]
     ensures { result.now ≡ without_leading_sign text.now }
 {

@@ -41,6 +41,17 @@ impl Places {
         ensures first { result ≡ slice_get (places_left self.old) 0 }
         ensures left { places_left self.new ≡ drop 1 (places_left self.old) }
     {
+        if self.col >= self.cols {
+            return None;
+        }
+        self.take_within()
+    }
+
+    // The same, where a column may have places left.
+    fn take_within(&mut self) -> Option<(usize, usize)>
+        ensures first { result ≡ slice_get (places_left self.old) 0 }
+        ensures left { places_left self.new ≡ drop 1 (places_left self.old) }
+    {
         self.settle();
         if self.col >= self.cols || self.row >= self.rows {
             return None;

@@ -9,13 +9,16 @@ ghost use Rattle.sparse_parser.specs.Meaning.{is_count, is_inside, listed_of, va
 ghost use Rattle.sparse_parser.specs.InnerReading.{Gives, line_words, contents_of, among_entries};
 ghost use Rattle.sparse_io.specs.InnerEntries.{both_of, ended_of, IsMeant};
 
-use crate::reader::entry::{Triplet, Triplets, triplets};
+use crate::reader::entry::{
+    Triplet, Triplets, integer_triplets, place_triplets, triplets, value_triplets,
+};
 use crate::reader::settled;
-use crate::scalar::MatrixMarketScalar;
 use sparse_base::coo::CooMatrix;
-use sparse_parser::data_lines::{data_line, entry_line, place_line, value_line};
+use sparse_market_scalar::MatrixMarketScalar;
+use sparse_parser::data_lines::data_line;
 use sparse_parser::error::{Cause, MatrixMarketError};
 use sparse_parser::header::{Field, Format, Header, Symmetry};
+use sparse_parser::integer_lines::{integer_line, place_line, value_line};
 use sparse_parser::lines::next_line;
 use sparse_parser::places::Places;
 use sparse_parser::size::Size;
@@ -30,6 +33,7 @@ pub struct Bounds {
 }
 
 /// Returns the matrix of the data lines below a size line.
+#[inline(never)]
 pub fn entries<T: MatrixMarketScalar>(
     alloc: Global,
     header: Header,
@@ -74,18 +78,20 @@ fn line_triplets<T: MatrixMarketScalar>(
 {
     match (header.format, header.field) {
         (Format::Coordinate, Field::Integer) => {
-            if let Some((line, after)) = entry_line(text) {
-                return Some((triplets(header, at, line), after));
+            if let Some((row, col, value, after)) = integer_line(text) {
+                let value = i128::from(value);
+                return Some((integer_triplets(header.symmetry, row, col, value), after));
             }
         }
         (Format::Coordinate, Field::Pattern) => {
-            if let Some((line, after)) = place_line(text) {
-                return Some((triplets(header, at, line), after));
+            if let Some((row, col, after)) = place_line(text) {
+                return Some((place_triplets(header.symmetry, row, col), after));
             }
         }
         (Format::Array, Field::Integer) => {
-            if let Some((line, after)) = value_line(text) {
-                return Some((triplets(header, at, line), after));
+            if let (Some(at), Some((value, after))) = (at, value_line(text)) {
+                let value = i128::from(value);
+                return Some((value_triplets(header.symmetry, at, value), after));
             }
         }
         _ => {}
@@ -173,11 +179,11 @@ fn add_all<T: MatrixMarketScalar>(
     ensures rows { matrix.new.nrows ≡ matrix.old.nrows }
     ensures cols { matrix.new.ncols ≡ matrix.old.ncols }
 {
-    let (first, second) = found;
-    let bounds = add(matrix, bounds, first)?;
-    match second {
+    let ((row, col, value), mirrored) = found;
+    let bounds = add(matrix, bounds, (row, col, value))?;
+    match mirrored {
         None => Ok(bounds),
-        Some(second) => add(matrix, bounds, second),
+        Some(value) => add(matrix, bounds, (col, row, value)),
     }
 }
 

@@ -7,9 +7,9 @@ ghost use Rattle.sparse_parser.specs.Reads.{read_as};
 ghost use Rattle.sparse_parser.specs.Meaning.{number_of, place_of, value_of, entry_of, mirrored, triplets_of, value_triplet};
 ghost use Rattle.sparse_parser.specs.InnerReading.{found};
 ghost use Rattle.sparse_parser.specs.InnerLines.{is_plain, IsNumber, AreNumbers, words_in};
-ghost use Rattle.sparse_io.specs.InnerEntries.{both_of};
+ghost use Rattle.sparse_io.specs.InnerEntries.{both_of, triplets_at};
 
-use crate::scalar::MatrixMarketScalar;
+use sparse_market_scalar::MatrixMarketScalar;
 use sparse_parser::data_lines::{Line, Number};
 use sparse_parser::error::{Cause, MatrixMarketError};
 use sparse_parser::header::{Field, Format, Header, Symmetry};
@@ -17,12 +17,11 @@ use sparse_parser::header::{Field, Format, Header, Symmetry};
 /// A row and a column, counted from 0, and a value.
 pub type Triplet<T> = (usize, usize, T);
 
-/// An entry, and the one that the symmetry implies.
-pub type Triplets<T> = (Triplet<T>, Option<Triplet<T>>);
+/// An entry, and the value of the mirrored one where the symmetry implies it.
+pub type Triplets<T> = (Triplet<T>, Option<T>);
 
 /// Returns the triplets of a data line; an array's entry stands at the given place.
 #[tactic(auto, unfolding(sparse_parser::specs::Meaning::triplets_of))]
-#[inline(always)]
 pub fn triplets<T: MatrixMarketScalar>(
     header: Header,
     at: Option<(usize, usize)>,
@@ -39,9 +38,53 @@ pub fn triplets<T: MatrixMarketScalar>(
     with_mirrored(header.symmetry, entry)
 }
 
+/// Returns the triplets of a row and a column, counted from 1, and an integer.
+#[inline(always)]
+pub fn integer_triplets<T: MatrixMarketScalar>(
+    symmetry: Symmetry,
+    row: usize,
+    col: usize,
+    value: i128,
+) -> Result<Triplets<T>, MatrixMarketError>
+    ensures { read_as (λ t. map (λ t. value_triplet T.value t) (both_of t)) result
+        ≡ triplets_at T.scalar symmetry (place_of (Ok row) (Ok col)) (T.scalar.from_number value) }
+{
+    let (row, col) = place(row, col)?;
+    let value = T::from_i128(value)?;
+    with_mirrored(symmetry, (row, col, value))
+}
+
+/// Returns the triplets of a row and a column, counted from 1.
+#[inline(always)]
+pub fn place_triplets<T: MatrixMarketScalar>(
+    symmetry: Symmetry,
+    row: usize,
+    col: usize,
+) -> Result<Triplets<T>, MatrixMarketError>
+    ensures { read_as (λ t. map (λ t. value_triplet T.value t) (both_of t)) result
+        ≡ triplets_at T.scalar symmetry (place_of (Ok row) (Ok col)) T.scalar.from_pattern }
+{
+    let (row, col) = place(row, col)?;
+    let value = T::from_pattern(())?;
+    with_mirrored(symmetry, (row, col, value))
+}
+
+/// Returns the triplets of an integer of an array at its place.
+#[inline(always)]
+pub fn value_triplets<T: MatrixMarketScalar>(
+    symmetry: Symmetry,
+    at: (usize, usize),
+    value: i128,
+) -> Result<Triplets<T>, MatrixMarketError>
+    ensures { read_as (λ t. map (λ t. value_triplet T.value t) (both_of t)) result
+        ≡ triplets_at T.scalar symmetry (Ok at) (T.scalar.from_number value) }
+{
+    let value = T::from_i128(value)?;
+    with_mirrored(symmetry, (at.0, at.1, value))
+}
+
 // The entry of a coordinate line.
 #[tactic(auto, unfolding(sparse_parser::specs::Meaning::entry_of, sparse_parser::specs::Meaning::value_of))]
-#[inline(always)]
 fn coordinate_entry<T: MatrixMarketScalar>(
     field: Field,
     line: Line<'_>,
@@ -52,19 +95,19 @@ fn coordinate_entry<T: MatrixMarketScalar>(
 {
     match (field, line) {
         (Field::Pattern, Line::Two(row, col)) if row.is_index() && col.is_index() => {
-            let (row, col) = place(row, col)?;
+            let (row, col) = index_place(row, col)?;
             Ok((row, col, T::from_pattern(())?))
         }
         (Field::Integer, Line::Three(row, col, value)) => {
-            let (row, col) = place(row, col)?;
+            let (row, col) = index_place(row, col)?;
             Ok((row, col, integer_value(value)?))
         }
         (Field::Real, Line::Three(row, col, _)) => {
-            place(row, col)?;
+            index_place(row, col)?;
             Err(MatrixMarketError::new(Cause::RealEntry))
         }
         (Field::Complex, Line::Four(row, col, _, _)) => {
-            place(row, col)?;
+            index_place(row, col)?;
             Err(MatrixMarketError::new(Cause::ComplexEntry))
         }
         _ => Err(MatrixMarketError::new(Cause::EntryShape)),
@@ -73,7 +116,6 @@ fn coordinate_entry<T: MatrixMarketScalar>(
 
 // The entry of an array at its place.
 #[tactic(auto, unfolding(sparse_parser::specs::Meaning::entry_of, sparse_parser::specs::Meaning::value_of))]
-#[inline(always)]
 fn array_entry<T: MatrixMarketScalar>(
     field: Field,
     at: Option<(usize, usize)>,
@@ -94,10 +136,9 @@ fn array_entry<T: MatrixMarketScalar>(
     }
 }
 
-// The place of a row and a column counted from 1.
+// The place of two indices counted from 1.
 #[tactic(auto, unfolding(sparse_parser::specs::Meaning::place_of))]
-#[inline(always)]
-fn place(row: Number<'_>, col: Number<'_>) -> Result<(usize, usize), Cause>
+fn index_place(row: Number<'_>, col: Number<'_>) -> Result<(usize, usize), Cause>
     requires row_is { IsNumber row }
     requires col_is { IsNumber col }
     requires row_index { is_plain row.kind ≡ true }
@@ -107,6 +148,15 @@ fn place(row: Number<'_>, col: Number<'_>) -> Result<(usize, usize), Cause>
 {
     let row = row.index()?;
     let col = col.index()?;
+    place(row, col)
+}
+
+// The place of a row and a column counted from 1.
+#[tactic(auto, unfolding(sparse_parser::specs::Meaning::place_of))]
+#[inline(always)]
+fn place(row: usize, col: usize) -> Result<(usize, usize), Cause>
+    ensures { found result ≡ place_of (Ok row) (Ok col) }
+{
     if row == 0 || col == 0 {
         return Err(Cause::ZeroIndex);
     }
@@ -115,7 +165,6 @@ fn place(row: Number<'_>, col: Number<'_>) -> Result<(usize, usize), Cause>
 
 // The value that an integer entry gives.
 #[tactic(auto, unfolding(sparse_parser::specs::Meaning::value_of))]
-#[inline(always)]
 fn integer_value<T: MatrixMarketScalar>(number: Number<'_>) -> Result<T, MatrixMarketError>
     requires { IsNumber number }
     ensures { read_as (λ x. T.value x) result
@@ -144,7 +193,7 @@ fn with_mirrored<T: MatrixMarketScalar>(
             if row == col {
                 return Err(MatrixMarketError::new(Cause::OnDiagonal));
             }
-            Ok((entry, Some((col, row, value.negative()?))))
+            Ok((entry, Some(value.negative()?)))
         }
         Symmetry::Symmetric | Symmetry::Hermitian => {
             if row < col {
@@ -153,7 +202,7 @@ fn with_mirrored<T: MatrixMarketScalar>(
             if row == col {
                 return Ok((entry, None));
             }
-            Ok((entry, Some((col, row, value))))
+            Ok((entry, Some(value)))
         }
     }
 }

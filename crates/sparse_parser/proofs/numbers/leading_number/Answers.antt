@@ -1,13 +1,13 @@
-use Rattle.std.proofs.Common.{◌≤◌, get_or, sym, ◌∙◌, arith, rules}
-use Rattle.sparse_parser.proofs.Digits.{digit_small, short_fits}
+use Rattle.std.proofs.Common.{◌≡◌, [], inl, inr, sym, ◌∙◌, arith}
+use Rattle.std.specs.Char.{is_ascii_digit}
+use Rattle.sparse_parser.specs.Bytes.{front}
+use Rattle.sparse_parser.proofs.Fronts.{after-none}
 use Rattle.sparse_parser.proofs.numbers.leading_number.Goals as goal
 
-pub overflow_mul-number : goal.overflow_mul-number
-overflow_mul-number c = let h = short_fits c.loop-at.number c.loop-at.at 0 c.loop-at.invariant.fits (omega arith) (omega arith) in search rules
-
-pub overflow_add-number : goal.overflow_add-number
-overflow_add-number c =
-    let d = digit_small (get_or c.args.text.now c.loop-at.at 0) (sym c.is_ascii_digit.ensures.value ∙ c.if-is_ascii_digit.true) in
-    let small : c.from.result ≤ 9 = omega arith in
-    let h = short_fits c.loop-at.number c.loop-at.at c.from.result c.loop-at.invariant.fits (omega arith) small in
-    search rules
+pub returns-clause-rest : goal.returns-clause-rest
+returns-clause-rest c =
+    let none : front is_ascii_digit c.short_number-number.result.1.now ≡ [] = elim c.short_number-number.ensures.stopped [
+      | inl e ↦ e
+      | inr e ↦ absurd (c.if-text-rest-eq-SHORT.false (omega arith))
+    ] in
+    sym (after-none is_ascii_digit c.short_number-number.result.1.now none) ∙ c.short_number-number.ensures.read.others

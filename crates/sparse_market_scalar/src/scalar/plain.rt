@@ -1,7 +1,7 @@
 //! Plain integers, of which the least has no negative.
 
 ghost use Rattle.std.specs.Int.{w8, w16, w32, w64, w128};
-ghost use Rattle.sparse_io.specs.ScalarTypes.{signed_scalar};
+ghost use Rattle.sparse_market_scalar.specs.ScalarTypes.{signed_scalar};
 
 use crate::scalar::MatrixMarketScalar;
 use itoa::Buffer;

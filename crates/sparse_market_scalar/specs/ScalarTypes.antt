@@ -6,7 +6,7 @@ use Rattle.std.proofs.Common.{inl, inr}
 use lib.IntN.{neg_ℤ}
 use Rattle.sparse_parser.specs.declared.error.MatrixMarketErrorKind.TheVariants.{TypeMismatch}
 use Rattle.sparse_parser.specs.Scalars.{Scalar}
-use Rattle.sparse_io.specs.IntegerTexts.{taken, taken_refuses, number_text}
+use Rattle.sparse_market_scalar.specs.IntegerTexts.{taken, taken_refuses, number_text}
 
 -- plain integers, of which the least has no negative
 abbrev pub signed_scalar : Width → Scalar

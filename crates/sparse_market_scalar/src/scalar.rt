@@ -2,7 +2,7 @@
 
 ghost use Rattle.std.specs.Prelude.{◌≡◌, ◌++◌, OnOk, string_bytes};
 ghost use Rattle.sparse_parser.specs.Reads.{read_as};
-ghost use Rattle.sparse_io.specs.ScalarTypes.{pattern_scalar};
+ghost use Rattle.sparse_market_scalar.specs.ScalarTypes.{pattern_scalar};
 
 use sparse_parser::error::{Cause, MatrixMarketError};
 use std::alloc::AllocError;

@@ -3,7 +3,7 @@
 ghost use Rattle.std.specs.Int.{w32, w64, w128};
 ghost use Rattle.sparse_algebra.specs.Numbers.{w32_number, w64_number};
 ghost use Rattle.sparse_units.specs.WrappingValues.{w128_number};
-ghost use Rattle.sparse_io.specs.ScalarTypes.{wrapping_scalar};
+ghost use Rattle.sparse_market_scalar.specs.ScalarTypes.{wrapping_scalar};
 
 use crate::scalar::MatrixMarketScalar;
 use itoa::Buffer;

@@ -3,7 +3,7 @@ use Rattle.std.specs.Char.{is_ascii_digit}
 use Rattle.std.specs.Str.Parse.{digits_value, digits_value_after}
 use Rattle.sparse_parser.specs.Bytes.{front}
 use Rattle.sparse_parser.proofs.Fronts.{IsPassed}
-use Rattle.sparse_parser.proofs.numbers.leading_number.Given as goal
+use Rattle.sparse_parser.proofs.numbers.short_number.Given as goal
 
 abbrev pub invariant-loop-at : goal.invariant-loop-at
 invariant-loop-at l = record {

@@ -1,0 +1,2 @@
+pub mod IntegerTexts
+pub mod ScalarTypes

@@ -1,0 +1,60 @@
+-- A data line as the integers that a function read.
+use Rattle.std.specs.Prelude.{◌≡◌, ℕ, ℤ, true, List, [], ◌∷◌, Ok}
+use Rattle.sparse_parser.specs.Bytes.{after}
+use Rattle.sparse_parser.specs.InnerBytes.{is_within_line}
+use Rattle.sparse_parser.specs.Grammar.{is_index, is_integer}
+use Rattle.sparse_parser.specs.Meaning.{number_of, integer_of}
+use Rattle.sparse_parser.specs.InnerReading.{line_words}
+use Rattle.sparse_parser.specs.InnerLines.{IsWord}
+
+-- the line begins with an index of this number
+pub record IsIndexAt (text : List ℕ) (number : ℕ) (rest : List ℕ) : Type 0 where
+  pub word : List ℕ
+  pub at : IsWord text word rest
+  pub index : is_index word ≡ true
+  pub is : number_of word ≡ Ok number
+
+-- the line begins with an integer of this value
+pub record IsIntegerAt (text : List ℕ) (value : ℤ) (rest : List ℕ) : Type 0 where
+  pub word : List ℕ
+  pub at : IsWord text word rest
+  pub integer : is_integer word ≡ true
+  pub is : integer_of word ≡ Ok value
+
+-- the line ends here
+pub record IsEndAt (text rest : List ℕ) : Type 0 where
+  pub none : line_words text ≡ []
+  pub line : rest ≡ after is_within_line text
+
+-- the line is a row, a column and an integer
+pub record IsIntegerLine (text : List ℕ) (row col : ℕ) (value : ℤ) (rest : List ℕ) : Type 0 where
+  pub row_word : List ℕ
+  pub col_word : List ℕ
+  pub value_word : List ℕ
+  pub words : line_words text ≡ row_word ∷ col_word ∷ value_word ∷ []
+  pub row_index : is_index row_word ≡ true
+  pub col_index : is_index col_word ≡ true
+  pub integer : is_integer value_word ≡ true
+  pub row_is : number_of row_word ≡ Ok row
+  pub col_is : number_of col_word ≡ Ok col
+  pub value_is : integer_of value_word ≡ Ok value
+  pub after_line : rest ≡ after is_within_line text
+
+-- the line is a row and a column
+pub record IsPlaceLine (text : List ℕ) (row col : ℕ) (rest : List ℕ) : Type 0 where
+  pub row_word : List ℕ
+  pub col_word : List ℕ
+  pub words : line_words text ≡ row_word ∷ col_word ∷ []
+  pub row_index : is_index row_word ≡ true
+  pub col_index : is_index col_word ≡ true
+  pub row_is : number_of row_word ≡ Ok row
+  pub col_is : number_of col_word ≡ Ok col
+  pub after_line : rest ≡ after is_within_line text
+
+-- the line is an integer
+pub record IsValueLine (text : List ℕ) (value : ℤ) (rest : List ℕ) : Type 0 where
+  pub value_word : List ℕ
+  pub words : line_words text ≡ value_word ∷ []
+  pub integer : is_integer value_word ≡ true
+  pub value_is : integer_of value_word ≡ Ok value
+  pub after_line : rest ≡ after is_within_line text
