@@ -1,2 +1,7 @@
 mod Closures
 mod Reaching
+mod TextLines
+mod TextEntries
+mod TextPlaces
+mod TextMeanings
+mod TextBounds

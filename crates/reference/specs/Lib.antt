@@ -1,2 +1,3 @@
 pub mod InnerClosure
 pub mod InnerPositions
+pub mod InnerTexts

@@ -7,3 +7,4 @@ pub mod fill;
 pub mod pattern_faults;
 pub mod products;
 pub mod sums;
+pub mod texts;
