@@ -49,15 +49,15 @@ module _ (old c : Climbs) (i start node next : ℕ) (parents : List ℕ) (is : I
   inside : node < length c.marks
   inside = omega (arith, is.within, is.arrays.row)
 
-  marked_here : IsMarked d i node
-  marked_here = get_or-set_same c.marks node (i + 1) 0 inside
+  pub marked_up : IsMarked d i node
+  marked_up = get_or-set_same c.marks node (i + 1) 0 inside
 
   mark_other : (k : ℕ) → k ≢ node → slice_index d.marks k ≡ slice_index c.marks k
   mark_other k ne = get_or-set_other c.marks node k (i + 1) 0 ne
 
   marked_later : (k : ℕ) → IsMarked c i k → IsMarked d i k
   marked_later k h = elim (same_or_not k node) [
-    | inl e ↦ subst (IsMarked d i) (sym e) marked_here
+    | inl e ↦ subst (IsMarked d i) (sym e) marked_up
     | inr ne ↦ mark_other k ne ∙ h
   ]
 
@@ -67,8 +67,8 @@ module _ (old c : Climbs) (i start node next : ℕ) (parents : List ℕ) (is : I
     | inr ne ↦ inl (sym (mark_other k ne) ∙ h)
   ]
 
-  above : node < i → (node < next) × (next ≤ i) × (parent_of d node ≡ next)
-  above lt = elim (same_or_not (parent_of c node) 0) [
+  pub parent_up : node < i → (node < next) × (next ≤ i) × (parent_of d node ≡ next)
+  parent_up lt = elim (same_or_not (parent_of c node) 0) [
     | inl none ↦
         let h = follows.had_none lt none in
         (omega (arith, h.0), omega (arith, h.0), omega (arith, h.0, h.1))
@@ -80,7 +80,7 @@ module _ (old c : Climbs) (i start node next : ℕ) (parents : List ℕ) (is : I
 
   next_within : next ≤ i
   next_within = elim (le_cases node i is.within) [
-    | inl lt ↦ (above lt).1
+    | inl lt ↦ (parent_up lt).1
     | inr e ↦ omega (arith, (follows.at_row e).0)
   ]
 
@@ -93,13 +93,13 @@ module _ (old c : Climbs) (i start node next : ℕ) (parents : List ℕ) (is : I
       | inl lt ↦ elim (same_or_not (parent_of c node) 0) [
         | inl none ↦
             let h = follows.had_none lt none in
-            inr (subst (λ x. parent_of c x ≡ 0) (sym e) none, subst (λ x. parent_of d x ≡ i) (sym e) h.1, omega arith, subst (IsMarked d i) (sym e) marked_here)
+            inr (subst (λ x. parent_of c x ≡ 0) (sym e) none, subst (λ x. parent_of d x ≡ i) (sym e) h.1, omega arith, subst (IsMarked d i) (sym e) marked_up)
         | inr some ↦ inl (subst (λ x. parent_of d x ≡ parent_of c x) (sym e) (follows.had_parent lt some).1)
       ]
     ]
   ]
 
-  parent_kept : (k p : ℕ) → parent_of c k ≡ p → p ≢ 0 → parent_of d k ≡ p
+  pub parent_kept : (k p : ℕ) → parent_of c k ≡ p → p ≢ 0 → parent_of d k ≡ p
   parent_kept k p e ne = elim (grown k) [
     | inl same ↦ same ∙ e
     | inr h ↦ absurd (ne (sym e ∙ h.0))
@@ -119,7 +119,7 @@ module _ (old c : Climbs) (i start node next : ℕ) (parents : List ℕ) (is : I
         listed = λ k. (
           λ h. elim (Contains-push_cases g.gained node k h) [
             | inl o ↦ let m = (g.listed k).0 o in (marked_later k m.0, m.1)
-            | inr s ↦ (subst (IsMarked d i) s marked_here, λ m. new (subst (IsMarked c i) (sym s) (is.climbs.kept k m)))
+            | inr s ↦ (subst (IsMarked d i) s marked_up, λ m. new (subst (IsMarked c i) (sym s) (is.climbs.kept k m)))
           ],
           λ m. elim (marked_split k m.0) [
             | inl o ↦ Contains-append_left g.gained (node ∷ []) k ((g.listed k).1 (o, m.1))
@@ -157,7 +157,7 @@ module _ (old c : Climbs) (i start node next : ℕ) (parents : List ℕ) (is : I
     same_length = omega (arith, size, is.arrays.same_length, length-set c.marks node (i + 1));
     low = λ k m. elim (marked_split k m) [ inl o ↦ is.arrays.low k o | inr e ↦ omega (arith, is.within) ];
     high = λ k. elim (same_or_not k node) [
-      | inl e ↦ let here : slice_index d.marks k ≡ i + 1 = subst (IsMarked d i) (sym e) marked_here in omega arith
+      | inl e ↦ let here : slice_index d.marks k ≡ i + 1 = subst (IsMarked d i) (sym e) marked_up in omega arith
       | inr ne ↦ omega (arith, mark_other k ne, is.arrays.high k)
     ];
     parents = λ k some. elim (grown k) [
@@ -177,11 +177,11 @@ module _ (old c : Climbs) (i start node next : ℕ) (parents : List ℕ) (is : I
           λ e. h.0 (sym same ∙ e),
           inl (elim h.1 [
             | inl there ↦ subst (IsMarked d i) (sym same) (marked_later (parent_of c k) there)
-            | inr at ↦ subst (IsMarked d i) (sym (same ∙ at)) marked_here
+            | inr at ↦ subst (IsMarked d i) (sym (same ∙ at)) marked_up
           ]),
         )
     | inr e ↦
-        let a = above (omega arith) in
+        let a = parent_up (omega arith) in
         let parent : parent_of d k ≡ next = ap (parent_of d) e ∙ a.2 in
         (λ none. omega (arith, a.0), inr parent)
   ]
@@ -193,14 +193,14 @@ module _ (old c : Climbs) (i start node next : ℕ) (parents : List ℕ) (is : I
     closed = closed_on;
     within = next_within;
     led = elim (le_cases node i is.within) [
-      | inl lt ↦ let a = above lt in inr (node, a.0, marked_here, a.2)
+      | inl lt ↦ let a = parent_up lt in inr (node, a.0, marked_up, a.2)
       | inr e ↦
           let same : node ≡ next = omega (arith, (follows.at_row e).0) in
           subst (IsLedTo d i (λ j. j ≡ start)) same (led_later (λ j. j ≡ start) node is.led)
     ];
     started = inl (elim is.started [
       | inl h ↦ marked_later start h
-      | inr e ↦ subst (IsMarked d i) e marked_here
+      | inr e ↦ subst (IsMarked d i) e marked_up
     ]);
   }
 

@@ -6,6 +6,7 @@ use Rattle.sparse_lemmas.proofs.Cases.{lt_add_one_cases, lt_or_ge}
 use Rattle.sparse_pattern.specs.Raw.{raw_of, IsPlace}
 use Rattle.sparse_factor.specs.InnerFilled.{Filled, given, fill}
 use Rattle.sparse_factor.specs.InnerClimbs.{Climbs, climbs_of, parent_of, IsMarked, AreInRow, IsClosed, AreClimbs, AreCounts}
+use Rattle.sparse_factor.specs.InnerPaths.{AreBelowMarks}
 use Rattle.sparse_factor.specs.InnerRowLists.{AreRowLists}
 use Rattle.sparse_factor.proofs.FillLaws.{row_fill}
 use Rattle.sparse_factor.proofs.FillCounts.{AreFound, none_found, more_found}
@@ -55,6 +56,9 @@ no_rows base n marks parents m p = record {
 
 pub no_counts : (n : ℕ) (counts : List ℕ) → counts ≡ replicate n 0 → AreCounts counts []
 no_counts n counts is k lt = ap (λ xs. slice_index xs k) is ∙ zeros_zero n k
+
+pub none_below : (n : ℕ) (counts marks : List ℕ) → counts ≡ replicate n 0 → AreBelowMarks counts marks
+none_below n counts marks is k = omega (arith, ap (λ xs. slice_index xs k) is, zeros_zero n k)
 
 module _ (base : ℕ → ℕ → Type 0) (n : ℕ) (offsets : List ℕ) (s : Climbs) (i : ℕ) (are : AreFilledRows base n offsets s i) where
   none_marked : (k : ℕ) → IsMarked s i k → ⊥

@@ -13,3 +13,8 @@ pub mod FillCounts
 mod FilledRows
 mod AllRows
 mod FactorLaws
+mod PathNodes
+mod PathSteps
+mod PathRows
+mod PathPlaces
+mod PathColumns

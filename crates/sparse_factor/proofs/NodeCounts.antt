@@ -2,10 +2,11 @@
 use Rattle.std.proofs.Common.{◌≡◌, ◌≢◌, ℕ, ◌+◌, ◌<◌, ◌≤◌, inl, inr, List, [], ◌∷◌, ◌++◌, length, cond, set, slice_index, get_or-set_same, get_or-set_other, length-set, sym, ap, subst, arith}
 use Rattle.std.specs.Prelude.{nat_eq}
 use Rattle.std.proofs.lemmas.Bool.Decides.{nat_tests}
-use Rattle.std.proofs.lemmas.List.Sums.{sum_by_push, count_by-le-length}
+use Rattle.std.proofs.lemmas.List.Sums.{sum_by_push}
 use Rattle.sparse_lemmas.proofs.Cases.{same_or_not}
 use Rattle.sparse_counting.specs.Counting.{count_at}
 use Rattle.sparse_factor.specs.InnerClimbs.{AreCounts}
+use Rattle.sparse_factor.specs.InnerPaths.{AreBelowMarks}
 
 abbrev one_if : ℕ → ℕ → ℕ
 one_if k i = cond (nat_eq i k) 1 0
@@ -31,6 +32,12 @@ counts_more counts nodes i v within is are k lt = elim (same_or_not k i) [
   | inr ne ↦ omega (arith, get_or-set_other counts i k v 0 ne, none_other k i ne, count_at-push k nodes i, are k (omega (arith, length-set counts i v)))
 ]
 
-pub count_small : (counts nodes : List ℕ) (i : ℕ) → AreCounts counts nodes → i < length counts
-    → slice_index counts i ≤ length nodes
-count_small counts nodes i are lt = omega (arith, are i lt, count_by-le-length (λ j. nat_eq j i) nodes)
+pub below_more : (counts marks : List ℕ) (i v m : ℕ) → i < length counts → i < length marks → v ≤ m
+    → AreBelowMarks counts marks → AreBelowMarks (set counts i v) (set marks i m)
+below_more counts marks i v m inside within le are k = elim (same_or_not k i) [
+  | inl e ↦
+      let count : slice_index (set counts i v) k ≡ v = subst (λ x. slice_index (set counts i v) x ≡ v) (sym e) (get_or-set_same counts i v 0 inside) in
+      let mark : slice_index (set marks i m) k ≡ m = subst (λ x. slice_index (set marks i m) x ≡ m) (sym e) (get_or-set_same marks i m 0 within) in
+      omega (arith, count, mark)
+  | inr ne ↦ omega (arith, get_or-set_other counts i k v 0 ne, get_or-set_other marks i k m 0 ne, are k)
+]

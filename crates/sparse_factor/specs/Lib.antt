@@ -4,3 +4,4 @@ pub mod Symbolic
 pub mod InnerFilled
 pub mod InnerClimbs
 pub mod InnerRowLists
+pub mod InnerPaths

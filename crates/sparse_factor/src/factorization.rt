@@ -15,9 +15,9 @@ mod climbs;
 mod columns;
 
 use climbs::climb_rows;
-use columns::columns_of_rows;
+use columns::columns_of_paths;
 
-// The greatest number of columns for which the lists of the rows use 32-bit numbers.
+// The greatest number of columns for which nodes and paths use 32-bit numbers.
 const MAX_32_BITS: usize = u32::MAX as usize;
 
 /// The symbolic Cholesky factorisation of a square pattern by columns: the pattern, and the pattern of its factor.
@@ -55,8 +55,9 @@ impl CscSymbolicCholesky {
     /// pattern need not be symmetric and need not store its diagonal. `pattern.major_dim()` must equal `pattern.minor_dim()`.
     ///
     /// Each row climbs the elimination tree from its entries (Liu, "The role of elimination trees in sparse factorization", 1990), and the
-    /// tree grows in the climbs. Takes time for each place of the pattern and of the factor, and scratch memory for one number a place of the
-    /// factor and four a column. Fails only if an allocation fails.
+    /// tree grows in the climbs. The climbs are kept as paths of the tree, and a counting sort places their rows in columns. Takes time for
+    /// each place of the pattern and of the factor, and scratch memory for four numbers a column and three a climb, of which there is at most
+    /// one for each place of the pattern. Fails only if an allocation fails.
     pub fn factor(alloc: Global, pattern: SparsityPattern) -> Result<Self, AllocError>
         requires square { pattern.major_dim ≡ pattern.minor_dim }
         ensures input { IfOk result (λ s. s.input ≡ pattern) }
@@ -135,8 +136,8 @@ fn fill_of<C: Count>(
     ensures no_more { (fill : List (ℕ × ℕ)) → ListsFill (UpperBase pattern.now) fill
         → steps.new ≤ steps.old + nnz_of pattern.now + length fill }
 {
-    let (offsets, nodes, counts) = climb_rows::<C>(alloc, pattern, steps)?;
-    let l_pattern = columns_of_rows(alloc, &offsets, &nodes, counts)?;
+    let (parents, paths, counts) = climb_rows::<C>(alloc, pattern, steps)?;
+    let l_pattern = columns_of_paths(alloc, &parents, &paths, counts)?;
     Ok(l_pattern)
 }
 

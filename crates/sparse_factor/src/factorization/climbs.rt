@@ -1,20 +1,24 @@
 //! The rows of the fill, by climbs of the elimination tree.
 
-ghost use Rattle.std.specs.Prelude.{◌≡◌, ℕ, ◌+◌, ◌<◌, ◌≤◌, List, length, map, replicate, IfOk, OnOk, vec_len, vec_capacity};
+ghost use Rattle.std.specs.Prelude.{◌≡◌, ℕ, ◌+◌, ◌<◌, ◌≤◌, ◌++◌, List, length, map, replicate, IfOk, OnOk, vec_len, vec_capacity};
 ghost use Rattle.std.specs.List.{Contains};
 ghost use Rattle.sparse_pattern.specs.Raw.{nnz_of};
 ghost use Rattle.sparse_factor.specs.Fill.{InFill, UpperBase, ListsFill};
 ghost use Rattle.sparse_factor.specs.InnerFilled.{Filled};
-ghost use Rattle.sparse_factor.specs.InnerClimbs.{climbs_of, AreInRow, IsClosed, IsMarked, AreClimbs, IsNext, unmarked, AreCounts};
-ghost use Rattle.sparse_factor.specs.InnerRowLists.{AreRowLists, StoresByRows, square_of};
+ghost use Rattle.sparse_factor.specs.InnerClimbs.{AreInRow, IsClosed, IsMarked, AreClimbs, IsNext, AreCounts};
+ghost use Rattle.sparse_factor.specs.InnerRowLists.{StoresByRows, square_of};
+ghost use Rattle.sparse_factor.specs.InnerPaths.{nodes_up, nodes_of, nodes_in, rows_in, paths_of, climbed, climbed_up, IsPath, ArePaths, AreBelowMarks, AreRows};
 
 use sparse_base::steps::Steps;
 use sparse_counting::Count;
 use sparse_pattern::pattern::SparsityPattern;
 use std::alloc::{AllocError, Global};
 
-// Returns the rows of the fill: where each begins in the nodes, the columns of all rows, each once in its row, and how many rows have each
-// column.
+// A climb: its row, the node that it starts from, and how many nodes it comes to, each the parent of the one before.
+pub(super) type Path<C> = (C, C, C);
+
+// Returns the rows of the fill: the parents of the nodes, the climbs of all rows, which come to each column once in its row, and how many
+// rows have each column.
 //
 // The parent of a column, its first row below the diagonal, is found in the climbs themselves: it is the first row that comes to the column
 // after its own.
@@ -22,40 +26,41 @@ pub(super) fn climb_rows<C: Count>(
     alloc: Global,
     pattern: &SparsityPattern,
     steps: &mut Steps,
-) -> Result<(Vec<usize>, Vec<C>, Vec<usize>), AllocError>
+) -> Result<(Vec<C>, Vec<Path<C>>, Vec<usize>), AllocError>
     requires square { pattern.now.major_dim ≡ pattern.now.minor_dim }
     requires width { pattern.now.major_dim < C.limit }
-    ensures count { IfOk result (λ r. length r.0.items ≡ pattern.now.major_dim + 1) }
-    ensures lists { IfOk result (λ r. AreRowLists (square_of r.0.items (map C.number r.1.items))) }
-    ensures rows { IfOk result (λ r.
-        StoresByRows (Filled (UpperBase pattern.now)) (square_of r.0.items (map C.number r.1.items))) }
-    ensures counts { IfOk result (λ r. AreCounts r.2.items (map C.number r.1.items)) }
+    ensures rows { IfOk result (λ r. (d : AreRows pattern.now.major_dim
+        (nodes_in C.number r.0.items r.1.items) (rows_in C.number r.1.items))
+        × StoresByRows (Filled (UpperBase pattern.now)) (square_of d.offsets (nodes_in C.number r.0.items r.1.items))) }
+    ensures parent_count { IfOk result (λ r. length r.0.items ≡ pattern.now.major_dim) }
+    ensures counts { IfOk result (λ r.
+        AreCounts r.2.items (nodes_in C.number r.0.items r.1.items)) }
     ensures count_size { IfOk result (λ r. length r.2.items ≡ pattern.now.major_dim) }
     ensures all_read { OnOk result (steps.old + nnz_of pattern.now ≤ steps.new) }
     ensures no_more { (fill : List (ℕ × ℕ)) → ListsFill (UpperBase pattern.now) fill
         → steps.new ≤ steps.old + nnz_of pattern.now + length fill }
 {
+    // Tells the prover that the pattern is valid.
+    let _ = pattern.major_offsets();
     let size = pattern.major_dim();
     let mut marks: Vec<C> = zeros(alloc, size)?;
     let mut parents: Vec<C> = zeros(alloc, size)?;
     let mut counts = vec![in alloc; 0; size]?;
-    let mut offsets = Vec::with_capacity(alloc, pattern.major_offsets().len())?;
-    let mut nodes = Vec::new(alloc);
-    offsets.push(0)?;
+    let mut paths = Vec::new(alloc);
     for row in 0..size {
-        nodes.reserve(row + 1)?;
+        let starts = pattern.lane(row);
+        paths.reserve(starts.len())?;
         climb_row(
-            pattern.lane(row),
+            starts,
             row,
             &mut marks,
             &mut parents,
             &mut counts,
-            &mut nodes,
+            &mut paths,
             steps,
         );
-        offsets.push(nodes.len())?;
     }
-    Ok((offsets, nodes, counts))
+    Ok((parents, paths, counts))
 }
 
 // Returns a vector of zeros.
@@ -68,93 +73,112 @@ fn zeros<C: Count>(alloc: Global, size: usize) -> Result<Vec<C>, AllocError>
     Ok(zeros)
 }
 
-// Collects the nodes of a row, by a climb from each start that is not below it.
+// Climbs from each start of a row that is not below it, and keeps the paths.
 fn climb_row<C: Count>(
     starts: &[usize],
     row: usize,
     marks: &mut [C],
     parents: &mut [C],
     counts: &mut [usize],
-    nodes: &mut Vec<C>,
+    paths: &mut Vec<Path<C>>,
     steps: &mut Steps,
 )
     requires width { length marks.old < C.limit }
-    requires arrays { AreInRow (climbs_of (map C.number marks.old) (map C.number parents.old)
-        (map C.number nodes.old.items)) row }
-    requires closed { IsClosed (climbs_of (map C.number marks.old) (map C.number parents.old)
-        (map C.number nodes.old.items)) row }
-    requires room { vec_len nodes.old + unmarked (row + 1) (row + 1) (map C.number marks.old)
-        ≤ vec_capacity nodes.old }
-    requires counts { AreCounts counts.old (map C.number nodes.old.items) }
+    requires arrays { AreInRow (climbed C.number marks.old parents.old paths.old.items) row }
+    requires closed { IsClosed (climbed C.number marks.old parents.old paths.old.items) row }
+    requires paths { ArePaths (map C.number parents.old) (paths_of C.number paths.old.items) }
+    requires room { vec_len paths.old + length starts.now ≤ vec_capacity paths.old }
+    requires counts { AreCounts counts.old
+        (nodes_in C.number parents.old paths.old.items) }
+    requires below { AreBelowMarks counts.old (map C.number marks.old) }
     requires count_size { length counts.old ≡ length marks.old }
-    ensures arrays { AreInRow (climbs_of (map C.number marks.new) (map C.number parents.new)
-        (map C.number nodes.new.items)) row }
-    ensures closed { IsClosed (climbs_of (map C.number marks.new) (map C.number parents.new)
-        (map C.number nodes.new.items)) row }
+    ensures arrays { AreInRow (climbed C.number marks.new parents.new paths.new.items) row }
+    ensures closed { IsClosed (climbed C.number marks.new parents.new paths.new.items) row }
     ensures climbs { AreClimbs
-        (climbs_of (map C.number marks.old) (map C.number parents.old) (map C.number nodes.old.items))
-        (climbs_of (map C.number marks.new) (map C.number parents.new) (map C.number nodes.new.items))
+        (climbed C.number marks.old parents.old paths.old.items)
+        (climbed C.number marks.new parents.new paths.new.items)
         row (λ j. Contains starts.now j × (j ≤ row)) }
     ensures started { (j : ℕ) → Contains starts.now j → j ≤ row → IsMarked
-        (climbs_of (map C.number marks.new) (map C.number parents.new) (map C.number nodes.new.items))
+        (climbed C.number marks.new parents.new paths.new.items)
         row j }
-    ensures counts { AreCounts counts.new (map C.number nodes.new.items) }
-    ensures counted { steps.new + vec_len nodes.old
-        ≡ steps.old + vec_len nodes.new + length starts.now }
+    ensures paths { ArePaths (map C.number parents.new) (paths_of C.number paths.new.items) }
+    ensures counts { AreCounts counts.new
+        (nodes_in C.number parents.new paths.new.items) }
+    ensures below { AreBelowMarks counts.new (map C.number marks.new) }
+    ensures counted { (n : ℕ) × (steps.new ≡ steps.old + n + length starts.now)
+        × (rows_in C.number paths.new.items ≡ rows_in C.number paths.old.items ++ replicate n row) }
 {
     for start in starts {
         steps.tick();
         if *start <= row {
-            climb(*start, row, marks, parents, counts, nodes, steps);
+            let length = climb(*start, row, marks, parents, counts, steps);
+            keep_path(paths, row, *start, length);
         }
     }
 }
 
-// Collects the nodes from `start` upwards, to the first that the row has already.
+// Keeps a path, unless it has no node.
+fn keep_path<C: Count>(paths: &mut Vec<Path<C>>, row: usize, start: usize, length: usize)
+    requires room { vec_len paths.old < vec_capacity paths.old }
+    requires row { row < C.limit }
+    requires start { start < C.limit }
+    requires length { length < C.limit }
+    ensures nodes { (parents : List ℕ) → nodes_of parents (paths_of C.number paths.new.items)
+        ≡ nodes_of parents (paths_of C.number paths.old.items) ++ nodes_up parents start length }
+    ensures rows { rows_in C.number paths.new.items
+        ≡ rows_in C.number paths.old.items ++ replicate length row }
+    ensures paths { (parents : List ℕ) → IsPath parents start length
+        → ArePaths parents (paths_of C.number paths.old.items)
+        → ArePaths parents (paths_of C.number paths.new.items) }
+    ensures len { vec_len paths.new ≤ vec_len paths.old + 1 }
+    ensures capacity { vec_capacity paths.new ≡ vec_capacity paths.old }
+{
+    if length == 0 {
+        return;
+    }
+    paths.push_reserved((C::of(row), C::of(start), C::of(length)));
+}
+
+// Climbs from `start` upwards to the first node that the row has already, and returns how many nodes the climb came to.
 fn climb<C: Count>(
     start: usize,
     row: usize,
     marks: &mut [C],
     parents: &mut [C],
     counts: &mut [usize],
-    nodes: &mut Vec<C>,
     steps: &mut Steps,
-)
+) -> usize
     requires width { length marks.old < C.limit }
     requires start { start ≤ row }
-    requires arrays { AreInRow (climbs_of (map C.number marks.old) (map C.number parents.old)
-        (map C.number nodes.old.items)) row }
-    requires closed { IsClosed (climbs_of (map C.number marks.old) (map C.number parents.old)
-        (map C.number nodes.old.items)) row }
-    requires room { vec_len nodes.old + unmarked (row + 1) (row + 1) (map C.number marks.old)
-        ≤ vec_capacity nodes.old }
-    requires counts { AreCounts counts.old (map C.number nodes.old.items) }
+    requires arrays { AreInRow (climbed_up C.number marks.old parents.old start 0) row }
+    requires closed { IsClosed (climbed_up C.number marks.old parents.old start 0) row }
+    requires below { AreBelowMarks counts.old (map C.number marks.old) }
     requires count_size { length counts.old ≡ length marks.old }
-    ensures arrays { AreInRow (climbs_of (map C.number marks.new) (map C.number parents.new)
-        (map C.number nodes.new.items)) row }
-    ensures closed { IsClosed (climbs_of (map C.number marks.new) (map C.number parents.new)
-        (map C.number nodes.new.items)) row }
+    ensures arrays { AreInRow (climbed_up C.number marks.new parents.new start result) row }
+    ensures closed { IsClosed (climbed_up C.number marks.new parents.new start result) row }
     ensures climbs { AreClimbs
-        (climbs_of (map C.number marks.old) (map C.number parents.old) (map C.number nodes.old.items))
-        (climbs_of (map C.number marks.new) (map C.number parents.new) (map C.number nodes.new.items))
+        (climbed_up C.number marks.old parents.old start 0)
+        (climbed_up C.number marks.new parents.new start result)
         row (λ j. j ≡ start) }
-    ensures started { IsMarked
-        (climbs_of (map C.number marks.new) (map C.number parents.new) (map C.number nodes.new.items))
-        row start }
-    ensures room { vec_len nodes.new + unmarked (row + 1) (row + 1) (map C.number marks.new)
-        ≤ vec_capacity nodes.new }
-    ensures counts { AreCounts counts.new (map C.number nodes.new.items) }
-    ensures counted { steps.new + vec_len nodes.old ≡ steps.old + vec_len nodes.new }
+    ensures started { IsMarked (climbed_up C.number marks.new parents.new start result) row start }
+    ensures path { IsPath (map C.number parents.new) start result }
+    ensures short { result ≤ row + 1 }
+    ensures counts { (nodes : List ℕ) → AreCounts counts.old nodes
+        → AreCounts counts.new (nodes ++ nodes_up (map C.number parents.new) start result) }
+    ensures below { AreBelowMarks counts.new (map C.number marks.new) }
+    ensures counted { steps.new ≡ steps.old + result }
 {
     let mark = row + 1;
     let mut node = start;
+    let mut length = 0;
     while marks[node].get() != mark {
         marks[node] = C::of(mark);
         counts[node] += 1;
-        nodes.push_reserved(C::of(node));
+        length += 1;
         steps.tick();
         node = next_node(parents, node, row);
     }
+    length
 }
 
 // Returns the parent of `node`, which the row becomes if there was none, or the row at its end.

@@ -1,6 +1,7 @@
-use Rattle.std.proofs.Common.{◌≡◌, ◌+◌, ◌≤◌, map, vec_len}
+use Rattle.std.proofs.Common.{◌≡◌, ℕ, ◌+◌, ◌≤◌, ◌++◌, length, map, replicate, vec_len}
 use Rattle.std.specs.Prelude.{vec_capacity}
-use Rattle.sparse_factor.specs.InnerClimbs.{climbs_of, unmarked, AreCounts}
+use Rattle.sparse_factor.specs.InnerClimbs.{AreCounts}
+use Rattle.sparse_factor.specs.InnerPaths.{nodes_in, rows_in, paths_of, climbed, ArePaths, AreBelowMarks}
 use Rattle.sparse_factor.proofs.ClimbedRows.{AreStarted}
 use Rattle.sparse_factor.proofs.factorization.climbs.climb_row.Given as goal
 
@@ -8,8 +9,11 @@ abbrev pub invariant-loop-start : goal.invariant-loop-start
 invariant-loop-start g l =
     let f = g.C.Count.number in
     record {
-      climbed : AreStarted (climbs_of (map f l.initial.marks) (map f l.initial.parents) (map f l.initial.nodes.items)) (climbs_of (map f l.marks) (map f l.parents) (map f l.nodes.items)) l.row l.starts l.start-index;
-      room : vec_len l.nodes + unmarked (l.row + 1) (l.row + 1) (map f l.marks) ≤ vec_capacity l.nodes;
-      counts : AreCounts l.counts (map f l.nodes.items);
-      counted : l.steps + vec_len l.initial.nodes ≡ l.initial.steps + vec_len l.nodes + l.start-index;
+      climbs : AreStarted (climbed f l.initial.marks l.initial.parents l.initial.paths.items) (climbed f l.marks l.parents l.paths.items) l.row l.starts l.start-index;
+      paths : ArePaths (map f l.parents) (paths_of f l.paths.items);
+      room : vec_len l.paths + length l.starts ≤ vec_capacity l.paths + l.start-index;
+      counts : AreCounts l.counts (nodes_in f l.parents l.paths.items);
+      below : AreBelowMarks l.counts (map f l.marks);
+      counted : (n : ℕ) × (l.steps ≡ l.initial.steps + n + l.start-index)
+          × (rows_in f l.paths.items ≡ rows_in f l.initial.paths.items ++ replicate n l.row);
     }
