@@ -72,6 +72,8 @@ pub use Rattle.sparse_data.specs.DataStructs
 pub use Rattle.sparse_sums.specs.PatternSums
 -- products
 pub use Rattle.sparse_ops.specs.Products
+-- products with dense matrices
+pub use Rattle.sparse_dense.specs.DenseOperands
 -- triangular systems and division
 pub use Rattle.sparse_solve.specs.Quotients
 pub use Rattle.sparse_solve.specs.Solutions
@@ -82,6 +84,7 @@ pub use Rattle.sparse_factor.specs.Walks
 -- Matrix Market texts: grammar and meaning
 pub use Rattle.sparse_parser.specs.ArrayPlaces
 pub use Rattle.sparse_parser.specs.Bytes
+pub use Rattle.sparse_parser.specs.ErrorTexts
 pub use Rattle.sparse_parser.specs.Errors
 pub use Rattle.sparse_parser.specs.Grammar
 pub use Rattle.sparse_parser.specs.Header
@@ -89,11 +92,13 @@ pub use Rattle.sparse_parser.specs.Meaning
 pub use Rattle.sparse_parser.specs.Reads
 pub use Rattle.sparse_parser.specs.Scalars
 pub use Rattle.sparse_parser.specs.Words
+-- scalar types of texts
+pub use Rattle.sparse_market_scalar.specs.IntegerTexts
+pub use Rattle.sparse_market_scalar.specs.ScalarTypes
 -- reading and writing
 pub use Rattle.sparse_io.specs.Export
-pub use Rattle.sparse_market_scalar.specs.IntegerTexts
+pub use Rattle.sparse_io.specs.Files
 pub use Rattle.sparse_io.specs.Out
-pub use Rattle.sparse_market_scalar.specs.ScalarTypes
 pub use Rattle.sparse_io.specs.Sink
 pub use Rattle.sparse_io.specs.Written
 -- expressions
