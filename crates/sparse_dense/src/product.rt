@@ -126,7 +126,8 @@ pub fn mul_csr_dense<T: Ring>(
 ) -> Result<DMatrix<T>, AllocError>
     requires { a.now.pattern.minor_dim ≡ b.now.nrows }
     ensures { IfOk result (λ c. plain_of_dense T.ring T.value c
-        ≡ plain_full T.ring (plain_product T.ring (plain_of_rows T.ring T.value a.now) (plain_of_dense T.ring T.value b.now))) }
+        ≡ plain_full T.ring (plain_product T.ring (plain_of_rows T.ring T.value a.now)
+        (plain_of_dense T.ring T.value b.now))) }
 {
     let mut product = DMatrix::zeros(alloc, a.nrows(), b.ncols())?;
     spmm_csr_dense(T::zero(), &mut product, T::one(), Op::NoOp(a), Op::NoOp(b));
@@ -159,7 +160,8 @@ pub fn mul_csc_dense<T: Ring>(
 ) -> Result<DMatrix<T>, AllocError>
     requires { a.now.pattern.major_dim ≡ b.now.nrows }
     ensures { IfOk result (λ c. plain_of_dense T.ring T.value c
-        ≡ plain_full T.ring (plain_product T.ring (plain_of_cols T.ring T.value a.now) (plain_of_dense T.ring T.value b.now))) }
+        ≡ plain_full T.ring (plain_product T.ring (plain_of_cols T.ring T.value a.now)
+        (plain_of_dense T.ring T.value b.now))) }
 {
     let mut product = DMatrix::zeros(alloc, a.nrows(), b.ncols())?;
     spmm_csc_dense(T::zero(), &mut product, T::one(), Op::NoOp(a), Op::NoOp(b));

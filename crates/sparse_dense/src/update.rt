@@ -28,8 +28,10 @@ pub fn update<T: Ring>(
     turned: bool,
     b: Op<&DMatrix<T>>,
 )
-    requires inner { (plain_turned T.ring turned (plain_of_rows T.ring T.value a.now)).cols ≡ (op_dense T.ring T.value b).rows }
-    requires rows { (plain_turned T.ring turned (plain_of_rows T.ring T.value a.now)).rows ≡ c.old.nrows }
+    requires inner { (plain_turned T.ring turned (plain_of_rows T.ring T.value a.now)).cols
+        ≡ (op_dense T.ring T.value b).rows }
+    requires rows { (plain_turned T.ring turned (plain_of_rows T.ring T.value a.now)).rows
+        ≡ c.old.nrows }
     requires cols { (op_dense T.ring T.value b).cols ≡ c.old.ncols }
     ensures rows { c.new.nrows ≡ c.old.nrows }
     ensures cols { c.new.ncols ≡ c.old.ncols }
@@ -57,7 +59,8 @@ fn update_columns<T: Ring>(
     turned: bool,
     b: Op<&DMatrix<T>>,
 )
-    requires inner { (plain_turned T.ring turned (plain_of_rows T.ring T.value a.now)).cols ≡ (op_dense T.ring T.value b).rows }
+    requires inner { (plain_turned T.ring turned (plain_of_rows T.ring T.value a.now)).cols
+        ≡ (op_dense T.ring T.value b).rows }
     requires rows { (plain_turned T.ring turned (plain_of_rows T.ring T.value a.now)).rows ≡ size.0 }
     requires cols { (op_dense T.ring T.value b).cols ≡ size.1 }
     requires count { length c.old ≡ size.1 * size.0 }
@@ -96,7 +99,8 @@ fn update_block<T: Ring>(
     j: usize,
     width: usize,
 )
-    requires inner { (plain_turned T.ring turned (plain_of_rows T.ring T.value a.now)).cols ≡ (op_dense T.ring T.value b).rows }
+    requires inner { (plain_turned T.ring turned (plain_of_rows T.ring T.value a.now)).cols
+        ≡ (op_dense T.ring T.value b).rows }
     requires rows { (plain_turned T.ring turned (plain_of_rows T.ring T.value a.now)).rows ≡ size.0 }
     requires cols { (op_dense T.ring T.value b).cols ≡ size.1 }
     requires within { j + width ≤ size.1 }
