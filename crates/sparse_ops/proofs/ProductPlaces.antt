@@ -1,5 +1,5 @@
 -- The places of a product, in plain matrices.
-use Rattle.std.proofs.Common.{◌≡◌, ℕ, ◌↔◌, inl, inr, true, false, ◌&&◌, arith}
+use Rattle.std.proofs.Common.{◌≡◌, ℕ, ◌↔◌, inl, inr, true, ◌&&◌, arith}
 use Rattle.sparse_lemmas.proofs.Cases.{and_both, and_parts, true_or_false}
 use Rattle.sparse_algebra.specs.Algebra.{CommRing}
 use Rattle.sparse_algebra.specs.Plain.{Plain, IsProper, plain_product}

@@ -4,8 +4,8 @@ use Rattle.std.proofs.lemmas.List.{get_or_past}
 use Rattle.sparse_lemmas.proofs.Cases.{lt_add_one_cases, lt_or_ge}
 use Rattle.sparse_algebra.specs.Algebra.{CommRing}
 use Rattle.sparse_algebra.proofs.RingLemmas.{mul_zero}
-use Rattle.sparse_pattern.specs.Raw.{Raw, start_of, end_of, IsInLane, IsPlace, IsValid}
-use Rattle.sparse_pattern.proofs.Positions.{starts_ordered, one_lane}
+use Rattle.sparse_pattern.specs.Raw.{Raw, start_of, IsInLane, IsPlace, IsValid}
+use Rattle.sparse_pattern.proofs.Positions.{one_lane}
 use Rattle.sparse_cs.specs.Compressed.{IsPosition}
 
 module _ (R : CommRing) {T : Type 0} (f : T → R.Carrier) (z : T) (d : Raw) (valid : IsValid d) (base : T → R.Carrier) (alpha : R.Carrier) (x : ℕ → ℕ → R.Carrier) (start old new : List T) (n : ℕ) (lane : n < d.major_dim) where

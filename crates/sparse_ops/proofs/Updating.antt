@@ -1,6 +1,6 @@
 -- A product into a given matrix, in plain matrices.
-use Rattle.std.proofs.Common.{◌≡◌, ℕ, ◌<◌, ◌↔◌, ◌⊎◌, inl, inr, true, false, List, length, ap, sym, subst, ◌∙◌, refl, arith}
-use Rattle.std.specs.Prelude.{Result, Ok, Err, IsOk, IfErr, OnOk, OnErr, slice_index_or}
+use Rattle.std.proofs.Common.{◌≡◌, ◌<◌, ◌↔◌, ◌⊎◌, inr, List, length, ap, sym, subst, ◌∙◌, refl, arith}
+use Rattle.std.specs.Prelude.{Result, Ok, Err, IsOk, IfErr, OnOk}
 use Rattle.std.proofs.lemmas.List.{get_or_default}
 use Rattle.sparse_algebra.specs.Algebra.{CommRing}
 use Rattle.sparse_algebra.specs.Plain.{Plain, plain_product, plain_transpose}
@@ -13,7 +13,7 @@ use Rattle.sparse_cs.specs.Standing.{HasLanesAsRows}
 use Rattle.sparse_cs.specs.Writing.{with_values}
 use Rattle.sparse_sums.proofs.Updating.{on_ok_also, written_back}
 use Rattle.sparse_ops.specs.InnerUpdates.{HasProductPlaces, AreUpdated}
-use Rattle.sparse_ops.proofs.ProductPlaces.{RowsStand, product, joined_is, product_is_proper, zero_elsewhere}
+use Rattle.sparse_ops.proofs.ProductPlaces.{RowsStand, product, joined_is, zero_elsewhere}
 
 -- a refusal of one kind, which comes exactly where the places lack
 pub refused_is : {X E : Type 0} (r : Result X E) (kind memory : E) {P : Type 0} → IfErr r (λ e. e ≡ kind)

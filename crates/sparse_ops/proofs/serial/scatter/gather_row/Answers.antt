@@ -1,8 +1,8 @@
-use Rattle.std.proofs.Common.{◌≡◌, ◌≢◌, ℕ, ◌+◌, ◌<◌, ◌≤◌, ◌⊎◌, inl, inr, length, get_or, set, ap, sym, subst, ◌∙◌, arith}
+use Rattle.std.proofs.Common.{◌≡◌, ◌≢◌, ℕ, ◌+◌, ◌<◌, ◌≤◌, inl, inr, length, get_or, set, ap, sym, ◌∙◌, arith}
 use Rattle.std.proofs.lemmas.Bool.{cases_eq}
 use Rattle.std.proofs.lemmas.List.{get_or-set_same, get_or-set_other, get_or_default}
 use Rattle.sparse_lemmas.proofs.Cases.{lt_add_one_cases, lt_or_ge}
-use Rattle.sparse_pattern.specs.Raw.{start_of, end_of, IsPlace}
+use Rattle.sparse_pattern.specs.Raw.{start_of, end_of}
 use Rattle.sparse_pattern.proofs.PatternLanes.{rises_at}
 use Rattle.sparse_ops.proofs.serial.scatter.gather_row.Goals as goal
 

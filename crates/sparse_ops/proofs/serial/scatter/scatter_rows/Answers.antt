@@ -1,7 +1,7 @@
-use Rattle.std.proofs.Common.{◌≡◌, ◌+◌, ◌<◌, ℕ, length, get_or, vec_len, sym, ◌∙◌, ap, subst, arith}
-use Rattle.std.proofs.lemmas.List.{take_at, take_all}
+use Rattle.std.proofs.Common.{◌≡◌, ◌<◌, ℕ, length, get_or, sym, ◌∙◌, ap, arith}
+use Rattle.std.proofs.lemmas.List.{take_at}
 use Rattle.sparse_algebra.proofs.RingLemmas.{zero_add}
-use Rattle.sparse_pattern.specs.Raw.{start_of, IsPlace}
+use Rattle.sparse_pattern.specs.Raw.{start_of}
 use Rattle.sparse_cs.specs.Compressed.{IsPosition}
 use Rattle.sparse_ops.specs.InnerUpdates.{triples_below}
 use Rattle.sparse_ops.proofs.ProductPlaces.{product, zero_elsewhere}

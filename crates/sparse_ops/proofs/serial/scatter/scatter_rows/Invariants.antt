@@ -1,4 +1,4 @@
-use Rattle.std.proofs.Common.{◌≡◌, ◌+◌, ◌<◌, ◌≤◌, ℕ, length, get_or, vec_len}
+use Rattle.std.proofs.Common.{◌≡◌, ◌+◌, ◌<◌, ◌≤◌, ℕ, get_or, vec_len}
 use Rattle.sparse_algebra.specs.Plain.{plain_product}
 use Rattle.sparse_pattern.specs.Raw.{start_of}
 use Rattle.sparse_cs.specs.Compressed.{IsPosition}

@@ -1,4 +1,4 @@
-use Rattle.std.proofs.Common.{◌≡◌, ◌<◌, ℕ, length, get_or, Contains, ◌∙◌, ap}
+use Rattle.std.proofs.Common.{◌≡◌, ℕ, get_or, Contains, ◌∙◌, ap}
 use Rattle.sparse_pattern.specs.Raw.{lane_of, IsPlace}
 use Rattle.sparse_pattern.proofs.LaneLists.{lane_has}
 use Rattle.sparse_cs.specs.Compressed.{IsPosition}

@@ -1,4 +1,4 @@
-use Rattle.std.proofs.Common.{◌≡◌, ℕ, get_or, None, Some, refl, subst, sym, ◌∙◌, Contains}
+use Rattle.std.proofs.Common.{ℕ, get_or, refl, subst, sym, ◌∙◌, Contains}
 use Rattle.std.proofs.lemmas.List.{take_all}
 use Rattle.std.proofs.lemmas.List.Elements.{Contains-get_or}
 use Rattle.sparse_pattern.specs.Raw.{IsPlace}

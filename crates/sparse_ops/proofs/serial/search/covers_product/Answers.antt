@@ -1,4 +1,4 @@
-use Rattle.std.proofs.Common.{◌≡◌, ◌<◌, ℕ, inl, inr, refl, subst, sym, arith}
+use Rattle.std.proofs.Common.{ℕ, inl, inr, refl, subst, sym, arith}
 use Rattle.sparse_lemmas.proofs.Cases.{lt_add_one_cases}
 use Rattle.sparse_pattern.specs.Raw.{lane_of, IsPlace}
 use Rattle.sparse_ops.specs.InnerProducts.{IsInLanes}

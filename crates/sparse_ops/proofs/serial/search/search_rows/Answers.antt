@@ -1,6 +1,5 @@
-use Rattle.std.proofs.Common.{◌≡◌, ◌+◌, ◌<◌, ℕ, length, get_or, sym, ◌∙◌, ap, arith}
+use Rattle.std.proofs.Common.{◌≡◌, ◌<◌, length, sym, ◌∙◌, ap, arith}
 use Rattle.sparse_pattern.specs.Raw.{start_of}
-use Rattle.sparse_cs.specs.Compressed.{IsPosition}
 use Rattle.sparse_cs.specs.PlainOfLanes.{plain_of_rows}
 use Rattle.sparse_algebra.specs.Plain.{plain_product}
 use Rattle.sparse_ops.specs.InnerUpdates.{triples_below}
