@@ -3,7 +3,12 @@ pub mod LaneMarks
 pub mod SortedMarks
 pub mod GainedLanes
 pub mod ProductLanes
-pub mod Gathering
-pub mod ProductValues
+pub mod ProductPlaces
+pub mod ProductSums
+pub mod CoveredLanes
+pub mod SearchedEntries
+pub mod UpdatedRows
+pub mod Updating
+pub mod MadeProducts
 mod Transposing
 mod OkEquations

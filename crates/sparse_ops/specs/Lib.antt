@@ -1,3 +1,6 @@
 pub mod InnerMarks
 pub mod Products
 pub mod InnerProducts
+pub mod InnerUpdates
+pub mod InnerFactors
+pub mod ScalarProducts

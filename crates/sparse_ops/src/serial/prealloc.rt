@@ -1,19 +1,22 @@
-//! A product into a given matrix, and operands that are transposed.
+//! A product into a given matrix, which may lack a place.
 
-ghost use Rattle.std.specs.Prelude.{◌≡◌, ◌⊎◌, IsOk, IfOk, IfErr, OnOk, OnErr};
-ghost use Rattle.sparse_algebra.specs.Plain.{plain_product, plain_transpose};
+ghost use Rattle.std.specs.Prelude.{◌≡◌, ◌⊎◌, IsOk, IfErr, OnOk, OnErr};
+ghost use Rattle.sparse_algebra.specs.Plain.{plain_product};
 ghost use Rattle.sparse_op.specs.declared.error.OperationErrorKind.TheVariants.{InvalidPattern, OutOfMemory};
 ghost use Rattle.sparse_op.specs.Operands.{plain_op};
 ghost use Rattle.sparse_op.specs.Prealloc.{plain_update, IsCovered};
 ghost use Rattle.sparse_cs.specs.PlainOfLanes.{plain_of_rows, plain_of_cols};
+ghost use Rattle.sparse_ops.specs.ScalarProducts.{IfNotTransposed};
 
-use super::product::{mul_csc, mul_csr};
+pub(crate) use super::factor::transposed_csr;
+use super::factor::{csc_factor, csr_factor};
+use super::update::update_checked;
 use sparse_algebra::scalar::Ring;
+use sparse_cs::laws::stands_law;
 use sparse_forms::csc::CscMatrix;
 use sparse_forms::csr::CsrMatrix;
 use sparse_op::{Op, OperationError};
-use sparse_sums::{spadd_csc_prealloc, spadd_csr_prealloc};
-use std::alloc::{AllocError, Global};
+use std::alloc::Global;
 
 /// Replaces `c` by `beta * c + alpha * op(a) * op(b)` on the places of `c`.
 ///
@@ -21,8 +24,8 @@ use std::alloc::{AllocError, Global};
 /// [`InvalidPattern`](sparse_op::OperationErrorKind::InvalidPattern) only where the product's pattern has a place that `c` lacks, whatever
 /// its value is, and with `OutOfMemory` only if an allocation fails; `c` is then unchanged.
 ///
-/// The product is made first, by Gustavson's algorithm (1978), and then added place by place. Memory is needed for the product and for one
-/// row of it, and for the transposes of transposed operands.
+/// Two binary searches in a row of `c` for each triple (i, k, j) with (i, k) in `op(a)` and (k, j) in `op(b)`: the first pass tests the
+/// pattern, the second writes. No memory is asked for where neither operand is transposed; a transposed operand is transposed first.
 pub fn spmm_csr_prealloc<T: Ring>(
     alloc: Global,
     beta: T,
@@ -40,6 +43,7 @@ pub fn spmm_csr_prealloc<T: Ring>(
     ensures refused { IfErr result (λ e. (e ≡ OutOfMemory) ⊎ ((e ≡ InvalidPattern)
         × (IsCovered (plain_product T.ring (plain_op T.ring (λ m. plain_of_rows T.ring T.value m.now) a.entry)
         (plain_op T.ring (λ m. plain_of_rows T.ring T.value m.now) b.entry)) (plain_of_rows T.ring T.value c.old) → ⊥))) }
+    ensures no_memory { IfNotTransposed a.entry b.entry (λ _ _. IfErr result (λ e. e ≡ InvalidPattern)) }
     ensures unchanged { OnErr result (c.new ≡ c.old) }
     ensures pattern { c.new.pattern ≡ c.old.pattern }
     ensures updated { OnOk result (plain_of_rows T.ring T.value c.new
@@ -47,77 +51,17 @@ pub fn spmm_csr_prealloc<T: Ring>(
         (plain_product T.ring (plain_op T.ring (λ m. plain_of_rows T.ring T.value m.now) a.entry)
         (plain_op T.ring (λ m. plain_of_rows T.ring T.value m.now) b.entry))) }
 {
-    let product = multiply_csr(alloc, a, b)?;
-    match spadd_csr_prealloc(beta, c, alpha, Op::NoOp(&product)) {
-        Ok(()) => Ok(()),
-        Err(_) => Err(OperationError::of_product_pattern()),
-    }
-}
-
-/// Replaces `c` by `beta * c + alpha * op(a) * op(b)`, where `c` has each place of the product's pattern.
-///
-/// The inner sizes of `op(a)` and `op(b)` must be equal, and `c` must have the sizes of their product. Refuses with `OutOfMemory` only if an
-/// allocation fails; `c` is then unchanged. Time and memory are those of [`spmm_csr_prealloc`].
-pub fn spmm_csr_prealloc_unchecked<T: Ring>(
-    alloc: Global,
-    beta: T,
-    c: &mut CsrMatrix<T>,
-    alpha: T,
-    a: Op<&CsrMatrix<T>>,
-    b: Op<&CsrMatrix<T>>,
-) -> Result<(), OperationError>
-    requires inner { (plain_op T.ring (λ m. plain_of_rows T.ring T.value m.now) a).cols
-        ≡ (plain_op T.ring (λ m. plain_of_rows T.ring T.value m.now) b).rows }
-    requires rows { (plain_op T.ring (λ m. plain_of_rows T.ring T.value m.now) a).rows ≡ c.old.pattern.major_dim }
-    requires cols { (plain_op T.ring (λ m. plain_of_rows T.ring T.value m.now) b).cols ≡ c.old.pattern.minor_dim }
-    requires covered { IsCovered (plain_product T.ring (plain_op T.ring (λ m. plain_of_rows T.ring T.value m.now) a)
-        (plain_op T.ring (λ m. plain_of_rows T.ring T.value m.now) b)) (plain_of_rows T.ring T.value c.old) }
-    ensures refused { IfErr result (λ e. e ≡ OutOfMemory) }
-    ensures unchanged { OnErr result (c.new ≡ c.old) }
-    ensures pattern { c.new.pattern ≡ c.old.pattern }
-    ensures updated { OnOk result (plain_of_rows T.ring T.value c.new
-        ≡ plain_update T.ring (T.value beta) (plain_of_rows T.ring T.value c.old) (T.value alpha)
-        (plain_product T.ring (plain_op T.ring (λ m. plain_of_rows T.ring T.value m.now) a.entry)
-        (plain_op T.ring (λ m. plain_of_rows T.ring T.value m.now) b.entry))) }
-{
-    spmm_csr_prealloc(alloc, beta, c, alpha, a, b)
-}
-
-// The product of two operands.
-fn multiply_csr<T: Ring>(
-    alloc: Global,
-    a: Op<&CsrMatrix<T>>,
-    b: Op<&CsrMatrix<T>>,
-) -> Result<CsrMatrix<T>, AllocError>
-    requires { (plain_op T.ring (λ m. plain_of_rows T.ring T.value m.now) a).cols
-        ≡ (plain_op T.ring (λ m. plain_of_rows T.ring T.value m.now) b).rows }
-    ensures { IfOk result (λ m. plain_of_rows T.ring T.value m ≡ (plain_product T.ring (plain_op T.ring (λ m. plain_of_rows T.ring T.value m.now) a.entry)
-        (plain_op T.ring (λ m. plain_of_rows T.ring T.value m.now) b.entry))) }
-{
-    match (a, b) {
-        (Op::NoOp(a), Op::NoOp(b)) => mul_csr(alloc, a, b),
-        (Op::Transpose(a), Op::NoOp(b)) => mul_csr(alloc, &transposed_csr(alloc, a)?, b),
-        (Op::NoOp(a), Op::Transpose(b)) => mul_csr(alloc, a, &transposed_csr(alloc, b)?),
-        (Op::Transpose(a), Op::Transpose(b)) => {
-            mul_csr(
-                alloc,
-                &transposed_csr(alloc, a)?,
-                &transposed_csr(alloc, b)?,
-            )
-        }
-    }
-}
-
-// The transpose, in the same form.
-pub(crate) fn transposed_csr<T: Ring>(
-    alloc: Global,
-    a: &CsrMatrix<T>,
-) -> Result<CsrMatrix<T>, AllocError>
-    ensures { IfOk result (λ m. plain_of_rows T.ring T.value m ≡ plain_transpose T.ring (plain_of_rows T.ring T.value a.now)) }
-{
-    // The call costs nothing: its contract tells the prover that the matrix is sound.
-    let _ = a.values();
-    a.transpose(alloc)
+    // The law costs nothing: it tells the prover what the plain matrices are.
+    stands_law::<T>();
+    let a = csr_factor(alloc, a)?;
+    let b = csr_factor(alloc, b)?;
+    let (first, second) = (a.matrix().cs(), b.matrix().cs());
+    // The calls cost nothing: their contracts tell the prover that the matrices are sound.
+    let _ = first.values();
+    let _ = second.values();
+    let _ = c.values();
+    let (pattern, values) = c.pattern_and_values_mut();
+    update_checked(beta, pattern, values, alpha, first, second)
 }
 
 /// Replaces `c` by `beta * c + alpha * op(a) * op(b)` on the places of `c`.
@@ -126,8 +70,8 @@ pub(crate) fn transposed_csr<T: Ring>(
 /// [`InvalidPattern`](sparse_op::OperationErrorKind::InvalidPattern) only where the product's pattern has a place that `c` lacks, whatever
 /// its value is, and with `OutOfMemory` only if an allocation fails; `c` is then unchanged.
 ///
-/// The product is made first, by Gustavson's algorithm (1978), and then added place by place. Memory is needed for the product and for one
-/// column of it, and for the transposes of transposed operands.
+/// Two binary searches in a column of `c` for each triple (i, k, j) with (i, k) in `op(a)` and (k, j) in `op(b)`: the first pass tests the
+/// pattern, the second writes. No memory is asked for where neither operand is transposed; a transposed operand is transposed first.
 pub fn spmm_csc_prealloc<T: Ring>(
     alloc: Global,
     beta: T,
@@ -145,6 +89,7 @@ pub fn spmm_csc_prealloc<T: Ring>(
     ensures refused { IfErr result (λ e. (e ≡ OutOfMemory) ⊎ ((e ≡ InvalidPattern)
         × (IsCovered (plain_product T.ring (plain_op T.ring (λ m. plain_of_cols T.ring T.value m.now) a.entry)
         (plain_op T.ring (λ m. plain_of_cols T.ring T.value m.now) b.entry)) (plain_of_cols T.ring T.value c.old) → ⊥))) }
+    ensures no_memory { IfNotTransposed a.entry b.entry (λ _ _. IfErr result (λ e. e ≡ InvalidPattern)) }
     ensures unchanged { OnErr result (c.new ≡ c.old) }
     ensures pattern { c.new.pattern ≡ c.old.pattern }
     ensures updated { OnOk result (plain_of_cols T.ring T.value c.new
@@ -152,72 +97,15 @@ pub fn spmm_csc_prealloc<T: Ring>(
         (plain_product T.ring (plain_op T.ring (λ m. plain_of_cols T.ring T.value m.now) a.entry)
         (plain_op T.ring (λ m. plain_of_cols T.ring T.value m.now) b.entry))) }
 {
-    let product = multiply_csc(alloc, a, b)?;
-    match spadd_csc_prealloc(beta, c, alpha, Op::NoOp(&product)) {
-        Ok(()) => Ok(()),
-        Err(_) => Err(OperationError::of_product_pattern()),
-    }
-}
-
-/// Replaces `c` by `beta * c + alpha * op(a) * op(b)`, where `c` has each place of the product's pattern.
-///
-/// The inner sizes of `op(a)` and `op(b)` must be equal, and `c` must have the sizes of their product. Refuses with `OutOfMemory` only if an
-/// allocation fails; `c` is then unchanged. Time and memory are those of [`spmm_csc_prealloc`].
-pub fn spmm_csc_prealloc_unchecked<T: Ring>(
-    alloc: Global,
-    beta: T,
-    c: &mut CscMatrix<T>,
-    alpha: T,
-    a: Op<&CscMatrix<T>>,
-    b: Op<&CscMatrix<T>>,
-) -> Result<(), OperationError>
-    requires inner { (plain_op T.ring (λ m. plain_of_cols T.ring T.value m.now) a).cols
-        ≡ (plain_op T.ring (λ m. plain_of_cols T.ring T.value m.now) b).rows }
-    requires rows { (plain_op T.ring (λ m. plain_of_cols T.ring T.value m.now) a).rows ≡ c.old.pattern.minor_dim }
-    requires cols { (plain_op T.ring (λ m. plain_of_cols T.ring T.value m.now) b).cols ≡ c.old.pattern.major_dim }
-    requires covered { IsCovered (plain_product T.ring (plain_op T.ring (λ m. plain_of_cols T.ring T.value m.now) a)
-        (plain_op T.ring (λ m. plain_of_cols T.ring T.value m.now) b)) (plain_of_cols T.ring T.value c.old) }
-    ensures refused { IfErr result (λ e. e ≡ OutOfMemory) }
-    ensures unchanged { OnErr result (c.new ≡ c.old) }
-    ensures pattern { c.new.pattern ≡ c.old.pattern }
-    ensures updated { OnOk result (plain_of_cols T.ring T.value c.new
-        ≡ plain_update T.ring (T.value beta) (plain_of_cols T.ring T.value c.old) (T.value alpha)
-        (plain_product T.ring (plain_op T.ring (λ m. plain_of_cols T.ring T.value m.now) a.entry)
-        (plain_op T.ring (λ m. plain_of_cols T.ring T.value m.now) b.entry))) }
-{
-    spmm_csc_prealloc(alloc, beta, c, alpha, a, b)
-}
-
-// The product of two operands.
-fn multiply_csc<T: Ring>(
-    alloc: Global,
-    a: Op<&CscMatrix<T>>,
-    b: Op<&CscMatrix<T>>,
-) -> Result<CscMatrix<T>, AllocError>
-    requires { (plain_op T.ring (λ m. plain_of_cols T.ring T.value m.now) a).cols
-        ≡ (plain_op T.ring (λ m. plain_of_cols T.ring T.value m.now) b).rows }
-    ensures { IfOk result (λ m. plain_of_cols T.ring T.value m ≡ (plain_product T.ring (plain_op T.ring (λ m. plain_of_cols T.ring T.value m.now) a.entry)
-        (plain_op T.ring (λ m. plain_of_cols T.ring T.value m.now) b.entry))) }
-{
-    match (a, b) {
-        (Op::NoOp(a), Op::NoOp(b)) => mul_csc(alloc, a, b),
-        (Op::Transpose(a), Op::NoOp(b)) => mul_csc(alloc, &transposed_csc(alloc, a)?, b),
-        (Op::NoOp(a), Op::Transpose(b)) => mul_csc(alloc, a, &transposed_csc(alloc, b)?),
-        (Op::Transpose(a), Op::Transpose(b)) => {
-            mul_csc(
-                alloc,
-                &transposed_csc(alloc, a)?,
-                &transposed_csc(alloc, b)?,
-            )
-        }
-    }
-}
-
-// The transpose, in the same form.
-fn transposed_csc<T: Ring>(alloc: Global, a: &CscMatrix<T>) -> Result<CscMatrix<T>, AllocError>
-    ensures { IfOk result (λ m. plain_of_cols T.ring T.value m ≡ plain_transpose T.ring (plain_of_cols T.ring T.value a.now)) }
-{
-    // The call costs nothing: its contract tells the prover that the matrix is sound.
-    let _ = a.values();
-    a.transpose(alloc)
+    // The law costs nothing: it tells the prover what the plain matrices are.
+    stands_law::<T>();
+    let a = csc_factor(alloc, a)?;
+    let b = csc_factor(alloc, b)?;
+    let (first, second) = (b.matrix().cs(), a.matrix().cs());
+    // The calls cost nothing: their contracts tell the prover that the matrices are sound.
+    let _ = first.values();
+    let _ = second.values();
+    let _ = c.values();
+    let (pattern, values) = c.pattern_and_values_mut();
+    update_checked(beta, pattern, values, alpha, first, second)
 }

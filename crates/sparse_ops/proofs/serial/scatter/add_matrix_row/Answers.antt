@@ -1,0 +1,20 @@
+use Rattle.std.proofs.Common.{◌≡◌, ◌<◌, ℕ, length, get_or, ◌∙◌, ap}
+use Rattle.sparse_pattern.specs.Raw.{lane_of}
+use Rattle.sparse_cs.specs.InnerRows.{lane_value}
+use Rattle.sparse_cs.proofs.LaneValues.{values_of, lane_value_is}
+use Rattle.sparse_ops.proofs.serial.scatter.add_matrix_row.Goals as goal
+
+pub returns-clause-added : goal.returns-clause-added
+returns-clause-added g c =
+    let R = g.T.Ring.ring in
+    let f = g.T.Ring.value in
+    let z = g.T.Zero.zero_value in
+    let b = c.args.b.now in
+    let k = c.args.k in
+    let start = c.args.row.now in
+    let scale = f c.args.scale in
+    let added : (j : ℕ) → j < length start → f (get_or c.add_row.new.row j z) ≡ R.add (f (get_or start j z)) (R.mul scale (lane_value R f (lane_of b.pattern k) (values_of b k) j)) = rw (← c.cs_data.ensures.offsets, ← c.cs_data.ensures.indices, ← c.cs_data.ensures.values) c.add_row.ensures.added in
+    λ j lt. added j lt ∙ ap (λ x. R.add (f (get_or start j z)) (R.mul scale x)) (lane_value_is R f z b c.cs_data.ensures.sound k c.requires.lane j)
+
+pub returns-clause-counted : goal.returns-clause-counted
+returns-clause-counted g c = rw (← c.cs_data.ensures.offsets, ← c.cs_data.ensures.indices) c.add_row.ensures.counted

@@ -1,0 +1,151 @@
+//! A product into a given matrix that has each place.
+
+ghost use Rattle.std.specs.Prelude.{◌≡◌, ◌+◌, ◌≤◌, IfErr, OnOk, OnErr};
+ghost use Rattle.sparse_algebra.specs.Plain.{plain_product};
+ghost use Rattle.sparse_op.specs.declared.error.OperationErrorKind.TheVariants.{OutOfMemory};
+ghost use Rattle.sparse_op.specs.Operands.{plain_op};
+ghost use Rattle.sparse_op.specs.Prealloc.{plain_update, IsCovered};
+ghost use Rattle.sparse_pattern.specs.Raw.{nnz_of};
+ghost use Rattle.sparse_cs.specs.PlainOfLanes.{plain_of_rows, plain_of_cols};
+ghost use Rattle.sparse_ops.specs.ScalarProducts.{IfNotTransposed, triples_of};
+
+use super::factor::{csc_factor, csr_factor};
+use super::update::update;
+use sparse_algebra::scalar::Ring;
+use sparse_base::steps::Steps;
+use sparse_cs::laws::stands_law;
+use sparse_forms::csc::CscMatrix;
+use sparse_forms::csr::CsrMatrix;
+use sparse_op::{Op, OperationError};
+use std::alloc::Global;
+
+/// Replaces `c` by `beta * c + alpha * op(a) * op(b)`, where `c` has each place of the product's pattern.
+///
+/// The inner sizes of `op(a)` and `op(b)` must be equal, and `c` must have the sizes of their product. Refuses with `OutOfMemory` only if an
+/// allocation fails; `c` is then unchanged.
+///
+/// Gustavson's algorithm (1978): one multiplication for each triple (i, k, j) with (i, k) in `op(a)` and (k, j) in `op(b)`, and one for each
+/// place of `op(a)` and of `c`. Scratch memory for one row of `c`; none if it is longer than `c` and `op(b)` have places, where each
+/// triple is added by a binary search. A transposed operand is transposed first.
+pub fn spmm_csr_prealloc_unchecked<T: Ring>(
+    alloc: Global,
+    beta: T,
+    c: &mut CsrMatrix<T>,
+    alpha: T,
+    a: Op<&CsrMatrix<T>>,
+    b: Op<&CsrMatrix<T>>,
+) -> Result<(), OperationError>
+    requires inner { (plain_op T.ring (λ m. plain_of_rows T.ring T.value m.now) a).cols
+        ≡ (plain_op T.ring (λ m. plain_of_rows T.ring T.value m.now) b).rows }
+    requires rows { (plain_op T.ring (λ m. plain_of_rows T.ring T.value m.now) a).rows ≡ c.old.pattern.major_dim }
+    requires cols { (plain_op T.ring (λ m. plain_of_rows T.ring T.value m.now) b).cols ≡ c.old.pattern.minor_dim }
+    requires covered { IsCovered (plain_product T.ring (plain_op T.ring (λ m. plain_of_rows T.ring T.value m.now) a)
+        (plain_op T.ring (λ m. plain_of_rows T.ring T.value m.now) b)) (plain_of_rows T.ring T.value c.old) }
+    ensures refused { IfErr result (λ e. e ≡ OutOfMemory) }
+    ensures unchanged { OnErr result (c.new ≡ c.old) }
+    ensures pattern { c.new.pattern ≡ c.old.pattern }
+    ensures updated { OnOk result (plain_of_rows T.ring T.value c.new
+        ≡ plain_update T.ring (T.value beta) (plain_of_rows T.ring T.value c.old) (T.value alpha)
+        (plain_product T.ring (plain_op T.ring (λ m. plain_of_rows T.ring T.value m.now) a.entry)
+        (plain_op T.ring (λ m. plain_of_rows T.ring T.value m.now) b.entry))) }
+{
+    spmm_csr_prealloc_unchecked_counted(alloc, beta, c, alpha, a, b, &mut Steps::new())
+}
+
+/// Does what [`spmm_csr_prealloc_unchecked`] does, and counts its steps: one for each multiplication of scalars.
+///
+/// If neither operand is transposed, the count grows by at most the number of places of `a` and of `c` and of triples (i, k, j) with (i, k) in
+/// `a` and (k, j) in `b`, also where the call refuses, and at `Ok` by at least the number of triples.
+pub fn spmm_csr_prealloc_unchecked_counted<T: Ring>(
+    alloc: Global,
+    beta: T,
+    c: &mut CsrMatrix<T>,
+    alpha: T,
+    a: Op<&CsrMatrix<T>>,
+    b: Op<&CsrMatrix<T>>,
+    steps: &mut Steps,
+) -> Result<(), OperationError>
+    requires inner { (plain_op T.ring (λ m. plain_of_rows T.ring T.value m.now) a).cols
+        ≡ (plain_op T.ring (λ m. plain_of_rows T.ring T.value m.now) b).rows }
+    requires rows { (plain_op T.ring (λ m. plain_of_rows T.ring T.value m.now) a).rows ≡ c.old.pattern.major_dim }
+    requires cols { (plain_op T.ring (λ m. plain_of_rows T.ring T.value m.now) b).cols ≡ c.old.pattern.minor_dim }
+    requires covered { IsCovered (plain_product T.ring (plain_op T.ring (λ m. plain_of_rows T.ring T.value m.now) a)
+        (plain_op T.ring (λ m. plain_of_rows T.ring T.value m.now) b)) (plain_of_rows T.ring T.value c.old) }
+    ensures refused { IfErr result (λ e. e ≡ OutOfMemory) }
+    ensures unchanged { OnErr result (c.new ≡ c.old) }
+    ensures pattern { c.new.pattern ≡ c.old.pattern }
+    ensures updated { OnOk result (plain_of_rows T.ring T.value c.new
+        ≡ plain_update T.ring (T.value beta) (plain_of_rows T.ring T.value c.old) (T.value alpha)
+        (plain_product T.ring (plain_op T.ring (λ m. plain_of_rows T.ring T.value m.now) a.entry)
+        (plain_op T.ring (λ m. plain_of_rows T.ring T.value m.now) b.entry))) }
+    ensures no_more { IfNotTransposed a.entry b.entry (λ m n. steps.new ≤ steps.old + nnz_of m.now.pattern
+        + nnz_of c.old.pattern + triples_of m.now.pattern n.now.pattern) }
+    ensures all_multiplied { OnOk result (IfNotTransposed a.entry b.entry (λ m n.
+        steps.old + triples_of m.now.pattern n.now.pattern ≤ steps.new)) }
+{
+    // The law costs nothing: it tells the prover what the plain matrices are.
+    stands_law::<T>();
+    let a = csr_factor(alloc, a)?;
+    let b = csr_factor(alloc, b)?;
+    let (first, second) = (a.matrix().cs(), b.matrix().cs());
+    // The calls cost nothing: their contracts tell the prover that the matrices are sound.
+    let _ = first.values();
+    let _ = second.values();
+    let _ = c.values();
+    let (pattern, values) = c.pattern_and_values_mut();
+    update(alloc, beta, pattern, values, alpha, first, second, steps)?;
+    Ok(())
+}
+
+/// Replaces `c` by `beta * c + alpha * op(a) * op(b)`, where `c` has each place of the product's pattern.
+///
+/// The inner sizes of `op(a)` and `op(b)` must be equal, and `c` must have the sizes of their product. Refuses with `OutOfMemory` only if an
+/// allocation fails; `c` is then unchanged.
+///
+/// Gustavson's algorithm (1978): one multiplication for each triple (i, k, j) with (i, k) in `op(a)` and (k, j) in `op(b)`, and one for each
+/// place of `op(a)` and of `c`. Scratch memory for one column of `c`; none if it is longer than `c` and `op(a)` have places, where each
+/// triple is added by a binary search. A transposed operand is transposed first.
+pub fn spmm_csc_prealloc_unchecked<T: Ring>(
+    alloc: Global,
+    beta: T,
+    c: &mut CscMatrix<T>,
+    alpha: T,
+    a: Op<&CscMatrix<T>>,
+    b: Op<&CscMatrix<T>>,
+) -> Result<(), OperationError>
+    requires inner { (plain_op T.ring (λ m. plain_of_cols T.ring T.value m.now) a).cols
+        ≡ (plain_op T.ring (λ m. plain_of_cols T.ring T.value m.now) b).rows }
+    requires rows { (plain_op T.ring (λ m. plain_of_cols T.ring T.value m.now) a).rows ≡ c.old.pattern.minor_dim }
+    requires cols { (plain_op T.ring (λ m. plain_of_cols T.ring T.value m.now) b).cols ≡ c.old.pattern.major_dim }
+    requires covered { IsCovered (plain_product T.ring (plain_op T.ring (λ m. plain_of_cols T.ring T.value m.now) a)
+        (plain_op T.ring (λ m. plain_of_cols T.ring T.value m.now) b)) (plain_of_cols T.ring T.value c.old) }
+    ensures refused { IfErr result (λ e. e ≡ OutOfMemory) }
+    ensures unchanged { OnErr result (c.new ≡ c.old) }
+    ensures pattern { c.new.pattern ≡ c.old.pattern }
+    ensures updated { OnOk result (plain_of_cols T.ring T.value c.new
+        ≡ plain_update T.ring (T.value beta) (plain_of_cols T.ring T.value c.old) (T.value alpha)
+        (plain_product T.ring (plain_op T.ring (λ m. plain_of_cols T.ring T.value m.now) a.entry)
+        (plain_op T.ring (λ m. plain_of_cols T.ring T.value m.now) b.entry))) }
+{
+    // The law costs nothing: it tells the prover what the plain matrices are.
+    stands_law::<T>();
+    let a = csc_factor(alloc, a)?;
+    let b = csc_factor(alloc, b)?;
+    let (first, second) = (b.matrix().cs(), a.matrix().cs());
+    // The calls cost nothing: their contracts tell the prover that the matrices are sound.
+    let _ = first.values();
+    let _ = second.values();
+    let _ = c.values();
+    let (pattern, values) = c.pattern_and_values_mut();
+    update(
+        alloc,
+        beta,
+        pattern,
+        values,
+        alpha,
+        first,
+        second,
+        &mut Steps::new(),
+    )?;
+    Ok(())
+}

@@ -1,0 +1,78 @@
+//! A product that is added to the values of a given pattern.
+
+ghost use Rattle.std.specs.Prelude.{◌≡◌, ◌+◌, ◌≤◌, ◌↔◌, length, IsOk, IfErr, OnErr, OnOk};
+ghost use Rattle.sparse_algebra.specs.Plain.{plain_product};
+ghost use Rattle.sparse_op.specs.declared.error.OperationErrorKind.TheVariants.{InvalidPattern};
+ghost use Rattle.sparse_pattern.specs.Raw.{nnz_of};
+ghost use Rattle.sparse_cs.specs.PlainOfLanes.{plain_of_rows};
+ghost use Rattle.sparse_ops.specs.InnerUpdates.{HasProductPlaces, AreUpdated};
+ghost use Rattle.sparse_ops.specs.ScalarProducts.{triples_of};
+
+use super::scatter::scatter_rows;
+use super::search::{covers_product, search_rows};
+use sparse_algebra::scalar::Ring;
+use sparse_base::steps::Steps;
+use sparse_cs::CsMatrix;
+use sparse_op::OperationError;
+use sparse_pattern::pattern::SparsityPattern;
+use std::alloc::{AllocError, Global};
+
+// Replaces each value `c` by `beta * c + alpha * x`, where `x` is the entry of the product `a * b` at its place, or refuses before any value
+// is written.
+pub(super) fn update_checked<T: Ring>(
+    beta: T,
+    pattern: &SparsityPattern,
+    values: &mut [T],
+    alpha: T,
+    a: &CsMatrix<T>,
+    b: &CsMatrix<T>,
+) -> Result<(), OperationError>
+    requires count { length values.old ≡ length pattern.now.indices }
+    requires inner { a.now.pattern.minor_dim ≡ b.now.pattern.major_dim }
+    requires lanes { a.now.pattern.major_dim ≡ pattern.now.major_dim }
+    ensures covered { IsOk result ↔ HasProductPlaces pattern.now a.now.pattern b.now.pattern }
+    ensures kind { IfErr result (λ e. e ≡ InvalidPattern) }
+    ensures unchanged { OnErr result (values.new ≡ values.old) }
+    ensures updated { OnOk result (AreUpdated T.ring T.value T.zero_value pattern.now (T.value beta) (T.value alpha)
+        (plain_product T.ring (plain_of_rows T.ring T.value a.now) (plain_of_rows T.ring T.value b.now)).value
+        values.old values.new) }
+{
+    if !covers_product(pattern, a.pattern(), b.pattern()) {
+        return Err(OperationError::of_product_pattern());
+    }
+    search_rows(beta, pattern, values, alpha, a, b, &mut Steps::new());
+    Ok(())
+}
+
+// Replaces each value `c` by `beta * c + alpha * x`, where `x` is the entry of the product `a * b` at its place.
+//
+// Memory for a scratch row is taken only if the row is no longer than `b` and the pattern have places.
+pub(super) fn update<T: Ring>(
+    alloc: Global,
+    beta: T,
+    pattern: &SparsityPattern,
+    values: &mut [T],
+    alpha: T,
+    a: &CsMatrix<T>,
+    b: &CsMatrix<T>,
+    steps: &mut Steps,
+) -> Result<(), AllocError>
+    requires count { length values.old ≡ length pattern.now.indices }
+    requires inner { a.now.pattern.minor_dim ≡ b.now.pattern.major_dim }
+    requires lanes { a.now.pattern.major_dim ≡ pattern.now.major_dim }
+    requires width { b.now.pattern.minor_dim ≡ pattern.now.minor_dim }
+    requires places { HasProductPlaces pattern.now a.now.pattern b.now.pattern }
+    ensures unchanged { OnErr result (values.new ≡ values.old) }
+    ensures updated { OnOk result (AreUpdated T.ring T.value T.zero_value pattern.now (T.value beta) (T.value alpha)
+        (plain_product T.ring (plain_of_rows T.ring T.value a.now) (plain_of_rows T.ring T.value b.now)).value
+        values.old values.new) }
+    ensures no_more { steps.new ≤ steps.old + nnz_of a.now.pattern + nnz_of pattern.now
+        + triples_of a.now.pattern b.now.pattern }
+    ensures all_multiplied { OnOk result (steps.old + triples_of a.now.pattern b.now.pattern ≤ steps.new) }
+{
+    if pattern.nnz().saturating_add(b.pattern().nnz()) < pattern.minor_dim() {
+        search_rows(beta, pattern, values, alpha, a, b, steps);
+        return Ok(());
+    }
+    scatter_rows(alloc, beta, pattern, values, alpha, a, b, steps)
+}
