@@ -1,4 +1,5 @@
-//! A sum into a given matrix, lane after lane: both lanes are in order, so one pass over the target's finds each place of the operand's.
+//! A sum into a given matrix, lane after lane: both lanes are in order, so one pass over the
+//! target's finds each place of the operand's.
 
 ghost use Rattle.std.specs.Prelude.{◌≡◌, ℕ, ◌+◌, ◌<◌, ◌≤◌, ◌⊎◌, ◌↔◌, false, IsTrue, length, slice_index, slice_index_or};
 ghost use Rattle.std.specs.List.Sorted.{IsStrictlyIncreasing};
@@ -53,7 +54,8 @@ pub(crate) fn add_in_order<T: Ring>(
     requires lanes { a.now.pattern.major_dim ≡ target.now.major_dim }
     requires covered { HasPlacesOf target.now false a.now.pattern }
     ensures count { length values.new ≡ length values.old }
-    ensures added { (i j p : ℕ) → IsPosition target.now i j p → T.value (slice_index_or values.new p T.zero_value)
+    ensures added { (i j p : ℕ) → IsPosition target.now i j p
+        → T.value (slice_index_or values.new p T.zero_value)
         ≡ T.ring.add (T.value (slice_index_or values.old p T.zero_value))
         (T.ring.mul (T.value alpha) ((plain_of_rows T.ring T.value a.now).value i j)) }
 {
@@ -87,9 +89,11 @@ fn add_lane<T: Ring>(
     requires rising { IsStrictlyIncreasing lane.now }
     requires covered { HasIndicesOf target.now lane.now }
     ensures count { length values.new ≡ length values.old }
-    ensures added { (m : ℕ) → m < length target.now → T.value (slice_index_or values.new (start + m) T.zero_value)
+    ensures added { (m : ℕ) → m < length target.now
+        → T.value (slice_index_or values.new (start + m) T.zero_value)
         ≡ T.ring.add (T.value (slice_index_or values.old (start + m) T.zero_value))
-        (T.ring.mul (T.value alpha) (lane_value T.ring T.value lane.now lane_values.now (slice_index target.now m))) }
+        (T.ring.mul (T.value alpha)
+        (lane_value T.ring T.value lane.now lane_values.now (slice_index target.now m))) }
     ensures kept { (x : ℕ) → (x < start) ⊎ (start + length target.now ≤ x)
         → slice_index_or values.new x T.zero_value ≡ slice_index_or values.old x T.zero_value }
 {

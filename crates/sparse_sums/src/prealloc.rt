@@ -21,20 +21,25 @@ use sparse_pattern::pattern::SparsityPattern;
 
 /// Replaces `c` by `beta * c + alpha * op(a)` on the places of `c`.
 ///
-/// `op(a)` must have the sizes of `c`. Refuses with [`InvalidPattern`](sparse_op::OperationErrorKind::InvalidPattern) exactly where `op(a)`
-/// has a place that `c` lacks, whatever its value is; `c` is then unchanged.
+/// `op(a)` must have the sizes of `c`. Refuses with
+/// [`InvalidPattern`](sparse_op::OperationErrorKind::InvalidPattern) exactly where `op(a)` has a
+/// place that `c` lacks, whatever its value is; `c` is then unchanged.
 ///
-/// Without a transpose two passes over the rows of `c` and of `a` side by side; with one, two binary searches in a row of `c` for each
-/// place of `a`; then one more pass over the values of `c`. Takes no memory.
+/// Without a transpose two passes over the rows of `c` and of `a` side by side; with one, two
+/// binary searches in a row of `c` for each place of `a`; then one more pass over the values of
+/// `c`. Takes no memory.
 pub fn spadd_csr_prealloc<T: Ring>(
     beta: T,
     c: &mut CsrMatrix<T>,
     alpha: T,
     a: Op<&CsrMatrix<T>>,
 ) -> Result<(), OperationError>
-    requires rows { (plain_op T.ring (λ m. plain_of_rows T.ring T.value m.now) a).rows ≡ c.old.pattern.major_dim }
-    requires cols { (plain_op T.ring (λ m. plain_of_rows T.ring T.value m.now) a).cols ≡ c.old.pattern.minor_dim }
-    ensures covered { IsOk result ↔ IsCovered (plain_op T.ring (λ m. plain_of_rows T.ring T.value m.now) a.entry)
+    requires rows { (plain_op T.ring (λ m. plain_of_rows T.ring T.value m.now) a).rows
+        ≡ c.old.pattern.major_dim }
+    requires cols { (plain_op T.ring (λ m. plain_of_rows T.ring T.value m.now) a).cols
+        ≡ c.old.pattern.minor_dim }
+    ensures covered { IsOk result
+        ↔ IsCovered (plain_op T.ring (λ m. plain_of_rows T.ring T.value m.now) a.entry)
         (plain_of_rows T.ring T.value c.old) }
     ensures kind { IfErr result (λ e. e ≡ InvalidPattern) }
     ensures unchanged { OnErr result (c.new ≡ c.old) }
@@ -54,20 +59,25 @@ pub fn spadd_csr_prealloc<T: Ring>(
 
 /// Replaces `c` by `beta * c + alpha * op(a)` on the places of `c`.
 ///
-/// `op(a)` must have the sizes of `c`. Refuses with [`InvalidPattern`](sparse_op::OperationErrorKind::InvalidPattern) exactly where `op(a)`
-/// has a place that `c` lacks, whatever its value is; `c` is then unchanged.
+/// `op(a)` must have the sizes of `c`. Refuses with
+/// [`InvalidPattern`](sparse_op::OperationErrorKind::InvalidPattern) exactly where `op(a)` has a
+/// place that `c` lacks, whatever its value is; `c` is then unchanged.
 ///
-/// Without a transpose two passes over the columns of `c` and of `a` side by side; with one, two binary searches in a column of `c` for
-/// each place of `a`; then one more pass over the values of `c`. Takes no memory.
+/// Without a transpose two passes over the columns of `c` and of `a` side by side; with one, two
+/// binary searches in a column of `c` for each place of `a`; then one more pass over the values of
+/// `c`. Takes no memory.
 pub fn spadd_csc_prealloc<T: Ring>(
     beta: T,
     c: &mut CscMatrix<T>,
     alpha: T,
     a: Op<&CscMatrix<T>>,
 ) -> Result<(), OperationError>
-    requires rows { (plain_op T.ring (λ m. plain_of_cols T.ring T.value m.now) a).rows ≡ c.old.pattern.minor_dim }
-    requires cols { (plain_op T.ring (λ m. plain_of_cols T.ring T.value m.now) a).cols ≡ c.old.pattern.major_dim }
-    ensures covered { IsOk result ↔ IsCovered (plain_op T.ring (λ m. plain_of_cols T.ring T.value m.now) a.entry)
+    requires rows { (plain_op T.ring (λ m. plain_of_cols T.ring T.value m.now) a).rows
+        ≡ c.old.pattern.minor_dim }
+    requires cols { (plain_op T.ring (λ m. plain_of_cols T.ring T.value m.now) a).cols
+        ≡ c.old.pattern.major_dim }
+    ensures covered { IsOk result
+        ↔ IsCovered (plain_op T.ring (λ m. plain_of_cols T.ring T.value m.now) a.entry)
         (plain_of_cols T.ring T.value c.old) }
     ensures kind { IfErr result (λ e. e ≡ InvalidPattern) }
     ensures unchanged { OnErr result (c.new ≡ c.old) }
@@ -85,7 +95,8 @@ pub fn spadd_csc_prealloc<T: Ring>(
     }
 }
 
-// Multiplies the values by `beta` and adds `alpha` times the operand's, or refuses before any value is written.
+// Multiplies the values by `beta` and adds `alpha` times the operand's, or refuses before any value
+// is written.
 pub(crate) fn add_into<T: Ring>(
     beta: T,
     pattern: &SparsityPattern,
@@ -100,8 +111,10 @@ pub(crate) fn add_into<T: Ring>(
     ensures kind { IfErr result (λ e. e ≡ InvalidPattern) }
     ensures unchanged { OnErr result (values.new ≡ values.old) }
     ensures sound { IsSound a.now }
-    ensures added { OnOk result (AreAdded T.ring T.value T.zero_value pattern.now (T.value beta) (T.value alpha)
-        (plain_turned T.ring false (plain_of_rows T.ring T.value a.now)).value values.old values.new) }
+    ensures added { OnOk result (AreAdded T.ring T.value T.zero_value pattern.now
+        (T.value beta) (T.value alpha)
+        (plain_turned T.ring false (plain_of_rows T.ring T.value a.now)).value
+        values.old values.new) }
 {
     // The call costs nothing: its contract tells the prover that the pattern is valid.
     let _ = pattern.major_offsets();
@@ -128,8 +141,10 @@ fn add_turned_into<T: Ring>(
     ensures kind { IfErr result (λ e. e ≡ InvalidPattern) }
     ensures unchanged { OnErr result (values.new ≡ values.old) }
     ensures sound { IsSound a.now }
-    ensures added { OnOk result (AreAdded T.ring T.value T.zero_value pattern.now (T.value beta) (T.value alpha)
-        (plain_turned T.ring true (plain_of_rows T.ring T.value a.now)).value values.old values.new) }
+    ensures added { OnOk result (AreAdded T.ring T.value T.zero_value pattern.now
+        (T.value beta) (T.value alpha)
+        (plain_turned T.ring true (plain_of_rows T.ring T.value a.now)).value
+        values.old values.new) }
 {
     // The call costs nothing: its contract tells the prover that the pattern is valid.
     let _ = pattern.major_offsets();
@@ -163,9 +178,11 @@ fn add_turned<T: Ring>(target: &SparsityPattern, values: &mut [T], alpha: T, a: 
     requires count { length values.old ≡ length target.now.indices }
     requires covered { HasPlacesOf target.now true a.now.pattern }
     ensures count { length values.new ≡ length values.old }
-    ensures added { (i j p : ℕ) → IsPosition target.now i j p → T.value (slice_index_or values.new p T.zero_value)
+    ensures added { (i j p : ℕ) → IsPosition target.now i j p
+        → T.value (slice_index_or values.new p T.zero_value)
         ≡ T.ring.add (T.value (slice_index_or values.old p T.zero_value))
-        (T.ring.mul (T.value alpha) ((plain_turned T.ring true (plain_of_rows T.ring T.value a.now)).value i j)) }
+        (T.ring.mul (T.value alpha)
+        ((plain_turned T.ring true (plain_of_rows T.ring T.value a.now)).value i j)) }
 {
     // The call costs nothing: its contract tells the prover that the pattern is valid.
     let _ = target.major_offsets();
