@@ -4,5 +4,5 @@ pub mod UnionLanes
 pub mod Adding
 pub mod SumLanes
 pub mod Placing
--- pub mod InOrder
+pub mod InOrder
 pub mod Updating

@@ -25,4 +25,5 @@ pub record AreUnionOffsets (a b : Raw) (n : ℕ) (offsets : List ℕ) : Type 0 w
   pub count : length offsets ≡ n + 1
   pub first : slice_index offsets 0 ≡ 0
   pub steps : (i : ℕ) → i < n
-      → IsUnionStep (lane_of a i) (lane_of b i) (slice_index offsets i) (slice_index offsets (i + 1))
+      → IsUnionStep (lane_of a i) (lane_of b i)
+      (slice_index offsets i) (slice_index offsets (i + 1))

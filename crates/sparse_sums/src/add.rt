@@ -16,10 +16,12 @@ use std::alloc::{AllocError, Global};
 
 /// Returns the sum `a + b`.
 ///
-/// The result stores the union of the places, even where a sum is zero. Both matrices must have the same sizes.
+/// The result stores the union of the places, even where a sum is zero. Both matrices must have the
+/// same sizes.
 ///
-/// The places are counted first, so that memory is allocated once, for exactly as many as the result has; then one merge of two sorted
-/// rows for each row. Linear in places and rows. Fails only if an allocation fails.
+/// The places are counted first, so that memory is allocated once, for exactly as many as the
+/// result has; then one merge of two sorted rows for each row. Linear in places and rows. Fails
+/// only if an allocation fails.
 ///
 /// # Examples
 ///
@@ -38,14 +40,16 @@ pub fn add_csr<T: Ring>(
     requires rows { a.now.pattern.major_dim ≡ b.now.pattern.major_dim }
     requires cols { a.now.pattern.minor_dim ≡ b.now.pattern.minor_dim }
     ensures { IfOk result (λ m. plain_of_rows T.ring T.value m
-        ≡ plain_sum T.ring (plain_of_rows T.ring T.value a.now) (plain_of_rows T.ring T.value b.now)) }
+        ≡ plain_sum T.ring (plain_of_rows T.ring T.value a.now)
+        (plain_of_rows T.ring T.value b.now)) }
 {
     Ok(CsrMatrix::from_cs(merge::<T, false>(alloc, a.cs(), b.cs())?))
 }
 
 /// Returns the difference `a - b`.
 ///
-/// The result stores the union of the places, even where a difference is zero. Both matrices must have the same sizes.
+/// The result stores the union of the places, even where a difference is zero. Both matrices must
+/// have the same sizes.
 ///
 /// Time, memory and errors are those of [`add_csr`].
 ///
@@ -66,17 +70,20 @@ pub fn sub_csr<T: Ring>(
     requires rows { a.now.pattern.major_dim ≡ b.now.pattern.major_dim }
     requires cols { a.now.pattern.minor_dim ≡ b.now.pattern.minor_dim }
     ensures { IfOk result (λ m. plain_of_rows T.ring T.value m
-        ≡ plain_difference T.ring (plain_of_rows T.ring T.value a.now) (plain_of_rows T.ring T.value b.now)) }
+        ≡ plain_difference T.ring (plain_of_rows T.ring T.value a.now)
+        (plain_of_rows T.ring T.value b.now)) }
 {
     Ok(CsrMatrix::from_cs(merge::<T, true>(alloc, a.cs(), b.cs())?))
 }
 
 /// Returns the sum `a + b`.
 ///
-/// The result stores the union of the places, even where a sum is zero. Both matrices must have the same sizes.
+/// The result stores the union of the places, even where a sum is zero. Both matrices must have the
+/// same sizes.
 ///
-/// The places are counted first, so that memory is allocated once, for exactly as many as the result has; then one merge of two sorted
-/// columns for each column. Linear in places and columns. Fails only if an allocation fails.
+/// The places are counted first, so that memory is allocated once, for exactly as many as the
+/// result has; then one merge of two sorted columns for each column. Linear in places and columns.
+/// Fails only if an allocation fails.
 pub fn add_csc<T: Ring>(
     alloc: Global,
     a: &CscMatrix<T>,
@@ -85,14 +92,16 @@ pub fn add_csc<T: Ring>(
     requires rows { a.now.pattern.minor_dim ≡ b.now.pattern.minor_dim }
     requires cols { a.now.pattern.major_dim ≡ b.now.pattern.major_dim }
     ensures { IfOk result (λ m. plain_of_cols T.ring T.value m
-        ≡ plain_sum T.ring (plain_of_cols T.ring T.value a.now) (plain_of_cols T.ring T.value b.now)) }
+        ≡ plain_sum T.ring (plain_of_cols T.ring T.value a.now)
+        (plain_of_cols T.ring T.value b.now)) }
 {
     Ok(CscMatrix::from_cs(merge::<T, false>(alloc, a.cs(), b.cs())?))
 }
 
 /// Returns the difference `a - b`.
 ///
-/// The result stores the union of the places, even where a difference is zero. Both matrices must have the same sizes.
+/// The result stores the union of the places, even where a difference is zero. Both matrices must
+/// have the same sizes.
 ///
 /// Time, memory and errors are those of [`add_csc`].
 pub fn sub_csc<T: Ring>(
@@ -103,7 +112,8 @@ pub fn sub_csc<T: Ring>(
     requires rows { a.now.pattern.minor_dim ≡ b.now.pattern.minor_dim }
     requires cols { a.now.pattern.major_dim ≡ b.now.pattern.major_dim }
     ensures { IfOk result (λ m. plain_of_cols T.ring T.value m
-        ≡ plain_difference T.ring (plain_of_cols T.ring T.value a.now) (plain_of_cols T.ring T.value b.now)) }
+        ≡ plain_difference T.ring (plain_of_cols T.ring T.value a.now)
+        (plain_of_cols T.ring T.value b.now)) }
 {
     Ok(CscMatrix::from_cs(merge::<T, true>(alloc, a.cs(), b.cs())?))
 }
@@ -117,7 +127,8 @@ fn merge<T: Ring, const NEGATE: bool>(
     requires lanes { a.now.pattern.major_dim ≡ b.now.pattern.major_dim }
     requires width { a.now.pattern.minor_dim ≡ b.now.pattern.minor_dim }
     ensures { IfOk result (λ m. plain_of_rows T.ring T.value m
-        ≡ plain_sum T.ring (plain_of_rows T.ring T.value a.now) (plain_signed T.ring NEGATE (plain_of_rows T.ring T.value b.now))) }
+        ≡ plain_sum T.ring (plain_of_rows T.ring T.value a.now)
+        (plain_signed T.ring NEGATE (plain_of_rows T.ring T.value b.now))) }
 {
     let (a_offsets, a_indices, a_values) = a.cs_data();
     let (b_offsets, b_indices, b_values) = b.cs_data();

@@ -28,7 +28,8 @@ pub(crate) fn union_offsets(
     Ok(offsets)
 }
 
-// Returns the number of indices that the lanes have together, each counted once. No branch depends on an index.
+// Returns the number of indices that the lanes have together, each counted once. No branch depends
+// on an index.
 fn union_count(a: &[usize], b: &[usize]) -> usize
     requires a_rising { IsStrictlyIncreasing a.now }
     requires b_rising { IsStrictlyIncreasing b.now }

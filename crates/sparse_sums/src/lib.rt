@@ -3,7 +3,7 @@
 
 mod add;
 mod count;
-// mod in_order;
+mod in_order;
 mod merge;
 mod pattern;
 mod prealloc;

@@ -40,7 +40,8 @@ fn push_rest<T: Ring, const NEGATE: bool>(
     }
 }
 
-// Appends the entries of both lanes, those of `b` with their sign, in increasing order of index. Two of one index are added.
+// Appends the entries of both lanes, those of `b` with their sign, in increasing order of index.
+// Two of one index are added.
 pub(crate) fn add_lanes<T: Ring, const NEGATE: bool>(
     a: &[usize],
     a_values: &[T],
@@ -58,7 +59,8 @@ pub(crate) fn add_lanes<T: Ring, const NEGATE: bool>(
     requires values_room { vec_capacity values.old ≡ vec_capacity indices.old }
     ensures capacity { vec_capacity indices.new ≡ vec_capacity indices.old }
     ensures values_capacity { vec_capacity values.new ≡ vec_capacity values.old }
-    ensures gained { GainsEntries T.ring T.value indices.old.items indices.new.items values.old.items values.new.items
+    ensures gained { GainsEntries T.ring T.value indices.old.items indices.new.items
+        values.old.items values.new.items
         (λ j. Contains a.now j ⊎ Contains b.now j)
         (λ j. T.ring.add (lane_value T.ring T.value a.now a_values.now j)
         (lane_value T.ring (λ x. signed T.ring NEGATE (T.value x)) b.now b_values.now j)) }

@@ -14,8 +14,9 @@ use std::alloc::{AllocError, Global};
 ///
 /// Both patterns must have the same sizes.
 ///
-/// One merge of two sorted lanes for each lane: linear in places and lanes. Memory for the indices is asked for once, for as many as both
-/// patterns have together. Fails only if an allocation fails.
+/// One merge of two sorted lanes for each lane: linear in places and lanes. Memory for the indices
+/// is asked for once, for as many as both patterns have together. Fails only if an allocation
+/// fails.
 pub fn spadd_pattern(
     alloc: Global,
     a: &SparsityPattern,

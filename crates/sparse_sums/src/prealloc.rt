@@ -1,6 +1,6 @@
 //! A sum into a given matrix.
 
-ghost use Rattle.std.specs.Prelude.{◌≡◌, ℕ, ◌<◌, ◌↔◌, IsTrue, IsOk, IfErr, OnOk, OnErr, IfSome, length, slice_index_or};
+ghost use Rattle.std.specs.Prelude.{◌≡◌, ℕ, ◌<◌, ◌↔◌, true, false, IsTrue, IsOk, IfErr, OnOk, OnErr, IfSome, length, slice_index_or};
 ghost use Rattle.sparse_op.specs.declared.error.OperationErrorKind.TheVariants.{InvalidPattern};
 ghost use Rattle.sparse_pattern.specs.Raw.{IsPlace};
 ghost use Rattle.sparse_cs.specs.Compressed.{IsPosition, IsSound};
@@ -8,8 +8,9 @@ ghost use Rattle.sparse_cs.specs.PlainOfLanes.{plain_of_rows, plain_of_cols};
 ghost use Rattle.sparse_cs.specs.StoredEntries.{place_of};
 ghost use Rattle.sparse_op.specs.Operands.{plain_op};
 ghost use Rattle.sparse_op.specs.Prealloc.{plain_update, IsCovered};
-ghost use Rattle.sparse_sums.specs.InnerPlacing.{lane_in, index_in, lanes_of_op, plain_turned, HasPlacesOf, AreAdded};
+ghost use Rattle.sparse_sums.specs.InnerPlacing.{plain_turned, HasPlacesOf, AreAdded};
 
+use crate::in_order::{add_in_order, covers_lanes};
 use sparse_algebra::scalar::Ring;
 use sparse_cs::scaling::scale_values;
 use sparse_cs::{CsMatrix, LaneIndices};
@@ -20,19 +21,25 @@ use sparse_pattern::pattern::SparsityPattern;
 
 /// Replaces `c` by `beta * c + alpha * op(a)` on the places of `c`.
 ///
-/// `op(a)` must have the sizes of `c`. Refuses with [`InvalidPattern`](sparse_op::OperationErrorKind::InvalidPattern) exactly where `op(a)`
-/// has a place that `c` lacks, whatever its value is; `c` is then unchanged.
+/// `op(a)` must have the sizes of `c`. Refuses with
+/// [`InvalidPattern`](sparse_op::OperationErrorKind::InvalidPattern) exactly where `op(a)` has a
+/// place that `c` lacks, whatever its value is; `c` is then unchanged.
 ///
-/// Two binary searches in a row of `c` for each place of `a`, and one pass over `c`. Takes no memory.
+/// Without a transpose two passes over the rows of `c` and of `a` side by side; with one, two
+/// binary searches in a row of `c` for each place of `a`; then one more pass over the values of
+/// `c`. Takes no memory.
 pub fn spadd_csr_prealloc<T: Ring>(
     beta: T,
     c: &mut CsrMatrix<T>,
     alpha: T,
     a: Op<&CsrMatrix<T>>,
 ) -> Result<(), OperationError>
-    requires rows { (plain_op T.ring (λ m. plain_of_rows T.ring T.value m.now) a).rows ≡ c.old.pattern.major_dim }
-    requires cols { (plain_op T.ring (λ m. plain_of_rows T.ring T.value m.now) a).cols ≡ c.old.pattern.minor_dim }
-    ensures covered { IsOk result ↔ IsCovered (plain_op T.ring (λ m. plain_of_rows T.ring T.value m.now) a.entry)
+    requires rows { (plain_op T.ring (λ m. plain_of_rows T.ring T.value m.now) a).rows
+        ≡ c.old.pattern.major_dim }
+    requires cols { (plain_op T.ring (λ m. plain_of_rows T.ring T.value m.now) a).cols
+        ≡ c.old.pattern.minor_dim }
+    ensures covered { IsOk result
+        ↔ IsCovered (plain_op T.ring (λ m. plain_of_rows T.ring T.value m.now) a.entry)
         (plain_of_rows T.ring T.value c.old) }
     ensures kind { IfErr result (λ e. e ≡ InvalidPattern) }
     ensures unchanged { OnErr result (c.new ≡ c.old) }
@@ -45,26 +52,32 @@ pub fn spadd_csr_prealloc<T: Ring>(
     let _ = c.values();
     let (pattern, values) = c.pattern_and_values_mut();
     match a {
-        Op::NoOp(a) => add_into(beta, pattern, values, alpha, a.cs(), false),
-        Op::Transpose(a) => add_into(beta, pattern, values, alpha, a.cs(), true),
+        Op::NoOp(a) => add_into(beta, pattern, values, alpha, a.cs()),
+        Op::Transpose(a) => add_turned_into(beta, pattern, values, alpha, a.cs()),
     }
 }
 
 /// Replaces `c` by `beta * c + alpha * op(a)` on the places of `c`.
 ///
-/// `op(a)` must have the sizes of `c`. Refuses with [`InvalidPattern`](sparse_op::OperationErrorKind::InvalidPattern) exactly where `op(a)`
-/// has a place that `c` lacks, whatever its value is; `c` is then unchanged.
+/// `op(a)` must have the sizes of `c`. Refuses with
+/// [`InvalidPattern`](sparse_op::OperationErrorKind::InvalidPattern) exactly where `op(a)` has a
+/// place that `c` lacks, whatever its value is; `c` is then unchanged.
 ///
-/// Two binary searches in a column of `c` for each place of `a`, and one pass over `c`. Takes no memory.
+/// Without a transpose two passes over the columns of `c` and of `a` side by side; with one, two
+/// binary searches in a column of `c` for each place of `a`; then one more pass over the values of
+/// `c`. Takes no memory.
 pub fn spadd_csc_prealloc<T: Ring>(
     beta: T,
     c: &mut CscMatrix<T>,
     alpha: T,
     a: Op<&CscMatrix<T>>,
 ) -> Result<(), OperationError>
-    requires rows { (plain_op T.ring (λ m. plain_of_cols T.ring T.value m.now) a).rows ≡ c.old.pattern.minor_dim }
-    requires cols { (plain_op T.ring (λ m. plain_of_cols T.ring T.value m.now) a).cols ≡ c.old.pattern.major_dim }
-    ensures covered { IsOk result ↔ IsCovered (plain_op T.ring (λ m. plain_of_cols T.ring T.value m.now) a.entry)
+    requires rows { (plain_op T.ring (λ m. plain_of_cols T.ring T.value m.now) a).rows
+        ≡ c.old.pattern.minor_dim }
+    requires cols { (plain_op T.ring (λ m. plain_of_cols T.ring T.value m.now) a).cols
+        ≡ c.old.pattern.major_dim }
+    ensures covered { IsOk result
+        ↔ IsCovered (plain_op T.ring (λ m. plain_of_cols T.ring T.value m.now) a.entry)
         (plain_of_cols T.ring T.value c.old) }
     ensures kind { IfErr result (λ e. e ≡ InvalidPattern) }
     ensures unchanged { OnErr result (c.new ≡ c.old) }
@@ -77,51 +90,82 @@ pub fn spadd_csc_prealloc<T: Ring>(
     let _ = c.values();
     let (pattern, values) = c.pattern_and_values_mut();
     match a {
-        Op::NoOp(a) => add_into(beta, pattern, values, alpha, a.cs(), false),
-        Op::Transpose(a) => add_into(beta, pattern, values, alpha, a.cs(), true),
+        Op::NoOp(a) => add_into(beta, pattern, values, alpha, a.cs()),
+        Op::Transpose(a) => add_turned_into(beta, pattern, values, alpha, a.cs()),
     }
 }
 
-// Multiplies the values by `beta` and adds `alpha` times the operand's, or refuses before any value is written.
+// Multiplies the values by `beta` and adds `alpha` times the operand's, or refuses before any value
+// is written.
 pub(crate) fn add_into<T: Ring>(
     beta: T,
     pattern: &SparsityPattern,
     values: &mut [T],
     alpha: T,
     a: &CsMatrix<T>,
-    turned: bool,
 ) -> Result<(), OperationError>
     requires count { length values.old ≡ length pattern.now.indices }
-    requires lanes { lanes_of_op turned a.now.pattern ≡ pattern.now.major_dim }
+    requires lanes { a.now.pattern.major_dim ≡ pattern.now.major_dim }
     ensures count { length values.new ≡ length values.old }
-    ensures covered { IsOk result ↔ HasPlacesOf pattern.now turned a.now.pattern }
+    ensures covered { IsOk result ↔ HasPlacesOf pattern.now false a.now.pattern }
     ensures kind { IfErr result (λ e. e ≡ InvalidPattern) }
     ensures unchanged { OnErr result (values.new ≡ values.old) }
     ensures sound { IsSound a.now }
-    ensures added { OnOk result (AreAdded T.ring T.value T.zero_value pattern.now (T.value beta) (T.value alpha)
-        (plain_turned T.ring turned (plain_of_rows T.ring T.value a.now)).value values.old values.new) }
+    ensures added { OnOk result (AreAdded T.ring T.value T.zero_value pattern.now
+        (T.value beta) (T.value alpha)
+        (plain_turned T.ring false (plain_of_rows T.ring T.value a.now)).value
+        values.old values.new) }
 {
     // The call costs nothing: its contract tells the prover that the pattern is valid.
     let _ = pattern.major_offsets();
-    if !covers(pattern, a.pattern(), turned) {
+    if !covers_lanes(pattern, a.pattern()) {
         return Err(OperationError::of_sum_pattern());
     }
     scale_values(beta, values);
-    add_entries(pattern, values, alpha, a, turned);
+    add_in_order(pattern, values, alpha, a);
     Ok(())
 }
 
-// Whether the target has each place of the operand.
-fn covers(target: &SparsityPattern, a: &SparsityPattern, turned: bool) -> bool
-    requires { lanes_of_op turned a.now ≡ target.now.major_dim }
-    ensures { IsTrue result ↔ HasPlacesOf target.now turned a.now }
+// The same for the transpose of the operand.
+fn add_turned_into<T: Ring>(
+    beta: T,
+    pattern: &SparsityPattern,
+    values: &mut [T],
+    alpha: T,
+    a: &CsMatrix<T>,
+) -> Result<(), OperationError>
+    requires count { length values.old ≡ length pattern.now.indices }
+    requires lanes { a.now.pattern.minor_dim ≡ pattern.now.major_dim }
+    ensures count { length values.new ≡ length values.old }
+    ensures covered { IsOk result ↔ HasPlacesOf pattern.now true a.now.pattern }
+    ensures kind { IfErr result (λ e. e ≡ InvalidPattern) }
+    ensures unchanged { OnErr result (values.new ≡ values.old) }
+    ensures sound { IsSound a.now }
+    ensures added { OnOk result (AreAdded T.ring T.value T.zero_value pattern.now
+        (T.value beta) (T.value alpha)
+        (plain_turned T.ring true (plain_of_rows T.ring T.value a.now)).value
+        values.old values.new) }
+{
+    // The call costs nothing: its contract tells the prover that the pattern is valid.
+    let _ = pattern.major_offsets();
+    if !covers_turned(pattern, a.pattern()) {
+        return Err(OperationError::of_sum_pattern());
+    }
+    scale_values(beta, values);
+    add_turned(pattern, values, alpha, a);
+    Ok(())
+}
+
+// Whether the target has each place of the operand's transpose.
+fn covers_turned(target: &SparsityPattern, a: &SparsityPattern) -> bool
+    requires { a.now.minor_dim ≡ target.now.major_dim }
+    ensures { IsTrue result ↔ HasPlacesOf target.now true a.now }
 {
     // The calls cost nothing: their contracts tell the prover that the patterns are valid.
     let _ = target.major_offsets();
     let _ = a.major_offsets();
     for (i, j) in a.entries() {
-        let (lane, index) = place_in(turned, i, j);
-        match position_of(target, lane, index) {
+        match position_of(target, j, i) {
             Some(_) => {}
             None => return false,
         }
@@ -129,38 +173,25 @@ fn covers(target: &SparsityPattern, a: &SparsityPattern, turned: bool) -> bool
     true
 }
 
-// Adds `alpha` times the operand's values at their places.
-fn add_entries<T: Ring>(
-    target: &SparsityPattern,
-    values: &mut [T],
-    alpha: T,
-    a: &CsMatrix<T>,
-    turned: bool,
-)
+// Adds `alpha` times the values of the operand's transpose at their places.
+fn add_turned<T: Ring>(target: &SparsityPattern, values: &mut [T], alpha: T, a: &CsMatrix<T>)
     requires count { length values.old ≡ length target.now.indices }
-    requires covered { HasPlacesOf target.now turned a.now.pattern }
+    requires covered { HasPlacesOf target.now true a.now.pattern }
     ensures count { length values.new ≡ length values.old }
-    ensures added { (i j p : ℕ) → IsPosition target.now i j p → T.value (slice_index_or values.new p T.zero_value)
+    ensures added { (i j p : ℕ) → IsPosition target.now i j p
+        → T.value (slice_index_or values.new p T.zero_value)
         ≡ T.ring.add (T.value (slice_index_or values.old p T.zero_value))
-        (T.ring.mul (T.value alpha) ((plain_turned T.ring turned (plain_of_rows T.ring T.value a.now)).value i j)) }
+        (T.ring.mul (T.value alpha)
+        ((plain_turned T.ring true (plain_of_rows T.ring T.value a.now)).value i j)) }
 {
     // The call costs nothing: its contract tells the prover that the pattern is valid.
     let _ = target.major_offsets();
     for (i, j, value) in a.triplet_iter() {
-        let (lane, index) = place_in(turned, i, j);
-        match position_of(target, lane, index) {
+        match position_of(target, j, i) {
             Some(at) => values[at] = values[at].add(alpha.mul(*value)),
             None => {}
         }
     }
-}
-
-// The pair, exchanged where the operand is transposed.
-fn place_in(turned: bool, i: usize, j: usize) -> (usize, usize)
-    ensures lane { result.0 ≡ lane_in turned i j }
-    ensures index { result.1 ≡ index_in turned i j }
-{
-    if turned { (j, i) } else { (i, j) }
 }
 
 // The position of a place, by binary search in the lane.

@@ -11,7 +11,8 @@ use std::alloc::{AllocError, Global};
 
 /// Returns the matrix with each value multiplied by `factor`.
 ///
-/// The places stay, also where a product is zero. Linear in places and rows. Fails only if an allocation fails.
+/// The places stay, also where a product is zero. Linear in places and rows. Fails only if an
+/// allocation fails.
 pub fn scale_csr<T: Ring>(
     alloc: Global,
     a: &CsrMatrix<T>,
@@ -37,7 +38,8 @@ pub fn neg_csr<T: Ring>(alloc: Global, a: &CsrMatrix<T>) -> Result<CsrMatrix<T>,
 
 /// Returns the matrix with each value multiplied by `factor`.
 ///
-/// The places stay, also where a product is zero. Linear in places and columns. Fails only if an allocation fails.
+/// The places stay, also where a product is zero. Linear in places and columns. Fails only if an
+/// allocation fails.
 pub fn scale_csc<T: Ring>(
     alloc: Global,
     a: &CscMatrix<T>,

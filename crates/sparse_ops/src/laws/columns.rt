@@ -19,7 +19,8 @@ pub fn product_of_sum<T: Ring>(
     requires inner { a.now.pattern.major_dim ≡ b.now.pattern.minor_dim }
     requires rows { b.now.pattern.minor_dim ≡ c.now.pattern.minor_dim }
     requires cols { b.now.pattern.major_dim ≡ c.now.pattern.major_dim }
-    ensures { IfOk result (λ m. plain_of_cols T.ring T.value m.0 ≡ plain_of_cols T.ring T.value m.1) }
+    ensures { IfOk result (λ m. plain_of_cols T.ring T.value m.0
+        ≡ plain_of_cols T.ring T.value m.1) }
 {
     let sum = add_csc(alloc, b, c)?;
     let product = mul_csc(alloc, a, &sum)?;
@@ -39,7 +40,8 @@ pub fn sum_times<T: Ring>(
     requires rows { a.now.pattern.minor_dim ≡ b.now.pattern.minor_dim }
     requires cols { a.now.pattern.major_dim ≡ b.now.pattern.major_dim }
     requires inner { b.now.pattern.major_dim ≡ c.now.pattern.minor_dim }
-    ensures { IfOk result (λ m. plain_of_cols T.ring T.value m.0 ≡ plain_of_cols T.ring T.value m.1) }
+    ensures { IfOk result (λ m. plain_of_cols T.ring T.value m.0
+        ≡ plain_of_cols T.ring T.value m.1) }
 {
     let sum = add_csc(alloc, a, b)?;
     let product = mul_csc(alloc, &sum, c)?;
@@ -57,7 +59,8 @@ pub fn difference_as_sum<T: Ring>(
 ) -> Result<(CscMatrix<T>, CscMatrix<T>), AllocError>
     requires rows { a.now.pattern.minor_dim ≡ b.now.pattern.minor_dim }
     requires cols { a.now.pattern.major_dim ≡ b.now.pattern.major_dim }
-    ensures { IfOk result (λ m. plain_of_cols T.ring T.value m.0 ≡ plain_of_cols T.ring T.value m.1) }
+    ensures { IfOk result (λ m. plain_of_cols T.ring T.value m.0
+        ≡ plain_of_cols T.ring T.value m.1) }
 {
     let difference = sub_csc(alloc, a, b)?;
     let negative = neg_csc(alloc, b)?;
@@ -67,15 +70,18 @@ pub fn difference_as_sum<T: Ring>(
 
 /// Returns `-(-a)`, which is equal to `a`. Fails only if an allocation fails.
 pub fn negative_twice<T: Ring>(alloc: Global, a: &CscMatrix<T>) -> Result<CscMatrix<T>, AllocError>
-    ensures { IfOk result (λ m. plain_of_cols T.ring T.value m ≡ plain_of_cols T.ring T.value a.now) }
+    ensures { IfOk result (λ m. plain_of_cols T.ring T.value m
+        ≡ plain_of_cols T.ring T.value a.now) }
 {
     let negative = neg_csc(alloc, a)?;
     neg_csc(alloc, &negative)
 }
 
-/// Returns the product of the identity and `a`, which is equal to `a`. Fails only if an allocation fails.
+/// Returns the product of the identity and `a`, which is equal to `a`. Fails only if an allocation
+/// fails.
 pub fn identity_times<T: Ring>(alloc: Global, a: &CscMatrix<T>) -> Result<CscMatrix<T>, AllocError>
-    ensures { IfOk result (λ m. plain_of_cols T.ring T.value m ≡ plain_of_cols T.ring T.value a.now) }
+    ensures { IfOk result (λ m. plain_of_cols T.ring T.value m
+        ≡ plain_of_cols T.ring T.value a.now) }
 {
     // The call costs nothing: its contract tells the prover that the matrix is sound.
     let _ = a.values();
@@ -83,9 +89,11 @@ pub fn identity_times<T: Ring>(alloc: Global, a: &CscMatrix<T>) -> Result<CscMat
     mul_csc(alloc, &identity, a)
 }
 
-/// Returns the product of `a` and the identity, which is equal to `a`. Fails only if an allocation fails.
+/// Returns the product of `a` and the identity, which is equal to `a`. Fails only if an allocation
+/// fails.
 pub fn times_identity<T: Ring>(alloc: Global, a: &CscMatrix<T>) -> Result<CscMatrix<T>, AllocError>
-    ensures { IfOk result (λ m. plain_of_cols T.ring T.value m ≡ plain_of_cols T.ring T.value a.now) }
+    ensures { IfOk result (λ m. plain_of_cols T.ring T.value m
+        ≡ plain_of_cols T.ring T.value a.now) }
 {
     // The call costs nothing: its contract tells the prover that the matrix is sound.
     let _ = a.values();
@@ -93,14 +101,16 @@ pub fn times_identity<T: Ring>(alloc: Global, a: &CscMatrix<T>) -> Result<CscMat
     mul_csc(alloc, a, &identity)
 }
 
-/// Returns the transpose of `a * b`, and the product of the transposes in reverse order, which are equal. Fails only if an allocation fails.
+/// Returns the transpose of `a * b`, and the product of the transposes in reverse order, which are
+/// equal. Fails only if an allocation fails.
 pub fn transpose_of_product<T: Ring>(
     alloc: Global,
     a: &CscMatrix<T>,
     b: &CscMatrix<T>,
 ) -> Result<(CscMatrix<T>, CscMatrix<T>), AllocError>
     requires { a.now.pattern.major_dim ≡ b.now.pattern.minor_dim }
-    ensures { IfOk result (λ m. plain_of_cols T.ring T.value m.0 ≡ plain_of_cols T.ring T.value m.1) }
+    ensures { IfOk result (λ m. plain_of_cols T.ring T.value m.0
+        ≡ plain_of_cols T.ring T.value m.1) }
 {
     let product = mul_csc(alloc, a, b)?;
     let transposed = transposed_csc(alloc, &product)?;
@@ -112,7 +122,8 @@ pub fn transpose_of_product<T: Ring>(
 
 // The transpose, in the same form.
 fn transposed_csc<T: Ring>(alloc: Global, a: &CscMatrix<T>) -> Result<CscMatrix<T>, AllocError>
-    ensures { IfOk result (λ m. plain_of_cols T.ring T.value m ≡ plain_transpose T.ring (plain_of_cols T.ring T.value a.now)) }
+    ensures { IfOk result (λ m. plain_of_cols T.ring T.value m
+        ≡ plain_transpose T.ring (plain_of_cols T.ring T.value a.now)) }
 {
     // The call costs nothing: its contract tells the prover that the matrix is sound.
     let _ = a.values();

@@ -1,5 +1,4 @@
-use Rattle.std.proofs.Common.{◌≡◌, ◌+◌, ◌≤◌, ◌⊎◌, inl, inr, length, arith}
-use Rattle.sparse_sums.specs.InnerUnions.{IsUnionStep}
+use Rattle.std.proofs.Common.{◌≡◌, ◌⊎◌, inl, inr, length, arith}
 use Rattle.sparse_sums.proofs.UnionCounts.{counted_first, counted_second, counted_both, all_counted}
 use Rattle.sparse_sums.proofs.count.union_count.Goals as goal
 use Rattle.sparse_sums.proofs.count.union_count.Goals.{then-j-k, else-j-k, then-k-j, else-k-j, then-loop-p-test+else-q-b, else-loop-p-test}

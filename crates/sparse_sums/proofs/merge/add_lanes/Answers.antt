@@ -1,10 +1,9 @@
-use Rattle.std.proofs.Common.{not, eqb, ◌≡◌, ◌+◌, ◌-◌, ◌≤◌, ◌++◌, length, take, drop, Contains, ◌⊎◌, subst, sym, ap, ◌∙◌, arith}
+use Rattle.std.proofs.Common.{not, eqb, ◌++◌, length, drop, Contains, ◌⊎◌, subst, sym, ap, ◌∙◌, arith}
 use Rattle.std.proofs.lemmas.List.{take_rest, length-drop}
 use Rattle.sparse_cs.specs.InnerRows.{lane_value}
 use Rattle.sparse_sums.specs.InnerSigns.{signed}
 use Rattle.sparse_sums.specs.InnerAdding.{GainsValues, GainsEntries}
 use Rattle.sparse_sums.proofs.Adding.{rest_added}
-use Rattle.sparse_sums.proofs.UnionCounts.{rest_fits}
 use Rattle.sparse_sums.proofs.merge.add_lanes.Goals as goal
 
 pub push_rest-requires-clause-room : goal.push_rest-requires-clause-room

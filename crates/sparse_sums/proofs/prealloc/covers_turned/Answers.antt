@@ -1,10 +1,9 @@
-use Rattle.std.proofs.Common.{◌≡◌, inl, ap, sym, refl, ◌∙◌, None, Some, rules, arith}
+use Rattle.std.proofs.Common.{◌≡◌, inl, true, sym, refl, ◌∙◌, None, Some, rules, arith}
 use Rattle.sparse_pattern.specs.Raw.{entries_of}
 use Rattle.sparse_pattern.proofs.LaneOrder.{entries_are_places}
 use Rattle.sparse_cs.specs.StoredEntries.{place_of}
-use Rattle.sparse_sums.specs.InnerPlacing.{lane_in, index_in}
 use Rattle.sparse_sums.proofs.Placing.{missed, found_place, covered_more, all_covered, next_is_place, lane_of_place, later_places}
-use Rattle.sparse_sums.proofs.prealloc.covers.Goals as goal
+use Rattle.sparse_sums.proofs.prealloc.covers_turned.Goals as goal
 
 pub loop-i-init : goal.loop-i-init
 loop-i-init c =
@@ -15,32 +14,28 @@ pub position_of-requires : goal.position_of-requires
 position_of-requires c =
     let va = c.major_offsets-2.ensures.valid in
     let place = next_is_place c.args.a.now va c.loop-i.i-iterator c.next.new.self c.in-Some.i c.in-Some.j c.in-Some.ensures.steps c.loop-i.invariant.places in
-    let lane = lane_of_place c.args.a.now c.args.turned c.in-Some.i c.in-Some.j va place in
-    omega (arith, c.place_in-lane.ensures.lane, lane, c.requires)
+    let lane = lane_of_place c.args.a.now true c.in-Some.i c.in-Some.j va place in
+    omega (arith, lane, c.requires)
 
 pub loop-i-preserved : goal.loop-i-preserved
 loop-i-preserved c =
     let d = c.args.target.now in
-    let turned = c.args.turned in
     let i = c.in-Some.i in
     let j = c.in-Some.j in
-    let here = c.place_in-lane.ensures in
-    let found : place_of d (lane_in turned i j) (index_in turned i j) ≡ Some c.in-Some-position_of.field-0 = ap (λ k. place_of d k (index_in turned i j)) (sym here.lane) ∙ ap (place_of d c.place_in-lane.result.0) (sym here.index) ∙ sym c.position_of.ensures.position ∙ c.in-Some-position_of.is in
+    let found : place_of d j i ≡ Some c.in-Some-position_of.field-0 = sym c.position_of.ensures.position ∙ c.in-Some-position_of.is in
     record {
       places = later_places c.args.a.now c.loop-i.i-iterator c.next.new.self i j c.in-Some.ensures.steps c.loop-i.invariant.places;
-      covered = covered_more d turned (entries_of c.args.a.now) c.loop-i.i-iterator c.next.new.self i j c.in-Some.ensures.steps (found_place d c.major_offsets.ensures.valid _ _ _ found) c.loop-i.invariant.covered;
+      covered = covered_more d true (entries_of c.args.a.now) c.loop-i.i-iterator c.next.new.self i j c.in-Some.ensures.steps (found_place d c.major_offsets.ensures.valid _ _ _ found) c.loop-i.invariant.covered;
     }
 
 pub returns-in-None-position_of : goal.returns-in-None-position_of
 returns-in-None-position_of c =
     let d = c.args.target.now in
-    let turned = c.args.turned in
     let i = c.in-Some.i in
     let j = c.in-Some.j in
-    let here = c.place_in-lane.ensures in
-    let none : place_of d (lane_in turned i j) (index_in turned i j) ≡ None = ap (λ k. place_of d k (index_in turned i j)) (sym here.lane) ∙ ap (place_of d c.place_in-lane.result.0) (sym here.index) ∙ sym c.position_of.ensures.position ∙ c.in-None-position_of.is in
+    let none : place_of d j i ≡ None = sym c.position_of.ensures.position ∙ c.in-None-position_of.is in
     let place = next_is_place c.args.a.now c.major_offsets-2.ensures.valid c.loop-i.i-iterator c.next.new.self i j c.in-Some.ensures.steps c.loop-i.invariant.places in
     (λ h. cc, λ h. absurd (missed d c.major_offsets.ensures.valid _ _ none (h i j place)))
 
 pub returns : goal.returns
-returns c = (λ _. all_covered c.args.target.now c.args.a.now c.args.turned c.loop-i.i-iterator c.major_offsets-2.ensures.valid c.in-None.ensures.steps.0 c.loop-i.invariant.covered, λ _. refl)
+returns c = (λ _. all_covered c.args.target.now c.args.a.now true c.loop-i.i-iterator c.major_offsets-2.ensures.valid c.in-None.ensures.steps.0 c.loop-i.invariant.covered, λ _. refl)

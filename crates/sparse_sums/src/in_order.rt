@@ -1,0 +1,107 @@
+//! A sum into a given matrix, lane after lane: both lanes are in order, so one pass over the
+//! target's finds each place of the operand's.
+
+ghost use Rattle.std.specs.Prelude.{◌≡◌, ℕ, ◌+◌, ◌<◌, ◌≤◌, ◌⊎◌, ◌↔◌, false, IsTrue, length, slice_index, slice_index_or};
+ghost use Rattle.std.specs.List.Sorted.{IsStrictlyIncreasing};
+ghost use Rattle.sparse_cs.specs.Compressed.{IsPosition};
+ghost use Rattle.sparse_cs.specs.InnerRows.{lane_value};
+ghost use Rattle.sparse_cs.specs.PlainOfLanes.{plain_of_rows};
+ghost use Rattle.sparse_sums.specs.InnerPlacing.{HasIndicesOf, HasPlacesOf};
+
+use sparse_algebra::scalar::Ring;
+use sparse_cs::CsMatrix;
+use sparse_pattern::pattern::SparsityPattern;
+
+// Whether the target has each place of the operand.
+pub(crate) fn covers_lanes(target: &SparsityPattern, a: &SparsityPattern) -> bool
+    requires { a.now.major_dim ≡ target.now.major_dim }
+    ensures { IsTrue result ↔ HasPlacesOf target.now false a.now }
+{
+    // The calls cost nothing: their contracts tell the prover that the patterns are valid.
+    let _ = target.major_offsets();
+    let _ = a.major_offsets();
+    for i in 0..a.major_dim() {
+        if !covers_lane(target.lane(i), a.lane(i)) {
+            return false;
+        }
+    }
+    true
+}
+
+// Whether the target has each index of the lane.
+fn covers_lane(target: &[usize], lane: &[usize]) -> bool
+    requires target_rising { IsStrictlyIncreasing target.now }
+    requires rising { IsStrictlyIncreasing lane.now }
+    ensures { IsTrue result ↔ HasIndicesOf target.now lane.now }
+{
+    let mut k = 0;
+    for p in 0..target.len() {
+        if k < lane.len() && target[p] == lane[k] {
+            k += 1;
+        }
+    }
+    k == lane.len()
+}
+
+// Adds `alpha` times the operand's values at their places.
+pub(crate) fn add_in_order<T: Ring>(
+    target: &SparsityPattern,
+    values: &mut [T],
+    alpha: T,
+    a: &CsMatrix<T>,
+)
+    requires count { length values.old ≡ length target.now.indices }
+    requires lanes { a.now.pattern.major_dim ≡ target.now.major_dim }
+    requires covered { HasPlacesOf target.now false a.now.pattern }
+    ensures count { length values.new ≡ length values.old }
+    ensures added { (i j p : ℕ) → IsPosition target.now i j p
+        → T.value (slice_index_or values.new p T.zero_value)
+        ≡ T.ring.add (T.value (slice_index_or values.old p T.zero_value))
+        (T.ring.mul (T.value alpha) ((plain_of_rows T.ring T.value a.now).value i j)) }
+{
+    let (offsets, indices, a_values) = a.cs_data();
+    for i in 0..target.major_dim() {
+        let (begin, end) = (offsets[i], offsets[i + 1]);
+        let start = target.major_offsets()[i];
+        add_lane(
+            target.lane(i),
+            start,
+            values,
+            alpha,
+            &indices[begin..end],
+            &a_values[begin..end],
+        );
+    }
+}
+
+// Adds `alpha` times the lane's values to those of the target lane, which begin at `start`.
+fn add_lane<T: Ring>(
+    target: &[usize],
+    start: usize,
+    values: &mut [T],
+    alpha: T,
+    lane: &[usize],
+    lane_values: &[T],
+)
+    requires inside { start + length target.now ≤ length values.old }
+    requires count { length lane_values.now ≡ length lane.now }
+    requires target_rising { IsStrictlyIncreasing target.now }
+    requires rising { IsStrictlyIncreasing lane.now }
+    requires covered { HasIndicesOf target.now lane.now }
+    ensures count { length values.new ≡ length values.old }
+    ensures added { (m : ℕ) → m < length target.now
+        → T.value (slice_index_or values.new (start + m) T.zero_value)
+        ≡ T.ring.add (T.value (slice_index_or values.old (start + m) T.zero_value))
+        (T.ring.mul (T.value alpha)
+        (lane_value T.ring T.value lane.now lane_values.now (slice_index target.now m))) }
+    ensures kept { (x : ℕ) → (x < start) ⊎ (start + length target.now ≤ x)
+        → slice_index_or values.new x T.zero_value ≡ slice_index_or values.old x T.zero_value }
+{
+    let mut k = 0;
+    for p in 0..target.len() {
+        if k < lane.len() && target[p] == lane[k] {
+            values[start + p] = values[start + p].add(alpha.mul(lane_values[k]));
+            k += 1;
+        }
+    }
+}
