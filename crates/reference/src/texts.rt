@@ -17,6 +17,7 @@ use sparse_parser::header::Header;
 use std::alloc::{AllocError, Global};
 
 pub mod entries;
+mod entry;
 mod grammar;
 mod header;
 mod lines;

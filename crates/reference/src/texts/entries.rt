@@ -1,25 +1,19 @@
 //! What data lines mean.
 
-ghost use Rattle.std.specs.Prelude.{◌≡◌, ℕ, ◌<◌, ◌++◌, ◌&&◌, nat_lt, slice_get, true, IfOk, OnOk, IsTrue, Option, None, map};
+ghost use Rattle.std.specs.Prelude.{◌≡◌, ◌<◌, ◌++◌, ◌&&◌, nat_lt, slice_get, IfOk, OnOk, None, map};
 ghost use Rattle.std.specs.List.{list_all};
-ghost use Rattle.sparse_parser.specs.Grammar.{is_index};
-ghost use Rattle.sparse_parser.specs.declared.header.Format.TheVariants.{Coordinate, Array};
 ghost use Rattle.sparse_parser.specs.ArrayPlaces.{places_of, array_places, column, first_row};
-ghost use Rattle.sparse_parser.specs.Reads.{read_as};
-ghost use Rattle.sparse_parser.specs.Meaning.{value_of, entry_of, place_of, number_of, is_of_field, mirrored, triplets_of, entries_of, listed_of, inside_of, value_triplet};
-ghost use Rattle.reference.specs.InnerTexts.{texts, lines_in, seen, listed_as, both_of};
+ghost use Rattle.sparse_parser.specs.Meaning.{entries_of, listed_of, inside_of, value_triplet};
+ghost use Rattle.reference.specs.InnerTexts.{lines_in, seen, listed_as, both_of};
 
-use crate::texts::lines::{Line, first_word};
-use crate::texts::numbers::{integer, is_index, number};
+use crate::texts::entry::{Triplet, triplets};
+use crate::texts::lines::Line;
 use crate::texts::sizes::Sizes;
 use sparse_io::MatrixMarketScalar;
-use sparse_parser::error::{MatrixMarketError, MatrixMarketErrorKind};
-use sparse_parser::header::{Field, Format, Header, Symmetry};
+use sparse_parser::error::MatrixMarketErrorKind;
+use sparse_parser::header::{Format, Header, Symmetry};
 use sparse_pattern::error::SparseFormatErrorKind;
 use std::alloc::{AllocError, Global};
-
-/// A row and a column, counted from 0, and a value.
-pub type Triplet<T> = (usize, usize, T);
 
 /// The sizes and the triplets that a text means.
 #[derive(Drop)]
@@ -199,149 +193,6 @@ fn push_both<T: Copy>(
         Some(second) => {
             list.push(second)?;
             Ok(())
-        }
-    }
-}
-
-// The triplets of a data line; an array's entry stands at the given place.
-#[tactic(auto, unfolding(sparse_parser::specs::Meaning::triplets_of))]
-fn triplets<T: MatrixMarketScalar>(
-    header: Header,
-    at: Option<(usize, usize)>,
-    words: &[&[u8]],
-) -> Result<(Triplet<T>, Option<Triplet<T>>), MatrixMarketErrorKind>
-    ensures { seen (λ t. map (value_triplet T.value) (both_of t)) result
-        ≡ triplets_of T.scalar header at (texts words.now) }
-{
-    let entry = match header.format {
-        Format::Coordinate => coordinate_entry(header.field, words)?,
-        Format::Array => array_entry(header.field, at, words)?,
-    };
-    with_mirrored(header.symmetry, entry)
-}
-
-// The entry of a coordinate line: two indices and a value.
-#[tactic(auto, unfolding(sparse_parser::specs::Meaning::entry_of))]
-fn coordinate_entry<T: MatrixMarketScalar>(
-    field: Field,
-    words: &[&[u8]],
-) -> Result<Triplet<T>, MatrixMarketErrorKind>
-    ensures { (at : Option (ℕ × ℕ)) → seen (λ t. value_triplet T.value t) result
-        ≡ entry_of T.scalar Coordinate field at (texts words.now) }
-{
-    let Some((row, others)) = first_word(words) else {
-        return Err(MatrixMarketErrorKind::ParsingError);
-    };
-    let Some((col, value)) = first_word(others) else {
-        return Err(MatrixMarketErrorKind::ParsingError);
-    };
-    if !is_index(row) || !is_index(col) || !is_of_field(field, value) {
-        return Err(MatrixMarketErrorKind::ParsingError);
-    }
-    let (row, col) = place(row, col)?;
-    Ok((row, col, value_of(field, value)?))
-}
-
-// The entry of an array at its place.
-#[tactic(auto, unfolding(sparse_parser::specs::Meaning::entry_of))]
-fn array_entry<T: MatrixMarketScalar>(
-    field: Field,
-    at: Option<(usize, usize)>,
-    words: &[&[u8]],
-) -> Result<Triplet<T>, MatrixMarketErrorKind>
-    ensures { seen (λ t. value_triplet T.value t) result
-        ≡ entry_of T.scalar Array field at (texts words.now) }
-{
-    match at {
-        Some((row, col)) if is_of_field(field, words) => Ok((row, col, value_of(field, words)?)),
-        _ => Err(MatrixMarketErrorKind::ParsingError),
-    }
-}
-
-// Whether a value of the field has as many words.
-fn is_of_field(field: Field, words: &[&[u8]]) -> bool
-    ensures { result ≡ is_of_field field (texts words.now) }
-{
-    let count = match field {
-        Field::Integer | Field::Real => 1,
-        Field::Complex => 2,
-        Field::Pattern => 0,
-    };
-    words.len() == count
-}
-
-// The place of a row and a column counted from 1.
-#[tactic(auto, unfolding(sparse_parser::specs::Meaning::place_of))]
-fn place(row: &[u8], col: &[u8]) -> Result<(usize, usize), MatrixMarketErrorKind>
-    requires row { IsTrue (is_index row.now) }
-    requires col { IsTrue (is_index col.now) }
-    ensures { result ≡ place_of (number_of row.now) (number_of col.now) }
-{
-    let row = number(row)?;
-    let col = number(col)?;
-    if row == 0 || col == 0 {
-        return Err(MatrixMarketErrorKind::ZeroError);
-    }
-    Ok((row - 1, col - 1))
-}
-
-// The value that words of its field write.
-#[tactic(auto, unfolding(sparse_parser::specs::Meaning::value_of))]
-fn value_of<T: MatrixMarketScalar>(
-    field: Field,
-    words: &[&[u8]],
-) -> Result<T, MatrixMarketErrorKind>
-    requires { is_of_field field (texts words.now) ≡ true }
-    ensures { seen T.value result ≡ value_of T.scalar field (texts words.now) }
-{
-    match (field, words) {
-        (Field::Integer, [word, ..]) => kind_of(T::from_i128(integer(word)?)),
-        (Field::Pattern, _) => kind_of(T::from_pattern(())),
-        _ => Err(MatrixMarketErrorKind::TypeMismatch),
-    }
-}
-
-// An answer, with the kind of an error in its place.
-fn kind_of<T: MatrixMarketScalar>(
-    answer: Result<T, MatrixMarketError>,
-) -> Result<T, MatrixMarketErrorKind>
-    ensures { seen T.value result ≡ read_as T.value answer }
-{
-    match answer {
-        Ok(value) => Ok(value),
-        Err(error) => Err(error.kind()),
-    }
-}
-
-// An entry with the one that the symmetry implies.
-#[tactic(auto, unfolding(sparse_parser::specs::Meaning::mirrored))]
-fn with_mirrored<T: MatrixMarketScalar>(
-    symmetry: Symmetry,
-    entry: Triplet<T>,
-) -> Result<(Triplet<T>, Option<Triplet<T>>), MatrixMarketErrorKind>
-    ensures { seen (λ t. map (value_triplet T.value) (both_of t)) result
-        ≡ mirrored T.scalar symmetry (value_triplet T.value entry) }
-{
-    let (row, col, value) = entry;
-    match symmetry {
-        Symmetry::General => Ok((entry, None)),
-        Symmetry::SkewSymmetric => {
-            if row < col {
-                return Err(MatrixMarketErrorKind::NotLowerTriangle);
-            }
-            if row == col {
-                return Err(MatrixMarketErrorKind::DiagonalError);
-            }
-            Ok((entry, Some((col, row, kind_of(value.negative())?))))
-        }
-        Symmetry::Symmetric | Symmetry::Hermitian => {
-            if row < col {
-                return Err(MatrixMarketErrorKind::NotLowerTriangle);
-            }
-            if row == col {
-                return Ok((entry, None));
-            }
-            Ok((entry, Some((col, row, value))))
         }
     }
 }
