@@ -1,4 +1,5 @@
 pub mod Values
+pub mod Joined
 pub mod Postfix
 pub mod Trees
 pub mod Loading

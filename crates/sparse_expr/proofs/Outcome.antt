@@ -7,7 +7,7 @@ use Rattle.std.specs.Fmt.{signed_decimal, decimal}
 use Rattle.std.proofs.lemmas.List.{length-map}
 use Rattle.sparse_algebra.specs.Algebra.{CommRing}
 use Rattle.sparse_algebra.specs.Sums.{sum_by, where_true}
-use Rattle.sparse_base.specs.Coo.{Coo}
+use Rattle.sparse_base.specs.Coo.{Coo, coo_of}
 use Rattle.sparse_algebra.specs.Plain.{Plain, is_at, plain_of_triplets, plain_sum, plain_difference, plain_product, plain_transpose, plain_negation}
 use Rattle.sparse_algebra.specs.Wrapping.{class_of}
 use Rattle.sparse_algebra.specs.Numbers.{w64_number}
@@ -19,6 +19,8 @@ use Rattle.sparse_base.specs.CooPlain.{plain_of_coo}
 use Rattle.sparse_cs.specs.PlainOfLanes.{plain_of_rows, plain_of_cols, meant}
 use Rattle.sparse_cs.proofs.RowOrder.{row_order-rows}
 use Rattle.sparse_cs.proofs.ColOrder.{col_order-cols}
+use Rattle.std.specs.Io.KnownBytes.{Appends}
+use Rattle.sparse_io.specs.Sink.{AppendsSome}
 use Rattle.sparse_io.specs.Written.{written_text, heading, size_line, triplet_line}
 use Rattle.sparse_expr.specs.declared.calculator.Form.{Form}
 use Rattle.sparse_expr.specs.declared.calculator.Form.TheVariants.{Rows, Cols}
@@ -27,8 +29,8 @@ use Rattle.sparse_expr.specs.declared.expr.Expr.TheVariants as tree
 use Rattle.sparse_expr.specs.declared.error.ExprError.{ExprError}
 use Rattle.sparse_expr.specs.declared.error.ExprError.TheVariants as errors
 use Rattle.sparse_expr.specs.Value.{value_of, found, input_at, both, one, same_sizes, sum_of, difference_of, product_of}
-use Rattle.sparse_expr.specs.Run.{ring64, element_text, text_in, plains, AllMean, HasOutcome, WritesSome, Effect, IsUntouched, RefusesRun}
-use Rattle.sparse_expr.specs.InnerRun.{numbers_of, rows_text, cols_text, RefusesLoad, RefusesSave}
+use Rattle.sparse_expr.specs.Run.{ring64, element_text, text_in, plains, AllMean, HasOutcome, Writes, WritesSome, Effect, IsUntouched, RefusesRun}
+use Rattle.sparse_expr.specs.InnerRun.{numbers_of, text_of_coo, RefusesLoad, RefusesSave}
 
 -- ---- triplets whose values are read by way of another type
 
@@ -77,13 +79,15 @@ element-text : (x : W64)
 element-text x = ap signed_decimal (number_of-class w64 x.number x.in_range)
 
 pub text_in-rows : (m : Compressed W64) → IsSound m
-    → text_in Rows (plain_of_rows ring64 (λ x. class_of w64 (w64_number x)) m) ≡ rows_text m
+    → text_in Rows (plain_of_rows ring64 (λ x. class_of w64 (w64_number x)) m)
+    ≡ text_of_coo (coo_of m.pattern.major_dim m.pattern.minor_dim (lane_triplets m))
 text_in-rows m sound =
     ap (written_text (codes "integer") element_text m.pattern.major_dim m.pattern.minor_dim) (row_order-rows ring64 (λ x. class_of w64 (w64_number x)) m sound)
     ∙ written-via (λ x. class_of w64 (w64_number x)) element_text (λ x. signed_decimal (w64_number x)) element-text (codes "integer") m.pattern.major_dim m.pattern.minor_dim (lane_triplets m)
 
 pub text_in-cols : (m : Compressed W64) → IsSound m
-    → text_in Cols (plain_of_cols ring64 (λ x. class_of w64 (w64_number x)) m) ≡ cols_text m
+    → text_in Cols (plain_of_cols ring64 (λ x. class_of w64 (w64_number x)) m)
+    ≡ text_of_coo (coo_of m.pattern.minor_dim m.pattern.major_dim (map turned (lane_triplets m)))
 text_in-cols m sound =
     ap (written_text (codes "integer") element_text m.pattern.minor_dim m.pattern.major_dim) (col_order-cols ring64 (λ x. class_of w64 (w64_number x)) m sound)
     ∙ written-via (λ x. class_of w64 (w64_number x)) element_text (λ x. signed_decimal (w64_number x)) element-text (codes "integer") m.pattern.minor_dim m.pattern.major_dim (map turned (lane_triplets m))
@@ -156,7 +160,7 @@ refuses-value form texts expr eff e same h = elim h [
   ]
 ]
 
-pub refuses-save : (form : Form) (texts : List (List ℕ)) (expr : Expr) (eff : Effect) (e : ExprError)
+refuses-save : (form : Form) (texts : List (List ℕ)) (expr : Expr) (eff : Effect) (e : ExprError)
     → WritesSome form texts expr eff.taken_before eff.taken → RefusesSave eff e
     → RefusesRun form texts expr eff e
 refuses-save form texts expr eff errors.BadWord some h = absurd h
@@ -167,6 +171,24 @@ refuses-save form texts expr eff errors.Shape some h = absurd h
 refuses-save form texts expr eff (errors.Input n k) some h = absurd h
 refuses-save form texts expr eff (errors.Write kind) some h = (some, h.0, h.1)
 refuses-save form texts expr eff errors.OutOfMemory some h = (h, inr some)
+
+module _ (form : Form) (texts : List (List ℕ)) (expr : Expr) (value : Value) (is : HasOutcome texts expr (Ok value)) (text : List ℕ) (said : text_in form value ≡ text) where
+  -- the text of the value is appended
+  pub writes : (old new : Option (List ℕ)) → Appends old new text → Writes form texts expr old new
+  writes old new appended = record {
+    value = value;
+    is_value = is;
+    appended = subst (Appends old new) (sym said) appended;
+  }
+
+  -- or a prefix of it, where the save is refused
+  pub refuses-write : (eff : Effect) (e : ExprError) → AppendsSome eff.taken_before eff.taken text
+      → RefusesSave eff e → RefusesRun form texts expr eff e
+  refuses-write eff e appended = refuses-save form texts expr eff e (record {
+    value = value;
+    is_value = is;
+    appended = subst (AppendsSome eff.taken_before eff.taken) (sym said) appended;
+  })
 
 pub refuses-load : (form : Form) (texts : List (List ℕ)) (expr : Expr) (eff : Effect) (e : ExprError)
     → IsUntouched eff → RefusesLoad texts e → RefusesRun form texts expr eff e

@@ -90,12 +90,12 @@ module _ (R : CommRing) where
     negation_met false x z is = sym is
 
     -- a product of transposes is the transpose of the product in reverse order
-    pub product_turned : (x y : Compressed T) (r : Result (Compressed T) ExprError)
-        → Meets R (λ m. plain_of_rows R f m) (product_of R (plain_of_rows R f y) (plain_of_rows R f x)) r
-        → Meets R (rows_or_turned R f true) (product_of R (rows_or_turned R f true x) (rows_or_turned R f true y)) r
-    product_turned x y (Ok z) met =
+    pub product_turned : {M : Type 0} (g : M → Compressed T) (x y : Compressed T) (r : Result M ExprError)
+        → Meets R (λ m. plain_of_rows R f (g m)) (product_of R (plain_of_rows R f y) (plain_of_rows R f x)) r
+        → Meets R (λ m. rows_or_turned R f true (g m)) (product_of R (rows_or_turned R f true x) (rows_or_turned R f true y)) r
+    product_turned g x y (Ok z) met =
         turned_product (plain_of_rows R f y) (plain_of_rows R f x) ∙ ap (one R (plain_transpose R)) met
-    product_turned x y (Err e) met = elim met [
+    product_turned g x y (Err e) met = elim met [
       | inl memory ↦ inl memory
       | inr refused ↦ inr (turned_product (plain_of_rows R f y) (plain_of_rows R f x) ∙ ap (one R (plain_transpose R)) refused)
     ]

@@ -5,8 +5,7 @@ use Rattle.sparse_algebra.specs.Numbers.{w64_number}
 use Rattle.sparse_algebra.specs.declared.scalar.wrapping.W64.{W64}
 use Rattle.sparse_base.specs.Coo.{Coo}
 use Rattle.sparse_parser.specs.Meaning.{values_of}
-use Rattle.sparse_cs.specs.Compressed.{Compressed, lane_triplets, turned}
-use Rattle.sparse_io.specs.Written.{written_text}
+use Rattle.sparse_io.specs.Written.{text_of}
 use Rattle.sparse_expr.specs.declared.error.ExprError.{ExprError}
 use Rattle.sparse_expr.specs.declared.error.ExprError.TheVariants as refusal
 use Rattle.sparse_expr.specs.Run.{Effect, IsFirstRefused}
@@ -23,13 +22,9 @@ RefusesSave e (refusal.Write kind) = (e.failures ≡ e.failures_before + 1) × (
 RefusesSave e refusal.OutOfMemory = e.failures ≡ e.failures_before
 RefusesSave e _ = ⊥
 
--- the text of a matrix by rows
-abbrev pub rows_text : Compressed W64 → List ℕ
-rows_text m = written_text (codes "integer") (λ x. signed_decimal (w64_number x)) m.pattern.major_dim m.pattern.minor_dim (lane_triplets m)
-
--- the text of a matrix by columns
-abbrev pub cols_text : Compressed W64 → List ℕ
-cols_text m = written_text (codes "integer") (λ x. signed_decimal (w64_number x)) m.pattern.minor_dim m.pattern.major_dim (map turned (lane_triplets m))
+-- the text of a list of triplets
+abbrev pub text_of_coo : Coo W64 → List ℕ
+text_of_coo m = text_of (codes "integer") (λ x. signed_decimal (w64_number x)) m
 
 -- the numbers that a matrix holds
 abbrev pub numbers_of : Coo W64 → Coo ℤ

@@ -1,6 +1,8 @@
+pub mod ExprTypes
 pub mod Value
 pub mod PostfixWords
 pub mod OneTree
 pub mod Run
 pub mod InnerRun
 pub mod InnerTurned
+pub mod InnerSources

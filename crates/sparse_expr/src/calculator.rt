@@ -1,16 +1,14 @@
-//! From texts and an expression to a text.
+//! Runs of an expression over texts.
 
 ghost use Rattle.std.specs.Prelude.{◌≡◌, ◌⊎◌, ◌+◌, Ok, Err, map, OnOk, IfOk, OnErr, IfErr};
 ghost use Rattle.std.specs.Io.KnownBytes.{Appends};
 ghost use Rattle.sparse_parser.specs.Meaning.{Means};
 ghost use Rattle.sparse_io.specs.Sink.{AppendsSome};
-ghost use Rattle.sparse_cs.specs.Compressed.{IsSound};
 ghost use Rattle.sparse_parser.specs.declared.error.MatrixMarketErrorKind.{MatrixMarketErrorKind};
 ghost use Rattle.sparse_expr.specs.PostfixWords.{texts};
 ghost use Rattle.sparse_expr.specs.Run.{AllMean, Writes, RefusesRun, scalar64};
-ghost use Rattle.sparse_expr.specs.InnerRun.{RefusesLoad, RefusesSave, rows_text, cols_text, numbers_of};
+ghost use Rattle.sparse_expr.specs.InnerRun.{RefusesLoad, RefusesSave, text_of_coo, numbers_of};
 ghost use Rattle.sparse_expr.specs.Run.{effect};
-ghost use Rattle.sparse_expr.specs.declared.calculator.Form.TheVariants.{Rows, Cols};
 ghost use Rattle.sparse_expr.specs.declared.error.ExprError.TheVariants.{Input, OutOfMemory};
 
 use crate::error::ExprError;
@@ -18,10 +16,9 @@ use crate::evaluate::{evaluate_cols, evaluate_rows};
 use crate::expr::Expr;
 use sparse_algebra::scalar::W64;
 use sparse_base::coo::CooMatrix;
-use sparse_forms::csc::CscMatrix;
-use sparse_forms::csr::CsrMatrix;
 use sparse_io::{
-    MatrixMarketErrorKind, Sink, load_coo_from_matrix_market_str, save_to_matrix_market,
+    MatrixMarketErrorKind, MatrixMarketExport, Sink, load_coo_from_matrix_market_str,
+    save_to_matrix_market,
 };
 use std::alloc::Global;
 
@@ -40,6 +37,7 @@ pub enum Form {
 ///
 /// Returns `Input`, with its number counted from 1, for the first text that has an error, and otherwise the error of the expression;
 /// nothing is written in these cases. Returns `Write` with its kind if a write fails; a prefix of the value's text has then been written.
+/// Returns `OutOfMemory` if an allocation fails; nothing or such a prefix has then been written.
 ///
 /// # Examples
 ///
@@ -65,51 +63,23 @@ pub fn run<W: Sink>(
         (effect (W.taken out.old) (W.taken out.new)
         (W.failures out.old) (W.failures out.new) (W.last out.new))) }
 {
+    let inputs = load_all(alloc, sources)?;
     match form {
-        Form::Rows => run_rows(alloc, expr, sources, out),
-        Form::Cols => run_cols(alloc, expr, sources, out),
+        Form::Rows => {
+            let value = evaluate_rows(alloc, expr, &inputs)?;
+            // The call costs nothing: its contract tells the prover that the matrix is sound.
+            let _ = value.values();
+            save(alloc, &value, out)
+        }
+        Form::Cols => {
+            let value = evaluate_cols(alloc, expr, &inputs)?;
+            let _ = value.values();
+            save(alloc, &value, out)
+        }
     }
 }
 
-// Loads the texts, evaluates the expression, and writes its value row after row.
-fn run_rows<W: Sink>(
-    alloc: Global,
-    expr: &Expr,
-    sources: &[&str],
-    out: &mut W,
-) -> Result<(), ExprError>
-    ensures written { OnOk result
-        (Writes Rows (texts sources.now) expr.now (W.taken out.old) (W.taken out.new)) }
-    ensures none_failed { OnOk result (W.failures out.new ≡ W.failures out.old) }
-    ensures refused { IfErr result (RefusesRun Rows (texts sources.now) expr.now
-        (effect (W.taken out.old) (W.taken out.new)
-        (W.failures out.old) (W.failures out.new) (W.last out.new))) }
-{
-    let inputs = load_all(alloc, sources)?;
-    let value = evaluate_rows(alloc, expr, &inputs)?;
-    save_rows(alloc, &value, out)
-}
-
-// Loads the texts, evaluates the expression, and writes its value column after column.
-fn run_cols<W: Sink>(
-    alloc: Global,
-    expr: &Expr,
-    sources: &[&str],
-    out: &mut W,
-) -> Result<(), ExprError>
-    ensures written { OnOk result
-        (Writes Cols (texts sources.now) expr.now (W.taken out.old) (W.taken out.new)) }
-    ensures none_failed { OnOk result (W.failures out.new ≡ W.failures out.old) }
-    ensures refused { IfErr result (RefusesRun Cols (texts sources.now) expr.now
-        (effect (W.taken out.old) (W.taken out.new)
-        (W.failures out.old) (W.failures out.new) (W.last out.new))) }
-{
-    let inputs = load_all(alloc, sources)?;
-    let value = evaluate_cols(alloc, expr, &inputs)?;
-    save_cols(alloc, &value, out)
-}
-
-// The lists of triplets that the texts mean.
+// Loads the texts in order.
 fn load_all(alloc: Global, sources: &[&str]) -> Result<Vec<CooMatrix<W64>>, ExprError>
     ensures meant { IfOk result (λ v. AllMean (texts sources.now) (map numbers_of v.items)) }
     ensures refused { IfErr result (RefusesLoad (texts sources.now)) }
@@ -121,7 +91,7 @@ fn load_all(alloc: Global, sources: &[&str]) -> Result<Vec<CooMatrix<W64>>, Expr
     Ok(inputs)
 }
 
-// The list of triplets that the text of this number means.
+// Loads the text with this number.
 fn load(alloc: Global, number: usize, text: &str) -> Result<CooMatrix<W64>, ExprError>
     ensures meant { IfOk result (λ m. Means scalar64 text.now (Ok (numbers_of m))) }
     ensures refused { IfErr result (λ e. (e ≡ OutOfMemory)
@@ -136,39 +106,18 @@ fn load(alloc: Global, number: usize, text: &str) -> Result<CooMatrix<W64>, Expr
     }
 }
 
-// Writes a matrix row after row.
-fn save_rows<W: Sink>(alloc: Global, matrix: &CsrMatrix<W64>, out: &mut W) -> Result<(), ExprError>
+// Writes a matrix in the order of its form.
+fn save<S, W>(alloc: Global, matrix: &S, out: &mut W) -> Result<(), ExprError>
+where
+    S: MatrixMarketExport<W64>,
+    W: Sink,
     ensures none_failed { OnOk result (W.failures out.new ≡ W.failures out.old) }
-    ensures all { OnOk result (Appends (W.taken out.old) (W.taken out.new) (rows_text matrix.now)) }
-    ensures sound { IsSound matrix.now }
-    ensures beginning { OnErr result (AppendsSome (W.taken out.old) (W.taken out.new) (rows_text matrix.now)) }
+    ensures all { OnOk result (Appends (W.taken out.old) (W.taken out.new) (text_of_coo (S.exported matrix.now))) }
+    ensures beginning { OnErr result (AppendsSome (W.taken out.old) (W.taken out.new) (text_of_coo (S.exported matrix.now))) }
     ensures refused { IfErr result (RefusesSave
         (effect (W.taken out.old) (W.taken out.new)
         (W.failures out.old) (W.failures out.new) (W.last out.new))) }
 {
-    // The call costs nothing: its contract tells the prover that the matrix is sound.
-    let _ = matrix.values();
-    match save_to_matrix_market(alloc, out, matrix) {
-        Ok(()) => Ok(()),
-        Err(error) => match error.kind() {
-            MatrixMarketErrorKind::IOError(kind) => Err(ExprError::Write(kind)),
-            _ => Err(ExprError::OutOfMemory),
-        },
-    }
-}
-
-// Writes a matrix column after column.
-fn save_cols<W: Sink>(alloc: Global, matrix: &CscMatrix<W64>, out: &mut W) -> Result<(), ExprError>
-    ensures none_failed { OnOk result (W.failures out.new ≡ W.failures out.old) }
-    ensures all { OnOk result (Appends (W.taken out.old) (W.taken out.new) (cols_text matrix.now)) }
-    ensures sound { IsSound matrix.now }
-    ensures beginning { OnErr result (AppendsSome (W.taken out.old) (W.taken out.new) (cols_text matrix.now)) }
-    ensures refused { IfErr result (RefusesSave
-        (effect (W.taken out.old) (W.taken out.new)
-        (W.failures out.old) (W.failures out.new) (W.last out.new))) }
-{
-    // The call costs nothing: its contract tells the prover that the matrix is sound.
-    let _ = matrix.values();
     match save_to_matrix_market(alloc, out, matrix) {
         Ok(()) => Ok(()),
         Err(error) => match error.kind() {

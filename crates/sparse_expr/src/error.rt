@@ -1,26 +1,26 @@
-//! Why an expression has no value, or a run ended.
+//! Errors of expressions and of runs.
 
 use sparse_io::MatrixMarketErrorKind;
 use std::alloc::{AllocError, AllocFailed};
 use std::io;
 use thiserror::Error;
 
-/// Why words are no expression, an expression has no value, or a run ended.
+/// An error of parsing words, of evaluating an expression, or of a run.
 #[derive(Debug, Clone, Copy, PartialEq, Eq, Error)]
 pub enum ExprError {
-    /// A word is none of an expression's.
+    /// A word is neither the number of an input nor an operator.
     #[error("expression: unknown word")]
     BadWord,
-    /// An operator has too few operands, or there is no word.
+    /// An operator has too few operands, or there are no words.
     #[error("expression: operand missing")]
     MissingOperand,
-    /// Operands are left over at the end.
+    /// More than one operand is left at the end.
     #[error("expression: operands left over")]
     LeftOver,
-    /// There is no input of this number.
+    /// No input has this number.
     #[error("expression: no such input")]
     NoSuchInput,
-    /// The operands' sizes don't fit.
+    /// The sizes of the operands do not fit.
     #[error("expression: shapes do not fit")]
     Shape,
     /// The text with this number, counted from 1, has an error.

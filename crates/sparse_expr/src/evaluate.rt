@@ -1,30 +1,34 @@
 //! The value of an expression over lists of triplets.
 
-ghost use Rattle.std.specs.Prelude.{◌≡◌, ℕ, Bool, map};
-ghost use Rattle.sparse_algebra.specs.Plain.{Plain};
+ghost use Rattle.std.specs.Prelude.{◌≡◌, ℕ, Bool, Ok, IfOk, OnOk, map};
+ghost use Rattle.std.specs.List.{AllZip};
+ghost use Rattle.sparse_algebra.specs.Plain.{Plain, plain_negation};
 ghost use Rattle.sparse_base.specs.CooPlain.{plain_of_coo};
 ghost use Rattle.sparse_cs.specs.PlainOfLanes.{plain_of_rows, plain_of_cols};
-ghost use Rattle.sparse_expr.specs.Value.{value_of, Meets, input_at, sum_of, difference_of, product_of};
+ghost use Rattle.sparse_expr.specs.Value.{value_of, Meets, sum_of, difference_of, product_of};
 ghost use Rattle.sparse_expr.specs.InnerTurned.{rows_or_turned};
+ghost use Rattle.sparse_expr.specs.InnerSources.{Provides};
 
 use crate::error::ExprError;
 use crate::expr::Expr;
+use crate::sources::{Source, count_uses, empty_sources, input};
 use sparse_algebra::scalar::Ring;
 use sparse_base::coo::CooMatrix;
-use sparse_convert::serial::{convert_coo_csc, convert_coo_csr};
 use sparse_forms::csc::CscMatrix;
 use sparse_forms::csr::CsrMatrix;
 use sparse_ops::serial::mul_csr;
 use sparse_sums::{add_csr, sub_csr};
-use std::alloc::Global;
+use std::alloc::{AllocError, Global};
+use std::rc::Rc;
 
 /// Returns the value of an expression over inputs, as a CSR matrix.
 ///
 /// The left operand comes before the right one, and both before their sizes: `NoSuchInput` for a number of no input, `Shape` where sizes do
 /// not fit. `OutOfMemory` if an allocation fails.
 ///
+/// Each input is converted at most twice, by rows and by columns, however often it is named, and a matrix is dropped after its last use.
 /// Transposes cost nothing: they are moved inwards to the inputs, which are read by columns there. The stack grows with the depth of the
-/// expression: 5,000 levels fit in 8 MiB.
+/// expression: 20,000 levels fit in 8 MiB.
 pub fn evaluate_rows<T: Ring>(
     alloc: Global,
     expr: &Expr,
@@ -33,7 +37,7 @@ pub fn evaluate_rows<T: Ring>(
     ensures { Meets T.ring (λ m. plain_of_rows T.ring T.value m)
         (value_of T.ring (map (λ m. plain_of_coo T.ring T.value m) inputs.now) expr.now) result }
 {
-    evaluate(alloc, expr, inputs, false)
+    value(alloc, expr, inputs, false)
 }
 
 /// Returns the value of an expression over inputs, as a CSC matrix, under the same terms as [`evaluate_rows`].
@@ -45,9 +49,35 @@ pub fn evaluate_cols<T: Ring>(
     ensures { Meets T.ring (λ m. plain_of_cols T.ring T.value m)
         (value_of T.ring (map (λ m. plain_of_coo T.ring T.value m) inputs.now) expr.now) result }
 {
-    match evaluate(alloc, expr, inputs, true) {
+    match value(alloc, expr, inputs, true) {
         Ok(turned) => Ok(turned.transpose_as_csc()),
         Err(error) => Err(error),
+    }
+}
+
+// The value of an expression by rows, or its transpose by rows if `turned`.
+fn value<T: Ring>(
+    alloc: Global,
+    expr: &Expr,
+    inputs: &[CooMatrix<T>],
+    turned: bool,
+) -> Result<CsrMatrix<T>, ExprError>
+    ensures { Meets T.ring (rows_or_turned T.ring T.value turned)
+        (value_of T.ring (map (λ m. plain_of_coo T.ring T.value m) inputs.now) expr.now) result }
+{
+    let mut sources = empty_sources(alloc, inputs)?;
+    count_uses(expr, turned, &mut sources);
+    let matrix = evaluate(alloc, expr, inputs, turned, &mut sources)?;
+    Ok(owned(alloc, matrix)?)
+}
+
+// Returns the matrix itself if it is not shared, and a copy if it is.
+fn owned<T: Ring>(alloc: Global, matrix: Rc<CsrMatrix<T>>) -> Result<CsrMatrix<T>, AllocError>
+    ensures is { IfOk result (λ m. m ≡ matrix.value) }
+{
+    match Rc::try_unwrap(matrix) {
+        Ok(matrix) => Ok(matrix),
+        Err(shared) => shared.as_ref().clone(alloc),
     }
 }
 
@@ -58,102 +88,93 @@ fn evaluate<T: Ring>(
     expr: &Expr,
     inputs: &[CooMatrix<T>],
     turned: bool,
-) -> Result<CsrMatrix<T>, ExprError>
-    ensures { Meets T.ring (rows_or_turned T.ring T.value turned)
+    sources: &mut [Source<T>],
+) -> Result<Rc<CsrMatrix<T>>, ExprError>
+    requires provides { AllZip (Provides T.ring T.value) inputs.now sources.old }
+    ensures met { Meets T.ring (λ m. rows_or_turned T.ring T.value turned m.value)
         (value_of T.ring (map (λ m. plain_of_coo T.ring T.value m) inputs.now) expr.now) result }
+    ensures provides { OnOk result (AllZip (Provides T.ring T.value) inputs.now sources.new) }
 {
     match expr {
-        Expr::Input(number) => input(alloc, *number, inputs, turned),
+        Expr::Input(number) => input(alloc, *number, inputs, turned, sources),
         Expr::Add(a, b) => {
-            let first = evaluate(alloc, a, inputs, turned)?;
-            let second = evaluate(alloc, b, inputs, turned)?;
-            sum(alloc, &first, &second)
+            let first = evaluate(alloc, a, inputs, turned, sources)?;
+            let second = evaluate(alloc, b, inputs, turned, sources)?;
+            sum(alloc, first, second)
         }
         Expr::Sub(a, b) => {
-            let minuend = evaluate(alloc, a, inputs, turned)?;
-            let subtrahend = evaluate(alloc, b, inputs, turned)?;
-            difference(alloc, &minuend, &subtrahend)
+            let minuend = evaluate(alloc, a, inputs, turned, sources)?;
+            let subtrahend = evaluate(alloc, b, inputs, turned, sources)?;
+            difference(alloc, minuend, subtrahend)
         }
         Expr::Mul(a, b) => {
-            let left = evaluate(alloc, a, inputs, turned)?;
-            let right = evaluate(alloc, b, inputs, turned)?;
-            product(alloc, &left, &right, turned)
+            let left = evaluate(alloc, a, inputs, turned, sources)?;
+            let right = evaluate(alloc, b, inputs, turned, sources)?;
+            product(alloc, left, right, turned)
         }
-        Expr::Transpose(a) => evaluate(alloc, a, inputs, !turned),
+        Expr::Transpose(a) => evaluate(alloc, a, inputs, !turned, sources),
         Expr::Neg(a) => {
-            let value = evaluate(alloc, a, inputs, turned)?;
-            Ok(-value)
+            let operand = evaluate(alloc, a, inputs, turned, sources)?;
+            negation(alloc, operand)
         }
     }
 }
 
-// An input by rows, or its transpose by rows.
+// The negation of a matrix, or of its transpose; in place if the matrix is not shared.
 #[inline(never)]
-fn input<T: Ring>(
-    alloc: Global,
-    number: usize,
-    inputs: &[CooMatrix<T>],
-    turned: bool,
-) -> Result<CsrMatrix<T>, ExprError>
-    ensures { Meets T.ring (rows_or_turned T.ring T.value turned)
-        (input_at T.ring (map (λ m. plain_of_coo T.ring T.value m) inputs.now) number) result }
+fn negation<T: Ring>(alloc: Global, x: Rc<CsrMatrix<T>>) -> Result<Rc<CsrMatrix<T>>, ExprError>
+    ensures { (turned : Bool) → Meets T.ring (λ m. rows_or_turned T.ring T.value turned m.value)
+        (Ok (plain_negation T.ring (rows_or_turned T.ring T.value turned x.value))) result }
 {
-    if number == 0 || number > inputs.len() {
-        return Err(ExprError::NoSuchInput);
-    }
-    let list = &inputs[number - 1];
-    if turned {
-        Ok(convert_coo_csc(alloc, list)?.transpose_as_csr())
-    } else {
-        Ok(convert_coo_csr(alloc, list)?)
-    }
+    let negated = -owned(alloc, x)?;
+    Ok(Rc::new(alloc, negated)?)
 }
 
 // The sum of two matrices, or of their transposes.
 #[inline(never)]
 fn sum<T: Ring>(
     alloc: Global,
-    x: &CsrMatrix<T>,
-    y: &CsrMatrix<T>,
-) -> Result<CsrMatrix<T>, ExprError>
-    ensures { (turned : Bool) → Meets T.ring (rows_or_turned T.ring T.value turned)
-        (sum_of T.ring (rows_or_turned T.ring T.value turned x.now)
-        (rows_or_turned T.ring T.value turned y.now)) result }
+    x: Rc<CsrMatrix<T>>,
+    y: Rc<CsrMatrix<T>>,
+) -> Result<Rc<CsrMatrix<T>>, ExprError>
+    ensures { (turned : Bool) → Meets T.ring (λ m. rows_or_turned T.ring T.value turned m.value)
+        (sum_of T.ring (rows_or_turned T.ring T.value turned x.value)
+        (rows_or_turned T.ring T.value turned y.value)) result }
 {
     if x.nrows() != y.nrows() || x.ncols() != y.ncols() {
         return Err(ExprError::Shape);
     }
-    Ok(add_csr(alloc, x, y)?)
+    Ok(Rc::new(alloc, add_csr(alloc, x.as_ref(), y.as_ref())?)?)
 }
 
 // The difference of two matrices, or of their transposes.
 #[inline(never)]
 fn difference<T: Ring>(
     alloc: Global,
-    x: &CsrMatrix<T>,
-    y: &CsrMatrix<T>,
-) -> Result<CsrMatrix<T>, ExprError>
-    ensures { (turned : Bool) → Meets T.ring (rows_or_turned T.ring T.value turned)
-        (difference_of T.ring (rows_or_turned T.ring T.value turned x.now)
-        (rows_or_turned T.ring T.value turned y.now)) result }
+    x: Rc<CsrMatrix<T>>,
+    y: Rc<CsrMatrix<T>>,
+) -> Result<Rc<CsrMatrix<T>>, ExprError>
+    ensures { (turned : Bool) → Meets T.ring (λ m. rows_or_turned T.ring T.value turned m.value)
+        (difference_of T.ring (rows_or_turned T.ring T.value turned x.value)
+        (rows_or_turned T.ring T.value turned y.value)) result }
 {
     if x.nrows() != y.nrows() || x.ncols() != y.ncols() {
         return Err(ExprError::Shape);
     }
-    Ok(sub_csr(alloc, x, y)?)
+    Ok(Rc::new(alloc, sub_csr(alloc, x.as_ref(), y.as_ref())?)?)
 }
 
 // The product of two matrices; of transposes it is the transpose of the product in reverse order.
 #[inline(never)]
 fn product<T: Ring>(
     alloc: Global,
-    x: &CsrMatrix<T>,
-    y: &CsrMatrix<T>,
+    x: Rc<CsrMatrix<T>>,
+    y: Rc<CsrMatrix<T>>,
     turned: bool,
-) -> Result<CsrMatrix<T>, ExprError>
-    ensures { Meets T.ring (rows_or_turned T.ring T.value turned)
-        (product_of T.ring (rows_or_turned T.ring T.value turned x.now)
-        (rows_or_turned T.ring T.value turned y.now)) result }
+) -> Result<Rc<CsrMatrix<T>>, ExprError>
+    ensures { Meets T.ring (λ m. rows_or_turned T.ring T.value turned m.value)
+        (product_of T.ring (rows_or_turned T.ring T.value turned x.value)
+        (rows_or_turned T.ring T.value turned y.value)) result }
 {
     if turned {
         multiply(alloc, y, x)
@@ -165,15 +186,15 @@ fn product<T: Ring>(
 // The product of two matrices.
 fn multiply<T: Ring>(
     alloc: Global,
-    x: &CsrMatrix<T>,
-    y: &CsrMatrix<T>,
-) -> Result<CsrMatrix<T>, ExprError>
-    ensures { Meets T.ring (λ m. plain_of_rows T.ring T.value m)
-        (product_of T.ring (plain_of_rows T.ring T.value x.now)
-        (plain_of_rows T.ring T.value y.now)) result }
+    x: Rc<CsrMatrix<T>>,
+    y: Rc<CsrMatrix<T>>,
+) -> Result<Rc<CsrMatrix<T>>, ExprError>
+    ensures { Meets T.ring (λ m. plain_of_rows T.ring T.value m.value)
+        (product_of T.ring (plain_of_rows T.ring T.value x.value)
+        (plain_of_rows T.ring T.value y.value)) result }
 {
     if x.ncols() != y.nrows() {
         return Err(ExprError::Shape);
     }
-    Ok(mul_csr(alloc, x, y)?)
+    Ok(Rc::new(alloc, mul_csr(alloc, x.as_ref(), y.as_ref())?)?)
 }

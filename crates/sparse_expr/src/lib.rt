@@ -6,6 +6,7 @@ mod error;
 mod evaluate;
 mod expr;
 pub mod laws;
+mod sources;
 mod words;
 
 pub use calculator::{Form, run};

@@ -28,7 +28,7 @@ pub(crate) enum Token {
 }
 
 impl Token {
-    // The token that a word is.
+    // Returns the token of a word.
     fn from_word(word: &[u8]) -> Option<Token>
         ensures { result ≡ token_of word.now }
     {
@@ -43,7 +43,7 @@ impl Token {
     }
 }
 
-// The operator that a word is.
+// Returns the operator of a word that is not a number.
 fn operator(word: &[u8]) -> Option<Token>
     ensures { result ≡ operator_of word.now }
 {
@@ -62,7 +62,7 @@ fn operator(word: &[u8]) -> Option<Token>
     }
 }
 
-// The longest runs without a space.
+// Splits a text into words: the longest runs without a space.
 fn words<'a>(alloc: Global, text: &'a [u8]) -> Result<Vec<&'a [u8]>, AllocError>
     ensures { IfOk result (λ v. texts v.items ≡ words_of text.now) }
 {
@@ -115,7 +115,7 @@ impl Expr {
     }
 }
 
-// Puts the tree of a token and its operands on the stack.
+// Replaces a token's operands on the stack by its tree.
 fn apply(alloc: Global, token: Token, stack: &mut Vec<Expr>) -> Result<(), ExprError>
     ensures said { OnOk result (flat_map postfix stack.new.items ≡ flat_map postfix stack.old.items ++ token ∷ []) }
     ensures enough { OnOk result (takes token ≤ length stack.old.items) }
@@ -143,7 +143,7 @@ fn apply(alloc: Global, token: Token, stack: &mut Vec<Expr>) -> Result<(), ExprE
     Ok(())
 }
 
-// Takes the last tree from the stack.
+// Pops one tree.
 fn operand(stack: &mut Vec<Expr>) -> Result<Expr, ExprError>
     ensures taken { IfOk result (λ a. stack.old.items ≡ stack.new.items ++ a ∷ []) }
     ensures refused { IfErr result (λ e. (e ≡ MissingOperand) × (length stack.old.items < 1)) }
@@ -151,7 +151,7 @@ fn operand(stack: &mut Vec<Expr>) -> Result<Expr, ExprError>
     stack.pop().ok_or(ExprError::MissingOperand)
 }
 
-// Takes the last two trees from the stack.
+// Pops two trees; the one pushed first comes first.
 fn operands(stack: &mut Vec<Expr>) -> Result<(Expr, Expr), ExprError>
     ensures taken { IfOk result (λ p. stack.old.items ≡ stack.new.items ++ p.0 ∷ p.1 ∷ []) }
     ensures refused { IfErr result (λ e. (e ≡ MissingOperand) × (length stack.old.items < 2)) }
@@ -164,7 +164,7 @@ fn operands(stack: &mut Vec<Expr>) -> Result<(Expr, Expr), ExprError>
     Ok((a, b))
 }
 
-// The only tree on the stack.
+// Returns the only tree of the stack.
 fn only_one(mut stack: Vec<Expr>) -> Result<Expr, ExprError>
     ensures one { IfOk result (λ e. stack.items ≡ e ∷ []) }
     ensures refused { IfErr result (λ e. ((length stack.items ≡ 0) × (e ≡ MissingOperand))

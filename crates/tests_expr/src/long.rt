@@ -1,33 +1,27 @@
-//! Expressions of many words.
+//! Values of expressions, short and of many words.
 
 use sparse_algebra::scalar::W64;
 use sparse_base::coo::CooMatrix;
-use sparse_expr::{Expr, ExprError, evaluate_cols, evaluate_rows};
+use sparse_expr::{Expr, evaluate_cols, evaluate_rows};
 use std::alloc::{AllocError, Global};
 use std::test::Fail;
 
 // The matrix with the rows `1 2` and `0 3`.
-fn input(alloc: Global) -> Option<CooMatrix<W64>> {
+fn upper(alloc: Global) -> Option<CooMatrix<W64>> {
     let rows = [0, 0, 1].to_vec(alloc).ok()?;
     let cols = [0, 1, 1].to_vec(alloc).ok()?;
     let values = [W64::new(1), W64::new(2), W64::new(3)].to_vec(alloc).ok()?;
     CooMatrix::try_from_triplets(2, 2, rows, cols, values).ok()
 }
 
-// A first part, then another part repeated `count` times.
-fn repeated(alloc: Global, first: &str, part: &str, count: usize) -> Result<String, AllocError> {
-    let mut text = String::new(alloc);
-    text.push_str(first)?;
-    for _ in 0..count {
-        text.push_str(part)?;
-    }
-    Ok(text)
+fn are(values: &[W64], wanted: &[i64]) -> bool {
+    values.len() == wanted.len() && values.iter().zip(wanted).all(|(a, b)| a.get() == *b)
 }
 
-// Whether the value of the words over the input has these values, row after row.
+// Whether the value of the words over `upper` has these values, row after row.
 fn has_rows(alloc: Global, words: &str, wanted: &[i64]) -> Option<bool> {
     let expr = Expr::from_words(alloc, words).ok()?;
-    let inputs = [input(alloc)?];
+    let inputs = [upper(alloc)?];
     let value = evaluate_rows(alloc, &expr, &inputs).ok()?;
     Some(are(value.values(), wanted))
 }
@@ -35,54 +29,78 @@ fn has_rows(alloc: Global, words: &str, wanted: &[i64]) -> Option<bool> {
 // The same column after column.
 fn has_cols(alloc: Global, words: &str, wanted: &[i64]) -> Option<bool> {
     let expr = Expr::from_words(alloc, words).ok()?;
-    let inputs = [input(alloc)?];
+    let inputs = [upper(alloc)?];
     let value = evaluate_cols(alloc, &expr, &inputs).ok()?;
     Some(are(value.values(), wanted))
 }
 
-fn are(values: &[W64], wanted: &[i64]) -> bool {
-    values.len() == wanted.len() && values.iter().zip(wanted).all(|(a, b)| a.get() == *b)
-}
+// Words, and the values by rows and by columns.
+const SHORT: [(&str, &[i64], &[i64]); 6] = [
+    ("1 t 1 -", &[0, -2, 2, 0], &[0, 2, -2, 0]),
+    ("1 1 t * t", &[5, 6, 6, 9], &[5, 6, 6, 9]),
+    ("1 1 *", &[1, 8, 9], &[1, 8, 9]),
+    ("1 t t", &[1, 2, 3], &[1, 2, 3]),
+    // Named three times, twice as it is and once transposed: the operands are not changed in place.
+    ("1 1 n 1 t - +", &[-1, 0, -2, -3], &[-1, -2, 0, -3]),
+    ("1 n 1 +", &[0, 0, 0], &[0, 0, 0]),
+];
 
 #[test]
 fn short_expressions(rt: HostRuntime) -> Result<(), Fail> {
-    assert_eq!(rt; has_rows(rt.alloc(), "1 t 1 -", &[0, -2, 2, 0]), Some(true));
-    assert_eq!(rt; has_cols(rt.alloc(), "1 t 1 -", &[0, 2, -2, 0]), Some(true));
-    assert_eq!(rt;
-        has_cols(rt.alloc(), "1 1 t * t", &[5, 6, 6, 9]),
-        Some(true)
-    );
-    assert_eq!(rt; has_rows(rt.alloc(), "1 t t", &[1, 2, 3]), Some(true));
+    for (words, rows, cols) in SHORT {
+        assert_eq!(rt; has_rows(rt.alloc(), words, rows), Some(true), "{words}");
+        assert_eq!(rt; has_cols(rt.alloc(), words, cols), Some(true), "{words}");
+    }
     Ok(())
 }
 
-#[test]
-fn a_thousand_words(rt: HostRuntime) -> Result<(), Fail> {
-    // 500 times the input, negated.
-    let sums = repeated(rt.alloc(), "1 n ", "1 - ", 499)?;
-    assert_eq!(rt;
-        has_rows(rt.alloc(), &sums, &[-500, -1000, -1500]),
-        Some(true)
-    );
-    // An odd number of transposes.
-    let turns = repeated(rt.alloc(), "1 ", "t ", 999)?;
-    assert_eq!(rt; has_rows(rt.alloc(), &turns, &[1, 2, 3]), Some(true));
-    Ok(())
+// A part repeated, then another part repeated.
+fn repeated(alloc: Global, parts: [(&str, usize); 2]) -> Result<String, AllocError> {
+    let mut text = String::new(alloc);
+    for (part, count) in parts {
+        for _ in 0..count {
+            text.push_str(part)?;
+        }
+    }
+    Ok(text)
 }
 
-#[test]
-fn five_thousand_levels_of_words(rt: HostRuntime) -> Result<(), Fail> {
-    let negations = repeated(rt.alloc(), "1 ", "n ", 4_999)?;
-    assert_eq!(rt; has_rows(rt.alloc(), &negations, &[-1, -2, -3]), Some(true));
-    Ok(())
+// The 1 by 1 matrix of this many triplets, each of value 1.
+fn ones(alloc: Global, count: usize) -> Option<CooMatrix<W64>> {
+    let rows = vec![in alloc; 0; count].ok()?;
+    let cols = vec![in alloc; 0; count].ok()?;
+    let values = vec![in alloc; W64::new(1); count].ok()?;
+    CooMatrix::try_from_triplets(1, 1, rows, cols, values).ok()
 }
 
+// The only value of the words over the list.
+fn value(alloc: Global, words: &str, list: &[CooMatrix<W64>]) -> Option<i64> {
+    let expr = Expr::from_words(alloc, words).ok()?;
+    let value = evaluate_rows(alloc, &expr, list).ok()?;
+    value.values().first().map(|x| x.get())
+}
+
+// Expressions of 20,000 words, and their values: deep to the left, to the right, and of one operand.
+const DEEP: [([(&str, usize); 2], i64); 5] = [
+    ([("1 ", 1), ("t ", 19_999)], 2_000_000),
+    ([("1 ", 1), ("n ", 19_999)], -2_000_000),
+    ([("1 ", 10_000), ("+ ", 9_999)], 20_000_000_000),
+    ([("1 ", 1), ("1 + ", 9_999)], 20_000_000_000),
+    ([("1 n ", 1), ("1 t + t n ", 4_000)], -2_000_000),
+];
+
+// A list of so many triplets that each conversion takes some 10 ms: converted at each of its 30,000 namings it would take minutes.
+const TRIPLETS: usize = 2_000_000;
+
 #[test]
-fn five_thousand_levels_of_sums(rt: HostRuntime) -> Result<(), Fail> {
-    let sums = repeated(rt.alloc(), "1 ", "1 + ", 4_999)?;
-    assert_eq!(rt;
-        has_rows(rt.alloc(), &sums, &[5_000, 10_000, 15_000]),
-        Some(true)
-    );
+fn deep_expressions_convert_their_input_once(rt: HostRuntime) -> Result<(), Fail> {
+    let Some(list) = ones(rt.alloc(), TRIPLETS) else {
+        return Err(Fail::new("no list"));
+    };
+    let inputs = [list];
+    for (parts, wanted) in DEEP {
+        let words = repeated(rt.alloc(), parts)?;
+        assert_eq!(rt; value(rt.alloc(), &words, &inputs), Some(wanted));
+    }
     Ok(())
 }

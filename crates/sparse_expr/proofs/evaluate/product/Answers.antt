@@ -7,7 +7,7 @@ use Rattle.sparse_expr.proofs.evaluate.product.Goals as goal
 pub returns-then-turned : goal.returns-then-turned
 returns-then-turned g c =
     let R = g.T.Ring.ring in
-    let value = g.T.Ring.value in
-    subst (λ b. Meets R (rows_or_turned R value b) (product_of R (rows_or_turned R value b c.args.x.now) (rows_or_turned R value b c.args.y.now)) c.multiply.result)
+    let f = g.T.Ring.value in
+    subst (λ b. Meets R (λ m. rows_or_turned R f b m.value) (product_of R (rows_or_turned R f b c.args.x.value) (rows_or_turned R f b c.args.y.value)) c.multiply.result)
     (sym c.if-turned.true)
-    (product_turned R value c.args.x.now c.args.y.now c.multiply.result c.multiply.ensures)
+    (product_turned R f (λ m. m.value) c.args.x.value c.args.y.value c.multiply.result c.multiply.ensures)

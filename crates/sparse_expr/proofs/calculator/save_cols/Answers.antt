@@ -1,8 +1,0 @@
-use Rattle.sparse_io.specs.Written.{IsRefusedWrite}
-use Rattle.sparse_expr.proofs.Loading.{memory-refused}
-use Rattle.sparse_expr.proofs.calculator.save_cols.Goals as goal
-
-pub returns-in_default-clause-refused : goal.returns-in_default-clause-refused
-returns-in_default-clause-refused g c =
-    let refused : IsRefusedWrite c.kind.result (g.W.Sink.failures c.args.out.now) (g.W.Sink.failures c.save_to_matrix_market.new.sink) (g.W.Sink.last c.save_to_matrix_market.new.sink) = rw c.kind.ensures c.in-Err.ensures.refused in
-    memory-refused c.kind.result _ _ _ refused c.in_default.not-IOError

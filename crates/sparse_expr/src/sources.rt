@@ -1,0 +1,163 @@
+//! The inputs of an expression, each converted at most once by rows and once by columns.
+
+ghost use Rattle.std.specs.Prelude.{◌≡◌, Bool, List, IfOk, OnOk, map};
+ghost use Rattle.std.specs.List.{AllZip};
+ghost use Rattle.sparse_base.specs.Coo.{Coo};
+ghost use Rattle.sparse_base.specs.CooPlain.{plain_of_coo};
+ghost use Rattle.sparse_expr.specs.Value.{Meets, input_at};
+ghost use Rattle.sparse_expr.specs.InnerTurned.{rows_or_turned};
+ghost use Rattle.sparse_expr.specs.InnerSources.{Keeps, Provides};
+
+use crate::error::ExprError;
+use crate::expr::Expr;
+use sparse_algebra::scalar::Ring;
+use sparse_base::coo::CooMatrix;
+use sparse_convert::serial::{convert_coo_csc, convert_coo_csr};
+use sparse_forms::csr::CsrMatrix;
+use std::alloc::{AllocError, Global};
+use std::rc::Rc;
+
+/// A matrix that is made when it is first needed, and kept while it will be needed again.
+#[derive(Drop)]
+pub(crate) struct Slot<T> {
+    // How often the matrix will still be needed. Only time and memory depend on it.
+    uses: usize,
+    matrix: Option<Rc<CsrMatrix<T>>>,
+}
+
+/// An input by rows, and its transpose by rows.
+#[derive(Drop)]
+pub(crate) struct Source<T> {
+    rows: Slot<T>,
+    turned: Slot<T>,
+}
+
+/// Returns a source for each input, without matrices.
+pub(crate) fn empty_sources<T: Ring>(
+    alloc: Global,
+    inputs: &[CooMatrix<T>],
+) -> Result<Vec<Source<T>>, AllocError>
+    ensures provides { IfOk result (λ sources. AllZip (Provides T.ring T.value) inputs.now sources.items) }
+{
+    let mut sources = Vec::with_capacity(alloc, inputs.len())?;
+    for _input in inputs {
+        let rows = Slot {
+            uses: 0,
+            matrix: None,
+        };
+        let turned = Slot {
+            uses: 0,
+            matrix: None,
+        };
+        sources.push(Source { rows, turned })?;
+    }
+    Ok(sources)
+}
+
+/// Counts the uses of each source in an expression, or in its transpose if `turned`.
+pub(crate) fn count_uses<T: Ring>(expr: &Expr, turned: bool, sources: &mut [Source<T>])
+    ensures provides { (inputs : List (Coo T)) → AllZip (Provides T.ring T.value) inputs sources.old
+        → AllZip (Provides T.ring T.value) inputs sources.new }
+{
+    match expr {
+        Expr::Input(number) => count_use(*number, turned, sources),
+        Expr::Add(a, b) | Expr::Sub(a, b) | Expr::Mul(a, b) => {
+            count_uses(a, turned, sources);
+            count_uses(b, turned, sources);
+        }
+        Expr::Transpose(a) => count_uses(a, !turned, sources),
+        Expr::Neg(a) => count_uses(a, turned, sources),
+    }
+}
+
+// Counts one more use of the source of this number, counted from 1.
+fn count_use<T: Ring>(number: usize, turned: bool, sources: &mut [Source<T>])
+    ensures provides { (inputs : List (Coo T)) → AllZip (Provides T.ring T.value) inputs sources.old
+        → AllZip (Provides T.ring T.value) inputs sources.new }
+{
+    if number > 0 && number <= sources.len() {
+        let source = &mut sources[number - 1];
+        if turned {
+            source.turned.uses = source.turned.uses.saturating_add(1);
+        } else {
+            source.rows.uses = source.rows.uses.saturating_add(1);
+        }
+    }
+}
+
+/// Returns an input by rows, or its transpose by rows if `turned`.
+#[inline(never)]
+pub(crate) fn input<T: Ring>(
+    alloc: Global,
+    number: usize,
+    inputs: &[CooMatrix<T>],
+    turned: bool,
+    sources: &mut [Source<T>],
+) -> Result<Rc<CsrMatrix<T>>, ExprError>
+    requires provides { AllZip (Provides T.ring T.value) inputs.now sources.old }
+    ensures met { Meets T.ring (λ m. rows_or_turned T.ring T.value turned m.value)
+        (input_at T.ring (map (λ m. plain_of_coo T.ring T.value m) inputs.now) number) result }
+    ensures provides { OnOk result (AllZip (Provides T.ring T.value) inputs.now sources.new) }
+{
+    if number == 0 || number > inputs.len() {
+        return Err(ExprError::NoSuchInput);
+    }
+    let list = &inputs[number - 1];
+    let source = &mut sources[number - 1];
+    Ok(matrix_of(alloc, list, turned, source)?)
+}
+
+// Returns the matrix of a list by rows, or its transpose by rows if `turned`.
+fn matrix_of<T: Ring>(
+    alloc: Global,
+    list: &CooMatrix<T>,
+    turned: bool,
+    source: &mut Source<T>,
+) -> Result<Rc<CsrMatrix<T>>, AllocError>
+    requires provides { Provides T.ring T.value list.now source.old }
+    ensures is { IfOk result (λ m. rows_or_turned T.ring T.value turned m.value ≡ plain_of_coo T.ring T.value list.now) }
+    ensures provides { OnOk result (Provides T.ring T.value list.now source.new) }
+{
+    if turned {
+        shared(alloc, list, true, &mut source.turned)
+    } else {
+        shared(alloc, list, false, &mut source.rows)
+    }
+}
+
+// Returns the matrix of a slot, made if the slot has none, and leaves it there if it will be needed again.
+fn shared<T: Ring>(
+    alloc: Global,
+    list: &CooMatrix<T>,
+    turned: bool,
+    slot: &mut Slot<T>,
+) -> Result<Rc<CsrMatrix<T>>, AllocError>
+    requires keeps { Keeps T.ring T.value turned list.now slot.old }
+    ensures is { IfOk result (λ m. rows_or_turned T.ring T.value turned m.value ≡ plain_of_coo T.ring T.value list.now) }
+    ensures keeps { OnOk result (Keeps T.ring T.value turned list.now slot.new) }
+{
+    let matrix = match slot.matrix.take() {
+        Some(matrix) => matrix,
+        None => Rc::new(alloc, converted(alloc, list, turned)?)?,
+    };
+    if slot.uses > 1 {
+        slot.uses -= 1;
+        slot.matrix = Some(matrix.clone()?);
+    }
+    Ok(matrix)
+}
+
+// Converts a list by rows, or by columns read as the rows of the transpose if `turned`.
+fn converted<T: Ring>(
+    alloc: Global,
+    list: &CooMatrix<T>,
+    turned: bool,
+) -> Result<CsrMatrix<T>, AllocError>
+    ensures is { IfOk result (λ m. rows_or_turned T.ring T.value turned m ≡ plain_of_coo T.ring T.value list.now) }
+{
+    if turned {
+        Ok(convert_coo_csc(alloc, list)?.transpose_as_csr())
+    } else {
+        convert_coo_csr(alloc, list)
+    }
+}
