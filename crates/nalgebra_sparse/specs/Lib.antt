@@ -72,6 +72,7 @@ pub use Rattle.sparse_data.specs.DataStructs
 pub use Rattle.sparse_sums.specs.PatternSums
 -- products
 pub use Rattle.sparse_ops.specs.Products
+pub use Rattle.sparse_ops.specs.ScalarProducts
 -- products with dense matrices
 pub use Rattle.sparse_dense.specs.DenseOperands
 -- triangular systems and division
@@ -102,6 +103,7 @@ pub use Rattle.sparse_io.specs.Out
 pub use Rattle.sparse_io.specs.Sink
 pub use Rattle.sparse_io.specs.Written
 -- expressions
+pub use Rattle.sparse_expr.specs.ExprTypes
 pub use Rattle.sparse_expr.specs.OneTree
 pub use Rattle.sparse_expr.specs.PostfixWords
 pub use Rattle.sparse_expr.specs.Run
