@@ -1,9 +1,10 @@
-"""growth.py [FOLDER]: how the cost of each task grows over three sizes, a factor of ten apart, in places plus multiplications.
+"""growth.py [FOLDER] [TASK..]: how the cost of each task grows over three sizes, a factor of ten apart, in places plus multiplications.
 
 The cost of one run is counted in instructions, by valgrind, and timed. An exponent of 1 is growth by the factor by which places plus
 multiplications grow. Times grow faster where an input leaves a cache, which instructions don't see; C++ by hand, built by `run` in BENCH_DIR,
 is timed beside ours where it is there. The inputs are made in FOLDER (/tmp/nalgebra_sparse_growth): a square grid with a place for each node
-and each pair of neighbours, row by row or shuffled, and ten places of each row drawn at random.
+and each pair of neighbours, row by row or shuffled, and ten places of each row drawn at random. The factor (`fill`) is measured on patterns of its
+own, in places of the input and of the factor: the grid row by row, a cycle, and an arrow whose first row is full.
 """
 
 import math
@@ -20,6 +21,7 @@ MTX = os.path.join(TOP, "crates/mtx/out/mtx")
 HAND = os.path.join(os.environ.get("BENCH_DIR", "/tmp/nalgebra_sparse_peers"), "peers/bin/hand")
 KERNELS = ("coo2csr", "transpose", "spgemm")
 SIZES = (1_000, 10_000, 100_000)
+ARROW_SIZES = (100, 316, 1_000)
 RUNS = 7
 
 
@@ -44,6 +46,17 @@ def uniform(size):
     return size, [(row, random.randrange(size)) for row in range(size) for _ in range(10)]
 
 
+def cycle(size):
+    pairs = [(node, node) for node in range(size)]
+    pairs += [(node, (node + 1) % size) for node in range(size)]
+    return size, pairs + [((node + 1) % size, node) for node in range(size)]
+
+
+def arrow(size):
+    pairs = [(node, node) for node in range(size)]
+    return size, pairs + [(0, node) for node in range(1, size)] + [(node, 0) for node in range(1, size)]
+
+
 def multiplications(size, pairs):
     rows, cols = [0] * size, [0] * size
     for row, col in pairs:
@@ -60,9 +73,13 @@ def written(folder, name, size, pairs):
     return path
 
 
+def kernel_line(program, task, path, runs):
+    lines = subprocess.run([program, task, path, str(runs)], stdout=subprocess.PIPE, check=True, text=True).stdout.splitlines()
+    return lines[0].split()
+
+
 def kernel_time(program, task, path):
-    lines = subprocess.run([program, task, path, str(RUNS)], stdout=subprocess.PIPE, check=True, text=True).stdout.splitlines()
-    return int(lines[0].split()[3])
+    return int(kernel_line(program, task, path, RUNS)[3])
 
 
 def process_time(command):
@@ -104,7 +121,7 @@ def exponents(values, costs):
 
 
 def row(task, name, inputs):
-    costs = [both if task == "spgemm" else places for _, places, both in inputs]
+    costs = [places if task in ("coo2csr", "transpose", "rw") else both for _, places, both in inputs]
     measured = [ours(task, path) for path, _, _ in inputs]
     counts, times = [count for count, _ in measured], [spent for _, spent in measured]
     each = ", ".join("%.0f" % (count / cost) for count, cost in zip(counts, costs))
@@ -114,21 +131,38 @@ def row(task, name, inputs):
     return "| " + " | ".join(cells) + " |"
 
 
-def main(folder):
-    os.makedirs(folder, exist_ok=True)
-    random.seed(1)
-    heads = ["Task", "Input", "instructions for each", "exponents", "ms at %d, %d, %d rows" % SIZES, "exponents of time", "of the C++"]
-    print("| " + " | ".join(heads) + " |")
-    print("|---" * len(heads) + "|")
+def products(tasks, folder):
     for name, make in (("grid", grid), ("shuffled grid", shuffled_grid), ("uniform", uniform)):
         inputs = []
         for size in SIZES:
             count, pairs = make(size)
             path = written(folder, name.replace(" ", "_"), count, pairs)
             inputs.append((path, len(pairs), len(pairs) + multiplications(count, pairs)))
-        for task in KERNELS + ("rw",):
+        for task in tasks:
             print(row(task, name, inputs), flush=True)
 
 
+def factors(folder):
+    for name, make, sizes in (("grid", grid, SIZES), ("cycle", cycle, SIZES), ("arrow", arrow, ARROW_SIZES)):
+        inputs = []
+        for size in sizes:
+            count, pairs = make(size)
+            path = written(folder, name, count, pairs)
+            places = int(kernel_line(BENCH, "fill", path, 1)[5])
+            inputs.append((path, len(pairs), len(pairs) + places))
+        print(row("fill", name, inputs), flush=True)
+
+
+def main(folder, tasks):
+    os.makedirs(folder, exist_ok=True)
+    random.seed(1)
+    heads = ["Task", "Input", "instructions for each", "exponents", "ms at three sizes", "exponents of time", "of the C++"]
+    print("| " + " | ".join(heads) + " |")
+    print("|---" * len(heads) + "|")
+    products([task for task in KERNELS + ("rw",) if task in tasks], folder)
+    if "fill" in tasks:
+        factors(folder)
+
+
 if __name__ == "__main__":
-    main(sys.argv[1] if len(sys.argv) > 1 else "/tmp/nalgebra_sparse_growth")
+    main(sys.argv[1] if len(sys.argv) > 1 else "/tmp/nalgebra_sparse_growth", sys.argv[2:] or KERNELS + ("rw", "fill"))
