@@ -1,14 +1,14 @@
 -- A dense matrix that is solved column after column.
-use Rattle.std.proofs.Common.{◌≡◌, ◌≢◌, ℕ, ◌+◌, ◌*◌, ◌<◌, ◌≤◌, inl, inr, List, length, get_or, slice_range, ap, sym, subst, ◌∙◌, refl, arith}
+use Rattle.std.proofs.Common.{◌≡◌, ◌≢◌, ℕ, ◌+◌, ◌*◌, ◌<◌, ◌≤◌, inl, inr, List, length, get_or, slice_range, ap, sym, ◌∙◌, refl, arith}
 use Rattle.std.proofs.Math.Nat.{add-mul, mul-le-mul_right}
 use Rattle.std.proofs.lemmas.Grind.{common_steps}
 use Rattle.std.proofs.lemmas.Nat.{mul-add-lt}
-use Rattle.sparse_lemmas.proofs.Cases.{lt_add_one_cases, lt_or_gt}
+use Rattle.sparse_lemmas.proofs.Cases.{lt_or_gt}
 use Rattle.sparse_algebra.specs.Algebra.{CommRing}
 use Rattle.sparse_algebra.proofs.SumLemmas.{sum_below-same}
 use Rattle.sparse_pattern.specs.Refill.{refill_from}
 use Rattle.sparse_base.specs.Dense.{Dense, value_at, column_of, with_column}
-use Rattle.sparse_solve.specs.InnerColumns.{SolvesColumn, SolvesColumns, entries}
+use Rattle.sparse_solve.specs.InnerColumns.{SolvesColumn, SolvesColumns}
 use Rattle.sparse_solve.proofs.Refills.{refill_from-inside, refill_from-before, refill_from-after}
 
 module _ {T : Type 0} (x : Dense T) (j : ℕ) (ws : List T) (full : length (column_of x j) ≡ x.nrows) (count : length ws ≡ x.nrows) where

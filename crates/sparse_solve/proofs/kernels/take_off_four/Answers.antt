@@ -1,4 +1,4 @@
-use Rattle.std.proofs.Common.{◌<◌, ◌≡◌, length, get_or, arith, rules, List, ℕ}
+use Rattle.std.proofs.Common.{◌<◌, ◌≡◌, length, get_or, arith, rules}
 use Rattle.std.proofs.lemmas.List.{get_or_default, length_push}
 use Rattle.std.proofs.lemmas.Slice.Zip.{zip_turn, zip_end}
 use Rattle.sparse_cs.proofs.RowSums.{offset_fits}

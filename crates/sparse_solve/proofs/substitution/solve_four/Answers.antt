@@ -1,4 +1,4 @@
-use Rattle.std.proofs.Common.{◌≡◌, ◌++◌, length, List, ap, ◌∙◌, arith}
+use Rattle.std.proofs.Common.{◌≡◌, ◌++◌, length, ap, ◌∙◌, arith}
 use Rattle.sparse_solve.specs.InnerColumns.{op_lower}
 use Rattle.sparse_solve.proofs.FourColumns.{four_solved}
 use Rattle.sparse_solve.proofs.substitution.solve_four.Goals as goal

@@ -1,4 +1,4 @@
-use Rattle.std.proofs.Common.{◌≡◌, subst, arith}
+use Rattle.std.proofs.Common.{subst, arith}
 use Rattle.sparse_solve.specs.InnerColumns.{SolvesColumn, entries, op_lower}
 use Rattle.sparse_solve.proofs.Taking.{changes_columns, changes_more, changes_none, solves_on_rows}
 use Rattle.sparse_solve.proofs.substitution.solve_next.Goals as goal

@@ -1,4 +1,4 @@
-use Rattle.std.proofs.Common.{◌<◌, ℕ, sym, ◌∙◌, refl, arith}
+use Rattle.std.proofs.Common.{◌<◌, ℕ, sym, refl, arith}
 use Rattle.sparse_op.specs.Operands.{inner_of}
 use Rattle.sparse_base.specs.DensePlain.{plain_of_dense}
 use Rattle.sparse_cs.specs.PlainOfLanes.{plain_of_cols}
