@@ -72,6 +72,8 @@ pub use Rattle.sparse_data.specs.DataStructs
 pub use Rattle.sparse_sums.specs.PatternSums
 -- products
 pub use Rattle.sparse_ops.specs.Products
+-- products with dense matrices
+pub use Rattle.sparse_dense.specs.DenseOperands
 -- triangular systems and division
 pub use Rattle.sparse_solve.specs.Quotients
 pub use Rattle.sparse_solve.specs.Solutions
