@@ -4,3 +4,4 @@
 #[cfg(test)]
 mod matrices;
 pub mod residue7;
+pub mod solving;

@@ -6,7 +6,9 @@ use nalgebra_sparse::convert::serial::{convert_coo_csc, convert_coo_csr};
 use nalgebra_sparse::dense::DMatrix;
 use nalgebra_sparse::factorization::CscSymbolicCholesky;
 use nalgebra_sparse::ops::Op;
-use nalgebra_sparse::ops::serial::{add_csc, add_csr, mul_csr, spsolve_csc_lower_triangular};
+use nalgebra_sparse::ops::serial::{
+    add_csc, add_csr, mul_csr, spmm_csr_dense, spsolve_csc_lower_triangular,
+};
 use nalgebra_sparse::pattern::SparsityPattern;
 use nalgebra_sparse::scalar::W64;
 use nalgebra_sparse::{CooMatrix, CscMatrix, CsrMatrix};
@@ -14,6 +16,9 @@ use std::alloc::{AllocError, Global};
 
 // How many columns are solved for at once.
 const SOLVED_COLUMNS: usize = 4;
+
+// How many columns a dense factor has.
+const FACTOR_COLUMNS: usize = 8;
 
 /// A kernel of the library.
 #[derive(Clone, Copy, Debug, PartialEq, Eq)]
@@ -26,6 +31,8 @@ pub enum Task {
     Spgemm,
     /// The sum of a square matrix and its transpose.
     Spadd,
+    /// The product of a matrix and a dense one with eight columns.
+    Spmmd,
     /// The lower triangle of a square matrix, with ones on its diagonal, solved for four columns.
     Solve,
     /// The pattern of the Cholesky factor.
@@ -40,6 +47,7 @@ impl Task {
             "transpose" => Some(Task::Transpose),
             "spgemm" => Some(Task::Spgemm),
             "spadd" => Some(Task::Spadd),
+            "spmmd" => Some(Task::Spmmd),
             "solve" => Some(Task::Solve),
             "fill" => Some(Task::Fill),
             _ => None,
@@ -53,6 +61,7 @@ impl Task {
             Task::Transpose => "transpose",
             Task::Spgemm => "spgemm",
             Task::Spadd => "spadd",
+            Task::Spmmd => "spmmd",
             Task::Solve => "solve",
             Task::Fill => "fill",
         }
@@ -72,6 +81,13 @@ impl Task {
                 let transposed = csr.transpose(alloc)?;
                 Ok(Some(Input::Added(csr, transposed)))
             }
+            Task::Spmmd => {
+                let factor = dense_matrix(alloc, coo.ncols(), FACTOR_COLUMNS)?;
+                Ok(Some(Input::Multiplied(
+                    convert_coo_csr(alloc, &coo)?,
+                    factor,
+                )))
+            }
             Task::Solve => {
                 let Some(lower) = unit_lower(alloc, &convert_coo_csc(alloc, &coo)?)? else {
                     return Ok(None);
@@ -88,7 +104,7 @@ impl Task {
 
     fn asks_square(self) -> bool {
         match self {
-            Task::CooToCsr | Task::Transpose => false,
+            Task::CooToCsr | Task::Transpose | Task::Spmmd => false,
             Task::Spgemm | Task::Spadd | Task::Solve | Task::Fill => true,
         }
     }
@@ -111,6 +127,7 @@ pub enum Input {
     Transposed(CsrMatrix<W64>),
     Squared(CsrMatrix<W64>),
     Added(CsrMatrix<W64>, CsrMatrix<W64>),
+    Multiplied(CsrMatrix<W64>, DMatrix<W64>),
     Solved(CscMatrix<W64>, DMatrix<W64>),
     Factored(SparsityPattern),
 }
@@ -123,6 +140,10 @@ impl Input {
             Input::Transposed(csr) => Ok(Run::Transpose(csr)),
             Input::Squared(csr) => Ok(Run::Square(csr)),
             Input::Added(a, b) => Ok(Run::Add(a, b)),
+            Input::Multiplied(csr, factor) => {
+                let product = DMatrix::repeat(alloc, csr.nrows(), factor.ncols(), W64::new(1))?;
+                Ok(Run::Multiply(csr, factor, product))
+            }
             Input::Solved(lower, right_sides) => Ok(Run::Solve(lower, right_sides.clone(alloc)?)),
             Input::Factored(pattern) => Ok(Run::Factor(pattern.clone(alloc)?)),
         }
@@ -136,6 +157,7 @@ pub enum Run<'a> {
     Transpose(&'a CsrMatrix<W64>),
     Square(&'a CsrMatrix<W64>),
     Add(&'a CsrMatrix<W64>, &'a CsrMatrix<W64>),
+    Multiply(&'a CsrMatrix<W64>, &'a DMatrix<W64>, DMatrix<W64>),
     Solve(&'a CscMatrix<W64>, DMatrix<W64>),
     Factor(SparsityPattern),
 }
@@ -158,6 +180,7 @@ impl<'a> Run<'a> {
                 }
                 Ok(Some(Answer::Rows(add_csr(alloc, a, b)?)))
             }
+            Run::Multiply(csr, factor, product) => Ok(multiplied(csr, factor, product)),
             Run::Solve(lower, right_sides) => Ok(solved(lower, right_sides)),
             Run::Factor(pattern) => {
                 if pattern.major_dim() != pattern.minor_dim() {
@@ -168,6 +191,23 @@ impl<'a> Run<'a> {
             }
         }
     }
+}
+
+// Returns the product, written over a matrix of its sizes, or `None` if the sizes do not fit.
+fn multiplied(
+    csr: &CsrMatrix<W64>,
+    factor: &DMatrix<W64>,
+    mut product: DMatrix<W64>,
+) -> Option<Answer> {
+    if csr.ncols() != factor.nrows()
+        || product.nrows() != csr.nrows()
+        || product.ncols() != factor.ncols()
+    {
+        return None;
+    }
+    let (zero, one) = (W64::new(0), W64::new(1));
+    spmm_csr_dense(zero, &mut product, one, Op::NoOp(csr), Op::NoOp(factor));
+    Some(Answer::Dense(product))
 }
 
 // Returns the solution, or `None` if the sizes do not fit or the matrix is singular.

@@ -3,8 +3,8 @@
 use nalgebra_sparse::dense::DMatrix;
 use nalgebra_sparse::ops::Op;
 use nalgebra_sparse::ops::serial::{
-    OperationErrorKind, add_csr, div_scalar_csr, mul_csr, scale_csr, spmm_csr_pattern,
-    spsolve_csc_lower_triangular, sub_csr,
+    OperationErrorKind, add_csr, div_scalar_csr, mul_csc_dense, mul_csr, mul_csr_dense, scale_csr,
+    spmm_csc_dense, spmm_csr_dense, spmm_csr_pattern, spsolve_csc_lower_triangular, sub_csr,
 };
 use nalgebra_sparse::pattern::SparsityPattern;
 use nalgebra_sparse::scalar::W64;
@@ -58,6 +58,48 @@ fn a_triangular_system_is_solved(alloc: Global) -> Result<bool, Fail> {
     Ok(b.as_slice() == [W64::new(3), W64::new(2)].as_slice())
 }
 
+fn a_product_is_added_to_a_dense_matrix(alloc: Global) -> Result<bool, Fail> {
+    let offsets = vec![in alloc; 0, 2, 3]?;
+    let columns = vec![in alloc; 0, 1, 1]?;
+    let values = vec![in alloc; W64::new(1), W64::new(2), W64::new(3)]?;
+    let a = CsrMatrix::try_from_csr_data(2, 2, offsets, columns, values)?;
+    let b = DMatrix::repeat(alloc, 2, 1, W64::new(1))?;
+    let mut c = DMatrix::repeat(alloc, 2, 1, W64::new(1))?;
+    spmm_csr_dense(W64::new(1), &mut c, W64::new(2), Op::NoOp(&a), Op::NoOp(&b));
+    Ok(c.as_slice() == [W64::new(7), W64::new(7)].as_slice())
+}
+
+fn a_product_by_columns_replaces_a_dense_matrix(alloc: Global) -> Result<bool, Fail> {
+    let offsets = vec![in alloc; 0, 1, 3]?;
+    let rows = vec![in alloc; 0, 0, 1]?;
+    let values = vec![in alloc; W64::new(1), W64::new(2), W64::new(3)]?;
+    let a = CscMatrix::try_from_csc_data(2, 2, offsets, rows, values)?;
+    let b = DMatrix::repeat(alloc, 2, 1, W64::new(1))?;
+    let mut c = DMatrix::repeat(alloc, 2, 1, W64::new(9))?;
+    spmm_csc_dense(W64::new(0), &mut c, W64::new(1), Op::NoOp(&a), Op::NoOp(&b));
+    Ok(c.as_slice() == [W64::new(3), W64::new(3)].as_slice())
+}
+
+fn a_matrix_times_a_dense_matrix(alloc: Global) -> Result<bool, Fail> {
+    let offsets = vec![in alloc; 0, 2, 3]?;
+    let columns = vec![in alloc; 0, 1, 1]?;
+    let values = vec![in alloc; W64::new(1), W64::new(2), W64::new(3)]?;
+    let a = CsrMatrix::try_from_csr_data(2, 2, offsets, columns, values)?;
+    let b = DMatrix::from_column_slice(alloc, 2, 1, &[W64::new(1), W64::new(5)])?;
+    let product = mul_csr_dense(alloc, &a, &b)?;
+    Ok(product.as_slice() == [W64::new(11), W64::new(15)].as_slice())
+}
+
+fn a_matrix_by_columns_times_a_dense_matrix(alloc: Global) -> Result<bool, Fail> {
+    let offsets = vec![in alloc; 0, 1, 3]?;
+    let rows = vec![in alloc; 0, 0, 1]?;
+    let values = vec![in alloc; W64::new(1), W64::new(2), W64::new(3)]?;
+    let a = CscMatrix::try_from_csc_data(2, 2, offsets, rows, values)?;
+    let b = DMatrix::from_column_slice(alloc, 2, 1, &[W64::new(1), W64::new(5)])?;
+    let product = mul_csc_dense(alloc, &a, &b)?;
+    Ok(product.as_slice() == [W64::new(11), W64::new(15)].as_slice())
+}
+
 #[test]
 fn products_and_solves(rt: HostRuntime) -> Result<(), Fail> {
     let alloc = rt.alloc();
@@ -71,5 +113,15 @@ fn sums_and_multiples(rt: HostRuntime) -> Result<(), Fail> {
     let alloc = rt.alloc();
     let sums = a_matrix_is_doubled(alloc)? && a_difference_stores_zeros(alloc)?;
     assert!(rt; sums && two_has_no_inverse(alloc)?);
+    Ok(())
+}
+
+#[test]
+fn products_with_dense_matrices(rt: HostRuntime) -> Result<(), Fail> {
+    let alloc = rt.alloc();
+    let updates = a_product_is_added_to_a_dense_matrix(alloc)? && a_product_by_columns_replaces_a_dense_matrix(alloc)?;
+    assert!(rt; updates);
+    let products = a_matrix_times_a_dense_matrix(alloc)? && a_matrix_by_columns_times_a_dense_matrix(alloc)?;
+    assert!(rt; products);
     Ok(())
 }
