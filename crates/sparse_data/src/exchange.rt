@@ -2,7 +2,7 @@
 
 use std::alloc::{AllocError, Global};
 
-/// What a data struct is checked into.
+/// Conversion from a data struct, through the checked constructor.
 ///
 /// # Examples
 ///
@@ -26,7 +26,7 @@ pub trait TryFromData: Sized {
     fn try_from_data(source: Self::Data) -> Result<Self, Self::Refusal>;
 }
 
-/// What is copied out as a data struct.
+/// Conversion to a data struct, by a copy.
 pub trait ToData {
     /// The data struct.
     type Copied;

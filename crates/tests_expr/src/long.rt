@@ -89,7 +89,8 @@ const DEEP: [([(&str, usize); 2], i64); 5] = [
     ([("1 n ", 1), ("1 t + t n ", 4_000)], -2_000_000),
 ];
 
-// A list of so many triplets that each conversion takes some 10 ms: converted at each of its 30,000 namings it would take minutes.
+// So many triplets that a conversion at each of the 24,000 namings would exceed the time limit of
+// a test.
 const TRIPLETS: usize = 2_000_000;
 
 #[test]
