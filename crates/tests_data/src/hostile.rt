@@ -7,7 +7,7 @@ use sparse_data::CsrData;
 use std::alloc::{AllocError, Global};
 use std::test::Fail;
 
-const UNREAD: [&str; 14] = [
+const UNREAD: [&str; 18] = [
     // a field is missing, doubled, unknown, misspelt, of another case
     r#"{"nrows":1,"ncols":1,"row_indices":[0],"col_indices":[0]}"#,
     r#"{"nrows":1,"nrows":1,"ncols":1,"row_indices":[0],"col_indices":[0],"values":[5]}"#,
@@ -21,6 +21,10 @@ const UNREAD: [&str; 14] = [
     r#"{"nrows":1,"ncols":1,"row_indices":[0],"col_indices":[0],"values":[2147483648]}"#,
     r#"{"nrows":1,"ncols":1,"row_indices":[0.5],"col_indices":[0],"values":[5]}"#,
     r#"{"nrows":null,"ncols":1,"row_indices":[0],"col_indices":[0],"values":[5]}"#,
+    r#"{"nrows":1,"ncols":1,"row_indices":[0],"col_indices":[0],"values":["5"]}"#,
+    r#"{"nrows":1,"ncols":1,"row_indices":[0],"col_indices":[0],"values":5}"#,
+    r#"{"nrows":1,"ncols":1,"row_indices":{},"col_indices":[0],"values":[5]}"#,
+    r#"{"nrows":01,"ncols":1,"row_indices":[0],"col_indices":[0],"values":[5]}"#,
     // no object, and text after it
     r#"5"#,
     r#""#,

@@ -29,8 +29,13 @@ const COO: [(&str, Outcome<SparseFormatErrorKind>); 4] = [
 const FOURTH: &str =
     r#"{"nrows":3,"ncols":6,"row_offsets":[0,2,2,5],"col_indices":[0,5,1,2,3],"values":[0,1,2,3,4]}"#;
 
-const CSR: [(&str, Outcome<SparseFormatErrorKind>); 3] = [
+const CSR: [(&str, Outcome<SparseFormatErrorKind>); 4] = [
     (FOURTH, Taken),
+    // The fields come in any order.
+    (
+        r#" { "values" : [ 4 ] , "col_indices":[1],"row_offsets":[0,1],"ncols":2,"nrows":1}"#,
+        Taken,
+    ),
     (
         r#"{"nrows":3,"ncols":6,"row_offsets":[0,10,2,5],"col_indices":[0,5,1,2,3],"values":[0,1,2,3,4]}"#,
         Refused(InvalidStructure),
