@@ -2,16 +2,34 @@
 //!
 //! It is the wrapping sum of a number for each place, which depends on its row, its column and its value.
 
-use nalgebra_sparse::CsrMatrix;
 use nalgebra_sparse::dense::DMatrix;
 use nalgebra_sparse::pattern::SparsityPattern;
 use nalgebra_sparse::scalar::W64;
+use nalgebra_sparse::{CooMatrix, CsrMatrix};
 
 /// Returns the checksum of a matrix by rows.
 pub fn checksum_of_rows(matrix: &CsrMatrix<W64>) -> u64 {
     let mut sum: u64 = 0;
     for (row, col, value) in matrix.triplet_iter() {
         sum = sum.wrapping_add(mixed(row as u64, col as u64, value.get().cast_unsigned()));
+    }
+    sum
+}
+
+/// Returns the checksum of a list.
+pub fn checksum_of_list(list: &CooMatrix<W64>) -> u64 {
+    let mut sum: u64 = 0;
+    for (row, col, value) in list.triplet_iter() {
+        sum = sum.wrapping_add(mixed(row as u64, col as u64, value.get().cast_unsigned()));
+    }
+    sum
+}
+
+/// Returns the checksum of a list of places, with the value one at each.
+pub fn checksum_of_places(list: &CooMatrix<()>) -> u64 {
+    let mut sum: u64 = 0;
+    for (row, col, _) in list.triplet_iter() {
+        sum = sum.wrapping_add(mixed(row as u64, col as u64, 1));
     }
     sum
 }

@@ -5,14 +5,16 @@ mod answer;
 mod checksum;
 mod dense;
 mod measure;
+mod reading;
 mod task;
 
-use measure::measure;
+use measure::{Best, Failure, measure};
+use reading::measure_reader;
 use std::process::ExitCode;
 use std::{env, io};
 use task::Task;
 
-const USAGE: &str = "usage: bench coo2csr|transpose|spgemm|spadd|spmmd|solve|fill FILE REPS";
+const USAGE: &str = "usage: bench coo2csr|transpose|spgemm|spadd|spmmd|solve|fill|read FILE REPS";
 
 fn main(rt: HostRuntime) -> io::Result<ExitCode> {
     let mut words = Vec::new(rt.alloc());
@@ -27,26 +29,30 @@ fn main(rt: HostRuntime) -> io::Result<ExitCode> {
         println!(rt; "{USAGE}")?;
         return Ok(ExitCode::SUCCESS);
     }
-    let Some((task, path, reps)) = command(&views) else {
+    let Some((word, path, reps)) = command(&views) else {
         eprintln!(rt; "{USAGE}")?;
         return Ok(ExitCode::from(2));
     };
-    match measure(&rt, task, path, reps) {
-        Ok(best) => {
-            let (word, name) = (task.word(), file_name(path));
+    match best_run(&rt, word, path, reps) {
+        None => {
+            eprintln!(rt; "{USAGE}")?;
+            Ok(ExitCode::from(2))
+        }
+        Some(Ok(best)) => {
+            let name = file_name(path);
             let (time, sum, places) = (best.nanoseconds, best.checksum, best.places);
             println!(rt; "ours {word} {name} {time} {sum:016x} {places}")?;
             Ok(ExitCode::SUCCESS)
         }
-        Err(failure) => {
+        Some(Err(failure)) => {
             eprintln!(rt; "bench: {failure}")?;
             Ok(ExitCode::FAILURE)
         }
     }
 }
 
-// The task, the file and the number of runs that the words name.
-fn command<'a>(words: &[&'a str]) -> Option<(Task, &'a str, usize)> {
+// The word of the task, the file and the number of runs that the words name.
+fn command<'a>(words: &[&'a str]) -> Option<(&'a str, &'a str, usize)> {
     let [task, path, reps] = words else {
         return None;
     };
@@ -54,7 +60,23 @@ fn command<'a>(words: &[&'a str]) -> Option<(Task, &'a str, usize)> {
     if reps == 0 {
         return None;
     }
-    Some((Task::from_word(task)?, path, reps))
+    Some((task, path, reps))
+}
+
+// The best run of the task of this name, if there is one.
+fn best_run(
+    rt: &HostRuntime,
+    word: &str,
+    path: &str,
+    reps: usize,
+) -> Option<Result<Best, Failure>> {
+    if word == "read" {
+        return Some(measure_reader(rt, path, reps));
+    }
+    match Task::from_word(word) {
+        Some(task) => Some(measure(rt, task, path, reps)),
+        None => None,
+    }
 }
 
 // The last part of a path.

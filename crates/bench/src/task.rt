@@ -54,19 +54,6 @@ impl Task {
         }
     }
 
-    /// Returns the name of the task.
-    pub fn word(self) -> &'static str {
-        match self {
-            Task::CooToCsr => "coo2csr",
-            Task::Transpose => "transpose",
-            Task::Spgemm => "spgemm",
-            Task::Spadd => "spadd",
-            Task::Spmmd => "spmmd",
-            Task::Solve => "solve",
-            Task::Fill => "fill",
-        }
-    }
-
     /// Returns what the task works on, or `None` if the matrix has to be square and is not.
     pub fn prepare(self, alloc: Global, coo: CooMatrix<W64>) -> Result<Option<Input>, AllocError> {
         if coo.nrows() != coo.ncols() && self.asks_square() {
