@@ -10,6 +10,8 @@ mod files;
 #[cfg(test)]
 mod forms;
 #[cfg(test)]
+mod hostile;
+#[cfg(test)]
 mod matrices;
 #[cfg(test)]
 mod reading;
@@ -17,5 +19,7 @@ mod reading;
 mod refusals;
 #[cfg(test)]
 mod scalars;
+#[cfg(test)]
+mod sinks;
 #[cfg(test)]
 mod writing;

@@ -10,7 +10,7 @@ use sparse_pattern::error::SparseFormatErrorKind::IndexOutOfBounds;
 use std::test::Fail;
 
 /// Texts of two parts, and the kind of the first fault of each.
-const KINDS: [(&str, &str, MatrixMarketErrorKind); 37] = [
+const KINDS: [(&str, &str, MatrixMarketErrorKind); 43] = [
     // Headers.
     ("", "", ParsingError),
     (" \n\r\n", "", ParsingError),
@@ -50,6 +50,8 @@ const KINDS: [(&str, &str, MatrixMarketErrorKind); 37] = [
         "1 1\n1",
         InvalidHeader,
     ),
+    ("%%Matr", "", ParsingError),
+    ("%%MatrixMarket matrix coord", "", ParsingError),
     // Lines outside the grammar.
     (HEADER, "", ParsingError),
     (HEADER, "% 1 1 0\n", ParsingError),
@@ -63,7 +65,11 @@ const KINDS: [(&str, &str, MatrixMarketErrorKind); 37] = [
     (HEADER, "1 1 1\n1 -1 1", ParsingError),
     (HEADER, "1 1 1\n1 1 1 %", ParsingError),
     (HEADER, "1 1 1\n1 1\x0c1", ParsingError),
+    (HEADER, "2 2 3\n1 1 1\n1 2 2\n2", ParsingError),
+    (HEADER, "2 2 3\n1 1 1\n1 2 2\n2 2", ParsingError),
     // The first of several faults.
+    (HEADER, "2 2 3\n1 1 1\n1 2 2", EntryMismatch),
+    (HEADER, "2 2 3\n1 1 1\n1 2 2\n", EntryMismatch),
     (HEADER, "2 2\n", ParsingError),
     (HEADER, "1 18446744073709551616 2\n1 1 1", ParsingError),
     (HEADER, "2 2 2\n1 1 1\n", EntryMismatch),
@@ -107,102 +113,127 @@ fn answers_the_kind_of_the_first_fault(rt: HostRuntime) {
     }
 }
 
-/// Texts of two parts, and the text for the cause of each refusal.
-const MESSAGES: [(&str, &str, &str); 21] = [
-    (HEADER, "2 2\n", "Shape line doesn't fit the header."),
-    (HEADER, "2 2\n1 x 1", "Can't parse the data."),
-    (HEADER, "18446744073709551616 2 0", "A size is too large."),
+/// Texts of two parts, and the name and the text of each refusal.
+const MESSAGES: [(&str, &str, &str); 22] = [
+    (
+        HEADER,
+        "2 2\n",
+        "ParsingError, message: Shape line doesn't fit the header.",
+    ),
+    (
+        HEADER,
+        "2 2\n1 x 1",
+        "ParsingError, message: Can't parse the data.",
+    ),
+    (
+        HEADER,
+        "18446744073709551616 2 0",
+        "ParsingError, message: A size is too large.",
+    ),
     (
         HEADER,
         "1 1 1",
-        "The number of entries doesn't match the shape line.",
+        "EntryMismatch, message: The number of entries doesn't match the shape line.",
     ),
     (
         HEADER,
         "1 1 1\n18446744073709551616 1 1",
-        "An index is too large.",
+        "ParsingError, message: An index is too large.",
     ),
-    (HEADER, "1 1 1\n1 0 1", "The data has to be one-indexed"),
+    (
+        HEADER,
+        "1 1 1\n1 0 1",
+        "ZeroError, message: The data has to be one-indexed",
+    ),
     (
         HEADER,
         "1 1 1\n1 1 170141183460469231731687303715884105728",
-        "Can't parse data as i128.",
+        "ParsingError, message: Can't parse data as i128.",
     ),
     (
         HEADER,
         "1 1 1\n1 1 9223372036854775808",
-        "Please consider using a larger integer type.",
+        "TypeMismatch, message: Please consider using a larger integer type.",
     ),
     (
         "%%MatrixMarket matrix ",
         "coordinate real hermitian\n1 1 0",
-        "Real matrix can't be hermitian.",
+        "InvalidHeader, message: Real matrix can't be hermitian.",
     ),
     (
         "%%MatrixMarket matrix ",
         "array integer hermitian\n1 1",
-        "Integer matrix can't be hermitian.",
+        "InvalidHeader, message: Integer matrix can't be hermitian.",
     ),
     (
         "%%MatrixMarket matrix ",
         "coordinate pattern hermitian\n1 1 0",
-        "Pattern matrix can't be hermitian.",
+        "InvalidHeader, message: Pattern matrix can't be hermitian.",
     ),
     (
         "%%MatrixMarket matrix ",
         "array pattern skew-symmetric\n1 1",
-        "Pattern matrix can't be skew-symmetric.",
+        "InvalidHeader, message: Pattern matrix can't be skew-symmetric.",
     ),
     (
         "%%MatrixMarket matrix ",
         "array pattern general\n1 1",
-        "Dense matrix can't be pattern matrix.",
+        "InvalidHeader, message: Dense matrix can't be pattern matrix.",
     ),
     (
         "%%MatrixMarket matrix coordinate complex ",
         "hermitian\n1 1 1\n1 1 1 0",
-        "Complex entries are not carried.",
+        "TypeMismatch, message: Complex entries are not carried.",
     ),
     (
         "%%MatrixMarket matrix coordinate real ",
         "general\n1 1 1\n1 1 1",
-        "Real entries are not carried.",
+        "TypeMismatch, message: Real entries are not carried.",
     ),
     (
         "%%MatrixMarket matrix coordinate pattern ",
         "general\n1 1 1\n1 1",
-        "Int type can't be parsed from ()",
+        "TypeMismatch, message: Int type can't be parsed from ()",
     ),
     (
         "%%MatrixMarket matrix coordinate integer ",
         "symmetric\n2 2 1\n1 2 1",
-        "Entry should be put into lower triangle.",
+        "NotLowerTriangle, message: Entry should be put into lower triangle.",
     ),
     (
         "%%MatrixMarket matrix coordinate integer ",
         "skew-symmetric\n2 2 1\n1 1 1",
-        "There is a diagonal element in skew matrix.",
+        "DiagonalError, message: There is a diagonal element in skew matrix.",
     ),
     (
         "%%MatrixMarket matrix coordinate integer ",
         "symmetric\n2 3 0\n",
-        "(Skew-)Symmetric or hermitian matrix should be square matrix.",
+        "NonSquare, message: (Skew-)Symmetric or hermitian matrix should be square matrix.",
     ),
-    (HEADER, "1 1 1\n1 1", "Entry line doesn't fit the header."),
-    (HEADER, "1 1 1\n1 2 3", "Col index out of bounds."),
+    (
+        HEADER,
+        "1 1 1\n1 1",
+        "ParsingError, message: Entry line doesn't fit the header.",
+    ),
+    (
+        HEADER,
+        "1 1 1\n1 2 3",
+        "SparseFormatError, message: Col index out of bounds.",
+    ),
+    (
+        HEADER,
+        "1 1 1\n2 1 1",
+        "SparseFormatError, message: Row index out of bounds.",
+    ),
 ];
 
 #[test]
 fn tells_the_cause(rt: HostRuntime) -> Result<(), Fail> {
-    for (head, below, message) in MESSAGES {
+    for (head, below, cause) in MESSAGES {
         let error = load::<W64>(&rt, head, below).expect_err(&rt, "a refusal");
-        assert_eq!(rt; error.message(), message);
+        let text = format!(in rt.alloc(); "{error}")?;
+        let wanted = format!(in rt.alloc(); "Matrix Market error: {cause}")?;
+        assert_eq!(rt; text.as_str(), wanted.as_str());
     }
-    let error = load::<W64>(&rt, HEADER, "1 1 1\n2 1 1").expect_err(&rt, "a refusal");
-    let text = error.to_string(rt.alloc())?;
-    assert_eq!(rt;
-        text.as_str(),
-        "Matrix Market error: SparseFormatError, message: Row index out of bounds."
-    );
     Ok(())
 }

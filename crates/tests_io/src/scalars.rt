@@ -4,7 +4,7 @@ use crate::fields::means;
 use crate::reading::load;
 use sparse_algebra::scalar::{W32, W64};
 use sparse_base::coo::CooMatrix;
-use sparse_io::MatrixMarketErrorKind::{ParsingError, TypeMismatch};
+use sparse_io::MatrixMarketErrorKind::{InvalidHeader, ParsingError, TypeMismatch};
 use sparse_io::{
     MatrixMarketError, MatrixMarketErrorKind, MatrixMarketScalar, save_to_matrix_market_str,
 };
@@ -44,12 +44,14 @@ fn refuses_values_of_other_types(rt: HostRuntime) {
     let wider = "coordinate integer general\n1 1 1\n1 1 170141183460469231731687303715884105728";
     let small = "coordinate integer general\n1 1 1\n1 1 300";
     let least = "coordinate integer skew-symmetric\n2 2 1\n2 1 -128";
+    let dense = "array pattern general\n1 1\n1";
     assert_eq!(rt; refusal::<W64>(&rt, wide), Some(TypeMismatch));
     assert_eq!(rt; refusal::<i128>(&rt, wider), Some(ParsingError));
     assert_eq!(rt; refusal::<i8>(&rt, small), Some(TypeMismatch));
     assert_eq!(rt; refusal::<i16>(&rt, small), None);
     assert_eq!(rt; refusal::<i8>(&rt, least), Some(TypeMismatch));
     assert_eq!(rt; refusal::<()>(&rt, small), Some(TypeMismatch));
+    assert_eq!(rt; refusal::<()>(&rt, dense), Some(InvalidHeader));
 }
 
 /// The text of an error, or that there is none.

@@ -1,0 +1,186 @@
+//! Hostile texts, read by the library and by whole lines.
+
+use reference::texts::entries::Listed;
+use reference::texts::meaning;
+use sparse_base::coo::CooMatrix;
+use sparse_io::{
+    MatrixMarketErrorKind, MatrixMarketScalar, load_coo_from_matrix_market_file,
+    load_coo_from_matrix_market_str,
+};
+use std::alloc::{AllocError, Global};
+use std::fs;
+use std::io::ErrorKind;
+use std::rt::Files;
+use std::test::Fail;
+
+/// Texts with each format, field and symmetry, each line end and comments.
+const TEXTS: [&str; 7] = [
+    "%%MatrixMarket matrix coordinate integer general\n% two\n2 3 4\n2 1 4\n1 3 +5\n\n1 3 -5\n1 1 007\n",
+    "%%MatrixMarket matrix coordinate integer symmetric\r\n2 2 2\r\n1 1 7\r\n%\r\n2 1 3",
+    " %%matrixmarket\tMATRIX array integer skew-symmetric \r3 3\r1\r2\r\r3\r",
+    "%%MatrixMarket matrix array integer general\n2 2\n1\n0\n-3\n2147483648\n",
+    "%%MatrixMarket matrix coordinate real general\n1 1 1\n1 1 -2.5e+1\n",
+    "%%MatrixMarket matrix coordinate complex hermitian\n2 2 1\n2 1 .5 1\n",
+    "%%MatrixMarket matrix coordinate pattern symmetric\n2 2 2\n1 1\n2 1\n",
+];
+
+// Whether a matrix has these sizes and triplets.
+fn is_listed<T: MatrixMarketScalar + PartialEq>(matrix: &CooMatrix<T>, listed: &Listed<T>) -> bool {
+    let mut same = (matrix.nrows(), matrix.ncols()) == (listed.nrows, listed.ncols)
+        && matrix.nnz() == listed.triplets.len();
+    for ((row, col, value), wanted) in matrix.triplet_iter().zip(&listed.triplets) {
+        same = same && row == wanted.0 && col == wanted.1 && *value == wanted.2;
+    }
+    same
+}
+
+// Whether both readers give the same sizes and triplets, or refuse the text with the same kind.
+fn agree<T: MatrixMarketScalar + PartialEq>(alloc: Global, text: &str) -> Result<bool, AllocError> {
+    let wanted = meaning::<T>(alloc, text)?;
+    match (load_coo_from_matrix_market_str::<T>(alloc, text), wanted) {
+        (Ok(matrix), Ok(listed)) => Ok(is_listed(&matrix, &listed)),
+        (Err(error), Err(kind)) => Ok(error.kind() == kind),
+        (Ok(_), Err(_)) | (Err(_), Ok(_)) => Ok(false),
+    }
+}
+
+// The same for integers and patterns.
+fn agree_on_both(alloc: Global, text: &str) -> Result<bool, AllocError> {
+    Ok(agree::<i32>(alloc, text)? && agree::<()>(alloc, text)?)
+}
+
+#[test]
+fn a_text_cut_at_each_byte(rt: HostRuntime) -> Result<(), Fail> {
+    for text in TEXTS {
+        for end in 0..=text.len() {
+            let front = std::str::from_utf8(&text.as_bytes()[..end])?;
+            assert!(rt; agree_on_both(rt.alloc(), front)?, "{front}");
+        }
+    }
+    Ok(())
+}
+
+// Whether both readers agree on bytes, where these are UTF-8.
+fn agree_on_bytes(alloc: Global, bytes: &[u8]) -> Result<bool, AllocError> {
+    match std::str::from_utf8(bytes) {
+        Ok(text) => agree_on_both(alloc, text),
+        Err(_) => Ok(true),
+    }
+}
+
+#[test]
+fn a_byte_replaced_by_each_value(rt: HostRuntime) -> Result<(), Fail> {
+    for text in TEXTS {
+        for at in 0..text.len() {
+            for value in 0..=255 {
+                let mut bytes = text.as_bytes().to_vec(rt.alloc())?;
+                bytes[at] = value;
+                assert!(rt;
+                    agree_on_bytes(rt.alloc(), &bytes)?,
+                    "{value} at {at} in {text}"
+                );
+            }
+        }
+    }
+    Ok(())
+}
+
+// Whether a file with these bytes, which are not UTF-8, is refused as invalid.
+fn is_invalid(rt: &(impl Files + AllocGlobal), bytes: &[u8]) -> Result<bool, Fail> {
+    fs::write(rt, "replaced.mtx", bytes)?;
+    let answer = load_coo_from_matrix_market_file::<i32>(rt, "replaced.mtx");
+    fs::remove_file(rt, "replaced.mtx")?;
+    let refusal = answer.err().map(|error| error.kind());
+    Ok(refusal == Some(MatrixMarketErrorKind::IOError(ErrorKind::InvalidData)))
+}
+
+#[test]
+fn files_that_are_not_utf_8(rt: HostRuntime) -> Result<(), Fail> {
+    let text = TEXTS[0];
+    for at in 0..text.len() {
+        for value in 128..=255 {
+            let mut bytes = text.as_bytes().to_vec(rt.alloc())?;
+            bytes[at] = value;
+            assert!(rt; is_invalid(&rt, &bytes)?, "{value} at {at}");
+        }
+    }
+    Ok(())
+}
+
+/// Lines of a part that is repeated, between what stands before and after it.
+const LONG_LINES: [(&str, &str, &str); 6] = [
+    (
+        "%%MatrixMarket matrix coordinate integer general\n%",
+        "x",
+        "\n1 1 1\n1 1 7\n",
+    ),
+    (
+        "%%MatrixMarket matrix coordinate integer general\n",
+        " \t",
+        "1 1 1\n1 1 7\n",
+    ),
+    (
+        "%%MatrixMarket matrix coordinate integer general\n1 1 1\n1 1 ",
+        "0",
+        "7\n",
+    ),
+    (
+        "%%MatrixMarket matrix coordinate integer general\n1 1 1\n1 1 ",
+        "12",
+        "\n",
+    ),
+    (
+        "%%MatrixMarket matrix coordinate integer general\n1 1 1\n",
+        "1 ",
+        "\n",
+    ),
+    ("%%", "MatrixMarket", " matrix"),
+];
+
+// A text whose middle is a part repeated to a million bytes.
+fn long_text(
+    alloc: Global,
+    (before, part, after): (&str, &str, &str),
+) -> Result<String, AllocError> {
+    let mut text = String::from_str(alloc, before)?;
+    for _ in 0..1_000_000 / part.len().max(1) {
+        text.push_str(part)?;
+    }
+    text.push_str(after)?;
+    Ok(text)
+}
+
+#[test]
+fn lines_of_a_million_bytes(rt: HostRuntime) -> Result<(), Fail> {
+    for line in LONG_LINES {
+        let text = long_text(rt.alloc(), line)?;
+        assert!(rt; agree::<i32>(rt.alloc(), text.as_str())?, "{line:?}");
+    }
+    Ok(())
+}
+
+// The greatest size in kilobytes that the memory of this process has had.
+fn peak(rt: &(impl Files + AllocGlobal)) -> Result<usize, Fail> {
+    let status = fs::read_to_string(rt, "/proc/self/status")?;
+    let (_, after) = status.as_str().split_once("VmPeak:").ok_or("no peak")?;
+    let (number, _) = after.split_once("kB").ok_or("no kilobytes")?;
+    Ok(number.trim().parse()?)
+}
+
+#[test]
+fn promised_entries_take_no_memory(rt: HostRuntime) -> Result<(), Fail> {
+    let before = peak(&rt)?;
+    for count in ["1000000000", "100000000000", "18446744073709551615"] {
+        for symmetry in ["general", "symmetric", "skew-symmetric"] {
+            let text = format!(in rt.alloc();
+                "%%MatrixMarket matrix coordinate integer {symmetry}\n9 9 {count}\n2 1 5\n"
+            )?;
+            let answer = load_coo_from_matrix_market_str::<i32>(rt.alloc(), text.as_str());
+            let refusal = answer.err().map(|error| error.kind());
+            assert_eq!(rt; refusal, Some(MatrixMarketErrorKind::EntryMismatch));
+        }
+    }
+    let after = peak(&rt)?;
+    assert!(rt; after < before + 1024, "{before} {after}");
+    Ok(())
+}
