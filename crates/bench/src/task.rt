@@ -70,10 +70,7 @@ impl Task {
             }
             Task::Spmmd => {
                 let factor = dense_matrix(alloc, coo.ncols(), FACTOR_COLUMNS)?;
-                Ok(Some(Input::Multiplied(
-                    convert_coo_csr(alloc, &coo)?,
-                    factor,
-                )))
+                Ok(Some(Input::Multiplied(convert_coo_csr(alloc, &coo)?, factor)))
             }
             Task::Solve => {
                 let Some(lower) = unit_lower(alloc, &convert_coo_csc(alloc, &coo)?)? else {

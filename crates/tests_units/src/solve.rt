@@ -83,13 +83,58 @@ fn entries_above_the_diagonal_change_nothing(rt: HostRuntime) -> Result<(), Fail
     Ok(())
 }
 
+// Rows `1`, `0 2` and `3 4 1`.
+const THREE: Arrays<'static> = (3, 3, &[0, 2, 4, 5], &[0, 2, 1, 2, 2], &[1, 3, 2, 4, 1]);
+
+// Whether the matrix is transposed, and the number of columns; the right sides and the solutions modulo 7, column by column.
+const COLUMNS: &[(bool, usize, &[u8], &[u8])] = &[
+    (
+        false,
+        5,
+        &[1, 0, 0, 0, 1, 0, 0, 0, 1, 0, 0, 0, 1, 2, 3],
+        &[1, 0, 4, 0, 4, 5, 0, 0, 1, 0, 0, 0, 1, 1, 3],
+    ),
+    (
+        true,
+        5,
+        &[1, 0, 0, 0, 1, 0, 0, 0, 1, 0, 0, 0, 1, 2, 3],
+        &[1, 0, 0, 0, 4, 0, 4, 5, 1, 0, 0, 0, 6, 2, 3],
+    ),
+    (
+        false,
+        8,
+        &[
+            1, 0, 0, 0, 1, 0, 0, 0, 1, 0, 0, 0, 1, 2, 3, 0, 0, 1, 0, 1, 0, 1, 0, 0,
+        ],
+        &[
+            1, 0, 4, 0, 4, 5, 0, 0, 1, 0, 0, 0, 1, 1, 3, 0, 0, 1, 0, 4, 5, 1, 0, 4,
+        ],
+    ),
+    (
+        true,
+        8,
+        &[
+            1, 0, 0, 0, 1, 0, 0, 0, 1, 0, 0, 0, 1, 2, 3, 0, 0, 1, 0, 1, 0, 1, 0, 0,
+        ],
+        &[
+            1, 0, 0, 0, 4, 0, 4, 5, 1, 0, 0, 0, 6, 2, 3, 4, 5, 1, 0, 4, 0, 1, 0, 0,
+        ],
+    ),
+];
+
+// Whether each of these systems is solved.
+fn all_solved(alloc: Global) -> Result<bool, Fail> {
+    for (transposed, ncols, right, want) in COLUMNS {
+        if !has_solution::<Mod<7>>(alloc, (THREE, *transposed), *ncols, (*right, *want))? {
+            return Ok(false);
+        }
+    }
+    Ok(true)
+}
+
 #[test]
-fn several_columns(rt: HostRuntime) -> Result<(), Fail> {
-    // Rows `1`, `0 2` and `3 4 1` modulo 7, five columns: the identity's, zeros, and sevenths.
-    let l: Arrays<'_> = (3, 3, &[0, 2, 4, 5], &[0, 2, 1, 2, 2], &[1, 3, 2, 4, 1]);
-    let right: &[u8] = &[1, 0, 0, 0, 1, 0, 0, 0, 1, 0, 0, 0, 7, 14, 21];
-    let want: &[u8] = &[1, 0, 4, 0, 4, 5, 0, 0, 1, 0, 0, 0, 0, 0, 0];
-    assert!(&rt; has_solution::<Mod<7>>(rt.alloc(), (l, false), 5, (right, want))?);
+fn four_columns_and_one_and_eight(rt: HostRuntime) -> Result<(), Fail> {
+    assert!(&rt; all_solved(rt.alloc())?);
     Ok(())
 }
 

@@ -119,9 +119,11 @@ fn sums_and_multiples(rt: HostRuntime) -> Result<(), Fail> {
 #[test]
 fn products_with_dense_matrices(rt: HostRuntime) -> Result<(), Fail> {
     let alloc = rt.alloc();
-    let updates = a_product_is_added_to_a_dense_matrix(alloc)? && a_product_by_columns_replaces_a_dense_matrix(alloc)?;
+    let updates = a_product_is_added_to_a_dense_matrix(alloc)?
+        && a_product_by_columns_replaces_a_dense_matrix(alloc)?;
     assert!(rt; updates);
-    let products = a_matrix_times_a_dense_matrix(alloc)? && a_matrix_by_columns_times_a_dense_matrix(alloc)?;
+    let products = a_matrix_times_a_dense_matrix(alloc)?
+        && a_matrix_by_columns_times_a_dense_matrix(alloc)?;
     assert!(rt; products);
     Ok(())
 }
