@@ -28,17 +28,24 @@ yes m n e = (Decides-eqb (m % 7) (n % 7)).1 e
 is : (m n : ℕ) → nat_eq (m % 7) (n % 7) ≡ true → m % 7 ≡ n % 7
 is m n e = (Decides-eqb (m % 7) (n % 7)).0 e
 
-pub residue7_laws : LawsUpTo residue7_eq (residue7_of 0) (residue7_of 1) residue7_add residue7_mul residue7_neg
+pub residue7_laws : LawsUpTo residue7_eq (residue7_of 0) (residue7_of 1) residue7_add residue7_mul
+    residue7_neg
 residue7_laws = record {
   reflexive = λ x. yes x.number x.number refl;
   symmetric = λ x y e. yes y.number x.number (sym (is x.number y.number e));
   transitive = λ x y z e f. yes x.number z.number (is x.number y.number e ∙ is y.number z.number f);
-  add_same = λ a b c d e f. let p = is a.number b.number e in let q = is c.number d.number f in yes _ _ (add-mod a.number c.number 7 ∙ ap (λ n. (n + c.number % 7) % 7) p ∙ ap (λ n. (b.number % 7 + n) % 7) q ∙ sym (add-mod b.number d.number 7));
+  add_same = λ a b c d e f. let p = is a.number b.number e in let q =
+      is c.number d.number f in yes _ _ (add-mod a.number c.number 7
+      ∙ ap (λ n. (n + c.number % 7) % 7) p ∙ ap (λ n. (b.number % 7 + n) % 7) q
+      ∙ sym (add-mod b.number d.number 7));
   mul_same = λ a b c d e f.
       let p = is a.number b.number e in
       let q = is c.number d.number f in
-      yes _ _ (sym (mul-mod_left a.number c.number 7) ∙ ap (λ n. (n * c.number) % 7) p ∙ mul-mod_left b.number c.number 7 ∙ sym (mul-mod_right b.number c.number 7) ∙ ap (λ n. (b.number * n) % 7) q ∙ mul-mod_right b.number d.number 7);
-  neg_same = λ a b e. let p = is a.number b.number e in yes _ _ (sym (mul-mod_right 6 a.number 7) ∙ ap (λ n. (6 * n) % 7) p ∙ mul-mod_right 6 b.number 7);
+      yes _ _ (sym (mul-mod_left a.number c.number 7) ∙ ap (λ n. (n * c.number) % 7) p
+      ∙ mul-mod_left b.number c.number 7 ∙ sym (mul-mod_right b.number c.number 7)
+      ∙ ap (λ n. (b.number * n) % 7) q ∙ mul-mod_right b.number d.number 7);
+  neg_same = λ a b e. let p = is a.number b.number e in yes _ _
+      (sym (mul-mod_right 6 a.number 7) ∙ ap (λ n. (6 * n) % 7) p ∙ mul-mod_right 6 b.number 7);
   add_assoc = λ a b c. yes _ _ (ap (λ n. n % 7) (omega arith));
   add_comm = λ a b. yes _ _ (ap (λ n. n % 7) (omega arith));
   add_zero = λ a. yes _ _ (ap (λ n. n % 7) (omega arith));
@@ -49,5 +56,6 @@ residue7_laws = record {
   distrib = λ a b c. yes _ _ (ap (λ n. n % 7) (omega arith));
 }
 
-pub residue7_same : (x y : Residue7) → x.number % 7 ≡ y.number % 7 → class residue7_laws x ≡ class residue7_laws y
+pub residue7_same : (x y : Residue7) → x.number % 7 ≡ y.number % 7
+    → class residue7_laws x ≡ class residue7_laws y
 residue7_same x y e = (class_decides residue7_laws x y).0 (yes x.number y.number e)

@@ -7,7 +7,8 @@ use Rattle.mtx.specs.declared.cli.Failure.{Failure}
 use Rattle.mtx.specs.declared.cli.Failure.TheVariants as failure
 
 -- over some texts, one for each file, the text of the expression's value was appended
-pub record IsEvaluated (form : Form) (expression : List ℕ) (files : ℕ) (old new : Option (List ℕ)) : Type 0 where
+pub record IsEvaluated (form : Form) (expression : List ℕ) (files : ℕ) (old new : Option (List ℕ)) :
+    Type 0 where
   pub sources : List (List ℕ)
   pub expr : Expr
   pub read : length sources ≡ files
@@ -15,7 +16,8 @@ pub record IsEvaluated (form : Form) (expression : List ℕ) (files : ℕ) (old 
   pub written : Writes form sources expr old new
 
 -- the words are this one, an expression and files, and the expression's value was written
-pub record IsCalculated (form : Form) (order : List ℕ) (words : List (List ℕ)) (old new : Option (List ℕ)) : Type 0 where
+pub record IsCalculated (form : Form) (order : List ℕ) (words : List (List ℕ))
+    (old new : Option (List ℕ)) : Type 0 where
   pub expression : List ℕ
   pub paths : List (List ℕ)
   pub split : words ≡ order ∷ (expression ∷ paths)

@@ -1,11 +1,14 @@
 -- Sets of pairs that grow until they lack nothing.
-use Rattle.std.proofs.Common.{◌≡◌, ◌≢◌, ℕ, zero, suc, ◌+◌, ◌<◌, ◌≤◌, inl, inr, ◌↔◌, List, [], ◌∷◌, ◌++◌, length, get_or, sym, ap, ◌∙◌, subst, arith}
+use Rattle.std.proofs.Common.{◌≡◌, ◌≢◌, ℕ, zero, suc, ◌+◌, ◌<◌, ◌≤◌, inl, inr, ◌↔◌, List, [], ◌∷◌}
+use Rattle.std.proofs.Common.{◌++◌, length, get_or, sym, ap, ◌∙◌, subst, arith}
 use Rattle.std.specs.List.{Contains, AllPairs}
 use Rattle.std.specs.Set.{is_member}
 use Rattle.std.proofs.lemmas.List.{get_or_default, get_or-map, length-map, length_push}
-use Rattle.std.proofs.lemmas.List.Elements.{Contains-push, Contains-push_cases, Contains-append_left, Contains-append_right}
+use Rattle.std.proofs.lemmas.List.Elements.{Contains-push, Contains-push_cases}
+use Rattle.std.proofs.lemmas.List.Elements.{Contains-append_left, Contains-append_right}
 use Rattle.std.proofs.lemmas.List.Quantifiers.{all_pairs_push}
-use Rattle.std.proofs.lemmas.Map.Made.{length-le_from_is_member, is_member-Decides, IsDistinct-from_AllPairs}
+use Rattle.std.proofs.lemmas.Map.Made.{length-le_from_is_member, is_member-Decides}
+use Rattle.std.proofs.lemmas.Map.Made.{IsDistinct-from_AllPairs}
 use Rattle.sparse_lemmas.proofs.Cases.{lt_suc_cases}
 use Rattle.sparse_pattern.specs.Raw.{Raw, paired}
 use Rattle.sparse_factor.specs.Fill.{InFill, UpperBase}
@@ -32,17 +35,21 @@ rows_of_pairs (suc m) n = rows_of_pairs m n ++ paired m (numbers n)
 
 has_paired : (i j : ℕ) (js : List ℕ) → Contains js j → Contains (paired i js) (pair i j)
 has_paired i j js h =
-    let read : get_or (paired i js) h.0 (pair i j) ≡ pair i (get_or js h.0 j) = get_or-map (pair i) js h.0 j (pair i j) h.1 in
+    let read : get_or (paired i js) h.0 (pair i j) ≡ pair i (get_or js h.0 j) =
+    get_or-map (pair i) js h.0 j (pair i j) h.1 in
     (h.0, omega (arith, h.1, length-map js (pair i)), read ∙ ap (pair i) h.2)
 
 has_row : (m n i j : ℕ) → i < m → j < n → Contains (rows_of_pairs m n) (pair i j)
 unfolding rows_of_pairs
 has_row zero n i j lt within = absurd (omega arith)
 has_row (suc m) n i j lt within = elim (lt_suc_cases i m lt) [
-  | inl below ↦ Contains-append_left (rows_of_pairs m n) (paired m (numbers n)) (pair i j) (has_row m n i j below within)
+  | inl below ↦ Contains-append_left (rows_of_pairs m n) (paired m (numbers n)) (pair i j)
+      (has_row m n i j below within)
   | inr e ↦
-      let here : Contains (paired m (numbers n)) (pair m j) = has_paired m j (numbers n) (has_number n j within) in
-      Contains-append_right (rows_of_pairs m n) (paired m (numbers n)) (pair i j) (subst (λ x. Contains (paired m (numbers n)) (pair x j)) (sym e) here)
+      let here : Contains (paired m (numbers n)) (pair m j) =
+      has_paired m j (numbers n) (has_number n j within) in
+      Contains-append_right (rows_of_pairs m n) (paired m (numbers n)) (pair i j)
+      (subst (λ x. Contains (paired m (numbers n)) (pair x j)) (sym e) here)
 ]
 
 pub all_pairs_below : ℕ → List (ℕ × ℕ)
@@ -63,11 +70,13 @@ nothing_of_fill p = record {
   below = λ x h. absurd (omega (arith, h.1));
 }
 
-module _ (p : Raw) (set : List (ℕ × ℕ)) (x : ℕ × ℕ) (part : IsPartOfFill p set) (lacks : IsLacking p set x) where
+module _ (p : Raw) (set : List (ℕ × ℕ)) (x : ℕ × ℕ) (part : IsPartOfFill p set)
+    (lacks : IsLacking p set x) where
   sound_new : InFill (UpperBase p) x.0 x.1
   sound_new = elim lacks.from [
     | inl b ↦ λ s closed holds. holds x.0 x.1 b
-    | inr f ↦ λ s closed holds. closed x.0 x.1 f.0 (part.sound (pair x.0 f.0) f.1 s closed holds) (part.sound (pair x.1 f.0) f.2 s closed holds) f.3 f.4
+    | inr f ↦ λ s closed holds. closed x.0 x.1 f.0 (part.sound (pair x.0 f.0) f.1 s closed holds)
+        (part.sound (pair x.1 f.0) f.2 s closed holds) f.3 f.4
   ]
 
   below_new : (x.0 < p.major_dim) × (x.1 ≤ x.0)
@@ -78,7 +87,8 @@ module _ (p : Raw) (set : List (ℕ × ℕ)) (x : ℕ × ℕ) (part : IsPartOfFi
 
   pub part_more : IsPartOfFill p (set ++ x ∷ [])
   part_more = record {
-    once = all_pairs_push (λ a b. a ≢ b) set x part.once (λ k d lt same. lacks.new (k, lt, get_or_default set k x d lt ∙ same));
+    once = all_pairs_push (λ a b. a ≢ b) set x part.once
+        (λ k d lt same. lacks.new (k, lt, get_or_default set k x d lt ∙ same));
     sound = λ y h. elim (Contains-push_cases set x y h) [
       | inl old ↦ part.sound y old
       | inr e ↦ subst (λ z. InFill (UpperBase p) z.0 z.1) e sound_new
@@ -93,15 +103,18 @@ module _ (p : Raw) (set : List (ℕ × ℕ)) (x : ℕ × ℕ) (part : IsPartOfFi
 pub part_length : (p : Raw) (set : List (ℕ × ℕ)) → IsPartOfFill p set
     → length set ≤ length (all_pairs_below p.major_dim)
 unfolding all_pairs_below
-part_length p set part = length-le_from_is_member pair_laws set (rows_of_pairs p.major_dim p.major_dim)
+part_length p set part = length-le_from_is_member pair_laws set
+    (rows_of_pairs p.major_dim p.major_dim)
     (IsDistinct-from_AllPairs same_pair set part.once)
     (λ q h.
     let b = part.below q ((is_member-Decides same_pair set q).0 h) in
-    (is_member-Decides same_pair (rows_of_pairs p.major_dim p.major_dim) q).1 (has_row p.major_dim p.major_dim q.0 q.1 b.0 (omega arith)))
+    (is_member-Decides same_pair (rows_of_pairs p.major_dim p.major_dim) q).1
+    (has_row p.major_dim p.major_dim q.0 q.1 b.0 (omega arith)))
 
 pub part_grows : (p : Raw) (set : List (ℕ × ℕ)) (x : ℕ × ℕ) → IsPartOfFill p set → IsLacking p set x
     → length set + 1 ≤ length (all_pairs_below p.major_dim)
-part_grows p set x part lacks = omega (arith, part_length p (set ++ x ∷ []) (part_more p set x part lacks), length_push set x)
+part_grows p set x part lacks =
+    omega (arith, part_length p (set ++ x ∷ []) (part_more p set x part lacks), length_push set x)
 
 -- a part that lacks nothing is the fill
 pub whole_is_fill : (p : Raw) (set : List (ℕ × ℕ)) → IsPartOfFill p set → IsWhole p set
@@ -111,6 +124,7 @@ whole_is_fill p set part whole i j =
     let is = λ (a b : ℕ). is_member-Decides same_pair set (pair a b) in (
       λ h. part.sound (pair i j) h,
       λ f. (is i j).0 (f stored
-          (λ a b k left right lt le. (is a b).1 (whole.closed a b k ((is a k).0 left) ((is b k).0 right) lt le))
+          (λ a b k left right lt le. (is a b).1 (whole.closed a b k ((is a k).0 left)
+          ((is b k).0 right) lt le))
           (λ a b base. (is a b).1 (whole.base a b base))),
     )

@@ -9,15 +9,18 @@ use Rattle.sparse_base.specs.Coo.{coo_of}
 use Rattle.sparse_parser.specs.Scalars.{Scalar}
 use Rattle.sparse_parser.specs.Meaning.{Triplet, value_triplet, is_inside, inside_of}
 
-module _ (S : Scalar) {T : Type 0} (value : T → S.Value) (nrows ncols : ℕ) (ts : List (Triplet T)) where
+module _ (S : Scalar) {T : Type 0} (value : T → S.Value) (nrows ncols : ℕ)
+    (ts : List (Triplet T)) where
   tested : (b : Bool) → list_all (λ t. nat_lt t.0 nrows && nat_lt t.1 ncols) ts ≡ b
       → list_all (is_inside S nrows ncols) (map (value_triplet value) ts) ≡ b
   tested b e = list_all-map (is_inside S nrows ncols) (value_triplet value) ts ∙ e
 
   pub all_inside : list_all (λ t. nat_lt t.0 nrows && nat_lt t.1 ncols) ts ≡ true
-      → Ok (coo_of nrows ncols (map (value_triplet value) ts)) ≡ inside_of S (nrows, ncols, None) (map (value_triplet value) ts)
+      → Ok (coo_of nrows ncols (map (value_triplet value) ts)) ≡ inside_of S (nrows, ncols, None)
+      (map (value_triplet value) ts)
   all_inside e = rw (tested true e) refl
 
   pub some_outside : list_all (λ t. nat_lt t.0 nrows && nat_lt t.1 ncols) ts ≡ false
-      → Err (SparseFormatError IndexOutOfBounds) ≡ inside_of S (nrows, ncols, None) (map (value_triplet value) ts)
+      → Err (SparseFormatError IndexOutOfBounds) ≡ inside_of S (nrows, ncols, None)
+      (map (value_triplet value) ts)
   some_outside e = rw (tested false e) refl

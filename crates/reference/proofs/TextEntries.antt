@@ -1,5 +1,7 @@
 -- The triplets of the data lines that are left, behind those that are read.
-use Rattle.std.proofs.Common.{◌≡◌, ℕ, zero, suc, Option, ◌+◌, ◌<◌, ◌≤◌, List, [], ◌∷◌, ◌++◌, length, drop, get_or, slice_get, Ok, Err, refl, sym, ap, ◌∙◌, append_assoc, add-one, drop-cons, arith}
+use Rattle.std.proofs.Common.{◌≡◌, ℕ, zero, suc, Option, ◌+◌, ◌<◌, ◌≤◌, List, [], ◌∷◌, ◌++◌, length}
+use Rattle.std.proofs.Common.{drop, get_or, slice_get, Ok, Err, refl, sym, ap, ◌∙◌, append_assoc}
+use Rattle.std.proofs.Common.{add-one, drop-cons, arith}
 use Rattle.std.proofs.Math.Seq.{drop-nil}
 use Rattle.std.proofs.Math.ListN.{drop_of_length-le}
 use Rattle.std.proofs.lemmas.List.{append-nil, get_or-map, length-map}
@@ -52,13 +54,17 @@ module _ (S : Scalar) (h : Header) where
     left_from i = entries_of S h (drop i places) (drop i lines)
 
     line_left : (i : ℕ) → i < length lines
-        → left_from i ≡ stepped (triplets_of S h (slice_get places i) (get_or lines i [])) (left_from (i + 1))
+        → left_from i ≡ stepped (triplets_of S h (slice_get places i) (get_or lines i []))
+        (left_from (i + 1))
     line_left i lt =
         ap (entries_of S h (drop i places)) (drop-cons lines i [] lt)
         ∙ unfold_line (drop i places) (get_or lines i []) (drop (suc i) lines)
-        ∙ ap (λ (at : Option (ℕ × ℕ)). stepped (triplets_of S h at (get_or lines i [])) (entries_of S h (drop 1 (drop i places)) (drop (suc i) lines))) (first_left places i)
-        ∙ ap (λ (ps : List (ℕ × ℕ)). stepped (triplets_of S h (slice_get places i) (get_or lines i [])) (entries_of S h ps (drop (suc i) lines))) (one_less places i)
-        ∙ ap (λ (k : ℕ). stepped (triplets_of S h (slice_get places i) (get_or lines i [])) (entries_of S h (drop k places) (drop k lines))) (sym (add-one i))
+        ∙ ap (λ (at : Option (ℕ × ℕ)). stepped (triplets_of S h at (get_or lines i []))
+        (entries_of S h (drop 1 (drop i places)) (drop (suc i) lines))) (first_left places i)
+        ∙ ap (λ (ps : List (ℕ × ℕ)). stepped (triplets_of S h (slice_get places i)
+        (get_or lines i [])) (entries_of S h ps (drop (suc i) lines))) (one_less places i)
+        ∙ ap (λ (k : ℕ). stepped (triplets_of S h (slice_get places i) (get_or lines i []))
+        (entries_of S h (drop k places) (drop k lines))) (sym (add-one i))
 
     pub line_read : (i : ℕ) (before ts : List (Triplet S.Value)) → i < length lines
         → triplets_of S h (slice_get places i) (get_or lines i []) ≡ Ok ts
@@ -68,20 +74,23 @@ module _ (S : Scalar) (h : Header) where
         sym (ap (prefixed before) (line_left i lt ∙ ap (λ r. stepped r (left_from (i + 1))) e)
         ∙ prefixed_twice before ts (left_from (i + 1)))
 
-    pub line_refused : (i : ℕ) (before : List (Triplet S.Value)) (e : MatrixMarketErrorKind) → i < length lines
+    pub line_refused : (i : ℕ) (before : List (Triplet S.Value)) (e : MatrixMarketErrorKind)
+        → i < length lines
         → triplets_of S h (slice_get places i) (get_or lines i []) ≡ Err e
         → Err e ≡ prefixed before (left_from i)
     unfolding stepped
     line_refused i before e lt is =
         sym (ap (prefixed before) (line_left i lt ∙ ap (λ r. stepped r (left_from (i + 1))) is))
 
-pub no_lines : (S : Scalar) (h : Header) (places : List (ℕ × ℕ)) (lines : List Line) → length lines ≡ 0
+pub no_lines : (S : Scalar) (h : Header) (places : List (ℕ × ℕ)) (lines : List Line)
+    → length lines ≡ 0
     → Ok [] ≡ entries_of S h places (lines_in lines)
 unfolding entries_of
 no_lines S h places [] e = refl
 no_lines S h places (l ∷ ls) e = absurd (omega arith)
 
-pub words_at : (lines : List Line) (i : ℕ) (line : Line) → i < length lines → line ≡ get_or lines i line
+pub words_at : (lines : List Line) (i : ℕ) (line : Line) → i < length lines
+    → line ≡ get_or lines i line
     → get_or (lines_in lines) i [] ≡ words_in line
 words_at lines i line lt at = get_or-map words_in lines i line [] lt ∙ ap words_in (sym at)
 
@@ -93,5 +102,6 @@ pub none_left : (S : Scalar) (h : Header) (places : List (ℕ × ℕ)) (lines : 
     → Ok before ≡ prefixed before (entries_of S h (drop i places) (drop i (lines_in lines)))
 unfolding entries_of
 none_left S h places lines i before le =
-    let none : drop i (lines_in lines) ≡ [] = drop_of_length-le (lines_in lines) (omega (arith, length-map lines words_in)) in
+    let none : drop i (lines_in lines) ≡ [] = drop_of_length-le (lines_in lines)
+    (omega (arith, length-map lines words_in)) in
     rw none (sym (ap Ok (append-nil before)))

@@ -1,5 +1,7 @@
 -- The lines of a text that are written, one more at a time.
-use Rattle.std.proofs.Common.{◌≡◌, ℕ, suc, cond, ◌+◌, ◌<◌, ◌≤◌, Bool, true, false, List, [], ◌∷◌, ◌++◌, length, map, take, drop, get_or, refl, sym, ap, ◌∙◌, add-one, drop-cons, arith}
+use Rattle.std.proofs.Common.{◌≡◌, ℕ, suc, cond, ◌+◌, ◌<◌, ◌≤◌, Bool, true, false, List, [], ◌∷◌}
+use Rattle.std.proofs.Common.{◌++◌, length, map, take, drop, get_or, refl, sym, ap, ◌∙◌, add-one}
+use Rattle.std.proofs.Common.{drop-cons, arith}
 use Rattle.std.specs.Prelude.{filter, ◌&&◌, ◌==◌}
 use Rattle.std.proofs.lemmas.Bool.{eqb-true, eqb-false}
 use denote.Ref.{Bor}
@@ -13,7 +15,8 @@ use Rattle.reference.specs.declared.texts.lines.Line.{Line}
 use Rattle.reference.specs.InnerTexts.{texts, words_in, lines_in}
 
 one_more : (lines : List (List ℕ)) (i : ℕ) → i < length lines
-    → written_lines (take (i + 1) lines) ≡ written_lines (take i lines) ++ filter is_some_line (words_of (get_or lines i []) ∷ [])
+    → written_lines (take (i + 1) lines) ≡ written_lines (take i lines) ++ filter is_some_line
+    (words_of (get_or lines i []) ∷ [])
 one_more lines i lt =
     ap (filter is_some_line) (map_more words_of lines i [] lt)
     ∙ filter-append is_some_line (map words_of (take i lines)) (words_of (get_or lines i []) ∷ [])
@@ -60,9 +63,11 @@ no_words (w ∷ ws) n empty e l f = let z = eqb-true n 0 (sym e ∙ f) in absurd
 at_text : (lines : List (Bor (List ℕ))) (i : ℕ) (d : Bor (List ℕ)) → d.now ≡ [] → i < length lines
     → get_or (texts lines) i [] ≡ (get_or lines i d).now
 at_text lines i d e lt =
-    ap (get_or (texts lines) i) (sym e) ∙ get_or-map (λ (word : Bor (List ℕ)). word.now) lines i d d.now lt
+    ap (get_or (texts lines) i) (sym e) ∙ get_or-map (λ (word : Bor (List ℕ)). word.now) lines i d
+    d.now lt
 
-module _ (lines : List (Bor (List ℕ))) (i : ℕ) (d : Bor (List ℕ)) (words : List (List ℕ)) (e : d.now ≡ []) (lt : i < length lines) (are : words ≡ words_of (get_or lines i d).now) where
+module _ (lines : List (Bor (List ℕ))) (i : ℕ) (d : Bor (List ℕ)) (words : List (List ℕ))
+    (e : d.now ≡ []) (lt : i < length lines) (are : words ≡ words_of (get_or lines i d).now) where
   these : words_of (get_or (texts lines) i []) ≡ words
   these = ap words_of (at_text lines i d e lt) ∙ sym are
 
@@ -70,7 +75,8 @@ module _ (lines : List (Bor (List ℕ))) (i : ℕ) (d : Bor (List ℕ)) (words :
   as_long = omega (arith, length-map lines (λ (word : Bor (List ℕ)). word.now))
 
   pub text_some : is_some_line words ≡ true
-      → written_lines (take i (texts lines)) ++ words ∷ [] ≡ written_lines (take (i + 1) (texts lines))
+      → written_lines (take i (texts lines)) ++ words ∷ [] ≡ written_lines
+      (take (i + 1) (texts lines))
   text_some some = sym (written_some (texts lines) i words as_long these some)
 
   pub text_none : is_some_line words ≡ false
@@ -108,9 +114,11 @@ as_many lines i lt = omega (arith, length-map lines words_in)
 
 pub all_more : (lines : List Line) (i : ℕ) (line : Line) → i < length lines
     → line ≡ get_or lines i line → is_entry (words_in line) ≡ true
-    → list_all is_entry (drop (i + 1) (lines_in lines)) ≡ list_all is_entry (drop i (lines_in lines))
+    → list_all is_entry (drop (i + 1) (lines_in lines)) ≡ list_all is_entry
+    (drop i (lines_in lines))
 all_more lines i line lt at passes =
-    all_left is_entry (lines_in lines) i (words_in line) (as_many lines i lt) (at_line lines i line lt at) passes
+    all_left is_entry (lines_in lines) i (words_in line) (as_many lines i lt)
+    (at_line lines i line lt at) passes
 
 pub all_refused : (lines : List Line) (i : ℕ) (line : Line) → i < length lines
     → line ≡ get_or lines i line → is_entry (words_in line) ≡ false
@@ -122,18 +130,24 @@ all_refused lines i line lt at fails =
 -- one more line that is no comment
 pub content_some : (lines : List Line) (i : ℕ) (line : Line) → i < length lines
     → line ≡ get_or lines i line → is_content (words_in line) ≡ true
-    → filter is_content (take (i + 1) (lines_in lines)) ≡ filter is_content (take i (lines_in lines)) ++ words_in line ∷ []
+    → filter is_content (take (i + 1) (lines_in lines)) ≡ filter is_content
+    (take i (lines_in lines)) ++ words_in line ∷ []
 content_some lines i line lt at is =
     filter_more is_content (lines_in lines) i (words_in line) (as_many lines i lt)
-    ∙ ap (λ (ws : List (List ℕ)). filter is_content (take i (lines_in lines)) ++ cond (is_content ws) (ws ∷ []) []) (at_line lines i line lt at)
-    ∙ ap (λ (b : Bool). filter is_content (take i (lines_in lines)) ++ cond b (words_in line ∷ []) []) is
+    ∙ ap (λ (ws : List (List ℕ)). filter is_content (take i (lines_in lines)) ++ cond
+    (is_content ws) (ws ∷ []) []) (at_line lines i line lt at)
+    ∙ ap (λ (b : Bool). filter is_content (take i (lines_in lines)) ++ cond b (words_in line ∷ [])
+    []) is
 
 -- one more comment
 pub content_none : (lines : List Line) (i : ℕ) (line : Line) → i < length lines
     → line ≡ get_or lines i line → is_content (words_in line) ≡ false
-    → filter is_content (take (i + 1) (lines_in lines)) ≡ filter is_content (take i (lines_in lines))
+    → filter is_content (take (i + 1) (lines_in lines)) ≡ filter is_content
+    (take i (lines_in lines))
 content_none lines i line lt at is =
     filter_more is_content (lines_in lines) i (words_in line) (as_many lines i lt)
-    ∙ ap (λ (ws : List (List ℕ)). filter is_content (take i (lines_in lines)) ++ cond (is_content ws) (ws ∷ []) []) (at_line lines i line lt at)
-    ∙ ap (λ (b : Bool). filter is_content (take i (lines_in lines)) ++ cond b (words_in line ∷ []) []) is
+    ∙ ap (λ (ws : List (List ℕ)). filter is_content (take i (lines_in lines)) ++ cond
+    (is_content ws) (ws ∷ []) []) (at_line lines i line lt at)
+    ∙ ap (λ (b : Bool). filter is_content (take i (lines_in lines)) ++ cond b (words_in line ∷ [])
+    []) is
     ∙ append-nil (filter is_content (take i (lines_in lines)))

@@ -1,5 +1,6 @@
 -- Lanes of triplets stand for the triplets.
-use Rattle.std.proofs.Common.{◌≡◌, ℕ, ◌<◌, ◌≤◌, inl, inr, false, cond, eqb, List, [], ◌∷◌, map, filter, All, IsPermutation, refl, ap, sym, ◌∙◌, arith}
+use Rattle.std.proofs.Common.{◌≡◌, ℕ, ◌<◌, ◌≤◌, inl, inr, false, cond, eqb, List, [], ◌∷◌, map}
+use Rattle.std.proofs.Common.{filter, All, IsPermutation, refl, ap, sym, ◌∙◌, arith}
 use Rattle.std.specs.Prelude.{◌||◌, ◌&&◌}
 use Rattle.std.specs.List.{list_any}
 use Rattle.std.proofs.lemmas.Bool.Decides.{nat_tests}
@@ -14,7 +15,8 @@ use Rattle.sparse_algebra.proofs.RingLemmas.{zero_add}
 use Rattle.sparse_algebra.proofs.SumLemmas.{sum_by-permutation}
 use Rattle.sparse_algebra.proofs.PlainLemmas.{same_plain}
 use Rattle.sparse_cs.proofs.Arrays.{value_at}
-use Rattle.sparse_convert.specs.InnerTripletLanes.{entries_of_lane, triplets_of_lane, index_sum, plain_of_lanes}
+use Rattle.sparse_convert.specs.InnerTripletLanes.{entries_of_lane, triplets_of_lane, index_sum}
+use Rattle.sparse_convert.specs.InnerTripletLanes.{plain_of_lanes}
 use Rattle.sparse_convert.proofs.IndexSums.{has_index}
 
 module _ {T : Type 0} where
@@ -26,7 +28,9 @@ module _ {T : Type 0} where
   lane_past n i (k ∷ majors) (j ∷ minors) [] le below = refl
   lane_past n i (k ∷ majors) (j ∷ minors) (v ∷ values) le below =
       let no : eqb k i ≡ false = other k i (omega (arith, below 0 k (omega arith))) in
-      ap (λ b. map (λ (t : ℕ × ℕ × T). (t.1, t.2)) (cond b ((k, j, v) ∷ filter (λ t. eqb t.0 i) (zip_triplets majors minors values)) (filter (λ t. eqb t.0 i) (zip_triplets majors minors values)))) no
+      ap (λ b. map (λ (t : ℕ × ℕ × T). (t.1, t.2))
+      (cond b ((k, j, v) ∷ filter (λ t. eqb t.0 i) (zip_triplets majors minors values))
+      (filter (λ t. eqb t.0 i) (zip_triplets majors minors values)))) no
       ∙ lane_past n i majors minors values le (All-tail (λ k. k < n) k majors below)
     where
       other : (a b : ℕ) → a < b → eqb a b ≡ false
@@ -34,7 +38,8 @@ module _ {T : Type 0} where
 
   pub lane_below : (m i : ℕ) (ts : List (ℕ × ℕ × T)) → All (λ t. t.1 < m) ts
       → All (λ e. e.0 < m) (triplets_of_lane ts i)
-  lane_below m i ts below = All-map (λ e. e.0 < m) (λ t. (t.1, t.2)) (filter (λ t. eqb t.0 i) ts) (All-filter (λ t. eqb t.0 i) (λ t. t.1 < m) ts below)
+  lane_below m i ts below = All-map (λ e. e.0 < m) (λ t. (t.1, t.2)) (filter (λ t. eqb t.0 i) ts)
+      (All-filter (λ t. eqb t.0 i) (λ t. t.1 < m) ts below)
 
   -- the indices of a lane are the places of its row
   lane_has : (i j : ℕ) (ts : List (ℕ × ℕ × T))
@@ -42,11 +47,13 @@ module _ {T : Type 0} where
   lane_has i j [] = refl
   lane_has i j (t ∷ ts) = elim (true_or_false (eqb t.0 i)) [
     | inl hit ↦
-        ap (λ b. has_index j (map (λ (t : ℕ × ℕ × T). (t.1, t.2)) (cond b (t ∷ filter (λ t. eqb t.0 i) ts) (filter (λ t. eqb t.0 i) ts)))) hit
+        ap (λ b. has_index j (map (λ (t : ℕ × ℕ × T). (t.1, t.2))
+        (cond b (t ∷ filter (λ t. eqb t.0 i) ts) (filter (λ t. eqb t.0 i) ts)))) hit
         ∙ ap (λ b. eqb t.1 j || b) (lane_has i j ts)
         ∙ ap (λ b. (b && eqb t.1 j) || list_any (is_at i j) ts) (sym hit)
     | inr miss ↦
-        ap (λ b. has_index j (map (λ (t : ℕ × ℕ × T). (t.1, t.2)) (cond b (t ∷ filter (λ t. eqb t.0 i) ts) (filter (λ t. eqb t.0 i) ts)))) miss
+        ap (λ b. has_index j (map (λ (t : ℕ × ℕ × T). (t.1, t.2))
+        (cond b (t ∷ filter (λ t. eqb t.0 i) ts) (filter (λ t. eqb t.0 i) ts)))) miss
         ∙ lane_has i j ts
         ∙ ap (λ b. (b && eqb t.1 j) || list_any (is_at i j) ts) (sym miss)
   ]
@@ -57,23 +64,30 @@ module _ (R : CommRing) {T : Type 0} (f : T → R.Carrier) where
   lane_sum i j [] = refl
   lane_sum i j (t ∷ ts) = elim (true_or_false (eqb t.0 i)) [
     | inl hit ↦
-        ap (λ b. index_sum R f (map (λ (t : ℕ × ℕ × T). (t.1, t.2)) (cond b (t ∷ filter (λ t. eqb t.0 i) ts) (filter (λ t. eqb t.0 i) ts))) j) hit
+        ap (λ b. index_sum R f (map (λ (t : ℕ × ℕ × T). (t.1, t.2))
+        (cond b (t ∷ filter (λ t. eqb t.0 i) ts) (filter (λ t. eqb t.0 i) ts))) j) hit
         ∙ ap (R.add (where_true R (eqb t.1 j) (f t.2))) (lane_sum i j ts)
         ∙ ap (λ b. R.add (where_true R (b && eqb t.1 j) (f t.2)) (value_at R f ts i j)) (sym hit)
     | inr miss ↦
-        ap (λ b. index_sum R f (map (λ (t : ℕ × ℕ × T). (t.1, t.2)) (cond b (t ∷ filter (λ t. eqb t.0 i) ts) (filter (λ t. eqb t.0 i) ts))) j) miss
+        ap (λ b. index_sum R f (map (λ (t : ℕ × ℕ × T). (t.1, t.2))
+        (cond b (t ∷ filter (λ t. eqb t.0 i) ts) (filter (λ t. eqb t.0 i) ts))) j) miss
         ∙ lane_sum i j ts
         ∙ sym (zero_add R (value_at R f ts i j))
         ∙ ap (λ b. R.add (where_true R (b && eqb t.1 j) (f t.2)) (value_at R f ts i j)) (sym miss)
   ]
 
   -- lanes that hold the triplets of their rows, in any order, stand for the triplets
-  pub lanes_stand : (rows cols : ℕ) (offsets : List ℕ) (entries : List (ℕ × T)) (ts : List (ℕ × ℕ × T))
+  pub lanes_stand : (rows cols : ℕ) (offsets : List ℕ) (entries : List (ℕ × T))
+      (ts : List (ℕ × ℕ × T))
       → ((i : ℕ) → IsPermutation (triplets_of_lane ts i) (entries_of_lane offsets entries i))
       → plain_of_lanes R f rows cols offsets entries ≡ plain_of_triplets R f rows cols ts
-  lanes_stand rows cols offsets entries ts moved = same_plain (plain_of_lanes R f rows cols offsets entries) (plain_of_triplets R f rows cols ts) refl refl
-      (λ i j. sym (list_any-IsPermutation (λ e. eqb e.0 j) (triplets_of_lane ts i) (entries_of_lane offsets entries i) (moved i)) ∙ lane_has i j ts)
-      (λ i j. sym (sum_by-permutation R (λ e. where_true R (eqb e.0 j) (f e.1)) (triplets_of_lane ts i) (entries_of_lane offsets entries i) (moved i)) ∙ lane_sum i j ts)
+  lanes_stand rows cols offsets entries ts moved =
+      same_plain (plain_of_lanes R f rows cols offsets entries) (plain_of_triplets R f rows cols ts)
+      refl refl
+      (λ i j. sym (list_any-IsPermutation (λ e. eqb e.0 j) (triplets_of_lane ts i)
+      (entries_of_lane offsets entries i) (moved i)) ∙ lane_has i j ts)
+      (λ i j. sym (sum_by-permutation R (λ e. where_true R (eqb e.0 j) (f e.1))
+      (triplets_of_lane ts i) (entries_of_lane offsets entries i) (moved i)) ∙ lane_sum i j ts)
 
 -- triplets from their rows, columns and values
 pub zip_of_parts : {T : Type 0} (ts : List (ℕ × ℕ × T))

@@ -1,5 +1,7 @@
 -- What dense matrices have once they are written, as stored values and as plain matrices.
-use Rattle.std.proofs.Common.{◌≡◌, ℕ, zero, suc, ◌<◌, ◌⊎◌, inl, inr, true, false, ◌&&◌, if◌then◌else◌, List, [], ◌∷◌, Option, Some, None, length, get_or, map, Contains, All, ap, sym, subst, ◌∙◌, refl, arith}
+use Rattle.std.proofs.Common.{◌≡◌, ℕ, zero, suc, ◌<◌, ◌⊎◌, inl, inr, true, false, ◌&&◌}
+use Rattle.std.proofs.Common.{if◌then◌else◌, List, [], ◌∷◌, Option, Some, None, length, get_or, map}
+use Rattle.std.proofs.Common.{Contains, All, ap, sym, subst, ◌∙◌, refl, arith}
 use Rattle.std.specs.Prelude.{nat_lt}
 use Rattle.std.specs.List.{list_any}
 use Rattle.std.proofs.Math.ListN.{get_or-map}
@@ -16,7 +18,8 @@ use Rattle.sparse_base.specs.Coo.{Coo}
 use Rattle.sparse_base.specs.Dense.{Dense, value_at}
 use Rattle.sparse_base.specs.DensePlain.{is_inside, plain_of_dense, plain_full}
 use Rattle.sparse_pattern.proofs.LaneOrder.{length-entries, entries_are_places}
-use Rattle.sparse_algebra.proofs.PlainLaws.{proper_transpose, within_plain_of_triplets, within_transpose}
+use Rattle.sparse_algebra.proofs.PlainLaws.{proper_transpose, within_plain_of_triplets}
+use Rattle.sparse_algebra.proofs.PlainLaws.{within_transpose}
 use Rattle.sparse_algebra.proofs.PlainLemmas.{same_plain}
 use Rattle.sparse_algebra.proofs.RingLemmas.{zero_add}
 use Rattle.sparse_cs.specs.Compressed.{Compressed, IsSound, zip_values, lane_triplets, turned}
@@ -24,7 +27,9 @@ use Rattle.sparse_cs.specs.StoredEntries.{place_of}
 use Rattle.sparse_base.specs.CooPlain.{plain_of_coo}
 use Rattle.sparse_cs.specs.PlainOfLanes.{plain_of_rows, plain_of_cols}
 use Rattle.sparse_pattern.proofs.Positions.{one_position}
-use Rattle.sparse_cs.proofs.Arrays.{where_yes, where_no, unnamed, named, pairs_of-triplets, pair_is, test_yes, position_within, entry_at, position_of_entry, value_at_position, proper_rows, proper_triplets}
+use Rattle.sparse_cs.proofs.Arrays.{where_yes, where_no, unnamed, named, pairs_of-triplets, pair_is}
+use Rattle.sparse_cs.proofs.Arrays.{test_yes, position_within, entry_at, position_of_entry}
+use Rattle.sparse_cs.proofs.Arrays.{value_at_position, proper_rows, proper_triplets}
 use Rattle.sparse_cs.proofs.Arrays.{value_at as sum_at}
 use Rattle.sparse_cs.proofs.Inside.{lane_triplets-inside}
 use Rattle.sparse_cs.proofs.LaneSearch.{place_of_is_position}
@@ -49,30 +54,40 @@ module _ {T : Type 0} where
   written_once i j p c z (x ∷ ps) [] e lt is only = absurd (omega arith)
   written_once i j zero c z (x ∷ ps) (v ∷ vs) e lt is only =
       let e' : length ps ≡ length vs = omega arith in
-      let hit : is_at i j (x.0, x.1, v) ≡ true = rw (ap (λ y. y.0) is, ap (λ y. y.1) is) (test_yes i j) in
-      let none : list_any (is_at i j) (zip_values ps vs) ≡ false = elim (true_or_false (list_any (is_at i j) (zip_values ps vs))) [
+      let hit : is_at i j (x.0, x.1, v) ≡ true = rw (ap (λ y. y.0) is, ap (λ y. y.1) is)
+      (test_yes i j) in
+      let none : list_any (is_at i j) (zip_values ps vs) ≡ false =
+      elim (true_or_false (list_any (is_at i j) (zip_values ps vs))) [
         | inl some ↦
-            let at = subst (λ l. Contains l (i, j)) (pairs_of-triplets ps vs e') ((named i j (zip_values ps vs)).0 some) in
+            let at = subst (λ l. Contains l (i, j)) (pairs_of-triplets ps vs e')
+            ((named i j (zip_values ps vs)).0 some) in
             let read : get_or ps at.0 (0, 0) ≡ (i, j) = grind (arith, common_steps, at.1, at.2) in
             absurd (omega (arith, only (suc at.0) (omega (arith, at.1)) read))
         | inr miss ↦ miss
       ] in
-      ap (λ b. written replaced (if b then v else c) (zip_values ps vs) i j) hit ∙ written-nowhere replaced v (zip_values ps vs) i j none
+      ap (λ b. written replaced (if b then v else c) (zip_values ps vs) i j) hit
+      ∙ written-nowhere replaced v (zip_values ps vs) i j none
   written_once i j (suc p) c z (x ∷ ps) (v ∷ vs) e lt is only =
       let miss : is_at i j (x.0, x.1, v) ≡ false = elim (true_or_false (is_at i j (x.0, x.1, v))) [
         | inl hit ↦ absurd (omega (arith, only 0 (omega arith) (pair_is x i j hit)))
         | inr miss ↦ miss
       ] in
-      ap (λ b. written replaced (if b then v else c) (zip_values ps vs) i j) miss ∙ written_once i j p c z ps vs (omega arith) (omega arith) is (λ q l h. omega (arith, only (suc q) (omega arith) h))
+      ap (λ b. written replaced (if b then v else c) (zip_values ps vs) i j) miss
+      ∙ written_once i j p c z ps vs (omega arith) (omega arith) is
+      (λ q l h. omega (arith, only (suc q) (omega arith) h))
 
   module _ (zero_value : T) (m : Compressed T) (sound : IsSound m) where
     unstored : (i j : ℕ) → place_of m.pattern i j ≡ None
         → list_any (is_at i j) (lane_triplets m) ≡ false
     unstored i j none = elim (true_or_false (list_any (is_at i j) (lane_triplets m))) [
       | inl hit ↦
-          let pairs = pairs_of-triplets (entries_of m.pattern) m.values (length-entries m.pattern sound.valid ∙ sym sound.count) in
-          let place = (entries_are_places m.pattern sound.valid i j).0 (subst (λ l. Contains l (i, j)) pairs ((named i j (lane_triplets m)).0 hit)) in
-          absurd (none-some place.at (sym none ∙ (place_of_is_position m.pattern sound.valid i j place.at).1 (place.in_lane, place.index)))
+          let pairs = pairs_of-triplets (entries_of m.pattern) m.values
+          (length-entries m.pattern sound.valid ∙ sym sound.count) in
+          let place = (entries_are_places m.pattern sound.valid i j).0
+          (subst (λ l. Contains l (i, j)) pairs ((named i j (lane_triplets m)).0 hit)) in
+          absurd (none-some place.at
+          (sym none ∙ (place_of_is_position m.pattern sound.valid i j place.at).1
+          (place.in_lane, place.index)))
       | inr miss ↦ miss
     ]
 
@@ -80,39 +95,51 @@ module _ {T : Type 0} where
     pub written_stored : (i j : ℕ)
         → written replaced zero_value (lane_triplets m) i j ≡ stored_or_zero zero_value m i j
     written_stored i j = elim (none_or_some (place_of m.pattern i j)) [
-      | inl none ↦ rw none (written-nowhere replaced zero_value (lane_triplets m) i j (unstored i j none))
+      | inl none ↦ rw none (written-nowhere replaced zero_value (lane_triplets m) i j
+          (unstored i j none))
       | inr some ↦
           let d = m.pattern in
           let p = some.0 in
           let at = (place_of_is_position d sound.valid i j p).0 some.1 in
           let long = length-entries d sound.valid in
-          rw some.1 (written_once i j p zero_value zero_value (entries_of d) m.values (long ∙ sym sound.count) (omega (arith, long, position_within d sound.valid i j p at)) (entry_at d sound.valid i p at.0 ∙ ap (λ x. (i, x)) at.1)
-          (λ q lt is. let there = position_of_entry d sound.valid i j q (omega (arith, long, lt)) is in sym (one_position d sound.valid i p q at.0 there.0 (at.1 ∙ sym there.1))))
+          rw some.1 (written_once i j p zero_value zero_value (entries_of d) m.values
+          (long ∙ sym sound.count) (omega (arith, long, position_within d sound.valid i j p at))
+          (entry_at d sound.valid i p at.0 ∙ ap (λ x. (i, x)) at.1)
+          (λ q lt is. let there = position_of_entry d sound.valid i j q (omega (arith, long, lt))
+          is in sym (one_position d sound.valid i p q at.0 there.0 (at.1 ∙ sym there.1))))
     ]
 
     pub rows_written : (rest : List (ℕ × ℕ × T)) (d : Dense T) → rest ≡ []
-        → IsWritten replaced (λ v. v) zero_value m.pattern.major_dim m.pattern.minor_dim (lane_triplets m) rest d
+        → IsWritten replaced (λ v. v) zero_value m.pattern.major_dim m.pattern.minor_dim
+        (lane_triplets m) rest d
         → IsDenseOfRows zero_value m d
     rows_written rest d end done = record {
       rows = done.rows;
       cols = done.cols;
       count = done.count;
-      values = λ i j z row col. ap (λ l. written replaced (value_at d i j z) l i j) (sym end) ∙ done.values i j z row col ∙ written_stored i j;
+      values = λ i j z row col. ap (λ l. written replaced (value_at d i j z) l i j) (sym end)
+          ∙ done.values i j z row col ∙ written_stored i j;
     }
 
     pub cols_written : (rest : List (ℕ × ℕ × T)) (d : Dense T) → rest ≡ []
-        → IsWritten replaced (λ v. v) zero_value m.pattern.minor_dim m.pattern.major_dim (map turned (lane_triplets m)) rest d
+        → IsWritten replaced (λ v. v) zero_value m.pattern.minor_dim m.pattern.major_dim
+        (map turned (lane_triplets m)) rest d
         → IsDenseOfCols zero_value m d
     cols_written rest d end done = record {
       rows = done.rows;
       cols = done.cols;
       count = done.count;
-      values = λ i j z row col. ap (λ l. written replaced (value_at d i j z) l i j) (sym end) ∙ done.values i j z row col ∙ written-turned replaced zero_value (lane_triplets m) i j ∙ written_stored j i;
+      values = λ i j z row col. ap (λ l. written replaced (value_at d i j z) l i j) (sym end)
+          ∙ done.values i j z row col ∙ written-turned replaced zero_value (lane_triplets m) i j
+          ∙ written_stored j i;
     }
 
     -- the columns' triplets are inside the sizes
-    pub turned_inside : All (λ t. (t.0 < m.pattern.minor_dim) × (t.1 < m.pattern.major_dim)) (map turned (lane_triplets m))
-    turned_inside = All-map (λ t. (t.0 < m.pattern.minor_dim) × (t.1 < m.pattern.major_dim)) turned (lane_triplets m) (λ k t lt. let here = lane_triplets-inside m sound k t lt in (here.1, here.0))
+    pub turned_inside : All (λ t. (t.0 < m.pattern.minor_dim) × (t.1 < m.pattern.major_dim))
+        (map turned (lane_triplets m))
+    turned_inside = All-map (λ t. (t.0 < m.pattern.minor_dim) × (t.1 < m.pattern.major_dim)) turned
+        (lane_triplets m) (λ k t lt. let here = lane_triplets-inside m sound k t
+        lt in (here.1, here.0))
 
 module _ (R : CommRing) {T : Type 0} (f : T → R.Carrier) where
   -- the step that adds a value
@@ -128,10 +155,12 @@ module _ (R : CommRing) {T : Type 0} (f : T → R.Carrier) where
   written_sum c [] i j = sym (R.laws.add_zero c)
   written_sum c (t ∷ ts) i j = elim (true_or_false (is_at i j t)) [
     | inl hit ↦
-        ap (λ b. written added (if b then added c t.2 else c) ts i j) hit ∙ written_sum (added c t.2) ts i j ∙ R.laws.add_assoc c (f t.2) (sum_at R f ts i j)
+        ap (λ b. written added (if b then added c t.2 else c) ts i j) hit
+        ∙ written_sum (added c t.2) ts i j ∙ R.laws.add_assoc c (f t.2) (sum_at R f ts i j)
         ∙ ap (λ b. R.add c (R.add (where_true R b (f t.2)) (sum_at R f ts i j))) (sym hit)
     | inr miss ↦
-        ap (λ b. written added (if b then added c t.2 else c) ts i j) miss ∙ written_sum c ts i j ∙ ap (R.add c) (sym (zero_add R (sum_at R f ts i j)))
+        ap (λ b. written added (if b then added c t.2 else c) ts i j) miss ∙ written_sum c ts i j
+        ∙ ap (R.add c) (sym (zero_add R (sum_at R f ts i j)))
         ∙ ap (λ b. R.add c (R.add (where_true R b (f t.2)) (sum_at R f ts i j))) (sym miss)
   ]
 
@@ -141,10 +170,12 @@ module _ (R : CommRing) {T : Type 0} (f : T → R.Carrier) where
         → d.ncols ≡ a.cols
         → ((i j : ℕ) → i < a.rows → j < a.cols → f (value_at d i j z) ≡ a.value i j)
         → plain_of_dense R f d ≡ plain_full R a
-    dense_stands d a proper within rows cols values = same_plain (plain_of_dense R f d) (plain_full R a) rows cols has_same value_same
+    dense_stands d a proper within rows cols values =
+        same_plain (plain_of_dense R f d) (plain_full R a) rows cols has_same value_same
       where
         has_same : (i j : ℕ) → is_inside d i j ≡ (nat_lt i a.rows && nat_lt j a.cols)
-        has_same i j = ap (λ n. nat_lt i n && nat_lt j d.ncols) rows ∙ ap (λ n. nat_lt i a.rows && nat_lt j n) cols
+        has_same i j = ap (λ n. nat_lt i n && nat_lt j d.ncols) rows
+            ∙ ap (λ n. nat_lt i a.rows && nat_lt j n) cols
 
         meaning : (k : ℕ) → get_or (map f d.values) k R.zero ≡ f (get_or d.values k z)
         meaning k = ap (get_or (map f d.values) k) (sym zero_law) ∙ get_or-map f d.values k z
@@ -152,12 +183,15 @@ module _ (R : CommRing) {T : Type 0} (f : T → R.Carrier) where
         value_same : (i j : ℕ) → (plain_of_dense R f d).value i j ≡ a.value i j
         value_same i j = elim (true_or_false (nat_lt i a.rows && nat_lt j a.cols)) [
           | inl hit ↦
-              let at = (Decides-and (nat_lt i a.rows) (nat_lt j a.cols) (Decides-ltb i a.rows) (Decides-ltb j a.cols)).0 hit in
-              where_yes R f (is_inside d i j) _ (has_same i j ∙ hit) ∙ meaning _ ∙ values i j at.0 at.1
+              let at = (Decides-and (nat_lt i a.rows) (nat_lt j a.cols) (Decides-ltb i a.rows)
+              (Decides-ltb j a.cols)).0 hit in
+              where_yes R f (is_inside d i j) _ (has_same i j ∙ hit) ∙ meaning _
+              ∙ values i j at.0 at.1
           | inr miss ↦
               let off : a.has i j ≡ false = elim (true_or_false (a.has i j)) [
                 | inl here ↦
-                    let yes = (Decides-and (nat_lt i a.rows) (nat_lt j a.cols) (Decides-ltb i a.rows) (Decides-ltb j a.cols)).1 (within i j here) in
+                    let yes = (Decides-and (nat_lt i a.rows) (nat_lt j a.cols)
+                    (Decides-ltb i a.rows) (Decides-ltb j a.cols)).1 (within i j here) in
                     cc
                 | inr off ↦ off
               ] in
@@ -168,25 +202,37 @@ module _ (R : CommRing) {T : Type 0} (f : T → R.Carrier) where
         → All (λ t. (t.0 < m.nrows) × (t.1 < m.ncols)) m.triplets → (rest : List (ℕ × ℕ × T))
         → rest ≡ [] → IsWritten added f (f z) m.nrows m.ncols m.triplets rest d
         → plain_of_dense R f d ≡ plain_full R (plain_of_coo R f m)
-    coo_stands m d inside rest end done = dense_stands d (plain_of_coo R f m) (proper_triplets R f m.nrows m.ncols m.triplets) (within_plain_of_triplets R f m.nrows m.ncols m.triplets inside) done.rows done.cols
-        (λ i j row col. ap (λ l. written added (f (value_at d i j z)) l i j) (sym end) ∙ done.values i j z row col ∙ written_sum (f z) m.triplets i j ∙ ap (λ c. R.add c (sum_at R f m.triplets i j)) zero_law ∙ zero_add R (sum_at R f m.triplets i j))
+    coo_stands m d inside rest end done = dense_stands d (plain_of_coo R f m)
+        (proper_triplets R f m.nrows m.ncols m.triplets)
+        (within_plain_of_triplets R f m.nrows m.ncols m.triplets inside) done.rows done.cols
+        (λ i j row col. ap (λ l. written added (f (value_at d i j z)) l i j) (sym end)
+        ∙ done.values i j z row col ∙ written_sum (f z) m.triplets i j
+        ∙ ap (λ c. R.add c (sum_at R f m.triplets i j)) zero_law
+        ∙ zero_add R (sum_at R f m.triplets i j))
 
     module _ (m : Compressed T) (sound : IsSound m) where
       stored_means : (i j : ℕ) → f (stored_or_zero z m i j) ≡ (plain_of_rows R f m).value i j
       stored_means i j = elim (none_or_some (place_of m.pattern i j)) [
-        | inl none ↦ rw none (zero_law ∙ sym (unnamed R f i j (lane_triplets m) (unstored z m sound i j none)))
-        | inr some ↦ rw some.1 (sym (value_at_position R f m.pattern sound.valid m.values sound.count z i j some.0 ((place_of_is_position m.pattern sound.valid i j some.0).0 some.1)))
+        | inl none ↦ rw none
+            (zero_law ∙ sym (unnamed R f i j (lane_triplets m) (unstored z m sound i j none)))
+        | inr some ↦ rw some.1
+            (sym (value_at_position R f m.pattern sound.valid m.values sound.count z i j some.0
+            ((place_of_is_position m.pattern sound.valid i j some.0).0 some.1)))
       ]
 
       within_rows : IsWithin (plain_of_rows R f m)
-      within_rows = within_plain_of_triplets R f m.pattern.major_dim m.pattern.minor_dim (lane_triplets m) (lane_triplets-inside m sound)
+      within_rows = within_plain_of_triplets R f m.pattern.major_dim m.pattern.minor_dim
+          (lane_triplets m) (lane_triplets-inside m sound)
 
       pub rows_stand : (d : Dense T) → IsDenseOfRows z m d
           → plain_of_dense R f d ≡ plain_full R (plain_of_rows R f m)
-      rows_stand d has = dense_stands d (plain_of_rows R f m) (proper_rows R f m) within_rows has.rows has.cols
+      rows_stand d has = dense_stands d (plain_of_rows R f m) (proper_rows R f m) within_rows
+          has.rows has.cols
           (λ i j row col. ap f (has.values i j z row col) ∙ stored_means i j)
 
       pub cols_stand : (d : Dense T) → IsDenseOfCols z m d
           → plain_of_dense R f d ≡ plain_full R (plain_of_cols R f m)
-      cols_stand d has = dense_stands d (plain_of_cols R f m) (proper_transpose R (plain_of_rows R f m) (proper_rows R f m)) (within_transpose R (plain_of_rows R f m) within_rows) has.rows has.cols
+      cols_stand d has = dense_stands d (plain_of_cols R f m)
+          (proper_transpose R (plain_of_rows R f m) (proper_rows R f m))
+          (within_transpose R (plain_of_rows R f m) within_rows) has.rows has.cols
           (λ i j row col. ap f (has.values i j z row col) ∙ stored_means j i)

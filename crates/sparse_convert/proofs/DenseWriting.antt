@@ -1,5 +1,7 @@
 -- Triplets written one by one into a dense matrix.
-use Rattle.std.proofs.Common.{◌≡◌, ℕ, suc, ◌+◌, ◌*◌, ◌<◌, inl, inr, Bool, true, false, ◌&&◌, ◌==◌, if◌then◌else◌, List, [], ◌∷◌, length, map, All, ap, sym, subst, ◌∙◌, refl, arith}
+use Rattle.std.proofs.Common.{◌≡◌, ℕ, suc, ◌+◌, ◌*◌, ◌<◌, inl, inr, Bool, true, false, ◌&&◌, ◌==◌}
+use Rattle.std.proofs.Common.{if◌then◌else◌, List, [], ◌∷◌, length, map, All, ap, sym, subst, ◌∙◌}
+use Rattle.std.proofs.Common.{refl, arith}
 use Rattle.std.proofs.lemmas.List.{get_or_default}
 use Rattle.std.proofs.lemmas.Nat.{mul-add-lt}
 use Rattle.std.specs.Cmp.{nat_eq_equiv}
@@ -14,7 +16,8 @@ use Rattle.sparse_cs.proofs.Arrays.{pair_is}
 
 -- the test of a written place
 same_test : (a b i j : ℕ) → (i == a && j == b) ≡ (nat_eq a i && nat_eq b j)
-same_test a b i j = ap (λ x. x && j == b) (nat_eq_equiv.symm i a) ∙ ap (λ x. nat_eq a i && x) (nat_eq_equiv.symm j b)
+same_test a b i j = ap (λ x. x && j == b) (nat_eq_equiv.symm i a)
+    ∙ ap (λ x. nat_eq a i && x) (nat_eq_equiv.symm j b)
 
 module _ {T C : Type 0} (step : C → T → C) where
   -- what is at (i, j) once each triplet there made its step from c
@@ -27,7 +30,8 @@ module _ {T C : Type 0} (step : C → T → C) where
   written-nowhere c [] i j none = refl
   written-nowhere c (t ∷ ts) i j none =
       let parts = neither (is_at i j t) (list_any (is_at i j) ts) none in
-      ap (λ b. written (if b then step c t.2 else c) ts i j) parts.0 ∙ written-nowhere c ts i j parts.1
+      ap (λ b. written (if b then step c t.2 else c) ts i j) parts.0
+      ∙ written-nowhere c ts i j parts.1
     where
       neither : (b c : Bool) → (b || c) ≡ false → (b ≡ false) × (c ≡ false)
       neither true c h = cc
@@ -38,11 +42,14 @@ module _ {T C : Type 0} (step : C → T → C) where
       → written c (map turned ts) i j ≡ written c ts j i
   written-turned c [] i j = refl
   written-turned c (t ∷ ts) i j =
-      ap (λ b. written (if b then step c t.2 else c) (map turned ts) i j) (and_comm (nat_eq t.1 i) (nat_eq t.0 j)) ∙ written-turned (if is_at j i t then step c t.2 else c) ts i j
+      ap (λ b. written (if b then step c t.2 else c) (map turned ts) i j)
+      (and_comm (nat_eq t.1 i) (nat_eq t.0 j))
+      ∙ written-turned (if is_at j i t then step c t.2 else c) ts i j
 
   module _ (f : T → C) where
     -- the matrix while the triplets of `rest` are still to be written
-    pub record IsWritten (c : C) (nrows ncols : ℕ) (all rest : List (ℕ × ℕ × T)) (d : Dense T) : Type 0 where
+    pub record IsWritten (c : C) (nrows ncols : ℕ) (all rest : List (ℕ × ℕ × T)) (d : Dense T) :
+        Type 0 where
       pub rows : d.nrows ≡ nrows
       pub cols : d.ncols ≡ ncols
       pub count : length d.values ≡ nrows * ncols
@@ -63,34 +70,42 @@ module _ {T C : Type 0} (step : C → T → C) where
 
     chosen : (t : ℕ × ℕ × T) (d : Dense T) (w : T) (i j : ℕ) (z : T)
         → f w ≡ step (f (value_at d t.0 t.1 z)) t.2
-        → f (if i == t.0 && j == t.1 then w else value_at d i j z) ≡ (if is_at i j t then step (f (value_at d i j z)) t.2 else f (value_at d i j z))
-    chosen t d w i j z is = ap (λ b. f (if b then w else value_at d i j z)) (same_test t.0 t.1 i j) ∙ elim (true_or_false (is_at i j t)) [
-      | inl hit ↦
-          let pair = pair_is (t.0, t.1) i j hit in
-          let row : i ≡ t.0 = sym (ap (λ p. p.0) pair) in
-          let col : j ≡ t.1 = sym (ap (λ p. p.1) pair) in
-          let here : step (f (value_at d t.0 t.1 z)) t.2 ≡ step (f (value_at d i j z)) t.2 = rw (row, col) refl in
-          rw hit (is ∙ here)
-      | inr miss ↦ rw miss refl
-    ]
+        → f (if i == t.0 && j == t.1 then w else value_at d i j z)
+        ≡ (if is_at i j t then step (f (value_at d i j z)) t.2 else f (value_at d i j z))
+    chosen t d w i j z is = ap (λ b. f (if b then w else value_at d i j z)) (same_test t.0 t.1 i j)
+        ∙ elim (true_or_false (is_at i j t)) [
+          | inl hit ↦
+              let pair = pair_is (t.0, t.1) i j hit in
+              let row : i ≡ t.0 = sym (ap (λ p. p.0) pair) in
+              let col : j ≡ t.1 = sym (ap (λ p. p.1) pair) in
+              let here : step (f (value_at d t.0 t.1 z)) t.2 ≡ step (f (value_at d i j z)) t.2 =
+              rw (row, col) refl in
+              rw hit (is ∙ here)
+          | inr miss ↦ rw miss refl
+        ]
 
-    module _ (c : C) (nrows ncols : ℕ) (all rest more : List (ℕ × ℕ × T)) (t : ℕ × ℕ × T) (next : rest ≡ t ∷ more) (d : Dense T) (kept : IsWritten c nrows ncols all rest d) where
+    module _ (c : C) (nrows ncols : ℕ) (all rest more : List (ℕ × ℕ × T)) (t : ℕ × ℕ × T)
+        (next : rest ≡ t ∷ more) (d : Dense T) (kept : IsWritten c nrows ncols all rest d) where
       pub next_inside : (t.0 < d.nrows) × (t.1 < d.ncols)
       next_inside =
-          let here = subst (All (λ t. (t.0 < nrows) × (t.1 < ncols))) next kept.inside 0 t (omega arith) in
+          let here = subst (All (λ t. (t.0 < nrows) × (t.1 < ncols))) next kept.inside 0 t
+          (omega arith) in
           (omega (arith, here.0, kept.rows), omega (arith, here.1, kept.cols))
 
       pub one_written : (e : Dense T) (w : T)
-          → HasValues d.nrows d.ncols (λ k l z. if k == t.0 && l == t.1 then w else value_at d k l z) e
+          → HasValues d.nrows d.ncols (λ k l z. if k == t.0 && l == t.1 then w else value_at d k l
+          z) e
           → ((z : T) → f w ≡ step (f (value_at d t.0 t.1 z)) t.2)
           → IsWritten c nrows ncols all more e
       one_written e w has is = record {
         rows = has.rows ∙ kept.rows;
         cols = has.cols ∙ kept.cols;
         count = has.count ∙ ap (λ n. n * d.ncols) kept.rows ∙ ap (λ n. nrows * n) kept.cols;
-        inside = λ k x lt. subst (All (λ t. (t.0 < nrows) × (t.1 < ncols))) next kept.inside (suc k) x (omega arith);
+        inside = λ k x lt. subst (All (λ t. (t.0 < nrows) × (t.1 < ncols))) next kept.inside (suc k)
+            x (omega arith);
         values = λ i j z row col.
-            ap (λ v. written (f v) more i j) (has.values i j z (rw kept.rows row) (rw kept.cols col))
+            ap (λ v. written (f v) more i j) (has.values i j z (rw kept.rows row)
+            (rw kept.cols col))
             ∙ ap (λ v. written v more i j) (chosen t d w i j z (is z))
             ∙ ap (λ l. written (f (value_at d i j z)) l i j) (sym next)
             ∙ kept.values i j z row col;
@@ -99,6 +114,8 @@ module _ {T C : Type 0} (step : C → T → C) where
       -- a value that was read there is read whatever stands for what is past the end
       pub read_there : (x : T) → x ≡ value_at d t.0 t.1 x → (z : T) → x ≡ value_at d t.0 t.1 z
       read_there x is z =
-          let here = subst (All (λ t. (t.0 < nrows) × (t.1 < ncols))) next kept.inside 0 t (omega arith) in
-          let within : t.1 * d.nrows + t.0 < length d.values = rw (kept.count, kept.rows) (mul-add-lt t.1 nrows t.0 ncols here.1 here.0) in
+          let here = subst (All (λ t. (t.0 < nrows) × (t.1 < ncols))) next kept.inside 0 t
+          (omega arith) in
+          let within : t.1 * d.nrows + t.0 < length d.values =
+          rw (kept.count, kept.rows) (mul-add-lt t.1 nrows t.0 ncols here.1 here.0) in
           is ∙ get_or_default d.values (t.1 * d.nrows + t.0) x z within

@@ -1,5 +1,8 @@
 -- Lanes of values, and those of them that a test keeps.
-use Rattle.std.proofs.Common.{◌≡◌, ℕ, zero, suc, ◌+◌, ◌*◌, ◌<◌, inl, inr, Bool, true, false, not, cond, List, [], ◌∷◌, ◌++◌, length, map, get_or, All, Contains, length-append, append_assoc, add-one, refl, ap, sym, subst, ◌∙◌, arith}
+use Rattle.std.proofs.Common.{◌≡◌, ℕ, zero, suc, ◌+◌, ◌*◌, ◌<◌, inl, inr, Bool, true, false, not}
+use Rattle.std.proofs.Common.{cond, List, [], ◌∷◌, ◌++◌, length, map, get_or, All, Contains}
+use Rattle.std.proofs.Common.{length-append, append_assoc, add-one, refl, ap, sym, subst, ◌∙◌}
+use Rattle.std.proofs.Common.{arith}
 use Rattle.std.specs.List.{filter, flat_map}
 use Rattle.std.specs.List.Sorted.{IsStrictlyIncreasing}
 use Rattle.std.proofs.lemmas.Grind.{flat_map-append}
@@ -21,28 +24,38 @@ length_below (suc n) = omega (arith, length-append (below n) (n ∷ []), length_
 below_at : (n k d : ℕ) → k < n → get_or (below n) k d ≡ k
 below_at zero k d lt = absurd (omega arith)
 below_at (suc n) k d lt = elim (lt_suc_cases k n lt) [
-  | inl before ↦ get_or_append_left (below n) (n ∷ []) d k (omega (arith, length_below n)) ∙ below_at n k d before
+  | inl before ↦ get_or_append_left (below n) (n ∷ []) d k (omega (arith, length_below n))
+      ∙ below_at n k d before
   | inr here ↦ get_or_push (below n) n d k (length_below n ∙ sym here) ∙ sym here
 ]
 
 rising_below : (n : ℕ) → IsStrictlyIncreasing (below n)
-rising_below n = λ k lt. omega (arith, below_at n k 0 (omega (arith, length_below n)), below_at n (k + 1) 0 (omega (arith, length_below n)))
+rising_below n = λ k lt. omega (
+  arith,
+  below_at n k 0 (omega (arith, length_below n)),
+  below_at n (k + 1) 0 (omega (arith, length_below n)),
+)
 
 all_below : (n : ℕ) → All (λ k. k < n) (below n)
-all_below n = λ k d lt. let within : k < n = omega (arith, length_below n) in subst (λ x. x < n) (sym (below_at n k d within)) within
+all_below n = λ k d lt. let within : k < n = omega (arith, length_below n) in subst (λ x. x < n)
+    (sym (below_at n k d within)) within
 
 -- those that a test keeps rise, and are below n
 pub rising_kept : (test : ℕ → Bool) (n : ℕ) → IsStrictlyIncreasing (filter test (below n))
 rising_kept test n = IsStrictlyIncreasing-filter test (below n) (rising_below n)
 
 pub bounded_kept : (test : ℕ → Bool) (n : ℕ) → (j : ℕ) → Contains (filter test (below n)) j → j < n
-bounded_kept test n j h = subst (λ x. x < n) h.2 (All-filter test (λ k. k < n) (below n) (all_below n) h.0 j h.1)
+bounded_kept test n j h = subst (λ x. x < n) h.2
+    (All-filter test (λ k. k < n) (below n) (all_below n) h.0 j h.1)
 
 -- one number more
 module _ (test : ℕ → Bool) (n : ℕ) where
   chosen_next : (b : Bool) → test n ≡ b
       → filter test (below (n + 1)) ≡ filter test (below n) ++ cond b (n ∷ []) []
-  chosen_next b e = ap (λ k. filter test (below k)) (add-one n) ∙ filter-append test (below n) (n ∷ []) ∙ ap (λ c. filter test (below n) ++ cond c (n ∷ []) []) e
+  chosen_next b e = ap (λ k. filter test (below k)) (add-one n)
+      ∙ filter-append test (below n) (n ∷ []) ∙ ap
+      (λ c. filter test (below n) ++ cond c (n ∷ []) [])
+      e
 
   pub left_out : test n ≡ false → filter test (below (n + 1)) ≡ filter test (below n)
   left_out e = chosen_next false e ∙ append-nil (filter test (below n))
@@ -50,14 +63,17 @@ module _ (test : ℕ → Bool) (n : ℕ) where
   -- the number and its value are pushed
   pub indices_more : (xs ys : List ℕ) → test n ≡ true → xs ≡ ys ++ filter test (below n)
       → xs ++ n ∷ [] ≡ ys ++ filter test (below (n + 1))
-  indices_more xs ys e h = ap (λ l. l ++ n ∷ []) h ∙ append_assoc ys (filter test (below n)) (n ∷ []) ∙ ap (λ l. ys ++ l) (sym (chosen_next true e))
+  indices_more xs ys e h = ap (λ l. l ++ n ∷ []) h ∙ append_assoc ys (filter test (below n))
+      (n ∷ []) ∙ ap (λ l. ys ++ l) (sym (chosen_next true e))
 
   pub values_more : {T : Type 0} (value : ℕ → T) (v : T) (us ws : List T) → test n ≡ true
       → v ≡ value n → us ≡ ws ++ map value (filter test (below n))
       → us ++ v ∷ [] ≡ ws ++ map value (filter test (below (n + 1)))
   values_more value v us ws e is h =
       ap (λ l. l ++ v ∷ []) h ∙ append_assoc ws (map value (filter test (below n))) (v ∷ [])
-      ∙ ap (λ l. ws ++ l) (ap (λ x. map value (filter test (below n)) ++ x ∷ []) is ∙ sym (map-append value (filter test (below n)) (n ∷ [])) ∙ ap (map value) (sym (chosen_next true e)))
+      ∙ ap (λ l. ws ++ l) (ap (λ x. map value (filter test (below n)) ++ x ∷ []) is
+      ∙ sym (map-append value (filter test (below n)) (n ∷ []))
+      ∙ ap (map value) (sym (chosen_next true e)))
 
 -- ---- lists
 
@@ -67,18 +83,23 @@ filter-map test f [] = refl
 filter-map test f (x ∷ xs) = chosen (test (f x)) (filter-map test f xs)
   where
     chosen : (b : Bool) → filter test (map f xs) ≡ map f (filter (λ x. test (f x)) xs)
-        → cond b (f x ∷ filter test (map f xs)) (filter test (map f xs)) ≡ map f (cond b (x ∷ filter (λ x. test (f x)) xs) (filter (λ x. test (f x)) xs))
+        → cond b (f x ∷ filter test (map f xs)) (filter test (map f xs)) ≡ map f
+        (cond b (x ∷ filter (λ x. test (f x)) xs) (filter (λ x. test (f x)) xs))
     chosen true rest = ap (λ l. f x ∷ l) rest
     chosen false rest = rest
 
 pub filter_map_next : {X : Type 0} (test : X → Bool) (f : ℕ → X) (n : ℕ) (b : Bool) → test (f n) ≡ b
     → filter test (map f (below (n + 1))) ≡ filter test (map f (below n)) ++ cond b (f n ∷ []) []
 filter_map_next test f n b e =
-    ap (λ k. filter test (map f (below k))) (add-one n) ∙ ap (filter test) (map-append f (below n) (n ∷ [])) ∙ filter-append test (map f (below n)) (f n ∷ []) ∙ ap (λ c. filter test (map f (below n)) ++ cond c (f n ∷ []) []) e
+    ap (λ k. filter test (map f (below k))) (add-one n)
+    ∙ ap (filter test) (map-append f (below n) (n ∷ []))
+    ∙ filter-append test (map f (below n)) (f n ∷ [])
+    ∙ ap (λ c. filter test (map f (below n)) ++ cond c (f n ∷ []) []) e
 
 pub flat_map_next : {X : Type 0} (f : ℕ → List X) (n : ℕ)
     → flat_map f (below (n + 1)) ≡ flat_map f (below n) ++ f n
-flat_map_next f n = ap (λ k. flat_map f (below k)) (add-one n) ∙ flat_map-append f (below n) (n ∷ []) ∙ ap (λ l. flat_map f (below n) ++ l) (append-nil (f n))
+flat_map_next f n = ap (λ k. flat_map f (below k)) (add-one n)
+    ∙ flat_map-append f (below n) (n ∷ []) ∙ ap (λ l. flat_map f (below n) ++ l) (append-nil (f n))
 
 -- one lane more
 module _ {T : Type 0} (E : T → T → Bool) (z : T) (m : ℕ) (value : ℕ → ℕ → T) where
@@ -87,29 +108,43 @@ module _ {T : Type 0} (E : T → T → Bool) (z : T) (m : ℕ) (value : ℕ → 
   kept_indices i = filter (λ k. not (E (value i k) z)) (below m)
 
   pub kept_lane : (n : ℕ)
-      → filter (differs_from E z) (full_lanes (n + 1) m value) ≡ filter (differs_from E z) (full_lanes n m value) ++ map (λ k. (n, k, value n k)) (kept_indices n)
+      → filter (differs_from E z) (full_lanes (n + 1) m value) ≡ filter (differs_from E z)
+      (full_lanes n m value) ++ map (λ k. (n, k, value n k)) (kept_indices n)
   kept_lane n =
-      let lane : ℕ → List (ℕ × ℕ × T) = λ i. map {B = ℕ × ℕ × T} (λ k. (i, k, value i k)) (below m) in
+      let lane : ℕ → List (ℕ × ℕ × T) = λ i. map {B = ℕ × ℕ × T} (λ k. (i, k, value i k))
+      (below m) in
       ap (filter (differs_from E z)) (flat_map_next lane n)
       ∙ filter-append (differs_from E z) (full_lanes n m value) (lane n)
-      ∙ ap (λ l. filter (differs_from E z) (full_lanes n m value) ++ l) (filter-map (differs_from E z) (λ k. (n, k, value n k)) (below m))
+      ∙ ap (λ l. filter (differs_from E z) (full_lanes n m value) ++ l)
+      (filter-map (differs_from E z) (λ k. (n, k, value n k)) (below m))
 
 map_below-same : {X : Type 0} (n : ℕ) (f g : ℕ → X) → ((k : ℕ) → k < n → f k ≡ g k)
     → map f (below n) ≡ map g (below n)
 map_below-same zero f g h = refl
 map_below-same (suc n) f g h =
-    map-append f (below n) (n ∷ []) ∙ ap (λ l. l ++ f n ∷ []) (map_below-same n f g (λ k lt. h k (omega arith))) ∙ ap (λ x. map g (below n) ++ x ∷ []) (h n (omega arith)) ∙ sym (map-append g (below n) (n ∷ []))
+    map-append f (below n) (n ∷ []) ∙ ap (λ l. l ++ f n ∷ [])
+    (map_below-same n f g (λ k lt. h k (omega arith)))
+    ∙ ap (λ x. map g (below n) ++ x ∷ []) (h n (omega arith))
+    ∙ sym (map-append g (below n) (n ∷ []))
 
 -- one column more
 pub column_more : {T : Type 0} (E : T → T → Bool) (z : T) (d : Dense T) (j : ℕ) (column : List T)
     → length column ≡ d.nrows
     → ((i : ℕ) (y : T) → i < d.nrows → get_or column i y ≡ value_at d i j y)
-    → filter (differs_from E z) (flat_map (λ j. map {B = ℕ × ℕ × T} (λ i. (i, j, value_at d i j z)) (below d.nrows)) (below j)) ++ filter (differs_from E z) (map {B = ℕ × ℕ × T} (λ i. (i, j, get_or column i z)) (below (length column))) ≡ filter (differs_from E z) (flat_map (λ j. map {B = ℕ × ℕ × T} (λ i. (i, j, value_at d i j z)) (below d.nrows)) (below (j + 1)))
+    → filter (differs_from E z)
+    (flat_map (λ j. map {B = ℕ × ℕ × T} (λ i. (i, j, value_at d i j z)) (below d.nrows))
+    (below j)) ++ filter (differs_from E z) (map {B = ℕ × ℕ × T}
+    (λ i. (i, j, get_or column i z)) (below (length column))) ≡ filter (differs_from E z)
+    (flat_map (λ j. map {B = ℕ × ℕ × T} (λ i. (i, j, value_at d i j z)) (below d.nrows))
+    (below (j + 1)))
 column_more {T} E z d j column rows values =
-    let columns : ℕ → List (ℕ × ℕ × T) = λ j. map {B = ℕ × ℕ × T} (λ i. (i, j, value_at d i j z)) (below d.nrows) in
+    let columns : ℕ → List (ℕ × ℕ × T) = λ j. map {B = ℕ × ℕ × T} (λ i. (i, j, value_at d i j z))
+    (below d.nrows) in
     let before = flat_map columns (below j) in
     let line : ℕ → ℕ × ℕ × T = λ i. (i, j, get_or column i z) in
-    let here : map line (below (length column)) ≡ columns j = ap (λ n. map line (below n)) rows ∙ map_below-same d.nrows line (λ i. (i, j, value_at d i j z)) (λ i lt. ap {B = ℕ × ℕ × T} (λ v. (i, j, v)) (values i z lt)) in
+    let here : map line (below (length column)) ≡ columns j = ap (λ n. map line (below n)) rows
+    ∙ map_below-same d.nrows line (λ i. (i, j, value_at d i j z))
+    (λ i lt. ap {B = ℕ × ℕ × T} (λ v. (i, j, v)) (values i z lt)) in
     ap (λ l. filter (differs_from E z) before ++ filter (differs_from E z) l) here
     ∙ sym (filter-append (differs_from E z) before (columns j))
     ∙ ap (filter (differs_from E z)) (sym (flat_map_next columns j))
@@ -122,30 +157,41 @@ full_lanes_same n m v w h = λ t. full_lanes n m (λ i k. h i k t)
 
 module _ {T : Type 0} where
   turned_lane : (value : ℕ → T) (j : ℕ) (is : List ℕ)
-      → map {B = ℕ × ℕ × T} (λ i. (i, j, value i)) is ≡ map turned (map {B = ℕ × ℕ × T} (λ i. (j, i, value i)) is)
+      → map {B = ℕ × ℕ × T} (λ i. (i, j, value i)) is ≡ map turned
+      (map {B = ℕ × ℕ × T} (λ i. (j, i, value i)) is)
   turned_lane value j [] = refl
   turned_lane value j (i ∷ is) = ap (λ l. (i, j, value i) ∷ l) (turned_lane value j is)
 
   turned_lanes : (value : ℕ → ℕ → T) (is js : List ℕ)
-      → flat_map (λ j. map {B = ℕ × ℕ × T} (λ i. (i, j, value j i)) is) js ≡ map turned (flat_map (λ j. map {B = ℕ × ℕ × T} (λ i. (j, i, value j i)) is) js)
+      → flat_map (λ j. map {B = ℕ × ℕ × T} (λ i. (i, j, value j i)) is) js ≡ map turned
+      (flat_map (λ j. map {B = ℕ × ℕ × T} (λ i. (j, i, value j i)) is) js)
   turned_lanes value is [] = refl
   turned_lanes value is (j ∷ js) =
-      ap (λ l. l ++ flat_map (λ j. map {B = ℕ × ℕ × T} (λ i. (i, j, value j i)) is) js) (turned_lane (value j) j is)
-      ∙ ap (λ l. map turned (map {B = ℕ × ℕ × T} (λ i. (j, i, value j i)) is) ++ l) (turned_lanes value is js)
-      ∙ sym (map-append turned (map {B = ℕ × ℕ × T} (λ i. (j, i, value j i)) is) (flat_map (λ j. map {B = ℕ × ℕ × T} (λ i. (j, i, value j i)) is) js))
+      ap (λ l. l ++ flat_map (λ j. map {B = ℕ × ℕ × T} (λ i. (i, j, value j i)) is) js)
+      (turned_lane (value j) j is)
+      ∙ ap (λ l. map turned (map {B = ℕ × ℕ × T} (λ i. (j, i, value j i)) is) ++ l)
+      (turned_lanes value is js)
+      ∙ sym (map-append turned (map {B = ℕ × ℕ × T} (λ i. (j, i, value j i)) is)
+      (flat_map (λ j. map {B = ℕ × ℕ × T} (λ i. (j, i, value j i)) is) js))
 
   -- the columns of a dense matrix, as lanes
   abbrev pub column_lanes : T → Dense T → List (ℕ × ℕ × T)
   column_lanes z d = full_lanes d.ncols d.nrows (λ j i. value_at d i j z)
 
   pub kept_columns : (E : T → T → Bool) (z : T) (d : Dense T)
-      → filter (differs_from E z) (column_triplets z d) ≡ map turned (filter (differs_from E z) (column_lanes z d))
-  kept_columns E z d = ap (filter (differs_from E z)) (turned_lanes (λ j i. value_at d i j z) (below d.nrows) (below d.ncols)) ∙ filter-map (differs_from E z) turned (column_lanes z d)
+      → filter (differs_from E z) (column_triplets z d) ≡ map turned
+      (filter (differs_from E z) (column_lanes z d))
+  kept_columns E z d = ap (filter (differs_from E z))
+      (turned_lanes (λ j i. value_at d i j z) (below d.nrows) (below d.ncols))
+      ∙ filter-map (differs_from E z) turned (column_lanes z d)
 
   -- lanes that are read by steps
   pub lanes_by_columns : (z : T) (d : Dense T)
-      → full_lanes d.ncols d.nrows (λ j i. get_or d.values (j * d.nrows + i * 1) z) ≡ column_lanes z d
-  lanes_by_columns z d = full_lanes_same d.ncols d.nrows _ _ (λ j i. let at : j * d.nrows + i * 1 ≡ j * d.nrows + i = omega arith in ap (λ p. get_or d.values p z) at)
+      → full_lanes d.ncols d.nrows (λ j i. get_or d.values (j * d.nrows + i * 1) z) ≡ column_lanes z
+      d
+  lanes_by_columns z d = full_lanes_same d.ncols d.nrows _ _
+      (λ j i. let at : j * d.nrows + i * 1 ≡ j * d.nrows + i =
+      omega arith in ap (λ p. get_or d.values p z) at)
 
 -- ---- no values
 
@@ -157,4 +203,5 @@ columns_of_nothing value (j ∷ js) = columns_of_nothing value js
 -- columns without rows have no triplets
 pub no_values : {T : Type 0} (z : T) (d : Dense T) → d.nrows ≡ 0 → column_triplets z d ≡ []
 no_values {T} z d e =
-    subst (λ n. flat_map (λ j. map {B = ℕ × ℕ × T} (λ i. (i, j, value_at d i j z)) (below n)) (below d.ncols) ≡ []) (sym e) (columns_of_nothing (λ i j. value_at d i j z) (below d.ncols))
+    subst (λ n. flat_map (λ j. map {B = ℕ × ℕ × T} (λ i. (i, j, value_at d i j z)) (below n))
+    (below d.ncols) ≡ []) (sym e) (columns_of_nothing (λ i j. value_at d i j z) (below d.ncols))

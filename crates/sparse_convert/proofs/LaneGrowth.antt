@@ -1,7 +1,10 @@
 -- Compressed arrays that gain a lane at their end, with its values.
-use Rattle.std.proofs.Common.{◌≡◌, ℕ, zero, suc, ◌+◌, ◌-◌, ◌<◌, ◌≤◌, List, [], ◌∷◌, ◌++◌, length, take, drop, map, slice_index, slice_range, Contains, length-append, append_assoc, add-one, refl, ap, sym, ◌∙◌, arith}
+use Rattle.std.proofs.Common.{◌≡◌, ℕ, zero, suc, ◌+◌, ◌-◌, ◌<◌, ◌≤◌, List, [], ◌∷◌, ◌++◌, length}
+use Rattle.std.proofs.Common.{take, drop, map, slice_index, slice_range, Contains, length-append}
+use Rattle.std.proofs.Common.{append_assoc, add-one, refl, ap, sym, ◌∙◌, arith}
 use Rattle.std.specs.List.Sorted.{IsStrictlyIncreasing}
-use Rattle.std.proofs.lemmas.List.{append-nil, take-append-le, drop-append-le, length-drop, length-map}
+use Rattle.std.proofs.lemmas.List.{append-nil, take-append-le, drop-append-le, length-drop}
+use Rattle.std.proofs.lemmas.List.{length-map}
 use Rattle.sparse_pattern.specs.Raw.{raw_of, paired, entries_from, entries_of}
 use Rattle.sparse_pattern.proofs.LaneOrder.{length-entries}
 use Rattle.sparse_cs.specs.Compressed.{Compressed, arrays_of, IsSound, zip_values, lane_triplets}
@@ -11,23 +14,33 @@ use Rattle.sparse_pattern.proofs.PushedLanes.{valid_pushed, offset_kept, lane_is
 range_front : (xs ys : List ℕ) (a b : ℕ) → a ≤ b → b ≤ length xs
     → slice_range (xs ++ ys) a b ≡ slice_range xs a b
 range_front xs ys a b le within =
-    ap (take (b - a)) (drop-append-le a xs ys (omega arith)) ∙ take-append-le (b - a) (drop a xs) ys (omega (arith, length-drop a xs))
+    ap (take (b - a)) (drop-append-le a xs ys (omega arith)) ∙ take-append-le (b - a) (drop a xs) ys
+    (omega (arith, length-drop a xs))
 
 -- with one more lane, whose offsets and indices come after the others
 entries_gain : (os os' is js : List ℕ) (i n : ℕ)
     → ((k : ℕ) → k ≤ i + n → slice_index os' k ≡ slice_index os k)
-    → ((k : ℕ) → k < i + n → (slice_index os k ≤ slice_index os (k + 1)) × (slice_index os (k + 1) ≤ length is))
-    → entries_from os' (is ++ js) i (suc n) ≡ entries_from os is i n ++ paired (i + n) (slice_range (is ++ js) (slice_index os' (i + n)) (slice_index os' (i + n + 1)))
+    → ((k : ℕ) → k < i + n → (slice_index os k ≤ slice_index os (k + 1))
+    × (slice_index os (k + 1) ≤ length is))
+    → entries_from os' (is ++ js) i (suc n) ≡ entries_from os is i n ++ paired (i + n)
+    (slice_range (is ++ js) (slice_index os' (i + n)) (slice_index os' (i + n + 1)))
 entries_gain os os' is js i zero same fine =
     let at : i ≡ i + 0 = omega arith in
-    append-nil _ ∙ ap (λ k. paired k (slice_range (is ++ js) (slice_index os' k) (slice_index os' (k + 1)))) at
+    append-nil _
+    ∙ ap (λ k. paired k (slice_range (is ++ js) (slice_index os' k) (slice_index os' (k + 1)))) at
 entries_gain os os' is js i (suc n) same fine =
     let f = fine i (omega arith) in
     let front = paired i (slice_range is (slice_index os i) (slice_index os (i + 1))) in
     let at : i + 1 + n ≡ i + suc n = omega arith in
-    let lane : slice_range (is ++ js) (slice_index os' i) (slice_index os' (i + 1)) ≡ slice_range is (slice_index os i) (slice_index os (i + 1)) = rw (same i (omega arith), same (i + 1) (omega arith)) (range_front is js (slice_index os i) (slice_index os (i + 1)) f.0 f.1) in
+    let lane : slice_range (is ++ js) (slice_index os' i) (slice_index os' (i + 1)) ≡ slice_range is
+    (slice_index os i) (slice_index os (i + 1)) =
+    rw (same i (omega arith), same (i + 1) (omega arith))
+    (range_front is js (slice_index os i) (slice_index os (i + 1)) f.0 f.1) in
     ap (λ l. paired i l ++ entries_from os' (is ++ js) (i + 1) (suc n)) lane
-    ∙ ap (λ l. front ++ l) (entries_gain os os' is js (i + 1) n (λ k le. same k (omega arith)) (λ k lt. fine k (omega arith)) ∙ ap (λ k. entries_from os is (i + 1) n ++ paired k (slice_range (is ++ js) (slice_index os' k) (slice_index os' (k + 1)))) at)
+    ∙ ap (λ l. front ++ l) (entries_gain os os' is js (i + 1) n (λ k le. same k (omega arith))
+    (λ k lt. fine k (omega arith))
+    ∙ ap (λ k. entries_from os is (i + 1) n ++ paired k
+    (slice_range (is ++ js) (slice_index os' k) (slice_index os' (k + 1)))) at)
     ∙ sym (append_assoc front (entries_from os is (i + 1) n) _)
 
 module _ {T : Type 0} where
@@ -36,14 +49,17 @@ module _ {T : Type 0} where
   zip_more [] qs [] us e = refl
   zip_more [] qs (v ∷ vs) us e = absurd (omega arith)
   zip_more (p ∷ ps) qs [] us e = absurd (omega arith)
-  zip_more (p ∷ ps) qs (v ∷ vs) us e = ap (λ ts. (p.0, p.1, v) ∷ ts) (zip_more ps qs vs us (omega arith))
+  zip_more (p ∷ ps) qs (v ∷ vs) us e = ap (λ ts. (p.0, p.1, v) ∷ ts)
+      (zip_more ps qs vs us (omega arith))
 
   zip_lane : (i : ℕ) (js : List ℕ) (value : ℕ → T)
       → zip_values (paired i js) (map value js) ≡ map (λ j. (i, j, value j)) js
   zip_lane i [] value = refl
   zip_lane i (j ∷ js) value = ap (λ ts. (i, j, value j) ∷ ts) (zip_lane i js value)
 
-  module _ (n m : ℕ) (offsets indices js : List ℕ) (values : List T) (value : ℕ → T) (sound : IsSound (arrays_of n m offsets indices values)) (rising : IsStrictlyIncreasing js) (bounded : (j : ℕ) → Contains js j → j < m) where
+  module _ (n m : ℕ) (offsets indices js : List ℕ) (values : List T) (value : ℕ → T)
+      (sound : IsSound (arrays_of n m offsets indices values)) (rising : IsStrictlyIncreasing js)
+      (bounded : (j : ℕ) → Contains js j → j < m) where
     abbrev ends : List ℕ
     ends = offsets ++ length (indices ++ js) ∷ []
 
@@ -53,19 +69,30 @@ module _ {T : Type 0} where
     pub sound_grown : IsSound grown
     sound_grown = record {
       valid = valid_pushed m n offsets indices js sound.valid rising bounded;
-      count = omega (arith, length-append values (map value js), length-append indices js, length-map js value, sound.count);
+      count = omega (
+        arith,
+        length-append values (map value js),
+        length-append indices js,
+        length-map js value,
+        sound.count,
+      );
     }
 
-    pub triplets_grown : lane_triplets grown ≡ lane_triplets (arrays_of n m offsets indices values) ++ map (λ j. (n, j, value j)) js
+    pub triplets_grown : lane_triplets grown ≡ lane_triplets (arrays_of n m offsets indices values)
+        ++ map (λ j. (n, j, value j)) js
     triplets_grown =
         let before = entries_from offsets indices 0 n in
         let at : 0 + n ≡ n = omega arith in
         let lanes : entries_of grown.pattern ≡ before ++ paired n js =
         ap (entries_from ends (indices ++ js) 0) (add-one n)
-        ∙ entries_gain offsets ends indices js 0 n (λ k le. offset_kept m n offsets indices js sound.valid rising bounded k (omega arith)) (λ k lt. let l = sound.valid.lanes k (omega arith) in (l.ordered, l.inside))
-        ∙ ap (λ k. before ++ paired k (slice_range (indices ++ js) (slice_index ends k) (slice_index ends (k + 1)))) at
+        ∙ entries_gain offsets ends indices js 0 n
+        (λ k le. offset_kept m n offsets indices js sound.valid rising bounded k (omega arith))
+        (λ k lt. let l = sound.valid.lanes k (omega arith) in (l.ordered, l.inside))
+        ∙ ap (λ k. before ++ paired k (slice_range (indices ++ js) (slice_index ends k)
+        (slice_index ends (k + 1)))) at
         ∙ ap (λ l. before ++ paired n l) (lane_is m n offsets indices js sound.valid rising bounded)
         in
         ap (λ ps. zip_values ps (values ++ map value js)) lanes
-        ∙ zip_more before (paired n js) values (map value js) (length-entries (raw_of n m offsets indices) sound.valid ∙ sym sound.count)
+        ∙ zip_more before (paired n js) values (map value js)
+        (length-entries (raw_of n m offsets indices) sound.valid ∙ sym sound.count)
         ∙ ap (λ l. zip_values before values ++ l) (zip_lane n js value)

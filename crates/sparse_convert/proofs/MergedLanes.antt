@@ -1,5 +1,7 @@
 -- The merging pass over all lanes, and the plain matrix that it leaves.
-use Rattle.std.proofs.Common.{◌≡◌, ℕ, ◌+◌, ◌-◌, ◌<◌, ◌≤◌, inl, inr, ◌↔◌, Bool, true, false, eqb, List, [], ◌∷◌, ◌++◌, length, All, slice_index, refl, ap, ◌∙◌, subst, arith, length-append}
+use Rattle.std.proofs.Common.{◌≡◌, ℕ, ◌+◌, ◌-◌, ◌<◌, ◌≤◌, inl, inr, ◌↔◌, Bool, true, false, eqb}
+use Rattle.std.proofs.Common.{List, [], ◌∷◌, ◌++◌, length, All, slice_index, refl, ap, ◌∙◌, subst}
+use Rattle.std.proofs.Common.{arith, length-append}
 use Rattle.std.specs.Prelude.{◌||◌}
 use Rattle.std.proofs.lemmas.Bool.Decides.{Decides-eqb}
 use Rattle.std.proofs.lemmas.List.{get_or_append_left, get_or_push}
@@ -12,18 +14,21 @@ use Rattle.sparse_algebra.specs.Plain.{IsProper}
 use Rattle.sparse_cs.specs.Compressed.{compressed_of, IsSound}
 use Rattle.sparse_cs.specs.PlainOfLanes.{plain_of_rows}
 use Rattle.sparse_cs.proofs.Arrays.{stands}
-use Rattle.sparse_convert.specs.InnerTripletLanes.{AreOffsets, entries_of_lane, index_sum, plain_of_lanes}
+use Rattle.sparse_convert.specs.InnerTripletLanes.{AreOffsets, entries_of_lane, index_sum}
+use Rattle.sparse_convert.specs.InnerTripletLanes.{plain_of_lanes}
 use Rattle.sparse_convert.specs.InnerMerged.{AreMerged, KeepsFirst}
 use Rattle.sparse_convert.proofs.IndexSums.{has_index, index_sum-none}
 use Rattle.sparse_convert.proofs.SortedTriplets.{no_lane}
 use Rattle.sparse_convert.proofs.Merging.{merged_kept}
 
-module _ (R : CommRing) {T : Type 0} (f : T → R.Carrier) (z : T) (offsets : List ℕ) (entries : List (ℕ × T)) where
+module _ (R : CommRing) {T : Type 0} (f : T → R.Carrier) (z : T) (offsets : List ℕ)
+    (entries : List (ℕ × T)) where
   -- lane i is merged between its starts
   pub record IsLaneMerged (i : ℕ) (starts indices : List ℕ) (values : List T) : Type 0 where
     pub ordered : slice_index starts i ≤ slice_index starts (i + 1)
     pub inside : slice_index starts (i + 1) ≤ length indices
-    pub merged : AreMerged R f z (entries_of_lane offsets entries i) indices values (slice_index starts i) (slice_index starts (i + 1))
+    pub merged : AreMerged R f z (entries_of_lane offsets entries i) indices values
+        (slice_index starts i) (slice_index starts (i + 1))
 
   -- the arrays after the first n lanes
   pub record AreLanesMerged (n : ℕ) (starts indices : List ℕ) (values : List T) : Type 0 where
@@ -52,11 +57,15 @@ module _ (R : CommRing) {T : Type 0} (f : T → R.Carrier) (z : T) (offsets : Li
       → length ws ≡ length js → KeepsFirst 0 (length is) is js → KeepsFirst z (length vs) vs ws
       → AreMerged R f z (entries_of_lane offsets entries n) js ws (length is) (length js)
       → AreLanesMerged (n + 1) (starts ++ length js ∷ []) js ws
-  lanes_merged_more n starts is js vs ws ordered within h longer most sizes keeps_is keeps_vs merged =
+  lanes_merged_more n starts is js vs ws ordered within h longer most sizes keeps_is keeps_vs
+      merged =
       let all = starts ++ length js ∷ [] in
-      let front : (p : ℕ) → p ≤ n → slice_index all p ≡ slice_index starts p = λ p le. get_or_append_left starts (length js ∷ []) 0 p (omega (arith, h.count)) in
-      let end : slice_index all (n + 1) ≡ length js = get_or_push starts (length js) 0 (n + 1) h.count in
-      let long = length-between entries (slice_index offsets n) (slice_index offsets (n + 1)) within in
+      let front : (p : ℕ) → p ≤ n → slice_index all p ≡ slice_index starts p =
+      λ p le. get_or_append_left starts (length js ∷ []) 0 p (omega (arith, h.count)) in
+      let end : slice_index all (n + 1) ≡ length js = get_or_push starts (length js) 0 (n + 1)
+      h.count in
+      let long = length-between entries (slice_index offsets n) (slice_index offsets (n + 1))
+      within in
       record {
         count = omega (arith, length-append starts (length js ∷ []), h.count);
         first = front 0 (omega arith) ∙ h.first;
@@ -68,7 +77,10 @@ module _ (R : CommRing) {T : Type 0} (f : T → R.Carrier) (z : T) (offsets : Li
               let lane = h.lanes i before in
               let a = front i (omega arith) in
               let b = front (i + 1) (omega arith) in
-              let kept = merged_kept R f z (entries_of_lane offsets entries i) is js vs ws (slice_index starts i) (slice_index starts (i + 1)) (λ p lt. keeps_is p (omega (arith, lane.inside))) (λ p lt. keeps_vs p (omega (arith, lane.inside, h.sizes))) lane.merged in
+              let kept = merged_kept R f z (entries_of_lane offsets entries i) is js vs ws
+              (slice_index starts i) (slice_index starts (i + 1))
+              (λ p lt. keeps_is p (omega (arith, lane.inside)))
+              (λ p lt. keeps_vs p (omega (arith, lane.inside, h.sizes))) lane.merged in
               record {
                 ordered = omega (arith, lane.ordered);
                 inside = omega (arith, lane.inside);
@@ -93,14 +105,18 @@ module _ (R : CommRing) {T : Type 0} (f : T → R.Carrier) (z : T) (offsets : Li
     | inl hit ↦
         let same : e.0 ≡ j = (Decides-eqb e.0 j).0 hit in
         subst (λ k. k < m) same (all 0 e (omega arith))
-    | inr miss ↦ bounded_from_any m es j (All-tail (λ e. e.0 < m) e es all) (later (eqb e.0 j) (has_index j es) miss has)
+    | inr miss ↦ bounded_from_any m es j (All-tail (λ e. e.0 < m) e es all)
+        (later (eqb e.0 j) (has_index j es) miss has)
   ]
     where
       later : (b c : Bool) → b ≡ false → (b || c) ≡ true → c ≡ true
       later true c e h = cc
       later false c e h = h
 
-  module _ (minor : ℕ) (below : (i : ℕ) → All (λ e. e.0 < minor) (entries_of_lane offsets entries i)) (n : ℕ) (n_is : n ≡ length offsets - 1) (are : AreOffsets n (length entries) offsets) (starts indices : List ℕ) (values : List T) (h : AreLanesMerged n starts indices values) where
+  module _ (minor : ℕ) (below : (i : ℕ) → All (λ e. e.0 < minor)
+      (entries_of_lane offsets entries i)) (n : ℕ) (n_is : n ≡ length offsets - 1)
+      (are : AreOffsets n (length entries) offsets) (starts indices : List ℕ) (values : List T)
+      (h : AreLanesMerged n starts indices values) where
     pub merged_valid : IsValid (raw_of n minor starts indices)
     merged_valid = record {
       count = h.count;
@@ -111,7 +127,8 @@ module _ (R : CommRing) {T : Type 0} (f : T → R.Carrier) (z : T) (offsets : Li
           record {
             ordered = lane.ordered;
             inside = lane.inside;
-            bounded = λ p from to. bounded_from_any minor (entries_of_lane offsets entries i) (slice_index indices p) (below i) (lane.merged.named p from to);
+            bounded = λ p from to. bounded_from_any minor (entries_of_lane offsets entries i)
+                (slice_index indices p) (below i) (lane.merged.named p from to);
             rising = λ p from to. lane.merged.rising p from to;
           };
     }
@@ -126,11 +143,13 @@ module _ (R : CommRing) {T : Type 0} (f : T → R.Carrier) (z : T) (offsets : Li
     ]
 
     merged_places : (i j : ℕ)
-        → IsPlace (raw_of n minor starts indices) i j ↔ (has_index j (entries_of_lane offsets entries i) ≡ true)
+        → IsPlace (raw_of n minor starts indices) i j
+        ↔ (has_index j (entries_of_lane offsets entries i) ≡ true)
     merged_places i j = (
       λ place.
           let lane = h.lanes i place.in_lane.lane in
-          subst (λ k. has_index k (entries_of_lane offsets entries i) ≡ true) place.index (lane.merged.named place.at place.in_lane.from place.in_lane.to),
+          subst (λ k. has_index k (entries_of_lane offsets entries i) ≡ true) place.index
+          (lane.merged.named place.at place.in_lane.from place.in_lane.to),
       λ has.
           let lt = lane_exists i j has in
           let p = (h.lanes i lt).merged.found j has in
@@ -141,9 +160,12 @@ module _ (R : CommRing) {T : Type 0} (f : T → R.Carrier) (z : T) (offsets : Li
     proper_lanes i j none = index_sum-none R f (entries_of_lane offsets entries i) j none
 
     pub merged_stand : IsSound (compressed_of (raw_of n minor starts indices) values)
-        → plain_of_rows R f (compressed_of (raw_of n minor starts indices) values) ≡ plain_of_lanes R f n minor offsets entries
+        → plain_of_rows R f (compressed_of (raw_of n minor starts indices) values) ≡ plain_of_lanes
+        R f n minor offsets entries
     merged_stand sound =
-        stands R f z (compressed_of (raw_of n minor starts indices) values) (plain_of_lanes R f n minor offsets entries) sound proper_lanes refl refl merged_places
+        stands R f z (compressed_of (raw_of n minor starts indices) values)
+        (plain_of_lanes R f n minor offsets entries) sound proper_lanes refl refl merged_places
         (λ i j p at.
         let lane = h.lanes i at.0.lane in
-        lane.merged.sums p at.0.from at.0.to ∙ ap (index_sum R f (entries_of_lane offsets entries i)) at.1)
+        lane.merged.sums p at.0.from at.0.to ∙ ap
+        (index_sum R f (entries_of_lane offsets entries i)) at.1)

@@ -1,5 +1,7 @@
 -- The values of a dense matrix that are not zero, as a plain matrix.
-use Rattle.std.proofs.Common.{◌≡◌, ◌≢◌, ℕ, zero, suc, ◌+◌, ◌*◌, ◌<◌, ◌≤◌, inl, inr, ◌↔◌, Bool, true, false, not, ◌&&◌, ◌||◌, cond, nat_eq, nat_lt, List, [], ◌∷◌, map, refl, ap, sym, subst, ◌∙◌, arith}
+use Rattle.std.proofs.Common.{◌≡◌, ◌≢◌, ℕ, zero, suc, ◌+◌, ◌*◌, ◌<◌, ◌≤◌, inl, inr, ◌↔◌, Bool, true}
+use Rattle.std.proofs.Common.{false, not, ◌&&◌, ◌||◌, cond, nat_eq, nat_lt, List, [], ◌∷◌, map}
+use Rattle.std.proofs.Common.{refl, ap, sym, subst, ◌∙◌, arith}
 use Rattle.std.specs.List.{filter, flat_map, list_any}
 use Rattle.std.proofs.Math.ListN.{get_or-map}
 use Rattle.std.proofs.lemmas.Bool.Decides.{Decides-eqb, Decides-ltb, nat_tests}
@@ -7,14 +9,16 @@ use Rattle.std.proofs.lemmas.List.Folds.{list_any-append}
 use Rattle.sparse_lemmas.proofs.Cases.{and_both, and_parts, nat_eq_no, or_false, three}
 use Rattle.sparse_algebra.specs.Algebra.{CommRing}
 use Rattle.sparse_algebra.specs.Sums.{sum_by, where_true}
-use Rattle.sparse_algebra.specs.Plain.{Plain, any_below, below, is_at, plain_of_triplets, plain_transpose}
+use Rattle.sparse_algebra.specs.Plain.{Plain, any_below, below, is_at, plain_of_triplets}
+use Rattle.sparse_algebra.specs.Plain.{plain_transpose}
 use Rattle.sparse_base.specs.Dense.{Dense, value_at}
 use Rattle.sparse_base.specs.DensePlain.{plain_of_dense}
 use Rattle.sparse_algebra.proofs.RingLemmas.{zero_add}
 use Rattle.sparse_algebra.proofs.SumLemmas.{sum_by-append, sum_by-same, sum_by-zero}
 use Rattle.sparse_algebra.proofs.PlainLemmas.{any_is, any_below-same, and_comm, same_plain}
 use Rattle.sparse_cs.specs.Compressed.{turned}
-use Rattle.sparse_convert.specs.FromDense.{full_lanes, row_triplets, column_triplets, differs_from, IsNonzeroPart}
+use Rattle.sparse_convert.specs.FromDense.{full_lanes, row_triplets, column_triplets, differs_from}
+use Rattle.sparse_convert.specs.FromDense.{IsNonzeroPart}
 use Rattle.sparse_convert.proofs.FullLanes.{column_lanes, kept_columns}
 
 -- ---- tests over lists
@@ -22,10 +26,12 @@ use Rattle.sparse_convert.proofs.FullLanes.{column_lanes, kept_columns}
 any-filter : {X : Type 0} (p q : X → Bool) (xs : List X)
     → list_any p (filter q xs) ≡ list_any (λ x. p x && q x) xs
 any-filter p q [] = refl
-any-filter p q (x ∷ xs) = chosen (q x) ∙ swapped (p x) (q x) (list_any p (filter q xs)) ∙ ap (λ b. (p x && q x) || b) (any-filter p q xs)
+any-filter p q (x ∷ xs) = chosen (q x) ∙ swapped (p x) (q x) (list_any p (filter q xs))
+    ∙ ap (λ b. (p x && q x) || b) (any-filter p q xs)
   where
     chosen : (c : Bool)
-        → list_any p (cond c (x ∷ filter q xs) (filter q xs)) ≡ cond c (p x || list_any p (filter q xs)) (list_any p (filter q xs))
+        → list_any p (cond c (x ∷ filter q xs) (filter q xs)) ≡ cond c
+        (p x || list_any p (filter q xs)) (list_any p (filter q xs))
     chosen true = refl
     chosen false = refl
 
@@ -43,11 +49,14 @@ any-map p f (x ∷ xs) = ap (λ b. p (f x) || b) (any-map p f xs)
 any-flat_map : {X Y : Type 0} (p : Y → Bool) (f : X → List Y) (xs : List X)
     → list_any p (flat_map f xs) ≡ list_any (λ x. list_any p (f x)) xs
 any-flat_map p f [] = refl
-any-flat_map p f (x ∷ xs) = list_any-append p (f x) (flat_map f xs) ∙ ap (λ b. list_any p (f x) || b) (any-flat_map p f xs)
+any-flat_map p f (x ∷ xs) = list_any-append p (f x) (flat_map f xs)
+    ∙ ap (λ b. list_any p (f x) || b) (any-flat_map p f xs)
 
 any-below : (n : ℕ) (test : ℕ → Bool) → list_any test (below n) ≡ any_below n test
 any-below zero test = refl
-any-below (suc n) test = list_any-append test (below n) (n ∷ []) ∙ ap (λ b. b || (test n || false)) (any-below n test) ∙ ap (λ b. any_below n test || b) (or_false (test n))
+any-below (suc n) test = list_any-append test (below n) (n ∷ [])
+    ∙ ap (λ b. b || (test n || false)) (any-below n test)
+    ∙ ap (λ b. any_below n test || b) (or_false (test n))
 
 -- ---- tests of numbers
 
@@ -71,7 +80,8 @@ module _ (R : CommRing) where
   sum_by-flat_map : {X Y : Type 0} (g : Y → R.Carrier) (f : X → List Y) (xs : List X)
       → sum_by R g (flat_map f xs) ≡ sum_by R (λ x. sum_by R g (f x)) xs
   sum_by-flat_map g f [] = refl
-  sum_by-flat_map g f (x ∷ xs) = sum_by-append R g (f x) (flat_map f xs) ∙ ap (R.add (sum_by R g (f x))) (sum_by-flat_map g f xs)
+  sum_by-flat_map g f (x ∷ xs) = sum_by-append R g (f x) (flat_map f xs)
+      ∙ ap (R.add (sum_by R g (f x))) (sum_by-flat_map g f xs)
 
   where_and : (b c : Bool) (x : R.Carrier)
       → where_true R (b && c) x ≡ where_true R b (where_true R c x)
@@ -94,8 +104,10 @@ module _ (R : CommRing) where
   pick (suc n) k h =
       sum_by-append R (λ l. where_true R (nat_eq l k) (h l)) (below n) (n ∷ [])
       ∙ ap (λ c. R.add c (R.add (where_true R (nat_eq n k) (h n)) R.zero)) (pick n k h)
-      ∙ ap (R.add (where_true R (nat_lt k n) (h k))) (R.laws.add_zero (where_true R (nat_eq n k) (h n)))
-      ∙ elim (three k n) as (λ _. R.add (where_true R (nat_lt k n) (h k)) (where_true R (nat_eq n k) (h n)) ≡ where_true R (nat_lt k (suc n)) (h k)) [
+      ∙ ap (R.add (where_true R (nat_lt k n) (h k)))
+      (R.laws.add_zero (where_true R (nat_eq n k) (h n)))
+      ∙ elim (three k n) as (λ _. R.add (where_true R (nat_lt k n) (h k))
+      (where_true R (nat_eq n k) (h n)) ≡ where_true R (nat_lt k (suc n)) (h k)) [
         | inl lt ↦
             let a = lt_yes k n lt in
             let b = nat_eq_no n k (λ e. absurd (omega arith)) in
@@ -116,13 +128,18 @@ module _ (R : CommRing) where
   module _ {T : Type 0} (f : T → R.Carrier) where
     -- the value at (i, j) of all triplets
     full_sum : (n m : ℕ) (value : ℕ → ℕ → T) (i j : ℕ)
-        → sum_by R (λ t. where_true R (is_at i j t) (f t.2)) (full_lanes n m value) ≡ where_true R (nat_lt i n && nat_lt j m) (f (value i j))
+        → sum_by R (λ t. where_true R (is_at i j t) (f t.2)) (full_lanes n m value) ≡ where_true R
+        (nat_lt i n && nat_lt j m) (f (value i j))
     full_sum n m value i j =
         let g : ℕ × ℕ × T → R.Carrier = λ t. where_true R (is_at i j t) (f t.2) in
-        let lane : ℕ → List (ℕ × ℕ × T) = λ a. map {B = ℕ × ℕ × T} (λ k. (a, k, value a k)) (below m) in
-        let at : (a : ℕ) → sum_by R g (lane a) ≡ where_true R (nat_eq a i) (where_true R (nat_lt j m) (f (value a j))) = λ a.
+        let lane : ℕ → List (ℕ × ℕ × T) = λ a. map {B = ℕ × ℕ × T} (λ k. (a, k, value a k))
+        (below m) in
+        let at : (a : ℕ) → sum_by R g (lane a) ≡ where_true R (nat_eq a i)
+        (where_true R (nat_lt j m) (f (value a j))) = λ a.
         sum_by-map g (λ k. (a, k, value a k)) (below m)
-        ∙ sum_by-same R _ (λ k. where_true R (nat_eq a i) (where_true R (nat_eq k j) (f (value a k)))) (λ k. where_and (nat_eq a i) (nat_eq k j) (f (value a k))) (below m)
+        ∙ sum_by-same R _ (λ k. where_true R (nat_eq a i)
+        (where_true R (nat_eq k j) (f (value a k))))
+        (λ k. where_and (nat_eq a i) (nat_eq k j) (f (value a k))) (below m)
         ∙ sum_where (nat_eq a i) (λ k. where_true R (nat_eq k j) (f (value a k))) (below m)
         ∙ ap (where_true R (nat_eq a i)) (pick m j (λ k. f (value a k))) in
         sum_by-flat_map g lane (below n)
@@ -130,39 +147,57 @@ module _ (R : CommRing) where
         ∙ pick n i (λ a. where_true R (nat_lt j m) (f (value a j)))
         ∙ sym (where_and (nat_lt i n) (nat_lt j m) (f (value i j)))
 
-    module _ (E : T → T → Bool) (z : T) (zero_is : f z ≡ R.zero) (decides : (x y : T) → (E x y ≡ true) ↔ (f x ≡ f y)) where
+    module _ (E : T → T → Bool) (z : T) (zero_is : f z ≡ R.zero)
+        (decides : (x y : T) → (E x y ≡ true) ↔ (f x ≡ f y)) where
       -- a value that is dropped adds nothing
       sum_differs : (i j : ℕ) (ts : List (ℕ × ℕ × T))
-          → sum_by R (λ t. where_true R (is_at i j t) (f t.2)) (filter (differs_from E z) ts) ≡ sum_by R (λ t. where_true R (is_at i j t) (f t.2)) ts
+          → sum_by R (λ t. where_true R (is_at i j t) (f t.2)) (filter (differs_from E z) ts)
+          ≡ sum_by R (λ t. where_true R (is_at i j t) (f t.2)) ts
       sum_differs i j [] = refl
       sum_differs i j (t ∷ ts) = chosen (E t.2 z) refl (sum_differs i j ts)
         where
           chosen : (b : Bool) → E t.2 z ≡ b
-              → sum_by R (λ t. where_true R (is_at i j t) (f t.2)) (filter (differs_from E z) ts) ≡ sum_by R (λ t. where_true R (is_at i j t) (f t.2)) ts
-              → sum_by R (λ t. where_true R (is_at i j t) (f t.2)) (cond (not b) (t ∷ filter (differs_from E z) ts) (filter (differs_from E z) ts)) ≡ sum_by R (λ t. where_true R (is_at i j t) (f t.2)) (t ∷ ts)
-          chosen true e rest = rest ∙ sym (zero_add R _) ∙ ap (λ c. R.add c (sum_by R (λ t. where_true R (is_at i j t) (f t.2)) ts)) (sym (nothing (is_at i j t) (f t.2) ((decides t.2 z).0 e ∙ zero_is)))
+              → sum_by R (λ t. where_true R (is_at i j t) (f t.2)) (filter (differs_from E z) ts)
+              ≡ sum_by R (λ t. where_true R (is_at i j t) (f t.2)) ts
+              → sum_by R (λ t. where_true R (is_at i j t) (f t.2))
+              (cond (not b) (t ∷ filter (differs_from E z) ts) (filter (differs_from E z) ts))
+              ≡ sum_by R (λ t. where_true R (is_at i j t) (f t.2)) (t ∷ ts)
+          chosen true e rest = rest ∙ sym (zero_add R _)
+              ∙ ap (λ c. R.add c (sum_by R (λ t. where_true R (is_at i j t) (f t.2)) ts))
+              (sym (nothing (is_at i j t) (f t.2) ((decides t.2 z).0 e ∙ zero_is)))
           chosen false e rest = ap (R.add (where_true R (is_at i j t) (f t.2))) rest
 
       -- the pairs that are kept
       module _ (n m : ℕ) (value : ℕ → ℕ → T) (i j : ℕ) where
-        any_full : list_any (is_at i j) (filter (differs_from E z) (full_lanes n m value)) ≡ any_below n (λ a. any_below m (λ k. (nat_eq a i && nat_eq k j) && not (E (value a k) z)))
+        any_full : list_any (is_at i j) (filter (differs_from E z) (full_lanes n m value))
+            ≡ any_below n
+            (λ a. any_below m (λ k. (nat_eq a i && nat_eq k j) && not (E (value a k) z)))
         any_full =
             let test : ℕ × ℕ × T → Bool = λ t. is_at i j t && differs_from E z t in
             any-filter (is_at i j) (differs_from E z) (full_lanes n m value)
-            ∙ any-flat_map test (λ a. map {B = ℕ × ℕ × T} (λ k. (a, k, value a k)) (below m)) (below n)
+            ∙ any-flat_map test (λ a. map {B = ℕ × ℕ × T} (λ k. (a, k, value a k)) (below m))
+            (below n)
             ∙ any-below n _
-            ∙ any_below-same n _ _ (λ a. any-map test (λ k. (a, k, value a k)) (below m) ∙ any-below m _)
+            ∙ any_below-same n _ _ (λ a. any-map test (λ k. (a, k, value a k)) (below m)
+            ∙ any-below m _)
 
         has_forth : list_any (is_at i j) (filter (differs_from E z) (full_lanes n m value)) ≡ true
             → (i < n) × (j < m) × (not (E (value i j) z) ≡ true)
         has_forth h =
-            let outer = (any_is n (λ a. any_below m (λ k. (nat_eq a i && nat_eq k j) && not (E (value a k) z)))).0 (sym any_full ∙ h) in
-            let inner = (any_is m (λ k. (nat_eq outer.0 i && nat_eq k j) && not (E (value outer.0 k) z))).0 outer.2 in
+            let outer = (any_is n
+            (λ a. any_below m (λ k. (nat_eq a i && nat_eq k j) && not (E (value a k) z)))).0
+            (sym any_full ∙ h) in
+            let inner = (any_is m (λ k. (nat_eq outer.0 i && nat_eq k j) && not
+            (E (value outer.0 k) z))).0 outer.2 in
             let both = and_parts _ _ inner.2 in
             let at = and_parts _ _ both.0 in
             let row : outer.0 ≡ i = (Decides-eqb outer.0 i).0 at.0 in
-            let col : inner.0 ≡ j = (Decides-eqb inner.0 j).0 at.1 in
-            (subst (λ a. a < n) row outer.1, subst (λ k. k < m) col inner.1, subst (λ a. not (E (value a j) z) ≡ true) row (subst (λ k. not (E (value outer.0 k) z) ≡ true) col both.1))
+            let col : inner.0 ≡ j = (Decides-eqb inner.0 j).0 at.1 in (
+              subst (λ a. a < n) row outer.1,
+              subst (λ k. k < m) col inner.1,
+              subst (λ a. not (E (value a j) z) ≡ true) row
+                  (subst (λ k. not (E (value outer.0 k) z) ≡ true) col both.1),
+            )
 
         has_back : (i < n) × (j < m) × (not (E (value i j) z) ≡ true)
             → list_any (is_at i j) (filter (differs_from E z) (full_lanes n m value)) ≡ true
@@ -174,21 +209,34 @@ module _ (R : CommRing) where
       full_part : (n m : ℕ) (value : ℕ → ℕ → T) (a : Plain R) → n ≡ a.rows → m ≡ a.cols
           → ((i j : ℕ) → a.has i j ≡ (nat_lt i n && nat_lt j m))
           → ((i j : ℕ) → a.value i j ≡ where_true R (nat_lt i n && nat_lt j m) (f (value i j)))
-          → IsNonzeroPart a (plain_of_triplets R f n m (filter (differs_from E z) (full_lanes n m value)))
+          → IsNonzeroPart a (plain_of_triplets R f n m
+          (filter (differs_from E z) (full_lanes n m value)))
       full_part n m value a rows cols places values = record {
         rows = rows;
         cols = cols;
         has = λ i j. (
           λ h.
               let r = has_forth n m value i j h in
-              let inside : (nat_lt i n && nat_lt j m) ≡ true = and_both _ _ (lt_yes i n r.0) (lt_yes j m r.1) in
-              (places i j ∙ inside, λ none. refused (E (value i j) z) r.2 ((decides (value i j) z).1 (sym (values i j ∙ ap (λ b. where_true R b (f (value i j))) inside) ∙ none ∙ sym zero_is))),
+              let inside : (nat_lt i n && nat_lt j m) ≡ true =
+              and_both _ _ (lt_yes i n r.0) (lt_yes j m r.1) in (
+                places i j ∙ inside,
+                λ none. refused (E (value i j) z) r.2
+                    ((decides (value i j) z).1
+                    (sym (values i j ∙ ap (λ b. where_true R b (f (value i j))) inside) ∙ none
+                    ∙ sym zero_is)),
+              ),
           λ h.
               let inside = sym (places i j) ∙ h.0 in
               let parts = and_parts (nat_lt i n) (nat_lt j m) inside in
-              has_back n m value i j ((Decides-ltb i n).0 parts.0, (Decides-ltb j m).0 parts.1, differs (E (value i j) z) (λ e. h.1 (values i j ∙ nothing _ _ ((decides (value i j) z).0 e ∙ zero_is)))),
+              has_back n m value i j (
+                (Decides-ltb i n).0 parts.0,
+                (Decides-ltb j m).0 parts.1,
+                differs (E (value i j) z)
+                    (λ e. h.1 (values i j ∙ nothing _ _ ((decides (value i j) z).0 e ∙ zero_is))),
+              ),
         );
-        value = λ i j. sum_differs i j (full_lanes n m value) ∙ full_sum n m value i j ∙ sym (values i j);
+        value = λ i j. sum_differs i j (full_lanes n m value) ∙ full_sum n m value i j
+            ∙ sym (values i j);
       }
         where
           refused : (b : Bool) → not b ≡ true → b ≡ true → ⊥
@@ -200,42 +248,71 @@ module _ (R : CommRing) where
           differs false h = refl
 
       dense_value : (d : Dense T) (i j : ℕ)
-          → (plain_of_dense R f d).value i j ≡ where_true R (nat_lt i d.nrows && nat_lt j d.ncols) (f (value_at d i j z))
-      dense_value d i j = ap (where_true R (nat_lt i d.nrows && nat_lt j d.ncols)) (ap (value_of) (sym zero_is) ∙ get_or-map f d.values (j * d.nrows + i) z)
+          → (plain_of_dense R f d).value i j ≡ where_true R (nat_lt i d.nrows && nat_lt j d.ncols)
+          (f (value_at d i j z))
+      dense_value d i j = ap (where_true R (nat_lt i d.nrows && nat_lt j d.ncols))
+          (ap (value_of) (sym zero_is) ∙ get_or-map f d.values (j * d.nrows + i) z)
         where
           value_of : R.Carrier → R.Carrier
-          value_of x = value_at (record { nrows = d.nrows; ncols = d.ncols; values = map f d.values }) i j x
+          value_of x =
+              value_at (record { nrows = d.nrows; ncols = d.ncols; values = map f d.values }) i j x
 
       -- row after row
       pub rows_part : (d : Dense T) (ts : List (ℕ × ℕ × T))
           → ts ≡ filter (differs_from E z) (row_triplets z d)
           → IsNonzeroPart (plain_of_dense R f d) (plain_of_triplets R f d.nrows d.ncols ts)
-      rows_part d ts is = subst (λ l. IsNonzeroPart (plain_of_dense R f d) (plain_of_triplets R f d.nrows d.ncols l)) (sym is)
-          (full_part d.nrows d.ncols (λ i j. value_at d i j z) (plain_of_dense R f d) refl refl (λ i j. refl) (dense_value d))
+      rows_part d ts is = subst (λ l. IsNonzeroPart (plain_of_dense R f d)
+          (plain_of_triplets R f d.nrows d.ncols l)) (sym is)
+          (full_part d.nrows d.ncols (λ i j. value_at d i j z) (plain_of_dense R f d) refl refl
+          (λ i j. refl) (dense_value d))
 
       -- column after column
       columns_part : (d : Dense T)
-          → IsNonzeroPart (plain_of_dense R f d) (plain_transpose R (plain_of_triplets R f d.ncols d.nrows (filter (differs_from E z) (column_lanes z d))))
+          → IsNonzeroPart (plain_of_dense R f d) (plain_transpose R
+          (plain_of_triplets R f d.ncols d.nrows (filter (differs_from E z)
+          (column_lanes z d))))
       columns_part d =
-          let h = full_part d.ncols d.nrows (λ j i. value_at d i j z) (plain_transpose R (plain_of_dense R f d)) refl refl (λ j i. and_comm (nat_lt i d.nrows) (nat_lt j d.ncols)) (λ j i. dense_value d i j ∙ ap (λ b. where_true R b (f (value_at d i j z))) (and_comm (nat_lt i d.nrows) (nat_lt j d.ncols))) in
-          record { rows = h.cols; cols = h.rows; has = λ i j. h.has j i; value = λ i j. h.value j i }
+          let h = full_part d.ncols d.nrows (λ j i. value_at d i j z)
+          (plain_transpose R (plain_of_dense R f d)) refl refl
+          (λ j i. and_comm (nat_lt i d.nrows) (nat_lt j d.ncols))
+          (λ j i. dense_value d i j ∙ ap (λ b. where_true R b (f (value_at d i j z)))
+          (and_comm (nat_lt i d.nrows) (nat_lt j d.ncols))) in
+          record {
+            rows = h.cols;
+            cols = h.rows;
+            has = λ i j. h.has j i;
+            value =
+                λ i j. h.value j i;
+          }
 
       any_turned : (i j : ℕ) (ts : List (ℕ × ℕ × T))
           → list_any (is_at i j) (map turned ts) ≡ list_any (is_at j i) ts
       any_turned i j [] = refl
-      any_turned i j (t ∷ ts) = ap (λ b. b || list_any (is_at i j) (map turned ts)) (and_comm (nat_eq t.1 i) (nat_eq t.0 j)) ∙ ap (λ b. (nat_eq t.0 j && nat_eq t.1 i) || b) (any_turned i j ts)
+      any_turned i j (t ∷ ts) = ap (λ b. b || list_any (is_at i j) (map turned ts))
+          (and_comm (nat_eq t.1 i) (nat_eq t.0 j)) ∙ ap (λ b. (nat_eq t.0 j && nat_eq t.1 i) || b)
+          (any_turned i j ts)
 
       sum_turned : (i j : ℕ) (ts : List (ℕ × ℕ × T))
-          → sum_by R (λ t. where_true R (is_at i j t) (f t.2)) (map turned ts) ≡ sum_by R (λ t. where_true R (is_at j i t) (f t.2)) ts
+          → sum_by R (λ t. where_true R (is_at i j t) (f t.2)) (map turned ts) ≡ sum_by R
+          (λ t. where_true R (is_at j i t) (f t.2)) ts
       sum_turned i j [] = refl
-      sum_turned i j (t ∷ ts) = ap (λ b. R.add (where_true R b (f t.2)) (sum_by R (λ t. where_true R (is_at i j t) (f t.2)) (map turned ts))) (and_comm (nat_eq t.1 i) (nat_eq t.0 j)) ∙ ap (R.add (where_true R (nat_eq t.0 j && nat_eq t.1 i) (f t.2))) (sum_turned i j ts)
+      sum_turned i j (t ∷ ts) =
+          ap (λ b. R.add (where_true R b (f t.2))
+          (sum_by R (λ t. where_true R (is_at i j t) (f t.2))
+          (map turned ts))) (and_comm (nat_eq t.1 i) (nat_eq t.0 j))
+          ∙ ap (R.add (where_true R (nat_eq t.0 j && nat_eq t.1 i) (f t.2))) (sum_turned i j ts)
 
       pub triplets_part : (d : Dense T)
-          → IsNonzeroPart (plain_of_dense R f d) (plain_of_triplets R f d.nrows d.ncols (filter (differs_from E z) (column_triplets z d)))
+          → IsNonzeroPart (plain_of_dense R f d) (plain_of_triplets R f d.nrows d.ncols
+          (filter (differs_from E z) (column_triplets z d)))
       triplets_part d =
           let kept = filter (differs_from E z) (column_lanes z d) in
-          let same : plain_of_triplets R f d.nrows d.ncols (map turned kept) ≡ plain_transpose R (plain_of_triplets R f d.ncols d.nrows kept) = same_plain _ _ refl refl (λ i j. any_turned i j kept) (λ i j. sum_turned i j kept) in
-          subst (IsNonzeroPart (plain_of_dense R f d)) (sym (ap (plain_of_triplets R f d.nrows d.ncols) (kept_columns E z d) ∙ same)) (columns_part d)
+          let same : plain_of_triplets R f d.nrows d.ncols (map turned kept) ≡ plain_transpose R
+          (plain_of_triplets R f d.ncols d.nrows kept) =
+          same_plain _ _ refl refl (λ i j. any_turned i j kept) (λ i j. sum_turned i j kept) in
+          subst (IsNonzeroPart (plain_of_dense R f d))
+          (sym (ap (plain_of_triplets R f d.nrows d.ncols) (kept_columns E z d) ∙ same))
+          (columns_part d)
 
       turned_twice : (ts : List (ℕ × ℕ × T)) → map turned (map turned ts) ≡ ts
       turned_twice [] = refl
@@ -243,8 +320,12 @@ module _ (R : CommRing) where
 
       pub cols_part : (d : Dense T) (ts : List (ℕ × ℕ × T))
           → map turned ts ≡ filter (differs_from E z) (column_triplets z d)
-          → IsNonzeroPart (plain_of_dense R f d) (plain_transpose R (plain_of_triplets R f d.ncols d.nrows ts))
+          → IsNonzeroPart (plain_of_dense R f d) (plain_transpose R
+          (plain_of_triplets R f d.ncols d.nrows ts))
       cols_part d ts is =
           let kept = filter (differs_from E z) (column_lanes z d) in
-          let same : ts ≡ kept = sym (turned_twice ts) ∙ ap (map turned) (is ∙ kept_columns E z d) ∙ turned_twice kept in
-          subst (λ l. IsNonzeroPart (plain_of_dense R f d) (plain_transpose R (plain_of_triplets R f d.ncols d.nrows l))) (sym same) (columns_part d)
+          let same : ts ≡ kept = sym (turned_twice ts) ∙ ap (map turned) (is ∙ kept_columns E z d)
+          ∙ turned_twice kept in
+          subst (λ l. IsNonzeroPart (plain_of_dense R f d)
+          (plain_transpose R (plain_of_triplets R f d.ncols d.nrows l))) (sym same)
+          (columns_part d)

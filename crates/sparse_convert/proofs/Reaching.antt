@@ -5,27 +5,36 @@ use Rattle.sparse_algebra.specs.Plain.{plain_transpose}
 use Rattle.sparse_cs.specs.Compressed.{lane_triplets}
 use Rattle.sparse_base.specs.CooPlain.{plain_of_coo}
 use Rattle.sparse_cs.proofs.MatrixTransposes.{plain_transposed}
-use Rattle.sparse_convert.specs.OneMatrix.{Representation, Triplets, Rows, Cols, IsSoundRepresentation, plain_of_representation, IsConverted, Leads, IsReached}
+use Rattle.sparse_convert.specs.OneMatrix.{Representation, Triplets, Rows, Cols}
+use Rattle.sparse_convert.specs.OneMatrix.{IsSoundRepresentation, plain_of_representation}
+use Rattle.sparse_convert.specs.OneMatrix.{IsConverted, Leads, IsReached}
 use Rattle.sparse_convert.proofs.StoredTriplets.{plain_of_turned_list}
 
 module _ (R : CommRing) {T : Type 0} (f : T → R.Carrier) (z : T) where
   -- one conversion
-  converted_same : (x y : Representation T) → IsSoundRepresentation x → IsSoundRepresentation y → IsConverted R f x y
+  converted_same : (x y : Representation T) → IsSoundRepresentation x → IsSoundRepresentation y
+      → IsConverted R f x y
       → plain_of_representation R f y ≡ plain_of_representation R f x
   converted_same (Triplets a) (Triplets b) sx sy h = absurd h
   converted_same (Triplets a) (Rows m) sx sy h = h
   converted_same (Triplets a) (Cols n) sx sy h = h
   converted_same (Rows m) (Triplets a) sx sy h = ap (plain_of_coo R f) h
   converted_same (Rows m) (Rows n) sx sy h = absurd h
-  converted_same (Rows m) (Cols n) sx sy h = ap (plain_transpose R) (plain_transposed R f z m n sx sy h)
-  converted_same (Cols n) (Triplets a) sx sy h = ap (plain_of_coo R f) h ∙ plain_of_turned_list R f n.pattern.major_dim n.pattern.minor_dim (lane_triplets n)
+  converted_same (Rows m) (Cols n) sx sy h =
+      ap (plain_transpose R) (plain_transposed R f z m n sx sy h)
+  converted_same (Cols n) (Triplets a) sx sy h = ap (plain_of_coo R f) h
+      ∙ plain_of_turned_list R f n.pattern.major_dim n.pattern.minor_dim (lane_triplets n)
   converted_same (Cols n) (Rows m) sx sy h = plain_transposed R f z n m sx sy h
   converted_same (Cols m) (Cols n) sx sy h = absurd h
 
   -- any number of them
-  led_same : (x : Representation T) (ys : List (Representation T)) (y : Representation T) → IsSoundRepresentation x → Leads R f x ys y
+  led_same : (x : Representation T) (ys : List (Representation T)) (y : Representation T)
+      → IsSoundRepresentation x → Leads R f x ys y
       → (plain_of_representation R f y ≡ plain_of_representation R f x) × IsSoundRepresentation y
-  led_same x [] y sound h = (ap (plain_of_representation R f) (sym h), subst IsSoundRepresentation h sound)
+  led_same x [] y sound h = (
+    ap (plain_of_representation R f) (sym h),
+    subst IsSoundRepresentation h sound,
+  )
   led_same x (w ∷ ws) y sound h =
       let rest = led_same w ws y h.0 h.2 in
       (rest.0 ∙ converted_same x w sound h.0 h.1, rest.1)
@@ -34,5 +43,6 @@ module _ (R : CommRing) {T : Type 0} (f : T → R.Carrier) (z : T) where
       → plain_of_representation R f y ≡ plain_of_representation R f x
   reached_same x y sound h = (led_same x h.0 y sound h.1).0
 
-  pub reached_sound : (x y : Representation T) → IsSoundRepresentation x → IsReached R f x y → IsSoundRepresentation y
+  pub reached_sound : (x y : Representation T) → IsSoundRepresentation x → IsReached R f x y
+      → IsSoundRepresentation y
   reached_sound x y sound h = (led_same x h.0 y sound h.1).1

@@ -1,5 +1,6 @@
 -- The triplets of a compressed matrix, as three lists and turned.
-use Rattle.std.proofs.Common.{◌≡◌, ℕ, zero, suc, ◌<◌, List, [], ◌∷◌, length, map, get_or, All, ap, sym, ◌∙◌, refl, arith}
+use Rattle.std.proofs.Common.{◌≡◌, ℕ, zero, suc, ◌<◌, List, [], ◌∷◌, length, map, get_or, All, ap}
+use Rattle.std.proofs.Common.{sym, ◌∙◌, refl, arith}
 use Rattle.std.proofs.lemmas.List.{length-map, same_lists, get_or-map}
 use Rattle.std.proofs.lemmas.List.Elements.{All-map}
 use Rattle.sparse_algebra.specs.Algebra.{CommRing}
@@ -17,12 +18,14 @@ use Rattle.sparse_convert.proofs.TurnedTriplets.{plain_of_turned}
 -- the indices of the places are the pattern's
 indices-entries : (d : Raw) → IsValid d → map (λ (p : ℕ × ℕ). p.1) (entries_of d) ≡ d.indices
 indices-entries d valid =
-    let long : length (map (λ (p : ℕ × ℕ). p.1) (entries_of d)) ≡ length d.indices = length-map (entries_of d) (λ (p : ℕ × ℕ). p.1) ∙ length-entries d valid in
+    let long : length (map (λ (p : ℕ × ℕ). p.1) (entries_of d)) ≡ length d.indices =
+    length-map (entries_of d) (λ (p : ℕ × ℕ). p.1) ∙ length-entries d valid in
     same_lists _ _ long (λ p z within.
     let lt : p < length d.indices = omega (arith, long, within) in
     let inside : p < length (entries_of d) = omega (arith, length-entries d valid) in
     let lane = lane_of_position d valid p lt in
-    get_or-map (λ (p : ℕ × ℕ). p.1) (entries_of d) p (0, 0) z inside ∙ ap (λ e. e.1) (entry_at d valid lane.0 p lane.1) ∙ same_read d.indices p z lt)
+    get_or-map (λ (p : ℕ × ℕ). p.1) (entries_of d) p (0, 0) z inside
+    ∙ ap (λ e. e.1) (entry_at d valid lane.0 p lane.1) ∙ same_read d.indices p z lt)
   where
     same_read : (xs : List ℕ) (p z : ℕ) → p < length xs → get_or xs p 0 ≡ get_or xs p z
     same_read [] p z lt = absurd (omega arith)
@@ -60,35 +63,61 @@ module _ {T : Type 0} where
     long = length-entries m.pattern sound.valid ∙ sym sound.count
 
     -- the three lists of the stored triplets
-    pub lanes_stored : map (λ (t : ℕ × ℕ × T). t.0) (lane_triplets m) ≡ map (λ (p : ℕ × ℕ). p.0) (entries_of m.pattern)
+    pub lanes_stored : map (λ (t : ℕ × ℕ × T). t.0) (lane_triplets m) ≡ map (λ (p : ℕ × ℕ). p.0)
+        (entries_of m.pattern)
     lanes_stored = lanes-zip (entries_of m.pattern) m.values long
 
     pub indices_stored : map (λ (t : ℕ × ℕ × T). t.1) (lane_triplets m) ≡ m.pattern.indices
-    indices_stored = indices-zip (entries_of m.pattern) m.values long ∙ indices-entries m.pattern sound.valid
+    indices_stored = indices-zip (entries_of m.pattern) m.values long
+        ∙ indices-entries m.pattern sound.valid
 
     pub values_stored : map (λ (t : ℕ × ℕ × T). t.2) (lane_triplets m) ≡ m.values
     values_stored = values-zip (entries_of m.pattern) m.values long
 
-    lanes_below : All (λ i. i < m.pattern.major_dim) (map (λ (t : ℕ × ℕ × T). t.0) (lane_triplets m))
-    lanes_below = All-map (λ i. i < m.pattern.major_dim) (λ (t : ℕ × ℕ × T). t.0) (lane_triplets m) (λ k d lt. (lane_triplets-inside m sound k d lt).0)
+    lanes_below : All (λ i. i < m.pattern.major_dim)
+        (map (λ (t : ℕ × ℕ × T). t.0) (lane_triplets m))
+    lanes_below = All-map (λ i. i < m.pattern.major_dim) (λ (t : ℕ × ℕ × T). t.0) (lane_triplets m)
+        (λ k d lt. (lane_triplets-inside m sound k d lt).0)
 
-    indices_below : All (λ j. j < m.pattern.minor_dim) (map (λ (t : ℕ × ℕ × T). t.1) (lane_triplets m))
-    indices_below = All-map (λ j. j < m.pattern.minor_dim) (λ (t : ℕ × ℕ × T). t.1) (lane_triplets m) (λ k d lt. (lane_triplets-inside m sound k d lt).1)
+    indices_below : All (λ j. j < m.pattern.minor_dim)
+        (map (λ (t : ℕ × ℕ × T). t.1) (lane_triplets m))
+    indices_below = All-map (λ j. j < m.pattern.minor_dim) (λ (t : ℕ × ℕ × T). t.1)
+        (lane_triplets m) (λ k d lt. (lane_triplets-inside m sound k d lt).1)
 
     same_long : {A B : Type 0} (f : ℕ × ℕ × T → A) (g : ℕ × ℕ × T → B)
         → length (map f (lane_triplets m)) ≡ length (map g (lane_triplets m))
     same_long f g = length-map (lane_triplets m) f ∙ sym (length-map (lane_triplets m) g)
 
     -- they fit each other and the sizes, as rows and columns and the other way round
-    pub parts_by_rows : AreParts m.pattern.major_dim m.pattern.minor_dim (map (λ (t : ℕ × ℕ × T). t.0) (lane_triplets m)) (map (λ (t : ℕ × ℕ × T). t.1) (lane_triplets m)) (map (λ (t : ℕ × ℕ × T). t.2) (lane_triplets m))
-    parts_by_rows = record { row_count = same_long _ _; col_count = same_long _ _; rows_bounded = lanes_below; cols_bounded = indices_below }
+    pub parts_by_rows : AreParts m.pattern.major_dim m.pattern.minor_dim
+        (map (λ (t : ℕ × ℕ × T). t.0) (lane_triplets m))
+        (map (λ (t : ℕ × ℕ × T). t.1) (lane_triplets m))
+        (map (λ (t : ℕ × ℕ × T). t.2) (lane_triplets m))
+    parts_by_rows = record {
+      row_count = same_long _ _;
+      col_count = same_long _ _;
+      rows_bounded =
+          lanes_below;
+      cols_bounded = indices_below;
+    }
 
-    pub parts_by_cols : AreParts m.pattern.minor_dim m.pattern.major_dim (map (λ (t : ℕ × ℕ × T). t.1) (lane_triplets m)) (map (λ (t : ℕ × ℕ × T). t.0) (lane_triplets m)) (map (λ (t : ℕ × ℕ × T). t.2) (lane_triplets m))
-    parts_by_cols = record { row_count = same_long _ _; col_count = same_long _ _; rows_bounded = indices_below; cols_bounded = lanes_below }
+    pub parts_by_cols : AreParts m.pattern.minor_dim m.pattern.major_dim
+        (map (λ (t : ℕ × ℕ × T). t.1) (lane_triplets m))
+        (map (λ (t : ℕ × ℕ × T). t.0) (lane_triplets m))
+        (map (λ (t : ℕ × ℕ × T). t.2) (lane_triplets m))
+    parts_by_cols = record {
+      row_count = same_long _ _;
+      col_count = same_long _ _;
+      rows_bounded =
+          indices_below;
+      cols_bounded = lanes_below;
+    }
 
 -- turned triplets stand for the transpose
-pub plain_of_turned_list : (R : CommRing) {T : Type 0} (f : T → R.Carrier) (rows cols : ℕ) (ts : List (ℕ × ℕ × T))
-    → plain_of_triplets R f cols rows (map turned ts) ≡ plain_transpose R (plain_of_triplets R f rows cols ts)
+pub plain_of_turned_list : (R : CommRing) {T : Type 0} (f : T → R.Carrier) (rows cols : ℕ)
+    (ts : List (ℕ × ℕ × T))
+    → plain_of_triplets R f cols rows (map turned ts) ≡ plain_transpose R
+    (plain_of_triplets R f rows cols ts)
 plain_of_turned_list R {T} f rows cols ts =
     let majors = map (λ (t : ℕ × ℕ × T). t.0) ts in
     let minors = map (λ (t : ℕ × ℕ × T). t.1) ts in

@@ -10,7 +10,10 @@ use Rattle.sparse_algebra.proofs.PlainLemmas.{same_plain, and_comm}
 module _ (R : CommRing) {T : Type 0} (f : T → R.Carrier) where
   has_turned : (is js : List ℕ) (vs : List T) (i j : ℕ)
       → list_any (is_at j i) (zip_triplets js is vs) ≡ list_any (is_at i j) (zip_triplets is js vs)
-  has_turned (x ∷ is) (y ∷ js) (v ∷ vs) i j = ap (λ b. b || list_any (is_at j i) (zip_triplets js is vs)) (and_comm (nat_eq y j) (nat_eq x i)) ∙ ap (λ b. (nat_eq x i && nat_eq y j) || b) (has_turned is js vs i j)
+  has_turned (x ∷ is) (y ∷ js) (v ∷ vs) i j =
+      ap (λ b. b || list_any (is_at j i) (zip_triplets js is vs))
+      (and_comm (nat_eq y j) (nat_eq x i))
+      ∙ ap (λ b. (nat_eq x i && nat_eq y j) || b) (has_turned is js vs i j)
   has_turned [] [] vs i j = refl
   has_turned [] (y ∷ js) [] i j = refl
   has_turned [] (y ∷ js) (v ∷ vs) i j = refl
@@ -19,8 +22,13 @@ module _ (R : CommRing) {T : Type 0} (f : T → R.Carrier) where
   has_turned (x ∷ is) (y ∷ js) [] i j = refl
 
   value_turned : (is js : List ℕ) (vs : List T) (i j : ℕ)
-      → sum_by R (λ t. where_true R (is_at j i t) (f t.2)) (zip_triplets js is vs) ≡ sum_by R (λ t. where_true R (is_at i j t) (f t.2)) (zip_triplets is js vs)
-  value_turned (x ∷ is) (y ∷ js) (v ∷ vs) i j = ap (λ b. R.add (where_true R b (f v)) (sum_by R (λ t. where_true R (is_at j i t) (f t.2)) (zip_triplets js is vs))) (and_comm (nat_eq y j) (nat_eq x i)) ∙ ap (λ s. R.add (where_true R (nat_eq x i && nat_eq y j) (f v)) s) (value_turned is js vs i j)
+      → sum_by R (λ t. where_true R (is_at j i t) (f t.2)) (zip_triplets js is vs) ≡ sum_by R
+      (λ t. where_true R (is_at i j t) (f t.2)) (zip_triplets is js vs)
+  value_turned (x ∷ is) (y ∷ js) (v ∷ vs) i j =
+      ap (λ b. R.add (where_true R b (f v)) (sum_by R (λ t. where_true R (is_at j i t) (f t.2))
+      (zip_triplets js is vs))) (and_comm (nat_eq y j) (nat_eq x i))
+      ∙ ap (λ s. R.add (where_true R (nat_eq x i && nat_eq y j) (f v)) s)
+      (value_turned is js vs i j)
   value_turned [] [] vs i j = refl
   value_turned [] (y ∷ js) [] i j = refl
   value_turned [] (y ∷ js) (v ∷ vs) i j = refl
@@ -30,5 +38,7 @@ module _ (R : CommRing) {T : Type 0} (f : T → R.Carrier) where
 
   -- the transpose of the matrix of exchanged triplets
   pub plain_of_turned : (rows cols : ℕ) (is js : List ℕ) (vs : List T)
-      → plain_transpose R (plain_of_triplets R f cols rows (zip_triplets js is vs)) ≡ plain_of_triplets R f rows cols (zip_triplets is js vs)
-  plain_of_turned rows cols is js vs = same_plain _ _ refl refl (has_turned is js vs) (value_turned is js vs)
+      → plain_transpose R (plain_of_triplets R f cols rows (zip_triplets js is vs))
+      ≡ plain_of_triplets R f rows cols (zip_triplets is js vs)
+  plain_of_turned rows cols is js vs = same_plain _ _ refl refl (has_turned is js vs)
+      (value_turned is js vs)

@@ -8,7 +8,8 @@ use Rattle.sparse_base.specs.Dense.{Dense, value_at}
 module _ {T : Type 0} where
   -- the triplets (i, k, value i k) of n lanes of m values, lane by lane
   abbrev pub full_lanes : ℕ → ℕ → (ℕ → ℕ → T) → List (ℕ × ℕ × T)
-  full_lanes n m value = flat_map (λ i. map {B = ℕ × ℕ × T} (λ k. (i, k, value i k)) (below m)) (below n)
+  full_lanes n m value = flat_map (λ i. map {B = ℕ × ℕ × T} (λ k. (i, k, value i k)) (below m))
+      (below n)
 
   -- the triplets of all places of a dense matrix, row by row (z is the value outside the shape)
   abbrev pub row_triplets : T → Dense T → List (ℕ × ℕ × T)
@@ -16,7 +17,8 @@ module _ {T : Type 0} where
 
   -- the same, column by column
   abbrev pub column_triplets : T → Dense T → List (ℕ × ℕ × T)
-  column_triplets z d = flat_map (λ j. map {B = ℕ × ℕ × T} (λ i. (i, j, value_at d i j z)) (below d.nrows)) (below d.ncols)
+  column_triplets z d = flat_map (λ j. map {B = ℕ × ℕ × T} (λ i. (i, j, value_at d i j z))
+      (below d.nrows)) (below d.ncols)
 
   -- whether the value of a triplet is not `==` to z
   abbrev pub differs_from : (T → T → Bool) → T → ℕ × ℕ × T → Bool

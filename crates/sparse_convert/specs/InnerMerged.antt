@@ -1,11 +1,14 @@
 -- Lanes with each index once.
-use Rattle.std.specs.Prelude.{◌≡◌, ℕ, ◌-◌, ◌<◌, ◌≤◌, true, List, nat_eq, slice_index, slice_index_or}
+use Rattle.std.specs.Prelude.{◌≡◌, ℕ, ◌-◌, ◌<◌, ◌≤◌, true, List, nat_eq, slice_index}
+use Rattle.std.specs.Prelude.{slice_index_or}
 use Rattle.std.specs.List.{list_any}
 use Rattle.sparse_algebra.specs.Algebra.{CommRing}
 use Rattle.sparse_convert.specs.InnerTripletLanes.{index_sum}
 
--- from start to end stand the indices of the lane's entries, each once and rising, and the sums of their values
-pub record AreMerged (R : CommRing) {T : Type 0} (f : T → R.Carrier) (zero : T) (lane : List (ℕ × T)) (indices : List ℕ) (values : List T) (start end : ℕ) : Type 0 where
+-- from start to end stand the indices of the lane's entries, each once and rising, and the sums of
+-- their values
+pub record AreMerged (R : CommRing) {T : Type 0} (f : T → R.Carrier) (zero : T)
+    (lane : List (ℕ × T)) (indices : List ℕ) (values : List T) (start end : ℕ) : Type 0 where
   pub rising : (p : ℕ) → start < p → p < end → slice_index indices (p - 1) < slice_index indices p
   pub named : (p : ℕ) → start ≤ p → p < end
       → list_any (λ e. nat_eq e.0 (slice_index indices p)) lane ≡ true

@@ -35,7 +35,8 @@ module _ {T : Type 0} where
     plain_of_representation (Rows m) = plain_of_rows R f m
     plain_of_representation (Cols n) = plain_of_cols R f n
 
-    -- what the conversion of the first to the representation of the second promises; there is none from a representation to itself
+    -- what the conversion of the first to the representation of the second promises; there is none
+    -- from a representation to itself
     abbrev pub IsConverted : Representation T → Representation T → Type 0
     IsConverted (Triplets a) (Triplets b) = ⊥
     IsConverted (Triplets a) (Rows m) = plain_of_rows R f m ≡ plain_of_coo R f a

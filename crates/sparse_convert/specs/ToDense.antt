@@ -8,12 +8,15 @@ use Rattle.sparse_cs.specs.StoredEntries.{place_of}
 module _ {T : Type 0} (zero : T) where
   -- the value at the place (i, j), or zero if it is not stored
   abbrev pub stored_or_zero : Compressed T → ℕ → ℕ → T
-  stored_or_zero m i j = unwrap_or (option_map (λ p. slice_index_or m.values p zero) (place_of m.pattern i j)) zero
+  stored_or_zero m i j = unwrap_or (option_map (λ p. slice_index_or m.values p zero)
+      (place_of m.pattern i j)) zero
 
   -- the shape and the values of compressed arrays with rows as lanes
   abbrev pub IsDenseOfRows : Compressed T → Dense T → Type 0
-  IsDenseOfRows m = HasValues m.pattern.major_dim m.pattern.minor_dim (λ i j _. stored_or_zero m i j)
+  IsDenseOfRows m = HasValues m.pattern.major_dim m.pattern.minor_dim
+      (λ i j _. stored_or_zero m i j)
 
   -- the same with columns as lanes
   abbrev pub IsDenseOfCols : Compressed T → Dense T → Type 0
-  IsDenseOfCols m = HasValues m.pattern.minor_dim m.pattern.major_dim (λ i j _. stored_or_zero m j i)
+  IsDenseOfCols m = HasValues m.pattern.minor_dim m.pattern.major_dim
+      (λ i j _. stored_or_zero m j i)

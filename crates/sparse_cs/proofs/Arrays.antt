@@ -1,5 +1,7 @@
 -- Compressed matrices as plain matrices.
-use Rattle.std.proofs.Common.{◌≡◌, ℕ, zero, suc, ◌+◌, ◌-◌, ◌<◌, ◌≤◌, ◌⊎◌, inl, inr, ◌↔◌, Bool, true, false, ◌&&◌, List, [], ◌∷◌, ◌++◌, length, get_or, map, Contains, slice_index, ap, sym, subst, ◌∙◌, refl, arith}
+use Rattle.std.proofs.Common.{◌≡◌, ℕ, zero, suc, ◌+◌, ◌-◌, ◌<◌, ◌≤◌, ◌⊎◌, inl, inr, ◌↔◌, Bool, true}
+use Rattle.std.proofs.Common.{false, ◌&&◌, List, [], ◌∷◌, ◌++◌, length, get_or, map, Contains}
+use Rattle.std.proofs.Common.{slice_index, ap, sym, subst, ◌∙◌, refl, arith}
 use Rattle.std.specs.Prelude.{nat_eq, ◌||◌}
 use Rattle.std.specs.List.{list_any}
 use Rattle.std.proofs.lemmas.Grind.{common_steps}
@@ -8,7 +10,8 @@ use Rattle.sparse_lemmas.proofs.Cases.{three, true_or_false}
 use Rattle.sparse_algebra.specs.Algebra.{CommRing}
 use Rattle.sparse_algebra.specs.Sums.{sum_by, where_true}
 use Rattle.sparse_algebra.proofs.RingLemmas.{zero_add}
-use Rattle.sparse_pattern.specs.Raw.{Raw, start_of, end_of, lane_of, IsInLane, IsValid, IsPlace, entries_from, entries_of, paired}
+use Rattle.sparse_pattern.specs.Raw.{Raw, start_of, end_of, lane_of, IsInLane, IsValid, IsPlace}
+use Rattle.sparse_pattern.specs.Raw.{entries_from, entries_of, paired}
 use Rattle.sparse_pattern.proofs.PatternLanes.{length-lane, get_or-lane}
 use Rattle.sparse_pattern.proofs.Positions.{starts_ordered, one_position, lane_of_position}
 use Rattle.sparse_pattern.proofs.LaneOrder.{length-entries, entries_are_places}
@@ -26,21 +29,26 @@ module _ (d : Raw) (valid : IsValid d) where
 
   -- the entry at a position of lane i
   entry_from : (k n i p : ℕ) → k + n ≡ d.major_dim → k ≤ i → IsInLane d i p
-      → get_or (entries_from d.offsets d.indices k n) (p - start_of d k) (0, 0) ≡ (i, slice_index d.indices p)
+      → get_or (entries_from d.offsets d.indices k n) (p - start_of d k) (0, 0)
+      ≡ (i, slice_index d.indices p)
   entry_from k zero i p e le h = absurd (omega (arith, h.lane))
   entry_from k (suc n) i p e le h =
       let lane = valid.lanes k (omega arith) in
       let front = paired k (lane_of d k) in
       let rest = entries_from d.offsets d.indices (k + 1) n in
       let low = starts_ordered d valid k i le (omega (arith, h.lane)) in
-      let long : length front ≡ end_of d k - start_of d k = grind (arith, common_steps, length-lane d k lane) in
+      let long : length front ≡ end_of d k - start_of d k =
+      grind (arith, common_steps, length-lane d k lane) in
       elim (three k i) [
         | inl lt ↦
             let after = starts_ordered d valid (k + 1) i (omega arith) (omega (arith, h.lane)) in
             let ih = entry_from (k + 1) n i p (omega arith) (omega arith) h in
-            let off : length front ≤ p - start_of d k = omega (arith, long, h.from, after, lane.ordered) in
-            let less : p - start_of d k - length front ≡ p - start_of d (k + 1) = omega (arith, long, h.from, after, lane.ordered) in
-            let right : get_or (front ++ rest) (p - start_of d k) (0, 0) ≡ get_or rest (p - start_of d k - length front) (0, 0) = grind (arith, common_steps, off) in
+            let off : length front ≤ p - start_of d k =
+            omega (arith, long, h.from, after, lane.ordered) in
+            let less : p - start_of d k - length front ≡ p - start_of d (k + 1) =
+            omega (arith, long, h.from, after, lane.ordered) in
+            let right : get_or (front ++ rest) (p - start_of d k) (0, 0) ≡ get_or rest
+            (p - start_of d k - length front) (0, 0) = grind (arith, common_steps, off) in
             right ∙ ap (λ q. get_or rest q (0, 0)) less ∙ ih
         | inr more ↦ elim more [
           | inl gt ↦ absurd (omega arith)
@@ -48,11 +56,16 @@ module _ (d : Raw) (valid : IsValid d) where
               let from' : start_of d k ≤ p = omega (arith, low, h.from) in
               let to' : p < end_of d k = subst (λ l. p < end_of d l) (sym same) h.to in
               let inside : p - start_of d k < length front = omega (arith, long, from', to') in
-              let inside' : p - start_of d k < length (lane_of d k) = omega (arith, length-lane d k lane, from', to') in
-              let left : get_or (front ++ rest) (p - start_of d k) (0, 0) ≡ get_or front (p - start_of d k) (0, 0) = grind (arith, common_steps, inside) in
-              let mapped : get_or front (p - start_of d k) (0, 0) ≡ (k, get_or (lane_of d k) (p - start_of d k) 0) = grind (arith, common_steps, inside') in
+              let inside' : p - start_of d k < length (lane_of d k) =
+              omega (arith, length-lane d k lane, from', to') in
+              let left : get_or (front ++ rest) (p - start_of d k) (0, 0) ≡ get_or front
+              (p - start_of d k) (0, 0) = grind (arith, common_steps, inside) in
+              let mapped : get_or front (p - start_of d k) (0, 0)
+              ≡ (k, get_or (lane_of d k) (p - start_of d k) 0) =
+              grind (arith, common_steps, inside') in
               let back : start_of d k + (p - start_of d k) ≡ p = omega (arith, from') in
-              left ∙ mapped ∙ ap (λ x. (k, x)) (get_or-lane d k lane (p - start_of d k) inside' ∙ ap (λ q. get_or d.indices q 0) back) ∙ ap (λ l. (l, slice_index d.indices p)) same
+              left ∙ mapped ∙ ap (λ x. (k, x)) (get_or-lane d k lane (p - start_of d k) inside'
+              ∙ ap (λ q. get_or d.indices q 0) back) ∙ ap (λ l. (l, slice_index d.indices p)) same
         ]
       ]
 
@@ -60,7 +73,8 @@ module _ (d : Raw) (valid : IsValid d) where
       → get_or (entries_of d) p (0, 0) ≡ (i, slice_index d.indices p)
   entry_at i p h =
       let e : p - start_of d 0 ≡ p = omega (arith, valid.first) in
-      ap (λ q. get_or (entries_of d) q (0, 0)) (sym e) ∙ entry_from 0 d.major_dim i p (omega arith) (omega arith) h
+      ap (λ q. get_or (entries_of d) q (0, 0)) (sym e) ∙ entry_from 0 d.major_dim i p (omega arith)
+      (omega arith) h
 
   pub position_of_entry : (i j q : ℕ) → q < length d.indices
       → get_or (entries_of d) q (0, 0) ≡ (i, j) → IsPosition d i j q
@@ -105,7 +119,8 @@ module _ {T : Type 0} (i j : ℕ) where
   named_forth [] h = cc
   named_forth (t ∷ ts) h = elim (true_or_false (is_at i j t)) [
     | inl hit ↦ (0, omega arith, pair_is (t.0, t.1) i j hit)
-    | inr miss ↦ contains_tail (t.0, t.1) (i, j) (pairs_of ts) (named_forth ts (later (is_at i j t) (list_any (is_at i j) ts) miss h))
+    | inr miss ↦ contains_tail (t.0, t.1) (i, j) (pairs_of ts)
+        (named_forth ts (later (is_at i j t) (list_any (is_at i j) ts) miss h))
   ]
     where
       later : (b c : Bool) → b ≡ false → (b || c) ≡ true → c ≡ true
@@ -136,7 +151,8 @@ pub pairs_of-triplets : {T : Type 0} (ps : List (ℕ × ℕ)) (vs : List T) → 
     → pairs_of (zip_values ps vs) ≡ ps
 pairs_of-triplets [] vs e = refl
 pairs_of-triplets (p ∷ ps) [] e = absurd (omega arith)
-pairs_of-triplets ((a, b) ∷ ps) (v ∷ vs) e = ap (λ l. (a, b) ∷ l) (pairs_of-triplets ps vs (omega arith))
+pairs_of-triplets ((a, b) ∷ ps) (v ∷ vs) e =
+    ap (λ l. (a, b) ∷ l) (pairs_of-triplets ps vs (omega arith))
 
 module _ (R : CommRing) {T : Type 0} (f : T → R.Carrier) where
   abbrev pub value_at : List (ℕ × ℕ × T) → ℕ → ℕ → R.Carrier
@@ -156,7 +172,8 @@ module _ (R : CommRing) {T : Type 0} (f : T → R.Carrier) where
   unnamed i j [] h = refl
   unnamed i j (t ∷ ts) h =
       let parts = neither (is_at i j t) (list_any (is_at i j) ts) h in
-      ap (λ c. R.add c (value_at ts i j)) (where_no (is_at i j t) (f t.2) parts.0) ∙ zero_add R _ ∙ unnamed i j ts parts.1
+      ap (λ c. R.add c (value_at ts i j)) (where_no (is_at i j t) (f t.2) parts.0) ∙ zero_add R _
+      ∙ unnamed i j ts parts.1
     where
       neither : (b c : Bool) → (b || c) ≡ false → (b ≡ false) × (c ≡ false)
       neither true c h = cc
@@ -171,46 +188,62 @@ module _ (R : CommRing) {T : Type 0} (f : T → R.Carrier) where
   one_named i j p z (x ∷ ps) [] e lt is only = absurd (omega arith)
   one_named i j zero z (x ∷ ps) (v ∷ vs) e lt is only =
       let e' : length ps ≡ length vs = omega arith in
-      let hit : is_at i j (x.0, x.1, v) ≡ true = rw (ap (λ y. y.0) is, ap (λ y. y.1) is) (test_yes i j) in
-      let none : list_any (is_at i j) (zip_values ps vs) ≡ false = elim (true_or_false (list_any (is_at i j) (zip_values ps vs))) [
+      let hit : is_at i j (x.0, x.1, v) ≡ true = rw (ap (λ y. y.0) is, ap (λ y. y.1) is)
+      (test_yes i j) in
+      let none : list_any (is_at i j) (zip_values ps vs) ≡ false =
+      elim (true_or_false (list_any (is_at i j) (zip_values ps vs))) [
         | inl some ↦
-            let at = subst (λ l. Contains l (i, j)) (pairs_of-triplets ps vs e') ((named i j (zip_values ps vs)).0 some) in
+            let at = subst (λ l. Contains l (i, j)) (pairs_of-triplets ps vs e')
+            ((named i j (zip_values ps vs)).0 some) in
             let read : get_or ps at.0 (0, 0) ≡ (i, j) = grind (arith, common_steps, at.1, at.2) in
             absurd (omega (arith, only (suc at.0) (omega (arith, at.1)) read))
         | inr miss ↦ miss
       ] in
-      ap (λ c. R.add c (value_at (zip_values ps vs) i j)) (where_yes (is_at i j (x.0, x.1, v)) (f v) hit) ∙ ap (R.add (f v)) (unnamed i j (zip_values ps vs) none) ∙ R.laws.add_zero (f v)
+      ap (λ c. R.add c (value_at (zip_values ps vs) i j))
+      (where_yes (is_at i j (x.0, x.1, v)) (f v) hit)
+      ∙ ap (R.add (f v)) (unnamed i j (zip_values ps vs) none) ∙ R.laws.add_zero (f v)
   one_named i j (suc p) z (x ∷ ps) (v ∷ vs) e lt is only =
       let miss : is_at i j (x.0, x.1, v) ≡ false = elim (true_or_false (is_at i j (x.0, x.1, v))) [
         | inl hit ↦ absurd (omega (arith, only 0 (omega arith) (pair_is x i j hit)))
         | inr miss ↦ miss
       ] in
-      ap (λ c. R.add c (value_at (zip_values ps vs) i j)) (where_no (is_at i j (x.0, x.1, v)) (f v) miss) ∙ zero_add R _
-      ∙ one_named i j p z ps vs (omega arith) (omega arith) is (λ q l h. omega (arith, only (suc q) (omega arith) h))
+      ap (λ c. R.add c (value_at (zip_values ps vs) i j))
+      (where_no (is_at i j (x.0, x.1, v)) (f v) miss) ∙ zero_add R _
+      ∙ one_named i j p z ps vs (omega arith) (omega arith) is
+      (λ q l h. omega (arith, only (suc q) (omega arith) h))
 
-module _ (R : CommRing) {T : Type 0} (f : T → R.Carrier) (d : Raw) (valid : IsValid d) (vs : List T) (count : length vs ≡ length d.indices) where
+module _ (R : CommRing) {T : Type 0} (f : T → R.Carrier) (d : Raw) (valid : IsValid d) (vs : List T)
+    (count : length vs ≡ length d.indices) where
   pub value_at_position : (z : T) (i j p : ℕ) → IsPosition d i j p
       → value_at R f (zip_values (entries_of d) vs) i j ≡ f (get_or vs p z)
   value_at_position z i j p h =
       let long = length-entries d valid in
-      one_named R f i j p z (entries_of d) vs (long ∙ sym count) (omega (arith, long, position_within d valid i j p h)) (entry_at d valid i p h.0 ∙ ap (λ x. (i, x)) h.1)
-      (λ q lt is. let there = position_of_entry d valid i j q (omega (arith, long, lt)) is in sym (one_position d valid i p q h.0 there.0 (h.1 ∙ sym there.1)))
+      one_named R f i j p z (entries_of d) vs (long ∙ sym count)
+      (omega (arith, long, position_within d valid i j p h))
+      (entry_at d valid i p h.0 ∙ ap (λ x. (i, x)) h.1)
+      (λ q lt is. let there = position_of_entry d valid i j q (omega (arith, long, lt)) is in sym
+      (one_position d valid i p q h.0 there.0 (h.1 ∙ sym there.1)))
 
   pub has_is_place : (i j : ℕ)
       → (list_any (is_at i j) (zip_values (entries_of d) vs) ≡ true) ↔ IsPlace d i j
   has_is_place i j =
       let pairs = pairs_of-triplets (entries_of d) vs (length-entries d valid ∙ sym count) in
       let places = entries_are_places d valid i j in
-      let names = named i j (zip_values (entries_of d) vs) in
-      (λ h. places.0 (subst (λ l. Contains l (i, j)) pairs (names.0 h)), λ h. names.1 (subst (λ l. Contains l (i, j)) (sym pairs) (places.1 h)))
+      let names = named i j (zip_values (entries_of d) vs) in (
+        λ h. places.0 (subst (λ l. Contains l (i, j)) pairs (names.0 h)),
+        λ h. names.1 (subst (λ l. Contains l (i, j)) (sym pairs) (places.1 h)),
+      )
 
--- what makes a matrix by rows stand for a plain matrix: the sizes, the places, and the values at their positions
-pub stands : (R : CommRing) {T : Type 0} (f : T → R.Carrier) (z : T) (m : Compressed T) (a : Plain R)
+-- what makes a matrix by rows stand for a plain matrix: the sizes, the places, and the values at
+-- their positions
+pub stands : (R : CommRing) {T : Type 0} (f : T → R.Carrier) (z : T) (m : Compressed T)
+    (a : Plain R)
     → IsSound m → IsProper a → m.pattern.major_dim ≡ a.rows → m.pattern.minor_dim ≡ a.cols
     → ((i j : ℕ) → IsPlace m.pattern i j ↔ (a.has i j ≡ true))
     → ((i j p : ℕ) → IsPosition m.pattern i j p → f (get_or m.values p z) ≡ a.value i j)
     → plain_of_rows R f m ≡ a
-stands R {T} f z m a sound proper rows cols places values = same_plain (plain_of_rows R f m) a rows cols has_same value_same
+stands R {T} f z m a sound proper rows cols places values = same_plain (plain_of_rows R f m) a rows
+    cols has_same value_same
   where
     d : Raw
     d = m.pattern
@@ -225,15 +258,18 @@ stands R {T} f z m a sound proper rows cols places values = same_plain (plain_of
       | inl hit ↦
           let place = (places i j).1 hit in
           let position : IsPosition m.pattern i j place.at = (place.in_lane, place.index) in
-          value_at_position R f m.pattern sound.valid m.values sound.count z i j place.at position ∙ values i j place.at position
-      | inr miss ↦ unnamed R f i j (zip_values (entries_of m.pattern) m.values) (has_same i j ∙ miss) ∙ sym (proper i j miss)
+          value_at_position R f m.pattern sound.valid m.values sound.count z i j place.at position
+          ∙ values i j place.at position
+      | inr miss ↦ unnamed R f i j (zip_values (entries_of m.pattern) m.values)
+          (has_same i j ∙ miss) ∙ sym (proper i j miss)
     ]
 
 pub proper_rows : (R : CommRing) {T : Type 0} (f : T → R.Carrier) (m : Compressed T)
     → IsProper (plain_of_rows R f m)
 proper_rows R f m i j h = unnamed R f i j (zip_values (entries_of m.pattern) m.values) h
 
-pub proper_triplets : (R : CommRing) {T : Type 0} (f : T → R.Carrier) (rows cols : ℕ) (ts : List (ℕ × ℕ × T))
+pub proper_triplets : (R : CommRing) {T : Type 0} (f : T → R.Carrier) (rows cols : ℕ)
+    (ts : List (ℕ × ℕ × T))
     → IsProper (plain_of_triplets R f rows cols ts)
 proper_triplets R f rows cols ts i j h = unnamed R f i j ts h
 
@@ -246,7 +282,8 @@ module _ {X : Type 0} (E : X → X → Bool) where
   pointwise_from z [] [] e h = refl
   pointwise_from z [] (y ∷ ys) e h = absurd (omega arith)
   pointwise_from z (x ∷ xs) [] e h = absurd (omega arith)
-  pointwise_from z (x ∷ xs) (y ∷ ys) e h = both (E x y) _ (h 0 (omega arith)) (pointwise_from z xs ys (omega arith) (λ p lt. h (suc p) (omega arith)))
+  pointwise_from z (x ∷ xs) (y ∷ ys) e h = both (E x y) _ (h 0 (omega arith))
+      (pointwise_from z xs ys (omega arith) (λ p lt. h (suc p) (omega arith)))
     where
       both : (s t : Bool) → s ≡ true → t ≡ true → (s && t) ≡ true
       both true t h k = k
@@ -261,13 +298,16 @@ module _ {X : Type 0} (E : X → X → Bool) where
       front : (s t : Bool) → (s && t) ≡ true → s ≡ true
       front true t h = refl
       front false t h = h
-  pointwise_at z (x ∷ xs) (y ∷ ys) h (suc p) lt = pointwise_at z xs ys (back (E x y) _ h) p (omega arith)
+  pointwise_at z (x ∷ xs) (y ∷ ys) h (suc p) lt = pointwise_at z xs ys (back (E x y) _ h) p
+      (omega arith)
     where
       back : (s t : Bool) → (s && t) ≡ true → t ≡ true
       back true t h = h
       back false t h = cc
 
-module _ (R : CommRing) {T : Type 0} (f : T → R.Carrier) (E : T → T → Bool) (decides : (x y : T) → (E x y ≡ true) ↔ (f x ≡ f y)) (z : T) (m n : Compressed T) (sm : IsSound m) (sn : IsSound n) where
+module _ (R : CommRing) {T : Type 0} (f : T → R.Carrier) (E : T → T → Bool)
+    (decides : (x y : T) → (E x y ≡ true) ↔ (f x ≡ f y)) (z : T) (m n : Compressed T)
+    (sm : IsSound m) (sn : IsSound n) where
   equal_from_plain : plain_of_rows R f m ≡ plain_of_rows R f n → compressed_eq E m n ≡ true
   equal_from_plain e =
       let same : HasSamePlaces m.pattern n.pattern = record {
@@ -279,15 +319,23 @@ module _ (R : CommRing) {T : Type 0} (f : T → R.Carrier) (E : T → T → Bool
             let h = ap (λ a. a.has i j) e in
             (λ x. hn.0 (sym h ∙ hm.1 x), λ x. hm.0 (h ∙ hn.1 x));
       } in
-      let patterns : m.pattern ≡ n.pattern = same_from_places m.pattern n.pattern sm.valid sn.valid same in
-      let long : length m.values ≡ length n.values = sm.count ∙ ap (λ d. length d.indices) patterns ∙ sym sn.count in
-      both (raw_eq m.pattern n.pattern) (pointwise E m.values n.values) ((places_decide m.pattern n.pattern sm.valid sn.valid (raw_eq m.pattern n.pattern) refl).1 same)
+      let patterns : m.pattern ≡ n.pattern = same_from_places m.pattern n.pattern sm.valid sn.valid
+      same in
+      let long : length m.values ≡ length n.values = sm.count ∙ ap (λ d. length d.indices) patterns
+      ∙ sym sn.count in
+      both (raw_eq m.pattern n.pattern) (pointwise E m.values n.values)
+      ((places_decide m.pattern n.pattern sm.valid sn.valid (raw_eq m.pattern n.pattern) refl).1
+      same)
       (pointwise_from E z m.values n.values long (λ p lt.
       let lane = lane_of_position m.pattern sm.valid p (omega (arith, sm.count)) in
       let j = slice_index m.pattern.indices p in
       let at : IsPosition m.pattern lane.0 j p = (lane.1, refl) in
-      let at' : IsPosition n.pattern lane.0 j p = subst (λ d. IsPosition d lane.0 j p) patterns at in
-      (decides _ _).1 (sym (value_at_position R f m.pattern sm.valid m.values sm.count z lane.0 j p at) ∙ ap (λ a. a.value lane.0 j) e ∙ value_at_position R f n.pattern sn.valid n.values sn.count z lane.0 j p at')))
+      let at' : IsPosition n.pattern lane.0 j p = subst (λ d. IsPosition d lane.0 j p) patterns
+      at in
+      (decides _ _).1
+      (sym (value_at_position R f m.pattern sm.valid m.values sm.count z lane.0 j p at)
+      ∙ ap (λ a. a.value lane.0 j) e ∙ value_at_position R f n.pattern sn.valid n.values sn.count
+      z lane.0 j p at')))
     where
       both : (s t : Bool) → s ≡ true → t ≡ true → (s && t) ≡ true
       both true t h k = k
@@ -295,14 +343,23 @@ module _ (R : CommRing) {T : Type 0} (f : T → R.Carrier) (E : T → T → Bool
 
   plain_from_equal : compressed_eq E m n ≡ true → plain_of_rows R f m ≡ plain_of_rows R f n
   plain_from_equal h =
-      let same = (places_decide m.pattern n.pattern sm.valid sn.valid (raw_eq m.pattern n.pattern) refl).0 (front _ _ h) in
-      let patterns : m.pattern ≡ n.pattern = same_from_places m.pattern n.pattern sm.valid sn.valid same in
+      let same = (places_decide m.pattern n.pattern sm.valid sn.valid (raw_eq m.pattern n.pattern)
+      refl).0 (front _ _ h) in
+      let patterns : m.pattern ≡ n.pattern = same_from_places m.pattern n.pattern sm.valid sn.valid
+      same in
       stands R f z m (plain_of_rows R f n) sm (proper_rows R f n) same.major_dim same.minor_dim
-      (λ i j. let hn = has_is_place R f n.pattern sn.valid n.values sn.count i j in (λ x. hn.1 ((same.places i j).0 x), λ x. (same.places i j).1 (hn.0 x)))
+      (λ i j. let hn = has_is_place R f n.pattern sn.valid n.values sn.count i
+      j in (λ x. hn.1 ((same.places i j).0 x), λ x. (same.places i j).1 (hn.0 x)))
       (λ i j p at.
       let at' : IsPosition n.pattern i j p = subst (λ d. IsPosition d i j p) patterns at in
-      let lt : p < length m.values = omega (arith, sm.count, position_within m.pattern sm.valid i j p at) in
-      (decides _ _).0 (pointwise_at E z m.values n.values (back _ _ h) p lt) ∙ sym (value_at_position R f n.pattern sn.valid n.values sn.count z i j p at'))
+      let lt : p < length m.values = omega (
+        arith,
+        sm.count,
+        position_within m.pattern sm.valid i j
+            p at,
+      ) in
+      (decides _ _).0 (pointwise_at E z m.values n.values (back _ _ h) p lt)
+      ∙ sym (value_at_position R f n.pattern sn.valid n.values sn.count z i j p at'))
     where
       front : (s t : Bool) → (s && t) ≡ true → s ≡ true
       front true t h = refl

@@ -25,14 +25,17 @@ module _ (R : CommRing) {T : Type 0} (f : T → R.Carrier) where
     changed_at : (g : R.Carrier → R.Carrier) → AreChanged f g z m.values ws → (i j p : ℕ) (y : T)
         → IsPosition m.pattern i j p → f (get_or ws p y) ≡ g ((plain_of_rows R f m).value i j)
     changed_at g h i j p y at =
-        let within : p < length m.values = omega (arith, position_within m.pattern sound.valid i j p at, sound.count) in
-        ap f (get_or_default ws p y z (omega (arith, h.count))) ∙ h.each p within ∙ ap g ((rows_have R f m sound).values i j p z at)
+        let within : p < length m.values = omega
+        (arith, position_within m.pattern sound.valid i j p at, sound.count) in
+        ap f (get_or_default ws p y z (omega (arith, h.count))) ∙ h.each p within
+        ∙ ap g ((rows_have R f m sound).values i j p z at)
 
     pub negated : AreChanged f R.neg z m.values ws
         → plain_of_rows R f now ≡ plain_negation R (plain_of_rows R f m)
     negated h =
         let was = rows_have R f m sound in
-        rows_are R f now (changed_sound R.neg h) z (plain_negation R (plain_of_rows R f m)) (record {
+        rows_are R f now (changed_sound R.neg h) z (plain_negation R (plain_of_rows R f m))
+        (record {
           rows = refl;
           cols = refl;
           places = was.places;
@@ -45,7 +48,8 @@ module _ (R : CommRing) {T : Type 0} (f : T → R.Carrier) where
         → plain_of_rows R f now ≡ plain_scaled R s (plain_of_rows R f m)
     scaled s h =
         let was = rows_have R f m sound in
-        rows_are R f now (changed_sound (R.mul s) h) z (plain_scaled R s (plain_of_rows R f m)) (record {
+        rows_are R f now (changed_sound (R.mul s) h) z (plain_scaled R s (plain_of_rows R f m))
+        (record {
           rows = refl;
           cols = refl;
           places = was.places;

@@ -1,5 +1,6 @@
 -- The turned triplets in lane order are the places of the plain matrix, column after column.
-use Rattle.std.proofs.Common.{◌≡◌, ℕ, Bool, true, false, List, [], ◌∷◌, ◌++◌, map, ap, sym, ◌∙◌, refl}
+use Rattle.std.proofs.Common.{◌≡◌, ℕ, Bool, true, false, List, [], ◌∷◌, ◌++◌, map, ap, sym, ◌∙◌}
+use Rattle.std.proofs.Common.{refl}
 use Rattle.std.specs.Prelude.{if◌then◌else◌}
 use Rattle.std.specs.List.{flat_map}
 use Rattle.std.proofs.lemmas.List.{map-append}
@@ -15,27 +16,41 @@ module _ (R : CommRing) (a : Plain R) where
   Triplet = ℕ × ℕ × R.Carrier
 
   turned-one : (i j : ℕ) (b : Bool)
-      → map {B = Triplet} turned (if b then (i, j, a.value i j) ∷ [] else []) ≡ (if b then (j, i, a.value i j) ∷ [] else [])
+      → map {B = Triplet} turned (if b then (i, j, a.value i j) ∷ [] else [])
+      ≡ (if b then (j, i, a.value i j) ∷ [] else [])
   turned-one i j true = refl
   turned-one i j false = refl
 
   turned-row : (i : ℕ) (js : List ℕ)
-      → map {B = Triplet} turned (flat_map (λ j. if a.has i j then (i, j, a.value i j) ∷ [] else []) js)
+      → map {B = Triplet} turned (flat_map (λ j. if a.has i j then (i, j, a.value i j) ∷ [] else [])
+      js)
       ≡ flat_map (λ j. if a.has i j then (j, i, a.value i j) ∷ [] else []) js
   turned-row i [] = refl
   turned-row i (j ∷ js) =
-      map-append turned (if a.has i j then (i, j, a.value i j) ∷ [] else []) (flat_map (λ j. if a.has i j then (i, j, a.value i j) ∷ [] else []) js)
-      ∙ ap (λ l. l ++ map {B = Triplet} turned (flat_map (λ j. if a.has i j then (i, j, a.value i j) ∷ [] else []) js)) (turned-one i j (a.has i j))
+      map-append turned (if a.has i j then (i, j, a.value i j) ∷ [] else [])
+      (flat_map (λ j. if a.has i j then (i, j, a.value i j) ∷ [] else []) js)
+      ∙ ap (λ l. l ++ map {B = Triplet} turned
+      (flat_map (λ j. if a.has i j then (i, j, a.value i j) ∷ [] else []) js))
+      (turned-one i j (a.has i j))
       ∙ ap (λ l. (if a.has i j then (j, i, a.value i j) ∷ [] else []) ++ l) (turned-row i js)
 
   turned-rows : (is : List ℕ)
-      → map {B = Triplet} turned (flat_map (λ i. flat_map (λ j. if a.has i j then (i, j, a.value i j) ∷ [] else []) (below a.cols)) is)
-      ≡ flat_map (λ i. flat_map (λ j. if a.has i j then (j, i, a.value i j) ∷ [] else []) (below a.cols)) is
+      → map {B = Triplet} turned
+      (flat_map (λ i. flat_map (λ j. if a.has i j then (i, j, a.value i j) ∷ [] else [])
+      (below a.cols)) is)
+      ≡ flat_map (λ i. flat_map (λ j. if a.has i j then (j, i, a.value i j) ∷ [] else [])
+      (below a.cols)) is
   turned-rows [] = refl
   turned-rows (i ∷ is) =
-      map-append turned (flat_map (λ j. if a.has i j then (i, j, a.value i j) ∷ [] else []) (below a.cols)) (flat_map (λ i. flat_map (λ j. if a.has i j then (i, j, a.value i j) ∷ [] else []) (below a.cols)) is)
-      ∙ ap (λ l. l ++ map {B = Triplet} turned (flat_map (λ i. flat_map (λ j. if a.has i j then (i, j, a.value i j) ∷ [] else []) (below a.cols)) is)) (turned-row i (below a.cols))
-      ∙ ap (λ l. flat_map (λ j. if a.has i j then (j, i, a.value i j) ∷ [] else []) (below a.cols) ++ l) (turned-rows is)
+      map-append turned (flat_map (λ j. if a.has i j then (i, j, a.value i j) ∷ [] else [])
+      (below a.cols))
+      (flat_map (λ i. flat_map (λ j. if a.has i j then (i, j, a.value i j) ∷ [] else [])
+      (below a.cols)) is)
+      ∙ ap (λ l. l ++ map {B = Triplet} turned
+      (flat_map (λ i. flat_map (λ j. if a.has i j then (i, j, a.value i j) ∷ [] else [])
+      (below a.cols)) is)) (turned-row i (below a.cols))
+      ∙ ap (λ l. flat_map (λ j. if a.has i j then (j, i, a.value i j) ∷ [] else []) (below a.cols)
+      ++ l) (turned-rows is)
 
   -- the places of the transpose by columns are those of the matrix by rows, turned
   col_order-transpose : col_order R (plain_transpose R a) ≡ map {B = Triplet} turned (row_order R a)

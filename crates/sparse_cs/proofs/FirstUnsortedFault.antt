@@ -5,7 +5,10 @@ use Rattle.sparse_pattern.specs.Raw.{start_of, end_of, lane_of}
 use Rattle.sparse_pattern.specs.FirstFault.{IsBefore}
 use Rattle.sparse_cs.specs.Compressed.{Compressed}
 use Rattle.sparse_cs.specs.InnerUnsortedFaults.{IsFirstAt}
-use Rattle.sparse_cs.specs.UnsortedFaults.{HasFineCounts, UnsortedSpot, ValueCount, NoOffsets, OffsetCount, FirstLast, LaneFall, LaneEnd, LaneBounds, LaneRepeat, unsorted_rank, HasRepeat, HasUnsortedFault, IsFaultless}
+use Rattle.sparse_cs.specs.UnsortedFaults.{HasFineCounts, UnsortedSpot, ValueCount, NoOffsets}
+use Rattle.sparse_cs.specs.UnsortedFaults.{OffsetCount, FirstLast, LaneFall, LaneEnd, LaneBounds}
+use Rattle.sparse_cs.specs.UnsortedFaults.{LaneRepeat, unsorted_rank, HasRepeat, HasUnsortedFault}
+use Rattle.sparse_cs.specs.UnsortedFaults.{IsFaultless}
 
 -- lane k has no fault
 pub record IsFineLane {T : Type 0} (m : Compressed T) (k : ℕ) : Type 0 where
@@ -31,7 +34,8 @@ module _ {T : Type 0} (m : Compressed T) where
   faultless counts lanes (LaneBounds k) h = not_past _ _ (lanes k h.0).bounded h.1
   faultless counts lanes (LaneRepeat k) h = (lanes k h.0).distinct h.1
 
-  module _ (counts : HasFineCounts m) (i : ℕ) (lane : i < m.pattern.major_dim) (fine : (k : ℕ) → k < i → IsFineLane m k) where
+  module _ (counts : HasFineCounts m) (i : ℕ) (lane : i < m.pattern.major_dim)
+      (fine : (k : ℕ) → k < i → IsFineLane m k) where
     -- no spot before the n-th of lane i has a fault, where those of that lane before it have none
     none_before : (n : ℕ) → n ≤ 3 → (0 < n → start_of m.pattern i ≤ end_of m.pattern i)
         → (1 < n → end_of m.pattern i ≤ length m.pattern.indices)
@@ -40,44 +44,72 @@ module _ {T : Type 0} (m : Compressed T) where
     none_before n top ordered inside bounded ValueCount b h = h counts.values
     none_before n top ordered inside bounded NoOffsets b h = absurd (omega (arith, counts.offsets))
     none_before n top ordered inside bounded OffsetCount b h = h counts.offsets
-    none_before n top ordered inside bounded FirstLast b h = elim h [ inl x ↦ x counts.first | inr x ↦ x counts.last ]
+    none_before n top ordered inside bounded FirstLast b h =
+        elim h [ inl x ↦ x counts.first | inr x ↦ x counts.last ]
     none_before n top ordered inside bounded (LaneFall k) b h = elim (le_cases k i (grind arith)) [
       | inl lt ↦ omega (arith, (fine k lt).ordered, h.1)
-      | inr same ↦ let some : 0 < n = grind arith in omega (arith, rw (← same) at (ordered some), h.1)
+      | inr same ↦ let some : 0 < n = grind arith in omega
+          (arith, rw (← same) at (ordered some), h.1)
     ]
     none_before n top ordered inside bounded (LaneEnd k) b h = elim (le_cases k i (grind arith)) [
       | inl lt ↦ omega (arith, (fine k lt).inside, h.1)
-      | inr same ↦ let some : 1 < n = grind arith in omega (arith, rw (← same) at (inside some), h.1)
+      | inr same ↦ let some : 1 < n = grind arith in omega
+          (arith, rw (← same) at (inside some), h.1)
     ]
-    none_before n top ordered inside bounded (LaneBounds k) b h = elim (le_cases k i (grind arith)) [
-      | inl lt ↦ not_past _ _ (fine k lt).bounded h.1
-      | inr same ↦ let some : 2 < n = grind arith in not_past _ _ (bounded some) (rw same at h.1)
-    ]
-    none_before n top ordered inside bounded (LaneRepeat k) b h = let lt : k < i = grind arith in (fine k lt).distinct h.1
+    none_before n top ordered inside bounded (LaneBounds k) b h =
+        elim (le_cases k i (grind arith)) [
+          | inl lt ↦ not_past _ _ (fine k lt).bounded h.1
+          | inr same ↦ let some : 2 < n = grind arith in not_past _ _ (bounded some)
+              (rw same at h.1)
+        ]
+    none_before n top ordered inside bounded (LaneRepeat k) b h = let lt : k < i =
+        grind arith in (fine k lt).distinct h.1
 
     pub first_fall : end_of m.pattern i < start_of m.pattern i
         → IsFirstAt m (LaneFall i)
-    first_fall bad = record { here = (lane, bad); none_before = none_before 0 (omega arith) (λ h. absurd (omega arith)) (λ h. absurd (omega arith)) (λ h. absurd (omega arith)) }
+    first_fall bad = record {
+      here = (lane, bad);
+      none_before =
+          none_before 0 (omega arith) (λ h. absurd (omega arith)) (λ h. absurd (omega arith))
+          (λ h. absurd (omega arith));
+    }
 
     pub first_end : start_of m.pattern i ≤ end_of m.pattern i
         → length m.pattern.indices < end_of m.pattern i → IsFirstAt m (LaneEnd i)
-    first_end ordered bad = record { here = (lane, bad); none_before = none_before 1 (omega arith) (λ _. ordered) (λ h. absurd (omega arith)) (λ h. absurd (omega arith)) }
+    first_end ordered bad = record {
+      here = (lane, bad);
+      none_before =
+          none_before 1 (omega arith) (λ _. ordered) (λ h. absurd (omega arith))
+          (λ h. absurd (omega arith));
+    }
 
     pub first_bounds : start_of m.pattern i ≤ end_of m.pattern i
         → end_of m.pattern i ≤ length m.pattern.indices
         → Any (λ j. m.pattern.minor_dim ≤ j) (lane_of m.pattern i) → IsFirstAt m (LaneBounds i)
-    first_bounds ordered inside bad = record { here = (lane, bad); none_before = none_before 2 (omega arith) (λ _. ordered) (λ _. inside) (λ h. absurd (omega arith)) }
+    first_bounds ordered inside bad = record {
+      here = (lane, bad);
+      none_before = none_before 2 (omega arith) (λ _. ordered) (λ _. inside)
+          (λ h. absurd (omega arith));
+    }
 
     pub first_repeat : start_of m.pattern i ≤ end_of m.pattern i
         → end_of m.pattern i ≤ length m.pattern.indices
         → All (λ j. j < m.pattern.minor_dim) (lane_of m.pattern i) → HasRepeat (lane_of m.pattern i)
         → IsFirstAt m (LaneRepeat i)
-    first_repeat ordered inside below bad = record { here = (lane, bad); none_before = none_before 3 (omega arith) (λ _. ordered) (λ _. inside) (λ _. below) }
+    first_repeat ordered inside below bad = record {
+      here = (lane, bad);
+      none_before = none_before 3 (omega arith) (λ _. ordered) (λ _. inside)
+          (λ _. below);
+    }
 
   -- the faults of the arrays as a whole
   pub first_value_count : (length m.values ≡ length m.pattern.indices → ⊥)
       → IsFirstAt m ValueCount
-  first_value_count bad = record { here = bad; none_before = λ s b h. absurd (before_value_count s b) }
+  first_value_count bad = record {
+    here = bad;
+    none_before =
+        λ s b h. absurd (before_value_count s b);
+  }
     where
       before_value_count : (s : UnsortedSpot) → IsBefore (unsorted_rank s) (0, 0, 0) → ⊥
       before_value_count s b = grind arith

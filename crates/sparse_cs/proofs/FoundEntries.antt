@@ -1,4 +1,5 @@
--- What a look-up finds, as an entry; and facts beside an assertion, for the walks over calls that lend an entry.
+-- What a look-up finds, as an entry; and facts beside an assertion, for the walks over calls that
+-- lend an entry.
 use mathlib.Core.Path.{◌≡◌, refl}
 use Prim.Native.Nat.{ℕ}
 use seplogic.Ra.Ura.{Ura}
@@ -32,9 +33,15 @@ lane_entry_is l j (Nothing NotStored) is = is
 -- a fact that holds may stand beside what is there
 pub with_fact : {M : Type 1} (𝓤 : Ura M) (φ : Type 0) (P : SProp 𝓤) → φ
     → ent 𝓤 P (sep 𝓤 P (sep 𝓤 (fact 𝓤 φ) (emp 𝓤)))
-with_fact 𝓤 φ P x = via 𝓤 (sep 𝓤 (emp 𝓤) P) (emp∗ 𝓤 P) (via 𝓤 (sep 𝓤 P (emp 𝓤)) (comm∗ 𝓤 (emp 𝓤) P) (mono_r 𝓤 P (via 𝓤 (sep 𝓤 (emp 𝓤) (emp 𝓤)) (emp∗ 𝓤 (emp 𝓤)) (mono_l 𝓤 (emp 𝓤) (fact_i 𝓤 φ (emp 𝓤) x)))))
+with_fact 𝓤 φ P x = via 𝓤 (sep 𝓤 (emp 𝓤) P) (emp∗ 𝓤 P)
+    (via 𝓤 (sep 𝓤 P (emp 𝓤)) (comm∗ 𝓤 (emp 𝓤) P)
+    (mono_r 𝓤 P (via 𝓤 (sep 𝓤 (emp 𝓤) (emp 𝓤)) (emp∗ 𝓤 (emp 𝓤))
+    (mono_l 𝓤 (emp 𝓤) (fact_i 𝓤 φ (emp 𝓤) x)))))
 
 pub with_facts : {M : Type 1} (𝓤 : Ura M) (φ ψ : Type 0) (P : SProp 𝓤) → φ → ψ
     → ent 𝓤 P (sep 𝓤 P (sep 𝓤 (fact 𝓤 φ) (fact 𝓤 ψ)))
-with_facts 𝓤 φ ψ P x y = via 𝓤 (sep 𝓤 (emp 𝓤) P) (emp∗ 𝓤 P) (via 𝓤 (sep 𝓤 (fact 𝓤 ψ) P) (mono_l 𝓤 P (fact_i 𝓤 ψ (emp 𝓤) y)) (via 𝓤 (sep 𝓤 P (fact 𝓤 ψ)) (comm∗ 𝓤 (fact 𝓤 ψ) P)
-    (mono_r 𝓤 P (via 𝓤 (sep 𝓤 (emp 𝓤) (fact 𝓤 ψ)) (emp∗ 𝓤 (fact 𝓤 ψ)) (mono_l 𝓤 (fact 𝓤 ψ) (fact_i 𝓤 φ (emp 𝓤) x))))))
+with_facts 𝓤 φ ψ P x y = via 𝓤 (sep 𝓤 (emp 𝓤) P) (emp∗ 𝓤 P)
+    (via 𝓤 (sep 𝓤 (fact 𝓤 ψ) P) (mono_l 𝓤 P (fact_i 𝓤 ψ (emp 𝓤) y))
+    (via 𝓤 (sep 𝓤 P (fact 𝓤 ψ)) (comm∗ 𝓤 (fact 𝓤 ψ) P)
+    (mono_r 𝓤 P (via 𝓤 (sep 𝓤 (emp 𝓤) (fact 𝓤 ψ)) (emp∗ 𝓤 (fact 𝓤 ψ))
+    (mono_l 𝓤 (fact 𝓤 ψ) (fact_i 𝓤 φ (emp 𝓤) x))))))

@@ -1,5 +1,6 @@
 -- Keeping triplets by a test of their pair, in plain matrices.
-use Rattle.std.proofs.Common.{◌≡◌, ℕ, inl, inr, Bool, true, false, ◌&&◌, cond, List, [], ◌∷◌, map, ap, sym, ◌∙◌, refl}
+use Rattle.std.proofs.Common.{◌≡◌, ℕ, inl, inr, Bool, true, false, ◌&&◌, cond, List, [], ◌∷◌, map}
+use Rattle.std.proofs.Common.{ap, sym, ◌∙◌, refl}
 use Rattle.std.specs.List.{filter, list_any}
 use Rattle.std.proofs.lemmas.Map.Views.{any-filter_same}
 use Rattle.sparse_lemmas.proofs.Cases.{and_both, true_or_false}
@@ -25,10 +26,13 @@ no_and false c e = refl
 filter-turned : {T : Type 0} (test : ℕ × ℕ × T → Bool) (ts : List (ℕ × ℕ × T))
     → map turned (filter test (map turned ts)) ≡ filter (λ t. test (turned t)) ts
 filter-turned test [] = refl
-filter-turned test (t ∷ ts) = chosen (test (turned t)) ∙ ap (λ us. cond (test (turned t)) (t ∷ us) us) (filter-turned test ts)
+filter-turned test (t ∷ ts) = chosen (test (turned t))
+    ∙ ap (λ us. cond (test (turned t)) (t ∷ us) us) (filter-turned test ts)
   where
     chosen : (b : Bool)
-        → map turned (cond b (turned t ∷ filter test (map turned ts)) (filter test (map turned ts))) ≡ cond b (t ∷ map turned (filter test (map turned ts))) (map turned (filter test (map turned ts)))
+        → map turned (cond b (turned t ∷ filter test (map turned ts)) (filter test (map turned ts)))
+        ≡ cond b (t ∷ map turned (filter test (map turned ts)))
+        (map turned (filter test (map turned ts)))
     chosen true = refl
     chosen false = refl
 
@@ -45,7 +49,8 @@ module _ (R : CommRing) {T : Type 0} (f : T → R.Carrier) (test : ℕ → ℕ �
 
   has_kept : (i j : ℕ) (ts : List (ℕ × ℕ × T))
       → list_any (is_at i j) (filter passes ts) ≡ (list_any (is_at i j) ts && test i j)
-  has_kept i j ts = any-filter_same (is_at i j) passes (test i j) (passes_at i j) ts ∙ and_comm (test i j) (list_any (is_at i j) ts)
+  has_kept i j ts = any-filter_same (is_at i j) passes (test i j) (passes_at i j) ts
+      ∙ and_comm (test i j) (list_any (is_at i j) ts)
 
   -- at a pair that passes, nothing that is added is dropped
   sum_kept : (i j : ℕ) (ts : List (ℕ × ℕ × T)) → test i j ≡ true
@@ -54,38 +59,50 @@ module _ (R : CommRing) {T : Type 0} (f : T → R.Carrier) (test : ℕ → ℕ �
   sum_kept i j (t ∷ ts) pass = chosen (sum_kept i j ts pass) (passes t) refl
     where
       missed : passes t ≡ false → is_at i j t ≡ false
-      missed e = elim (true_or_false (is_at i j t)) [ inl hit ↦ let at = passes_at i j t hit in cc | inr miss ↦ miss ]
+      missed e = elim (true_or_false (is_at i j t))
+          [ inl hit ↦ let at = passes_at i j t hit in cc | inr miss ↦ miss ]
 
       chosen : value_at R f (filter passes ts) i j ≡ value_at R f ts i j → (b : Bool) → passes t ≡ b
-          → value_at R f (cond b (t ∷ filter passes ts) (filter passes ts)) i j ≡ value_at R f (t ∷ ts) i j
+          → value_at R f (cond b (t ∷ filter passes ts) (filter passes ts)) i j ≡ value_at R f
+          (t ∷ ts) i j
       chosen rest true e = ap (R.add (where_true R (is_at i j t) (f t.2))) rest
-      chosen rest false e = rest ∙ sym (zero_add R (value_at R f ts i j)) ∙ sym (ap (λ c. R.add c (value_at R f ts i j)) (where_no R f (is_at i j t) (f t.2) (missed e)))
+      chosen rest false e = rest ∙ sym (zero_add R (value_at R f ts i j))
+          ∙ sym (ap (λ c. R.add c (value_at R f ts i j))
+          (where_no R f (is_at i j t) (f t.2) (missed e)))
 
   value_kept : (i j : ℕ) (ts : List (ℕ × ℕ × T))
-      → value_at R f (filter passes ts) i j ≡ where_true R (list_any (is_at i j) ts && test i j) (value_at R f ts i j)
+      → value_at R f (filter passes ts) i j ≡ where_true R (list_any (is_at i j) ts && test i j)
+      (value_at R f ts i j)
   value_kept i j ts = elim (true_or_false (test i j)) [
     | inl pass ↦ elim (true_or_false (list_any (is_at i j) ts)) [
-      | inl some ↦ sum_kept i j ts pass ∙ sym (where_yes R f _ _ (and_both (list_any (is_at i j) ts) (test i j) some pass))
-      | inr none ↦ sum_kept i j ts pass ∙ unnamed R f i j ts none ∙ sym (where_no R f _ _ (no_and (list_any (is_at i j) ts) (test i j) none))
+      | inl some ↦ sum_kept i j ts pass
+          ∙ sym (where_yes R f _ _ (and_both (list_any (is_at i j) ts) (test i j) some pass))
+      | inr none ↦ sum_kept i j ts pass ∙ unnamed R f i j ts none
+          ∙ sym (where_no R f _ _ (no_and (list_any (is_at i j) ts) (test i j) none))
     ]
     | inr fails ↦
         let outside = and_no (list_any (is_at i j) ts) (test i j) fails in
-        unnamed R f i j (filter passes ts) (has_kept i j ts ∙ outside) ∙ sym (where_no R f _ _ outside)
+        unnamed R f i j (filter passes ts) (has_kept i j ts ∙ outside)
+        ∙ sym (where_no R f _ _ outside)
   ]
 
   -- the rows that are kept
   pub kept_rows : (m n : Compressed T) → HasSizesOf m n
       → lane_triplets n ≡ filter passes (lane_triplets m)
       → plain_of_rows R f n ≡ plain_kept R test (plain_of_rows R f m)
-  kept_rows m n sizes kept = same_plain (plain_of_rows R f n) (plain_kept R test (plain_of_rows R f m)) sizes.major_dim sizes.minor_dim
+  kept_rows m n sizes kept = same_plain (plain_of_rows R f n)
+      (plain_kept R test (plain_of_rows R f m)) sizes.major_dim sizes.minor_dim
       (λ i j. ap (λ ts. list_any (is_at i j) ts) kept ∙ has_kept i j (lane_triplets m))
       (λ i j. ap (λ ts. value_at R f ts i j) kept ∙ value_kept i j (lane_triplets m))
 
 -- the columns that are kept
-pub kept_cols : (R : CommRing) {T : Type 0} (f : T → R.Carrier) (test : ℕ → ℕ → Bool) (m n : Compressed T)
+pub kept_cols : (R : CommRing) {T : Type 0} (f : T → R.Carrier) (test : ℕ → ℕ → Bool)
+    (m n : Compressed T)
     → HasSizesOf m n
     → map turned (lane_triplets n) ≡ filter (λ t. test t.0 t.1) (map turned (lane_triplets m))
     → plain_of_cols R f n ≡ plain_kept R test (plain_of_cols R f m)
 kept_cols R f test m n sizes kept =
-    let lanes : lane_triplets n ≡ filter (λ t. test t.1 t.0) (lane_triplets m) = sym (turned_twice (lane_triplets n)) ∙ ap (map turned) kept ∙ filter-turned (λ t. test t.0 t.1) (lane_triplets m) in
+    let lanes : lane_triplets n ≡ filter (λ t. test t.1 t.0) (lane_triplets m) =
+    sym (turned_twice (lane_triplets n)) ∙ ap (map turned) kept
+    ∙ filter-turned (λ t. test t.0 t.1) (lane_triplets m) in
     ap (plain_transpose R) (kept_rows R f (λ i j. test j i) m n sizes lanes)

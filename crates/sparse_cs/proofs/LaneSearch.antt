@@ -1,5 +1,7 @@
 -- The search for an index in a lane.
-use Rattle.std.proofs.Common.{◌≡◌, ℕ, ◌+◌, ◌-◌, ◌<◌, ◌≤◌, ◌⊎◌, inl, inr, ◌↔◌, List, [], length, get_or, take, drop, Option, Some, None, Result, Ok, Err, ap, sym, ◌∙◌, refl, arith}
+use Rattle.std.proofs.Common.{◌≡◌, ℕ, ◌+◌, ◌-◌, ◌<◌, ◌≤◌, ◌⊎◌, inl, inr, ◌↔◌, List, [], length}
+use Rattle.std.proofs.Common.{get_or, take, drop, Option, Some, None, Result, Ok, Err, ap, sym, ◌∙◌}
+use Rattle.std.proofs.Common.{refl, arith}
 use Rattle.std.specs.Prelude.{◌==◌, position, option_map}
 use Rattle.std.specs.List.Sorted.{IsBinarySearchResult, IsStrictlyIncreasing}
 use Rattle.std.specs.Ordering.{nat_cmp}
@@ -30,7 +32,9 @@ not_falling xs rising a b le within = grind (arith, AllPairs-from_increasing xs 
 pub position_at : (xs : List ℕ) (j k : ℕ) → IsStrictlyIncreasing xs → k < length xs
     → get_or xs k 0 ≡ j → position (λ x. x == j) xs ≡ Some k
 position_at xs j k rising within is =
-    let here = position_or_len_is (λ x. x == j) xs k 0 (omega arith) (λ l lt. grind (arith, nat_tests, AllPairs-from_increasing xs rising l k 0)) (λ lt. grind (arith, nat_tests)) in
+    let here = position_or_len_is (λ x. x == j) xs k 0 (omega arith)
+    (λ l lt. grind (arith, nat_tests, AllPairs-from_increasing xs rising l k 0))
+    (λ lt. grind (arith, nat_tests)) in
     grind (arith, common_steps, nat_tests, here)
 
 -- a binary search in rising indices finds the position
@@ -41,7 +45,8 @@ search_is_position xs j (Ok k) rising is =
     sym (position_at xs j k rising at.0 at.1)
 search_is_position xs j (Err k) rising is =
     let gap = searched xs j (Err k) is (not_falling xs rising) in
-    let past = position_or_len_is (λ x. x == j) xs (length xs) 0 (omega arith) (λ l lt. grind (arith, nat_tests, gap.1 l, gap.2 l)) (λ lt. absurd (omega arith)) in
+    let past = position_or_len_is (λ x. x == j) xs (length xs) 0 (omega arith)
+    (λ l lt. grind (arith, nat_tests, gap.1 l, gap.2 l)) (λ lt. absurd (omega arith)) in
     grind (arith, common_steps, nat_tests, past)
 
 none_or_some : {X : Type 0} (o : Option X) → (o ≡ None) ⊎ ((x : X) × (o ≡ Some x))
@@ -61,10 +66,12 @@ module _ (d : Raw) (valid : IsValid d) (i j p : ℕ) where
   place_of-position at =
       let lane = valid.lanes i at.0.lane in
       let k = p - start_of d i in
-      let within : k < length (lane_of d i) = omega (arith, length-lane d i lane, at.0.from, at.0.to) in
+      let within : k < length (lane_of d i) = omega
+      (arith, length-lane d i lane, at.0.from, at.0.to) in
       let back : start_of d i + k ≡ p = omega (arith, at.0.from) in
       let is : get_or (lane_of d i) k 0 ≡ j = get_or-lane d i lane k within ∙ rw back at.1 in
-      ap (option_map (λ k. start_of d i + k)) (position_at (lane_of d i) j k (rising_lane d i lane) within is) ∙ ap Some back
+      ap (option_map (λ k. start_of d i + k)) (position_at (lane_of d i) j k (rising_lane d i lane)
+      within is) ∙ ap Some back
 
   position-place_of : place_of d i j ≡ Some p → IsPosition d i j p
   position-place_of found = elim (lt_or_ge i d.major_dim) [
@@ -72,13 +79,22 @@ module _ (d : Raw) (valid : IsValid d) (i j p : ℕ) where
     | inl inside ↦
         let lane = valid.lanes i inside in
         elim (none_or_some (position (λ x. x == j) (lane_of d i))) [
-          | inl none ↦ absurd (none-some p (sym (ap (option_map (λ k. start_of d i + k)) none) ∙ found))
+          | inl none ↦ absurd (none-some p (sym (ap (option_map (λ k. start_of d i + k)) none)
+              ∙ found))
           | inr some ↦
               let at = position-Some (λ x. x == j) (lane_of d i) some.0 0 some.1 in
-              let is : start_of d i + some.0 ≡ p = same_Some _ _ (sym (ap (option_map (λ k. start_of d i + k)) some.1) ∙ found) in
+              let is : start_of d i + some.0 ≡ p = same_Some _ _
+              (sym (ap (option_map (λ k. start_of d i + k)) some.1) ∙ found) in
               let index : get_or (lane_of d i) some.0 0 ≡ j = grind (arith, nat_tests, at) in
-              let index' = sym (get_or-lane d i lane some.0 at.0) ∙ index in
-              (record { lane = inside; from = omega arith; to = omega (arith, length-lane d i lane, at.0) }, rw (sym is) index')
+              let index' = sym (get_or-lane d i lane some.0 at.0) ∙ index in (
+                record {
+                  lane = inside;
+                  from = omega arith;
+                  to =
+                      omega (arith, length-lane d i lane, at.0);
+                },
+                rw (sym is) index',
+              )
         ]
   ]
 

@@ -1,5 +1,7 @@
 -- The values of a lane, and sums over a lane.
-use Rattle.std.proofs.Common.{◌≡◌, ◌≢◌, ℕ, zero, suc, ◌+◌, ◌-◌, ◌<◌, inl, inr, Bool, true, false, List, [], ◌∷◌, length, get_or, take, slice_range, All, Contains, ap, sym, subst, ◌∙◌, refl, arith}
+use Rattle.std.proofs.Common.{◌≡◌, ◌≢◌, ℕ, zero, suc, ◌+◌, ◌-◌, ◌<◌, inl, inr, Bool, true, false}
+use Rattle.std.proofs.Common.{List, [], ◌∷◌, length, get_or, take, slice_range, All, Contains, ap}
+use Rattle.std.proofs.Common.{sym, subst, ◌∙◌, refl, arith}
 use Rattle.std.specs.Prelude.{nat_eq, zip}
 use Rattle.std.specs.List.{list_any}
 use Rattle.std.proofs.lemmas.Bool.{cases_eq}
@@ -34,7 +36,8 @@ module _ (R : CommRing) {T : Type 0} (f : T → R.Carrier) where
   lane_value_none j [] vs none = refl
   lane_value_none j (k ∷ ks) [] none = refl
   lane_value_none j (k ∷ ks) (v ∷ vs) none =
-      ap (λ c. R.add c (lane_value R f ks vs j)) (no k j (f v) (none 0 (omega arith))) ∙ zero_add R _ ∙ lane_value_none j ks vs (λ q lt. none (suc q) (omega arith))
+      ap (λ c. R.add c (lane_value R f ks vs j)) (no k j (f v) (none 0 (omega arith)))
+      ∙ zero_add R _ ∙ lane_value_none j ks vs (λ q lt. none (suc q) (omega arith))
 
   -- where one position alone has the index
   lane_value_at : (z : T) (j q : ℕ) (ks : List ℕ) (vs : List T) → length vs ≡ length ks
@@ -44,49 +47,70 @@ module _ (R : CommRing) {T : Type 0} (f : T → R.Carrier) where
   lane_value_at z j q (k ∷ ks) [] long lt is only = absurd (omega arith)
   lane_value_at z j zero (k ∷ ks) (v ∷ vs) long lt is only =
       ap (λ c. R.add c (lane_value R f ks vs j)) (yes k j (f v) is)
-      ∙ ap (R.add (f v)) (lane_value_none j ks vs (λ r r_lt e. omega (arith, only (suc r) (omega arith) e))) ∙ R.laws.add_zero (f v)
+      ∙ ap (R.add (f v)) (lane_value_none j ks vs
+      (λ r r_lt e. omega (arith, only (suc r) (omega arith) e))) ∙ R.laws.add_zero (f v)
   lane_value_at z j (suc q) (k ∷ ks) (v ∷ vs) long lt is only =
-      ap (λ c. R.add c (lane_value R f ks vs j)) (no k j (f v) (λ e. omega (arith, only 0 (omega arith) e))) ∙ zero_add R _
-      ∙ lane_value_at z j q ks vs (omega arith) (omega arith) is (λ r r_lt e. omega (arith, only (suc r) (omega arith) e))
+      ap (λ c. R.add c (lane_value R f ks vs j))
+      (no k j (f v) (λ e. omega (arith, only 0 (omega arith) e))) ∙ zero_add R _
+      ∙ lane_value_at z j q ks vs (omega arith) (omega arith) is
+      (λ r r_lt e. omega (arith, only (suc r) (omega arith) e))
 
 -- the values of lane i
 abbrev pub values_of : {T : Type 0} → Compressed T → ℕ → List T
 values_of m i = slice_range m.values (start_of m.pattern i) (end_of m.pattern i)
 
-module _ (R : CommRing) {T : Type 0} (f : T → R.Carrier) (z : T) (m : Compressed T) (sound : IsSound m) (i : ℕ) (lane : i < m.pattern.major_dim) where
+module _ (R : CommRing) {T : Type 0} (f : T → R.Carrier) (z : T) (m : Compressed T)
+    (sound : IsSound m) (i : ℕ) (lane : i < m.pattern.major_dim) where
   d : Raw
   d = m.pattern
 
   pub length-values : length (values_of m i) ≡ length (lane_of m.pattern i)
-  length-values = length-between _ _ _ (omega (arith, (sound.valid.lanes i lane).inside, sound.count)) ∙ sym (length-lane m.pattern i (sound.valid.lanes i lane))
+  length-values =
+      length-between _ _ _ (omega (arith, (sound.valid.lanes i lane).inside, sound.count))
+      ∙ sym (length-lane m.pattern i (sound.valid.lanes i lane))
 
   -- the value of a lane given as lists is the matrix's
   pub lane_value_is : (j : ℕ)
       → lane_value R f (lane_of m.pattern i) (values_of m i) j ≡ (plain_of_rows R f m).value i j
-  lane_value_is j = elim (true_or_false (list_any (is_at i j) (zip_values (entries_of m.pattern) m.values))) [
-    | inl hit ↦
-        let place = (has_is_place R f m.pattern sound.valid m.values sound.count i j).0 hit in
-        let valid = sound.valid.lanes i lane in
-        let q = place.at - start_of m.pattern i in
-        let within : q < length (lane_of m.pattern i) = omega (arith, length-lane m.pattern i valid, place.in_lane.from, place.in_lane.to) in
-        let back : start_of m.pattern i + q ≡ place.at = omega (arith, place.in_lane.from) in
-        let there : get_or (lane_of m.pattern i) q 0 ≡ j = get_or-lane m.pattern i valid q within ∙ ap (λ p. get_or m.pattern.indices p 0) back ∙ place.index in
-        let only : (r : ℕ) → r < length (lane_of m.pattern i) → get_or (lane_of m.pattern i) r 0 ≡ j → r ≡ q = λ r r_lt e. elim (three r q) [
-          | inl lt ↦ absurd (omega (arith, lane_rises m.pattern i valid r q lt within))
-          | inr more ↦ elim more [
-            | inl gt ↦ absurd (omega (arith, lane_rises m.pattern i valid q r gt r_lt))
-            | inr same ↦ same
-          ]
-        ] in
-        let value : get_or (values_of m i) q z ≡ get_or m.values place.at z = get_or-between m.values (start_of m.pattern i) (end_of m.pattern i) q z (omega (arith, place.in_lane.to)) ∙ ap (λ p. get_or m.values p z) back in
-        lane_value_at R f z j q (lane_of m.pattern i) (values_of m i) length-values within there only ∙ ap f value ∙ sym (value_at_position R f m.pattern sound.valid m.values sound.count z i j place.at (place.in_lane, place.index))
-    | inr miss ↦
-        let none : (q : ℕ) → q < length (lane_of m.pattern i) → get_or (lane_of m.pattern i) q 0 ≢ j = λ q lt e.
-        let place = (lane_has m.pattern sound.valid i j lane).0 (subst (λ j. Contains (lane_of m.pattern i) j) e (Contains-get_or (lane_of m.pattern i) q 0 lt)) in
-        let hit = (has_is_place R f m.pattern sound.valid m.values sound.count i j).1 place in
-        cc in
-        lane_value_none R f j (lane_of m.pattern i) (values_of m i) none ∙ sym (unnamed R f i j (zip_values (entries_of m.pattern) m.values) miss)
-  ]
+  lane_value_is j =
+      elim (true_or_false (list_any (is_at i j) (zip_values (entries_of m.pattern) m.values))) [
+        | inl hit ↦
+            let place = (has_is_place R f m.pattern sound.valid m.values sound.count i j).0 hit in
+            let valid = sound.valid.lanes i lane in
+            let q = place.at - start_of m.pattern i in
+            let within : q < length (lane_of m.pattern i) =
+            omega (arith, length-lane m.pattern i valid, place.in_lane.from, place.in_lane.to) in
+            let back : start_of m.pattern i + q ≡ place.at = omega (arith, place.in_lane.from) in
+            let there : get_or (lane_of m.pattern i) q 0 ≡ j =
+            get_or-lane m.pattern i valid q within
+            ∙ ap (λ p. get_or m.pattern.indices p 0) back ∙ place.index in
+            let only : (r : ℕ) → r < length (lane_of m.pattern i)
+            → get_or (lane_of m.pattern i) r 0 ≡ j
+            → r ≡ q = λ r r_lt e. elim (three r q) [
+              | inl lt ↦ absurd (omega (arith, lane_rises m.pattern i valid r q lt within))
+              | inr more ↦ elim more [
+                | inl gt ↦ absurd (omega (arith, lane_rises m.pattern i valid q r gt r_lt))
+                | inr same ↦ same
+              ]
+            ] in
+            let value : get_or (values_of m i) q z ≡ get_or m.values place.at z =
+            get_or-between m.values (start_of m.pattern i) (end_of m.pattern i) q z
+            (omega (arith, place.in_lane.to)) ∙ ap (λ p. get_or m.values p z) back in
+            lane_value_at R f z j q (lane_of m.pattern i) (values_of m i) length-values within there
+            only ∙ ap f value ∙ sym (value_at_position R f m.pattern sound.valid m.values
+            sound.count
+            z i j place.at (place.in_lane, place.index))
+        | inr miss ↦
+            let none : (q : ℕ) → q < length (lane_of m.pattern i)
+            → get_or (lane_of m.pattern i) q 0 ≢ j = λ q lt e.
+            let place = (lane_has m.pattern sound.valid i j lane).0
+            (subst (λ j. Contains (lane_of m.pattern i) j) e
+            (Contains-get_or (lane_of m.pattern i) q 0 lt)) in
+            let hit = (has_is_place R f m.pattern sound.valid m.values sound.count i j).1 place in
+            cc in
+            lane_value_none R f j (lane_of m.pattern i) (values_of m i) none
+            ∙ sym (unnamed R f i j (zip_values (entries_of m.pattern) m.values) miss)
+      ]
 
 module _ (R : CommRing) {T : Type 0} (f : T → R.Carrier) where
   pick : (n k : ℕ) (h : ℕ → R.Carrier) → k < n
@@ -94,12 +118,17 @@ module _ (R : CommRing) {T : Type 0} (f : T → R.Carrier) where
   pick zero k h lt = absurd (omega arith)
   pick (suc n) k h lt = elim (cases_eq k n) [
     | inl same ↦
-        ap (λ c. R.add c (where_true R (nat_eq k n) (h n))) (sum_below-same R n _ (λ _. R.zero) (λ l l_lt. no R f k l (h l) (omega arith)) ∙ sum_below-zero R n) ∙ zero_add R _ ∙ yes R f k n (h n) same ∙ ap h (sym same)
-    | inr differs ↦ ap (R.add (sum_below R n (λ l. where_true R (nat_eq k l) (h l)))) (no R f k n (h n) differs) ∙ R.laws.add_zero _ ∙ pick n k h (omega arith)
+        ap (λ c. R.add c (where_true R (nat_eq k n) (h n)))
+        (sum_below-same R n _ (λ _. R.zero) (λ l l_lt. no R f k l (h l) (omega arith))
+        ∙ sum_below-zero R n) ∙ zero_add R _ ∙ yes R f k n (h n) same ∙ ap h (sym same)
+    | inr differs ↦ ap (R.add (sum_below R n (λ l. where_true R (nat_eq k l) (h l))))
+        (no R f k n (h n) differs) ∙ R.laws.add_zero _ ∙ pick n k h (omega arith)
   ]
 
   spread : (a b c : R.Carrier) → R.mul (R.add a b) c ≡ R.add (R.mul a c) (R.mul b c)
-  spread a b c = R.laws.mul_comm (R.add a b) c ∙ R.laws.distrib c a b ∙ ap (λ x. R.add x (R.mul c b)) (R.laws.mul_comm c a) ∙ ap (R.add (R.mul a c)) (R.laws.mul_comm c b)
+  spread a b c = R.laws.mul_comm (R.add a b) c ∙ R.laws.distrib c a b
+      ∙ ap (λ x. R.add x (R.mul c b)) (R.laws.mul_comm c a)
+      ∙ ap (R.add (R.mul a c)) (R.laws.mul_comm c b)
 
   scaled : (b : Bool) (c x : R.Carrier) → R.mul (where_true R b c) x ≡ where_true R b (R.mul c x)
   scaled true c x = refl
@@ -108,41 +137,61 @@ module _ (R : CommRing) {T : Type 0} (f : T → R.Carrier) where
   -- the sum over all k below n is the sum over the lane
   pub product_by_lane : (n : ℕ) (g : ℕ → R.Carrier) (ks : List ℕ) (vs : List T)
       → All (λ k. k < n) ks
-      → sum_below R n (λ k. R.mul (lane_value R f ks vs k) (g k)) ≡ sum_by R (λ t. R.mul (f t.1) (g t.0)) (zip ks vs)
+      → sum_below R n (λ k. R.mul (lane_value R f ks vs k) (g k)) ≡ sum_by R
+      (λ t. R.mul (f t.1) (g t.0)) (zip ks vs)
   product_by_lane n g [] vs within = zeros n g
     where
       zeros : (n : ℕ) (g : ℕ → R.Carrier) → sum_below R n (λ k. R.mul R.zero (g k)) ≡ R.zero
-      zeros n g = sum_below-same R n _ (λ _. R.zero) (λ k _. R.laws.mul_comm R.zero (g k) ∙ mul_zero R (g k)) ∙ sum_below-zero R n
-  product_by_lane n g (k ∷ ks) [] within = sum_below-same R n _ (λ _. R.zero) (λ k _. R.laws.mul_comm R.zero (g k) ∙ mul_zero R (g k)) ∙ sum_below-zero R n
+      zeros n g = sum_below-same R n _ (λ _. R.zero)
+          (λ k _. R.laws.mul_comm R.zero (g k) ∙ mul_zero R (g k)) ∙ sum_below-zero R n
+  product_by_lane n g (k ∷ ks) [] within = sum_below-same R n _ (λ _. R.zero)
+      (λ k _. R.laws.mul_comm R.zero (g k) ∙ mul_zero R (g k)) ∙ sum_below-zero R n
   product_by_lane n g (k ∷ ks) (v ∷ vs) within =
-      sum_below-same R n _ (λ l. R.add (where_true R (nat_eq k l) (R.mul (f v) (g l))) (R.mul (lane_value R f ks vs l) (g l))) (λ l _. spread (where_true R (nat_eq k l) (f v)) (lane_value R f ks vs l) (g l) ∙ ap (λ c. R.add c (R.mul (lane_value R f ks vs l) (g l))) (scaled (nat_eq k l) (f v) (g l)))
-      ∙ sum_below-add R n (λ l. where_true R (nat_eq k l) (R.mul (f v) (g l))) (λ l. R.mul (lane_value R f ks vs l) (g l))
-      ∙ ap (λ c. R.add c (sum_below R n (λ l. R.mul (lane_value R f ks vs l) (g l)))) (pick n k (λ l. R.mul (f v) (g l)) (within 0 0 (omega arith)))
-      ∙ ap (R.add (R.mul (f v) (g k))) (product_by_lane n g ks vs (λ q d lt. within (suc q) d (omega arith)))
+      sum_below-same R n _ (λ l. R.add (where_true R (nat_eq k l) (R.mul (f v) (g l)))
+      (R.mul (lane_value R f ks vs l) (g l))) (λ l _. spread (where_true R (nat_eq k l) (f v))
+      (lane_value R f ks vs l) (g l) ∙ ap (λ c. R.add c (R.mul (lane_value R f ks vs l) (g l)))
+      (scaled (nat_eq k l) (f v) (g l)))
+      ∙ sum_below-add R n (λ l. where_true R (nat_eq k l) (R.mul (f v) (g l)))
+      (λ l. R.mul (lane_value R f ks vs l) (g l))
+      ∙ ap (λ c. R.add c (sum_below R n (λ l. R.mul (lane_value R f ks vs l) (g l))))
+      (pick n k (λ l. R.mul (f v) (g l)) (within 0 0 (omega arith)))
+      ∙ ap (R.add (R.mul (f v) (g k))) (product_by_lane n g ks vs
+      (λ q d lt. within (suc q) d (omega arith)))
 
 module _ (R : CommRing) {T : Type 0} (f : T → R.Carrier) (z : T) where
   -- one matrix row more, added into the row
   pub row_step : (b : ℕ → ℕ → R.Carrier) (ks : List ℕ) (vs row start new : List T) (n k : ℕ) (v : T)
       → n < length ks → n < length vs → k ≡ get_or ks n k → v ≡ get_or vs n v
-      → ((j : ℕ) → j < length row → f (get_or new j z) ≡ R.add (f (get_or row j z)) (R.mul (f v) (b k j)))
-      → ((j : ℕ) → j < length row → f (get_or row j z) ≡ R.add (f (get_or start j z)) (sum_by R (λ t. R.mul (f t.1) (b t.0 j)) (zip (take n ks) (take n vs))))
+      → ((j : ℕ) → j < length row → f (get_or new j z) ≡ R.add (f (get_or row j z))
+      (R.mul (f v) (b k j)))
+      → ((j : ℕ) → j < length row → f (get_or row j z) ≡ R.add (f (get_or start j z))
+      (sum_by R (λ t. R.mul (f t.1) (b t.0 j)) (zip (take n ks) (take n vs))))
       → (j : ℕ) → j < length row
-      → f (get_or new j z) ≡ R.add (f (get_or start j z)) (sum_by R (λ t. R.mul (f t.1) (b t.0 j)) (zip (take (n + 1) ks) (take (n + 1) vs)))
+      → f (get_or new j z) ≡ R.add (f (get_or start j z))
+      (sum_by R (λ t. R.mul (f t.1) (b t.0 j)) (zip (take (n + 1) ks) (take (n + 1) vs)))
   row_step b ks vs row start new n k v lt lt' is is' added so_far j j_lt =
       let term = λ (t : ℕ × T). R.mul (f t.1) (b t.0 j) in
-      added j j_lt ∙ ap (λ x. R.add x (R.mul (f v) (b k j))) (so_far j j_lt) ∙ R.laws.add_assoc _ _ _ ∙ ap (R.add (f (get_or start j z))) (sym (sum_zip_more R term ks vs n k v lt lt' is is'))
+      added j j_lt ∙ ap (λ x. R.add x (R.mul (f v) (b k j))) (so_far j j_lt)
+      ∙ R.laws.add_assoc _ _ _ ∙ ap (R.add (f (get_or start j z)))
+      (sym (sum_zip_more R term ks vs n k v lt lt' is is'))
 
   -- the sum over row i of a matrix is the sum over all k below its width
   pub row_sum : (a : Compressed T) → IsSound a → (i : ℕ) → i < a.pattern.major_dim
       → (b : ℕ → R.Carrier)
-      → sum_by R (λ t. R.mul (f t.1) (b t.0)) (zip (lane_of a.pattern i) (values_of a i)) ≡ sum_below R a.pattern.minor_dim (λ k. R.mul ((plain_of_rows R f a).value i k) (b k))
+      → sum_by R (λ t. R.mul (f t.1) (b t.0)) (zip (lane_of a.pattern i) (values_of a i))
+      ≡ sum_below R a.pattern.minor_dim (λ k. R.mul ((plain_of_rows R f a).value i k) (b k))
   row_sum a sound i lane b =
-      let within : All (λ k. k < a.pattern.minor_dim) (lane_of a.pattern i) = λ q d lt. rw (get_or_default (lane_of a.pattern i) q d 0 lt) (lane_within a sound i lane q lt) in
-      sym (product_by_lane R f a.pattern.minor_dim b (lane_of a.pattern i) (values_of a i) within) ∙ sum_below-same R a.pattern.minor_dim _ _ (λ k _. ap (λ x. R.mul x (b k)) (lane_value_is R f z a sound i lane k))
+      let within : All (λ k. k < a.pattern.minor_dim) (lane_of a.pattern i) =
+      λ q d lt. rw (get_or_default (lane_of a.pattern i) q d 0 lt)
+      (lane_within a sound i lane q lt) in
+      sym (product_by_lane R f a.pattern.minor_dim b (lane_of a.pattern i) (values_of a i) within)
+      ∙ sum_below-same R a.pattern.minor_dim _ _
+      (λ k _. ap (λ x. R.mul x (b k)) (lane_value_is R f z a sound i lane k))
     where
       lane_within : (a : Compressed T) → IsSound a → (i : ℕ) → i < a.pattern.major_dim → (q : ℕ)
           → q < length (lane_of a.pattern i)
           → get_or (lane_of a.pattern i) q 0 < a.pattern.minor_dim
       lane_within a sound i lane q lt =
           let valid = sound.valid.lanes i lane in
-          rw (get_or-lane a.pattern i valid q lt) (valid.bounded (start_of a.pattern i + q) (omega arith) (omega (arith, length-lane a.pattern i valid)))
+          rw (get_or-lane a.pattern i valid q lt) (valid.bounded (start_of a.pattern i + q)
+          (omega arith) (omega (arith, length-lane a.pattern i valid)))

@@ -1,5 +1,6 @@
 -- Transposes: their values by positions, as plain matrices, and one after another.
-use Rattle.std.proofs.Common.{◌≡◌, ℕ, ◌<◌, List, length, get_or, slice_get, slice_index, refl, ap, sym, ◌∙◌, subst, arith}
+use Rattle.std.proofs.Common.{◌≡◌, ℕ, ◌<◌, List, length, get_or, slice_get, slice_index, refl, ap}
+use Rattle.std.proofs.Common.{sym, ◌∙◌, subst, arith}
 use Rattle.std.specs.Prelude.{unwrap_or}
 use Rattle.std.proofs.lemmas.List.{same_lists}
 use Rattle.std.proofs.lemmas.Option.{unwrap_or-slice_get}
@@ -26,7 +27,8 @@ module _ {T : Type 0} where
   -- lists that have the same element at a position
   same_read : (xs ys : List T) (p q : ℕ) (z : T) → slice_get xs p ≡ slice_get ys q
       → get_or xs p z ≡ get_or ys q z
-  same_read xs ys p q z same = sym (unwrap_or-slice_get xs p z) ∙ ap (λ x. unwrap_or x z) same ∙ unwrap_or-slice_get ys q z
+  same_read xs ys p q z same = sym (unwrap_or-slice_get xs p z) ∙ ap (λ x. unwrap_or x z) same
+      ∙ unwrap_or-slice_get ys q z
 
   turned_back : (m n : Compressed T) → IsTranspose m n → IsTranspose n m
   turned_back m n h = record {
@@ -41,25 +43,34 @@ module _ {T : Type 0} where
   -- a matrix transposed twice
   pub twice : (m n k : Compressed T) → IsSound m → IsSound k → IsTranspose m n → IsTranspose n k
       → k ≡ m
-  twice m n k sm sk once again = ap (λ d. compressed_of d k.values) patterns ∙ ap (compressed_of m.pattern) values
+  twice m n k sm sk once again = ap (λ d. compressed_of d k.values) patterns
+      ∙ ap (compressed_of m.pattern) values
     where
       patterns : k.pattern ≡ m.pattern
       patterns = same_from_places k.pattern m.pattern sk.valid sm.valid record {
         major_dim = again.pattern.major_dim ∙ once.pattern.minor_dim;
         minor_dim = again.pattern.minor_dim ∙ once.pattern.major_dim;
-        places = λ i j. (λ h. (once.pattern.places i j).0 ((again.pattern.places j i).0 h), λ h. (again.pattern.places j i).1 ((once.pattern.places i j).1 h));
+        places = λ i j. (
+          λ h. (once.pattern.places i j).0 ((again.pattern.places j i).0 h),
+          λ h. (again.pattern.places j i).1 ((once.pattern.places i j).1 h),
+        );
       }
 
       values : k.values ≡ m.values
-      values = same_lists k.values m.values (sk.count ∙ ap (λ d. length d.indices) patterns ∙ sym sm.count) (λ p z within.
-          let lt : p < length m.pattern.indices = omega (arith, sk.count, ap (λ d. length d.indices) patterns) in
+      values = same_lists k.values m.values (sk.count ∙ ap (λ d. length d.indices) patterns
+          ∙ sym sm.count) (λ p z within.
+          let lt : p < length m.pattern.indices = omega
+          (arith, sk.count, ap (λ d. length d.indices) patterns) in
           let lane = lane_of_position m.pattern sm.valid p lt in
           let j = slice_index m.pattern.indices p in
           let here : IsPosition m.pattern lane.0 j p = (lane.1, refl) in
-          let place = (once.pattern.places lane.0 j).1 record { at = p; in_lane = lane.1; index = refl } in
+          let place = (once.pattern.places lane.0 j).1 record
+          { at = p; in_lane = lane.1; index = refl } in
           let there : IsPosition n.pattern j lane.0 place.at = (place.in_lane, place.index) in
-          let home : IsPosition k.pattern lane.0 j p = subst (λ d. IsPosition d lane.0 j p) (sym patterns) here in
-          same_read k.values m.values p p z (again.values j lane.0 place.at p there home ∙ once.values lane.0 j p place.at here there))
+          let home : IsPosition k.pattern lane.0 j p = subst (λ d. IsPosition d lane.0 j p)
+          (sym patterns) here in
+          same_read k.values m.values p p z (again.values j lane.0 place.at p there home
+          ∙ once.values lane.0 j p place.at here there))
 
   pub one_transpose : (m n k : Compressed T) → IsSound n → IsSound k → IsTranspose m n
       → IsTranspose m k → n ≡ k
@@ -69,7 +80,8 @@ module _ {T : Type 0} where
   pub plain_transposed : (R : CommRing) (f : T → R.Carrier) (z : T) (m n : Compressed T) → IsSound m
       → IsSound n → IsTranspose m n → plain_of_rows R f n ≡ plain_transpose R (plain_of_rows R f m)
   plain_transposed R f z m n sm sn h =
-      stands R f z n (plain_transpose R (plain_of_rows R f m)) sn (λ i j. proper_rows R f m j i) h.pattern.major_dim h.pattern.minor_dim
+      stands R f z n (plain_transpose R (plain_of_rows R f m)) sn (λ i j. proper_rows R f m j i)
+      h.pattern.major_dim h.pattern.minor_dim
       (λ i j.
       let has = has_is_place R f m.pattern sm.valid m.values sm.count j i in
       let same = h.pattern.places j i in
@@ -77,4 +89,5 @@ module _ {T : Type 0} where
       (λ i j q at.
       let place = (h.pattern.places j i).0 record { at = q; in_lane = at.0; index = at.1 } in
       let here : IsPosition m.pattern j i place.at = (place.in_lane, place.index) in
-      ap f (same_read n.values m.values q place.at z (h.values j i place.at q here at)) ∙ sym (value_at_position R f m.pattern sm.valid m.values sm.count z j i place.at here))
+      ap f (same_read n.values m.values q place.at z (h.values j i place.at q here at))
+      ∙ sym (value_at_position R f m.pattern sm.valid m.values sm.count z j i place.at here))

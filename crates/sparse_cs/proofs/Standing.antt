@@ -2,7 +2,8 @@
 use Rattle.std.proofs.Common.{◌≡◌, refl, ap, ◌∙◌, sym}
 use Rattle.sparse_algebra.specs.Algebra.{CommRing}
 use Rattle.sparse_algebra.specs.Plain.{Plain, plain_transpose}
-use Rattle.sparse_algebra.proofs.PlainLaws.{proper_transpose, within_plain_of_triplets, within_transpose, transpose_twice}
+use Rattle.sparse_algebra.proofs.PlainLaws.{proper_transpose, within_plain_of_triplets}
+use Rattle.sparse_algebra.proofs.PlainLaws.{within_transpose, transpose_twice}
 use Rattle.sparse_cs.specs.Compressed.{Compressed, IsSound, lane_triplets}
 use Rattle.sparse_cs.specs.PlainOfLanes.{plain_of_rows, plain_of_cols}
 use Rattle.sparse_cs.specs.Standing.{HasLanesAsRows, HasLanesAsCols}
@@ -15,9 +16,12 @@ module _ (R : CommRing) {T : Type 0} (f : T → R.Carrier) where
     rows_have = record {
       rows = refl;
       cols = refl;
-      places = λ i j. let h = has_is_place R f m.pattern sound.valid m.values sound.count i j in (h.1, h.0);
-      values = λ i j p z at. sym (value_at_position R f m.pattern sound.valid m.values sound.count z i j p at);
-      within = within_plain_of_triplets R f m.pattern.major_dim m.pattern.minor_dim (lane_triplets m) (lane_triplets-inside m sound);
+      places = λ i j. let h = has_is_place R f m.pattern sound.valid m.values sound.count i
+          j in (h.1, h.0);
+      values = λ i j p z at. sym (value_at_position R f m.pattern sound.valid m.values sound.count z
+          i j p at);
+      within = within_plain_of_triplets R f m.pattern.major_dim m.pattern.minor_dim
+          (lane_triplets m) (lane_triplets-inside m sound);
       proper = proper_rows R f m;
     }
 
@@ -32,7 +36,8 @@ module _ (R : CommRing) {T : Type 0} (f : T → R.Carrier) where
     }
 
     pub rows_are : (z : T) (a : Plain R) → HasLanesAsRows R f m a → plain_of_rows R f m ≡ a
-    rows_are z a has = stands R f z m a sound has.proper has.rows has.cols has.places (λ i j p at. has.values i j p z at)
+    rows_are z a has = stands R f z m a sound has.proper has.rows has.cols has.places
+        (λ i j p at. has.values i j p z at)
 
     pub cols_are : (z : T) (a : Plain R) → HasLanesAsCols R f m a → plain_of_cols R f m ≡ a
     cols_are z a has =

@@ -1,4 +1,5 @@
--- The value of a compressed matrix, as contracts see it. The lanes are the rows of a CSR matrix or the columns of a CSC matrix.
+-- The value of a compressed matrix, as contracts see it. The lanes are the rows of a CSR matrix or
+-- the columns of a CSC matrix.
 use Rattle.std.specs.Prelude.{◌≡◌, ℕ, Bool, List, [], ◌∷◌, length, slice_index, refl}
 use Rattle.std.specs.Cmp.Lexicographic.{pointwise}
 use Rattle.std.specs.Ordering.{on, eq_of_both}
@@ -11,13 +12,15 @@ pub record Compressed (T : Type 0) : Type 0 where
   pub values : List T
 
 abbrev pub raw_code : Coded Raw
-raw_code = code_by (ℕ × (ℕ × (List ℕ × List ℕ))) (coded× coded_ℕ (coded× coded_ℕ (coded× (coded_list coded_ℕ) (coded_list coded_ℕ))))
+raw_code = code_by (ℕ × (ℕ × (List ℕ × List ℕ)))
+    (coded× coded_ℕ (coded× coded_ℕ (coded× (coded_list coded_ℕ) (coded_list coded_ℕ))))
     (λ d. (d.major_dim, (d.minor_dim, (d.offsets, d.indices))))
     (λ p. raw_of p.0 p.1.0 p.1.1.0 p.1.1.1)
     (λ _. refl)
 
 abbrev pub compressed_code : {T : Type 0} → Coded T → Coded (Compressed T)
-compressed_code {T} code = code_by (Raw × List T) (coded× raw_code (coded_list code)) (λ m. (m.pattern, m.values)) (λ p. record { pattern = p.0; values = p.1 }) (λ _. refl)
+compressed_code {T} code = code_by (Raw × List T) (coded× raw_code (coded_list code))
+    (λ m. (m.pattern, m.values)) (λ p. record { pattern = p.0; values = p.1 }) (λ _. refl)
 
 module _ {T : Type 0} where
   abbrev pub compressed_of : Raw → List T → Compressed T
@@ -25,7 +28,8 @@ module _ {T : Type 0} where
 
   -- shape, offsets, indices and values, unchecked
   abbrev pub arrays_of : ℕ → ℕ → List ℕ → List ℕ → List T → Compressed T
-  arrays_of major_dim minor_dim offsets indices values = compressed_of (raw_of major_dim minor_dim offsets indices) values
+  arrays_of major_dim minor_dim offsets indices values =
+      compressed_of (raw_of major_dim minor_dim offsets indices) values
 
   -- a valid pattern with one value for each place
   pub record IsSound (m : Compressed T) : Type 0 where

@@ -4,13 +4,16 @@ use Rattle.std.specs.Fn.{Shared, FnReturns}
 use denote.Ref.{Bor}
 use Rattle.sparse_cs.specs.Compressed.{Compressed}
 
--- ys has, in order, the elements of xs for which R gave `true`; R gave one result for each element of xs
+-- ys has, in order, the elements of xs for which R gave `true`; R gave one result for each element
+-- of xs
 abbrev pub IsKept : {X : Type 0} → (X → Bool → Type 0) → List X → List X → Type 0
 IsKept R [] ys = ys ≡ []
-IsKept {X} R (x ∷ xs) ys = (b : Bool) × R x b × (zs : List X) × IsKept R xs zs × (ys ≡ cond b (x ∷ zs) zs)
+IsKept {X} R (x ∷ xs) ys = (b : Bool) × R x b × (zs : List X) × IsKept R xs zs
+    × (ys ≡ cond b (x ∷ zs) zs)
 
 -- f, called with the two indices of a triplet and a reference to its value, returns b
-pub record Answers {F T : Type 0} (g : Shared F (ℕ × (ℕ × (Bor T × Unit {0}))) Bool) (f : F) (t : ℕ × ℕ × T) (b : Bool) : Type 0 where
+pub record Answers {F T : Type 0} (g : Shared F (ℕ × (ℕ × (Bor T × Unit {0}))) Bool) (f : F)
+    (t : ℕ × ℕ × T) (b : Bool) : Type 0 where
   pub shown : Bor T
   pub shows : shown.now ≡ t.2
   pub says : FnReturns g f (t.0, (t.1, (shown, tt))) b

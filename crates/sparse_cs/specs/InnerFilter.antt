@@ -4,7 +4,8 @@ use Rattle.std.specs.List.{zip}
 use Rattle.sparse_cs.specs.Filter.{IsKept}
 
 -- two lists have grown by the kept ones of the pairs
-pub record IsGrown {T : Type 0} (R : ℕ × T → Bool → Type 0) (pairs : List (ℕ × T)) (xs : List ℕ) (vs : List T) (ys : List ℕ) (ws : List T) : Type 0 where
+pub record IsGrown {T : Type 0} (R : ℕ × T → Bool → Type 0) (pairs : List (ℕ × T)) (xs : List ℕ)
+    (vs : List T) (ys : List ℕ) (ws : List T) : Type 0 where
   pub indices : List ℕ
   pub values : List T
   pub index_end : ys ≡ xs ++ indices

@@ -6,4 +6,5 @@ use Rattle.sparse_algebra.specs.Sums.{sum_by, where_true}
 -- the value at index j of a lane that is given by its indices and values
 abbrev pub lane_value : (R : CommRing) {T : Type 0} → (T → R.Carrier) → List ℕ → List T → ℕ
     → R.Carrier
-lane_value R f indices values j = sum_by R (λ t. where_true R (nat_eq t.0 j) (f t.1)) (zip indices values)
+lane_value R f indices values j = sum_by R (λ t. where_true R (nat_eq t.0 j) (f t.1))
+    (zip indices values)

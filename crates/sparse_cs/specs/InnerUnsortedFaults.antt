@@ -5,10 +5,15 @@ use Rattle.sparse_pattern.specs.declared.error.SparseFormatErrorKind.{SparseForm
 use Rattle.sparse_pattern.specs.declared.error.SparseFormatErrorKind.TheVariants as kind
 use Rattle.sparse_cs.specs.Compressed.{Compressed}
 use Rattle.sparse_cs.specs.InnerLaneSorting.{HasFall}
-use Rattle.sparse_cs.specs.UnsortedFaults.{UnsortedSpot, HasRepeat, HasUnsortedFault, NeedsSorting, unsorted_kind, unsorted_rank}
+use Rattle.sparse_cs.specs.UnsortedFaults.{UnsortedSpot, HasRepeat, HasUnsortedFault, NeedsSorting}
+use Rattle.sparse_cs.specs.UnsortedFaults.{unsorted_kind, unsorted_rank}
 use Rattle.sparse_cs.specs.UnsortedFaults as at
 use Rattle.sparse_cs.specs.declared.unsorted.fault.UnsortedFault.{UnsortedFault}
-use Rattle.sparse_cs.specs.declared.unsorted.fault.UnsortedFault.TheVariants.{ValueCount, NoOffsets, OffsetCount, FirstLast, LaneFall, LaneEnd, LaneBounds, LaneRepeat, Memory}
+use Rattle.sparse_cs.specs.declared.unsorted.fault.UnsortedFault.TheVariants.{ValueCount, NoOffsets}
+use Rattle.sparse_cs.specs.declared.unsorted.fault.UnsortedFault.TheVariants.{OffsetCount}
+use Rattle.sparse_cs.specs.declared.unsorted.fault.UnsortedFault.TheVariants.{FirstLast, LaneFall}
+use Rattle.sparse_cs.specs.declared.unsorted.fault.UnsortedFault.TheVariants.{LaneEnd, LaneBounds}
+use Rattle.sparse_cs.specs.declared.unsorted.fault.UnsortedFault.TheVariants.{LaneRepeat, Memory}
 
 -- the kind of the error that reports the fault
 abbrev pub fault_kind : UnsortedFault → SparseFormatErrorKind
@@ -22,7 +27,8 @@ fault_kind (LaneBounds i) = unsorted_kind (at.LaneBounds i)
 fault_kind (LaneRepeat i) = unsorted_kind (at.LaneRepeat i)
 fault_kind Memory = kind.OutOfMemory
 
--- the fault of lane i with these indices: one past the bound, or all below it and one twice; memory is asked for where one falls
+-- the fault of lane i with these indices: one past the bound, or all below it and one twice; memory
+-- is asked for where one falls
 abbrev pub IsLaneFault : ℕ → ℕ → List ℕ → UnsortedFault → Type 0
 IsLaneFault i bound xs (LaneBounds k) = (k ≡ i) × Any (λ j. bound ≤ j) xs
 IsLaneFault i bound xs (LaneRepeat k) = (k ≡ i) × All (λ j. j < bound) xs × HasRepeat xs

@@ -1,5 +1,7 @@
 -- The lanes of a compressed matrix: rows in CSR, columns in CSC.
-use Rattle.std.specs.Prelude.{◌≡◌, ℕ, zero, suc, ◌+◌, ◌<◌, ◌≤◌, ◌==◌, Bool, List, [], ◌∷◌, All, length, Option, Some, None, position, slice_index_or, slice_range, refl}
+use Rattle.std.specs.Prelude.{◌≡◌, ℕ, zero, suc, ◌+◌, ◌<◌, ◌≤◌, ◌==◌, Bool, List, [], ◌∷◌, All}
+use Rattle.std.specs.Prelude.{length, Option, Some, None, position, slice_index_or, slice_range}
+use Rattle.std.specs.Prelude.{refl}
 use Rattle.std.specs.Cmp.Lexicographic.{pointwise}
 use Rattle.std.specs.Coded.{Coded, code_by, coded×, coded_ℕ, coded_list}
 use Rattle.std.specs.List.Sorted.{IsStrictlyIncreasing}
@@ -16,11 +18,19 @@ pub record Lane (T : Type 0) : Type 0 where
   pub values : List T
 
 abbrev pub lane_code : {T : Type 0} → Coded T → Coded (Lane T)
-lane_code {T} code = code_by (ℕ × (List ℕ × List T)) (coded× coded_ℕ (coded× (coded_list coded_ℕ) (coded_list code))) (λ l. (l.minor_dim, (l.indices, l.values))) (λ p. record { minor_dim = p.0; indices = p.1.0; values = p.1.1 }) (λ _. refl)
+lane_code {T} code = code_by (ℕ × (List ℕ × List T))
+    (coded× coded_ℕ (coded× (coded_list coded_ℕ) (coded_list code)))
+    (λ l. (l.minor_dim, (l.indices, l.values)))
+    (λ p. record { minor_dim = p.0; indices = p.1.0; values = p.1.1 }) (λ _. refl)
 
 module _ {T : Type 0} where
   abbrev pub lane_parts : ℕ → List ℕ → List T → Lane T
-  lane_parts minor_dim indices values = record { minor_dim = minor_dim; indices = indices; values = values }
+  lane_parts minor_dim indices values = record {
+    minor_dim = minor_dim;
+    indices = indices;
+    values =
+        values;
+  }
 
   -- the indices are strictly increasing and within bounds, and there is one value for each
   pub record IsSoundLane (l : Lane T) : Type 0 where
@@ -30,7 +40,8 @@ module _ {T : Type 0} where
 
   -- lane i of the matrix
   abbrev pub lane_at : Compressed T → ℕ → Lane T
-  lane_at m i = lane_parts m.pattern.minor_dim (lane_of m.pattern i) (slice_range m.values (start_of m.pattern i) (end_of m.pattern i))
+  lane_at m i = lane_parts m.pattern.minor_dim (lane_of m.pattern i)
+      (slice_range m.values (start_of m.pattern i) (end_of m.pattern i))
 
   -- the n lanes from lane i on
   abbrev pub lanes_from : Compressed T → ℕ → ℕ → List (Lane T)
@@ -43,7 +54,8 @@ module _ {T : Type 0} where
 
   -- the value stored at the index j, or Zero if j is not stored
   abbrev pub IsLaneEntryAt : Lane T → ℕ → SparseEntry T → Type 0
-  IsLaneEntryAt l j (NonZero x) = (k : ℕ) × (position (λ i. i == j) l.indices ≡ Some k) × (x.now ≡ slice_index_or l.values k x.now)
+  IsLaneEntryAt l j (NonZero x) = (k : ℕ) × (position (λ i. i == j) l.indices ≡ Some k)
+      × (x.now ≡ slice_index_or l.values k x.now)
   IsLaneEntryAt l j Zero = position (λ i. i == j) l.indices ≡ None
 
   -- the entry within bounds, and None out of bounds

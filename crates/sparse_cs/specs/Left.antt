@@ -27,8 +27,11 @@ module _ {T : Type 0} where
   -- the n lanes from lane i on, each with its share of the values
   abbrev pub lanes_with : Raw → ℕ → ℕ → List T → List (Lane T)
   lanes_with d i zero values = []
-  lanes_with d i (suc n) values = lane_parts d.minor_dim (lane_of d i) (take (length (lane_of d i)) values) ∷ lanes_with d (i + 1) n (drop (length (lane_of d i)) values)
+  lanes_with d i (suc n) values = lane_parts d.minor_dim (lane_of d i)
+      (take (length (lane_of d i)) values) ∷ lanes_with d (i + 1) n
+      (drop (length (lane_of d i)) values)
 
   -- the remaining lanes
   abbrev pub lanes_left : CsLaneIterMut T → List (Lane T)
-  lanes_left it = lanes_with it.pattern.now it.current_lane (it.pattern.now.major_dim - it.current_lane) it.values.now
+  lanes_left it = lanes_with it.pattern.now it.current_lane
+      (it.pattern.now.major_dim - it.current_lane) it.values.now

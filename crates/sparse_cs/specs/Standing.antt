@@ -6,7 +6,8 @@ use Rattle.sparse_pattern.specs.Raw.{IsPlace}
 use Rattle.sparse_cs.specs.Compressed.{Compressed, IsPosition}
 
 module _ (R : CommRing) {T : Type 0} (f : T → R.Carrier) where
-  -- rows are the lanes: (i, j) is a place if and only if lane i has the index j, with the value of its position
+  -- rows are the lanes: (i, j) is a place if and only if lane i has the index j, with the value of
+  -- its position
   pub record HasLanesAsRows (m : Compressed T) (a : Plain R) : Type 0 where
     pub rows : m.pattern.major_dim ≡ a.rows
     pub cols : m.pattern.minor_dim ≡ a.cols
@@ -16,7 +17,8 @@ module _ (R : CommRing) {T : Type 0} (f : T → R.Carrier) where
     pub within : IsWithin a
     pub proper : IsProper a
 
-  -- columns are the lanes: (i, j) is a place if and only if lane j has the index i, with the value of its position
+  -- columns are the lanes: (i, j) is a place if and only if lane j has the index i, with the value
+  -- of its position
   pub record HasLanesAsCols (m : Compressed T) (a : Plain R) : Type 0 where
     pub rows : m.pattern.minor_dim ≡ a.rows
     pub cols : m.pattern.major_dim ≡ a.cols

@@ -1,5 +1,6 @@
 -- The position of a place, and the entry of a matrix at a pair of indices.
-use Rattle.std.specs.Prelude.{◌≡◌, ℕ, ◌+◌, ◌<◌, ◌==◌, Option, Some, None, option_map, position, slice_index_or}
+use Rattle.std.specs.Prelude.{◌≡◌, ℕ, ◌+◌, ◌<◌, ◌==◌, Option, Some, None, option_map, position}
+use Rattle.std.specs.Prelude.{slice_index_or}
 use Rattle.sparse_pattern.specs.Raw.{Raw, start_of, lane_of}
 use Rattle.sparse_pattern.specs.declared.entry.SparseEntry.{SparseEntry}
 use Rattle.sparse_pattern.specs.declared.entry.SparseEntry.TheVariants.{NonZero, Zero}
@@ -17,7 +18,8 @@ pub record IsInBounds (d : Raw) (i j : ℕ) : Type 0 where
 module _ {T : Type 0} where
   -- the value at the position of the place, or Zero if the place is not stored
   abbrev pub IsEntryAt : Compressed T → ℕ → ℕ → SparseEntry T → Type 0
-  IsEntryAt m i j (NonZero x) = (p : ℕ) × (place_of m.pattern i j ≡ Some p) × (x.now ≡ slice_index_or m.values p x.now)
+  IsEntryAt m i j (NonZero x) = (p : ℕ) × (place_of m.pattern i j ≡ Some p)
+      × (x.now ≡ slice_index_or m.values p x.now)
   IsEntryAt m i j Zero = place_of m.pattern i j ≡ None
 
   -- the entry within bounds, and None out of bounds

@@ -4,11 +4,15 @@ use Rattle.std.specs.List.Sorted.{IsPermutation}
 use Rattle.sparse_pattern.specs.Raw.{start_of, end_of, lane_of}
 use Rattle.sparse_pattern.specs.FirstFault.{IsFirst}
 use Rattle.sparse_pattern.specs.declared.error.SparseFormatErrorKind.{SparseFormatErrorKind}
-use Rattle.sparse_pattern.specs.declared.error.SparseFormatErrorKind.TheVariants.{IndexOutOfBounds, DuplicateEntry, InvalidStructure}
+use Rattle.sparse_pattern.specs.declared.error.SparseFormatErrorKind.TheVariants.{IndexOutOfBounds}
+use Rattle.sparse_pattern.specs.declared.error.SparseFormatErrorKind.TheVariants.{DuplicateEntry}
+use Rattle.sparse_pattern.specs.declared.error.SparseFormatErrorKind.TheVariants.{InvalidStructure}
 use Rattle.sparse_cs.specs.Compressed.{Compressed, IsSound, lane_triplets}
 
--- where a fault can occur: the number of values, no offset, the number of offsets, the first and the last offset, and for each lane its
--- end before its start, its end past the indices, the bounds of its indices, and an index that occurs twice
+-- where a fault can occur: the number of values, no offset, the number of offsets, the first and
+-- the last offset, and for each lane its
+-- end before its start, its end past the indices, the bounds of its indices, and an index that
+-- occurs twice
 pub data UnsortedSpot : Type 0 where
   ValueCount : UnsortedSpot
   NoOffsets : UnsortedSpot
@@ -55,10 +59,14 @@ module _ {T : Type 0} where
   HasUnsortedFault m ValueCount = length m.values ≢ length m.pattern.indices
   HasUnsortedFault m NoOffsets = length m.pattern.offsets ≡ 0
   HasUnsortedFault m OffsetCount = length m.pattern.offsets ≢ m.pattern.major_dim + 1
-  HasUnsortedFault m FirstLast = (slice_index m.pattern.offsets 0 ≢ 0) ⊎ (slice_index m.pattern.offsets m.pattern.major_dim ≢ length m.pattern.indices)
-  HasUnsortedFault m (LaneFall i) = (i < m.pattern.major_dim) × (end_of m.pattern i < start_of m.pattern i)
-  HasUnsortedFault m (LaneEnd i) = (i < m.pattern.major_dim) × (length m.pattern.indices < end_of m.pattern i)
-  HasUnsortedFault m (LaneBounds i) = (i < m.pattern.major_dim) × Any (λ j. m.pattern.minor_dim ≤ j) (lane_of m.pattern i)
+  HasUnsortedFault m FirstLast = (slice_index m.pattern.offsets 0 ≢ 0)
+      ⊎ (slice_index m.pattern.offsets m.pattern.major_dim ≢ length m.pattern.indices)
+  HasUnsortedFault m (LaneFall i) = (i < m.pattern.major_dim)
+      × (end_of m.pattern i < start_of m.pattern i)
+  HasUnsortedFault m (LaneEnd i) = (i < m.pattern.major_dim)
+      × (length m.pattern.indices < end_of m.pattern i)
+  HasUnsortedFault m (LaneBounds i) = (i < m.pattern.major_dim)
+      × Any (λ j. m.pattern.minor_dim ≤ j) (lane_of m.pattern i)
   HasUnsortedFault m (LaneRepeat i) = (i < m.pattern.major_dim) × HasRepeat (lane_of m.pattern i)
 
   abbrev pub IsFaultless : Compressed T → Type 0
@@ -81,7 +89,8 @@ module _ {T : Type 0} where
     pub first : IsFirst unsorted_rank (HasUnsortedFault m) spot
     pub is : kind ≡ unsorted_kind spot
 
-  -- sound, with the shape and the offsets of the given arrays and their triplets, those of each lane in increasing order
+  -- sound, with the shape and the offsets of the given arrays and their triplets, those of each
+  -- lane in increasing order
   pub record IsSortedForm (given m : Compressed T) : Type 0 where
     pub sound : IsSound m
     pub major_dim : m.pattern.major_dim ≡ given.pattern.major_dim

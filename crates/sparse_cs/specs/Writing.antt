@@ -1,5 +1,6 @@
 -- Values borrowed mutably, and the matrix after the borrow.
-use Rattle.std.specs.Prelude.{◌≡◌, ℕ, ◌<◌, ◌≤◌, ◌==◌, List, Option, Some, None, length, position, slice_set, slice_index_or, unwrap_or}
+use Rattle.std.specs.Prelude.{◌≡◌, ℕ, ◌<◌, ◌≤◌, ◌==◌, List, Option, Some, None, length, position}
+use Rattle.std.specs.Prelude.{slice_set, slice_index_or, unwrap_or}
 use Rattle.std.specs.Borrow.{Lends, follows_if, MutBor, Fml, Array, RattleType}
 use Rattle.sparse_pattern.specs.Raw.{start_of}
 use Rattle.sparse_pattern.specs.Refill.{refill, refill_from}
@@ -31,7 +32,10 @@ module _ {T : Type 0} where
 
   -- the matrix with another value at the stored place (i, j)
   abbrev pub with_value : Compressed T → ℕ → ℕ → T → Compressed T
-  with_value m i j w = record m { values = slice_set m.values (unwrap_or (place_of m.pattern i j) 0) w }
+  with_value m i j w = record m {
+    values = slice_set m.values (unwrap_or (place_of m.pattern i j) 0)
+        w;
+  }
 
   -- x has the value at the stored place (i, j)
   pub record IsValueAt (m : Compressed T) (i j : ℕ) (x : MutBor T) : Type 0 where
@@ -80,7 +84,8 @@ module _ {T : Type 0} where
 
   -- the entry of a borrowed lane, for reading: None if out of bounds
   abbrev pub IsLentEntryOf : Lane T → ℕ → Option (SparseEntry T) → Type 0
-  IsLentEntryOf l j (Some (entry.NonZero x)) = (j < l.minor_dim) × ((p : ℕ) × IsStoredIn l j p × (x.now ≡ slice_index_or l.values p x.now))
+  IsLentEntryOf l j (Some (entry.NonZero x)) = (j < l.minor_dim)
+      × ((p : ℕ) × IsStoredIn l j p × (x.now ≡ slice_index_or l.values p x.now))
   IsLentEntryOf l j (Some entry.Zero) = (j < l.minor_dim) × ((p : ℕ) → ¬ IsStoredIn l j p)
   IsLentEntryOf l j None = l.minor_dim ≤ j
 
@@ -93,12 +98,15 @@ module _ (T : RattleType) (s : MutBor (Compressed T.Denot)) where
   abbrev pub LendsLane : ℕ → MutBor (List T.Denot) → Fml
   LendsLane i r = Lends (the_row T) (Array T 0) s r (with_lane s.now i)
 
-  -- after the borrow the matrix has the value last written through the reference, or is unchanged if there is none
+  -- after the borrow the matrix has the value last written through the reference, or is unchanged
+  -- if there is none
   abbrev pub LendsFound : ℕ → ℕ → Found T.Denot → Fml
-  LendsFound i j r = follows_if (the_row T) T s.ghost_name (found_name r) (with_value s.now i j) s.now
+  LendsFound i j r = follows_if (the_row T) T s.ghost_name (found_name r) (with_value s.now i j)
+      s.now
 
   abbrev pub LendsIndexed : ℕ → ℕ → SparseEntryMut T.Denot → Fml
-  LendsIndexed i j r = follows_if (the_row T) T s.ghost_name (indexed_name r) (with_value s.now i j) s.now
+  LendsIndexed i j r = follows_if (the_row T) T s.ghost_name (indexed_name r) (with_value s.now i j)
+      s.now
 
 -- after the borrow the slice has the element last written through the reference
 abbrev pub LendsElement : (T : RattleType) → MutBor (List T.Denot) → ℕ → MutBor T.Denot → Fml

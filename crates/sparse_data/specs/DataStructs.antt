@@ -14,7 +14,8 @@ pattern_in d = raw_of d.major_dim d.minor_dim d.major_offsets.items d.minor_indi
 module _ {T : Type 0} where
   -- the triplets that the three lists give
   abbrev pub coo_in : CooData T → Coo T
-  coo_in d = coo_of d.nrows d.ncols (zip_triplets d.row_indices.items d.col_indices.items d.values.items)
+  coo_in d = coo_of d.nrows d.ncols (zip_triplets d.row_indices.items d.col_indices.items
+      d.values.items)
 
   -- the three lists have one length, and their indices are inside the sizes
   abbrev pub IsCooData : CooData T → Type 0

@@ -1,13 +1,20 @@
 -- A column updated entry after entry.
-use Rattle.std.proofs.Common.{◌≡◌, ℕ, ◌+◌, ◌<◌, ◌≤◌, inl, inr, List, length, get_or, set, ap, sym, subst, ◌∙◌, refl, arith, get_or-set_same, get_or-set_other}
+use Rattle.std.proofs.Common.{◌≡◌, ℕ, ◌+◌, ◌<◌, ◌≤◌, inl, inr, List, length, get_or, set, ap, sym}
+use Rattle.std.proofs.Common.{subst, ◌∙◌, refl, arith, get_or-set_same, get_or-set_other}
 use Rattle.std.proofs.lemmas.List.{get_or_default, length-set}
 use Rattle.sparse_lemmas.proofs.Cases.{lt_add_one_cases}
 use Rattle.sparse_algebra.specs.Algebra.{CommRing}
 use Rattle.sparse_dense.specs.InnerUpdates.{IsUpdatedBelow, IsUpdatedColumn, updated}
 
-module _ (R : CommRing) {T : Type 0} (f : T → R.Carrier) (z : T) (beta alpha : R.Carrier) (x : ℕ → R.Carrier) where
+module _ (R : CommRing) {T : Type 0} (f : T → R.Carrier) (z : T) (beta alpha : R.Carrier)
+    (x : ℕ → R.Carrier) where
   pub updated_none : (xs : List T) → IsUpdatedBelow R f z beta alpha 0 x xs xs
-  updated_none xs = record { count = refl; before = λ i lt. absurd (omega arith); behind = λ i _. refl }
+  updated_none xs = record {
+    count = refl;
+    before = λ i lt. absurd (omega arith);
+    behind =
+        λ i _. refl;
+  }
 
   -- one entry more
   pub updated_more : (n : ℕ) (old now : List T) (read new : T)
@@ -17,14 +24,19 @@ module _ (R : CommRing) {T : Type 0} (f : T → R.Carrier) (z : T) (beta alpha :
   updated_more n old now read new h lt is value = record {
     count = length-set now n new ∙ h.count;
     before = λ i i_lt. elim (lt_add_one_cases i n i_lt) [
-      | inl less ↦ ap f (get_or-set_other now n i new z (λ e. omega (arith, e, less))) ∙ h.before i less
-      | inr same ↦ subst (λ k. f (get_or (set now n new) k z) ≡ updated R f z beta alpha (get_or old k z) (x k)) (sym same) here
+      | inl less ↦ ap f (get_or-set_other now n i new z (λ e. omega (arith, e, less)))
+          ∙ h.before i less
+      | inr same ↦ subst (λ k. f (get_or (set now n new) k z) ≡ updated R f z beta alpha
+          (get_or old k z) (x k)) (sym same) here
     ];
-    behind = λ i le. get_or-set_other now n i new z (λ e. omega (arith, e, le)) ∙ h.behind i (omega arith);
+    behind = λ i le. get_or-set_other now n i new z (λ e. omega (arith, e, le))
+        ∙ h.behind i (omega arith);
   }
     where
       here : f (get_or (set now n new) n z) ≡ updated R f z beta alpha (get_or old n z) (x n)
-      here = ap f (get_or-set_same now n new z lt) ∙ value ∙ ap (λ v. updated R f z beta alpha v (x n)) (is ∙ get_or_default now n read z lt ∙ h.behind n (omega arith))
+      here = ap f (get_or-set_same now n new z lt) ∙ value
+          ∙ ap (λ v. updated R f z beta alpha v (x n))
+          (is ∙ get_or_default now n read z lt ∙ h.behind n (omega arith))
 
   pub updated_all : (n : ℕ) (old now : List T) → length old ≤ n
       → IsUpdatedBelow R f z beta alpha n x old now → IsUpdatedColumn R f z beta alpha x old now

@@ -1,5 +1,6 @@
 -- Dot products and multiples, term after term.
-use Rattle.std.proofs.Common.{◌≡◌, ℕ, suc, ◌+◌, ◌<◌, Bool, true, false, List, length, get_or, take, ap, sym, ◌∙◌, arith, add-one}
+use Rattle.std.proofs.Common.{◌≡◌, ℕ, suc, ◌+◌, ◌<◌, Bool, true, false, List, length, get_or, take}
+use Rattle.std.proofs.Common.{ap, sym, ◌∙◌, arith, add-one}
 use Rattle.sparse_algebra.specs.Algebra.{CommRing}
 use Rattle.sparse_algebra.specs.Sums.{sum_below}
 use Rattle.sparse_algebra.specs.Plain.{Plain, plain_product, plain_transpose}
@@ -9,7 +10,8 @@ use Rattle.sparse_dense.specs.InnerUpdates.{dot_of, plain_turned, times_vector}
 
 module _ (R : CommRing) {T : Type 0} (f : T → R.Carrier) where
   -- one term more
-  pub dot_more : (x : ℕ → R.Carrier) (ks : List ℕ) (vs : List T) (n k : ℕ) (v sum new term entry : T)
+  pub dot_more : (x : ℕ → R.Carrier) (ks : List ℕ) (vs : List T) (n k : ℕ)
+      (v sum new term entry : T)
       → n < length ks → n < length vs → k ≡ get_or ks n k → v ≡ get_or vs n v
       → f new ≡ R.add (f sum) (f term) → f term ≡ R.mul (f v) (f entry) → f entry ≡ x k
       → f sum ≡ dot_of R f (take n ks) (take n vs) x
@@ -20,35 +22,45 @@ module _ (R : CommRing) {T : Type 0} (f : T → R.Carrier) where
 
 module _ (R : CommRing) where
   -- one column of a matrix more, added to beta c + alpha A x
-  pub term_more : (n : ℕ) (a : ℕ → R.Carrier) (x : ℕ → R.Carrier) (alpha start now new factor : R.Carrier)
+  pub term_more : (n : ℕ) (a : ℕ → R.Carrier) (x : ℕ → R.Carrier)
+      (alpha start now new factor : R.Carrier)
       → now ≡ R.add start (R.mul alpha (sum_below R n (λ k. R.mul (a k) (x k))))
       → new ≡ R.add now (R.mul factor (a n)) → factor ≡ R.mul alpha (x n)
       → new ≡ R.add start (R.mul alpha (sum_below R (n + 1) (λ k. R.mul (a k) (x k))))
   term_more n a x alpha start now new factor so_far added is =
       let s = sum_below R n (λ k. R.mul (a k) (x k)) in
       let e : n + 1 ≡ suc n = omega arith in
-      added ∙ ap (λ c. R.add c (R.mul factor (a n))) so_far ∙ R.laws.add_assoc start (R.mul alpha s) _
-      ∙ ap (R.add start) (ap (R.add (R.mul alpha s)) (ap (λ c. R.mul c (a n)) is ∙ R.laws.mul_assoc alpha (x n) (a n) ∙ ap (R.mul alpha) (R.laws.mul_comm (x n) (a n)))
+      added ∙ ap (λ c. R.add c (R.mul factor (a n))) so_far ∙ R.laws.add_assoc start (R.mul alpha s)
+      _
+      ∙ ap (R.add start) (ap (R.add (R.mul alpha s))
+      (ap (λ c. R.mul c (a n)) is ∙ R.laws.mul_assoc alpha (x n) (a n)
+      ∙ ap (R.mul alpha) (R.laws.mul_comm (x n) (a n)))
       ∙ sym (R.laws.distrib alpha s (R.mul (a n) (x n)))
       ∙ ap (λ m. R.mul alpha (sum_below R m (λ k. R.mul (a k) (x k)))) (sym e))
 
-  -- an entry of a matrix times a vector is one of a product, where the vector is a column of the second factor
+  -- an entry of a matrix times a vector is one of a product, where the vector is a column of the
+  -- second factor
   pub product_entry : (a b : Plain R) (x : ℕ → R.Carrier) (i j : ℕ) → a.cols ≡ b.rows
       → ((k : ℕ) → k < b.rows → x k ≡ b.value k j)
       → times_vector R a x i ≡ sum_below R a.cols (λ k. R.mul (a.value i k) (b.value k j))
-  product_entry a b x i j inner column = sum_below-same R a.cols _ _ (λ k lt. ap (R.mul (a.value i k)) (column k (omega arith)))
+  product_entry a b x i j inner column = sum_below-same R a.cols _ _
+      (λ k lt. ap (R.mul (a.value i k)) (column k (omega arith)))
 
   -- that product, where the first factor is transposed or not
-  pub gathered_entry : (turned : Bool) (a b : Plain R) (x : ℕ → R.Carrier) (i j : ℕ) → turned ≡ false
+  pub gathered_entry : (turned : Bool) (a b : Plain R) (x : ℕ → R.Carrier) (i j : ℕ)
+      → turned ≡ false
       → (plain_turned R turned a).cols ≡ b.rows
       → ((k : ℕ) → k < b.rows → x k ≡ b.value k j)
       → times_vector R a x i ≡ (plain_product R (plain_turned R turned a) b).value i j
   gathered_entry true a b x i j e inner column = cc
   gathered_entry false a b x i j e inner column = product_entry a b x i j inner column
 
-  pub scattered_entry : (turned : Bool) (a b : Plain R) (x : ℕ → R.Carrier) (i j : ℕ) → turned ≡ true
+  pub scattered_entry : (turned : Bool) (a b : Plain R) (x : ℕ → R.Carrier) (i j : ℕ)
+      → turned ≡ true
       → (plain_turned R turned a).cols ≡ b.rows
       → ((k : ℕ) → k < b.rows → x k ≡ b.value k j)
-      → times_vector R (plain_transpose R a) x i ≡ (plain_product R (plain_turned R turned a) b).value i j
-  scattered_entry true a b x i j e inner column = product_entry (plain_transpose R a) b x i j inner column
+      → times_vector R (plain_transpose R a) x i
+      ≡ (plain_product R (plain_turned R turned a) b).value i j
+  scattered_entry true a b x i j e inner column = product_entry (plain_transpose R a) b x i j inner
+      column
   scattered_entry false a b x i j e inner column = cc

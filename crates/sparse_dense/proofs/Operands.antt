@@ -1,5 +1,6 @@
 -- The columns of op(B), and a lane's indices.
-use Rattle.std.proofs.Common.{◌≡◌, ℕ, ◌+◌, ◌-◌, ◌*◌, ◌<◌, List, length, get_or, take, drop, All, ap, ◌∙◌, arith}
+use Rattle.std.proofs.Common.{◌≡◌, ℕ, ◌+◌, ◌-◌, ◌*◌, ◌<◌, List, length, get_or, take, drop, All, ap}
+use Rattle.std.proofs.Common.{◌∙◌, arith}
 use Rattle.std.proofs.lemmas.List.{get_or_default, get_or-drop, take_rest}
 use Rattle.sparse_pattern.specs.Raw.{start_of, lane_of}
 use Rattle.sparse_pattern.proofs.PatternLanes.{length-lane, get_or-lane}
@@ -10,7 +11,8 @@ pub from_start : {X : Type 0} (xs : List X) (n j k s : ℕ) (z : X) → s ≡ j
     → get_or (take (length xs - s) (drop s xs)) (k * n) z ≡ get_or xs (k * n + j) z
 from_start xs n j k s z e =
     let at : s + k * n ≡ k * n + j = omega (arith, e) in
-    ap (λ l. get_or l (k * n) z) (take_rest xs s) ∙ get_or-drop s xs (k * n) z ∙ ap (λ p. get_or xs p z) at
+    ap (λ l. get_or l (k * n) z) (take_rest xs s) ∙ get_or-drop s xs (k * n) z
+    ∙ ap (λ p. get_or xs p z) at
 
 -- the indices of a lane lie below the width
 pub lane_inside : {T : Type 0} (m : Compressed T) → IsSound m → (i n : ℕ) → i < m.pattern.major_dim
@@ -18,4 +20,9 @@ pub lane_inside : {T : Type 0} (m : Compressed T) → IsSound m → (i n : ℕ) 
 lane_inside m sound i n lane same q e lt =
     let v = sound.valid.lanes i lane in
     rw (get_or_default (lane_of m.pattern i) q e 0 lt, get_or-lane m.pattern i v q lt)
-    (omega (arith, v.bounded (start_of m.pattern i + q) (omega arith) (omega (arith, lt, length-lane m.pattern i v)), same))
+    (omega (
+      arith,
+      v.bounded (start_of m.pattern i + q) (omega arith)
+          (omega (arith, lt, length-lane m.pattern i v)),
+      same,
+    ))

@@ -1,6 +1,7 @@
 -- What a product leaves in the columns of a dense matrix.
 use denote.Ref.{Bor}
-use Rattle.std.specs.Prelude.{◌≡◌, ℕ, ◌+◌, ◌*◌, ◌<◌, ◌≤◌, Bool, true, false, List, length, slice_index_or, zip}
+use Rattle.std.specs.Prelude.{◌≡◌, ℕ, ◌+◌, ◌*◌, ◌<◌, ◌≤◌, Bool, true, false, List, length}
+use Rattle.std.specs.Prelude.{slice_index_or, zip}
 use Rattle.sparse_algebra.specs.Algebra.{CommRing}
 use Rattle.sparse_algebra.specs.Sums.{sum_below, sum_by}
 use Rattle.sparse_algebra.specs.Plain.{Plain, plain_transpose}
@@ -50,7 +51,8 @@ module _ (R : CommRing) {T : Type 0} (f : T → R.Carrier) (z : T) (beta alpha :
   -- the entries before the n-th are updated, and the others are the same
   pub record IsUpdatedBelow (n : ℕ) (x : ℕ → R.Carrier) (old new : List T) : Type 0 where
     pub count : length new ≡ length old
-    pub before : (i : ℕ) → i < n → f (slice_index_or new i z) ≡ updated (slice_index_or old i z) (x i)
+    pub before : (i : ℕ) → i < n → f (slice_index_or new i z) ≡ updated (slice_index_or old i z)
+        (x i)
     pub behind : (i : ℕ) → n ≤ i → slice_index_or new i z ≡ slice_index_or old i z
 
   -- each entry of m columns with n entries is updated

@@ -1,5 +1,7 @@
 -- Texts loaded one after the other, and matrices whose values are read as numbers.
-use Rattle.std.proofs.Common.{◌≡◌, ℕ, ℤ, ◌+◌, ◌<◌, ◌≤◌, List, [], ◌∷◌, ◌++◌, length, take, drop, get_or, Ok, Err, Option, refl, sym, ap, subst, ◌∙◌, append_assoc, take-append-drop, arith}
+use Rattle.std.proofs.Common.{◌≡◌, ℕ, ℤ, ◌+◌, ◌<◌, ◌≤◌, List, [], ◌∷◌, ◌++◌, length, take, drop}
+use Rattle.std.proofs.Common.{get_or, Ok, Err, Option, refl, sym, ap, subst, ◌∙◌, append_assoc}
+use Rattle.std.proofs.Common.{take-append-drop, arith}
 use Rattle.std.proofs.lemmas.List.{take_more, take_all, length-map, length-take-le}
 use Rattle.std.proofs.Math.ListN.{get_or-map}
 use denote.Ref.{Bor}
@@ -19,13 +21,17 @@ AllMean-push [] (x ∷ ms) t m all here = absurd all
 AllMean-push (x ∷ ts) [] t m all here = absurd all
 AllMean-push (x ∷ ts) (y ∷ ms) t m all here = (all.0, AllMean-push ts ms t m all.1 here)
 
-module _ (items : List (Bor (List ℕ))) (k : ℕ) (w : Bor (List ℕ)) (inside : k < length items) (ms : List (Coo ℤ)) (taken : AllMean (take k (texts items)) ms) where
+module _ (items : List (Bor (List ℕ))) (k : ℕ) (w : Bor (List ℕ)) (inside : k < length items)
+    (ms : List (Coo ℤ)) (taken : AllMean (take k (texts items)) ms) where
   more : take (k + 1) (texts items) ≡ take k (texts items) ++ (get_or items k w).now ∷ []
-  more = take_more (texts items) k w.now (rw length-map inside) ∙ ap (λ t. take k (texts items) ++ t ∷ []) (get_or-map (λ (b : Bor (List ℕ)). b.now) items k w)
+  more = take_more (texts items) k w.now (rw length-map inside)
+      ∙ ap (λ t. take k (texts items) ++ t ∷ [])
+      (get_or-map (λ (b : Bor (List ℕ)). b.now) items k w)
 
   pub AllMean-more : (m : Coo ℤ) (ms' : List (Coo ℤ)) → Means scalar64 (get_or items k w).now (Ok m)
       → ms' ≡ ms ++ m ∷ [] → AllMean (take (k + 1) (texts items)) ms'
-  AllMean-more m ms' here e = rw (more, e) (AllMean-push (take k (texts items)) ms (get_or items k w).now m taken here)
+  AllMean-more m ms' here e = rw (more, e)
+      (AllMean-push (take k (texts items)) ms (get_or items k w).now m taken here)
 
   pub refused-at : (kind : MatrixMarketErrorKind) → Means scalar64 (get_or items k w).now (Err kind)
       → IsFirstRefused (texts items) (k + 1) kind
@@ -34,7 +40,9 @@ module _ (items : List (Bor (List ℕ))) (k : ℕ) (w : Bor (List ℕ)) (inside 
     text = (get_or items k w).now;
     after = drop (k + 1) (texts items);
     ms = ms;
-    split = sym (take-append-drop (k + 1) (texts items)) ∙ ap (λ l. l ++ drop (k + 1) (texts items)) more ∙ append_assoc (take k (texts items)) ((get_or items k w).now ∷ []) (drop (k + 1) (texts items));
+    split = sym (take-append-drop (k + 1) (texts items)) ∙ ap (λ l. l ++ drop (k + 1) (texts items))
+        more ∙ append_assoc (take k (texts items)) ((get_or items k w).now ∷ [])
+        (drop (k + 1) (texts items));
     counted = sym (ap (λ n. n + 1) (length-take-le k (texts items) (rw length-map (omega arith))));
     taken = taken;
     refused = refused;
@@ -42,7 +50,8 @@ module _ (items : List (Bor (List ℕ))) (k : ℕ) (w : Bor (List ℕ)) (inside 
 
 pub AllMean-all : (items : List (Bor (List ℕ))) (k : ℕ) (ms : List (Coo ℤ)) → length items ≤ k
     → AllMean (take k (texts items)) ms → AllMean (texts items) ms
-AllMean-all items k ms all taken = subst (λ l. AllMean l ms) (take_all k (texts items) (rw length-map all)) taken
+AllMean-all items k ms all taken = subst (λ l. AllMean l ms)
+    (take_all k (texts items) (rw length-map all)) taken
 
 -- a refused write that is not the sink's is an allocation failure
 pub memory-refused : (kind : MatrixMarketErrorKind) (before after : ℕ) (last : Option ErrorKind)

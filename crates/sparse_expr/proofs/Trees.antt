@@ -1,13 +1,16 @@
 -- The tree that tokens in postfix order stand for, by a stack.
-use Rattle.std.proofs.Common.{◌≡◌, ℕ, ◌+◌, ◌-◌, ◌≤◌, inl, inr, List, [], ◌∷◌, ◌++◌, map, Option, Some, None, cond, refl, sym, ap, subst, ◌∙◌, append_assoc, arith}
+use Rattle.std.proofs.Common.{◌≡◌, ℕ, ◌+◌, ◌-◌, ◌≤◌, inl, inr, List, [], ◌∷◌, ◌++◌, map, Option}
+use Rattle.std.proofs.Common.{Some, None, cond, refl, sym, ap, subst, ◌∙◌, append_assoc, arith}
 use Rattle.std.specs.Prelude.{count_by}
 use Rattle.std.proofs.lemmas.List.{map-append, append-nil}
 use Rattle.sparse_expr.specs.declared.words.Token.{Token}
-use Rattle.sparse_expr.specs.declared.words.Token.TheVariants.{Operand, Plus, Minus, Times, Turn, Negate}
+use Rattle.sparse_expr.specs.declared.words.Token.TheVariants.{Operand, Plus, Minus, Times, Turn}
+use Rattle.sparse_expr.specs.declared.words.Token.TheVariants.{Negate}
 use Rattle.sparse_expr.specs.declared.expr.Expr.{Expr}
 use Rattle.sparse_expr.specs.declared.expr.Expr.TheVariants as tree
 use Rattle.sparse_expr.specs.declared.error.ExprError.{ExprError}
-use Rattle.sparse_expr.specs.PostfixWords.{is_operand, is_binary, takes, height, token_of, postfix, IsFirstFault, IsRefused, IsSaid}
+use Rattle.sparse_expr.specs.PostfixWords.{is_operand, is_binary, takes, height, token_of, postfix}
+use Rattle.sparse_expr.specs.PostfixWords.{IsFirstFault, IsRefused, IsSaid}
 use Rattle.sparse_expr.specs.OneTree.{Tree, Leaf, Single, Pair, tree_of}
 use Rattle.sparse_expr.proofs.Postfix.{height-stack, operands-append, operators-append}
 
@@ -53,10 +56,14 @@ run-single xs t x s hx ht = run-append xs (t ∷ []) s ∙ ap (run (t ∷ [])) h
 
 run-postfix : (e : Expr) (s : List Tree) → run (postfix e) s ≡ tree_of e ∷ s
 run-postfix (tree.Input n) s = refl
-run-postfix (tree.Add' p a q b) s = run-pair (postfix a) (postfix b) Plus (tree_of a) (tree_of b) s (run-postfix a s) (run-postfix b (tree_of a ∷ s)) refl
-run-postfix (tree.Sub' p a q b) s = run-pair (postfix a) (postfix b) Minus (tree_of a) (tree_of b) s (run-postfix a s) (run-postfix b (tree_of a ∷ s)) refl
-run-postfix (tree.Mul' p a q b) s = run-pair (postfix a) (postfix b) Times (tree_of a) (tree_of b) s (run-postfix a s) (run-postfix b (tree_of a ∷ s)) refl
-run-postfix (tree.Transpose' p a) s = run-single (postfix a) Turn (tree_of a) s (run-postfix a s) refl
+run-postfix (tree.Add' p a q b) s = run-pair (postfix a) (postfix b) Plus (tree_of a) (tree_of b) s
+    (run-postfix a s) (run-postfix b (tree_of a ∷ s)) refl
+run-postfix (tree.Sub' p a q b) s = run-pair (postfix a) (postfix b) Minus (tree_of a) (tree_of b) s
+    (run-postfix a s) (run-postfix b (tree_of a ∷ s)) refl
+run-postfix (tree.Mul' p a q b) s = run-pair (postfix a) (postfix b) Times (tree_of a) (tree_of b) s
+    (run-postfix a s) (run-postfix b (tree_of a ∷ s)) refl
+run-postfix (tree.Transpose' p a) s = run-single (postfix a) Turn (tree_of a) s (run-postfix a s)
+    refl
 run-postfix (tree.Neg' p a) s = run-single (postfix a) Negate (tree_of a) s (run-postfix a s) refl
 
 -- ---- the tokens of words
@@ -70,7 +77,8 @@ somes-map : (ts : List Token) → somes (map Some ts) ≡ ts
 somes-map [] = refl
 somes-map (t ∷ ts) = ap (λ l. t ∷ l) (somes-map ts)
 
-somes-append : (ts : List Token) (os : List (Option Token)) → somes (map Some ts ++ os) ≡ ts ++ somes os
+somes-append : (ts : List Token) (os : List (Option Token))
+    → somes (map Some ts ++ os) ≡ ts ++ somes os
 somes-append [] os = refl
 somes-append (t ∷ ts) os = ap (λ l. t ∷ l) (somes-append ts os)
 
@@ -82,7 +90,8 @@ pub one_tree : (words : List (List ℕ)) (a b : Expr) → IsSaid words a → IsS
     → tree_of a ≡ tree_of b
 unfolding top
 one_tree words a b ha hb =
-    let same : postfix a ≡ postfix b = sym (somes-map (postfix a)) ∙ ap somes (sym ha ∙ hb) ∙ somes-map (postfix b) in
+    let same : postfix a ≡ postfix b = sym (somes-map (postfix a)) ∙ ap somes (sym ha ∙ hb)
+    ∙ somes-map (postfix b) in
     ap top (sym (run-postfix a []) ∙ ap (λ ts. run ts []) same ∙ run-postfix b [])
 
 -- ---- each token of a tree finds its operands
@@ -120,9 +129,12 @@ whole-postfix : (e : Expr) → IsWhole (postfix e)
 whole-postfix (tree.Input n) = λ h rest enough.
     let at : h + 1 ≡ h + 1 - 0 = omega arith in
     (omega arith, subst (λ k. Enough k rest) at enough)
-whole-postfix (tree.Add' p a q b) = whole-pair (postfix a) (postfix b) Plus refl (whole-postfix a) (whole-postfix b)
-whole-postfix (tree.Sub' p a q b) = whole-pair (postfix a) (postfix b) Minus refl (whole-postfix a) (whole-postfix b)
-whole-postfix (tree.Mul' p a q b) = whole-pair (postfix a) (postfix b) Times refl (whole-postfix a) (whole-postfix b)
+whole-postfix (tree.Add' p a q b) = whole-pair (postfix a) (postfix b) Plus refl (whole-postfix a)
+    (whole-postfix b)
+whole-postfix (tree.Sub' p a q b) = whole-pair (postfix a) (postfix b) Minus refl (whole-postfix a)
+    (whole-postfix b)
+whole-postfix (tree.Mul' p a q b) = whole-pair (postfix a) (postfix b) Times refl (whole-postfix a)
+    (whole-postfix b)
 whole-postfix (tree.Transpose' p a) = whole-single (postfix a) Turn refl (whole-postfix a)
 whole-postfix (tree.Neg' p a) = whole-single (postfix a) Negate refl (whole-postfix a)
 
@@ -157,15 +169,28 @@ level-counts h (x ∷ xs) enough =
     let rest = level-counts (after h x) xs enough.1 in
     let o : count_by is_operand (x ∷ []) ≡ 0 + cond (is_operand x) 1 0 = refl in
     let b : count_by is_binary (x ∷ []) ≡ 0 + cond (is_binary x) 1 0 = refl in
-    omega (arith, count-token x h enough.0, rest, o, b, operands-append (x ∷ []) xs, operators-append (x ∷ []) xs)
+    omega (
+      arith,
+      count-token x h enough.0,
+      rest,
+      o,
+      b,
+      operands-append (x ∷ []) xs,
+      operators-append (x ∷ []) xs,
+    )
 
 -- each token of a tree finds its operands in what stands before it
 enough-at : (e : Expr) (before : List Token) (t : Token) (more : List Token)
     → postfix e ≡ before ++ (t ∷ more) → takes t ≤ height before
 enough-at e before t more split =
     let all : Enough 0 (postfix e ++ []) = whole-postfix e 0 [] tt in
-    let here : Enough 0 (before ++ (t ∷ more)) = subst (Enough 0) (append-nil (postfix e) ∙ split) all in
-    omega (arith, Enough-next 0 before t more here, level-counts 0 before (Enough-front 0 before (t ∷ more) here))
+    let here : Enough 0 (before ++ (t ∷ more)) = subst (Enough 0) (append-nil (postfix e) ∙ split)
+    all in
+    omega (
+      arith,
+      Enough-next 0 before t more here,
+      level-counts 0 before (Enough-front 0 before (t ∷ more) here),
+    )
 
 -- ---- words that say a tree are not refused
 
@@ -179,23 +204,34 @@ no-none (t ∷ ts) rest (u ∷ us) e = no-none ts rest us cc
 module _ (words : List (List ℕ)) (a : Expr) (said : IsSaid words a) where
   no-fault : (e : ExprError) → IsFirstFault words e → ⊥
   no-fault e f =
-      let parts : map Some f.tokens ++ (token_of f.word ∷ map token_of f.after) ≡ map Some (postfix a) =
+      let parts : map Some f.tokens ++ (token_of f.word ∷ map token_of f.after) ≡ map Some
+      (postfix a) =
       ap (λ l. l ++ (token_of f.word ∷ map token_of f.after)) (sym f.fine.said)
-      ∙ sym (map-append token_of f.before (f.word ∷ f.after)) ∙ ap (map token_of) (sym f.split) ∙ said in
+      ∙ sym (map-append token_of f.before (f.word ∷ f.after)) ∙ ap (map token_of) (sym f.split)
+      ∙ said in
       elim f.here [
-        | inl bad ↦ no-none f.tokens (map token_of f.after) (postfix a) (ap (λ o. map Some f.tokens ++ (o ∷ map token_of f.after)) (sym bad.0) ∙ parts)
+        | inl bad ↦ no-none f.tokens (map token_of f.after) (postfix a)
+            (ap (λ o. map Some f.tokens ++ (o ∷ map token_of f.after)) (sym bad.0) ∙ parts)
         | inr missing ↦
             let split : postfix a ≡ f.tokens ++ (missing.0 ∷ somes (map token_of f.after)) =
-            sym (somes-map (postfix a)) ∙ ap somes (sym parts) ∙ somes-append f.tokens (token_of f.word ∷ map token_of f.after)
+            sym (somes-map (postfix a)) ∙ ap somes (sym parts)
+            ∙ somes-append f.tokens (token_of f.word ∷ map token_of f.after)
             ∙ ap (λ o. f.tokens ++ somes (o ∷ map token_of f.after)) missing.1 in
-            absurd (omega (arith, enough-at a f.tokens missing.0 (somes (map token_of f.after)) split, missing.2))
+            absurd (omega (
+              arith,
+              enough-at a f.tokens missing.0 (somes (map token_of f.after))
+                  split,
+              missing.2,
+            ))
       ]
 
   pub not_refused : (e : ExprError) → IsRefused words e → ⊥
   not_refused e refused = elim refused [
     | inl first ↦ no-fault e first
     | inr end ↦
-        let same : end.0 ≡ postfix a ++ [] = sym (somes-map end.0) ∙ ap somes (sym end.1.said ∙ said) ∙ somes-map (postfix a) ∙ sym (append-nil (postfix a)) in
+        let same : end.0 ≡ postfix a ++ [] = sym (somes-map end.0)
+        ∙ ap somes (sym end.1.said ∙ said) ∙ somes-map (postfix a)
+        ∙ sym (append-nil (postfix a)) in
         let high : height end.0 ≡ 1 = ap height same ∙ height-stack (a ∷ []) in
         elim end.2 [
           | inl none ↦ absurd (omega (arith, high, none.0))

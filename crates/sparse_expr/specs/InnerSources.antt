@@ -10,7 +10,8 @@ use Rattle.sparse_expr.specs.declared.sources.Source.{Source}
 module _ (R : CommRing) {T : Type 0} (f : T → R.Carrier) where
   -- a matrix that is kept is that of the list, or its transpose if `turned`
   abbrev pub Keeps : Bool → Coo T → Slot T → Type 0
-  Keeps turned list slot = IfSome slot.matrix (λ m. rows_or_turned R f turned m.value ≡ plain_of_coo R f list)
+  Keeps turned list slot = IfSome slot.matrix
+      (λ m. rows_or_turned R f turned m.value ≡ plain_of_coo R f list)
 
   -- both ways of a source keep matrices of the list
   pub record Provides (list : Coo T) (source : Source T) : Type 0 where

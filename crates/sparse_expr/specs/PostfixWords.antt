@@ -1,16 +1,20 @@
 -- Words in postfix order, and the expression that they say.
-use Rattle.std.specs.Prelude.{◌≡◌, ◌⊎◌, ℕ, ◌-◌, ◌<◌, ◌≤◌, ◌^◌, ◌==◌, ◌&&◌, Bool, true, false, if◌then◌else◌, nat_lt, List, [], ◌∷◌, ◌++◌, map, take, slice_get, count_by, Option, Some, None}
+use Rattle.std.specs.Prelude.{◌≡◌, ◌⊎◌, ℕ, ◌-◌, ◌<◌, ◌≤◌, ◌^◌, ◌==◌, ◌&&◌, Bool, true, false}
+use Rattle.std.specs.Prelude.{if◌then◌else◌, nat_lt, List, [], ◌∷◌, ◌++◌, map, take, slice_get}
+use Rattle.std.specs.Prelude.{count_by, Option, Some, None}
 use Rattle.std.specs.Str.{bytes_eq}
 use Rattle.std.specs.Str.Parse.{digits_value}
 use denote.Ref.{Bor}
 use Rattle.sparse_parser.specs.Words.{words_between}
 use Rattle.sparse_parser.specs.Grammar.{is_index}
 use Rattle.sparse_expr.specs.declared.words.Token.{Token}
-use Rattle.sparse_expr.specs.declared.words.Token.TheVariants.{Operand, Plus, Minus, Times, Turn, Negate}
+use Rattle.sparse_expr.specs.declared.words.Token.TheVariants.{Operand, Plus, Minus, Times, Turn}
+use Rattle.sparse_expr.specs.declared.words.Token.TheVariants.{Negate}
 use Rattle.sparse_expr.specs.declared.expr.Expr.{Expr}
 use Rattle.sparse_expr.specs.declared.expr.Expr.TheVariants as tree
 use Rattle.sparse_expr.specs.declared.error.ExprError.{ExprError}
-use Rattle.sparse_expr.specs.declared.error.ExprError.TheVariants.{BadWord, MissingOperand, LeftOver}
+use Rattle.sparse_expr.specs.declared.error.ExprError.TheVariants.{BadWord, MissingOperand}
+use Rattle.sparse_expr.specs.declared.error.ExprError.TheVariants.{LeftOver}
 
 -- what borrowed words say
 abbrev pub texts : List (Bor (List ℕ)) → List (List ℕ)
@@ -59,7 +63,8 @@ takes Times = 2
 takes Turn = 1
 takes Negate = 1
 
--- the number of operands on the stack after these tokens: the inputs, less one for each of `+`, `-`, `*`
+-- the number of operands on the stack after these tokens: the inputs, less one for each of `+`,
+-- `-`, `*`
 abbrev pub height : List Token → ℕ
 height tokens = count_by is_operand tokens - count_by is_binary tokens
 
@@ -86,7 +91,8 @@ pub record IsFirstFault (words : List (List ℕ)) (e : ExprError) : Type 0 where
 -- the words say no expression: a word is faulty, or at the end there is no operand or more than one
 abbrev pub IsRefused : List (List ℕ) → ExprError → Type 0
 IsRefused words e = IsFirstFault words e
-    ⊎ ((tokens : List Token) × AreFine words tokens × (((height tokens ≡ 0) × (e ≡ MissingOperand)) ⊎ ((1 < height tokens) × (e ≡ LeftOver))))
+    ⊎ ((tokens : List Token) × AreFine words tokens
+    × (((height tokens ≡ 0) × (e ≡ MissingOperand)) ⊎ ((1 < height tokens) × (e ≡ LeftOver))))
 
 -- an expression in postfix order
 abbrev pub postfix : Expr → List Token

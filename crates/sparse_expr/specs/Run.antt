@@ -1,5 +1,6 @@
 -- From texts and an expression to a text.
-use Rattle.std.specs.Prelude.{◌≡◌, ◌⊎◌, ℕ, ℤ, ◌+◌, List, [], ◌∷◌, ◌++◌, map, length, codes, Result, Ok, Err, Option, Some}
+use Rattle.std.specs.Prelude.{◌≡◌, ◌⊎◌, ℕ, ℤ, ◌+◌, List, [], ◌∷◌, ◌++◌, map, length, codes, Result}
+use Rattle.std.specs.Prelude.{Ok, Err, Option, Some}
 use Rattle.std.specs.Int.{w64}
 use Rattle.std.specs.Fmt.{signed_decimal}
 use Rattle.std.specs.declared.io.ErrorKind.{ErrorKind}
@@ -48,7 +49,8 @@ AllMean (text ∷ texts) (m ∷ ms) = Means scalar64 text (Ok m) × AllMean text
 AllMean _ _ = ⊥
 
 -- the number-th text, counted from 1, is the first that is refused, for this reason
-pub record IsFirstRefused (texts : List (List ℕ)) (number : ℕ) (kind : MatrixMarketErrorKind) : Type 0 where
+pub record IsFirstRefused (texts : List (List ℕ)) (number : ℕ) (kind : MatrixMarketErrorKind) : Type
+    0 where
   pub before : List (List ℕ)
   pub text : List ℕ
   pub after : List (List ℕ)
@@ -63,24 +65,28 @@ abbrev pub plains : List (Coo ℤ) → List (Plain ring64)
 plains ms = map (λ m. plain_of_coo ring64 (class_of w64) m) ms
 
 -- the texts have meanings, and over these the expression has this value or this refusal
-pub record HasOutcome (texts : List (List ℕ)) (expr : Expr) (outcome : Result (Plain ring64) ExprError) : Type 0 where
+pub record HasOutcome (texts : List (List ℕ)) (expr : Expr)
+    (outcome : Result (Plain ring64) ExprError) : Type 0 where
   pub ms : List (Coo ℤ)
   pub meant : AllMean texts ms
   pub evaluated : value_of ring64 (plains ms) expr ≡ outcome
 
 -- the text of the expression's value was appended
-pub record Writes (form : Form) (texts : List (List ℕ)) (expr : Expr) (old new : Option (List ℕ)) : Type 0 where
+pub record Writes (form : Form) (texts : List (List ℕ)) (expr : Expr) (old new : Option (List ℕ)) :
+    Type 0 where
   pub value : Plain ring64
   pub is_value : HasOutcome texts expr (Ok value)
   pub appended : Appends old new (text_in form value)
 
 -- a beginning of it was
-pub record WritesSome (form : Form) (texts : List (List ℕ)) (expr : Expr) (old new : Option (List ℕ)) : Type 0 where
+pub record WritesSome (form : Form) (texts : List (List ℕ)) (expr : Expr)
+    (old new : Option (List ℕ)) : Type 0 where
   pub value : Plain ring64
   pub is_value : HasOutcome texts expr (Ok value)
   pub appended : AppendsSome old new (text_in form value)
 
--- what a call did to its sink: the bytes taken, the failed writes, and the kind of the last of these
+-- what a call did to its sink: the bytes taken, the failed writes, and the kind of the last of
+-- these
 pub record Effect : Type 0 where
   pub taken_before : Option (List ℕ)
   pub taken : Option (List ℕ)
@@ -90,7 +96,14 @@ pub record Effect : Type 0 where
 
 -- the effect between two moments
 abbrev pub effect : Option (List ℕ) → Option (List ℕ) → ℕ → ℕ → Option ErrorKind → Effect
-effect taken_before taken failures_before failures last = record { taken_before = taken_before; taken = taken; failures_before = failures_before; failures = failures; last = last }
+effect taken_before taken failures_before failures last =
+    record {
+      taken_before = taken_before;
+      taken = taken;
+      failures_before = failures_before;
+      failures = failures;
+      last = last;
+    }
 
 -- no byte was written, and no write failed
 abbrev pub IsUntouched : Effect → Type 0
@@ -98,9 +111,14 @@ IsUntouched e = (e.taken ≡ e.taken_before) × (e.failures ≡ e.failures_befor
 
 -- when a run is refused, and what it has then written
 abbrev pub RefusesRun : Form → List (List ℕ) → Expr → Effect → ExprError → Type 0
-RefusesRun form texts expr e (refusal.Input number kind) = IsFirstRefused texts number kind × IsUntouched e
-RefusesRun form texts expr e refusal.NoSuchInput = HasOutcome texts expr (Err refusal.NoSuchInput) × IsUntouched e
-RefusesRun form texts expr e refusal.Shape = HasOutcome texts expr (Err refusal.Shape) × IsUntouched e
-RefusesRun form texts expr e (refusal.Write kind) = WritesSome form texts expr e.taken_before e.taken × (e.failures ≡ e.failures_before + 1) × (e.last ≡ Some kind)
-RefusesRun form texts expr e refusal.OutOfMemory = (e.failures ≡ e.failures_before) × ((e.taken ≡ e.taken_before) ⊎ WritesSome form texts expr e.taken_before e.taken)
+RefusesRun form texts expr e (refusal.Input number kind) = IsFirstRefused texts number kind
+    × IsUntouched e
+RefusesRun form texts expr e refusal.NoSuchInput = HasOutcome texts expr (Err refusal.NoSuchInput)
+    × IsUntouched e
+RefusesRun form texts expr e refusal.Shape = HasOutcome texts expr (Err refusal.Shape)
+    × IsUntouched e
+RefusesRun form texts expr e (refusal.Write kind) = WritesSome form texts expr e.taken_before
+    e.taken × (e.failures ≡ e.failures_before + 1) × (e.last ≡ Some kind)
+RefusesRun form texts expr e refusal.OutOfMemory = (e.failures ≡ e.failures_before)
+    × ((e.taken ≡ e.taken_before) ⊎ WritesSome form texts expr e.taken_before e.taken)
 RefusesRun form texts expr e _ = ⊥

@@ -1,7 +1,9 @@
 -- The value of an expression over plain matrices, or its refusal.
-use Rattle.std.specs.Prelude.{◌≡◌, ◌⊎◌, ℕ, zero, suc, nat_eq, ◌&&◌, if◌then◌else◌, List, Result, Ok, Err, Option, Some, None, slice_get, Bool}
+use Rattle.std.specs.Prelude.{◌≡◌, ◌⊎◌, ℕ, zero, suc, nat_eq, ◌&&◌, if◌then◌else◌, List, Result, Ok}
+use Rattle.std.specs.Prelude.{Err, Option, Some, None, slice_get, Bool}
 use Rattle.sparse_algebra.specs.Algebra.{CommRing}
-use Rattle.sparse_algebra.specs.Plain.{Plain, plain_sum, plain_difference, plain_product, plain_transpose, plain_negation}
+use Rattle.sparse_algebra.specs.Plain.{Plain, plain_sum, plain_difference, plain_product}
+use Rattle.sparse_algebra.specs.Plain.{plain_transpose, plain_negation}
 use Rattle.sparse_expr.specs.declared.expr.Expr.{Expr}
 use Rattle.sparse_expr.specs.declared.expr.Expr.TheVariants as tree
 use Rattle.sparse_expr.specs.declared.error.ExprError.{ExprError}

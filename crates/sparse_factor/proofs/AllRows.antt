@@ -12,7 +12,8 @@ use Rattle.sparse_factor.proofs.FillLaws.{row_base}
 use Rattle.sparse_factor.proofs.FilledRows.{AreFilledRows}
 
 -- the places of a column up to its diagonal are the base of its row
-pub starts_base : (p : Raw) → IsValid p → (i : ℕ) (starts : List ℕ) → i < p.major_dim → starts ≡ lane_of p i
+pub starts_base : (p : Raw) → IsValid p → (i : ℕ) (starts : List ℕ) → i < p.major_dim
+    → starts ≡ lane_of p i
     → (j : ℕ) → (Contains starts j × (j ≤ i)) ↔ UpperBase p i j
 starts_base p valid i starts lt is j =
     let has = lane_has p valid i j lt in (
@@ -26,15 +27,18 @@ pub all_rows : (p : Raw) (offsets : List ℕ) (s : Climbs) (i : ℕ) → i ≡ p
 all_rows p offsets s i end are =
     let rows : i ≡ length offsets - 1 = omega (arith, are.rows.count) in
     let width : p.major_dim ≡ length offsets - 1 = omega (arith, are.rows.count) in
-    let stored : StoresByRows (Filled (UpperBase p)) (raw_of i p.major_dim offsets s.nodes) = λ q j. elim (lt_or_ge q i) [
+    let stored : StoresByRows (Filled (UpperBase p)) (raw_of i p.major_dim offsets s.nodes) =
+    λ q j. elim (lt_or_ge q i) [
       | inl lt ↦ are.places q j lt
       | inr past ↦ (
         λ h. absurd (omega (arith, h.in_lane.lane)),
         λ f. let (r, b) = row_base f in absurd (omega (arith, b.0.in_lane.lane)),
       )
     ] in
-    subst (λ k. StoresByRows (Filled (UpperBase p)) (raw_of (length offsets - 1) k offsets s.nodes)) width
-    (subst (λ k. StoresByRows (Filled (UpperBase p)) (raw_of k p.major_dim offsets s.nodes)) rows stored)
+    subst (λ k. StoresByRows (Filled (UpperBase p)) (raw_of (length offsets - 1) k offsets s.nodes))
+    width
+    (subst (λ k. StoresByRows (Filled (UpperBase p)) (raw_of k p.major_dim offsets s.nodes)) rows
+    stored)
 
 pub all_lists : (p : Raw) (offsets : List ℕ) (s : Climbs) (i : ℕ) → i ≡ p.major_dim
     → AreFilledRows (UpperBase p) p.major_dim offsets s i → AreRowLists (square_of offsets s.nodes)

@@ -1,11 +1,15 @@
 -- A climb, step by step.
-use Rattle.std.proofs.Common.{◌≡◌, ◌≢◌, ℕ, ◌+◌, ◌<◌, ◌≤◌, ◌⊎◌, inl, inr, List, [], ◌∷◌, ◌++◌, length, set, slice_index, append_assoc, length-set, get_or-set_same, get_or-set_other, refl, sym, ap, ◌∙◌, subst, arith}
+use Rattle.std.proofs.Common.{◌≡◌, ◌≢◌, ℕ, ◌+◌, ◌<◌, ◌≤◌, ◌⊎◌, inl, inr, List, [], ◌∷◌, ◌++◌}
+use Rattle.std.proofs.Common.{length, set, slice_index, append_assoc, length-set, get_or-set_same}
+use Rattle.std.proofs.Common.{get_or-set_other, refl, sym, ap, ◌∙◌, subst, arith}
 use Rattle.std.specs.List.{Contains}
 use Rattle.std.proofs.lemmas.List.{get_or_default, append-nil}
-use Rattle.std.proofs.lemmas.List.Elements.{Contains-push, Contains-push_cases, Contains-append_left}
+use Rattle.std.proofs.lemmas.List.Elements.{Contains-push, Contains-push_cases}
+use Rattle.std.proofs.lemmas.List.Elements.{Contains-append_left}
 use Rattle.std.proofs.lemmas.List.Quantifiers.{all_pairs_push}
 use Rattle.sparse_lemmas.proofs.Cases.{same_or_not, le_cases}
-use Rattle.sparse_factor.specs.InnerClimbs.{Climbs, climbs_of, parent_of, IsMarked, AreInRow, IsClosed, IsLedTo, Gains, AreClimbs, IsNext}
+use Rattle.sparse_factor.specs.InnerClimbs.{Climbs, climbs_of, parent_of, IsMarked, AreInRow}
+use Rattle.sparse_factor.specs.InnerClimbs.{IsClosed, IsLedTo, Gains, AreClimbs, IsNext}
 
 -- a climb of row i from `start` has come to `node`
 pub record IsClimbing (old now : Climbs) (i start node : ℕ) : Type 0 where
@@ -42,7 +46,10 @@ begins s i start arrays closed le = record {
 }
 
 -- one step, from a node that the row has not
-module _ (old c : Climbs) (i start node next : ℕ) (parents : List ℕ) (is : IsClimbing old c i start node) (new : IsMarked c i node → ⊥) (size : length parents ≡ length c.parents) (follows : IsNext c.parents parents node i next) where
+module _ (old c : Climbs) (i start node next : ℕ) (parents : List ℕ)
+    (is : IsClimbing old c i start node) (new : IsMarked c i node → ⊥)
+    (size : length parents ≡ length c.parents)
+    (follows : IsNext c.parents parents node i next) where
   abbrev d : Climbs
   d = climbs_of (set c.marks node (i + 1)) parents (c.nodes ++ node ∷ [])
 
@@ -93,8 +100,15 @@ module _ (old c : Climbs) (i start node next : ℕ) (parents : List ℕ) (is : I
       | inl lt ↦ elim (same_or_not (parent_of c node) 0) [
         | inl none ↦
             let h = follows.had_none lt none in
-            inr (subst (λ x. parent_of c x ≡ 0) (sym e) none, subst (λ x. parent_of d x ≡ i) (sym e) h.1, omega arith, subst (IsMarked d i) (sym e) marked_up)
-        | inr some ↦ inl (subst (λ x. parent_of d x ≡ parent_of c x) (sym e) (follows.had_parent lt some).1)
+            inr (
+              subst (λ x. parent_of c x ≡ 0) (sym e) none,
+              subst (λ x. parent_of d x ≡ i) (sym e)
+                  h.1,
+              omega arith,
+              subst (IsMarked d i) (sym e) marked_up,
+            )
+        | inr some ↦ inl (subst (λ x. parent_of d x ≡ parent_of c x) (sym e)
+            (follows.had_parent lt some).1)
       ]
     ]
   ]
@@ -107,7 +121,12 @@ module _ (old c : Climbs) (i start node next : ℕ) (parents : List ℕ) (is : I
 
   led_later : (Start : ℕ → Type 0) (j : ℕ) → IsLedTo c i Start j → IsLedTo d i Start j
   led_later Start j (inl s) = inl s
-  led_later Start j (inr l) = inr (l.0, l.1, marked_later l.0 l.2, parent_kept l.0 j l.3 (λ e. omega (arith, l.1)))
+  led_later Start j (inr l) = inr (
+    l.0,
+    l.1,
+    marked_later l.0 l.2,
+    parent_kept l.0 j l.3 (λ e. omega (arith, l.1)),
+  )
 
   gains_node : Gains old.nodes d.nodes (λ k. IsMarked d i k × (IsMarked old i k → ⊥))
   gains_node =
@@ -115,11 +134,20 @@ module _ (old c : Climbs) (i start node next : ℕ) (parents : List ℕ) (is : I
       record {
         gained = g.gained ++ node ∷ [];
         split = ap (λ xs. xs ++ node ∷ []) g.split ∙ append_assoc old.nodes g.gained (node ∷ []);
-        once = all_pairs_push (λ x y. x ≢ y) g.gained node g.once (λ k e lt same. new ((g.listed node).0 (k, lt, get_or_default g.gained k node e lt ∙ same)).0);
+        once = all_pairs_push (λ x y. x ≢ y) g.gained node g.once
+            (λ k e lt same. new ((g.listed node).0 (
+              k,
+              lt,
+              get_or_default g.gained k node e lt
+                  ∙ same,
+            )).0);
         listed = λ k. (
           λ h. elim (Contains-push_cases g.gained node k h) [
             | inl o ↦ let m = (g.listed k).0 o in (marked_later k m.0, m.1)
-            | inr s ↦ (subst (IsMarked d i) s marked_up, λ m. new (subst (IsMarked c i) (sym s) (is.climbs.kept k m)))
+            | inr s ↦ (
+              subst (IsMarked d i) s marked_up,
+              λ m. new (subst (IsMarked c i) (sym s) (is.climbs.kept k m)),
+            )
           ],
           λ m. elim (marked_split k m.0) [
             | inl o ↦ Contains-append_left g.gained (node ∷ []) k ((g.listed k).1 (o, m.1))
@@ -146,7 +174,8 @@ module _ (old c : Climbs) (i start node next : ℕ) (parents : List ℕ) (is : I
         | inl before ↦ inl before
         | inr l ↦ inr (led_later (λ j. j ≡ start) j l)
       ]
-      | inr e ↦ inr (subst (IsLedTo d i (λ j. j ≡ start)) (sym e) (led_later (λ j. j ≡ start) node is.led))
+      | inr e ↦ inr (subst (IsLedTo d i (λ j. j ≡ start)) (sym e)
+          (led_later (λ j. j ≡ start) node is.led))
     ];
     gains = gains_node;
   }
@@ -155,9 +184,14 @@ module _ (old c : Climbs) (i start node next : ℕ) (parents : List ℕ) (is : I
   arrays_on = record {
     row = omega (arith, is.arrays.row, length-set c.marks node (i + 1));
     same_length = omega (arith, size, is.arrays.same_length, length-set c.marks node (i + 1));
-    low = λ k m. elim (marked_split k m) [ inl o ↦ is.arrays.low k o | inr e ↦ omega (arith, is.within) ];
+    low = λ k m. elim (marked_split k m) [
+      | inl o ↦ is.arrays.low k o
+      | inr e ↦ omega
+          (arith, is.within)
+    ];
     high = λ k. elim (same_or_not k node) [
-      | inl e ↦ let here : slice_index d.marks k ≡ i + 1 = subst (IsMarked d i) (sym e) marked_up in omega arith
+      | inl e ↦ let here : slice_index d.marks k ≡ i + 1 =
+          subst (IsMarked d i) (sym e) marked_up in omega arith
       | inr ne ↦ omega (arith, mark_other k ne, is.arrays.high k)
     ];
     parents = λ k some. elim (grown k) [
@@ -205,7 +239,8 @@ module _ (old c : Climbs) (i start node next : ℕ) (parents : List ℕ) (is : I
   }
 
 -- the end, at a node that the row has
-module _ (old c : Climbs) (i start node : ℕ) (is : IsClimbing old c i start node) (marked : IsMarked c i node) where
+module _ (old c : Climbs) (i start node : ℕ) (is : IsClimbing old c i start node)
+    (marked : IsMarked c i node) where
   pub ends_closed : IsClosed c i
   ends_closed k lt m =
       let h = is.closed k lt m in

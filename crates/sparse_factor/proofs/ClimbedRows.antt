@@ -1,14 +1,19 @@
 -- The climbs of one row, one after another.
-use Rattle.std.proofs.Common.{◌≡◌, ◌≢◌, ℕ, ◌+◌, ◌<◌, ◌≤◌, ◌⊎◌, inl, inr, List, ◌++◌, length, get_or, slice_index, append_assoc, sym, ap, ◌∙◌, subst, arith}
+use Rattle.std.proofs.Common.{◌≡◌, ◌≢◌, ℕ, ◌+◌, ◌<◌, ◌≤◌, ◌⊎◌, inl, inr, List, ◌++◌, length, get_or}
+use Rattle.std.proofs.Common.{slice_index, append_assoc, sym, ap, ◌∙◌, subst, arith}
 use Rattle.std.specs.List.{Contains}
 use Rattle.std.proofs.lemmas.List.{get_or_default}
-use Rattle.std.proofs.lemmas.List.Elements.{Contains-append_left, Contains-append_right, Contains-append_cases}
+use Rattle.std.proofs.lemmas.List.Elements.{Contains-append_left, Contains-append_right}
+use Rattle.std.proofs.lemmas.List.Elements.{Contains-append_cases}
 use Rattle.sparse_lemmas.proofs.Cases.{same_or_not, lt_add_one_cases}
-use Rattle.sparse_factor.specs.InnerClimbs.{Climbs, parent_of, IsMarked, AreInRow, IsClosed, Gains, AreClimbs}
+use Rattle.sparse_factor.specs.InnerClimbs.{Climbs, parent_of, IsMarked, AreInRow, IsClosed, Gains}
+use Rattle.sparse_factor.specs.InnerClimbs.{AreClimbs}
 use Rattle.sparse_factor.proofs.DistinctLists.{all_pairs_append}
 use Rattle.sparse_factor.proofs.ClimbSteps.{no_climbs}
 
-module _ (a b c : Climbs) (i : ℕ) (First Second Start : ℕ → Type 0) (one : AreClimbs a b i First) (two : AreClimbs b c i Second) (from_first : (j : ℕ) → First j → Start j) (from_second : (j : ℕ) → Second j → Start j) where
+module _ (a b c : Climbs) (i : ℕ) (First Second Start : ℕ → Type 0) (one : AreClimbs a b i First)
+    (two : AreClimbs b c i Second) (from_first : (j : ℕ) → First j → Start j)
+    (from_second : (j : ℕ) → Second j → Start j) where
   parent_stays : (k p : ℕ) → parent_of b k ≡ p → p ≢ 0 → parent_of c k ≡ p
   parent_stays k p e ne = elim (two.grown k) [
     | inl same ↦ same ∙ e
@@ -24,7 +29,8 @@ module _ (a b c : Climbs) (i : ℕ) (First Second Start : ℕ → Type 0) (one :
       let h = two.gains in
       record {
         gained = g.gained ++ h.gained;
-        split = h.split ∙ ap (λ xs. xs ++ h.gained) g.split ∙ append_assoc a.nodes g.gained h.gained;
+        split = h.split ∙ ap (λ xs. xs ++ h.gained) g.split
+            ∙ append_assoc a.nodes g.gained h.gained;
         once = all_pairs_append (λ x y. x ≢ y) g.gained h.gained g.once h.once (λ x y hx hy e.
             ((h.listed y).0 hy).1 (subst (IsMarked b i) e ((g.listed x).0 hx).0));
         listed = λ k. (
@@ -58,7 +64,12 @@ module _ (a b c : Climbs) (i : ℕ) (First Second Start : ℕ → Type 0) (one :
         | inl early ↦ inl early
         | inr l ↦ inr (elim l [
           | inl s ↦ inl (from_first j s)
-          | inr t ↦ inr (t.0, t.1, two.kept t.0 t.2, parent_stays t.0 j t.3 (λ e. omega (arith, t.1)))
+          | inr t ↦ inr (
+            t.0,
+            t.1,
+            two.kept t.0 t.2,
+            parent_stays t.0 j t.3 (λ e. omega (arith, t.1)),
+          )
         ])
       ]
     ];
@@ -81,7 +92,8 @@ none_started s i starts arrays closed = record {
   started = λ k lt. absurd (omega arith);
 }
 
-module _ (old mid : Climbs) (i : ℕ) (starts : List ℕ) (t : ℕ) (before : AreStarted old mid i starts t) (lt : t < length starts) where
+module _ (old mid : Climbs) (i : ℕ) (starts : List ℕ) (t : ℕ)
+    (before : AreStarted old mid i starts t) (lt : t < length starts) where
   abbrev start : ℕ
   start = get_or starts t 0
 
@@ -89,11 +101,13 @@ module _ (old mid : Climbs) (i : ℕ) (starts : List ℕ) (t : ℕ) (before : Ar
   is_start = (t, lt, get_or_default starts t start 0 lt)
 
   pub one_started : (now : Climbs) → start ≤ i → AreInRow now i → IsClosed now i
-      → AreClimbs mid now i (λ j. j ≡ start) → IsMarked now i start → AreStarted old now i starts (t + 1)
+      → AreClimbs mid now i (λ j. j ≡ start) → IsMarked now i start
+      → AreStarted old now i starts (t + 1)
   one_started now le arrays closed climbs marked = record {
     arrays = arrays;
     closed = closed;
-    climbs = climbs_after old mid now i (λ j. Contains starts j × (j ≤ i)) (λ j. j ≡ start) (λ j. Contains starts j × (j ≤ i)) before.climbs climbs
+    climbs = climbs_after old mid now i (λ j. Contains starts j × (j ≤ i)) (λ j. j ≡ start)
+        (λ j. Contains starts j × (j ≤ i)) before.climbs climbs
         (λ j h. h) (λ j e. (subst (Contains starts) (sym e) is_start, omega arith));
     started = λ k less within. elim (lt_add_one_cases k t less) [
       | inl early ↦ climbs.kept (get_or starts k 0) (before.started k early within)
@@ -108,11 +122,13 @@ module _ (old mid : Climbs) (i : ℕ) (starts : List ℕ) (t : ℕ) (before : Ar
     climbs = before.climbs;
     started = λ k less within. elim (lt_add_one_cases k t less) [
       | inl early ↦ before.started k early within
-      | inr e ↦ let at : get_or starts k 0 ≡ start = ap (λ x. get_or starts x 0) e in absurd (omega arith)
+      | inr e ↦ let at : get_or starts k 0 ≡ start = ap (λ x. get_or starts x 0) e in absurd
+          (omega arith)
     ];
   }
 
-pub all_started : (old now : Climbs) (i : ℕ) (starts : List ℕ) (t : ℕ) → AreStarted old now i starts t
+pub all_started : (old now : Climbs) (i : ℕ) (starts : List ℕ) (t : ℕ)
+    → AreStarted old now i starts t
     → length starts ≤ t → (j : ℕ) → Contains starts j → j ≤ i → IsMarked now i j
 all_started old now i starts t are le j has within =
     let at : get_or starts has.0 0 ≡ j = get_or_default starts has.0 0 j has.1 ∙ has.2 in

@@ -21,9 +21,14 @@ below_true a b lt = grind (arith, nat_tests)
 true_below : (a b : ℕ) → ltb a b ≡ true → a < b
 true_below a b is = grind (arith, nat_tests)
 
-module _ (base : ℕ → ℕ → Type 0) (low : (i j : ℕ) → base i j → j ≤ i) (d t : Raw) (rows : StoresByRows (Filled base) d) (turned : IsTransposedPattern d t) (valid : IsValid t) where
+module _ (base : ℕ → ℕ → Type 0) (low : (i j : ℕ) → base i j → j ≤ i) (d t : Raw)
+    (rows : StoresByRows (Filled base) d) (turned : IsTransposedPattern d t)
+    (valid : IsValid t) where
   filled : (i j : ℕ) → IsPlace t j i ↔ Filled base i j
-  filled i j = (λ h. (rows i j).0 ((turned.places i j).0 h), λ f. (turned.places i j).1 ((rows i j).1 f))
+  filled i j = (
+    λ h. (rows i j).0 ((turned.places i j).0 h),
+    λ f. (turned.places i j).1 ((rows i j).1 f),
+  )
 
   -- a test for the places of the factor
   stored : ℕ → ℕ → Bool
@@ -39,7 +44,8 @@ module _ (base : ℕ → ℕ → Type 0) (low : (i j : ℕ) → base i j → j �
         λ f.
             let place = (filled i j).1 f in
             let lane = place.in_lane.lane in
-            and_both (ltb j t.major_dim) (is_member eqb (lane_of t j) i) (below_true j t.major_dim lane) (d.1 ((lane_has t valid j i lane).1 place)),
+            and_both (ltb j t.major_dim) (is_member eqb (lane_of t j) i)
+            (below_true j t.major_dim lane) (d.1 ((lane_has t valid j i lane).1 place)),
       )
 
   pub stores_fill : StoresByColumns (InFill base) t

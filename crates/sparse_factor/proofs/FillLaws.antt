@@ -1,5 +1,6 @@
 -- Laws of the fill of a base: it is the least closed set, and its rows come by climbs.
-use Rattle.std.proofs.Common.{ℕ, zero, suc, ◌+◌, ◌<◌, ◌≤◌, ◌↔◌, inl, inr, Bool, IsTrue, subst, arith}
+use Rattle.std.proofs.Common.{ℕ, zero, suc, ◌+◌, ◌<◌, ◌≤◌, ◌↔◌, inl, inr, Bool, IsTrue, subst}
+use Rattle.std.proofs.Common.{arith}
 use Rattle.std.proofs.Math.Nat.{eq-or-lt_of_le}
 use Rattle.sparse_factor.specs.Fill.{InFill}
 use Rattle.sparse_factor.specs.InnerFilled.{Filled, given, fill}
@@ -41,9 +42,11 @@ module _ (base : ℕ → ℕ → Type 0) (low : (i j : ℕ) → base i j → j �
 abbrev pub IsClimbed : (ℕ → ℕ → Type 0) → ℕ → (ℕ → Type 0) → Type 0
 IsClimbed base i M =
     (k : ℕ) → M k → k < i →
-    (p : ℕ) × (k < p) × (p ≤ i) × M p × Filled base p k × ((q : ℕ) → k < q → q ≤ i → Filled base q k → p ≤ q)
+    (p : ℕ) × (k < p) × (p ≤ i) × M p × Filled base p k
+    × ((q : ℕ) → k < q → q ≤ i → Filled base q k → p ≤ q)
 
-climbs : (base : ℕ → ℕ → Type 0) (n i j k : ℕ) (M : ℕ → Type 0) → IsClimbed base i M → j ≤ k + n → k < j → j ≤ i →
+climbs : (base : ℕ → ℕ → Type 0) (n i j k : ℕ) (M : ℕ → Type 0) → IsClimbed base i M → j ≤ k + n
+    → k < j → j ≤ i →
     M k → Filled base j k → M j
 climbs base zero i j k M climbed near lt le m g = absurd (omega arith)
 climbs base (suc n) i j k M climbed near lt le m g =
@@ -54,7 +57,8 @@ climbs base (suc n) i j k M climbed near lt le m g =
     ]
 
 -- row i is all that the climbs from its base mark
-pub row_fill : (base : ℕ → ℕ → Type 0) {i j : ℕ} → Filled base i j → (M : ℕ → Type 0) → IsClimbed base i M →
+pub row_fill : (base : ℕ → ℕ → Type 0) {i j : ℕ} → Filled base i j → (M : ℕ → Type 0)
+    → IsClimbed base i M →
     ((k : ℕ) → base i k → M k) → M j
 row_fill base (given {i} {j} b) M climbed holds = holds j b
 row_fill base (fill {i} {j} {k} f g lt le) M climbed holds =

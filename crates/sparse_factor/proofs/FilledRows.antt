@@ -1,11 +1,14 @@
 -- The rows of the fill that climbs have made, and one row more.
-use Rattle.std.proofs.Common.{◌≡◌, ◌≢◌, ℕ, zero, suc, ◌+◌, ◌<◌, ◌≤◌, inl, inr, ◌↔◌, List, [], ◌∷◌, ◌++◌, length, replicate, slice_index, refl, sym, ap, ◌∙◌, subst, arith}
+use Rattle.std.proofs.Common.{◌≡◌, ◌≢◌, ℕ, zero, suc, ◌+◌, ◌<◌, ◌≤◌, inl, inr, ◌↔◌, List, [], ◌∷◌}
+use Rattle.std.proofs.Common.{◌++◌, length, replicate, slice_index, refl, sym, ap, ◌∙◌, subst}
+use Rattle.std.proofs.Common.{arith}
 use Rattle.std.specs.List.{Contains}
 use Rattle.std.proofs.lemmas.List.{length-replicate}
 use Rattle.sparse_lemmas.proofs.Cases.{lt_add_one_cases, lt_or_ge}
 use Rattle.sparse_pattern.specs.Raw.{raw_of, IsPlace}
 use Rattle.sparse_factor.specs.InnerFilled.{Filled, given, fill}
-use Rattle.sparse_factor.specs.InnerClimbs.{Climbs, climbs_of, parent_of, IsMarked, AreInRow, IsClosed, AreClimbs, AreCounts}
+use Rattle.sparse_factor.specs.InnerClimbs.{Climbs, climbs_of, parent_of, IsMarked, AreInRow}
+use Rattle.sparse_factor.specs.InnerClimbs.{IsClosed, AreClimbs, AreCounts}
 use Rattle.sparse_factor.specs.InnerPaths.{AreBelowMarks}
 use Rattle.sparse_factor.specs.InnerRowLists.{AreRowLists}
 use Rattle.sparse_factor.proofs.FillLaws.{row_fill}
@@ -19,7 +22,8 @@ pub record IsParent (base : ℕ → ℕ → Type 0) (k p : ℕ) : Type 0 where
   pub least : (q : ℕ) → k < q → Filled base q k → p ≤ q
 
 -- rows 0 to i of the fill, and the parents that they give
-pub record AreFilledRows (base : ℕ → ℕ → Type 0) (n : ℕ) (offsets : List ℕ) (s : Climbs) (i : ℕ) : Type 0 where
+pub record AreFilledRows (base : ℕ → ℕ → Type 0) (n : ℕ) (offsets : List ℕ) (s : Climbs) (i : ℕ) :
+    Type 0 where
   pub rows : AreRowLists (raw_of i n offsets s.nodes)
   pub places : (q j : ℕ) → q < i → IsPlace (raw_of i n offsets s.nodes) q j ↔ Filled base q j
   pub marks : (k : ℕ) → slice_index s.marks k ≤ i
@@ -57,10 +61,12 @@ no_rows base n marks parents m p = record {
 pub no_counts : (n : ℕ) (counts : List ℕ) → counts ≡ replicate n 0 → AreCounts counts []
 no_counts n counts is k lt = ap (λ xs. slice_index xs k) is ∙ zeros_zero n k
 
-pub none_below : (n : ℕ) (counts marks : List ℕ) → counts ≡ replicate n 0 → AreBelowMarks counts marks
+pub none_below : (n : ℕ) (counts marks : List ℕ) → counts ≡ replicate n 0
+    → AreBelowMarks counts marks
 none_below n counts marks is k = omega (arith, ap (λ xs. slice_index xs k) is, zeros_zero n k)
 
-module _ (base : ℕ → ℕ → Type 0) (n : ℕ) (offsets : List ℕ) (s : Climbs) (i : ℕ) (are : AreFilledRows base n offsets s i) where
+module _ (base : ℕ → ℕ → Type 0) (n : ℕ) (offsets : List ℕ) (s : Climbs) (i : ℕ)
+    (are : AreFilledRows base n offsets s i) where
   none_marked : (k : ℕ) → IsMarked s i k → ⊥
   none_marked k m = omega (arith, are.marks k)
 
@@ -77,7 +83,11 @@ module _ (base : ℕ → ℕ → Type 0) (n : ℕ) (offsets : List ℕ) (s : Cli
   row_closed k lt m = absurd (none_marked k m)
 
   -- the climbs of row i
-  module _ (new : Climbs) (starts : List ℕ) (start_is : (j : ℕ) → (Contains starts j × (j ≤ i)) ↔ base i j) (arrays : AreInRow new i) (closed : IsClosed new i) (climbs : AreClimbs s new i (λ j. Contains starts j × (j ≤ i))) (started : (j : ℕ) → Contains starts j → j ≤ i → IsMarked new i j) (mark_count : length new.marks ≡ n) where
+  module _ (new : Climbs) (starts : List ℕ) (start_is : (j : ℕ) → (Contains starts j × (j ≤ i))
+      ↔ base i j) (arrays : AreInRow new i) (closed : IsClosed new i)
+      (climbs : AreClimbs s new i (λ j. Contains starts j × (j ≤ i)))
+      (started : (j : ℕ) → Contains starts j → j ≤ i → IsMarked new i j)
+      (mark_count : length new.marks ≡ n) where
     sound_below : (m j : ℕ) → j < m → IsMarked new i j → Filled base i j
     sound_below zero j lt h = absurd (omega arith)
     sound_below (suc m) j lt h = elim (climbs.reached j h) [
@@ -89,7 +99,8 @@ module _ (base : ℕ → ℕ → Type 0) (n : ℕ) (offsets : List ℕ) (s : Cli
             let g : Filled base j l.0 = elim (climbs.grown l.0) [
               | inl same ↦
                   let at : parent_of s l.0 ≡ j = sym same ∙ l.3 in
-                  subst (λ x. Filled base x l.0) at (are.parents l.0 (λ e. omega (arith, l.1))).1.filled
+                  subst (λ x. Filled base x l.0) at (are.parents l.0
+                  (λ e. omega (arith, l.1))).1.filled
               | inr h2 ↦ subst (λ x. Filled base x l.0) (sym h2.1 ∙ l.3) f
             ] in
             fill f g l.1 (arrays.low j h)
@@ -99,7 +110,8 @@ module _ (base : ℕ → ℕ → Type 0) (n : ℕ) (offsets : List ℕ) (s : Cli
     sound : (j : ℕ) → IsMarked new i j → Filled base i j
     sound j h = sound_below (j + 1) j (omega arith) h
 
-    parents_next : (k : ℕ) → parent_of new k ≢ 0 → (parent_of new k < i + 1) × IsParent base k (parent_of new k)
+    parents_next : (k : ℕ) → parent_of new k ≢ 0 → (parent_of new k < i + 1)
+        × IsParent base k (parent_of new k)
     parents_next k some = elim (climbs.grown k) [
       | inl same ↦
           let p = are.parents k (λ e. some (same ∙ e)) in
@@ -121,8 +133,14 @@ module _ (base : ℕ → ℕ → Type 0) (n : ℕ) (offsets : List ℕ) (s : Cli
     whole j f = row_fill base f (λ k. IsMarked new i k)
         (λ k m lt.
         let c = closed k lt m in
-        let p = parents_next k c.0 in
-        (parent_of new k, p.1.above, omega (arith, p.0), c.1, p.1.filled, λ q up within g. p.1.least q up g))
+        let p = parents_next k c.0 in (
+          parent_of new k,
+          p.1.above,
+          omega (arith, p.0),
+          c.1,
+          p.1.filled,
+          λ q up within g. p.1.least q up g,
+        ))
         (λ k b. let s = (start_is k).1 b in started k s.0 s.1)
 
     no_parent_next : (k q : ℕ) → parent_of new k ≡ 0 → k < q → q < i + 1 → Filled base q k → ⊥
@@ -148,23 +166,31 @@ module _ (base : ℕ → ℕ → Type 0) (n : ℕ) (offsets : List ℕ) (s : Cli
     abbrev gained : List ℕ
     gained = climbs.gains.gained
 
-    places_next : (q j : ℕ) → q < i + 1 → IsPlace (pushed n i offsets s.nodes gained are.rows climbs.gains.once gained_below) q j ↔ Filled base q j
+    places_next : (q j : ℕ) → q < i + 1 → IsPlace
+        (pushed n i offsets s.nodes gained are.rows climbs.gains.once gained_below) q j
+        ↔ Filled base q j
     places_next q j lt = elim (lt_add_one_cases q i lt) [
       | inl early ↦
           let old = are.places q j early in
-          let kept = places_kept n i offsets s.nodes gained are.rows climbs.gains.once gained_below q j early in
+          let kept = places_kept n i offsets s.nodes gained are.rows climbs.gains.once gained_below
+          q j early in
           (λ h. old.0 (kept.0 h), λ f. kept.1 (old.1 f))
       | inr e ↦
-          let last = places_last n i offsets s.nodes gained are.rows climbs.gains.once gained_below j in
+          let last = places_last n i offsets s.nodes gained are.rows climbs.gains.once gained_below
+          j in
           let is = gained_is j in
-          subst (λ x. IsPlace (pushed n i offsets s.nodes gained are.rows climbs.gains.once gained_below) x j ↔ Filled base x j) (sym e) (λ h. is.0 (last.0 h), λ f. last.1 (is.1 f))
+          subst (λ x. IsPlace (pushed n i offsets s.nodes gained are.rows climbs.gains.once
+          gained_below) x j ↔ Filled base x j) (sym e)
+          (λ h. is.0 (last.0 h), λ f. last.1 (is.1 f))
     ]
 
     pub row_more : AreFilledRows base n (offsets ++ length new.nodes ∷ []) new (i + 1)
     row_more = record {
-      rows = subst (λ xs. AreRowLists (raw_of (i + 1) n (offsets ++ length xs ∷ []) xs)) (sym climbs.gains.split)
+      rows = subst (λ xs. AreRowLists (raw_of (i + 1) n (offsets ++ length xs ∷ []) xs))
+          (sym climbs.gains.split)
           (rows_pushed n i offsets s.nodes gained are.rows climbs.gains.once gained_below);
-      places = λ q j lt. subst (λ xs. IsPlace (raw_of (i + 1) n (offsets ++ length xs ∷ []) xs) q j ↔ Filled base q j) (sym climbs.gains.split) (places_next q j lt);
+      places = λ q j lt. subst (λ xs. IsPlace (raw_of (i + 1) n (offsets ++ length xs ∷ []) xs) q j
+          ↔ Filled base q j) (sym climbs.gains.split) (places_next q j lt);
       marks = arrays.high;
       mark_count = mark_count;
       parent_count = arrays.same_length ∙ mark_count;

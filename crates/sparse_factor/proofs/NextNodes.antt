@@ -1,5 +1,6 @@
 -- The node after a node of a climb.
-use Rattle.std.proofs.Common.{◌≡◌, ◌≢◌, ℕ, ◌<◌, List, length, set, slice_index, get_or-set_same, get_or-set_other, refl, ◌∙◌, arith}
+use Rattle.std.proofs.Common.{◌≡◌, ◌≢◌, ℕ, ◌<◌, List, length, set, slice_index, get_or-set_same}
+use Rattle.std.proofs.Common.{get_or-set_other, refl, ◌∙◌, arith}
 use Rattle.sparse_factor.specs.InnerClimbs.{IsNext}
 
 pub next_at_row : (xs : List ℕ) (node i : ℕ) → node ≡ i → IsNext xs xs node i i
@@ -10,7 +11,8 @@ next_at_row xs node i at = record {
   had_none = λ lt none. absurd (omega arith);
 }
 
-pub next_is_parent : (xs : List ℕ) (node i parent : ℕ) → node ≢ i → parent ≡ slice_index xs node → parent ≢ 0
+pub next_is_parent : (xs : List ℕ) (node i parent : ℕ) → node ≢ i → parent ≡ slice_index xs node
+    → parent ≢ 0
     → IsNext xs xs node i parent
 next_is_parent xs node i parent ne is some = record {
   others = λ k ne. refl;

@@ -1,5 +1,6 @@
 -- Positions of rows that list their nodes in any order.
-use Rattle.std.proofs.Common.{◌≡◌, ℕ, zero, suc, ◌+◌, ◌-◌, ◌<◌, ◌≤◌, inl, inr, length, get_or, slice_index, All, subst, sym, arith}
+use Rattle.std.proofs.Common.{◌≡◌, ℕ, zero, suc, ◌+◌, ◌-◌, ◌<◌, ◌≤◌, inl, inr, length, get_or}
+use Rattle.std.proofs.Common.{slice_index, All, subst, sym, arith}
 use Rattle.std.proofs.lemmas.Grind.{get_or_default_zero}
 use Rattle.sparse_lemmas.proofs.Cases.{lt_or_ge, three}
 use Rattle.sparse_pattern.specs.Raw.{Raw, start_of, end_of, IsInLane}
@@ -7,7 +8,8 @@ use Rattle.sparse_factor.specs.InnerRowLists.{AreRowLists}
 
 module _ (d : Raw) (rows : AreRowLists d) where
   starts_rise : (i n : ℕ) → i + n ≤ d.major_dim → start_of d i ≤ start_of d (i + n)
-  starts_rise i zero le = let e : i ≡ i + zero = omega arith in subst (λ k. start_of d i ≤ start_of d k) e (omega arith)
+  starts_rise i zero le = let e : i ≡ i + zero =
+      omega arith in subst (λ k. start_of d i ≤ start_of d k) e (omega arith)
   starts_rise i (suc n) le =
       let before = starts_rise i n (omega arith) in
       let step = rows.ordered (i + n) (omega arith) in
@@ -20,13 +22,28 @@ module _ (d : Raw) (rows : AreRowLists d) where
       subst (λ l. start_of d i ≤ start_of d l) e (starts_rise i (k - i) (omega arith))
 
   pub end_inside : (i : ℕ) → i < d.major_dim → end_of d i ≤ length d.indices
-  end_inside i lt = omega (arith, starts_ordered (i + 1) d.major_dim (omega arith) (omega arith), rows.last)
+  end_inside i lt = omega (
+    arith,
+    starts_ordered (i + 1) d.major_dim (omega arith) (omega arith),
+    rows.last,
+  )
 
   pub one_lane : (i k p : ℕ) → IsInLane d i p → IsInLane d k p → i ≡ k
   one_lane i k p h g = elim (three i k) [
-    | inl lt ↦ absurd (omega (arith, starts_ordered (i + 1) k (omega arith) (omega (arith, g.lane)), h.to, g.from))
+    | inl lt ↦ absurd (omega (
+      arith,
+      starts_ordered (i + 1) k (omega arith) (omega (arith, g.lane)),
+      h.to,
+      g.from,
+    ))
     | inr rest ↦ elim rest [
-      | inl gt ↦ absurd (omega (arith, starts_ordered (k + 1) i (omega arith) (omega (arith, h.lane)), g.to, h.from))
+      | inl gt ↦ absurd
+          (omega (
+            arith,
+            starts_ordered (k + 1) i (omega arith) (omega (arith, h.lane)),
+            g.to,
+            h.from,
+          ))
       | inr same ↦ same
     ]
   ]
@@ -45,5 +62,6 @@ module _ (d : Raw) (rows : AreRowLists d) where
 
   pub nodes_below : All (λ j. j < d.minor_dim) d.indices
   nodes_below p j lt =
-      let read : slice_index d.indices p ≡ get_or d.indices p j = sym (get_or_default_zero d.indices p j lt) in
+      let read : slice_index d.indices p ≡ get_or d.indices p j =
+      sym (get_or_default_zero d.indices p j lt) in
       subst (λ k. k < d.minor_dim) read (rows.bounded p lt)

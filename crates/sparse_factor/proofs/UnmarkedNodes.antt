@@ -1,5 +1,6 @@
 -- How many nodes a row has not come to.
-use Rattle.std.proofs.Common.{◌≡◌, ◌≢◌, ℕ, zero, suc, ◌+◌, ◌<◌, ◌≤◌, List, [], ◌∷◌, length, get_or, set, arith}
+use Rattle.std.proofs.Common.{◌≡◌, ◌≢◌, ℕ, zero, suc, ◌+◌, ◌<◌, ◌≤◌, List, [], ◌∷◌, length, get_or}
+use Rattle.std.proofs.Common.{set, arith}
 use Rattle.std.proofs.lemmas.Bool.Decides.{nat_tests}
 use Rattle.sparse_factor.specs.InnerClimbs.{one_unless, unmarked}
 
@@ -17,7 +18,8 @@ pub unmarked-set : (m n : ℕ) (xs : List ℕ) (i : ℕ) → i < n → i < lengt
 unmarked-set m zero xs i lt within ne = absurd (omega arith)
 unmarked-set m (suc n) [] i lt within ne = absurd (omega arith)
 unmarked-set m (suc n) (x ∷ xs) zero lt within ne = omega (arith, same_is m, other_is m x ne)
-unmarked-set m (suc n) (x ∷ xs) (suc i) lt within ne = omega (arith, unmarked-set m n xs i (omega arith) (omega arith) ne)
+unmarked-set m (suc n) (x ∷ xs) (suc i) lt within ne =
+    omega (arith, unmarked-set m n xs i (omega arith) (omega arith) ne)
 
 pub unmarked-le : (m n : ℕ) (xs : List ℕ) → unmarked m n xs ≤ n
 unmarked-le m zero xs = omega arith

@@ -1,5 +1,6 @@
 -- The fill of a base, by walks.
-use Rattle.std.proofs.Common.{◌≡◌, ℕ, zero, suc, ◌<◌, ◌≤◌, ◌⊎◌, ◌↔◌, inl, inr, refl, sym, subst, arith}
+use Rattle.std.proofs.Common.{◌≡◌, ℕ, zero, suc, ◌<◌, ◌≤◌, ◌⊎◌, ◌↔◌, inl, inr, refl, sym, subst}
+use Rattle.std.proofs.Common.{arith}
 use Rattle.std.proofs.Math.Nat.{eq-or-lt_of_le}
 use Rattle.sparse_factor.specs.Walks.{Joined, Walk, edge, step}
 use Rattle.sparse_factor.specs.InnerFilled.{Filled, given, fill}
@@ -8,18 +9,21 @@ joined_back : (base : ℕ → ℕ → Type 0) (i j : ℕ) → Joined base i j �
 joined_back base i j (inl b) = inr b
 joined_back base i j (inr b) = inl b
 
-pub walk_wider : {base : ℕ → ℕ → Type 0} {m i j : ℕ} → (n : ℕ) → m ≤ n → Walk base m i j → Walk base n i j
+pub walk_wider : {base : ℕ → ℕ → Type 0} {m i j : ℕ} → (n : ℕ) → m ≤ n → Walk base m i j
+    → Walk base n i j
 walk_wider n le (edge e) = edge e
 walk_wider n le (step e lt w) = step e (omega arith) (walk_wider n le w)
 
 -- two walks that meet in a node below m
-pub walk_join : {base : ℕ → ℕ → Type 0} {m i k : ℕ} → Walk base m i k → (j : ℕ) → k < m → Walk base m k j → Walk base m i j
+pub walk_join : {base : ℕ → ℕ → Type 0} {m i k : ℕ} → Walk base m i k → (j : ℕ) → k < m
+    → Walk base m k j → Walk base m i j
 walk_join (edge e) j lt w = step e lt w
 walk_join (step e l v) j lt w = step e l (walk_join v j lt w)
 
 pub walk_back : {base : ℕ → ℕ → Type 0} {m i j : ℕ} → Walk base m i j → Walk base m j i
 walk_back {base} (edge {i} {j} e) = edge (joined_back base i j e)
-walk_back {base} (step {i} {j} {k} e l v) = walk_join (walk_back v) i l (edge (joined_back base i k e))
+walk_back {base} (step {i} {j} {k} e l v) =
+    walk_join (walk_back v) i l (edge (joined_back base i k e))
 
 -- a walk below m + 1 avoids m, or goes to m and from m below m
 pub walk_split : {base : ℕ → ℕ → Type 0} {m i j : ℕ} → Walk base m i j → (n : ℕ) → m ≡ suc n →
@@ -41,12 +45,14 @@ module _ (base : ℕ → ℕ → Type 0) (low : (i j : ℕ) → base i j → j �
   pub walk_of : {i j : ℕ} → Filled base i j → Walk base j i j
   walk_of (given {i} {j} b) = edge (inl b)
   walk_of (fill {i} {j} {k} p q lt le) =
-      walk_join (walk_wider j (omega arith) (walk_of p)) j lt (walk_back (walk_wider j (omega arith) (walk_of q)))
+      walk_join (walk_wider j (omega arith) (walk_of p)) j lt
+      (walk_back (walk_wider j (omega arith) (walk_of q)))
 
   turned : (i j : ℕ) → i ≡ j → base i j → base j i
   turned i j e b = subst (λ x. base x i) e (subst (λ x. base i x) (sym e) b)
 
-  joined_filled : (i j : ℕ) → Joined base i j → (j ≤ i → Filled base i j) × (i ≤ j → Filled base j i)
+  joined_filled : (i j : ℕ) → Joined base i j → (j ≤ i → Filled base i j)
+      × (i ≤ j → Filled base j i)
   joined_filled i j (inl b) =
       let l : j ≤ i = low i j b in
       ((λ h. given b), (λ h. let e : i ≡ j = omega arith in given (turned i j e b)))
@@ -55,17 +61,21 @@ module _ (base : ℕ → ℕ → Type 0) (low : (i j : ℕ) → base i j → j �
       ((λ h. let e : j ≡ i = omega arith in given (turned j i e b)), (λ h. given b))
 
   -- the ends of a walk whose inner nodes are below both are a place of the fill
-  pub walk_any : (m i j : ℕ) → m ≤ i → m ≤ j → Walk base m i j → (j ≤ i → Filled base i j) × (i ≤ j → Filled base j i)
+  pub walk_any : (m i j : ℕ) → m ≤ i → m ≤ j → Walk base m i j → (j ≤ i → Filled base i j)
+      × (i ≤ j → Filled base j i)
   walk_any zero i j a b (edge e) = joined_filled i j e
   walk_any zero i j a b (step e l w) = absurd (omega arith)
   walk_any (suc m) i j a b w = elim (walk_split w m refl) [
     | inl v ↦ walk_any m i j (omega arith) (omega arith) v
     | inr v ↦
-        let f : Filled base i m = (walk_any m i m (omega arith) (omega arith) v.0).0 (omega arith) in
-        let g : Filled base j m = (walk_any m m j (omega arith) (omega arith) v.1).1 (omega arith) in
+        let f : Filled base i m = (walk_any m i m (omega arith) (omega arith) v.0).0
+        (omega arith) in
+        let g : Filled base j m = (walk_any m m j (omega arith) (omega arith) v.1).1
+        (omega arith) in
         ((λ h. fill f g (omega arith) h), (λ h. fill g f (omega arith) h))
   ]
 
-  -- a place of the fill is a walk from its row to its column with the inner nodes below the column, and conversely
+  -- a place of the fill is a walk from its row to its column with the inner nodes below the column,
+  -- and conversely
   pub filled_walk : (i j : ℕ) → j ≤ i → Filled base i j ↔ Walk base j i j
   filled_walk i j le = ((λ f. walk_of f), (λ w. (walk_any j i j le (omega arith) w).0 le))

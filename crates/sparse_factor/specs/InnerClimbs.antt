@@ -1,5 +1,6 @@
 -- The climbs of one row along the parents of its nodes.
-use Rattle.std.specs.Prelude.{◌≡◌, ◌≢◌, ℕ, zero, suc, ◌+◌, ◌<◌, ◌≤◌, ◌↔◌, ◌⊎◌, List, [], ◌∷◌, ◌++◌, length, nat_eq, cond, slice_index}
+use Rattle.std.specs.Prelude.{◌≡◌, ◌≢◌, ℕ, zero, suc, ◌+◌, ◌<◌, ◌≤◌, ◌↔◌, ◌⊎◌, List, [], ◌∷◌, ◌++◌}
+use Rattle.std.specs.Prelude.{length, nat_eq, cond, slice_index}
 use Rattle.std.specs.List.{Contains, AllPairs}
 use Rattle.sparse_counting.specs.Counting.{count_at}
 

@@ -1,5 +1,6 @@
 -- Climbs kept as paths: a row, the node that its climb starts from, and how many nodes it comes to.
-use Rattle.std.specs.Prelude.{◌≡◌, ◌≢◌, ℕ, zero, suc, ◌+◌, ◌<◌, ◌≤◌, ◌⊎◌, List, [], ◌∷◌, ◌++◌, All, length, map, replicate, take, slice_index}
+use Rattle.std.specs.Prelude.{◌≡◌, ◌≢◌, ℕ, zero, suc, ◌+◌, ◌<◌, ◌≤◌, ◌⊎◌, List, [], ◌∷◌, ◌++◌, All}
+use Rattle.std.specs.Prelude.{length, map, replicate, take, slice_index}
 use Rattle.sparse_counting.specs.Counting.{slot_of}
 use Rattle.sparse_pattern.specs.Raw.{IsInLane}
 use Rattle.sparse_factor.specs.InnerClimbs.{Climbs, climbs_of}
@@ -35,12 +36,14 @@ rows_in number paths = rows_of (paths_of number paths)
 
 -- how many nodes the first t paths have
 abbrev pub nodes_before : {C : Type 0} → (C → ℕ) → List C → List (C × C × C) → ℕ → ℕ
-nodes_before number parents paths t = length (nodes_of (map number parents) (take t (paths_of number paths)))
+nodes_before number parents paths t = length
+    (nodes_of (map number parents) (take t (paths_of number paths)))
 
 -- n steps up lead from node k to node l, each from a node that has a parent
 abbrev pub LeadsTo : List ℕ → ℕ → ℕ → ℕ → Type 0
 LeadsTo parents k zero l = k ≡ l
-LeadsTo parents k (suc n) l = (slice_index parents k ≢ 0) × LeadsTo parents (slice_index parents k) n l
+LeadsTo parents k (suc n) l = (slice_index parents k ≢ 0) × LeadsTo parents (slice_index parents k)
+    n l
 
 -- each of the n nodes from node k up, but the last, has a parent
 abbrev pub IsPath : List ℕ → ℕ → ℕ → Type 0
@@ -51,11 +54,13 @@ ArePaths parents paths = All (λ p. IsPath parents p.1 p.2) paths
 
 -- the arrays of the climbs, and the nodes of their paths
 abbrev pub climbed : {C : Type 0} → (C → ℕ) → List C → List C → List (C × C × C) → Climbs
-climbed number marks parents paths = climbs_of (map number marks) (map number parents) (nodes_in number parents paths)
+climbed number marks parents paths = climbs_of (map number marks) (map number parents)
+    (nodes_in number parents paths)
 
 -- the arrays, and the nodes of one path
 abbrev pub climbed_up : {C : Type 0} → (C → ℕ) → List C → List C → ℕ → ℕ → Climbs
-climbed_up number marks parents start n = climbs_of (map number marks) (map number parents) (nodes_up (map number parents) start n)
+climbed_up number marks parents start n = climbs_of (map number marks) (map number parents)
+    (nodes_up (map number parents) start n)
 
 -- no node came to more rows than its mark
 abbrev pub AreBelowMarks : List ℕ → List ℕ → Type 0

@@ -1,5 +1,6 @@
 -- A matrix's text, made line by line, that goes to a sink through a buffer.
-use Rattle.std.proofs.Common.{◌≡◌, ℕ, List, [], ◌∷◌, ◌++◌, Option, refl, sym, ap, ◌∙◌, subst, append_assoc, append-nil, length}
+use Rattle.std.proofs.Common.{◌≡◌, ℕ, List, [], ◌∷◌, ◌++◌, Option, refl, sym, ap, ◌∙◌, subst}
+use Rattle.std.proofs.Common.{append_assoc, append-nil, length}
 use Rattle.std.specs.List.{flat_map}
 use Rattle.std.specs.Io.KnownBytes.{Appends}
 use Rattle.std.proofs.KnownBytes.{Appends-nil, Appends-trans}
@@ -11,7 +12,8 @@ use Rattle.sparse_io.specs.InnerWriting.{head_of, IsBuffered}
 
 -- two splits, one after the other
 middle : (a b c d e f : List ℕ) → a ≡ b ++ c → c ++ d ≡ e ++ f → a ++ d ≡ (b ++ e) ++ f
-middle a b c d e f p q = ap (λ l. l ++ d) p ∙ append_assoc b c d ∙ ap (λ l. b ++ l) q ∙ sym (append_assoc b e f)
+middle a b c d e f p q = ap (λ l. l ++ d) p ∙ append_assoc b c d ∙ ap (λ l. b ++ l) q
+    ∙ sym (append_assoc b e f)
 
 module _ {V : Type 0} (name : List ℕ) (text : V → List ℕ) (m : Coo V) where
   abbrev Triplets : Type 0
@@ -31,7 +33,12 @@ module _ {V : Type 0} (name : List ℕ) (text : V → List ℕ) (m : Coo V) wher
 
   pub IsBegun-none : (bytes : List ℕ) (left : Triplets) → bytes ≡ head_of name m → left ≡ m.triplets
       → IsBegun bytes left
-  IsBegun-none bytes left b l = record { front = []; order = sym l; is = b ∙ sym (append-nil (head_of name m)) }
+  IsBegun-none bytes left b l = record {
+    front = [];
+    order = sym l;
+    is = b
+        ∙ sym (append-nil (head_of name m));
+  }
 
   pub IsBegun-more : (bytes : List ℕ) (t : ℕ × ℕ × V) (left left' : Triplets) → IsBegun bytes left
       → left ≡ t ∷ left'
@@ -40,9 +47,12 @@ module _ {V : Type 0} (name : List ℕ) (text : V → List ℕ) (m : Coo V) wher
       record {
         front = b.front ++ t ∷ [];
         order = b.order ∙ ap (λ ts. b.front ++ ts) e ∙ sym (append_assoc b.front (t ∷ []) left');
-        is = ap (λ l. l ++ triplet_line text t) b.is ∙ append_assoc (head_of name m) (lines b.front) (triplet_line text t)
-            ∙ ap (λ l. head_of name m ++ (lines b.front ++ l)) (sym (append-nil (triplet_line text t)))
-            ∙ ap (λ l. head_of name m ++ l) (sym (flat_map-append (triplet_line text) b.front (t ∷ [])));
+        is = ap (λ l. l ++ triplet_line text t) b.is ∙ append_assoc (head_of name m) (lines b.front)
+            (triplet_line text t)
+            ∙ ap (λ l. head_of name m ++ (lines b.front ++ l))
+            (sym (append-nil (triplet_line text t)))
+            ∙ ap (λ l. head_of name m ++ l)
+            (sym (flat_map-append (triplet_line text) b.front (t ∷ [])));
       }
 
   -- the lines of the triplets that are left come next
@@ -50,16 +60,22 @@ module _ {V : Type 0} (name : List ℕ) (text : V → List ℕ) (m : Coo V) wher
       → text_of name text m ≡ bytes ++ lines left
   unfolding written_text
   text_of-begun bytes left b =
-      sym (append_assoc (heading name) (size_line m.nrows m.ncols (length m.triplets)) (lines m.triplets))
-      ∙ ap begun b.order ∙ ap (λ l. head_of name m ++ l) (flat_map-append (triplet_line text) b.front left)
-      ∙ sym (append_assoc (head_of name m) (lines b.front) (lines left)) ∙ ap (λ l. l ++ lines left) (sym b.is)
+      sym (append_assoc (heading name) (size_line m.nrows m.ncols (length m.triplets))
+      (lines m.triplets))
+      ∙ ap begun b.order ∙ ap (λ l. head_of name m ++ l)
+      (flat_map-append (triplet_line text) b.front left)
+      ∙ sym (append_assoc (head_of name m) (lines b.front) (lines left))
+      ∙ ap (λ l. l ++ lines left) (sym b.is)
 
   pub IsBegun-all : (bytes : List ℕ) (left : Triplets) → IsBegun bytes left → left ≡ []
       → bytes ≡ text_of name text m
-  IsBegun-all bytes left b none = sym (text_of-begun bytes left b ∙ ap (λ ts. bytes ++ lines ts) none ∙ append-nil bytes)
+  IsBegun-all bytes left b none = sym (text_of-begun bytes left b
+      ∙ ap (λ ts. bytes ++ lines ts) none ∙ append-nil bytes)
 
-  -- what the text has before the triplets that are left went to the sink, but for what the buffer holds
-  pub record IsWriting (old new : Option (List ℕ)) (buffer : List ℕ) (left : Triplets) : Type 0 where
+  -- what the text has before the triplets that are left went to the sink, but for what the buffer
+  -- holds
+  pub record IsWriting (old new : Option (List ℕ)) (buffer : List ℕ) (left : Triplets) : Type
+      0 where
     pub bytes : List ℕ
     pub begun : IsBegun bytes left
     pub buffered : IsBuffered old new buffer bytes
@@ -67,11 +83,18 @@ module _ {V : Type 0} (name : List ℕ) (text : V → List ℕ) (m : Coo V) wher
   pub IsWriting-none : (old : Option (List ℕ)) (buffer : List ℕ) (left : Triplets)
       → buffer ≡ head_of name m → left ≡ m.triplets → IsWriting old old buffer left
   IsWriting-none old buffer left b l =
-      record { bytes = buffer; begun = IsBegun-none buffer left b l; buffered = record { done = []; parts = refl; appended = Appends-nil old } }
+      record {
+        bytes = buffer;
+        begun = IsBegun-none buffer left b l;
+        buffered =
+            record { done = []; parts = refl; appended = Appends-nil old };
+      }
 
-  pub IsWriting-more : (old mid new : Option (List ℕ)) (buffer buffer' : List ℕ) (t : ℕ × ℕ × V) (left left' : Triplets)
+  pub IsWriting-more : (old mid new : Option (List ℕ)) (buffer buffer' : List ℕ) (t : ℕ × ℕ × V)
+      (left left' : Triplets)
       → IsWriting old mid buffer left
-      → left ≡ t ∷ left' → IsBuffered mid new buffer' (buffer ++ triplet_line text t) → IsWriting old new buffer' left'
+      → left ≡ t ∷ left' → IsBuffered mid new buffer' (buffer ++ triplet_line text t)
+      → IsWriting old new buffer' left'
   IsWriting-more old mid new buffer buffer' t left left' w e b =
       let d = w.buffered in
       record {
@@ -90,7 +113,8 @@ module _ {V : Type 0} (name : List ℕ) (text : V → List ℕ) (m : Coo V) wher
       → left ≡ [] → Appends mid new buffer → Appends old new (text_of name text m)
   IsWriting-all old mid new buffer left w none h =
       let d = w.buffered in
-      subst (Appends old new) (sym d.parts ∙ IsBegun-all w.bytes left w.begun none) (Appends-trans old mid new d.done buffer d.appended h)
+      subst (Appends old new) (sym d.parts ∙ IsBegun-all w.bytes left w.begun none)
+      (Appends-trans old mid new d.done buffer d.appended h)
 
   -- the sink refuses a part of the buffer
   pub IsWriting-refused : (old mid new : Option (List ℕ)) (buffer : List ℕ) (left : Triplets)
@@ -103,14 +127,26 @@ module _ {V : Type 0} (name : List ℕ) (text : V → List ℕ) (m : Coo V) wher
         done = d.done ++ h.done;
         rest = h.rest ++ more;
         parts = text_of-begun w.bytes left w.begun
-            ∙ middle w.bytes d.done buffer more h.done (h.rest ++ more) d.parts (ap (λ l. l ++ more) h.parts ∙ append_assoc h.done h.rest more);
+            ∙ middle w.bytes d.done buffer more h.done (h.rest ++ more) d.parts
+            (ap (λ l. l ++ more) h.parts ∙ append_assoc h.done h.rest more);
         appended = Appends-trans old mid new d.done h.done d.appended h.appended;
       }
 
 -- all of some bytes, and none of them
 pub AppendsSome-all : (old new : Option (List ℕ)) (bytes : List ℕ) → Appends old new bytes
     → AppendsSome old new bytes
-AppendsSome-all old new bytes h = record { done = bytes; rest = []; parts = sym (append-nil bytes); appended = h }
+AppendsSome-all old new bytes h = record {
+  done = bytes;
+  rest = [];
+  parts = sym (append-nil bytes);
+  appended = h;
+}
 
 pub AppendsSome-none : (old : Option (List ℕ)) (bytes : List ℕ) → AppendsSome old old bytes
-AppendsSome-none old bytes = record { done = []; rest = bytes; parts = refl; appended = Appends-nil old }
+AppendsSome-none old bytes = record {
+  done = [];
+  rest = bytes;
+  parts = refl;
+  appended =
+      Appends-nil old;
+}

@@ -14,4 +14,5 @@ module _ {T : Type 0} (lanes minor : ℕ) where
   pub turned-inside : (ts : List (ℕ × ℕ × T)) → All (λ t. (t.0 < lanes) × (t.1 < minor)) ts
       → All (λ t. (t.0 < minor) × (t.1 < lanes)) (map turned ts)
   turned-inside ts h =
-      All-from_recursion (λ t. (t.0 < minor) × (t.1 < lanes)) (map turned ts) (by_parts ts (recursion_from_All (λ t. (t.0 < lanes) × (t.1 < minor)) ts h))
+      All-from_recursion (λ t. (t.0 < minor) × (t.1 < lanes)) (map turned ts)
+      (by_parts ts (recursion_from_All (λ t. (t.0 < lanes) × (t.1 < minor)) ts h))

@@ -2,7 +2,8 @@
 use Rattle.std.specs.declared.io.ErrorKind.{ErrorKind}
 use Rattle.std.specs.declared.io.ErrorKind.TheVariants as io
 use Rattle.sparse_parser.specs.declared.error.MatrixMarketErrorKind.{MatrixMarketErrorKind}
-use Rattle.sparse_parser.specs.declared.error.MatrixMarketErrorKind.TheVariants.{IOError, OutOfMemory}
+use Rattle.sparse_parser.specs.declared.error.MatrixMarketErrorKind.TheVariants.{IOError}
+use Rattle.sparse_parser.specs.declared.error.MatrixMarketErrorKind.TheVariants.{OutOfMemory}
 
 -- the kind of a fault in opening, making or reading a file
 abbrev pub file_fault : ErrorKind → MatrixMarketErrorKind

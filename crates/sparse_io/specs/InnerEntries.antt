@@ -1,8 +1,10 @@
 -- An entry and the one that a symmetry implies, and how a list of entries ends.
-use Rattle.std.specs.Prelude.{◌≡◌, ℕ, Bool, true, List, [], ◌∷◌, Option, Some, None, Ok, Err, if◌then◌else◌}
+use Rattle.std.specs.Prelude.{◌≡◌, ℕ, Bool, true, List, [], ◌∷◌, Option, Some, None, Ok, Err}
+use Rattle.std.specs.Prelude.{if◌then◌else◌}
 use Rattle.sparse_pattern.specs.declared.error.SparseFormatErrorKind.TheVariants.{IndexOutOfBounds}
 use Rattle.sparse_base.specs.Coo.{Coo}
-use Rattle.sparse_parser.specs.declared.error.MatrixMarketErrorKind.TheVariants.{EntryMismatch, SparseFormatError}
+use Rattle.sparse_parser.specs.declared.error.MatrixMarketErrorKind.TheVariants.{EntryMismatch}
+use Rattle.sparse_parser.specs.declared.error.MatrixMarketErrorKind.TheVariants.{SparseFormatError}
 use Rattle.sparse_parser.specs.declared.header.Symmetry.{Symmetry}
 use Rattle.sparse_parser.specs.declared.header.Header.{Header}
 use Rattle.sparse_parser.specs.Bytes.{after}
@@ -25,10 +27,12 @@ triplets_at S symmetry place value = placed S place value >>= mirrored S symmetr
 
 -- where the number of data lines is right and all triplets lie inside, the matrix
 abbrev pub ended_of : {V : Type 0} → Bool → Bool → Coo V → Read (Coo V)
-ended_of complete inside m = if complete then if inside then Ok m else Err (SparseFormatError IndexOutOfBounds) else Err EntryMismatch
+ended_of complete inside m = if complete then if inside then Ok m else Err
+    (SparseFormatError IndexOutOfBounds) else Err EntryMismatch
 
 -- a data line at the front of a text gives these triplets, and this stands after it
-pub record IsMeant (S : Scalar) (h : Header) (at : Option (ℕ × ℕ)) (text : List ℕ) (given : Read (List (Triplet S.Value))) (rest : List ℕ) : Type 0 where
+pub record IsMeant (S : Scalar) (h : Header) (at : Option (ℕ × ℕ)) (text : List ℕ)
+    (given : Read (List (Triplet S.Value))) (rest : List ℕ) : Type 0 where
   pub is : is_entry (line_words text) ≡ true
   pub means : given ≡ triplets_of S h at (line_words text)
   pub after_line : rest ≡ after is_within_line text

@@ -1,5 +1,6 @@
 -- The text of an integer is taken as that integer.
-use Rattle.std.proofs.Common.{◌≡◌, ℕ, ℤ, pos, negsuc, suc, ◌^◌, ◌<◌, ◌≤◌, Bool, true, false, cond, List, [], ◌∷◌, length, Ok, Err, refl, ap, ◌∙◌, arith, rules}
+use Rattle.std.proofs.Common.{◌≡◌, ℕ, ℤ, pos, negsuc, suc, ◌^◌, ◌<◌, ◌≤◌, Bool, true, false, cond}
+use Rattle.std.proofs.Common.{List, [], ◌∷◌, length, Ok, Err, refl, ap, ◌∙◌, arith, rules}
 use Rattle.std.specs.Prelude.{FitsSigned}
 use Rattle.std.specs.Int.{Width, w8, w16, w32, w64, w128}
 use Rattle.std.specs.List.{list_all}
@@ -45,7 +46,8 @@ decimal-value n lt = (decimal_is_IsNumeral_wide n lt).1
 unsigned_value : (ds : List ℕ) → is_index ds ≡ true
     → signed_digits_value 10 ds ≡ pos (digits_value 10 ds)
 unsigned_value [] e = refl
-unsigned_value (c ∷ cs) e = let d = digits-of (c ∷ cs) e in let s = digit_no_sign c d.1.0 in rw (s.0, s.1) refl
+unsigned_value (c ∷ cs) e = let d = digits-of (c ∷ cs) e in let s =
+    digit_no_sign c d.1.0 in rw (s.0, s.1) refl
 
 -- ---- integers of a width
 
@@ -60,16 +62,22 @@ wide_power : (w : Width) → 2 ^ hbits w ≤ 2 ^ 127
 wide_power w = pow-le-pow_right {n = 2} (omega arith) {i = hbits w} {j = 127} (bits_few w)
 
 integer-signed : (w : Width) (z : ℤ) → FitsSigned w z → is_integer (signed_decimal z) ≡ true
-integer-signed w (pos n) f = let p = wide_power w in let s = f.sfits in let i = decimal-index n (omega arith) in ap is_index (index-unsigned (decimal n) i) ∙ i
-integer-signed w (negsuc n) f = let p = wide_power w in let s = f.sfits in decimal-index (suc n) (omega arith)
+integer-signed w (pos n) f = let p = wide_power w in let s = f.sfits in let i =
+    decimal-index n (omega arith) in ap is_index (index-unsigned (decimal n) i) ∙ i
+integer-signed w (negsuc n) f = let p = wide_power w in let s =
+    f.sfits in decimal-index (suc n) (omega arith)
 
 signed_value : (w : Width) (z : ℤ) → FitsSigned w z → signed_digits_value 10 (signed_decimal z) ≡ z
-signed_value w (pos n) f = let p = wide_power w in let s = f.sfits in unsigned_value (decimal n) (decimal-index n (omega arith)) ∙ ap pos (decimal-value n (omega arith))
-signed_value w (negsuc n) f = let p = wide_power w in let s = f.sfits in rw (decimal-value (suc n) (omega arith)) refl
+signed_value w (pos n) f = let p = wide_power w in let s = f.sfits in unsigned_value (decimal n)
+    (decimal-index n (omega arith)) ∙ ap pos (decimal-value n (omega arith))
+signed_value w (negsuc n) f = let p = wide_power w in let s =
+    f.sfits in rw (decimal-value (suc n) (omega arith)) refl
 
 fits_wide : (w : Width) (z : ℤ) → FitsSigned w z → (fits 127 z ≡ true) × (fits (hbits w) z ≡ true)
-fits_wide w (pos n) f = let p = wide_power w in let s = f.sfits in (lt-ltb n (2 ^ 127) (omega arith), lt-ltb n (2 ^ hbits w) s)
-fits_wide w (negsuc n) f = let p = wide_power w in let s = f.sfits in (lt-ltb n (2 ^ 127) (omega arith), lt-ltb n (2 ^ hbits w) s)
+fits_wide w (pos n) f = let p = wide_power w in let s =
+    f.sfits in (lt-ltb n (2 ^ 127) (omega arith), lt-ltb n (2 ^ hbits w) s)
+fits_wide w (negsuc n) f = let p = wide_power w in let s =
+    f.sfits in (lt-ltb n (2 ^ 127) (omega arith), lt-ltb n (2 ^ hbits w) s)
 
 pub number_text : (w : Width) (z : ℤ) → FitsSigned w z → IsNumberText (taken w) (signed_decimal z) z
 number_text w z f =

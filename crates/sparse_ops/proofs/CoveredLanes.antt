@@ -10,10 +10,12 @@ use Rattle.sparse_ops.specs.InnerUpdates.{HasProductPlaces}
 -- what holds of the first n elements and of the next holds of the first n + 1
 pub element_more : (P : ℕ → Type 0) (xs : List ℕ) (n : ℕ) → n < length xs → P (get_or xs n 0)
     → ((j : ℕ) → Contains (take n xs) j → P j) → (j : ℕ) → Contains (take (n + 1) xs) j → P j
-element_more P xs n lt here before j h = elim (Contains-push_cases (take n xs) (get_or xs n 0) j (subst (λ l. Contains l j) (take_more xs n 0 lt) h)) [
-  | inl was ↦ before j was
-  | inr same ↦ subst P same here
-]
+element_more P xs n lt here before j h =
+    elim (Contains-push_cases (take n xs) (get_or xs n 0) j
+    (subst (λ l. Contains l j) (take_more xs n 0 lt) h)) [
+      | inl was ↦ before j was
+      | inr same ↦ subst P same here
+    ]
 
 module _ (d b : Raw) (vb : IsValid b) (i : ℕ) where
   -- lane i of d has the indices of lane k of b
@@ -34,7 +36,8 @@ module _ (d a b : Raw) (va : IsValid a) where
   HasLanes i = (j : ℕ) → IsInLanes b (lane_of a i) j → IsPlace d i j
 
   pub product_places : ((i : ℕ) → i < a.major_dim → HasLanes i) → HasProductPlaces d a b
-  product_places all i j k left right = all i left.in_lane.lane j (k, (lane_has a va i k left.in_lane.lane).1 left, right)
+  product_places all i j k left right = all i left.in_lane.lane j
+      (k, (lane_has a va i k left.in_lane.lane).1 left, right)
 
   pub places_of_product : HasProductPlaces d a b → (i : ℕ) → i < a.major_dim → HasLanes i
   places_of_product all i lt j h = all i j h.0 ((lane_has a va i h.0 lt).0 h.1) h.2

@@ -15,9 +15,13 @@ use Rattle.sparse_ops.proofs.Updating.{RowsAreOne}
 pub has_places : (d a b : Raw) → IsProductOf d a b → HasProductPlaces d a b
 has_places d a b is i j k left right = (is i j).1 (k, left, right)
 
-module _ (R : CommRing) {T : Type 0} (f : T → R.Carrier) (stand : RowsStand R f) (one : RowsAreOne R f) (a b : Compressed T) (sa : IsSound a) (sb : IsSound b) (fits : a.pattern.minor_dim ≡ b.pattern.major_dim) where
-  pub product_made : (d : Raw) (z : T) (none : R.Carrier) → none ≡ R.zero → (unit : R.Carrier) → unit ≡ R.one → (old new : List T)
-      → IsSound (compressed_of d new) → d.major_dim ≡ a.pattern.major_dim → d.minor_dim ≡ b.pattern.minor_dim
+module _ (R : CommRing) {T : Type 0} (f : T → R.Carrier) (stand : RowsStand R f)
+    (one : RowsAreOne R f) (a b : Compressed T) (sa : IsSound a) (sb : IsSound b)
+    (fits : a.pattern.minor_dim ≡ b.pattern.major_dim) where
+  pub product_made : (d : Raw) (z : T) (none : R.Carrier) → none ≡ R.zero → (unit : R.Carrier)
+      → unit ≡ R.one → (old new : List T)
+      → IsSound (compressed_of d new) → d.major_dim ≡ a.pattern.major_dim
+      → d.minor_dim ≡ b.pattern.minor_dim
       → IsProductOf d a.pattern b.pattern
       → AreUpdated R f z d none unit (product R f stand a b sa sb fits).value old new
       → plain_of_rows R f (compressed_of d new) ≡ product R f stand a b sa sb fits
@@ -33,7 +37,11 @@ module _ (R : CommRing) {T : Type 0} (f : T → R.Carrier) (stand : RowsStand R 
             let within : p < length new = omega (arith, sound.count, lane.inside, at.0.to) in
             let x = P.value i j in
             let c = f (get_or old p z) in
-            ap f (get_or_default new p y z within) ∙ updated i j p at ∙ ap (λ c. R.add c (R.mul unit x)) (ap (λ n. R.mul n c) none_is ∙ R.laws.mul_comm R.zero c ∙ mul_zero R c) ∙ zero_add R (R.mul unit x) ∙ R.laws.mul_comm unit x ∙ ap (R.mul x) unit_is ∙ R.laws.mul_one x;
-        within = within_product R (plain_of_rows R f a) (plain_of_rows R f b) (stand a sa).within (stand b sb).within;
+            ap f (get_or_default new p y z within) ∙ updated i j p at
+            ∙ ap (λ c. R.add c (R.mul unit x)) (ap (λ n. R.mul n c) none_is
+            ∙ R.laws.mul_comm R.zero c ∙ mul_zero R c) ∙ zero_add R (R.mul unit x)
+            ∙ R.laws.mul_comm unit x ∙ ap (R.mul x) unit_is ∙ R.laws.mul_one x;
+        within = within_product R (plain_of_rows R f a) (plain_of_rows R f b) (stand a sa).within
+            (stand b sb).within;
         proper = product_is_proper R f stand a b sa sb fits;
       })

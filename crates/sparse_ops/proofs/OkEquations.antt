@@ -14,4 +14,5 @@ ok_further f (Err x) y z e h = tt
 
 pub negation_twice : (R : CommRing) (a : Plain R) → plain_negation R (plain_negation R a) ≡ a
 negation_twice R a = same_plain (plain_negation R (plain_negation R a)) a refl refl (λ i j. refl)
-    (λ i j. sym (neg_unique R (R.neg (a.value i j)) (a.value i j) (R.laws.add_comm (R.neg (a.value i j)) (a.value i j) ∙ R.laws.add_neg (a.value i j))))
+    (λ i j. sym (neg_unique R (R.neg (a.value i j)) (a.value i j)
+    (R.laws.add_comm (R.neg (a.value i j)) (a.value i j) ∙ R.laws.add_neg (a.value i j))))

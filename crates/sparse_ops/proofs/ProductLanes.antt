@@ -19,19 +19,25 @@ IsProductBelow n a b offsets indices = IsBuilt b.minor_dim (IsJoined a b) n offs
 -- the lanes that lane i of a names have the indices of lane i of the product
 in_lanes_is : (a b : Raw) → IsValid a → (i j : ℕ) → i < a.major_dim
     → IsInLanes b (lane_of a i) j ↔ IsJoined a b i j
-in_lanes_is a b valid i j lt = (λ h. (h.0, (lane_has a valid i h.0 lt).0 h.1, h.2), λ h. (h.0, (lane_has a valid i h.0 lt).1 h.1, h.2))
+in_lanes_is a b valid i j lt = (
+  λ h. (h.0, (lane_has a valid i h.0 lt).0 h.1, h.2),
+  λ h. (h.0, (lane_has a valid i h.0 lt).1 h.1, h.2),
+)
 
 pub lane_more : (n : ℕ) (a b : Raw) (offsets offsets' indices indices' : List ℕ) → IsValid a
     → IsValid b → n < a.major_dim → IsProductBelow n a b offsets indices
     → GainsLane indices indices' (IsInLanes b (lane_of a n))
     → offsets' ≡ offsets ++ length indices' ∷ [] → IsProductBelow (n + 1) a b offsets' indices'
 lane_more n a b offsets offsets' indices indices' va vb lt below gains is =
-    lane_gained b.minor_dim (IsJoined a b) n offsets offsets' indices indices' below (λ j h. place_within b vb h.0 j h.2)
-    (gains_same indices indices' (IsInLanes b (lane_of a n)) (IsJoined a b n) (λ j. in_lanes_is a b va n j lt) gains) is
+    lane_gained b.minor_dim (IsJoined a b) n offsets offsets' indices indices' below
+    (λ j h. place_within b vb h.0 j h.2)
+    (gains_same indices indices' (IsInLanes b (lane_of a n)) (IsJoined a b n)
+    (λ j. in_lanes_is a b va n j lt) gains) is
 
 -- all lanes make the product
 pub all_lanes : (n : ℕ) (a b d : Raw) (offsets indices : List ℕ) → n ≡ a.major_dim
     → d ≡ raw_of a.major_dim b.minor_dim offsets indices → IsProductBelow n a b offsets indices
     → IsProductOf d a b
 all_lanes n a b d offsets indices whole is below =
-    all_built b.minor_dim (IsJoined a b) n a.major_dim d offsets indices whole is (λ i j h. h.1.in_lane.lane) below
+    all_built b.minor_dim (IsJoined a b) n a.major_dim d offsets indices whole is
+    (λ i j h. h.1.in_lane.lane) below

@@ -8,7 +8,8 @@ use Rattle.sparse_cs.specs.PlainOfLanes.{plain_of_rows, plain_of_cols}
 use Rattle.sparse_cs.specs.TransposedMatrix.{IsTranspose}
 use Rattle.sparse_cs.proofs.MatrixTransposes.{plain_transposed}
 
-module _ (R : CommRing) {T E : Type 0} (f : T → R.Carrier) (z : T) (m : Compressed T) (sound : IsSound m) where
+module _ (R : CommRing) {T E : Type 0} (f : T → R.Carrier) (z : T) (m : Compressed T)
+    (sound : IsSound m) where
   pub rows_transposed : (r : Result (Compressed T) E) → IfOk r (IsTranspose m) → IfOk r IsSound
       → IfOk r (λ n. plain_of_rows R f n ≡ plain_transpose R (plain_of_rows R f m))
   rows_transposed (Ok n) is sn = plain_transposed R f z m n sound sn is

@@ -1,5 +1,6 @@
 -- The values of a pattern after one row more of a product is added to them.
-use Rattle.std.proofs.Common.{◌≡◌, ℕ, ◌+◌, ◌<◌, ◌≤◌, ◌⊎◌, inl, inr, List, length, get_or, ap, sym, subst, ◌∙◌, arith}
+use Rattle.std.proofs.Common.{◌≡◌, ℕ, ◌+◌, ◌<◌, ◌≤◌, ◌⊎◌, inl, inr, List, length, get_or, ap, sym}
+use Rattle.std.proofs.Common.{subst, ◌∙◌, arith}
 use Rattle.std.proofs.lemmas.List.{get_or_past}
 use Rattle.sparse_lemmas.proofs.Cases.{lt_add_one_cases, lt_or_ge}
 use Rattle.sparse_algebra.specs.Algebra.{CommRing}
@@ -8,31 +9,39 @@ use Rattle.sparse_pattern.specs.Raw.{Raw, start_of, IsInLane, IsPlace, IsValid}
 use Rattle.sparse_pattern.proofs.Positions.{one_lane}
 use Rattle.sparse_cs.specs.Compressed.{IsPosition}
 
-module _ (R : CommRing) {T : Type 0} (f : T → R.Carrier) (z : T) (d : Raw) (valid : IsValid d) (base : T → R.Carrier) (alpha : R.Carrier) (x : ℕ → ℕ → R.Carrier) (start old new : List T) (n : ℕ) (lane : n < d.major_dim) where
+module _ (R : CommRing) {T : Type 0} (f : T → R.Carrier) (z : T) (d : Raw) (valid : IsValid d)
+    (base : T → R.Carrier) (alpha : R.Carrier) (x : ℕ → ℕ → R.Carrier) (start old new : List T)
+    (n : ℕ) (lane : n < d.major_dim) where
   not_in : (l p : ℕ) → IsInLane d l p → l < n → IsInLane d n p → ⊥
   not_in l p at lt here = omega (arith, one_lane d valid l n p at here)
 
   -- the lanes below n are as they were, and lane n has its new values
   pub rows_more : ((p : ℕ) → (IsInLane d n p → ⊥) → get_or new p z ≡ get_or old p z)
-      → ((j p : ℕ) → IsPosition d n j p → f (get_or new p z) ≡ R.add (base (get_or old p z)) (R.mul alpha (x n j)))
-      → ((i j p : ℕ) → i < n → IsPosition d i j p → f (get_or old p z) ≡ R.add (base (get_or start p z)) (R.mul alpha (x i j)))
+      → ((j p : ℕ) → IsPosition d n j p → f (get_or new p z) ≡ R.add (base (get_or old p z))
+      (R.mul alpha (x n j)))
+      → ((i j p : ℕ) → i < n → IsPosition d i j p
+      → f (get_or old p z) ≡ R.add (base (get_or start p z)) (R.mul alpha (x i j)))
       → ((p : ℕ) → start_of d n ≤ p → get_or old p z ≡ get_or start p z)
-      → (i j p : ℕ) → i < n + 1 → IsPosition d i j p → f (get_or new p z) ≡ R.add (base (get_or start p z)) (R.mul alpha (x i j))
+      → (i j p : ℕ) → i < n + 1 → IsPosition d i j p
+      → f (get_or new p z) ≡ R.add (base (get_or start p z)) (R.mul alpha (x i j))
   rows_more others here before rest i j p lt at = elim (lt_add_one_cases i n lt) [
     | inl earlier ↦ ap f (others p (not_in i p at.0 earlier)) ∙ before i j p earlier at
     | inr last ↦
         let at' : IsPosition d n j p = subst (λ i. IsPosition d i j p) last at in
-        here j p at' ∙ ap (λ c. R.add (base c) (R.mul alpha (x n j))) (rest p at'.0.from) ∙ ap (λ i. R.add (base (get_or start p z)) (R.mul alpha (x i j))) (sym last)
+        here j p at' ∙ ap (λ c. R.add (base c) (R.mul alpha (x n j))) (rest p at'.0.from)
+        ∙ ap (λ i. R.add (base (get_or start p z)) (R.mul alpha (x i j))) (sym last)
   ]
 
   -- the lanes past n are as they were
   pub rest_more : ((p : ℕ) → (IsInLane d n p → ⊥) → get_or new p z ≡ get_or old p z)
       → ((p : ℕ) → start_of d n ≤ p → get_or old p z ≡ get_or start p z)
       → (p : ℕ) → start_of d (n + 1) ≤ p → get_or new p z ≡ get_or start p z
-  rest_more others rest p from = others p (λ here. omega (arith, here.to)) ∙ rest p (omega (arith, (valid.lanes n lane).ordered))
+  rest_more others rest p from = others p (λ here. omega (arith, here.to))
+      ∙ rest p (omega (arith, (valid.lanes n lane).ordered))
 
 -- what is left in the scratch row, where the row has the places of a lane alone
-pub left_zero : (R : CommRing) {T : Type 0} (f : T → R.Carrier) (z : T) (d : Raw) (i : ℕ) (alpha : R.Carrier) (x : ℕ → R.Carrier) (row left : List T)
+pub left_zero : (R : CommRing) {T : Type 0} (f : T → R.Carrier) (z : T) (d : Raw) (i : ℕ)
+    (alpha : R.Carrier) (x : ℕ → R.Carrier) (row left : List T)
     → f z ≡ R.zero → ((j : ℕ) → (IsPlace d i j → ⊥) → x j ≡ R.zero)
     → ((j : ℕ) → j < length row → f (get_or row j z) ≡ R.mul alpha (x j))
     → ((j : ℕ) → (get_or left j z ≡ z) ⊎ (IsPlace d i j → ⊥))

@@ -1,5 +1,6 @@
 -- A product into a given matrix, in plain matrices.
-use Rattle.std.proofs.Common.{◌≡◌, ◌<◌, ◌↔◌, ◌⊎◌, inr, List, length, ap, sym, subst, ◌∙◌, refl, arith}
+use Rattle.std.proofs.Common.{◌≡◌, ◌<◌, ◌↔◌, ◌⊎◌, inr, List, length, ap, sym, subst, ◌∙◌, refl}
+use Rattle.std.proofs.Common.{arith}
 use Rattle.std.specs.Prelude.{Result, Ok, Err, IsOk, IfErr, OnOk}
 use Rattle.std.proofs.lemmas.List.{get_or_default}
 use Rattle.sparse_algebra.specs.Algebra.{CommRing}
@@ -16,20 +17,25 @@ use Rattle.sparse_ops.specs.InnerUpdates.{HasProductPlaces, AreUpdated}
 use Rattle.sparse_ops.proofs.ProductPlaces.{RowsStand, product, joined_is, zero_elsewhere}
 
 -- a refusal of one kind, which comes exactly where the places lack
-pub refused_is : {X E : Type 0} (r : Result X E) (kind memory : E) {P : Type 0} → IfErr r (λ e. e ≡ kind)
+pub refused_is : {X E : Type 0} (r : Result X E) (kind memory : E) {P : Type 0}
+    → IfErr r (λ e. e ≡ kind)
     → (P → IsOk r) → IfErr r (λ e. (e ≡ memory) ⊎ ((e ≡ kind) × (P → ⊥)))
 refused_is (Ok x) kind memory is covered = tt
 refused_is (Err e) kind memory is covered = inr (is, λ p. let no = covered p in cc)
 
 -- each matrix is the only one that its arrays stand for
 abbrev pub RowsAreOne : (R : CommRing) {T : Type 0} → (T → R.Carrier) → Type 0
-RowsAreOne R {T} f = (m : Compressed T) (x : Plain R) → IsSound m → HasLanesAsRows R f m x → plain_of_rows R f m ≡ x
+RowsAreOne R {T} f = (m : Compressed T) (x : Plain R) → IsSound m → HasLanesAsRows R f m x
+    → plain_of_rows R f m ≡ x
 
-module _ (R : CommRing) {T : Type 0} (f : T → R.Carrier) (stand : RowsStand R f) (a b : Compressed T) (sa : IsSound a) (sb : IsSound b) (fits : a.pattern.minor_dim ≡ b.pattern.major_dim) (m : Compressed T) (sm : IsSound m) where
+module _ (R : CommRing) {T : Type 0} (f : T → R.Carrier) (stand : RowsStand R f)
+    (a b : Compressed T) (sa : IsSound a) (sb : IsSound b)
+    (fits : a.pattern.minor_dim ≡ b.pattern.major_dim) (m : Compressed T) (sm : IsSound m) where
   abbrev P : Plain R
   P = product R f stand a b sa sb fits
 
-  pub covered_is : HasProductPlaces m.pattern a.pattern b.pattern ↔ IsCovered P (plain_of_rows R f m)
+  pub covered_is : HasProductPlaces m.pattern a.pattern b.pattern
+      ↔ IsCovered P (plain_of_rows R f m)
   covered_is =
       let here = (stand m sm).places in
       let joined = joined_is R f stand a b sa sb fits in (
@@ -37,32 +43,41 @@ module _ (R : CommRing) {T : Type 0} (f : T → R.Carrier) (stand : RowsStand R 
         λ h i j k x y. (here i j).1 (h i j ((joined i j).0 (k, x, y))),
       )
 
-  module _ (one : RowsAreOne R f) (z : T) (beta alpha : R.Carrier) (ws : List T) (long : length ws ≡ length m.values) where
+  module _ (one : RowsAreOne R f) (z : T) (beta alpha : R.Carrier) (ws : List T)
+      (long : length ws ≡ length m.values) where
     pub updated_is : HasProductPlaces m.pattern a.pattern b.pattern
         → AreUpdated R f z m.pattern beta alpha P.value m.values ws
-        → plain_of_rows R f (compressed_of m.pattern ws) ≡ plain_update R beta (plain_of_rows R f m) alpha P
+        → plain_of_rows R f (compressed_of m.pattern ws) ≡ plain_update R beta (plain_of_rows R f m)
+        alpha P
     updated_is places updated =
         let was = stand m sm in
         let x = plain_update R beta (plain_of_rows R f m) alpha P in
-        one (compressed_of m.pattern ws) x (record { valid = sm.valid; count = long ∙ sm.count }) (record {
+        one (compressed_of m.pattern ws) x (record { valid = sm.valid; count = long ∙ sm.count })
+        (record {
           rows = refl;
           cols = refl;
           places = was.places;
           values = λ i j p y at.
               let lane = sm.valid.lanes i at.0.lane in
               let within : p < length ws = omega (arith, long, sm.count, lane.inside, at.0.to) in
-              ap f (get_or_default ws p y z within) ∙ updated i j p at ∙ ap (λ c. R.add (R.mul beta c) (R.mul alpha (P.value i j))) (was.values i j p z at);
+              ap f (get_or_default ws p y z within) ∙ updated i j p at
+              ∙ ap (λ c. R.add (R.mul beta c) (R.mul alpha (P.value i j)))
+              (was.values i j p z at);
           within = was.within;
           proper = λ i j none.
-              let off = zero_elsewhere R f stand a b sa sb fits m.pattern places i j (λ place. let hit = (was.places i j).0 place in cc) in
-              ap (λ c. R.add (R.mul beta c) (R.mul alpha (P.value i j))) (was.proper i j none) ∙ ap (λ c. R.add c (R.mul alpha (P.value i j))) (mul_zero R beta)
-              ∙ ap (λ c. R.add R.zero (R.mul alpha c)) off ∙ ap (R.add R.zero) (mul_zero R alpha) ∙ R.laws.add_zero R.zero;
+              let off = zero_elsewhere R f stand a b sa sb fits m.pattern places i j
+              (λ place. let hit = (was.places i j).0 place in cc) in
+              ap (λ c. R.add (R.mul beta c) (R.mul alpha (P.value i j))) (was.proper i j none)
+              ∙ ap (λ c. R.add c (R.mul alpha (P.value i j))) (mul_zero R beta)
+              ∙ ap (λ c. R.add R.zero (R.mul alpha c)) off ∙ ap (R.add R.zero) (mul_zero R alpha)
+              ∙ R.laws.add_zero R.zero;
         })
 
   -- a product by rows, of operands that are equal to x and y
   module _ (x y : Plain R) (is_x : plain_of_rows R f a ≡ x) (is_y : plain_of_rows R f b ≡ y) where
     product_is : P ≡ plain_product R x y
-    product_is = ap (λ p. plain_product R p (plain_of_rows R f b)) is_x ∙ ap (plain_product R x) is_y
+    product_is = ap (λ p. plain_product R p (plain_of_rows R f b)) is_x
+        ∙ ap (plain_product R x) is_y
 
     pub rows_covered : HasProductPlaces m.pattern a.pattern b.pattern
         ↔ IsCovered (plain_product R x y) (plain_of_rows R f m)
@@ -70,35 +85,56 @@ module _ (R : CommRing) {T : Type 0} (f : T → R.Carrier) (stand : RowsStand R 
         let C : Plain R → Type 0 = λ p. IsCovered p (plain_of_rows R f m) in
         (λ h. subst C product_is (covered_is.0 h), λ h. covered_is.1 (subst C (sym product_is) h))
 
-    pub rows_written : (one : RowsAreOne R f) (z : T) (beta alpha : R.Carrier) (ws : List T) → length ws ≡ length m.values
-        → HasProductPlaces m.pattern a.pattern b.pattern → AreUpdated R f z m.pattern beta alpha P.value m.values ws
-        → plain_of_rows R f (with_values m ws) ≡ plain_update R beta (plain_of_rows R f m) alpha (plain_product R x y)
-    rows_written one z beta alpha ws long places updated = ap (plain_of_rows R f) (written_back m ws long) ∙ updated_is one z beta alpha ws long places updated ∙ ap (plain_update R beta (plain_of_rows R f m) alpha) product_is
+    pub rows_written : (one : RowsAreOne R f) (z : T) (beta alpha : R.Carrier) (ws : List T)
+        → length ws ≡ length m.values
+        → HasProductPlaces m.pattern a.pattern b.pattern
+        → AreUpdated R f z m.pattern beta alpha P.value m.values ws
+        → plain_of_rows R f (with_values m ws) ≡ plain_update R beta (plain_of_rows R f m) alpha
+        (plain_product R x y)
+    rows_written one z beta alpha ws long places updated =
+        ap (plain_of_rows R f) (written_back m ws long) ∙ updated_is one z beta alpha ws long places
+        updated ∙ ap (plain_update R beta (plain_of_rows R f m) alpha) product_is
 
-    pub rows_updated : (one : RowsAreOne R f) (z : T) (beta alpha : R.Carrier) (ws : List T) {X E : Type 0} (r : Result X E)
+    pub rows_updated : (one : RowsAreOne R f) (z : T) (beta alpha : R.Carrier) (ws : List T)
+        {X E : Type 0} (r : Result X E)
         → length ws ≡ length m.values → (IsOk r → HasProductPlaces m.pattern a.pattern b.pattern)
         → OnOk r (AreUpdated R f z m.pattern beta alpha P.value m.values ws)
-        → OnOk r (plain_of_rows R f (with_values m ws) ≡ plain_update R beta (plain_of_rows R f m) alpha (plain_product R x y))
-    rows_updated one z beta alpha ws r long places updated = on_ok_also r (λ ok values. rows_written one z beta alpha ws long (places ok) values) updated
+        → OnOk r (plain_of_rows R f (with_values m ws) ≡ plain_update R beta (plain_of_rows R f m)
+        alpha (plain_product R x y))
+    rows_updated one z beta alpha ws r long places updated =
+        on_ok_also r (λ ok values. rows_written one z beta alpha ws long (places ok) values) updated
 
-  -- a product by columns, of operands that are equal to x and y: the rows of the core are the columns, in the reverse order
+  -- a product by columns, of operands that are equal to x and y: the rows of the core are the
+  -- columns, in the reverse order
   module _ (x y : Plain R) (is_y : plain_of_cols R f a ≡ y) (is_x : plain_of_cols R f b ≡ x) where
     turned_is : plain_transpose R P ≡ plain_product R x y
-    turned_is = transpose_product R (plain_of_rows R f a) (plain_of_rows R f b) fits ∙ ap (λ p. plain_product R p (plain_of_cols R f a)) is_x ∙ ap (plain_product R x) is_y
+    turned_is = transpose_product R (plain_of_rows R f a) (plain_of_rows R f b) fits
+        ∙ ap (λ p. plain_product R p (plain_of_cols R f a)) is_x ∙ ap (plain_product R x) is_y
 
     pub cols_covered : HasProductPlaces m.pattern a.pattern b.pattern
         ↔ IsCovered (plain_product R x y) (plain_of_cols R f m)
     cols_covered =
-        let C : Plain R → Type 0 = λ p. IsCovered p (plain_of_cols R f m) in
-        (λ h. subst C turned_is (λ i j t. covered_is.0 h j i t), λ h. covered_is.1 (λ i j t. subst C (sym turned_is) h j i t))
+        let C : Plain R → Type 0 = λ p. IsCovered p (plain_of_cols R f m) in (
+          λ h. subst C turned_is (λ i j t. covered_is.0 h j i t),
+          λ h. covered_is.1 (λ i j t. subst C (sym turned_is) h j i t),
+        )
 
-    pub cols_written : (one : RowsAreOne R f) (z : T) (beta alpha : R.Carrier) (ws : List T) → length ws ≡ length m.values
-        → HasProductPlaces m.pattern a.pattern b.pattern → AreUpdated R f z m.pattern beta alpha P.value m.values ws
-        → plain_of_cols R f (with_values m ws) ≡ plain_update R beta (plain_of_cols R f m) alpha (plain_product R x y)
-    cols_written one z beta alpha ws long places updated = ap (plain_of_cols R f) (written_back m ws long) ∙ ap (plain_transpose R) (updated_is one z beta alpha ws long places updated) ∙ ap (plain_update R beta (plain_of_cols R f m) alpha) turned_is
+    pub cols_written : (one : RowsAreOne R f) (z : T) (beta alpha : R.Carrier) (ws : List T)
+        → length ws ≡ length m.values
+        → HasProductPlaces m.pattern a.pattern b.pattern
+        → AreUpdated R f z m.pattern beta alpha P.value m.values ws
+        → plain_of_cols R f (with_values m ws) ≡ plain_update R beta (plain_of_cols R f m) alpha
+        (plain_product R x y)
+    cols_written one z beta alpha ws long places updated =
+        ap (plain_of_cols R f) (written_back m ws long)
+        ∙ ap (plain_transpose R) (updated_is one z beta alpha ws long places updated)
+        ∙ ap (plain_update R beta (plain_of_cols R f m) alpha) turned_is
 
-    pub cols_updated : (one : RowsAreOne R f) (z : T) (beta alpha : R.Carrier) (ws : List T) {X E : Type 0} (r : Result X E)
+    pub cols_updated : (one : RowsAreOne R f) (z : T) (beta alpha : R.Carrier) (ws : List T)
+        {X E : Type 0} (r : Result X E)
         → length ws ≡ length m.values → (IsOk r → HasProductPlaces m.pattern a.pattern b.pattern)
         → OnOk r (AreUpdated R f z m.pattern beta alpha P.value m.values ws)
-        → OnOk r (plain_of_cols R f (with_values m ws) ≡ plain_update R beta (plain_of_cols R f m) alpha (plain_product R x y))
-    cols_updated one z beta alpha ws r long places updated = on_ok_also r (λ ok values. cols_written one z beta alpha ws long (places ok) values) updated
+        → OnOk r (plain_of_cols R f (with_values m ws) ≡ plain_update R beta (plain_of_cols R f m)
+        alpha (plain_product R x y))
+    cols_updated one z beta alpha ws r long places updated =
+        on_ok_also r (λ ok values. cols_written one z beta alpha ws long (places ok) values) updated

@@ -9,10 +9,13 @@ use Rattle.sparse_cs.specs.Compressed.{IsPosition}
 abbrev pub HasProductPlaces : Raw → Raw → Raw → Type 0
 HasProductPlaces d a b = (i j k : ℕ) → IsPlace a i k → IsPlace b k j → IsPlace d i j
 
--- at each place of the pattern, the new value represents beta * c + alpha * x, where c is what the old value represented
-abbrev pub AreUpdated : (R : CommRing) {T : Type 0} → (T → R.Carrier) → T → Raw → R.Carrier → R.Carrier → (ℕ → ℕ → R.Carrier) → List T → List T → Type 0
+-- at each place of the pattern, the new value represents beta * c + alpha * x, where c is what the
+-- old value represented
+abbrev pub AreUpdated : (R : CommRing) {T : Type 0} → (T → R.Carrier) → T → Raw → R.Carrier
+    → R.Carrier → (ℕ → ℕ → R.Carrier) → List T → List T → Type 0
 AreUpdated R f z d beta alpha x old new = (i j p : ℕ) → IsPosition d i j p
-    → f (slice_index_or new p z) ≡ R.add (R.mul beta (f (slice_index_or old p z))) (R.mul alpha (x i j))
+    → f (slice_index_or new p z) ≡ R.add (R.mul beta (f (slice_index_or old p z)))
+    (R.mul alpha (x i j))
 
 -- the triples (i, k, j) of the first n places (i, k) of a
 abbrev pub triples_below : ℕ → Raw → Raw → ℕ

@@ -5,7 +5,8 @@ use Rattle.sparse_op.specs.declared.operand.Op.{Op}
 use Rattle.sparse_op.specs.Operands.{MatchOp}
 use Rattle.sparse_pattern.specs.Raw.{Raw, lane_of}
 
--- the number of triples (i, k, j) with (i, k) in a and (k, j) in b: for each place (i, k) of a, the places of lane k of b
+-- the number of triples (i, k, j) with (i, k) in a and (k, j) in b: for each place (i, k) of a, the
+-- places of lane k of b
 abbrev pub triples_of : Raw → Raw → ℕ
 triples_of a b = sum_by (λ k. length (lane_of b k)) a.indices
 

@@ -1,5 +1,7 @@
 -- The number that digits write, digit by digit.
-use Rattle.std.proofs.Common.{◌≡◌, ℕ, ◌+◌, ◌-◌, ◌*◌, ◌^◌, ◌≤◌, ◌<◌, min, Bool, true, false, cond, ltb, eqb, inl, inr, length-drop, List, [], ◌∷◌, length, get_or, drop, Result, Ok, Err, Option, refl, sym, ap, subst, ◌∙◌, arith, rules}
+use Rattle.std.proofs.Common.{◌≡◌, ℕ, ◌+◌, ◌-◌, ◌*◌, ◌^◌, ◌≤◌, ◌<◌, min, Bool, true, false, cond}
+use Rattle.std.proofs.Common.{ltb, eqb, inl, inr, length-drop, List, [], ◌∷◌, length, get_or, drop}
+use Rattle.std.proofs.Common.{Result, Ok, Err, Option, refl, sym, ap, subst, ◌∙◌, arith, rules}
 use Rattle.std.specs.List.{list_all}
 use Rattle.std.specs.Option.{SomeIff}
 use Rattle.std.specs.Result.{OkIff, result_ok, MatchResult, IsOk}
@@ -26,15 +28,18 @@ use Rattle.sparse_parser.proofs.Fronts.{front-yes, front-drop_all, list_all-fron
 
 -- a word that is an index has no other digits
 pub index_number : (word : List ℕ) (n : Option ℕ) → is_index word ≡ true
-    → SomeIff n (digits_value 10 (front is_ascii_digit word) < 2 ^ 64) (digits_value 10 (front is_ascii_digit word))
+    → SomeIff n (digits_value 10 (front is_ascii_digit word) < 2 ^ 64)
+    (digits_value 10 (front is_ascii_digit word))
     → SomeIff n (digits_value 10 word < 2 ^ 64) (digits_value 10 word)
 index_number word n i h =
-    subst (λ (ds : List ℕ). SomeIff n (digits_value 10 ds < 2 ^ 64) (digits_value 10 ds)) (list_all-front is_ascii_digit word (and_parts _ _ i).1) h
+    subst (λ (ds : List ℕ). SomeIff n (digits_value 10 ds < 2 ^ 64) (digits_value 10 ds))
+    (list_all-front is_ascii_digit word (and_parts _ _ i).1) h
 
 -- more digits make no smaller number
 pub digits_value_after-ge : (n : ℕ) (digits : List ℕ) → n ≤ digits_value_after 10 n digits
 digits_value_after-ge n [] = omega arith
-digits_value_after-ge n (c ∷ digits) = let h = digits_value_after-ge (n * 10 + digit_value c) digits in omega arith
+digits_value_after-ge n (c ∷ digits) = let h = digits_value_after-ge (n * 10 + digit_value c)
+    digits in omega arith
 
 pub digit_value-digit : (c : ℕ) → is_ascii_digit c ≡ true → digit_value c ≡ c - 48
 digit_value-digit c e = grind (arith, nat_tests)
@@ -44,9 +49,13 @@ pub too_long : (n : ℕ) (text : List ℕ) (i total : ℕ) → i < length text
     → is_ascii_digit (get_or text i 0) ≡ true → ¬ (n * 10 + (get_or text i 0 - 48) < 2 ^ 64)
     → digits_value_after 10 n (front is_ascii_digit (drop i text)) ≡ total → ¬ (total < 2 ^ 64)
 too_long n text i total lt e large same small =
-    let d = ap (front is_ascii_digit) (drop_more text i 0 lt) ∙ front-yes is_ascii_digit (get_or text i 0) (drop (i + 1) text) e in
-    let v : digits_value_after 10 (n * 10 + digit_value (get_or text i 0)) (front is_ascii_digit (drop (i + 1) text)) ≡ total = sym (ap (digits_value_after 10 n) d) ∙ same in
-    let g = digits_value_after-ge (n * 10 + digit_value (get_or text i 0)) (front is_ascii_digit (drop (i + 1) text)) in
+    let d = ap (front is_ascii_digit) (drop_more text i 0 lt)
+    ∙ front-yes is_ascii_digit (get_or text i 0) (drop (i + 1) text) e in
+    let v : digits_value_after 10 (n * 10 + digit_value (get_or text i 0))
+    (front is_ascii_digit (drop (i + 1) text)) ≡ total = sym (ap (digits_value_after 10 n) d)
+    ∙ same in
+    let g = digits_value_after-ge (n * 10 + digit_value (get_or text i 0))
+    (front is_ascii_digit (drop (i + 1) text)) in
     let f = digit_value-digit (get_or text i 0) e in
     large (omega arith)
 
@@ -81,7 +90,8 @@ integer-IsAscii [] h = h
 integer-IsAscii (c ∷ cs) h = integer-IsAscii-by c cs (eqb c 45) (eqb c 43) refl refl h
 
 pub integer-IsUtf8 : (word : List ℕ) → is_integer word ≡ true → IsUtf8 word
-integer-IsUtf8 word e = IsUtf8-from_ascii word (integer-IsAscii word (IsAscii-from_digits _ (index-IsNumeral _ e).1))
+integer-IsUtf8 word e = IsUtf8-from_ascii word
+    (integer-IsAscii word (IsAscii-from_digits _ (index-IsNumeral _ e).1))
 
 -- of what `ok` makes of a result
 pub some_iff : {T E : Type 0} (r : Result T E) (P Q : Type 0) (v : T) → OkIff r (P × Q) v → P
@@ -90,7 +100,8 @@ some_iff (Ok x) P Q v h p = (h.0.1, h.1)
 some_iff (Err e) P Q v h p = λ q. h (p, q)
 
 -- the text that `from_utf8` gives
-pub text_is : {E : Type 0} (bytes : List ℕ) (r : Result (Bor (List ℕ)) E) (s : Bor (List ℕ)) (Q : E → Type 0)
+pub text_is : {E : Type 0} (bytes : List ℕ) (r : Result (Bor (List ℕ)) E) (s : Bor (List ℕ))
+    (Q : E → Type 0)
     → r ≡ Ok s → MatchResult r (λ t. (t.now ≡ bytes) × IsUtf8 bytes) Q → s.now ≡ bytes
 text_is bytes r s Q e h = (MatchResult-at_ok (λ t. (t.now ≡ bytes) × IsUtf8 bytes) Q s e h).0
 
@@ -105,7 +116,8 @@ digit_small c e = grind (arith, nat_tests)
 -- nineteen digits fit
 pub short_fits : (n k d : ℕ) → n < 10 ^ k → k < 19 → d ≤ 9 → n * 10 + d < 2 ^ 64
 short_fits n k d small short digit =
-    let next : 10 ^ (k + 1) ≤ 10 ^ 19 = pow-le-pow_right {n = 10} (omega arith) {i = k + 1} {j = 19} (omega arith) in
+    let next : 10 ^ (k + 1) ≤ 10 ^ 19 = pow-le-pow_right {n = 10} (omega arith) {i = k + 1} {j = 19}
+    (omega arith) in
     let more : 10 ^ (k + 1) ≡ 10 ^ k * 10 = pow_more 10 k in
     omega arith
 

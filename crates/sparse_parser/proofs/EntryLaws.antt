@@ -1,5 +1,8 @@
 -- A sign and digits at the front of a text.
-use Rattle.std.proofs.Common.{◌≡◌, ◌≢◌, ℕ, ℤ, ◌+◌, ◌-◌, ◌^◌, ◌≤◌, ◌<◌, Bool, true, false, ltb, eqb, cond, ◌||◌, List, [], ◌∷◌, ◌++◌, length, take, Option, Some, None, Result, Err, refl, sym, ap, subst, ◌∙◌, arith, inl, inr, append_assoc, length-append}
+use Rattle.std.proofs.Common.{◌≡◌, ◌≢◌, ℕ, ℤ, ◌+◌, ◌-◌, ◌^◌, ◌≤◌, ◌<◌, Bool, true, false, ltb, eqb}
+use Rattle.std.proofs.Common.{cond, ◌||◌, List, [], ◌∷◌, ◌++◌, length, take, Option, Some, None}
+use Rattle.std.proofs.Common.{Result, Err, refl, sym, ap, subst, ◌∙◌, arith, inl, inr, append_assoc}
+use Rattle.std.proofs.Common.{length-append}
 use Rattle.std.specs.Prelude.{◌⊎◌}
 use Rattle.std.specs.Option.{SomeIff, ok_or}
 use Rattle.std.specs.List.{list_all}
@@ -15,14 +18,18 @@ use Rattle.sparse_parser.specs.Bytes.{is_blank, front, after}
 use Rattle.sparse_parser.specs.Grammar.{is_index, is_integer}
 use Rattle.sparse_parser.specs.Meaning.{number_of}
 use Rattle.sparse_parser.specs.InnerReading.{found, found_number}
-use Rattle.sparse_parser.proofs.Fronts.{Passes, Passes-front, front-append-after, after-yes, after-no, length-after}
+use Rattle.sparse_parser.proofs.Fronts.{Passes, Passes-front, front-append-after, after-yes}
+use Rattle.sparse_parser.proofs.Fronts.{after-no, length-after}
 
 length-front-after : (p : ℕ → Bool) (text : List ℕ)
     → length (front p text) + length (after p text) ≡ length text
-length-front-after p text = sym (length-append (front p text) (after p text)) ∙ ap length (front-append-after p text)
+length-front-after p text = sym (length-append (front p text) (after p text))
+    ∙ ap length (front-append-after p text)
 
-pub no_front : (p : ℕ → Bool) (text : List ℕ) → length (after p text) ≡ length text → front p text ≡ []
-no_front p text e = nil_from_length (front p text) (let l = length-front-after p text in omega arith)
+pub no_front : (p : ℕ → Bool) (text : List ℕ) → length (after p text) ≡ length text
+    → front p text ≡ []
+no_front p text e = nil_from_length (front p text)
+    (let l = length-front-after p text in omega arith)
 
 pub some_front : (p : ℕ → Bool) (text : List ℕ) → length (after p text) ≢ length text
     → 0 < length (front p text)
@@ -34,10 +41,15 @@ list_all-passes p (b ∷ text) h = rw (h.0, list_all-passes p text h.1) refl
 
 pub is_index-front : (text : List ℕ) → 0 < length (front is_ascii_digit text)
     → is_index (front is_ascii_digit text) ≡ true
-is_index-front text lt = rw (lt-ltb 0 (length (front is_ascii_digit text)) lt, list_all-passes is_ascii_digit (front is_ascii_digit text) (Passes-front is_ascii_digit text)) refl
+is_index-front text lt = rw (
+  lt-ltb 0 (length (front is_ascii_digit text)) lt,
+  list_all-passes is_ascii_digit (front is_ascii_digit text) (Passes-front is_ascii_digit text),
+)
+    refl
 
 -- what a function found is the number
-pub found-number : (word : List ℕ) (n : Option ℕ) → SomeIff n (digits_value 10 word < 2 ^ 64) (digits_value 10 word) → found_number n ≡ number_of word
+pub found-number : (word : List ℕ) (n : Option ℕ) → SomeIff n (digits_value 10 word < 2 ^ 64)
+    (digits_value 10 word) → found_number n ≡ number_of word
 unfolding number_of
 found-number word (Some n) h = rw (lt-ltb _ _ h.0, h.1) refl
 found-number word None h = by (ltb (digits_value 10 word) (2 ^ 64)) refl
@@ -71,15 +83,19 @@ value_word text = sign_of text ++ front is_ascii_digit (without_leading_sign tex
 pub without_leading_sign-value_word : (text : List ℕ)
     → without_leading_sign (value_word text) ≡ front is_ascii_digit (without_leading_sign text)
 without_leading_sign-value_word [] = refl
-without_leading_sign-value_word (b ∷ text) = by (eqb b 45) (eqb b 43) (is_ascii_digit b) refl refl refl
+without_leading_sign-value_word (b ∷ text) = by (eqb b 45) (eqb b 43) (is_ascii_digit b) refl refl
+    refl
   where
     by : (minus plus digit : Bool) → eqb b 45 ≡ minus → eqb b 43 ≡ plus → is_ascii_digit b ≡ digit
-        → without_leading_sign (value_word (b ∷ text)) ≡ front is_ascii_digit (without_leading_sign (b ∷ text))
+        → without_leading_sign (value_word (b ∷ text)) ≡ front is_ascii_digit
+        (without_leading_sign (b ∷ text))
     by true plus d m p e =
         let s : sign_of (b ∷ text) ≡ b ∷ [] = both_signs plus p in
         let w : value_word (b ∷ text) ≡ b ∷ front is_ascii_digit text = rw (s, m) refl in
-        let f : front is_ascii_digit (without_leading_sign (b ∷ text)) ≡ front is_ascii_digit text = rw m refl in
-        let k : without_leading_sign (b ∷ front is_ascii_digit text) ≡ front is_ascii_digit text = rw m refl in
+        let f : front is_ascii_digit (without_leading_sign (b ∷ text)) ≡ front is_ascii_digit text =
+        rw m refl in
+        let k : without_leading_sign (b ∷ front is_ascii_digit text) ≡ front is_ascii_digit text =
+        rw m refl in
         ap without_leading_sign w ∙ k ∙ sym f
       where
         both_signs : (plus : Bool) → eqb b 43 ≡ plus → sign_of (b ∷ text) ≡ b ∷ []
@@ -87,13 +103,17 @@ without_leading_sign-value_word (b ∷ text) = by (eqb b 45) (eqb b 43) (is_asci
         both_signs false p = rw (p, m) refl
     by false true d m p e =
         let w : value_word (b ∷ text) ≡ b ∷ front is_ascii_digit text = rw (p, m) refl in
-        let f : front is_ascii_digit (without_leading_sign (b ∷ text)) ≡ front is_ascii_digit text = rw (m, p) refl in
-        let k : without_leading_sign (b ∷ front is_ascii_digit text) ≡ front is_ascii_digit text = rw (m, p) refl in
+        let f : front is_ascii_digit (without_leading_sign (b ∷ text)) ≡ front is_ascii_digit text =
+        rw (m, p) refl in
+        let k : without_leading_sign (b ∷ front is_ascii_digit text) ≡ front is_ascii_digit text =
+        rw (m, p) refl in
         ap without_leading_sign w ∙ k ∙ sym f
     by false false true m p e =
         let w : value_word (b ∷ text) ≡ b ∷ front is_ascii_digit text = rw (m, p, e) refl in
-        let f : front is_ascii_digit (without_leading_sign (b ∷ text)) ≡ b ∷ front is_ascii_digit text = rw (m, p, e) refl in
-        let k : without_leading_sign (b ∷ front is_ascii_digit text) ≡ b ∷ front is_ascii_digit text = rw (m, p) refl in
+        let f : front is_ascii_digit (without_leading_sign (b ∷ text)) ≡ b ∷ front is_ascii_digit
+        text = rw (m, p, e) refl in
+        let k : without_leading_sign (b ∷ front is_ascii_digit text) ≡ b ∷ front is_ascii_digit
+        text = rw (m, p) refl in
         ap without_leading_sign w ∙ k ∙ sym f
     by false false false m p e =
         let w : value_word (b ∷ text) ≡ [] = rw (m, p, e) refl in
@@ -103,33 +123,46 @@ without_leading_sign-value_word (b ∷ text) = by (eqb b 45) (eqb b 43) (is_asci
 pub value_word-append : (text : List ℕ)
     → value_word text ++ after is_ascii_digit (without_leading_sign text) ≡ text
 value_word-append text =
-    append_assoc (sign_of text) _ _ ∙ ap (λ (t : List ℕ). sign_of text ++ t) (front-append-after is_ascii_digit (without_leading_sign text)) ∙ sign_of-append text
+    append_assoc (sign_of text) _ _ ∙ ap (λ (t : List ℕ). sign_of text ++ t)
+    (front-append-after is_ascii_digit (without_leading_sign text)) ∙ sign_of-append text
 
 pub value_word-is : (text digits after' : List ℕ) → digits ≡ without_leading_sign text
     → after' ≡ after is_ascii_digit digits
     → (length after' ≤ length text) × (take (length text - length after') text ≡ value_word text)
 value_word-is text digits after' d a =
-    let e : value_word text ++ after' ≡ text = ap (λ (t : List ℕ). value_word text ++ t) (a ∙ ap (after is_ascii_digit) d) ∙ value_word-append text in
-    let l : length (value_word text) + length after' ≡ length text = sym (length-append (value_word text) after') ∙ ap length e in
-    (omega arith, ap (take (length text - length after')) (sym e) ∙ take_at (value_word text) after' (length text - length after') (omega arith))
+    let e : value_word text ++ after' ≡ text = ap (λ (t : List ℕ). value_word text ++ t)
+    (a ∙ ap (after is_ascii_digit) d) ∙ value_word-append text in
+    let l : length (value_word text) + length after' ≡ length text =
+    sym (length-append (value_word text) after') ∙ ap length e in (
+      omega arith,
+      ap (take (length text - length after')) (sym e)
+          ∙ take_at (value_word text) after' (length text - length after') (omega arith),
+    )
 
 pub some_value : (text digits digits' : List ℕ) → digits ≡ without_leading_sign text
     → digits' ≡ after is_ascii_digit digits → length digits' ≢ length digits
     → is_index (front is_ascii_digit (without_leading_sign text)) ≡ true
-some_value text digits digits' d a n = is_index-front (without_leading_sign text) (some_front is_ascii_digit (without_leading_sign text) (λ e. n (ap length (a ∙ ap (after is_ascii_digit) d) ∙ e ∙ ap length (sym d))))
+some_value text digits digits' d a n = is_index-front (without_leading_sign text)
+    (some_front is_ascii_digit (without_leading_sign text)
+    (λ e. n (ap length (a ∙ ap (after is_ascii_digit) d) ∙ e ∙ ap length (sym d))))
 
 pub value_word-is_integer : (text digits digits' word : List ℕ) → digits ≡ without_leading_sign text
     → digits' ≡ after is_ascii_digit digits → length digits' ≢ length digits
     → word ≡ value_word text → is_integer word ≡ true
-value_word-is_integer text digits digits' word d a n w = ap is_index (ap without_leading_sign w ∙ without_leading_sign-value_word text) ∙ some_value text digits digits' d a n
+value_word-is_integer text digits digits' word d a n w =
+    ap is_index (ap without_leading_sign w ∙ without_leading_sign-value_word text)
+    ∙ some_value text digits digits' d a n
 
 pub value_word-number : (text digits word : List ℕ) (n : Option ℕ)
     → digits ≡ without_leading_sign text
-    → SomeIff n (digits_value 10 (front is_ascii_digit digits) < 2 ^ 64) (digits_value 10 (front is_ascii_digit digits))
+    → SomeIff n (digits_value 10 (front is_ascii_digit digits) < 2 ^ 64)
+    (digits_value 10 (front is_ascii_digit digits))
     → word ≡ value_word text
-    → SomeIff n (digits_value 10 (without_leading_sign word) < 2 ^ 64) (digits_value 10 (without_leading_sign word))
+    → SomeIff n (digits_value 10 (without_leading_sign word) < 2 ^ 64)
+    (digits_value 10 (without_leading_sign word))
 value_word-number text digits word n d h w =
-    let e : front is_ascii_digit digits ≡ without_leading_sign word = ap (front is_ascii_digit) d ∙ sym (ap without_leading_sign w ∙ without_leading_sign-value_word text) in
+    let e : front is_ascii_digit digits ≡ without_leading_sign word = ap (front is_ascii_digit) d
+    ∙ sym (ap without_leading_sign w ∙ without_leading_sign-value_word text) in
     subst (λ (ds : List ℕ). SomeIff n (digits_value 10 ds < 2 ^ 64) (digits_value 10 ds)) e h
 
 -- ---- a word that is an index as a whole

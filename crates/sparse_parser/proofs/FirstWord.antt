@@ -1,5 +1,7 @@
 -- The first word of a line, and what it is.
-use Rattle.std.proofs.Common.{◌≡◌, ◌≢◌, ℕ, ◌+◌, ◌^◌, ◌<◌, ◌≤◌, ◌&&◌, ◌||◌, not, Bool, true, false, cond, eqb, List, [], ◌∷◌, ◌++◌, length, Option, Some, None, refl, sym, ap, subst, ◌∙◌, arith, inl, inr, length-append}
+use Rattle.std.proofs.Common.{◌≡◌, ◌≢◌, ℕ, ◌+◌, ◌^◌, ◌<◌, ◌≤◌, ◌&&◌, ◌||◌, not, Bool, true, false}
+use Rattle.std.proofs.Common.{cond, eqb, List, [], ◌∷◌, ◌++◌, length, Option, Some, None, refl, sym}
+use Rattle.std.proofs.Common.{ap, subst, ◌∙◌, arith, inl, inr, length-append}
 use Rattle.std.specs.Prelude.{◌⊎◌, IsTrue}
 use Rattle.std.specs.Option.{SomeIff}
 use Rattle.std.specs.List.{list_all, AllByRecursion}
@@ -15,25 +17,40 @@ use Rattle.sparse_parser.specs.Bytes.{is_blank, is_line_end, front, after}
 use Rattle.sparse_parser.specs.InnerBytes.{is_space, is_within_line, is_solid}
 use Rattle.sparse_parser.specs.Grammar.{IsApart, is_index, is_integer, is_number}
 use Rattle.sparse_parser.specs.InnerReading.{words_of, line_words, ends_line}
-use Rattle.sparse_parser.specs.InnerLines.{IsNumberOf, IsWord, IsFound, StartsWord, ends_word, is_plain, is_whole}
-use Rattle.sparse_parser.proofs.Fronts.{Passes, IsStopped, Passes-front, IsStopped-after, front-append-after, front-yes, front-no, after-no, front-append, after-append, front-append_passes, after-append_passes}
-use Rattle.sparse_parser.proofs.ByteClasses.{digit_solid, sign_solid, sign_no_digit, solid_no_blank, solid_within_line, unsolid_no_digit, unsolid_space, space_unsolid, blank_within_line, Passes-weaker, Passes-append}
+use Rattle.sparse_parser.specs.InnerLines.{IsNumberOf, IsWord, IsFound, StartsWord, ends_word}
+use Rattle.sparse_parser.specs.InnerLines.{is_plain, is_whole}
+use Rattle.sparse_parser.proofs.Fronts.{Passes, IsStopped, Passes-front, IsStopped-after}
+use Rattle.sparse_parser.proofs.Fronts.{front-append-after, front-yes, front-no, after-no}
+use Rattle.sparse_parser.proofs.Fronts.{front-append, after-append, front-append_passes}
+use Rattle.sparse_parser.proofs.Fronts.{after-append_passes}
+use Rattle.sparse_parser.proofs.ByteClasses.{digit_solid, sign_solid, sign_no_digit, solid_no_blank}
+use Rattle.sparse_parser.proofs.ByteClasses.{solid_within_line, unsolid_no_digit, unsolid_space}
+use Rattle.sparse_parser.proofs.ByteClasses.{space_unsolid, blank_within_line, Passes-weaker}
+use Rattle.sparse_parser.proofs.ByteClasses.{Passes-append}
 use Rattle.sparse_parser.proofs.WordLaws.{words_of-nil, words_of-blanks, words_of-word}
-use Rattle.sparse_parser.proofs.EntryLaws.{sign_of, sign_of-append, value_word, value_word-append, value_word-is, value_word-is_integer, value_word-number, some_value}
-use Rattle.sparse_parser.proofs.NumberLaws.{digits-of, integer-number, index-integer, index-unsigned, false-before}
+use Rattle.sparse_parser.proofs.EntryLaws.{sign_of, sign_of-append, value_word, value_word-append}
+use Rattle.sparse_parser.proofs.EntryLaws.{value_word-is, value_word-is_integer, value_word-number}
+use Rattle.sparse_parser.proofs.EntryLaws.{some_value}
+use Rattle.sparse_parser.proofs.NumberLaws.{digits-of, integer-number, index-integer}
+use Rattle.sparse_parser.proofs.NumberLaws.{index-unsigned, false-before}
 
 -- ---- blanks before a line
 
 pub words-after_blanks : (text : List ℕ) → line_words (after is_blank text) ≡ line_words text
 unfolding line_words
 words-after_blanks text =
-    sym (words_of-blanks (front is_blank text) (front is_within_line (after is_blank text)) (Passes-front is_blank text))
-    ∙ ap words_of (sym (front-append_passes is_within_line (front is_blank text) (after is_blank text) (Passes-weaker is_blank is_within_line _ blank_within_line (Passes-front is_blank text))) ∙ ap (front is_within_line) (front-append-after is_blank text))
+    sym (words_of-blanks (front is_blank text) (front is_within_line (after is_blank text))
+    (Passes-front is_blank text))
+    ∙ ap words_of
+    (sym (front-append_passes is_within_line (front is_blank text) (after is_blank text)
+    (Passes-weaker is_blank is_within_line _ blank_within_line (Passes-front is_blank text)))
+    ∙ ap (front is_within_line) (front-append-after is_blank text))
 
 pub line-after_blanks : (text : List ℕ)
     → after is_within_line (after is_blank text) ≡ after is_within_line text
 line-after_blanks text =
-    sym (after-append_passes is_within_line (front is_blank text) (after is_blank text) (Passes-weaker is_blank is_within_line _ blank_within_line (Passes-front is_blank text)))
+    sym (after-append_passes is_within_line (front is_blank text) (after is_blank text)
+    (Passes-weaker is_blank is_within_line _ blank_within_line (Passes-front is_blank text)))
     ∙ ap (after is_within_line) (front-append-after is_blank text)
 
 pub word-after_blanks : (text start word rest : List ℕ) → start ≡ after is_blank text
@@ -46,9 +63,11 @@ word-after_blanks text start word rest e h = record {
 at_end : (text : List ℕ) → ends_line text ≡ true
     → (front is_within_line text ≡ []) × (after is_within_line text ≡ text)
 at_end [] e = (refl, refl)
-at_end (b ∷ text) e = let n : not (is_line_end b) ≡ false = rw e refl in (front-no is_within_line b text n, after-no is_within_line b text n)
+at_end (b ∷ text) e = let n : not (is_line_end b) ≡ false =
+    rw e refl in (front-no is_within_line b text n, after-no is_within_line b text n)
 
-pub line_ends : (text start : List ℕ) → start ≡ after is_blank text → ends_line start ≡ true → (line_words text ≡ []) × (start ≡ after is_within_line text)
+pub line_ends : (text start : List ℕ) → start ≡ after is_blank text → ends_line start ≡ true
+    → (line_words text ≡ []) × (start ≡ after is_within_line text)
 unfolding line_words
 line_ends text start s e =
     let h = at_end start e in (
@@ -58,7 +77,8 @@ line_ends text start s e =
 
 pub starts_word : (text start : List ℕ) → start ≡ after is_blank text → ends_line start ≡ false
     → StartsWord start
-starts_word text start s e = by start (subst (IsStopped is_blank) (sym s) (IsStopped-after is_blank text)) e
+starts_word text start s e =
+    by start (subst (IsStopped is_blank) (sym s) (IsStopped-after is_blank text)) e
   where
     by : (start : List ℕ) → IsStopped is_blank start → ends_line start ≡ false → StartsWord start
     by [] stop e = absurd cc
@@ -70,7 +90,8 @@ apart : (rest : List ℕ) → ends_word rest ≡ true → IsApart (front is_with
 apart [] e = tt
 apart (b ∷ rest) e = by (is_line_end b) (is_blank b) refl refl
   where
-    by : (t u : Bool) → is_line_end b ≡ t → is_blank b ≡ u → IsApart (front is_within_line (b ∷ rest))
+    by : (t u : Bool) → is_line_end b ≡ t → is_blank b ≡ u
+        → IsApart (front is_within_line (b ∷ rest))
     by true u f g = subst IsApart (sym (front-no is_within_line b rest (rw f refl))) tt
     by false true f g = subst IsApart (sym (front-yes is_within_line b rest (rw f refl))) g
     by false false f g = absurd (let h : is_space b ≡ false = rw (f, g) refl in cc)
@@ -79,12 +100,14 @@ no_blanks : (word : List ℕ) → Passes is_solid word → AllByRecursion (λ b.
 no_blanks [] h = tt
 no_blanks (b ∷ word) h = (solid_no_blank b h.0, no_blanks word h.1)
 
-pub word_first : (word rest : List ℕ) → 0 < length word → Passes is_solid word → ends_word rest ≡ true → IsWord (word ++ rest) word rest
+pub word_first : (word rest : List ℕ) → 0 < length word → Passes is_solid word
+    → ends_word rest ≡ true → IsWord (word ++ rest) word rest
 unfolding line_words
 word_first word rest lt solid e =
     let inside = Passes-weaker is_solid is_within_line word solid_within_line solid in
     record {
-      words = ap words_of (front-append_passes is_within_line word rest inside) ∙ words_of-word word (front is_within_line rest) lt (no_blanks word solid) (apart rest e);
+      words = ap words_of (front-append_passes is_within_line word rest inside)
+          ∙ words_of-word word (front is_within_line rest) lt (no_blanks word solid) (apart rest e);
       line = sym (after-append_passes is_within_line word rest inside);
     }
 
@@ -99,7 +122,9 @@ sign_passes (b ∷ text) = by (eqb b 43 || eqb b 45) refl
     by false e = rw e tt
 
 value-passes : (text : List ℕ) → Passes is_solid (value_word text)
-value-passes text = Passes-append is_solid (sign_of text) _ (sign_passes text) (Passes-weaker is_ascii_digit is_solid _ digit_solid (Passes-front is_ascii_digit (without_leading_sign text)))
+value-passes text = Passes-append is_solid (sign_of text) _ (sign_passes text)
+    (Passes-weaker is_ascii_digit is_solid _ digit_solid
+    (Passes-front is_ascii_digit (without_leading_sign text)))
 
 length-second : (s t : List ℕ) → 0 < length t → 0 < length (s ++ t)
 length-second s t lt = let e = length-append s t in omega arith
@@ -111,7 +136,8 @@ pub record AreDigits (text unsigned rest word : List ℕ) (digits : Option ℕ) 
   pub some : length rest ≢ length unsigned
   pub ends : ends_word rest ≡ true
   pub word_is : word ≡ value_word text
-  pub number : SomeIff digits (digits_value 10 (front is_ascii_digit unsigned) < 2 ^ 64) (digits_value 10 (front is_ascii_digit unsigned))
+  pub number : SomeIff digits (digits_value 10 (front is_ascii_digit unsigned) < 2 ^ 64)
+      (digits_value 10 (front is_ascii_digit unsigned))
 
 pub integer_word : (text unsigned rest word : List ℕ) (digits : Option ℕ)
     → AreDigits text unsigned rest word digits → IsWord text word rest
@@ -119,24 +145,32 @@ integer_word text unsigned rest word digits h =
     let i = some_value text unsigned rest h.unsigned_is h.rest_is h.some in
     let lt = length-second (sign_of text) _ (digits-of _ i).0 in
     let w = word_first (value_word text) rest lt (value-passes text) h.ends in
-    let same : value_word text ++ rest ≡ text = ap (λ (t : List ℕ). value_word text ++ t) (h.rest_is ∙ ap (after is_ascii_digit) h.unsigned_is) ∙ value_word-append text in
-    subst (λ (t : List ℕ). IsWord t word rest) same (subst (λ (v : List ℕ). IsWord (value_word text ++ rest) v rest) (sym h.word_is) w)
+    let same : value_word text ++ rest ≡ text = ap (λ (t : List ℕ). value_word text ++ t)
+    (h.rest_is ∙ ap (after is_ascii_digit) h.unsigned_is) ∙ value_word-append text in
+    subst (λ (t : List ℕ). IsWord t word rest) same
+    (subst (λ (v : List ℕ). IsWord (value_word text ++ rest) v rest) (sym h.word_is) w)
 
 no_sign : (text : List ℕ) → length (without_leading_sign text) ≡ length text → sign_of text ≡ []
-no_sign text e = nil_from_length (sign_of text) (let l : length (sign_of text) + length (without_leading_sign text) ≡ length text = sym (length-append (sign_of text) (without_leading_sign text)) ∙ ap length (sign_of-append text) in omega arith)
+no_sign text e = nil_from_length (sign_of text)
+    (let l : length (sign_of text) + length (without_leading_sign text) ≡ length text =
+    sym (length-append (sign_of text) (without_leading_sign text))
+    ∙ ap length (sign_of-append text) in omega arith)
 
 pub plain_number : (text unsigned rest word : List ℕ) (digits : Option ℕ)
     → AreDigits text unsigned rest word digits → length unsigned ≡ length text
     → IsNumberOf word digits Index
 plain_number text unsigned rest word digits h e =
-    let i = value_word-is_integer text unsigned rest word h.unsigned_is h.rest_is h.some h.word_is in
+    let i = value_word-is_integer text unsigned rest word h.unsigned_is h.rest_is h.some
+    h.word_is in
     let s = no_sign text (ap length (sym h.unsigned_is) ∙ e) in
-    let w : word ≡ front is_ascii_digit (without_leading_sign text) = h.word_is ∙ ap (λ (x : List ℕ). x ++ front is_ascii_digit (without_leading_sign text)) s in
+    let w : word ≡ front is_ascii_digit (without_leading_sign text) = h.word_is
+    ∙ ap (λ (x : List ℕ). x ++ front is_ascii_digit (without_leading_sign text)) s in
     record {
       number = integer-number word i;
       index = ap is_index w ∙ some_value text unsigned rest h.unsigned_is h.rest_is h.some;
       integer = i;
-      digits_are = λ _. value_word-number text unsigned word digits h.unsigned_is h.number h.word_is;
+      digits_are = λ _. value_word-number text unsigned word digits h.unsigned_is h.number
+          h.word_is;
     }
 
 no_index_first : (b : ℕ) (word : List ℕ) → is_ascii_digit b ≡ false → is_index (b ∷ word) ≡ false
@@ -156,7 +190,8 @@ signed_no_index (b ∷ text) n = by (eqb b 43 || eqb b 45) refl
 
     by : (t : Bool) → (eqb b 43 || eqb b 45) ≡ t → is_index (value_word (b ∷ text)) ≡ false
     by true e =
-        let w : value_word (b ∷ text) ≡ b ∷ front is_ascii_digit (without_leading_sign (b ∷ text)) = rw e refl in
+        let w : value_word (b ∷ text) ≡ b ∷ front is_ascii_digit (without_leading_sign (b ∷ text)) =
+        rw e refl in
         ap is_index w ∙ no_index_first b _ (sign_no_digit b e)
     by false e = absurd (n (ap length (none_is e)))
 
@@ -164,12 +199,14 @@ pub signed_number : (text unsigned rest word : List ℕ) (digits : Option ℕ)
     → AreDigits text unsigned rest word digits → length unsigned ≢ length text
     → IsNumberOf word digits Signed
 signed_number text unsigned rest word digits h n =
-    let i = value_word-is_integer text unsigned rest word h.unsigned_is h.rest_is h.some h.word_is in
+    let i = value_word-is_integer text unsigned rest word h.unsigned_is h.rest_is h.some
+    h.word_is in
     record {
       number = integer-number word i;
       index = ap is_index h.word_is ∙ signed_no_index text (λ e. n (ap length h.unsigned_is ∙ e));
       integer = i;
-      digits_are = λ _. value_word-number text unsigned word digits h.unsigned_is h.number h.word_is;
+      digits_are = λ _. value_word-number text unsigned word digits h.unsigned_is h.number
+          h.word_is;
     }
 
 -- ---- another word
@@ -200,17 +237,24 @@ pub no_integer : (text unsigned rest : List ℕ) → unsigned ≡ without_leadin
     → is_integer (front is_solid text) ≡ false
 no_integer text unsigned rest u r wrong = by (is_integer (front is_solid text)) refl
   where
-    by : (t : Bool) → is_integer (front is_solid text) ≡ t → is_integer (front is_solid text) ≡ false
+    by : (t : Bool) → is_integer (front is_solid text) ≡ t
+        → is_integer (front is_solid text) ≡ false
     by false i = i
     by true i =
         let word = front is_solid text in
         let next = after is_solid text in
         let d = digits-of (without_leading_sign word) i in
         let stop = IsStopped-after is_solid text in
-        let s : unsigned ≡ without_leading_sign word ++ next = u ∙ ap without_leading_sign (sym (front-append-after is_solid text)) ∙ sign-split word next i in
-        let a : rest ≡ next = r ∙ ap (after is_ascii_digit) s ∙ after-append is_ascii_digit (without_leading_sign word) next d.1 (stops_digits next stop) in
+        let s : unsigned ≡ without_leading_sign word ++ next = u
+        ∙ ap without_leading_sign (sym (front-append-after is_solid text))
+        ∙ sign-split word next i in
+        let a : rest ≡ next = r ∙ ap (after is_ascii_digit) s
+        ∙ after-append is_ascii_digit (without_leading_sign word) next d.1
+        (stops_digits next stop) in
         absurd (elim wrong [
-          | inl e ↦ let l : length unsigned ≡ length (without_leading_sign word) + length next = ap length s ∙ length-append (without_leading_sign word) next in let m : length rest ≡ length next = ap length a in let lt = d.0 in omega arith
+          | inl e ↦ let l : length unsigned ≡ length (without_leading_sign word) + length next =
+              ap length s ∙ length-append (without_leading_sign word) next in let m : length rest
+              ≡ length next = ap length a in let lt = d.0 in omega arith
           | inr e ↦ let f : ends_word rest ≡ true = ap ends_word a ∙ stops_word next stop in cc
         ])
 
@@ -221,9 +265,12 @@ some_solid (b ∷ text) h = rw (space_unsolid b h) (omega arith)
 pub other_word : (text word rest : List ℕ) → StartsWord text → word ≡ front is_solid text
     → rest ≡ after is_solid text → IsWord text word rest
 other_word text word rest start w r =
-    let h = word_first (front is_solid text) (after is_solid text) (some_solid text start) (Passes-front is_solid text) (stops_word _ (IsStopped-after is_solid text)) in
-    let k = subst (λ (t : List ℕ). IsWord t (front is_solid text) (after is_solid text)) (front-append-after is_solid text) h in
-    subst (λ (x : List ℕ). IsWord text x rest) (sym w) (subst (λ (x : List ℕ). IsWord text (front is_solid text) x) (sym r) k)
+    let h = word_first (front is_solid text) (after is_solid text) (some_solid text start)
+    (Passes-front is_solid text) (stops_word _ (IsStopped-after is_solid text)) in
+    let k = subst (λ (t : List ℕ). IsWord t (front is_solid text) (after is_solid text))
+    (front-append-after is_solid text) h in
+    subst (λ (x : List ℕ). IsWord text x rest) (sym w)
+    (subst (λ (x : List ℕ). IsWord text (front is_solid text) x) (sym r) k)
 
 pub other_is : (word : List ℕ) → is_number word ≡ true → is_integer word ≡ false
     → IsNumberOf word None Other
@@ -238,7 +285,8 @@ other_is word n i = record {
 pub index_digits : (word : List ℕ) (digits : Option ℕ) (kind : Kind) → IsNumberOf word digits kind
     → is_plain kind ≡ true → SomeIff digits (digits_value 10 word < 2 ^ 64) (digits_value 10 word)
 index_digits word digits kind h p =
-    subst (λ (w : List ℕ). SomeIff digits (digits_value 10 w < 2 ^ 64) (digits_value 10 w)) (index-unsigned word (h.index ∙ p)) (h.digits_are (whole kind p))
+    subst (λ (w : List ℕ). SomeIff digits (digits_value 10 w < 2 ^ 64) (digits_value 10 w))
+    (index-unsigned word (h.index ∙ p)) (h.digits_are (whole kind p))
   where
     whole : (kind : Kind) → is_plain kind ≡ true → IsTrue (is_whole kind)
     whole Index p = refl
@@ -248,6 +296,12 @@ index_digits word digits kind h p =
 -- what is found after blanks is found before them
 pub found_after_blanks : (text start : List ℕ) (f : Found) → start ≡ after is_blank text
     → IsFound start f → IsFound text f
-found_after_blanks text start (found.Number n rest) e h = (h.0, word-after_blanks text start n.word.now rest.now e h.1)
-found_after_blanks text start (found.End rest) e h = (sym (ap line_words e ∙ words-after_blanks text) ∙ h.0, h.1 ∙ ap (after is_within_line) e ∙ line-after_blanks text)
-found_after_blanks text start found.Fault e h = (h.0, h.1, sym (ap line_words e ∙ words-after_blanks text) ∙ h.2, h.3)
+found_after_blanks text start (found.Number n rest) e h =
+    (h.0, word-after_blanks text start n.word.now rest.now e h.1)
+found_after_blanks text start (found.End rest) e h = (
+  sym (ap line_words e ∙ words-after_blanks text) ∙ h.0,
+  h.1 ∙ ap (after is_within_line) e
+      ∙ line-after_blanks text,
+)
+found_after_blanks text start found.Fault e h =
+    (h.0, h.1, sym (ap line_words e ∙ words-after_blanks text) ∙ h.2, h.3)

@@ -1,5 +1,6 @@
 -- The longest front of a text that passes a test, as a loop goes over it.
-use Rattle.std.proofs.Common.{◌≡◌, ℕ, ◌+◌, ◌≤◌, ◌<◌, Bool, true, false, List, [], ◌∷◌, ◌++◌, length, get_or, take, drop, refl, sym, ap, subst, ◌∙◌, append_assoc, arith}
+use Rattle.std.proofs.Common.{◌≡◌, ℕ, ◌+◌, ◌≤◌, ◌<◌, Bool, true, false, List, [], ◌∷◌, ◌++◌, length}
+use Rattle.std.proofs.Common.{get_or, take, drop, refl, sym, ap, subst, ◌∙◌, append_assoc, arith}
 use Rattle.std.proofs.lemmas.List.{drop_more, drop_all, take_more, append-nil}
 use Rattle.std.specs.List.{AllByRecursion, list_all}
 use Rattle.sparse_parser.specs.Bytes.{front, after}
@@ -31,12 +32,16 @@ pub passed_more : (p : ℕ → Bool) (text : List ℕ) (i : ℕ) → IsPassed p 
     → p (get_or text i 0) ≡ true → IsPassed p text (i + 1)
 passed_more p text i h lt e =
     let d = drop_more text i 0 lt in
-    let a : after p (drop i text) ≡ after p (drop (i + 1) text) = ap (after p) d ∙ after-yes p _ _ e in
-    let f : front p (drop i text) ≡ get_or text i 0 ∷ front p (drop (i + 1) text) = ap (front p) d ∙ front-yes p _ _ e in
+    let a : after p (drop i text) ≡ after p (drop (i + 1) text) = ap (after p) d
+    ∙ after-yes p _ _ e in
+    let f : front p (drop i text) ≡ get_or text i 0 ∷ front p (drop (i + 1) text) = ap (front p) d
+    ∙ front-yes p _ _ e in
     record {
       room = omega arith;
       rest = sym a ∙ h.rest;
-      passed = ap (λ (t : List ℕ). t ++ front p (drop (i + 1) text)) (take_more text i 0 lt) ∙ append_assoc (take i text) _ _ ∙ sym (ap (λ (t : List ℕ). take i text ++ t) f) ∙ h.passed;
+      passed = ap (λ (t : List ℕ). t ++ front p (drop (i + 1) text)) (take_more text i 0 lt)
+          ∙ append_assoc (take i text) _ _ ∙ sym (ap (λ (t : List ℕ). take i text ++ t) f)
+          ∙ h.passed;
     }
 
 -- the loop's end: of the text, or at a byte that fails
@@ -50,7 +55,8 @@ passed_all p text i h le =
     let d = drop_all i text le in
     record {
       rest = d ∙ sym (ap (after p) d) ∙ h.rest;
-      passed = sym (append-nil _) ∙ sym (ap (λ (t : List ℕ). take i text ++ front p t) d) ∙ h.passed;
+      passed = sym (append-nil _) ∙ sym (ap (λ (t : List ℕ). take i text ++ front p t) d)
+          ∙ h.passed;
     }
 
 pub passed_stop : (p : ℕ → Bool) (text : List ℕ) (i : ℕ) → IsPassed p text i → i < length text
@@ -59,7 +65,9 @@ passed_stop p text i h lt e =
     let d = drop_more text i 0 lt in
     record {
       rest = d ∙ sym (ap (after p) d ∙ after-no p _ _ e) ∙ h.rest;
-      passed = sym (append-nil _) ∙ sym (ap (λ (t : List ℕ). take i text ++ t) (ap (front p) d ∙ front-no p _ _ e)) ∙ h.passed;
+      passed = sym (append-nil _)
+          ∙ sym (ap (λ (t : List ℕ). take i text ++ t) (ap (front p) d ∙ front-no p _ _ e))
+          ∙ h.passed;
     }
 
 -- ---- the parts, without a loop
@@ -106,24 +114,28 @@ pub front-append : (p : ℕ → Bool) (passed rest : List ℕ) → Passes p pass
     → front p (passed ++ rest) ≡ passed
 front-append p [] [] h stop = refl
 front-append p [] (b ∷ rest) h stop = front-no p b rest stop
-front-append p (b ∷ passed) rest h stop = front-yes p b (passed ++ rest) h.0 ∙ ap (λ (t : List ℕ). b ∷ t) (front-append p passed rest h.1 stop)
+front-append p (b ∷ passed) rest h stop = front-yes p b (passed ++ rest) h.0
+    ∙ ap (λ (t : List ℕ). b ∷ t) (front-append p passed rest h.1 stop)
 
 pub after-append : (p : ℕ → Bool) (passed rest : List ℕ) → Passes p passed → IsStopped p rest
     → after p (passed ++ rest) ≡ rest
 after-append p [] [] h stop = refl
 after-append p [] (b ∷ rest) h stop = after-no p b rest stop
-after-append p (b ∷ passed) rest h stop = after-yes p b (passed ++ rest) h.0 ∙ after-append p passed rest h.1 stop
+after-append p (b ∷ passed) rest h stop = after-yes p b (passed ++ rest) h.0
+    ∙ after-append p passed rest h.1 stop
 
 -- a part that passes stands in front of the front
 pub front-append_passes : (p : ℕ → Bool) (passed rest : List ℕ) → Passes p passed
     → front p (passed ++ rest) ≡ passed ++ front p rest
 front-append_passes p [] rest h = refl
-front-append_passes p (b ∷ passed) rest h = front-yes p b (passed ++ rest) h.0 ∙ ap (λ (t : List ℕ). b ∷ t) (front-append_passes p passed rest h.1)
+front-append_passes p (b ∷ passed) rest h = front-yes p b (passed ++ rest) h.0
+    ∙ ap (λ (t : List ℕ). b ∷ t) (front-append_passes p passed rest h.1)
 
 pub after-append_passes : (p : ℕ → Bool) (passed rest : List ℕ) → Passes p passed
     → after p (passed ++ rest) ≡ after p rest
 after-append_passes p [] rest h = refl
-after-append_passes p (b ∷ passed) rest h = after-yes p b (passed ++ rest) h.0 ∙ after-append_passes p passed rest h.1
+after-append_passes p (b ∷ passed) rest h = after-yes p b (passed ++ rest) h.0
+    ∙ after-append_passes p passed rest h.1
 
 pub length-after : (p : ℕ → Bool) (text : List ℕ) → length (after p text) ≤ length text
 length-after p [] = omega arith
@@ -154,5 +166,7 @@ list_all-front p (b ∷ word) h = by (p b) refl (list_all-front p word)
   where
     by : (t : Bool) → p b ≡ t → (list_all p word ≡ true → front p word ≡ word)
         → front p (b ∷ word) ≡ b ∷ word
-    by true e rest = let k : list_all p word ≡ true = sym (let r : list_all p (b ∷ word) ≡ list_all p word = rw e refl in r) ∙ h in front-yes p b word e ∙ ap (λ (t : List ℕ). b ∷ t) (rest k)
+    by true e rest = let k : list_all p word ≡ true =
+        sym (let r : list_all p (b ∷ word) ≡ list_all p word = rw e refl in r)
+        ∙ h in front-yes p b word e ∙ ap (λ (t : List ℕ). b ∷ t) (rest k)
     by false e rest = absurd (let r : list_all p (b ∷ word) ≡ false = rw e refl in cc)

@@ -1,8 +1,11 @@
 -- The indices and integers of a line, read one after the other.
-use Rattle.std.proofs.Common.{◌≡◌, ◌≢◌, ℕ, ℤ, pos, zero, suc, ◌^◌, ◌<◌, Bool, true, false, cond, eqb, List, [], ◌∷◌, ◌++◌, length, Option, Some, Ok, Err, refl, sym, ap, subst, ◌∙◌, arith}
+use Rattle.std.proofs.Common.{◌≡◌, ◌≢◌, ℕ, ℤ, pos, zero, suc, ◌^◌, ◌<◌, Bool, true, false, cond}
+use Rattle.std.proofs.Common.{eqb, List, [], ◌∷◌, ◌++◌, length, Option, Some, Ok, Err, refl, sym}
+use Rattle.std.proofs.Common.{ap, subst, ◌∙◌, arith}
 use Rattle.std.specs.Option.{SomeIff}
 use Rattle.std.specs.Char.{is_ascii_digit}
-use Rattle.std.specs.Str.Parse.{digits_value, digits_value_after, starts_with_minus, without_leading_sign}
+use Rattle.std.specs.Str.Parse.{digits_value, digits_value_after, starts_with_minus}
+use Rattle.std.specs.Str.Parse.{without_leading_sign}
 use Rattle.std.proofs.lemmas.Bool.{lt-ltb}
 use lib.IntN.{neg_ℤ}
 use Rattle.sparse_parser.specs.declared.error.MatrixMarketErrorKind.TheVariants.{ParsingError}
@@ -14,17 +17,20 @@ use Rattle.sparse_parser.specs.Meaning.{number_of, integer_of}
 use Rattle.sparse_parser.specs.InnerReading.{line_words}
 use Rattle.sparse_parser.specs.InnerNumbers.{IsNumberRead}
 use Rattle.sparse_parser.specs.InnerLines.{IsWord, ends_word}
-use Rattle.sparse_parser.specs.InnerIntegers.{IsIndexAt, IsIntegerAt, IsEndAt, IsIntegerLine, IsPlaceLine, IsValueLine}
+use Rattle.sparse_parser.specs.InnerIntegers.{IsIndexAt, IsIntegerAt, IsEndAt, IsIntegerLine}
+use Rattle.sparse_parser.specs.InnerIntegers.{IsPlaceLine, IsValueLine}
 use Rattle.sparse_parser.proofs.Fronts.{Passes-front, front-append-after, front-no, after-no}
 use Rattle.sparse_parser.proofs.ByteClasses.{digit_solid, space_no_digit, Passes-weaker}
-use Rattle.sparse_parser.proofs.EntryLaws.{some_front, is_index-front, found-number, value_word, value_word-is_integer, value_word-number}
+use Rattle.sparse_parser.proofs.EntryLaws.{some_front, is_index-front, found-number, value_word}
+use Rattle.sparse_parser.proofs.EntryLaws.{value_word-is_integer, value_word-number}
 use Rattle.sparse_parser.proofs.FirstWord.{AreDigits, word_first, word-after_blanks, integer_word}
 
 -- what ends a word is no digit
 no_digit : (rest : List ℕ) → ends_word rest ≡ true
     → (front is_ascii_digit rest ≡ []) × (after is_ascii_digit rest ≡ rest)
 no_digit [] e = (refl, refl)
-no_digit (b ∷ rest) e = let d = space_no_digit b e in (front-no is_ascii_digit b rest d, after-no is_ascii_digit b rest d)
+no_digit (b ∷ rest) e = let d = space_no_digit b
+    e in (front-no is_ascii_digit b rest d, after-no is_ascii_digit b rest d)
 
 -- the digits at the front of a text were read, and a word ends there
 record IsDigitsRead (text : List ℕ) (number : ℕ) (rest : List ℕ) : Type 0 where
@@ -47,9 +53,13 @@ digits_word : (text rest : List ℕ) → rest ≡ after is_ascii_digit text → 
     → ends_word rest ≡ true → IsWord text (front is_ascii_digit text) rest
 digits_word text rest r some ends =
     let lt = some_front is_ascii_digit text (λ e. some (ap length r ∙ e)) in
-    let solid = Passes-weaker is_ascii_digit is_solid _ digit_solid (Passes-front is_ascii_digit text) in
-    let same : front is_ascii_digit text ++ rest ≡ text = ap (λ (t : List ℕ). front is_ascii_digit text ++ t) r ∙ front-append-after is_ascii_digit text in
-    subst (λ (t : List ℕ). IsWord t (front is_ascii_digit text) rest) same (word_first (front is_ascii_digit text) rest lt solid ends)
+    let solid = Passes-weaker is_ascii_digit is_solid _ digit_solid
+    (Passes-front is_ascii_digit text) in
+    let same : front is_ascii_digit text ++ rest ≡ text =
+    ap (λ (t : List ℕ). front is_ascii_digit text ++ t) r
+    ∙ front-append-after is_ascii_digit text in
+    subst (λ (t : List ℕ). IsWord t (front is_ascii_digit text) rest) same
+    (word_first (front is_ascii_digit text) rest lt solid ends)
 
 pub index_at : (text start rest : List ℕ) (number : ℕ) → start ≡ after is_blank text
     → IsNumberRead start number rest → length rest ≢ length start → ends_word rest ≡ true
@@ -59,8 +69,10 @@ index_at text start rest number s r some ends =
     record {
       word = front is_ascii_digit start;
       at = word-after_blanks text start _ rest s (digits_word start rest d.others some ends);
-      index = is_index-front start (some_front is_ascii_digit start (λ f. some (ap length d.others ∙ f)));
-      is = sym (found-number (front is_ascii_digit start) (Some number) (subst (λ (n : ℕ). n < 2 ^ 64) d.value d.small, d.value));
+      index = is_index-front start (some_front is_ascii_digit start
+          (λ f. some (ap length d.others ∙ f)));
+      is = sym (found-number (front is_ascii_digit start) (Some number)
+          (subst (λ (n : ℕ). n < 2 ^ 64) d.value d.small, d.value));
     }
 
 -- the sign is the first byte's
@@ -70,22 +82,28 @@ same_sign (b ∷ text) = by (eqb b 45) (eqb b 43) (is_ascii_digit b) refl refl r
   where
     by : (minus plus digit : Bool) → eqb b 45 ≡ minus → eqb b 43 ≡ plus → is_ascii_digit b ≡ digit
         → starts_with_minus (value_word (b ∷ text)) ≡ starts_with_minus (b ∷ text)
-    by true true digit m p d = ap starts_with_minus (let w : value_word (b ∷ text) ≡ b ∷ front is_ascii_digit text = rw (p, m) refl in w)
-    by true false digit m p d = ap starts_with_minus (let w : value_word (b ∷ text) ≡ b ∷ front is_ascii_digit text = rw (p, m) refl in w)
-    by false true digit m p d = ap starts_with_minus (let w : value_word (b ∷ text) ≡ b ∷ front is_ascii_digit text = rw (p, m) refl in w)
-    by false false true m p d = ap starts_with_minus (let w : value_word (b ∷ text) ≡ b ∷ front is_ascii_digit text = rw (m, p, d) refl in w)
+    by true true digit m p d = ap starts_with_minus
+        (let w : value_word (b ∷ text) ≡ b ∷ front is_ascii_digit text = rw (p, m) refl in w)
+    by true false digit m p d = ap starts_with_minus
+        (let w : value_word (b ∷ text) ≡ b ∷ front is_ascii_digit text = rw (p, m) refl in w)
+    by false true digit m p d = ap starts_with_minus
+        (let w : value_word (b ∷ text) ≡ b ∷ front is_ascii_digit text = rw (p, m) refl in w)
+    by false false true m p d = ap starts_with_minus
+        (let w : value_word (b ∷ text) ≡ b ∷ front is_ascii_digit text = rw (m, p, d) refl in w)
     by false false false m p d =
         let w : value_word (b ∷ text) ≡ [] = rw (m, p, d) refl in
         ap starts_with_minus w ∙ sym m
 
-integer_is : (word : List ℕ) (n : ℕ) (minus : Bool) → is_integer word ≡ true → starts_with_minus word ≡ minus
+integer_is : (word : List ℕ) (n : ℕ) (minus : Bool) → is_integer word ≡ true
+    → starts_with_minus word ≡ minus
     → n ≡ digits_value 10 (without_leading_sign word) → n < 2 ^ 64
     → integer_of word ≡ Ok (cond minus (neg_ℤ (pos n)) (pos n))
 unfolding integer_of
 integer_is word n true i m e lt = rw (← e, i, m) (negative n lt)
   where
     negative : (n : ℕ) → n < 2 ^ 64
-        → cond (fits 127 (neg_ℤ (pos n))) (Ok (neg_ℤ (pos n))) (Err ParsingError) ≡ Ok (neg_ℤ (pos n))
+        → cond (fits 127 (neg_ℤ (pos n))) (Ok (neg_ℤ (pos n))) (Err ParsingError) ≡ Ok
+        (neg_ℤ (pos n))
     negative zero lt = refl
     negative (suc n) lt = rw (lt-ltb n (2 ^ 127) (omega arith)) refl
 integer_is word n false i m e lt = rw (← e, i, m, lt-ltb n (2 ^ 127) (omega arith)) refl
@@ -97,7 +115,9 @@ pub integer_at : (text start unsigned rest : List ℕ) (number : ℕ) (minus : B
     → IsIntegerAt text value rest
 integer_at text start unsigned rest number minus value s u r some ends m v =
     let d = all_read unsigned rest number r ends in
-    let w : SomeIff (Some number) (digits_value 10 (front is_ascii_digit unsigned) < 2 ^ 64) (digits_value 10 (front is_ascii_digit unsigned)) = (subst (λ (n : ℕ). n < 2 ^ 64) d.value d.small, d.value) in
+    let w : SomeIff (Some number) (digits_value 10 (front is_ascii_digit unsigned) < 2 ^ 64)
+    (digits_value 10 (front is_ascii_digit unsigned)) =
+    (subst (λ (n : ℕ). n < 2 ^ 64) d.value d.small, d.value) in
     let a : AreDigits start unsigned rest (value_word start) (Some number) = record {
       unsigned_is = u;
       rest_is = d.others;
@@ -110,9 +130,11 @@ integer_at text start unsigned rest number minus value s u r some ends m v =
     let n = value_word-number start unsigned (value_word start) (Some number) u w refl in
     record {
       word = value_word start;
-      at = word-after_blanks text start _ rest s (integer_word start unsigned rest _ (Some number) a);
+      at = word-after_blanks text start _ rest s
+          (integer_word start unsigned rest _ (Some number) a);
       integer = i;
-      is = integer_is (value_word start) number minus i (same_sign start ∙ sym m) n.1 d.small ∙ ap (λ (z : ℤ). Ok z) (sym v);
+      is = integer_is (value_word start) number minus i (same_sign start ∙ sym m) n.1 d.small
+          ∙ ap (λ (z : ℤ). Ok z) (sym v);
     }
 
 -- one word more
@@ -120,7 +142,8 @@ more : (text word rest : List ℕ) (words : List (List ℕ)) → IsWord text wor
     → line_words rest ≡ words → line_words text ≡ word ∷ words
 more text word rest words h e = h.words ∙ ap (λ (ws : List (List ℕ)). word ∷ ws) e
 
-pub value_line_is : (text rest end : List ℕ) (value : ℤ) → IsIntegerAt text value rest → IsEndAt rest end
+pub value_line_is : (text rest end : List ℕ) (value : ℤ) → IsIntegerAt text value rest
+    → IsEndAt rest end
     → IsValueLine text value end
 value_line_is text rest end value v e = record {
   value_word = v.word;
@@ -143,8 +166,10 @@ place_line_is text second rest end row col r c e = record {
   after_line = e.line ∙ c.at.line ∙ r.at.line;
 }
 
-pub integer_line_is : (text second third end : List ℕ) (row col : ℕ) (value : ℤ) → IsIndexAt text row second
-    → IsIndexAt second col third → IsValueLine third value end → IsIntegerLine text row col value end
+pub integer_line_is : (text second third end : List ℕ) (row col : ℕ) (value : ℤ)
+    → IsIndexAt text row second
+    → IsIndexAt second col third → IsValueLine third value end
+    → IsIntegerLine text row col value end
 integer_line_is text second third end row col value r c v = record {
   row_word = r.word;
   col_word = c.word;

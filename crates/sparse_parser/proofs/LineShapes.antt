@@ -19,7 +19,8 @@ pub entry_nil : (words : List (List ℕ)) → words ≡ [] → is_entry words �
 unfolding is_entry
 entry_nil words e = rw e refl
 
-pub entry_fault_1 : (words : List (List ℕ)) (w : List ℕ) (ws : List (List ℕ)) → words ≡ w ∷ ws → is_number w ≡ false → is_entry words ≡ false
+pub entry_fault_1 : (words : List (List ℕ)) (w : List ℕ) (ws : List (List ℕ)) → words ≡ w ∷ ws
+    → is_number w ≡ false → is_entry words ≡ false
 unfolding is_entry
 entry_fault_1 words w [] e n = ap is_entry e ∙ n
 entry_fault_1 words w (b ∷ []) e n = ap is_entry e ∙ rw n refl
@@ -27,30 +28,37 @@ entry_fault_1 words w (b ∷ c ∷ []) e n = ap is_entry e ∙ rw (no_index w n)
 entry_fault_1 words w (b ∷ c ∷ d ∷ []) e n = ap is_entry e ∙ rw (no_index w n) refl
 entry_fault_1 words w (b ∷ c ∷ d ∷ f ∷ ws) e n = ap is_entry e
 
-pub entry_fault_2 : (words : List (List ℕ)) (a w : List ℕ) (ws : List (List ℕ)) → words ≡ a ∷ w ∷ ws → is_number w ≡ false → is_entry words ≡ false
+pub entry_fault_2 : (words : List (List ℕ)) (a w : List ℕ) (ws : List (List ℕ)) → words ≡ a ∷ w ∷ ws
+    → is_number w ≡ false → is_entry words ≡ false
 unfolding is_entry
 entry_fault_2 words a w [] e n = ap is_entry e ∙ and-second _ _ n
-entry_fault_2 words a w (c ∷ []) e n = ap is_entry e ∙ and-first _ _ (and-second (is_index a) _ (no_index w n))
-entry_fault_2 words a w (c ∷ d ∷ []) e n = ap is_entry e ∙ and-first _ _ (and-first _ _ (and-second (is_index a) _ (no_index w n)))
+entry_fault_2 words a w (c ∷ []) e n = ap is_entry e
+    ∙ and-first _ _ (and-second (is_index a) _ (no_index w n))
+entry_fault_2 words a w (c ∷ d ∷ []) e n = ap is_entry e
+    ∙ and-first _ _ (and-first _ _ (and-second (is_index a) _ (no_index w n)))
 entry_fault_2 words a w (c ∷ d ∷ f ∷ ws) e n = ap is_entry e
 
-pub entry_fault_3 : (words : List (List ℕ)) (a b w : List ℕ) (ws : List (List ℕ)) → words ≡ a ∷ b ∷ w ∷ ws → is_number w ≡ false → is_entry words ≡ false
+pub entry_fault_3 : (words : List (List ℕ)) (a b w : List ℕ) (ws : List (List ℕ))
+    → words ≡ a ∷ b ∷ w ∷ ws → is_number w ≡ false → is_entry words ≡ false
 unfolding is_entry
 entry_fault_3 words a b w [] e n = ap is_entry e ∙ and-second _ _ n
 entry_fault_3 words a b w (d ∷ []) e n = ap is_entry e ∙ and-first _ _ (and-second _ _ n)
 entry_fault_3 words a b w (d ∷ f ∷ ws) e n = ap is_entry e
 
-pub entry_fault_4 : (words : List (List ℕ)) (a b c w : List ℕ) (ws : List (List ℕ)) → words ≡ a ∷ b ∷ c ∷ w ∷ ws → is_number w ≡ false → is_entry words ≡ false
+pub entry_fault_4 : (words : List (List ℕ)) (a b c w : List ℕ) (ws : List (List ℕ))
+    → words ≡ a ∷ b ∷ c ∷ w ∷ ws → is_number w ≡ false → is_entry words ≡ false
 unfolding is_entry
 entry_fault_4 words a b c w [] e n = ap is_entry e ∙ and-second _ _ n
 entry_fault_4 words a b c w (d ∷ ws) e n = ap is_entry e
 
-pub entry_more : (words : List (List ℕ)) (a b c d f : List ℕ) (ws : List (List ℕ)) → words ≡ a ∷ b ∷ c ∷ d ∷ f ∷ ws → is_entry words ≡ false
+pub entry_more : (words : List (List ℕ)) (a b c d f : List ℕ) (ws : List (List ℕ))
+    → words ≡ a ∷ b ∷ c ∷ d ∷ f ∷ ws → is_entry words ≡ false
 unfolding is_entry
 entry_more words a b c d f ws e = ap is_entry e
 
 -- three words or more, of which the first two are not both indices
-pub entry_no_index : (words : List (List ℕ)) (a b c : List ℕ) (ws : List (List ℕ)) → words ≡ a ∷ b ∷ c ∷ ws → (is_index a && is_index b) ≡ false → is_entry words ≡ false
+pub entry_no_index : (words : List (List ℕ)) (a b c : List ℕ) (ws : List (List ℕ))
+    → words ≡ a ∷ b ∷ c ∷ ws → (is_index a && is_index b) ≡ false → is_entry words ≡ false
 unfolding is_entry
 entry_no_index words a b c [] e n = ap is_entry e ∙ and-first _ _ n
 entry_no_index words a b c (d ∷ []) e n = ap is_entry e ∙ and-first _ _ (and-first _ _ n)
@@ -60,14 +68,17 @@ pub entry_1 : (a : List ℕ) → is_number a ≡ true → is_entry (a ∷ []) �
 unfolding is_entry
 entry_1 a n = n
 
-pub entry_2 : (a b : List ℕ) → is_number a ≡ true → is_number b ≡ true → is_entry (a ∷ b ∷ []) ≡ true
+pub entry_2 : (a b : List ℕ) → is_number a ≡ true → is_number b ≡ true
+    → is_entry (a ∷ b ∷ []) ≡ true
 unfolding is_entry
 entry_2 a b n m = rw (n, m) refl
 
-pub entry_3 : (a b c : List ℕ) → is_index a ≡ true → is_index b ≡ true → is_number c ≡ true → is_entry (a ∷ b ∷ c ∷ []) ≡ true
+pub entry_3 : (a b c : List ℕ) → is_index a ≡ true → is_index b ≡ true → is_number c ≡ true
+    → is_entry (a ∷ b ∷ c ∷ []) ≡ true
 unfolding is_entry
 entry_3 a b c i j n = rw (i, j, n) refl
 
-pub entry_4 : (a b c d : List ℕ) → is_index a ≡ true → is_index b ≡ true → is_number c ≡ true → is_number d ≡ true → is_entry (a ∷ b ∷ c ∷ d ∷ []) ≡ true
+pub entry_4 : (a b c d : List ℕ) → is_index a ≡ true → is_index b ≡ true → is_number c ≡ true
+    → is_number d ≡ true → is_entry (a ∷ b ∷ c ∷ d ∷ []) ≡ true
 unfolding is_entry
 entry_4 a b c d i j n m = rw (i, j, n, m) refl

@@ -1,5 +1,6 @@
 -- Indices and integers are numbers.
-use Rattle.std.proofs.Common.{◌≡◌, ℕ, ◌+◌, ◌<◌, ◌&&◌, ◌||◌, not, Bool, true, false, cond, eqb, List, [], ◌∷◌, ◌++◌, length, count_by, refl, sym, ap, subst, ◌∙◌, arith}
+use Rattle.std.proofs.Common.{◌≡◌, ℕ, ◌+◌, ◌<◌, ◌&&◌, ◌||◌, not, Bool, true, false, cond, eqb, List}
+use Rattle.std.proofs.Common.{[], ◌∷◌, ◌++◌, length, count_by, refl, sym, ap, subst, ◌∙◌, arith}
 use Rattle.std.specs.List.{list_all, list_any, AllByRecursion}
 use Rattle.std.specs.Char.{is_ascii_digit}
 use Rattle.std.specs.Str.Parse.{without_leading_sign}
@@ -7,13 +8,16 @@ use Rattle.std.proofs.lemmas.Bool.{ltb-true, lt-ltb}
 use Rattle.sparse_lemmas.proofs.Cases.{and_parts}
 use Rattle.sparse_parser.specs.Bytes.{is_point, is_exponent_letter, front, after}
 use Rattle.sparse_parser.specs.InnerBytes.{is_unscaled}
-use Rattle.sparse_parser.specs.Grammar.{is_index, is_integer, is_mantissa, is_exponent, is_unsigned_number, is_number}
+use Rattle.sparse_parser.specs.Grammar.{is_index, is_integer, is_mantissa, is_exponent}
+use Rattle.sparse_parser.specs.Grammar.{is_unsigned_number, is_number}
 use Rattle.sparse_parser.proofs.Fronts.{Passes, front-append, after-append}
-use Rattle.sparse_parser.proofs.ByteClasses.{digit_unscaled, digit_no_sign, digit_no_point, Passes-weaker}
+use Rattle.sparse_parser.proofs.ByteClasses.{digit_unscaled, digit_no_sign, digit_no_point}
+use Rattle.sparse_parser.proofs.ByteClasses.{Passes-weaker}
 use Rattle.std.proofs.lemmas.List.{append-nil}
 
 -- a word of digits
-pub digits-of : (word : List ℕ) → is_index word ≡ true → (0 < length word) × Passes is_ascii_digit word
+pub digits-of : (word : List ℕ) → is_index word ≡ true → (0 < length word)
+    × Passes is_ascii_digit word
 digits-of word e = let p = and_parts _ _ e in (ltb-true _ _ p.0, passes word p.1)
   where
     passes : (word : List ℕ) → list_all is_ascii_digit word ≡ true → Passes is_ascii_digit word
@@ -42,8 +46,10 @@ pub digits-number : (word : List ℕ) → is_index word ≡ true → is_unsigned
 digits-number word e =
     let d = digits-of word e in
     let u = Passes-weaker is_ascii_digit is_unscaled word digit_unscaled d.1 in
-    let f : front is_unscaled word ≡ word = ap (front is_unscaled) (sym (append-nil word)) ∙ front-append is_unscaled word [] u tt in
-    let a : after is_unscaled word ≡ [] = ap (after is_unscaled) (sym (append-nil word)) ∙ after-append is_unscaled word [] u tt in
+    let f : front is_unscaled word ≡ word = ap (front is_unscaled) (sym (append-nil word))
+    ∙ front-append is_unscaled word [] u tt in
+    let a : after is_unscaled word ≡ [] = ap (after is_unscaled) (sym (append-nil word))
+    ∙ after-append is_unscaled word [] u tt in
     rw (f, a, digits-mantissa word d.0 d.1) refl
 
 pub integer-number : (word : List ℕ) → is_integer word ≡ true → is_number word ≡ true
@@ -53,7 +59,8 @@ integer-number word e = digits-number (without_leading_sign word) e
 -- an index has no sign
 pub index-unsigned : (word : List ℕ) → is_index word ≡ true → without_leading_sign word ≡ word
 index-unsigned [] e = refl
-index-unsigned (b ∷ word) e = let d = digits-of (b ∷ word) e in let s = digit_no_sign b d.1.0 in rw (s.0, s.1) refl
+index-unsigned (b ∷ word) e = let d = digits-of (b ∷ word) e in let s =
+    digit_no_sign b d.1.0 in rw (s.0, s.1) refl
 
 pub index-integer : (word : List ℕ) → is_index word ≡ true → is_integer word ≡ true
 index-integer word e = ap is_index (index-unsigned word e) ∙ e

@@ -1,11 +1,14 @@
 -- The places of an array that are left, as a walk goes over them.
-use Rattle.std.proofs.Common.{◌≡◌, ℕ, zero, suc, ◌+◌, ◌-◌, ◌<◌, ◌≤◌, Bool, true, false, cond, ltb, List, [], ◌∷◌, ◌++◌, map, drop, slice_get, Some, None, refl, sym, ap, subst, ◌∙◌, arith, inl, inr}
+use Rattle.std.proofs.Common.{◌≡◌, ℕ, zero, suc, ◌+◌, ◌-◌, ◌<◌, ◌≤◌, Bool, true, false, cond, ltb}
+use Rattle.std.proofs.Common.{List, [], ◌∷◌, ◌++◌, map, drop, slice_get, Some, None, refl, sym, ap}
+use Rattle.std.proofs.Common.{subst, ◌∙◌, arith, inl, inr}
 use Rattle.std.specs.Prelude.{◌⊎◌}
 use Rattle.std.specs.List.{flat_map, range_with_len}
 use Rattle.std.proofs.lemmas.Bool.{lt-ltb, le-ltb, ltb-true, ltb-false}
 use Rattle.std.proofs.lemmas.List.Concat.{flat_map-cons}
 use Rattle.sparse_parser.specs.declared.header.Symmetry.{Symmetry}
-use Rattle.sparse_parser.specs.declared.header.Symmetry.TheVariants.{General, Symmetric, SkewSymmetric, Hermitian}
+use Rattle.sparse_parser.specs.declared.header.Symmetry.TheVariants.{General, Symmetric}
+use Rattle.sparse_parser.specs.declared.header.Symmetry.TheVariants.{SkewSymmetric, Hermitian}
 use Rattle.sparse_parser.specs.ArrayPlaces.{first_row, column, array_places}
 use Rattle.sparse_parser.specs.InnerPlaces.{column_left, columns_left, left_from}
 
@@ -23,9 +26,11 @@ module _ (s : Symmetry) (rows cols : ℕ) where
   columns_more : (col : ℕ) → col < cols
       → columns_left s rows cols col ≡ column s rows col ++ columns_left s rows cols (col + 1)
   columns_more col lt =
-      rw (range_more col (cols - col) (cols - (col + 1)) (omega arith)) (flat_map-cons (column s rows) col (range_with_len (col + 1) (cols - (col + 1))))
+      rw (range_more col (cols - col) (cols - (col + 1)) (omega arith))
+      (flat_map-cons (column s rows) col (range_with_len (col + 1) (cols - (col + 1))))
 
-  left_inside : (row col : ℕ) → col < cols → left_from s rows cols row col ≡ column_left rows row col ++ columns_left s rows cols (col + 1)
+  left_inside : (row col : ℕ) → col < cols → left_from s rows cols row col ≡ column_left rows row
+      col ++ columns_left s rows cols (col + 1)
   left_inside row col lt = rw (lt-ltb col cols lt) refl
 
   pub left_outside : (row col : ℕ) → cols ≤ col → left_from s rows cols row col ≡ []
@@ -42,27 +47,36 @@ module _ (s : Symmetry) (rows cols : ℕ) where
   unfolding array_places
   left_start = by cols refl
     where
-      by : (n : ℕ) → cols ≡ n → left_from s rows cols (first_row s 0) 0 ≡ flat_map (column s rows) (range_with_len 0 cols)
+      by : (n : ℕ) → cols ≡ n → left_from s rows cols (first_row s 0) 0 ≡ flat_map (column s rows)
+          (range_with_len 0 cols)
       by zero e = left_outside (first_row s 0) 0 (omega arith) ∙ rw (none_in 0 cols e) refl
       by (suc n) e =
           let k : cols - 0 ≡ cols = omega arith in
-          left_inside (first_row s 0) 0 (omega arith) ∙ sym (columns_more 0 (omega arith)) ∙ ap (λ (m : ℕ). flat_map (column s rows) (range_with_len 0 m)) k
+          left_inside (first_row s 0) 0 (omega arith) ∙ sym (columns_more 0 (omega arith))
+          ∙ ap (λ (m : ℕ). flat_map (column s rows) (range_with_len 0 m)) k
 
   pub left_full : (row col row' : ℕ) → col < cols → rows ≤ row → row' ≡ first_row s (col + 1)
       → left_from s rows cols row' (col + 1) ≡ left_from s rows cols row col
   left_full row col row' lt le e = by (ltb (col + 1) cols) refl
     where
       old : left_from s rows cols row col ≡ columns_left s rows cols (col + 1)
-      old = left_inside row col lt ∙ ap (λ (x : List (ℕ × ℕ)). x ++ columns_left s rows cols (col + 1)) (column_none row col le)
+      old = left_inside row col lt ∙ ap (λ (x : List (ℕ × ℕ)). x ++ columns_left s rows cols
+          (col + 1)) (column_none row col le)
 
-      by : (t : Bool) → ltb (col + 1) cols ≡ t → left_from s rows cols row' (col + 1) ≡ left_from s rows cols row col
-      by true f = let g = ltb-true (col + 1) cols f in left_inside row' (col + 1) g ∙ ap (λ (r : ℕ). column_left rows r (col + 1) ++ columns_left s rows cols (col + 1 + 1)) e ∙ sym (columns_more (col + 1) g) ∙ sym old
-      by false f = let g = ltb-false (col + 1) cols f in left_outside row' (col + 1) g ∙ sym (columns_none (col + 1) g) ∙ sym old
+      by : (t : Bool) → ltb (col + 1) cols ≡ t → left_from s rows cols row' (col + 1) ≡ left_from s
+          rows cols row col
+      by true f = let g = ltb-true (col + 1) cols f in left_inside row' (col + 1) g
+          ∙ ap (λ (r : ℕ). column_left rows r (col + 1) ++ columns_left s rows cols (col + 1 + 1)) e
+          ∙ sym (columns_more (col + 1) g) ∙ sym old
+      by false f = let g = ltb-false (col + 1) cols f in left_outside row' (col + 1) g
+          ∙ sym (columns_none (col + 1) g) ∙ sym old
 
   pub left_last : (row col row' : ℕ) → col < cols → rows ≤ row → cols ≤ col + 1
       → left_from s rows cols row' (col + 1) ≡ left_from s rows cols row col
   left_last row col row' lt le g =
-      left_outside row' (col + 1) g ∙ sym (columns_none (col + 1) g) ∙ sym (left_inside row col lt ∙ ap (λ (x : List (ℕ × ℕ)). x ++ columns_left s rows cols (col + 1)) (column_none row col le))
+      left_outside row' (col + 1) g ∙ sym (columns_none (col + 1) g)
+      ∙ sym (left_inside row col lt ∙ ap (λ (x : List (ℕ × ℕ)). x ++ columns_left s rows cols
+      (col + 1)) (column_none row col le))
 
   later : (s : Symmetry) (col : ℕ) → first_row s col ≤ first_row s (col + 1)
   later General col = omega arith
@@ -71,11 +85,13 @@ module _ (s : Symmetry) (rows cols : ℕ) where
   later Hermitian col = omega arith
 
   -- after a column without places there are no more
-  columns_empty : (n col : ℕ) → cols - col ≡ n → rows ≤ first_row s col → columns_left s rows cols col ≡ []
+  columns_empty : (n col : ℕ) → cols - col ≡ n → rows ≤ first_row s col
+      → columns_left s rows cols col ≡ []
   columns_empty zero col e le = columns_none col (omega arith)
   columns_empty (suc n) col e le =
       columns_more col (omega arith)
-      ∙ ap (λ (x : List (ℕ × ℕ)). x ++ columns_left s rows cols (col + 1)) (column_none (first_row s col) col le)
+      ∙ ap (λ (x : List (ℕ × ℕ)). x ++ columns_left s rows cols (col + 1))
+      (column_none (first_row s col) col le)
       ∙ columns_empty n (col + 1) (omega arith) (let l = later s col in omega arith)
 
   pub left_none : (row col : ℕ) → (col < cols → rows ≤ row → row ≡ first_row s col)
@@ -88,10 +104,14 @@ module _ (s : Symmetry) (rows cols : ℕ) where
           let lt = ltb-true col cols f in
           let first = settled lt le in
           let l = later s col in
-          left_inside row col lt ∙ ap (λ (x : List (ℕ × ℕ)). x ++ columns_left s rows cols (col + 1)) (column_none row col le) ∙ columns_empty (cols - (col + 1)) (col + 1) refl (omega arith)
+          left_inside row col lt ∙ ap (λ (x : List (ℕ × ℕ)). x ++ columns_left s rows cols
+          (col + 1)) (column_none row col le) ∙ columns_empty (cols - (col + 1)) (col + 1) refl
+          (omega arith)
       by false f = left_outside row col (ltb-false col cols f)
 
-  pub left_first : (row col : ℕ) → col < cols → row < rows → left_from s rows cols row col ≡ (row, col) ∷ left_from s rows cols (row + 1) col
+  pub left_first : (row col : ℕ) → col < cols → row < rows
+      → left_from s rows cols row col ≡ (row, col) ∷ left_from s rows cols (row + 1) col
   left_first row col lt inside =
-      left_inside row col lt ∙ ap (λ (x : List (ℕ × ℕ)). x ++ columns_left s rows cols (col + 1)) (column_more row col inside)
+      left_inside row col lt ∙ ap (λ (x : List (ℕ × ℕ)). x ++ columns_left s rows cols (col + 1))
+      (column_more row col inside)
       ∙ ap (λ (x : List (ℕ × ℕ)). (row, col) ∷ x) (sym (left_inside (row + 1) col lt))

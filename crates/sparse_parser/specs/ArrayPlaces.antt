@@ -4,7 +4,8 @@ use Rattle.std.specs.List.{flat_map, range_with_len}
 use Rattle.sparse_parser.specs.declared.header.Format.{Format}
 use Rattle.sparse_parser.specs.declared.header.Format.TheVariants.{Coordinate, Array}
 use Rattle.sparse_parser.specs.declared.header.Symmetry.{Symmetry}
-use Rattle.sparse_parser.specs.declared.header.Symmetry.TheVariants.{General, Symmetric, SkewSymmetric, Hermitian}
+use Rattle.sparse_parser.specs.declared.header.Symmetry.TheVariants.{General, Symmetric}
+use Rattle.sparse_parser.specs.declared.header.Symmetry.TheVariants.{SkewSymmetric, Hermitian}
 
 -- the row where a column begins: the first, or at the diagonal, or below it
 abbrev pub first_row : Symmetry → ℕ → ℕ

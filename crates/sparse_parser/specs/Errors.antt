@@ -1,8 +1,29 @@
 -- The kind of an error.
 use Rattle.sparse_parser.specs.declared.error.Cause.{Cause}
-use Rattle.sparse_parser.specs.declared.error.Cause.TheVariants.{Grammar, RealHermitian, IntegerHermitian, PatternHermitian, PatternSkewSymmetric, PatternArray, SizeCount, SizeTooLarge, NotSquare, EntryCount, EntryShape, IndexTooLarge, ZeroIndex, NotAnI128, ValueOutOfRange, RealEntry, ComplexEntry, NothingAsInteger, IntegerAsNothing, IntegerConjugate, PatternConjugate, PatternNegative, AboveDiagonal, OnDiagonal, Format, Io, Memory}
+use Rattle.sparse_parser.specs.declared.error.Cause.TheVariants.{Grammar, RealHermitian}
+use Rattle.sparse_parser.specs.declared.error.Cause.TheVariants.{IntegerHermitian, PatternHermitian}
+use Rattle.sparse_parser.specs.declared.error.Cause.TheVariants.{PatternSkewSymmetric, PatternArray}
+use Rattle.sparse_parser.specs.declared.error.Cause.TheVariants.{SizeCount, SizeTooLarge, NotSquare}
+use Rattle.sparse_parser.specs.declared.error.Cause.TheVariants.{EntryCount, EntryShape}
+use Rattle.sparse_parser.specs.declared.error.Cause.TheVariants.{IndexTooLarge, ZeroIndex}
+use Rattle.sparse_parser.specs.declared.error.Cause.TheVariants.{NotAnI128, ValueOutOfRange}
+use Rattle.sparse_parser.specs.declared.error.Cause.TheVariants.{RealEntry, ComplexEntry}
+use Rattle.sparse_parser.specs.declared.error.Cause.TheVariants.{NothingAsInteger, IntegerAsNothing}
+use Rattle.sparse_parser.specs.declared.error.Cause.TheVariants.{IntegerConjugate, PatternConjugate}
+use Rattle.sparse_parser.specs.declared.error.Cause.TheVariants.{PatternNegative, AboveDiagonal}
+use Rattle.sparse_parser.specs.declared.error.Cause.TheVariants.{OnDiagonal, Format, Io, Memory}
 use Rattle.sparse_parser.specs.declared.error.MatrixMarketErrorKind.{MatrixMarketErrorKind}
-use Rattle.sparse_parser.specs.declared.error.MatrixMarketErrorKind.TheVariants.{ParsingError, InvalidHeader, EntryMismatch, TypeMismatch, ZeroError, SparseFormatError, DiagonalError, IOError, NotLowerTriangle, NonSquare, OutOfMemory}
+use Rattle.sparse_parser.specs.declared.error.MatrixMarketErrorKind.TheVariants.{ParsingError}
+use Rattle.sparse_parser.specs.declared.error.MatrixMarketErrorKind.TheVariants.{InvalidHeader}
+use Rattle.sparse_parser.specs.declared.error.MatrixMarketErrorKind.TheVariants.{EntryMismatch}
+use Rattle.sparse_parser.specs.declared.error.MatrixMarketErrorKind.TheVariants.{TypeMismatch}
+use Rattle.sparse_parser.specs.declared.error.MatrixMarketErrorKind.TheVariants.{ZeroError}
+use Rattle.sparse_parser.specs.declared.error.MatrixMarketErrorKind.TheVariants.{SparseFormatError}
+use Rattle.sparse_parser.specs.declared.error.MatrixMarketErrorKind.TheVariants.{DiagonalError}
+use Rattle.sparse_parser.specs.declared.error.MatrixMarketErrorKind.TheVariants.{IOError}
+use Rattle.sparse_parser.specs.declared.error.MatrixMarketErrorKind.TheVariants.{NotLowerTriangle}
+use Rattle.sparse_parser.specs.declared.error.MatrixMarketErrorKind.TheVariants.{NonSquare}
+use Rattle.sparse_parser.specs.declared.error.MatrixMarketErrorKind.TheVariants.{OutOfMemory}
 use Rattle.sparse_parser.specs.declared.error.MatrixMarketError.{MatrixMarketError}
 
 -- the kind of each cause

@@ -1,22 +1,26 @@
 -- The grammar of a Matrix Market text, by cases on whole lines.
-use Rattle.std.specs.Prelude.{◌≡◌, ◌≢◌, ℕ, ◌<◌, Bool, true, false, ◌&&◌, ◌||◌, not, nat_lt, count_by, List, [], ◌∷◌, ◌++◌, length, slice_index, ◌⊎◌, Some}
+use Rattle.std.specs.Prelude.{◌≡◌, ◌≢◌, ℕ, ◌<◌, Bool, true, false, ◌&&◌, ◌||◌, not, nat_lt}
+use Rattle.std.specs.Prelude.{count_by, List, [], ◌∷◌, ◌++◌, length, slice_index, ◌⊎◌, Some}
 use Rattle.std.specs.List.{AllByRecursion, list_all, list_any}
 use Rattle.std.specs.Char.{is_ascii_digit}
 use Rattle.std.specs.Str.Parse.{without_leading_sign}
 use Rattle.sparse_parser.specs.declared.header.Header.{Header}
-use Rattle.sparse_parser.specs.Bytes.{is_blank, is_line_end, is_point, is_exponent_letter, front, after}
+use Rattle.sparse_parser.specs.Bytes.{is_blank, is_line_end, is_point, is_exponent_letter, front}
+use Rattle.sparse_parser.specs.Bytes.{after}
 use Rattle.sparse_parser.specs.Header.{header_of}
 
 -- LF, CR LF, or a CR that no LF follows
 abbrev pub IsLineEnd : List ℕ → List ℕ → Type 0
-IsLineEnd end rest = (end ≡ 10 ∷ []) ⊎ ((end ≡ 13 ∷ 10 ∷ []) ⊎ ((end ≡ 13 ∷ []) × (slice_index rest 0 ≢ 10)))
+IsLineEnd end rest =
+    (end ≡ 10 ∷ []) ⊎ ((end ≡ 13 ∷ 10 ∷ []) ⊎ ((end ≡ 13 ∷ []) × (slice_index rest 0 ≢ 10)))
 
 -- the text is these lines, each with its end; the last may lack one, if it isn't empty
 abbrev pub AreLines : List ℕ → List (List ℕ) → Type 0
 AreLines text [] = text ≡ []
 AreLines text (line ∷ lines) = AllByRecursion (λ b. is_line_end b ≡ false) line
     × (((0 < length line) × (text ≡ line) × (lines ≡ []))
-    ⊎ ((end : List ℕ) × (rest : List ℕ) × IsLineEnd end rest × (text ≡ line ++ (end ++ rest)) × AreLines rest lines))
+    ⊎ ((end : List ℕ) × (rest : List ℕ) × IsLineEnd end rest × (text ≡ line ++ (end ++ rest))
+    × AreLines rest lines))
 
 abbrev pub AreBlanks : List ℕ → Type 0
 AreBlanks bytes = AllByRecursion (λ b. is_blank b ≡ true) bytes
@@ -29,25 +33,30 @@ IsApart (b ∷ rest) = is_blank b ≡ true
 -- the line has these words, separated by blanks
 abbrev pub AreWords : List ℕ → List (List ℕ) → Type 0
 AreWords line [] = AreBlanks line
-AreWords line (word ∷ words) = (before : List ℕ) × (rest : List ℕ) × AreBlanks before × (0 < length word) × AllByRecursion (λ b. is_blank b ≡ false) word
+AreWords line (word ∷ words) = (before : List ℕ) × (rest : List ℕ) × AreBlanks before
+    × (0 < length word) × AllByRecursion (λ b. is_blank b ≡ false) word
     × (line ≡ before ++ (word ++ rest)) × IsApart rest × AreWords rest words
 
 -- the words of the lines that are neither blank nor comments
 abbrev pub AreContents : List (List ℕ) → List (List (List ℕ)) → Type 0
 AreContents [] contents = contents ≡ []
 AreContents (line ∷ lines) contents = (AreBlanks line × AreContents lines contents)
-    ⊎ (((before : List ℕ) × (rest : List ℕ) × AreBlanks before × (line ≡ before ++ (37 ∷ rest)) × AreContents lines contents)
-    ⊎ ((word : List ℕ) × (words : List (List ℕ)) × (others : List (List (List ℕ))) × AreWords line (word ∷ words) × (slice_index word 0 ≢ 37)
+    ⊎ (((before : List ℕ) × (rest : List ℕ) × AreBlanks before × (line ≡ before ++ (37 ∷ rest))
+    × AreContents lines contents)
+    ⊎ ((word : List ℕ) × (words : List (List ℕ)) × (others : List (List (List ℕ)))
+    × AreWords line (word ∷ words) × (slice_index word 0 ≢ 37)
     × (contents ≡ (word ∷ words) ∷ others) × AreContents lines others))
 
 -- the first line that isn't blank has the words of the header, and these are the contents below it
 abbrev pub AreHeaded : List (List ℕ) → List (List ℕ) → List (List (List ℕ)) → Type 0
 AreHeaded [] header contents = ⊥
 AreHeaded (line ∷ lines) header contents = (AreBlanks line × AreHeaded lines header contents)
-    ⊎ ((word : List ℕ) × (words : List (List ℕ)) × AreWords line (word ∷ words) × (header ≡ word ∷ words) × AreContents lines contents)
+    ⊎ ((word : List ℕ) × (words : List (List ℕ)) × AreWords line (word ∷ words)
+    × (header ≡ word ∷ words) × AreContents lines contents)
 
 -- the text has this header, and these contents below it
-pub record IsHeaded (text : List ℕ) (header : Header) (contents : List (List (List ℕ))) : Type 0 where
+pub record IsHeaded (text : List ℕ) (header : Header) (contents : List (List (List ℕ))) : Type
+    0 where
   pub lines : List (List ℕ)
   pub words : List (List ℕ)
   pub cut : AreLines text lines
@@ -97,7 +106,8 @@ is_entry (row ∷ col ∷ v ∷ w ∷ []) =
 is_entry words = false
 
 -- the text has this header, this size line and these data lines
-pub record IsDocument (text : List ℕ) (header : Header) (size : List (List ℕ)) (entries : List (List (List ℕ))) : Type 0 where
+pub record IsDocument (text : List ℕ) (header : Header) (size : List (List ℕ))
+    (entries : List (List (List ℕ))) : Type 0 where
   pub headed : IsHeaded text header (size ∷ entries)
   pub sized : is_size size ≡ true
   pub listed : list_all is_entry entries ≡ true

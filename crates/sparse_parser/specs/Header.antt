@@ -1,5 +1,6 @@
 -- What the words of a header line say.
-use Rattle.std.specs.Prelude.{ℕ, Bool, true, false, List, [], ◌∷◌, map, Option, Some, None, option_and_then, if◌then◌else◌, codes}
+use Rattle.std.specs.Prelude.{ℕ, Bool, true, false, List, [], ◌∷◌, map, Option, Some, None}
+use Rattle.std.specs.Prelude.{option_and_then, if◌then◌else◌, codes}
 use Rattle.std.specs.Str.{bytes_eq}
 use Rattle.std.specs.Char.{to_ascii_lowercase}
 use Rattle.sparse_parser.specs.declared.header.Format.{Format}
@@ -7,7 +8,8 @@ use Rattle.sparse_parser.specs.declared.header.Format.TheVariants.{Coordinate, A
 use Rattle.sparse_parser.specs.declared.header.Field.{Field}
 use Rattle.sparse_parser.specs.declared.header.Field.TheVariants.{Real, Complex, Integer, Pattern}
 use Rattle.sparse_parser.specs.declared.header.Symmetry.{Symmetry}
-use Rattle.sparse_parser.specs.declared.header.Symmetry.TheVariants.{General, Symmetric, SkewSymmetric, Hermitian}
+use Rattle.sparse_parser.specs.declared.header.Symmetry.TheVariants.{General, Symmetric}
+use Rattle.sparse_parser.specs.declared.header.Symmetry.TheVariants.{SkewSymmetric, Hermitian}
 use Rattle.sparse_parser.specs.declared.header.Header.{Header}
 
 -- the word is the name, in any ASCII case
@@ -15,7 +17,8 @@ unfoldable pub says : List ℕ → List ℕ → Bool
 says word name = bytes_eq (map to_ascii_lowercase word) (map to_ascii_lowercase name)
 
 unfoldable pub format_of : List ℕ → Option Format
-format_of word = if says word (codes "coordinate") then Some Coordinate else if says word (codes "array") then Some Array else None
+format_of word = if says word (codes "coordinate") then Some Coordinate else if says word
+    (codes "array") then Some Array else None
 
 unfoldable pub field_of : List ℕ → Option Field
 field_of word =
@@ -46,7 +49,8 @@ fields_of words = None
 
 -- the words %%MatrixMarket and matrix, and then the fields
 unfoldable pub header_of : List (List ℕ) → Option Header
-header_of (banner ∷ object ∷ fields) = if says banner (codes "%%MatrixMarket") then if says object (codes "matrix") then fields_of fields else None else None
+header_of (banner ∷ object ∷ fields) = if says banner (codes "%%MatrixMarket") then if says object
+    (codes "matrix") then fields_of fields else None else None
 header_of words = None
 
 -- a hermitian matrix is complex; a pattern is neither skew-symmetric nor an array

@@ -1,5 +1,6 @@
 -- A data line as its numbers.
-use Rattle.std.specs.Prelude.{◌≡◌, ℕ, ◌<◌, ◌^◌, Bool, true, false, List, [], ◌∷◌, Option, Some, None, IsTrue}
+use Rattle.std.specs.Prelude.{◌≡◌, ℕ, ◌<◌, ◌^◌, Bool, true, false, List, [], ◌∷◌, Option, Some}
+use Rattle.std.specs.Prelude.{None, IsTrue}
 use Rattle.std.specs.Option.{SomeIff}
 use Rattle.std.specs.Str.Parse.{digits_value, without_leading_sign}
 use denote.Ref.{Bor}
@@ -27,7 +28,8 @@ is_whole Other = false
 
 -- the digits of an integer write this number, where it fits
 abbrev pub WriteNumber : List ℕ → Option ℕ → Type 0
-WriteNumber word n = SomeIff n (digits_value 10 (without_leading_sign word) < 2 ^ 64) (digits_value 10 (without_leading_sign word))
+WriteNumber word n = SomeIff n (digits_value 10 (without_leading_sign word) < 2 ^ 64)
+    (digits_value 10 (without_leading_sign word))
 
 -- a word of this kind, and the number that its digits write
 pub record IsNumberOf (word : List ℕ) (digits : Option ℕ) (kind : Kind) : Type 0 where
@@ -48,7 +50,8 @@ pub record IsWord (text word rest : List ℕ) : Type 0 where
 abbrev pub IsFound : List ℕ → Found → Type 0
 IsFound text (found.Number n rest) = IsNumber n × IsWord text n.word.now rest.now
 IsFound text (found.End rest) = (line_words text ≡ []) × (rest.now ≡ after is_within_line text)
-IsFound text found.Fault = (word : List ℕ) × (words : List (List ℕ)) × (line_words text ≡ word ∷ words) × (is_number word ≡ false)
+IsFound text found.Fault = (word : List ℕ) × (words : List (List ℕ))
+    × (line_words text ≡ word ∷ words) × (is_number word ≡ false)
 
 abbrev pub words_in : Line → List (List ℕ)
 words_in (One a) = a.word.now ∷ []
@@ -60,8 +63,10 @@ words_in (Four a b c d) = a.word.now ∷ b.word.now ∷ c.word.now ∷ d.word.no
 abbrev pub AreNumbers : Line → Type 0
 AreNumbers (One a) = IsNumber a
 AreNumbers (Two a b) = IsNumber a × IsNumber b
-AreNumbers (Three a b c) = IsNumber a × IsNumber b × IsNumber c × (is_plain a.kind ≡ true) × (is_plain b.kind ≡ true)
-AreNumbers (Four a b c d) = IsNumber a × IsNumber b × IsNumber c × IsNumber d × (is_plain a.kind ≡ true) × (is_plain b.kind ≡ true)
+AreNumbers (Three a b c) = IsNumber a × IsNumber b × IsNumber c × (is_plain a.kind ≡ true)
+    × (is_plain b.kind ≡ true)
+AreNumbers (Four a b c d) = IsNumber a × IsNumber b × IsNumber c × IsNumber d
+    × (is_plain a.kind ≡ true) × (is_plain b.kind ≡ true)
 
 -- a data line at the front of a text, and what stands after it
 pub record IsLine (text : List ℕ) (line : Line) (rest : List ℕ) : Type 0 where

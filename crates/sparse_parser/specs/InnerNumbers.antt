@@ -6,7 +6,8 @@ use Rattle.sparse_parser.specs.Bytes.{front, after}
 
 -- of the digits at the front of a text those before the rest were read
 pub record IsNumberRead (text : List ℕ) (number : ℕ) (rest : List ℕ) : Type 0 where
-  pub value : digits_value_after 10 number (front is_ascii_digit rest) ≡ digits_value 10 (front is_ascii_digit text)
+  pub value : digits_value_after 10 number (front is_ascii_digit rest) ≡ digits_value 10
+      (front is_ascii_digit text)
   pub others : after is_ascii_digit rest ≡ after is_ascii_digit text
   pub small : number < 2 ^ 64
   pub shorter : length rest ≤ length text

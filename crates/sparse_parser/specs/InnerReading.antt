@@ -1,10 +1,14 @@
 -- The same meaning as a function, for what reads it piece by piece.
-use Rattle.std.specs.Prelude.{◌≡◌, ℕ, Bool, true, false, ◌==◌, ◌+◌, not, List, [], ◌∷◌, length, map, filter, slice_index, Option, Some, None, Result, Ok, Err, MatchResult, if◌then◌else◌, ◌⊎◌}
+use Rattle.std.specs.Prelude.{◌≡◌, ℕ, Bool, true, false, ◌==◌, ◌+◌, not, List, [], ◌∷◌, length, map}
+use Rattle.std.specs.Prelude.{filter, slice_index, Option, Some, None, Result, Ok, Err, MatchResult}
+use Rattle.std.specs.Prelude.{if◌then◌else◌, ◌⊎◌}
 use Rattle.std.specs.List.{slice_split, list_all}
 use Rattle.sparse_base.specs.Coo.{Coo}
 use Rattle.sparse_parser.specs.declared.error.Cause.{Cause}
 use Rattle.sparse_parser.specs.declared.error.MatrixMarketErrorKind.{MatrixMarketErrorKind}
-use Rattle.sparse_parser.specs.declared.error.MatrixMarketErrorKind.TheVariants.{ParsingError, EntryMismatch, OutOfMemory}
+use Rattle.sparse_parser.specs.declared.error.MatrixMarketErrorKind.TheVariants.{ParsingError}
+use Rattle.sparse_parser.specs.declared.error.MatrixMarketErrorKind.TheVariants.{EntryMismatch}
+use Rattle.sparse_parser.specs.declared.error.MatrixMarketErrorKind.TheVariants.{OutOfMemory}
 use Rattle.sparse_parser.specs.declared.error.MatrixMarketError.{MatrixMarketError}
 use Rattle.sparse_parser.specs.declared.size.Size.{Size}
 use Rattle.sparse_parser.specs.declared.header.Header.{Header}
@@ -53,7 +57,8 @@ among_entries lines r = if list_all is_entry lines then r else Err ParsingError
 module _ (S : Scalar) where
   unfoldable pub body_of : Header → List (List (List ℕ)) → Read (Coo S.Value)
   body_of h [] = Err ParsingError
-  body_of h (size ∷ entries) = if is_size size then among_entries entries (matrix_of S h size entries) else Err ParsingError
+  body_of h (size ∷ entries) = if is_size size then among_entries entries
+      (matrix_of S h size entries) else Err ParsingError
 
   abbrev pub judged : Option Header → List (List (List ℕ)) → Read (Coo S.Value)
   judged None contents = Err ParsingError
@@ -68,8 +73,10 @@ module _ (S : Scalar) where
   read text = document_of (written_of text)
 
   -- Where memory was refused, a function may answer that in place of what reading gives.
-  abbrev pub Gives : {T : Type 0} → (T → S.Value) → Result (Coo T) MatrixMarketError → Read (Coo S.Value) → Type 0
-  Gives value result r = MatchResult result (λ m. r ≡ Ok (values_of value m)) (λ e. (kind_of e ≡ OutOfMemory) ⊎ (r ≡ Err (kind_of e)))
+  abbrev pub Gives : {T : Type 0} → (T → S.Value) → Result (Coo T) MatrixMarketError
+      → Read (Coo S.Value) → Type 0
+  Gives value result r = MatchResult result (λ m. r ≡ Ok (values_of value m))
+      (λ e. (kind_of e ≡ OutOfMemory) ⊎ (r ≡ Err (kind_of e)))
 
 -- how many data lines these are
 unfoldable pub count_of : List (List (List ℕ)) → Option ℕ
@@ -80,10 +87,12 @@ unfoldable pub grammar_kind_of : MatrixMarketErrorKind → List (List (List ℕ)
     → MatrixMarketErrorKind
 grammar_kind_of kind lines = if list_all is_entry lines then kind else ParsingError
 
--- the first fault if an entry is refused, from the number of lines read with it and the lines that follow
+-- the first fault if an entry is refused, from the number of lines read with it and the lines that
+-- follow
 unfoldable pub settled_of : MatrixMarketErrorKind → ℕ → Option ℕ → List (List (List ℕ))
     → MatrixMarketErrorKind
-settled_of kind read count lines = if list_all is_entry lines then if is_count count (read + length lines) then kind else EntryMismatch else ParsingError
+settled_of kind read count lines = if list_all is_entry lines then if is_count count
+    (read + length lines) then kind else EntryMismatch else ParsingError
 
 abbrev pub size_numbers : Result Size Cause → Read Sizes
 size_numbers (Ok s) = Ok (s.rows, s.cols, s.count)

@@ -1,5 +1,6 @@
 -- What a scalar type takes of a text, and the texts of its values.
-use Rattle.std.specs.Prelude.{◌≡◌, ℕ, ℤ, pos, negsuc, ◌^◌, ◌⊎◌, Bool, true, nat_lt, List, [], Ok, codes}
+use Rattle.std.specs.Prelude.{◌≡◌, ℕ, ℤ, pos, negsuc, ◌^◌, ◌⊎◌, Bool, true, nat_lt, List, [], Ok}
+use Rattle.std.specs.Prelude.{codes}
 use Rattle.std.specs.Str.Parse.{signed_digits_value}
 use Rattle.sparse_parser.specs.Grammar.{is_integer}
 use Rattle.sparse_parser.specs.Reads.{Read, OnlyMismatch}

@@ -1,5 +1,7 @@
 -- The entries of a column below the diagonal.
-use Rattle.std.proofs.Common.{◌≡◌, ◌≢◌, ℕ, zero, suc, ◌+◌, ◌<◌, ◌≤◌, inl, inr, true, List, [], ◌∷◌, length, get_or, drop, All, Contains, slice_index, slice_range, ap, sym, ◌∙◌, refl, arith}
+use Rattle.std.proofs.Common.{◌≡◌, ◌≢◌, ℕ, zero, suc, ◌+◌, ◌<◌, ◌≤◌, inl, inr, true, List, [], ◌∷◌}
+use Rattle.std.proofs.Common.{length, get_or, drop, All, Contains, slice_index, slice_range, ap}
+use Rattle.std.proofs.Common.{sym, ◌∙◌, refl, arith}
 use Rattle.std.specs.Prelude.{nat_eq}
 use Rattle.std.proofs.lemmas.List.{get_or-drop, get_or_default, length-drop, drop_all}
 use Rattle.std.proofs.lemmas.List.Edits.{get_or-between}
@@ -31,7 +33,9 @@ module _ (R : CommRing) {T : Type 0} (f : T → R.Carrier) (i : ℕ) where
   lane_value-drop (suc p) (k ∷ ks) [] others = no_values (drop p ks)
   lane_value-drop (suc p) (k ∷ ks) (v ∷ vs) others =
       lane_value-drop p ks vs (λ q lt within. others (suc q) (omega arith) (omega arith))
-      ∙ sym (ap (λ c. R.add c (lane_value R f ks vs i)) (where_no R (λ (c : R.Carrier). c) (nat_eq k i) (f v) (nat_eq_no k i (others 0 (omega arith) (omega arith)))) ∙ zero_add R _)
+      ∙ sym (ap (λ c. R.add c (lane_value R f ks vs i))
+      (where_no R (λ (c : R.Carrier). c) (nat_eq k i) (f v)
+      (nat_eq_no k i (others 0 (omega arith) (omega arith)))) ∙ zero_add R _)
 
   -- nothing stands in row i
   lane_value-none : (ks : List ℕ) (vs : List T)
@@ -40,53 +44,82 @@ module _ (R : CommRing) {T : Type 0} (f : T → R.Carrier) (i : ℕ) where
       sym (lane_value-drop (length ks) ks vs (λ q _ lt. none q lt))
       ∙ ap (λ l. lane_value R f l (drop (length ks) vs) i) (drop_all (length ks) ks (omega arith))
 
-module _ (R : CommRing) {T : Type 0} (f : T → R.Carrier) (z : T) (m : Compressed T) (sound : IsSound m) (k : ℕ) (lane : k < m.pattern.major_dim) where
+module _ (R : CommRing) {T : Type 0} (f : T → R.Carrier) (z : T) (m : Compressed T)
+    (sound : IsSound m) (k : ℕ) (lane : k < m.pattern.major_dim) where
   -- a position of the lane as one of the matrix
   in_matrix : (i q : ℕ) → q < length (lane_of m.pattern k) → get_or (lane_of m.pattern k) q 0 ≡ i
       → IsPosition m.pattern k i (start_of m.pattern k + q)
   in_matrix i q lt is =
-      let v = sound.valid.lanes k lane in
-      (record { lane = lane; from = omega arith; to = omega (arith, lt, length-lane m.pattern k v) }, sym (get_or-lane m.pattern k v q lt) ∙ is)
+      let v = sound.valid.lanes k lane in (
+        record {
+          lane = lane;
+          from = omega arith;
+          to =
+              omega (arith, lt, length-lane m.pattern k v);
+        },
+        sym (get_or-lane m.pattern k v q lt) ∙ is,
+      )
 
   lane_inside : All (λ i. i < m.pattern.minor_dim) (lane_of m.pattern k)
   lane_inside q e lt =
       let v = sound.valid.lanes k lane in
-      rw (get_or_default (lane_of m.pattern k) q e 0 lt, get_or-lane m.pattern k v q lt) (v.bounded (start_of m.pattern k + q) (omega arith) (omega (arith, length-lane m.pattern k v)))
+      rw (get_or_default (lane_of m.pattern k) q e 0 lt, get_or-lane m.pattern k v q lt)
+      (v.bounded (start_of m.pattern k + q) (omega arith)
+      (omega (arith, length-lane m.pattern k v)))
 
   pub value_stored : (i q : ℕ) → q < length (lane_of m.pattern k)
       → get_or (lane_of m.pattern k) q 0 ≡ i
       → (plain_of_rows R f m).value k i ≡ f (get_or (values_of m k) q z)
   value_stored i q lt is =
-      let room : start_of m.pattern k + q < end_of m.pattern k = omega (arith, lt, length-lane m.pattern k (sound.valid.lanes k lane)) in
-      value_at_position R f m.pattern sound.valid m.values sound.count z k i (start_of m.pattern k + q) (in_matrix i q lt is)
+      let room : start_of m.pattern k + q < end_of m.pattern k =
+      omega (arith, lt, length-lane m.pattern k (sound.valid.lanes k lane)) in
+      value_at_position R f m.pattern sound.valid m.values sound.count z k i
+      (start_of m.pattern k + q) (in_matrix i q lt is)
       ∙ ap f (sym (get_or-between m.values (start_of m.pattern k) (end_of m.pattern k) q z room))
 
   pub not_stored : (i : ℕ) → (Contains (lane_of m.pattern k) i → ⊥)
       → (plain_of_rows R f m).has k i ≡ true → ⊥
-  not_stored i none hit = none ((lane_has m.pattern sound.valid k i lane).1 ((has_is_place R f m.pattern sound.valid m.values sound.count k i).0 hit))
+  not_stored i none hit = none ((lane_has m.pattern sound.valid k i lane).1
+      ((has_is_place R f m.pattern sound.valid m.values sound.count k i).0 hit))
 
   -- behind the diagonal position q stand the entries below the diagonal
   pub column_is : (q : ℕ) (e : T) → q < length (lane_of m.pattern k)
       → get_or (lane_of m.pattern k) q 0 ≡ k → R.mul (f (get_or (values_of m k) q z)) (f e) ≡ R.one
-      → IsColumnBelow R f (plain_of_cols R f m) k (drop (q + 1) (lane_of m.pattern k)) (drop (q + 1) (values_of m k)) e
+      → IsColumnBelow R f (plain_of_cols R f m) k (drop (q + 1) (lane_of m.pattern k))
+      (drop (q + 1) (values_of m k)) e
   column_is q e lt is inverts =
       let rows = lane_of m.pattern k in
       let position = in_matrix k q lt is in
       record {
-        count = omega (arith, length-drop (q + 1) rows, length-drop (q + 1) (values_of m k), length-values R f z m sound k lane);
+        count = omega (
+          arith,
+          length-drop (q + 1) rows,
+          length-drop (q + 1) (values_of m k),
+          length-values R f z m sound k lane,
+        );
         inside = All-drop (λ i. i < m.pattern.minor_dim) (q + 1) rows lane_inside;
-        stored = (has_is_place R f m.pattern sound.valid m.values sound.count k k).1 (record { at = start_of m.pattern k + q; in_lane = position.0; index = position.1 });
+        stored = (has_is_place R f m.pattern sound.valid m.values sound.count k k).1
+            (record { at = start_of m.pattern k + q; in_lane = position.0; index = position.1 });
         inverts = ap (λ c. R.mul c (f e)) (value_stored k q lt is) ∙ inverts;
-        below = λ i more. lane_value-drop R f i (q + 1) rows (values_of m k) (λ r before within e. omega (arith, not_past r before, e)) ∙ lane_value_is R f z m sound k lane i;
-        above = λ i le. lane_value-none R f i (drop (q + 1) rows) (drop (q + 1) (values_of m k)) (λ r within e.
-            let inside : q + 1 + r < length rows = omega (arith, within, length-drop (q + 1) rows) in
-            let later = lane_rises m.pattern k (sound.valid.lanes k lane) q (q + 1 + r) (omega arith) inside in
+        below = λ i more. lane_value-drop R f i (q + 1) rows (values_of m k)
+            (λ r before within e. omega (arith, not_past r before, e))
+            ∙ lane_value_is R f z m sound k lane i;
+        above = λ i le. lane_value-none R f i (drop (q + 1) rows) (drop (q + 1) (values_of m k))
+            (λ r within e.
+            let inside : q + 1 + r < length rows = omega
+            (arith, within, length-drop (q + 1) rows) in
+            let later = lane_rises m.pattern k (sound.valid.lanes k lane) q (q + 1 + r)
+            (omega arith) inside in
             omega (arith, later, is, get_or-drop (q + 1) rows r 0, e));
       }
     where
       not_past : (r : ℕ) → r < q + 1 → get_or (lane_of m.pattern k) r 0 ≤ k
       not_past r before = elim (le_cases r q (omega arith)) [
-        | inl less ↦ omega (arith, lane_rises m.pattern k (sound.valid.lanes k lane) r q less lt, is)
+        | inl less ↦ omega (
+          arith,
+          lane_rises m.pattern k (sound.valid.lanes k lane) r q less lt,
+          is,
+        )
         | inr same ↦ omega (arith, ap (λ s. get_or (lane_of m.pattern k) s 0) same, is)
       ]
 
@@ -94,9 +127,13 @@ module _ (R : CommRing) {T : Type 0} (f : T → R.Carrier) (z : T) (m : Compress
 pub lane_sliced : (d : Raw) (offsets rows : List ℕ) (k : ℕ) → offsets ≡ d.offsets
     → rows ≡ d.indices
     → slice_range rows (slice_index offsets k) (slice_index offsets (k + 1)) ≡ lane_of d k
-lane_sliced d offsets rows k o r = ap (λ v. slice_range v (slice_index offsets k) (slice_index offsets (k + 1))) r ∙ ap (λ o. slice_range d.indices (slice_index o k) (slice_index o (k + 1))) o
+lane_sliced d offsets rows k o r =
+    ap (λ v. slice_range v (slice_index offsets k) (slice_index offsets (k + 1))) r
+    ∙ ap (λ o. slice_range d.indices (slice_index o k) (slice_index o (k + 1))) o
 
 pub values_sliced : {T : Type 0} (m : Compressed T) (offsets : List ℕ) (values : List T) (k : ℕ)
     → offsets ≡ m.pattern.offsets → values ≡ m.values
     → slice_range values (slice_index offsets k) (slice_index offsets (k + 1)) ≡ values_of m k
-values_sliced m offsets values k o v = ap (λ v. slice_range v (slice_index offsets k) (slice_index offsets (k + 1))) v ∙ ap (λ o. slice_range m.values (slice_index o k) (slice_index o (k + 1))) o
+values_sliced m offsets values k o v = ap
+    (λ v. slice_range v (slice_index offsets k) (slice_index offsets (k + 1))) v
+    ∙ ap (λ o. slice_range m.values (slice_index o k) (slice_index o (k + 1))) o

@@ -1,5 +1,7 @@
 -- One column of a substitution over lists.
-use Rattle.std.proofs.Common.{◌≡◌, ℕ, ◌+◌, ◌<◌, ◌≤◌, Bool, true, false, ◌&&◌, List, length, get_or, set, ap, sym, ◌∙◌, refl, arith, add-one, get_or-set_same, get_or-set_other}
+use Rattle.std.proofs.Common.{◌≡◌, ℕ, ◌+◌, ◌<◌, ◌≤◌, Bool, true, false, ◌&&◌, List, length, get_or}
+use Rattle.std.proofs.Common.{set, ap, sym, ◌∙◌, refl, arith, add-one, get_or-set_same}
+use Rattle.std.proofs.Common.{get_or-set_other}
 use Rattle.std.specs.Prelude.{nat_le}
 use Rattle.std.proofs.lemmas.Bool.Decides.{nat_tests}
 use Rattle.sparse_algebra.specs.Algebra.{CommRing}
@@ -33,7 +35,10 @@ module _ (R : CommRing) (a : Plain R) where
       let test : nat_le j i ≡ false = grind (arith, nat_tests) in
       off_test (a.has i j) (nat_le j i) (a.value i j) test
 
-module _ (R : CommRing) {T : Type 0} (f : T → R.Carrier) (z : T) (a : Plain R) (proper : IsProper a) (n k : ℕ) (rows : List ℕ) (values : List T) (e : T) (column : IsColumnBelow R f a k rows values e) (x : List T) (b : ℕ → R.Carrier) (lt : k < n) (count : length x ≡ n) where
+module _ (R : CommRing) {T : Type 0} (f : T → R.Carrier) (z : T) (a : Plain R) (proper : IsProper a)
+    (n k : ℕ) (rows : List ℕ) (values : List T) (e : T)
+    (column : IsColumnBelow R f a k rows values e) (x : List T) (b : ℕ → R.Carrier) (lt : k < n)
+    (count : length x ≡ n) where
   t : ℕ → ℕ → R.Carrier
   t = (plain_lower R a).value
 
@@ -46,10 +51,14 @@ module _ (R : CommRing) {T : Type 0} (f : T → R.Carrier) (z : T) (a : Plain R)
       → IsBackward R n (k + 1) (plain_lower R a).value (entries R f z x) b
       → IsBackward R n k (plain_lower R a).value (entries R f z (set x k new)) b
   backward_column new known square known_is is h =
-      let whole : f known ≡ sum_below R n (λ c. R.mul (lane_value R f rows values c) (f (get_or x c z))) = known_is ∙ sym (product_by_lane R f n (entries R f z x) rows values (rw (← square) column.inside)) in
-      backward_step R n k (plain_lower R a).value (entries R f z x) (entries R f z (set x k new)) b (f e) lt (lower_zero R a) inverts (lane_value R f rows values)
+      let whole : f known ≡ sum_below R n (λ c. R.mul (lane_value R f rows values c)
+      (f (get_or x c z))) = known_is ∙ sym (product_by_lane R f n (entries R f z x) rows values
+      (rw (← square) column.inside)) in
+      backward_step R n k (plain_lower R a).value (entries R f z x) (entries R f z (set x k new)) b
+      (f e) lt (lower_zero R a) inverts (lane_value R f rows values)
       (λ i more. column.below i more ∙ sym (lower_is R a proper i k (omega arith)))
       column.above
       (rw (← add-one) h)
       (λ i ne. ap f (get_or-set_other x k i new z ne))
-      (ap f (get_or-set_same x k new z (omega arith)) ∙ is ∙ ap (λ d. R.mul (R.add (f (get_or x k z)) (R.neg d)) (f e)) whole)
+      (ap f (get_or-set_same x k new z (omega arith)) ∙ is
+      ∙ ap (λ d. R.mul (R.add (f (get_or x k z)) (R.neg d)) (f e)) whole)

@@ -15,6 +15,7 @@ pub none_gives : {X : Type 0} (P : Type 0) (r : Option X) → IfNone r P → is_
 none_gives P None h e = h
 none_gives P (Some x) h e = cc
 
-pub pivot_of : (R : CommRing) {T : Type 0} (f : T → R.Carrier) (a : Plain R) (k : ℕ) (rows : List ℕ) (values : List T) (e : T)
+pub pivot_of : (R : CommRing) {T : Type 0} (f : T → R.Carrier) (a : Plain R) (k : ℕ) (rows : List ℕ)
+    (values : List T) (e : T)
     → IsColumnBelow R f a k rows values e → HasPivot R f a k
 pivot_of R f a k rows values e h = (h.stored, (e, h.inverts))

@@ -1,5 +1,6 @@
 -- Reading a list of which a part was written over.
-use Rattle.std.proofs.Common.{◌≡◌, ℕ, ◌+◌, ◌<◌, ◌≤◌, List, ◌++◌, length, get_or, take, drop, ap, sym, ◌∙◌, arith}
+use Rattle.std.proofs.Common.{◌≡◌, ℕ, ◌+◌, ◌<◌, ◌≤◌, List, ◌++◌, length, get_or, take, drop, ap}
+use Rattle.std.proofs.Common.{sym, ◌∙◌, arith}
 use Rattle.std.proofs.lemmas.Grind.{common_steps}
 use Rattle.std.proofs.Math.Seq.{take-append_seam}
 use Rattle.sparse_pattern.specs.Refill.{refill_from}
@@ -11,7 +12,8 @@ module _ {X : Type 0} (xs ws : List X) (i : ℕ) (room : i + length ws ≤ lengt
   refill_from-is : refill_from xs i ws ≡ take i xs ++ (ws ++ drop (length ws) (drop i xs))
   refill_from-is =
       let written = take i xs ++ (ws ++ drop (length ws) (drop i xs)) in
-      ap (λ n. take n (written ++ drop (length written) xs)) (sym length-parts) ∙ take-append_seam written (drop (length written) xs)
+      ap (λ n. take n (written ++ drop (length written) xs)) (sym length-parts)
+      ∙ take-append_seam written (drop (length written) xs)
 
   pub length-refill_from : length (refill_from xs i ws) ≡ length xs
   length-refill_from = ap length refill_from-is ∙ length-parts
@@ -19,12 +21,15 @@ module _ {X : Type 0} (xs ws : List X) (i : ℕ) (room : i + length ws ≤ lengt
   -- inside the part that was written
   pub refill_from-inside : (q : ℕ) (z : X) → q < length ws
       → get_or (refill_from xs i ws) (i + q) z ≡ get_or ws q z
-  refill_from-inside q z lt = ap (λ l. get_or l (i + q) z) refill_from-is ∙ grind (arith, common_steps, room, lt)
+  refill_from-inside q z lt = ap (λ l. get_or l (i + q) z) refill_from-is
+      ∙ grind (arith, common_steps, room, lt)
 
   pub refill_from-before : (p : ℕ) (z : X) → p < i
       → get_or (refill_from xs i ws) p z ≡ get_or xs p z
-  refill_from-before p z lt = ap (λ l. get_or l p z) refill_from-is ∙ grind (arith, common_steps, room, lt)
+  refill_from-before p z lt = ap (λ l. get_or l p z) refill_from-is
+      ∙ grind (arith, common_steps, room, lt)
 
   pub refill_from-after : (p : ℕ) (z : X) → i + length ws ≤ p
       → get_or (refill_from xs i ws) p z ≡ get_or xs p z
-  refill_from-after p z le = ap (λ l. get_or l p z) refill_from-is ∙ grind (arith, common_steps, room, le)
+  refill_from-after p z le = ap (λ l. get_or l p z) refill_from-is
+      ∙ grind (arith, common_steps, room, le)

@@ -13,7 +13,8 @@ use Rattle.sparse_solve.specs.Solutions.{HasPivot, plain_lower}
 
 module _ (R : CommRing) {T : Type 0} (f : T → R.Carrier) where
   -- the entries of column k below the diagonal, and the inverse of the stored diagonal entry
-  pub record IsColumnBelow (a : Plain R) (k : ℕ) (rows : List ℕ) (values : List T) (inverse : T) : Type 0 where
+  pub record IsColumnBelow (a : Plain R) (k : ℕ) (rows : List ℕ) (values : List T) (inverse : T) :
+      Type 0 where
     pub count : length values ≡ length rows
     pub inside : All (λ i. i < a.rows) rows
     pub stored : a.has k k ≡ true
@@ -52,34 +53,41 @@ module _ (R : CommRing) {T : Type 0} (f : T → R.Carrier) where
   SolvesList z t x b = SolvesColumn R (length b) t (entries R f z x) (entries R f z b)
 
 -- each column of x solves the equations whose right sides are that column of b
-pub record SolvesColumns (R : CommRing) {T : Type 0} (f : T → R.Carrier) (z : T) (t : ℕ → ℕ → R.Carrier) (x b : Dense T) : Type 0 where
+pub record SolvesColumns (R : CommRing) {T : Type 0} (f : T → R.Carrier) (z : T)
+    (t : ℕ → ℕ → R.Carrier) (x b : Dense T) : Type 0 where
   pub rows : x.nrows ≡ b.nrows
   pub cols : x.ncols ≡ b.ncols
-  pub solved : (j : ℕ) → j < b.ncols → SolvesColumn R b.nrows t (λ i. f (value_at x i j z)) (λ i. f (value_at b i j z))
+  pub solved : (j : ℕ) → j < b.ncols → SolvesColumn R b.nrows t (λ i. f (value_at x i j z))
+      (λ i. f (value_at b i j z))
 
 module _ (R : CommRing) where
   -- y is x with the answer of row k, which is x k times e, and its multiple of the values taken off
   -- in their rows
-  pub record IsTaken {T : Type 0} (f : T → R.Carrier) (n k : ℕ) (rows : List ℕ) (values : List T) (e : R.Carrier) (x y : ℕ → R.Carrier) : Type 0 where
+  pub record IsTaken {T : Type 0} (f : T → R.Carrier) (n k : ℕ) (rows : List ℕ) (values : List T)
+      (e : R.Carrier) (x y : ℕ → R.Carrier) : Type 0 where
     pub answer : y k ≡ R.mul (x k) e
-    pub others : (i : ℕ) → i < n → i ≢ k → y i ≡ R.add (x i) (R.mul (R.neg (y k)) (lane_value R f rows values i))
+    pub others : (i : ℕ) → i < n → i ≢ k → y i ≡ R.add (x i)
+        (R.mul (R.neg (y k)) (lane_value R f rows values i))
 
 module _ (R : CommRing) {T : Type 0} (f : T → R.Carrier) (z : T) where
   -- the answer of row k is taken in a list
   abbrev pub TakesAnswer : ℕ → List ℕ → List T → T → List T → List T → Type 0
-  TakesAnswer k rows values e old new = IsTaken R f (length old) k rows values (f e) (entries R f z old) (entries R f z new)
+  TakesAnswer k rows values e old new = IsTaken R f (length old) k rows values (f e)
+      (entries R f z old) (entries R f z new)
 
   -- c times the values is added, each in its row
   abbrev pub AddsMultiple : R.Carrier → List ℕ → List T → List T → List T → Type 0
   AddsMultiple c rows values old new = (i : ℕ) → i < length old
-      → f (slice_index_or new i z) ≡ R.add (f (slice_index_or old i z)) (R.mul c (lane_value R f rows values i))
+      → f (slice_index_or new i z) ≡ R.add (f (slice_index_or old i z))
+      (R.mul c (lane_value R f rows values i))
 
   -- column j of a dense matrix
   abbrev pub column_entries : Dense T → ℕ → ℕ → R.Carrier
   column_entries d j i = f (value_at d i j z)
 
   -- P of each column from first to last, and the others are the same
-  pub record ChangesBlock (first last : ℕ) (P : (ℕ → R.Carrier) → (ℕ → R.Carrier) → Type 0) (old new : Dense T) : Type 0 where
+  pub record ChangesBlock (first last : ℕ) (P : (ℕ → R.Carrier) → (ℕ → R.Carrier) → Type 0)
+      (old new : Dense T) : Type 0 where
     pub rows : new.nrows ≡ old.nrows
     pub cols : new.ncols ≡ old.ncols
     pub inside : (j : ℕ) → first ≤ j → j < last → P (column_entries old j) (column_entries new j)

@@ -1,8 +1,12 @@
 -- Steps of merging two rising lists of indices.
-use Rattle.std.proofs.Common.{◌≡◌, ℕ, zero, suc, ◌+◌, ◌-◌, ◌<◌, ◌≤◌, ◌⊎◌, inl, inr, ◌↔◌, List, [], ◌∷◌, ◌++◌, length, get_or, take, drop, Contains, append_assoc, cond, Result, Ok, Err, is_ok, OnOk, ap, sym, subst, ◌∙◌, refl, arith}
+use Rattle.std.proofs.Common.{◌≡◌, ℕ, zero, suc, ◌+◌, ◌-◌, ◌<◌, ◌≤◌, ◌⊎◌, inl, inr, ◌↔◌, List, []}
+use Rattle.std.proofs.Common.{◌∷◌, ◌++◌, length, get_or, take, drop, Contains, append_assoc, cond}
+use Rattle.std.proofs.Common.{Result, Ok, Err, is_ok, OnOk, ap, sym, subst, ◌∙◌, refl, arith}
 use Rattle.std.specs.List.Sorted.{IsStrictlyIncreasing}
-use Rattle.std.proofs.lemmas.List.{append-nil, take_more, take_all, drop_all, drop_more, get_or_append_left, get_or_push, length_push}
-use Rattle.std.proofs.lemmas.List.Elements.{Contains-push, Contains-push_cases, Contains-append_left, Contains-get_or}
+use Rattle.std.proofs.lemmas.List.{append-nil, take_more, take_all, drop_all, drop_more}
+use Rattle.std.proofs.lemmas.List.{get_or_append_left, get_or_push, length_push}
+use Rattle.std.proofs.lemmas.List.Elements.{Contains-push, Contains-push_cases}
+use Rattle.std.proofs.lemmas.List.Elements.{Contains-append_left, Contains-get_or}
 use Rattle.sparse_lemmas.proofs.Cases.{lt_add_one_cases}
 use Rattle.sparse_pattern.specs.InnerGainedLanes.{GainsLane}
 use Rattle.sparse_sums.specs.InnerMerging.{IsMerged, IsMerging}
@@ -10,16 +14,31 @@ use Rattle.sparse_sums.specs.InnerMerging.{IsMerged, IsMerging}
 -- a rising list stays so with a greater element at its end
 pub rising_push : (xs : List ℕ) (x : ℕ) → IsStrictlyIncreasing xs
     → ((j : ℕ) → Contains xs j → j < x) → IsStrictlyIncreasing (xs ++ x ∷ [])
-rising_push xs x rising below k lt = elim (lt_add_one_cases (k + 1) (length xs) (omega (arith, length_push xs x))) [
-  | inl inside ↦ omega (arith, get_or_append_left xs (x ∷ []) 0 k (omega arith), get_or_append_left xs (x ∷ []) 0 (k + 1) inside, rising k inside)
-  | inr last ↦ omega (arith, get_or_append_left xs (x ∷ []) 0 k (omega arith), get_or_push xs x 0 (k + 1) (sym last), below (get_or xs k 0) (Contains-get_or xs k 0 (omega arith)))
-]
+rising_push xs x rising below k lt =
+    elim (lt_add_one_cases (k + 1) (length xs) (omega (arith, length_push xs x))) [
+      | inl inside ↦ omega (
+        arith,
+        get_or_append_left xs (x ∷ []) 0 k (omega arith),
+        get_or_append_left xs (x ∷ []) 0 (k + 1) inside,
+        rising k inside,
+      )
+      | inr last ↦ omega (
+        arith,
+        get_or_append_left xs (x ∷ []) 0 k (omega arith),
+        get_or_push xs x 0 (k + 1) (sym last),
+        below (get_or xs k 0)
+            (Contains-get_or xs k 0 (omega arith)),
+      )
+    ]
 
 pub swapped : (a b : List ℕ) (p q : ℕ) (lane : List ℕ) → IsMerged a b p q lane
     → IsMerged b a q p lane
 swapped a b p q lane m = record {
   rising = m.rising;
-  holds = λ j. (λ h. elim ((m.holds j).0 h) [ inl x ↦ inr x | inr y ↦ inl y ], λ h. (m.holds j).1 (elim h [ inl y ↦ inr y | inr x ↦ inl x ]));
+  holds = λ j. (
+    λ h. elim ((m.holds j).0 h) [ inl x ↦ inr x | inr y ↦ inl y ],
+    λ h. (m.holds j).1 (elim h [ inl y ↦ inr y | inr x ↦ inl x ]),
+  );
   below_a = m.below_b;
   below_b = m.below_a;
   long = omega (arith, m.long);
@@ -29,11 +48,13 @@ swapped a b p q lane m = record {
 pub more : (xs : List ℕ) (p x j : ℕ) → p < length xs → x ≡ get_or xs p 0
     → Contains (take (p + 1) xs) j ↔ (Contains (take p xs) j ⊎ (x ≡ j))
 more xs p x j lt is =
-    let e : take (p + 1) xs ≡ take p xs ++ x ∷ [] = take_more xs p 0 lt ∙ ap (λ y. take p xs ++ y ∷ []) (sym is) in (
+    let e : take (p + 1) xs ≡ take p xs ++ x ∷ [] = take_more xs p 0 lt
+    ∙ ap (λ y. take p xs ++ y ∷ []) (sym is) in (
       λ h. Contains-push_cases (take p xs) x j (subst (λ l. Contains l j) e h),
       λ h. subst (λ l. Contains l j) (sym e) (elim h [
         | inl old ↦ Contains-append_left (take p xs) (x ∷ []) j old
-        | inr same ↦ subst (λ k. Contains (take p xs ++ x ∷ []) k) same (Contains-push (take p xs) x)
+        | inr same ↦ subst (λ k. Contains (take p xs ++ x ∷ []) k) same
+            (Contains-push (take p xs) x)
       ]),
     )
 
@@ -46,7 +67,8 @@ pushed_has xs x j = (
   ],
 )
 
-module _ (a b : List ℕ) (p q : ℕ) (lane : List ℕ) (ra : IsStrictlyIncreasing a) (rb : IsStrictlyIncreasing b) (m : IsMerged a b p q lane) (x : ℕ) where
+module _ (a b : List ℕ) (p q : ℕ) (lane : List ℕ) (ra : IsStrictlyIncreasing a)
+    (rb : IsStrictlyIncreasing b) (m : IsMerged a b p q lane) (x : ℕ) where
   -- the next index of a comes before those left of b
   pub first_taken : p < length a → x ≡ get_or a p 0 → (q < length b → x < get_or b q 0)
       → IsMerged a b (p + 1) q (lane ++ x ∷ [])
@@ -56,11 +78,19 @@ module _ (a b : List ℕ) (p q : ℕ) (lane : List ℕ) (ra : IsStrictlyIncreasi
         let new = pushed_has lane x j in
         let front = more a p x j lt is in (
           λ h. elim (new.0 h) [
-            | inl old ↦ elim ((m.holds j).0 old) [ inl in_a ↦ inl (front.1 (inl in_a)) | inr in_b ↦ inr in_b ]
+            | inl old ↦ elim ((m.holds j).0 old) [
+              | inl in_a ↦ inl (front.1 (inl in_a))
+              | inr in_b ↦
+                  inr in_b
+            ]
             | inr same ↦ inl (front.1 (inr same))
           ],
           λ h. new.1 (elim h [
-            | inl in_a ↦ elim (front.0 in_a) [ inl old ↦ inl ((m.holds j).1 (inl old)) | inr same ↦ inr same ]
+            | inl in_a ↦ elim (front.0 in_a) [
+              | inl old ↦ inl ((m.holds j).1 (inl old))
+              | inr same ↦
+                  inr same
+            ]
             | inr in_b ↦ inl ((m.holds j).1 (inr in_b))
           ]),
         );
@@ -85,12 +115,24 @@ module _ (a b : List ℕ) (p q : ℕ) (lane : List ℕ) (ra : IsStrictlyIncreasi
         let front = more a p x j lt is in
         let other = more b q x j lt' is' in (
           λ h. elim (new.0 h) [
-            | inl old ↦ elim ((m.holds j).0 old) [ inl in_a ↦ inl (front.1 (inl in_a)) | inr in_b ↦ inr (other.1 (inl in_b)) ]
+            | inl old ↦ elim ((m.holds j).0 old) [
+              | inl in_a ↦ inl (front.1 (inl in_a))
+              | inr in_b ↦
+                  inr (other.1 (inl in_b))
+            ]
             | inr same ↦ inl (front.1 (inr same))
           ],
           λ h. new.1 (elim h [
-            | inl in_a ↦ elim (front.0 in_a) [ inl old ↦ inl ((m.holds j).1 (inl old)) | inr same ↦ inr same ]
-            | inr in_b ↦ elim (other.0 in_b) [ inl old ↦ inl ((m.holds j).1 (inr old)) | inr same ↦ inr same ]
+            | inl in_a ↦ elim (front.0 in_a) [
+              | inl old ↦ inl ((m.holds j).1 (inl old))
+              | inr same ↦
+                  inr same
+            ]
+            | inr in_b ↦ elim (other.0 in_b) [
+              | inl old ↦ inl ((m.holds j).1 (inr old))
+              | inr same ↦
+                  inr same
+            ]
           ]),
         );
     below_a = λ left j h. elim ((pushed_has lane x j).0 h) [
@@ -117,7 +159,8 @@ none_merged old a b = record {
   };
 }
 
-module _ (old now a b : List ℕ) (p q : ℕ) (ra : IsStrictlyIncreasing a) (rb : IsStrictlyIncreasing b) (m : IsMerging old now a b p q) (x : ℕ) where
+module _ (old now a b : List ℕ) (p q : ℕ) (ra : IsStrictlyIncreasing a)
+    (rb : IsStrictlyIncreasing b) (m : IsMerging old now a b p q) (x : ℕ) where
   abbrev longer : (p' q' : ℕ) → IsMerged a b p' q' (m.lane ++ x ∷ [])
       → IsMerging old (now ++ x ∷ []) a b p' q'
   longer p' q' merged = record {
@@ -128,36 +171,48 @@ module _ (old now a b : List ℕ) (p q : ℕ) (ra : IsStrictlyIncreasing a) (rb 
 
   abbrev pub merging_first : p < length a → x ≡ get_or a p 0 → (q < length b → x < get_or b q 0)
       → IsMerging old (now ++ x ∷ []) a b (p + 1) q
-  merging_first lt is before = longer (p + 1) q (first_taken a b p q m.lane ra rb m.merged x lt is before)
+  merging_first lt is before = longer (p + 1) q
+      (first_taken a b p q m.lane ra rb m.merged x lt is before)
 
   abbrev pub merging_second : q < length b → x ≡ get_or b q 0 → (p < length a → x < get_or a p 0)
       → IsMerging old (now ++ x ∷ []) a b p (q + 1)
-  merging_second lt is before = longer p (q + 1) (swapped b a (q + 1) p (m.lane ++ x ∷ []) (first_taken b a q p m.lane rb ra (swapped a b p q m.lane m.merged) x lt is before))
+  merging_second lt is before = longer p (q + 1)
+      (swapped b a (q + 1) p (m.lane ++ x ∷ [])
+      (first_taken b a q p m.lane rb ra (swapped a b p q m.lane m.merged) x lt is before))
 
   abbrev pub merging_both : p < length a → q < length b → x ≡ get_or a p 0 → x ≡ get_or b q 0
       → IsMerging old (now ++ x ∷ []) a b (p + 1) (q + 1)
-  merging_both lt lt' is is' = longer (p + 1) (q + 1) (both_taken a b p q m.lane ra rb m.merged x lt lt' is is')
+  merging_both lt lt' is is' = longer (p + 1) (q + 1)
+      (both_taken a b p q m.lane ra rb m.merged x lt lt' is is')
 
 -- what is left of a list is its next element and what is left after it
 next_left : (xs : List ℕ) (p : ℕ) → p < length xs → drop p xs ≡ get_or xs p 0 ∷ drop (p + 1) xs
 next_left xs p lt = drop_more xs p 0 lt
 
-module _ (old a b : List ℕ) (q : ℕ) (ra : IsStrictlyIncreasing a) (rb : IsStrictlyIncreasing b) (none : length b ≤ q) where
+module _ (old a b : List ℕ) (q : ℕ) (ra : IsStrictlyIncreasing a) (rb : IsStrictlyIncreasing b)
+    (none : length b ≤ q) where
   -- what is left of a is appended where nothing is left of b
   pub rest_first : (n p : ℕ) (now : List ℕ) → p + n ≡ length a → IsMerging old now a b p q
       → IsMerging old (now ++ drop p a) a b (length a) q
   rest_first zero p now e m =
       let end : p ≡ length a = omega arith in
-      rw (end, drop_all (length a) a (omega arith), append-nil now) (subst (λ k. IsMerging old now a b k q) end m)
+      rw (end, drop_all (length a) a (omega arith), append-nil now)
+      (subst (λ k. IsMerging old now a b k q) end m)
   rest_first (suc n) p now e m =
       let x = get_or a p 0 in
       let lt : p < length a = omega arith in
       rw (next_left a p lt, ← append_assoc now (x ∷ []) (drop (p + 1) a))
-      (rest_first n (p + 1) (now ++ x ∷ []) (omega arith) (merging_first old now a b p q ra rb m x lt refl (λ left. absurd (omega arith))))
+      (rest_first n (p + 1) (now ++ x ∷ []) (omega arith)
+      (merging_first old now a b p q ra rb m x lt refl (λ left. absurd (omega arith))))
 
 module _ (old a b : List ℕ) (ra : IsStrictlyIncreasing a) (rb : IsStrictlyIncreasing b) where
   turned : (now : List ℕ) (p q : ℕ) → IsMerging old now a b p q → IsMerging old now b a q p
-  turned now p q m = record { lane = m.lane; pushed = m.pushed; merged = swapped a b p q m.lane m.merged }
+  turned now p q m = record {
+    lane = m.lane;
+    pushed = m.pushed;
+    merged =
+        swapped a b p q m.lane m.merged;
+  }
 
   -- what is left of both, one of which is gone through
   pub rest_merged : (now : List ℕ) (p q : ℕ) → p ≤ length a → q ≤ length b
@@ -167,13 +222,22 @@ module _ (old a b : List ℕ) (ra : IsStrictlyIncreasing a) (rb : IsStrictlyIncr
     | inl all_a ↦
         let none : drop p a ≡ [] = drop_all p a (omega arith) in
         let same : now ++ drop p a ≡ now = ap (λ l. now ++ l) none ∙ append-nil now in
-        let b_rest = rest_first old b a p rb ra (omega arith) (length b - q) q now (omega arith) (turned now p q m) in
-        let all : IsMerging old (now ++ drop q b) a b p (length b) = record { lane = b_rest.lane; pushed = b_rest.pushed; merged = swapped b a (length b) p b_rest.lane b_rest.merged } in
+        let b_rest = rest_first old b a p rb ra (omega arith) (length b - q) q now (omega arith)
+        (turned now p q m) in
+        let all : IsMerging old (now ++ drop q b) a b p (length b) =
+        record {
+          lane = b_rest.lane;
+          pushed = b_rest.pushed;
+          merged =
+              swapped b a (length b) p b_rest.lane b_rest.merged;
+        } in
         rw same (subst (λ k. IsMerging old (now ++ drop q b) a b k (length b)) all_a all)
     | inr all_b ↦
         let none : drop q b ≡ [] = drop_all q b (omega arith) in
-        let a_rest = rest_first old a b q ra rb (omega arith) (length a - p) p now (omega arith) m in
-        rw (none, append-nil (now ++ drop p a)) (subst (λ k. IsMerging old (now ++ drop p a) a b (length a) k) all_b a_rest)
+        let a_rest = rest_first old a b q ra rb (omega arith) (length a - p) p now (omega arith)
+        m in
+        rw (none, append-nil (now ++ drop p a))
+        (subst (λ k. IsMerging old (now ++ drop p a) a b (length a) k) all_b a_rest)
   ])
     where
       gains : (now : List ℕ) → IsMerging old now a b (length a) (length b)
@@ -182,7 +246,8 @@ module _ (old a b : List ℕ) (ra : IsStrictlyIncreasing a) (rb : IsStrictlyIncr
         lane = m.lane;
         pushed = m.pushed;
         rising = m.merged.rising;
-        holds = λ j. rw (take_all (length a) a (omega arith), take_all (length b) b (omega arith)) at (m.merged.holds j);
+        holds = λ j. rw (take_all (length a) a (omega arith), take_all (length b) b (omega arith))
+            at (m.merged.holds j);
       }
 
 -- what a push that succeeds leaves

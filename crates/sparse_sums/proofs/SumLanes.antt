@@ -1,5 +1,6 @@
 -- A sum or a difference of matrices, lane after lane.
-use Rattle.std.proofs.Common.{◌≡◌, ℕ, ◌+◌, ◌<◌, ◌⊎◌, inl, inr, ◌↔◌, Bool, true, false, List, [], ◌∷◌, ◌++◌, length, Contains, ap, sym, subst, ◌∙◌, refl, arith}
+use Rattle.std.proofs.Common.{◌≡◌, ℕ, ◌+◌, ◌<◌, ◌⊎◌, inl, inr, ◌↔◌, Bool, true, false, List, []}
+use Rattle.std.proofs.Common.{◌∷◌, ◌++◌, length, Contains, ap, sym, subst, ◌∙◌, refl, arith}
 use Rattle.std.specs.Prelude.{nat_eq}
 use Rattle.sparse_lemmas.proofs.Cases.{or_cases, or_left, or_right}
 use Rattle.sparse_algebra.specs.Algebra.{CommRing}
@@ -24,7 +25,9 @@ module _ (R : CommRing) where
 
   neg_add : (a b : R.Carrier) → R.neg (R.add a b) ≡ R.add (R.neg a) (R.neg b)
   neg_add a b =
-      let none : R.add (R.add a b) (R.add (R.neg a) (R.neg b)) ≡ R.zero = add_cross R a b (R.neg a) (R.neg b) ∙ ap (λ c. R.add c (R.add b (R.neg b))) (R.laws.add_neg a) ∙ ap (R.add R.zero) (R.laws.add_neg b) ∙ R.laws.add_zero R.zero in
+      let none : R.add (R.add a b) (R.add (R.neg a) (R.neg b)) ≡ R.zero =
+      add_cross R a b (R.neg a) (R.neg b) ∙ ap (λ c. R.add c (R.add b (R.neg b)))
+      (R.laws.add_neg a) ∙ ap (R.add R.zero) (R.laws.add_neg b) ∙ R.laws.add_zero R.zero in
       sym (neg_unique R (R.add a b) (R.add (R.neg a) (R.neg b)) none)
 
   signed_zero : (negate : Bool) → signed R negate R.zero ≡ R.zero
@@ -42,13 +45,16 @@ module _ (R : CommRing) where
   signed_add false a b = refl
 
   -- the value in a lane of signed values
-  lane_value_signed : {T : Type 0} (f : T → R.Carrier) (negate : Bool) (ks : List ℕ) (vs : List T) (j : ℕ)
+  lane_value_signed : {T : Type 0} (f : T → R.Carrier) (negate : Bool) (ks : List ℕ) (vs : List T)
+      (j : ℕ)
       → lane_value R (λ x. signed R negate (f x)) ks vs j ≡ signed R negate (lane_value R f ks vs j)
   lane_value_signed f negate [] vs j = sym (signed_zero negate)
   lane_value_signed f negate (k ∷ ks) [] j = sym (signed_zero negate)
   lane_value_signed f negate (k ∷ ks) (v ∷ vs) j =
-      ap (λ c. R.add c (lane_value R (λ x. signed R negate (f x)) ks vs j)) (signed_where negate (nat_eq k j) (f v))
-      ∙ ap (R.add (signed R negate (where_true R (nat_eq k j) (f v)))) (lane_value_signed f negate ks vs j)
+      ap (λ c. R.add c (lane_value R (λ x. signed R negate (f x)) ks vs j))
+      (signed_where negate (nat_eq k j) (f v))
+      ∙ ap (R.add (signed R negate (where_true R (nat_eq k j) (f v))))
+      (lane_value_signed f negate ks vs j)
       ∙ sym (signed_add negate (where_true R (nat_eq k j) (f v)) (lane_value R f ks vs j))
 
   proper_signed : (negate : Bool) (a : Plain R) → IsProper a → IsProper (plain_signed R negate a)
@@ -60,9 +66,13 @@ module _ (R : CommRing) {T : Type 0} (f : T → R.Carrier) (negate : Bool) (a b 
 
   -- the first n lanes of the sum
   abbrev pub IsSumBelow : ℕ → List ℕ → List ℕ → List T → Type 0
-  IsSumBelow n offsets indices values = IsBuiltMatrix R f a.pattern.minor_dim (IsEither a.pattern b.pattern) signed_sum.value n offsets indices values
+  IsSumBelow n offsets indices values = IsBuiltMatrix R f a.pattern.minor_dim
+      (IsEither a.pattern b.pattern) signed_sum.value n offsets indices values
 
-module _ (R : CommRing) {T : Type 0} (f : T → R.Carrier) (z : T) (negate : Bool) (a b : Compressed T) (sa : IsSound a) (sb : IsSound b) (lanes : a.pattern.major_dim ≡ b.pattern.major_dim) (width : a.pattern.minor_dim ≡ b.pattern.minor_dim) where
+module _ (R : CommRing) {T : Type 0} (f : T → R.Carrier) (z : T) (negate : Bool)
+    (a b : Compressed T) (sa : IsSound a) (sb : IsSound b)
+    (lanes : a.pattern.major_dim ≡ b.pattern.major_dim)
+    (width : a.pattern.minor_dim ≡ b.pattern.minor_dim) where
   abbrev sum : Plain R
   sum = signed_sum R f negate a b
 
@@ -73,7 +83,13 @@ module _ (R : CommRing) {T : Type 0} (f : T → R.Carrier) (z : T) (negate : Boo
   pub sum_none : Below 0 (0 ∷ []) [] []
   sum_none = record {
     built = record {
-      valid = record { count = refl; first = refl; last = refl; lanes = λ i lt. absurd (omega arith) };
+      valid = record {
+        count = refl;
+        first = refl;
+        last = refl;
+        lanes =
+            λ i lt. absurd (omega arith);
+      };
       places = λ i j lt. absurd (omega arith);
     };
     count = refl;
@@ -82,16 +98,29 @@ module _ (R : CommRing) {T : Type 0} (f : T → R.Carrier) (z : T) (negate : Boo
 
   pub sum_more : (n : ℕ) (offsets offsets' indices indices' : List ℕ) (values values' : List T)
       → n < a.pattern.major_dim → Below n offsets indices values
-      → GainsEntries R f indices indices' values values' (λ j. Contains (lane_of a.pattern n) j ⊎ Contains (lane_of b.pattern n) j) (λ j. R.add (lane_value R f (lane_of a.pattern n) (values_of a n) j) (lane_value R (λ x. signed R negate (f x)) (lane_of b.pattern n) (values_of b n) j))
+      → GainsEntries R f indices indices' values values'
+      (λ j. Contains (lane_of a.pattern n) j ⊎ Contains (lane_of b.pattern n) j)
+      (λ j. R.add (lane_value R f (lane_of a.pattern n) (values_of a n) j)
+      (lane_value R (λ x. signed R negate (f x)) (lane_of b.pattern n) (values_of b n) j))
       → offsets' ≡ offsets ++ length indices' ∷ [] → Below (n + 1) offsets' indices' values'
   sum_more n offsets offsets' indices indices' values values' lt built gains is =
       let have = λ (j : ℕ). lanes_have a.pattern b.pattern sa.valid sb.valid lanes width n j lt in
-      let holds : (j : ℕ) → Contains gains.lane j ↔ IsEither a.pattern b.pattern n j = λ j. (λ h. (have j).0 ((gains.holds j).0 h), λ h. (gains.holds j).1 ((have j).1 h)) in
-      let bounded : (j : ℕ) → Contains gains.lane j → j < a.pattern.minor_dim = λ j h. (either_within a.pattern b.pattern sa.valid sb.valid lanes width n j ((holds j).0 h)).1 in
+      let holds : (j : ℕ) → Contains gains.lane j ↔ IsEither a.pattern b.pattern n j =
+      λ j. (λ h. (have j).0 ((gains.holds j).0 h), λ h. (gains.holds j).1 ((have j).1 h)) in
+      let bounded : (j : ℕ) → Contains gains.lane j → j < a.pattern.minor_dim =
+      λ j h. (either_within a.pattern b.pattern sa.valid sb.valid lanes width n j
+      ((holds j).0 h)).1 in
       let value : (j : ℕ) → lane_value R f gains.lane gains.values j ≡ sum.value n j = λ j.
-      gains.sums j ∙ ap (λ c. R.add c (lane_value R (λ x. signed R negate (f x)) (lane_of b.pattern n) (values_of b n) j)) (lane_value_is R f z a sa n lt j)
-      ∙ ap (R.add ((plain_of_rows R f a).value n j)) (lane_value_signed R f negate (lane_of b.pattern n) (values_of b n) j ∙ ap (signed R negate) (lane_value_is R f z b sb n (omega arith) j)) in
-      rw (is, gains.pushed, gains.values_pushed) (matrix_lane_built R f a.pattern.minor_dim (IsEither a.pattern b.pattern) sum.value n offsets indices gains.lane values gains.values built gains.rising bounded holds gains.count value)
+      gains.sums j
+      ∙ ap (λ c. R.add c (lane_value R (λ x. signed R negate (f x)) (lane_of b.pattern n)
+      (values_of b n) j)) (lane_value_is R f z a sa n lt j)
+      ∙ ap (R.add ((plain_of_rows R f a).value n j))
+      (lane_value_signed R f negate (lane_of b.pattern n) (values_of b n) j
+      ∙ ap (signed R negate) (lane_value_is R f z b sb n (omega arith) j)) in
+      rw (is, gains.pushed, gains.values_pushed)
+      (matrix_lane_built R f a.pattern.minor_dim (IsEither a.pattern b.pattern) sum.value n
+      offsets indices gains.lane values gains.values built gains.rising bounded holds gains.count
+      value)
 
   places : (i j : ℕ) → IsEither a.pattern b.pattern i j ↔ (sum.has i j ≡ true)
   places i j =
@@ -102,14 +131,19 @@ module _ (R : CommRing) {T : Type 0} (f : T → R.Carrier) (z : T) (negate : Boo
       )
 
   proper : IsProper sum
-  proper = proper_sum R (plain_of_rows R f a) (plain_signed R negate (plain_of_rows R f b)) (proper_rows R f a) (proper_signed R negate (plain_of_rows R f b) (proper_rows R f b))
+  proper = proper_sum R (plain_of_rows R f a) (plain_signed R negate (plain_of_rows R f b))
+      (proper_rows R f a) (proper_signed R negate (plain_of_rows R f b) (proper_rows R f b))
 
-  module _ (n : ℕ) (offsets indices : List ℕ) (values : List T) (whole : n ≡ a.pattern.major_dim) (built : Below n offsets indices values) where
+  module _ (n : ℕ) (offsets indices : List ℕ) (values : List T) (whole : n ≡ a.pattern.major_dim)
+      (built : Below n offsets indices values) where
     done : Below a.pattern.major_dim offsets indices values
     done = subst (λ k. Below k offsets indices values) whole built
 
-    pub sum_sound : IsSound (arrays_of a.pattern.major_dim a.pattern.minor_dim offsets indices values)
+    pub sum_sound : IsSound (arrays_of a.pattern.major_dim a.pattern.minor_dim offsets indices
+        values)
     sum_sound = record { valid = done.built.valid; count = done.count }
 
-    pub sum_is : plain_of_rows R f (arrays_of a.pattern.major_dim a.pattern.minor_dim offsets indices values) ≡ sum
-    sum_is = built_is R f z sum proper (IsEither a.pattern b.pattern) places offsets indices values done (λ i j h. (either_within a.pattern b.pattern sa.valid sb.valid lanes width i j h).0)
+    pub sum_is : plain_of_rows R f (arrays_of a.pattern.major_dim a.pattern.minor_dim offsets
+        indices values) ≡ sum
+    sum_is = built_is R f z sum proper (IsEither a.pattern b.pattern) places offsets indices values
+        done (λ i j h. (either_within a.pattern b.pattern sa.valid sb.valid lanes width i j h).0)

@@ -1,5 +1,6 @@
 -- The pattern of a sum, lane after lane.
-use Rattle.std.proofs.Common.{◌≡◌, ℕ, ◌+◌, ◌<◌, ◌⊎◌, inl, inr, ◌↔◌, List, [], ◌∷◌, ◌++◌, length, Contains, arith}
+use Rattle.std.proofs.Common.{◌≡◌, ℕ, ◌+◌, ◌<◌, ◌⊎◌, inl, inr, ◌↔◌, List, [], ◌∷◌, ◌++◌, length}
+use Rattle.std.proofs.Common.{Contains, arith}
 use Rattle.sparse_pattern.specs.Raw.{Raw, raw_of, lane_of, IsValid, IsPlace}
 use Rattle.sparse_pattern.specs.InnerGainedLanes.{GainsLane}
 use Rattle.sparse_pattern.proofs.BuiltLanes.{IsBuilt, lane_gained, all_built, place_within}
@@ -10,7 +11,8 @@ use Rattle.sparse_sums.specs.PatternSums.{IsUnionOf}
 abbrev pub IsEither : Raw → Raw → ℕ → ℕ → Type 0
 IsEither a b i j = IsPlace a i j ⊎ IsPlace b i j
 
-module _ (a b : Raw) (va : IsValid a) (vb : IsValid b) (lanes : a.major_dim ≡ b.major_dim) (width : a.minor_dim ≡ b.minor_dim) where
+module _ (a b : Raw) (va : IsValid a) (vb : IsValid b) (lanes : a.major_dim ≡ b.major_dim)
+    (width : a.minor_dim ≡ b.minor_dim) where
   -- the indices of both lanes
   pub lanes_have : (n j : ℕ) → n < a.major_dim
       → (Contains (lane_of a n) j ⊎ Contains (lane_of b n) j) ↔ IsEither a b n j
@@ -37,11 +39,16 @@ module _ (a b : Raw) (va : IsValid a) (vb : IsValid b) (lanes : a.major_dim ≡ 
         lane = gains.lane;
         pushed = gains.pushed;
         rising = gains.rising;
-        holds = λ j. let l = lanes_have n j lt in (λ h. l.0 ((gains.holds j).0 h), λ h. (gains.holds j).1 (l.1 h));
+        holds = λ j. let l = lanes_have n j lt in (
+          λ h. l.0 ((gains.holds j).0 h),
+          λ h. (gains.holds j).1 (l.1 h),
+        );
       } in
-      lane_gained a.minor_dim (IsEither a b) n offsets offsets' indices indices' built (λ j h. (either_within n j h).1) gained is
+      lane_gained a.minor_dim (IsEither a b) n offsets offsets' indices indices' built
+      (λ j h. (either_within n j h).1) gained is
 
   pub union_all : (n : ℕ) (d : Raw) (offsets indices : List ℕ) → n ≡ a.major_dim
       → d ≡ raw_of a.major_dim a.minor_dim offsets indices
       → IsBuilt a.minor_dim (IsEither a b) n offsets indices → IsUnionOf d a b
-  union_all n d offsets indices whole is built = all_built a.minor_dim (IsEither a b) n a.major_dim d offsets indices whole is (λ i j h. (either_within i j h).0) built
+  union_all n d offsets indices whole is built = all_built a.minor_dim (IsEither a b) n a.major_dim
+      d offsets indices whole is (λ i j h. (either_within i j h).0) built

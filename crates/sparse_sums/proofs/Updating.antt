@@ -1,5 +1,6 @@
 -- A sum into a given matrix, in plain matrices.
-use Rattle.std.proofs.Common.{◌≡◌, ℕ, ◌↔◌, Bool, true, false, inl, inr, List, length, ap, sym, ◌∙◌, refl}
+use Rattle.std.proofs.Common.{◌≡◌, ℕ, ◌↔◌, Bool, true, false, inl, inr, List, length, ap, sym, ◌∙◌}
+use Rattle.std.proofs.Common.{refl}
 use Rattle.std.specs.Prelude.{Result, Ok, Err, IsOk, OnOk, OnErr}
 use Rattle.std.proofs.lemmas.List.{take_at}
 use Rattle.sparse_lemmas.proofs.Cases.{true_or_false}
@@ -16,7 +17,8 @@ use Rattle.sparse_cs.proofs.Arrays.{has_is_place, proper_rows, value_at_position
 use Rattle.sparse_cs.proofs.Updates.{updated}
 use Rattle.sparse_sums.specs.InnerPlacing.{plain_turned, HasPlacesOf, AreAdded}
 
-module _ (R : CommRing) {T : Type 0} (f : T → R.Carrier) (m a : Compressed T) (sm : IsSound m) (sa : IsSound a) where
+module _ (R : CommRing) {T : Type 0} (f : T → R.Carrier) (m a : Compressed T) (sm : IsSound m)
+    (sa : IsSound a) where
   here : (i j : ℕ) → ((plain_of_rows R f m).has i j ≡ true) ↔ IsPlace m.pattern i j
   here i j = has_is_place R f m.pattern sm.valid m.values sm.count i j
 
@@ -25,18 +27,28 @@ module _ (R : CommRing) {T : Type 0} (f : T → R.Carrier) (m a : Compressed T) 
 
   -- the target has the places of the operand
   pub covered_is : (turned : Bool)
-      → HasPlacesOf m.pattern turned a.pattern ↔ IsCovered (plain_turned R turned (plain_of_rows R f a)) (plain_of_rows R f m)
-  covered_is true = (λ h i j x. (here i j).1 (h j i ((there j i).0 x)), λ h i j x. (here j i).0 (h j i ((there i j).1 x)))
-  covered_is false = (λ h i j x. (here i j).1 (h i j ((there i j).0 x)), λ h i j x. (here i j).0 (h i j ((there i j).1 x)))
+      → HasPlacesOf m.pattern turned a.pattern
+      ↔ IsCovered (plain_turned R turned (plain_of_rows R f a)) (plain_of_rows R f m)
+  covered_is true = (
+    λ h i j x. (here i j).1 (h j i ((there j i).0 x)),
+    λ h i j x. (here j i).0 (h j i ((there i j).1 x)),
+  )
+  covered_is false = (
+    λ h i j x. (here i j).1 (h i j ((there i j).0 x)),
+    λ h i j x. (here i j).0 (h i j ((there i j).1 x)),
+  )
 
   turned_proper : (turned : Bool) → IsProper (plain_turned R turned (plain_of_rows R f a))
   turned_proper true = proper_transpose R (plain_of_rows R f a) (proper_rows R f a)
   turned_proper false = proper_rows R f a
 
-  pub updated_is : (z : T) (turned : Bool) (beta alpha : R.Carrier) (ws : List T) → length ws ≡ length m.values
+  pub updated_is : (z : T) (turned : Bool) (beta alpha : R.Carrier) (ws : List T)
+      → length ws ≡ length m.values
       → HasPlacesOf m.pattern turned a.pattern
-      → AreAdded R f z m.pattern beta alpha (plain_turned R turned (plain_of_rows R f a)).value m.values ws
-      → plain_of_rows R f (compressed_of m.pattern ws) ≡ plain_update R beta (plain_of_rows R f m) alpha (plain_turned R turned (plain_of_rows R f a))
+      → AreAdded R f z m.pattern beta alpha (plain_turned R turned (plain_of_rows R f a)).value
+      m.values ws
+      → plain_of_rows R f (compressed_of m.pattern ws) ≡ plain_update R beta (plain_of_rows R f m)
+      alpha (plain_turned R turned (plain_of_rows R f a))
   updated_is z turned beta alpha ws long places added =
       let x = plain_turned R turned (plain_of_rows R f a) in
       updated R f z m ws (plain_update R beta (plain_of_rows R f m) alpha x).value sm long
@@ -45,9 +57,12 @@ module _ (R : CommRing) {T : Type 0} (f : T → R.Carrier) (m a : Compressed T) 
         | inl hit ↦ let there = (covered_is turned).0 places i j hit in cc
         | inr miss ↦ miss
       ] in
-      ap (λ c. R.add (R.mul beta c) (R.mul alpha (x.value i j))) (proper_rows R f m i j none) ∙ ap (λ c. R.add c (R.mul alpha (x.value i j))) (mul_zero R beta)
-      ∙ ap (λ c. R.add R.zero (R.mul alpha c)) (turned_proper turned i j off) ∙ ap (R.add R.zero) (mul_zero R alpha) ∙ R.laws.add_zero R.zero)
-      (λ i j p at. added i j p at ∙ ap (λ c. R.add (R.mul beta c) (R.mul alpha (x.value i j))) (sym (value_at_position R f m.pattern sm.valid m.values sm.count z i j p at)))
+      ap (λ c. R.add (R.mul beta c) (R.mul alpha (x.value i j))) (proper_rows R f m i j none)
+      ∙ ap (λ c. R.add c (R.mul alpha (x.value i j))) (mul_zero R beta)
+      ∙ ap (λ c. R.add R.zero (R.mul alpha c)) (turned_proper turned i j off)
+      ∙ ap (R.add R.zero) (mul_zero R alpha) ∙ R.laws.add_zero R.zero)
+      (λ i j p at. added i j p at ∙ ap (λ c. R.add (R.mul beta c) (R.mul alpha (x.value i j)))
+      (sym (value_at_position R f m.pattern sm.valid m.values sm.count z i j p at)))
 
 -- what holds at Ok, from what is known there
 pub on_ok_also : {X E : Type 0} (r : Result X E) {P Q : Type 0} → (IsOk r → P → Q) → OnOk r P
@@ -61,27 +76,42 @@ pub written_back : {T : Type 0} (m : Compressed T) (ws : List T) → length ws �
 written_back m ws long = ap (compressed_of m.pattern) (take_at ws _ _ long)
 
 -- values that are as they were leave the matrix as it was
-pub unchanged_at_err : {T X E : Type 0} (r : Result X E) (m : Compressed T) (ws vs : List T) → vs ≡ m.values
+pub unchanged_at_err : {T X E : Type 0} (r : Result X E) (m : Compressed T) (ws vs : List T)
+    → vs ≡ m.values
     → length ws ≡ length m.values → OnErr r (ws ≡ vs) → OnErr r (with_values m ws ≡ m)
 unchanged_at_err (Ok x) m ws vs is long same = tt
-unchanged_at_err (Err e) m ws vs is long same = written_back m ws long ∙ ap (compressed_of m.pattern) (same ∙ is)
+unchanged_at_err (Err e) m ws vs is long same = written_back m ws long
+    ∙ ap (compressed_of m.pattern) (same ∙ is)
 
-module _ (R : CommRing) {T : Type 0} (f : T → R.Carrier) (z : T) (m a : Compressed T) (sm : IsSound m) (sa : IsSound a) (turned : Bool) {E : Type 0} (r : Result (Unit {0}) E) (covered : IsOk r ↔ HasPlacesOf m.pattern turned a.pattern) where
+module _ (R : CommRing) {T : Type 0} (f : T → R.Carrier) (z : T) (m a : Compressed T)
+    (sm : IsSound m) (sa : IsSound a) (turned : Bool) {E : Type 0} (r : Result (Unit {0}) E)
+    (covered : IsOk r ↔ HasPlacesOf m.pattern turned a.pattern) where
   -- the refusals of a sum into a matrix by rows
-  pub rows_covered : IsOk r ↔ IsCovered (plain_turned R turned (plain_of_rows R f a)) (plain_of_rows R f m)
-  rows_covered = let same = covered_is R f m a sm sa turned in (λ h. same.0 (covered.0 h), λ h. covered.1 (same.1 h))
+  pub rows_covered : IsOk r ↔ IsCovered (plain_turned R turned (plain_of_rows R f a))
+      (plain_of_rows R f m)
+  rows_covered = let same = covered_is R f m a sm sa
+      turned in (λ h. same.0 (covered.0 h), λ h. covered.1 (same.1 h))
 
   -- what it leaves
   pub rows_updated : (beta alpha : R.Carrier) (ws : List T) → length ws ≡ length m.values
-      → OnOk r (AreAdded R f z m.pattern beta alpha (plain_turned R turned (plain_of_rows R f a)).value m.values ws)
-      → OnOk r (plain_of_rows R f (with_values m ws) ≡ plain_update R beta (plain_of_rows R f m) alpha (plain_turned R turned (plain_of_rows R f a)))
-  rows_updated beta alpha ws long added = on_ok_also r (λ ok values. ap (plain_of_rows R f) (written_back m ws long) ∙ updated_is R f m a sm sa z turned beta alpha ws long (covered.0 ok) values) added
+      → OnOk r (AreAdded R f z m.pattern beta alpha
+      (plain_turned R turned (plain_of_rows R f a)).value m.values ws)
+      → OnOk r (plain_of_rows R f (with_values m ws) ≡ plain_update R beta (plain_of_rows R f m)
+      alpha (plain_turned R turned (plain_of_rows R f a)))
+  rows_updated beta alpha ws long added = on_ok_also r
+      (λ ok values. ap (plain_of_rows R f) (written_back m ws long)
+      ∙ updated_is R f m a sm sa z turned beta alpha ws long (covered.0 ok) values) added
 
   -- the same by columns
-  pub cols_covered : IsOk r ↔ IsCovered (plain_transpose R (plain_turned R turned (plain_of_rows R f a))) (plain_of_cols R f m)
+  pub cols_covered : IsOk r
+      ↔ IsCovered (plain_transpose R (plain_turned R turned (plain_of_rows R f a)))
+      (plain_of_cols R f m)
   cols_covered = (λ h i j x. rows_covered.0 h j i x, λ h. rows_covered.1 (λ i j x. h j i x))
 
   pub cols_updated : (beta alpha : R.Carrier) (ws : List T) → length ws ≡ length m.values
-      → OnOk r (AreAdded R f z m.pattern beta alpha (plain_turned R turned (plain_of_rows R f a)).value m.values ws)
-      → OnOk r (plain_of_cols R f (with_values m ws) ≡ plain_update R beta (plain_of_cols R f m) alpha (plain_transpose R (plain_turned R turned (plain_of_rows R f a))))
-  cols_updated beta alpha ws long added = on_ok_also r (λ _ same. ap (plain_transpose R) same) (rows_updated beta alpha ws long added)
+      → OnOk r (AreAdded R f z m.pattern beta alpha
+      (plain_turned R turned (plain_of_rows R f a)).value m.values ws)
+      → OnOk r (plain_of_cols R f (with_values m ws) ≡ plain_update R beta (plain_of_cols R f m)
+      alpha (plain_transpose R (plain_turned R turned (plain_of_rows R f a))))
+  cols_updated beta alpha ws long added = on_ok_also r (λ _ same. ap (plain_transpose R) same)
+      (rows_updated beta alpha ws long added)

@@ -13,7 +13,8 @@ module _ (R : CommRing) {T : Type 0} (f : T → R.Carrier) where
     pub meaning : map f values ≡ map g vs
 
   -- the lists gain a rising lane of the indices for which P holds, with the values V
-  pub record GainsEntries (old new : List ℕ) (old_values new_values : List T) (P : ℕ → Type 0) (V : ℕ → R.Carrier) : Type 0 where
+  pub record GainsEntries (old new : List ℕ) (old_values new_values : List T) (P : ℕ → Type 0)
+      (V : ℕ → R.Carrier) : Type 0 where
     pub lane : List ℕ
     pub values : List T
     pub pushed : new ≡ old ++ lane
@@ -23,8 +24,10 @@ module _ (R : CommRing) {T : Type 0} (f : T → R.Carrier) where
     pub holds : (j : ℕ) → Contains lane j ↔ P j
     pub sums : (j : ℕ) → lane_value R f lane values j ≡ V j
 
-  -- the lists gain the first p entries of a lane and the first q of another, whose values g reads, added
-  pub record IsAdding (g : T → R.Carrier) (old new : List ℕ) (old_values new_values : List T) (a : List ℕ) (us : List T) (b : List ℕ) (vs : List T) (p q : ℕ) : Type 0 where
+  -- the lists gain the first p entries of a lane and the first q of another, whose values g reads,
+  -- added
+  pub record IsAdding (g : T → R.Carrier) (old new : List ℕ) (old_values new_values : List T)
+      (a : List ℕ) (us : List T) (b : List ℕ) (vs : List T) (p q : ℕ) : Type 0 where
     pub indices : IsMerging old new a b p q
     pub values : List T
     pub values_pushed : new_values ≡ old_values ++ values

@@ -1,5 +1,6 @@
 -- Two rising lists of indices, merged up to a position in each.
-use Rattle.std.specs.Prelude.{◌≡◌, ℕ, ◌+◌, ◌<◌, ◌≤◌, ◌⊎◌, ◌↔◌, List, ◌++◌, length, slice_index, take, Contains}
+use Rattle.std.specs.Prelude.{◌≡◌, ℕ, ◌+◌, ◌<◌, ◌≤◌, ◌⊎◌, ◌↔◌, List, ◌++◌, length, slice_index}
+use Rattle.std.specs.Prelude.{take, Contains}
 use Rattle.std.specs.List.Sorted.{IsStrictlyIncreasing}
 
 -- the lane has the first p indices of a and the first q of b, and all that are left are greater

@@ -28,12 +28,15 @@ plain_turned R false a = a
 
 -- the target has each place of the operand
 abbrev pub HasPlacesOf : Raw → Bool → Raw → Type 0
-HasPlacesOf d turned a = (i j : ℕ) → IsPlace a i j → IsPlace d (lane_in turned i j) (index_in turned i j)
+HasPlacesOf d turned a = (i j : ℕ) → IsPlace a i j
+    → IsPlace d (lane_in turned i j) (index_in turned i j)
 
 -- at each place the value is start + alpha * x
-abbrev pub AreAdded : (R : CommRing) {T : Type 0} → (T → R.Carrier) → T → Raw → R.Carrier → R.Carrier → (ℕ → ℕ → R.Carrier) → List T → List T → Type 0
+abbrev pub AreAdded : (R : CommRing) {T : Type 0} → (T → R.Carrier) → T → Raw → R.Carrier
+    → R.Carrier → (ℕ → ℕ → R.Carrier) → List T → List T → Type 0
 AreAdded R f z d beta alpha x old new = (i j p : ℕ) → IsPosition d i j p
-    → f (slice_index_or new p z) ≡ R.add (R.mul beta (f (slice_index_or old p z))) (R.mul alpha (x i j))
+    → f (slice_index_or new p z) ≡ R.add (R.mul beta (f (slice_index_or old p z)))
+    (R.mul alpha (x i j))
 
 -- the target lane has each index of the lane
 abbrev pub HasIndicesOf : List ℕ → List ℕ → Type 0

@@ -10,4 +10,10 @@ signed R false c = c
 
 -- the matrix with each value so signed
 abbrev pub plain_signed : (R : CommRing) → Bool → Plain R → Plain R
-plain_signed R negate a = record { rows = a.rows; cols = a.cols; has = a.has; value = λ i j. signed R negate (a.value i j) }
+plain_signed R negate a = record {
+  rows = a.rows;
+  cols = a.cols;
+  has = a.has;
+  value =
+      λ i j. signed R negate (a.value i j);
+}

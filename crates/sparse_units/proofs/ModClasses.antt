@@ -1,6 +1,7 @@
 -- The residues that the operations of `Mod<M>` leave.
 use Rattle.std.proofs.Common.{◌≡◌, ℕ, ◌+◌, ◌-◌, ◌*◌, ◌%◌, ◌<◌, ◌≤◌, sym, ap, ◌∙◌, arith}
-use Rattle.std.proofs.Math.Nat.{mod-eq_of_lt, mod-mod, add-mod, mod_self, zero-mod, add-mul-mod_self_left}
+use Rattle.std.proofs.Math.Nat.{mod-eq_of_lt, mod-mod, add-mod, mod_self, zero-mod}
+use Rattle.std.proofs.Math.Nat.{add-mul-mod_self_left}
 use Rattle.sparse_algebra.specs.Residues.{same_class, mul-mod_left, mul-mod_right}
 use Rattle.sparse_units.specs.Moduli.{modulus, modulus_pos, mod_ring, mod_class}
 
@@ -20,7 +21,8 @@ module _ (m x y : ℕ) where
   mod_class_add = mod_same m (x + y) (x % modulus m + y % modulus m) (add-mod x y (modulus m))
 
   pub mod_class_mul : mod_class m (x * y) ≡ (mod_ring m).mul (mod_class m x) (mod_class m y)
-  mod_class_mul = mod_same m (x * y) ((x % modulus m) * (y % modulus m)) (sym (mul-mod_left x (y % modulus m) (modulus m) ∙ mul-mod_right x y (modulus m)))
+  mod_class_mul = mod_same m (x * y) ((x % modulus m) * (y % modulus m))
+      (sym (mul-mod_left x (y % modulus m) (modulus m) ∙ mul-mod_right x y (modulus m)))
 
 -- a sum past the modulus, less the modulus
 pub mod_class_over : (m x y : ℕ) → x < modulus m → modulus m - x ≤ y
@@ -28,7 +30,8 @@ pub mod_class_over : (m x y : ℕ) → x < modulus m → modulus m - x ≤ y
 mod_class_over m x y lt le =
     let n = modulus m in
     let whole : x + y ≡ (y - (n - x)) + n * 1 = omega arith in
-    mod_same m (y - (n - x)) (x + y) (sym (ap (λ k. k % n) whole ∙ add-mul-mod_self_left (y - (n - x)) n 1))
+    mod_same m (y - (n - x)) (x + y)
+    (sym (ap (λ k. k % n) whole ∙ add-mul-mod_self_left (y - (n - x)) n 1))
 
 pub mod_class_neg : (m x : ℕ) → x < modulus m
     → mod_class m (modulus m - x) ≡ (mod_ring m).neg (mod_class m x)

@@ -24,4 +24,8 @@ mod_class m n = residue (modulus m) (modulus_pos m) n
 -- numbers below the modulus are equal exactly where their residues are
 pub mod_decides : (m x y : ℕ) → x < modulus m → y < modulus m
     → (nat_eq x y ≡ true) ↔ (mod_class m x ≡ mod_class m y)
-mod_decides m x y f g = (λ e. ap (mod_class m) ((Decides-eqb x y).0 e), λ e. let p : x % modulus m ≡ y % modulus m = ap (λ a. a.number) e in (Decides-eqb x y).1 (sym (mod-eq_of_lt f) ∙ p ∙ mod-eq_of_lt g))
+mod_decides m x y f g = (
+  λ e. ap (mod_class m) ((Decides-eqb x y).0 e),
+  λ e. let p : x % modulus m ≡ y % modulus m = ap (λ a. a.number) e in (Decides-eqb x y).1
+      (sym (mod-eq_of_lt f) ∙ p ∙ mod-eq_of_lt g),
+)

@@ -7,5 +7,6 @@ pub returns : goal.returns
 returns g c =
     let R = g.T.Ring.ring in
     let x = plain_of_dense R g.T.Ring.value c.spsolve_csc_lower_triangular.new.b in
-    c.in_ok-mul_csc_dense.ensures ∙ ap (λ l. plain_full R (plain_product R l x)) (sym c.requires.lower)
+    c.in_ok-mul_csc_dense.ensures ∙ ap (λ l. plain_full R (plain_product R l x))
+    (sym c.requires.lower)
     ∙ c.in_ok-spsolve_csc_lower_triangular.ensures.solved

@@ -7,7 +7,8 @@ pub loop-pair-smaller : goal.loop-pair-smaller
 loop-pair-smaller c =
     let p = c.args.pattern.now in
     let set = c.loop-pair.set.items in
-    let lacks : IsLacking p set c.in-Some.pair = rw c.deref.ensures.value at c.in-Some.ensures.cases in
+    let lacks : IsLacking p set c.in-Some.pair =
+    rw c.deref.ensures.value at c.in-Some.ensures.cases in
     let grows = part_grows p set c.in-Some.pair c.loop-pair.invariant lacks in
     omega (arith, grows, c.in_ok-push.ensures.len, c.loop-pair.set.ok.0)
 
@@ -15,7 +16,8 @@ pub loop-pair-preserved : goal.loop-pair-preserved
 loop-pair-preserved c =
     let p = c.args.pattern.now in
     let set = c.loop-pair.set.items in
-    let lacks : IsLacking p set c.in-Some.pair = rw c.deref.ensures.value at c.in-Some.ensures.cases in
+    let lacks : IsLacking p set c.in-Some.pair =
+    rw c.deref.ensures.value at c.in-Some.ensures.cases in
     rw c.in_ok-push.ensures.items (part_more p set c.in-Some.pair c.loop-pair.invariant lacks)
 
 pub returns-clause-fill : goal.returns-clause-fill

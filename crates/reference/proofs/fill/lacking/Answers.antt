@@ -14,7 +14,8 @@ returns-in-Some-clause-cases c =
     let x = c.in-Some.pair in
     let h = c.in-Some.ensures in
     let lane = subst (λ xs. Contains xs x.1) c.lane.ensures h.1 in
-    let place : IsPlace p column x.1 = (lane_has p c.major_offsets.ensures.valid column x.1 (omega arith)).0 lane in
+    let place : IsPlace p column x.1 = (lane_has p c.major_offsets.ensures.valid column x.1
+    (omega arith)).0 lane in
     record {
       new = h.3;
       from = inl (subst (λ i. IsPlace p i x.1) (sym h.0) place, omega (arith, h.0, h.2));
@@ -28,7 +29,8 @@ loop-column-preserved c = λ i j lt base. elim (lt_add_one_cases i c.loop-column
       let column = c.loop-column.column in
       let place : IsPlace p column j = subst (λ k. IsPlace p k j) e base.0 in
       let lane = (lane_has p c.major_offsets.ensures.valid column j (omega arith)).1 place in
-      let here = c.in-None.ensures j (subst (λ xs. Contains xs j) (sym c.lane.ensures) lane) (omega (arith, base.1)) in
+      let here = c.in-None.ensures j (subst (λ xs. Contains xs j) (sym c.lane.ensures) lane)
+      (omega (arith, base.1)) in
       subst (λ k. Contains c.args.set.now (pair k j)) (sym e) here
 ]
 
@@ -38,23 +40,36 @@ returns-in-Some-lacking_fill-clause-cases c =
     let y = get_or set c.loop-i.i-index (pair 0 0) in
     let x = c.in-Some-lacking_fill.pair in
     let h = c.in-Some-lacking_fill.ensures in
-    let has : Contains set y = (c.loop-i.i-index, c.loop-i-test.true, get_or_default set c.loop-i.i-index y (pair 0 0) c.loop-i-test.true) in
+    let has : Contains set y = (
+      c.loop-i.i-index,
+      c.loop-i-test.true,
+      get_or_default set c.loop-i.i-index y (pair 0 0) c.loop-i-test.true,
+    ) in
     record {
       new = h.4;
-      from = inr (y.1, subst (λ i. Contains set (pair i y.1)) (sym h.0) has, h.1, h.2, omega (arith, h.0, h.3));
+      from = inr (
+        y.1,
+        subst (λ i. Contains set (pair i y.1)) (sym h.0) has,
+        h.1,
+        h.2,
+        omega (arith, h.0, h.3),
+      );
     }
 
 pub loop-i-preserved : goal.loop-i-preserved
 loop-i-preserved c = λ q lt. elim (lt_add_one_cases q c.loop-i.i-index lt) [
   | inl before ↦ c.loop-i.invariant q before
-  | inr e ↦ subst (λ k. HasFillOf (get_or c.args.set.now k (pair 0 0)).0 (get_or c.args.set.now k (pair 0 0)).1 c.args.set.now) (sym e) c.in-None-lacking_fill.ensures
+  | inr e ↦ subst (λ k. HasFillOf (get_or c.args.set.now k (pair 0 0)).0
+      (get_or c.args.set.now k (pair 0 0)).1 c.args.set.now) (sym e) c.in-None-lacking_fill.ensures
 ]
 
 pub returns-clause-cases : goal.returns-clause-cases
 returns-clause-cases c = record {
   base = λ i j b. c.loop-column.invariant i j (omega (arith, b.0.in_lane.lane)) b;
   closed = λ i j k left right lt le.
-      let at : get_or c.args.set.now left.0 (pair 0 0) ≡ pair i k = get_or_default c.args.set.now left.0 (pair 0 0) (pair i k) left.1 ∙ left.2 in
-      let has = subst (λ x. HasFillOf x.0 x.1 c.args.set.now) at (c.loop-i.invariant left.0 (omega (arith, left.1))) in
+      let at : get_or c.args.set.now left.0 (pair 0 0) ≡ pair i k =
+      get_or_default c.args.set.now left.0 (pair 0 0) (pair i k) left.1 ∙ left.2 in
+      let has = subst (λ x. HasFillOf x.0 x.1 c.args.set.now) at
+      (c.loop-i.invariant left.0 (omega (arith, left.1))) in
       has j right lt le;
 }

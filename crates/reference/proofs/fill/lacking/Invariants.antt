@@ -5,7 +5,8 @@ use Rattle.reference.specs.InnerClosure.{pair, HasFillOf}
 use Rattle.reference.proofs.fill.lacking.Given as goal
 
 abbrev pub invariant-loop-column : goal.invariant-loop-column
-invariant-loop-column l = (i j : ℕ) → i < l.column → UpperBase l.pattern i j → Contains l.set (pair i j)
+invariant-loop-column l = (i j : ℕ) → i < l.column → UpperBase l.pattern i j
+    → Contains l.set (pair i j)
 
 abbrev pub invariant-loop-i : goal.invariant-loop-i
 invariant-loop-i l = (q : ℕ) → q < l.i-index

@@ -2,7 +2,8 @@ use Rattle.std.proofs.Common.{arith, inl, inr}
 use Rattle.std.proofs.lemmas.Result.{err_from_is_err_and}
 use Rattle.sparse_pattern.proofs.FirstFaults.{first_at_end, first_among}
 use Rattle.reference.proofs.pattern_faults.pattern_fault.Goals as goal
-use Rattle.reference.proofs.pattern_faults.pattern_fault.Goals.{then-end-start-via-then-end-start, then-end-start-via-else-end-start+then-indices-end}
+use Rattle.reference.proofs.pattern_faults.pattern_fault.Goals.{then-end-start-via-then-end-start}
+use Rattle.reference.proofs.pattern_faults.pattern_fault.Goals.{then-end-start-via-else-end-start+then-indices-end}
 
 pub returns-then-end-start-clause-fault : goal.returns-then-end-start-clause-fault
 returns-then-end-start-clause-fault c =

@@ -6,6 +6,8 @@ use Rattle.reference.proofs.texts.meaning.Goals as goal
 
 pub returns : goal.returns
 returns g c =
-    means_from g.T.MatrixMarketScalar.scalar (λ r. seen (listed_as g.T.MatrixMarketScalar.value) r) c.args.text.now (lines_in c.deref.result.now) c.document.result
-    (ap lines_in c.deref.ensures.value ∙ c.in_ok-lines.ensures ∙ ap written_of c.as_bytes.ensures.value)
+    means_from g.T.MatrixMarketScalar.scalar (λ r. seen (listed_as g.T.MatrixMarketScalar.value) r)
+    c.args.text.now (lines_in c.deref.result.now) c.document.result
+    (ap lines_in c.deref.ensures.value ∙ c.in_ok-lines.ensures
+    ∙ ap written_of c.as_bytes.ensures.value)
     c.document.ensures

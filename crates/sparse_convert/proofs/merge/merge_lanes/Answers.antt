@@ -1,28 +1,35 @@
-use Rattle.std.proofs.Common.{◌≡◌, [], ◌∷◌, ◌++◌, ◌+◌, ◌-◌, length, ap, ◌∙◌, subst, refl, arith, slice_index}
+use Rattle.std.proofs.Common.{◌≡◌, [], ◌∷◌, ◌++◌, ◌+◌, ◌-◌, length, ap, ◌∙◌, subst, refl, arith}
+use Rattle.std.proofs.Common.{slice_index}
 use Rattle.std.proofs.lemmas.List.Edits.{length-between}
 use Rattle.sparse_cs.specs.Compressed.{IsSound, compressed_of}
 use Rattle.sparse_convert.specs.InnerTripletLanes.{entries_of_lane}
 use Rattle.sparse_convert.specs.InnerMerged.{AreMerged}
 use Rattle.sparse_cs.specs.PlainOfLanes.{plain_of_rows}
 use Rattle.sparse_convert.proofs.SortedTriplets.{offsets_within}
-use Rattle.sparse_convert.proofs.MergedLanes.{AreLanesMerged, no_lanes_merged, lanes_merged_more, merged_valid, merged_stand}
+use Rattle.sparse_convert.proofs.MergedLanes.{AreLanesMerged, no_lanes_merged, lanes_merged_more}
+use Rattle.sparse_convert.proofs.MergedLanes.{merged_valid, merged_stand}
 use Rattle.sparse_convert.proofs.merge.merge_lanes.Goals as goal
 
 pub loop-lane-init : goal.loop-lane-init
 loop-lane-init g c =
-    let starts_is : c.push_reserved.new.self.items ≡ 0 ∷ [] = c.push_reserved.ensures.items ∙ ap (λ l. l ++ 0 ∷ []) c.in_ok-starts.ensures.items in
+    let starts_is : c.push_reserved.new.self.items ≡ 0 ∷ [] = c.push_reserved.ensures.items
+    ∙ ap (λ l. l ++ 0 ∷ []) c.in_ok-starts.ensures.items in
     record {
-      merged = rw (starts_is, c.in_ok-indices.ensures.items, c.in_ok-values.ensures.items) (no_lanes_merged g.T.Ring.ring g.T.Ring.value g.T.Zero.zero_value c.args.offsets.now c.args.entries.now);
+      merged = rw (starts_is, c.in_ok-indices.ensures.items, c.in_ok-values.ensures.items)
+          (no_lanes_merged g.T.Ring.ring g.T.Ring.value g.T.Zero.zero_value c.args.offsets.now
+          c.args.entries.now);
       start_capacity = c.push_reserved.ensures.capacity ∙ c.in_ok-starts.ensures.exact;
       index_capacity = c.in_ok-indices.ensures.exact;
       value_capacity = c.in_ok-values.ensures.exact;
     }
 
 pub offset_bounds-entries-start : goal.offset_bounds-entries-start
-offset_bounds-entries-start g c = offsets_within _ _ c.args.offsets.now c.requires.offsets c.loop-lane.lane (omega arith)
+offset_bounds-entries-start g c = offsets_within _ _ c.args.offsets.now c.requires.offsets
+    c.loop-lane.lane (omega arith)
 
 pub slice_bounds-merge_lane-end : goal.slice_bounds-merge_lane-end
-slice_bounds-merge_lane-end g c = offsets_within _ _ c.args.offsets.now c.requires.offsets (c.loop-lane.lane + 1) (omega arith)
+slice_bounds-merge_lane-end g c = offsets_within _ _ c.args.offsets.now c.requires.offsets
+    (c.loop-lane.lane + 1) (omega arith)
 
 pub merge_lane-requires-clause-index_room : goal.merge_lane-requires-clause-index_room
 merge_lane-requires-clause-index_room g c =
@@ -30,7 +37,13 @@ merge_lane-requires-clause-index_room g c =
     let entries = c.args.entries.now in
     let n = c.loop-lane.lane in
     let within = offsets_within _ _ offsets c.requires.offsets (n + 1) (omega arith) in
-    omega (arith, within, c.requires.offsets.ordered n (omega arith), length-between entries (slice_index offsets n) (slice_index offsets (n + 1)) within, c.loop-lane.indices.ok.0)
+    omega (
+      arith,
+      within,
+      c.requires.offsets.ordered n (omega arith),
+      length-between entries (slice_index offsets n) (slice_index offsets (n + 1)) within,
+      c.loop-lane.indices.ok.0,
+    )
 
 pub merge_lane-requires-clause-value_room : goal.merge_lane-requires-clause-value_room
 merge_lane-requires-clause-value_room g c =
@@ -38,7 +51,13 @@ merge_lane-requires-clause-value_room g c =
     let entries = c.args.entries.now in
     let n = c.loop-lane.lane in
     let within = offsets_within _ _ offsets c.requires.offsets (n + 1) (omega arith) in
-    omega (arith, within, c.requires.offsets.ordered n (omega arith), length-between entries (slice_index offsets n) (slice_index offsets (n + 1)) within, c.loop-lane.values.ok.0)
+    omega (
+      arith,
+      within,
+      c.requires.offsets.ordered n (omega arith),
+      length-between entries (slice_index offsets n) (slice_index offsets (n + 1)) within,
+      c.loop-lane.values.ok.0,
+    )
 
 pub loop-lane-preserved : goal.loop-lane-preserved
 loop-lane-preserved g c =
@@ -60,22 +79,32 @@ loop-lane-preserved g c =
     let js_count : c.merge_lane.new.indices.len ≡ length js = c.merge_lane.new.indices.ok.0 in
     let ws_count : c.merge_lane.new.values.len ≡ length ws = c.merge_lane.new.values.ok.0 in
     let end : c.len.result ≡ length js = c.len.ensures ∙ js_count in
-    let starts_is : c.push_reserved-in-loop-lane.new.self.items ≡ starts ++ length js ∷ [] = c.push_reserved-in-loop-lane.ensures.items ∙ ap (λ x. starts ++ x ∷ []) end in
+    let starts_is : c.push_reserved-in-loop-lane.new.self.items ≡ starts ++ length js ∷ [] =
+    c.push_reserved-in-loop-lane.ensures.items ∙ ap (λ x. starts ++ x ∷ []) end in
     let within = offsets_within _ _ offsets c.requires.offsets (n + 1) (omega arith) in
     record {
-      merged = rw starts_is (lanes_merged_more R f z offsets entries n starts is js vs ws (c.requires.offsets.ordered n (omega arith)) within inv.merged
+      merged = rw starts_is (lanes_merged_more R f z offsets entries n starts is js vs ws
+          (c.requires.offsets.ordered n (omega arith)) within inv.merged
           (omega (arith, made.grown.0)) (omega (arith, made.grown.1)) (omega (arith, made.sizes))
           (λ p lt. made.kept_indices p (omega arith)) (λ p lt. made.kept_values p (omega arith))
-          (subst (λ a. AreMerged R f z (entries_of_lane offsets entries n) js ws a (length js)) is_count (subst (λ b. AreMerged R f z (entries_of_lane offsets entries n) js ws c.loop-lane.indices.len b) js_count made.merged)));
+          (subst (λ a. AreMerged R f z (entries_of_lane offsets entries n) js ws a (length js))
+          is_count (subst (λ b. AreMerged R f z (entries_of_lane offsets entries n) js ws
+          c.loop-lane.indices.len b) js_count made.merged)));
       start_capacity = c.push_reserved-in-loop-lane.ensures.capacity ∙ inv.start_capacity;
       index_capacity = made.capacities.0 ∙ inv.index_capacity;
       value_capacity = made.capacities.1 ∙ inv.value_capacity;
     }
 
-pub from_offset_and_indices_unchecked-pattern-requires : goal.from_offset_and_indices_unchecked-pattern-requires
+pub from_offset_and_indices_unchecked-pattern-requires :
+    goal.from_offset_and_indices_unchecked-pattern-requires
 from_offset_and_indices_unchecked-pattern-requires g c =
-    let lanes = subst (λ n. AreLanesMerged g.T.Ring.ring g.T.Ring.value g.T.Zero.zero_value c.args.offsets.now c.args.entries.now n c.loop-lane.starts.items c.loop-lane.indices.items c.loop-lane.values.items) (omega arith) c.loop-lane.invariant.merged in
-    merged_valid g.T.Ring.ring g.T.Ring.value g.T.Zero.zero_value c.args.offsets.now c.args.entries.now c.args.minor_dim c.requires.below (length c.args.offsets.now - 1) refl c.requires.offsets c.loop-lane.starts.items c.loop-lane.indices.items c.loop-lane.values.items lanes
+    let lanes = subst (λ n. AreLanesMerged g.T.Ring.ring g.T.Ring.value g.T.Zero.zero_value
+    c.args.offsets.now c.args.entries.now n c.loop-lane.starts.items c.loop-lane.indices.items
+    c.loop-lane.values.items) (omega arith) c.loop-lane.invariant.merged in
+    merged_valid g.T.Ring.ring g.T.Ring.value g.T.Zero.zero_value c.args.offsets.now
+    c.args.entries.now c.args.minor_dim c.requires.below (length c.args.offsets.now - 1) refl
+    c.requires.offsets c.loop-lane.starts.items c.loop-lane.indices.items c.loop-lane.values.items
+    lanes
 
 pub returns-clause-plain : goal.returns-clause-plain
 returns-clause-plain g c =
@@ -84,7 +113,14 @@ returns-clause-plain g c =
     let z = g.T.Zero.zero_value in
     let n = length c.args.offsets.now - 1 in
     let values = c.loop-lane.values.items in
-    let lanes : AreLanesMerged R f z c.args.offsets.now c.args.entries.now n c.loop-lane.starts.items c.loop-lane.indices.items values = subst (λ n. AreLanesMerged R f z c.args.offsets.now c.args.entries.now n c.loop-lane.starts.items c.loop-lane.indices.items values) (omega arith) c.loop-lane.invariant.merged in
+    let lanes : AreLanesMerged R f z c.args.offsets.now c.args.entries.now n
+    c.loop-lane.starts.items c.loop-lane.indices.items values =
+    subst (λ n. AreLanesMerged R f z c.args.offsets.now c.args.entries.now n
+    c.loop-lane.starts.items c.loop-lane.indices.items values) (omega arith)
+    c.loop-lane.invariant.merged in
     let made = c.from_pattern_and_values.ensures in
-    let is = made.is ∙ ap (λ d. compressed_of d values) c.from_offset_and_indices_unchecked-pattern.ensures in
-    ap (plain_of_rows R f) is ∙ merged_stand R f z c.args.offsets.now c.args.entries.now c.args.minor_dim c.requires.below n refl c.requires.offsets c.loop-lane.starts.items c.loop-lane.indices.items values lanes (subst IsSound is made.sound)
+    let is = made.is ∙ ap (λ d. compressed_of d values)
+    c.from_offset_and_indices_unchecked-pattern.ensures in
+    ap (plain_of_rows R f) is ∙ merged_stand R f z c.args.offsets.now c.args.entries.now
+    c.args.minor_dim c.requires.below n refl c.requires.offsets c.loop-lane.starts.items
+    c.loop-lane.indices.items values lanes (subst IsSound is made.sound)

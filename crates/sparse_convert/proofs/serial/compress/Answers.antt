@@ -1,4 +1,5 @@
-use Rattle.std.proofs.Common.{◌≡◌, ◌<◌, ◌-◌, ℕ, All, IsPermutation, length, ap, sym, ◌∙◌, subst, arith}
+use Rattle.std.proofs.Common.{◌≡◌, ◌<◌, ◌-◌, ℕ, All, IsPermutation, length, ap, sym, ◌∙◌, subst}
+use Rattle.std.proofs.Common.{arith}
 use Rattle.std.proofs.lemmas.List.Sorted.{All-permutation}
 use Rattle.std.proofs.lemmas.Result.{IfOk-weaker}
 use Rattle.sparse_base.specs.Coo.{zip_triplets}
@@ -11,8 +12,10 @@ use Rattle.sparse_convert.proofs.serial.compress.Goals as goal
 
 pub merge_lanes-requires-clause-sorted : goal.merge_lanes-requires-clause-sorted
 merge_lanes-requires-clause-sorted g c =
-    let back = lent_back c.in_ok-lanes.lanes.entries.items c.sort_lanes.new.entries c.in_ok-lanes.lanes.entries.len (omega (arith, c.deref_mut.ensures.len)) in
-    rw (c.deref-2.ensures.value, c.deref-3.ensures.value, back) (rw c.deref.ensures.value at c.sort_lanes.ensures.sorted)
+    let back = lent_back c.in_ok-lanes.lanes.entries.items c.sort_lanes.new.entries
+    c.in_ok-lanes.lanes.entries.len (omega (arith, c.deref_mut.ensures.len)) in
+    rw (c.deref-2.ensures.value, c.deref-3.ensures.value, back)
+    (rw c.deref.ensures.value at c.sort_lanes.ensures.sorted)
 
 pub merge_lanes-requires-clause-below : goal.merge_lanes-requires-clause-below
 merge_lanes-requires-clause-below g c =
@@ -22,16 +25,24 @@ merge_lanes-requires-clause-below g c =
     let offsets = c.in_ok-lanes.lanes.offsets.items in
     let entries = c.in_ok-lanes.lanes.entries.items in
     let sorted = c.sort_lanes.new.entries in
-    let back = lent_back entries sorted c.in_ok-lanes.lanes.entries.len (omega (arith, c.deref_mut.ensures.len)) in
-    let moved : (i : ℕ) → IsPermutation (entries_of_lane offsets entries i) (entries_of_lane offsets sorted i) = rw (c.deref.ensures.value, c.deref_mut.ensures.value) at c.sort_lanes.ensures.moved in
-    let inside = bounded c.args.major_dim minor c.args.majors.now c.args.minors.now c.args.values.now record {
+    let back = lent_back entries sorted c.in_ok-lanes.lanes.entries.len
+    (omega (arith, c.deref_mut.ensures.len)) in
+    let moved : (i : ℕ) → IsPermutation (entries_of_lane offsets entries i)
+    (entries_of_lane offsets sorted i) = rw (c.deref.ensures.value, c.deref_mut.ensures.value)
+    at c.sort_lanes.ensures.moved in
+    let inside = bounded c.args.major_dim minor c.args.majors.now c.args.minors.now
+    c.args.values.now record {
       row_count = sym c.requires.values;
       col_count = c.requires.minors ∙ sym c.requires.values;
       rows_bounded = c.requires.majors_below;
       cols_bounded = c.requires.minors_below;
     } in
     let P : ℕ × T → Type 0 = λ e. e.0 < minor in
-    let at : (i : ℕ) → All P (entries_of_lane offsets sorted i) = λ i. All-permutation P (entries_of_lane offsets entries i) (entries_of_lane offsets sorted i) (moved i) (subst (All P) (sym (c.in_ok-lanes.ensures.lanes i)) (lane_below minor i ts (λ k d lt. (inside k d lt).1))) in
+    let at : (i : ℕ) → All P (entries_of_lane offsets sorted i) =
+    λ i. All-permutation P (entries_of_lane offsets entries i)
+    (entries_of_lane offsets sorted i) (moved i)
+    (subst (All P) (sym (c.in_ok-lanes.ensures.lanes i))
+    (lane_below minor i ts (λ k d lt. (inside k d lt).1))) in
     rw (c.deref-2.ensures.value, c.deref-3.ensures.value, back) at
 
 pub returns-clause-plain : goal.returns-clause-plain
@@ -42,11 +53,22 @@ returns-clause-plain g c =
     let offsets = c.in_ok-lanes.lanes.offsets.items in
     let entries = c.in_ok-lanes.lanes.entries.items in
     let sorted = c.sort_lanes.new.entries in
-    let back = lent_back entries sorted c.in_ok-lanes.lanes.entries.len (omega (arith, c.deref_mut.ensures.len)) in
-    let moved : (i : ℕ) → IsPermutation (entries_of_lane offsets entries i) (entries_of_lane offsets sorted i) = rw (c.deref.ensures.value, c.deref_mut.ensures.value) at c.sort_lanes.ensures.moved in
-    let whole : plain_of_lanes R f c.args.major_dim c.args.minor_dim offsets sorted ≡ plain_of_triplets R f c.args.major_dim c.args.minor_dim ts = lanes_stand R f c.args.major_dim c.args.minor_dim offsets sorted ts (λ i. subst (λ l. IsPermutation l (entries_of_lane offsets sorted i)) (c.in_ok-lanes.ensures.lanes i) (moved i)) in
-    let rows : length c.deref-2.result.now - 1 ≡ c.args.major_dim = omega (arith, ap length c.deref-2.ensures.value, c.in_ok-lanes.ensures.offsets.count) in
-    let same : plain_of_lanes R f (length c.deref-2.result.now - 1) c.args.minor_dim c.deref-2.result.now c.deref-3.result.now ≡ plain_of_triplets R f c.args.major_dim c.args.minor_dim ts =
-    ap (λ n. plain_of_lanes R f n c.args.minor_dim c.deref-2.result.now c.deref-3.result.now) rows ∙ rw (c.deref-2.ensures.value, c.deref-3.ensures.value, back) whole
+    let back = lent_back entries sorted c.in_ok-lanes.lanes.entries.len
+    (omega (arith, c.deref_mut.ensures.len)) in
+    let moved : (i : ℕ) → IsPermutation (entries_of_lane offsets entries i)
+    (entries_of_lane offsets sorted i) = rw (c.deref.ensures.value, c.deref_mut.ensures.value)
+    at c.sort_lanes.ensures.moved in
+    let whole : plain_of_lanes R f c.args.major_dim c.args.minor_dim offsets sorted
+    ≡ plain_of_triplets R f c.args.major_dim c.args.minor_dim ts =
+    lanes_stand R f c.args.major_dim c.args.minor_dim offsets sorted ts
+    (λ i. subst (λ l. IsPermutation l (entries_of_lane offsets sorted i))
+    (c.in_ok-lanes.ensures.lanes i) (moved i)) in
+    let rows : length c.deref-2.result.now - 1 ≡ c.args.major_dim =
+    omega (arith, ap length c.deref-2.ensures.value, c.in_ok-lanes.ensures.offsets.count) in
+    let same : plain_of_lanes R f (length c.deref-2.result.now - 1) c.args.minor_dim
+    c.deref-2.result.now c.deref-3.result.now ≡ plain_of_triplets R f c.args.major_dim
+    c.args.minor_dim ts =
+    ap (λ n. plain_of_lanes R f n c.args.minor_dim c.deref-2.result.now c.deref-3.result.now) rows
+    ∙ rw (c.deref-2.ensures.value, c.deref-3.ensures.value, back) whole
     in
     IfOk-weaker c.merge_lanes.result _ _ (λ m e. e ∙ same) c.merge_lanes.ensures.plain

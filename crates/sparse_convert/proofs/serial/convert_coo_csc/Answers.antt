@@ -11,13 +11,17 @@ use Rattle.sparse_convert.proofs.serial.convert_coo_csc.Goals as goal
 pub compress-requires-clause-majors_below : goal.compress-requires-clause-majors_below
 compress-requires-clause-majors_below g c =
     let m = c.args.coo.now in
-    let below : All (λ j. j < m.ncols) (map (λ t. t.1) m.triplets) = All-map (λ j. j < m.ncols) (λ t. t.1) m.triplets (λ k d lt. (c.row_indices.ensures.inside k d lt).1) in
+    let below : All (λ j. j < m.ncols) (map (λ t. t.1) m.triplets) =
+    All-map (λ j. j < m.ncols) (λ t. t.1) m.triplets
+    (λ k d lt. (c.row_indices.ensures.inside k d lt).1) in
     rw (c.col_indices.ensures.cols, c.ncols.ensures) below
 
 pub compress-requires-clause-minors_below : goal.compress-requires-clause-minors_below
 compress-requires-clause-minors_below g c =
     let m = c.args.coo.now in
-    let below : All (λ i. i < m.nrows) (map (λ t. t.0) m.triplets) = All-map (λ i. i < m.nrows) (λ t. t.0) m.triplets (λ k d lt. (c.row_indices.ensures.inside k d lt).0) in
+    let below : All (λ i. i < m.nrows) (map (λ t. t.0) m.triplets) =
+    All-map (λ i. i < m.nrows) (λ t. t.0) m.triplets
+    (λ k d lt. (c.row_indices.ensures.inside k d lt).0) in
     rw (c.row_indices.ensures.rows, c.nrows.ensures) below
 
 pub returns-clause-plain : goal.returns-clause-plain
@@ -28,7 +32,15 @@ returns-clause-plain g c =
     let rows = c.row_indices.result.now in
     let cols = c.col_indices.result.now in
     let values = c.values.result.now in
-    let parts : plain_of_triplets R f c.nrows.result c.ncols.result (zip_triplets rows cols values) ≡ plain_of_coo R f m =
-    rw (c.nrows.ensures, c.ncols.ensures, c.row_indices.ensures.rows, c.col_indices.ensures.cols, c.values.ensures) (ap (plain_of_triplets R f m.nrows m.ncols) (zip_of_parts m.triplets))
+    let parts : plain_of_triplets R f c.nrows.result c.ncols.result (zip_triplets rows cols values)
+    ≡ plain_of_coo R f m =
+    rw (
+      c.nrows.ensures,
+      c.ncols.ensures,
+      c.row_indices.ensures.rows,
+      c.col_indices.ensures.cols,
+      c.values.ensures,
+    ) (ap (plain_of_triplets R f m.nrows m.ncols) (zip_of_parts m.triplets))
     in
-    ap (plain_of_cols R f) c.from_cs.ensures ∙ ap (plain_transpose R) c.in_ok-cs.ensures.plain ∙ plain_of_turned R f c.nrows.result c.ncols.result rows cols values ∙ parts
+    ap (plain_of_cols R f) c.from_cs.ensures ∙ ap (plain_transpose R) c.in_ok-cs.ensures.plain
+    ∙ plain_of_turned R f c.nrows.result c.ncols.result rows cols values ∙ parts

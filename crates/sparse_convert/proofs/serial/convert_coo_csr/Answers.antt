@@ -10,13 +10,17 @@ use Rattle.sparse_convert.proofs.serial.convert_coo_csr.Goals as goal
 pub compress-requires-clause-majors_below : goal.compress-requires-clause-majors_below
 compress-requires-clause-majors_below g c =
     let m = c.args.coo.now in
-    let below : All (λ i. i < m.nrows) (map (λ t. t.0) m.triplets) = All-map (λ i. i < m.nrows) (λ t. t.0) m.triplets (λ k d lt. (c.row_indices.ensures.inside k d lt).0) in
+    let below : All (λ i. i < m.nrows) (map (λ t. t.0) m.triplets) =
+    All-map (λ i. i < m.nrows) (λ t. t.0) m.triplets
+    (λ k d lt. (c.row_indices.ensures.inside k d lt).0) in
     rw (c.row_indices.ensures.rows, c.nrows.ensures) below
 
 pub compress-requires-clause-minors_below : goal.compress-requires-clause-minors_below
 compress-requires-clause-minors_below g c =
     let m = c.args.coo.now in
-    let below : All (λ j. j < m.ncols) (map (λ t. t.1) m.triplets) = All-map (λ j. j < m.ncols) (λ t. t.1) m.triplets (λ k d lt. (c.row_indices.ensures.inside k d lt).1) in
+    let below : All (λ j. j < m.ncols) (map (λ t. t.1) m.triplets) =
+    All-map (λ j. j < m.ncols) (λ t. t.1) m.triplets
+    (λ k d lt. (c.row_indices.ensures.inside k d lt).1) in
     rw (c.col_indices.ensures.cols, c.ncols.ensures) below
 
 pub returns-clause-plain : goal.returns-clause-plain
@@ -24,7 +28,15 @@ returns-clause-plain g c =
     let R = g.T.Ring.ring in
     let f = g.T.Ring.value in
     let m = c.args.coo.now in
-    let parts : plain_of_triplets R f c.nrows.result c.ncols.result (zip_triplets c.row_indices.result.now c.col_indices.result.now c.values.result.now) ≡ plain_of_coo R f m =
-    rw (c.nrows.ensures, c.ncols.ensures, c.row_indices.ensures.rows, c.col_indices.ensures.cols, c.values.ensures) (ap (plain_of_triplets R f m.nrows m.ncols) (zip_of_parts m.triplets))
+    let parts : plain_of_triplets R f c.nrows.result c.ncols.result
+    (zip_triplets c.row_indices.result.now c.col_indices.result.now c.values.result.now)
+    ≡ plain_of_coo R f m =
+    rw (
+      c.nrows.ensures,
+      c.ncols.ensures,
+      c.row_indices.ensures.rows,
+      c.col_indices.ensures.cols,
+      c.values.ensures,
+    ) (ap (plain_of_triplets R f m.nrows m.ncols) (zip_of_parts m.triplets))
     in
     ap (plain_of_rows R f) c.from_cs.ensures ∙ c.in_ok-cs.ensures.plain ∙ parts

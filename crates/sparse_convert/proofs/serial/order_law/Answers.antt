@@ -10,9 +10,11 @@ use Rattle.sparse_convert.proofs.serial.order_law.Goals as goal
 
 -- lists of one size in another order stand for one plain matrix
 same_plain : (R : CommRing) {T : Type 0} (f : T → R.Carrier) (a b : Coo T) → a.nrows ≡ b.nrows
-    → a.ncols ≡ b.ncols → IsPermutation a.triplets b.triplets → plain_of_coo R f a ≡ plain_of_coo R f b
+    → a.ncols ≡ b.ncols → IsPermutation a.triplets b.triplets
+    → plain_of_coo R f a ≡ plain_of_coo R f b
 same_plain R f a b rows cols moved =
-    ap (λ k. plain_of_triplets R f k a.ncols a.triplets) rows ∙ ap (λ k. plain_of_triplets R f b.nrows k a.triplets) cols
+    ap (λ k. plain_of_triplets R f k a.ncols a.triplets) rows
+    ∙ ap (λ k. plain_of_triplets R f b.nrows k a.triplets) cols
     ∙ order_free R f b.nrows b.ncols a.triplets b.triplets moved
 
 pub returns-clause-rows : goal.returns-clause-rows

@@ -10,7 +10,8 @@ returns-clause-plain g c =
     let indices = c.in_ok-numbers_below-2.ensures in
     let values = c.in_ok-ones.ensures in
     let sound = rw (made.is, raw) at made.sound in
-    rw (made.is, raw) (counting_is_identity c.args.n c.in_ok-numbers_below.field-0.items c.in_ok-numbers_below-2.field-0.items
+    rw (made.is, raw) (counting_is_identity c.args.n c.in_ok-numbers_below.field-0.items
+    c.in_ok-numbers_below-2.field-0.items
     (λ k lt. offsets.numbers k (omega (arith, sound.valid.count)))
     (λ k lt. indices.numbers k (omega (arith, indices.count)))
     g.T.Ring.ring g.T.Ring.value g.T.Zero.zero_value c.in_ok-ones.field-0.items sound

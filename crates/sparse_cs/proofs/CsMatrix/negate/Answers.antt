@@ -14,7 +14,9 @@ returns-clause-values g c =
     let z = g.T.Zero.zero_value in
     let new = c.negate_values.new.values in
     let old = compressed_of c.self.inside.sparsity_pattern c.self.inside.values.items in
-    let changed = subst (λ vs. AreChanged f R.neg z vs new) c.deref_mut.ensures.value c.negate_values.ensures in
+    let changed = subst (λ vs. AreChanged f R.neg z vs new) c.deref_mut.ensures.value
+    c.negate_values.ensures in
     let whole = take_at new _ _ (c.negate_values.auto.values ∙ c.deref_mut.ensures.len) in
     ap (λ vs. plain_of_rows R f (compressed_of c.self.inside.sparsity_pattern vs)) whole
-    ∙ negated R f z old new c.self.invariant changed ∙ ap (λ m. plain_negation R (plain_of_rows R f m)) c.self.view_is
+    ∙ negated R f z old new c.self.invariant changed
+    ∙ ap (λ m. plain_negation R (plain_of_rows R f m)) c.self.view_is

@@ -15,7 +15,9 @@ returns-clause-values g c =
     let s = f c.args.factor in
     let new = c.scale_values.new.values in
     let old = compressed_of c.self.inside.sparsity_pattern c.self.inside.values.items in
-    let changed = subst (λ vs. AreChanged f (R.mul s) z vs new) c.deref_mut.ensures.value c.scale_values.ensures in
+    let changed = subst (λ vs. AreChanged f (R.mul s) z vs new) c.deref_mut.ensures.value
+    c.scale_values.ensures in
     let whole = take_at new _ _ (c.scale_values.auto.values ∙ c.deref_mut.ensures.len) in
     ap (λ vs. plain_of_rows R f (compressed_of c.self.inside.sparsity_pattern vs)) whole
-    ∙ scaled R f z old new c.self.invariant s changed ∙ ap (λ m. plain_scaled R s (plain_of_rows R f m)) c.self.view_is
+    ∙ scaled R f z old new c.self.invariant s changed
+    ∙ ap (λ m. plain_scaled R s (plain_of_rows R f m)) c.self.view_is

@@ -6,4 +6,6 @@ use Rattle.sparse_cs.proofs.filter.keep_lane.Given as goal
 
 abbrev pub invariant-loop-at : goal.invariant-loop-at
 invariant-loop-at g l =
-    IsGrown (λ p b. Answers g.P.Fn l.predicate (l.lane, p.0, p.1) b) (zip (take l.at l.indices) (take l.at l.values)) l.initial.kept_indices.items l.initial.kept_values.items l.kept_indices.items l.kept_values.items
+    IsGrown (λ p b. Answers g.P.Fn l.predicate (l.lane, p.0, p.1) b)
+    (zip (take l.at l.indices) (take l.at l.values)) l.initial.kept_indices.items
+    l.initial.kept_values.items l.kept_indices.items l.kept_values.items

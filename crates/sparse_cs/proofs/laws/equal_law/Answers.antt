@@ -6,12 +6,14 @@ use Rattle.sparse_cs.proofs.Arrays.{equal_decides}
 use Rattle.sparse_cs.proofs.laws.equal_law.Goals as goal
 
 pub returns-clause-rows : goal.returns-clause-rows
-returns-clause-rows g c = λ m n sm sn. equal_decides g.T.Ring.ring g.T.Ring.value g.T.PartialEq.eq g.met.T.Ring.eq_law g.T.Zero.zero_value m n sm sn
+returns-clause-rows g c = λ m n sm sn. equal_decides g.T.Ring.ring g.T.Ring.value g.T.PartialEq.eq
+    g.met.T.Ring.eq_law g.T.Zero.zero_value m n sm sn
 
 pub returns-clause-cols : goal.returns-clause-cols
 returns-clause-cols g c = λ m n sm sn.
     let R = g.T.Ring.ring in
     let rows = returns-clause-rows g c m n sm sn in (
       λ h. ap (plain_transpose R) (rows.0 h),
-      λ h. rows.1 (sym (transpose_twice R (plain_of_rows R g.T.Ring.value m)) ∙ ap (plain_transpose R) h ∙ transpose_twice R (plain_of_rows R g.T.Ring.value n)),
+      λ h. rows.1 (sym (transpose_twice R (plain_of_rows R g.T.Ring.value m))
+          ∙ ap (plain_transpose R) h ∙ transpose_twice R (plain_of_rows R g.T.Ring.value n)),
     )

@@ -3,4 +3,5 @@ use Rattle.sparse_cs.proofs.zeros_identity.numbers_below.Given as goal
 
 abbrev pub invariant-loop-number : goal.invariant-loop-number
 invariant-loop-number l =
-    (vec_len l.numbers ≡ l.number) × EachIndex l.numbers.items (λ k. slice_index l.numbers.items k ≡ k)
+    (vec_len l.numbers ≡ l.number) × EachIndex l.numbers.items
+    (λ k. slice_index l.numbers.items k ≡ k)

@@ -7,4 +7,5 @@ invariant-loop-k g l =
     let R = g.T.Ring.ring in
     let f = g.T.Ring.value in
     let n = length l.yielded in
-    f l.sum ≡ dot_of R f (take n l.indices) (take n l.values) (strided R f g.T.Zero.zero_value l.x l.step)
+    f l.sum ≡ dot_of R f (take n l.indices) (take n l.values)
+    (strided R f g.T.Zero.zero_value l.x l.step)

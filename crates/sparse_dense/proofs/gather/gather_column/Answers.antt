@@ -16,9 +16,13 @@ loop-i-preserved g c =
     let x = strided R f z c.args.x.now c.args.step in
     let lane : i < a.pattern.major_dim = omega (arith, c.loop-i-test.true, c.requires.rows) in
     let read = c.index-c-i.result in
-    let lane_sum : f c.dot-sum.result ≡ dot_of R f (lane_of a.pattern i) (values_of a i) x = rw (← c.cs_data.ensures.offsets, ← c.cs_data.ensures.indices, ← c.cs_data.ensures.values) c.dot-sum.ensures in
+    let lane_sum : f c.dot-sum.result ≡ dot_of R f (lane_of a.pattern i) (values_of a i) x =
+    rw (← c.cs_data.ensures.offsets, ← c.cs_data.ensures.indices, ← c.cs_data.ensures.values)
+    c.dot-sum.ensures in
     let sum = lane_sum ∙ row_sum R f z a c.cs_data.ensures.sound i lane x in
     let value = c.add.ensures ∙ ap (λ v. R.add v (f c.mul-in-loop-i.result)) c.mul.ensures
-    ∙ ap (R.add (R.mul (f c.args.beta) (f read))) (c.mul-in-loop-i.ensures ∙ ap (R.mul (f c.args.alpha)) sum) in
-    updated_more R f z (f c.args.beta) (f c.args.alpha) (times_vector R (plain_of_rows R f a) x) i c.args.c.now c.loop-i.c read c.add.result c.loop-i.invariant
+    ∙ ap (R.add (R.mul (f c.args.beta) (f read)))
+    (c.mul-in-loop-i.ensures ∙ ap (R.mul (f c.args.alpha)) sum) in
+    updated_more R f z (f c.args.beta) (f c.args.alpha) (times_vector R (plain_of_rows R f a) x) i
+    c.args.c.now c.loop-i.c read c.add.result c.loop-i.invariant
     (omega (arith, c.loop-i-test.true, c.loop-i.auto.c)) c.index-c-i.is value

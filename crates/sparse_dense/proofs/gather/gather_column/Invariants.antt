@@ -7,4 +7,5 @@ invariant-loop-i g l =
     let R = g.T.Ring.ring in
     let f = g.T.Ring.value in
     let z = g.T.Zero.zero_value in
-    IsUpdatedBelow R f z (f l.beta) (f l.alpha) l.i (times_vector R (plain_of_rows R f l.a) (strided R f z l.x l.step)) l.initial.c l.c
+    IsUpdatedBelow R f z (f l.beta) (f l.alpha) l.i
+    (times_vector R (plain_of_rows R f l.a) (strided R f z l.x l.step)) l.initial.c l.c

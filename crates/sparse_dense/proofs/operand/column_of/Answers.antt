@@ -21,6 +21,12 @@ returns-in-Transpose-clause-entries g c =
     let d = c.in-Transpose.b.now in
     let row = rw c.in-Transpose.is at c.requires in
     rw c.in-Transpose.is (λ k lt.
-    let start : c.min.result ≡ c.args.j = omega (arith, c.min.ensures, c.as_slice-values.ensures.count, mul-add-lt k d.nrows c.args.j d.ncols lt row) in
-    ap f (from_start c.as_slice-values.result.now d.nrows c.args.j k c.min.result z start ∙ ap (λ vs. get_or vs (k * d.nrows + c.args.j) z) c.as_slice-values.ensures.values)
+    let start : c.min.result ≡ c.args.j = omega (
+      arith,
+      c.min.ensures,
+      c.as_slice-values.ensures.count,
+      mul-add-lt k d.nrows c.args.j d.ncols lt row,
+    ) in
+    ap f (from_start c.as_slice-values.result.now d.nrows c.args.j k c.min.result z start
+    ∙ ap (λ vs. get_or vs (k * d.nrows + c.args.j) z) c.as_slice-values.ensures.values)
     ∙ sym (value_inside g.T.Ring.ring f z g.met.T.Ring.zero_law d c.args.j k row lt))

@@ -12,5 +12,7 @@ returns g c =
     let z = g.T.Zero.zero_value in
     let zero_law = g.met.T.Ring.zero_law in
     c.spmm_csc_dense.ensures.updated
-    ∙ fresh_product R f z zero_law (f c.zero.result) (f c.one.result) c.in_ok-product.product (plain_product R (plain_of_cols R f c.args.a.now) (plain_of_dense R f c.args.b.now))
-    (ap f c.zero.ensures ∙ zero_law) c.one.ensures (c.in_ok-product.ensures.rows ∙ c.nrows.ensures) (c.in_ok-product.ensures.cols ∙ c.ncols.ensures)
+    ∙ fresh_product R f z zero_law (f c.zero.result) (f c.one.result) c.in_ok-product.product
+    (plain_product R (plain_of_cols R f c.args.a.now) (plain_of_dense R f c.args.b.now))
+    (ap f c.zero.ensures ∙ zero_law) c.one.ensures (c.in_ok-product.ensures.rows ∙ c.nrows.ensures)
+    (c.in_ok-product.ensures.cols ∙ c.ncols.ensures)

@@ -13,8 +13,12 @@ loop-row-init g c = λ i lt.
 
 pub offset_bounds-c-row : goal.offset_bounds-c-row
 offset_bounds-c-row g c =
-    let turn = zip_turn c.args.rows.now c.args.values.now c.loop-row.yielded c.into_iter-row-iterator.result c.loop-row.row-iterator c.next.new.self c.next.result (search rules) (search rules) c.loop-row.yielded_by (c.in-Some.row, c.in-Some.value) c.in-Some.is c.next.ensures.steps in
-    let within : c.in-Some.row.now < length c.args.c.now = rw (turn.2 0) (c.requires.inside (length c.loop-row.yielded) 0 turn.0) in
+    let turn = zip_turn c.args.rows.now c.args.values.now c.loop-row.yielded
+    c.into_iter-row-iterator.result c.loop-row.row-iterator c.next.new.self c.next.result
+    (search rules) (search rules) c.loop-row.yielded_by (c.in-Some.row, c.in-Some.value)
+    c.in-Some.is c.next.ensures.steps in
+    let within : c.in-Some.row.now < length c.args.c.now =
+    rw (turn.2 0) (c.requires.inside (length c.loop-row.yielded) 0 turn.0) in
     let x = c.well_formed.1.1.1.0 in
     offset_fits _ _ _ within x.1
 
@@ -23,12 +27,18 @@ loop-row-preserved g c =
     let rows = c.args.rows.now in
     let values = c.args.values.now in
     let n = length c.loop-row.yielded in
-    let turn = zip_turn rows values c.loop-row.yielded c.into_iter-row-iterator.result c.loop-row.row-iterator c.next.new.self c.next.result (search rules) (search rules) c.loop-row.yielded_by (c.in-Some.row, c.in-Some.value) c.in-Some.is c.next.ensures.steps in
+    let turn = zip_turn rows values c.loop-row.yielded c.into_iter-row-iterator.result
+    c.loop-row.row-iterator c.next.new.self c.next.result (search rules) (search rules)
+    c.loop-row.yielded_by (c.in-Some.row, c.in-Some.value) c.in-Some.is c.next.ensures.steps in
     let k = c.in-Some.row.now in
     let v = c.in-Some.value.now in
-    let within : k < length c.loop-row.c = rw (turn.2 0) (omega (arith, c.requires.inside n 0 turn.0)) in
+    let within : k < length c.loop-row.c = rw (turn.2 0)
+    (omega (arith, c.requires.inside n 0 turn.0)) in
     let old = get_or c.loop-row.c k c.index-c-row.result in
     let read = get_or_default c.loop-row.c k c.index-c-row.result old within in
     let added = c.add.ensures ∙ ap (g.T.Ring.ring.add (g.T.Ring.value old)) c.mul.ensures in
-    let step = lane_step g.T.Ring.ring g.T.Ring.value (g.T.Ring.value c.args.factor) rows values c.loop-row.c c.args.c.now g.T.Zero.zero_value n k v old c.add.result turn.0 turn.1 (turn.2 k) (turn.3 v) within read added c.loop-row.invariant in
-    λ i lt. rw (length_push c.loop-row.yielded (c.in-Some.row, c.in-Some.value)) (step i (omega (arith, length-set c.loop-row.c k c.add.result)))
+    let step = lane_step g.T.Ring.ring g.T.Ring.value (g.T.Ring.value c.args.factor) rows values
+    c.loop-row.c c.args.c.now g.T.Zero.zero_value n k v old c.add.result turn.0 turn.1
+    (turn.2 k) (turn.3 v) within read added c.loop-row.invariant in
+    λ i lt. rw (length_push c.loop-row.yielded (c.in-Some.row, c.in-Some.value))
+    (step i (omega (arith, length-set c.loop-row.c k c.add.result)))

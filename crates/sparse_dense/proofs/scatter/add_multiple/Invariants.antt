@@ -8,4 +8,5 @@ invariant-loop-row g l =
     let f = g.T.Ring.value in
     let z = g.T.Zero.zero_value in
     let n = length l.yielded in
-    (i : ℕ) → i < length l.c → f (get_or l.c i z) ≡ R.add (f (get_or l.initial.c i z)) (R.mul (f l.factor) (lane_value R f (take n l.rows) (take n l.values) i))
+    (i : ℕ) → i < length l.c → f (get_or l.c i z) ≡ R.add (f (get_or l.initial.c i z))
+    (R.mul (f l.factor) (lane_value R f (take n l.rows) (take n l.values) i))

@@ -21,9 +21,17 @@ loop-k-init g c = λ i lt.
 pub add_multiple-requires-clause-inside : goal.add_multiple-requires-clause-inside
 add_multiple-requires-clause-inside g c =
     let a = c.args.a.now in
-    let lane : c.loop-k.k < a.pattern.major_dim = omega (arith, c.loop-k-test.true, c.major_dim-lanes.ensures, ap (λ (d : Raw). d.major_dim) c.pattern.ensures.pattern) in
-    let width : a.pattern.minor_dim ≡ length c.loop-k.c = omega (arith, c.requires.rows, c.scale_values.ensures.count, c.loop-k.auto.c) in
-    rw (c.cs_data.ensures.offsets, c.cs_data.ensures.indices) (lane_inside a c.cs_data.ensures.sound c.loop-k.k (length c.loop-k.c) lane width)
+    let lane : c.loop-k.k < a.pattern.major_dim =
+    omega (
+      arith,
+      c.loop-k-test.true,
+      c.major_dim-lanes.ensures,
+      ap (λ (d : Raw). d.major_dim) c.pattern.ensures.pattern,
+    ) in
+    let width : a.pattern.minor_dim ≡ length c.loop-k.c =
+    omega (arith, c.requires.rows, c.scale_values.ensures.count, c.loop-k.auto.c) in
+    rw (c.cs_data.ensures.offsets, c.cs_data.ensures.indices)
+    (lane_inside a c.cs_data.ensures.sound c.loop-k.k (length c.loop-k.c) lane width)
 
 pub loop-k-preserved : goal.loop-k-preserved
 loop-k-preserved g c =
@@ -33,12 +41,25 @@ loop-k-preserved g c =
     let a = c.args.a.now in
     let k = c.loop-k.k in
     let x = c.args.x.now in
-    let lane : k < a.pattern.major_dim = omega (arith, c.loop-k-test.true, c.major_dim-lanes.ensures, ap (λ (d : Raw). d.major_dim) c.pattern.ensures.pattern) in
-    let read = c.index-x-k.is ∙ get_or_default x (k * c.args.step) c.index-x-k.result z (c.requires.inside k lane) in
-    let added : (i : ℕ) → i < length c.loop-k.c → f (get_or c.add_multiple.new.c i z) ≡ R.add (f (get_or c.loop-k.c i z)) (R.mul (f c.mul-factor.result) (lane_value R f (lane_of a.pattern k) (values_of a k) i)) = rw (← c.cs_data.ensures.offsets, ← c.cs_data.ensures.indices, ← c.cs_data.ensures.values) c.add_multiple.ensures in
+    let lane : k < a.pattern.major_dim = omega (
+      arith,
+      c.loop-k-test.true,
+      c.major_dim-lanes.ensures,
+      ap (λ (d : Raw). d.major_dim) c.pattern.ensures.pattern,
+    ) in
+    let read = c.index-x-k.is ∙ get_or_default x (k * c.args.step) c.index-x-k.result z
+    (c.requires.inside k lane) in
+    let added : (i : ℕ) → i < length c.loop-k.c → f (get_or c.add_multiple.new.c i z) ≡ R.add
+    (f (get_or c.loop-k.c i z)) (R.mul (f c.mul-factor.result)
+    (lane_value R f (lane_of a.pattern k) (values_of a k) i)) =
+    rw (← c.cs_data.ensures.offsets, ← c.cs_data.ensures.indices, ← c.cs_data.ensures.values)
+    c.add_multiple.ensures in
     λ i lt.
     let inside : i < length c.loop-k.c = omega (arith, lt, c.add_multiple.auto.c) in
-    term_more R k (λ k. (plain_of_rows R f a).value k i) (strided R f z x c.args.step) (f c.args.alpha) (R.mul (f c.args.beta) (f (get_or c.args.c.now i z))) (f (get_or c.loop-k.c i z)) (f (get_or c.add_multiple.new.c i z)) (f c.mul-factor.result)
+    term_more R k (λ k. (plain_of_rows R f a).value k i) (strided R f z x c.args.step)
+    (f c.args.alpha) (R.mul (f c.args.beta) (f (get_or c.args.c.now i z)))
+    (f (get_or c.loop-k.c i z)) (f (get_or c.add_multiple.new.c i z)) (f c.mul-factor.result)
     (c.loop-k.invariant i inside)
-    (added i inside ∙ ap (λ v. R.add (f (get_or c.loop-k.c i z)) (R.mul (f c.mul-factor.result) v)) (lane_value_is R f z a c.cs_data.ensures.sound k lane i))
+    (added i inside ∙ ap (λ v. R.add (f (get_or c.loop-k.c i z)) (R.mul (f c.mul-factor.result) v))
+    (lane_value_is R f z a c.cs_data.ensures.sound k lane i))
     (c.mul-factor.ensures ∙ ap (R.mul (f c.args.alpha)) (ap f read))

@@ -10,4 +10,7 @@ invariant-loop-k g l =
     let f = g.T.Ring.value in
     let z = g.T.Zero.zero_value in
     (i : ℕ) → i < length l.c → f (get_or l.c i z)
-    ≡ R.add (R.mul (f l.fn.beta) (f (get_or l.fn.c i z))) (R.mul (f l.alpha) (sum_below R l.k (λ k. R.mul ((plain_of_rows R f l.a).value k i) (strided R f z l.x l.step k))))
+    ≡ R.add (R.mul (f l.fn.beta) (f (get_or l.fn.c i z)))
+    (R.mul (f l.alpha)
+    (sum_below R l.k (λ k. R.mul ((plain_of_rows R f l.a).value k i)
+    (strided R f z l.x l.step k))))

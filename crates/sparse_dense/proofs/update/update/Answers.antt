@@ -5,7 +5,8 @@ use Rattle.sparse_algebra.proofs.PlainLemmas.{proper_product}
 use Rattle.sparse_cs.specs.PlainOfLanes.{plain_of_rows}
 use Rattle.sparse_dense.specs.DenseOperands.{op_dense}
 use Rattle.sparse_dense.specs.InnerUpdates.{plain_turned}
-use Rattle.sparse_dense.proofs.PlainUpdates.{no_rows, op_proper, op_within, turned_proper, turned_within, updated_plain}
+use Rattle.sparse_dense.proofs.PlainUpdates.{no_rows, op_proper, op_within, turned_proper}
+use Rattle.sparse_dense.proofs.PlainUpdates.{turned_within, updated_plain}
 use Rattle.sparse_dense.proofs.update.update.Goals as goal
 
 pub returns-then-nrows-gt0-clause-updated : goal.returns-then-nrows-gt0-clause-updated
@@ -16,10 +17,14 @@ returns-then-nrows-gt0-clause-updated g c =
     let zero = g.met.T.Ring.zero_law in
     let a = plain_turned R c.args.turned (plain_of_rows R f c.args.a.now) in
     let b = op_dense R f c.args.b in
-    let proper = proper_product R a b (turned_proper R f z zero c.args.turned c.args.a.now) (op_proper R f z zero c.args.b) in
-    let within = within_product R a b (turned_within R f z zero c.args.turned c.args.a.now c.values.ensures.sound) (op_within R f z zero c.args.b) in
-    updated_plain R f z zero (f c.args.beta) (f c.args.alpha) c.args.c.now (plain_product R a b) c.requires.rows c.requires.cols proper within c.update_columns.new.c
-    (rw (c.nrows-then-nrows-gt0.ensures, c.ncols.ensures, c.as_mut_slice.ensures.values) at c.update_columns.ensures)
+    let proper = proper_product R a b (turned_proper R f z zero c.args.turned c.args.a.now)
+    (op_proper R f z zero c.args.b) in
+    let within = within_product R a b (turned_within R f z zero c.args.turned c.args.a.now
+    c.values.ensures.sound) (op_within R f z zero c.args.b) in
+    updated_plain R f z zero (f c.args.beta) (f c.args.alpha) c.args.c.now (plain_product R a b)
+    c.requires.rows c.requires.cols proper within c.update_columns.new.c
+    (rw (c.nrows-then-nrows-gt0.ensures, c.ncols.ensures, c.as_mut_slice.ensures.values) at
+    c.update_columns.ensures)
 
 pub returns-else-nrows-gt0-clause-updated : goal.returns-else-nrows-gt0-clause-updated
 returns-else-nrows-gt0-clause-updated g c =
@@ -29,6 +34,10 @@ returns-else-nrows-gt0-clause-updated g c =
     let zero = g.met.T.Ring.zero_law in
     let a = plain_turned R c.args.turned (plain_of_rows R f c.args.a.now) in
     let b = op_dense R f c.args.b in
-    let proper = proper_product R a b (turned_proper R f z zero c.args.turned c.args.a.now) (op_proper R f z zero c.args.b) in
-    let within = within_product R a b (turned_within R f z zero c.args.turned c.args.a.now c.values.ensures.sound) (op_within R f z zero c.args.b) in
-    no_rows R f z zero (f c.args.beta) (f c.args.alpha) c.args.c.now (plain_product R a b) c.requires.rows c.requires.cols proper within (omega (arith, c.nrows.ensures, c.if-nrows-gt0.false))
+    let proper = proper_product R a b (turned_proper R f z zero c.args.turned c.args.a.now)
+    (op_proper R f z zero c.args.b) in
+    let within = within_product R a b (turned_within R f z zero c.args.turned c.args.a.now
+    c.values.ensures.sound) (op_within R f z zero c.args.b) in
+    no_rows R f z zero (f c.args.beta) (f c.args.alpha) c.args.c.now (plain_product R a b)
+    c.requires.rows c.requires.cols proper within
+    (omega (arith, c.nrows.ensures, c.if-nrows-gt0.false))

@@ -1,4 +1,5 @@
-use Rattle.std.proofs.Common.{◌≡◌, ◌+◌, ◌*◌, ◌<◌, ◌++◌, false, inl, inr, ℕ, suc, length, get_or, ap, ◌∙◌, arith}
+use Rattle.std.proofs.Common.{◌≡◌, ◌+◌, ◌*◌, ◌<◌, ◌++◌, false, inl, inr, ℕ, suc, length, get_or, ap}
+use Rattle.std.proofs.Common.{◌∙◌, arith}
 use Rattle.sparse_algebra.specs.Plain.{Plain, plain_product, plain_transpose}
 use Rattle.sparse_cs.specs.PlainOfLanes.{plain_of_rows}
 use Rattle.sparse_dense.specs.DenseOperands.{op_dense}
@@ -30,30 +31,47 @@ returns-then-width-eq-BLOCK g c =
     let x3 = strided R f z c.column_of-x3.result.now step.result in
     let entries0 : (k : ℕ) → k < b.rows → x0 k ≡ b.value k (j + 0) = λ k lt.
     let at : j ≡ j + 0 = omega arith in
-    ap (λ s. f (get_or c.column_of-x0.result.now (k * s) z)) step.ensures ∙ c.column_of-x0.ensures.entries k lt ∙ ap (b.value k) at in
+    ap (λ s. f (get_or c.column_of-x0.result.now (k * s) z)) step.ensures
+    ∙ c.column_of-x0.ensures.entries k lt ∙ ap (b.value k) at in
     let entries1 : (k : ℕ) → k < b.rows → x1 k ≡ b.value k (j + 1) = λ k lt.
     let at : j + 1 ≡ j + 1 = omega arith in
-    ap (λ s. f (get_or c.column_of-x1.result.now (k * s) z)) step.ensures ∙ c.column_of-x1.ensures.entries k lt ∙ ap (b.value k) at in
+    ap (λ s. f (get_or c.column_of-x1.result.now (k * s) z)) step.ensures
+    ∙ c.column_of-x1.ensures.entries k lt ∙ ap (b.value k) at in
     let entries2 : (k : ℕ) → k < b.rows → x2 k ≡ b.value k (j + 2) = λ k lt.
     let at : j + 2 ≡ j + 2 = omega arith in
-    ap (λ s. f (get_or c.column_of-x2.result.now (k * s) z)) step.ensures ∙ c.column_of-x2.ensures.entries k lt ∙ ap (b.value k) at in
+    ap (λ s. f (get_or c.column_of-x2.result.now (k * s) z)) step.ensures
+    ∙ c.column_of-x2.ensures.entries k lt ∙ ap (b.value k) at in
     let entries3 : (k : ℕ) → k < b.rows → x3 k ≡ b.value k (j + 3) = λ k lt.
     let at : j + 3 ≡ j + 3 = omega arith in
-    ap (λ s. f (get_or c.column_of-x3.result.now (k * s) z)) step.ensures ∙ c.column_of-x3.ensures.entries k lt ∙ ap (b.value k) at in
+    ap (λ s. f (get_or c.column_of-x3.result.now (k * s) z)) step.ensures
+    ∙ c.column_of-x3.ensures.entries k lt ∙ ap (b.value k) at in
     let count = rw four at c.requires.count in
     let s0 = c.split_at_mut-c0 in
     let s1 = c.split_at_mut-c1 in
     let s2 = c.split_at_mut-c2 in
     let new = c.gather_four.new in
-    let last : length s2.result.1.now ≡ n = omega (arith, count, s0.ensures.back_len, s1.ensures.back_len, s2.ensures.back_len) in
-    rw four (one_more_column R f z (f c.args.beta) (f c.args.alpha) n 3 (λ i k. product.value i (j + k)) (times_vector R rows x0) c.args.c.now s0.result.0.now s0.result.1.now new.c0 (new.c1 ++ (new.c2 ++ new.c3)) s0.ensures.value s0.ensures.front_len
-    (λ i _. gathered_entry R turned rows b x0 i (j + 0) off c.requires.inner entries0) c.gather_four.ensures.column0
-    (one_more_column R f z (f c.args.beta) (f c.args.alpha) n 2 (λ i k. product.value i (j + suc k)) (times_vector R rows x1) s0.result.1.now s1.result.0.now s1.result.1.now new.c1 (new.c2 ++ new.c3) s1.ensures.value s1.ensures.front_len
-    (λ i _. gathered_entry R turned rows b x1 i (j + 1) off c.requires.inner entries1) c.gather_four.ensures.column1
-    (one_more_column R f z (f c.args.beta) (f c.args.alpha) n 1 (λ i k. product.value i (j + suc (suc k))) (times_vector R rows x2) s1.result.1.now s2.result.0.now s2.result.1.now new.c2 new.c3 s2.ensures.value s2.ensures.front_len
-    (λ i _. gathered_entry R turned rows b x2 i (j + 2) off c.requires.inner entries2) c.gather_four.ensures.column2
-    (one_column R f z (f c.args.beta) (f c.args.alpha) n (λ i k. product.value i (j + suc (suc (suc k)))) (times_vector R rows x3) s2.result.1.now new.c3 last
-    (λ i _. gathered_entry R turned rows b x3 i (j + 3) off c.requires.inner entries3) c.gather_four.ensures.column3))))
+    let last : length s2.result.1.now ≡ n = omega
+    (arith, count, s0.ensures.back_len, s1.ensures.back_len, s2.ensures.back_len) in
+    rw four (one_more_column R f z (f c.args.beta) (f c.args.alpha) n 3
+    (λ i k. product.value i (j + k)) (times_vector R rows x0) c.args.c.now s0.result.0.now
+    s0.result.1.now new.c0 (new.c1 ++ (new.c2 ++ new.c3)) s0.ensures.value s0.ensures.front_len
+    (λ i _. gathered_entry R turned rows b x0 i (j + 0) off c.requires.inner entries0)
+    c.gather_four.ensures.column0
+    (one_more_column R f z (f c.args.beta) (f c.args.alpha) n 2 (λ i k. product.value i (j + suc k))
+    (times_vector R rows x1) s0.result.1.now s1.result.0.now s1.result.1.now new.c1
+    (new.c2 ++ new.c3) s1.ensures.value s1.ensures.front_len
+    (λ i _. gathered_entry R turned rows b x1 i (j + 1) off c.requires.inner entries1)
+    c.gather_four.ensures.column1
+    (one_more_column R f z (f c.args.beta) (f c.args.alpha) n 1
+    (λ i k. product.value i (j + suc (suc k))) (times_vector R rows x2) s1.result.1.now
+    s2.result.0.now s2.result.1.now new.c2 new.c3 s2.ensures.value s2.ensures.front_len
+    (λ i _. gathered_entry R turned rows b x2 i (j + 2) off c.requires.inner entries2)
+    c.gather_four.ensures.column2
+    (one_column R f z (f c.args.beta) (f c.args.alpha) n
+    (λ i k. product.value i (j + suc (suc (suc k)))) (times_vector R rows x3) s2.result.1.now
+    new.c3 last
+    (λ i _. gathered_entry R turned rows b x3 i (j + 3) off c.requires.inner entries3)
+    c.gather_four.ensures.column3))))
 
 pub returns-then-turned : goal.returns-then-turned
 returns-then-turned g c =
@@ -73,11 +91,14 @@ returns-then-turned g c =
     let x = strided R f z c.column_of-x0.result.now c.step_of-step.result in
     let entries : (k : ℕ) → k < b.rows → x k ≡ b.value k (j + 0) = λ k lt.
     let at : j ≡ j + 0 = omega arith in
-    ap (λ s. f (get_or c.column_of-x0.result.now (k * s) z)) c.step_of-step.ensures ∙ c.column_of-x0.ensures.entries k lt ∙ ap (b.value k) at in
+    ap (λ s. f (get_or c.column_of-x0.result.now (k * s) z)) c.step_of-step.ensures
+    ∙ c.column_of-x0.ensures.entries k lt ∙ ap (b.value k) at in
     let count = rw one at c.requires.count in
     let long : length c.args.c.now ≡ n = omega (arith, count) in
-    rw one (one_column R f z (f c.args.beta) (f c.args.alpha) n (λ i k. product.value i (j + k)) (times_vector R (plain_transpose R rows) x) c.args.c.now c.scatter_column.new.c long
-    (λ i _. scattered_entry R turned rows b x i (j + 0) c.if-turned.true c.requires.inner entries) c.scatter_column.ensures)
+    rw one (one_column R f z (f c.args.beta) (f c.args.alpha) n (λ i k. product.value i (j + k))
+    (times_vector R (plain_transpose R rows) x) c.args.c.now c.scatter_column.new.c long
+    (λ i _. scattered_entry R turned rows b x i (j + 0) c.if-turned.true c.requires.inner entries)
+    c.scatter_column.ensures)
 
 pub returns-else-turned : goal.returns-else-turned
 returns-else-turned g c =
@@ -97,8 +118,11 @@ returns-else-turned g c =
     let x = strided R f z c.column_of-x0.result.now c.step_of-step.result in
     let entries : (k : ℕ) → k < b.rows → x k ≡ b.value k (j + 0) = λ k lt.
     let at : j ≡ j + 0 = omega arith in
-    ap (λ s. f (get_or c.column_of-x0.result.now (k * s) z)) c.step_of-step.ensures ∙ c.column_of-x0.ensures.entries k lt ∙ ap (b.value k) at in
+    ap (λ s. f (get_or c.column_of-x0.result.now (k * s) z)) c.step_of-step.ensures
+    ∙ c.column_of-x0.ensures.entries k lt ∙ ap (b.value k) at in
     let count = rw one at c.requires.count in
     let long : length c.args.c.now ≡ n = omega (arith, count) in
-    rw one (one_column R f z (f c.args.beta) (f c.args.alpha) n (λ i k. product.value i (j + k)) (times_vector R rows x) c.args.c.now c.gather_column.new.c long
-    (λ i _. gathered_entry R turned rows b x i (j + 0) c.if-turned.false c.requires.inner entries) c.gather_column.ensures)
+    rw one (one_column R f z (f c.args.beta) (f c.args.alpha) n (λ i k. product.value i (j + k))
+    (times_vector R rows x) c.args.c.now c.gather_column.new.c long
+    (λ i _. gathered_entry R turned rows b x i (j + 0) c.if-turned.false c.requires.inner entries)
+    c.gather_column.ensures)

@@ -8,61 +8,96 @@ use Rattle.sparse_cs.specs.PlainOfLanes.{plain_of_rows, plain_of_cols}
 use Rattle.sparse_expr.specs.PostfixWords.{texts}
 use Rattle.sparse_expr.specs.Value.{value_of}
 use Rattle.sparse_expr.specs.Run.{ring64, text_in}
-use Rattle.sparse_expr.proofs.Outcome.{has_outcome, refuses-value, writes, refuses-write, text_in-rows, text_in-cols, both_of_err}
+use Rattle.sparse_expr.proofs.Outcome.{has_outcome, refuses-value, writes, refuses-write}
+use Rattle.sparse_expr.proofs.Outcome.{text_in-rows, text_in-cols, both_of_err}
 use Rattle.sparse_expr.proofs.calculator.run.Goals as goal
 
 pub returns-in_err-value-in-Rows-clause-refused : goal.returns-in_err-value-in-Rows-clause-refused
 returns-in_err-value-in-Rows-clause-refused g c =
-    let p = err_from_is_err_and c.from_residual-in_err-value-in-Rows.result c.from_residual-in_err-value-in-Rows.ensures.1 in
+    let p = err_from_is_err_and c.from_residual-in_err-value-in-Rows.result
+    c.from_residual-in_err-value-in-Rows.ensures.1 in
     let e = c.in_err-value-in-Rows.field-0.0 in
-    let is = ap (λ ms. value_of ring64 (map (λ m. plain_of_coo ring64 (λ x. class_of w64 (w64_number x)) m) ms) c.args.expr.now) (sym c.deref.ensures.value) in
-    rw (p.1, p.2) (refuses-value c.args.form (texts c.args.sources.now) c.args.expr.now _ e (refl, refl) (elim c.in_err-value-in-Rows.ensures [
+    let is = ap (λ ms. value_of ring64
+    (map (λ m. plain_of_coo ring64 (λ x. class_of w64 (w64_number x)) m) ms) c.args.expr.now)
+    (sym c.deref.ensures.value) in
+    rw (p.1, p.2) (refuses-value c.args.form (texts c.args.sources.now) c.args.expr.now _ e
+    (refl, refl) (elim c.in_err-value-in-Rows.ensures [
       | inl memory ↦ inl memory
-      | inr refused ↦ inr (has_outcome _ _ _ c.in_ok-inputs.inputs.items c.in_ok-inputs.ensures.meant (is ∙ refused))
+      | inr refused ↦ inr (has_outcome _ _ _ c.in_ok-inputs.inputs.items
+          c.in_ok-inputs.ensures.meant (is ∙ refused))
     ]))
 
 pub returns-in-Rows-clause-written : goal.returns-in-Rows-clause-written
 returns-in-Rows-clause-written g c =
-    let is = ap (λ ms. value_of ring64 (map (λ m. plain_of_coo ring64 (λ x. class_of w64 (w64_number x)) m) ms) c.args.expr.now) (sym c.deref.ensures.value) in
-    let value = plain_of_rows ring64 (λ x. class_of w64 (w64_number x)) c.in_ok-value-in-Rows.value in
-    let outcome = has_outcome _ _ _ c.in_ok-inputs.inputs.items c.in_ok-inputs.ensures.meant (is ∙ c.in_ok-value-in-Rows.ensures) in
-    let said = ap (λ form. text_in form value) c.in-Rows.is ∙ text_in-rows c.in_ok-value-in-Rows.value c.values.ensures.sound in
-    on_ok_weaker c.save.result (λ appended. writes c.args.form (texts c.args.sources.now) c.args.expr.now value outcome _ said _ _ appended) c.save.ensures.all
+    let is = ap (λ ms. value_of ring64
+    (map (λ m. plain_of_coo ring64 (λ x. class_of w64 (w64_number x)) m) ms) c.args.expr.now)
+    (sym c.deref.ensures.value) in
+    let value = plain_of_rows ring64 (λ x. class_of w64 (w64_number x))
+    c.in_ok-value-in-Rows.value in
+    let outcome = has_outcome _ _ _ c.in_ok-inputs.inputs.items c.in_ok-inputs.ensures.meant
+    (is ∙ c.in_ok-value-in-Rows.ensures) in
+    let said = ap (λ form. text_in form value) c.in-Rows.is
+    ∙ text_in-rows c.in_ok-value-in-Rows.value c.values.ensures.sound in
+    on_ok_weaker c.save.result (λ appended. writes c.args.form (texts c.args.sources.now)
+    c.args.expr.now value outcome _ said _ _ appended) c.save.ensures.all
 
 pub returns-in-Rows-clause-refused : goal.returns-in-Rows-clause-refused
 returns-in-Rows-clause-refused g c =
-    let is = ap (λ ms. value_of ring64 (map (λ m. plain_of_coo ring64 (λ x. class_of w64 (w64_number x)) m) ms) c.args.expr.now) (sym c.deref.ensures.value) in
-    let value = plain_of_rows ring64 (λ x. class_of w64 (w64_number x)) c.in_ok-value-in-Rows.value in
-    let outcome = has_outcome _ _ _ c.in_ok-inputs.inputs.items c.in_ok-inputs.ensures.meant (is ∙ c.in_ok-value-in-Rows.ensures) in
-    let said = ap (λ form. text_in form value) c.in-Rows.is ∙ text_in-rows c.in_ok-value-in-Rows.value c.values.ensures.sound in
+    let is = ap (λ ms. value_of ring64
+    (map (λ m. plain_of_coo ring64 (λ x. class_of w64 (w64_number x)) m) ms) c.args.expr.now)
+    (sym c.deref.ensures.value) in
+    let value = plain_of_rows ring64 (λ x. class_of w64 (w64_number x))
+    c.in_ok-value-in-Rows.value in
+    let outcome = has_outcome _ _ _ c.in_ok-inputs.inputs.items c.in_ok-inputs.ensures.meant
+    (is ∙ c.in_ok-value-in-Rows.ensures) in
+    let said = ap (λ form. text_in form value) c.in-Rows.is
+    ∙ text_in-rows c.in_ok-value-in-Rows.value c.values.ensures.sound in
     both_of_err c.save.result _ _ _
-    (λ e some refused. refuses-write c.args.form (texts c.args.sources.now) c.args.expr.now value outcome _ said _ e some refused)
+    (λ e some refused. refuses-write c.args.form (texts c.args.sources.now) c.args.expr.now value
+    outcome _ said _ e some refused)
     c.save.ensures.beginning c.save.ensures.refused
 
 pub returns-in_err-value-in-Cols-clause-refused : goal.returns-in_err-value-in-Cols-clause-refused
 returns-in_err-value-in-Cols-clause-refused g c =
-    let p = err_from_is_err_and c.from_residual-in_err-value-in-Cols.result c.from_residual-in_err-value-in-Cols.ensures.1 in
+    let p = err_from_is_err_and c.from_residual-in_err-value-in-Cols.result
+    c.from_residual-in_err-value-in-Cols.ensures.1 in
     let e = c.in_err-value-in-Cols.field-0.0 in
-    let is = ap (λ ms. value_of ring64 (map (λ m. plain_of_coo ring64 (λ x. class_of w64 (w64_number x)) m) ms) c.args.expr.now) (sym c.deref-in-Cols.ensures.value) in
-    rw (p.1, p.2) (refuses-value c.args.form (texts c.args.sources.now) c.args.expr.now _ e (refl, refl) (elim c.in_err-value-in-Cols.ensures [
+    let is = ap (λ ms. value_of ring64
+    (map (λ m. plain_of_coo ring64 (λ x. class_of w64 (w64_number x)) m) ms) c.args.expr.now)
+    (sym c.deref-in-Cols.ensures.value) in
+    rw (p.1, p.2) (refuses-value c.args.form (texts c.args.sources.now) c.args.expr.now _ e
+    (refl, refl) (elim c.in_err-value-in-Cols.ensures [
       | inl memory ↦ inl memory
-      | inr refused ↦ inr (has_outcome _ _ _ c.in_ok-inputs.inputs.items c.in_ok-inputs.ensures.meant (is ∙ refused))
+      | inr refused ↦ inr (has_outcome _ _ _ c.in_ok-inputs.inputs.items
+          c.in_ok-inputs.ensures.meant (is ∙ refused))
     ]))
 
 pub returns-clause-written : goal.returns-clause-written
 returns-clause-written g c =
-    let is = ap (λ ms. value_of ring64 (map (λ m. plain_of_coo ring64 (λ x. class_of w64 (w64_number x)) m) ms) c.args.expr.now) (sym c.deref-in-Cols.ensures.value) in
-    let value = plain_of_cols ring64 (λ x. class_of w64 (w64_number x)) c.in_ok-value-in-Cols.value in
-    let outcome = has_outcome _ _ _ c.in_ok-inputs.inputs.items c.in_ok-inputs.ensures.meant (is ∙ c.in_ok-value-in-Cols.ensures) in
-    let said = ap (λ form. text_in form value) c.in-Cols.is ∙ text_in-cols c.in_ok-value-in-Cols.value c.values-in-Cols.ensures.sound in
-    on_ok_weaker c.save-in-Cols.result (λ appended. writes c.args.form (texts c.args.sources.now) c.args.expr.now value outcome _ said _ _ appended) c.save-in-Cols.ensures.all
+    let is = ap (λ ms. value_of ring64
+    (map (λ m. plain_of_coo ring64 (λ x. class_of w64 (w64_number x)) m) ms) c.args.expr.now)
+    (sym c.deref-in-Cols.ensures.value) in
+    let value = plain_of_cols ring64 (λ x. class_of w64 (w64_number x))
+    c.in_ok-value-in-Cols.value in
+    let outcome = has_outcome _ _ _ c.in_ok-inputs.inputs.items c.in_ok-inputs.ensures.meant
+    (is ∙ c.in_ok-value-in-Cols.ensures) in
+    let said = ap (λ form. text_in form value) c.in-Cols.is
+    ∙ text_in-cols c.in_ok-value-in-Cols.value c.values-in-Cols.ensures.sound in
+    on_ok_weaker c.save-in-Cols.result (λ appended. writes c.args.form (texts c.args.sources.now)
+    c.args.expr.now value outcome _ said _ _ appended) c.save-in-Cols.ensures.all
 
 pub returns-clause-refused : goal.returns-clause-refused
 returns-clause-refused g c =
-    let is = ap (λ ms. value_of ring64 (map (λ m. plain_of_coo ring64 (λ x. class_of w64 (w64_number x)) m) ms) c.args.expr.now) (sym c.deref-in-Cols.ensures.value) in
-    let value = plain_of_cols ring64 (λ x. class_of w64 (w64_number x)) c.in_ok-value-in-Cols.value in
-    let outcome = has_outcome _ _ _ c.in_ok-inputs.inputs.items c.in_ok-inputs.ensures.meant (is ∙ c.in_ok-value-in-Cols.ensures) in
-    let said = ap (λ form. text_in form value) c.in-Cols.is ∙ text_in-cols c.in_ok-value-in-Cols.value c.values-in-Cols.ensures.sound in
+    let is = ap (λ ms. value_of ring64
+    (map (λ m. plain_of_coo ring64 (λ x. class_of w64 (w64_number x)) m) ms) c.args.expr.now)
+    (sym c.deref-in-Cols.ensures.value) in
+    let value = plain_of_cols ring64 (λ x. class_of w64 (w64_number x))
+    c.in_ok-value-in-Cols.value in
+    let outcome = has_outcome _ _ _ c.in_ok-inputs.inputs.items c.in_ok-inputs.ensures.meant
+    (is ∙ c.in_ok-value-in-Cols.ensures) in
+    let said = ap (λ form. text_in form value) c.in-Cols.is
+    ∙ text_in-cols c.in_ok-value-in-Cols.value c.values-in-Cols.ensures.sound in
     both_of_err c.save-in-Cols.result _ _ _
-    (λ e some refused. refuses-write c.args.form (texts c.args.sources.now) c.args.expr.now value outcome _ said _ e some refused)
+    (λ e some refused. refuses-write c.args.form (texts c.args.sources.now) c.args.expr.now value
+    outcome _ said _ e some refused)
     c.save-in-Cols.ensures.beginning c.save-in-Cols.ensures.refused

@@ -4,7 +4,10 @@ use Rattle.sparse_expr.proofs.calculator.save.Goals as goal
 
 pub returns-in_default : goal.returns-in_default
 returns-in_default g c =
-    let refused : IsRefusedWrite c.kind.result (g.W.Sink.failures c.args.out.now) (g.W.Sink.failures c.save_to_matrix_market.new.sink) (g.W.Sink.last c.save_to_matrix_market.new.sink) = rw c.kind.ensures c.in-Err.ensures.refused in
+    let refused : IsRefusedWrite c.kind.result (g.W.Sink.failures c.args.out.now)
+    (g.W.Sink.failures c.save_to_matrix_market.new.sink)
+    (g.W.Sink.last c.save_to_matrix_market.new.sink) =
+    rw c.kind.ensures c.in-Err.ensures.refused in
     record {
       none_failed = tt;
       all = tt;

@@ -11,7 +11,8 @@ returns-in_ok-second-in-Add-clause-met g t c =
     let R = g.T.Ring.ring in
     let inputs = map (λ m. plain_of_coo R g.T.Ring.value m) c.args.inputs.now in
     let a = ap (value_of R inputs) (sym c.deref.ensures) ∙ c.in_ok-first-in-Add.ensures.met in
-    let b = ap (value_of R inputs) (sym c.deref-in-Add.ensures) ∙ c.in_ok-second-in-Add.ensures.met in
+    let b = ap (value_of R inputs) (sym c.deref-in-Add.ensures)
+    ∙ c.in_ok-second-in-Add.ensures.met in
     subst (λ v. Meets R (λ m. rows_or_turned R g.T.Ring.value c.args.turned m.value) v c.sum.result)
     (sym (ap (value_of R inputs) c.in-Add.is ∙ both_made R (sum_of R) _ _ _ _ a b))
     (c.sum.ensures c.args.turned)
@@ -20,9 +21,12 @@ pub returns-in_ok-subtrahend-in-Sub-clause-met : goal.returns-in_ok-subtrahend-i
 returns-in_ok-subtrahend-in-Sub-clause-met g t c =
     let R = g.T.Ring.ring in
     let inputs = map (λ m. plain_of_coo R g.T.Ring.value m) c.args.inputs.now in
-    let a = ap (value_of R inputs) (sym c.deref-in-Sub.ensures) ∙ c.in_ok-minuend-in-Sub.ensures.met in
-    let b = ap (value_of R inputs) (sym c.deref-in-Sub-2.ensures) ∙ c.in_ok-subtrahend-in-Sub.ensures.met in
-    subst (λ v. Meets R (λ m. rows_or_turned R g.T.Ring.value c.args.turned m.value) v c.difference.result)
+    let a = ap (value_of R inputs) (sym c.deref-in-Sub.ensures)
+    ∙ c.in_ok-minuend-in-Sub.ensures.met in
+    let b = ap (value_of R inputs) (sym c.deref-in-Sub-2.ensures)
+    ∙ c.in_ok-subtrahend-in-Sub.ensures.met in
+    subst (λ v. Meets R (λ m. rows_or_turned R g.T.Ring.value c.args.turned m.value) v
+    c.difference.result)
     (sym (ap (value_of R inputs) c.in-Sub.is ∙ both_made R (difference_of R) _ _ _ _ a b))
     (c.difference.ensures c.args.turned)
 
@@ -30,7 +34,9 @@ pub returns-in_ok-operand-in-Neg-clause-met : goal.returns-in_ok-operand-in-Neg-
 returns-in_ok-operand-in-Neg-clause-met g t c =
     let R = g.T.Ring.ring in
     let inputs = map (λ m. plain_of_coo R g.T.Ring.value m) c.args.inputs.now in
-    let a = ap (value_of R inputs) (sym c.deref-in-Neg.ensures) ∙ c.in_ok-operand-in-Neg.ensures.met in
-    subst (λ v. Meets R (λ m. rows_or_turned R g.T.Ring.value c.args.turned m.value) v c.negation.result)
+    let a = ap (value_of R inputs) (sym c.deref-in-Neg.ensures)
+    ∙ c.in_ok-operand-in-Neg.ensures.met in
+    subst (λ v. Meets R (λ m. rows_or_turned R g.T.Ring.value c.args.turned m.value) v
+    c.negation.result)
     (sym (ap (value_of R inputs) c.in-Neg.is ∙ ap (one R (plain_negation R)) a))
     (c.negation.ensures c.args.turned)

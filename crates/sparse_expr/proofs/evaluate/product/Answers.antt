@@ -8,6 +8,9 @@ pub returns-then-turned : goal.returns-then-turned
 returns-then-turned g c =
     let R = g.T.Ring.ring in
     let f = g.T.Ring.value in
-    subst (λ b. Meets R (λ m. rows_or_turned R f b m.value) (product_of R (rows_or_turned R f b c.args.x.value) (rows_or_turned R f b c.args.y.value)) c.multiply.result)
+    subst (λ b. Meets R (λ m. rows_or_turned R f b m.value)
+    (product_of R (rows_or_turned R f b c.args.x.value) (rows_or_turned R f b c.args.y.value))
+    c.multiply.result)
     (sym c.if-turned.true)
-    (product_turned R f (λ m. m.value) c.args.x.value c.args.y.value c.multiply.result c.multiply.ensures)
+    (product_turned R f (λ m. m.value) c.args.x.value c.args.y.value c.multiply.result
+    c.multiply.ensures)

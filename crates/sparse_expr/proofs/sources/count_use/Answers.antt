@@ -7,7 +7,8 @@ returns-then-turned g c =
     let R = g.T.Ring.ring in
     let f = g.T.Ring.value in
     record {
-      provides = λ inputs all. AllZip-change (Provides R f) inputs c.args.sources.now _ c.index-sources-number.result _
+      provides = λ inputs all. AllZip-change (Provides R f) inputs c.args.sources.now _
+          c.index-sources-number.result _
           (λ x p. record { rows = p.rows; turned = p.turned }) all;
     }
 
@@ -16,6 +17,7 @@ returns-else-turned g c =
     let R = g.T.Ring.ring in
     let f = g.T.Ring.value in
     record {
-      provides = λ inputs all. AllZip-change (Provides R f) inputs c.args.sources.now _ c.index-sources-number.result _
+      provides = λ inputs all. AllZip-change (Provides R f) inputs c.args.sources.now _
+          c.index-sources-number.result _
           (λ x p. record { rows = p.rows; turned = p.turned }) all;
     }

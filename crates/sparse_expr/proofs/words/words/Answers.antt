@@ -6,4 +6,6 @@ use Rattle.sparse_parser.specs.Words.{is_some_word}
 use Rattle.sparse_expr.proofs.words.words.Goals as goal
 
 pub returns : goal.returns
-returns c = map_from_collect _ c.collect.ensures.ran (YieldsList-from_filter _ is_some_word (YieldsList-from_slice_split _ is_space c.args.text.now (cc) (cc) (cc) (λ x b q k. search rules)) c.filter.ensures.closure (λ x b q k. search rules))
+returns c = map_from_collect _ c.collect.ensures.ran
+    (YieldsList-from_filter _ is_some_word (YieldsList-from_slice_split _ is_space c.args.text.now
+    (cc) (cc) (cc) (λ x b q k. search rules)) c.filter.ensures.closure (λ x b q k. search rules))

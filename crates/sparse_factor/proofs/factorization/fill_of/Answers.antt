@@ -11,7 +11,9 @@ columns_of_paths-requires-clause-rows g c =
     let f = g.C.Count.number in
     let r = c.in_ok-parents in
     rw (c.deref.ensures.value, c.deref-2.ensures.value)
-    (rows_at (length r.parents.items) c.args.pattern.now.major_dim (nodes_in f r.parents.items r.paths.items) (rows_in f r.paths.items) (sym r.ensures.parent_count) r.ensures.rows.0)
+    (rows_at (length r.parents.items) c.args.pattern.now.major_dim
+    (nodes_in f r.parents.items r.paths.items) (rows_in f r.paths.items)
+    (sym r.ensures.parent_count) r.ensures.rows.0)
 
 pub returns-clause-fill : goal.returns-clause-fill
 returns-clause-fill g c =
@@ -20,9 +22,13 @@ returns-clause-fill g c =
     let r = c.in_ok-parents in
     let d = r.ensures.rows.0 in
     let rows = square_of d.offsets (nodes_in f r.parents.items r.paths.items) in
-    let transposed = rw (c.deref.ensures.value, c.deref-2.ensures.value) at c.in_ok-l_pattern.ensures.transposed in
-    let turned = transposed (rows_at (length r.parents.items) p.major_dim (nodes_in f r.parents.items r.paths.items) (rows_in f r.paths.items) (sym r.ensures.parent_count) d) in
-    stores_fill (UpperBase p) (upper_low p) rows c.in_ok-l_pattern.l_pattern r.ensures.rows.1 turned c.in_ok-l_pattern.ensures.valid
+    let transposed = rw (c.deref.ensures.value, c.deref-2.ensures.value) at
+    c.in_ok-l_pattern.ensures.transposed in
+    let turned = transposed (rows_at (length r.parents.items) p.major_dim
+    (nodes_in f r.parents.items r.paths.items) (rows_in f r.paths.items)
+    (sym r.ensures.parent_count) d) in
+    stores_fill (UpperBase p) (upper_low p) rows c.in_ok-l_pattern.l_pattern r.ensures.rows.1 turned
+    c.in_ok-l_pattern.ensures.valid
 
 pub returns-clause-walks : goal.returns-clause-walks
 returns-clause-walks g c =
@@ -31,9 +37,13 @@ returns-clause-walks g c =
     let r = c.in_ok-parents in
     let d = r.ensures.rows.0 in
     let rows = square_of d.offsets (nodes_in f r.parents.items r.paths.items) in
-    let transposed = rw (c.deref.ensures.value, c.deref-2.ensures.value) at c.in_ok-l_pattern.ensures.transposed in
-    let turned = transposed (rows_at (length r.parents.items) p.major_dim (nodes_in f r.parents.items r.paths.items) (rows_in f r.paths.items) (sym r.ensures.parent_count) d) in
-    stores_walks (UpperBase p) (upper_low p) rows c.in_ok-l_pattern.l_pattern r.ensures.rows.1 turned c.in_ok-l_pattern.ensures.valid
+    let transposed = rw (c.deref.ensures.value, c.deref-2.ensures.value) at
+    c.in_ok-l_pattern.ensures.transposed in
+    let turned = transposed (rows_at (length r.parents.items) p.major_dim
+    (nodes_in f r.parents.items r.paths.items) (rows_in f r.paths.items)
+    (sym r.ensures.parent_count) d) in
+    stores_walks (UpperBase p) (upper_low p) rows c.in_ok-l_pattern.l_pattern r.ensures.rows.1
+    turned c.in_ok-l_pattern.ensures.valid
 
 pub returns-clause-diagonal : goal.returns-clause-diagonal
 returns-clause-diagonal g c =
@@ -42,6 +52,10 @@ returns-clause-diagonal g c =
     let r = c.in_ok-parents in
     let d = r.ensures.rows.0 in
     let rows = square_of d.offsets (nodes_in f r.parents.items r.paths.items) in
-    let transposed = rw (c.deref.ensures.value, c.deref-2.ensures.value) at c.in_ok-l_pattern.ensures.transposed in
-    let turned = transposed (rows_at (length r.parents.items) p.major_dim (nodes_in f r.parents.items r.paths.items) (rows_in f r.paths.items) (sym r.ensures.parent_count) d) in
-    stores_diagonal (UpperBase p) (upper_low p) rows c.in_ok-l_pattern.l_pattern r.ensures.rows.1 turned c.in_ok-l_pattern.ensures.valid
+    let transposed = rw (c.deref.ensures.value, c.deref-2.ensures.value) at
+    c.in_ok-l_pattern.ensures.transposed in
+    let turned = transposed (rows_at (length r.parents.items) p.major_dim
+    (nodes_in f r.parents.items r.paths.items) (rows_in f r.paths.items)
+    (sym r.ensures.parent_count) d) in
+    stores_diagonal (UpperBase p) (upper_low p) rows c.in_ok-l_pattern.l_pattern r.ensures.rows.1
+    turned c.in_ok-l_pattern.ensures.valid

@@ -1,26 +1,37 @@
 use Rattle.std.proofs.Common.{refl, ◌∙◌, rules}
 use Rattle.std.proofs.lemmas.Result.{err_from_is_err_and}
-use Rattle.sparse_io.proofs.Buffering.{IsWriting-none, IsWriting-more, IsWriting-refused, IsWriting-all}
+use Rattle.sparse_io.proofs.Buffering.{IsWriting-none, IsWriting-more, IsWriting-refused}
+use Rattle.sparse_io.proofs.Buffering.{IsWriting-all}
 use Rattle.sparse_io.proofs.writer.save_to_matrix_market.Goals as goal
 
 pub loop-row-init : goal.loop-row-init
-loop-row-init g c = record { unfailed = refl; writing = IsWriting-none _ _ _ _ _ _ (search rules) (search rules) }
+loop-row-init g c = record {
+  unfailed = refl;
+  writing = IsWriting-none _ _ _ _ _ _ (search rules)
+      (search rules);
+}
 
 pub loop-row-preserved : goal.loop-row-preserved
 loop-row-preserved g c = record {
   unfailed = c.in_ok-put_triplet.ensures.unfailed ∙ c.loop-row.invariant.unfailed;
-  writing = IsWriting-more _ _ _ _ _ _ _ _ _ _ _ c.loop-row.invariant.writing c.in-Some.ensures.steps c.in_ok-put_triplet.ensures.buffered;
+  writing = IsWriting-more _ _ _ _ _ _ _ _ _ _ _ c.loop-row.invariant.writing
+      c.in-Some.ensures.steps c.in_ok-put_triplet.ensures.buffered;
 }
 
 pub returns-in_err-put_triplet-clause-beginning : goal.returns-in_err-put_triplet-clause-beginning
 returns-in_err-put_triplet-clause-beginning g c =
-    let p = err_from_is_err_and c.from_residual-in_err-put_triplet.result c.from_residual-in_err-put_triplet.ensures.1 in
-    rw (p.1) (IsWriting-refused _ _ _ _ _ _ _ _ c.loop-row.invariant.writing c.in_err-put_triplet.ensures.beginning)
+    let p = err_from_is_err_and c.from_residual-in_err-put_triplet.result
+    c.from_residual-in_err-put_triplet.ensures.1 in
+    rw (p.1) (IsWriting-refused _ _ _ _ _ _ _ _ c.loop-row.invariant.writing
+    c.in_err-put_triplet.ensures.beginning)
 
 pub returns-clause-ok : goal.returns-clause-ok
-returns-clause-ok g c = IsWriting-all _ _ _ _ _ _ _ _ c.loop-row.invariant.writing c.in-None.ensures.steps.0 c.in_ok-flush.ensures.all
+returns-clause-ok g c = IsWriting-all _ _ _ _ _ _ _ _ c.loop-row.invariant.writing
+    c.in-None.ensures.steps.0 c.in_ok-flush.ensures.all
 
 pub returns-in_err-flush-clause-beginning : goal.returns-in_err-flush-clause-beginning
 returns-in_err-flush-clause-beginning g c =
-    let p = err_from_is_err_and c.from_residual-in_err-flush.result c.from_residual-in_err-flush.ensures.1 in
-    rw (p.1) (IsWriting-refused _ _ _ _ _ _ _ _ c.loop-row.invariant.writing c.in_err-flush.ensures.beginning)
+    let p = err_from_is_err_and c.from_residual-in_err-flush.result
+    c.from_residual-in_err-flush.ensures.1 in
+    rw (p.1) (IsWriting-refused _ _ _ _ _ _ _ _ c.loop-row.invariant.writing
+    c.in_err-flush.ensures.beginning)

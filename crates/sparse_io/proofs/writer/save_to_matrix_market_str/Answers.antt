@@ -6,7 +6,8 @@ pub loop-row-init : goal.loop-row-init
 loop-row-init g c = IsBegun-none _ _ _ _ _ (search rules) (search rules)
 
 pub loop-row-preserved : goal.loop-row-preserved
-loop-row-preserved g c = rw c.in_ok-push_triplet.ensures (IsBegun-more _ _ _ _ _ _ _ c.loop-row.invariant c.in-Some.ensures.steps)
+loop-row-preserved g c = rw c.in_ok-push_triplet.ensures
+    (IsBegun-more _ _ _ _ _ _ _ c.loop-row.invariant c.in-Some.ensures.steps)
 
 pub returns : goal.returns
 returns g c = IsBegun-all _ _ _ _ _ c.loop-row.invariant c.in-None.ensures.steps.0

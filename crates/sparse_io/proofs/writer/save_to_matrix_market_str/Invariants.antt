@@ -5,4 +5,7 @@ use Rattle.sparse_io.proofs.writer.save_to_matrix_market_str.Given as goal
 
 abbrev pub invariant-loop-row : goal.invariant-loop-row
 invariant-loop-row g l =
-    IsBegun g.T.MatrixMarketScalar.scalar.name (λ x. g.T.MatrixMarketScalar.scalar.text (g.T.MatrixMarketScalar.value x)) (g.S.MatrixMarketExport.exported l.matrix) (string_bytes l.text) (triplets_left l.row-iterator)
+    IsBegun g.T.MatrixMarketScalar.scalar.name
+    (λ x. g.T.MatrixMarketScalar.scalar.text (g.T.MatrixMarketScalar.value x))
+    (g.S.MatrixMarketExport.exported l.matrix) (string_bytes l.text)
+    (triplets_left l.row-iterator)

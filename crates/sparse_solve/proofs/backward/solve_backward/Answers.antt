@@ -4,7 +4,8 @@ use Rattle.sparse_solve.proofs.Taking.{backward_begun, backward_list, backward_s
 use Rattle.sparse_solve.proofs.backward.solve_backward.Goals as goal
 
 pub loop-step-init : goal.loop-step-init
-loop-step-init g c = backward_begun g.T.Ring.ring g.T.Ring.value g.T.Zero.zero_value (lower g.T.Ring.ring g.T.Ring.value c.args.l.now) c.args.x.now
+loop-step-init g c = backward_begun g.T.Ring.ring g.T.Ring.value g.T.Zero.zero_value
+    (lower g.T.Ring.ring g.T.Ring.value c.args.l.now) c.args.x.now
 
 pub loop-step-preserved : goal.loop-step-preserved
 loop-step-preserved g c =
@@ -14,7 +15,13 @@ loop-step-preserved g c =
     let m = c.args.l.now in
     let k = length c.args.x.now - 1 - c.loop-step.step in
     let column = c.in-Some.column in
-    backward_list R f z m k column.rows.now column.values.now column.inverse c.in-Some.ensures.some c.args.x.now c.loop-step.x (omega arith) c.loop-step.auto.x c.loop-step.step c.index-x-k.result c.dot-known.result c.neg.result c.add.result c.mul.result (omega (arith, c.requires.square, c.requires.rows)) (omega arith) c.index-x-k.is c.dot-known.ensures c.neg.ensures c.add.ensures c.mul.ensures c.loop-step.invariant
+    backward_list R f z m k column.rows.now column.values.now column.inverse c.in-Some.ensures.some
+    c.args.x.now c.loop-step.x (omega arith) c.loop-step.auto.x c.loop-step.step
+    c.index-x-k.result c.dot-known.result c.neg.result c.add.result c.mul.result
+    (omega (arith, c.requires.square, c.requires.rows)) (omega arith) c.index-x-k.is
+    c.dot-known.ensures c.neg.ensures c.add.ensures c.mul.ensures c.loop-step.invariant
 
 pub returns : goal.returns
-returns g c = backward_solved g.T.Ring.ring g.T.Ring.value g.T.Zero.zero_value (lower g.T.Ring.ring g.T.Ring.value c.args.l.now) c.loop-step.step c.args.x.now c.loop-step.x (omega arith) c.loop-step.invariant
+returns g c = backward_solved g.T.Ring.ring g.T.Ring.value g.T.Zero.zero_value
+    (lower g.T.Ring.ring g.T.Ring.value c.args.l.now) c.loop-step.step c.args.x.now c.loop-step.x
+    (omega arith) c.loop-step.invariant

@@ -5,8 +5,15 @@ use Rattle.sparse_solve.proofs.backward.solve_four_backward.Goals as goal
 
 pub loop-step-init : goal.loop-step-init
 loop-step-init g c =
-    let begun = backward_begun g.T.Ring.ring g.T.Ring.value g.T.Zero.zero_value (lower g.T.Ring.ring g.T.Ring.value c.args.l.now) in
-    record { first = begun c.args.first.now; second = begun c.args.second.now; third = begun c.args.third.now; fourth = begun c.args.fourth.now }
+    let begun = backward_begun g.T.Ring.ring g.T.Ring.value g.T.Zero.zero_value
+    (lower g.T.Ring.ring g.T.Ring.value c.args.l.now) in
+    record {
+      first = begun c.args.first.now;
+      second = begun c.args.second.now;
+      third =
+          begun c.args.third.now;
+      fourth = begun c.args.fourth.now;
+    }
 
 pub loop-step-preserved : goal.loop-step-preserved
 loop-step-preserved g c =
@@ -16,22 +23,48 @@ loop-step-preserved g c =
     let k = length c.args.first.now - 1 - c.loop-step.step in
     let column = c.in-Some.column in
     let was = c.loop-step in
-    let row = backward_list R f z c.args.l.now k column.rows.now column.values.now column.inverse c.in-Some.ensures.some in
+    let row = backward_list R f z c.args.l.now k column.rows.now column.values.now column.inverse
+    c.in-Some.ensures.some in
     let dots = c.four_dots-a in
     record {
-      first = row c.args.first.now was.first (omega (arith)) was.auto.first was.step c.index-first-k.result dots.result.0 c.neg.result c.add.result c.mul.result (omega (arith, c.requires.square, c.requires.rows)) (omega (arith)) c.index-first-k.is dots.ensures.first c.neg.ensures c.add.ensures c.mul.ensures was.invariant.first;
-      second = row c.args.second.now was.second (omega (arith, c.requires.rows_2)) was.auto.second was.step c.index-second-k.result dots.result.1 c.neg-in-loop-step.result c.add-in-loop-step.result c.mul-in-loop-step.result (omega (arith, c.requires.square, c.requires.rows, c.requires.rows_2)) (omega (arith, c.requires.rows_2)) c.index-second-k.is dots.ensures.second c.neg-in-loop-step.ensures c.add-in-loop-step.ensures c.mul-in-loop-step.ensures was.invariant.second;
-      third = row c.args.third.now was.third (omega (arith, c.requires.rows_3)) was.auto.third was.step c.index-third-k.result dots.result.2 c.neg-in-loop-step-2.result c.add-in-loop-step-2.result c.mul-in-loop-step-2.result (omega (arith, c.requires.square, c.requires.rows, c.requires.rows_3)) (omega (arith, c.requires.rows_3)) c.index-third-k.is dots.ensures.third c.neg-in-loop-step-2.ensures c.add-in-loop-step-2.ensures c.mul-in-loop-step-2.ensures was.invariant.third;
-      fourth = row c.args.fourth.now was.fourth (omega (arith, c.requires.rows_4)) was.auto.fourth was.step c.index-fourth-k.result dots.result.3 c.neg-in-loop-step-3.result c.add-in-loop-step-3.result c.mul-in-loop-step-3.result (omega (arith, c.requires.square, c.requires.rows, c.requires.rows_4)) (omega (arith, c.requires.rows_4)) c.index-fourth-k.is dots.ensures.fourth c.neg-in-loop-step-3.ensures c.add-in-loop-step-3.ensures c.mul-in-loop-step-3.ensures was.invariant.fourth;
+      first = row c.args.first.now was.first (omega (arith)) was.auto.first was.step
+          c.index-first-k.result dots.result.0 c.neg.result c.add.result c.mul.result
+          (omega (arith, c.requires.square, c.requires.rows)) (omega (arith)) c.index-first-k.is
+          dots.ensures.first c.neg.ensures c.add.ensures c.mul.ensures was.invariant.first;
+      second = row c.args.second.now was.second (omega (arith, c.requires.rows_2)) was.auto.second
+          was.step c.index-second-k.result dots.result.1 c.neg-in-loop-step.result
+          c.add-in-loop-step.result c.mul-in-loop-step.result
+          (omega (arith, c.requires.square, c.requires.rows, c.requires.rows_2))
+          (omega (arith, c.requires.rows_2)) c.index-second-k.is dots.ensures.second
+          c.neg-in-loop-step.ensures c.add-in-loop-step.ensures c.mul-in-loop-step.ensures
+          was.invariant.second;
+      third = row c.args.third.now was.third (omega (arith, c.requires.rows_3)) was.auto.third
+          was.step c.index-third-k.result dots.result.2 c.neg-in-loop-step-2.result
+          c.add-in-loop-step-2.result c.mul-in-loop-step-2.result
+          (omega (arith, c.requires.square, c.requires.rows, c.requires.rows_3))
+          (omega (arith, c.requires.rows_3)) c.index-third-k.is dots.ensures.third
+          c.neg-in-loop-step-2.ensures c.add-in-loop-step-2.ensures c.mul-in-loop-step-2.ensures
+          was.invariant.third;
+      fourth = row c.args.fourth.now was.fourth (omega (arith, c.requires.rows_4)) was.auto.fourth
+          was.step c.index-fourth-k.result dots.result.3 c.neg-in-loop-step-3.result
+          c.add-in-loop-step-3.result c.mul-in-loop-step-3.result
+          (omega (arith, c.requires.square, c.requires.rows, c.requires.rows_4))
+          (omega (arith, c.requires.rows_4)) c.index-fourth-k.is dots.ensures.fourth
+          c.neg-in-loop-step-3.ensures c.add-in-loop-step-3.ensures c.mul-in-loop-step-3.ensures
+          was.invariant.fourth;
     }
 
 pub returns : goal.returns
 returns g c =
-    let solved = backward_solved g.T.Ring.ring g.T.Ring.value g.T.Zero.zero_value (lower g.T.Ring.ring g.T.Ring.value c.args.l.now) c.loop-step.step in
+    let solved = backward_solved g.T.Ring.ring g.T.Ring.value g.T.Zero.zero_value
+    (lower g.T.Ring.ring g.T.Ring.value c.args.l.now) c.loop-step.step in
     let was = c.loop-step in
     record {
       first = solved c.args.first.now was.first (omega (arith)) was.invariant.first;
-      second = solved c.args.second.now was.second (omega (arith, c.requires.rows_2)) was.invariant.second;
-      third = solved c.args.third.now was.third (omega (arith, c.requires.rows_3)) was.invariant.third;
-      fourth = solved c.args.fourth.now was.fourth (omega (arith, c.requires.rows_4)) was.invariant.fourth;
+      second = solved c.args.second.now was.second (omega (arith, c.requires.rows_2))
+          was.invariant.second;
+      third = solved c.args.third.now was.third (omega (arith, c.requires.rows_3))
+          was.invariant.third;
+      fourth = solved c.args.fourth.now was.fourth (omega (arith, c.requires.rows_4))
+          was.invariant.fourth;
     }

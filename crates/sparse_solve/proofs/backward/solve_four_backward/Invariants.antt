@@ -10,8 +10,12 @@ invariant-loop-step g l =
     let z = g.T.Zero.zero_value in
     let t = lower R f l.l in
     record {
-      first : IsBackward R (length l.initial.first) (length l.initial.first - l.step) t (entries R f z l.first) (entries R f z l.initial.first);
-      second : IsBackward R (length l.initial.second) (length l.initial.second - l.step) t (entries R f z l.second) (entries R f z l.initial.second);
-      third : IsBackward R (length l.initial.third) (length l.initial.third - l.step) t (entries R f z l.third) (entries R f z l.initial.third);
-      fourth : IsBackward R (length l.initial.fourth) (length l.initial.fourth - l.step) t (entries R f z l.fourth) (entries R f z l.initial.fourth);
+      first : IsBackward R (length l.initial.first) (length l.initial.first - l.step) t
+          (entries R f z l.first) (entries R f z l.initial.first);
+      second : IsBackward R (length l.initial.second) (length l.initial.second - l.step) t
+          (entries R f z l.second) (entries R f z l.initial.second);
+      third : IsBackward R (length l.initial.third) (length l.initial.third - l.step) t
+          (entries R f z l.third) (entries R f z l.initial.third);
+      fourth : IsBackward R (length l.initial.fourth) (length l.initial.fourth - l.step) t
+          (entries R f z l.fourth) (entries R f z l.initial.fourth);
     }

@@ -8,4 +8,5 @@ invariant-loop-k g l =
     let R = g.T.Ring.ring in
     let f = g.T.Ring.value in
     let z = g.T.Zero.zero_value in
-    IsForward R (length l.initial.x) l.k (lower R f l.l) (entries R f z l.x) (entries R f z l.initial.x)
+    IsForward R (length l.initial.x) l.k (lower R f l.l) (entries R f z l.x)
+    (entries R f z l.initial.x)

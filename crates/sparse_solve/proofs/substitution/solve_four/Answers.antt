@@ -16,10 +16,19 @@ returns g c =
     let one = c.split_at_mut-first.ensures in
     let two = c.split_at_mut-second.ensures in
     let three = c.split_at_mut-third.ensures in
-    let parts : c.args.x.now ≡ a ++ (b ++ (d ++ e)) = one.value ∙ ap (λ r. a ++ r) (two.value ∙ ap (λ r. b ++ r) three.value) in
+    let parts : c.args.x.now ≡ a ++ (b ++ (d ++ e)) = one.value
+    ∙ ap (λ r. a ++ r) (two.value ∙ ap (λ r. b ++ r) three.value) in
     let new = c.solve_side_by_side.new in
     let long = c.solve_side_by_side.auto in
-    let last : length e ≡ n = omega (arith, one.back_len, two.back_len, three.back_len, c.requires.columns) in
-    rw parts (four_solved R f z n (op_lower R f (λ m. m.now) c.args.l) a b d e new.first new.second new.third new.fourth one.front_len two.front_len three.front_len last
+    let last : length e ≡ n = omega (
+      arith,
+      one.back_len,
+      two.back_len,
+      three.back_len,
+      c.requires.columns,
+    ) in
+    rw parts (four_solved R f z n (op_lower R f (λ m. m.now) c.args.l) a b d e new.first new.second
+    new.third new.fourth one.front_len two.front_len three.front_len last
     (long.first ∙ one.front_len) (long.second ∙ two.front_len) (long.third ∙ three.front_len)
-    c.solve_side_by_side.ensures.first c.solve_side_by_side.ensures.second c.solve_side_by_side.ensures.third c.solve_side_by_side.ensures.fourth)
+    c.solve_side_by_side.ensures.first c.solve_side_by_side.ensures.second
+    c.solve_side_by_side.ensures.third c.solve_side_by_side.ensures.fourth)

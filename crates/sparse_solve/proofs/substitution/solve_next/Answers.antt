@@ -14,8 +14,11 @@ returns-then-ncols-from-lt4-clause-solved g c =
     let old = c.column_mut.result.now in
     let ws = c.solve_one.new.x in
     let lent = c.column_mut.ensures in
-    let solved = subst (λ n. SolvesColumn R n t (entries R f z ws) (entries R f z old)) lent.rows c.solve_one.ensures in
-    changes_more R f z from from (λ y x. SolvesColumn R b.nrows t x y) b b old ws (omega arith) (solves_on_rows R f z t b.nrows) lent.exact lent.rows c.solve_one.auto.x lent.values solved (changes_none R f z from (λ y x. SolvesColumn R b.nrows t x y) b)
+    let solved = subst (λ n. SolvesColumn R n t (entries R f z ws) (entries R f z old)) lent.rows
+    c.solve_one.ensures in
+    changes_more R f z from from (λ y x. SolvesColumn R b.nrows t x y) b b old ws (omega arith)
+    (solves_on_rows R f z t b.nrows) lent.exact lent.rows c.solve_one.auto.x lent.values solved
+    (changes_none R f z from (λ y x. SolvesColumn R b.nrows t x y) b)
 
 pub returns-clause-solved : goal.returns-clause-solved
 returns-clause-solved g c =
@@ -26,4 +29,6 @@ returns-clause-solved g c =
     let t = op_lower R f (λ m. m.now) c.args.l in
     let lent = c.columns_mut.ensures in
     let solved = rw c.nrows-nrows.ensures at c.solve_four.ensures in
-    changes_columns R f z c.args.from 4 (λ y x. SolvesColumn R b.nrows t x y) b c.columns_mut.result.now c.solve_four.new.x (omega arith) (solves_on_rows R f z t b.nrows) lent.exact lent.rows c.solve_four.auto.x lent.values solved
+    changes_columns R f z c.args.from 4 (λ y x. SolvesColumn R b.nrows t x y) b
+    c.columns_mut.result.now c.solve_four.new.x (omega arith) (solves_on_rows R f z t b.nrows)
+    lent.exact lent.rows c.solve_four.auto.x lent.values solved

@@ -8,5 +8,6 @@ invariant-loop-i g l = record {
   values_room : vec_capacity l.values ≡ vec_capacity l.indices;
   count : vec_len l.indices ≡ get_or l.offsets.items l.i 0;
   values_count : vec_len l.values ≡ vec_len l.indices;
-  built : IsSumBelow g.T.Ring.ring g.T.Ring.value (not (eqb g.row.NEGATE 0)) l.a l.b l.i (take (l.i + 1) l.offsets.items) l.indices.items l.values.items;
+  built : IsSumBelow g.T.Ring.ring g.T.Ring.value (not (eqb g.row.NEGATE 0)) l.a l.b l.i
+      (take (l.i + 1) l.offsets.items) l.indices.items l.values.items;
 }

@@ -3,10 +3,14 @@ use Rattle.std.proofs.lemmas.List.{get_or_default, take_all}
 use Rattle.sparse_cs.specs.InnerRows.{lane_value}
 use Rattle.sparse_sums.proofs.InOrder.{none_added, adding_hit, adding_miss, all_passed}
 use Rattle.sparse_sums.proofs.in_order.add_lane.Goals as goal
-use Rattle.sparse_sums.proofs.in_order.add_lane.Goals.{then-k-lane+then-target-p, else-k-lane, else-k-lane-via-then-k-lane+else-target-p, else-k-lane-via-else-k-lane}
+use Rattle.sparse_sums.proofs.in_order.add_lane.Goals.{then-k-lane+then-target-p, else-k-lane}
+use Rattle.sparse_sums.proofs.in_order.add_lane.Goals.{else-k-lane-via-then-k-lane+else-target-p}
+use Rattle.sparse_sums.proofs.in_order.add_lane.Goals.{else-k-lane-via-else-k-lane}
 
 pub loop-p-init : goal.loop-p-init
-loop-p-init g c = none_added g.T.Ring.ring g.T.Ring.value g.T.Zero.zero_value (g.T.Ring.value c.args.alpha) c.args.target.now c.args.lane.now c.args.lane_values.now c.args.start c.args.values.now
+loop-p-init g c = none_added g.T.Ring.ring g.T.Ring.value g.T.Zero.zero_value
+    (g.T.Ring.value c.args.alpha) c.args.target.now c.args.lane.now c.args.lane_values.now
+    c.args.start c.args.values.now
 
 pub loop-p-preserved : goal.loop-p-preserved
 loop-p-preserved g c =
@@ -25,13 +29,20 @@ loop-p-preserved g c =
       | then-k-lane+then-target-p w ↦
           let old = w.index-values-start in
           let v = w.index-lane_values-k in
-          let read = old.is ∙ get_or_default now (c.args.start + p) old.result z (omega (arith, inv.count, r.inside)) in
-          let sum = w.add.ensures ∙ ap (λ x. R.add x (f w.mul.result)) (ap f read) ∙ ap (R.add (f (get_or now (c.args.start + p) z))) w.mul.ensures in
-          rw (w.values-is, w.k-is) (adding_hit R f z (f c.args.alpha) target lane us c.args.start r.target_rising r.rising r.count c.args.values.now now p k (omega arith) r.inside inv (omega arith) (omega arith) v.result w.add.result v.is sum)
-      | else-k-lane w ↦ rw (w.values-is, w.k-is) (adding_miss R f z (f c.args.alpha) target lane us c.args.start r.target_rising r.rising r.count c.args.values.now now p k (omega arith) r.inside inv (λ lt same. elim w.else-k-lane.branch [
-        | else-k-lane-via-then-k-lane+else-target-p u ↦ absurd (omega arith)
-        | else-k-lane-via-else-k-lane u ↦ absurd (omega arith)
-      ]))
+          let read = old.is ∙ get_or_default now (c.args.start + p) old.result z
+          (omega (arith, inv.count, r.inside)) in
+          let sum = w.add.ensures ∙ ap (λ x. R.add x (f w.mul.result)) (ap f read)
+          ∙ ap (R.add (f (get_or now (c.args.start + p) z))) w.mul.ensures in
+          rw (w.values-is, w.k-is) (adding_hit R f z (f c.args.alpha) target lane us c.args.start
+          r.target_rising r.rising r.count c.args.values.now now p k (omega arith) r.inside inv
+          (omega arith) (omega arith) v.result w.add.result v.is sum)
+      | else-k-lane w ↦ rw (w.values-is, w.k-is)
+          (adding_miss R f z (f c.args.alpha) target lane us c.args.start r.target_rising r.rising
+          r.count c.args.values.now now p k (omega arith) r.inside inv
+          (λ lt same. elim w.else-k-lane.branch [
+            | else-k-lane-via-then-k-lane+else-target-p u ↦ absurd (omega arith)
+            | else-k-lane-via-else-k-lane u ↦ absurd (omega arith)
+          ]))
     ]
 
 pub returns-clause-added : goal.returns-clause-added
@@ -42,9 +53,13 @@ returns-clause-added g c = λ m lt.
     let us = c.args.lane_values.now in
     let k = c.loop-p.k in
     let end : c.loop-p.p ≡ length c.args.target.now = omega arith in
-    let all : k ≡ length lane = (all_passed c.args.target.now lane k (rw end at c.loop-p.invariant.passed)).1 c.requires.covered in
+    let all : k ≡ length lane =
+    (all_passed c.args.target.now lane k (rw end at c.loop-p.invariant.passed)).1
+    c.requires.covered in
     let at = get_or c.args.target.now m 0 in
     let start = f (get_or c.args.values.now (c.args.start + m) g.T.Zero.zero_value) in
     c.loop-p.invariant.sums m lt
-    ∙ ap (λ l. R.add start (R.mul (f c.args.alpha) (lane_value R f l (take k us) at))) (take_all k lane (omega (arith, all)))
-    ∙ ap (λ l. R.add start (R.mul (f c.args.alpha) (lane_value R f lane l at))) (take_all k us (omega (arith, all, c.requires.count)))
+    ∙ ap (λ l. R.add start (R.mul (f c.args.alpha) (lane_value R f l (take k us) at)))
+    (take_all k lane (omega (arith, all)))
+    ∙ ap (λ l. R.add start (R.mul (f c.args.alpha) (lane_value R f lane l at)))
+    (take_all k us (omega (arith, all, c.requires.count)))

@@ -1,4 +1,5 @@
-use Rattle.std.proofs.Common.{◌≡◌, ◌+◌, inl, inr, not, eqb, length, length-append, get_or, vec_capacity, refl, ap, ◌∙◌, arith}
+use Rattle.std.proofs.Common.{◌≡◌, ◌+◌, inl, inr, not, eqb, length, length-append, get_or}
+use Rattle.std.proofs.Common.{vec_capacity, refl, ap, ◌∙◌, arith}
 use Rattle.sparse_sums.specs.InnerSigns.{signed}
 use Rattle.sparse_sums.proofs.Adding.{none_added, adding_first, adding_second, adding_both}
 use Rattle.sparse_sums.proofs.UnionCounts.{room_left, rest_fits}
@@ -8,21 +9,45 @@ pub prove-unreachable-requires : goal.prove-unreachable-requires
 prove-unreachable-requires g c =
     let m = c.loop-p.invariant.added.indices in
     let room = c.requires.room in
-    let left = room_left c.args.a.now c.args.b.now m.lane room.lane c.loop-p.p c.loop-p.q m.merged room.union (omega arith) in
-    let pushed : length c.loop-p.indices.items ≡ length c.args.indices.now.items + length m.lane = ap length m.pushed ∙ length-append c.args.indices.now.items m.lane in
-    omega (arith, left, pushed, room.fits, c.loop-p.indices.ok.0, c.args.indices.now.ok.0, c.loop-p.invariant.capacity)
+    let left = room_left c.args.a.now c.args.b.now m.lane room.lane c.loop-p.p c.loop-p.q m.merged
+    room.union (omega arith) in
+    let pushed : length c.loop-p.indices.items ≡ length c.args.indices.now.items + length m.lane =
+    ap length m.pushed ∙ length-append c.args.indices.now.items m.lane in
+    omega (
+      arith,
+      left,
+      pushed,
+      room.fits,
+      c.loop-p.indices.ok.0,
+      c.args.indices.now.ok.0,
+      c.loop-p.invariant.capacity,
+    )
 
 pub returns-else-q-b-clause-room : goal.returns-else-q-b-clause-room
 returns-else-q-b-clause-room g c =
     let inv = c.loop-p.invariant in
     let room = rw c.args.indices.now.ok.0 at c.requires.room in
-    omega (arith, c.loop-p.indices.ok.0, rest_fits c.args.indices.now.items c.loop-p.indices.items c.args.a.now c.args.b.now c.loop-p.p c.loop-p.q (vec_capacity c.args.indices.now) c.requires.a_rising c.requires.b_rising inv.first inv.second (inr (omega arith)) inv.added.indices room)
+    omega (
+      arith,
+      c.loop-p.indices.ok.0,
+      rest_fits c.args.indices.now.items c.loop-p.indices.items
+          c.args.a.now c.args.b.now c.loop-p.p c.loop-p.q (vec_capacity c.args.indices.now)
+          c.requires.a_rising c.requires.b_rising inv.first inv.second (inr (omega arith))
+          inv.added.indices room,
+    )
 
 pub returns-after-loop-p-clause-room : goal.returns-after-loop-p-clause-room
 returns-after-loop-p-clause-room g c =
     let inv = c.loop-p.invariant in
     let room = rw c.args.indices.now.ok.0 at c.requires.room in
-    omega (arith, c.loop-p.indices.ok.0, rest_fits c.args.indices.now.items c.loop-p.indices.items c.args.a.now c.args.b.now c.loop-p.p c.loop-p.q (vec_capacity c.args.indices.now) c.requires.a_rising c.requires.b_rising inv.first inv.second (inl (omega arith)) inv.added.indices room)
+    omega (
+      arith,
+      c.loop-p.indices.ok.0,
+      rest_fits c.args.indices.now.items c.loop-p.indices.items
+          c.args.a.now c.args.b.now c.loop-p.p c.loop-p.q (vec_capacity c.args.indices.now)
+          c.requires.a_rising c.requires.b_rising inv.first inv.second (inl (omega arith))
+          inv.added.indices room,
+    )
 
 pub loop-p-init : goal.loop-p-init
 loop-p-init g c =
@@ -35,7 +60,8 @@ loop-p-init g c =
       capacity = refl;
       values_capacity = refl;
       values_count = c.requires.count;
-      added = none_added R f h c.args.indices.now.items c.args.values.now.items c.args.a.now c.args.a_values.now c.args.b.now c.args.b_values.now;
+      added = none_added R f h c.args.indices.now.items c.args.values.now.items c.args.a.now
+          c.args.a_values.now c.args.b.now c.args.b_values.now;
     }
 
 pub loop-p-preserved-then-j-k : goal.loop-p-preserved-then-j-k
@@ -48,7 +74,11 @@ loop-p-preserved-then-j-k g c =
     let inv = c.loop-p.invariant in
     let index = c.push_reserved.ensures in
     let value = c.push_reserved-then-j-k.ensures in
-    let next = adding_first R f h c.args.indices.now.items c.args.values.now.items a c.args.a_values.now c.args.b.now c.args.b_values.now c.loop-p.indices.items c.loop-p.values.items p c.loop-p.q c.requires.a_rising c.requires.b_rising c.requires.a_count c.requires.b_count inv.added (get_or a p 0) c.index-a_values-p.result (omega arith) refl (λ _. omega arith) c.index-a_values-p.is in
+    let next = adding_first R f h c.args.indices.now.items c.args.values.now.items a
+    c.args.a_values.now c.args.b.now c.args.b_values.now c.loop-p.indices.items
+    c.loop-p.values.items p c.loop-p.q c.requires.a_rising c.requires.b_rising
+    c.requires.a_count c.requires.b_count inv.added (get_or a p 0) c.index-a_values-p.result
+    (omega arith) refl (λ _. omega arith) c.index-a_values-p.is in
     record {
       first = omega arith;
       second = omega arith;
@@ -68,7 +98,11 @@ loop-p-preserved-then-k-j g c =
     let inv = c.loop-p.invariant in
     let index = c.push_reserved-then-k-j.ensures in
     let value = c.push_reserved-then-k-j-2.ensures in
-    let next = adding_second R f h c.args.indices.now.items c.args.values.now.items c.args.a.now c.args.a_values.now b c.args.b_values.now c.loop-p.indices.items c.loop-p.values.items c.loop-p.p q c.requires.a_rising c.requires.b_rising c.requires.a_count c.requires.b_count inv.added (get_or b q 0) c.with_sign.result (omega arith) refl (λ _. omega arith) c.index-b_values-q.result c.index-b_values-q.is c.with_sign.ensures in
+    let next = adding_second R f h c.args.indices.now.items c.args.values.now.items c.args.a.now
+    c.args.a_values.now b c.args.b_values.now c.loop-p.indices.items c.loop-p.values.items
+    c.loop-p.p q c.requires.a_rising c.requires.b_rising c.requires.a_count c.requires.b_count
+    inv.added (get_or b q 0) c.with_sign.result (omega arith) refl (λ _. omega arith)
+    c.index-b_values-q.result c.index-b_values-q.is c.with_sign.ensures in
     record {
       first = omega arith;
       second = omega arith;
@@ -90,8 +124,14 @@ loop-p-preserved g c =
     let index = c.push_reserved-else-k-j.ensures in
     let value = c.push_reserved-else-k-j-2.ensures in
     let same : get_or a p 0 ≡ get_or c.args.b.now q 0 = omega arith in
-    let sum = c.add.ensures ∙ ap (R.add (f c.index-a_values-p-else-k-j.result)) c.with_sign-else-k-j.ensures in
-    let next = adding_both R f h c.args.indices.now.items c.args.values.now.items a c.args.a_values.now c.args.b.now c.args.b_values.now c.loop-p.indices.items c.loop-p.values.items p q c.requires.a_rising c.requires.b_rising c.requires.a_count c.requires.b_count inv.added (get_or a p 0) c.add.result (omega arith) (omega arith) refl same c.index-a_values-p-else-k-j.result c.index-b_values-q-else-k-j.result c.index-a_values-p-else-k-j.is c.index-b_values-q-else-k-j.is sum in
+    let sum = c.add.ensures ∙ ap (R.add (f c.index-a_values-p-else-k-j.result))
+    c.with_sign-else-k-j.ensures in
+    let next = adding_both R f h c.args.indices.now.items c.args.values.now.items a
+    c.args.a_values.now c.args.b.now c.args.b_values.now c.loop-p.indices.items
+    c.loop-p.values.items p q c.requires.a_rising c.requires.b_rising c.requires.a_count
+    c.requires.b_count inv.added (get_or a p 0) c.add.result (omega arith) (omega arith) refl
+    same c.index-a_values-p-else-k-j.result c.index-b_values-q-else-k-j.result
+    c.index-a_values-p-else-k-j.is c.index-b_values-q-else-k-j.is sum in
     record {
       first = omega arith;
       second = omega arith;

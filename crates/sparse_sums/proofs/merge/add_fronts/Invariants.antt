@@ -10,7 +10,11 @@ invariant-loop-p g l = record {
   capacity : vec_capacity l.indices ≡ vec_capacity l.initial.indices;
   values_capacity : vec_capacity l.values ≡ vec_capacity l.initial.values;
   values_count : vec_len l.values ≡ vec_len l.indices;
-  added : IsAdding g.T.Ring.ring g.T.Ring.value (λ x. signed g.T.Ring.ring (not (eqb g.row.NEGATE 0)) (g.T.Ring.value x)) l.initial.indices.items l.indices.items l.initial.values.items l.values.items l.a l.a_values l.b l.b_values l.p l.q;
+  added : IsAdding g.T.Ring.ring g.T.Ring.value
+      (λ x. signed g.T.Ring.ring (not (eqb g.row.NEGATE 0)) (g.T.Ring.value x))
+      l.initial.indices.items l.indices.items l.initial.values.items l.values.items l.a l.a_values
+      l.b
+      l.b_values l.p l.q;
 }
 
 abbrev pub decreases-loop-p : goal.decreases-loop-p

@@ -1,4 +1,5 @@
-use Rattle.std.proofs.Common.{not, eqb, ◌++◌, length, drop, Contains, ◌⊎◌, subst, sym, ap, ◌∙◌, arith}
+use Rattle.std.proofs.Common.{not, eqb, ◌++◌, length, drop, Contains, ◌⊎◌, subst, sym, ap, ◌∙◌}
+use Rattle.std.proofs.Common.{arith}
 use Rattle.std.proofs.lemmas.List.{take_rest, length-drop}
 use Rattle.sparse_cs.specs.InnerRows.{lane_value}
 use Rattle.sparse_sums.specs.InnerSigns.{signed}
@@ -7,16 +8,54 @@ use Rattle.sparse_sums.proofs.Adding.{rest_added}
 use Rattle.sparse_sums.proofs.merge.add_lanes.Goals as goal
 
 pub push_rest-requires-clause-room : goal.push_rest-requires-clause-room
-push_rest-requires-clause-room g c = rw take_rest (omega (arith, length-drop c.add_fronts-p.result.0 c.args.a.now, c.add_fronts-p.ensures.room, c.add_fronts-p.ensures.capacity))
+push_rest-requires-clause-room g c = rw take_rest
+    (omega (
+      arith,
+      length-drop c.add_fronts-p.result.0 c.args.a.now,
+      c.add_fronts-p.ensures.room,
+      c.add_fronts-p.ensures.capacity,
+    ))
 
 pub push_rest-requires-clause-values_room : goal.push_rest-requires-clause-values_room
-push_rest-requires-clause-values_room g c = rw take_rest (omega (arith, length-drop c.add_fronts-p.result.0 c.args.a.now, c.add_fronts-p.ensures.room, c.add_fronts-p.ensures.count, c.add_fronts-p.ensures.values_capacity))
+push_rest-requires-clause-values_room g c =
+    rw take_rest
+    (omega (
+      arith,
+      length-drop c.add_fronts-p.result.0 c.args.a.now,
+      c.add_fronts-p.ensures.room,
+      c.add_fronts-p.ensures.count,
+      c.add_fronts-p.ensures.values_capacity,
+    ))
 
 pub push_rest-requires-2-clause-room : goal.push_rest-requires-2-clause-room
-push_rest-requires-2-clause-room g c = rw take_rest (omega (arith, length-drop c.add_fronts-p.result.1 c.args.b.now, ap length (take_rest c.args.a.now c.add_fronts-p.result.0), length-drop c.add_fronts-p.result.0 c.args.a.now, c.add_fronts-p.ensures.room, c.add_fronts-p.ensures.capacity, c.push_rest.ensures.len, c.push_rest.ensures.capacity))
+push_rest-requires-2-clause-room g c = rw take_rest
+    (omega (
+      arith,
+      length-drop c.add_fronts-p.result.1 c.args.b.now,
+      ap length (take_rest c.args.a.now c.add_fronts-p.result.0),
+      length-drop c.add_fronts-p.result.0
+          c.args.a.now,
+      c.add_fronts-p.ensures.room,
+      c.add_fronts-p.ensures.capacity,
+      c.push_rest.ensures.len,
+      c.push_rest.ensures.capacity,
+    ))
 
 pub push_rest-requires-2-clause-values_room : goal.push_rest-requires-2-clause-values_room
-push_rest-requires-2-clause-values_room g c = rw take_rest (omega (arith, length-drop c.add_fronts-p.result.1 c.args.b.now, ap length (take_rest c.args.a.now c.add_fronts-p.result.0), length-drop c.add_fronts-p.result.0 c.args.a.now, c.add_fronts-p.ensures.room, c.add_fronts-p.ensures.count, c.add_fronts-p.ensures.values_capacity, c.push_rest.ensures.values_len, c.push_rest.ensures.values_capacity))
+push_rest-requires-2-clause-values_room g c =
+    rw take_rest
+    (omega (
+      arith,
+      length-drop c.add_fronts-p.result.1 c.args.b.now,
+      ap length (take_rest c.args.a.now c.add_fronts-p.result.0),
+      length-drop c.add_fronts-p.result.0
+          c.args.a.now,
+      c.add_fronts-p.ensures.room,
+      c.add_fronts-p.ensures.count,
+      c.add_fronts-p.ensures.values_capacity,
+      c.push_rest.ensures.values_len,
+      c.push_rest.ensures.values_capacity,
+    ))
 
 pub returns-clause-gained : goal.returns-clause-gained
 returns-clause-gained g c =
@@ -37,8 +76,14 @@ returns-clause-gained g c =
     let mid = c.push_rest.new.values.items in
     let new = c.push_rest-2.new.values.items in
     let first = c.push_rest.ensures.indices ∙ ap (λ l. now ++ l) (take_rest a p) in
-    let second = c.push_rest-2.ensures.indices ∙ ap (λ l. c.push_rest.new.indices.items ++ l) (take_rest b q) ∙ ap (λ l. l ++ drop q b) first in
-    let front : GainsValues R f f ws mid (drop p av) = subst (λ l. GainsValues R f f ws mid l) (take_rest av p) c.push_rest.ensures.values in
-    let more : GainsValues R f h mid new (drop q bv) = subst (λ l. GainsValues R f h mid new l) (take_rest bv q) c.push_rest-2.ensures.values in
-    let all = rest_added R f h old us a av b bv c.requires.a_rising c.requires.b_rising c.requires.a_count c.requires.b_count now ws mid new p q m.first m.second m.end m.added front more in
-    subst (λ l. GainsEntries R f old l us new (λ j. Contains a j ⊎ Contains b j) (λ j. R.add (lane_value R f a av j) (lane_value R h b bv j))) (sym second) all
+    let second = c.push_rest-2.ensures.indices ∙ ap (λ l. c.push_rest.new.indices.items ++ l)
+    (take_rest b q) ∙ ap (λ l. l ++ drop q b) first in
+    let front : GainsValues R f f ws mid (drop p av) = subst (λ l. GainsValues R f f ws mid l)
+    (take_rest av p) c.push_rest.ensures.values in
+    let more : GainsValues R f h mid new (drop q bv) = subst (λ l. GainsValues R f h mid new l)
+    (take_rest bv q) c.push_rest-2.ensures.values in
+    let all = rest_added R f h old us a av b bv c.requires.a_rising c.requires.b_rising
+    c.requires.a_count c.requires.b_count now ws mid new p q m.first m.second m.end m.added
+    front more in
+    subst (λ l. GainsEntries R f old l us new (λ j. Contains a j ⊎ Contains b j)
+    (λ j. R.add (lane_value R f a av j) (lane_value R h b bv j))) (sym second) all

@@ -10,5 +10,8 @@ invariant-loop-k g l = record {
   count : vec_len l.indices ≡ vec_len l.initial.indices + l.k;
   values_count : vec_len l.values ≡ vec_len l.initial.values + l.k;
   indices : l.indices.items ≡ l.initial.indices.items ++ take l.k l.rest;
-  values : GainsValues g.T.Ring.ring g.T.Ring.value (λ x. signed g.T.Ring.ring (not (eqb g.row.NEGATE 0)) (g.T.Ring.value x)) l.initial.values.items l.values.items (take l.k l.rest_values);
+  values : GainsValues g.T.Ring.ring g.T.Ring.value
+      (λ x. signed g.T.Ring.ring (not (eqb g.row.NEGATE 0)) (g.T.Ring.value x))
+      l.initial.values.items
+      l.values.items (take l.k l.rest_values);
 }

@@ -13,7 +13,10 @@ loop-p-preserved-then-j-k c =
       second = omega arith;
       capacity = c.push_reserved.ensures.capacity ∙ c.loop-p.invariant.capacity;
       count = omega (arith, c.push_reserved.ensures.len, c.loop-p.invariant.count);
-      merged = rw c.push_reserved.ensures.items (merging_first c.args.indices.now.items c.loop-p.indices.items a b p q c.requires.a_rising c.requires.b_rising c.loop-p.invariant.merged (get_or a p 0) (omega arith) refl (λ _. omega arith));
+      merged = rw c.push_reserved.ensures.items
+          (merging_first c.args.indices.now.items c.loop-p.indices.items a b p q c.requires.a_rising
+          c.requires.b_rising c.loop-p.invariant.merged (get_or a p 0) (omega arith) refl
+          (λ _. omega arith));
     }
 
 pub loop-p-preserved-then-k-j : goal.loop-p-preserved-then-k-j
@@ -27,7 +30,11 @@ loop-p-preserved-then-k-j c =
       second = omega arith;
       capacity = c.push_reserved-then-k-j.ensures.capacity ∙ c.loop-p.invariant.capacity;
       count = omega (arith, c.push_reserved-then-k-j.ensures.len, c.loop-p.invariant.count);
-      merged = rw c.push_reserved-then-k-j.ensures.items (merging_second c.args.indices.now.items c.loop-p.indices.items a b p q c.requires.a_rising c.requires.b_rising c.loop-p.invariant.merged (get_or b q 0) (omega arith) refl (λ _. omega arith));
+      merged = rw c.push_reserved-then-k-j.ensures.items
+          (merging_second c.args.indices.now.items c.loop-p.indices.items a b p q
+          c.requires.a_rising
+          c.requires.b_rising c.loop-p.invariant.merged (get_or b q 0) (omega arith) refl
+          (λ _. omega arith));
     }
 
 pub loop-p-preserved : goal.loop-p-preserved
@@ -42,5 +49,8 @@ loop-p-preserved c =
       second = omega arith;
       capacity = c.push_reserved-else-k-j.ensures.capacity ∙ c.loop-p.invariant.capacity;
       count = omega (arith, c.push_reserved-else-k-j.ensures.len, c.loop-p.invariant.count);
-      merged = rw c.push_reserved-else-k-j.ensures.items (merging_both c.args.indices.now.items c.loop-p.indices.items a b p q c.requires.a_rising c.requires.b_rising c.loop-p.invariant.merged (get_or a p 0) (omega arith) (omega arith) refl same);
+      merged = rw c.push_reserved-else-k-j.ensures.items
+          (merging_both c.args.indices.now.items c.loop-p.indices.items a b p q c.requires.a_rising
+          c.requires.b_rising c.loop-p.invariant.merged (get_or a p 0) (omega arith) (omega arith)
+          refl same);
     }

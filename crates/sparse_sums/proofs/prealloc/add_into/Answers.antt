@@ -8,9 +8,16 @@ pub returns-clause-added : goal.returns-clause-added
 returns-clause-added g c = λ i j p at.
     let R = g.T.Ring.ring in
     let f = g.T.Ring.value in
-    let within : p < length c.args.values.now = omega (arith, position_within c.args.pattern.now c.major_offsets.ensures.valid i j p at, c.requires.count) in
-    let x = R.mul (f c.args.alpha) ((plain_turned R false (plain_of_rows R f c.args.a.now)).value i j) in
-    c.add_in_order.ensures.added i j p at ∙ ap (λ y. R.add y x) (c.scale_values.ensures.each p within)
+    let within : p < length c.args.values.now =
+    omega (
+      arith,
+      position_within c.args.pattern.now c.major_offsets.ensures.valid i j p at,
+      c.requires.count,
+    ) in
+    let x = R.mul (f c.args.alpha) ((plain_turned R false (plain_of_rows R f c.args.a.now)).value i
+    j) in
+    c.add_in_order.ensures.added i j p at ∙ ap (λ y. R.add y x)
+    (c.scale_values.ensures.each p within)
 
 pub returns-then-not-covers_lanes-clause-covered : goal.returns-then-not-covers_lanes-clause-covered
 returns-then-not-covers_lanes-clause-covered g c =

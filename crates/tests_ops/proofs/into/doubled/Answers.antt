@@ -8,8 +8,10 @@ use Rattle.tests_ops.proofs.into.doubled.Goals as goal
 covered : {R : CommRing} (x y : Plain R) → y ≡ x → IsCovered x y
 covered {R} x y e i j h = subst (λ (p : Plain R). p.has i j ≡ true) (sym e) h
 
-pub spmm_csr_prealloc_unchecked_counted-added-requires-clause-covered : goal.spmm_csr_prealloc_unchecked_counted-added-requires-clause-covered
+pub spmm_csr_prealloc_unchecked_counted-added-requires-clause-covered :
+    goal.spmm_csr_prealloc_unchecked_counted-added-requires-clause-covered
 spmm_csr_prealloc_unchecked_counted-added-requires-clause-covered c = covered _ _ c.in_ok-c.ensures
 
-pub spmm_csr_prealloc_unchecked-added-requires-clause-covered : goal.spmm_csr_prealloc_unchecked-added-requires-clause-covered
+pub spmm_csr_prealloc_unchecked-added-requires-clause-covered :
+    goal.spmm_csr_prealloc_unchecked-added-requires-clause-covered
 spmm_csr_prealloc_unchecked-added-requires-clause-covered c = covered _ _ c.in_ok-c.ensures

@@ -8,5 +8,6 @@ use Rattle.tests_ops.proofs.into.doubled_by_columns.Goals as goal
 covered : {R : CommRing} (x y : Plain R) → y ≡ x → IsCovered x y
 covered {R} x y e i j h = subst (λ (p : Plain R). p.has i j ≡ true) (sym e) h
 
-pub spmm_csc_prealloc_unchecked-added-requires-clause-covered : goal.spmm_csc_prealloc_unchecked-added-requires-clause-covered
+pub spmm_csc_prealloc_unchecked-added-requires-clause-covered :
+    goal.spmm_csc_prealloc_unchecked-added-requires-clause-covered
 spmm_csc_prealloc_unchecked-added-requires-clause-covered c = covered _ _ c.in_ok-c.ensures

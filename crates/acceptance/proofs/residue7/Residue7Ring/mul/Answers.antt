@@ -4,4 +4,5 @@ use Rattle.acceptance.specs.Residue7.{residue7_same}
 use Rattle.acceptance.proofs.residue7.Residue7Ring.mul.Goals as goal
 
 pub returns : goal.returns
-returns c = residue7_same _ _ (mul-mod_left c.args.self.number (c.args.other.number % 7) 7 ∙ mul-mod_right c.args.self.number c.args.other.number 7)
+returns c = residue7_same _ _ (mul-mod_left c.args.self.number (c.args.other.number % 7) 7
+    ∙ mul-mod_right c.args.self.number c.args.other.number 7)

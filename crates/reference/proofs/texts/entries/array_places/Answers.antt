@@ -15,4 +15,5 @@ pub returns : goal.returns
 unfolding array_places
 returns c =
     let all : c.loop-col.col ≡ c.args.ncols = omega arith in
-    c.loop-col.invariant ∙ ap (λ (n : ℕ). flat_map (column c.args.symmetry c.args.nrows) (range_with_len 0 n)) all
+    c.loop-col.invariant ∙ ap (λ (n : ℕ). flat_map (column c.args.symmetry c.args.nrows)
+    (range_with_len 0 n)) all

@@ -8,4 +8,6 @@ use Rattle.reference.proofs.texts.entries.placed_entries.Goals as goal
 pub returns-then-is_empty : goal.returns-then-is_empty
 returns-then-is_empty g c =
     ap (λ ts. Ok (map (value_triplet g.T.MatrixMarketScalar.value) ts)) c.new.ensures.items
-    ∙ no_lines g.T.MatrixMarketScalar.scalar c.args.header (places_of c.args.header.format c.args.header.symmetry c.args.nrows c.args.ncols) c.args.lines.now (eqb-true _ _ (sym c.is_empty.ensures ∙ c.if-is_empty.true))
+    ∙ no_lines g.T.MatrixMarketScalar.scalar c.args.header
+    (places_of c.args.header.format c.args.header.symmetry c.args.nrows c.args.ncols)
+    c.args.lines.now (eqb-true _ _ (sym c.is_empty.ensures ∙ c.if-is_empty.true))

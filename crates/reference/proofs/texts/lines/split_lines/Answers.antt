@@ -6,4 +6,6 @@ use Rattle.sparse_parser.specs.Bytes.{is_line_end}
 use Rattle.reference.proofs.texts.lines.split_lines.Goals as goal
 
 pub returns : goal.returns
-returns c = map_from_collect _ c.collect.ensures.ran (YieldsList-from_slice_split _ is_line_end c.args.text.now (cc) (cc) (cc) (λ x b q k. search (rules, tests)))
+returns c = map_from_collect _ c.collect.ensures.ran
+    (YieldsList-from_slice_split _ is_line_end c.args.text.now (cc) (cc) (cc)
+    (λ x b q k. search (rules, tests)))

@@ -5,4 +5,5 @@ use Rattle.reference.specs.InnerTexts.{lines_in}
 use Rattle.reference.proofs.texts.lines.without_comments.Given as goal
 
 abbrev pub invariant-loop-line : goal.invariant-loop-line
-invariant-loop-line l = lines_in l.contents.items ≡ filter is_content (take l.line-index (lines_in l.lines))
+invariant-loop-line l = lines_in l.contents.items ≡ filter is_content
+    (take l.line-index (lines_in l.lines))

@@ -9,4 +9,7 @@ use Rattle.reference.proofs.texts.lines.words.Goals as goal
 
 pub returns : goal.returns
 unfolding words_of
-returns c = map_from_collect _ c.collect.ensures.ran (YieldsList-from_filter _ is_some_word (YieldsList-from_slice_split _ is_blank c.args.line.now (cc) (cc) (cc) (λ x b q k. search (rules, tests))) c.filter.ensures.closure (λ x b q k. search rules))
+returns c = map_from_collect _ c.collect.ensures.ran
+    (YieldsList-from_filter _ is_some_word (YieldsList-from_slice_split _ is_blank c.args.line.now
+    (cc) (cc) (cc) (λ x b q k. search (rules, tests))) c.filter.ensures.closure
+    (λ x b q k. search rules))

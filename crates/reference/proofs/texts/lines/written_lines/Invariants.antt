@@ -4,4 +4,5 @@ use Rattle.reference.specs.InnerTexts.{texts, lines_in}
 use Rattle.reference.proofs.texts.lines.written_lines.Given as goal
 
 abbrev pub invariant-loop-line : goal.invariant-loop-line
-invariant-loop-line l = lines_in l.written.items ≡ written_lines (take l.line-index (texts l.line-items))
+invariant-loop-line l = lines_in l.written.items ≡ written_lines
+    (take l.line-index (texts l.line-items))

@@ -16,7 +16,9 @@ three_words words a b c (d ∷ rest) e h = let f = rw e at h in cc
 pub returns-in-Coordinate : goal.returns-in-Coordinate
 returns-in-Coordinate c =
     let words = texts c.args.words.now in
-    let all = c.in-Some.ensures ∙ ap (λ (ws : List (List ℕ)). c.in-Some.rows.now ∷ ws) (c.in-Some-first_word.ensures ∙ ap (λ (ws : List (List ℕ)). c.in-Some-first_word.cols.now ∷ ws) c.in-Some-first_word-2.ensures) in
+    let all = c.in-Some.ensures ∙ ap (λ (ws : List (List ℕ)). c.in-Some.rows.now ∷ ws)
+    (c.in-Some-first_word.ensures ∙ ap (λ (ws : List (List ℕ)). c.in-Some-first_word.cols.now
+    ∷ ws) c.in-Some-first_word-2.ensures) in
     c.coordinate_sizes.ensures c.args.symmetry
     ∙ sym (ap (λ (f : Format). numbers_of_size f c.args.symmetry words) c.in-Coordinate.is
     ∙ ap (numbers_of_size Coordinate c.args.symmetry) (three_words words _ _ _ _ all c.requires))

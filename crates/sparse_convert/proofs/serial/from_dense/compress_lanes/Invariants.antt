@@ -10,5 +10,6 @@ invariant-loop-lane g l =
     let now = arrays_of l.lane l.minor_dim l.offsets.items l.indices.items l.kept.items in
     record {
       sound : IsSound now;
-      triplets : lane_triplets now ≡ filter (differs_from g.T.PartialEq.eq z) (full_lanes l.lane l.minor_dim (λ i k. get_or l.values (i * l.lane_step + k * l.step) z));
+      triplets : lane_triplets now ≡ filter (differs_from g.T.PartialEq.eq z)
+          (full_lanes l.lane l.minor_dim (λ i k. get_or l.values (i * l.lane_step + k * l.step) z));
     }

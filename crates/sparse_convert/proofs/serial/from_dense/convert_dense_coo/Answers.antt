@@ -13,8 +13,11 @@ loop-j-preserved g c =
     let d = c.args.dense.now in
     let j = c.loop-j.j in
     let column = c.column.result.now in
-    c.in_ok-push_column.ensures ∙ ap (λ m. appended m (filter (differs_from E z) (map (λ i. (i, j, get_or column i z)) (below (length column))))) c.loop-j.invariant
-    ∙ ap (coo_of d.nrows d.ncols) (column_more E z d j column c.column.ensures.rows c.column.ensures.values)
+    c.in_ok-push_column.ensures
+    ∙ ap (λ m. appended m (filter (differs_from E z)
+    (map (λ i. (i, j, get_or column i z)) (below (length column))))) c.loop-j.invariant
+    ∙ ap (coo_of d.nrows d.ncols) (column_more E z d j column c.column.ensures.rows
+    c.column.ensures.values)
 
 pub returns-then-nrows-eq0 : goal.returns-then-nrows-eq0
 returns-then-nrows-eq0 g c =

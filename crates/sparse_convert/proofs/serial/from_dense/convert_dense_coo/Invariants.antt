@@ -9,4 +9,6 @@ use Rattle.sparse_convert.proofs.serial.from_dense.convert_dense_coo.Given as go
 abbrev pub invariant-loop-j : goal.invariant-loop-j
 invariant-loop-j g l =
     let z = g.T.Zero.zero_value in
-    l.coo ≡ coo_of l.dense.nrows l.dense.ncols (filter (differs_from g.T.PartialEq.eq z) (flat_map (λ j. map (λ i. (i, j, value_at l.dense i j z)) (below l.dense.nrows)) (below l.j)))
+    l.coo ≡ coo_of l.dense.nrows l.dense.ncols
+    (filter (differs_from g.T.PartialEq.eq z)
+    (flat_map (λ j. map (λ i. (i, j, value_at l.dense i j z)) (below l.dense.nrows)) (below l.j)))

@@ -10,5 +10,8 @@ returns-clause-kept g c =
     let E = g.T.PartialEq.eq in
     let z = g.T.Zero.zero_value in
     let d = c.args.dense.now in
-    let kept = rw (c.nrows-nrows.ensures, c.ncols-ncols.ensures, c.as_slice.ensures.values) at c.in_ok-cs.ensures.kept in
-    rw c.from_cs.ensures (ap (map turned) (kept ∙ ap (filter (differs_from E z)) (lanes_by_columns z d)) ∙ sym (kept_columns E z d))
+    let kept = rw (c.nrows-nrows.ensures, c.ncols-ncols.ensures, c.as_slice.ensures.values) at
+    c.in_ok-cs.ensures.kept in
+    rw c.from_cs.ensures
+    (ap (map turned) (kept ∙ ap (filter (differs_from E z)) (lanes_by_columns z d))
+    ∙ sym (kept_columns E z d))

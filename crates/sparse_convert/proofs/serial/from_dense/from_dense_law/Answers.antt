@@ -17,9 +17,16 @@ returns g c =
     record {
       coo = λ d. triplets_part R f E z zero_is decides d;
       csc = λ d m rows cols is.
-          let sizes = ap (λ n. plain_transpose R (plain_of_triplets R f n m.pattern.minor_dim (lane_triplets m))) cols ∙ ap (λ k. plain_transpose R (plain_of_triplets R f d.ncols k (lane_triplets m))) rows in
-          subst (IsNonzeroPart (plain_of_dense R f d)) (sym sizes) (cols_part R f E z zero_is decides d (lane_triplets m) is);
+          let sizes = ap
+          (λ n. plain_transpose R (plain_of_triplets R f n m.pattern.minor_dim
+          (lane_triplets m))) cols
+          ∙ ap (λ k. plain_transpose R (plain_of_triplets R f d.ncols k (lane_triplets m)))
+          rows in
+          subst (IsNonzeroPart (plain_of_dense R f d)) (sym sizes)
+          (cols_part R f E z zero_is decides d (lane_triplets m) is);
       csr = λ d m rows cols is.
-          let sizes = ap (λ n. plain_of_triplets R f n m.pattern.minor_dim (lane_triplets m)) rows ∙ ap (λ k. plain_of_triplets R f d.nrows k (lane_triplets m)) cols in
-          subst (IsNonzeroPart (plain_of_dense R f d)) (sym sizes) (rows_part R f E z zero_is decides d (lane_triplets m) is);
+          let sizes = ap (λ n. plain_of_triplets R f n m.pattern.minor_dim (lane_triplets m)) rows
+          ∙ ap (λ k. plain_of_triplets R f d.nrows k (lane_triplets m)) cols in
+          subst (IsNonzeroPart (plain_of_dense R f d)) (sym sizes)
+          (rows_part R f E z zero_is decides d (lane_triplets m) is);
     }

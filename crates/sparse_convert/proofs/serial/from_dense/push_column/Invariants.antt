@@ -8,4 +8,5 @@ use Rattle.sparse_convert.proofs.serial.from_dense.push_column.Given as goal
 abbrev pub invariant-loop-i : goal.invariant-loop-i
 invariant-loop-i g l =
     let z = g.T.Zero.zero_value in
-    l.coo ≡ appended l.initial.coo (filter (differs_from g.T.PartialEq.eq z) (map (λ i. (i, l.j, get_or l.column i z)) (below l.i)))
+    l.coo ≡ appended l.initial.coo (filter (differs_from g.T.PartialEq.eq z)
+    (map (λ i. (i, l.j, get_or l.column i z)) (below l.i)))

@@ -6,4 +6,5 @@ abbrev pub invariant-loop-i : goal.invariant-loop-i
 invariant-loop-i g l =
     let R = g.T.Ring.ring in
     let f = g.T.Ring.value in
-    IsWritten (added R f) f (f g.T.Zero.zero_value) l.coo.nrows l.coo.ncols l.coo.triplets l.i-iterator l.dense
+    IsWritten (added R f) f (f g.T.Zero.zero_value) l.coo.nrows l.coo.ncols l.coo.triplets
+    l.i-iterator l.dense

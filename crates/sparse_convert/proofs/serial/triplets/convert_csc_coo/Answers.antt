@@ -8,10 +8,26 @@ pub coo_from_lists-requires : goal.coo_from_lists-requires
 coo_from_lists-requires g c =
     let lists = c.in_ok-cols.ensures in
     let m = c.args.csc.now in
-    rw (c.nrows.ensures, c.ncols.ensures, lists.lanes, lists.indices, lists.values, c.cs.ensures.core) (parts_by_cols m (rw c.cs.ensures.core at lists.sound))
+    rw (
+      c.nrows.ensures,
+      c.ncols.ensures,
+      lists.lanes,
+      lists.indices,
+      lists.values,
+      c.cs.ensures.core,
+    ) (parts_by_cols m (rw c.cs.ensures.core at lists.sound))
 
 pub returns : goal.returns
 returns g c =
     let lists = c.in_ok-cols.ensures in
     let m = c.args.csc.now in
-    rw (c.coo_from_lists.ensures, c.nrows.ensures, c.ncols.ensures, lists.lanes, lists.indices, lists.values, c.cs.ensures.core) (ap (coo_of m.pattern.minor_dim m.pattern.major_dim) (zip_of_turned (lane_triplets m)))
+    rw (
+      c.coo_from_lists.ensures,
+      c.nrows.ensures,
+      c.ncols.ensures,
+      lists.lanes,
+      lists.indices,
+      lists.values,
+      c.cs.ensures.core,
+    ) (ap (coo_of m.pattern.minor_dim m.pattern.major_dim)
+    (zip_of_turned (lane_triplets m)))

@@ -4,4 +4,5 @@ use Rattle.sparse_cs.proofs.lane.LaneIndices.position_of.Goals as goal
 
 pub returns-clause-position : goal.returns-clause-position
 returns-clause-position c =
-    c.ok.ensures.value ∙ rw (← c.self.view_is) (search_is_position _ _ _ c.self.invariant c.binary_search.ensures.position)
+    c.ok.ensures.value ∙ rw (← c.self.view_is)
+    (search_is_position _ _ _ c.self.invariant c.binary_search.ensures.position)

@@ -4,4 +4,5 @@ use Rattle.sparse_expr.specs.PostfixWords.{AreFine, texts, postfix}
 use Rattle.sparse_expr.proofs.expr.Expr.from_words.Given as goal
 
 abbrev pub invariant-loop-word : goal.invariant-loop-word
-invariant-loop-word l = AreFine (take l.word-index (texts l.word-items)) (flat_map postfix l.stack.items)
+invariant-loop-word l = AreFine (take l.word-index (texts l.word-items))
+    (flat_map postfix l.stack.items)

@@ -9,8 +9,10 @@ abbrev pub invariant-loop-marks : goal.invariant-loop-marks
 invariant-loop-marks g l =
     let f = g.C.Count.number in
     record {
-      climbing : IsClimbing (climbed_up f l.initial.marks l.initial.parents l.start 0) (climbed_up f l.marks l.parents l.start l.length) l.row l.start l.node;
-      walking : IsWalking (climbed_up f l.marks l.parents l.start l.length) l.row l.start l.length l.node;
+      climbing : IsClimbing (climbed_up f l.initial.marks l.initial.parents l.start 0)
+          (climbed_up f l.marks l.parents l.start l.length) l.row l.start l.node;
+      walking : IsWalking (climbed_up f l.marks l.parents l.start l.length) l.row l.start l.length
+          l.node;
       short : l.length + unmarked (l.row + 1) (l.row + 1) (map f l.marks) ≤ l.row + 1;
       counts : (nodes : List ℕ) → AreCounts l.initial.counts nodes
           → AreCounts l.counts (nodes ++ nodes_up (map f l.parents) l.start l.length);

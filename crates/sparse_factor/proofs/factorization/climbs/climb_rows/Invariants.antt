@@ -10,9 +10,11 @@ abbrev pub invariant-loop-row : goal.invariant-loop-row
 invariant-loop-row g l =
     let f = g.C.Count.number in
     record {
-      filled : AreFilledPaths (UpperBase l.pattern) l.pattern.major_dim (map f l.marks.items) (map f l.parents.items) (paths_of f l.paths.items) l.row;
+      filled : AreFilledPaths (UpperBase l.pattern) l.pattern.major_dim (map f l.marks.items)
+          (map f l.parents.items) (paths_of f l.paths.items) l.row;
       counts : AreCounts l.counts.items (nodes_in f l.parents.items l.paths.items);
       below : AreBelowMarks l.counts.items (map f l.marks.items);
       count_size : length l.counts.items ≡ l.pattern.major_dim;
-      counted : l.steps ≡ l.initial.steps + start_of l.pattern l.row + length (rows_in f l.paths.items);
+      counted : l.steps ≡ l.initial.steps + start_of l.pattern l.row + length
+          (rows_in f l.paths.items);
     }

@@ -11,5 +11,6 @@ invariant-loop-path g l =
       cursor_count : length l.counts.items ≡ length l.parents;
       row_count : length l.rows.items ≡ length keys;
       cursors : AreCursorsAt keys l.counts.items (nodes_before f l.parents l.paths l.path);
-      placed : ArePlacedBelow keys (rows_in f l.paths) l.rows.items (nodes_before f l.parents l.paths l.path);
+      placed : ArePlacedBelow keys (rows_in f l.paths) l.rows.items
+          (nodes_before f l.parents l.paths l.path);
     }

@@ -5,4 +5,5 @@ use Rattle.sparse_cs.proofs.Inside.{length-lane_triplets}
 use Rattle.sparse_io.proofs.export.CscMatrixMatrixMarketExport.nnz.Goals as goal
 
 pub returns : goal.returns
-returns g c = c.nnz.ensures.count ∙ sym (length-lane_triplets _ c.nnz.ensures.sound) ∙ sym (length-map _ turned)
+returns g c = c.nnz.ensures.count ∙ sym (length-lane_triplets _ c.nnz.ensures.sound)
+    ∙ sym (length-map _ turned)

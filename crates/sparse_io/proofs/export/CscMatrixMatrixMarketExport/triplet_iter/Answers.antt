@@ -3,4 +3,5 @@ use Rattle.sparse_io.proofs.Turned.{turned-inside}
 use Rattle.sparse_io.proofs.export.CscMatrixMatrixMarketExport.triplet_iter.Goals as goal
 
 pub returns-clause-inside : goal.returns-clause-inside
-returns-clause-inside g c = turned-inside _ _ _ (lane_triplets-inside _ c.triplet_iter.ensures.sound)
+returns-clause-inside g c = turned-inside _ _ _
+    (lane_triplets-inside _ c.triplet_iter.ensures.sound)

@@ -12,7 +12,12 @@ invariant-loop-rest g l = record {
   room : l.read + length l.rest ≤ length l.text;
   rows : l.matrix.nrows ≡ l.size.rows;
   cols : l.matrix.ncols ≡ l.size.cols;
-  read : still_read g.T.MatrixMarketScalar.scalar l.header (l.size.rows, l.size.cols, l.size.count) l.read l.bounds.inside (places_left l.places) (values_of g.T.MatrixMarketScalar.value l.matrix).triplets (contents_of l.rest) ≡ among_entries (contents_of l.text) (listed_of g.T.MatrixMarketScalar.scalar l.header (l.size.rows, l.size.cols, l.size.count) (contents_of l.text));
+  read : still_read g.T.MatrixMarketScalar.scalar l.header (l.size.rows, l.size.cols, l.size.count)
+      l.read l.bounds.inside (places_left l.places)
+      (values_of g.T.MatrixMarketScalar.value l.matrix).triplets (contents_of l.rest)
+      ≡ among_entries
+      (contents_of l.text) (listed_of g.T.MatrixMarketScalar.scalar l.header
+      (l.size.rows, l.size.cols, l.size.count) (contents_of l.text));
 }
 
 abbrev pub decreases-loop-rest : goal.decreases-loop-rest

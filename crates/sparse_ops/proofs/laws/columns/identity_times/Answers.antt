@@ -13,4 +13,5 @@ returns g c =
     let a = plain c.args.a.now in
     let has = cols_have R g.T.Ring.value c.args.a.now c.values.ensures.sound in
     ok_further plain c.mul_csc.result (plain_product R (plain c.in_ok-identity.identity) a) a
-    (ap (λ (x : Plain R). plain_product R x a) c.in_ok-identity.ensures.plain ∙ identity-product R c.nrows.result a c.nrows.ensures has.proper has.within) c.mul_csc.ensures
+    (ap (λ (x : Plain R). plain_product R x a) c.in_ok-identity.ensures.plain
+    ∙ identity-product R c.nrows.result a c.nrows.ensures has.proper has.within) c.mul_csc.ensures

@@ -12,4 +12,5 @@ returns g c =
     let d = plain_of_cols R g.T.Ring.value c.args.c.now in
     let first = plain_of_cols R g.T.Ring.value c.in_ok-first.first in
     c.in_ok-product.ensures ∙ ap (plain_product R a) c.in_ok-sum.ensures ∙ product-sum R a b d
-    ∙ ap (λ (x : Plain R). plain_sum R x (plain_product R a d)) (sym c.in_ok-first.ensures) ∙ ap (plain_sum R first) (sym c.in_ok-second.ensures) ∙ sym c.in_ok-products.ensures
+    ∙ ap (λ (x : Plain R). plain_sum R x (plain_product R a d)) (sym c.in_ok-first.ensures)
+    ∙ ap (plain_sum R first) (sym c.in_ok-second.ensures) ∙ sym c.in_ok-products.ensures

@@ -11,5 +11,7 @@ returns g c =
     let b = plain_of_cols R g.T.Ring.value c.args.b.now in
     let d = plain_of_cols R g.T.Ring.value c.args.c.now in
     let first = plain_of_cols R g.T.Ring.value c.in_ok-first.first in
-    c.in_ok-product.ensures ∙ ap (λ (x : Plain R). plain_product R x d) c.in_ok-sum.ensures ∙ sum-product R a b d c.requires.cols
-    ∙ ap (λ (x : Plain R). plain_sum R x (plain_product R b d)) (sym c.in_ok-first.ensures) ∙ ap (plain_sum R first) (sym c.in_ok-second.ensures) ∙ sym c.in_ok-products.ensures
+    c.in_ok-product.ensures ∙ ap (λ (x : Plain R). plain_product R x d) c.in_ok-sum.ensures
+    ∙ sum-product R a b d c.requires.cols
+    ∙ ap (λ (x : Plain R). plain_sum R x (plain_product R b d)) (sym c.in_ok-first.ensures)
+    ∙ ap (plain_sum R first) (sym c.in_ok-second.ensures) ∙ sym c.in_ok-products.ensures

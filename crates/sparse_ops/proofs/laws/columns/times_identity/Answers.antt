@@ -13,4 +13,5 @@ returns g c =
     let a = plain c.args.a.now in
     let has = cols_have R g.T.Ring.value c.args.a.now c.values.ensures.sound in
     ok_further plain c.mul_csc.result (plain_product R a (plain c.in_ok-identity.identity)) a
-    (ap (plain_product R a) c.in_ok-identity.ensures.plain ∙ product-identity R c.ncols.result a c.ncols.ensures has.proper has.within) c.mul_csc.ensures
+    (ap (plain_product R a) c.in_ok-identity.ensures.plain
+    ∙ product-identity R c.ncols.result a c.ncols.ensures has.proper has.within) c.mul_csc.ensures

@@ -10,5 +10,7 @@ returns g c =
     let a = plain_of_cols R g.T.Ring.value c.args.a.now in
     let b = plain_of_cols R g.T.Ring.value c.args.b.now in
     let second = plain_of_cols R g.T.Ring.value c.in_ok-second.second in
-    c.in_ok-transposed.ensures ∙ ap (plain_transpose R) c.in_ok-product.ensures ∙ transpose_product R a b c.requires
-    ∙ ap (λ (x : Plain R). plain_product R x (plain_transpose R a)) (sym c.in_ok-second.ensures) ∙ ap (plain_product R second) (sym c.in_ok-first.ensures) ∙ sym c.in_ok-reversed.ensures
+    c.in_ok-transposed.ensures ∙ ap (plain_transpose R) c.in_ok-product.ensures
+    ∙ transpose_product R a b c.requires
+    ∙ ap (λ (x : Plain R). plain_product R x (plain_transpose R a)) (sym c.in_ok-second.ensures)
+    ∙ ap (plain_product R second) (sym c.in_ok-first.ensures) ∙ sym c.in_ok-reversed.ensures

@@ -10,4 +10,5 @@ returns g c =
     let f = g.T.Ring.value in
     let rows = rw (c.cs.ensures.core, c.cs-2.ensures.core) at c.in_ok-multiply.ensures in
     ap (plain_of_cols R f) c.from_cs.ensures ∙ ap (plain_transpose R) rows
-    ∙ transpose_product R (plain_of_rows R f c.args.b.now) (plain_of_rows R f c.args.a.now) (sym c.requires)
+    ∙ transpose_product R (plain_of_rows R f c.args.b.now) (plain_of_rows R f c.args.a.now)
+    (sym c.requires)

@@ -13,8 +13,14 @@ returns-clause-added g c =
     let k = c.args.k in
     let start = c.args.row.now in
     let scale = f c.args.scale in
-    let added : (j : ℕ) → j < length start → f (get_or c.add_row.new.row j z) ≡ R.add (f (get_or start j z)) (R.mul scale (lane_value R f (lane_of b.pattern k) (values_of b k) j)) = rw (← c.cs_data.ensures.offsets, ← c.cs_data.ensures.indices, ← c.cs_data.ensures.values) c.add_row.ensures.added in
-    λ j lt. added j lt ∙ ap (λ x. R.add (f (get_or start j z)) (R.mul scale x)) (lane_value_is R f z b c.cs_data.ensures.sound k c.requires.lane j)
+    let added : (j : ℕ) → j < length start → f (get_or c.add_row.new.row j z) ≡ R.add
+    (f (get_or start j z))
+    (R.mul scale (lane_value R f (lane_of b.pattern k) (values_of b k) j)) =
+    rw (← c.cs_data.ensures.offsets, ← c.cs_data.ensures.indices, ← c.cs_data.ensures.values)
+    c.add_row.ensures.added in
+    λ j lt. added j lt ∙ ap (λ x. R.add (f (get_or start j z)) (R.mul scale x))
+    (lane_value_is R f z b c.cs_data.ensures.sound k c.requires.lane j)
 
 pub returns-clause-counted : goal.returns-clause-counted
-returns-clause-counted g c = rw (← c.cs_data.ensures.offsets, ← c.cs_data.ensures.indices) c.add_row.ensures.counted
+returns-clause-counted g c = rw (← c.cs_data.ensures.offsets, ← c.cs_data.ensures.indices)
+    c.add_row.ensures.counted

@@ -15,6 +15,10 @@ invariant-loop-k g l =
     let n = length l.yielded in
     let s = start_of l.a.pattern l.i in
     record {
-      added : (j : ℕ) → j < length l.row → f (get_or l.row j z) ≡ R.add (f (get_or l.initial.row j z)) (sum_by R (λ t. R.mul (R.mul (f l.alpha) (f t.1)) ((plain_of_rows R f l.b).value t.0 j)) (zip (take n (lane_of l.a.pattern l.i)) (take n (values_of l.a l.i))));
-      counted : l.steps + s + triples_below s l.a.pattern l.b.pattern ≡ l.initial.steps + (s + n) + triples_below (s + n) l.a.pattern l.b.pattern;
+      added : (j : ℕ) → j < length l.row → f (get_or l.row j z) ≡ R.add
+          (f (get_or l.initial.row j z))
+          (sum_by R (λ t. R.mul (R.mul (f l.alpha) (f t.1)) ((plain_of_rows R f l.b).value t.0 j))
+          (zip (take n (lane_of l.a.pattern l.i)) (take n (values_of l.a l.i))));
+      counted : l.steps + s + triples_below s l.a.pattern l.b.pattern ≡ l.initial.steps + (s + n)
+          + triples_below (s + n) l.a.pattern l.b.pattern;
     }

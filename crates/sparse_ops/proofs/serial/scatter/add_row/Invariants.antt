@@ -9,6 +9,8 @@ invariant-loop-j g l =
     let z = g.T.Zero.zero_value in
     let n = length l.yielded in
     record {
-      added : (j : ℕ) → j < length l.row → f (get_or l.row j z) ≡ R.add (f (get_or l.initial.row j z)) (R.mul (f l.scale) (lane_value R f (take n l.columns) (take n l.values) j));
+      added : (j : ℕ) → j < length l.row → f (get_or l.row j z) ≡ R.add
+          (f (get_or l.initial.row j z)) (R.mul (f l.scale)
+          (lane_value R f (take n l.columns) (take n l.values) j));
       counted : l.steps ≡ l.initial.steps + n;
     }

@@ -16,7 +16,11 @@ invariant-loop-i g l =
     record {
       width : vec_len l.row ≡ l.pattern.minor_dim;
       zero : (j : ℕ) → f (get_or l.row.items j z) ≡ R.zero;
-      updated : (i j p : ℕ) → i < l.i → IsPosition l.pattern i j p → f (get_or l.values p z) ≡ R.add (R.mul (f l.beta) (f (get_or l.initial.values p z))) (R.mul (f l.alpha) (product.value i j));
-      rest : (p : ℕ) → start_of l.pattern l.i ≤ p → get_or l.values p z ≡ get_or l.initial.values p z;
-      counted : l.steps ≡ l.initial.steps + s + triples_below s l.a.pattern l.b.pattern + start_of l.pattern l.i;
+      updated : (i j p : ℕ) → i < l.i → IsPosition l.pattern i j p
+          → f (get_or l.values p z) ≡ R.add (R.mul (f l.beta) (f (get_or l.initial.values p z)))
+          (R.mul (f l.alpha) (product.value i j));
+      rest : (p : ℕ) → start_of l.pattern l.i ≤ p → get_or l.values p z ≡ get_or l.initial.values p
+          z;
+      counted : l.steps ≡ l.initial.steps + s + triples_below s l.a.pattern l.b.pattern + start_of
+          l.pattern l.i;
     }

@@ -11,7 +11,10 @@ invariant-loop-j g l =
     let z = g.T.Zero.zero_value in
     let n = length l.yielded in
     record {
-      added : (j p : ℕ) → IsPosition l.pattern l.i j p → f (get_or l.values p z) ≡ R.add (f (get_or l.initial.values p z)) (R.mul (f l.scale) (lane_value R f (take n l.indices) (take n l.entries) j));
-      others : (p : ℕ) → (IsInLane l.pattern l.i p → ⊥) → get_or l.values p z ≡ get_or l.initial.values p z;
+      added : (j p : ℕ) → IsPosition l.pattern l.i j p
+          → f (get_or l.values p z) ≡ R.add (f (get_or l.initial.values p z))
+          (R.mul (f l.scale) (lane_value R f (take n l.indices) (take n l.entries) j));
+      others : (p : ℕ) → (IsInLane l.pattern l.i p → ⊥)
+          → get_or l.values p z ≡ get_or l.initial.values p z;
       counted : l.steps ≡ l.initial.steps + n;
     }

@@ -9,7 +9,9 @@ use Rattle.sparse_ops.proofs.serial.search.add_matrix_lane.Goals as goal
 pub add_entries-requires-clause-places : goal.add_entries-requires-clause-places
 add_entries-requires-clause-places g c =
     let b = c.args.b.now.pattern in
-    let places : (j : ℕ) → Contains (lane_of b c.args.k) j → IsPlace c.args.pattern.now c.args.i j = λ j h. c.requires.places j ((lane_has b c.cs_data.ensures.sound.valid c.args.k j c.requires.lane).0 h) in
+    let places : (j : ℕ) → Contains (lane_of b c.args.k) j → IsPlace c.args.pattern.now c.args.i j =
+    λ j h. c.requires.places j
+    ((lane_has b c.cs_data.ensures.sound.valid c.args.k j c.requires.lane).0 h) in
     rw (c.cs_data.ensures.offsets, c.cs_data.ensures.indices) places
 
 pub returns-clause-added : goal.returns-clause-added
@@ -21,8 +23,14 @@ returns-clause-added g c =
     let k = c.args.k in
     let start = c.args.values.now in
     let scale = f c.args.scale in
-    let added : (j p : ℕ) → IsPosition c.args.pattern.now c.args.i j p → f (get_or c.add_entries.new.values p z) ≡ R.add (f (get_or start p z)) (R.mul scale (lane_value R f (lane_of b.pattern k) (values_of b k) j)) = rw (← c.cs_data.ensures.offsets, ← c.cs_data.ensures.indices, ← c.cs_data.ensures.values) c.add_entries.ensures.added in
-    λ j p at. added j p at ∙ ap (λ x. R.add (f (get_or start p z)) (R.mul scale x)) (lane_value_is R f z b c.cs_data.ensures.sound k c.requires.lane j)
+    let added : (j p : ℕ) → IsPosition c.args.pattern.now c.args.i j p
+    → f (get_or c.add_entries.new.values p z) ≡ R.add (f (get_or start p z))
+    (R.mul scale (lane_value R f (lane_of b.pattern k) (values_of b k) j)) =
+    rw (← c.cs_data.ensures.offsets, ← c.cs_data.ensures.indices, ← c.cs_data.ensures.values)
+    c.add_entries.ensures.added in
+    λ j p at. added j p at ∙ ap (λ x. R.add (f (get_or start p z)) (R.mul scale x))
+    (lane_value_is R f z b c.cs_data.ensures.sound k c.requires.lane j)
 
 pub returns-clause-counted : goal.returns-clause-counted
-returns-clause-counted g c = rw (← c.cs_data.ensures.offsets, ← c.cs_data.ensures.indices) c.add_entries.ensures.counted
+returns-clause-counted g c = rw (← c.cs_data.ensures.offsets, ← c.cs_data.ensures.indices)
+    c.add_entries.ensures.counted

@@ -4,4 +4,5 @@ use Rattle.sparse_ops.specs.InnerProducts.{IsInLanes}
 use Rattle.sparse_ops.proofs.serial.search.covers_product.Given as goal
 
 abbrev pub invariant-loop-i : goal.invariant-loop-i
-invariant-loop-i l = (i : ℕ) → i < l.i → (j : ℕ) → IsInLanes l.b (lane_of l.a i) j → IsPlace l.pattern i j
+invariant-loop-i l = (i : ℕ) → i < l.i → (j : ℕ) → IsInLanes l.b (lane_of l.a i) j
+    → IsPlace l.pattern i j

@@ -14,7 +14,10 @@ invariant-loop-i g l =
     let product = plain_product R (plain_of_rows R f l.a) (plain_of_rows R f l.b) in
     let s = start_of l.a.pattern l.i in
     record {
-      updated : (i j p : ℕ) → i < l.i → IsPosition l.pattern i j p → f (get_or l.values p z) ≡ R.add (f (get_or l.initial.values p z)) (R.mul (f l.alpha) (product.value i j));
-      rest : (p : ℕ) → start_of l.pattern l.i ≤ p → get_or l.values p z ≡ get_or l.initial.values p z;
+      updated : (i j p : ℕ) → i < l.i → IsPosition l.pattern i j p
+          → f (get_or l.values p z) ≡ R.add (f (get_or l.initial.values p z))
+          (R.mul (f l.alpha) (product.value i j));
+      rest : (p : ℕ) → start_of l.pattern l.i ≤ p → get_or l.values p z ≡ get_or l.initial.values p
+          z;
       counted : l.steps ≡ l.initial.steps + s + triples_below s l.a.pattern l.b.pattern;
     }

@@ -10,10 +10,17 @@ update-requires-clause-places g c =
     let f = g.T.Ring.value in
     let first = c.cs-first.result.now in
     let second = c.cs-second.result.now in
-    let is_first = ap (plain_of_cols R f) (c.cs-first.ensures.core ∙ c.matrix.ensures) ∙ c.in_ok-b.ensures.plain in
-    let is_second = ap (plain_of_cols R f) (c.cs-second.ensures.core ∙ c.matrix-2.ensures) ∙ c.in_ok-a.ensures.plain in
-    let fits : first.pattern.minor_dim ≡ second.pattern.major_dim = ap (λ (p : Plain R). p.rows) is_first ∙ sym c.requires.inner ∙ sym (ap (λ (p : Plain R). p.cols) is_second) in
-    rw c.pattern_and_values_mut-values.ensures.pattern ((cols_covered R f c.stands_law.ensures.rows first second c.values.ensures.sound c.values-2.ensures.sound fits c.args.c.now c.values-3.ensures.sound _ _ is_first is_second).1 c.requires.covered)
+    let is_first = ap (plain_of_cols R f) (c.cs-first.ensures.core ∙ c.matrix.ensures)
+    ∙ c.in_ok-b.ensures.plain in
+    let is_second = ap (plain_of_cols R f) (c.cs-second.ensures.core ∙ c.matrix-2.ensures)
+    ∙ c.in_ok-a.ensures.plain in
+    let fits : first.pattern.minor_dim ≡ second.pattern.major_dim =
+    ap (λ (p : Plain R). p.rows) is_first ∙ sym c.requires.inner
+    ∙ sym (ap (λ (p : Plain R). p.cols) is_second) in
+    rw c.pattern_and_values_mut-values.ensures.pattern
+    ((cols_covered R f c.stands_law.ensures.rows first second c.values.ensures.sound
+    c.values-2.ensures.sound fits c.args.c.now c.values-3.ensures.sound _ _ is_first is_second).1
+    c.requires.covered)
 
 pub returns-clause-updated : goal.returns-clause-updated
 returns-clause-updated g c =
@@ -21,10 +28,22 @@ returns-clause-updated g c =
     let f = g.T.Ring.value in
     let first = c.cs-first.result.now in
     let second = c.cs-second.result.now in
-    let is_first = ap (plain_of_cols R f) (c.cs-first.ensures.core ∙ c.matrix.ensures) ∙ c.in_ok-b.ensures.plain in
-    let is_second = ap (plain_of_cols R f) (c.cs-second.ensures.core ∙ c.matrix-2.ensures) ∙ c.in_ok-a.ensures.plain in
-    let fits : first.pattern.minor_dim ≡ second.pattern.major_dim = ap (λ (p : Plain R). p.rows) is_first ∙ sym c.requires.inner ∙ sym (ap (λ (p : Plain R). p.cols) is_second) in
-    let places = (cols_covered R f c.stands_law.ensures.rows first second c.values.ensures.sound c.values-2.ensures.sound fits c.args.c.now c.values-3.ensures.sound _ _ is_first is_second).1 c.requires.covered in
-    let updated = rw (c.pattern_and_values_mut-values.ensures.pattern, c.pattern_and_values_mut-values.ensures.values) at c.in_ok-update.ensures.updated in
+    let is_first = ap (plain_of_cols R f) (c.cs-first.ensures.core ∙ c.matrix.ensures)
+    ∙ c.in_ok-b.ensures.plain in
+    let is_second = ap (plain_of_cols R f) (c.cs-second.ensures.core ∙ c.matrix-2.ensures)
+    ∙ c.in_ok-a.ensures.plain in
+    let fits : first.pattern.minor_dim ≡ second.pattern.major_dim =
+    ap (λ (p : Plain R). p.rows) is_first ∙ sym c.requires.inner
+    ∙ sym (ap (λ (p : Plain R). p.cols) is_second) in
+    let places = (cols_covered R f c.stands_law.ensures.rows first second c.values.ensures.sound
+    c.values-2.ensures.sound fits c.args.c.now c.values-3.ensures.sound _ _ is_first
+    is_second).1 c.requires.covered in
+    let updated = rw (
+      c.pattern_and_values_mut-values.ensures.pattern,
+      c.pattern_and_values_mut-values.ensures.values,
+    ) at c.in_ok-update.ensures.updated in
     let long = c.update.auto.values ∙ ap length c.pattern_and_values_mut-values.ensures.values in
-    cols_written R f c.stands_law.ensures.rows first second c.values.ensures.sound c.values-2.ensures.sound fits c.args.c.now c.values-3.ensures.sound _ _ is_first is_second c.stands_law.ensures.one_by_rows g.T.Zero.zero_value (f c.args.beta) (f c.args.alpha) c.update.new.values long places updated
+    cols_written R f c.stands_law.ensures.rows first second c.values.ensures.sound
+    c.values-2.ensures.sound fits c.args.c.now c.values-3.ensures.sound _ _ is_first is_second
+    c.stands_law.ensures.one_by_rows g.T.Zero.zero_value (f c.args.beta) (f c.args.alpha)
+    c.update.new.values long places updated

@@ -7,12 +7,14 @@ pub returns-then-self-clause-first : goal.returns-then-self-clause-first
 unfolding places_left
 returns-then-self-clause-first c =
     let p = c.args.self.now in
-    let e : left_from p.symmetry p.rows p.cols p.row p.col ≡ [] = left_outside p.symmetry p.rows p.cols p.row p.col c.if-self.true in
+    let e : left_from p.symmetry p.rows p.cols p.row p.col ≡ [] =
+    left_outside p.symmetry p.rows p.cols p.row p.col c.if-self.true in
     sym (ap (λ (l : List (ℕ × ℕ)). slice_get l 0) e)
 
 pub returns-then-self-clause-left : goal.returns-then-self-clause-left
 unfolding places_left
 returns-then-self-clause-left c =
     let p = c.args.self.now in
-    let e : left_from p.symmetry p.rows p.cols p.row p.col ≡ [] = left_outside p.symmetry p.rows p.cols p.row p.col c.if-self.true in
+    let e : left_from p.symmetry p.rows p.cols p.row p.col ≡ [] =
+    left_outside p.symmetry p.rows p.cols p.row p.col c.if-self.true in
     e ∙ sym (ap (λ (l : List (ℕ × ℕ)). drop 1 l) e)

@@ -2,13 +2,15 @@ use Rattle.std.proofs.Common.{◌≡◌, ℕ, List, [], ◌∷◌, sym, ap, ◌�
 use Rattle.sparse_parser.specs.InnerPlaces.{places_left, left_from}
 use Rattle.sparse_parser.proofs.PlaceLaws.{left_none, left_first}
 use Rattle.sparse_parser.proofs.places.Places.take_within.Goals as goal
-use Rattle.sparse_parser.proofs.places.Places.take_within.Goals.{then-self-via-then-self, then-self-via-else-self+then-self-2}
+use Rattle.sparse_parser.proofs.places.Places.take_within.Goals.{then-self-via-then-self}
+use Rattle.sparse_parser.proofs.places.Places.take_within.Goals.{then-self-via-else-self+then-self-2}
 
 pub returns-then-self-clause-first : goal.returns-then-self-clause-first
 unfolding places_left
 returns-then-self-clause-first c =
     let p = c.settle.new.self in
-    let e : left_from p.symmetry p.rows p.cols p.row p.col ≡ [] = left_none p.symmetry p.rows p.cols p.row p.col c.settle.ensures.settled (elim c.then-self.branch [
+    let e : left_from p.symmetry p.rows p.cols p.row p.col ≡ [] = left_none p.symmetry p.rows p.cols
+    p.row p.col c.settle.ensures.settled (elim c.then-self.branch [
       | then-self-via-then-self w ↦ inl w.if-self.true
       | then-self-via-else-self+then-self-2 w ↦ inr w.if-self-2.true
     ]) in
@@ -18,7 +20,8 @@ pub returns-then-self-clause-left : goal.returns-then-self-clause-left
 unfolding places_left
 returns-then-self-clause-left c =
     let p = c.settle.new.self in
-    let e : left_from p.symmetry p.rows p.cols p.row p.col ≡ [] = left_none p.symmetry p.rows p.cols p.row p.col c.settle.ensures.settled (elim c.then-self.branch [
+    let e : left_from p.symmetry p.rows p.cols p.row p.col ≡ [] = left_none p.symmetry p.rows p.cols
+    p.row p.col c.settle.ensures.settled (elim c.then-self.branch [
       | then-self-via-then-self w ↦ inl w.if-self.true
       | then-self-via-else-self+then-self-2 w ↦ inr w.if-self-2.true
     ]) in
@@ -28,10 +31,14 @@ pub returns-clause-first : goal.returns-clause-first
 unfolding places_left
 returns-clause-first c =
     let p = c.settle.new.self in
-    sym (ap (λ (l : List (ℕ × ℕ)). slice_get l 0) (sym c.settle.ensures.left ∙ left_first p.symmetry p.rows p.cols p.row p.col c.if-self.false c.if-self-2.false))
+    sym (ap (λ (l : List (ℕ × ℕ)). slice_get l 0)
+    (sym c.settle.ensures.left ∙ left_first p.symmetry p.rows p.cols p.row p.col c.if-self.false
+    c.if-self-2.false))
 
 pub returns-clause-left : goal.returns-clause-left
 unfolding places_left
 returns-clause-left c =
     let p = c.settle.new.self in
-    sym (ap (λ (l : List (ℕ × ℕ)). drop 1 l) (sym c.settle.ensures.left ∙ left_first p.symmetry p.rows p.cols p.row p.col c.if-self.false c.if-self-2.false))
+    sym (ap (λ (l : List (ℕ × ℕ)). drop 1 l)
+    (sym c.settle.ensures.left ∙ left_first p.symmetry p.rows p.cols p.row p.col c.if-self.false
+    c.if-self-2.false))

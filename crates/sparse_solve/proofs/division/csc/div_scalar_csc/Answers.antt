@@ -7,5 +7,9 @@ pub returns-clause-quotient : goal.returns-clause-quotient
 returns-clause-quotient g c =
     let R = g.T.Ring.ring in
     let f = g.T.Ring.value in
-    let inverse = c.in_ok-inverse.inverse in
-    (inverse, c.in_ok-inverse.ensures.inverse, c.mul_assign.ensures.after ∙ ap (λ m. plain_scaled R (f inverse) (plain_of_cols R f m)) c.in_ok-quotient.ensures)
+    let inverse = c.in_ok-inverse.inverse in (
+      inverse,
+      c.in_ok-inverse.ensures.inverse,
+      c.mul_assign.ensures.after
+          ∙ ap (λ m. plain_scaled R (f inverse) (plain_of_cols R f m)) c.in_ok-quotient.ensures,
+    )

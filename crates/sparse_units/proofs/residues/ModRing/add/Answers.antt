@@ -13,5 +13,6 @@ returns g c =
       | then-other-room w ↦ ap (mod_class m) w.number-is ∙ mod_class_add m x y
       | else-other-room w ↦
           let past : modulus m - x ≤ y = omega (arith, w.if-other-room.false, c.modulus.ensures) in
-          ap (mod_class m) (w.number-is ∙ ap (λ n. y - (n - x)) c.modulus.ensures) ∙ mod_class_over m x y c.args.self.below past ∙ mod_class_add m x y
+          ap (mod_class m) (w.number-is ∙ ap (λ n. y - (n - x)) c.modulus.ensures)
+          ∙ mod_class_over m x y c.args.self.below past ∙ mod_class_add m x y
     ]

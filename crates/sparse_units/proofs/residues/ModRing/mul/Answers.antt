@@ -6,4 +6,5 @@ pub returns : goal.returns
 returns g c =
     let x = c.args.self.number in
     let y = c.args.other.number in
-    mod_class_of g.row.M (x * y) _ (ap (λ n. (x * y) % n) c.modulus.ensures) ∙ mod_class_mul g.row.M x y
+    mod_class_of g.row.M (x * y) _ (ap (λ n. (x * y) % n) c.modulus.ensures)
+    ∙ mod_class_mul g.row.M x y

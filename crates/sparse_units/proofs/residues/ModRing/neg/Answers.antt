@@ -10,5 +10,6 @@ returns g c =
     let x = c.args.self.number in
     elim c.if-self-eq0.branch [
       | then-self-eq0 w ↦ ap (mod_class m) w.number-is ∙ mod_class_neg_zero m x w.if-self-eq0.true
-      | else-self-eq0 w ↦ ap (mod_class m) (w.number-is ∙ ap (λ n. n - x) w.modulus.ensures) ∙ mod_class_neg m x c.args.self.below
+      | else-self-eq0 w ↦ ap (mod_class m) (w.number-is ∙ ap (λ n. n - x) w.modulus.ensures)
+          ∙ mod_class_neg m x c.args.self.below
     ]

@@ -15,7 +15,8 @@ loop-low-init g c =
     let R = mod_ring m in
     let x = mod_class m n in
     record {
-      high_is = ap (mod_class m) c.modulus-high.ensures ∙ mod_class_modulus m ∙ sym (mul_zero R x) ∙ ap (λ z. R.mul x (mod_class m z.number)) (sym c.zero-at_high.ensures);
+      high_is = ap (mod_class m) c.modulus-high.ensures ∙ mod_class_modulus m ∙ sym (mul_zero R x)
+          ∙ ap (λ z. R.mul x (mod_class m z.number)) (sym c.zero-at_high.ensures);
       low_is = sym (R.laws.mul_one x) ∙ ap (R.mul x) (sym c.one-at_low.ensures);
       gcd = λ d h. subst (λ k. IsGcd k n d) c.modulus-high.ensures h;
     }
@@ -32,14 +33,19 @@ loop-low-preserved g c =
     let invariant = c.loop-low.invariant in
     record {
       high_is = invariant.low_is;
-      low_is = euclid_step R x s t (mod_class m (high / low)) (mod_class m high) (mod_class m low) (mod_class m (high % low)) invariant.high_is invariant.low_is (class_split m high low)
-          ∙ ap (R.mul x) (sym (c.add-at_rest.ensures ∙ ap (R.add s) (c.neg.ensures ∙ ap R.neg (c.mul.ensures ∙ ap (λ z. R.mul z t) (mod_class_of m (high / low) _ c.new-quotient.ensures)))));
+      low_is = euclid_step R x s t (mod_class m (high / low)) (mod_class m high) (mod_class m low)
+          (mod_class m (high % low)) invariant.high_is invariant.low_is (class_split m high low)
+          ∙ ap (R.mul x)
+          (sym (c.add-at_rest.ensures ∙ ap (R.add s)
+          (c.neg.ensures ∙ ap R.neg (c.mul.ensures
+          ∙ ap (λ z. R.mul z t) (mod_class_of m (high / low) _ c.new-quotient.ensures)))));
       gcd = λ d h. invariant.gcd d (IsGcd-from_mod high low d h);
     }
 
 -- where the greatest common divisor is one, its cofactor is the inverse
 inverse : (g : Over) (c : goal.Then-high-eq1 g)
-    → (mod_ring g.row.M).mul (mod_class g.row.M c.args.self.number) (mod_class g.row.M c.loop-low.at_high.number) ≡ (mod_ring g.row.M).one
+    → (mod_ring g.row.M).mul (mod_class g.row.M c.args.self.number)
+    (mod_class g.row.M c.loop-low.at_high.number) ≡ (mod_ring g.row.M).one
 inverse g c = sym c.loop-low.invariant.high_is ∙ ap (mod_class g.row.M) c.if-high-eq1.true
 
 -- the last number is the greatest common divisor
@@ -51,7 +57,8 @@ pub returns-then-high-eq1 : goal.returns-then-high-eq1
 returns-then-high-eq1 g c =
     let m = modulus g.row.M in
     let n = c.args.self.number in
-    let last = last_is_gcd m n c.loop-low.high c.loop-low.low c.loop-low.invariant.gcd c.loop-low-test.false in
+    let last = last_is_gcd m n c.loop-low.high c.loop-low.low c.loop-low.invariant.gcd
+    c.loop-low-test.false in
     record {
       inverse = inverse g c;
       exact = (λ _. (c.loop-low.at_high, inverse g c), λ _. refl);
@@ -66,6 +73,13 @@ returns-else-high-eq1 g c =
     let last = last_is_gcd m n high c.loop-low.low c.loop-low.invariant.gcd c.loop-low-test.false in
     record {
       inverse = tt;
-      exact = (λ none. cc, λ some. absurd (c.if-high-eq1.false (no_inverse g.row.M n some.0.number high last.0 last.1 some.1)));
-      coprime = (λ none. cc, λ one. absurd (c.if-high-eq1.false (same_from_IsGcd m n high 1 last one)));
+      exact = (
+        λ none. cc,
+        λ some. absurd
+            (c.if-high-eq1.false (no_inverse g.row.M n some.0.number high last.0 last.1 some.1)),
+      );
+      coprime = (
+        λ none. cc,
+        λ one. absurd (c.if-high-eq1.false (same_from_IsGcd m n high 1 last one)),
+      );
     }

@@ -9,4 +9,6 @@ pub returns : goal.returns
 returns c =
     let x = c.args.self.number in
     let f : FitsSigned w128 c.wrapping_neg.result = search rules in
-    class_of_neg w128 x _ c.args.self.in_range (to_z-of_z w128 c.wrapping_neg.result f ∙ c.wrapping_neg.ensures ∙ ap (int_wrapping_neg w128) (to_z-of_z w128 x c.args.self.in_range))
+    class_of_neg w128 x _ c.args.self.in_range
+    (to_z-of_z w128 c.wrapping_neg.result f ∙ c.wrapping_neg.ensures
+    ∙ ap (int_wrapping_neg w128) (to_z-of_z w128 x c.args.self.in_range))
