@@ -181,6 +181,6 @@ fn promised_entries_take_no_memory(rt: HostRuntime) -> Result<(), Fail> {
         }
     }
     let after = peak(&rt)?;
-    assert!(rt; after < before + 1024, "{before} {after}");
+    assert!(rt; after.saturating_sub(before) < 1024, "{before} {after}");
     Ok(())
 }
