@@ -2,7 +2,9 @@
 use Rattle.std.specs.Prelude.{◌≡◌, ◌<◌, ◌⊎◌, ℕ, List, [], ◌∷◌, length, codes, Option}
 use Rattle.nalgebra_sparse.specs.PostfixWords.{words_of, IsSaid}
 use Rattle.nalgebra_sparse.specs.Run.{Writes}
-use Rattle.nalgebra_sparse.specs.ExprTypes.{Expr, Form, Rows, Cols}
+use Rattle.sparse_expr.specs.declared.expr.Expr.{Expr}
+use Rattle.sparse_expr.specs.declared.calculator.Form.{Form}
+use Rattle.sparse_expr.specs.declared.calculator.Form.TheVariants.{Rows, Cols}
 use Rattle.mtx.specs.declared.cli.Failure.{Failure}
 use Rattle.mtx.specs.declared.cli.Failure.TheVariants as failure
 

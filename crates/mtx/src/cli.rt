@@ -2,8 +2,8 @@
 
 ghost use Rattle.std.specs.Prelude.{◌≡◌, ◌≢◌, ◌≤◌, length, None, OnOk, IfOk, IfErr, IfSome};
 ghost use Rattle.nalgebra_sparse.specs.PostfixWords.{texts};
-ghost use Rattle.nalgebra_sparse.specs.ExprTypes.{Form};
-ghost use Rattle.nalgebra_sparse.specs.ExprTypes.{OutOfMemory};
+ghost use Rattle.sparse_expr.specs.declared.calculator.Form.{Form};
+ghost use Rattle.sparse_expr.specs.declared.error.ExprError.TheVariants.{OutOfMemory};
 ghost use Rattle.mtx.specs.Commands.{IsAnswered, IsEvaluated, name_of, status_of};
 ghost use Rattle.mtx.specs.declared.cli.Failure.TheVariants.{Usage, Refused};
 

@@ -1,5 +1,4 @@
--- The definitions that the contracts of the library cite, and those that an implementation of
--- `Ring` needs.
+-- The definitions that the contracts of the library cite, and those that an implementation of `Ring` needs.
 -- A crate above names them by `Rattle.nalgebra_sparse.specs.Plain.{Plain}` and the like.
 
 -- rings, sums, plain matrices and their algebra
@@ -104,7 +103,6 @@ pub use Rattle.sparse_io.specs.Out
 pub use Rattle.sparse_io.specs.Sink
 pub use Rattle.sparse_io.specs.Written
 -- expressions
-pub use Rattle.sparse_expr.specs.ExprTypes
 pub use Rattle.sparse_expr.specs.OneTree
 pub use Rattle.sparse_expr.specs.PostfixWords
 pub use Rattle.sparse_expr.specs.Run

@@ -1,4 +1,3 @@
-pub mod ExprTypes
 pub mod Value
 pub mod PostfixWords
 pub mod OneTree
