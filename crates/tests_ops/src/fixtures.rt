@@ -3,7 +3,6 @@
 use sparse_algebra::scalar::{Ring, W32, W64};
 use sparse_base::coo::CooMatrix;
 use sparse_forms::csr::CsrMatrix;
-use sparse_units::Mod;
 use std::alloc::{AllocError, Global};
 use std::test::Fail;
 
@@ -21,13 +20,6 @@ impl Scalar for W32 {
 impl Scalar for W64 {
     fn of(number: i32) -> W64 {
         W64::new(i64::from(number))
-    }
-}
-
-impl Scalar for Mod<7> {
-    fn of(number: i32) -> Mod<7> {
-        let size = Mod::new(u64::from(number.unsigned_abs()));
-        if number < 0 { size.neg() } else { size }
     }
 }
 

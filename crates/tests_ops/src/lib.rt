@@ -8,8 +8,6 @@ mod dense;
 #[cfg(test)]
 mod fixtures;
 #[cfg(test)]
-mod into;
-#[cfg(test)]
 mod products;
 #[cfg(test)]
 mod sizes;

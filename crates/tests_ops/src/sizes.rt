@@ -28,13 +28,7 @@ fn is_empty_product(
 
 #[test]
 fn products_without_places(rt: HostRuntime) -> Result<(), Fail> {
-    for sizes in [
-        (2, 2, 0),
-        (0, 2, 2),
-        (2, 0, 2),
-        (0, 0, 0),
-        (0, 1, usize::MAX),
-    ] {
+    for sizes in [(2, 2, 0), (0, 2, 2), (2, 0, 2), (0, 0, 0)] {
         assert!(rt; is_empty_product(rt.alloc(), sizes)?);
     }
     Ok(())
