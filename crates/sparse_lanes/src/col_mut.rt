@@ -101,15 +101,6 @@ impl<'a, T> CscColMut<'a, T> {
         &mut *self.values
     }
 
-    /// Returns the values of the stored places, borrowed mutably for as long as the matrix is.
-    pub fn into_values(self) -> &'a mut [T]
-        ensures same_reference { result.ghost_name ≡ (col_values self.entry).ghost_name }
-        ensures values { result.now ≡ (lent_col self.entry).values }
-    {
-        let CscColMut { values, .. } = self;
-        values
-    }
-
     /// Returns the rows of the stored places, and their values borrowed mutably.
     pub fn rows_and_values_mut(&mut self) -> (&[usize], &mut [T])
         ensures* writes_back { sem 𝓛 (LendsColValues T.row self.entry result.1) }

@@ -101,15 +101,6 @@ impl<'a, T> CsrRowMut<'a, T> {
         &mut *self.values
     }
 
-    /// Returns the values of the stored places, borrowed mutably for as long as the matrix is.
-    pub fn into_values(self) -> &'a mut [T]
-        ensures same_reference { result.ghost_name ≡ (row_values self.entry).ghost_name }
-        ensures values { result.now ≡ (lent_row self.entry).values }
-    {
-        let CsrRowMut { values, .. } = self;
-        values
-    }
-
     /// Returns the columns of the stored places, and their values borrowed mutably.
     pub fn cols_and_values_mut(&mut self) -> (&[usize], &mut [T])
         ensures* writes_back { sem 𝓛 (LendsRowValues T.row self.entry result.1) }
