@@ -62,7 +62,7 @@ fn matrix_of(alloc: Global, pattern: &SparsityPattern) -> Result<CscMatrix<()>, 
     }
 }
 
-// The error of the file, which is the first and only one.
+// The refusal of the one file.
 fn unread(kind: MatrixMarketErrorKind) -> ExprError {
     match kind {
         MatrixMarketErrorKind::OutOfMemory => ExprError::OutOfMemory,
@@ -70,7 +70,7 @@ fn unread(kind: MatrixMarketErrorKind) -> ExprError {
     }
 }
 
-// The error of a write that failed.
+// The refusal of a text that was not written to its end.
 fn unwritten(kind: MatrixMarketErrorKind) -> ExprError {
     match kind {
         MatrixMarketErrorKind::IOError(kind) => ExprError::Write(kind),
