@@ -1,6 +1,6 @@
-//! Words that are taken and words that are refused.
+//! Words that are refused, and the lines of refusals.
 
-use sparse_expr::ExprError::{BadWord, LeftOver, MissingOperand};
+use sparse_expr::ExprError::{BadWord, LeftOver, MissingOperand, OutOfMemory};
 use sparse_expr::{Expr, ExprError};
 use std::alloc::Global;
 use std::test::Fail;
@@ -33,6 +33,24 @@ fn refusal(alloc: Global, text: &str) -> Option<ExprError> {
 fn words_are_taken_or_refused(rt: HostRuntime) -> Result<(), Fail> {
     for (text, want) in WORDS {
         assert_eq!(rt; refusal(rt.alloc(), text), want, "{text}");
+    }
+    Ok(())
+}
+
+const LINES: [(ExprError, &str); 6] = [
+    (BadWord, "expression: unknown word"),
+    (MissingOperand, "expression: operand missing"),
+    (LeftOver, "expression: operands left over"),
+    (ExprError::NoSuchInput, "expression: no such input"),
+    (ExprError::Shape, "expression: shapes do not fit"),
+    (OutOfMemory, "out of memory"),
+];
+
+#[test]
+fn refusals_have_lines(rt: HostRuntime) -> Result<(), Fail> {
+    for (error, line) in LINES {
+        let text = format!(in rt.alloc(); "{error}")?;
+        assert_eq!(rt; text.as_str(), line);
     }
     Ok(())
 }
