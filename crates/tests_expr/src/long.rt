@@ -89,7 +89,7 @@ const DEEP: [([(&str, usize); 2], i64); 5] = [
     ([("1 n ", 1), ("1 t + t n ", 4_000)], -2_000_000),
 ];
 
-// So many triplets that a conversion at each of the 24,000 namings would exceed the time limit of
+// Enough triplets that a conversion at each of the 24,000 namings would exceed the time limit of
 // a test.
 const TRIPLETS: usize = 2_000_000;
 
