@@ -2,6 +2,8 @@ pub mod MarkLemmas
 pub mod LaneMarks
 pub mod SortedMarks
 pub mod GainedLanes
+pub mod BitSets
+pub mod BitGroups
 pub mod ProductLanes
 pub mod ProductPlaces
 pub mod ProductSums

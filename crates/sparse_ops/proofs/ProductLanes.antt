@@ -1,5 +1,6 @@
 -- The pattern of a product, lane after lane.
-use Rattle.std.proofs.Common.{◌≡◌, ℕ, ◌+◌, ◌<◌, ◌↔◌, List, [], ◌∷◌, ◌++◌, length}
+use Rattle.std.proofs.Common.{◌≡◌, ℕ, ◌+◌, ◌<◌, ◌↔◌, List, [], ◌∷◌, ◌++◌, length, get_or, All}
+use Rattle.std.proofs.lemmas.List.Elements.{Contains-get_or}
 use Rattle.sparse_pattern.specs.Raw.{Raw, raw_of, lane_of, IsValid, IsPlace}
 use Rattle.sparse_pattern.specs.InnerGainedLanes.{GainsLane}
 use Rattle.sparse_pattern.proofs.BuiltLanes.{IsBuilt, lane_gained, all_built, place_within}
@@ -41,3 +42,9 @@ pub all_lanes : (n : ℕ) (a b d : Raw) (offsets indices : List ℕ) → n ≡ a
 all_lanes n a b d offsets indices whole is below =
     all_built b.minor_dim (IsJoined a b) n a.major_dim d offsets indices whole is
     (λ i j h. h.1.in_lane.lane) below
+
+pub lane_below : (d : Raw) → IsValid d → (i : ℕ) → i < d.major_dim
+    → All (λ k. k < d.minor_dim) (lane_of d i)
+lane_below d valid i lt k z inside = place_within d valid i (get_or (lane_of d i) k z)
+    ((lane_has d valid i (get_or (lane_of d i) k z) lt).0
+    (Contains-get_or (lane_of d i) k z inside))

@@ -1,4 +1,5 @@
 pub mod InnerMarks
+pub mod InnerBits
 pub mod Products
 pub mod InnerProducts
 pub mod InnerUpdates

@@ -1,5 +1,6 @@
 //! Matrix operations in one thread.
 
+mod bits;
 mod factor;
 mod pattern;
 pub(crate) mod prealloc;

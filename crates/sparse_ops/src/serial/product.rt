@@ -18,8 +18,8 @@ use std::alloc::{AllocError, Global};
 ///
 /// The result stores every place of [`spmm_csr_pattern`], even where the sum is zero. `a.ncols()` must equal `b.nrows()`.
 ///
-/// Gustavson's algorithm (1978): one multiplication for each triple (i, k, j), then a sort of each row. It uses scratch memory for one row
-/// of `b`. Fails only if an allocation fails.
+/// Gustavson's algorithm (1978): the pattern first, then one multiplication for each triple (i, k, j). It uses scratch memory for one row of
+/// `b`. Fails only if an allocation fails.
 ///
 /// # Examples
 ///
@@ -50,8 +50,8 @@ pub fn mul_csr<T: Ring>(
 /// The result stores every place of [`spmm_csc_pattern`](crate::serial::spmm_csc_pattern), even where the sum is zero. `a.ncols()` must
 /// equal `b.nrows()`.
 ///
-/// It is the product by rows of the transposes, in reverse order: one multiplication for each triple (i, k, j), then a sort of each
-/// column. It uses scratch memory for one column of `a`. Fails only if an allocation fails.
+/// It is the product by rows of the transposes, in reverse order: the pattern first, then one multiplication for each triple (i, k, j). It
+/// uses scratch memory for one column of `a`. Fails only if an allocation fails.
 pub fn mul_csc<T: Ring>(
     alloc: Global,
     a: &CscMatrix<T>,
