@@ -2,6 +2,7 @@
 
 mod bits;
 mod factor;
+mod gather;
 mod pattern;
 pub(crate) mod prealloc;
 mod product;
