@@ -1,9 +1,11 @@
 -- The entries of a column below the diagonal.
-use Rattle.std.proofs.Common.{◌≡◌, ◌≢◌, ℕ, zero, suc, ◌+◌, ◌<◌, ◌≤◌, inl, inr, true, List, [], ◌∷◌}
+use Rattle.std.proofs.Common.{◌≡◌, ◌≢◌, ℕ, zero, suc, ◌+◌, ◌-◌, ◌<◌, ◌≤◌, inl, inr, true, List, [], ◌∷◌}
+use Rattle.std.proofs.Common.{take, subst}
 use Rattle.std.proofs.Common.{length, get_or, drop, All, Contains, slice_index, slice_range, ap}
 use Rattle.std.proofs.Common.{sym, ◌∙◌, refl, arith}
 use Rattle.std.specs.Prelude.{nat_eq}
-use Rattle.std.proofs.lemmas.List.{get_or-drop, get_or_default, length-drop, drop_all}
+use Rattle.std.proofs.lemmas.List.{get_or-drop, get_or_default, length-drop, drop_all, drop-take}
+use Rattle.std.proofs.lemmas.List.{drop-drop}
 use Rattle.std.proofs.lemmas.List.Edits.{get_or-between}
 use Rattle.std.proofs.lemmas.List.Elements.{All-drop}
 use Rattle.sparse_lemmas.proofs.Cases.{le_cases, nat_eq_no}
@@ -17,7 +19,7 @@ use Rattle.sparse_cs.specs.PlainOfLanes.{plain_of_rows, plain_of_cols}
 use Rattle.sparse_cs.proofs.Arrays.{where_no, value_at_position, has_is_place}
 use Rattle.sparse_cs.specs.InnerRows.{lane_value}
 use Rattle.sparse_cs.proofs.LaneValues.{values_of, length-values, lane_value_is}
-use Rattle.sparse_solve.specs.InnerColumns.{IsColumnBelow}
+use Rattle.sparse_solve.specs.InnerColumns.{IsColumnBelow, IsColumnIn}
 
 module _ (R : CommRing) {T : Type 0} (f : T → R.Carrier) (i : ℕ) where
   no_values : (ks : List ℕ) → lane_value R f ks [] i ≡ R.zero
@@ -83,7 +85,7 @@ module _ (R : CommRing) {T : Type 0} (f : T → R.Carrier) (z : T) (m : Compress
       ((has_is_place R f m.pattern sound.valid m.values sound.count k i).0 hit))
 
   -- behind the diagonal position q stand the entries below the diagonal
-  pub column_is : (q : ℕ) (e : T) → q < length (lane_of m.pattern k)
+  column_is : (q : ℕ) (e : T) → q < length (lane_of m.pattern k)
       → get_or (lane_of m.pattern k) q 0 ≡ k → R.mul (f (get_or (values_of m k) q z)) (f e) ≡ R.one
       → IsColumnBelow R f (plain_of_cols R f m) k (drop (q + 1) (lane_of m.pattern k))
       (drop (q + 1) (values_of m k)) e
@@ -131,9 +133,63 @@ lane_sliced d offsets rows k o r =
     ap (λ v. slice_range v (slice_index offsets k) (slice_index offsets (k + 1))) r
     ∙ ap (λ o. slice_range d.indices (slice_index o k) (slice_index o (k + 1))) o
 
-pub values_sliced : {T : Type 0} (m : Compressed T) (offsets : List ℕ) (values : List T) (k : ℕ)
-    → offsets ≡ m.pattern.offsets → values ≡ m.values
-    → slice_range values (slice_index offsets k) (slice_index offsets (k + 1)) ≡ values_of m k
-values_sliced m offsets values k o v = ap
-    (λ v. slice_range v (slice_index offsets k) (slice_index offsets (k + 1))) v
-    ∙ ap (λ o. slice_range m.values (slice_index o k) (slice_index o (k + 1))) o
+-- the rest of a range
+drop_range : {X : Type 0} (xs : List X) (begin end n : ℕ) → begin + n ≤ end
+    → drop n (slice_range xs begin end) ≡ slice_range xs (begin + n) end
+drop_range xs begin end n le =
+    let parts : end - begin ≡ n + (end - (begin + n)) = omega (arith, le) in
+    ap (λ m. drop n (take m (drop begin xs))) parts
+    ∙ drop-take n (end - (begin + n)) (drop begin xs)
+    ∙ ap (take (end - (begin + n))) (drop-drop n begin xs)
+
+module _ (R : CommRing) {T : Type 0} (f : T → R.Carrier) (z : T) (m : Compressed T)
+    (sound : IsSound m) (k : ℕ) (lane : k < m.pattern.major_dim) (q : ℕ)
+    (lt : q < length (lane_of m.pattern k)) where
+  room : start_of m.pattern k + q < end_of m.pattern k
+  room = omega (arith, lt, length-lane m.pattern k (sound.valid.lanes k lane))
+
+  -- the same as positions of the matrix
+  pub column_in : (offsets : List ℕ) (e : T) → offsets ≡ m.pattern.offsets
+      → get_or (lane_of m.pattern k) q 0 ≡ k → R.mul (f (get_or (values_of m k) q z)) (f e) ≡ R.one
+      → IsColumnIn R f m k (slice_index offsets k + q + 1) (slice_index offsets (k + 1)) e
+  column_in offsets e o is inverts =
+      let start = start_of m.pattern k in
+      let end = end_of m.pattern k in
+      let here : start + q < end = room in
+      let valid = sound.valid.lanes k lane in
+      let place : start + (q + 1) ≡ start + q + 1 = omega arith in
+      let rows_are : drop (q + 1) (lane_of m.pattern k)
+      ≡ slice_range m.pattern.indices (start + q + 1) end =
+      drop_range m.pattern.indices start end (q + 1) (omega (arith, here))
+      ∙ ap (λ b. slice_range m.pattern.indices b end) place in
+      let values_are : drop (q + 1) (values_of m k)
+      ≡ slice_range m.values (start + q + 1) end =
+      drop_range m.values start end (q + 1) (omega (arith, here))
+      ∙ ap (λ b. slice_range m.values b end) place in
+      let plain = plain_of_cols R f m in
+      let column = column_is R f z m sound k lane q e lt is inverts in
+      let found : IsColumnIn R f m k (start + q + 1) end e = record {
+        range = (
+          omega (arith, here),
+          valid.inside,
+          omega (arith, valid.inside, sound.count),
+        );
+        entries = subst (λ rs. IsColumnBelow R f plain k rs
+            (slice_range m.values (start + q + 1) end) e) rows_are
+            (subst (λ vs. IsColumnBelow R f plain k (drop (q + 1) (lane_of m.pattern k)) vs e)
+            values_are column);
+      } in
+      subst (λ os. IsColumnIn R f m k (slice_index os k + q + 1) (slice_index os (k + 1)) e) (sym o)
+      found
+
+  -- a value of the lane, read among all values
+  pub value_read : (offsets : List ℕ) (values : List T) (v : T) → offsets ≡ m.pattern.offsets
+      → values ≡ m.values → v ≡ get_or values (slice_index offsets k + q) v
+      → v ≡ get_or (values_of m k) q z
+  value_read offsets values v o vs read =
+      let here : start_of m.pattern k + q < end_of m.pattern k = room in
+      read ∙ ap (λ xs. get_or xs (slice_index offsets k + q) v) vs
+      ∙ ap (λ os. get_or m.values (slice_index os k + q) v) o
+      ∙ get_or_default m.values (start_of m.pattern k + q) v z
+      (omega (arith, here, (sound.valid.lanes k lane).inside, sound.count))
+      ∙ sym (get_or-between m.values (start_of m.pattern k) (end_of m.pattern k) q z here)

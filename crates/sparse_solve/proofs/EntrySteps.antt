@@ -1,12 +1,24 @@
--- One entry of a column more, taken off a list or added to a sum.
-use Rattle.std.proofs.Common.{◌≡◌, ℕ, ◌+◌, ◌<◌, List, [], length, get_or, set, take, ap, sym, ◌∙◌}
-use Rattle.std.proofs.Common.{arith}
-use Rattle.std.proofs.lemmas.List.{get_or_default, take_all}
+-- One entry of a range more, taken off a list or added to a sum.
+use Rattle.std.proofs.Common.{◌≡◌, ℕ, ◌+◌, ◌-◌, ◌<◌, ◌≤◌, All, List, length, get_or, set, take, drop}
+use Rattle.std.proofs.Common.{slice_range, ap, sym, subst, ◌∙◌, arith}
+use Rattle.std.proofs.lemmas.List.{get_or_default, get_or-drop, length-drop}
+use Rattle.std.proofs.lemmas.List.Edits.{get_or-between, length-between}
 use Rattle.sparse_algebra.specs.Algebra.{CommRing}
 use Rattle.sparse_algebra.proofs.RingLemmas.{mul_zero}
 use Rattle.sparse_units.proofs.Products.{mul_neg}
 use Rattle.sparse_cs.proofs.RowSums.{lane_step, sum_zip_more}
 use Rattle.sparse_solve.specs.InnerColumns.{AddsMultiple, dot_of, entries}
+
+-- an entry of a range is as the range says
+pub inside_at : (rows : List ℕ) (begin at end bound : ℕ) → begin ≤ at → at < end
+    → end ≤ length rows
+    → All (λ i. i < bound) (slice_range rows begin end) → get_or rows at 0 < bound
+inside_at rows begin at end bound order lt fits inside =
+    let place : begin + (at - begin) ≡ at = omega (arith, order) in
+    let below : get_or (slice_range rows begin end) (at - begin) 0 < bound =
+    inside (at - begin) 0 (omega (arith, lt, order, length-between rows begin end fits)) in
+    subst (λ i. i < bound) (get_or-between rows begin end (at - begin) 0 (omega (arith, lt, place))
+    ∙ ap (λ p. get_or rows p 0) place) below
 
 module _ (R : CommRing) {T : Type 0} (f : T → R.Carrier) (z : T) where
   -- -(v * a) is -a * v
@@ -14,45 +26,82 @@ module _ (R : CommRing) {T : Type 0} (f : T → R.Carrier) (z : T) where
   neg_product v a = sym (mul_neg R v a) ∙ R.laws.mul_comm v (R.neg a)
 
   -- no entry yet
-  pub off_none : (c : R.Carrier) (x : List T) → AddsMultiple R f z c [] [] x x
-  off_none c x i lt = sym (ap (R.add (f (get_or x i z))) (mul_zero R c)
-      ∙ R.laws.add_zero (f (get_or x i z)))
+  pub off_none : (c : R.Carrier) (rows : List ℕ) (values : List T) (begin : ℕ) (x : List T)
+      → AddsMultiple R f z c (slice_range rows begin begin) (slice_range values begin begin) x x
+  off_none c rows values begin x =
+      let none : 0 ≡ begin - begin = omega arith in
+      subst (λ n. AddsMultiple R f z c (take n (drop begin rows)) (take n (drop begin values)) x x)
+      none (λ i lt.
+      sym (ap (R.add (f (get_or x i z))) (mul_zero R c) ∙ R.laws.add_zero (f (get_or x i z))))
 
-  module _ (rows : List ℕ) (values : List T) (n k : ℕ) (v : T) (row_in : n < length rows)
-      (value_in : n < length values) (row_is : k ≡ get_or rows n k)
-      (value_is : v ≡ get_or values n v)
-      (x : List T) (within : k < length x) (old : T) (read : old ≡ get_or x k old) where
-    pub off_more : (start : List T) (factor product minus new : T) → length x ≡ length start
-        → f product ≡ R.mul (f v) (f factor) → f minus ≡ R.neg (f product)
-        → f new ≡ R.add (f old) (f minus)
-        → AddsMultiple R f z (R.neg (f factor)) (take n rows) (take n values) start x
-        → AddsMultiple R f z (R.neg (f factor)) (take (n + 1) rows) (take (n + 1) values) start
-        (set x k new)
-    off_more start factor product minus new same times negated added so_far i lt =
-        let term = negated ∙ ap R.neg times ∙ neg_product (f v) (f factor) in
-        lane_step R f (R.neg (f factor)) rows values x start z n k v old new row_in value_in row_is
-        value_is within read (added ∙ ap (R.add (f old)) term)
-        (λ j j_lt. so_far j (omega (arith, same, j_lt))) i (omega (arith, same, lt))
+  pub dot_none : (zero : T) (rows : List ℕ) (values : List T) (begin : ℕ) (x : List T)
+      → f zero ≡ R.zero
+      → f zero ≡ dot_of R f (slice_range rows begin begin) (slice_range values begin begin)
+      (entries R f z x)
+  dot_none zero rows values begin x is =
+      let none : 0 ≡ begin - begin = omega arith in
+      subst (λ n. f zero ≡ dot_of R f (take n (drop begin rows)) (take n (drop begin values))
+      (entries R f z x)) none is
 
-    pub dot_more : (sum product next : T) → f sum ≡ dot_of R f (take n rows) (take n values)
-        (entries R f z x)
-        → f product ≡ R.mul (f v) (f old) → f next ≡ R.add (f sum) (f product)
-        → f next ≡ dot_of R f (take (n + 1) rows) (take (n + 1) values) (entries R f z x)
-    dot_more sum product next so_far times added =
-        added ∙ ap (λ s. R.add s (f product)) so_far
-        ∙ ap (R.add _) (times ∙ ap (λ y. R.mul (f v) (f y))
-        (read ∙ get_or_default x k old z within))
-        ∙ sym (sum_zip_more R (λ t. R.mul (f t.1) (f (get_or x t.0 z))) rows values n k v row_in
-        value_in row_is value_is)
+  module _ (rows : List ℕ) (values : List T) (begin at : ℕ) (v : T) (order : begin ≤ at)
+      (row_in : at < length rows) (value_in : at < length values)
+      (value_is : v ≡ get_or values at v) where
+    abbrev k : ℕ
+    k = get_or rows at 0
 
-  module _ (rows : List ℕ) (values : List T) (n : ℕ) (row_end : length rows ≡ n)
-      (value_end : length values ≡ n) where
-    pub off_all : (c : R.Carrier) (start x : List T)
-        → AddsMultiple R f z c (take n rows) (take n values) start x
-        → AddsMultiple R f z c rows values start x
-    off_all c start x h = rw (take_all n rows (omega arith), take_all n values (omega arith)) at h
+    place : begin + (at - begin) ≡ at
+    place = omega (arith, order)
 
-    pub dot_all : (sum : T) (x : List T) → f sum ≡ dot_of R f (take n rows) (take n values)
-        (entries R f z x)
-        → f sum ≡ dot_of R f rows values (entries R f z x)
-    dot_all sum x h = rw (take_all n rows (omega arith), take_all n values (omega arith)) at h
+    row_left : at - begin < length (drop begin rows)
+    row_left = omega (arith, order, row_in, length-drop begin rows)
+
+    value_left : at - begin < length (drop begin values)
+    value_left = omega (arith, order, value_in, length-drop begin values)
+
+    row_there : get_or rows at 0
+        ≡ get_or (drop begin rows) (at - begin) (get_or rows at 0)
+    row_there = get_or_default rows at 0 k row_in
+        ∙ sym (get_or-drop begin rows (at - begin) k ∙ ap (λ p. get_or rows p k) place)
+
+    value_there : v ≡ get_or (drop begin values) (at - begin) v
+    value_there = value_is
+        ∙ sym (get_or-drop begin values (at - begin) v ∙ ap (λ p. get_or values p v) place)
+
+    one_more : at - begin + 1 ≡ at + 1 - begin
+    one_more = omega (arith, order)
+
+    module _ (x : List T) (within : get_or rows at 0 < length x) (old : T)
+        (read : old ≡ get_or x (get_or rows at 0) old) where
+      pub off_more : (start : List T) (factor product minus new : T) → length x ≡ length start
+          → f product ≡ R.mul (f v) (f factor) → f minus ≡ R.neg (f product)
+          → f new ≡ R.add (f old) (f minus)
+          → AddsMultiple R f z (R.neg (f factor)) (slice_range rows begin at)
+          (slice_range values begin at) start x
+          → AddsMultiple R f z (R.neg (f factor)) (slice_range rows begin (at + 1))
+          (slice_range values begin (at + 1)) start (set x (get_or rows at 0) new)
+      off_more start factor product minus new same times negated added so_far =
+          let term = negated ∙ ap R.neg times ∙ neg_product (f v) (f factor) in
+          let more : AddsMultiple R f z (R.neg (f factor)) (take (at - begin + 1) (drop begin rows))
+          (take (at - begin + 1) (drop begin values)) start (set x k new) = λ i lt.
+          lane_step R f (R.neg (f factor)) (drop begin rows) (drop begin values) x start z
+          (at - begin) k v old new row_left value_left row_there value_there within read
+          (added ∙ ap (R.add (f old)) term) (λ j j_lt. so_far j (omega (arith, same, j_lt))) i
+          (omega (arith, same, lt)) in
+          subst (λ m. AddsMultiple R f z (R.neg (f factor)) (take m (drop begin rows))
+          (take m (drop begin values)) start (set x k new)) one_more more
+
+      pub dot_more : (sum product next : T) → f sum ≡ dot_of R f (slice_range rows begin at)
+          (slice_range values begin at) (entries R f z x)
+          → f product ≡ R.mul (f v) (f old) → f next ≡ R.add (f sum) (f product)
+          → f next ≡ dot_of R f (slice_range rows begin (at + 1)) (slice_range values begin (at + 1))
+          (entries R f z x)
+      dot_more sum product next so_far times added =
+          let more : f next ≡ dot_of R f (take (at - begin + 1) (drop begin rows))
+          (take (at - begin + 1) (drop begin values)) (entries R f z x) =
+          added ∙ ap (λ s. R.add s (f product)) so_far
+          ∙ ap (R.add _) (times ∙ ap (λ y. R.mul (f v) (f y))
+          (read ∙ get_or_default x k old z within))
+          ∙ sym (sum_zip_more R (λ t. R.mul (f t.1) (f (get_or x t.0 z))) (drop begin rows)
+          (drop begin values) (at - begin) k v row_left value_left row_there value_there) in
+          subst (λ m. f next ≡ dot_of R f (take m (drop begin rows)) (take m (drop begin values))
+          (entries R f z x)) one_more more

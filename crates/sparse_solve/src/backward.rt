@@ -17,13 +17,15 @@ pub fn solve_backward<T: Units>(l: &CscMatrix<T>, x: &mut [T])
     ensures { SolvesList T.ring T.value T.zero_value (λ i j. lower T.ring T.value l.now j i)
         x.new x.old }
 {
+    let rows = l.row_indices();
+    let values = l.values();
     let count = x.len();
     for step in 0..count {
         let k = count - 1 - step;
         let Some(column) = column_below(l, k) else {
             return;
         };
-        let known = dot(column.rows, column.values, x);
+        let known = dot(rows, values, column.begin, column.end, x);
         x[k] = x[k].add(known.neg()).mul(column.inverse);
     }
 }
@@ -51,13 +53,16 @@ pub fn solve_four_backward<T: Units>(
     ensures fourth { SolvesList T.ring T.value T.zero_value (λ i j. lower T.ring T.value l.now j i)
         fourth.new fourth.old }
 {
+    let rows = l.row_indices();
+    let values = l.values();
     let count = first.len();
     for step in 0..count {
         let k = count - 1 - step;
         let Some(column) = column_below(l, k) else {
             return;
         };
-        let (a, b, c, d) = four_dots(column.rows, column.values, first, second, third, fourth);
+        let (begin, end) = (column.begin, column.end);
+        let (a, b, c, d) = four_dots(rows, values, begin, end, first, second, third, fourth);
         let e = column.inverse;
         first[k] = first[k].add(a.neg()).mul(e);
         second[k] = second[k].add(b.neg()).mul(e);

@@ -1,9 +1,9 @@
 //! Forward substitution, column by column of a lower triangle.
 
-ghost use Rattle.std.specs.Prelude.{◌≡◌, ◌<◌, All, length};
+ghost use Rattle.std.specs.Prelude.{◌≡◌, ◌<◌, All, length, slice_range};
 ghost use Rattle.sparse_cs.specs.PlainOfLanes.{plain_of_cols};
 ghost use Rattle.sparse_cs.specs.InnerRows.{lane_value};
-ghost use Rattle.sparse_solve.specs.InnerColumns.{HasPivots, SolvesList, TakesAnswer, lower};
+ghost use Rattle.sparse_solve.specs.InnerColumns.{HasPivots, HasRange, SolvesList, TakesAnswer, lower};
 
 use crate::column::{Column, column_below};
 use crate::kernels::{divide_entry, take_off, take_off_four};
@@ -18,11 +18,13 @@ pub fn solve_forward<T: Units>(l: &CscMatrix<T>, x: &mut [T])
     requires pivots { HasPivots T.ring T.value (plain_of_cols T.ring T.value l.now) }
     ensures { SolvesList T.ring T.value T.zero_value (lower T.ring T.value l.now) x.new x.old }
 {
+    let rows = l.row_indices();
+    let values = l.values();
     for k in 0..x.len() {
         let Some(column) = column_below(l, k) else {
             return;
         };
-        take_answer(&column, k, x);
+        take_answer(column, k, rows, values, x);
     }
 }
 
@@ -49,64 +51,71 @@ pub fn solve_four_forward<T: Units>(
     ensures fourth { SolvesList T.ring T.value T.zero_value (lower T.ring T.value l.now)
         fourth.new fourth.old }
 {
+    let rows = l.row_indices();
+    let values = l.values();
     for k in 0..first.len() {
         let Some(column) = column_below(l, k) else {
             return;
         };
-        take_four_answers(&column, k, first, second, third, fourth);
+        take_four_answers(column, k, rows, values, first, second, third, fourth);
     }
 }
 
 // Takes the answer of row k, and what it adds to the rows below off them.
-fn take_answer<T: Ring>(column: &Column<'_, T>, k: usize, x: &mut [T])
+fn take_answer<T: Ring>(column: Column<T>, k: usize, rows: &[usize], values: &[T], x: &mut [T])
     requires row { k < length x.old }
-    requires fits { length column.now.values.now ≡ length column.now.rows.now }
-    requires inside { All (λ i. i < length x.old) column.now.rows.now }
-    requires above { lane_value T.ring T.value column.now.rows.now column.now.values.now k ≡ T.ring.zero }
-    ensures { TakesAnswer T.ring T.value T.zero_value k column.now.rows.now column.now.values.now
-        column.now.inverse x.old x.new }
+    requires range { HasRange rows.now values.now column.begin column.end }
+    requires inside { All (λ i. i < length x.old) (slice_range rows.now column.begin column.end) }
+    requires above { lane_value T.ring T.value (slice_range rows.now column.begin column.end)
+        (slice_range values.now column.begin column.end) k ≡ T.ring.zero }
+    ensures { TakesAnswer T.ring T.value T.zero_value k
+        (slice_range rows.now column.begin column.end)
+        (slice_range values.now column.begin column.end) column.inverse x.old x.new }
 {
     let answer = divide_entry(k, column.inverse, x);
-    take_off(answer, column.rows, column.values, x);
+    take_off(answer, rows, values, column.begin, column.end, x);
 }
 
 // The same in each of four columns.
 fn take_four_answers<T: Ring>(
-    column: &Column<'_, T>,
+    column: Column<T>,
     k: usize,
+    rows: &[usize],
+    values: &[T],
     first: &mut [T],
     second: &mut [T],
     third: &mut [T],
     fourth: &mut [T],
 )
     requires row { k < length first.old }
-    requires fits { length column.now.values.now ≡ length column.now.rows.now }
-    requires inside { All (λ i. i < length first.old) column.now.rows.now }
-    requires above { lane_value T.ring T.value column.now.rows.now column.now.values.now k ≡ T.ring.zero }
+    requires range { HasRange rows.now values.now column.begin column.end }
+    requires inside { All (λ i. i < length first.old)
+        (slice_range rows.now column.begin column.end) }
+    requires above { lane_value T.ring T.value (slice_range rows.now column.begin column.end)
+        (slice_range values.now column.begin column.end) k ≡ T.ring.zero }
     requires rows_2 { length second.old ≡ length first.old }
     requires rows_3 { length third.old ≡ length first.old }
     requires rows_4 { length fourth.old ≡ length first.old }
-    ensures first { TakesAnswer T.ring T.value T.zero_value k column.now.rows.now
-        column.now.values.now column.now.inverse first.old first.new }
-    ensures second { TakesAnswer T.ring T.value T.zero_value k column.now.rows.now
-        column.now.values.now column.now.inverse second.old second.new }
-    ensures third { TakesAnswer T.ring T.value T.zero_value k column.now.rows.now
-        column.now.values.now column.now.inverse third.old third.new }
-    ensures fourth { TakesAnswer T.ring T.value T.zero_value k column.now.rows.now
-        column.now.values.now column.now.inverse fourth.old fourth.new }
+    ensures first { TakesAnswer T.ring T.value T.zero_value k
+        (slice_range rows.now column.begin column.end)
+        (slice_range values.now column.begin column.end) column.inverse first.old first.new }
+    ensures second { TakesAnswer T.ring T.value T.zero_value k
+        (slice_range rows.now column.begin column.end)
+        (slice_range values.now column.begin column.end) column.inverse second.old second.new }
+    ensures third { TakesAnswer T.ring T.value T.zero_value k
+        (slice_range rows.now column.begin column.end)
+        (slice_range values.now column.begin column.end) column.inverse third.old third.new }
+    ensures fourth { TakesAnswer T.ring T.value T.zero_value k
+        (slice_range rows.now column.begin column.end)
+        (slice_range values.now column.begin column.end) column.inverse fourth.old fourth.new }
 {
     let a = divide_entry(k, column.inverse, first);
     let b = divide_entry(k, column.inverse, second);
     let c = divide_entry(k, column.inverse, third);
     let d = divide_entry(k, column.inverse, fourth);
     let answers = (a, b, c, d);
+    let (begin, end) = (column.begin, column.end);
     take_off_four(
-        answers,
-        column.rows,
-        column.values,
-        first,
-        second,
-        third,
-        fourth,
+        answers, rows, values, begin, end, first, second, third, fourth,
     );
 }

@@ -1,7 +1,7 @@
-//! The loops over a column's entries below the diagonal.
+//! The loops over a column's entries below the diagonal, which are a range of positions of the matrix.
 
-ghost use Rattle.std.specs.Prelude.{◌≡◌, ◌<◌, All, length, slice_index_or, slice_set};
-ghost use Rattle.sparse_solve.specs.InnerColumns.{AddsMultiple, dot_of, entries};
+ghost use Rattle.std.specs.Prelude.{◌≡◌, ◌<◌, All, length, slice_index_or, slice_range, slice_set};
+ghost use Rattle.sparse_solve.specs.InnerColumns.{AddsMultiple, HasRange, dot_of, entries};
 
 use sparse_algebra::scalar::Ring;
 
@@ -19,15 +19,22 @@ pub fn divide_entry<T: Ring>(k: usize, inverse: T, x: &mut [T]) -> T
 }
 
 // Takes a multiple of the values off x, each in its row.
-pub fn take_off<T: Ring>(factor: T, rows: &[usize], values: &[T], x: &mut [T])
-    requires fits { length values.now ≡ length rows.now }
-    requires inside { All (λ i. i < length x.old) rows.now }
+pub fn take_off<T: Ring>(
+    factor: T,
+    rows: &[usize],
+    values: &[T],
+    begin: usize,
+    end: usize,
+    x: &mut [T],
+)
+    requires range { HasRange rows.now values.now begin end }
+    requires inside { All (λ i. i < length x.old) (slice_range rows.now begin end) }
     ensures { AddsMultiple T.ring T.value T.zero_value (T.ring.neg (T.value factor))
-        rows.now values.now x.old x.new }
+        (slice_range rows.now begin end) (slice_range values.now begin end) x.old x.new }
 {
-    for (row, value) in rows.iter().zip(values) {
-        let entry = &mut x[*row];
-        *entry = entry.add(value.mul(factor).neg());
+    for at in begin..end {
+        let entry = &mut x[rows[at]];
+        *entry = entry.add(values[at].mul(factor).neg());
     }
 }
 
@@ -36,48 +43,51 @@ pub fn take_off_four<T: Ring>(
     factors: (T, T, T, T),
     rows: &[usize],
     values: &[T],
+    begin: usize,
+    end: usize,
     first: &mut [T],
     second: &mut [T],
     third: &mut [T],
     fourth: &mut [T],
 )
-    requires fits { length values.now ≡ length rows.now }
-    requires inside { All (λ i. i < length first.old) rows.now }
+    requires range { HasRange rows.now values.now begin end }
+    requires inside { All (λ i. i < length first.old) (slice_range rows.now begin end) }
     requires rows_2 { length second.old ≡ length first.old }
     requires rows_3 { length third.old ≡ length first.old }
     requires rows_4 { length fourth.old ≡ length first.old }
     ensures first { AddsMultiple T.ring T.value T.zero_value (T.ring.neg (T.value factors.0))
-        rows.now values.now first.old first.new }
+        (slice_range rows.now begin end) (slice_range values.now begin end) first.old first.new }
     ensures second { AddsMultiple T.ring T.value T.zero_value (T.ring.neg (T.value factors.1))
-        rows.now values.now second.old second.new }
+        (slice_range rows.now begin end) (slice_range values.now begin end) second.old second.new }
     ensures third { AddsMultiple T.ring T.value T.zero_value (T.ring.neg (T.value factors.2))
-        rows.now values.now third.old third.new }
+        (slice_range rows.now begin end) (slice_range values.now begin end) third.old third.new }
     ensures fourth { AddsMultiple T.ring T.value T.zero_value (T.ring.neg (T.value factors.3))
-        rows.now values.now fourth.old fourth.new }
+        (slice_range rows.now begin end) (slice_range values.now begin end) fourth.old fourth.new }
 {
     let (a, b, c, d) = factors;
-    for (row, value) in rows.iter().zip(values) {
-        let entry = &mut first[*row];
+    for at in begin..end {
+        let (row, value) = (rows[at], values[at]);
+        let entry = &mut first[row];
         *entry = entry.add(value.mul(a).neg());
-        let entry = &mut second[*row];
+        let entry = &mut second[row];
         *entry = entry.add(value.mul(b).neg());
-        let entry = &mut third[*row];
+        let entry = &mut third[row];
         *entry = entry.add(value.mul(c).neg());
-        let entry = &mut fourth[*row];
+        let entry = &mut fourth[row];
         *entry = entry.add(value.mul(d).neg());
     }
 }
 
 // Returns the sum of the values, each times x in its row.
-pub fn dot<T: Ring>(rows: &[usize], values: &[T], x: &[T]) -> T
-    requires fits { length values.now ≡ length rows.now }
-    requires inside { All (λ i. i < length x.now) rows.now }
-    ensures { T.value result
-        ≡ dot_of T.ring T.value rows.now values.now (entries T.ring T.value T.zero_value x.now) }
+pub fn dot<T: Ring>(rows: &[usize], values: &[T], begin: usize, end: usize, x: &[T]) -> T
+    requires range { HasRange rows.now values.now begin end }
+    requires inside { All (λ i. i < length x.now) (slice_range rows.now begin end) }
+    ensures { T.value result ≡ dot_of T.ring T.value (slice_range rows.now begin end)
+        (slice_range values.now begin end) (entries T.ring T.value T.zero_value x.now) }
 {
     let mut sum = T::zero();
-    for (row, value) in rows.iter().zip(values) {
-        sum = sum.add(value.mul(x[*row]));
+    for at in begin..end {
+        sum = sum.add(values[at].mul(x[rows[at]]));
     }
     sum
 }
@@ -86,31 +96,34 @@ pub fn dot<T: Ring>(rows: &[usize], values: &[T], x: &[T]) -> T
 pub fn four_dots<T: Ring>(
     rows: &[usize],
     values: &[T],
+    begin: usize,
+    end: usize,
     first: &[T],
     second: &[T],
     third: &[T],
     fourth: &[T],
 ) -> (T, T, T, T)
-    requires fits { length values.now ≡ length rows.now }
-    requires inside { All (λ i. i < length first.now) rows.now }
+    requires range { HasRange rows.now values.now begin end }
+    requires inside { All (λ i. i < length first.now) (slice_range rows.now begin end) }
     requires rows_2 { length second.now ≡ length first.now }
     requires rows_3 { length third.now ≡ length first.now }
     requires rows_4 { length fourth.now ≡ length first.now }
-    ensures first { T.value result.0 ≡ dot_of T.ring T.value rows.now values.now
-        (entries T.ring T.value T.zero_value first.now) }
-    ensures second { T.value result.1 ≡ dot_of T.ring T.value rows.now values.now
-        (entries T.ring T.value T.zero_value second.now) }
-    ensures third { T.value result.2 ≡ dot_of T.ring T.value rows.now values.now
-        (entries T.ring T.value T.zero_value third.now) }
-    ensures fourth { T.value result.3 ≡ dot_of T.ring T.value rows.now values.now
-        (entries T.ring T.value T.zero_value fourth.now) }
+    ensures first { T.value result.0 ≡ dot_of T.ring T.value (slice_range rows.now begin end)
+        (slice_range values.now begin end) (entries T.ring T.value T.zero_value first.now) }
+    ensures second { T.value result.1 ≡ dot_of T.ring T.value (slice_range rows.now begin end)
+        (slice_range values.now begin end) (entries T.ring T.value T.zero_value second.now) }
+    ensures third { T.value result.2 ≡ dot_of T.ring T.value (slice_range rows.now begin end)
+        (slice_range values.now begin end) (entries T.ring T.value T.zero_value third.now) }
+    ensures fourth { T.value result.3 ≡ dot_of T.ring T.value (slice_range rows.now begin end)
+        (slice_range values.now begin end) (entries T.ring T.value T.zero_value fourth.now) }
 {
     let (mut a, mut b, mut c, mut d) = (T::zero(), T::zero(), T::zero(), T::zero());
-    for (row, value) in rows.iter().zip(values) {
-        a = a.add(value.mul(first[*row]));
-        b = b.add(value.mul(second[*row]));
-        c = c.add(value.mul(third[*row]));
-        d = d.add(value.mul(fourth[*row]));
+    for at in begin..end {
+        let (row, value) = (rows[at], values[at]);
+        a = a.add(value.mul(first[row]));
+        b = b.add(value.mul(second[row]));
+        c = c.add(value.mul(third[row]));
+        d = d.add(value.mul(fourth[row]));
     }
     (a, b, c, d)
 }

@@ -1,4 +1,4 @@
-use Rattle.std.proofs.Common.{◌-◌, length, arith}
+use Rattle.std.proofs.Common.{◌-◌, length, slice_range, arith}
 use Rattle.sparse_solve.specs.InnerColumns.{lower}
 use Rattle.sparse_solve.proofs.Taking.{backward_begun, backward_list, backward_solved}
 use Rattle.sparse_solve.proofs.backward.solve_backward.Goals as goal
@@ -6,6 +6,22 @@ use Rattle.sparse_solve.proofs.backward.solve_backward.Goals as goal
 pub loop-step-init : goal.loop-step-init
 loop-step-init g c = backward_begun g.T.Ring.ring g.T.Ring.value g.T.Zero.zero_value
     (lower g.T.Ring.ring g.T.Ring.value c.args.l.now) c.args.x.now
+
+pub dot-known-requires-clause-range : goal.dot-known-requires-clause-range
+dot-known-requires-clause-range g c =
+    rw (c.row_indices-rows.ensures.indices, c.values-values.ensures.values)
+    c.in-Some.ensures.some.range
+
+pub dot-known-requires-clause-inside : goal.dot-known-requires-clause-inside
+dot-known-requires-clause-inside g c =
+    rw c.row_indices-rows.ensures.indices (λ q d lt.
+    omega (
+      arith,
+      c.in-Some.ensures.some.entries.inside q d lt,
+      c.loop-step.auto.x,
+      c.requires.rows,
+      c.requires.square,
+    ))
 
 pub loop-step-preserved : goal.loop-step-preserved
 loop-step-preserved g c =
@@ -15,11 +31,13 @@ loop-step-preserved g c =
     let m = c.args.l.now in
     let k = length c.args.x.now - 1 - c.loop-step.step in
     let column = c.in-Some.column in
-    backward_list R f z m k column.rows.now column.values.now column.inverse c.in-Some.ensures.some
+    backward_list R f z m k (slice_range m.pattern.indices column.begin column.end)
+    (slice_range m.values column.begin column.end) column.inverse c.in-Some.ensures.some.entries
     c.args.x.now c.loop-step.x (omega arith) c.loop-step.auto.x c.loop-step.step
     c.index-x-k.result c.dot-known.result c.neg.result c.add.result c.mul.result
     (omega (arith, c.requires.square, c.requires.rows)) (omega arith) c.index-x-k.is
-    c.dot-known.ensures c.neg.ensures c.add.ensures c.mul.ensures c.loop-step.invariant
+    (rw (c.row_indices-rows.ensures.indices, c.values-values.ensures.values) at
+    c.dot-known.ensures) c.neg.ensures c.add.ensures c.mul.ensures c.loop-step.invariant
 
 pub returns : goal.returns
 returns g c = backward_solved g.T.Ring.ring g.T.Ring.value g.T.Zero.zero_value

@@ -1,5 +1,6 @@
-use Rattle.std.proofs.Common.{◌-◌, length, arith}
-use Rattle.sparse_solve.specs.InnerColumns.{lower}
+use Rattle.std.proofs.Common.{◌-◌, length, slice_range, arith}
+use Rattle.sparse_cs.specs.PlainOfLanes.{plain_of_cols}
+use Rattle.sparse_solve.specs.InnerColumns.{IsColumnBelow, lower}
 use Rattle.sparse_solve.proofs.Taking.{backward_begun, backward_list, backward_solved}
 use Rattle.sparse_solve.proofs.backward.solve_four_backward.Goals as goal
 
@@ -15,6 +16,22 @@ loop-step-init g c =
       fourth = begun c.args.fourth.now;
     }
 
+pub four_dots-a-requires-clause-range : goal.four_dots-a-requires-clause-range
+four_dots-a-requires-clause-range g c =
+    rw (c.row_indices-rows.ensures.indices, c.values-values.ensures.values)
+    c.in-Some.ensures.some.range
+
+pub four_dots-a-requires-clause-inside : goal.four_dots-a-requires-clause-inside
+four_dots-a-requires-clause-inside g c =
+    rw c.row_indices-rows.ensures.indices (λ q d lt.
+    omega (
+      arith,
+      c.in-Some.ensures.some.entries.inside q d lt,
+      c.loop-step.auto.first,
+      c.requires.rows,
+      c.requires.square,
+    ))
+
 pub loop-step-preserved : goal.loop-step-preserved
 loop-step-preserved g c =
     let R = g.T.Ring.ring in
@@ -23,8 +40,13 @@ loop-step-preserved g c =
     let k = length c.args.first.now - 1 - c.loop-step.step in
     let column = c.in-Some.column in
     let was = c.loop-step in
-    let row = backward_list R f z c.args.l.now k column.rows.now column.values.now column.inverse
-    c.in-Some.ensures.some in
+    let m = c.args.l.now in
+    let rows = slice_range c.row_indices-rows.result.now column.begin column.end in
+    let values = slice_range c.values-values.result.now column.begin column.end in
+    let is : IsColumnBelow R f (plain_of_cols R f m) k rows values column.inverse =
+    rw (c.row_indices-rows.ensures.indices, c.values-values.ensures.values)
+    c.in-Some.ensures.some.entries in
+    let row = backward_list R f z m k rows values column.inverse is in
     let dots = c.four_dots-a in
     record {
       first = row c.args.first.now was.first (omega (arith)) was.auto.first was.step

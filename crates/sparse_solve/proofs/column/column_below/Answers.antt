@@ -1,16 +1,13 @@
-use Rattle.std.proofs.Common.{◌≡◌, ◌+◌, ◌<◌, ℕ, List, length, get_or, drop, Contains, slice_index}
-use Rattle.std.proofs.Common.{slice_range, ap, sym, subst, ◌∙◌, arith}
-use Rattle.std.proofs.lemmas.List.{get_or_default, take_rest}
+use Rattle.std.proofs.Common.{◌≡◌, ◌<◌, ℕ, List, length, get_or, Contains, slice_index}
+use Rattle.std.proofs.Common.{ap, sym, subst, ◌∙◌, arith}
 use Rattle.sparse_pattern.specs.Raw.{lane_of}
-use Rattle.sparse_cs.specs.PlainOfLanes.{plain_of_cols}
-use Rattle.sparse_cs.proofs.LaneValues.{values_of, length-values}
-use Rattle.sparse_solve.specs.InnerColumns.{IsColumnBelow}
-use Rattle.sparse_solve.proofs.BelowDiagonal.{lane_sliced, values_sliced, column_is, not_stored}
+use Rattle.sparse_pattern.proofs.PatternLanes.{length-lane}
+use Rattle.sparse_solve.proofs.BelowDiagonal.{lane_sliced, column_in, value_read, not_stored}
 use Rattle.sparse_solve.proofs.BelowDiagonal.{value_stored}
 use Rattle.sparse_solve.proofs.column.column_below.Goals as goal
 
-pub returns-in_err-at-clause-none : goal.returns-in_err-at-clause-none
-returns-in_err-at-clause-none g c =
+pub returns-in_err-found-clause-none : goal.returns-in_err-found-clause-none
+returns-in_err-found-clause-none g c =
     let R = g.T.Ring.ring in
     let f = g.T.Ring.value in
     let z = g.T.Zero.zero_value in
@@ -18,9 +15,31 @@ returns-in_err-at-clause-none g c =
     let k = c.args.k in
     let none : Contains (lane_of m.pattern k) k → ⊥ =
     rw (← c.col_offsets-offsets.ensures.offsets, ← c.row_indices.ensures.indices)
-    c.in_err-at.ensures in
+    c.in_err-found.ensures in
     rw c.from_residual.ensures (λ pivot. not_stored R f z m c.col_offsets-offsets.ensures.sound k
     c.requires k none pivot.0)
+
+pub bounds-values-at : goal.bounds-values-at
+bounds-values-at g c =
+    let m = c.args.l.now in
+    let k = c.args.k in
+    let sound = c.col_offsets-offsets.ensures.sound in
+    let valid = sound.valid.lanes k c.requires in
+    let lt : c.in_ok-found.found < length (lane_of m.pattern k) =
+    subst (λ (rs : List ℕ). c.in_ok-found.found < length rs)
+    (lane_sliced m.pattern c.col_offsets-offsets.result.now c.row_indices.result.now k
+    c.col_offsets-offsets.ensures.offsets c.row_indices.ensures.indices) c.in_ok-found.ensures.0 in
+    let start : slice_index c.col_offsets-offsets.result.now k ≡ slice_index m.pattern.offsets k =
+    ap (λ (os : List ℕ). slice_index os k) c.col_offsets-offsets.ensures.offsets in
+    omega (
+      arith,
+      lt,
+      length-lane m.pattern k valid,
+      valid.inside,
+      start,
+      sound.count,
+      ap length c.values.ensures.values,
+    )
 
 pub returns-in_err-inverse-clause-none : goal.returns-in_err-inverse-clause-none
 returns-in_err-inverse-clause-none g c =
@@ -29,28 +48,18 @@ returns-in_err-inverse-clause-none g c =
     let z = g.T.Zero.zero_value in
     let m = c.args.l.now in
     let k = c.args.k in
-    let at = c.in_ok-at.at in
+    let q = c.in_ok-found.found in
     let sound = c.col_offsets-offsets.ensures.sound in
-    let O = c.col_offsets-offsets.result.now in
-    let rows_is = lane_sliced m.pattern O c.row_indices.result.now k
+    let rows_is = lane_sliced m.pattern c.col_offsets-offsets.result.now c.row_indices.result.now k
     c.col_offsets-offsets.ensures.offsets c.row_indices.ensures.indices in
-    let values_is = values_sliced m O c.values.result.now k c.col_offsets-offsets.ensures.offsets
-    c.values.ensures.values in
-    let values = slice_range c.values.result.now (slice_index O k) (slice_index O (k + 1)) in
-    let lt : at < length (lane_of m.pattern k) = subst (λ (rs : List ℕ). at < length rs) rows_is
-    c.in_ok-at.ensures.0 in
-    let is : get_or (lane_of m.pattern k) at 0 ≡ k = subst (λ (rs : List ℕ). get_or rs at 0 ≡ k)
-    rows_is c.in_ok-at.ensures.1 in
-    let within : at < length values = omega (
-      arith,
-      ap length values_is,
-      length-values R f z m sound k c.requires,
-      lt,
-    ) in
-    let read : c.index-values-at.result ≡ get_or (values_of m k) at z = c.index-values-at.is
-    ∙ get_or_default values at c.index-values-at.result z within
-    ∙ ap (λ vs. get_or vs at z) values_is in
-    let stored = value_stored R f z m sound k c.requires k at lt is in
+    let lt : q < length (lane_of m.pattern k) = subst (λ (rs : List ℕ). q < length rs) rows_is
+    c.in_ok-found.ensures.0 in
+    let is : get_or (lane_of m.pattern k) q 0 ≡ k = subst (λ (rs : List ℕ). get_or rs q 0 ≡ k)
+    rows_is c.in_ok-found.ensures.1 in
+    let read = value_read R f z m sound k c.requires q lt c.col_offsets-offsets.result.now
+    c.values.result.now c.index-values-at.result c.col_offsets-offsets.ensures.offsets
+    c.values.ensures.values c.index-values-at.is in
+    let stored = value_stored R f z m sound k c.requires k q lt is in
     rw c.from_residual-in_err-inverse.ensures (λ pivot.
     let found = c.in_err-inverse.ensures.exact.1
     (pivot.1.0, ap (λ v. R.mul v (f pivot.1.0)) (ap f read ∙ sym stored) ∙ pivot.1.1) in
@@ -63,34 +72,18 @@ returns-clause-some g c =
     let z = g.T.Zero.zero_value in
     let m = c.args.l.now in
     let k = c.args.k in
-    let at = c.in_ok-at.at in
+    let q = c.in_ok-found.found in
     let e = c.in_ok-inverse.inverse in
     let sound = c.col_offsets-offsets.ensures.sound in
-    let O = c.col_offsets-offsets.result.now in
-    let rows_is = lane_sliced m.pattern O c.row_indices.result.now k
+    let rows_is = lane_sliced m.pattern c.col_offsets-offsets.result.now c.row_indices.result.now k
     c.col_offsets-offsets.ensures.offsets c.row_indices.ensures.indices in
-    let values_is = values_sliced m O c.values.result.now k c.col_offsets-offsets.ensures.offsets
-    c.values.ensures.values in
-    let rows = slice_range c.row_indices.result.now (slice_index O k) (slice_index O (k + 1)) in
-    let values = slice_range c.values.result.now (slice_index O k) (slice_index O (k + 1)) in
-    let lt : at < length (lane_of m.pattern k) = subst (λ (rs : List ℕ). at < length rs) rows_is
-    c.in_ok-at.ensures.0 in
-    let is : get_or (lane_of m.pattern k) at 0 ≡ k = subst (λ (rs : List ℕ). get_or rs at 0 ≡ k)
-    rows_is c.in_ok-at.ensures.1 in
-    let within : at < length values = omega (
-      arith,
-      ap length values_is,
-      length-values R f z m sound k c.requires,
-      lt,
-    ) in
-    let read : c.index-values-at.result ≡ get_or (values_of m k) at z = c.index-values-at.is
-    ∙ get_or_default values at c.index-values-at.result z within
-    ∙ ap (λ vs. get_or vs at z) values_is in
+    let lt : q < length (lane_of m.pattern k) = subst (λ (rs : List ℕ). q < length rs) rows_is
+    c.in_ok-found.ensures.0 in
+    let is : get_or (lane_of m.pattern k) q 0 ≡ k = subst (λ (rs : List ℕ). get_or rs q 0 ≡ k)
+    rows_is c.in_ok-found.ensures.1 in
+    let read = value_read R f z m sound k c.requires q lt c.col_offsets-offsets.result.now
+    c.values.result.now c.index-values-at.result c.col_offsets-offsets.ensures.offsets
+    c.values.ensures.values c.index-values-at.is in
     let inverts = ap (λ v. R.mul (f v) (f e)) (sym read) ∙ c.in_ok-inverse.ensures.inverse in
-    let column = column_is R f z m sound k c.requires at e lt is inverts in
-    let plain = plain_of_cols R f m in
-    let by_rows = subst (λ (rs : List ℕ). IsColumnBelow R f plain k (drop (at + 1) rs)
-    (drop (at + 1) (values_of m k)) e) (sym rows_is) column in
-    let by_values = subst (λ vs. IsColumnBelow R f plain k (drop (at + 1) rows) (drop (at + 1) vs)
-    e) (sym values_is) by_rows in
-    rw (take_rest rows (at + 1), take_rest values (at + 1)) by_values
+    column_in R f z m sound k c.requires q lt c.col_offsets-offsets.result.now e
+    c.col_offsets-offsets.ensures.offsets is inverts

@@ -1,4 +1,4 @@
-use Rattle.std.proofs.Common.{refl}
+use Rattle.std.proofs.Common.{slice_range, refl}
 use Rattle.sparse_solve.proofs.Taking.{taken}
 use Rattle.sparse_solve.proofs.forward.take_answer.Goals as goal
 
@@ -7,9 +7,10 @@ returns g c =
     let R = g.T.Ring.ring in
     let f = g.T.Ring.value in
     let z = g.T.Zero.zero_value in
-    let column = c.args.column.now in
-    let x = c.args.x.now in
+    let column = c.args.column in
+    let rows = slice_range c.args.rows.now column.begin column.end in
+    let values = slice_range c.args.values.now column.begin column.end in
     let answer = c.divide_entry-answer.result in
-    taken R f z c.args.k column.rows.now column.values.now x c.take_off.new.x answer column.inverse
+    taken R f z c.args.k rows values c.args.x.now c.take_off.new.x answer column.inverse
     (R.neg (f answer)) c.requires.row c.requires.above c.divide_entry-answer.ensures.value refl
     (rw c.divide_entry-answer.ensures.written at c.take_off.ensures)

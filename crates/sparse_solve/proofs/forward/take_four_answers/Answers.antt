@@ -1,4 +1,4 @@
-use Rattle.std.proofs.Common.{refl, arith}
+use Rattle.std.proofs.Common.{slice_range, refl, arith}
 use Rattle.sparse_solve.proofs.Taking.{taken}
 use Rattle.sparse_solve.proofs.forward.take_four_answers.Goals as goal
 
@@ -7,8 +7,9 @@ returns g c =
     let R = g.T.Ring.ring in
     let f = g.T.Ring.value in
     let z = g.T.Zero.zero_value in
-    let column = c.args.column.now in
-    let one = taken R f z c.args.k column.rows.now column.values.now in
+    let column = c.args.column in
+    let one = taken R f z c.args.k (slice_range c.args.rows.now column.begin column.end)
+    (slice_range c.args.values.now column.begin column.end) in
     let off = c.take_off_four.ensures in
     record {
       first = one c.args.first.now c.take_off_four.new.first c.divide_entry-a.result column.inverse

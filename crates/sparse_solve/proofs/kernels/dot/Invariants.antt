@@ -1,9 +1,15 @@
-use Rattle.std.proofs.Common.{◌≡◌, length, take}
+use Rattle.std.proofs.Common.{◌≤◌, slice_range, ◌≡◌}
 use Rattle.sparse_solve.specs.InnerColumns.{dot_of, entries}
 use Rattle.sparse_solve.proofs.kernels.dot.Given as goal
 
-abbrev pub invariant-loop-row : goal.invariant-loop-row
-invariant-loop-row g l =
-    let n = length l.yielded in
-    g.T.Ring.value l.sum ≡ dot_of g.T.Ring.ring g.T.Ring.value (take n l.rows) (take n l.values)
-    (entries g.T.Ring.ring g.T.Ring.value g.T.Zero.zero_value l.x)
+abbrev pub invariant-loop-at : goal.invariant-loop-at
+invariant-loop-at g l =
+    let R = g.T.Ring.ring in
+    let f = g.T.Ring.value in
+    let z = g.T.Zero.zero_value in
+    let rows = slice_range l.rows l.begin l.at in
+    let values = slice_range l.values l.begin l.at in
+    record {
+      order : l.begin ≤ l.at;
+      sum : f l.sum ≡ dot_of R f rows values (entries R f z l.x);
+    }

@@ -1,55 +1,75 @@
-use Rattle.std.proofs.Common.{◌<◌, length, get_or, arith, rules}
-use Rattle.std.proofs.lemmas.List.{get_or_default, length_push}
-use Rattle.std.proofs.lemmas.Slice.Zip.{zip_turn, zip_end}
+use Rattle.std.proofs.Common.{◌≡◌, ◌<◌, length, get_or, slice_range, subst, arith}
+use Rattle.std.proofs.lemmas.List.{get_or_default}
 use Rattle.sparse_cs.proofs.RowSums.{offset_fits}
-use Rattle.sparse_solve.proofs.EntrySteps.{off_none, off_more, off_all}
+use Rattle.sparse_solve.specs.InnerColumns.{AddsMultiple}
+use Rattle.sparse_solve.proofs.EntrySteps.{inside_at, off_none, off_more}
 use Rattle.sparse_solve.proofs.kernels.take_off.Goals as goal
 
-pub loop-row-init : goal.loop-row-init
-loop-row-init g c = off_none g.T.Ring.ring g.T.Ring.value g.T.Zero.zero_value
-    (g.T.Ring.ring.neg (g.T.Ring.value c.args.factor)) c.args.x.now
+pub loop-at-init : goal.loop-at-init
+loop-at-init g c = record {
+  order = omega arith;
+  taken = off_none g.T.Ring.ring g.T.Ring.value g.T.Zero.zero_value
+      (g.T.Ring.ring.neg (g.T.Ring.value c.args.factor)) c.args.rows.now c.args.values.now
+      c.args.begin c.args.x.now;
+}
 
-pub offset_bounds-x-row : goal.offset_bounds-x-row
-offset_bounds-x-row g c =
-    let turn = zip_turn c.args.rows.now c.args.values.now c.loop-row.yielded
-    c.into_iter-row-iterator.result c.loop-row.row-iterator c.next.new.self c.next.result
-    (search rules) (search rules) c.loop-row.yielded_by (c.in-Some.row, c.in-Some.value)
-    c.in-Some.is c.next.ensures.steps in
-    let within : c.in-Some.row.now < length c.args.x.now =
-    rw (turn.2 0) (c.requires.inside (length c.loop-row.yielded) 0 turn.0) in
-    let x = c.well_formed.1.1.1.0 in
-    offset_fits _ _ _ within x.1
+pub bounds-x-rows : goal.bounds-x-rows
+bounds-x-rows g c =
+    omega (
+      arith,
+      inside_at c.args.rows.now c.args.begin c.loop-at.at c.args.end (length c.args.x.now)
+          c.loop-at.invariant.order c.loop-at-test.true c.requires.range.1 c.requires.inside,
+      c.loop-at.auto.x,
+    )
 
-pub loop-row-preserved : goal.loop-row-preserved
-loop-row-preserved g c =
+pub offset_bounds-x-rows : goal.offset_bounds-x-rows
+offset_bounds-x-rows g c =
+    let within : get_or c.args.rows.now c.loop-at.at 0 < length c.args.x.now = omega (
+      arith,
+      inside_at c.args.rows.now c.args.begin c.loop-at.at c.args.end (length c.args.x.now)
+          c.loop-at.invariant.order c.loop-at-test.true c.requires.range.1 c.requires.inside,
+    ) in
+    offset_fits _ _ _ within c.well_formed.1.1.1.1.1.0.1
+
+pub loop-at-preserved : goal.loop-at-preserved
+loop-at-preserved g c =
     let R = g.T.Ring.ring in
     let f = g.T.Ring.value in
     let z = g.T.Zero.zero_value in
     let rows = c.args.rows.now in
     let values = c.args.values.now in
-    let n = length c.loop-row.yielded in
-    let turn = zip_turn rows values c.loop-row.yielded c.into_iter-row-iterator.result
-    c.loop-row.row-iterator c.next.new.self c.next.result (search rules) (search rules)
-    c.loop-row.yielded_by (c.in-Some.row, c.in-Some.value) c.in-Some.is c.next.ensures.steps in
-    let k = c.in-Some.row.now in
-    let v = c.in-Some.value.now in
-    let x = c.loop-row.x in
-    let within : k < length x = rw (turn.2 0) (omega (arith, c.requires.inside n 0 turn.0)) in
-    let old = get_or x k c.index-x-row.result in
-    let read = get_or_default x k c.index-x-row.result old within in
-    rw (length_push c.loop-row.yielded (c.in-Some.row, c.in-Some.value))
-    (off_more R f z rows values n k v turn.0 turn.1 (turn.2 k) (turn.3 v) x within old read
-    c.args.x.now c.args.factor c.mul.result c.neg.result c.add.result c.loop-row.auto.x
-    c.mul.ensures c.neg.ensures c.add.ensures c.loop-row.invariant)
+    let x = c.loop-at.x in
+    let at = c.loop-at.at in
+    let was = c.loop-at.invariant in
+    let k = get_or rows at 0 in
+    let within : k < length x = omega (
+      arith,
+      inside_at rows c.args.begin at c.args.end (length c.args.x.now) was.order
+          c.loop-at-test.true c.requires.range.1 c.requires.inside,
+      c.loop-at.auto.x,
+    ) in
+    let old = get_or x k c.index-x-rows.result in
+    record {
+      order = omega (arith, was.order);
+      taken = off_more R f z rows values c.args.begin at c.index-values-at.result was.order
+          (omega (arith, c.loop-at-test.true, c.requires.range.1))
+          (omega (arith, c.loop-at-test.true, c.requires.range.2)) c.index-values-at.is x within
+          old (get_or_default x k c.index-x-rows.result old within) c.args.x.now c.args.factor
+          c.mul.result c.neg.result c.add.result c.loop-at.auto.x c.mul.ensures c.neg.ensures
+          c.add.ensures was.taken;
+    }
 
 pub returns : goal.returns
 returns g c =
+    let R = g.T.Ring.ring in
+    let f = g.T.Ring.value in
+    let z = g.T.Zero.zero_value in
     let rows = c.args.rows.now in
     let values = c.args.values.now in
-    let count = zip_end rows values c.loop-row.yielded c.into_iter-row-iterator.result
-    c.loop-row.row-iterator c.next.new.self c.next.result (search rules) (search rules)
-    c.loop-row.yielded_by c.in-None.is c.next.ensures.steps in
-    off_all g.T.Ring.ring g.T.Ring.value g.T.Zero.zero_value rows values (length c.loop-row.yielded)
-    (omega (arith, count, c.requires.fits)) (omega (arith, count, c.requires.fits))
-    (g.T.Ring.ring.neg (g.T.Ring.value c.args.factor)) c.args.x.now c.loop-row.x
-    c.loop-row.invariant
+    let end : c.loop-at.at ≡ c.args.end = omega (
+      arith,
+      c.loop-at-test.false,
+      c.loop-at.auto.at-end,
+    ) in
+    subst (λ m. AddsMultiple R f z (R.neg (f c.args.factor)) (slice_range rows c.args.begin m)
+    (slice_range values c.args.begin m) c.args.x.now c.loop-at.x) end c.loop-at.invariant.taken

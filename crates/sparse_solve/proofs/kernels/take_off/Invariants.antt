@@ -1,10 +1,15 @@
-use Rattle.std.proofs.Common.{length, take}
+use Rattle.std.proofs.Common.{◌≤◌, slice_range}
 use Rattle.sparse_solve.specs.InnerColumns.{AddsMultiple}
 use Rattle.sparse_solve.proofs.kernels.take_off.Given as goal
 
-abbrev pub invariant-loop-row : goal.invariant-loop-row
-invariant-loop-row g l =
+abbrev pub invariant-loop-at : goal.invariant-loop-at
+invariant-loop-at g l =
     let R = g.T.Ring.ring in
-    let n = length l.yielded in
-    AddsMultiple R g.T.Ring.value g.T.Zero.zero_value (R.neg (g.T.Ring.value l.factor))
-    (take n l.rows) (take n l.values) l.initial.x l.x
+    let f = g.T.Ring.value in
+    let z = g.T.Zero.zero_value in
+    let rows = slice_range l.rows l.begin l.at in
+    let values = slice_range l.values l.begin l.at in
+    record {
+      order : l.begin ≤ l.at;
+      taken : AddsMultiple R f z (R.neg (f l.factor)) rows values l.initial.x l.x;
+    }
