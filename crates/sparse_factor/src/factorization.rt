@@ -58,8 +58,8 @@ impl CscSymbolicCholesky {
     /// The columns of each row are found by climbing the elimination tree from the row's places, and the tree is built on the way (Liu,
     /// "The role of elimination trees in sparse factorization", 1990). The climbs are kept as paths, which a counting sort turns into
     /// columns. Time is linear in the number of columns and of the places of pattern and factor. Scratch memory is three numbers for
-    /// each column and three for each place of the pattern, of 32 bits each for fewer than 2^32 columns. Fails only if an allocation
-    /// fails.
+    /// each column and at most six for each place of the pattern, of 32 bits each for fewer than 2^32 columns. Fails only if an
+    /// allocation fails.
     pub fn factor(alloc: Global, pattern: SparsityPattern) -> Result<Self, AllocError>
         requires square { pattern.major_dim ≡ pattern.minor_dim }
         ensures input { IfOk result (λ s. s.input ≡ pattern) }

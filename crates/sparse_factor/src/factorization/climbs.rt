@@ -45,10 +45,12 @@ pub(super) fn climb_rows<C: Count>(
     let mut marks: Vec<C> = zeros(alloc, size)?;
     let mut parents: Vec<C> = zeros(alloc, size)?;
     let mut counts: Vec<C> = zeros(alloc, size)?;
-    let mut paths = Vec::with_capacity(alloc, pattern.nnz())?;
+    let mut paths = Vec::new(alloc);
     for row in 0..size {
+        let starts = pattern.lane(row);
+        paths.reserve(starts.len())?;
         climb_row(
-            pattern.lane(row),
+            starts,
             row,
             &mut marks,
             &mut parents,
@@ -102,8 +104,6 @@ fn climb_row<C: Count>(
     ensures counts { AreCounts (map C.number counts.new)
         (nodes_in C.number parents.new paths.new.items) }
     ensures below { AreBelowMarks (map C.number counts.new) (map C.number marks.new) }
-    ensures len { vec_len paths.new ≤ vec_len paths.old + length starts.now }
-    ensures capacity { vec_capacity paths.new ≡ vec_capacity paths.old }
     ensures counted { (n : ℕ) × (steps.new ≡ steps.old + n + length starts.now)
         × (rows_in C.number paths.new.items ≡ rows_in C.number paths.old.items ++ replicate n row) }
 {

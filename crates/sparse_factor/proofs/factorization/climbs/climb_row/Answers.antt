@@ -1,4 +1,4 @@
-use Rattle.std.proofs.Common.{◌≡◌, ◌+◌, ◌++◌, map, replicate, slice_index, append_assoc, refl}
+use Rattle.std.proofs.Common.{◌≡◌, ◌+◌, ◌++◌, map, replicate, slice_index, append_assoc}
 use Rattle.std.proofs.Common.{sym, ap, ◌∙◌, subst, arith}
 use Rattle.std.proofs.lemmas.List.{append-nil, replicate-append-replicate}
 use Rattle.sparse_factor.specs.InnerClimbs.{climbs_of, AreClimbs, AreCounts}
@@ -18,8 +18,7 @@ loop-start-init g c =
       climbs = none_started (climbed f c.args.marks.now c.args.parents.now c.args.paths.now.items)
           c.args.row c.args.starts.now c.requires.arrays c.requires.closed;
       paths = c.requires.paths;
-      len = omega arith;
-      capacity = refl;
+      room = omega (arith, c.requires.room);
       counts = c.requires.counts;
       below = c.requires.below;
       counted = (0, omega arith, sym (append-nil (rows_in f c.args.paths.now.items)));
@@ -62,8 +61,7 @@ loop-start-preserved g c =
                 after w.climb-length.ensures.started;
             paths = w.keep_path.ensures.paths p' w.climb-length.ensures.path
                 (paths_kept p p' kept (paths_of f ps) inv.paths);
-            len = omega (arith, inv.len, w.keep_path.ensures.len);
-            capacity = w.keep_path.ensures.capacity ∙ inv.capacity;
+            room = omega (arith, inv.room, w.keep_path.ensures.len, w.keep_path.ensures.capacity);
             counts = subst (AreCounts (map f w.climb-length.new.counts)) (sym nodes)
                 (w.climb-length.ensures.counts (nodes_of p (paths_of f ps)) inv.counts);
             below = w.climb-length.ensures.below;
@@ -81,8 +79,7 @@ loop-start-preserved g c =
         climbs = one_past old mid row c.args.starts.now c.loop-start.start-index inv.climbs
             c.loop-start-test.true w.if-start-row.false;
         paths = inv.paths;
-        len = omega (arith, inv.len);
-        capacity = inv.capacity;
+        room = omega (arith, inv.room);
         counts = inv.counts;
         below = inv.below;
         counted = let h = inv.counted in (h.0, omega (arith, h.1, c.tick.ensures), h.2);

@@ -1,4 +1,4 @@
-use Rattle.std.proofs.Common.{◌≡◌, ℕ, ◌+◌, ◌≤◌, ◌++◌, map, replicate, vec_len}
+use Rattle.std.proofs.Common.{◌≡◌, ℕ, ◌+◌, ◌≤◌, ◌++◌, length, map, replicate, vec_len}
 use Rattle.std.specs.Prelude.{vec_capacity}
 use Rattle.sparse_factor.specs.InnerClimbs.{AreCounts}
 use Rattle.sparse_factor.specs.InnerPaths.{nodes_in, rows_in, paths_of, climbed, ArePaths}
@@ -13,8 +13,7 @@ invariant-loop-start g l =
       climbs : AreStarted (climbed f l.initial.marks l.initial.parents l.initial.paths.items)
           (climbed f l.marks l.parents l.paths.items) l.row l.starts l.start-index;
       paths : ArePaths (map f l.parents) (paths_of f l.paths.items);
-      len : vec_len l.paths ≤ vec_len l.initial.paths + l.start-index;
-      capacity : vec_capacity l.paths ≡ vec_capacity l.initial.paths;
+      room : vec_len l.paths + length l.starts ≤ vec_capacity l.paths + l.start-index;
       counts : AreCounts (map f l.counts) (nodes_in f l.parents l.paths.items);
       below : AreBelowMarks (map f l.counts) (map f l.marks);
       counted : (n : ℕ) × (l.steps ≡ l.initial.steps + n + l.start-index)

@@ -14,6 +14,25 @@ use Rattle.sparse_factor.proofs.PathNodes.{length-rows_of}
 use Rattle.sparse_factor.proofs.PathRows.{no_filled_paths, row_paths, path_rows}
 use Rattle.sparse_factor.proofs.factorization.climbs.climb_rows.Goals as goal
 
+pub returns-in_err-reserve-clause-no_more : goal.returns-in_err-reserve-clause-no_more
+returns-in_err-reserve-clause-no_more g c = λ fill all.
+    let f = g.C.Count.number in
+    let p = c.args.pattern.now in
+    let valid = c.major_offsets.ensures.valid in
+    let inv = c.loop-row.invariant in
+    let long = length-rows_of (map f c.loop-row.parents.items)
+    (paths_of f c.loop-row.paths.items) in
+    let few = found_at_most (UpperBase p) c.loop-row.row
+    (length (nodes_in f c.loop-row.parents.items c.loop-row.paths.items))
+    inv.filled.filled.found fill all in
+    let read : start_of p c.loop-row.row ≤ nnz_of p =
+    omega (
+      arith,
+      starts_ordered p valid c.loop-row.row p.major_dim (omega arith) (omega arith),
+      valid.last,
+    ) in
+    omega (arith, few, read, inv.counted, long)
+
 pub loop-row-preserved : goal.loop-row-preserved
 loop-row-preserved g c =
     let f = g.C.Count.number in
@@ -26,10 +45,11 @@ loop-row-preserved g c =
     let clauses = rw (
       c.deref_mut.ensures.value,
       c.deref_mut-in-loop-row.ensures.value,
+      c.reserve.ensures.items,
     ) at c.climb_row.ensures.climbs in
-    let found = c.climb_row.ensures.counted in
-    let starts = starts_base p valid row c.lane.result.now (omega arith)
-    c.lane.ensures in
+    let found = rw c.reserve.ensures.items at c.climb_row.ensures.counted in
+    let starts = starts_base p valid row c.lane-starts.result.now (omega arith)
+    c.lane-starts.ensures in
     let size : length (map f c.climb_row.new.marks) ≡ p.major_dim =
     omega (
       arith,
@@ -41,11 +61,11 @@ loop-row-preserved g c =
     ) in
     let more = row_paths (UpperBase p) p.major_dim (map f c.loop-row.marks.items)
     (map f c.loop-row.parents.items) old-paths row inv.filled (map f c.climb_row.new.marks)
-    (map f c.climb_row.new.parents) new-paths c.lane.result.now starts
+    (map f c.climb_row.new.parents) new-paths c.lane-starts.result.now starts
     c.climb_row.ensures.arrays c.climb_row.ensures.closed clauses c.climb_row.ensures.started
     size c.climb_row.ensures.paths found.0 found.2 in
     let lane = length-lane p row (valid.lanes row (omega arith)) in
-    let long = ap length c.lane.ensures in
+    let long = ap length c.lane-starts.ensures in
     let marks : take c.loop-row.marks.len (c.climb_row.new.marks ++ drop
     (length c.climb_row.new.marks) c.loop-row.marks.items) ≡ c.climb_row.new.marks =
     grind (arith, common_steps) in
@@ -70,15 +90,6 @@ loop-row-preserved g c =
       below = c.climb_row.ensures.below;
       count_size = c.climb_row.auto.counts ∙ ap length c.deref_mut-in-loop-row-2.ensures.value
           ∙ inv.count_size;
-      room = omega (
-        arith,
-        lane,
-        long,
-        (valid.lanes row (omega arith)).ordered,
-        inv.room,
-        c.climb_row.ensures.len,
-      );
-      capacity = c.climb_row.ensures.capacity ∙ inv.capacity;
       counted = omega (
         arith,
         lane,
@@ -122,7 +133,7 @@ loop-row-init g c =
     let counts = map f c.in_ok-counts.counts.items in
     let zeros = c.in_ok-counts.ensures in
     let size = c.major_dim-size.ensures in
-    rw c.in_ok-paths.ensures.items record {
+    rw c.new-paths.ensures.items record {
       filled = no_filled_paths (UpperBase p) p.major_dim (map f c.in_ok-marks.marks.items)
           (map f c.in_ok-parents.parents.items) (rw size at c.in_ok-marks.ensures)
           (rw size at c.in_ok-parents.ensures);
@@ -135,8 +146,6 @@ loop-row-init g c =
         length-replicate {A = ℕ} c.major_dim-size.result 0,
         size,
       );
-      room = omega (arith, c.in_ok-paths.ensures.len);
-      capacity = c.in_ok-paths.ensures.exact ∙ c.nnz.ensures;
       counted = omega (arith, c.major_offsets.ensures.valid.first);
     }
 
@@ -145,7 +154,7 @@ climb_row-requires-clause-arrays g c =
     let f = g.C.Count.number in
     let p = c.args.pattern.now in
     let s = climbed f c.loop-row.marks.items c.loop-row.parents.items c.loop-row.paths.items in
-    rw (c.deref_mut.ensures.value, c.deref_mut-in-loop-row.ensures.value)
+    rw (c.deref_mut.ensures.value, c.deref_mut-in-loop-row.ensures.value, c.reserve.ensures.items)
     (row_begins (UpperBase p) p.major_dim c.loop-row.invariant.filled.offsets s c.loop-row.row
     c.loop-row.invariant.filled.filled (omega arith))
 
@@ -160,13 +169,15 @@ climb_row-requires-clause-closed g c =
 
 pub climb_row-requires-clause-paths : goal.climb_row-requires-clause-paths
 climb_row-requires-clause-paths g c =
-    rw c.deref_mut-in-loop-row.ensures.value c.loop-row.invariant.filled.whole
+    rw (c.deref_mut-in-loop-row.ensures.value, c.reserve.ensures.items)
+    c.loop-row.invariant.filled.whole
 
 pub climb_row-requires-clause-counts : goal.climb_row-requires-clause-counts
 climb_row-requires-clause-counts g c =
     rw (
       c.deref_mut-in-loop-row.ensures.value,
       c.deref_mut-in-loop-row-2.ensures.value,
+      c.reserve.ensures.items,
     ) c.loop-row.invariant.counts
 
 pub climb_row-requires-clause-below : goal.climb_row-requires-clause-below

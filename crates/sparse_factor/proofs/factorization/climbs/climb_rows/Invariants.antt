@@ -1,6 +1,5 @@
-use Rattle.std.proofs.Common.{◌≡◌, ◌+◌, ◌≤◌, map, length, vec_len}
-use Rattle.std.specs.Prelude.{vec_capacity}
-use Rattle.sparse_pattern.specs.Raw.{start_of, nnz_of}
+use Rattle.std.proofs.Common.{◌≡◌, ◌+◌, map, length}
+use Rattle.sparse_pattern.specs.Raw.{start_of}
 use Rattle.sparse_factor.specs.Fill.{UpperBase}
 use Rattle.sparse_factor.specs.InnerClimbs.{AreCounts}
 use Rattle.sparse_factor.specs.InnerPaths.{nodes_in, rows_in, paths_of, AreBelowMarks}
@@ -16,8 +15,6 @@ invariant-loop-row g l =
       counts : AreCounts (map f l.counts.items) (nodes_in f l.parents.items l.paths.items);
       below : AreBelowMarks (map f l.counts.items) (map f l.marks.items);
       count_size : length l.counts.items ≡ l.pattern.major_dim;
-      room : vec_len l.paths ≤ start_of l.pattern l.row;
-      capacity : vec_capacity l.paths ≡ nnz_of l.pattern;
       counted : l.steps ≡ l.initial.steps + start_of l.pattern l.row + length
           (rows_in f l.paths.items);
     }
