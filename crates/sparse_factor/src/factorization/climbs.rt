@@ -30,7 +30,8 @@ pub(super) fn climb_rows<C: Count>(
     requires width { pattern.now.major_dim < C.limit }
     ensures rows { IfOk result (λ r. (d : AreRows pattern.now.major_dim
         (nodes_in C.number r.0.items r.1.items) (rows_in C.number r.1.items))
-        × StoresByRows (Filled (UpperBase pattern.now)) (square_of d.offsets (nodes_in C.number r.0.items r.1.items))) }
+        × StoresByRows (Filled (UpperBase pattern.now))
+        (square_of d.offsets (nodes_in C.number r.0.items r.1.items))) }
     ensures parent_count { IfOk result (λ r. length r.0.items ≡ pattern.now.major_dim) }
     ensures counts { IfOk result (λ r.
         AreCounts (map C.number r.2.items) (nodes_in C.number r.0.items r.1.items)) }
