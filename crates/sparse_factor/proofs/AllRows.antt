@@ -1,4 +1,4 @@
--- The rows of a pattern's fill: what a row starts from, and all of them.
+-- All rows of a pattern's fill, and the base of each row.
 use Rattle.std.proofs.Common.{◌≡◌, ℕ, ◌-◌, ◌<◌, ◌≤◌, inl, inr, ◌↔◌, List, length, sym, subst, arith}
 use Rattle.std.specs.List.{Contains}
 use Rattle.sparse_lemmas.proofs.Cases.{lt_or_ge}

@@ -11,7 +11,7 @@ use Rattle.sparse_lemmas.proofs.Cases.{same_or_not, le_cases}
 use Rattle.sparse_factor.specs.InnerClimbs.{Climbs, climbs_of, parent_of, IsMarked, AreInRow}
 use Rattle.sparse_factor.specs.InnerClimbs.{IsClosed, IsLedTo, Gains, AreClimbs, IsNext}
 
--- a climb of row i from `start` has come to `node`
+-- a climb of row i from `start` has reached `node`
 pub record IsClimbing (old now : Climbs) (i start node : ℕ) : Type 0 where
   pub arrays : AreInRow now i
   pub climbs : AreClimbs old now i (λ j. j ≡ start)
@@ -45,7 +45,7 @@ begins s i start arrays closed le = record {
   started = inr refl;
 }
 
--- one step, from a node that the row has not
+-- one step, from a node that the row has not visited
 module _ (old c : Climbs) (i start node next : ℕ) (parents : List ℕ)
     (is : IsClimbing old c i start node) (new : IsMarked c i node → ⊥)
     (size : length parents ≡ length c.parents)
@@ -238,7 +238,7 @@ module _ (old c : Climbs) (i start node next : ℕ) (parents : List ℕ)
     ]);
   }
 
--- the end, at a node that the row has
+-- the end, at a node that the row has visited
 module _ (old c : Climbs) (i start node : ℕ) (is : IsClimbing old c i start node)
     (marked : IsMarked c i node) where
   pub ends_closed : IsClosed c i

@@ -1,4 +1,4 @@
--- What the columns of a factor hold, from its rows.
+-- The columns of a factor, from its rows.
 use Rattle.std.proofs.Common.{◌≡◌, ℕ, ◌<◌, ◌≤◌, ◌↔◌, Bool, true, IsTrue, ◌&&◌, ltb, arith}
 use Rattle.std.proofs.Math.Dec.{eqb}
 use Rattle.std.specs.Set.{is_member}

@@ -1,4 +1,4 @@
--- How many places of the fill are found, counted by a list of them without repetitions.
+-- The number of places of the fill that are found, counted by a list of distinct pairs.
 use Rattle.std.proofs.Common.{◌≡◌, ◌≢◌, ℕ, ◌+◌, ◌<◌, ◌≤◌, inl, inr, Bool, true, ◌&&◌, List, []}
 use Rattle.std.proofs.Common.{◌++◌, length, get_or, length-append, refl, sym, ap, ◌∙◌, subst, arith}
 use Rattle.std.proofs.Math.Dec.{eqb}
@@ -112,7 +112,7 @@ more_found base i nodes gained found once sound = record {
   ];
 }
 
--- not more are found than a list has that has all
+-- a list that contains every place is at least as long as the number found
 pub found_at_most : (base : ℕ → ℕ → Type 0) (i count : ℕ) → AreFound base i count
     → (fill : List (ℕ × ℕ)) → ListsFill base fill → count ≤ length fill
 found_at_most base i count found fill all =

@@ -1,4 +1,4 @@
--- Laws of the fill of a base: it is the least closed set, and its rows come by climbs.
+-- Laws of the fill of a base: it is the smallest closed set, and climbs find its rows.
 use Rattle.std.proofs.Common.{ℕ, zero, suc, ◌+◌, ◌<◌, ◌≤◌, ◌↔◌, inl, inr, Bool, IsTrue, subst}
 use Rattle.std.proofs.Common.{arith}
 use Rattle.std.proofs.Math.Nat.{eq-or-lt_of_le}
@@ -11,7 +11,7 @@ in_fill (given {i} {j} b) = λ set closed holds. holds i j b
 in_fill (fill {i} {j} {k} p q lt le) =
     λ set closed holds. closed i j k (in_fill p set closed holds) (in_fill q set closed holds) lt le
 
--- what is in every closed set is Filled, once Filled is decided by a test
+-- what is in every closed set is Filled, if a test decides Filled
 pub filled_in : (base : ℕ → ℕ → Type 0) (set : ℕ → ℕ → Bool) →
     ((i j : ℕ) → IsTrue (set i j) ↔ Filled base i j) → (i j : ℕ) → InFill base i j → Filled base i j
 filled_in base set tied i j h =
@@ -38,7 +38,7 @@ module _ (base : ℕ → ℕ → Type 0) (low : (i j : ℕ) → base i j → j �
   pub filled_diagonal : (j : ℕ) → Filled base j j ↔ ((r : ℕ) × base j r)
   filled_diagonal j = ((λ f. row_base f), (λ b. diagonal j b.0 b.1))
 
--- the nodes of row i, below i each with its parent among them
+-- the nodes of row i; the parent of each node below i is one of them
 abbrev pub IsClimbed : (ℕ → ℕ → Type 0) → ℕ → (ℕ → Type 0) → Type 0
 IsClimbed base i M =
     (k : ℕ) → M k → k < i →
@@ -56,7 +56,7 @@ climbs base (suc n) i j k M climbed near lt le m g =
       | inr l ↦ climbs base n i j p M climbed (omega arith) l le mp (fill g fp up (omega arith))
     ]
 
--- row i is all that the climbs from its base mark
+-- row i is exactly what the climbs from its base mark
 pub row_fill : (base : ℕ → ℕ → Type 0) {i j : ℕ} → Filled base i j → (M : ℕ → Type 0)
     → IsClimbed base i M →
     ((k : ℕ) → base i k → M k) → M j

@@ -1,4 +1,4 @@
--- The rows of the fill that climbs have made, and one row more.
+-- The rows of the fill found by climbs, and one row more.
 use Rattle.std.proofs.Common.{◌≡◌, ◌≢◌, ℕ, zero, suc, ◌+◌, ◌<◌, ◌≤◌, inl, inr, ◌↔◌, List, [], ◌∷◌}
 use Rattle.std.proofs.Common.{◌++◌, length, replicate, slice_index, refl, sym, ap, ◌∙◌, subst}
 use Rattle.std.proofs.Common.{arith}
@@ -21,7 +21,7 @@ pub record IsParent (base : ℕ → ℕ → Type 0) (k p : ℕ) : Type 0 where
   pub filled : Filled base p k
   pub least : (q : ℕ) → k < q → Filled base q k → p ≤ q
 
--- rows 0 to i of the fill, and the parents that they give
+-- rows 0 to i of the fill, and the parents that follow from them
 pub record AreFilledRows (base : ℕ → ℕ → Type 0) (n : ℕ) (offsets : List ℕ) (s : Climbs) (i : ℕ) :
     Type 0 where
   pub rows : AreRowLists (raw_of i n offsets s.nodes)

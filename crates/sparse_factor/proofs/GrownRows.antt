@@ -1,4 +1,4 @@
--- Rows that gain one at their end.
+-- Lists of rows with one row appended.
 use Rattle.std.proofs.Common.{◌≡◌, ◌≢◌, ℕ, ◌+◌, ◌-◌, ◌<◌, ◌≤◌, inl, inr, ◌↔◌, List, [], ◌∷◌, ◌++◌}
 use Rattle.std.proofs.Common.{length, get_or, slice_index, length-append, ap, sym, subst, ◌∙◌, refl}
 use Rattle.std.proofs.Common.{arith}

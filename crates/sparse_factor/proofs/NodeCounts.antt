@@ -1,4 +1,4 @@
--- In how many rows each node is, as nodes are added.
+-- The number of rows that visited each node, as nodes are added.
 use Rattle.std.proofs.Common.{◌≡◌, ◌≢◌, ℕ, ◌+◌, ◌<◌, ◌≤◌, inl, inr, List, [], ◌∷◌, ◌++◌, length}
 use Rattle.std.proofs.Common.{cond, set, slice_index, get_or-set_same, get_or-set_other, length-set}
 use Rattle.std.proofs.Common.{sym, ap, subst, arith}

@@ -103,7 +103,7 @@ length-rows_of parents (p ∷ ps) =
       length-rows_of parents ps,
     )
 
--- a path pushed, in numbers
+-- a path appended, as natural numbers
 module _ {C : Type 0} (f : C → ℕ) (old new : List (C × C × C)) (row start size : C)
     (is : new ≡ old ++ (row, start, size) ∷ []) where
   pushed : paths_of f new ≡ paths_of f old ++ (f row, f start, f size) ∷ []

@@ -9,7 +9,7 @@ use Rattle.sparse_factor.proofs.ClimbSteps.{IsClimbing, climbs_up, marked_up, pa
 use Rattle.sparse_factor.proofs.ClimbSteps.{parent_up}
 use Rattle.sparse_factor.proofs.PathNodes.{up_more, up_before, leads_more, leads_kept}
 
--- the climb has come from `start` to `node` in n steps, or past the row
+-- the climb has reached `node` from `start` in n steps, or has ended at the row
 abbrev pub IsWalking : Climbs → ℕ → ℕ → ℕ → ℕ → Type 0
 IsWalking s i start n node = LeadsTo s.parents start n node
     ⊎ (IsMarked s i node × IsPath s.parents start n)

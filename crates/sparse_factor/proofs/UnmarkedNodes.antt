@@ -1,4 +1,4 @@
--- How many nodes a row has not come to.
+-- The number of nodes that a row has not visited.
 use Rattle.std.proofs.Common.{◌≡◌, ◌≢◌, ℕ, zero, suc, ◌+◌, ◌<◌, ◌≤◌, List, [], ◌∷◌, length, get_or}
 use Rattle.std.proofs.Common.{set, arith}
 use Rattle.std.proofs.lemmas.Bool.Decides.{nat_tests}

@@ -14,7 +14,7 @@ pub walk_wider : {base : ℕ → ℕ → Type 0} {m i j : ℕ} → (n : ℕ) →
 walk_wider n le (edge e) = edge e
 walk_wider n le (step e lt w) = step e (omega arith) (walk_wider n le w)
 
--- two walks that meet in a node below m
+-- two walks joined at a node below m
 pub walk_join : {base : ℕ → ℕ → Type 0} {m i k : ℕ} → Walk base m i k → (j : ℕ) → k < m
     → Walk base m k j → Walk base m i j
 walk_join (edge e) j lt w = step e lt w

@@ -1,10 +1,10 @@
--- The fill of a symmetric elimination, as a set: the least that is closed and holds a base.
+-- The fill of a symmetric elimination: the smallest closed set that contains a base.
 use Rattle.std.specs.Prelude.{ℕ, ◌<◌, ◌≤◌, ◌↔◌, Bool, IsTrue, List}
 use Rattle.std.specs.List.{Contains}
 use Rattle.sparse_pattern.specs.Raw.{Raw, IsPlace}
 
--- with (i, k) and (j, k) where k < j and j ≤ i, the set holds (i, j): the elimination of column k
--- gives row i the column j
+-- if the set has (i, k) and (j, k) with k < j ≤ i, then it has (i, j): eliminating column k adds
+-- column j to row i
 abbrev pub IsFillClosed : (ℕ → ℕ → Bool) → Type 0
 IsFillClosed set = (i j k : ℕ) → IsTrue (set i k) → IsTrue (set j k) → k < j → j ≤ i
     → IsTrue (set i j)
@@ -12,19 +12,19 @@ IsFillClosed set = (i j k : ℕ) → IsTrue (set i k) → IsTrue (set j k) → k
 abbrev pub HoldsBase : (ℕ → ℕ → Type 0) → (ℕ → ℕ → Bool) → Type 0
 HoldsBase base set = (i j : ℕ) → base i j → IsTrue (set i j)
 
--- (i, j) is in each set that is closed under fill and holds the base
+-- (i, j) is in every set that is closed under fill and contains the base
 abbrev pub InFill : (ℕ → ℕ → Type 0) → ℕ → ℕ → Type 0
 InFill base i j = (set : ℕ → ℕ → Bool) → IsFillClosed set → HoldsBase base set → IsTrue (set i j)
 
--- the base of a pattern by columns: (c, r) for each stored row r of column c with r ≤ c, which is
--- the upper triangle mirrored
+-- the base of a pattern stored by columns: (c, r) for each stored row r ≤ c of column c, which is
+-- the upper triangle transposed
 abbrev pub UpperBase : Raw → ℕ → ℕ → Type 0
 UpperBase p c r = IsPlace p c r × (r ≤ c)
 
--- the pattern stores, by columns, exactly the pairs (row, column) of a set
+-- the pattern, read by columns, has exactly the pairs (row, column) of the set
 abbrev pub StoresByColumns : (ℕ → ℕ → Type 0) → Raw → Type 0
 StoresByColumns set p = (i j : ℕ) → IsPlace p j i ↔ set i j
 
--- the list has every pair (row, column) of the fill
+-- the list contains every pair (row, column) of the fill
 abbrev pub ListsFill : (ℕ → ℕ → Type 0) → List (ℕ × ℕ) → Type 0
 ListsFill base pairs = (i j : ℕ) → InFill base i j → Contains pairs (i, j)

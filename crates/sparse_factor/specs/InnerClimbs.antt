@@ -1,11 +1,11 @@
--- The climbs of one row along the parents of its nodes.
+-- The climbs of one row from node to parent.
 use Rattle.std.specs.Prelude.{◌≡◌, ◌≢◌, ℕ, zero, suc, ◌+◌, ◌<◌, ◌≤◌, ◌↔◌, ◌⊎◌, List, [], ◌∷◌, ◌++◌}
 use Rattle.std.specs.Prelude.{length, nat_eq, cond, slice_index}
 use Rattle.std.specs.List.{Contains, AllPairs}
 use Rattle.sparse_counting.specs.Counting.{count_at}
 
--- for each node one more than the last row that came to it, and its parent, each 0 before there
--- is one; and the nodes of the rows so far, row after row
+-- for each node one more than the last row that visited it, and its parent, or 0 for none; and the
+-- nodes visited by the rows so far, row after row
 pub record Climbs : Type 0 where
   pub marks : List ℕ
   pub parents : List ℕ
@@ -17,11 +17,11 @@ climbs_of marks parents nodes = record { marks = marks; parents = parents; nodes
 abbrev pub parent_of : Climbs → ℕ → ℕ
 parent_of s k = slice_index s.parents k
 
--- row i came to node k
+-- row i visited node k
 abbrev pub IsMarked : Climbs → ℕ → ℕ → Type 0
 IsMarked s i k = slice_index s.marks k ≡ i + 1
 
--- what holds of the arrays in row i: parents lie above their nodes, and nodes not above the row
+-- the arrays during row i: parents are greater than their nodes, and row i visits no node above i
 pub record AreInRow (s : Climbs) (i : ℕ) : Type 0 where
   pub row : i < length s.marks
   pub same_length : length s.parents ≡ length s.marks
@@ -29,22 +29,22 @@ pub record AreInRow (s : Climbs) (i : ℕ) : Type 0 where
   pub high : (k : ℕ) → slice_index s.marks k ≤ i + 1
   pub parents : (k : ℕ) → parent_of s k ≢ 0 → (k < parent_of s k) × (parent_of s k ≤ i)
 
--- each node of row i below it has a parent, which is in the row
+-- each visited node below i has a parent, and row i visited that parent
 abbrev pub IsClosed : Climbs → ℕ → Type 0
 IsClosed s i = (k : ℕ) → k < i → IsMarked s i k → (parent_of s k ≢ 0) × IsMarked s i (parent_of s k)
 
--- j is a start, or the parent of a node of row i
+-- j is a start, or the parent of a node that row i visited
 abbrev pub IsLedTo : Climbs → ℕ → (ℕ → Type 0) → ℕ → Type 0
 IsLedTo s i Start j = Start j ⊎ ((k : ℕ) × (k < j) × IsMarked s i k × (parent_of s k ≡ j))
 
--- the list with each element that the test adds, once
+-- the new list is the old one with the added elements appended, each once
 pub record Gains (old new : List ℕ) (Added : ℕ → Type 0) : Type 0 where
   pub gained : List ℕ
   pub split : new ≡ old ++ gained
   pub once : AllPairs (λ x y. x ≢ y) gained
   pub listed : (k : ℕ) → Contains gained k ↔ Added k
 
--- what climbs of row i have done to the arrays
+-- what climbs of row i change in the arrays
 pub record AreClimbs (old new : Climbs) (i : ℕ) (Start : ℕ → Type 0) : Type 0 where
   pub kept : (k : ℕ) → IsMarked old i k → IsMarked new i k
   pub grown : (k : ℕ) → (parent_of new k ≡ parent_of old k)
@@ -62,7 +62,7 @@ unmarked m zero xs = 0
 unmarked m (suc n) [] = 0
 unmarked m (suc n) (x ∷ xs) = one_unless m x + unmarked m n xs
 
--- the node after `node` in a climb of row i: its parent, which is the row if it had none
+-- the node after `node` in a climb of row i: its parent, or i if it had none
 pub record IsNext (old new : List ℕ) (node i next : ℕ) : Type 0 where
   pub others : (k : ℕ) → k ≢ node → slice_index new k ≡ slice_index old k
   pub at_row : node ≡ i → (next ≡ i) × (new ≡ old)
@@ -71,6 +71,6 @@ pub record IsNext (old new : List ℕ) (node i next : ℕ) : Type 0 where
   pub had_none : node < i → slice_index old node ≡ 0
       → (next ≡ i) × (slice_index new node ≡ i)
 
--- for each node, in how many rows it is
+-- for each node the number of rows that visited it
 abbrev pub AreCounts : List ℕ → List ℕ → Type 0
 AreCounts counts nodes = (k : ℕ) → k < length counts → slice_index counts k ≡ count_at k nodes

@@ -1,4 +1,4 @@
--- The fill by its rules, which is the set of `Fill` once it is decided.
+-- The fill as an inductive set. It equals the set of `Fill`.
 use Rattle.std.specs.Prelude.{ℕ, ◌<◌, ◌≤◌}
 
 pub data Filled (base : ℕ → ℕ → Type 0) : ℕ → ℕ → Type 0 where

@@ -1,8 +1,9 @@
--- The rows of the fill, one after another, as lists of nodes in any order.
+-- The rows of the fill as lists of columns in any order, row after row.
 use Rattle.std.specs.Prelude.{◌≡◌, ℕ, ◌+◌, ◌-◌, ◌<◌, ◌≤◌, ◌↔◌, List, length, slice_index}
 use Rattle.sparse_pattern.specs.Raw.{Raw, raw_of, start_of, end_of, IsInLane, IsPlace}
 
--- offsets that rise from 0 to the number of indices, and indices in bounds, each once in its lane
+-- offsets that increase from 0 to the number of indices, and indices in bounds, each once in its
+-- lane
 pub record AreRowLists (d : Raw) : Type 0 where
   pub count : length d.offsets ≡ d.major_dim + 1
   pub first : slice_index d.offsets 0 ≡ 0
@@ -12,10 +13,10 @@ pub record AreRowLists (d : Raw) : Type 0 where
   pub once : (i p q : ℕ) → IsInLane d i p → IsInLane d i q
       → slice_index d.indices p ≡ slice_index d.indices q → p ≡ q
 
--- lane i has the columns of row i
+-- lane i has exactly the columns of row i in the set
 abbrev pub StoresByRows : (ℕ → ℕ → Type 0) → Raw → Type 0
 StoresByRows set d = (i j : ℕ) → IsPlace d i j ↔ set i j
 
--- the rows of a square pattern, as many as the offsets tell
+-- the rows of a square pattern with one row fewer than offsets
 abbrev pub square_of : List ℕ → List ℕ → Raw
 square_of offsets nodes = raw_of (length offsets - 1) (length offsets - 1) offsets nodes

@@ -1,4 +1,4 @@
--- Walks along the pairs of a base, and which places of a pattern they join.
+-- Walks along the pairs of a base, and the places of a pattern that they join.
 use Rattle.std.specs.Prelude.{ℕ, ◌<◌, ◌≤◌, ◌↔◌, ◌⊎◌}
 use Rattle.sparse_pattern.specs.Raw.{Raw, IsPlace}
 
@@ -6,16 +6,16 @@ use Rattle.sparse_pattern.specs.Raw.{Raw, IsPlace}
 abbrev pub Joined : (ℕ → ℕ → Type 0) → ℕ → ℕ → Type 0
 Joined base i j = base i j ⊎ base j i
 
--- a walk from i to j whose inner nodes lie below m
+-- a walk from i to j whose inner nodes are less than m
 pub data Walk (base : ℕ → ℕ → Type 0) (m : ℕ) : ℕ → ℕ → Type 0 where
   edge : {i j : ℕ} → Joined base i j → Walk base m i j
   step : {i j k : ℕ} → Joined base i k → k < m → Walk base m k j → Walk base m i j
 
--- by columns the pattern stores (i, j) with j ≤ i exactly where a walk joins i and j whose inner
--- nodes lie below j
+-- the pattern, read by columns, has (i, j) with j ≤ i exactly if a walk joins i and j whose inner
+-- nodes are less than j
 abbrev pub StoresWalks : (ℕ → ℕ → Type 0) → Raw → Type 0
 StoresWalks base p = (i j : ℕ) → j ≤ i → IsPlace p j i ↔ Walk base j i j
 
--- the pattern stores (j, j) exactly where the base holds (j, r) for some r
+-- the pattern has (j, j) exactly if the base has (j, r) for some r
 abbrev pub StoresDiagonal : (ℕ → ℕ → Type 0) → Raw → Type 0
 StoresDiagonal base p = (j : ℕ) → IsPlace p j j ↔ ((r : ℕ) × base j r)

@@ -17,10 +17,10 @@ mod columns;
 use climbs::climb_rows;
 use columns::columns_of_paths;
 
-// The greatest number of columns for which nodes and paths use 32-bit numbers.
+// The largest number of columns for which the scratch arrays use 32-bit numbers.
 const MAX_32_BITS: usize = u32::MAX as usize;
 
-/// The symbolic Cholesky factorisation of a square pattern by columns: the pattern, and the pattern of its factor.
+/// The symbolic Cholesky factorisation of a square pattern stored by columns: the pattern and the pattern of its factor.
 ///
 /// # Examples
 ///
@@ -50,14 +50,16 @@ impl Model for CscSymbolicCholesky {
 impl CscSymbolicCholesky {
     /// Returns the symbolic factorisation of a square pattern, read by columns.
     ///
-    /// The pattern of the factor is the fill of the upper triangle: the least set that has (c, r) for each stored row r of column c with
-    /// `r <= c`, and that, with (i, k) and (j, k) where `k < j` and `j <= i`, has (i, j). Entries below the diagonal are ignored. The
-    /// pattern need not be symmetric and need not store its diagonal. `pattern.major_dim()` must equal `pattern.minor_dim()`.
+    /// `pattern.major_dim()` must equal `pattern.minor_dim()`. Only the places on and above the diagonal are read, so the pattern need
+    /// not be symmetric, and its diagonal need not be stored. The pattern of the factor is the smallest set of pairs (row, column) that
+    /// has (c, r) for each stored row `r <= c` of each column c, and that has (i, j) whenever it has (i, k) and (j, k) with
+    /// `k < j <= i`.
     ///
-    /// Each row climbs the elimination tree from its entries (Liu, "The role of elimination trees in sparse factorization", 1990), and the
-    /// tree grows in the climbs. The climbs are kept as paths of the tree, and a counting sort places their rows in columns. Takes time for
-    /// each place of the pattern and of the factor, and scratch memory for four numbers a column and three a climb, of which there is at most
-    /// one for each place of the pattern. Fails only if an allocation fails.
+    /// The columns of each row are found by climbing the elimination tree from the row's places, and the tree is built on the way (Liu,
+    /// "The role of elimination trees in sparse factorization", 1990). The climbs are kept as paths, which a counting sort turns into
+    /// columns. Time is linear in the number of columns and of the places of pattern and factor. Scratch memory is three numbers for
+    /// each column and at most six for each place of the pattern, of 32 bits each for fewer than 2^32 columns. Fails only if an
+    /// allocation fails.
     pub fn factor(alloc: Global, pattern: SparsityPattern) -> Result<Self, AllocError>
         requires square { pattern.major_dim ≡ pattern.minor_dim }
         ensures input { IfOk result (λ s. s.input ≡ pattern) }
@@ -71,10 +73,11 @@ impl CscSymbolicCholesky {
         Self::factor_counted(alloc, pattern, &mut Steps::new())
     }
 
-    /// Returns what [`CscSymbolicCholesky::factor`] returns, and counts its steps: one for each place of the pattern that is read, and one
-    /// for each place of the factor that a climb comes to.
+    /// Does the same as [`CscSymbolicCholesky::factor`] and counts the steps: one for each place of the pattern, and one for each place of
+    /// the factor that is found.
     ///
-    /// The count grows by at most the number of places of the pattern and of the factor, also if an allocation fails. Fails only then.
+    /// The count grows by at most the number of places of the pattern plus that of the factor, even if an allocation fails. Fails only
+    /// if an allocation fails.
     pub fn factor_counted(
         alloc: Global,
         pattern: SparsityPattern,
@@ -100,14 +103,14 @@ impl CscSymbolicCholesky {
         Ok(CscSymbolicCholesky { pattern, l_pattern })
     }
 
-    /// Returns the pattern of the factor, by columns.
+    /// Returns the pattern of the factor, stored by columns.
     pub fn l_pattern(&self) -> &SparsityPattern
         ensures { result.now ≡ self.now.factor }
     {
         &self.l_pattern
     }
 
-    /// Returns a copy with the same pattern and the same factor. Fails only if an allocation fails.
+    /// Returns a copy of the pattern and of the factor. Fails only if an allocation fails.
     pub fn clone(&self, alloc: Global) -> Result<Self, AllocError>
         ensures { IfOk result (λ s. s ≡ self.now) }
     {
@@ -118,7 +121,7 @@ impl CscSymbolicCholesky {
     }
 }
 
-// Returns the pattern of the factor, by numbers that hold the size.
+// Returns the pattern of the factor. The type of the scratch arrays must hold the number of columns.
 fn fill_of<C: Count>(
     alloc: Global,
     pattern: &SparsityPattern,
@@ -137,7 +140,7 @@ fn fill_of<C: Count>(
         → steps.new ≤ steps.old + nnz_of pattern.now + length fill }
 {
     let (parents, paths, counts) = climb_rows::<C>(alloc, pattern, steps)?;
-    let l_pattern = columns_of_paths(alloc, &parents, &paths, counts)?;
+    let l_pattern = columns_of_paths(alloc, &parents, &paths, &counts)?;
     Ok(l_pattern)
 }
 

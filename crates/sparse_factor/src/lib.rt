@@ -1,4 +1,4 @@
-//! The symbolic Cholesky factor: the pattern that a factor of a sparse matrix has.
+//! The symbolic Cholesky factorisation: the pattern of the factor of a sparse matrix.
 #![tactic(auto)]
 
 pub mod factorization;

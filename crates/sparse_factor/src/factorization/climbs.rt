@@ -1,4 +1,4 @@
-//! The rows of the fill, by climbs of the elimination tree.
+//! The rows of the factor, found by climbing the elimination tree.
 
 ghost use Rattle.std.specs.Prelude.{◌≡◌, ℕ, ◌+◌, ◌<◌, ◌≤◌, ◌++◌, List, length, map, replicate, IfOk, OnOk, vec_len, vec_capacity};
 ghost use Rattle.std.specs.List.{Contains};
@@ -14,27 +14,27 @@ use sparse_counting::Count;
 use sparse_pattern::pattern::SparsityPattern;
 use std::alloc::{AllocError, Global};
 
-// A climb: its row, the node that it starts from, and how many nodes it comes to, each the parent of the one before.
+// One climb: its row, its first node and its number of nodes. Each node is the parent of the one before.
 pub(super) type Path<C> = (C, C, C);
 
-// Returns the rows of the fill: the parents of the nodes, the climbs of all rows, which come to each column once in its row, and how many
-// rows have each column.
+// Returns the rows of the factor: the parent of each node, the climbs of all rows, and the number of places of each column.
 //
-// The parent of a column, its first row below the diagonal, is found in the climbs themselves: it is the first row that comes to the column
-// after its own.
+// The climbs of a row visit each of its columns once. The parent of a column is its first row below the diagonal, which is the first
+// later row whose climbs visit the column. 0 stands for no parent.
 pub(super) fn climb_rows<C: Count>(
     alloc: Global,
     pattern: &SparsityPattern,
     steps: &mut Steps,
-) -> Result<(Vec<C>, Vec<Path<C>>, Vec<usize>), AllocError>
+) -> Result<(Vec<C>, Vec<Path<C>>, Vec<C>), AllocError>
     requires square { pattern.now.major_dim ≡ pattern.now.minor_dim }
     requires width { pattern.now.major_dim < C.limit }
     ensures rows { IfOk result (λ r. (d : AreRows pattern.now.major_dim
         (nodes_in C.number r.0.items r.1.items) (rows_in C.number r.1.items))
-        × StoresByRows (Filled (UpperBase pattern.now)) (square_of d.offsets (nodes_in C.number r.0.items r.1.items))) }
+        × StoresByRows (Filled (UpperBase pattern.now))
+        (square_of d.offsets (nodes_in C.number r.0.items r.1.items))) }
     ensures parent_count { IfOk result (λ r. length r.0.items ≡ pattern.now.major_dim) }
     ensures counts { IfOk result (λ r.
-        AreCounts r.2.items (nodes_in C.number r.0.items r.1.items)) }
+        AreCounts (map C.number r.2.items) (nodes_in C.number r.0.items r.1.items)) }
     ensures count_size { IfOk result (λ r. length r.2.items ≡ pattern.now.major_dim) }
     ensures all_read { OnOk result (steps.old + nnz_of pattern.now ≤ steps.new) }
     ensures no_more { (fill : List (ℕ × ℕ)) → ListsFill (UpperBase pattern.now) fill
@@ -45,7 +45,7 @@ pub(super) fn climb_rows<C: Count>(
     let size = pattern.major_dim();
     let mut marks: Vec<C> = zeros(alloc, size)?;
     let mut parents: Vec<C> = zeros(alloc, size)?;
-    let mut counts = vec![in alloc; 0; size]?;
+    let mut counts: Vec<C> = zeros(alloc, size)?;
     let mut paths = Vec::new(alloc);
     for row in 0..size {
         let starts = pattern.lane(row);
@@ -73,13 +73,13 @@ fn zeros<C: Count>(alloc: Global, size: usize) -> Result<Vec<C>, AllocError>
     Ok(zeros)
 }
 
-// Climbs from each start of a row that is not below it, and keeps the paths.
+// Climbs from each place of a row that is not below the diagonal, and keeps the climbs.
 fn climb_row<C: Count>(
     starts: &[usize],
     row: usize,
     marks: &mut [C],
     parents: &mut [C],
-    counts: &mut [usize],
+    counts: &mut [C],
     paths: &mut Vec<Path<C>>,
     steps: &mut Steps,
 )
@@ -88,9 +88,9 @@ fn climb_row<C: Count>(
     requires closed { IsClosed (climbed C.number marks.old parents.old paths.old.items) row }
     requires paths { ArePaths (map C.number parents.old) (paths_of C.number paths.old.items) }
     requires room { vec_len paths.old + length starts.now ≤ vec_capacity paths.old }
-    requires counts { AreCounts counts.old
+    requires counts { AreCounts (map C.number counts.old)
         (nodes_in C.number parents.old paths.old.items) }
-    requires below { AreBelowMarks counts.old (map C.number marks.old) }
+    requires below { AreBelowMarks (map C.number counts.old) (map C.number marks.old) }
     requires count_size { length counts.old ≡ length marks.old }
     ensures arrays { AreInRow (climbed C.number marks.new parents.new paths.new.items) row }
     ensures closed { IsClosed (climbed C.number marks.new parents.new paths.new.items) row }
@@ -102,9 +102,9 @@ fn climb_row<C: Count>(
         (climbed C.number marks.new parents.new paths.new.items)
         row j }
     ensures paths { ArePaths (map C.number parents.new) (paths_of C.number paths.new.items) }
-    ensures counts { AreCounts counts.new
+    ensures counts { AreCounts (map C.number counts.new)
         (nodes_in C.number parents.new paths.new.items) }
-    ensures below { AreBelowMarks counts.new (map C.number marks.new) }
+    ensures below { AreBelowMarks (map C.number counts.new) (map C.number marks.new) }
     ensures counted { (n : ℕ) × (steps.new ≡ steps.old + n + length starts.now)
         × (rows_in C.number paths.new.items ≡ rows_in C.number paths.old.items ++ replicate n row) }
 {
@@ -117,7 +117,7 @@ fn climb_row<C: Count>(
     }
 }
 
-// Keeps a path, unless it has no node.
+// Appends a climb, unless it has no node.
 fn keep_path<C: Count>(paths: &mut Vec<Path<C>>, row: usize, start: usize, length: usize)
     requires room { vec_len paths.old < vec_capacity paths.old }
     requires row { row < C.limit }
@@ -139,20 +139,22 @@ fn keep_path<C: Count>(paths: &mut Vec<Path<C>>, row: usize, start: usize, lengt
     paths.push_reserved((C::of(row), C::of(start), C::of(length)));
 }
 
-// Climbs from `start` upwards to the first node that the row has already, and returns how many nodes the climb came to.
+// Climbs from `start` to the first node that the row has visited already, and returns the number of nodes on the way.
+//
+// A node that `row` is the first to leave gets it as its parent.
 fn climb<C: Count>(
     start: usize,
     row: usize,
     marks: &mut [C],
     parents: &mut [C],
-    counts: &mut [usize],
+    counts: &mut [C],
     steps: &mut Steps,
 ) -> usize
     requires width { length marks.old < C.limit }
     requires start { start ≤ row }
     requires arrays { AreInRow (climbed_up C.number marks.old parents.old start 0) row }
     requires closed { IsClosed (climbed_up C.number marks.old parents.old start 0) row }
-    requires below { AreBelowMarks counts.old (map C.number marks.old) }
+    requires below { AreBelowMarks (map C.number counts.old) (map C.number marks.old) }
     requires count_size { length counts.old ≡ length marks.old }
     ensures arrays { AreInRow (climbed_up C.number marks.new parents.new start result) row }
     ensures closed { IsClosed (climbed_up C.number marks.new parents.new start result) row }
@@ -163,9 +165,10 @@ fn climb<C: Count>(
     ensures started { IsMarked (climbed_up C.number marks.new parents.new start result) row start }
     ensures path { IsPath (map C.number parents.new) start result }
     ensures short { result ≤ row + 1 }
-    ensures counts { (nodes : List ℕ) → AreCounts counts.old nodes
-        → AreCounts counts.new (nodes ++ nodes_up (map C.number parents.new) start result) }
-    ensures below { AreBelowMarks counts.new (map C.number marks.new) }
+    ensures counts { (nodes : List ℕ) → AreCounts (map C.number counts.old) nodes
+        → AreCounts (map C.number counts.new)
+        (nodes ++ nodes_up (map C.number parents.new) start result) }
+    ensures below { AreBelowMarks (map C.number counts.new) (map C.number marks.new) }
     ensures counted { steps.new ≡ steps.old + result }
 {
     let mark = row + 1;
@@ -173,7 +176,7 @@ fn climb<C: Count>(
     let mut length = 0;
     while marks[node].get() != mark {
         marks[node] = C::of(mark);
-        counts[node] += 1;
+        counts[node] = C::of(counts[node].get() + 1);
         length += 1;
         steps.tick();
         node = next_node(parents, node, row);
@@ -181,7 +184,7 @@ fn climb<C: Count>(
     length
 }
 
-// Returns the parent of `node`, which the row becomes if there was none, or the row at its end.
+// Returns the parent of `node`, or `row` if the node is `row` or had no parent. In the latter case `row` becomes its parent.
 fn next_node<C: Count>(parents: &mut [C], node: usize, row: usize) -> usize
     requires node { node ≤ row }
     requires row { row < length parents.old }

@@ -1,5 +1,5 @@
 use Rattle.std.proofs.Common.{◌≡◌, ◌+◌, ◌<◌, ◌≤◌, ◌++◌, ◌∷◌, [], inl, length, map, set, slice_index}
-use Rattle.std.proofs.Common.{append_assoc, refl, sym, ap, ◌∙◌, subst, arith}
+use Rattle.std.proofs.Common.{◌^◌, append_assoc, refl, sym, ap, ◌∙◌, subst, arith, rules}
 use Rattle.std.proofs.lemmas.List.{append-nil, length-map, map-set}
 use Rattle.sparse_counting.proofs.CountLemmas.{read_number}
 use Rattle.sparse_factor.specs.InnerClimbs.{climbs_of, unmarked, AreCounts}
@@ -19,7 +19,7 @@ loop-marks-init g c =
           c.args.start c.requires.arrays c.requires.closed c.requires.start;
       walking = inl refl;
       short = omega (arith, unmarked-le (row + 1) (row + 1) (map f c.args.marks.now));
-      counts = λ nodes are. subst (AreCounts c.args.counts.now) (sym (append-nil nodes)) are;
+      counts = λ nodes are. subst (AreCounts (map f c.args.counts.now)) (sym (append-nil nodes)) are;
       below = c.requires.below;
       counted = omega arith;
     }
@@ -39,11 +39,37 @@ loop-marks-smaller g c =
     map-set f xs node c.of.result ∙ ap (set (map f xs) node) c.of.ensures in
     rw marked (omega (arith, fewer))
 
+pub overflow_add-length : goal.overflow_add-length
+overflow_add-length g c =
+    let f = g.C.Count.number in
+    let xs = c.loop-marks.marks in
+    let node = c.loop-marks.node in
+    let inv = c.loop-marks.invariant in
+    let is = inv.climbing in
+    let read = read_number f xs node c.index-marks-node.result
+    (omega (arith, is.within, is.arrays.row, length-map xs f)) c.index-marks-node.is in
+    let fewer = unmarked-set (c.args.row + 1) (c.args.row + 1) (map f xs) node
+    (omega (arith, is.within)) (omega (arith, is.within, is.arrays.row))
+    (λ e. c.loop-marks-test.true (c.get.ensures ∙ read ∙ e)) in
+    let law = g.met.C.Count.limit_law in
+    let next : c.loop-marks.length + 1 < 2 ^ 64 = omega (
+      arith,
+      inv.short,
+      fewer,
+      is.arrays.row,
+      length-map xs f,
+      c.requires.width,
+      law,
+      c.loop-marks.auto.marks,
+    ) in
+    search rules
+
 pub loop-marks-preserved : goal.loop-marks-preserved
 loop-marks-preserved g c =
     let f = g.C.Count.number in
     let xs = c.loop-marks.marks in
-    let counts = c.loop-marks.counts in
+    let cs = c.loop-marks.counts in
+    let counts = map f cs in
     let node = c.loop-marks.node in
     let next = c.next_node-node.result in
     let row = c.args.row in
@@ -77,9 +103,15 @@ loop-marks-preserved g c =
     let more = nodes_more old now row start node next n ps is new size c.next_node-node.ensures.next
     refl inv.walking in
     let before = nodes_up (map f c.loop-marks.parents) start n in
-    let within : node < length counts = omega
+    let inside_counts : node < length cs = omega
     (arith, inside, c.requires.count_size, c.loop-marks.auto.counts, c.loop-marks.auto.marks) in
+    let within : node < length counts = omega (arith, inside_counts, length-map cs f) in
     let v = slice_index counts node + 1 in
+    let count = read_number f cs node c.index-counts-node.result inside_counts
+    c.index-counts-node.is in
+    let counted : map f (set cs node c.of-in-loop-marks.result) ≡ set counts node v =
+    map-set f cs node c.of-in-loop-marks.result
+    ∙ ap (set counts node) (c.of-in-loop-marks.ensures ∙ ap (λ x. x + 1) (c.get-in-loop-marks.ensures ∙ count)) in
     let low : v ≤ row + 1 = omega (arith, inv.below node, is.arrays.high node, new) in
     record {
       climbing = subst (λ ms. IsClimbing old (climbs_of ms ps (nodes_up ps start (n + 1))) row start
@@ -91,11 +123,13 @@ loop-marks-preserved g c =
       counts = λ nodes are.
           let added = counts_more counts (nodes ++ before) node v within refl
           (inv.counts nodes are) in
-          subst (AreCounts (set counts node v)) (append_assoc nodes before (node ∷ [])
-          ∙ ap (λ xs. nodes ++ xs) (sym more)) added;
-      below = subst (λ ms. AreBelowMarks (set counts node v) ms) (sym marked)
+          subst (λ xs. AreCounts xs (nodes ++ nodes_up ps start (n + 1))) (sym counted)
+          (subst (AreCounts (set counts node v)) (append_assoc nodes before (node ∷ [])
+          ∙ ap (λ xs. nodes ++ xs) (sym more)) added);
+      below = subst (λ ns. AreBelowMarks ns (map f (set xs node c.of.result))) (sym counted)
+          (subst (λ ms. AreBelowMarks (set counts node v) ms) (sym marked)
           (below_more counts (map f xs) node v (row + 1) within
-          (omega (arith, inside, length-map xs f)) low inv.below);
+          (omega (arith, inside, length-map xs f)) low inv.below));
       counted = omega (arith, inv.counted, c.tick.ensures);
     }
 

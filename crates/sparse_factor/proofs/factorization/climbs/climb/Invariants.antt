@@ -14,9 +14,9 @@ invariant-loop-marks g l =
       walking : IsWalking (climbed_up f l.marks l.parents l.start l.length) l.row l.start l.length
           l.node;
       short : l.length + unmarked (l.row + 1) (l.row + 1) (map f l.marks) ≤ l.row + 1;
-      counts : (nodes : List ℕ) → AreCounts l.initial.counts nodes
-          → AreCounts l.counts (nodes ++ nodes_up (map f l.parents) l.start l.length);
-      below : AreBelowMarks l.counts (map f l.marks);
+      counts : (nodes : List ℕ) → AreCounts (map f l.initial.counts) nodes
+          → AreCounts (map f l.counts) (nodes ++ nodes_up (map f l.parents) l.start l.length);
+      below : AreBelowMarks (map f l.counts) (map f l.marks);
       counted : l.steps ≡ l.initial.steps + l.length;
     }
 

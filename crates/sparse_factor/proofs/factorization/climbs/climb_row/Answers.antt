@@ -1,5 +1,5 @@
-use Rattle.std.proofs.Common.{◌≡◌, ◌+◌, ◌++◌, map, replicate, slice_index, append_assoc, sym, ap}
-use Rattle.std.proofs.Common.{◌∙◌, subst, arith}
+use Rattle.std.proofs.Common.{◌≡◌, ◌+◌, ◌++◌, map, replicate, slice_index, append_assoc}
+use Rattle.std.proofs.Common.{sym, ap, ◌∙◌, subst, arith}
 use Rattle.std.proofs.lemmas.List.{append-nil, replicate-append-replicate}
 use Rattle.sparse_factor.specs.InnerClimbs.{climbs_of, AreClimbs, AreCounts}
 use Rattle.sparse_factor.specs.InnerPaths.{nodes_up, nodes_of, rows_in, paths_of, climbed}
@@ -62,7 +62,7 @@ loop-start-preserved g c =
             paths = w.keep_path.ensures.paths p' w.climb-length.ensures.path
                 (paths_kept p p' kept (paths_of f ps) inv.paths);
             room = omega (arith, inv.room, w.keep_path.ensures.len, w.keep_path.ensures.capacity);
-            counts = subst (AreCounts w.climb-length.new.counts) (sym nodes)
+            counts = subst (AreCounts (map f w.climb-length.new.counts)) (sym nodes)
                 (w.climb-length.ensures.counts (nodes_of p (paths_of f ps)) inv.counts);
             below = w.climb-length.ensures.below;
             counted = (

@@ -14,8 +14,8 @@ invariant-loop-start g l =
           (climbed f l.marks l.parents l.paths.items) l.row l.starts l.start-index;
       paths : ArePaths (map f l.parents) (paths_of f l.paths.items);
       room : vec_len l.paths + length l.starts ≤ vec_capacity l.paths + l.start-index;
-      counts : AreCounts l.counts (nodes_in f l.parents l.paths.items);
-      below : AreBelowMarks l.counts (map f l.marks);
+      counts : AreCounts (map f l.counts) (nodes_in f l.parents l.paths.items);
+      below : AreBelowMarks (map f l.counts) (map f l.marks);
       counted : (n : ℕ) × (l.steps ≡ l.initial.steps + n + l.start-index)
           × (rows_in f l.paths.items ≡ rows_in f l.initial.paths.items ++ replicate n l.row);
     }

@@ -130,17 +130,22 @@ pub loop-row-init : goal.loop-row-init
 loop-row-init g c =
     let f = g.C.Count.number in
     let p = c.args.pattern.now in
-    let zeros = c.in_ok-counts.ensures.items_if_clones_equal (λ y h. h) in
+    let counts = map f c.in_ok-counts.counts.items in
+    let zeros = c.in_ok-counts.ensures in
     let size = c.major_dim-size.ensures in
-    let none = no_counts c.major_dim-size.result c.in_ok-counts.counts.items zeros in
     rw c.new-paths.ensures.items record {
       filled = no_filled_paths (UpperBase p) p.major_dim (map f c.in_ok-marks.marks.items)
           (map f c.in_ok-parents.parents.items) (rw size at c.in_ok-marks.ensures)
           (rw size at c.in_ok-parents.ensures);
-      counts = none;
-      below = none_below c.major_dim-size.result c.in_ok-counts.counts.items
-          (map f c.in_ok-marks.marks.items) zeros;
-      count_size = omega (arith, c.in_ok-counts.ensures.len, c.in_ok-counts.counts.ok.0);
+      counts = no_counts c.major_dim-size.result counts zeros;
+      below = none_below c.major_dim-size.result counts (map f c.in_ok-marks.marks.items) zeros;
+      count_size = omega (
+        arith,
+        length-map c.in_ok-counts.counts.items f,
+        ap length zeros,
+        length-replicate {A = ℕ} c.major_dim-size.result 0,
+        size,
+      );
       counted = omega (arith, c.major_offsets.ensures.valid.first);
     }
 

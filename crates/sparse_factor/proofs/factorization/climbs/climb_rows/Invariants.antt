@@ -12,8 +12,8 @@ invariant-loop-row g l =
     record {
       filled : AreFilledPaths (UpperBase l.pattern) l.pattern.major_dim (map f l.marks.items)
           (map f l.parents.items) (paths_of f l.paths.items) l.row;
-      counts : AreCounts l.counts.items (nodes_in f l.parents.items l.paths.items);
-      below : AreBelowMarks l.counts.items (map f l.marks.items);
+      counts : AreCounts (map f l.counts.items) (nodes_in f l.parents.items l.paths.items);
+      below : AreBelowMarks (map f l.counts.items) (map f l.marks.items);
       count_size : length l.counts.items ≡ l.pattern.major_dim;
       counted : l.steps ≡ l.initial.steps + start_of l.pattern l.row + length
           (rows_in f l.paths.items);
