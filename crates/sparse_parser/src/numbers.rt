@@ -13,11 +13,11 @@ ghost use Rattle.sparse_parser.specs.InnerNumbers.{IsNumberRead, HasStopped};
 use crate::lines::split_front;
 
 /// 19 digits always fit in 64 bits.
-const SHORT: usize = 19;
+pub const SHORT: usize = 19;
 
-/// The number that at most 19 digits at the front of a text write, and what stands after them.
+// Parses at most 19 leading digits. Returns their value and the rest of the text.
 #[inline(always)]
-pub fn short_number(text: &[u8]) -> (usize, &[u8])
+fn short_number(text: &[u8]) -> (usize, &[u8])
     ensures read { IsNumberRead text.now result.0 result.1.now }
     ensures stopped { HasStopped text.now result.1.now }
 {
