@@ -15,7 +15,7 @@ use crate::numbers::SHORT;
 /// Parses the first line of a text as two indices and an integer. Returns the row, the column, the value and the text from the line's
 /// end on, or `None` if the line has another form.
 #[tactic(auto, using(crate::proofs::IntegerLaws::integer_line_is))]
-#[inline(never)]
+#[inline(always)]
 pub fn integer_line(text: &[u8]) -> Option<(usize, usize, i64, &[u8])>
     ensures { MatchOption result (Unit {0})
         (λ line. IsIntegerLine text.now line.0 line.1 line.2 line.3.now) }
@@ -29,7 +29,7 @@ pub fn integer_line(text: &[u8]) -> Option<(usize, usize, i64, &[u8])>
 /// Parses the first line of a text as two indices. Returns the row, the column and the text from the line's end on, or `None` if the
 /// line has another form.
 #[tactic(auto, using(crate::proofs::IntegerLaws::place_line_is))]
-#[inline(never)]
+#[inline(always)]
 pub fn place_line(text: &[u8]) -> Option<(usize, usize, &[u8])>
     ensures { MatchOption result (Unit {0})
         (λ line. IsPlaceLine text.now line.0 line.1 line.2.now) }
@@ -42,7 +42,7 @@ pub fn place_line(text: &[u8]) -> Option<(usize, usize, &[u8])>
 
 /// Parses the first line of a text as an integer. Returns the value and the text from the line's end on, or `None` if the line has
 /// another form.
-#[inline(never)]
+#[inline(always)]
 pub fn value_line(text: &[u8]) -> Option<(i64, &[u8])>
     ensures { MatchOption result (Unit {0}) (λ line. IsValueLine text.now line.0 line.1.now) }
 {
