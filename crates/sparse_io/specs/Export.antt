@@ -1,4 +1,4 @@
--- What an iterator over an exported matrix has left.
+-- The triplets that an export iterator has left.
 use Rattle.std.specs.Prelude.{ℕ, List}
 use Rattle.sparse_io.specs.declared.export.ExportIter.{ExportIter}
 use Rattle.sparse_io.specs.declared.export.ExportIter.TheVariants.{Coo, Csr, Csc}

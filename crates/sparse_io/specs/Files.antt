@@ -1,16 +1,16 @@
--- Faults of files.
+-- Errors of files.
 use Rattle.std.specs.declared.io.ErrorKind.{ErrorKind}
 use Rattle.std.specs.declared.io.ErrorKind.TheVariants as io
 use Rattle.sparse_parser.specs.declared.error.MatrixMarketErrorKind.{MatrixMarketErrorKind}
 use Rattle.sparse_parser.specs.declared.error.MatrixMarketErrorKind.TheVariants.{IOError}
 use Rattle.sparse_parser.specs.declared.error.MatrixMarketErrorKind.TheVariants.{OutOfMemory}
 
--- the kind of a fault in opening, making or reading a file
+-- the kind of an error in opening, creating or reading a file
 abbrev pub file_fault : ErrorKind → MatrixMarketErrorKind
 file_fault io.OutOfMemory = OutOfMemory
 file_fault kind = IOError kind
 
--- memory was refused, or the file could not be opened, made, read, written or flushed
+-- an allocation failed, or the file could not be opened, created, read, written or flushed
 abbrev pub IsFileFault : MatrixMarketErrorKind → Type 0
 IsFileFault OutOfMemory = Unit {0}
 IsFileFault (IOError kind) = Unit {0}

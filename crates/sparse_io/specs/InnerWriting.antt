@@ -4,7 +4,7 @@ use Rattle.std.specs.Io.KnownBytes.{Appends}
 use Rattle.sparse_base.specs.Coo.{Coo}
 use Rattle.sparse_io.specs.Written.{heading, size_line}
 
--- what a matrix's text has before the lines of its triplets
+-- the text before the lines of the triplets
 abbrev pub head_of : {V : Type 0} → List ℕ → Coo V → List ℕ
 head_of name m = heading name ++ size_line m.nrows m.ncols (length m.triplets)
 

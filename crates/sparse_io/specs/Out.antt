@@ -1,4 +1,4 @@
--- What a contract sees of a sink over a writer.
+-- The state of a sink over a writer, as contracts see it.
 use Rattle.std.specs.Prelude.{ℕ, Option}
 use Rattle.std.specs.declared.io.ErrorKind.{ErrorKind}
 

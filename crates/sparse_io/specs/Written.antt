@@ -1,4 +1,4 @@
--- The text that is written of a list of triplets.
+-- The text that is written for a list of triplets.
 use Rattle.std.specs.Prelude.{◌≡◌, ℕ, ◌+◌, List, [], ◌∷◌, ◌++◌, length, codes, Option, Some}
 use Rattle.std.specs.List.{flat_map}
 use Rattle.std.specs.Fmt.{decimal}
@@ -8,7 +8,7 @@ use Rattle.sparse_parser.specs.declared.error.MatrixMarketErrorKind.{MatrixMarke
 use Rattle.sparse_parser.specs.declared.error.MatrixMarketErrorKind.TheVariants.{IOError}
 use Rattle.sparse_parser.specs.declared.error.MatrixMarketErrorKind.TheVariants.{OutOfMemory}
 
--- the header line, with the name of the values' type, and the comment below it
+-- the header line, with the name of the scalar type, and the comment below it
 unfoldable pub heading : List ℕ → List ℕ
 heading name =
     codes "%%matrixmarket matrix coordinate "
@@ -25,7 +25,7 @@ module _ {V : Type 0} where
   triplet_line text t =
       decimal (t.0 + 1) ++ (32 ∷ (decimal (t.1 + 1) ++ (32 ∷ (text t.2 ++ (10 ∷ [])))))
 
-  -- the text of triplets whose values' type has this name
+  -- the text of triplets whose scalar type has this name
   unfoldable pub written_text : List ℕ → (V → List ℕ) → ℕ → ℕ → List (ℕ × ℕ × V) → List ℕ
   written_text name text nrows ncols triplets =
       heading name ++ (size_line nrows ncols (length triplets) ++ flat_map (triplet_line text)
@@ -35,8 +35,8 @@ module _ {V : Type 0} where
   abbrev pub text_of : List ℕ → (V → List ℕ) → Coo V → List ℕ
   text_of name text m = written_text name text m.nrows m.ncols m.triplets
 
--- why a text was not written: memory was refused and no write failed, or the last write failed,
--- with the kind
+-- why a text was not written: an allocation failed and no write did, or the last write failed, with
+-- this kind
 abbrev pub IsRefusedWrite : MatrixMarketErrorKind → ℕ → ℕ → Option ErrorKind → Type 0
 IsRefusedWrite OutOfMemory before after last = after ≡ before
 IsRefusedWrite (IOError kind) before after last = (after ≡ before + 1) × (last ≡ Some kind)

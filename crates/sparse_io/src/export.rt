@@ -1,4 +1,4 @@
-//! Matrices whose text can be written.
+//! Matrices that can be written in Matrix Market format.
 
 ghost use Rattle.std.specs.Prelude.{◌≡◌, length};
 ghost use Rattle.std.specs.Iterator.{YieldsFirstBy, item_count};
@@ -7,7 +7,7 @@ use sparse_base::coo::{CooMatrix, CooTripletIter};
 use sparse_forms::csc::{CscMatrix, CscTripletIter};
 use sparse_forms::csr::{CsrMatrix, CsrTripletIter};
 
-/// A matrix that can be written.
+/// A matrix that can be written in Matrix Market format.
 pub trait MatrixMarketExport<T> {
     ghost use Rattle.sparse_base.specs.Coo.{Coo, IsInside};
     ghost use Rattle.sparse_io.specs.Export.{triplets_left};
@@ -15,25 +15,25 @@ pub trait MatrixMarketExport<T> {
     // The sizes, and the triplets in the order in which they are written.
     ghost exported: { Self → Coo T };
 
-    /// The triplets in the order of the matrix's form.
+    /// Returns an iterator over the triplets, in the order of the matrix's form.
     fn triplet_iter(&self) -> ExportIter<'_, T>
         ensures all { triplets_left result ≡ (exported self.now).triplets }
         ensures inside { IsInside (exported self.now) };
 
-    /// The number of rows.
+    /// Returns the number of rows.
     fn nrows(&self) -> usize
         ensures { result ≡ (exported self.now).nrows };
 
-    /// The number of columns.
+    /// Returns the number of columns.
     fn ncols(&self) -> usize
         ensures { result ≡ (exported self.now).ncols };
 
-    /// The number of triplets.
+    /// Returns the number of triplets.
     fn nnz(&self) -> usize
         ensures { result ≡ length (exported self.now).triplets };
 }
 
-/// The triplets of a matrix in the order of its form.
+/// An iterator over the triplets of a matrix, in the order of its form.
 #[derive(Drop)]
 pub enum ExportIter<'a, T> {
     /// The triplets of a list, in the order of pushing.

@@ -20,17 +20,17 @@ use std::fs::{self, File};
 use std::io::{self, Write};
 use std::rt::Files;
 
-/// Returns the matrix that a file in the Matrix Market format holds.
+/// Reads a matrix from a file in Matrix Market format.
 ///
 /// The text is read as [`load_coo_from_matrix_market_str`] reads it.
 ///
 /// # Errors
 ///
 /// Returns the errors of [`load_coo_from_matrix_market_str`]. Returns `IOError` with its kind if the file cannot be opened or read, and
-/// `IOError(InvalidData)` if it is not UTF-8. Returns `OutOfMemory` if an allocation fails, also in opening and reading.
+/// `IOError(InvalidData)` if it is not UTF-8. Returns `OutOfMemory` if an allocation fails, in opening and reading too.
 ///
-/// No contract describes what a file holds. It is proved that a matrix is the meaning of some text, and that an error is that of some
-/// text or one of the two kinds of a file.
+/// No contract describes the contents of a file. It is proved that the matrix is the meaning of some text, and that an error is the
+/// error of some text, `IOError` or `OutOfMemory`.
 pub fn load_coo_from_matrix_market_file<T: MatrixMarketScalar>(
     rt: &(impl Files + AllocGlobal),
     path: &str,
@@ -45,7 +45,7 @@ pub fn load_coo_from_matrix_market_file<T: MatrixMarketScalar>(
     }
 }
 
-/// Creates a file, or empties it, writes a matrix to it and flushes it.
+/// Creates or truncates a file, writes a matrix to it and flushes it.
 ///
 /// The text is that of [`save_to_matrix_market`].
 ///
@@ -54,7 +54,7 @@ pub fn load_coo_from_matrix_market_file<T: MatrixMarketScalar>(
 /// Returns `IOError` with its kind if the file cannot be created, written or flushed. Returns `OutOfMemory` if an allocation fails. The
 /// file then holds a prefix of the text.
 ///
-/// No contract describes what a file holds. It is proved which kinds of errors come.
+/// No contract describes the contents of a file. It is proved that every error is `IOError` or `OutOfMemory`.
 pub fn save_to_matrix_market_file<T, S>(
     rt: &(impl Files + AllocGlobal),
     matrix: &S,
@@ -93,7 +93,7 @@ where
     }
 }
 
-// The error of a fault in opening, creating or reading a file.
+// The error of a failure in opening, creating or reading a file.
 fn file_fault(fault: io::Error) -> MatrixMarketError
     ensures { kind_of result ≡ file_fault (error_kind fault) }
 {

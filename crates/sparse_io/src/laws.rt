@@ -1,4 +1,4 @@
-//! Laws of the meaning of texts. Their functions do nothing: the contract is the law.
+//! Laws of the meaning of texts. Each law is the postcondition of an empty function.
 
 ghost use Rattle.std.specs.Prelude.{◌≡◌, ◌<◌, ◌^◌, ℕ, List, All, length, Ok};
 ghost use Rattle.sparse_base.specs.Coo.{Coo, IsInside};
@@ -16,20 +16,21 @@ pub fn one_document()
         → IsDocument text h s ls → IsDocument text g z ks → (h ≡ g) × (s ≡ z) × (ls ≡ ks) }
 {}
 
-/// To a scalar type each text has a meaning.
+/// Each text has a meaning for each scalar type.
 pub fn each_text_means<T: MatrixMarketScalar>()
     ensures { (text : List ℕ) → (r : Read (Coo T.scalar.Value)) × Means T.scalar text r }
 {}
 
-/// To a scalar type a text has one meaning.
+/// A text has at most one meaning for a scalar type.
 pub fn one_meaning<T: MatrixMarketScalar>()
     ensures { (text : List ℕ) (r s : Read (Coo T.scalar.Value))
         → Means T.scalar text r → Means T.scalar text s → r ≡ s }
 {}
 
-/// What is written means what was written, to the same scalar type.
+/// The text of a matrix means that matrix, for the same scalar type.
 ///
-/// The sizes and the number of triplets are usizes, the triplets lie inside the sizes, and the values are those of the type.
+/// The sizes and the number of triplets must fit in `usize`, the triplets must lie inside the sizes, and their values must be values of
+/// the type.
 pub fn round_trip<T: MatrixMarketScalar>()
     ensures { (m : Coo T.scalar.Value)
         → m.nrows < 2 ^ 64 → m.ncols < 2 ^ 64 → length m.triplets < 2 ^ 64

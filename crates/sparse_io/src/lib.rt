@@ -1,4 +1,4 @@
-//! Sparse matrices as texts in the Matrix Market exchange format.
+//! Reading and writing sparse matrices in the Matrix Market exchange format.
 #![tactic(auto)]
 
 mod export;

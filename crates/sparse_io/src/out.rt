@@ -10,7 +10,7 @@ use std::marker::Model;
 
 /// A [`Sink`] over any [`Write`].
 ///
-/// Its bytes are the writer's. It remembers the kind of the last failure; how many writes failed only contracts see.
+/// Its bytes are those of the writer. It keeps the kind of the last failure; the number of failures is visible to contracts only.
 #[derive(Drop)]
 pub struct Out<W> {
     inner: W,
@@ -27,7 +27,7 @@ impl<W> Model for Out<W> {
 }
 
 impl<W> Out<W> {
-    /// A sink over the writer, with no failure yet.
+    /// Returns a sink over the writer, without a failure so far.
     pub fn new(inner: W) -> Out<W>
         ensures { result ≡ out_state inner 0 None }
     {
@@ -38,7 +38,7 @@ impl<W> Out<W> {
         }
     }
 
-    /// The writer.
+    /// Returns the writer.
     pub fn into_inner(self) -> W
         ensures { result ≡ self.inner }
     {

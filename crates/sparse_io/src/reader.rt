@@ -1,4 +1,4 @@
-//! From a text to a matrix.
+//! Reading a matrix from a text.
 
 ghost use Rattle.std.specs.Prelude.{◌≡◌, ◌⊎◌, IfOk, IfErr, Ok, Err};
 ghost use Rattle.sparse_parser.specs.declared.error.MatrixMarketErrorKind.TheVariants.{OutOfMemory};
@@ -19,17 +19,19 @@ use std::alloc::Global;
 mod entries;
 mod entry;
 
-/// Returns the matrix that a text in the Matrix Market format writes.
+/// Reads a matrix from a text in Matrix Market format.
 ///
-/// Entries that are repeated are kept, in the order of the text. Where the header says a symmetry, the mirrored entry stands right
-/// behind its own. An array is read column by column, with its zeros.
+/// Repeated entries are kept, in the order of the text. If the header names a symmetry, each mirrored entry directly follows its own.
+/// Arrays are read column by column, and their zeros are stored.
 ///
-/// The first fault in this order is answered: `ParsingError` where the text is outside the grammar; `InvalidHeader`; `ParsingError`
-/// where the size line doesn't fit the header or a size passes usize; `NonSquare`; `EntryMismatch`; then, entry after entry,
-/// `ParsingError` for its shape or numbers, `ZeroError`, `TypeMismatch`, `NotLowerTriangle`, `DiagonalError`; last
-/// `SparseFormatError(IndexOutOfBounds)`. `OutOfMemory` comes only where an allocation fails.
+/// A valid text is read in one pass. Memory for the triplets is reserved once, and never for more than the text has room for.
 ///
-/// It goes over a good text once. It allocates room for the triplets once, and never for more than the text has room for.
+/// # Errors
+///
+/// Returns the first error in this order: `ParsingError` if the text does not match the grammar; `InvalidHeader`; `ParsingError` if the
+/// size line does not fit the header or a size exceeds `usize`; `NonSquare`; `EntryMismatch`; then, entry by entry, `ParsingError` for
+/// its shape or its numbers, `ZeroError`, `TypeMismatch`, `NotLowerTriangle`, `DiagonalError`; last
+/// `SparseFormatError(IndexOutOfBounds)`. Returns `OutOfMemory` only if an allocation fails.
 ///
 /// # Examples
 ///
@@ -60,6 +62,7 @@ pub fn load_coo_from_matrix_market_str<T: MatrixMarketScalar>(
     document(alloc, text.as_bytes())
 }
 
+// Reads the bytes of a text.
 fn document<T: MatrixMarketScalar>(
     alloc: Global,
     text: &[u8],
@@ -73,7 +76,7 @@ fn document<T: MatrixMarketScalar>(
     }
 }
 
-// What stands below the header.
+// Reads the text below the header.
 fn body<T: MatrixMarketScalar>(
     alloc: Global,
     header: Header,
@@ -89,7 +92,7 @@ fn body<T: MatrixMarketScalar>(
     }
 }
 
-// This cause, unless a later line is no data line.
+// Returns this cause, or `Grammar` if a later line is not a data line.
 #[tactic(auto, unfolding(sparse_parser::specs::InnerReading::grammar_kind_of, sparse_parser::specs::InnerReading::count_of))]
 fn in_grammar(cause: Cause, text: &[u8]) -> Cause
     ensures { kind_of_cause result ≡ grammar_kind_of (kind_of_cause cause) (contents_of text.now) }
@@ -100,7 +103,8 @@ fn in_grammar(cause: Cause, text: &[u8]) -> Cause
     }
 }
 
-// The first fault if an entry is refused, given the number of data lines read, the refused one included, and the text that follows.
+// Returns the first error of a text with a refused entry, given the number of data lines read, the refused one included, and the rest
+// of the text.
 #[tactic(auto, unfolding(sparse_parser::specs::InnerReading::settled_of, sparse_parser::specs::InnerReading::count_of))]
 fn settled(
     fault: MatrixMarketError,
@@ -117,7 +121,7 @@ fn settled(
     }
 }
 
-// How many data lines a text has; nothing where one of its lines is no data line.
+// Counts the data lines of a text. Returns `None` if one of its lines is not a data line.
 fn count_entries(text: &[u8]) -> Option<usize>
     ensures { result ≡ count_of (contents_of text.now) }
 {

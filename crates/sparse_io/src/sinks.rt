@@ -14,7 +14,7 @@ use std::io::ErrorKind;
 pub trait Sink {
     ghost use Rattle.std.specs.declared.io.ErrorKind.{ErrorKind};
 
-    // The bytes taken, where the type tells them.
+    // The bytes accepted so far, if the type determines them.
     ghost taken: { Self → Option (List ℕ) } = { λ _. None };
 
     // How many writes failed.
@@ -31,7 +31,7 @@ pub trait Sink {
             (last self.old) (last self.new) };
 }
 
-/// Writes all the bytes. It goes on after a short write, and ends at the first that fails, which is not tried again.
+/// Writes all the bytes. Short writes are continued. The first failed write ends it; it is not tried again.
 pub fn write_all_to<W: Sink>(sink: &mut W, bytes: &[u8]) -> Result<(), ErrorKind>
     ensures unfailed { OnOk result (W.failures sink.new ≡ W.failures sink.old) }
     ensures all { OnOk result (Appends (W.taken sink.old) (W.taken sink.new) bytes.now) }

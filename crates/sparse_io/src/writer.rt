@@ -1,4 +1,4 @@
-//! From a matrix to a Matrix Market text.
+//! Writing a matrix in Matrix Market format.
 
 ghost use Rattle.std.specs.Prelude.{◌≡◌, ℕ, ◌+◌, ◌<◌, ◌≤◌, ◌++◌, [], OnOk, OnErr, IfOk, IfErr, string_bytes};
 ghost use Rattle.std.specs.Fmt.{decimal};
@@ -18,13 +18,13 @@ use std::alloc::{AllocError, Global};
 
 mod indices;
 
-// The room of the buffer that a text goes through.
+// The capacity of the buffer that a text passes through.
 const CAPACITY: usize = 64 * 1024;
 
-// More than the line of a triplet takes: two indices and a value of 20 bytes each make a line of 63 bytes.
+// The room kept for a line: two indices and a value of 20 bytes each make a line of 63 bytes.
 const LINE_ROOM: usize = 256;
 
-// The length at which the buffer is emptied, so that the next line finds room in it.
+// The length at which the buffer is written out, so that the next line fits.
 const FULL: usize = CAPACITY - LINE_ROOM;
 
 fn push_number(text: &mut String, number: usize) -> Result<(), AllocError>
@@ -85,7 +85,7 @@ where
     push_sizes(text, matrix.nrows(), matrix.ncols(), matrix.nnz())
 }
 
-// Writes what the buffer holds, and empties it.
+// Writes the buffer to the sink and clears it.
 fn flush<W: Sink>(sink: &mut W, text: &mut String) -> Result<(), MatrixMarketError>
     ensures unfailed { OnOk result (W.failures sink.new ≡ W.failures sink.old) }
     ensures all { OnOk result (Appends (W.taken sink.old) (W.taken sink.new) (string_bytes text.old)) }
@@ -98,7 +98,7 @@ fn flush<W: Sink>(sink: &mut W, text: &mut String) -> Result<(), MatrixMarketErr
     Ok(())
 }
 
-// Appends a triplet to the buffer, after writing what it holds where it is full.
+// Appends a triplet to the buffer, which is written out first if it is full.
 fn put_triplet<T, W>(
     sink: &mut W,
     text: &mut String,
@@ -156,7 +156,7 @@ where
     Ok(())
 }
 
-/// The text that [`save_to_matrix_market`] writes.
+/// Returns the text that [`save_to_matrix_market`] writes. Fails only if an allocation fails.
 ///
 /// # Examples
 ///

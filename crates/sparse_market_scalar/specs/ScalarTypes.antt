@@ -1,4 +1,4 @@
--- The scalar types that are carried: plain and wrapping integers, and patterns.
+-- The scalar types of this crate: plain and wrapping integers, and patterns.
 use Rattle.std.specs.Prelude.{ℤ, [], Ok, Err, FitsSigned, codes, refl}
 use Rattle.std.specs.Int.{Width, int_wrapping_neg}
 use Rattle.std.specs.Fmt.{signed_decimal}
@@ -8,7 +8,7 @@ use Rattle.sparse_parser.specs.declared.error.MatrixMarketErrorKind.TheVariants.
 use Rattle.sparse_parser.specs.Scalars.{Scalar}
 use Rattle.sparse_market_scalar.specs.IntegerTexts.{taken, taken_refuses, number_text}
 
--- plain integers, of which the least has no negative
+-- plain integers; the least has no negative
 abbrev pub signed_scalar : Width → Scalar
 signed_scalar w = record {
   Value = ℤ;

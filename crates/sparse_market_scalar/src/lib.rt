@@ -1,4 +1,4 @@
-//! Scalars whose values stand in Matrix Market texts.
+//! Scalar types of Matrix Market texts.
 #![tactic(auto)]
 
 mod scalar;

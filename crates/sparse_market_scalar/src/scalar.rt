@@ -1,4 +1,4 @@
-//! Scalars whose values stand in Matrix Market texts.
+//! Scalar types of Matrix Market texts.
 
 ghost use Rattle.std.specs.Prelude.{◌≡◌, ◌++◌, OnOk, string_bytes};
 ghost use Rattle.sparse_parser.specs.Reads.{read_as};
@@ -10,33 +10,33 @@ use std::alloc::AllocError;
 mod plain;
 mod wrapping;
 
-/// A type of values that stand in Matrix Market texts.
+/// A scalar type that can be read from and written to Matrix Market texts.
 ///
-/// An implementation proves that its refusals are `TypeMismatch` alone, and that the text of each of its values is taken as that
-/// value: a type named `integer` writes an optional sign and digits that [`from_i128`](Self::from_i128) takes, one named `pattern`
-/// writes nothing, and [`from_pattern`](Self::from_pattern) gives its value.
+/// An implementation proves that its only error is `TypeMismatch`, and that the text of each of its values is read back as that value.
+/// A type named `integer` writes an optional sign and digits, which [`from_i128`](Self::from_i128) accepts. A type named `pattern` writes
+/// nothing, and [`from_pattern`](Self::from_pattern) returns its value.
 pub trait MatrixMarketScalar: Copy {
     ghost use Rattle.sparse_parser.specs.Scalars.{Scalar};
 
-    // What the type takes of a text, and the texts of its values.
+    // The numbers that the type accepts, and the texts of its values.
     ghost scalar: { Scalar };
 
     // What contracts see of a value.
     ghost value: { Self → scalar.Value };
 
-    /// Returns the value that an integer entry gives, or `TypeMismatch`.
+    /// Returns the value of an integer entry, or `TypeMismatch` if the type does not have it.
     fn from_i128(number: i128) -> Result<Self, MatrixMarketError>
         ensures { read_as value result ≡ scalar.from_number number };
 
-    /// Returns the value that a pattern entry gives, or `TypeMismatch`.
+    /// Returns the value of a pattern entry, or `TypeMismatch` if the type has none.
     fn from_pattern(pattern: ()) -> Result<Self, MatrixMarketError>
         ensures { read_as value result ≡ scalar.from_pattern };
 
-    /// Returns the negative of the value, or `TypeMismatch` where the type has none.
+    /// Returns the negative of the value, or `TypeMismatch` if the type does not have it.
     fn negative(self) -> Result<Self, MatrixMarketError>
         ensures { read_as value result ≡ scalar.negated (value self) };
 
-    /// Returns the conjugate of the value, or `TypeMismatch` where the type has none.
+    /// Returns the conjugate of the value, or `TypeMismatch` if the type has none.
     fn conjugate(self) -> Result<Self, MatrixMarketError>
         ensures { read_as value result ≡ scalar.conjugated (value self) };
 
@@ -44,12 +44,12 @@ pub trait MatrixMarketScalar: Copy {
     fn typename() -> &'static str
         ensures { result.now ≡ scalar.name };
 
-    /// Appends the value's text. If memory is refused, a prefix of it may have been appended.
+    /// Appends the text of the value. Fails only if an allocation fails; a prefix may have been appended then.
     fn write_matrix_market(&self, out: &mut String) -> Result<(), AllocError>
         ensures { OnOk result
             (string_bytes out.new ≡ string_bytes out.old ++ scalar.text (value self.now)) };
 
-    /// Does nothing: its contract says that any value in hand is one of the type's values.
+    /// Does nothing. Its contract states that `self` is one of the type's values.
     fn in_range(self)
         ensures { scalar.IsValue (value self) };
 }

@@ -1,5 +1,6 @@
 pub mod ByteClasses
 pub mod Digits
+pub mod Positions
 pub mod EntryLaws
 pub mod FirstWord
 pub mod IntegerLaws

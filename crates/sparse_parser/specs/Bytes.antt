@@ -1,4 +1,4 @@
--- Bytes of one kind, and the front of a text whose bytes pass a test.
+-- Classes of bytes, and the longest prefix of a text in a class.
 use Rattle.std.specs.Prelude.{ℕ, Bool, ◌||◌, ◌==◌, List, [], ◌∷◌, if◌then◌else◌}
 
 -- space or tab
@@ -17,7 +17,7 @@ is_point b = b == 46
 abbrev pub is_exponent_letter : ℕ → Bool
 is_exponent_letter b = (b == 101) || (b == 69)
 
--- the longest front whose bytes pass the test, and what stands after it
+-- the longest prefix whose bytes pass the test, and the rest
 abbrev pub front : (ℕ → Bool) → List ℕ → List ℕ
 front p [] = []
 front p (b ∷ text) = if p b then b ∷ front p text else []

@@ -1,4 +1,4 @@
--- The texts of errors.
+-- The messages of errors.
 use Rattle.std.specs.Prelude.{ℕ, List, codes}
 use Rattle.sparse_parser.specs.declared.error.Cause.{Cause}
 use Rattle.sparse_parser.specs.declared.error.Cause.TheVariants.{Grammar, RealHermitian}
@@ -41,7 +41,7 @@ kind_name NotLowerTriangle = codes "NotLowerTriangle"
 kind_name NonSquare = codes "NonSquare"
 kind_name OutOfMemory = codes "OutOfMemory"
 
--- the text of each cause
+-- the message of each cause
 abbrev pub cause_message : Cause → List ℕ
 cause_message Grammar = codes "Can't parse the data."
 cause_message RealHermitian = codes "Real matrix can't be hermitian."
@@ -71,6 +71,6 @@ cause_message (Format kind text) = text.now
 cause_message (Io kind) = codes "The reader or writer failed."
 cause_message Memory = codes "Out of memory."
 
--- the text of an error
+-- the message of an error
 abbrev pub message_of : MatrixMarketError → List ℕ
 message_of e = cause_message e.cause

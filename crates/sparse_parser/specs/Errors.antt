@@ -56,6 +56,6 @@ kind_of_cause (Format kind text) = SparseFormatError kind
 kind_of_cause (Io kind) = IOError kind
 kind_of_cause Memory = OutOfMemory
 
--- what `kind` answers of an error
+-- the kind of an error
 abbrev pub kind_of : MatrixMarketError → MatrixMarketErrorKind
 kind_of e = kind_of_cause e.cause

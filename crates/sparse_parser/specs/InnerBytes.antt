@@ -1,4 +1,4 @@
--- Tests of bytes, as the functions that scan a text make them.
+-- Classes of bytes that the scanning functions test.
 use Rattle.std.specs.Prelude.{◌≡◌, ◌≢◌, ℕ, ◌<◌, Bool, false, ◌||◌, not, List, [], ◌∷◌}
 use Rattle.sparse_parser.specs.Bytes.{is_blank, is_line_end, is_exponent_letter}
 
@@ -19,11 +19,11 @@ is_solid b = not (is_space b)
 abbrev pub is_unscaled : ℕ → Bool
 is_unscaled b = not (is_exponent_letter b)
 
--- the answers that a function may give of each byte are those of the test
+-- the function decides the test, for each byte
 abbrev pub Decides : (ℕ → Bool → Type 0) → (ℕ → Bool) → Type 0
 Decides answers p = (b : ℕ) (answer : Bool) → b < 256 → answers b answer → answer ≡ p b
 
--- nothing, or the first byte of a line that is neither blank nor a comment
+-- empty, or at the first word of a line that is not a comment
 abbrev pub BeginsLine : List ℕ → Type 0
 BeginsLine [] = Unit {0}
 BeginsLine (b ∷ text) = (is_space b ≡ false) × (b ≢ 37)

@@ -1,4 +1,4 @@
--- A data line as the integers that a function read.
+-- Data lines of integers, as the fast path reads them.
 use Rattle.std.specs.Prelude.{◌≡◌, ℕ, ℤ, true, List, [], ◌∷◌, Ok}
 use Rattle.sparse_parser.specs.Bytes.{after}
 use Rattle.sparse_parser.specs.InnerBytes.{is_within_line}

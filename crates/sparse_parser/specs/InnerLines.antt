@@ -1,4 +1,4 @@
--- A data line as its numbers.
+-- A data line as a list of numbers.
 use Rattle.std.specs.Prelude.{◌≡◌, ℕ, ◌<◌, ◌^◌, Bool, true, false, List, [], ◌∷◌, Option, Some}
 use Rattle.std.specs.Prelude.{None, IsTrue}
 use Rattle.std.specs.Option.{SomeIff}
@@ -26,12 +26,12 @@ is_whole Index = true
 is_whole Signed = true
 is_whole Other = false
 
--- the digits of an integer write this number, where it fits
+-- this is the value of an integer's digits, if it fits in 64 bits
 abbrev pub WriteNumber : List ℕ → Option ℕ → Type 0
 WriteNumber word n = SomeIff n (digits_value 10 (without_leading_sign word) < 2 ^ 64)
     (digits_value 10 (without_leading_sign word))
 
--- a word of this kind, and the number that its digits write
+-- a word of this form, and the value of its digits
 pub record IsNumberOf (word : List ℕ) (digits : Option ℕ) (kind : Kind) : Type 0 where
   pub number : is_number word ≡ true
   pub index : is_index word ≡ is_plain kind
@@ -41,12 +41,12 @@ pub record IsNumberOf (word : List ℕ) (digits : Option ℕ) (kind : Kind) : Ty
 abbrev pub IsNumber : Number → Type 0
 IsNumber n = IsNumberOf n.word.now n.digits n.kind
 
--- a word at the front of a line
+-- the first word of a line, and the rest of the text
 pub record IsWord (text word rest : List ℕ) : Type 0 where
   pub words : line_words text ≡ word ∷ line_words rest
   pub line : after is_within_line rest ≡ after is_within_line text
 
--- what stands at the front of a line
+-- the first item of a line
 abbrev pub IsFound : List ℕ → Found → Type 0
 IsFound text (found.Number n rest) = IsNumber n × IsWord text n.word.now rest.now
 IsFound text (found.End rest) = (line_words text ≡ []) × (rest.now ≡ after is_within_line text)
@@ -59,7 +59,7 @@ words_in (Two a b) = a.word.now ∷ b.word.now ∷ []
 words_in (Three a b c) = a.word.now ∷ b.word.now ∷ c.word.now ∷ []
 words_in (Four a b c d) = a.word.now ∷ b.word.now ∷ c.word.now ∷ d.word.now ∷ []
 
--- numbers, of which the first two are indices where there are three or four
+-- numbers; if there are three or four, the first two are indices
 abbrev pub AreNumbers : Line → Type 0
 AreNumbers (One a) = IsNumber a
 AreNumbers (Two a b) = IsNumber a × IsNumber b
@@ -68,7 +68,7 @@ AreNumbers (Three a b c) = IsNumber a × IsNumber b × IsNumber c × (is_plain a
 AreNumbers (Four a b c d) = IsNumber a × IsNumber b × IsNumber c × IsNumber d
     × (is_plain a.kind ≡ true) × (is_plain b.kind ≡ true)
 
--- a data line at the front of a text, and what stands after it
+-- the first line of a text is this data line, and this is the text from its end on
 pub record IsLine (text : List ℕ) (line : Line) (rest : List ℕ) : Type 0 where
   pub words : line_words text ≡ words_in line
   pub is : is_entry (words_in line) ≡ true

@@ -1,10 +1,10 @@
--- The number of the digits at the front of a text, as a loop reads them.
+-- The value of the leading digits of a text, as a loop reads them.
 use Rattle.std.specs.Prelude.{◌≡◌, ℕ, ◌+◌, ◌<◌, ◌≤◌, ◌^◌, ◌⊎◌, List, [], length}
 use Rattle.std.specs.Char.{is_ascii_digit}
 use Rattle.std.specs.Str.Parse.{digits_value, digits_value_after}
 use Rattle.sparse_parser.specs.Bytes.{front, after}
 
--- of the digits at the front of a text those before the rest were read
+-- the leading digits before the rest were read
 pub record IsNumberRead (text : List ℕ) (number : ℕ) (rest : List ℕ) : Type 0 where
   pub value : digits_value_after 10 number (front is_ascii_digit rest) ≡ digits_value 10
       (front is_ascii_digit text)

@@ -21,6 +21,6 @@ left_from s rows cols row col = if nat_lt col cols then column_left rows row col
 unfoldable pub places_left : Places → List (ℕ × ℕ)
 places_left p = left_from p.symmetry p.rows p.cols p.row p.col
 
--- where the column has no more places, it has none at all
+-- if the column has no places left, it had none
 abbrev pub IsSettled : Places → Type 0
 IsSettled p = p.col < p.cols → p.rows ≤ p.row → p.row ≡ first_row p.symmetry p.col

@@ -1,4 +1,4 @@
--- The same meaning as a function, for what reads it piece by piece.
+-- The meaning of a text as a function, in the steps of the reader.
 use Rattle.std.specs.Prelude.{◌≡◌, ℕ, Bool, true, false, ◌==◌, ◌+◌, not, List, [], ◌∷◌, length, map}
 use Rattle.std.specs.Prelude.{filter, slice_index, Option, Some, None, Result, Ok, Err, MatchResult}
 use Rattle.std.specs.Prelude.{if◌then◌else◌, ◌⊎◌}
@@ -26,11 +26,11 @@ abbrev pub is_some_line : List (List ℕ) → Bool
 is_some_line [] = false
 is_some_line (word ∷ words) = true
 
--- what stands between the blanks of a line
+-- the words between the blanks of a line
 unfoldable pub words_of : List ℕ → List (List ℕ)
 words_of line = words_between is_blank line
 
--- the words of the line at the front of a text
+-- the words of the first line of a text
 unfoldable pub line_words : List ℕ → List (List ℕ)
 line_words text = words_of (front is_within_line text)
 
@@ -50,7 +50,7 @@ is_content (word ∷ words) = not (slice_index word 0 == 37)
 unfoldable pub contents_of : List ℕ → List (List (List ℕ))
 contents_of text = filter is_content (written_of text)
 
--- this where each line is a data line
+-- this, if each line is a data line
 unfoldable pub among_entries : {A : Type 0} → List (List (List ℕ)) → Read A → Read A
 among_entries lines r = if list_all is_entry lines then r else Err ParsingError
 
@@ -72,23 +72,23 @@ module _ (S : Scalar) where
   unfoldable pub read : List ℕ → Read (Coo S.Value)
   read text = document_of (written_of text)
 
-  -- Where memory was refused, a function may answer that in place of what reading gives.
+  -- The result of reading, or an allocation failed.
   abbrev pub Gives : {T : Type 0} → (T → S.Value) → Result (Coo T) MatrixMarketError
       → Read (Coo S.Value) → Type 0
   Gives value result r = MatchResult result (λ m. r ≡ Ok (values_of value m))
       (λ e. (kind_of e ≡ OutOfMemory) ⊎ (r ≡ Err (kind_of e)))
 
--- how many data lines these are
+-- the number of these data lines
 unfoldable pub count_of : List (List (List ℕ)) → Option ℕ
 count_of lines = if list_all is_entry lines then Some (length lines) else None
 
--- a fault of the size line, where these lines follow
+-- the first error if the size line is refused and these lines follow
 unfoldable pub grammar_kind_of : MatrixMarketErrorKind → List (List (List ℕ))
     → MatrixMarketErrorKind
 grammar_kind_of kind lines = if list_all is_entry lines then kind else ParsingError
 
--- the first fault if an entry is refused, from the number of lines read with it and the lines that
--- follow
+-- the first error if an entry is refused, given the number of lines read, its own included, and the
+-- lines that follow
 unfoldable pub settled_of : MatrixMarketErrorKind → ℕ → Option ℕ → List (List (List ℕ))
     → MatrixMarketErrorKind
 settled_of kind read count lines = if list_all is_entry lines then if is_count count
@@ -102,7 +102,7 @@ size_numbers (Err cause) = Err (kind_of_cause cause)
 unfoldable pub size_at : Header → List (List ℕ) → Option (Read Sizes)
 size_at h words = if is_size words then Some (sizes_of h words) else None
 
--- what a function found, with the kind of a cause
+-- a result, with the kind of a cause
 abbrev pub found : {A : Type 0} → Result A Cause → Read A
 found (Ok x) = Ok x
 found (Err cause) = Err (kind_of_cause cause)

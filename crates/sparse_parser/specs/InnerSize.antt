@@ -1,4 +1,4 @@
--- The words of a size line, as a function finds them.
+-- The words of a size line.
 use Rattle.std.specs.Prelude.{◌≡◌, ℕ, Bool, true, List, [], ◌∷◌, Option, Some, None}
 use denote.Ref.{Bor}
 use Rattle.sparse_parser.specs.declared.size.SizeWords.{SizeWords}

@@ -1,4 +1,4 @@
--- What a Matrix Market text means to a scalar type: a list of triplets, or the first refusal.
+-- The meaning of a Matrix Market text for a scalar type: a list of triplets, or the first error.
 use Rattle.std.specs.Prelude.{◌≡◌, ℕ, ℤ, ◌-◌, ◌^◌, Bool, true, false, ◌||◌, ◌&&◌, ◌==◌, nat_lt}
 use Rattle.std.specs.Prelude.{List, [], ◌∷◌, ◌++◌, length, map, drop, slice_get, Option, Some, None}
 use Rattle.std.specs.Prelude.{Ok, Err, if◌then◌else◌, ◌⊎◌}
@@ -47,7 +47,7 @@ place_of row col = do
   c ← col
   if (r == 0) || (c == 0) then Err ZeroError else Ok (r - 1, c - 1)
 
--- these are the words of a value of the field
+-- the words are a value of the field
 abbrev pub is_of_field : Field → List (List ℕ) → Bool
 is_of_field Integer (v ∷ []) = true
 is_of_field Real (v ∷ []) = true
@@ -57,14 +57,14 @@ is_of_field field words = false
 
 -- ---- sizes
 
--- the rows, the columns, and the number of data lines where it is a usize
+-- the rows, the columns, and the number of data lines if it fits in a usize
 abbrev pub Sizes : Type 0
 Sizes = ℕ × ℕ × Option ℕ
 
 unfoldable pub within_usize : ℕ → Option ℕ
 within_usize n = if nat_lt n (2 ^ 64) then Some n else None
 
--- what a size line says
+-- the sizes given by a size line
 unfoldable pub numbers_of_size : Format → Symmetry → List (List ℕ) → Read Sizes
 numbers_of_size Coordinate s (rows ∷ cols ∷ count ∷ []) = do
   r ← number_of rows
@@ -87,13 +87,13 @@ is_fitting Hermitian rows cols = rows == cols
 abbrev pub fitting : Symmetry → Sizes → Read Sizes
 fitting y s = if is_fitting y s.0 s.1 then Ok s else Err NonSquare
 
--- the header's rules, then the size line's numbers, then their fit to the symmetry
+-- checks the header, then the numbers of the size line, then that a symmetry has a square matrix
 unfoldable pub sizes_of : Header → List (List ℕ) → Read Sizes
 sizes_of h words =
     if is_allowed h then (numbers_of_size h.format h.symmetry words >>= fitting h.symmetry)
     else Err InvalidHeader
 
--- as many data lines
+-- the number of data lines is the one given
 abbrev pub is_count : Option ℕ → ℕ → Bool
 is_count (Some n) lines = lines == n
 is_count None lines = false
@@ -105,7 +105,7 @@ abbrev pub Triplet : Type 0 → Type 0
 Triplet V = ℕ × ℕ × V
 
 module _ (S : Scalar) where
-  -- the value of a field that these words give
+  -- the value of a field that these words spell
   unfoldable pub value_of : Field → List (List ℕ) → Read S.Value
   value_of Integer (word ∷ words) = integer_of word >>= S.from_number
   value_of Pattern words = S.from_pattern
@@ -117,7 +117,7 @@ module _ (S : Scalar) where
     v ← value
     Ok (p.0, p.1, v)
 
-  -- the entry of a data line; an array's stands at the given place
+  -- the entry of a data line; an array's has the given place
   unfoldable pub entry_of : Format → Field → Option (ℕ × ℕ) → List (List ℕ)
       → Read (Triplet S.Value)
   entry_of Coordinate field at (row ∷ col ∷ words) =
@@ -128,7 +128,7 @@ module _ (S : Scalar) where
       if is_of_field field words then placed (Ok p) (value_of field words) else Err ParsingError
   entry_of format field at words = Err ParsingError
 
-  -- an entry, and right behind it the one that the symmetry implies
+  -- an entry, followed by the mirrored one if the symmetry implies one
   unfoldable pub mirrored : Symmetry → Triplet S.Value → Read (List (Triplet S.Value))
   mirrored General t = Ok (t ∷ [])
   mirrored SkewSymmetric t =
@@ -145,7 +145,7 @@ module _ (S : Scalar) where
       → Read (List (Triplet S.Value))
   triplets_of h at words = entry_of h.format h.field at words >>= mirrored h.symmetry
 
-  -- the triplets of data lines, of which an array's stand at these places
+  -- the triplets of data lines; those of an array have these places
   unfoldable pub entries_of : Header → List (ℕ × ℕ) → List (List (List ℕ))
       → Read (List (Triplet S.Value))
   entries_of h places [] = Ok []
@@ -157,7 +157,7 @@ module _ (S : Scalar) where
   abbrev pub is_inside : ℕ → ℕ → Triplet S.Value → Bool
   is_inside rows cols t = nat_lt t.0 rows && nat_lt t.1 cols
 
-  -- the matrix, where all triplets lie inside the sizes
+  -- the matrix, if all triplets lie inside the sizes
   abbrev pub inside_of : Sizes → List (Triplet S.Value) → Read (Coo S.Value)
   inside_of s ts =
       if list_all (is_inside s.0 s.1) ts then Ok (coo_of s.0 s.1 ts)
@@ -174,14 +174,14 @@ module _ (S : Scalar) where
   unfoldable pub matrix_of : Header → List (List ℕ) → List (List (List ℕ)) → Read (Coo S.Value)
   matrix_of h size lines = sizes_of h size >>= λ s. listed_of h s lines
 
-  -- what a text means: where it is no document it can't be parsed
+  -- the meaning of a text; one that is not a document cannot be parsed
   abbrev pub Means : List ℕ → Read (Coo S.Value) → Type 0
   Means text r = (((header : Header) (size : List (List ℕ)) (lines : List (List (List ℕ)))
       → IsDocument text header size lines → ⊥) × (r ≡ Err ParsingError))
       ⊎ ((header : Header) × (size : List (List ℕ)) × (lines : List (List (List ℕ)))
       × IsDocument text header size lines × (r ≡ matrix_of header size lines))
 
--- the values that contracts see of a matrix's scalars
+-- a matrix with the values that contracts see of its scalars
 module _ {T V : Type 0} (value : T → V) where
   abbrev pub value_triplet : Triplet T → Triplet V
   value_triplet t = (t.0, t.1, value t.2)

@@ -1,4 +1,4 @@
--- What a scalar type takes of a text, and the texts of its values.
+-- Scalar types: the numbers that they accept, and the texts of their values.
 use Rattle.std.specs.Prelude.{◌≡◌, ℕ, ℤ, pos, negsuc, ◌^◌, ◌⊎◌, Bool, true, nat_lt, List, [], Ok}
 use Rattle.std.specs.Prelude.{codes}
 use Rattle.std.specs.Str.Parse.{signed_digits_value}
@@ -10,20 +10,20 @@ abbrev pub fits : ℕ → ℤ → Bool
 fits k (pos n) = nat_lt n (2 ^ k)
 fits k (negsuc n) = nat_lt n (2 ^ k)
 
--- the text is an integer within i128, and is taken as x
+-- the text is an integer within i128, and is read as x
 pub record IsNumberText {V : Type 0} (from : ℤ → Read V) (text : List ℕ) (x : V) : Type 0 where
   pub spelled : is_integer text ≡ true
   pub wide : fits 127 (signed_digits_value 10 text) ≡ true
   pub back : from (signed_digits_value 10 text) ≡ Ok x
 
--- the texts of values are taken as the values: all as numbers, or all as nothing
+-- the texts of values are read back: either all are integers, or all are empty
 abbrev pub ReadBack : {V : Type 0} → (ℤ → Read V) → Read V → List ℕ → (V → List ℕ)
     → (V → Type 0) → Type 0
 ReadBack {V} from nothing name text IsValue =
     ((name ≡ codes "integer") × ((x : V) → IsValue x → IsNumberText from (text x) x))
     ⊎ ((name ≡ codes "pattern") × ((x : V) → IsValue x → (text x ≡ []) × (nothing ≡ Ok x)))
 
--- a scalar type: what it takes, and what it writes of the values that are its own
+-- a scalar type: the numbers that it accepts, and the texts of its own values
 pub record Scalar : Type 1 where
   pub Value : Type 0
   pub from_number : ℤ → Read Value

@@ -15,10 +15,10 @@ use crate::error::Cause;
 use crate::lines::{after_blanks, ends_line, ends_word, split_solid};
 use crate::numbers::{after_sign, integer, is_number, leading_number};
 
-/// What a number is made of.
+/// The form of a number.
 #[derive(Clone, Copy)]
 pub enum Kind {
-    /// Digits.
+    /// Digits alone.
     Index,
     /// A sign and digits.
     Signed,
@@ -26,7 +26,7 @@ pub enum Kind {
     Other,
 }
 
-/// A number of a data line: its bytes, and the number that its digits write, where it fits.
+/// A number of a data line: its bytes, and the value of its digits if it is an integer and they fit in 64 bits.
 #[derive(Clone, Copy)]
 pub struct Number<'a> {
     word: &'a [u8],
@@ -34,14 +34,14 @@ pub struct Number<'a> {
     kind: Kind,
 }
 
-/// What stands at the front of a line.
+/// The first item of a line.
 #[derive(Clone, Copy)]
 pub enum Found<'a> {
-    /// A number, and what stands after it.
+    /// A number, and the rest of the text.
     Number(Number<'a>, &'a [u8]),
-    /// The line's end.
+    /// The end of the line, and the rest of the text.
     End(&'a [u8]),
-    /// A word that is no number.
+    /// A word that is not a number.
     Fault,
 }
 
@@ -55,7 +55,7 @@ pub enum Line<'a> {
 }
 
 impl Number<'_> {
-    /// Whether the number is a run of digits.
+    /// Returns whether the number is an index, a run of digits.
     #[inline(always)]
     pub fn is_index(&self) -> bool
         ensures { result ≡ is_plain self.now.kind }
@@ -63,7 +63,7 @@ impl Number<'_> {
         matches!(self.kind, Kind::Index)
     }
 
-    /// Returns the number of an index.
+    /// Returns the value of an index, or an error if it exceeds `usize`.
     #[inline(always)]
     pub fn index(&self) -> Result<usize, Cause>
         requires number { IsNumber self.now }
@@ -73,7 +73,7 @@ impl Number<'_> {
         self.digits.ok_or(Cause::IndexTooLarge)
     }
 
-    /// Returns the integer that the number writes.
+    /// Returns the value of an integer, or an error if the number is not an integer or exceeds `i128`.
     #[tactic(auto, unfolding(crate::specs::Meaning::integer_of))]
     #[inline(always)]
     pub fn integer(&self) -> Result<i128, Cause>
@@ -88,7 +88,8 @@ impl Number<'_> {
     }
 }
 
-/// Returns the numbers of the line at the front of a text, and what stands after it, or nothing where it is no data line.
+/// Parses the first line of a text as a data line. Returns its numbers and the text from the line's end on, or `None` if it is not a
+/// data line.
 #[tactic(auto, unfolding(crate::specs::Grammar::is_entry))]
 #[inline(never)]
 pub fn data_line(text: &[u8]) -> Option<(Line<'_>, &[u8])>
@@ -123,7 +124,7 @@ pub fn data_line(text: &[u8]) -> Option<(Line<'_>, &[u8])>
     }
 }
 
-// What stands at the front of a line, after blanks.
+// The first item of a line, after leading blanks.
 fn next_number(text: &[u8]) -> Found<'_>
     ensures { IsFound text.now result }
 {
@@ -137,7 +138,7 @@ fn next_number(text: &[u8]) -> Found<'_>
     other_number(text)
 }
 
-// An integer at the front of a line, after blanks.
+// The integer at the start of a line, after leading blanks.
 #[inline(always)]
 fn whole_number(text: &[u8]) -> Option<(Number<'_>, &[u8])>
     ensures { MatchOption result (is_integer (front is_solid (after is_blank text.now)) ≡ false)
@@ -158,7 +159,7 @@ fn whole_number(text: &[u8]) -> Option<(Number<'_>, &[u8])>
     Some((Number { word, digits, kind }, rest))
 }
 
-/// Returns the word at the front of a text, which is no integer.
+// The first word of a text as a number with a point or an exponent.
 #[cold]
 fn other_number(text: &[u8]) -> Found<'_>
     requires start { StartsWord text.now }
@@ -177,6 +178,7 @@ fn other_number(text: &[u8]) -> Found<'_>
     Found::Number(number, rest)
 }
 
+// The value of digits with the sign of their word.
 fn with_sign(digits: usize, word: &[u8]) -> i128
     ensures { result ≡ (if starts_with_minus word.now then neg_ℤ (pos digits) else pos digits) }
 {
@@ -186,6 +188,7 @@ fn with_sign(digits: usize, word: &[u8]) -> i128
     }
 }
 
+// The value of an integer whose digits exceed 64 bits.
 #[tactic(auto, unfolding(crate::specs::Meaning::integer_of))]
 #[cold]
 fn long_integer(word: &[u8]) -> Result<i128, Cause>

@@ -1,4 +1,4 @@
-//! Why a Matrix Market text could not be read or written.
+//! Errors of reading and writing Matrix Market texts.
 
 ghost use Rattle.std.specs.Prelude.{◌≡◌};
 ghost use Rattle.std.specs.IoError.{error_kind};
@@ -12,35 +12,35 @@ use std::io;
 use std::num::{ParseIntError, TryFromIntError};
 use thiserror::Error;
 
-/// What is wrong with a Matrix Market text, or what kept it from being read or written.
+/// The kind of an error in reading or writing a Matrix Market text.
 #[derive(Clone, Copy, Debug, PartialEq, Eq)]
 pub enum MatrixMarketErrorKind {
-    /// The text is outside the grammar, or a number in it is too large.
+    /// The text does not match the grammar, or a number in it is out of range.
     ParsingError,
-    /// A matrix with this header is not read.
+    /// The format, the field and the symmetry of the header do not go together.
     InvalidHeader,
-    /// The number of entries is not the one that the size line says.
+    /// The number of entries is not the one given by the size line.
     EntryMismatch,
-    /// A value is not one of the scalar type.
+    /// The scalar type does not have a value of the text.
     TypeMismatch,
-    /// An index is zero, where indices are counted from 1.
+    /// An index is zero; indices count from 1.
     ZeroError,
-    /// The entries don't make a matrix of these sizes.
+    /// The entries do not form a matrix of the given sizes.
     SparseFormatError(SparseFormatErrorKind),
     /// A skew-symmetric matrix has an entry on its diagonal.
     DiagonalError,
     /// The reader or writer failed.
     IOError(io::ErrorKind),
-    /// An entry of a matrix with a symmetry lies above the diagonal.
+    /// A symmetric, skew-symmetric or hermitian matrix has an entry above the diagonal.
     NotLowerTriangle,
-    /// A matrix with a symmetry is not square.
+    /// A symmetric, skew-symmetric or hermitian matrix is not square.
     NonSquare,
-    /// Memory was refused.
+    /// An allocation failed.
     OutOfMemory,
 }
 
 impl MatrixMarketErrorKind {
-    /// Returns the name of the case, without what it carries.
+    /// Returns the name of the variant, without its payload.
     pub fn name(self) -> &'static str
         ensures { result.now ≡ kind_name self }
     {
@@ -60,7 +60,7 @@ impl MatrixMarketErrorKind {
     }
 }
 
-/// The causes of errors. Each has one kind and one text.
+/// The cause of an error. It determines the kind and the message.
 #[derive(Clone, Copy, Debug)]
 pub enum Cause {
     Grammar,
@@ -170,21 +170,21 @@ pub struct MatrixMarketError {
 }
 
 impl MatrixMarketError {
-    /// Returns the error of a cause.
+    /// Returns the error with this cause.
     pub fn new(cause: Cause) -> MatrixMarketError
         ensures { kind_of result ≡ kind_of_cause cause }
     {
         MatrixMarketError { cause }
     }
 
-    /// Returns what is wrong.
+    /// Returns the kind of the error.
     pub fn kind(&self) -> MatrixMarketErrorKind
         ensures { result ≡ kind_of self.now }
     {
         self.cause.kind()
     }
 
-    /// Returns the text for this cause.
+    /// Returns the message of the error.
     pub fn message(&self) -> &str
         ensures { result.now ≡ message_of self.now }
     {

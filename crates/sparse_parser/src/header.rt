@@ -13,11 +13,13 @@ use crate::lines::next_word;
 /// How the entries are listed.
 #[derive(Clone, Copy)]
 pub enum Format {
+    /// Each data line gives a row, a column and a value.
     Coordinate,
+    /// Each data line gives a value; their places follow column by column.
     Array,
 }
 
-/// What the values are.
+/// The type of the values.
 #[derive(Clone, Copy)]
 pub enum Field {
     Real,
@@ -35,7 +37,7 @@ pub enum Symmetry {
     Hermitian,
 }
 
-/// What the header line says.
+/// The contents of the header line.
 #[derive(Clone, Copy)]
 pub struct Header {
     pub format: Format,
@@ -43,6 +45,7 @@ pub struct Header {
     pub symmetry: Symmetry,
 }
 
+// Whether a word is a name, in any ASCII case.
 #[tactic(auto, unfolding(crate::specs::Header::says))]
 fn says(word: &[u8], name: &str) -> bool
     ensures { result ≡ says word.now name.now }
@@ -104,7 +107,7 @@ impl Symmetry {
 }
 
 impl Header {
-    /// What a header line says.
+    /// Parses a header line. Returns `None` if the line is not a header.
     #[tactic(auto, unfolding(crate::specs::Header::header_of))]
     pub fn from_line(line: &[u8]) -> Option<Header>
         ensures { result ≡ header_of (words_of line.now) }
@@ -145,7 +148,8 @@ impl Header {
         })
     }
 
-    /// Returns why no matrix has this header: only a complex one is hermitian, and a pattern is neither skew-symmetric nor an array.
+    /// Returns why the header is invalid, if it is: only complex matrices are hermitian, and pattern matrices are neither
+    /// skew-symmetric nor arrays.
     pub fn fault(self) -> Option<Cause>
         ensures { MatchOption result
             (is_allowed self ≡ true)

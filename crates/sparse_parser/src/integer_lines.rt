@@ -1,85 +1,152 @@
-//! Data lines of integers whose digits fit in 64 bits, the most frequent ones.
+//! The fast path for data lines: indices, and integers that fit in 64 bits, of at most 19 digits each.
+//!
+//! The lines are read by positions in one text, which takes half as many instructions as a slice for each number.
 
-ghost use Rattle.std.specs.Prelude.{◌≡◌, pos, if◌then◌else◌, MatchOption};
-ghost use Rattle.std.specs.Str.Parse.{starts_with_minus};
+ghost use Rattle.std.specs.Prelude.{◌≡◌, ◌≤◌, pos, if◌then◌else◌, MatchOption, length, drop};
+ghost use Rattle.std.specs.Str.Parse.{starts_with_minus, without_leading_sign};
 ghost use lib.IntN.{neg_ℤ};
+ghost use Rattle.sparse_parser.specs.Bytes.{is_blank, after};
+ghost use Rattle.sparse_parser.specs.InnerNumbers.{IsNumberRead};
 ghost use Rattle.sparse_parser.specs.InnerIntegers.{IsIndexAt, IsIntegerAt, IsEndAt, IsIntegerLine, IsPlaceLine, IsValueLine};
 
-use crate::lines::{after_blanks, ends_line, ends_word};
-use crate::numbers::{after_sign, short_number};
+use crate::lines::{ends_line, ends_word, is_blank};
+use crate::numbers::SHORT;
 
-/// Returns the row, the column and the value of the line at the front of a text, and what stands after it, where it is two indices and
-/// an integer.
+/// Parses the first line of a text as two indices and an integer. Returns the row, the column, the value and the text from the line's
+/// end on, or `None` if the line has another form.
 #[tactic(auto, using(crate::proofs::IntegerLaws::integer_line_is))]
-#[inline(never)]
+#[inline(always)]
 pub fn integer_line(text: &[u8]) -> Option<(usize, usize, i64, &[u8])>
     ensures { MatchOption result (Unit {0})
         (λ line. IsIntegerLine text.now line.0 line.1 line.2 line.3.now) }
 {
-    let (row, rest) = first_index(text)?;
-    let (col, rest) = first_index(rest)?;
-    let (value, end) = last_integer(rest)?;
+    let (row, at) = index_at(text, 0)?;
+    let (col, at) = index_at(text, at)?;
+    let (value, end) = last_integer(text, at)?;
     Some((row, col, value, end))
 }
 
-/// Returns the row and the column of the line at the front of a text, and what stands after it, where it is two indices.
+/// Parses the first line of a text as two indices. Returns the row, the column and the text from the line's end on, or `None` if the
+/// line has another form.
 #[tactic(auto, using(crate::proofs::IntegerLaws::place_line_is))]
-#[inline(never)]
+#[inline(always)]
 pub fn place_line(text: &[u8]) -> Option<(usize, usize, &[u8])>
     ensures { MatchOption result (Unit {0})
         (λ line. IsPlaceLine text.now line.0 line.1 line.2.now) }
 {
-    let (row, rest) = first_index(text)?;
-    let (col, rest) = first_index(rest)?;
-    let end = line_end(rest)?;
+    let (row, at) = index_at(text, 0)?;
+    let (col, at) = index_at(text, at)?;
+    let end = line_end(text, at)?;
     Some((row, col, end))
 }
 
-/// Returns the value of the line at the front of a text, and what stands after it, where it is an integer.
-#[inline(never)]
+/// Parses the first line of a text as an integer. Returns the value and the text from the line's end on, or `None` if the line has
+/// another form.
+#[inline(always)]
 pub fn value_line(text: &[u8]) -> Option<(i64, &[u8])>
     ensures { MatchOption result (Unit {0}) (λ line. IsValueLine text.now line.0 line.1.now) }
 {
-    last_integer(text)
+    last_integer(text, 0)
 }
 
-// The integer at the front of a line and the line's end, after blanks.
+// The integer at a position, after blanks, and the text from the line's end on.
 #[tactic(auto, using(crate::proofs::IntegerLaws::value_line_is))]
 #[inline(always)]
-fn last_integer(text: &[u8]) -> Option<(i64, &[u8])>
-    ensures { MatchOption result (Unit {0}) (λ line. IsValueLine text.now line.0 line.1.now) }
+fn last_integer(text: &[u8], from: usize) -> Option<(i64, &[u8])>
+    requires { from ≤ length text.now }
+    ensures { MatchOption result (Unit {0})
+        (λ line. IsValueLine (drop from text.now) line.0 line.1.now) }
 {
-    let (value, rest) = first_integer(text)?;
-    let end = line_end(rest)?;
+    let (value, at) = integer_at(text, from)?;
+    let end = line_end(text, at)?;
     Some((value, end))
 }
 
-// The index at the front of a line, after blanks.
+// The index at a position, after blanks, and the position after it.
 #[inline(always)]
-fn first_index(text: &[u8]) -> Option<(usize, &[u8])>
-    ensures { MatchOption result (Unit {0}) (λ found. IsIndexAt text.now found.0 found.1.now) }
+fn index_at(text: &[u8], from: usize) -> Option<(usize, usize)>
+    requires { from ≤ length text.now }
+    ensures inside { MatchOption result (Unit {0}) (λ found. found.1 ≤ length text.now) }
+    ensures index { MatchOption result (Unit {0})
+        (λ found. IsIndexAt (drop from text.now) found.0 (drop found.1 text.now)) }
 {
-    let text = after_blanks(text);
-    let (number, rest) = short_number(text);
-    if rest.len() == text.len() || !ends_word(rest) {
+    let start = skip_blanks(text, from);
+    let (number, end) = digits_at(text, start);
+    if end == start || !ends_word(text_from(text, end)) {
         return None;
     }
-    Some((number, rest))
+    Some((number, end))
 }
 
-// The integer at the front of a line, after blanks.
+// The integer at a position, after blanks, and the position after it.
 #[inline(always)]
-fn first_integer(text: &[u8]) -> Option<(i64, &[u8])>
-    ensures { MatchOption result (Unit {0}) (λ found. IsIntegerAt text.now found.0 found.1.now) }
+fn integer_at(text: &[u8], from: usize) -> Option<(i64, usize)>
+    requires { from ≤ length text.now }
+    ensures inside { MatchOption result (Unit {0}) (λ found. found.1 ≤ length text.now) }
+    ensures integer { MatchOption result (Unit {0})
+        (λ found. IsIntegerAt (drop from text.now) found.0 (drop found.1 text.now)) }
 {
-    let text = after_blanks(text);
-    let unsigned = after_sign(text);
-    let (number, rest) = short_number(unsigned);
-    if rest.len() == unsigned.len() || !ends_word(rest) {
+    let start = skip_blanks(text, from);
+    let unsigned = after_sign_at(text, start);
+    let (number, end) = digits_at(text, unsigned);
+    if end == unsigned || !ends_word(text_from(text, end)) {
         return None;
     }
-    let value = signed(number, starts_with_minus(text))?;
-    Some((value, rest))
+    let value = signed(number, starts_with_minus(text_from(text, start)))?;
+    Some((value, end))
+}
+
+// The text from a position on.
+#[inline(always)]
+fn text_from(text: &[u8], at: usize) -> &[u8]
+    requires { at ≤ length text.now }
+    ensures { result.now ≡ drop at text.now }
+{
+    let (_, rest) = text.split_at(at);
+    rest
+}
+
+// The first position without a blank, from a position on.
+#[inline(always)]
+fn skip_blanks(text: &[u8], from: usize) -> usize
+    requires { from ≤ length text.now }
+    ensures inside { result ≤ length text.now }
+    ensures rest { drop result text.now ≡ after is_blank (drop from text.now) }
+{
+    let mut at = from;
+    while at < text.len() && is_blank(text[at]) {
+        at += 1;
+    }
+    at
+}
+
+// The position after a sign, if there is one at a position.
+#[inline(always)]
+fn after_sign_at(text: &[u8], at: usize) -> usize
+    requires { at ≤ length text.now }
+    ensures inside { result ≤ length text.now }
+    ensures rest { drop result text.now ≡ without_leading_sign (drop at text.now) }
+{
+    let is_signed = at < text.len() && ((text[at] == b'+') | (text[at] == b'-'));
+    at + usize::from(is_signed)
+}
+
+// The value of at most 19 digits at a position, and the position after them.
+#[inline(always)]
+fn digits_at(text: &[u8], from: usize) -> (usize, usize)
+    requires { from ≤ length text.now }
+    ensures inside { result.1 ≤ length text.now }
+    ensures read { IsNumberRead (drop from text.now) result.0 (drop result.1 text.now) }
+{
+    let room = (text.len() - from).min(SHORT);
+    let end = from + room;
+    let mut number = 0;
+    let mut at = from;
+    while at < end && text[at].is_ascii_digit() {
+        number = number * 10 + usize::from(text[at] - b'0');
+        at += 1;
+    }
+    (number, at)
 }
 
 #[inline(always)]
@@ -92,7 +159,7 @@ fn starts_with_minus(text: &[u8]) -> bool
     }
 }
 
-// A number or its negative, where it fits. The test is no branch: signs are as good as random.
+// A number or its negative, if it fits. The sign is selected without a branch, since signs are hard to predict.
 #[inline(always)]
 fn signed(number: usize, is_negative: bool) -> Option<i64>
     ensures { MatchOption result (Unit {0})
@@ -104,11 +171,12 @@ fn signed(number: usize, is_negative: bool) -> Option<i64>
     }
 }
 
-// The line's end, after blanks.
+// The text from the line's end on, if only blanks come before it.
 #[inline(always)]
-fn line_end(text: &[u8]) -> Option<&[u8]>
-    ensures { MatchOption result (Unit {0}) (λ rest. IsEndAt text.now rest.now) }
+fn line_end(text: &[u8], from: usize) -> Option<&[u8]>
+    requires { from ≤ length text.now }
+    ensures { MatchOption result (Unit {0}) (λ rest. IsEndAt (drop from text.now) rest.now) }
 {
-    let rest = after_blanks(text);
+    let rest = text_from(text, skip_blanks(text, from));
     if ends_line(rest) { Some(rest) } else { None }
 }

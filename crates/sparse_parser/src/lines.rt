@@ -6,25 +6,28 @@ ghost use Rattle.sparse_parser.specs.InnerBytes.{is_space, is_within_line, is_wi
 ghost use Rattle.sparse_parser.specs.InnerReading.{words_of, contents_of, ends_line};
 ghost use Rattle.sparse_parser.specs.InnerLines.{ends_word};
 
+/// Returns whether a byte is a space or a tab.
 pub fn is_blank(byte: u8) -> bool
     ensures { result ≡ is_blank byte }
 {
     byte == b' ' || byte == b'\t'
 }
 
+/// Returns whether a byte is a blank or a line end.
 pub fn is_space(byte: u8) -> bool
     ensures { result ≡ is_space byte }
 {
     is_blank(byte) || is_line_end(byte)
 }
 
+/// Returns whether a byte is LF or CR.
 pub fn is_line_end(byte: u8) -> bool
     ensures { result ≡ is_line_end byte }
 {
     byte == b'\n' || byte == b'\r'
 }
 
-/// The longest front of a text whose bytes pass a test, and what stands after it.
+/// Splits a text after its longest prefix whose bytes all pass a test.
 #[inline(always)]
 pub fn split_front<F: Fn(u8) -> bool>(text: &[u8], passes: F) -> (&[u8], &[u8])
     requires { F.IsAlwaysCallable passes }
@@ -38,7 +41,7 @@ pub fn split_front<F: Fn(u8) -> bool>(text: &[u8], passes: F) -> (&[u8], &[u8])
     text.split_at(at)
 }
 
-/// Whether a text begins with a line end or is empty.
+/// Returns whether a text is empty or starts with a line end.
 #[inline(always)]
 pub fn ends_line(text: &[u8]) -> bool
     ensures { result ≡ ends_line text.now }
@@ -49,7 +52,7 @@ pub fn ends_line(text: &[u8]) -> bool
     }
 }
 
-/// Whether a text begins with a blank or a line end or is empty.
+/// Returns whether a text is empty or starts with a blank or a line end.
 #[inline(always)]
 pub fn ends_word(text: &[u8]) -> bool
     ensures { result ≡ ends_word text.now }
@@ -60,7 +63,7 @@ pub fn ends_word(text: &[u8]) -> bool
     }
 }
 
-/// What stands after the blanks at the front.
+/// Returns the text without its leading blanks.
 #[inline(always)]
 pub fn after_blanks(text: &[u8]) -> &[u8]
     ensures { result.now ≡ after is_blank text.now }
@@ -69,7 +72,7 @@ pub fn after_blanks(text: &[u8]) -> &[u8]
     rest
 }
 
-/// What stands after the blanks and line ends at the front.
+/// Returns the text without its leading blanks and line ends.
 pub fn after_space(text: &[u8]) -> &[u8]
     ensures { result.now ≡ after is_space text.now }
 {
@@ -77,7 +80,7 @@ pub fn after_space(text: &[u8]) -> &[u8]
     rest
 }
 
-/// The line at the front of a text, and what stands after it, from its end on.
+/// Splits a text before its first line end.
 pub fn split_line(text: &[u8]) -> (&[u8], &[u8])
     ensures line { result.0.now ≡ front is_within_line text.now }
     ensures rest { result.1.now ≡ after is_within_line text.now }
@@ -85,7 +88,7 @@ pub fn split_line(text: &[u8]) -> (&[u8], &[u8])
     split_front(text, |byte| !is_line_end(byte))
 }
 
-/// The front of the first line that is neither blank nor a comment, and what stands after it; nothing where there is none.
+/// Skips blank lines and comments. Returns the text from the first word of the next line on; it is empty if no line is left.
 pub fn next_line(text: &[u8]) -> &[u8]
     ensures begins { BeginsLine result.now }
     ensures same { contents_of result.now ≡ contents_of text.now }
@@ -99,7 +102,7 @@ pub fn next_line(text: &[u8]) -> &[u8]
     rest
 }
 
-/// The word at the front of a line, and what stands after it.
+// Splits a line before its first blank.
 fn split_word(line: &[u8]) -> (&[u8], &[u8])
     ensures word { result.0.now ≡ front is_within_word line.now }
     ensures rest { result.1.now ≡ after is_within_word line.now }
@@ -107,7 +110,7 @@ fn split_word(line: &[u8]) -> (&[u8], &[u8])
     split_front(line, |byte| !is_blank(byte))
 }
 
-/// The bytes at the front of a text that are neither blanks nor line ends, and what stands after them.
+/// Splits a text before its first blank or line end.
 pub fn split_solid(text: &[u8]) -> (&[u8], &[u8])
     ensures word { result.0.now ≡ front is_solid text.now }
     ensures rest { result.1.now ≡ after is_solid text.now }
@@ -115,7 +118,7 @@ pub fn split_solid(text: &[u8]) -> (&[u8], &[u8])
     split_front(text, |byte| !is_space(byte))
 }
 
-/// The first word of a line, and what stands after it.
+/// Returns the first word of a line and the rest of the line, or `None` if the line is blank.
 pub fn next_word(line: &[u8]) -> Option<(&[u8], &[u8])>
     ensures { MatchOption result (words_of line.now ≡ []) (λ found. words_of line.now ≡ found.0.now ∷ words_of found.1.now) }
 {

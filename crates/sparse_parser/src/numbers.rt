@@ -1,4 +1,4 @@
-//! Numbers at the front of a text.
+//! Numbers at the start of a text.
 
 ghost use Rattle.std.specs.Prelude.{◌≡◌, ◌<◌, ◌+◌, ◌*◌, ◌^◌, ◌||◌, IsTrue, FitsSigned, count_by};
 ghost use Rattle.std.specs.Option.{SomeIff};
@@ -13,11 +13,11 @@ ghost use Rattle.sparse_parser.specs.InnerNumbers.{IsNumberRead, HasStopped};
 use crate::lines::split_front;
 
 /// 19 digits always fit in 64 bits.
-const SHORT: usize = 19;
+pub const SHORT: usize = 19;
 
-/// The number that at most 19 digits at the front of a text write, and what stands after them.
+// Parses at most 19 leading digits. Returns their value and the rest of the text.
 #[inline(always)]
-pub fn short_number(text: &[u8]) -> (usize, &[u8])
+fn short_number(text: &[u8]) -> (usize, &[u8])
     ensures read { IsNumberRead text.now result.0 result.1.now }
     ensures stopped { HasStopped text.now result.1.now }
 {
@@ -31,7 +31,7 @@ pub fn short_number(text: &[u8]) -> (usize, &[u8])
     (number, &text[at..])
 }
 
-/// The number that the digits at the front of a text write, where it fits, and what stands after them.
+/// Parses all leading digits. Returns their value, or `None` if it exceeds 64 bits, and the rest of the text.
 pub fn leading_number(text: &[u8]) -> (Option<usize>, &[u8])
     ensures number { SomeIff result.0
         (digits_value 10 (front is_ascii_digit text.now) < 2 ^ 64)
@@ -45,7 +45,7 @@ pub fn leading_number(text: &[u8]) -> (Option<usize>, &[u8])
     (Some(number), rest)
 }
 
-/// The same, where the digits of a number stand before the text.
+// The same for a text after digits with the value `before`.
 #[cold]
 fn long_number(before: usize, text: &[u8]) -> (Option<usize>, &[u8])
     ensures number { SomeIff result.0
@@ -65,13 +65,14 @@ fn long_number(before: usize, text: &[u8]) -> (Option<usize>, &[u8])
     (Some(number), &text[at..])
 }
 
+// The value with one more digit, if it fits in 64 bits.
 fn with_digit(number: usize, digit: u8) -> Option<usize>
     ensures { SomeIff result (number * 10 + digit < 2 ^ 64) (number * 10 + digit) }
 {
     number.checked_mul(10)?.checked_add(usize::from(digit))
 }
 
-/// What stands after the digits at the front.
+// The text without its leading digits.
 fn after_digits(text: &[u8]) -> &[u8]
     ensures { result.now ≡ after is_ascii_digit text.now }
 {
@@ -79,7 +80,7 @@ fn after_digits(text: &[u8]) -> &[u8]
     rest
 }
 
-/// The number that an optional sign and digits write, where it fits.
+/// Returns the value of an integer, or `None` if it exceeds `i128`.
 #[cold]
 pub fn integer(word: &[u8]) -> Option<i128>
     requires { IsTrue (is_integer word.now) }
@@ -88,7 +89,7 @@ pub fn integer(word: &[u8]) -> Option<i128>
     std::str::from_utf8(word).unwrap().parse().ok()
 }
 
-/// Whether a word is a number: an optional sign, digits with at most one point, and then nothing or an exponent.
+/// Returns whether a word is a number: an optional sign, digits with at most one point, and an optional exponent.
 #[tactic(auto, unfolding(crate::specs::Grammar::is_number))]
 pub fn is_number(word: &[u8]) -> bool
     ensures { result ≡ is_number word.now }
@@ -97,13 +98,14 @@ pub fn is_number(word: &[u8]) -> bool
     is_mantissa(mantissa) && is_exponent(exponent)
 }
 
+// Whether a word has digits with at most one point, and at least one digit.
 fn is_mantissa(word: &[u8]) -> bool
     ensures { result ≡ is_mantissa word.now }
 {
     is_unscaled(word) && has_digit(word) && points(word) < 2
 }
 
-// Whether there are digits and points alone.
+// Whether all bytes are digits or points.
 fn is_unscaled(word: &[u8]) -> bool
     ensures { result ≡ list_all (λ b. is_ascii_digit b || is_point b) word.now }
 {
@@ -123,6 +125,7 @@ fn points(word: &[u8]) -> usize
     word.iter().filter(|byte| **byte == b'.').count()
 }
 
+// Whether a text is empty, or a letter and an integer.
 fn is_exponent(text: &[u8]) -> bool
     ensures { result ≡ is_exponent text.now }
 {
@@ -138,7 +141,7 @@ fn is_exponent_letter(byte: u8) -> bool
     byte == b'e' || byte == b'E'
 }
 
-/// What stands after a sign at the front.
+/// Returns the text without its leading sign.
 #[inline(always)]
 pub fn after_sign(text: &[u8]) -> &[u8]
     ensures { result.now ≡ without_leading_sign text.now }
@@ -150,14 +153,14 @@ pub fn after_sign(text: &[u8]) -> &[u8]
     &text[usize::from(is_signed)..]
 }
 
-/// Whether a word is an index.
+/// Returns whether a word is an index, a nonempty run of digits.
 pub fn is_index(word: &[u8]) -> bool
     ensures { result ≡ is_index word.now }
 {
     !word.is_empty() && all_digits(word)
 }
 
-/// The number that an index writes, where it fits.
+/// Returns the value of an index, or `None` if it exceeds `usize`.
 pub fn index(word: &[u8]) -> Option<usize>
     requires { IsTrue (is_index word.now) }
     ensures { SomeIff result (digits_value 10 word.now < 2 ^ 64) (digits_value 10 word.now) }

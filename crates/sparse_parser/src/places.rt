@@ -6,7 +6,7 @@ ghost use Rattle.sparse_parser.specs.InnerPlaces.{places_left, IsSettled};
 
 use crate::header::{Format, Symmetry};
 
-/// The places of an array that are left, column by column.
+/// The places of an array's entries that are left, column by column.
 #[derive(Clone, Copy)]
 pub struct Places {
     symmetry: Symmetry,
@@ -17,7 +17,7 @@ pub struct Places {
 }
 
 impl Places {
-    /// Returns all places of an array of these sizes; there are none where the lines say their own.
+    /// Returns the places of an array of these sizes. In the coordinate format there are none, since each data line gives its own.
     pub fn new(format: Format, symmetry: Symmetry, rows: usize, cols: usize) -> Places
         ensures { places_left result ≡ places_of format symmetry rows cols }
     {
@@ -35,7 +35,7 @@ impl Places {
         }
     }
 
-    /// Takes the first place that is left.
+    /// Removes and returns the first place.
     #[inline(always)]
     pub fn take_first(&mut self) -> Option<(usize, usize)>
         ensures first { result ≡ slice_get (places_left self.old) 0 }
@@ -47,7 +47,7 @@ impl Places {
         self.take_within()
     }
 
-    // The same, where a column may have places left.
+    // The same, if a column is left.
     fn take_within(&mut self) -> Option<(usize, usize)>
         ensures first { result ≡ slice_get (places_left self.old) 0 }
         ensures left { places_left self.new ≡ drop 1 (places_left self.old) }
@@ -61,7 +61,7 @@ impl Places {
         Some(place)
     }
 
-    // Goes to the next column, where one is full.
+    // Moves to the next column if the current one has no rows left.
     fn settle(&mut self)
         ensures left { places_left self.new ≡ places_left self.old }
         ensures settled { IsSettled self.new }
@@ -75,6 +75,7 @@ impl Places {
     }
 }
 
+// The row of the first entry of a column.
 fn first_row(symmetry: Symmetry, col: usize) -> usize
     requires { col < usize.MAX }
     ensures { result ≡ first_row symmetry col }

@@ -18,7 +18,7 @@ use crate::numbers::{index, is_index};
 pub struct Size {
     pub rows: usize,
     pub cols: usize,
-    /// The number of data lines, where it is a usize.
+    /// The number of data lines, if it fits in a `usize`.
     pub count: Option<usize>,
 }
 
@@ -31,7 +31,8 @@ pub struct SizeWords<'a> {
 }
 
 impl Size {
-    /// Returns what a size line says below a header, or nothing where the line is outside the grammar.
+    /// Parses the size line below a header. Returns `None` if the line does not match the grammar, and the cause of the error if the
+    /// header or the sizes are invalid.
     #[tactic(auto, unfolding(crate::specs::InnerReading::size_at))]
     pub fn from_line(header: Header, line: &[u8]) -> Option<Result<Size, Cause>>
         ensures { option_map (λ r. size_numbers r) result ≡ size_at header (words_of line.now) }
@@ -40,7 +41,7 @@ impl Size {
         Some(Size::checked(header, words))
     }
 
-    // The header's rules, then the numbers, then their fit to the symmetry.
+    // Checks the header, then the numbers, then that a matrix with a symmetry is square.
     #[tactic(auto, unfolding(crate::specs::Meaning::sizes_of))]
     fn checked(header: Header, words: SizeWords<'_>) -> Result<Size, Cause>
         requires { AreIndices words }
@@ -56,6 +57,7 @@ impl Size {
         Ok(size)
     }
 
+    // The numbers, if they are as many as the format needs and fit in `usize`.
     #[tactic(auto, unfolding(crate::specs::Meaning::numbers_of_size))]
     fn numbers(format: Format, symmetry: Symmetry, words: SizeWords<'_>) -> Result<Size, Cause>
         requires { AreIndices words }
@@ -79,6 +81,7 @@ impl Size {
     }
 }
 
+// Splits a size line into two or three indices.
 #[tactic(auto, unfolding(crate::specs::Grammar::is_size))]
 fn size_words(line: &[u8]) -> Option<SizeWords<'_>>
     ensures { MatchOption result (is_size (words_of line.now) ≡ false)
@@ -114,6 +117,7 @@ fn number(word: &[u8]) -> Result<usize, Cause>
     index(word).ok_or(Cause::SizeTooLarge)
 }
 
+// Whether the sizes are equal, if the symmetry needs that.
 fn fits(symmetry: Symmetry, rows: usize, cols: usize) -> bool
     ensures { result ≡ is_fitting symmetry rows cols }
 {
@@ -123,7 +127,7 @@ fn fits(symmetry: Symmetry, rows: usize, cols: usize) -> bool
     }
 }
 
-/// Returns how many data lines an array has, where that is a usize.
+// The number of data lines of an array, if it fits in a `usize`.
 #[tactic(auto, unfolding(crate::specs::ArrayPlaces::array_count, crate::specs::Meaning::within_usize))]
 fn array_count(symmetry: Symmetry, rows: usize, cols: usize) -> Option<usize>
     ensures { result ≡ within_usize (array_count symmetry rows cols) }

@@ -1,4 +1,4 @@
-//! The data lines, one after another.
+//! The loop over the data lines.
 
 ghost use Rattle.std.specs.Prelude.{◌≡◌, ◌&&◌, [], ◌∷◌, false, IsTrue, IfOk, MatchOption, map};
 ghost use Rattle.std.specs.List.{list_all};
@@ -32,7 +32,7 @@ pub struct Bounds {
     rows: bool,
 }
 
-/// Returns the matrix of the data lines below a size line.
+/// Reads the data lines below a size line into a matrix.
 #[inline(never)]
 pub fn entries<T: MatrixMarketScalar>(
     alloc: Global,
@@ -66,7 +66,7 @@ pub fn entries<T: MatrixMarketScalar>(
     finished(matrix, is_count(size.count, read), bounds)
 }
 
-// The triplets of the line at the front of a text, and what stands after it, or nothing where it is no data line.
+// Reads the first line of a text. Returns its triplets and the text from the line's end on, or `None` if it is not a data line.
 #[inline(always)]
 fn line_triplets<T: MatrixMarketScalar>(
     header: Header,
@@ -96,10 +96,13 @@ fn line_triplets<T: MatrixMarketScalar>(
         }
         _ => {}
     }
-    general_triplets(header, at, text)
+    match general_triplets(header, at, text) {
+        None => None,
+        Some((found, after)) => Some((found, after)),
+    }
 }
 
-// The same, of a line of any shape.
+// The same for a data line of any form.
 #[inline(never)]
 fn general_triplets<T: MatrixMarketScalar>(
     header: Header,
@@ -113,7 +116,7 @@ fn general_triplets<T: MatrixMarketScalar>(
     Some((triplets(header, at, line), after))
 }
 
-// The matrix, where its data lines are as many as they should be and its triplets lie inside the sizes.
+// Returns the matrix if the number of its data lines is right and its triplets lie inside the sizes.
 fn finished<T: MatrixMarketScalar>(
     matrix: CooMatrix<T>,
     complete: bool,
@@ -136,6 +139,7 @@ fn finished<T: MatrixMarketScalar>(
     Err(SparseFormatError::new(SparseFormatErrorKind::IndexOutOfBounds, text).into())
 }
 
+// Whether the number of data lines is the one given.
 fn is_count(count: Option<usize>, lines: usize) -> bool
     ensures { result ≡ is_count count lines }
 {
@@ -145,7 +149,7 @@ fn is_count(count: Option<usize>, lines: usize) -> bool
     }
 }
 
-// How many triplets to make room for: those of the size line, unless the text is too short for them.
+// The number of triplets to reserve: the one given by the size line, unless the text is too short for it.
 fn room(header: Header, count: Option<usize>, len: usize) -> usize {
     let shortest = match (header.format, header.field) {
         (Format::Array, _) => 2,
@@ -163,7 +167,7 @@ fn room(header: Header, count: Option<usize>, len: usize) -> usize {
     }
 }
 
-// Adds an entry and the one that it implies, unless one of them or one before lies outside the sizes.
+// Pushes an entry and the mirrored one, unless one of them or one before lies outside the sizes.
 #[inline(always)]
 fn add_all<T: MatrixMarketScalar>(
     matrix: &mut CooMatrix<T>,
@@ -187,6 +191,7 @@ fn add_all<T: MatrixMarketScalar>(
     }
 }
 
+// Pushes a triplet, unless it or one before lies outside the sizes.
 #[inline(always)]
 fn add<T: MatrixMarketScalar>(
     matrix: &mut CooMatrix<T>,

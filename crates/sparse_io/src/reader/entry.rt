@@ -1,4 +1,4 @@
-//! What a data line means.
+//! The triplets of a data line.
 
 ghost use Rattle.std.specs.Prelude.{◌≡◌, [], ◌∷◌, ℕ, Option, None, true, IsTrue, map, Ok};
 ghost use Rattle.sparse_parser.specs.declared.header.Format.TheVariants.{Coordinate, Array};
@@ -17,10 +17,10 @@ use sparse_parser::header::{Field, Format, Header, Symmetry};
 /// A row and a column, counted from 0, and a value.
 pub type Triplet<T> = (usize, usize, T);
 
-/// An entry, and the value of the mirrored one where the symmetry implies it.
+/// An entry, and the value of the mirrored one if the symmetry implies one.
 pub type Triplets<T> = (Triplet<T>, Option<T>);
 
-/// Returns the triplets of a data line; an array's entry stands at the given place.
+/// Returns the triplets of a data line. An array's entry has the given place.
 #[tactic(auto, unfolding(sparse_parser::specs::Meaning::triplets_of))]
 pub fn triplets<T: MatrixMarketScalar>(
     header: Header,
@@ -38,7 +38,7 @@ pub fn triplets<T: MatrixMarketScalar>(
     with_mirrored(header.symmetry, entry)
 }
 
-/// Returns the triplets of a row and a column, counted from 1, and an integer.
+/// Returns the triplets of an integer entry; its row and column count from 1.
 #[inline(always)]
 pub fn integer_triplets<T: MatrixMarketScalar>(
     symmetry: Symmetry,
@@ -54,7 +54,7 @@ pub fn integer_triplets<T: MatrixMarketScalar>(
     with_mirrored(symmetry, (row, col, value))
 }
 
-/// Returns the triplets of a row and a column, counted from 1.
+/// Returns the triplets of a pattern entry; its row and column count from 1.
 #[inline(always)]
 pub fn place_triplets<T: MatrixMarketScalar>(
     symmetry: Symmetry,
@@ -69,7 +69,7 @@ pub fn place_triplets<T: MatrixMarketScalar>(
     with_mirrored(symmetry, (row, col, value))
 }
 
-/// Returns the triplets of an integer of an array at its place.
+/// Returns the triplets of an integer entry of an array.
 #[inline(always)]
 pub fn value_triplets<T: MatrixMarketScalar>(
     symmetry: Symmetry,
@@ -114,7 +114,7 @@ fn coordinate_entry<T: MatrixMarketScalar>(
     }
 }
 
-// The entry of an array at its place.
+// The entry of an array, which has the given place.
 #[tactic(auto, unfolding(sparse_parser::specs::Meaning::entry_of, sparse_parser::specs::Meaning::value_of))]
 fn array_entry<T: MatrixMarketScalar>(
     field: Field,
@@ -163,7 +163,7 @@ fn place(row: usize, col: usize) -> Result<(usize, usize), Cause>
     Ok((row - 1, col - 1))
 }
 
-// The value that an integer entry gives.
+// The value of an integer entry.
 #[tactic(auto, unfolding(sparse_parser::specs::Meaning::value_of))]
 fn integer_value<T: MatrixMarketScalar>(number: Number<'_>) -> Result<T, MatrixMarketError>
     requires { IsNumber number }
@@ -173,7 +173,7 @@ fn integer_value<T: MatrixMarketScalar>(number: Number<'_>) -> Result<T, MatrixM
     T::from_i128(number.integer()?)
 }
 
-// An entry with the one that the symmetry implies.
+// An entry, with the mirrored one if the symmetry implies one.
 #[tactic(auto, unfolding(sparse_parser::specs::Meaning::mirrored))]
 #[inline(always)]
 fn with_mirrored<T: MatrixMarketScalar>(

@@ -5,13 +5,13 @@ ghost use Rattle.std.specs.Fmt.{decimal};
 
 use itoa::write_digits;
 
-// The room of a number of at most 20 digits, and the blank after it.
+// The length of a number of at most 20 digits and the blank after it.
 const FIELD: usize = 21;
 
-// The room of the indices of a triplet.
+// The length of the two indices of a triplet.
 pub(super) const ROOM: usize = 2 * FIELD;
 
-// Writes a number and a blank so that they end at `end`, and answers where they start.
+// Writes a number and a blank so that they end at `end`. Returns where they start.
 fn write_field(number: usize, bytes: &mut [u8], end: usize) -> usize
     requires room { FIELD ≤ end }
     requires inside { end ≤ length bytes.old }

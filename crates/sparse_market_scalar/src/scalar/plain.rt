@@ -1,4 +1,4 @@
-//! Plain integers, of which the least has no negative.
+//! Plain integers. The least value of each type has no negative.
 
 ghost use Rattle.std.specs.Int.{w8, w16, w32, w64, w128};
 ghost use Rattle.sparse_market_scalar.specs.ScalarTypes.{signed_scalar};
@@ -14,10 +14,7 @@ impl MatrixMarketScalar for i8 {
     ghost value = { λ x. x };
 
     fn from_i128(number: i128) -> Result<i8, MatrixMarketError> {
-        match i8::try_from(number) {
-            Ok(number) => Ok(number),
-            Err(_) => Err(MatrixMarketError::new(Cause::ValueOutOfRange)),
-        }
+        Ok(i8::try_from(number)?)
     }
 
     fn from_pattern(_pattern: ()) -> Result<i8, MatrixMarketError> {
@@ -25,10 +22,7 @@ impl MatrixMarketScalar for i8 {
     }
 
     fn negative(self) -> Result<i8, MatrixMarketError> {
-        match self.checked_neg() {
-            Some(negative) => Ok(negative),
-            None => Err(MatrixMarketError::new(Cause::ValueOutOfRange)),
-        }
+        Ok(self.checked_neg().ok_or(Cause::ValueOutOfRange)?)
     }
 
     fn conjugate(self) -> Result<i8, MatrixMarketError> {
@@ -53,10 +47,7 @@ impl MatrixMarketScalar for i16 {
     ghost value = { λ x. x };
 
     fn from_i128(number: i128) -> Result<i16, MatrixMarketError> {
-        match i16::try_from(number) {
-            Ok(number) => Ok(number),
-            Err(_) => Err(MatrixMarketError::new(Cause::ValueOutOfRange)),
-        }
+        Ok(i16::try_from(number)?)
     }
 
     fn from_pattern(_pattern: ()) -> Result<i16, MatrixMarketError> {
@@ -64,10 +55,7 @@ impl MatrixMarketScalar for i16 {
     }
 
     fn negative(self) -> Result<i16, MatrixMarketError> {
-        match self.checked_neg() {
-            Some(negative) => Ok(negative),
-            None => Err(MatrixMarketError::new(Cause::ValueOutOfRange)),
-        }
+        Ok(self.checked_neg().ok_or(Cause::ValueOutOfRange)?)
     }
 
     fn conjugate(self) -> Result<i16, MatrixMarketError> {
@@ -92,10 +80,7 @@ impl MatrixMarketScalar for i32 {
     ghost value = { λ x. x };
 
     fn from_i128(number: i128) -> Result<i32, MatrixMarketError> {
-        match i32::try_from(number) {
-            Ok(number) => Ok(number),
-            Err(_) => Err(MatrixMarketError::new(Cause::ValueOutOfRange)),
-        }
+        Ok(i32::try_from(number)?)
     }
 
     fn from_pattern(_pattern: ()) -> Result<i32, MatrixMarketError> {
@@ -103,10 +88,7 @@ impl MatrixMarketScalar for i32 {
     }
 
     fn negative(self) -> Result<i32, MatrixMarketError> {
-        match self.checked_neg() {
-            Some(negative) => Ok(negative),
-            None => Err(MatrixMarketError::new(Cause::ValueOutOfRange)),
-        }
+        Ok(self.checked_neg().ok_or(Cause::ValueOutOfRange)?)
     }
 
     fn conjugate(self) -> Result<i32, MatrixMarketError> {
@@ -131,10 +113,7 @@ impl MatrixMarketScalar for i64 {
     ghost value = { λ x. x };
 
     fn from_i128(number: i128) -> Result<i64, MatrixMarketError> {
-        match i64::try_from(number) {
-            Ok(number) => Ok(number),
-            Err(_) => Err(MatrixMarketError::new(Cause::ValueOutOfRange)),
-        }
+        Ok(i64::try_from(number)?)
     }
 
     fn from_pattern(_pattern: ()) -> Result<i64, MatrixMarketError> {
@@ -142,10 +121,7 @@ impl MatrixMarketScalar for i64 {
     }
 
     fn negative(self) -> Result<i64, MatrixMarketError> {
-        match self.checked_neg() {
-            Some(negative) => Ok(negative),
-            None => Err(MatrixMarketError::new(Cause::ValueOutOfRange)),
-        }
+        Ok(self.checked_neg().ok_or(Cause::ValueOutOfRange)?)
     }
 
     fn conjugate(self) -> Result<i64, MatrixMarketError> {
@@ -178,10 +154,7 @@ impl MatrixMarketScalar for i128 {
     }
 
     fn negative(self) -> Result<i128, MatrixMarketError> {
-        match self.checked_neg() {
-            Some(negative) => Ok(negative),
-            None => Err(MatrixMarketError::new(Cause::ValueOutOfRange)),
-        }
+        Ok(self.checked_neg().ok_or(Cause::ValueOutOfRange)?)
     }
 
     fn conjugate(self) -> Result<i128, MatrixMarketError> {

@@ -18,10 +18,7 @@ impl MatrixMarketScalar for W32 {
     ghost value = { w32_number };
 
     fn from_i128(number: i128) -> Result<W32, MatrixMarketError> {
-        match i32::try_from(number) {
-            Ok(number) => Ok(W32::new(number)),
-            Err(_) => Err(MatrixMarketError::new(Cause::ValueOutOfRange)),
-        }
+        Ok(W32::new(i32::try_from(number)?))
     }
 
     fn from_pattern(_pattern: ()) -> Result<W32, MatrixMarketError> {
@@ -54,10 +51,7 @@ impl MatrixMarketScalar for W64 {
     ghost value = { w64_number };
 
     fn from_i128(number: i128) -> Result<W64, MatrixMarketError> {
-        match i64::try_from(number) {
-            Ok(number) => Ok(W64::new(number)),
-            Err(_) => Err(MatrixMarketError::new(Cause::ValueOutOfRange)),
-        }
+        Ok(W64::new(i64::try_from(number)?))
     }
 
     fn from_pattern(_pattern: ()) -> Result<W64, MatrixMarketError> {

@@ -1,0 +1,43 @@
+-- A text from a position on, as a loop moves the position over it.
+use Rattle.std.proofs.Common.{◌≡◌, ℕ, ◌+◌, ◌-◌, ◌*◌, ◌^◌, ◌≤◌, ◌<◌, Bool, true, false, List, length}
+use Rattle.std.proofs.Common.{get_or, drop, sym, ap, ◌∙◌, arith}
+use Rattle.std.proofs.lemmas.List.{drop_more, drop_all}
+use Rattle.std.proofs.lemmas.Grind.{pow_more}
+use Rattle.std.specs.Char.{is_ascii_digit, digit_value}
+use Rattle.std.specs.Str.Parse.{digits_value_after}
+use Rattle.sparse_parser.specs.Bytes.{front, after}
+use Rattle.sparse_parser.proofs.Fronts.{front-yes, after-yes, after-no}
+use Rattle.sparse_parser.proofs.Digits.{digit_value-digit}
+
+-- a byte that passes is passed over
+pub after_passed : (p : ℕ → Bool) (text : List ℕ) (i : ℕ) → i < length text
+    → p (get_or text i 0) ≡ true → after p (drop (i + 1) text) ≡ after p (drop i text)
+after_passed p text i lt e = sym (ap (after p) (drop_more text i 0 lt) ∙ after-yes p _ _ e)
+
+-- at a byte that fails
+pub after_stopped : (p : ℕ → Bool) (text : List ℕ) (i : ℕ) → i < length text
+    → p (get_or text i 0) ≡ false → drop i text ≡ after p (drop i text)
+after_stopped p text i lt e =
+    let d = drop_more text i 0 lt in
+    d ∙ sym (ap (after p) d ∙ after-no p _ _ e)
+
+-- at the end of the text
+pub after_ended : (p : ℕ → Bool) (text : List ℕ) (i : ℕ) → length text ≤ i
+    → drop i text ≡ after p (drop i text)
+after_ended p text i le = let d = drop_all i text le in d ∙ sym (ap (after p) d)
+
+-- one digit more is read
+pub digit_read : (n : ℕ) (text : List ℕ) (i : ℕ) → i < length text
+    → is_ascii_digit (get_or text i 0) ≡ true
+    → digits_value_after 10 (n * 10 + (get_or text i 0 - 48)) (front is_ascii_digit (drop (i + 1) text))
+    ≡ digits_value_after 10 n (front is_ascii_digit (drop i text))
+digit_read n text i lt e =
+    let d = ap (front is_ascii_digit) (drop_more text i 0 lt)
+    ∙ front-yes is_ascii_digit (get_or text i 0) (drop (i + 1) text) e in
+    ap (λ (v : ℕ). digits_value_after 10 (n * 10 + v) (front is_ascii_digit (drop (i + 1) text)))
+    (sym (digit_value-digit (get_or text i 0) e))
+    ∙ sym (ap (digits_value_after 10 n) d)
+
+-- k digits are below 10 ^ k
+pub digits_below : (n k d : ℕ) → n < 10 ^ k → d ≤ 9 → n * 10 + d < 10 ^ (k + 1)
+digits_below n k d small digit = let p = pow_more 10 k in omega arith
