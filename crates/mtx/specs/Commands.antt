@@ -26,11 +26,15 @@ pub record IsCalculated (form : Form) (order : List ℕ) (words : List (List ℕ
   pub some : 0 < length paths
   pub evaluated : IsEvaluated form expression (length paths) old new
 
--- the words are `rows` or `cols` and what was calculated, or `fill` and a file
+-- the word that names an order
+abbrev pub name_of : Form → List ℕ
+name_of Rows = codes "rows"
+name_of Cols = codes "cols"
+
+-- the words are the name of an order and what was calculated, or `fill` and a file
 abbrev pub IsAnswered : List (List ℕ) → Option (List ℕ) → Option (List ℕ) → Type 0
-IsAnswered words old new = IsCalculated Rows (codes "rows") words old new
-    ⊎ (IsCalculated Cols (codes "cols") words old new
-    ⊎ ((path : List ℕ) × (words ≡ codes "fill" ∷ (path ∷ []))))
+IsAnswered words old new = ((form : Form) × IsCalculated form (name_of form) words old new)
+    ⊎ ((path : List ℕ) × (words ≡ codes "fill" ∷ (path ∷ [])))
 
 -- the exit status of a failure
 abbrev pub status_of : Failure → ℕ

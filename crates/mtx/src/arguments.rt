@@ -1,6 +1,6 @@
 //! From the program's arguments to its exit status.
 
-ghost use Rattle.std.specs.Prelude.{◌≤◌, IfOk};
+ghost use Rattle.std.specs.Prelude.{◌≡◌, ◌≤◌, IfOk};
 ghost use Rattle.std.specs.Process.{exit_status};
 
 use crate::cli::{Failure, command, finish, report, views_of};
@@ -28,10 +28,17 @@ where
         Ok(status) => status,
         Err(failure) => report(rt, failure, &mut err),
     };
+    exit_code(status)
+}
+
+// The exit status as the runtime takes it.
+fn exit_code(status: u8) -> ExitCode
+    ensures { exit_status result ≡ status }
+{
     ExitCode::from(status)
 }
 
-// Runs the command and flushes its answer; fails where the words can't be had.
+// Runs the command and flushes its output. Fails if the arguments cannot be read.
 fn obey<R, W, E>(
     rt: &R,
     arguments: io::Result<Args>,
@@ -53,7 +60,7 @@ where
     }
 }
 
-// The words after the program's name.
+// Returns the arguments after the program's name.
 fn given_words<R: AllocGlobal>(
     rt: &R,
     arguments: io::Result<Args>,

@@ -1,9 +1,10 @@
 //! The commands of `mtx`.
 
-ghost use Rattle.std.specs.Prelude.{◌≡◌, ◌≤◌, length, OnOk, IfOk, IfErr};
+ghost use Rattle.std.specs.Prelude.{◌≡◌, ◌≢◌, ◌≤◌, length, None, OnOk, IfOk, IfErr, IfSome};
 ghost use Rattle.nalgebra_sparse.specs.PostfixWords.{texts};
+ghost use Rattle.sparse_expr.specs.declared.calculator.Form.{Form};
 ghost use Rattle.sparse_expr.specs.declared.error.ExprError.TheVariants.{OutOfMemory};
-ghost use Rattle.mtx.specs.Commands.{IsAnswered, IsEvaluated, status_of};
+ghost use Rattle.mtx.specs.Commands.{IsAnswered, IsEvaluated, name_of, status_of};
 ghost use Rattle.mtx.specs.declared.cli.Failure.TheVariants.{Usage, Refused};
 
 use crate::fill::fill;
@@ -13,15 +14,28 @@ use std::alloc::{AllocError, AllocFailed};
 use std::rt::Files;
 use std::{fs, io};
 
-/// Why a command gives no answer.
+/// Why a command fails.
 #[derive(Clone, Copy, Debug)]
 pub enum Failure {
-    /// The words are no command.
+    /// The words are not a command.
     Usage,
     /// The matrix to factor is not square.
     NotSquare,
-    /// The command was refused.
+    /// The command ended with this error.
     Refused(ExprError),
+}
+
+impl Failure {
+    // The exit status.
+    fn status(self) -> u8
+        ensures { result ≡ status_of self }
+    {
+        match self {
+            Failure::Usage => 2,
+            Failure::NotSquare => 1,
+            Failure::Refused(_) => 1,
+        }
+    }
 }
 
 impl From<ExprError> for Failure {
@@ -54,10 +68,10 @@ const OUT_OF_MEMORY: &str = "mtx: out of memory\n";
 
 const NOT_SQUARE: &str = "mtx: not square\n";
 
-/// Runs the command that the words give, and answers the exit status.
+/// Runs a command and returns its exit status.
 ///
-/// The answer goes to `out`; at a status other than 0 one line goes to `err`, and a fault in writing that line is passed
-/// over. The files are read before anything is written.
+/// The result is written to `out`. At a status other than 0 one line is written to `err`; an error in writing that line is
+/// ignored. All files are read before anything is written.
 pub fn command<R, W, E>(rt: &R, words: &[&str], out: &mut W, err: &mut E) -> u8
 where
     R: Files + AllocGlobal,
@@ -82,18 +96,28 @@ where
     ensures unanswered { IfErr result (λ e. e ≡ Usage → W.taken out.new ≡ W.taken out.old) }
 {
     match words {
-        ["rows", expression, paths @ ..] if !paths.is_empty() => {
-            calculate(rt, Form::Rows, expression, paths, out)
-        }
-        ["cols", expression, paths @ ..] if !paths.is_empty() => {
-            calculate(rt, Form::Cols, expression, paths, out)
-        }
         ["fill", path] => fill(rt, path, out),
+        [order, expression, paths @ ..] if !paths.is_empty() => match form_of(order) {
+            Some(form) => calculate(rt, form, expression, paths, out),
+            None => Err(Failure::Usage),
+        },
         _ => Err(Failure::Usage),
     }
 }
 
-// Reads the expression, then the files, and writes the expression's value.
+// The order that a first word names.
+fn form_of(word: &str) -> Option<Form>
+    ensures named { IfSome result (λ form. word.now ≡ name_of form) }
+    ensures unnamed { result ≡ None → (form : Form) → word.now ≢ name_of form }
+{
+    match word {
+        "rows" => Some(Form::Rows),
+        "cols" => Some(Form::Cols),
+        _ => None,
+    }
+}
+
+// Parses the expression, reads the files, and writes the value.
 fn calculate<R, W>(
     rt: &R,
     form: Form,
@@ -115,7 +139,7 @@ where
     Ok(())
 }
 
-// The texts of the files, in order.
+// Reads the files in order.
 fn read_all<R: Files + AllocGlobal>(rt: &R, paths: &[&str]) -> Result<Vec<String>, Failure>
     ensures one_each { IfOk result (λ texts. length texts.items ≡ length paths.now) }
     ensures refused { IfErr result (λ e. e ≡ Usage → ⊥) }
@@ -137,7 +161,7 @@ pub fn views_of<'a, R: AllocGlobal>(rt: &R, texts: &'a [String]) -> Result<Vec<&
     texts.iter().map(|text| text.as_str()).collect(rt.alloc())
 }
 
-// The refusal of the file of this number, counted from 1.
+// The error of an unreadable file, whose number is counted from 1.
 fn unreadable(number: usize, kind: io::ErrorKind) -> ExprError {
     match kind {
         io::ErrorKind::OutOfMemory => ExprError::OutOfMemory,
@@ -145,7 +169,7 @@ fn unreadable(number: usize, kind: io::ErrorKind) -> ExprError {
     }
 }
 
-/// Ends a command whose answer was written: flushes the output, where a fault is a failed write.
+/// Flushes the output of a command and returns the exit status. A failed flush is reported as a failed write.
 pub fn finish<R, W, E>(rt: &R, out: &mut W, err: &mut E) -> u8
 where
     R: AllocGlobal,
@@ -164,27 +188,16 @@ where
 pub fn report<R: AllocGlobal, E: Sink>(rt: &R, failure: Failure, err: &mut E) -> u8
     ensures { result ≡ status_of failure }
 {
-    match failure {
-        Failure::Usage => {
-            let _ = write_all_to(err, USAGE.as_bytes());
-            2
-        }
-        Failure::NotSquare => {
-            let _ = write_all_to(err, NOT_SQUARE.as_bytes());
-            1
-        }
-        Failure::Refused(error) => {
-            match format!(in rt.alloc(); "mtx: {error}\n") {
-                Ok(line) => {
-                    let _ = write_all_to(err, line.as_bytes());
-                }
-                Err(_) => {
-                    let _ = write_all_to(err, OUT_OF_MEMORY.as_bytes());
-                }
-            }
-            1
-        }
-    }
+    // An error in writing the line is ignored.
+    let _ = match failure {
+        Failure::Usage => write_all_to(err, USAGE.as_bytes()),
+        Failure::NotSquare => write_all_to(err, NOT_SQUARE.as_bytes()),
+        Failure::Refused(error) => match format!(in rt.alloc(); "mtx: {error}\n") {
+            Ok(line) => write_all_to(err, line.as_bytes()),
+            Err(_) => write_all_to(err, OUT_OF_MEMORY.as_bytes()),
+        },
+    };
+    failure.status()
 }
 
 #[cfg(test)]

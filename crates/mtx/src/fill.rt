@@ -62,7 +62,7 @@ fn matrix_of(alloc: Global, pattern: &SparsityPattern) -> Result<CscMatrix<()>, 
     }
 }
 
-// The refusal of the one file.
+// The error of the file, which is the first and only one.
 fn unread(kind: MatrixMarketErrorKind) -> ExprError {
     match kind {
         MatrixMarketErrorKind::OutOfMemory => ExprError::OutOfMemory,
@@ -70,7 +70,7 @@ fn unread(kind: MatrixMarketErrorKind) -> ExprError {
     }
 }
 
-// The refusal of a text that was not written to its end.
+// The error of a write that failed.
 fn unwritten(kind: MatrixMarketErrorKind) -> ExprError {
     match kind {
         MatrixMarketErrorKind::IOError(kind) => ExprError::Write(kind),

@@ -13,7 +13,8 @@ use Rattle.sparse_lemmas.proofs.Cases.{lt_suc_cases}
 use Rattle.sparse_pattern.specs.Raw.{Raw, paired}
 use Rattle.sparse_factor.specs.Fill.{InFill, UpperBase}
 use Rattle.sparse_factor.proofs.FillCounts.{pair_eq, same_pair, pair_laws}
-use Rattle.reference.specs.InnerClosure.{pair, IsWhole, IsLacking}
+use Rattle.reference.specs.Pairs.{pair}
+use Rattle.reference.specs.InnerClosure.{IsWhole, IsLacking}
 
 -- ---- a list of all pairs below n
 

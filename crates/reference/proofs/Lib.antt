@@ -5,3 +5,4 @@ mod TextEntries
 mod TextPlaces
 mod TextMeanings
 mod TextBounds
+mod Tabulated

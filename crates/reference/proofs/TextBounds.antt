@@ -1,5 +1,5 @@
 -- The bounds of triplets, tested before and after contracts see their values.
-use Rattle.std.proofs.Common.{◌≡◌, ℕ, Bool, true, false, List, map, None, Ok, Err, refl, sym, ◌∙◌}
+use Rattle.std.proofs.Common.{◌≡◌, ℕ, Bool, true, false, List, map, None, Ok, Err, refl, ◌∙◌}
 use Rattle.std.specs.Prelude.{nat_lt, ◌&&◌}
 use Rattle.std.specs.List.{list_all}
 use Rattle.std.proofs.lemmas.List.Folds.{list_all-map}

@@ -3,9 +3,7 @@ use Rattle.std.specs.Prelude.{◌≡◌, ℕ, ◌<◌, ◌≤◌, ◌⊎◌, Lis
 use Rattle.std.specs.List.{Contains}
 use Rattle.sparse_pattern.specs.Raw.{Raw}
 use Rattle.sparse_factor.specs.Fill.{UpperBase}
-
-abbrev pub pair : ℕ → ℕ → ℕ × ℕ
-pair i j = (i, j)
+use Rattle.reference.specs.Pairs.{pair}
 
 -- each row of the lane up to the column, turned over
 abbrev pub HasPlacesOf : List ℕ → ℕ → List (ℕ × ℕ) → Type 0

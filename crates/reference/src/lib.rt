@@ -3,6 +3,7 @@
 //! The contract of each is the definition. No library uses this crate.
 #![tactic(auto)]
 
+pub mod expressions;
 pub mod fill;
 pub mod pattern_faults;
 pub mod products;

@@ -4,7 +4,8 @@ ghost use Rattle.std.specs.Prelude.{◌≡◌, true, IfOk};
 ghost use Rattle.sparse_parser.specs.Grammar.{is_size};
 ghost use Rattle.sparse_parser.specs.Meaning.{Means, matrix_of};
 ghost use Rattle.sparse_parser.specs.InnerReading.{body_of, document_of};
-ghost use Rattle.reference.specs.InnerTexts.{words_in, lines_in, seen, listed_as};
+ghost use Rattle.reference.specs.Texts.{seen, listed_as};
+ghost use Rattle.reference.specs.InnerTexts.{words_in, lines_in};
 
 use crate::texts::entries::{Listed, counted_entries};
 use crate::texts::grammar::{all_entries, is_size};

@@ -4,4 +4,6 @@
 #[cfg(test)]
 mod long;
 #[cfg(test)]
+mod slow;
+#[cfg(test)]
 mod texts;

@@ -2,7 +2,7 @@
 
 use crate::arguments::answer;
 use crate::cli::{command, finish};
-use cases::{CASES, COLUMN_CASES, FILL_CASES};
+use cases::{CASES, COLUMN_CASES, FILL_CASES, REFUSALS};
 use nalgebra_sparse::io::Out;
 use std::alloc::AllocError;
 use std::io::{self, ErrorKind, Write};
@@ -168,39 +168,39 @@ fn fills_of_patterns(rt: HostRuntime) -> Result<(), Fail> {
     Ok(())
 }
 
-#[test]
-fn wrong_usage_and_unreadable_files(rt: HostRuntime) -> Result<(), Fail> {
-    let good = matrix(&rt, "good", "0 0 0\n")?;
-    let bad = file(&rt, "bad", &[0xff, 0xfe])?;
-    let array = file(
-        &rt,
-        "array",
-        b"%%MatrixMarket matrix array pattern general\n1 1\n5\n",
-    )?;
-    let usage = "usage: mtx rows EXPR FILE.. | mtx cols EXPR FILE.. | mtx fill FILE\n";
-    let wrong: [&[&str]; 6] = [
-        &[],
-        &["rows"],
-        &["rows", "1"],
-        &["lines", "1", "f"],
-        &["cols", "1"],
-        &["fill"],
-    ];
-    for words in wrong {
-        expect_refused(&rt, &answered(&rt, words)?, usage, 2);
+// The status and the line of the words and some files, over an output that takes nothing.
+fn refused(rt: &HostRuntime, first: &[&str], files: &[&[u8]]) -> Result<(u8, String), Fail> {
+    let mut paths: Vec<String> = Vec::new(rt.alloc());
+    for (index, bytes) in files.iter().enumerate() {
+        let name = format!(in rt.alloc(); "refused{index}")?;
+        paths.push(file(rt, name.as_str(), bytes)?)?;
     }
-    let missing = answered(&rt, &["rows", "1", good.as_str(), "/no/such/file.mtx"])?;
-    expect_refused(&rt, &missing, "mtx: input 2: IOError\n", 1);
-    let unread = answered(&rt, &["rows", "1", bad.as_str()])?;
-    expect_refused(&rt, &unread, "mtx: input 1: IOError\n", 1);
-    // The expression is read before the files.
-    let unknown = answered(&rt, &["rows", "x", bad.as_str()])?;
-    expect_refused(&rt, &unknown, "mtx: expression: unknown word\n", 1);
-    let dense = answered(&rt, &["rows", "1", array.as_str()])?;
-    expect_refused(&rt, &dense, "mtx: input 1: InvalidHeader\n", 1);
-    fs::remove_file(&rt, good.as_str())?;
-    fs::remove_file(&rt, bad.as_str())?;
-    fs::remove_file(&rt, array.as_str())?;
+    let mut words: Vec<&str> = Vec::new(rt.alloc());
+    for word in first {
+        words.push(word)?;
+    }
+    for path in &paths {
+        words.push(path.as_str())?;
+    }
+    let mut out = Out::new(Short {
+        bytes: Vec::new(rt.alloc()),
+        room: 0,
+    });
+    let mut err = Out::new(Vec::new(rt.alloc()));
+    let status = command(rt, &words, &mut out, &mut err);
+    for path in &paths {
+        fs::remove_file(rt, path.as_str())?;
+    }
+    Ok((status, String::from_utf8(err.into_inner())?))
+}
+
+#[test]
+fn each_refusal_has_its_line(rt: HostRuntime) -> Result<(), Fail> {
+    for (words, files, line, wanted) in REFUSALS {
+        let (status, text) = refused(&rt, words, files)?;
+        assert_eq!(rt; text.as_str(), line);
+        assert_eq!(rt; status, wanted);
+    }
     Ok(())
 }
 

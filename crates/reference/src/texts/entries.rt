@@ -4,7 +4,8 @@ ghost use Rattle.std.specs.Prelude.{◌≡◌, ◌<◌, ◌++◌, ◌&&◌, nat_
 ghost use Rattle.std.specs.List.{list_all};
 ghost use Rattle.sparse_parser.specs.ArrayPlaces.{places_of, array_places, column, first_row};
 ghost use Rattle.sparse_parser.specs.Meaning.{entries_of, listed_of, inside_of, value_triplet};
-ghost use Rattle.reference.specs.InnerTexts.{lines_in, seen, listed_as, both_of};
+ghost use Rattle.reference.specs.Texts.{seen, listed_as};
+ghost use Rattle.reference.specs.InnerTexts.{lines_in, both_of};
 
 use crate::texts::entry::{Triplet, triplets};
 use crate::texts::lines::Line;
@@ -25,7 +26,7 @@ pub struct Listed<T> {
 
 /// Returns what data lines mean below a header and a size line: first their number, then the entries in order, then the bounds.
 #[tactic(auto, unfolding(sparse_parser::specs::Meaning::listed_of))]
-pub fn counted_entries<T: MatrixMarketScalar>(
+pub(crate) fn counted_entries<T: MatrixMarketScalar>(
     alloc: Global,
     header: Header,
     sizes: Sizes,

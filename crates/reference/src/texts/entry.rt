@@ -5,7 +5,8 @@ ghost use Rattle.sparse_parser.specs.Grammar.{is_index};
 ghost use Rattle.sparse_parser.specs.declared.header.Format.TheVariants.{Coordinate, Array};
 ghost use Rattle.sparse_parser.specs.Reads.{read_as};
 ghost use Rattle.sparse_parser.specs.Meaning.{value_of, entry_of, place_of, number_of, is_of_field, mirrored, triplets_of, value_triplet};
-ghost use Rattle.reference.specs.InnerTexts.{texts, seen, both_of};
+ghost use Rattle.reference.specs.Texts.{seen};
+ghost use Rattle.reference.specs.InnerTexts.{texts, both_of};
 
 use crate::texts::lines::first_word;
 use crate::texts::numbers::{integer, is_index, number};

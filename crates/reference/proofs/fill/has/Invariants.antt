@@ -1,5 +1,5 @@
 use Rattle.std.proofs.Common.{◌≡◌, ℕ, ◌<◌, get_or}
-use Rattle.reference.specs.InnerClosure.{pair}
+use Rattle.reference.specs.Pairs.{pair}
 use Rattle.reference.proofs.fill.has.Given as goal
 
 abbrev pub invariant-loop-a : goal.invariant-loop-a

@@ -4,7 +4,8 @@ use Rattle.std.proofs.lemmas.List.{get_or_default}
 use Rattle.sparse_lemmas.proofs.Cases.{lt_add_one_cases}
 use Rattle.sparse_pattern.specs.Raw.{IsPlace}
 use Rattle.sparse_pattern.proofs.LaneLists.{lane_has}
-use Rattle.reference.specs.InnerClosure.{pair, HasFillOf}
+use Rattle.reference.specs.Pairs.{pair}
+use Rattle.reference.specs.InnerClosure.{HasFillOf}
 use Rattle.reference.proofs.fill.lacking.Goals as goal
 
 pub returns-in-Some-clause-cases : goal.returns-in-Some-clause-cases

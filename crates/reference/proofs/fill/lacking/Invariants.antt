@@ -1,7 +1,8 @@
 use Rattle.std.proofs.Common.{ℕ, ◌<◌, get_or}
 use Rattle.std.specs.List.{Contains}
 use Rattle.sparse_factor.specs.Fill.{UpperBase}
-use Rattle.reference.specs.InnerClosure.{pair, HasFillOf}
+use Rattle.reference.specs.Pairs.{pair}
+use Rattle.reference.specs.InnerClosure.{HasFillOf}
 use Rattle.reference.proofs.fill.lacking.Given as goal
 
 abbrev pub invariant-loop-column : goal.invariant-loop-column

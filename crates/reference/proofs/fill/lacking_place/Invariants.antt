@@ -1,6 +1,6 @@
 use Rattle.std.proofs.Common.{ℕ, ◌<◌, ◌≤◌, get_or}
 use Rattle.std.specs.List.{Contains}
-use Rattle.reference.specs.InnerClosure.{pair}
+use Rattle.reference.specs.Pairs.{pair}
 use Rattle.reference.proofs.fill.lacking_place.Given as goal
 
 abbrev pub invariant-loop-row : goal.invariant-loop-row

@@ -1,6 +1,7 @@
 use Rattle.std.proofs.Common.{ap, ◌∙◌}
 use Rattle.sparse_parser.specs.InnerReading.{written_of}
-use Rattle.reference.specs.InnerTexts.{lines_in, seen, listed_as}
+use Rattle.reference.specs.Texts.{seen, listed_as}
+use Rattle.reference.specs.InnerTexts.{lines_in}
 use Rattle.reference.proofs.TextMeanings.{means_from}
 use Rattle.reference.proofs.texts.meaning.Goals as goal
 

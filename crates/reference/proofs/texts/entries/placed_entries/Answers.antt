@@ -1,4 +1,4 @@
-use Rattle.std.proofs.Common.{◌≡◌, ℕ, List, Ok, ap, map, length, sym, ◌∙◌}
+use Rattle.std.proofs.Common.{Ok, ap, map, sym, ◌∙◌}
 use Rattle.std.proofs.lemmas.Bool.{eqb-true}
 use Rattle.sparse_parser.specs.ArrayPlaces.{places_of}
 use Rattle.sparse_parser.specs.Meaning.{value_triplet}

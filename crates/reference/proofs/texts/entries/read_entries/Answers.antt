@@ -1,7 +1,7 @@
-use Rattle.std.proofs.Common.{◌≡◌, ℕ, List, Option, [], ◌++◌, ◌+◌, Ok, Err, ap, map, sym, ◌∙◌}
-use Rattle.std.proofs.Common.{get_or, slice_get}
+use Rattle.std.proofs.Common.{ℕ, Option, [], ◌+◌, ap, map, sym, ◌∙◌}
+use Rattle.std.proofs.Common.{get_or}
 use Rattle.std.proofs.lemmas.List.{map-append}
-use Rattle.sparse_parser.specs.Meaning.{value_triplet, triplets_of, entries_of}
+use Rattle.sparse_parser.specs.Meaning.{value_triplet, triplets_of}
 use Rattle.reference.specs.InnerTexts.{texts, lines_in, both_of}
 use Rattle.reference.proofs.TextEntries.{prefixed, line_read, line_refused, words_at, lines_long}
 use Rattle.reference.proofs.TextEntries.{none_left, left_from}

@@ -1,4 +1,4 @@
-use Rattle.std.proofs.Common.{◌≡◌, List, ℕ, true, false, sym, ap, ◌∙◌, [], ◌∷◌, ◌++◌, take}
+use Rattle.std.proofs.Common.{◌≡◌, List, ℕ, sym, ap, ◌∙◌, [], ◌∷◌, ◌++◌, take}
 use Rattle.std.specs.Prelude.{filter}
 use Rattle.sparse_parser.specs.InnerReading.{is_content}
 use Rattle.reference.specs.InnerTexts.{texts, words_in, lines_in}

@@ -1,4 +1,4 @@
-use Rattle.std.proofs.Common.{◌≡◌, List, ℕ, [], ◌∷◌, ◌++◌, sym, ap, refl, ◌∙◌, length, vec_len}
+use Rattle.std.proofs.Common.{◌≡◌, List, ℕ, [], ◌∷◌, ◌++◌, ap, refl, ◌∙◌, length, vec_len}
 use Rattle.std.proofs.Common.{arith}
 use Rattle.sparse_parser.specs.InnerReading.{written_of, written_lines}
 use denote.Ref.{Bor}

@@ -1,4 +1,4 @@
-use Rattle.std.proofs.Common.{◌≡◌, ℕ, List, [], ◌∷◌, true, refl, sym, ap, ◌∙◌}
+use Rattle.std.proofs.Common.{◌≡◌, ℕ, List, [], ◌∷◌, true, sym, ap, ◌∙◌}
 use Rattle.sparse_parser.specs.declared.header.Format.{Format}
 use Rattle.sparse_parser.specs.declared.header.Format.TheVariants.{Coordinate}
 use Rattle.sparse_parser.specs.Grammar.{is_size}

@@ -1,0 +1,150 @@
+//! Values of expressions beside those of the slow evaluator.
+
+use reference::expressions::expression_value;
+use sparse_algebra::scalar::W64;
+use sparse_base::coo::CooMatrix;
+use sparse_expr::{Expr, ExprError, evaluate_cols, evaluate_rows};
+use sparse_forms::csr::CsrMatrix;
+use std::alloc::{AllocError, Global};
+use std::test::Fail;
+
+// The number of rows, that of columns, and triplets.
+type List = (usize, usize, &'static [(usize, usize, i64)]);
+
+// Some places occur twice, one of them with the sum zero.
+const SMALL: [List; 3] = [
+    (2, 2, &[(1, 0, 3), (0, 1, -2), (1, 0, -3), (1, 1, 5)]),
+    (2, 3, &[(1, 2, 7), (0, 0, 2), (0, 2, -1)]),
+    (3, 2, &[(2, 0, 4), (0, 1, -6), (0, 1, 1)]),
+];
+
+const SQUARE: [List; 3] = [
+    (3, 3, &[(0, 1, 2), (1, 2, -1), (2, 0, 3)]),
+    (3, 3, &[(2, 2, 5), (0, 0, 1), (2, 2, -4), (1, 0, 6)]),
+    (3, 3, &[(1, 1, -7)]),
+];
+
+fn matrix(alloc: Global, (nrows, ncols, triplets): List) -> Result<CooMatrix<W64>, AllocError> {
+    let mut matrix = CooMatrix::new(alloc, nrows, ncols);
+    for &(row, col, value) in triplets {
+        if row < matrix.nrows() && col < matrix.ncols() {
+            matrix.push(row, col, W64::new(value))?;
+        }
+    }
+    Ok(matrix)
+}
+
+fn matrices(alloc: Global, lists: &[List]) -> Result<Vec<CooMatrix<W64>>, AllocError> {
+    let mut matrices = Vec::new(alloc);
+    for list in lists {
+        matrices.push(matrix(alloc, *list)?)?;
+    }
+    Ok(matrices)
+}
+
+fn are_same(fast: &CsrMatrix<W64>, slow: &CooMatrix<W64>) -> bool {
+    fast.nrows() == slow.nrows()
+        && fast.ncols() == slow.ncols()
+        && fast.nnz() == slow.nnz()
+        && fast.triplet_iter().zip(slow.triplet_iter()).all(|(a, b)| a.0 == b.0
+            && a.1 == b.1
+            && a.2.get() == b.2.get())
+}
+
+// Whether both evaluators give the expression this value or this refusal, by rows.
+fn agree_by_rows(alloc: Global, expr: &Expr, inputs: &[CooMatrix<W64>]) -> bool {
+    match evaluate_rows(alloc, expr, inputs) {
+        Ok(fast) => match expression_value(alloc, expr, inputs) {
+            Ok(slow) => are_same(&fast, &slow),
+            Err(_) => false,
+        },
+        Err(error) => expression_value(alloc, expr, inputs).err() == Some(error),
+    }
+}
+
+// The same by columns, which are the rows of the transpose.
+fn agree_by_cols(alloc: Global, expr: &Expr, turned: &Expr, inputs: &[CooMatrix<W64>]) -> bool {
+    match evaluate_cols(alloc, expr, inputs) {
+        Ok(fast) => match expression_value(alloc, turned, inputs) {
+            Ok(slow) => are_same(&fast.transpose_as_csr(), &slow),
+            Err(_) => false,
+        },
+        Err(error) => expression_value(alloc, turned, inputs).err() == Some(error),
+    }
+}
+
+// Whether the evaluators agree on the words, by rows and by columns.
+fn agree(alloc: Global, words: &str, inputs: &[CooMatrix<W64>]) -> Result<bool, ExprError> {
+    let expr = Expr::from_words(alloc, words)?;
+    let turned = Expr::from_words(alloc, &format!(in alloc; "{words} t")?)?;
+    Ok(agree_by_rows(alloc, &expr, inputs) && agree_by_cols(alloc, &expr, &turned, inputs))
+}
+
+// The last word is none.
+const WORDS: [&str; 10] = ["1 ", "2 ", "3 ", "4 ", "+ ", "- ", "* ", "t ", "n ", ""];
+
+// Five words, one for each digit of the number.
+fn short_text(alloc: Global, number: usize) -> Result<String, AllocError> {
+    let mut text = String::new(alloc);
+    let mut left = number;
+    for _ in 0..5 {
+        text.push_str(WORDS[left % 10])?;
+        left /= 10;
+    }
+    Ok(text)
+}
+
+#[test]
+fn all_expressions_of_five_words(rt: HostRuntime) -> Result<(), Fail> {
+    let inputs = matrices(rt.alloc(), &SMALL)?;
+    let mut count: usize = 0;
+    for number in 0..100_000 {
+        let text = short_text(rt.alloc(), number)?;
+        match agree(rt.alloc(), &text, &inputs) {
+            Ok(agreed) => {
+                assert!(rt; agreed, "{text}");
+                count = count.saturating_add(1);
+            }
+            Err(error) => assert!(rt; error != ExprError::OutOfMemory),
+        }
+    }
+    // So many of the texts say an expression.
+    assert_eq!(rt; count, 4708);
+    Ok(())
+}
+
+// A word, and the number of operands after it. So many words are left then that they can make one operand of these.
+fn next_word(choice: usize, height: usize, left: usize) -> (&'static str, usize) {
+    if height == 0 || (height <= left && choice % 8 < 3) {
+        (WORDS[choice % 3], height.saturating_add(1))
+    } else if height > left.saturating_add(1) || (height > 1 && choice % 8 < 6) {
+        (WORDS[4 + choice % 3], height.saturating_sub(1))
+    } else {
+        (WORDS[7 + choice % 2], height)
+    }
+}
+
+// This many words that say an expression, by a linear congruential generator (Knuth's MMIX).
+fn long_text(alloc: Global, count: usize) -> Result<String, AllocError> {
+    let mut text = String::new(alloc);
+    let mut state: u64 = 1;
+    let mut height = 0;
+    for left in (0..count).rev() {
+        state = state
+            .wrapping_mul(6364136223846793005)
+            .wrapping_add(1442695040888963407);
+        let (word, after) = next_word(usize::from(state.to_be_bytes()[0]), height, left);
+        text.push_str(word)?;
+        height = after;
+    }
+    Ok(text)
+}
+
+#[test]
+fn an_expression_of_a_thousand_words(rt: HostRuntime) -> Result<(), Fail> {
+    let inputs = matrices(rt.alloc(), &SQUARE)?;
+    let text = long_text(rt.alloc(), 1000)?;
+    assert_eq!(rt; text.len(), 2000);
+    assert!(rt; agree(rt.alloc(), &text, &inputs)?);
+    Ok(())
+}
