@@ -1,10 +1,10 @@
 -- The triplets that three lists give.
 use Rattle.std.proofs.Common.{◌≡◌, ℕ, zero, suc, ◌+◌, ◌<◌, List, [], ◌∷◌, ◌++◌, length, take}
-use Rattle.std.proofs.Common.{get_or, map, All, refl, ap, ◌∙◌, arith}
+use Rattle.std.proofs.Common.{get_or, map, All, refl, ap, sym, ◌∙◌, arith}
 use Rattle.std.proofs.lemmas.Grind.{common_steps}
 use Rattle.std.proofs.lemmas.List.{take_more}
 use Rattle.std.proofs.lemmas.List.Elements.{All-push}
-use Rattle.sparse_base.specs.Coo.{zip_triplets, AreParts}
+use Rattle.sparse_base.specs.Coo.{coo_of, zip_triplets, AreParts, IsInside}
 
 module _ {T : Type 0} where
   pub length-triplets : (is js : List ℕ) (vs : List T) → length is ≡ length vs
@@ -106,3 +106,18 @@ module _ {T : Type 0} where
   values-zip (i ∷ is) [] (v ∷ vs) e f = absurd (omega arith)
   values-zip (i ∷ is) (j ∷ js) (v ∷ vs) e f =
       ap (λ l. v ∷ l) (values-zip is js vs (omega arith) (omega arith))
+
+  -- the same of the parts of a matrix
+  module _ {nrows ncols : ℕ} {is js : List ℕ} {vs : List T} where
+    pub rows_back : AreParts nrows ncols is js vs → is ≡ map (λ t. t.0) (zip_triplets is js vs)
+    rows_back parts = sym (rows-zip is js vs parts.row_count parts.col_count)
+
+    pub cols_back : AreParts nrows ncols is js vs → js ≡ map (λ t. t.1) (zip_triplets is js vs)
+    cols_back parts = sym (cols-zip is js vs parts.row_count parts.col_count)
+
+    pub values_back : AreParts nrows ncols is js vs → vs ≡ map (λ t. t.2) (zip_triplets is js vs)
+    values_back parts = sym (values-zip is js vs parts.row_count parts.col_count)
+
+    pub parts_inside : AreParts nrows ncols is js vs
+        → IsInside (coo_of nrows ncols (zip_triplets is js vs))
+    parts_inside = bounded nrows ncols is js vs
