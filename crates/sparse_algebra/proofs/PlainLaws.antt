@@ -1,6 +1,6 @@
 -- Laws of the algebra of plain matrices.
-use Rattle.std.proofs.Common.{◌≡◌, ◌≢◌, ℕ, zero, suc, ◌<◌, ◌⊎◌, inl, inr, Bool, true, false, ◌&&◌}
-use Rattle.std.proofs.Common.{ap, sym, subst, ◌∙◌, refl, arith}
+use Rattle.std.proofs.Common.{◌≡◌, ◌≢◌, ℕ, zero, suc, ◌<◌, inl, inr, Bool, true, false, ◌&&◌}
+use Rattle.std.proofs.Common.{ap, sym, ◌∙◌, refl, arith}
 use Rattle.std.specs.Prelude.{◌||◌, nat_eq, nat_lt, List, [], ◌∷◌, All}
 use Rattle.std.specs.List.{list_any}
 use Rattle.std.proofs.lemmas.Bool.Decides.{Decides-eqb, Decides-ltb, nat_tests}
@@ -8,8 +8,8 @@ use Rattle.sparse_lemmas.proofs.Cases.{and_both, and_parts, neither, or_cases, t
 use Rattle.sparse_algebra.specs.Algebra.{CommRing}
 use Rattle.sparse_algebra.specs.Sums.{sum_below, sum_by, where_true}
 use Rattle.sparse_algebra.specs.Plain.{Plain, IsProper, IsWithin, any_below, is_at}
-use Rattle.sparse_algebra.specs.Plain.{plain_of_triplets, plain_sum, plain_negation}
-use Rattle.sparse_algebra.specs.Plain.{plain_difference, plain_scaled, plain_product}
+use Rattle.sparse_algebra.specs.Plain.{plain_of_triplets, plain_sum}
+use Rattle.sparse_algebra.specs.Plain.{plain_scaled, plain_product}
 use Rattle.sparse_algebra.specs.Plain.{plain_transpose, plain_identity, plain_kept}
 use Rattle.sparse_algebra.proofs.RingLemmas.{zero_add, mul_zero, neg_unique}
 use Rattle.sparse_algebra.proofs.SumLemmas.{sum_below-same, sum_below-zero, sum_below-add}
@@ -162,13 +162,6 @@ module _ (R : CommRing) where
       ap (λ c. R.add c (b.value i j)) (pa i j parts.0) ∙ ap (R.add R.zero) (pb i j parts.1)
       ∙ R.laws.add_zero R.zero
 
-  pub proper_negation : (a : Plain R) → IsProper a → IsProper (plain_negation R a)
-  proper_negation a p i j h = ap R.neg (p i j h) ∙ neg_zero
-
-  pub proper_difference : (a b : Plain R) → IsProper a → IsProper b
-      → IsProper (plain_difference R a b)
-  proper_difference a b pa pb = proper_sum a (plain_negation R b) pa (proper_negation b pb)
-
   pub proper_scaled : (s : R.Carrier) (a : Plain R) → IsProper a → IsProper (plain_scaled R s a)
   proper_scaled s a p i j h = ap (R.mul s) (p i j h) ∙ mul_zero R s
 
@@ -210,13 +203,6 @@ module _ (R : CommRing) where
             i j later
       ]
 
-  pub within_sum : (a b : Plain R) → a.rows ≡ b.rows → a.cols ≡ b.cols → IsWithin a → IsWithin b
-      → IsWithin (plain_sum R a b)
-  within_sum a b rows cols wa wb i j h = elim (or_cases (a.has i j) (b.has i j) h) [
-    | inl left ↦ wa i j left
-    | inr right ↦ let w = wb i j right in (omega (arith, w.0), omega (arith, w.1))
-  ]
-
   pub within_product : (a b : Plain R) → IsWithin a → IsWithin b → IsWithin (plain_product R a b)
   within_product a b wa wb i j h =
       let some = (any_is a.cols (λ k. a.has i k && b.has k j)).0 h in
@@ -225,13 +211,6 @@ module _ (R : CommRing) where
 
   pub within_transpose : (a : Plain R) → IsWithin a → IsWithin (plain_transpose R a)
   within_transpose a w i j h = let x = w j i h in (x.1, x.0)
-
-  pub within_identity : (n : ℕ) → IsWithin (plain_identity R n)
-  within_identity n i j h =
-      let both = and_parts _ _ h in
-      let at : i ≡ j = (Decides-eqb i j).0 both.0 in
-      let lt : i < n = (Decides-ltb i n).0 both.1 in
-      (lt, subst (λ k. k < n) at lt)
 
   pub within_kept : (test : ℕ → ℕ → Bool) (a : Plain R) → IsWithin a
       → IsWithin (plain_kept R test a)

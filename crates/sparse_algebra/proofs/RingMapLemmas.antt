@@ -4,7 +4,6 @@ use Rattle.sparse_algebra.specs.Algebra.{CommRing}
 use Rattle.sparse_algebra.specs.Sums.{sum_below, sum_by, where_true}
 use Rattle.sparse_algebra.specs.Plain.{Plain, is_at, plain_of_triplets, plain_sum, plain_negation}
 use Rattle.sparse_algebra.specs.Plain.{plain_difference, plain_scaled, plain_product}
-use Rattle.sparse_algebra.specs.Plain.{plain_transpose, plain_identity, plain_kept}
 use Rattle.sparse_algebra.specs.RingMaps.{IsRingMap, plain_map}
 use Rattle.sparse_algebra.proofs.PlainLemmas.{same_plain}
 use Rattle.sparse_algebra.proofs.SumLemmas.{sum_below-same, sum_by-same}
@@ -62,17 +61,3 @@ module _ (R S : CommRing) (h : R.Carrier → S.Carrier) (is : IsRingMap R S h) w
       (plain_product S (plain_map h a) (plain_map h b)) refl refl (λ i j. refl)
       (λ i j. map-sum_below a.cols (λ k. R.mul (a.value i k) (b.value k j))
       ∙ sum_below-same S a.cols _ _ (λ k _. is.mul (a.value i k) (b.value k j)))
-
-  pub map-transpose : (a : Plain R)
-      → plain_map h (plain_transpose R a) ≡ plain_transpose S (plain_map h a)
-  map-transpose a = refl
-
-  pub map-identity : (n : ℕ) → plain_map h (plain_identity R n) ≡ plain_identity S n
-  map-identity n = same_plain (plain_map h (plain_identity R n)) (plain_identity S n) refl refl
-      (λ i j. refl) (λ i j. map-where_true _ R.one ∙ ap (where_true S _) is.one)
-
-  pub map-kept : (test : ℕ → ℕ → Bool) (a : Plain R)
-      → plain_map h (plain_kept R test a) ≡ plain_kept S test (plain_map h a)
-  map-kept test a = same_plain (plain_map h (plain_kept R test a))
-      (plain_kept S test (plain_map h a)) refl refl (λ i j. refl)
-      (λ i j. map-where_true _ (a.value i j))

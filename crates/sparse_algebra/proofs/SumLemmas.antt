@@ -28,25 +28,6 @@ module _ (R : CommRing) where
     sum_by-zero [] = refl
     sum_by-zero (x ∷ xs) = zero_add R _ ∙ sum_by-zero xs
 
-    pub sum_by-add : (f g : X → R.Carrier) (xs : List X)
-        → sum_by R (λ x. R.add (f x) (g x)) xs ≡ R.add (sum_by R f xs) (sum_by R g xs)
-    sum_by-add f g [] = sym (R.laws.add_zero R.zero)
-    sum_by-add f g (x ∷ xs) = ap (R.add (R.add (f x) (g x))) (sum_by-add f g xs)
-        ∙ add_cross R (f x) (g x) (sum_by R f xs) (sum_by R g xs)
-
-    pub sum_by-mul : (c : R.Carrier) (f : X → R.Carrier) (xs : List X)
-        → sum_by R (λ x. R.mul c (f x)) xs ≡ R.mul c (sum_by R f xs)
-    sum_by-mul c f [] = sym (mul_zero R c)
-    sum_by-mul c f (x ∷ xs) = ap (R.add (R.mul c (f x))) (sum_by-mul c f xs)
-        ∙ sym (R.laws.distrib c (f x) (sum_by R f xs))
-
-  -- sums in either order
-  pub sum_by-exchange : {X Y : Type 0} (h : X → Y → R.Carrier) (xs : List X) (ys : List Y)
-      → sum_by R (λ x. sum_by R (λ y. h x y) ys) xs ≡ sum_by R (λ y. sum_by R (λ x. h x y) xs) ys
-  sum_by-exchange h [] ys = sym (sum_by-zero ys)
-  sum_by-exchange h (x ∷ xs) ys = ap (R.add (sum_by R (λ y. h x y) ys)) (sum_by-exchange h xs ys)
-      ∙ sym (sum_by-add (λ y. h x y) (λ y. sum_by R (λ x. h x y) xs) ys)
-
   -- ---- over the numbers below n
 
   pub sum_below-same : (n : ℕ) (f g : ℕ → R.Carrier) → ((k : ℕ) → k < n → f k ≡ g k)

@@ -1,5 +1,5 @@
--- Wrapping loses nothing that fits at the end.
-use Rattle.std.proofs.Common.{◌≡◌, ℕ, sym, ap, ◌∙◌, refl, Bool, List, ℤ, pos, ◌^◌, ◌%◌, lit<}
+-- Results of wrapping operations are exact wherever the integer result fits.
+use Rattle.std.proofs.Common.{◌≡◌, ℕ, sym, ap, ◌∙◌, refl, List, ℤ, pos, ◌^◌, ◌%◌, lit<}
 use Rattle.std.specs.Prelude.{◌+ℤ◌, ◌*ℤ◌}
 use Rattle.std.specs.Int.{Width, cast_signed, int_wrap}
 use Rattle.std.specs.Int.RustNames.{FitsSigned}
@@ -13,7 +13,6 @@ use mir.Syntax.{w8, w16, w32, w64, w128}
 use mir.Val.{bits}
 use Rattle.sparse_algebra.specs.Plain.{Plain, plain_of_triplets, plain_sum, plain_negation}
 use Rattle.sparse_algebra.specs.Plain.{plain_difference, plain_scaled, plain_product}
-use Rattle.sparse_algebra.specs.Plain.{plain_identity, plain_kept}
 use Rattle.sparse_algebra.specs.Residues.{Residue, same_residue}
 use Rattle.sparse_algebra.specs.Wrapping.{wrapping_ring, class_of, class_of_add, class_of_mul}
 use Rattle.sparse_algebra.specs.Wrapping.{unsigned_below, fits_zero}
@@ -23,7 +22,7 @@ use Rattle.sparse_algebra.specs.Whole.{Shows}
 use Rattle.sparse_algebra.proofs.RingLemmas.{neg_unique}
 use Rattle.sparse_algebra.proofs.PlainLemmas.{same_plain}
 use Rattle.sparse_algebra.proofs.RingMapLemmas.{map-triplets, map-sum, map-negation, map-difference}
-use Rattle.sparse_algebra.proofs.RingMapLemmas.{map-scaled, map-product, map-identity, map-kept}
+use Rattle.sparse_algebra.proofs.RingMapLemmas.{map-scaled, map-product}
 
 fits_one : (w : Width) → FitsSigned w (pos 1)
 fits_one w8 = record { sfits = lit< tt }
@@ -113,15 +112,6 @@ module _ (w : Width) where
       (plain_wrapped w a) (plain_wrapped w b)
   wrapped-product = map-product whole_ring (wrapping_ring w) (wrapped w) wrapped-IsRingMap
 
-  pub wrapped-identity : (n : ℕ)
-      → plain_wrapped w (plain_identity whole_ring n) ≡ plain_identity (wrapping_ring w) n
-  wrapped-identity = map-identity whole_ring (wrapping_ring w) (wrapped w) wrapped-IsRingMap
-
-  pub wrapped-kept : (test : ℕ → ℕ → Bool) (a : Plain whole_ring)
-      → plain_wrapped w (plain_kept whole_ring test a) ≡ plain_kept (wrapping_ring w) test
-      (plain_wrapped w a)
-  wrapped-kept = map-kept whole_ring (wrapping_ring w) (wrapped w) wrapped-IsRingMap
-
   -- triplets of scalars that mean the classes of numbers that fit
   pub wrapped-triplets : {T : Type 0} (number : T → ℤ) (rows cols : ℕ) (ts : List (ℕ × ℕ × T))
       → ((x : T) → FitsSigned w (number x))
@@ -167,11 +157,6 @@ module _ (w : Width) where
         (plain_wrapped-numbers b))
 
   module _ (a : Plain (wrapping_ring w)) where
-    pub negation_shows : Shows w (plain_negation (wrapping_ring w) a)
-        (plain_negation whole_ring (plain_numbers w a))
-    negation_shows = wrapped_shows _ _ (wrapped-negation (plain_numbers w a)
-        ∙ ap (plain_negation (wrapping_ring w)) (plain_wrapped-numbers a))
-
     pub scaled_shows : (s : Residue (2 ^ bits w))
         → Shows w (plain_scaled (wrapping_ring w) s a)
         (plain_scaled whole_ring (number_of w s) (plain_numbers w a))

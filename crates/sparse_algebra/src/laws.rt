@@ -11,29 +11,34 @@ use crate::scalar::Ring;
 /// The plain matrix of a list of triplets does not depend on their order.
 pub fn order_law<T: Ring>()
     ensures { (rows cols : ℕ) (xs ys : List (ℕ × ℕ × T))
-        → IsPermutation xs ys → plain_of_triplets T.ring T.value rows cols xs ≡ plain_of_triplets T.ring T.value rows cols ys }
+        → IsPermutation xs ys
+        → plain_of_triplets T.ring T.value rows cols xs ≡ plain_of_triplets T.ring T.value rows cols ys }
 {}
 
 /// Products are associative: `(a * b) * c` and `a * (b * c)` have the same places and the same values.
 pub fn product_associative_law<T: Ring>()
     ensures { (a b c : Plain T.ring)
-        → plain_product T.ring (plain_product T.ring a b) c ≡ plain_product T.ring a (plain_product T.ring b c) }
+        → plain_product T.ring (plain_product T.ring a b) c
+        ≡ plain_product T.ring a (plain_product T.ring b c) }
 {}
 
 /// Products distribute over sums on both sides, in places and values.
 pub fn product_distributes_law<T: Ring>()
     ensures right { (a b c : Plain T.ring)
-        → plain_product T.ring a (plain_sum T.ring b c) ≡ plain_sum T.ring (plain_product T.ring a b) (plain_product T.ring a c) }
+        → plain_product T.ring a (plain_sum T.ring b c)
+        ≡ plain_sum T.ring (plain_product T.ring a b) (plain_product T.ring a c) }
     ensures left { (a b c : Plain T.ring)
         → a.cols ≡ b.cols
-        → plain_product T.ring (plain_sum T.ring a b) c ≡ plain_sum T.ring (plain_product T.ring a c) (plain_product T.ring b c) }
+        → plain_product T.ring (plain_sum T.ring a b) c
+        ≡ plain_sum T.ring (plain_product T.ring a c) (plain_product T.ring b c) }
 {}
 
 /// The transpose of a product is the product of the transposes in reverse order.
 pub fn transpose_product_law<T: Ring>()
     ensures { (a b : Plain T.ring)
         → a.cols ≡ b.rows
-        → plain_transpose T.ring (plain_product T.ring a b) ≡ plain_product T.ring (plain_transpose T.ring b) (plain_transpose T.ring a) }
+        → plain_transpose T.ring (plain_product T.ring a b)
+        ≡ plain_product T.ring (plain_transpose T.ring b) (plain_transpose T.ring a) }
 {}
 
 /// The transpose of the transpose of a matrix is the matrix itself.

@@ -39,16 +39,6 @@ module _ {T : Type 0} where
     pub parts : (n m : ℕ) → AreParts n m is0 js0 vs0 → r + d.nrows ≤ n → c + d.ncols ≤ m
         → AreParts n m is js vs
 
-  pub none_pushed : (r c : ℕ) (d : Dense T) (is js : List ℕ) (vs : List T) → length is ≡ length vs
-      → length js ≡ length vs → IsPushed r c d is js vs 0 0 is js vs
-  none_pushed r c d is js vs rows cols = record {
-    row_count = rows;
-    col_count = cols;
-    triplets = sym (append-nil _);
-    parts =
-        λ n m parts _ _. parts;
-  }
-
   at_place : (r c : ℕ) (d : Dense T) (j i : ℕ) (v : T) → j * d.nrows + i < length d.values
       → v ≡ value_at d i j v → triplet_at r c d j i ≡ (r + i, c + j, v) ∷ []
   at_place r c d j i v within is = rw (slice_get_read d.values (length d.values) (j * d.nrows + i) v
@@ -96,13 +86,6 @@ module _ {T : Type 0} where
         (sym (append-nil _ ∙ flat_map-next (λ j. flat_map (triplet_at r c d j) (below d.nrows)) j));
     parts = pushed.parts;
   }
-
-  pub all_pushed : (r c : ℕ) (d : Dense T) (is0 js0 : List ℕ) (vs0 : List T) (is js : List ℕ)
-      (vs : List T)
-      → IsPushed r c d is0 js0 vs0 d.ncols 0 is js vs → zip_triplets is js vs ≡ zip_triplets is0 js0
-      vs0 ++ block_triplets r c d
-  all_pushed r c d is0 js0 vs0 is js vs pushed = pushed.triplets
-      ∙ ap (λ l. zip_triplets is0 js0 vs0 ++ l) (append-nil _)
 
   pub empty_block : (r c : ℕ) (d : Dense T) → length d.values ≡ 0 → block_triplets r c d ≡ []
   empty_block r c d none = flat_map-nothing _ (below d.ncols)

@@ -1,10 +1,10 @@
 -- The triplets that three lists give.
-use Rattle.std.proofs.Common.{◌≡◌, ℕ, zero, suc, ◌+◌, ◌<◌, ◌≤◌, List, [], ◌∷◌, ◌++◌, length, take}
-use Rattle.std.proofs.Common.{get_or, map, All, append_assoc, refl, ap, ◌∙◌, sym, arith}
+use Rattle.std.proofs.Common.{◌≡◌, ℕ, zero, suc, ◌+◌, ◌<◌, List, [], ◌∷◌, ◌++◌, length, take}
+use Rattle.std.proofs.Common.{get_or, map, All, refl, ap, sym, ◌∙◌, arith}
 use Rattle.std.proofs.lemmas.Grind.{common_steps}
-use Rattle.std.proofs.lemmas.List.{take_more, take_all}
-use Rattle.std.proofs.lemmas.List.Elements.{All-push, All-get_or}
-use Rattle.sparse_base.specs.Coo.{zip_triplets, AreParts, coo_of, appended}
+use Rattle.std.proofs.lemmas.List.{take_more}
+use Rattle.std.proofs.lemmas.List.Elements.{All-push}
+use Rattle.sparse_base.specs.Coo.{coo_of, zip_triplets, AreParts, IsInside}
 
 module _ {T : Type 0} where
   pub length-triplets : (is js : List ℕ) (vs : List T) → length is ≡ length vs
@@ -37,30 +37,6 @@ module _ {T : Type 0} where
     rows_bounded = All-push (λ i. i < n) is i sound.rows_bounded row;
     cols_bounded = All-push (λ j. j < m) js j sound.cols_bounded col;
   }
-
-  pub triplets_more : (n m : ℕ) (is js : List ℕ) (vs : List T) (base ts : List (ℕ × ℕ × T)) (k : ℕ)
-      (x : ℕ × ℕ × T)
-      → AreParts n m is js vs → zip_triplets is js vs ≡ base ++ take k ts → k < length ts
-      → x ≡ get_or ts k x
-      → zip_triplets (is ++ x.0 ∷ []) (js ++ x.1 ∷ []) (vs ++ x.2 ∷ []) ≡ base ++ take (k + 1) ts
-  triplets_more n m is js vs base ts k x sound so_far lt is_at =
-      let more : take (k + 1) ts ≡ take k ts ++ x ∷ [] = grind (arith, common_steps) in
-      triplets-push is js vs x.0 x.1 x.2 sound.row_count sound.col_count
-      ∙ ap (λ l. l ++ x ∷ []) so_far ∙ append_assoc base (take k ts) (x ∷ [])
-      ∙ ap (λ l. base ++ l) (sym more)
-
-  pub item_in_bounds : (n m : ℕ) (ts : List (ℕ × ℕ × T)) (k : ℕ) (x : ℕ × ℕ × T)
-      → All (λ t. (t.0 < n) × (t.1 < m)) ts → k < length ts → x ≡ get_or ts k x
-      → (x.0 < n) × (x.1 < m)
-  item_in_bounds n m ts k x all lt is_at =
-      rw is_at (All-get_or (λ t. (t.0 < n) × (t.1 < m)) ts k x lt all)
-
-  pub all_pushed : (nrows ncols n m k : ℕ) (triplets base ts : List (ℕ × ℕ × T)) → n ≡ nrows
-      → m ≡ ncols → triplets ≡ base ++ take k ts → length ts ≤ k
-      → coo_of n m triplets ≡ appended (coo_of nrows ncols base) ts
-  all_pushed nrows ncols n m k triplets base ts rows cols so_far all =
-      let whole : take k ts ≡ ts = take_all k ts all in
-      rw (rows, cols, so_far, whole) refl
 
 module _ {T : Type 0} where
   pub row_at : (is js : List ℕ) (vs : List T) (k : ℕ) (t : ℕ × ℕ × T) → length is ≡ length vs
@@ -130,3 +106,18 @@ module _ {T : Type 0} where
   values-zip (i ∷ is) [] (v ∷ vs) e f = absurd (omega arith)
   values-zip (i ∷ is) (j ∷ js) (v ∷ vs) e f =
       ap (λ l. v ∷ l) (values-zip is js vs (omega arith) (omega arith))
+
+  -- the same of the parts of a matrix
+  module _ {nrows ncols : ℕ} {is js : List ℕ} {vs : List T} where
+    pub rows_back : AreParts nrows ncols is js vs → is ≡ map (λ t. t.0) (zip_triplets is js vs)
+    rows_back parts = sym (rows-zip is js vs parts.row_count parts.col_count)
+
+    pub cols_back : AreParts nrows ncols is js vs → js ≡ map (λ t. t.1) (zip_triplets is js vs)
+    cols_back parts = sym (cols-zip is js vs parts.row_count parts.col_count)
+
+    pub values_back : AreParts nrows ncols is js vs → vs ≡ map (λ t. t.2) (zip_triplets is js vs)
+    values_back parts = sym (values-zip is js vs parts.row_count parts.col_count)
+
+    pub parts_inside : AreParts nrows ncols is js vs
+        → IsInside (coo_of nrows ncols (zip_triplets is js vs))
+    parts_inside = bounded nrows ncols is js vs

@@ -48,9 +48,11 @@ impl<T> Model for CooMatrix<T> {
 
     ghost use Rattle.sparse_base.specs.Coo.{AreParts};
 
-    ghost view = { λ m. coo_of m.nrows m.ncols (zip_triplets m.row_indices.items m.col_indices.items m.values.items) };
+    ghost view = { λ m. coo_of m.nrows m.ncols
+        (zip_triplets m.row_indices.items m.col_indices.items m.values.items) };
 
-    ghost invariant = { λ m. AreParts m.nrows m.ncols m.row_indices.items m.col_indices.items m.values.items };
+    ghost invariant = { λ m. AreParts m.nrows m.ncols m.row_indices.items m.col_indices.items
+        m.values.items };
 }
 
 impl<T> CooMatrix<T> {
@@ -114,9 +116,12 @@ impl<T> CooMatrix<T> {
     ) -> Result<Self, SparseFormatError>
     where
         T: Drop,
-        ensures ok { IfOk result (λ m. m ≡ coo_of nrows ncols (zip_triplets row_indices.items col_indices.items values.items)) }
-        ensures valid { OnOk result (AreParts nrows ncols row_indices.items col_indices.items values.items) }
-        ensures fault { IfErr result (IsFirstTripletFault nrows ncols row_indices.items col_indices.items (length values.items)) }
+        ensures ok { IfOk result (λ m. m ≡ coo_of nrows ncols
+            (zip_triplets row_indices.items col_indices.items values.items)) }
+        ensures valid { OnOk result
+            (AreParts nrows ncols row_indices.items col_indices.items values.items) }
+        ensures fault { IfErr result (IsFirstTripletFault nrows ncols
+            row_indices.items col_indices.items (length values.items)) }
         ensures taken { AreParts nrows ncols row_indices.items col_indices.items values.items
             → IsOk result }
     {

@@ -74,7 +74,8 @@ impl<T: Copy> DMatrix<T> {
     ) -> Result<Self, AllocError>
         requires { length values.now ≡ nrows * ncols }
         ensures exact { IfOk result (λ d. d ≡ dense_of nrows ncols values.now) }
-        ensures values { IfOk result (HasValues nrows ncols (λ i j z. slice_index_or values.now (j * nrows + i) z)) }
+        ensures values { IfOk result (HasValues nrows ncols
+            (λ i j z. slice_index_or values.now (j * nrows + i) z)) }
     {
         Ok(DMatrix {
             nrows,
@@ -93,7 +94,8 @@ impl<T: Copy> DMatrix<T> {
         values: &[T],
     ) -> Result<Self, AllocError>
         requires { length values.now ≡ nrows * ncols }
-        ensures { IfOk result (HasValues nrows ncols (λ i j z. slice_index_or values.now (i * ncols + j) z)) }
+        ensures { IfOk result (HasValues nrows ncols
+            (λ i j z. slice_index_or values.now (i * ncols + j) z)) }
     {
         Ok(DMatrix {
             nrows,
@@ -227,7 +229,8 @@ impl<T> DMatrix<T> {
             (first * self.old.nrows + count * self.old.nrows) }
         ensures rows { length result.now ≡ count * self.old.nrows }
         ensures values { (i j : ℕ) (z : T) → i < self.old.nrows → j < count
-            → slice_index_or result.now (j * self.old.nrows + i) z ≡ value_at self.old i (first + j) z }
+            → slice_index_or result.now (j * self.old.nrows + i) z
+            ≡ value_at self.old i (first + j) z }
     {
         let start = first * self.nrows;
         self.values.slice_mut(start..start + count * self.nrows)
@@ -284,7 +287,8 @@ fn column_by_column<T: Copy>(
 ) -> Result<Vec<T>, AllocError>
     requires { length rows.now ≡ nrows * ncols }
     ensures { IfOk result (λ columns.
-        HasValues nrows ncols (λ i j z. slice_index_or rows.now (i * ncols + j) z) (dense_of nrows ncols columns.items)) }
+        HasValues nrows ncols (λ i j z. slice_index_or rows.now (i * ncols + j) z)
+        (dense_of nrows ncols columns.items)) }
 {
     let mut columns = Vec::with_capacity(alloc, rows.len())?;
     if rows.is_empty() {

@@ -5,7 +5,7 @@ ghost use base.Fml.{ftrue};
 
 use std::marker::Model;
 
-// A number that contracts read and a program doesn't. It has no bytes.
+// A number that only contracts read. It has no bytes.
 #[derive(Drop)]
 struct Count {
     ghost number: { ℕ },

@@ -19,7 +19,7 @@ pub struct CscData<T> {
     pub nrows: usize,
     /// The number of columns.
     pub ncols: usize,
-    /// Where each column begins in the rows, and then their number.
+    /// The offset of the first place of each column, followed by the number of places.
     pub col_offsets: Vec<usize>,
     /// The rows of the stored places, column after column.
     pub row_indices: Vec<usize>,

@@ -19,7 +19,7 @@ pub struct CsrData<T> {
     pub nrows: usize,
     /// The number of columns.
     pub ncols: usize,
-    /// Where each row begins in the columns, and then their number.
+    /// The offset of the first place of each row, followed by the number of places.
     pub row_offsets: Vec<usize>,
     /// The columns of the stored places, row after row.
     pub col_indices: Vec<usize>,

@@ -18,7 +18,7 @@ pub struct PatternData {
     pub major_dim: usize,
     /// The number of possible minor indices.
     pub minor_dim: usize,
-    /// Where each lane begins in the indices, and then their number.
+    /// The offset of the first index of each lane, followed by the number of indices.
     pub major_offsets: Vec<usize>,
     /// The indices of all lanes, lane after lane.
     pub minor_indices: Vec<usize>,

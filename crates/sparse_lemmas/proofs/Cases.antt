@@ -52,10 +52,6 @@ pub or_cases : (b c : Bool) → (b || c) ≡ true → (b ≡ true) ⊎ (c ≡ tr
 or_cases true c h = inl refl
 or_cases false c h = inr h
 
-pub or_second : (b c : Bool) → b ≡ false → (b || c) ≡ true → c ≡ true
-or_second true c h k = cc
-or_second false c h k = k
-
 pub or_left : (b c : Bool) → b ≡ true → (b || c) ≡ true
 or_left true c h = refl
 or_left false c h = cc

@@ -1,6 +1,6 @@
 -- The pairs of valid data rise in lane order.
-use Rattle.std.proofs.Common.{◌≡◌, ℕ, zero, suc, ◌+◌, ◌-◌, ◌<◌, ◌≤◌, ◌⊎◌, inl, inr, ◌↔◌, List}
-use Rattle.std.proofs.Common.{length, get_or, ap, subst, refl, sym, arith, length-append}
+use Rattle.std.proofs.Common.{◌≡◌, ℕ, zero, suc, ◌+◌, ◌-◌, ◌<◌, ◌≤◌, inl, inr, List}
+use Rattle.std.proofs.Common.{length, get_or, refl, arith, length-append}
 use Rattle.std.specs.Prelude.{AllPairs}
 use Rattle.std.proofs.lemmas.List.{get_or-map, get_or_append_left, get_or-append_right}
 use Rattle.sparse_lemmas.proofs.Cases.{lt_or_ge}

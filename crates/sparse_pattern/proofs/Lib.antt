@@ -1,4 +1,5 @@
 pub mod PatternLanes
+pub mod LanePositions
 pub mod Positions
 mod EntryOrder
 pub mod LaneOrder
@@ -6,6 +7,7 @@ pub mod SamePlaces
 pub mod NextEntry
 pub mod PackedWords
 pub mod FirstFaults
+pub mod ListedTransposes
 pub mod PatternTransposes
 pub mod PlacedValues
 pub mod LaneLists

@@ -1,22 +1,22 @@
--- What the private passes that look for a fault of a pattern find in one lane.
+-- The faults of one lane, as the private passes of the pattern check find them.
 use Rattle.std.specs.Prelude.{◌≡◌, ℕ, ◌-◌, ◌<◌, ◌≤◌, ◌⊎◌, List, slice_index}
 use Rattle.sparse_pattern.specs.declared.pattern.faults.SparsityPatternFormatError.{SparsityPatternFormatError}
 use Rattle.sparse_pattern.specs.declared.pattern.faults.SparsityPatternFormatError.TheVariants.{MinorIndexOutOfBounds}
 use Rattle.sparse_pattern.specs.declared.pattern.faults.SparsityPatternFormatError.TheVariants.{DuplicateEntry}
 use Rattle.sparse_pattern.specs.declared.pattern.faults.SparsityPatternFormatError.TheVariants.{NonmonotonicMinorIndices}
 
--- the indices from start to end lie below the minor size and rise
+-- the indices from start to end are less than the minor dimension and strictly increasing
 pub record IsRisingBelow (minor_dim : ℕ) (indices : List ℕ) (start end : ℕ) : Type 0 where
   pub bounded : (p : ℕ) → start ≤ p → p < end → slice_index indices p < minor_dim
   pub rising : (p : ℕ) → start < p → p < end → slice_index indices (p - 1) < slice_index indices p
 
--- an index that doesn't rise above the one before it
+-- an index that is not greater than the one before it
 abbrev pub IsBadOrder : ℕ → ℕ → SparsityPatternFormatError → Type 0
 IsBadOrder before index e = ((e ≡ NonmonotonicMinorIndices) × (index < before))
     ⊎ ((e ≡ DuplicateEntry) × (index ≡ before))
 
--- the index at position p of a lane from start on lies past the minor size, or doesn't rise above
--- the one before it
+-- the index at position p of a lane that begins at start is out of bounds, or not greater than the
+-- one before it
 abbrev pub IsBadAt : ℕ → List ℕ → ℕ → ℕ → SparsityPatternFormatError → Type 0
 IsBadAt minor_dim indices start p e =
     ((e ≡ MinorIndexOutOfBounds) × (minor_dim ≤ slice_index indices p))

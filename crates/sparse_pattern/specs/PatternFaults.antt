@@ -13,8 +13,7 @@ use Rattle.sparse_pattern.specs.declared.error.SparseFormatErrorKind as kinds
 use Rattle.sparse_pattern.specs.declared.error.SparseFormatErrorKind.TheVariants as variants
 
 -- where a fault can occur: the number of offsets, the first and the last offset, the end of a lane,
--- and an index, first
--- compared with its bound and then with the index before it
+-- and an index, first compared with its bound and then with the index before it
 pub data Spot : Type 0 where
   OffsetCount : Spot
   FirstLast : Spot

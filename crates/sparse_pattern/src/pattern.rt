@@ -42,9 +42,11 @@ impl Model for SparsityPattern {
 
     ghost Value = { Raw };
 
-    ghost view = { λ p. raw_of (length p.major_offsets.items - 1) p.minor_dim p.major_offsets.items p.minor_indices.items };
+    ghost view = { λ p. raw_of (length p.major_offsets.items - 1) p.minor_dim
+        p.major_offsets.items p.minor_indices.items };
 
-    ghost invariant = { λ p. IsValid (raw_of (length p.major_offsets.items - 1) p.minor_dim p.major_offsets.items p.minor_indices.items) };
+    ghost invariant = { λ p. IsValid (raw_of (length p.major_offsets.items - 1) p.minor_dim
+        p.major_offsets.items p.minor_indices.items) };
 }
 
 impl SparsityPattern {
@@ -88,9 +90,12 @@ impl SparsityPattern {
         major_offsets: Vec<usize>,
         minor_indices: Vec<usize>,
     ) -> Result<Self, SparsityPatternFormatError>
-        ensures ok { IfOk result (λ p. p ≡ raw_of major_dim minor_dim major_offsets.items minor_indices.items) }
-        ensures valid { OnOk result (IsValid (raw_of major_dim minor_dim major_offsets.items minor_indices.items)) }
-        ensures fault { IfErr result (IsFirstFault (raw_of major_dim minor_dim major_offsets.items minor_indices.items)) }
+        ensures ok { IfOk result (λ p. p
+            ≡ raw_of major_dim minor_dim major_offsets.items minor_indices.items) }
+        ensures valid { OnOk result (IsValid
+            (raw_of major_dim minor_dim major_offsets.items minor_indices.items)) }
+        ensures fault { IfErr result (IsFirstFault
+            (raw_of major_dim minor_dim major_offsets.items minor_indices.items)) }
         ensures taken { IsValid (raw_of major_dim minor_dim major_offsets.items minor_indices.items)
             → IsOk result }
     {

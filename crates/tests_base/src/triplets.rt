@@ -179,7 +179,7 @@ fn reserved_triplets_are_pushed_without_growth(rt: HostRuntime) -> Result<(), Fa
     Ok(())
 }
 
-// Out of memory is no answer of a long list.
+// A long list does not run out of memory.
 #[test]
 fn a_long_list_is_pushed_and_copied(rt: HostRuntime) -> Result<(), Fail> {
     let mut matrix = CooMatrix::new(rt.alloc(), 1, 1);

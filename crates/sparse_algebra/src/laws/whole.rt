@@ -37,21 +37,28 @@ pub fn wrapped_matrix_law()
         → plain_wrapped w64 (plain_of_triplets whole_ring w64_number rows cols ts)
         ≡ plain_of_triplets (wrapping_ring w64) (λ x. class_of w64 (w64_number x)) rows cols ts }
     ensures sum { (w : Width) (a b : Plain whole_ring)
-        → plain_wrapped w (plain_sum whole_ring a b) ≡ plain_sum (wrapping_ring w) (plain_wrapped w a) (plain_wrapped w b) }
+        → plain_wrapped w (plain_sum whole_ring a b)
+        ≡ plain_sum (wrapping_ring w) (plain_wrapped w a) (plain_wrapped w b) }
     ensures negation { (w : Width) (a : Plain whole_ring)
-        → plain_wrapped w (plain_negation whole_ring a) ≡ plain_negation (wrapping_ring w) (plain_wrapped w a) }
+        → plain_wrapped w (plain_negation whole_ring a)
+        ≡ plain_negation (wrapping_ring w) (plain_wrapped w a) }
     ensures difference { (w : Width) (a b : Plain whole_ring)
-        → plain_wrapped w (plain_difference whole_ring a b) ≡ plain_difference (wrapping_ring w) (plain_wrapped w a) (plain_wrapped w b) }
+        → plain_wrapped w (plain_difference whole_ring a b)
+        ≡ plain_difference (wrapping_ring w) (plain_wrapped w a) (plain_wrapped w b) }
     ensures scaled { (w : Width) (s : ℤ) (a : Plain whole_ring)
-        → plain_wrapped w (plain_scaled whole_ring s a) ≡ plain_scaled (wrapping_ring w) (wrapped w s) (plain_wrapped w a) }
+        → plain_wrapped w (plain_scaled whole_ring s a)
+        ≡ plain_scaled (wrapping_ring w) (wrapped w s) (plain_wrapped w a) }
     ensures product { (w : Width) (a b : Plain whole_ring)
-        → plain_wrapped w (plain_product whole_ring a b) ≡ plain_product (wrapping_ring w) (plain_wrapped w a) (plain_wrapped w b) }
+        → plain_wrapped w (plain_product whole_ring a b)
+        ≡ plain_product (wrapping_ring w) (plain_wrapped w a) (plain_wrapped w b) }
     ensures transpose { (w : Width) (a : Plain whole_ring)
-        → plain_wrapped w (plain_transpose whole_ring a) ≡ plain_transpose (wrapping_ring w) (plain_wrapped w a) }
+        → plain_wrapped w (plain_transpose whole_ring a)
+        ≡ plain_transpose (wrapping_ring w) (plain_wrapped w a) }
     ensures identity { (w : Width) (n : ℕ)
         → plain_wrapped w (plain_identity whole_ring n) ≡ plain_identity (wrapping_ring w) n }
     ensures kept { (w : Width) (test : ℕ → ℕ → Bool) (a : Plain whole_ring)
-        → plain_wrapped w (plain_kept whole_ring test a) ≡ plain_kept (wrapping_ring w) test (plain_wrapped w a) }
+        → plain_wrapped w (plain_kept whole_ring test a)
+        ≡ plain_kept (wrapping_ring w) test (plain_wrapped w a) }
 {}
 
 /// If an entry of the integer result fits the signed range, the wrapping result has exactly that entry, even if partial sums overflow.
@@ -59,20 +66,27 @@ pub fn wrapped_matrix_law()
 /// The integer entry of a product is the sum of products; that of a list of triplets is the sum over the triplets at that pair.
 pub fn whole_entry_law()
     ensures w32_triplets { (rows cols : ℕ) (ts : List (ℕ × ℕ × W32))
-        → Shows w32 (plain_of_triplets (wrapping_ring w32) (λ x. class_of w32 (w32_number x)) rows cols ts)
+        → Shows w32 (plain_of_triplets (wrapping_ring w32)
+        (λ x. class_of w32 (w32_number x)) rows cols ts)
         (plain_of_triplets whole_ring w32_number rows cols ts) }
     ensures w64_triplets { (rows cols : ℕ) (ts : List (ℕ × ℕ × W64))
-        → Shows w64 (plain_of_triplets (wrapping_ring w64) (λ x. class_of w64 (w64_number x)) rows cols ts)
+        → Shows w64 (plain_of_triplets (wrapping_ring w64)
+        (λ x. class_of w64 (w64_number x)) rows cols ts)
         (plain_of_triplets whole_ring w64_number rows cols ts) }
     ensures sum { (w : Width) (a b : Plain (wrapping_ring w))
-        → Shows w (plain_sum (wrapping_ring w) a b) (plain_sum whole_ring (plain_numbers w a) (plain_numbers w b)) }
+        → Shows w (plain_sum (wrapping_ring w) a b)
+        (plain_sum whole_ring (plain_numbers w a) (plain_numbers w b)) }
     ensures negation { (w : Width) (a : Plain (wrapping_ring w))
-        → Shows w (plain_negation (wrapping_ring w) a) (plain_negation whole_ring (plain_numbers w a)) }
+        → Shows w (plain_negation (wrapping_ring w) a)
+        (plain_negation whole_ring (plain_numbers w a)) }
     ensures difference { (w : Width) (a b : Plain (wrapping_ring w))
-        → Shows w (plain_difference (wrapping_ring w) a b) (plain_difference whole_ring (plain_numbers w a) (plain_numbers w b)) }
+        → Shows w (plain_difference (wrapping_ring w) a b)
+        (plain_difference whole_ring (plain_numbers w a) (plain_numbers w b)) }
     ensures scaled { (w : Width) (s : (wrapping_ring w).Carrier) (a : Plain (wrapping_ring w))
-        → Shows w (plain_scaled (wrapping_ring w) s a) (plain_scaled whole_ring (number_of w s) (plain_numbers w a)) }
+        → Shows w (plain_scaled (wrapping_ring w) s a)
+        (plain_scaled whole_ring (number_of w s) (plain_numbers w a)) }
     ensures product { (w : Width) (a b : Plain (wrapping_ring w))
-        → Shows w (plain_product (wrapping_ring w) a b) (plain_product whole_ring (plain_numbers w a) (plain_numbers w b)) }
+        → Shows w (plain_product (wrapping_ring w) a b)
+        (plain_product whole_ring (plain_numbers w a) (plain_numbers w b)) }
     ensures from_whole { (w : Width) (z : Plain whole_ring) → Shows w (plain_wrapped w z) z }
 {}

@@ -30,7 +30,8 @@ impl<T> CooMatrix<T> {
         T: Drop,
         requires can { I.can_next triplets }
         requires ends { IsFinite (I.remaining triplets) }
-        ensures ok { IfOk result (λ m. WholeRun I.next_gives triplets (λ run. m ≡ coo_of nrows ncols run.items)) }
+        ensures ok { IfOk result (λ m. WholeRun I.next_gives triplets
+            (λ run. m ≡ coo_of nrows ncols run.items)) }
         ensures inside { IfOk result IsInside }
         ensures kinds { IfErr result (λ e. (e ≡ OutOfMemory) ⊎ (e ≡ IndexOutOfBounds)) }
         ensures outside { IfErr result (λ e. e ≡ IndexOutOfBounds
@@ -48,7 +49,8 @@ fn split_triplets<T: Drop, I: Iterator<Item = (usize, usize, T)>>(
 ) -> Result<(Vec<usize>, Vec<usize>, Vec<T>), AllocError>
     requires can { I.can_next triplets }
     requires ends { IsFinite (I.remaining triplets) }
-    ensures { IfOk result (λ parts. WholeRun I.next_gives triplets (λ run. (parts.0.items ≡ map (λ t. t.0) run.items)
+    ensures { IfOk result (λ parts. WholeRun I.next_gives triplets (λ run.
+        (parts.0.items ≡ map (λ t. t.0) run.items)
         × (parts.1.items ≡ map (λ t. t.1) run.items)
         × (parts.2.items ≡ map (λ t. t.2) run.items))) }
 {

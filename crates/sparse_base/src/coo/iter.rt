@@ -69,7 +69,8 @@ impl<'a, T> Model for CooTripletIter<'a, T> {
 
     ghost view = { λ it. zip_triplets it.rows.now it.cols.now it.values.now };
 
-    ghost invariant = { λ it. (length it.rows.now ≡ length it.values.now) × (length it.cols.now ≡ length it.values.now) };
+    ghost invariant = { λ it. (length it.rows.now ≡ length it.values.now)
+        × (length it.cols.now ≡ length it.values.now) };
 }
 
 impl<'a, T> Iterator for CooTripletIter<'a, T> {

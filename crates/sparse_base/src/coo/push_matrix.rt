@@ -70,9 +70,11 @@ fn push_block<T: Copy>(
     requires row_count { length rows.old.items ≡ length values.old.items }
     requires col_count { length cols.old.items ≡ length values.old.items }
     ensures triplets { zip_triplets rows.new.items cols.new.items values.new.items
-        ≡ zip_triplets rows.old.items cols.old.items values.old.items ++ block_triplets r c matrix.now }
+        ≡ zip_triplets rows.old.items cols.old.items values.old.items
+        ++ block_triplets r c matrix.now }
     ensures parts { (n m : ℕ) → AreParts n m rows.old.items cols.old.items values.old.items
-        → r + matrix.now.nrows ≤ n → c + matrix.now.ncols ≤ m → AreParts n m rows.new.items cols.new.items values.new.items }
+        → r + matrix.now.nrows ≤ n → c + matrix.now.ncols ≤ m
+        → AreParts n m rows.new.items cols.new.items values.new.items }
 {
     for j in 0..matrix.ncols() {
         for (i, value) in matrix.column(j).iter().enumerate() {

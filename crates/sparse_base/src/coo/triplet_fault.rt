@@ -17,7 +17,7 @@ pub(super) enum TripletFault {
 }
 
 impl TripletFault {
-    // The error that reports the fault.
+    // Returns the error that reports the fault.
     pub(super) fn error(self) -> SparseFormatError
         ensures { result ≡ triplet_kind (spot_of self) }
     {
@@ -43,7 +43,7 @@ impl TripletFault {
     }
 }
 
-// The first fault of rows, columns and a number of values, or `None` for the parts of a matrix.
+// Returns the first fault of the rows, the columns and the number of values, or `None` if they describe a matrix.
 pub(super) fn first_fault(
     nrows: usize,
     ncols: usize,
@@ -53,7 +53,8 @@ pub(super) fn first_fault(
 ) -> Option<TripletFault>
     ensures fault { IfSome result (λ fault. IsFirst triplet_rank
         (HasTripletFault nrows ncols rows.now cols.now count) (spot_of fault)) }
-    ensures counts { IsNone result → (length rows.now ≡ length cols.now) × (length cols.now ≡ count) }
+    ensures counts { IsNone result
+        → (length rows.now ≡ length cols.now) × (length cols.now ≡ count) }
     ensures bounds { IsNone result → All (λ i. i < nrows) rows.now × All (λ j. j < ncols) cols.now }
 {
     if rows.len() != cols.len() {
@@ -71,9 +72,10 @@ pub(super) fn first_fault(
     None
 }
 
-// Whether each index lies below the bound.
+// Returns whether each index is less than the bound.
 fn all_below(indices: &[usize], bound: usize) -> bool
-    ensures { MatchBool result (All (λ i. i < bound) indices.now) (Any (λ i. bound ≤ i) indices.now) }
+    ensures { MatchBool result (All (λ i. i < bound) indices.now)
+        (Any (λ i. bound ≤ i) indices.now) }
 {
     indices.iter().all(|&index| index < bound)
 }

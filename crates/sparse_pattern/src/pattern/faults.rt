@@ -28,7 +28,7 @@ pub enum SparsityPatternFormatError {
 }
 
 impl SparsityPatternFormatError {
-    // The kind of the error that a matrix with such data is refused by.
+    // Returns the kind of the error that reports this fault in the data of a matrix.
     pub(crate) fn kind(self) -> SparseFormatErrorKind
         ensures { result ≡ kind_of self }
     {
@@ -44,7 +44,7 @@ impl SparsityPatternFormatError {
         }
     }
 
-    // The text of the error.
+    // Returns the message of the error.
     pub(crate) fn message(self) -> &'static str {
         match self {
             SparsityPatternFormatError::InvalidOffsetArrayLength =>
@@ -67,7 +67,7 @@ pub fn one_first_fault()
         → e ≡ f }
 {}
 
-// Answers the first fault of the data, in one pass and without memory.
+// Returns the first fault of the data. One pass over the offsets and the indices; allocates nothing.
 pub(super) fn check(
     major_dim: usize,
     minor_dim: usize,
@@ -75,7 +75,8 @@ pub(super) fn check(
     indices: &[usize],
 ) -> Result<(), SparsityPatternFormatError>
     ensures ok { OnOk result (IsValid (raw_of major_dim minor_dim offsets.now indices.now)) }
-    ensures fault { IfErr result (IsFirstFault (raw_of major_dim minor_dim offsets.now indices.now)) }
+    ensures fault { IfErr result (IsFirstFault
+        (raw_of major_dim minor_dim offsets.now indices.now)) }
 {
     if major_dim == usize::MAX || offsets.len() != major_dim + 1 {
         return Err(SparsityPatternFormatError::InvalidOffsetArrayLength);
@@ -94,7 +95,7 @@ pub(super) fn check(
     Ok(())
 }
 
-// Answers the first fault among the indices of one lane.
+// Returns the first fault among the indices of one lane.
 fn check_lane(
     minor_dim: usize,
     indices: &[usize],
@@ -117,7 +118,7 @@ fn check_lane(
     Ok(())
 }
 
-// Whether an index rises above the one before it.
+// Checks that an index is greater than the one before it.
 fn check_order(before: usize, index: usize) -> Result<(), SparsityPatternFormatError>
     ensures ok { OnOk result (before < index) }
     ensures fault { IfErr result (IsBadOrder before index) }

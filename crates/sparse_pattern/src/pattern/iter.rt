@@ -52,7 +52,8 @@ impl<'a> Model for SparsityPatternIter<'a> {
 
     ghost Value = { List (ℕ × ℕ) };
 
-    ghost view = { λ it. rest_of it.major_offsets.now it.minor_indices.now it.current_lane it.remaining.now };
+    ghost view = { λ it. rest_of it.major_offsets.now it.minor_indices.now it.current_lane
+        it.remaining.now };
 
     ghost invariant = { λ it. IsOrderedOffsets it.major_offsets.now it.minor_indices.now };
 }

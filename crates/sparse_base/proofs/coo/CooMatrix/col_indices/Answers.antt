@@ -1,16 +1,9 @@
-use Rattle.std.proofs.Common.{sym, ◌∙◌}
-use Rattle.sparse_base.proofs.TripletLists.{bounded, cols-zip}
+use Rattle.std.proofs.Common.{◌∙◌}
+use Rattle.sparse_base.proofs.TripletLists.{cols_back, parts_inside}
 use Rattle.sparse_base.proofs.coo.CooMatrix.col_indices.Goals as goal
 
 pub returns-clause-cols : goal.returns-clause-cols
-returns-clause-cols g c =
-    let m = c.self.inside in
-    rw (← c.self.view_is) (c.deref.ensures.value
-    ∙ sym (cols-zip m.row_indices.items m.col_indices.items m.values.items
-    c.self.invariant.row_count c.self.invariant.col_count))
+returns-clause-cols g c = rw (← c.self.view_is) (c.deref.ensures.value ∙ cols_back c.self.invariant)
 
 pub returns-clause-inside : goal.returns-clause-inside
-returns-clause-inside g c =
-    let m = c.self.inside in
-    rw (← c.self.view_is) (bounded m.nrows m.ncols m.row_indices.items m.col_indices.items
-    m.values.items c.self.invariant)
+returns-clause-inside g c = rw (← c.self.view_is) (parts_inside c.self.invariant)

@@ -1,30 +1,14 @@
-use Rattle.std.proofs.Common.{sym}
-use Rattle.sparse_base.proofs.TripletLists.{bounded, rows-zip, cols-zip, values-zip}
+use Rattle.sparse_base.proofs.TripletLists.{rows_back, cols_back, values_back, parts_inside}
 use Rattle.sparse_base.proofs.coo.CooMatrix.disassemble.Goals as goal
 
 pub returns-clause-rows : goal.returns-clause-rows
-returns-clause-rows g c =
-    let m = c.self.inside in
-    rw (← c.self.view_is)
-    (sym (rows-zip m.row_indices.items m.col_indices.items m.values.items
-    c.self.invariant.row_count c.self.invariant.col_count))
+returns-clause-rows g c = rw (← c.self.view_is) (rows_back c.self.invariant)
 
 pub returns-clause-cols : goal.returns-clause-cols
-returns-clause-cols g c =
-    let m = c.self.inside in
-    rw (← c.self.view_is)
-    (sym (cols-zip m.row_indices.items m.col_indices.items m.values.items
-    c.self.invariant.row_count c.self.invariant.col_count))
+returns-clause-cols g c = rw (← c.self.view_is) (cols_back c.self.invariant)
 
 pub returns-clause-values : goal.returns-clause-values
-returns-clause-values g c =
-    let m = c.self.inside in
-    rw (← c.self.view_is)
-    (sym (values-zip m.row_indices.items m.col_indices.items m.values.items
-    c.self.invariant.row_count c.self.invariant.col_count))
+returns-clause-values g c = rw (← c.self.view_is) (values_back c.self.invariant)
 
 pub returns-clause-inside : goal.returns-clause-inside
-returns-clause-inside g c =
-    let m = c.self.inside in
-    rw (← c.self.view_is) (bounded m.nrows m.ncols m.row_indices.items m.col_indices.items
-    m.values.items c.self.invariant)
+returns-clause-inside g c = rw (← c.self.view_is) (parts_inside c.self.invariant)

@@ -1,16 +1,9 @@
-use Rattle.std.proofs.Common.{sym, ◌∙◌}
-use Rattle.sparse_base.proofs.TripletLists.{bounded, rows-zip}
+use Rattle.std.proofs.Common.{◌∙◌}
+use Rattle.sparse_base.proofs.TripletLists.{rows_back, parts_inside}
 use Rattle.sparse_base.proofs.coo.CooMatrix.row_indices.Goals as goal
 
 pub returns-clause-rows : goal.returns-clause-rows
-returns-clause-rows g c =
-    let m = c.self.inside in
-    rw (← c.self.view_is) (c.deref.ensures.value
-    ∙ sym (rows-zip m.row_indices.items m.col_indices.items m.values.items
-    c.self.invariant.row_count c.self.invariant.col_count))
+returns-clause-rows g c = rw (← c.self.view_is) (c.deref.ensures.value ∙ rows_back c.self.invariant)
 
 pub returns-clause-inside : goal.returns-clause-inside
-returns-clause-inside g c =
-    let m = c.self.inside in
-    rw (← c.self.view_is) (bounded m.nrows m.ncols m.row_indices.items m.col_indices.items
-    m.values.items c.self.invariant)
+returns-clause-inside g c = rw (← c.self.view_is) (parts_inside c.self.invariant)

@@ -1,21 +1,19 @@
 use Rattle.std.proofs.Common.{refl}
 use Rattle.sparse_base.specs.Coo.{zip_triplets}
-use Rattle.sparse_base.proofs.TripletLists.{bounded, rows-zip, cols-zip, values-zip}
+use Rattle.sparse_base.proofs.TripletLists.{parts_inside, rows_back, cols_back, values_back}
 use Rattle.sparse_base.proofs.coo.CooMatrix.triplet_iter_mut.Goals as goal
 
 pub returns : goal.returns
 returns g c =
     let m = c.self.inside in
-    let e = c.self.invariant.row_count in
-    let f = c.self.invariant.col_count in (
+    let parts = c.self.invariant in (
       (
         refl,
         λ w. rw (
           ← c.self.view_is,
-          rows-zip m.row_indices.items m.col_indices.items
-              m.values.items e f,
-          cols-zip m.row_indices.items m.col_indices.items m.values.items e f,
-          values-zip m.row_indices.items m.col_indices.items m.values.items e f,
+          ← rows_back parts,
+          ← cols_back parts,
+          ← values_back parts,
           m.values.ok.0,
         ) refl,
       ),
@@ -28,7 +26,6 @@ returns g c =
           c.deref_mut.ensures.value,
         )
             (refl {a = zip_triplets m.row_indices.items m.col_indices.items m.values.items});
-        inside = rw (← c.self.view_is) (bounded m.nrows m.ncols m.row_indices.items
-            m.col_indices.items m.values.items c.self.invariant);
+        inside = rw (← c.self.view_is) (parts_inside parts);
       },
     )

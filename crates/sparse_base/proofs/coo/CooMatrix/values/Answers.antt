@@ -1,10 +1,6 @@
-use Rattle.std.proofs.Common.{sym, ◌∙◌}
-use Rattle.sparse_base.proofs.TripletLists.{values-zip}
+use Rattle.std.proofs.Common.{◌∙◌}
+use Rattle.sparse_base.proofs.TripletLists.{values_back}
 use Rattle.sparse_base.proofs.coo.CooMatrix.values.Goals as goal
 
 pub returns : goal.returns
-returns g c =
-    let m = c.self.inside in
-    rw (← c.self.view_is) (c.deref.ensures.value
-    ∙ sym (values-zip m.row_indices.items m.col_indices.items m.values.items
-    c.self.invariant.row_count c.self.invariant.col_count))
+returns g c = rw (← c.self.view_is) (c.deref.ensures.value ∙ values_back c.self.invariant)
