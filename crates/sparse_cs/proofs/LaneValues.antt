@@ -21,7 +21,7 @@ use Rattle.sparse_cs.specs.PlainOfLanes.{plain_of_rows}
 use Rattle.sparse_cs.proofs.Arrays.{where_yes, where_no, unnamed, value_at_position, has_is_place}
 use Rattle.sparse_cs.specs.InnerRows.{lane_value}
 use Rattle.sparse_pattern.proofs.LaneLists.{lane_has}
-use Rattle.sparse_cs.proofs.RowSums.{eq_refl, sum_zip_more}
+use Rattle.sparse_cs.proofs.RowSums.{eq_refl}
 
 module _ (R : CommRing) {T : Type 0} (f : T → R.Carrier) where
   yes : (k j : ℕ) (c : R.Carrier) → k ≡ j → where_true R (nat_eq k j) c ≡ c
@@ -159,22 +159,6 @@ module _ (R : CommRing) {T : Type 0} (f : T → R.Carrier) where
       (λ q d lt. within (suc q) d (omega arith)))
 
 module _ (R : CommRing) {T : Type 0} (f : T → R.Carrier) (z : T) where
-  -- one matrix row more, added into the row
-  pub row_step : (b : ℕ → ℕ → R.Carrier) (ks : List ℕ) (vs row start new : List T) (n k : ℕ) (v : T)
-      → n < length ks → n < length vs → k ≡ get_or ks n k → v ≡ get_or vs n v
-      → ((j : ℕ) → j < length row → f (get_or new j z) ≡ R.add (f (get_or row j z))
-      (R.mul (f v) (b k j)))
-      → ((j : ℕ) → j < length row → f (get_or row j z) ≡ R.add (f (get_or start j z))
-      (sum_by R (λ t. R.mul (f t.1) (b t.0 j)) (zip (take n ks) (take n vs))))
-      → (j : ℕ) → j < length row
-      → f (get_or new j z) ≡ R.add (f (get_or start j z))
-      (sum_by R (λ t. R.mul (f t.1) (b t.0 j)) (zip (take (n + 1) ks) (take (n + 1) vs)))
-  row_step b ks vs row start new n k v lt lt' is is' added so_far j j_lt =
-      let term = λ (t : ℕ × T). R.mul (f t.1) (b t.0 j) in
-      added j j_lt ∙ ap (λ x. R.add x (R.mul (f v) (b k j))) (so_far j j_lt)
-      ∙ R.laws.add_assoc _ _ _ ∙ ap (R.add (f (get_or start j z)))
-      (sym (sum_zip_more R term ks vs n k v lt lt' is is'))
-
   -- the sum over row i of a matrix is the sum over all k below its width
   pub row_sum : (a : Compressed T) → IsSound a → (i : ℕ) → i < a.pattern.major_dim
       → (b : ℕ → R.Carrier)

@@ -4,7 +4,7 @@ use Rattle.std.proofs.Common.{List, [], ◌∷◌, ◌++◌, length, get_or, map
 use Rattle.std.proofs.Common.{ap, sym, subst, ◌∙◌, refl, arith, length-append}
 use Rattle.std.specs.Prelude.{if◌then◌else◌}
 use Rattle.std.specs.List.{flat_map}
-use Rattle.std.proofs.lemmas.List.{map-append, length-map, append-nil, append_assoc}
+use Rattle.std.proofs.lemmas.List.{map-append, append-nil, append_assoc}
 use Rattle.std.proofs.lemmas.List.Concat.{flat_map-append}
 use Rattle.std.proofs.lemmas.Grind.{common_steps}
 use Rattle.sparse_lemmas.proofs.Cases.{lt_add_one_cases}
@@ -18,7 +18,6 @@ use Rattle.sparse_pattern.proofs.LaneOrder.{length-entries}
 use Rattle.sparse_cs.specs.Compressed.{Compressed, IsSound, zip_values, lane_triplets}
 use Rattle.sparse_cs.specs.PlainOfLanes.{meant, plain_of_rows}
 use Rattle.sparse_pattern.proofs.Positions.{lane_of_position}
-use Rattle.sparse_cs.proofs.Inside.{length-lane_triplets}
 use Rattle.sparse_cs.proofs.Arrays.{has_is_place, value_at_position, entry_at}
 
 -- ---- the numbers below n that pass a test
@@ -225,8 +224,3 @@ module _ (R : CommRing) {T : Type 0} (f : T → R.Carrier) (m : Compressed T)
       ∙ sym (map-flat_map line (λ i. paired i (lane_of d i)) (below d.major_dim))
       ∙ ap (map line) (sym (entries_from_below d d.major_dim))
       ∙ sym triplets_are_entries
-
-  pub length-row_order-rows : length (row_order R (plain_of_rows R f m)) ≡ length m.values
-  length-row_order-rows = ap length row_order-rows
-      ∙ length-map {B = ℕ × ℕ × R.Carrier} (lane_triplets m) (λ t. (t.0, t.1, f t.2))
-      ∙ length-lane_triplets m sound

@@ -20,7 +20,8 @@ use std::marker::PhantomData;
 pub struct CscColMut<'a, T> {
     nrows: usize,
     row_indices: LaneIndices<'a>,
-    values: &'a mut [T],
+    /// The values of the stored places, in the order of their rows. They are borrowed for as long as the matrix is.
+    pub values: &'a mut [T],
     lent: PhantomData<&'a mut T>,
 }
 

@@ -20,7 +20,8 @@ use std::marker::PhantomData;
 pub struct CsrRowMut<'a, T> {
     ncols: usize,
     col_indices: LaneIndices<'a>,
-    values: &'a mut [T],
+    /// The values of the stored places, in the order of their columns. They are borrowed for as long as the matrix is.
+    pub values: &'a mut [T],
     lent: PhantomData<&'a mut T>,
 }
 

@@ -1,6 +1,8 @@
 //! Writing into a CSC matrix: through entries, columns, slices and iterators.
 
-ghost use Rattle.std.specs.Prelude.{◌<◌};
+ghost use Rattle.std.specs.Prelude.{◌≡◌, ◌<◌, length, slice_set};
+ghost use Rattle.sparse_cs.specs.Lanes.{lane_at};
+ghost use Rattle.sparse_cs.specs.Writing.{with_lane};
 
 use crate::fixtures::{BY_COLUMNS, csc};
 use sparse_forms::csc::{CscColMut, CscMatrix};
@@ -24,15 +26,15 @@ fn write_through_col(matrix: &mut CscMatrix<i32>, row: usize, col: usize, value:
     }
 }
 
-// Writes at a position of a column, where the column has it.
-fn write_in_col(matrix: &mut CscMatrix<i32>, col: usize, position: usize, value: i32)
-    requires { col < matrix.old.pattern.major_dim }
+// What is left after a write at a position of a column: another value there.
+fn write_in_col<T: Copy>(matrix: &mut CscMatrix<T>, col: usize, position: usize, value: T)
+    requires col { col < matrix.old.pattern.major_dim }
+    requires within { position < length (lane_at matrix.old col).values }
+    ensures { matrix.new
+        ≡ with_lane matrix.old col (slice_set (lane_at matrix.old col).values position value) }
 {
-    let mut lent = matrix.col_mut(col);
-    let values = lent.values_mut();
-    if position < values.len() {
-        values[position] = value;
-    }
+    let CscColMut { values, .. } = matrix.col_mut(col);
+    values[position] = value;
 }
 
 // Where a value is written, and the way to it.
@@ -58,7 +60,8 @@ fn write(matrix: &mut CscMatrix<i32>, place: Place, value: i32) {
     match place {
         Place::Entry(row, col) => write_where_stored(matrix, row, col, value),
         Place::EntryOfColumn(row, col) if col < ncols => write_through_col(matrix, row, col, value),
-        Place::PositionInColumn(col, position) if col < ncols => {
+        Place::PositionInColumn(col, position)
+            if col < ncols && position < matrix.col(col).values().len() => {
             write_in_col(matrix, col, position, value)
         }
         _ => {}

@@ -1,8 +1,9 @@
 //! Writing into a CSR matrix: through entries, rows, slices and iterators.
 
-ghost use Rattle.std.specs.Prelude.{◌≡◌, ℕ, ◌<◌, Some, None};
+ghost use Rattle.std.specs.Prelude.{◌≡◌, ℕ, ◌<◌, Some, None, length, slice_set};
+ghost use Rattle.sparse_cs.specs.Lanes.{lane_at};
 ghost use Rattle.sparse_cs.specs.StoredEntries.{IsInBounds, place_of};
-ghost use Rattle.sparse_cs.specs.Writing.{with_value};
+ghost use Rattle.sparse_cs.specs.Writing.{with_value, with_lane};
 
 use crate::fixtures::{BY_ROWS, csr, wrapping_csr};
 use sparse_algebra::scalar::{Ring, W64};
@@ -38,15 +39,15 @@ fn write_where_stored(matrix: &mut CsrMatrix<i32>, row: usize, col: usize, value
     }
 }
 
-// Writes at a position of a row, where the row has it.
-fn write_in_row(matrix: &mut CsrMatrix<i32>, row: usize, position: usize, value: i32)
-    requires { row < matrix.old.pattern.major_dim }
+// What is left after a write at a position of a row: another value there.
+fn write_in_row<T: Copy>(matrix: &mut CsrMatrix<T>, row: usize, position: usize, value: T)
+    requires row { row < matrix.old.pattern.major_dim }
+    requires within { position < length (lane_at matrix.old row).values }
+    ensures { matrix.new
+        ≡ with_lane matrix.old row (slice_set (lane_at matrix.old row).values position value) }
 {
-    let mut lent = matrix.row_mut(row);
-    let values = lent.values_mut();
-    if position < values.len() {
-        values[position] = value;
-    }
+    let CsrRowMut { values, .. } = matrix.row_mut(row);
+    values[position] = value;
 }
 
 // Writes the first value of all, where the first row has two.
@@ -87,7 +88,8 @@ fn write(matrix: &mut CsrMatrix<i32>, place: Place, value: i32) {
             write_entry(matrix, row, col, value)
         }
         Place::EntryOfRow(row, col) if row < nrows => write_through_row(matrix, row, col, value),
-        Place::PositionInRow(row, position) if row < nrows => {
+        Place::PositionInRow(row, position)
+            if row < nrows && position < matrix.row(row).values().len() => {
             write_in_row(matrix, row, position, value)
         }
         _ => {}
