@@ -8,8 +8,8 @@ use Rattle.sparse_lemmas.proofs.Cases.{and_both, and_parts, neither, or_cases, t
 use Rattle.sparse_algebra.specs.Algebra.{CommRing}
 use Rattle.sparse_algebra.specs.Sums.{sum_below, sum_by, where_true}
 use Rattle.sparse_algebra.specs.Plain.{Plain, IsProper, IsWithin, any_below, is_at}
-use Rattle.sparse_algebra.specs.Plain.{plain_of_triplets, plain_sum}
-use Rattle.sparse_algebra.specs.Plain.{plain_scaled, plain_product}
+use Rattle.sparse_algebra.specs.Plain.{plain_of_triplets, plain_sum, plain_negation}
+use Rattle.sparse_algebra.specs.Plain.{plain_difference, plain_scaled, plain_product}
 use Rattle.sparse_algebra.specs.Plain.{plain_transpose, plain_identity, plain_kept}
 use Rattle.sparse_algebra.proofs.RingLemmas.{zero_add, mul_zero, neg_unique}
 use Rattle.sparse_algebra.proofs.SumLemmas.{sum_below-same, sum_below-zero, sum_below-add}
@@ -161,6 +161,13 @@ module _ (R : CommRing) where
       let parts = neither (a.has i j) (b.has i j) h in
       ap (λ c. R.add c (b.value i j)) (pa i j parts.0) ∙ ap (R.add R.zero) (pb i j parts.1)
       ∙ R.laws.add_zero R.zero
+
+  pub proper_negation : (a : Plain R) → IsProper a → IsProper (plain_negation R a)
+  proper_negation a p i j h = ap R.neg (p i j h) ∙ neg_zero
+
+  pub proper_difference : (a b : Plain R) → IsProper a → IsProper b
+      → IsProper (plain_difference R a b)
+  proper_difference a b pa pb = proper_sum a (plain_negation R b) pa (proper_negation b pb)
 
   pub proper_scaled : (s : R.Carrier) (a : Plain R) → IsProper a → IsProper (plain_scaled R s a)
   proper_scaled s a p i j h = ap (R.mul s) (p i j h) ∙ mul_zero R s
