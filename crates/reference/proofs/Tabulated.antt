@@ -13,7 +13,7 @@ use Rattle.sparse_algebra.proofs.PlainLaws.{proper_difference, proper_transpose}
 use Rattle.sparse_algebra.proofs.PlainLemmas.{same_plain, proper_product}
 use Rattle.sparse_algebra.proofs.RingLemmas.{zero_add}
 use Rattle.sparse_algebra.proofs.SumLemmas.{sum_by-append}
-use Rattle.sparse_base.specs.Coo.{Coo, coo_of, appended}
+use Rattle.sparse_base.specs.Coo.{Coo, appended}
 use Rattle.sparse_base.specs.CooPlain.{plain_of_coo}
 use Rattle.sparse_lemmas.proofs.Cases.{true_or_false, and_parts, and_both, or_right, or_false}
 use Rattle.reference.specs.InnerOperation.{is_before, plain_of_operation, Lists}
@@ -21,9 +21,6 @@ use Rattle.reference.specs.declared.expressions.operation.Operation.{Operation}
 use Rattle.reference.specs.declared.expressions.operation.Operation.TheVariants as operation
 
 -- ---- tests of pairs
-
-before_none : (i j : ℕ) → is_before 0 0 i j ≡ false
-before_none i j = grind (arith, nat_tests)
 
 before_here : (row col : ℕ) → is_before row col row col ≡ false
 before_here row col = grind (arith, nat_tests)
@@ -34,9 +31,6 @@ before_next row col = grind (arith, nat_tests)
 before_other : (row col i j : ℕ) → (nat_eq row i && nat_eq col j) ≡ false
     → is_before row col i j ≡ is_before row (col + 1) i j
 before_other row col i j other = grind (arith, nat_tests)
-
-before_end : (row cols i j : ℕ) → j < cols → is_before row cols i j ≡ is_before (row + 1) 0 i j
-before_end row cols i j lt = grind (arith, nat_tests)
 
 before_all : (rows i j : ℕ) → i < rows → is_before rows 0 i j ≡ true
 before_all rows i j lt = grind (arith, nat_tests)
@@ -88,14 +82,6 @@ module _ (R : CommRing) where
       ])
 
   module _ {T : Type 0} (f : T → R.Carrier) where
-    none_listed : (p : Plain R) (s : ℕ → ℕ → Bool) → ((i j : ℕ) → s i j ≡ false)
-        → plain_of_coo R f (coo_of p.rows p.cols []) ≡ plain_kept R s p
-    none_listed p s h =
-        same_plain (plain_of_coo R f (coo_of p.rows p.cols [])) (plain_kept R s p) refl refl
-        (λ i j. sym (and_false (p.has i j) (s i j) (h i j)))
-        (λ i j. sym (ap (λ b. where_true R b (p.value i j))
-        (and_false (p.has i j) (s i j) (h i j))))
-
     module _ (m : Coo T) (p : Plain R) (s t : ℕ → ℕ → Bool) (row col : ℕ) (v : T)
         (e : plain_of_coo R f m ≡ plain_kept R s p) (new : s row col ≡ false)
         (done : t row col ≡ true)
@@ -151,9 +137,6 @@ module _ (R : CommRing) where
 
     -- ---- as loops meet them
 
-    pub lists_none : (p : Plain R) (m : Coo T) → m ≡ coo_of p.rows p.cols [] → Lists R f p 0 0 m
-    lists_none p m e = ap (plain_of_coo R f) e ∙ none_listed p (is_before 0 0) before_none
-
     pub lists_more : (p : Plain R) (m after : Coo T) (row col : ℕ) (v : T)
         → after ≡ appended m (triplet row col v ∷ []) → Lists R f p row col m
         → p.has row col ≡ true → f v ≡ p.value row col → Lists R f p row (col + 1) after
@@ -170,12 +153,6 @@ module _ (R : CommRing) where
           | inl here ↦ differ (p.has row col) (sym (at_pair p.has row col i j here) ∙ is) isnt
           | inr off ↦ before_other row col i j off
         ])
-
-    pub lists_row : (p : Plain R) (m : Coo T) (row cols : ℕ) → IsWithin p → p.cols ≤ cols
-        → Lists R f p row cols m → Lists R f p (row + 1) 0 m
-    lists_row p m row cols within le e =
-        e ∙ kept_same p (is_before row cols) (is_before (row + 1) 0)
-        (λ i j is. before_end row cols i j (omega (arith, (within i j is).1, le)))
 
     pub lists_all : (p : Plain R) (m : Coo T) (rows : ℕ) → IsProper p → IsWithin p
         → p.rows ≤ rows → Lists R f p rows 0 m → plain_of_coo R f m ≡ p
