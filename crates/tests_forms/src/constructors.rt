@@ -141,6 +141,18 @@ fn zeros_by_columns(
     CscMatrix::zeros(alloc, nrows, ncols)
 }
 
+// Whether a copy of a matrix by rows, and all of its places, are equal to it.
+fn is_kept_by_rows(alloc: Global, matrix: &CsrMatrix<i32>) -> Result<bool, AllocError> {
+    let copy = matrix.clone(alloc)?;
+    Ok(copy == *matrix && matrix.filter(alloc, |_, _, _| true)? == *matrix)
+}
+
+// Whether a copy of a matrix by columns, and all of its places, are equal to it.
+fn is_kept_by_columns(alloc: Global, matrix: &CscMatrix<i32>) -> Result<bool, AllocError> {
+    let copy = matrix.clone(alloc)?;
+    Ok(copy == *matrix && matrix.filter(alloc, |_, _, _| true)? == *matrix)
+}
+
 // The number of lanes, their length, and the offsets of a matrix without stored places.
 const EMPTY: [(usize, usize, &[usize]); 2] = [(2, usize::MAX, &[0, 0, 0]), (0, 3, &[0])];
 
@@ -148,10 +160,12 @@ const EMPTY: [(usize, usize, &[usize]); 2] = [(2, usize::MAX, &[0, 0, 0]), (0, 3
 fn zeros_and_identities(rt: HostRuntime) -> Result<(), Fail> {
     for (lanes, length, offsets) in EMPTY {
         let want: Arrays<'_, i32> = (lanes, length, offsets, &[], &[]);
-        assert!(rt; csr_is(&zeros_by_rows(rt.alloc(), lanes, length)?, want));
+        let by_rows = zeros_by_rows(rt.alloc(), lanes, length)?;
+        assert!(rt; csr_is(&by_rows, want) && is_kept_by_rows(rt.alloc(), &by_rows)?);
         let by_columns = zeros_by_columns(rt.alloc(), length, lanes)?;
         let pattern = SparsityPattern::zeros(rt.alloc(), lanes, length)?;
         assert!(rt; csc_is(&by_columns, want) && *by_columns.pattern() == pattern);
+        assert!(rt; is_kept_by_columns(rt.alloc(), &by_columns)?);
     }
     assert!(rt; zeros_by_rows(rt.alloc(), usize::MAX, 0).is_err());
     assert!(rt; zeros_by_columns(rt.alloc(), 0, usize::MAX).is_err());
@@ -165,6 +179,8 @@ fn expect_identities(rt: &(impl Abort + AllocGlobal)) -> Result<(), Fail> {
     assert!(rt; csr_is(&by_rows, (3, 3, &[0, 1, 2, 3], &[0, 1, 2], &ones)));
     let by_columns = CscMatrix::identity(rt.alloc(), 2)?;
     assert!(rt; csc_is(&by_columns, (2, 2, &[0, 1, 2], &[0, 1], &ones[..2])));
+    let none: CsrMatrix<W64> = CsrMatrix::identity(rt.alloc(), 0)?;
+    assert!(rt; csr_is(&none, (0, 0, &[0], &[], &[])));
     let too_long: Result<CsrMatrix<W64>, AllocError> = CsrMatrix::identity(rt.alloc(), usize::MAX);
     assert!(rt; too_long.is_err());
     Ok(())
