@@ -7,7 +7,6 @@ use Rattle.sparse_lemmas.proofs.Cases.{lt_add_one_cases, true_or_false}
 use Rattle.sparse_algebra.specs.Algebra.{CommRing}
 use Rattle.sparse_algebra.specs.Plain.{Plain, IsProper}
 use Rattle.sparse_algebra.proofs.PlainLemmas.{same_plain, same_bool}
-use Rattle.sparse_pattern.specs.Raw.{Raw, raw_of, IsValid, IsPlace}
 use Rattle.sparse_pattern.proofs.BuiltLanes.{IsBuilt, lane_built, all_built}
 use Rattle.sparse_pattern.proofs.PushedLanes.{offset_kept, offset_last}
 use Rattle.sparse_cs.specs.Compressed.{Compressed, arrays_of, IsSound}

@@ -1,6 +1,6 @@
 -- The values of a lane, and sums over a lane.
 use Rattle.std.proofs.Common.{◌≡◌, ◌≢◌, ℕ, zero, suc, ◌+◌, ◌-◌, ◌<◌, inl, inr, Bool, true, false}
-use Rattle.std.proofs.Common.{List, [], ◌∷◌, length, get_or, take, slice_range, All, Contains, ap}
+use Rattle.std.proofs.Common.{List, [], ◌∷◌, length, get_or, slice_range, All, Contains, ap}
 use Rattle.std.proofs.Common.{sym, subst, ◌∙◌, refl, arith}
 use Rattle.std.specs.Prelude.{nat_eq, zip}
 use Rattle.std.specs.List.{list_any}

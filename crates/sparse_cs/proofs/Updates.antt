@@ -1,8 +1,7 @@
 -- A matrix whose values are replaced, position by position.
-use Rattle.std.proofs.Common.{◌≡◌, ℕ, true, false, List, length, get_or, ap, sym, ◌∙◌, refl, arith}
+use Rattle.std.proofs.Common.{◌≡◌, ℕ, false, List, length, get_or, ap, ◌∙◌, refl, arith}
 use Rattle.std.proofs.lemmas.List.{get_or_default}
 use Rattle.sparse_algebra.specs.Algebra.{CommRing}
-use Rattle.sparse_algebra.specs.Plain.{Plain, IsProper}
 use Rattle.sparse_cs.specs.Compressed.{Compressed, compressed_of, IsPosition, IsSound}
 use Rattle.sparse_cs.specs.PlainOfLanes.{plain_of_rows}
 use Rattle.sparse_cs.proofs.Arrays.{position_within}

@@ -127,34 +127,47 @@ fn parts_and_copies_by_columns(rt: HostRuntime) -> Result<(), Fail> {
     Ok(())
 }
 
-// Zeros by rows of these sizes.
-fn zeros_by_rows(alloc: Global, nrows: usize, ncols: usize) -> Result<CsrMatrix<i32>, AllocError> {
-    CsrMatrix::zeros(alloc, nrows, ncols)
+// Whether a copy of a matrix by rows, and all of its places, are equal to it.
+fn is_kept_by_rows(alloc: Global, matrix: &CsrMatrix<i32>) -> Result<bool, AllocError> {
+    let copy = matrix.clone(alloc)?;
+    Ok(copy == *matrix && matrix.filter(alloc, |_, _, _| true)? == *matrix)
 }
 
-// Zeros by columns of these sizes.
-fn zeros_by_columns(
-    alloc: Global,
-    nrows: usize,
-    ncols: usize,
-) -> Result<CscMatrix<i32>, AllocError> {
-    CscMatrix::zeros(alloc, nrows, ncols)
+// Whether a copy of a matrix by columns, and all of its places, are equal to it.
+fn is_kept_by_columns(alloc: Global, matrix: &CscMatrix<i32>) -> Result<bool, AllocError> {
+    let copy = matrix.clone(alloc)?;
+    Ok(copy == *matrix && matrix.filter(alloc, |_, _, _| true)? == *matrix)
 }
 
-// The number of lanes, their length, and the offsets of a matrix without stored places.
-const EMPTY: [(usize, usize, &[usize]); 2] = [(2, usize::MAX, &[0, 0, 0]), (0, 3, &[0])];
+// Whether zeros by rows of these sizes have these arrays, and copies that are equal.
+fn has_zeros_by_rows(alloc: Global, want: Arrays<'_, i32>) -> Result<bool, AllocError> {
+    let zeros = CsrMatrix::zeros(alloc, want.0, want.1)?;
+    Ok(csr_is(&zeros, want) && is_kept_by_rows(alloc, &zeros)?)
+}
+
+// Whether zeros by columns of these sizes have these arrays and their pattern, and copies that are equal.
+fn has_zeros_by_columns(alloc: Global, want: Arrays<'_, i32>) -> Result<bool, AllocError> {
+    let zeros = CscMatrix::zeros(alloc, want.1, want.0)?;
+    let pattern = SparsityPattern::zeros(alloc, want.0, want.1)?;
+    let same = csc_is(&zeros, want) && *zeros.pattern() == pattern;
+    Ok(same && is_kept_by_columns(alloc, &zeros)?)
+}
+
+// Matrices without stored places.
+const EMPTY: [Arrays<'static, i32>; 2] = [
+    (2, usize::MAX, &[0, 0, 0], &[], &[]),
+    (0, 3, &[0], &[], &[]),
+];
 
 #[test]
 fn zeros_and_identities(rt: HostRuntime) -> Result<(), Fail> {
-    for (lanes, length, offsets) in EMPTY {
-        let want: Arrays<'_, i32> = (lanes, length, offsets, &[], &[]);
-        assert!(rt; csr_is(&zeros_by_rows(rt.alloc(), lanes, length)?, want));
-        let by_columns = zeros_by_columns(rt.alloc(), length, lanes)?;
-        let pattern = SparsityPattern::zeros(rt.alloc(), lanes, length)?;
-        assert!(rt; csc_is(&by_columns, want) && *by_columns.pattern() == pattern);
+    for want in EMPTY {
+        assert!(rt; has_zeros_by_rows(rt.alloc(), want)?);
+        assert!(rt; has_zeros_by_columns(rt.alloc(), want)?);
     }
-    assert!(rt; zeros_by_rows(rt.alloc(), usize::MAX, 0).is_err());
-    assert!(rt; zeros_by_columns(rt.alloc(), 0, usize::MAX).is_err());
+    let tall: Arrays<'_, i32> = (usize::MAX, 0, &[], &[], &[]);
+    assert!(rt; has_zeros_by_rows(rt.alloc(), tall).is_err());
+    assert!(rt; has_zeros_by_columns(rt.alloc(), tall).is_err());
     expect_identities(&rt)
 }
 
@@ -165,6 +178,8 @@ fn expect_identities(rt: &(impl Abort + AllocGlobal)) -> Result<(), Fail> {
     assert!(rt; csr_is(&by_rows, (3, 3, &[0, 1, 2, 3], &[0, 1, 2], &ones)));
     let by_columns = CscMatrix::identity(rt.alloc(), 2)?;
     assert!(rt; csc_is(&by_columns, (2, 2, &[0, 1, 2], &[0, 1], &ones[..2])));
+    let none: CsrMatrix<W64> = CsrMatrix::identity(rt.alloc(), 0)?;
+    assert!(rt; csr_is(&none, (0, 0, &[0], &[], &[])));
     let too_long: Result<CsrMatrix<W64>, AllocError> = CsrMatrix::identity(rt.alloc(), usize::MAX);
     assert!(rt; too_long.is_err());
     Ok(())
