@@ -1,5 +1,6 @@
 -- The entries of a column below the diagonal.
-use Rattle.std.proofs.Common.{◌≡◌, ◌≢◌, ℕ, zero, suc, ◌+◌, ◌-◌, ◌<◌, ◌≤◌, inl, inr, true, List, [], ◌∷◌}
+use Rattle.std.proofs.Common.{◌≡◌, ◌≢◌, ℕ, zero, suc, ◌+◌, ◌-◌, ◌<◌, ◌≤◌, inl, inr, true, List}
+use Rattle.std.proofs.Common.{[], ◌∷◌}
 use Rattle.std.proofs.Common.{take, subst}
 use Rattle.std.proofs.Common.{length, get_or, drop, All, Contains, slice_index, slice_range, ap}
 use Rattle.std.proofs.Common.{sym, ◌∙◌, refl, arith}

@@ -1,5 +1,6 @@
 -- One entry of a range more, taken off a list or added to a sum.
-use Rattle.std.proofs.Common.{◌≡◌, ℕ, ◌+◌, ◌-◌, ◌<◌, ◌≤◌, All, List, length, get_or, set, take, drop}
+use Rattle.std.proofs.Common.{◌≡◌, ℕ, ◌+◌, ◌-◌, ◌<◌, ◌≤◌, All, List, length, get_or, set, take}
+use Rattle.std.proofs.Common.{drop}
 use Rattle.std.proofs.Common.{slice_range, ap, sym, subst, ◌∙◌, arith}
 use Rattle.std.proofs.lemmas.List.{get_or_default, get_or-drop, length-drop}
 use Rattle.std.proofs.lemmas.List.Edits.{get_or-between, length-between}
@@ -93,8 +94,8 @@ module _ (R : CommRing) {T : Type 0} (f : T → R.Carrier) (z : T) where
       pub dot_more : (sum product next : T) → f sum ≡ dot_of R f (slice_range rows begin at)
           (slice_range values begin at) (entries R f z x)
           → f product ≡ R.mul (f v) (f old) → f next ≡ R.add (f sum) (f product)
-          → f next ≡ dot_of R f (slice_range rows begin (at + 1)) (slice_range values begin (at + 1))
-          (entries R f z x)
+          → f next ≡ dot_of R f (slice_range rows begin (at + 1))
+          (slice_range values begin (at + 1)) (entries R f z x)
       dot_more sum product next so_far times added =
           let more : f next ≡ dot_of R f (take (at - begin + 1) (drop begin rows))
           (take (at - begin + 1) (drop begin values)) (entries R f z x) =

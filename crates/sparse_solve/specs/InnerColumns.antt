@@ -1,5 +1,6 @@
 -- A column of a lower triangle, and a column of a solution.
-use Rattle.std.specs.Prelude.{◌≡◌, ◌≢◌, ℕ, ◌<◌, ◌≤◌, true, List, All, length, slice_index_or, slice_range, zip}
+use Rattle.std.specs.Prelude.{◌≡◌, ◌≢◌, ℕ, ◌<◌, ◌≤◌, true, List, All, length, slice_index_or}
+use Rattle.std.specs.Prelude.{slice_range, zip}
 use Rattle.sparse_algebra.specs.Algebra.{CommRing}
 use Rattle.sparse_algebra.specs.Sums.{sum_below, sum_by}
 use Rattle.sparse_algebra.specs.Plain.{Plain}

@@ -118,12 +118,17 @@ loop-at-preserved g c =
       order = omega (arith, was.invariant.order);
       first = more c.args.first.now in_first c.index-first-row.result c.index-first-row.is was.a
           c.mul.result c.add-a.result was.invariant.first c.mul.ensures c.add-a.ensures;
-      second = more c.args.second.now in_second c.index-second-row.result c.index-second-row.is was.b
-          c.mul-in-loop-at.result c.add-b.result was.invariant.second c.mul-in-loop-at.ensures c.add-b.ensures;
+      second = more c.args.second.now in_second c.index-second-row.result c.index-second-row.is
+          was.b
+          c.mul-in-loop-at.result c.add-b.result was.invariant.second c.mul-in-loop-at.ensures
+          c.add-b.ensures;
       third = more c.args.third.now in_third c.index-third-row.result c.index-third-row.is was.c
-          c.mul-in-loop-at-2.result c.add-c.result was.invariant.third c.mul-in-loop-at-2.ensures c.add-c.ensures;
-      fourth = more c.args.fourth.now in_fourth c.index-fourth-row.result c.index-fourth-row.is was.d
-          c.mul-in-loop-at-3.result c.add-d.result was.invariant.fourth c.mul-in-loop-at-3.ensures c.add-d.ensures;
+          c.mul-in-loop-at-2.result c.add-c.result was.invariant.third c.mul-in-loop-at-2.ensures
+          c.add-c.ensures;
+      fourth = more c.args.fourth.now in_fourth c.index-fourth-row.result c.index-fourth-row.is
+          was.d
+          c.mul-in-loop-at-3.result c.add-d.result was.invariant.fourth c.mul-in-loop-at-3.ensures
+          c.add-d.ensures;
     }
 
 pub returns : goal.returns

@@ -151,18 +151,23 @@ loop-at-preserved g c =
           c.neg.ensures c.add.ensures was.invariant.first;
       second = more was.second in_second (get_or was.second k c.index-second-row.result)
           (get_or_default was.second k c.index-second-row.result
-          (get_or was.second k c.index-second-row.result) in_second) c.args.second.now c.args.factors.1
-          c.mul-in-loop-at.result c.neg-in-loop-at.result c.add-in-loop-at.result was.auto.second c.mul-in-loop-at.ensures
+          (get_or was.second k c.index-second-row.result) in_second) c.args.second.now
+          c.args.factors.1
+          c.mul-in-loop-at.result c.neg-in-loop-at.result c.add-in-loop-at.result was.auto.second
+          c.mul-in-loop-at.ensures
           c.neg-in-loop-at.ensures c.add-in-loop-at.ensures was.invariant.second;
       third = more was.third in_third (get_or was.third k c.index-third-row.result)
           (get_or_default was.third k c.index-third-row.result
           (get_or was.third k c.index-third-row.result) in_third) c.args.third.now c.args.factors.2
-          c.mul-in-loop-at-2.result c.neg-in-loop-at-2.result c.add-in-loop-at-2.result was.auto.third c.mul-in-loop-at-2.ensures
+          c.mul-in-loop-at-2.result c.neg-in-loop-at-2.result c.add-in-loop-at-2.result
+          was.auto.third c.mul-in-loop-at-2.ensures
           c.neg-in-loop-at-2.ensures c.add-in-loop-at-2.ensures was.invariant.third;
       fourth = more was.fourth in_fourth (get_or was.fourth k c.index-fourth-row.result)
           (get_or_default was.fourth k c.index-fourth-row.result
-          (get_or was.fourth k c.index-fourth-row.result) in_fourth) c.args.fourth.now c.args.factors.3
-          c.mul-in-loop-at-3.result c.neg-in-loop-at-3.result c.add-in-loop-at-3.result was.auto.fourth c.mul-in-loop-at-3.ensures
+          (get_or was.fourth k c.index-fourth-row.result) in_fourth) c.args.fourth.now
+          c.args.factors.3
+          c.mul-in-loop-at-3.result c.neg-in-loop-at-3.result c.add-in-loop-at-3.result
+          was.auto.fourth c.mul-in-loop-at-3.ensures
           c.neg-in-loop-at-3.ensures c.add-in-loop-at-3.ensures was.invariant.fourth;
     }
 
