@@ -1,9 +1,8 @@
 -- A sign and digits at the front of a text.
-use Rattle.std.proofs.Common.{◌≡◌, ◌≢◌, ℕ, ℤ, ◌+◌, ◌-◌, ◌^◌, ◌≤◌, ◌<◌, Bool, true, false, ltb, eqb}
+use Rattle.std.proofs.Common.{◌≡◌, ◌≢◌, ℕ, ◌+◌, ◌-◌, ◌^◌, ◌≤◌, ◌<◌, Bool, true, false, ltb, eqb}
 use Rattle.std.proofs.Common.{cond, ◌||◌, List, [], ◌∷◌, ◌++◌, length, take, Option, Some, None}
-use Rattle.std.proofs.Common.{Result, Err, refl, sym, ap, subst, ◌∙◌, arith, inl, inr, append_assoc}
+use Rattle.std.proofs.Common.{Result, Err, refl, sym, ap, subst, ◌∙◌, arith, append_assoc}
 use Rattle.std.proofs.Common.{length-append}
-use Rattle.std.specs.Prelude.{◌⊎◌}
 use Rattle.std.specs.Option.{SomeIff, ok_or}
 use Rattle.std.specs.List.{list_all}
 use Rattle.std.specs.Char.{is_ascii_digit}
@@ -14,12 +13,11 @@ use Rattle.sparse_parser.specs.declared.error.Cause.{Cause}
 use Rattle.sparse_parser.specs.declared.error.MatrixMarketErrorKind.{MatrixMarketErrorKind}
 use Rattle.sparse_parser.specs.declared.error.MatrixMarketErrorKind.TheVariants.{ParsingError}
 use Rattle.sparse_parser.specs.Errors.{kind_of_cause}
-use Rattle.sparse_parser.specs.Bytes.{is_blank, front, after}
+use Rattle.sparse_parser.specs.Bytes.{front, after}
 use Rattle.sparse_parser.specs.Grammar.{is_index, is_integer}
 use Rattle.sparse_parser.specs.Meaning.{number_of}
 use Rattle.sparse_parser.specs.InnerReading.{found, found_number}
-use Rattle.sparse_parser.proofs.Fronts.{Passes, Passes-front, front-append-after, after-yes}
-use Rattle.sparse_parser.proofs.Fronts.{after-no, length-after}
+use Rattle.sparse_parser.proofs.Fronts.{Passes, Passes-front, front-append-after}
 
 length-front-after : (p : ℕ → Bool) (text : List ℕ)
     → length (front p text) + length (after p text) ≡ length text

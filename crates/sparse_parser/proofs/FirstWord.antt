@@ -1,10 +1,10 @@
 -- The first word of a line, and what it is.
-use Rattle.std.proofs.Common.{◌≡◌, ◌≢◌, ℕ, ◌+◌, ◌^◌, ◌<◌, ◌≤◌, ◌&&◌, ◌||◌, not, Bool, true, false}
-use Rattle.std.proofs.Common.{cond, eqb, List, [], ◌∷◌, ◌++◌, length, Option, Some, None, refl, sym}
+use Rattle.std.proofs.Common.{◌≡◌, ◌≢◌, ℕ, ◌+◌, ◌^◌, ◌<◌, ◌&&◌, ◌||◌, not, Bool, true, false}
+use Rattle.std.proofs.Common.{eqb, List, [], ◌∷◌, ◌++◌, length, Option, None, refl, sym}
 use Rattle.std.proofs.Common.{ap, subst, ◌∙◌, arith, inl, inr, length-append}
 use Rattle.std.specs.Prelude.{◌⊎◌, IsTrue}
 use Rattle.std.specs.Option.{SomeIff}
-use Rattle.std.specs.List.{list_all, AllByRecursion}
+use Rattle.std.specs.List.{AllByRecursion}
 use Rattle.std.specs.Char.{is_ascii_digit}
 use Rattle.std.specs.Str.Parse.{digits_value, without_leading_sign}
 use Rattle.std.proofs.lemmas.List.{nil_from_length}
@@ -21,7 +21,7 @@ use Rattle.sparse_parser.specs.InnerLines.{IsNumberOf, IsWord, IsFound, StartsWo
 use Rattle.sparse_parser.specs.InnerLines.{is_plain, is_whole}
 use Rattle.sparse_parser.proofs.Fronts.{Passes, IsStopped, Passes-front, IsStopped-after}
 use Rattle.sparse_parser.proofs.Fronts.{front-append-after, front-yes, front-no, after-no}
-use Rattle.sparse_parser.proofs.Fronts.{front-append, after-append, front-append_passes}
+use Rattle.sparse_parser.proofs.Fronts.{after-append, front-append_passes}
 use Rattle.sparse_parser.proofs.Fronts.{after-append_passes}
 use Rattle.sparse_parser.proofs.ByteClasses.{digit_solid, sign_solid, sign_no_digit, solid_no_blank}
 use Rattle.sparse_parser.proofs.ByteClasses.{solid_within_line, unsolid_no_digit, unsolid_space}
@@ -29,7 +29,7 @@ use Rattle.sparse_parser.proofs.ByteClasses.{space_unsolid, blank_within_line, P
 use Rattle.sparse_parser.proofs.ByteClasses.{Passes-append}
 use Rattle.sparse_parser.proofs.WordLaws.{words_of-nil, words_of-blanks, words_of-word}
 use Rattle.sparse_parser.proofs.EntryLaws.{sign_of, sign_of-append, value_word, value_word-append}
-use Rattle.sparse_parser.proofs.EntryLaws.{value_word-is, value_word-is_integer, value_word-number}
+use Rattle.sparse_parser.proofs.EntryLaws.{value_word-is_integer, value_word-number}
 use Rattle.sparse_parser.proofs.EntryLaws.{some_value}
 use Rattle.sparse_parser.proofs.NumberLaws.{digits-of, integer-number, index-integer}
 use Rattle.sparse_parser.proofs.NumberLaws.{index-unsigned, false-before}

@@ -1,6 +1,6 @@
 -- The indices and integers of a line, read one after the other.
 use Rattle.std.proofs.Common.{◌≡◌, ◌≢◌, ℕ, ℤ, pos, zero, suc, ◌^◌, ◌<◌, Bool, true, false, cond}
-use Rattle.std.proofs.Common.{eqb, List, [], ◌∷◌, ◌++◌, length, Option, Some, Ok, Err, refl, sym}
+use Rattle.std.proofs.Common.{eqb, List, [], ◌∷◌, ◌++◌, length, Some, Ok, Err, refl, sym}
 use Rattle.std.proofs.Common.{ap, subst, ◌∙◌, arith}
 use Rattle.std.specs.Option.{SomeIff}
 use Rattle.std.specs.Char.{is_ascii_digit}
@@ -10,10 +10,10 @@ use Rattle.std.proofs.lemmas.Bool.{lt-ltb}
 use lib.IntN.{neg_ℤ}
 use Rattle.sparse_parser.specs.declared.error.MatrixMarketErrorKind.TheVariants.{ParsingError}
 use Rattle.sparse_parser.specs.Bytes.{is_blank, front, after}
-use Rattle.sparse_parser.specs.InnerBytes.{is_within_line, is_solid}
-use Rattle.sparse_parser.specs.Grammar.{is_index, is_integer}
+use Rattle.sparse_parser.specs.InnerBytes.{is_solid}
+use Rattle.sparse_parser.specs.Grammar.{is_integer}
 use Rattle.sparse_parser.specs.Scalars.{fits}
-use Rattle.sparse_parser.specs.Meaning.{number_of, integer_of}
+use Rattle.sparse_parser.specs.Meaning.{integer_of}
 use Rattle.sparse_parser.specs.InnerReading.{line_words}
 use Rattle.sparse_parser.specs.InnerNumbers.{IsNumberRead}
 use Rattle.sparse_parser.specs.InnerLines.{IsWord, ends_word}

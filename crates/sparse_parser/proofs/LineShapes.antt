@@ -1,6 +1,5 @@
 -- Which lists of words are data lines.
-use Rattle.std.proofs.Common.{◌≡◌, ℕ, Bool, true, false, ◌&&◌, List, [], ◌∷◌, refl, sym, ap, ◌∙◌}
-use Rattle.std.specs.Prelude.{◌⊎◌}
+use Rattle.std.proofs.Common.{◌≡◌, ℕ, Bool, true, false, ◌&&◌, List, [], ◌∷◌, refl, ap, ◌∙◌}
 use Rattle.sparse_parser.specs.Grammar.{is_index, is_number, is_entry}
 use Rattle.sparse_parser.proofs.NumberLaws.{index-number, false-before}
 

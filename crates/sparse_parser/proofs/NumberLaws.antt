@@ -1,14 +1,14 @@
 -- Indices and integers are numbers.
-use Rattle.std.proofs.Common.{◌≡◌, ℕ, ◌+◌, ◌<◌, ◌&&◌, ◌||◌, not, Bool, true, false, cond, eqb, List}
-use Rattle.std.proofs.Common.{[], ◌∷◌, ◌++◌, length, count_by, refl, sym, ap, subst, ◌∙◌, arith}
-use Rattle.std.specs.List.{list_all, list_any, AllByRecursion}
+use Rattle.std.proofs.Common.{◌≡◌, ℕ, ◌<◌, ◌||◌, Bool, true, false, List}
+use Rattle.std.proofs.Common.{[], ◌∷◌, length, count_by, refl, sym, ap, ◌∙◌, arith}
+use Rattle.std.specs.List.{list_all, list_any}
 use Rattle.std.specs.Char.{is_ascii_digit}
 use Rattle.std.specs.Str.Parse.{without_leading_sign}
-use Rattle.std.proofs.lemmas.Bool.{ltb-true, lt-ltb}
+use Rattle.std.proofs.lemmas.Bool.{ltb-true}
 use Rattle.sparse_lemmas.proofs.Cases.{and_parts}
-use Rattle.sparse_parser.specs.Bytes.{is_point, is_exponent_letter, front, after}
+use Rattle.sparse_parser.specs.Bytes.{is_point, front, after}
 use Rattle.sparse_parser.specs.InnerBytes.{is_unscaled}
-use Rattle.sparse_parser.specs.Grammar.{is_index, is_integer, is_mantissa, is_exponent}
+use Rattle.sparse_parser.specs.Grammar.{is_index, is_integer, is_mantissa}
 use Rattle.sparse_parser.specs.Grammar.{is_unsigned_number, is_number}
 use Rattle.sparse_parser.proofs.Fronts.{Passes, front-append, after-append}
 use Rattle.sparse_parser.proofs.ByteClasses.{digit_unscaled, digit_no_sign, digit_no_point}

@@ -1,9 +1,8 @@
 -- A data line as a list of numbers.
-use Rattle.std.specs.Prelude.{◌≡◌, ℕ, ◌<◌, ◌^◌, Bool, true, false, List, [], ◌∷◌, Option, Some}
-use Rattle.std.specs.Prelude.{None, IsTrue}
+use Rattle.std.specs.Prelude.{◌≡◌, ℕ, ◌<◌, ◌^◌, Bool, true, false, List, [], ◌∷◌, Option}
+use Rattle.std.specs.Prelude.{IsTrue}
 use Rattle.std.specs.Option.{SomeIff}
 use Rattle.std.specs.Str.Parse.{digits_value, without_leading_sign}
-use denote.Ref.{Bor}
 use Rattle.sparse_parser.specs.declared.data_lines.Kind.{Kind}
 use Rattle.sparse_parser.specs.declared.data_lines.Kind.TheVariants.{Index, Signed, Other}
 use Rattle.sparse_parser.specs.declared.data_lines.Number.{Number}
@@ -11,7 +10,7 @@ use Rattle.sparse_parser.specs.declared.data_lines.Found.{Found}
 use Rattle.sparse_parser.specs.declared.data_lines.Found.TheVariants as found
 use Rattle.sparse_parser.specs.declared.data_lines.Line.{Line}
 use Rattle.sparse_parser.specs.declared.data_lines.Line.TheVariants.{One, Two, Three, Four}
-use Rattle.sparse_parser.specs.Bytes.{after, is_line_end}
+use Rattle.sparse_parser.specs.Bytes.{after}
 use Rattle.sparse_parser.specs.InnerBytes.{is_within_line, is_space}
 use Rattle.sparse_parser.specs.Grammar.{is_index, is_integer, is_number, is_entry}
 use Rattle.sparse_parser.specs.InnerReading.{line_words}

@@ -1,5 +1,5 @@
 -- The words of a size line.
-use Rattle.std.specs.Prelude.{◌≡◌, ℕ, Bool, true, List, [], ◌∷◌, Option, Some, None}
+use Rattle.std.specs.Prelude.{◌≡◌, ℕ, true, List, [], ◌∷◌, Option, Some, None}
 use denote.Ref.{Bor}
 use Rattle.sparse_parser.specs.declared.size.SizeWords.{SizeWords}
 use Rattle.sparse_parser.specs.Grammar.{is_index}

@@ -99,7 +99,7 @@ fn reads_each_format_and_symmetry(rt: HostRuntime) -> Result<(), Fail> {
 }
 
 /// Texts below the first words of the header, and the kinds of their refusals as i32.
-const REFUSALS: [(&str, MatrixMarketErrorKind); 20] = [
+const REFUSALS: [(&str, MatrixMarketErrorKind); 21] = [
     (
         "coordinate integer symmetric\n2 2 2\n1 1 7\n1 2 3\n",
         NotLowerTriangle,
@@ -120,6 +120,10 @@ const REFUSALS: [(&str, MatrixMarketErrorKind); 20] = [
     ("coordinate integer general\n1 1 1\n1 1 1.0\n", ParsingError),
     (
         "array integer general\n4294967296 4294967296\n",
+        EntryMismatch,
+    ),
+    (
+        "array integer symmetric\n18446744073709551615 18446744073709551615\n",
         EntryMismatch,
     ),
     ("coordinate pattern general\n1 1 1\n1 1\n", TypeMismatch),

@@ -114,7 +114,7 @@ fn answers_the_kind_of_the_first_fault(rt: HostRuntime) {
 }
 
 /// Texts of two parts, and the name and the text of each refusal.
-const MESSAGES: [(&str, &str, &str); 22] = [
+const MESSAGES: [(&str, &str, &str); 23] = [
     (
         HEADER,
         "2 2\n",
@@ -223,6 +223,12 @@ const MESSAGES: [(&str, &str, &str); 22] = [
     (
         HEADER,
         "1 1 1\n2 1 1",
+        "SparseFormatError, message: Row index out of bounds.",
+    ),
+    // A row past the sizes is named before a column, wherever the two stand.
+    (
+        HEADER,
+        "2 2 2\n3 1 1\n1 3 1",
         "SparseFormatError, message: Row index out of bounds.",
     ),
 ];

@@ -1,4 +1,4 @@
-use Rattle.std.proofs.Common.{◌≡◌, ◌<◌, ◌≤◌, ◌+◌, ◌-◌, ◌*◌, ◌^◌, get_or, length, sym, ap, subst, ◌∙◌, arith}
+use Rattle.std.proofs.Common.{◌≡◌, ◌<◌, ◌≤◌, ◌+◌, ◌-◌, ◌*◌, ◌^◌, get_or, length, sym, subst, ◌∙◌, arith}
 use Rattle.std.proofs.Common.{rules, ℕ, true}
 use Rattle.std.specs.Char.{is_ascii_digit}
 use Rattle.sparse_parser.proofs.Digits.{digit_small, short_fits}

@@ -1,4 +1,4 @@
-use Rattle.std.proofs.Common.{◌≡◌, ◌≢◌, length, length-drop, drop, sym, ap, ◌∙◌, arith}
+use Rattle.std.proofs.Common.{◌≢◌, length, length-drop, drop, sym, ap, ◌∙◌, arith}
 use Rattle.sparse_parser.specs.InnerLines.{ends_word}
 use Rattle.sparse_parser.proofs.IntegerLaws.{index_at}
 use Rattle.sparse_parser.proofs.integer_lines.index_at.Goals as goal

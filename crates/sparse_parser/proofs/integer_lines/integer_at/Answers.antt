@@ -1,4 +1,4 @@
-use Rattle.std.proofs.Common.{◌≡◌, ◌≢◌, length, length-drop, drop, sym, ap, ◌∙◌, arith, rules}
+use Rattle.std.proofs.Common.{◌≢◌, length, length-drop, drop, sym, ap, ◌∙◌, arith, rules}
 use Rattle.std.specs.Str.Parse.{starts_with_minus}
 use Rattle.sparse_parser.specs.InnerLines.{ends_word}
 use Rattle.sparse_parser.specs.InnerIntegers.{IsIntegerAt}

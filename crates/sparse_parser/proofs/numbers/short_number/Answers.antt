@@ -1,5 +1,5 @@
 use Rattle.std.proofs.Common.{◌≡◌, ◌-◌, ◌≤◌, List, ℕ, get_or, take, drop, length, length-drop}
-use Rattle.std.proofs.Common.{take_all, inl, inr, sym, subst, ◌∙◌, arith, rules}
+use Rattle.std.proofs.Common.{take_all, inl, sym, subst, ◌∙◌, arith, rules}
 use Rattle.std.specs.Char.{is_ascii_digit}
 use Rattle.sparse_parser.specs.InnerNumbers.{IsNumberRead, HasStopped}
 use Rattle.sparse_parser.proofs.Fronts.{front-drop_stop}

@@ -1,4 +1,3 @@
-use Rattle.std.proofs.Common.{refl}
 use Rattle.sparse_parser.specs.InnerPlaces.{places_left}
 use Rattle.sparse_parser.proofs.PlaceLaws.{left_full, left_last}
 use Rattle.sparse_parser.proofs.places.Places.settle.Goals as goal

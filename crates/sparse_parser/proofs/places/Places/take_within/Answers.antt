@@ -1,4 +1,4 @@
-use Rattle.std.proofs.Common.{◌≡◌, ℕ, List, [], ◌∷◌, sym, ap, ◌∙◌, inl, inr, drop, slice_get}
+use Rattle.std.proofs.Common.{◌≡◌, ℕ, List, [], sym, ap, ◌∙◌, inl, inr, drop, slice_get}
 use Rattle.sparse_parser.specs.InnerPlaces.{places_left, left_from}
 use Rattle.sparse_parser.proofs.PlaceLaws.{left_none, left_first}
 use Rattle.sparse_parser.proofs.places.Places.take_within.Goals as goal
