@@ -2,7 +2,6 @@
 
 ghost use Rattle.std.specs.Prelude.{◌≡◌, IfOk, ◌<◌, ◌^◌};
 
-use sparse_base::steps::Steps;
 use sparse_factor::factorization::CscSymbolicCholesky;
 use sparse_pattern::pattern::SparsityPattern;
 use std::alloc::Global;
@@ -52,7 +51,7 @@ fn places(alloc: Global, pattern: SparsityPattern) -> Result<(usize, usize), Fai
     requires { pattern.major_dim ≡ pattern.minor_dim }
 {
     let nnz = pattern.nnz();
-    let factor = CscSymbolicCholesky::factor_counted(alloc, pattern, &mut Steps::new())?;
+    let factor = CscSymbolicCholesky::factor(alloc, pattern)?;
     Ok((nnz, factor.l_pattern().nnz()))
 }
 

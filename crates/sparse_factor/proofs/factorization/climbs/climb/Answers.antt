@@ -111,7 +111,8 @@ loop-marks-preserved g c =
     c.index-counts-node.is in
     let counted : map f (set cs node c.of-in-loop-marks.result) ≡ set counts node v =
     map-set f cs node c.of-in-loop-marks.result
-    ∙ ap (set counts node) (c.of-in-loop-marks.ensures ∙ ap (λ x. x + 1) (c.get-in-loop-marks.ensures ∙ count)) in
+    ∙ ap (set counts node)
+    (c.of-in-loop-marks.ensures ∙ ap (λ x. x + 1) (c.get-in-loop-marks.ensures ∙ count)) in
     let low : v ≤ row + 1 = omega (arith, inv.below node, is.arrays.high node, new) in
     record {
       climbing = subst (λ ms. IsClimbing old (climbs_of ms ps (nodes_up ps start (n + 1))) row start

@@ -62,7 +62,13 @@ from_offset_and_indices_unchecked-requires g c =
     ) in
     let offsets = rest_written xs ys c.in_ok-column_offsets.column_offsets.items
     c.in_ok-column_offsets.column_offsets.len (omega (arith, same, starts.size))
-    (omega (arith, long, starts.size, c.requires.size, c.in_ok-column_offsets.column_offsets.ok.0)) in
+    (omega (
+      arith,
+      long,
+      starts.size,
+      c.requires.size,
+      c.in_ok-column_offsets.column_offsets.ok.0,
+    )) in
     let first = ap (λ l. slice_index l 0) c.deref_mut.ensures.value ∙ starts.first in
     let total = counts_total f n keys (rows_in f ps) c.args.counts.now c.requires.rows
     c.requires.counts c.requires.size in
@@ -107,7 +113,13 @@ returns-clause-transposed g c = λ d.
     ) in
     let offsets = rest_written xs ys c.in_ok-column_offsets.column_offsets.items
     c.in_ok-column_offsets.column_offsets.len (omega (arith, same, starts.size))
-    (omega (arith, long, starts.size, c.requires.size, c.in_ok-column_offsets.column_offsets.ok.0)) in
+    (omega (
+      arith,
+      long,
+      starts.size,
+      c.requires.size,
+      c.in_ok-column_offsets.column_offsets.ok.0,
+    )) in
     let first = ap (λ l. slice_index l 0) c.deref_mut.ensures.value ∙ starts.first in
     let total = counts_total f n keys (rows_in f ps) c.args.counts.now c.requires.rows
     c.requires.counts c.requires.size in
