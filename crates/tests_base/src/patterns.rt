@@ -85,7 +85,7 @@ fn valid_data_is_taken(rt: HostRuntime) -> Result<(), Fail> {
     assert_eq!(rt; indices.as_slice(), [0, 5, 1, 2, 3].as_slice());
     let empty = pattern_of(rt.alloc(), 0, 0, &[0], &[])??;
     assert!(rt; empty == SparsityPattern::zeros(rt.alloc(), 0, 0)?);
-    let wide = SparsityPattern::zeros(rt.alloc(), 2, usize::MAX)?;
+    let wide = SparsityPattern::zeros(rt.alloc(), 2, usize::MAX)?.clone(rt.alloc())?;
     assert_eq!(rt; wide.major_offsets(), [0, 0, 0].as_slice());
     assert_eq!(rt; (wide.nnz(), wide.minor_dim()), (0, usize::MAX));
     assert!(rt; SparsityPattern::zeros(rt.alloc(), usize::MAX, 0).is_err());

@@ -199,7 +199,7 @@ fn lists_are_equal_in_sizes_order_and_values(rt: HostRuntime) -> Result<(), Fail
     let matrix = coo_of(rt.alloc(), 3, MAX, &rows, &cols, &[5, -5, 7])??;
     let copy = matrix.clone(rt.alloc())?;
     assert!(rt; copy == matrix);
-    assert!(rt; CooMatrix::zeros(rt.alloc(), 3, MAX) != matrix);
+    assert!(rt; CooMatrix::zeros(rt.alloc(), 3, MAX).clone(rt.alloc())? != matrix);
     let reordered = coo_of(rt.alloc(), 3, MAX, &rows, &cols, &[-5, 5, 7])??;
     assert!(rt; reordered != matrix);
     let (copied_rows, copied_cols, values) = copy.disassemble();
@@ -259,6 +259,9 @@ fn an_iterator_is_taken_or_refused(rt: HostRuntime) -> Result<(), Fail> {
     assert_eq!(rt; matrix.row_indices(), [1, 0, 1].as_slice());
     assert_eq!(rt; matrix.col_indices(), [2, 1, 2].as_slice());
     assert_eq!(rt; matrix.values(), [5, 7, -5].as_slice());
+    let none: Vec<(usize, usize, i32)> = Vec::new(rt.alloc());
+    let empty = CooMatrix::try_from_triplets_iter(rt.alloc(), 0, 0, none.into_iter())?;
+    assert_eq!(rt; empty.nnz(), 0);
     let cases = [
         ([(0, 3, 5), (2, 0, 7)], "Row index out of bounds."),
         ([(1, 2, 5), (0, 3, 7)], "Col index out of bounds."),
