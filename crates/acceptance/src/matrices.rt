@@ -15,7 +15,7 @@ type List<'a, T> = ((usize, usize), &'a [(usize, usize, T)]);
 // The offsets, the columns and the values of a matrix.
 type Rows<'i, 'v, T> = (&'i [usize], &'i [usize], &'v [T]);
 
-// The list of these triplets; those outside the sizes are left out.
+// The list of these triplets; those outside the shape are left out.
 fn coo<T: Ring>(
     alloc: Global,
     ((nrows, ncols), triplets): List<'_, T>,

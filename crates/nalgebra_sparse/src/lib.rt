@@ -1,6 +1,6 @@
 //! Exact sparse matrices: coordinate lists, compressed rows and columns, over every commutative ring.
 //!
-//! The crates behind this one hold the code. This one gives each module its public path.
+//! The crates below this one hold the code. This one gives each module its public path.
 #![tactic(auto)]
 
 pub mod laws;

@@ -1,4 +1,4 @@
--- The triplets of the data lines that are left, behind those that are read.
+-- The triplets of the data lines that are left, after those that are read.
 use Rattle.std.proofs.Common.{◌≡◌, ℕ, zero, suc, Option, ◌+◌, ◌<◌, ◌≤◌, List, [], ◌∷◌, ◌++◌, length}
 use Rattle.std.proofs.Common.{drop, get_or, slice_get, Ok, Err, refl, sym, ap, ◌∙◌, append_assoc}
 use Rattle.std.proofs.Common.{add-one, drop-cons, arith}

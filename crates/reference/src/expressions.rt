@@ -144,7 +144,7 @@ fn size<T: Ring>(list: &CooMatrix<T>) -> (usize, usize)
     ensures cols { result.1 ≡ list.now.ncols }
     ensures within { IsWithin (plain_of_coo T.ring T.value list.now) }
 {
-    // The call costs nothing: its contract tells the prover that the triplets lie inside the sizes.
+    // The call costs nothing: its contract tells the prover that the triplets lie within the shape.
     let _ = list.col_indices();
     (list.nrows(), list.ncols())
 }

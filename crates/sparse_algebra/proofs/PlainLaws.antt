@@ -191,7 +191,7 @@ module _ (R : CommRing) where
       (where_no (is_at i j t) (f t.2) parts.0) ∙ zero_add R _
       ∙ proper_plain_of_triplets f rows cols ts i j parts.1
 
-  -- ---- places inside the sizes
+  -- ---- places within the shape
 
   pub within_plain_of_triplets : {T : Type 0} (f : T → R.Carrier) (rows cols : ℕ)
       (ts : List (ℕ × ℕ × T))

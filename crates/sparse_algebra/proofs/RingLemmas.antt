@@ -33,7 +33,7 @@ module _ (R : CommRing) where
       ∙ sym (R.laws.add_assoc t t (R.neg t)) ∙ ap (λ x. R.add x (R.neg t)) twice
       ∙ R.laws.add_neg t
 
-  -- what is added on both sides falls away
+  -- what is added on both sides cancels
   pub cancel : (a b c : R.Carrier) → R.add a c ≡ R.add b c → a ≡ b
   cancel a b c e =
       let back : (x : R.Carrier) → R.add (R.add x c) (R.neg c) ≡ x =

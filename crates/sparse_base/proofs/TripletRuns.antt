@@ -51,7 +51,7 @@ module _ {T : Type 0} where
         (λ t out. inr out) ts h.0 h.1 h.2 h.3 h.4,
   )
 
-  -- triplets that are refused after they were split have one outside the sizes
+  -- triplets that are refused after they were split have one outside the shape
   pub fault_outside : (nrows ncols : ℕ) (rows cols : List ℕ) (values : List T)
       (ts : List (ℕ × ℕ × T)) (kind : SparseFormatErrorKind)
       → rows ≡ map (λ t. t.0) ts → cols ≡ map (λ t. t.1) ts → values ≡ map (λ t. t.2) ts

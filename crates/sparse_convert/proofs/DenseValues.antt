@@ -134,7 +134,7 @@ module _ {T : Type 0} where
           ∙ written_stored j i;
     }
 
-    -- the columns' triplets are inside the sizes
+    -- the columns' triplets are within the shape
     pub turned_inside : All (λ t. (t.0 < m.pattern.minor_dim) × (t.1 < m.pattern.major_dim))
         (map turned (lane_triplets m))
     turned_inside = All-map (λ t. (t.0 < m.pattern.minor_dim) × (t.1 < m.pattern.major_dim)) turned

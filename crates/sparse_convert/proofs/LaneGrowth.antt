@@ -10,7 +10,7 @@ use Rattle.sparse_pattern.proofs.LaneOrder.{length-entries}
 use Rattle.sparse_cs.specs.Compressed.{Compressed, arrays_of, IsSound, zip_values, lane_triplets}
 use Rattle.sparse_pattern.proofs.PushedLanes.{valid_pushed, offset_kept, lane_is}
 
--- a part of the front
+-- a part of the prefix
 range_front : (xs ys : List ℕ) (a b : ℕ) → a ≤ b → b ≤ length xs
     → slice_range (xs ++ ys) a b ≡ slice_range xs a b
 range_front xs ys a b le within =

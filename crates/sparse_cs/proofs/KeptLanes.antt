@@ -20,7 +20,7 @@ use Rattle.sparse_cs.proofs.SortedForm.{in_lane, split_lane}
 use Rattle.sparse_cs.proofs.UnsortedLanes.{lane_values}
 
 module _ {X : Type 0} where
-  -- a part of the front
+  -- a part of the prefix
   pub between_front : (xs ys : List X) (a b : ℕ) → a ≤ b → b ≤ length xs
       → slice_range (xs ++ ys) a b ≡ slice_range xs a b
   between_front xs ys a b le within =
@@ -123,7 +123,7 @@ module _ {T : Type 0} (R : ℕ × ℕ × T → Bool → Type 0) (m : Compressed 
       ];
     }
 
-  -- one more lane is gone through
+  -- one more lane is traversed
   pub kept_step : (offsets indices indices' : List ℕ) (values values' : List T) (i e : ℕ)
       (js : List ℕ) (us : List T)
       → AreKeptLanes offsets indices values i → js ≡ lane_of m.pattern i → us ≡ lane_values m i
@@ -136,7 +136,7 @@ module _ {T : Type 0} (R : ℕ × ℕ × T → Bool → Type 0) (m : Compressed 
       rw (grown.index_end, grown.value_end, long)
       (one_more offsets indices grown.indices values grown.values i h grown.count kept)
 
-  -- all lanes are gone through
+  -- all lanes are traversed
   module _ (sound : IsSound m) (offsets indices : List ℕ) (values : List T)
       (done : AreKeptLanes offsets indices values m.pattern.major_dim) where
     abbrev now : Compressed T

@@ -1,4 +1,4 @@
--- What the iterators that lend values have left.
+-- What the iterators that borrow values mutably have left.
 use Rattle.std.proofs.Common.{◌≡◌, ℕ, zero, suc, ◌+◌, ◌-◌, ◌<◌, ◌≤◌, List, [], ◌∷◌, length, take}
 use Rattle.std.proofs.Common.{drop, ap, sym, ◌∙◌, refl, arith}
 use Rattle.std.proofs.lemmas.List.{drop-drop, length-take-le, length-drop}

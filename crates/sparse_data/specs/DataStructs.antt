@@ -17,7 +17,7 @@ module _ {T : Type 0} where
   coo_in d = coo_of d.nrows d.ncols (zip_triplets d.row_indices.items d.col_indices.items
       d.values.items)
 
-  -- the three lists have one length, and their indices are inside the sizes
+  -- the three lists have one length, and their indices are within the shape
   abbrev pub IsCooData : CooData T → Type 0
   IsCooData d = AreParts d.nrows d.ncols d.row_indices.items d.col_indices.items d.values.items
 

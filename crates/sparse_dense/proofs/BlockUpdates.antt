@@ -28,7 +28,7 @@ module _ (R : CommRing) {T : Type 0} (f : T → R.Carrier) (z : T) (beta alpha :
         (same i row));
   }
 
-  -- a column and the columns behind it
+  -- a column and the columns after it
   pub one_more_column : (n m : ℕ) (x : ℕ → ℕ → R.Carrier) (y : ℕ → R.Carrier)
       (old head tail first rest : List T)
       → old ≡ head ++ tail → length head ≡ n → ((i : ℕ) → i < n → y i ≡ x i 0)

@@ -81,7 +81,7 @@ module _ (R : CommRing) {T : Type 0} (f : T → R.Carrier) (z : T) (zero_law : f
 
   module _ (beta alpha : R.Carrier) (d : Dense T) (x : Plain R) (rows : x.rows ≡ d.nrows)
       (cols : x.cols ≡ d.ncols) (proper : IsProper x) (within : IsWithin x) where
-    -- nothing is added outside the sizes
+    -- nothing is added outside the shape
     off : (i j : ℕ) → is_inside d i j ≡ false → x.value i j ≡ R.zero
     off i j miss = proper i j (elim (true_or_false (x.has i j)) [
       | inl hit ↦

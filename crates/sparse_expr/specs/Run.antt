@@ -78,7 +78,7 @@ pub record Writes (form : Form) (texts : List (List ℕ)) (expr : Expr) (old new
   pub is_value : HasOutcome texts expr (Ok value)
   pub appended : Appends old new (text_in form value)
 
--- a beginning of it was
+-- a prefix of it was
 pub record WritesSome (form : Form) (texts : List (List ℕ)) (expr : Expr)
     (old new : Option (List ℕ)) : Type 0 where
   pub value : Plain ring64

@@ -1,5 +1,5 @@
 -- How a walk goes on over a call that lends an `Option`: the option is taken apart or made, and
--- what the lender follows is handed on.
+-- what the lender follows is passed on.
 use mathlib.Core.Path.{◌≡◌, refl, ap, ◌∙◌, subst⁻¹}
 use mathlib.Core.List.{List, [], ◌∷◌, ◌++◌}
 use mathlib.Core.Option as maybe
@@ -87,7 +87,7 @@ module _ {M : Type 1} {𝓤 : Ura M} {𝓛 : Logic 𝓤} {K : Type 0} {Γ : List
         k x refl (ap only (e ∙ ap (λ (ws : List Val). live 1 (of_list (ws ++ [])) ∷ [])
         (mut_Tells ℓ κ R x us is)))))
 
--- what was lent is lent on
+-- what was borrowed is borrowed again
 module _ {M : Type 1} {𝓤 : Ura M} (𝓛 : Logic 𝓤) (R S T : RattleType) (γ : GName) (v : R.Denot) where
   pub lent_on : (γ' γ'' : GName) (F : S.Denot → R.Denot) (F' : T.Denot → S.Denot)
       → ent 𝓤 (sep 𝓤 (sem 𝓛 (follows_if R S γ (maybe.some γ') F v)) (sem 𝓛 (follows S T γ' γ'' F')))

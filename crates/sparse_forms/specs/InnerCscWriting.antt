@@ -1,4 +1,4 @@
--- What a CSC matrix is once a loan from it is over, as the private functions of `csc` say it.
+-- What a CSC matrix is after a borrow from it, as the private functions of `csc` say it.
 use Rattle.std.specs.Prelude.{ℕ, Option}
 use Rattle.std.specs.Borrow.{LendsIf, follows_if, MutBor, Fml, RattleType}
 use Rattle.sparse_pattern.specs.SparseEntries.{found_name}

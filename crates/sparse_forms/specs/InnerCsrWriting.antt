@@ -1,4 +1,4 @@
--- What a CSR matrix is once a loan from it is over, as the private functions of `csr` say it.
+-- What a CSR matrix is after a borrow from it, as the private functions of `csr` say it.
 use Rattle.std.specs.Prelude.{ℕ, Option}
 use Rattle.std.specs.Borrow.{LendsIf, follows_if, MutBor, Fml, RattleType}
 use Rattle.sparse_pattern.specs.SparseEntries.{found_name}

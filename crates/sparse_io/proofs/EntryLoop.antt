@@ -129,13 +129,13 @@ count_end text n total e so_far =
 -- ---- reading
 
 module _ (S : Scalar) (h : Header) (s : Sizes) where
-  -- how a list of triplets ends, where these stand before it and lie inside the sizes or not
+  -- how a list of triplets ends, where these stand before it and lie within the shape or not
   abbrev ending : Bool → List (Triplet S.Value) → List (Triplet S.Value) → Read (Coo S.Value)
   ending inside ts us = cond (inside && list_all (is_inside S s.0 s.1) us)
       (Ok (coo_of s.0 s.1 (ts ++ us))) (Err (SparseFormatError IndexOutOfBounds))
 
   -- what is read in the end, where this number of data lines was read before, these places are
-  -- left, these triplets are kept, and all lie inside the sizes or not
+  -- left, these triplets are kept, and all lie within the shape or not
   abbrev pub still_read : ℕ → Bool → List (ℕ × ℕ) → List (Triplet S.Value)
       → List (List (List ℕ)) → Read (Coo S.Value)
   still_read read inside places ts lines =

@@ -1,4 +1,4 @@
--- What a column is once a loan from it is over, as the private functions of `col_mut` say it.
+-- What a column is after a borrow from it, as the private functions of `col_mut` say it.
 use Rattle.std.specs.Prelude.{ℕ, []}
 use Rattle.std.specs.Borrow.{Lends, follows_if, MutBor, Fml, RattleType}
 use mir.Syntax.{named}

@@ -1,4 +1,4 @@
--- What a row is once a loan from it is over, as the private functions of `row_mut` say it.
+-- What a row is after a borrow from it, as the private functions of `row_mut` say it.
 use Rattle.std.specs.Prelude.{ℕ, []}
 use Rattle.std.specs.Borrow.{Lends, follows_if, MutBor, Fml, RattleType}
 use mir.Syntax.{named}

@@ -157,7 +157,7 @@ module _ (S : Scalar) where
   abbrev pub is_inside : ℕ → ℕ → Triplet S.Value → Bool
   is_inside rows cols t = nat_lt t.0 rows && nat_lt t.1 cols
 
-  -- the matrix, if all triplets lie inside the sizes
+  -- the matrix, if all triplets lie within the shape
   abbrev pub inside_of : Sizes → List (Triplet S.Value) → Read (Coo S.Value)
   inside_of s ts =
       if list_all (is_inside s.0 s.1) ts then Ok (coo_of s.0 s.1 ts)

@@ -85,7 +85,7 @@ module _ (R : CommRing) {T : Type 0} (f : T → R.Carrier) (z : T) (m : Compress
   not_stored i none hit = none ((lane_has m.pattern sound.valid k i lane).1
       ((has_is_place R f m.pattern sound.valid m.values sound.count k i).0 hit))
 
-  -- behind the diagonal position q stand the entries below the diagonal
+  -- after the diagonal position q stand the entries below the diagonal
   column_is : (q : ℕ) (e : T) → q < length (lane_of m.pattern k)
       → get_or (lane_of m.pattern k) q 0 ≡ k → R.mul (f (get_or (values_of m k) q z)) (f e) ≡ R.one
       → IsColumnBelow R f (plain_of_cols R f m) k (drop (q + 1) (lane_of m.pattern k))

@@ -1,4 +1,4 @@
--- Four columns one behind the other in a list.
+-- Four columns one after the other in a list.
 use Rattle.std.proofs.Common.{◌≡◌, ℕ, ◌+◌, ◌*◌, ◌<◌, inl, inr, List, ◌++◌, length, get_or, ap, sym}
 use Rattle.std.proofs.Common.{subst, ◌∙◌, arith}
 use Rattle.std.proofs.lemmas.List.{get_or_append_left, get_or-append-add}
@@ -20,7 +20,7 @@ four_cases P p q r s j lt = elim (lt_add_one_cases j 3 lt) [
 ]
 
 module _ {T : Type 0} (z : T) (n : ℕ) where
-  -- behind a column
+  -- after a column
   skip : (a r : List T) (p : ℕ) → length a ≡ n → get_or (a ++ r) (n + p) z ≡ get_or r p z
   skip a r p e = ap (λ m. get_or (a ++ r) (m + p) z) (sym e) ∙ get_or-append-add a r p z
 

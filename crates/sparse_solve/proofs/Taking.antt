@@ -79,7 +79,7 @@ module _ (R : CommRing) {T : Type 0} (f : T → R.Carrier) (z : T) where
         (subst (λ n. IsTaken R f n k rows values (f e) (entries R f z x) (entries R f z y)) same
         takes) h
 
-    -- the answer of row k is written, after the rows behind it
+    -- the answer of row k is written, after the rows that follow it
     pub backward_list : (step : ℕ) (entry known minus rest new : T) → m.pattern.minor_dim ≡ length b
         → k + 1 + step ≡ length b
         → entry ≡ get_or x k entry → f known ≡ dot_of R f rows values (entries R f z x)

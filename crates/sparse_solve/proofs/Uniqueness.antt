@@ -38,7 +38,7 @@ module _ (R : CommRing) where
         ∙ ap (R.add (R.add (sum_below R n g) (g n))) (ap f (sym at))
   ]
 
-  -- a factor with an inverse falls away
+  -- a factor with an inverse cancels
   cancel_mul : (t e x y : R.Carrier) → R.mul t e ≡ R.one → R.mul t x ≡ R.mul t y → x ≡ y
   cancel_mul t e x y inv h =
       let whole : (v : R.Carrier) → R.mul e (R.mul t v) ≡ v = λ v. sym (R.laws.mul_assoc e t v)

@@ -28,7 +28,7 @@ pub fn solve_columns<T: Units>(l: Op<&CscMatrix<T>>, b: &mut DMatrix<T>)
     }
 }
 
-// Solves `op(T) X = B` over four columns of B, or over one where fewer are left. Returns the number of the column behind them.
+// Solves `op(T) X = B` over four columns of B, or over one where fewer are left. Returns the number of the column after them.
 fn solve_next<T: Units>(l: Op<&CscMatrix<T>>, from: usize, b: &mut DMatrix<T>) -> usize
     requires square { (inner_of l).now.pattern.minor_dim ≡ (inner_of l).now.pattern.major_dim }
     requires rows { b.old.nrows ≡ (inner_of l).now.pattern.major_dim }
@@ -63,7 +63,7 @@ fn solve_one<T: Units>(l: Op<&CscMatrix<T>>, x: &mut [T])
     }
 }
 
-// Solves `op(T) x = b` over four columns that stand one behind the other.
+// Solves `op(T) x = b` over four columns that stand one after the other.
 fn solve_four<T: Units>(l: Op<&CscMatrix<T>>, nrows: usize, x: &mut [T])
     requires square { (inner_of l).now.pattern.minor_dim ≡ (inner_of l).now.pattern.major_dim }
     requires rows { nrows ≡ (inner_of l).now.pattern.major_dim }

@@ -185,7 +185,7 @@ gained_lane old lane P gains =
 module _ (R : CommRing) {T : Type 0} (f g : T → R.Carrier) (old : List ℕ) (us : List T) (a : List ℕ)
     (av : List T) (b : List ℕ) (bv : List T) (ra : IsStrictlyIncreasing a)
     (rb : IsStrictlyIncreasing b) (ca : length av ≡ length a) (cb : length bv ≡ length b) where
-  -- what is left of both lanes, one of which is gone through, is appended
+  -- what is left of both lanes, one of which is traversed, is appended
   pub rest_added : (now : List ℕ) (ws mid new : List T) (p q : ℕ) → p ≤ length a → q ≤ length b
       → (p ≡ length a) ⊎ (q ≡ length b) → IsAdding R f g old now us ws a av b bv p q
       → GainsValues R f f ws mid (drop p av) → GainsValues R f g mid new (drop q bv)

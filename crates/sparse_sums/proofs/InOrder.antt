@@ -1,4 +1,4 @@
--- A lane that is gone through beside a target lane that has its indices.
+-- A lane that is traversed beside a target lane that has its indices.
 use Rattle.std.proofs.Common.{◌≡◌, ◌≢◌, ℕ, ◌+◌, ◌-◌, ◌<◌, ◌≤◌, ◌⊎◌, inl, inr, ◌↔◌, List, length}
 use Rattle.std.proofs.Common.{get_or, set, take, Contains, ap, sym, subst, ◌∙◌, refl, arith}
 use Rattle.std.specs.Prelude.{nat_eq}
@@ -39,7 +39,7 @@ none_passed target lane = record {
   missed = λ _ h. absurd (omega (arith, h.1));
 }
 
--- no index of a front is greater than its last one
+-- no index of a prefix is greater than its last one
 front_below : (xs : List ℕ) (p j : ℕ) → IsStrictlyIncreasing xs → p < length xs
     → Contains (take (p + 1) xs) j → j ≤ get_or xs p 0
 front_below xs p j rising lt h =

@@ -44,7 +44,7 @@ swapped a b p q lane m = record {
   long = omega (arith, m.long);
 }
 
--- one element more of a front
+-- one element more of a prefix
 pub more : (xs : List ℕ) (p x j : ℕ) → p < length xs → x ≡ get_or xs p 0
     → Contains (take (p + 1) xs) j ↔ (Contains (take p xs) j ⊎ (x ≡ j))
 more xs p x j lt is =
@@ -214,7 +214,7 @@ module _ (old a b : List ℕ) (ra : IsStrictlyIncreasing a) (rb : IsStrictlyIncr
         swapped a b p q m.lane m.merged;
   }
 
-  -- what is left of both, one of which is gone through
+  -- what is left of both, one of which is traversed
   pub rest_merged : (now : List ℕ) (p q : ℕ) → p ≤ length a → q ≤ length b
       → (p ≡ length a) ⊎ (q ≡ length b) → IsMerging old now a b p q
       → GainsLane old ((now ++ drop p a) ++ drop q b) (λ j. Contains a j ⊎ Contains b j)

@@ -59,7 +59,7 @@ same_length a b xs ys u v =
     let other = no_longer ys xs v.rising u.rising (λ j h. (u.holds j).1 ((v.holds j).0 h)) in
     omega (arith, one, other)
 
--- an element of a front
+-- an element of a prefix
 from_front : (n : ℕ) (xs : List ℕ) (j : ℕ) → Contains (take n xs) j → Contains xs j
 from_front n xs j h = subst (λ l. Contains l j) (take-append-drop n xs)
     (Contains-append_left (take n xs) (drop n xs) j h)
@@ -146,7 +146,7 @@ module _ (a b : List ℕ) (ra : IsStrictlyIncreasing a) (rb : IsStrictlyIncreasi
         );
       }
 
--- what is left of both lanes, one of which is gone through, fits where the union does
+-- what is left of both lanes, one of which is traversed, fits where the union does
 pub rest_fits : (old now a b : List ℕ) (p q capacity : ℕ) → IsStrictlyIncreasing a
     → IsStrictlyIncreasing b
     → p ≤ length a → q ≤ length b → (p ≡ length a) ⊎ (q ≡ length b) → IsMerging old now a b p q

@@ -70,7 +70,7 @@ pub(crate) fn add_lanes<T: Ring, const NEGATE: bool>(
     push_rest::<T, NEGATE>(&b[q..], &b_values[q..], indices, values);
 }
 
-// Merges until one of the lanes is gone through. Returns the positions that were reached.
+// Merges until one of the lanes is traversed. Returns the positions that were reached.
 fn add_fronts<T: Ring, const NEGATE: bool>(
     a: &[usize],
     a_values: &[T],

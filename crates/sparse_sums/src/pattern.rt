@@ -60,7 +60,7 @@ fn merge_lanes(a: &[usize], b: &[usize], indices: &mut Vec<usize>) -> Result<(),
     indices.extend_from_slice(&b[q..])
 }
 
-// Merges until one of the lanes is gone through. Returns the positions that were reached.
+// Merges until one of the lanes is traversed. Returns the positions that were reached.
 fn merge_fronts(a: &[usize], b: &[usize], indices: &mut Vec<usize>) -> (usize, usize)
     requires a_rising { IsStrictlyIncreasing a.now }
     requires b_rising { IsStrictlyIncreasing b.now }

@@ -4,7 +4,7 @@ use sparse_algebra::scalar::W64;
 use sparse_base::coo::CooMatrix;
 use std::alloc::{AllocError, Global};
 
-/// The list of these triplets; those outside the sizes are left out.
+/// The list of these triplets; those outside the shape are left out.
 pub fn list(
     alloc: Global,
     nrows: usize,

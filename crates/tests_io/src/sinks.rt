@@ -1,4 +1,4 @@
-//! Writers behind a sink: faults of each kind, and how many bytes each write is given.
+//! Writers below a sink: faults of each kind, and how many bytes each write is given.
 
 use crate::matrices::{antidiagonal, list};
 use crate::writing::CAPACITY;

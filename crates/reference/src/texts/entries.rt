@@ -45,7 +45,7 @@ pub(crate) fn counted_entries<T: MatrixMarketScalar>(
     }
 }
 
-// The matrix, where all triplets lie inside the sizes.
+// The matrix, where all triplets lie within the shape.
 fn inside<T: MatrixMarketScalar>(
     nrows: usize,
     ncols: usize,

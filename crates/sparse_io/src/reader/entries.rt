@@ -25,7 +25,7 @@ use sparse_parser::size::Size;
 use sparse_pattern::error::{SparseFormatError, SparseFormatErrorKind};
 use std::alloc::{AllocError, Global};
 
-/// Whether the triplets read so far lie inside the sizes, and whether their rows do.
+/// Whether the triplets read so far lie within the shape, and whether their rows do.
 #[derive(Clone, Copy)]
 pub struct Bounds {
     inside: bool,
@@ -116,7 +116,7 @@ fn general_triplets<T: MatrixMarketScalar>(
     Some((triplets(header, at, line), after))
 }
 
-// Returns the matrix if the number of its data lines is right and its triplets lie inside the sizes.
+// Returns the matrix if the number of its data lines is right and its triplets lie within the shape.
 fn finished<T: MatrixMarketScalar>(
     matrix: CooMatrix<T>,
     complete: bool,
@@ -167,7 +167,7 @@ fn room(header: Header, count: Option<usize>, len: usize) -> usize {
     }
 }
 
-// Pushes an entry and the mirrored one, unless one of them or one before lies outside the sizes.
+// Pushes an entry and the mirrored one, unless one of them or one before lies outside the shape.
 #[inline(always)]
 fn add_all<T: MatrixMarketScalar>(
     matrix: &mut CooMatrix<T>,
@@ -191,7 +191,7 @@ fn add_all<T: MatrixMarketScalar>(
     }
 }
 
-// Pushes a triplet, unless it or one before lies outside the sizes.
+// Pushes a triplet, unless it or one before lies outside the shape.
 #[inline(always)]
 fn add<T: MatrixMarketScalar>(
     matrix: &mut CooMatrix<T>,

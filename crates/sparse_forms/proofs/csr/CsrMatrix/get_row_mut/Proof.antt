@@ -129,7 +129,7 @@ get_row_mut_spec 𝓤 𝓛 𝓜 𝓡 wired T L =
     await ! tt $ pick ! (λ q. split ! $ split ! $ move ! (2 ∷ []) $ pick !
     (λ ws. split ! $ drop ! $ split ! $ move ! (1 ∷ []) $ split ! $ heard ! _
     (λ inside. heard ! _ (λ same.
-    -- [what the matrix follows; the tokens; the matrix, if it is lent]
+    -- [what the matrix follows; the tokens; the matrix, if it is borrowed]
     move ! (2 ∷ []) $ lent_cases ! (named 0) κs.0 S v q
     (λ m is-some is-val.
     let same-now : m.now ≡ s.now = subst (λ (o : Option (MutBor S.Denot)). IfSome o

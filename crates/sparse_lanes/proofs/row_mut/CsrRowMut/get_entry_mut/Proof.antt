@@ -1,4 +1,4 @@
--- `get_entry_mut` hands on what `find_mut` lends, as an entry: a walk over the two calls.
+-- `get_entry_mut` passes on what `find_mut` lends, as an entry: a walk over the two calls.
 use mathlib.Core.Path.{◌≡◌, refl, sym, ap, ◌∙◌, subst}
 use mathlib.Core.List.{List, [], ◌∷◌}
 use mir.Val.{Val}
