@@ -39,20 +39,6 @@ module _ (R : CommRing) {T : Type 0} (f : T → R.Carrier) (z : T) (d : Raw) (va
   rest_more others rest p from = others p (λ here. omega (arith, here.to))
       ∙ rest p (omega (arith, (valid.lanes n lane).ordered))
 
--- the lanes up to n have their values, once lane n has
-module _ {X T : Type 0} (f : T → X) (z : T) (d : Raw) (valid : IsValid d) (x : ℕ → ℕ → X)
-    (old new : List T) (n : ℕ) (lane : n < d.major_dim) where
-  pub made_more : ((p : ℕ) → (IsInLane d n p → ⊥) → get_or new p z ≡ get_or old p z)
-      → ((j p : ℕ) → IsPosition d n j p → f (get_or new p z) ≡ x n j)
-      → ((i j p : ℕ) → i < n → IsPosition d i j p → f (get_or old p z) ≡ x i j)
-      → (i j p : ℕ) → i < n + 1 → IsPosition d i j p → f (get_or new p z) ≡ x i j
-  made_more others here before i j p lt at = elim (lt_add_one_cases i n lt) [
-    | inl earlier ↦ ap f (others p (λ now. omega (arith, one_lane d valid i n p at.0 now, earlier)))
-        ∙ before i j p earlier at
-    | inr last ↦ here j p (subst (λ i. IsPosition d i j p) last at)
-        ∙ ap (λ i. x i j) (sym last)
-  ]
-
 -- what is left in the scratch row, where the row has the places of a lane alone
 pub left_zero : (R : CommRing) {T : Type 0} (f : T → R.Carrier) (z : T) (d : Raw) (i : ℕ)
     (alpha : R.Carrier) (x : ℕ → R.Carrier) (row left : List T)

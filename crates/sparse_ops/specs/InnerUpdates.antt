@@ -17,10 +17,6 @@ AreUpdated R f z d beta alpha x old new = (i j p : ℕ) → IsPosition d i j p
     → f (slice_index_or new p z) ≡ R.add (R.mul beta (f (slice_index_or old p z)))
     (R.mul alpha (x i j))
 
--- at each place of the pattern, the value represents x
-abbrev pub HasValuesOf : {X T : Type 0} → (T → X) → T → Raw → (ℕ → ℕ → X) → List T → Type 0
-HasValuesOf f z d x values = (i j p : ℕ) → IsPosition d i j p → f (slice_index_or values p z) ≡ x i j
-
 -- the triples (i, k, j) of the first n places (i, k) of a
 abbrev pub triples_below : ℕ → Raw → Raw → ℕ
 triples_below n a b = sum_by (λ k. length (lane_of b k)) (take n a.indices)

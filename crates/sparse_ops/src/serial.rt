@@ -2,7 +2,6 @@
 
 mod bits;
 mod factor;
-mod gather;
 mod pattern;
 pub(crate) mod prealloc;
 mod product;

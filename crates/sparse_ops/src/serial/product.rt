@@ -4,9 +4,10 @@ ghost use Rattle.std.specs.Prelude.{◌≡◌, IfOk};
 ghost use Rattle.sparse_algebra.specs.Plain.{plain_product};
 ghost use Rattle.sparse_cs.specs.PlainOfLanes.{plain_of_rows, plain_of_cols};
 
-use super::gather::product_values;
 use super::pattern::spmm_csr_pattern;
+use super::update::update;
 use sparse_algebra::scalar::Ring;
+use sparse_base::steps::Steps;
 use sparse_cs::CsMatrix;
 use sparse_cs::laws::stands_law;
 use sparse_forms::csc::CscMatrix;
@@ -76,6 +77,17 @@ fn multiply<T: Ring>(
     // The law costs nothing: it tells the prover what the plain matrices are.
     stands_law::<T>();
     let pattern = spmm_csr_pattern(alloc, a.pattern(), b.pattern())?;
-    let values = product_values(alloc, &pattern, a, b)?;
+    let mut values = Vec::new(alloc);
+    values.resize(pattern.nnz(), T::zero())?;
+    update(
+        alloc,
+        T::zero(),
+        &pattern,
+        &mut values,
+        T::one(),
+        a,
+        b,
+        &mut Steps::new(),
+    )?;
     Ok(CsMatrix::from_pattern_and_values(pattern, values))
 }

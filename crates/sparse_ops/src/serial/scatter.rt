@@ -58,7 +58,7 @@ pub(super) fn scatter_rows<T: Ring>(
 }
 
 // Adds `alpha` times row i of the product to a row.
-pub(super) fn add_product_row<T: Ring>(
+fn add_product_row<T: Ring>(
     alpha: T,
     a: &CsMatrix<T>,
     i: usize,
