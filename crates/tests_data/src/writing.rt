@@ -9,17 +9,26 @@ use sparse_pattern::pattern::SparsityPattern;
 use std::alloc::Global;
 use std::test::Fail;
 
-const COO: &str =
-    r#"{"nrows":3,"ncols":5,"row_indices":[2,1,2],"col_indices":[4,0,4],"values":[7,0,-7]}"#;
+// For each kind, the text of a matrix with places and that of one without.
+const COO: [&str; 2] = [
+    r#"{"nrows":3,"ncols":5,"row_indices":[2,1,2],"col_indices":[4,0,4],"values":[7,0,-7]}"#,
+    r#"{"nrows":0,"ncols":2,"row_indices":[],"col_indices":[],"values":[]}"#,
+];
 
-const CSR: &str =
-    r#"{"nrows":3,"ncols":6,"row_offsets":[0,2,2,5],"col_indices":[0,5,1,2,3],"values":[0,1,2,3,4]}"#;
+const CSR: [&str; 2] = [
+    r#"{"nrows":3,"ncols":6,"row_offsets":[0,2,2,5],"col_indices":[0,5,1,2,3],"values":[0,1,2,3,4]}"#,
+    r#"{"nrows":1,"ncols":0,"row_offsets":[0,0],"col_indices":[],"values":[]}"#,
+];
 
-const CSC: &str =
-    r#"{"nrows":6,"ncols":3,"col_offsets":[0,2,2,5],"row_indices":[0,5,1,2,3],"values":[0,1,2,3,4]}"#;
+const CSC: [&str; 2] = [
+    r#"{"nrows":6,"ncols":3,"col_offsets":[0,2,2,5],"row_indices":[0,5,1,2,3],"values":[0,1,2,3,4]}"#,
+    r#"{"nrows":0,"ncols":1,"col_offsets":[0,0],"row_indices":[],"values":[]}"#,
+];
 
-const PATTERN: &str =
-    r#"{"major_dim":3,"minor_dim":6,"major_offsets":[0,2,2,5],"minor_indices":[0,5,1,2,3]}"#;
+const PATTERN: [&str; 2] = [
+    r#"{"major_dim":3,"minor_dim":6,"major_offsets":[0,2,2,5],"minor_indices":[0,5,1,2,3]}"#,
+    r#"{"major_dim":0,"minor_dim":2,"major_offsets":[0],"minor_indices":[]}"#,
+];
 
 // Whether the matrix of a text is written as that text, and taken back as an equal matrix. `None` for a refusal.
 fn coo_returns_text(alloc: Global, text: &str) -> Option<bool> {
@@ -52,9 +61,21 @@ fn pattern_returns_text(alloc: Global, text: &str) -> Option<bool> {
 
 #[test]
 fn what_is_written_is_what_was_read(rt: HostRuntime) -> Result<(), Fail> {
-    assert_eq!(rt; coo_returns_text(rt.alloc(), COO), Some(true));
-    assert_eq!(rt; csr_returns_text(rt.alloc(), CSR), Some(true));
-    assert_eq!(rt; csc_returns_text(rt.alloc(), CSC), Some(true));
-    assert_eq!(rt; pattern_returns_text(rt.alloc(), PATTERN), Some(true));
+    for text in COO {
+        assert_eq!(rt; coo_returns_text(rt.alloc(), text), Some(true), "{text}");
+    }
+    for text in CSR {
+        assert_eq!(rt; csr_returns_text(rt.alloc(), text), Some(true), "{text}");
+    }
+    for text in CSC {
+        assert_eq!(rt; csc_returns_text(rt.alloc(), text), Some(true), "{text}");
+    }
+    for text in PATTERN {
+        assert_eq!(rt;
+            pattern_returns_text(rt.alloc(), text),
+            Some(true),
+            "{text}"
+        );
+    }
     Ok(())
 }

@@ -147,12 +147,24 @@ fn product(
     Ok(Some(mul_csr(alloc, &left, &right)?))
 }
 
+// Numbers of rows, of middle indices, of columns and of triplets. The rows of the last two products take hundreds of multiplications each,
+// and their indices are read from several words of bits.
+const SIZES: [(u8, u8, u8, usize); 7] = [
+    (1, 1, 1, 8),
+    (4, 3, 5, 8),
+    (3, 5, 4, 8),
+    (5, 5, 5, 8),
+    (2, 0, 3, 8),
+    (6, 20, 200, 300),
+    (3, 7, 65, 400),
+];
+
 #[test]
 fn products_by_rows(rt: HostRuntime) -> Result<(), Fail> {
     let mut generator = Generator::new(2);
-    for (nrows, inner, ncols) in [(1, 1, 1), (4, 3, 5), (3, 5, 4), (5, 5, 5), (2, 0, 3)] {
-        let a = list(rt.alloc(), &mut generator, (nrows, inner), 8)?;
-        let b = list(rt.alloc(), &mut generator, (inner, ncols), 8)?;
+    for (nrows, inner, ncols, count) in SIZES {
+        let a = list(rt.alloc(), &mut generator, (nrows, inner), count)?;
+        let b = list(rt.alloc(), &mut generator, (inner, ncols), count)?;
         let product = product(rt.alloc(), &a, &b)?.ok_or("sizes that don't fit")?;
         let rows = rows_of_product(rt.alloc(), &a, &b)?;
         assert!(rt; product.ncols() == usize::from(ncols));
