@@ -2,6 +2,8 @@
 #![tactic(auto)]
 
 #[cfg(test)]
+mod label;
+#[cfg(test)]
 mod matrices;
 pub mod residue7;
 pub mod solving;
