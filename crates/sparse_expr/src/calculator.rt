@@ -113,7 +113,7 @@ where
     W: Sink,
     ensures none_failed { OnOk result (W.failures out.new ≡ W.failures out.old) }
     ensures all { OnOk result (Appends (W.taken out.old) (W.taken out.new) (text_of_coo (S.exported matrix.now))) }
-    ensures beginning { OnErr result (AppendsSome (W.taken out.old) (W.taken out.new) (text_of_coo (S.exported matrix.now))) }
+    ensures prefix { OnErr result (AppendsSome (W.taken out.old) (W.taken out.new) (text_of_coo (S.exported matrix.now))) }
     ensures refused { IfErr result (RefusesSave
         (effect (W.taken out.old) (W.taken out.new)
         (W.failures out.old) (W.failures out.new) (W.last out.new))) }

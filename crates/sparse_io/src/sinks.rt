@@ -37,7 +37,7 @@ pub fn write_all_to<W: Sink>(sink: &mut W, bytes: &[u8]) -> Result<(), ErrorKind
     ensures all { OnOk result (Appends (W.taken sink.old) (W.taken sink.new) bytes.now) }
     ensures one_failed { OnErr result (W.failures sink.new ≡ W.failures sink.old + 1) }
     ensures kind { IfErr result (λ kind. W.last sink.new ≡ Some kind) }
-    ensures beginning { OnErr result (AppendsSome (W.taken sink.old) (W.taken sink.new) bytes.now) }
+    ensures prefix { OnErr result (AppendsSome (W.taken sink.old) (W.taken sink.new) bytes.now) }
 {
     let mut rest = bytes;
     while !rest.is_empty() {

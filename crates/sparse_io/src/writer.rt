@@ -90,7 +90,7 @@ fn flush<W: Sink>(sink: &mut W, text: &mut String) -> Result<(), MatrixMarketErr
     ensures unfailed { OnOk result (W.failures sink.new ≡ W.failures sink.old) }
     ensures all { OnOk result (Appends (W.taken sink.old) (W.taken sink.new) (string_bytes text.old)) }
     ensures empty { OnOk result (string_bytes text.new ≡ []) }
-    ensures beginning { OnErr result (AppendsSome (W.taken sink.old) (W.taken sink.new) (string_bytes text.old)) }
+    ensures prefix { OnErr result (AppendsSome (W.taken sink.old) (W.taken sink.new) (string_bytes text.old)) }
     ensures refused { IfErr result (λ e. IsRefusedWrite (kind_of e) (W.failures sink.old) (W.failures sink.new) (W.last sink.new)) }
 {
     write_all_to(sink, text.as_bytes())?;
@@ -114,7 +114,7 @@ where
     ensures unfailed { OnOk result (W.failures sink.new ≡ W.failures sink.old) }
     ensures buffered { OnOk result (IsBuffered (W.taken sink.old) (W.taken sink.new) (string_bytes text.new)
         (string_bytes text.old ++ triplet_line (λ x. T.scalar.text (T.value x)) (row, col, value.now))) }
-    ensures beginning { OnErr result (AppendsSome (W.taken sink.old) (W.taken sink.new) (string_bytes text.old)) }
+    ensures prefix { OnErr result (AppendsSome (W.taken sink.old) (W.taken sink.new) (string_bytes text.old)) }
     ensures refused { IfErr result (λ e. IsRefusedWrite (kind_of e) (W.failures sink.old) (W.failures sink.new) (W.last sink.new)) }
 {
     if text.len() >= FULL {
@@ -144,7 +144,7 @@ where
     S: MatrixMarketExport<T>,
     ensures ok { OnOk result (Appends (W.taken sink.old) (W.taken sink.new) (text_of T.scalar.name (λ x. T.scalar.text (T.value x)) (S.exported matrix.now))) }
     ensures unfailed { OnOk result (W.failures sink.new ≡ W.failures sink.old) }
-    ensures beginning { OnErr result (AppendsSome (W.taken sink.old) (W.taken sink.new) (text_of T.scalar.name (λ x. T.scalar.text (T.value x)) (S.exported matrix.now))) }
+    ensures prefix { OnErr result (AppendsSome (W.taken sink.old) (W.taken sink.new) (text_of T.scalar.name (λ x. T.scalar.text (T.value x)) (S.exported matrix.now))) }
     ensures refused { IfErr result (λ e. IsRefusedWrite (kind_of e) (W.failures sink.old) (W.failures sink.new) (W.last sink.new)) }
 {
     let mut text = String::with_capacity(alloc, CAPACITY)?;

@@ -55,7 +55,7 @@ returns-in-Rows-clause-refused g c =
     both_of_err c.save.result _ _ _
     (λ e some refused. refuses-write c.args.form (texts c.args.sources.now) c.args.expr.now value
     outcome _ said _ e some refused)
-    c.save.ensures.beginning c.save.ensures.refused
+    c.save.ensures.prefix c.save.ensures.refused
 
 pub returns-in_err-value-in-Cols-clause-refused : goal.returns-in_err-value-in-Cols-clause-refused
 returns-in_err-value-in-Cols-clause-refused g c =
@@ -100,4 +100,4 @@ returns-clause-refused g c =
     both_of_err c.save-in-Cols.result _ _ _
     (λ e some refused. refuses-write c.args.form (texts c.args.sources.now) c.args.expr.now value
     outcome _ said _ e some refused)
-    c.save-in-Cols.ensures.beginning c.save-in-Cols.ensures.refused
+    c.save-in-Cols.ensures.prefix c.save-in-Cols.ensures.refused

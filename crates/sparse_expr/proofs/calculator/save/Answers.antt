@@ -11,6 +11,6 @@ returns-in_default g c =
     record {
       none_failed = tt;
       all = tt;
-      beginning = c.in-Err.ensures.beginning;
+      prefix = c.in-Err.ensures.prefix;
       refused = memory-refused c.kind.result _ _ _ refused c.in_default.not-IOError;
     }

@@ -5,8 +5,8 @@ use Rattle.sparse_io.proofs.writer.put_triplet.Goals as goal
 use Rattle.sparse_io.proofs.writer.put_triplet.Goals.{then-len-ge-FULL+in_ok-flush}
 use Rattle.sparse_io.proofs.writer.put_triplet.Goals.{else-len-ge-FULL}
 
-pub returns-in_err-push_triplet-clause-beginning : goal.returns-in_err-push_triplet-clause-beginning
-returns-in_err-push_triplet-clause-beginning g c =
+pub returns-in_err-push_triplet-clause-prefix : goal.returns-in_err-push_triplet-clause-prefix
+returns-in_err-push_triplet-clause-prefix g c =
     let p = err_from_is_err_and c.from_residual-in_err-push_triplet.result
     c.from_residual-in_err-push_triplet.ensures.1 in
     rw (p.1) (elim c.if-len-ge-FULL.branch [

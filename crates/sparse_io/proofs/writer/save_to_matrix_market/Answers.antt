@@ -18,20 +18,20 @@ loop-row-preserved g c = record {
       c.in-Some.ensures.steps c.in_ok-put_triplet.ensures.buffered;
 }
 
-pub returns-in_err-put_triplet-clause-beginning : goal.returns-in_err-put_triplet-clause-beginning
-returns-in_err-put_triplet-clause-beginning g c =
+pub returns-in_err-put_triplet-clause-prefix : goal.returns-in_err-put_triplet-clause-prefix
+returns-in_err-put_triplet-clause-prefix g c =
     let p = err_from_is_err_and c.from_residual-in_err-put_triplet.result
     c.from_residual-in_err-put_triplet.ensures.1 in
     rw (p.1) (IsWriting-refused _ _ _ _ _ _ _ _ c.loop-row.invariant.writing
-    c.in_err-put_triplet.ensures.beginning)
+    c.in_err-put_triplet.ensures.prefix)
 
 pub returns-clause-ok : goal.returns-clause-ok
 returns-clause-ok g c = IsWriting-all _ _ _ _ _ _ _ _ c.loop-row.invariant.writing
     c.in-None.ensures.steps.0 c.in_ok-flush.ensures.all
 
-pub returns-in_err-flush-clause-beginning : goal.returns-in_err-flush-clause-beginning
-returns-in_err-flush-clause-beginning g c =
+pub returns-in_err-flush-clause-prefix : goal.returns-in_err-flush-clause-prefix
+returns-in_err-flush-clause-prefix g c =
     let p = err_from_is_err_and c.from_residual-in_err-flush.result
     c.from_residual-in_err-flush.ensures.1 in
     rw (p.1) (IsWriting-refused _ _ _ _ _ _ _ _ c.loop-row.invariant.writing
-    c.in_err-flush.ensures.beginning)
+    c.in_err-flush.ensures.prefix)
