@@ -1,11 +1,12 @@
 //! Examples of the module `ops`.
 
 use nalgebra_sparse::dense::DMatrix;
-use nalgebra_sparse::ops::Op;
 use nalgebra_sparse::ops::serial::{
     OperationErrorKind, add_csr, div_scalar_csr, mul_csc_dense, mul_csr, mul_csr_dense, scale_csr,
-    spmm_csc_dense, spmm_csr_dense, spmm_csr_pattern, spsolve_csc_lower_triangular, sub_csr,
+    spmm_csc_dense, spmm_csr_dense, spmm_csr_pattern, spmm_csr_prealloc_unchecked_counted,
+    spsolve_csc_lower_triangular, sub_csr,
 };
+use nalgebra_sparse::ops::{Op, Steps};
 use nalgebra_sparse::pattern::SparsityPattern;
 use nalgebra_sparse::scalar::W64;
 use nalgebra_sparse::{CscMatrix, CsrMatrix};
@@ -19,6 +20,24 @@ fn a_matrix_is_squared(alloc: Global) -> Result<bool, Fail> {
     let matrix = CsrMatrix::try_from_csr_data(2, 2, offsets, columns, values)?;
     let square = mul_csr(alloc, &matrix, &matrix)?;
     Ok(square.values() == [W64::new(1), W64::new(8), W64::new(9)].as_slice())
+}
+
+fn steps_of_a_square(alloc: Global) -> Result<bool, Fail> {
+    let matrix = CsrMatrix::<W64>::identity(alloc, 2)?;
+    let mut square = mul_csr(alloc, &matrix, &matrix)?;
+    let (zero, one) = (W64::new(0), W64::new(1));
+    let operand = Op::NoOp(&matrix);
+    let mut steps = Steps::new();
+    spmm_csr_prealloc_unchecked_counted(
+        alloc,
+        zero,
+        &mut square,
+        one,
+        operand,
+        operand,
+        &mut steps,
+    )?;
+    Ok(square == matrix)
 }
 
 fn places_of_a_square(alloc: Global) -> Result<bool, Fail> {
@@ -104,7 +123,8 @@ fn a_matrix_by_columns_times_a_dense_matrix(alloc: Global) -> Result<bool, Fail>
 fn products_and_solves(rt: HostRuntime) -> Result<(), Fail> {
     let alloc = rt.alloc();
     let products = a_matrix_is_squared(alloc)? && places_of_a_square(alloc)?;
-    assert!(rt; products && a_triangular_system_is_solved(alloc)?);
+    assert!(rt; products && steps_of_a_square(alloc)?);
+    assert!(rt; a_triangular_system_is_solved(alloc)?);
     Ok(())
 }
 

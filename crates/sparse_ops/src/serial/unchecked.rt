@@ -56,6 +56,28 @@ pub fn spmm_csr_prealloc_unchecked<T: Ring>(
 ///
 /// If neither operand is transposed, the count grows by at most the number of places of `a` and of `c` and of triples (i, k, j) with (i, k) in
 /// `a` and (k, j) in `b`, also where the call refuses, and at `Ok` by at least the number of triples.
+///
+/// # Examples
+///
+/// ```rust
+/// fn steps_of_a_square(alloc: Global) -> Result<bool, Fail> {
+///     let matrix = CsrMatrix::<W64>::identity(alloc, 2)?;
+///     let mut square = mul_csr(alloc, &matrix, &matrix)?;
+///     let (zero, one) = (W64::new(0), W64::new(1));
+///     let operand = Op::NoOp(&matrix);
+///     let mut steps = Steps::new();
+///     spmm_csr_prealloc_unchecked_counted(
+///         alloc,
+///         zero,
+///         &mut square,
+///         one,
+///         operand,
+///         operand,
+///         &mut steps,
+///     )?;
+///     Ok(square == matrix)
+/// }
+/// ```
 pub fn spmm_csr_prealloc_unchecked_counted<T: Ring>(
     alloc: Global,
     beta: T,
