@@ -108,12 +108,12 @@ fn all_expressions_of_five_words(rt: HostRuntime) -> Result<(), Fail> {
             Err(error) => assert!(rt; error != ExprError::OutOfMemory),
         }
     }
-    // So many of the texts say an expression.
+    // The number of texts that say an expression.
     assert_eq!(rt; count, 4708);
     Ok(())
 }
 
-// A word, and the number of operands after it. So many words are left then that they can make one operand of these.
+// A word, and the number of operands after it, which the words that are left can reduce to one.
 fn next_word(choice: usize, height: usize, left: usize) -> (&'static str, usize) {
     if height == 0 || (height <= left && choice % 8 < 3) {
         (WORDS[choice % 3], height.saturating_add(1))
