@@ -1,6 +1,6 @@
 //! Two lanes of entries, merged into one.
 
-ghost use Rattle.std.specs.Prelude.{◌≡◌, ℕ, ◌+◌, ◌-◌, ◌≤◌, ◌⊎◌, ◌++◌, length, vec_len, vec_capacity, Contains};
+ghost use Rattle.std.specs.Prelude.{◌≡◌, ℕ, ◌+◌, ◌-◌, ◌<◌, ◌≤◌, ◌⊎◌, ◌++◌, length, vec_len, vec_capacity, Contains};
 ghost use Rattle.std.specs.List.Sorted.{IsStrictlyIncreasing};
 ghost use Rattle.sparse_cs.specs.InnerRows.{lane_value};
 ghost use Rattle.sparse_sums.specs.InnerSigns.{signed};
@@ -70,7 +70,25 @@ pub(crate) fn add_lanes<T: Ring, const NEGATE: bool>(
     push_rest::<T, NEGATE>(&b[q..], &b_values[q..], indices, values);
 }
 
-// Merges until one of the lanes is traversed. Returns the positions that were reached.
+// Returns the value at the smaller of two indices, or the sum of both values where these are equal.
+// The sum is computed first, so that the result is selected without a branch.
+fn front_value<T: Ring>(j: usize, first: T, k: usize, second: T) -> T
+    ensures first { j < k → result ≡ first }
+    ensures second { k < j → result ≡ second }
+    ensures sum { j ≡ k → T.value result ≡ T.ring.add (T.value first) (T.value second) }
+{
+    let sum = first.add(second);
+    if j < k {
+        first
+    } else if k < j {
+        second
+    } else {
+        sum
+    }
+}
+
+// Merges until one of the lanes is traversed. Returns the positions that were reached. No branch
+// within the lanes depends on an index.
 fn add_fronts<T: Ring, const NEGATE: bool>(
     a: &[usize],
     a_values: &[T],
@@ -103,18 +121,13 @@ fn add_fronts<T: Ring, const NEGATE: bool>(
         // There is room: what is merged so far lacks an index of the union.
         prove!(indices.len() < indices.capacity());
         let (j, k) = (a[p], b[q]);
-        if j < k {
-            indices.push_reserved(j);
-            values.push_reserved(a_values[p]);
+        let value = with_sign::<T, NEGATE>(b_values[q]);
+        indices.push_reserved(j.min(k));
+        values.push_reserved(front_value(j, a_values[p], k, value));
+        if j <= k {
             p += 1;
-        } else if k < j {
-            indices.push_reserved(k);
-            values.push_reserved(with_sign::<T, NEGATE>(b_values[q]));
-            q += 1;
-        } else {
-            indices.push_reserved(j);
-            values.push_reserved(a_values[p].add(with_sign::<T, NEGATE>(b_values[q])));
-            p += 1;
+        }
+        if k <= j {
             q += 1;
         }
     }

@@ -1,9 +1,10 @@
-use Rattle.std.proofs.Common.{◌≡◌, ◌+◌, inl, inr, not, eqb, length, length-append, get_or}
+use Rattle.std.proofs.Common.{◌≡◌, ◌+◌, ◌<◌, inl, inr, not, eqb, length, length-append, get_or}
 use Rattle.std.proofs.Common.{vec_capacity, refl, ap, ◌∙◌, arith}
 use Rattle.sparse_sums.specs.InnerSigns.{signed}
 use Rattle.sparse_sums.proofs.Adding.{none_added, adding_first, adding_second, adding_both}
 use Rattle.sparse_sums.proofs.UnionCounts.{room_left, rest_fits}
 use Rattle.sparse_sums.proofs.merge.add_fronts.Goals as goal
+use Rattle.sparse_sums.proofs.merge.add_fronts.Goals.{then-j-k, else-j-k}
 
 pub prove-unreachable-requires : goal.prove-unreachable-requires
 prove-unreachable-requires g c =
@@ -64,53 +65,56 @@ loop-p-init g c =
           c.args.a_values.now c.args.b.now c.args.b_values.now;
     }
 
-pub loop-p-preserved-then-j-k : goal.loop-p-preserved-then-j-k
-loop-p-preserved-then-j-k g c =
-    let R = g.T.Ring.ring in
-    let f = g.T.Ring.value in
-    let h = λ (x : g.row.T.Denot). signed R (not (eqb g.row.NEGATE 0)) (f x) in
-    let a = c.args.a.now in
-    let p = c.loop-p.p in
-    let inv = c.loop-p.invariant in
-    let index = c.push_reserved.ensures in
-    let value = c.push_reserved-then-j-k.ensures in
-    let next = adding_first R f h c.args.indices.now.items c.args.values.now.items a
-    c.args.a_values.now c.args.b.now c.args.b_values.now c.loop-p.indices.items
-    c.loop-p.values.items p c.loop-p.q c.requires.a_rising c.requires.b_rising
-    c.requires.a_count c.requires.b_count inv.added (get_or a p 0) c.index-a_values-p.result
-    (omega arith) refl (λ _. omega arith) c.index-a_values-p.is in
-    record {
-      first = omega arith;
-      second = omega arith;
-      capacity = index.capacity ∙ inv.capacity;
-      values_capacity = value.capacity ∙ inv.values_capacity;
-      values_count = omega (arith, index.len, value.len, inv.values_count);
-      added = rw (index.items, value.items) next;
-    }
-
 pub loop-p-preserved-then-k-j : goal.loop-p-preserved-then-k-j
 loop-p-preserved-then-k-j g c =
     let R = g.T.Ring.ring in
     let f = g.T.Ring.value in
     let h = λ (x : g.row.T.Denot). signed R (not (eqb g.row.NEGATE 0)) (f x) in
+    let a = c.args.a.now in
     let b = c.args.b.now in
+    let p = c.loop-p.p in
     let q = c.loop-p.q in
     let inv = c.loop-p.invariant in
-    let index = c.push_reserved-then-k-j.ensures in
-    let value = c.push_reserved-then-k-j-2.ensures in
-    let next = adding_second R f h c.args.indices.now.items c.args.values.now.items c.args.a.now
-    c.args.a_values.now b c.args.b_values.now c.loop-p.indices.items c.loop-p.values.items
-    c.loop-p.p q c.requires.a_rising c.requires.b_rising c.requires.a_count c.requires.b_count
-    inv.added (get_or b q 0) c.with_sign.result (omega arith) refl (λ _. omega arith)
-    c.index-b_values-q.result c.index-b_values-q.is c.with_sign.ensures in
-    record {
-      first = omega arith;
-      second = omega arith;
-      capacity = index.capacity ∙ inv.capacity;
-      values_capacity = value.capacity ∙ inv.values_capacity;
-      values_count = omega (arith, index.len, value.len, inv.values_count);
-      added = rw (index.items, value.items) next;
-    }
+    let index = c.push_reserved.ensures in
+    let value = c.push_reserved-in-loop-p.ensures in
+    let front = c.front_value.ensures in
+    elim c.if-j-k.branch [
+      | then-j-k w ↦
+          let same : get_or a p 0 ≡ get_or b q 0 = omega arith in
+          let least : c.min.result ≡ get_or a p 0 = omega (arith, c.min.ensures) in
+          let next = adding_both R f h c.args.indices.now.items c.args.values.now.items a
+          c.args.a_values.now b c.args.b_values.now c.loop-p.indices.items c.loop-p.values.items p q
+          c.requires.a_rising c.requires.b_rising c.requires.a_count c.requires.b_count inv.added
+          c.min.result c.front_value.result
+          (omega arith) (omega arith) least (least ∙ same)
+          c.index-a_values-p.result c.index-b_values-q.result c.index-a_values-p.is
+          c.index-b_values-q.is (front.sum same ∙ ap (R.add (f c.index-a_values-p.result)) c.with_sign-value.ensures) in
+          record {
+            first = omega arith;
+            second = omega arith;
+            capacity = index.capacity ∙ inv.capacity;
+            values_capacity = value.capacity ∙ inv.values_capacity;
+            values_count = omega (arith, index.len, value.len, inv.values_count);
+            added = rw (index.items, value.items, w.p-is) next;
+          }
+      | else-j-k w ↦
+          let later : get_or b q 0 < get_or a p 0 = omega arith in
+          let least : c.min.result ≡ get_or b q 0 = omega (arith, c.min.ensures) in
+          let next = adding_second R f h c.args.indices.now.items c.args.values.now.items a
+          c.args.a_values.now b c.args.b_values.now c.loop-p.indices.items c.loop-p.values.items p q
+          c.requires.a_rising c.requires.b_rising c.requires.a_count c.requires.b_count inv.added
+          c.min.result c.front_value.result
+          (omega arith) least (λ _. omega (arith, least))
+          c.index-b_values-q.result c.index-b_values-q.is (ap f (front.second later) ∙ c.with_sign-value.ensures) in
+          record {
+            first = omega arith;
+            second = omega arith;
+            capacity = index.capacity ∙ inv.capacity;
+            values_capacity = value.capacity ∙ inv.values_capacity;
+            values_count = omega (arith, index.len, value.len, inv.values_count);
+            added = rw (index.items, value.items, w.p-is) next;
+          }
+    ]
 
 pub loop-p-preserved : goal.loop-p-preserved
 loop-p-preserved g c =
@@ -118,25 +122,30 @@ loop-p-preserved g c =
     let f = g.T.Ring.value in
     let h = λ (x : g.row.T.Denot). signed R (not (eqb g.row.NEGATE 0)) (f x) in
     let a = c.args.a.now in
+    let b = c.args.b.now in
     let p = c.loop-p.p in
     let q = c.loop-p.q in
     let inv = c.loop-p.invariant in
-    let index = c.push_reserved-else-k-j.ensures in
-    let value = c.push_reserved-else-k-j-2.ensures in
-    let same : get_or a p 0 ≡ get_or c.args.b.now q 0 = omega arith in
-    let sum = c.add.ensures ∙ ap (R.add (f c.index-a_values-p-else-k-j.result))
-    c.with_sign-else-k-j.ensures in
-    let next = adding_both R f h c.args.indices.now.items c.args.values.now.items a
-    c.args.a_values.now c.args.b.now c.args.b_values.now c.loop-p.indices.items
-    c.loop-p.values.items p q c.requires.a_rising c.requires.b_rising c.requires.a_count
-    c.requires.b_count inv.added (get_or a p 0) c.add.result (omega arith) (omega arith) refl
-    same c.index-a_values-p-else-k-j.result c.index-b_values-q-else-k-j.result
-    c.index-a_values-p-else-k-j.is c.index-b_values-q-else-k-j.is sum in
-    record {
-      first = omega arith;
-      second = omega arith;
-      capacity = index.capacity ∙ inv.capacity;
-      values_capacity = value.capacity ∙ inv.values_capacity;
-      values_count = omega (arith, index.len, value.len, inv.values_count);
-      added = rw (index.items, value.items) next;
-    }
+    let index = c.push_reserved.ensures in
+    let value = c.push_reserved-in-loop-p.ensures in
+    let front = c.front_value.ensures in
+    elim c.if-j-k.branch [
+      | then-j-k w ↦
+          let later : get_or a p 0 < get_or b q 0 = omega arith in
+          let least : c.min.result ≡ get_or a p 0 = omega (arith, c.min.ensures) in
+          let next = adding_first R f h c.args.indices.now.items c.args.values.now.items a
+          c.args.a_values.now b c.args.b_values.now c.loop-p.indices.items c.loop-p.values.items p q
+          c.requires.a_rising c.requires.b_rising c.requires.a_count c.requires.b_count inv.added
+          c.min.result c.front_value.result
+          (omega arith) least (λ _. omega (arith, least))
+          (rw (front.first later) c.index-a_values-p.is) in
+          record {
+            first = omega arith;
+            second = omega arith;
+            capacity = index.capacity ∙ inv.capacity;
+            values_capacity = value.capacity ∙ inv.values_capacity;
+            values_count = omega (arith, index.len, value.len, inv.values_count);
+            added = rw (index.items, value.items, w.p-is) next;
+          }
+      | else-j-k w ↦ absurd (omega arith)
+    ]
