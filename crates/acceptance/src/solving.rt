@@ -22,8 +22,10 @@ pub fn solve_and_multiply<T: Units>(
 ) -> Result<DMatrix<T>, OperationError>
     requires square { l.now.pattern.minor_dim ≡ l.now.pattern.major_dim }
     requires rows { b.old.nrows ≡ l.now.pattern.major_dim }
-    requires lower { plain_lower T.ring (plain_of_cols T.ring T.value l.now) ≡ plain_of_cols T.ring T.value l.now }
-    ensures { IfOk result (λ product. plain_of_dense T.ring T.value product ≡ plain_of_dense T.ring T.value b.old) }
+    requires lower { plain_lower T.ring (plain_of_cols T.ring T.value l.now)
+        ≡ plain_of_cols T.ring T.value l.now }
+    ensures { IfOk result
+        (λ product. plain_of_dense T.ring T.value product ≡ plain_of_dense T.ring T.value b.old) }
 {
     spsolve_csc_lower_triangular(Op::NoOp(l), b)?;
     Ok(mul_csc_dense(alloc, l, b)?)

@@ -78,7 +78,8 @@ where
     W: Sink,
     E: Sink,
     ensures status { result ≤ 2 }
-    ensures answered { result ≡ 0 → IsAnswered (texts words.now) (W.taken out.old) (W.taken out.new) }
+    ensures answered { result ≡ 0
+        → IsAnswered (texts words.now) (W.taken out.old) (W.taken out.new) }
     ensures silent { result ≡ 0 → E.taken err.new ≡ E.taken err.old }
     ensures unanswered { result ≡ 2 → W.taken out.new ≡ W.taken out.old }
 {
@@ -92,7 +93,8 @@ fn execute<R, W>(rt: &R, words: &[&str], out: &mut W) -> Result<(), Failure>
 where
     R: Files + AllocGlobal,
     W: Sink,
-    ensures answered { OnOk result (IsAnswered (texts words.now) (W.taken out.old) (W.taken out.new)) }
+    ensures answered { OnOk result
+        (IsAnswered (texts words.now) (W.taken out.old) (W.taken out.new)) }
     ensures unanswered { IfErr result (λ e. e ≡ Usage → W.taken out.new ≡ W.taken out.old) }
 {
     match words {

@@ -28,10 +28,7 @@ where
         Err(error) => return Err(Failure::Refused(unread(error.kind()))),
     };
     let pattern = pattern_of(rt.alloc(), &places)?;
-    if pattern.major_dim() != pattern.minor_dim() {
-        return Err(Failure::NotSquare);
-    }
-    let factor = CscSymbolicCholesky::factor(rt.alloc(), pattern)?;
+    let factor = factor_of(rt.alloc(), pattern)?;
     let matrix = matrix_of(rt.alloc(), factor.l_pattern())?;
     match save_to_matrix_market(rt.alloc(), out, &matrix) {
         Ok(()) => Ok(()),
@@ -51,6 +48,16 @@ fn pattern_of(alloc: Global, places: &CooMatrix<()>) -> Result<SparsityPattern, 
     }
     let (pattern, _) = convert_coo_csc(alloc, &counted)?.into_pattern_and_values();
     Ok(pattern)
+}
+
+// Returns the factor of a square pattern.
+fn factor_of(alloc: Global, pattern: SparsityPattern) -> Result<CscSymbolicCholesky, Failure>
+    ensures refused { IfErr result (λ e. e ≡ Usage → ⊥) }
+{
+    if pattern.major_dim() != pattern.minor_dim() {
+        return Err(Failure::NotSquare);
+    }
+    Ok(CscSymbolicCholesky::factor(alloc, pattern)?)
 }
 
 // Returns the matrix of a pattern by columns, without values.

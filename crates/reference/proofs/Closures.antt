@@ -64,13 +64,6 @@ pub record IsPartOfFill (p : Raw) (set : List (ℕ × ℕ)) : Type 0 where
   pub sound : (x : ℕ × ℕ) → Contains set x → InFill (UpperBase p) x.0 x.1
   pub below : (x : ℕ × ℕ) → Contains set x → (x.0 < p.major_dim) × (x.1 ≤ x.0)
 
-pub nothing_of_fill : (p : Raw) → IsPartOfFill p []
-nothing_of_fill p = record {
-  once = λ a b d lt within. absurd (omega arith);
-  sound = λ x h. absurd (omega (arith, h.1));
-  below = λ x h. absurd (omega (arith, h.1));
-}
-
 module _ (p : Raw) (set : List (ℕ × ℕ)) (x : ℕ × ℕ) (part : IsPartOfFill p set)
     (lacks : IsLacking p set x) where
   sound_new : InFill (UpperBase p) x.0 x.1

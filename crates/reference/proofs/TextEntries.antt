@@ -22,10 +22,6 @@ prefixed_twice : {A : Type 0} (first second : List A) (rest : Read (List A))
 prefixed_twice first second (Ok others) = ap Ok (sym (append_assoc first second others))
 prefixed_twice first second (Err e) = refl
 
-pub prefixed_none : {A : Type 0} (rest : Read (List A)) → prefixed [] rest ≡ rest
-prefixed_none (Ok others) = refl
-prefixed_none (Err e) = refl
-
 first_left : {A : Type 0} (xs : List A) (i : ℕ) → slice_get (drop i xs) 0 ≡ slice_get xs i
 first_left [] i = rw (drop-nil i) refl
 first_left (x ∷ xs) zero = refl

@@ -31,7 +31,8 @@ pub fn fill_by_pairs(
 // Returns a pair that the set lacks to hold the upper triangle and to be closed under fill.
 fn lacking(pattern: &SparsityPattern, set: &[(usize, usize)]) -> Option<(usize, usize)>
     ensures valid { IsValid pattern.now }
-    ensures cases { MatchOption result (IsWhole pattern.now set.now) (IsLacking pattern.now set.now) }
+    ensures cases { MatchOption result (IsWhole pattern.now set.now)
+        (IsLacking pattern.now set.now) }
 {
     let _ = pattern.major_offsets();
     for column in 0..pattern.major_dim() {

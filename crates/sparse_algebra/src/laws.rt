@@ -12,7 +12,8 @@ use crate::scalar::Ring;
 pub fn order_law<T: Ring>()
     ensures { (rows cols : ℕ) (xs ys : List (ℕ × ℕ × T))
         → IsPermutation xs ys
-        → plain_of_triplets T.ring T.value rows cols xs ≡ plain_of_triplets T.ring T.value rows cols ys }
+        → plain_of_triplets T.ring T.value rows cols xs
+        ≡ plain_of_triplets T.ring T.value rows cols ys }
 {}
 
 /// Products are associative: `(a * b) * c` and `a * (b * c)` have the same places and the same values.

@@ -18,13 +18,15 @@ fn merge_lane<T: Ring>(lane: &[(usize, T)], indices: &mut Vec<usize>, values: &m
     requires sizes { vec_len values.old ≡ vec_len indices.old }
     requires index_room { vec_len indices.old + length lane.now ≤ vec_capacity indices.old }
     requires value_room { vec_len values.old + length lane.now ≤ vec_capacity values.old }
-    ensures merged { AreMerged T.ring T.value T.zero_value lane.now indices.new.items values.new.items
+    ensures merged { AreMerged T.ring T.value T.zero_value lane.now indices.new.items
+        values.new.items
         (vec_len indices.old) (vec_len indices.new) }
     ensures grown { (vec_len indices.old ≤ vec_len indices.new)
         × (vec_len indices.new ≤ vec_len indices.old + length lane.now) }
     ensures sizes { vec_len values.new ≡ vec_len indices.new }
     ensures kept_indices { KeepsFirst 0 (vec_len indices.old) indices.old.items indices.new.items }
-    ensures kept_values { KeepsFirst T.zero_value (vec_len values.old) values.old.items values.new.items }
+    ensures kept_values { KeepsFirst T.zero_value (vec_len values.old) values.old.items
+        values.new.items }
     ensures capacities { (vec_capacity indices.new ≡ vec_capacity indices.old)
         × (vec_capacity values.new ≡ vec_capacity values.old) }
 {
@@ -53,7 +55,8 @@ pub(crate) fn merge_lanes<T: Ring>(
     requires below { (i : ℕ)
         → All (λ e. e.0 < minor_dim) (entries_of_lane offsets.now entries.now i) }
     ensures plain { IfOk result (λ m. plain_of_rows T.ring T.value m
-        ≡ plain_of_lanes T.ring T.value (length offsets.now - 1) minor_dim offsets.now entries.now) }
+        ≡ plain_of_lanes T.ring T.value (length offsets.now - 1) minor_dim offsets.now
+        entries.now) }
     ensures sound { IfOk result (λ m. IsSound m) }
 {
     let major_dim = offsets.len() - 1;

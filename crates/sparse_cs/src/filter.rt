@@ -21,7 +21,8 @@ impl<T: Copy> CsMatrix<T> {
         P: Fn(usize, usize, &T) -> bool,
         requires { P.IsAlwaysCallable predicate }
         ensures sizes { IfOk result (HasSizesOf self.now) }
-        ensures kept { IfOk result (λ m. IsKept (Answers P.Fn predicate) (lane_triplets self.now) (lane_triplets m)) }
+        ensures kept { IfOk result
+            (λ m. IsKept (Answers P.Fn predicate) (lane_triplets self.now) (lane_triplets m)) }
         ensures tested { (test : ℕ × ℕ × T → Bool) → AnswersAs P.Fn predicate test
             → IfOk result (λ m. lane_triplets m ≡ filter test (lane_triplets self.now)) }
         ensures sound { IfOk result IsSound }
@@ -65,7 +66,8 @@ fn keep_lane<T: Copy, P: Fn(usize, usize, &T) -> bool>(
 ) -> Result<(), AllocError>
     requires count { length values.now ≡ length indices.now }
     requires callable { P.IsAlwaysCallable predicate.now }
-    ensures { OnOk result (IsGrown (λ p b. Answers P.Fn predicate.now (lane, p.0, p.1) b) (zip indices.now values.now)
+    ensures { OnOk result
+        (IsGrown (λ p b. Answers P.Fn predicate.now (lane, p.0, p.1) b) (zip indices.now values.now)
         kept_indices.old.items kept_values.old.items kept_indices.new.items kept_values.new.items) }
 {
     for at in 0..indices.len() {

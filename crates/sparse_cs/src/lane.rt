@@ -106,7 +106,8 @@ impl<'a, T> Model for CsLane<'a, T> {
 
     ghost view = { λ lane. lane_parts lane.minor_dim lane.minor_indices lane.values.now };
 
-    ghost invariant = { λ lane. IsSoundLane (lane_parts lane.minor_dim lane.minor_indices lane.values.now) };
+    ghost invariant = { λ lane. IsSoundLane
+        (lane_parts lane.minor_dim lane.minor_indices lane.values.now) };
 }
 
 impl<'a, T> CsLane<'a, T> {

@@ -41,7 +41,8 @@ impl<'a, T> Model for CsLaneIter<'a, T> {
 
     ghost coded = { coded_list (lane_code T.code) };
 
-    ghost view = { λ it. lanes_from it.matrix.now it.current_lane (it.matrix.now.pattern.major_dim - it.current_lane) };
+    ghost view = { λ it. lanes_from it.matrix.now it.current_lane
+        (it.matrix.now.pattern.major_dim - it.current_lane) };
 }
 
 impl<'a, T> Iterator for CsLaneIter<'a, T> {

@@ -17,9 +17,11 @@ use sparse_algebra::scalar::Ring;
 /// Compressed matrices over a ring are `==` if and only if they represent the same plain matrix.
 pub fn equal_law<T: Ring>()
     ensures rows { (m n : Compressed T) → IsSound m → IsSound n
-        → (compressed_eq T.eq m n ≡ true) ↔ (plain_of_rows T.ring T.value m ≡ plain_of_rows T.ring T.value n) }
+        → (compressed_eq T.eq m n ≡ true)
+        ↔ (plain_of_rows T.ring T.value m ≡ plain_of_rows T.ring T.value n) }
     ensures cols { (m n : Compressed T) → IsSound m → IsSound n
-        → (compressed_eq T.eq m n ≡ true) ↔ (plain_of_cols T.ring T.value m ≡ plain_of_cols T.ring T.value n) }
+        → (compressed_eq T.eq m n ≡ true)
+        ↔ (plain_of_cols T.ring T.value m ≡ plain_of_cols T.ring T.value n) }
 {}
 
 /// The plain matrix of a sound matrix is the only one with exactly the shape, the places and the values of its arrays.
@@ -37,13 +39,15 @@ pub fn stands_law<T: Ring>()
 /// The triplets of a matrix by rows are the places of its plain matrix with their values, row by row, columns increasing.
 pub fn row_order_law<T: Ring>()
     ensures { (m : Compressed T)
-        → IsSound m → meant T.ring T.value (lane_triplets m) ≡ row_order T.ring (plain_of_rows T.ring T.value m) }
+        → IsSound m → meant T.ring T.value (lane_triplets m)
+        ≡ row_order T.ring (plain_of_rows T.ring T.value m) }
 {}
 
 /// The triplets of a matrix by columns are the places of its plain matrix with their values, column by column, rows increasing.
 pub fn col_order_law<T: Ring>()
     ensures { (m : Compressed T)
-        → IsSound m → meant T.ring T.value (map turned (lane_triplets m)) ≡ col_order T.ring (plain_of_cols T.ring T.value m) }
+        → IsSound m → meant T.ring T.value (map turned (lane_triplets m))
+        ≡ col_order T.ring (plain_of_cols T.ring T.value m) }
 {}
 
 /// A lookup finds the position of a place if and only if the place is stored.
@@ -61,7 +65,8 @@ pub fn kept_rows_law<T: Ring>()
 /// Keeping the triplets by columns that pass a test keeps exactly those places of the plain matrix, with their values.
 pub fn kept_cols_law<T: Ring>()
     ensures { (test : ℕ → ℕ → Bool) (m n : Compressed T)
-        → HasSizesOf m n → map turned (lane_triplets n) ≡ filter (λ t. test t.0 t.1) (map turned (lane_triplets m))
+        → HasSizesOf m n → map turned (lane_triplets n)
+        ≡ filter (λ t. test t.0 t.1) (map turned (lane_triplets m))
         → plain_of_cols T.ring T.value n ≡ plain_kept T.ring test (plain_of_cols T.ring T.value m) }
 {}
 

@@ -40,10 +40,15 @@ impl<T: Drop> CsMatrix<T> {
         minor_indices: Vec<usize>,
         values: Vec<T>,
     ) -> Result<Self, SortedFault>
-        ensures ok { IfOk result (λ m. m ≡ arrays_of major_dim minor_dim major_offsets.items minor_indices.items values.items) }
+        ensures ok { IfOk result
+            (λ m. m ≡ arrays_of major_dim minor_dim major_offsets.items minor_indices.items
+            values.items) }
         ensures sound { IfOk result IsSound }
-        ensures fault { IfErr result (IsFirstSortedFault (arrays_of major_dim minor_dim major_offsets.items minor_indices.items values.items)) }
-        ensures taken { IsSound (arrays_of major_dim minor_dim major_offsets.items minor_indices.items values.items)
+        ensures fault { IfErr result
+            (IsFirstSortedFault (arrays_of major_dim minor_dim major_offsets.items
+            minor_indices.items values.items)) }
+        ensures taken { IsSound
+            (arrays_of major_dim minor_dim major_offsets.items minor_indices.items values.items)
             → IsOk result }
     {
         match SparsityPattern::try_from_offsets_and_indices(

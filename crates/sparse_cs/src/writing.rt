@@ -84,7 +84,8 @@ impl<T> CsMatrix<T> {
         minor_index: usize,
     ) -> SparseEntryMut<'_, T>
         requires { IsInBounds self.old.pattern major_index minor_index }
-        ensures* writes_back { sem 𝓛 (LendsIndexed T.row self.entry major_index minor_index result) }
+        ensures* writes_back { sem 𝓛
+            (LendsIndexed T.row self.entry major_index minor_index result) }
         ensures entry { IsEntryMutAt self.old major_index minor_index result }
     {
         match self.position_of(major_index, minor_index) {

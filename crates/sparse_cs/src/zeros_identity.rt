@@ -26,7 +26,8 @@ impl<T: Ring> CsMatrix<T> {
     /// Returns the identity matrix of order `n`, with `n` stored ones, even in a ring where one equals zero. Fails only if an allocation
     /// fails.
     pub fn identity(alloc: Global, n: usize) -> Result<Self, AllocError>
-        ensures plain { IfOk result (λ m. plain_of_rows T.ring T.value m ≡ plain_identity T.ring n) }
+        ensures plain { IfOk result
+            (λ m. plain_of_rows T.ring T.value m ≡ plain_identity T.ring n) }
         ensures sound { IfOk result IsSound }
     {
         let offset_count = n.checked_add(1).ok_or(AllocError)?;

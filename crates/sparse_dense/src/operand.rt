@@ -21,7 +21,8 @@ pub fn step_of<T>(b: Op<&DMatrix<T>>) -> usize
 // Returns the values of B from the first entry of column j of op(B) on.
 pub fn column_of<T: Ring>(b: Op<&DMatrix<T>>, j: usize) -> &[T]
     requires { j < (op_dense T.ring T.value b).cols }
-    ensures inside { HasStrided result.now (op_step b.entry) (op_dense T.ring T.value b.entry).rows }
+    ensures inside { HasStrided result.now (op_step b.entry)
+        (op_dense T.ring T.value b.entry).rows }
     ensures entries { (k : ℕ) → k < (op_dense T.ring T.value b.entry).rows
         → strided T.ring T.value T.zero_value result.now (op_step b.entry) k
         ≡ (op_dense T.ring T.value b.entry).value k j }

@@ -61,7 +61,8 @@ fn update_columns<T: Ring>(
 )
     requires inner { (plain_turned T.ring turned (plain_of_rows T.ring T.value a.now)).cols
         ≡ (op_dense T.ring T.value b).rows }
-    requires rows { (plain_turned T.ring turned (plain_of_rows T.ring T.value a.now)).rows ≡ size.0 }
+    requires rows { (plain_turned T.ring turned (plain_of_rows T.ring T.value a.now)).rows
+        ≡ size.0 }
     requires cols { (op_dense T.ring T.value b).cols ≡ size.1 }
     requires count { length c.old ≡ size.1 * size.0 }
     ensures { AreUpdated T.ring T.value T.zero_value (T.value beta) (T.value alpha) size.0 size.1
@@ -101,13 +102,15 @@ fn update_block<T: Ring>(
 )
     requires inner { (plain_turned T.ring turned (plain_of_rows T.ring T.value a.now)).cols
         ≡ (op_dense T.ring T.value b).rows }
-    requires rows { (plain_turned T.ring turned (plain_of_rows T.ring T.value a.now)).rows ≡ size.0 }
+    requires rows { (plain_turned T.ring turned (plain_of_rows T.ring T.value a.now)).rows
+        ≡ size.0 }
     requires cols { (op_dense T.ring T.value b).cols ≡ size.1 }
     requires within { j + width ≤ size.1 }
     requires count { length c.old ≡ width * size.0 }
     requires widths { (width ≡ 1) ⊎ ((width ≡ 4) × (turned ≡ false)) }
     ensures { AreUpdated T.ring T.value T.zero_value (T.value beta) (T.value alpha) size.0 width
-        (λ i k. (plain_product T.ring (plain_turned T.ring turned (plain_of_rows T.ring T.value a.now))
+        (λ i k. (plain_product T.ring
+        (plain_turned T.ring turned (plain_of_rows T.ring T.value a.now))
         (op_dense T.ring T.value b.entry)).value i (j + k)) c.old c.new }
 {
     let nrows = size.0;

@@ -231,18 +231,6 @@ module _ (form : Form) (texts : List (List ℕ)) (expr : Expr) (value : Value)
     appended = subst (AppendsSome eff.taken_before eff.taken) (sym said) appended;
   })
 
-pub refuses-load : (form : Form) (texts : List (List ℕ)) (expr : Expr) (eff : Effect)
-    (e : ExprError)
-    → IsUntouched eff → RefusesLoad texts e → RefusesRun form texts expr eff e
-refuses-load form texts expr eff errors.BadWord same h = absurd h
-refuses-load form texts expr eff errors.MissingOperand same h = absurd h
-refuses-load form texts expr eff errors.LeftOver same h = absurd h
-refuses-load form texts expr eff errors.NoSuchInput same h = absurd h
-refuses-load form texts expr eff errors.Shape same h = absurd h
-refuses-load form texts expr eff (errors.Input n k) same h = (h, same)
-refuses-load form texts expr eff (errors.Write kind) same h = absurd h
-refuses-load form texts expr eff errors.OutOfMemory same h = (same.1, inl same.0)
-
 -- two facts of one refusal
 pub both_of_err : {T E : Type 0} (r : Result T E) (P Q S : E → Type 0) → ((e : E) → P e → Q e → S e)
     → IfErr r P → IfErr r Q → IfErr r S

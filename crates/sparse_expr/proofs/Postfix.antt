@@ -99,9 +99,6 @@ get-push (x ∷ ts) t u (suc k) h = elim (get-push ts t u k h) [
   | inr here ↦ inr (here.0, ap (λ l. x ∷ l) here.1)
 ]
 
-pub fine-none : AreFine [] []
-fine-none = record { said = refl; enough = λ k t h. absurd cc }
-
 -- one more word, whose token finds its operands
 pub fine-push : (words : List (List ℕ)) (ts : List Token) (word : List ℕ) (t : Token)
     → AreFine words ts → token_of word ≡ Some t → takes t ≤ height ts

@@ -57,7 +57,8 @@ pub fn run<W: Sink>(
     sources: &[&str],
     out: &mut W,
 ) -> Result<(), ExprError>
-    ensures written { OnOk result (Writes form (texts sources.now) expr.now (W.taken out.old) (W.taken out.new)) }
+    ensures written { OnOk result
+        (Writes form (texts sources.now) expr.now (W.taken out.old) (W.taken out.new)) }
     ensures none_failed { OnOk result (W.failures out.new ≡ W.failures out.old) }
     ensures refused { IfErr result (RefusesRun form (texts sources.now) expr.now
         (effect (W.taken out.old) (W.taken out.new)
@@ -95,7 +96,8 @@ fn load_all(alloc: Global, sources: &[&str]) -> Result<Vec<CooMatrix<W64>>, Expr
 fn load(alloc: Global, number: usize, text: &str) -> Result<CooMatrix<W64>, ExprError>
     ensures meant { IfOk result (λ m. Means scalar64 text.now (Ok (numbers_of m))) }
     ensures refused { IfErr result (λ e. (e ≡ OutOfMemory)
-        ⊎ ((kind : MatrixMarketErrorKind) × (e ≡ Input number kind) × Means scalar64 text.now (Err kind))) }
+        ⊎ ((kind : MatrixMarketErrorKind) × (e ≡ Input number kind)
+        × Means scalar64 text.now (Err kind))) }
 {
     match load_coo_from_matrix_market_str(alloc, text) {
         Ok(matrix) => Ok(matrix),
@@ -112,8 +114,10 @@ where
     S: MatrixMarketExport<W64>,
     W: Sink,
     ensures none_failed { OnOk result (W.failures out.new ≡ W.failures out.old) }
-    ensures all { OnOk result (Appends (W.taken out.old) (W.taken out.new) (text_of_coo (S.exported matrix.now))) }
-    ensures prefix { OnErr result (AppendsSome (W.taken out.old) (W.taken out.new) (text_of_coo (S.exported matrix.now))) }
+    ensures all { OnOk result
+        (Appends (W.taken out.old) (W.taken out.new) (text_of_coo (S.exported matrix.now))) }
+    ensures prefix { OnErr result
+        (AppendsSome (W.taken out.old) (W.taken out.new) (text_of_coo (S.exported matrix.now))) }
     ensures refused { IfErr result (RefusesSave
         (effect (W.taken out.old) (W.taken out.new)
         (W.failures out.old) (W.failures out.new) (W.last out.new))) }

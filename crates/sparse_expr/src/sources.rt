@@ -37,7 +37,8 @@ pub(crate) fn empty_sources<T: Ring>(
     alloc: Global,
     inputs: &[CooMatrix<T>],
 ) -> Result<Vec<Source<T>>, AllocError>
-    ensures provides { IfOk result (λ sources. AllZip (Provides T.ring T.value) inputs.now sources.items) }
+    ensures provides { IfOk result
+        (λ sources. AllZip (Provides T.ring T.value) inputs.now sources.items) }
 {
     let mut sources = Vec::with_capacity(alloc, inputs.len())?;
     for _input in inputs {
@@ -115,7 +116,8 @@ fn matrix_of<T: Ring>(
     source: &mut Source<T>,
 ) -> Result<Rc<CsrMatrix<T>>, AllocError>
     requires provides { Provides T.ring T.value list.now source.old }
-    ensures is { IfOk result (λ m. rows_or_turned T.ring T.value turned m.value ≡ plain_of_coo T.ring T.value list.now) }
+    ensures is { IfOk result
+        (λ m. rows_or_turned T.ring T.value turned m.value ≡ plain_of_coo T.ring T.value list.now) }
     ensures provides { OnOk result (Provides T.ring T.value list.now source.new) }
 {
     if turned {
@@ -133,7 +135,8 @@ fn shared<T: Ring>(
     slot: &mut Slot<T>,
 ) -> Result<Rc<CsrMatrix<T>>, AllocError>
     requires keeps { Keeps T.ring T.value turned list.now slot.old }
-    ensures is { IfOk result (λ m. rows_or_turned T.ring T.value turned m.value ≡ plain_of_coo T.ring T.value list.now) }
+    ensures is { IfOk result
+        (λ m. rows_or_turned T.ring T.value turned m.value ≡ plain_of_coo T.ring T.value list.now) }
     ensures keeps { OnOk result (Keeps T.ring T.value turned list.now slot.new) }
 {
     let matrix = match slot.matrix.take() {
@@ -153,7 +156,8 @@ fn converted<T: Ring>(
     list: &CooMatrix<T>,
     turned: bool,
 ) -> Result<CsrMatrix<T>, AllocError>
-    ensures is { IfOk result (λ m. rows_or_turned T.ring T.value turned m ≡ plain_of_coo T.ring T.value list.now) }
+    ensures is { IfOk result
+        (λ m. rows_or_turned T.ring T.value turned m ≡ plain_of_coo T.ring T.value list.now) }
 {
     if turned {
         Ok(convert_coo_csc(alloc, list)?.transpose_as_csr())

@@ -117,7 +117,8 @@ impl Expr {
 
 // Replaces a token's operands on the stack by its tree.
 fn apply(alloc: Global, token: Token, stack: &mut Vec<Expr>) -> Result<(), ExprError>
-    ensures said { OnOk result (flat_map postfix stack.new.items ≡ flat_map postfix stack.old.items ++ token ∷ []) }
+    ensures said { OnOk result
+        (flat_map postfix stack.new.items ≡ flat_map postfix stack.old.items ++ token ∷ []) }
     ensures enough { OnOk result (takes token ≤ length stack.old.items) }
     ensures refused { IfErr result (λ e. (e ≡ OutOfMemory)
         ⊎ ((e ≡ MissingOperand) × (length stack.old.items < takes token))) }

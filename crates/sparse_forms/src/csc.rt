@@ -166,10 +166,14 @@ impl<T: Drop> CscMatrix<T> {
         row_indices: Vec<usize>,
         values: Vec<T>,
     ) -> Result<Self, SparseFormatError>
-        ensures ok { IfOk result (λ m. m ≡ arrays_of ncols nrows col_offsets.items row_indices.items values.items) }
+        ensures ok { IfOk result
+            (λ m. m ≡ arrays_of ncols nrows col_offsets.items row_indices.items values.items) }
         ensures sound { IfOk result IsSound }
-        ensures fault { IfErr result (IsSortedRefusal (arrays_of ncols nrows col_offsets.items row_indices.items values.items)) }
-        ensures taken { IsSound (arrays_of ncols nrows col_offsets.items row_indices.items values.items)
+        ensures fault { IfErr result
+            (IsSortedRefusal (arrays_of ncols nrows col_offsets.items row_indices.items
+            values.items)) }
+        ensures taken { IsSound
+            (arrays_of ncols nrows col_offsets.items row_indices.items values.items)
             → IsOk result }
     {
         match CsMatrix::try_from_sorted_arrays(ncols, nrows, col_offsets, row_indices, values) {
@@ -231,7 +235,8 @@ impl<T: Ring> CscMatrix<T> {
     /// Returns the identity matrix of order `n`, with `n` stored ones, even in a ring where one equals zero. Fails only if an allocation
     /// fails.
     pub fn identity(alloc: Global, n: usize) -> Result<Self, AllocError>
-        ensures plain { IfOk result (λ m. plain_of_cols T.ring T.value m ≡ plain_identity T.ring n) }
+        ensures plain { IfOk result
+            (λ m. plain_of_cols T.ring T.value m ≡ plain_identity T.ring n) }
         ensures sound { IfOk result IsSound }
     {
         Ok(CscMatrix {
@@ -271,15 +276,22 @@ impl<T: Copy> CscMatrix<T> {
         row_indices: Vec<usize>,
         values: Vec<T>,
     ) -> Result<Self, SparseFormatError>
-        ensures sorted { IfOk result (IsSortedForm (arrays_of ncols nrows col_offsets.items row_indices.items values.items)) }
-        ensures faultless { OnOk result (IsFaultless (arrays_of ncols nrows col_offsets.items row_indices.items values.items)) }
+        ensures sorted { IfOk result
+            (IsSortedForm (arrays_of ncols nrows col_offsets.items row_indices.items
+            values.items)) }
+        ensures faultless { OnOk result
+            (IsFaultless (arrays_of ncols nrows col_offsets.items row_indices.items values.items)) }
         ensures fault { IfErr result (λ kind. (kind ≡ SparseFormatErrorKind.OutOfMemory)
-            ⊎ IsUnsortedRefusal (arrays_of ncols nrows col_offsets.items row_indices.items values.items) kind) }
+            ⊎ IsUnsortedRefusal (arrays_of ncols nrows col_offsets.items row_indices.items
+            values.items) kind) }
         ensures memory { IfErr result (λ kind. kind ≡ SparseFormatErrorKind.OutOfMemory
-            → NeedsSorting (arrays_of ncols nrows col_offsets.items row_indices.items values.items)) }
-        ensures sound { IsSound (arrays_of ncols nrows col_offsets.items row_indices.items values.items)
+            → NeedsSorting (arrays_of ncols nrows col_offsets.items row_indices.items
+            values.items)) }
+        ensures sound { IsSound
+            (arrays_of ncols nrows col_offsets.items row_indices.items values.items)
             → IsOk result }
-        ensures taken { IsFaultless (arrays_of ncols nrows col_offsets.items row_indices.items values.items)
+        ensures taken { IsFaultless
+            (arrays_of ncols nrows col_offsets.items row_indices.items values.items)
             → IsOkUnless result SparseFormatErrorKind.OutOfMemory }
     {
         Ok(CscMatrix {

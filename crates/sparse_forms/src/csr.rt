@@ -166,10 +166,14 @@ impl<T: Drop> CsrMatrix<T> {
         col_indices: Vec<usize>,
         values: Vec<T>,
     ) -> Result<Self, SparseFormatError>
-        ensures ok { IfOk result (λ m. m ≡ arrays_of nrows ncols row_offsets.items col_indices.items values.items) }
+        ensures ok { IfOk result
+            (λ m. m ≡ arrays_of nrows ncols row_offsets.items col_indices.items values.items) }
         ensures sound { IfOk result IsSound }
-        ensures fault { IfErr result (IsSortedRefusal (arrays_of nrows ncols row_offsets.items col_indices.items values.items)) }
-        ensures taken { IsSound (arrays_of nrows ncols row_offsets.items col_indices.items values.items)
+        ensures fault { IfErr result
+            (IsSortedRefusal (arrays_of nrows ncols row_offsets.items col_indices.items
+            values.items)) }
+        ensures taken { IsSound
+            (arrays_of nrows ncols row_offsets.items col_indices.items values.items)
             → IsOk result }
     {
         match CsMatrix::try_from_sorted_arrays(nrows, ncols, row_offsets, col_indices, values) {
@@ -240,7 +244,8 @@ impl<T: Ring> CsrMatrix<T> {
     /// }
     /// ```
     pub fn identity(alloc: Global, n: usize) -> Result<Self, AllocError>
-        ensures plain { IfOk result (λ m. plain_of_rows T.ring T.value m ≡ plain_identity T.ring n) }
+        ensures plain { IfOk result
+            (λ m. plain_of_rows T.ring T.value m ≡ plain_identity T.ring n) }
         ensures sound { IfOk result IsSound }
     {
         Ok(CsrMatrix {
@@ -280,15 +285,22 @@ impl<T: Copy> CsrMatrix<T> {
         col_indices: Vec<usize>,
         values: Vec<T>,
     ) -> Result<Self, SparseFormatError>
-        ensures sorted { IfOk result (IsSortedForm (arrays_of nrows ncols row_offsets.items col_indices.items values.items)) }
-        ensures faultless { OnOk result (IsFaultless (arrays_of nrows ncols row_offsets.items col_indices.items values.items)) }
+        ensures sorted { IfOk result
+            (IsSortedForm (arrays_of nrows ncols row_offsets.items col_indices.items
+            values.items)) }
+        ensures faultless { OnOk result
+            (IsFaultless (arrays_of nrows ncols row_offsets.items col_indices.items values.items)) }
         ensures fault { IfErr result (λ kind. (kind ≡ SparseFormatErrorKind.OutOfMemory)
-            ⊎ IsUnsortedRefusal (arrays_of nrows ncols row_offsets.items col_indices.items values.items) kind) }
+            ⊎ IsUnsortedRefusal (arrays_of nrows ncols row_offsets.items col_indices.items
+            values.items) kind) }
         ensures memory { IfErr result (λ kind. kind ≡ SparseFormatErrorKind.OutOfMemory
-            → NeedsSorting (arrays_of nrows ncols row_offsets.items col_indices.items values.items)) }
-        ensures sound { IsSound (arrays_of nrows ncols row_offsets.items col_indices.items values.items)
+            → NeedsSorting (arrays_of nrows ncols row_offsets.items col_indices.items
+            values.items)) }
+        ensures sound { IsSound
+            (arrays_of nrows ncols row_offsets.items col_indices.items values.items)
             → IsOk result }
-        ensures taken { IsFaultless (arrays_of nrows ncols row_offsets.items col_indices.items values.items)
+        ensures taken { IsFaultless
+            (arrays_of nrows ncols row_offsets.items col_indices.items values.items)
             → IsOkUnless result SparseFormatErrorKind.OutOfMemory }
     {
         Ok(CsrMatrix {

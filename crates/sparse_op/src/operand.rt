@@ -41,7 +41,8 @@ impl<T> Op<T> {
     /// Applies `f` to the matrix. The result is transposed exactly where the operand is.
     pub fn map_same_op<U, F: FnOnce(T) -> U>(self, f: F) -> Op<U>
         requires { F.pre f (inner_of self) }
-        ensures { MatchOp self (λ x. IsNoOpAnd result (F.post f x)) (λ x. IsTransposeAnd result (F.post f x)) }
+        ensures { MatchOp self (λ x. IsNoOpAnd result (F.post f x))
+            (λ x. IsTransposeAnd result (F.post f x)) }
     {
         match self {
             Op::NoOp(inner) => Op::NoOp(f(inner)),

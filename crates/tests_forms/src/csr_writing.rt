@@ -15,7 +15,8 @@ use std::test::Fail;
 // What is left after a write through an entry: another value at its own place, or nothing changed.
 fn write_entry<T: Copy>(matrix: &mut CsrMatrix<T>, row: usize, col: usize, value: T)
     requires { IsInBounds matrix.old.pattern row col }
-    ensures stored { (p : ℕ) → place_of matrix.old.pattern row col ≡ Some p → matrix.new ≡ with_value matrix.old row col value }
+    ensures stored { (p : ℕ) → place_of matrix.old.pattern row col ≡ Some p → matrix.new
+        ≡ with_value matrix.old row col value }
     ensures other { place_of matrix.old.pattern row col ≡ None → matrix.new ≡ matrix.old }
 {
     if let SparseEntryMut::NonZero(lent) = matrix.index_entry_mut(row, col) {

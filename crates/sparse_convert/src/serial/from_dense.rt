@@ -50,7 +50,8 @@ fn push_column<T: Zero + Copy>(
     requires rows { length column.now ≡ coo.old.nrows }
     requires col { j < coo.old.ncols }
     ensures { OnOk result (coo.new ≡ appended coo.old (filter (differs_from T.eq T.zero_value)
-        (map (λ i. (i, j, slice_index_or column.now i T.zero_value)) (below (length column.now))))) }
+        (map (λ i. (i, j, slice_index_or column.now i T.zero_value))
+        (below (length column.now))))) }
 {
     for (i, value) in column.iter().enumerate() {
         if *value != T::zero() {
@@ -121,7 +122,8 @@ fn compress_lanes<T: Zero + Copy>(
     ensures major_dim { IfOk result (λ m. m.pattern.major_dim ≡ major_dim) }
     ensures minor_dim { IfOk result (λ m. m.pattern.minor_dim ≡ minor_dim) }
     ensures kept { IfOk result (λ m. lane_triplets m ≡ filter (differs_from T.eq T.zero_value)
-        (full_lanes major_dim minor_dim (λ i k. slice_index_or values.now (i * lane_step + k * step) T.zero_value))) }
+        (full_lanes major_dim minor_dim
+        (λ i k. slice_index_or values.now (i * lane_step + k * step) T.zero_value))) }
     ensures sound { IfOk result IsSound }
 {
     let mut offsets = Vec::with_capacity(alloc, major_dim.saturating_add(1))?;
@@ -150,9 +152,13 @@ fn push_lane<T: Zero + Copy>(
 ) -> Result<(), AllocError>
     requires { (k : ℕ) → k < count → start + k * step < length values.now }
     ensures indices { OnOk result (indices.new.items ≡ indices.old.items
-        ++ filter (λ k. not (T.eq (slice_index_or values.now (start + k * step) T.zero_value) T.zero_value)) (below count)) }
-    ensures kept { OnOk result (kept.new.items ≡ kept.old.items ++ map (λ k. slice_index_or values.now (start + k * step) T.zero_value)
-        (filter (λ k. not (T.eq (slice_index_or values.now (start + k * step) T.zero_value) T.zero_value)) (below count))) }
+        ++ filter (λ k. not (T.eq (slice_index_or values.now (start + k * step) T.zero_value)
+        T.zero_value)) (below count)) }
+    ensures kept { OnOk result
+        (kept.new.items ≡ kept.old.items
+        ++ map (λ k. slice_index_or values.now (start + k * step) T.zero_value)
+        (filter (λ k. not (T.eq (slice_index_or values.now (start + k * step) T.zero_value)
+        T.zero_value)) (below count))) }
 {
     for index in 0..count {
         let value = values[start + index * step];
@@ -168,10 +174,12 @@ fn push_lane<T: Zero + Copy>(
 pub fn from_dense_law<T: Ring>()
     ensures coo { (d : Dense T)
         → IsNonzeroPart (plain_of_dense T.ring T.value d) (plain_of_coo T.ring T.value
-        (coo_of d.nrows d.ncols (filter (differs_from T.eq T.zero_value) (column_triplets T.zero_value d)))) }
+        (coo_of d.nrows d.ncols
+        (filter (differs_from T.eq T.zero_value) (column_triplets T.zero_value d)))) }
     ensures csc { (d : Dense T) (m : Compressed T) → m.pattern.minor_dim ≡ d.nrows
         → m.pattern.major_dim ≡ d.ncols
-        → map turned (lane_triplets m) ≡ filter (differs_from T.eq T.zero_value) (column_triplets T.zero_value d)
+        → map turned (lane_triplets m)
+        ≡ filter (differs_from T.eq T.zero_value) (column_triplets T.zero_value d)
         → IsNonzeroPart (plain_of_dense T.ring T.value d) (plain_of_cols T.ring T.value m) }
     ensures csr { (d : Dense T) (m : Compressed T) → m.pattern.major_dim ≡ d.nrows
         → m.pattern.minor_dim ≡ d.ncols

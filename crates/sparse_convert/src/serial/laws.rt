@@ -16,17 +16,23 @@ use sparse_algebra::scalar::Ring;
 /// original (`rows_and_back`, `cols_and_back`). Lists that represent the same matrix convert to CSR matrices that are `==`, and to CSC
 /// matrices that are `==` (`same_lists`).
 pub fn one_matrix_law<T: Ring>()
-    ensures three_representations { (x : Representation T) (a : Coo T) (m n : Compressed T) → IsSoundRepresentation x
-        → IsReached T.ring T.value x (Triplets a) → IsReached T.ring T.value x (Rows m) → IsReached T.ring T.value x (Cols n)
+    ensures three_representations { (x : Representation T) (a : Coo T) (m n : Compressed T)
+        → IsSoundRepresentation x
+        → IsReached T.ring T.value x (Triplets a) → IsReached T.ring T.value x (Rows m)
+        → IsReached T.ring T.value x (Cols n)
         → MeanOneMatrix T.ring T.value a m n }
     ensures rows_equal { (x : Representation T) (m n : Compressed T) → IsSoundRepresentation x
-        → IsReached T.ring T.value x (Rows m) → IsReached T.ring T.value x (Rows n) → compressed_eq T.eq m n ≡ true }
+        → IsReached T.ring T.value x (Rows m) → IsReached T.ring T.value x (Rows n)
+        → compressed_eq T.eq m n ≡ true }
     ensures cols_equal { (x : Representation T) (m n : Compressed T) → IsSoundRepresentation x
-        → IsReached T.ring T.value x (Cols m) → IsReached T.ring T.value x (Cols n) → compressed_eq T.eq m n ≡ true }
+        → IsReached T.ring T.value x (Cols m) → IsReached T.ring T.value x (Cols n)
+        → compressed_eq T.eq m n ≡ true }
     ensures rows_and_back { (m n : Compressed T) → IsSound m → IsSound n
-        → plain_of_rows T.ring T.value n ≡ plain_of_coo T.ring T.value (coo_of_rows m) → compressed_eq T.eq m n ≡ true }
+        → plain_of_rows T.ring T.value n ≡ plain_of_coo T.ring T.value (coo_of_rows m)
+        → compressed_eq T.eq m n ≡ true }
     ensures cols_and_back { (m n : Compressed T) → IsSound m → IsSound n
-        → plain_of_cols T.ring T.value n ≡ plain_of_coo T.ring T.value (coo_of_cols m) → compressed_eq T.eq m n ≡ true }
+        → plain_of_cols T.ring T.value n ≡ plain_of_coo T.ring T.value (coo_of_cols m)
+        → compressed_eq T.eq m n ≡ true }
     ensures same_lists { (a b : Coo T) (m n k l : Compressed T) → IsSound m → IsSound n → IsSound k
         → IsSound l
         → plain_of_coo T.ring T.value a ≡ plain_of_coo T.ring T.value b

@@ -23,7 +23,9 @@ pub fn convert_coo_dense<T: Ring>(
     alloc: Global,
     coo: &CooMatrix<T>,
 ) -> Result<DMatrix<T>, AllocError>
-    ensures { IfOk result (λ d. plain_of_dense T.ring T.value d ≡ plain_full T.ring (plain_of_coo T.ring T.value coo.now)) }
+    ensures { IfOk result
+        (λ d. plain_of_dense T.ring T.value d
+        ≡ plain_full T.ring (plain_of_coo T.ring T.value coo.now)) }
 {
     let mut dense: DMatrix<T> = DMatrix::zeros(alloc, coo.nrows(), coo.ncols())?;
     for (i, j, value) in coo.triplet_iter() {

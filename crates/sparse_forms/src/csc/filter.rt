@@ -19,9 +19,12 @@ impl<T: Copy> CscMatrix<T> {
         P: Fn(usize, usize, &T) -> bool,
         requires { P.IsAlwaysCallable predicate }
         ensures sizes { IfOk result (HasSizesOf self.now) }
-        ensures kept { IfOk result (λ m. IsKept (Answers P.Fn predicate) (map turned (lane_triplets self.now)) (map turned (lane_triplets m))) }
+        ensures kept { IfOk result
+            (λ m. IsKept (Answers P.Fn predicate) (map turned (lane_triplets self.now))
+            (map turned (lane_triplets m))) }
         ensures tested { (test : ℕ × ℕ × T → Bool) → AnswersAs P.Fn predicate test
-            → IfOk result (λ m. map turned (lane_triplets m) ≡ filter test (map turned (lane_triplets self.now))) }
+            → IfOk result (λ m. map turned (lane_triplets m)
+            ≡ filter test (map turned (lane_triplets self.now))) }
         ensures sound { IfOk result IsSound }
     {
         Ok(CscMatrix {
@@ -34,7 +37,9 @@ impl<T: Copy> CscMatrix<T> {
     /// Returns a matrix of the same shape with the stored places (i, j) where `i <= j`. Cost and errors are those of [`CscMatrix::filter`].
     pub fn upper_triangle(&self, alloc: Global) -> Result<Self, AllocError>
         ensures sizes { IfOk result (HasSizesOf self.now) }
-        ensures kept { IfOk result (λ m. map turned (lane_triplets m) ≡ filter is_upper (map turned (lane_triplets self.now))) }
+        ensures kept { IfOk result
+            (λ m. map turned (lane_triplets m)
+            ≡ filter is_upper (map turned (lane_triplets self.now))) }
         ensures sound { IfOk result IsSound }
     {
         self.filter(alloc, |row, column, _| row <= column)
@@ -43,7 +48,9 @@ impl<T: Copy> CscMatrix<T> {
     /// Returns a matrix of the same shape with the stored places (i, j) where `i >= j`. Cost and errors are those of [`CscMatrix::filter`].
     pub fn lower_triangle(&self, alloc: Global) -> Result<Self, AllocError>
         ensures sizes { IfOk result (HasSizesOf self.now) }
-        ensures kept { IfOk result (λ m. map turned (lane_triplets m) ≡ filter is_lower (map turned (lane_triplets self.now))) }
+        ensures kept { IfOk result
+            (λ m. map turned (lane_triplets m)
+            ≡ filter is_lower (map turned (lane_triplets self.now))) }
         ensures sound { IfOk result IsSound }
     {
         self.filter(alloc, |row, column, _| row >= column)
@@ -52,7 +59,9 @@ impl<T: Copy> CscMatrix<T> {
     /// Returns a matrix of the same shape with the stored places (i, i). Cost and errors are those of [`CscMatrix::filter`].
     pub fn diagonal_as_csc(&self, alloc: Global) -> Result<Self, AllocError>
         ensures sizes { IfOk result (HasSizesOf self.now) }
-        ensures kept { IfOk result (λ m. map turned (lane_triplets m) ≡ filter is_diagonal (map turned (lane_triplets self.now))) }
+        ensures kept { IfOk result
+            (λ m. map turned (lane_triplets m)
+            ≡ filter is_diagonal (map turned (lane_triplets self.now))) }
         ensures sound { IfOk result IsSound }
     {
         self.filter(alloc, |row, column, _| row == column)

@@ -12,7 +12,8 @@ use std::ops::{MulAssign, Neg};
 impl<T: Ring> Neg for CscMatrix<T> {
     type Output = CscMatrix<T>;
 
-    ghost neg_gives = { λ a m. plain_of_cols T.ring T.value m ≡ plain_negation T.ring (plain_of_cols T.ring T.value a) };
+    ghost neg_gives = { λ a m. plain_of_cols T.ring T.value m
+        ≡ plain_negation T.ring (plain_of_cols T.ring T.value a) };
 
     fn neg(mut self) -> CscMatrix<T> {
         self.cs.negate();
@@ -22,7 +23,9 @@ impl<T: Ring> Neg for CscMatrix<T> {
 
 /// Multiplies each stored value by a scalar. The pattern is unchanged, and nothing is allocated.
 impl<T: Ring> MulAssign<T> for CscMatrix<T> {
-    ghost mul_assign_gives = { λ a s m. plain_of_cols T.ring T.value m ≡ plain_scaled T.ring (T.value s) (plain_of_cols T.ring T.value a) };
+    ghost mul_assign_gives =
+        { λ a s m. plain_of_cols T.ring T.value m
+        ≡ plain_scaled T.ring (T.value s) (plain_of_cols T.ring T.value a) };
 
     fn mul_assign(&mut self, factor: T) {
         self.cs.scale(factor);
@@ -31,7 +34,9 @@ impl<T: Ring> MulAssign<T> for CscMatrix<T> {
 
 /// Multiplies each stored value by a scalar. The pattern is unchanged, and nothing is allocated.
 impl<'a, T: Ring> MulAssign<&'a T> for CscMatrix<T> {
-    ghost mul_assign_gives = { λ a s m. plain_of_cols T.ring T.value m ≡ plain_scaled T.ring (T.value s.now) (plain_of_cols T.ring T.value a) };
+    ghost mul_assign_gives =
+        { λ a s m. plain_of_cols T.ring T.value m
+        ≡ plain_scaled T.ring (T.value s.now) (plain_of_cols T.ring T.value a) };
 
     fn mul_assign(&mut self, factor: &'a T) {
         self.cs.scale(*factor);

@@ -29,7 +29,8 @@ impl<T: Copy> CsrMatrix<T> {
         P: Fn(usize, usize, &T) -> bool,
         requires { P.IsAlwaysCallable predicate }
         ensures sizes { IfOk result (HasSizesOf self.now) }
-        ensures kept { IfOk result (λ m. IsKept (Answers P.Fn predicate) (lane_triplets self.now) (lane_triplets m)) }
+        ensures kept { IfOk result
+            (λ m. IsKept (Answers P.Fn predicate) (lane_triplets self.now) (lane_triplets m)) }
         ensures tested { (test : ℕ × ℕ × T → Bool) → AnswersAs P.Fn predicate test
             → IfOk result (λ m. lane_triplets m ≡ filter test (lane_triplets self.now)) }
         ensures sound { IfOk result IsSound }
@@ -54,7 +55,8 @@ impl<T: Copy> CsrMatrix<T> {
     /// ```
     pub fn upper_triangle(&self, alloc: Global) -> Result<Self, AllocError>
         ensures sizes { IfOk result (HasSizesOf self.now) }
-        ensures kept { IfOk result (λ m. lane_triplets m ≡ filter is_upper (lane_triplets self.now)) }
+        ensures kept { IfOk result
+            (λ m. lane_triplets m ≡ filter is_upper (lane_triplets self.now)) }
         ensures sound { IfOk result IsSound }
     {
         self.filter(alloc, |row, column, _| row <= column)
@@ -63,7 +65,8 @@ impl<T: Copy> CsrMatrix<T> {
     /// Returns a matrix of the same shape with the stored places (i, j) where `i >= j`. Cost and errors are those of [`CsrMatrix::filter`].
     pub fn lower_triangle(&self, alloc: Global) -> Result<Self, AllocError>
         ensures sizes { IfOk result (HasSizesOf self.now) }
-        ensures kept { IfOk result (λ m. lane_triplets m ≡ filter is_lower (lane_triplets self.now)) }
+        ensures kept { IfOk result
+            (λ m. lane_triplets m ≡ filter is_lower (lane_triplets self.now)) }
         ensures sound { IfOk result IsSound }
     {
         self.filter(alloc, |row, column, _| row >= column)
@@ -72,7 +75,8 @@ impl<T: Copy> CsrMatrix<T> {
     /// Returns a matrix of the same shape with the stored places (i, i). Cost and errors are those of [`CsrMatrix::filter`].
     pub fn diagonal_as_csr(&self, alloc: Global) -> Result<Self, AllocError>
         ensures sizes { IfOk result (HasSizesOf self.now) }
-        ensures kept { IfOk result (λ m. lane_triplets m ≡ filter is_diagonal (lane_triplets self.now)) }
+        ensures kept { IfOk result
+            (λ m. lane_triplets m ≡ filter is_diagonal (lane_triplets self.now)) }
         ensures sound { IfOk result IsSound }
     {
         self.filter(alloc, |row, column, _| row == column)
