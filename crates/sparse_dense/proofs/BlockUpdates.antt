@@ -1,6 +1,6 @@
 -- Columns updated block after block.
 use Rattle.std.proofs.Common.{◌≡◌, ℕ, zero, suc, ◌+◌, ◌-◌, ◌*◌, ◌<◌, ◌≤◌, inl, inr, List, ◌++◌}
-use Rattle.std.proofs.Common.{length, get_or, take, drop, slice_range, ap, sym, subst, ◌∙◌, refl}
+use Rattle.std.proofs.Common.{length, get_or, take, drop, slice_range, ap, sym, ◌∙◌, refl}
 use Rattle.std.proofs.Common.{arith}
 use Rattle.std.proofs.Math.Nat.{add-mul, mul-le-mul_right}
 use Rattle.std.proofs.lemmas.List.{get_or-take, get_or-drop, get_or_append_left, get_or-append-add}

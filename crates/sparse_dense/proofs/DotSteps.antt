@@ -1,6 +1,6 @@
 -- Dot products and multiples, term after term.
 use Rattle.std.proofs.Common.{◌≡◌, ℕ, suc, ◌+◌, ◌<◌, Bool, true, false, List, length, get_or, take}
-use Rattle.std.proofs.Common.{ap, sym, ◌∙◌, arith, add-one}
+use Rattle.std.proofs.Common.{ap, sym, ◌∙◌, arith}
 use Rattle.sparse_algebra.specs.Algebra.{CommRing}
 use Rattle.sparse_algebra.specs.Sums.{sum_below}
 use Rattle.sparse_algebra.specs.Plain.{Plain, plain_product, plain_transpose}

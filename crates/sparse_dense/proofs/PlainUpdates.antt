@@ -1,7 +1,7 @@
 -- An updated dense matrix, as a plain matrix.
 use denote.Ref.{Bor}
-use Rattle.std.proofs.Common.{◌≡◌, ℕ, ◌+◌, ◌*◌, ◌<◌, ◌≤◌, inl, inr, Bool, true, false, ◌&&◌, List}
-use Rattle.std.proofs.Common.{◌++◌, length, get_or, take, drop, map, ap, sym, subst, ◌∙◌, refl}
+use Rattle.std.proofs.Common.{◌≡◌, ℕ, ◌+◌, ◌*◌, ◌<◌, inl, inr, Bool, true, false, ◌&&◌, List}
+use Rattle.std.proofs.Common.{◌++◌, length, get_or, take, drop, map, ap, sym, ◌∙◌, refl}
 use Rattle.std.proofs.Common.{arith}
 use Rattle.std.specs.Prelude.{nat_lt}
 use Rattle.std.proofs.Math.ListN.{get_or-map}
@@ -9,11 +9,10 @@ use Rattle.std.proofs.Math.Seq.{take-append_seam}
 use Rattle.std.proofs.lemmas.Bool.Decides.{Decides-and, Decides-ltb}
 use Rattle.sparse_lemmas.proofs.Cases.{true_or_false}
 use Rattle.sparse_algebra.specs.Algebra.{CommRing}
-use Rattle.sparse_algebra.specs.Sums.{where_true}
-use Rattle.sparse_algebra.specs.Plain.{Plain, IsProper, IsWithin, plain_product, plain_transpose}
+use Rattle.sparse_algebra.specs.Plain.{Plain, IsProper, IsWithin}
 use Rattle.sparse_algebra.proofs.RingLemmas.{mul_zero, zero_add}
-use Rattle.sparse_algebra.proofs.PlainLemmas.{same_plain, proper_product}
-use Rattle.sparse_algebra.proofs.PlainLaws.{proper_transpose, within_product, within_transpose}
+use Rattle.sparse_algebra.proofs.PlainLemmas.{same_plain}
+use Rattle.sparse_algebra.proofs.PlainLaws.{proper_transpose, within_transpose}
 use Rattle.sparse_algebra.proofs.PlainLaws.{within_plain_of_triplets}
 use Rattle.sparse_pattern.specs.Refill.{refill}
 use Rattle.sparse_op.specs.declared.operand.Op.{Op}

@@ -35,7 +35,7 @@ use Rattle.sparse_expr.specs.Value.{value_of, found, input_at, both, one, same_s
 use Rattle.sparse_expr.specs.Value.{difference_of, product_of}
 use Rattle.sparse_expr.specs.Run.{ring64, element_text, text_in, plains, AllMean, HasOutcome}
 use Rattle.sparse_expr.specs.Run.{Writes, WritesSome, Effect, IsUntouched, RefusesRun}
-use Rattle.sparse_expr.specs.InnerRun.{numbers_of, text_of_coo, RefusesLoad, RefusesSave}
+use Rattle.sparse_expr.specs.InnerRun.{numbers_of, text_of_coo, RefusesSave}
 
 -- ---- triplets whose values are read by way of another type
 

@@ -1,5 +1,5 @@
 -- When the steps of a run are refused, and what they write.
-use Rattle.std.specs.Prelude.{◌≡◌, ℕ, ℤ, ◌+◌, List, map, codes, Some}
+use Rattle.std.specs.Prelude.{◌≡◌, ℕ, ℤ, ◌+◌, List, codes, Some}
 use Rattle.std.specs.Fmt.{signed_decimal}
 use Rattle.sparse_algebra.specs.Numbers.{w64_number}
 use Rattle.sparse_algebra.specs.declared.scalar.wrapping.W64.{W64}

@@ -90,9 +90,6 @@ pub record IsCounted (a b : List ℕ) (p q n : ℕ) : Type 0 where
   pub merging : IsMerging [] lane a b p q
   pub count : length lane ≡ n
 
-pub none_counted : (a b : List ℕ) → IsCounted a b 0 0 0
-none_counted a b = record { lane = []; merging = none_merged [] a b; count = refl }
-
 module _ (a b : List ℕ) (ra : IsStrictlyIncreasing a) (rb : IsStrictlyIncreasing b) (p q n : ℕ)
     (c : IsCounted a b p q n) where
   pub counted_first : p < length a → (q < length b → get_or a p 0 < get_or b q 0)

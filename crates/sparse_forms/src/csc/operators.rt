@@ -23,8 +23,7 @@ impl<T: Ring> Neg for CscMatrix<T> {
 
 /// Multiplies each stored value by a scalar. The pattern is unchanged, and nothing is allocated.
 impl<T: Ring> MulAssign<T> for CscMatrix<T> {
-    ghost mul_assign_gives =
-        { λ a s m. plain_of_cols T.ring T.value m
+    ghost mul_assign_gives = { λ a s m. plain_of_cols T.ring T.value m
         ≡ plain_scaled T.ring (T.value s) (plain_of_cols T.ring T.value a) };
 
     fn mul_assign(&mut self, factor: T) {
@@ -34,8 +33,7 @@ impl<T: Ring> MulAssign<T> for CscMatrix<T> {
 
 /// Multiplies each stored value by a scalar. The pattern is unchanged, and nothing is allocated.
 impl<'a, T: Ring> MulAssign<&'a T> for CscMatrix<T> {
-    ghost mul_assign_gives =
-        { λ a s m. plain_of_cols T.ring T.value m
+    ghost mul_assign_gives = { λ a s m. plain_of_cols T.ring T.value m
         ≡ plain_scaled T.ring (T.value s.now) (plain_of_cols T.ring T.value a) };
 
     fn mul_assign(&mut self, factor: &'a T) {

@@ -33,8 +33,7 @@ impl<T: Ring> Neg for CsrMatrix<T> {
 
 /// Multiplies each stored value by a scalar. The pattern is unchanged, and nothing is allocated.
 impl<T: Ring> MulAssign<T> for CsrMatrix<T> {
-    ghost mul_assign_gives =
-        { λ a s m. plain_of_rows T.ring T.value m
+    ghost mul_assign_gives = { λ a s m. plain_of_rows T.ring T.value m
         ≡ plain_scaled T.ring (T.value s) (plain_of_rows T.ring T.value a) };
 
     fn mul_assign(&mut self, factor: T) {
@@ -44,8 +43,7 @@ impl<T: Ring> MulAssign<T> for CsrMatrix<T> {
 
 /// Multiplies each stored value by a scalar. The pattern is unchanged, and nothing is allocated.
 impl<'a, T: Ring> MulAssign<&'a T> for CsrMatrix<T> {
-    ghost mul_assign_gives =
-        { λ a s m. plain_of_rows T.ring T.value m
+    ghost mul_assign_gives = { λ a s m. plain_of_rows T.ring T.value m
         ≡ plain_scaled T.ring (T.value s.now) (plain_of_rows T.ring T.value a) };
 
     fn mul_assign(&mut self, factor: &'a T) {

@@ -1,6 +1,6 @@
 use Rattle.std.proofs.Common.{◌≡◌, ◌+◌, ◌*◌, ◌<◌, ◌++◌, false, inl, inr, ℕ, suc, length, get_or, ap}
 use Rattle.std.proofs.Common.{◌∙◌, arith}
-use Rattle.sparse_algebra.specs.Plain.{Plain, plain_product, plain_transpose}
+use Rattle.sparse_algebra.specs.Plain.{plain_product, plain_transpose}
 use Rattle.sparse_cs.specs.PlainOfLanes.{plain_of_rows}
 use Rattle.sparse_dense.specs.DenseOperands.{op_dense}
 use Rattle.sparse_dense.specs.InnerUpdates.{plain_turned, strided, times_vector}

@@ -1,4 +1,4 @@
-use Rattle.std.proofs.Common.{ap, sym, ◌∙◌, map, subst, Ok}
+use Rattle.std.proofs.Common.{ap, sym, ◌∙◌, map, subst}
 use Rattle.sparse_algebra.specs.Plain.{plain_negation}
 use Rattle.sparse_base.specs.CooPlain.{plain_of_coo}
 use Rattle.sparse_expr.specs.InnerTurned.{rows_or_turned}
