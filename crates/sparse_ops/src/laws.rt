@@ -29,7 +29,8 @@ pub fn product_of_sum<T: Ring>(
     requires inner { a.now.pattern.minor_dim ≡ b.now.pattern.major_dim }
     requires rows { b.now.pattern.major_dim ≡ c.now.pattern.major_dim }
     requires cols { b.now.pattern.minor_dim ≡ c.now.pattern.minor_dim }
-    ensures { IfOk result (λ m. plain_of_rows T.ring T.value m.0 ≡ plain_of_rows T.ring T.value m.1) }
+    ensures { IfOk result
+        (λ m. plain_of_rows T.ring T.value m.0 ≡ plain_of_rows T.ring T.value m.1) }
 {
     let sum = add_csr(alloc, b, c)?;
     let product = mul_csr(alloc, a, &sum)?;
@@ -49,7 +50,8 @@ pub fn sum_times<T: Ring>(
     requires rows { a.now.pattern.major_dim ≡ b.now.pattern.major_dim }
     requires cols { a.now.pattern.minor_dim ≡ b.now.pattern.minor_dim }
     requires inner { b.now.pattern.minor_dim ≡ c.now.pattern.major_dim }
-    ensures { IfOk result (λ m. plain_of_rows T.ring T.value m.0 ≡ plain_of_rows T.ring T.value m.1) }
+    ensures { IfOk result
+        (λ m. plain_of_rows T.ring T.value m.0 ≡ plain_of_rows T.ring T.value m.1) }
 {
     let sum = add_csr(alloc, a, b)?;
     let product = mul_csr(alloc, &sum, c)?;
@@ -67,7 +69,8 @@ pub fn difference_as_sum<T: Ring>(
 ) -> Result<(CsrMatrix<T>, CsrMatrix<T>), AllocError>
     requires rows { a.now.pattern.major_dim ≡ b.now.pattern.major_dim }
     requires cols { a.now.pattern.minor_dim ≡ b.now.pattern.minor_dim }
-    ensures { IfOk result (λ m. plain_of_rows T.ring T.value m.0 ≡ plain_of_rows T.ring T.value m.1) }
+    ensures { IfOk result
+        (λ m. plain_of_rows T.ring T.value m.0 ≡ plain_of_rows T.ring T.value m.1) }
 {
     let difference = sub_csr(alloc, a, b)?;
     let negative = neg_csr(alloc, b)?;
@@ -77,7 +80,8 @@ pub fn difference_as_sum<T: Ring>(
 
 /// Returns `-(-a)`, which is equal to `a`. Fails only if an allocation fails.
 pub fn negative_twice<T: Ring>(alloc: Global, a: &CsrMatrix<T>) -> Result<CsrMatrix<T>, AllocError>
-    ensures { IfOk result (λ m. plain_of_rows T.ring T.value m ≡ plain_of_rows T.ring T.value a.now) }
+    ensures { IfOk result
+        (λ m. plain_of_rows T.ring T.value m ≡ plain_of_rows T.ring T.value a.now) }
 {
     let negative = neg_csr(alloc, a)?;
     neg_csr(alloc, &negative)
@@ -85,7 +89,8 @@ pub fn negative_twice<T: Ring>(alloc: Global, a: &CsrMatrix<T>) -> Result<CsrMat
 
 /// Returns the product of the identity and `a`, which is equal to `a`. Fails only if an allocation fails.
 pub fn identity_times<T: Ring>(alloc: Global, a: &CsrMatrix<T>) -> Result<CsrMatrix<T>, AllocError>
-    ensures { IfOk result (λ m. plain_of_rows T.ring T.value m ≡ plain_of_rows T.ring T.value a.now) }
+    ensures { IfOk result
+        (λ m. plain_of_rows T.ring T.value m ≡ plain_of_rows T.ring T.value a.now) }
 {
     // The call costs nothing: its contract tells the prover that the matrix is sound.
     let _ = a.values();
@@ -95,7 +100,8 @@ pub fn identity_times<T: Ring>(alloc: Global, a: &CsrMatrix<T>) -> Result<CsrMat
 
 /// Returns the product of `a` and the identity, which is equal to `a`. Fails only if an allocation fails.
 pub fn times_identity<T: Ring>(alloc: Global, a: &CsrMatrix<T>) -> Result<CsrMatrix<T>, AllocError>
-    ensures { IfOk result (λ m. plain_of_rows T.ring T.value m ≡ plain_of_rows T.ring T.value a.now) }
+    ensures { IfOk result
+        (λ m. plain_of_rows T.ring T.value m ≡ plain_of_rows T.ring T.value a.now) }
 {
     // The call costs nothing: its contract tells the prover that the matrix is sound.
     let _ = a.values();
@@ -110,7 +116,8 @@ pub fn transpose_of_product<T: Ring>(
     b: &CsrMatrix<T>,
 ) -> Result<(CsrMatrix<T>, CsrMatrix<T>), AllocError>
     requires { a.now.pattern.minor_dim ≡ b.now.pattern.major_dim }
-    ensures { IfOk result (λ m. plain_of_rows T.ring T.value m.0 ≡ plain_of_rows T.ring T.value m.1) }
+    ensures { IfOk result
+        (λ m. plain_of_rows T.ring T.value m.0 ≡ plain_of_rows T.ring T.value m.1) }
 {
     let product = mul_csr(alloc, a, b)?;
     let transposed = transposed_csr(alloc, &product)?;
@@ -124,11 +131,16 @@ pub fn transpose_of_product<T: Ring>(
 pub fn product_places_law<T: Ring>()
     ensures { (d : Raw) (a b : Compressed T) → IsSound a → IsSound b
         → a.pattern.minor_dim ≡ b.pattern.major_dim → IsProductOf d a.pattern b.pattern
-        → (i j : ℕ) → IsPlace d i j ↔ ((plain_product T.ring (plain_of_rows T.ring T.value a) (plain_of_rows T.ring T.value b)).has i j ≡ true) }
+        → (i j : ℕ) → IsPlace d i j
+        ↔ ((plain_product T.ring (plain_of_rows T.ring T.value a)
+        (plain_of_rows T.ring T.value b)).has i j ≡ true) }
 {}
 
 /// The places of the union of two patterns are those of the plain sum.
 pub fn union_places_law<T: Ring>()
-    ensures { (d : Raw) (a b : Compressed T) → IsSound a → IsSound b → IsUnionOf d a.pattern b.pattern
-        → (i j : ℕ) → IsPlace d i j ↔ ((plain_sum T.ring (plain_of_rows T.ring T.value a) (plain_of_rows T.ring T.value b)).has i j ≡ true) }
+    ensures { (d : Raw) (a b : Compressed T) → IsSound a → IsSound b
+        → IsUnionOf d a.pattern b.pattern
+        → (i j : ℕ) → IsPlace d i j
+        ↔ ((plain_sum T.ring (plain_of_rows T.ring T.value a) (plain_of_rows T.ring T.value b)).has
+        i j ≡ true) }
 {}

@@ -68,7 +68,9 @@ pub(crate) fn transposed_csr<T: Ring>(
     alloc: Global,
     a: &CsrMatrix<T>,
 ) -> Result<CsrMatrix<T>, AllocError>
-    ensures { IfOk result (λ m. plain_of_rows T.ring T.value m ≡ plain_transpose T.ring (plain_of_rows T.ring T.value a.now)) }
+    ensures { IfOk result
+        (λ m. plain_of_rows T.ring T.value m
+        ≡ plain_transpose T.ring (plain_of_rows T.ring T.value a.now)) }
 {
     // The call costs nothing: its contract tells the prover that the matrix is sound.
     let _ = a.values();
@@ -80,7 +82,9 @@ pub(crate) fn transposed_csc<T: Ring>(
     alloc: Global,
     a: &CscMatrix<T>,
 ) -> Result<CscMatrix<T>, AllocError>
-    ensures { IfOk result (λ m. plain_of_cols T.ring T.value m ≡ plain_transpose T.ring (plain_of_cols T.ring T.value a.now)) }
+    ensures { IfOk result
+        (λ m. plain_of_cols T.ring T.value m
+        ≡ plain_transpose T.ring (plain_of_cols T.ring T.value a.now)) }
 {
     // The call costs nothing: its contract tells the prover that the matrix is sound.
     let _ = a.values();

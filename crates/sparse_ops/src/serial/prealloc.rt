@@ -36,14 +36,22 @@ pub fn spmm_csr_prealloc<T: Ring>(
 ) -> Result<(), OperationError>
     requires inner { (plain_op T.ring (λ m. plain_of_rows T.ring T.value m.now) a).cols
         ≡ (plain_op T.ring (λ m. plain_of_rows T.ring T.value m.now) b).rows }
-    requires rows { (plain_op T.ring (λ m. plain_of_rows T.ring T.value m.now) a).rows ≡ c.old.pattern.major_dim }
-    requires cols { (plain_op T.ring (λ m. plain_of_rows T.ring T.value m.now) b).cols ≡ c.old.pattern.minor_dim }
-    ensures covered { IsOk result → IsCovered (plain_product T.ring (plain_op T.ring (λ m. plain_of_rows T.ring T.value m.now) a.entry)
-        (plain_op T.ring (λ m. plain_of_rows T.ring T.value m.now) b.entry)) (plain_of_rows T.ring T.value c.old) }
+    requires rows { (plain_op T.ring (λ m. plain_of_rows T.ring T.value m.now) a).rows
+        ≡ c.old.pattern.major_dim }
+    requires cols { (plain_op T.ring (λ m. plain_of_rows T.ring T.value m.now) b).cols
+        ≡ c.old.pattern.minor_dim }
+    ensures covered { IsOk result
+        → IsCovered (plain_product T.ring
+        (plain_op T.ring (λ m. plain_of_rows T.ring T.value m.now) a.entry)
+        (plain_op T.ring (λ m. plain_of_rows T.ring T.value m.now) b.entry))
+        (plain_of_rows T.ring T.value c.old) }
     ensures refused { IfErr result (λ e. (e ≡ OutOfMemory) ⊎ ((e ≡ InvalidPattern)
-        × (IsCovered (plain_product T.ring (plain_op T.ring (λ m. plain_of_rows T.ring T.value m.now) a.entry)
-        (plain_op T.ring (λ m. plain_of_rows T.ring T.value m.now) b.entry)) (plain_of_rows T.ring T.value c.old) → ⊥))) }
-    ensures no_memory { IfNotTransposed a.entry b.entry (λ _ _. IfErr result (λ e. e ≡ InvalidPattern)) }
+        × (IsCovered (plain_product T.ring
+        (plain_op T.ring (λ m. plain_of_rows T.ring T.value m.now) a.entry)
+        (plain_op T.ring (λ m. plain_of_rows T.ring T.value m.now) b.entry))
+        (plain_of_rows T.ring T.value c.old) → ⊥))) }
+    ensures no_memory { IfNotTransposed a.entry b.entry
+        (λ _ _. IfErr result (λ e. e ≡ InvalidPattern)) }
     ensures unchanged { OnErr result (c.new ≡ c.old) }
     ensures pattern { c.new.pattern ≡ c.old.pattern }
     ensures updated { OnOk result (plain_of_rows T.ring T.value c.new
@@ -82,14 +90,22 @@ pub fn spmm_csc_prealloc<T: Ring>(
 ) -> Result<(), OperationError>
     requires inner { (plain_op T.ring (λ m. plain_of_cols T.ring T.value m.now) a).cols
         ≡ (plain_op T.ring (λ m. plain_of_cols T.ring T.value m.now) b).rows }
-    requires rows { (plain_op T.ring (λ m. plain_of_cols T.ring T.value m.now) a).rows ≡ c.old.pattern.minor_dim }
-    requires cols { (plain_op T.ring (λ m. plain_of_cols T.ring T.value m.now) b).cols ≡ c.old.pattern.major_dim }
-    ensures covered { IsOk result → IsCovered (plain_product T.ring (plain_op T.ring (λ m. plain_of_cols T.ring T.value m.now) a.entry)
-        (plain_op T.ring (λ m. plain_of_cols T.ring T.value m.now) b.entry)) (plain_of_cols T.ring T.value c.old) }
+    requires rows { (plain_op T.ring (λ m. plain_of_cols T.ring T.value m.now) a).rows
+        ≡ c.old.pattern.minor_dim }
+    requires cols { (plain_op T.ring (λ m. plain_of_cols T.ring T.value m.now) b).cols
+        ≡ c.old.pattern.major_dim }
+    ensures covered { IsOk result
+        → IsCovered (plain_product T.ring
+        (plain_op T.ring (λ m. plain_of_cols T.ring T.value m.now) a.entry)
+        (plain_op T.ring (λ m. plain_of_cols T.ring T.value m.now) b.entry))
+        (plain_of_cols T.ring T.value c.old) }
     ensures refused { IfErr result (λ e. (e ≡ OutOfMemory) ⊎ ((e ≡ InvalidPattern)
-        × (IsCovered (plain_product T.ring (plain_op T.ring (λ m. plain_of_cols T.ring T.value m.now) a.entry)
-        (plain_op T.ring (λ m. plain_of_cols T.ring T.value m.now) b.entry)) (plain_of_cols T.ring T.value c.old) → ⊥))) }
-    ensures no_memory { IfNotTransposed a.entry b.entry (λ _ _. IfErr result (λ e. e ≡ InvalidPattern)) }
+        × (IsCovered (plain_product T.ring
+        (plain_op T.ring (λ m. plain_of_cols T.ring T.value m.now) a.entry)
+        (plain_op T.ring (λ m. plain_of_cols T.ring T.value m.now) b.entry))
+        (plain_of_cols T.ring T.value c.old) → ⊥))) }
+    ensures no_memory { IfNotTransposed a.entry b.entry
+        (λ _ _. IfErr result (λ e. e ≡ InvalidPattern)) }
     ensures unchanged { OnErr result (c.new ≡ c.old) }
     ensures pattern { c.new.pattern ≡ c.old.pattern }
     ensures updated { OnOk result (plain_of_cols T.ring T.value c.new

@@ -40,7 +40,8 @@ pub fn mul_csr<T: Ring>(
 ) -> Result<CsrMatrix<T>, AllocError>
     requires { a.now.pattern.minor_dim ≡ b.now.pattern.major_dim }
     ensures { IfOk result (λ m. plain_of_rows T.ring T.value m
-        ≡ plain_product T.ring (plain_of_rows T.ring T.value a.now) (plain_of_rows T.ring T.value b.now)) }
+        ≡ plain_product T.ring (plain_of_rows T.ring T.value a.now)
+        (plain_of_rows T.ring T.value b.now)) }
 {
     Ok(CsrMatrix::from_cs(multiply(alloc, a.cs(), b.cs())?))
 }
@@ -59,7 +60,8 @@ pub fn mul_csc<T: Ring>(
 ) -> Result<CscMatrix<T>, AllocError>
     requires { a.now.pattern.major_dim ≡ b.now.pattern.minor_dim }
     ensures { IfOk result (λ m. plain_of_cols T.ring T.value m
-        ≡ plain_product T.ring (plain_of_cols T.ring T.value a.now) (plain_of_cols T.ring T.value b.now)) }
+        ≡ plain_product T.ring (plain_of_cols T.ring T.value a.now)
+        (plain_of_cols T.ring T.value b.now)) }
 {
     Ok(CscMatrix::from_cs(multiply(alloc, b.cs(), a.cs())?))
 }
@@ -72,7 +74,8 @@ fn multiply<T: Ring>(
 ) -> Result<CsMatrix<T>, AllocError>
     requires { a.now.pattern.minor_dim ≡ b.now.pattern.major_dim }
     ensures { IfOk result (λ m. plain_of_rows T.ring T.value m
-        ≡ plain_product T.ring (plain_of_rows T.ring T.value a.now) (plain_of_rows T.ring T.value b.now)) }
+        ≡ plain_product T.ring (plain_of_rows T.ring T.value a.now)
+        (plain_of_rows T.ring T.value b.now)) }
 {
     // The law costs nothing: it tells the prover what the plain matrices are.
     stands_law::<T>();

@@ -35,8 +35,10 @@ pub(super) fn scatter_rows<T: Ring>(
     requires width { b.now.pattern.minor_dim ≡ pattern.now.minor_dim }
     requires places { HasProductPlaces pattern.now a.now.pattern b.now.pattern }
     ensures unchanged { OnErr result (values.new ≡ values.old) }
-    ensures updated { OnOk result (AreUpdated T.ring T.value T.zero_value pattern.now (T.value beta) (T.value alpha)
-        (plain_product T.ring (plain_of_rows T.ring T.value a.now) (plain_of_rows T.ring T.value b.now)).value
+    ensures updated { OnOk result
+        (AreUpdated T.ring T.value T.zero_value pattern.now (T.value beta) (T.value alpha)
+        (plain_product T.ring (plain_of_rows T.ring T.value a.now)
+        (plain_of_rows T.ring T.value b.now)).value
         values.old values.new) }
     ensures counted { OnOk result (steps.new ≡ steps.old + nnz_of a.now.pattern + nnz_of pattern.now
         + triples_of a.now.pattern b.now.pattern) }
@@ -71,9 +73,12 @@ fn add_product_row<T: Ring>(
     requires width { length row.old ≡ b.now.pattern.minor_dim }
     ensures added { (j : ℕ) → j < length row.old → T.value (slice_index_or row.new j T.zero_value)
         ≡ T.ring.add (T.value (slice_index_or row.old j T.zero_value)) (T.ring.mul (T.value alpha)
-        ((plain_product T.ring (plain_of_rows T.ring T.value a.now) (plain_of_rows T.ring T.value b.now)).value i j)) }
-    ensures counted { steps.new + start_of a.now.pattern i + triples_below (start_of a.now.pattern i) a.now.pattern b.now.pattern
-        ≡ steps.old + end_of a.now.pattern i + triples_below (end_of a.now.pattern i) a.now.pattern b.now.pattern }
+        ((plain_product T.ring (plain_of_rows T.ring T.value a.now)
+        (plain_of_rows T.ring T.value b.now)).value i j)) }
+    ensures counted { steps.new + start_of a.now.pattern i
+        + triples_below (start_of a.now.pattern i) a.now.pattern b.now.pattern
+        ≡ steps.old + end_of a.now.pattern i
+        + triples_below (end_of a.now.pattern i) a.now.pattern b.now.pattern }
 {
     let (offsets, indices, values) = a.cs_data();
     let (begin, end) = (offsets[i], offsets[i + 1]);
@@ -127,8 +132,10 @@ fn gather_row<T: Ring>(
     requires lane { i < pattern.now.major_dim }
     requires width { length row.old ≡ pattern.now.minor_dim }
     requires count { length values.old ≡ length pattern.now.indices }
-    ensures gathered { (j p : ℕ) → IsPosition pattern.now i j p → T.value (slice_index_or values.new p T.zero_value)
-        ≡ T.ring.add (T.ring.mul (T.value beta) (T.value (slice_index_or values.old p T.zero_value)))
+    ensures gathered { (j p : ℕ) → IsPosition pattern.now i j p
+        → T.value (slice_index_or values.new p T.zero_value)
+        ≡ T.ring.add (T.ring.mul (T.value beta)
+        (T.value (slice_index_or values.old p T.zero_value)))
         (T.value (slice_index_or row.old j T.zero_value)) }
     ensures others { (p : ℕ) → (IsInLane pattern.now i p → ⊥)
         → slice_index_or values.new p T.zero_value ≡ slice_index_or values.old p T.zero_value }

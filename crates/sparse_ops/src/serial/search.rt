@@ -99,8 +99,10 @@ pub(super) fn search_rows<T: Ring>(
     requires inner { a.now.pattern.minor_dim ≡ b.now.pattern.major_dim }
     requires lanes { a.now.pattern.major_dim ≡ pattern.now.major_dim }
     requires places { HasProductPlaces pattern.now a.now.pattern b.now.pattern }
-    ensures updated { AreUpdated T.ring T.value T.zero_value pattern.now (T.value beta) (T.value alpha)
-        (plain_product T.ring (plain_of_rows T.ring T.value a.now) (plain_of_rows T.ring T.value b.now)).value
+    ensures updated { AreUpdated T.ring T.value T.zero_value pattern.now (T.value beta)
+        (T.value alpha)
+        (plain_product T.ring (plain_of_rows T.ring T.value a.now)
+        (plain_of_rows T.ring T.value b.now)).value
         values.old values.new }
     ensures counted { steps.new ≡ steps.old + nnz_of a.now.pattern + nnz_of pattern.now
         + triples_of a.now.pattern b.now.pattern }
@@ -117,7 +119,8 @@ pub(super) fn search_rows<T: Ring>(
 
 // Multiplies each value by `factor`.
 fn scale_values<T: Ring>(factor: T, values: &mut [T], steps: &mut Steps)
-    ensures scaled { AreChanged T.value (T.ring.mul (T.value factor)) T.zero_value values.old values.new }
+    ensures scaled { AreChanged T.value (T.ring.mul (T.value factor)) T.zero_value values.old
+        values.new }
     ensures counted { steps.new ≡ steps.old + length values.old }
 {
     for value in values.iter_mut() {
@@ -140,14 +143,20 @@ fn add_lanes<T: Ring>(
     requires lane { i < a.now.pattern.major_dim }
     requires target { i < pattern.now.major_dim }
     requires count { length values.old ≡ length pattern.now.indices }
-    requires places { (j : ℕ) → IsInLanes b.now.pattern (lane_of a.now.pattern i) j → IsPlace pattern.now i j }
-    ensures added { (j p : ℕ) → IsPosition pattern.now i j p → T.value (slice_index_or values.new p T.zero_value)
-        ≡ T.ring.add (T.value (slice_index_or values.old p T.zero_value)) (T.ring.mul (T.value alpha)
-        ((plain_product T.ring (plain_of_rows T.ring T.value a.now) (plain_of_rows T.ring T.value b.now)).value i j)) }
+    requires places { (j : ℕ) → IsInLanes b.now.pattern (lane_of a.now.pattern i) j
+        → IsPlace pattern.now i j }
+    ensures added { (j p : ℕ) → IsPosition pattern.now i j p
+        → T.value (slice_index_or values.new p T.zero_value)
+        ≡ T.ring.add (T.value (slice_index_or values.old p T.zero_value))
+        (T.ring.mul (T.value alpha)
+        ((plain_product T.ring (plain_of_rows T.ring T.value a.now)
+        (plain_of_rows T.ring T.value b.now)).value i j)) }
     ensures others { (p : ℕ) → (IsInLane pattern.now i p → ⊥)
         → slice_index_or values.new p T.zero_value ≡ slice_index_or values.old p T.zero_value }
-    ensures counted { steps.new + start_of a.now.pattern i + triples_below (start_of a.now.pattern i) a.now.pattern b.now.pattern
-        ≡ steps.old + end_of a.now.pattern i + triples_below (end_of a.now.pattern i) a.now.pattern b.now.pattern }
+    ensures counted { steps.new + start_of a.now.pattern i
+        + triples_below (start_of a.now.pattern i) a.now.pattern b.now.pattern
+        ≡ steps.old + end_of a.now.pattern i
+        + triples_below (end_of a.now.pattern i) a.now.pattern b.now.pattern }
 {
     let (offsets, indices, entries) = a.cs_data();
     let (begin, end) = (offsets[i], offsets[i + 1]);
@@ -173,7 +182,8 @@ fn add_matrix_lane<T: Ring>(
     requires target { i < pattern.now.major_dim }
     requires count { length values.old ≡ length pattern.now.indices }
     requires places { (j : ℕ) → IsPlace b.now.pattern k j → IsPlace pattern.now i j }
-    ensures added { (j p : ℕ) → IsPosition pattern.now i j p → T.value (slice_index_or values.new p T.zero_value)
+    ensures added { (j p : ℕ) → IsPosition pattern.now i j p
+        → T.value (slice_index_or values.new p T.zero_value)
         ≡ T.ring.add (T.value (slice_index_or values.old p T.zero_value))
         (T.ring.mul (T.value scale) ((plain_of_rows T.ring T.value b.now).value k j)) }
     ensures others { (p : ℕ) → (IsInLane pattern.now i p → ⊥)
@@ -207,7 +217,8 @@ fn add_entries<T: Ring>(
     requires target { i < pattern.now.major_dim }
     requires count { length values.old ≡ length pattern.now.indices }
     requires places { (j : ℕ) → Contains indices.now j → IsPlace pattern.now i j }
-    ensures added { (j p : ℕ) → IsPosition pattern.now i j p → T.value (slice_index_or values.new p T.zero_value)
+    ensures added { (j p : ℕ) → IsPosition pattern.now i j p
+        → T.value (slice_index_or values.new p T.zero_value)
         ≡ T.ring.add (T.value (slice_index_or values.old p T.zero_value))
         (T.ring.mul (T.value scale) (lane_value T.ring T.value indices.now entries.now j)) }
     ensures others { (p : ℕ) → (IsInLane pattern.now i p → ⊥)

@@ -37,10 +37,14 @@ pub fn spmm_csr_prealloc_unchecked<T: Ring>(
 ) -> Result<(), OperationError>
     requires inner { (plain_op T.ring (λ m. plain_of_rows T.ring T.value m.now) a).cols
         ≡ (plain_op T.ring (λ m. plain_of_rows T.ring T.value m.now) b).rows }
-    requires rows { (plain_op T.ring (λ m. plain_of_rows T.ring T.value m.now) a).rows ≡ c.old.pattern.major_dim }
-    requires cols { (plain_op T.ring (λ m. plain_of_rows T.ring T.value m.now) b).cols ≡ c.old.pattern.minor_dim }
-    requires covered { IsCovered (plain_product T.ring (plain_op T.ring (λ m. plain_of_rows T.ring T.value m.now) a)
-        (plain_op T.ring (λ m. plain_of_rows T.ring T.value m.now) b)) (plain_of_rows T.ring T.value c.old) }
+    requires rows { (plain_op T.ring (λ m. plain_of_rows T.ring T.value m.now) a).rows
+        ≡ c.old.pattern.major_dim }
+    requires cols { (plain_op T.ring (λ m. plain_of_rows T.ring T.value m.now) b).cols
+        ≡ c.old.pattern.minor_dim }
+    requires covered { IsCovered
+        (plain_product T.ring (plain_op T.ring (λ m. plain_of_rows T.ring T.value m.now) a)
+        (plain_op T.ring (λ m. plain_of_rows T.ring T.value m.now) b))
+        (plain_of_rows T.ring T.value c.old) }
     ensures refused { IfErr result (λ e. e ≡ OutOfMemory) }
     ensures unchanged { OnErr result (c.new ≡ c.old) }
     ensures pattern { c.new.pattern ≡ c.old.pattern }
@@ -89,10 +93,14 @@ pub fn spmm_csr_prealloc_unchecked_counted<T: Ring>(
 ) -> Result<(), OperationError>
     requires inner { (plain_op T.ring (λ m. plain_of_rows T.ring T.value m.now) a).cols
         ≡ (plain_op T.ring (λ m. plain_of_rows T.ring T.value m.now) b).rows }
-    requires rows { (plain_op T.ring (λ m. plain_of_rows T.ring T.value m.now) a).rows ≡ c.old.pattern.major_dim }
-    requires cols { (plain_op T.ring (λ m. plain_of_rows T.ring T.value m.now) b).cols ≡ c.old.pattern.minor_dim }
-    requires covered { IsCovered (plain_product T.ring (plain_op T.ring (λ m. plain_of_rows T.ring T.value m.now) a)
-        (plain_op T.ring (λ m. plain_of_rows T.ring T.value m.now) b)) (plain_of_rows T.ring T.value c.old) }
+    requires rows { (plain_op T.ring (λ m. plain_of_rows T.ring T.value m.now) a).rows
+        ≡ c.old.pattern.major_dim }
+    requires cols { (plain_op T.ring (λ m. plain_of_rows T.ring T.value m.now) b).cols
+        ≡ c.old.pattern.minor_dim }
+    requires covered { IsCovered
+        (plain_product T.ring (plain_op T.ring (λ m. plain_of_rows T.ring T.value m.now) a)
+        (plain_op T.ring (λ m. plain_of_rows T.ring T.value m.now) b))
+        (plain_of_rows T.ring T.value c.old) }
     ensures refused { IfErr result (λ e. e ≡ OutOfMemory) }
     ensures unchanged { OnErr result (c.new ≡ c.old) }
     ensures pattern { c.new.pattern ≡ c.old.pattern }
@@ -100,7 +108,8 @@ pub fn spmm_csr_prealloc_unchecked_counted<T: Ring>(
         ≡ plain_update T.ring (T.value beta) (plain_of_rows T.ring T.value c.old) (T.value alpha)
         (plain_product T.ring (plain_op T.ring (λ m. plain_of_rows T.ring T.value m.now) a.entry)
         (plain_op T.ring (λ m. plain_of_rows T.ring T.value m.now) b.entry))) }
-    ensures no_more { IfNotTransposed a.entry b.entry (λ m n. steps.new ≤ steps.old + nnz_of m.now.pattern
+    ensures no_more { IfNotTransposed a.entry b.entry
+        (λ m n. steps.new ≤ steps.old + nnz_of m.now.pattern
         + nnz_of c.old.pattern + triples_of m.now.pattern n.now.pattern) }
     ensures all_multiplied { OnOk result (IfNotTransposed a.entry b.entry (λ m n.
         steps.old + triples_of m.now.pattern n.now.pattern ≤ steps.new)) }
@@ -137,10 +146,14 @@ pub fn spmm_csc_prealloc_unchecked<T: Ring>(
 ) -> Result<(), OperationError>
     requires inner { (plain_op T.ring (λ m. plain_of_cols T.ring T.value m.now) a).cols
         ≡ (plain_op T.ring (λ m. plain_of_cols T.ring T.value m.now) b).rows }
-    requires rows { (plain_op T.ring (λ m. plain_of_cols T.ring T.value m.now) a).rows ≡ c.old.pattern.minor_dim }
-    requires cols { (plain_op T.ring (λ m. plain_of_cols T.ring T.value m.now) b).cols ≡ c.old.pattern.major_dim }
-    requires covered { IsCovered (plain_product T.ring (plain_op T.ring (λ m. plain_of_cols T.ring T.value m.now) a)
-        (plain_op T.ring (λ m. plain_of_cols T.ring T.value m.now) b)) (plain_of_cols T.ring T.value c.old) }
+    requires rows { (plain_op T.ring (λ m. plain_of_cols T.ring T.value m.now) a).rows
+        ≡ c.old.pattern.minor_dim }
+    requires cols { (plain_op T.ring (λ m. plain_of_cols T.ring T.value m.now) b).cols
+        ≡ c.old.pattern.major_dim }
+    requires covered { IsCovered
+        (plain_product T.ring (plain_op T.ring (λ m. plain_of_cols T.ring T.value m.now) a)
+        (plain_op T.ring (λ m. plain_of_cols T.ring T.value m.now) b))
+        (plain_of_cols T.ring T.value c.old) }
     ensures refused { IfErr result (λ e. e ≡ OutOfMemory) }
     ensures unchanged { OnErr result (c.new ≡ c.old) }
     ensures pattern { c.new.pattern ≡ c.old.pattern }

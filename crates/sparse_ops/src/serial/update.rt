@@ -33,8 +33,10 @@ pub(super) fn update_checked<T: Ring>(
     ensures covered { IsOk result ↔ HasProductPlaces pattern.now a.now.pattern b.now.pattern }
     ensures kind { IfErr result (λ e. e ≡ InvalidPattern) }
     ensures unchanged { OnErr result (values.new ≡ values.old) }
-    ensures updated { OnOk result (AreUpdated T.ring T.value T.zero_value pattern.now (T.value beta) (T.value alpha)
-        (plain_product T.ring (plain_of_rows T.ring T.value a.now) (plain_of_rows T.ring T.value b.now)).value
+    ensures updated { OnOk result
+        (AreUpdated T.ring T.value T.zero_value pattern.now (T.value beta) (T.value alpha)
+        (plain_product T.ring (plain_of_rows T.ring T.value a.now)
+        (plain_of_rows T.ring T.value b.now)).value
         values.old values.new) }
 {
     if !covers_product(pattern, a.pattern(), b.pattern()) {
@@ -63,12 +65,15 @@ pub(super) fn update<T: Ring>(
     requires width { b.now.pattern.minor_dim ≡ pattern.now.minor_dim }
     requires places { HasProductPlaces pattern.now a.now.pattern b.now.pattern }
     ensures unchanged { OnErr result (values.new ≡ values.old) }
-    ensures updated { OnOk result (AreUpdated T.ring T.value T.zero_value pattern.now (T.value beta) (T.value alpha)
-        (plain_product T.ring (plain_of_rows T.ring T.value a.now) (plain_of_rows T.ring T.value b.now)).value
+    ensures updated { OnOk result
+        (AreUpdated T.ring T.value T.zero_value pattern.now (T.value beta) (T.value alpha)
+        (plain_product T.ring (plain_of_rows T.ring T.value a.now)
+        (plain_of_rows T.ring T.value b.now)).value
         values.old values.new) }
     ensures no_more { steps.new ≤ steps.old + nnz_of a.now.pattern + nnz_of pattern.now
         + triples_of a.now.pattern b.now.pattern }
-    ensures all_multiplied { OnOk result (steps.old + triples_of a.now.pattern b.now.pattern ≤ steps.new) }
+    ensures all_multiplied { OnOk result
+        (steps.old + triples_of a.now.pattern b.now.pattern ≤ steps.new) }
 {
     if pattern.nnz().saturating_add(b.pattern().nnz()) < pattern.minor_dim() {
         search_rows(beta, pattern, values, alpha, a, b, steps);
