@@ -7,29 +7,11 @@ use Rattle.sparse_parser.specs.Bytes.{is_blank, is_line_end, is_point}
 use Rattle.sparse_parser.specs.InnerBytes.{is_within_line, is_space, is_solid, is_unscaled}
 use Rattle.sparse_parser.proofs.Fronts.{Passes}
 
-pub digit_within_line : (b : ℕ) → is_ascii_digit b ≡ true → is_within_line b ≡ true
-digit_within_line b e = grind (arith, nat_tests)
-
 pub digit_no_blank : (b : ℕ) → is_ascii_digit b ≡ true → is_blank b ≡ false
 digit_no_blank b e = grind (arith, nat_tests)
 
 pub blank_within_line : (b : ℕ) → is_blank b ≡ true → is_within_line b ≡ true
 blank_within_line b e = grind (arith, nat_tests)
-
-pub blank_no_digit : (b : ℕ) → is_blank b ≡ true → is_ascii_digit b ≡ false
-blank_no_digit b e = grind (arith, nat_tests)
-
-pub end_no_digit : (b : ℕ) → is_line_end b ≡ true → is_ascii_digit b ≡ false
-end_no_digit b e = grind (arith, nat_tests)
-
-pub end_no_blank : (b : ℕ) → is_line_end b ≡ true → is_blank b ≡ false
-end_no_blank b e = grind (arith, nat_tests)
-
-pub sign_no_blank : (b : ℕ) → (eqb b 43 || eqb b 45) ≡ true → is_blank b ≡ false
-sign_no_blank b e = grind (arith, nat_tests)
-
-pub sign_within_line : (b : ℕ) → (eqb b 43 || eqb b 45) ≡ true → is_within_line b ≡ true
-sign_within_line b e = grind (arith, nat_tests)
 
 pub digit_solid : (b : ℕ) → is_ascii_digit b ≡ true → is_solid b ≡ true
 digit_solid b e = grind (arith, nat_tests)

@@ -24,11 +24,6 @@ length-front-after : (p : ℕ → Bool) (text : List ℕ)
 length-front-after p text = sym (length-append (front p text) (after p text))
     ∙ ap length (front-append-after p text)
 
-pub no_front : (p : ℕ → Bool) (text : List ℕ) → length (after p text) ≡ length text
-    → front p text ≡ []
-no_front p text e = nil_from_length (front p text)
-    (let l = length-front-after p text in omega arith)
-
 pub some_front : (p : ℕ → Bool) (text : List ℕ) → length (after p text) ≢ length text
     → 0 < length (front p text)
 some_front p text n = let l = length-front-after p text in omega (arith, n)

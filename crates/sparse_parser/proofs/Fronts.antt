@@ -25,50 +25,10 @@ pub record IsPassed (p : ℕ → Bool) (text : List ℕ) (i : ℕ) : Type 0 wher
   pub rest : after p (drop i text) ≡ after p text
   pub passed : take i text ++ front p (drop i text) ≡ front p text
 
-pub passed_none : (p : ℕ → Bool) (text : List ℕ) → IsPassed p text 0
-passed_none p text = record { room = omega arith; rest = refl; passed = refl }
-
-pub passed_more : (p : ℕ → Bool) (text : List ℕ) (i : ℕ) → IsPassed p text i → i < length text
-    → p (get_or text i 0) ≡ true → IsPassed p text (i + 1)
-passed_more p text i h lt e =
-    let d = drop_more text i 0 lt in
-    let a : after p (drop i text) ≡ after p (drop (i + 1) text) = ap (after p) d
-    ∙ after-yes p _ _ e in
-    let f : front p (drop i text) ≡ get_or text i 0 ∷ front p (drop (i + 1) text) = ap (front p) d
-    ∙ front-yes p _ _ e in
-    record {
-      room = omega arith;
-      rest = sym a ∙ h.rest;
-      passed = ap (λ (t : List ℕ). t ++ front p (drop (i + 1) text)) (take_more text i 0 lt)
-          ∙ append_assoc (take i text) _ _ ∙ sym (ap (λ (t : List ℕ). take i text ++ t) f)
-          ∙ h.passed;
-    }
-
 -- the loop's end: of the text, or at a byte that fails
 pub record IsFront (p : ℕ → Bool) (text : List ℕ) (i : ℕ) : Type 0 where
   pub rest : drop i text ≡ after p text
   pub passed : take i text ≡ front p text
-
-pub passed_all : (p : ℕ → Bool) (text : List ℕ) (i : ℕ) → IsPassed p text i → length text ≤ i
-    → IsFront p text i
-passed_all p text i h le =
-    let d = drop_all i text le in
-    record {
-      rest = d ∙ sym (ap (after p) d) ∙ h.rest;
-      passed = sym (append-nil _) ∙ sym (ap (λ (t : List ℕ). take i text ++ front p t) d)
-          ∙ h.passed;
-    }
-
-pub passed_stop : (p : ℕ → Bool) (text : List ℕ) (i : ℕ) → IsPassed p text i → i < length text
-    → p (get_or text i 0) ≡ false → IsFront p text i
-passed_stop p text i h lt e =
-    let d = drop_more text i 0 lt in
-    record {
-      rest = d ∙ sym (ap (after p) d ∙ after-no p _ _ e) ∙ h.rest;
-      passed = sym (append-nil _)
-          ∙ sym (ap (λ (t : List ℕ). take i text ++ t) (ap (front p) d ∙ front-no p _ _ e))
-          ∙ h.passed;
-    }
 
 -- ---- the parts, without a loop
 

@@ -14,18 +14,6 @@ pub after_passed : (p : ℕ → Bool) (text : List ℕ) (i : ℕ) → i < length
     → p (get_or text i 0) ≡ true → after p (drop (i + 1) text) ≡ after p (drop i text)
 after_passed p text i lt e = sym (ap (after p) (drop_more text i 0 lt) ∙ after-yes p _ _ e)
 
--- at a byte that fails
-pub after_stopped : (p : ℕ → Bool) (text : List ℕ) (i : ℕ) → i < length text
-    → p (get_or text i 0) ≡ false → drop i text ≡ after p (drop i text)
-after_stopped p text i lt e =
-    let d = drop_more text i 0 lt in
-    d ∙ sym (ap (after p) d ∙ after-no p _ _ e)
-
--- at the end of the text
-pub after_ended : (p : ℕ → Bool) (text : List ℕ) (i : ℕ) → length text ≤ i
-    → drop i text ≡ after p (drop i text)
-after_ended p text i le = let d = drop_all i text le in d ∙ sym (ap (after p) d)
-
 -- one digit more is read
 pub digit_read : (n : ℕ) (text : List ℕ) (i : ℕ) → i < length text
     → is_ascii_digit (get_or text i 0) ≡ true

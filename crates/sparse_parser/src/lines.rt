@@ -120,7 +120,8 @@ pub fn split_solid(text: &[u8]) -> (&[u8], &[u8])
 
 /// Returns the first word of a line and the rest of the line, or `None` if the line is blank.
 pub fn next_word(line: &[u8]) -> Option<(&[u8], &[u8])>
-    ensures { MatchOption result (words_of line.now ≡ []) (λ found. words_of line.now ≡ found.0.now ∷ words_of found.1.now) }
+    ensures { MatchOption result (words_of line.now ≡ [])
+        (λ found. words_of line.now ≡ found.0.now ∷ words_of found.1.now) }
 {
     let line = after_blanks(line);
     if line.is_empty() {

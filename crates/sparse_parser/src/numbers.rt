@@ -84,7 +84,8 @@ fn after_digits(text: &[u8]) -> &[u8]
 #[cold]
 pub fn integer(word: &[u8]) -> Option<i128>
     requires { IsTrue (is_integer word.now) }
-    ensures { SomeIff result (FitsSigned w128 (signed_digits_value 10 word.now)) (signed_digits_value 10 word.now) }
+    ensures { SomeIff result (FitsSigned w128 (signed_digits_value 10 word.now))
+        (signed_digits_value 10 word.now) }
 {
     std::str::from_utf8(word).unwrap().parse().ok()
 }
