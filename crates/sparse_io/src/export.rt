@@ -110,7 +110,8 @@ impl<T> MatrixMarketExport<T> for CscMatrix<T> {
     ghost use Rattle.sparse_base.specs.Coo.{coo_of};
     ghost use Rattle.sparse_cs.specs.Compressed.{lane_triplets, turned};
 
-    ghost exported = { λ m. coo_of m.pattern.minor_dim m.pattern.major_dim (map turned (lane_triplets m)) };
+    ghost exported = { λ m. coo_of m.pattern.minor_dim m.pattern.major_dim
+        (map turned (lane_triplets m)) };
 
     fn triplet_iter(&self) -> ExportIter<'_, T> {
         ExportIter::Csc(CscMatrix::triplet_iter(self))

@@ -35,7 +35,8 @@ pub fn load_coo_from_matrix_market_file<T: MatrixMarketScalar>(
     rt: &(impl Files + AllocGlobal),
     path: &str,
 ) -> Result<CooMatrix<T>, MatrixMarketError>
-    ensures ok { IfOk result (λ m. (text : List ℕ) × Means T.scalar text (Ok (values_of T.value m))) }
+    ensures ok { IfOk result
+        (λ m. (text : List ℕ) × Means T.scalar text (Ok (values_of T.value m))) }
     ensures refused { IfErr result (λ e. IsFileFault (kind_of e)
         ⊎ ((text : List ℕ) × Means T.scalar text (Err (kind_of e)))) }
 {

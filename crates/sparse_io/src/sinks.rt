@@ -27,7 +27,8 @@ pub trait Sink {
     fn write(&mut self, bytes: &[u8]) -> Result<usize, ErrorKind>
         ensures bound { WritesAtMost result bytes.now }
         ensures bytes { WriteAppends (taken self.old) (taken self.new) result bytes.now }
-        ensures failed { CountsFailure (failure_of result bytes.now) (failures self.old) (failures self.new)
+        ensures failed { CountsFailure (failure_of result bytes.now) (failures self.old)
+            (failures self.new)
             (last self.old) (last self.new) };
 }
 

@@ -45,7 +45,8 @@ fn push_heading(text: &mut String, typename: &str) -> Result<(), AllocError>
 
 #[tactic(auto, unfolding(crate::specs::Written::size_line))]
 fn push_sizes(text: &mut String, nrows: usize, ncols: usize, nnz: usize) -> Result<(), AllocError>
-    ensures { OnOk result (string_bytes text.new ≡ string_bytes text.old ++ size_line nrows ncols nnz) }
+    ensures { OnOk result
+        (string_bytes text.new ≡ string_bytes text.old ++ size_line nrows ncols nnz) }
 {
     push_number(text, nrows)?;
     text.push_str(" ")?;
@@ -64,7 +65,9 @@ fn push_triplet<T: MatrixMarketScalar>(
 ) -> Result<(), AllocError>
     requires row { row < usize.MAX }
     requires col { col < usize.MAX }
-    ensures { OnOk result (string_bytes text.new ≡ string_bytes text.old ++ triplet_line (λ x. T.scalar.text (T.value x)) (row, col, value.now)) }
+    ensures { OnOk result
+        (string_bytes text.new ≡ string_bytes text.old
+        ++ triplet_line (λ x. T.scalar.text (T.value x)) (row, col, value.now)) }
 {
     let mut bytes = [b' '; indices::ROOM];
     text.push_str(format_indices(&mut bytes, row + 1, col + 1))?;
@@ -77,7 +80,9 @@ fn push_head<T, S>(text: &mut String, matrix: &S) -> Result<(), AllocError>
 where
     T: MatrixMarketScalar,
     S: MatrixMarketExport<T>,
-    ensures head { OnOk result (string_bytes text.new ≡ string_bytes text.old ++ head_of T.scalar.name (S.exported matrix.now)) }
+    ensures head { OnOk result
+        (string_bytes text.new ≡ string_bytes text.old
+        ++ head_of T.scalar.name (S.exported matrix.now)) }
     ensures nrows { OnOk result ((S.exported matrix.now).nrows ≤ usize.MAX) }
     ensures ncols { OnOk result ((S.exported matrix.now).ncols ≤ usize.MAX) }
 {
@@ -88,10 +93,14 @@ where
 // Writes the buffer to the sink and clears it.
 fn flush<W: Sink>(sink: &mut W, text: &mut String) -> Result<(), MatrixMarketError>
     ensures unfailed { OnOk result (W.failures sink.new ≡ W.failures sink.old) }
-    ensures all { OnOk result (Appends (W.taken sink.old) (W.taken sink.new) (string_bytes text.old)) }
+    ensures all { OnOk result
+        (Appends (W.taken sink.old) (W.taken sink.new) (string_bytes text.old)) }
     ensures empty { OnOk result (string_bytes text.new ≡ []) }
-    ensures prefix { OnErr result (AppendsSome (W.taken sink.old) (W.taken sink.new) (string_bytes text.old)) }
-    ensures refused { IfErr result (λ e. IsRefusedWrite (kind_of e) (W.failures sink.old) (W.failures sink.new) (W.last sink.new)) }
+    ensures prefix { OnErr result
+        (AppendsSome (W.taken sink.old) (W.taken sink.new) (string_bytes text.old)) }
+    ensures refused { IfErr result
+        (λ e. IsRefusedWrite (kind_of e) (W.failures sink.old) (W.failures sink.new)
+        (W.last sink.new)) }
 {
     write_all_to(sink, text.as_bytes())?;
     text.clear();
@@ -112,10 +121,15 @@ where
     requires row { row < usize.MAX }
     requires col { col < usize.MAX }
     ensures unfailed { OnOk result (W.failures sink.new ≡ W.failures sink.old) }
-    ensures buffered { OnOk result (IsBuffered (W.taken sink.old) (W.taken sink.new) (string_bytes text.new)
-        (string_bytes text.old ++ triplet_line (λ x. T.scalar.text (T.value x)) (row, col, value.now))) }
-    ensures prefix { OnErr result (AppendsSome (W.taken sink.old) (W.taken sink.new) (string_bytes text.old)) }
-    ensures refused { IfErr result (λ e. IsRefusedWrite (kind_of e) (W.failures sink.old) (W.failures sink.new) (W.last sink.new)) }
+    ensures buffered { OnOk result
+        (IsBuffered (W.taken sink.old) (W.taken sink.new) (string_bytes text.new)
+        (string_bytes text.old
+        ++ triplet_line (λ x. T.scalar.text (T.value x)) (row, col, value.now))) }
+    ensures prefix { OnErr result
+        (AppendsSome (W.taken sink.old) (W.taken sink.new) (string_bytes text.old)) }
+    ensures refused { IfErr result
+        (λ e. IsRefusedWrite (kind_of e) (W.failures sink.old) (W.failures sink.new)
+        (W.last sink.new)) }
 {
     if text.len() >= FULL {
         flush(sink, text)?;
@@ -142,10 +156,16 @@ where
     T: MatrixMarketScalar,
     W: Sink,
     S: MatrixMarketExport<T>,
-    ensures ok { OnOk result (Appends (W.taken sink.old) (W.taken sink.new) (text_of T.scalar.name (λ x. T.scalar.text (T.value x)) (S.exported matrix.now))) }
+    ensures ok { OnOk result
+        (Appends (W.taken sink.old) (W.taken sink.new)
+        (text_of T.scalar.name (λ x. T.scalar.text (T.value x)) (S.exported matrix.now))) }
     ensures unfailed { OnOk result (W.failures sink.new ≡ W.failures sink.old) }
-    ensures prefix { OnErr result (AppendsSome (W.taken sink.old) (W.taken sink.new) (text_of T.scalar.name (λ x. T.scalar.text (T.value x)) (S.exported matrix.now))) }
-    ensures refused { IfErr result (λ e. IsRefusedWrite (kind_of e) (W.failures sink.old) (W.failures sink.new) (W.last sink.new)) }
+    ensures prefix { OnErr result
+        (AppendsSome (W.taken sink.old) (W.taken sink.new)
+        (text_of T.scalar.name (λ x. T.scalar.text (T.value x)) (S.exported matrix.now))) }
+    ensures refused { IfErr result
+        (λ e. IsRefusedWrite (kind_of e) (W.failures sink.old) (W.failures sink.new)
+        (W.last sink.new)) }
 {
     let mut text = String::with_capacity(alloc, CAPACITY)?;
     push_head(&mut text, matrix)?;
@@ -172,7 +192,9 @@ pub fn save_to_matrix_market_str<T, S>(alloc: Global, matrix: &S) -> Result<Stri
 where
     T: MatrixMarketScalar,
     S: MatrixMarketExport<T>,
-    ensures { IfOk result (λ text. string_bytes text ≡ text_of T.scalar.name (λ x. T.scalar.text (T.value x)) (S.exported matrix.now)) }
+    ensures { IfOk result
+        (λ text. string_bytes text
+        ≡ text_of T.scalar.name (λ x. T.scalar.text (T.value x)) (S.exported matrix.now)) }
 {
     let mut text = String::new(alloc);
     push_head(&mut text, matrix)?;

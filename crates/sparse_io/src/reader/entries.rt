@@ -73,7 +73,8 @@ fn line_triplets<T: MatrixMarketScalar>(
     at: Option<(usize, usize)>,
     text: &[u8],
 ) -> Option<(Result<Triplets<T>, MatrixMarketError>, &[u8])>
-    ensures { MatchOption result (is_entry (line_words text.now) ≡ false) (λ x. IsMeant T.scalar header at text.now
+    ensures { MatchOption result (is_entry (line_words text.now) ≡ false)
+        (λ x. IsMeant T.scalar header at text.now
         (read_as (λ t. map (λ t. value_triplet T.value t) (both_of t)) x.0) x.1.now) }
 {
     match (header.format, header.field) {
@@ -109,7 +110,8 @@ fn general_triplets<T: MatrixMarketScalar>(
     at: Option<(usize, usize)>,
     text: &[u8],
 ) -> Option<(Result<Triplets<T>, MatrixMarketError>, &[u8])>
-    ensures { MatchOption result (is_entry (line_words text.now) ≡ false) (λ x. IsMeant T.scalar header at text.now
+    ensures { MatchOption result (is_entry (line_words text.now) ≡ false)
+        (λ x. IsMeant T.scalar header at text.now
         (read_as (λ t. map (λ t. value_triplet T.value t) (both_of t)) x.0) x.1.now) }
 {
     let (line, after) = data_line(text)?;
@@ -179,7 +181,8 @@ fn add_all<T: MatrixMarketScalar>(
         (map (λ t. value_triplet T.value t) (both_of found)))) }
     ensures added { IfOk result (λ b. IsTrue b.inside
         → values_of T.value matrix.new
-        ≡ appended (values_of T.value matrix.old) (map (λ t. value_triplet T.value t) (both_of found))) }
+        ≡ appended (values_of T.value matrix.old)
+        (map (λ t. value_triplet T.value t) (both_of found))) }
     ensures rows { matrix.new.nrows ≡ matrix.old.nrows }
     ensures cols { matrix.new.ncols ≡ matrix.old.ncols }
 {
