@@ -4,11 +4,13 @@ use crate::fixtures::{list, scalars};
 use sparse_algebra::scalar::W64;
 use sparse_base::coo::CooMatrix;
 use sparse_base::dense::DMatrix;
+use sparse_base::steps::Steps;
 use sparse_convert::serial::{
     convert_coo_csc, convert_coo_csr, convert_dense_coo, convert_dense_csc, convert_dense_csr,
 };
 use sparse_forms::csr::CsrMatrix;
-use sparse_ops::serial::mul_csr;
+use sparse_op::Op;
+use sparse_ops::serial::{mul_csr, spmm_csr_prealloc_unchecked_counted};
 use std::alloc::{AllocError, Global};
 use std::test::Fail;
 
@@ -28,9 +30,42 @@ fn is_empty_product(
 
 #[test]
 fn products_without_places(rt: HostRuntime) -> Result<(), Fail> {
-    for sizes in [(2, 2, 0), (0, 2, 2), (2, 0, 2), (0, 0, 0)] {
+    let most = usize::MAX;
+    for sizes in [
+        (2, 2, 0),
+        (0, 2, 2),
+        (2, 0, 2),
+        (0, 0, 0),
+        (0, 1, most),
+        (1, 1, most),
+    ] {
         assert!(rt; is_empty_product(rt.alloc(), sizes)?);
     }
+    Ok(())
+}
+
+// Whether the square of an identity, computed again in counted steps, is the identity.
+fn is_squared_in_steps(alloc: Global, size: usize) -> Result<bool, Fail> {
+    let identity = CsrMatrix::<W64>::identity(alloc, size)?;
+    let mut square = mul_csr(alloc, &identity, &identity)?;
+    let (zero, one) = (W64::new(0), W64::new(1));
+    let operand = Op::NoOp(&identity);
+    let mut steps = Steps::new();
+    spmm_csr_prealloc_unchecked_counted(
+        alloc,
+        zero,
+        &mut square,
+        one,
+        operand,
+        operand,
+        &mut steps,
+    )?;
+    Ok(square == identity)
+}
+
+#[test]
+fn a_large_identity_is_squared_in_steps(rt: HostRuntime) -> Result<(), Fail> {
+    assert!(rt; is_squared_in_steps(rt.alloc(), 200_000)?);
     Ok(())
 }
 

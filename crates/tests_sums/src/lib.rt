@@ -9,3 +9,5 @@ mod operands;
 mod products_into;
 #[cfg(test)]
 mod sums;
+#[cfg(test)]
+mod wrapping;
