@@ -1,7 +1,7 @@
 -- Data lines that are read one after the other, as a loop does.
-use Rattle.std.proofs.Common.{◌≡◌, ◌≢◌, ℕ, zero, suc, ◌+◌, ◌≤◌, ◌<◌, Bool, true, false, cond, eqb}
+use Rattle.std.proofs.Common.{◌≡◌, ℕ, suc, ◌+◌, ◌≤◌, ◌<◌, Bool, true, false, cond}
 use Rattle.std.proofs.Common.{◌&&◌, List, [], ◌∷◌, ◌++◌, length, drop, slice_get, Option, Some}
-use Rattle.std.proofs.Common.{None, Result, Ok, Err, refl, sym, ap, subst, ◌∙◌, arith, append_assoc}
+use Rattle.std.proofs.Common.{None, Result, Ok, Err, refl, sym, ap, ◌∙◌, arith, append_assoc}
 use Rattle.std.proofs.Common.{inr}
 use Rattle.std.specs.Prelude.{IsTrue}
 use Rattle.std.specs.List.{list_all}
@@ -26,7 +26,7 @@ use Rattle.sparse_parser.specs.Meaning.{Triplet, Sizes, is_count, is_inside, tri
 use Rattle.sparse_parser.specs.Meaning.{entries_of, listed_of, values_of}
 use Rattle.sparse_parser.specs.InnerReading.{Gives, words_of, line_words, contents_of, count_of}
 use Rattle.sparse_parser.specs.InnerReading.{among_entries, settled_of}
-use Rattle.sparse_parser.specs.InnerLines.{IsLine, words_in}
+use Rattle.sparse_parser.specs.InnerLines.{IsLine}
 use Rattle.sparse_parser.proofs.Fronts.{length-after-lt}
 use Rattle.sparse_parser.proofs.LineLaws.{outside, contents_of-line, contents_of-nil}
 use Rattle.sparse_io.specs.InnerEntries.{ended_of}

@@ -1,5 +1,5 @@
 -- What the lines of integers mean.
-use Rattle.std.proofs.Common.{◌≡◌, ℕ, ℤ, true, List, [], ◌∷◌, Option, Some, Ok, refl, sym, ap, ◌∙◌}
+use Rattle.std.proofs.Common.{◌≡◌, ℕ, ℤ, List, Option, Some, Ok, refl, sym, ap, ◌∙◌}
 use Rattle.sparse_parser.specs.declared.header.Format.TheVariants.{Coordinate, Array}
 use Rattle.sparse_parser.specs.declared.header.Field.TheVariants.{Integer, Pattern}
 use Rattle.sparse_parser.specs.declared.header.Header.{Header}
@@ -7,7 +7,6 @@ use Rattle.sparse_parser.specs.Grammar.{is_entry}
 use Rattle.sparse_parser.specs.Reads.{Read}
 use Rattle.sparse_parser.specs.Scalars.{Scalar}
 use Rattle.sparse_parser.specs.Meaning.{Triplet, place_of, value_of, entry_of, triplets_of}
-use Rattle.sparse_parser.specs.InnerReading.{line_words}
 use Rattle.sparse_parser.specs.InnerIntegers.{IsIntegerLine, IsPlaceLine, IsValueLine}
 use Rattle.sparse_parser.proofs.NumberLaws.{index-number, integer-number}
 use Rattle.sparse_parser.proofs.LineShapes.{entry_1, entry_2, entry_3}

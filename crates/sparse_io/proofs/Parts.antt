@@ -1,5 +1,5 @@
 -- A text as its header line and what stands below it, and that as the size line and the data lines.
-use Rattle.std.proofs.Common.{◌≡◌, ℕ, Bool, true, false, cond, List, [], ◌∷◌, Option, Some, None}
+use Rattle.std.proofs.Common.{◌≡◌, ℕ, Bool, true, false, cond, List, [], ◌∷◌, Some, None}
 use Rattle.std.proofs.Common.{Result, Ok, Err, refl, sym, ap, subst, ◌∙◌, inl, inr}
 use Rattle.std.specs.Prelude.{IfOk, IfErr, ◌⊎◌}
 use Rattle.std.specs.List.{list_all}
@@ -15,7 +15,7 @@ use Rattle.sparse_parser.specs.Bytes.{front, after}
 use Rattle.sparse_parser.specs.InnerBytes.{is_space, is_within_line, BeginsLine}
 use Rattle.sparse_parser.specs.Header.{header_of}
 use Rattle.sparse_parser.specs.Grammar.{is_size, is_entry}
-use Rattle.sparse_parser.specs.Reads.{Read, ◌>>=◌}
+use Rattle.sparse_parser.specs.Reads.{Read}
 use Rattle.sparse_parser.specs.Scalars.{Scalar}
 use Rattle.sparse_parser.specs.Meaning.{Sizes, sizes_of, listed_of, matrix_of, Means, values_of}
 use Rattle.sparse_parser.specs.InnerReading.{Gives, words_of, written_of, contents_of}

@@ -1,20 +1,20 @@
 -- What is written is read again.
-use Rattle.std.proofs.Common.{eq-eqb, ◌≡◌, ◌≢◌, ℕ, ℤ, suc, ◌+◌, ◌-◌, ◌^◌, ◌<◌, ◌≤◌, ◌&&◌, ◌||◌, not}
-use Rattle.std.proofs.Common.{Bool, true, false, cond, eqb, List, [], ◌∷◌, ◌++◌, length, get_or}
-use Rattle.std.proofs.Common.{drop, map, slice_get, Ok, Err, Option, Some, None, refl, sym, ap}
+use Rattle.std.proofs.Common.{eq-eqb, ◌≡◌, ◌≢◌, ℕ, ◌+◌, ◌-◌, ◌^◌, ◌<◌, not}
+use Rattle.std.proofs.Common.{Bool, true, false, eqb, List, [], ◌∷◌, ◌++◌, length, get_or}
+use Rattle.std.proofs.Common.{drop, map, slice_get, Ok, Err, Option, Some, refl, sym, ap}
 use Rattle.std.proofs.Common.{subst, ◌∙◌, append_assoc, append-nil, arith, inl, inr}
 use Rattle.std.specs.Prelude.{◌⊎◌, codes, All}
 use Rattle.std.specs.List.{list_all, AllByRecursion, flat_map}
 use Rattle.std.specs.Char.{is_ascii_digit}
 use Rattle.std.specs.Fmt.{decimal}
-use Rattle.std.specs.Str.Parse.{signed_digits_value, without_leading_sign}
+use Rattle.std.specs.Str.Parse.{without_leading_sign}
 use Rattle.std.proofs.lemmas.Bool.{lt-ltb}
 use Rattle.std.proofs.lemmas.Bool.Decides.{eqb_tells, nat_tests}
 use Rattle.std.proofs.lemmas.List.{length-map}
 use Rattle.std.proofs.lemmas.List.Concat.{flat_map-cons}
 use Rattle.std.proofs.lemmas.List.Elements.{recursion_from_All}
 use Rattle.sparse_lemmas.proofs.Cases.{and_parts}
-use Rattle.sparse_base.specs.Coo.{Coo, coo_of, IsInside}
+use Rattle.sparse_base.specs.Coo.{Coo, IsInside}
 use Rattle.sparse_parser.specs.declared.header.Format.TheVariants.{Coordinate}
 use Rattle.sparse_parser.specs.declared.header.Field.{Field}
 use Rattle.sparse_parser.specs.declared.header.Field.TheVariants.{Integer, Pattern}
@@ -23,10 +23,10 @@ use Rattle.sparse_parser.specs.declared.header.Header.{Header}
 use Rattle.sparse_parser.specs.Bytes.{is_blank, is_line_end}
 use Rattle.sparse_parser.specs.Header.{says, format_of, field_of, symmetry_of, fields_of, header_of}
 use Rattle.sparse_parser.specs.Grammar.{AreLines, AreWords, AreBlanks, AreContents, IsHeaded}
-use Rattle.sparse_parser.specs.Grammar.{IsDocument, is_index, is_integer, is_number, is_size}
+use Rattle.sparse_parser.specs.Grammar.{is_index, is_integer, is_size}
 use Rattle.sparse_parser.specs.Grammar.{is_entry}
 use Rattle.sparse_parser.specs.Reads.{Read, ◌>>=◌}
-use Rattle.sparse_parser.specs.Scalars.{Scalar, fits, IsNumberText}
+use Rattle.sparse_parser.specs.Scalars.{Scalar, IsNumberText}
 use Rattle.sparse_parser.specs.Meaning.{number_of, integer_of, place_of, numbers_of_size, sizes_of}
 use Rattle.sparse_parser.specs.Meaning.{value_of, entry_of, mirrored, triplets_of, entries_of}
 use Rattle.sparse_parser.specs.Meaning.{is_inside, listed_of, matrix_of, Means, Triplet}

@@ -3,7 +3,7 @@ use Rattle.std.proofs.Common.{◌≡◌, ℕ, Bool, true, false, eqb, ◌||◌, 
 use Rattle.std.specs.List.{AllByRecursion}
 use Rattle.std.specs.Char.{is_ascii_digit}
 use Rattle.std.proofs.lemmas.Bool.Decides.{nat_tests}
-use Rattle.sparse_parser.specs.Bytes.{is_blank, is_line_end, is_point}
+use Rattle.sparse_parser.specs.Bytes.{is_blank, is_point}
 use Rattle.sparse_parser.specs.InnerBytes.{is_within_line, is_space, is_solid, is_unscaled}
 use Rattle.sparse_parser.proofs.Fronts.{Passes}
 

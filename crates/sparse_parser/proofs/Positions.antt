@@ -1,12 +1,12 @@
 -- A text from a position on, as a loop moves the position over it.
-use Rattle.std.proofs.Common.{◌≡◌, ℕ, ◌+◌, ◌-◌, ◌*◌, ◌^◌, ◌≤◌, ◌<◌, Bool, true, false, List, length}
+use Rattle.std.proofs.Common.{◌≡◌, ℕ, ◌+◌, ◌-◌, ◌*◌, ◌^◌, ◌≤◌, ◌<◌, Bool, true, List, length}
 use Rattle.std.proofs.Common.{get_or, drop, sym, ap, ◌∙◌, arith}
-use Rattle.std.proofs.lemmas.List.{drop_more, drop_all}
+use Rattle.std.proofs.lemmas.List.{drop_more}
 use Rattle.std.proofs.lemmas.Grind.{pow_more}
 use Rattle.std.specs.Char.{is_ascii_digit}
 use Rattle.std.specs.Str.Parse.{digits_value_after}
 use Rattle.sparse_parser.specs.Bytes.{front, after}
-use Rattle.sparse_parser.proofs.Fronts.{front-yes, after-yes, after-no}
+use Rattle.sparse_parser.proofs.Fronts.{front-yes, after-yes}
 use Rattle.sparse_parser.proofs.Digits.{digit_value-digit}
 
 -- a byte that passes is passed over

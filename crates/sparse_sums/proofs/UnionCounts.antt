@@ -13,7 +13,7 @@ use Rattle.sparse_pattern.specs.Raw.{Raw, lane_of}
 use Rattle.sparse_sums.specs.InnerMerging.{IsMerged, IsMerging}
 use Rattle.sparse_sums.specs.InnerUnions.{IsUnion, IsUnionStep, HasUnionRoom, AreUnionOffsets}
 use Rattle.sparse_sums.proofs.Merging.{rising_push, merging_first, merging_second, merging_both}
-use Rattle.sparse_sums.proofs.Merging.{none_merged, rest_merged}
+use Rattle.sparse_sums.proofs.Merging.{rest_merged}
 
 module _ (xs ys : List ℕ) (rx : IsStrictlyIncreasing xs) (ry : IsStrictlyIncreasing ys)
     (within : (j : ℕ) → Contains xs j → Contains ys j) where

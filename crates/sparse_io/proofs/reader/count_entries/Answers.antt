@@ -1,4 +1,4 @@
-use Rattle.std.proofs.Common.{◌≡◌, ◌≢◌, ◌<◌, length, sym, ◌∙◌, arith, rules}
+use Rattle.std.proofs.Common.{◌≢◌, length, sym, ◌∙◌, arith, rules}
 use Rattle.std.proofs.lemmas.Bool.{eqb-true, eqb-false}
 use Rattle.sparse_parser.specs.InnerReading.{line_words}
 use Rattle.sparse_io.proofs.EntryLoop.{IsRead, line_read, line_refused, count_start, count_more}

@@ -1,4 +1,3 @@
-use Rattle.std.proofs.Common.{rules}
 use Rattle.sparse_io.proofs.Parts.{means_ok, means_refused}
 use Rattle.sparse_io.proofs.reader.load_coo_from_matrix_market_str.Goals as goal
 

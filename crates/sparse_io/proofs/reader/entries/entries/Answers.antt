@@ -1,4 +1,4 @@
-use Rattle.std.proofs.Common.{map, ◌≡◌, ◌≢◌, ◌<◌, length, refl, sym, ap, ◌∙◌, inr, arith}
+use Rattle.std.proofs.Common.{map, ◌≢◌, length, refl, sym, ap, ◌∙◌, inr, arith}
 use Rattle.std.proofs.lemmas.Bool.{eqb-true, eqb-false}
 use Rattle.sparse_parser.specs.Reads.{read_as}
 use Rattle.sparse_parser.specs.Meaning.{triplets_of, value_triplet}
