@@ -21,6 +21,13 @@ inside_at rows begin at end bound order lt fits inside =
     subst (λ i. i < bound) (get_or-between rows begin end (at - begin) 0 (omega (arith, lt, place))
     ∙ ap (λ p. get_or rows p 0) place) below
 
+-- and so it is inside any list that is as long as x
+pub inside_both : {T : Type 0} (rows : List ℕ) (begin at end : ℕ) (x y : List T) → begin ≤ at
+    → at < end → end ≤ length rows → All (λ i. i < length x) (slice_range rows begin end)
+    → length y ≡ length x → get_or rows at 0 < length y
+inside_both rows begin at end x y order lt fits inside same =
+    omega (arith, same, inside_at rows begin at end (length x) order lt fits inside)
+
 module _ (R : CommRing) {T : Type 0} (f : T → R.Carrier) (z : T) where
   -- -(v * a) is -a * v
   neg_product : (v a : R.Carrier) → R.neg (R.mul v a) ≡ R.mul (R.neg a) v
@@ -43,6 +50,22 @@ module _ (R : CommRing) {T : Type 0} (f : T → R.Carrier) (z : T) where
       let none : 0 ≡ begin - begin = omega arith in
       subst (λ n. f zero ≡ dot_of R f (take n (drop begin rows)) (take n (drop begin values))
       (entries R f z x)) none is
+
+  module _ (rows : List ℕ) (values : List T) (begin at end : ℕ) (last : at ≡ end) where
+    -- the entries up to the last are those of the whole range
+    pub off_all : (c : R.Carrier) (x y : List T)
+        → AddsMultiple R f z c (slice_range rows begin at) (slice_range values begin at) x y
+        → AddsMultiple R f z c (slice_range rows begin end) (slice_range values begin end) x y
+    off_all c x y h = subst (λ m. AddsMultiple R f z c (slice_range rows begin m)
+        (slice_range values begin m) x y) last h
+
+    pub dot_all : (sum : T) (x : List T)
+        → f sum ≡ dot_of R f (slice_range rows begin at) (slice_range values begin at)
+        (entries R f z x)
+        → f sum ≡ dot_of R f (slice_range rows begin end) (slice_range values begin end)
+        (entries R f z x)
+    dot_all sum x h = subst (λ m. f sum ≡ dot_of R f (slice_range rows begin m)
+        (slice_range values begin m) (entries R f z x)) last h
 
   module _ (rows : List ℕ) (values : List T) (begin at : ℕ) (v : T) (order : begin ≤ at)
       (row_in : at < length rows) (value_in : at < length values)
@@ -71,26 +94,30 @@ module _ (R : CommRing) {T : Type 0} (f : T → R.Carrier) (z : T) where
     one_more : at - begin + 1 ≡ at + 1 - begin
     one_more = omega (arith, order)
 
+    -- a product is taken off the entry of x in the row, which is d past the end of x
+    pub off_more : (x start : List T) (d factor product minus new : T)
+        → get_or rows at 0 < length start → length x ≡ length start
+        → f product ≡ R.mul (f v) (f factor) → f minus ≡ R.neg (f product)
+        → f new ≡ R.add (f (get_or x (get_or rows at 0) d)) (f minus)
+        → AddsMultiple R f z (R.neg (f factor)) (slice_range rows begin at)
+        (slice_range values begin at) start x
+        → AddsMultiple R f z (R.neg (f factor)) (slice_range rows begin (at + 1))
+        (slice_range values begin (at + 1)) start (set x (get_or rows at 0) new)
+    off_more x start d factor product minus new inside same times negated added so_far =
+        let within : k < length x = omega (arith, inside, same) in
+        let old = get_or x k d in
+        let term = negated ∙ ap R.neg times ∙ neg_product (f v) (f factor) in
+        let more : AddsMultiple R f z (R.neg (f factor)) (take (at - begin + 1) (drop begin rows))
+        (take (at - begin + 1) (drop begin values)) start (set x k new) = λ i lt.
+        lane_step R f (R.neg (f factor)) (drop begin rows) (drop begin values) x start z
+        (at - begin) k v old new row_left value_left row_there value_there within
+        (get_or_default x k d old within) (added ∙ ap (R.add (f old)) term)
+        (λ j j_lt. so_far j (omega (arith, same, j_lt))) i (omega (arith, same, lt)) in
+        subst (λ m. AddsMultiple R f z (R.neg (f factor)) (take m (drop begin rows))
+        (take m (drop begin values)) start (set x k new)) one_more more
+
     module _ (x : List T) (within : get_or rows at 0 < length x) (old : T)
         (read : old ≡ get_or x (get_or rows at 0) old) where
-      pub off_more : (start : List T) (factor product minus new : T) → length x ≡ length start
-          → f product ≡ R.mul (f v) (f factor) → f minus ≡ R.neg (f product)
-          → f new ≡ R.add (f old) (f minus)
-          → AddsMultiple R f z (R.neg (f factor)) (slice_range rows begin at)
-          (slice_range values begin at) start x
-          → AddsMultiple R f z (R.neg (f factor)) (slice_range rows begin (at + 1))
-          (slice_range values begin (at + 1)) start (set x (get_or rows at 0) new)
-      off_more start factor product minus new same times negated added so_far =
-          let term = negated ∙ ap R.neg times ∙ neg_product (f v) (f factor) in
-          let more : AddsMultiple R f z (R.neg (f factor)) (take (at - begin + 1) (drop begin rows))
-          (take (at - begin + 1) (drop begin values)) start (set x k new) = λ i lt.
-          lane_step R f (R.neg (f factor)) (drop begin rows) (drop begin values) x start z
-          (at - begin) k v old new row_left value_left row_there value_there within read
-          (added ∙ ap (R.add (f old)) term) (λ j j_lt. so_far j (omega (arith, same, j_lt))) i
-          (omega (arith, same, lt)) in
-          subst (λ m. AddsMultiple R f z (R.neg (f factor)) (take m (drop begin rows))
-          (take m (drop begin values)) start (set x k new)) one_more more
-
       pub dot_more : (sum product next : T) → f sum ≡ dot_of R f (slice_range rows begin at)
           (slice_range values begin at) (entries R f z x)
           → f product ≡ R.mul (f v) (f old) → f next ≡ R.add (f sum) (f product)

@@ -1,6 +1,5 @@
-use Rattle.std.proofs.Common.{◌≡◌, ◌<◌, length, get_or, slice_range, subst, ap, ◌∙◌, arith}
-use Rattle.sparse_solve.specs.InnerColumns.{dot_of, entries}
-use Rattle.sparse_solve.proofs.EntrySteps.{inside_at, dot_none, dot_more}
+use Rattle.std.proofs.Common.{◌≡◌, length, ap, ◌∙◌, arith}
+use Rattle.sparse_solve.proofs.EntrySteps.{inside_at, dot_none, dot_more, dot_all}
 use Rattle.sparse_solve.proofs.kernels.dot.Goals as goal
 
 pub loop-at-init : goal.loop-at-init
@@ -12,21 +11,12 @@ loop-at-init g c = record {
 }
 
 pub bounds-x-rows : goal.bounds-x-rows
-bounds-x-rows g c =
-    omega (
-      arith,
-      inside_at c.args.rows.now c.args.begin c.loop-at.at c.args.end (length c.args.x.now)
-          c.loop-at.invariant.order c.loop-at-test.true c.requires.range.1 c.requires.inside,
-    )
+bounds-x-rows g c = inside_at c.args.rows.now c.args.begin c.loop-at.at c.args.end
+    (length c.args.x.now) c.loop-at.invariant.order c.loop-at-test.true c.requires.range.1
+    c.requires.inside
 
 pub offset_bounds-x-rows : goal.offset_bounds-x-rows
-offset_bounds-x-rows g c =
-    let within : get_or c.args.rows.now c.loop-at.at 0 < length c.args.x.now = omega (
-      arith,
-      inside_at c.args.rows.now c.args.begin c.loop-at.at c.args.end (length c.args.x.now)
-          c.loop-at.invariant.order c.loop-at-test.true c.requires.range.1 c.requires.inside,
-    ) in
-    omega (arith, within)
+offset_bounds-x-rows g c = omega (arith, bounds-x-rows g c)
 
 pub loop-at-preserved : goal.loop-at-preserved
 loop-at-preserved g c =
@@ -61,5 +51,5 @@ returns g c =
       c.loop-at-test.false,
       c.loop-at.auto.at-end,
     ) in
-    subst (λ m. f c.loop-at.sum ≡ dot_of R f (slice_range rows c.args.begin m)
-    (slice_range values c.args.begin m) (entries R f z c.args.x.now)) end c.loop-at.invariant.sum
+    dot_all R f z rows values c.args.begin c.loop-at.at c.args.end end c.loop-at.sum c.args.x.now
+    c.loop-at.invariant.sum

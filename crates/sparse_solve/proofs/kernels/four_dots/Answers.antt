@@ -1,6 +1,6 @@
-use Rattle.std.proofs.Common.{◌≡◌, ◌<◌, length, get_or, slice_range, subst, ap, ◌∙◌, arith}
-use Rattle.sparse_solve.specs.InnerColumns.{dot_of, entries}
-use Rattle.sparse_solve.proofs.EntrySteps.{inside_at, dot_none, dot_more}
+use Rattle.std.proofs.Common.{◌≡◌, ◌<◌, length, get_or, ap, ◌∙◌, arith}
+use Rattle.sparse_solve.proofs.EntrySteps.{inside_at, inside_both, dot_none, dot_more}
+use Rattle.sparse_solve.proofs.EntrySteps.{dot_all}
 use Rattle.sparse_solve.proofs.kernels.four_dots.Goals as goal
 
 pub loop-at-init : goal.loop-at-init
@@ -23,78 +23,39 @@ loop-at-init g c =
     }
 
 pub bounds-first-row : goal.bounds-first-row
-bounds-first-row g c =
-    omega (
-      arith,
-      inside_at c.args.rows.now c.args.begin c.loop-at.at c.args.end (length c.args.first.now)
-          c.loop-at.invariant.order c.loop-at-test.true c.requires.range.1 c.requires.inside,
-    )
+bounds-first-row g c = inside_at c.args.rows.now c.args.begin c.loop-at.at
+    c.args.end (length c.args.first.now)
+    c.loop-at.invariant.order c.loop-at-test.true c.requires.range.1 c.requires.inside
 
 pub offset_bounds-first-row : goal.offset_bounds-first-row
-offset_bounds-first-row g c =
-    let within : get_or c.args.rows.now c.loop-at.at 0 < length c.args.first.now = omega (
-      arith,
-      inside_at c.args.rows.now c.args.begin c.loop-at.at c.args.end (length c.args.first.now)
-          c.loop-at.invariant.order c.loop-at-test.true c.requires.range.1 c.requires.inside,
-    ) in
-    omega (arith, within)
+offset_bounds-first-row g c = omega (arith, bounds-first-row g c)
 
 pub bounds-second-row : goal.bounds-second-row
-bounds-second-row g c =
-    omega (
-      arith,
-      inside_at c.args.rows.now c.args.begin c.loop-at.at c.args.end (length c.args.first.now)
-          c.loop-at.invariant.order c.loop-at-test.true c.requires.range.1 c.requires.inside,
-      c.requires.rows_2,
-    )
+bounds-second-row g c = inside_both c.args.rows.now c.args.begin c.loop-at.at
+    c.args.end c.args.first.now
+    c.args.second.now c.loop-at.invariant.order c.loop-at-test.true c.requires.range.1
+    c.requires.inside c.requires.rows_2
 
 pub offset_bounds-second-row : goal.offset_bounds-second-row
-offset_bounds-second-row g c =
-    let within : get_or c.args.rows.now c.loop-at.at 0 < length c.args.second.now = omega (
-      arith,
-      inside_at c.args.rows.now c.args.begin c.loop-at.at c.args.end (length c.args.first.now)
-          c.loop-at.invariant.order c.loop-at-test.true c.requires.range.1 c.requires.inside,
-      c.requires.rows_2,
-    ) in
-    omega (arith, within)
+offset_bounds-second-row g c = omega (arith, bounds-second-row g c)
 
 pub bounds-third-row : goal.bounds-third-row
-bounds-third-row g c =
-    omega (
-      arith,
-      inside_at c.args.rows.now c.args.begin c.loop-at.at c.args.end (length c.args.first.now)
-          c.loop-at.invariant.order c.loop-at-test.true c.requires.range.1 c.requires.inside,
-      c.requires.rows_3,
-    )
+bounds-third-row g c = inside_both c.args.rows.now c.args.begin c.loop-at.at
+    c.args.end c.args.first.now
+    c.args.third.now c.loop-at.invariant.order c.loop-at-test.true c.requires.range.1
+    c.requires.inside c.requires.rows_3
 
 pub offset_bounds-third-row : goal.offset_bounds-third-row
-offset_bounds-third-row g c =
-    let within : get_or c.args.rows.now c.loop-at.at 0 < length c.args.third.now = omega (
-      arith,
-      inside_at c.args.rows.now c.args.begin c.loop-at.at c.args.end (length c.args.first.now)
-          c.loop-at.invariant.order c.loop-at-test.true c.requires.range.1 c.requires.inside,
-      c.requires.rows_3,
-    ) in
-    omega (arith, within)
+offset_bounds-third-row g c = omega (arith, bounds-third-row g c)
 
 pub bounds-fourth-row : goal.bounds-fourth-row
-bounds-fourth-row g c =
-    omega (
-      arith,
-      inside_at c.args.rows.now c.args.begin c.loop-at.at c.args.end (length c.args.first.now)
-          c.loop-at.invariant.order c.loop-at-test.true c.requires.range.1 c.requires.inside,
-      c.requires.rows_4,
-    )
+bounds-fourth-row g c = inside_both c.args.rows.now c.args.begin c.loop-at.at
+    c.args.end c.args.first.now
+    c.args.fourth.now c.loop-at.invariant.order c.loop-at-test.true c.requires.range.1
+    c.requires.inside c.requires.rows_4
 
 pub offset_bounds-fourth-row : goal.offset_bounds-fourth-row
-offset_bounds-fourth-row g c =
-    let within : get_or c.args.rows.now c.loop-at.at 0 < length c.args.fourth.now = omega (
-      arith,
-      inside_at c.args.rows.now c.args.begin c.loop-at.at c.args.end (length c.args.first.now)
-          c.loop-at.invariant.order c.loop-at-test.true c.requires.range.1 c.requires.inside,
-      c.requires.rows_4,
-    ) in
-    omega (arith, within)
+offset_bounds-fourth-row g c = omega (arith, bounds-fourth-row g c)
 
 pub loop-at-preserved : goal.loop-at-preserved
 loop-at-preserved g c =
@@ -140,17 +101,10 @@ returns g c =
     let values = c.args.values.now in
     let was = c.loop-at in
     let end : was.at ≡ c.args.end = omega (arith, c.loop-at-test.false, was.auto.at-end) in
+    let all = dot_all R f z rows values c.args.begin was.at c.args.end end in
     record {
-      first = subst (λ m. f was.a ≡ dot_of R f (slice_range rows c.args.begin m)
-          (slice_range values c.args.begin m) (entries R f z c.args.first.now)) end
-          was.invariant.first;
-      second = subst (λ m. f was.b ≡ dot_of R f (slice_range rows c.args.begin m)
-          (slice_range values c.args.begin m) (entries R f z c.args.second.now)) end
-          was.invariant.second;
-      third = subst (λ m. f was.c ≡ dot_of R f (slice_range rows c.args.begin m)
-          (slice_range values c.args.begin m) (entries R f z c.args.third.now)) end
-          was.invariant.third;
-      fourth = subst (λ m. f was.d ≡ dot_of R f (slice_range rows c.args.begin m)
-          (slice_range values c.args.begin m) (entries R f z c.args.fourth.now)) end
-          was.invariant.fourth;
+      first = all was.a c.args.first.now was.invariant.first;
+      second = all was.b c.args.second.now was.invariant.second;
+      third = all was.c c.args.third.now was.invariant.third;
+      fourth = all was.d c.args.fourth.now was.invariant.fourth;
     }

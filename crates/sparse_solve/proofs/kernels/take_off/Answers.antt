@@ -1,8 +1,6 @@
-use Rattle.std.proofs.Common.{◌≡◌, ◌<◌, length, get_or, slice_range, subst, arith}
-use Rattle.std.proofs.lemmas.List.{get_or_default}
+use Rattle.std.proofs.Common.{◌≡◌, ◌<◌, length, get_or, arith}
 use Rattle.sparse_cs.proofs.RowSums.{offset_fits}
-use Rattle.sparse_solve.specs.InnerColumns.{AddsMultiple}
-use Rattle.sparse_solve.proofs.EntrySteps.{inside_at, off_none, off_more}
+use Rattle.sparse_solve.proofs.EntrySteps.{inside_at, off_none, off_more, off_all}
 use Rattle.sparse_solve.proofs.kernels.take_off.Goals as goal
 
 pub loop-at-init : goal.loop-at-init
@@ -38,25 +36,17 @@ loop-at-preserved g c =
     let z = g.T.Zero.zero_value in
     let rows = c.args.rows.now in
     let values = c.args.values.now in
-    let x = c.loop-at.x in
     let at = c.loop-at.at in
     let was = c.loop-at.invariant in
-    let k = get_or rows at 0 in
-    let within : k < length x = omega (
-      arith,
-      inside_at rows c.args.begin at c.args.end (length c.args.x.now) was.order
-          c.loop-at-test.true c.requires.range.1 c.requires.inside,
-      c.loop-at.auto.x,
-    ) in
-    let old = get_or x k c.index-x-rows.result in
+    let inside = inside_at rows c.args.begin at c.args.end (length c.args.x.now) was.order
+    c.loop-at-test.true c.requires.range.1 c.requires.inside in
     record {
       order = omega (arith, was.order);
       taken = off_more R f z rows values c.args.begin at c.index-values-at.result was.order
           (omega (arith, c.loop-at-test.true, c.requires.range.1))
-          (omega (arith, c.loop-at-test.true, c.requires.range.2)) c.index-values-at.is x within
-          old (get_or_default x k c.index-x-rows.result old within) c.args.x.now c.args.factor
-          c.mul.result c.neg.result c.add.result c.loop-at.auto.x c.mul.ensures c.neg.ensures
-          c.add.ensures was.taken;
+          (omega (arith, c.loop-at-test.true, c.requires.range.2)) c.index-values-at.is
+          c.loop-at.x c.args.x.now c.index-x-rows.result c.args.factor c.mul.result c.neg.result
+          c.add.result inside c.loop-at.auto.x c.mul.ensures c.neg.ensures c.add.ensures was.taken;
     }
 
 pub returns : goal.returns
@@ -71,5 +61,5 @@ returns g c =
       c.loop-at-test.false,
       c.loop-at.auto.at-end,
     ) in
-    subst (λ m. AddsMultiple R f z (R.neg (f c.args.factor)) (slice_range rows c.args.begin m)
-    (slice_range values c.args.begin m) c.args.x.now c.loop-at.x) end c.loop-at.invariant.taken
+    off_all R f z rows values c.args.begin c.loop-at.at c.args.end end _ c.args.x.now c.loop-at.x
+    c.loop-at.invariant.taken
