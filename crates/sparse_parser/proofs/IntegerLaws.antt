@@ -1,20 +1,22 @@
 -- The indices and integers of a line, read one after the other.
 use Rattle.std.proofs.Common.{◌≡◌, ◌≢◌, ℕ, ℤ, pos, zero, suc, ◌^◌, ◌<◌, Bool, true, false, cond}
 use Rattle.std.proofs.Common.{eqb, List, [], ◌∷◌, ◌++◌, length, Some, Ok, Err, refl, sym}
-use Rattle.std.proofs.Common.{ap, subst, ◌∙◌, arith}
+use Rattle.std.proofs.Common.{ap, subst, ◌∙◌, arith, ◌+◌, get_or, drop}
+use Rattle.std.proofs.lemmas.List.{drop_more}
 use Rattle.std.specs.Option.{SomeIff}
 use Rattle.std.specs.Char.{is_ascii_digit}
 use Rattle.std.specs.Str.Parse.{digits_value, digits_value_after, starts_with_minus}
 use Rattle.std.specs.Str.Parse.{without_leading_sign}
 use Rattle.std.proofs.lemmas.Bool.{lt-ltb}
+use Rattle.std.proofs.lemmas.Bool.Decides.{nat_tests}
 use lib.IntN.{neg_ℤ}
 use Rattle.sparse_parser.specs.declared.error.MatrixMarketErrorKind.TheVariants.{ParsingError}
-use Rattle.sparse_parser.specs.Bytes.{is_blank, front, after}
-use Rattle.sparse_parser.specs.InnerBytes.{is_solid}
+use Rattle.sparse_parser.specs.Bytes.{is_blank, is_line_end, front, after}
+use Rattle.sparse_parser.specs.InnerBytes.{is_solid, is_space, is_within_line}
 use Rattle.sparse_parser.specs.Grammar.{is_integer}
 use Rattle.sparse_parser.specs.Scalars.{fits}
 use Rattle.sparse_parser.specs.Meaning.{integer_of}
-use Rattle.sparse_parser.specs.InnerReading.{line_words}
+use Rattle.sparse_parser.specs.InnerReading.{line_words, ends_line}
 use Rattle.sparse_parser.specs.InnerNumbers.{IsNumberRead}
 use Rattle.sparse_parser.specs.InnerLines.{IsWord, ends_word}
 use Rattle.sparse_parser.specs.InnerIntegers.{IsIndexAt, IsIntegerAt, IsEndAt, IsIntegerLine}
@@ -24,6 +26,8 @@ use Rattle.sparse_parser.proofs.ByteClasses.{digit_solid, space_no_digit, Passes
 use Rattle.sparse_parser.proofs.EntryLaws.{some_front, is_index-front, found-number, value_word}
 use Rattle.sparse_parser.proofs.EntryLaws.{value_word-is_integer, value_word-number}
 use Rattle.sparse_parser.proofs.FirstWord.{AreDigits, word_first, word-after_blanks, integer_word}
+use Rattle.sparse_parser.proofs.FirstWord.{words-after_blanks, line-after_blanks, line_ends}
+use Rattle.sparse_parser.proofs.Positions.{after_passed}
 
 -- what ends a word is no digit
 no_digit : (rest : List ℕ) → ends_word rest ≡ true
@@ -61,18 +65,56 @@ digits_word text rest r some ends =
     subst (λ (t : List ℕ). IsWord t (front is_ascii_digit text) rest) same
     (word_first (front is_ascii_digit text) rest lt solid ends)
 
+-- the digits at the front of a text, before a blank or the end of the line, are an index
+pub index_first : (text rest : List ℕ) (number : ℕ) → IsNumberRead text number rest
+    → length rest ≢ length text → ends_word rest ≡ true → IsIndexAt text number rest
+index_first text rest number r some ends =
+    let d = all_read text rest number r ends in
+    record {
+      word = front is_ascii_digit text;
+      at = digits_word text rest d.others some ends;
+      index = is_index-front text (some_front is_ascii_digit text
+          (λ f. some (ap length d.others ∙ f)));
+      is = sym (found-number (front is_ascii_digit text) (Some number)
+          (subst (λ (n : ℕ). n < 2 ^ 64) d.value d.small, d.value));
+    }
+
 pub index_at : (text start rest : List ℕ) (number : ℕ) → start ≡ after is_blank text
     → IsNumberRead start number rest → length rest ≢ length start → ends_word rest ≡ true
     → IsIndexAt text number rest
 index_at text start rest number s r some ends =
-    let d = all_read start rest number r ends in
+    let i = index_first start rest number r some ends in
     record {
-      word = front is_ascii_digit start;
-      at = word-after_blanks text start _ rest s (digits_word start rest d.others some ends);
-      index = is_index-front start (some_front is_ascii_digit start
-          (λ f. some (ap length d.others ∙ f)));
-      is = sym (found-number (front is_ascii_digit start) (Some number)
-          (subst (λ (n : ℕ). n < 2 ^ 64) d.value d.small, d.value));
+      word = i.word;
+      at = word-after_blanks text start i.word rest s i.at;
+      index = i.index;
+      is = i.is;
+    }
+
+blank_ends : (b : ℕ) → is_blank b ≡ true → is_space b ≡ true
+blank_ends b e = rw e refl
+
+-- an index and the blank after it
+pub index_and_blank : (text from : List ℕ) (number end : ℕ) → end < length text
+    → is_blank (get_or text end 0) ≡ true → IsNumberRead from number (drop end text)
+    → length (drop end text) ≢ length from → IsIndexAt from number (drop (end + 1) text)
+index_and_blank text from number end lt e r some =
+    let i = index_first from (drop end text) number r some
+    (ap ends_word (drop_more text end 0 lt) ∙ blank_ends (get_or text end 0) e) in
+    let rest = drop end text in
+    let next = drop (end + 1) text in
+    let same = after_passed is_blank text end lt e in
+    let words : line_words rest ≡ line_words next = sym (words-after_blanks rest)
+    ∙ sym (ap line_words same) ∙ words-after_blanks next in
+    record {
+      word = i.word;
+      at = record {
+        words = i.at.words ∙ ap (λ (ws : List (List ℕ)). i.word ∷ ws) words;
+        line = sym (line-after_blanks next) ∙ ap (after is_within_line) same
+            ∙ line-after_blanks rest ∙ i.at.line;
+      };
+      index = i.index;
+      is = i.is;
     }
 
 -- the sign is the first byte's
@@ -136,6 +178,19 @@ integer_at text start unsigned rest number minus value s u r some ends m v =
       is = integer_is (value_word start) number minus i (same_sign start ∙ sym m) n.1 d.small
           ∙ ap (λ (z : ℤ). Ok z) (sym v);
     }
+
+line_end_no_blank : (b : ℕ) → is_line_end b ≡ true → is_blank b ≡ false
+line_end_no_blank b e = grind (arith, nat_tests)
+
+no_blank_first : (text : List ℕ) → ends_line text ≡ true → text ≡ after is_blank text
+no_blank_first [] e = refl
+no_blank_first (b ∷ text) e = sym (after-no is_blank b text (line_end_no_blank b e))
+
+-- the line ends at once
+pub end_at : (text rest : List ℕ) → rest ≡ text → ends_line text ≡ true → IsEndAt text rest
+end_at text rest r e =
+    let l = line_ends text text (no_blank_first text e) e in
+    record { none = l.0; line = r ∙ l.1 }
 
 -- one word more
 more : (text word rest : List ℕ) (words : List (List ℕ)) → IsWord text word rest

@@ -2,12 +2,13 @@
 //!
 //! The lines are read by positions in one text, which takes half as many instructions as a slice for each number.
 
-ghost use Rattle.std.specs.Prelude.{◌≡◌, ◌≤◌, pos, if◌then◌else◌, MatchOption, length, drop};
+ghost use Rattle.std.specs.Prelude.{◌≡◌, ◌≤◌, pos, true, if◌then◌else◌, MatchOption, length, drop};
 ghost use Rattle.std.specs.Str.Parse.{starts_with_minus, without_leading_sign};
 ghost use lib.IntN.{neg_ℤ};
 ghost use Rattle.sparse_parser.specs.Bytes.{is_blank, after};
 ghost use Rattle.sparse_parser.specs.InnerNumbers.{IsNumberRead};
-ghost use Rattle.sparse_parser.specs.InnerIntegers.{IsIndexAt, IsIntegerAt, IsEndAt, IsIntegerLine, IsPlaceLine, IsValueLine};
+ghost use Rattle.sparse_parser.specs.InnerLines.{ends_word};
+ghost use Rattle.sparse_parser.specs.InnerIntegers.{IsIndexAt, IsEndAt, IsIntegerLine, IsPlaceLine, IsValueLine};
 
 use crate::lines::{ends_line, ends_word, is_blank};
 use crate::numbers::SHORT;
@@ -28,16 +29,19 @@ pub fn integer_line(text: &[u8]) -> Option<(usize, usize, i64, &[u8])>
 
 /// Parses the first line of a text as two indices. Returns the row, the column and the text from the line's end on, or `None` if the
 /// line has another form.
-#[tactic(auto, using(crate::proofs::IntegerLaws::place_line_is))]
 #[inline(always)]
 pub fn place_line(text: &[u8]) -> Option<(usize, usize, &[u8])>
     ensures { MatchOption result (Unit {0})
         (λ line. IsPlaceLine text.now line.0 line.1 line.2.now) }
 {
     let (row, at) = index_at(text, 0)?;
-    let (col, at) = index_at(text, at)?;
-    let end = line_end(text, at)?;
-    Some((row, col, end))
+    let start = skip_blanks(text, at);
+    let (col, end) = digits_at(text, start);
+    if end == start {
+        return None;
+    }
+    let rest = number_end(text, end)?;
+    Some((row, col, rest))
 }
 
 /// Parses the first line of a text as an integer. Returns the value and the text from the line's end on, or `None` if the line has
@@ -50,21 +54,45 @@ pub fn value_line(text: &[u8]) -> Option<(i64, &[u8])>
 }
 
 // The integer at a position, after blanks, and the text from the line's end on.
-#[tactic(auto, using(crate::proofs::IntegerLaws::value_line_is))]
 #[inline(always)]
 fn last_integer(text: &[u8], from: usize) -> Option<(i64, &[u8])>
     requires { from ≤ length text.now }
     ensures { MatchOption result (Unit {0})
         (λ line. IsValueLine (drop from text.now) line.0 line.1.now) }
 {
-    let (value, at) = integer_at(text, from)?;
-    let end = line_end(text, at)?;
-    Some((value, end))
+    let start = skip_blanks(text, from);
+    let unsigned = after_sign_at(text, start);
+    let (number, end) = digits_at(text, unsigned);
+    if end == unsigned {
+        return None;
+    }
+    let rest = number_end(text, end)?;
+    let value = signed(number, starts_with_minus(text_from(text, start)))?;
+    Some((value, rest))
 }
 
-// The index at a position, after blanks, and the position after it.
+// The index at a position, after blanks, and a position behind it. Most often one blank comes before the next number, and it is passed
+// over too.
 #[inline(always)]
 fn index_at(text: &[u8], from: usize) -> Option<(usize, usize)>
+    requires { from ≤ length text.now }
+    ensures inside { MatchOption result (Unit {0}) (λ found. found.1 ≤ length text.now) }
+    ensures index { MatchOption result (Unit {0})
+        (λ found. IsIndexAt (drop from text.now) found.0 (drop found.1 text.now)) }
+{
+    let (number, end) = digits_at(text, from);
+    if end > from && end < text.len() && is_blank(text[end]) {
+        return Some((number, end + 1));
+    }
+    match spaced_index_at(text, from) {
+        None => None,
+        Some((number, end)) => Some((number, end)),
+    }
+}
+
+// The same for an index of any form.
+#[cold]
+fn spaced_index_at(text: &[u8], from: usize) -> Option<(usize, usize)>
     requires { from ≤ length text.now }
     ensures inside { MatchOption result (Unit {0}) (λ found. found.1 ≤ length text.now) }
     ensures index { MatchOption result (Unit {0})
@@ -76,24 +104,6 @@ fn index_at(text: &[u8], from: usize) -> Option<(usize, usize)>
         return None;
     }
     Some((number, end))
-}
-
-// The integer at a position, after blanks, and the position after it.
-#[inline(always)]
-fn integer_at(text: &[u8], from: usize) -> Option<(i64, usize)>
-    requires { from ≤ length text.now }
-    ensures inside { MatchOption result (Unit {0}) (λ found. found.1 ≤ length text.now) }
-    ensures integer { MatchOption result (Unit {0})
-        (λ found. IsIntegerAt (drop from text.now) found.0 (drop found.1 text.now)) }
-{
-    let start = skip_blanks(text, from);
-    let unsigned = after_sign_at(text, start);
-    let (number, end) = digits_at(text, unsigned);
-    if end == unsigned || !ends_word(text_from(text, end)) {
-        return None;
-    }
-    let value = signed(number, starts_with_minus(text_from(text, start)))?;
-    Some((value, end))
 }
 
 // The text from a position on.
@@ -171,8 +181,26 @@ fn signed(number: usize, is_negative: bool) -> Option<i64>
     }
 }
 
-// The text from the line's end on, if only blanks come before it.
+// The text from the line's end on, if a number ends here and only blanks come before it.
 #[inline(always)]
+fn number_end(text: &[u8], from: usize) -> Option<&[u8]>
+    requires { from ≤ length text.now }
+    ensures word { MatchOption result (Unit {0})
+        (λ rest. ends_word (drop from text.now) ≡ true) }
+    ensures line { MatchOption result (Unit {0}) (λ rest. IsEndAt (drop from text.now) rest.now) }
+{
+    let rest = text_from(text, from);
+    if ends_line(rest) {
+        return Some(rest);
+    }
+    if !ends_word(rest) {
+        return None;
+    }
+    line_end(text, from)
+}
+
+// The text from the line's end on, if only blanks come before it.
+#[cold]
 fn line_end(text: &[u8], from: usize) -> Option<&[u8]>
     requires { from ≤ length text.now }
     ensures { MatchOption result (Unit {0}) (λ rest. IsEndAt (drop from text.now) rest.now) }
