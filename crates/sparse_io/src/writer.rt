@@ -57,6 +57,7 @@ fn push_sizes(text: &mut String, nrows: usize, ncols: usize, nnz: usize) -> Resu
 }
 
 #[tactic(auto, unfolding(crate::specs::Written::triplet_line))]
+#[inline(always)]
 fn push_triplet<T: MatrixMarketScalar>(
     text: &mut String,
     row: usize,
@@ -91,6 +92,7 @@ where
 }
 
 // Writes the buffer to the sink and clears it.
+#[inline(never)]
 fn flush<W: Sink>(sink: &mut W, text: &mut String) -> Result<(), MatrixMarketError>
     ensures unfailed { OnOk result (W.failures sink.new ≡ W.failures sink.old) }
     ensures all { OnOk result
@@ -108,6 +110,7 @@ fn flush<W: Sink>(sink: &mut W, text: &mut String) -> Result<(), MatrixMarketErr
 }
 
 // Appends a triplet to the buffer, which is written out first if it is full.
+#[inline(always)]
 fn put_triplet<T, W>(
     sink: &mut W,
     text: &mut String,

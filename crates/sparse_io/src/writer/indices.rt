@@ -12,6 +12,7 @@ const FIELD: usize = 21;
 pub(super) const ROOM: usize = 2 * FIELD;
 
 // Writes a number and a blank so that they end at `end`. Returns where they start.
+#[inline(always)]
 fn write_field(number: usize, bytes: &mut [u8], end: usize) -> usize
     requires room { FIELD ≤ end }
     requires inside { end ≤ length bytes.old }
@@ -24,6 +25,7 @@ fn write_field(number: usize, bytes: &mut [u8], end: usize) -> usize
 }
 
 // The text of two indices, each with a blank after it.
+#[inline(always)]
 pub(super) fn format_indices(bytes: &mut [u8; ROOM], row: usize, col: usize) -> &str
     ensures { result.now ≡ decimal row ++ 32 ∷ (decimal col ++ 32 ∷ []) }
 {
