@@ -9,6 +9,7 @@ pub mod ProductPlaces
 pub mod ProductSums
 pub mod CoveredLanes
 pub mod SearchedEntries
+pub mod LaneParts
 pub mod UpdatedRows
 pub mod Updating
 pub mod MadeProducts
