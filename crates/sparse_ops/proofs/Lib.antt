@@ -6,6 +6,7 @@ pub mod BitSets
 pub mod BitGroups
 pub mod ProductLanes
 pub mod ProductPlaces
+pub mod ProductRows
 pub mod ProductSums
 pub mod CoveredLanes
 pub mod SearchedEntries
