@@ -2,36 +2,55 @@
 
 use sparse_algebra::scalar::W64;
 use sparse_base::dense::DMatrix;
+use std::alloc::{AllocError, Global};
 use std::test::Fail;
+
+fn rows_and_columns_give_one_matrix(alloc: Global) -> Result<bool, AllocError> {
+    let by_rows = DMatrix::from_row_slice(alloc, 2, 3, &[1, 2, 3, 4, 5, 6])?;
+    let by_columns = DMatrix::from_column_slice(alloc, 2, 3, &[1, 4, 2, 5, 3, 6])?;
+    Ok(
+        by_rows == by_columns
+            && by_rows.as_slice() == [1, 4, 2, 5, 3, 6].as_slice()
+            && (by_rows.nrows(), by_rows.ncols()) == (2, 3),
+    )
+}
+
+fn a_set_value_is_read(alloc: Global) -> Result<bool, AllocError> {
+    let mut matrix = DMatrix::zeros(alloc, 2, 2)?;
+    matrix.set(1, 0, 7);
+    Ok(
+        matrix.get(1, 0) == 7
+            && matrix.column(0) == [0, 7].as_slice()
+            && matrix.as_slice() == [0, 7, 0, 0].as_slice(),
+    )
+}
+
+fn a_copy_is_not_written(alloc: Global) -> Result<bool, AllocError> {
+    let (three, changed) = (W64::new(3), W64::new(-8));
+    let mut matrix = DMatrix::repeat(alloc, 2, 2, three)?;
+    let copy = matrix.clone(alloc)?;
+    matrix.column_mut(1)[0] = changed;
+    Ok(
+        matrix != copy
+            && copy.as_slice() == [three, three, three, three].as_slice()
+            && matrix.as_slice() == [three, three, changed, three].as_slice(),
+    )
+}
+
+fn wide_and_high_differ(alloc: Global) -> Result<bool, AllocError> {
+    let (one, two) = (W64::new(1), W64::new(2));
+    let wide = DMatrix::from_row_slice(alloc, 1, 2, &[one, two])?;
+    let high = DMatrix::from_row_slice(alloc, 2, 1, &[one, two])?;
+    Ok(wide != high)
+}
 
 #[test]
 fn values_are_placed_written_and_compared(rt: HostRuntime) -> Result<(), Fail> {
-    let by_rows = DMatrix::from_row_slice(rt.alloc(), 2, 3, &[1, 2, 3, 4, 5, 6])?;
-    let by_columns = DMatrix::from_column_slice(rt.alloc(), 2, 3, &[1, 4, 2, 5, 3, 6])?;
-    assert!(rt; by_rows == by_columns);
-    assert_eq!(rt; by_rows.as_slice(), [1, 4, 2, 5, 3, 6].as_slice());
-    assert_eq!(rt; (by_rows.nrows(), by_rows.ncols()), (2, 3));
-    let mut matrix = DMatrix::zeros(rt.alloc(), 2, 2)?;
-    matrix.set(1, 0, 7);
-    assert_eq!(rt; matrix.get(1, 0), 7);
-    assert_eq!(rt; matrix.column(0), [0, 7].as_slice());
-    assert_eq!(rt; matrix.as_slice(), [0, 7, 0, 0].as_slice());
+    assert!(rt; rows_and_columns_give_one_matrix(rt.alloc())?);
+    assert!(rt; a_set_value_is_read(rt.alloc())?);
+    assert!(rt; a_copy_is_not_written(rt.alloc())?);
+    assert!(rt; wide_and_high_differ(rt.alloc())?);
     assert!(rt; DMatrix::repeat(rt.alloc(), usize::MAX, 2, 1).is_err());
-    let empty: DMatrix<i32> = DMatrix::zeros(rt.alloc(), 0, usize::MAX)?;
-    assert_eq!(rt; empty.ncols(), usize::MAX);
-    let (one, two, three) = (W64::new(1), W64::new(2), W64::new(3));
-    let mut matrix = DMatrix::repeat(rt.alloc(), 2, 2, three)?;
-    let copy = matrix.clone(rt.alloc())?;
-    matrix.column_mut(1)[0] = W64::new(-8);
-    assert!(rt; matrix != copy);
-    assert_eq!(rt; copy.as_slice(), [three, three, three, three].as_slice());
-    assert_eq!(rt;
-        matrix.as_slice(),
-        [three, three, W64::new(-8), three].as_slice()
-    );
-    let wide = DMatrix::from_row_slice(rt.alloc(), 1, 2, &[one, two])?;
-    let high = DMatrix::from_row_slice(rt.alloc(), 2, 1, &[one, two])?;
-    assert!(rt; wide != high);
     Ok(())
 }
 
@@ -44,7 +63,7 @@ fn matrices_without_values(rt: HostRuntime) -> Result<(), Fail> {
         let by_columns = DMatrix::from_column_slice(rt.alloc(), nrows, ncols, &[])?;
         let copy = DMatrix::repeat(rt.alloc(), nrows, ncols, 7)?.clone(rt.alloc())?;
         assert!(rt; zeros == by_rows && by_rows == by_columns && by_columns == copy);
-        assert!(rt; zeros.as_slice().is_empty());
+        assert!(rt; zeros.as_slice().is_empty() && zeros.ncols() == ncols);
     }
     Ok(())
 }

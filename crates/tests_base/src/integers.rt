@@ -4,9 +4,6 @@ use sparse_algebra::scalar::Zero;
 
 #[test]
 fn zeros_are_zero(rt: HostRuntime) {
-    assert_eq!(rt; i8::zero(), 0);
-    assert_eq!(rt; i16::zero(), 0);
-    assert_eq!(rt; i32::zero(), 0);
-    assert_eq!(rt; i64::zero(), 0);
-    assert_eq!(rt; i128::zero(), 0);
+    let short = i8::zero() == 0 && i16::zero() == 0 && i32::zero() == 0;
+    assert!(rt; short && i64::zero() == 0 && i128::zero() == 0);
 }

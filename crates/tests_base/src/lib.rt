@@ -16,4 +16,6 @@ mod steps;
 #[cfg(test)]
 mod transposes;
 #[cfg(test)]
+mod triplet_faults;
+#[cfg(test)]
 mod triplets;

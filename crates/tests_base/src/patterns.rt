@@ -67,27 +67,54 @@ fn the_first_fault_is_named(rt: HostRuntime) -> Result<(), Fail> {
     Ok(())
 }
 
+fn iterates_over(pattern: &SparsityPattern, places: &[(usize, usize)]) -> bool {
+    let mut entries = pattern.entries();
+    for place in places {
+        if entries.next() != Some(*place) {
+            return false;
+        }
+    }
+    // The end is reached once and for all.
+    entries.next() == None && entries.next() == None
+}
+
+fn places_and_lanes_are_read(alloc: Global) -> Result<bool, Fail> {
+    let pattern = pattern_of(alloc, 3, 6, &[0, 2, 2, 5], &[0, 5, 1, 2, 3])??;
+    let places = [(0, 0), (0, 5), (2, 1), (2, 2), (2, 3)];
+    Ok(
+        iterates_over(&pattern, &places)
+            && pattern.get_lane(0) == Some([0, 5].as_slice())
+            && pattern.get_lane(3) == None,
+    )
+}
+
+fn a_copy_is_equal_and_has_the_data(alloc: Global) -> Result<bool, Fail> {
+    let pattern = pattern_of(alloc, 3, 6, &[0, 2, 2, 5], &[0, 5, 1, 2, 3])??;
+    let copy = pattern.clone(alloc)?;
+    let is_equal = copy == pattern;
+    let (offsets, indices) = copy.disassemble();
+    Ok(
+        is_equal
+            && offsets.as_slice() == [0, 2, 2, 5].as_slice()
+            && indices.as_slice() == [0, 5, 1, 2, 3].as_slice(),
+    )
+}
+
+fn zeros_have_sizes_alone(alloc: Global) -> Result<bool, Fail> {
+    let empty = pattern_of(alloc, 0, 0, &[0], &[])??;
+    let wide = SparsityPattern::zeros(alloc, 2, usize::MAX)?.clone(alloc)?;
+    Ok(
+        empty == SparsityPattern::zeros(alloc, 0, 0)?
+            && wide.major_offsets() == [0, 0, 0].as_slice()
+            && (wide.nnz(), wide.minor_dim()) == (0, usize::MAX),
+    )
+}
+
 #[test]
 fn valid_data_is_taken(rt: HostRuntime) -> Result<(), Fail> {
-    let pattern = pattern_of(rt.alloc(), 3, 6, &[0, 2, 2, 5], &[0, 5, 1, 2, 3])??;
-    let mut entries = pattern.entries();
-    for place in [(0, 0), (0, 5), (2, 1), (2, 2), (2, 3)] {
-        assert_eq!(rt; entries.next(), Some(place));
-    }
-    assert_eq!(rt; entries.next(), None);
-    assert_eq!(rt; entries.next(), None);
-    assert_eq!(rt; pattern.get_lane(0).ok_or("no lane 0")?, [0, 5].as_slice());
-    assert!(rt; pattern.get_lane(3).is_none());
-    let copy = pattern.clone(rt.alloc())?;
-    assert!(rt; copy == pattern);
-    let (offsets, indices) = copy.disassemble();
-    assert_eq!(rt; offsets.as_slice(), [0, 2, 2, 5].as_slice());
-    assert_eq!(rt; indices.as_slice(), [0, 5, 1, 2, 3].as_slice());
-    let empty = pattern_of(rt.alloc(), 0, 0, &[0], &[])??;
-    assert!(rt; empty == SparsityPattern::zeros(rt.alloc(), 0, 0)?);
-    let wide = SparsityPattern::zeros(rt.alloc(), 2, usize::MAX)?.clone(rt.alloc())?;
-    assert_eq!(rt; wide.major_offsets(), [0, 0, 0].as_slice());
-    assert_eq!(rt; (wide.nnz(), wide.minor_dim()), (0, usize::MAX));
+    assert!(rt; places_and_lanes_are_read(rt.alloc())?);
+    assert!(rt; a_copy_is_equal_and_has_the_data(rt.alloc())?);
+    assert!(rt; zeros_have_sizes_alone(rt.alloc())?);
     assert!(rt; SparsityPattern::zeros(rt.alloc(), usize::MAX, 0).is_err());
     Ok(())
 }
@@ -125,16 +152,40 @@ const TEXTS: [(SparsityPatternFormatError, &str, SparseFormatErrorKind); 6] = [
     ),
 ];
 
+fn has_text_and_kind(
+    alloc: Global,
+    error: SparseFormatError,
+    text: &str,
+    kind: SparseFormatErrorKind,
+) -> Result<bool, AllocError> {
+    Ok(error.to_string(alloc)?.as_str() == text && *error.kind() == kind)
+}
+
+fn fault_has_text_and_kind(
+    alloc: Global,
+    fault: SparsityPatternFormatError,
+    text: &str,
+    kind: SparseFormatErrorKind,
+) -> Result<bool, AllocError> {
+    let own_text = fault.to_string(alloc)?;
+    let error = SparseFormatError::from(fault);
+    Ok(
+        own_text.as_str() == text
+            && error.message() == text
+            && has_text_and_kind(alloc, error, text, kind)?,
+    )
+}
+
 #[test]
 fn faults_have_texts_and_kinds(rt: HostRuntime) -> Result<(), Fail> {
     for (fault, text, kind) in TEXTS {
-        assert_eq!(rt; fault.to_string(rt.alloc())?.as_str(), text);
-        let error = SparseFormatError::from(fault);
-        assert_eq!(rt; error.to_string(rt.alloc())?.as_str(), text);
-        assert_eq!(rt; (error.message(), *error.kind()), (text, kind));
+        assert!(rt;
+            fault_has_text_and_kind(rt.alloc(), fault, text, kind)?,
+            "{text}"
+        );
     }
     let refused = SparseFormatError::from(AllocError);
-    assert_eq!(rt; refused.to_string(rt.alloc())?.as_str(), "Out of memory.");
-    assert_eq!(rt; *refused.kind(), SparseFormatErrorKind::OutOfMemory);
+    let (text, kind) = ("Out of memory.", SparseFormatErrorKind::OutOfMemory);
+    assert!(rt; has_text_and_kind(rt.alloc(), refused, text, kind)?);
     Ok(())
 }

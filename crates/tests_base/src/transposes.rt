@@ -5,39 +5,52 @@ use sparse_pattern::pattern::SparsityPattern;
 use std::alloc::Global;
 use std::test::Fail;
 
-// The sizes, the offsets and the indices of a pattern, and then those of its transpose.
-type Case = (
-    usize,
-    usize,
-    &'static [usize],
-    &'static [usize],
-    &'static [usize],
-    &'static [usize],
-);
+// The offsets and the indices of a pattern.
+type Arrays = (&'static [usize], &'static [usize]);
 
-const CASES: [Case; 3] = [
-    (2, 3, &[0, 2, 3], &[0, 2, 1], &[0, 1, 2, 3], &[0, 1, 0]),
-    (0, 3, &[0], &[], &[0, 0, 0, 0], &[]),
-    (3, 0, &[0, 0, 0, 0], &[], &[0], &[]),
+// The sizes and the arrays of a pattern, and then the arrays of its transpose.
+const CASES: [(usize, usize, Arrays, Arrays); 3] = [
+    (2, 3, (&[0, 2, 3], &[0, 2, 1]), (&[0, 1, 2, 3], &[0, 1, 0])),
+    (0, 3, (&[0], &[]), (&[0, 0, 0, 0], &[])),
+    (3, 0, (&[0, 0, 0, 0], &[]), (&[0], &[])),
 ];
+
+// Whether a pattern has these arrays transposed, and is its transpose's transpose.
+fn has_transpose(
+    alloc: Global,
+    (major_dim, minor_dim): (usize, usize),
+    (offsets, indices): Arrays,
+    (new_offsets, new_indices): Arrays,
+) -> Result<bool, Fail> {
+    let pattern = pattern_of(alloc, major_dim, minor_dim, offsets, indices)??;
+    let transposed = pattern.transpose(alloc)?;
+    Ok(
+        (transposed.major_dim(), transposed.minor_dim()) == (minor_dim, major_dim)
+            && transposed.major_offsets() == new_offsets
+            && transposed.minor_indices() == new_indices
+            && transposed.transpose(alloc)? == pattern,
+    )
+}
+
+fn values_move_with_their_places(alloc: Global) -> Result<bool, Fail> {
+    let pattern = pattern_of(alloc, 2, 3, &[0, 2, 3], &[0, 2, 1])??;
+    if pattern.nnz() != 3 {
+        return Ok(false);
+    }
+    let (_, values) = pattern.transpose_with(alloc, &['a', 'b', 'c'])?;
+    Ok(values.as_slice() == ['a', 'c', 'b'].as_slice())
+}
 
 #[test]
 fn places_are_exchanged(rt: HostRuntime) -> Result<(), Fail> {
-    for (major_dim, minor_dim, offsets, indices, new_offsets, new_indices) in CASES {
-        let pattern = pattern_of(rt.alloc(), major_dim, minor_dim, offsets, indices)??;
-        let transposed = pattern.transpose(rt.alloc())?;
-        assert_eq!(rt;
-            (transposed.major_dim(), transposed.minor_dim()),
-            (minor_dim, major_dim)
+    for (major_dim, minor_dim, arrays, new_arrays) in CASES {
+        let sizes = (major_dim, minor_dim);
+        assert!(rt;
+            has_transpose(rt.alloc(), sizes, arrays, new_arrays)?,
+            "{sizes:?}"
         );
-        assert_eq!(rt; transposed.major_offsets(), new_offsets);
-        assert_eq!(rt; transposed.minor_indices(), new_indices);
-        assert!(rt; transposed.transpose(rt.alloc())? == pattern);
     }
-    let pattern = pattern_of(rt.alloc(), 2, 3, &[0, 2, 3], &[0, 2, 1])??;
-    assert_eq!(rt; pattern.nnz(), 3);
-    let (_, values) = pattern.transpose_with(rt.alloc(), &['a', 'b', 'c'])?;
-    assert_eq!(rt; values.as_slice(), ['a', 'c', 'b'].as_slice());
+    assert!(rt; values_move_with_their_places(rt.alloc())?);
     Ok(())
 }
 
@@ -53,15 +66,21 @@ fn two_columns(alloc: Global, last: usize) -> Result<SparsityPattern, Fail> {
     Ok(SparsityPattern::try_from_offsets_and_indices(64, 5000, offsets, indices)?)
 }
 
+fn two_columns_are_transposed(alloc: Global, last: usize) -> Result<bool, Fail> {
+    let pattern = two_columns(alloc, last)?;
+    let transposed = pattern.transpose(alloc)?;
+    Ok(
+        transposed.get_lane(0).map(|lane| lane.len()) == Some(64)
+            && transposed.entries().last() == Some((last, 63))
+            && transposed.transpose(alloc)? == pattern,
+    )
+}
+
 // Lanes whose indices are far apart are transposed by another algorithm: the distance 4096 is the last that counts as near.
 #[test]
 fn near_and_far_indices_are_exchanged(rt: HostRuntime) -> Result<(), Fail> {
     for last in [4096, 4097, 4999] {
-        let pattern = two_columns(rt.alloc(), last)?;
-        let transposed = pattern.transpose(rt.alloc())?;
-        assert_eq!(rt; transposed.get_lane(0).map(|lane| lane.len()), Some(64));
-        assert_eq!(rt; transposed.entries().last(), Some((last, 63)));
-        assert!(rt; transposed.transpose(rt.alloc())? == pattern);
+        assert!(rt; two_columns_are_transposed(rt.alloc(), last)?, "{last}");
     }
     Ok(())
 }
