@@ -9,7 +9,9 @@ use std::process::Abort;
 use std::test::Fail;
 
 // A row and a column, with the value there, zero where it isn't stored, and whether it is: `None` out of bounds.
-const ENTRIES: [(usize, usize, Option<(i32, bool)>); 6] = [
+type Entry = (usize, usize, Option<(i32, bool)>);
+
+const ENTRIES: [Entry; 6] = [
     (0, 2, Some((0, true))),
     (1, 1, Some((4, true))),
     (0, 1, Some((0, false))),
@@ -41,17 +43,37 @@ fn indexed_by_columns(matrix: &CscMatrix<i32>, row: usize, col: usize) -> Option
     value_of(Some(matrix.index_entry(row, col)))
 }
 
+// Whether both forms of the example have this entry.
+fn have_entry(
+    by_rows: &CsrMatrix<i32>,
+    by_columns: &CscMatrix<i32>,
+    (row, col, want): Entry,
+) -> bool {
+    value_of(by_rows.get_entry(row, col)) == want
+        && value_of(by_columns.get_entry(row, col)) == want
+        && indexed_by_rows(by_rows, row, col) == want
+        && indexed_by_columns(by_columns, row, col) == want
+}
+
+// Whether both forms of the example over wrapping integers have this entry.
+fn have_wrapping_entry(
+    by_rows: &CsrMatrix<W64>,
+    by_columns: &CscMatrix<W64>,
+    (row, col, want): Entry,
+) -> bool {
+    let want = want.map(|entry| (W64::new(entry.0 as i64), entry.1));
+    value_of(by_rows.get_entry(row, col)) == want
+        && value_of(by_columns.get_entry(row, col)) == want
+}
+
 #[test]
 fn stored_and_missing_entries(rt: HostRuntime) -> Result<(), Fail> {
     let by_rows = csr(rt.alloc(), BY_ROWS)?;
     let by_columns = csc(rt.alloc(), BY_COLUMNS)?;
     assert!(rt; by_rows.csr_data() == (BY_ROWS.2, BY_ROWS.3, BY_ROWS.4));
     assert!(rt; by_columns.csc_data() == (BY_COLUMNS.2, BY_COLUMNS.3, BY_COLUMNS.4));
-    for (row, col, want) in ENTRIES {
-        assert!(rt; value_of(by_rows.get_entry(row, col)) == want);
-        assert!(rt; value_of(by_columns.get_entry(row, col)) == want);
-        assert!(rt; indexed_by_rows(&by_rows, row, col) == want);
-        assert!(rt; indexed_by_columns(&by_columns, row, col) == want);
+    for entry in ENTRIES {
+        assert!(rt; have_entry(&by_rows, &by_columns, entry));
     }
     expect_wrapping_entries(&rt)
 }
@@ -60,10 +82,8 @@ fn stored_and_missing_entries(rt: HostRuntime) -> Result<(), Fail> {
 fn expect_wrapping_entries(rt: &(impl Abort + AllocGlobal)) -> Result<(), Fail> {
     let by_rows = wrapping_csr(rt.alloc())?;
     let by_columns = wrapping_csc(rt.alloc())?;
-    for (row, col, want) in ENTRIES {
-        let want = want.map(|entry| (W64::new(entry.0 as i64), entry.1));
-        assert!(rt; value_of(by_rows.get_entry(row, col)) == want);
-        assert!(rt; value_of(by_columns.get_entry(row, col)) == want);
+    for entry in ENTRIES {
+        assert!(rt; have_wrapping_entry(&by_rows, &by_columns, entry));
     }
     Ok(())
 }
@@ -106,16 +126,25 @@ fn indexed_mut_by_columns(matrix: &mut CscMatrix<i32>, row: usize, col: usize) -
     Some(matrix.index_entry_mut(row, col).into_value())
 }
 
+// Whether both forms of the example have this entry for writing.
+fn have_entry_for_writing(
+    by_rows: &mut CsrMatrix<i32>,
+    by_columns: &mut CscMatrix<i32>,
+    (row, col, want): Entry,
+) -> bool {
+    let value = want.map(|entry| entry.0);
+    entry_mut_by_rows(by_rows, row, col) == want
+        && entry_mut_by_columns(by_columns, row, col) == want
+        && indexed_mut_by_rows(by_rows, row, col) == value
+        && indexed_mut_by_columns(by_columns, row, col) == value
+}
+
 #[test]
 fn entries_for_writing(rt: HostRuntime) -> Result<(), Fail> {
     let mut by_rows = csr(rt.alloc(), BY_ROWS)?;
     let mut by_columns = csc(rt.alloc(), BY_COLUMNS)?;
-    for (row, col, want) in ENTRIES {
-        assert!(rt; entry_mut_by_rows(&mut by_rows, row, col) == want);
-        assert!(rt; entry_mut_by_columns(&mut by_columns, row, col) == want);
-        let value = want.map(|entry| entry.0);
-        assert!(rt; indexed_mut_by_rows(&mut by_rows, row, col) == value);
-        assert!(rt; indexed_mut_by_columns(&mut by_columns, row, col) == value);
+    for entry in ENTRIES {
+        assert!(rt; have_entry_for_writing(&mut by_rows, &mut by_columns, entry));
     }
     Ok(())
 }

@@ -30,14 +30,22 @@ fn triangles_by_rows<T: Copy + PartialEq>(
     Ok(csr_is(&lower, (2, 3, &[0, 1, 2], &[0, 1], values)) && diagonal == lower && upper == *matrix)
 }
 
+// Both over a type of values.
+fn keeps_places_by_rows<T: Copy + PartialEq>(
+    alloc: Global,
+    matrix: &CsrMatrix<T>,
+    zero: &[T],
+    diagonal: &[T],
+) -> Result<bool, AllocError> {
+    Ok(keeps_zero_by_rows(alloc, matrix, zero)? && triangles_by_rows(alloc, matrix, diagonal)?)
+}
+
 #[test]
 fn places_kept_by_rows(rt: HostRuntime) -> Result<(), Fail> {
-    let numbers = csr(rt.alloc(), BY_ROWS)?;
-    assert!(rt; keeps_zero_by_rows(rt.alloc(), &numbers, &[0])?);
-    assert!(rt; triangles_by_rows(rt.alloc(), &numbers, &[1, 4])?);
+    let (numbers, w) = (csr(rt.alloc(), BY_ROWS)?, W64::new);
+    assert!(rt; keeps_places_by_rows(rt.alloc(), &numbers, &[0], &[1, 4])?);
     let wrapping = wrapping_csr(rt.alloc())?;
-    assert!(rt; keeps_zero_by_rows(rt.alloc(), &wrapping, &[W64::new(0)])?);
-    assert!(rt; triangles_by_rows(rt.alloc(), &wrapping, &[W64::new(1), W64::new(4)])?);
+    assert!(rt; keeps_places_by_rows(rt.alloc(), &wrapping, &[w(0)], &[w(1), w(4)])?);
     Ok(())
 }
 
