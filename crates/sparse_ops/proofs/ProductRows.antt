@@ -80,10 +80,10 @@ module _ (R : CommRing) {T : Type 0} (f : T → R.Carrier) (z : T) (x : ℕ → 
       → lane_value R f ks vs j ≡ x j
   lane_read ks vs long rising is elsewhere j = elim (lane_cases ks vs long
       (λ p q lt within e. grind (arith, AllPairs-from_increasing ks rising p q 0, e)) is j) [
-    | inl there ↦ there.1
-    | inr off ↦ off.1 ∙ sym (elsewhere j (λ h. off.0 h.0 h.1
-        (get_or_default ks h.0 0 j h.1 ∙ h.2)))
-  ]
+        | inl there ↦ there.1
+        | inr off ↦ off.1 ∙ sym (elsewhere j (λ h. off.0 h.0 h.1
+            (get_or_default ks h.0 0 j h.1 ∙ h.2)))
+      ]
 
 -- the first n rows of the product
 abbrev pub IsMultipliedBelow : (R : CommRing) {T : Type 0} → (T → R.Carrier) → Compressed T

@@ -75,16 +75,16 @@ gather_row-requires-clause-inside g c =
     (c.deref.ensures.value ∙ gains.pushed) (omega (arith, c.len-begin.ensures, c.loop-i.indices.ok.0))
     in
     subst (λ l. All (λ j. j < length row) l) (sym tail) (λ k d lt.
-        let s = (gains.holds (get_or gains.lane k d)).0 (Contains-get_or gains.lane k d lt) in
-        let below = place_within c.pattern-second.result.now c.push_lane.ensures.valid s.0
-        (get_or gains.lane k d) s.2 in
-        omega (
-          arith,
-          below,
-          ap (λ (d : Raw). d.minor_dim) second_is,
-          c.deref_mut-in-loop-i.ensures.len,
-          c.loop-i.invariant.width,
-        ))
+    let s = (gains.holds (get_or gains.lane k d)).0 (Contains-get_or gains.lane k d lt) in
+    let below = place_within c.pattern-second.result.now c.push_lane.ensures.valid s.0
+    (get_or gains.lane k d) s.2 in
+    omega (
+      arith,
+      below,
+      ap (λ (d : Raw). d.minor_dim) second_is,
+      c.deref_mut-in-loop-i.ensures.len,
+      c.loop-i.invariant.width,
+    ))
 
 pub gather_row-requires-clause-count : goal.gather_row-requires-clause-count
 gather_row-requires-clause-count g c =
@@ -128,8 +128,11 @@ loop-i-preserved g c =
     (IsInLanes b.pattern (lane_of a.pattern i)) =
     rw (lanes_are, second_is) at c.in_ok-push_lane.ensures.pushed in
     let begin = c.len-begin.result in
-    let begin_is : length c.loop-i.indices.items ≡ begin = omega (arith, c.len-begin.ensures,
-      c.loop-i.indices.ok.0) in
+    let begin_is : length c.loop-i.indices.items ≡ begin = omega (
+      arith,
+      c.len-begin.ensures,
+      c.loop-i.indices.ok.0,
+    ) in
     let js = c.deref.result.now in
     let vs = c.deref_mut-in-loop-i-2.result.now in
     let part = c.gather_row.new.values in
