@@ -8,7 +8,6 @@ use sparse_forms::csr::CsrMatrix;
 use sparse_pattern::error::{SparseFormatError, SparseFormatErrorKind};
 use sparse_pattern::pattern::SparsityPattern;
 use std::alloc::{AllocError, Global};
-use std::process::Abort;
 use std::test::Fail;
 
 // Arrays whose lanes are not sorted, with their indices and values once they are.
@@ -75,16 +74,35 @@ fn reassembled_by_rows(
     csr(alloc, (nrows, ncols, &offsets, &columns, &values))
 }
 
+// Whether the parts of a matrix by rows, and its arrays, make it again.
+fn is_made_again_by_rows(
+    alloc: Global,
+    matrix: &CsrMatrix<i32>,
+) -> Result<bool, SparseFormatError> {
+    let rebuilt = rebuilt_by_rows(alloc, matrix)?;
+    Ok(
+        rebuilt == *matrix
+            && rebuilt.pattern() == matrix.pattern()
+            && reassembled_by_rows(alloc, matrix)? == *matrix,
+    )
+}
+
+// Whether the pattern of a matrix by rows of three places refuses two values.
+fn refuses_two_values(alloc: Global, matrix: &CsrMatrix<i32>) -> Result<bool, AllocError> {
+    let pattern = matrix.pattern().clone(alloc)?;
+    let refused = CsrMatrix::try_from_pattern_and_values(pattern, [1, 2].to_vec(alloc)?);
+    let Some(error) = refused.err() else {
+        return Ok(false);
+    };
+    Ok(*error.kind() == InvalidStructure)
+}
+
 #[test]
 fn parts_and_copies_by_rows(rt: HostRuntime) -> Result<(), Fail> {
     let matrix = csr(rt.alloc(), BY_ROWS)?;
     assert!(rt; copies_by_rows(rt.alloc(), &matrix)?);
-    let rebuilt = rebuilt_by_rows(rt.alloc(), &matrix)?;
-    assert!(rt; rebuilt == matrix && rebuilt.pattern() == matrix.pattern());
-    assert!(rt; reassembled_by_rows(rt.alloc(), &matrix)? == matrix);
-    let pattern = matrix.pattern().clone(rt.alloc())?;
-    let refused = CsrMatrix::try_from_pattern_and_values(pattern, [1, 2].to_vec(rt.alloc())?);
-    assert!(rt; *refused.err().ok_or("taken")?.kind() == InvalidStructure);
+    assert!(rt; is_made_again_by_rows(rt.alloc(), &matrix)?);
+    assert!(rt; refuses_two_values(rt.alloc(), &matrix)?);
     Ok(())
 }
 
@@ -115,15 +133,25 @@ fn reassembled_by_columns(
     csc(alloc, (ncols, nrows, &offsets, &rows, &values))
 }
 
+// Whether the parts of a matrix by columns, and its arrays, make it again, with the sizes 2 and 4 turned round.
+fn is_made_again_by_columns(
+    alloc: Global,
+    matrix: &CscMatrix<i32>,
+) -> Result<bool, SparseFormatError> {
+    let rebuilt = rebuilt_by_columns(alloc, matrix)?;
+    let same = rebuilt == *matrix && rebuilt.pattern() == matrix.pattern();
+    let by_rows = rebuilt.transpose_as_csr();
+    Ok(
+        same && (by_rows.nrows(), by_rows.ncols()) == (2, 4)
+            && reassembled_by_columns(alloc, matrix)? == *matrix,
+    )
+}
+
 #[test]
 fn parts_and_copies_by_columns(rt: HostRuntime) -> Result<(), Fail> {
     let matrix = unsorted_csc(rt.alloc(), UNSORTED[2].0)?;
     assert!(rt; copies_by_columns(rt.alloc(), &matrix)?);
-    let rebuilt = rebuilt_by_columns(rt.alloc(), &matrix)?;
-    assert!(rt; rebuilt == matrix && rebuilt.pattern() == matrix.pattern());
-    assert!(rt; reassembled_by_columns(rt.alloc(), &matrix)? == matrix);
-    let by_rows = rebuilt.transpose_as_csr();
-    assert!(rt; (by_rows.nrows(), by_rows.ncols()) == (2, 4));
+    assert!(rt; is_made_again_by_columns(rt.alloc(), &matrix)?);
     Ok(())
 }
 
@@ -159,28 +187,35 @@ const EMPTY: [Arrays<'static, i32>; 2] = [
     (0, 3, &[0], &[], &[]),
 ];
 
+// Whether identities over wrapping integers have ones on the diagonal, and one of size 0 has none.
+fn has_identities(alloc: Global) -> Result<bool, AllocError> {
+    let ones = [W64::new(1), W64::new(1), W64::new(1)];
+    let by_rows = CsrMatrix::identity(alloc, 3)?;
+    let by_columns = CscMatrix::identity(alloc, 2)?;
+    let none: CsrMatrix<W64> = CsrMatrix::identity(alloc, 0)?;
+    Ok(
+        csr_is(&by_rows, (3, 3, &[0, 1, 2, 3], &[0, 1, 2], &ones))
+            && csc_is(&by_columns, (2, 2, &[0, 1, 2], &[0, 1], &ones[..2]))
+            && csr_is(&none, (0, 0, &[0], &[], &[])),
+    )
+}
+
+// Whether zeros and identities with more lanes than an array of offsets can count are refused.
+fn refuses_too_many_lanes(alloc: Global) -> bool {
+    let tall: Arrays<'_, i32> = (usize::MAX, 0, &[], &[], &[]);
+    let too_long: Result<CsrMatrix<W64>, AllocError> = CsrMatrix::identity(alloc, usize::MAX);
+    has_zeros_by_rows(alloc, tall).is_err()
+        && has_zeros_by_columns(alloc, tall).is_err()
+        && too_long.is_err()
+}
+
 #[test]
 fn zeros_and_identities(rt: HostRuntime) -> Result<(), Fail> {
     for want in EMPTY {
         assert!(rt; has_zeros_by_rows(rt.alloc(), want)?);
         assert!(rt; has_zeros_by_columns(rt.alloc(), want)?);
     }
-    let tall: Arrays<'_, i32> = (usize::MAX, 0, &[], &[], &[]);
-    assert!(rt; has_zeros_by_rows(rt.alloc(), tall).is_err());
-    assert!(rt; has_zeros_by_columns(rt.alloc(), tall).is_err());
-    expect_identities(&rt)
-}
-
-// Compares identities over wrapping integers.
-fn expect_identities(rt: &(impl Abort + AllocGlobal)) -> Result<(), Fail> {
-    let ones = [W64::new(1), W64::new(1), W64::new(1)];
-    let by_rows = CsrMatrix::identity(rt.alloc(), 3)?;
-    assert!(rt; csr_is(&by_rows, (3, 3, &[0, 1, 2, 3], &[0, 1, 2], &ones)));
-    let by_columns = CscMatrix::identity(rt.alloc(), 2)?;
-    assert!(rt; csc_is(&by_columns, (2, 2, &[0, 1, 2], &[0, 1], &ones[..2])));
-    let none: CsrMatrix<W64> = CsrMatrix::identity(rt.alloc(), 0)?;
-    assert!(rt; csr_is(&none, (0, 0, &[0], &[], &[])));
-    let too_long: Result<CsrMatrix<W64>, AllocError> = CsrMatrix::identity(rt.alloc(), usize::MAX);
-    assert!(rt; too_long.is_err());
+    assert!(rt; refuses_too_many_lanes(rt.alloc()));
+    assert!(rt; has_identities(rt.alloc())?);
     Ok(())
 }

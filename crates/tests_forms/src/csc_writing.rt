@@ -7,7 +7,6 @@ ghost use Rattle.sparse_cs.specs.Writing.{with_lane};
 use crate::fixtures::{BY_COLUMNS, csc};
 use sparse_forms::csc::{CscColMut, CscMatrix};
 use sparse_pattern::entry::{SparseEntry, SparseEntryMut};
-use std::process::Abort;
 use std::test::Fail;
 
 // Writes through an entry, where the matrix has the place.
@@ -99,29 +98,35 @@ fn fill_column(column: &mut CscColMut<'_, i32>) -> bool {
     same
 }
 
-#[test]
-fn a_column_for_writing(rt: HostRuntime) -> Result<(), Fail> {
-    let mut matrix = csc(rt.alloc(), BY_COLUMNS)?;
-    assert!(rt; matrix.get_col_mut(3).is_none());
-    if let Some(mut column) = matrix.get_col_mut(2) {
-        assert!(rt; is_last_column(&column));
-        assert!(rt; fill_column(&mut column));
-    }
-    assert!(rt; matrix.values() == [1, 4, 8].as_slice());
-    slices_for_writing(&rt, &mut matrix);
-    Ok(())
+// Writes into the last column, and answers whether it is the one wanted and no column is lent out of bounds.
+fn fill_last_column(matrix: &mut CscMatrix<i32>) -> bool {
+    let bounded = matrix.get_col_mut(3).is_none();
+    let Some(mut column) = matrix.get_col_mut(2) else {
+        return false;
+    };
+    bounded && is_last_column(&column) && fill_column(&mut column)
 }
 
-// Writes through the slices of the example.
-fn slices_for_writing(rt: &impl Abort, matrix: &mut CscMatrix<i32>) {
+// Writes through the slices of the example, and answers whether they are its arrays.
+fn fill_slices(matrix: &mut CscMatrix<i32>) -> bool {
     for value in matrix.values_mut().iter_mut() {
         *value = 7;
     }
     let (pattern, values) = matrix.pattern_and_values_mut();
-    assert!(rt; pattern.nnz() == values.len());
+    let same = pattern.nnz() == values.len();
     let (offsets, rows, values) = matrix.csc_data_mut();
-    assert!(rt; offsets == [0, 1, 2, 3].as_slice() && rows == [0, 1, 0].as_slice());
-    assert!(rt; &*values == [7, 7, 7].as_slice());
+    same && offsets == [0, 1, 2, 3].as_slice()
+        && rows == [0, 1, 0].as_slice()
+        && &*values == [7, 7, 7].as_slice()
+}
+
+#[test]
+fn a_column_for_writing(rt: HostRuntime) -> Result<(), Fail> {
+    let mut matrix = csc(rt.alloc(), BY_COLUMNS)?;
+    assert!(rt; fill_last_column(&mut matrix));
+    assert!(rt; matrix.values() == [1, 4, 8].as_slice());
+    assert!(rt; fill_slices(&mut matrix));
+    Ok(())
 }
 
 // Writes 9 into each column whose first row is 1, and 5 into the others.
@@ -134,31 +139,46 @@ fn fill_columns(matrix: &mut CscMatrix<i32>) {
     }
 }
 
-#[test]
-fn iterators_for_writing_by_columns(rt: HostRuntime) -> Result<(), Fail> {
-    let mut matrix = csc(rt.alloc(), BY_COLUMNS)?;
+// Doubles each value through its triplet.
+fn double(matrix: &mut CscMatrix<i32>) {
     for (_, _, value) in matrix.triplet_iter_mut() {
         *value = value.wrapping_mul(2);
     }
-    assert!(rt; matrix.values() == [2, 8, 0].as_slice());
-    let mut triplets = matrix.triplet_iter_mut();
-    for place in [(0, 0), (1, 1), (0, 2)] {
-        assert!(rt; triplets.next().map(|t| (t.0, t.1)) == Some(place));
-    }
-    assert!(rt; triplets.next().is_none());
-    fill_columns(&mut matrix);
-    assert!(rt; matrix.values() == [5, 9, 5].as_slice());
-    expect_columns(&rt, &mut matrix)
 }
 
-// Compares the columns for writing of the example, in order.
-fn expect_columns(rt: &impl Abort, matrix: &mut CscMatrix<i32>) -> Result<(), Fail> {
-    let mut columns = matrix.col_iter_mut();
-    let lanes: [&[usize]; 3] = [&[0], &[1], &[0]];
-    for rows in lanes {
-        let column = columns.next().ok_or("no column")?;
-        assert!(rt; column.row_indices() == rows && column.nnz() == rows.len());
+// Whether the triplets for writing have these places, and then end.
+fn places_for_writing_are(matrix: &mut CscMatrix<i32>, places: [(usize, usize); 3]) -> bool {
+    let mut triplets = matrix.triplet_iter_mut();
+    for place in places {
+        if triplets.next().map(|t| (t.0, t.1)) != Some(place) {
+            return false;
+        }
     }
-    assert!(rt; columns.next().is_none());
+    triplets.next().is_none()
+}
+
+// Whether the columns for writing have these rows, and then end.
+fn rows_for_writing_are(matrix: &mut CscMatrix<i32>, lanes: [&[usize]; 3]) -> bool {
+    let mut columns = matrix.col_iter_mut();
+    for rows in lanes {
+        let Some(column) = columns.next() else {
+            return false;
+        };
+        if column.row_indices() != rows || column.nnz() != rows.len() {
+            return false;
+        }
+    }
+    columns.next().is_none()
+}
+
+#[test]
+fn iterators_for_writing_by_columns(rt: HostRuntime) -> Result<(), Fail> {
+    let mut matrix = csc(rt.alloc(), BY_COLUMNS)?;
+    double(&mut matrix);
+    assert!(rt; matrix.values() == [2, 8, 0].as_slice());
+    assert!(rt; places_for_writing_are(&mut matrix, [(0, 0), (1, 1), (0, 2)]));
+    fill_columns(&mut matrix);
+    assert!(rt; matrix.values() == [5, 9, 5].as_slice());
+    assert!(rt; rows_for_writing_are(&mut matrix, [&[0], &[1], &[0]]));
     Ok(())
 }

@@ -9,7 +9,6 @@ use crate::fixtures::{BY_ROWS, csr, wrapping_csr};
 use sparse_algebra::scalar::{Ring, W64};
 use sparse_forms::csr::{CsrMatrix, CsrRowMut};
 use sparse_pattern::entry::{SparseEntry, SparseEntryMut};
-use std::process::Abort;
 use std::test::Fail;
 
 // What is left after a write through an entry: another value at its own place, or nothing changed.
@@ -128,59 +127,76 @@ fn fill_row(row: &mut CsrRowMut<'_, i32>) -> bool {
     same
 }
 
-#[test]
-fn a_row_for_writing(rt: HostRuntime) -> Result<(), Fail> {
-    let mut matrix = csr(rt.alloc(), BY_ROWS)?;
-    assert!(rt; matrix.get_row_mut(2).is_none());
-    if let Some(mut row) = matrix.get_row_mut(0) {
-        assert!(rt; is_first_row(&row));
-        assert!(rt; fill_row(&mut row));
-    }
-    assert!(rt; matrix.values() == [8, 8, 4].as_slice());
-    slices_for_writing(&rt, &mut matrix);
-    Ok(())
+// Writes into the first row, and answers whether it is the one wanted and no row is lent out of bounds.
+fn fill_first_row(matrix: &mut CsrMatrix<i32>) -> bool {
+    let bounded = matrix.get_row_mut(2).is_none();
+    let Some(mut row) = matrix.get_row_mut(0) else {
+        return false;
+    };
+    bounded && is_first_row(&row) && fill_row(&mut row)
 }
 
-// Writes through the slices of the example.
-fn slices_for_writing(rt: &impl Abort, matrix: &mut CsrMatrix<i32>) {
+// Writes through the slices of the example, and answers whether they are its arrays.
+fn fill_slices(matrix: &mut CsrMatrix<i32>) -> bool {
     for value in matrix.values_mut().iter_mut() {
         *value = 7;
     }
     let (pattern, values) = matrix.pattern_and_values_mut();
-    assert!(rt; pattern.nnz() == values.len());
+    let same = pattern.nnz() == values.len();
     let (offsets, columns, values) = matrix.csr_data_mut();
-    assert!(rt; offsets == [0, 2, 3].as_slice() && columns == [0, 2, 1].as_slice());
-    assert!(rt; &*values == [7, 7, 7].as_slice());
+    same && offsets == [0, 2, 3].as_slice()
+        && columns == [0, 2, 1].as_slice()
+        && &*values == [7, 7, 7].as_slice()
+}
+
+#[test]
+fn a_row_for_writing(rt: HostRuntime) -> Result<(), Fail> {
+    let mut matrix = csr(rt.alloc(), BY_ROWS)?;
+    assert!(rt; fill_first_row(&mut matrix));
+    assert!(rt; matrix.values() == [8, 8, 4].as_slice());
+    assert!(rt; fill_slices(&mut matrix));
+    Ok(())
+}
+
+// Doubles each value through its triplet.
+fn double(matrix: &mut CsrMatrix<i32>) {
+    for (_, _, value) in matrix.triplet_iter_mut() {
+        *value = value.wrapping_mul(2);
+    }
+}
+
+// Whether the triplets for writing have these places, and `None` comes from then on.
+fn places_for_writing_are(matrix: &mut CsrMatrix<i32>, places: [(usize, usize); 3]) -> bool {
+    let mut triplets = matrix.triplet_iter_mut();
+    for place in places {
+        if triplets.next().map(|t| (t.0, t.1)) != Some(place) {
+            return false;
+        }
+    }
+    triplets.next().is_none() && triplets.next().is_none()
+}
+
+// Writes into the example over wrapping integers, and answers whether its values are then the ones wanted.
+fn writes_wrapping_values(mut matrix: CsrMatrix<W64>) -> bool {
+    let w = W64::new;
+    for (_, _, value) in matrix.triplet_iter_mut() {
+        *value = (*value).add(*value);
+    }
+    let doubled = matrix.values() == [w(2), w(0), w(8)].as_slice();
+    if matrix.nrows() > 1 {
+        write_through_row(&mut matrix, 1, 1, w(9));
+    }
+    doubled && matrix.values() == [w(2), w(0), w(9)].as_slice()
 }
 
 #[test]
 fn triplets_for_writing_by_rows(rt: HostRuntime) -> Result<(), Fail> {
     let mut matrix = csr(rt.alloc(), BY_ROWS)?;
-    for (_, _, value) in matrix.triplet_iter_mut() {
-        *value = value.wrapping_mul(2);
-    }
+    double(&mut matrix);
     assert!(rt; matrix.values() == [2, 0, 8].as_slice());
-    let mut triplets = matrix.triplet_iter_mut();
-    for place in [(0, 0), (0, 2), (1, 1)] {
-        assert!(rt; triplets.next().map(|t| (t.0, t.1)) == Some(place));
-    }
-    assert!(rt; triplets.next().is_none());
-    assert!(rt; triplets.next().is_none());
-    expect_wrapping_writes(&rt, wrapping_csr(rt.alloc())?);
+    assert!(rt; places_for_writing_are(&mut matrix, [(0, 0), (0, 2), (1, 1)]));
+    assert!(rt; writes_wrapping_values(wrapping_csr(rt.alloc())?));
     Ok(())
-}
-
-// Writes into the example over wrapping integers.
-fn expect_wrapping_writes(rt: &impl Abort, mut matrix: CsrMatrix<W64>) {
-    let w = W64::new;
-    for (_, _, value) in matrix.triplet_iter_mut() {
-        *value = (*value).add(*value);
-    }
-    assert!(rt; matrix.values() == [w(2), w(0), w(8)].as_slice());
-    if matrix.nrows() > 1 {
-        write_through_row(&mut matrix, 1, 1, w(9));
-    }
-    assert!(rt; matrix.values() == [w(2), w(0), w(9)].as_slice());
 }
 
 // Writes 9 into each row of one value, and 5 into the others.
@@ -197,6 +213,20 @@ fn fill_rows(matrix: &mut CsrMatrix<W64>) {
     }
 }
 
+// Whether the rows for writing have these columns, and `None` comes from then on.
+fn columns_for_writing_are(matrix: &mut CsrMatrix<W64>, lanes: [&[usize]; 3]) -> bool {
+    let mut rows = matrix.row_iter_mut();
+    for columns in lanes {
+        let Some(row) = rows.next() else {
+            return false;
+        };
+        if row.col_indices() != columns || row.nnz() != columns.len() {
+            return false;
+        }
+    }
+    rows.next().is_none() && rows.next().is_none()
+}
+
 #[test]
 fn rows_for_writing(rt: HostRuntime) -> Result<(), Fail> {
     let w = W64::new;
@@ -204,13 +234,6 @@ fn rows_for_writing(rt: HostRuntime) -> Result<(), Fail> {
     let mut matrix = csr(rt.alloc(), (3, 2, &[0, 1, 1, 3], &[1, 0, 1], &values))?;
     fill_rows(&mut matrix);
     assert!(rt; matrix.values() == [w(9), w(5), w(5)].as_slice());
-    let mut rows = matrix.row_iter_mut();
-    let lanes: [&[usize]; 3] = [&[1], &[], &[0, 1]];
-    for columns in lanes {
-        let row = rows.next().ok_or("no row")?;
-        assert!(rt; row.col_indices() == columns && row.nnz() == columns.len());
-    }
-    assert!(rt; rows.next().is_none());
-    assert!(rt; rows.next().is_none());
+    assert!(rt; columns_for_writing_are(&mut matrix, [&[1], &[], &[0, 1]]));
     Ok(())
 }

@@ -6,14 +6,15 @@ use sparse_forms::csc::{CscCol, CscColIter, CscMatrix};
 use sparse_forms::csr::{CsrMatrix, CsrRow, CsrRowIter};
 use sparse_pattern::entry::SparseEntry;
 use std::alloc::AllocError;
-use std::process::Abort;
 use std::test::Fail;
 
 // With a lane in the middle that has no stored places.
 const EMPTY_LANE: Arrays<'static, i32> = (3, 3, &[0, 2, 2, 3], &[0, 2, 1], &[1, 0, 4]);
 
-// The position, the indices and the values of each of its lanes, and the number of lanes after it.
-const LANES: [(usize, &[usize], &[i32], usize); 3] = [
+// The position, the indices and the values of a lane, and the number of lanes after it.
+type Lane = (usize, &'static [usize], &'static [i32], usize);
+
+const LANES: [Lane; 3] = [
     (0, &[0, 2], &[1, 0], 2),
     (1, &[], &[], 1),
     (2, &[1], &[4], 0),
@@ -54,30 +55,51 @@ fn has_rows_left(rows: &CsrRowIter<'_, i32>, count: usize) -> Result<bool, Alloc
     Ok(copy.next().is_none())
 }
 
+// Whether the next row is this lane, and as many rows are left as there are lanes after it.
+fn is_next_row(
+    matrix: &CsrMatrix<i32>,
+    rows: &mut CsrRowIter<'_, i32>,
+    (index, columns, values, left): Lane,
+) -> Result<bool, AllocError> {
+    let Some(row) = rows.next() else {
+        return Ok(false);
+    };
+    Ok(
+        row_is(&row, columns, values)
+            && has_rows_left(rows, left)?
+            && matrix.get_row(index) == Some(row),
+    )
+}
+
+// Whether the rows are the lanes, and `None` comes from then on.
+fn has_rows_in_order(matrix: &CsrMatrix<i32>) -> Result<bool, AllocError> {
+    let mut rows = matrix.row_iter();
+    for lane in LANES {
+        if !is_next_row(matrix, &mut rows, lane)? {
+            return Ok(false);
+        }
+    }
+    Ok(rows.next().is_none() && rows.next().is_none())
+}
+
+// Whether one row of the example is read, and none out of bounds.
+fn has_one_row(matrix: &CsrMatrix<i32>) -> bool {
+    let Some(row) = matrix.get_row(0) else {
+        return false;
+    };
+    matrix.get_row(3).is_none()
+        && has_first_row(&row)
+        && matrix.nrows() == 3
+        && matrix.row(2) != row
+}
+
 #[test]
 fn rows_in_order(rt: HostRuntime) -> Result<(), Fail> {
     let matrix = csr(rt.alloc(), EMPTY_LANE)?;
-    let mut rows = matrix.row_iter();
-    for (index, columns, values, left) in LANES {
-        let row = rows.next().ok_or("no row")?;
-        assert!(rt; row_is(&row, columns, values));
-        assert!(rt; matrix.get_row(index) == Some(row));
-        assert!(rt; has_rows_left(&rows, left)?);
-    }
-    assert!(rt; rows.next().is_none());
-    assert!(rt; rows.next().is_none());
+    assert!(rt; has_rows_in_order(&matrix)?);
     assert!(rt; first_row_is(&matrix, &[1, 0])?);
     assert!(rt; first_row_is(&wrapping_csr(rt.alloc())?, &[W64::new(1), W64::new(0)])?);
-    expect_one_row(&rt, &matrix)
-}
-
-// Reads one row of the example.
-fn expect_one_row(rt: &impl Abort, matrix: &CsrMatrix<i32>) -> Result<(), Fail> {
-    assert!(rt; matrix.get_row(3).is_none());
-    let row = matrix.get_row(0).ok_or("no row")?;
-    assert!(rt; has_first_row(&row));
-    assert!(rt; matrix.nrows() == 3);
-    assert!(rt; matrix.row(2) != row);
+    assert!(rt; has_one_row(&matrix));
     Ok(())
 }
 
@@ -116,29 +138,50 @@ fn has_columns_left(columns: &CscColIter<'_, i32>, count: usize) -> Result<bool,
     Ok(copy.next().is_none())
 }
 
+// Whether the next column is this lane, and as many columns are left as there are lanes after it.
+fn is_next_column(
+    matrix: &CscMatrix<i32>,
+    columns: &mut CscColIter<'_, i32>,
+    (index, rows, values, left): Lane,
+) -> Result<bool, AllocError> {
+    let Some(column) = columns.next() else {
+        return Ok(false);
+    };
+    Ok(
+        column_is(&column, rows, values)
+            && has_columns_left(columns, left)?
+            && matrix.get_col(index) == Some(column),
+    )
+}
+
+// Whether the columns are the lanes, and `None` comes from then on.
+fn has_columns_in_order(matrix: &CscMatrix<i32>) -> Result<bool, AllocError> {
+    let mut columns = matrix.col_iter();
+    for lane in LANES {
+        if !is_next_column(matrix, &mut columns, lane)? {
+            return Ok(false);
+        }
+    }
+    Ok(columns.next().is_none() && columns.next().is_none())
+}
+
+// Whether one column of the example is read, and none out of bounds.
+fn has_one_column(matrix: &CscMatrix<i32>) -> bool {
+    let Some(column) = matrix.get_col(0) else {
+        return false;
+    };
+    matrix.get_col(3).is_none()
+        && has_first_column(&column)
+        && matrix.ncols() == 3
+        && matrix.col(2) != column
+}
+
 #[test]
 fn columns_in_order(rt: HostRuntime) -> Result<(), Fail> {
     let matrix = csc(rt.alloc(), EMPTY_LANE)?;
-    let mut columns = matrix.col_iter();
-    for (index, rows, values, left) in LANES {
-        let column = columns.next().ok_or("no column")?;
-        assert!(rt; column_is(&column, rows, values));
-        assert!(rt; matrix.get_col(index) == Some(column));
-        assert!(rt; has_columns_left(&columns, left)?);
-    }
-    assert!(rt; columns.next().is_none());
-    assert!(rt; columns.next().is_none());
+    assert!(rt; has_columns_in_order(&matrix)?);
     assert!(rt; first_column_is(&matrix, &[1, 0])?);
     assert!(rt; first_column_is(&wrapping_csc(rt.alloc())?, &[W64::new(1)])?);
-    expect_one_column(&rt, &matrix)
-}
-
-// Reads one column of the example.
-fn expect_one_column(rt: &impl Abort, matrix: &CscMatrix<i32>) -> Result<(), Fail> {
-    assert!(rt; matrix.get_col(3).is_none());
-    let column = matrix.get_col(0).ok_or("no column")?;
-    assert!(rt; has_first_column(&column));
-    assert!(rt; matrix.ncols() == 3);
-    assert!(rt; matrix.col(2) != column);
+    assert!(rt; has_one_column(&matrix));
     Ok(())
 }

@@ -5,40 +5,55 @@ use sparse_algebra::scalar::W64;
 use sparse_forms::csc::{CscMatrix, CscTripletIter};
 use sparse_forms::csr::{CsrMatrix, CsrTripletIter};
 use std::alloc::{AllocError, Global};
-use std::process::Abort;
 use std::test::Fail;
 
 type Triplet = (usize, usize, i32);
 
-// Compares what is left by rows, and a copy of it, with copies of the values.
-fn expect_copies_by_rows(
-    rt: &impl Abort,
+// Whether a copy of what is left by rows, and copies of the values, give these triplets and then end.
+fn copies_by_rows_are(
     triplets: &CsrTripletIter<'_, i32>,
     want: [Triplet; 2],
-) -> Result<(), Fail> {
+) -> Result<bool, AllocError> {
     let mut copy = triplets.clone()?;
     let mut values = triplets.clone()?.cloned_values();
     for triplet in want {
         let copied = values.clone()?.next();
-        assert!(rt; copied == Some(triplet) && values.next() == Some(triplet));
-        assert!(rt; copy.next() == Some((triplet.0, triplet.1, &triplet.2)));
+        let same = copied == Some(triplet) && values.next() == Some(triplet);
+        if !same || copy.next() != Some((triplet.0, triplet.1, &triplet.2)) {
+            return Ok(false);
+        }
     }
-    assert!(rt; copy.next().is_none() && values.next().is_none());
-    Ok(())
+    Ok(copy.next().is_none() && values.next().is_none())
+}
+
+// Whether these triplets are left by rows, and `None` comes from then on.
+fn are_left_by_rows(triplets: &mut CsrTripletIter<'_, i32>, want: [Triplet; 2]) -> bool {
+    for (row, col, value) in want {
+        if triplets.next() != Some((row, col, &value)) {
+            return false;
+        }
+    }
+    triplets.next().is_none() && triplets.next().is_none()
+}
+
+// Whether the triplets by rows are the first one and the others, in this order.
+fn triplets_by_rows_are(
+    matrix: &CsrMatrix<i32>,
+    first: Triplet,
+    others: [Triplet; 2],
+) -> Result<bool, AllocError> {
+    let mut triplets = matrix.triplet_iter();
+    Ok(
+        triplets.next() == Some((first.0, first.1, &first.2))
+            && copies_by_rows_are(&triplets, others)?
+            && are_left_by_rows(&mut triplets, others),
+    )
 }
 
 #[test]
 fn triplets_by_rows(rt: HostRuntime) -> Result<(), Fail> {
     let matrix = csr(rt.alloc(), BY_ROWS)?;
-    let mut triplets = matrix.triplet_iter();
-    assert!(rt; triplets.next() == Some((0, 0, &1)));
-    let others = [(0, 2, 0), (1, 1, 4)];
-    expect_copies_by_rows(&rt, &triplets, others)?;
-    for (row, col, value) in others {
-        assert!(rt; triplets.next() == Some((row, col, &value)));
-    }
-    assert!(rt; triplets.next().is_none());
-    assert!(rt; triplets.next().is_none());
+    assert!(rt; triplets_by_rows_are(&matrix, (0, 0, 1), [(0, 2, 0), (1, 1, 4)])?);
     assert!(rt; one_by_rows(rt.alloc())?);
     Ok(())
 }
@@ -51,21 +66,31 @@ fn one_by_rows(alloc: Global) -> Result<bool, AllocError> {
     Ok(first == Some((0, 0, W64::new(1))) && ones.next().is_none())
 }
 
-// Compares what is left by columns, and a copy of it, with copies of the values.
-fn expect_copies_by_columns(
-    rt: &impl Abort,
+// Whether a copy of what is left by columns, and copies of the values, give these triplets and then end.
+fn copies_by_columns_are(
     triplets: &CscTripletIter<'_, i32>,
     want: [Triplet; 2],
-) -> Result<(), Fail> {
+) -> Result<bool, AllocError> {
     let mut copy = triplets.clone()?;
     let mut values = triplets.clone()?.cloned_values();
     for triplet in want {
         let copied = values.clone()?.next();
-        assert!(rt; copied == Some(triplet) && values.next() == Some(triplet));
-        assert!(rt; copy.next() == Some((triplet.0, triplet.1, &triplet.2)));
+        let same = copied == Some(triplet) && values.next() == Some(triplet);
+        if !same || copy.next() != Some((triplet.0, triplet.1, &triplet.2)) {
+            return Ok(false);
+        }
     }
-    assert!(rt; copy.next().is_none() && values.next().is_none());
-    Ok(())
+    Ok(copy.next().is_none() && values.next().is_none())
+}
+
+// Whether these triplets are left by columns, and `None` comes from then on.
+fn are_left_by_columns(triplets: &mut CscTripletIter<'_, i32>, want: [Triplet; 2]) -> bool {
+    for (row, col, value) in want {
+        if triplets.next() != Some((row, col, &value)) {
+            return false;
+        }
+    }
+    triplets.next().is_none() && triplets.next().is_none()
 }
 
 // The example and a second matrix by columns, the first triplet of each, and the others.
@@ -78,18 +103,24 @@ const BY_COLUMNS_IN_ORDER: [(Arrays<'static, i32>, Triplet, [Triplet; 2]); 2] = 
     ),
 ];
 
+// Whether the triplets by columns are the first one and the others, in this order.
+fn triplets_by_columns_are(
+    matrix: &CscMatrix<i32>,
+    first: Triplet,
+    others: [Triplet; 2],
+) -> Result<bool, AllocError> {
+    let mut triplets = matrix.triplet_iter();
+    Ok(
+        triplets.next() == Some((first.0, first.1, &first.2))
+            && copies_by_columns_are(&triplets, others)?
+            && are_left_by_columns(&mut triplets, others),
+    )
+}
+
 #[test]
 fn triplets_by_columns(rt: HostRuntime) -> Result<(), Fail> {
     for (arrays, first, others) in BY_COLUMNS_IN_ORDER {
-        let matrix = csc(rt.alloc(), arrays)?;
-        let mut triplets = matrix.triplet_iter();
-        assert!(rt; triplets.next() == Some((first.0, first.1, &first.2)));
-        expect_copies_by_columns(&rt, &triplets, others)?;
-        for (row, col, value) in others {
-            assert!(rt; triplets.next() == Some((row, col, &value)));
-        }
-        assert!(rt; triplets.next().is_none());
-        assert!(rt; triplets.next().is_none());
+        assert!(rt; triplets_by_columns_are(&csc(rt.alloc(), arrays)?, first, others)?);
     }
     assert!(rt; one_by_columns(rt.alloc())?);
     Ok(())
