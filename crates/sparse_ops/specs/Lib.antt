@@ -5,4 +5,3 @@ pub mod InnerProducts
 pub mod InnerUpdates
 pub mod InnerFactors
 pub mod ScalarProducts
-pub mod InnerLaneSets

@@ -2,7 +2,6 @@
 
 mod bits;
 mod factor;
-mod lane_sets;
 mod pattern;
 pub(crate) mod prealloc;
 mod product;
