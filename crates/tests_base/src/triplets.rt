@@ -131,10 +131,10 @@ fn an_iterator_is_copied_where_it_stands(alloc: Global) -> Result<bool, AllocErr
 
 fn values_are_lent_in_order(alloc: Global) -> Result<bool, AllocError> {
     let mut matrix = refilled(alloc)?;
-    let mut lent = matrix.triplet_iter_mut();
-    let first = lent.next() == Some((1, 2, &mut 5));
-    let second = lent.next() == Some((0, 1, &mut 7));
-    Ok(first && second && lent.next().is_none() && lent.next().is_none())
+    let mut borrowed = matrix.triplet_iter_mut();
+    let first = borrowed.next() == Some((1, 2, &mut 5));
+    let second = borrowed.next() == Some((0, 1, &mut 7));
+    Ok(first && second && borrowed.next().is_none() && borrowed.next().is_none())
 }
 
 #[test]

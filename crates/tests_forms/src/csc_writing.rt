@@ -98,7 +98,7 @@ fn fill_column(column: &mut CscColMut<'_, i32>) -> bool {
     same
 }
 
-// Writes into the last column, and answers whether it is the one wanted and no column is lent out of bounds.
+// Writes into the last column, and answers whether it is the one wanted and there is none out of bounds.
 fn fill_last_column(matrix: &mut CscMatrix<i32>) -> bool {
     let bounded = matrix.get_col_mut(3).is_none();
     let Some(mut column) = matrix.get_col_mut(2) else {

@@ -127,7 +127,7 @@ fn fill_row(row: &mut CsrRowMut<'_, i32>) -> bool {
     same
 }
 
-// Writes into the first row, and answers whether it is the one wanted and no row is lent out of bounds.
+// Writes into the first row, and answers whether it is the one wanted and there is none out of bounds.
 fn fill_first_row(matrix: &mut CsrMatrix<i32>) -> bool {
     let bounded = matrix.get_row_mut(2).is_none();
     let Some(mut row) = matrix.get_row_mut(0) else {
