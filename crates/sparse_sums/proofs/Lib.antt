@@ -1,5 +1,4 @@
 pub mod Merging
-pub mod UnionCounts
 pub mod UnionLanes
 pub mod Adding
 pub mod SumLanes

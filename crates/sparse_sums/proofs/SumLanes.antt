@@ -79,23 +79,6 @@ module _ (R : CommRing) {T : Type 0} (f : T → R.Carrier) (z : T) (negate : Boo
   abbrev Below : ℕ → List ℕ → List ℕ → List T → Type 0
   Below n offsets indices values = IsSumBelow R f negate a b n offsets indices values
 
-  -- no lane yet
-  pub sum_none : Below 0 (0 ∷ []) [] []
-  sum_none = record {
-    built = record {
-      valid = record {
-        count = refl;
-        first = refl;
-        last = refl;
-        lanes =
-            λ i lt. absurd (omega arith);
-      };
-      places = λ i j lt. absurd (omega arith);
-    };
-    count = refl;
-    values_are = λ i j lt. absurd (omega arith);
-  }
-
   pub sum_more : (n : ℕ) (offsets offsets' indices indices' : List ℕ) (values values' : List T)
       → n < a.pattern.major_dim → Below n offsets indices values
       → GainsEntries R f indices indices' values values'

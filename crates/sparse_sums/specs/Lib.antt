@@ -1,6 +1,5 @@
 pub mod PatternSums
 pub mod InnerMerging
-pub mod InnerUnions
 pub mod InnerSigns
 pub mod InnerAdding
 pub mod InnerPlacing

@@ -5,8 +5,8 @@ ghost use Rattle.sparse_algebra.specs.Plain.{plain_sum, plain_difference};
 ghost use Rattle.sparse_cs.specs.PlainOfLanes.{plain_of_rows, plain_of_cols};
 ghost use Rattle.sparse_sums.specs.InnerSigns.{plain_signed};
 
-use crate::count::union_offsets;
 use crate::merge::add_lanes;
+use crate::room::union_room;
 use sparse_algebra::scalar::Ring;
 use sparse_cs::CsMatrix;
 use sparse_forms::csc::CscMatrix;
@@ -19,9 +19,9 @@ use std::alloc::{AllocError, Global};
 /// The result stores the union of the places, even where a sum is zero. Both matrices must have the
 /// same sizes.
 ///
-/// The places are counted first, so that memory is allocated once, for exactly as many as the
-/// result has; then one merge of two sorted rows for each row. Linear in places and rows. Fails
-/// only if an allocation fails.
+/// One merge of two sorted rows for each row, linear in places and rows. Memory is reserved by an
+/// estimate from a sample of the rows, and grows if the result has more places. Fails only if an
+/// allocation fails.
 ///
 /// # Examples
 ///
@@ -81,8 +81,8 @@ pub fn sub_csr<T: Ring>(
 /// The result stores the union of the places, even where a sum is zero. Both matrices must have the
 /// same sizes.
 ///
-/// The places are counted first, so that memory is allocated once, for exactly as many as the
-/// result has; then one merge of two sorted columns for each column. Linear in places and columns.
+/// One merge of two sorted columns for each column, linear in places and columns. Memory is
+/// reserved by an estimate from a sample of the columns, and grows if the result has more places.
 /// Fails only if an allocation fails.
 pub fn add_csc<T: Ring>(
     alloc: Global,
@@ -132,11 +132,12 @@ fn merge<T: Ring, const NEGATE: bool>(
 {
     let (a_offsets, a_indices, a_values) = a.cs_data();
     let (b_offsets, b_indices, b_values) = b.cs_data();
-    let offsets = union_offsets(alloc, a.pattern(), b.pattern())?;
     let lanes = a.pattern().major_dim();
-    let count = offsets[lanes];
-    let mut indices = Vec::with_capacity(alloc, count)?;
-    let mut values = Vec::with_capacity(alloc, count)?;
+    let room = union_room(a.pattern(), b.pattern());
+    let mut offsets = Vec::with_capacity(alloc, a_offsets.len())?;
+    let mut indices = Vec::with_capacity(alloc, room)?;
+    let mut values = Vec::with_capacity(alloc, room)?;
+    offsets.push(0)?;
     for i in 0..lanes {
         let (a_begin, a_end) = (a_offsets[i], a_offsets[i + 1]);
         let (b_begin, b_end) = (b_offsets[i], b_offsets[i + 1]);
@@ -147,7 +148,8 @@ fn merge<T: Ring, const NEGATE: bool>(
             &b_values[b_begin..b_end],
             &mut indices,
             &mut values,
-        );
+        )?;
+        offsets.push(indices.len())?;
     }
     let pattern = SparsityPattern::from_offset_and_indices_unchecked(
         lanes,

@@ -2,11 +2,11 @@
 #![tactic(auto)]
 
 mod add;
-mod count;
 mod in_order;
 mod merge;
 mod pattern;
 mod prealloc;
+mod room;
 mod scale;
 
 pub use add::{add_csc, add_csr, sub_csc, sub_csr};

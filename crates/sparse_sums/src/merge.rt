@@ -1,13 +1,13 @@
 //! Two lanes of entries, merged into one.
 
-ghost use Rattle.std.specs.Prelude.{◌≡◌, ℕ, ◌+◌, ◌-◌, ◌<◌, ◌≤◌, ◌⊎◌, ◌++◌, length, vec_len, vec_capacity, Contains};
+ghost use Rattle.std.specs.Prelude.{◌≡◌, ℕ, ◌+◌, ◌-◌, ◌<◌, ◌≤◌, ◌⊎◌, ◌++◌, length, vec_len, vec_capacity, Contains, OnOk};
 ghost use Rattle.std.specs.List.Sorted.{IsStrictlyIncreasing};
 ghost use Rattle.sparse_cs.specs.InnerRows.{lane_value};
 ghost use Rattle.sparse_sums.specs.InnerSigns.{signed};
-ghost use Rattle.sparse_sums.specs.InnerUnions.{HasUnionRoom};
 ghost use Rattle.sparse_sums.specs.InnerAdding.{GainsValues, GainsEntries, IsAdding};
 
 use sparse_algebra::scalar::Ring;
+use std::alloc::AllocError;
 
 // The value, negated where the parameter says so.
 fn with_sign<T: Ring, const NEGATE: bool>(value: T) -> T
@@ -49,25 +49,25 @@ pub(crate) fn add_lanes<T: Ring, const NEGATE: bool>(
     b_values: &[T],
     indices: &mut Vec<usize>,
     values: &mut Vec<T>,
-)
+) -> Result<(), AllocError>
     requires a_count { length a_values.now ≡ length a.now }
     requires b_count { length b_values.now ≡ length b.now }
     requires a_rising { IsStrictlyIncreasing a.now }
     requires b_rising { IsStrictlyIncreasing b.now }
     requires count { vec_len values.old ≡ vec_len indices.old }
-    requires room { HasUnionRoom a.now b.now (vec_len indices.old) (vec_capacity indices.old) }
-    requires values_room { vec_capacity values.old ≡ vec_capacity indices.old }
-    ensures capacity { vec_capacity indices.new ≡ vec_capacity indices.old }
-    ensures values_capacity { vec_capacity values.new ≡ vec_capacity values.old }
-    ensures gained { GainsEntries T.ring T.value indices.old.items indices.new.items
+    ensures gained { OnOk result (GainsEntries T.ring T.value indices.old.items indices.new.items
         values.old.items values.new.items
         (λ j. Contains a.now j ⊎ Contains b.now j)
         (λ j. T.ring.add (lane_value T.ring T.value a.now a_values.now j)
-        (lane_value T.ring (λ x. signed T.ring NEGATE (T.value x)) b.now b_values.now j)) }
+        (lane_value T.ring (λ x. signed T.ring NEGATE (T.value x)) b.now b_values.now j))) }
 {
+    let most = a.len() + b.len();
+    indices.reserve(most)?;
+    values.reserve(most)?;
     let (p, q) = add_fronts::<T, NEGATE>(a, a_values, b, b_values, indices, values);
     push_rest::<T, false>(&a[p..], &a_values[p..], indices, values);
     push_rest::<T, NEGATE>(&b[q..], &b_values[q..], indices, values);
+    Ok(())
 }
 
 // Returns the value at the smaller of two indices, or the sum of both values where these are equal.
@@ -102,15 +102,15 @@ fn add_fronts<T: Ring, const NEGATE: bool>(
     requires a_rising { IsStrictlyIncreasing a.now }
     requires b_rising { IsStrictlyIncreasing b.now }
     requires count { vec_len values.old ≡ vec_len indices.old }
-    requires room { HasUnionRoom a.now b.now (vec_len indices.old) (vec_capacity indices.old) }
-    requires values_room { vec_capacity values.old ≡ vec_capacity indices.old }
+    requires room { vec_len indices.old + (length a.now + length b.now) ≤ vec_capacity indices.old }
+    requires values_room { vec_len values.old + (length a.now + length b.now)
+        ≤ vec_capacity values.old }
     ensures capacity { vec_capacity indices.new ≡ vec_capacity indices.old }
     ensures values_capacity { vec_capacity values.new ≡ vec_capacity values.old }
     ensures count { vec_len values.new ≡ vec_len indices.new }
     ensures first { result.0 ≤ length a.now }
     ensures second { result.1 ≤ length b.now }
-    ensures room { vec_len indices.new + (length a.now - result.0) + (length b.now - result.1)
-        ≤ vec_capacity indices.old }
+    ensures len { vec_len indices.new ≤ vec_len indices.old + (result.0 + result.1) }
     ensures end { (result.0 ≡ length a.now) ⊎ (result.1 ≡ length b.now) }
     ensures added { IsAdding T.ring T.value (λ x. signed T.ring NEGATE (T.value x))
         indices.old.items indices.new.items values.old.items values.new.items
@@ -118,8 +118,6 @@ fn add_fronts<T: Ring, const NEGATE: bool>(
 {
     let (mut p, mut q) = (0, 0);
     while p < a.len() && q < b.len() {
-        // There is room: what is merged so far lacks an index of the union.
-        prove!(indices.len() < indices.capacity());
         let (j, k) = (a[p], b[q]);
         let value = with_sign::<T, NEGATE>(b_values[q]);
         indices.push_reserved(j.min(k));

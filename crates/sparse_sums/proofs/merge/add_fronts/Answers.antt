@@ -1,54 +1,8 @@
-use Rattle.std.proofs.Common.{◌≡◌, ◌+◌, ◌<◌, inl, inr, not, eqb, length, length-append, get_or}
-use Rattle.std.proofs.Common.{vec_capacity, refl, ap, ◌∙◌, arith}
+use Rattle.std.proofs.Common.{◌≡◌, ◌<◌, not, eqb, get_or, refl, ap, ◌∙◌, arith}
 use Rattle.sparse_sums.specs.InnerSigns.{signed}
 use Rattle.sparse_sums.proofs.Adding.{none_added, adding_first, adding_second, adding_both}
-use Rattle.sparse_sums.proofs.UnionCounts.{room_left, rest_fits}
 use Rattle.sparse_sums.proofs.merge.add_fronts.Goals as goal
 use Rattle.sparse_sums.proofs.merge.add_fronts.Goals.{then-j-k, else-j-k}
-
-pub prove-unreachable-requires : goal.prove-unreachable-requires
-prove-unreachable-requires g c =
-    let m = c.loop-p.invariant.added.indices in
-    let room = c.requires.room in
-    let left = room_left c.args.a.now c.args.b.now m.lane room.lane c.loop-p.p c.loop-p.q m.merged
-    room.union (omega arith) in
-    let pushed : length c.loop-p.indices.items ≡ length c.args.indices.now.items + length m.lane =
-    ap length m.pushed ∙ length-append c.args.indices.now.items m.lane in
-    omega (
-      arith,
-      left,
-      pushed,
-      room.fits,
-      c.loop-p.indices.ok.0,
-      c.args.indices.now.ok.0,
-      c.loop-p.invariant.capacity,
-    )
-
-pub returns-else-q-b-clause-room : goal.returns-else-q-b-clause-room
-returns-else-q-b-clause-room g c =
-    let inv = c.loop-p.invariant in
-    let room = rw c.args.indices.now.ok.0 at c.requires.room in
-    omega (
-      arith,
-      c.loop-p.indices.ok.0,
-      rest_fits c.args.indices.now.items c.loop-p.indices.items
-          c.args.a.now c.args.b.now c.loop-p.p c.loop-p.q (vec_capacity c.args.indices.now)
-          c.requires.a_rising c.requires.b_rising inv.first inv.second (inr (omega arith))
-          inv.added.indices room,
-    )
-
-pub returns-after-loop-p-clause-room : goal.returns-after-loop-p-clause-room
-returns-after-loop-p-clause-room g c =
-    let inv = c.loop-p.invariant in
-    let room = rw c.args.indices.now.ok.0 at c.requires.room in
-    omega (
-      arith,
-      c.loop-p.indices.ok.0,
-      rest_fits c.args.indices.now.items c.loop-p.indices.items
-          c.args.a.now c.args.b.now c.loop-p.p c.loop-p.q (vec_capacity c.args.indices.now)
-          c.requires.a_rising c.requires.b_rising inv.first inv.second (inl (omega arith))
-          inv.added.indices room,
-    )
 
 pub loop-p-init : goal.loop-p-init
 loop-p-init g c =
@@ -60,6 +14,7 @@ loop-p-init g c =
       second = omega arith;
       capacity = refl;
       values_capacity = refl;
+      count = omega arith;
       values_count = c.requires.count;
       added = none_added R f h c.args.indices.now.items c.args.values.now.items c.args.a.now
           c.args.a_values.now c.args.b.now c.args.b_values.now;
@@ -94,6 +49,7 @@ loop-p-preserved-then-k-j g c =
             second = omega arith;
             capacity = index.capacity ∙ inv.capacity;
             values_capacity = value.capacity ∙ inv.values_capacity;
+            count = omega (arith, index.len, inv.count, w.p-is);
             values_count = omega (arith, index.len, value.len, inv.values_count);
             added = rw (index.items, value.items, w.p-is) next;
           }
@@ -111,6 +67,7 @@ loop-p-preserved-then-k-j g c =
             second = omega arith;
             capacity = index.capacity ∙ inv.capacity;
             values_capacity = value.capacity ∙ inv.values_capacity;
+            count = omega (arith, index.len, inv.count, w.p-is);
             values_count = omega (arith, index.len, value.len, inv.values_count);
             added = rw (index.items, value.items, w.p-is) next;
           }
@@ -144,6 +101,7 @@ loop-p-preserved g c =
             second = omega arith;
             capacity = index.capacity ∙ inv.capacity;
             values_capacity = value.capacity ∙ inv.values_capacity;
+            count = omega (arith, index.len, inv.count, w.p-is);
             values_count = omega (arith, index.len, value.len, inv.values_count);
             added = rw (index.items, value.items, w.p-is) next;
           }

@@ -9,6 +9,7 @@ invariant-loop-p g l = record {
   second : l.q ≤ length l.b;
   capacity : vec_capacity l.indices ≡ vec_capacity l.initial.indices;
   values_capacity : vec_capacity l.values ≡ vec_capacity l.initial.values;
+  count : vec_len l.indices ≤ vec_len l.initial.indices + (l.p + l.q);
   values_count : vec_len l.values ≡ vec_len l.indices;
   added : IsAdding g.T.Ring.ring g.T.Ring.value
       (λ x. signed g.T.Ring.ring (not (eqb g.row.NEGATE 0)) (g.T.Ring.value x))

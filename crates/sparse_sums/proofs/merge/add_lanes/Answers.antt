@@ -12,19 +12,28 @@ push_rest-requires-clause-room g c = rw take_rest
     (omega (
       arith,
       length-drop c.add_fronts-p.result.0 c.args.a.now,
-      c.add_fronts-p.ensures.room,
+      c.add_fronts-p.ensures.len,
       c.add_fronts-p.ensures.capacity,
+      c.in_ok-reserve.ensures.ok,
+      c.in_ok-reserve-2.ensures.ok,
+      c.reserve.ensures.len,
+      c.reserve-2.ensures.len,
+      c.requires.count,
     ))
 
 pub push_rest-requires-clause-values_room : goal.push_rest-requires-clause-values_room
-push_rest-requires-clause-values_room g c =
-    rw take_rest
+push_rest-requires-clause-values_room g c = rw take_rest
     (omega (
       arith,
       length-drop c.add_fronts-p.result.0 c.args.a.now,
-      c.add_fronts-p.ensures.room,
+      c.add_fronts-p.ensures.len,
       c.add_fronts-p.ensures.count,
       c.add_fronts-p.ensures.values_capacity,
+      c.in_ok-reserve.ensures.ok,
+      c.in_ok-reserve-2.ensures.ok,
+      c.reserve.ensures.len,
+      c.reserve-2.ensures.len,
+      c.requires.count,
     ))
 
 pub push_rest-requires-2-clause-room : goal.push_rest-requires-2-clause-room
@@ -33,32 +42,39 @@ push_rest-requires-2-clause-room g c = rw take_rest
       arith,
       length-drop c.add_fronts-p.result.1 c.args.b.now,
       ap length (take_rest c.args.a.now c.add_fronts-p.result.0),
-      length-drop c.add_fronts-p.result.0
-          c.args.a.now,
-      c.add_fronts-p.ensures.room,
+      length-drop c.add_fronts-p.result.0 c.args.a.now,
+      c.add_fronts-p.ensures.len,
       c.add_fronts-p.ensures.capacity,
       c.push_rest.ensures.len,
       c.push_rest.ensures.capacity,
+      c.in_ok-reserve.ensures.ok,
+      c.in_ok-reserve-2.ensures.ok,
+      c.reserve.ensures.len,
+      c.reserve-2.ensures.len,
+      c.requires.count,
     ))
 
 pub push_rest-requires-2-clause-values_room : goal.push_rest-requires-2-clause-values_room
-push_rest-requires-2-clause-values_room g c =
-    rw take_rest
+push_rest-requires-2-clause-values_room g c = rw take_rest
     (omega (
       arith,
       length-drop c.add_fronts-p.result.1 c.args.b.now,
       ap length (take_rest c.args.a.now c.add_fronts-p.result.0),
-      length-drop c.add_fronts-p.result.0
-          c.args.a.now,
-      c.add_fronts-p.ensures.room,
+      length-drop c.add_fronts-p.result.0 c.args.a.now,
+      c.add_fronts-p.ensures.len,
       c.add_fronts-p.ensures.count,
       c.add_fronts-p.ensures.values_capacity,
       c.push_rest.ensures.values_len,
       c.push_rest.ensures.values_capacity,
+      c.in_ok-reserve.ensures.ok,
+      c.in_ok-reserve-2.ensures.ok,
+      c.reserve.ensures.len,
+      c.reserve-2.ensures.len,
+      c.requires.count,
     ))
 
-pub returns-clause-gained : goal.returns-clause-gained
-returns-clause-gained g c =
+pub returns : goal.returns
+returns g c =
     let R = g.T.Ring.ring in
     let f = g.T.Ring.value in
     let h = λ (x : g.row.T.Denot). signed R (not (eqb g.row.NEGATE 0)) (f x) in
@@ -71,6 +87,7 @@ returns-clause-gained g c =
     let now = c.add_fronts-p.new.indices.items in
     let ws = c.add_fronts-p.new.values.items in
     let m = c.add_fronts-p.ensures in
+    let added = rw (c.reserve.ensures.items, c.reserve-2.ensures.items) at m.added in
     let p = c.add_fronts-p.result.0 in
     let q = c.add_fronts-p.result.1 in
     let mid = c.push_rest.new.values.items in
@@ -83,7 +100,9 @@ returns-clause-gained g c =
     let more : GainsValues R f h mid new (drop q bv) = subst (λ l. GainsValues R f h mid new l)
     (take_rest bv q) c.push_rest-2.ensures.values in
     let all = rest_added R f h old us a av b bv c.requires.a_rising c.requires.b_rising
-    c.requires.a_count c.requires.b_count now ws mid new p q m.first m.second m.end m.added
+    c.requires.a_count c.requires.b_count now ws mid new p q m.first m.second m.end added
     front more in
-    subst (λ l. GainsEntries R f old l us new (λ j. Contains a j ⊎ Contains b j)
-    (λ j. R.add (lane_value R f a av j) (lane_value R h b bv j))) (sym second) all
+    record {
+      gained = subst (λ l. GainsEntries R f old l us new (λ j. Contains a j ⊎ Contains b j)
+          (λ j. R.add (lane_value R f a av j) (lane_value R h b bv j))) (sym second) all;
+    }

@@ -1,0 +1,54 @@
+//! How many places are reserved for a sum. Only the use of memory depends on it.
+
+ghost use Rattle.std.specs.Prelude.{◌≡◌, ◌+◌, ◌≤◌, length};
+
+use sparse_pattern::pattern::SparsityPattern;
+
+// How many pairs of lanes are compared.
+const SAMPLED_LANES: usize = 64;
+
+// Returns an estimate of how many places two patterns have together, from some of their lanes.
+//
+// It is the number of both without seven eighths of the places that they seem to have in common.
+// Patterns with few lanes get the number of both.
+pub(crate) fn union_room(a: &SparsityPattern, b: &SparsityPattern) -> usize
+    requires lanes { a.now.major_dim ≡ b.now.major_dim }
+    ensures most { result ≤ length a.now.indices + length b.now.indices }
+{
+    let both = a.minor_indices().len() + b.minor_indices().len();
+    let step = a.major_dim() / SAMPLED_LANES;
+    if step == 0 {
+        return both;
+    }
+    let (mut seen, mut shared): (usize, usize) = (0, 0);
+    for k in 0..SAMPLED_LANES {
+        let (lane, other) = (a.lane(k * step), b.lane(k * step));
+        seen = seen.saturating_add(lane.len() + other.len());
+        shared = shared.saturating_add(shared_count(lane, other));
+    }
+    if seen == 0 {
+        return both;
+    }
+    let spared = (both / seen).saturating_mul(shared);
+    both.saturating_sub(spared - spared / 8)
+}
+
+// Returns the number of indices that both lanes have. No branch depends on an index.
+fn shared_count(a: &[usize], b: &[usize]) -> usize
+    ensures { result ≤ length a.now }
+{
+    let (mut p, mut q, mut shared) = (0, 0, 0);
+    while p < a.len() && q < b.len() {
+        let (j, k) = (a[p], b[q]);
+        if j == k {
+            shared += 1;
+        }
+        if j <= k {
+            p += 1;
+        }
+        if k <= j {
+            q += 1;
+        }
+    }
+    shared
+}
