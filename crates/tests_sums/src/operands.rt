@@ -1,5 +1,6 @@
 //! Operands, and the texts of operation errors.
 
+use OperationErrorKind::{InvalidPattern, OutOfMemory, Singular};
 use sparse_op::{Op, OperationError, OperationErrorKind};
 use std::alloc::{AllocError, Global};
 use std::test::Fail;
@@ -32,53 +33,62 @@ fn says(
     error: &OperationError,
     kind: OperationErrorKind,
     text: &str,
-) -> Result<bool, Fail> {
+) -> Result<bool, AllocError> {
     let shown = format!(in alloc; "{error}")?;
     Ok(*error.kind() == kind && shown.as_str() == text)
 }
 
-fn texts_are_right(alloc: Global) -> Result<bool, Fail> {
+// Whether the errors of a pattern have their texts.
+fn pattern_texts_are_right(alloc: Global) -> Result<bool, AllocError> {
     let sum =
         "Sparse matrix operation error: InvalidPattern Message: Found entry in `op(a)` that is not present in `c`.";
     let product =
         "Sparse matrix operation error: InvalidPattern Message: Found unexpected entry that is not present in `c`.";
-    let diagonal =
-        "Sparse matrix operation error: Singular Message: Matrix contains at least one diagonal entry that is zero.";
-    let scalar = "Sparse matrix operation error: Singular Message: Scalar has no inverse.";
-    let memory = "Sparse matrix operation error: OutOfMemory Message: Out of memory.";
     Ok(
         says(
             alloc,
             &OperationError::of_sum_pattern(),
-            OperationErrorKind::InvalidPattern,
+            InvalidPattern,
             sum,
         )? && says(
             alloc,
             &OperationError::of_product_pattern(),
-            OperationErrorKind::InvalidPattern,
+            InvalidPattern,
             product,
-        )? && says(
-            alloc,
-            &OperationError::of_singular_diagonal(),
-            OperationErrorKind::Singular,
-            diagonal,
-        )? && says(
-            alloc,
-            &OperationError::of_singular_scalar(),
-            OperationErrorKind::Singular,
-            scalar,
-        )? && says(
-            alloc,
-            &OperationError::from(AllocError),
-            OperationErrorKind::OutOfMemory,
-            memory,
         )?,
     )
 }
 
+// Whether the errors of a singular matrix or scalar have their texts.
+fn singular_texts_are_right(alloc: Global) -> Result<bool, AllocError> {
+    let diagonal =
+        "Sparse matrix operation error: Singular Message: Matrix contains at least one diagonal entry that is zero.";
+    let scalar = "Sparse matrix operation error: Singular Message: Scalar has no inverse.";
+    Ok(
+        says(
+            alloc,
+            &OperationError::of_singular_diagonal(),
+            Singular,
+            diagonal,
+        )? && says(
+            alloc,
+            &OperationError::of_singular_scalar(),
+            Singular,
+            scalar,
+        )?,
+    )
+}
+
+// Whether the error of a refused allocation has its text.
+fn memory_text_is_right(alloc: Global) -> Result<bool, AllocError> {
+    let text = "Sparse matrix operation error: OutOfMemory Message: Out of memory.";
+    says(alloc, &OperationError::from(AllocError), OutOfMemory, text)
+}
+
 #[test]
 fn texts(rt: HostRuntime) -> Result<(), Fail> {
-    let right = texts_are_right(rt.alloc())?;
-    assert!(rt; right);
+    assert!(rt; pattern_texts_are_right(rt.alloc())?);
+    assert!(rt; singular_texts_are_right(rt.alloc())?);
+    assert!(rt; memory_text_is_right(rt.alloc())?);
     Ok(())
 }
