@@ -66,14 +66,6 @@ climbed_up number marks parents start n = climbs_of (map number marks) (map numb
 abbrev pub AreBelowMarks : List ℕ → List ℕ → Type 0
 AreBelowMarks counts marks = (k : ℕ) → slice_index counts k ≤ slice_index marks k
 
--- the nodes list the columns of n rows, row after row, each column once a row; and the rows of the
--- nodes
-pub record AreRows (n : ℕ) (nodes rows : List ℕ) : Type 0 where
-  pub offsets : List ℕ
-  pub size : length offsets ≡ n + 1
-  pub lists : AreRowLists (square_of offsets nodes)
-  pub rows_are : (i q : ℕ) → IsInLane (square_of offsets nodes) i q → slice_index rows q ≡ i
-
 -- the number of each position below p stands at the destination of that position
 abbrev pub ArePlacedBelow : List ℕ → List ℕ → List ℕ → ℕ → Type 0
 ArePlacedBelow keys vs ws p = (q : ℕ) → q < p → slice_index ws (slot_of keys q) ≡ slice_index vs q

@@ -5,3 +5,4 @@ pub mod InnerFilled
 pub mod InnerClimbs
 pub mod InnerRowLists
 pub mod InnerPaths
+pub mod InnerChains

@@ -13,9 +13,11 @@ use std::marker::Model;
 
 mod climbs;
 mod columns;
+mod entries;
 
 use climbs::climb_rows;
-use columns::columns_of_paths;
+use columns::columns_on_chains;
+use entries::entries_by_columns;
 
 // The largest number of columns for which the scratch arrays use 32-bit numbers.
 const MAX_32_BITS: usize = u32::MAX as usize;
@@ -139,8 +141,9 @@ fn fill_of<C: Count>(
     ensures no_more { (fill : List (ℕ × ℕ)) → ListsFill (UpperBase pattern.now) fill
         → steps.new ≤ steps.old + nnz_of pattern.now + length fill }
 {
-    let (parents, paths, counts) = climb_rows::<C>(alloc, pattern, steps)?;
-    let l_pattern = columns_of_paths(alloc, &parents, &paths, &counts)?;
+    let (chains, row_entries) = climb_rows::<C>(alloc, pattern, steps)?;
+    let entries = entries_by_columns(alloc, &row_entries, pattern.major_dim())?;
+    let l_pattern = columns_on_chains(alloc, &chains, &entries)?;
     Ok(l_pattern)
 }
 
