@@ -4,6 +4,13 @@ mod DistinctLists
 mod UnmarkedNodes
 mod NextNodes
 mod NodeCounts
+mod EntryWrites
+mod EntryLows
+mod ChainSteps
+mod ChainEnds
+mod ChainJoins
+mod EntrySteps
+mod EntryRows
 mod ClimbSteps
 mod ClimbedRows
 mod RowPositions

@@ -6,3 +6,5 @@ pub mod InnerClimbs
 pub mod InnerRowLists
 pub mod InnerPaths
 pub mod InnerChains
+pub mod InnerTrees
+pub mod InnerEntries
