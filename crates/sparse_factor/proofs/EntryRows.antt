@@ -86,14 +86,14 @@ module _ (p : Raw) (first s : Climb) (i : ℕ) (is : IsClimbed p first s i i 0)
   abbrev t : Tree
   t = tree_of s i is.parent
 
-  not_entered : slice_index s.marks (chain_at s i) ≢ i + 1
+  pub not_entered : slice_index s.marks (chain_at s i) ≢ i + 1
   not_entered m =
       let l = is.entered.listed (chain_at s i) m in
       let at = slice_index s.positions (chain_at s i) in
       let e = is.entered.below at l.0 l.1 in
       omega (arith, e, l.2, own, is.tree.tree.low (slice_index s.nodes at))
 
-  inside : chain_at s i < p.major_dim
+  pub inside : chain_at s i < p.major_dim
   inside = omega (arith, own, is.row)
 
   abbrev pub now : Climb

@@ -1,9 +1,13 @@
 -- Entries read and written, and the rows and nodes that they stand for.
 use Rattle.std.proofs.Common.{◌≡◌, ◌≢◌, ℕ, ◌<◌, List, length, map, get_or, set, slice_index}
 use Rattle.std.proofs.Common.{refl, sym, ap, ◌∙◌}
-use Rattle.std.proofs.lemmas.List.{get_or-map, map-set, set-get_or}
+use Rattle.std.proofs.lemmas.List.{length-map, get_or-map, map-set, set-get_or}
 use Rattle.sparse_factor.specs.InnerChains.{nodes_in, rows_in}
 use Rattle.sparse_factor.specs.InnerEntries.{IsNextNode}
+
+pub length-nodes : {C : Type 0} (number : C → ℕ) (xs : List (C × C))
+    → length (nodes_in number xs) ≡ length xs
+length-nodes number xs = length-map xs (λ x. number x.1)
 
 module _ {C : Type 0} (number : C → ℕ) (xs : List (C × C)) (k : ℕ) where
   pub node_read : (e : C × C) → k < length xs

@@ -10,6 +10,7 @@ mod ChainSteps
 mod ChainEnds
 mod ChainJoins
 mod EntrySteps
+mod EntryClimbs
 mod EntryRows
 mod ClimbSteps
 mod ClimbedRows
@@ -18,6 +19,9 @@ mod GrownRows
 mod TurnedRows
 pub mod FillCounts
 mod FilledRows
+mod EntryDone
+mod EntryStarts
+mod EntryAll
 mod AllRows
 mod FactorLaws
 mod PathNodes

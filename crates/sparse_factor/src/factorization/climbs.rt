@@ -8,7 +8,7 @@ ghost use Rattle.sparse_factor.specs.InnerFilled.{Filled};
 ghost use Rattle.sparse_factor.specs.InnerClimbs.{unmarked};
 ghost use Rattle.sparse_factor.specs.InnerRowLists.{AreRows, square_of};
 ghost use Rattle.sparse_factor.specs.InnerChains.{nodes_in, rows_in, AreEntries, AreRowsAbove};
-ghost use Rattle.sparse_factor.specs.InnerEntries.{Climb, climb_of, IsVisited, IsClimbed, IsNextNode};
+ghost use Rattle.sparse_factor.specs.InnerEntries.{Climb, climb_of, IsVisited, IsBase, IsClimbed, AreClimbed, IsNextNode};
 
 use sparse_base::steps::Steps;
 use sparse_counting::Count;
@@ -96,7 +96,24 @@ fn climb_row<C: Count>(
     positions: &mut [usize],
     entries: &mut Vec<Entry<C>>,
     steps: &mut Steps,
-) {
+)
+    requires width { length chains.old < C.limit }
+    requires row { row < length chains.old }
+    requires next_count { length nexts.old ≡ length chains.old }
+    requires mark_count { length marks.old ≡ length chains.old }
+    requires position_count { length positions.old ≡ length chains.old }
+    requires climbed { (p : Raw) × IsBase p starts.now row
+        × AreClimbed p (climb_of C.number chains.old nexts.old marks.old positions.old
+        entries.old.items) row }
+    requires room { vec_len entries.old + row + 1 ≤ vec_capacity entries.old }
+    ensures climbed { (p : Raw) → IsBase p starts.now row
+        → AreClimbed p (climb_of C.number chains.old nexts.old marks.old positions.old
+        entries.old.items) row
+        → AreClimbed p (climb_of C.number chains.new nexts.new marks.new positions.new
+        entries.new.items) (row + 1) }
+    ensures counted { steps.new + length entries.old.items
+        ≡ steps.old + length starts.now + length entries.new.items }
+{
     let mut is_stored = false;
     for start in starts {
         steps.tick();
@@ -106,9 +123,13 @@ fn climb_row<C: Count>(
             is_stored = true;
         }
     }
-    if is_stored && chains[row].get() == row {
-        enter_chain(row, row, row, marks, positions, entries, steps);
+    if !is_stored {
+        return;
     }
+    if chains[row].get() != row {
+        return;
+    }
+    enter_chain(row, row, row, marks, positions, entries, steps);
 }
 
 // Climbs from `start` to the first chain that the row has entered already, or to the row itself.
@@ -122,7 +143,11 @@ fn climb<C: Count>(
     entries: &mut Vec<Entry<C>>,
     steps: &mut Steps,
 )
-    requires width { length marks.old < C.limit }
+    requires width { length chains.old < C.limit }
+    requires row { row < length chains.old }
+    requires next_count { length nexts.old ≡ length chains.old }
+    requires mark_count { length marks.old ≡ length chains.old }
+    requires position_count { length positions.old ≡ length chains.old }
     requires start { start < row }
     requires climbed { (p : Raw) × (first : Climb)
         × IsClimbed p first (climb_of C.number chains.old nexts.old marks.old positions.old
@@ -150,6 +175,7 @@ fn climb<C: Count>(
     let mut node = start;
     while node != row {
         let chain = chains[node].get();
+        prove!(chain <= node);
         if marks[chain].get() == row + 1 {
             lower_entry(entries, positions[chain], node);
             return;

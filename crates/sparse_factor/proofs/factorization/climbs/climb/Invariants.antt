@@ -17,6 +17,7 @@ invariant-loop-node g l =
     record {
       climbing : (p : Raw) (first : Climb) → IsClimbed p first old l.row l.row 0
           → Filled (UpperBase p) l.row l.start → IsClimbing p first now l.row l.node;
+      within : l.node ≤ l.row;
       kept : (j : ℕ) → IsVisited old l.row j → IsVisited now l.row j;
       started : IsVisited now l.row l.start ⊎ (l.node ≡ l.start);
       room : vec_len l.entries + unmarked (l.row + 1) (l.row + 1) (map f l.marks)
