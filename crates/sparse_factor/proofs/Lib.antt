@@ -21,6 +21,7 @@ pub mod FillCounts
 mod FilledRows
 mod EntryDone
 mod EntryStarts
+mod EntryEnds
 mod EntryAll
 mod AllRows
 mod FactorLaws

@@ -12,9 +12,6 @@ use Rattle.sparse_factor.proofs.EntrySteps.{IsClimbing}
 use Rattle.sparse_factor.proofs.EntryWrites.{length-nodes}
 use Rattle.sparse_factor.proofs.EntryClimbs.{chain_read, climb_begins, stepped, lowered, climb_done}
 use Rattle.sparse_factor.proofs.EntryClimbs.{chain_low, entry_inside}
-use Rattle.sparse_factor.proofs.EntryRows.{row_entered}
-use Rattle.sparse_factor.proofs.EntryStarts.{more_started}
-use Rattle.sparse_factor.proofs.EntryAll.{all_rows}
 use Rattle.sparse_factor.proofs.factorization.climbs.climb.Goals as goal
 
 pub loop-node-init : goal.loop-node-init
