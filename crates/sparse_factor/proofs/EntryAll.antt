@@ -22,7 +22,7 @@ module _ (p : Raw) (chains nexts marks positions : List ℕ) (size : length chai
     (own : (k : ℕ) → k < p.major_dim → slice_index chains k ≡ k)
     (no_nexts : nexts ≡ replicate p.major_dim 0) (no_marks : marks ≡ replicate p.major_dim 0)
     (position_count : length positions ≡ p.major_dim) where
-  abbrev none : Climb
+  abbrev pub none : Climb
   none = record {
     chains = chains;
     nexts = nexts;
@@ -105,7 +105,7 @@ module _ (p : Raw) (s : Climb) (i : ℕ) (end : i ≡ p.major_dim) (are : AreCli
   row_below : (q k : ℕ) → IsPlace d q k → q < p.major_dim
   row_below q k h = omega (arith, h.in_lane.lane, end)
 
-  pub all_entries : AreEntries s.chains square
+  all_entries : AreEntries s.chains square
   all_entries = carry (AreEntries s.chains) record {
     low = are.low;
     once = λ q k l h g e.
@@ -156,13 +156,16 @@ module _ (p : Raw) (s : Climb) (i : ℕ) (end : i ≡ p.major_dim) (are : AreCli
     )
   ]
 
-  pub all_above : AreRowsAbove (Filled base) s.chains square
-  all_above = carry (AreRowsAbove (Filled base) s.chains) above_all
-
-  pub all_rows : AreRows p.major_dim s.nodes s.rows
-  all_rows = record {
-    offsets = are.offsets;
-    size = omega (arith, are.lists.count);
-    lists = carry AreRowLists are.lists;
-    rows_are = carry (λ e. (q k : ℕ) → IsInLane e q k → slice_index s.rows k ≡ q) are.rows_are;
-  }
+  pub climbed_rows : (e : AreRows p.major_dim s.nodes s.rows)
+      × AreEntries s.chains (square_of e.offsets s.nodes)
+      × AreRowsAbove (Filled base) s.chains (square_of e.offsets s.nodes)
+  climbed_rows = (
+    record {
+      offsets = are.offsets;
+      size = omega (arith, are.lists.count);
+      lists = carry AreRowLists are.lists;
+      rows_are = carry (λ e. (q k : ℕ) → IsInLane e q k → slice_index s.rows k ≡ q) are.rows_are;
+    },
+    all_entries,
+    carry (AreRowsAbove (Filled base) s.chains) above_all,
+  )

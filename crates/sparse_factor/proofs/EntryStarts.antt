@@ -4,10 +4,20 @@ use Rattle.std.proofs.Common.{subst, arith}
 use Rattle.std.specs.List.{Contains}
 use Rattle.std.proofs.lemmas.List.{get_or_default}
 use Rattle.sparse_lemmas.proofs.Cases.{lt_add_one_cases, le_cases}
-use Rattle.sparse_pattern.specs.Raw.{Raw}
+use Rattle.sparse_pattern.specs.Raw.{Raw, lane_of, IsValid}
+use Rattle.sparse_pattern.proofs.LaneLists.{lane_has}
 use Rattle.sparse_factor.specs.Fill.{UpperBase}
 use Rattle.sparse_factor.specs.InnerFilled.{Filled, given}
 use Rattle.sparse_factor.specs.InnerEntries.{Climb, IsVisited, IsBase}
+
+-- the places of a column up to its diagonal are the base of its row
+pub starts_base : (p : Raw) → IsValid p → (i : ℕ) (starts : List ℕ) → i < p.major_dim
+    → starts ≡ lane_of p i → IsBase p starts i
+starts_base p valid i starts lt is j =
+    let has = lane_has p valid i j lt in (
+      λ h. (has.0 (subst (λ xs. Contains xs j) is h.0), h.1),
+      λ b. (subst (λ xs. Contains xs j) (sym is) (has.1 b.0), b.1),
+    )
 
 pub is_start : (starts : List ℕ) (t : ℕ) → t < length starts → Contains starts (get_or starts t 0)
 is_start starts t lt = (t, lt, get_or_default starts t (get_or starts t 0) 0 lt)
