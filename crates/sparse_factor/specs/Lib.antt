@@ -2,7 +2,6 @@ pub mod Fill
 pub mod Walks
 pub mod Symbolic
 pub mod InnerFilled
-pub mod InnerClimbs
 pub mod InnerRowLists
-pub mod InnerPaths
+pub mod InnerEntries
 pub mod InnerChains
