@@ -5,4 +5,4 @@ mod TurnedRows
 mod FactorLaws
 mod EntryPlaces
 mod EntryColumns
-mod ChainColumns
+mod FilledColumns

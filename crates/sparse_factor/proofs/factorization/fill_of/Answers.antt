@@ -1,0 +1,51 @@
+use Rattle.std.proofs.Common.{map, sym}
+use Rattle.sparse_factor.specs.Fill.{UpperBase}
+use Rattle.sparse_factor.specs.InnerFilled.{Filled}
+use Rattle.sparse_factor.specs.InnerRowLists.{square_of}
+use Rattle.sparse_factor.specs.InnerChains.{nodes_in, rows_in}
+use Rattle.sparse_factor.proofs.EntryColumns.{rows_at}
+use Rattle.sparse_factor.proofs.FilledColumns.{column_low, column_once, columns_filled}
+use Rattle.sparse_factor.proofs.factorization.fill_of.Goals as goal
+
+pub entries_by_columns-requires : goal.entries_by_columns-requires
+entries_by_columns-requires g c =
+    let f = g.C.Count.number in
+    let r = c.in_ok-chains in
+    let es = r.row_entries.items in
+    rw c.deref.ensures.value (rows_at c.major_dim.result c.args.pattern.now.major_dim
+    (nodes_in f es) (rows_in f es) (sym c.major_dim.ensures) r.ensures.rows.0)
+
+pub columns_on_chains-requires-clause-low : goal.columns_on_chains-requires-clause-low
+columns_on_chains-requires-clause-low g c =
+    let f = g.C.Count.number in
+    let r = c.in_ok-chains in
+    let es = r.row_entries.items in
+    let d = rows_at c.major_dim.result c.args.pattern.now.major_dim (nodes_in f es) (rows_in f es)
+    (sym c.major_dim.ensures) r.ensures.rows.0 in
+    let transposed = rw c.deref.ensures.value at c.in_ok-entries.ensures.transposed in
+    column_low (map f r.chains.items) (square_of d.offsets (nodes_in f es)) c.in_ok-entries.entries
+    r.ensures.rows.1 (transposed d)
+
+pub columns_on_chains-requires-clause-once : goal.columns_on_chains-requires-clause-once
+columns_on_chains-requires-clause-once g c =
+    let f = g.C.Count.number in
+    let r = c.in_ok-chains in
+    let es = r.row_entries.items in
+    let d = rows_at c.major_dim.result c.args.pattern.now.major_dim (nodes_in f es) (rows_in f es)
+    (sym c.major_dim.ensures) r.ensures.rows.0 in
+    let transposed = rw c.deref.ensures.value at c.in_ok-entries.ensures.transposed in
+    rw c.deref-2.ensures.value (column_once (map f r.chains.items)
+    (square_of d.offsets (nodes_in f es)) c.in_ok-entries.entries r.ensures.rows.1 (transposed d))
+
+pub returns-clause-places : goal.returns-clause-places
+returns-clause-places g c =
+    let f = g.C.Count.number in
+    let r = c.in_ok-chains in
+    let es = r.row_entries.items in
+    let d = rows_at c.major_dim.result c.args.pattern.now.major_dim (nodes_in f es) (rows_in f es)
+    (sym c.major_dim.ensures) r.ensures.rows.0 in
+    let transposed = rw c.deref.ensures.value at c.in_ok-entries.ensures.transposed in
+    let places = rw c.deref-2.ensures.value at c.in_ok-l_pattern.ensures.places in
+    columns_filled (map f r.chains.items) (square_of d.offsets (nodes_in f es))
+    c.in_ok-entries.entries r.ensures.rows.1 (transposed d)
+    (Filled (UpperBase c.args.pattern.now)) r.ensures.rows.2 c.in_ok-l_pattern.l_pattern places
