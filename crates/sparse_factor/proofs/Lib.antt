@@ -6,3 +6,6 @@ mod FactorLaws
 mod EntryPlaces
 mod EntryColumns
 mod FilledColumns
+mod DistinctLists
+pub mod FillCounts
+mod PlaceCounts
