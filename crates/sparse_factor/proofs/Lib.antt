@@ -18,3 +18,5 @@ mod PathSteps
 mod PathRows
 mod PathPlaces
 mod PathColumns
+mod Runs
+mod JoinedRuns

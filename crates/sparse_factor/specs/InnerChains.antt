@@ -24,7 +24,7 @@ pub record AreEntries (chains : List ℕ) (d : Raw) : Type 0 where
   pub low : (i k : ℕ) → IsPlace d i k → k ≤ i
   pub once : (i k l : ℕ) → IsPlace d i k → IsPlace d i l → chain_of chains k ≡ chain_of chains l
       → k ≡ l
-  pub chains : (k : ℕ) → chain_of chains k ≤ k
+  pub numbers : (k : ℕ) → chain_of chains k ≤ k
 
 -- the rows of a set, by the entries of their chains
 abbrev pub AreRowsAbove : (ℕ → ℕ → Type 0) → List ℕ → Raw → Type 0

@@ -6,3 +6,4 @@ pub mod InnerClimbs
 pub mod InnerRowLists
 pub mod InnerPaths
 pub mod InnerChains
+pub mod InnerColumns
