@@ -20,3 +20,4 @@ mod PathPlaces
 mod PathColumns
 mod Runs
 mod JoinedRuns
+mod ChainColumns
