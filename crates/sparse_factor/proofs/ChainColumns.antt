@@ -1,76 +1,25 @@
 -- The columns of a factor, each made from the column before it on its chain.
-use Rattle.std.proofs.Common.{◌≡◌, ◌≢◌, ℕ, ◌+◌, ◌-◌, ◌<◌, ◌≤◌, ◌⊎◌, inl, inr, ◌↔◌, List, [], ◌∷◌}
-use Rattle.std.proofs.Common.{◌++◌, length, set, slice_index, Contains, ap, sym, subst, ◌∙◌, refl}
-use Rattle.std.proofs.Common.{arith}
-use Rattle.std.proofs.lemmas.Grind.{common_steps}
-use Rattle.sparse_lemmas.proofs.Cases.{lt_or_ge, same_or_not, lt_add_one_cases}
+use Rattle.std.proofs.Common.{◌≡◌, ℕ, ◌+◌, ◌-◌, ◌<◌, ◌≤◌, ◌⊎◌, inl, inr, ◌↔◌, List, [], ◌∷◌, ◌++◌}
+use Rattle.std.proofs.Common.{length, slice_index, Contains, ap, sym, subst, ◌∙◌, refl, arith}
+use Rattle.std.specs.List.Sorted.{IsStrictlyIncreasing}
+use Rattle.sparse_lemmas.proofs.Cases.{lt_or_ge}
 use Rattle.sparse_pattern.specs.Raw.{Raw, raw_of, lane_of, IsValid, IsPlace}
 use Rattle.sparse_pattern.specs.InnerGainedLanes.{GainsLane}
 use Rattle.sparse_pattern.proofs.BuiltLanes.{IsBuilt, lane_gained, all_built, place_within}
 use Rattle.sparse_pattern.proofs.LaneLists.{lane_has}
-use Rattle.sparse_pattern.proofs.PatternLanes.{rises_at}
+use Rattle.sparse_pattern.proofs.PatternLanes.{rises_at, lane_rises}
 use Rattle.sparse_factor.specs.InnerChains.{chain_of}
 use Rattle.sparse_factor.specs.InnerColumns.{IsRun, IsInRun, IsInColumn}
-
--- `latest` has for each chain one more than its last column below n, or 0 if there is none
-pub record AreLatest (chains latest : List ℕ) (n : ℕ) : Type 0 where
-  pub count : length latest ≡ length chains
-  pub bound : (h : ℕ) → slice_index latest h ≤ n
-  pub member : (h : ℕ) → 0 < slice_index latest h
-      → chain_of chains (slice_index latest h - 1) ≡ h
-  pub last : (k : ℕ) → k < n → k < slice_index latest (chain_of chains k)
-
-pub none_latest : (chains latest : List ℕ) → length latest ≡ length chains
-    → ((h : ℕ) → slice_index latest h ≡ 0) → AreLatest chains latest 0
-none_latest chains latest count zeros = record {
-  count = count;
-  bound = λ h. omega (arith, zeros h);
-  member = λ h lt. absurd (omega (arith, zeros h));
-  last = λ k lt. absurd (omega arith);
-}
-
-set_at : (xs : List ℕ) (i y : ℕ) → i < length xs → slice_index (set xs i y) i ≡ y
-set_at xs i y lt = grind (arith, common_steps)
-
-set_other : (xs : List ℕ) (i k y : ℕ) → k ≢ i → slice_index (set xs i y) k ≡ slice_index xs k
-set_other xs i k y ne = grind (arith, common_steps)
-
--- a column becomes the last of its chain
-pub latest_more : (chains latest : List ℕ) (n : ℕ) → AreLatest chains latest n → n < length chains
-    → chain_of chains n ≤ n → AreLatest chains (set latest (chain_of chains n) (n + 1)) (n + 1)
-latest_more chains latest n are lt below =
-    let h = chain_of chains n in
-    let new = set latest h (n + 1) in
-    let within : h < length latest = omega (arith, are.count) in
-    let here : slice_index new h ≡ n + 1 = set_at latest h (n + 1) within in
-    let there = λ (k : ℕ) (ne : k ≢ h). set_other latest h k (n + 1) ne in
-    record {
-      count = grind (arith, common_steps, are.count);
-      bound = λ k. elim (same_or_not k h) [
-        | inl same ↦ omega (arith, here, ap (slice_index new) same)
-        | inr ne ↦ omega (arith, there k ne, are.bound k)
-      ];
-      member = λ k positive. elim (same_or_not k h) [
-        | inl same ↦
-            let e : slice_index new k - 1 ≡ n = omega (arith, here, ap (slice_index new) same) in
-            ap (chain_of chains) e ∙ sym same
-        | inr ne ↦
-            let e = there k ne in
-            ap (λ x. chain_of chains (x - 1)) e ∙ are.member k (omega arith)
-      ];
-      last = λ k k_lt. elim (same_or_not (chain_of chains k) h) [
-        | inl same ↦ omega (arith, here, ap (slice_index new) same)
-        | inr ne ↦ elim (lt_add_one_cases k n k_lt) [
-          | inl before ↦ omega (arith, there (chain_of chains k) ne, are.last k before)
-          | inr same ↦ absurd (ne (ap (chain_of chains) same))
-        ]
-      ];
-    }
+use Rattle.sparse_factor.proofs.LatestColumns.{AreLatest}
 
 module _ (chains : List ℕ) (entries : Raw) (valid : IsValid entries)
     (width : entries.minor_dim ≡ length chains) (size : entries.major_dim ≡ length chains) where
   pub column_within : (j i : ℕ) → IsInColumn chains entries j i → i < length chains
   column_within j i h = omega (arith, place_within entries valid h.1.0 i h.1.3)
+
+  pub rising_entries : (k : ℕ) → k < length chains → IsStrictlyIncreasing (lane_of entries k)
+  rising_entries k lt p within =
+      lane_rises entries k (valid.lanes k (omega arith)) p (p + 1) (omega arith) within
 
   pub none_built : IsBuilt (length chains) (IsInColumn chains entries) 0 (0 ∷ []) []
   none_built = record {

@@ -20,4 +20,5 @@ mod PathPlaces
 mod PathColumns
 mod Runs
 mod JoinedRuns
+mod LatestColumns
 mod ChainColumns

@@ -1,7 +1,7 @@
 use Rattle.std.proofs.Common.{length, map}
 use Rattle.sparse_pattern.proofs.BuiltLanes.{IsBuilt}
 use Rattle.sparse_factor.specs.InnerColumns.{IsInColumn}
-use Rattle.sparse_factor.proofs.ChainColumns.{AreLatest}
+use Rattle.sparse_factor.proofs.LatestColumns.{AreLatest}
 use Rattle.sparse_factor.proofs.factorization.columns.columns_on_chains.Given as goal
 
 abbrev pub invariant-loop-column : goal.invariant-loop-column
