@@ -5,3 +5,4 @@ pub mod InnerFilled
 pub mod InnerRowLists
 pub mod InnerEntries
 pub mod InnerChains
+pub mod InnerColumns

@@ -77,8 +77,8 @@ impl CscSymbolicCholesky {
         Self::factor_counted(alloc, pattern, &mut Steps::new())
     }
 
-    /// Does the same as [`CscSymbolicCholesky::factor`] and counts the steps: one for each place of the pattern, and one for each chain of
-    /// the elimination tree that a row's climbs enter.
+    /// Does the same as [`CscSymbolicCholesky::factor`] and counts the steps: one for each place of the pattern, one for each chain of the
+    /// elimination tree that a row's climbs enter, and one for each place that a column takes from a finished column.
     ///
     /// The count grows by at most the number of places of the pattern plus that of the factor, even if an allocation fails. Fails only
     /// if an allocation fails.
@@ -143,7 +143,7 @@ fn fill_of<C: Count>(
 {
     let (chains, row_entries) = climb_rows::<C>(alloc, pattern, steps)?;
     let entries = entries_by_columns(alloc, &row_entries, pattern.major_dim())?;
-    let l_pattern = columns_on_chains(alloc, &chains, &entries)?;
+    let l_pattern = columns_on_chains(alloc, &chains, &entries, steps)?;
     Ok(l_pattern)
 }
 

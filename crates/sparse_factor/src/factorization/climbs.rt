@@ -31,7 +31,7 @@ pub(super) fn climb_rows<C: Count>(
         × AreRowsAbove (Filled (UpperBase pattern.now)) (map C.number r.0.items)
             (square_of d.offsets (nodes_in C.number r.1.items))) }
     ensures chain_count { IfOk result (λ r. length r.0.items ≡ pattern.now.major_dim) }
-    ensures all_read { OnOk result (steps.old + nnz_of pattern.now ≤ steps.new) }
+    ensures counted { IfOk result (λ r. steps.new ≡ steps.old + nnz_of pattern.now + length r.1.items) }
     ensures no_more { (fill : List (ℕ × ℕ)) → ListsFill (UpperBase pattern.now) fill
         → steps.new ≤ steps.old + nnz_of pattern.now + length fill }
 {
