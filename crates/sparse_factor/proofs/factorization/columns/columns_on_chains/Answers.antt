@@ -3,12 +3,14 @@ use Rattle.std.proofs.Common.{slice_index, replicate, ap, sym, subst, ◌∙◌,
 use Rattle.std.proofs.lemmas.Grind.{same_number_lists}
 use Rattle.std.proofs.lemmas.List.{length-map, length-replicate, get_or-map, get_or-replicate}
 use Rattle.std.proofs.lemmas.List.{map-set}
-use Rattle.sparse_pattern.specs.Raw.{raw_of, IsValid}
+use Rattle.sparse_pattern.specs.Raw.{raw_of, start_of, IsValid}
+use Rattle.sparse_pattern.proofs.PatternLanes.{length-lane}
 use Rattle.sparse_factor.specs.InnerChains.{chain_of}
 use Rattle.sparse_factor.proofs.LatestColumns.{AreLatest, none_latest, latest_more, offset_at}
 use Rattle.sparse_factor.proofs.LatestColumns.{chain_is, chain_within, end_is, end_within}
 use Rattle.sparse_factor.proofs.ChainColumns.{rising_entries, none_built, all_columns, run_before}
 use Rattle.sparse_factor.proofs.ChainColumns.{apart_before, column_built}
+use Rattle.sparse_factor.proofs.ColumnSteps.{steps_within, none_taken}
 use Rattle.sparse_factor.proofs.factorization.columns.columns_on_chains.Goals as goal
 
 pub loop-column-init : goal.loop-column-init
@@ -41,6 +43,7 @@ loop-column-init g c =
       ) (none_built chains c.args.entries.now c.major_offsets.ensures.valid
       (omega (arith, length-map c.args.chains.now f, c.requires.rows))
       (omega (arith, length-map c.args.chains.now f, c.requires.columns)));
+      counted = omega (arith, c.major_offsets.ensures.valid.first, ap length c.new-rows.ensures.items);
     }
 
 pub index-requires : goal.index-requires
@@ -125,7 +128,7 @@ append_column-requires g c =
     (c.saturating_sub.ensures ∙ ap (λ k. k - 1) end) in
     let to = offset_at offsets c.get-end.result last c.index-in-loop-column.result.now
     (omega (arith, le, count)) c.index-in-loop-column.ensures end in
-    rw (from, to, c.lane.ensures) record {
+    rw (from, to, c.lane-added.ensures) record {
       run = run_before (map f chs) entries valid width size c.requires.low c.requires.once column
           latest offsets rows inv.built inv.latest lt;
       rising = rising_entries (map f chs) entries valid width size column lt;
@@ -171,7 +174,7 @@ loop-column-preserved g c =
     map-set f c.loop-column.latest.items c.get-chain.result c.of-in-loop-column.result
     ∙ ap (set latest c.get-chain.result) c.of-in-loop-column.ensures
     ∙ ap (λ k. set latest k (column + 1)) chain in
-    let gains = rw (from, to, c.lane.ensures) at c.in_ok-append_column.ensures in
+    let gains = rw (from, to, c.lane-added.ensures) at c.in_ok-append_column.ensures.gains in
     record {
       latest = subst (λ l. AreLatest (map f chs) l (column + 1)) (sym written)
           (latest_more (map f chs) latest column inv.latest lt (c.requires.chains column));
@@ -179,6 +182,19 @@ loop-column-preserved g c =
           column latest offsets rows inv.built inv.latest lt c.push-in-loop-column.new.self.items
           c.append_column.new.rows.items gains (c.in_ok-push-2.ensures.items
           ∙ ap (λ n. offsets ++ n ∷ []) (c.len.ensures ∙ c.append_column.new.rows.ok.0));
+      counted = omega (
+        arith,
+        inv.counted,
+        c.count_taken.ensures,
+        c.in_ok-append_column.ensures.longer,
+        c.len-in-loop-column.ensures,
+        c.len-before.ensures,
+        c.append_column.new.rows.ok.0,
+        c.loop-column.rows.ok.0,
+        ap length c.lane-added.ensures,
+        length-lane entries column (valid.lanes column (omega arith)),
+        (valid.lanes column (omega arith)).ordered,
+      );
     }
 
 pub from_offset_and_indices_unchecked-requires : goal.from_offset_and_indices_unchecked-requires
@@ -205,3 +221,48 @@ returns-clause-places g c =
     (omega (arith, long))
     (c.from_offset_and_indices_unchecked.ensures ∙ ap (λ k. raw_of k k offsets rows) (sym long))
     c.loop-column.invariant.built
+
+pub returns-in_err-latest-clause-no_more : goal.returns-in_err-latest-clause-no_more
+returns-in_err-latest-clause-no_more g c = λ fill all.
+    let f = g.C.Count.number in
+    let chs = c.args.chains.now in
+    let long = length-map chs f in
+    none_taken (map f chs) c.args.entries.now c.major_offsets.ensures.valid
+    (omega (arith, long, c.requires.rows)) (omega (arith, long, c.requires.columns))
+    c.requires.low c.args.steps.now fill all
+
+pub returns-in_err-offsets-clause-no_more : goal.returns-in_err-offsets-clause-no_more
+returns-in_err-offsets-clause-no_more g c = λ fill all.
+    let f = g.C.Count.number in
+    let chs = c.args.chains.now in
+    let long = length-map chs f in
+    none_taken (map f chs) c.args.entries.now c.major_offsets.ensures.valid
+    (omega (arith, long, c.requires.rows)) (omega (arith, long, c.requires.columns))
+    c.requires.low c.args.steps.now fill all
+
+pub returns-in_err-append_column-clause-no_more : goal.returns-in_err-append_column-clause-no_more
+returns-in_err-append_column-clause-no_more g c = λ fill all.
+    let f = g.C.Count.number in
+    let chs = c.args.chains.now in
+    let inv = c.loop-column.invariant in
+    steps_within (map f chs) c.args.entries.now c.major_offsets.ensures.valid c.requires.low
+    c.loop-column.column (omega (arith, c.requires.columns)) c.loop-column.offsets.items
+    c.loop-column.rows.items inv.built c.args.steps.now c.loop-column.steps inv.counted fill all
+
+pub returns-in_err-push-2-clause-no_more : goal.returns-in_err-push-2-clause-no_more
+returns-in_err-push-2-clause-no_more g c = λ fill all.
+    let f = g.C.Count.number in
+    let chs = c.args.chains.now in
+    let inv = c.loop-column.invariant in
+    steps_within (map f chs) c.args.entries.now c.major_offsets.ensures.valid c.requires.low
+    c.loop-column.column (omega (arith, c.requires.columns)) c.loop-column.offsets.items
+    c.loop-column.rows.items inv.built c.args.steps.now c.loop-column.steps inv.counted fill all
+
+pub returns-clause-no_more : goal.returns-clause-no_more
+returns-clause-no_more g c = λ fill all.
+    let f = g.C.Count.number in
+    let chs = c.args.chains.now in
+    let inv = c.loop-column.invariant in
+    steps_within (map f chs) c.args.entries.now c.major_offsets.ensures.valid c.requires.low
+    c.loop-column.column (omega (arith, c.requires.columns)) c.loop-column.offsets.items
+    c.loop-column.rows.items inv.built c.args.steps.now c.loop-column.steps inv.counted fill all

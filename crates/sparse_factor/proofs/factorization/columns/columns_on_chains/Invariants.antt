@@ -1,4 +1,5 @@
-use Rattle.std.proofs.Common.{length, map}
+use Rattle.std.proofs.Common.{◌≡◌, ◌+◌, length, map}
+use Rattle.sparse_pattern.specs.Raw.{start_of}
 use Rattle.sparse_pattern.proofs.BuiltLanes.{IsBuilt}
 use Rattle.sparse_factor.specs.InnerColumns.{IsInColumn}
 use Rattle.sparse_factor.proofs.LatestColumns.{AreLatest}
@@ -11,4 +12,5 @@ invariant-loop-column g l =
       latest : AreLatest chains (map g.C.Count.number l.latest.items) l.column;
       built : IsBuilt (length chains) (IsInColumn chains l.entries) l.column l.offsets.items
           l.rows.items;
+      counted : l.steps + start_of l.entries l.column ≡ l.initial.steps + length l.rows.items;
     }
