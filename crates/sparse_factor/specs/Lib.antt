@@ -3,6 +3,6 @@ pub mod Walks
 pub mod Symbolic
 pub mod InnerFilled
 pub mod InnerRowLists
-pub mod InnerEntries
+pub mod InnerSortedEntries
 pub mod InnerChains
 pub mod InnerColumns

@@ -1,10 +1,12 @@
-use Rattle.std.proofs.Common.{map, sym}
+use Rattle.std.proofs.Common.{length, map, sym, ap, arith}
 use Rattle.sparse_factor.specs.Fill.{UpperBase}
 use Rattle.sparse_factor.specs.InnerFilled.{Filled}
 use Rattle.sparse_factor.specs.InnerRowLists.{square_of}
 use Rattle.sparse_factor.specs.InnerChains.{nodes_in, rows_in}
 use Rattle.sparse_factor.proofs.EntryColumns.{rows_at}
-use Rattle.sparse_factor.proofs.FilledColumns.{column_low, column_once, columns_filled}
+use Rattle.sparse_factor.proofs.FilledColumns.{column_low, column_once, column_filled}
+use Rattle.sparse_factor.proofs.FilledColumns.{columns_filled}
+use Rattle.sparse_factor.proofs.FillLaws.{in_fill}
 use Rattle.sparse_factor.proofs.factorization.fill_of.Goals as goal
 
 pub entries_by_columns-requires : goal.entries_by_columns-requires
@@ -49,3 +51,47 @@ returns-clause-places g c =
     columns_filled (map f r.chains.items) (square_of d.offsets (nodes_in f es))
     c.in_ok-entries.entries r.ensures.rows.1 (transposed d)
     (Filled (UpperBase c.args.pattern.now)) r.ensures.rows.2 c.in_ok-l_pattern.l_pattern places
+
+pub returns-clause-all_read : goal.returns-clause-all_read
+returns-clause-all_read g c =
+    omega (arith, c.in_ok-chains.ensures.counted, c.columns_on_chains.ensures.onward)
+
+pub returns-in_err-l_pattern-clause-no_more : goal.returns-in_err-l_pattern-clause-no_more
+returns-in_err-l_pattern-clause-no_more g c = λ fill all.
+    let f = g.C.Count.number in
+    let r = c.in_ok-chains in
+    let es = r.row_entries.items in
+    let d = rows_at c.major_dim.result c.args.pattern.now.major_dim (nodes_in f es) (rows_in f es)
+    (sym c.major_dim.ensures) r.ensures.rows.0 in
+    let transposed = rw c.deref.ensures.value at c.in_ok-entries.ensures.transposed in
+    let filled = column_filled (map f r.chains.items) (square_of d.offsets (nodes_in f es))
+    c.in_ok-entries.entries r.ensures.rows.1 (transposed d)
+    (Filled (UpperBase c.args.pattern.now)) r.ensures.rows.2 in
+    let few = rw c.deref-2.ensures.value at c.columns_on_chains.ensures.no_more in
+    omega (
+      arith,
+      few fill (λ i j h. all i j (in_fill ((filled i j).0 h))),
+      r.ensures.counted,
+      c.in_ok-entries.ensures.places,
+      ap length c.deref.ensures.value,
+    )
+
+pub returns-clause-no_more : goal.returns-clause-no_more
+returns-clause-no_more g c = λ fill all.
+    let f = g.C.Count.number in
+    let r = c.in_ok-chains in
+    let es = r.row_entries.items in
+    let d = rows_at c.major_dim.result c.args.pattern.now.major_dim (nodes_in f es) (rows_in f es)
+    (sym c.major_dim.ensures) r.ensures.rows.0 in
+    let transposed = rw c.deref.ensures.value at c.in_ok-entries.ensures.transposed in
+    let filled = column_filled (map f r.chains.items) (square_of d.offsets (nodes_in f es))
+    c.in_ok-entries.entries r.ensures.rows.1 (transposed d)
+    (Filled (UpperBase c.args.pattern.now)) r.ensures.rows.2 in
+    let few = rw c.deref-2.ensures.value at c.columns_on_chains.ensures.no_more in
+    omega (
+      arith,
+      few fill (λ i j h. all i j (in_fill ((filled i j).0 h))),
+      r.ensures.counted,
+      c.in_ok-entries.ensures.places,
+      ap length c.deref.ensures.value,
+    )

@@ -44,6 +44,7 @@ loop-column-init g c =
       (omega (arith, length-map c.args.chains.now f, c.requires.rows))
       (omega (arith, length-map c.args.chains.now f, c.requires.columns)));
       counted = omega (arith, c.major_offsets.ensures.valid.first, ap length c.new-rows.ensures.items);
+      onward = omega arith;
     }
 
 pub index-requires : goal.index-requires
@@ -195,6 +196,7 @@ loop-column-preserved g c =
         length-lane entries column (valid.lanes column (omega arith)),
         (valid.lanes column (omega arith)).ordered,
       );
+      onward = omega (arith, inv.onward, c.count_taken.ensures);
     }
 
 pub from_offset_and_indices_unchecked-requires : goal.from_offset_and_indices_unchecked-requires

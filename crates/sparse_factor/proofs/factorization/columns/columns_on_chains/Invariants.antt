@@ -1,4 +1,4 @@
-use Rattle.std.proofs.Common.{◌≡◌, ◌+◌, length, map}
+use Rattle.std.proofs.Common.{◌≡◌, ◌+◌, ◌≤◌, length, map}
 use Rattle.sparse_pattern.specs.Raw.{start_of}
 use Rattle.sparse_pattern.proofs.BuiltLanes.{IsBuilt}
 use Rattle.sparse_factor.specs.InnerColumns.{IsInColumn}
@@ -13,4 +13,5 @@ invariant-loop-column g l =
       built : IsBuilt (length chains) (IsInColumn chains l.entries) l.column l.offsets.items
           l.rows.items;
       counted : l.steps + start_of l.entries l.column ≡ l.initial.steps + length l.rows.items;
+      onward : l.initial.steps ≤ l.steps;
     }
