@@ -109,15 +109,15 @@ module _ (chains : List ℕ) (entries : Raw) (valid : IsValid entries)
         | inr none ↦ absurd (omega (arith, h.to, (none_before none).0))
       ],
       λ h.
-      let e = ap (slice_index offsets) (some_before h.0) in
-      let early : end - 1 < n = omega (arith, h.0, are.bound (chain_of chains n)) in
-      let place = (built.places (end - 1) i early).1 h.1 in
-      record {
-        at = place.at;
-        from = place.in_lane.from;
-        to = omega (arith, place.in_lane.to, e);
-        is = place.index;
-      },
+          let e = ap (slice_index offsets) (some_before h.0) in
+          let early : end - 1 < n = omega (arith, h.0, are.bound (chain_of chains n)) in
+          let place = (built.places (end - 1) i early).1 h.1 in
+          record {
+            at = place.at;
+            from = place.in_lane.from;
+            to = omega (arith, place.in_lane.to, e);
+            is = place.index;
+          },
     )
 
     same_chain : 0 < end → chain_of chains (end - 1) ≡ chain_of chains n
@@ -151,23 +151,26 @@ module _ (chains : List ℕ) (entries : Raw) (valid : IsValid entries)
             | inr new ↦ (low i n (lane.0 new), (n, omega arith, refl, lane.0 new))
           ],
           λ h.
-          let k = h.1 in
-          elim (lt_or_ge k.0 n) [
-            | inl before ↦
-                let last : k.0 < end = omega
-                (arith, are.last k.0 before, ap (slice_index latest) k.2) in
-                let positive : 0 < end = omega arith in
-                inl (h.0, (before_places i).1 (
-                  positive,
-                  (
-                    omega (arith, h.0, are.bound (chain_of chains n)),
-                    (k.0, omega arith, k.2 ∙ sym (same_chain positive), k.3),
-                  ),
-                ))
-            | inr after ↦
-                let same : k.0 ≡ n = omega (arith, k.1) in
-                inr (lane.1 (subst (λ x. IsPlace entries x i) same k.3))
-          ],
+              let k = h.1 in
+              elim (lt_or_ge k.0 n) [
+                | inl before ↦
+                    let last : k.0 < end = omega
+                    (arith, are.last k.0 before, ap (slice_index latest) k.2) in
+                    let positive : 0 < end = omega arith in
+                    inl (
+                      h.0,
+                      (before_places i).1 (
+                        positive,
+                        (
+                          omega (arith, h.0, are.bound (chain_of chains n)),
+                          (k.0, omega arith, k.2 ∙ sym (same_chain positive), k.3),
+                        ),
+                      ),
+                    )
+                | inr after ↦
+                    let same : k.0 ≡ n = omega (arith, k.1) in
+                    inr (lane.1 (subst (λ x. IsPlace entries x i) same k.3))
+              ],
         )
 
     pub column_built : (offsets' indices' : List ℕ) → GainsLane indices indices'

@@ -65,22 +65,22 @@ module _ (xs : List ℕ) (low high : ℕ) (run : IsRun xs low high) where
   run_has x =
       let list = slice_range xs low high in (
         λ h.
-        let has = has_from_contains list x h in
-        record {
-          at = low + has.at;
-          from = omega arith;
-          to = omega (arith, has.within, length-run);
-          is = sym (get_or-run has.at has.within) ∙ has.is;
-        },
+            let has = has_from_contains list x h in
+            record {
+              at = low + has.at;
+              from = omega arith;
+              to = omega (arith, has.within, length-run);
+              is = sym (get_or-run has.at has.within) ∙ has.is;
+            },
         λ h.
-        let k = h.at - low in
-        let within : k < length list = omega (arith, h.from, h.to, length-run) in
-        let back : low + k ≡ h.at = omega (arith, h.from) in
-        contains_from_has list x record {
-          at = k;
-          within = within;
-          is = get_or-run k within ∙ ap (λ p. get_or xs p 0) back ∙ h.is;
-        },
+            let k = h.at - low in
+            let within : k < length list = omega (arith, h.from, h.to, length-run) in
+            let back : low + k ≡ h.at = omega (arith, h.from) in
+            contains_from_has list x record {
+              at = k;
+              within = within;
+              is = get_or-run k within ∙ ap (λ p. get_or xs p 0) back ∙ h.is;
+            },
       )
 
   pub run_front : (mid : ℕ) → low ≤ mid → mid ≤ high → IsRun xs low mid
