@@ -10,8 +10,8 @@ use Rattle.sparse_factor.specs.InnerFilled.{Filled}
 use Rattle.sparse_factor.specs.InnerEntries.{Climb, chain_at, IsVisited, IsClimbed, IsNextNode}
 use Rattle.sparse_factor.specs.InnerEntries.{tree_of}
 use Rattle.sparse_factor.proofs.ChainSteps.{row_starts}
-use Rattle.sparse_factor.proofs.EntrySteps.{IsClimbing, IsStep, step, climb_ends, low_visited}
-use Rattle.sparse_factor.proofs.EntrySteps.{high_lowered, lowered_visits}
+use Rattle.sparse_factor.proofs.EntrySteps.{IsClimbing, step, climb_ends}
+use Rattle.sparse_factor.proofs.EntryReturns.{low_visited, high_lowered, lowered_visits}
 
 -- the chain of a node, as the code reads it
 pub chain_read : {C : Type 0} (number : C → ℕ) (xs : List C) (k : ℕ) (x : C) (r : ℕ)

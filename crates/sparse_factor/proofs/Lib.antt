@@ -12,6 +12,7 @@ mod ChainJoins
 mod EntryWrites
 mod EntryLows
 mod EntrySteps
+mod EntryReturns
 mod EntryClimbs
 mod EntryRows
 mod EntryStarts
