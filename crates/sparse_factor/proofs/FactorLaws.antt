@@ -6,12 +6,10 @@ use Rattle.std.proofs.lemmas.Bool.Decides.{nat_tests, Decides-eqb}
 use Rattle.std.proofs.lemmas.Map.Made.{is_member-Decides}
 use Rattle.sparse_lemmas.proofs.Cases.{and_parts, and_both}
 use Rattle.sparse_pattern.specs.Raw.{Raw, lane_of, IsValid, IsPlace}
-use Rattle.sparse_pattern.specs.TransposedPattern.{IsTransposedPattern}
 use Rattle.sparse_pattern.proofs.LaneLists.{lane_has}
 use Rattle.sparse_factor.specs.Fill.{InFill, UpperBase, StoresByColumns}
 use Rattle.sparse_factor.specs.Walks.{StoresWalks, StoresDiagonal}
 use Rattle.sparse_factor.specs.InnerFilled.{Filled}
-use Rattle.sparse_factor.specs.InnerRowLists.{StoresByRows}
 use Rattle.sparse_factor.proofs.FillLaws.{in_fill, filled_in, filled_diagonal}
 use Rattle.sparse_factor.proofs.WalkLaws.{filled_walk}
 
@@ -21,15 +19,8 @@ below_true a b lt = grind (arith, nat_tests)
 true_below : (a b : ℕ) → ltb a b ≡ true → a < b
 true_below a b is = grind (arith, nat_tests)
 
-module _ (base : ℕ → ℕ → Type 0) (low : (i j : ℕ) → base i j → j ≤ i) (d t : Raw)
-    (rows : StoresByRows (Filled base) d) (turned : IsTransposedPattern d t)
-    (valid : IsValid t) where
-  filled : (i j : ℕ) → IsPlace t j i ↔ Filled base i j
-  filled i j = (
-    λ h. (rows i j).0 ((turned.places i j).0 h),
-    λ f. (turned.places i j).1 ((rows i j).1 f),
-  )
-
+module _ (base : ℕ → ℕ → Type 0) (low : (i j : ℕ) → base i j → j ≤ i) (t : Raw)
+    (filled : (i j : ℕ) → IsPlace t j i ↔ Filled base i j) (valid : IsValid t) where
   -- a test for the places of the factor
   stored : ℕ → ℕ → Bool
   stored i j = ltb j t.major_dim && is_member eqb (lane_of t j) i

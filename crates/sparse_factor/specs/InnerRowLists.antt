@@ -20,3 +20,11 @@ StoresByRows set d = (i j : ℕ) → IsPlace d i j ↔ set i j
 -- the rows of a square pattern with one row fewer than offsets
 abbrev pub square_of : List ℕ → List ℕ → Raw
 square_of offsets nodes = raw_of (length offsets - 1) (length offsets - 1) offsets nodes
+
+-- the nodes list the columns of n rows, row after row, each column once a row; and the rows of the
+-- nodes
+pub record AreRows (n : ℕ) (nodes rows : List ℕ) : Type 0 where
+  pub offsets : List ℕ
+  pub size : length offsets ≡ n + 1
+  pub lists : AreRowLists (square_of offsets nodes)
+  pub rows_are : (i q : ℕ) → IsInLane (square_of offsets nodes) i q → slice_index rows q ≡ i

@@ -2,6 +2,9 @@ pub mod Fill
 pub mod Walks
 pub mod Symbolic
 pub mod InnerFilled
-pub mod InnerClimbs
 pub mod InnerRowLists
-pub mod InnerPaths
+pub mod InnerSortedEntries
+pub mod InnerChains
+pub mod InnerTrees
+pub mod InnerEntries
+pub mod InnerColumns

@@ -1,9 +1,10 @@
 //! Symbolic factorisations.
 
 ghost use Rattle.std.specs.Prelude.{◌≡◌, ℕ, ◌+◌, ◌<◌, ◌≤◌, ◌↔◌, List, length, IfOk, OnOk, IsTrue};
-ghost use Rattle.sparse_pattern.specs.Raw.{Raw, IsValid, nnz_of, HasSamePlaces};
+ghost use Rattle.sparse_pattern.specs.Raw.{Raw, IsValid, IsPlace, nnz_of, HasSamePlaces};
 ghost use Rattle.sparse_factor.specs.Fill.{InFill, UpperBase, StoresByColumns, ListsFill};
 ghost use Rattle.sparse_factor.specs.Walks.{StoresWalks, StoresDiagonal};
+ghost use Rattle.sparse_factor.specs.InnerFilled.{Filled};
 
 use sparse_base::steps::Steps;
 use sparse_counting::Count;
@@ -13,9 +14,11 @@ use std::marker::Model;
 
 mod climbs;
 mod columns;
+mod entries;
 
 use climbs::climb_rows;
-use columns::columns_of_paths;
+use columns::columns_on_chains;
+use entries::entries_by_columns;
 
 // The largest number of columns for which the scratch arrays use 32-bit numbers.
 const MAX_32_BITS: usize = u32::MAX as usize;
@@ -56,10 +59,11 @@ impl CscSymbolicCholesky {
     /// `k < j <= i`.
     ///
     /// The columns of each row are found by climbing the elimination tree from the row's places, and the tree is built on the way (Liu,
-    /// "The role of elimination trees in sparse factorization", 1990). The climbs are kept as paths, which a counting sort turns into
-    /// columns. Time is linear in the number of columns and of the places of pattern and factor. Scratch memory is three numbers for
-    /// each column and at most six for each place of the pattern, of 32 bits each for fewer than 2^32 columns. Fails only if an
-    /// allocation fails.
+    /// "The role of elimination trees in sparse factorization", 1990). The tree is kept as chains of nodes, each the parent of the one
+    /// before; a row is kept as the first node that its climbs visit on each chain, since it has all later ones up to the row itself.
+    /// Each column is then a copy of the column before it on its chain, merged with the rows that enter the chain there. Time is linear
+    /// in the number of columns and of the places of pattern and factor. Scratch memory is five numbers for each column and five for each
+    /// of these entries, of which there are at most as many as places of the factor. Fails only if an allocation fails.
     pub fn factor(alloc: Global, pattern: SparsityPattern) -> Result<Self, AllocError>
         requires square { pattern.major_dim ≡ pattern.minor_dim }
         ensures input { IfOk result (λ s. s.input ≡ pattern) }
@@ -73,8 +77,8 @@ impl CscSymbolicCholesky {
         Self::factor_counted(alloc, pattern, &mut Steps::new())
     }
 
-    /// Does the same as [`CscSymbolicCholesky::factor`] and counts the steps: one for each place of the pattern, and one for each place of
-    /// the factor that is found.
+    /// Does the same as [`CscSymbolicCholesky::factor`] and counts the steps: one for each place of the pattern, one for each chain of the
+    /// elimination tree that a row's climbs enter, and one for each place that a column takes from a finished column.
     ///
     /// The count grows by at most the number of places of the pattern plus that of the factor, even if an allocation fails. Fails only
     /// if an allocation fails.
@@ -131,16 +135,15 @@ fn fill_of<C: Count>(
     requires width { pattern.now.major_dim < C.limit }
     ensures rows { IfOk result (λ l. l.minor_dim ≡ pattern.now.minor_dim) }
     ensures columns { IfOk result (λ l. l.major_dim ≡ pattern.now.major_dim) }
-    ensures fill { IfOk result (StoresByColumns (InFill (UpperBase pattern.now))) }
-    ensures walks { IfOk result (StoresWalks (UpperBase pattern.now)) }
-    ensures diagonal { IfOk result (StoresDiagonal (UpperBase pattern.now)) }
+    ensures places { IfOk result (λ l. (i j : ℕ) → IsPlace l j i ↔ Filled (UpperBase pattern.now) i j) }
     ensures valid { IfOk result IsValid }
     ensures all_read { OnOk result (steps.old + nnz_of pattern.now ≤ steps.new) }
     ensures no_more { (fill : List (ℕ × ℕ)) → ListsFill (UpperBase pattern.now) fill
         → steps.new ≤ steps.old + nnz_of pattern.now + length fill }
 {
-    let (parents, paths, counts) = climb_rows::<C>(alloc, pattern, steps)?;
-    let l_pattern = columns_of_paths(alloc, &parents, &paths, &counts)?;
+    let (chains, row_entries) = climb_rows::<C>(alloc, pattern, steps)?;
+    let entries = entries_by_columns(alloc, &row_entries, pattern.major_dim())?;
+    let l_pattern = columns_on_chains(alloc, &chains, &entries, steps)?;
     Ok(l_pattern)
 }
 

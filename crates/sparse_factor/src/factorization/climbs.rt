@@ -1,66 +1,64 @@
-//! The rows of the factor, found by climbing the elimination tree.
+//! The rows of the factor, found by climbing the elimination tree from chain to chain.
 
-ghost use Rattle.std.specs.Prelude.{◌≡◌, ℕ, ◌+◌, ◌<◌, ◌≤◌, ◌++◌, List, length, map, replicate, IfOk, OnOk, vec_len, vec_capacity};
-ghost use Rattle.std.specs.List.{Contains};
-ghost use Rattle.sparse_pattern.specs.Raw.{nnz_of};
-ghost use Rattle.sparse_factor.specs.Fill.{InFill, UpperBase, ListsFill};
+ghost use Rattle.std.specs.Prelude.{◌≡◌, ℕ, ◌+◌, ◌<◌, ◌≤◌, List, [], ◌∷◌, ◌++◌, length, map, replicate, IfOk, OnOk};
+ghost use Rattle.std.specs.Prelude.{slice_index, slice_set, vec_len, vec_capacity};
+ghost use Rattle.sparse_pattern.specs.Raw.{Raw, nnz_of};
+ghost use Rattle.sparse_factor.specs.Fill.{UpperBase, ListsFill};
 ghost use Rattle.sparse_factor.specs.InnerFilled.{Filled};
-ghost use Rattle.sparse_factor.specs.InnerClimbs.{AreInRow, IsClosed, IsMarked, AreClimbs, IsNext, AreCounts};
-ghost use Rattle.sparse_factor.specs.InnerRowLists.{StoresByRows, square_of};
-ghost use Rattle.sparse_factor.specs.InnerPaths.{nodes_up, nodes_of, nodes_in, rows_in, paths_of, climbed, climbed_up, IsPath, ArePaths, AreBelowMarks, AreRows};
+ghost use Rattle.sparse_factor.specs.InnerRowLists.{AreRows, square_of};
+ghost use Rattle.sparse_factor.specs.InnerChains.{nodes_in, rows_in, AreEntries, AreRowsAbove};
+ghost use Rattle.sparse_factor.specs.InnerEntries.{Climb, climb_of, unmarked, IsVisited, IsBase, IsClimbed, AreClimbed, IsNextNode};
 
 use sparse_base::steps::Steps;
 use sparse_counting::Count;
 use sparse_pattern::pattern::SparsityPattern;
 use std::alloc::{AllocError, Global};
 
-// One climb: its row, its first node and its number of nodes. Each node is the parent of the one before.
-pub(super) type Path<C> = (C, C, C);
+// A row, and the least node of a chain that the row has a place in.
+pub(super) type Entry<C> = (C, C);
 
-// Returns the rows of the factor: the parent of each node, the climbs of all rows, and the number of places of each column.
+// Returns the chains of the elimination tree, and the entries of each row: for each chain that the row's climbs enter the least node.
 //
-// The climbs of a row visit each of its columns once. The parent of a column is its first row below the diagonal, which is the first
-// later row whose climbs visit the column. 0 stands for no parent.
+// A row has a place in each node of the chain from the entry up to the row itself.
 pub(super) fn climb_rows<C: Count>(
     alloc: Global,
     pattern: &SparsityPattern,
     steps: &mut Steps,
-) -> Result<(Vec<C>, Vec<Path<C>>, Vec<C>), AllocError>
+) -> Result<(Vec<C>, Vec<Entry<C>>), AllocError>
     requires square { pattern.now.major_dim ≡ pattern.now.minor_dim }
     requires width { pattern.now.major_dim < C.limit }
     ensures rows { IfOk result (λ r. (d : AreRows pattern.now.major_dim
-        (nodes_in C.number r.0.items r.1.items) (rows_in C.number r.1.items))
-        × StoresByRows (Filled (UpperBase pattern.now))
-        (square_of d.offsets (nodes_in C.number r.0.items r.1.items))) }
-    ensures parent_count { IfOk result (λ r. length r.0.items ≡ pattern.now.major_dim) }
-    ensures counts { IfOk result (λ r.
-        AreCounts (map C.number r.2.items) (nodes_in C.number r.0.items r.1.items)) }
-    ensures count_size { IfOk result (λ r. length r.2.items ≡ pattern.now.major_dim) }
-    ensures all_read { OnOk result (steps.old + nnz_of pattern.now ≤ steps.new) }
+        (nodes_in C.number r.1.items) (rows_in C.number r.1.items))
+        × AreEntries (map C.number r.0.items) (square_of d.offsets (nodes_in C.number r.1.items))
+        × AreRowsAbove (Filled (UpperBase pattern.now)) (map C.number r.0.items)
+        (square_of d.offsets (nodes_in C.number r.1.items))) }
+    ensures chain_count { IfOk result (λ r. length r.0.items ≡ pattern.now.major_dim) }
+    ensures counted { IfOk result (λ r. steps.new ≡ steps.old + nnz_of pattern.now + length r.1.items) }
     ensures no_more { (fill : List (ℕ × ℕ)) → ListsFill (UpperBase pattern.now) fill
         → steps.new ≤ steps.old + nnz_of pattern.now + length fill }
 {
     // Tells the prover that the pattern is valid.
     let _ = pattern.major_offsets();
     let size = pattern.major_dim();
+    let mut chains: Vec<C> = own_chains(alloc, size)?;
+    let mut nexts: Vec<C> = zeros(alloc, size)?;
     let mut marks: Vec<C> = zeros(alloc, size)?;
-    let mut parents: Vec<C> = zeros(alloc, size)?;
-    let mut counts: Vec<C> = zeros(alloc, size)?;
-    let mut paths = Vec::new(alloc);
+    let mut positions = vec![in alloc; 0; size]?;
+    let mut entries = Vec::new(alloc);
     for row in 0..size {
-        let starts = pattern.lane(row);
-        paths.reserve(starts.len())?;
+        entries.reserve(row + 1)?;
         climb_row(
-            starts,
+            pattern.lane(row),
             row,
+            &mut chains,
+            &mut nexts,
             &mut marks,
-            &mut parents,
-            &mut counts,
-            &mut paths,
+            &mut positions,
+            &mut entries,
             steps,
         );
     }
-    Ok((parents, paths, counts))
+    Ok((chains, entries))
 }
 
 // Returns a vector of zeros.
@@ -73,131 +71,185 @@ fn zeros<C: Count>(alloc: Global, size: usize) -> Result<Vec<C>, AllocError>
     Ok(zeros)
 }
 
-// Climbs from each place of a row that is not below the diagonal, and keeps the climbs.
+// Returns a chain for each node, which is its own number.
+fn own_chains<C: Count>(alloc: Global, size: usize) -> Result<Vec<C>, AllocError>
+    requires { size < C.limit }
+    ensures chain_count { IfOk result (λ v. length v.items ≡ size) }
+    ensures own { IfOk result (λ v. (k : ℕ) → k < size
+        → slice_index (map C.number v.items) k ≡ k) }
+{
+    let mut chains = Vec::with_capacity(alloc, size)?;
+    for node in 0..size {
+        chains.push_reserved(C::of(node));
+    }
+    Ok(chains)
+}
+
+// Climbs from each place of a row below the diagonal's, and enters the row itself if it is stored and no climb reached it.
 fn climb_row<C: Count>(
     starts: &[usize],
     row: usize,
+    chains: &mut [C],
+    nexts: &mut [C],
     marks: &mut [C],
-    parents: &mut [C],
-    counts: &mut [C],
-    paths: &mut Vec<Path<C>>,
+    positions: &mut [usize],
+    entries: &mut Vec<Entry<C>>,
     steps: &mut Steps,
 )
-    requires width { length marks.old < C.limit }
-    requires arrays { AreInRow (climbed C.number marks.old parents.old paths.old.items) row }
-    requires closed { IsClosed (climbed C.number marks.old parents.old paths.old.items) row }
-    requires paths { ArePaths (map C.number parents.old) (paths_of C.number paths.old.items) }
-    requires room { vec_len paths.old + length starts.now ≤ vec_capacity paths.old }
-    requires counts { AreCounts (map C.number counts.old)
-        (nodes_in C.number parents.old paths.old.items) }
-    requires below { AreBelowMarks (map C.number counts.old) (map C.number marks.old) }
-    requires count_size { length counts.old ≡ length marks.old }
-    ensures arrays { AreInRow (climbed C.number marks.new parents.new paths.new.items) row }
-    ensures closed { IsClosed (climbed C.number marks.new parents.new paths.new.items) row }
-    ensures climbs { AreClimbs
-        (climbed C.number marks.old parents.old paths.old.items)
-        (climbed C.number marks.new parents.new paths.new.items)
-        row (λ j. Contains starts.now j × (j ≤ row)) }
-    ensures started { (j : ℕ) → Contains starts.now j → j ≤ row → IsMarked
-        (climbed C.number marks.new parents.new paths.new.items)
-        row j }
-    ensures paths { ArePaths (map C.number parents.new) (paths_of C.number paths.new.items) }
-    ensures counts { AreCounts (map C.number counts.new)
-        (nodes_in C.number parents.new paths.new.items) }
-    ensures below { AreBelowMarks (map C.number counts.new) (map C.number marks.new) }
-    ensures counted { (n : ℕ) × (steps.new ≡ steps.old + n + length starts.now)
-        × (rows_in C.number paths.new.items ≡ rows_in C.number paths.old.items ++ replicate n row) }
+    requires width { length chains.old < C.limit }
+    requires row { row < length chains.old }
+    requires next_count { length nexts.old ≡ length chains.old }
+    requires mark_count { length marks.old ≡ length chains.old }
+    requires position_count { length positions.old ≡ length chains.old }
+    requires climbed { (p : Raw) × IsBase p starts.now row
+        × AreClimbed p (climb_of C.number chains.old nexts.old marks.old positions.old
+        entries.old.items) row }
+    requires room { vec_len entries.old + row + 1 ≤ vec_capacity entries.old }
+    ensures climbed { (p : Raw) → IsBase p starts.now row
+        → AreClimbed p (climb_of C.number chains.old nexts.old marks.old positions.old
+        entries.old.items) row
+        → AreClimbed p (climb_of C.number chains.new nexts.new marks.new positions.new
+        entries.new.items) (row + 1) }
+    ensures counted { steps.new + length entries.old.items
+        ≡ steps.old + length starts.now + length entries.new.items }
 {
+    let mut is_stored = false;
     for start in starts {
         steps.tick();
-        if *start <= row {
-            let length = climb(*start, row, marks, parents, counts, steps);
-            keep_path(paths, row, *start, length);
+        if *start < row {
+            climb(*start, row, chains, nexts, marks, positions, entries, steps);
+        } else if *start == row {
+            is_stored = true;
         }
     }
-}
-
-// Appends a climb, unless it has no node.
-fn keep_path<C: Count>(paths: &mut Vec<Path<C>>, row: usize, start: usize, length: usize)
-    requires room { vec_len paths.old < vec_capacity paths.old }
-    requires row { row < C.limit }
-    requires start { start < C.limit }
-    requires length { length < C.limit }
-    ensures nodes { (parents : List ℕ) → nodes_of parents (paths_of C.number paths.new.items)
-        ≡ nodes_of parents (paths_of C.number paths.old.items) ++ nodes_up parents start length }
-    ensures rows { rows_in C.number paths.new.items
-        ≡ rows_in C.number paths.old.items ++ replicate length row }
-    ensures paths { (parents : List ℕ) → IsPath parents start length
-        → ArePaths parents (paths_of C.number paths.old.items)
-        → ArePaths parents (paths_of C.number paths.new.items) }
-    ensures len { vec_len paths.new ≤ vec_len paths.old + 1 }
-    ensures capacity { vec_capacity paths.new ≡ vec_capacity paths.old }
-{
-    if length == 0 {
+    if !is_stored {
         return;
     }
-    paths.push_reserved((C::of(row), C::of(start), C::of(length)));
+    if chains[row].get() != row {
+        return;
+    }
+    enter_chain(row, row, row, marks, positions, entries, steps);
 }
 
-// Climbs from `start` to the first node that the row has visited already, and returns the number of nodes on the way.
-//
-// A node that `row` is the first to leave gets it as its parent.
+// Climbs from `start` to the first chain that the row has entered already, or to the row itself.
 fn climb<C: Count>(
     start: usize,
     row: usize,
+    chains: &mut [C],
+    nexts: &mut [C],
     marks: &mut [C],
-    parents: &mut [C],
-    counts: &mut [C],
+    positions: &mut [usize],
+    entries: &mut Vec<Entry<C>>,
     steps: &mut Steps,
-) -> usize
-    requires width { length marks.old < C.limit }
-    requires start { start ≤ row }
-    requires arrays { AreInRow (climbed_up C.number marks.old parents.old start 0) row }
-    requires closed { IsClosed (climbed_up C.number marks.old parents.old start 0) row }
-    requires below { AreBelowMarks (map C.number counts.old) (map C.number marks.old) }
-    requires count_size { length counts.old ≡ length marks.old }
-    ensures arrays { AreInRow (climbed_up C.number marks.new parents.new start result) row }
-    ensures closed { IsClosed (climbed_up C.number marks.new parents.new start result) row }
-    ensures climbs { AreClimbs
-        (climbed_up C.number marks.old parents.old start 0)
-        (climbed_up C.number marks.new parents.new start result)
-        row (λ j. j ≡ start) }
-    ensures started { IsMarked (climbed_up C.number marks.new parents.new start result) row start }
-    ensures path { IsPath (map C.number parents.new) start result }
-    ensures short { result ≤ row + 1 }
-    ensures counts { (nodes : List ℕ) → AreCounts (map C.number counts.old) nodes
-        → AreCounts (map C.number counts.new)
-        (nodes ++ nodes_up (map C.number parents.new) start result) }
-    ensures below { AreBelowMarks (map C.number counts.new) (map C.number marks.new) }
-    ensures counted { steps.new ≡ steps.old + result }
+)
+    requires width { length chains.old < C.limit }
+    requires row { row < length chains.old }
+    requires next_count { length nexts.old ≡ length chains.old }
+    requires mark_count { length marks.old ≡ length chains.old }
+    requires position_count { length positions.old ≡ length chains.old }
+    requires start { start < row }
+    requires climbed { (p : Raw) × (first : Climb)
+        × IsClimbed p first (climb_of C.number chains.old nexts.old marks.old positions.old
+        entries.old.items) row row 0
+        × Filled (UpperBase p) row start }
+    requires room { vec_len entries.old + unmarked (row + 1) (row + 1) (map C.number marks.old)
+        ≤ vec_capacity entries.old }
+    ensures climbed { (p : Raw) (first : Climb)
+        → IsClimbed p first (climb_of C.number chains.old nexts.old marks.old positions.old
+        entries.old.items) row row 0
+        → Filled (UpperBase p) row start
+        → IsClimbed p first (climb_of C.number chains.new nexts.new marks.new positions.new
+        entries.new.items) row row 0 }
+    ensures kept { (j : ℕ)
+        → IsVisited (climb_of C.number chains.old nexts.old marks.old positions.old
+        entries.old.items) row j
+        → IsVisited (climb_of C.number chains.new nexts.new marks.new positions.new
+        entries.new.items) row j }
+    ensures started { IsVisited (climb_of C.number chains.new nexts.new marks.new positions.new
+        entries.new.items) row start }
+    ensures room { vec_len entries.new + unmarked (row + 1) (row + 1) (map C.number marks.new)
+        ≤ vec_capacity entries.new }
+    ensures counted { steps.new + length entries.old.items ≡ steps.old + length entries.new.items }
 {
-    let mark = row + 1;
     let mut node = start;
-    let mut length = 0;
-    while marks[node].get() != mark {
-        marks[node] = C::of(mark);
-        counts[node] = C::of(counts[node].get() + 1);
-        length += 1;
-        steps.tick();
-        node = next_node(parents, node, row);
+    while node != row {
+        let chain = chains[node].get();
+        prove!(chain <= node);
+        if marks[chain].get() == row + 1 {
+            lower_entry(entries, positions[chain], node);
+            return;
+        }
+        enter_chain(chain, node, row, marks, positions, entries, steps);
+        node = next_node(chain, row, chains, nexts);
     }
-    length
 }
 
-// Returns the parent of `node`, or `row` if the node is `row` or had no parent. In the latter case `row` becomes its parent.
-fn next_node<C: Count>(parents: &mut [C], node: usize, row: usize) -> usize
+// Appends an entry of the row at `node`, and marks its chain as entered there.
+fn enter_chain<C: Count>(
+    chain: usize,
+    node: usize,
+    row: usize,
+    marks: &mut [C],
+    positions: &mut [usize],
+    entries: &mut Vec<Entry<C>>,
+    steps: &mut Steps,
+)
+    requires mark { row + 1 < C.limit }
     requires node { node ≤ row }
-    requires row { row < length parents.old }
-    requires width { row < C.limit }
-    ensures next { IsNext (map C.number parents.old) (map C.number parents.new) node row result }
+    requires chain { chain < length marks.old }
+    requires position_count { length positions.old ≡ length marks.old }
+    requires room { vec_len entries.old < vec_capacity entries.old }
+    ensures marks { map C.number marks.new ≡ slice_set (map C.number marks.old) chain (row + 1) }
+    ensures positions { positions.new ≡ slice_set positions.old chain (length entries.old.items) }
+    ensures rows { rows_in C.number entries.new.items
+        ≡ rows_in C.number entries.old.items ++ row ∷ [] }
+    ensures nodes { nodes_in C.number entries.new.items
+        ≡ nodes_in C.number entries.old.items ++ node ∷ [] }
+    ensures len { vec_len entries.new ≡ vec_len entries.old + 1 }
+    ensures capacity { vec_capacity entries.new ≡ vec_capacity entries.old }
+    ensures counted { steps.new ≡ steps.old + 1 }
 {
-    if node == row {
-        return row;
+    marks[chain] = C::of(row + 1);
+    positions[chain] = entries.len();
+    entries.push_reserved((C::of(row), C::of(node)));
+    steps.tick();
+}
+
+// Moves an entry down to `node`, if that is less.
+fn lower_entry<C: Count>(entries: &mut [Entry<C>], position: usize, node: usize)
+    requires position { position < length entries.old }
+    requires node { node < C.limit }
+    ensures rows { rows_in C.number entries.new ≡ rows_in C.number entries.old }
+    ensures kept { slice_index (nodes_in C.number entries.old) position ≤ node
+        → nodes_in C.number entries.new ≡ nodes_in C.number entries.old }
+    ensures lowered { node < slice_index (nodes_in C.number entries.old) position
+        → nodes_in C.number entries.new
+        ≡ slice_set (nodes_in C.number entries.old) position node }
+{
+    let (row, entered) = entries[position];
+    if node < entered.get() {
+        entries[position] = (row, C::of(node));
     }
-    let parent = parents[node].get();
-    if parent != 0 {
-        return parent;
+}
+
+// Returns the parent of the last node of a chain. If it has none, `row` becomes its parent, and goes on that chain unless it is on
+// another one already.
+fn next_node<C: Count>(chain: usize, row: usize, chains: &mut [C], nexts: &mut [C]) -> usize
+    requires chain { chain < length nexts.old }
+    requires row { row < length chains.old }
+    requires chain_width { chain < C.limit }
+    requires row_width { row < C.limit }
+    ensures next { IsNextNode (map C.number chains.old) (map C.number nexts.old)
+        (map C.number chains.new) (map C.number nexts.new) chain row result }
+{
+    let next = nexts[chain].get();
+    if next != 0 {
+        return next;
     }
-    parents[node] = C::of(row);
+    if chains[row].get() == row {
+        chains[row] = C::of(chain);
+    } else {
+        nexts[chain] = C::of(row);
+    }
     row
 }

@@ -1,61 +1,97 @@
-use Rattle.std.proofs.Common.{length, sym}
+use Rattle.std.proofs.Common.{length, map, sym, ap, arith}
 use Rattle.sparse_factor.specs.Fill.{UpperBase}
+use Rattle.sparse_factor.specs.InnerFilled.{Filled}
 use Rattle.sparse_factor.specs.InnerRowLists.{square_of}
-use Rattle.sparse_factor.specs.InnerPaths.{nodes_in, rows_in}
-use Rattle.sparse_factor.proofs.FactorLaws.{stores_fill, stores_walks, stores_diagonal, upper_low}
-use Rattle.sparse_factor.proofs.PathColumns.{rows_at}
+use Rattle.sparse_factor.specs.InnerChains.{nodes_in, rows_in}
+use Rattle.sparse_factor.proofs.EntryColumns.{rows_at}
+use Rattle.sparse_factor.proofs.FilledColumns.{column_low, column_once, column_filled}
+use Rattle.sparse_factor.proofs.FilledColumns.{columns_filled}
+use Rattle.sparse_factor.proofs.FillLaws.{in_fill}
 use Rattle.sparse_factor.proofs.factorization.fill_of.Goals as goal
 
-pub columns_of_paths-requires-clause-rows : goal.columns_of_paths-requires-clause-rows
-columns_of_paths-requires-clause-rows g c =
+pub entries_by_columns-requires : goal.entries_by_columns-requires
+entries_by_columns-requires g c =
     let f = g.C.Count.number in
-    let r = c.in_ok-parents in
-    rw (c.deref.ensures.value, c.deref-2.ensures.value)
-    (rows_at (length r.parents.items) c.args.pattern.now.major_dim
-    (nodes_in f r.parents.items r.paths.items) (rows_in f r.paths.items)
-    (sym r.ensures.parent_count) r.ensures.rows.0)
+    let r = c.in_ok-chains in
+    let es = r.row_entries.items in
+    rw c.deref.ensures.value (rows_at c.major_dim.result c.args.pattern.now.major_dim
+    (nodes_in f es) (rows_in f es) (sym c.major_dim.ensures) r.ensures.rows.0)
 
-pub returns-clause-fill : goal.returns-clause-fill
-returns-clause-fill g c =
+pub columns_on_chains-requires-clause-low : goal.columns_on_chains-requires-clause-low
+columns_on_chains-requires-clause-low g c =
     let f = g.C.Count.number in
-    let p = c.args.pattern.now in
-    let r = c.in_ok-parents in
-    let d = r.ensures.rows.0 in
-    let rows = square_of d.offsets (nodes_in f r.parents.items r.paths.items) in
-    let transposed = rw (c.deref.ensures.value, c.deref-2.ensures.value) at
-    c.in_ok-l_pattern.ensures.transposed in
-    let turned = transposed (rows_at (length r.parents.items) p.major_dim
-    (nodes_in f r.parents.items r.paths.items) (rows_in f r.paths.items)
-    (sym r.ensures.parent_count) d) in
-    stores_fill (UpperBase p) (upper_low p) rows c.in_ok-l_pattern.l_pattern r.ensures.rows.1 turned
-    c.in_ok-l_pattern.ensures.valid
+    let r = c.in_ok-chains in
+    let es = r.row_entries.items in
+    let d = rows_at c.major_dim.result c.args.pattern.now.major_dim (nodes_in f es) (rows_in f es)
+    (sym c.major_dim.ensures) r.ensures.rows.0 in
+    let transposed = rw c.deref.ensures.value at c.in_ok-entries.ensures.transposed in
+    column_low (map f r.chains.items) (square_of d.offsets (nodes_in f es)) c.in_ok-entries.entries
+    r.ensures.rows.1 (transposed d)
 
-pub returns-clause-walks : goal.returns-clause-walks
-returns-clause-walks g c =
+pub columns_on_chains-requires-clause-once : goal.columns_on_chains-requires-clause-once
+columns_on_chains-requires-clause-once g c =
     let f = g.C.Count.number in
-    let p = c.args.pattern.now in
-    let r = c.in_ok-parents in
-    let d = r.ensures.rows.0 in
-    let rows = square_of d.offsets (nodes_in f r.parents.items r.paths.items) in
-    let transposed = rw (c.deref.ensures.value, c.deref-2.ensures.value) at
-    c.in_ok-l_pattern.ensures.transposed in
-    let turned = transposed (rows_at (length r.parents.items) p.major_dim
-    (nodes_in f r.parents.items r.paths.items) (rows_in f r.paths.items)
-    (sym r.ensures.parent_count) d) in
-    stores_walks (UpperBase p) (upper_low p) rows c.in_ok-l_pattern.l_pattern r.ensures.rows.1
-    turned c.in_ok-l_pattern.ensures.valid
+    let r = c.in_ok-chains in
+    let es = r.row_entries.items in
+    let d = rows_at c.major_dim.result c.args.pattern.now.major_dim (nodes_in f es) (rows_in f es)
+    (sym c.major_dim.ensures) r.ensures.rows.0 in
+    let transposed = rw c.deref.ensures.value at c.in_ok-entries.ensures.transposed in
+    rw c.deref-2.ensures.value (column_once (map f r.chains.items)
+    (square_of d.offsets (nodes_in f es)) c.in_ok-entries.entries r.ensures.rows.1 (transposed d))
 
-pub returns-clause-diagonal : goal.returns-clause-diagonal
-returns-clause-diagonal g c =
+pub returns-clause-places : goal.returns-clause-places
+returns-clause-places g c =
     let f = g.C.Count.number in
-    let p = c.args.pattern.now in
-    let r = c.in_ok-parents in
-    let d = r.ensures.rows.0 in
-    let rows = square_of d.offsets (nodes_in f r.parents.items r.paths.items) in
-    let transposed = rw (c.deref.ensures.value, c.deref-2.ensures.value) at
-    c.in_ok-l_pattern.ensures.transposed in
-    let turned = transposed (rows_at (length r.parents.items) p.major_dim
-    (nodes_in f r.parents.items r.paths.items) (rows_in f r.paths.items)
-    (sym r.ensures.parent_count) d) in
-    stores_diagonal (UpperBase p) (upper_low p) rows c.in_ok-l_pattern.l_pattern r.ensures.rows.1
-    turned c.in_ok-l_pattern.ensures.valid
+    let r = c.in_ok-chains in
+    let es = r.row_entries.items in
+    let d = rows_at c.major_dim.result c.args.pattern.now.major_dim (nodes_in f es) (rows_in f es)
+    (sym c.major_dim.ensures) r.ensures.rows.0 in
+    let transposed = rw c.deref.ensures.value at c.in_ok-entries.ensures.transposed in
+    let places = rw c.deref-2.ensures.value at c.in_ok-l_pattern.ensures.places in
+    columns_filled (map f r.chains.items) (square_of d.offsets (nodes_in f es))
+    c.in_ok-entries.entries r.ensures.rows.1 (transposed d)
+    (Filled (UpperBase c.args.pattern.now)) r.ensures.rows.2 c.in_ok-l_pattern.l_pattern places
+
+pub returns-clause-all_read : goal.returns-clause-all_read
+returns-clause-all_read g c =
+    omega (arith, c.in_ok-chains.ensures.counted, c.columns_on_chains.ensures.onward)
+
+pub returns-in_err-l_pattern-clause-no_more : goal.returns-in_err-l_pattern-clause-no_more
+returns-in_err-l_pattern-clause-no_more g c = λ fill all.
+    let f = g.C.Count.number in
+    let r = c.in_ok-chains in
+    let es = r.row_entries.items in
+    let d = rows_at c.major_dim.result c.args.pattern.now.major_dim (nodes_in f es) (rows_in f es)
+    (sym c.major_dim.ensures) r.ensures.rows.0 in
+    let transposed = rw c.deref.ensures.value at c.in_ok-entries.ensures.transposed in
+    let filled = column_filled (map f r.chains.items) (square_of d.offsets (nodes_in f es))
+    c.in_ok-entries.entries r.ensures.rows.1 (transposed d)
+    (Filled (UpperBase c.args.pattern.now)) r.ensures.rows.2 in
+    let few = rw c.deref-2.ensures.value at c.columns_on_chains.ensures.no_more in
+    omega (
+      arith,
+      few fill (λ i j h. all i j (in_fill ((filled i j).0 h))),
+      r.ensures.counted,
+      c.in_ok-entries.ensures.places,
+      ap length c.deref.ensures.value,
+    )
+
+pub returns-clause-no_more : goal.returns-clause-no_more
+returns-clause-no_more g c = λ fill all.
+    let f = g.C.Count.number in
+    let r = c.in_ok-chains in
+    let es = r.row_entries.items in
+    let d = rows_at c.major_dim.result c.args.pattern.now.major_dim (nodes_in f es) (rows_in f es)
+    (sym c.major_dim.ensures) r.ensures.rows.0 in
+    let transposed = rw c.deref.ensures.value at c.in_ok-entries.ensures.transposed in
+    let filled = column_filled (map f r.chains.items) (square_of d.offsets (nodes_in f es))
+    c.in_ok-entries.entries r.ensures.rows.1 (transposed d)
+    (Filled (UpperBase c.args.pattern.now)) r.ensures.rows.2 in
+    let few = rw c.deref-2.ensures.value at c.columns_on_chains.ensures.no_more in
+    omega (
+      arith,
+      few fill (λ i j h. all i j (in_fill ((filled i j).0 h))),
+      r.ensures.counted,
+      c.in_ok-entries.ensures.places,
+      ap length c.deref.ensures.value,
+    )

@@ -1,155 +1,221 @@
-use Rattle.std.proofs.Common.{◌≡◌, ◌+◌, ◌<◌, ◌≤◌, ◌++◌, ◌∷◌, [], inl, length, map, set, slice_index}
-use Rattle.std.proofs.Common.{◌^◌, append_assoc, refl, sym, ap, ◌∙◌, subst, arith, rules}
-use Rattle.std.proofs.lemmas.List.{append-nil, length-map, map-set}
+use Rattle.std.proofs.Common.{◌≡◌, ◌+◌, ◌<◌, ◌≤◌, ◌++◌, inl, inr, length, map, take}
+use Rattle.std.proofs.Common.{drop, set, slice_index, refl, sym, ap, ◌∙◌, subst, arith}
+use Rattle.std.proofs.lemmas.Grind.{common_steps}
+use Rattle.std.proofs.lemmas.List.{length-map, length_push}
 use Rattle.sparse_counting.proofs.CountLemmas.{read_number}
-use Rattle.sparse_factor.specs.InnerClimbs.{climbs_of, unmarked, AreCounts}
-use Rattle.sparse_factor.specs.InnerPaths.{nodes_up, climbed_up, AreBelowMarks}
-use Rattle.sparse_factor.proofs.UnmarkedNodes.{unmarked-set, unmarked-le}
-use Rattle.sparse_factor.proofs.NodeCounts.{counts_more, below_more}
-use Rattle.sparse_factor.proofs.ClimbSteps.{IsClimbing, begins, ends_closed}
-use Rattle.sparse_factor.proofs.PathSteps.{IsWalking, walk_climbs, walk_on, walk_ends, nodes_more}
+use Rattle.sparse_pattern.specs.Raw.{Raw}
+use Rattle.sparse_factor.specs.InnerChains.{nodes_in, rows_in}
+use Rattle.sparse_factor.specs.InnerEntries.{unmarked}
+use Rattle.sparse_factor.specs.InnerEntries.{Climb, climb_of, IsVisited}
+use Rattle.sparse_factor.proofs.UnmarkedNodes.{unmarked-set}
+use Rattle.sparse_factor.proofs.EntrySteps.{IsClimbing}
+use Rattle.sparse_factor.proofs.EntryWrites.{length-nodes}
+use Rattle.sparse_factor.proofs.EntryClimbs.{chain_read, climb_begins, stepped, lowered, climb_done}
+use Rattle.sparse_factor.proofs.EntryClimbs.{chain_low, entry_inside}
 use Rattle.sparse_factor.proofs.factorization.climbs.climb.Goals as goal
 
-pub loop-marks-init : goal.loop-marks-init
-loop-marks-init g c =
-    let f = g.C.Count.number in
-    let row = c.args.row in
+pub loop-node-init : goal.loop-node-init
+loop-node-init g c =
+    let s = climb_of g.C.Count.number c.args.chains.now c.args.nexts.now c.args.marks.now
+    c.args.positions.now c.args.entries.now.items in
     record {
-      climbing = begins (climbed_up f c.args.marks.now c.args.parents.now c.args.start 0) row
-          c.args.start c.requires.arrays c.requires.closed c.requires.start;
-      walking = inl refl;
-      short = omega (arith, unmarked-le (row + 1) (row + 1) (map f c.args.marks.now));
-      counts = λ nodes are. subst (AreCounts (map f c.args.counts.now)) (sym (append-nil nodes)) are;
-      below = c.requires.below;
+      climbing = λ p first is filled. climb_begins p first s c.args.row c.args.start is filled
+          c.requires.start;
+      within = omega arith;
+      kept = λ j v. v;
+      started = inr refl;
+      room = c.requires.room;
       counted = omega arith;
     }
 
-pub loop-marks-smaller : goal.loop-marks-smaller
-loop-marks-smaller g c =
+pub prove-unreachable-requires : goal.prove-unreachable-requires
+prove-unreachable-requires g c =
     let f = g.C.Count.number in
-    let xs = c.loop-marks.marks in
-    let node = c.loop-marks.node in
-    let is = c.loop-marks.invariant.climbing in
-    let read = read_number f xs node c.index-marks-node.result
-    (omega (arith, is.within, is.arrays.row, length-map xs f)) c.index-marks-node.is in
-    let fewer = unmarked-set (c.args.row + 1) (c.args.row + 1) (map f xs) node
-    (omega (arith, is.within)) (omega (arith, is.within, is.arrays.row))
-    (λ e. c.loop-marks-test.true (c.get.ensures ∙ read ∙ e)) in
-    let marked : map f (set xs node c.of.result) ≡ set (map f xs) node (c.args.row + 1) =
-    map-set f xs node c.of.result ∙ ap (set (map f xs) node) c.of.ensures in
-    rw marked (omega (arith, fewer))
-
-pub overflow_add-length : goal.overflow_add-length
-overflow_add-length g c =
-    let f = g.C.Count.number in
-    let xs = c.loop-marks.marks in
-    let node = c.loop-marks.node in
-    let inv = c.loop-marks.invariant in
-    let is = inv.climbing in
-    let read = read_number f xs node c.index-marks-node.result
-    (omega (arith, is.within, is.arrays.row, length-map xs f)) c.index-marks-node.is in
-    let fewer = unmarked-set (c.args.row + 1) (c.args.row + 1) (map f xs) node
-    (omega (arith, is.within)) (omega (arith, is.within, is.arrays.row))
-    (λ e. c.loop-marks-test.true (c.get.ensures ∙ read ∙ e)) in
-    let law = g.met.C.Count.limit_law in
-    let next : c.loop-marks.length + 1 < 2 ^ 64 = omega (
-      arith,
-      inv.short,
-      fewer,
-      is.arrays.row,
-      length-map xs f,
-      c.requires.width,
-      law,
-      c.loop-marks.auto.marks,
-    ) in
-    search rules
-
-pub loop-marks-preserved : goal.loop-marks-preserved
-loop-marks-preserved g c =
-    let f = g.C.Count.number in
-    let xs = c.loop-marks.marks in
-    let cs = c.loop-marks.counts in
-    let counts = map f cs in
-    let node = c.loop-marks.node in
-    let next = c.next_node-node.result in
     let row = c.args.row in
-    let start = c.args.start in
-    let n = c.loop-marks.length in
-    let inv = c.loop-marks.invariant in
-    let is = inv.climbing in
-    let inside : node < length xs = omega (arith, is.within, is.arrays.row, length-map xs f) in
-    let read = read_number f xs node c.index-marks-node.result inside c.index-marks-node.is in
-    let new = λ (e : slice_index (map f xs) node ≡ row + 1). c.loop-marks-test.true
-    (c.get.ensures ∙ read ∙ e) in
-    let fewer = unmarked-set (row + 1) (row + 1) (map f xs) node (omega (arith, is.within))
-    (omega (arith, is.within, is.arrays.row)) new in
-    let marked : map f (set xs node c.of.result) ≡ set (map f xs) node (row + 1) =
-    map-set f xs node c.of.result ∙ ap (set (map f xs) node) c.of.ensures in
-    let parents = c.next_node-node.new.parents in
-    let ps = map f parents in
-    let size : length ps ≡ length (map f c.loop-marks.parents) =
+    let l = c.loop-node in
+    let s = climb_of f l.chains l.nexts l.marks l.positions l.entries.items in
+    let before : l.node < row = omega (arith, l.invariant.within, c.loop-node-test.true) in
+    let e = chain_read f l.chains l.node c.index-chains-node.result c.get-chain.result
+    (omega (arith, before)) c.index-chains-node.is c.get-chain.ensures in
+    let req = c.requires.climbed in
+    let w = l.invariant.climbing req.0 req.1 req.2 req.3 in
+    let low : c.get-chain.result ≤ l.node =
+    chain_low req.0 req.1 s row l.node w.climbed w.filled before c.get-chain.result e in
+    omega arith
+
+pub lower_entry-requires-clause-position : goal.lower_entry-requires-clause-position
+lower_entry-requires-clause-position g c =
+    let f = g.C.Count.number in
+    let row = c.args.row in
+    let l = c.loop-node in
+    let s = climb_of f l.chains l.nexts l.marks l.positions l.entries.items in
+    let before : l.node < row = omega (arith, l.invariant.within, c.loop-node-test.true) in
+    let e = chain_read f l.chains l.node c.index-chains-node.result c.get-chain.result
+    (omega (arith, before)) c.index-chains-node.is c.get-chain.ensures in
+    let mark = read_number f l.marks c.get-chain.result c.index-marks-chain.result
+    (omega (arith, before)) c.index-marks-chain.is in
+    let old = sym mark ∙ sym c.get.ensures ∙ c.if-get-row.true in
+    let req = c.requires.climbed in
+    let w = l.invariant.climbing req.0 req.1 req.2 req.3 in
+    let inside = entry_inside req.0 req.1 s row l.node w.climbed w.filled before c.get-chain.result e
+    old in
     omega (
       arith,
-      length-map parents f,
-      length-map c.loop-marks.parents f,
-      c.next_node-node.auto.parents,
-    ) in
-    let old = climbed_up f c.args.marks.now c.args.parents.now start 0 in
-    let now = climbed_up f xs c.loop-marks.parents start n in
-    let up = walk_climbs old now row start node next n ps is new size c.next_node-node.ensures.next
-    refl inv.walking in
-    let on = walk_on old now row start node next n ps is new size c.next_node-node.ensures.next refl
-    inv.walking in
-    let more = nodes_more old now row start node next n ps is new size c.next_node-node.ensures.next
-    refl inv.walking in
-    let before = nodes_up (map f c.loop-marks.parents) start n in
-    let inside_counts : node < length cs = omega
-    (arith, inside, c.requires.count_size, c.loop-marks.auto.counts, c.loop-marks.auto.marks) in
-    let within : node < length counts = omega (arith, inside_counts, length-map cs f) in
-    let v = slice_index counts node + 1 in
-    let count = read_number f cs node c.index-counts-node.result inside_counts
-    c.index-counts-node.is in
-    let counted : map f (set cs node c.of-in-loop-marks.result) ≡ set counts node v =
-    map-set f cs node c.of-in-loop-marks.result
-    ∙ ap (set counts node)
-    (c.of-in-loop-marks.ensures ∙ ap (λ x. x + 1) (c.get-in-loop-marks.ensures ∙ count)) in
-    let low : v ≤ row + 1 = omega (arith, inv.below node, is.arrays.high node, new) in
-    record {
-      climbing = subst (λ ms. IsClimbing old (climbs_of ms ps (nodes_up ps start (n + 1))) row start
-          next) (sym marked) up;
-      walking = subst (λ ms. IsWalking (climbs_of ms ps (nodes_up ps start (n + 1))) row start
-          (n + 1) next) (sym marked) on;
-      short = subst (λ ms. n + 1 + unmarked (row + 1) (row + 1) ms ≤ row + 1) (sym marked)
-          (omega (arith, fewer, inv.short));
-      counts = λ nodes are.
-          let added = counts_more counts (nodes ++ before) node v within refl
-          (inv.counts nodes are) in
-          subst (λ xs. AreCounts xs (nodes ++ nodes_up ps start (n + 1))) (sym counted)
-          (subst (AreCounts (set counts node v)) (append_assoc nodes before (node ∷ [])
-          ∙ ap (λ xs. nodes ++ xs) (sym more)) added);
-      below = subst (λ ns. AreBelowMarks ns (map f (set xs node c.of.result))) (sym counted)
-          (subst (λ ms. AreBelowMarks (set counts node v) ms) (sym marked)
-          (below_more counts (map f xs) node v (row + 1) within
-          (omega (arith, inside, length-map xs f)) low inv.below));
-      counted = omega (arith, inv.counted, c.tick.ensures);
+      inside,
+      length-nodes f l.entries.items,
+      ap length c.deref_mut.ensures.value,
+    )
+
+pub returns-then-get-row : goal.returns-then-get-row
+returns-then-get-row g c =
+    let f = g.C.Count.number in
+    let row = c.args.row in
+    let l = c.loop-node in
+    let inv = l.invariant in
+    let chain = c.get-chain.result in
+    let xs = c.lower_entry.new.entries in
+    let s = climb_of f l.chains l.nexts l.marks l.positions l.entries.items in
+    let now = climb_of f l.chains l.nexts l.marks l.positions xs in
+    let before : l.node < row = omega (arith, inv.within, c.loop-node-test.true) in
+    let e = chain_read f l.chains l.node c.index-chains-node.result chain (omega (arith, before))
+    c.index-chains-node.is c.get-chain.ensures in
+    let mark = read_number f l.marks chain c.index-marks-chain.result (omega (arith, before))
+    c.index-marks-chain.is in
+    let old = sym mark ∙ sym c.get.ensures ∙ c.if-get-row.true in
+    let value = c.deref_mut.ensures.value in
+    let rows = rw value at c.lower_entry.ensures.rows in
+    let same = rw value at c.lower_entry.ensures.kept in
+    let other = rw value at c.lower_entry.ensures.lowered in
+    let low = λ (p : Raw) (first : Climb) (w : IsClimbing p first s row l.node).
+    lowered p first s row l.node w.climbed w.filled before chain e (rows_in f xs) (nodes_in f xs)
+    old rows same other in
+    let req = c.requires.climbed in
+    let here = low req.0 req.1 (inv.climbing req.0 req.1 req.2 req.3) in
+    let items : take l.entries.len (xs ++ drop (length xs) l.entries.items) ≡ xs =
+    grind (arith, common_steps) in
+    rw items record {
+      climbed = λ p first is filled. (low p first (inv.climbing p first is filled)).0;
+      kept = λ j v. here.1 j (inv.kept j v);
+      started = elim inv.started [
+        | inl v ↦ here.1 c.args.start v
+        | inr at ↦ subst (λ x. IsVisited now row x) at here.2
+      ];
+      room = inv.room;
+      counted = omega (arith, inv.counted, c.lower_entry.auto.entries, ap length value);
     }
 
-pub returns-clause-closed : goal.returns-clause-closed
-returns-clause-closed g c =
+pub enter_chain-requires-clause-room : goal.enter_chain-requires-clause-room
+enter_chain-requires-clause-room g c =
     let f = g.C.Count.number in
-    let xs = c.loop-marks.marks in
-    let node = c.loop-marks.node in
-    let is = c.loop-marks.invariant.climbing in
-    let read = read_number f xs node c.index-marks-node.result
-    (omega (arith, is.within, is.arrays.row, length-map xs f)) c.index-marks-node.is in
-    let old = climbed_up f c.args.marks.now c.args.parents.now c.args.start 0 in
-    let now = climbed_up f xs c.loop-marks.parents c.args.start c.loop-marks.length in
-    ends_closed old now c.args.row c.args.start node is
-    (sym read ∙ sym c.get.ensures ∙ c.loop-marks-test.false)
+    let row = c.args.row in
+    let l = c.loop-node in
+    let chain = c.get-chain.result in
+    let before : l.node < row = omega (arith, l.invariant.within, c.loop-node-test.true) in
+    let inside : chain < length l.marks = omega (arith, before) in
+    let mark = read_number f l.marks chain c.index-marks-chain.result inside c.index-marks-chain.is in
+    let fewer = unmarked-set (row + 1) (row + 1) (map f l.marks) chain (omega (arith, before))
+    (omega (arith, inside, length-map l.marks f))
+    (λ x. c.if-get-row.false (c.get.ensures ∙ mark ∙ x)) in
+    omega (arith, fewer, l.invariant.room)
 
-pub returns-clause-path : goal.returns-clause-path
-returns-clause-path g c =
-    let now = climbed_up g.C.Count.number c.loop-marks.marks c.loop-marks.parents c.args.start
-    c.loop-marks.length in
-    walk_ends now c.args.row c.args.start c.loop-marks.length c.loop-marks.node
-    c.loop-marks.invariant.walking
+pub loop-node-smaller : goal.loop-node-smaller
+loop-node-smaller g c =
+    let f = g.C.Count.number in
+    let row = c.args.row in
+    let l = c.loop-node in
+    let inv = l.invariant in
+    let chain = c.get-chain.result in
+    let xs = c.enter_chain.new.entries.items in
+    let cs = map f c.next_node-node.new.chains in
+    let ns = map f c.next_node-node.new.nexts in
+    let next = c.next_node-node.result in
+    let s = climb_of f l.chains l.nexts l.marks l.positions l.entries.items in
+    let now = climb_of f c.next_node-node.new.chains c.next_node-node.new.nexts
+    c.enter_chain.new.marks c.enter_chain.new.positions xs in
+    let before : l.node < row = omega (arith, inv.within, c.loop-node-test.true) in
+    let e = chain_read f l.chains l.node c.index-chains-node.result chain (omega (arith, before))
+    c.index-chains-node.is c.get-chain.ensures in
+    let inside : chain < length l.marks = omega (arith, before) in
+    let mark = read_number f l.marks chain c.index-marks-chain.result inside c.index-marks-chain.is in
+    let new = λ (x : slice_index (map f l.marks) chain ≡ row + 1). c.if-get-row.false
+    (c.get.ensures ∙ mark ∙ x) in
+    let long = length-nodes f l.entries.items in
+    let positions = c.enter_chain.ensures.positions ∙ ap (set l.positions chain) (sym long) in
+    let marks = c.enter_chain.ensures.marks in
+    let on = λ (p : Raw) (first : Climb) (w : IsClimbing p first s row l.node).
+    stepped p first s row l.node w.climbed w.filled before chain e cs ns
+    (map f c.enter_chain.new.marks) c.enter_chain.new.positions (rows_in f xs) (nodes_in f xs) next
+    new marks positions c.enter_chain.ensures.rows c.enter_chain.ensures.nodes
+    c.next_node-node.ensures.next in
+    let req = c.requires.climbed in
+    let here = on req.0 req.1 (inv.climbing req.0 req.1 req.2 req.3) in
+    let within = here.0.within in
+    let up = here.3 in
+    omega arith
+
+pub loop-node-preserved : goal.loop-node-preserved
+loop-node-preserved g c =
+    let f = g.C.Count.number in
+    let row = c.args.row in
+    let l = c.loop-node in
+    let inv = l.invariant in
+    let chain = c.get-chain.result in
+    let xs = c.enter_chain.new.entries.items in
+    let cs = map f c.next_node-node.new.chains in
+    let ns = map f c.next_node-node.new.nexts in
+    let next = c.next_node-node.result in
+    let s = climb_of f l.chains l.nexts l.marks l.positions l.entries.items in
+    let now = climb_of f c.next_node-node.new.chains c.next_node-node.new.nexts
+    c.enter_chain.new.marks c.enter_chain.new.positions xs in
+    let before : l.node < row = omega (arith, inv.within, c.loop-node-test.true) in
+    let e = chain_read f l.chains l.node c.index-chains-node.result chain (omega (arith, before))
+    c.index-chains-node.is c.get-chain.ensures in
+    let inside : chain < length l.marks = omega (arith, before) in
+    let mark = read_number f l.marks chain c.index-marks-chain.result inside c.index-marks-chain.is in
+    let new = λ (x : slice_index (map f l.marks) chain ≡ row + 1). c.if-get-row.false
+    (c.get.ensures ∙ mark ∙ x) in
+    let long = length-nodes f l.entries.items in
+    let positions = c.enter_chain.ensures.positions ∙ ap (set l.positions chain) (sym long) in
+    let marks = c.enter_chain.ensures.marks in
+    let on = λ (p : Raw) (first : Climb) (w : IsClimbing p first s row l.node).
+    stepped p first s row l.node w.climbed w.filled before chain e cs ns
+    (map f c.enter_chain.new.marks) c.enter_chain.new.positions (rows_in f xs) (nodes_in f xs) next
+    new marks positions c.enter_chain.ensures.rows c.enter_chain.ensures.nodes
+    c.next_node-node.ensures.next in
+    let req = c.requires.climbed in
+    let here = on req.0 req.1 (inv.climbing req.0 req.1 req.2 req.3) in
+    let fewer = unmarked-set (row + 1) (row + 1) (map f l.marks) chain (omega (arith, before))
+    (omega (arith, inside, length-map l.marks f)) new in
+    record {
+      climbing = λ p first is filled. (on p first (inv.climbing p first is filled)).0;
+      within = here.0.within;
+      kept = λ j v. here.1 j (inv.kept j v);
+      started = inl (elim inv.started [
+        | inl v ↦ here.1 c.args.start v
+        | inr at ↦ subst (λ x. IsVisited now row x) at here.2
+      ]);
+      room = omega (
+        arith,
+        fewer,
+        ap (unmarked (row + 1) (row + 1)) marks,
+        inv.room,
+        c.enter_chain.ensures.len,
+        c.enter_chain.ensures.capacity,
+      );
+      counted = omega (
+        arith,
+        inv.counted,
+        c.enter_chain.ensures.counted,
+        long,
+        length-nodes f xs,
+        ap length c.enter_chain.ensures.nodes,
+        length_push (nodes_in f l.entries.items) l.node,
+      );
+    }
+
+pub returns-clause-climbed : goal.returns-clause-climbed
+returns-clause-climbed g c = λ p first is filled.
+    let l = c.loop-node in
+    let s = climb_of g.C.Count.number l.chains l.nexts l.marks l.positions l.entries.items in
+    climb_done p first s c.args.row l.node (l.invariant.climbing p first is filled)
+    c.loop-node-test.false

@@ -1,101 +1,190 @@
-use Rattle.std.proofs.Common.{◌≡◌, ◌+◌, ◌++◌, map, replicate, slice_index, append_assoc}
-use Rattle.std.proofs.Common.{sym, ap, ◌∙◌, subst, arith}
-use Rattle.std.proofs.lemmas.List.{append-nil, replicate-append-replicate}
-use Rattle.sparse_factor.specs.InnerClimbs.{climbs_of, AreClimbs, AreCounts}
-use Rattle.sparse_factor.specs.InnerPaths.{nodes_up, nodes_of, rows_in, paths_of, climbed}
-use Rattle.sparse_factor.specs.InnerPaths.{climbed_up}
-use Rattle.sparse_factor.proofs.ClimbedRows.{none_started, one_started, one_past, all_started}
-use Rattle.sparse_factor.proofs.PathNodes.{nodes_kept, paths_kept}
-use Rattle.sparse_factor.proofs.PathSteps.{in_row_of, climbs_after_nodes, parents_stay}
+use Rattle.std.proofs.Common.{◌≡◌, ◌+◌, ◌<◌, length, map, set}
+use Rattle.std.proofs.Common.{true, refl, sym, ap, ◌∙◌, subst, arith}
+use Rattle.std.specs.List.{Contains}
+use Rattle.std.proofs.lemmas.List.{length-map, get_or_default}
+use Rattle.sparse_factor.specs.InnerChains.{nodes_in, rows_in}
+use Rattle.sparse_factor.specs.InnerEntries.{climb_of}
+use Rattle.sparse_factor.proofs.UnmarkedNodes.{unmarked-set, unmarked-le}
+use Rattle.sparse_factor.proofs.EntryWrites.{length-nodes}
+use Rattle.sparse_factor.proofs.EntryClimbs.{chain_read}
+use Rattle.sparse_factor.proofs.EntryRows.{row_begins}
+use Rattle.sparse_factor.proofs.EntryStarts.{is_start, start_filled, more_started, more_found}
+use Rattle.sparse_factor.proofs.EntryEnds.{row_visited_ends, row_moved_ends, row_entered_ends}
+use Rattle.sparse_factor.proofs.EntryEnds.{last_new}
 use Rattle.sparse_factor.proofs.factorization.climbs.climb_row.Goals as goal
 use Rattle.sparse_factor.proofs.factorization.climbs.climb_row.Goals.{then-start-row}
-use Rattle.sparse_factor.proofs.factorization.climbs.climb_row.Goals.{else-start-row}
+use Rattle.sparse_factor.proofs.factorization.climbs.climb_row.Goals.{else-start-row+then-start-row-2}
+use Rattle.sparse_factor.proofs.factorization.climbs.climb_row.Goals.{else-start-row+else-start-row-2}
 
 pub loop-start-init : goal.loop-start-init
 loop-start-init g c =
     let f = g.C.Count.number in
+    let row = c.args.row in
+    let s = climb_of f c.args.chains.now c.args.nexts.now c.args.marks.now c.args.positions.now
+    c.args.entries.now.items in
     record {
-      climbs = none_started (climbed f c.args.marks.now c.args.parents.now c.args.paths.now.items)
-          c.args.row c.args.starts.now c.requires.arrays c.requires.closed;
-      paths = c.requires.paths;
-      room = omega (arith, c.requires.room);
-      counts = c.requires.counts;
-      below = c.requires.below;
-      counted = (0, omega arith, sym (append-nil (rows_in f c.args.paths.now.items)));
+      climbed = λ p base are. row_begins p s row are
+          (omega (arith, are.sizes.chains, length-map c.args.chains.now f, c.requires.row));
+      started = λ k lt below. absurd (omega arith);
+      stored = λ t. cc;
+      found = λ k lt e. absurd (omega arith);
+      room = omega (arith, unmarked-le (row + 1) (row + 1) (map f c.args.marks.now), c.requires.room);
+      counted = omega arith;
     }
+
+pub climb-requires-clause-climbed : goal.climb-requires-clause-climbed
+climb-requires-clause-climbed g c =
+    let s = climb_of g.C.Count.number c.args.chains.now c.args.nexts.now c.args.marks.now
+    c.args.positions.now c.args.entries.now.items in
+    let req = c.requires.climbed in (
+      req.0,
+      s,
+      c.loop-start.invariant.climbed req.0 req.1 req.2,
+      start_filled req.0 c.args.starts.now c.args.row c.loop-start.start-index req.1
+          c.loop-start-test.true (omega (arith, c.if-start-row.true)),
+    )
 
 pub loop-start-preserved : goal.loop-start-preserved
 loop-start-preserved g c =
     let f = g.C.Count.number in
     let row = c.args.row in
-    let start = slice_index c.args.starts.now c.loop-start.start-index in
-    let ps = c.loop-start.paths.items in
-    let m = map f c.loop-start.marks in
-    let p = map f c.loop-start.parents in
-    let old = climbed f c.args.marks.now c.args.parents.now c.args.paths.now.items in
-    let mid = climbed f c.loop-start.marks c.loop-start.parents ps in
-    let inv = c.loop-start.invariant in
+    let l = c.loop-start in
+    let inv = l.invariant in
+    let t = l.start-index in
+    let starts = c.args.starts.now in
+    let first = climb_of f c.args.chains.now c.args.nexts.now c.args.marks.now
+    c.args.positions.now c.args.entries.now.items in
+    let s = climb_of f l.chains l.nexts l.marks l.positions l.entries.items in
     elim c.if-start-row.branch [
       | then-start-row w ↦
-          let n = w.climb-length.result in
-          let m' = map f w.climb-length.new.marks in
-          let p' = map f w.climb-length.new.parents in
-          let qs = w.keep_path.new.paths.items in
-          let climbs = w.climb-length.ensures.climbs in
-          let kept = parents_stay (climbed_up f c.loop-start.marks c.loop-start.parents start 0)
-          (climbed_up f w.climb-length.new.marks w.climb-length.new.parents start n) row
-          (λ j. j ≡ start) climbs in
-          let same = nodes_kept p p' kept (paths_of f ps) inv.paths in
-          let nodes : nodes_of p' (paths_of f qs) ≡ nodes_of p (paths_of f ps) ++ nodes_up p' start
-          n = w.keep_path.ensures.nodes p' ∙ ap (λ xs. xs ++ nodes_up p' start n) same in
-          let new = climbed f w.climb-length.new.marks w.climb-length.new.parents qs in
-          let after = subst (λ xs. AreClimbs mid (climbs_of m' p' xs) row (λ j. j ≡ start))
-          (sym nodes) (climbs_after_nodes m p m' p' (nodes_of p (paths_of f ps))
-          (nodes_up p' start n) row (λ j. j ≡ start) climbs) in
-          let arrays = in_row_of m' p' (nodes_up p' start n) (nodes_of p' (paths_of f qs)) row
-          w.climb-length.ensures.arrays in
-          let h = inv.counted in
-          rw (w.marks-is, w.parents-is, w.counts-is, w.paths-is, w.steps-is) record {
-            climbs = one_started old mid row c.args.starts.now c.loop-start.start-index inv.climbs
-                c.loop-start-test.true new w.if-start-row.true arrays w.climb-length.ensures.closed
-                after w.climb-length.ensures.started;
-            paths = w.keep_path.ensures.paths p' w.climb-length.ensures.path
-                (paths_kept p p' kept (paths_of f ps) inv.paths);
-            room = omega (arith, inv.room, w.keep_path.ensures.len, w.keep_path.ensures.capacity);
-            counts = subst (AreCounts (map f w.climb-length.new.counts)) (sym nodes)
-                (w.climb-length.ensures.counts (nodes_of p (paths_of f ps)) inv.counts);
-            below = w.climb-length.ensures.below;
-            counted = (
-              h.0 + n,
-              omega (arith, h.1, w.climb-length.ensures.counted, c.tick.ensures),
-              w.keep_path.ensures.rows ∙ ap (λ xs. xs ++ replicate n row) h.2
-                  ∙ append_assoc (rows_in f c.args.paths.now.items) (replicate h.0 row)
-                  (replicate n row)
-                  ∙ ap (λ xs. rows_in f c.args.paths.now.items ++ xs)
-                  (replicate-append-replicate h.0 n row),
-            );
+          let on = w.climb.new in
+          let new = climb_of f on.chains on.nexts on.marks on.positions on.entries.items in
+          rw (
+            w.chains-is,
+            w.nexts-is,
+            w.marks-is,
+            w.positions-is,
+            w.entries-is,
+            w.steps-is,
+            w.is_stored-is,
+          ) record {
+            climbed = λ p base are. w.climb.ensures.climbed p first (inv.climbed p base are)
+                (start_filled p starts row t base c.loop-start-test.true
+                (omega (arith, w.if-start-row.true)));
+            started = more_started starts t row s new w.climb.ensures.kept inv.started
+                (λ below. w.climb.ensures.started);
+            stored = inv.stored;
+            found = more_found starts t row (l.is_stored ≡ true) inv.found
+                (λ e. absurd (omega (arith, e, w.if-start-row.true)));
+            room = w.climb.ensures.room;
+            counted = omega (arith, inv.counted, w.climb.ensures.counted, c.tick.ensures);
           }
-      | else-start-row w ↦ rw (w.marks-is, w.parents-is, w.counts-is, w.paths-is, w.steps-is) record {
-        climbs = one_past old mid row c.args.starts.now c.loop-start.start-index inv.climbs
-            c.loop-start-test.true w.if-start-row.false;
-        paths = inv.paths;
-        room = omega (arith, inv.room);
-        counts = inv.counts;
-        below = inv.below;
-        counted = let h = inv.counted in (h.0, omega (arith, h.1, c.tick.ensures), h.2);
+      | else-start-row+then-start-row-2 w ↦ rw (
+        w.chains-is,
+        w.nexts-is,
+        w.marks-is,
+        w.positions-is,
+        w.entries-is,
+        w.steps-is,
+        w.is_stored-is,
+      ) record {
+        climbed = inv.climbed;
+        started = more_started starts t row s s (λ j v. v) inv.started
+            (λ below. absurd (omega (arith, below, w.if-start-row.false)));
+        stored = λ h. subst (Contains starts) w.if-start-row-2.true
+            (is_start starts t c.loop-start-test.true);
+        found = λ k lt e. refl;
+        room = inv.room;
+        counted = omega (arith, inv.counted, c.tick.ensures);
+      }
+      | else-start-row+else-start-row-2 w ↦ rw (
+        w.chains-is,
+        w.nexts-is,
+        w.marks-is,
+        w.positions-is,
+        w.entries-is,
+        w.steps-is,
+        w.is_stored-is,
+      ) record {
+        climbed = inv.climbed;
+        started = more_started starts t row s s (λ j v. v) inv.started
+            (λ below. absurd (omega (arith, below, w.if-start-row.false)));
+        stored = inv.stored;
+        found = more_found starts t row (l.is_stored ≡ true) inv.found
+            (λ e. absurd (w.if-start-row-2.false e));
+        room = inv.room;
+        counted = omega (arith, inv.counted, c.tick.ensures);
       }
     ]
 
-pub returns-clause-started : goal.returns-clause-started
-returns-clause-started g c =
+pub returns-then-not-is_stored-clause-climbed : goal.returns-then-not-is_stored-clause-climbed
+returns-then-not-is_stored-clause-climbed g c = λ p base are.
     let f = g.C.Count.number in
-    all_started (climbed f c.args.marks.now c.args.parents.now c.args.paths.now.items)
-    (climbed f c.loop-start.marks c.loop-start.parents c.loop-start.paths.items) c.args.row
-    c.args.starts.now c.loop-start.start-index c.loop-start.invariant.climbs (omega arith)
+    let l = c.loop-start in
+    let inv = l.invariant in
+    let starts = c.args.starts.now in
+    let first = climb_of f c.args.chains.now c.args.nexts.now c.args.marks.now
+    c.args.positions.now c.args.entries.now.items in
+    let s = climb_of f l.chains l.nexts l.marks l.positions l.entries.items in
+    row_visited_ends p first s c.args.row are (inv.climbed p base are) starts base
+    (λ k lt below. inv.started k (omega arith) below)
+    (λ h.
+    let at = get_or_default starts h.0 0 c.args.row h.1 ∙ h.2 in
+    let yes = inv.found h.0 (omega (arith, h.1)) at in
+    let no = c.if-not-is_stored.true in
+    absurd (cc (yes, no)))
 
-pub returns-clause-counted : goal.returns-clause-counted
-returns-clause-counted g c = let h = c.loop-start.invariant.counted in (
-  h.0,
-  omega (arith, h.1, c.loop-start-test.false),
-  h.2,
-)
+pub returns-then-get-row-clause-climbed : goal.returns-then-get-row-clause-climbed
+returns-then-get-row-clause-climbed g c = λ p base are.
+    let f = g.C.Count.number in
+    let l = c.loop-start in
+    let inv = l.invariant in
+    let row = c.args.row in
+    let first = climb_of f c.args.chains.now c.args.nexts.now c.args.marks.now
+    c.args.positions.now c.args.entries.now.items in
+    let s = climb_of f l.chains l.nexts l.marks l.positions l.entries.items in
+    let e = chain_read f l.chains row c.index-chains-row.result c.get.result (omega arith)
+    c.index-chains-row.is c.get.ensures in
+    row_moved_ends p first s row are (inv.climbed p base are) c.args.starts.now base
+    (λ k lt below. inv.started k (omega arith) below)
+    (λ own. c.if-get-row.true (e ∙ own))
+
+pub enter_chain-requires-clause-room : goal.enter_chain-requires-clause-room
+enter_chain-requires-clause-room g c =
+    let f = g.C.Count.number in
+    let l = c.loop-start in
+    let inv = l.invariant in
+    let row = c.args.row in
+    let first = climb_of f c.args.chains.now c.args.nexts.now c.args.marks.now
+    c.args.positions.now c.args.entries.now.items in
+    let s = climb_of f l.chains l.nexts l.marks l.positions l.entries.items in
+    let e = chain_read f l.chains row c.index-chains-row.result c.get.result (omega arith)
+    c.index-chains-row.is c.get.ensures in
+    let req = c.requires.climbed in
+    let new = last_new req.0 first s row req.2 (inv.climbed req.0 req.1 req.2) c.args.starts.now req.1
+    (λ k lt below. inv.started k (omega arith) below) (inv.stored c.if-not-is_stored.false)
+    (sym e ∙ c.if-get-row.false) in
+    let inside : row < length l.marks = omega arith in
+    let fewer = unmarked-set (row + 1) (row + 1) (map f l.marks) row (omega arith)
+    (omega (arith, inside, length-map l.marks f)) new in
+    omega (arith, fewer, inv.room)
+
+pub returns-clause-climbed : goal.returns-clause-climbed
+returns-clause-climbed g c = λ p base are.
+    let f = g.C.Count.number in
+    let l = c.loop-start in
+    let inv = l.invariant in
+    let row = c.args.row in
+    let xs = c.enter_chain.new.entries.items in
+    let first = climb_of f c.args.chains.now c.args.nexts.now c.args.marks.now
+    c.args.positions.now c.args.entries.now.items in
+    let s = climb_of f l.chains l.nexts l.marks l.positions l.entries.items in
+    let e = chain_read f l.chains row c.index-chains-row.result c.get.result (omega arith)
+    c.index-chains-row.is c.get.ensures in
+    let positions = c.enter_chain.ensures.positions
+    ∙ ap (set l.positions row) (sym (length-nodes f l.entries.items)) in
+    row_entered_ends p first s row are (inv.climbed p base are) c.args.starts.now base
+    (λ k lt below. inv.started k (omega arith) below) (inv.stored c.if-not-is_stored.false)
+    (sym e ∙ c.if-get-row.false) (map f c.enter_chain.new.marks) c.enter_chain.new.positions
+    (rows_in f xs) (nodes_in f xs) c.enter_chain.ensures.marks positions c.enter_chain.ensures.rows
+    c.enter_chain.ensures.nodes

@@ -1,21 +1,26 @@
-use Rattle.std.proofs.Common.{◌≡◌, ℕ, ◌+◌, ◌≤◌, ◌++◌, length, map, replicate, vec_len}
+use Rattle.std.proofs.Common.{◌≡◌, ℕ, ◌+◌, ◌<◌, ◌≤◌, true, get_or, length, map, vec_len}
 use Rattle.std.specs.Prelude.{vec_capacity}
-use Rattle.sparse_factor.specs.InnerClimbs.{AreCounts}
-use Rattle.sparse_factor.specs.InnerPaths.{nodes_in, rows_in, paths_of, climbed, ArePaths}
-use Rattle.sparse_factor.specs.InnerPaths.{AreBelowMarks}
-use Rattle.sparse_factor.proofs.ClimbedRows.{AreStarted}
+use Rattle.std.specs.List.{Contains}
+use Rattle.sparse_pattern.specs.Raw.{Raw}
+use Rattle.sparse_factor.specs.InnerEntries.{unmarked}
+use Rattle.sparse_factor.specs.InnerEntries.{climb_of, IsVisited, IsBase, IsClimbed, AreClimbed}
 use Rattle.sparse_factor.proofs.factorization.climbs.climb_row.Given as goal
 
 abbrev pub invariant-loop-start : goal.invariant-loop-start
 invariant-loop-start g l =
     let f = g.C.Count.number in
+    let old = climb_of f l.initial.chains l.initial.nexts l.initial.marks l.initial.positions
+    l.initial.entries.items in
+    let now = climb_of f l.chains l.nexts l.marks l.positions l.entries.items in
     record {
-      climbs : AreStarted (climbed f l.initial.marks l.initial.parents l.initial.paths.items)
-          (climbed f l.marks l.parents l.paths.items) l.row l.starts l.start-index;
-      paths : ArePaths (map f l.parents) (paths_of f l.paths.items);
-      room : vec_len l.paths + length l.starts ≤ vec_capacity l.paths + l.start-index;
-      counts : AreCounts (map f l.counts) (nodes_in f l.parents l.paths.items);
-      below : AreBelowMarks (map f l.counts) (map f l.marks);
-      counted : (n : ℕ) × (l.steps ≡ l.initial.steps + n + l.start-index)
-          × (rows_in f l.paths.items ≡ rows_in f l.initial.paths.items ++ replicate n l.row);
+      climbed : (p : Raw) → IsBase p l.starts l.row → AreClimbed p old l.row
+          → IsClimbed p old now l.row l.row 0;
+      started : (k : ℕ) → k < l.start-index → get_or l.starts k 0 < l.row
+          → IsVisited now l.row (get_or l.starts k 0);
+      stored : l.is_stored ≡ true → Contains l.starts l.row;
+      found : (k : ℕ) → k < l.start-index → get_or l.starts k 0 ≡ l.row → l.is_stored ≡ true;
+      room : vec_len l.entries + unmarked (l.row + 1) (l.row + 1) (map f l.marks)
+          ≤ vec_capacity l.entries;
+      counted : l.steps + length l.initial.entries.items
+          ≡ l.initial.steps + l.start-index + length l.entries.items;
     }

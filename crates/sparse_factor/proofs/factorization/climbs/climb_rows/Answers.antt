@@ -1,192 +1,146 @@
-use Rattle.std.proofs.Common.{◌≡◌, ℕ, ◌+◌, ◌≤◌, ◌++◌, length, map, take, drop, replicate}
-use Rattle.std.proofs.Common.{length-append, ap, ◌∙◌, arith}
+use Rattle.std.proofs.Common.{◌≡◌, ℕ, ◌≤◌, ◌++◌, length, map, take, drop, ap, ◌∙◌, arith}
 use Rattle.std.proofs.lemmas.Grind.{common_steps}
 use Rattle.std.proofs.lemmas.List.{length-map, length-replicate}
 use Rattle.sparse_pattern.specs.Raw.{start_of, nnz_of}
 use Rattle.sparse_pattern.proofs.PatternLanes.{length-lane}
 use Rattle.sparse_pattern.proofs.Positions.{starts_ordered}
 use Rattle.sparse_factor.specs.Fill.{UpperBase}
-use Rattle.sparse_factor.specs.InnerPaths.{nodes_in, rows_in, paths_of, climbed}
+use Rattle.sparse_factor.specs.InnerChains.{nodes_in}
+use Rattle.sparse_factor.specs.InnerEntries.{climb_of, AreClimbed}
 use Rattle.sparse_factor.proofs.FillCounts.{found_at_most}
-use Rattle.sparse_factor.proofs.FilledRows.{no_counts, none_below, row_begins, row_closed}
-use Rattle.sparse_factor.proofs.AllRows.{starts_base}
-use Rattle.sparse_factor.proofs.PathNodes.{length-rows_of}
-use Rattle.sparse_factor.proofs.PathRows.{no_filled_paths, row_paths, path_rows}
+use Rattle.sparse_factor.proofs.EntryWrites.{length-nodes}
+use Rattle.sparse_factor.proofs.EntryStarts.{starts_base}
+use Rattle.sparse_factor.proofs.EntryAll.{none_climbed, climbed_rows}
 use Rattle.sparse_factor.proofs.factorization.climbs.climb_rows.Goals as goal
+
+pub loop-row-init : goal.loop-row-init
+loop-row-init g c =
+    let f = g.C.Count.number in
+    let p = c.args.pattern.now in
+    let size = c.major_dim-size.ensures in
+    let chains = c.in_ok-chains.chains.items in
+    let nexts = c.in_ok-nexts.nexts.items in
+    let marks = c.in_ok-marks.marks.items in
+    let positions = c.in_ok-positions.positions.items in
+    let no_nexts = c.in_ok-nexts.ensures in
+    let no_marks = c.in_ok-marks.ensures in
+    let count : length positions ≡ p.major_dim = omega
+    (arith, c.in_ok-positions.positions.ok.0, c.in_ok-positions.ensures.len, size) in
+    let zeros = length-replicate {A = ℕ} c.major_dim-size.result 0 in
+    rw c.new-entries.ensures.items record {
+      climbed = none_climbed p (map f chains) (map f nexts) (map f marks) positions
+          (length-map chains f ∙ c.in_ok-chains.ensures.chain_count ∙ size)
+          (rw size at c.in_ok-chains.ensures.own) (rw size at no_nexts) (rw size at no_marks) count;
+      chain_count = c.in_ok-chains.ensures.chain_count ∙ size;
+      next_count = omega (arith, length-map nexts f, ap length no_nexts, zeros, size);
+      mark_count = omega (arith, length-map marks f, ap length no_marks, zeros, size);
+      position_count = count;
+      counted = omega (arith, c.major_offsets.ensures.valid.first);
+    }
 
 pub returns-in_err-reserve-clause-no_more : goal.returns-in_err-reserve-clause-no_more
 returns-in_err-reserve-clause-no_more g c = λ fill all.
     let f = g.C.Count.number in
     let p = c.args.pattern.now in
+    let l = c.loop-row in
     let valid = c.major_offsets.ensures.valid in
-    let inv = c.loop-row.invariant in
-    let long = length-rows_of (map f c.loop-row.parents.items)
-    (paths_of f c.loop-row.paths.items) in
-    let few = found_at_most (UpperBase p) c.loop-row.row
-    (length (nodes_in f c.loop-row.parents.items c.loop-row.paths.items))
-    inv.filled.filled.found fill all in
-    let read : start_of p c.loop-row.row ≤ nnz_of p =
+    let few = found_at_most (UpperBase p) l.row (length (nodes_in f l.entries.items))
+    l.invariant.climbed.found fill all in
+    let read : start_of p l.row ≤ nnz_of p =
     omega (
       arith,
-      starts_ordered p valid c.loop-row.row p.major_dim (omega arith) (omega arith),
+      starts_ordered p valid l.row p.major_dim (omega arith) (omega arith),
       valid.last,
     ) in
-    omega (arith, few, read, inv.counted, long)
+    omega (arith, few, read, l.invariant.counted, length-nodes f l.entries.items)
+
+pub climb_row-requires-clause-climbed : goal.climb_row-requires-clause-climbed
+climb_row-requires-clause-climbed g c =
+    let p = c.args.pattern.now in
+    let row = c.loop-row.row in
+    let valid = c.major_offsets.ensures.valid in (
+      p,
+      starts_base p valid row c.lane.result.now (omega arith) c.lane.ensures,
+      rw (
+        c.deref_mut.ensures.value,
+        c.deref_mut-in-loop-row.ensures.value,
+        c.deref_mut-in-loop-row-2.ensures.value,
+        c.deref_mut-in-loop-row-3.ensures.value,
+        c.reserve.ensures.items,
+      ) c.loop-row.invariant.climbed,
+    )
 
 pub loop-row-preserved : goal.loop-row-preserved
 loop-row-preserved g c =
     let f = g.C.Count.number in
     let p = c.args.pattern.now in
-    let row = c.loop-row.row in
+    let l = c.loop-row in
+    let row = l.row in
+    let inv = l.invariant in
     let valid = c.major_offsets.ensures.valid in
-    let inv = c.loop-row.invariant in
-    let old-paths = paths_of f c.loop-row.paths.items in
-    let new-paths = paths_of f c.climb_row.new.paths.items in
-    let clauses = rw (
-      c.deref_mut.ensures.value,
-      c.deref_mut-in-loop-row.ensures.value,
-      c.reserve.ensures.items,
-    ) at c.climb_row.ensures.climbs in
-    let found = rw c.reserve.ensures.items at c.climb_row.ensures.counted in
-    let starts = starts_base p valid row c.lane-starts.result.now (omega arith)
-    c.lane-starts.ensures in
-    let size : length (map f c.climb_row.new.marks) ≡ p.major_dim =
-    omega (
-      arith,
-      length-map c.climb_row.new.marks f,
-      c.climb_row.auto.marks,
-      ap length c.deref_mut.ensures.value,
-      length-map c.loop-row.marks.items f,
-      inv.filled.filled.mark_count,
-    ) in
-    let more = row_paths (UpperBase p) p.major_dim (map f c.loop-row.marks.items)
-    (map f c.loop-row.parents.items) old-paths row inv.filled (map f c.climb_row.new.marks)
-    (map f c.climb_row.new.parents) new-paths c.lane-starts.result.now starts
-    c.climb_row.ensures.arrays c.climb_row.ensures.closed clauses c.climb_row.ensures.started
-    size c.climb_row.ensures.paths found.0 found.2 in
+    let value = c.deref_mut.ensures.value in
+    let value-2 = c.deref_mut-in-loop-row.ensures.value in
+    let value-3 = c.deref_mut-in-loop-row-2.ensures.value in
+    let value-4 = c.deref_mut-in-loop-row-3.ensures.value in
+    let old : AreClimbed p (climb_of f c.deref_mut.result.now c.deref_mut-in-loop-row.result.now
+    c.deref_mut-in-loop-row-2.result.now c.deref_mut-in-loop-row-3.result.now
+    c.reserve.new.self.items) row =
+    rw (value, value-2, value-3, value-4, c.reserve.ensures.items) inv.climbed in
+    let base = starts_base p valid row c.lane.result.now (omega arith) c.lane.ensures in
+    let new = c.climb_row.ensures.climbed p base old in
+    let on = c.climb_row.new in
+    let chains : take l.chains.len (on.chains ++ drop (length on.chains) l.chains.items)
+    ≡ on.chains = grind (arith, common_steps) in
+    let nexts : take l.nexts.len (on.nexts ++ drop (length on.nexts) l.nexts.items)
+    ≡ on.nexts = grind (arith, common_steps) in
+    let marks : take l.marks.len (on.marks ++ drop (length on.marks) l.marks.items)
+    ≡ on.marks = grind (arith, common_steps) in
+    let positions : take l.positions.len (on.positions ++ drop (length on.positions) l.positions.items)
+    ≡ on.positions = grind (arith, common_steps) in
     let lane = length-lane p row (valid.lanes row (omega arith)) in
-    let long = ap length c.lane-starts.ensures in
-    let marks : take c.loop-row.marks.len (c.climb_row.new.marks ++ drop
-    (length c.climb_row.new.marks) c.loop-row.marks.items) ≡ c.climb_row.new.marks =
-    grind (arith, common_steps) in
-    let parents : take c.loop-row.parents.len
-    (c.climb_row.new.parents ++ drop (length c.climb_row.new.parents) c.loop-row.parents.items)
-    ≡ c.climb_row.new.parents = grind (arith, common_steps) in
-    let counts : take c.loop-row.counts.len (c.climb_row.new.counts ++ drop
-    (length c.climb_row.new.counts) c.loop-row.counts.items) ≡ c.climb_row.new.counts =
-    grind (arith, common_steps) in
-    let rows : length (rows_in f c.climb_row.new.paths.items) ≡ length
-    (rows_in f c.loop-row.paths.items) + found.0 =
-    omega (
-      arith,
-      ap length found.2,
-      length-append (rows_in f c.loop-row.paths.items)
-          (replicate found.0 row),
-      length-replicate {A = ℕ} found.0 row,
-    ) in
-    rw (marks, parents, counts) record {
-      filled = more;
-      counts = c.climb_row.ensures.counts;
-      below = c.climb_row.ensures.below;
-      count_size = c.climb_row.auto.counts ∙ ap length c.deref_mut-in-loop-row-2.ensures.value
-          ∙ inv.count_size;
+    let long = ap length c.lane.ensures in
+    rw (chains, nexts, marks, positions) record {
+      climbed = new;
+      chain_count = c.climb_row.auto.chains ∙ ap length value ∙ inv.chain_count;
+      next_count = c.climb_row.auto.nexts ∙ ap length value-2 ∙ inv.next_count;
+      mark_count = c.climb_row.auto.marks ∙ ap length value-3 ∙ inv.mark_count;
+      position_count = c.climb_row.auto.positions ∙ ap length value-4 ∙ inv.position_count;
       counted = omega (
         arith,
         lane,
         long,
         (valid.lanes row (omega arith)).ordered,
         inv.counted,
-        found.1,
-        rows,
+        c.climb_row.ensures.counted,
+        ap length c.reserve.ensures.items,
       );
     }
 
 pub returns-clause-rows : goal.returns-clause-rows
 returns-clause-rows g c =
-    let f = g.C.Count.number in
-    path_rows c.args.pattern.now (map f c.loop-row.marks.items) (map f c.loop-row.parents.items)
-    (paths_of f c.loop-row.paths.items) c.loop-row.row (omega arith) c.loop-row.invariant.filled
+    let l = c.loop-row in
+    let s = climb_of g.C.Count.number l.chains.items l.nexts.items l.marks.items l.positions.items
+    l.entries.items in
+    climbed_rows c.args.pattern.now s l.row (omega arith) l.invariant.climbed
 
 pub returns-clause-no_more : goal.returns-clause-no_more
 returns-clause-no_more g c = λ fill all.
     let f = g.C.Count.number in
     let p = c.args.pattern.now in
+    let l = c.loop-row in
     let valid = c.major_offsets.ensures.valid in
-    let inv = c.loop-row.invariant in
-    let long = length-rows_of (map f c.loop-row.parents.items)
-    (paths_of f c.loop-row.paths.items) in
-    let few = found_at_most (UpperBase p) c.loop-row.row
-    (length (nodes_in f c.loop-row.parents.items c.loop-row.paths.items))
-    inv.filled.filled.found fill all in
-    let read : start_of p c.loop-row.row ≤ nnz_of p =
+    let few = found_at_most (UpperBase p) l.row (length (nodes_in f l.entries.items))
+    l.invariant.climbed.found fill all in
+    let read : start_of p l.row ≤ nnz_of p =
     omega (
       arith,
-      starts_ordered p valid c.loop-row.row p.major_dim (omega arith) (omega arith),
+      starts_ordered p valid l.row p.major_dim (omega arith) (omega arith),
       valid.last,
     ) in
-    omega (arith, few, read, inv.counted, long)
+    omega (arith, few, read, l.invariant.counted, length-nodes f l.entries.items)
 
-pub loop-row-init : goal.loop-row-init
-loop-row-init g c =
-    let f = g.C.Count.number in
-    let p = c.args.pattern.now in
-    let counts = map f c.in_ok-counts.counts.items in
-    let zeros = c.in_ok-counts.ensures in
-    let size = c.major_dim-size.ensures in
-    rw c.new-paths.ensures.items record {
-      filled = no_filled_paths (UpperBase p) p.major_dim (map f c.in_ok-marks.marks.items)
-          (map f c.in_ok-parents.parents.items) (rw size at c.in_ok-marks.ensures)
-          (rw size at c.in_ok-parents.ensures);
-      counts = no_counts c.major_dim-size.result counts zeros;
-      below = none_below c.major_dim-size.result counts (map f c.in_ok-marks.marks.items) zeros;
-      count_size = omega (
-        arith,
-        length-map c.in_ok-counts.counts.items f,
-        ap length zeros,
-        length-replicate {A = ℕ} c.major_dim-size.result 0,
-        size,
-      );
-      counted = omega (arith, c.major_offsets.ensures.valid.first);
-    }
-
-pub climb_row-requires-clause-arrays : goal.climb_row-requires-clause-arrays
-climb_row-requires-clause-arrays g c =
-    let f = g.C.Count.number in
-    let p = c.args.pattern.now in
-    let s = climbed f c.loop-row.marks.items c.loop-row.parents.items c.loop-row.paths.items in
-    rw (c.deref_mut.ensures.value, c.deref_mut-in-loop-row.ensures.value, c.reserve.ensures.items)
-    (row_begins (UpperBase p) p.major_dim c.loop-row.invariant.filled.offsets s c.loop-row.row
-    c.loop-row.invariant.filled.filled (omega arith))
-
-pub climb_row-requires-clause-closed : goal.climb_row-requires-clause-closed
-climb_row-requires-clause-closed g c =
-    let f = g.C.Count.number in
-    let p = c.args.pattern.now in
-    let s = climbed f c.loop-row.marks.items c.loop-row.parents.items c.loop-row.paths.items in
-    rw (c.deref_mut.ensures.value, c.deref_mut-in-loop-row.ensures.value)
-    (row_closed (UpperBase p) p.major_dim c.loop-row.invariant.filled.offsets s c.loop-row.row
-    c.loop-row.invariant.filled.filled)
-
-pub climb_row-requires-clause-paths : goal.climb_row-requires-clause-paths
-climb_row-requires-clause-paths g c =
-    rw (c.deref_mut-in-loop-row.ensures.value, c.reserve.ensures.items)
-    c.loop-row.invariant.filled.whole
-
-pub climb_row-requires-clause-counts : goal.climb_row-requires-clause-counts
-climb_row-requires-clause-counts g c =
-    rw (
-      c.deref_mut-in-loop-row.ensures.value,
-      c.deref_mut-in-loop-row-2.ensures.value,
-      c.reserve.ensures.items,
-    ) c.loop-row.invariant.counts
-
-pub climb_row-requires-clause-below : goal.climb_row-requires-clause-below
-climb_row-requires-clause-below g c =
-    rw (c.deref_mut.ensures.value, c.deref_mut-in-loop-row-2.ensures.value)
-    c.loop-row.invariant.below
-
-pub returns-clause-all_read : goal.returns-clause-all_read
-returns-clause-all_read g c =
+pub returns-clause-counted : goal.returns-clause-counted
+returns-clause-counted g c =
     let p = c.args.pattern.now in
     let last : c.loop-row.row ≡ p.major_dim = omega arith in
     let read : start_of p c.loop-row.row ≡ nnz_of p = ap (start_of p) last

@@ -1,0 +1,121 @@
+-- Runs of a list: their numbers, and the same runs after the list has grown.
+use Rattle.std.proofs.Common.{◌≡◌, ℕ, ◌+◌, ◌-◌, ◌<◌, ◌≤◌, inl, inr, ◌↔◌, List, ◌++◌, length}
+use Rattle.std.proofs.Common.{get_or, take, drop, slice_range, Contains, length-append, ap, sym, ◌∙◌}
+use Rattle.std.proofs.Common.{refl, arith}
+use Rattle.std.specs.List.Sorted.{IsStrictlyIncreasing}
+use Rattle.std.proofs.lemmas.Grind.{common_steps}
+use Rattle.std.proofs.lemmas.List.{get_or_append_left, get_or-append_right, take-append-le}
+use Rattle.std.proofs.lemmas.List.{drop-append-le, length-drop}
+use Rattle.std.proofs.lemmas.List.Edits.{length-between}
+use Rattle.std.proofs.lemmas.List.Elements.{Contains-get_or}
+use Rattle.sparse_lemmas.proofs.Cases.{lt_or_ge}
+use Rattle.sparse_pattern.proofs.LaneLists.{has_from_contains, contains_from_has}
+use Rattle.sparse_factor.specs.InnerColumns.{IsRun, IsInRun}
+
+-- a strictly increasing list stays so with one of greater numbers after it
+pub rising_append : (xs ys : List ℕ) → IsStrictlyIncreasing xs → IsStrictlyIncreasing ys
+    → ((i j : ℕ) → Contains xs i → Contains ys j → i < j) → IsStrictlyIncreasing (xs ++ ys)
+rising_append xs ys rx ry below k lt =
+    let n = length xs in
+    let long = length-append xs ys in
+    elim (lt_or_ge (k + 1) n) [
+      | inl inside ↦ omega (
+        arith,
+        get_or_append_left xs ys 0 k (omega arith),
+        get_or_append_left xs ys 0 (k + 1) inside,
+        rx k inside,
+      )
+      | inr past ↦ elim (lt_or_ge k n) [
+        | inl last ↦ omega (
+          arith,
+          get_or_append_left xs ys 0 k last,
+          get_or-append_right xs ys n (k + 1) 0 refl past,
+          below (get_or xs k 0) (get_or ys (k + 1 - n) 0) (Contains-get_or xs k 0 last)
+              (Contains-get_or ys (k + 1 - n) 0 (omega (arith, long))),
+        )
+        | inr behind ↦
+            let e : k + 1 - n ≡ k - n + 1 = omega arith in
+            omega (
+              arith,
+              get_or-append_right xs ys n k 0 refl behind,
+              get_or-append_right xs ys n (k + 1) 0 refl past,
+              ap (λ q. get_or ys q 0) e,
+              ry (k - n) (omega (arith, long)),
+            )
+      ]
+    ]
+
+module _ (xs : List ℕ) (low high : ℕ) (run : IsRun xs low high) where
+  pub length-run : length (slice_range xs low high) ≡ high - low
+  length-run = length-between xs low high run.inside
+
+  pub get_or-run : (k : ℕ) → k < length (slice_range xs low high)
+      → get_or (slice_range xs low high) k 0 ≡ get_or xs (low + k) 0
+  get_or-run k lt =
+      let room : k < high - low = omega (arith, length-run) in
+      grind (arith, common_steps, room)
+
+  pub rising_run : IsStrictlyIncreasing (slice_range xs low high)
+  rising_run k lt =
+      rw (get_or-run k (omega arith), get_or-run (k + 1) lt)
+      (run.rising (low + k) (low + (k + 1)) (omega arith) (omega arith) (omega (arith, length-run)))
+
+  -- the numbers of a run, as a list and by positions
+  pub run_has : (x : ℕ) → Contains (slice_range xs low high) x ↔ IsInRun xs low high x
+  run_has x =
+      let list = slice_range xs low high in (
+        λ h.
+            let has = has_from_contains list x h in
+            record {
+              at = low + has.at;
+              from = omega arith;
+              to = omega (arith, has.within, length-run);
+              is = sym (get_or-run has.at has.within) ∙ has.is;
+            },
+        λ h.
+            let k = h.at - low in
+            let within : k < length list = omega (arith, h.from, h.to, length-run) in
+            let back : low + k ≡ h.at = omega (arith, h.from) in
+            contains_from_has list x record {
+              at = k;
+              within = within;
+              is = get_or-run k within ∙ ap (λ p. get_or xs p 0) back ∙ h.is;
+            },
+      )
+
+  pub run_front : (mid : ℕ) → low ≤ mid → mid ≤ high → IsRun xs low mid
+  run_front mid from to = record {
+    ordered = from;
+    inside = omega (arith, run.inside);
+    rising = λ p q p_from lt q_to. run.rising p q p_from lt (omega arith);
+  }
+
+  pub run_back : (mid : ℕ) → low ≤ mid → mid ≤ high → IsRun xs mid high
+  run_back mid from to = record {
+    ordered = to;
+    inside = run.inside;
+    rising = λ p q p_from lt q_to. run.rising p q (omega arith) lt q_to;
+  }
+
+  -- a run is kept where the list grows
+  pub number_kept : (ys : List ℕ) (p : ℕ) → p < high → get_or (xs ++ ys) p 0 ≡ get_or xs p 0
+  number_kept ys p lt = get_or_append_left xs ys 0 p (omega (arith, run.inside))
+
+  pub run_kept : (ys : List ℕ) → IsRun (xs ++ ys) low high
+  run_kept ys = record {
+    ordered = run.ordered;
+    inside = omega (arith, run.inside, length-append xs ys);
+    rising = λ p q from lt to. omega (
+      arith,
+      number_kept ys p (omega arith),
+      number_kept ys q to,
+      run.rising p q from lt to,
+    );
+  }
+
+  pub slice_kept : (ys : List ℕ) → slice_range (xs ++ ys) low high ≡ slice_range xs low high
+  slice_kept ys =
+      let inside = run.inside in
+      let ordered = run.ordered in
+      ap (take (high - low)) (drop-append-le low xs ys (omega arith))
+      ∙ take-append-le (high - low) (drop low xs) ys (omega (arith, length-drop low xs))
