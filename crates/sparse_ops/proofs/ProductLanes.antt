@@ -18,7 +18,7 @@ abbrev pub IsProductBelow : ℕ → Raw → Raw → List ℕ → List ℕ → Ty
 IsProductBelow n a b offsets indices = IsBuilt b.minor_dim (IsJoined a b) n offsets indices
 
 -- the lanes that lane i of a names have the indices of lane i of the product
-in_lanes_is : (a b : Raw) → IsValid a → (i j : ℕ) → i < a.major_dim
+pub in_lanes_is : (a b : Raw) → IsValid a → (i j : ℕ) → i < a.major_dim
     → IsInLanes b (lane_of a i) j ↔ IsJoined a b i j
 in_lanes_is a b valid i j lt = (
   λ h. (h.0, (lane_has a valid i h.0 lt).0 h.1, h.2),

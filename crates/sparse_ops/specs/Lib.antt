@@ -5,3 +5,4 @@ pub mod InnerProducts
 pub mod InnerUpdates
 pub mod InnerFactors
 pub mod ScalarProducts
+pub mod InnerLaneSets

@@ -2,6 +2,7 @@
 
 mod bits;
 mod factor;
+mod lane_sets;
 mod pattern;
 pub(crate) mod prealloc;
 mod product;

@@ -4,7 +4,9 @@ ghost use Rattle.std.specs.Prelude.{◌≡◌, IfOk};
 ghost use Rattle.sparse_algebra.specs.Plain.{plain_product};
 ghost use Rattle.sparse_cs.specs.PlainOfLanes.{plain_of_rows, plain_of_cols};
 
-use super::pattern::spmm_csr_pattern;
+use super::lane_sets::LaneSets;
+use super::pattern::{count_indices, push_lane, spmm_csr_pattern};
+use super::scatter::{add_product_row, gather_row};
 use super::update::update;
 use sparse_algebra::scalar::Ring;
 use sparse_base::steps::Steps;
@@ -12,14 +14,21 @@ use sparse_cs::CsMatrix;
 use sparse_cs::laws::stands_law;
 use sparse_forms::csc::CscMatrix;
 use sparse_forms::csr::CsrMatrix;
+use sparse_pattern::pattern::SparsityPattern;
 use std::alloc::{AllocError, Global};
+
+// A factor with this many places does not stay in the cache between two passes, as measured.
+const MANY_PLACES: usize = 1_000_000;
+
+// From this number of triples a row on, the two loops of a row take longer than their set-up, as measured.
+const MANY_TRIPLES: usize = 50;
 
 /// Returns the product `a * b`.
 ///
 /// The result stores every place of [`spmm_csr_pattern`], even where the sum is zero. `a.ncols()` must equal `b.nrows()`.
 ///
-/// Gustavson's algorithm (1978): the pattern first, then one multiplication for each triple (i, k, j). It uses scratch memory for one row of
-/// `b`. Fails only if an allocation fails.
+/// Gustavson's algorithm (1978): the pattern first, then one multiplication for each triple (i, k, j), both row by row where `b` is large and
+/// the rows of the product are long. It uses scratch memory for one row of `b`. Fails only if an allocation fails.
 ///
 /// # Examples
 ///
@@ -51,8 +60,8 @@ pub fn mul_csr<T: Ring>(
 /// The result stores every place of [`spmm_csc_pattern`](crate::serial::spmm_csc_pattern), even where the sum is zero. `a.ncols()` must
 /// equal `b.nrows()`.
 ///
-/// It is the product by rows of the transposes, in reverse order: the pattern first, then one multiplication for each triple (i, k, j). It
-/// uses scratch memory for one column of `a`. Fails only if an allocation fails.
+/// It is the product by rows of the transposes, in reverse order. Time and memory are those of [`mul_csr`] with the factors exchanged: scratch
+/// memory for one column of `a`. Fails only if an allocation fails.
 pub fn mul_csc<T: Ring>(
     alloc: Global,
     a: &CscMatrix<T>,
@@ -66,8 +75,91 @@ pub fn mul_csc<T: Ring>(
     Ok(CscMatrix::from_cs(multiply(alloc, b.cs(), a.cs())?))
 }
 
-// The product of two matrices whose lanes are rows.
+// The product of two matrices whose lanes are rows, in the way that is faster as measured.
 fn multiply<T: Ring>(
+    alloc: Global,
+    a: &CsMatrix<T>,
+    b: &CsMatrix<T>,
+) -> Result<CsMatrix<T>, AllocError>
+    requires { a.now.pattern.minor_dim ≡ b.now.pattern.major_dim }
+    ensures { IfOk result (λ m. plain_of_rows T.ring T.value m
+        ≡ plain_product T.ring (plain_of_rows T.ring T.value a.now)
+        (plain_of_rows T.ring T.value b.now)) }
+{
+    if is_large(a.pattern(), b.pattern()) {
+        multiply_rows(alloc, a, b)
+    } else {
+        multiply_whole(alloc, a, b)
+    }
+}
+
+// Whether `b` has many places and a row of the product has many triples (i, k, j) where all rows of a factor are of one length. Then a second
+// pass over all triples would read `b` from memory again. No row is longer than both factors have places.
+fn is_large(a: &SparsityPattern, b: &SparsityPattern) -> bool {
+    let (first, second) = (
+        a.nnz() / a.major_dim().max(1),
+        b.nnz() / b.major_dim().max(1),
+    );
+    b.nnz() >= MANY_PLACES
+        && first.saturating_mul(second) >= MANY_TRIPLES
+        && a.nnz().saturating_add(b.nnz()) >= b.minor_dim()
+}
+
+// The product row by row: the indices of a row, and then its values, while the rows of `b` that it takes are in the cache.
+fn multiply_rows<T: Ring>(
+    alloc: Global,
+    a: &CsMatrix<T>,
+    b: &CsMatrix<T>,
+) -> Result<CsMatrix<T>, AllocError>
+    requires { a.now.pattern.minor_dim ≡ b.now.pattern.major_dim }
+    ensures { IfOk result (λ m. plain_of_rows T.ring T.value m
+        ≡ plain_product T.ring (plain_of_rows T.ring T.value a.now)
+        (plain_of_rows T.ring T.value b.now)) }
+{
+    // The law costs nothing: it tells the prover what the plain matrices are.
+    stands_law::<T>();
+    let (first, second) = (a.pattern(), b.pattern());
+    let mut sets = LaneSets::new(alloc, second.minor_dim())?;
+    let mut row = Vec::new(alloc);
+    row.resize(second.minor_dim(), T::zero())?;
+    let room = first_room(first, second);
+    let mut offsets = Vec::with_capacity(alloc, first.major_offsets().len())?;
+    let mut indices = Vec::with_capacity(alloc, room)?;
+    let mut values = Vec::with_capacity(alloc, room)?;
+    offsets.push(0)?;
+    for i in 0..first.major_dim() {
+        let begin = indices.len();
+        push_lane(first.lane(i), second, &mut sets, &mut indices)?;
+        offsets.push(indices.len())?;
+        values.resize(indices.len(), T::zero())?;
+        add_product_row(T::one(), a, i, b, &mut row, &mut Steps::new());
+        gather_row(
+            T::zero(),
+            &indices[begin..],
+            &mut row,
+            &mut values[begin..],
+            &mut Steps::new(),
+        );
+    }
+    let pattern = SparsityPattern::from_offset_and_indices_unchecked(
+        first.major_dim(),
+        second.minor_dim(),
+        offsets,
+        indices,
+    );
+    Ok(CsMatrix::from_pattern_and_values(pattern, values))
+}
+
+// How many places there is room for at first: one for each triple (i, k, j), but at most twice as many as both factors have.
+fn first_room(a: &SparsityPattern, b: &SparsityPattern) -> usize
+    requires { a.now.minor_dim ≡ b.now.major_dim }
+{
+    let most = a.nnz().saturating_add(b.nnz()).saturating_mul(2);
+    count_indices(a.minor_indices(), b).min(most)
+}
+
+// The product by whole passes: the pattern first, and then the values, from zeros.
+fn multiply_whole<T: Ring>(
     alloc: Global,
     a: &CsMatrix<T>,
     b: &CsMatrix<T>,

@@ -1,9 +1,10 @@
 //! A product that is added to the values of a pattern, through a scratch row.
 
-ghost use Rattle.std.specs.Prelude.{◌≡◌, ℕ, ◌<◌, ◌+◌, ◌⊎◌, length, slice_index_or, All, OnErr, OnOk};
+ghost use Rattle.std.specs.Prelude.{◌≡◌, ℕ, ◌<◌, ◌+◌, ◌⊎◌, length, slice_index, slice_index_or, All, Contains, OnErr, OnOk};
+ghost use Rattle.std.specs.List.Sorted.{IsStrictlyIncreasing};
 ghost use Rattle.sparse_algebra.specs.Plain.{plain_product};
-ghost use Rattle.sparse_pattern.specs.Raw.{IsInLane, IsPlace, nnz_of, start_of, end_of, lane_of};
-ghost use Rattle.sparse_cs.specs.Compressed.{IsPosition, IsSound};
+ghost use Rattle.sparse_pattern.specs.Raw.{nnz_of, start_of, end_of, lane_of};
+ghost use Rattle.sparse_cs.specs.Compressed.{IsSound};
 ghost use Rattle.sparse_cs.specs.PlainOfLanes.{plain_of_rows};
 ghost use Rattle.sparse_cs.specs.InnerRows.{lane_value};
 ghost use Rattle.sparse_ops.specs.InnerUpdates.{HasProductPlaces, AreUpdated, triples_below};
@@ -44,23 +45,30 @@ pub(super) fn scatter_rows<T: Ring>(
         + triples_of a.now.pattern b.now.pattern) }
     ensures none { OnErr result (steps.new ≡ steps.old) }
 {
-    // The calls cost nothing: their contracts tell the prover that the pattern is valid and the matrices sound.
-    let _ = pattern.major_offsets();
+    // The calls cost nothing: their contracts tell the prover that the matrices are sound.
     let _ = a.values();
     let _ = b.values();
     // The law costs nothing: it tells the prover what the plain matrices are.
     stands_law::<T>();
+    let (offsets, indices) = (pattern.major_offsets(), pattern.minor_indices());
     let mut row = Vec::new(alloc);
     row.resize(pattern.minor_dim(), T::zero())?;
     for i in 0..pattern.major_dim() {
         add_product_row(alpha, a, i, b, &mut row, steps);
-        gather_row(beta, pattern, i, &mut row, values, steps);
+        let (begin, end) = (offsets[i], offsets[i + 1]);
+        gather_row(
+            beta,
+            &indices[begin..end],
+            &mut row,
+            &mut values[begin..end],
+            steps,
+        );
     }
     Ok(())
 }
 
 // Adds `alpha` times row i of the product to a row.
-fn add_product_row<T: Ring>(
+pub(super) fn add_product_row<T: Ring>(
     alpha: T,
     a: &CsMatrix<T>,
     i: usize,
@@ -120,34 +128,29 @@ fn add_row<T: Ring>(scale: T, columns: &[usize], values: &[T], row: &mut [T], st
     }
 }
 
-// Multiplies the values of lane i by `beta`, adds to each the row's value at its index, and sets the row to zero there.
-fn gather_row<T: Ring>(
+// Multiplies the values by `beta`, adds to each the row's value at its index, and sets the row to zero there.
+pub(super) fn gather_row<T: Ring>(
     beta: T,
-    pattern: &SparsityPattern,
-    i: usize,
+    indices: &[usize],
     row: &mut [T],
     values: &mut [T],
     steps: &mut Steps,
 )
-    requires lane { i < pattern.now.major_dim }
-    requires width { length row.old ≡ pattern.now.minor_dim }
-    requires count { length values.old ≡ length pattern.now.indices }
-    ensures gathered { (j p : ℕ) → IsPosition pattern.now i j p
-        → T.value (slice_index_or values.new p T.zero_value)
+    requires rising { IsStrictlyIncreasing indices.now }
+    requires inside { All (λ j. j < length row.old) indices.now }
+    requires count { length values.old ≡ length indices.now }
+    ensures gathered { (k : ℕ) → k < length indices.now
+        → T.value (slice_index_or values.new k T.zero_value)
         ≡ T.ring.add (T.ring.mul (T.value beta)
-        (T.value (slice_index_or values.old p T.zero_value)))
-        (T.value (slice_index_or row.old j T.zero_value)) }
-    ensures others { (p : ℕ) → (IsInLane pattern.now i p → ⊥)
-        → slice_index_or values.new p T.zero_value ≡ slice_index_or values.old p T.zero_value }
+        (T.value (slice_index_or values.old k T.zero_value)))
+        (T.value (slice_index_or row.old (slice_index indices.now k) T.zero_value)) }
     ensures cleared { (j : ℕ) → (slice_index_or row.new j T.zero_value ≡ T.zero_value)
-        ⊎ (IsPlace pattern.now i j → ⊥) }
-    ensures kept { (j : ℕ) → (IsPlace pattern.now i j → ⊥)
+        ⊎ (Contains indices.now j → ⊥) }
+    ensures kept { (j : ℕ) → (Contains indices.now j → ⊥)
         → slice_index_or row.new j T.zero_value ≡ slice_index_or row.old j T.zero_value }
-    ensures counted { steps.new + start_of pattern.now i ≡ steps.old + end_of pattern.now i }
+    ensures counted { steps.new ≡ steps.old + length indices.now }
 {
-    let offsets = pattern.major_offsets();
-    let indices = pattern.minor_indices();
-    for at in offsets[i]..offsets[i + 1] {
+    for at in 0..indices.len() {
         steps.tick();
         let j = indices[at];
         values[at] = beta.mul(values[at]).add(row[j]);

@@ -1,5 +1,4 @@
 use Rattle.std.proofs.Common.{◌≡◌, ◌≢◌, ◌+◌, ◌<◌, ◌≤◌, ◌⊎◌, ℕ, get_or}
-use Rattle.sparse_pattern.specs.Raw.{start_of}
 use Rattle.sparse_ops.proofs.serial.scatter.gather_row.Given as goal
 
 abbrev pub invariant-loop-at : goal.invariant-loop-at
@@ -7,15 +6,14 @@ invariant-loop-at g l =
     let R = g.T.Ring.ring in
     let f = g.T.Ring.value in
     let z = g.T.Zero.zero_value in
-    let s = start_of l.pattern l.i in
     record {
-      gathered : (p : ℕ) → s ≤ p → p < l.at → f (get_or l.values p z) ≡ R.add
+      gathered : (p : ℕ) → p < l.at → f (get_or l.values p z) ≡ R.add
           (R.mul (f l.beta) (f (get_or l.initial.values p z)))
-          (f (get_or l.initial.row (get_or l.pattern.indices p 0) z));
-      others : (p : ℕ) → (p < s) ⊎ (l.at ≤ p) → get_or l.values p z ≡ get_or l.initial.values p z;
+          (f (get_or l.initial.row (get_or l.indices p 0) z));
+      others : (p : ℕ) → l.at ≤ p → get_or l.values p z ≡ get_or l.initial.values p z;
       cleared : (j : ℕ) → (get_or l.row j z ≡ z)
-          ⊎ ((p : ℕ) → s ≤ p → p < l.at → get_or l.pattern.indices p 0 ≢ j);
-      kept : (j : ℕ) → ((p : ℕ) → s ≤ p → p < l.at → get_or l.pattern.indices p 0 ≢ j)
+          ⊎ ((p : ℕ) → p < l.at → get_or l.indices p 0 ≢ j);
+      kept : (j : ℕ) → ((p : ℕ) → p < l.at → get_or l.indices p 0 ≢ j)
           → get_or l.row j z ≡ get_or l.initial.row j z;
-      counted : l.steps + s ≡ l.initial.steps + l.at;
+      counted : l.steps ≡ l.initial.steps + l.at;
     }

@@ -5,7 +5,7 @@ use Rattle.sparse_cs.specs.Compressed.{IsSound, compressed_of}
 use Rattle.sparse_cs.specs.PlainOfLanes.{plain_of_rows}
 use Rattle.sparse_ops.specs.Products.{IsProductOf}
 use Rattle.sparse_ops.proofs.MadeProducts.{has_places, product_made}
-use Rattle.sparse_ops.proofs.serial.product.multiply.Goals as goal
+use Rattle.sparse_ops.proofs.serial.product.multiply_whole.Goals as goal
 
 pub update-requires-clause-places : goal.update-requires-clause-places
 update-requires-clause-places g c =
