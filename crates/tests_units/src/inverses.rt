@@ -2,8 +2,6 @@
 
 use sparse_algebra::scalar::{Ring, W32, W64, Zero};
 use sparse_units::{Mod, Units, W128};
-use std::process::Abort;
-use std::test::Fail;
 
 const GREATEST: u64 = 18446744073709551615;
 
@@ -17,33 +15,50 @@ fn inverse<const M: u64>(number: u64) -> Option<u64> {
     }
 }
 
-#[test]
-fn inverses_of_residues(rt: HostRuntime) {
-    let small = inverse::<7>(3) == Some(5) && inverse::<6>(2) == None && inverse::<1>(0) == Some(0);
-    // A modulus of zero is read as one.
-    let zero = Mod::<0>::new(9).get() == 0 && inverse::<0>(9) == Some(0);
-    assert!(&rt; small && zero);
+// A modulus of zero is read as one.
+fn small_inverses() -> bool {
+    inverse::<7>(3) == Some(5)
+        && inverse::<6>(2) == None
+        && inverse::<1>(0) == Some(0)
+        && inverse::<0>(9) == Some(0)
+        && Mod::<0>::new(9).get() == 0
 }
 
-#[test]
-fn residues_of_large_moduli(rt: HostRuntime) {
-    // Products near 2^128: the last residue is minus one.
-    let last = Mod::<GREATEST>::new(GREATEST - 1);
-    let half = Mod::<HALF>::new(HALF - 1);
-    let products = last.mul(last).get() == 1 && half.mul(half).get() == 1;
-    let sums = last.add(last).get() == GREATEST - 2 && half.add(half).get() == HALF - 2;
-    let inverses = inverse::<GREATEST>(GREATEST - 1) == Some(GREATEST - 1)
+fn large_inverses() -> bool {
+    inverse::<GREATEST>(GREATEST - 1) == Some(GREATEST - 1)
         && inverse::<GREATEST>(3) == None
         && inverse::<HALF>(3) == Some(3074457345618258603)
-        && inverse::<HALF>(6) == None;
-    assert!(&rt; products && sums && inverses);
+        && inverse::<HALF>(6) == None
 }
 
 #[test]
-fn residues_are_compared_and_negated(rt: HostRuntime) {
+fn inverses_of_residues(rt: HostRuntime) {
+    assert!(rt; small_inverses());
+    assert!(rt; large_inverses());
+}
+
+// Sums and products of the last residue, which is minus one; the products come near 2^128.
+fn last_residues() -> bool {
+    let last = Mod::<GREATEST>::new(GREATEST - 1);
+    let half = Mod::<HALF>::new(HALF - 1);
+    last.mul(last).get() == 1
+        && half.mul(half).get() == 1
+        && last.add(last).get() == GREATEST - 2
+        && half.add(half).get() == HALF - 2
+}
+
+fn small_residues() -> bool {
     let two = Mod::<7>::new(9);
-    let same = two == Mod::new(2) && two.neg() == Mod::new(5) && Mod::<7>::zero().neg().get() == 0;
-    assert!(&rt; same && Mod::<1>::one() == Mod::<1>::zero());
+    two == Mod::new(2)
+        && two.neg() == Mod::new(5)
+        && Mod::<7>::zero().neg().get() == 0
+        && Mod::<1>::one() == Mod::<1>::zero()
+}
+
+#[test]
+fn residues_are_added_multiplied_negated_and_compared(rt: HostRuntime) {
+    assert!(rt; last_residues());
+    assert!(rt; small_residues());
 }
 
 // Whether some residue times x is one, tried one after the other.
@@ -149,26 +164,42 @@ fn units_to_64() -> bool {
 
 #[test]
 fn units_of_small_moduli(rt: HostRuntime) {
-    assert!(&rt; units_to_16() && units_to_32() && units_to_48() && units_to_64());
+    assert!(rt; units_to_16());
+    assert!(rt; units_to_32());
+    assert!(rt; units_to_48());
+    assert!(rt; units_to_64());
+}
+
+fn wrapping_inverses() -> bool {
+    W32::new(3).recip() == Some(W32::new(-1431655765))
+        && W32::new(-6).recip() == None
+        && W64::new(3).recip() == Some(W64::new(-6148914691236517205))
+        && W64::new(0).recip() == None
+        && W128::new(3).recip() == Some(W128::new(-113427455640312821154458202477256070485))
 }
 
 #[test]
 fn inverses_of_wrapping_integers(rt: HostRuntime) {
-    let w32 = W32::new(3).recip() == Some(W32::new(-1431655765)) && W32::new(-6).recip() == None;
-    let w64 = W64::new(3).recip() == Some(W64::new(-6148914691236517205))
-        && W64::new(0).recip() == None;
-    let w128 = W128::new(3).recip() == Some(W128::new(-113427455640312821154458202477256070485));
-    assert!(&rt; w32 && w64 && w128);
+    assert!(rt; wrapping_inverses());
+}
+
+fn ends_wrap() -> bool {
+    let (least, greatest) = (W128::new(i128::MIN), W128::new(i128::MAX));
+    greatest.add(W128::one()) == least
+        && least.neg() == least
+        && greatest.neg().get() == i128::MIN + 1
+        && least.add(least) == W128::zero()
+}
+
+fn ends_have_inverses() -> bool {
+    let (least, greatest) = (W128::new(i128::MIN), W128::new(i128::MAX));
+    greatest.mul(greatest) == W128::one()
+        && greatest.recip() == Some(greatest)
+        && least.recip() == None
 }
 
 #[test]
 fn the_ends_of_128_bits(rt: HostRuntime) {
-    let (least, greatest) = (W128::new(i128::MIN), W128::new(i128::MAX));
-    let sums = greatest.add(W128::one()) == least
-        && least.neg() == least
-        && greatest.neg().get() == i128::MIN + 1;
-    let inverses = greatest.mul(greatest) == W128::one()
-        && greatest.recip() == Some(greatest)
-        && least.recip() == None;
-    assert!(&rt; sums && inverses && least.add(least) == W128::zero());
+    assert!(rt; ends_wrap());
+    assert!(rt; ends_have_inverses());
 }

@@ -8,14 +8,109 @@ use sparse_op::{Op, OperationError, OperationErrorKind};
 use sparse_solve::spsolve_csc_lower_triangular;
 use sparse_units::{Mod, Units};
 use std::alloc::Global;
-use std::process::Abort;
 use std::test::Fail;
+
+// What a system shows, its matrix, whether that is transposed, and the number of columns.
+type System = (&'static str, Arrays<'static>, bool, usize);
+
+// The right sides and the solutions, column by column.
+type Columns = (&'static [u8], &'static [u8]);
 
 // Rows `1 0` and `2 3`.
 const LOWER: Arrays<'static> = (2, 2, &[0, 2, 3], &[0, 1, 1], &[1, 2, 3]);
 
 // The same with 9 above the diagonal.
 const FULL: Arrays<'static> = (2, 2, &[0, 2, 4], &[0, 1, 0, 1], &[1, 2, 9, 3]);
+
+// Rows `1`, `0 2` and `3 4 1`.
+const THREE: Arrays<'static> = (3, 3, &[0, 2, 4, 5], &[0, 2, 1, 2, 2], &[1, 3, 2, 4, 1]);
+
+const TWO: Arrays<'static> = (1, 1, &[0, 1], &[0], &[2]);
+
+const EMPTY: Arrays<'static> = (0, 0, &[0], &[], &[]);
+
+// Systems over wrapping integers.
+const WRAPPING: [(System, Columns); 6] = [
+    (("two rows", LOWER, false, 1), (&[1, 5], &[1, 1])),
+    (("two rows, transposed", LOWER, true, 1), (&[5, 3], &[3, 1])),
+    (
+        ("an entry above the diagonal", FULL, false, 1),
+        (&[1, 5], &[1, 1]),
+    ),
+    (
+        ("an entry above the diagonal, transposed", FULL, true, 1),
+        (&[5, 3], &[3, 1]),
+    ),
+    (
+        ("no columns, an entry without an inverse", TWO, false, 0),
+        (&[], &[]),
+    ),
+    (("no rows, transposed", EMPTY, true, 2), (&[], &[])),
+];
+
+// Systems over the residues modulo 7.
+const RESIDUES: [(System, Columns); 5] = [
+    (
+        ("five columns", THREE, false, 5),
+        (
+            &[1, 0, 0, 0, 1, 0, 0, 0, 1, 0, 0, 0, 1, 2, 3],
+            &[1, 0, 4, 0, 4, 5, 0, 0, 1, 0, 0, 0, 1, 1, 3],
+        ),
+    ),
+    (
+        ("five columns, transposed", THREE, true, 5),
+        (
+            &[1, 0, 0, 0, 1, 0, 0, 0, 1, 0, 0, 0, 1, 2, 3],
+            &[1, 0, 0, 0, 4, 0, 4, 5, 1, 0, 0, 0, 6, 2, 3],
+        ),
+    ),
+    (
+        ("eight columns", THREE, false, 8),
+        (
+            &[
+                1, 0, 0, 0, 1, 0, 0, 0, 1, 0, 0, 0, 1, 2, 3, 0, 0, 1, 0, 1, 0, 1, 0, 0,
+            ],
+            &[
+                1, 0, 4, 0, 4, 5, 0, 0, 1, 0, 0, 0, 1, 1, 3, 0, 0, 1, 0, 4, 5, 1, 0, 4,
+            ],
+        ),
+    ),
+    (
+        ("eight columns, transposed", THREE, true, 8),
+        (
+            &[
+                1, 0, 0, 0, 1, 0, 0, 0, 1, 0, 0, 0, 1, 2, 3, 0, 0, 1, 0, 1, 0, 1, 0, 0,
+            ],
+            &[
+                1, 0, 0, 0, 4, 0, 4, 5, 1, 0, 0, 0, 6, 2, 3, 4, 5, 1, 0, 4, 0, 1, 0, 0,
+            ],
+        ),
+    ),
+    (("two has an inverse", TWO, false, 1), (&[1], &[4])),
+];
+
+// Singular systems over wrapping integers, and their right sides.
+const SINGULAR: [(System, &[u8]); 3] = [
+    (("an entry without an inverse", TWO, false, 1), &[1]),
+    (
+        (
+            "the last diagonal entry is not stored",
+            (2, 2, &[0, 2, 2], &[0, 1], &[1, 2]),
+            false,
+            2,
+        ),
+        &[1, 5, 2, 6],
+    ),
+    (
+        (
+            "the last diagonal entry is even, transposed",
+            (2, 2, &[0, 2, 3], &[0, 1, 1], &[1, 2, 4]),
+            true,
+            1,
+        ),
+        &[1, 5],
+    ),
+];
 
 // Solves with a matrix or its transpose, if the sizes fit.
 fn solve<T: Units>(
@@ -33,145 +128,93 @@ fn solve<T: Units>(
     }
 }
 
-// Whether the system with these right sides is solved by these values, column by column.
-fn has_solution<T: Scalar>(
+// Whether the system with these right sides is solved by these values.
+fn is_solved<T: Scalar>(
     alloc: Global,
-    (l, transposed): (Arrays<'_>, bool),
-    ncols: usize,
-    (right, want): (&[u8], &[u8]),
+    (_, l, transposed, ncols): System,
+    (right, want): Columns,
 ) -> Result<bool, Fail> {
     let l = csc::<T>(alloc, l)?;
     let mut b = dense::<T>(alloc, (l.nrows(), ncols), right)?;
-    let want = dense::<T>(alloc, (l.nrows(), ncols), want)?;
-    match solve(&l, transposed, &mut b) {
-        Some(Ok(())) => Ok(b == want),
-        _ => Ok(false),
+    let solved = match solve(&l, transposed, &mut b) {
+        Some(answer) => answer.is_ok(),
+        None => false,
+    };
+    Ok(solved && b == dense(alloc, (l.nrows(), ncols), want)?)
+}
+
+fn is_refused_as_singular(answer: Option<Result<(), OperationError>>) -> bool {
+    match answer {
+        Some(Err(refusal)) => *refusal.kind() == OperationErrorKind::Singular,
+        _ => false,
     }
 }
 
 // Whether the system is refused as singular, and the right sides are unchanged.
 fn is_singular<T: Scalar>(
     alloc: Global,
-    (l, transposed): (Arrays<'_>, bool),
-    ncols: usize,
+    (_, l, transposed, ncols): System,
     right: &[u8],
 ) -> Result<bool, Fail> {
     let l = csc::<T>(alloc, l)?;
     let mut b = dense::<T>(alloc, (l.nrows(), ncols), right)?;
-    let before = dense::<T>(alloc, (l.nrows(), ncols), right)?;
-    match solve(&l, transposed, &mut b) {
-        Some(Err(refusal)) => Ok(*refusal.kind() == OperationErrorKind::Singular && b == before),
-        _ => Ok(false),
+    let refused = is_refused_as_singular(solve(&l, transposed, &mut b));
+    Ok(refused && b == dense(alloc, (l.nrows(), ncols), right)?)
+}
+
+#[test]
+fn solutions_over_wrapping_integers(rt: HostRuntime) -> Result<(), Fail> {
+    for (system, columns) in WRAPPING {
+        assert!(rt;
+            is_solved::<W32>(rt.alloc(), system, columns)?,
+            "{}",
+            system.0
+        );
     }
-}
-
-#[test]
-fn two_rows(rt: HostRuntime) -> Result<(), Fail> {
-    let alloc = rt.alloc();
-    let lower = has_solution::<W32>(alloc, (LOWER, false), 1, (&[1, 5], &[1, 1]))?;
-    let transposed = has_solution::<W32>(alloc, (LOWER, true), 1, (&[5, 3], &[3, 1]))?;
-    assert!(&rt; lower && transposed);
     Ok(())
 }
 
 #[test]
-fn entries_above_the_diagonal_change_nothing(rt: HostRuntime) -> Result<(), Fail> {
-    let alloc = rt.alloc();
-    let lower = has_solution::<W32>(alloc, (FULL, false), 1, (&[1, 5], &[1, 1]))?;
-    let transposed = has_solution::<W32>(alloc, (FULL, true), 1, (&[5, 3], &[3, 1]))?;
-    assert!(&rt; lower && transposed);
-    Ok(())
-}
-
-// Rows `1`, `0 2` and `3 4 1`.
-const THREE: Arrays<'static> = (3, 3, &[0, 2, 4, 5], &[0, 2, 1, 2, 2], &[1, 3, 2, 4, 1]);
-
-// Whether the matrix is transposed, and the number of columns; the right sides and the solutions modulo 7, column by column.
-const COLUMNS: &[(bool, usize, &[u8], &[u8])] = &[
-    (
-        false,
-        5,
-        &[1, 0, 0, 0, 1, 0, 0, 0, 1, 0, 0, 0, 1, 2, 3],
-        &[1, 0, 4, 0, 4, 5, 0, 0, 1, 0, 0, 0, 1, 1, 3],
-    ),
-    (
-        true,
-        5,
-        &[1, 0, 0, 0, 1, 0, 0, 0, 1, 0, 0, 0, 1, 2, 3],
-        &[1, 0, 0, 0, 4, 0, 4, 5, 1, 0, 0, 0, 6, 2, 3],
-    ),
-    (
-        false,
-        8,
-        &[
-            1, 0, 0, 0, 1, 0, 0, 0, 1, 0, 0, 0, 1, 2, 3, 0, 0, 1, 0, 1, 0, 1, 0, 0,
-        ],
-        &[
-            1, 0, 4, 0, 4, 5, 0, 0, 1, 0, 0, 0, 1, 1, 3, 0, 0, 1, 0, 4, 5, 1, 0, 4,
-        ],
-    ),
-    (
-        true,
-        8,
-        &[
-            1, 0, 0, 0, 1, 0, 0, 0, 1, 0, 0, 0, 1, 2, 3, 0, 0, 1, 0, 1, 0, 1, 0, 0,
-        ],
-        &[
-            1, 0, 0, 0, 4, 0, 4, 5, 1, 0, 0, 0, 6, 2, 3, 4, 5, 1, 0, 4, 0, 1, 0, 0,
-        ],
-    ),
-];
-
-// Whether each of these systems is solved.
-fn all_solved(alloc: Global) -> Result<bool, Fail> {
-    for (transposed, ncols, right, want) in COLUMNS {
-        if !has_solution::<Mod<7>>(alloc, (THREE, *transposed), *ncols, (*right, *want))? {
-            return Ok(false);
-        }
+fn solutions_modulo_seven(rt: HostRuntime) -> Result<(), Fail> {
+    for (system, columns) in RESIDUES {
+        assert!(rt;
+            is_solved::<Mod<7>>(rt.alloc(), system, columns)?,
+            "{}",
+            system.0
+        );
     }
-    Ok(true)
-}
-
-#[test]
-fn four_columns_and_one_and_eight(rt: HostRuntime) -> Result<(), Fail> {
-    assert!(&rt; all_solved(rt.alloc())?);
     Ok(())
 }
 
+// The last diagonal entry is tested first, and before anything is written.
 #[test]
-fn an_entry_without_an_inverse(rt: HostRuntime) -> Result<(), Fail> {
-    let alloc = rt.alloc();
-    let two: Arrays<'_> = (1, 1, &[0, 1], &[0], &[2]);
-    let wrapping = is_singular::<W32>(alloc, (two, false), 1, &[1])?;
-    let residues = has_solution::<Mod<7>>(alloc, (two, false), 1, (&[1], &[4]))?;
-    let without_columns = has_solution::<W32>(alloc, (two, false), 0, (&[], &[]))?;
-    assert!(&rt; wrapping && residues && without_columns);
+fn singular_systems(rt: HostRuntime) -> Result<(), Fail> {
+    for (system, right) in SINGULAR {
+        assert!(rt;
+            is_singular::<W32>(rt.alloc(), system, right)?,
+            "{}",
+            system.0
+        );
+    }
     Ok(())
 }
 
-#[test]
-fn the_last_entry_is_tested_first(rt: HostRuntime) -> Result<(), Fail> {
-    let alloc = rt.alloc();
-    // Rows `1 0` and `2 0`, the last diagonal entry not stored, or stored and even.
-    let missing: Arrays<'_> = (2, 2, &[0, 2, 2], &[0, 1], &[1, 2]);
-    let even: Arrays<'_> = (2, 2, &[0, 2, 3], &[0, 1, 1], &[1, 2, 4]);
-    let lower = is_singular::<W32>(alloc, (missing, false), 2, &[1, 5, 2, 6])?;
-    let transposed = is_singular::<W32>(alloc, (even, true), 1, &[1, 5])?;
-    assert!(&rt; lower && transposed);
-    Ok(())
+const STORED_ZERO: Arrays<'static> = (1, 1, &[0, 1], &[0], &[0]);
+
+const NO_ENTRY: Arrays<'static> = (1, 1, &[0, 0], &[], &[]);
+
+// Where one is zero, a stored zero has an inverse, and an entry that is not stored has none.
+fn zero_has_an_inverse_where_stored(alloc: Global) -> Result<bool, Fail> {
+    let stored = ("one stored zero", STORED_ZERO, false, 1);
+    let missing = ("no stored entry", NO_ENTRY, false, 1);
+    Ok(
+        is_solved::<Mod<0>>(alloc, stored, (&[0], &[0]))?
+            && is_singular::<Mod<0>>(alloc, missing, &[0])?,
+    )
 }
 
 #[test]
 fn where_one_is_zero(rt: HostRuntime) -> Result<(), Fail> {
-    let alloc = rt.alloc();
-    let stored = has_solution::<Mod<0>>(
-        alloc,
-        ((1, 1, &[0, 1], &[0], &[0]), false),
-        1,
-        (&[0], &[0]),
-    )?;
-    let missing = is_singular::<Mod<0>>(alloc, ((1, 1, &[0, 0], &[], &[]), false), 1, &[0])?;
-    let empty = has_solution::<W32>(alloc, ((0, 0, &[0], &[], &[]), true), 2, (&[], &[]))?;
-    assert!(&rt; stored && missing && empty);
+    assert!(rt; zero_has_an_inverse_where_stored(rt.alloc())?);
     Ok(())
 }
