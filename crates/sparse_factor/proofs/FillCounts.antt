@@ -15,6 +15,7 @@ use Rattle.sparse_lemmas.proofs.Cases.{and_parts}
 use Rattle.sparse_pattern.specs.Raw.{paired}
 use Rattle.sparse_factor.specs.Fill.{ListsFill}
 use Rattle.sparse_factor.specs.InnerFilled.{Filled}
+use Rattle.sparse_factor.specs.InnerEntries.{AreFound}
 use Rattle.sparse_factor.proofs.DistinctLists.{all_pairs_append}
 use Rattle.sparse_factor.proofs.FillLaws.{in_fill}
 
@@ -69,13 +70,6 @@ paired_once i js once a b d lt within same =
     once a b 0 lt inside (ap (λ p. p.1) (sym left ∙ same ∙ right))
 
 -- ---- the places found
-
--- the places of the fill before row i that are found, with their number
-pub record AreFound (base : ℕ → ℕ → Type 0) (i count : ℕ) : Type 0 where
-  pub places : List (ℕ × ℕ)
-  pub size : length places ≡ count
-  pub once : AllPairs (λ x y. x ≢ y) places
-  pub filled : (p : ℕ × ℕ) → Contains places p → (p.0 < i) × Filled base p.0 p.1
 
 pub none_found : (base : ℕ → ℕ → Type 0) → AreFound base 0 0
 none_found base = record {

@@ -1,9 +1,23 @@
 mod FillLaws
 mod WalkLaws
 mod DistinctLists
+mod UnmarkedNodes
+mod EntryWrites
+mod EntryLows
+mod ChainSteps
+mod ChainEnds
+mod ChainJoins
+mod EntrySteps
+mod EntryClimbs
+mod EntryRows
 mod RowPositions
+mod GrownRows
 mod TurnedRows
 pub mod FillCounts
+mod EntryDone
+mod EntryStarts
+mod EntryEnds
+mod EntryAll
 mod FactorLaws
 mod PlaceCounts
 mod EntryPlaces
