@@ -3,7 +3,7 @@ use Rattle.std.proofs.Common.{◌≡◌, ◌≢◌, ℕ, zero, suc, ◌+◌, ◌
 use Rattle.std.proofs.Common.{◌∙◌, subst, arith}
 use Rattle.sparse_lemmas.proofs.Cases.{same_or_not, le_cases, lt_or_ge, lt_or_gt}
 use Rattle.sparse_factor.specs.InnerFilled.{Filled, fill}
-use Rattle.sparse_factor.specs.InnerTrees.{Tree, Visits, IsTree, IsRowTree, IsParent}
+use Rattle.sparse_factor.specs.InnerTrees.{Tree, Visits, IsRowTree, IsParent}
 use Rattle.sparse_factor.proofs.ChainSteps.{lowered, visits_kept, visits_split, visits_gained}
 use Rattle.sparse_factor.proofs.ChainSteps.{sound_lowered}
 

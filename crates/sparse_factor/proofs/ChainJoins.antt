@@ -1,5 +1,5 @@
 -- Row i as the parent of a chain's last node, on that chain or on another one.
-use Rattle.std.proofs.Common.{◌≡◌, ◌≢◌, ℕ, suc, ◌+◌, ◌<◌, ◌≤◌, ◌⊎◌, inl, inr, refl, sym, ap}
+use Rattle.std.proofs.Common.{◌≡◌, ◌≢◌, ℕ, ◌+◌, ◌<◌, ◌≤◌, ◌⊎◌, inl, inr, sym, ap}
 use Rattle.std.proofs.Common.{◌∙◌, subst, arith}
 use Rattle.sparse_lemmas.proofs.Cases.{same_or_not}
 use Rattle.sparse_factor.specs.InnerFilled.{Filled, fill}

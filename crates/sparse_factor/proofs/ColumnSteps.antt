@@ -1,5 +1,5 @@
 -- The steps that are counted while columns are made.
-use Rattle.std.proofs.Common.{◌≡◌, ℕ, ◌+◌, ◌<◌, ◌≤◌, List, [], ◌∷◌, Contains}
+use Rattle.std.proofs.Common.{◌≡◌, ℕ, ◌+◌, ◌≤◌, List, [], ◌∷◌, Contains}
 use Rattle.std.proofs.Common.{length, refl, arith}
 use Rattle.sparse_pattern.specs.Raw.{Raw, raw_of, start_of, nnz_of, IsValid, IsPlace}
 use Rattle.sparse_pattern.proofs.BuiltLanes.{IsBuilt}

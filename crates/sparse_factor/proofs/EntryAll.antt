@@ -1,6 +1,6 @@
 -- No row, and all rows of a pattern's fill.
-use Rattle.std.proofs.Common.{◌≡◌, ◌≢◌, ℕ, zero, suc, ◌+◌, ◌-◌, ◌<◌, ◌≤◌, inl, inr, ◌↔◌, List, []}
-use Rattle.std.proofs.Common.{◌∷◌, length, replicate, get_or, slice_index, refl, sym, ap, ◌∙◌, subst}
+use Rattle.std.proofs.Common.{◌≡◌, ℕ, zero, suc, ◌-◌, ◌<◌, inl, inr, ◌↔◌, List, []}
+use Rattle.std.proofs.Common.{◌∷◌, length, replicate, slice_index, refl, sym, ap, ◌∙◌, subst}
 use Rattle.std.proofs.Common.{arith}
 use Rattle.std.proofs.lemmas.List.{length-replicate, get_or_default, get_or_past}
 use Rattle.sparse_lemmas.proofs.Cases.{lt_or_ge}

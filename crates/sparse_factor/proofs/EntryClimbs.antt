@@ -1,6 +1,6 @@
 -- What one turn of a climb does to the arrays.
 use Rattle.std.proofs.Common.{◌≡◌, ◌≢◌, ℕ, ◌+◌, ◌<◌, ◌≤◌, inl, inr, List, [], ◌∷◌, ◌++◌, length, map, set}
-use Rattle.std.proofs.Common.{get_or, slice_index, refl, sym, ap, ◌∙◌, subst, arith}
+use Rattle.std.proofs.Common.{get_or, slice_index, sym, ap, ◌∙◌, subst, arith}
 use Rattle.std.proofs.lemmas.List.{get_or_default, length-map}
 use Rattle.sparse_lemmas.proofs.Cases.{lt_or_ge}
 use Rattle.sparse_counting.proofs.CountLemmas.{read_number}
@@ -10,7 +10,7 @@ use Rattle.sparse_factor.specs.InnerFilled.{Filled}
 use Rattle.sparse_factor.specs.InnerEntries.{Climb, chain_at, IsVisited, IsClimbed, IsNextNode}
 use Rattle.sparse_factor.specs.InnerEntries.{tree_of}
 use Rattle.sparse_factor.proofs.ChainSteps.{row_starts}
-use Rattle.sparse_factor.proofs.EntrySteps.{IsClimbing, IsStep, step, climb_ends, low_visited}
+use Rattle.sparse_factor.proofs.EntrySteps.{IsClimbing, step, climb_ends, low_visited}
 use Rattle.sparse_factor.proofs.EntrySteps.{high_lowered, lowered_visits}
 
 -- the chain of a node, as the code reads it

@@ -11,12 +11,12 @@ use Rattle.sparse_pattern.specs.Raw.{Raw, raw_of, IsInLane, IsPlace}
 use Rattle.sparse_factor.specs.Fill.{UpperBase}
 use Rattle.sparse_factor.specs.InnerFilled.{Filled}
 use Rattle.sparse_factor.specs.InnerRowLists.{AreRowLists}
-use Rattle.sparse_factor.specs.InnerEntries.{Climb, chain_at, low_at, tree_of, IsVisited, IsAbove}
+use Rattle.sparse_factor.specs.InnerEntries.{Climb, chain_at, low_at, IsVisited, IsAbove}
 use Rattle.sparse_factor.specs.InnerEntries.{IsClimbed, AreClimbed, AreFound}
 use Rattle.sparse_factor.proofs.FillLaws.{row_fill}
 use Rattle.sparse_factor.proofs.FillCounts.{more_found}
 use Rattle.sparse_factor.proofs.RowPositions.{end_inside}
-use Rattle.sparse_factor.proofs.GrownRows.{pushed, rows_pushed, places_kept, places_last}
+use Rattle.sparse_factor.proofs.GrownRows.{rows_pushed, places_kept, places_last}
 use Rattle.sparse_factor.proofs.EntryLows.{low_entered, low_none}
 
 module _ (p : Raw) (first s : Climb) (i : ℕ) (before : AreClimbed p first i)

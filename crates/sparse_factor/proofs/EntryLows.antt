@@ -1,7 +1,7 @@
 -- The least entered node of each chain, as entries are appended and lowered.
-use Rattle.std.proofs.Common.{◌≡◌, ◌≢◌, ℕ, ◌+◌, ◌<◌, ◌≤◌, ◌⊎◌, inl, inr, List, [], ◌∷◌, ◌++◌}
-use Rattle.std.proofs.Common.{length, set, get_or, slice_index, length-set, get_or-set_same}
-use Rattle.std.proofs.Common.{get_or-set_other, length-append, refl, sym, ap, ◌∙◌, subst, arith}
+use Rattle.std.proofs.Common.{◌≡◌, ◌≢◌, ℕ, ◌+◌, ◌<◌, ◌≤◌, inl, inr, [], ◌∷◌, ◌++◌}
+use Rattle.std.proofs.Common.{length, set, slice_index, length-set, get_or-set_same}
+use Rattle.std.proofs.Common.{get_or-set_other, sym, ap, ◌∙◌, arith}
 use Rattle.std.proofs.lemmas.Bool.Decides.{nat_tests}
 use Rattle.std.proofs.lemmas.List.{get_or_append_left, get_or_push, length_push}
 use Rattle.sparse_lemmas.proofs.Cases.{same_or_not, lt_add_one_cases}
@@ -119,9 +119,11 @@ module _ (s : Climb) (i b node n : ℕ) (sizes : AreSized s n) (entered : AreEnt
               ∙ position_other (chain_at s (slice_index s.nodes p)) other ∙ k.1,
         )
     | inr e ↦
-        let at : chain_at more (slice_index more.nodes p) ≡ h = ap (chain_at more) (node_new p e) in
-        (ap (slice_index more.marks) at ∙ mark_here, ap (slice_index more.positions) at ∙ position_here
-        ∙ sym e)
+        let at : chain_at more (slice_index more.nodes p) ≡ h = ap (chain_at more) (node_new p e) in (
+          ap (slice_index more.marks) at ∙ mark_here,
+          ap (slice_index more.positions) at ∙ position_here
+              ∙ sym e,
+        )
   ]
 
   pub entered_more : (m : ℕ) → node < m → i ≤ m → AreEntered more i b m

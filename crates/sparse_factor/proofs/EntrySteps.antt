@@ -5,7 +5,7 @@ use Rattle.std.proofs.Common.{sym, ap, ◌∙◌, subst, arith}
 use Rattle.std.specs.Prelude.{nat_eq, cond}
 use Rattle.std.proofs.lemmas.Bool.Decides.{nat_tests}
 use Rattle.std.proofs.lemmas.List.{get_or_default}
-use Rattle.sparse_lemmas.proofs.Cases.{same_or_not, le_cases}
+use Rattle.sparse_lemmas.proofs.Cases.{same_or_not}
 use Rattle.sparse_pattern.specs.Raw.{Raw}
 use Rattle.sparse_factor.specs.Fill.{UpperBase}
 use Rattle.sparse_factor.specs.InnerFilled.{Filled, fill}
@@ -20,7 +20,7 @@ use Rattle.sparse_factor.proofs.ChainSteps.{row_ends, row_starts, row_lowered, v
 use Rattle.sparse_factor.proofs.ChainSteps.{visits_gained, sound_lowered}
 use Rattle.sparse_factor.proofs.ChainEnds.{row_entered, next_above, next_filled, last}
 use Rattle.sparse_factor.proofs.ChainEnds.{chain_below}
-use Rattle.sparse_factor.proofs.ChainJoins.{row_joined, row_ended, joined_row, ended_row, later}
+use Rattle.sparse_factor.proofs.ChainJoins.{row_joined, row_ended, joined_row, later}
 
 -- a climb of row i has come to `node`
 pub record IsClimbing (p : Raw) (first s : Climb) (i node : ℕ) : Type 0 where
@@ -239,8 +239,11 @@ module _ (p : Raw) (first s : Climb) (i node : ℕ) (is : IsClimbed p first s i 
       row_filled =
           let e = last base t i node is.tree filled before fresh low at others in
           let v = visits_gained base t i node is.tree filled low at others less e.0 e.2 e.1
-          (omega (arith, chain_below base t i node is.tree filled before fresh low at others e.0
-          e.2)) in
+          (omega (
+            arith,
+            chain_below base t i node is.tree filled before fresh low at others e.0
+                e.2,
+          )) in
           let f = sound_lowered base t i node is.tree filled low at others less e.0 v in
           fill f f (chain_below base t i node is.tree filled before fresh low at others e.0 e.2)
           (omega arith)

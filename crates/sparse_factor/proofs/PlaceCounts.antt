@@ -12,7 +12,7 @@ use Rattle.sparse_pattern.proofs.LaneLists.{lane_has}
 use Rattle.sparse_pattern.proofs.PatternLanes.{length-lane, lane_rises}
 use Rattle.sparse_pattern.proofs.Positions.{starts_ordered}
 use Rattle.sparse_factor.proofs.DistinctLists.{all_pairs_append}
-use Rattle.sparse_factor.proofs.FillCounts.{pair, pair_eq, same_pair, pair_laws}
+use Rattle.sparse_factor.proofs.FillCounts.{pair, same_pair, pair_laws}
 
 -- the pairs of the rows is in column j
 abbrev in_column : ℕ → List ℕ → List (ℕ × ℕ)
@@ -92,8 +92,13 @@ module _ (In : ℕ → ℕ → Type 0) where
         let lane = valid.lanes k (omega arith) in
         let once : AllPairs (λ x y. x ≢ y) (lane_of d k) = λ p q e lt less same.
         let rises = lane_rises d k lane p q lt less in
-        omega (arith, rises, same, get_or_default (lane_of d k) p e 0 (omega arith),
-        get_or_default (lane_of d k) q e 0 less) in
+        omega (
+          arith,
+          rises,
+          same,
+          get_or_default (lane_of d k) p e 0 (omega arith),
+          get_or_default (lane_of d k) q e 0 less,
+        ) in
         let next = more_listed k (count + (start_of d k - start_of d a)) (lane_of d k)
         (lanes_listed m (omega arith)) once
         (λ i h. sound k i ((lane_has d valid k i (omega arith)).0 h)) in

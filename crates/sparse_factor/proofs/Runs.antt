@@ -1,5 +1,5 @@
 -- Runs of a list: their numbers, and the same runs after the list has grown.
-use Rattle.std.proofs.Common.{◌≡◌, ℕ, ◌+◌, ◌-◌, ◌<◌, ◌≤◌, ◌⊎◌, inl, inr, ◌↔◌, List, ◌++◌, length}
+use Rattle.std.proofs.Common.{◌≡◌, ℕ, ◌+◌, ◌-◌, ◌<◌, ◌≤◌, inl, inr, ◌↔◌, List, ◌++◌, length}
 use Rattle.std.proofs.Common.{get_or, take, drop, slice_range, Contains, length-append, ap, sym, ◌∙◌}
 use Rattle.std.proofs.Common.{refl, arith}
 use Rattle.std.specs.List.Sorted.{IsStrictlyIncreasing}

@@ -1,6 +1,5 @@
 -- The elimination tree in chains, while a row is climbed.
-use Rattle.std.specs.Prelude.{◌≡◌, ◌≢◌, ℕ, ◌+◌, ◌<◌, ◌≤◌, ◌⊎◌, List, length, map, nat_eq, cond}
-use Rattle.std.specs.Prelude.{slice_index, slice_index_or}
+use Rattle.std.specs.Prelude.{◌≡◌, ◌≢◌, ℕ, ◌+◌, ◌<◌, ◌≤◌, ◌⊎◌}
 use Rattle.sparse_factor.specs.InnerFilled.{Filled}
 
 -- p is the least row of column k below the diagonal

@@ -32,7 +32,7 @@ pub(super) fn climb_rows<C: Count>(
         (nodes_in C.number r.1.items) (rows_in C.number r.1.items))
         × AreEntries (map C.number r.0.items) (square_of d.offsets (nodes_in C.number r.1.items))
         × AreRowsAbove (Filled (UpperBase pattern.now)) (map C.number r.0.items)
-            (square_of d.offsets (nodes_in C.number r.1.items))) }
+        (square_of d.offsets (nodes_in C.number r.1.items))) }
     ensures chain_count { IfOk result (λ r. length r.0.items ≡ pattern.now.major_dim) }
     ensures counted { IfOk result (λ r.
         steps.new ≡ steps.old + nnz_of pattern.now + length r.1.items) }

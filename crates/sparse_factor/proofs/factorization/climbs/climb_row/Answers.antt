@@ -1,10 +1,9 @@
-use Rattle.std.proofs.Common.{◌≡◌, ◌≢◌, ℕ, ◌+◌, ◌<◌, ◌≤◌, ◌++◌, length, map, set, get_or, slice_index}
+use Rattle.std.proofs.Common.{◌≡◌, ◌+◌, ◌<◌, length, map, set}
 use Rattle.std.proofs.Common.{true, refl, sym, ap, ◌∙◌, subst, arith}
 use Rattle.std.specs.List.{Contains}
 use Rattle.std.proofs.lemmas.List.{length-map, get_or_default}
-use Rattle.sparse_pattern.specs.Raw.{Raw}
 use Rattle.sparse_factor.specs.InnerChains.{nodes_in, rows_in}
-use Rattle.sparse_factor.specs.InnerEntries.{climb_of, IsVisited, IsBase, IsClimbed, AreClimbed}
+use Rattle.sparse_factor.specs.InnerEntries.{climb_of}
 use Rattle.sparse_factor.proofs.UnmarkedNodes.{unmarked-set, unmarked-le}
 use Rattle.sparse_factor.proofs.EntryWrites.{length-nodes}
 use Rattle.sparse_factor.proofs.EntryClimbs.{chain_read}

@@ -1,4 +1,4 @@
-use Rattle.std.proofs.Common.{◌≡◌, ◌+◌, map, length}
+use Rattle.std.proofs.Common.{◌≡◌, ◌+◌, length}
 use Rattle.sparse_pattern.specs.Raw.{start_of}
 use Rattle.sparse_factor.specs.InnerEntries.{climb_of, AreClimbed}
 use Rattle.sparse_factor.proofs.factorization.climbs.climb_rows.Given as goal

@@ -1,4 +1,4 @@
-use Rattle.std.proofs.Common.{◌+◌, map, set, ap, ◌∙◌}
+use Rattle.std.proofs.Common.{map, set, ap, ◌∙◌}
 use Rattle.std.proofs.lemmas.List.{map-set}
 use Rattle.sparse_factor.proofs.factorization.climbs.enter_chain.Goals as goal
 

@@ -1,4 +1,4 @@
-use Rattle.std.proofs.Common.{◌≡◌, length, slice_index, slice_index_or, arith}
+use Rattle.std.proofs.Common.{slice_index_or, arith}
 use Rattle.sparse_factor.proofs.EntryWrites.{node_read, rows_set, nodes_set}
 use Rattle.sparse_factor.proofs.factorization.climbs.lower_entry.Goals as goal
 

@@ -1,4 +1,4 @@
-use Rattle.std.proofs.Common.{◌≡◌, ◌≢◌, map, set, slice_index, length, ap, ◌∙◌, arith}
+use Rattle.std.proofs.Common.{map, set, ap, ◌∙◌, arith}
 use Rattle.std.proofs.lemmas.List.{map-set}
 use Rattle.sparse_counting.proofs.CountLemmas.{read_number}
 use Rattle.sparse_factor.proofs.EntryWrites.{next_joins, next_ends}

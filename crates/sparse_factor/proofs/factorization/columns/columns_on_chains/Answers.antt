@@ -3,7 +3,7 @@ use Rattle.std.proofs.Common.{slice_index, replicate, ap, sym, subst, ◌∙◌,
 use Rattle.std.proofs.lemmas.Grind.{same_number_lists}
 use Rattle.std.proofs.lemmas.List.{length-map, length-replicate, get_or-map, get_or-replicate}
 use Rattle.std.proofs.lemmas.List.{map-set}
-use Rattle.sparse_pattern.specs.Raw.{raw_of, start_of, IsValid}
+use Rattle.sparse_pattern.specs.Raw.{raw_of, IsValid}
 use Rattle.sparse_pattern.proofs.PatternLanes.{length-lane}
 use Rattle.sparse_factor.specs.InnerChains.{chain_of}
 use Rattle.sparse_factor.proofs.LatestColumns.{AreLatest, none_latest, latest_more, offset_at}
@@ -41,8 +41,8 @@ loop-column-init g c =
         c.in_ok-offsets.ensures.items,
         c.new-rows.ensures.items,
       ) (none_built chains c.args.entries.now c.major_offsets.ensures.valid
-      (omega (arith, length-map c.args.chains.now f, c.requires.rows))
-      (omega (arith, length-map c.args.chains.now f, c.requires.columns)));
+          (omega (arith, length-map c.args.chains.now f, c.requires.rows))
+          (omega (arith, length-map c.args.chains.now f, c.requires.columns)));
       counted = omega (arith, c.major_offsets.ensures.valid.first, ap length c.new-rows.ensures.items);
       onward = omega arith;
     }
