@@ -1,22 +1,22 @@
 mod FillLaws
 mod WalkLaws
 mod DistinctLists
-mod RowPositions
-mod GrownRows
-mod TurnedRows
-pub mod FillCounts
 mod UnmarkedNodes
+mod EntryWrites
+mod EntryLows
 mod ChainSteps
 mod ChainEnds
 mod ChainJoins
-mod EntryWrites
-mod EntryLows
 mod EntrySteps
 mod EntryReturns
 mod EntryClimbs
 mod EntryRows
-mod EntryStarts
+mod RowPositions
+mod GrownRows
+mod TurnedRows
+pub mod FillCounts
 mod EntryDone
+mod EntryStarts
 mod EntryEnds
 mod EntryAll
 mod FactorLaws

@@ -2,7 +2,7 @@
 use Rattle.std.proofs.Common.{◌≡◌, ◌≢◌, ℕ, zero, suc, ◌+◌, ◌<◌, ◌≤◌, List, [], ◌∷◌, length, get_or}
 use Rattle.std.proofs.Common.{set, arith}
 use Rattle.std.proofs.lemmas.Bool.Decides.{nat_tests}
-use Rattle.sparse_factor.specs.InnerEntries.{one_unless, unmarked}
+use Rattle.sparse_factor.specs.InnerClimbs.{one_unless, unmarked}
 
 same_is : (m : ℕ) → one_unless m m ≡ 0
 same_is m = grind (arith, nat_tests)

@@ -3,8 +3,9 @@ pub mod Walks
 pub mod Symbolic
 pub mod InnerFilled
 pub mod InnerRowLists
-pub mod InnerSortedEntries
+pub mod InnerClimbs
 pub mod InnerChains
 pub mod InnerTrees
 pub mod InnerEntries
+pub mod InnerSortedEntries
 pub mod InnerColumns

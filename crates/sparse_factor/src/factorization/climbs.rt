@@ -5,9 +5,10 @@ ghost use Rattle.std.specs.Prelude.{slice_index, slice_set, vec_len, vec_capacit
 ghost use Rattle.sparse_pattern.specs.Raw.{Raw, nnz_of};
 ghost use Rattle.sparse_factor.specs.Fill.{UpperBase, ListsFill};
 ghost use Rattle.sparse_factor.specs.InnerFilled.{Filled};
+ghost use Rattle.sparse_factor.specs.InnerClimbs.{unmarked};
 ghost use Rattle.sparse_factor.specs.InnerRowLists.{AreRows, square_of};
 ghost use Rattle.sparse_factor.specs.InnerChains.{nodes_in, rows_in, AreEntries, AreRowsAbove};
-ghost use Rattle.sparse_factor.specs.InnerEntries.{Climb, climb_of, unmarked, IsVisited, IsBase, IsClimbed, AreClimbed, IsNextNode};
+ghost use Rattle.sparse_factor.specs.InnerEntries.{Climb, climb_of, IsVisited, IsBase, IsClimbed, AreClimbed, IsNextNode};
 
 use sparse_base::steps::Steps;
 use sparse_counting::Count;
@@ -33,7 +34,8 @@ pub(super) fn climb_rows<C: Count>(
         × AreRowsAbove (Filled (UpperBase pattern.now)) (map C.number r.0.items)
         (square_of d.offsets (nodes_in C.number r.1.items))) }
     ensures chain_count { IfOk result (λ r. length r.0.items ≡ pattern.now.major_dim) }
-    ensures counted { IfOk result (λ r. steps.new ≡ steps.old + nnz_of pattern.now + length r.1.items) }
+    ensures counted { IfOk result (λ r.
+        steps.new ≡ steps.old + nnz_of pattern.now + length r.1.items) }
     ensures no_more { (fill : List (ℕ × ℕ)) → ListsFill (UpperBase pattern.now) fill
         → steps.new ≤ steps.old + nnz_of pattern.now + length fill }
 {

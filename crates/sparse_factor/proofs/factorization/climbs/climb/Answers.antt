@@ -5,7 +5,7 @@ use Rattle.std.proofs.lemmas.List.{length-map, length_push}
 use Rattle.sparse_counting.proofs.CountLemmas.{read_number}
 use Rattle.sparse_pattern.specs.Raw.{Raw}
 use Rattle.sparse_factor.specs.InnerChains.{nodes_in, rows_in}
-use Rattle.sparse_factor.specs.InnerEntries.{unmarked}
+use Rattle.sparse_factor.specs.InnerClimbs.{unmarked}
 use Rattle.sparse_factor.specs.InnerEntries.{Climb, climb_of, IsVisited}
 use Rattle.sparse_factor.proofs.UnmarkedNodes.{unmarked-set}
 use Rattle.sparse_factor.proofs.EntrySteps.{IsClimbing}

@@ -3,7 +3,7 @@ use Rattle.std.specs.Prelude.{vec_capacity}
 use Rattle.sparse_pattern.specs.Raw.{Raw}
 use Rattle.sparse_factor.specs.Fill.{UpperBase}
 use Rattle.sparse_factor.specs.InnerFilled.{Filled}
-use Rattle.sparse_factor.specs.InnerEntries.{unmarked}
+use Rattle.sparse_factor.specs.InnerClimbs.{unmarked}
 use Rattle.sparse_factor.specs.InnerEntries.{Climb, climb_of, IsVisited, IsClimbed}
 use Rattle.sparse_factor.proofs.EntrySteps.{IsClimbing}
 use Rattle.sparse_factor.proofs.factorization.climbs.climb.Given as goal

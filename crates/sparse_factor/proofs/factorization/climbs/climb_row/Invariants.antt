@@ -2,7 +2,7 @@ use Rattle.std.proofs.Common.{◌≡◌, ℕ, ◌+◌, ◌<◌, ◌≤◌, true,
 use Rattle.std.specs.Prelude.{vec_capacity}
 use Rattle.std.specs.List.{Contains}
 use Rattle.sparse_pattern.specs.Raw.{Raw}
-use Rattle.sparse_factor.specs.InnerEntries.{unmarked}
+use Rattle.sparse_factor.specs.InnerClimbs.{unmarked}
 use Rattle.sparse_factor.specs.InnerEntries.{climb_of, IsVisited, IsBase, IsClimbed, AreClimbed}
 use Rattle.sparse_factor.proofs.factorization.climbs.climb_row.Given as goal
 
