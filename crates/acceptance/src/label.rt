@@ -69,24 +69,26 @@ fn is_kept(alloc: Global, text: &str) -> Result<bool, MatrixMarketError> {
     Ok(written.as_str() == text)
 }
 
-// Whether a text is refused, since its values are of another type.
-fn is_mismatched(alloc: Global, text: &str) -> bool {
+// The kind of the refusal of a text whose only value is this one.
+fn refusal(alloc: Global, text: &str) -> Option<MatrixMarketErrorKind> {
     match load_coo_from_matrix_market_str::<Label>(alloc, text) {
-        Ok(_) => false,
-        Err(error) => error.kind() == MatrixMarketErrorKind::TypeMismatch,
+        Ok(_) => None,
+        Err(error) => Some(error.kind()),
     }
 }
-
-const MISMATCHED: [&str; 2] = [
-    "%%MatrixMarket matrix coordinate integer general\n1 1 1\n1 1 32768\n",
-    "%%MatrixMarket matrix coordinate pattern general\n1 1 1\n1 1\n",
-];
 
 #[test]
 fn labels_are_read_and_written(rt: HostRuntime) -> Result<(), Fail> {
     assert!(rt; is_kept(rt.alloc(), TEXT)?);
-    for text in MISMATCHED {
-        assert!(rt; is_mismatched(rt.alloc(), text), "{text}");
+    for text in [
+        "%%MatrixMarket matrix coordinate integer general\n1 1 1\n1 1 32768\n",
+        "%%MatrixMarket matrix coordinate pattern general\n1 1 1\n1 1\n",
+    ] {
+        assert_eq!(rt;
+            refusal(rt.alloc(), text),
+            Some(MatrixMarketErrorKind::TypeMismatch),
+            "{text}"
+        );
     }
     Ok(())
 }

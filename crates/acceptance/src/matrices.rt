@@ -1,218 +1,246 @@
 //! Conversions and products, over the library's scalars and over a user's own.
 
-use crate::fixtures::{List, Rows, Scalar, coo, csr, has_places, has_rows};
 use crate::residue7::Residue7;
-use nalgebra_sparse::CsrMatrix;
 use nalgebra_sparse::convert::serial::convert_coo_csr;
 use nalgebra_sparse::ops::serial::{mul_csr, spmm_csr_pattern};
 use nalgebra_sparse::scalar::{Ring, W32, W64, Zero};
+use nalgebra_sparse::{CooMatrix, CsrMatrix};
 use std::alloc::{AllocError, Global};
+use std::process::Abort;
 use std::test::Fail;
 
-const LAST: usize = usize::MAX - 1;
+// A size, and triplets.
+type List<'a, T> = ((usize, usize), &'a [(usize, usize, T)]);
 
-const LISTS: [(List, Rows); 3] = [
-    (
-        ((3, 4), &[(1, 3, 4), (2, 0, 1), (2, 3, 2), (2, 2, 1)]),
-        (&[0, 0, 1, 4], &[3, 0, 2, 3], &[4, 1, 1, 2]),
-    ),
-    // A sum of zero stays.
-    (((1, 2), &[(0, 1, 5), (0, 1, -5)]), (&[0, 1], &[1], &[0])),
-    // Memory does not depend on the number of columns.
-    (
-        ((1, usize::MAX), &[(0, LAST, 3), (0, 0, 1)]),
-        (&[0, 2], &[0, LAST], &[1, 3]),
-    ),
-];
+// The offsets, the columns and the values of a matrix.
+type Rows<'i, 'v, T> = (&'i [usize], &'i [usize], &'v [T]);
 
-// Whether a list becomes these rows.
-fn becomes<T: Scalar>(alloc: Global, list: List, rows: Rows) -> Result<bool, AllocError> {
-    Ok(has_rows(&csr::<T>(alloc, list)?, rows))
+// The list of these triplets; those outside the shape are left out.
+fn coo<T: Ring>(
+    alloc: Global,
+    ((nrows, ncols), triplets): List<'_, T>,
+) -> Result<CooMatrix<T>, AllocError> {
+    let mut matrix = CooMatrix::new(alloc, nrows, ncols);
+    for (row, col, value) in triplets {
+        if *row < matrix.nrows() && *col < matrix.ncols() {
+            matrix.push(*row, *col, *value)?;
+        }
+    }
+    Ok(matrix)
+}
+
+fn csr<T: Ring>(alloc: Global, list: List<'_, T>) -> Result<CsrMatrix<T>, AllocError> {
+    convert_coo_csr(alloc, &coo(alloc, list)?)
+}
+
+fn expect_rows<T: Ring>(
+    rt: &impl Abort,
+    matrix: &CsrMatrix<T>,
+    (offsets, columns, values): Rows<'_, '_, T>,
+) {
+    assert_eq!(rt; matrix.row_offsets(), offsets);
+    assert_eq!(rt; matrix.col_indices(), columns);
+    assert!(rt; matrix.values() == values);
+}
+
+// The factors of a product, its places and its rows.
+#[derive(Drop)]
+struct Product<'i, 'v, T> {
+    left: List<'v, T>,
+    right: List<'v, T>,
+    places: &'i [(usize, usize)],
+    rows: Rows<'i, 'v, T>,
+}
+
+// The pattern of the product of two matrices has these places, and is that of their product.
+fn expect_pattern<T: Ring>(
+    rt: &impl Abort,
+    alloc: Global,
+    a: &CsrMatrix<T>,
+    b: &CsrMatrix<T>,
+    product: &CsrMatrix<T>,
+    places: &[(usize, usize)],
+) -> Result<(), Fail> {
+    assert_eq!(rt; a.ncols(), b.nrows());
+    let pattern = spmm_csr_pattern(alloc, a.pattern(), b.pattern())?;
+    assert!(rt; pattern == *product.pattern());
+    let found: Vec<(usize, usize)> = pattern.entries().collect(alloc)?;
+    assert_eq!(rt; found.as_slice(), places);
+    Ok(())
+}
+
+fn expect_product<T: Ring>(
+    rt: &impl Abort,
+    alloc: Global,
+    case: &Product<'_, '_, T>,
+) -> Result<(), Fail> {
+    let (left, right) = (case.left, case.right);
+    let a = csr(alloc, left)?;
+    let b = csr(alloc, right)?;
+    assert_eq!(rt; a.ncols(), b.nrows());
+    let product = mul_csr(alloc, &a, &b)?;
+    assert_eq!(rt; (product.nrows(), product.ncols()), (left.0.0, right.0.1));
+    expect_rows(rt, &product, case.rows);
+    expect_pattern(rt, alloc, &a, &b, &product, case.places)
+}
+
+#[test]
+fn a_user_scalar(rt: HostRuntime) -> Result<(), Fail> {
+    let x = |number: u64| Residue7::new(number, 9);
+    let a: List<'_, Residue7> = ((1, 2), &[(0, 1, x(5)), (0, 0, x(3)), (0, 1, x(9))]);
+    let matrix = csr(rt.alloc(), a)?;
+    expect_rows(&rt, &matrix, (&[0, 2], &[0, 1], &[x(10), x(0)]));
+    let b: List<'_, Residue7> = ((2, 1), &[(0, 0, x(4)), (1, 0, x(6))]);
+    let product = Product {
+        left: a,
+        right: b,
+        places: &[(0, 0)],
+        rows: (&[0, 1], &[0], &[x(5)]),
+    };
+    expect_product(&rt, rt.alloc(), &product)?;
+    assert!(rt; x(3).add(x(3).neg()) == Residue7::zero());
+    assert!(rt; x(3).mul(Residue7::one()) == x(3));
+    Ok(())
 }
 
 #[test]
 fn triplets_become_rows(rt: HostRuntime) -> Result<(), Fail> {
-    for (list, rows) in LISTS {
-        assert!(rt; becomes::<W64>(rt.alloc(), list, rows)?, "{list:?}");
+    let w = W64::new;
+    let last = usize::MAX - 1;
+    let cases: [(List<'_, W64>, Rows<'_, '_, W64>); 3] = [
+        (
+            (
+                (3, 4),
+                &[(1, 3, w(4)), (2, 0, w(1)), (2, 3, w(2)), (2, 2, w(1))],
+            ),
+            (&[0, 0, 1, 4], &[3, 0, 2, 3], &[w(4), w(1), w(1), w(2)]),
+        ),
+        // A sum of zero stays.
+        (
+            ((1, 2), &[(0, 1, w(5)), (0, 1, w(-5))]),
+            (&[0, 1], &[1], &[w(0)]),
+        ),
+        // Memory does not depend on the number of columns.
+        (
+            ((1, usize::MAX), &[(0, last, w(3)), (0, 0, w(1))]),
+            (&[0, 2], &[0, last], &[w(1), w(3)]),
+        ),
+    ];
+    for (list, rows) in cases {
+        expect_rows(&rt, &csr(rt.alloc(), list)?, rows);
     }
     Ok(())
-}
-
-const ONE_ORDER: List = ((3, 4), &[(1, 3, 4), (2, 0, 1), (2, 3, 2)]);
-
-const OTHER_ORDER: List = ((3, 4), &[(2, 3, 2), (2, 0, 1), (1, 3, 4)]);
-
-// Whether any order gives one matrix, which is equal to its copy.
-fn order_does_not_matter(alloc: Global) -> Result<bool, AllocError> {
-    let one = csr::<W64>(alloc, ONE_ORDER)?;
-    let other = csr(alloc, OTHER_ORDER)?;
-    Ok(one == other && one.clone(alloc)? == other)
-}
-
-// Whether so many rows that their offsets have no room are refused, and the list stays.
-fn too_many_rows_are_refused(alloc: Global) -> Result<bool, AllocError> {
-    let tall = coo::<W64>(alloc, ((usize::MAX, 1), &[(LAST, 0, 5)]))?;
-    Ok(convert_coo_csr(alloc, &tall).is_err() && tall.nnz() == 1)
 }
 
 #[test]
-fn lists_in_any_order_and_too_tall_ones(rt: HostRuntime) -> Result<(), Fail> {
-    assert!(rt; order_does_not_matter(rt.alloc())?);
-    assert!(rt; too_many_rows_are_refused(rt.alloc())?);
+fn any_order_gives_one_matrix(rt: HostRuntime) -> Result<(), Fail> {
+    let w = W64::new;
+    let one = csr(
+        rt.alloc(),
+        ((3, 4), &[(1, 3, w(4)), (2, 0, w(1)), (2, 3, w(2))]),
+    )?;
+    let other = csr(
+        rt.alloc(),
+        ((3, 4), &[(2, 3, w(2)), (2, 0, w(1)), (1, 3, w(4))]),
+    )?;
+    assert!(rt; one == other);
+    assert!(rt; one.clone(rt.alloc())? == other);
     Ok(())
 }
 
-// The factors of a product, its places and its rows.
-struct Product {
-    left: List,
-    right: List,
-    places: &'static [(usize, usize)],
-    rows: Rows,
-}
-
-const ROW: List = ((1, 2), &[(0, 0, 2), (0, 1, 3)]);
-
-const COLUMN: List = ((2, 1), &[(0, 0, 3), (1, 0, -2)]);
-
-const TRIANGLE: List = ((2, 2), &[(0, 0, 1), (0, 1, 2), (1, 1, 3)]);
-
-const PRODUCTS: [Product; 5] = [
-    Product {
-        left: ROW,
-        right: COLUMN,
-        places: &[(0, 0)],
-        rows: (&[0, 1], &[0], &[0]),
-    },
-    Product {
-        left: COLUMN,
-        right: ROW,
-        places: &[(0, 0), (0, 1), (1, 0), (1, 1)],
-        rows: (&[0, 2, 4], &[0, 1, 0, 1], &[6, 9, -4, -6]),
-    },
-    Product {
-        left: TRIANGLE,
-        right: TRIANGLE,
-        places: &[(0, 0), (0, 1), (1, 1)],
-        rows: (&[0, 2, 3], &[0, 1, 1], &[1, 8, 9]),
-    },
-    // An inner size of zero.
-    Product {
-        left: ((2, 0), &[]),
-        right: ((0, 2), &[]),
-        places: &[],
-        rows: (&[0, 0, 0], &[], &[]),
-    },
-    // The places do not depend on the values.
-    Product {
-        left: ((2, 2), &[(0, 0, 0), (1, 0, 1), (1, 1, -1)]),
-        right: ((2, 3), &[(0, 2, 1), (0, 0, 1), (1, 1, 1)]),
-        places: &[(0, 0), (0, 2), (1, 0), (1, 1), (1, 2)],
-        rows: (&[0, 2, 5], &[0, 2, 0, 1, 2], &[0, 0, 1, -1, 1]),
-    },
-];
-
-// Products that wrap, and one whose partial sum does.
-const WRAPPING: [Product; 2] = [
-    Product {
-        left: ((1, 3), &[(0, 0, i32::MAX), (0, 1, 1), (0, 2, -1)]),
-        right: ((3, 1), &[(0, 0, 1), (1, 0, 1), (2, 0, 1)]),
-        places: &[(0, 0)],
-        rows: (&[0, 1], &[0], &[i32::MAX]),
-    },
-    Product {
-        left: ((1, 1), &[(0, 0, i32::MAX)]),
-        right: ((1, 1), &[(0, 0, 2)]),
-        places: &[(0, 0)],
-        rows: (&[0, 1], &[0], &[-2]),
-    },
-];
-
-// Whether the pattern of a product has these places, and is that of the product of the matrices.
-fn has_pattern<T: Scalar>(
-    alloc: Global,
-    a: &CsrMatrix<T>,
-    b: &CsrMatrix<T>,
-    (product, places): (&CsrMatrix<T>, &[(usize, usize)]),
-) -> Result<bool, AllocError> {
-    if a.ncols() != b.nrows() {
-        return Ok(false);
-    }
-    let pattern = spmm_csr_pattern(alloc, a.pattern(), b.pattern())?;
-    Ok(has_places(&pattern, places) && pattern == *product.pattern())
-}
-
-// Whether two matrices have this product and its pattern.
-fn has_product<T: Scalar>(
-    alloc: Global,
-    a: &CsrMatrix<T>,
-    b: &CsrMatrix<T>,
-    case: &Product,
-) -> Result<bool, AllocError> {
-    if a.ncols() != b.nrows() {
-        return Ok(false);
-    }
-    let product = mul_csr(alloc, a, b)?;
-    let has_sizes = (product.nrows(), product.ncols()) == (case.left.0.0, case.right.0.1);
-    Ok(
-        has_sizes
-            && has_rows(&product, case.rows)
-            && has_pattern(alloc, a, b, (&product, case.places))?,
-    )
-}
-
-// Whether the factors have this product.
-fn is_right<T: Scalar>(alloc: Global, case: &Product) -> Result<bool, AllocError> {
-    let a = csr::<T>(alloc, case.left)?;
-    let b = csr(alloc, case.right)?;
-    has_product(alloc, &a, &b, case)
+#[test]
+fn too_many_rows_are_refused(rt: HostRuntime) -> Result<(), Fail> {
+    let tall = coo(
+        rt.alloc(),
+        ((usize::MAX, 1), &[(usize::MAX - 1, 0, W64::new(5))]),
+    )?;
+    assert!(rt; convert_coo_csr(rt.alloc(), &tall).is_err());
+    assert_eq!(rt; tall.nnz(), 1);
+    Ok(())
 }
 
 #[test]
 fn products(rt: HostRuntime) -> Result<(), Fail> {
-    for case in &PRODUCTS {
-        assert!(rt;
-            is_right::<W64>(rt.alloc(), case)?,
-            "{:?} {:?}",
-            case.left,
-            case.right
-        );
+    let w = W64::new;
+    let row: List<'_, W64> = ((1, 2), &[(0, 0, w(2)), (0, 1, w(3))]);
+    let column: List<'_, W64> = ((2, 1), &[(0, 0, w(3)), (1, 0, w(-2))]);
+    let triangle: List<'_, W64> = ((2, 2), &[(0, 0, w(1)), (0, 1, w(2)), (1, 1, w(3))]);
+    let outer = [w(6), w(9), w(-4), w(-6)];
+    let cases = [
+        Product {
+            left: row,
+            right: column,
+            places: &[(0, 0)],
+            rows: (&[0, 1], &[0], &[w(0)]),
+        },
+        Product {
+            left: column,
+            right: row,
+            places: &[(0, 0), (0, 1), (1, 0), (1, 1)],
+            rows: (&[0, 2, 4], &[0, 1, 0, 1], &outer),
+        },
+        Product {
+            left: triangle,
+            right: triangle,
+            places: &[(0, 0), (0, 1), (1, 1)],
+            rows: (&[0, 2, 3], &[0, 1, 1], &[w(1), w(8), w(9)]),
+        },
+    ];
+    for case in &cases {
+        expect_product(&rt, rt.alloc(), case)?;
+    }
+    Ok(())
+}
+
+#[test]
+fn places_of_products(rt: HostRuntime) -> Result<(), Fail> {
+    let w = W64::new;
+    let cases = [
+        // An inner size of zero.
+        Product {
+            left: ((2, 0), &[]),
+            right: ((0, 2), &[]),
+            places: &[],
+            rows: (&[0, 0, 0], &[], &[]),
+        },
+        // The places do not depend on the values.
+        Product {
+            left: ((2, 2), &[(0, 0, w(0)), (1, 0, w(1)), (1, 1, w(-1))]),
+            right: ((2, 3), &[(0, 2, w(1)), (0, 0, w(1)), (1, 1, w(1))]),
+            places: &[(0, 0), (0, 2), (1, 0), (1, 1), (1, 2)],
+            rows: (
+                &[0, 2, 5],
+                &[0, 2, 0, 1, 2],
+                &[w(0), w(0), w(1), w(-1), w(1)],
+            ),
+        },
+    ];
+    for case in &cases {
+        expect_product(&rt, rt.alloc(), case)?;
     }
     Ok(())
 }
 
 #[test]
 fn sums_and_products_wrap(rt: HostRuntime) -> Result<(), Fail> {
-    for case in &WRAPPING {
-        assert!(rt;
-            is_right::<W32>(rt.alloc(), case)?,
-            "{:?} {:?}",
-            case.left,
-            case.right
-        );
+    let w = W32::new;
+    let large = w(2147483647);
+    let cases = [
+        Product {
+            left: ((1, 3), &[(0, 0, large), (0, 1, w(1)), (0, 2, w(-1))]),
+            right: ((3, 1), &[(0, 0, w(1)), (1, 0, w(1)), (2, 0, w(1))]),
+            places: &[(0, 0)],
+            rows: (&[0, 1], &[0], &[large]),
+        },
+        Product {
+            left: ((1, 1), &[(0, 0, large)]),
+            right: ((1, 1), &[(0, 0, w(2))]),
+            places: &[(0, 0)],
+            rows: (&[0, 1], &[0], &[w(-2)]),
+        },
+    ];
+    for case in &cases {
+        expect_product(&rt, rt.alloc(), case)?;
     }
-    Ok(())
-}
-
-const USER_LIST: List = ((1, 2), &[(0, 1, 5), (0, 0, 3), (0, 1, 9)]);
-
-const USER_ROWS: Rows = (&[0, 2], &[0, 1], &[10, 0]);
-
-const USER_PRODUCT: Product = Product {
-    left: USER_LIST,
-    right: ((2, 1), &[(0, 0, 4), (1, 0, 6)]),
-    places: &[(0, 0)],
-    rows: (&[0, 1], &[0], &[5]),
-};
-
-fn user_scalars_cancel() -> bool {
-    let x = Residue7::new(3, 9);
-    x.add(x.neg()) == Residue7::zero() && x.mul(Residue7::one()) == x
-}
-
-#[test]
-fn a_user_scalar(rt: HostRuntime) -> Result<(), Fail> {
-    assert!(rt; becomes::<Residue7>(rt.alloc(), USER_LIST, USER_ROWS)?);
-    assert!(rt; is_right::<Residue7>(rt.alloc(), &USER_PRODUCT)?);
-    assert!(rt; user_scalars_cancel());
     Ok(())
 }

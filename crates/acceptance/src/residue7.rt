@@ -43,11 +43,11 @@ impl Ring for Residue7 {
 
     ghost ring = { class_ring residue7_laws };
 
-    ghost value = { λ x. class residue7_laws x.number };
+    ghost value = { class residue7_laws };
 
     ghost zero_law = { refl };
 
-    ghost eq_law = { λ x y. class_decides residue7_laws x.number y.number };
+    ghost eq_law = { class_decides residue7_laws };
 
     fn one() -> Residue7 {
         Residue7 { number: 8, tag: 3 }

@@ -1,13 +1,15 @@
 //! Formats, fields and symmetries: the triplets that texts mean as i32, and the kinds of their refusals.
 
-use crate::fixtures::{START, is_listed, load, refuses};
+use crate::reading::load;
+use sparse_base::coo::CooMatrix;
 use sparse_io::MatrixMarketErrorKind::{
     DiagonalError, EntryMismatch, InvalidHeader, NonSquare, NotLowerTriangle, ParsingError,
     TypeMismatch, ZeroError,
 };
 use sparse_io::{MatrixMarketError, MatrixMarketErrorKind, MatrixMarketScalar};
-use std::alloc::Global;
 use std::test::Fail;
+
+const START: &str = "%%MatrixMarket matrix ";
 
 /// The sizes of a matrix and its triplets.
 type Listed<T> = ((usize, usize), &'static [(usize, usize, T)]);
@@ -73,18 +75,25 @@ const MEANINGS: [(&str, Listed<i32>); 12] = [
 
 /// Whether the text means these sizes and triplets.
 pub fn means<T: MatrixMarketScalar + PartialEq>(
-    alloc: Global,
+    rt: &impl AllocGlobal,
     below: &str,
     sizes: (usize, usize),
     triplets: &[(usize, usize, T)],
 ) -> Result<bool, MatrixMarketError> {
-    Ok(is_listed(&load(alloc, START, below)?, sizes, triplets))
+    let matrix: CooMatrix<T> = load(rt, START, below)?;
+    let mut same = (matrix.nrows(), matrix.ncols()) == sizes && matrix.nnz() == triplets.len();
+    for (found, wanted) in matrix.triplet_iter().zip(triplets) {
+        let (row, col, value) = found;
+        same = same && row == wanted.0 && col == wanted.1 && *value == wanted.2;
+    }
+    Ok(same)
 }
 
 #[test]
 fn reads_each_format_and_symmetry(rt: HostRuntime) -> Result<(), Fail> {
     for (below, (sizes, triplets)) in MEANINGS {
-        assert!(rt; means(rt.alloc(), below, sizes, triplets)?, "{below}");
+        let same = means(&rt, below, sizes, triplets)?;
+        assert!(rt; same, "at {below}");
     }
     Ok(())
 }
@@ -141,6 +150,9 @@ const REFUSALS: [(&str, MatrixMarketErrorKind); 21] = [
 #[test]
 fn refuses_by_the_first_fault(rt: HostRuntime) {
     for (below, kind) in REFUSALS {
-        assert!(rt; refuses::<i32>(rt.alloc(), START, below, kind), "{below}");
+        let refusal = load::<i32>(&rt, START, below)
+            .err()
+            .map(|error| error.kind());
+        assert_eq!(rt; refusal, Some(kind), "at {below}");
     }
 }

@@ -8,11 +8,11 @@ mod fields;
 #[cfg(test)]
 mod files;
 #[cfg(test)]
-mod fixtures;
-#[cfg(test)]
 mod forms;
 #[cfg(test)]
 mod hostile;
+#[cfg(test)]
+mod matrices;
 #[cfg(test)]
 mod reading;
 #[cfg(test)]

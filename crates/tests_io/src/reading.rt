@@ -1,62 +1,93 @@
-//! Texts that are read as wrapping integers, and the triplets that they mean.
+//! Texts that are read, and the triplets that they mean.
 
-use crate::fixtures::{HEADER, list, load};
-use sparse_io::MatrixMarketError;
-use std::alloc::Global;
+use sparse_algebra::scalar::W64;
+use sparse_base::coo::CooMatrix;
+use sparse_io::{MatrixMarketError, MatrixMarketScalar, load_coo_from_matrix_market_str};
 use std::test::Fail;
 
-// A text of two parts, and the list of triplets that it means.
-type Case = (
-    &'static str,
-    &'static str,
-    (usize, usize),
-    &'static [(usize, usize, i64)],
-);
+/// The header of most texts that are read.
+pub const HEADER: &str = "%%MatrixMarket matrix coordinate integer general\n";
+
+/// What the text of two parts means.
+pub fn load<T: MatrixMarketScalar>(
+    rt: &impl AllocGlobal,
+    head: &str,
+    below: &str,
+) -> Result<CooMatrix<T>, MatrixMarketError> {
+    let text = format!(in rt.alloc(); "{head}{below}")?;
+    load_coo_from_matrix_market_str(rt.alloc(), text.as_str())
+}
+
+/// A text of two parts, and the list of triplets that it means.
+struct Case {
+    head: &'static str,
+    below: &'static str,
+    sizes: (usize, usize),
+    rows: &'static [usize],
+    cols: &'static [usize],
+    values: &'static [i64],
+}
 
 const CASES: [Case; 5] = [
     // Entries that are repeated stay, in the order of the text.
-    (
-        HEADER,
-        "2 3 4\n2 1 4\n1 3 5\n1 3 -5\n1 1 7\n",
-        (2, 3),
-        &[(1, 0, 4), (0, 2, 5), (0, 2, -5), (0, 0, 7)],
-    ),
-    (HEADER, "0 0 0", (0, 0), &[]),
+    Case {
+        head: HEADER,
+        below: "2 3 4\n2 1 4\n1 3 5\n1 3 -5\n1 1 7\n",
+        sizes: (2, 3),
+        rows: &[1, 0, 0, 0],
+        cols: &[0, 2, 2, 0],
+        values: &[4, 5, -5, 7],
+    },
+    Case {
+        head: HEADER,
+        below: "0 0 0",
+        sizes: (0, 0),
+        rows: &[],
+        cols: &[],
+        values: &[],
+    },
     // Every form of a line.
-    (
-        "\r\n \t\r\t%%matrixMARKET Matrix  coordinate\tINTEGER General \r",
-        "% a\n\n 2\t3  3\r\n2 1 +4\n %%\n\r\n0001 3 0005 \r1 003 -5",
-        (2, 3),
-        &[(1, 0, 4), (0, 2, 5), (0, 2, -5)],
-    ),
+    Case {
+        head: "\r\n \t\r\t%%matrixMARKET Matrix  coordinate\tINTEGER General \r",
+        below: "% a\n\n 2\t3  3\r\n2 1 +4\n %%\n\r\n0001 3 0005 \r1 003 -5",
+        sizes: (2, 3),
+        rows: &[1, 0, 0],
+        cols: &[0, 2, 2],
+        values: &[4, 5, -5],
+    },
     // Numbers at the ends of their ranges.
-    (
-        HEADER,
-        "1 1 3\n1 1 9223372036854775807\n1 1 -9223372036854775808\n1 1 000000000000000000000000000000000000000001\n",
-        (1, 1),
-        &[(0, 0, i64::MAX), (0, 0, i64::MIN), (0, 0, 1)],
-    ),
-    (
-        HEADER,
-        "18446744073709551615 1 1\n18446744073709551615 1 -0\n",
-        (usize::MAX, 1),
-        &[(usize::MAX - 1, 0, 0)],
-    ),
+    Case {
+        head: HEADER,
+        below: "1 1 3\n1 1 9223372036854775807\n1 1 -9223372036854775808\n1 1 000000000000000000000000000000000000000001\n",
+        sizes: (1, 1),
+        rows: &[0, 0, 0],
+        cols: &[0, 0, 0],
+        values: &[i64::MAX, i64::MIN, 1],
+    },
+    Case {
+        head: HEADER,
+        below: "18446744073709551615 1 1\n18446744073709551615 1 -0\n",
+        sizes: (usize::MAX, 1),
+        rows: &[usize::MAX - 1],
+        cols: &[0],
+        values: &[0],
+    },
 ];
-
-// Whether the text means the list of these triplets.
-fn means_list(
-    alloc: Global,
-    (head, below, sizes, triplets): Case,
-) -> Result<bool, MatrixMarketError> {
-    let wanted = list(alloc, sizes, triplets)?;
-    Ok(wanted.nnz() == triplets.len() && load(alloc, head, below)? == wanted)
-}
 
 #[test]
 fn reads_the_triplets_of_a_text(rt: HostRuntime) -> Result<(), Fail> {
-    for case in CASES {
-        assert!(rt; means_list(rt.alloc(), case)?, "{}", case.1);
+    for case in &CASES {
+        let matrix: CooMatrix<W64> = load(&rt, case.head, case.below)?;
+        assert_eq!(rt; (matrix.nrows(), matrix.ncols()), case.sizes);
+        assert_eq!(rt; matrix.row_indices(), case.rows);
+        assert_eq!(rt; matrix.col_indices(), case.cols);
+        assert!(rt;
+            matrix
+                .values()
+                .iter()
+                .map(|value| value.get())
+                .eq(case.values.iter().copied())
+        );
     }
     Ok(())
 }

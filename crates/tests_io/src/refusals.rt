@@ -1,14 +1,12 @@
 //! Texts that are refused: the kind of the first fault, and the text for its cause.
 
-use crate::errors::has_text;
-use crate::fixtures::{HEADER, load, refuses};
+use crate::reading::{HEADER, load};
 use sparse_algebra::scalar::W64;
 use sparse_io::MatrixMarketErrorKind;
 use sparse_io::MatrixMarketErrorKind::{
     EntryMismatch, InvalidHeader, ParsingError, SparseFormatError, TypeMismatch, ZeroError,
 };
 use sparse_pattern::error::SparseFormatErrorKind::IndexOutOfBounds;
-use std::alloc::{AllocError, Global};
 use std::test::Fail;
 
 /// Texts of two parts, and the kind of the first fault of each.
@@ -108,10 +106,10 @@ const KINDS: [(&str, &str, MatrixMarketErrorKind); 43] = [
 #[test]
 fn answers_the_kind_of_the_first_fault(rt: HostRuntime) {
     for (head, below, kind) in KINDS {
-        assert!(rt;
-            refuses::<W64>(rt.alloc(), head, below, kind),
-            "{head}{below}"
-        );
+        let refusal = load::<W64>(&rt, head, below)
+            .err()
+            .map(|error| error.kind());
+        assert_eq!(rt; refusal, Some(kind), "at {head}{below}");
     }
 }
 
@@ -235,18 +233,13 @@ const MESSAGES: [(&str, &str, &str); 23] = [
     ),
 ];
 
-// Whether the text of two parts is refused with this name and text.
-fn tells(alloc: Global, head: &str, below: &str, cause: &str) -> Result<bool, AllocError> {
-    match load::<W64>(alloc, head, below) {
-        Ok(_) => Ok(false),
-        Err(error) => has_text(alloc, &error, cause),
-    }
-}
-
 #[test]
 fn tells_the_cause(rt: HostRuntime) -> Result<(), Fail> {
     for (head, below, cause) in MESSAGES {
-        assert!(rt; tells(rt.alloc(), head, below, cause)?, "{cause}");
+        let error = load::<W64>(&rt, head, below).expect_err(&rt, "a refusal");
+        let text = format!(in rt.alloc(); "{error}")?;
+        let wanted = format!(in rt.alloc(); "Matrix Market error: {cause}")?;
+        assert_eq!(rt; text.as_str(), wanted.as_str());
     }
     Ok(())
 }

@@ -1,130 +1,108 @@
 //! Scalar types: what each takes of a text, refuses, and writes.
 
 use crate::fields::means;
-use crate::fixtures::{START, load, refuses};
-use crate::forms::writes;
+use crate::reading::load;
 use sparse_algebra::scalar::{W32, W64};
 use sparse_base::coo::CooMatrix;
 use sparse_io::MatrixMarketErrorKind::{InvalidHeader, ParsingError, TypeMismatch};
-use sparse_io::{MatrixMarketError, MatrixMarketScalar};
+use sparse_io::{
+    MatrixMarketError, MatrixMarketErrorKind, MatrixMarketScalar, save_to_matrix_market_str,
+};
 use sparse_units::W128;
 use std::alloc::{AllocError, Global};
 use std::test::Fail;
 
-const WIDEST: &str =
-    "coordinate integer general\n1 1 1\n1 1 170141183460469231731687303715884105727";
+const START: &str = "%%MatrixMarket matrix ";
 
-const WIDER: &str =
-    "coordinate integer general\n1 1 1\n1 1 170141183460469231731687303715884105728";
-
-const SMALL: &str = "coordinate integer general\n1 1 1\n1 1 300";
-
-const LEAST_OF_8_BITS: &str = "coordinate integer skew-symmetric\n2 2 1\n2 1 -128";
-
-const LEAST_OF_32_BITS: &str = "coordinate integer skew-symmetric\n2 2 1\n2 1 -2147483648";
-
-const PATTERN: &str = "coordinate pattern symmetric\n2 2 1\n2 1\n";
-
-const DENSE_PATTERN: &str = "array pattern general\n1 1\n1";
-
-// The greatest number of 128 bits is taken, as a number and as one that wraps.
-fn takes_128_bits(alloc: Global) -> Result<bool, MatrixMarketError> {
-    let wrapping = [(0, 0, W128::new(i128::MAX))];
-    Ok(
-        means(alloc, WIDEST, (1, 1), &[(0, 0, i128::MAX)])?
-            && means(alloc, WIDEST, (1, 1), &wrapping)?,
-    )
-}
-
-// The least number is its own negative, where numbers wrap.
-fn takes_what_wraps(alloc: Global) -> Result<bool, MatrixMarketError> {
-    let least = W32::new(i32::MIN);
-    means(
-        alloc,
-        LEAST_OF_32_BITS,
-        (2, 2),
-        &[(1, 0, least), (0, 1, least)],
-    )
-}
-
-fn takes_patterns(alloc: Global) -> Result<bool, MatrixMarketError> {
-    means(alloc, PATTERN, (2, 2), &[(1, 0, ()), (0, 1, ())])
+/// The kind of the refusal of the text, read as `T`.
+fn refusal<T: MatrixMarketScalar>(
+    rt: &impl AllocGlobal,
+    below: &str,
+) -> Option<MatrixMarketErrorKind> {
+    match load::<T>(rt, START, below) {
+        Ok(_) => None,
+        Err(error) => Some(error.kind()),
+    }
 }
 
 #[test]
 fn takes_the_values_of_each_type(rt: HostRuntime) -> Result<(), Fail> {
-    assert!(rt; takes_128_bits(rt.alloc())?);
-    assert!(rt; takes_what_wraps(rt.alloc())?);
-    assert!(rt; takes_patterns(rt.alloc())?);
+    let widest = "coordinate integer general\n1 1 1\n1 1 170141183460469231731687303715884105727";
+    let least = "coordinate integer skew-symmetric\n2 2 1\n2 1 -2147483648";
+    assert!(rt; means::<i128>(&rt, widest, (1, 1), &[(0, 0, i128::MAX)])?);
+    assert!(rt; means::<W128>(&rt, widest, (1, 1), &[(0, 0, W128::new(i128::MAX))])?);
+    let wrapped = [(1, 0, W32::new(i32::MIN)), (0, 1, W32::new(i32::MIN))];
+    assert!(rt; means::<W32>(&rt, least, (2, 2), &wrapped)?);
+    let pattern = "coordinate pattern symmetric\n2 2 1\n2 1\n";
+    assert!(rt; means::<()>(&rt, pattern, (2, 2), &[(1, 0, ()), (0, 1, ())])?);
     Ok(())
-}
-
-fn refuses_out_of_range(alloc: Global) -> bool {
-    refuses::<W64>(alloc, START, WIDEST, TypeMismatch)
-        && refuses::<i128>(alloc, START, WIDER, ParsingError)
-        && refuses::<i8>(alloc, START, SMALL, TypeMismatch)
-        && load::<i16>(alloc, START, SMALL).is_ok()
-        && refuses::<i8>(alloc, START, LEAST_OF_8_BITS, TypeMismatch)
-}
-
-fn refuses_numbers_as_patterns(alloc: Global) -> bool {
-    refuses::<()>(alloc, START, SMALL, TypeMismatch)
-        && refuses::<()>(alloc, START, DENSE_PATTERN, InvalidHeader)
 }
 
 #[test]
 fn refuses_values_of_other_types(rt: HostRuntime) {
-    assert!(rt; refuses_out_of_range(rt.alloc()));
-    assert!(rt; refuses_numbers_as_patterns(rt.alloc()));
+    let wide = "coordinate integer general\n1 1 1\n1 1 170141183460469231731687303715884105727";
+    let wider = "coordinate integer general\n1 1 1\n1 1 170141183460469231731687303715884105728";
+    let small = "coordinate integer general\n1 1 1\n1 1 300";
+    let least = "coordinate integer skew-symmetric\n2 2 1\n2 1 -128";
+    let dense = "array pattern general\n1 1\n1";
+    assert_eq!(rt; refusal::<W64>(&rt, wide), Some(TypeMismatch));
+    assert_eq!(rt; refusal::<i128>(&rt, wider), Some(ParsingError));
+    assert_eq!(rt; refusal::<i8>(&rt, small), Some(TypeMismatch));
+    assert_eq!(rt; refusal::<i16>(&rt, small), None);
+    assert_eq!(rt; refusal::<i8>(&rt, least), Some(TypeMismatch));
+    assert_eq!(rt; refusal::<()>(&rt, small), Some(TypeMismatch));
+    assert_eq!(rt; refusal::<()>(&rt, dense), Some(InvalidHeader));
 }
 
-// Whether a value is refused with this message.
-fn has_message<T: Copy>(answer: Result<T, MatrixMarketError>, message: &str) -> bool {
+/// The text of an error, or that there is none.
+fn message<T>(answer: Result<T, MatrixMarketError>) -> &'static str
+where
+    T: Copy,
+{
     match answer {
-        Ok(_) => false,
-        Err(error) => error.message() == message,
+        Ok(_) => "no refusal",
+        Err(error) => match error.message() {
+            "Pattern type can't be parsed from i128" => "integer",
+            "Pattern type has no negative" => "negative",
+            "Pattern type has no conjugate" => "conjugate of a pattern",
+            "Int type has no conjugate" => "conjugate",
+            "Please consider using a larger integer type." => "range",
+            _ => "another text",
+        },
     }
-}
-
-fn patterns_are_no_numbers() -> bool {
-    let parsed = <() as MatrixMarketScalar>::from_i128(1);
-    has_message(parsed, "Pattern type can't be parsed from i128")
-        && has_message(().negative(), "Pattern type has no negative")
-        && has_message(().conjugate(), "Pattern type has no conjugate")
-}
-
-fn integers_have_no_conjugate_and_a_range() -> bool {
-    let range = "Please consider using a larger integer type.";
-    has_message(1i32.conjugate(), "Int type has no conjugate")
-        && has_message(i64::MIN.negative(), range)
 }
 
 #[test]
 fn tells_why_a_value_is_refused(rt: HostRuntime) {
-    assert!(rt; patterns_are_no_numbers());
-    assert!(rt; integers_have_no_conjugate_and_a_range());
+    assert_eq!(rt;
+        message(<() as MatrixMarketScalar>::from_i128(1)),
+        "integer"
+    );
+    assert_eq!(rt; message(().negative()), "negative");
+    assert_eq!(rt; message(().conjugate()), "conjugate of a pattern");
+    assert_eq!(rt; message(1i32.conjugate()), "conjugate");
+    assert_eq!(rt; message(i64::MIN.negative()), "range");
 }
 
-// Whether the text of the list of one triplet ends with these lines.
-fn writes_one<T: MatrixMarketScalar + Drop>(
-    alloc: Global,
-    value: T,
-    lines: &str,
-) -> Result<bool, AllocError> {
+/// The text of the list of one triplet.
+fn written<T: MatrixMarketScalar + Drop>(alloc: Global, value: T) -> Result<String, AllocError> {
     let mut matrix = CooMatrix::new(alloc, 1, 1);
     matrix.push(0, 0, value)?;
-    writes(alloc, &matrix, lines)
+    save_to_matrix_market_str(alloc, &matrix)
 }
-
-// The whole text of a pattern.
-const ONE_PLACE: &str =
-    "%%matrixmarket matrix coordinate pattern general\n% matrixmarket file generated by nalgebra-sparse.\n1 1 1\n1 1 \n";
-
-const LEAST: &str = "1 1 -170141183460469231731687303715884105728\n";
 
 #[test]
 fn writes_the_values_of_each_type(rt: HostRuntime) -> Result<(), Fail> {
-    assert!(rt; writes_one(rt.alloc(), (), ONE_PLACE)?);
-    assert!(rt; writes_one(rt.alloc(), i128::MIN, LEAST)?);
+    let pattern = written(rt.alloc(), ())?;
+    assert_eq!(rt;
+        pattern.as_str(),
+        "%%matrixmarket matrix coordinate pattern general\n% matrixmarket file generated by nalgebra-sparse.\n1 1 1\n1 1 \n"
+    );
+    let least = written(rt.alloc(), i128::MIN)?;
+    assert!(rt;
+        least
+            .as_str()
+            .ends_with("1 1 -170141183460469231731687303715884105728\n")
+    );
     Ok(())
 }

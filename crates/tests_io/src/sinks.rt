@@ -1,6 +1,6 @@
 //! Writers below a sink: faults of each kind, and how many bytes each write is given.
 
-use crate::fixtures::{antidiagonal, kind_of, list};
+use crate::matrices::{antidiagonal, list};
 use crate::writing::CAPACITY;
 use sparse_io::{MatrixMarketErrorKind, Out, Sink, save_to_matrix_market};
 use std::alloc::{AllocError, Global};
@@ -78,34 +78,34 @@ impl Write for Failing {
     }
 }
 
-// Whether a write of this many bytes fails with the kind of the writer below.
-fn fails_to_write(alloc: Global, kind: ErrorKind, count: usize) -> Result<bool, AllocError> {
+// What a write of this many bytes answers over a writer that fails with this kind.
+fn written(
+    alloc: Global,
+    kind: ErrorKind,
+    count: usize,
+) -> Result<Result<usize, ErrorKind>, AllocError> {
     let bytes = vec![in alloc; b'x'; count]?;
     let mut out = Out::new(Failing { kind });
-    Ok(out.write(&bytes) == Err(kind))
+    Ok(out.write(&bytes))
 }
 
-// Whether the refusal to save a matrix has the kind of the writer below.
-fn fails_to_save(alloc: Global, kind: ErrorKind) -> Result<bool, AllocError> {
-    let matrix = list(alloc, (2, 2), &[(0, 1, 5)])?;
+// The kind of the refusal to save a matrix to a writer that fails with this kind.
+fn refusal(alloc: Global, kind: ErrorKind) -> Result<Option<MatrixMarketErrorKind>, AllocError> {
+    let matrix = list(alloc, 2, 2, &[(0, 1, 5)])?;
     let mut out = Out::new(Failing { kind });
     let answer = save_to_matrix_market(alloc, &mut out, &matrix);
-    Ok(kind_of(answer) == Some(MatrixMarketErrorKind::IOError(kind)))
-}
-
-// Whether writes of a byte and of more than the buffer holds, and a matrix, fail with this kind.
-fn is_answered(alloc: Global, kind: ErrorKind) -> Result<bool, AllocError> {
-    Ok(
-        fails_to_write(alloc, kind, 1)?
-            && fails_to_write(alloc, kind, 2 * CAPACITY)?
-            && fails_to_save(alloc, kind)?,
-    )
+    Ok(answer.err().map(|error| error.kind()))
 }
 
 #[test]
 fn faults_of_each_kind_are_answered(rt: HostRuntime) -> Result<(), Fail> {
     for kind in KINDS {
-        assert!(rt; is_answered(rt.alloc(), kind)?, "{kind:?}");
+        assert_eq!(rt; written(rt.alloc(), kind, 1)?, Err(kind));
+        assert_eq!(rt; written(rt.alloc(), kind, 2 * CAPACITY)?, Err(kind));
+        assert_eq!(rt;
+            refusal(rt.alloc(), kind)?,
+            Some(MatrixMarketErrorKind::IOError(kind))
+        );
     }
     Ok(())
 }
@@ -129,19 +129,23 @@ impl Write for Lengths {
     }
 }
 
-// Whether 100,000 entries, whose lines have about 15 bytes each, take 20 to 40 writes that fit in the buffer, the longest of them half of it.
-fn empties_before_full(alloc: Global) -> Result<bool, AllocError> {
-    let matrix = antidiagonal(alloc, 100_000)?;
+// The number of writes that the square list of this order takes, and the length of the longest.
+fn writes_of(alloc: Global, order: usize) -> Result<Option<(usize, usize)>, AllocError> {
+    let matrix = antidiagonal(alloc, order)?;
     let mut out = Out::new(Lengths { count: 0, most: 0 });
     if save_to_matrix_market(alloc, &mut out, &matrix).is_err() {
-        return Ok(false);
+        return Ok(None);
     }
     let Lengths { count, most } = out.into_inner();
-    Ok(most <= CAPACITY && most > CAPACITY / 2 && count >= 20 && count < 40)
+    Ok(Some((count, most)))
 }
 
 #[test]
 fn the_buffer_is_emptied_before_it_is_full(rt: HostRuntime) -> Result<(), Fail> {
-    assert!(rt; empties_before_full(rt.alloc())?);
+    // The lines of 100,000 entries have about 15 bytes each.
+    let (count, most) = writes_of(rt.alloc(), 100_000)?.ok_or("a refusal")?;
+    assert!(rt; most <= CAPACITY, "{most}");
+    assert!(rt; most > CAPACITY / 2, "{most}");
+    assert!(rt; count >= 20 && count < 40, "{count}");
     Ok(())
 }

@@ -1,6 +1,6 @@
 //! Compressed matrices, converted.
 
-use crate::fixtures::{Arrays, csc, csc_is, csr, csr_is};
+use crate::fixtures::csr;
 use sparse_algebra::scalar::{W32, W64};
 use sparse_base::coo::CooMatrix;
 use sparse_base::dense::DMatrix;
@@ -11,139 +11,138 @@ use sparse_convert::serial::{
 };
 use sparse_forms::csc::CscMatrix;
 use sparse_forms::csr::CsrMatrix;
-use sparse_pattern::error::SparseFormatError;
-use std::alloc::{AllocError, Global};
+use std::alloc::Global;
+use std::process::Abort;
 use std::test::Fail;
 
 // The matrix 1 0 0, 0 4 0 by rows; the zero at the end of the first row is stored.
-const BY_ROWS: Arrays<'static, i32> = (2, 3, &[0, 2, 3], &[0, 2, 1], &[1, 0, 4]);
+fn by_rows<T: Copy + Drop>(alloc: Global, values: [T; 3]) -> Result<CsrMatrix<T>, Fail> {
+    csr(alloc, (2, 3), &[0, 2, 3], &[0, 2, 1], &values)
+}
 
 // The same matrix by columns.
-const BY_COLUMNS: Arrays<'static, i32> = (3, 2, &[0, 1, 2, 3], &[0, 1, 0], &[1, 4, 0]);
-
-// Whether the example by rows becomes the one by columns, and that becomes the one by rows again.
-fn rows_become_columns(alloc: Global) -> Result<bool, SparseFormatError> {
-    let csr = csr(alloc, BY_ROWS)?;
-    let csc = convert_csr_csc(alloc, &csr)?;
-    Ok(csc_is(&csc, BY_COLUMNS) && convert_csc_csr(alloc, &csc)? == csr)
+fn by_columns<T: Copy + Drop>(alloc: Global, values: [T; 3]) -> Result<CscMatrix<T>, Fail> {
+    Ok(csr(alloc, (3, 2), &[0, 1, 2, 3], &[0, 1, 0], &values)?.transpose_as_csc())
 }
 
 #[test]
 fn rows_to_columns_and_back(rt: HostRuntime) -> Result<(), Fail> {
-    assert!(rt; rows_become_columns(rt.alloc())?);
+    let csr = by_rows(rt.alloc(), [1, 0, 4])?;
+    let csc = convert_csr_csc(rt.alloc(), &csr)?;
+    assert_eq!(rt; csc.col_offsets(), [0, 1, 2, 3].as_slice());
+    assert_eq!(rt; csc.row_indices(), [0, 1, 0].as_slice());
+    assert_eq!(rt; csc.values(), [1, 4, 0].as_slice());
+    assert!(rt; convert_csc_csr(rt.alloc(), &csc)? == csr);
     Ok(())
 }
 
-// Whether a list has the sizes of the example and these triplets.
-fn list_is(coo: &CooMatrix<W64>, rows: &[usize], cols: &[usize], values: &[W64]) -> bool {
-    (coo.nrows(), coo.ncols()) == (2, 3)
-        && coo.row_indices() == rows
-        && coo.col_indices() == cols
-        && coo.values() == values
+fn expect_list(
+    rt: &impl Abort,
+    coo: &CooMatrix<W64>,
+    rows: &[usize],
+    cols: &[usize],
+    values: &[W64],
+) {
+    assert_eq!(rt; (coo.nrows(), coo.ncols()), (2, 3));
+    assert_eq!(rt; coo.row_indices(), rows);
+    assert_eq!(rt; coo.col_indices(), cols);
+    assert_eq!(rt; coo.values(), values);
 }
 
-// Whether the example by rows, over wrapping integers, becomes a list, and that becomes the example again.
-fn rows_become_a_list(alloc: Global) -> Result<bool, SparseFormatError> {
-    let values = [W64::new(1), W64::new(0), W64::new(4)];
-    let csr = csr(alloc, (2, 3, BY_ROWS.2, BY_ROWS.3, &values))?;
+fn rows_to_a_list_and_back(rt: &impl Abort, alloc: Global, values: [i64; 3]) -> Result<(), Fail> {
+    let values = values.map(W64::new);
+    let csr = by_rows(alloc, values)?;
     let coo = convert_csr_coo(alloc, &csr)?;
-    Ok(list_is(&coo, &[0, 0, 1], &[0, 2, 1], &values) && convert_coo_csr(alloc, &coo)? == csr)
+    expect_list(rt, &coo, &[0, 0, 1], &[0, 2, 1], &values);
+    assert!(rt; convert_coo_csr(alloc, &coo)? == csr);
+    Ok(())
 }
 
-// Whether the example by columns, over wrapping integers, becomes a list, and that becomes the example again.
-fn columns_become_a_list(alloc: Global) -> Result<bool, SparseFormatError> {
-    let values = [W64::new(1), W64::new(4), W64::new(0)];
-    let csc = csc(alloc, (3, 2, BY_COLUMNS.2, BY_COLUMNS.3, &values))?;
+fn columns_to_a_list_and_back(
+    rt: &impl Abort,
+    alloc: Global,
+    values: [i64; 3],
+) -> Result<(), Fail> {
+    let values = values.map(W64::new);
+    let csc = by_columns(alloc, values)?;
     let coo = convert_csc_coo(alloc, &csc)?;
-    Ok(list_is(&coo, &[0, 1, 0], &[0, 1, 2], &values) && convert_coo_csc(alloc, &coo)? == csc)
+    expect_list(rt, &coo, &[0, 1, 0], &[0, 1, 2], &values);
+    assert!(rt; convert_coo_csc(alloc, &coo)? == csc);
+    Ok(())
 }
 
 #[test]
 fn to_lists_and_back(rt: HostRuntime) -> Result<(), Fail> {
     one_matrix_law::<W64>();
-    assert!(rt; rows_become_a_list(rt.alloc())?);
-    assert!(rt; columns_become_a_list(rt.alloc())?);
-    Ok(())
+    rows_to_a_list_and_back(&rt, rt.alloc(), [1, 0, 4])?;
+    columns_to_a_list_and_back(&rt, rt.alloc(), [1, 4, 0])
 }
 
-// Whether a dense matrix has these sizes, and these values column by column.
-fn dense_is(dense: &DMatrix<i32>, size: (usize, usize), values: &[i32]) -> bool {
-    (dense.nrows(), dense.ncols()) == size && dense.as_slice() == values
-}
-
-// Whether both forms of the example become its dense matrix.
-fn both_forms_become_dense(alloc: Global) -> Result<bool, SparseFormatError> {
-    let by_rows = convert_csr_dense(alloc, &csr(alloc, BY_ROWS)?)?;
-    let by_columns = convert_csc_dense(alloc, &csc(alloc, BY_COLUMNS)?)?;
-    Ok(dense_is(&by_rows, (2, 3), &[1, 0, 0, 4, 0, 0]) && by_columns == by_rows)
-}
-
-// Whether the example that was dense has lost its stored zero.
-fn a_stored_zero_is_lost(alloc: Global) -> Result<bool, SparseFormatError> {
-    let dense = convert_csr_dense(alloc, &csr(alloc, BY_ROWS)?)?;
-    let back = convert_dense_csr(alloc, &dense)?;
-    Ok(csr_is(&back, (2, 3, &[0, 1, 2], &[0, 1], &[1, 4])))
+fn expect_dense(rt: &impl Abort, dense: &DMatrix<i32>, size: (usize, usize), values: &[i32]) {
+    assert_eq!(rt; (dense.nrows(), dense.ncols()), size);
+    assert_eq!(rt; dense.as_slice(), values);
 }
 
 #[test]
 fn to_dense_matrices(rt: HostRuntime) -> Result<(), Fail> {
     to_dense_law::<W64>();
-    assert!(rt; both_forms_become_dense(rt.alloc())?);
-    assert!(rt; a_stored_zero_is_lost(rt.alloc())?);
+    let columns = convert_csc_dense(rt.alloc(), &by_columns(rt.alloc(), [1, 4, 0])?)?;
+    expect_dense(&rt, &columns, (2, 3), &[1, 0, 0, 4, 0, 0]);
+    let rows = convert_csr_dense(rt.alloc(), &by_rows(rt.alloc(), [1, 0, 4])?)?;
+    expect_dense(&rt, &rows, (2, 3), &[1, 0, 0, 4, 0, 0]);
+    // The stored zero is lost.
+    let back = convert_dense_csr(rt.alloc(), &rows)?;
+    assert_eq!(rt; back.row_offsets(), [0, 1, 2].as_slice());
+    assert_eq!(rt; back.col_indices(), [0, 1].as_slice());
+    assert_eq!(rt; back.values(), [1, 4].as_slice());
     Ok(())
 }
 
-// Whether a list and a dense matrix have these sizes and no places.
-fn are_empty(coo: &CooMatrix<i32>, dense: &DMatrix<i32>, size: (usize, usize)) -> bool {
-    (coo.nrows(), coo.ncols()) == size && coo.nnz() == 0 && dense_is(dense, size, &[])
+// The list and the dense matrix of a matrix without places.
+fn expect_empty(rt: &impl Abort, coo: &CooMatrix<i32>, dense: &DMatrix<i32>, size: (usize, usize)) {
+    assert_eq!(rt; (coo.nrows(), coo.ncols()), size);
+    assert_eq!(rt; coo.nnz(), 0);
+    expect_dense(rt, dense, size, &[]);
 }
 
-// Whether zeros by rows of these sizes become an empty list and an empty dense matrix.
-fn empty_rows_stay_empty(
+fn expect_empty_rows(
+    rt: &impl Abort,
     alloc: Global,
     (nrows, ncols): (usize, usize),
-) -> Result<bool, AllocError> {
+) -> Result<(), Fail> {
     let csr = CsrMatrix::zeros(alloc, nrows, ncols)?;
     let coo = convert_csr_coo(alloc, &csr)?;
-    Ok(are_empty(&coo, &convert_csr_dense(alloc, &csr)?, (nrows, ncols)))
+    expect_empty(rt, &coo, &convert_csr_dense(alloc, &csr)?, (nrows, ncols));
+    Ok(())
 }
 
-// Whether zeros by columns of these sizes become an empty list and an empty dense matrix.
-fn empty_columns_stay_empty(
+fn expect_empty_columns(
+    rt: &impl Abort,
     alloc: Global,
     (nrows, ncols): (usize, usize),
-) -> Result<bool, AllocError> {
+) -> Result<(), Fail> {
     let csc = CscMatrix::zeros(alloc, nrows, ncols)?;
     let coo = convert_csc_coo(alloc, &csc)?;
-    Ok(are_empty(&coo, &convert_csc_dense(alloc, &csc)?, (nrows, ncols)))
+    expect_empty(rt, &coo, &convert_csc_dense(alloc, &csc)?, (nrows, ncols));
+    Ok(())
 }
 
 #[test]
 fn matrices_without_places(rt: HostRuntime) -> Result<(), Fail> {
     for size in [(0, 0), (0, 3), (3, 0)] {
-        assert!(rt; empty_rows_stay_empty(rt.alloc(), size)?, "{size:?}");
-        assert!(rt; empty_columns_stay_empty(rt.alloc(), size)?, "{size:?}");
+        expect_empty_rows(&rt, rt.alloc(), size)?;
+        expect_empty_columns(&rt, rt.alloc(), size)?;
     }
     Ok(())
 }
 
-// Whether an empty list of three rows and no columns becomes rows, and these become columns.
-fn no_columns_are_converted(alloc: Global) -> Result<bool, AllocError> {
-    let coo: CooMatrix<W32> = CooMatrix::new(alloc, 3, 0);
-    let columns = convert_csr_csc(alloc, &convert_coo_csr(alloc, &coo)?)?;
-    Ok(columns.col_offsets() == [0].as_slice())
-}
-
-// Whether an empty list of no rows and two columns becomes columns, and these become rows.
-fn no_rows_are_converted(alloc: Global) -> Result<bool, AllocError> {
-    let coo: CooMatrix<W32> = CooMatrix::new(alloc, 0, 2);
-    let rows = convert_csc_csr(alloc, &convert_coo_csc(alloc, &coo)?)?;
-    Ok(rows.row_offsets() == [0].as_slice())
-}
-
 #[test]
 fn a_list_without_rows_or_columns(rt: HostRuntime) -> Result<(), Fail> {
-    assert!(rt; no_columns_are_converted(rt.alloc())?);
-    assert!(rt; no_rows_are_converted(rt.alloc())?);
+    let coo: CooMatrix<W32> = CooMatrix::new(rt.alloc(), 3, 0);
+    let columns = convert_csr_csc(rt.alloc(), &convert_coo_csr(rt.alloc(), &coo)?)?;
+    assert_eq!(rt; columns.col_offsets(), [0].as_slice());
+    let coo: CooMatrix<W32> = CooMatrix::new(rt.alloc(), 0, 2);
+    let rows = convert_csc_csr(rt.alloc(), &convert_coo_csc(rt.alloc(), &coo)?)?;
+    assert_eq!(rt; rows.row_offsets(), [0].as_slice());
     Ok(())
 }

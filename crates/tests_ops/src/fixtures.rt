@@ -1,11 +1,10 @@
-//! What the tests share: scalars that the tables write as integers, lists and matrices of arrays, and their comparison.
+//! Scalars, lists and matrices that the tests begin with.
 
 use sparse_algebra::scalar::{Ring, W32, W64};
 use sparse_base::coo::CooMatrix;
-use sparse_forms::csc::CscMatrix;
 use sparse_forms::csr::CsrMatrix;
-use sparse_pattern::error::SparseFormatError;
 use std::alloc::{AllocError, Global};
+use std::test::Fail;
 
 /// A scalar that the tables write as an integer.
 pub trait Scalar: Ring + Drop {
@@ -32,66 +31,32 @@ pub fn scalars<T: Scalar>(alloc: Global, numbers: &[i32]) -> Result<Vec<T>, Allo
     Ok(values)
 }
 
-/// Whether the values are these numbers.
-pub fn are<T: Scalar>(values: &[T], numbers: &[i32]) -> bool {
-    for (value, number) in values.iter().zip(numbers) {
-        if *value != T::of(*number) {
-            return false;
-        }
-    }
-    values.len() == numbers.len()
-}
-
-/// The list of these triplets, in this order, without those outside the matrix.
+/// The list of these triplets, in this order.
 pub fn list<T: Scalar>(
     alloc: Global,
     (nrows, ncols): (usize, usize),
     triplets: &[(usize, usize, i32)],
-) -> Result<CooMatrix<T>, AllocError> {
+) -> Result<CooMatrix<T>, Fail> {
     let mut coo = CooMatrix::new(alloc, nrows, ncols);
     for (row, col, number) in triplets {
-        if *row < coo.nrows() && *col < coo.ncols() {
-            coo.push(*row, *col, T::of(*number))?;
+        if coo.nrows() <= *row || coo.ncols() <= *col {
+            return Err(Fail::from("a triplet outside the matrix"));
         }
+        coo.push(*row, *col, T::of(*number))?;
     }
     Ok(coo)
 }
 
-/// The number of lanes, their length, the offsets, the indices and the values of a matrix.
-pub type Arrays<'a, T> = (usize, usize, &'a [usize], &'a [usize], &'a [T]);
-
 /// The CSR matrix of these arrays.
-pub fn csr<T: Copy>(
+pub fn csr<T: Copy + Drop>(
     alloc: Global,
-    arrays: Arrays<'_, T>,
-) -> Result<CsrMatrix<T>, SparseFormatError> {
-    let (nrows, ncols, offsets, columns, values) = arrays;
-    let (offsets, columns) = (offsets.to_vec(alloc)?, columns.to_vec(alloc)?);
-    CsrMatrix::try_from_csr_data(nrows, ncols, offsets, columns, values.to_vec(alloc)?)
-}
-
-/// The CSC matrix of these arrays.
-pub fn csc<T: Copy>(
-    alloc: Global,
-    arrays: Arrays<'_, T>,
-) -> Result<CscMatrix<T>, SparseFormatError> {
-    let (ncols, nrows, offsets, rows, values) = arrays;
-    let (offsets, rows) = (offsets.to_vec(alloc)?, rows.to_vec(alloc)?);
-    CscMatrix::try_from_csc_data(nrows, ncols, offsets, rows, values.to_vec(alloc)?)
-}
-
-/// Whether a CSR matrix has these sizes and arrays.
-pub fn csr_is<T: PartialEq>(matrix: &CsrMatrix<T>, want: Arrays<'_, T>) -> bool {
-    (matrix.nrows(), matrix.ncols()) == (want.0, want.1)
-        && matrix.row_offsets() == want.2
-        && matrix.col_indices() == want.3
-        && matrix.values() == want.4
-}
-
-/// Whether a CSC matrix has these sizes and arrays.
-pub fn csc_is<T: PartialEq>(matrix: &CscMatrix<T>, want: Arrays<'_, T>) -> bool {
-    (matrix.ncols(), matrix.nrows()) == (want.0, want.1)
-        && matrix.col_offsets() == want.2
-        && matrix.row_indices() == want.3
-        && matrix.values() == want.4
+    (nrows, ncols): (usize, usize),
+    offsets: &[usize],
+    columns: &[usize],
+    values: &[T],
+) -> Result<CsrMatrix<T>, Fail> {
+    let offsets = Vec::from_slice(alloc, offsets)?;
+    let columns = Vec::from_slice(alloc, columns)?;
+    let values = Vec::from_slice(alloc, values)?;
+    Ok(CsrMatrix::try_from_csr_data(nrows, ncols, offsets, columns, values)?)
 }

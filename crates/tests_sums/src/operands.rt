@@ -1,6 +1,5 @@
 //! Operands, and the texts of operation errors.
 
-use OperationErrorKind::{InvalidPattern, OutOfMemory, Singular};
 use sparse_op::{Op, OperationError, OperationErrorKind};
 use std::alloc::{AllocError, Global};
 use std::test::Fail;
@@ -33,62 +32,53 @@ fn says(
     error: &OperationError,
     kind: OperationErrorKind,
     text: &str,
-) -> Result<bool, AllocError> {
+) -> Result<bool, Fail> {
     let shown = format!(in alloc; "{error}")?;
     Ok(*error.kind() == kind && shown.as_str() == text)
 }
 
-// Whether the errors of a pattern have their texts.
-fn pattern_texts_are_right(alloc: Global) -> Result<bool, AllocError> {
+fn texts_are_right(alloc: Global) -> Result<bool, Fail> {
     let sum =
         "Sparse matrix operation error: InvalidPattern Message: Found entry in `op(a)` that is not present in `c`.";
     let product =
         "Sparse matrix operation error: InvalidPattern Message: Found unexpected entry that is not present in `c`.";
+    let diagonal =
+        "Sparse matrix operation error: Singular Message: Matrix contains at least one diagonal entry that is zero.";
+    let scalar = "Sparse matrix operation error: Singular Message: Scalar has no inverse.";
+    let memory = "Sparse matrix operation error: OutOfMemory Message: Out of memory.";
     Ok(
         says(
             alloc,
             &OperationError::of_sum_pattern(),
-            InvalidPattern,
+            OperationErrorKind::InvalidPattern,
             sum,
         )? && says(
             alloc,
             &OperationError::of_product_pattern(),
-            InvalidPattern,
+            OperationErrorKind::InvalidPattern,
             product,
-        )?,
-    )
-}
-
-// Whether the errors of a singular matrix or scalar have their texts.
-fn singular_texts_are_right(alloc: Global) -> Result<bool, AllocError> {
-    let diagonal =
-        "Sparse matrix operation error: Singular Message: Matrix contains at least one diagonal entry that is zero.";
-    let scalar = "Sparse matrix operation error: Singular Message: Scalar has no inverse.";
-    Ok(
-        says(
+        )? && says(
             alloc,
             &OperationError::of_singular_diagonal(),
-            Singular,
+            OperationErrorKind::Singular,
             diagonal,
         )? && says(
             alloc,
             &OperationError::of_singular_scalar(),
-            Singular,
+            OperationErrorKind::Singular,
             scalar,
+        )? && says(
+            alloc,
+            &OperationError::from(AllocError),
+            OperationErrorKind::OutOfMemory,
+            memory,
         )?,
     )
 }
 
-// Whether the error of a refused allocation has its text.
-fn memory_text_is_right(alloc: Global) -> Result<bool, AllocError> {
-    let text = "Sparse matrix operation error: OutOfMemory Message: Out of memory.";
-    says(alloc, &OperationError::from(AllocError), OutOfMemory, text)
-}
-
 #[test]
 fn texts(rt: HostRuntime) -> Result<(), Fail> {
-    assert!(rt; pattern_texts_are_right(rt.alloc())?);
-    assert!(rt; singular_texts_are_right(rt.alloc())?);
-    assert!(rt; memory_text_is_right(rt.alloc())?);
+    let right = texts_are_right(rt.alloc())?;
+    assert!(rt; right);
     Ok(())
 }
