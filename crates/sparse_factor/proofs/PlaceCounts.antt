@@ -36,7 +36,7 @@ in_column_once j is once a b d lt within same =
     get_or-map (λ i. pair i j) is b 0 d inside in
     once a b 0 lt inside (ap (λ p. p.0) (sym left ∙ same ∙ right))
 
--- so many places (row, column) of the set, in columns below n; In j i says that column j has row i
+-- `count` places (row, column) of a set in columns below n; In j i says that column j has row i
 pub record AreListed (In : ℕ → ℕ → Type 0) (n count : ℕ) : Type 0 where
   pub places : List (ℕ × ℕ)
   pub size : length places ≡ count

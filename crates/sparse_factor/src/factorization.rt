@@ -62,8 +62,8 @@ impl CscSymbolicCholesky {
     /// "The role of elimination trees in sparse factorization", 1990). The tree is kept as chains of nodes, each the parent of the one
     /// before; a row is kept as the first node that its climbs visit on each chain, since it has all later ones up to the row itself.
     /// Each column is then a copy of the column before it on its chain, merged with the rows that enter the chain there. Time is linear
-    /// in the number of columns and of the places of pattern and factor. Scratch memory is five numbers for each column and five for each
-    /// of these entries, of which there are at most as many as places of the factor. Fails only if an allocation fails.
+    /// in the number of columns and of the places of pattern and factor. Scratch memory is linear in the number of columns and of the
+    /// chains that rows enter, of which there are at most as many as places of the factor. Fails only if an allocation fails.
     pub fn factor(alloc: Global, pattern: SparsityPattern) -> Result<Self, AllocError>
         requires square { pattern.major_dim ≡ pattern.minor_dim }
         ensures input { IfOk result (λ s. s.input ≡ pattern) }
