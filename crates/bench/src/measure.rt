@@ -11,6 +11,11 @@ use std::time::{Clock, Instant};
 use std::{fs, io};
 use thiserror::Error;
 
+// glibc takes the memory of a large block from the system, and gives it back when the block is freed. What is large grows to the largest
+// block that was given back, but never past 32 MiB; up to twice as much is then kept for the next allocations. This is the largest block
+// that counts.
+const LARGEST_BLOCK: usize = (32 << 20) - (1 << 16);
+
 /// Why there is nothing to print.
 #[derive(Debug, Drop, Error)]
 pub enum Failure {
@@ -49,6 +54,7 @@ pub fn measure<R: Files + Clock + AllocGlobal>(
     path: &str,
     reps: usize,
 ) -> Result<Best, Failure> {
+    keep_freed_memory(rt.alloc())?;
     let Some(input) = task.prepare(rt.alloc(), read_list(rt, task, path)?)? else {
         return Err(Failure::NotSquare);
     };
@@ -64,6 +70,13 @@ pub fn measure<R: Files + Clock + AllocGlobal>(
         checksum,
         places,
     })
+}
+
+// Frees one block of the largest size that counts, so that a run finds the memory of the one before, as in programs that have freed lists of
+// that size. Without it, the memory that a run gets anew from the system depends on what was read before.
+fn keep_freed_memory(alloc: Global) -> Result<(), AllocError> {
+    let mut block: Vec<u8> = Vec::with_capacity(alloc, LARGEST_BLOCK)?;
+    block.push(0)
 }
 
 // The list in a file, of a pattern with ones as its values. Its text is dropped before anything is timed.

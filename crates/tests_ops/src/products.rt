@@ -103,3 +103,55 @@ fn sums_and_products_wrap(rt: HostRuntime) -> Result<(), Fail> {
     }
     Ok(())
 }
+
+// `b` has a million ones: all even columns in its even rows, all odd ones in its odd rows. The rows of `a` are all ones, and ones in the even
+// columns. A product of this size goes row by row.
+fn large_factors(alloc: Global) -> Result<(CsrMatrix<W64>, CsrMatrix<W64>), Fail> {
+    let mut offsets = vec![in alloc; 0]?;
+    let mut columns = Vec::new(alloc);
+    for k in 0..2000 {
+        for j in 0..500 {
+            columns.push(2 * j + k % 2)?;
+        }
+        offsets.push(columns.len())?;
+    }
+    let ones = vec![in alloc; W64::new(1); columns.len()]?;
+    let b = csr(alloc, (2000, 1000), &offsets, &columns, ones.as_slice())?;
+    let mut columns = Vec::new(alloc);
+    for k in 0..2000 {
+        columns.push(k)?;
+    }
+    for k in 0..1000 {
+        columns.push(2 * k)?;
+    }
+    let a = csr(alloc, (2, 2000), &[0, 2000, 3000], &columns, &ones[..3000])?;
+    Ok((a, b))
+}
+
+// The first row of the product is 1000 in all columns, the second in the even ones.
+fn is_large_product(alloc: Global) -> Result<bool, Fail> {
+    let (a, b) = large_factors(alloc)?;
+    if a.ncols() != b.nrows() {
+        return Ok(false);
+    }
+    let product = mul_csr(alloc, &a, &b)?;
+    let mut columns = Vec::new(alloc);
+    for j in 0..1000 {
+        columns.push(j)?;
+    }
+    for j in 0..500 {
+        columns.push(2 * j)?;
+    }
+    let values = vec![in alloc; W64::new(1000); 1500]?;
+    Ok(
+        product.row_offsets() == [0, 1000, 1500].as_slice()
+            && product.col_indices() == columns.as_slice()
+            && product.values() == values.as_slice(),
+    )
+}
+
+#[test]
+fn a_large_product(rt: HostRuntime) -> Result<(), Fail> {
+    assert!(rt; is_large_product(rt.alloc())?);
+    Ok(())
+}

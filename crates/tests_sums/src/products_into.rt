@@ -1,7 +1,12 @@
 //! Products into a given matrix, products by columns, and the laws of products.
 
+ghost use Rattle.std.specs.Prelude.{◌≡◌};
+ghost use Rattle.sparse_cs.specs.PlainOfLanes.{plain_of_rows, plain_of_cols};
+ghost use Rattle.sparse_op.specs.Operands.{plain_op};
+
 use crate::fixtures::{csr, scalars};
-use sparse_algebra::scalar::W64;
+use sparse_algebra::scalar::{Ring, W64};
+use sparse_forms::csc::CscMatrix;
 use sparse_forms::csr::CsrMatrix;
 use sparse_op::{Op, OperationErrorKind};
 use sparse_ops::laws::{
@@ -16,29 +21,94 @@ fn triangle(alloc: Global) -> Result<CsrMatrix<W64>, Fail> {
     csr(alloc, (2, 2), &[0, 2, 3], &[0, 1, 1], values.as_slice())
 }
 
-// The triangle's rows are `1 2` and `0 3`, and those of its square `1 8` and `0 9`.
-fn added_to_itself(alloc: Global) -> Result<bool, Fail> {
-    let mut c = triangle(alloc)?;
-    let f = triangle(alloc)?;
-    if f.ncols() != f.nrows() || c.nrows() != f.nrows() || c.ncols() != f.ncols() {
+// A is `1 2` over `0 3`, B is `4 0` over `5 6`, and C is `1 2` over `3 4`.
+fn factors(alloc: Global) -> Result<(CsrMatrix<W64>, CsrMatrix<W64>, CsrMatrix<W64>), Fail> {
+    let lower = scalars(alloc, &[4, 5, 6])?;
+    let full = scalars(alloc, &[1, 2, 3, 4])?;
+    Ok((
+        triangle(alloc)?,
+        csr(alloc, (2, 2), &[0, 1, 3], &[0, 0, 1], lower.as_slice())?,
+        csr(alloc, (2, 2), &[0, 2, 4], &[0, 1, 0, 1], full.as_slice())?,
+    ))
+}
+
+// Which of the two factors are transposed, and the values of 2 C + 3 op(A) op(B).
+const UPDATES: [(bool, bool, [i32; 4]); 4] = [
+    (false, false, [44, 40, 51, 62]),
+    (true, false, [14, 4, 75, 62]),
+    (false, true, [14, 55, 6, 62]),
+    (true, true, [14, 19, 30, 92]),
+];
+
+fn op<M>(is_transposed: bool, matrix: M) -> Op<M> {
+    if is_transposed {
+        Op::Transpose(matrix)
+    } else {
+        Op::NoOp(matrix)
+    }
+}
+
+fn sizes_of_rows<T: Ring>(a: Op<&CsrMatrix<T>>) -> (usize, usize)
+    ensures rows { result.0
+        ≡ (plain_op T.ring (λ m. plain_of_rows T.ring T.value m.now) a.entry).rows }
+    ensures cols { result.1
+        ≡ (plain_op T.ring (λ m. plain_of_rows T.ring T.value m.now) a.entry).cols }
+{
+    match a {
+        Op::NoOp(a) => (a.nrows(), a.ncols()),
+        Op::Transpose(a) => (a.ncols(), a.nrows()),
+    }
+}
+
+fn sizes_of_columns<T: Ring>(a: Op<&CscMatrix<T>>) -> (usize, usize)
+    ensures rows { result.0
+        ≡ (plain_op T.ring (λ m. plain_of_cols T.ring T.value m.now) a.entry).rows }
+    ensures cols { result.1
+        ≡ (plain_op T.ring (λ m. plain_of_cols T.ring T.value m.now) a.entry).cols }
+{
+    match a {
+        Op::NoOp(a) => (a.nrows(), a.ncols()),
+        Op::Transpose(a) => (a.ncols(), a.nrows()),
+    }
+}
+
+// Whether 2 C + 3 op(A) op(B) has these values.
+fn updates_rows(
+    alloc: Global,
+    (is_a_transposed, is_b_transposed, numbers): (bool, bool, [i32; 4]),
+) -> Result<bool, Fail> {
+    let (a, b, mut c) = factors(alloc)?;
+    let (a, b) = (op(is_a_transposed, &a), op(is_b_transposed, &b));
+    let (left, right) = (sizes_of_rows(a), sizes_of_rows(b));
+    if left.1 != right.0 || left.0 != c.nrows() || right.1 != c.ncols() {
         return Ok(false);
     }
-    let done = spmm_csr_prealloc(
-        alloc,
-        W64::new(1),
-        &mut c,
-        W64::new(1),
-        Op::NoOp(&f),
-        Op::NoOp(&f),
-    )
-    .is_ok();
-    Ok(done && c.values() == scalars(alloc, &[2, 10, 12])?.as_slice())
+    let done = spmm_csr_prealloc(alloc, W64::new(2), &mut c, W64::new(3), a, b).is_ok();
+    Ok(done && c.values() == scalars(alloc, &numbers)?.as_slice())
+}
+
+// The same arrays by columns are the transposes, so the factors are exchanged.
+fn updates_columns(
+    alloc: Global,
+    (is_a_transposed, is_b_transposed, numbers): (bool, bool, [i32; 4]),
+) -> Result<bool, Fail> {
+    let (a, b, c) = factors(alloc)?;
+    let (a, b) = (a.transpose_as_csc(), b.transpose_as_csc());
+    let mut c = c.transpose_as_csc();
+    let (a, b) = (op(is_a_transposed, &a), op(is_b_transposed, &b));
+    let (left, right) = (sizes_of_columns(b), sizes_of_columns(a));
+    if left.1 != right.0 || left.0 != c.nrows() || right.1 != c.ncols() {
+        return Ok(false);
+    }
+    let done = spmm_csc_prealloc(alloc, W64::new(2), &mut c, W64::new(3), b, a).is_ok();
+    Ok(done && c.values() == scalars(alloc, &numbers)?.as_slice())
 }
 
 #[test]
 fn products_into_a_matrix(rt: HostRuntime) -> Result<(), Fail> {
-    let right = added_to_itself(rt.alloc())?;
-    assert!(rt; right);
+    for update in UPDATES {
+        assert!(rt; updates_rows(rt.alloc(), update)? && updates_columns(rt.alloc(), update)?);
+    }
     Ok(())
 }
 
@@ -95,34 +165,9 @@ fn squared_by_columns(alloc: Global) -> Result<bool, Fail> {
     )
 }
 
-fn added_by_columns(alloc: Global) -> Result<bool, Fail> {
-    let f = triangle(alloc)?.transpose_as_csc();
-    let mut c = triangle(alloc)?.transpose_as_csc();
-    if f.ncols() != f.nrows() || c.nrows() != f.nrows() || c.ncols() != f.ncols() {
-        return Ok(false);
-    }
-    let done = spmm_csc_prealloc(
-        alloc,
-        W64::new(1),
-        &mut c,
-        W64::new(1),
-        Op::NoOp(&f),
-        Op::NoOp(&f),
-    )
-    .is_ok();
-    Ok(done && c.values() == scalars(alloc, &[2, 10, 12])?.as_slice())
-}
-
 #[test]
 fn products_by_columns(rt: HostRuntime) -> Result<(), Fail> {
     let right = squared_by_columns(rt.alloc())?;
-    assert!(rt; right);
-    Ok(())
-}
-
-#[test]
-fn products_into_columns(rt: HostRuntime) -> Result<(), Fail> {
-    let right = added_by_columns(rt.alloc())?;
     assert!(rt; right);
     Ok(())
 }

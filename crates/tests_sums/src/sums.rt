@@ -96,6 +96,36 @@ fn sums_without_rows_or_columns(rt: HostRuntime) -> Result<(), Fail> {
     Ok(())
 }
 
+// In every other lane the two matrices share their only place: the lanes that are sampled to estimate the sum, 64 of 128.
+fn outgrows(alloc: Global) -> Result<bool, Fail> {
+    let mut offsets = vec![in alloc; 0]?;
+    let mut columns = Vec::new(alloc);
+    let mut sums = Vec::new(alloc);
+    for lane in 0..128_usize {
+        offsets.push(lane + 1)?;
+        columns.push(lane % 2)?;
+        if lane % 2 == 0 {
+            sums.push(3)?;
+        } else {
+            sums.push(1)?;
+            sums.push(2)?;
+        }
+    }
+    let a = matrix(alloc, (2, &offsets, &[0; 128], &[1; 128]))?;
+    let b = matrix(alloc, (2, &offsets, &columns, &[2; 128]))?;
+    if a.nrows() != b.nrows() || a.ncols() != b.ncols() {
+        return Ok(false);
+    }
+    let sum = add_csr(alloc, &a, &b)?;
+    Ok(sum.nnz() == 192 && sum.values() == scalars(alloc, &sums)?.as_slice())
+}
+
+#[test]
+fn a_sum_that_outgrows_its_estimate(rt: HostRuntime) -> Result<(), Fail> {
+    assert!(rt; outgrows(rt.alloc())?);
+    Ok(())
+}
+
 // 2 C - op(A), with 5 and 6 in C and 3 in A at the second place.
 fn added_into(alloc: Global) -> Result<bool, Fail> {
     let two = W64::new(2);
