@@ -76,7 +76,8 @@ pub fn measure<R: Files + Clock + AllocGlobal>(
 // that size. Without it, the memory that a run gets anew from the system depends on what was read before.
 fn keep_freed_memory(alloc: Global) -> Result<(), AllocError> {
     let mut block: Vec<u8> = Vec::with_capacity(alloc, LARGEST_BLOCK)?;
-    block.push(0)
+    block.push(0)?;
+    Ok(())
 }
 
 // The list in a file, of a pattern with ones as its values. Its text is dropped before anything is timed.
