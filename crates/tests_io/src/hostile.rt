@@ -60,23 +60,24 @@ fn a_text_cut_at_each_byte(rt: HostRuntime) -> Result<(), Fail> {
     Ok(())
 }
 
-// Whether both readers agree on bytes, where these are UTF-8.
-fn agree_on_bytes(alloc: Global, bytes: &[u8]) -> Result<bool, AllocError> {
-    match std::str::from_utf8(bytes) {
-        Ok(text) => agree_on_both(alloc, text),
-        Err(_) => Ok(true),
+// The text with the character at a position replaced.
+fn replaced(alloc: Global, text: &str, at: usize, by: char) -> Result<String, AllocError> {
+    let mut copy = String::new(alloc);
+    for (position, character) in text.char_indices() {
+        copy.push(if position == at { by } else { character })?;
     }
+    Ok(copy)
 }
 
+// The characters past ASCII take two bytes each; among them are a line end and a blank of Unicode.
 #[test]
-fn a_byte_replaced_by_each_value(rt: HostRuntime) -> Result<(), Fail> {
+fn a_character_replaced_by_each_of_256(rt: HostRuntime) -> Result<(), Fail> {
     for text in [TEXTS[0], TEXTS[2]] {
         for at in 0..text.len() {
-            for value in 0..=255 {
-                let mut bytes = text.as_bytes().to_vec(rt.alloc())?;
-                bytes[at] = value;
+            for value in 0..=255_u8 {
+                let copy = replaced(rt.alloc(), text, at, char::from(value))?;
                 assert!(rt;
-                    agree_on_bytes(rt.alloc(), &bytes)?,
+                    agree_on_both(rt.alloc(), copy.as_str())?,
                     "{value} at {at} in {text}"
                 );
             }
