@@ -58,7 +58,7 @@ fn products(rt: HostRuntime) -> Result<(), Fail> {
     let column: Matrix<'_> = (1, &[0, 1, 2], &[0, 0], &[3, -2]);
     let triangle: Matrix<'_> = (2, &[0, 2, 3], &[0, 1, 1], &[1, 2, 3]);
     let ones: Matrix<'_> = (2, &[0, 2, 3], &[0, 1, 1], &[1, 1, 1]);
-    let cases: [[Matrix<'_>; 3]; 6] = [
+    let cases: [[Matrix<'_>; 3]; 7] = [
         // A row times a column: the sum of zero stays.
         [row, column, (1, &[0, 1], &[0], &[0])],
         [column, row, (2, &[0, 2, 4], &[0, 1, 0, 1], &[6, 9, -4, -6])],
@@ -69,6 +69,12 @@ fn products(rt: HostRuntime) -> Result<(), Fail> {
             ones,
             (4, &[0, 2, 4], &[2, 3, 0, 2], &[1, 1, 1, 1]),
             (4, &[0, 3, 5], &[0, 2, 3, 0, 2], &[1, 2, 1, 1, 1]),
+        ],
+        // A stored zero has a place in the product.
+        [
+            (1, &[0, 1], &[0], &[0]),
+            (1, &[0, 1], &[0], &[5]),
+            (1, &[0, 1], &[0], &[0]),
         ],
         // An inner size of zero.
         [
@@ -124,7 +130,14 @@ fn large_factors(alloc: Global) -> Result<(CsrMatrix<W64>, CsrMatrix<W64>), Fail
     for k in 0..1000 {
         columns.push(2 * k)?;
     }
-    let a = csr(alloc, (2, 2000), &[0, 2000, 3000], &columns, &ones[..3000])?;
+    let ones = vec![in alloc; W64::new(1); columns.len()]?;
+    let a = csr(
+        alloc,
+        (2, 2000),
+        &[0, 2000, 3000],
+        &columns,
+        ones.as_slice(),
+    )?;
     Ok((a, b))
 }
 

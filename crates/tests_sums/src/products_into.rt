@@ -112,41 +112,48 @@ fn products_into_a_matrix(rt: HostRuntime) -> Result<(), Fail> {
     Ok(())
 }
 
-// The product of `1 1` and the column `1`, `-1` is zero, at a place that C lacks.
-fn refused(alloc: Global) -> Result<bool, Fail> {
-    let mut c = CsrMatrix::<W64>::zeros(alloc, 1, 1)?;
-    let row = csr(
-        alloc,
-        (1, 2),
-        &[0, 2],
-        &[0, 1],
-        scalars(alloc, &[1, 1])?.as_slice(),
-    )?;
-    let column = csr(
-        alloc,
-        (2, 1),
-        &[0, 1, 2],
-        &[0, 0],
-        scalars(alloc, &[1, -1])?.as_slice(),
-    )?;
-    if row.ncols() != column.nrows() || c.nrows() != row.nrows() || c.ncols() != column.ncols() {
+// Whether the product into C is refused for its pattern, and leaves C as it was.
+fn is_refused(
+    alloc: Global,
+    mut c: CsrMatrix<W64>,
+    a: &CsrMatrix<W64>,
+    b: &CsrMatrix<W64>,
+) -> Result<bool, Fail> {
+    let before = c.clone(alloc)?;
+    if a.ncols() != b.nrows() || c.nrows() != a.nrows() || c.ncols() != b.ncols() {
         return Ok(false);
     }
-    let one = W64::new(1);
-    let said = match spmm_csr_prealloc(alloc, one, &mut c, one, Op::NoOp(&row), Op::NoOp(&column)) {
+    let two = W64::new(2);
+    let said = match spmm_csr_prealloc(alloc, two, &mut c, two, Op::NoOp(a), Op::NoOp(b)) {
         Ok(()) => false,
         Err(error) => {
             *error.kind() == OperationErrorKind::InvalidPattern
                 && error.message() == "Found unexpected entry that is not present in `c`."
         }
     };
-    Ok(said && c.nnz() == 0)
+    Ok(said && c == before)
+}
+
+// The product of `1 1` and the column `1`, `-1` is zero, at a place that C lacks.
+fn refuses_a_zero(alloc: Global) -> Result<bool, Fail> {
+    let row = scalars(alloc, &[1, 1])?;
+    let row = csr(alloc, (1, 2), &[0, 2], &[0, 1], row.as_slice())?;
+    let column = scalars(alloc, &[1, -1])?;
+    let column = csr(alloc, (2, 1), &[0, 1, 2], &[0, 0], column.as_slice())?;
+    is_refused(alloc, CsrMatrix::zeros(alloc, 1, 1)?, &row, &column)
+}
+
+// C lacks the last place of the last row.
+fn refuses_the_last_place(alloc: Global) -> Result<bool, Fail> {
+    let values = scalars(alloc, &[5, 6, 7])?;
+    let c = csr(alloc, (2, 2), &[0, 2, 3], &[0, 1, 0], values.as_slice())?;
+    let f = triangle(alloc)?;
+    is_refused(alloc, c, &f, &f)
 }
 
 #[test]
-fn a_refused_product_leaves_its_target(rt: HostRuntime) -> Result<(), Fail> {
-    let right = refused(rt.alloc())?;
-    assert!(rt; right);
+fn refused_products_leave_their_target(rt: HostRuntime) -> Result<(), Fail> {
+    assert!(rt; refuses_a_zero(rt.alloc())? && refuses_the_last_place(rt.alloc())?);
     Ok(())
 }
 
