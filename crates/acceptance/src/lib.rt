@@ -5,5 +5,7 @@
 mod label;
 #[cfg(test)]
 mod matrices;
-pub mod residue7;
-pub mod solving;
+#[cfg(test)]
+mod residue7;
+#[cfg(test)]
+mod solving;

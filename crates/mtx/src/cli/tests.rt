@@ -6,11 +6,13 @@ use cases::{CASES, COLUMN_CASES, FILL_CASES, REFUSALS};
 use nalgebra_sparse::io::Out;
 use std::alloc::AllocError;
 use std::io::{self, ErrorKind, Write};
-use std::process::{Abort, ExitCode};
+use std::process::ExitCode;
 use std::test::Fail;
 use std::{env, fs};
 
 mod cases;
+
+const FAILED: &[u8] = b"mtx: write failed\n";
 
 const HEADER: &str = "%%MatrixMarket matrix coordinate integer general\n";
 
@@ -103,41 +105,33 @@ fn calculated(
     Ok(answer)
 }
 
-fn expect_written(
-    rt: &(impl Abort + AllocGlobal),
-    answer: &Answer,
-    lines: &str,
-) -> Result<(), Fail> {
-    expect_written_below(rt, answer, HEADING, lines)
+// Whether a command wrote a text of this heading and these lines, and nothing else, with status 0.
+fn has_written(answer: &Answer, heading: &str, lines: &str) -> bool {
+    let text = match answer.out.as_str().strip_prefix(heading) {
+        Some(text) => text,
+        None => return false,
+    };
+    text == lines && answer.err.as_str() == "" && answer.status == 0
 }
 
-fn expect_written_below(
-    rt: &(impl Abort + AllocGlobal),
-    answer: &Answer,
-    heading: &str,
-    lines: &str,
-) -> Result<(), Fail> {
-    let text = format!(in rt.alloc(); "{heading}{lines}")?;
-    assert_eq!(rt; answer.err.as_str(), "");
-    assert_eq!(rt; answer.out.as_str(), text.as_str());
-    assert_eq!(rt; answer.status, 0);
-    Ok(())
+// Whether a command wrote this line to standard error, and nothing else, with this status.
+fn has_refused(answer: &Answer, line: &str, status: u8) -> bool {
+    answer.out.as_str() == "" && answer.err.as_str() == line && answer.status == status
 }
 
-fn expect_refused(rt: &impl Abort, answer: &Answer, line: &str, status: u8) {
-    assert_eq!(rt; answer.out.as_str(), "");
-    assert_eq!(rt; answer.err.as_str(), line);
-    assert_eq!(rt; answer.status, status);
+// Whether a command wrote the wanted lines, or refused with the wanted line and status 1.
+fn is_wanted(answer: &Answer, heading: &str, wanted: Result<&str, &str>) -> bool {
+    match wanted {
+        Ok(lines) => has_written(answer, heading, lines),
+        Err(line) => has_refused(answer, line, 1),
+    }
 }
 
 #[test]
 fn rows_of_files(rt: HostRuntime) -> Result<(), Fail> {
     for (expression, files, wanted) in CASES {
         let answer = calculated(&rt, "rows", expression, files)?;
-        match wanted {
-            Ok(lines) => expect_written(&rt, &answer, lines)?,
-            Err(line) => expect_refused(&rt, &answer, line, 1),
-        }
+        assert!(rt; is_wanted(&answer, HEADING, wanted));
     }
     Ok(())
 }
@@ -146,10 +140,7 @@ fn rows_of_files(rt: HostRuntime) -> Result<(), Fail> {
 fn columns_of_files(rt: HostRuntime) -> Result<(), Fail> {
     for (expression, files, wanted) in COLUMN_CASES {
         let answer = calculated(&rt, "cols", expression, files)?;
-        match wanted {
-            Ok(lines) => expect_written(&rt, &answer, lines)?,
-            Err(line) => expect_refused(&rt, &answer, line, 1),
-        }
+        assert!(rt; is_wanted(&answer, HEADING, wanted));
     }
     Ok(())
 }
@@ -159,10 +150,7 @@ fn fills_of_patterns(rt: HostRuntime) -> Result<(), Fail> {
     for (text, wanted) in FILL_CASES {
         let path = file(&rt, "fill", text.as_bytes())?;
         let answer = answered(&rt, &["fill", path.as_str()])?;
-        match wanted {
-            Ok(lines) => expect_written_below(&rt, &answer, PATTERN_HEADING, lines)?,
-            Err(line) => expect_refused(&rt, &answer, line, 1),
-        }
+        assert!(rt; is_wanted(&answer, PATTERN_HEADING, wanted));
         fs::remove_file(&rt, path.as_str())?;
     }
     Ok(())
@@ -198,44 +186,45 @@ fn refused(rt: &HostRuntime, first: &[&str], files: &[&[u8]]) -> Result<(u8, Str
 fn each_refusal_has_its_line(rt: HostRuntime) -> Result<(), Fail> {
     for (words, files, line, wanted) in REFUSALS {
         let (status, text) = refused(&rt, words, files)?;
-        assert_eq!(rt; text.as_str(), line);
-        assert_eq!(rt; status, wanted);
+        assert!(rt; text.as_str() == line && status == wanted);
     }
     Ok(())
 }
 
-#[test]
-fn failed_writes(rt: HostRuntime) -> Result<(), Fail> {
-    let path = matrix(&rt, "short", "1 1 1\n1 1 5\n")?;
+// What a command wrote in front of a failed write, on a stream that takes three bytes, its line and its status.
+fn cut_off(rt: &HostRuntime, words: &[&str]) -> (u8, Vec<u8>, Vec<u8>) {
     let mut out = Out::new(Short {
         bytes: Vec::new(rt.alloc()),
         room: 3,
     });
     let mut err = Out::new(Vec::new(rt.alloc()));
-    let status = command(&rt, &["rows", "1", path.as_str()], &mut out, &mut err);
-    assert_eq!(rt; status, 1);
-    assert_eq!(rt; out.into_inner().bytes.as_slice(), b"%%m".as_slice());
-    assert_eq!(rt;
-        err.into_inner().as_slice(),
-        b"mtx: write failed\n".as_slice()
-    );
+    let status = command(rt, words, &mut out, &mut err);
+    let Short { bytes, room: _ } = out.into_inner();
+    (status, bytes, err.into_inner())
+}
+
+#[test]
+fn a_failed_write_ends_the_text(rt: HostRuntime) -> Result<(), Fail> {
+    let path = matrix(&rt, "short", "1 1 1\n1 1 5\n")?;
+    let (status, out, err) = cut_off(&rt, &["rows", "1", path.as_str()]);
+    assert!(rt; status == 1 && out.as_slice() == b"%%m".as_slice() && err.as_slice() == FAILED);
     fs::remove_file(&rt, path.as_str())?;
-    // A fault in flushing is a failed write too, and one in writing the line is passed over.
+    Ok(())
+}
+
+// A fault in flushing is a failed write too, and one in writing the line is passed over.
+#[test]
+fn failed_flushes_and_lines(rt: HostRuntime) -> Result<(), Fail> {
     let mut full = Short {
         bytes: Vec::new(rt.alloc()),
         room: 0,
     };
     let mut err = Out::new(Vec::new(rt.alloc()));
-    assert_eq!(rt; finish(&rt, &mut full, &mut err), 1);
-    assert_eq!(rt;
-        err.into_inner().as_slice(),
-        b"mtx: write failed\n".as_slice()
-    );
+    let flushed = finish(&rt, &mut full, &mut err);
+    assert!(rt; flushed == 1 && err.into_inner().as_slice() == FAILED);
     let mut silent = Out::new(full);
-    assert_eq!(rt;
-        command(&rt, &[], &mut Out::new(Vec::new(rt.alloc())), &mut silent),
-        2
-    );
+    let status = command(&rt, &[], &mut Out::new(Vec::new(rt.alloc())), &mut silent);
+    assert!(rt; status == 2);
     Ok(())
 }
 
@@ -254,8 +243,8 @@ fn arguments_that_are_no_text_or_fit_no_memory(rt: HostRuntime) -> Result<(), Fa
     for (kind, status, line) in UNREAD {
         let mut err = Vec::new(rt.alloc());
         let given = Err(io::Error::from(kind));
-        assert!(rt; answer(&rt, given, Vec::new(rt.alloc()), &mut err) == ExitCode::from(status));
-        assert_eq!(rt; err.as_slice(), line);
+        let code = answer(&rt, given, Vec::new(rt.alloc()), &mut err);
+        assert!(rt; code == ExitCode::from(status) && err.as_slice() == line);
     }
     Ok(())
 }
@@ -285,8 +274,7 @@ fn a_failed_flush_is_a_failed_write(rt: HostRuntime) -> Result<(), Fail> {
     for room in [9, 999] {
         let mut err = Vec::new(rt.alloc());
         let status = status_on_short(&rt, path.as_str(), room, &mut err)?;
-        assert!(rt; status == ExitCode::FAILURE);
-        assert_eq!(rt; err.as_slice(), b"mtx: write failed\n".as_slice());
+        assert!(rt; status == ExitCode::FAILURE && err.as_slice() == FAILED);
     }
     fs::remove_file(&rt, path.as_str())?;
     Ok(())
