@@ -32,11 +32,8 @@ pub fn product_of_sum<T: Ring>(
     ensures { IfOk result
         (λ m. plain_of_rows T.ring T.value m.0 ≡ plain_of_rows T.ring T.value m.1) }
 {
-    let sum = add_csr(alloc, b, c)?;
-    let product = mul_csr(alloc, a, &sum)?;
-    let first = mul_csr(alloc, a, b)?;
-    let second = mul_csr(alloc, a, c)?;
-    let products = add_csr(alloc, &first, &second)?;
+    let product = product_with_sum(alloc, a, b, c)?;
+    let products = sum_of_products(alloc, a, b, a, c)?;
     Ok((product, products))
 }
 
@@ -53,11 +50,8 @@ pub fn sum_times<T: Ring>(
     ensures { IfOk result
         (λ m. plain_of_rows T.ring T.value m.0 ≡ plain_of_rows T.ring T.value m.1) }
 {
-    let sum = add_csr(alloc, a, b)?;
-    let product = mul_csr(alloc, &sum, c)?;
-    let first = mul_csr(alloc, a, c)?;
-    let second = mul_csr(alloc, b, c)?;
-    let products = add_csr(alloc, &first, &second)?;
+    let product = sum_with_factor(alloc, a, b, c)?;
+    let products = sum_of_products(alloc, a, c, b, c)?;
     Ok((product, products))
 }
 
@@ -125,6 +119,64 @@ pub fn transpose_of_product<T: Ring>(
     let second = transposed_csr(alloc, b)?;
     let reversed = mul_csr(alloc, &second, &first)?;
     Ok((transposed, reversed))
+}
+
+// Returns `a * (b + c)`.
+fn product_with_sum<T: Ring>(
+    alloc: Global,
+    a: &CsrMatrix<T>,
+    b: &CsrMatrix<T>,
+    c: &CsrMatrix<T>,
+) -> Result<CsrMatrix<T>, AllocError>
+    requires inner { a.now.pattern.minor_dim ≡ b.now.pattern.major_dim }
+    requires rows { b.now.pattern.major_dim ≡ c.now.pattern.major_dim }
+    requires cols { b.now.pattern.minor_dim ≡ c.now.pattern.minor_dim }
+    ensures { IfOk result (λ m. plain_of_rows T.ring T.value m
+        ≡ plain_product T.ring (plain_of_rows T.ring T.value a.now)
+        (plain_sum T.ring (plain_of_rows T.ring T.value b.now) (plain_of_rows T.ring T.value c.now))) }
+{
+    let sum = add_csr(alloc, b, c)?;
+    mul_csr(alloc, a, &sum)
+}
+
+// Returns `(a + b) * c`.
+fn sum_with_factor<T: Ring>(
+    alloc: Global,
+    a: &CsrMatrix<T>,
+    b: &CsrMatrix<T>,
+    c: &CsrMatrix<T>,
+) -> Result<CsrMatrix<T>, AllocError>
+    requires rows { a.now.pattern.major_dim ≡ b.now.pattern.major_dim }
+    requires cols { a.now.pattern.minor_dim ≡ b.now.pattern.minor_dim }
+    requires inner { b.now.pattern.minor_dim ≡ c.now.pattern.major_dim }
+    ensures { IfOk result (λ m. plain_of_rows T.ring T.value m
+        ≡ plain_product T.ring
+        (plain_sum T.ring (plain_of_rows T.ring T.value a.now) (plain_of_rows T.ring T.value b.now))
+        (plain_of_rows T.ring T.value c.now)) }
+{
+    let sum = add_csr(alloc, a, b)?;
+    mul_csr(alloc, &sum, c)
+}
+
+// Returns `a * b + c * d`.
+fn sum_of_products<T: Ring>(
+    alloc: Global,
+    a: &CsrMatrix<T>,
+    b: &CsrMatrix<T>,
+    c: &CsrMatrix<T>,
+    d: &CsrMatrix<T>,
+) -> Result<CsrMatrix<T>, AllocError>
+    requires first { a.now.pattern.minor_dim ≡ b.now.pattern.major_dim }
+    requires second { c.now.pattern.minor_dim ≡ d.now.pattern.major_dim }
+    requires rows { a.now.pattern.major_dim ≡ c.now.pattern.major_dim }
+    requires cols { b.now.pattern.minor_dim ≡ d.now.pattern.minor_dim }
+    ensures { IfOk result (λ m. plain_of_rows T.ring T.value m ≡ plain_sum T.ring
+        (plain_product T.ring (plain_of_rows T.ring T.value a.now) (plain_of_rows T.ring T.value b.now))
+        (plain_product T.ring (plain_of_rows T.ring T.value c.now) (plain_of_rows T.ring T.value d.now))) }
+{
+    let first = mul_csr(alloc, a, b)?;
+    let second = mul_csr(alloc, c, d)?;
+    add_csr(alloc, &first, &second)
 }
 
 /// The places of the product of two patterns are those of the plain product.

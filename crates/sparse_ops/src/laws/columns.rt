@@ -1,9 +1,10 @@
 //! The laws of sums and products of matrices by columns.
 
 ghost use Rattle.std.specs.Prelude.{◌≡◌, IfOk};
-ghost use Rattle.sparse_algebra.specs.Plain.{plain_transpose};
+ghost use Rattle.sparse_algebra.specs.Plain.{plain_product, plain_sum};
 ghost use Rattle.sparse_cs.specs.PlainOfLanes.{plain_of_cols};
 
+use crate::serial::prealloc::transposed_csc;
 use crate::serial::{add_csc, mul_csc, neg_csc, sub_csc};
 use sparse_algebra::scalar::Ring;
 use sparse_forms::csc::CscMatrix;
@@ -22,11 +23,8 @@ pub fn product_of_sum<T: Ring>(
     ensures { IfOk result (λ m. plain_of_cols T.ring T.value m.0
         ≡ plain_of_cols T.ring T.value m.1) }
 {
-    let sum = add_csc(alloc, b, c)?;
-    let product = mul_csc(alloc, a, &sum)?;
-    let first = mul_csc(alloc, a, b)?;
-    let second = mul_csc(alloc, a, c)?;
-    let products = add_csc(alloc, &first, &second)?;
+    let product = product_with_sum(alloc, a, b, c)?;
+    let products = sum_of_products(alloc, a, b, a, c)?;
     Ok((product, products))
 }
 
@@ -43,11 +41,8 @@ pub fn sum_times<T: Ring>(
     ensures { IfOk result (λ m. plain_of_cols T.ring T.value m.0
         ≡ plain_of_cols T.ring T.value m.1) }
 {
-    let sum = add_csc(alloc, a, b)?;
-    let product = mul_csc(alloc, &sum, c)?;
-    let first = mul_csc(alloc, a, c)?;
-    let second = mul_csc(alloc, b, c)?;
-    let products = add_csc(alloc, &first, &second)?;
+    let product = sum_with_factor(alloc, a, b, c)?;
+    let products = sum_of_products(alloc, a, c, b, c)?;
     Ok((product, products))
 }
 
@@ -120,12 +115,60 @@ pub fn transpose_of_product<T: Ring>(
     Ok((transposed, reversed))
 }
 
-// The transpose, in the same form.
-fn transposed_csc<T: Ring>(alloc: Global, a: &CscMatrix<T>) -> Result<CscMatrix<T>, AllocError>
+// Returns `a * (b + c)`.
+fn product_with_sum<T: Ring>(
+    alloc: Global,
+    a: &CscMatrix<T>,
+    b: &CscMatrix<T>,
+    c: &CscMatrix<T>,
+) -> Result<CscMatrix<T>, AllocError>
+    requires inner { a.now.pattern.major_dim ≡ b.now.pattern.minor_dim }
+    requires rows { b.now.pattern.minor_dim ≡ c.now.pattern.minor_dim }
+    requires cols { b.now.pattern.major_dim ≡ c.now.pattern.major_dim }
     ensures { IfOk result (λ m. plain_of_cols T.ring T.value m
-        ≡ plain_transpose T.ring (plain_of_cols T.ring T.value a.now)) }
+        ≡ plain_product T.ring (plain_of_cols T.ring T.value a.now)
+        (plain_sum T.ring (plain_of_cols T.ring T.value b.now) (plain_of_cols T.ring T.value c.now))) }
 {
-    // The call costs nothing: its contract tells the prover that the matrix is sound.
-    let _ = a.values();
-    a.transpose(alloc)
+    let sum = add_csc(alloc, b, c)?;
+    mul_csc(alloc, a, &sum)
+}
+
+// Returns `(a + b) * c`.
+fn sum_with_factor<T: Ring>(
+    alloc: Global,
+    a: &CscMatrix<T>,
+    b: &CscMatrix<T>,
+    c: &CscMatrix<T>,
+) -> Result<CscMatrix<T>, AllocError>
+    requires rows { a.now.pattern.minor_dim ≡ b.now.pattern.minor_dim }
+    requires cols { a.now.pattern.major_dim ≡ b.now.pattern.major_dim }
+    requires inner { b.now.pattern.major_dim ≡ c.now.pattern.minor_dim }
+    ensures { IfOk result (λ m. plain_of_cols T.ring T.value m
+        ≡ plain_product T.ring
+        (plain_sum T.ring (plain_of_cols T.ring T.value a.now) (plain_of_cols T.ring T.value b.now))
+        (plain_of_cols T.ring T.value c.now)) }
+{
+    let sum = add_csc(alloc, a, b)?;
+    mul_csc(alloc, &sum, c)
+}
+
+// Returns `a * b + c * d`.
+fn sum_of_products<T: Ring>(
+    alloc: Global,
+    a: &CscMatrix<T>,
+    b: &CscMatrix<T>,
+    c: &CscMatrix<T>,
+    d: &CscMatrix<T>,
+) -> Result<CscMatrix<T>, AllocError>
+    requires first { a.now.pattern.major_dim ≡ b.now.pattern.minor_dim }
+    requires second { c.now.pattern.major_dim ≡ d.now.pattern.minor_dim }
+    requires rows { a.now.pattern.minor_dim ≡ c.now.pattern.minor_dim }
+    requires cols { b.now.pattern.major_dim ≡ d.now.pattern.major_dim }
+    ensures { IfOk result (λ m. plain_of_cols T.ring T.value m ≡ plain_sum T.ring
+        (plain_product T.ring (plain_of_cols T.ring T.value a.now) (plain_of_cols T.ring T.value b.now))
+        (plain_product T.ring (plain_of_cols T.ring T.value c.now) (plain_of_cols T.ring T.value d.now))) }
+{
+    let first = mul_csc(alloc, a, b)?;
+    let second = mul_csc(alloc, c, d)?;
+    add_csc(alloc, &first, &second)
 }
