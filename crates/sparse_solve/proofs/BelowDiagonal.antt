@@ -20,7 +20,7 @@ use Rattle.sparse_cs.specs.PlainOfLanes.{plain_of_rows, plain_of_cols}
 use Rattle.sparse_cs.proofs.Arrays.{where_no, value_at_position, has_is_place}
 use Rattle.sparse_cs.specs.InnerRows.{lane_value}
 use Rattle.sparse_cs.proofs.LaneValues.{values_of, length-values, lane_value_is}
-use Rattle.sparse_solve.specs.InnerColumns.{IsColumnBelow, IsColumnIn}
+use Rattle.sparse_solve.specs.InnerColumns.{BeginsWithOne, IsColumnBelow, IsColumnIn}
 
 module _ (R : CommRing) {T : Type 0} (f : T → R.Carrier) (i : ℕ) where
   no_values : (ks : List ℕ) → lane_value R f ks [] i ≡ R.zero
@@ -194,3 +194,40 @@ module _ (R : CommRing) {T : Type 0} (f : T → R.Carrier) (z : T) (m : Compress
       ∙ get_or_default m.values (start_of m.pattern k + q) v z
       (omega (arith, here, (sound.valid.lanes k lane).inside, sound.count))
       ∙ sym (get_or-between m.values (start_of m.pattern k) (end_of m.pattern k) q z here)
+
+module _ (R : CommRing) {T : Type 0} (f : T → R.Carrier) (z : T) (m : Compressed T)
+    (sound : IsSound m) (k : ℕ) (lane : k < m.pattern.major_dim) where
+  -- what is read at a column's first position tells that the column begins with a one
+  pub begins : (offsets rows : List ℕ) (values : List T) (v : T)
+      → offsets ≡ m.pattern.offsets → rows ≡ m.pattern.indices → values ≡ m.values
+      → slice_index offsets k ≢ slice_index offsets (k + 1)
+      → slice_index rows (slice_index offsets k) ≡ k
+      → v ≡ get_or values (slice_index offsets k) v → f v ≡ R.one
+      → BeginsWithOne R f m k
+  begins offsets rows values v o rs vs some row read one =
+      let valid = sound.valid.lanes k lane in
+      let differ : start_of m.pattern k ≢ end_of m.pattern k =
+      subst (λ (os : List ℕ). slice_index os k ≢ slice_index os (k + 1)) o some in
+      let lt : 0 < length (lane_of m.pattern k) =
+      omega (arith, differ, valid.ordered, length-lane m.pattern k valid) in
+      let first : (n : ℕ) → n ≡ n + 0 = λ n. omega arith in
+      let row_is : get_or m.pattern.indices (start_of m.pattern k) 0 ≡ k =
+      ap (λ (os : List ℕ). get_or m.pattern.indices (slice_index os k) 0) (sym o)
+      ∙ ap (λ (xs : List ℕ). get_or xs (slice_index offsets k) 0) (sym rs) ∙ row in
+      let is : get_or (lane_of m.pattern k) 0 0 ≡ k = get_or-lane m.pattern k valid 0 lt
+      ∙ ap (λ p. get_or m.pattern.indices p 0) (sym (first (start_of m.pattern k))) ∙ row_is in
+      let value_is = value_read R f z m sound k lane 0 lt offsets values v o vs
+      (read ∙ ap (λ p. get_or values p v) (first (slice_index offsets k))) in
+      let value_one : f (get_or (values_of m k) 0 z) ≡ R.one = ap f (sym value_is) ∙ one in
+      let inverts : (e : T) → f e ≡ R.one → R.mul (f (get_or (values_of m k) 0 z)) (f e) ≡ R.one =
+      λ e e_one. ap (λ c. R.mul c (f e)) value_one ∙ ap (R.mul R.one) e_one
+      ∙ R.laws.mul_one R.one in
+      let column : (e : T) → f e ≡ R.one → IsColumnIn R f m k (slice_index m.pattern.offsets k + 1)
+      (slice_index m.pattern.offsets (k + 1)) e = λ e e_one.
+      subst (λ p. IsColumnIn R f m k (p + 1) (slice_index m.pattern.offsets (k + 1)) e)
+      (sym (first (slice_index m.pattern.offsets k)))
+      (column_in R f z m sound k lane 0 lt m.pattern.offsets e refl is (inverts e e_one)) in
+      record {
+        pivot = ((column v one).entries.stored, (v, (column v one).entries.inverts));
+        column = column;
+      }

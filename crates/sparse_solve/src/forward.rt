@@ -3,9 +3,9 @@
 ghost use Rattle.std.specs.Prelude.{◌≡◌, ◌<◌, All, length, slice_range};
 ghost use Rattle.sparse_cs.specs.PlainOfLanes.{plain_of_cols};
 ghost use Rattle.sparse_cs.specs.InnerRows.{lane_value};
-ghost use Rattle.sparse_solve.specs.InnerColumns.{HasPivots, HasRange, SolvesList, TakesAnswer, lower};
+ghost use Rattle.sparse_solve.specs.InnerColumns.{BeginWithOnes, HasPivots, HasRange, SolvesList, TakesAnswer, lower};
 
-use crate::column::{Column, column_below};
+use crate::column::{Column, column_after_one, column_below};
 use crate::kernels::{divide_entry, take_off, take_off_four};
 use sparse_algebra::scalar::Ring;
 use sparse_forms::csc::CscMatrix;
@@ -57,6 +57,37 @@ pub fn solve_four_forward<T: Units>(
         let Some(column) = column_below(l, k) else {
             return;
         };
+        take_four_answers(column, k, rows, values, first, second, third, fourth);
+    }
+}
+
+// The same where each column of T begins with a one: nothing is searched for, inverted or multiplied by an inverse.
+pub fn solve_four_after_ones<T: Units>(
+    l: &CscMatrix<T>,
+    first: &mut [T],
+    second: &mut [T],
+    third: &mut [T],
+    fourth: &mut [T],
+)
+    requires square { l.now.pattern.minor_dim ≡ l.now.pattern.major_dim }
+    requires rows { length first.old ≡ l.now.pattern.major_dim }
+    requires rows_2 { length second.old ≡ length first.old }
+    requires rows_3 { length third.old ≡ length first.old }
+    requires rows_4 { length fourth.old ≡ length first.old }
+    requires ones { BeginWithOnes T.ring T.value l.now (length first.old) }
+    ensures first { SolvesList T.ring T.value T.zero_value (lower T.ring T.value l.now)
+        first.new first.old }
+    ensures second { SolvesList T.ring T.value T.zero_value (lower T.ring T.value l.now)
+        second.new second.old }
+    ensures third { SolvesList T.ring T.value T.zero_value (lower T.ring T.value l.now)
+        third.new third.old }
+    ensures fourth { SolvesList T.ring T.value T.zero_value (lower T.ring T.value l.now)
+        fourth.new fourth.old }
+{
+    let rows = l.row_indices();
+    let values = l.values();
+    for k in 0..first.len() {
+        let column = column_after_one(l, k);
         take_four_answers(column, k, rows, values, first, second, third, fourth);
     }
 }

@@ -8,6 +8,9 @@ use Rattle.sparse_solve.specs.InnerColumns.{IsColumnIn}
 use Rattle.sparse_solve.proofs.Pivots.{some_gives, none_gives, pivot_of}
 use Rattle.sparse_solve.proofs.triangular.has_pivots.Goals as goal
 
+pub loop-k-init : goal.loop-k-init
+loop-k-init g c = λ k lt. (c.requires.ones k lt).pivot
+
 pub loop-k-preserved : goal.loop-k-preserved
 loop-k-preserved g c = λ k lt.
     let R = g.T.Ring.ring in
@@ -32,7 +35,7 @@ returns-then-is_none-clause-cases g c =
       omega (
         arith,
         c.loop-k-test.true,
-        c.requires,
+        c.requires.square,
         c.major_dim-count.ensures,
         ap (λ (d : Raw). d.major_dim) c.pattern.ensures.pattern,
       ),
@@ -46,7 +49,7 @@ returns-clause-cases g c = λ k lt. c.loop-k.invariant k
       arith,
       lt,
       c.loop-k-test.false,
-      c.requires,
+      c.requires.square,
       c.major_dim-count.ensures,
       ap (λ (d : Raw). d.major_dim) c.pattern.ensures.pattern,
     ))

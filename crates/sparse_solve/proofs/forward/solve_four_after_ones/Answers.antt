@@ -1,0 +1,64 @@
+use Rattle.std.proofs.Common.{slice_range, arith}
+use Rattle.sparse_solve.specs.InnerColumns.{lower}
+use Rattle.sparse_solve.proofs.Taking.{forward_list, forward_solved}
+use Rattle.sparse_solve.proofs.forward.solve_four_after_ones.Goals as goal
+
+pub take_four_answers-requires-clause-range : goal.take_four_answers-requires-clause-range
+take_four_answers-requires-clause-range g c =
+    rw (c.row_indices-rows.ensures.indices, c.values-values.ensures.values)
+    c.column_after_one-column.ensures.range
+
+pub take_four_answers-requires-clause-inside : goal.take_four_answers-requires-clause-inside
+take_four_answers-requires-clause-inside g c =
+    rw c.row_indices-rows.ensures.indices (λ q d lt.
+    omega (
+      arith,
+      c.column_after_one-column.ensures.entries.inside q d lt,
+      c.loop-k.auto.first,
+      c.requires.rows,
+      c.requires.square,
+    ))
+
+pub take_four_answers-requires-clause-above : goal.take_four_answers-requires-clause-above
+take_four_answers-requires-clause-above g c =
+    rw (c.row_indices-rows.ensures.indices, c.values-values.ensures.values)
+    (c.column_after_one-column.ensures.entries.above c.loop-k.k (omega arith))
+
+pub loop-k-preserved : goal.loop-k-preserved
+loop-k-preserved g c =
+    let R = g.T.Ring.ring in
+    let f = g.T.Ring.value in
+    let z = g.T.Zero.zero_value in
+    let column = c.column_after_one-column.result in
+    let m = c.args.l.now in
+    let step = forward_list R f z m c.loop-k.k
+    (slice_range m.pattern.indices column.begin column.end)
+    (slice_range m.values column.begin column.end) column.inverse
+    c.column_after_one-column.ensures.entries in
+    let took = rw (c.row_indices-rows.ensures.indices, c.values-values.ensures.values) at
+    c.take_four_answers.ensures in
+    let was = c.loop-k in
+    record {
+      first = step c.args.first.now was.first (omega arith) was.auto.first
+          c.take_four_answers.new.first took.first was.invariant.first;
+      second = step c.args.second.now was.second (omega arith) was.auto.second
+          c.take_four_answers.new.second took.second was.invariant.second;
+      third = step c.args.third.now was.third (omega arith) was.auto.third
+          c.take_four_answers.new.third took.third was.invariant.third;
+      fourth = step c.args.fourth.now was.fourth (omega arith) was.auto.fourth
+          c.take_four_answers.new.fourth took.fourth was.invariant.fourth;
+    }
+
+pub returns : goal.returns
+returns g c =
+    let R = g.T.Ring.ring in
+    let f = g.T.Ring.value in
+    let z = g.T.Zero.zero_value in
+    let solved = forward_solved R f z (lower R f c.args.l.now) c.loop-k.k in
+    let was = c.loop-k in
+    record {
+      first = solved c.args.first.now was.first (omega arith) was.invariant.first;
+      second = solved c.args.second.now was.second (omega arith) was.invariant.second;
+      third = solved c.args.third.now was.third (omega arith) was.invariant.third;
+      fourth = solved c.args.fourth.now was.fourth (omega arith) was.invariant.fourth;
+    }
