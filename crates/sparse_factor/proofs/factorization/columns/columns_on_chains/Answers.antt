@@ -7,7 +7,7 @@ use Rattle.sparse_pattern.proofs.PatternLanes.{length-lane}
 use Rattle.sparse_factor.specs.InnerChains.{chain_of}
 use Rattle.sparse_factor.specs.InnerSortedEntries.{columns_of}
 use Rattle.sparse_factor.proofs.LatestColumns.{AreLatest, none_latest, latest_more, offset_at}
-use Rattle.sparse_factor.proofs.LatestColumns.{chain_is, chain_within, end_is, end_within}
+use Rattle.sparse_factor.proofs.LatestColumns.{chain_is, chain_within, first_on_chain, end_is, end_within}
 use Rattle.sparse_factor.proofs.ChainColumns.{rising_entries, none_built, all_columns, run_before}
 use Rattle.sparse_factor.proofs.ChainColumns.{apart_before, column_built}
 use Rattle.sparse_factor.proofs.EntryColumns.{lane_read}
@@ -26,15 +26,15 @@ loop-column-init g c =
       built = rw (
         c.in_ok-push.ensures.items,
         c.in_ok-offsets.ensures.items,
-        c.new-rows.ensures.items,
+        c.in_ok-rows.ensures.items,
       ) (none_built chains (columns_of f n c.args.starts.now c.args.entries.now) c.requires.valid
           (sym (length-map chs f)) (sym (length-map chs f)));
-      counted = omega (arith, c.requires.valid.first, ap length c.new-rows.ensures.items);
+      counted = omega (arith, c.requires.valid.first, ap length c.in_ok-rows.ensures.items);
       onward = omega arith;
     }
 
-pub index-requires : goal.index-requires
-index-requires g c =
+pub end_on_chain-end-requires-clause-chain : goal.end_on_chain-end-requires-clause-chain
+end_on_chain-end-requires-clause-chain g c =
     let f = g.C.Count.number in
     let chs = c.args.chains.now in
     let column = c.loop-column.column in
@@ -42,7 +42,18 @@ index-requires g c =
     let within = chain_within f chs c.loop-column.latest.items column c.get-chain.result
     c.index-chains-column.result c.loop-column-test.true c.index-chains-column.is
     c.get-chain.ensures (c.requires.chains column) inv.latest in
-    omega (arith, within, c.loop-column.latest.ok.0)
+    omega (arith, within, c.loop-column.latest.ok.0, ap length c.deref.ensures.value)
+
+pub end_on_chain-end-requires-clause-first : goal.end_on_chain-end-requires-clause-first
+end_on_chain-end-requires-clause-first g c = λ own.
+    let f = g.C.Count.number in
+    let chs = c.args.chains.now in
+    let column = c.loop-column.column in
+    let inv = c.loop-column.invariant in
+    ap (λ l. slice_index (map f l) c.get-chain.result) c.deref.ensures.value
+    ∙ first_on_chain f chs c.loop-column.latest.items column c.get-chain.result
+    c.index-chains-column.result c.loop-column-test.true c.index-chains-column.is
+    c.get-chain.ensures (c.requires.chains column) inv.latest c.requires.chains own
 
 pub index_mut-requires : goal.index_mut-requires
 index_mut-requires g c =
@@ -61,10 +72,13 @@ index-from-requires g c =
     let chs = c.args.chains.now in
     let column = c.loop-column.column in
     let inv = c.loop-column.invariant in
+    let end_read : c.end_on_chain-end.result
+    ≡ slice_index (map f c.loop-column.latest.items) c.get-chain.result = c.end_on_chain-end.ensures
+    ∙ ap (λ l. slice_index (map f l) c.get-chain.result) c.deref.ensures.value in
     let le = end_within f chs c.loop-column.latest.items column c.get-chain.result
     c.index-chains-column.result c.loop-column-test.true c.index-chains-column.is
-    c.get-chain.ensures (c.requires.chains column) inv.latest c.get-end.result c.index.result.now
-    c.index.ensures c.get-end.ensures in
+    c.get-chain.ensures (c.requires.chains column) inv.latest c.end_on_chain-end.result
+    end_read in
     omega (
       arith,
       le,
@@ -73,16 +87,19 @@ index-from-requires g c =
       c.loop-column.offsets.ok.0,
     )
 
-pub index-requires-in-loop-column : goal.index-requires-in-loop-column
-index-requires-in-loop-column g c =
+pub index-requires : goal.index-requires
+index-requires g c =
     let f = g.C.Count.number in
     let chs = c.args.chains.now in
     let column = c.loop-column.column in
     let inv = c.loop-column.invariant in
+    let end_read : c.end_on_chain-end.result
+    ≡ slice_index (map f c.loop-column.latest.items) c.get-chain.result = c.end_on_chain-end.ensures
+    ∙ ap (λ l. slice_index (map f l) c.get-chain.result) c.deref.ensures.value in
     let le = end_within f chs c.loop-column.latest.items column c.get-chain.result
     c.index-chains-column.result c.loop-column-test.true c.index-chains-column.is
-    c.get-chain.ensures (c.requires.chains column) inv.latest c.get-end.result c.index.result.now
-    c.index.ensures c.get-end.ensures in
+    c.get-chain.ensures (c.requires.chains column) inv.latest c.end_on_chain-end.result
+    end_read in
     omega (arith, le, inv.built.valid.count, c.loop-column.offsets.ok.0)
 
 pub append_column-requires : goal.append_column-requires
@@ -91,14 +108,17 @@ append_column-requires g c =
     let chs = c.args.chains.now in
     let column = c.loop-column.column in
     let inv = c.loop-column.invariant in
+    let end_read : c.end_on_chain-end.result
+    ≡ slice_index (map f c.loop-column.latest.items) c.get-chain.result = c.end_on_chain-end.ensures
+    ∙ ap (λ l. slice_index (map f l) c.get-chain.result) c.deref.ensures.value in
     let le = end_within f chs c.loop-column.latest.items column c.get-chain.result
     c.index-chains-column.result c.loop-column-test.true c.index-chains-column.is
-    c.get-chain.ensures (c.requires.chains column) inv.latest c.get-end.result c.index.result.now
-    c.index.ensures c.get-end.ensures in
+    c.get-chain.ensures (c.requires.chains column) inv.latest c.end_on_chain-end.result
+    end_read in
     let end = end_is f chs c.loop-column.latest.items column c.get-chain.result
     c.index-chains-column.result c.loop-column-test.true c.index-chains-column.is
-    c.get-chain.ensures (c.requires.chains column) inv.latest c.get-end.result c.index.result.now
-    c.index.ensures c.get-end.ensures in
+    c.get-chain.ensures (c.requires.chains column) inv.latest c.end_on_chain-end.result
+    end_read in
     let latest = map f c.loop-column.latest.items in
     let last = slice_index latest (chain_of (map f chs) column) in
     let offsets = c.loop-column.offsets.items in
@@ -113,8 +133,8 @@ append_column-requires g c =
     let from = offset_at offsets c.saturating_sub.result (last - 1) c.index-from.result.now
     (omega (arith, le, count, c.saturating_sub.ensures)) c.index-from.ensures
     (c.saturating_sub.ensures ∙ ap (λ k. k - 1) end) in
-    let to = offset_at offsets c.get-end.result last c.index-in-loop-column.result.now
-    (omega (arith, le, count)) c.index-in-loop-column.ensures end in
+    let to = offset_at offsets c.end_on_chain-end.result last c.index.result.now
+    (omega (arith, le, count)) c.index.ensures end in
     let added = lane_read f (length chs) c.args.starts.now c.args.entries.now column in
     rw (from, to, added) record {
       run = run_before (map f chs) entries valid width size c.requires.low c.requires.once column
@@ -130,14 +150,17 @@ loop-column-preserved g c =
     let chs = c.args.chains.now in
     let column = c.loop-column.column in
     let inv = c.loop-column.invariant in
+    let end_read : c.end_on_chain-end.result
+    ≡ slice_index (map f c.loop-column.latest.items) c.get-chain.result = c.end_on_chain-end.ensures
+    ∙ ap (λ l. slice_index (map f l) c.get-chain.result) c.deref.ensures.value in
     let le = end_within f chs c.loop-column.latest.items column c.get-chain.result
     c.index-chains-column.result c.loop-column-test.true c.index-chains-column.is
-    c.get-chain.ensures (c.requires.chains column) inv.latest c.get-end.result c.index.result.now
-    c.index.ensures c.get-end.ensures in
+    c.get-chain.ensures (c.requires.chains column) inv.latest c.end_on_chain-end.result
+    end_read in
     let end = end_is f chs c.loop-column.latest.items column c.get-chain.result
     c.index-chains-column.result c.loop-column-test.true c.index-chains-column.is
-    c.get-chain.ensures (c.requires.chains column) inv.latest c.get-end.result c.index.result.now
-    c.index.ensures c.get-end.ensures in
+    c.get-chain.ensures (c.requires.chains column) inv.latest c.end_on_chain-end.result
+    end_read in
     let latest = map f c.loop-column.latest.items in
     let last = slice_index latest (chain_of (map f chs) column) in
     let offsets = c.loop-column.offsets.items in
@@ -152,8 +175,8 @@ loop-column-preserved g c =
     let from = offset_at offsets c.saturating_sub.result (last - 1) c.index-from.result.now
     (omega (arith, le, count, c.saturating_sub.ensures)) c.index-from.ensures
     (c.saturating_sub.ensures ∙ ap (λ k. k - 1) end) in
-    let to = offset_at offsets c.get-end.result last c.index-in-loop-column.result.now
-    (omega (arith, le, count)) c.index-in-loop-column.ensures end in
+    let to = offset_at offsets c.end_on_chain-end.result last c.index.result.now
+    (omega (arith, le, count)) c.index.ensures end in
     let chain = chain_is f chs c.loop-column.latest.items column c.get-chain.result
     c.index-chains-column.result c.loop-column-test.true c.index-chains-column.is
     c.get-chain.ensures (c.requires.chains column) inv.latest in
@@ -240,6 +263,19 @@ returns-in_err-offsets-clause-no_more g c = λ fill all.
       length-map c.args.entries.now f,
     )
 
+pub returns-in_err-rows-clause-no_more : goal.returns-in_err-rows-clause-no_more
+returns-in_err-rows-clause-no_more g c = λ fill all.
+    let f = g.C.Count.number in
+    let chs = c.args.chains.now in
+    let long = length-map chs f in
+    omega (
+      arith,
+      none_taken (map f chs) (columns_of f (length chs) c.args.starts.now c.args.entries.now) c.requires.valid
+          (sym long) (sym long)
+          c.requires.low c.args.steps.now fill all,
+      length-map c.args.entries.now f,
+    )
+
 pub returns-in_err-append_column-clause-no_more : goal.returns-in_err-append_column-clause-no_more
 returns-in_err-append_column-clause-no_more g c = λ fill all.
     let f = g.C.Count.number in
@@ -278,3 +314,13 @@ returns-clause-no_more g c = λ fill all.
           c.loop-column.rows.items inv.built c.args.steps.now c.loop-column.steps inv.counted fill all,
       length-map c.args.entries.now f,
     )
+
+pub offset_bounds-entries-starts : goal.offset_bounds-entries-starts
+offset_bounds-entries-starts g c =
+    let lane = c.requires.valid.lanes c.loop-column.column c.loop-column-test.true in
+    omega (arith, lane.ordered, lane.inside, length-map c.args.entries.now g.C.Count.number)
+
+pub slice_bounds-added-end : goal.slice_bounds-added-end
+slice_bounds-added-end g c =
+    let lane = c.requires.valid.lanes c.loop-column.column c.loop-column-test.true in
+    omega (arith, lane.ordered, lane.inside, length-map c.args.entries.now g.C.Count.number)
