@@ -92,10 +92,19 @@ module _ {X : Type 0} (f : X → ℕ) (chains latest : List X) (n chain : ℕ) (
   pub chain_within : chain < length latest
   chain_within = omega (arith, chain_is, are.count, length-map latest f, length-map chains f)
 
-  module _ (end : ℕ) (y : X) (read_end : y ≡ get_or latest chain y) (is_end : end ≡ f y) where
+  -- a chain has no column before that of its own number
+  pub first_on_chain : ((k : ℕ) → chain_of (map f chains) k ≤ k) → chain ≡ n
+      → slice_index (map f latest) chain ≡ 0
+  first_on_chain low own = elim (lt_or_ge 0 (slice_index (map f latest) chain)) [
+    | inl some ↦
+        let last = slice_index (map f latest) chain - 1 in
+        absurd (omega (arith, are.member chain some, low last, are.bound chain))
+    | inr none ↦ omega arith
+  ]
+
+  module _ (end : ℕ) (is_end : end ≡ slice_index (map f latest) chain) where
     pub end_is : end ≡ slice_index (map f latest) (chain_of (map f chains) n)
-    end_is = number_at f latest chain end y chain_within read_end is_end
-        ∙ ap (slice_index (map f latest)) chain_is
+    end_is = is_end ∙ ap (slice_index (map f latest)) chain_is
 
     pub end_within : end ≤ n
     end_within = omega (arith, end_is, are.bound (chain_of (map f chains) n))

@@ -142,8 +142,8 @@ fn fill_of<C: Count>(
         → steps.new ≤ steps.old + nnz_of pattern.now + length fill }
 {
     let (chains, row_entries) = climb_rows::<C>(alloc, pattern, steps)?;
-    let entries = entries_by_columns(alloc, &row_entries, pattern.major_dim())?;
-    let l_pattern = columns_on_chains(alloc, &chains, &entries, steps)?;
+    let (starts, entries) = entries_by_columns(alloc, &row_entries, pattern.major_dim())?;
+    let l_pattern = columns_on_chains(alloc, &chains, &starts, &entries, steps)?;
     Ok(l_pattern)
 }
 

@@ -64,7 +64,7 @@ pub(super) fn climb_rows<C: Count>(
 }
 
 // Returns a vector of zeros.
-fn zeros<C: Count>(alloc: Global, size: usize) -> Result<Vec<C>, AllocError>
+pub(super) fn zeros<C: Count>(alloc: Global, size: usize) -> Result<Vec<C>, AllocError>
     requires { 0 < C.limit }
     ensures { IfOk result (λ v. map C.number v.items ≡ replicate size 0) }
 {

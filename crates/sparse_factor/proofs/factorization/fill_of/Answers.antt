@@ -1,16 +1,17 @@
-use Rattle.std.proofs.Common.{length, map, sym, ap, arith}
+use Rattle.std.proofs.Common.{◌≡◌, length, map, sym, ap, ◌∙◌, arith}
 use Rattle.sparse_factor.specs.Fill.{UpperBase}
 use Rattle.sparse_factor.specs.InnerFilled.{Filled}
 use Rattle.sparse_factor.specs.InnerRowLists.{square_of}
 use Rattle.sparse_factor.specs.InnerChains.{nodes_in, rows_in}
+use Rattle.sparse_factor.specs.InnerSortedEntries.{columns_of}
 use Rattle.sparse_factor.proofs.EntryColumns.{rows_at}
 use Rattle.sparse_factor.proofs.FilledColumns.{column_low, column_once, column_filled}
 use Rattle.sparse_factor.proofs.FilledColumns.{columns_filled}
 use Rattle.sparse_factor.proofs.FillLaws.{in_fill}
 use Rattle.sparse_factor.proofs.factorization.fill_of.Goals as goal
 
-pub entries_by_columns-requires : goal.entries_by_columns-requires
-entries_by_columns-requires g c =
+pub entries_by_columns-requires-clause-rows : goal.entries_by_columns-requires-clause-rows
+entries_by_columns-requires-clause-rows g c =
     let f = g.C.Count.number in
     let r = c.in_ok-chains in
     let es = r.row_entries.items in
@@ -24,9 +25,13 @@ columns_on_chains-requires-clause-low g c =
     let es = r.row_entries.items in
     let d = rows_at c.major_dim.result c.args.pattern.now.major_dim (nodes_in f es) (rows_in f es)
     (sym c.major_dim.ensures) r.ensures.rows.0 in
-    let transposed = rw c.deref.ensures.value at c.in_ok-entries.ensures.transposed in
-    column_low (map f r.chains.items) (square_of d.offsets (nodes_in f es)) c.in_ok-entries.entries
-    r.ensures.rows.1 (transposed d)
+    let d' = columns_of f c.major_dim.result c.in_ok-starts.starts.items c.in_ok-starts.entries.items in
+    let same : length r.chains.items ≡ c.major_dim.result =
+    r.ensures.chain_count ∙ sym c.major_dim.ensures in
+    let transposed = rw c.deref.ensures.value at c.in_ok-starts.ensures.transposed in
+    rw (c.deref-2.ensures.value, c.deref-3.ensures.value, c.deref-4.ensures.value, same)
+    (column_low (map f r.chains.items) (square_of d.offsets (nodes_in f es)) d' r.ensures.rows.1
+    (transposed d))
 
 pub columns_on_chains-requires-clause-once : goal.columns_on_chains-requires-clause-once
 columns_on_chains-requires-clause-once g c =
@@ -35,9 +40,12 @@ columns_on_chains-requires-clause-once g c =
     let es = r.row_entries.items in
     let d = rows_at c.major_dim.result c.args.pattern.now.major_dim (nodes_in f es) (rows_in f es)
     (sym c.major_dim.ensures) r.ensures.rows.0 in
-    let transposed = rw c.deref.ensures.value at c.in_ok-entries.ensures.transposed in
-    rw c.deref-2.ensures.value (column_once (map f r.chains.items)
-    (square_of d.offsets (nodes_in f es)) c.in_ok-entries.entries r.ensures.rows.1 (transposed d))
+    let d' = columns_of f c.major_dim.result c.in_ok-starts.starts.items c.in_ok-starts.entries.items in
+    let same : length r.chains.items ≡ c.major_dim.result =
+    r.ensures.chain_count ∙ sym c.major_dim.ensures in
+    let transposed = rw c.deref.ensures.value at c.in_ok-starts.ensures.transposed in
+    rw (c.deref-2.ensures.value, c.deref-3.ensures.value, c.deref-4.ensures.value, same) (column_once (map f r.chains.items)
+    (square_of d.offsets (nodes_in f es)) d' r.ensures.rows.1 (transposed d))
 
 pub returns-clause-places : goal.returns-clause-places
 returns-clause-places g c =
@@ -46,10 +54,13 @@ returns-clause-places g c =
     let es = r.row_entries.items in
     let d = rows_at c.major_dim.result c.args.pattern.now.major_dim (nodes_in f es) (rows_in f es)
     (sym c.major_dim.ensures) r.ensures.rows.0 in
-    let transposed = rw c.deref.ensures.value at c.in_ok-entries.ensures.transposed in
-    let places = rw c.deref-2.ensures.value at c.in_ok-l_pattern.ensures.places in
+    let d' = columns_of f c.major_dim.result c.in_ok-starts.starts.items c.in_ok-starts.entries.items in
+    let same : length r.chains.items ≡ c.major_dim.result =
+    r.ensures.chain_count ∙ sym c.major_dim.ensures in
+    let transposed = rw c.deref.ensures.value at c.in_ok-starts.ensures.transposed in
+    let places = rw (c.deref-2.ensures.value, c.deref-3.ensures.value, c.deref-4.ensures.value, same) at c.in_ok-l_pattern.ensures.places in
     columns_filled (map f r.chains.items) (square_of d.offsets (nodes_in f es))
-    c.in_ok-entries.entries r.ensures.rows.1 (transposed d)
+    d' r.ensures.rows.1 (transposed d)
     (Filled (UpperBase c.args.pattern.now)) r.ensures.rows.2 c.in_ok-l_pattern.l_pattern places
 
 pub returns-clause-all_read : goal.returns-clause-all_read
@@ -63,17 +74,21 @@ returns-in_err-l_pattern-clause-no_more g c = λ fill all.
     let es = r.row_entries.items in
     let d = rows_at c.major_dim.result c.args.pattern.now.major_dim (nodes_in f es) (rows_in f es)
     (sym c.major_dim.ensures) r.ensures.rows.0 in
-    let transposed = rw c.deref.ensures.value at c.in_ok-entries.ensures.transposed in
+    let d' = columns_of f c.major_dim.result c.in_ok-starts.starts.items c.in_ok-starts.entries.items in
+    let same : length r.chains.items ≡ c.major_dim.result =
+    r.ensures.chain_count ∙ sym c.major_dim.ensures in
+    let transposed = rw c.deref.ensures.value at c.in_ok-starts.ensures.transposed in
     let filled = column_filled (map f r.chains.items) (square_of d.offsets (nodes_in f es))
-    c.in_ok-entries.entries r.ensures.rows.1 (transposed d)
+    d' r.ensures.rows.1 (transposed d)
     (Filled (UpperBase c.args.pattern.now)) r.ensures.rows.2 in
-    let few = rw c.deref-2.ensures.value at c.columns_on_chains.ensures.no_more in
+    let few = rw (c.deref-2.ensures.value, c.deref-3.ensures.value, c.deref-4.ensures.value, same) at c.columns_on_chains.ensures.no_more in
     omega (
       arith,
       few fill (λ i j h. all i j (in_fill ((filled i j).0 h))),
       r.ensures.counted,
-      c.in_ok-entries.ensures.places,
+      c.in_ok-starts.ensures.places,
       ap length c.deref.ensures.value,
+      ap length c.deref-4.ensures.value,
     )
 
 pub returns-clause-no_more : goal.returns-clause-no_more
@@ -83,15 +98,27 @@ returns-clause-no_more g c = λ fill all.
     let es = r.row_entries.items in
     let d = rows_at c.major_dim.result c.args.pattern.now.major_dim (nodes_in f es) (rows_in f es)
     (sym c.major_dim.ensures) r.ensures.rows.0 in
-    let transposed = rw c.deref.ensures.value at c.in_ok-entries.ensures.transposed in
+    let d' = columns_of f c.major_dim.result c.in_ok-starts.starts.items c.in_ok-starts.entries.items in
+    let same : length r.chains.items ≡ c.major_dim.result =
+    r.ensures.chain_count ∙ sym c.major_dim.ensures in
+    let transposed = rw c.deref.ensures.value at c.in_ok-starts.ensures.transposed in
     let filled = column_filled (map f r.chains.items) (square_of d.offsets (nodes_in f es))
-    c.in_ok-entries.entries r.ensures.rows.1 (transposed d)
+    d' r.ensures.rows.1 (transposed d)
     (Filled (UpperBase c.args.pattern.now)) r.ensures.rows.2 in
-    let few = rw c.deref-2.ensures.value at c.columns_on_chains.ensures.no_more in
+    let few = rw (c.deref-2.ensures.value, c.deref-3.ensures.value, c.deref-4.ensures.value, same) at c.columns_on_chains.ensures.no_more in
     omega (
       arith,
       few fill (λ i j h. all i j (in_fill ((filled i j).0 h))),
       r.ensures.counted,
-      c.in_ok-entries.ensures.places,
+      c.in_ok-starts.ensures.places,
       ap length c.deref.ensures.value,
+      ap length c.deref-4.ensures.value,
     )
+
+pub columns_on_chains-requires-clause-valid : goal.columns_on_chains-requires-clause-valid
+columns_on_chains-requires-clause-valid g c =
+    let r = c.in_ok-chains in
+    let same : length r.chains.items ≡ c.major_dim.result =
+    r.ensures.chain_count ∙ sym c.major_dim.ensures in
+    rw (c.deref-2.ensures.value, c.deref-3.ensures.value, c.deref-4.ensures.value, same)
+    c.in_ok-starts.ensures.valid

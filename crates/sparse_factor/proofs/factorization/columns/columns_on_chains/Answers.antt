@@ -1,54 +1,40 @@
-use Rattle.std.proofs.Common.{◌≡◌, ℕ, ◌+◌, ◌-◌, ◌<◌, ◌++◌, ◌∷◌, [], length, map, set}
-use Rattle.std.proofs.Common.{slice_index, replicate, ap, sym, subst, ◌∙◌, refl, arith}
-use Rattle.std.proofs.lemmas.Grind.{same_number_lists}
-use Rattle.std.proofs.lemmas.List.{length-map, length-replicate, get_or-map, get_or-replicate}
+use Rattle.std.proofs.Common.{◌≡◌, ◌+◌, ◌-◌, ◌<◌, ◌++◌, ◌∷◌, [], length, map, set}
+use Rattle.std.proofs.Common.{slice_index, slice_range, ap, sym, subst, ◌∙◌, arith}
+use Rattle.std.proofs.lemmas.List.{length-map}
 use Rattle.std.proofs.lemmas.List.{map-set}
 use Rattle.sparse_pattern.specs.Raw.{raw_of, IsValid}
 use Rattle.sparse_pattern.proofs.PatternLanes.{length-lane}
 use Rattle.sparse_factor.specs.InnerChains.{chain_of}
+use Rattle.sparse_factor.specs.InnerSortedEntries.{columns_of}
 use Rattle.sparse_factor.proofs.LatestColumns.{AreLatest, none_latest, latest_more, offset_at}
-use Rattle.sparse_factor.proofs.LatestColumns.{chain_is, chain_within, end_is, end_within}
+use Rattle.sparse_factor.proofs.LatestColumns.{chain_is, chain_within, first_on_chain, end_is, end_within}
 use Rattle.sparse_factor.proofs.ChainColumns.{rising_entries, none_built, all_columns, run_before}
 use Rattle.sparse_factor.proofs.ChainColumns.{apart_before, column_built}
+use Rattle.sparse_factor.proofs.EntryColumns.{lane_read}
 use Rattle.sparse_factor.proofs.ColumnSteps.{steps_within, none_taken}
 use Rattle.sparse_factor.proofs.factorization.columns.columns_on_chains.Goals as goal
 
 pub loop-column-init : goal.loop-column-init
 loop-column-init g c =
     let f = g.C.Count.number in
-    let chains = map f c.args.chains.now in
-    let xs = c.resize.new.self.items in
-    let n = length c.args.chains.now in
-    let size : length xs ≡ n = omega (arith, c.resize.new.self.ok.0, c.in_ok-resize.ensures.len) in
-    let zeros = c.in_ok-resize.ensures.by_index.1 in
-    let none : map f xs ≡ replicate n 0 =
-    same_number_lists (map f xs) (replicate n 0)
-    (omega (arith, length-map xs f, size, length-replicate {A = ℕ} n 0)) (λ k lt.
-    let inside : k < length xs = omega (arith, length-map xs f) in
-    let zero = zeros k c.of.result refl (omega (arith, c.in_ok-latest.ensures.len))
-    (omega (arith, size)) in
-    omega (
-      arith,
-      get_or-map f xs k c.of.result 0 inside,
-      ap f zero,
-      c.of.ensures,
-      get_or-replicate {A = ℕ} n k 0 0 (omega (arith, size)),
-    )) in
+    let chs = c.args.chains.now in
+    let chains = map f chs in
+    let n = length chs in
     record {
-      latest = none_latest chains (map f xs) n none (sym (length-map c.args.chains.now f));
+      latest = none_latest chains (map f c.in_ok-latest.latest.items) n c.in_ok-latest.ensures
+          (sym (length-map chs f));
       built = rw (
         c.in_ok-push.ensures.items,
         c.in_ok-offsets.ensures.items,
-        c.new-rows.ensures.items,
-      ) (none_built chains c.args.entries.now c.major_offsets.ensures.valid
-          (omega (arith, length-map c.args.chains.now f, c.requires.rows))
-          (omega (arith, length-map c.args.chains.now f, c.requires.columns)));
-      counted = omega (arith, c.major_offsets.ensures.valid.first, ap length c.new-rows.ensures.items);
+        c.in_ok-rows.ensures.items,
+      ) (none_built chains (columns_of f n c.args.starts.now c.args.entries.now) c.requires.valid
+          (sym (length-map chs f)) (sym (length-map chs f)));
+      counted = omega (arith, c.requires.valid.first, ap length c.in_ok-rows.ensures.items);
       onward = omega arith;
     }
 
-pub index-requires : goal.index-requires
-index-requires g c =
+pub end_on_chain-end-requires-clause-chain : goal.end_on_chain-end-requires-clause-chain
+end_on_chain-end-requires-clause-chain g c =
     let f = g.C.Count.number in
     let chs = c.args.chains.now in
     let column = c.loop-column.column in
@@ -56,7 +42,18 @@ index-requires g c =
     let within = chain_within f chs c.loop-column.latest.items column c.get-chain.result
     c.index-chains-column.result c.loop-column-test.true c.index-chains-column.is
     c.get-chain.ensures (c.requires.chains column) inv.latest in
-    omega (arith, within, c.loop-column.latest.ok.0)
+    omega (arith, within, c.loop-column.latest.ok.0, ap length c.deref.ensures.value)
+
+pub end_on_chain-end-requires-clause-first : goal.end_on_chain-end-requires-clause-first
+end_on_chain-end-requires-clause-first g c = λ own.
+    let f = g.C.Count.number in
+    let chs = c.args.chains.now in
+    let column = c.loop-column.column in
+    let inv = c.loop-column.invariant in
+    ap (λ l. slice_index (map f l) c.get-chain.result) c.deref.ensures.value
+    ∙ first_on_chain f chs c.loop-column.latest.items column c.get-chain.result
+    c.index-chains-column.result c.loop-column-test.true c.index-chains-column.is
+    c.get-chain.ensures (c.requires.chains column) inv.latest c.requires.chains own
 
 pub index_mut-requires : goal.index_mut-requires
 index_mut-requires g c =
@@ -75,10 +72,13 @@ index-from-requires g c =
     let chs = c.args.chains.now in
     let column = c.loop-column.column in
     let inv = c.loop-column.invariant in
+    let end_read : c.end_on_chain-end.result
+    ≡ slice_index (map f c.loop-column.latest.items) c.get-chain.result = c.end_on_chain-end.ensures
+    ∙ ap (λ l. slice_index (map f l) c.get-chain.result) c.deref.ensures.value in
     let le = end_within f chs c.loop-column.latest.items column c.get-chain.result
     c.index-chains-column.result c.loop-column-test.true c.index-chains-column.is
-    c.get-chain.ensures (c.requires.chains column) inv.latest c.get-end.result c.index.result.now
-    c.index.ensures c.get-end.ensures in
+    c.get-chain.ensures (c.requires.chains column) inv.latest c.end_on_chain-end.result
+    end_read in
     omega (
       arith,
       le,
@@ -87,16 +87,19 @@ index-from-requires g c =
       c.loop-column.offsets.ok.0,
     )
 
-pub index-requires-in-loop-column : goal.index-requires-in-loop-column
-index-requires-in-loop-column g c =
+pub index-requires : goal.index-requires
+index-requires g c =
     let f = g.C.Count.number in
     let chs = c.args.chains.now in
     let column = c.loop-column.column in
     let inv = c.loop-column.invariant in
+    let end_read : c.end_on_chain-end.result
+    ≡ slice_index (map f c.loop-column.latest.items) c.get-chain.result = c.end_on_chain-end.ensures
+    ∙ ap (λ l. slice_index (map f l) c.get-chain.result) c.deref.ensures.value in
     let le = end_within f chs c.loop-column.latest.items column c.get-chain.result
     c.index-chains-column.result c.loop-column-test.true c.index-chains-column.is
-    c.get-chain.ensures (c.requires.chains column) inv.latest c.get-end.result c.index.result.now
-    c.index.ensures c.get-end.ensures in
+    c.get-chain.ensures (c.requires.chains column) inv.latest c.end_on_chain-end.result
+    end_read in
     omega (arith, le, inv.built.valid.count, c.loop-column.offsets.ok.0)
 
 pub append_column-requires : goal.append_column-requires
@@ -105,31 +108,35 @@ append_column-requires g c =
     let chs = c.args.chains.now in
     let column = c.loop-column.column in
     let inv = c.loop-column.invariant in
+    let end_read : c.end_on_chain-end.result
+    ≡ slice_index (map f c.loop-column.latest.items) c.get-chain.result = c.end_on_chain-end.ensures
+    ∙ ap (λ l. slice_index (map f l) c.get-chain.result) c.deref.ensures.value in
     let le = end_within f chs c.loop-column.latest.items column c.get-chain.result
     c.index-chains-column.result c.loop-column-test.true c.index-chains-column.is
-    c.get-chain.ensures (c.requires.chains column) inv.latest c.get-end.result c.index.result.now
-    c.index.ensures c.get-end.ensures in
+    c.get-chain.ensures (c.requires.chains column) inv.latest c.end_on_chain-end.result
+    end_read in
     let end = end_is f chs c.loop-column.latest.items column c.get-chain.result
     c.index-chains-column.result c.loop-column-test.true c.index-chains-column.is
-    c.get-chain.ensures (c.requires.chains column) inv.latest c.get-end.result c.index.result.now
-    c.index.ensures c.get-end.ensures in
+    c.get-chain.ensures (c.requires.chains column) inv.latest c.end_on_chain-end.result
+    end_read in
     let latest = map f c.loop-column.latest.items in
     let last = slice_index latest (chain_of (map f chs) column) in
     let offsets = c.loop-column.offsets.items in
     let rows = c.loop-column.rows.items in
-    let entries = c.args.entries.now in
-    let valid = c.major_offsets.ensures.valid in
+    let entries = (columns_of f (length chs) c.args.starts.now c.args.entries.now) in
+    let valid = c.requires.valid in
     let long = length-map chs f in
-    let width : entries.minor_dim ≡ length (map f chs) = omega (arith, long, c.requires.rows) in
-    let size : entries.major_dim ≡ length (map f chs) = omega (arith, long, c.requires.columns) in
+    let width : entries.minor_dim ≡ length (map f chs) = sym long in
+    let size : entries.major_dim ≡ length (map f chs) = sym long in
     let lt : column < length (map f chs) = omega (arith, long, c.loop-column-test.true) in
     let count = inv.built.valid.count in
     let from = offset_at offsets c.saturating_sub.result (last - 1) c.index-from.result.now
     (omega (arith, le, count, c.saturating_sub.ensures)) c.index-from.ensures
     (c.saturating_sub.ensures ∙ ap (λ k. k - 1) end) in
-    let to = offset_at offsets c.get-end.result last c.index-in-loop-column.result.now
-    (omega (arith, le, count)) c.index-in-loop-column.ensures end in
-    rw (from, to, c.lane-added.ensures) record {
+    let to = offset_at offsets c.end_on_chain-end.result last c.index.result.now
+    (omega (arith, le, count)) c.index.ensures end in
+    let added = lane_read f (length chs) c.args.starts.now c.args.entries.now column in
+    rw (from, to, added) record {
       run = run_before (map f chs) entries valid width size c.requires.low c.requires.once column
           latest offsets rows inv.built inv.latest lt;
       rising = rising_entries (map f chs) entries valid width size column lt;
@@ -143,39 +150,43 @@ loop-column-preserved g c =
     let chs = c.args.chains.now in
     let column = c.loop-column.column in
     let inv = c.loop-column.invariant in
+    let end_read : c.end_on_chain-end.result
+    ≡ slice_index (map f c.loop-column.latest.items) c.get-chain.result = c.end_on_chain-end.ensures
+    ∙ ap (λ l. slice_index (map f l) c.get-chain.result) c.deref.ensures.value in
     let le = end_within f chs c.loop-column.latest.items column c.get-chain.result
     c.index-chains-column.result c.loop-column-test.true c.index-chains-column.is
-    c.get-chain.ensures (c.requires.chains column) inv.latest c.get-end.result c.index.result.now
-    c.index.ensures c.get-end.ensures in
+    c.get-chain.ensures (c.requires.chains column) inv.latest c.end_on_chain-end.result
+    end_read in
     let end = end_is f chs c.loop-column.latest.items column c.get-chain.result
     c.index-chains-column.result c.loop-column-test.true c.index-chains-column.is
-    c.get-chain.ensures (c.requires.chains column) inv.latest c.get-end.result c.index.result.now
-    c.index.ensures c.get-end.ensures in
+    c.get-chain.ensures (c.requires.chains column) inv.latest c.end_on_chain-end.result
+    end_read in
     let latest = map f c.loop-column.latest.items in
     let last = slice_index latest (chain_of (map f chs) column) in
     let offsets = c.loop-column.offsets.items in
     let rows = c.loop-column.rows.items in
-    let entries = c.args.entries.now in
-    let valid = c.major_offsets.ensures.valid in
+    let entries = (columns_of f (length chs) c.args.starts.now c.args.entries.now) in
+    let valid = c.requires.valid in
     let long = length-map chs f in
-    let width : entries.minor_dim ≡ length (map f chs) = omega (arith, long, c.requires.rows) in
-    let size : entries.major_dim ≡ length (map f chs) = omega (arith, long, c.requires.columns) in
+    let width : entries.minor_dim ≡ length (map f chs) = sym long in
+    let size : entries.major_dim ≡ length (map f chs) = sym long in
     let lt : column < length (map f chs) = omega (arith, long, c.loop-column-test.true) in
     let count = inv.built.valid.count in
     let from = offset_at offsets c.saturating_sub.result (last - 1) c.index-from.result.now
     (omega (arith, le, count, c.saturating_sub.ensures)) c.index-from.ensures
     (c.saturating_sub.ensures ∙ ap (λ k. k - 1) end) in
-    let to = offset_at offsets c.get-end.result last c.index-in-loop-column.result.now
-    (omega (arith, le, count)) c.index-in-loop-column.ensures end in
+    let to = offset_at offsets c.end_on_chain-end.result last c.index.result.now
+    (omega (arith, le, count)) c.index.ensures end in
     let chain = chain_is f chs c.loop-column.latest.items column c.get-chain.result
     c.index-chains-column.result c.loop-column-test.true c.index-chains-column.is
     c.get-chain.ensures (c.requires.chains column) inv.latest in
     let written : map f (set c.loop-column.latest.items c.get-chain.result
-    c.of-in-loop-column.result) ≡ set latest (chain_of (map f chs) column) (column + 1) =
-    map-set f c.loop-column.latest.items c.get-chain.result c.of-in-loop-column.result
-    ∙ ap (set latest c.get-chain.result) c.of-in-loop-column.ensures
+    c.of.result) ≡ set latest (chain_of (map f chs) column) (column + 1) =
+    map-set f c.loop-column.latest.items c.get-chain.result c.of.result
+    ∙ ap (set latest c.get-chain.result) c.of.ensures
     ∙ ap (λ k. set latest k (column + 1)) chain in
-    let gains = rw (from, to, c.lane-added.ensures) at c.in_ok-append_column.ensures.gains in
+    let added = lane_read f (length chs) c.args.starts.now c.args.entries.now column in
+    let gains = rw (from, to, added) at c.in_ok-append_column.ensures.gains in
     record {
       latest = subst (λ l. AreLatest (map f chs) l (column + 1)) (sym written)
           (latest_more (map f chs) latest column inv.latest lt (c.requires.chains column));
@@ -192,7 +203,9 @@ loop-column-preserved g c =
         c.len-before.ensures,
         c.append_column.new.rows.ok.0,
         c.loop-column.rows.ok.0,
-        ap length c.lane-added.ensures,
+        ap length added,
+        length-map (slice_range c.args.entries.now (slice_index c.args.starts.now column)
+            (slice_index c.args.starts.now (column + 1))) f,
         length-lane entries column (valid.lanes column (omega arith)),
         (valid.lanes column (omega arith)).ordered,
       );
@@ -217,8 +230,8 @@ returns-clause-places g c =
     let long = length-map chs f in
     let offsets = c.loop-column.offsets.items in
     let rows = c.loop-column.rows.items in
-    all_columns (map f chs) c.args.entries.now c.major_offsets.ensures.valid
-    (omega (arith, long, c.requires.rows)) (omega (arith, long, c.requires.columns))
+    all_columns (map f chs) (columns_of f (length chs) c.args.starts.now c.args.entries.now) c.requires.valid
+    (sym long) (sym long)
     c.loop-column.column c.from_offset_and_indices_unchecked.result offsets rows
     (omega (arith, long))
     (c.from_offset_and_indices_unchecked.ensures ∙ ap (λ k. raw_of k k offsets rows) (sym long))
@@ -229,42 +242,85 @@ returns-in_err-latest-clause-no_more g c = λ fill all.
     let f = g.C.Count.number in
     let chs = c.args.chains.now in
     let long = length-map chs f in
-    none_taken (map f chs) c.args.entries.now c.major_offsets.ensures.valid
-    (omega (arith, long, c.requires.rows)) (omega (arith, long, c.requires.columns))
-    c.requires.low c.args.steps.now fill all
+    omega (
+      arith,
+      none_taken (map f chs) (columns_of f (length chs) c.args.starts.now c.args.entries.now) c.requires.valid
+          (sym long) (sym long)
+          c.requires.low c.args.steps.now fill all,
+      length-map c.args.entries.now f,
+    )
 
 pub returns-in_err-offsets-clause-no_more : goal.returns-in_err-offsets-clause-no_more
 returns-in_err-offsets-clause-no_more g c = λ fill all.
     let f = g.C.Count.number in
     let chs = c.args.chains.now in
     let long = length-map chs f in
-    none_taken (map f chs) c.args.entries.now c.major_offsets.ensures.valid
-    (omega (arith, long, c.requires.rows)) (omega (arith, long, c.requires.columns))
-    c.requires.low c.args.steps.now fill all
+    omega (
+      arith,
+      none_taken (map f chs) (columns_of f (length chs) c.args.starts.now c.args.entries.now) c.requires.valid
+          (sym long) (sym long)
+          c.requires.low c.args.steps.now fill all,
+      length-map c.args.entries.now f,
+    )
+
+pub returns-in_err-rows-clause-no_more : goal.returns-in_err-rows-clause-no_more
+returns-in_err-rows-clause-no_more g c = λ fill all.
+    let f = g.C.Count.number in
+    let chs = c.args.chains.now in
+    let long = length-map chs f in
+    omega (
+      arith,
+      none_taken (map f chs) (columns_of f (length chs) c.args.starts.now c.args.entries.now) c.requires.valid
+          (sym long) (sym long)
+          c.requires.low c.args.steps.now fill all,
+      length-map c.args.entries.now f,
+    )
 
 pub returns-in_err-append_column-clause-no_more : goal.returns-in_err-append_column-clause-no_more
 returns-in_err-append_column-clause-no_more g c = λ fill all.
     let f = g.C.Count.number in
     let chs = c.args.chains.now in
     let inv = c.loop-column.invariant in
-    steps_within (map f chs) c.args.entries.now c.major_offsets.ensures.valid c.requires.low
-    c.loop-column.column (omega (arith, c.requires.columns)) c.loop-column.offsets.items
-    c.loop-column.rows.items inv.built c.args.steps.now c.loop-column.steps inv.counted fill all
+    omega (
+      arith,
+      steps_within (map f chs) (columns_of f (length chs) c.args.starts.now c.args.entries.now) c.requires.valid c.requires.low
+          c.loop-column.column (omega arith) c.loop-column.offsets.items
+          c.loop-column.rows.items inv.built c.args.steps.now c.loop-column.steps inv.counted fill all,
+      length-map c.args.entries.now f,
+    )
 
 pub returns-in_err-push-2-clause-no_more : goal.returns-in_err-push-2-clause-no_more
 returns-in_err-push-2-clause-no_more g c = λ fill all.
     let f = g.C.Count.number in
     let chs = c.args.chains.now in
     let inv = c.loop-column.invariant in
-    steps_within (map f chs) c.args.entries.now c.major_offsets.ensures.valid c.requires.low
-    c.loop-column.column (omega (arith, c.requires.columns)) c.loop-column.offsets.items
-    c.loop-column.rows.items inv.built c.args.steps.now c.loop-column.steps inv.counted fill all
+    omega (
+      arith,
+      steps_within (map f chs) (columns_of f (length chs) c.args.starts.now c.args.entries.now) c.requires.valid c.requires.low
+          c.loop-column.column (omega arith) c.loop-column.offsets.items
+          c.loop-column.rows.items inv.built c.args.steps.now c.loop-column.steps inv.counted fill all,
+      length-map c.args.entries.now f,
+    )
 
 pub returns-clause-no_more : goal.returns-clause-no_more
 returns-clause-no_more g c = λ fill all.
     let f = g.C.Count.number in
     let chs = c.args.chains.now in
     let inv = c.loop-column.invariant in
-    steps_within (map f chs) c.args.entries.now c.major_offsets.ensures.valid c.requires.low
-    c.loop-column.column (omega (arith, c.requires.columns)) c.loop-column.offsets.items
-    c.loop-column.rows.items inv.built c.args.steps.now c.loop-column.steps inv.counted fill all
+    omega (
+      arith,
+      steps_within (map f chs) (columns_of f (length chs) c.args.starts.now c.args.entries.now) c.requires.valid c.requires.low
+          c.loop-column.column (omega arith) c.loop-column.offsets.items
+          c.loop-column.rows.items inv.built c.args.steps.now c.loop-column.steps inv.counted fill all,
+      length-map c.args.entries.now f,
+    )
+
+pub offset_bounds-entries-starts : goal.offset_bounds-entries-starts
+offset_bounds-entries-starts g c =
+    let lane = c.requires.valid.lanes c.loop-column.column c.loop-column-test.true in
+    omega (arith, lane.ordered, lane.inside, length-map c.args.entries.now g.C.Count.number)
+
+pub slice_bounds-added-end : goal.slice_bounds-added-end
+slice_bounds-added-end g c =
+    let lane = c.requires.valid.lanes c.loop-column.column c.loop-column-test.true in
+    omega (arith, lane.ordered, lane.inside, length-map c.args.entries.now g.C.Count.number)
