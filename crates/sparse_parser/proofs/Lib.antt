@@ -1,6 +1,7 @@
 pub mod ByteClasses
 pub mod Digits
 pub mod Positions
+pub mod Runs
 pub mod EntryLaws
 pub mod FirstWord
 pub mod IntegerLaws

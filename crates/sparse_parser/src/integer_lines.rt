@@ -12,6 +12,7 @@ ghost use Rattle.sparse_parser.specs.InnerIntegers.{IsIndexAt, IsEndAt, IsIntege
 
 use crate::lines::{ends_line, ends_word, is_blank};
 use crate::numbers::SHORT;
+use core::dec2flt::read_digits;
 
 /// Parses the first line of a text as two indices and an integer. Returns the row, the column, the value and the text from the line's
 /// end on, or `None` if the line has another form.
@@ -62,7 +63,7 @@ fn last_integer(text: &[u8], from: usize) -> Option<(i64, &[u8])>
 {
     let start = skip_blanks(text, from);
     let unsigned = after_sign_at(text, start);
-    let (number, end) = digits_at(text, unsigned);
+    let (number, end) = first_digits_at(text, unsigned);
     if end == unsigned {
         return None;
     }
@@ -142,8 +143,28 @@ fn after_sign_at(text: &[u8], at: usize) -> usize
 }
 
 // The value of at most 19 digits at a position, and the position after them.
+//
+// Up to seven digits are read at once, and no branch depends on how many there are.
 #[inline(always)]
 fn digits_at(text: &[u8], from: usize) -> (usize, usize)
+    requires { from ≤ length text.now }
+    ensures inside { result.1 ≤ length text.now }
+    ensures read { IsNumberRead (drop from text.now) result.0 (drop result.1 text.now) }
+{
+    let rest = text_from(text, from);
+    if rest.len() >= 8 {
+        let (eight, _) = rest.split_at(8);
+        let (count, number) = read_digits(eight, 0, 0);
+        if count < 8 {
+            return (number as usize, from + count);
+        }
+    }
+    first_digits_at(text, from)
+}
+
+// The value of at most 19 digits at a position, one by one, and the position after them.
+#[inline(always)]
+fn first_digits_at(text: &[u8], from: usize) -> (usize, usize)
     requires { from ≤ length text.now }
     ensures inside { result.1 ≤ length text.now }
     ensures read { IsNumberRead (drop from text.now) result.0 (drop result.1 text.now) }

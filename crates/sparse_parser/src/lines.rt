@@ -89,7 +89,22 @@ pub fn split_line(text: &[u8]) -> (&[u8], &[u8])
 }
 
 /// Skips blank lines and comments. Returns the text from the first word of the next line on; it is empty if no line is left.
+#[inline(always)]
 pub fn next_line(text: &[u8]) -> &[u8]
+    ensures begins { BeginsLine result.now }
+    ensures same { contents_of result.now ≡ contents_of text.now }
+    ensures len { length result.now ≤ length text.now }
+{
+    // Most often one LF comes before a number.
+    if text.len() > 1 && text[0] == b'\n' && text[1] > b'%' {
+        let (_, rest) = text.split_at(1);
+        return rest;
+    }
+    sought_line(text)
+}
+
+// The same after line ends and blanks of any number.
+fn sought_line(text: &[u8]) -> &[u8]
     ensures begins { BeginsLine result.now }
     ensures same { contents_of result.now ≡ contents_of text.now }
     ensures len { length result.now ≤ length text.now }

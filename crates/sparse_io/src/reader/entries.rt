@@ -1,6 +1,6 @@
 //! The loop over the data lines.
 
-ghost use Rattle.std.specs.Prelude.{◌≡◌, ◌&&◌, [], ◌∷◌, false, IsTrue, IfOk, MatchOption, map};
+ghost use Rattle.std.specs.Prelude.{◌≡◌, ◌&&◌, [], ◌∷◌, false, IsTrue, IfOk, MatchOption, Ok, map};
 ghost use Rattle.std.specs.List.{list_all};
 ghost use Rattle.sparse_base.specs.Coo.{appended};
 ghost use Rattle.sparse_parser.specs.Grammar.{is_entry};
@@ -53,57 +53,65 @@ pub fn entries<T: MatrixMarketScalar>(
         rows: true,
     };
     while !rest.is_empty() {
-        let Some((found, after)) = line_triplets(header, places.take_first(), rest) else {
+        let at = places.take_first();
+        if let Some((found, after)) = integers(header, at, rest) {
+            read += 1;
+            bounds = add_all(&mut matrix, bounds, found)?;
+            rest = next_line(after);
+            continue;
+        }
+        let Some((found, after)) = general_triplets(header, at, rest) else {
             return Err(MatrixMarketError::new(Cause::Grammar));
         };
         read += 1;
         match found {
             Err(fault) => return Err(settled(fault, read, size.count, after)),
-            Ok(found) => bounds = add_all(&mut matrix, bounds, found)?,
+            Ok(found) => bounds = add_others(&mut matrix, bounds, found)?,
         }
         rest = next_line(after);
     }
     finished(matrix, is_count(size.count, read), bounds)
 }
 
-// Reads the first line of a text. Returns its triplets and the text from the line's end on, or `None` if it is not a data line.
+// Reads the first line of a text, if it is a data line of indices and integers. Returns its triplets and the text from the line's end on,
+// or `None` if the line has another form or is refused.
 #[inline(always)]
-fn line_triplets<T: MatrixMarketScalar>(
+fn integers<T: MatrixMarketScalar>(
     header: Header,
     at: Option<(usize, usize)>,
     text: &[u8],
-) -> Option<(Result<Triplets<T>, MatrixMarketError>, &[u8])>
-    ensures { MatchOption result (is_entry (line_words text.now) ≡ false)
-        (λ x. IsMeant T.scalar header at text.now
-        (read_as (λ t. map (λ t. value_triplet T.value t) (both_of t)) x.0) x.1.now) }
+) -> Option<(Triplets<T>, &[u8])>
+    ensures { MatchOption result (Unit {0}) (λ x. IsMeant T.scalar header at text.now
+        (Ok (map (λ t. value_triplet T.value t) (both_of x.0))) x.1.now) }
 {
     match (header.format, header.field) {
         (Format::Coordinate, Field::Integer) => {
-            if let Some((row, col, value, after)) = integer_line(text) {
-                let value = i128::from(value);
-                return Some((integer_triplets(header.symmetry, row, col, value), after));
+            let (row, col, value, after) = integer_line(text)?;
+            match integer_triplets(header.symmetry, row, col, i128::from(value)) {
+                Ok(found) => Some((found, after)),
+                Err(_) => None,
             }
         }
         (Format::Coordinate, Field::Pattern) => {
-            if let Some((row, col, after)) = place_line(text) {
-                return Some((place_triplets(header.symmetry, row, col), after));
+            let (row, col, after) = place_line(text)?;
+            match place_triplets(header.symmetry, row, col) {
+                Ok(found) => Some((found, after)),
+                Err(_) => None,
             }
         }
         (Format::Array, Field::Integer) => {
-            if let (Some(at), Some((value, after))) = (at, value_line(text)) {
-                let value = i128::from(value);
-                return Some((value_triplets(header.symmetry, at, value), after));
+            let at = at?;
+            let (value, after) = value_line(text)?;
+            match value_triplets(header.symmetry, at, i128::from(value)) {
+                Ok(found) => Some((found, after)),
+                Err(_) => None,
             }
         }
-        _ => {}
-    }
-    match general_triplets(header, at, text) {
-        None => None,
-        Some((found, after)) => Some((found, after)),
+        _ => None,
     }
 }
 
-// The same for a data line of any form.
+// Reads the first line of a text. Returns its triplets and the text from the line's end on, or `None` if it is not a data line.
 #[inline(never)]
 fn general_triplets<T: MatrixMarketScalar>(
     header: Header,
@@ -192,6 +200,26 @@ fn add_all<T: MatrixMarketScalar>(
         None => Ok(bounds),
         Some(value) => add(matrix, bounds, (col, row, value)),
     }
+}
+
+// The same for the entry of a line of any form.
+#[inline(never)]
+fn add_others<T: MatrixMarketScalar>(
+    matrix: &mut CooMatrix<T>,
+    bounds: Bounds,
+    found: Triplets<T>,
+) -> Result<Bounds, AllocError>
+    ensures inside { IfOk result (λ b. b.inside ≡ (bounds.inside
+        && list_all (is_inside T.scalar matrix.old.nrows matrix.old.ncols)
+        (map (λ t. value_triplet T.value t) (both_of found)))) }
+    ensures added { IfOk result (λ b. IsTrue b.inside
+        → values_of T.value matrix.new
+        ≡ appended (values_of T.value matrix.old)
+        (map (λ t. value_triplet T.value t) (both_of found))) }
+    ensures rows { matrix.new.nrows ≡ matrix.old.nrows }
+    ensures cols { matrix.new.ncols ≡ matrix.old.ncols }
+{
+    add_all(matrix, bounds, found)
 }
 
 // Pushes a triplet, unless it or one before lies outside the shape.

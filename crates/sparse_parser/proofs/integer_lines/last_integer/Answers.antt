@@ -6,18 +6,18 @@ use Rattle.sparse_parser.proofs.integer_lines.last_integer.Goals as goal
 
 pub returns : goal.returns
 returns c =
-    let some : length (drop c.digits_at-number.result.1 c.args.text.now)
+    let some : length (drop c.first_digits_at-number.result.1 c.args.text.now)
     ≢ length (drop c.after_sign_at-unsigned.result c.args.text.now) =
     omega (
       arith,
-      length-drop c.digits_at-number.result.1 c.args.text.now,
+      length-drop c.first_digits_at-number.result.1 c.args.text.now,
       length-drop c.after_sign_at-unsigned.result c.args.text.now,
     ) in
     let h : IsValueLine (drop c.args.from c.args.text.now) c.in_ok-value.value
     c.in_ok-rest.rest.now =
     value_line_is _ _ _ _
-    (integer_at _ _ _ _ c.digits_at-number.result.0 _ _ c.skip_blanks-start.ensures.rest
-    c.after_sign_at-unsigned.ensures.rest c.digits_at-number.ensures.read some
+    (integer_at _ _ _ _ c.first_digits_at-number.result.0 _ _ c.skip_blanks-start.ensures.rest
+    c.after_sign_at-unsigned.ensures.rest c.first_digits_at-number.ensures.read some
     c.in_ok-rest.ensures.word
     (c.starts_with_minus.ensures ∙ ap starts_with_minus c.text_from.ensures)
     c.in_ok-value.ensures)

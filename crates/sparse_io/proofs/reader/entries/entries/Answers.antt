@@ -22,12 +22,12 @@ loop-rest-init g c =
       read = m.2;
     }
 
-pub returns-in_default : goal.returns-in_default
-returns-in_default g c =
+pub returns-in_default-general_triplets : goal.returns-in_default-general_triplets
+returns-in_default-general_triplets g c =
     let some : length c.loop-rest.rest.now ≢ 0 =
     eqb-false _ _ (sym c.is_empty.ensures ∙ c.loop-rest-test.true) in
     let r = line_refused c.loop-rest.rest.now c.loop-rest.invariant.begins (omega arith)
-    c.in_default.ensures in
+    c.in_default-general_triplets.ensures in
     inr (fault_is _ _ _ (read_refused g.T.MatrixMarketScalar.scalar c.args.header _ _ _ _ _ _ _ r
     c.loop-rest.invariant.read) c.new.ensures)
 
@@ -35,12 +35,12 @@ pub returns-in-Err : goal.returns-in-Err
 returns-in-Err g c =
     let some : length c.loop-rest.rest.now ≢ 0 =
     eqb-false _ _ (sym c.is_empty.ensures ∙ c.loop-rest-test.true) in
-    let r = front_read c.loop-rest.rest.now c.in-Some.after.now c.in-Some.after.now
-    c.loop-rest.invariant.begins (omega arith) c.in-Some.ensures.is c.in-Some.ensures.after_line
+    let r = front_read c.loop-rest.rest.now c.in-Some-general_triplets.after.now c.in-Some-general_triplets.after.now
+    c.loop-rest.invariant.begins (omega arith) c.in-Some-general_triplets.ensures.is c.in-Some-general_triplets.ensures.after_line
     refl (omega arith) in
     let f = ap (λ p. triplets_of g.T.MatrixMarketScalar.scalar c.args.header p
-    (line_words c.loop-rest.rest.now)) (sym c.take_first.ensures.first)
-    ∙ sym c.in-Some.ensures.means
+    (line_words c.loop-rest.rest.now)) (sym c.take_first-at.ensures.first)
+    ∙ sym c.in-Some-general_triplets.ensures.means
     ∙ ap (λ r. read_as (λ t. map (λ t. value_triplet g.T.MatrixMarketScalar.value t)
     (both_of t)) r) c.in-Err.is in
     inr (fault_is _ _ _ (read_fault g.T.MatrixMarketScalar.scalar c.args.header _ _ _ _ _ _ _ _ _ _
@@ -53,7 +53,7 @@ loop-rest-smaller g c =
     let turn : IsRead c.loop-rest.rest.now c.next_line-rest-in-loop-rest.result.now
     (line_words c.loop-rest.rest.now) =
     front_read c.loop-rest.rest.now _ _ c.loop-rest.invariant.begins (omega arith)
-    c.in-Some.ensures.is c.in-Some.ensures.after_line c.next_line-rest-in-loop-rest.ensures.same
+    c.in-Some-general_triplets.ensures.is c.in-Some-general_triplets.ensures.after_line c.next_line-rest-in-loop-rest.ensures.same
     c.next_line-rest-in-loop-rest.ensures.len in
     turn.shorter
 
@@ -64,7 +64,7 @@ loop-rest-preserved g c =
     let turn : IsRead c.loop-rest.rest.now c.next_line-rest-in-loop-rest.result.now
     (line_words c.loop-rest.rest.now) =
     front_read c.loop-rest.rest.now _ _ c.loop-rest.invariant.begins (omega arith)
-    c.in-Some.ensures.is c.in-Some.ensures.after_line c.next_line-rest-in-loop-rest.ensures.same
+    c.in-Some-general_triplets.ensures.is c.in-Some-general_triplets.ensures.after_line c.next_line-rest-in-loop-rest.ensures.same
     c.next_line-rest-in-loop-rest.ensures.len in
     record {
       begins = c.next_line-rest-in-loop-rest.ensures.begins;
@@ -76,9 +76,9 @@ loop-rest-preserved g c =
           (c.args.size.rows, c.args.size.cols, c.args.size.count) g.T.MatrixMarketScalar.value
           c.loop-rest.matrix _ _ _ _ c.loop-rest.read c.loop-rest.bounds.inside _ _ _ _ _ _
           c.loop-rest.invariant.rows c.loop-rest.invariant.cols turn
-          c.take_first.ensures.first c.take_first.ensures.left
+          c.take_first-at.ensures.first c.take_first-at.ensures.left
           (sym (ap (λ r. read_as (λ t. map (λ t. value_triplet g.T.MatrixMarketScalar.value t)
-          (both_of t)) r) c.in-Ok.is) ∙ c.in-Some.ensures.means)
+          (both_of t)) r) c.in-Ok.is) ∙ c.in-Some-general_triplets.ensures.means)
           c.in_ok-bounds-in-Ok.ensures.inside c.in_ok-bounds-in-Ok.ensures.added
           c.loop-rest.invariant.read;
     }
@@ -91,3 +91,39 @@ returns g c =
     c.loop-rest.invariant.rows c.loop-rest.invariant.cols
     (eqb-true _ _ (sym c.is_empty.ensures ∙ c.loop-rest-test.false))
     c.is_count.ensures c.finished.ensures c.loop-rest.invariant.read
+
+pub loop-rest-smaller-in-Some : goal.loop-rest-smaller-in-Some
+loop-rest-smaller-in-Some g c =
+    let some : length c.loop-rest.rest.now ≢ 0 =
+    eqb-false _ _ (sym c.is_empty.ensures ∙ c.loop-rest-test.true) in
+    let turn : IsRead c.loop-rest.rest.now c.next_line-rest-in-Some.result.now
+    (line_words c.loop-rest.rest.now) =
+    front_read c.loop-rest.rest.now _ _ c.loop-rest.invariant.begins (omega arith)
+    c.in-Some.ensures.is c.in-Some.ensures.after_line c.next_line-rest-in-Some.ensures.same
+    c.next_line-rest-in-Some.ensures.len in
+    turn.shorter
+
+pub loop-rest-preserved-in-Some : goal.loop-rest-preserved-in-Some
+loop-rest-preserved-in-Some g c =
+    let some : length c.loop-rest.rest.now ≢ 0 =
+    eqb-false _ _ (sym c.is_empty.ensures ∙ c.loop-rest-test.true) in
+    let turn : IsRead c.loop-rest.rest.now c.next_line-rest-in-Some.result.now
+    (line_words c.loop-rest.rest.now) =
+    front_read c.loop-rest.rest.now _ _ c.loop-rest.invariant.begins (omega arith)
+    c.in-Some.ensures.is c.in-Some.ensures.after_line c.next_line-rest-in-Some.ensures.same
+    c.next_line-rest-in-Some.ensures.len in
+    record {
+      begins = c.next_line-rest-in-Some.ensures.begins;
+      room = let r = turn.shorter in omega arith;
+      rows = c.in_ok-bounds.ensures.rows ∙ c.loop-rest.invariant.rows;
+      cols = c.in_ok-bounds.ensures.cols ∙ c.loop-rest.invariant.cols;
+      read =
+          matrix_more g.T.MatrixMarketScalar.scalar c.args.header
+          (c.args.size.rows, c.args.size.cols, c.args.size.count) g.T.MatrixMarketScalar.value
+          c.loop-rest.matrix _ _ _ _ c.loop-rest.read c.loop-rest.bounds.inside _ _ _ _ _ _
+          c.loop-rest.invariant.rows c.loop-rest.invariant.cols turn
+          c.take_first-at.ensures.first c.take_first-at.ensures.left
+          c.in-Some.ensures.means
+          c.in_ok-bounds.ensures.inside c.in_ok-bounds.ensures.added
+          c.loop-rest.invariant.read;
+    }

@@ -1,6 +1,6 @@
 use Rattle.std.proofs.Common.{length}
 use Rattle.sparse_parser.proofs.LineLaws.{IsSought}
-use Rattle.sparse_parser.proofs.lines.next_line.Given as goal
+use Rattle.sparse_parser.proofs.lines.sought_line.Given as goal
 
 abbrev pub invariant-loop-rest : goal.invariant-loop-rest
 invariant-loop-rest l = IsSought l.text l.rest

@@ -1,0 +1,101 @@
+-- A run of digits that is read at once, and a line end before a number.
+use Rattle.std.proofs.Common.{◌≡◌, ◌≢◌, ℕ, zero, suc, ◌+◌, ◌-◌, ◌*◌, ◌%◌, ◌^◌, ◌≤◌, ◌<◌, Bool, true, false, cond}
+use Rattle.std.proofs.Common.{List, [], ◌∷◌, length, get_or, take, drop, slice_range, refl, sym, ap}
+use Rattle.std.proofs.Common.{subst, ◌∙◌, arith, length-drop, drop-drop, one-add, length-take-le, take-take}
+use Rattle.std.proofs.lemmas.Bool.Decides.{nat_tests}
+use Rattle.std.specs.Char.{is_ascii_digit}
+use Rattle.std.specs.List.{prefix_len}
+use Rattle.std.specs.Str.Parse.{digits_value, digits_value_after}
+use Rattle.std.specs.Float.Numeral.{digits_len}
+use Rattle.core.proofs.dec2flt.DigitsLemmas.{digits_len_short}
+use Rattle.core.proofs.dec2flt.Rows.{AllDigits-digits_len, short_fits}
+use Rattle.core.proofs.slice.Prefixes.{prefix_len-le-length}
+use Rattle.sparse_parser.specs.Bytes.{front, after}
+use Rattle.sparse_parser.specs.InnerBytes.{is_space, BeginsLine}
+use Rattle.sparse_parser.specs.InnerNumbers.{IsNumberRead}
+use Rattle.sparse_parser.proofs.Fronts.{IsStopped-after, front-append, after-append, after-yes}
+use Rattle.sparse_parser.proofs.Fronts.{after-no}
+use Rattle.sparse_parser.proofs.LineLaws.{IsSought, sought_first}
+
+module _ (p : ℕ → Bool) where
+  front_take : (text : List ℕ) → front p text ≡ take (prefix_len p text) text
+  front_take [] = refl
+  front_take (b ∷ text) = by (p b) refl (front_take text)
+    where
+      by : (t : Bool) → p b ≡ t → front p text ≡ take (prefix_len p text) text
+          → front p (b ∷ text) ≡ take (prefix_len p (b ∷ text)) (b ∷ text)
+      by true e h = rw (e, one-add (prefix_len p text)) (ap (λ (t : List ℕ). b ∷ t) h)
+      by false e h = rw e refl
+
+  after_drop : (text : List ℕ) → after p text ≡ drop (prefix_len p text) text
+  after_drop [] = refl
+  after_drop (b ∷ text) = by (p b) refl (after_drop text)
+    where
+      by : (t : Bool) → p b ≡ t → after p text ≡ drop (prefix_len p text) text
+          → after p (b ∷ text) ≡ drop (prefix_len p (b ∷ text)) (b ∷ text)
+      by true e h = rw (e, one-add (prefix_len p text)) h
+      by false e h = rw e refl
+
+-- at most 19 digits were read, up to the last
+run_read : (text : List ℕ) (from count number : ℕ) → from ≤ length text
+    → count ≡ digits_len (drop from text) → count ≤ 19
+    → number ≡ digits_value 10 (take count (drop from text)) % 2 ^ 64
+    → IsNumberRead (drop from text) number (drop (from + count) text)
+run_read text from count number inside run short is =
+    let start = drop from text in
+    let digits : take count start ≡ front is_ascii_digit start =
+    ap (λ (n : ℕ). take n start) run ∙ sym (front_take is_ascii_digit start) in
+    let rest : drop (from + count) text ≡ after is_ascii_digit start =
+    sym (drop-drop count from text) ∙ ap (λ (n : ℕ). drop n start) run
+    ∙ sym (after_drop is_ascii_digit start) in
+    let stop = IsStopped-after is_ascii_digit start in
+    let none : front is_ascii_digit (drop (from + count) text) ≡ [] =
+    ap (front is_ascii_digit) rest
+    ∙ front-append is_ascii_digit [] (after is_ascii_digit start) tt stop in
+    let all = prefix_len-le-length is_ascii_digit start in
+    let small : digits_value 10 (take count start) < 2 ^ 64 =
+    short_fits (take count start) (AllDigits-digits_len start count (omega arith))
+    (omega (arith, length-take-le count start (omega arith))) in
+    let value : number ≡ digits_value 10 (take count start) = omega arith in
+    record {
+      value = ap (digits_value_after 10 number) none ∙ value ∙ ap (digits_value 10) digits;
+      others = ap (after is_ascii_digit) rest
+          ∙ after-append is_ascii_digit [] (after is_ascii_digit start) tt stop;
+      small = omega arith;
+      shorter = omega (arith, length-drop from text, length-drop (from + count) text);
+    }
+
+-- the digits end within eight bytes
+pub eight_read : (text rest eight : List ℕ) (from count number : ℕ) → from ≤ length text
+    → rest ≡ drop from text → eight ≡ take 8 rest → count ≡ 0 + digits_len (drop 0 eight)
+    → count < 8
+    → number ≡ (0 * 10 ^ (count - 0) + digits_value 10 (slice_range eight 0 count)) % 2 ^ 64
+    → IsNumberRead (drop from text) number (drop (from + count) text)
+eight_read text rest eight from count number inside r e run short is =
+    let start = drop from text in
+    let bytes : eight ≡ take 8 start = e ∙ ap (take 8) r in
+    let first : count ≡ 0 + digits_len (take 8 start) =
+    run ∙ ap (λ (bs : List ℕ). 0 + digits_len (drop 0 bs)) bytes in
+    let whole = digits_len_short start 8 (omega arith) in
+    let none_off : count - 0 ≡ count = omega arith in
+    let digits : slice_range eight 0 count ≡ take count start =
+    ap (λ (bs : List ℕ). take (count - 0) (drop 0 bs)) bytes
+    ∙ ap (λ (n : ℕ). take n (take 8 start)) none_off ∙ take-take count 8 start (omega arith) in
+    run_read text from count number inside (omega arith) (omega arith)
+    (omega (arith, ap (digits_value 10) digits))
+
+visible : (b : ℕ) → 37 < b → is_space b ≡ false
+visible b lt = grind (arith, nat_tests)
+
+-- a line end, and a byte after it that begins no comment
+pub line_begins : (text : List ℕ) → 1 < length text → get_or text 0 0 ≡ 10 → 37 < get_or text 1 0
+    → IsSought text (drop 1 text) × BeginsLine (drop 1 text)
+line_begins [] lt e more = absurd (omega arith)
+line_begins (a ∷ []) lt e more = absurd (omega arith)
+line_begins (a ∷ b ∷ text) lt e more =
+    let seen = visible b more in
+    let no_comment : b ≢ 37 = λ f. absurd (omega arith) in
+    let at : b ∷ text ≡ after is_space (a ∷ b ∷ text) =
+    sym (ap (λ (c : ℕ). after is_space (c ∷ b ∷ text)) e
+    ∙ after-yes is_space 10 (b ∷ text) refl ∙ after-no is_space b text seen) in
+    (sought_first (a ∷ b ∷ text) (b ∷ text) at, (seen, no_comment))
