@@ -44,7 +44,8 @@ columns_on_chains-requires-clause-once g c =
     let same : length r.chains.items ≡ c.major_dim.result =
     r.ensures.chain_count ∙ sym c.major_dim.ensures in
     let transposed = rw c.deref.ensures.value at c.in_ok-starts.ensures.transposed in
-    rw (c.deref-2.ensures.value, c.deref-3.ensures.value, c.deref-4.ensures.value, same) (column_once (map f r.chains.items)
+    rw (c.deref-2.ensures.value, c.deref-3.ensures.value, c.deref-4.ensures.value, same)
+    (column_once (map f r.chains.items)
     (square_of d.offsets (nodes_in f es)) d' r.ensures.rows.1 (transposed d))
 
 pub returns-clause-places : goal.returns-clause-places
@@ -58,7 +59,8 @@ returns-clause-places g c =
     let same : length r.chains.items ≡ c.major_dim.result =
     r.ensures.chain_count ∙ sym c.major_dim.ensures in
     let transposed = rw c.deref.ensures.value at c.in_ok-starts.ensures.transposed in
-    let places = rw (c.deref-2.ensures.value, c.deref-3.ensures.value, c.deref-4.ensures.value, same) at c.in_ok-l_pattern.ensures.places in
+    let places = rw (c.deref-2.ensures.value, c.deref-3.ensures.value, c.deref-4.ensures.value, same)
+    at c.in_ok-l_pattern.ensures.places in
     columns_filled (map f r.chains.items) (square_of d.offsets (nodes_in f es))
     d' r.ensures.rows.1 (transposed d)
     (Filled (UpperBase c.args.pattern.now)) r.ensures.rows.2 c.in_ok-l_pattern.l_pattern places
@@ -81,7 +83,8 @@ returns-in_err-l_pattern-clause-no_more g c = λ fill all.
     let filled = column_filled (map f r.chains.items) (square_of d.offsets (nodes_in f es))
     d' r.ensures.rows.1 (transposed d)
     (Filled (UpperBase c.args.pattern.now)) r.ensures.rows.2 in
-    let few = rw (c.deref-2.ensures.value, c.deref-3.ensures.value, c.deref-4.ensures.value, same) at c.columns_on_chains.ensures.no_more in
+    let few = rw (c.deref-2.ensures.value, c.deref-3.ensures.value, c.deref-4.ensures.value, same)
+    at c.columns_on_chains.ensures.no_more in
     omega (
       arith,
       few fill (λ i j h. all i j (in_fill ((filled i j).0 h))),
@@ -105,7 +108,8 @@ returns-clause-no_more g c = λ fill all.
     let filled = column_filled (map f r.chains.items) (square_of d.offsets (nodes_in f es))
     d' r.ensures.rows.1 (transposed d)
     (Filled (UpperBase c.args.pattern.now)) r.ensures.rows.2 in
-    let few = rw (c.deref-2.ensures.value, c.deref-3.ensures.value, c.deref-4.ensures.value, same) at c.columns_on_chains.ensures.no_more in
+    let few = rw (c.deref-2.ensures.value, c.deref-3.ensures.value, c.deref-4.ensures.value, same)
+    at c.columns_on_chains.ensures.no_more in
     omega (
       arith,
       few fill (λ i j h. all i j (in_fill ((filled i j).0 h))),

@@ -230,7 +230,8 @@ returns-clause-places g c =
     let long = length-map chs f in
     let offsets = c.loop-column.offsets.items in
     let rows = c.loop-column.rows.items in
-    all_columns (map f chs) (columns_of f (length chs) c.args.starts.now c.args.entries.now) c.requires.valid
+    all_columns (map f chs) (columns_of f (length chs) c.args.starts.now c.args.entries.now)
+    c.requires.valid
     (sym long) (sym long)
     c.loop-column.column c.from_offset_and_indices_unchecked.result offsets rows
     (omega (arith, long))
@@ -244,7 +245,8 @@ returns-in_err-latest-clause-no_more g c = λ fill all.
     let long = length-map chs f in
     omega (
       arith,
-      none_taken (map f chs) (columns_of f (length chs) c.args.starts.now c.args.entries.now) c.requires.valid
+      none_taken (map f chs) (columns_of f (length chs) c.args.starts.now c.args.entries.now)
+          c.requires.valid
           (sym long) (sym long)
           c.requires.low c.args.steps.now fill all,
       length-map c.args.entries.now f,
@@ -257,7 +259,8 @@ returns-in_err-offsets-clause-no_more g c = λ fill all.
     let long = length-map chs f in
     omega (
       arith,
-      none_taken (map f chs) (columns_of f (length chs) c.args.starts.now c.args.entries.now) c.requires.valid
+      none_taken (map f chs) (columns_of f (length chs) c.args.starts.now c.args.entries.now)
+          c.requires.valid
           (sym long) (sym long)
           c.requires.low c.args.steps.now fill all,
       length-map c.args.entries.now f,
@@ -270,7 +273,8 @@ returns-in_err-rows-clause-no_more g c = λ fill all.
     let long = length-map chs f in
     omega (
       arith,
-      none_taken (map f chs) (columns_of f (length chs) c.args.starts.now c.args.entries.now) c.requires.valid
+      none_taken (map f chs) (columns_of f (length chs) c.args.starts.now c.args.entries.now)
+          c.requires.valid
           (sym long) (sym long)
           c.requires.low c.args.steps.now fill all,
       length-map c.args.entries.now f,
@@ -283,7 +287,8 @@ returns-in_err-append_column-clause-no_more g c = λ fill all.
     let inv = c.loop-column.invariant in
     omega (
       arith,
-      steps_within (map f chs) (columns_of f (length chs) c.args.starts.now c.args.entries.now) c.requires.valid c.requires.low
+      steps_within (map f chs) (columns_of f (length chs) c.args.starts.now c.args.entries.now)
+          c.requires.valid c.requires.low
           c.loop-column.column (omega arith) c.loop-column.offsets.items
           c.loop-column.rows.items inv.built c.args.steps.now c.loop-column.steps inv.counted fill all,
       length-map c.args.entries.now f,
@@ -296,7 +301,8 @@ returns-in_err-push-2-clause-no_more g c = λ fill all.
     let inv = c.loop-column.invariant in
     omega (
       arith,
-      steps_within (map f chs) (columns_of f (length chs) c.args.starts.now c.args.entries.now) c.requires.valid c.requires.low
+      steps_within (map f chs) (columns_of f (length chs) c.args.starts.now c.args.entries.now)
+          c.requires.valid c.requires.low
           c.loop-column.column (omega arith) c.loop-column.offsets.items
           c.loop-column.rows.items inv.built c.args.steps.now c.loop-column.steps inv.counted fill all,
       length-map c.args.entries.now f,
@@ -309,7 +315,8 @@ returns-clause-no_more g c = λ fill all.
     let inv = c.loop-column.invariant in
     omega (
       arith,
-      steps_within (map f chs) (columns_of f (length chs) c.args.starts.now c.args.entries.now) c.requires.valid c.requires.low
+      steps_within (map f chs) (columns_of f (length chs) c.args.starts.now c.args.entries.now)
+          c.requires.valid c.requires.low
           c.loop-column.column (omega arith) c.loop-column.offsets.items
           c.loop-column.rows.items inv.built c.args.steps.now c.loop-column.steps inv.counted fill all,
       length-map c.args.entries.now f,
