@@ -1,9 +1,9 @@
 #!/usr/bin/env python3
 """read.py BENCH [DIR]: the reader's time a byte on four files of one matrix: coordinate, symmetric, pattern and array.
 
-BENCH is the built program `bench`. The files are written into DIR (/tmp/nalgebra_sparse_read) where they are missing: a symmetric matrix
-without zeros, of SIZE rows, whose values have one to eighteen digits. The four are read in turn, ROUNDS times, and the best time of each
-counts.
+BENCH is the built program `bench`. The files are written into DIR (/tmp/nalgebra_sparse_read) where they are missing: two symmetric matrices
+without zeros, of SIZE rows, one with values of one digit and one with values of one to eighteen. The files of a matrix are read in turn,
+ROUNDS times, and the best time of each counts.
 """
 
 import os
@@ -13,19 +13,20 @@ import sys
 
 SIZE = 700
 ROUNDS = 5
+NAMES = ("coordinate", "symmetric", "pattern", "array")
 
 
-def value():
-    digits = random.randint(1, 18)
+def value(most_digits):
+    digits = random.randint(1, most_digits)
     return random.choice((1, -1)) * random.randint(10 ** (digits - 1), 10**digits - 1)
 
 
-def write(folder):
+def write(folder, most_digits):
     random.seed(12345)
     values = {}
     for row in range(SIZE):
         for col in range(row + 1):
-            values[row, col] = values[col, row] = value()
+            values[row, col] = values[col, row] = value(most_digits)
     places = [(row, col) for col in range(SIZE) for row in range(SIZE)]
     lower = [(row, col) for row, col in places if row >= col]
     lines = {
@@ -48,23 +49,28 @@ def nanoseconds(bench, path):
     return int(words[3])
 
 
-def main(bench, folder="/tmp/nalgebra_sparse_read"):
-    names = ("coordinate", "symmetric", "pattern", "array")
-    paths = {name: os.path.join(folder, name + ".mtx") for name in names}
+def table(bench, folder, most_digits):
+    paths = {name: os.path.join(folder, name + ".mtx") for name in NAMES}
     if not all(os.path.exists(path) for path in paths.values()):
         os.makedirs(folder, exist_ok=True)
-        write(folder)
+        write(folder, most_digits)
     best = {}
     for _ in range(ROUNDS):
         for name, path in paths.items():
             best[name] = min(best.get(name, 1 << 62), nanoseconds(bench, path))
-    print("| Reader | bytes | ms | ns a byte | to coordinate |")
-    print("|---|---|---|---|---|")
     base = best["coordinate"] / os.path.getsize(paths["coordinate"])
     for name, path in paths.items():
         size = os.path.getsize(path)
         each = best[name] / size
-        print("| %s | %d | %.1f | %.2f | %.2f |" % (name, size, best[name] / 1e6, each, each / base))
+        cells = (most_digits, name, size, best[name] / 1e6, each, each / base)
+        print("| %d | %s | %d | %.1f | %.2f | %.2f |" % cells)
+
+
+def main(bench, folder="/tmp/nalgebra_sparse_read"):
+    print("| Most digits | Reader | bytes | ms | ns a byte | to coordinate |")
+    print("|---|---|---|---|---|---|")
+    for most_digits in (1, 18):
+        table(bench, os.path.join(folder, str(most_digits)), most_digits)
 
 
 if __name__ == "__main__":
