@@ -35,8 +35,9 @@ pub returns-in-Err : goal.returns-in-Err
 returns-in-Err g c =
     let some : length c.loop-rest.rest.now ≢ 0 =
     eqb-false _ _ (sym c.is_empty.ensures ∙ c.loop-rest-test.true) in
-    let r = front_read c.loop-rest.rest.now c.in-Some-general_triplets.after.now c.in-Some-general_triplets.after.now
-    c.loop-rest.invariant.begins (omega arith) c.in-Some-general_triplets.ensures.is c.in-Some-general_triplets.ensures.after_line
+    let r = front_read c.loop-rest.rest.now c.in-Some-general_triplets.after.now
+    c.in-Some-general_triplets.after.now c.loop-rest.invariant.begins (omega arith)
+    c.in-Some-general_triplets.ensures.is c.in-Some-general_triplets.ensures.after_line
     refl (omega arith) in
     let f = ap (λ p. triplets_of g.T.MatrixMarketScalar.scalar c.args.header p
     (line_words c.loop-rest.rest.now)) (sym c.take_first-at.ensures.first)
@@ -53,7 +54,8 @@ loop-rest-smaller g c =
     let turn : IsRead c.loop-rest.rest.now c.next_line-rest-in-loop-rest.result.now
     (line_words c.loop-rest.rest.now) =
     front_read c.loop-rest.rest.now _ _ c.loop-rest.invariant.begins (omega arith)
-    c.in-Some-general_triplets.ensures.is c.in-Some-general_triplets.ensures.after_line c.next_line-rest-in-loop-rest.ensures.same
+    c.in-Some-general_triplets.ensures.is c.in-Some-general_triplets.ensures.after_line
+    c.next_line-rest-in-loop-rest.ensures.same
     c.next_line-rest-in-loop-rest.ensures.len in
     turn.shorter
 
@@ -64,7 +66,8 @@ loop-rest-preserved g c =
     let turn : IsRead c.loop-rest.rest.now c.next_line-rest-in-loop-rest.result.now
     (line_words c.loop-rest.rest.now) =
     front_read c.loop-rest.rest.now _ _ c.loop-rest.invariant.begins (omega arith)
-    c.in-Some-general_triplets.ensures.is c.in-Some-general_triplets.ensures.after_line c.next_line-rest-in-loop-rest.ensures.same
+    c.in-Some-general_triplets.ensures.is c.in-Some-general_triplets.ensures.after_line
+    c.next_line-rest-in-loop-rest.ensures.same
     c.next_line-rest-in-loop-rest.ensures.len in
     record {
       begins = c.next_line-rest-in-loop-rest.ensures.begins;
