@@ -5,7 +5,5 @@
 mod label;
 #[cfg(test)]
 mod matrices;
-#[cfg(test)]
-mod residue7;
-#[cfg(test)]
-mod solving;
+pub mod residue7;
+pub mod solving;
