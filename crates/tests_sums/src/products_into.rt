@@ -72,6 +72,36 @@ fn sizes_of_columns<T: Ring>(a: Op<&CscMatrix<T>>) -> (usize, usize)
     }
 }
 
+// Updates C, and returns whether its shape fits the product and nothing was refused.
+fn has_updated_rows<T: Ring>(
+    alloc: Global,
+    (beta, alpha): (T, T),
+    c: &mut CsrMatrix<T>,
+    a: Op<&CsrMatrix<T>>,
+    b: Op<&CsrMatrix<T>>,
+) -> bool {
+    let (left, right) = (sizes_of_rows(a), sizes_of_rows(b));
+    if left.1 != right.0 || left.0 != c.nrows() || right.1 != c.ncols() {
+        return false;
+    }
+    spmm_csr_prealloc(alloc, beta, c, alpha, a, b).is_ok()
+}
+
+// The same by columns.
+fn has_updated_columns<T: Ring>(
+    alloc: Global,
+    (beta, alpha): (T, T),
+    c: &mut CscMatrix<T>,
+    a: Op<&CscMatrix<T>>,
+    b: Op<&CscMatrix<T>>,
+) -> bool {
+    let (left, right) = (sizes_of_columns(a), sizes_of_columns(b));
+    if left.1 != right.0 || left.0 != c.nrows() || right.1 != c.ncols() {
+        return false;
+    }
+    spmm_csc_prealloc(alloc, beta, c, alpha, a, b).is_ok()
+}
+
 // Whether 2 C + 3 op(A) op(B) has these values.
 fn updates_rows(
     alloc: Global,
@@ -79,11 +109,8 @@ fn updates_rows(
 ) -> Result<bool, Fail> {
     let (a, b, mut c) = factors(alloc)?;
     let (a, b) = (op(is_a_transposed, &a), op(is_b_transposed, &b));
-    let (left, right) = (sizes_of_rows(a), sizes_of_rows(b));
-    if left.1 != right.0 || left.0 != c.nrows() || right.1 != c.ncols() {
-        return Ok(false);
-    }
-    let done = spmm_csr_prealloc(alloc, W64::new(2), &mut c, W64::new(3), a, b).is_ok();
+    let scales = (W64::new(2), W64::new(3));
+    let done = has_updated_rows(alloc, scales, &mut c, a, b);
     Ok(done && c.values() == scalars(alloc, &numbers)?.as_slice())
 }
 
@@ -96,11 +123,8 @@ fn updates_columns(
     let (a, b) = (a.transpose_as_csc(), b.transpose_as_csc());
     let mut c = c.transpose_as_csc();
     let (a, b) = (op(is_a_transposed, &a), op(is_b_transposed, &b));
-    let (left, right) = (sizes_of_columns(b), sizes_of_columns(a));
-    if left.1 != right.0 || left.0 != c.nrows() || right.1 != c.ncols() {
-        return Ok(false);
-    }
-    let done = spmm_csc_prealloc(alloc, W64::new(2), &mut c, W64::new(3), b, a).is_ok();
+    let scales = (W64::new(2), W64::new(3));
+    let done = has_updated_columns(alloc, scales, &mut c, b, a);
     Ok(done && c.values() == scalars(alloc, &numbers)?.as_slice())
 }
 
