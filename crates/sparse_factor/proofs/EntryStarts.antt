@@ -3,7 +3,7 @@ use Rattle.std.proofs.Common.{◌≡◌, ℕ, ◌+◌, ◌<◌, ◌≤◌, inl, 
 use Rattle.std.proofs.Common.{subst, arith}
 use Rattle.std.specs.List.{Contains}
 use Rattle.std.proofs.lemmas.List.{get_or_default}
-use Rattle.sparse_lemmas.proofs.Cases.{lt_add_one_cases, le_cases}
+use Rattle.sparse_lemmas.proofs.Cases.{le_cases}
 use Rattle.sparse_pattern.specs.Raw.{Raw, lane_of, IsValid}
 use Rattle.sparse_pattern.proofs.LaneLists.{lane_has}
 use Rattle.sparse_factor.specs.Fill.{UpperBase}
@@ -27,23 +27,28 @@ pub start_filled : (p : Raw) (starts : List ℕ) (i t : ℕ) → IsBase p starts
 start_filled p starts i t base lt le =
     given ((base (get_or starts t 0)).0 (is_start starts t lt, le))
 
-module _ (starts : List ℕ) (t i : ℕ) where
+-- what holds of the starts from s on holds of those from t on, if it holds of start t
+module _ (starts : List ℕ) (t s i : ℕ) (step : s ≡ t + 1) where
   pub more_started : (old new : Climb) → ((j : ℕ) → IsVisited old i j → IsVisited new i j)
-      → ((k : ℕ) → k < t → get_or starts k 0 < i → IsVisited old i (get_or starts k 0))
+      → ((k : ℕ) → s ≤ k → k < length starts → get_or starts k 0 < i
+      → IsVisited old i (get_or starts k 0))
       → (get_or starts t 0 < i → IsVisited new i (get_or starts t 0))
-      → (k : ℕ) → k < t + 1 → get_or starts k 0 < i → IsVisited new i (get_or starts k 0)
-  more_started old new kept before here k lt below = elim (lt_add_one_cases k t lt) [
-    | inl early ↦ kept (get_or starts k 0) (before k early below)
+      → (k : ℕ) → t ≤ k → k < length starts → get_or starts k 0 < i
+      → IsVisited new i (get_or starts k 0)
+  more_started old new kept after here k le lt below = elim (le_cases t k le) [
+    | inl later ↦ kept (get_or starts k 0) (after k (omega (arith, later, step)) lt below)
     | inr e ↦
-        let at : get_or starts k 0 ≡ get_or starts t 0 = ap (λ x. get_or starts x 0) e in
-        subst (λ x. IsVisited new i x) (sym at) (here (omega arith))
+        let at : get_or starts t 0 ≡ get_or starts k 0 = ap (λ x. get_or starts x 0) e in
+        subst (λ x. IsVisited new i x) at (here (omega arith))
   ]
 
-  pub more_found : (B : Type 0) → ((k : ℕ) → k < t → get_or starts k 0 ≡ i → B)
-      → (get_or starts t 0 ≡ i → B) → (k : ℕ) → k < t + 1 → get_or starts k 0 ≡ i → B
-  more_found B before here k lt e = elim (lt_add_one_cases k t lt) [
-    | inl early ↦ before k early e
-    | inr same ↦ here (sym (ap (λ x. get_or starts x 0) same) ∙ e)
+  pub more_found : (B : Type 0)
+      → ((k : ℕ) → s ≤ k → k < length starts → get_or starts k 0 ≡ i → B)
+      → (get_or starts t 0 ≡ i → B)
+      → (k : ℕ) → t ≤ k → k < length starts → get_or starts k 0 ≡ i → B
+  more_found B after here k le lt e = elim (le_cases t k le) [
+    | inl later ↦ after k (omega (arith, later, step)) lt e
+    | inr same ↦ here (ap (λ x. get_or starts x 0) same ∙ e)
   ]
 
 -- the row visits its base, if it visits the starts below the row, and the row if that is a start

@@ -88,6 +88,9 @@ fn own_chains<C: Count>(alloc: Global, size: usize) -> Result<Vec<C>, AllocError
 }
 
 // Climbs from each place of a row below the diagonal's, and enters the row itself if it is stored and no climb reached it.
+//
+// The last place comes first: the row goes on the chain of the first child that a climb comes from, and the subtrees of later children are
+// larger in many orderings, so that rows enter fewer chains.
 fn climb_row<C: Count>(
     starts: &[usize],
     row: usize,
@@ -116,11 +119,12 @@ fn climb_row<C: Count>(
         ≡ steps.old + length starts.now + length entries.new.items }
 {
     let mut is_stored = false;
-    for start in starts {
+    for at in (0..starts.len()).rev() {
+        let start = starts[at];
         steps.tick();
-        if *start < row {
-            climb(*start, row, chains, nexts, marks, positions, entries, steps);
-        } else if *start == row {
+        if start < row {
+            climb(start, row, chains, nexts, marks, positions, entries, steps);
+        } else if start == row {
             is_stored = true;
         }
     }
