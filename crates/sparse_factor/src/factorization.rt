@@ -20,7 +20,7 @@ use climbs::climb_rows;
 use columns::columns_on_chains;
 use entries::entries_by_columns;
 
-// The largest number of columns for which the scratch arrays use 32-bit numbers.
+// The largest number of columns, or of entries of rows, for which scratch arrays use 32-bit numbers.
 const MAX_32_BITS: usize = u32::MAX as usize;
 
 /// The symbolic Cholesky factorisation of a square pattern stored by columns: the pattern and the pattern of its factor.
