@@ -1,10 +1,11 @@
-use Rattle.std.proofs.Common.{◌≡◌, ◌+◌, ◌-◌, ◌<◌, ◌++◌, ◌∷◌, [], length, map, set}
+use Rattle.std.proofs.Common.{◌≡◌, ℕ, ◌+◌, ◌-◌, ◌<◌, ◌≤◌, List, ◌++◌, ◌∷◌, [], length, map, set, Contains}
 use Rattle.std.proofs.Common.{slice_index, slice_range, ap, sym, subst, ◌∙◌, arith}
 use Rattle.std.proofs.lemmas.List.{length-map}
 use Rattle.std.proofs.lemmas.List.{map-set}
 use Rattle.sparse_pattern.specs.Raw.{raw_of, IsValid}
 use Rattle.sparse_pattern.proofs.PatternLanes.{length-lane}
 use Rattle.sparse_factor.specs.InnerChains.{chain_of}
+use Rattle.sparse_factor.specs.InnerColumns.{IsInColumn}
 use Rattle.sparse_factor.specs.InnerSortedEntries.{columns_of}
 use Rattle.sparse_factor.proofs.LatestColumns.{AreLatest, none_latest, latest_more, offset_at}
 use Rattle.sparse_factor.proofs.LatestColumns.{chain_is, chain_within, first_on_chain, end_is, end_within}
@@ -12,7 +13,10 @@ use Rattle.sparse_factor.proofs.ChainColumns.{rising_entries, none_built, all_co
 use Rattle.sparse_factor.proofs.ChainColumns.{apart_before, column_built}
 use Rattle.sparse_factor.proofs.EntryColumns.{lane_read}
 use Rattle.sparse_factor.proofs.ColumnSteps.{steps_within, none_taken}
+use Rattle.sparse_factor.proofs.factorization.columns.columns_on_chains.Given.{Over}
 use Rattle.sparse_factor.proofs.factorization.columns.columns_on_chains.Goals as goal
+use Rattle.sparse_factor.proofs.factorization.columns.columns_on_chains.Goals.{Start, At-loop-column, After-get-chain}
+use Rattle.sparse_factor.proofs.factorization.columns.columns_on_chains.Goals.{After-end_on_chain-end, After-index}
 
 pub loop-column-init : goal.loop-column-init
 loop-column-init g c =
@@ -33,16 +37,49 @@ loop-column-init g c =
       onward = omega arith;
     }
 
-pub end_on_chain-end-requires-clause-chain : goal.end_on_chain-end-requires-clause-chain
-end_on_chain-end-requires-clause-chain g c =
+-- the chain of the column, as it was read, has a last column
+chain_read : (g : Over) (c : After-get-chain g)
+    → (c.get-chain.result
+    ≡ chain_of (map g.C.Count.number c.args.chains.now) c.loop-column.column)
+    × (c.get-chain.result < length c.loop-column.latest.items)
+chain_read g c =
     let f = g.C.Count.number in
     let chs = c.args.chains.now in
-    let column = c.loop-column.column in
-    let inv = c.loop-column.invariant in
-    let within = chain_within f chs c.loop-column.latest.items column c.get-chain.result
-    c.index-chains-column.result c.loop-column-test.true c.index-chains-column.is
-    c.get-chain.ensures (c.requires.chains column) inv.latest in
-    omega (arith, within, c.loop-column.latest.ok.0, ap length c.deref.ensures.value)
+    let l = c.loop-column in
+    let chain = c.get-chain.result in
+    let x = c.index-chains-column.result in
+    let low = c.requires.chains l.column in (
+      chain_is f chs l.latest.items l.column chain x c.loop-column-test.true
+          c.index-chains-column.is c.get-chain.ensures low l.invariant.latest,
+      chain_within f chs l.latest.items l.column chain x c.loop-column-test.true
+          c.index-chains-column.is c.get-chain.ensures low l.invariant.latest,
+    )
+
+-- the end of the column before, as it was read
+end_read : (g : Over) (c : After-end_on_chain-end g)
+    → (c.end_on_chain-end.result ≡ slice_index (map g.C.Count.number c.loop-column.latest.items)
+    (chain_of (map g.C.Count.number c.args.chains.now) c.loop-column.column))
+    × (c.end_on_chain-end.result ≤ c.loop-column.column)
+end_read g c =
+    let f = g.C.Count.number in
+    let chs = c.args.chains.now in
+    let l = c.loop-column in
+    let chain = c.get-chain.result in
+    let x = c.index-chains-column.result in
+    let low = c.requires.chains l.column in
+    let end = c.end_on_chain-end.result in
+    let read : end ≡ slice_index (map f l.latest.items) chain = c.end_on_chain-end.ensures
+    ∙ ap (λ xs. slice_index (map f xs) chain) c.deref.ensures.value in (
+      end_is f chs l.latest.items l.column chain x c.loop-column-test.true
+          c.index-chains-column.is c.get-chain.ensures low l.invariant.latest end read,
+      end_within f chs l.latest.items l.column chain x c.loop-column-test.true
+          c.index-chains-column.is c.get-chain.ensures low l.invariant.latest end read,
+    )
+
+pub end_on_chain-end-requires-clause-chain : goal.end_on_chain-end-requires-clause-chain
+end_on_chain-end-requires-clause-chain g c =
+    let read = chain_read g (goal.at.end_on_chain-end-requires-clause-chain g c).After-get-chain in
+    omega (arith, read.1, c.loop-column.latest.ok.0, ap length c.deref.ensures.value)
 
 pub end_on_chain-end-requires-clause-first : goal.end_on_chain-end-requires-clause-first
 end_on_chain-end-requires-clause-first g c = λ own.
@@ -57,50 +94,53 @@ end_on_chain-end-requires-clause-first g c = λ own.
 
 pub index_mut-requires : goal.index_mut-requires
 index_mut-requires g c =
-    let f = g.C.Count.number in
-    let chs = c.args.chains.now in
-    let column = c.loop-column.column in
-    let inv = c.loop-column.invariant in
-    let within = chain_within f chs c.loop-column.latest.items column c.get-chain.result
-    c.index-chains-column.result c.loop-column-test.true c.index-chains-column.is
-    c.get-chain.ensures (c.requires.chains column) inv.latest in
-    omega (arith, within, c.loop-column.latest.ok.0)
+    let read = chain_read g (goal.at.index_mut-requires g c).After-get-chain in
+    omega (arith, read.1, c.loop-column.latest.ok.0)
 
 pub index-from-requires : goal.index-from-requires
 index-from-requires g c =
-    let f = g.C.Count.number in
-    let chs = c.args.chains.now in
-    let column = c.loop-column.column in
-    let inv = c.loop-column.invariant in
-    let end_read : c.end_on_chain-end.result
-    ≡ slice_index (map f c.loop-column.latest.items) c.get-chain.result = c.end_on_chain-end.ensures
-    ∙ ap (λ l. slice_index (map f l) c.get-chain.result) c.deref.ensures.value in
-    let le = end_within f chs c.loop-column.latest.items column c.get-chain.result
-    c.index-chains-column.result c.loop-column-test.true c.index-chains-column.is
-    c.get-chain.ensures (c.requires.chains column) inv.latest c.end_on_chain-end.result
-    end_read in
+    let read = end_read g (goal.at.index-from-requires g c).After-end_on_chain-end in
     omega (
       arith,
-      le,
+      read.1,
       c.saturating_sub.ensures,
-      inv.built.valid.count,
+      c.loop-column.invariant.built.valid.count,
       c.loop-column.offsets.ok.0,
     )
 
 pub index-requires : goal.index-requires
 index-requires g c =
+    let read = end_read g (goal.at.index-requires g c).After-end_on_chain-end in
+    omega (
+      arith,
+      read.1,
+      c.loop-column.invariant.built.valid.count,
+      c.loop-column.offsets.ok.0,
+    )
+
+-- the run of the column before, as it was read
+run_read : (g : Over) (c : After-index g)
+    → (c.end_on_chain-end.result ≡ slice_index (map g.C.Count.number c.loop-column.latest.items)
+    (chain_of (map g.C.Count.number c.args.chains.now) c.loop-column.column))
+    → c.end_on_chain-end.result ≤ c.loop-column.column
+    → (c.index-from.result.now ≡ slice_index c.loop-column.offsets.items
+    (slice_index (map g.C.Count.number c.loop-column.latest.items)
+    (chain_of (map g.C.Count.number c.args.chains.now) c.loop-column.column) - 1))
+    × (c.index.result.now ≡ slice_index c.loop-column.offsets.items
+    (slice_index (map g.C.Count.number c.loop-column.latest.items)
+    (chain_of (map g.C.Count.number c.args.chains.now) c.loop-column.column)))
+run_read g c end le =
     let f = g.C.Count.number in
     let chs = c.args.chains.now in
-    let column = c.loop-column.column in
-    let inv = c.loop-column.invariant in
-    let end_read : c.end_on_chain-end.result
-    ≡ slice_index (map f c.loop-column.latest.items) c.get-chain.result = c.end_on_chain-end.ensures
-    ∙ ap (λ l. slice_index (map f l) c.get-chain.result) c.deref.ensures.value in
-    let le = end_within f chs c.loop-column.latest.items column c.get-chain.result
-    c.index-chains-column.result c.loop-column-test.true c.index-chains-column.is
-    c.get-chain.ensures (c.requires.chains column) inv.latest c.end_on_chain-end.result
-    end_read in
-    omega (arith, le, inv.built.valid.count, c.loop-column.offsets.ok.0)
+    let l = c.loop-column in
+    let last = slice_index (map f l.latest.items) (chain_of (map f chs) l.column) in
+    let count = l.invariant.built.valid.count in (
+      offset_at l.offsets.items c.saturating_sub.result (last - 1) c.index-from.result.now
+          (omega (arith, le, count, c.saturating_sub.ensures)) c.index-from.ensures
+          (c.saturating_sub.ensures ∙ ap (λ k. k - 1) end),
+      offset_at l.offsets.items c.end_on_chain-end.result last c.index.result.now
+          (omega (arith, le, count)) c.index.ensures end,
+    )
 
 pub append_column-requires : goal.append_column-requires
 append_column-requires g c =
@@ -108,40 +148,23 @@ append_column-requires g c =
     let chs = c.args.chains.now in
     let column = c.loop-column.column in
     let inv = c.loop-column.invariant in
-    let end_read : c.end_on_chain-end.result
-    ≡ slice_index (map f c.loop-column.latest.items) c.get-chain.result = c.end_on_chain-end.ensures
-    ∙ ap (λ l. slice_index (map f l) c.get-chain.result) c.deref.ensures.value in
-    let le = end_within f chs c.loop-column.latest.items column c.get-chain.result
-    c.index-chains-column.result c.loop-column-test.true c.index-chains-column.is
-    c.get-chain.ensures (c.requires.chains column) inv.latest c.end_on_chain-end.result
-    end_read in
-    let end = end_is f chs c.loop-column.latest.items column c.get-chain.result
-    c.index-chains-column.result c.loop-column-test.true c.index-chains-column.is
-    c.get-chain.ensures (c.requires.chains column) inv.latest c.end_on_chain-end.result
-    end_read in
     let latest = map f c.loop-column.latest.items in
-    let last = slice_index latest (chain_of (map f chs) column) in
     let offsets = c.loop-column.offsets.items in
     let rows = c.loop-column.rows.items in
-    let entries = (columns_of f (length chs) c.args.starts.now c.args.entries.now) in
+    let entries = columns_of f (length chs) c.args.starts.now c.args.entries.now in
     let valid = c.requires.valid in
     let long = length-map chs f in
-    let width : entries.minor_dim ≡ length (map f chs) = sym long in
-    let size : entries.major_dim ≡ length (map f chs) = sym long in
     let lt : column < length (map f chs) = omega (arith, long, c.loop-column-test.true) in
-    let count = inv.built.valid.count in
-    let from = offset_at offsets c.saturating_sub.result (last - 1) c.index-from.result.now
-    (omega (arith, le, count, c.saturating_sub.ensures)) c.index-from.ensures
-    (c.saturating_sub.ensures ∙ ap (λ k. k - 1) end) in
-    let to = offset_at offsets c.end_on_chain-end.result last c.index.result.now
-    (omega (arith, le, count)) c.index.ensures end in
+    let at = goal.at.append_column-requires g c in
+    let end = end_read g at.After-end_on_chain-end in
+    let read = run_read g at.After-index end.0 end.1 in
     let added = lane_read f (length chs) c.args.starts.now c.args.entries.now column in
-    rw (from, to, added) record {
-      run = run_before (map f chs) entries valid width size c.requires.low c.requires.once column
-          latest offsets rows inv.built inv.latest lt;
-      rising = rising_entries (map f chs) entries valid width size column lt;
-      apart = apart_before (map f chs) entries valid width size c.requires.low c.requires.once
-          column latest offsets rows inv.built inv.latest lt;
+    rw (read.0, read.1, added) record {
+      run = run_before (map f chs) entries valid (sym long) (sym long) c.requires.low
+          c.requires.once column latest offsets rows inv.built inv.latest lt;
+      rising = rising_entries (map f chs) entries valid (sym long) (sym long) column lt;
+      apart = apart_before (map f chs) entries valid (sym long) (sym long) c.requires.low
+          c.requires.once column latest offsets rows inv.built inv.latest lt;
     }
 
 pub loop-column-preserved : goal.loop-column-preserved
@@ -150,47 +173,28 @@ loop-column-preserved g c =
     let chs = c.args.chains.now in
     let column = c.loop-column.column in
     let inv = c.loop-column.invariant in
-    let end_read : c.end_on_chain-end.result
-    ≡ slice_index (map f c.loop-column.latest.items) c.get-chain.result = c.end_on_chain-end.ensures
-    ∙ ap (λ l. slice_index (map f l) c.get-chain.result) c.deref.ensures.value in
-    let le = end_within f chs c.loop-column.latest.items column c.get-chain.result
-    c.index-chains-column.result c.loop-column-test.true c.index-chains-column.is
-    c.get-chain.ensures (c.requires.chains column) inv.latest c.end_on_chain-end.result
-    end_read in
-    let end = end_is f chs c.loop-column.latest.items column c.get-chain.result
-    c.index-chains-column.result c.loop-column-test.true c.index-chains-column.is
-    c.get-chain.ensures (c.requires.chains column) inv.latest c.end_on_chain-end.result
-    end_read in
+    let at = goal.at.loop-column-preserved g c in
     let latest = map f c.loop-column.latest.items in
-    let last = slice_index latest (chain_of (map f chs) column) in
     let offsets = c.loop-column.offsets.items in
     let rows = c.loop-column.rows.items in
-    let entries = (columns_of f (length chs) c.args.starts.now c.args.entries.now) in
+    let entries = columns_of f (length chs) c.args.starts.now c.args.entries.now in
     let valid = c.requires.valid in
     let long = length-map chs f in
-    let width : entries.minor_dim ≡ length (map f chs) = sym long in
-    let size : entries.major_dim ≡ length (map f chs) = sym long in
     let lt : column < length (map f chs) = omega (arith, long, c.loop-column-test.true) in
-    let count = inv.built.valid.count in
-    let from = offset_at offsets c.saturating_sub.result (last - 1) c.index-from.result.now
-    (omega (arith, le, count, c.saturating_sub.ensures)) c.index-from.ensures
-    (c.saturating_sub.ensures ∙ ap (λ k. k - 1) end) in
-    let to = offset_at offsets c.end_on_chain-end.result last c.index.result.now
-    (omega (arith, le, count)) c.index.ensures end in
-    let chain = chain_is f chs c.loop-column.latest.items column c.get-chain.result
-    c.index-chains-column.result c.loop-column-test.true c.index-chains-column.is
-    c.get-chain.ensures (c.requires.chains column) inv.latest in
+    let chain = (chain_read g at.After-get-chain).0 in
     let written : map f (set c.loop-column.latest.items c.get-chain.result
     c.of.result) ≡ set latest (chain_of (map f chs) column) (column + 1) =
     map-set f c.loop-column.latest.items c.get-chain.result c.of.result
     ∙ ap (set latest c.get-chain.result) c.of.ensures
     ∙ ap (λ k. set latest k (column + 1)) chain in
+    let end = end_read g at.After-end_on_chain-end in
+    let read = run_read g at.After-index end.0 end.1 in
     let added = lane_read f (length chs) c.args.starts.now c.args.entries.now column in
-    let gains = rw (from, to, added) at c.in_ok-append_column.ensures.gains in
+    let gains = rw (read.0, read.1, added) at c.in_ok-append_column.ensures.gains in
     record {
       latest = subst (λ l. AreLatest (map f chs) l (column + 1)) (sym written)
           (latest_more (map f chs) latest column inv.latest lt (c.requires.chains column));
-      built = column_built (map f chs) entries valid width size c.requires.low c.requires.once
+      built = column_built (map f chs) entries valid (sym long) (sym long) c.requires.low c.requires.once
           column latest offsets rows inv.built inv.latest lt c.push-in-loop-column.new.self.items
           c.append_column.new.rows.items gains (c.in_ok-push-2.ensures.items
           ∙ ap (λ n. offsets ++ n ∷ []) (c.len.ensures ∙ c.append_column.new.rows.ok.0));
@@ -238,89 +242,61 @@ returns-clause-places g c =
     (c.from_offset_and_indices_unchecked.ensures ∙ ap (λ k. raw_of k k offsets rows) (sym long))
     c.loop-column.invariant.built
 
-pub returns-in_err-latest-clause-no_more : goal.returns-in_err-latest-clause-no_more
-returns-in_err-latest-clause-no_more g c = λ fill all.
+-- no column has taken a step yet
+none_yet : (g : Over) (c : Start g) (fill : List (ℕ × ℕ))
+    → ((i j : ℕ) → IsInColumn (map g.C.Count.number c.args.chains.now)
+    (columns_of g.C.Count.number (length c.args.chains.now) c.args.starts.now
+    c.args.entries.now) j i → Contains fill (i, j))
+    → c.args.steps.now + length c.args.entries.now ≤ c.args.steps.now + length fill
+none_yet g c fill all =
     let f = g.C.Count.number in
     let chs = c.args.chains.now in
     let long = length-map chs f in
     omega (
       arith,
       none_taken (map f chs) (columns_of f (length chs) c.args.starts.now c.args.entries.now)
-          c.requires.valid
-          (sym long) (sym long)
-          c.requires.low c.args.steps.now fill all,
+          c.requires.valid (sym long) (sym long) c.requires.low c.args.steps.now fill all,
       length-map c.args.entries.now f,
     )
+
+-- the columns so far have taken no more steps than there are places of the fill
+steps_yet : (g : Over) (c : At-loop-column g) (fill : List (ℕ × ℕ))
+    → ((i j : ℕ) → IsInColumn (map g.C.Count.number c.args.chains.now)
+    (columns_of g.C.Count.number (length c.args.chains.now) c.args.starts.now
+    c.args.entries.now) j i → Contains fill (i, j))
+    → c.loop-column.steps + length c.args.entries.now ≤ c.args.steps.now + length fill
+steps_yet g c fill all =
+    let f = g.C.Count.number in
+    let chs = c.args.chains.now in
+    let l = c.loop-column in
+    omega (
+      arith,
+      steps_within (map f chs) (columns_of f (length chs) c.args.starts.now c.args.entries.now)
+          c.requires.valid c.requires.low l.column (omega arith) l.offsets.items l.rows.items
+          l.invariant.built c.args.steps.now l.steps l.invariant.counted fill all,
+      length-map c.args.entries.now f,
+    )
+
+pub returns-in_err-latest-clause-no_more : goal.returns-in_err-latest-clause-no_more
+returns-in_err-latest-clause-no_more g c = none_yet g (goal.at.returns-in_err-latest-clause-no_more g c).Start
 
 pub returns-in_err-offsets-clause-no_more : goal.returns-in_err-offsets-clause-no_more
-returns-in_err-offsets-clause-no_more g c = λ fill all.
-    let f = g.C.Count.number in
-    let chs = c.args.chains.now in
-    let long = length-map chs f in
-    omega (
-      arith,
-      none_taken (map f chs) (columns_of f (length chs) c.args.starts.now c.args.entries.now)
-          c.requires.valid
-          (sym long) (sym long)
-          c.requires.low c.args.steps.now fill all,
-      length-map c.args.entries.now f,
-    )
+returns-in_err-offsets-clause-no_more g c = none_yet g (goal.at.returns-in_err-offsets-clause-no_more g c).Start
 
 pub returns-in_err-rows-clause-no_more : goal.returns-in_err-rows-clause-no_more
-returns-in_err-rows-clause-no_more g c = λ fill all.
-    let f = g.C.Count.number in
-    let chs = c.args.chains.now in
-    let long = length-map chs f in
-    omega (
-      arith,
-      none_taken (map f chs) (columns_of f (length chs) c.args.starts.now c.args.entries.now)
-          c.requires.valid
-          (sym long) (sym long)
-          c.requires.low c.args.steps.now fill all,
-      length-map c.args.entries.now f,
-    )
+returns-in_err-rows-clause-no_more g c = none_yet g (goal.at.returns-in_err-rows-clause-no_more g c).Start
 
 pub returns-in_err-append_column-clause-no_more : goal.returns-in_err-append_column-clause-no_more
-returns-in_err-append_column-clause-no_more g c = λ fill all.
-    let f = g.C.Count.number in
-    let chs = c.args.chains.now in
-    let inv = c.loop-column.invariant in
-    omega (
-      arith,
-      steps_within (map f chs) (columns_of f (length chs) c.args.starts.now c.args.entries.now)
-          c.requires.valid c.requires.low
-          c.loop-column.column (omega arith) c.loop-column.offsets.items
-          c.loop-column.rows.items inv.built c.args.steps.now c.loop-column.steps inv.counted fill all,
-      length-map c.args.entries.now f,
-    )
+returns-in_err-append_column-clause-no_more g c =
+    steps_yet g (goal.at.returns-in_err-append_column-clause-no_more g c).At-loop-column
 
 pub returns-in_err-push-2-clause-no_more : goal.returns-in_err-push-2-clause-no_more
-returns-in_err-push-2-clause-no_more g c = λ fill all.
-    let f = g.C.Count.number in
-    let chs = c.args.chains.now in
-    let inv = c.loop-column.invariant in
-    omega (
-      arith,
-      steps_within (map f chs) (columns_of f (length chs) c.args.starts.now c.args.entries.now)
-          c.requires.valid c.requires.low
-          c.loop-column.column (omega arith) c.loop-column.offsets.items
-          c.loop-column.rows.items inv.built c.args.steps.now c.loop-column.steps inv.counted fill all,
-      length-map c.args.entries.now f,
-    )
+returns-in_err-push-2-clause-no_more g c =
+    steps_yet g (goal.at.returns-in_err-push-2-clause-no_more g c).At-loop-column
 
 pub returns-clause-no_more : goal.returns-clause-no_more
-returns-clause-no_more g c = λ fill all.
-    let f = g.C.Count.number in
-    let chs = c.args.chains.now in
-    let inv = c.loop-column.invariant in
-    omega (
-      arith,
-      steps_within (map f chs) (columns_of f (length chs) c.args.starts.now c.args.entries.now)
-          c.requires.valid c.requires.low
-          c.loop-column.column (omega arith) c.loop-column.offsets.items
-          c.loop-column.rows.items inv.built c.args.steps.now c.loop-column.steps inv.counted fill all,
-      length-map c.args.entries.now f,
-    )
+returns-clause-no_more g c =
+    steps_yet g (goal.at.returns-clause-no_more g c).At-loop-column
 
 pub offset_bounds-entries-starts : goal.offset_bounds-entries-starts
 offset_bounds-entries-starts g c =
