@@ -1,9 +1,9 @@
 -- The steps that are counted while columns are made.
-use Rattle.std.proofs.Common.{◌≡◌, ℕ, ◌+◌, ◌≤◌, List, [], ◌∷◌, Contains}
+use Rattle.std.proofs.Common.{◌≡◌, ℕ, ◌+◌, ◌≤◌, List, [], ◌∷◌}
 use Rattle.std.proofs.Common.{length, refl, arith}
 use Rattle.sparse_pattern.specs.Raw.{Raw, raw_of, start_of, nnz_of, IsValid, IsPlace}
 use Rattle.sparse_pattern.proofs.BuiltLanes.{IsBuilt}
-use Rattle.sparse_factor.specs.InnerColumns.{IsInColumn}
+use Rattle.sparse_factor.specs.InnerColumns.{IsInColumn, ListsColumns}
 use Rattle.sparse_factor.proofs.ChainColumns.{none_built}
 use Rattle.sparse_factor.proofs.PlaceCounts.{columns_at_most}
 
@@ -13,7 +13,7 @@ pub steps_within : (chains : List ℕ) (entries : Raw) → IsValid entries
     → (offsets rows : List ℕ)
     → IsBuilt (length chains) (IsInColumn chains entries) n offsets rows → (old new : ℕ)
     → new + start_of entries n ≡ old + length rows → (fill : List (ℕ × ℕ))
-    → ((i j : ℕ) → IsInColumn chains entries j i → Contains fill (i, j))
+    → ListsColumns chains entries fill
     → new + nnz_of entries ≤ old + length fill
 steps_within chains entries valid low n le offsets rows built old new counted fill all =
     let most = columns_at_most (IsInColumn chains entries)
@@ -26,7 +26,7 @@ steps_within chains entries valid low n le offsets rows built old new counted fi
 pub none_taken : (chains : List ℕ) (entries : Raw) → IsValid entries
     → entries.minor_dim ≡ length chains → entries.major_dim ≡ length chains
     → ((i k : ℕ) → IsPlace entries k i → k ≤ i) → (steps : ℕ) (fill : List (ℕ × ℕ))
-    → ((i j : ℕ) → IsInColumn chains entries j i → Contains fill (i, j))
+    → ListsColumns chains entries fill
     → steps + nnz_of entries ≤ steps + length fill
 none_taken chains entries valid width size low steps fill all =
     steps_within chains entries valid low 0 (omega arith) (0 ∷ []) []

@@ -1,5 +1,6 @@
 -- The columns of a factor along the chains of the elimination tree.
 use Rattle.std.specs.Prelude.{◌≡◌, ℕ, ◌<◌, ◌≤◌, List, length, slice_index}
+use Rattle.std.specs.List.{Contains}
 use Rattle.sparse_pattern.specs.Raw.{Raw, IsPlace}
 use Rattle.sparse_factor.specs.InnerChains.{chain_of}
 
@@ -20,3 +21,8 @@ pub record IsInRun (xs : List ℕ) (low high x : ℕ) : Type 0 where
 abbrev pub IsInColumn : List ℕ → Raw → ℕ → ℕ → Type 0
 IsInColumn chains entries j i = (j ≤ i)
     × ((k : ℕ) × (k ≤ j) × (chain_of chains k ≡ chain_of chains j) × IsPlace entries k i)
+
+-- the list contains every pair (row, column) of the columns
+abbrev pub ListsColumns : List ℕ → Raw → List (ℕ × ℕ) → Type 0
+ListsColumns chains entries pairs = (i j : ℕ) → IsInColumn chains entries j i
+    → Contains pairs (i, j)

@@ -1,11 +1,11 @@
-use Rattle.std.proofs.Common.{◌≡◌, ℕ, ◌+◌, ◌-◌, ◌<◌, ◌≤◌, List, ◌++◌, ◌∷◌, [], length, map, set, Contains}
+use Rattle.std.proofs.Common.{◌≡◌, ℕ, ◌+◌, ◌-◌, ◌<◌, ◌≤◌, List, ◌++◌, ◌∷◌, [], length, map, set}
 use Rattle.std.proofs.Common.{slice_index, slice_range, ap, sym, subst, ◌∙◌, arith}
 use Rattle.std.proofs.lemmas.List.{length-map}
 use Rattle.std.proofs.lemmas.List.{map-set}
 use Rattle.sparse_pattern.specs.Raw.{raw_of, IsValid}
 use Rattle.sparse_pattern.proofs.PatternLanes.{length-lane}
 use Rattle.sparse_factor.specs.InnerChains.{chain_of}
-use Rattle.sparse_factor.specs.InnerColumns.{IsInColumn}
+use Rattle.sparse_factor.specs.InnerColumns.{ListsColumns}
 use Rattle.sparse_factor.specs.InnerSortedEntries.{columns_of}
 use Rattle.sparse_factor.proofs.LatestColumns.{AreLatest, none_latest, latest_more, offset_at}
 use Rattle.sparse_factor.proofs.LatestColumns.{chain_is, chain_within, first_on_chain, end_is, end_within}
@@ -244,9 +244,9 @@ returns-clause-places g c =
 
 -- no column has taken a step yet
 none_yet : (g : Over) (c : Start g) (fill : List (ℕ × ℕ))
-    → ((i j : ℕ) → IsInColumn (map g.C.Count.number c.args.chains.now)
-    (columns_of g.C.Count.number (length c.args.chains.now) c.args.starts.now
-    c.args.entries.now) j i → Contains fill (i, j))
+    → ListsColumns (map g.C.Count.number c.args.chains.now)
+    (columns_of g.C.Count.number (length c.args.chains.now) c.args.starts.now c.args.entries.now)
+    fill
     → c.args.steps.now + length c.args.entries.now ≤ c.args.steps.now + length fill
 none_yet g c fill all =
     let f = g.C.Count.number in
@@ -261,9 +261,9 @@ none_yet g c fill all =
 
 -- the columns so far have taken no more steps than there are places of the fill
 steps_yet : (g : Over) (c : At-loop-column g) (fill : List (ℕ × ℕ))
-    → ((i j : ℕ) → IsInColumn (map g.C.Count.number c.args.chains.now)
-    (columns_of g.C.Count.number (length c.args.chains.now) c.args.starts.now
-    c.args.entries.now) j i → Contains fill (i, j))
+    → ListsColumns (map g.C.Count.number c.args.chains.now)
+    (columns_of g.C.Count.number (length c.args.chains.now) c.args.starts.now c.args.entries.now)
+    fill
     → c.loop-column.steps + length c.args.entries.now ≤ c.args.steps.now + length fill
 steps_yet g c fill all =
     let f = g.C.Count.number in
