@@ -89,8 +89,8 @@ fn own_chains<C: Count>(alloc: Global, size: usize) -> Result<Vec<C>, AllocError
 
 // Climbs from each place of a row below the diagonal's, and enters the row itself if it is stored and no climb reached it.
 //
-// The last place comes first: the row goes on the chain of the first child that a climb comes from, and the subtrees of later children are
-// larger in many orderings, so that rows enter fewer chains.
+// The last place comes first, so that the row mostly goes on the chain of its largest child. Where that child has the largest subtree, rows
+// enter fewer chains.
 fn climb_row<C: Count>(
     starts: &[usize],
     row: usize,

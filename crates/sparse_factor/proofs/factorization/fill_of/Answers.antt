@@ -1,5 +1,6 @@
-use Rattle.std.proofs.Common.{◌≡◌, length, map, sym, ap, ◌∙◌, arith}
-use Rattle.sparse_factor.specs.Fill.{UpperBase}
+use Rattle.std.proofs.Common.{◌≡◌, ℕ, ◌+◌, ◌≤◌, List, length, map, sym, ap, ◌∙◌, arith}
+use Rattle.sparse_pattern.specs.Raw.{nnz_of}
+use Rattle.sparse_factor.specs.Fill.{UpperBase, ListsFill}
 use Rattle.sparse_factor.specs.InnerFilled.{Filled}
 use Rattle.sparse_factor.specs.InnerRowLists.{square_of}
 use Rattle.sparse_factor.specs.InnerChains.{nodes_in, rows_in}
@@ -8,7 +9,9 @@ use Rattle.sparse_factor.proofs.EntryColumns.{rows_at}
 use Rattle.sparse_factor.proofs.FilledColumns.{column_low, column_once, column_filled}
 use Rattle.sparse_factor.proofs.FilledColumns.{columns_filled}
 use Rattle.sparse_factor.proofs.FillLaws.{in_fill}
+use Rattle.sparse_factor.proofs.factorization.fill_of.Given.{Over}
 use Rattle.sparse_factor.proofs.factorization.fill_of.Goals as goal
+use Rattle.sparse_factor.proofs.factorization.fill_of.Goals.{After-columns_on_chains}
 
 pub entries_by_columns-requires-clause-rows : goal.entries_by_columns-requires-clause-rows
 entries_by_columns-requires-clause-rows g c =
@@ -69,8 +72,11 @@ pub returns-clause-all_read : goal.returns-clause-all_read
 returns-clause-all_read g c =
     omega (arith, c.in_ok-chains.ensures.counted, c.columns_on_chains.ensures.onward)
 
-pub returns-in_err-l_pattern-clause-no_more : goal.returns-in_err-l_pattern-clause-no_more
-returns-in_err-l_pattern-clause-no_more g c = λ fill all.
+-- the columns have taken no more steps than there are places of the fill
+few_steps : (g : Over) (c : After-columns_on_chains g) (fill : List (ℕ × ℕ))
+    → ListsFill (UpperBase c.args.pattern.now) fill
+    → c.columns_on_chains.new.steps ≤ c.args.steps.now + nnz_of c.args.pattern.now + length fill
+few_steps g c fill all =
     let f = g.C.Count.number in
     let r = c.in_ok-chains in
     let es = r.row_entries.items in
@@ -94,30 +100,13 @@ returns-in_err-l_pattern-clause-no_more g c = λ fill all.
       ap length c.deref-4.ensures.value,
     )
 
+pub returns-in_err-l_pattern-clause-no_more : goal.returns-in_err-l_pattern-clause-no_more
+returns-in_err-l_pattern-clause-no_more g c =
+    few_steps g (goal.at.returns-in_err-l_pattern-clause-no_more g c).After-columns_on_chains
+
 pub returns-clause-no_more : goal.returns-clause-no_more
-returns-clause-no_more g c = λ fill all.
-    let f = g.C.Count.number in
-    let r = c.in_ok-chains in
-    let es = r.row_entries.items in
-    let d = rows_at c.major_dim.result c.args.pattern.now.major_dim (nodes_in f es) (rows_in f es)
-    (sym c.major_dim.ensures) r.ensures.rows.0 in
-    let d' = columns_of f c.major_dim.result c.in_ok-starts.starts.items c.in_ok-starts.entries.items in
-    let same : length r.chains.items ≡ c.major_dim.result =
-    r.ensures.chain_count ∙ sym c.major_dim.ensures in
-    let transposed = rw c.deref.ensures.value at c.in_ok-starts.ensures.transposed in
-    let filled = column_filled (map f r.chains.items) (square_of d.offsets (nodes_in f es))
-    d' r.ensures.rows.1 (transposed d)
-    (Filled (UpperBase c.args.pattern.now)) r.ensures.rows.2 in
-    let few = rw (c.deref-2.ensures.value, c.deref-3.ensures.value, c.deref-4.ensures.value, same)
-    at c.columns_on_chains.ensures.no_more in
-    omega (
-      arith,
-      few fill (λ i j h. all i j (in_fill ((filled i j).0 h))),
-      r.ensures.counted,
-      c.in_ok-starts.ensures.places,
-      ap length c.deref.ensures.value,
-      ap length c.deref-4.ensures.value,
-    )
+returns-clause-no_more g c =
+    few_steps g (goal.at.returns-clause-no_more g c).After-columns_on_chains
 
 pub columns_on_chains-requires-clause-valid : goal.columns_on_chains-requires-clause-valid
 columns_on_chains-requires-clause-valid g c =

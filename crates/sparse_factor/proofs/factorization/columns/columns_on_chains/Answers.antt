@@ -84,13 +84,11 @@ end_on_chain-end-requires-clause-chain g c =
 pub end_on_chain-end-requires-clause-first : goal.end_on_chain-end-requires-clause-first
 end_on_chain-end-requires-clause-first g c = λ own.
     let f = g.C.Count.number in
-    let chs = c.args.chains.now in
-    let column = c.loop-column.column in
-    let inv = c.loop-column.invariant in
-    ap (λ l. slice_index (map f l) c.get-chain.result) c.deref.ensures.value
-    ∙ first_on_chain f chs c.loop-column.latest.items column c.get-chain.result
+    let l = c.loop-column in
+    ap (λ xs. slice_index (map f xs) c.get-chain.result) c.deref.ensures.value
+    ∙ first_on_chain f c.args.chains.now l.latest.items l.column c.get-chain.result
     c.index-chains-column.result c.loop-column-test.true c.index-chains-column.is
-    c.get-chain.ensures (c.requires.chains column) inv.latest c.requires.chains own
+    c.get-chain.ensures (c.requires.chains l.column) l.invariant.latest c.requires.chains own
 
 pub index_mut-requires : goal.index_mut-requires
 index_mut-requires g c =
@@ -111,12 +109,8 @@ index-from-requires g c =
 pub index-requires : goal.index-requires
 index-requires g c =
     let read = end_read g (goal.at.index-requires g c).After-end_on_chain-end in
-    omega (
-      arith,
-      read.1,
-      c.loop-column.invariant.built.valid.count,
-      c.loop-column.offsets.ok.0,
-    )
+    let count = c.loop-column.invariant.built.valid.count in
+    omega (arith, read.1, count, c.loop-column.offsets.ok.0)
 
 -- the run of the column before, as it was read
 run_read : (g : Over) (c : After-index g)
@@ -146,25 +140,24 @@ pub append_column-requires : goal.append_column-requires
 append_column-requires g c =
     let f = g.C.Count.number in
     let chs = c.args.chains.now in
-    let column = c.loop-column.column in
-    let inv = c.loop-column.invariant in
-    let latest = map f c.loop-column.latest.items in
-    let offsets = c.loop-column.offsets.items in
-    let rows = c.loop-column.rows.items in
+    let l = c.loop-column in
+    let inv = l.invariant in
     let entries = columns_of f (length chs) c.args.starts.now c.args.entries.now in
     let valid = c.requires.valid in
     let long = length-map chs f in
-    let lt : column < length (map f chs) = omega (arith, long, c.loop-column-test.true) in
+    let lt : l.column < length (map f chs) = omega (arith, long, c.loop-column-test.true) in
     let at = goal.at.append_column-requires g c in
     let end = end_read g at.After-end_on_chain-end in
     let read = run_read g at.After-index end.0 end.1 in
-    let added = lane_read f (length chs) c.args.starts.now c.args.entries.now column in
+    let added = lane_read f (length chs) c.args.starts.now c.args.entries.now l.column in
     rw (read.0, read.1, added) record {
       run = run_before (map f chs) entries valid (sym long) (sym long) c.requires.low
-          c.requires.once column latest offsets rows inv.built inv.latest lt;
-      rising = rising_entries (map f chs) entries valid (sym long) (sym long) column lt;
+          c.requires.once l.column (map f l.latest.items) l.offsets.items l.rows.items inv.built
+          inv.latest lt;
+      rising = rising_entries (map f chs) entries valid (sym long) (sym long) l.column lt;
       apart = apart_before (map f chs) entries valid (sym long) (sym long) c.requires.low
-          c.requires.once column latest offsets rows inv.built inv.latest lt;
+          c.requires.once l.column (map f l.latest.items) l.offsets.items l.rows.items inv.built
+          inv.latest lt;
     }
 
 pub loop-column-preserved : goal.loop-column-preserved
@@ -176,7 +169,6 @@ loop-column-preserved g c =
     let at = goal.at.loop-column-preserved g c in
     let latest = map f c.loop-column.latest.items in
     let offsets = c.loop-column.offsets.items in
-    let rows = c.loop-column.rows.items in
     let entries = columns_of f (length chs) c.args.starts.now c.args.entries.now in
     let valid = c.requires.valid in
     let long = length-map chs f in
@@ -195,7 +187,8 @@ loop-column-preserved g c =
       latest = subst (λ l. AreLatest (map f chs) l (column + 1)) (sym written)
           (latest_more (map f chs) latest column inv.latest lt (c.requires.chains column));
       built = column_built (map f chs) entries valid (sym long) (sym long) c.requires.low c.requires.once
-          column latest offsets rows inv.built inv.latest lt c.push-in-loop-column.new.self.items
+          column latest offsets c.loop-column.rows.items inv.built inv.latest lt
+          c.push-in-loop-column.new.self.items
           c.append_column.new.rows.items gains (c.in_ok-push-2.ensures.items
           ∙ ap (λ n. offsets ++ n ∷ []) (c.len.ensures ∙ c.append_column.new.rows.ok.0));
       counted = omega (
@@ -219,28 +212,23 @@ loop-column-preserved g c =
 pub from_offset_and_indices_unchecked-requires : goal.from_offset_and_indices_unchecked-requires
 from_offset_and_indices_unchecked-requires g c =
     let chs = c.args.chains.now in
-    let f = g.C.Count.number in
-    let offsets = c.loop-column.offsets.items in
-    let rows = c.loop-column.rows.items in
-    let whole : c.loop-column.column ≡ length chs = omega arith in
-    subst (λ m. IsValid (raw_of (length chs) m offsets rows)) (length-map chs f)
-    (subst (λ k. IsValid (raw_of k (length (map f chs)) offsets rows)) whole
-    c.loop-column.invariant.built.valid)
+    let l = c.loop-column in
+    let whole : l.column ≡ length chs = omega arith in
+    subst (λ m. IsValid (raw_of (length chs) m l.offsets.items l.rows.items))
+    (length-map chs g.C.Count.number)
+    (subst (λ k. IsValid (raw_of k (length (map g.C.Count.number chs)) l.offsets.items l.rows.items))
+    whole l.invariant.built.valid)
 
 pub returns-clause-places : goal.returns-clause-places
 returns-clause-places g c =
     let chs = c.args.chains.now in
     let f = g.C.Count.number in
     let long = length-map chs f in
-    let offsets = c.loop-column.offsets.items in
-    let rows = c.loop-column.rows.items in
+    let l = c.loop-column in
     all_columns (map f chs) (columns_of f (length chs) c.args.starts.now c.args.entries.now)
-    c.requires.valid
-    (sym long) (sym long)
-    c.loop-column.column c.from_offset_and_indices_unchecked.result offsets rows
-    (omega (arith, long))
-    (c.from_offset_and_indices_unchecked.ensures ∙ ap (λ k. raw_of k k offsets rows) (sym long))
-    c.loop-column.invariant.built
+    c.requires.valid (sym long) (sym long) l.column c.from_offset_and_indices_unchecked.result
+    l.offsets.items l.rows.items (omega (arith, long)) (c.from_offset_and_indices_unchecked.ensures
+    ∙ ap (λ k. raw_of k k l.offsets.items l.rows.items) (sym long)) l.invariant.built
 
 -- no column has taken a step yet
 none_yet : (g : Over) (c : Start g) (fill : List (ℕ × ℕ))
