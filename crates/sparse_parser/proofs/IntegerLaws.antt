@@ -1,7 +1,7 @@
 -- The indices and integers of a line, read one after the other.
 use Rattle.std.proofs.Common.{◌≡◌, ◌≢◌, ℕ, ℤ, pos, zero, suc, ◌^◌, ◌<◌, Bool, true, false, cond}
 use Rattle.std.proofs.Common.{eqb, List, [], ◌∷◌, ◌++◌, length, Some, Ok, Err, refl, sym}
-use Rattle.std.proofs.Common.{ap, subst, ◌∙◌, arith, ◌+◌, get_or, drop}
+use Rattle.std.proofs.Common.{ap, subst, ◌∙◌, arith, ◌+◌, ◌-◌, ◌*◌, get_or, drop, length-drop}
 use Rattle.std.proofs.lemmas.List.{drop_more}
 use Rattle.std.specs.Option.{SomeIff}
 use Rattle.std.specs.Char.{is_ascii_digit}
@@ -20,6 +20,7 @@ use Rattle.sparse_parser.specs.InnerReading.{line_words, ends_line}
 use Rattle.sparse_parser.specs.InnerNumbers.{IsNumberRead}
 use Rattle.sparse_parser.specs.InnerLines.{IsWord, ends_word}
 use Rattle.sparse_parser.specs.InnerIntegers.{IsIndexAt, IsIntegerAt, IsEndAt, IsIntegerLine}
+use Rattle.sparse_parser.specs.InnerIntegers.{IsLastNumber}
 use Rattle.sparse_parser.specs.InnerIntegers.{IsPlaceLine, IsValueLine}
 use Rattle.sparse_parser.proofs.Fronts.{Passes-front, front-append-after, front-no, after-no}
 use Rattle.sparse_parser.proofs.ByteClasses.{digit_solid, space_no_digit, Passes-weaker}
@@ -27,7 +28,8 @@ use Rattle.sparse_parser.proofs.EntryLaws.{some_front, is_index-front, found-num
 use Rattle.sparse_parser.proofs.EntryLaws.{value_word-is_integer, value_word-number}
 use Rattle.sparse_parser.proofs.FirstWord.{AreDigits, word_first, word-after_blanks, integer_word}
 use Rattle.sparse_parser.proofs.FirstWord.{words-after_blanks, line-after_blanks, line_ends}
-use Rattle.sparse_parser.proofs.Positions.{after_passed}
+use Rattle.sparse_parser.proofs.Digits.{digit_small}
+use Rattle.sparse_parser.proofs.Positions.{after_passed, digit_read}
 
 -- what ends a word is no digit
 no_digit : (rest : List ℕ) → ends_word rest ≡ true
@@ -191,6 +193,29 @@ pub end_at : (text rest : List ℕ) → rest ≡ text → ends_line text ≡ tru
 end_at text rest r e =
     let l = line_ends text text (no_blank_first text e) e in
     record { none = l.0; line = r ∙ l.1 }
+
+-- a digit, and LF after it
+pub one_digit : (text : List ℕ) (from number : ℕ) → from + 1 < length text
+    → is_ascii_digit (get_or text from 0) ≡ true → get_or text (from + 1) 0 ≡ 10
+    → number ≡ get_or text from 0 - 48
+    → IsLastNumber (drop from text) number (drop (from + 1) text)
+one_digit text from number inside digit end is =
+    let small = digit_small (get_or text from 0) digit in
+    let ends = drop_more text (from + 1) 0 inside in
+    let first : number ≡ 0 * 10 + (get_or text from 0 - 48) = omega (arith, is) in
+    record {
+      behind = drop (from + 1) text;
+      read = record {
+        value = ap (λ (n : ℕ). digits_value_after 10 n (front is_ascii_digit (drop (from + 1) text)))
+            first ∙ digit_read 0 text from (omega arith) digit;
+        others = after_passed is_ascii_digit text from (omega arith) digit;
+        small = omega arith;
+        shorter = omega (arith, length-drop from text, length-drop (from + 1) text);
+      };
+      some = omega (arith, length-drop from text, length-drop (from + 1) text);
+      word = ap ends_word ends ∙ ap is_space end;
+      line = end_at _ _ refl (ap ends_line ends ∙ ap is_line_end end);
+    }
 
 -- one word more
 more : (text word rest : List ℕ) (words : List (List ℕ)) → IsWord text word rest

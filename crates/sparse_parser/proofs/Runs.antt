@@ -65,22 +65,23 @@ run_read text from count number inside run short is =
       shorter = omega (arith, length-drop from text, length-drop (from + count) text);
     }
 
--- the digits end within eight bytes
-pub eight_read : (text rest eight : List ℕ) (from count number : ℕ) → from ≤ length text
-    → rest ≡ drop from text → eight ≡ take 8 rest → count ≡ 0 + digits_len (drop 0 eight)
-    → count < 8
-    → number ≡ (0 * 10 ^ (count - 0) + digits_value 10 (slice_range eight 0 count)) % 2 ^ 64
+-- the digits end within the first bytes, and there are at most 19
+pub first_read : (most : ℕ) (text rest first : List ℕ) (from count number : ℕ)
+    → from ≤ length text → rest ≡ drop from text → first ≡ take most rest
+    → count ≡ 0 + digits_len (drop 0 first) → count < most → count ≤ 19
+    → number ≡ (0 * 10 ^ (count - 0) + digits_value 10 (slice_range first 0 count)) % 2 ^ 64
     → IsNumberRead (drop from text) number (drop (from + count) text)
-eight_read text rest eight from count number inside r e run short is =
+first_read most text rest first from count number inside r e run short few is =
     let start = drop from text in
-    let bytes : eight ≡ take 8 start = e ∙ ap (take 8) r in
-    let first : count ≡ 0 + digits_len (take 8 start) =
+    let bytes : first ≡ take most start = e ∙ ap (take most) r in
+    let within : count ≡ 0 + digits_len (take most start) =
     run ∙ ap (λ (bs : List ℕ). 0 + digits_len (drop 0 bs)) bytes in
-    let whole = digits_len_short start 8 (omega arith) in
+    let whole = digits_len_short start most (omega arith) in
     let none_off : count - 0 ≡ count = omega arith in
-    let digits : slice_range eight 0 count ≡ take count start =
+    let digits : slice_range first 0 count ≡ take count start =
     ap (λ (bs : List ℕ). take (count - 0) (drop 0 bs)) bytes
-    ∙ ap (λ (n : ℕ). take n (take 8 start)) none_off ∙ take-take count 8 start (omega arith) in
+    ∙ ap (λ (n : ℕ). take n (take most start)) none_off
+    ∙ take-take count most start (omega arith) in
     run_read text from count number inside (omega arith) (omega arith)
     (omega (arith, ap (digits_value 10) digits))
 

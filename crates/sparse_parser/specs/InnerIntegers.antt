@@ -1,11 +1,12 @@
 -- Data lines of integers, as the fast path reads them.
-use Rattle.std.specs.Prelude.{◌≡◌, ℕ, ℤ, true, List, [], ◌∷◌, Ok}
+use Rattle.std.specs.Prelude.{◌≡◌, ◌≢◌, ℕ, ℤ, true, List, [], ◌∷◌, length, Ok}
 use Rattle.sparse_parser.specs.Bytes.{after}
 use Rattle.sparse_parser.specs.InnerBytes.{is_within_line}
 use Rattle.sparse_parser.specs.Grammar.{is_index, is_integer}
 use Rattle.sparse_parser.specs.Meaning.{number_of, integer_of}
 use Rattle.sparse_parser.specs.InnerReading.{line_words}
-use Rattle.sparse_parser.specs.InnerLines.{IsWord}
+use Rattle.sparse_parser.specs.InnerNumbers.{IsNumberRead}
+use Rattle.sparse_parser.specs.InnerLines.{IsWord, ends_word}
 
 -- the line begins with an index of this number
 pub record IsIndexAt (text : List ℕ) (number : ℕ) (rest : List ℕ) : Type 0 where
@@ -25,6 +26,14 @@ pub record IsIntegerAt (text : List ℕ) (value : ℤ) (rest : List ℕ) : Type 
 pub record IsEndAt (text rest : List ℕ) : Type 0 where
   pub none : line_words text ≡ []
   pub line : rest ≡ after is_within_line text
+
+-- the text begins with digits of this value, and only blanks come between them and the line's end
+pub record IsLastNumber (text : List ℕ) (number : ℕ) (rest : List ℕ) : Type 0 where
+  pub behind : List ℕ
+  pub read : IsNumberRead text number behind
+  pub some : length behind ≢ length text
+  pub word : ends_word behind ≡ true
+  pub line : IsEndAt behind rest
 
 -- the line is a row, a column and an integer
 pub record IsIntegerLine (text : List ℕ) (row col : ℕ) (value : ℤ) (rest : List ℕ) : Type 0 where

@@ -8,7 +8,7 @@ ghost use lib.IntN.{neg_ℤ};
 ghost use Rattle.sparse_parser.specs.Bytes.{is_blank, after};
 ghost use Rattle.sparse_parser.specs.InnerNumbers.{IsNumberRead};
 ghost use Rattle.sparse_parser.specs.InnerLines.{ends_word};
-ghost use Rattle.sparse_parser.specs.InnerIntegers.{IsIndexAt, IsEndAt, IsIntegerLine, IsPlaceLine, IsValueLine};
+ghost use Rattle.sparse_parser.specs.InnerIntegers.{IsIndexAt, IsEndAt, IsLastNumber, IsIntegerLine, IsPlaceLine, IsValueLine};
 
 use crate::lines::{ends_line, ends_word, is_blank};
 use crate::numbers::SHORT;
@@ -63,13 +63,29 @@ fn last_integer(text: &[u8], from: usize) -> Option<(i64, &[u8])>
 {
     let start = skip_blanks(text, from);
     let unsigned = after_sign_at(text, start);
-    let (number, end) = first_digits_at(text, unsigned);
-    if end == unsigned {
+    let (number, rest) = last_number(text, unsigned)?;
+    let value = signed(number, starts_with_minus(text_from(text, start)))?;
+    Some((value, rest))
+}
+
+// The value of at most 19 digits at a position, and the text from the line's end on. One digit before LF is a case of its own, since
+// small values are common.
+#[inline(always)]
+fn last_number(text: &[u8], from: usize) -> Option<(usize, &[u8])>
+    requires { from ≤ length text.now }
+    ensures { MatchOption result (Unit {0})
+        (λ found. IsLastNumber (drop from text.now) found.0 found.1.now) }
+{
+    if text.len() - from > 1 && text[from].is_ascii_digit() && text[from + 1] == b'\n' {
+        let number = usize::from(text[from] - b'0');
+        return Some((number, text_from(text, from + 1)));
+    }
+    let (number, end) = long_digits_at(text, from);
+    if end == from {
         return None;
     }
     let rest = number_end(text, end)?;
-    let value = signed(number, starts_with_minus(text_from(text, start)))?;
-    Some((value, rest))
+    Some((number, rest))
 }
 
 // The index at a position, after blanks, and a position behind it. Most often one blank comes before the next number, and it is passed
@@ -156,6 +172,24 @@ fn digits_at(text: &[u8], from: usize) -> (usize, usize)
         let (eight, _) = rest.split_at(8);
         let (count, number) = read_digits(eight, 0, 0);
         if count < 8 {
+            return (number as usize, from + count);
+        }
+    }
+    first_digits_at(text, from)
+}
+
+// The same for numbers that are often long: up to three times eight digits are read.
+#[inline(always)]
+fn long_digits_at(text: &[u8], from: usize) -> (usize, usize)
+    requires { from ≤ length text.now }
+    ensures inside { result.1 ≤ length text.now }
+    ensures read { IsNumberRead (drop from text.now) result.0 (drop result.1 text.now) }
+{
+    let rest = text_from(text, from);
+    if rest.len() >= 24 {
+        let (first, _) = rest.split_at(24);
+        let (count, number) = read_digits(first, 0, 0);
+        if count <= SHORT {
             return (number as usize, from + count);
         }
     }

@@ -1,6 +1,6 @@
 //! The places of an array's entries.
 
-ghost use Rattle.std.specs.Prelude.{◌≡◌, ◌+◌, ◌<◌, slice_get, drop};
+ghost use Rattle.std.specs.Prelude.{◌≡◌, ◌+◌, ◌<◌, ◌∷◌, slice_get, drop};
 ghost use Rattle.sparse_parser.specs.ArrayPlaces.{first_row, places_of};
 ghost use Rattle.sparse_parser.specs.InnerPlaces.{places_left, IsSettled};
 
@@ -44,10 +44,14 @@ impl Places {
         if self.col >= self.cols {
             return None;
         }
+        if self.row < self.rows {
+            return Some(self.take_row());
+        }
         self.take_within()
     }
 
-    // The same, if a column is left.
+    // The same, after a move to the next column if the current one has no rows left.
+    #[inline(always)]
     fn take_within(&mut self) -> Option<(usize, usize)>
         ensures first { result ≡ slice_get (places_left self.old) 0 }
         ensures left { places_left self.new ≡ drop 1 (places_left self.old) }
@@ -56,12 +60,23 @@ impl Places {
         if self.col >= self.cols || self.row >= self.rows {
             return None;
         }
+        Some(self.take_row())
+    }
+
+    // Removes and returns the first place, which lies in the current column.
+    #[inline(always)]
+    fn take_row(&mut self) -> (usize, usize)
+        requires col { self.old.col < self.old.cols }
+        requires row { self.old.row < self.old.rows }
+        ensures { places_left self.old ≡ result ∷ places_left self.new }
+    {
         let place = (self.row, self.col);
         self.row += 1;
-        Some(place)
+        place
     }
 
     // Moves to the next column if the current one has no rows left.
+    #[inline(always)]
     fn settle(&mut self)
         ensures left { places_left self.new ≡ places_left self.old }
         ensures settled { IsSettled self.new }

@@ -18,3 +18,10 @@ returns-then-self-clause-left c =
     let e : left_from p.symmetry p.rows p.cols p.row p.col ≡ [] =
     left_outside p.symmetry p.rows p.cols p.row p.col c.if-self.true in
     e ∙ sym (ap (λ (l : List (ℕ × ℕ)). drop 1 l) e)
+
+pub returns-then-self-2-clause-first : goal.returns-then-self-2-clause-first
+returns-then-self-2-clause-first c =
+    sym (ap (λ (l : List (ℕ × ℕ)). slice_get l 0) c.take_row.ensures)
+
+pub returns-then-self-2-clause-left : goal.returns-then-self-2-clause-left
+returns-then-self-2-clause-left c = sym (ap (λ (l : List (ℕ × ℕ)). drop 1 l) c.take_row.ensures)

@@ -1,6 +1,6 @@
 use Rattle.std.proofs.Common.{◌≡◌, ℕ, List, [], sym, ap, ◌∙◌, inl, inr, drop, slice_get}
 use Rattle.sparse_parser.specs.InnerPlaces.{places_left, left_from}
-use Rattle.sparse_parser.proofs.PlaceLaws.{left_none, left_first}
+use Rattle.sparse_parser.proofs.PlaceLaws.{left_none}
 use Rattle.sparse_parser.proofs.places.Places.take_within.Goals as goal
 use Rattle.sparse_parser.proofs.places.Places.take_within.Goals.{then-self-via-then-self}
 use Rattle.sparse_parser.proofs.places.Places.take_within.Goals.{then-self-via-else-self+then-self-2}
@@ -28,17 +28,9 @@ returns-then-self-clause-left c =
     e ∙ sym (ap (λ (l : List (ℕ × ℕ)). drop 1 l) (sym c.settle.ensures.left ∙ e))
 
 pub returns-clause-first : goal.returns-clause-first
-unfolding places_left
 returns-clause-first c =
-    let p = c.settle.new.self in
-    sym (ap (λ (l : List (ℕ × ℕ)). slice_get l 0)
-    (sym c.settle.ensures.left ∙ left_first p.symmetry p.rows p.cols p.row p.col c.if-self.false
-    c.if-self-2.false))
+    sym (ap (λ (l : List (ℕ × ℕ)). slice_get l 0) (sym c.settle.ensures.left ∙ c.take_row.ensures))
 
 pub returns-clause-left : goal.returns-clause-left
-unfolding places_left
 returns-clause-left c =
-    let p = c.settle.new.self in
-    sym (ap (λ (l : List (ℕ × ℕ)). drop 1 l)
-    (sym c.settle.ensures.left ∙ left_first p.symmetry p.rows p.cols p.row p.col c.if-self.false
-    c.if-self-2.false))
+    sym (ap (λ (l : List (ℕ × ℕ)). drop 1 l) (sym c.settle.ensures.left ∙ c.take_row.ensures))
