@@ -20,7 +20,7 @@ use Rattle.sparse_parser.specs.InnerReading.{line_words, ends_line}
 use Rattle.sparse_parser.specs.InnerNumbers.{IsNumberRead}
 use Rattle.sparse_parser.specs.InnerLines.{IsWord, ends_word}
 use Rattle.sparse_parser.specs.InnerIntegers.{IsIndexAt, IsIntegerAt, IsEndAt, IsIntegerLine}
-use Rattle.sparse_parser.specs.InnerIntegers.{IsLastNumber}
+use Rattle.sparse_parser.specs.InnerIntegers.{IsLastIndex, IsLastNumber}
 use Rattle.sparse_parser.specs.InnerIntegers.{IsPlaceLine, IsValueLine}
 use Rattle.sparse_parser.proofs.Fronts.{Passes-front, front-append-after, front-no, after-no}
 use Rattle.sparse_parser.proofs.ByteClasses.{digit_solid, space_no_digit, Passes-weaker}
@@ -215,6 +215,18 @@ one_digit text from number inside digit end is =
       some = omega (arith, length-drop from text, length-drop (from + 1) text);
       word = ap ends_word ends ∙ ap is_space end;
       line = end_at _ _ refl (ap ends_line ends ∙ ap is_line_end end);
+    }
+
+-- an index, and LF after it
+pub index_and_end : (text from : List ℕ) (number end : ℕ) → end < length text
+    → get_or text end 0 ≡ 10 → IsNumberRead from number (drop end text)
+    → length (drop end text) ≢ length from → IsLastIndex from number (drop end text)
+index_and_end text from number end lt e r some =
+    let ends = drop_more text end 0 lt in
+    record {
+      behind = drop end text;
+      at = index_first from (drop end text) number r some (ap ends_word ends ∙ ap is_space e);
+      line = end_at _ _ refl (ap ends_line ends ∙ ap is_line_end e);
     }
 
 -- one word more

@@ -1,7 +1,7 @@
 -- A run of digits that is read at once, and a line end before a number.
-use Rattle.std.proofs.Common.{◌≡◌, ◌≢◌, ℕ, zero, suc, ◌+◌, ◌-◌, ◌*◌, ◌%◌, ◌^◌, ◌≤◌, ◌<◌, Bool, true, false, cond}
+use Rattle.std.proofs.Common.{◌≡◌, ◌≢◌, ℕ, ◌+◌, ◌-◌, ◌*◌, ◌%◌, ◌^◌, ◌≤◌, ◌<◌, Bool, true, false}
 use Rattle.std.proofs.Common.{List, [], ◌∷◌, length, get_or, take, drop, slice_range, refl, sym, ap}
-use Rattle.std.proofs.Common.{subst, ◌∙◌, arith, length-drop, drop-drop, one-add, length-take-le, take-take}
+use Rattle.std.proofs.Common.{◌∙◌, arith, length-drop, drop-drop, one-add, length-take-le, take-take}
 use Rattle.std.proofs.lemmas.Bool.Decides.{nat_tests}
 use Rattle.std.specs.Char.{is_ascii_digit}
 use Rattle.std.specs.List.{prefix_len}

@@ -27,6 +27,12 @@ pub record IsEndAt (text rest : List ℕ) : Type 0 where
   pub none : line_words text ≡ []
   pub line : rest ≡ after is_within_line text
 
+-- the line is an index of this number
+pub record IsLastIndex (text : List ℕ) (number : ℕ) (rest : List ℕ) : Type 0 where
+  pub behind : List ℕ
+  pub at : IsIndexAt text number behind
+  pub line : IsEndAt behind rest
+
 -- the text begins with digits of this value, and only blanks come between them and the line's end
 pub record IsLastNumber (text : List ℕ) (number : ℕ) (rest : List ℕ) : Type 0 where
   pub behind : List ℕ

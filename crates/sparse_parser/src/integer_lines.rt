@@ -8,7 +8,7 @@ ghost use lib.IntN.{neg_ℤ};
 ghost use Rattle.sparse_parser.specs.Bytes.{is_blank, after};
 ghost use Rattle.sparse_parser.specs.InnerNumbers.{IsNumberRead};
 ghost use Rattle.sparse_parser.specs.InnerLines.{ends_word};
-ghost use Rattle.sparse_parser.specs.InnerIntegers.{IsIndexAt, IsEndAt, IsLastNumber, IsIntegerLine, IsPlaceLine, IsValueLine};
+ghost use Rattle.sparse_parser.specs.InnerIntegers.{IsIndexAt, IsEndAt, IsLastIndex, IsLastNumber, IsIntegerLine, IsPlaceLine, IsValueLine};
 
 use crate::lines::{ends_line, ends_word, is_blank};
 use crate::numbers::SHORT;
@@ -36,12 +36,7 @@ pub fn place_line(text: &[u8]) -> Option<(usize, usize, &[u8])>
         (λ line. IsPlaceLine text.now line.0 line.1 line.2.now) }
 {
     let (row, at) = index_at(text, 0)?;
-    let start = skip_blanks(text, at);
-    let (col, end) = digits_at(text, start);
-    if end == start {
-        return None;
-    }
-    let rest = number_end(text, end)?;
+    let (col, rest) = last_index(text, at)?;
     Some((row, col, rest))
 }
 
@@ -107,7 +102,23 @@ fn index_at(text: &[u8], from: usize) -> Option<(usize, usize)>
     }
 }
 
-// The same for an index of any form.
+// The index at a position, after blanks, and the text from the line's end on. Most often LF comes at once.
+#[inline(always)]
+fn last_index(text: &[u8], from: usize) -> Option<(usize, &[u8])>
+    requires { from ≤ length text.now }
+    ensures { MatchOption result (Unit {0})
+        (λ found. IsLastIndex (drop from text.now) found.0 found.1.now) }
+{
+    let (number, end) = digits_at(text, from);
+    if end > from && end < text.len() && text[end] == b'\n' {
+        return Some((number, text_from(text, end)));
+    }
+    let (number, end) = spaced_index_at(text, from)?;
+    let rest = line_end(text, end)?;
+    Some((number, rest))
+}
+
+// The same as `index_at` for an index of any form.
 #[cold]
 fn spaced_index_at(text: &[u8], from: usize) -> Option<(usize, usize)>
     requires { from ≤ length text.now }

@@ -1,4 +1,4 @@
-use Rattle.std.proofs.Common.{ap, sym, ◌∙◌, arith}
+use Rattle.std.proofs.Common.{ap, ◌∙◌}
 use Rattle.sparse_parser.specs.InnerReading.{contents_of}
 use Rattle.sparse_parser.proofs.Runs.{line_begins}
 use Rattle.sparse_parser.proofs.lines.next_line.Goals as goal
