@@ -1,35 +1,30 @@
-//! Products into a given matrix, products by columns, and the laws of products.
+//! Products into a given matrix, and products by columns.
 
 ghost use Rattle.std.specs.Prelude.{◌≡◌};
 ghost use Rattle.sparse_cs.specs.PlainOfLanes.{plain_of_rows, plain_of_cols};
 ghost use Rattle.sparse_op.specs.Operands.{plain_op};
 
-use crate::fixtures::{csr, scalars};
+use crate::fixtures::{
+    Answer, Arrays, Pair, are, holds_by_columns, is_done, is_refused, matrix, pair,
+};
 use sparse_algebra::scalar::{Ring, W64};
 use sparse_forms::csc::CscMatrix;
 use sparse_forms::csr::CsrMatrix;
-use sparse_op::{Op, OperationErrorKind};
-use sparse_ops::laws::{
-    difference_as_sum, identity_times, negative_twice, product_of_sum, transpose_of_product,
-};
+use sparse_op::Op;
 use sparse_ops::serial::{mul_csc, spmm_csc_pattern, spmm_csc_prealloc, spmm_csr_prealloc};
+use sparse_pattern::pattern::SparsityPattern;
 use std::alloc::Global;
 use std::test::Fail;
 
-fn triangle(alloc: Global) -> Result<CsrMatrix<W64>, Fail> {
-    let values = scalars(alloc, &[1, 2, 3])?;
-    csr(alloc, (2, 2), &[0, 2, 3], &[0, 1, 1], values.as_slice())
-}
+const TRIANGLE: Arrays<'static> = (2, &[0, 2, 3], &[0, 1, 1], &[1, 2, 3]);
+
+const LOWER: Arrays<'static> = (2, &[0, 1, 3], &[0, 0, 1], &[4, 5, 6]);
+
+const FULL: Arrays<'static> = (2, &[0, 2, 4], &[0, 1, 0, 1], &[1, 2, 3, 4]);
 
 // A is `1 2` over `0 3`, B is `4 0` over `5 6`, and C is `1 2` over `3 4`.
-fn factors(alloc: Global) -> Result<(CsrMatrix<W64>, CsrMatrix<W64>, CsrMatrix<W64>), Fail> {
-    let lower = scalars(alloc, &[4, 5, 6])?;
-    let full = scalars(alloc, &[1, 2, 3, 4])?;
-    Ok((
-        triangle(alloc)?,
-        csr(alloc, (2, 2), &[0, 1, 3], &[0, 0, 1], lower.as_slice())?,
-        csr(alloc, (2, 2), &[0, 2, 4], &[0, 1, 0, 1], full.as_slice())?,
-    ))
+fn factors(alloc: Global) -> Result<(Pair, CsrMatrix<W64>), Fail> {
+    Ok((pair(alloc, TRIANGLE, LOWER)?, matrix(alloc, FULL)?))
 }
 
 // Which of the two factors are transposed, and the values of 2 C + 3 op(A) op(B).
@@ -72,34 +67,34 @@ fn sizes_of_columns<T: Ring>(a: Op<&CscMatrix<T>>) -> (usize, usize)
     }
 }
 
-// Updates C, and returns whether its shape fits the product and nothing was refused.
-fn has_updated_rows<T: Ring>(
+// Updates C, if its sizes and those of the factors fit.
+fn update_rows<T: Ring>(
     alloc: Global,
     (beta, alpha): (T, T),
     c: &mut CsrMatrix<T>,
     a: Op<&CsrMatrix<T>>,
     b: Op<&CsrMatrix<T>>,
-) -> bool {
+) -> Answer {
     let (left, right) = (sizes_of_rows(a), sizes_of_rows(b));
     if left.1 != right.0 || left.0 != c.nrows() || right.1 != c.ncols() {
-        return false;
+        return None;
     }
-    spmm_csr_prealloc(alloc, beta, c, alpha, a, b).is_ok()
+    Some(spmm_csr_prealloc(alloc, beta, c, alpha, a, b))
 }
 
 // The same by columns.
-fn has_updated_columns<T: Ring>(
+fn update_columns<T: Ring>(
     alloc: Global,
     (beta, alpha): (T, T),
     c: &mut CscMatrix<T>,
     a: Op<&CscMatrix<T>>,
     b: Op<&CscMatrix<T>>,
-) -> bool {
+) -> Answer {
     let (left, right) = (sizes_of_columns(a), sizes_of_columns(b));
     if left.1 != right.0 || left.0 != c.nrows() || right.1 != c.ncols() {
-        return false;
+        return None;
     }
-    spmm_csc_prealloc(alloc, beta, c, alpha, a, b).is_ok()
+    Some(spmm_csc_prealloc(alloc, beta, c, alpha, a, b))
 }
 
 // Whether 2 C + 3 op(A) op(B) has these values.
@@ -107,11 +102,10 @@ fn updates_rows(
     alloc: Global,
     (is_a_transposed, is_b_transposed, numbers): (bool, bool, [i32; 4]),
 ) -> Result<bool, Fail> {
-    let (a, b, mut c) = factors(alloc)?;
+    let ((a, b), mut c) = factors(alloc)?;
     let (a, b) = (op(is_a_transposed, &a), op(is_b_transposed, &b));
-    let scales = (W64::new(2), W64::new(3));
-    let done = has_updated_rows(alloc, scales, &mut c, a, b);
-    Ok(done && c.values() == scalars(alloc, &numbers)?.as_slice())
+    let done = is_done(update_rows(alloc, (W64::new(2), W64::new(3)), &mut c, a, b));
+    Ok(done && are(c.values(), &numbers))
 }
 
 // The same arrays by columns are the transposes, so the factors are exchanged.
@@ -119,13 +113,12 @@ fn updates_columns(
     alloc: Global,
     (is_a_transposed, is_b_transposed, numbers): (bool, bool, [i32; 4]),
 ) -> Result<bool, Fail> {
-    let (a, b, c) = factors(alloc)?;
+    let ((a, b), c) = factors(alloc)?;
     let (a, b) = (a.transpose_as_csc(), b.transpose_as_csc());
     let mut c = c.transpose_as_csc();
     let (a, b) = (op(is_a_transposed, &a), op(is_b_transposed, &b));
-    let scales = (W64::new(2), W64::new(3));
-    let done = has_updated_columns(alloc, scales, &mut c, b, a);
-    Ok(done && c.values() == scalars(alloc, &numbers)?.as_slice())
+    let done = is_done(update_columns(alloc, (W64::new(2), W64::new(3)), &mut c, b, a));
+    Ok(done && are(c.values(), &numbers))
 }
 
 #[test]
@@ -136,43 +129,41 @@ fn products_into_a_matrix(rt: HostRuntime) -> Result<(), Fail> {
     Ok(())
 }
 
-// Whether the product into C is refused for its pattern, and leaves C as it was.
-fn is_refused(
-    alloc: Global,
-    mut c: CsrMatrix<W64>,
-    a: &CsrMatrix<W64>,
-    b: &CsrMatrix<W64>,
-) -> Result<bool, Fail> {
-    let before = c.clone(alloc)?;
-    if a.ncols() != b.nrows() || c.nrows() != a.nrows() || c.ncols() != b.ncols() {
-        return Ok(false);
-    }
+// Whether 2 C + 2 A B is refused for its pattern.
+fn refuses(alloc: Global, c: &mut CsrMatrix<W64>, (a, b): Pair) -> bool {
     let two = W64::new(2);
-    let said = match spmm_csr_prealloc(alloc, two, &mut c, two, Op::NoOp(a), Op::NoOp(b)) {
-        Ok(()) => false,
-        Err(error) => {
-            *error.kind() == OperationErrorKind::InvalidPattern
-                && error.message() == "Found unexpected entry that is not present in `c`."
-        }
-    };
-    Ok(said && c == before)
+    let answer = update_rows(alloc, (two, two), c, Op::NoOp(&a), Op::NoOp(&b));
+    is_refused(answer, "Found unexpected entry that is not present in `c`.")
+}
+
+// Whether the product into C is refused for its pattern, and leaves C as it was.
+fn is_left_by_a_refusal(alloc: Global, arrays: Arrays<'_>, factors: Pair) -> Result<bool, Fail> {
+    let mut c = matrix(alloc, arrays)?;
+    let refused = refuses(alloc, &mut c, factors);
+    Ok(refused && c == matrix(alloc, arrays)?)
 }
 
 // The product of `1 1` and the column `1`, `-1` is zero, at a place that C lacks.
 fn refuses_a_zero(alloc: Global) -> Result<bool, Fail> {
-    let row = scalars(alloc, &[1, 1])?;
-    let row = csr(alloc, (1, 2), &[0, 2], &[0, 1], row.as_slice())?;
-    let column = scalars(alloc, &[1, -1])?;
-    let column = csr(alloc, (2, 1), &[0, 1, 2], &[0, 0], column.as_slice())?;
-    is_refused(alloc, CsrMatrix::zeros(alloc, 1, 1)?, &row, &column)
+    let row = (2, [0, 2].as_slice(), [0, 1].as_slice(), [1, 1].as_slice());
+    let column = (
+        1,
+        [0, 1, 2].as_slice(),
+        [0, 0].as_slice(),
+        [1, -1].as_slice(),
+    );
+    is_left_by_a_refusal(alloc, (1, &[0, 0], &[], &[]), pair(alloc, row, column)?)
 }
 
 // C lacks the last place of the last row.
 fn refuses_the_last_place(alloc: Global) -> Result<bool, Fail> {
-    let values = scalars(alloc, &[5, 6, 7])?;
-    let c = csr(alloc, (2, 2), &[0, 2, 3], &[0, 1, 0], values.as_slice())?;
-    let f = triangle(alloc)?;
-    is_refused(alloc, c, &f, &f)
+    let c = (
+        2,
+        [0, 2, 3].as_slice(),
+        [0, 1, 0].as_slice(),
+        [5, 6, 7].as_slice(),
+    );
+    is_left_by_a_refusal(alloc, c, pair(alloc, TRIANGLE, TRIANGLE)?)
 }
 
 #[test]
@@ -181,60 +172,34 @@ fn refused_products_leave_their_target(rt: HostRuntime) -> Result<(), Fail> {
     Ok(())
 }
 
-// By columns the arrays of the triangle are the transpose: rows `1 0` and `2 3`, and `1 0` and `8 9` in its square.
-fn squared_by_columns(alloc: Global) -> Result<bool, Fail> {
-    let f = triangle(alloc)?.transpose_as_csc();
+fn square_by_columns<T: Ring>(alloc: Global, f: &CscMatrix<T>) -> Result<CscMatrix<T>, Fail> {
     if f.ncols() != f.nrows() {
-        return Ok(false);
+        return Err(Fail::from("a matrix that is not square"));
     }
-    let square = mul_csc(alloc, &f, &f)?;
-    let pattern = spmm_csc_pattern(alloc, f.pattern(), f.pattern())?;
-    Ok(
-        square.values() == scalars(alloc, &[1, 8, 9])?.as_slice()
-            && square.row_indices() == [0, 1, 1].as_slice()
-            && pattern.minor_indices() == [0, 1, 1].as_slice(),
-    )
+    Ok(mul_csc(alloc, f, f)?)
+}
+
+fn pattern_by_columns<T: Ring>(alloc: Global, f: &CscMatrix<T>) -> Result<SparsityPattern, Fail> {
+    if f.ncols() != f.nrows() {
+        return Err(Fail::from("a matrix that is not square"));
+    }
+    Ok(spmm_csc_pattern(alloc, f.pattern(), f.pattern())?)
+}
+
+// By columns the arrays of the triangle are the transpose: rows `1 0` and `2 3`, and `1 0` and `8 9` in its square.
+fn has_square_by_columns(alloc: Global) -> Result<bool, Fail> {
+    let f = matrix(alloc, TRIANGLE)?.transpose_as_csc();
+    Ok(holds_by_columns(square_by_columns(alloc, &f)?, &[0, 1, 1], &[1, 8, 9]))
+}
+
+fn has_pattern_by_columns(alloc: Global) -> Result<bool, Fail> {
+    let f = matrix(alloc, TRIANGLE)?.transpose_as_csc();
+    let pattern = pattern_by_columns(alloc, &f)?;
+    Ok(pattern.minor_indices() == [0, 1, 1].as_slice())
 }
 
 #[test]
 fn products_by_columns(rt: HostRuntime) -> Result<(), Fail> {
-    let right = squared_by_columns(rt.alloc())?;
-    assert!(rt; right);
-    Ok(())
-}
-
-fn both_sides_agree(alloc: Global) -> Result<bool, Fail> {
-    let f = triangle(alloc)?;
-    if f.ncols() != f.nrows() {
-        return Ok(false);
-    }
-    let distributed = product_of_sum(alloc, &f, &f, &f)?;
-    let difference = difference_as_sum(alloc, &f, &f)?;
-    let transposed = transpose_of_product(alloc, &f, &f)?;
-    Ok(
-        distributed.0 == distributed.1
-            && difference.0 == difference.1
-            && transposed.0 == transposed.1,
-    )
-}
-
-fn neutral_steps_agree(alloc: Global) -> Result<bool, Fail> {
-    let f = triangle(alloc)?;
-    let negative = negative_twice(alloc, &f)?;
-    let product = identity_times(alloc, &f)?;
-    Ok(negative == f && product == f)
-}
-
-#[test]
-fn laws_of_products(rt: HostRuntime) -> Result<(), Fail> {
-    let right = both_sides_agree(rt.alloc())?;
-    assert!(rt; right);
-    Ok(())
-}
-
-#[test]
-fn neutral_steps(rt: HostRuntime) -> Result<(), Fail> {
-    let right = neutral_steps_agree(rt.alloc())?;
-    assert!(rt; right);
+    assert!(rt; has_square_by_columns(rt.alloc())? && has_pattern_by_columns(rt.alloc())?);
     Ok(())
 }

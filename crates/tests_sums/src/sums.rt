@@ -1,265 +1,232 @@
-//! Sums, differences, multiples, and sums into a given matrix.
+//! Sums, differences and multiples.
 
-use crate::fixtures::{csr, scalars};
+use crate::fixtures::{Arrays, Pair, are, holds, holds_by_columns, matrix, pair};
 use sparse_algebra::scalar::W64;
+use sparse_forms::csc::CscMatrix;
 use sparse_forms::csr::CsrMatrix;
-use sparse_op::{Op, OperationErrorKind};
 use sparse_ops::serial::{
-    add_csc, add_csr, neg_csc, neg_csr, scale_csc, scale_csr, spadd_csc_prealloc,
-    spadd_csr_prealloc, spadd_pattern, sub_csc, sub_csr,
+    add_csc, add_csr, neg_csc, neg_csr, scale_csc, scale_csr, spadd_pattern, sub_csc, sub_csr,
 };
-use std::alloc::Global;
+use sparse_pattern::pattern::SparsityPattern;
+use std::alloc::{AllocError, Global};
 use std::test::Fail;
 
-// The number of columns of a matrix, its offsets, its columns and its values.
-type Matrix<'a> = (usize, &'a [usize], &'a [usize], &'a [i32]);
-
-fn matrix(
-    alloc: Global,
-    (ncols, offsets, columns, numbers): Matrix<'_>,
-) -> Result<CsrMatrix<W64>, Fail> {
-    let values = scalars(alloc, numbers)?;
-    let nrows = offsets.len().saturating_sub(1);
-    csr(alloc, (nrows, ncols), offsets, columns, values.as_slice())
-}
-
-// Whether the matrix has these columns and values.
-fn holds(
-    alloc: Global,
-    m: &CsrMatrix<W64>,
-    columns: &[usize],
-    numbers: &[i32],
-) -> Result<bool, Fail> {
-    let values = scalars(alloc, numbers)?;
-    Ok(m.col_indices() == columns && m.values() == values.as_slice())
-}
-
-// Whether the sum and the difference have these columns and values, and the sum of the patterns these columns.
-fn adds(
-    alloc: Global,
-    a: &CsrMatrix<W64>,
-    b: &CsrMatrix<W64>,
-    columns: &[usize],
-    sums: &[i32],
-    differences: &[i32],
-) -> Result<bool, Fail> {
+fn sum(alloc: Global, (a, b): Pair) -> Result<CsrMatrix<W64>, Fail> {
     if a.nrows() != b.nrows() || a.ncols() != b.ncols() {
-        return Ok(false);
+        return Err(Fail::from("matrices of other sizes"));
     }
-    let sum = add_csr(alloc, a, b)?;
-    let difference = sub_csr(alloc, a, b)?;
-    let pattern = spadd_pattern(alloc, a.pattern(), b.pattern())?;
-    Ok(
-        holds(alloc, &sum, columns, sums)?
-            && holds(alloc, &difference, columns, differences)?
-            && pattern.minor_indices() == columns,
-    )
+    Ok(add_csr(alloc, &a, &b)?)
 }
 
-fn sums_are_right(alloc: Global) -> Result<bool, Fail> {
-    let triangle = matrix(alloc, (2, &[0, 2, 3], &[0, 1, 1], &[1, 2, 3]))?;
-    let left = matrix(alloc, (3, &[0, 2], &[0, 2], &[1, -2]))?;
-    let right = matrix(alloc, (3, &[0, 2], &[1, 2], &[5, 2]))?;
+fn difference(alloc: Global, (a, b): Pair) -> Result<CsrMatrix<W64>, Fail> {
+    if a.nrows() != b.nrows() || a.ncols() != b.ncols() {
+        return Err(Fail::from("matrices of other sizes"));
+    }
+    Ok(sub_csr(alloc, &a, &b)?)
+}
+
+fn sum_of_patterns(alloc: Global, (a, b): Pair) -> Result<SparsityPattern, Fail> {
+    if a.nrows() != b.nrows() || a.ncols() != b.ncols() {
+        return Err(Fail::from("matrices of other sizes"));
+    }
+    Ok(spadd_pattern(alloc, a.pattern(), b.pattern())?)
+}
+
+// The operands, the columns and values of their sum, and the values of their difference.
+type Case = (
+    (Arrays<'static>, Arrays<'static>),
+    &'static [usize],
+    &'static [i32],
+    &'static [i32],
+);
+
+const TRIANGLE: Arrays<'static> = (2, &[0, 2, 3], &[0, 1, 1], &[1, 2, 3]);
+
+const NO_ROWS: Arrays<'static> = (2, &[0], &[], &[]);
+
+const NO_COLUMNS: Arrays<'static> = (0, &[0, 0, 0], &[], &[]);
+
+const LEFT: Arrays<'static> = (3, &[0, 2], &[0, 2], &[1, -2]);
+
+const RIGHT: Arrays<'static> = (3, &[0, 2], &[1, 2], &[5, 2]);
+
+const CASES: [Case; 4] = [
+    ((TRIANGLE, TRIANGLE), &[0, 1, 1], &[2, 4, 6], &[0, 0, 0]),
     // A sum of zero stays stored, and the rest of the longer row follows.
-    Ok(
-        adds(
-            alloc,
-            &triangle,
-            &triangle,
-            &[0, 1, 1],
-            &[2, 4, 6],
-            &[0, 0, 0],
-        )? && adds(alloc, &left, &right, &[0, 1, 2], &[1, 5, 0], &[1, -5, -4])?,
-    )
+    ((LEFT, RIGHT), &[0, 1, 2], &[1, 5, 0], &[1, -5, -4]),
+    ((NO_ROWS, NO_ROWS), &[], &[], &[]),
+    ((NO_COLUMNS, NO_COLUMNS), &[], &[], &[]),
+];
+
+fn has_sum(alloc: Global, ((a, b), columns, sums, _): Case) -> Result<bool, Fail> {
+    Ok(holds(sum(alloc, pair(alloc, a, b)?)?, columns, sums))
 }
 
-fn empty_sums_are_right(alloc: Global) -> Result<bool, Fail> {
-    let no_rows = matrix(alloc, (2, &[0], &[], &[]))?;
-    let no_columns = matrix(alloc, (0, &[0, 0, 0], &[], &[]))?;
-    Ok(
-        adds(alloc, &no_rows, &no_rows, &[], &[], &[])?
-            && adds(alloc, &no_columns, &no_columns, &[], &[], &[])?,
-    )
+fn has_difference(alloc: Global, ((a, b), columns, _, differences): Case) -> Result<bool, Fail> {
+    Ok(holds(difference(alloc, pair(alloc, a, b)?)?, columns, differences))
+}
+
+fn has_sum_of_patterns(alloc: Global, ((a, b), columns, _, _): Case) -> Result<bool, Fail> {
+    let pattern = sum_of_patterns(alloc, pair(alloc, a, b)?)?;
+    Ok(pattern.minor_indices() == columns)
 }
 
 #[test]
 fn sums(rt: HostRuntime) -> Result<(), Fail> {
-    let right = sums_are_right(rt.alloc())?;
-    assert!(rt; right);
+    for case in CASES {
+        assert!(rt; has_sum(rt.alloc(), case)?);
+    }
     Ok(())
 }
 
 #[test]
-fn sums_without_rows_or_columns(rt: HostRuntime) -> Result<(), Fail> {
-    let right = empty_sums_are_right(rt.alloc())?;
-    assert!(rt; right);
+fn differences(rt: HostRuntime) -> Result<(), Fail> {
+    for case in CASES {
+        assert!(rt; has_difference(rt.alloc(), case)?);
+    }
     Ok(())
 }
 
-// In every other lane the two matrices share their only place: the lanes that are sampled to estimate the sum, 64 of 128.
-fn outgrows(alloc: Global) -> Result<bool, Fail> {
-    let mut offsets = vec![in alloc; 0]?;
+#[test]
+fn sums_of_patterns(rt: HostRuntime) -> Result<(), Fail> {
+    for case in CASES {
+        assert!(rt; has_sum_of_patterns(rt.alloc(), case)?);
+    }
+    Ok(())
+}
+
+// The numbers below `end`.
+fn numbers_below(alloc: Global, end: usize) -> Result<Vec<usize>, AllocError> {
+    let mut numbers = Vec::new(alloc);
+    for number in 0..end {
+        numbers.push(number)?;
+    }
+    Ok(numbers)
+}
+
+// The columns 0, 1, 0, 1 and so on.
+fn alternating_columns(alloc: Global) -> Result<Vec<usize>, AllocError> {
     let mut columns = Vec::new(alloc);
-    let mut sums = Vec::new(alloc);
     for lane in 0..128_usize {
-        offsets.push(lane + 1)?;
         columns.push(lane % 2)?;
-        if lane % 2 == 0 {
-            sums.push(3)?;
-        } else {
-            sums.push(1)?;
-            sums.push(2)?;
+    }
+    Ok(columns)
+}
+
+// In every other lane the two matrices share their only place: the lanes that are sampled to estimate the sum, 64 of 128.
+fn long_matrices(alloc: Global) -> Result<Pair, Fail> {
+    let offsets = numbers_below(alloc, 129)?;
+    let columns = alternating_columns(alloc)?;
+    let ones = (
+        2,
+        offsets.as_slice(),
+        [0; 128].as_slice(),
+        [1; 128].as_slice(),
+    );
+    let twos = (
+        2,
+        offsets.as_slice(),
+        columns.as_slice(),
+        [2; 128].as_slice(),
+    );
+    pair(alloc, ones, twos)
+}
+
+// Two lanes have the sum 3, and the values 1 and 2.
+fn is_long_sum(sum: &[W64]) -> bool {
+    for lanes in sum.chunks_exact(3) {
+        if !are(lanes, &[3, 1, 2]) {
+            return false;
         }
     }
-    let a = matrix(alloc, (2, &offsets, &[0; 128], &[1; 128]))?;
-    let b = matrix(alloc, (2, &offsets, &columns, &[2; 128]))?;
-    if a.nrows() != b.nrows() || a.ncols() != b.ncols() {
-        return Ok(false);
-    }
-    let sum = add_csr(alloc, &a, &b)?;
-    Ok(sum.nnz() == 192 && sum.values() == scalars(alloc, &sums)?.as_slice())
+    sum.len() == 192
 }
 
 #[test]
 fn a_sum_that_outgrows_its_estimate(rt: HostRuntime) -> Result<(), Fail> {
-    assert!(rt; outgrows(rt.alloc())?);
+    let sum = sum(rt.alloc(), long_matrices(rt.alloc())?)?;
+    assert!(rt; is_long_sum(sum.values()));
     Ok(())
 }
 
-// 2 C - op(A), with 5 and 6 in C and 3 in A at the second place.
-fn added_into(alloc: Global) -> Result<bool, Fail> {
-    let two = W64::new(2);
-    let minus = W64::new(-1);
-    let mut c = matrix(alloc, (2, &[0, 2], &[0, 1], &[5, 6]))?;
-    let mut again = c.clone(alloc)?;
-    let row = matrix(alloc, (2, &[0, 1], &[1], &[3]))?;
-    let column = matrix(alloc, (1, &[0, 0, 1], &[0], &[3]))?;
-    if c.nrows() != row.nrows() || c.ncols() != row.ncols() {
-        return Ok(false);
-    }
-    if again.nrows() != column.ncols() || again.ncols() != column.nrows() {
-        return Ok(false);
-    }
-    let plain = spadd_csr_prealloc(two, &mut c, minus, Op::NoOp(&row)).is_ok();
-    let turned = spadd_csr_prealloc(two, &mut again, minus, Op::Transpose(&column)).is_ok();
-    Ok(
-        plain
-            && turned
-            && holds(alloc, &c, &[0, 1], &[10, 9])?
-            && holds(alloc, &again, &[0, 1], &[10, 9])?,
-    )
-}
-
-// A has a stored zero at a place that C lacks.
-fn refused(alloc: Global) -> Result<bool, Fail> {
-    let mut c = matrix(alloc, (2, &[0, 1], &[0], &[5]))?;
-    let a = matrix(alloc, (2, &[0, 1], &[1], &[0]))?;
-    if c.nrows() != a.nrows() || c.ncols() != a.ncols() {
-        return Ok(false);
-    }
-    let said = match spadd_csr_prealloc(W64::new(2), &mut c, W64::new(1), Op::NoOp(&a)) {
-        Ok(()) => false,
-        Err(error) => {
-            *error.kind() == OperationErrorKind::InvalidPattern
-                && error.message() == "Found entry in `op(a)` that is not present in `c`."
-        }
-    };
-    Ok(said && holds(alloc, &c, &[0], &[5])?)
-}
-
-#[test]
-fn sums_into_a_matrix(rt: HostRuntime) -> Result<(), Fail> {
-    let right = added_into(rt.alloc())?;
-    assert!(rt; right);
-    Ok(())
-}
-
-#[test]
-fn a_refused_sum_leaves_its_target(rt: HostRuntime) -> Result<(), Fail> {
-    let right = refused(rt.alloc())?;
-    assert!(rt; right);
-    Ok(())
-}
-
-// The same arrays by columns: sums, differences, multiples and negatives.
-fn columns_are_right(alloc: Global) -> Result<bool, Fail> {
-    let a = matrix(alloc, (3, &[0, 2], &[0, 2], &[1, -2]))?.transpose_as_csc();
-    let b = matrix(alloc, (3, &[0, 2], &[1, 2], &[5, 2]))?.transpose_as_csc();
+// The same arrays by columns.
+fn sum_by_columns(alloc: Global, (a, b): Pair) -> Result<CscMatrix<W64>, Fail> {
+    let (a, b) = (a.transpose_as_csc(), b.transpose_as_csc());
     if a.nrows() != b.nrows() || a.ncols() != b.ncols() {
-        return Ok(false);
+        return Err(Fail::from("matrices of other sizes"));
     }
-    let sum = add_csc(alloc, &a, &b)?;
-    let difference = sub_csc(alloc, &a, &b)?;
-    Ok(
-        sum.values() == scalars(alloc, &[1, 5, 0])?.as_slice()
-            && difference.values() == scalars(alloc, &[1, -5, -4])?.as_slice()
-            && sum.row_indices() == [0, 1, 2].as_slice(),
-    )
+    Ok(add_csc(alloc, &a, &b)?)
 }
 
-fn columns_are_added_into(alloc: Global) -> Result<bool, Fail> {
-    let mut c = matrix(alloc, (2, &[0, 2], &[0, 1], &[5, 6]))?.transpose_as_csc();
-    let a = matrix(alloc, (2, &[0, 1], &[1], &[3]))?.transpose_as_csc();
-    if a.nrows() != c.nrows() || a.ncols() != c.ncols() {
-        return Ok(false);
+fn difference_by_columns(alloc: Global, (a, b): Pair) -> Result<CscMatrix<W64>, Fail> {
+    let (a, b) = (a.transpose_as_csc(), b.transpose_as_csc());
+    if a.nrows() != b.nrows() || a.ncols() != b.ncols() {
+        return Err(Fail::from("matrices of other sizes"));
     }
-    let done = spadd_csc_prealloc(W64::new(2), &mut c, W64::new(-1), Op::NoOp(&a)).is_ok();
-    Ok(done && c.values() == scalars(alloc, &[10, 9])?.as_slice())
+    Ok(sub_csc(alloc, &a, &b)?)
+}
+
+fn has_sum_by_columns(alloc: Global) -> Result<bool, Fail> {
+    let sum = sum_by_columns(alloc, pair(alloc, LEFT, RIGHT)?)?;
+    Ok(holds_by_columns(sum, &[0, 1, 2], &[1, 5, 0]))
+}
+
+fn has_difference_by_columns(alloc: Global) -> Result<bool, Fail> {
+    let difference = difference_by_columns(alloc, pair(alloc, LEFT, RIGHT)?)?;
+    Ok(holds_by_columns(difference, &[0, 1, 2], &[1, -5, -4]))
 }
 
 #[test]
 fn sums_by_columns(rt: HostRuntime) -> Result<(), Fail> {
-    let right = columns_are_right(rt.alloc())?;
-    assert!(rt; right);
+    assert!(rt; has_sum_by_columns(rt.alloc())? && has_difference_by_columns(rt.alloc())?);
     Ok(())
 }
 
-#[test]
-fn sums_into_columns(rt: HostRuntime) -> Result<(), Fail> {
-    let right = columns_are_added_into(rt.alloc())?;
-    assert!(rt; right);
-    Ok(())
-}
+const MULTIPLIED: Arrays<'static> = (2, &[0, 2, 3], &[0, 1, 1], &[1, 0, 3]);
 
 // Multiples and negatives: copies, and in place.
-fn multiples_are_right(alloc: Global) -> Result<bool, Fail> {
-    let a = matrix(alloc, (2, &[0, 2, 3], &[0, 1, 1], &[1, 0, 3]))?;
-    let three = W64::new(3);
-    let scaled = scale_csr(alloc, &a, three)?;
-    let negative = neg_csr(alloc, &a)?;
-    let mut owned = -a;
-    owned *= &three;
-    Ok(
-        holds(alloc, &scaled, &[0, 1, 1], &[3, 0, 9])?
-            && holds(alloc, &negative, &[0, 1, 1], &[-1, 0, -3])?
-            && holds(alloc, &owned, &[0, 1, 1], &[-3, 0, -9])?,
-    )
+fn has_multiple(alloc: Global) -> Result<bool, Fail> {
+    let a = matrix(alloc, MULTIPLIED)?;
+    Ok(holds(scale_csr(alloc, &a, W64::new(3))?, &[0, 1, 1], &[3, 0, 9]))
 }
 
-fn multiples_by_columns_are_right(alloc: Global) -> Result<bool, Fail> {
-    let a = matrix(alloc, (2, &[0, 2, 3], &[0, 1, 1], &[1, 0, 3]))?.transpose_as_csc();
-    let three = W64::new(3);
-    let scaled = scale_csc(alloc, &a, three)?;
-    let negative = neg_csc(alloc, &a)?;
-    let mut owned = -a;
-    owned *= three;
-    Ok(
-        scaled.values() == scalars(alloc, &[3, 0, 9])?.as_slice()
-            && negative.values() == scalars(alloc, &[-1, 0, -3])?.as_slice()
-            && owned.values() == scalars(alloc, &[-3, 0, -9])?.as_slice(),
-    )
+fn has_negative(alloc: Global) -> Result<bool, Fail> {
+    let a = matrix(alloc, MULTIPLIED)?;
+    Ok(holds(neg_csr(alloc, &a)?, &[0, 1, 1], &[-1, 0, -3]))
+}
+
+fn is_scaled_in_place(alloc: Global) -> Result<bool, Fail> {
+    let mut owned = -matrix(alloc, MULTIPLIED)?;
+    owned *= &W64::new(3);
+    Ok(holds(owned, &[0, 1, 1], &[-3, 0, -9]))
 }
 
 #[test]
 fn multiples(rt: HostRuntime) -> Result<(), Fail> {
-    let right = multiples_are_right(rt.alloc())?;
-    assert!(rt; right);
+    let copied = has_multiple(rt.alloc())? && has_negative(rt.alloc())?;
+    assert!(rt; copied && is_scaled_in_place(rt.alloc())?);
     Ok(())
+}
+
+fn has_multiple_by_columns(alloc: Global) -> Result<bool, Fail> {
+    let a = matrix(alloc, MULTIPLIED)?.transpose_as_csc();
+    Ok(holds_by_columns(scale_csc(alloc, &a, W64::new(3))?, &[0, 1, 1], &[3, 0, 9]))
+}
+
+fn has_negative_by_columns(alloc: Global) -> Result<bool, Fail> {
+    let a = matrix(alloc, MULTIPLIED)?.transpose_as_csc();
+    Ok(holds_by_columns(neg_csc(alloc, &a)?, &[0, 1, 1], &[-1, 0, -3]))
+}
+
+fn is_scaled_in_place_by_columns(alloc: Global) -> Result<bool, Fail> {
+    let mut owned = -matrix(alloc, MULTIPLIED)?.transpose_as_csc();
+    owned *= W64::new(3);
+    Ok(holds_by_columns(owned, &[0, 1, 1], &[-3, 0, -9]))
 }
 
 #[test]
 fn multiples_by_columns(rt: HostRuntime) -> Result<(), Fail> {
-    let right = multiples_by_columns_are_right(rt.alloc())?;
-    assert!(rt; right);
+    let copied = has_multiple_by_columns(rt.alloc())? && has_negative_by_columns(rt.alloc())?;
+    assert!(rt; copied && is_scaled_in_place_by_columns(rt.alloc())?);
     Ok(())
 }

@@ -1,0 +1,90 @@
+//! Sums into a given matrix.
+
+use crate::fixtures::{Answer, Arrays, holds, holds_by_columns, is_done, is_refused, pair};
+use sparse_algebra::scalar::{Ring, W64};
+use sparse_forms::csc::CscMatrix;
+use sparse_forms::csr::CsrMatrix;
+use sparse_op::Op;
+use sparse_ops::serial::{spadd_csc_prealloc, spadd_csr_prealloc};
+use std::alloc::Global;
+use std::test::Fail;
+
+// Adds A, scaled, to C, scaled, if the sizes fit.
+fn add<T: Ring>((beta, alpha): (T, T), c: &mut CsrMatrix<T>, a: &CsrMatrix<T>) -> Answer {
+    if c.nrows() != a.nrows() || c.ncols() != a.ncols() {
+        return None;
+    }
+    Some(spadd_csr_prealloc(beta, c, alpha, Op::NoOp(a)))
+}
+
+// The same with the transpose of A.
+fn add_turned<T: Ring>((beta, alpha): (T, T), c: &mut CsrMatrix<T>, a: &CsrMatrix<T>) -> Answer {
+    if c.nrows() != a.ncols() || c.ncols() != a.nrows() {
+        return None;
+    }
+    Some(spadd_csr_prealloc(beta, c, alpha, Op::Transpose(a)))
+}
+
+fn add_by_columns<T: Ring>(
+    (beta, alpha): (T, T),
+    c: &mut CscMatrix<T>,
+    a: &CscMatrix<T>,
+) -> Answer {
+    if a.nrows() != c.nrows() || a.ncols() != c.ncols() {
+        return None;
+    }
+    Some(spadd_csc_prealloc(beta, c, alpha, Op::NoOp(a)))
+}
+
+const TARGET: Arrays<'static> = (2, &[0, 2], &[0, 1], &[5, 6]);
+
+const ROW: Arrays<'static> = (2, &[0, 1], &[1], &[3]);
+
+const COLUMN: Arrays<'static> = (1, &[0, 0, 1], &[0], &[3]);
+
+// 2 C - A, with 5 and 6 in C and 3 in A at the second place.
+fn is_added(alloc: Global) -> Result<bool, Fail> {
+    let (mut c, a) = pair(alloc, TARGET, ROW)?;
+    let done = is_done(add((W64::new(2), W64::new(-1)), &mut c, &a));
+    Ok(done && holds(c, &[0, 1], &[10, 9]))
+}
+
+fn is_added_turned(alloc: Global) -> Result<bool, Fail> {
+    let (mut c, a) = pair(alloc, TARGET, COLUMN)?;
+    let done = is_done(add_turned((W64::new(2), W64::new(-1)), &mut c, &a));
+    Ok(done && holds(c, &[0, 1], &[10, 9]))
+}
+
+#[test]
+fn sums_into_a_matrix(rt: HostRuntime) -> Result<(), Fail> {
+    assert!(rt; is_added(rt.alloc())? && is_added_turned(rt.alloc())?);
+    Ok(())
+}
+
+// The same arrays by columns.
+fn is_added_by_columns(alloc: Global) -> Result<bool, Fail> {
+    let (c, a) = pair(alloc, TARGET, ROW)?;
+    let (mut c, a) = (c.transpose_as_csc(), a.transpose_as_csc());
+    let done = is_done(add_by_columns((W64::new(2), W64::new(-1)), &mut c, &a));
+    Ok(done && holds_by_columns(c, &[0, 1], &[10, 9]))
+}
+
+#[test]
+fn sums_into_columns(rt: HostRuntime) -> Result<(), Fail> {
+    assert!(rt; is_added_by_columns(rt.alloc())?);
+    Ok(())
+}
+
+// A has a stored zero at a place that C lacks.
+fn leaves_its_target(alloc: Global) -> Result<bool, Fail> {
+    let (mut c, a) = pair(alloc, (2, &[0, 1], &[0], &[5]), (2, &[0, 1], &[1], &[0]))?;
+    let answer = add((W64::new(2), W64::new(1)), &mut c, &a);
+    let refused = is_refused(answer, "Found entry in `op(a)` that is not present in `c`.");
+    Ok(refused && holds(c, &[0], &[5]))
+}
+
+#[test]
+fn a_refused_sum_leaves_its_target(rt: HostRuntime) -> Result<(), Fail> {
+    assert!(rt; leaves_its_target(rt.alloc())?);
+    Ok(())
+}
