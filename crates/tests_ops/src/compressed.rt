@@ -11,8 +11,7 @@ use sparse_convert::serial::{
 };
 use sparse_forms::csc::CscMatrix;
 use sparse_forms::csr::CsrMatrix;
-use std::alloc::Global;
-use std::process::Abort;
+use std::alloc::{AllocError, Global};
 use std::test::Fail;
 
 // The matrix 1 0 0, 0 4 0 by rows; the zero at the end of the first row is stored.
@@ -25,124 +24,141 @@ fn by_columns<T: Copy + Drop>(alloc: Global, values: [T; 3]) -> Result<CscMatrix
     Ok(csr(alloc, (3, 2), &[0, 1, 2, 3], &[0, 1, 0], &values)?.transpose_as_csc())
 }
 
+fn are_columns(csc: &CscMatrix<i32>, offsets: &[usize], indices: &[usize], values: &[i32]) -> bool {
+    csc.col_offsets() == offsets && csc.row_indices() == indices && csc.values() == values
+}
+
+// Whether rows become columns with these arrays, and the same rows again.
+fn become_columns_and_back(alloc: Global, csr: &CsrMatrix<i32>) -> Result<bool, AllocError> {
+    let csc = convert_csr_csc(alloc, csr)?;
+    Ok(
+        are_columns(&csc, &[0, 1, 2, 3], &[0, 1, 0], &[1, 4, 0])
+            && convert_csc_csr(alloc, &csc)? == *csr,
+    )
+}
+
 #[test]
 fn rows_to_columns_and_back(rt: HostRuntime) -> Result<(), Fail> {
     let csr = by_rows(rt.alloc(), [1, 0, 4])?;
-    let csc = convert_csr_csc(rt.alloc(), &csr)?;
-    assert_eq!(rt; csc.col_offsets(), [0, 1, 2, 3].as_slice());
-    assert_eq!(rt; csc.row_indices(), [0, 1, 0].as_slice());
-    assert_eq!(rt; csc.values(), [1, 4, 0].as_slice());
-    assert!(rt; convert_csc_csr(rt.alloc(), &csc)? == csr);
+    assert!(rt; become_columns_and_back(rt.alloc(), &csr)?);
     Ok(())
 }
 
-fn expect_list(
-    rt: &impl Abort,
-    coo: &CooMatrix<W64>,
-    rows: &[usize],
-    cols: &[usize],
-    values: &[W64],
-) {
-    assert_eq!(rt; (coo.nrows(), coo.ncols()), (2, 3));
-    assert_eq!(rt; coo.row_indices(), rows);
-    assert_eq!(rt; coo.col_indices(), cols);
-    assert_eq!(rt; coo.values(), values);
+fn is_list(coo: &CooMatrix<W64>, rows: &[usize], cols: &[usize], values: &[W64]) -> bool {
+    (coo.nrows(), coo.ncols()) == (2, 3)
+        && coo.row_indices() == rows
+        && coo.col_indices() == cols
+        && coo.values() == values
 }
 
-fn rows_to_a_list_and_back(rt: &impl Abort, alloc: Global, values: [i64; 3]) -> Result<(), Fail> {
-    let values = values.map(W64::new);
-    let csr = by_rows(alloc, values)?;
+// Whether the rows become a list with these values, and the same rows again.
+fn rows_become_a_list_and_back(alloc: Global, values: &[W64; 3]) -> Result<bool, Fail> {
+    let csr = by_rows(alloc, *values)?;
     let coo = convert_csr_coo(alloc, &csr)?;
-    expect_list(rt, &coo, &[0, 0, 1], &[0, 2, 1], &values);
-    assert!(rt; convert_coo_csr(alloc, &coo)? == csr);
-    Ok(())
+    let listed = is_list(&coo, &[0, 0, 1], &[0, 2, 1], values);
+    Ok(listed && convert_coo_csr(alloc, &coo)? == csr)
 }
 
-fn columns_to_a_list_and_back(
-    rt: &impl Abort,
-    alloc: Global,
-    values: [i64; 3],
-) -> Result<(), Fail> {
-    let values = values.map(W64::new);
-    let csc = by_columns(alloc, values)?;
+// The same of columns.
+fn columns_become_a_list_and_back(alloc: Global, values: &[W64; 3]) -> Result<bool, Fail> {
+    let csc = by_columns(alloc, *values)?;
     let coo = convert_csc_coo(alloc, &csc)?;
-    expect_list(rt, &coo, &[0, 1, 0], &[0, 1, 2], &values);
-    assert!(rt; convert_coo_csc(alloc, &coo)? == csc);
-    Ok(())
+    let listed = is_list(&coo, &[0, 1, 0], &[0, 1, 2], values);
+    Ok(listed && convert_coo_csc(alloc, &coo)? == csc)
 }
 
 #[test]
 fn to_lists_and_back(rt: HostRuntime) -> Result<(), Fail> {
     one_matrix_law::<W64>();
-    rows_to_a_list_and_back(&rt, rt.alloc(), [1, 0, 4])?;
-    columns_to_a_list_and_back(&rt, rt.alloc(), [1, 4, 0])
+    let rows = [W64::new(1), W64::new(0), W64::new(4)];
+    assert!(rt; rows_become_a_list_and_back(rt.alloc(), &rows)?);
+    let columns = [W64::new(1), W64::new(4), W64::new(0)];
+    assert!(rt; columns_become_a_list_and_back(rt.alloc(), &columns)?);
+    Ok(())
 }
 
-fn expect_dense(rt: &impl Abort, dense: &DMatrix<i32>, size: (usize, usize), values: &[i32]) {
-    assert_eq!(rt; (dense.nrows(), dense.ncols()), size);
-    assert_eq!(rt; dense.as_slice(), values);
+fn is_dense(dense: &DMatrix<i32>, size: (usize, usize), values: &[i32]) -> bool {
+    (dense.nrows(), dense.ncols()) == size && dense.as_slice() == values
+}
+
+fn dense_of_columns(alloc: Global) -> Result<DMatrix<i32>, Fail> {
+    Ok(convert_csc_dense(alloc, &by_columns(alloc, [1, 4, 0])?)?)
+}
+
+fn dense_of_rows(alloc: Global) -> Result<DMatrix<i32>, Fail> {
+    Ok(convert_csr_dense(alloc, &by_rows(alloc, [1, 0, 4])?)?)
+}
+
+// Whether the rows of the dense matrix have lost the stored zero.
+fn loses_the_stored_zero(alloc: Global, dense: &DMatrix<i32>) -> Result<bool, AllocError> {
+    let back = convert_dense_csr(alloc, dense)?;
+    Ok(
+        back.row_offsets() == [0, 1, 2].as_slice()
+            && back.col_indices() == [0, 1].as_slice()
+            && back.values() == [1, 4].as_slice(),
+    )
 }
 
 #[test]
 fn to_dense_matrices(rt: HostRuntime) -> Result<(), Fail> {
     to_dense_law::<W64>();
-    let columns = convert_csc_dense(rt.alloc(), &by_columns(rt.alloc(), [1, 4, 0])?)?;
-    expect_dense(&rt, &columns, (2, 3), &[1, 0, 0, 4, 0, 0]);
-    let rows = convert_csr_dense(rt.alloc(), &by_rows(rt.alloc(), [1, 0, 4])?)?;
-    expect_dense(&rt, &rows, (2, 3), &[1, 0, 0, 4, 0, 0]);
-    // The stored zero is lost.
-    let back = convert_dense_csr(rt.alloc(), &rows)?;
-    assert_eq!(rt; back.row_offsets(), [0, 1, 2].as_slice());
-    assert_eq!(rt; back.col_indices(), [0, 1].as_slice());
-    assert_eq!(rt; back.values(), [1, 4].as_slice());
+    let (columns, rows) = (dense_of_columns(rt.alloc())?, dense_of_rows(rt.alloc())?);
+    assert!(rt; is_dense(&columns, (2, 3), &[1, 0, 0, 4, 0, 0]));
+    assert!(rt; is_dense(&rows, (2, 3), &[1, 0, 0, 4, 0, 0]));
+    assert!(rt; loses_the_stored_zero(rt.alloc(), &rows)?);
     Ok(())
 }
 
-// The list and the dense matrix of a matrix without places.
-fn expect_empty(rt: &impl Abort, coo: &CooMatrix<i32>, dense: &DMatrix<i32>, size: (usize, usize)) {
-    assert_eq!(rt; (coo.nrows(), coo.ncols()), size);
-    assert_eq!(rt; coo.nnz(), 0);
-    expect_dense(rt, dense, size, &[]);
+// Whether this is the list of a matrix of this size without places.
+fn is_empty(coo: &CooMatrix<i32>, size: (usize, usize)) -> bool {
+    (coo.nrows(), coo.ncols()) == size && coo.nnz() == 0
 }
 
-fn expect_empty_rows(
-    rt: &impl Abort,
-    alloc: Global,
-    (nrows, ncols): (usize, usize),
-) -> Result<(), Fail> {
-    let csr = CsrMatrix::zeros(alloc, nrows, ncols)?;
-    let coo = convert_csr_coo(alloc, &csr)?;
-    expect_empty(rt, &coo, &convert_csr_dense(alloc, &csr)?, (nrows, ncols));
-    Ok(())
+// Whether rows of this size without places become an empty list and a dense matrix without values.
+fn empty_rows_are_converted(alloc: Global, size: (usize, usize)) -> Result<bool, AllocError> {
+    let csr = CsrMatrix::zeros(alloc, size.0, size.1)?;
+    let listed = is_empty(&convert_csr_coo(alloc, &csr)?, size);
+    Ok(listed && is_dense(&convert_csr_dense(alloc, &csr)?, size, &[]))
 }
 
-fn expect_empty_columns(
-    rt: &impl Abort,
-    alloc: Global,
-    (nrows, ncols): (usize, usize),
-) -> Result<(), Fail> {
-    let csc = CscMatrix::zeros(alloc, nrows, ncols)?;
-    let coo = convert_csc_coo(alloc, &csc)?;
-    expect_empty(rt, &coo, &convert_csc_dense(alloc, &csc)?, (nrows, ncols));
-    Ok(())
+// The same of columns.
+fn empty_columns_are_converted(alloc: Global, size: (usize, usize)) -> Result<bool, AllocError> {
+    let csc = CscMatrix::zeros(alloc, size.0, size.1)?;
+    let listed = is_empty(&convert_csc_coo(alloc, &csc)?, size);
+    Ok(listed && is_dense(&convert_csc_dense(alloc, &csc)?, size, &[]))
 }
 
 #[test]
 fn matrices_without_places(rt: HostRuntime) -> Result<(), Fail> {
     for size in [(0, 0), (0, 3), (3, 0)] {
-        expect_empty_rows(&rt, rt.alloc(), size)?;
-        expect_empty_columns(&rt, rt.alloc(), size)?;
+        let rows = empty_rows_are_converted(rt.alloc(), size)?;
+        assert!(rt; rows && empty_columns_are_converted(rt.alloc(), size)?);
     }
     Ok(())
 }
 
+fn rows_without_columns(alloc: Global) -> Result<CsrMatrix<W32>, AllocError> {
+    let coo = CooMatrix::new(alloc, 3, 0);
+    convert_coo_csr(alloc, &coo)
+}
+
+fn columns_without_rows(alloc: Global) -> Result<CscMatrix<W32>, AllocError> {
+    let coo = CooMatrix::new(alloc, 0, 2);
+    convert_coo_csc(alloc, &coo)
+}
+
+fn has_no_columns(alloc: Global) -> Result<bool, AllocError> {
+    let columns = convert_csr_csc(alloc, &rows_without_columns(alloc)?)?;
+    Ok(columns.col_offsets() == [0].as_slice())
+}
+
+fn has_no_rows(alloc: Global) -> Result<bool, AllocError> {
+    let rows = convert_csc_csr(alloc, &columns_without_rows(alloc)?)?;
+    Ok(rows.row_offsets() == [0].as_slice())
+}
+
 #[test]
 fn a_list_without_rows_or_columns(rt: HostRuntime) -> Result<(), Fail> {
-    let coo: CooMatrix<W32> = CooMatrix::new(rt.alloc(), 3, 0);
-    let columns = convert_csr_csc(rt.alloc(), &convert_coo_csr(rt.alloc(), &coo)?)?;
-    assert_eq!(rt; columns.col_offsets(), [0].as_slice());
-    let coo: CooMatrix<W32> = CooMatrix::new(rt.alloc(), 0, 2);
-    let rows = convert_csc_csr(rt.alloc(), &convert_coo_csc(rt.alloc(), &coo)?)?;
-    assert_eq!(rt; rows.row_offsets(), [0].as_slice());
+    assert!(rt; has_no_columns(rt.alloc())? && has_no_rows(rt.alloc())?);
     Ok(())
 }

@@ -1,51 +1,60 @@
 //! Dense matrices, converted.
 
 use sparse_algebra::scalar::W64;
-use sparse_base::coo::CooMatrix;
 use sparse_base::dense::DMatrix;
 use sparse_convert::serial::{
     convert_dense_coo, convert_dense_csc, convert_dense_csr, from_dense_law,
 };
-use sparse_forms::csc::CscMatrix;
-use sparse_forms::csr::CsrMatrix;
-use std::alloc::Global;
-use std::process::Abort;
+use std::alloc::{AllocError, Global};
 use std::test::Fail;
 
 // Offsets, indices and values.
 type Lanes<'a> = (&'a [usize], &'a [usize], &'a [i32]);
 
-fn expect_list(rt: &impl Abort, coo: &CooMatrix<i32>, list: Lanes<'_>) {
-    assert_eq!(rt; coo.row_indices(), list.0);
-    assert_eq!(rt; coo.col_indices(), list.1);
-    assert_eq!(rt; coo.values(), list.2);
+// Whether the dense matrix becomes a list of its sizes with these rows, columns and values.
+fn becomes_list(
+    alloc: Global,
+    dense: &DMatrix<i32>,
+    (rows, columns, values): Lanes<'_>,
+) -> Result<bool, AllocError> {
+    let coo = convert_dense_coo(alloc, dense)?;
+    Ok(
+        (coo.nrows(), coo.ncols()) == (dense.nrows(), dense.ncols())
+            && coo.row_indices() == rows
+            && coo.col_indices() == columns
+            && coo.values() == values,
+    )
 }
 
-fn expect_rows(rt: &impl Abort, csr: &CsrMatrix<i32>, rows: Lanes<'_>) {
-    assert_eq!(rt; csr.row_offsets(), rows.0);
-    assert_eq!(rt; csr.col_indices(), rows.1);
-    assert_eq!(rt; csr.values(), rows.2);
+fn becomes_rows(
+    alloc: Global,
+    dense: &DMatrix<i32>,
+    (offsets, columns, values): Lanes<'_>,
+) -> Result<bool, AllocError> {
+    let csr = convert_dense_csr(alloc, dense)?;
+    Ok(csr.row_offsets() == offsets && csr.col_indices() == columns && csr.values() == values)
 }
 
-fn expect_columns(rt: &impl Abort, csc: &CscMatrix<i32>, columns: Lanes<'_>) {
-    assert_eq!(rt; csc.col_offsets(), columns.0);
-    assert_eq!(rt; csc.row_indices(), columns.1);
-    assert_eq!(rt; csc.values(), columns.2);
+fn becomes_columns(
+    alloc: Global,
+    dense: &DMatrix<i32>,
+    (offsets, rows, values): Lanes<'_>,
+) -> Result<bool, AllocError> {
+    let csc = convert_dense_csc(alloc, dense)?;
+    Ok(csc.col_offsets() == offsets && csc.row_indices() == rows && csc.values() == values)
 }
 
-// Converts a dense matrix to a list, rows and columns, and compares their arrays.
-fn expect(
-    rt: &impl Abort,
+// Whether the dense matrix becomes this list, these rows and these columns.
+fn becomes(
     alloc: Global,
     dense: &DMatrix<i32>,
     [list, rows, columns]: [Lanes<'_>; 3],
-) -> Result<(), Fail> {
-    let coo = convert_dense_coo(alloc, dense)?;
-    assert_eq!(rt; (coo.nrows(), coo.ncols()), (dense.nrows(), dense.ncols()));
-    expect_list(rt, &coo, list);
-    expect_rows(rt, &convert_dense_csr(alloc, dense)?, rows);
-    expect_columns(rt, &convert_dense_csc(alloc, dense)?, columns);
-    Ok(())
+) -> Result<bool, AllocError> {
+    Ok(
+        becomes_list(alloc, dense, list)?
+            && becomes_rows(alloc, dense, rows)?
+            && becomes_columns(alloc, dense, columns)?,
+    )
 }
 
 #[test]
@@ -54,7 +63,8 @@ fn zeros_are_left_out(rt: HostRuntime) -> Result<(), Fail> {
     let list: Lanes<'_> = (&[0, 1, 0], &[0, 1, 2], &[1, 5, 3]);
     let rows: Lanes<'_> = (&[0, 2, 3], &[0, 2, 1], &[1, 3, 5]);
     let columns: Lanes<'_> = (&[0, 1, 2, 3], &[0, 1, 0], &[1, 5, 3]);
-    expect(&rt, rt.alloc(), &dense, [list, rows, columns])
+    assert!(rt; becomes(rt.alloc(), &dense, [list, rows, columns])?);
+    Ok(())
 }
 
 #[test]
@@ -71,7 +81,7 @@ fn nothing_is_left_of_zeros(rt: HostRuntime) -> Result<(), Fail> {
         let dense = DMatrix::zeros(rt.alloc(), nrows, ncols)?;
         let rows: Lanes<'_> = (row_offsets, &[], &[]);
         let columns: Lanes<'_> = (col_offsets, &[], &[]);
-        expect(&rt, rt.alloc(), &dense, [(&[], &[], &[]), rows, columns])?;
+        assert!(rt; becomes(rt.alloc(), &dense, [(&[], &[], &[]), rows, columns])?);
     }
     Ok(())
 }
@@ -81,6 +91,6 @@ fn scalars_without_zeros(rt: HostRuntime) -> Result<(), Fail> {
     from_dense_law::<W64>();
     let dense = DMatrix::repeat(rt.alloc(), 1, 2, W64::new(4))?;
     let csr = convert_dense_csr(rt.alloc(), &dense)?;
-    assert_eq!(rt; csr.col_indices(), [0, 1].as_slice());
+    assert!(rt; csr.col_indices() == [0, 1].as_slice());
     Ok(())
 }

@@ -31,6 +31,19 @@ pub fn scalars<T: Scalar>(alloc: Global, numbers: &[i32]) -> Result<Vec<T>, Allo
     Ok(values)
 }
 
+/// Whether the values are these numbers.
+pub fn are<T: Scalar>(values: &[T], numbers: &[i32]) -> bool {
+    if values.len() != numbers.len() {
+        return false;
+    }
+    for (value, number) in values.iter().zip(numbers) {
+        if *value != T::of(*number) {
+            return false;
+        }
+    }
+    true
+}
+
 /// The list of these triplets, in this order.
 pub fn list<T: Scalar>(
     alloc: Global,

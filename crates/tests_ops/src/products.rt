@@ -1,11 +1,10 @@
 //! Products, and patterns of products.
 
-use crate::fixtures::{Scalar, csr, scalars};
-use sparse_algebra::scalar::{W32, W64};
+use crate::fixtures::{Scalar, are, csr, scalars};
+use sparse_algebra::scalar::{Ring, W32, W64};
 use sparse_forms::csr::CsrMatrix;
 use sparse_ops::serial::{mul_csr, spmm_csr_pattern};
-use std::alloc::Global;
-use std::process::Abort;
+use std::alloc::{AllocError, Global};
 use std::test::Fail;
 
 // The number of columns of a matrix, its offsets, its columns and its values.
@@ -23,33 +22,47 @@ fn matrix<T: Scalar>(alloc: Global, matrix: Matrix<'_>) -> Result<CsrMatrix<T>, 
     )
 }
 
-// The product of two matrices, and its pattern, have these arrays.
-fn expect_product<T: Scalar>(
-    rt: &impl Abort,
+// The product of two matrices whose sizes fit.
+fn product<T: Ring>(
     alloc: Global,
     a: &CsrMatrix<T>,
     b: &CsrMatrix<T>,
-    (ncols, offsets, columns, numbers): Matrix<'_>,
-) -> Result<(), Fail> {
-    assert_eq!(rt; a.ncols(), b.nrows());
-    let pattern = spmm_csr_pattern(alloc, a.pattern(), b.pattern())?;
-    assert_eq!(rt; pattern.minor_indices(), columns);
-    let product = mul_csr(alloc, a, b)?;
-    assert_eq!(rt; product.ncols(), ncols);
-    assert_eq!(rt; product.row_offsets(), offsets);
-    assert_eq!(rt; product.col_indices(), columns);
-    assert!(rt; product.values() == scalars::<T>(alloc, numbers)?.as_slice());
-    Ok(())
+) -> Result<CsrMatrix<T>, Fail> {
+    if a.ncols() != b.nrows() {
+        return Err(Fail::from("factors of other sizes"));
+    }
+    Ok(mul_csr(alloc, a, b)?)
 }
 
-fn expect<T: Scalar>(
-    rt: &impl Abort,
+// Whether the pattern of the product has these columns.
+fn has_columns<T: Ring>(
     alloc: Global,
-    [left, right, product]: [Matrix<'_>; 3],
-) -> Result<(), Fail> {
+    a: &CsrMatrix<T>,
+    b: &CsrMatrix<T>,
+    columns: &[usize],
+) -> Result<bool, Fail> {
+    if a.ncols() != b.nrows() {
+        return Err(Fail::from("factors of other sizes"));
+    }
+    let pattern = spmm_csr_pattern(alloc, a.pattern(), b.pattern())?;
+    Ok(pattern.minor_indices() == columns)
+}
+
+fn holds<T: Scalar>(matrix: &CsrMatrix<T>, (ncols, offsets, columns, numbers): Matrix<'_>) -> bool {
+    matrix.ncols() == ncols
+        && matrix.row_offsets() == offsets
+        && matrix.col_indices() == columns
+        && are(matrix.values(), numbers)
+}
+
+// Whether the product of the first two matrices is the third, and its pattern that of the third.
+fn is_product<T: Scalar>(
+    alloc: Global,
+    [left, right, want]: [Matrix<'_>; 3],
+) -> Result<bool, Fail> {
     let a = matrix::<T>(alloc, left)?;
     let b = matrix::<T>(alloc, right)?;
-    expect_product(rt, alloc, &a, &b, product)
+    Ok(has_columns(alloc, &a, &b, want.2)? && holds(&product(alloc, &a, &b)?, want))
 }
 
 #[test]
@@ -84,8 +97,7 @@ fn products(rt: HostRuntime) -> Result<(), Fail> {
         ],
     ];
     for case in cases {
-        expect::<W32>(&rt, rt.alloc(), case)?;
-        expect::<W64>(&rt, rt.alloc(), case)?;
+        assert!(rt; is_product::<W32>(rt.alloc(), case)? && is_product::<W64>(rt.alloc(), case)?);
     }
     Ok(())
 }
@@ -105,66 +117,77 @@ fn sums_and_products_wrap(rt: HostRuntime) -> Result<(), Fail> {
         ],
     ];
     for case in cases {
-        expect::<W32>(&rt, rt.alloc(), case)?;
+        assert!(rt; is_product::<W32>(rt.alloc(), case)?);
     }
     Ok(())
 }
 
-// `b` has a million ones: all even columns in its even rows, all odd ones in its odd rows. The rows of `a` are all ones, and ones in the even
-// columns. A product of this size goes row by row.
-fn large_factors(alloc: Global) -> Result<(CsrMatrix<W64>, CsrMatrix<W64>), Fail> {
-    let mut offsets = vec![in alloc; 0]?;
+// A million columns: all even ones in the even rows, all odd ones in the odd rows.
+fn even_and_odd_columns(alloc: Global) -> Result<Vec<usize>, AllocError> {
     let mut columns = Vec::new(alloc);
     for k in 0..2000 {
         for j in 0..500 {
             columns.push(2 * j + k % 2)?;
         }
-        offsets.push(columns.len())?;
     }
+    Ok(columns)
+}
+
+// The first `count` multiples of `step`.
+fn multiples(alloc: Global, count: usize, step: usize) -> Result<Vec<usize>, AllocError> {
+    let mut numbers = Vec::new(alloc);
+    for number in 0..count {
+        numbers.push(number.wrapping_mul(step))?;
+    }
+    Ok(numbers)
+}
+
+// All columns below `count`, and then all even ones.
+fn all_and_even_columns(alloc: Global, count: usize) -> Result<Vec<usize>, AllocError> {
+    let mut columns = multiples(alloc, count, 1)?;
+    for number in 0..count / 2 {
+        columns.push(2 * number)?;
+    }
+    Ok(columns)
+}
+
+// The matrix of ones of these arrays.
+fn ones(
+    alloc: Global,
+    size: (usize, usize),
+    offsets: &[usize],
+    columns: &[usize],
+) -> Result<CsrMatrix<W64>, Fail> {
     let ones = vec![in alloc; W64::new(1); columns.len()]?;
-    let b = csr(alloc, (2000, 1000), &offsets, &columns, ones.as_slice())?;
-    let mut columns = Vec::new(alloc);
-    for k in 0..2000 {
-        columns.push(k)?;
-    }
-    for k in 0..1000 {
-        columns.push(2 * k)?;
-    }
-    let ones = vec![in alloc; W64::new(1); columns.len()]?;
-    let a = csr(
-        alloc,
-        (2, 2000),
-        &[0, 2000, 3000],
-        &columns,
-        ones.as_slice(),
-    )?;
-    Ok((a, b))
+    csr(alloc, size, offsets, columns, ones.as_slice())
+}
+
+// Two rows: ones in all columns, and in the even ones.
+fn left_factor(alloc: Global) -> Result<CsrMatrix<W64>, Fail> {
+    let columns = all_and_even_columns(alloc, 2000)?;
+    ones(alloc, (2, 2000), &[0, 2000, 3000], &columns)
+}
+
+// 2000 rows: ones in the even columns of the even rows, and in the odd ones of the odd rows. A product of this size goes row by row.
+fn right_factor(alloc: Global) -> Result<CsrMatrix<W64>, Fail> {
+    let offsets = multiples(alloc, 2001, 500)?;
+    let columns = even_and_odd_columns(alloc)?;
+    ones(alloc, (2000, 1000), &offsets, &columns)
 }
 
 // The first row of the product is 1000 in all columns, the second in the even ones.
-fn is_large_product(alloc: Global) -> Result<bool, Fail> {
-    let (a, b) = large_factors(alloc)?;
-    if a.ncols() != b.nrows() {
-        return Ok(false);
-    }
-    let product = mul_csr(alloc, &a, &b)?;
-    let mut columns = Vec::new(alloc);
-    for j in 0..1000 {
-        columns.push(j)?;
-    }
-    for j in 0..500 {
-        columns.push(2 * j)?;
-    }
-    let values = vec![in alloc; W64::new(1000); 1500]?;
+fn is_large_product(alloc: Global, product: &CsrMatrix<W64>) -> Result<bool, Fail> {
+    let columns = all_and_even_columns(alloc, 1000)?;
     Ok(
         product.row_offsets() == [0, 1000, 1500].as_slice()
             && product.col_indices() == columns.as_slice()
-            && product.values() == values.as_slice(),
+            && are(product.values(), &[1000; 1500]),
     )
 }
 
 #[test]
 fn a_large_product(rt: HostRuntime) -> Result<(), Fail> {
-    assert!(rt; is_large_product(rt.alloc())?);
+    let (left, right) = (left_factor(rt.alloc())?, right_factor(rt.alloc())?);
+    assert!(rt; is_large_product(rt.alloc(), &product(rt.alloc(), &left, &right)?)?);
     Ok(())
 }
