@@ -36,12 +36,25 @@ impl<const M: u64> Scalar for Mod<M> {
     }
 }
 
-pub fn scalars<T: Scalar>(alloc: Global, numbers: &[i32]) -> Result<Vec<T>, AllocError> {
+fn scalars<T: Scalar>(alloc: Global, numbers: &[i32]) -> Result<Vec<T>, AllocError> {
     let mut values = Vec::new(alloc);
     for number in numbers {
         values.push(T::of(*number))?;
     }
     Ok(values)
+}
+
+/// Whether the values are these numbers.
+pub fn are<T: Scalar>(values: &[T], numbers: &[i32]) -> bool {
+    if values.len() != numbers.len() {
+        return false;
+    }
+    for (value, number) in values.iter().zip(numbers) {
+        if *value != T::of(*number) {
+            return false;
+        }
+    }
+    true
 }
 
 /// The number of rows and of columns, the offsets, the indices and the values of a matrix by rows.

@@ -1,9 +1,10 @@
 //! Products of a sparse and a dense matrix.
 
-use crate::fixtures::{Arrays, Scalar, csr, dense, scalars, update_by_columns, update_by_rows};
+use crate::fixtures::{Arrays, Scalar, are, csr, dense, update_by_columns, update_by_rows};
 use sparse_algebra::scalar::{W32, W64};
 use sparse_base::dense::DMatrix;
 use sparse_dense::{mul_csc_dense, mul_csr_dense};
+use sparse_forms::csc::CscMatrix;
 use sparse_forms::csr::CsrMatrix;
 use sparse_op::Op;
 use sparse_units::Mod;
@@ -136,29 +137,61 @@ const UPDATES: &[Update] = &[
     ),
 ];
 
-// Whether the update leaves the values that are wanted. The transpose of a matrix by rows is the other one of the same matrix by columns.
-fn is_right(alloc: Global, update: &Update, by_columns: bool) -> Result<bool, Fail> {
+// Whether the update by rows leaves the values that are wanted.
+fn is_right_by_rows(alloc: Global, update: &Update) -> Result<bool, Fail> {
     let (arrays, (turned, b_turned), (beta, alpha), (size, c), (b_size, b), want) = *update;
-    let a: CsrMatrix<W64> = csr(alloc, arrays)?;
-    let mut c: DMatrix<W64> = dense(alloc, size, c)?;
+    let a = csr(alloc, arrays)?;
+    let mut c = dense(alloc, size, c)?;
     let b = dense(alloc, b_size, b)?;
     let (beta, alpha) = (W64::of(beta), W64::of(alpha));
-    let fits = if by_columns {
-        let a = a.transpose_as_csc();
-        update_by_columns(beta, &mut c, alpha, op_of(!turned, &a), op_of(b_turned, &b))
-    } else {
-        update_by_rows(beta, &mut c, alpha, op_of(turned, &a), op_of(b_turned, &b))
-    };
-    Ok(fits && c.as_slice() == scalars::<W64>(alloc, want)?.as_slice())
+    let fits = update_by_rows(beta, &mut c, alpha, op_of(turned, &a), op_of(b_turned, &b));
+    Ok(fits && are(c.as_slice(), want))
+}
+
+// The same by columns. The transpose of a matrix by rows is the other one of the same matrix by columns.
+fn is_right_by_columns(alloc: Global, update: &Update) -> Result<bool, Fail> {
+    let (arrays, (turned, b_turned), (beta, alpha), (size, c), (b_size, b), want) = *update;
+    let a = csr(alloc, arrays)?.transpose_as_csc();
+    let mut c = dense(alloc, size, c)?;
+    let b = dense(alloc, b_size, b)?;
+    let (beta, alpha) = (W64::of(beta), W64::of(alpha));
+    let fits = update_by_columns(beta, &mut c, alpha, op_of(!turned, &a), op_of(b_turned, &b));
+    Ok(fits && are(c.as_slice(), want))
 }
 
 #[test]
 fn updates(rt: HostRuntime) -> Result<(), Fail> {
     for update in UPDATES {
-        let right = is_right(rt.alloc(), update, false)? && is_right(rt.alloc(), update, true)?;
-        assert!(rt; right);
+        let by_rows = is_right_by_rows(rt.alloc(), update)?;
+        assert!(rt; by_rows && is_right_by_columns(rt.alloc(), update)?);
     }
     Ok(())
+}
+
+// Whether the product of a matrix by rows and a column has these values.
+fn multiplies_by_rows<T: Scalar>(
+    alloc: Global,
+    a: &CsrMatrix<T>,
+    b: &DMatrix<T>,
+    want: &[i32],
+) -> Result<bool, Fail> {
+    if a.ncols() != b.nrows() {
+        return Ok(false);
+    }
+    Ok(are(mul_csr_dense(alloc, a, b)?.as_slice(), want))
+}
+
+// The same by columns.
+fn multiplies_by_columns<T: Scalar>(
+    alloc: Global,
+    a: &CscMatrix<T>,
+    b: &DMatrix<T>,
+    want: &[i32],
+) -> Result<bool, Fail> {
+    if a.ncols() != b.nrows() {
+        return Ok(false);
+    }
+    Ok(are(mul_csc_dense(alloc, a, b)?.as_slice(), want))
 }
 
 // Whether both products of a matrix and a column have these values.
@@ -168,38 +201,30 @@ fn multiplies<T: Scalar>(
     column: &[i32],
     want: &[i32],
 ) -> Result<bool, Fail> {
-    let a: CsrMatrix<T> = csr(alloc, arrays)?;
+    let a = csr::<T>(alloc, arrays)?;
     let b = dense(alloc, (column.len(), 1), column)?;
-    let want: Vec<T> = scalars(alloc, want)?;
-    if a.ncols() != b.nrows() {
-        return Ok(false);
-    }
-    let by_rows = mul_csr_dense(alloc, &a, &b)?;
+    let by_rows = multiplies_by_rows(alloc, &a, &b, want)?;
     let turned = a.transpose(alloc)?.transpose_as_csc();
-    if turned.ncols() != b.nrows() {
-        return Ok(false);
-    }
-    let by_columns = mul_csc_dense(alloc, &turned, &b)?;
-    Ok(by_rows.as_slice() == want.as_slice() && by_columns.as_slice() == want.as_slice())
+    Ok(by_rows && multiplies_by_columns(alloc, &turned, &b, want)?)
 }
+
+// Matrices over wrapping integers, columns, and the products.
+const WRAPPING: [(Arrays<'static>, &[i32], &[i32]); 3] = [
+    (
+        (1, 3, &[0, 3], &[0, 1, 2], &[2147483647, 1, -1]),
+        &[1, 1, 1],
+        &[2147483647],
+    ),
+    ((1, 1, &[0, 1], &[0], &[2147483647]), &[2], &[-2]),
+    (A, &[4, 5, 6], &[16, 15]),
+];
 
 #[test]
 fn products(rt: HostRuntime) -> Result<(), Fail> {
-    let wrapping: &[(Arrays<'_>, &[i32], &[i32])] = &[
-        (
-            (1, 3, &[0, 3], &[0, 1, 2], &[2147483647, 1, -1]),
-            &[1, 1, 1],
-            &[2147483647],
-        ),
-        ((1, 1, &[0, 1], &[0], &[2147483647]), &[2], &[-2]),
-        (A, &[4, 5, 6], &[16, 15]),
-    ];
-    for (arrays, column, want) in wrapping {
-        let right = multiplies::<W32>(rt.alloc(), *arrays, column, want)?;
-        assert!(rt; right);
+    for (arrays, column, want) in WRAPPING {
+        assert!(rt; multiplies::<W32>(rt.alloc(), arrays, column, want)?);
     }
-    let right = multiplies::<Mod<7>>(rt.alloc(), F, &[3, 5], &[6, 1])?;
-    assert!(rt; right);
+    assert!(rt; multiplies::<Mod<7>>(rt.alloc(), F, &[3, 5], &[6, 1])?);
     Ok(())
 }
 
