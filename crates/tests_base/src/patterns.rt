@@ -7,7 +7,6 @@ use SparsityPatternFormatError::{
 use sparse_pattern::error::{SparseFormatError, SparseFormatErrorKind};
 use sparse_pattern::pattern::{SparsityPattern, SparsityPatternFormatError};
 use std::alloc::{AllocError, Global};
-use std::test::Fail;
 
 pub fn pattern_of(
     alloc: Global,
@@ -24,7 +23,16 @@ pub fn pattern_of(
     ))
 }
 
-const FAULTS: [(usize, usize, &[usize], &[usize], SparsityPatternFormatError); 9] = [
+// The sizes and the arrays that are given, and the fault.
+type Fault = (
+    usize,
+    usize,
+    &'static [usize],
+    &'static [usize],
+    SparsityPatternFormatError,
+);
+
+const FAULTS: [Fault; 9] = [
     (3, 6, &[0, 10, 2, 5], &[0, 5, 1, 2, 3], NonmonotonicOffsets),
     (usize::MAX, 0, &[0], &[], InvalidOffsetArrayLength),
     (0, 0, &[], &[], InvalidOffsetArrayLength),
@@ -54,17 +62,28 @@ const FAULTS: [(usize, usize, &[usize], &[usize], SparsityPatternFormatError); 9
     (3, 6, &[0, 2, 2, 5], &[0, 5, 2, 2, 3], DuplicateEntry),
 ];
 
+fn is_refused(alloc: Global, fault: &Fault) -> Result<bool, AllocError> {
+    let answer = pattern_of(alloc, fault.0, fault.1, fault.2, fault.3)?;
+    Ok(answer.err() == Some(fault.4))
+}
+
 #[test]
-fn the_first_fault_is_named(rt: HostRuntime) -> Result<(), Fail> {
-    for (major_dim, minor_dim, offsets, indices, fault) in FAULTS {
-        let answer = pattern_of(rt.alloc(), major_dim, minor_dim, offsets, indices)?;
-        assert_eq!(rt;
-            answer.err().ok_or("taken")?,
-            fault,
-            "{offsets:?}, {indices:?}"
-        );
+fn the_first_fault_is_named(rt: HostRuntime) {
+    for fault in &FAULTS {
+        assert!(rt; is_refused(rt.alloc(), fault) == Ok(true));
     }
-    Ok(())
+}
+
+// The pattern of valid arrays.
+pub fn valid_pattern(
+    alloc: Global,
+    sizes: (usize, usize),
+    offsets: &[usize],
+    indices: &[usize],
+) -> Option<SparsityPattern> {
+    pattern_of(alloc, sizes.0, sizes.1, offsets, indices)
+        .ok()?
+        .ok()
 }
 
 fn iterates_over(pattern: &SparsityPattern, places: &[(usize, usize)]) -> bool {
@@ -78,45 +97,58 @@ fn iterates_over(pattern: &SparsityPattern, places: &[(usize, usize)]) -> bool {
     entries.next() == None && entries.next() == None
 }
 
-fn places_and_lanes_are_read(alloc: Global) -> Result<bool, Fail> {
-    let pattern = pattern_of(alloc, 3, 6, &[0, 2, 2, 5], &[0, 5, 1, 2, 3])??;
-    let places = [(0, 0), (0, 5), (2, 1), (2, 2), (2, 3)];
-    Ok(
-        iterates_over(&pattern, &places)
-            && pattern.get_lane(0) == Some([0, 5].as_slice())
-            && pattern.get_lane(3) == None,
-    )
+const OFFSETS: &[usize] = &[0, 2, 2, 5];
+
+const INDICES: &[usize] = &[0, 5, 1, 2, 3];
+
+const PLACES: &[(usize, usize)] = &[(0, 0), (0, 5), (2, 1), (2, 2), (2, 3)];
+
+fn places_and_lanes_are_read(pattern: SparsityPattern) -> bool {
+    iterates_over(&pattern, PLACES)
+        && pattern.get_lane(0) == Some([0, 5].as_slice())
+        && pattern.get_lane(3) == None
 }
 
-fn a_copy_is_equal_and_has_the_data(alloc: Global) -> Result<bool, Fail> {
-    let pattern = pattern_of(alloc, 3, 6, &[0, 2, 2, 5], &[0, 5, 1, 2, 3])??;
-    let copy = pattern.clone(alloc)?;
-    let is_equal = copy == pattern;
-    let (offsets, indices) = copy.disassemble();
-    Ok(
-        is_equal
-            && offsets.as_slice() == [0, 2, 2, 5].as_slice()
-            && indices.as_slice() == [0, 5, 1, 2, 3].as_slice(),
-    )
+fn a_copy_is_equal(alloc: Global, pattern: &SparsityPattern) -> bool {
+    pattern.clone(alloc).is_ok_and(|copy| copy == *pattern)
 }
 
-fn zeros_have_sizes_alone(alloc: Global) -> Result<bool, Fail> {
-    let empty = pattern_of(alloc, 0, 0, &[0], &[])??;
+fn a_copy_has_the_data(alloc: Global, pattern: &SparsityPattern) -> Result<bool, AllocError> {
+    let (offsets, indices) = pattern.clone(alloc)?.disassemble();
+    Ok(offsets.as_slice() == OFFSETS && indices.as_slice() == INDICES)
+}
+
+fn zeros_without_lanes(alloc: Global, empty: SparsityPattern) -> bool {
+    SparsityPattern::zeros(alloc, 0, 0).is_ok_and(|zeros| zeros == empty)
+}
+
+fn zeros_have_sizes_alone(alloc: Global) -> Result<bool, AllocError> {
     let wide = SparsityPattern::zeros(alloc, 2, usize::MAX)?.clone(alloc)?;
     Ok(
-        empty == SparsityPattern::zeros(alloc, 0, 0)?
-            && wide.major_offsets() == [0, 0, 0].as_slice()
-            && (wide.nnz(), wide.minor_dim()) == (0, usize::MAX),
+        wide.major_offsets() == [0, 0, 0].as_slice()
+            && wide.nnz() == 0
+            && wide.minor_dim() == usize::MAX,
+    )
+}
+
+fn a_valid_pattern_is_read_and_copied(alloc: Global) -> Option<bool> {
+    let pattern = valid_pattern(alloc, (3, 6), OFFSETS, INDICES)?;
+    Some(
+        a_copy_is_equal(alloc, &pattern)
+            && a_copy_has_the_data(alloc, &pattern) == Ok(true)
+            && places_and_lanes_are_read(pattern),
     )
 }
 
 #[test]
-fn valid_data_is_taken(rt: HostRuntime) -> Result<(), Fail> {
-    assert!(rt; places_and_lanes_are_read(rt.alloc())?);
-    assert!(rt; a_copy_is_equal_and_has_the_data(rt.alloc())?);
-    assert!(rt; zeros_have_sizes_alone(rt.alloc())?);
-    assert!(rt; SparsityPattern::zeros(rt.alloc(), usize::MAX, 0).is_err());
-    Ok(())
+fn valid_data_is_taken(rt: HostRuntime) {
+    let alloc = rt.alloc();
+    assert!(rt; a_valid_pattern_is_read_and_copied(alloc) == Some(true));
+    assert!(rt;
+        valid_pattern(alloc, (0, 0), &[0], &[]).is_some_and(|p| zeros_without_lanes(alloc, p))
+    );
+    assert!(rt; zeros_have_sizes_alone(alloc) == Ok(true));
+    assert!(rt; SparsityPattern::zeros(alloc, usize::MAX, 0).is_err());
 }
 
 const TEXTS: [(SparsityPatternFormatError, &str, SparseFormatErrorKind); 6] = [
@@ -161,6 +193,19 @@ fn has_text_and_kind(
     Ok(error.to_string(alloc)?.as_str() == text && *error.kind() == kind)
 }
 
+/// Whether there is an error, with this text and this kind.
+pub fn is_error(
+    alloc: Global,
+    error: Option<SparseFormatError>,
+    text: &str,
+    kind: SparseFormatErrorKind,
+) -> Result<bool, AllocError> {
+    match error {
+        Some(error) => has_text_and_kind(alloc, error, text, kind),
+        None => Ok(false),
+    }
+}
+
 fn fault_has_text_and_kind(
     alloc: Global,
     fault: SparsityPatternFormatError,
@@ -177,15 +222,14 @@ fn fault_has_text_and_kind(
 }
 
 #[test]
-fn faults_have_texts_and_kinds(rt: HostRuntime) -> Result<(), Fail> {
+fn faults_have_texts_and_kinds(rt: HostRuntime) {
     for (fault, text, kind) in TEXTS {
         assert!(rt;
-            fault_has_text_and_kind(rt.alloc(), fault, text, kind)?,
+            fault_has_text_and_kind(rt.alloc(), fault, text, kind) == Ok(true),
             "{text}"
         );
     }
     let refused = SparseFormatError::from(AllocError);
     let (text, kind) = ("Out of memory.", SparseFormatErrorKind::OutOfMemory);
-    assert!(rt; has_text_and_kind(rt.alloc(), refused, text, kind)?);
-    Ok(())
+    assert!(rt; has_text_and_kind(rt.alloc(), refused, text, kind) == Ok(true));
 }

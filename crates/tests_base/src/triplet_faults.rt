@@ -1,12 +1,12 @@
 //! Faults of triplet lists, and the values of refused lists.
 
+use crate::patterns::is_error;
 use crate::triplets::coo_of;
 use SparseFormatErrorKind::{IndexOutOfBounds, InvalidStructure};
 use sparse_base::coo::CooMatrix;
 use sparse_pattern::error::SparseFormatErrorKind;
 use std::alloc::{AllocError, Global};
 use std::rc::Rc;
-use std::test::Fail;
 
 const MAX: usize = usize::MAX;
 
@@ -89,15 +89,16 @@ const FAULTS: [Fault; 7] = [
     ),
 ];
 
+fn is_refused(alloc: Global, fault: &Fault) -> Result<bool, AllocError> {
+    let answer = coo_of(alloc, fault.0, fault.1, fault.2, fault.3, fault.4)?;
+    is_error(alloc, answer.err(), fault.6, fault.5)
+}
+
 #[test]
-fn the_first_fault_is_named(rt: HostRuntime) -> Result<(), Fail> {
-    for (nrows, ncols, rows, cols, values, kind, text) in FAULTS {
-        let answer = coo_of(rt.alloc(), nrows, ncols, rows, cols, values)?;
-        let error = answer.err().ok_or("taken")?;
-        assert_eq!(rt; *error.kind(), kind);
-        assert_eq!(rt; error.to_string(rt.alloc())?.as_str(), text);
+fn the_first_fault_is_named(rt: HostRuntime) {
+    for fault in &FAULTS {
+        assert!(rt; is_refused(rt.alloc(), fault) == Ok(true), "{}", fault.6);
     }
-    Ok(())
 }
 
 // How many values are left of three copies that a refused list is given.
@@ -121,7 +122,7 @@ fn copies_after_refusal(
 
 // No clause sees values that are neither kept nor dropped.
 #[test]
-fn a_refused_list_drops_its_values(rt: HostRuntime) -> Result<(), Fail> {
+fn a_refused_list_drops_its_values(rt: HostRuntime) {
     let cases: [(usize, &[usize], &[usize]); 4] = [
         (3, &[0, 1, 2], &[0, 1]),
         (3, &[0, 1], &[0, 1]),
@@ -129,10 +130,6 @@ fn a_refused_list_drops_its_values(rt: HostRuntime) -> Result<(), Fail> {
         (3, &[0, 1, 2], &[0, 1, 2]),
     ];
     for (nrows, rows, cols) in cases {
-        assert_eq!(rt;
-            copies_after_refusal(rt.alloc(), nrows, rows, cols)?,
-            Some(1)
-        );
+        assert!(rt; copies_after_refusal(rt.alloc(), nrows, rows, cols) == Ok(Some(1)));
     }
-    Ok(())
 }

@@ -1,11 +1,11 @@
 //! Triplet lists: pushing, iterators, and copies.
 
+use crate::patterns::is_error;
 use SparseFormatErrorKind::IndexOutOfBounds;
 use sparse_algebra::scalar::{Ring, W64};
 use sparse_base::coo::CooMatrix;
 use sparse_pattern::error::{SparseFormatError, SparseFormatErrorKind};
 use std::alloc::{AllocError, Global};
-use std::test::Fail;
 
 const MAX: usize = usize::MAX;
 
@@ -43,56 +43,71 @@ fn capacities(
 
 // A vector that grew while triplets were pushed has another capacity than before.
 #[test]
-fn reserved_triplets_are_pushed_without_growth(rt: HostRuntime) -> Result<(), Fail> {
-    let before = capacities(rt.alloc(), 3, 0)?;
-    assert!(rt; before.0 >= 3 && before.1 >= 3 && before.2 >= 3);
-    assert_eq!(rt; capacities(rt.alloc(), 3, 3)?, before);
-    assert_eq!(rt; capacities(rt.alloc(), 0, 0)?, (0, 0, 0));
-    Ok(())
+fn reserved_triplets_are_pushed_without_growth(rt: HostRuntime) {
+    let before = capacities(rt.alloc(), 3, 0);
+    assert!(rt; before.is_ok_and(|(rows, cols, values)| rows >= 3 && cols >= 3 && values >= 3));
+    assert!(rt; capacities(rt.alloc(), 3, 3) == before);
+    assert!(rt; capacities(rt.alloc(), 0, 0) == Ok((0, 0, 0)));
 }
 
 // A long list does not run out of memory.
 #[test]
-fn a_long_list_is_pushed_and_copied(rt: HostRuntime) -> Result<(), Fail> {
-    let mut matrix = CooMatrix::new(rt.alloc(), 1, 1);
+fn a_long_list_is_pushed_and_copied(rt: HostRuntime) {
+    assert!(rt; long_list(rt.alloc()).is_ok_and(|list| is_copied(rt.alloc(), list)));
+}
+
+fn is_copied(alloc: Global, list: CooMatrix<i32>) -> bool {
+    list.clone(alloc)
+        .is_ok_and(|copy| copy.nnz() == 5000 && copy == list)
+}
+
+fn long_list(alloc: Global) -> Result<CooMatrix<i32>, AllocError> {
+    let mut list = CooMatrix::new(alloc, 1, 1);
     for number in 0..5000 {
-        matrix.push(0, 0, number)?;
+        list.push(0, 0, number)?;
     }
-    let copy = matrix.clone(rt.alloc())?;
-    assert_eq!(rt; copy.nnz(), 5000);
-    assert!(rt; copy == matrix);
-    Ok(())
+    Ok(list)
 }
 
 const ROWS: [usize; 3] = [1, 1, 0];
 
 const COLS: [usize; 3] = [2, 2, MAX - 1];
 
-fn other_lists_differ(alloc: Global) -> Result<bool, Fail> {
-    let matrix = coo_of(alloc, 3, MAX, &ROWS, &COLS, &[5, -5, 7])??;
-    let reordered = coo_of(alloc, 3, MAX, &ROWS, &COLS, &[-5, 5, 7])??;
-    let without_triplets = CooMatrix::zeros(alloc, 3, MAX).clone(alloc)?;
-    Ok(without_triplets != matrix && reordered != matrix)
+// The list with these values.
+fn with_values(alloc: Global, values: &[i32]) -> Option<CooMatrix<i32>> {
+    coo_of(alloc, 3, MAX, &ROWS, &COLS, values).ok()?.ok()
 }
 
-fn a_copy_is_equal_and_has_the_triplets(alloc: Global) -> Result<bool, Fail> {
-    let matrix = coo_of(alloc, 3, MAX, &ROWS, &COLS, &[5, -5, 7])??;
-    let copy = matrix.clone(alloc)?;
-    let is_equal = copy == matrix;
-    let (rows, cols, values) = copy.disassemble();
-    Ok(
-        is_equal
-            && rows.as_slice() == ROWS.as_slice()
+fn another_order_differs(alloc: Global) -> Option<bool> {
+    Some(with_values(alloc, &[-5, 5, 7])? != with_values(alloc, &[5, -5, 7])?)
+}
+
+fn zeros_differ(alloc: Global) -> Option<bool> {
+    let without_triplets = CooMatrix::zeros(alloc, 3, MAX).clone(alloc).ok()?;
+    Some(without_triplets != with_values(alloc, &[5, -5, 7])?)
+}
+
+fn a_copy_is_equal(alloc: Global) -> Option<bool> {
+    let matrix = with_values(alloc, &[5, -5, 7])?;
+    Some(matrix.clone(alloc).ok()? == matrix)
+}
+
+fn a_copy_has_the_triplets(alloc: Global) -> Option<bool> {
+    let matrix = with_values(alloc, &[5, -5, 7])?;
+    let (rows, cols, values) = matrix.clone(alloc).ok()?.disassemble();
+    Some(
+        rows.as_slice() == ROWS.as_slice()
             && cols.as_slice() == COLS.as_slice()
             && values.as_slice() == [5, -5, 7].as_slice(),
     )
 }
 
 #[test]
-fn lists_are_equal_in_sizes_order_and_values(rt: HostRuntime) -> Result<(), Fail> {
-    assert!(rt; other_lists_differ(rt.alloc())?);
-    assert!(rt; a_copy_is_equal_and_has_the_triplets(rt.alloc())?);
-    Ok(())
+fn lists_are_equal_in_sizes_order_and_values(rt: HostRuntime) {
+    assert!(rt; another_order_differs(rt.alloc()) == Some(true));
+    assert!(rt; zeros_differ(rt.alloc()) == Some(true));
+    assert!(rt; a_copy_is_equal(rt.alloc()) == Some(true));
+    assert!(rt; a_copy_has_the_triplets(rt.alloc()) == Some(true));
 }
 
 fn cleared_lists_keep_their_sizes(alloc: Global) -> Result<bool, AllocError> {
@@ -138,11 +153,10 @@ fn values_are_lent_in_order(alloc: Global) -> Result<bool, AllocError> {
 }
 
 #[test]
-fn triplets_are_pushed_cleared_and_read(rt: HostRuntime) -> Result<(), Fail> {
-    assert!(rt; cleared_lists_keep_their_sizes(rt.alloc())?);
-    assert!(rt; an_iterator_is_copied_where_it_stands(rt.alloc())?);
-    assert!(rt; values_are_lent_in_order(rt.alloc())?);
-    Ok(())
+fn triplets_are_pushed_cleared_and_read(rt: HostRuntime) {
+    assert!(rt; cleared_lists_keep_their_sizes(rt.alloc()) == Ok(true));
+    assert!(rt; an_iterator_is_copied_where_it_stands(rt.alloc()) == Ok(true));
+    assert!(rt; values_are_lent_in_order(rt.alloc()) == Ok(true));
 }
 
 fn doubled(alloc: Global) -> Result<CooMatrix<W64>, AllocError> {
@@ -157,17 +171,19 @@ fn doubled(alloc: Global) -> Result<CooMatrix<W64>, AllocError> {
 }
 
 #[test]
-fn values_are_doubled_in_place(rt: HostRuntime) -> Result<(), Fail> {
-    let matrix = doubled(rt.alloc())?;
-    let values = [W64::new(10), W64::new(-14), W64::new(-2)];
-    let same_rows = matrix.row_indices() == [1, 0, 1].as_slice();
-    let same_columns = matrix.col_indices() == [2, 1, 2].as_slice();
-    assert!(rt; same_rows && same_columns && matrix.values() == values.as_slice());
-    Ok(())
+fn values_are_doubled_in_place(rt: HostRuntime) {
+    assert!(rt; doubled(rt.alloc()).is_ok_and(is_doubled));
 }
 
-fn triplets_are_taken_in_order(alloc: Global) -> Result<bool, Fail> {
-    let given = vec![in alloc; (1, 2, 5), (0, 1, 7), (1, 2, -5)]?;
+fn is_doubled(matrix: CooMatrix<W64>) -> bool {
+    let values = [W64::new(10), W64::new(-14), W64::new(-2)];
+    matrix.row_indices() == [1, 0, 1].as_slice()
+        && matrix.col_indices() == [2, 1, 2].as_slice()
+        && matrix.values() == values.as_slice()
+}
+
+fn triplets_are_taken_in_order(alloc: Global) -> Result<bool, SparseFormatError> {
+    let given = [(1, 2, 5), (0, 1, 7), (1, 2, -5)].to_vec(alloc)?;
     let matrix = CooMatrix::try_from_triplets_iter(alloc, 2, 3, given.into_iter())?;
     Ok(
         matrix.row_indices() == [1, 0, 1].as_slice()
@@ -176,7 +192,7 @@ fn triplets_are_taken_in_order(alloc: Global) -> Result<bool, Fail> {
     )
 }
 
-fn no_triplets_are_taken(alloc: Global) -> Result<bool, Fail> {
+fn no_triplets_are_taken(alloc: Global) -> Result<bool, SparseFormatError> {
     let none: Vec<(usize, usize, i32)> = Vec::new(alloc);
     Ok(CooMatrix::try_from_triplets_iter(alloc, 0, 0, none.into_iter())?.nnz() == 0)
 }
@@ -185,20 +201,22 @@ fn triplets_are_refused(
     alloc: Global,
     triplets: [(usize, usize, i32); 2],
     text: &str,
-) -> Result<bool, Fail> {
+) -> Result<bool, AllocError> {
     let given = triplets.to_vec(alloc)?;
     let answer = CooMatrix::try_from_triplets_iter(alloc, 2, 3, given.into_iter());
-    let error = answer.err().ok_or("taken")?;
-    Ok(*error.kind() == IndexOutOfBounds && error.to_string(alloc)?.as_str() == text)
+    is_error(alloc, answer.err(), text, IndexOutOfBounds)
 }
 
 #[test]
-fn an_iterator_is_taken_or_refused(rt: HostRuntime) -> Result<(), Fail> {
+fn an_iterator_is_taken_or_refused(rt: HostRuntime) {
     let past_rows = [(0, 3, 5), (2, 0, 7)];
     let past_columns = [(1, 2, 5), (0, 3, 7)];
-    assert!(rt; triplets_are_taken_in_order(rt.alloc())?);
-    assert!(rt; no_triplets_are_taken(rt.alloc())?);
-    assert!(rt; triplets_are_refused(rt.alloc(), past_rows, "Row index out of bounds.")?);
-    assert!(rt; triplets_are_refused(rt.alloc(), past_columns, "Col index out of bounds.")?);
-    Ok(())
+    assert!(rt; triplets_are_taken_in_order(rt.alloc()).ok() == Some(true));
+    assert!(rt; no_triplets_are_taken(rt.alloc()).ok() == Some(true));
+    assert!(rt;
+        triplets_are_refused(rt.alloc(), past_rows, "Row index out of bounds.") == Ok(true)
+    );
+    assert!(rt;
+        triplets_are_refused(rt.alloc(), past_columns, "Col index out of bounds.") == Ok(true)
+    );
 }
