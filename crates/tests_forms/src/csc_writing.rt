@@ -7,7 +7,6 @@ ghost use Rattle.sparse_cs.specs.Writing.{with_lane};
 use crate::fixtures::{BY_COLUMNS, csc};
 use sparse_forms::csc::{CscColMut, CscMatrix};
 use sparse_pattern::entry::{SparseEntry, SparseEntryMut};
-use std::test::Fail;
 
 // Writes through an entry, where the matrix has the place.
 fn write_where_stored(matrix: &mut CscMatrix<i32>, row: usize, col: usize, value: i32) {
@@ -44,7 +43,10 @@ enum Place {
     PositionInColumn(usize, usize),
 }
 
-const WRITES: [(Place, i32, [i32; 3]); 6] = [
+// A place, the value written there, and the values that the example has then.
+type Write = (Place, i32, [i32; 3]);
+
+const WRITES: &[Write] = &[
     (Place::PositionInColumn(1, 0), 7, [1, 7, 0]),
     (Place::EntryOfColumn(1, 1), 9, [1, 9, 0]),
     (Place::Entry(0, 2), 5, [1, 4, 5]),
@@ -67,14 +69,17 @@ fn write(matrix: &mut CscMatrix<i32>, place: Place, value: i32) {
     }
 }
 
+// Whether the values are those wanted once the value of the case is written.
+fn is_written(mut matrix: CscMatrix<i32>, case: &Write) -> bool {
+    write(&mut matrix, case.0, case.1);
+    matrix.values() == case.2.as_slice()
+}
+
 #[test]
-fn writes_by_columns(rt: HostRuntime) -> Result<(), Fail> {
-    for (place, value, want) in WRITES {
-        let mut matrix = csc(rt.alloc(), BY_COLUMNS)?;
-        write(&mut matrix, place, value);
-        assert!(rt; matrix.values() == want.as_slice());
+fn writes_by_columns(rt: HostRuntime) {
+    for case in WRITES {
+        assert!(rt; csc(rt.alloc(), BY_COLUMNS).is_ok_and(|matrix| is_written(matrix, case)));
     }
-    Ok(())
 }
 
 // Whether a column for writing is the last one, whose zero is stored in row 0.
@@ -121,12 +126,14 @@ fn fill_slices(matrix: &mut CscMatrix<i32>) -> bool {
 }
 
 #[test]
-fn a_column_for_writing(rt: HostRuntime) -> Result<(), Fail> {
-    let mut matrix = csc(rt.alloc(), BY_COLUMNS)?;
-    assert!(rt; fill_last_column(&mut matrix));
-    assert!(rt; matrix.values() == [1, 4, 8].as_slice());
-    assert!(rt; fill_slices(&mut matrix));
-    Ok(())
+fn a_column_for_writing(rt: HostRuntime) {
+    assert!(rt; csc(rt.alloc(), BY_COLUMNS).is_ok_and(column_and_slices_are_filled));
+}
+
+fn column_and_slices_are_filled(mut matrix: CscMatrix<i32>) -> bool {
+    fill_last_column(&mut matrix)
+        && matrix.values() == [1, 4, 8].as_slice()
+        && fill_slices(&mut matrix)
 }
 
 // Writes 9 into each column whose first row is 1, and 5 into the others.
@@ -172,13 +179,19 @@ fn rows_for_writing_are(matrix: &mut CscMatrix<i32>, lanes: [&[usize]; 3]) -> bo
 }
 
 #[test]
-fn iterators_for_writing_by_columns(rt: HostRuntime) -> Result<(), Fail> {
-    let mut matrix = csc(rt.alloc(), BY_COLUMNS)?;
+fn iterators_for_writing_by_columns(rt: HostRuntime) {
+    assert!(rt; csc(rt.alloc(), BY_COLUMNS).is_ok_and(is_doubled));
+    assert!(rt; csc(rt.alloc(), BY_COLUMNS).is_ok_and(columns_are_filled));
+}
+
+// Whether the values of the example are doubled, and its triplets for writing are in order.
+fn is_doubled(mut matrix: CscMatrix<i32>) -> bool {
     double(&mut matrix);
-    assert!(rt; matrix.values() == [2, 8, 0].as_slice());
-    assert!(rt; places_for_writing_are(&mut matrix, [(0, 0), (1, 1), (0, 2)]));
+    matrix.values() == [2, 8, 0].as_slice()
+        && places_for_writing_are(&mut matrix, [(0, 0), (1, 1), (0, 2)])
+}
+
+fn columns_are_filled(mut matrix: CscMatrix<i32>) -> bool {
     fill_columns(&mut matrix);
-    assert!(rt; matrix.values() == [5, 9, 5].as_slice());
-    assert!(rt; rows_for_writing_are(&mut matrix, [&[0], &[1], &[0]]));
-    Ok(())
+    matrix.values() == [5, 9, 5].as_slice() && rows_for_writing_are(&mut matrix, [&[0], &[1], &[0]])
 }

@@ -9,7 +9,6 @@ use crate::fixtures::{BY_ROWS, csr, wrapping_csr};
 use sparse_algebra::scalar::{Ring, W64};
 use sparse_forms::csr::{CsrMatrix, CsrRowMut};
 use sparse_pattern::entry::{SparseEntry, SparseEntryMut};
-use std::test::Fail;
 
 // What is left after a write through an entry: another value at its own place, or nothing changed.
 fn write_entry<T: Copy>(matrix: &mut CsrMatrix<T>, row: usize, col: usize, value: T)
@@ -67,7 +66,10 @@ enum Place {
     PositionInRow(usize, usize),
 }
 
-const WRITES: [(Place, i32, [i32; 3]); 8] = [
+// A place, the value written there, and the values that the example has then.
+type Write = (Place, i32, [i32; 3]);
+
+const WRITES: &[Write] = &[
     (Place::IndexedEntry(1, 1), 9, [1, 0, 9]),
     (Place::First, 3, [3, 0, 4]),
     (Place::PositionInRow(0, 1), 7, [1, 7, 4]),
@@ -96,14 +98,17 @@ fn write(matrix: &mut CsrMatrix<i32>, place: Place, value: i32) {
     }
 }
 
+// Whether the values are those wanted once the value of the case is written.
+fn is_written(mut matrix: CsrMatrix<i32>, case: &Write) -> bool {
+    write(&mut matrix, case.0, case.1);
+    matrix.values() == case.2.as_slice()
+}
+
 #[test]
-fn writes_by_rows(rt: HostRuntime) -> Result<(), Fail> {
-    for (place, value, want) in WRITES {
-        let mut matrix = csr(rt.alloc(), BY_ROWS)?;
-        write(&mut matrix, place, value);
-        assert!(rt; matrix.values() == want.as_slice());
+fn writes_by_rows(rt: HostRuntime) {
+    for case in WRITES {
+        assert!(rt; csr(rt.alloc(), BY_ROWS).is_ok_and(|matrix| is_written(matrix, case)));
     }
-    Ok(())
 }
 
 // Whether a row for writing is the row 1 . 0.
@@ -150,12 +155,14 @@ fn fill_slices(matrix: &mut CsrMatrix<i32>) -> bool {
 }
 
 #[test]
-fn a_row_for_writing(rt: HostRuntime) -> Result<(), Fail> {
-    let mut matrix = csr(rt.alloc(), BY_ROWS)?;
-    assert!(rt; fill_first_row(&mut matrix));
-    assert!(rt; matrix.values() == [8, 8, 4].as_slice());
-    assert!(rt; fill_slices(&mut matrix));
-    Ok(())
+fn a_row_for_writing(rt: HostRuntime) {
+    assert!(rt; csr(rt.alloc(), BY_ROWS).is_ok_and(row_and_slices_are_filled));
+}
+
+fn row_and_slices_are_filled(mut matrix: CsrMatrix<i32>) -> bool {
+    fill_first_row(&mut matrix)
+        && matrix.values() == [8, 8, 4].as_slice()
+        && fill_slices(&mut matrix)
 }
 
 // Doubles each value through its triplet.
@@ -190,13 +197,16 @@ fn writes_wrapping_values(mut matrix: CsrMatrix<W64>) -> bool {
 }
 
 #[test]
-fn triplets_for_writing_by_rows(rt: HostRuntime) -> Result<(), Fail> {
-    let mut matrix = csr(rt.alloc(), BY_ROWS)?;
+fn triplets_for_writing_by_rows(rt: HostRuntime) {
+    assert!(rt; csr(rt.alloc(), BY_ROWS).is_ok_and(is_doubled));
+    assert!(rt; wrapping_csr(rt.alloc()).is_ok_and(writes_wrapping_values));
+}
+
+// Whether the values of the example are doubled, and its triplets for writing are in order.
+fn is_doubled(mut matrix: CsrMatrix<i32>) -> bool {
     double(&mut matrix);
-    assert!(rt; matrix.values() == [2, 0, 8].as_slice());
-    assert!(rt; places_for_writing_are(&mut matrix, [(0, 0), (0, 2), (1, 1)]));
-    assert!(rt; writes_wrapping_values(wrapping_csr(rt.alloc())?));
-    Ok(())
+    matrix.values() == [2, 0, 8].as_slice()
+        && places_for_writing_are(&mut matrix, [(0, 0), (0, 2), (1, 1)])
 }
 
 // Writes 9 into each row of one value, and 5 into the others.
@@ -228,12 +238,14 @@ fn columns_for_writing_are(matrix: &mut CsrMatrix<W64>, lanes: [&[usize]; 3]) ->
 }
 
 #[test]
-fn rows_for_writing(rt: HostRuntime) -> Result<(), Fail> {
-    let w = W64::new;
-    let values = [w(2), w(3), w(4)];
-    let mut matrix = csr(rt.alloc(), (3, 2, &[0, 1, 1, 3], &[1, 0, 1], &values))?;
+fn rows_for_writing(rt: HostRuntime) {
+    let values = [W64::new(2), W64::new(3), W64::new(4)];
+    let matrix = csr(rt.alloc(), (3, 2, &[0, 1, 1, 3], &[1, 0, 1], &values));
+    assert!(rt; matrix.is_ok_and(rows_are_filled));
+}
+
+fn rows_are_filled(mut matrix: CsrMatrix<W64>) -> bool {
     fill_rows(&mut matrix);
-    assert!(rt; matrix.values() == [w(9), w(5), w(5)].as_slice());
-    assert!(rt; columns_for_writing_are(&mut matrix, [&[1], &[], &[0, 1]]));
-    Ok(())
+    matrix.values() == [W64::new(9), W64::new(5), W64::new(5)].as_slice()
+        && columns_for_writing_are(&mut matrix, [&[1], &[], &[0, 1]])
 }

@@ -5,13 +5,11 @@ use sparse_algebra::scalar::{W64, Zero};
 use sparse_forms::csc::CscMatrix;
 use sparse_forms::csr::CsrMatrix;
 use sparse_pattern::entry::{SparseEntry, SparseEntryMut};
-use std::process::Abort;
-use std::test::Fail;
 
 // A row and a column, with the value there, zero where it isn't stored, and whether it is: `None` out of bounds.
 type Entry = (usize, usize, Option<(i32, bool)>);
 
-const ENTRIES: [Entry; 6] = [
+const ENTRIES: &[Entry] = &[
     (0, 2, Some((0, true))),
     (1, 1, Some((4, true))),
     (0, 1, Some((0, false))),
@@ -43,49 +41,62 @@ fn indexed_by_columns(matrix: &CscMatrix<i32>, row: usize, col: usize) -> Option
     value_of(Some(matrix.index_entry(row, col)))
 }
 
-// Whether both forms of the example have this entry.
-fn have_entry(
-    by_rows: &CsrMatrix<i32>,
-    by_columns: &CscMatrix<i32>,
-    (row, col, want): Entry,
-) -> bool {
-    value_of(by_rows.get_entry(row, col)) == want
-        && value_of(by_columns.get_entry(row, col)) == want
-        && indexed_by_rows(by_rows, row, col) == want
-        && indexed_by_columns(by_columns, row, col) == want
+// Whether the example by rows has its arrays and its entries.
+fn has_entries_by_rows(matrix: CsrMatrix<i32>) -> bool {
+    for (row, col, want) in ENTRIES {
+        if value_of(matrix.get_entry(*row, *col)) != *want
+            || indexed_by_rows(&matrix, *row, *col) != *want
+        {
+            return false;
+        }
+    }
+    matrix.csr_data() == (BY_ROWS.2, BY_ROWS.3, BY_ROWS.4)
 }
 
-// Whether both forms of the example over wrapping integers have this entry.
-fn have_wrapping_entry(
-    by_rows: &CsrMatrix<W64>,
-    by_columns: &CscMatrix<W64>,
-    (row, col, want): Entry,
-) -> bool {
-    let want = want.map(|entry| (W64::new(entry.0 as i64), entry.1));
-    value_of(by_rows.get_entry(row, col)) == want
-        && value_of(by_columns.get_entry(row, col)) == want
+// The same by columns.
+fn has_entries_by_columns(matrix: CscMatrix<i32>) -> bool {
+    for (row, col, want) in ENTRIES {
+        if value_of(matrix.get_entry(*row, *col)) != *want
+            || indexed_by_columns(&matrix, *row, *col) != *want
+        {
+            return false;
+        }
+    }
+    matrix.csc_data() == (BY_COLUMNS.2, BY_COLUMNS.3, BY_COLUMNS.4)
+}
+
+// An entry over wrapping integers.
+fn wrapped(entry: Option<(i32, bool)>) -> Option<(W64, bool)> {
+    let (value, stored) = entry?;
+    Some((W64::new(value as i64), stored))
+}
+
+// Whether the example by rows has its entries over wrapping integers.
+fn has_wrapping_entries_by_rows(matrix: CsrMatrix<W64>) -> bool {
+    for (row, col, want) in ENTRIES {
+        if value_of(matrix.get_entry(*row, *col)) != wrapped(*want) {
+            return false;
+        }
+    }
+    true
+}
+
+// The same by columns.
+fn has_wrapping_entries_by_columns(matrix: CscMatrix<W64>) -> bool {
+    for (row, col, want) in ENTRIES {
+        if value_of(matrix.get_entry(*row, *col)) != wrapped(*want) {
+            return false;
+        }
+    }
+    true
 }
 
 #[test]
-fn stored_and_missing_entries(rt: HostRuntime) -> Result<(), Fail> {
-    let by_rows = csr(rt.alloc(), BY_ROWS)?;
-    let by_columns = csc(rt.alloc(), BY_COLUMNS)?;
-    assert!(rt; by_rows.csr_data() == (BY_ROWS.2, BY_ROWS.3, BY_ROWS.4));
-    assert!(rt; by_columns.csc_data() == (BY_COLUMNS.2, BY_COLUMNS.3, BY_COLUMNS.4));
-    for entry in ENTRIES {
-        assert!(rt; have_entry(&by_rows, &by_columns, entry));
-    }
-    expect_wrapping_entries(&rt)
-}
-
-// Compares the entries of the example over wrapping integers.
-fn expect_wrapping_entries(rt: &(impl Abort + AllocGlobal)) -> Result<(), Fail> {
-    let by_rows = wrapping_csr(rt.alloc())?;
-    let by_columns = wrapping_csc(rt.alloc())?;
-    for entry in ENTRIES {
-        assert!(rt; have_wrapping_entry(&by_rows, &by_columns, entry));
-    }
-    Ok(())
+fn stored_and_missing_entries(rt: HostRuntime) {
+    assert!(rt; csr(rt.alloc(), BY_ROWS).is_ok_and(has_entries_by_rows));
+    assert!(rt; csc(rt.alloc(), BY_COLUMNS).is_ok_and(has_entries_by_columns));
+    assert!(rt; wrapping_csr(rt.alloc()).is_ok_and(has_wrapping_entries_by_rows));
+    assert!(rt; wrapping_csc(rt.alloc()).is_ok_and(has_wrapping_entries_by_columns));
 }
 
 // The entry for writing of a matrix by rows.
@@ -126,25 +137,36 @@ fn indexed_mut_by_columns(matrix: &mut CscMatrix<i32>, row: usize, col: usize) -
     Some(matrix.index_entry_mut(row, col).into_value())
 }
 
-// Whether both forms of the example have this entry for writing.
-fn have_entry_for_writing(
-    by_rows: &mut CsrMatrix<i32>,
-    by_columns: &mut CscMatrix<i32>,
-    (row, col, want): Entry,
-) -> bool {
-    let value = want.map(|entry| entry.0);
-    entry_mut_by_rows(by_rows, row, col) == want
-        && entry_mut_by_columns(by_columns, row, col) == want
-        && indexed_mut_by_rows(by_rows, row, col) == value
-        && indexed_mut_by_columns(by_columns, row, col) == value
+fn value_alone(entry: Option<(i32, bool)>) -> Option<i32> {
+    Some(entry?.0)
+}
+
+// Whether the example by rows has its entries for writing.
+fn has_entries_for_writing_by_rows(mut matrix: CsrMatrix<i32>) -> bool {
+    for (row, col, want) in ENTRIES {
+        if entry_mut_by_rows(&mut matrix, *row, *col) != *want
+            || indexed_mut_by_rows(&mut matrix, *row, *col) != value_alone(*want)
+        {
+            return false;
+        }
+    }
+    true
+}
+
+// The same by columns.
+fn has_entries_for_writing_by_columns(mut matrix: CscMatrix<i32>) -> bool {
+    for (row, col, want) in ENTRIES {
+        if entry_mut_by_columns(&mut matrix, *row, *col) != *want
+            || indexed_mut_by_columns(&mut matrix, *row, *col) != value_alone(*want)
+        {
+            return false;
+        }
+    }
+    true
 }
 
 #[test]
-fn entries_for_writing(rt: HostRuntime) -> Result<(), Fail> {
-    let mut by_rows = csr(rt.alloc(), BY_ROWS)?;
-    let mut by_columns = csc(rt.alloc(), BY_COLUMNS)?;
-    for entry in ENTRIES {
-        assert!(rt; have_entry_for_writing(&mut by_rows, &mut by_columns, entry));
-    }
-    Ok(())
+fn entries_for_writing(rt: HostRuntime) {
+    assert!(rt; csr(rt.alloc(), BY_ROWS).is_ok_and(has_entries_for_writing_by_rows));
+    assert!(rt; csc(rt.alloc(), BY_COLUMNS).is_ok_and(has_entries_for_writing_by_columns));
 }

@@ -6,7 +6,6 @@ use sparse_forms::csc::{CscCol, CscColIter, CscMatrix};
 use sparse_forms::csr::{CsrMatrix, CsrRow, CsrRowIter};
 use sparse_pattern::entry::SparseEntry;
 use std::alloc::AllocError;
-use std::test::Fail;
 
 // With a lane in the middle that has no stored places.
 const EMPTY_LANE: Arrays<'static, i32> = (3, 3, &[0, 2, 2, 3], &[0, 2, 1], &[1, 0, 4]);
@@ -14,7 +13,7 @@ const EMPTY_LANE: Arrays<'static, i32> = (3, 3, &[0, 2, 2, 3], &[0, 2, 1], &[1, 
 // The position, the indices and the values of a lane, and the number of lanes after it.
 type Lane = (usize, &'static [usize], &'static [i32], usize);
 
-const LANES: [Lane; 3] = [
+const LANES: &[Lane] = &[
     (0, &[0, 2], &[1, 0], 2),
     (1, &[], &[], 1),
     (2, &[1], &[4], 0),
@@ -75,7 +74,7 @@ fn is_next_row(
 fn has_rows_in_order(matrix: &CsrMatrix<i32>) -> Result<bool, AllocError> {
     let mut rows = matrix.row_iter();
     for lane in LANES {
-        if !is_next_row(matrix, &mut rows, lane)? {
+        if !is_next_row(matrix, &mut rows, *lane)? {
             return Ok(false);
         }
     }
@@ -94,13 +93,19 @@ fn has_one_row(matrix: &CsrMatrix<i32>) -> bool {
 }
 
 #[test]
-fn rows_in_order(rt: HostRuntime) -> Result<(), Fail> {
-    let matrix = csr(rt.alloc(), EMPTY_LANE)?;
-    assert!(rt; has_rows_in_order(&matrix)?);
-    assert!(rt; first_row_is(&matrix, &[1, 0])?);
-    assert!(rt; first_row_is(&wrapping_csr(rt.alloc())?, &[W64::new(1), W64::new(0)])?);
-    assert!(rt; has_one_row(&matrix));
-    Ok(())
+fn rows_in_order(rt: HostRuntime) {
+    assert!(rt; csr(rt.alloc(), EMPTY_LANE).is_ok_and(has_its_rows));
+    assert!(rt; wrapping_csr(rt.alloc()).is_ok_and(has_wrapping_row));
+}
+
+fn has_its_rows(matrix: CsrMatrix<i32>) -> bool {
+    has_rows_in_order(&matrix) == Ok(true)
+        && first_row_is(&matrix, &[1, 0]) == Ok(true)
+        && has_one_row(&matrix)
+}
+
+fn has_wrapping_row(matrix: CsrMatrix<W64>) -> bool {
+    first_row_is(&matrix, &[W64::new(1), W64::new(0)]) == Ok(true)
 }
 
 // Whether a column of length 3 has these rows and values.
@@ -158,7 +163,7 @@ fn is_next_column(
 fn has_columns_in_order(matrix: &CscMatrix<i32>) -> Result<bool, AllocError> {
     let mut columns = matrix.col_iter();
     for lane in LANES {
-        if !is_next_column(matrix, &mut columns, lane)? {
+        if !is_next_column(matrix, &mut columns, *lane)? {
             return Ok(false);
         }
     }
@@ -177,11 +182,17 @@ fn has_one_column(matrix: &CscMatrix<i32>) -> bool {
 }
 
 #[test]
-fn columns_in_order(rt: HostRuntime) -> Result<(), Fail> {
-    let matrix = csc(rt.alloc(), EMPTY_LANE)?;
-    assert!(rt; has_columns_in_order(&matrix)?);
-    assert!(rt; first_column_is(&matrix, &[1, 0])?);
-    assert!(rt; first_column_is(&wrapping_csc(rt.alloc())?, &[W64::new(1)])?);
-    assert!(rt; has_one_column(&matrix));
-    Ok(())
+fn columns_in_order(rt: HostRuntime) {
+    assert!(rt; csc(rt.alloc(), EMPTY_LANE).is_ok_and(has_its_columns));
+    assert!(rt; wrapping_csc(rt.alloc()).is_ok_and(has_wrapping_column));
+}
+
+fn has_its_columns(matrix: CscMatrix<i32>) -> bool {
+    has_columns_in_order(&matrix) == Ok(true)
+        && first_column_is(&matrix, &[1, 0]) == Ok(true)
+        && has_one_column(&matrix)
+}
+
+fn has_wrapping_column(matrix: CscMatrix<W64>) -> bool {
+    first_column_is(&matrix, &[W64::new(1)]) == Ok(true)
 }

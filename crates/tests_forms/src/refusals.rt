@@ -6,8 +6,7 @@ use sparse_forms::csc::CscMatrix;
 use sparse_forms::csr::CsrMatrix;
 use sparse_pattern::error::{SparseFormatError, SparseFormatErrorKind};
 use sparse_pattern::pattern::SparsityPattern;
-use std::process::Abort;
-use std::test::Fail;
+use std::alloc::{AllocError, Global};
 
 // Arrays, the kind of the error, and its text by rows and by columns.
 type SortedRefusal = (
@@ -17,7 +16,7 @@ type SortedRefusal = (
     &'static str,
 );
 
-const SORTED: [SortedRefusal; 13] = [
+const SORTED: &[SortedRefusal] = &[
     (
         (2, 4, &[0, 3], &[], &[]),
         InvalidStructure,
@@ -103,7 +102,7 @@ const SORTED: [SortedRefusal; 13] = [
 // Arrays, the kind of the error, and its text.
 type UnsortedRefusal = (Arrays<'static, i32>, SparseFormatErrorKind, &'static str);
 
-const UNSORTED: [UnsortedRefusal; 18] = [
+const UNSORTED: &[UnsortedRefusal] = &[
     (
         (1, 4, &[0, 1], &[0], &[]),
         InvalidStructure,
@@ -197,44 +196,78 @@ const UNSORTED: [UnsortedRefusal; 18] = [
     ),
 ];
 
-fn expect_refusal<M: Drop>(
-    rt: &(impl Abort + AllocGlobal),
-    answer: Result<M, SparseFormatError>,
+// Whether there is an error, of this kind and with this text.
+fn is_error(
+    alloc: Global,
+    error: Option<SparseFormatError>,
     kind: SparseFormatErrorKind,
     text: &str,
-) -> Result<(), Fail> {
-    let error = answer.err().ok_or("taken")?;
-    assert!(rt; *error.kind() == kind);
-    assert_eq!(rt; error.to_string(rt.alloc())?.as_str(), text);
-    Ok(())
-}
-
-#[test]
-fn sorted_arrays_are_refused(rt: HostRuntime) -> Result<(), Fail> {
-    for (arrays, kind, by_rows, by_columns) in SORTED {
-        expect_refusal(&rt, csr(rt.alloc(), arrays), kind, by_rows)?;
-        expect_refusal(&rt, csc(rt.alloc(), arrays), kind, by_columns)?;
+) -> bool {
+    match error {
+        Some(error) => *error.kind() == kind && has_text(alloc, &error, text) == Ok(true),
+        None => false,
     }
-    Ok(())
+}
+
+fn has_text(alloc: Global, error: &SparseFormatError, text: &str) -> Result<bool, AllocError> {
+    Ok(error.to_string(alloc)?.as_str() == text)
+}
+
+fn refuses_sorted(alloc: Global, refusal: &SortedRefusal) -> bool {
+    is_error(alloc, csr(alloc, refusal.0).err(), refusal.1, refusal.2)
+        && is_error(alloc, csc(alloc, refusal.0).err(), refusal.1, refusal.3)
 }
 
 #[test]
-fn unsorted_arrays_are_refused(rt: HostRuntime) -> Result<(), Fail> {
-    for (arrays, kind, text) in UNSORTED {
-        expect_refusal(&rt, unsorted_csr(rt.alloc(), arrays), kind, text)?;
-        expect_refusal(&rt, unsorted_csc(rt.alloc(), arrays), kind, text)?;
+fn sorted_arrays_are_refused(rt: HostRuntime) {
+    for refusal in SORTED {
+        assert!(rt; refuses_sorted(rt.alloc(), refusal));
     }
-    Ok(())
+}
+
+fn refuses_unsorted(alloc: Global, refusal: &UnsortedRefusal) -> bool {
+    is_error(
+        alloc,
+        unsorted_csr(alloc, refusal.0).err(),
+        refusal.1,
+        refusal.2,
+    ) && is_error(
+        alloc,
+        unsorted_csc(alloc, refusal.0).err(),
+        refusal.1,
+        refusal.2,
+    )
 }
 
 #[test]
-fn a_wrong_number_of_values_is_refused(rt: HostRuntime) -> Result<(), Fail> {
-    let pattern = SparsityPattern::zeros(rt.alloc(), 2, 3)?;
-    let by_rows = CsrMatrix::try_from_pattern_and_values(pattern, [7].to_vec(rt.alloc())?);
+fn unsorted_arrays_are_refused(rt: HostRuntime) {
+    for refusal in UNSORTED {
+        assert!(rt; refuses_unsorted(rt.alloc(), refusal));
+    }
+}
+
+fn error_by_rows(alloc: Global) -> Result<Option<SparseFormatError>, AllocError> {
+    let pattern = SparsityPattern::zeros(alloc, 2, 3)?;
+    Ok(CsrMatrix::try_from_pattern_and_values(pattern, [7].to_vec(alloc)?).err())
+}
+
+fn error_by_columns(alloc: Global) -> Result<Option<SparseFormatError>, AllocError> {
+    let pattern = SparsityPattern::zeros(alloc, 2, 3)?;
+    Ok(CscMatrix::try_from_pattern_and_values(pattern, [7].to_vec(alloc)?).err())
+}
+
+fn refuses_one_value_by_rows(alloc: Global) -> Result<bool, AllocError> {
     let text = "Number of values and column indices must be the same";
-    expect_refusal(&rt, by_rows, InvalidStructure, text)?;
-    let pattern = SparsityPattern::zeros(rt.alloc(), 2, 3)?;
-    let by_columns = CscMatrix::try_from_pattern_and_values(pattern, [7].to_vec(rt.alloc())?);
+    Ok(is_error(alloc, error_by_rows(alloc)?, InvalidStructure, text))
+}
+
+fn refuses_one_value_by_columns(alloc: Global) -> Result<bool, AllocError> {
     let text = "Number of values and row indices must be the same";
-    expect_refusal(&rt, by_columns, InvalidStructure, text)
+    Ok(is_error(alloc, error_by_columns(alloc)?, InvalidStructure, text))
+}
+
+#[test]
+fn a_wrong_number_of_values_is_refused(rt: HostRuntime) {
+    assert!(rt; refuses_one_value_by_rows(rt.alloc()) == Ok(true));
+    assert!(rt; refuses_one_value_by_columns(rt.alloc()) == Ok(true));
 }

@@ -5,7 +5,6 @@ use sparse_algebra::scalar::W64;
 use sparse_forms::csc::{CscMatrix, CscTripletIter};
 use sparse_forms::csr::{CsrMatrix, CsrTripletIter};
 use std::alloc::{AllocError, Global};
-use std::test::Fail;
 
 type Triplet = (usize, usize, i32);
 
@@ -51,11 +50,13 @@ fn triplets_by_rows_are(
 }
 
 #[test]
-fn triplets_by_rows(rt: HostRuntime) -> Result<(), Fail> {
-    let matrix = csr(rt.alloc(), BY_ROWS)?;
-    assert!(rt; triplets_by_rows_are(&matrix, (0, 0, 1), [(0, 2, 0), (1, 1, 4)])?);
-    assert!(rt; one_by_rows(rt.alloc())?);
-    Ok(())
+fn triplets_by_rows(rt: HostRuntime) {
+    assert!(rt; csr(rt.alloc(), BY_ROWS).is_ok_and(has_its_triplets));
+    assert!(rt; one_by_rows(rt.alloc()) == Ok(true));
+}
+
+fn has_its_triplets(matrix: CsrMatrix<i32>) -> bool {
+    triplets_by_rows_are(&matrix, (0, 0, 1), [(0, 2, 0), (1, 1, 4)]) == Ok(true)
 }
 
 // Whether the identity of one row has the one triplet, a wrapping one.
@@ -93,8 +94,11 @@ fn are_left_by_columns(triplets: &mut CscTripletIter<'_, i32>, want: [Triplet; 2
     triplets.next().is_none() && triplets.next().is_none()
 }
 
-// The example and a second matrix by columns, the first triplet of each, and the others.
-const BY_COLUMNS_IN_ORDER: [(Arrays<'static, i32>, Triplet, [Triplet; 2]); 2] = [
+// The arrays of a matrix by columns, its first triplet, and the others.
+type InOrder = (Arrays<'static, i32>, Triplet, [Triplet; 2]);
+
+// The example and a second matrix.
+const BY_COLUMNS_IN_ORDER: &[InOrder] = &[
     (BY_COLUMNS, (0, 0, 1), [(1, 1, 4), (0, 2, 0)]),
     (
         (2, 4, &[0, 2, 3], &[1, 3, 0], &[6, 5, 7]),
@@ -118,12 +122,18 @@ fn triplets_by_columns_are(
 }
 
 #[test]
-fn triplets_by_columns(rt: HostRuntime) -> Result<(), Fail> {
-    for (arrays, first, others) in BY_COLUMNS_IN_ORDER {
-        assert!(rt; triplets_by_columns_are(&csc(rt.alloc(), arrays)?, first, others)?);
+fn triplets_by_columns(rt: HostRuntime) {
+    for case in BY_COLUMNS_IN_ORDER {
+        assert!(rt; are_in_order_by_columns(rt.alloc(), case));
     }
-    assert!(rt; one_by_columns(rt.alloc())?);
-    Ok(())
+    assert!(rt; one_by_columns(rt.alloc()) == Ok(true));
+}
+
+fn are_in_order_by_columns(alloc: Global, case: &InOrder) -> bool {
+    match csc(alloc, case.0) {
+        Ok(matrix) => triplets_by_columns_are(&matrix, case.1, case.2) == Ok(true),
+        Err(_error) => false,
+    }
 }
 
 // Whether the identity of one column has the one triplet, a wrapping one.
