@@ -2,10 +2,10 @@
 use Rattle.sparse_pattern.specs.Raw.{Raw, raw_of}
 use Rattle.sparse_base.specs.Coo.{Coo, coo_of, zip_triplets, AreParts}
 use Rattle.sparse_cs.specs.Compressed.{Compressed, arrays_of}
-use Rattle.sparse_data.specs.declared.pattern.PatternData.{PatternData}
-use Rattle.sparse_data.specs.declared.coo.CooData.{CooData}
-use Rattle.sparse_data.specs.declared.csr.CsrData.{CsrData}
-use Rattle.sparse_data.specs.declared.csc.CscData.{CscData}
+use Rattle.sparse_data_structs.specs.declared.pattern.PatternData.{PatternData}
+use Rattle.sparse_data_structs.specs.declared.coo.CooData.{CooData}
+use Rattle.sparse_data_structs.specs.declared.csr.CsrData.{CsrData}
+use Rattle.sparse_data_structs.specs.declared.csc.CscData.{CscData}
 
 -- the raw data of a pattern
 abbrev pub pattern_in : PatternData → Raw

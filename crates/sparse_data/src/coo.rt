@@ -5,26 +5,10 @@ ghost use Rattle.sparse_base.specs.TripletFaults.{IsFirstTripletFault};
 ghost use Rattle.sparse_data.specs.DataStructs.{coo_in, IsCooData};
 
 use crate::exchange::{ToData, TryFromData};
-use serde::{Deserialize, Serialize};
 use sparse_base::coo::CooMatrix;
+use sparse_data_structs::CooData;
 use sparse_pattern::error::SparseFormatError;
 use std::alloc::{AllocError, Global};
-
-/// The sizes and the arrays of a [`CooMatrix`], unchecked.
-#[derive(Debug, Drop, PartialEq, Eq, Serialize, Deserialize)]
-#[serde(deny_unknown_fields)]
-pub struct CooData<T> {
-    /// The number of rows.
-    pub nrows: usize,
-    /// The number of columns.
-    pub ncols: usize,
-    /// The row of each triplet.
-    pub row_indices: Vec<usize>,
-    /// The column of each triplet.
-    pub col_indices: Vec<usize>,
-    /// The value of each triplet.
-    pub values: Vec<T>,
-}
 
 impl<T: Drop> TryFromData for CooMatrix<T> {
     type Data = CooData<T>;

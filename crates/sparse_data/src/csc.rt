@@ -6,26 +6,10 @@ ghost use Rattle.sparse_cs.specs.SortedFaults.{IsSortedRefusal};
 ghost use Rattle.sparse_data.specs.DataStructs.{csc_in};
 
 use crate::exchange::{ToData, TryFromData};
-use serde::{Deserialize, Serialize};
+use sparse_data_structs::CscData;
 use sparse_forms::csc::CscMatrix;
 use sparse_pattern::error::SparseFormatError;
 use std::alloc::{AllocError, Global};
-
-/// The sizes and the arrays of a [`CscMatrix`], unchecked.
-#[derive(Debug, Drop, PartialEq, Eq, Serialize, Deserialize)]
-#[serde(deny_unknown_fields)]
-pub struct CscData<T> {
-    /// The number of rows.
-    pub nrows: usize,
-    /// The number of columns.
-    pub ncols: usize,
-    /// The offset of the first place of each column, followed by the number of places.
-    pub col_offsets: Vec<usize>,
-    /// The rows of the stored places, column after column.
-    pub row_indices: Vec<usize>,
-    /// The values of the stored places, column after column.
-    pub values: Vec<T>,
-}
 
 impl<T: Drop> TryFromData for CscMatrix<T> {
     type Data = CscData<T>;

@@ -6,26 +6,10 @@ ghost use Rattle.sparse_cs.specs.SortedFaults.{IsSortedRefusal};
 ghost use Rattle.sparse_data.specs.DataStructs.{csr_in};
 
 use crate::exchange::{ToData, TryFromData};
-use serde::{Deserialize, Serialize};
+use sparse_data_structs::CsrData;
 use sparse_forms::csr::CsrMatrix;
 use sparse_pattern::error::SparseFormatError;
 use std::alloc::{AllocError, Global};
-
-/// The sizes and the arrays of a [`CsrMatrix`], unchecked.
-#[derive(Debug, Drop, PartialEq, Eq, Serialize, Deserialize)]
-#[serde(deny_unknown_fields)]
-pub struct CsrData<T> {
-    /// The number of rows.
-    pub nrows: usize,
-    /// The number of columns.
-    pub ncols: usize,
-    /// The offset of the first place of each row, followed by the number of places.
-    pub row_offsets: Vec<usize>,
-    /// The columns of the stored places, row after row.
-    pub col_indices: Vec<usize>,
-    /// The values of the stored places, row after row.
-    pub values: Vec<T>,
-}
 
 impl<T: Drop> TryFromData for CsrMatrix<T> {
     type Data = CsrData<T>;

@@ -10,8 +10,5 @@ mod exchange;
 pub mod laws;
 mod pattern;
 
-pub use coo::CooData;
-pub use csc::CscData;
-pub use csr::CsrData;
 pub use exchange::{ToData, TryFromData};
-pub use pattern::PatternData;
+pub use sparse_data_structs::{CooData, CscData, CsrData, PatternData};

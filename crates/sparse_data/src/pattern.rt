@@ -6,23 +6,9 @@ ghost use Rattle.sparse_pattern.specs.PatternFaults.{IsFirstFault};
 ghost use Rattle.sparse_data.specs.DataStructs.{pattern_in};
 
 use crate::exchange::{ToData, TryFromData};
-use serde::{Deserialize, Serialize};
+use sparse_data_structs::PatternData;
 use sparse_pattern::pattern::{SparsityPattern, SparsityPatternFormatError};
 use std::alloc::{AllocError, Global};
-
-/// The sizes and the arrays of a [`SparsityPattern`], unchecked.
-#[derive(Debug, Drop, PartialEq, Eq, Serialize, Deserialize)]
-#[serde(deny_unknown_fields)]
-pub struct PatternData {
-    /// The number of lanes.
-    pub major_dim: usize,
-    /// The number of possible minor indices.
-    pub minor_dim: usize,
-    /// The offset of the first index of each lane, followed by the number of indices.
-    pub major_offsets: Vec<usize>,
-    /// The indices of all lanes, lane after lane.
-    pub minor_indices: Vec<usize>,
-}
 
 impl TryFromData for SparsityPattern {
     type Data = PatternData;

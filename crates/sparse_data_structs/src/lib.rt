@@ -1,0 +1,12 @@
+//! Data structs: the sizes and the arrays of patterns and matrices as public fields, which `serde` reads and writes.
+#![tactic(auto)]
+
+mod coo;
+mod csc;
+mod csr;
+mod pattern;
+
+pub use coo::CooData;
+pub use csc::CscData;
+pub use csr::CsrData;
+pub use pattern::PatternData;

@@ -1,0 +1,17 @@
+//! A pattern as data.
+
+use serde::{Deserialize, Serialize};
+
+/// The sizes and the arrays of a `SparsityPattern`, unchecked.
+#[derive(Debug, Drop, PartialEq, Eq, Serialize, Deserialize)]
+#[serde(deny_unknown_fields)]
+pub struct PatternData {
+    /// The number of lanes.
+    pub major_dim: usize,
+    /// The number of possible minor indices.
+    pub minor_dim: usize,
+    /// The offset of the first index of each lane, followed by the number of indices.
+    pub major_offsets: Vec<usize>,
+    /// The indices of all lanes, lane after lane.
+    pub minor_indices: Vec<usize>,
+}
