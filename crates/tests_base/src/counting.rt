@@ -1,6 +1,6 @@
 //! Offsets and slots of keys, with counts of both widths.
 
-use sparse_counting::{key_offsets, next_slot};
+use sparse_counting::{counts_to_offsets, key_offsets, next_slot};
 use std::alloc::{AllocError, Global};
 
 // The offsets of the keys 2, 0, 2 and 1.
@@ -16,6 +16,12 @@ fn counts_of_any_size(alloc: Global) -> Result<bool, AllocError> {
     Ok(offsets.as_slice() == OFFSETS && cursors.as_slice() == [0, 1, 2, 4].as_slice())
 }
 
+fn counts_become_offsets(alloc: Global) -> Result<bool, AllocError> {
+    let mut counts = [1_u32, 1, 2, 0];
+    let offsets = counts_to_offsets(alloc, &mut counts)?;
+    Ok(offsets.as_slice() == OFFSETS && counts == [0, 1, 2, 4])
+}
+
 fn equal_keys_keep_their_order(alloc: Global) -> Result<bool, AllocError> {
     let keys = [1, 0, 1];
     let (_, mut cursors) = key_offsets::<u32>(alloc, &keys, 2)?;
@@ -29,5 +35,6 @@ fn equal_keys_keep_their_order(alloc: Global) -> Result<bool, AllocError> {
 fn keys_are_counted_and_placed(rt: HostRuntime) {
     assert!(rt; counts_of_32_bits(rt.alloc()) == Ok(true));
     assert!(rt; counts_of_any_size(rt.alloc()) == Ok(true));
+    assert!(rt; counts_become_offsets(rt.alloc()) == Ok(true));
     assert!(rt; equal_keys_keep_their_order(rt.alloc()) == Ok(true));
 }
