@@ -15,4 +15,3 @@ pub mod UpdatedRows
 pub mod Updating
 pub mod MadeProducts
 mod Transposing
-mod OkEquations

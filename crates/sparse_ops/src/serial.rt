@@ -1,10 +1,10 @@
 //! Matrix operations in one thread.
 
 mod bits;
-mod factor;
+pub(crate) mod factor;
 mod lane_sets;
 mod pattern;
-pub(crate) mod prealloc;
+mod prealloc;
 mod product;
 mod scatter;
 mod search;

@@ -3,7 +3,7 @@
 use crate::fixtures::{Arrays, matrix};
 use sparse_algebra::scalar::{Ring, W64};
 use sparse_forms::csr::CsrMatrix;
-use sparse_ops::laws::{
+use sparse_laws::operations::{
     difference_as_sum, identity_times, negative_twice, product_of_sum, transpose_of_product,
 };
 use std::alloc::Global;

@@ -63,11 +63,8 @@ pub(super) fn csc_factor<T: Ring>(
     }
 }
 
-// The transpose, in the same form.
-pub(crate) fn transposed_csr<T: Ring>(
-    alloc: Global,
-    a: &CsrMatrix<T>,
-) -> Result<CsrMatrix<T>, AllocError>
+/// Returns the transpose of a matrix, by rows too. Fails only if an allocation fails.
+pub fn transposed_csr<T: Ring>(alloc: Global, a: &CsrMatrix<T>) -> Result<CsrMatrix<T>, AllocError>
     ensures { IfOk result
         (λ m. plain_of_rows T.ring T.value m
         ≡ plain_transpose T.ring (plain_of_rows T.ring T.value a.now)) }
@@ -77,11 +74,8 @@ pub(crate) fn transposed_csr<T: Ring>(
     a.transpose(alloc)
 }
 
-// The transpose, in the same form.
-pub(crate) fn transposed_csc<T: Ring>(
-    alloc: Global,
-    a: &CscMatrix<T>,
-) -> Result<CscMatrix<T>, AllocError>
+/// Returns the transpose of a matrix, by columns too. Fails only if an allocation fails.
+pub fn transposed_csc<T: Ring>(alloc: Global, a: &CscMatrix<T>) -> Result<CscMatrix<T>, AllocError>
     ensures { IfOk result
         (λ m. plain_of_cols T.ring T.value m
         ≡ plain_transpose T.ring (plain_of_cols T.ring T.value a.now)) }

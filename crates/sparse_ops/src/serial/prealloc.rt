@@ -8,7 +8,6 @@ ghost use Rattle.sparse_op.specs.Prealloc.{plain_update, IsCovered};
 ghost use Rattle.sparse_cs.specs.PlainOfLanes.{plain_of_rows, plain_of_cols};
 ghost use Rattle.sparse_ops.specs.ScalarProducts.{IfNotTransposed};
 
-pub(crate) use super::factor::{transposed_csc, transposed_csr};
 use super::factor::{csc_factor, csr_factor};
 use super::update::update_checked;
 use sparse_algebra::scalar::Ring;

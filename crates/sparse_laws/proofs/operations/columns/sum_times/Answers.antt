@@ -1,0 +1,12 @@
+use Rattle.std.proofs.Common.{sym, ◌∙◌}
+use Rattle.sparse_algebra.proofs.PlainLaws.{sum-product}
+use Rattle.sparse_cs.specs.PlainOfLanes.{plain_of_cols}
+use Rattle.sparse_laws.proofs.operations.columns.sum_times.Goals as goal
+
+pub returns : goal.returns
+returns g c =
+    let R = g.T.Ring.ring in
+    let a = plain_of_cols R g.T.Ring.value c.args.a.now in
+    let b = plain_of_cols R g.T.Ring.value c.args.b.now in
+    let d = plain_of_cols R g.T.Ring.value c.args.c.now in
+    c.in_ok-product.ensures ∙ sum-product R a b d c.requires.cols ∙ sym c.in_ok-products.ensures

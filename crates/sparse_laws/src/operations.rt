@@ -1,0 +1,198 @@
+//! Laws of sums and products of matrices, over every ring.
+//!
+//! Each function computes both sides of an equation by the public calls, and its contract says that they stand for one plain matrix, with
+//! the same places and values. The functions here take matrices by rows, those of [`columns`] matrices by columns.
+
+ghost use Rattle.std.specs.Prelude.{◌≡◌, ◌↔◌, ℕ, true, IfOk};
+ghost use Rattle.sparse_algebra.specs.Plain.{plain_product, plain_sum};
+ghost use Rattle.sparse_pattern.specs.Raw.{Raw, IsPlace};
+ghost use Rattle.sparse_cs.specs.Compressed.{Compressed, IsSound};
+ghost use Rattle.sparse_cs.specs.PlainOfLanes.{plain_of_rows};
+ghost use Rattle.sparse_sums.specs.PatternSums.{IsUnionOf};
+ghost use Rattle.sparse_ops.specs.Products.{IsProductOf};
+
+pub mod columns;
+
+use sparse_algebra::scalar::Ring;
+use sparse_forms::csr::CsrMatrix;
+use sparse_ops::serial::{add_csr, mul_csr, neg_csr, sub_csr};
+use sparse_ops::transposes::transposed_csr;
+use std::alloc::{AllocError, Global};
+
+/// Returns `a * (b + c)` and `a * b + a * c`, which are equal. Fails only if an allocation fails.
+pub fn product_of_sum<T: Ring>(
+    alloc: Global,
+    a: &CsrMatrix<T>,
+    b: &CsrMatrix<T>,
+    c: &CsrMatrix<T>,
+) -> Result<(CsrMatrix<T>, CsrMatrix<T>), AllocError>
+    requires inner { a.now.pattern.minor_dim ≡ b.now.pattern.major_dim }
+    requires rows { b.now.pattern.major_dim ≡ c.now.pattern.major_dim }
+    requires cols { b.now.pattern.minor_dim ≡ c.now.pattern.minor_dim }
+    ensures { IfOk result
+        (λ m. plain_of_rows T.ring T.value m.0 ≡ plain_of_rows T.ring T.value m.1) }
+{
+    let product = product_with_sum(alloc, a, b, c)?;
+    let products = sum_of_products(alloc, a, b, a, c)?;
+    Ok((product, products))
+}
+
+/// Returns `(a + b) * c` and `a * c + b * c`, which are equal. Fails only if an allocation fails.
+pub fn sum_times<T: Ring>(
+    alloc: Global,
+    a: &CsrMatrix<T>,
+    b: &CsrMatrix<T>,
+    c: &CsrMatrix<T>,
+) -> Result<(CsrMatrix<T>, CsrMatrix<T>), AllocError>
+    requires rows { a.now.pattern.major_dim ≡ b.now.pattern.major_dim }
+    requires cols { a.now.pattern.minor_dim ≡ b.now.pattern.minor_dim }
+    requires inner { b.now.pattern.minor_dim ≡ c.now.pattern.major_dim }
+    ensures { IfOk result
+        (λ m. plain_of_rows T.ring T.value m.0 ≡ plain_of_rows T.ring T.value m.1) }
+{
+    let product = sum_with_factor(alloc, a, b, c)?;
+    let products = sum_of_products(alloc, a, c, b, c)?;
+    Ok((product, products))
+}
+
+/// Returns `a - b` and `a + (-b)`, which are equal. Fails only if an allocation fails.
+pub fn difference_as_sum<T: Ring>(
+    alloc: Global,
+    a: &CsrMatrix<T>,
+    b: &CsrMatrix<T>,
+) -> Result<(CsrMatrix<T>, CsrMatrix<T>), AllocError>
+    requires rows { a.now.pattern.major_dim ≡ b.now.pattern.major_dim }
+    requires cols { a.now.pattern.minor_dim ≡ b.now.pattern.minor_dim }
+    ensures { IfOk result
+        (λ m. plain_of_rows T.ring T.value m.0 ≡ plain_of_rows T.ring T.value m.1) }
+{
+    let difference = sub_csr(alloc, a, b)?;
+    let negative = neg_csr(alloc, b)?;
+    let sum = add_csr(alloc, a, &negative)?;
+    Ok((difference, sum))
+}
+
+/// Returns `-(-a)`, which is equal to `a`. Fails only if an allocation fails.
+pub fn negative_twice<T: Ring>(alloc: Global, a: &CsrMatrix<T>) -> Result<CsrMatrix<T>, AllocError>
+    ensures { IfOk result
+        (λ m. plain_of_rows T.ring T.value m ≡ plain_of_rows T.ring T.value a.now) }
+{
+    let negative = neg_csr(alloc, a)?;
+    neg_csr(alloc, &negative)
+}
+
+/// Returns the product of the identity and `a`, which is equal to `a`. Fails only if an allocation fails.
+pub fn identity_times<T: Ring>(alloc: Global, a: &CsrMatrix<T>) -> Result<CsrMatrix<T>, AllocError>
+    ensures { IfOk result
+        (λ m. plain_of_rows T.ring T.value m ≡ plain_of_rows T.ring T.value a.now) }
+{
+    // The call costs nothing: its contract tells the prover that the matrix is sound.
+    let _ = a.values();
+    let identity = CsrMatrix::identity(alloc, a.nrows())?;
+    mul_csr(alloc, &identity, a)
+}
+
+/// Returns the product of `a` and the identity, which is equal to `a`. Fails only if an allocation fails.
+pub fn times_identity<T: Ring>(alloc: Global, a: &CsrMatrix<T>) -> Result<CsrMatrix<T>, AllocError>
+    ensures { IfOk result
+        (λ m. plain_of_rows T.ring T.value m ≡ plain_of_rows T.ring T.value a.now) }
+{
+    // The call costs nothing: its contract tells the prover that the matrix is sound.
+    let _ = a.values();
+    let identity = CsrMatrix::identity(alloc, a.ncols())?;
+    mul_csr(alloc, a, &identity)
+}
+
+/// Returns the transpose of `a * b`, and the product of the transposes in reverse order, which are equal. Fails only if an allocation fails.
+pub fn transpose_of_product<T: Ring>(
+    alloc: Global,
+    a: &CsrMatrix<T>,
+    b: &CsrMatrix<T>,
+) -> Result<(CsrMatrix<T>, CsrMatrix<T>), AllocError>
+    requires { a.now.pattern.minor_dim ≡ b.now.pattern.major_dim }
+    ensures { IfOk result
+        (λ m. plain_of_rows T.ring T.value m.0 ≡ plain_of_rows T.ring T.value m.1) }
+{
+    let product = mul_csr(alloc, a, b)?;
+    let transposed = transposed_csr(alloc, &product)?;
+    let first = transposed_csr(alloc, a)?;
+    let second = transposed_csr(alloc, b)?;
+    let reversed = mul_csr(alloc, &second, &first)?;
+    Ok((transposed, reversed))
+}
+
+// Returns `a * (b + c)`.
+fn product_with_sum<T: Ring>(
+    alloc: Global,
+    a: &CsrMatrix<T>,
+    b: &CsrMatrix<T>,
+    c: &CsrMatrix<T>,
+) -> Result<CsrMatrix<T>, AllocError>
+    requires inner { a.now.pattern.minor_dim ≡ b.now.pattern.major_dim }
+    requires rows { b.now.pattern.major_dim ≡ c.now.pattern.major_dim }
+    requires cols { b.now.pattern.minor_dim ≡ c.now.pattern.minor_dim }
+    ensures { IfOk result (λ m. plain_of_rows T.ring T.value m
+        ≡ plain_product T.ring (plain_of_rows T.ring T.value a.now)
+        (plain_sum T.ring (plain_of_rows T.ring T.value b.now) (plain_of_rows T.ring T.value c.now))) }
+{
+    let sum = add_csr(alloc, b, c)?;
+    mul_csr(alloc, a, &sum)
+}
+
+// Returns `(a + b) * c`.
+fn sum_with_factor<T: Ring>(
+    alloc: Global,
+    a: &CsrMatrix<T>,
+    b: &CsrMatrix<T>,
+    c: &CsrMatrix<T>,
+) -> Result<CsrMatrix<T>, AllocError>
+    requires rows { a.now.pattern.major_dim ≡ b.now.pattern.major_dim }
+    requires cols { a.now.pattern.minor_dim ≡ b.now.pattern.minor_dim }
+    requires inner { b.now.pattern.minor_dim ≡ c.now.pattern.major_dim }
+    ensures { IfOk result (λ m. plain_of_rows T.ring T.value m
+        ≡ plain_product T.ring
+        (plain_sum T.ring (plain_of_rows T.ring T.value a.now) (plain_of_rows T.ring T.value b.now))
+        (plain_of_rows T.ring T.value c.now)) }
+{
+    let sum = add_csr(alloc, a, b)?;
+    mul_csr(alloc, &sum, c)
+}
+
+// Returns `a * b + c * d`.
+fn sum_of_products<T: Ring>(
+    alloc: Global,
+    a: &CsrMatrix<T>,
+    b: &CsrMatrix<T>,
+    c: &CsrMatrix<T>,
+    d: &CsrMatrix<T>,
+) -> Result<CsrMatrix<T>, AllocError>
+    requires first { a.now.pattern.minor_dim ≡ b.now.pattern.major_dim }
+    requires second { c.now.pattern.minor_dim ≡ d.now.pattern.major_dim }
+    requires rows { a.now.pattern.major_dim ≡ c.now.pattern.major_dim }
+    requires cols { b.now.pattern.minor_dim ≡ d.now.pattern.minor_dim }
+    ensures { IfOk result (λ m. plain_of_rows T.ring T.value m ≡ plain_sum T.ring
+        (plain_product T.ring (plain_of_rows T.ring T.value a.now) (plain_of_rows T.ring T.value b.now))
+        (plain_product T.ring (plain_of_rows T.ring T.value c.now) (plain_of_rows T.ring T.value d.now))) }
+{
+    let first = mul_csr(alloc, a, b)?;
+    let second = mul_csr(alloc, c, d)?;
+    add_csr(alloc, &first, &second)
+}
+
+/// The places of the product of two patterns are those of the plain product.
+pub fn product_places_law<T: Ring>()
+    ensures { (d : Raw) (a b : Compressed T) → IsSound a → IsSound b
+        → a.pattern.minor_dim ≡ b.pattern.major_dim → IsProductOf d a.pattern b.pattern
+        → (i j : ℕ) → IsPlace d i j
+        ↔ ((plain_product T.ring (plain_of_rows T.ring T.value a)
+        (plain_of_rows T.ring T.value b)).has i j ≡ true) }
+{}
+
+/// The places of the union of two patterns are those of the plain sum.
+pub fn union_places_law<T: Ring>()
+    ensures { (d : Raw) (a b : Compressed T) → IsSound a → IsSound b
+        → IsUnionOf d a.pattern b.pattern
+        → (i j : ℕ) → IsPlace d i j
+        ↔ ((plain_sum T.ring (plain_of_rows T.ring T.value a) (plain_of_rows T.ring T.value b)).has
+        i j ≡ true) }
+{}

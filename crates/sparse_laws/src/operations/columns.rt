@@ -1,0 +1,174 @@
+//! The laws of sums and products of matrices by columns.
+
+ghost use Rattle.std.specs.Prelude.{◌≡◌, IfOk};
+ghost use Rattle.sparse_algebra.specs.Plain.{plain_product, plain_sum};
+ghost use Rattle.sparse_cs.specs.PlainOfLanes.{plain_of_cols};
+
+use sparse_algebra::scalar::Ring;
+use sparse_forms::csc::CscMatrix;
+use sparse_ops::serial::{add_csc, mul_csc, neg_csc, sub_csc};
+use sparse_ops::transposes::transposed_csc;
+use std::alloc::{AllocError, Global};
+
+/// Returns `a * (b + c)` and `a * b + a * c`, which are equal. Fails only if an allocation fails.
+pub fn product_of_sum<T: Ring>(
+    alloc: Global,
+    a: &CscMatrix<T>,
+    b: &CscMatrix<T>,
+    c: &CscMatrix<T>,
+) -> Result<(CscMatrix<T>, CscMatrix<T>), AllocError>
+    requires inner { a.now.pattern.major_dim ≡ b.now.pattern.minor_dim }
+    requires rows { b.now.pattern.minor_dim ≡ c.now.pattern.minor_dim }
+    requires cols { b.now.pattern.major_dim ≡ c.now.pattern.major_dim }
+    ensures { IfOk result (λ m. plain_of_cols T.ring T.value m.0
+        ≡ plain_of_cols T.ring T.value m.1) }
+{
+    let product = product_with_sum(alloc, a, b, c)?;
+    let products = sum_of_products(alloc, a, b, a, c)?;
+    Ok((product, products))
+}
+
+/// Returns `(a + b) * c` and `a * c + b * c`, which are equal. Fails only if an allocation fails.
+pub fn sum_times<T: Ring>(
+    alloc: Global,
+    a: &CscMatrix<T>,
+    b: &CscMatrix<T>,
+    c: &CscMatrix<T>,
+) -> Result<(CscMatrix<T>, CscMatrix<T>), AllocError>
+    requires rows { a.now.pattern.minor_dim ≡ b.now.pattern.minor_dim }
+    requires cols { a.now.pattern.major_dim ≡ b.now.pattern.major_dim }
+    requires inner { b.now.pattern.major_dim ≡ c.now.pattern.minor_dim }
+    ensures { IfOk result (λ m. plain_of_cols T.ring T.value m.0
+        ≡ plain_of_cols T.ring T.value m.1) }
+{
+    let product = sum_with_factor(alloc, a, b, c)?;
+    let products = sum_of_products(alloc, a, c, b, c)?;
+    Ok((product, products))
+}
+
+/// Returns `a - b` and `a + (-b)`, which are equal. Fails only if an allocation fails.
+pub fn difference_as_sum<T: Ring>(
+    alloc: Global,
+    a: &CscMatrix<T>,
+    b: &CscMatrix<T>,
+) -> Result<(CscMatrix<T>, CscMatrix<T>), AllocError>
+    requires rows { a.now.pattern.minor_dim ≡ b.now.pattern.minor_dim }
+    requires cols { a.now.pattern.major_dim ≡ b.now.pattern.major_dim }
+    ensures { IfOk result (λ m. plain_of_cols T.ring T.value m.0
+        ≡ plain_of_cols T.ring T.value m.1) }
+{
+    let difference = sub_csc(alloc, a, b)?;
+    let negative = neg_csc(alloc, b)?;
+    let sum = add_csc(alloc, a, &negative)?;
+    Ok((difference, sum))
+}
+
+/// Returns `-(-a)`, which is equal to `a`. Fails only if an allocation fails.
+pub fn negative_twice<T: Ring>(alloc: Global, a: &CscMatrix<T>) -> Result<CscMatrix<T>, AllocError>
+    ensures { IfOk result (λ m. plain_of_cols T.ring T.value m
+        ≡ plain_of_cols T.ring T.value a.now) }
+{
+    let negative = neg_csc(alloc, a)?;
+    neg_csc(alloc, &negative)
+}
+
+/// Returns the product of the identity and `a`, which is equal to `a`. Fails only if an allocation
+/// fails.
+pub fn identity_times<T: Ring>(alloc: Global, a: &CscMatrix<T>) -> Result<CscMatrix<T>, AllocError>
+    ensures { IfOk result (λ m. plain_of_cols T.ring T.value m
+        ≡ plain_of_cols T.ring T.value a.now) }
+{
+    // The call costs nothing: its contract tells the prover that the matrix is sound.
+    let _ = a.values();
+    let identity = CscMatrix::identity(alloc, a.nrows())?;
+    mul_csc(alloc, &identity, a)
+}
+
+/// Returns the product of `a` and the identity, which is equal to `a`. Fails only if an allocation
+/// fails.
+pub fn times_identity<T: Ring>(alloc: Global, a: &CscMatrix<T>) -> Result<CscMatrix<T>, AllocError>
+    ensures { IfOk result (λ m. plain_of_cols T.ring T.value m
+        ≡ plain_of_cols T.ring T.value a.now) }
+{
+    // The call costs nothing: its contract tells the prover that the matrix is sound.
+    let _ = a.values();
+    let identity = CscMatrix::identity(alloc, a.ncols())?;
+    mul_csc(alloc, a, &identity)
+}
+
+/// Returns the transpose of `a * b`, and the product of the transposes in reverse order, which are
+/// equal. Fails only if an allocation fails.
+pub fn transpose_of_product<T: Ring>(
+    alloc: Global,
+    a: &CscMatrix<T>,
+    b: &CscMatrix<T>,
+) -> Result<(CscMatrix<T>, CscMatrix<T>), AllocError>
+    requires { a.now.pattern.major_dim ≡ b.now.pattern.minor_dim }
+    ensures { IfOk result (λ m. plain_of_cols T.ring T.value m.0
+        ≡ plain_of_cols T.ring T.value m.1) }
+{
+    let product = mul_csc(alloc, a, b)?;
+    let transposed = transposed_csc(alloc, &product)?;
+    let first = transposed_csc(alloc, a)?;
+    let second = transposed_csc(alloc, b)?;
+    let reversed = mul_csc(alloc, &second, &first)?;
+    Ok((transposed, reversed))
+}
+
+// Returns `a * (b + c)`.
+fn product_with_sum<T: Ring>(
+    alloc: Global,
+    a: &CscMatrix<T>,
+    b: &CscMatrix<T>,
+    c: &CscMatrix<T>,
+) -> Result<CscMatrix<T>, AllocError>
+    requires inner { a.now.pattern.major_dim ≡ b.now.pattern.minor_dim }
+    requires rows { b.now.pattern.minor_dim ≡ c.now.pattern.minor_dim }
+    requires cols { b.now.pattern.major_dim ≡ c.now.pattern.major_dim }
+    ensures { IfOk result (λ m. plain_of_cols T.ring T.value m
+        ≡ plain_product T.ring (plain_of_cols T.ring T.value a.now)
+        (plain_sum T.ring (plain_of_cols T.ring T.value b.now) (plain_of_cols T.ring T.value c.now))) }
+{
+    let sum = add_csc(alloc, b, c)?;
+    mul_csc(alloc, a, &sum)
+}
+
+// Returns `(a + b) * c`.
+fn sum_with_factor<T: Ring>(
+    alloc: Global,
+    a: &CscMatrix<T>,
+    b: &CscMatrix<T>,
+    c: &CscMatrix<T>,
+) -> Result<CscMatrix<T>, AllocError>
+    requires rows { a.now.pattern.minor_dim ≡ b.now.pattern.minor_dim }
+    requires cols { a.now.pattern.major_dim ≡ b.now.pattern.major_dim }
+    requires inner { b.now.pattern.major_dim ≡ c.now.pattern.minor_dim }
+    ensures { IfOk result (λ m. plain_of_cols T.ring T.value m
+        ≡ plain_product T.ring
+        (plain_sum T.ring (plain_of_cols T.ring T.value a.now) (plain_of_cols T.ring T.value b.now))
+        (plain_of_cols T.ring T.value c.now)) }
+{
+    let sum = add_csc(alloc, a, b)?;
+    mul_csc(alloc, &sum, c)
+}
+
+// Returns `a * b + c * d`.
+fn sum_of_products<T: Ring>(
+    alloc: Global,
+    a: &CscMatrix<T>,
+    b: &CscMatrix<T>,
+    c: &CscMatrix<T>,
+    d: &CscMatrix<T>,
+) -> Result<CscMatrix<T>, AllocError>
+    requires first { a.now.pattern.major_dim ≡ b.now.pattern.minor_dim }
+    requires second { c.now.pattern.major_dim ≡ d.now.pattern.minor_dim }
+    requires rows { a.now.pattern.minor_dim ≡ c.now.pattern.minor_dim }
+    requires cols { b.now.pattern.major_dim ≡ d.now.pattern.major_dim }
+    ensures { IfOk result (λ m. plain_of_cols T.ring T.value m ≡ plain_sum T.ring
+        (plain_product T.ring (plain_of_cols T.ring T.value a.now) (plain_of_cols T.ring T.value b.now))
+        (plain_product T.ring (plain_of_cols T.ring T.value c.now) (plain_of_cols T.ring T.value d.now))) }
+{
+    let first = mul_csc(alloc, a, b)?;
+    let second = mul_csc(alloc, c, d)?;
+    add_csc(alloc, &first, &second)
+}
