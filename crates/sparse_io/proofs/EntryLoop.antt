@@ -29,7 +29,7 @@ use Rattle.sparse_parser.specs.InnerReading.{among_entries, settled_of}
 use Rattle.sparse_parser.specs.InnerLines.{IsLine}
 use Rattle.sparse_parser.proofs.Fronts.{length-after-lt}
 use Rattle.sparse_parser.proofs.LineLaws.{outside, contents_of-line, contents_of-nil}
-use Rattle.sparse_io.specs.InnerEntries.{ended_of}
+use Rattle.sparse_io.specs.InnerEntries.{ended_of, ending, still_read}
 
 -- a data line was read, and the search went on to the next line
 pub record IsRead (text next : List ℕ) (words : List (List ℕ)) : Type 0 where
@@ -129,22 +129,9 @@ count_end text n total e so_far =
 -- ---- reading
 
 module _ (S : Scalar) (h : Header) (s : Sizes) where
-  -- how a list of triplets ends, where these stand before it and lie within the shape or not
-  abbrev ending : Bool → List (Triplet S.Value) → List (Triplet S.Value) → Read (Coo S.Value)
-  ending inside ts us = cond (inside && list_all (is_inside S s.0 s.1) us)
-      (Ok (coo_of s.0 s.1 (ts ++ us))) (Err (SparseFormatError IndexOutOfBounds))
-
-  -- what is read in the end, where this number of data lines was read before, these places are
-  -- left, these triplets are kept, and all lie within the shape or not
-  abbrev pub still_read : ℕ → Bool → List (ℕ × ℕ) → List (Triplet S.Value)
-      → List (List (List ℕ)) → Read (Coo S.Value)
-  still_read read inside places ts lines =
-      among_entries lines (cond (is_count s.2 (read + length lines))
-      (entries_of S h places lines >>= ending inside ts) (Err EntryMismatch))
-
   pub read_start : (text next : List ℕ) (places : List (ℕ × ℕ))
       → contents_of next ≡ contents_of text → places ≡ places_of h.format h.symmetry s.0 s.1
-      → still_read 0 true places [] (contents_of next) ≡ among_entries (contents_of text)
+      → still_read S h s 0 true places [] (contents_of next) ≡ among_entries (contents_of text)
       (listed_of S h s (contents_of text))
   unfolding listed_of
   read_start text next places e p =
@@ -153,7 +140,7 @@ module _ (S : Scalar) (h : Header) (s : Sizes) where
 
   all-more : (inside kept : Bool) (ts ts' new us : List (Triplet S.Value))
       → kept ≡ (inside && list_all (is_inside S s.0 s.1) new) → (IsTrue kept → ts' ≡ ts ++ new)
-      → ending inside ts (new ++ us) ≡ ending kept ts' us
+      → ending S h s inside ts (new ++ us) ≡ ending S h s kept ts' us
   all-more inside kept ts ts' new us k add = by inside (list_all (is_inside S s.0 s.1) new) kept
       refl k add
     where
@@ -163,7 +150,7 @@ module _ (S : Scalar) (h : Header) (s : Sizes) where
           ∙ ap (λ (x : Bool). x && list_all (is_inside S s.0 s.1) us) e
 
       by : (i j kept : Bool) → list_all (is_inside S s.0 s.1) new ≡ j → kept ≡ (i && j)
-          → (IsTrue kept → ts' ≡ ts ++ new) → ending i ts (new ++ us) ≡ ending kept ts' us
+          → (IsTrue kept → ts' ≡ ts ++ new) → ending S h s i ts (new ++ us) ≡ ending S h s kept ts' us
       by true true true e f g =
           let same : ts ++ (new ++ us) ≡ ts' ++ us = sym (append_assoc ts new us)
           ∙ ap (λ (x : List (Triplet S.Value)). x ++ us) (sym (g refl)) in
@@ -177,7 +164,7 @@ module _ (S : Scalar) (h : Header) (s : Sizes) where
   entries-more : (inside kept : Bool) (ts ts' new : List (Triplet S.Value))
       (read : Read (List (Triplet S.Value)))
       → kept ≡ (inside && list_all (is_inside S s.0 s.1) new) → (IsTrue kept → ts' ≡ ts ++ new)
-      → ((read >>= λ us. Ok (new ++ us)) >>= ending inside ts) ≡ (read >>= ending kept ts')
+      → ((read >>= λ us. Ok (new ++ us)) >>= ending S h s inside ts) ≡ (read >>= ending S h s kept ts')
   entries-more inside kept ts ts' new (Ok us) k add = all-more inside kept ts ts' new us k add
   entries-more inside kept ts ts' new (Err e) k add = refl
 
@@ -192,38 +179,38 @@ module _ (S : Scalar) (h : Header) (s : Sizes) where
   pub read_more : (text next : List ℕ) (words : List (List ℕ)) (read : ℕ) (inside kept : Bool)
       (places places' : List (ℕ × ℕ)) (ts ts' : List (Triplet S.Value)) (total : Read (Coo S.Value))
       → IsRead text next words → IsAdded words inside kept places ts ts' → places' ≡ drop 1 places
-      → still_read read inside places ts (contents_of text) ≡ total
-      → still_read (read + 1) kept places' ts' (contents_of next) ≡ total
+      → still_read S h s read inside places ts (contents_of text) ≡ total
+      → still_read S h s (read + 1) kept places' ts' (contents_of next) ≡ total
   unfolding among_entries entries_of
   read_more text next words read inside kept places places' ts ts' total r a p so_far =
       let n : read + suc (length (contents_of next)) ≡ read + 1 + length (contents_of next) =
       omega arith in
       let m = entries-more inside kept ts ts' a.new
       (entries_of S h (drop 1 places) (contents_of next)) a.kept_is a.added in
-      let one : still_read read inside places ts (words ∷ contents_of next) ≡ still_read (read + 1)
+      let one : still_read S h s read inside places ts (words ∷ contents_of next) ≡ still_read S h s (read + 1)
       kept (drop 1 places) ts' (contents_of next) =
       rw (r.is, a.found, n)
       (ap (λ (x : Read (Coo S.Value)). cond (list_all is_entry (contents_of next))
       (cond (is_count s.2 (read + 1 + length (contents_of next))) x (Err EntryMismatch))
       (Err ParsingError)) m) in
-      ap (λ (x : List (ℕ × ℕ)). still_read (read + 1) kept x ts' (contents_of next)) p ∙ sym one
-      ∙ sym (ap (still_read read inside places ts) r.same) ∙ so_far
+      ap (λ (x : List (ℕ × ℕ)). still_read S h s (read + 1) kept x ts' (contents_of next)) p ∙ sym one
+      ∙ sym (ap (still_read S h s read inside places ts) r.same) ∙ so_far
 
   pub read_fault : (text rest : List ℕ) (words : List (List ℕ)) (e : MatrixMarketErrorKind)
       (read : ℕ) (inside : Bool) (places : List (ℕ × ℕ)) (ts : List (Triplet S.Value))
       (total : Read (Coo S.Value))
       → IsRead text rest words → triplets_of S h (slice_get places 0) words ≡ Err e
-      → still_read read inside places ts (contents_of text) ≡ total
+      → still_read S h s read inside places ts (contents_of text) ≡ total
       → total ≡ Err (settled_of e (read + 1) s.2 (contents_of rest))
   unfolding among_entries entries_of settled_of
   read_fault text rest words e read inside places ts total r f so_far =
       let n : read + suc (length (contents_of rest)) ≡ read + 1 + length (contents_of rest) =
       omega arith in
-      let one : still_read read inside places ts (words ∷ contents_of rest) ≡ Err
+      let one : still_read S h s read inside places ts (words ∷ contents_of rest) ≡ Err
       (settled_of e (read + 1) s.2 (contents_of rest)) =
       rw (r.is, f, n) (by (list_all is_entry (contents_of rest))
       (is_count s.2 (read + 1 + length (contents_of rest)))) in
-      sym so_far ∙ ap (still_read read inside places ts) r.same ∙ one
+      sym so_far ∙ ap (still_read S h s read inside places ts) r.same ∙ one
     where
       by : (t u : Bool)
           → cond {A = Read (Coo S.Value)} t (cond u (Err e) (Err EntryMismatch)) (Err ParsingError)
@@ -234,29 +221,29 @@ module _ (S : Scalar) (h : Header) (s : Sizes) where
 
   pub read_refused : (text : List ℕ) (read : ℕ) (inside : Bool) (places : List (ℕ × ℕ))
       (ts : List (Triplet S.Value)) (total : Read (Coo S.Value))
-      → IsRefused text → still_read read inside places ts (contents_of text) ≡ total
+      → IsRefused text → still_read S h s read inside places ts (contents_of text) ≡ total
       → total ≡ Err ParsingError
   unfolding among_entries
   read_refused text read inside places ts total r so_far =
-      let one : still_read read inside places ts (r.words ∷ r.others) ≡ Err ParsingError =
+      let one : still_read S h s read inside places ts (r.words ∷ r.others) ≡ Err ParsingError =
       rw r.is refl in
-      sym so_far ∙ ap (still_read read inside places ts) r.same ∙ one
+      sym so_far ∙ ap (still_read S h s read inside places ts) r.same ∙ one
 
   pub read_end : (text : List ℕ) (read : ℕ) (inside : Bool) (places : List (ℕ × ℕ))
       (ts : List (Triplet S.Value)) (total : Read (Coo S.Value))
-      → length text ≡ 0 → still_read read inside places ts (contents_of text) ≡ total
+      → length text ≡ 0 → still_read S h s read inside places ts (contents_of text) ≡ total
       → total ≡ ended_of (is_count s.2 read) inside (coo_of s.0 s.1 ts)
   unfolding among_entries entries_of
   read_end text read inside places ts total e so_far =
       let n : read + 0 ≡ read = omega arith in
-      let one : still_read read inside places ts [] ≡ ended_of (is_count s.2 read) inside
+      let one : still_read S h s read inside places ts [] ≡ ended_of (is_count s.2 read) inside
       (coo_of s.0 s.1 ts) =
       rw n (ap (λ (r : Read (Coo S.Value)). cond (is_count s.2 read) r (Err EntryMismatch))
       (by inside)) in
-      sym so_far ∙ ap (still_read read inside places ts) (no_text text e) ∙ one
+      sym so_far ∙ ap (still_read S h s read inside places ts) (no_text text e) ∙ one
     where
       by : (i : Bool)
-          → ending i ts [] ≡ cond i (Ok (coo_of s.0 s.1 ts))
+          → ending S h s i ts [] ≡ cond i (Ok (coo_of s.0 s.1 ts))
           (Err (SparseFormatError IndexOutOfBounds))
       by true = ap (λ (x : List (Triplet S.Value)). Ok (coo_of s.0 s.1 x)) (append-nil ts)
       by false = refl

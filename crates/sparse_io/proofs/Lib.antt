@@ -1,6 +1,8 @@
 pub mod Buffering
+pub mod DigitLines
 pub mod EntryLoop
 pub mod IntegerEntries
+pub mod LineRuns
 pub mod OneMeaning
 pub mod Parts
 pub mod RoundTrip

@@ -1,19 +1,23 @@
 -- An entry and its mirrored one, and the end of the list of entries.
-use Rattle.std.specs.Prelude.{◌≡◌, ℕ, Bool, true, List, [], ◌∷◌, Option, Some, None, Ok, Err}
-use Rattle.std.specs.Prelude.{if◌then◌else◌}
+use Rattle.std.specs.Prelude.{◌≡◌, ◌≤◌, ℕ, ◌+◌, Bool, true, ◌&&◌, List, [], ◌∷◌, ◌++◌, length}
+use Rattle.std.specs.Prelude.{Option, Some, None, Ok, Err, if◌then◌else◌}
+use Rattle.std.specs.List.{list_all}
 use Rattle.sparse_pattern.specs.declared.error.SparseFormatErrorKind.TheVariants.{IndexOutOfBounds}
-use Rattle.sparse_base.specs.Coo.{Coo}
+use Rattle.sparse_base.specs.Coo.{Coo, coo_of}
 use Rattle.sparse_parser.specs.declared.error.MatrixMarketErrorKind.TheVariants.{EntryMismatch}
 use Rattle.sparse_parser.specs.declared.error.MatrixMarketErrorKind.TheVariants.{SparseFormatError}
+use Rattle.sparse_parser.specs.declared.header.Format.TheVariants.{Coordinate, Array}
+use Rattle.sparse_parser.specs.declared.header.Field.TheVariants.{Integer, Pattern}
 use Rattle.sparse_parser.specs.declared.header.Symmetry.{Symmetry}
 use Rattle.sparse_parser.specs.declared.header.Header.{Header}
 use Rattle.sparse_parser.specs.Bytes.{after}
-use Rattle.sparse_parser.specs.InnerBytes.{is_within_line}
+use Rattle.sparse_parser.specs.InnerBytes.{is_within_line, BeginsLine}
 use Rattle.sparse_parser.specs.Grammar.{is_entry}
 use Rattle.sparse_parser.specs.Reads.{Read, ◌>>=◌}
 use Rattle.sparse_parser.specs.Scalars.{Scalar}
-use Rattle.sparse_parser.specs.Meaning.{Triplet, placed, mirrored, triplets_of}
-use Rattle.sparse_parser.specs.InnerReading.{line_words}
+use Rattle.sparse_parser.specs.Meaning.{Triplet, Sizes, placed, mirrored, triplets_of}
+use Rattle.sparse_parser.specs.Meaning.{is_count, is_inside, entries_of}
+use Rattle.sparse_parser.specs.InnerReading.{line_words, contents_of, among_entries}
 
 -- an entry, and the mirrored one if it has a value
 abbrev pub both_of : {T : Type 0} → (ℕ × ℕ × T) × Option T → List (ℕ × ℕ × T)
@@ -36,3 +40,57 @@ pub record IsMeant (S : Scalar) (h : Header) (at : Option (ℕ × ℕ)) (text : 
   pub is : is_entry (line_words text) ≡ true
   pub means : given ≡ triplets_of S h at (line_words text)
   pub after_line : rest ≡ after is_within_line text
+
+module _ (S : Scalar) (h : Header) (s : Sizes) where
+  -- how a list of triplets ends, where these stand before it and lie within the shape or not
+  abbrev pub ending : Bool → List (Triplet S.Value) → List (Triplet S.Value) → Read (Coo S.Value)
+  ending inside ts us = if inside && list_all (is_inside S s.0 s.1) us then Ok
+      (coo_of s.0 s.1 (ts ++ us)) else Err (SparseFormatError IndexOutOfBounds)
+
+  -- what is read in the end, where this number of data lines was read before, these places are
+  -- left, these triplets are kept, and all lie within the shape or not
+  abbrev pub still_read : ℕ → Bool → List (ℕ × ℕ) → List (Triplet S.Value)
+      → List (List (List ℕ)) → Read (Coo S.Value)
+  still_read read inside places ts lines = among_entries lines
+      (if is_count s.2 (read + length lines) then entries_of S h places lines >>= ending inside ts
+      else Err EntryMismatch)
+
+-- the headers of files whose data lines are two indices and an integer, two indices, or an integer
+abbrev pub HasIntegers : Header → Type 0
+HasIntegers h = (h.format ≡ Coordinate) × (h.field ≡ Integer)
+
+abbrev pub HasPlaces : Header → Type 0
+HasPlaces h = (h.format ≡ Coordinate) × (h.field ≡ Pattern)
+
+abbrev pub HasValues : Header → Type 0
+HasValues h = (h.format ≡ Array) × (h.field ≡ Integer)
+
+-- how far a text was read: the number of data lines, whether all triplets lie inside, the places
+-- that are left, the matrix and the text that is left
+pub record Reading (V : Type 0) : Type 0 where
+  pub read : ℕ
+  pub inside : Bool
+  pub places : List (ℕ × ℕ)
+  pub matrix : Coo V
+  pub text : List ℕ
+
+abbrev pub reading : {V : Type 0} → ℕ → Bool → List (ℕ × ℕ) → Coo V → List ℕ → Reading V
+reading read inside places matrix text = record {
+  read = read;
+  inside = inside;
+  places = places;
+  matrix = matrix;
+  text = text;
+}
+
+-- data lines were read, and what is read in the end is the same
+pub record IsReadOn (S : Scalar) (h : Header) (old new : Reading S.Value) : Type 0 where
+  pub begins : BeginsLine new.text
+  pub shorter : length new.text ≤ length old.text
+  pub room : new.read + length new.text ≤ old.read + length old.text
+  pub rows : new.matrix.nrows ≡ old.matrix.nrows
+  pub cols : new.matrix.ncols ≡ old.matrix.ncols
+  pub same : (count : Option ℕ) → still_read S h (old.matrix.nrows, old.matrix.ncols, count)
+      new.read new.inside new.places new.matrix.triplets (contents_of new.text)
+      ≡ still_read S h (old.matrix.nrows, old.matrix.ncols, count)
+      old.read old.inside old.places old.matrix.triplets (contents_of old.text)

@@ -18,6 +18,8 @@ use std::alloc::Global;
 
 mod entries;
 mod entry;
+mod pushes;
+mod runs;
 
 /// Reads a matrix from a text in Matrix Market format.
 ///

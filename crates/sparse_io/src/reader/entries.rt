@@ -1,36 +1,26 @@
 //! The loop over the data lines.
 
-ghost use Rattle.std.specs.Prelude.{◌≡◌, ◌&&◌, [], ◌∷◌, false, IsTrue, IfOk, MatchOption, Ok, map};
-ghost use Rattle.std.specs.List.{list_all};
-ghost use Rattle.sparse_base.specs.Coo.{appended};
+ghost use Rattle.std.specs.Prelude.{◌≡◌, false, MatchOption, map};
 ghost use Rattle.sparse_parser.specs.Grammar.{is_entry};
 ghost use Rattle.sparse_parser.specs.Reads.{read_as};
-ghost use Rattle.sparse_parser.specs.Meaning.{is_count, is_inside, listed_of, values_of, value_triplet};
+ghost use Rattle.sparse_parser.specs.Meaning.{is_count, listed_of, values_of, value_triplet};
 ghost use Rattle.sparse_parser.specs.InnerReading.{Gives, line_words, contents_of, among_entries};
 ghost use Rattle.sparse_io.specs.InnerEntries.{both_of, ended_of, IsMeant};
 
-use crate::reader::entry::{
-    Triplet, Triplets, integer_triplets, place_triplets, triplets, value_triplets,
-};
+use crate::reader::entry::{Triplets, triplets};
+use crate::reader::pushes::{Bounds, add_all};
+use crate::reader::runs::common_lines;
 use crate::reader::settled;
 use sparse_base::coo::CooMatrix;
 use sparse_market_scalar::MatrixMarketScalar;
 use sparse_parser::data_lines::data_line;
 use sparse_parser::error::{Cause, MatrixMarketError};
 use sparse_parser::header::{Field, Format, Header, Symmetry};
-use sparse_parser::integer_lines::{integer_line, place_line, value_line};
 use sparse_parser::lines::next_line;
 use sparse_parser::places::Places;
 use sparse_parser::size::Size;
 use sparse_pattern::error::{SparseFormatError, SparseFormatErrorKind};
-use std::alloc::{AllocError, Global};
-
-/// Whether the triplets read so far lie within the shape, and whether their rows do.
-#[derive(Clone, Copy)]
-pub struct Bounds {
-    inside: bool,
-    rows: bool,
-}
+use std::alloc::Global;
 
 /// Reads the data lines below a size line into a matrix.
 #[inline(never)]
@@ -54,61 +44,19 @@ pub fn entries<T: MatrixMarketScalar>(
     };
     while !rest.is_empty() {
         let at = places.take_first();
-        if let Some((found, after)) = integers(header, at, rest) {
-            read += 1;
-            bounds = add_all(&mut matrix, bounds, found)?;
-            rest = next_line(after);
-            continue;
-        }
         let Some((found, after)) = general_triplets(header, at, rest) else {
             return Err(MatrixMarketError::new(Cause::Grammar));
         };
         read += 1;
         match found {
             Err(fault) => return Err(settled(fault, read, size.count, after)),
-            Ok(found) => bounds = add_others(&mut matrix, bounds, found)?,
+            Ok(found) => bounds = add_all(&mut matrix, bounds, found)?,
         }
-        rest = next_line(after);
+        let next = next_line(after);
+        let others = common_lines(header, &mut matrix, &mut places, read, bounds.inside, next)?;
+        (read, rest) = others;
     }
     finished(matrix, is_count(size.count, read), bounds)
-}
-
-// Reads the first line of a text, if it is a data line of indices and integers. Returns its triplets and the text from the line's end on,
-// or `None` if the line has another form or is refused.
-#[inline(always)]
-fn integers<T: MatrixMarketScalar>(
-    header: Header,
-    at: Option<(usize, usize)>,
-    text: &[u8],
-) -> Option<(Triplets<T>, &[u8])>
-    ensures { MatchOption result (Unit {0}) (λ x. IsMeant T.scalar header at text.now
-        (Ok (map (λ t. value_triplet T.value t) (both_of x.0))) x.1.now) }
-{
-    match (header.format, header.field) {
-        (Format::Coordinate, Field::Integer) => {
-            let (row, col, value, after) = integer_line(text)?;
-            match integer_triplets(header.symmetry, row, col, i128::from(value)) {
-                Ok(found) => Some((found, after)),
-                Err(_) => None,
-            }
-        }
-        (Format::Coordinate, Field::Pattern) => {
-            let (row, col, after) = place_line(text)?;
-            match place_triplets(header.symmetry, row, col) {
-                Ok(found) => Some((found, after)),
-                Err(_) => None,
-            }
-        }
-        (Format::Array, Field::Integer) => {
-            let at = at?;
-            let (value, after) = value_line(text)?;
-            match value_triplets(header.symmetry, at, i128::from(value)) {
-                Ok(found) => Some((found, after)),
-                Err(_) => None,
-            }
-        }
-        _ => None,
-    }
 }
 
 // Reads the first line of a text. Returns its triplets and the text from the line's end on, or `None` if it is not a data line.
@@ -175,76 +123,4 @@ fn room(header: Header, count: Option<usize>, len: usize) -> usize {
         (_, Symmetry::General) => lines,
         _ => lines.saturating_mul(2),
     }
-}
-
-// Pushes an entry and the mirrored one, unless one of them or one before lies outside the shape.
-#[inline(always)]
-fn add_all<T: MatrixMarketScalar>(
-    matrix: &mut CooMatrix<T>,
-    bounds: Bounds,
-    found: Triplets<T>,
-) -> Result<Bounds, AllocError>
-    ensures inside { IfOk result (λ b. b.inside ≡ (bounds.inside
-        && list_all (is_inside T.scalar matrix.old.nrows matrix.old.ncols)
-        (map (λ t. value_triplet T.value t) (both_of found)))) }
-    ensures added { IfOk result (λ b. IsTrue b.inside
-        → values_of T.value matrix.new
-        ≡ appended (values_of T.value matrix.old)
-        (map (λ t. value_triplet T.value t) (both_of found))) }
-    ensures rows { matrix.new.nrows ≡ matrix.old.nrows }
-    ensures cols { matrix.new.ncols ≡ matrix.old.ncols }
-{
-    let ((row, col, value), mirrored) = found;
-    let bounds = add(matrix, bounds, (row, col, value))?;
-    match mirrored {
-        None => Ok(bounds),
-        Some(value) => add(matrix, bounds, (col, row, value)),
-    }
-}
-
-// The same for the entry of a line of any form.
-#[inline(never)]
-fn add_others<T: MatrixMarketScalar>(
-    matrix: &mut CooMatrix<T>,
-    bounds: Bounds,
-    found: Triplets<T>,
-) -> Result<Bounds, AllocError>
-    ensures inside { IfOk result (λ b. b.inside ≡ (bounds.inside
-        && list_all (is_inside T.scalar matrix.old.nrows matrix.old.ncols)
-        (map (λ t. value_triplet T.value t) (both_of found)))) }
-    ensures added { IfOk result (λ b. IsTrue b.inside
-        → values_of T.value matrix.new
-        ≡ appended (values_of T.value matrix.old)
-        (map (λ t. value_triplet T.value t) (both_of found))) }
-    ensures rows { matrix.new.nrows ≡ matrix.old.nrows }
-    ensures cols { matrix.new.ncols ≡ matrix.old.ncols }
-{
-    add_all(matrix, bounds, found)
-}
-
-// Pushes a triplet, unless it or one before lies outside the shape.
-#[inline(always)]
-fn add<T: MatrixMarketScalar>(
-    matrix: &mut CooMatrix<T>,
-    bounds: Bounds,
-    triplet: Triplet<T>,
-) -> Result<Bounds, AllocError>
-    ensures inside { IfOk result (λ b. b.inside ≡ (bounds.inside
-        && is_inside T.scalar matrix.old.nrows matrix.old.ncols (value_triplet T.value triplet))) }
-    ensures added { IfOk result (λ b. IsTrue b.inside
-        → values_of T.value matrix.new
-        ≡ appended (values_of T.value matrix.old) (value_triplet T.value triplet ∷ [])) }
-    ensures rows { matrix.new.nrows ≡ matrix.old.nrows }
-    ensures cols { matrix.new.ncols ≡ matrix.old.ncols }
-{
-    let (row, col, value) = triplet;
-    let in_rows = row < matrix.nrows();
-    if !bounds.inside || !in_rows || col >= matrix.ncols() {
-        return Ok(Bounds {
-            inside: false,
-            rows: bounds.rows && in_rows,
-        });
-    }
-    matrix.push(row, col, value)?;
-    Ok(bounds)
 }

@@ -184,25 +184,16 @@ fn with_mirrored<T: MatrixMarketScalar>(
         ≡ mirrored T.scalar symmetry (value_triplet T.value entry) }
 {
     let (row, col, value) = entry;
+    if let Symmetry::General = symmetry {
+        return Ok((entry, None));
+    }
+    if row < col {
+        return Err(MatrixMarketError::new(Cause::AboveDiagonal));
+    }
     match symmetry {
-        Symmetry::General => Ok((entry, None)),
-        Symmetry::SkewSymmetric => {
-            if row < col {
-                return Err(MatrixMarketError::new(Cause::AboveDiagonal));
-            }
-            if row == col {
-                return Err(MatrixMarketError::new(Cause::OnDiagonal));
-            }
-            Ok((entry, Some(value.negative()?)))
-        }
-        Symmetry::Symmetric | Symmetry::Hermitian => {
-            if row < col {
-                return Err(MatrixMarketError::new(Cause::AboveDiagonal));
-            }
-            if row == col {
-                return Ok((entry, None));
-            }
-            Ok((entry, Some(value)))
-        }
+        Symmetry::SkewSymmetric if row == col => Err(MatrixMarketError::new(Cause::OnDiagonal)),
+        Symmetry::SkewSymmetric => Ok((entry, Some(value.negative()?))),
+        _ if row == col => Ok((entry, None)),
+        _ => Ok((entry, Some(value))),
     }
 }

@@ -6,6 +6,7 @@ use Rattle.sparse_io.specs.InnerEntries.{both_of}
 use Rattle.sparse_parser.specs.InnerReading.{line_words}
 use Rattle.sparse_io.proofs.EntryLoop.{IsRead, front_read, line_refused, read_fault, read_refused}
 use Rattle.sparse_io.proofs.EntryLoop.{matrix_start, matrix_more, matrix_end, fault_is}
+use Rattle.sparse_io.proofs.LineRuns.{read_on_same}
 use Rattle.sparse_io.proofs.reader.entries.entries.Goals as goal
 
 pub loop-rest-init : goal.loop-rest-init
@@ -22,12 +23,12 @@ loop-rest-init g c =
       read = m.2;
     }
 
-pub returns-in_default-general_triplets : goal.returns-in_default-general_triplets
-returns-in_default-general_triplets g c =
+pub returns-in_default : goal.returns-in_default
+returns-in_default g c =
     let some : length c.loop-rest.rest.now ≢ 0 =
     eqb-false _ _ (sym c.is_empty.ensures ∙ c.loop-rest-test.true) in
     let r = line_refused c.loop-rest.rest.now c.loop-rest.invariant.begins (omega arith)
-    c.in_default-general_triplets.ensures in
+    c.in_default.ensures in
     inr (fault_is _ _ _ (read_refused g.T.MatrixMarketScalar.scalar c.args.header _ _ _ _ _ _ _ r
     c.loop-rest.invariant.read) c.new.ensures)
 
@@ -35,13 +36,13 @@ pub returns-in-Err : goal.returns-in-Err
 returns-in-Err g c =
     let some : length c.loop-rest.rest.now ≢ 0 =
     eqb-false _ _ (sym c.is_empty.ensures ∙ c.loop-rest-test.true) in
-    let r = front_read c.loop-rest.rest.now c.in-Some-general_triplets.after.now
-    c.in-Some-general_triplets.after.now c.loop-rest.invariant.begins (omega arith)
-    c.in-Some-general_triplets.ensures.is c.in-Some-general_triplets.ensures.after_line
+    let r = front_read c.loop-rest.rest.now c.in-Some.after.now
+    c.in-Some.after.now c.loop-rest.invariant.begins (omega arith)
+    c.in-Some.ensures.is c.in-Some.ensures.after_line
     refl (omega arith) in
     let f = ap (λ p. triplets_of g.T.MatrixMarketScalar.scalar c.args.header p
     (line_words c.loop-rest.rest.now)) (sym c.take_first-at.ensures.first)
-    ∙ sym c.in-Some-general_triplets.ensures.means
+    ∙ sym c.in-Some.ensures.means
     ∙ ap (λ r. read_as (λ t. map (λ t. value_triplet g.T.MatrixMarketScalar.value t)
     (both_of t)) r) c.in-Err.is in
     inr (fault_is _ _ _ (read_fault g.T.MatrixMarketScalar.scalar c.args.header _ _ _ _ _ _ _ _ _ _
@@ -51,39 +52,44 @@ pub loop-rest-smaller : goal.loop-rest-smaller
 loop-rest-smaller g c =
     let some : length c.loop-rest.rest.now ≢ 0 =
     eqb-false _ _ (sym c.is_empty.ensures ∙ c.loop-rest-test.true) in
-    let turn : IsRead c.loop-rest.rest.now c.next_line-rest-in-loop-rest.result.now
+    let turn : IsRead c.loop-rest.rest.now c.next_line-next.result.now
     (line_words c.loop-rest.rest.now) =
     front_read c.loop-rest.rest.now _ _ c.loop-rest.invariant.begins (omega arith)
-    c.in-Some-general_triplets.ensures.is c.in-Some-general_triplets.ensures.after_line
-    c.next_line-rest-in-loop-rest.ensures.same
-    c.next_line-rest-in-loop-rest.ensures.len in
-    turn.shorter
+    c.in-Some.ensures.is c.in-Some.ensures.after_line
+    c.next_line-next.ensures.same c.next_line-next.ensures.len in
+    let shorter = turn.shorter in
+    let on = c.in_ok-others.ensures.shorter in
+    omega arith
 
 pub loop-rest-preserved : goal.loop-rest-preserved
 loop-rest-preserved g c =
     let some : length c.loop-rest.rest.now ≢ 0 =
     eqb-false _ _ (sym c.is_empty.ensures ∙ c.loop-rest-test.true) in
-    let turn : IsRead c.loop-rest.rest.now c.next_line-rest-in-loop-rest.result.now
+    let turn : IsRead c.loop-rest.rest.now c.next_line-next.result.now
     (line_words c.loop-rest.rest.now) =
     front_read c.loop-rest.rest.now _ _ c.loop-rest.invariant.begins (omega arith)
-    c.in-Some-general_triplets.ensures.is c.in-Some-general_triplets.ensures.after_line
-    c.next_line-rest-in-loop-rest.ensures.same
-    c.next_line-rest-in-loop-rest.ensures.len in
+    c.in-Some.ensures.is c.in-Some.ensures.after_line
+    c.next_line-next.ensures.same c.next_line-next.ensures.len in
+    let on = c.in_ok-others.ensures in
+    let rows = c.in_ok-bounds-in-Ok.ensures.rows ∙ c.loop-rest.invariant.rows in
+    let cols = c.in_ok-bounds-in-Ok.ensures.cols ∙ c.loop-rest.invariant.cols in
     record {
-      begins = c.next_line-rest-in-loop-rest.ensures.begins;
-      room = let r = turn.shorter in omega arith;
-      rows = c.in_ok-bounds-in-Ok.ensures.rows ∙ c.loop-rest.invariant.rows;
-      cols = c.in_ok-bounds-in-Ok.ensures.cols ∙ c.loop-rest.invariant.cols;
+      begins = on.begins;
+      room = let r = turn.shorter in let o = on.room in omega arith;
+      rows = on.rows ∙ rows;
+      cols = on.cols ∙ cols;
       read =
-          matrix_more g.T.MatrixMarketScalar.scalar c.args.header
+          read_on_same g.T.MatrixMarketScalar.scalar c.args.header
+          (c.args.size.rows, c.args.size.cols, c.args.size.count) _ _ _ on rows cols
+          (matrix_more g.T.MatrixMarketScalar.scalar c.args.header
           (c.args.size.rows, c.args.size.cols, c.args.size.count) g.T.MatrixMarketScalar.value
           c.loop-rest.matrix _ _ _ _ c.loop-rest.read c.loop-rest.bounds.inside _ _ _ _ _ _
           c.loop-rest.invariant.rows c.loop-rest.invariant.cols turn
           c.take_first-at.ensures.first c.take_first-at.ensures.left
           (sym (ap (λ r. read_as (λ t. map (λ t. value_triplet g.T.MatrixMarketScalar.value t)
-          (both_of t)) r) c.in-Ok.is) ∙ c.in-Some-general_triplets.ensures.means)
+          (both_of t)) r) c.in-Ok.is) ∙ c.in-Some.ensures.means)
           c.in_ok-bounds-in-Ok.ensures.inside c.in_ok-bounds-in-Ok.ensures.added
-          c.loop-rest.invariant.read;
+          c.loop-rest.invariant.read);
     }
 
 pub returns : goal.returns
@@ -94,39 +100,3 @@ returns g c =
     c.loop-rest.invariant.rows c.loop-rest.invariant.cols
     (eqb-true _ _ (sym c.is_empty.ensures ∙ c.loop-rest-test.false))
     c.is_count.ensures c.finished.ensures c.loop-rest.invariant.read
-
-pub loop-rest-smaller-in-Some : goal.loop-rest-smaller-in-Some
-loop-rest-smaller-in-Some g c =
-    let some : length c.loop-rest.rest.now ≢ 0 =
-    eqb-false _ _ (sym c.is_empty.ensures ∙ c.loop-rest-test.true) in
-    let turn : IsRead c.loop-rest.rest.now c.next_line-rest-in-Some.result.now
-    (line_words c.loop-rest.rest.now) =
-    front_read c.loop-rest.rest.now _ _ c.loop-rest.invariant.begins (omega arith)
-    c.in-Some.ensures.is c.in-Some.ensures.after_line c.next_line-rest-in-Some.ensures.same
-    c.next_line-rest-in-Some.ensures.len in
-    turn.shorter
-
-pub loop-rest-preserved-in-Some : goal.loop-rest-preserved-in-Some
-loop-rest-preserved-in-Some g c =
-    let some : length c.loop-rest.rest.now ≢ 0 =
-    eqb-false _ _ (sym c.is_empty.ensures ∙ c.loop-rest-test.true) in
-    let turn : IsRead c.loop-rest.rest.now c.next_line-rest-in-Some.result.now
-    (line_words c.loop-rest.rest.now) =
-    front_read c.loop-rest.rest.now _ _ c.loop-rest.invariant.begins (omega arith)
-    c.in-Some.ensures.is c.in-Some.ensures.after_line c.next_line-rest-in-Some.ensures.same
-    c.next_line-rest-in-Some.ensures.len in
-    record {
-      begins = c.next_line-rest-in-Some.ensures.begins;
-      room = let r = turn.shorter in omega arith;
-      rows = c.in_ok-bounds.ensures.rows ∙ c.loop-rest.invariant.rows;
-      cols = c.in_ok-bounds.ensures.cols ∙ c.loop-rest.invariant.cols;
-      read =
-          matrix_more g.T.MatrixMarketScalar.scalar c.args.header
-          (c.args.size.rows, c.args.size.cols, c.args.size.count) g.T.MatrixMarketScalar.value
-          c.loop-rest.matrix _ _ _ _ c.loop-rest.read c.loop-rest.bounds.inside _ _ _ _ _ _
-          c.loop-rest.invariant.rows c.loop-rest.invariant.cols turn
-          c.take_first-at.ensures.first c.take_first-at.ensures.left
-          c.in-Some.ensures.means
-          c.in_ok-bounds.ensures.inside c.in_ok-bounds.ensures.added
-          c.loop-rest.invariant.read;
-    }

@@ -3,7 +3,7 @@ use Rattle.sparse_parser.specs.InnerBytes.{BeginsLine}
 use Rattle.sparse_parser.specs.Meaning.{listed_of, values_of}
 use Rattle.sparse_parser.specs.InnerPlaces.{places_left}
 use Rattle.sparse_parser.specs.InnerReading.{contents_of, among_entries}
-use Rattle.sparse_io.proofs.EntryLoop.{still_read}
+use Rattle.sparse_io.specs.InnerEntries.{still_read}
 use Rattle.sparse_io.proofs.reader.entries.entries.Given as goal
 
 abbrev pub invariant-loop-rest : goal.invariant-loop-rest

@@ -1,0 +1,90 @@
+-- Runs of data lines: what is read in the end stays the same.
+use Rattle.std.proofs.Common.{◌≡◌, ℕ, ◌+◌, Bool, ◌&&◌, List, drop, slice_get, Option, Ok}
+use Rattle.std.proofs.Common.{refl, sym, ap, ◌∙◌, arith}
+use Rattle.std.specs.Prelude.{IsTrue}
+use Rattle.std.specs.List.{list_all}
+use Rattle.sparse_base.specs.Coo.{Coo, appended}
+use Rattle.sparse_parser.specs.declared.header.Header.{Header}
+use Rattle.sparse_parser.specs.InnerBytes.{BeginsLine}
+use Rattle.sparse_parser.specs.Reads.{Read}
+use Rattle.sparse_parser.specs.Scalars.{Scalar}
+use Rattle.sparse_parser.specs.Meaning.{Triplet, Sizes, is_inside, triplets_of, values_of}
+use Rattle.sparse_parser.specs.InnerReading.{contents_of}
+use Rattle.sparse_io.specs.InnerEntries.{still_read, Reading, IsReadOn, reading}
+use Rattle.sparse_io.proofs.EntryLoop.{IsRead, matrix_more}
+
+module _ (S : Scalar) (h : Header) {T : Type 0} (value : T → S.Value) where
+  -- no line was read yet
+  pub read_none : (read : ℕ) (inside : Bool) (places : List (ℕ × ℕ)) (m : Coo T) (text : List ℕ)
+      → BeginsLine text → IsReadOn S h (reading read inside places (values_of value m) text)
+      (reading read inside places (values_of value m) text)
+  read_none read inside places m text b = record {
+    begins = b;
+    shorter = omega arith;
+    room = omega arith;
+    rows = refl;
+    cols = refl;
+    same = λ count. refl;
+  }
+
+  -- one more line was read, and its triplets were added to a matrix or lie outside
+  pub read_one_more : (old : Reading S.Value) (m m' : Coo T) (text next : List ℕ)
+      (words : List (List ℕ)) (read : ℕ) (inside kept : Bool) (places places' : List (ℕ × ℕ))
+      (first : Option (ℕ × ℕ)) (new : List (Triplet S.Value))
+      → IsReadOn S h old (reading read inside places (values_of value m) text)
+      → m'.nrows ≡ m.nrows → m'.ncols ≡ m.ncols → BeginsLine next → IsRead text next words
+      → first ≡ slice_get places 0 → places' ≡ drop 1 places → Ok new ≡ triplets_of S h first words
+      → kept ≡ (inside && list_all (is_inside S m.nrows m.ncols) new)
+      → (IsTrue kept → values_of value m' ≡ appended (values_of value m) new)
+      → IsReadOn S h old (reading (read + 1) kept places' (values_of value m') next)
+  read_one_more old m m' text next words read inside kept places places' first new o r c b line f p
+      found k add =
+      let shorter = line.shorter in
+      let was = o.shorter in
+      let room = o.room in
+      record {
+        begins = b;
+        shorter = omega arith;
+        room = omega arith;
+        rows = r ∙ o.rows;
+        cols = c ∙ o.cols;
+        same = λ count. matrix_more S h (old.matrix.nrows, old.matrix.ncols, count) value m m' text
+            next words read inside kept places places' first new _ o.rows o.cols line f p found k
+            add (o.same count);
+      }
+
+module _ (S : Scalar) (h : Header) where
+  -- what is read in the end is still the same
+  pub read_on_same : (s : Sizes) (old new : Reading S.Value) (total : Read (Coo S.Value))
+      → IsReadOn S h old new → old.matrix.nrows ≡ s.0 → old.matrix.ncols ≡ s.1
+      → still_read S h s old.read old.inside old.places old.matrix.triplets (contents_of old.text)
+      ≡ total
+      → still_read S h s new.read new.inside new.places new.matrix.triplets (contents_of new.text)
+      ≡ total
+  read_on_same s old new total o r c so_far = sym (sized new) ∙ o.same s.2 ∙ sized old ∙ so_far
+    where
+      sized : (x : Reading S.Value) → still_read S h (old.matrix.nrows, old.matrix.ncols, s.2)
+          x.read x.inside x.places x.matrix.triplets (contents_of x.text)
+          ≡ still_read S h s x.read x.inside x.places x.matrix.triplets (contents_of x.text)
+      sized x = ap (λ (n : ℕ). still_read S h (n, old.matrix.ncols, s.2) x.read x.inside x.places
+          x.matrix.triplets (contents_of x.text)) r
+          ∙ ap (λ (n : ℕ). still_read S h (s.0, n, s.2) x.read x.inside x.places
+          x.matrix.triplets (contents_of x.text)) c
+
+  -- lines were read, and then others
+  pub read_on_twice : (old middle new : Reading S.Value) → IsReadOn S h old middle
+      → IsReadOn S h middle new → IsReadOn S h old new
+  read_on_twice old middle new a b =
+      let first = a.shorter in
+      let second = b.shorter in
+      let room = a.room in
+      let more = b.room in
+      record {
+        begins = b.begins;
+        shorter = omega arith;
+        room = omega arith;
+        rows = b.rows ∙ a.rows;
+        cols = b.cols ∙ a.cols;
+        same = λ count. read_on_same (old.matrix.nrows, old.matrix.ncols, count) middle new _ b
+            a.rows a.cols (a.same count);
+      }

@@ -1,0 +1,14 @@
+use Rattle.std.proofs.Common.{map, ap, sym, ◌∙◌, Ok}
+use Rattle.sparse_parser.specs.Reads.{read_as}
+use Rattle.sparse_parser.specs.Meaning.{value_triplet}
+use Rattle.sparse_io.specs.InnerEntries.{both_of}
+use Rattle.sparse_io.proofs.IntegerEntries.{place_meant}
+use Rattle.sparse_io.proofs.reader.runs.PlaceLinesKind.line.Goals as goal
+
+pub returns-in-Ok : goal.returns-in-Ok
+returns-in-Ok g c =
+    place_meant g.T.MatrixMarketScalar.scalar c.args.header c.args._at c.args.text.now _ c.in_ok-row.row c.in_ok-row.col
+    (Ok (map (λ t. value_triplet g.T.MatrixMarketScalar.value t) (both_of c.in-Ok.found)))
+    c.requires.0 c.requires.1 c.in_ok-row.ensures
+    (sym (ap (λ r. read_as (λ t. map (λ t. value_triplet g.T.MatrixMarketScalar.value t)
+    (both_of t)) r) c.in-Ok.is) ∙ c.place_triplets.ensures)

@@ -1,0 +1,48 @@
+use Rattle.std.proofs.Common.{◌+◌, ◌≤◌, ◌≢◌, length, sym, ◌∙◌, arith}
+use Rattle.std.proofs.lemmas.Bool.{eqb-false}
+use Rattle.sparse_parser.specs.InnerReading.{line_words}
+use Rattle.sparse_io.proofs.EntryLoop.{IsRead, front_read}
+use Rattle.sparse_io.proofs.LineRuns.{read_none, read_one_more}
+use Rattle.sparse_io.proofs.reader.runs.run.Goals as goal
+
+pub lines-init : goal.lines-init
+lines-init g c = read_none g.T.MatrixMarketScalar.scalar c.known-header.result
+    g.T.MatrixMarketScalar.value _ _ _ _ _ c.requires.begins
+
+pub overflow_add-read : goal.overflow_add-read
+overflow_add-read g c =
+    let some : length c.lines.text.now ≢ 0 =
+    eqb-false _ _ (sym c.is_empty.ensures ∙ c.lines-test.true) in
+    let room : c.lines.read + length c.lines.text.now
+    ≤ c.args.read + length c.args.text.now = c.lines.invariant.room in
+    let most = c.requires.room in
+    omega arith
+
+pub lines-smaller : goal.lines-smaller
+lines-smaller g c =
+    let some : length c.lines.text.now ≢ 0 =
+    eqb-false _ _ (sym c.is_empty.ensures ∙ c.lines-test.true) in
+    let turn : IsRead c.lines.text.now c.next_line-text.result.now
+    (line_words c.lines.text.now) =
+    front_read c.lines.text.now _ _ c.lines.invariant.begins (omega arith)
+    c.in-Some.ensures.is c.in-Some.ensures.after_line c.next_line-text.ensures.same
+    c.next_line-text.ensures.len in
+    turn.shorter
+
+pub lines-preserved : goal.lines-preserved
+lines-preserved g c =
+    let some : length c.lines.text.now ≢ 0 =
+    eqb-false _ _ (sym c.is_empty.ensures ∙ c.lines-test.true) in
+    let turn : IsRead c.lines.text.now c.next_line-text.result.now
+    (line_words c.lines.text.now) =
+    front_read c.lines.text.now _ _ c.lines.invariant.begins (omega arith)
+    c.in-Some.ensures.is c.in-Some.ensures.after_line c.next_line-text.ensures.same
+    c.next_line-text.ensures.len in
+    read_one_more g.T.MatrixMarketScalar.scalar c.known-header.result g.T.MatrixMarketScalar.value
+    _ c.lines.matrix _ _ _ _ _ _ _ _ _ _ _ c.lines.invariant
+    c.push_all.ensures.rows c.push_all.ensures.cols c.next_line-text.ensures.begins turn
+    c.take_first.ensures.first c.take_first-in-lines.ensures.left c.in-Some.ensures.means
+    (sym c.if-not-are_inside.false ∙ c.are_inside.ensures) (λ y. c.in_ok-push_all.ensures.added)
+
+pub returns : goal.returns
+returns g c = rw (sym c.known-header.ensures) c.lines.invariant
