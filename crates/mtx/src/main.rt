@@ -1,11 +1,7 @@
 //! The program `mtx`: a calculator of Matrix Market files.
 #![tactic(auto)]
 
-mod arguments;
-mod cli;
-mod fill;
-
-use arguments::answer;
+use mtx_commands::answer;
 use std::env;
 use std::process::ExitCode;
 

@@ -2,7 +2,7 @@ use Rattle.std.proofs.Common.{◌≡◌, ◌<◌, ◌≤◌, List, [], ◌∷◌
 use Rattle.std.proofs.Common.{Result, Ok, Err, OnOk}
 use denote.Ref.{Bor}
 use Rattle.nalgebra_sparse.specs.PostfixWords.{texts}
-use Rattle.mtx.proofs.cli.execute.Goals as goal
+use Rattle.mtx_commands.proofs.cli.execute.Goals as goal
 
 -- two words, the first of which is known
 two_words : (words : List (Bor (List ℕ))) (d : Bor (List ℕ)) (first : List ℕ) → 2 ≤ length words

@@ -1,16 +1,13 @@
 //! What the program writes and answers.
 
-use crate::arguments::answer;
-use crate::cli::{command, finish};
-use cases::{CASES, COLUMN_CASES, FILL_CASES, REFUSALS};
+use crate::cases::{CASES, COLUMN_CASES, FILL_CASES, REFUSALS};
+use mtx_commands::{answer, command, finish};
 use nalgebra_sparse::io::Out;
 use std::alloc::AllocError;
 use std::io::{self, ErrorKind, Write};
 use std::process::ExitCode;
 use std::test::Fail;
 use std::{env, fs};
-
-mod cases;
 
 const FAILED: &[u8] = b"mtx: write failed\n";
 

@@ -5,8 +5,8 @@ use Rattle.nalgebra_sparse.specs.Run.{Writes}
 use Rattle.sparse_expr.specs.declared.expr.Expr.{Expr}
 use Rattle.sparse_expr.specs.declared.calculator.Form.{Form}
 use Rattle.sparse_expr.specs.declared.calculator.Form.TheVariants.{Rows, Cols}
-use Rattle.mtx.specs.declared.cli.Failure.{Failure}
-use Rattle.mtx.specs.declared.cli.Failure.TheVariants as failure
+use Rattle.mtx_commands.specs.declared.cli.Failure.{Failure}
+use Rattle.mtx_commands.specs.declared.cli.Failure.TheVariants as failure
 
 -- over some texts, one for each file, the text of the expression's value was appended
 pub record IsEvaluated (form : Form) (expression : List ℕ) (files : ℕ) (old new : Option (List ℕ)) :

@@ -1,7 +1,7 @@
 //! The command `mtx fill`.
 
 ghost use Rattle.std.specs.Prelude.{◌≡◌, IfErr};
-ghost use Rattle.mtx.specs.declared.cli.Failure.TheVariants.{Usage};
+ghost use Rattle.mtx_commands.specs.declared.cli.Failure.TheVariants.{Usage};
 
 use crate::cli::Failure;
 use nalgebra_sparse::convert::serial::convert_coo_csc;

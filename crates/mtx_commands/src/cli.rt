@@ -4,8 +4,8 @@ ghost use Rattle.std.specs.Prelude.{◌≡◌, ◌≢◌, ◌≤◌, length, Non
 ghost use Rattle.nalgebra_sparse.specs.PostfixWords.{texts};
 ghost use Rattle.sparse_expr.specs.declared.calculator.Form.{Form};
 ghost use Rattle.sparse_expr.specs.declared.error.ExprError.TheVariants.{OutOfMemory};
-ghost use Rattle.mtx.specs.Commands.{IsAnswered, IsEvaluated, name_of, status_of};
-ghost use Rattle.mtx.specs.declared.cli.Failure.TheVariants.{Usage, Refused};
+ghost use Rattle.mtx_commands.specs.Commands.{IsAnswered, IsEvaluated, name_of, status_of};
+ghost use Rattle.mtx_commands.specs.declared.cli.Failure.TheVariants.{Usage, Refused};
 
 use crate::fill::fill;
 use nalgebra_sparse::expr::{Expr, ExprError, Form, run};
@@ -201,6 +201,3 @@ pub fn report<R: AllocGlobal, E: Sink>(rt: &R, failure: Failure, err: &mut E) ->
     };
     failure.status()
 }
-
-#[cfg(test)]
-mod tests;

@@ -1,0 +1,7 @@
+//! Tests of the commands of `mtx`: what they write, and the status that they answer.
+#![tactic(auto)]
+
+#[cfg(test)]
+mod cases;
+#[cfg(test)]
+mod commands;
