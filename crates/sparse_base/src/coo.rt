@@ -9,6 +9,7 @@ use std::alloc::{AllocError, Global};
 use std::marker::Model;
 use triplet_fault::first_fault;
 
+pub(crate) mod append;
 mod from_iter;
 mod iter;
 mod push_matrix;

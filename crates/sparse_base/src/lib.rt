@@ -4,3 +4,5 @@
 pub mod coo;
 pub mod dense;
 pub mod steps;
+
+pub use coo::append::CooAppender;

@@ -3,6 +3,7 @@
 use crate::patterns::is_error;
 use SparseFormatErrorKind::IndexOutOfBounds;
 use sparse_algebra::scalar::{Ring, W64};
+use sparse_base::CooAppender;
 use sparse_base::coo::CooMatrix;
 use sparse_pattern::error::{SparseFormatError, SparseFormatErrorKind};
 use std::alloc::{AllocError, Global};
@@ -48,6 +49,38 @@ fn reserved_triplets_are_pushed_without_growth(rt: HostRuntime) {
     assert!(rt; before.is_ok_and(|(rows, cols, values)| rows >= 3 && cols >= 3 && values >= 3));
     assert!(rt; capacities(rt.alloc(), 3, 3) == before);
     assert!(rt; capacities(rt.alloc(), 0, 0) == Ok((0, 0, 0)));
+}
+
+// The rows and the values of a list with memory for at least four triplets, after a triplet and the mirrored one and then as many as fit.
+fn filled(alloc: Global) -> Result<(Vec<usize>, Vec<i32>), AllocError> {
+    let mut list = CooMatrix::new(alloc, 2, 2);
+    list.reserve(4)?;
+    let mut appender = CooAppender::new(list);
+    appender.push_mirrored(1, 0, 5, -5);
+    for _ in 0..100 {
+        if appender.nrows() > 0 && appender.ncols() > 1 {
+            appender.push(0, 1, 7);
+        }
+    }
+    let (rows, _, values) = appender.into_matrix().disassemble();
+    Ok((rows, values))
+}
+
+fn is_filled(rows: &Vec<usize>, values: &Vec<i32>) -> bool {
+    values.as_slice().starts_with(&[5, -5, 7, 7])
+        && rows.as_slice().starts_with(&[1, 0, 0, 0])
+        && values.len() == rows.capacity().min(values.capacity())
+}
+
+fn is_refused(alloc: Global) -> bool {
+    let mut full = CooAppender::new(CooMatrix::new(alloc, 2, 2));
+    !full.push(0, 1, 7) && !full.push_mirrored(1, 0, 5, -5) && full.into_matrix().nnz() == 0
+}
+
+#[test]
+fn triplets_are_appended_while_there_is_memory(rt: HostRuntime) {
+    assert!(rt; filled(rt.alloc()).is_ok_and(|(rows, values)| is_filled(&rows, &values)));
+    assert!(rt; is_refused(rt.alloc()));
 }
 
 // A long list does not run out of memory.
