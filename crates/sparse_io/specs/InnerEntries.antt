@@ -1,5 +1,5 @@
 -- An entry and its mirrored one, and the end of the list of entries.
-use Rattle.std.specs.Prelude.{◌≡◌, ◌≤◌, ℕ, ◌+◌, Bool, true, ◌&&◌, List, [], ◌∷◌, ◌++◌, length}
+use Rattle.std.specs.Prelude.{◌≡◌, ◌≤◌, ℕ, zero, suc, ◌+◌, Bool, true, ◌&&◌, List, [], ◌∷◌, ◌++◌, length}
 use Rattle.std.specs.Prelude.{Option, Some, None, Ok, Err, if◌then◌else◌}
 use Rattle.std.specs.List.{list_all}
 use Rattle.sparse_pattern.specs.declared.error.SparseFormatErrorKind.TheVariants.{IndexOutOfBounds}
@@ -9,6 +9,8 @@ use Rattle.sparse_parser.specs.declared.error.MatrixMarketErrorKind.TheVariants.
 use Rattle.sparse_parser.specs.declared.header.Format.TheVariants.{Coordinate, Array}
 use Rattle.sparse_parser.specs.declared.header.Field.TheVariants.{Integer, Pattern}
 use Rattle.sparse_parser.specs.declared.header.Symmetry.{Symmetry}
+use Rattle.sparse_parser.specs.declared.header.Symmetry.TheVariants.{General, Symmetric}
+use Rattle.sparse_parser.specs.declared.header.Symmetry.TheVariants.{SkewSymmetric, Hermitian}
 use Rattle.sparse_parser.specs.declared.header.Header.{Header}
 use Rattle.sparse_parser.specs.Bytes.{after}
 use Rattle.sparse_parser.specs.InnerBytes.{is_within_line, BeginsLine}
@@ -54,6 +56,13 @@ module _ (S : Scalar) (h : Header) (s : Sizes) where
   still_read read inside places ts lines = among_entries lines
       (if is_count s.2 (read + length lines) then entries_of S h places lines >>= ending inside ts
       else Err EntryMismatch)
+
+-- the symmetries as numbers
+abbrev pub symmetry_of : ℕ → Symmetry
+symmetry_of zero = General
+symmetry_of (suc zero) = Symmetric
+symmetry_of (suc (suc zero)) = SkewSymmetric
+symmetry_of (suc (suc (suc n))) = Hermitian
 
 -- the headers of files whose data lines are two indices and an integer, two indices, or an integer
 abbrev pub HasIntegers : Header → Type 0

@@ -53,8 +53,8 @@ pub fn entries<T: MatrixMarketScalar>(
             Ok(found) => bounds = add_all(&mut matrix, bounds, found)?,
         }
         let next = next_line(after);
-        let others = common_lines(header, &mut matrix, &mut places, read, bounds.inside, next)?;
-        (read, rest) = others;
+        let others = common_lines(header, matrix, &mut places, read, bounds.inside, next);
+        (matrix, read, rest) = others;
     }
     finished(matrix, is_count(size.count, read), bounds)
 }

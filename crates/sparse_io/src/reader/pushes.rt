@@ -1,12 +1,13 @@
 //! Pushing triplets, as long as all lie within the shape.
 
-ghost use Rattle.std.specs.Prelude.{◌≡◌, ◌&&◌, IsTrue, IfOk, OnOk, map};
+ghost use Rattle.std.specs.Prelude.{◌≡◌, ◌&&◌, true, false, IsTrue, IfOk, OnOk, map};
 ghost use Rattle.std.specs.List.{list_all};
 ghost use Rattle.sparse_base.specs.Coo.{appended};
 ghost use Rattle.sparse_parser.specs.Meaning.{is_inside, values_of, value_triplet};
 ghost use Rattle.sparse_io.specs.InnerEntries.{both_of};
 
 use crate::reader::entry::Triplets;
+use sparse_base::CooAppender;
 use sparse_base::coo::CooMatrix;
 use sparse_market_scalar::MatrixMarketScalar;
 use std::alloc::AllocError;
@@ -18,19 +19,35 @@ pub struct Bounds {
     pub rows: bool,
 }
 
-/// Returns whether an entry and the mirrored one lie within the shape.
+/// Returns whether an entry and the mirrored one lie within a shape.
 #[inline(always)]
-pub fn are_inside<T: MatrixMarketScalar>(matrix: &CooMatrix<T>, found: Triplets<T>) -> bool
-    ensures { result ≡ list_all (is_inside T.scalar matrix.now.nrows matrix.now.ncols)
+pub fn are_inside<T: MatrixMarketScalar>(nrows: usize, ncols: usize, found: Triplets<T>) -> bool
+    ensures { result ≡ list_all (is_inside T.scalar nrows ncols)
         (map (λ t. value_triplet T.value t) (both_of found)) }
 {
     let ((row, col, _), mirrored) = found;
     match mirrored {
-        None => row < matrix.nrows() && col < matrix.ncols(),
-        Some(_) => {
-            let inside = row < matrix.nrows() && col < matrix.ncols();
-            inside && col < matrix.nrows() && row < matrix.ncols()
-        }
+        None => (row < nrows) & (col < ncols),
+        Some(_) => row.max(col) < nrows.min(ncols),
+    }
+}
+
+/// Appends an entry and the mirrored one, which lie within the shape, and returns whether there was memory for them.
+#[inline(always)]
+pub fn append_all<T: MatrixMarketScalar>(list: &mut CooAppender<T>, found: Triplets<T>) -> bool
+    requires { IsTrue (list_all (is_inside T.scalar list.old.nrows list.old.ncols)
+        (map (λ t. value_triplet T.value t) (both_of found))) }
+    ensures added { result ≡ true → values_of T.value list.new
+        ≡ appended (values_of T.value list.old)
+        (map (λ t. value_triplet T.value t) (both_of found)) }
+    ensures full { result ≡ false → list.new ≡ list.old }
+    ensures rows { list.new.nrows ≡ list.old.nrows }
+    ensures cols { list.new.ncols ≡ list.old.ncols }
+{
+    let ((row, col, value), mirrored) = found;
+    match mirrored {
+        None => list.push(row, col, value),
+        Some(other) => list.push_mirrored(row, col, value, other),
     }
 }
 
@@ -73,7 +90,7 @@ pub fn add_all<T: MatrixMarketScalar>(
     ensures rows { matrix.new.nrows ≡ matrix.old.nrows }
     ensures cols { matrix.new.ncols ≡ matrix.old.ncols }
 {
-    if bounds.inside && are_inside(matrix, found) {
+    if bounds.inside && are_inside(matrix.nrows(), matrix.ncols(), found) {
         push_all(matrix, found)?;
         return Ok(bounds);
     }

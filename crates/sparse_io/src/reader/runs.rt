@@ -2,24 +2,23 @@
 //!
 //! The loop is compiled anew for each kind of line, so that it stays small and keeps what it needs in registers.
 
-ghost use Rattle.std.specs.Prelude.{◌≡◌, ◌≤◌, ◌+◌, pos, true, if◌then◌else◌, IfOk, MatchOption, Ok, length, map};
+ghost use Rattle.std.specs.Prelude.{◌≡◌, ◌≤◌, ◌+◌, pos, true, if◌then◌else◌, MatchOption, Ok, length, map};
 ghost use lib.IntN.{neg_ℤ};
-ghost use Rattle.sparse_parser.specs.declared.header.Symmetry.TheVariants.{General};
 ghost use Rattle.sparse_parser.specs.InnerBytes.{BeginsLine};
 ghost use Rattle.sparse_parser.specs.InnerPlaces.{places_left};
 ghost use Rattle.sparse_parser.specs.InnerIntegers.{IsValueLine};
 ghost use Rattle.sparse_parser.specs.Meaning.{values_of, value_triplet};
-ghost use Rattle.sparse_io.specs.InnerEntries.{both_of, HasValues, IsMeant, IsReadOn, reading};
+ghost use Rattle.sparse_io.specs.InnerEntries.{both_of, symmetry_of, HasValues, IsMeant, IsReadOn, reading};
 
 use crate::reader::entry::{Triplets, integer_triplets, place_triplets, value_triplets};
-use crate::reader::pushes::{are_inside, push_all};
+use crate::reader::pushes::{append_all, are_inside};
+use sparse_base::CooAppender;
 use sparse_base::coo::CooMatrix;
 use sparse_market_scalar::MatrixMarketScalar;
 use sparse_parser::header::{Field, Format, Header, Symmetry};
 use sparse_parser::integer_lines::{integer_line, place_line, value_line};
 use sparse_parser::lines::next_line;
 use sparse_parser::places::Places;
-use std::alloc::AllocError;
 
 /// A kind of data line.
 trait Kind<T: MatrixMarketScalar> {
@@ -127,7 +126,7 @@ impl<T: MatrixMarketScalar> Kind<T> for DigitLines {
 }
 
 // Parses the first line of a text as one digit, maybe after a minus. Returns the value and the text from the line's end on. No branch
-// depends on the sign, since signs are hard to predict.
+// depends on the sign, since signs are hard to predict, and one decides on digit and line end together.
 #[inline(always)]
 fn digit_line(text: &[u8]) -> Option<(i64, &[u8])>
     ensures { MatchOption result (Unit {0}) (λ line. IsValueLine text.now line.0 line.1.now) }
@@ -137,7 +136,8 @@ fn digit_line(text: &[u8]) -> Option<(i64, &[u8])>
     }
     let is_minus = text[0] == b'-';
     let at = usize::from(is_minus);
-    if !text[at].is_ascii_digit() || text[at + 1] != b'\n' {
+    let ends_line = text[at + 1] == b'\n';
+    if !(text[at].is_ascii_digit() & ends_line) {
         return None;
     }
     let value = signed(text[at] - b'0', is_minus);
@@ -154,118 +154,155 @@ fn signed(number: u8, is_negative: bool) -> i64
     if is_negative { -value } else { value }
 }
 
-/// Reads lines of integers or places as long as they have the common form and their triplets lie within the shape. Returns the number of
-/// data lines and the text that is left.
+/// Reads lines of integers or places as long as they have the common form, their triplets lie within the shape and there is memory for
+/// them. Returns the matrix, the number of data lines and the text that is left.
 pub fn common_lines<'a, T: MatrixMarketScalar>(
     header: Header,
-    matrix: &mut CooMatrix<T>,
+    matrix: CooMatrix<T>,
     places: &mut Places,
     read: usize,
     inside: bool,
     text: &'a [u8],
-) -> Result<(usize, &'a [u8]), AllocError>
+) -> (CooMatrix<T>, usize, &'a [u8])
     requires begins { BeginsLine text.now }
     requires room { read + length text.now ≤ usize.MAX }
-    ensures { IfOk result (λ r. IsReadOn T.scalar header
-        (reading read inside (places_left places.old) (values_of T.value matrix.old) text.now)
-        (reading r.0 inside (places_left places.new) (values_of T.value matrix.new) r.1.now)) }
+    ensures { IsReadOn T.scalar header
+        (reading read inside (places_left places.old) (values_of T.value matrix) text.now)
+        (reading result.1 inside (places_left places.new) (values_of T.value result.0)
+        result.2.now) }
 {
     if !inside {
-        return Ok((read, text));
+        return (matrix, read, text);
     }
-    match (header.format, header.field, header.symmetry) {
-        (Format::Coordinate, Field::Integer, Symmetry::General) => {
-            run::<T, IntegerLines, true>(header, matrix, places, read, text)
+    match (header.format, header.field) {
+        (Format::Coordinate, Field::Integer) => {
+            lines_of::<T, IntegerLines>(header, matrix, places, read, text)
         }
-        (Format::Coordinate, Field::Integer, _) => {
-            run::<T, IntegerLines, false>(header, matrix, places, read, text)
+        (Format::Coordinate, Field::Pattern) => {
+            lines_of::<T, PlaceLines>(header, matrix, places, read, text)
         }
-        (Format::Coordinate, Field::Pattern, Symmetry::General) => {
-            run::<T, PlaceLines, true>(header, matrix, places, read, text)
-        }
-        (Format::Coordinate, Field::Pattern, _) => {
-            run::<T, PlaceLines, false>(header, matrix, places, read, text)
-        }
-        (Format::Array, Field::Integer, Symmetry::General) => {
-            array_lines::<T, true>(header, matrix, places, read, text)
-        }
-        (Format::Array, Field::Integer, _) => {
-            array_lines::<T, false>(header, matrix, places, read, text)
-        }
-        _ => Ok((read, text)),
+        (Format::Array, Field::Integer) => array_lines(header, matrix, places, read, text),
+        _ => (matrix, read, text),
     }
 }
 
 // Reads the lines of an array: those of one digit, as long as all have one, and then those of any integer.
-fn array_lines<'a, T: MatrixMarketScalar, const GENERAL: bool>(
+fn array_lines<'a, T: MatrixMarketScalar>(
     header: Header,
-    matrix: &mut CooMatrix<T>,
+    matrix: CooMatrix<T>,
     places: &mut Places,
     read: usize,
     text: &'a [u8],
-) -> Result<(usize, &'a [u8]), AllocError>
+) -> (CooMatrix<T>, usize, &'a [u8])
     requires kind { HasValues header }
-    requires general { GENERAL ≡ true → header.symmetry ≡ General }
     requires begins { BeginsLine text.now }
     requires room { read + length text.now ≤ usize.MAX }
-    ensures { IfOk result (λ r. IsReadOn T.scalar header
-        (reading read true (places_left places.old) (values_of T.value matrix.old) text.now)
-        (reading r.0 true (places_left places.new) (values_of T.value matrix.new) r.1.now)) }
+    ensures { IsReadOn T.scalar header
+        (reading read true (places_left places.old) (values_of T.value matrix) text.now)
+        (reading result.1 true (places_left places.new) (values_of T.value result.0)
+        result.2.now) }
 {
-    let (read, others) = run::<T, DigitLines, GENERAL>(header, matrix, places, read, text)?;
-    run::<T, ValueLines, GENERAL>(header, matrix, places, read, others)
+    let (matrix, read, others) = lines_of::<T, DigitLines>(header, matrix, places, read, text);
+    lines_of::<T, ValueLines>(header, matrix, places, read, others)
 }
 
-// Reads lines of one kind as long as they have the common form and their triplets lie within the shape. `GENERAL` says that no entry
-// implies a mirrored one.
-#[inline(never)]
-fn run<'a, T: MatrixMarketScalar, K: Kind<T>, const GENERAL: bool>(
+// Reads lines of one kind.
+fn lines_of<'a, T: MatrixMarketScalar, K: Kind<T>>(
     header: Header,
-    matrix: &mut CooMatrix<T>,
+    matrix: CooMatrix<T>,
+    places: &mut Places,
+    read: usize,
+    text: &'a [u8],
+) -> (CooMatrix<T>, usize, &'a [u8])
+    requires kind { K.is_for header }
+    requires begins { BeginsLine text.now }
+    requires room { read + length text.now ≤ usize.MAX }
+    ensures { IsReadOn T.scalar header
+        (reading read true (places_left places.old) (values_of T.value matrix) text.now)
+        (reading result.1 true (places_left places.new) (values_of T.value result.0)
+        result.2.now) }
+{
+    match header.symmetry {
+        Symmetry::General => run::<T, K, GENERAL>(header, matrix, places, read, text),
+        Symmetry::Symmetric => run::<T, K, SYMMETRIC>(header, matrix, places, read, text),
+        Symmetry::SkewSymmetric => run::<T, K, SKEW_SYMMETRIC>(header, matrix, places, read, text),
+        Symmetry::Hermitian => run::<T, K, HERMITIAN>(header, matrix, places, read, text),
+    }
+}
+
+// The symmetries as numbers, since only a number can be a constant of a function.
+const GENERAL: u8 = 0;
+
+const SYMMETRIC: u8 = 1;
+
+const SKEW_SYMMETRIC: u8 = 2;
+
+const HERMITIAN: u8 = 3;
+
+// Reads lines of one kind as long as they have the common form, their triplets lie within the shape and there is memory for them.
+//
+// The matrix is passed by value, so that its pointers stay in registers. No test of its own ends the loop with the text: an empty text has
+// no line of any kind.
+#[inline(never)]
+fn run<'a, T: MatrixMarketScalar, K: Kind<T>, const SYMMETRY: u8>(
+    header: Header,
+    matrix: CooMatrix<T>,
     places: &mut Places,
     mut read: usize,
     mut text: &'a [u8],
-) -> Result<(usize, &'a [u8]), AllocError>
+) -> (CooMatrix<T>, usize, &'a [u8])
     requires kind { K.is_for header }
-    requires general { GENERAL ≡ true → header.symmetry ≡ General }
+    requires symmetry { symmetry_of SYMMETRY ≡ header.symmetry }
     requires begins { BeginsLine text.now }
     requires room { read + length text.now ≤ usize.MAX }
-    ensures { IfOk result (λ r. IsReadOn T.scalar header
-        (reading read true (places_left places.old) (values_of T.value matrix.old) text.now)
-        (reading r.0 true (places_left places.new) (values_of T.value matrix.new) r.1.now)) }
+    ensures { IsReadOn T.scalar header
+        (reading read true (places_left places.old) (values_of T.value matrix) text.now)
+        (reading result.1 true (places_left places.new) (values_of T.value result.0)
+        result.2.now) }
 {
-    let header = known::<GENERAL>(header);
+    let header = known::<SYMMETRY>(header);
+    let mut list = CooAppender::new(matrix);
     let mut left = *places;
-    'lines: while !text.is_empty() {
+    'lines: loop {
         let mut ahead = left;
         let Some((found, after)) = K::line(header, ahead.take_first(), text) else {
             break;
         };
-        if !are_inside(matrix, found) {
+        if !are_inside(list.nrows(), list.ncols(), found) {
+            break;
+        }
+        if !append_all(&mut list, found) {
             break;
         }
         text = next_line(after);
-        push_all(matrix, found)?;
         read += 1;
         left.take_first();
     }
     *places = left;
-    Ok((read, text))
+    (list.into_matrix(), read, text)
 }
 
-// A header, with its symmetry as a constant if it is general.
+// A header, with its symmetry as a constant.
 #[inline(always)]
-fn known<const GENERAL: bool>(header: Header) -> Header
-    requires { GENERAL ≡ true → header.symmetry ≡ General }
+fn known<const SYMMETRY: u8>(header: Header) -> Header
+    requires { symmetry_of SYMMETRY ≡ header.symmetry }
     ensures { result ≡ header }
 {
-    if GENERAL {
-        Header {
-            format: header.format,
-            field: header.field,
-            symmetry: Symmetry::General,
-        }
-    } else {
-        header
+    Header {
+        format: header.format,
+        field: header.field,
+        symmetry: symmetry_of(SYMMETRY),
+    }
+}
+
+#[inline(always)]
+fn symmetry_of(number: u8) -> Symmetry
+    ensures { result ≡ symmetry_of number }
+{
+    match number {
+        0 => Symmetry::General,
+        1 => Symmetry::Symmetric,
+        2 => Symmetry::SkewSymmetric,
+        _ => Symmetry::Hermitian,
     }
 }

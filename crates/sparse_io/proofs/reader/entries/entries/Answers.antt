@@ -58,7 +58,7 @@ loop-rest-smaller g c =
     c.in-Some.ensures.is c.in-Some.ensures.after_line
     c.next_line-next.ensures.same c.next_line-next.ensures.len in
     let shorter = turn.shorter in
-    let on = c.in_ok-others.ensures.shorter in
+    let on = c.common_lines-others.ensures.shorter in
     omega arith
 
 pub loop-rest-preserved : goal.loop-rest-preserved
@@ -70,7 +70,7 @@ loop-rest-preserved g c =
     front_read c.loop-rest.rest.now _ _ c.loop-rest.invariant.begins (omega arith)
     c.in-Some.ensures.is c.in-Some.ensures.after_line
     c.next_line-next.ensures.same c.next_line-next.ensures.len in
-    let on = c.in_ok-others.ensures in
+    let on = c.common_lines-others.ensures in
     let rows = c.in_ok-bounds-in-Ok.ensures.rows ∙ c.loop-rest.invariant.rows in
     let cols = c.in_ok-bounds-in-Ok.ensures.cols ∙ c.loop-rest.invariant.cols in
     record {

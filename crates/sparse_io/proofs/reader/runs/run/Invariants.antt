@@ -7,9 +7,9 @@ use Rattle.sparse_io.proofs.reader.runs.run.Given as goal
 abbrev pub invariant-lines : goal.invariant-lines
 invariant-lines g l = IsReadOn g.T.MatrixMarketScalar.scalar l.header
     (reading l.initial.read true (places_left l.initial.left)
-    (values_of g.T.MatrixMarketScalar.value l.initial.matrix) l.initial.text)
+    (values_of g.T.MatrixMarketScalar.value l.initial.list) l.initial.text)
     (reading l.read true (places_left l.left)
-    (values_of g.T.MatrixMarketScalar.value l.matrix) l.text)
+    (values_of g.T.MatrixMarketScalar.value l.list) l.text)
 
 abbrev pub decreases-lines : goal.decreases-lines
 decreases-lines g l = length l.text
