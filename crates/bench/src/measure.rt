@@ -72,9 +72,9 @@ pub fn measure<R: Files + Clock + AllocGlobal>(
     })
 }
 
-// Frees one block of the largest size that counts, so that a run finds the memory of the one before, as in programs that have freed lists of
-// that size. Without it, the memory that a run gets anew from the system depends on what was read before.
-fn keep_freed_memory(alloc: Global) -> Result<(), AllocError> {
+/// Frees one block of the largest size that counts, so that a run finds the memory of the one before, as in programs that have freed lists
+/// of that size. Without it, the memory that a run gets anew from the system depends on what was read before.
+pub fn keep_freed_memory(alloc: Global) -> Result<(), AllocError> {
     let mut block: Vec<u8> = Vec::with_capacity(alloc, LARGEST_BLOCK)?;
     block.push(0)?;
     Ok(())

@@ -1,7 +1,7 @@
 //! The reader, timed alone.
 
 use crate::checksum::{checksum_of_list, checksum_of_places};
-use crate::measure::{Best, Failure};
+use crate::measure::{Best, Failure, keep_freed_memory};
 use nalgebra_sparse::CooMatrix;
 use nalgebra_sparse::io::{MatrixMarketScalar, load_coo_from_matrix_market_str};
 use nalgebra_sparse::scalar::W64;
@@ -17,6 +17,7 @@ pub fn measure_reader<R: Files + Clock + AllocGlobal>(
     path: &str,
     reps: usize,
 ) -> Result<Best, Failure> {
+    keep_freed_memory(rt.alloc())?;
     let text = fs::read_to_string(rt, path)?;
     match fastest::<(), R>(rt, text.as_str(), reps) {
         Ok((nanoseconds, list)) => Ok(Best {
