@@ -58,6 +58,7 @@ fn filled(alloc: Global) -> Result<(Vec<usize>, Vec<i32>), AllocError> {
     let mut appender = CooAppender::new(list);
     appender.push_mirrored(1, 0, 5, -5);
     for _ in 0..100 {
+        // Always true: the prover does not know the sizes in the loop.
         if appender.nrows() > 0 && appender.ncols() > 1 {
             appender.push(0, 1, 7);
         }
