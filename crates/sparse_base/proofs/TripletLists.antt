@@ -1,6 +1,6 @@
 -- The triplets that three lists give.
 use Rattle.std.proofs.Common.{◌≡◌, ℕ, zero, suc, ◌+◌, ◌<◌, List, [], ◌∷◌, ◌++◌, length, take}
-use Rattle.std.proofs.Common.{get_or, map, All, refl, ap, sym, ◌∙◌, arith, append_assoc}
+use Rattle.std.proofs.Common.{get_or, map, All, refl, ap, sym, ◌∙◌, arith}
 use Rattle.std.proofs.lemmas.Grind.{common_steps}
 use Rattle.std.proofs.lemmas.List.{take_more}
 use Rattle.std.proofs.lemmas.List.Elements.{All-push}
@@ -27,16 +27,6 @@ module _ {T : Type 0} where
   triplets-push (x ∷ is) [] (z ∷ vs) i j v e f = absurd (omega arith)
   triplets-push (x ∷ is) (y ∷ js) (z ∷ vs) i j v e f =
       ap (λ ts. (x, y, z) ∷ ts) (triplets-push is js vs i j v (omega arith) (omega arith))
-
-  pub triplets-push-two : (is js : List ℕ) (vs : List T) (i j k l : ℕ) (v w : T)
-      → length is ≡ length vs → length js ≡ length vs
-      → zip_triplets ((is ++ i ∷ []) ++ k ∷ []) ((js ++ j ∷ []) ++ l ∷ [])
-      ((vs ++ v ∷ []) ++ w ∷ []) ≡ zip_triplets is js vs ++ (i, j, v) ∷ (k, l, w) ∷ []
-  triplets-push-two is js vs i j k l v w e f =
-      triplets-push (is ++ i ∷ []) (js ++ j ∷ []) (vs ++ v ∷ []) k l w
-      (grind (arith, common_steps, e)) (grind (arith, common_steps, f))
-      ∙ ap (λ ts. ts ++ (k, l, w) ∷ []) (triplets-push is js vs i j v e f)
-      ∙ append_assoc (zip_triplets is js vs) ((i, j, v) ∷ []) ((k, l, w) ∷ [])
 
   pub sound_push : (n m : ℕ) (is js : List ℕ) (vs : List T) (i j : ℕ) (v : T)
       → AreParts n m is js vs → i < n → j < m

@@ -3,6 +3,7 @@ pub mod Coo
 pub mod CooEquality
 pub mod CooLending
 pub mod TripletFaults
+pub mod Appender
 pub mod InnerAppender
 pub mod InnerTripletFaults
 pub mod Dense

@@ -51,37 +51,44 @@ fn reserved_triplets_are_pushed_without_growth(rt: HostRuntime) {
     assert!(rt; capacities(rt.alloc(), 0, 0) == Ok((0, 0, 0)));
 }
 
-// The rows and the values of a list with memory for at least four triplets, after a triplet and the mirrored one and then as many as fit.
-fn filled(alloc: Global) -> Result<(Vec<usize>, Vec<i32>), AllocError> {
-    let mut list = CooMatrix::new(alloc, 2, 2);
-    list.reserve(4)?;
-    let mut appender = CooAppender::new(list);
-    appender.push_mirrored(1, 0, 5, -5);
+// The lists of a matrix with memory for at least four triplets, after a triplet and the mirrored one and then as many as fit.
+fn filled(alloc: Global) -> Result<(Vec<usize>, Vec<usize>, Vec<i32>), AllocError> {
+    let mut matrix = CooMatrix::new(alloc, 2, 2);
+    matrix.reserve(4)?;
+    let mut appender = CooAppender::new(matrix);
+    if appender.room() > 1 {
+        appender.push(1, 0, 5);
+        appender.push(0, 1, -5);
+    }
     for _ in 0..100 {
-        // Always true: the prover does not know the sizes in the loop.
-        if appender.nrows() > 0 && appender.ncols() > 1 {
+        // The sizes are always large enough. They are tested since the prover does not know them in the loop.
+        if appender.room() > 0 && appender.nrows() > 0 && appender.ncols() > 1 {
             appender.push(0, 1, 7);
         }
     }
-    let (rows, _, values) = appender.into_matrix().disassemble();
-    Ok((rows, values))
+    Ok(appender.into_matrix().disassemble())
 }
 
-fn is_filled(rows: &Vec<usize>, values: &Vec<i32>) -> bool {
-    values.as_slice().starts_with(&[5, -5, 7, 7])
-        && rows.as_slice().starts_with(&[1, 0, 0, 0])
-        && values.len() == rows.capacity().min(values.capacity())
+fn is_filled(rows: &Vec<usize>, cols: &Vec<usize>, values: &Vec<i32>) -> bool {
+    let capacity = rows.capacity().min(cols.capacity()).min(values.capacity());
+    rows.as_slice().starts_with(&[1, 0, 0, 0])
+        && cols.as_slice().starts_with(&[0, 1, 1, 1])
+        && values.as_slice().starts_with(&[5, -5, 7, 7])
+        && values.len() == capacity
 }
 
-fn is_refused(alloc: Global) -> bool {
-    let mut full = CooAppender::new(CooMatrix::new(alloc, 2, 2));
-    !full.push(0, 1, 7) && !full.push_mirrored(1, 0, 5, -5) && full.into_matrix().nnz() == 0
+// Without a reservation there is no room.
+fn has_no_room(alloc: Global) -> bool {
+    let appender: CooAppender<i32> = CooAppender::new(CooMatrix::new(alloc, 2, 2));
+    appender.room() == 0
 }
 
 #[test]
 fn triplets_are_appended_while_there_is_memory(rt: HostRuntime) {
-    assert!(rt; filled(rt.alloc()).is_ok_and(|(rows, values)| is_filled(&rows, &values)));
-    assert!(rt; is_refused(rt.alloc()));
+    assert!(rt;
+        filled(rt.alloc()).is_ok_and(|(rows, cols, values)| is_filled(&rows, &cols, &values))
+    );
+    assert!(rt; has_no_room(rt.alloc()));
 }
 
 // A long list does not run out of memory.

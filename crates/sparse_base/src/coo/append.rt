@@ -1,6 +1,6 @@
 //! Triplets appended within the memory that a matrix has.
 
-ghost use Rattle.std.specs.Prelude.{◌≡◌, ◌<◌, [], ◌∷◌, true, false};
+ghost use Rattle.std.specs.Prelude.{◌≡◌, ◌<◌, ◌+◌, [], ◌∷◌};
 ghost use Rattle.sparse_base.specs.Coo.{appended};
 
 use super::CooMatrix;
@@ -22,15 +22,18 @@ pub struct CooAppender<T> {
 
 impl<T> Model for CooAppender<T> {
     ghost use Rattle.std.specs.Prelude.{vec_len, vec_capacity};
-    ghost use Rattle.sparse_base.specs.Coo.{Coo, coo_code, coo_of, zip_triplets, AreParts};
+    ghost use Rattle.sparse_base.specs.Coo.{coo_of, zip_triplets, AreParts};
+    ghost use Rattle.sparse_base.specs.Appender.{Appender, appender_code, appender_of};
     ghost use Rattle.sparse_base.specs.InnerAppender.{HasRoom};
 
-    ghost Value = { Coo T };
+    ghost Value = { Appender T };
 
-    ghost coded = { coo_code T.code };
+    ghost coded = { appender_code T.code };
 
-    ghost view = { λ m. coo_of m.nrows m.ncols
-        (zip_triplets m.row_indices.items m.col_indices.items m.values.items) };
+    ghost view = { λ m. appender_of
+        (coo_of m.nrows m.ncols
+        (zip_triplets m.row_indices.items m.col_indices.items m.values.items))
+        m.room };
 
     ghost invariant = { λ m.
         AreParts m.nrows m.ncols m.row_indices.items m.col_indices.items m.values.items
@@ -42,7 +45,7 @@ impl<T> Model for CooAppender<T> {
 impl<T> CooAppender<T> {
     /// Takes a matrix with the memory that it has.
     pub fn new(matrix: CooMatrix<T>) -> Self
-        ensures { result ≡ matrix }
+        ensures matrix { result.matrix ≡ matrix }
     {
         let CooMatrix {
             nrows,
@@ -66,7 +69,7 @@ impl<T> CooAppender<T> {
 
     /// Returns the matrix.
     pub fn into_matrix(self) -> CooMatrix<T>
-        ensures { result ≡ self }
+        ensures { result ≡ self.matrix }
     {
         let CooAppender {
             nrows,
@@ -88,7 +91,7 @@ impl<T> CooAppender<T> {
     /// Returns the number of rows.
     #[inline(always)]
     pub fn nrows(&self) -> usize
-        ensures { result ≡ self.now.nrows }
+        ensures { result ≡ self.now.matrix.nrows }
     {
         self.nrows
     }
@@ -96,55 +99,35 @@ impl<T> CooAppender<T> {
     /// Returns the number of columns.
     #[inline(always)]
     pub fn ncols(&self) -> usize
-        ensures { result ≡ self.now.ncols }
+        ensures { result ≡ self.now.matrix.ncols }
     {
         self.ncols
     }
 
-    /// Appends a triplet, and returns whether there was memory for it. `i` must be less than `nrows()`, and `j` less than `ncols()`.
+    /// Returns how many triplets fit at least.
     #[inline(always)]
-    pub fn push(&mut self, i: usize, j: usize, v: T) -> bool
+    pub fn room(&self) -> usize
+        ensures { result ≡ self.now.room }
+    {
+        self.room
+    }
+
+    /// Appends a triplet. `i` must be less than `nrows()`, `j` less than `ncols()`, and `room()` must not be 0.
+    ///
+    /// Constant time. Allocates nothing.
+    #[inline(always)]
+    pub fn push(&mut self, i: usize, j: usize, v: T)
     where
         T: Drop,
-        requires row { i < self.old.nrows }
-        requires col { j < self.old.ncols }
-        ensures pushed { result ≡ true → self.new ≡ appended self.old ((i, j, v) ∷ []) }
-        ensures full { result ≡ false → self.new ≡ self.old }
+        requires row { i < self.old.matrix.nrows }
+        requires col { j < self.old.matrix.ncols }
+        requires room { 0 < self.old.room }
+        ensures pushed { self.new.matrix ≡ appended self.old.matrix ((i, j, v) ∷ []) }
+        ensures room { self.old.room ≡ self.new.room + 1 }
     {
-        if self.room < 1 {
-            return false;
-        }
         self.row_indices.push_reserved(i);
         self.col_indices.push_reserved(j);
         self.values.push_reserved(v);
         self.room -= 1;
-        true
-    }
-
-    /// Appends a triplet and the mirrored one, which has a value of its own, and returns whether there was memory for both. Both indices
-    /// must be less than `nrows()` and `ncols()`.
-    #[inline(always)]
-    pub fn push_mirrored(&mut self, i: usize, j: usize, v: T, mirrored: T) -> bool
-    where
-        T: Drop,
-        requires row { i < self.old.nrows }
-        requires col { j < self.old.ncols }
-        requires mirrored_row { j < self.old.nrows }
-        requires mirrored_col { i < self.old.ncols }
-        ensures pushed { result ≡ true
-            → self.new ≡ appended self.old ((i, j, v) ∷ (j, i, mirrored) ∷ []) }
-        ensures full { result ≡ false → self.new ≡ self.old }
-    {
-        if self.room < 2 {
-            return false;
-        }
-        self.row_indices.push_reserved(i);
-        self.col_indices.push_reserved(j);
-        self.values.push_reserved(v);
-        self.row_indices.push_reserved(j);
-        self.col_indices.push_reserved(i);
-        self.values.push_reserved(mirrored);
-        self.room -= 2;
-        true
     }
 }

@@ -9,7 +9,7 @@ returns-clause-pushed g c =
     let parts = c.self.invariant.0 in
     let more = triplets-push m.row_indices.items m.col_indices.items m.values.items c.args.i
     c.args.j c.args.v parts.row_count parts.col_count in
-    λ e. rw (
+    rw (
       ← c.self.view_is,
       c.push_reserved.ensures.items,
       c.push_reserved-2.ensures.items,
