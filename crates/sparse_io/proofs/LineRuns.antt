@@ -1,19 +1,20 @@
 -- Runs of data lines: what is read in the end stays the same.
-use Rattle.std.proofs.Common.{◌≡◌, ◌≢◌, ℕ, ◌+◌, Bool, true, ◌&&◌, List, [], ◌∷◌, length, drop, slice_get}
+use Rattle.std.proofs.Common.{◌≡◌, ◌≢◌, ℕ, ◌+◌, ◌≤◌, Bool, true, ◌&&◌, List, [], ◌∷◌, length, drop, slice_get}
 use Rattle.std.proofs.Common.{Option, Ok}
 use Rattle.std.proofs.Common.{refl, sym, ap, ◌∙◌, arith}
 use Rattle.std.specs.Prelude.{IsTrue}
 use Rattle.std.specs.List.{list_all}
 use Rattle.sparse_base.specs.Coo.{Coo, appended}
 use Rattle.sparse_parser.specs.declared.header.Header.{Header}
-use Rattle.sparse_parser.specs.InnerBytes.{BeginsLine}
+use Rattle.sparse_parser.specs.Bytes.{after}
+use Rattle.sparse_parser.specs.InnerBytes.{is_within_line, BeginsLine}
 use Rattle.sparse_parser.specs.Grammar.{is_entry}
 use Rattle.sparse_parser.specs.Reads.{Read}
 use Rattle.sparse_parser.specs.Scalars.{Scalar}
 use Rattle.sparse_parser.proofs.WordLaws.{words_of-nil}
 use Rattle.sparse_parser.specs.Meaning.{Triplet, Sizes, is_inside, triplets_of, values_of}
 use Rattle.sparse_parser.specs.InnerReading.{line_words, contents_of}
-use Rattle.sparse_io.specs.InnerEntries.{still_read, Reading, IsReadOn, reading}
+use Rattle.sparse_io.specs.InnerEntries.{IsMeant, IsLineRead, still_read, Reading, IsReadOn, reading}
 use Rattle.sparse_io.proofs.EntryLoop.{IsRead, matrix_more}
 
 no_entry : is_entry [] ≡ true → ⊥
@@ -25,6 +26,20 @@ pub entry_not_empty : (text : List ℕ) → is_entry (line_words text) ≡ true 
 unfolding line_words
 entry_not_empty [] is none = no_entry (sym (ap is_entry words_of-nil) ∙ is)
 entry_not_empty (c ∷ text) is none = absurd (omega arith)
+
+-- a line was read, and the next one was found behind its end
+pub line_is_read : (S : Scalar) (h : Header) (at : Option (ℕ × ℕ)) (text : List ℕ)
+    (given : Read (List (Triplet S.Value))) (rest next : List ℕ) → IsMeant S h at text given rest
+    → BeginsLine next → contents_of next ≡ contents_of rest → length next ≤ length rest
+    → IsLineRead S h at text given next
+line_is_read S h at text given rest next m begins same len = record {
+  is = m.is;
+  means = m.means;
+  begins = begins;
+  same = same ∙ ap contents_of m.after_line;
+  shorter = let r : length rest ≡ length (after is_within_line text) = ap length m.after_line in
+      omega arith;
+}
 
 module _ (S : Scalar) (h : Header) {T : Type 0} (value : T → S.Value) where
   -- no line was read yet

@@ -43,6 +43,15 @@ pub record IsMeant (S : Scalar) (h : Header) (at : Option (ℕ × ℕ)) (text : 
   pub means : given ≡ triplets_of S h at (line_words text)
   pub after_line : rest ≡ after is_within_line text
 
+-- the first line of a text gives these triplets, and this is the text from the next line on
+pub record IsLineRead (S : Scalar) (h : Header) (at : Option (ℕ × ℕ)) (text : List ℕ)
+    (given : Read (List (Triplet S.Value))) (next : List ℕ) : Type 0 where
+  pub is : is_entry (line_words text) ≡ true
+  pub means : given ≡ triplets_of S h at (line_words text)
+  pub begins : BeginsLine next
+  pub same : contents_of next ≡ contents_of (after is_within_line text)
+  pub shorter : length next ≤ length (after is_within_line text)
+
 module _ (S : Scalar) (h : Header) (s : Sizes) where
   -- how a list of triplets ends, where these stand before it and lie within the shape or not
   abbrev pub ending : Bool → List (Triplet S.Value) → List (Triplet S.Value) → Read (Coo S.Value)

@@ -1,8 +1,10 @@
 -- The longest front of a text that passes a test, as a loop goes over it.
-use Rattle.std.proofs.Common.{◌≡◌, ℕ, ◌≤◌, ◌<◌, Bool, true, false, List, [], ◌∷◌, ◌++◌, length}
-use Rattle.std.proofs.Common.{get_or, take, drop, refl, sym, ap, subst, ◌∙◌, arith}
+use Rattle.std.proofs.Common.{◌≡◌, ℕ, ◌+◌, ◌-◌, ◌≤◌, ◌<◌, Bool, true, false, List, [], ◌∷◌, ◌++◌}
+use Rattle.std.proofs.Common.{length, get_or, take, drop, refl, sym, ap, subst, ◌∙◌, arith, one-add}
+use Rattle.std.proofs.Common.{length-drop, drop-drop}
 use Rattle.std.proofs.lemmas.List.{drop_more, drop_all}
-use Rattle.std.specs.List.{AllByRecursion, list_all}
+use Rattle.std.specs.List.{AllByRecursion, list_all, prefix_len}
+use Rattle.core.proofs.slice.Prefixes.{prefix_len-le-length}
 use Rattle.sparse_parser.specs.Bytes.{front, after}
 
 pub front-yes : (p : ℕ → Bool) (b : ℕ) (text : List ℕ) → p b ≡ true
@@ -130,3 +132,44 @@ list_all-front p (b ∷ word) h = by (p b) refl (list_all-front p word)
         sym (let r : list_all p (b ∷ word) ≡ list_all p word = rw e refl in r)
         ∙ h in front-yes p b word e ∙ ap (λ (t : List ℕ). b ∷ t) (rest k)
     by false e rest = absurd (let r : list_all p (b ∷ word) ≡ false = rw e refl in cc)
+
+-- the front is as long as its first bytes that pass, and the rest follows it
+module _ (p : ℕ → Bool) where
+  pub front_take : (text : List ℕ) → front p text ≡ take (prefix_len p text) text
+  front_take [] = refl
+  front_take (b ∷ text) = by (p b) refl (front_take text)
+    where
+      by : (t : Bool) → p b ≡ t → front p text ≡ take (prefix_len p text) text
+          → front p (b ∷ text) ≡ take (prefix_len p (b ∷ text)) (b ∷ text)
+      by true e h = rw (e, one-add (prefix_len p text)) (ap (λ (t : List ℕ). b ∷ t) h)
+      by false e h = rw e refl
+
+  pub after_drop : (text : List ℕ) → after p text ≡ drop (prefix_len p text) text
+  after_drop [] = refl
+  after_drop (b ∷ text) = by (p b) refl (after_drop text)
+    where
+      by : (t : Bool) → p b ≡ t → after p text ≡ drop (prefix_len p text) text
+          → after p (b ∷ text) ≡ drop (prefix_len p (b ∷ text)) (b ∷ text)
+      by true e h = rw (e, one-add (prefix_len p text)) h
+      by false e h = rw e refl
+
+-- what follows is the end of the text
+drop_end : (text rest : List ℕ) (k : ℕ) → k ≤ length text → rest ≡ drop k text
+    → rest ≡ drop (length text - length rest) text
+drop_end text rest k le e =
+    let same : k ≡ length text - length rest = omega (arith, length-drop k text, ap length e) in
+    e ∙ ap (λ (n : ℕ). drop n text) same
+
+pub after_is_end : (p : ℕ → Bool) (text : List ℕ)
+    → after p text ≡ drop (length text - length (after p text)) text
+after_is_end p text = drop_end text (after p text) (prefix_len p text)
+    (prefix_len-le-length p text) (after_drop p text)
+
+-- the end of an end
+pub end_of_end : (text mid rest : List ℕ) → length mid ≤ length text → length rest ≤ length mid
+    → mid ≡ drop (length text - length mid) text → rest ≡ drop (length mid - length rest) mid
+    → rest ≡ drop (length text - length rest) text
+end_of_end text mid rest m r at e =
+    drop_end text rest (length text - length mid + (length mid - length rest)) (omega arith)
+    (e ∙ ap (drop (length mid - length rest)) at
+    ∙ drop-drop (length mid - length rest) (length text - length mid) text)

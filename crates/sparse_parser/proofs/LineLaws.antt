@@ -1,5 +1,5 @@
 -- The written lines of a text are one list, however its lines end.
-use Rattle.std.proofs.Common.{◌≡◌, ◌≢◌, ℕ, ◌<◌, ◌≤◌, Bool, true, false, cond, eqb, not, List, []}
+use Rattle.std.proofs.Common.{◌≡◌, ◌≢◌, ℕ, ◌-◌, ◌<◌, ◌≤◌, Bool, true, false, cond, eqb, not, List, []}
 use Rattle.std.proofs.Common.{◌∷◌, ◌++◌, length, get_or, drop, refl, sym, ap, subst, ◌∙◌, arith}
 use Rattle.std.proofs.Common.{inl, inr}
 use Rattle.std.specs.Prelude.{filter, ◌⊎◌}
@@ -17,7 +17,7 @@ use Rattle.sparse_parser.specs.InnerReading.{is_some_line, is_content, words_of,
 use Rattle.sparse_parser.specs.InnerReading.{written_of, contents_of}
 use Rattle.sparse_parser.proofs.Fronts.{Passes, IsStopped, front-yes, after-yes, after-no}
 use Rattle.sparse_parser.proofs.Fronts.{Passes-front, IsStopped-after, front-append-after}
-use Rattle.sparse_parser.proofs.Fronts.{length-after, length-after-lt}
+use Rattle.sparse_parser.proofs.Fronts.{length-after, length-after-lt, after_is_end, end_of_end}
 use Rattle.sparse_parser.proofs.WordLaws.{words_of-nil, words_of-blank, words_of-blanks, words_only}
 use Rattle.sparse_parser.proofs.WordLaws.{words_are}
 
@@ -449,12 +449,15 @@ contents_of-nil = ap (filter is_content) written_of-nil
 pub record IsSought (text rest : List ℕ) : Type 0 where
   pub same : contents_of rest ≡ contents_of text
   pub len : length rest ≤ length text
+  pub end : rest ≡ drop (length text - length rest) text
   pub stop : IsStopped is_space rest
 
 pub sought_first : (text rest : List ℕ) → rest ≡ after is_space text → IsSought text rest
 sought_first text rest e = record {
   same = ap contents_of e ∙ contents_of-after_space text;
   len = subst (λ (r : List ℕ). length r ≤ length text) (sym e) (length-after is_space text);
+  end = subst (λ (r : List ℕ). r ≡ drop (length text - length r) text) (sym e)
+      (after_is_end is_space text);
   stop = subst (IsStopped is_space) (sym e) (IsStopped-after is_space text);
 }
 
@@ -476,6 +479,11 @@ sought_more text comment others rest h c o e =
         same = next.same ∙ ap contents_of a ∙ sym (contents_of-comment (drop 1 comment))
             ∙ ap contents_of (sym c) ∙ h.same;
         len = let l = next.len in let m = h.len in omega arith;
+        end = end_of_end text comment rest h.len
+            (let l = next.len in omega arith) h.end
+            (end_of_end comment others rest (omega arith) next.len
+            (subst (λ (x : List ℕ). x ≡ drop (length comment - length x) comment) (sym o)
+            (after_is_end is_within_line comment)) next.end);
         stop = next.stop;
       },
       let l = next.len in omega arith,

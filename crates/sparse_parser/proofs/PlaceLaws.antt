@@ -1,10 +1,10 @@
 -- The places of an array that are left, as a walk goes over them.
 use Rattle.std.proofs.Common.{◌≡◌, ℕ, zero, suc, ◌+◌, ◌-◌, ◌<◌, ◌≤◌, Bool, true, false, ltb}
-use Rattle.std.proofs.Common.{List, [], ◌∷◌, ◌++◌, refl, sym, ap}
-use Rattle.std.proofs.Common.{◌∙◌, arith, inl, inr}
-use Rattle.std.specs.Prelude.{◌⊎◌}
+use Rattle.std.proofs.Common.{List, [], ◌∷◌, ◌++◌, length, drop, slice_get, Some, leb, ◌==◌}
+use Rattle.std.proofs.Common.{refl, sym, ap, ◌∙◌, arith}
 use Rattle.std.specs.List.{flat_map, range_with_len}
-use Rattle.std.proofs.lemmas.Bool.{lt-ltb, le-ltb, ltb-true, ltb-false}
+use Rattle.std.proofs.Math.Dec.{eqb-suc-zero}
+use Rattle.std.proofs.lemmas.Bool.{lt-ltb, le-ltb, lt-leb, le-leb, ltb-true, ltb-false}
 use Rattle.std.proofs.lemmas.List.Concat.{flat_map-cons}
 use Rattle.sparse_parser.specs.declared.header.Symmetry.{Symmetry}
 use Rattle.sparse_parser.specs.declared.header.Symmetry.TheVariants.{General, Symmetric}
@@ -33,7 +33,7 @@ module _ (s : Symmetry) (rows cols : ℕ) where
       col ++ columns_left s rows cols (col + 1)
   left_inside row col lt = rw (lt-ltb col cols lt) refl
 
-  pub left_outside : (row col : ℕ) → cols ≤ col → left_from s rows cols row col ≡ []
+  left_outside : (row col : ℕ) → cols ≤ col → left_from s rows cols row col ≡ []
   left_outside row col le = rw (le-ltb col cols le) refl
 
   column_none : (row col : ℕ) → rows ≤ row → column_left rows row col ≡ []
@@ -42,41 +42,6 @@ module _ (s : Symmetry) (rows cols : ℕ) where
   column_more : (row col : ℕ) → row < rows
       → column_left rows row col ≡ (row, col) ∷ column_left rows (row + 1) col
   column_more row col lt = rw (range_more row (rows - row) (rows - (row + 1)) (omega arith)) refl
-
-  pub left_start : left_from s rows cols (first_row s 0) 0 ≡ array_places s rows cols
-  unfolding array_places
-  left_start = by cols refl
-    where
-      by : (n : ℕ) → cols ≡ n → left_from s rows cols (first_row s 0) 0 ≡ flat_map (column s rows)
-          (range_with_len 0 cols)
-      by zero e = left_outside (first_row s 0) 0 (omega arith) ∙ rw (none_in 0 cols e) refl
-      by (suc n) e =
-          let k : cols - 0 ≡ cols = omega arith in
-          left_inside (first_row s 0) 0 (omega arith) ∙ sym (columns_more 0 (omega arith))
-          ∙ ap (λ (m : ℕ). flat_map (column s rows) (range_with_len 0 m)) k
-
-  pub left_full : (row col row' : ℕ) → col < cols → rows ≤ row → row' ≡ first_row s (col + 1)
-      → left_from s rows cols row' (col + 1) ≡ left_from s rows cols row col
-  left_full row col row' lt le e = by (ltb (col + 1) cols) refl
-    where
-      old : left_from s rows cols row col ≡ columns_left s rows cols (col + 1)
-      old = left_inside row col lt ∙ ap (λ (x : List (ℕ × ℕ)). x ++ columns_left s rows cols
-          (col + 1)) (column_none row col le)
-
-      by : (t : Bool) → ltb (col + 1) cols ≡ t → left_from s rows cols row' (col + 1) ≡ left_from s
-          rows cols row col
-      by true f = let g = ltb-true (col + 1) cols f in left_inside row' (col + 1) g
-          ∙ ap (λ (r : ℕ). column_left rows r (col + 1) ++ columns_left s rows cols (col + 1 + 1)) e
-          ∙ sym (columns_more (col + 1) g) ∙ sym old
-      by false f = let g = ltb-false (col + 1) cols f in left_outside row' (col + 1) g
-          ∙ sym (columns_none (col + 1) g) ∙ sym old
-
-  pub left_last : (row col row' : ℕ) → col < cols → rows ≤ row → cols ≤ col + 1
-      → left_from s rows cols row' (col + 1) ≡ left_from s rows cols row col
-  left_last row col row' lt le g =
-      left_outside row' (col + 1) g ∙ sym (columns_none (col + 1) g)
-      ∙ sym (left_inside row col lt ∙ ap (λ (x : List (ℕ × ℕ)). x ++ columns_left s rows cols
-      (col + 1)) (column_none row col le))
 
   later : (s : Symmetry) (col : ℕ) → first_row s col ≤ first_row s (col + 1)
   later General col = omega arith
@@ -94,24 +59,80 @@ module _ (s : Symmetry) (rows cols : ℕ) where
       (column_none (first_row s col) col le)
       ∙ columns_empty n (col + 1) (omega arith) (let l = later s col in omega arith)
 
-  pub left_none : (row col : ℕ) → (col < cols → rows ≤ row → row ≡ first_row s col)
-      → (cols ≤ col) ⊎ (rows ≤ row) → left_from s rows cols row col ≡ []
-  left_none row col settled (inl le) = left_outside row col le
-  left_none row col settled (inr le) = by (ltb col cols) refl
-    where
-      by : (t : Bool) → ltb col cols ≡ t → left_from s rows cols row col ≡ []
-      by true f =
-          let lt = ltb-true col cols f in
-          let first = settled lt le in
-          let l = later s col in
-          left_inside row col lt ∙ ap (λ (x : List (ℕ × ℕ)). x ++ columns_left s rows cols
-          (col + 1)) (column_none row col le) ∙ columns_empty (cols - (col + 1)) (col + 1) refl
-          (omega arith)
-      by false f = left_outside row col (ltb-false col cols f)
-
-  pub left_first : (row col : ℕ) → col < cols → row < rows
+  left_first : (row col : ℕ) → col < cols → row < rows
       → left_from s rows cols row col ≡ (row, col) ∷ left_from s rows cols (row + 1) col
   left_first row col lt inside =
       left_inside row col lt ∙ ap (λ (x : List (ℕ × ℕ)). x ++ columns_left s rows cols (col + 1))
       (column_more row col inside)
       ∙ ap (λ (x : List (ℕ × ℕ)). (row, col) ∷ x) (sym (left_inside (row + 1) col lt))
+
+  -- the columns from the first on are the array
+  pub columns_all : (all : ℕ) → all ≡ cols → columns_left s rows all 0 ≡ array_places s rows cols
+  unfolding array_places
+  columns_all all e =
+      let k : all - 0 ≡ cols = omega (arith, e) in
+      ap (λ (n : ℕ). flat_map (column s rows) (range_with_len 0 n)) k
+
+  -- the places from a column on begin at its first place, if it has one
+  pub columns_start : (row col : ℕ) → row ≡ first_row s col → col < cols
+      → left_from s rows cols row col ≡ columns_left s rows cols col
+  columns_start row col e lt =
+      left_inside row col lt
+      ∙ ap (λ (r : ℕ). column_left rows r col ++ columns_left s rows cols (col + 1)) e
+      ∙ sym (columns_more col lt)
+
+  pub columns_end : (row col : ℕ) → row ≡ first_row s col → rows ≤ row
+      → left_from s rows cols 0 cols ≡ columns_left s rows cols col
+  columns_end row col e le =
+      left_outside 0 cols (omega arith)
+      ∙ sym (columns_empty (cols - col) col refl (omega (arith, e, le)))
+
+  module _ (row col : ℕ) where
+    -- the first place is removed within its column
+    pub left_row : col < cols → row < rows
+        → left_from s rows cols (row + 1) col ≡ drop 1 (left_from s rows cols row col)
+    left_row lt inside = sym (ap (λ (l : List (ℕ × ℕ)). drop 1 l) (left_first row col lt inside))
+
+    -- the last place of its column is removed
+    pub left_column : col < cols → row < rows → rows ≤ row + 1
+        → columns_left s rows cols (col + 1) ≡ drop 1 (left_from s rows cols row col)
+    left_column lt inside last =
+        sym (left_inside (row + 1) col lt
+        ∙ ap (λ (l : List (ℕ × ℕ)). l ++ columns_left s rows cols (col + 1))
+        (column_none (row + 1) col last)) ∙ left_row lt inside
+
+    pub left_end : cols ≤ col
+        → left_from s rows cols row col ≡ drop 1 (left_from s rows cols row col)
+    left_end le =
+        left_outside row col le
+        ∙ sym (ap (λ (l : List (ℕ × ℕ)). drop 1 l) (left_outside row col le))
+
+    module _ (inside : col < cols → row < rows) where
+      pub left_none : leb cols col ≡ (length (left_from s rows cols row col) == 0)
+      left_none = by (ltb col cols) refl
+        where
+          by : (t : Bool) → ltb col cols ≡ t
+              → leb cols col ≡ (length (left_from s rows cols row col) == 0)
+          by true f =
+              let lt = ltb-true col cols f in
+              lt-leb cols col lt
+              ∙ sym (ap (λ (l : List (ℕ × ℕ)). length l == 0) (left_first row col lt (inside lt))
+              ∙ eqb-suc-zero (length (left_from s rows cols (row + 1) col)))
+          by false f =
+              let le = ltb-false col cols f in
+              le-leb cols col le
+              ∙ sym (ap (λ (l : List (ℕ × ℕ)). length l == 0) (left_outside row col le))
+
+      pub left_head : 0 < length (left_from s rows cols row col)
+          → slice_get (left_from s rows cols row col) 0 ≡ Some (row, col)
+      left_head some = by (ltb col cols) refl
+        where
+          by : (t : Bool) → ltb col cols ≡ t
+              → slice_get (left_from s rows cols row col) 0 ≡ Some (row, col)
+          by true f =
+              let lt = ltb-true col cols f in
+              ap (λ (l : List (ℕ × ℕ)). slice_get l 0) (left_first row col lt (inside lt))
+          by false f =
+              let none = ap (λ (l : List (ℕ × ℕ)). length l)
+              (left_outside row col (ltb-false col cols f)) in
+              absurd (omega (arith, some, none))

@@ -1,40 +1,23 @@
 -- A run of digits that is read at once, and a line end before a number.
-use Rattle.std.proofs.Common.{◌≡◌, ◌≢◌, ℕ, ◌+◌, ◌-◌, ◌*◌, ◌%◌, ◌^◌, ◌≤◌, ◌<◌, Bool, true, false}
-use Rattle.std.proofs.Common.{List, [], ◌∷◌, length, get_or, take, drop, slice_range, refl, sym, ap}
-use Rattle.std.proofs.Common.{◌∙◌, arith, length-drop, drop-drop, one-add, length-take-le, take-take}
+use Rattle.std.proofs.Common.{◌≡◌, ◌≢◌, ℕ, ◌+◌, ◌-◌, ◌*◌, ◌%◌, ◌^◌, ◌≤◌, ◌<◌, false}
+use Rattle.std.proofs.Common.{List, [], ◌∷◌, length, get_or, take, drop, slice_range, refl, sym, ap, subst}
+use Rattle.std.proofs.Common.{◌∙◌, arith, length-drop, drop-drop, length-take-le, take-take}
+use Rattle.std.proofs.lemmas.List.{drop_more, drop-take}
 use Rattle.std.proofs.lemmas.Bool.Decides.{nat_tests}
 use Rattle.std.specs.Char.{is_ascii_digit}
-use Rattle.std.specs.List.{prefix_len}
 use Rattle.std.specs.Str.Parse.{digits_value, digits_value_after}
 use Rattle.std.specs.Float.Numeral.{digits_len}
 use Rattle.core.proofs.dec2flt.DigitsLemmas.{digits_len_short}
 use Rattle.core.proofs.dec2flt.Rows.{AllDigits-digits_len, short_fits}
 use Rattle.core.proofs.slice.Prefixes.{prefix_len-le-length}
-use Rattle.sparse_parser.specs.Bytes.{front, after}
+use Rattle.sparse_parser.specs.Bytes.{is_blank, front, after}
 use Rattle.sparse_parser.specs.InnerBytes.{is_space, BeginsLine}
 use Rattle.sparse_parser.specs.InnerNumbers.{IsNumberRead}
+use Rattle.sparse_parser.specs.InnerReading.{contents_of}
 use Rattle.sparse_parser.proofs.Fronts.{IsStopped-after, front-append, after-append, after-yes}
+use Rattle.sparse_parser.proofs.Fronts.{front_take, after_drop}
 use Rattle.sparse_parser.proofs.Fronts.{after-no}
-use Rattle.sparse_parser.proofs.LineLaws.{IsSought, sought_first}
-
-module _ (p : ℕ → Bool) where
-  front_take : (text : List ℕ) → front p text ≡ take (prefix_len p text) text
-  front_take [] = refl
-  front_take (b ∷ text) = by (p b) refl (front_take text)
-    where
-      by : (t : Bool) → p b ≡ t → front p text ≡ take (prefix_len p text) text
-          → front p (b ∷ text) ≡ take (prefix_len p (b ∷ text)) (b ∷ text)
-      by true e h = rw (e, one-add (prefix_len p text)) (ap (λ (t : List ℕ). b ∷ t) h)
-      by false e h = rw e refl
-
-  after_drop : (text : List ℕ) → after p text ≡ drop (prefix_len p text) text
-  after_drop [] = refl
-  after_drop (b ∷ text) = by (p b) refl (after_drop text)
-    where
-      by : (t : Bool) → p b ≡ t → after p text ≡ drop (prefix_len p text) text
-          → after p (b ∷ text) ≡ drop (prefix_len p (b ∷ text)) (b ∷ text)
-      by true e h = rw (e, one-add (prefix_len p text)) h
-      by false e h = rw e refl
+use Rattle.sparse_parser.proofs.LineLaws.{IsSought, sought_first, outside}
 
 -- at most 19 digits were read, up to the last
 run_read : (text : List ℕ) (from count number : ℕ) → from ≤ length text
@@ -85,6 +68,28 @@ first_read most text rest first from count number inside r e run short few is =
     run_read text from count number inside (omega arith) (omega arith)
     (omega (arith, ap (digits_value 10) digits))
 
+-- the same where five bytes before the digits are read too
+pub window_read : (text before window : List ℕ) (from end number : ℕ) → from ≤ length text → 5 ≤ from
+    → before ≡ drop (from - 5) text → window ≡ take 12 before
+    → end ≡ 5 + digits_len (drop 5 window) → end < 12
+    → number ≡ (0 * 10 ^ (end - 5) + digits_value 10 (slice_range window 5 end)) % 2 ^ 64
+    → IsNumberRead (drop from text) number (drop (from + (end - 5)) text)
+window_read text before window from end number inside room b w run short is =
+    let at : from - 5 + 5 ≡ from = omega arith in
+    let seven : drop 5 window ≡ take 7 (drop from text) =
+    ap (drop 5) w ∙ drop-take 5 7 before
+    ∙ ap (λ (t : List ℕ). take 7 (drop 5 t)) b
+    ∙ ap (take 7) (drop-drop 5 (from - 5) text ∙ ap (λ (n : ℕ). drop n text) at) in
+    let count : end - 5 ≡ 0 + digits_len (drop 0 (drop 5 window)) = omega arith in
+    let none_off : end - 5 ≡ end - 5 - 0 = omega arith in
+    first_read 7 text (drop from text) (drop 5 window) from (end - 5) number inside refl seven count
+    (omega arith) (omega arith)
+    (is ∙ ap (λ (n : ℕ). (0 * 10 ^ n + digits_value 10 (take n (drop 5 window))) % 2 ^ 64) none_off)
+
+pub no_blank_before : (text : List ℕ) → BeginsLine text → text ≡ after is_blank text
+no_blank_before [] begins = refl
+no_blank_before (b ∷ text) begins = sym (after-no is_blank b text (outside b begins.0).0)
+
 visible : (b : ℕ) → 37 < b → is_space b ≡ false
 visible b lt = grind (arith, nat_tests)
 
@@ -100,3 +105,17 @@ line_begins (a ∷ b ∷ text) lt e more =
     sym (ap (λ (c : ℕ). after is_space (c ∷ b ∷ text)) e
     ∙ after-yes is_space 10 (b ∷ text) refl ∙ after-no is_space b text seen) in
     (sought_first (a ∷ b ∷ text) (b ∷ text) at, (seen, no_comment))
+
+-- the same at a position of a text
+pub line_begins_at : (text : List ℕ) (from : ℕ) → from + 1 < length text → get_or text from 0 ≡ 10
+    → 37 < get_or text (from + 1) 0
+    → (contents_of (drop (from + 1) text) ≡ contents_of (drop from text))
+    × BeginsLine (drop (from + 1) text)
+line_begins_at text from inside e more =
+    let here = drop_more text from 0 (omega arith) in
+    let next = drop_more text (from + 1) 0 inside in
+    let both : drop from text ≡ get_or text from 0 ∷ get_or text (from + 1) 0 ∷ drop (from + 1 + 1) text =
+    here ∙ ap (λ (t : List ℕ). get_or text from 0 ∷ t) next in
+    let l = line_begins (get_or text from 0 ∷ get_or text (from + 1) 0 ∷ drop (from + 1 + 1) text)
+    (omega arith) e more in
+    (ap contents_of next ∙ l.0.same ∙ ap contents_of (sym both), subst BeginsLine (sym next) l.1)

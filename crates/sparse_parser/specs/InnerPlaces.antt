@@ -1,10 +1,10 @@
 -- The places that are left of an array.
-use Rattle.std.specs.Prelude.{◌≡◌, ℕ, ◌+◌, ◌-◌, ◌<◌, ◌≤◌, ◌++◌, List, [], map, nat_lt}
+use Rattle.std.specs.Prelude.{ℕ, ◌+◌, ◌-◌, ◌++◌, List, [], map, nat_lt}
 use Rattle.std.specs.Prelude.{if◌then◌else◌}
 use Rattle.std.specs.List.{flat_map, range_with_len}
 use Rattle.sparse_parser.specs.declared.places.Places.{Places}
 use Rattle.sparse_parser.specs.declared.header.Symmetry.{Symmetry}
-use Rattle.sparse_parser.specs.ArrayPlaces.{first_row, column}
+use Rattle.sparse_parser.specs.ArrayPlaces.{column}
 
 -- those of a column from a row on
 abbrev pub column_left : ℕ → ℕ → ℕ → List (ℕ × ℕ)
@@ -20,7 +20,3 @@ left_from s rows cols row col = if nat_lt col cols then column_left rows row col
 
 unfoldable pub places_left : Places → List (ℕ × ℕ)
 places_left p = left_from p.symmetry p.rows p.cols p.row p.col
-
--- if the column has no places left, it had none
-abbrev pub IsSettled : Places → Type 0
-IsSettled p = p.col < p.cols → p.rows ≤ p.row → p.row ≡ first_row p.symmetry p.col

@@ -2,10 +2,11 @@
 //!
 //! The lines are read by positions in one text, which takes half as many instructions as a slice for each number.
 
-ghost use Rattle.std.specs.Prelude.{◌≡◌, ◌≤◌, pos, true, if◌then◌else◌, MatchOption, length, drop};
+ghost use Rattle.std.specs.Prelude.{◌≡◌, ◌≢◌, ◌≤◌, ℕ, pos, true, if◌then◌else◌, MatchOption, List, length, drop};
 ghost use Rattle.std.specs.Str.Parse.{starts_with_minus, without_leading_sign};
 ghost use lib.IntN.{neg_ℤ};
 ghost use Rattle.sparse_parser.specs.Bytes.{is_blank, after};
+ghost use Rattle.sparse_parser.specs.InnerBytes.{BeginsLine};
 ghost use Rattle.sparse_parser.specs.InnerNumbers.{IsNumberRead};
 ghost use Rattle.sparse_parser.specs.InnerLines.{ends_word};
 ghost use Rattle.sparse_parser.specs.InnerIntegers.{IsIndexAt, IsEndAt, IsLastIndex, IsLastNumber, IsIntegerLine, IsPlaceLine, IsValueLine};
@@ -14,73 +15,93 @@ use crate::lines::{ends_line, ends_word, is_blank};
 use crate::numbers::SHORT;
 use core::dec2flt::read_digits;
 
-/// Parses the first line of a text as two indices and an integer. Returns the row, the column, the value and the text from the line's
-/// end on, or `None` if the line has another form.
+/// Parses the line at a position as two indices and an integer. Returns the row, the column, the value and the position of the line's end,
+/// or `None` if the line has another form.
 #[tactic(auto, using(crate::proofs::IntegerLaws::integer_line_is))]
 #[inline(always)]
-pub fn integer_line(text: &[u8]) -> Option<(usize, usize, i64, &[u8])>
-    ensures { MatchOption result (Unit {0})
-        (λ line. IsIntegerLine text.now line.0 line.1 line.2 line.3.now) }
+pub fn integer_line(text: &[u8], from: usize) -> Option<(usize, usize, i64, usize)>
+    requires { from ≤ length text.now }
+    ensures inside { MatchOption result (Unit {0}) (λ line. line.3 ≤ length text.now) }
+    ensures line { MatchOption result (Unit {0})
+        (λ line. IsIntegerLine (drop from text.now) line.0 line.1 line.2 (drop line.3 text.now)) }
 {
-    let (row, at) = index_at(text, 0)?;
+    let (row, at) = index_at(text, from)?;
     let (col, at) = index_at(text, at)?;
     let (value, end) = last_integer(text, at)?;
     Some((row, col, value, end))
 }
 
-/// Parses the first line of a text as two indices. Returns the row, the column and the text from the line's end on, or `None` if the
-/// line has another form.
-#[inline(always)]
-pub fn place_line(text: &[u8]) -> Option<(usize, usize, &[u8])>
-    ensures { MatchOption result (Unit {0})
-        (λ line. IsPlaceLine text.now line.0 line.1 line.2.now) }
-{
-    let (row, at) = index_at(text, 0)?;
-    let (col, rest) = last_index(text, at)?;
-    Some((row, col, rest))
-}
-
-/// Parses the first line of a text as an integer. Returns the value and the text from the line's end on, or `None` if the line has
+/// Parses the line at a position as two indices. Returns the row, the column and the position of the line's end, or `None` if the line has
 /// another form.
 #[inline(always)]
-pub fn value_line(text: &[u8]) -> Option<(i64, &[u8])>
-    ensures { MatchOption result (Unit {0}) (λ line. IsValueLine text.now line.0 line.1.now) }
+pub fn place_line(text: &[u8], from: usize) -> Option<(usize, usize, usize)>
+    requires { from ≤ length text.now }
+    ensures inside { MatchOption result (Unit {0}) (λ line. line.2 ≤ length text.now) }
+    ensures line { MatchOption result (Unit {0})
+        (λ line. IsPlaceLine (drop from text.now) line.0 line.1 (drop line.2 text.now)) }
 {
-    last_integer(text, 0)
+    let (row, at) = index_at(text, from)?;
+    let (col, end) = last_index(text, at)?;
+    Some((row, col, end))
 }
 
-// The integer at a position, after blanks, and the text from the line's end on.
+/// Parses the line at a position as an integer. Returns the value and the position of the line's end, or `None` if the line has another
+/// form.
 #[inline(always)]
-fn last_integer(text: &[u8], from: usize) -> Option<(i64, &[u8])>
-    requires { from ≤ length text.now }
-    ensures { MatchOption result (Unit {0})
-        (λ line. IsValueLine (drop from text.now) line.0 line.1.now) }
+pub fn value_line(text: &[u8], from: usize) -> Option<(i64, usize)>
+    requires inside { from ≤ length text.now }
+    requires begins { BeginsLine (drop from text.now) }
+    ensures inside { MatchOption result (Unit {0}) (λ line. line.1 ≤ length text.now) }
+    ensures line { MatchOption result (Unit {0})
+        (λ line. IsValueLine (drop from text.now) line.0 (drop line.1 text.now)) }
 {
-    let start = skip_blanks(text, from);
+    integer_from(text, from)
+}
+
+// The integer at a position, after blanks, and the position of the line's end.
+#[inline(always)]
+fn last_integer(text: &[u8], from: usize) -> Option<(i64, usize)>
+    requires { from ≤ length text.now }
+    ensures inside { MatchOption result (Unit {0}) (λ line. line.1 ≤ length text.now) }
+    ensures line { MatchOption result (Unit {0})
+        (λ line. IsValueLine (drop from text.now) line.0 (drop line.1 text.now)) }
+{
+    integer_from(text, skip_blanks(text, from))
+}
+
+// The integer at a position, before which any blanks were skipped, and the position of the line's end.
+#[inline(always)]
+fn integer_from(text: &[u8], start: usize) -> Option<(i64, usize)>
+    requires { start ≤ length text.now }
+    ensures inside { MatchOption result (Unit {0}) (λ line. line.1 ≤ length text.now) }
+    ensures line { (whole : List ℕ) → drop start text.now ≡ after is_blank whole
+        → MatchOption result (Unit {0}) (λ line. IsValueLine whole line.0 (drop line.1 text.now)) }
+{
     let unsigned = after_sign_at(text, start);
-    let (number, rest) = last_number(text, unsigned)?;
+    let (number, end) = last_number(text, unsigned)?;
     let value = signed(number, starts_with_minus(text_from(text, start)))?;
-    Some((value, rest))
+    Some((value, end))
 }
 
-// The value of at most 19 digits at a position, and the text from the line's end on. One digit before LF is a case of its own, since
-// small values are common.
+// The value of at most 19 digits at a position, and the position of the line's end. One digit before LF is a case of its own, since small
+// values are common.
 #[inline(always)]
-fn last_number(text: &[u8], from: usize) -> Option<(usize, &[u8])>
+fn last_number(text: &[u8], from: usize) -> Option<(usize, usize)>
     requires { from ≤ length text.now }
-    ensures { MatchOption result (Unit {0})
-        (λ found. IsLastNumber (drop from text.now) found.0 found.1.now) }
+    ensures inside { MatchOption result (Unit {0}) (λ found. found.1 ≤ length text.now) }
+    ensures number { MatchOption result (Unit {0})
+        (λ found. IsLastNumber (drop from text.now) found.0 (drop found.1 text.now)) }
 {
     if text.len() - from > 1 && text[from].is_ascii_digit() && text[from + 1] == b'\n' {
         let number = usize::from(text[from] - b'0');
-        return Some((number, text_from(text, from + 1)));
+        return Some((number, from + 1));
     }
     let (number, end) = long_digits_at(text, from);
     if end == from {
         return None;
     }
-    let rest = number_end(text, end)?;
-    Some((number, rest))
+    let end = number_end(text, end)?;
+    Some((number, end))
 }
 
 // The index at a position, after blanks, and a position behind it. Most often one blank comes before the next number, and it is passed
@@ -96,42 +117,48 @@ fn index_at(text: &[u8], from: usize) -> Option<(usize, usize)>
     if end > from && end < text.len() && is_blank(text[end]) {
         return Some((number, end + 1));
     }
-    match spaced_index_at(text, from) {
-        None => None,
-        Some((number, end)) => Some((number, end)),
+    let (number, end) = spaced_index_at(text, from);
+    if end == from {
+        return None;
     }
+    Some((number, end))
 }
 
-// The index at a position, after blanks, and the text from the line's end on. Most often LF comes at once.
+// The index at a position, after blanks, and the position of the line's end. Most often LF comes at once.
 #[inline(always)]
-fn last_index(text: &[u8], from: usize) -> Option<(usize, &[u8])>
-    requires { from ≤ length text.now }
-    ensures { MatchOption result (Unit {0})
-        (λ found. IsLastIndex (drop from text.now) found.0 found.1.now) }
-{
-    let (number, end) = digits_at(text, from);
-    if end > from && end < text.len() && text[end] == b'\n' {
-        return Some((number, text_from(text, end)));
-    }
-    let (number, end) = spaced_index_at(text, from)?;
-    let rest = line_end(text, end)?;
-    Some((number, rest))
-}
-
-// The same as `index_at` for an index of any form.
-#[cold]
-fn spaced_index_at(text: &[u8], from: usize) -> Option<(usize, usize)>
+fn last_index(text: &[u8], from: usize) -> Option<(usize, usize)>
     requires { from ≤ length text.now }
     ensures inside { MatchOption result (Unit {0}) (λ found. found.1 ≤ length text.now) }
     ensures index { MatchOption result (Unit {0})
-        (λ found. IsIndexAt (drop from text.now) found.0 (drop found.1 text.now)) }
+        (λ found. IsLastIndex (drop from text.now) found.0 (drop found.1 text.now)) }
+{
+    let (number, end) = digits_at(text, from);
+    if end > from && end < text.len() && text[end] == b'\n' {
+        return Some((number, end));
+    }
+    let (number, behind) = spaced_index_at(text, from);
+    if behind == from {
+        return None;
+    }
+    let end = line_end(text, behind)?;
+    Some((number, end))
+}
+
+// The index of any form at a position, after blanks, and the position behind it, which is `from` if there is no index. Two words are
+// returned in registers, and an option would not be.
+#[cold]
+fn spaced_index_at(text: &[u8], from: usize) -> (usize, usize)
+    requires { from ≤ length text.now }
+    ensures inside { result.1 ≤ length text.now }
+    ensures index { result.1 ≢ from
+        → IsIndexAt (drop from text.now) result.0 (drop result.1 text.now) }
 {
     let start = skip_blanks(text, from);
     let (number, end) = digits_at(text, start);
     if end == start || !ends_word(text_from(text, end)) {
-        return None;
+        return (0, from);
     }
-    Some((number, end))
+    (number, end)
 }
 
 // The text from a position on.
@@ -171,25 +198,37 @@ fn after_sign_at(text: &[u8], at: usize) -> usize
 
 // The value of at most 19 digits at a position, and the position after them.
 //
-// Up to seven digits are read at once, and no branch depends on how many there are.
+// Up to six digits are read at once, and no branch depends on how many there are: `read_digits` has neither a loop nor a table of powers
+// to go through where less than eight of at least twelve bytes are left. So it gets the bytes before the digits too, of which there are
+// enough but at the beginning of the text.
 #[inline(always)]
 fn digits_at(text: &[u8], from: usize) -> (usize, usize)
     requires { from ≤ length text.now }
     ensures inside { result.1 ≤ length text.now }
     ensures read { IsNumberRead (drop from text.now) result.0 (drop result.1 text.now) }
 {
-    let rest = text_from(text, from);
-    if rest.len() >= 8 {
-        let (eight, _) = rest.split_at(8);
-        let (count, number) = read_digits(eight, 0, 0);
-        if count < 8 {
-            return (number as usize, from + count);
+    if from >= 5 && text.len() - from >= 7 {
+        let before = text_from(text, from - 5);
+        let (window, _) = before.split_at(12);
+        let (end, number) = read_digits(window, 5, 0);
+        if end < 12 {
+            return (number as usize, from + (end - 5));
         }
     }
-    first_digits_at(text, from)
+    many_digits_at(text, from)
 }
 
-// The same for numbers that are often long: up to three times eight digits are read.
+// The same where more than six digits may follow.
+#[cold]
+fn many_digits_at(text: &[u8], from: usize) -> (usize, usize)
+    requires { from ≤ length text.now }
+    ensures inside { result.1 ≤ length text.now }
+    ensures read { IsNumberRead (drop from text.now) result.0 (drop result.1 text.now) }
+{
+    long_digits_at(text, from)
+}
+
+// The same for numbers that are often long, up to three times eight digits at once.
 #[inline(always)]
 fn long_digits_at(text: &[u8], from: usize) -> (usize, usize)
     requires { from ≤ length text.now }
@@ -247,17 +286,19 @@ fn signed(number: usize, is_negative: bool) -> Option<i64>
     }
 }
 
-// The text from the line's end on, if a number ends here and only blanks come before it.
+// The position of the line's end, if a number ends here and only blanks come before it.
 #[inline(always)]
-fn number_end(text: &[u8], from: usize) -> Option<&[u8]>
+fn number_end(text: &[u8], from: usize) -> Option<usize>
     requires { from ≤ length text.now }
+    ensures inside { MatchOption result (Unit {0}) (λ end. end ≤ length text.now) }
     ensures word { MatchOption result (Unit {0})
-        (λ rest. ends_word (drop from text.now) ≡ true) }
-    ensures line { MatchOption result (Unit {0}) (λ rest. IsEndAt (drop from text.now) rest.now) }
+        (λ end. ends_word (drop from text.now) ≡ true) }
+    ensures line { MatchOption result (Unit {0})
+        (λ end. IsEndAt (drop from text.now) (drop end text.now)) }
 {
     let rest = text_from(text, from);
     if ends_line(rest) {
-        return Some(rest);
+        return Some(from);
     }
     if !ends_word(rest) {
         return None;
@@ -265,12 +306,18 @@ fn number_end(text: &[u8], from: usize) -> Option<&[u8]>
     line_end(text, from)
 }
 
-// The text from the line's end on, if only blanks come before it.
+// The position of the line's end, if only blanks come before it.
 #[cold]
-fn line_end(text: &[u8], from: usize) -> Option<&[u8]>
+fn line_end(text: &[u8], from: usize) -> Option<usize>
     requires { from ≤ length text.now }
-    ensures { MatchOption result (Unit {0}) (λ rest. IsEndAt (drop from text.now) rest.now) }
+    ensures inside { MatchOption result (Unit {0}) (λ end. end ≤ length text.now) }
+    ensures line { MatchOption result (Unit {0})
+        (λ end. IsEndAt (drop from text.now) (drop end text.now)) }
 {
-    let rest = text_from(text, skip_blanks(text, from));
-    if ends_line(rest) { Some(rest) } else { None }
+    let end = skip_blanks(text, from);
+    if ends_line(text_from(text, end)) {
+        Some(end)
+    } else {
+        None
+    }
 }

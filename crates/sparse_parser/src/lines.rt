@@ -1,6 +1,6 @@
 //! Lines of a text, and the words of a line.
 
-ghost use Rattle.std.specs.Prelude.{◌≡◌, ◌≤◌, ℕ, Bool, [], ◌∷◌, length, MatchOption};
+ghost use Rattle.std.specs.Prelude.{◌≡◌, ◌≤◌, ◌-◌, ℕ, Bool, [], ◌∷◌, length, drop, MatchOption};
 ghost use Rattle.sparse_parser.specs.Bytes.{is_blank, is_line_end, front, after};
 ghost use Rattle.sparse_parser.specs.InnerBytes.{is_space, is_within_line, is_within_word, is_solid, Decides, BeginsLine};
 ghost use Rattle.sparse_parser.specs.InnerReading.{words_of, contents_of, ends_line};
@@ -89,25 +89,51 @@ pub fn split_line(text: &[u8]) -> (&[u8], &[u8])
 }
 
 /// Skips blank lines and comments. Returns the text from the first word of the next line on; it is empty if no line is left.
-#[inline(always)]
 pub fn next_line(text: &[u8]) -> &[u8]
     ensures begins { BeginsLine result.now }
     ensures same { contents_of result.now ≡ contents_of text.now }
     ensures len { length result.now ≤ length text.now }
 {
+    let (_, rest) = text.split_at(next_line_at(text, 0));
+    rest
+}
+
+/// Skips blank lines and comments from a position on. Returns the position of the first word of the next line, or of the text's end if no
+/// line is left.
+#[inline(always)]
+pub fn next_line_at(text: &[u8], from: usize) -> usize
+    requires { from ≤ length text.now }
+    ensures from { from ≤ result }
+    ensures inside { result ≤ length text.now }
+    ensures begins { BeginsLine (drop result text.now) }
+    ensures same { contents_of (drop result text.now) ≡ contents_of (drop from text.now) }
+{
     // Most often one LF comes before a number.
-    if text.len() > 1 && text[0] == b'\n' && text[1] > b'%' {
-        let (_, rest) = text.split_at(1);
-        return rest;
+    if text.len() - from > 1 && text[from] == b'\n' && text[from + 1] > b'%' {
+        return from + 1;
     }
-    sought_line(text)
+    sought_line_at(text, from)
 }
 
 // The same after line ends and blanks of any number.
+#[cold]
+fn sought_line_at(text: &[u8], from: usize) -> usize
+    requires { from ≤ length text.now }
+    ensures from { from ≤ result }
+    ensures inside { result ≤ length text.now }
+    ensures begins { BeginsLine (drop result text.now) }
+    ensures same { contents_of (drop result text.now) ≡ contents_of (drop from text.now) }
+{
+    let (_, rest) = text.split_at(from);
+    text.len() - sought_line(rest).len()
+}
+
+// The text from the next line on, after line ends and blanks of any number.
 fn sought_line(text: &[u8]) -> &[u8]
     ensures begins { BeginsLine result.now }
     ensures same { contents_of result.now ≡ contents_of text.now }
     ensures len { length result.now ≤ length text.now }
+    ensures end { result.now ≡ drop (length text.now - length result.now) text.now }
 {
     let mut rest = after_space(text);
     while let [b'%', ..] = rest {

@@ -1,8 +1,7 @@
 //! The places of an array's entries.
 
-ghost use Rattle.std.specs.Prelude.{◌≡◌, ◌+◌, ◌<◌, ◌∷◌, slice_get, drop};
+ghost use Rattle.std.specs.Prelude.{◌≡◌, ◌+◌, ◌<◌, ◌==◌, slice_get, drop, length};
 ghost use Rattle.sparse_parser.specs.ArrayPlaces.{first_row, places_of};
-ghost use Rattle.sparse_parser.specs.InnerPlaces.{places_left, IsSettled};
 
 use crate::header::{Format, Symmetry};
 
@@ -14,9 +13,13 @@ pub struct Places {
     cols: usize,
     row: usize,
     col: usize,
+    // The first place lies in the array, unless none is left.
+    ghost in_array: { col < cols → row < rows },
 }
 
 impl Places {
+    ghost use Rattle.sparse_parser.specs.InnerPlaces.{places_left, left_from, columns_left};
+
     /// Returns the places of an array of these sizes. In the coordinate format there are none, since each data line gives its own.
     pub fn new(format: Format, symmetry: Symmetry, rows: usize, cols: usize) -> Places
         ensures { places_left result ≡ places_of format symmetry rows cols }
@@ -25,13 +28,46 @@ impl Places {
             Format::Coordinate => 0,
             Format::Array => cols,
         };
-        let row = if cols == 0 { 0 } else { first_row(symmetry, 0) };
+        let (row, col) = Places::first_from(symmetry, rows, cols, 0);
         Places {
             symmetry,
             rows,
             cols,
             row,
-            col: 0,
+            col,
+        }
+    }
+
+    /// Returns whether no place is left.
+    #[inline(always)]
+    pub fn is_empty(&self) -> bool
+        ensures { result ≡ (length (places_left self.now) == 0) }
+    {
+        self.col >= self.cols
+    }
+
+    /// Returns the first place. There must be one.
+    #[inline(always)]
+    pub fn first(&self) -> (usize, usize)
+        requires { 0 < length (places_left self.now) }
+        ensures { slice_get (places_left self.now) 0 ≡ Some result }
+    {
+        (self.row, self.col)
+    }
+
+    /// Removes the first place, if there is one.
+    #[inline(always)]
+    pub fn remove_first(&mut self)
+        ensures { places_left self.new ≡ drop 1 (places_left self.old) }
+    {
+        if self.col < self.cols {
+            self.row += 1;
+            if self.row >= self.rows {
+                let next = self.col + 1;
+                let (row, col) = Places::first_from(self.symmetry, self.rows, self.cols, next);
+                self.row = row;
+                self.col = col;
+            }
         }
     }
 
@@ -41,52 +77,28 @@ impl Places {
         ensures first { result ≡ slice_get (places_left self.old) 0 }
         ensures left { places_left self.new ≡ drop 1 (places_left self.old) }
     {
-        if self.col >= self.cols {
+        if self.is_empty() {
             return None;
         }
-        if self.row < self.rows {
-            return Some(self.take_row());
-        }
-        self.take_within()
+        let place = self.first();
+        self.remove_first();
+        Some(place)
     }
 
-    // The same, after a move to the next column if the current one has no rows left.
+    // Returns the first place from a column on, or `(0, cols)` if there is none. After a column without places there are no more.
     #[inline(always)]
-    fn take_within(&mut self) -> Option<(usize, usize)>
-        ensures first { result ≡ slice_get (places_left self.old) 0 }
-        ensures left { places_left self.new ≡ drop 1 (places_left self.old) }
+    fn first_from(symmetry: Symmetry, rows: usize, cols: usize, col: usize) -> (usize, usize)
+        ensures places { left_from symmetry rows cols result.0 result.1
+            ≡ columns_left symmetry rows cols col }
+        ensures in_array { result.1 < cols → result.0 < rows }
     {
-        self.settle();
-        if self.col >= self.cols || self.row >= self.rows {
-            return None;
-        }
-        Some(self.take_row())
-    }
-
-    // Removes and returns the first place, which lies in the current column.
-    #[inline(always)]
-    fn take_row(&mut self) -> (usize, usize)
-        requires col { self.old.col < self.old.cols }
-        requires row { self.old.row < self.old.rows }
-        ensures { places_left self.old ≡ result ∷ places_left self.new }
-    {
-        let place = (self.row, self.col);
-        self.row += 1;
-        place
-    }
-
-    // Moves to the next column if the current one has no rows left.
-    #[inline(always)]
-    fn settle(&mut self)
-        ensures left { places_left self.new ≡ places_left self.old }
-        ensures settled { IsSettled self.new }
-    {
-        if self.col < self.cols && self.row >= self.rows {
-            self.col += 1;
-            if self.col < self.cols {
-                self.row = first_row(self.symmetry, self.col);
+        if col < cols {
+            let row = first_row(symmetry, col);
+            if row < rows {
+                return (row, col);
             }
         }
+        (0, cols)
     }
 }
 

@@ -1,6 +1,6 @@
 //! Pushing triplets, as long as all lie within the shape.
 
-ghost use Rattle.std.specs.Prelude.{◌≡◌, ◌&&◌, true, false, IsTrue, IfOk, OnOk, map};
+ghost use Rattle.std.specs.Prelude.{◌≡◌, ◌<◌, ◌&&◌, IsTrue, IfOk, OnOk, map};
 ghost use Rattle.std.specs.List.{list_all};
 ghost use Rattle.sparse_base.specs.Coo.{appended};
 ghost use Rattle.sparse_parser.specs.Meaning.{is_inside, values_of, value_triplet};
@@ -32,22 +32,23 @@ pub fn are_inside<T: MatrixMarketScalar>(nrows: usize, ncols: usize, found: Trip
     }
 }
 
-/// Appends an entry and the mirrored one, which lie within the shape, and returns whether there was memory for them.
+/// Appends an entry and the mirrored one, which lie within the shape, to a matrix with room for both.
 #[inline(always)]
-pub fn append_all<T: MatrixMarketScalar>(list: &mut CooAppender<T>, found: Triplets<T>) -> bool
-    requires { IsTrue (list_all (is_inside T.scalar list.old.nrows list.old.ncols)
+pub fn append_all<T: MatrixMarketScalar>(list: &mut CooAppender<T>, found: Triplets<T>)
+    requires inside { IsTrue (list_all
+        (is_inside T.scalar list.old.matrix.nrows list.old.matrix.ncols)
         (map (λ t. value_triplet T.value t) (both_of found))) }
-    ensures added { result ≡ true → values_of T.value list.new
-        ≡ appended (values_of T.value list.old)
+    requires room { 1 < list.old.room }
+    ensures added { values_of T.value list.new.matrix
+        ≡ appended (values_of T.value list.old.matrix)
         (map (λ t. value_triplet T.value t) (both_of found)) }
-    ensures full { result ≡ false → list.new ≡ list.old }
-    ensures rows { list.new.nrows ≡ list.old.nrows }
-    ensures cols { list.new.ncols ≡ list.old.ncols }
+    ensures rows { list.new.matrix.nrows ≡ list.old.matrix.nrows }
+    ensures cols { list.new.matrix.ncols ≡ list.old.matrix.ncols }
 {
     let ((row, col, value), mirrored) = found;
-    match mirrored {
-        None => list.push(row, col, value),
-        Some(other) => list.push_mirrored(row, col, value, other),
+    list.push(row, col, value);
+    if let Some(other) = mirrored {
+        list.push(col, row, other);
     }
 }
 

@@ -2,13 +2,14 @@
 //!
 //! The loop is compiled anew for each kind of line, so that it stays small and keeps what it needs in registers.
 
-ghost use Rattle.std.specs.Prelude.{◌≡◌, ◌≤◌, ◌+◌, pos, true, if◌then◌else◌, MatchOption, Ok, length, map};
+ghost use Rattle.std.specs.Prelude.{◌≡◌, ◌≤◌, ◌<◌, ◌+◌, pos, true, if◌then◌else◌, MatchOption, Ok, length, drop, map, slice_get};
 ghost use lib.IntN.{neg_ℤ};
 ghost use Rattle.sparse_parser.specs.InnerBytes.{BeginsLine};
 ghost use Rattle.sparse_parser.specs.InnerPlaces.{places_left};
 ghost use Rattle.sparse_parser.specs.InnerIntegers.{IsValueLine};
 ghost use Rattle.sparse_parser.specs.Meaning.{values_of, value_triplet};
-ghost use Rattle.sparse_io.specs.InnerEntries.{both_of, symmetry_of, HasValues, IsMeant, IsReadOn, reading};
+ghost use Rattle.sparse_parser.specs.InnerReading.{contents_of};
+ghost use Rattle.sparse_io.specs.InnerEntries.{both_of, symmetry_of, HasValues, IsLineRead, IsReadOn, reading};
 
 use crate::reader::entry::{Triplets, integer_triplets, place_triplets, value_triplets};
 use crate::reader::pushes::{append_all, are_inside};
@@ -17,7 +18,7 @@ use sparse_base::coo::CooMatrix;
 use sparse_market_scalar::MatrixMarketScalar;
 use sparse_parser::header::{Field, Format, Header, Symmetry};
 use sparse_parser::integer_lines::{integer_line, place_line, value_line};
-use sparse_parser::lines::next_line;
+use sparse_parser::lines::next_line_at;
 use sparse_parser::places::Places;
 
 /// A kind of data line.
@@ -27,12 +28,21 @@ trait Kind<T: MatrixMarketScalar> {
     // The headers of the files that have such lines.
     ghost is_for: { Header → Type 0 };
 
-    // Reads the first line of a text. Returns its triplets and the text from the line's end on, or `None` if the line has another form
-    // or is refused.
-    fn line(header: Header, at: Option<(usize, usize)>, text: &[u8]) -> Option<(Triplets<T>, &[u8])>
-        requires { is_for header }
-        ensures { MatchOption result (Unit {0}) (λ x. IsMeant T.scalar header at text.now
-            (Ok (map (λ t. value_triplet T.value t) (both_of x.0))) x.1.now) };
+    // Reads the line at a position. Returns its triplets and the position of the next line, or `None` if the line has another form or is
+    // refused.
+    fn line(
+        header: Header,
+        places: &Places,
+        text: &[u8],
+        from: usize,
+    ) -> Option<(Triplets<T>, usize)>
+        requires kind { is_for header }
+        requires inside { from ≤ length text.now }
+        requires begins { BeginsLine (drop from text.now) }
+        ensures inside { MatchOption result (Unit {0}) (λ x. x.1 ≤ length text.now) }
+        ensures read { MatchOption result (Unit {0}) (λ x. IsLineRead T.scalar header
+            (slice_get (places_left places.now) 0) (drop from text.now)
+            (Ok (map (λ t. value_triplet T.value t) (both_of x.0))) (drop x.1 text.now)) };
 }
 
 /// Lines of two indices and an integer.
@@ -55,12 +65,13 @@ impl<T: MatrixMarketScalar> Kind<T> for IntegerLines {
     #[inline(always)]
     fn line(
         header: Header,
-        _at: Option<(usize, usize)>,
+        _places: &Places,
         text: &[u8],
-    ) -> Option<(Triplets<T>, &[u8])> {
-        let (row, col, value, after) = integer_line(text)?;
+        from: usize,
+    ) -> Option<(Triplets<T>, usize)> {
+        let (row, col, value, end) = integer_line(text, from)?;
         match integer_triplets(header.symmetry, row, col, i128::from(value)) {
-            Ok(found) => Some((found, after)),
+            Ok(found) => Some((found, next_line_at(text, end))),
             Err(_) => None,
         }
     }
@@ -74,12 +85,13 @@ impl<T: MatrixMarketScalar> Kind<T> for PlaceLines {
     #[inline(always)]
     fn line(
         header: Header,
-        _at: Option<(usize, usize)>,
+        _places: &Places,
         text: &[u8],
-    ) -> Option<(Triplets<T>, &[u8])> {
-        let (row, col, after) = place_line(text)?;
+        from: usize,
+    ) -> Option<(Triplets<T>, usize)> {
+        let (row, col, end) = place_line(text, from)?;
         match place_triplets(header.symmetry, row, col) {
-            Ok(found) => Some((found, after)),
+            Ok(found) => Some((found, next_line_at(text, end))),
             Err(_) => None,
         }
     }
@@ -93,13 +105,16 @@ impl<T: MatrixMarketScalar> Kind<T> for ValueLines {
     #[inline(always)]
     fn line(
         header: Header,
-        at: Option<(usize, usize)>,
+        places: &Places,
         text: &[u8],
-    ) -> Option<(Triplets<T>, &[u8])> {
-        let at = at?;
-        let (value, after) = value_line(text)?;
-        match value_triplets(header.symmetry, at, i128::from(value)) {
-            Ok(found) => Some((found, after)),
+        from: usize,
+    ) -> Option<(Triplets<T>, usize)> {
+        if places.is_empty() {
+            return None;
+        }
+        let (value, end) = value_line(text, from)?;
+        match value_triplets(header.symmetry, places.first(), i128::from(value)) {
+            Ok(found) => Some((found, next_line_at(text, end))),
             Err(_) => None,
         }
     }
@@ -113,36 +128,46 @@ impl<T: MatrixMarketScalar> Kind<T> for DigitLines {
     #[inline(always)]
     fn line(
         header: Header,
-        at: Option<(usize, usize)>,
+        places: &Places,
         text: &[u8],
-    ) -> Option<(Triplets<T>, &[u8])> {
-        let at = at?;
-        let (value, after) = digit_line(text)?;
-        match value_triplets(header.symmetry, at, i128::from(value)) {
-            Ok(found) => Some((found, after)),
+        from: usize,
+    ) -> Option<(Triplets<T>, usize)> {
+        if places.is_empty() {
+            return None;
+        }
+        let (value, end) = digit_line(text, from)?;
+        match value_triplets(header.symmetry, places.first(), i128::from(value)) {
+            Ok(found) => Some((found, end + 1)),
             Err(_) => None,
         }
     }
 }
 
-// Parses the first line of a text as one digit, maybe after a minus. Returns the value and the text from the line's end on. No branch
-// depends on the sign, since signs are hard to predict, and one decides on digit and line end together.
+// Parses the line at a position as one digit, maybe after a minus, if it ends in LF and the next line follows at once. Returns the value and
+// the position of the line's end. No branch depends on the sign, since signs are hard to predict, and one decides on the digit and the two
+// bytes behind it together.
 #[inline(always)]
-fn digit_line(text: &[u8]) -> Option<(i64, &[u8])>
-    ensures { MatchOption result (Unit {0}) (λ line. IsValueLine text.now line.0 line.1.now) }
+fn digit_line(text: &[u8], from: usize) -> Option<(i64, usize)>
+    requires { from ≤ length text.now }
+    ensures line { MatchOption result (Unit {0})
+        (λ line. IsValueLine (drop from text.now) line.0 (drop line.1 text.now)) }
+    ensures inside { MatchOption result (Unit {0}) (λ line. line.1 < length text.now) }
+    ensures begins { MatchOption result (Unit {0})
+        (λ line. BeginsLine (drop (line.1 + 1) text.now)) }
+    ensures same { MatchOption result (Unit {0})
+        (λ line. contents_of (drop (line.1 + 1) text.now) ≡ contents_of (drop line.1 text.now)) }
 {
-    if text.len() < 3 {
+    if text.len() - from < 4 {
         return None;
     }
-    let is_minus = text[0] == b'-';
-    let at = usize::from(is_minus);
-    let ends_line = text[at + 1] == b'\n';
-    if !(text[at].is_ascii_digit() & ends_line) {
+    let is_minus = text[from] == b'-';
+    let at = from + usize::from(is_minus);
+    let is_last = (text[at + 1] == b'\n') & (text[at + 2] > b'%');
+    if !(text[at].is_ascii_digit() & is_last) {
         return None;
     }
     let value = signed(text[at] - b'0', is_minus);
-    let (_, after) = text.split_at(at + 1);
-    Some((value, after))
+    Some((value, at + 1))
 }
 
 // A number or its negative.
@@ -230,7 +255,7 @@ fn lines_of<'a, T: MatrixMarketScalar, K: Kind<T>>(
     }
 }
 
-// The symmetries as numbers, since only a number can be a constant of a function.
+// The symmetries as numbers, since an enumeration cannot be a constant of a function.
 const GENERAL: u8 = 0;
 
 const SYMMETRIC: u8 = 1;
@@ -239,7 +264,7 @@ const SKEW_SYMMETRIC: u8 = 2;
 
 const HERMITIAN: u8 = 3;
 
-// Reads lines of one kind as long as they have the common form, their triplets lie within the shape and there is memory for them.
+// Reads lines of one kind as long as they have the common form, their triplets lie within the shape and there is room for two more.
 //
 // The matrix is passed by value, so that its pointers stay in registers. No test of its own ends the loop with the text: an empty text has
 // no line of any kind.
@@ -249,7 +274,7 @@ fn run<'a, T: MatrixMarketScalar, K: Kind<T>, const SYMMETRY: u8>(
     matrix: CooMatrix<T>,
     places: &mut Places,
     mut read: usize,
-    mut text: &'a [u8],
+    text: &'a [u8],
 ) -> (CooMatrix<T>, usize, &'a [u8])
     requires kind { K.is_for header }
     requires symmetry { symmetry_of SYMMETRY ≡ header.symmetry }
@@ -257,29 +282,27 @@ fn run<'a, T: MatrixMarketScalar, K: Kind<T>, const SYMMETRY: u8>(
     requires room { read + length text.now ≤ usize.MAX }
     ensures { IsReadOn T.scalar header
         (reading read true (places_left places.old) (values_of T.value matrix) text.now)
-        (reading result.1 true (places_left places.new) (values_of T.value result.0)
-        result.2.now) }
+        (reading result.1 true (places_left places.new) (values_of T.value result.0) result.2.now) }
 {
     let header = known::<SYMMETRY>(header);
     let mut list = CooAppender::new(matrix);
     let mut left = *places;
-    'lines: loop {
-        let mut ahead = left;
-        let Some((found, after)) = K::line(header, ahead.take_first(), text) else {
+    let mut at = 0;
+    'lines: while list.room() > 1 {
+        let Some((found, next)) = K::line(header, &left, text, at) else {
             break;
         };
         if !are_inside(list.nrows(), list.ncols(), found) {
             break;
         }
-        if !append_all(&mut list, found) {
-            break;
-        }
-        text = next_line(after);
+        append_all(&mut list, found);
+        at = next;
         read += 1;
-        left.take_first();
+        left.remove_first();
     }
     *places = left;
-    (list.into_matrix(), read, text)
+    let (_, rest) = text.split_at(at);
+    (list.into_matrix(), read, rest)
 }
 
 // A header, with its symmetry as a constant.

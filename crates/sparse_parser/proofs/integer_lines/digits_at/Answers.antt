@@ -1,9 +1,9 @@
 use Rattle.std.proofs.Common.{arith}
-use Rattle.sparse_parser.proofs.Runs.{first_read}
+use Rattle.sparse_parser.proofs.Runs.{window_read}
 use Rattle.sparse_parser.proofs.integer_lines.digits_at.Goals as goal
 
-pub returns-then-count-lt8-clause-read : goal.returns-then-count-lt8-clause-read
-returns-then-count-lt8-clause-read c =
-    first_read 8 c.args.text.now c.text_from-rest.result.now c.split_at.result.0.now c.args.from _ _
-    c.requires c.text_from-rest.ensures c.split_at.ensures.front c.read_digits-count.ensures.end
-    c.if-count-lt8.true (omega arith) c.read_digits-count.ensures.value
+pub returns-then-end-lt12-clause-read : goal.returns-then-end-lt12-clause-read
+returns-then-end-lt12-clause-read c =
+    window_read c.args.text.now c.text_from-before.result.now c.split_at.result.0.now c.args.from _ _
+    c.requires (omega arith) c.text_from-before.ensures c.split_at.ensures.front
+    c.read_digits-end.ensures.end c.if-end-lt12.true c.read_digits-end.ensures.value

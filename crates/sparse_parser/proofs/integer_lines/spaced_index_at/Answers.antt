@@ -12,5 +12,5 @@ returns-clause-index c =
       length-drop c.digits_at-number.result.1 c.args.text.now,
       length-drop c.skip_blanks-start.result c.args.text.now,
     ) in
-    index_at _ _ _ _ c.skip_blanks-start.ensures.rest c.digits_at-number.ensures.read some
+    λ _. index_at _ _ _ _ c.skip_blanks-start.ensures.rest c.digits_at-number.ensures.read some
     (ap ends_word (sym c.text_from.ensures) ∙ sym c.ends_word.ensures ∙ c.if-not-ends_word.false)
