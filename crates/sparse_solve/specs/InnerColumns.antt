@@ -36,9 +36,9 @@ module _ (R : CommRing) {T : Type 0} (f : T → R.Carrier) where
 
   -- column k begins with its diagonal entry, and that is one
   pub record BeginsWithOne (m : Compressed T) (k : ℕ) : Type 0 where
-    pub pivot : HasPivot R f (plain_of_cols R f m) k
-    pub column : (one : T) → f one ≡ R.one → IsColumnIn m k (slice_index m.pattern.offsets k + 1)
-        (slice_index m.pattern.offsets (k + 1)) one
+    pub some : slice_index m.pattern.offsets k < slice_index m.pattern.offsets (k + 1)
+    pub diagonal : slice_index m.pattern.indices (slice_index m.pattern.offsets k) ≡ k
+    pub one : (plain_of_cols R f m).value k k ≡ R.one
 
   -- so do the first columns
   abbrev pub BeginWithOnes : Compressed T → ℕ → Type 0

@@ -1,6 +1,6 @@
 //! Columns of a lower triangle.
 
-ghost use Rattle.std.specs.Prelude.{◌≡◌, ◌<◌, true, Contains, IfNone, IfSome, MatchOption, length, slice_index};
+ghost use Rattle.std.specs.Prelude.{◌≡◌, ◌<◌, ◌↔◌, Contains, IfNone, IfSome, IsTrue, MatchOption, length, slice_index};
 ghost use Rattle.sparse_cs.specs.PlainOfLanes.{plain_of_cols};
 ghost use Rattle.sparse_solve.specs.Solutions.{HasPivot};
 ghost use Rattle.sparse_solve.specs.InnerColumns.{BeginsWithOne, IsColumnIn};
@@ -39,7 +39,7 @@ pub fn column_below<T: Units>(l: &CscMatrix<T>, k: usize) -> Option<Column<T>>
 // Whether column k begins with its diagonal entry, and that is one. So does each column of a lower triangle with ones on its diagonal.
 pub fn begins_with_one<T: Units>(l: &CscMatrix<T>, k: usize) -> bool
     requires { k < l.now.pattern.major_dim }
-    ensures { result ≡ true → BeginsWithOne T.ring T.value l.now k }
+    ensures { IsTrue result ↔ BeginsWithOne T.ring T.value l.now k }
 {
     let offsets = l.col_offsets();
     let (begin, end) = (offsets[k], offsets[k + 1]);

@@ -82,7 +82,9 @@ pub fn spsolve_csc_lower_triangular<T: Units>(
 // In a lower triangle with ones on its diagonal it is the number of all columns. The halves are read side by side, up to the first pair with
 // a column that begins otherwise: that takes less time than one after the other, since more reads of memory overlap.
 fn leading_ones<T: Units>(l: &CscMatrix<T>, ncols: usize) -> usize
-    ensures { BeginWithOnes T.ring T.value l.now result }
+    ensures ones { BeginWithOnes T.ring T.value l.now result }
+    ensures all { 0 < ncols → BeginWithOnes T.ring T.value l.now l.now.pattern.major_dim
+        → result ≡ l.now.pattern.major_dim }
 {
     if ncols == 0 {
         return 0;

@@ -11,17 +11,17 @@ loop-k-preserved g c =
     record {
       first = λ k lt. elim (lt_add_one_cases k at lt) [
         | inl before ↦ was.first k before
-        | inr here ↦ subst is (sym here) (c.begins_with_one-here.ensures c.if-not-here.false)
+        | inr here ↦ subst is (sym here) (c.begins_with_one-here.ensures.0 c.if-not-here.false)
       ];
       second = λ k lt inside. elim (lt_add_one_cases k at lt) [
         | inl before ↦ was.second k before inside
         | inr here ↦ subst is (omega (arith, here, inside, c.min-other.ensures))
-            (c.begins_with_one-there.ensures c.if-not-there.false)
+            (c.begins_with_one-there.ensures.0 c.if-not-there.false)
       ];
     }
 
-pub returns : goal.returns
-returns g c = λ k lt.
+pub returns-clause-ones : goal.returns-clause-ones
+returns-clause-ones g c = λ k lt.
     let is = BeginsWithOne g.T.Ring.ring g.T.Ring.value c.args.l.now in
     let count = c.major_dim-count.result in
     let half = count - count / 2 in
