@@ -2,7 +2,7 @@
 //!
 //! The lines are read by positions in one text, which takes half as many instructions as a slice for each number.
 
-ghost use Rattle.std.specs.Prelude.{◌≡◌, ◌≢◌, ◌≤◌, ℕ, pos, true, if◌then◌else◌, MatchOption, List, length, drop};
+ghost use Rattle.std.specs.Prelude.{◌≡◌, ◌≢◌, ◌≤◌, pos, true, if◌then◌else◌, MatchOption, length, drop};
 ghost use Rattle.std.specs.Str.Parse.{starts_with_minus, without_leading_sign};
 ghost use lib.IntN.{neg_ℤ};
 ghost use Rattle.sparse_parser.specs.Bytes.{is_blank, after};
@@ -55,7 +55,9 @@ pub fn value_line(text: &[u8], from: usize) -> Option<(i64, usize)>
     ensures line { MatchOption result (Unit {0})
         (λ line. IsValueLine (drop from text.now) line.0 (drop line.1 text.now)) }
 {
-    integer_from(text, from)
+    let (number, end) = whole_number(text, after_sign_at(text, from))?;
+    let value = signed(number, starts_with_minus(text_from(text, from)))?;
+    Some((value, end))
 }
 
 // The integer at a position, after blanks, and the position of the line's end.
@@ -66,19 +68,8 @@ fn last_integer(text: &[u8], from: usize) -> Option<(i64, usize)>
     ensures line { MatchOption result (Unit {0})
         (λ line. IsValueLine (drop from text.now) line.0 (drop line.1 text.now)) }
 {
-    integer_from(text, skip_blanks(text, from))
-}
-
-// The integer at a position, before which any blanks were skipped, and the position of the line's end.
-#[inline(always)]
-fn integer_from(text: &[u8], start: usize) -> Option<(i64, usize)>
-    requires { start ≤ length text.now }
-    ensures inside { MatchOption result (Unit {0}) (λ line. line.1 ≤ length text.now) }
-    ensures line { (whole : List ℕ) → drop start text.now ≡ after is_blank whole
-        → MatchOption result (Unit {0}) (λ line. IsValueLine whole line.0 (drop line.1 text.now)) }
-{
-    let unsigned = after_sign_at(text, start);
-    let (number, end) = last_number(text, unsigned)?;
+    let start = skip_blanks(text, from);
+    let (number, end) = last_number(text, after_sign_at(text, start))?;
     let value = signed(number, starts_with_minus(text_from(text, start)))?;
     Some((value, end))
 }
@@ -97,6 +88,23 @@ fn last_number(text: &[u8], from: usize) -> Option<(usize, usize)>
         return Some((number, from + 1));
     }
     let (number, end) = long_digits_at(text, from);
+    if end == from {
+        return None;
+    }
+    let end = number_end(text, end)?;
+    Some((number, end))
+}
+
+// The same for the number of a line that has nothing else. Such a line is short, and a mispredicted branch would cost more than the rest of
+// it, so no branch depends on the number of digits up to six.
+#[inline(always)]
+fn whole_number(text: &[u8], from: usize) -> Option<(usize, usize)>
+    requires { from ≤ length text.now }
+    ensures inside { MatchOption result (Unit {0}) (λ found. found.1 ≤ length text.now) }
+    ensures number { MatchOption result (Unit {0})
+        (λ found. IsLastNumber (drop from text.now) found.0 (drop found.1 text.now)) }
+{
+    let (number, end) = digits_at(text, from);
     if end == from {
         return None;
     }
