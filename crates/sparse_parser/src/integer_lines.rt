@@ -95,8 +95,8 @@ fn last_number(text: &[u8], from: usize) -> Option<(usize, usize)>
     Some((number, end))
 }
 
-// The same for the number of a line that has nothing else. Such a line is short, and a mispredicted branch would cost more than the rest of
-// it, so no branch depends on the number of digits up to six.
+// The same for the number of a line that has nothing else, most often with LF behind it. Such a line is short, and a mispredicted branch
+// would cost more than the rest of it, so no branch depends on the number of digits up to six.
 #[inline(always)]
 fn whole_number(text: &[u8], from: usize) -> Option<(usize, usize)>
     requires { from ≤ length text.now }
@@ -105,6 +105,9 @@ fn whole_number(text: &[u8], from: usize) -> Option<(usize, usize)>
         (λ found. IsLastNumber (drop from text.now) found.0 (drop found.1 text.now)) }
 {
     let (number, end) = digits_at(text, from);
+    if end > from && end < text.len() && text[end] == b'\n' {
+        return Some((number, end));
+    }
     if end == from {
         return None;
     }
