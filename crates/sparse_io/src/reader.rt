@@ -18,6 +18,7 @@ use std::alloc::Global;
 
 mod entries;
 mod entry;
+mod kinds;
 mod pushes;
 mod runs;
 

@@ -7,13 +7,11 @@ ghost use Rattle.std.specs.Str.Parse.{starts_with_minus, without_leading_sign};
 ghost use lib.IntN.{neg_ℤ};
 ghost use Rattle.sparse_parser.specs.Bytes.{is_blank, after};
 ghost use Rattle.sparse_parser.specs.InnerBytes.{BeginsLine};
-ghost use Rattle.sparse_parser.specs.InnerNumbers.{IsNumberRead};
 ghost use Rattle.sparse_parser.specs.InnerLines.{ends_word};
 ghost use Rattle.sparse_parser.specs.InnerIntegers.{IsIndexAt, IsEndAt, IsLastIndex, IsLastNumber, IsIntegerLine, IsPlaceLine, IsValueLine};
 
-use crate::lines::{ends_line, ends_word, is_blank};
-use crate::numbers::SHORT;
-use core::dec2flt::read_digits;
+use crate::digit_runs::{digits_at, long_digits_at};
+use crate::lines::{ends_line, ends_word, is_blank, text_from};
 
 /// Parses the line at a position as two indices and an integer. Returns the row, the column, the value and the position of the line's end,
 /// or `None` if the line has another form.
@@ -172,16 +170,6 @@ fn spaced_index_at(text: &[u8], from: usize) -> (usize, usize)
     (number, end)
 }
 
-// The text from a position on.
-#[inline(always)]
-fn text_from(text: &[u8], at: usize) -> &[u8]
-    requires { at ≤ length text.now }
-    ensures { result.now ≡ drop at text.now }
-{
-    let (_, rest) = text.split_at(at);
-    rest
-}
-
 // The first position without a blank, from a position on.
 #[inline(always)]
 fn skip_blanks(text: &[u8], from: usize) -> usize
@@ -205,74 +193,6 @@ fn after_sign_at(text: &[u8], at: usize) -> usize
 {
     let is_signed = at < text.len() && ((text[at] == b'+') | (text[at] == b'-'));
     at + usize::from(is_signed)
-}
-
-// The value of at most 19 digits at a position, and the position after them.
-//
-// Up to six digits are read at once, and no branch depends on how many there are: `read_digits` has neither a loop nor a table of powers
-// to go through where less than eight of at least twelve bytes are left. So it gets the bytes before the digits too, of which there are
-// enough but at the beginning of the text.
-#[inline(always)]
-fn digits_at(text: &[u8], from: usize) -> (usize, usize)
-    requires { from ≤ length text.now }
-    ensures inside { result.1 ≤ length text.now }
-    ensures read { IsNumberRead (drop from text.now) result.0 (drop result.1 text.now) }
-{
-    if from >= 5 && text.len() - from >= 7 {
-        let before = text_from(text, from - 5);
-        let (window, _) = before.split_at(12);
-        let (end, number) = read_digits(window, 5, 0);
-        if end < 12 {
-            return (number as usize, from + (end - 5));
-        }
-    }
-    many_digits_at(text, from)
-}
-
-// The same where more than six digits may follow.
-#[cold]
-fn many_digits_at(text: &[u8], from: usize) -> (usize, usize)
-    requires { from ≤ length text.now }
-    ensures inside { result.1 ≤ length text.now }
-    ensures read { IsNumberRead (drop from text.now) result.0 (drop result.1 text.now) }
-{
-    long_digits_at(text, from)
-}
-
-// The same for numbers that are often long, up to three times eight digits at once.
-#[inline(always)]
-fn long_digits_at(text: &[u8], from: usize) -> (usize, usize)
-    requires { from ≤ length text.now }
-    ensures inside { result.1 ≤ length text.now }
-    ensures read { IsNumberRead (drop from text.now) result.0 (drop result.1 text.now) }
-{
-    let rest = text_from(text, from);
-    if rest.len() >= 24 {
-        let (first, _) = rest.split_at(24);
-        let (count, number) = read_digits(first, 0, 0);
-        if count <= SHORT {
-            return (number as usize, from + count);
-        }
-    }
-    first_digits_at(text, from)
-}
-
-// The value of at most 19 digits at a position, one by one, and the position after them.
-#[inline(always)]
-fn first_digits_at(text: &[u8], from: usize) -> (usize, usize)
-    requires { from ≤ length text.now }
-    ensures inside { result.1 ≤ length text.now }
-    ensures read { IsNumberRead (drop from text.now) result.0 (drop result.1 text.now) }
-{
-    let room = (text.len() - from).min(SHORT);
-    let end = from + room;
-    let mut number = 0;
-    let mut at = from;
-    while at < end && text[at].is_ascii_digit() {
-        number = number * 10 + usize::from(text[at] - b'0');
-        at += 1;
-    }
-    (number, at)
 }
 
 #[inline(always)]

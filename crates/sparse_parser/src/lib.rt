@@ -2,6 +2,7 @@
 #![tactic(auto)]
 
 pub mod data_lines;
+mod digit_runs;
 pub mod error;
 pub mod header;
 pub mod integer_lines;

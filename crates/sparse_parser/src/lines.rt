@@ -41,6 +41,16 @@ pub fn split_front<F: Fn(u8) -> bool>(text: &[u8], passes: F) -> (&[u8], &[u8])
     text.split_at(at)
 }
 
+/// Returns the text from a position on.
+#[inline(always)]
+pub fn text_from(text: &[u8], at: usize) -> &[u8]
+    requires { at ≤ length text.now }
+    ensures { result.now ≡ drop at text.now }
+{
+    let (_, rest) = text.split_at(at);
+    rest
+}
+
 /// Returns whether a text is empty or starts with a line end.
 #[inline(always)]
 pub fn ends_line(text: &[u8]) -> bool
@@ -94,8 +104,7 @@ pub fn next_line(text: &[u8]) -> &[u8]
     ensures same { contents_of result.now ≡ contents_of text.now }
     ensures len { length result.now ≤ length text.now }
 {
-    let (_, rest) = text.split_at(next_line_at(text, 0));
-    rest
+    text_from(text, next_line_at(text, 0))
 }
 
 /// Skips blank lines and comments from a position on. Returns the position of the first word of the next line, or of the text's end if no
@@ -124,8 +133,7 @@ fn sought_line_at(text: &[u8], from: usize) -> usize
     ensures begins { BeginsLine (drop result text.now) }
     ensures same { contents_of (drop result text.now) ≡ contents_of (drop from text.now) }
 {
-    let (_, rest) = text.split_at(from);
-    text.len() - sought_line(rest).len()
+    text.len() - sought_line(text_from(text, from)).len()
 }
 
 // The text from the next line on, after line ends and blanks of any number.

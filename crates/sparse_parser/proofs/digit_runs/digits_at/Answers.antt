@@ -1,6 +1,6 @@
 use Rattle.std.proofs.Common.{arith}
 use Rattle.sparse_parser.proofs.Runs.{window_read}
-use Rattle.sparse_parser.proofs.integer_lines.digits_at.Goals as goal
+use Rattle.sparse_parser.proofs.digit_runs.digits_at.Goals as goal
 
 pub returns-then-end-lt12-clause-read : goal.returns-then-end-lt12-clause-read
 returns-then-end-lt12-clause-read c =

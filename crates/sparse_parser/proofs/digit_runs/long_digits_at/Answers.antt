@@ -1,6 +1,6 @@
 use Rattle.std.proofs.Common.{arith}
 use Rattle.sparse_parser.proofs.Runs.{first_read}
-use Rattle.sparse_parser.proofs.integer_lines.long_digits_at.Goals as goal
+use Rattle.sparse_parser.proofs.digit_runs.long_digits_at.Goals as goal
 
 pub returns-then-count-le-SHORT-clause-read : goal.returns-then-count-le-SHORT-clause-read
 returns-then-count-le-SHORT-clause-read c =

@@ -5,7 +5,7 @@ use Rattle.sparse_parser.specs.InnerPlaces.{places_left}
 use Rattle.sparse_io.specs.InnerEntries.{both_of}
 use Rattle.sparse_io.proofs.IntegerEntries.{value_meant}
 use Rattle.sparse_io.proofs.LineRuns.{line_is_read}
-use Rattle.sparse_io.proofs.reader.runs.ValueLinesKind.line.Goals as goal
+use Rattle.sparse_io.proofs.reader.kinds.ValueLinesKind.line.Goals as goal
 
 pub returns-in-Ok-clause-read : goal.returns-in-Ok-clause-read
 returns-in-Ok-clause-read g c =

@@ -2,7 +2,7 @@ use Rattle.std.proofs.Common.{◌-◌, ◌≡◌, ◌≤◌, ◌<◌, ◌^◌, d
 use Rattle.std.specs.Char.{is_ascii_digit}
 use Rattle.std.specs.Str.Parse.{digits_value, digits_value_after}
 use Rattle.sparse_parser.specs.Bytes.{front, after}
-use Rattle.sparse_parser.proofs.integer_lines.first_digits_at.Given as goal
+use Rattle.sparse_parser.proofs.digit_runs.first_digits_at.Given as goal
 
 abbrev pub invariant-loop-at : goal.invariant-loop-at
 invariant-loop-at l = record {

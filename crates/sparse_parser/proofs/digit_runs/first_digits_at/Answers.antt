@@ -3,7 +3,7 @@ use Rattle.std.proofs.Common.{rules, ℕ, true}
 use Rattle.std.specs.Char.{is_ascii_digit}
 use Rattle.sparse_parser.proofs.Digits.{digit_small, short_fits}
 use Rattle.sparse_parser.proofs.Positions.{after_passed, digit_read, digits_below}
-use Rattle.sparse_parser.proofs.integer_lines.first_digits_at.Goals as goal
+use Rattle.sparse_parser.proofs.digit_runs.first_digits_at.Goals as goal
 
 pub overflow_mul-number : goal.overflow_mul-number
 overflow_mul-number c =

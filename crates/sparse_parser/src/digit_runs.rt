@@ -1,0 +1,76 @@
+//! Numbers at a position of a text: runs of digits.
+
+ghost use Rattle.std.specs.Prelude.{◌≡◌, ◌≤◌, length, drop};
+ghost use Rattle.sparse_parser.specs.InnerNumbers.{IsNumberRead};
+
+use crate::lines::text_from;
+use crate::numbers::SHORT;
+use core::dec2flt::read_digits;
+
+/// Returns the value of at most 19 digits at a position, and the position after them.
+///
+/// Up to six digits are read at once, and no branch depends on how many there are: `read_digits` has neither a loop nor a table of powers
+/// to go through where less than eight of at least twelve bytes are left. So it gets five bytes before the digits too, which are there but
+/// at the beginning of the text.
+#[inline(always)]
+pub fn digits_at(text: &[u8], from: usize) -> (usize, usize)
+    requires { from ≤ length text.now }
+    ensures inside { result.1 ≤ length text.now }
+    ensures read { IsNumberRead (drop from text.now) result.0 (drop result.1 text.now) }
+{
+    if from >= 5 && text.len() - from >= 7 {
+        let before = text_from(text, from - 5);
+        let (window, _) = before.split_at(12);
+        let (end, number) = read_digits(window, 5, 0);
+        if end < 12 {
+            return (number as usize, from + (end - 5));
+        }
+    }
+    many_digits_at(text, from)
+}
+
+// The same where more than six digits may follow.
+#[cold]
+fn many_digits_at(text: &[u8], from: usize) -> (usize, usize)
+    requires { from ≤ length text.now }
+    ensures inside { result.1 ≤ length text.now }
+    ensures read { IsNumberRead (drop from text.now) result.0 (drop result.1 text.now) }
+{
+    long_digits_at(text, from)
+}
+
+/// Returns the same for numbers that are often long: up to three times eight digits are read.
+#[inline(always)]
+pub fn long_digits_at(text: &[u8], from: usize) -> (usize, usize)
+    requires { from ≤ length text.now }
+    ensures inside { result.1 ≤ length text.now }
+    ensures read { IsNumberRead (drop from text.now) result.0 (drop result.1 text.now) }
+{
+    let rest = text_from(text, from);
+    if rest.len() >= 24 {
+        let (first, _) = rest.split_at(24);
+        let (count, number) = read_digits(first, 0, 0);
+        if count <= SHORT {
+            return (number as usize, from + count);
+        }
+    }
+    first_digits_at(text, from)
+}
+
+// The value of at most 19 digits at a position, one by one, and the position after them.
+#[inline(always)]
+fn first_digits_at(text: &[u8], from: usize) -> (usize, usize)
+    requires { from ≤ length text.now }
+    ensures inside { result.1 ≤ length text.now }
+    ensures read { IsNumberRead (drop from text.now) result.0 (drop result.1 text.now) }
+{
+    let room = (text.len() - from).min(SHORT);
+    let end = from + room;
+    let mut number = 0;
+    let mut at = from;
+    while at < end && text[at].is_ascii_digit() {
+        number = number * 10 + usize::from(text[at] - b'0');
+        at += 1;
+    }
+    (number, at)
+}
