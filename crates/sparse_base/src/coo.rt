@@ -10,6 +10,7 @@ use std::marker::Model;
 use triplet_fault::first_fault;
 
 pub(crate) mod append;
+pub(crate) mod columns;
 mod from_iter;
 mod iter;
 mod push_matrix;

@@ -6,3 +6,4 @@ pub mod dense;
 pub mod steps;
 
 pub use coo::append::CooAppender;
+pub use coo::columns::ColumnAppender;

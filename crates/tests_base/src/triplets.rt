@@ -83,12 +83,38 @@ fn has_no_room(alloc: Global) -> bool {
     appender.room() == 0
 }
 
+// The lists of a matrix after one triplet and two entries down a column.
+fn down_a_column(alloc: Global) -> Result<(Vec<usize>, Vec<usize>, Vec<i32>), AllocError> {
+    let mut matrix = CooMatrix::new(alloc, 4, 2);
+    matrix.reserve(4)?;
+    matrix.push(0, 0, 5)?;
+    let list = CooAppender::new(matrix);
+    if list.room() < 3 {
+        return Ok(list.into_matrix().disassemble());
+    }
+    let mut column = list.into_column(1, 1, 3);
+    column.push(8);
+    column.push(9);
+    Ok(column.into_list().into_matrix().disassemble())
+}
+
+fn is_down_a_column(rows: &[usize], cols: &[usize], values: &[i32]) -> bool {
+    rows == [0, 1, 2].as_slice() && cols == [0, 1, 1].as_slice() && values == [5, 8, 9].as_slice()
+}
+
 #[test]
 fn triplets_are_appended_while_there_is_memory(rt: HostRuntime) {
     assert!(rt;
         filled(rt.alloc()).is_ok_and(|(rows, cols, values)| is_filled(&rows, &cols, &values))
     );
     assert!(rt; has_no_room(rt.alloc()));
+    assert!(rt;
+        down_a_column(rt.alloc()).is_ok_and(|(rows, cols, values)| is_down_a_column(
+            rows.as_slice(),
+            cols.as_slice(),
+            values.as_slice(),
+        ))
+    );
 }
 
 // A long list does not run out of memory.

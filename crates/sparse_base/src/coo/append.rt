@@ -11,13 +11,13 @@ use std::marker::Model;
 /// It never allocates. A loop that appends to it keeps its pointers in registers, and one test decides whether all three lists have room.
 #[derive(Drop)]
 pub struct CooAppender<T> {
-    nrows: usize,
-    ncols: usize,
-    row_indices: Vec<usize>,
-    col_indices: Vec<usize>,
-    values: Vec<T>,
+    pub(super) nrows: usize,
+    pub(super) ncols: usize,
+    pub(super) row_indices: Vec<usize>,
+    pub(super) col_indices: Vec<usize>,
+    pub(super) values: Vec<T>,
     // How many triplets fit at least.
-    room: usize,
+    pub(super) room: usize,
 }
 
 impl<T> Model for CooAppender<T> {

@@ -1,0 +1,37 @@
+use Rattle.std.proofs.Common.{◌-◌, ◌<◌, length, sym, ap, arith}
+use Rattle.sparse_base.specs.Coo.{coo_of}
+use Rattle.sparse_base.specs.InnerAppender.{rows_from}
+use Rattle.sparse_base.proofs.ColumnLemmas.{entry_pushed, entry_parts, count_more}
+use Rattle.sparse_base.proofs.coo.columns.ColumnAppender.push.Goals as goal
+
+pub invariant_of-self : goal.invariant_of-self
+invariant_of-self g c =
+    let m = c.self.inside in
+    let parts = c.self.invariant.0 in
+    let down = c.self.invariant.1 in
+    let is = m.row_indices.items in
+    let count = length m.values.items - length is in
+    let next = count_more is (rows_from m.row count) m.values.items
+    c.push_reserved.new.self.items c.args.v parts.row_count c.push_reserved.ensures.items in
+    let left : 0 < m.left = rw (sym c.self.view_is) at c.requires in
+    let rows = down.rows in
+    let fits = down.fits in (
+      entry_parts m.nrows m.ncols m.row m.col is m.col_indices.items m.values.items
+          c.push_reserved.new.self.items c.args.v count _ c.push_reserved.ensures.items next parts
+          (omega arith) down.cols,
+      record { rows = omega arith; cols = down.cols; fits = omega arith },
+      rw c.push_reserved.ensures.capacity c.self.invariant.2,
+    )
+
+pub returns-clause-pushed : goal.returns-clause-pushed
+returns-clause-pushed g c =
+    let m = c.self.inside in
+    let parts = c.self.invariant.0 in
+    let is = m.row_indices.items in
+    let count = length m.values.items - length is in
+    let next = count_more is (rows_from m.row count) m.values.items
+    c.push_reserved.new.self.items c.args.v parts.row_count c.push_reserved.ensures.items in
+    rw (← c.self.view_is)
+    (ap (coo_of m.nrows m.ncols) (entry_pushed m.nrows m.ncols m.row m.col is m.col_indices.items
+    m.values.items c.push_reserved.new.self.items c.args.v count _ c.push_reserved.ensures.items
+    next parts))
