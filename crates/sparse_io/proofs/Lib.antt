@@ -1,5 +1,6 @@
 pub mod Buffering
 pub mod DigitLines
+pub mod ColumnRuns
 pub mod EntryLoop
 pub mod IntegerEntries
 pub mod LineRuns

@@ -1,5 +1,5 @@
 -- An entry and its mirrored one, and the end of the list of entries.
-use Rattle.std.specs.Prelude.{◌≡◌, ◌≤◌, ℕ, zero, suc, ◌+◌, Bool, true, ◌&&◌, List, [], ◌∷◌, ◌++◌, length}
+use Rattle.std.specs.Prelude.{◌≡◌, ◌≤◌, ℕ, ℤ, zero, suc, ◌+◌, Bool, true, ◌&&◌, List, [], ◌∷◌, ◌++◌, length}
 use Rattle.std.specs.Prelude.{Option, Some, None, Ok, Err, if◌then◌else◌}
 use Rattle.std.specs.List.{list_all}
 use Rattle.sparse_pattern.specs.declared.error.SparseFormatErrorKind.TheVariants.{IndexOutOfBounds}
@@ -20,6 +20,7 @@ use Rattle.sparse_parser.specs.Scalars.{Scalar}
 use Rattle.sparse_parser.specs.Meaning.{Triplet, Sizes, placed, mirrored, triplets_of}
 use Rattle.sparse_parser.specs.Meaning.{is_count, is_inside, entries_of}
 use Rattle.sparse_parser.specs.InnerReading.{line_words, contents_of, among_entries}
+use Rattle.sparse_parser.specs.InnerIntegers.{IsValueLine}
 
 -- an entry, and the mirrored one if it has a value
 abbrev pub both_of : {T : Type 0} → (ℕ × ℕ × T) × Option T → List (ℕ × ℕ × T)
@@ -52,6 +53,14 @@ pub record IsLineRead (S : Scalar) (h : Header) (at : Option (ℕ × ℕ)) (text
   pub same : contents_of next ≡ contents_of (after is_within_line text)
   pub shorter : length next ≤ length (after is_within_line text)
 
+-- the first line of a text is this integer, and this is the text from the next line on
+pub record IsValueRead (text : List ℕ) (value : ℤ) (next : List ℕ) : Type 0 where
+  pub rest : List ℕ
+  pub line : IsValueLine text value rest
+  pub begins : BeginsLine next
+  pub same : contents_of next ≡ contents_of rest
+  pub shorter : length next ≤ length rest
+
 module _ (S : Scalar) (h : Header) (s : Sizes) where
   -- how a list of triplets ends, where these stand before it and lie within the shape or not
   abbrev pub ending : Bool → List (Triplet S.Value) → List (Triplet S.Value) → Read (Coo S.Value)
@@ -82,6 +91,10 @@ HasPlaces h = (h.format ≡ Coordinate) × (h.field ≡ Pattern)
 
 abbrev pub HasValues : Header → Type 0
 HasValues h = (h.format ≡ Array) × (h.field ≡ Integer)
+
+-- the headers of arrays of integers without symmetry
+abbrev pub IsGeneralArray : Header → Type 0
+IsGeneralArray h = HasValues h × (h.symmetry ≡ General)
 
 -- how far a text was read: the number of data lines, whether all triplets lie inside, the places
 -- that are left, the matrix and the text that is left

@@ -8,8 +8,10 @@ ghost use Rattle.sparse_parser.specs.InnerPlaces.{places_left};
 ghost use Rattle.sparse_parser.specs.Meaning.{values_of};
 ghost use Rattle.sparse_io.specs.InnerEntries.{symmetry_of, HasValues, IsReadOn, reading};
 
-use crate::reader::kinds::{DigitLines, IntegerLines, Kind, PlaceLines, ValueLines};
+use crate::reader::columns::columns;
+use crate::reader::kinds::{IntegerLines, Kind, PlaceLines, ValueLines};
 use crate::reader::pushes::{append_all, are_inside};
+use crate::reader::values::{Digits, Integers};
 use sparse_base::CooAppender;
 use sparse_base::coo::CooMatrix;
 use sparse_market_scalar::MatrixMarketScalar;
@@ -64,8 +66,14 @@ fn array_lines<'a, T: MatrixMarketScalar>(
         (reading result.1 true (places_left places.new) (values_of T.value result.0)
         result.2.now) }
 {
-    let (matrix, read, others) = lines_of::<T, DigitLines>(header, matrix, places, read, text);
-    lines_of::<T, ValueLines>(header, matrix, places, read, others)
+    if let Symmetry::General = header.symmetry {
+        let (matrix, read, others) = columns::<T, Digits>(matrix, places, read, text);
+        return columns::<T, Integers>(matrix, places, read, others);
+    }
+    let (matrix, read, others) = lines_of::<T, ValueLines<Digits>>(
+        header, matrix, places, read, text,
+    );
+    lines_of::<T, ValueLines<Integers>>(header, matrix, places, read, others)
 }
 
 // Reads lines of one kind.

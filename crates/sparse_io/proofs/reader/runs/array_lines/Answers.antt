@@ -1,5 +1,23 @@
+use Rattle.std.proofs.Common.{arith}
 use Rattle.sparse_io.proofs.LineRuns.{read_on_twice}
 use Rattle.sparse_io.proofs.reader.runs.array_lines.Goals as goal
+
+pub columns-requires-clause-begins : goal.columns-requires-clause-begins
+columns-requires-clause-begins g c =
+    let on = c.columns-matrix.ensures c.args.header (c.requires.kind, c.in-General.is) in on.begins
+
+pub columns-requires-clause-room : goal.columns-requires-clause-room
+columns-requires-clause-room g c =
+    let on = c.columns-matrix.ensures c.args.header (c.requires.kind, c.in-General.is) in
+    let room = on.room in
+    let most = c.requires.room in
+    omega arith
+
+pub returns-in-General : goal.returns-in-General
+returns-in-General g c =
+    let on = c.columns-matrix.ensures c.args.header (c.requires.kind, c.in-General.is) in
+    read_on_twice g.T.MatrixMarketScalar.scalar c.args.header _ _ _ on
+    (c.columns.ensures c.args.header (c.requires.kind, c.in-General.is))
 
 pub returns : goal.returns
 returns g c = read_on_twice g.T.MatrixMarketScalar.scalar c.args.header _ _ _

@@ -7,7 +7,7 @@ use Rattle.sparse_parser.specs.InnerBytes.{BeginsLine}
 use Rattle.sparse_parser.specs.InnerReading.{contents_of}
 use Rattle.sparse_parser.proofs.Runs.{line_begins_at}
 use Rattle.sparse_io.proofs.DigitLines.{sign_small, digit_line_from}
-use Rattle.sparse_io.proofs.reader.kinds.digit_line.Goals as goal
+use Rattle.sparse_io.proofs.reader.values.digit_line.Goals as goal
 
 pub returns-clause-line : goal.returns-clause-line
 returns-clause-line c =
