@@ -15,6 +15,10 @@ use sparse_base::coo::CooMatrix;
 use sparse_market_scalar::MatrixMarketScalar;
 use sparse_parser::places::Places;
 
+// The rows and columns of as many entries are written at once, few enough that the processor's store buffer takes them while the next lines
+// are parsed.
+const MOST_LINES: usize = 64;
+
 /// Reads lines of values of one kind as long as they have the common form, their entries lie within the shape and there is memory for
 /// them. Returns the matrix, the number of data lines and the text that is left.
 #[inline(never)]
@@ -70,7 +74,8 @@ fn column<T: MatrixMarketScalar, V: Values>(
     if row >= list.nrows() || col >= list.ncols() {
         return (list, 0, from);
     }
-    let lines = left.rows_left().min(list.nrows() - row).min(list.room());
+    let most = list.room().min(MOST_LINES);
+    let lines = left.rows_left().min(list.nrows() - row).min(most);
     let mut column = list.into_column(row, col, lines);
     let mut at = from;
     'lines: while column.left() > 0 {
