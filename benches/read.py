@@ -1,8 +1,8 @@
 #!/usr/bin/env python3
 """read.py BENCH [DIR]: the reader's time a byte on four files of one matrix: coordinate, symmetric, pattern and array.
 
-BENCH is the built program `bench`. The files are written into DIR (/tmp/nalgebra_sparse_read) where they are missing: two symmetric matrices
-without zeros, of SIZE rows, one with values of one digit and one with values of one to eighteen. The files of a matrix are read in turn,
+BENCH is the built program `bench`. The files are written into DIR (/tmp/nalgebra_sparse_read) where they are missing: symmetric matrices
+without zeros, of SIZE rows, with values of one digit, of one or two, and of one to eighteen. The files of a matrix are read in turn,
 ROUNDS times, and the best time of each counts.
 """
 
@@ -12,7 +12,8 @@ import subprocess
 import sys
 
 SIZE = 700
-ROUNDS = 5
+ROUNDS = 24
+MOST_DIGITS = (1, 2, 18)
 NAMES = ("coordinate", "symmetric", "pattern", "array")
 
 
@@ -69,7 +70,7 @@ def table(bench, folder, most_digits):
 def main(bench, folder="/tmp/nalgebra_sparse_read"):
     print("| Most digits | Reader | bytes | ms | ns a byte | to coordinate |")
     print("|---|---|---|---|---|---|")
-    for most_digits in (1, 18):
+    for most_digits in MOST_DIGITS:
         table(bench, os.path.join(folder, str(most_digits)), most_digits)
 
 

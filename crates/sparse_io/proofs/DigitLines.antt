@@ -1,41 +1,14 @@
 -- Lines of one digit, maybe after a minus.
-use Rattle.std.proofs.Common.{◌≡◌, ℕ, ℤ, ◌+◌, ◌-◌, ◌<◌, ◌≤◌, Bool, true, false, cond, List, [], ◌∷◌}
-use Rattle.std.proofs.Common.{length, length-drop, drop, drop-drop, get_or, pos, refl, sym, ap, subst}
+use Rattle.std.proofs.Common.{◌≡◌, ℕ, ℤ, ◌+◌, ◌-◌, ◌<◌, Bool, true, cond, List}
+use Rattle.std.proofs.Common.{length, length-drop, drop, drop-drop, get_or, pos, sym, ap, subst}
 use Rattle.std.proofs.Common.{◌∙◌, arith, eqb}
 use Rattle.std.proofs.lemmas.List.{drop_more, get_or-drop}
 use lib.IntN.{neg_ℤ}
-use mir.Val.{bool_byte}
-use Rattle.std.proofs.lemmas.Bool.{eqb-true}
 use Rattle.std.specs.Char.{is_ascii_digit}
-use Rattle.std.specs.Str.Parse.{starts_with_minus, without_leading_sign}
-use Rattle.sparse_parser.specs.Bytes.{is_blank, after}
+use Rattle.std.specs.Str.Parse.{starts_with_minus}
 use Rattle.sparse_parser.specs.InnerIntegers.{IsValueLine}
-use Rattle.sparse_parser.proofs.ByteClasses.{digit_no_blank, digit_no_sign}
 use Rattle.sparse_parser.proofs.IntegerLaws.{integer_at, one_digit, value_line_is}
-
--- the number of bytes of an optional minus
-abbrev pub sign_len : Bool → ℕ
-sign_len minus = bool_byte minus
-
-pub sign_small : (minus : Bool) → sign_len minus ≤ 1
-sign_small true = omega arith
-sign_small false = omega arith
-
-starts : (text : List ℕ) (minus : Bool) → starts_with_minus text ≡ minus
-    → is_ascii_digit (get_or text (sign_len minus) 0) ≡ true
-    → (text ≡ after is_blank text) × (drop (sign_len minus) text ≡ without_leading_sign text)
-starts [] minus m digit = (refl, by minus m)
-  where
-    by : (minus : Bool) → starts_with_minus [] ≡ minus
-        → drop (sign_len minus) [] ≡ without_leading_sign []
-    by true m = refl
-    by false m = refl
-starts (c ∷ text) true m digit =
-    let minus : c ≡ 45 = eqb-true c 45 m in
-    (rw minus refl, rw minus refl)
-starts (c ∷ text) false m digit =
-    let sign = digit_no_sign c digit in
-    (rw (digit_no_blank c digit) refl, rw (sign.0, sign.1) refl)
+use Rattle.sparse_parser.proofs.Signs.{sign_len, starts}
 
 digit_line_is : (text : List ℕ) (minus : Bool) (number : ℕ) (value : ℤ)
     → sign_len minus + 1 < length text → minus ≡ starts_with_minus text

@@ -27,11 +27,6 @@ pub record IsPassed (p : ℕ → Bool) (text : List ℕ) (i : ℕ) : Type 0 wher
   pub rest : after p (drop i text) ≡ after p text
   pub passed : take i text ++ front p (drop i text) ≡ front p text
 
--- the loop's end: of the text, or at a byte that fails
-pub record IsFront (p : ℕ → Bool) (text : List ℕ) (i : ℕ) : Type 0 where
-  pub rest : drop i text ≡ after p text
-  pub passed : take i text ≡ front p text
-
 -- ---- the parts, without a loop
 
 pub front-append-after : (p : ℕ → Bool) (text : List ℕ) → front p text ++ after p text ≡ text

@@ -10,4 +10,5 @@ pub mod LineLaws
 pub mod LineShapes
 pub mod NumberLaws
 pub mod PlaceLaws
+pub mod Signs
 pub mod WordLaws

@@ -1,32 +1,50 @@
 //! Numbers at a position of a text: runs of digits.
 
-ghost use Rattle.std.specs.Prelude.{◌≡◌, ◌≤◌, length, drop};
-ghost use Rattle.sparse_parser.specs.InnerNumbers.{IsNumberRead};
+ghost use Rattle.std.specs.Prelude.{◌≡◌, ◌≤◌, ◌<◌, MatchOption, length, drop};
+ghost use Rattle.sparse_parser.specs.InnerNumbers.{IsNumberRead, IsRunRead};
 
 use crate::lines::text_from;
 use crate::numbers::SHORT;
 use core::dec2flt::read_digits;
 
 /// Returns the value of at most 19 digits at a position, and the position after them.
-///
-/// Up to six digits are read at once, and no branch depends on how many there are: `read_digits` has neither a loop nor a table of powers
-/// to go through where less than eight of at least twelve bytes are left. So it gets five bytes before the digits too, which are there but
-/// at the beginning of the text.
 #[inline(always)]
 pub fn digits_at(text: &[u8], from: usize) -> (usize, usize)
     requires { from ≤ length text.now }
     ensures inside { result.1 ≤ length text.now }
     ensures read { IsNumberRead (drop from text.now) result.0 (drop result.1 text.now) }
 {
-    if from >= 5 && text.len() - from >= 7 {
-        let before = text_from(text, from - 5);
-        let (window, _) = before.split_at(12);
-        let (end, number) = read_digits(window, 5, 0);
-        if end < 12 {
-            return (number as usize, from + (end - 5));
-        }
+    match few_digits_at(text, from, 0) {
+        Some((number, end)) => (number, end),
+        None => many_digits_at(text, from),
     }
-    many_digits_at(text, from)
+}
+
+/// Returns the value of a digit and of up to six more at a position, and the position after them, or `None` if more follow or the text ends
+/// or begins within a few bytes.
+///
+/// No branch depends on how many there are: `read_digits` has no loop to go through where less than eight of at least twelve bytes are left.
+/// So it gets five bytes before the digits too, which are there but at the beginning of the text.
+#[inline(always)]
+pub fn few_digits_at(text: &[u8], from: usize, first: u64) -> Option<(usize, usize)>
+    requires inside { from ≤ length text.now }
+    requires digit { first ≤ 9 }
+    ensures inside { MatchOption result (Unit {0}) (λ found. found.1 < length text.now) }
+    ensures some { MatchOption result (Unit {0}) (λ found. from ≤ found.1) }
+    ensures read { MatchOption result (Unit {0})
+        (λ found. IsRunRead first (drop from text.now) found.0 (drop found.1 text.now)) }
+{
+    if from < 5 || text.len() - from < 7 {
+        return None;
+    }
+    let before = text_from(text, from - 5);
+    let (window, _) = before.split_at(12);
+    let (end, number) = read_digits(window, 5, first);
+    if end < 12 {
+        Some((number as usize, from + (end - 5)))
+    } else {
+        None
+    }
 }
 
 // The same where more than six digits may follow.

@@ -1,13 +1,12 @@
 //! The kinds of values that stand alone in a line, as in arrays.
 
-ghost use Rattle.std.specs.Prelude.{◌≡◌, ◌≤◌, ◌<◌, ◌+◌, pos, if◌then◌else◌, MatchOption, length, drop};
-ghost use lib.IntN.{neg_ℤ};
+ghost use Rattle.std.specs.Prelude.{◌≡◌, ◌≤◌, ◌<◌, ◌+◌, MatchOption, length, drop};
 ghost use Rattle.sparse_parser.specs.InnerBytes.{BeginsLine};
 ghost use Rattle.sparse_parser.specs.InnerIntegers.{IsValueLine};
 ghost use Rattle.sparse_parser.specs.InnerReading.{contents_of};
 ghost use Rattle.sparse_io.specs.InnerEntries.{IsValueRead};
 
-use sparse_parser::integer_lines::value_line;
+use sparse_parser::integer_lines::{short_value_line, value_line, with_sign};
 use sparse_parser::lines::next_line_at;
 
 /// A kind of values.
@@ -30,6 +29,9 @@ pub struct Digits;
 impl Values for Integers {
     #[inline(always)]
     fn line(text: &[u8], from: usize) -> Option<(i64, usize)> {
+        if let Some((value, end)) = short_value_line(text, from) {
+            return Some((value, next_line_at(text, end)));
+        }
         let (value, end) = value_line(text, from)?;
         Some((value, next_line_at(text, end)))
     }
@@ -66,15 +68,6 @@ fn digit_line(text: &[u8], from: usize) -> Option<(i64, usize)>
     if !(text[at].is_ascii_digit() & is_last) {
         return None;
     }
-    let value = signed(text[at] - b'0', is_minus);
+    let value = with_sign(u32::from(text[at] - b'0'), is_minus);
     Some((value, at + 1))
-}
-
-// A number or its negative.
-#[inline(always)]
-fn signed(number: u8, is_negative: bool) -> i64
-    ensures { result ≡ (if is_negative then neg_ℤ (pos number) else pos number) }
-{
-    let value = i64::from(number);
-    if is_negative { -value } else { value }
 }

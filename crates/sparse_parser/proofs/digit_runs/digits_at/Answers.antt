@@ -1,9 +1,5 @@
-use Rattle.std.proofs.Common.{arith}
-use Rattle.sparse_parser.proofs.Runs.{window_read}
+use Rattle.sparse_parser.proofs.Runs.{number_read}
 use Rattle.sparse_parser.proofs.digit_runs.digits_at.Goals as goal
 
-pub returns-then-end-lt12-clause-read : goal.returns-then-end-lt12-clause-read
-returns-then-end-lt12-clause-read c =
-    window_read c.args.text.now c.text_from-before.result.now c.split_at.result.0.now c.args.from _ _
-    c.requires (omega arith) c.text_from-before.ensures c.split_at.ensures.front
-    c.read_digits-end.ensures.end c.if-end-lt12.true c.read_digits-end.ensures.value
+pub returns-in-Some-clause-read : goal.returns-in-Some-clause-read
+returns-in-Some-clause-read c = number_read _ _ _ c.in-Some.ensures.read

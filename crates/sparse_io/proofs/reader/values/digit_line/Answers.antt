@@ -6,7 +6,8 @@ use Rattle.sparse_parser.specs.InnerIntegers.{IsValueLine}
 use Rattle.sparse_parser.specs.InnerBytes.{BeginsLine}
 use Rattle.sparse_parser.specs.InnerReading.{contents_of}
 use Rattle.sparse_parser.proofs.Runs.{line_begins_at}
-use Rattle.sparse_io.proofs.DigitLines.{sign_small, digit_line_from}
+use Rattle.sparse_parser.proofs.Signs.{sign_small}
+use Rattle.sparse_io.proofs.DigitLines.{digit_line_from}
 use Rattle.sparse_io.proofs.reader.values.digit_line.Goals as goal
 
 pub returns-clause-line : goal.returns-clause-line
@@ -17,15 +18,15 @@ returns-clause-line c =
     let is_at = c.from.ensures in
     let both = and_parts _ _ c.if-not-is_ascii_digit-is_last.false in
     let last = and_parts _ _ both.1 in
-    let h : IsValueLine (drop c.args.from c.args.text.now) c.signed-value.result
+    let h : IsValueLine (drop c.args.from c.args.text.now) c.with_sign-value.result
     (drop (at + 1) c.args.text.now) =
     digit_line_from c.args.text.now c.args.from at _ _ _ (omega arith) (omega arith) refl
-    (sym c.is_ascii_digit.ensures.value ∙ both.0) (eqb-true _ _ last.0) refl
-    c.signed-value.ensures in
+    (sym c.is_ascii_digit.ensures.value ∙ both.0) (eqb-true _ _ last.0) c.from-2.ensures
+    c.with_sign-value.ensures in
     search (rules, h)
 
 -- the line ends in LF, and the next one follows at once
-next : (c : goal.After-signed-value)
+next : (c : goal.After-with_sign-value)
     → (contents_of (drop (c.args.from + c.from.result + 1 + 1) c.args.text.now)
     ≡ contents_of (drop (c.args.from + c.from.result + 1) c.args.text.now))
     × BeginsLine (drop (c.args.from + c.from.result + 1 + 1) c.args.text.now)
