@@ -217,6 +217,20 @@ one_digit text from number inside digit end is =
       line = end_at _ _ refl (ap ends_line ends ∙ ap is_line_end end);
     }
 
+-- digits, and LF after them
+pub number_and_end : (text from : List ℕ) (number end : ℕ) → end < length text
+    → get_or text end 0 ≡ 10 → IsNumberRead from number (drop end text)
+    → length (drop end text) ≢ length from → IsLastNumber from number (drop end text)
+number_and_end text from number end lt e r some =
+    let ends = drop_more text end 0 lt in
+    record {
+      behind = drop end text;
+      read = r;
+      some = some;
+      word = ap ends_word ends ∙ ap is_space e;
+      line = end_at _ _ refl (ap ends_line ends ∙ ap is_line_end e);
+    }
+
 -- an index, and LF after it
 pub index_and_end : (text from : List ℕ) (number end : ℕ) → end < length text
     → get_or text end 0 ≡ 10 → IsNumberRead from number (drop end text)

@@ -13,14 +13,14 @@ use Rattle.std.proofs.Math.Nat.{pow-le-pow_right, mul-le-mul_right}
 use Rattle.sparse_parser.proofs.Positions.{after_passed, digit_read}
 use Rattle.core.proofs.dec2flt.Rows.{AllDigits-digits_len, short_fits}
 use Rattle.core.proofs.slice.Prefixes.{prefix_len-le-length}
-use Rattle.sparse_parser.specs.Bytes.{front, after}
+use Rattle.sparse_parser.specs.Bytes.{is_blank, front, after}
 use Rattle.sparse_parser.specs.InnerBytes.{is_space, BeginsLine}
 use Rattle.sparse_parser.specs.InnerNumbers.{IsNumberRead, IsRunRead}
 use Rattle.sparse_parser.specs.InnerReading.{contents_of}
 use Rattle.sparse_parser.proofs.Fronts.{IsStopped-after, front-append, after-append, after-yes}
 use Rattle.sparse_parser.proofs.Fronts.{front_take, after_drop}
 use Rattle.sparse_parser.proofs.Fronts.{after-no}
-use Rattle.sparse_parser.proofs.LineLaws.{IsSought, sought_first}
+use Rattle.sparse_parser.proofs.LineLaws.{IsSought, sought_first, outside}
 
 -- the digits of a run, and what follows them
 run_is : (text : List ℕ) (from count : ℕ) → count ≡ digits_len (drop from text)
@@ -160,6 +160,10 @@ window_read text before window from end first number digit room b w run short is
     ap (take (end - 5)) seven ∙ take-take (end - 5) 7 start (omega arith) in
     short_run_read text from (end - 5) first number digit (omega arith) (omega arith)
     (is ∙ ap (λ (ds : List ℕ). (first * 10 ^ (end - 5) + digits_value 10 ds) % 2 ^ 64) digits)
+
+pub no_blank_before : (text : List ℕ) → BeginsLine text → text ≡ after is_blank text
+no_blank_before [] begins = refl
+no_blank_before (b ∷ text) begins = sym (after-no is_blank b text (outside b begins.0).0)
 
 visible : (b : ℕ) → 37 < b → is_space b ≡ false
 visible b lt = grind (arith, nat_tests)

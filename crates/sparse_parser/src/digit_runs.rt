@@ -1,6 +1,6 @@
 //! Numbers at a position of a text: runs of digits.
 
-ghost use Rattle.std.specs.Prelude.{◌≡◌, ◌≤◌, ◌<◌, MatchOption, length, drop};
+ghost use Rattle.std.specs.Prelude.{◌≡◌, ◌≤◌, ◌<◌, ◌+◌, MatchOption, length, drop};
 ghost use Rattle.sparse_parser.specs.InnerNumbers.{IsNumberRead, IsRunRead};
 
 use crate::lines::text_from;
@@ -14,29 +14,28 @@ pub fn digits_at(text: &[u8], from: usize) -> (usize, usize)
     ensures inside { result.1 ≤ length text.now }
     ensures read { IsNumberRead (drop from text.now) result.0 (drop result.1 text.now) }
 {
-    match few_digits_at(text, from, 0) {
-        Some((number, end)) => (number, end),
-        None => many_digits_at(text, from),
+    if from >= 5 && text.len() - from >= 8 {
+        if let Some((number, end)) = few_digits_at(text, from, 0) {
+            return (number, end);
+        }
     }
+    many_digits_at(text, from)
 }
 
-/// Returns the value of a digit and of up to six more at a position, and the position after them, or `None` if more follow or the text ends
-/// or begins within a few bytes.
+/// Returns the value of a digit and of up to six more at a position, and the position after them, or `None` if more follow.
 ///
 /// No branch depends on how many there are: `read_digits` has no loop to go through where less than eight of at least twelve bytes are left.
-/// So it gets five bytes before the digits too, which are there but at the beginning of the text.
+/// So it gets five bytes before the digits too.
 #[inline(always)]
 pub fn few_digits_at(text: &[u8], from: usize, first: u64) -> Option<(usize, usize)>
-    requires inside { from ≤ length text.now }
+    requires before { 5 ≤ from }
+    requires behind { from + 8 ≤ length text.now }
     requires digit { first ≤ 9 }
-    ensures inside { MatchOption result (Unit {0}) (λ found. found.1 < length text.now) }
+    ensures inside { MatchOption result (Unit {0}) (λ found. found.1 + 1 < length text.now) }
     ensures some { MatchOption result (Unit {0}) (λ found. from ≤ found.1) }
     ensures read { MatchOption result (Unit {0})
         (λ found. IsRunRead first (drop from text.now) found.0 (drop found.1 text.now)) }
 {
-    if from < 5 || text.len() - from < 7 {
-        return None;
-    }
     let before = text_from(text, from - 5);
     let (window, _) = before.split_at(12);
     let (end, number) = read_digits(window, 5, first);

@@ -2,11 +2,13 @@
 //!
 //! The lines are read by positions in one text, which takes half as many instructions as a slice for each number.
 
-ghost use Rattle.std.specs.Prelude.{◌≡◌, ◌≢◌, ◌≤◌, ◌<◌, pos, true, if◌then◌else◌, MatchOption, length, drop};
+ghost use Rattle.std.specs.Prelude.{◌≡◌, ◌≢◌, ◌≤◌, ◌<◌, ◌-◌, pos, true, if◌then◌else◌, MatchOption, length, drop};
 ghost use Rattle.std.specs.Str.Parse.{starts_with_minus, without_leading_sign};
 ghost use lib.IntN.{neg_ℤ};
 ghost use Rattle.sparse_parser.specs.Bytes.{is_blank, after};
+ghost use Rattle.sparse_parser.specs.InnerBytes.{BeginsLine};
 ghost use Rattle.sparse_parser.specs.InnerLines.{ends_word};
+ghost use Rattle.sparse_parser.specs.InnerReading.{contents_of};
 ghost use Rattle.sparse_parser.specs.InnerIntegers.{IsIndexAt, IsEndAt, IsLastIndex, IsLastNumber, IsIntegerLine, IsPlaceLine, IsValueLine};
 
 use crate::digit_runs::{digits_at, few_digits_at, long_digits_at};
@@ -24,7 +26,7 @@ pub fn integer_line(text: &[u8], from: usize) -> Option<(usize, usize, i64, usiz
 {
     let (row, at) = index_at(text, from)?;
     let (col, at) = index_at(text, at)?;
-    let (value, end) = value_line(text, at)?;
+    let (value, end) = last_integer(text, at)?;
     Some((row, col, value, end))
 }
 
@@ -46,31 +48,35 @@ pub fn place_line(text: &[u8], from: usize) -> Option<(usize, usize, usize)>
 /// form.
 #[inline(always)]
 pub fn value_line(text: &[u8], from: usize) -> Option<(i64, usize)>
-    requires { from ≤ length text.now }
+    requires inside { from ≤ length text.now }
+    requires begins { BeginsLine (drop from text.now) }
     ensures inside { MatchOption result (Unit {0}) (λ line. line.1 ≤ length text.now) }
     ensures line { MatchOption result (Unit {0})
         (λ line. IsValueLine (drop from text.now) line.0 (drop line.1 text.now)) }
 {
-    let start = skip_blanks(text, from);
-    let (number, end) = last_number(text, after_sign_at(text, start))?;
-    let value = signed(number, starts_with_minus(text_from(text, start)))?;
+    let (number, end) = whole_number(text, after_sign_at(text, from))?;
+    let value = signed(number, starts_with_minus(text_from(text, from)))?;
     Some((value, end))
 }
 
-/// Parses the same if the line is short: at most seven digits, maybe after a minus, with LF behind them. Returns the value and the position of
-/// LF, or `None` if the line has another form or the text ends or begins within a few bytes.
+/// Parses the line at a position as an integer of at most seven digits, maybe after a minus, if it ends in LF and the next line follows at once.
+/// Returns the value and the position of the next line, or `None` if the line has another form or the text ends or begins within a few bytes.
 ///
-/// Such a line takes fewer steps than what a mispredicted branch costs, so no branch depends on the sign or on the number of digits. The position
-/// of the next line is what the processor waits for: it does not depend on the sign either, since the first byte is taken apart, as a minus
-/// or as a digit, and the digits behind it are counted.
+/// Such a line takes fewer steps than what a mispredicted branch costs, so no branch depends on the sign or on the number of digits. What the
+/// processor waits for is the position of the next line. It does not depend on the sign either: the first byte is taken apart, as a minus or
+/// as a digit, and the digits behind it are counted.
 #[inline(always)]
 pub fn short_value_line(text: &[u8], from: usize) -> Option<(i64, usize)>
     requires { from ≤ length text.now }
     ensures inside { MatchOption result (Unit {0}) (λ line. line.1 < length text.now) }
     ensures line { MatchOption result (Unit {0})
-        (λ line. IsValueLine (drop from text.now) line.0 (drop line.1 text.now)) }
+        (λ line. IsValueLine (drop from text.now) line.0 (drop (line.1 - 1) text.now)) }
+    ensures begins { MatchOption result (Unit {0}) (λ line. BeginsLine (drop line.1 text.now)) }
+    ensures same { MatchOption result (Unit {0})
+        (λ line. contents_of (drop line.1 text.now)
+        ≡ contents_of (drop (line.1 - 1) text.now)) }
 {
-    if from == text.len() {
+    if from < 4 || text.len() - from < 9 {
         return None;
     }
     let is_minus = text[from] == b'-';
@@ -84,10 +90,25 @@ pub fn short_value_line(text: &[u8], from: usize) -> Option<(i64, usize)>
     }
     let (number, end) = few_digits_at(text, from + 1, u64::from(first))?;
     let is_number = !is_minus | (end > from + 1);
-    if !(is_number & (text[end] == b'\n')) {
+    let is_last = (text[end] == b'\n') & (text[end + 1] > b'%');
+    if !(is_number & is_last) {
         return None;
     }
-    Some((with_sign(number as u32, is_minus), end))
+    Some((with_sign(number as u32, is_minus), end + 1))
+}
+
+// The integer at a position, after blanks, and the position of the line's end.
+#[inline(always)]
+fn last_integer(text: &[u8], from: usize) -> Option<(i64, usize)>
+    requires { from ≤ length text.now }
+    ensures inside { MatchOption result (Unit {0}) (λ line. line.1 ≤ length text.now) }
+    ensures line { MatchOption result (Unit {0})
+        (λ line. IsValueLine (drop from text.now) line.0 (drop line.1 text.now)) }
+{
+    let start = skip_blanks(text, from);
+    let (number, end) = last_number(text, after_sign_at(text, start))?;
+    let value = signed(number, starts_with_minus(text_from(text, start)))?;
+    Some((value, end))
 }
 
 // The value of at most 19 digits at a position, and the position of the line's end. One digit before LF is a case of its own, since small
@@ -104,6 +125,26 @@ fn last_number(text: &[u8], from: usize) -> Option<(usize, usize)>
         return Some((number, from + 1));
     }
     let (number, end) = long_digits_at(text, from);
+    if end == from {
+        return None;
+    }
+    let end = number_end(text, end)?;
+    Some((number, end))
+}
+
+// The same for the number of a line that has nothing else, most often with LF behind it. One digit is no case of its own, since arrays whose
+// values are short are read by `short_value_line`.
+#[inline(always)]
+fn whole_number(text: &[u8], from: usize) -> Option<(usize, usize)>
+    requires { from ≤ length text.now }
+    ensures inside { MatchOption result (Unit {0}) (λ found. found.1 ≤ length text.now) }
+    ensures number { MatchOption result (Unit {0})
+        (λ found. IsLastNumber (drop from text.now) found.0 (drop found.1 text.now)) }
+{
+    let (number, end) = long_digits_at(text, from);
+    if end > from && end < text.len() && text[end] == b'\n' {
+        return Some((number, end));
+    }
     if end == from {
         return None;
     }

@@ -11,7 +11,7 @@ ghost use Rattle.sparse_io.specs.InnerEntries.{symmetry_of, HasValues, IsReadOn,
 use crate::reader::columns::columns;
 use crate::reader::kinds::{IntegerLines, Kind, PlaceLines, ValueLines};
 use crate::reader::pushes::{append_all, are_inside};
-use crate::reader::values::{Digits, Integers};
+use crate::reader::values::{Digits, Integers, Shorts};
 use sparse_base::CooAppender;
 use sparse_base::coo::CooMatrix;
 use sparse_market_scalar::MatrixMarketScalar;
@@ -50,7 +50,7 @@ pub fn common_lines<'a, T: MatrixMarketScalar>(
     }
 }
 
-// Reads the lines of an array: those of one digit, as long as all have one, and then those of any integer.
+// Reads the lines of an array: those of one digit, as long as all have one, those of short integers, and then those of any integer.
 fn array_lines<'a, T: MatrixMarketScalar>(
     header: Header,
     matrix: CooMatrix<T>,
@@ -68,10 +68,14 @@ fn array_lines<'a, T: MatrixMarketScalar>(
 {
     if let Symmetry::General = header.symmetry {
         let (matrix, read, others) = columns::<T, Digits>(matrix, places, read, text);
+        let (matrix, read, others) = columns::<T, Shorts>(matrix, places, read, others);
         return columns::<T, Integers>(matrix, places, read, others);
     }
     let (matrix, read, others) = lines_of::<T, ValueLines<Digits>>(
         header, matrix, places, read, text,
+    );
+    let (matrix, read, others) = lines_of::<T, ValueLines<Shorts>>(
+        header, matrix, places, read, others,
     );
     lines_of::<T, ValueLines<Integers>>(header, matrix, places, read, others)
 }

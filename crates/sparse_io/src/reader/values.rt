@@ -9,6 +9,9 @@ ghost use Rattle.sparse_io.specs.InnerEntries.{IsValueRead};
 use sparse_parser::integer_lines::{short_value_line, value_line, with_sign};
 use sparse_parser::lines::next_line_at;
 
+// The bytes before a short value that are read with it.
+const BEFORE: usize = 4;
+
 /// A kind of values.
 pub trait Values {
     /// Parses the line at a position. Returns its value and the position of the next line, or `None` if the line has another form.
@@ -23,17 +26,27 @@ pub trait Values {
 /// Integers.
 pub struct Integers;
 
+/// Integers of at most seven digits, maybe after a minus.
+pub struct Shorts;
+
 /// Integers of one digit, maybe after a minus.
 pub struct Digits;
 
 impl Values for Integers {
     #[inline(always)]
     fn line(text: &[u8], from: usize) -> Option<(i64, usize)> {
-        if let Some((value, end)) = short_value_line(text, from) {
-            return Some((value, next_line_at(text, end)));
-        }
         let (value, end) = value_line(text, from)?;
         Some((value, next_line_at(text, end)))
+    }
+}
+
+impl Values for Shorts {
+    #[inline(always)]
+    fn line(text: &[u8], from: usize) -> Option<(i64, usize)> {
+        if from < BEFORE {
+            return first_line(text, from);
+        }
+        short_value_line(text, from)
     }
 }
 
@@ -43,6 +56,19 @@ impl Values for Digits {
         let (value, end) = digit_line(text, from)?;
         Some((value, end + 1))
     }
+}
+
+// Parses the same as `Integers::line`, at the beginning of the text.
+#[cold]
+fn first_line(text: &[u8], from: usize) -> Option<(i64, usize)>
+    requires inside { from ≤ length text.now }
+    requires begins { BeginsLine (drop from text.now) }
+    ensures inside { MatchOption result (Unit {0}) (λ x. x.1 ≤ length text.now) }
+    ensures read { MatchOption result (Unit {0})
+        (λ x. IsValueRead (drop from text.now) x.0 (drop x.1 text.now)) }
+{
+    let (value, end) = value_line(text, from)?;
+    Some((value, next_line_at(text, end)))
 }
 
 // Parses the line at a position as one digit, maybe after a minus, if it ends in LF and the next line follows at once. Returns the value and
