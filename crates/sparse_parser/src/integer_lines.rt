@@ -2,16 +2,15 @@
 //!
 //! The lines are read by positions in one text, which takes half as many instructions as a slice for each number.
 
-ghost use Rattle.std.specs.Prelude.{◌≡◌, ◌≢◌, ◌≤◌, ◌<◌, ◌-◌, pos, true, if◌then◌else◌, MatchOption, length, drop};
+ghost use Rattle.std.specs.Prelude.{◌≡◌, ◌≢◌, ◌≤◌, pos, true, if◌then◌else◌, MatchOption, length, drop};
 ghost use Rattle.std.specs.Str.Parse.{starts_with_minus, without_leading_sign};
 ghost use lib.IntN.{neg_ℤ};
 ghost use Rattle.sparse_parser.specs.Bytes.{is_blank, after};
 ghost use Rattle.sparse_parser.specs.InnerBytes.{BeginsLine};
 ghost use Rattle.sparse_parser.specs.InnerLines.{ends_word};
-ghost use Rattle.sparse_parser.specs.InnerReading.{contents_of};
 ghost use Rattle.sparse_parser.specs.InnerIntegers.{IsIndexAt, IsEndAt, IsLastIndex, IsLastNumber, IsIntegerLine, IsPlaceLine, IsValueLine};
 
-use crate::digit_runs::{digits_at, few_digits_at, long_digits_at};
+use crate::digit_runs::{digits_at, long_digits_at};
 use crate::lines::{ends_line, ends_word, is_blank, text_from};
 
 /// Parses the line at a position as two indices and an integer. Returns the row, the column, the value and the position of the line's end,
@@ -57,44 +56,6 @@ pub fn value_line(text: &[u8], from: usize) -> Option<(i64, usize)>
     let (number, end) = whole_number(text, after_sign_at(text, from))?;
     let value = signed(number, starts_with_minus(text_from(text, from)))?;
     Some((value, end))
-}
-
-/// Parses the line at a position as an integer of at most seven digits, maybe after a minus, if it ends in LF and the next line follows at once.
-/// Returns the value and the position of the next line, or `None` if the line has another form or the text ends or begins within a few bytes.
-///
-/// Such a line takes fewer steps than what a mispredicted branch costs, so no branch depends on the sign or on the number of digits. What the
-/// processor waits for is the position of the next line. It does not depend on the sign either: the first byte is taken apart, as a minus or
-/// as a digit, and the digits behind it are counted.
-#[inline(always)]
-pub fn short_value_line(text: &[u8], from: usize) -> Option<(i64, usize)>
-    requires { from ≤ length text.now }
-    ensures inside { MatchOption result (Unit {0}) (λ line. line.1 < length text.now) }
-    ensures line { MatchOption result (Unit {0})
-        (λ line. IsValueLine (drop from text.now) line.0 (drop (line.1 - 1) text.now)) }
-    ensures begins { MatchOption result (Unit {0}) (λ line. BeginsLine (drop line.1 text.now)) }
-    ensures same { MatchOption result (Unit {0})
-        (λ line. contents_of (drop line.1 text.now)
-        ≡ contents_of (drop (line.1 - 1) text.now)) }
-{
-    if from < 4 || text.len() - from < 9 {
-        return None;
-    }
-    let is_minus = text[from] == b'-';
-    let first = if is_minus {
-        0
-    } else {
-        text[from].wrapping_sub(b'0')
-    };
-    if first > 9 {
-        return None;
-    }
-    let (number, end) = few_digits_at(text, from + 1, u64::from(first))?;
-    let is_number = !is_minus | (end > from + 1);
-    let is_last = (text[end] == b'\n') & (text[end + 1] > b'%');
-    if !(is_number & is_last) {
-        return None;
-    }
-    Some((with_sign(number as u32, is_minus), end + 1))
 }
 
 // The integer at a position, after blanks, and the position of the line's end.
@@ -244,16 +205,7 @@ fn starts_with_minus(text: &[u8]) -> bool
     }
 }
 
-/// Returns a number or its negative. The sign is selected without a branch, since signs are hard to predict.
-#[inline(always)]
-pub fn with_sign(number: u32, is_negative: bool) -> i64
-    ensures { result ≡ (if is_negative then neg_ℤ (pos number) else pos number) }
-{
-    let value = i64::from(number);
-    if is_negative { -value } else { value }
-}
-
-// The same of a number that may be too large.
+// A number or its negative, if it fits. The sign is selected without a branch, since signs are hard to predict.
 #[inline(always)]
 fn signed(number: usize, is_negative: bool) -> Option<i64>
     ensures { MatchOption result (Unit {0})

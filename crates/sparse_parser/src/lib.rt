@@ -9,4 +9,5 @@ pub mod integer_lines;
 pub mod lines;
 pub mod numbers;
 pub mod places;
+pub mod short_values;
 pub mod size;

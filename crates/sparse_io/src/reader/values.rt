@@ -6,8 +6,9 @@ ghost use Rattle.sparse_parser.specs.InnerIntegers.{IsValueLine};
 ghost use Rattle.sparse_parser.specs.InnerReading.{contents_of};
 ghost use Rattle.sparse_io.specs.InnerEntries.{IsValueRead};
 
-use sparse_parser::integer_lines::{short_value_line, value_line, with_sign};
+use sparse_parser::integer_lines::value_line;
 use sparse_parser::lines::next_line_at;
+use sparse_parser::short_values::{short_value_line, with_sign};
 
 // The bytes before a short value that are read with it.
 const BEFORE: usize = 4;

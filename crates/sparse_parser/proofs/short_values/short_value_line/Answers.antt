@@ -7,8 +7,8 @@ use Rattle.sparse_parser.specs.InnerNumbers.{IsRunRead}
 use Rattle.sparse_parser.specs.InnerReading.{contents_of}
 use Rattle.sparse_parser.proofs.Runs.{line_begins_at}
 use Rattle.sparse_parser.proofs.Signs.{IsFirstByte, short_value_is}
-use Rattle.sparse_parser.proofs.integer_lines.short_value_line.Goals as goal
-use Rattle.sparse_parser.proofs.integer_lines.short_value_line.Goals.{then-is_minus, else-is_minus}
+use Rattle.sparse_parser.proofs.short_values.short_value_line.Goals as goal
+use Rattle.sparse_parser.proofs.short_values.short_value_line.Goals.{then-is_minus, else-is_minus}
 
 pub returns-clause-line : goal.returns-clause-line
 returns-clause-line c =
