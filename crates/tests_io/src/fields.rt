@@ -15,7 +15,7 @@ const START: &str = "%%MatrixMarket matrix ";
 type Listed<T> = ((usize, usize), &'static [(usize, usize, T)]);
 
 /// Texts below the first words of the header, and what they mean as i32.
-const MEANINGS: [(&str, Listed<i32>); 12] = [
+const MEANINGS: [(&str, Listed<i32>); 13] = [
     (
         "array integer symmetric\n2 2\n1\n2\n3\n",
         ((2, 2), &[(0, 0, 1), (1, 0, 2), (0, 1, 2), (1, 1, 3)]),
@@ -58,6 +58,27 @@ const MEANINGS: [(&str, Listed<i32>); 12] = [
     (
         "array integer general\n2 2\n1\n0\n-3\n+4",
         ((2, 2), &[(0, 0, 1), (1, 0, 0), (0, 1, -3), (1, 1, 4)]),
+    ),
+    // values of one digit, of up to seven and of more, with one line end and another
+    (
+        "array integer general\n4 3\n7\n-8\n1234567\n-9999999\n-0\n0000007\n+5\n12345678\n3\n-1234567890\n31\r\n999\n",
+        (
+            (4, 3),
+            &[
+                (0, 0, 7),
+                (1, 0, -8),
+                (2, 0, 1234567),
+                (3, 0, -9999999),
+                (0, 1, 0),
+                (1, 1, 7),
+                (2, 1, 5),
+                (3, 1, 12345678),
+                (0, 2, 3),
+                (1, 2, -1234567890),
+                (2, 2, 31),
+                (3, 2, 999),
+            ],
+        ),
     ),
     (
         "array integer general\n0 18446744073709551615\n",
