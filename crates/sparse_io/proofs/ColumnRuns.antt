@@ -13,7 +13,7 @@ use Rattle.sparse_parser.specs.Scalars.{Scalar}
 use Rattle.sparse_parser.specs.Meaning.{Triplet, mirrored, value_triplet, values_of}
 use Rattle.sparse_parser.specs.InnerReading.{line_words}
 use Rattle.sparse_parser.specs.InnerBytes.{BeginsLine}
-use Rattle.sparse_parser.specs.InnerPlaces.{IsDownFrom}
+use Rattle.sparse_io.specs.InnerPlaces.{IsDownFrom}
 use Rattle.sparse_io.specs.InnerEntries.{HasValues, IsGeneralArray, IsValueRead, IsLineRead}
 use Rattle.sparse_io.specs.InnerEntries.{triplets_at, Reading, IsReadOn, reading}
 use Rattle.sparse_io.proofs.EntryLoop.{IsRead, front_read}

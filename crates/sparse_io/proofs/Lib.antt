@@ -6,5 +6,6 @@ pub mod IntegerEntries
 pub mod LineRuns
 pub mod OneMeaning
 pub mod Parts
+pub mod PlaceLaws
 pub mod RoundTrip
 pub mod Turned

@@ -53,6 +53,7 @@ impl<'a, T> Iterator for ExportIter<'a, T> {
 
     ghost remaining = { item_count triplets_left };
 
+    #[inline(always)]
     fn next(&mut self) -> Option<(usize, usize, &'a T)> {
         match self {
             ExportIter::Coo(triplets) => triplets.next(),

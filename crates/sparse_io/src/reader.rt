@@ -20,6 +20,7 @@ mod columns;
 mod entries;
 mod entry;
 mod kinds;
+mod places;
 mod pushes;
 mod runs;
 mod values;

@@ -10,7 +10,7 @@ ghost use Rattle.sparse_io.specs.InnerWriting.{head_of, IsBuffered};
 
 use crate::export::MatrixMarketExport;
 use crate::sinks::{Sink, write_all_to};
-use indices::format_indices;
+use indices::{ROOM, format_indices};
 use itoa::Buffer;
 use sparse_market_scalar::MatrixMarketScalar;
 use sparse_parser::error::MatrixMarketError;
@@ -60,6 +60,7 @@ fn push_sizes(text: &mut String, nrows: usize, ncols: usize, nnz: usize) -> Resu
 #[inline(always)]
 fn push_triplet<T: MatrixMarketScalar>(
     text: &mut String,
+    room: &mut [u8; ROOM],
     row: usize,
     col: usize,
     value: &T,
@@ -70,8 +71,7 @@ fn push_triplet<T: MatrixMarketScalar>(
         (string_bytes text.new ≡ string_bytes text.old
         ++ triplet_line (λ x. T.scalar.text (T.value x)) (row, col, value.now)) }
 {
-    let mut bytes = [b' '; indices::ROOM];
-    text.push_str(format_indices(&mut bytes, row + 1, col + 1))?;
+    text.push_str(format_indices(room, row + 1, col + 1))?;
     value.write_matrix_market(text)?;
     text.push_str("\n")
 }
@@ -114,6 +114,7 @@ fn flush<W: Sink>(sink: &mut W, text: &mut String) -> Result<(), MatrixMarketErr
 fn put_triplet<T, W>(
     sink: &mut W,
     text: &mut String,
+    room: &mut [u8; ROOM],
     row: usize,
     col: usize,
     value: &T,
@@ -137,7 +138,7 @@ where
     if text.len() >= FULL {
         flush(sink, text)?;
     }
-    push_triplet(text, row, col, value)?;
+    push_triplet(text, room, row, col, value)?;
     Ok(())
 }
 
@@ -172,8 +173,9 @@ where
 {
     let mut text = String::with_capacity(alloc, CAPACITY)?;
     push_head(&mut text, matrix)?;
+    let mut room = [b' '; ROOM];
     for (row, col, value) in matrix.triplet_iter() {
-        put_triplet(sink, &mut text, row, col, value)?;
+        put_triplet(sink, &mut text, &mut room, row, col, value)?;
     }
     flush(sink, &mut text)?;
     Ok(())
@@ -201,8 +203,9 @@ where
 {
     let mut text = String::new(alloc);
     push_head(&mut text, matrix)?;
+    let mut room = [b' '; ROOM];
     for (row, col, value) in matrix.triplet_iter() {
-        push_triplet(&mut text, row, col, value)?;
+        push_triplet(&mut text, &mut room, row, col, value)?;
     }
     Ok(text)
 }

@@ -7,6 +7,7 @@ ghost use Rattle.sparse_market_scalar.specs.ScalarTypes.{pattern_scalar};
 use sparse_parser::error::{Cause, MatrixMarketError};
 use std::alloc::AllocError;
 
+mod decimal;
 mod plain;
 mod wrapping;
 

@@ -9,6 +9,5 @@ pub mod Fronts
 pub mod LineLaws
 pub mod LineShapes
 pub mod NumberLaws
-pub mod PlaceLaws
 pub mod Signs
 pub mod WordLaws

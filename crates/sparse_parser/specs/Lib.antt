@@ -13,5 +13,4 @@ pub mod InnerReading
 pub mod InnerNumbers
 pub mod InnerLines
 pub mod InnerIntegers
-pub mod InnerPlaces
 pub mod InnerSize

@@ -8,6 +8,5 @@ pub mod header;
 pub mod integer_lines;
 pub mod lines;
 pub mod numbers;
-pub mod places;
 pub mod short_values;
 pub mod size;

@@ -5,15 +5,15 @@
 ghost use Rattle.std.specs.Prelude.{◌≡◌, ◌≤◌, ◌<◌, ◌+◌, ℕ, true, length, drop};
 ghost use Rattle.sparse_parser.specs.declared.header.Header.{Header};
 ghost use Rattle.sparse_parser.specs.InnerBytes.{BeginsLine};
-ghost use Rattle.sparse_parser.specs.InnerPlaces.{places_left, rows_left_of};
 ghost use Rattle.sparse_parser.specs.Meaning.{values_of};
 ghost use Rattle.sparse_io.specs.InnerEntries.{IsGeneralArray, IsReadOn, reading};
+ghost use Rattle.sparse_io.specs.InnerPlaces.{places_left, rows_left_of};
 
+use crate::reader::places::Places;
 use crate::reader::values::Values;
 use sparse_base::CooAppender;
 use sparse_base::coo::CooMatrix;
 use sparse_market_scalar::MatrixMarketScalar;
-use sparse_parser::places::Places;
 
 // The rows and columns of as many entries are written at once, few enough that the processor's store buffer takes them while the next lines
 // are parsed.

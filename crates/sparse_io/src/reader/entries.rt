@@ -8,6 +8,7 @@ ghost use Rattle.sparse_parser.specs.InnerReading.{Gives, line_words, contents_o
 ghost use Rattle.sparse_io.specs.InnerEntries.{both_of, ended_of, IsMeant};
 
 use crate::reader::entry::{Triplets, triplets};
+use crate::reader::places::Places;
 use crate::reader::pushes::{Bounds, add_all};
 use crate::reader::runs::common_lines;
 use crate::reader::settled;
@@ -17,7 +18,6 @@ use sparse_parser::data_lines::data_line;
 use sparse_parser::error::{Cause, MatrixMarketError};
 use sparse_parser::header::{Field, Format, Header, Symmetry};
 use sparse_parser::lines::next_line;
-use sparse_parser::places::Places;
 use sparse_parser::size::Size;
 use sparse_pattern::error::{SparseFormatError, SparseFormatErrorKind};
 use std::alloc::Global;

@@ -2,17 +2,17 @@
 
 ghost use Rattle.std.specs.Prelude.{◌≡◌, ◌≤◌, MatchOption, Ok, length, drop, map, slice_get};
 ghost use Rattle.sparse_parser.specs.InnerBytes.{BeginsLine};
-ghost use Rattle.sparse_parser.specs.InnerPlaces.{places_left};
 ghost use Rattle.sparse_parser.specs.Meaning.{value_triplet};
 ghost use Rattle.sparse_io.specs.InnerEntries.{both_of, IsLineRead};
+ghost use Rattle.sparse_io.specs.InnerPlaces.{places_left};
 
 use crate::reader::entry::{Triplets, integer_triplets, place_triplets, value_triplets};
+use crate::reader::places::Places;
 use crate::reader::values::Values;
 use sparse_market_scalar::MatrixMarketScalar;
 use sparse_parser::header::Header;
 use sparse_parser::integer_lines::{integer_line, place_line};
 use sparse_parser::lines::next_line_at;
-use sparse_parser::places::Places;
 use std::marker::PhantomData;
 
 /// A kind of data line.

@@ -4,19 +4,19 @@
 
 ghost use Rattle.std.specs.Prelude.{◌≡◌, ◌≤◌, ◌+◌, true, length};
 ghost use Rattle.sparse_parser.specs.InnerBytes.{BeginsLine};
-ghost use Rattle.sparse_parser.specs.InnerPlaces.{places_left};
 ghost use Rattle.sparse_parser.specs.Meaning.{values_of};
 ghost use Rattle.sparse_io.specs.InnerEntries.{symmetry_of, HasValues, IsReadOn, reading};
+ghost use Rattle.sparse_io.specs.InnerPlaces.{places_left};
 
 use crate::reader::columns::columns;
 use crate::reader::kinds::{IntegerLines, Kind, PlaceLines, ValueLines};
+use crate::reader::places::Places;
 use crate::reader::pushes::{append_all, are_inside};
 use crate::reader::values::{Digits, Integers, Shorts};
 use sparse_base::CooAppender;
 use sparse_base::coo::CooMatrix;
 use sparse_market_scalar::MatrixMarketScalar;
 use sparse_parser::header::{Field, Format, Header, Symmetry};
-use sparse_parser::places::Places;
 
 /// Reads lines of integers or places as long as they have the common form, their triplets lie within the shape and there is memory for
 /// them. Returns the matrix, the number of data lines and the text that is left.

@@ -59,7 +59,7 @@ impl Values for Digits {
     }
 }
 
-// Parses the same as `Integers::line`, at the beginning of the text.
+// Parses an integer at the beginning of the text. Not inlined, since that would slow the loop for all other lines.
 #[cold]
 fn first_line(text: &[u8], from: usize) -> Option<(i64, usize)>
     requires inside { from ≤ length text.now }
@@ -68,8 +68,7 @@ fn first_line(text: &[u8], from: usize) -> Option<(i64, usize)>
     ensures read { MatchOption result (Unit {0})
         (λ x. IsValueRead (drop from text.now) x.0 (drop x.1 text.now)) }
 {
-    let (value, end) = value_line(text, from)?;
-    Some((value, next_line_at(text, end)))
+    Integers::line(text, from)
 }
 
 // Parses the line at a position as one digit, maybe after a minus, if it ends in LF and the next line follows at once. Returns the value and

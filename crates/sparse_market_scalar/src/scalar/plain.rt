@@ -4,6 +4,7 @@ ghost use Rattle.std.specs.Int.{w8, w16, w32, w64, w128};
 ghost use Rattle.sparse_market_scalar.specs.ScalarTypes.{signed_scalar};
 
 use crate::scalar::MatrixMarketScalar;
+use crate::scalar::decimal::push_integer;
 use itoa::Buffer;
 use sparse_parser::error::{Cause, MatrixMarketError};
 use std::alloc::AllocError;
@@ -33,9 +34,9 @@ impl MatrixMarketScalar for i8 {
         "integer"
     }
 
+    #[inline(always)]
     fn write_matrix_market(&self, out: &mut String) -> Result<(), AllocError> {
-        let mut digits = Buffer::new();
-        out.push_str(digits.format(*self))
+        push_integer(out, i64::from(*self))
     }
 
     fn in_range(self) {}
@@ -66,9 +67,9 @@ impl MatrixMarketScalar for i16 {
         "integer"
     }
 
+    #[inline(always)]
     fn write_matrix_market(&self, out: &mut String) -> Result<(), AllocError> {
-        let mut digits = Buffer::new();
-        out.push_str(digits.format(*self))
+        push_integer(out, i64::from(*self))
     }
 
     fn in_range(self) {}
@@ -99,9 +100,9 @@ impl MatrixMarketScalar for i32 {
         "integer"
     }
 
+    #[inline(always)]
     fn write_matrix_market(&self, out: &mut String) -> Result<(), AllocError> {
-        let mut digits = Buffer::new();
-        out.push_str(digits.format(*self))
+        push_integer(out, i64::from(*self))
     }
 
     fn in_range(self) {}
@@ -132,9 +133,9 @@ impl MatrixMarketScalar for i64 {
         "integer"
     }
 
+    #[inline(always)]
     fn write_matrix_market(&self, out: &mut String) -> Result<(), AllocError> {
-        let mut digits = Buffer::new();
-        out.push_str(digits.format(*self))
+        push_integer(out, *self)
     }
 
     fn in_range(self) {}

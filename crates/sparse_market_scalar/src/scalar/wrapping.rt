@@ -6,6 +6,7 @@ ghost use Rattle.sparse_units.specs.WrappingValues.{w128_number};
 ghost use Rattle.sparse_market_scalar.specs.ScalarTypes.{wrapping_scalar};
 
 use crate::scalar::MatrixMarketScalar;
+use crate::scalar::decimal::push_integer;
 use itoa::Buffer;
 use sparse_algebra::scalar::{W32, W64};
 use sparse_parser::error::{Cause, MatrixMarketError};
@@ -37,9 +38,9 @@ impl MatrixMarketScalar for W32 {
         "integer"
     }
 
+    #[inline(always)]
     fn write_matrix_market(&self, out: &mut String) -> Result<(), AllocError> {
-        let mut digits = Buffer::new();
-        out.push_str(digits.format(self.get()))
+        push_integer(out, i64::from(self.get()))
     }
 
     fn in_range(self) {}
@@ -70,9 +71,9 @@ impl MatrixMarketScalar for W64 {
         "integer"
     }
 
+    #[inline(always)]
     fn write_matrix_market(&self, out: &mut String) -> Result<(), AllocError> {
-        let mut digits = Buffer::new();
-        out.push_str(digits.format(self.get()))
+        push_integer(out, self.get())
     }
 
     fn in_range(self) {}

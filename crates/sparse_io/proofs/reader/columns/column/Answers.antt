@@ -1,5 +1,5 @@
 use Rattle.std.proofs.Common.{◌≡◌, ◌-◌, ap, drop, refl, rules, sym, ◌∙◌, arith}
-use Rattle.sparse_parser.specs.InnerPlaces.{places_left}
+use Rattle.sparse_io.specs.InnerPlaces.{places_left}
 use Rattle.sparse_parser.specs.Reads.{read_as}
 use Rattle.sparse_io.proofs.ColumnRuns.{column_start, column_more}
 use Rattle.sparse_io.proofs.reader.columns.column.Goals as goal

@@ -1,7 +1,7 @@
 use Rattle.std.proofs.Common.{◌≡◌, ℕ, ◌≤◌, ◌<◌, ◌+◌, ◌-◌, true, length, drop}
 use Rattle.sparse_parser.specs.declared.header.Header.{Header}
 use Rattle.sparse_parser.specs.InnerBytes.{BeginsLine}
-use Rattle.sparse_parser.specs.InnerPlaces.{places_left}
+use Rattle.sparse_io.specs.InnerPlaces.{places_left}
 use Rattle.sparse_parser.specs.Meaning.{values_of}
 use Rattle.sparse_io.specs.InnerEntries.{IsGeneralArray, IsReadOn, reading}
 use Rattle.sparse_io.proofs.reader.columns.column.Given as goal

@@ -2,7 +2,7 @@ use Rattle.std.proofs.Common.{◌≤◌, ◌+◌, true, length, drop}
 use mir.Val.{bool_byte}
 use Rattle.sparse_parser.specs.declared.header.Header.{Header}
 use Rattle.sparse_parser.specs.InnerBytes.{BeginsLine}
-use Rattle.sparse_parser.specs.InnerPlaces.{places_left}
+use Rattle.sparse_io.specs.InnerPlaces.{places_left}
 use Rattle.sparse_parser.specs.Meaning.{values_of}
 use Rattle.sparse_io.specs.InnerEntries.{IsGeneralArray, IsReadOn, reading}
 use Rattle.sparse_io.proofs.reader.columns.columns.Given as goal

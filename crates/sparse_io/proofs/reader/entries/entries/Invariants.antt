@@ -1,7 +1,7 @@
 use Rattle.std.proofs.Common.{◌≡◌, ◌+◌, ◌≤◌, length}
 use Rattle.sparse_parser.specs.InnerBytes.{BeginsLine}
 use Rattle.sparse_parser.specs.Meaning.{listed_of, values_of}
-use Rattle.sparse_parser.specs.InnerPlaces.{places_left}
+use Rattle.sparse_io.specs.InnerPlaces.{places_left}
 use Rattle.sparse_parser.specs.InnerReading.{contents_of, among_entries}
 use Rattle.sparse_io.specs.InnerEntries.{still_read}
 use Rattle.sparse_io.proofs.reader.entries.entries.Given as goal

@@ -1,5 +1,5 @@
 use Rattle.std.proofs.Common.{◌≤◌, ◌-◌, true, length, drop}
-use Rattle.sparse_parser.specs.InnerPlaces.{places_left}
+use Rattle.sparse_io.specs.InnerPlaces.{places_left}
 use Rattle.sparse_parser.specs.Meaning.{values_of}
 use Rattle.sparse_io.specs.InnerEntries.{IsReadOn, reading}
 use Rattle.sparse_io.proofs.reader.runs.run.Given as goal

@@ -1,7 +1,7 @@
 use Rattle.std.proofs.Common.{drop, length-drop, map, ap, slice_get, sym, ◌∙◌, arith, Ok}
 use Rattle.sparse_parser.specs.Reads.{read_as}
 use Rattle.sparse_parser.specs.Meaning.{value_triplet}
-use Rattle.sparse_parser.specs.InnerPlaces.{places_left}
+use Rattle.sparse_io.specs.InnerPlaces.{places_left}
 use Rattle.sparse_io.specs.InnerEntries.{both_of}
 use Rattle.sparse_io.proofs.IntegerEntries.{place_meant}
 use Rattle.sparse_io.proofs.LineRuns.{line_is_read}

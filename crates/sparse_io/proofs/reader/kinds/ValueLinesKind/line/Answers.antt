@@ -1,7 +1,7 @@
 use Rattle.std.proofs.Common.{drop, map, rules, ap, slice_get, sym, ◌∙◌, Ok}
 use Rattle.sparse_parser.specs.Reads.{read_as}
 use Rattle.sparse_parser.specs.Meaning.{value_triplet}
-use Rattle.sparse_parser.specs.InnerPlaces.{places_left}
+use Rattle.sparse_io.specs.InnerPlaces.{places_left}
 use Rattle.sparse_io.specs.InnerEntries.{both_of}
 use Rattle.sparse_io.proofs.ColumnRuns.{value_is_read}
 use Rattle.sparse_io.proofs.reader.kinds.ValueLinesKind.line.Goals as goal

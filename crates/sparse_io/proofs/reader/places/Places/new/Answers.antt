@@ -3,10 +3,10 @@ use Rattle.sparse_parser.specs.declared.header.Format.{Format}
 use Rattle.sparse_parser.specs.declared.header.Format.TheVariants.{Coordinate, Array}
 use Rattle.sparse_parser.specs.declared.header.Symmetry.{Symmetry}
 use Rattle.sparse_parser.specs.ArrayPlaces.{places_of}
-use Rattle.sparse_parser.specs.InnerPlaces.{places_left, columns_left}
-use Rattle.sparse_parser.proofs.PlaceLaws.{columns_all}
-use Rattle.sparse_parser.proofs.places.Places.new.Goals as goal
-use Rattle.sparse_parser.proofs.places.Places.new.Goals.{in-Coordinate, in-Array}
+use Rattle.sparse_io.specs.InnerPlaces.{places_left, columns_left}
+use Rattle.sparse_io.proofs.PlaceLaws.{columns_all}
+use Rattle.sparse_io.proofs.reader.places.Places.new.Goals as goal
+use Rattle.sparse_io.proofs.reader.places.Places.new.Goals.{in-Coordinate, in-Array}
 
 none_listed : (f : Format) (s : Symmetry) (rows cols all : ℕ) → f ≡ Coordinate → all ≡ 0
     → columns_left s rows all 0 ≡ places_of f s rows cols

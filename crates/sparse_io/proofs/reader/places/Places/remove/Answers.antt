@@ -1,7 +1,7 @@
 use Rattle.std.proofs.Common.{rules, ◌≤◌, ◌-◌, ◌<◌, ◌∙◌, arith}
-use Rattle.sparse_parser.specs.InnerPlaces.{places_left, rows_left_of}
-use Rattle.sparse_parser.proofs.PlaceLaws.{left_some, left_rows, left_column}
-use Rattle.sparse_parser.proofs.places.Places.remove.Goals as goal
+use Rattle.sparse_io.specs.InnerPlaces.{places_left, rows_left_of}
+use Rattle.sparse_io.proofs.PlaceLaws.{left_some, left_rows, left_column}
+use Rattle.sparse_io.proofs.reader.places.Places.remove.Goals as goal
 
 pub overflow_add-self : goal.overflow_add-self
 unfolding rows_left_of

@@ -3,7 +3,7 @@
 ghost use Rattle.std.specs.Prelude.{◌≡◌, ◌+◌, ◌<◌, ◌≤◌, ◌==◌, ℕ, Some, slice_get, drop, length};
 ghost use Rattle.sparse_parser.specs.ArrayPlaces.{first_row, places_of};
 
-use crate::header::{Format, Symmetry};
+use sparse_parser::header::{Format, Symmetry};
 
 /// The places of an array's entries that are left, column by column.
 #[derive(Clone, Copy)]
@@ -18,8 +18,8 @@ pub struct Places {
 }
 
 impl Places {
-    ghost use Rattle.sparse_parser.specs.InnerPlaces.{places_left, left_from, columns_left};
-    ghost use Rattle.sparse_parser.specs.InnerPlaces.{rows_left_of, IsDownFrom};
+    ghost use Rattle.sparse_io.specs.InnerPlaces.{places_left, left_from, columns_left};
+    ghost use Rattle.sparse_io.specs.InnerPlaces.{rows_left_of, IsDownFrom};
 
     /// Returns the places of an array of these sizes. In the coordinate format there are none, since each data line gives its own.
     pub fn new(format: Format, symmetry: Symmetry, rows: usize, cols: usize) -> Places

@@ -11,7 +11,7 @@ use Rattle.sparse_parser.specs.declared.header.Symmetry.{Symmetry}
 use Rattle.sparse_parser.specs.declared.header.Symmetry.TheVariants.{General, Symmetric}
 use Rattle.sparse_parser.specs.declared.header.Symmetry.TheVariants.{SkewSymmetric, Hermitian}
 use Rattle.sparse_parser.specs.ArrayPlaces.{first_row, column, array_places}
-use Rattle.sparse_parser.specs.InnerPlaces.{column_left, columns_left, left_from, IsDownFrom}
+use Rattle.sparse_io.specs.InnerPlaces.{column_left, columns_left, left_from, IsDownFrom}
 
 -- n numbers from a on, where there are some
 range_more : (a n m : ℕ) → n ≡ suc m → range_with_len a n ≡ a ∷ range_with_len (a + 1) m

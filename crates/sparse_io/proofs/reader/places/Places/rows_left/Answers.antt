@@ -1,7 +1,7 @@
 use Rattle.std.proofs.Common.{refl, arith}
-use Rattle.sparse_parser.specs.InnerPlaces.{places_left, rows_left_of}
-use Rattle.sparse_parser.proofs.PlaceLaws.{left_some, left_down_from}
-use Rattle.sparse_parser.proofs.places.Places.rows_left.Goals as goal
+use Rattle.sparse_io.specs.InnerPlaces.{places_left, rows_left_of}
+use Rattle.sparse_io.proofs.PlaceLaws.{left_some, left_down_from}
+use Rattle.sparse_io.proofs.reader.places.Places.rows_left.Goals as goal
 
 pub overflow_sub-result : goal.overflow_sub-result
 unfolding places_left

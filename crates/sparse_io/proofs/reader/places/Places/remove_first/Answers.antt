@@ -1,7 +1,7 @@
 use Rattle.std.proofs.Common.{rules, ◌<◌, length, arith}
-use Rattle.sparse_parser.specs.InnerPlaces.{places_left, rows_left_of}
-use Rattle.sparse_parser.proofs.PlaceLaws.{left_some}
-use Rattle.sparse_parser.proofs.places.Places.remove_first.Goals as goal
+use Rattle.sparse_io.specs.InnerPlaces.{places_left, rows_left_of}
+use Rattle.sparse_io.proofs.PlaceLaws.{left_some}
+use Rattle.sparse_io.proofs.reader.places.Places.remove_first.Goals as goal
 
 pub remove-requires-clause-within : goal.remove-requires-clause-within
 unfolding places_left rows_left_of

@@ -3,7 +3,7 @@ use Rattle.std.specs.Prelude.{◌≡◌, ◌<◌, ℕ, ◌+◌, ◌-◌, ◌++�
 use Rattle.std.specs.Prelude.{Some, slice_get}
 use Rattle.std.specs.Prelude.{if◌then◌else◌}
 use Rattle.std.specs.List.{flat_map, range_with_len}
-use Rattle.sparse_parser.specs.declared.places.Places.{Places}
+use Rattle.sparse_io.specs.declared.reader.places.Places.{Places}
 use Rattle.sparse_parser.specs.declared.header.Symmetry.{Symmetry}
 use Rattle.sparse_parser.specs.ArrayPlaces.{column}
 

@@ -1,5 +1,5 @@
-use Rattle.sparse_parser.proofs.PlaceLaws.{columns_start, columns_end}
-use Rattle.sparse_parser.proofs.places.Places.first_from.Goals as goal
+use Rattle.sparse_io.proofs.PlaceLaws.{columns_start, columns_end}
+use Rattle.sparse_io.proofs.reader.places.Places.first_from.Goals as goal
 
 pub returns-then-row-rows-clause-places : goal.returns-then-row-rows-clause-places
 returns-then-row-rows-clause-places c =

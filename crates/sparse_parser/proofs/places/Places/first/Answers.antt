@@ -1,9 +1,0 @@
-use Rattle.sparse_parser.specs.InnerPlaces.{places_left}
-use Rattle.sparse_parser.proofs.PlaceLaws.{left_head}
-use Rattle.sparse_parser.proofs.places.Places.first.Goals as goal
-
-pub returns : goal.returns
-unfolding places_left
-returns c =
-    let p = c.args.self.now in
-    left_head p.symmetry p.rows p.cols p.row p.col p.in_array c.requires

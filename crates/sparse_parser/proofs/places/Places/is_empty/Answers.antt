@@ -1,8 +1,0 @@
-use Rattle.sparse_parser.specs.InnerPlaces.{places_left}
-use Rattle.sparse_parser.proofs.PlaceLaws.{left_none}
-use Rattle.sparse_parser.proofs.places.Places.is_empty.Goals as goal
-
-pub returns : goal.returns
-unfolding places_left
-returns c =
-    let p = c.args.self.now in left_none p.symmetry p.rows p.cols p.row p.col p.in_array
