@@ -1,5 +1,12 @@
+use Rattle.std.proofs.Common.{rules}
 use Rattle.sparse_dense.proofs.product.spmm_csr_dense.Goals as goal
 
 pub returns-in-NoOp-clause-updated : goal.returns-in-NoOp-clause-updated
 returns-in-NoOp-clause-updated g c = rw c.in-NoOp.is
     (rw c.cs.ensures.core at c.update.ensures.updated)
+
+pub update-requires-in-Transpose-clause-inner : goal.update-requires-in-Transpose-clause-inner
+update-requires-in-Transpose-clause-inner g c = search rules
+
+pub update-requires-in-Transpose-clause-rows : goal.update-requires-in-Transpose-clause-rows
+update-requires-in-Transpose-clause-rows g c = search rules

@@ -1,3 +1,4 @@
+use Rattle.std.proofs.Common.{rules}
 use Rattle.sparse_io.specs.Written.{IsRefusedWrite}
 use Rattle.sparse_expr.proofs.Loading.{memory-refused}
 use Rattle.sparse_expr.proofs.calculator.save.Goals as goal
@@ -14,3 +15,6 @@ returns-in_default g c =
       prefix = c.in-Err.ensures.prefix;
       refused = memory-refused c.kind.result _ _ _ refused c.in_default.not-IOError;
     }
+
+pub returns-in-Ok-clause-refused : goal.returns-in-Ok-clause-refused
+returns-in-Ok-clause-refused g c = search rules

@@ -1,4 +1,5 @@
-use Rattle.std.proofs.Common.{ℕ, List, ◌∷◌, ap, ◌∙◌, subst, inl, inr}
+use Rattle.sparse_parser.specs.Grammar.{is_entry}
+use Rattle.std.proofs.Common.{ℕ, List, ◌∷◌, ap, ◌∙◌, subst, inl, inr, rules}
 use Rattle.sparse_parser.specs.InnerLines.{IsFound}
 use Rattle.sparse_parser.proofs.LineShapes.{entry_nil, entry_fault_1, entry_fault_2}
 use Rattle.sparse_parser.proofs.data_lines.data_line.Goals as goal
@@ -16,3 +17,7 @@ returns-in-Fault c =
     let a = c.in-Number.ensures.1 in
     entry_fault_2 _ _ f.0 f.1 (a.words ∙ ap (λ (ws : List (List ℕ)). c.in-Number.a.word.now ∷ ws)
     f.2) f.3
+
+pub returns-in-Number-next_number-4 : goal.returns-in-Number-next_number-4
+unfolding is_entry
+returns-in-Number-next_number-4 c = search rules

@@ -1,4 +1,4 @@
-use Rattle.std.proofs.Common.{ap}
+use Rattle.std.proofs.Common.{ap, rules}
 use Rattle.sparse_base.specs.Coo.{coo_of}
 use Rattle.sparse_base.proofs.TripletLists.{triplets-push}
 use Rattle.sparse_base.proofs.coo.CooMatrix.push.Goals as goal
@@ -18,3 +18,9 @@ returns-clause-ok g c =
       c.in_ok-reserve-3.ensures.items,
     )
     (ap (coo_of m.nrows m.ncols) more)
+
+pub invariant_of-self-in_err-reserve-3 : goal.invariant_of-self-in_err-reserve-3
+invariant_of-self-in_err-reserve-3 g c = search rules
+
+pub returns-in_err-reserve-3-clause-err : goal.returns-in_err-reserve-3-clause-err
+returns-in_err-reserve-3-clause-err g c = search rules

@@ -1,3 +1,4 @@
+use Rattle.std.proofs.Common.{rules}
 use Rattle.sparse_factor.specs.Fill.{UpperBase}
 use Rattle.sparse_factor.proofs.FactorLaws.{stores_fill, stores_walks, stores_diagonal, upper_low}
 use Rattle.sparse_factor.proofs.factorization.CscSymbolicCholesky.factor_counted.Goals as goal
@@ -39,3 +40,6 @@ returns-clause-diagonal c =
           (stores_diagonal (UpperBase p) (upper_low p) w.in_ok-l_pattern-2.l_pattern
           w.in_ok-l_pattern-2.ensures.places w.in_ok-l_pattern-2.ensures.valid)
     ]
+
+pub returns-clause-input : goal.returns-clause-input
+returns-clause-input c = search rules

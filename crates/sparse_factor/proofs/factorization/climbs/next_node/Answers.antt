@@ -1,3 +1,4 @@
+use Rattle.std.proofs.lemmas.Grind.{common_steps}
 use Rattle.std.proofs.Common.{map, set, ap, ◌∙◌, arith}
 use Rattle.std.proofs.lemmas.List.{map-set}
 use Rattle.sparse_counting.proofs.CountLemmas.{read_number}
@@ -36,3 +37,6 @@ returns-else-get-row g c =
           (λ e. c.if-get-row.false (c.get.ensures ∙ own ∙ e))
           (map-set f ys c.args.chain of.result ∙ ap (set (map f ys) c.args.chain) of.ensures);
     }
+
+pub returns-then-next-ne0 : goal.returns-then-next-ne0
+returns-then-next-ne0 g c = grind (arith, common_steps)

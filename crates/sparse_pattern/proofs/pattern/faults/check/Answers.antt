@@ -1,4 +1,4 @@
-use Rattle.std.proofs.Common.{arith, inl, inr}
+use Rattle.std.proofs.Common.{arith, inl, inr, rules}
 use Rattle.std.proofs.lemmas.Result.{err_from_is_err_and}
 use Rattle.sparse_pattern.proofs.FirstFaults.{first_at_end, first_among}
 use Rattle.sparse_pattern.proofs.pattern.faults.check.Goals as goal
@@ -18,3 +18,6 @@ returns-in_err-check_lane-clause-fault c =
     let p = err_from_is_err_and c.from_residual.result c.from_residual.ensures.1 in
     rw (p.1, p.2) (first_among _ c.loop-lane.lane c.loop-lane.invariant (omega arith) (omega arith)
     (omega arith) _ c.in_err-check_lane.ensures.fault)
+
+pub loop-lane-init : goal.loop-lane-init
+loop-lane-init c = search rules

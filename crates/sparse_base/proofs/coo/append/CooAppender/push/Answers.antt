@@ -1,4 +1,4 @@
-use Rattle.std.proofs.Common.{ap}
+use Rattle.std.proofs.Common.{ap, rules}
 use Rattle.sparse_base.specs.Coo.{coo_of}
 use Rattle.sparse_base.proofs.TripletLists.{triplets-push}
 use Rattle.sparse_base.proofs.coo.append.CooAppender.push.Goals as goal
@@ -16,3 +16,6 @@ returns-clause-pushed g c =
       c.push_reserved-3.ensures.items,
     )
     (ap (coo_of m.nrows m.ncols) more)
+
+pub returns-clause-room : goal.returns-clause-room
+returns-clause-room g c = search rules

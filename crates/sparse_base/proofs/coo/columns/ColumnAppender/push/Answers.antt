@@ -1,4 +1,4 @@
-use Rattle.std.proofs.Common.{◌-◌, ◌<◌, length, sym, ap, arith}
+use Rattle.std.proofs.Common.{◌-◌, ◌<◌, length, sym, ap, arith, rules}
 use Rattle.sparse_base.specs.Coo.{coo_of}
 use Rattle.sparse_base.specs.InnerAppender.{rows_from}
 use Rattle.sparse_base.proofs.ColumnLemmas.{entry_pushed, entry_parts, count_more}
@@ -35,3 +35,6 @@ returns-clause-pushed g c =
     (ap (coo_of m.nrows m.ncols) (entry_pushed m.nrows m.ncols m.row m.col is m.col_indices.items
     m.values.items c.push_reserved.new.self.items c.args.v count _ c.push_reserved.ensures.items
     next parts))
+
+pub returns-clause-left : goal.returns-clause-left
+returns-clause-left g c = search rules

@@ -10,3 +10,6 @@ remove-requires-clause-within c =
     let some : 0 < length (places_left p) = search rules in
     let inside = p.in_array (left_some p.symmetry p.rows p.cols p.row p.col some) in
     omega (arith, inside)
+
+pub returns-then-not-is_empty : goal.returns-then-not-is_empty
+returns-then-not-is_empty c = search rules

@@ -1,0 +1,5 @@
+use Rattle.std.proofs.Common.{rules}
+use Rattle.sparse_algebra.proofs.scalar.wrapping.W64.new.Goals as goal
+
+pub returns : goal.returns
+returns c = search rules

@@ -1,0 +1,5 @@
+use Rattle.std.proofs.Common.{rules}
+use Rattle.sparse_base.proofs.coo.CooMatrix.zeros.Goals as goal
+
+pub returns : goal.returns
+returns g c = search rules

@@ -1,0 +1,5 @@
+use Rattle.std.proofs.Common.{rules}
+use Rattle.sparse_data.proofs.csr.CsrMatrixToData.to_data.Goals as goal
+
+pub returns-clause-is : goal.returns-clause-is
+returns-clause-is g c = search rules

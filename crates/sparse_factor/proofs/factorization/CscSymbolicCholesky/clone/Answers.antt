@@ -1,0 +1,5 @@
+use Rattle.std.proofs.Common.{rules}
+use Rattle.sparse_factor.proofs.factorization.CscSymbolicCholesky.clone.Goals as goal
+
+pub returns : goal.returns
+returns c = search rules

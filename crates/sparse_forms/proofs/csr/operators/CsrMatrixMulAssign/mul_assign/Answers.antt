@@ -1,0 +1,5 @@
+use Rattle.std.proofs.Common.{rules}
+use Rattle.sparse_forms.proofs.csr.operators.CsrMatrixMulAssign.mul_assign.Goals as goal
+
+pub returns : goal.returns
+returns g c = search rules

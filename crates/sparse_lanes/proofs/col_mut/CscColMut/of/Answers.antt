@@ -1,0 +1,5 @@
+use Rattle.std.proofs.Common.{rules}
+use Rattle.sparse_lanes.proofs.col_mut.CscColMut.of.Goals as goal
+
+pub returns : goal.returns
+returns g c = search rules

@@ -1,0 +1,9 @@
+use Rattle.std.proofs.Common.{arith, rules}
+use Rattle.std.proofs.lemmas.Grind.{common_steps}
+use Rattle.sparse_pattern.proofs.pattern.SparsityPattern.zeros.Goals as goal
+
+pub invariant_of-result : goal.invariant_of-result
+invariant_of-result c = grind (arith, common_steps)
+
+pub returns-clause-is : goal.returns-clause-is
+returns-clause-is c = search rules
