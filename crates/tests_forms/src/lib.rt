@@ -1,4 +1,4 @@
-//! Tests of CSR and CSC matrices, through their public calls.
+//! Tests of CSR and CSC matrices, and of their data structs, through the public calls.
 #![tactic(auto)]
 
 #[cfg(test)]
@@ -8,6 +8,10 @@ mod csc_writing;
 #[cfg(test)]
 mod csr_writing;
 #[cfg(test)]
+mod data_by_rows;
+#[cfg(test)]
+mod data_writing;
+#[cfg(test)]
 mod drops;
 #[cfg(test)]
 mod entries;
@@ -16,7 +20,11 @@ mod filter;
 #[cfg(test)]
 mod fixtures;
 #[cfg(test)]
+mod hostile_data;
+#[cfg(test)]
 mod lanes;
+#[cfg(test)]
+mod outcome;
 #[cfg(test)]
 mod refusals;
 #[cfg(test)]

@@ -1,8 +1,10 @@
-//! Tests of reading and writing Matrix Market texts.
+//! Tests of Matrix Market texts, read and written, and of expressions over them.
 #![tactic(auto)]
 
 #[cfg(test)]
 mod errors;
+#[cfg(test)]
+mod expression_texts;
 #[cfg(test)]
 mod fields;
 #[cfg(test)]
@@ -11,6 +13,8 @@ mod files;
 mod forms;
 #[cfg(test)]
 mod hostile;
+#[cfg(test)]
+mod long_expressions;
 #[cfg(test)]
 mod matrices;
 #[cfg(test)]
@@ -21,5 +25,7 @@ mod refusals;
 mod scalars;
 #[cfg(test)]
 mod sinks;
+#[cfg(test)]
+mod slow_expressions;
 #[cfg(test)]
 mod writing;

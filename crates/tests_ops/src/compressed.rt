@@ -1,6 +1,6 @@
 //! Compressed matrices, converted.
 
-use crate::fixtures::csr;
+use crate::matrices::csr_of;
 use sparse_algebra::scalar::{W32, W64};
 use sparse_base::coo::CooMatrix;
 use sparse_base::dense::DMatrix;
@@ -16,12 +16,12 @@ use std::test::Fail;
 
 // The matrix 1 0 0, 0 4 0 by rows; the zero at the end of the first row is stored.
 fn by_rows<T: Copy + Drop>(alloc: Global, values: [T; 3]) -> Result<CsrMatrix<T>, Fail> {
-    csr(alloc, (2, 3), &[0, 2, 3], &[0, 2, 1], &values)
+    csr_of(alloc, (2, 3), &[0, 2, 3], &[0, 2, 1], &values)
 }
 
 // The same matrix by columns.
 fn by_columns<T: Copy + Drop>(alloc: Global, values: [T; 3]) -> Result<CscMatrix<T>, Fail> {
-    Ok(csr(alloc, (3, 2), &[0, 1, 2, 3], &[0, 1, 0], &values)?.transpose_as_csc())
+    Ok(csr_of(alloc, (3, 2), &[0, 1, 2, 3], &[0, 1, 0], &values)?.transpose_as_csc())
 }
 
 fn are_columns(csc: &CscMatrix<i32>, offsets: &[usize], indices: &[usize], values: &[i32]) -> bool {

@@ -1,26 +1,12 @@
 //! Products, and patterns of products.
 
-use crate::fixtures::{Scalar, are, csr, scalars};
+use crate::matrices::{Rows, csr_of, matrix};
+use crate::scalars::{Scalar, are};
 use sparse_algebra::scalar::{Ring, W32, W64};
 use sparse_forms::csr::CsrMatrix;
 use sparse_ops::serial::{mul_csr, spmm_csr_pattern};
 use std::alloc::{AllocError, Global};
 use std::test::Fail;
-
-// The number of columns of a matrix, its offsets, its columns and its values.
-type Matrix<'a> = (usize, &'a [usize], &'a [usize], &'a [i32]);
-
-fn matrix<T: Scalar>(alloc: Global, matrix: Matrix<'_>) -> Result<CsrMatrix<T>, Fail> {
-    let (ncols, offsets, columns, numbers) = matrix;
-    let values = scalars::<T>(alloc, numbers)?;
-    csr(
-        alloc,
-        (offsets.len().saturating_sub(1), ncols),
-        offsets,
-        columns,
-        values.as_slice(),
-    )
-}
 
 // The product of two matrices whose sizes fit.
 fn product<T: Ring>(
@@ -48,7 +34,7 @@ fn has_columns<T: Ring>(
     Ok(pattern.minor_indices() == columns)
 }
 
-fn holds<T: Scalar>(matrix: &CsrMatrix<T>, (ncols, offsets, columns, numbers): Matrix<'_>) -> bool {
+fn holds<T: Scalar>(matrix: &CsrMatrix<T>, (ncols, offsets, columns, numbers): Rows<'_>) -> bool {
     matrix.ncols() == ncols
         && matrix.row_offsets() == offsets
         && matrix.col_indices() == columns
@@ -58,7 +44,7 @@ fn holds<T: Scalar>(matrix: &CsrMatrix<T>, (ncols, offsets, columns, numbers): M
 // Whether the product of the first two matrices is the third, and its pattern that of the third.
 fn is_product<T: Scalar>(
     alloc: Global,
-    [left, right, want]: [Matrix<'_>; 3],
+    [left, right, want]: [Rows<'_>; 3],
 ) -> Result<bool, Fail> {
     let a = matrix::<T>(alloc, left)?;
     let b = matrix::<T>(alloc, right)?;
@@ -67,11 +53,11 @@ fn is_product<T: Scalar>(
 
 #[test]
 fn products(rt: HostRuntime) -> Result<(), Fail> {
-    let row: Matrix<'_> = (2, &[0, 2], &[0, 1], &[2, 3]);
-    let column: Matrix<'_> = (1, &[0, 1, 2], &[0, 0], &[3, -2]);
-    let triangle: Matrix<'_> = (2, &[0, 2, 3], &[0, 1, 1], &[1, 2, 3]);
-    let ones: Matrix<'_> = (2, &[0, 2, 3], &[0, 1, 1], &[1, 1, 1]);
-    let cases: [[Matrix<'_>; 3]; 7] = [
+    let row: Rows<'_> = (2, &[0, 2], &[0, 1], &[2, 3]);
+    let column: Rows<'_> = (1, &[0, 1, 2], &[0, 0], &[3, -2]);
+    let triangle: Rows<'_> = (2, &[0, 2, 3], &[0, 1, 1], &[1, 2, 3]);
+    let ones: Rows<'_> = (2, &[0, 2, 3], &[0, 1, 1], &[1, 1, 1]);
+    let cases: [[Rows<'_>; 3]; 7] = [
         // A row times a column: the sum of zero stays.
         [row, column, (1, &[0, 1], &[0], &[0])],
         [column, row, (2, &[0, 2, 4], &[0, 1, 0, 1], &[6, 9, -4, -6])],
@@ -104,7 +90,7 @@ fn products(rt: HostRuntime) -> Result<(), Fail> {
 
 #[test]
 fn sums_and_products_wrap(rt: HostRuntime) -> Result<(), Fail> {
-    let cases: [[Matrix<'_>; 3]; 2] = [
+    let cases: [[Rows<'_>; 3]; 2] = [
         [
             (3, &[0, 3], &[0, 1, 2], &[2147483647, 1, -1]),
             (1, &[0, 1, 2, 3], &[0, 0, 0], &[1, 1, 1]),
@@ -159,7 +145,7 @@ fn ones(
     columns: &[usize],
 ) -> Result<CsrMatrix<W64>, Fail> {
     let ones = vec![in alloc; W64::new(1); columns.len()]?;
-    csr(alloc, size, offsets, columns, ones.as_slice())
+    csr_of(alloc, size, offsets, columns, ones.as_slice())
 }
 
 // Two rows: ones in all columns, and in the even ones.

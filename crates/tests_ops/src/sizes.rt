@@ -1,6 +1,7 @@
 //! Sizes at which a call could take too much memory or time, or answer an allocation failure that there was none.
 
-use crate::fixtures::{are, list};
+use crate::matrices::list;
+use crate::scalars::are;
 use sparse_algebra::scalar::W64;
 use sparse_base::coo::CooMatrix;
 use sparse_base::dense::DMatrix;

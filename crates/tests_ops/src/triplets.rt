@@ -1,6 +1,7 @@
 //! Lists of triplets, converted.
 
-use crate::fixtures::{Scalar, are, list};
+use crate::matrices::list;
+use crate::scalars::{Scalar, are};
 use sparse_algebra::scalar::{W32, W64};
 use sparse_base::coo::CooMatrix;
 use sparse_convert::serial::{convert_coo_csc, convert_coo_csr, convert_coo_dense, order_law};

@@ -1,9 +1,17 @@
-//! Tests that compare the libraries with the slow programs of `reference`, on generated inputs.
+//! Tests of the symbolic factor, and tests that compare the libraries with the slow programs of `reference` on generated inputs.
 #![tactic(auto)]
 
 #[cfg(test)]
+mod compared_factors;
+#[cfg(test)]
 mod generated;
 #[cfg(test)]
+mod large_factors;
+#[cfg(test)]
 mod patterns;
+#[cfg(test)]
+mod small_factors;
+#[cfg(test)]
+mod square_patterns;
 #[cfg(test)]
 mod sums_and_products;

@@ -1,6 +1,8 @@
 //! Products of a sparse and a dense matrix.
 
-use crate::fixtures::{Arrays, Scalar, are, csr, dense, update_by_columns, update_by_rows};
+use crate::dense_updates::{update_by_columns, update_by_rows};
+use crate::matrices::{Arrays, csr, dense};
+use crate::scalars::{Scalar, are};
 use sparse_algebra::scalar::{W32, W64};
 use sparse_base::dense::DMatrix;
 use sparse_dense::{mul_csc_dense, mul_csr_dense};

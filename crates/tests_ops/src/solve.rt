@@ -1,6 +1,7 @@
 //! Triangular systems.
 
-use crate::fixtures::{Arrays, Scalar, csc, dense};
+use crate::matrices::{Arrays, csc, dense};
+use crate::scalars::Scalar;
 use sparse_algebra::scalar::W32;
 use sparse_base::dense::DMatrix;
 use sparse_forms::csc::CscMatrix;
@@ -14,7 +15,7 @@ use std::test::Fail;
 type System = (&'static str, Arrays<'static>, bool, usize);
 
 // The right sides and the solutions, column by column.
-type Columns = (&'static [u8], &'static [u8]);
+type Columns = (&'static [i32], &'static [i32]);
 
 // Rows `1 0` and `2 3`.
 const LOWER: Arrays<'static> = (2, 2, &[0, 2, 3], &[0, 1, 1], &[1, 2, 3]);
@@ -90,7 +91,7 @@ const RESIDUES: [(System, Columns); 5] = [
 ];
 
 // Singular systems over wrapping integers, and their right sides.
-const SINGULAR: [(System, &[u8]); 3] = [
+const SINGULAR: [(System, &[i32]); 3] = [
     (("an entry without an inverse", TWO, false, 1), &[1]),
     (
         (
@@ -129,7 +130,7 @@ fn solve<T: Units>(
 }
 
 // Whether the system with these right sides is solved by these values.
-fn is_solved<T: Scalar>(
+fn is_solved<T: Scalar + Units>(
     alloc: Global,
     (_, l, transposed, ncols): System,
     (right, want): Columns,
@@ -151,10 +152,10 @@ fn is_refused_as_singular(answer: Option<Result<(), OperationError>>) -> bool {
 }
 
 // Whether the system is refused as singular, and the right sides are unchanged.
-fn is_singular<T: Scalar>(
+fn is_singular<T: Scalar + Units>(
     alloc: Global,
     (_, l, transposed, ncols): System,
-    right: &[u8],
+    right: &[i32],
 ) -> Result<bool, Fail> {
     let l = csc::<T>(alloc, l)?;
     let mut b = dense::<T>(alloc, (l.nrows(), ncols), right)?;

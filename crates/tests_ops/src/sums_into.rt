@@ -1,6 +1,7 @@
 //! Sums into a given matrix.
 
-use crate::fixtures::{Answer, Arrays, holds, holds_by_columns, is_done, is_refused, pair};
+use crate::matrices::Rows;
+use crate::pairs::{Answer, holds, holds_by_columns, is_done, is_refused, pair};
 use sparse_algebra::scalar::{Ring, W64};
 use sparse_forms::csc::CscMatrix;
 use sparse_forms::csr::CsrMatrix;
@@ -36,11 +37,11 @@ fn add_by_columns<T: Ring>(
     Some(spadd_csc_prealloc(beta, c, alpha, Op::NoOp(a)))
 }
 
-const TARGET: Arrays<'static> = (2, &[0, 2], &[0, 1], &[5, 6]);
+const TARGET: Rows<'static> = (2, &[0, 2], &[0, 1], &[5, 6]);
 
-const ROW: Arrays<'static> = (2, &[0, 1], &[1], &[3]);
+const ROW: Rows<'static> = (2, &[0, 1], &[1], &[3]);
 
-const COLUMN: Arrays<'static> = (1, &[0, 0, 1], &[0], &[3]);
+const COLUMN: Rows<'static> = (1, &[0, 0, 1], &[0], &[3]);
 
 // 2 C - A, with 5 and 6 in C and 3 in A at the second place.
 fn is_added(alloc: Global) -> Result<bool, Fail> {

@@ -1,12 +1,12 @@
 //! Division by a scalar.
 
-use crate::fixtures::{Scalar, scalars};
+use crate::scalars::{Scalar, scalars};
 use sparse_algebra::scalar::W32;
 use sparse_forms::csc::CscMatrix;
 use sparse_forms::csr::CsrMatrix;
 use sparse_op::{OperationError, OperationErrorKind};
 use sparse_solve::{div_scalar_csc, div_scalar_csr, div_scalar_mut_csc, div_scalar_mut_csr};
-use sparse_units::Mod;
+use sparse_units::{Mod, Units};
 use std::alloc::Global;
 use std::test::Fail;
 
@@ -30,7 +30,7 @@ fn refuses<R: Drop>(answer: Result<R, OperationError>) -> bool {
 }
 
 // Whether the quotient by rows has these values, made and in place.
-fn rows_divided<T: Scalar>(alloc: Global, divisor: u8, want: &[T]) -> Result<bool, Fail> {
+fn rows_divided<T: Scalar + Units>(alloc: Global, divisor: i32, want: &[T]) -> Result<bool, Fail> {
     let mut a = matrix::<T>(alloc)?;
     let quotient = div_scalar_csr(alloc, &a, T::of(divisor))?;
     let divided = div_scalar_mut_csr(&mut a, T::of(divisor)).is_ok();
@@ -43,7 +43,7 @@ fn rows_divided<T: Scalar>(alloc: Global, divisor: u8, want: &[T]) -> Result<boo
 }
 
 // The same of the transposed quotient, by columns.
-fn columns_divided<T: Scalar>(alloc: Global, divisor: u8, want: &[T]) -> Result<bool, Fail> {
+fn columns_divided<T: Scalar + Units>(alloc: Global, divisor: i32, want: &[T]) -> Result<bool, Fail> {
     let mut a = matrix::<T>(alloc)?.transpose_as_csc();
     let quotient = div_scalar_csc(alloc, &a, T::of(divisor))?;
     let divided = div_scalar_mut_csc(&mut a, T::of(divisor)).is_ok();
@@ -55,7 +55,7 @@ fn columns_divided<T: Scalar>(alloc: Global, divisor: u8, want: &[T]) -> Result<
     )
 }
 
-fn divided_by_three<T: Scalar>(alloc: Global, want: &[T]) -> Result<bool, Fail> {
+fn divided_by_three<T: Scalar + Units>(alloc: Global, want: &[T]) -> Result<bool, Fail> {
     Ok(rows_divided(alloc, 3, want)? && columns_divided(alloc, 3, want)?)
 }
 

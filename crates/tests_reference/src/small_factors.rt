@@ -1,6 +1,6 @@
 //! Factors of small patterns, whose arrays are known.
 
-use crate::fixtures::square;
+use crate::square_patterns::square;
 use sparse_base::steps::Steps;
 use sparse_factor::factorization::CscSymbolicCholesky;
 use std::alloc::Global;

@@ -1,6 +1,8 @@
 //! Sums, differences and multiples.
 
-use crate::fixtures::{Arrays, Pair, are, holds, holds_by_columns, matrix, pair};
+use crate::matrices::{Rows, matrix};
+use crate::pairs::{Pair, holds, holds_by_columns, pair};
+use crate::scalars::are;
 use sparse_algebra::scalar::W64;
 use sparse_forms::csc::CscMatrix;
 use sparse_forms::csr::CsrMatrix;
@@ -34,21 +36,21 @@ fn sum_of_patterns(alloc: Global, (a, b): Pair) -> Result<SparsityPattern, Fail>
 
 // The operands, the columns and values of their sum, and the values of their difference.
 type Case = (
-    (Arrays<'static>, Arrays<'static>),
+    (Rows<'static>, Rows<'static>),
     &'static [usize],
     &'static [i32],
     &'static [i32],
 );
 
-const TRIANGLE: Arrays<'static> = (2, &[0, 2, 3], &[0, 1, 1], &[1, 2, 3]);
+const TRIANGLE: Rows<'static> = (2, &[0, 2, 3], &[0, 1, 1], &[1, 2, 3]);
 
-const NO_ROWS: Arrays<'static> = (2, &[0], &[], &[]);
+const NO_ROWS: Rows<'static> = (2, &[0], &[], &[]);
 
-const NO_COLUMNS: Arrays<'static> = (0, &[0, 0, 0], &[], &[]);
+const NO_COLUMNS: Rows<'static> = (0, &[0, 0, 0], &[], &[]);
 
-const LEFT: Arrays<'static> = (3, &[0, 2], &[0, 2], &[1, -2]);
+const LEFT: Rows<'static> = (3, &[0, 2], &[0, 2], &[1, -2]);
 
-const RIGHT: Arrays<'static> = (3, &[0, 2], &[1, 2], &[5, 2]);
+const RIGHT: Rows<'static> = (3, &[0, 2], &[1, 2], &[5, 2]);
 
 const CASES: [Case; 4] = [
     ((TRIANGLE, TRIANGLE), &[0, 1, 1], &[2, 4, 6], &[0, 0, 0]),
@@ -182,7 +184,7 @@ fn sums_by_columns(rt: HostRuntime) -> Result<(), Fail> {
     Ok(())
 }
 
-const MULTIPLIED: Arrays<'static> = (2, &[0, 2, 3], &[0, 1, 1], &[1, 0, 3]);
+const MULTIPLIED: Rows<'static> = (2, &[0, 2, 3], &[0, 1, 1], &[1, 0, 3]);
 
 // Multiples and negatives: copies, and in place.
 fn has_multiple(alloc: Global) -> Result<bool, Fail> {

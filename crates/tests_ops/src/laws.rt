@@ -1,6 +1,6 @@
 //! The laws of sums and products.
 
-use crate::fixtures::{Arrays, matrix};
+use crate::matrices::{Rows, matrix};
 use sparse_algebra::scalar::{Ring, W64};
 use sparse_forms::csr::CsrMatrix;
 use sparse_laws::operations::{
@@ -9,7 +9,7 @@ use sparse_laws::operations::{
 use std::alloc::Global;
 use std::test::Fail;
 
-const TRIANGLE: Arrays<'static> = (2, &[0, 2, 3], &[0, 1, 1], &[1, 2, 3]);
+const TRIANGLE: Rows<'static> = (2, &[0, 2, 3], &[0, 1, 1], &[1, 2, 3]);
 
 // Both sides of a law.
 type Sides<T> = (CsrMatrix<T>, CsrMatrix<T>);
@@ -31,19 +31,19 @@ fn transposed<T: Ring>(alloc: Global, f: &CsrMatrix<T>) -> Result<Sides<T>, Fail
 }
 
 fn products_distribute(alloc: Global) -> Result<bool, Fail> {
-    let f = matrix(alloc, TRIANGLE)?;
+    let f: CsrMatrix<W64> = matrix(alloc, TRIANGLE)?;
     let (product, sum) = distributed(alloc, &f)?;
     Ok(product == sum)
 }
 
 fn products_are_transposed(alloc: Global) -> Result<bool, Fail> {
-    let f = matrix(alloc, TRIANGLE)?;
+    let f: CsrMatrix<W64> = matrix(alloc, TRIANGLE)?;
     let (transpose, product) = transposed(alloc, &f)?;
     Ok(transpose == product)
 }
 
 fn differences_are_sums(alloc: Global) -> Result<bool, Fail> {
-    let f = matrix(alloc, TRIANGLE)?;
+    let f: CsrMatrix<W64> = matrix(alloc, TRIANGLE)?;
     let (difference, sum) = difference_as_sum(alloc, &f, &f)?;
     Ok(difference == sum)
 }
@@ -56,12 +56,12 @@ fn laws_of_products(rt: HostRuntime) -> Result<(), Fail> {
 }
 
 fn negatives_cancel(alloc: Global) -> Result<bool, Fail> {
-    let f = matrix(alloc, TRIANGLE)?;
+    let f: CsrMatrix<W64> = matrix(alloc, TRIANGLE)?;
     Ok(negative_twice(alloc, &f)? == f)
 }
 
 fn the_identity_is_neutral(alloc: Global) -> Result<bool, Fail> {
-    let f = matrix(alloc, TRIANGLE)?;
+    let f: CsrMatrix<W64> = matrix(alloc, TRIANGLE)?;
     Ok(identity_times(alloc, &f)? == f)
 }
 

@@ -4,9 +4,9 @@ ghost use Rattle.std.specs.Prelude.{◌≡◌};
 ghost use Rattle.sparse_cs.specs.PlainOfLanes.{plain_of_rows, plain_of_cols};
 ghost use Rattle.sparse_op.specs.Operands.{plain_op};
 
-use crate::fixtures::{
-    Answer, Arrays, Pair, are, holds_by_columns, is_done, is_refused, matrix, pair,
-};
+use crate::matrices::{Rows, matrix};
+use crate::pairs::{Answer, Pair, holds_by_columns, is_done, is_refused, pair};
+use crate::scalars::are;
 use sparse_algebra::scalar::{Ring, W64};
 use sparse_forms::csc::CscMatrix;
 use sparse_forms::csr::CsrMatrix;
@@ -16,11 +16,11 @@ use sparse_pattern::pattern::SparsityPattern;
 use std::alloc::Global;
 use std::test::Fail;
 
-const TRIANGLE: Arrays<'static> = (2, &[0, 2, 3], &[0, 1, 1], &[1, 2, 3]);
+const TRIANGLE: Rows<'static> = (2, &[0, 2, 3], &[0, 1, 1], &[1, 2, 3]);
 
-const LOWER: Arrays<'static> = (2, &[0, 1, 3], &[0, 0, 1], &[4, 5, 6]);
+const LOWER: Rows<'static> = (2, &[0, 1, 3], &[0, 0, 1], &[4, 5, 6]);
 
-const FULL: Arrays<'static> = (2, &[0, 2, 4], &[0, 1, 0, 1], &[1, 2, 3, 4]);
+const FULL: Rows<'static> = (2, &[0, 2, 4], &[0, 1, 0, 1], &[1, 2, 3, 4]);
 
 // A is `1 2` over `0 3`, B is `4 0` over `5 6`, and C is `1 2` over `3 4`.
 fn factors(alloc: Global) -> Result<(Pair, CsrMatrix<W64>), Fail> {
@@ -137,7 +137,7 @@ fn refuses(alloc: Global, c: &mut CsrMatrix<W64>, (a, b): Pair) -> bool {
 }
 
 // Whether the product into C is refused for its pattern, and leaves C as it was.
-fn is_left_by_a_refusal(alloc: Global, arrays: Arrays<'_>, factors: Pair) -> Result<bool, Fail> {
+fn is_left_by_a_refusal(alloc: Global, arrays: Rows<'_>, factors: Pair) -> Result<bool, Fail> {
     let mut c = matrix(alloc, arrays)?;
     let refused = refuses(alloc, &mut c, factors);
     Ok(refused && c == matrix(alloc, arrays)?)
@@ -193,7 +193,7 @@ fn has_square_by_columns(alloc: Global) -> Result<bool, Fail> {
 }
 
 fn has_pattern_by_columns(alloc: Global) -> Result<bool, Fail> {
-    let f = matrix(alloc, TRIANGLE)?.transpose_as_csc();
+    let f = matrix::<W64>(alloc, TRIANGLE)?.transpose_as_csc();
     let pattern = pattern_by_columns(alloc, &f)?;
     Ok(pattern.minor_indices() == [0, 1, 1].as_slice())
 }
