@@ -14,7 +14,7 @@ use Rattle.sparse_pattern.specs.Raw.{start_of, end_of, lane_of, IsValidLane, IsV
 use Rattle.sparse_pattern.proofs.PatternLanes.{lane_rises, length-lane, get_or-lane}
 use Rattle.sparse_cs.specs.Compressed.{Compressed, arrays_of, IsSound, zip_values, lane_triplets}
 use Rattle.sparse_cs.specs.Filter.{IsKept}
-use Rattle.sparse_cs.specs.InnerFilter.{IsGrown}
+use Rattle.sparse_cs.specs.InnerFilter.{AreKeptLanes, IsGrown, IsKeptLane}
 use Rattle.sparse_cs.proofs.Kept.{IsKept-append, IsKept-map, All-kept, AllPairs-kept}
 use Rattle.sparse_cs.proofs.SortedForm.{in_lane, split_lane}
 use Rattle.sparse_cs.proofs.UnsortedLanes.{lane_values}
@@ -40,24 +40,9 @@ module _ {X : Type 0} where
       ∙ rw long (grind (arith, common_steps))
 
 module _ {T : Type 0} (R : ℕ × ℕ × T → Bool → Type 0) (m : Compressed T) where
-  -- lane k of the arrays is what is kept of lane k of the matrix
-  pub record IsKeptLane (offsets indices : List ℕ) (values : List T) (k : ℕ) : Type 0 where
-    pub ordered : get_or offsets k 0 ≤ get_or offsets (k + 1) 0
-    pub inside : get_or offsets (k + 1) 0 ≤ length indices
-    pub kept : IsKept (λ p b. R (k, p.0, p.1) b) (zip (lane_of m.pattern k) (lane_values m k))
-        (zip (slice_range indices (get_or offsets k 0) (get_or offsets (k + 1) 0))
-        (slice_range values (get_or offsets k 0) (get_or offsets (k + 1) 0)))
-
-  -- the arrays hold what is kept of the lanes below i
-  pub record AreKeptLanes (offsets indices : List ℕ) (values : List T) (i : ℕ) : Type 0 where
-    pub offset_count : length offsets ≡ i + 1
-    pub first : get_or offsets 0 0 ≡ 0
-    pub last : get_or offsets i 0 ≡ length indices
-    pub value_count : length values ≡ length indices
-    pub lanes : (k : ℕ) → k < i → IsKeptLane offsets indices values k
-
   module _ (offsets indices more : List ℕ) (values more_values : List T) (i : ℕ)
-      (h : AreKeptLanes offsets indices values i) (count : length more_values ≡ length more) where
+      (h : AreKeptLanes R m offsets indices values i)
+      (count : length more_values ≡ length more) where
     abbrev end : ℕ
     end = length indices + length more
 
@@ -69,7 +54,7 @@ module _ {T : Type 0} (R : ℕ × ℕ × T → Bool → Type 0) (m : Compressed 
     newest = let at : length offsets ≡ i + 1 = h.offset_count in grind (arith, common_steps)
 
     old_lane : (k : ℕ) → k < i
-        → IsKeptLane (offsets ++ end ∷ []) (indices ++ more) (values ++ more_values) k
+        → IsKeptLane R m (offsets ++ end ∷ []) (indices ++ more) (values ++ more_values) k
     old_lane k lt =
         let l = h.lanes k lt in
         record {
@@ -88,7 +73,7 @@ module _ {T : Type 0} (R : ℕ × ℕ × T → Bool → Type 0) (m : Compressed 
 
     new_lane : IsKept (λ p b. R (i, p.0, p.1) b) (zip (lane_of m.pattern i) (lane_values m i))
         (zip more more_values)
-        → IsKeptLane (offsets ++ end ∷ []) (indices ++ more) (values ++ more_values) i
+        → IsKeptLane R m (offsets ++ end ∷ []) (indices ++ more) (values ++ more_values) i
     new_lane kept =
         let values_end : slice_range (values ++ more_values) (length indices) end ≡ more_values =
         ap (λ n. slice_range (values ++ more_values) n (n + length more)) (sym h.value_count)
@@ -103,7 +88,7 @@ module _ {T : Type 0} (R : ℕ × ℕ × T → Bool → Type 0) (m : Compressed 
 
     one_more : IsKept (λ p b. R (i, p.0, p.1) b) (zip (lane_of m.pattern i) (lane_values m i))
         (zip more more_values)
-        → AreKeptLanes (offsets ++ end ∷ []) (indices ++ more) (values ++ more_values) (i + 1)
+        → AreKeptLanes R m (offsets ++ end ∷ []) (indices ++ more) (values ++ more_values) (i + 1)
     one_more kept = record {
       offset_count = omega (arith, length-append offsets (end ∷ []), h.offset_count);
       first = earlier 0 (omega arith) ∙ h.first;
@@ -118,17 +103,17 @@ module _ {T : Type 0} (R : ℕ × ℕ × T → Bool → Type 0) (m : Compressed 
       lanes = λ k lt. elim (lt_add_one_cases k i lt) [
         | inl below ↦ old_lane k below
         | inr here ↦ subst
-            (IsKeptLane (offsets ++ end ∷ []) (indices ++ more) (values ++ more_values)) (sym here)
-            (new_lane kept)
+            (IsKeptLane R m (offsets ++ end ∷ []) (indices ++ more) (values ++ more_values))
+            (sym here) (new_lane kept)
       ];
     }
 
   -- one more lane is traversed
   pub kept_step : (offsets indices indices' : List ℕ) (values values' : List T) (i e : ℕ)
       (js : List ℕ) (us : List T)
-      → AreKeptLanes offsets indices values i → js ≡ lane_of m.pattern i → us ≡ lane_values m i
+      → AreKeptLanes R m offsets indices values i → js ≡ lane_of m.pattern i → us ≡ lane_values m i
       → IsGrown (λ p b. R (i, p.0, p.1) b) (zip js us) indices values indices' values'
-      → e ≡ length indices' → AreKeptLanes (offsets ++ e ∷ []) indices' values' (i + 1)
+      → e ≡ length indices' → AreKeptLanes R m (offsets ++ e ∷ []) indices' values' (i + 1)
   kept_step offsets indices indices' values values' i e js us h here here_values grown is =
       let kept = rw (here, here_values) at grown.kept in
       let long : e ≡ length indices + length grown.indices = is ∙ ap length grown.index_end
@@ -138,7 +123,7 @@ module _ {T : Type 0} (R : ℕ × ℕ × T → Bool → Type 0) (m : Compressed 
 
   -- all lanes are traversed
   module _ (sound : IsSound m) (offsets indices : List ℕ) (values : List T)
-      (done : AreKeptLanes offsets indices values m.pattern.major_dim) where
+      (done : AreKeptLanes R m offsets indices values m.pattern.major_dim) where
     abbrev now : Compressed T
     now = arrays_of m.pattern.major_dim m.pattern.minor_dim offsets indices values
 
@@ -182,7 +167,7 @@ module _ {T : Type 0} (R : ℕ × ℕ × T → Bool → Type 0) (m : Compressed 
           omega (arith, rises k (k + 1) 0 (omega arith) (omega (arith, long)), low, high);
     }
       where
-        l : IsKeptLane offsets indices values i
+        l : IsKeptLane R m offsets indices values i
         l = done.lanes i lt
 
         v : IsValidLane m.pattern i

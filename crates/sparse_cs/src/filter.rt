@@ -4,7 +4,7 @@ ghost use Rattle.std.specs.Prelude.{◌≡◌, ℕ, Bool, OnOk, IfOk, length};
 ghost use Rattle.std.specs.List.{filter, zip};
 ghost use Rattle.sparse_cs.specs.Compressed.{IsSound, lane_triplets};
 ghost use Rattle.sparse_cs.specs.Filter.{Answers, AnswersAs, HasSizesOf, IsKept};
-ghost use Rattle.sparse_cs.specs.InnerFilter.{IsGrown};
+ghost use Rattle.sparse_cs.specs.InnerFilter.{AreKeptLanes, IsGrown};
 
 use crate::CsMatrix;
 use sparse_pattern::pattern::SparsityPattern;
@@ -27,32 +27,45 @@ impl<T: Copy> CsMatrix<T> {
             → IfOk result (λ m. lane_triplets m ≡ filter test (lane_triplets self.now)) }
         ensures sound { IfOk result IsSound }
     {
+        let (offsets, indices, values) = keep_lanes(alloc, self, &predicate)?;
         let pattern = self.pattern();
-        let offsets = pattern.major_offsets();
-        let values = self.values();
-        let mut kept_offsets = Vec::with_capacity(alloc, offsets.len())?;
-        let mut kept_indices = Vec::new(alloc);
-        let mut kept_values = Vec::new(alloc);
-        kept_offsets.push(0)?;
-        for lane in 0..pattern.major_dim() {
-            keep_lane(
-                lane,
-                pattern.lane(lane),
-                &values[offsets[lane]..offsets[lane + 1]],
-                &predicate,
-                &mut kept_indices,
-                &mut kept_values,
-            )?;
-            kept_offsets.push(kept_indices.len())?;
-        }
-        let kept_pattern = SparsityPattern::from_offset_and_indices_unchecked(
+        let kept = SparsityPattern::from_offset_and_indices_unchecked(
             pattern.major_dim(),
             pattern.minor_dim(),
-            kept_offsets,
-            kept_indices,
+            offsets,
+            indices,
         );
-        Ok(CsMatrix::from_pattern_and_values(kept_pattern, kept_values))
+        Ok(CsMatrix::from_pattern_and_values(kept, values))
     }
+}
+
+// Returns the offsets, the indices and the values of the places for which the predicate returns `true`.
+fn keep_lanes<T: Copy, P: Fn(usize, usize, &T) -> bool>(
+    alloc: Global,
+    matrix: &CsMatrix<T>,
+    predicate: &P,
+) -> Result<(Vec<usize>, Vec<usize>, Vec<T>), AllocError>
+    requires { P.IsAlwaysCallable predicate.now }
+    ensures { IfOk result (λ r. AreKeptLanes (Answers P.Fn predicate.now) matrix.now r.0.items
+        r.1.items r.2.items matrix.now.pattern.major_dim) }
+{
+    let mut offsets = Vec::with_capacity(alloc, matrix.pattern().major_offsets().len())?;
+    let mut indices = Vec::new(alloc);
+    let mut values = Vec::new(alloc);
+    offsets.push_reserved(0);
+    for lane in 0..matrix.pattern().major_dim() {
+        let places = matrix.lane(lane);
+        keep_lane(
+            lane,
+            places.minor_indices(),
+            places.values(),
+            predicate,
+            &mut indices,
+            &mut values,
+        )?;
+        offsets.push_reserved(indices.len());
+    }
+    Ok((offsets, indices, values))
 }
 
 // Appends the indices and the values of a lane for which the predicate returns `true`.

@@ -2,7 +2,7 @@
 
 ghost use Rattle.std.specs.Prelude.{◌≡◌, ◌<◌, ◌==◌, ⊤, length, position, IfSome};
 ghost use Rattle.std.specs.List.Sorted.{IsStrictlyIncreasing};
-ghost use Rattle.sparse_pattern.specs.Raw.{lane_of};
+ghost use Rattle.sparse_pattern.specs.Raw.{IsValidLane, lane_of, start_of, end_of};
 ghost use Rattle.sparse_cs.specs.Lanes.{IsLaneEntryAt, IsLaneEntryOf, IsSoundLane, lane_parts};
 
 use sparse_pattern::entry::SparseEntry;
@@ -69,6 +69,17 @@ impl<'a> LaneIndices<'a> {
     {
         self.indices.binary_search(&minor_index).ok()
     }
+}
+
+// Returns the positions where a lane begins and ends. `lane` must be within bounds.
+pub(crate) fn lane_bounds(pattern: &SparsityPattern, lane: usize) -> (usize, usize)
+    requires { lane < pattern.now.major_dim }
+    ensures start { result.0 ≡ start_of pattern.now lane }
+    ensures end { result.1 ≡ end_of pattern.now lane }
+    ensures lane { IsValidLane pattern.now lane }
+{
+    let offsets = pattern.major_offsets();
+    (offsets[lane], offsets[lane + 1])
 }
 
 impl<'a> Clone for LaneIndices<'a> {

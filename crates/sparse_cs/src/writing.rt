@@ -8,7 +8,7 @@ ghost use Rattle.sparse_cs.specs.Lanes.{lane_parts};
 ghost use Rattle.sparse_cs.specs.Writing.{LendsValues, LendsFound, LendsIndexed, LendsElement, IsFoundAt, IsEntryMutAt, IsLentEntryOf};
 
 use crate::CsMatrix;
-use crate::lane::LaneIndices;
+use crate::lane::{LaneIndices, lane_bounds};
 use sparse_pattern::entry::{Found, Missing, SparseEntry, SparseEntryMut};
 use sparse_pattern::pattern::SparsityPattern;
 
@@ -53,7 +53,7 @@ impl<T> CsMatrix<T> {
         ensures position { result ≡ place_of self.now.pattern major_index minor_index }
         ensures within { IfSome result (λ p. p < length self.now.values) }
     {
-        let start = self.sparsity_pattern.major_offsets()[major_index];
+        let (start, _) = lane_bounds(&self.sparsity_pattern, major_index);
         let lane = LaneIndices::of_lane(&self.sparsity_pattern, major_index);
         match lane.position_of(minor_index) {
             Some(at) => Some(start + at),

@@ -48,7 +48,7 @@ fn numbers_below(alloc: Global, n: usize) -> Result<Vec<usize>, AllocError>
 {
     let mut numbers = Vec::with_capacity(alloc, n)?;
     for number in 0..n {
-        numbers.push(number)?;
+        numbers.push_reserved(number);
     }
     Ok(numbers)
 }
@@ -60,7 +60,7 @@ fn ones<T: Ring>(alloc: Global, n: usize) -> Result<Vec<T>, AllocError>
 {
     let mut ones = Vec::with_capacity(alloc, n)?;
     for _ in 0..n {
-        ones.push(T::one())?;
+        ones.push_reserved(T::one());
     }
     Ok(ones)
 }

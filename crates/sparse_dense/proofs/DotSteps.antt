@@ -5,20 +5,32 @@ use Rattle.sparse_algebra.specs.Algebra.{CommRing}
 use Rattle.sparse_algebra.specs.Sums.{sum_below}
 use Rattle.sparse_algebra.specs.Plain.{Plain, plain_product, plain_transpose}
 use Rattle.sparse_algebra.proofs.SumLemmas.{sum_below-same}
+use Rattle.sparse_pattern.specs.Raw.{lane_of}
+use Rattle.sparse_cs.specs.Compressed.{Compressed, IsSound}
+use Rattle.sparse_cs.specs.PlainOfLanes.{plain_of_rows}
+use Rattle.sparse_cs.proofs.LaneValues.{values_of, row_sum}
 use Rattle.sparse_cs.proofs.RowSums.{sum_zip_more}
 use Rattle.sparse_dense.specs.InnerUpdates.{dot_of, plain_turned, times_vector}
 
 module _ (R : CommRing) {T : Type 0} (f : T → R.Carrier) where
   -- one term more
-  pub dot_more : (x : ℕ → R.Carrier) (ks : List ℕ) (vs : List T) (n k : ℕ)
-      (v sum new term entry : T)
+  pub dot_more : (x : ℕ → R.Carrier) (ks : List ℕ) (vs : List T) (n k : ℕ) (v sum new : T)
       → n < length ks → n < length vs → k ≡ get_or ks n k → v ≡ get_or vs n v
-      → f new ≡ R.add (f sum) (f term) → f term ≡ R.mul (f v) (f entry) → f entry ≡ x k
+      → f new ≡ R.add (f sum) (R.mul (f v) (x k))
       → f sum ≡ dot_of R f (take n ks) (take n vs) x
       → f new ≡ dot_of R f (take (n + 1) ks) (take (n + 1) vs) x
-  dot_more x ks vs n k v sum new term entry lt lt' is is' added multiplied read so_far =
-      added ∙ ap (λ s. R.add s (f term)) so_far ∙ ap (R.add _) (multiplied ∙ ap (R.mul (f v)) read)
+  dot_more x ks vs n k v sum new lt lt' is is' added so_far =
+      added ∙ ap (λ s. R.add s (R.mul (f v) (x k))) so_far
       ∙ sym (sum_zip_more R (λ t. R.mul (f t.1) (x t.0)) ks vs n k v lt lt' is is')
+
+  -- the dot product of a lane with a vector is an entry of the matrix times the vector
+  pub lane_sum : (z : T) (m : Compressed T) → IsSound m → (i : ℕ) → i < m.pattern.major_dim
+      → (ks : List ℕ) (vs : List T) → ks ≡ lane_of m.pattern i → vs ≡ values_of m i
+      → (sum : R.Carrier) (x : ℕ → R.Carrier) → sum ≡ dot_of R f ks vs x
+      → sum ≡ times_vector R (plain_of_rows R f m) x i
+  lane_sum z m sound i lane ks vs indices values sum x is =
+      is ∙ ap (λ ks. dot_of R f ks vs x) indices
+      ∙ ap (λ vs. dot_of R f (lane_of m.pattern i) vs x) values ∙ row_sum R f z m sound i lane x
 
 module _ (R : CommRing) where
   -- one column of a matrix more, added to beta c + alpha A x

@@ -1,10 +1,11 @@
 -- The columns of op(B), and a lane's indices.
 use Rattle.std.proofs.Common.{◌≡◌, ℕ, ◌+◌, ◌-◌, ◌*◌, ◌<◌, List, length, get_or, take, drop, All, ap}
-use Rattle.std.proofs.Common.{◌∙◌, arith}
+use Rattle.std.proofs.Common.{sym, subst, ◌∙◌, refl, arith}
 use Rattle.std.proofs.lemmas.List.{get_or_default, get_or-drop, take_rest}
 use Rattle.sparse_pattern.specs.Raw.{start_of, lane_of}
 use Rattle.sparse_pattern.proofs.PatternLanes.{length-lane, get_or-lane}
 use Rattle.sparse_cs.specs.Compressed.{Compressed, IsSound}
+use Rattle.sparse_dense.specs.InnerUpdates.{HasStrided}
 
 -- every n-th element from the s-th on
 pub from_start : {X : Type 0} (xs : List X) (n j k s : ℕ) (z : X) → s ≡ j
@@ -26,3 +27,12 @@ lane_inside m sound i n lane same q e lt =
           (omega (arith, lt, length-lane m.pattern i v)),
       same,
     ))
+
+-- each step-th element for the indices of a lane lies within the list
+pub lane_strided : {T X : Type 0} (m : Compressed T) → IsSound m → (i : ℕ)
+    → i < m.pattern.major_dim → (ks : List ℕ) → ks ≡ lane_of m.pattern i → (xs : List X)
+    (step : ℕ) → HasStrided xs step m.pattern.minor_dim → All (λ k. k * step < length xs) ks
+lane_strided m sound i lane ks is xs step inside =
+    subst (All (λ k. k * step < length xs)) (sym is)
+    (λ q d lt. inside (get_or (lane_of m.pattern i) q d)
+    (lane_inside m sound i m.pattern.minor_dim lane refl q d lt))

@@ -1,7 +1,7 @@
 -- What a product leaves in the columns of a dense matrix.
 use denote.Ref.{Bor}
-use Rattle.std.specs.Prelude.{◌≡◌, ℕ, ◌+◌, ◌*◌, ◌<◌, ◌≤◌, Bool, true, false, List, length}
-use Rattle.std.specs.Prelude.{slice_index_or, zip}
+use Rattle.std.specs.Prelude.{◌≡◌, ◌≢◌, ℕ, ◌+◌, ◌*◌, ◌<◌, ◌≤◌, Bool, true, false, List}
+use Rattle.std.specs.Prelude.{length, slice_index_or, zip}
 use Rattle.sparse_algebra.specs.Algebra.{CommRing}
 use Rattle.sparse_algebra.specs.Sums.{sum_below, sum_by}
 use Rattle.sparse_algebra.specs.Plain.{Plain, plain_transpose}
@@ -47,6 +47,12 @@ module _ (R : CommRing) {T : Type 0} (f : T → R.Carrier) (z : T) (beta alpha :
     pub count : length new ≡ length old
     pub each : (i : ℕ) → i < length old
         → f (slice_index_or new i z) ≡ updated (slice_index_or old i z) (x i)
+
+  -- the n-th entry is updated by x, and the others are the same
+  pub record IsUpdatedAt (n : ℕ) (x : R.Carrier) (old new : List T) : Type 0 where
+    pub count : length new ≡ length old
+    pub here : f (slice_index_or new n z) ≡ updated (slice_index_or old n z) x
+    pub others : (i : ℕ) → i ≢ n → slice_index_or new i z ≡ slice_index_or old i z
 
   -- the entries before the n-th are updated, and the others are the same
   pub record IsUpdatedBelow (n : ℕ) (x : ℕ → R.Carrier) (old new : List T) : Type 0 where

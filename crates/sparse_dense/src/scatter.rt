@@ -5,6 +5,7 @@ ghost use Rattle.sparse_cs.specs.InnerRows.{lane_value};
 ghost use Rattle.sparse_cs.specs.PlainOfLanes.{plain_of_cols};
 ghost use Rattle.sparse_dense.specs.InnerUpdates.{HasStrided, IsUpdatedColumn, strided, times_vector};
 
+use crate::operand::lane_slices;
 use sparse_algebra::scalar::Ring;
 use sparse_cs::CsMatrix;
 use sparse_cs::scaling::scale_values;
@@ -25,12 +26,11 @@ pub fn scatter_column<T: Ring>(
         (strided T.ring T.value T.zero_value x.now step)) c.old c.new }
 {
     scale_values(beta, c);
-    let (offsets, indices, values) = a.cs_data();
     let lanes = a.pattern().major_dim();
     for k in 0..lanes {
-        let (begin, end) = (offsets[k], offsets[k + 1]);
+        let (rows, values) = lane_slices(a, k);
         let factor = alpha.mul(x[k * step]);
-        add_multiple(factor, &indices[begin..end], &values[begin..end], c);
+        add_multiple(factor, rows, values, c);
     }
 }
 

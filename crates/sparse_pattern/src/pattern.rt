@@ -1,7 +1,7 @@
 //! Sparsity patterns of CSR and CSC matrices.
 
 ghost use Rattle.std.specs.Prelude.{◌≡◌, ◌<◌, ◌↔◌, length, IfOk, IfErr, IfSome, IsOk, IsSome, IsTrue, OnOk};
-ghost use Rattle.sparse_pattern.specs.Raw.{IsValid, raw_of, empty_raw, lane_of, raw_eq, HasSamePlaces};
+ghost use Rattle.sparse_pattern.specs.Raw.{IsValid, IsValidLane, raw_of, empty_raw, lane_of, start_of, end_of, raw_eq, HasSamePlaces};
 ghost use Rattle.sparse_pattern.specs.PatternFaults.{IsFirstFault};
 
 use std::alloc::{AllocError, Global};
@@ -149,8 +149,7 @@ impl SparsityPattern {
         requires { major_index < self.now.major_dim }
         ensures { result.now ≡ lane_of self.now major_index }
     {
-        let begin = self.major_offsets[major_index];
-        let end = self.major_offsets[major_index + 1];
+        let (begin, end) = self.lane_bounds(major_index);
         &self.minor_indices[begin..end]
     }
 
@@ -210,6 +209,17 @@ impl SparsityPattern {
             minor_indices: Vec::from_slice(alloc, &self.minor_indices)?,
             minor_dim: self.minor_dim,
         })
+    }
+
+    // Returns the positions where a lane begins and ends. `lane` must be within bounds.
+    fn lane_bounds(&self, lane: usize) -> (usize, usize)
+        requires { lane < self.now.major_dim }
+        ensures start { result.0 ≡ start_of self.now lane }
+        ensures end { result.1 ≡ end_of self.now lane }
+        ensures lane { IsValidLane self.now lane }
+    {
+        let offsets = self.major_offsets();
+        (offsets[lane], offsets[lane + 1])
     }
 
     // Whether the fields are equal.

@@ -94,42 +94,42 @@ module _ (R : CommRing) {T : Type 0} (f : T → R.Carrier) (z : T) where
     one_more : at - begin + 1 ≡ at + 1 - begin
     one_more = omega (arith, order)
 
-    -- a product is taken off the entry of x in the row, which is d past the end of x
-    pub off_more : (x start : List T) (d factor product minus new : T)
+    -- a product is taken off the entry of x in the row
+    pub off_more : (x start y : List T) (factor : T)
         → get_or rows at 0 < length start → length x ≡ length start
-        → f product ≡ R.mul (f v) (f factor) → f minus ≡ R.neg (f product)
-        → f new ≡ R.add (f (get_or x (get_or rows at 0) d)) (f minus)
+        → y ≡ set x (get_or rows at 0) (get_or y (get_or rows at 0) z)
+        → f (get_or y (get_or rows at 0) z)
+        ≡ R.add (f (get_or x (get_or rows at 0) z)) (R.neg (R.mul (f v) (f factor)))
         → AddsMultiple R f z (R.neg (f factor)) (slice_range rows begin at)
         (slice_range values begin at) start x
         → AddsMultiple R f z (R.neg (f factor)) (slice_range rows begin (at + 1))
-        (slice_range values begin (at + 1)) start (set x (get_or rows at 0) new)
-    off_more x start d factor product minus new inside same times negated added so_far =
+        (slice_range values begin (at + 1)) start y
+    off_more x start y factor inside same written taken so_far =
         let within : k < length x = omega (arith, inside, same) in
-        let old = get_or x k d in
-        let term = negated ∙ ap R.neg times ∙ neg_product (f v) (f factor) in
+        let old = get_or x k z in
+        let new = get_or y k z in
         let more : AddsMultiple R f z (R.neg (f factor)) (take (at - begin + 1) (drop begin rows))
         (take (at - begin + 1) (drop begin values)) start (set x k new) = λ i lt.
         lane_step R f (R.neg (f factor)) (drop begin rows) (drop begin values) x start z
         (at - begin) k v old new row_left value_left row_there value_there within
-        (get_or_default x k d old within) (added ∙ ap (R.add (f old)) term)
+        (get_or_default x k z old within)
+        (taken ∙ ap (R.add (f old)) (neg_product (f v) (f factor)))
         (λ j j_lt. so_far j (omega (arith, same, j_lt))) i (omega (arith, same, lt)) in
-        subst (λ m. AddsMultiple R f z (R.neg (f factor)) (take m (drop begin rows))
-        (take m (drop begin values)) start (set x k new)) one_more more
+        subst (AddsMultiple R f z (R.neg (f factor)) (slice_range rows begin (at + 1))
+        (slice_range values begin (at + 1)) start) (sym written)
+        (subst (λ m. AddsMultiple R f z (R.neg (f factor)) (take m (drop begin rows))
+        (take m (drop begin values)) start (set x k new)) one_more more)
 
-    module _ (x : List T) (within : get_or rows at 0 < length x) (old : T)
-        (read : old ≡ get_or x (get_or rows at 0) old) where
-      pub dot_more : (sum product next : T) → f sum ≡ dot_of R f (slice_range rows begin at)
-          (slice_range values begin at) (entries R f z x)
-          → f product ≡ R.mul (f v) (f old) → f next ≡ R.add (f sum) (f product)
-          → f next ≡ dot_of R f (slice_range rows begin (at + 1))
-          (slice_range values begin (at + 1)) (entries R f z x)
-      dot_more sum product next so_far times added =
-          let more : f next ≡ dot_of R f (take (at - begin + 1) (drop begin rows))
-          (take (at - begin + 1) (drop begin values)) (entries R f z x) =
-          added ∙ ap (λ s. R.add s (f product)) so_far
-          ∙ ap (R.add _) (times ∙ ap (λ y. R.mul (f v) (f y))
-          (read ∙ get_or_default x k old z within))
-          ∙ sym (sum_zip_more R (λ t. R.mul (f t.1) (f (get_or x t.0 z))) (drop begin rows)
-          (drop begin values) (at - begin) k v row_left value_left row_there value_there) in
-          subst (λ m. f next ≡ dot_of R f (take m (drop begin rows)) (take m (drop begin values))
-          (entries R f z x)) one_more more
+    pub dot_more : (x : List T) (sum next : T) → f sum ≡ dot_of R f (slice_range rows begin at)
+        (slice_range values begin at) (entries R f z x)
+        → f next ≡ R.add (f sum) (R.mul (f v) (f (get_or x (get_or rows at 0) z)))
+        → f next ≡ dot_of R f (slice_range rows begin (at + 1))
+        (slice_range values begin (at + 1)) (entries R f z x)
+    dot_more x sum next so_far added =
+        let more : f next ≡ dot_of R f (take (at - begin + 1) (drop begin rows))
+        (take (at - begin + 1) (drop begin values)) (entries R f z x) =
+        added ∙ ap (λ s. R.add s (R.mul (f v) (f (get_or x k z)))) so_far
+        ∙ sym (sum_zip_more R (λ t. R.mul (f t.1) (f (get_or x t.0 z))) (drop begin rows)
+        (drop begin values) (at - begin) k v row_left value_left row_there value_there) in
+        subst (λ m. f next ≡ dot_of R f (take m (drop begin rows)) (take m (drop begin values))
+        (entries R f z x)) one_more more

@@ -33,9 +33,20 @@ pub fn take_off<T: Ring>(
         (slice_range rows.now begin end) (slice_range values.now begin end) x.old x.new }
 {
     for at in begin..end {
-        let entry = &mut x[rows[at]];
-        *entry = entry.add(values[at].mul(factor).neg());
+        take_term(x, rows[at], values[at], factor);
     }
+}
+
+// Takes the product of a value and a factor off an entry of x.
+fn take_term<T: Ring>(x: &mut [T], row: usize, value: T, factor: T)
+    requires { row < length x.old }
+    ensures written { x.new ≡ slice_set x.old row (slice_index_or x.new row T.zero_value) }
+    ensures value { T.value (slice_index_or x.new row T.zero_value)
+        ≡ T.ring.add (T.value (slice_index_or x.old row T.zero_value))
+        (T.ring.neg (T.ring.mul (T.value value) (T.value factor))) }
+{
+    let entry = &mut x[row];
+    *entry = entry.add(value.mul(factor).neg());
 }
 
 // Takes a multiple of the values off each of four columns, each in its row.
@@ -67,14 +78,10 @@ pub fn take_off_four<T: Ring>(
     let (a, b, c, d) = factors;
     for at in begin..end {
         let (row, value) = (rows[at], values[at]);
-        let entry = &mut first[row];
-        *entry = entry.add(value.mul(a).neg());
-        let entry = &mut second[row];
-        *entry = entry.add(value.mul(b).neg());
-        let entry = &mut third[row];
-        *entry = entry.add(value.mul(c).neg());
-        let entry = &mut fourth[row];
-        *entry = entry.add(value.mul(d).neg());
+        take_term(first, row, value, a);
+        take_term(second, row, value, b);
+        take_term(third, row, value, c);
+        take_term(fourth, row, value, d);
     }
 }
 
@@ -87,9 +94,18 @@ pub fn dot<T: Ring>(rows: &[usize], values: &[T], begin: usize, end: usize, x: &
 {
     let mut sum = T::zero();
     for at in begin..end {
-        sum = sum.add(values[at].mul(x[rows[at]]));
+        sum = add_term(sum, values[at], x, rows[at]);
     }
     sum
+}
+
+// Returns the sum plus the product of a value and an entry of x.
+fn add_term<T: Ring>(sum: T, value: T, x: &[T], row: usize) -> T
+    requires { row < length x.now }
+    ensures { T.value result ≡ T.ring.add (T.value sum)
+        (T.ring.mul (T.value value) (T.value (slice_index_or x.now row T.zero_value))) }
+{
+    sum.add(value.mul(x[row]))
 }
 
 // Returns the sums of the values, each times the entry of one of four columns in its row.
@@ -120,10 +136,10 @@ pub fn four_dots<T: Ring>(
     let (mut a, mut b, mut c, mut d) = (T::zero(), T::zero(), T::zero(), T::zero());
     for at in begin..end {
         let (row, value) = (rows[at], values[at]);
-        a = a.add(value.mul(first[row]));
-        b = b.add(value.mul(second[row]));
-        c = c.add(value.mul(third[row]));
-        d = d.add(value.mul(fourth[row]));
+        a = add_term(a, value, first, row);
+        b = add_term(b, value, second, row);
+        c = add_term(c, value, third, row);
+        d = add_term(d, value, fourth, row);
     }
     (a, b, c, d)
 }

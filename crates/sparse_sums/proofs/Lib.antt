@@ -5,3 +5,6 @@ pub mod SumLanes
 pub mod Placing
 pub mod InOrder
 pub mod Updating
+pub mod Pushing
+pub mod Fronts
+pub mod Sampling

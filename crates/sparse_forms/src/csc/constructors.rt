@@ -159,15 +159,16 @@ impl<T: Copy> CscMatrix<T> {
             (arrays_of ncols nrows col_offsets.items row_indices.items values.items)
             → IsOkUnless result SparseFormatErrorKind.OutOfMemory }
     {
-        Ok(CscMatrix {
-            cs: CsMatrix::try_from_unsorted_arrays(
-                alloc,
-                ncols,
-                nrows,
-                col_offsets,
-                row_indices,
-                values,
-            )?,
-        })
+        match CsMatrix::try_from_unsorted_arrays(
+            alloc,
+            ncols,
+            nrows,
+            col_offsets,
+            row_indices,
+            values,
+        ) {
+            Ok(cs) => Ok(CscMatrix { cs }),
+            Err(error) => Err(error),
+        }
     }
 }

@@ -181,15 +181,16 @@ impl<T: Copy> CsrMatrix<T> {
             (arrays_of nrows ncols row_offsets.items col_indices.items values.items)
             → IsOkUnless result SparseFormatErrorKind.OutOfMemory }
     {
-        Ok(CsrMatrix {
-            cs: CsMatrix::try_from_unsorted_arrays(
-                alloc,
-                nrows,
-                ncols,
-                row_offsets,
-                col_indices,
-                values,
-            )?,
-        })
+        match CsMatrix::try_from_unsorted_arrays(
+            alloc,
+            nrows,
+            ncols,
+            row_offsets,
+            col_indices,
+            values,
+        ) {
+            Ok(cs) => Ok(CsrMatrix { cs }),
+            Err(error) => Err(error),
+        }
     }
 }

@@ -1,4 +1,4 @@
-use Rattle.std.proofs.Common.{ap, ◌∙◌, subst}
+use Rattle.std.proofs.Common.{length, drop, ap, ◌∙◌, subst}
 use Rattle.std.proofs.lemmas.List.{take_at}
 use Rattle.sparse_algebra.specs.Plain.{plain_scaled}
 use Rattle.sparse_cs.specs.ChangedValues.{AreChanged}
@@ -21,3 +21,17 @@ returns-clause-values g c =
     ap (λ vs. plain_of_rows R f (compressed_of c.self.inside.sparsity_pattern vs)) whole
     ∙ scaled R f z old new c.self.invariant s changed
     ∙ ap (λ m. plain_scaled R s (plain_of_rows R f m)) c.self.view_is
+
+pub invariant_of-self : goal.invariant_of-self
+invariant_of-self g c =
+    let new = c.scale_values.new.values in
+    let whole = take_at new (drop (length new) c.self.inside.values.items) _
+    (c.scale_values.auto.values ∙ c.deref_mut.ensures.len) in
+    rw whole record {
+      valid = c.self.invariant.valid;
+      count = c.scale_values.auto.values ∙ ap length c.deref_mut.ensures.value
+          ∙ c.self.invariant.count;
+    }
+
+pub returns-clause-sound : goal.returns-clause-sound
+returns-clause-sound g c = invariant_of-self g c

@@ -1,10 +1,19 @@
-use Rattle.std.proofs.Common.{◌≡◌, ◌<◌, ap, ◌∙◌, arith}
-use Rattle.sparse_pattern.specs.Raw.{lane_of}
+use Rattle.std.proofs.Common.{◌<◌, arith}
 use Rattle.sparse_cs.specs.PlainOfLanes.{plain_of_rows}
-use Rattle.sparse_cs.proofs.LaneValues.{values_of, row_sum}
-use Rattle.sparse_dense.specs.InnerUpdates.{dot_of, strided, times_vector}
+use Rattle.sparse_dense.specs.InnerUpdates.{strided, times_vector}
 use Rattle.sparse_dense.proofs.ColumnUpdates.{updated_more}
+use Rattle.sparse_dense.proofs.DotSteps.{lane_sum}
+use Rattle.sparse_dense.proofs.Operands.{lane_strided}
 use Rattle.sparse_dense.proofs.gather.gather_column.Goals as goal
+
+pub dot-sum-requires-clause-inside : goal.dot-sum-requires-clause-inside
+dot-sum-requires-clause-inside g c =
+    let a = c.args.a.now in
+    let lane = c.lane_slices.ensures in
+    let row : c.loop-i.i < a.pattern.major_dim = omega
+    (arith, c.loop-i-test.true, c.requires.rows) in
+    lane_strided a lane.sound c.loop-i.i row c.lane_slices.result.0.now lane.indices c.args.x.now
+    c.args.step c.requires.inside
 
 pub loop-i-preserved : goal.loop-i-preserved
 loop-i-preserved g c =
@@ -14,15 +23,10 @@ loop-i-preserved g c =
     let a = c.args.a.now in
     let i = c.loop-i.i in
     let x = strided R f z c.args.x.now c.args.step in
-    let lane : i < a.pattern.major_dim = omega (arith, c.loop-i-test.true, c.requires.rows) in
-    let read = c.index-c-i.result in
-    let lane_sum : f c.dot-sum.result ≡ dot_of R f (lane_of a.pattern i) (values_of a i) x =
-    rw (← c.cs_data.ensures.offsets, ← c.cs_data.ensures.indices, ← c.cs_data.ensures.values)
-    c.dot-sum.ensures in
-    let sum = lane_sum ∙ row_sum R f z a c.cs_data.ensures.sound i lane x in
-    let value = c.add.ensures ∙ ap (λ v. R.add v (f c.mul-in-loop-i.result)) c.mul.ensures
-    ∙ ap (R.add (R.mul (f c.args.beta) (f read)))
-    (c.mul-in-loop-i.ensures ∙ ap (R.mul (f c.args.alpha)) sum) in
+    let row : i < a.pattern.major_dim = omega (arith, c.loop-i-test.true, c.requires.rows) in
+    let lane = c.lane_slices.ensures in
     updated_more R f z (f c.args.beta) (f c.args.alpha) (times_vector R (plain_of_rows R f a) x) i
-    c.args.c.now c.loop-i.c read c.add.result c.loop-i.invariant
-    (omega (arith, c.loop-i-test.true, c.loop-i.auto.c)) c.index-c-i.is value
+    c.args.c.now c.loop-i.c c.update_entry.new.c (f c.dot-sum.result) c.loop-i.invariant
+    c.update_entry.ensures
+    (lane_sum R f z a lane.sound i row c.lane_slices.result.0.now c.lane_slices.result.1.now
+    lane.indices lane.values (f c.dot-sum.result) x c.dot-sum.ensures)

@@ -30,8 +30,8 @@ add_multiple-requires-clause-inside g c =
     ) in
     let width : a.pattern.minor_dim ≡ length c.loop-k.c =
     omega (arith, c.requires.rows, c.scale_values.ensures.count, c.loop-k.auto.c) in
-    rw (c.cs_data.ensures.offsets, c.cs_data.ensures.indices)
-    (lane_inside a c.cs_data.ensures.sound c.loop-k.k (length c.loop-k.c) lane width)
+    rw c.lane_slices.ensures.indices
+    (lane_inside a c.lane_slices.ensures.sound c.loop-k.k (length c.loop-k.c) lane width)
 
 pub loop-k-preserved : goal.loop-k-preserved
 loop-k-preserved g c =
@@ -52,8 +52,7 @@ loop-k-preserved g c =
     let added : (i : ℕ) → i < length c.loop-k.c → f (get_or c.add_multiple.new.c i z) ≡ R.add
     (f (get_or c.loop-k.c i z)) (R.mul (f c.mul-factor.result)
     (lane_value R f (lane_of a.pattern k) (values_of a k) i)) =
-    rw (← c.cs_data.ensures.offsets, ← c.cs_data.ensures.indices, ← c.cs_data.ensures.values)
-    c.add_multiple.ensures in
+    rw (c.lane_slices.ensures.indices, c.lane_slices.ensures.values) at c.add_multiple.ensures in
     λ i lt.
     let inside : i < length c.loop-k.c = omega (arith, lt, c.add_multiple.auto.c) in
     term_more R k (λ k. (plain_of_rows R f a).value k i) (strided R f z x c.args.step)
@@ -61,5 +60,5 @@ loop-k-preserved g c =
     (f (get_or c.loop-k.c i z)) (f (get_or c.add_multiple.new.c i z)) (f c.mul-factor.result)
     (c.loop-k.invariant i inside)
     (added i inside ∙ ap (λ v. R.add (f (get_or c.loop-k.c i z)) (R.mul (f c.mul-factor.result) v))
-    (lane_value_is R f z a c.cs_data.ensures.sound k lane i))
+    (lane_value_is R f z a c.lane_slices.ensures.sound k lane i))
     (c.mul-factor.ensures ∙ ap (R.mul (f c.args.alpha)) (ap f read))

@@ -10,33 +10,24 @@ loop-at-init g c = record {
       (ap g.T.Ring.value c.zero-sum.ensures ∙ g.met.T.Ring.zero_law);
 }
 
-pub bounds-x-rows : goal.bounds-x-rows
-bounds-x-rows g c = inside_at c.args.rows.now c.args.begin c.loop-at.at c.args.end
+pub add_term-sum-requires : goal.add_term-sum-requires
+add_term-sum-requires g c = inside_at c.args.rows.now c.args.begin c.loop-at.at c.args.end
     (length c.args.x.now) c.loop-at.invariant.order c.loop-at-test.true c.requires.range.1
     c.requires.inside
-
-pub offset_bounds-x-rows : goal.offset_bounds-x-rows
-offset_bounds-x-rows g c = omega (arith, bounds-x-rows g c)
 
 pub loop-at-preserved : goal.loop-at-preserved
 loop-at-preserved g c =
     let R = g.T.Ring.ring in
     let f = g.T.Ring.value in
     let z = g.T.Zero.zero_value in
-    let rows = c.args.rows.now in
-    let values = c.args.values.now in
-    let x = c.args.x.now in
-    let at = c.loop-at.at in
     let was = c.loop-at.invariant in
-    let within = inside_at rows c.args.begin at c.args.end (length x) was.order
-    c.loop-at-test.true c.requires.range.1 c.requires.inside in
     record {
       order = omega (arith, was.order);
-      sum = dot_more R f z rows values c.args.begin at c.index-values-at.result was.order
+      sum = dot_more R f z c.args.rows.now c.args.values.now c.args.begin c.loop-at.at
+          c.index-values-at.result was.order
           (omega (arith, c.loop-at-test.true, c.requires.range.1))
-          (omega (arith, c.loop-at-test.true, c.requires.range.2)) c.index-values-at.is x within
-          c.index-x-rows.result c.index-x-rows.is c.loop-at.sum c.mul.result c.add-sum.result
-          was.sum c.mul.ensures c.add-sum.ensures;
+          (omega (arith, c.loop-at-test.true, c.requires.range.2)) c.index-values-at.is
+          c.args.x.now c.loop-at.sum c.add_term-sum.result was.sum c.add_term-sum.ensures;
     }
 
 pub returns : goal.returns

@@ -1,5 +1,4 @@
-use Rattle.std.proofs.Common.{◌≡◌, ◌<◌, length, get_or, arith}
-use Rattle.sparse_cs.proofs.RowSums.{offset_fits}
+use Rattle.std.proofs.Common.{◌≡◌, length, arith}
 use Rattle.sparse_solve.proofs.EntrySteps.{inside_at, off_none, off_more, off_all}
 use Rattle.sparse_solve.proofs.kernels.take_off.Goals as goal
 
@@ -11,8 +10,8 @@ loop-at-init g c = record {
       c.args.begin c.args.x.now;
 }
 
-pub bounds-x-rows : goal.bounds-x-rows
-bounds-x-rows g c =
+pub take_term-requires : goal.take_term-requires
+take_term-requires g c =
     omega (
       arith,
       inside_at c.args.rows.now c.args.begin c.loop-at.at c.args.end (length c.args.x.now)
@@ -20,33 +19,23 @@ bounds-x-rows g c =
       c.loop-at.auto.x,
     )
 
-pub offset_bounds-x-rows : goal.offset_bounds-x-rows
-offset_bounds-x-rows g c =
-    let within : get_or c.args.rows.now c.loop-at.at 0 < length c.args.x.now = omega (
-      arith,
-      inside_at c.args.rows.now c.args.begin c.loop-at.at c.args.end (length c.args.x.now)
-          c.loop-at.invariant.order c.loop-at-test.true c.requires.range.1 c.requires.inside,
-    ) in
-    offset_fits _ _ _ within c.well_formed.1.1.1.1.1.0.1
-
 pub loop-at-preserved : goal.loop-at-preserved
 loop-at-preserved g c =
     let R = g.T.Ring.ring in
     let f = g.T.Ring.value in
     let z = g.T.Zero.zero_value in
     let rows = c.args.rows.now in
-    let values = c.args.values.now in
     let at = c.loop-at.at in
     let was = c.loop-at.invariant in
     let inside = inside_at rows c.args.begin at c.args.end (length c.args.x.now) was.order
     c.loop-at-test.true c.requires.range.1 c.requires.inside in
     record {
       order = omega (arith, was.order);
-      taken = off_more R f z rows values c.args.begin at c.index-values-at.result was.order
-          (omega (arith, c.loop-at-test.true, c.requires.range.1))
+      taken = off_more R f z rows c.args.values.now c.args.begin at c.index-values-at.result
+          was.order (omega (arith, c.loop-at-test.true, c.requires.range.1))
           (omega (arith, c.loop-at-test.true, c.requires.range.2)) c.index-values-at.is
-          c.loop-at.x c.args.x.now c.index-x-rows.result c.args.factor c.mul.result c.neg.result
-          c.add.result inside c.loop-at.auto.x c.mul.ensures c.neg.ensures c.add.ensures was.taken;
+          c.loop-at.x c.args.x.now c.take_term.new.x c.args.factor inside c.loop-at.auto.x
+          c.take_term.ensures.written c.take_term.ensures.value was.taken;
     }
 
 pub returns : goal.returns

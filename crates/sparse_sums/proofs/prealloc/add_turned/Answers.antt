@@ -71,3 +71,14 @@ returns-clause-added g c =
     c.major_offsets.ensures.valid true (g.T.Ring.value c.args.alpha) c.args.a.now
     c.loop-i.i-iterator c.args.values.now c.loop-i.values c.in-None.ensures.steps.0
     c.loop-i.invariant
+
+pub bounds-values-at : goal.bounds-values-at
+bounds-values-at g c = omega (
+  arith,
+  c.in-Some-position_of.ensures.within,
+  c.requires.count,
+  c.loop-i.invariant.count,
+)
+
+pub returns-clause-count : goal.returns-clause-count
+returns-clause-count g c = c.loop-i.invariant.count

@@ -5,7 +5,8 @@ abbrev pub invariant-loop-p : goal.invariant-loop-p
 invariant-loop-p l = record {
   first : l.p ≤ length l.a;
   second : l.q ≤ length l.b;
-  most : l.shared ≤ l.p;
+  passed : l.steps ≤ l.p + l.q;
+  most : l.q ≤ l.steps;
 }
 
 abbrev pub decreases-loop-p : goal.decreases-loop-p

@@ -1,0 +1,12 @@
+use Rattle.sparse_cs.proofs.CsMatrix.lane.Goals as goal
+
+pub returns : goal.returns
+returns g c = rw (
+  c.new.ensures,
+  c.minor_dim.ensures,
+  c.of_lane.ensures,
+  c.lane_bounds-begin.ensures.start,
+  c.lane_bounds-begin.ensures.end,
+  c.values.ensures.values,
+  c.pattern-pattern.ensures.pattern,
+)
