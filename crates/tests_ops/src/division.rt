@@ -43,7 +43,11 @@ fn rows_divided<T: Scalar + Units>(alloc: Global, divisor: i32, want: &[T]) -> R
 }
 
 // The same of the transposed quotient, by columns.
-fn columns_divided<T: Scalar + Units>(alloc: Global, divisor: i32, want: &[T]) -> Result<bool, Fail> {
+fn columns_divided<T: Scalar + Units>(
+    alloc: Global,
+    divisor: i32,
+    want: &[T],
+) -> Result<bool, Fail> {
     let mut a = matrix::<T>(alloc)?.transpose_as_csc();
     let quotient = div_scalar_csc(alloc, &a, T::of(divisor))?;
     let divided = div_scalar_mut_csc(&mut a, T::of(divisor)).is_ok();

@@ -63,7 +63,16 @@ pub type Rows<'a> = (usize, &'a [usize], &'a [usize], &'a [i32]);
 /// The CSR matrix of these rows.
 pub fn matrix<T: Scalar>(alloc: Global, rows: Rows<'_>) -> Result<CsrMatrix<T>, Fail> {
     let (ncols, offsets, columns, numbers) = rows;
-    csr(alloc, (offsets.len().saturating_sub(1), ncols, offsets, columns, numbers))
+    csr(
+        alloc,
+        (
+            offsets.len().saturating_sub(1),
+            ncols,
+            offsets,
+            columns,
+            numbers,
+        ),
+    )
 }
 
 /// The dense matrix of this size with these values, column by column.

@@ -42,10 +42,7 @@ fn holds<T: Scalar>(matrix: &CsrMatrix<T>, (ncols, offsets, columns, numbers): R
 }
 
 // Whether the product of the first two matrices is the third, and its pattern that of the third.
-fn is_product<T: Scalar>(
-    alloc: Global,
-    [left, right, want]: [Rows<'_>; 3],
-) -> Result<bool, Fail> {
+fn is_product<T: Scalar>(alloc: Global, [left, right, want]: [Rows<'_>; 3]) -> Result<bool, Fail> {
     let a = matrix::<T>(alloc, left)?;
     let b = matrix::<T>(alloc, right)?;
     Ok(has_columns(alloc, &a, &b, want.2)? && holds(&product(alloc, &a, &b)?, want))
