@@ -1,3 +1,5 @@
+use Rattle.std.proofs.Common.{arith}
+use Rattle.std.proofs.lemmas.Grind.{elements}
 use Rattle.sparse_cs.proofs.CsMatrix.lane.Goals as goal
 
 pub returns : goal.returns
@@ -10,3 +12,6 @@ returns g c = rw (
   c.values.ensures.values,
   c.pattern-pattern.ensures.pattern,
 )
+
+pub new-requires : goal.new-requires
+new-requires g c = grind (arith, elements)

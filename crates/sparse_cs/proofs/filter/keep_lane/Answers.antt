@@ -34,3 +34,6 @@ returns g c =
     let values : take c.loop-at.at c.args.values.now ≡ c.args.values.now =
     grind (arith, common_steps) in
     rw (indices, values) at c.loop-at.invariant
+
+pub loop-at-init : goal.loop-at-init
+loop-at-init g c = grind (arith, common_steps)

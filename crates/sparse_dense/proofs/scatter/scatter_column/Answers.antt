@@ -1,3 +1,4 @@
+use Rattle.std.proofs.lemmas.Grind.{common_steps}
 use Rattle.std.proofs.Common.{◌≡◌, ◌*◌, ◌<◌, ℕ, length, get_or, ap, sym, ◌∙◌, arith}
 use Rattle.std.proofs.lemmas.List.{get_or_default}
 use Rattle.sparse_algebra.proofs.RingLemmas.{mul_zero}
@@ -62,3 +63,6 @@ loop-k-preserved g c =
     (added i inside ∙ ap (λ v. R.add (f (get_or c.loop-k.c i z)) (R.mul (f c.mul-factor.result) v))
     (lane_value_is R f z a c.lane_slices.ensures.sound k lane i))
     (c.mul-factor.ensures ∙ ap (R.mul (f c.args.alpha)) (ap f read))
+
+pub returns : goal.returns
+returns g c = grind (arith, common_steps)

@@ -1,3 +1,4 @@
+use Rattle.std.proofs.lemmas.Grind.{common_steps}
 use Rattle.std.proofs.Common.{◌+◌, ◌≤◌, arith}
 use Rattle.sparse_algebra.specs.Plain.{plain_product}
 use Rattle.sparse_cs.specs.PlainOfLanes.{plain_of_rows}
@@ -21,3 +22,12 @@ loop-j-preserved g c =
           c.loop-j.j c.width_of_block-width.result product.value c.args.c.now c.loop-j.c
           c.update_block.new.c c.requires.count room c.loop-j.invariant.done c.update_block.ensures;
     }
+
+pub offset_bounds-c-j : goal.offset_bounds-c-j
+offset_bounds-c-j g c = grind (arith, common_steps)
+
+pub overflow_mul-columns-in-loop-j : goal.overflow_mul-columns-in-loop-j
+overflow_mul-columns-in-loop-j g c = grind (arith, common_steps)
+
+pub slice_bounds-columns-end : goal.slice_bounds-columns-end
+slice_bounds-columns-end g c = grind (arith, common_steps)

@@ -1,3 +1,4 @@
+use Rattle.std.proofs.lemmas.Grind.{common_steps}
 use Rattle.std.proofs.Common.{◌-◌, length, slice_range, arith}
 use Rattle.sparse_solve.specs.InnerColumns.{lower}
 use Rattle.sparse_solve.proofs.Taking.{backward_begun, backward_list, backward_solved}
@@ -43,3 +44,6 @@ pub returns : goal.returns
 returns g c = backward_solved g.T.Ring.ring g.T.Ring.value g.T.Zero.zero_value
     (lower g.T.Ring.ring g.T.Ring.value c.args.l.now) c.loop-step.step c.args.x.now c.loop-step.x
     (omega arith) c.loop-step.invariant
+
+pub offset_bounds-x-k : goal.offset_bounds-x-k
+offset_bounds-x-k g c = grind (arith, common_steps)

@@ -1,3 +1,4 @@
+use Rattle.std.proofs.lemmas.Grind.{elements}
 use Rattle.std.proofs.Common.{slice_range, arith}
 use Rattle.sparse_solve.specs.InnerColumns.{lower}
 use Rattle.sparse_solve.proofs.Taking.{forward_list, forward_solved}
@@ -44,3 +45,6 @@ returns g c =
     let z = g.T.Zero.zero_value in
     forward_solved R f z (lower R f c.args.l.now) c.loop-k.k c.args.x.now c.loop-k.x (omega arith)
     c.loop-k.invariant
+
+pub loop-k-init : goal.loop-k-init
+loop-k-init g c = grind (arith, elements)

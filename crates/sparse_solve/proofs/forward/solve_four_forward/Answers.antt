@@ -1,3 +1,4 @@
+use Rattle.std.proofs.lemmas.Grind.{common_steps}
 use Rattle.std.proofs.Common.{slice_range, arith}
 use Rattle.sparse_solve.specs.InnerColumns.{lower}
 use Rattle.sparse_solve.proofs.Taking.{forward_list, forward_solved}
@@ -61,3 +62,6 @@ returns g c =
       third = solved c.args.third.now was.third (omega arith) was.invariant.third;
       fourth = solved c.args.fourth.now was.fourth (omega arith) was.invariant.fourth;
     }
+
+pub loop-k-init : goal.loop-k-init
+loop-k-init g c = grind (arith, common_steps)

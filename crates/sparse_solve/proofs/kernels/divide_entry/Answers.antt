@@ -4,3 +4,6 @@ use Rattle.sparse_solve.proofs.kernels.divide_entry.Goals as goal
 
 pub returns-clause-value : goal.returns-clause-value
 returns-clause-value g c = grind (arith, common_steps)
+
+pub returns-clause-written : goal.returns-clause-written
+returns-clause-written g c = grind (arith, common_steps)

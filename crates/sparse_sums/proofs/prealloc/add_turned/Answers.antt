@@ -1,3 +1,4 @@
+use Rattle.std.proofs.lemmas.Grind.{common_steps}
 use Rattle.std.proofs.Common.{◌≡◌, ◌<◌, length, get_or, true, ap, refl, sym, ◌∙◌, None, Some, rules}
 use Rattle.std.proofs.Common.{arith}
 use Rattle.std.proofs.lemmas.List.{get_or_default}
@@ -82,3 +83,9 @@ bounds-values-at g c = omega (
 
 pub returns-clause-count : goal.returns-clause-count
 returns-clause-count g c = c.loop-i.invariant.count
+
+pub offset_bounds-values-at : goal.offset_bounds-values-at
+offset_bounds-values-at g c = grind (arith, common_steps)
+
+pub offset_bounds-values-at-in-Some-position_of : goal.offset_bounds-values-at-in-Some-position_of
+offset_bounds-values-at-in-Some-position_of g c = grind (arith, common_steps)

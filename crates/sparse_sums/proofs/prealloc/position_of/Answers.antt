@@ -1,3 +1,4 @@
+use Rattle.std.proofs.lemmas.Grind.{elements}
 use Rattle.std.proofs.Common.{◌+◌, sym, ap, ◌∙◌, arith}
 use Rattle.std.specs.Prelude.{option_map}
 use Rattle.sparse_pattern.specs.Raw.{start_of}
@@ -16,3 +17,6 @@ returns-in-Some c =
           (sym (ap (option_map (λ k. start_of d lane + k)) found));
       within = rw c.major_offsets.ensures.offsets (omega (arith, within, valid.inside));
     }
+
+pub overflow_add-result : goal.overflow_add-result
+overflow_add-result c = grind (arith, elements)

@@ -1,4 +1,5 @@
-use Rattle.std.proofs.Common.{ap, ◌∙◌}
+use Rattle.std.proofs.lemmas.Grind.{common_steps}
+use Rattle.std.proofs.Common.{ap, ◌∙◌, arith}
 use Rattle.sparse_cs.specs.PlainOfLanes.{plain_of_rows}
 use Rattle.sparse_op.specs.declared.error.OperationErrorKind.TheVariants.{InvalidPattern}
 use Rattle.sparse_op.specs.declared.error.OperationErrorKind.TheVariants.{OutOfMemory}
@@ -49,3 +50,6 @@ returns-clause-updated g c =
     (f c.args.beta) (f c.args.alpha) c.update_matrix_checked.new.values
     c.update_matrix_checked.result c.update_matrix_checked.auto.values
     c.update_matrix_checked.ensures.updated
+
+pub returns-clause-unchanged : goal.returns-clause-unchanged
+returns-clause-unchanged g c = grind (arith, common_steps)

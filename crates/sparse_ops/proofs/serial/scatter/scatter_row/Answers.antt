@@ -1,3 +1,4 @@
+use Rattle.std.proofs.lemmas.Grind.{common_steps}
 use Rattle.std.proofs.Common.{◌≡◌, ◌+◌, ◌-◌, ◌<◌, ◌≤◌, inl, inr, length, get_or, sym, ◌∙◌}
 use Rattle.std.proofs.Common.{slice_range, ap, subst, All, arith}
 use Rattle.std.specs.List.Sorted.{IsStrictlyIncreasing}
@@ -94,3 +95,6 @@ returns g c =
       ]);
       counted = omega (arith, counted, lane_long, in_lane.ordered);
     }
+
+pub offset_bounds-values-begin : goal.offset_bounds-values-begin
+offset_bounds-values-begin g c = grind (arith, common_steps)

@@ -1,4 +1,5 @@
-use Rattle.std.proofs.Common.{◌≡◌, ap, sym, ◌∙◌}
+use Rattle.std.proofs.lemmas.Grind.{common_steps}
+use Rattle.std.proofs.Common.{◌≡◌, ap, sym, ◌∙◌, arith}
 use Rattle.sparse_algebra.specs.Plain.{Plain}
 use Rattle.sparse_cs.specs.PlainOfLanes.{plain_of_cols}
 use Rattle.sparse_ops.proofs.Updating.{cols_covered, cols_written}
@@ -38,3 +39,7 @@ returns-clause-updated g c =
     c.pattern_and_values_mut-values.ensures.values fits _ _ is_first is_second
     (f c.args.beta) (f c.args.alpha) c.update_matrix.new.values c.update_matrix.auto.values
     c.in_ok-update_matrix.ensures.updated
+
+pub returns-in_err-update_matrix-clause-unchanged :
+    goal.returns-in_err-update_matrix-clause-unchanged
+returns-in_err-update_matrix-clause-unchanged g c = grind (arith, common_steps)

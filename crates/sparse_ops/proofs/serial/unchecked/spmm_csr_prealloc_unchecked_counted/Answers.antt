@@ -1,4 +1,5 @@
-use Rattle.std.proofs.Common.{ap, ◌∙◌}
+use Rattle.std.proofs.lemmas.Grind.{common_steps}
+use Rattle.std.proofs.Common.{ap, ◌∙◌, arith}
 use Rattle.sparse_cs.specs.PlainOfLanes.{plain_of_rows}
 use Rattle.sparse_ops.proofs.Updating.{rows_covered, rows_written}
 use Rattle.sparse_ops.proofs.serial.unchecked.spmm_csr_prealloc_unchecked_counted.Goals as goal
@@ -31,3 +32,7 @@ returns-clause-updated g c =
     c.pattern_and_values_mut-values.ensures.values _ _ is_first is_second
     (f c.args.beta) (f c.args.alpha) c.update_matrix.new.values c.update_matrix.auto.values
     c.in_ok-update_matrix.ensures.updated
+
+pub returns-in_err-update_matrix-clause-unchanged :
+    goal.returns-in_err-update_matrix-clause-unchanged
+returns-in_err-update_matrix-clause-unchanged g c = grind (arith, common_steps)

@@ -7,3 +7,6 @@ invariant_of-result c = grind (arith, common_steps)
 
 pub returns-clause-is : goal.returns-clause-is
 returns-clause-is c = search rules
+
+pub returns-clause-valid : goal.returns-clause-valid
+returns-clause-valid c = grind (arith, common_steps)
