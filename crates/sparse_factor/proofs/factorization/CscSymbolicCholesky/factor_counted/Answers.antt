@@ -1,4 +1,5 @@
-use Rattle.std.proofs.Common.{rules}
+use Rattle.std.proofs.lemmas.Grind.{common_steps}
+use Rattle.std.proofs.Common.{rules, arith}
 use Rattle.sparse_factor.specs.Fill.{UpperBase}
 use Rattle.sparse_factor.proofs.FactorLaws.{stores_fill, stores_walks, stores_diagonal, upper_low}
 use Rattle.sparse_factor.proofs.factorization.CscSymbolicCholesky.factor_counted.Goals as goal
@@ -43,3 +44,6 @@ returns-clause-diagonal c =
 
 pub returns-clause-input : goal.returns-clause-input
 returns-clause-input c = search rules
+
+pub returns-clause-no_more : goal.returns-clause-no_more
+returns-clause-no_more c = grind (arith, common_steps)

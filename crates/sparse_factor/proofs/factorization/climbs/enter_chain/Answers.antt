@@ -1,4 +1,5 @@
-use Rattle.std.proofs.Common.{map, set, ap, ◌∙◌}
+use Rattle.std.proofs.lemmas.Grind.{common_steps}
+use Rattle.std.proofs.Common.{map, set, ap, ◌∙◌, arith}
 use Rattle.std.proofs.lemmas.List.{map-set}
 use Rattle.sparse_factor.proofs.factorization.climbs.enter_chain.Goals as goal
 
@@ -7,3 +8,9 @@ returns-clause-marks g c =
     let f = g.C.Count.number in
     map-set f c.args.marks.now c.args.chain c.of.result
     ∙ ap (set (map f c.args.marks.now) c.args.chain) c.of.ensures
+
+pub returns-clause-nodes : goal.returns-clause-nodes
+returns-clause-nodes g c = grind (arith, common_steps)
+
+pub returns-clause-rows : goal.returns-clause-rows
+returns-clause-rows g c = grind (arith, common_steps)

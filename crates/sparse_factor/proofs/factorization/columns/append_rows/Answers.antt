@@ -1,3 +1,4 @@
+use Rattle.std.proofs.lemmas.Grind.{common_steps}
 use Rattle.std.proofs.Common.{◌≡◌, ◌+◌, ◌++◌, ◌∷◌, [], map, take, ap, sym, ◌∙◌, append_assoc, arith}
 use Rattle.std.proofs.lemmas.List.{length-map, take_more}
 use Rattle.sparse_factor.proofs.LatestColumns.{number_at}
@@ -28,3 +29,6 @@ loop-row-preserved g c =
         c.loop-row-test.true,
       );
     }
+
+pub returns : goal.returns
+returns g c = grind (arith, common_steps)
