@@ -5,6 +5,3 @@ pub mod SumLanes
 pub mod Placing
 pub mod InOrder
 pub mod Updating
-pub mod Pushing
-pub mod Fronts
-pub mod Sampling

@@ -1,10 +1,10 @@
 //! Two lanes of entries, merged into one.
 
-ghost use Rattle.std.specs.Prelude.{◌≡◌, ℕ, ◌+◌, ◌-◌, ◌<◌, ◌≤◌, ◌⊎◌, ◌++◌, length, drop, vec_len, Contains, OnOk};
+ghost use Rattle.std.specs.Prelude.{◌≡◌, ℕ, ◌+◌, ◌-◌, ◌<◌, ◌≤◌, ◌⊎◌, ◌++◌, length, vec_len, vec_capacity, Contains, OnOk};
 ghost use Rattle.std.specs.List.Sorted.{IsStrictlyIncreasing};
 ghost use Rattle.sparse_cs.specs.InnerRows.{lane_value};
 ghost use Rattle.sparse_sums.specs.InnerSigns.{signed};
-ghost use Rattle.sparse_sums.specs.InnerAdding.{HaveRoom, GainsValues, GainsEntries, IsAdding};
+ghost use Rattle.sparse_sums.specs.InnerAdding.{GainsValues, GainsEntries, IsAdding};
 
 use sparse_algebra::scalar::Ring;
 use std::alloc::AllocError;
@@ -16,46 +16,27 @@ fn with_sign<T: Ring, const NEGATE: bool>(value: T) -> T
     if NEGATE { value.neg() } else { value }
 }
 
-// Returns 1 if `j <= k`, else 0.
-pub(crate) fn passes(j: usize, k: usize) -> usize
-    ensures yes { j ≤ k → result ≡ 1 }
-    ensures no { k < j → result ≡ 0 }
-    ensures most { result ≤ 1 }
-{
-    usize::from(j <= k)
-}
-
-// Reserves room for `count` more entries.
-fn reserve<T>(indices: &mut Vec<usize>, values: &mut Vec<T>, count: usize) -> Result<(), AllocError>
-    requires { vec_len values.old ≡ vec_len indices.old }
-    ensures indices { indices.new.items ≡ indices.old.items }
-    ensures values { values.new.items ≡ values.old.items }
-    ensures room { OnOk result (HaveRoom count indices.new values.new) }
-{
-    indices.reserve(count)?;
-    values.reserve(count)
-}
-
-// Appends the entries of a lane from a position on, each value with its sign.
+// Appends entries, each value with its sign.
 fn push_rest<T: Ring, const NEGATE: bool>(
-    lane: &[usize],
-    lane_values: &[T],
-    from: usize,
+    rest: &[usize],
+    rest_values: &[T],
     indices: &mut Vec<usize>,
     values: &mut Vec<T>,
 )
-    requires count { length lane_values.now ≡ length lane.now }
-    requires within { from ≤ length lane.now }
-    requires room { HaveRoom (length lane.now - from) indices.old values.old }
-    ensures room { (n : ℕ) → HaveRoom (length lane.now - from + n) indices.old values.old
-        → HaveRoom n indices.new values.new }
-    ensures indices { indices.new.items ≡ indices.old.items ++ drop from lane.now }
+    requires count { length rest_values.now ≡ length rest.now }
+    requires room { vec_len indices.old + length rest.now ≤ vec_capacity indices.old }
+    requires values_room { vec_len values.old + length rest.now ≤ vec_capacity values.old }
+    ensures capacity { vec_capacity indices.new ≡ vec_capacity indices.old }
+    ensures values_capacity { vec_capacity values.new ≡ vec_capacity values.old }
+    ensures len { vec_len indices.new ≡ vec_len indices.old + length rest.now }
+    ensures values_len { vec_len values.new ≡ vec_len values.old + length rest.now }
+    ensures indices { indices.new.items ≡ indices.old.items ++ rest.now }
     ensures values { GainsValues T.ring T.value (λ x. signed T.ring NEGATE (T.value x))
-        values.old.items values.new.items (drop from lane_values.now) }
+        values.old.items values.new.items rest_values.now }
 {
-    for k in from..lane.len() {
-        indices.push_reserved(lane[k]);
-        values.push_reserved(with_sign::<T, NEGATE>(lane_values[k]));
+    for k in 0..rest.len() {
+        indices.push_reserved(rest[k]);
+        values.push_reserved(with_sign::<T, NEGATE>(rest_values[k]));
     }
 }
 
@@ -80,10 +61,12 @@ pub(crate) fn add_lanes<T: Ring, const NEGATE: bool>(
         (λ j. T.ring.add (lane_value T.ring T.value a.now a_values.now j)
         (lane_value T.ring (λ x. signed T.ring NEGATE (T.value x)) b.now b_values.now j))) }
 {
-    reserve(indices, values, a.len() + b.len())?;
+    let most = a.len() + b.len();
+    indices.reserve(most)?;
+    values.reserve(most)?;
     let (p, q) = add_fronts::<T, NEGATE>(a, a_values, b, b_values, indices, values);
-    push_rest::<T, false>(a, a_values, p, indices, values);
-    push_rest::<T, NEGATE>(b, b_values, q, indices, values);
+    push_rest::<T, false>(&a[p..], &a_values[p..], indices, values);
+    push_rest::<T, NEGATE>(&b[q..], &b_values[q..], indices, values);
     Ok(())
 }
 
@@ -118,12 +101,17 @@ fn add_fronts<T: Ring, const NEGATE: bool>(
     requires b_count { length b_values.now ≡ length b.now }
     requires a_rising { IsStrictlyIncreasing a.now }
     requires b_rising { IsStrictlyIncreasing b.now }
-    requires room { HaveRoom (length a.now + length b.now) indices.old values.old }
+    requires count { vec_len values.old ≡ vec_len indices.old }
+    requires room { vec_len indices.old + (length a.now + length b.now) ≤ vec_capacity indices.old }
+    requires values_room { vec_len values.old + (length a.now + length b.now)
+        ≤ vec_capacity values.old }
+    ensures capacity { vec_capacity indices.new ≡ vec_capacity indices.old }
+    ensures values_capacity { vec_capacity values.new ≡ vec_capacity values.old }
+    ensures count { vec_len values.new ≡ vec_len indices.new }
     ensures first { result.0 ≤ length a.now }
     ensures second { result.1 ≤ length b.now }
+    ensures len { vec_len indices.new ≤ vec_len indices.old + (result.0 + result.1) }
     ensures end { (result.0 ≡ length a.now) ⊎ (result.1 ≡ length b.now) }
-    ensures room { HaveRoom (length a.now - result.0 + (length b.now - result.1)) indices.new
-        values.new }
     ensures added { IsAdding T.ring T.value (λ x. signed T.ring NEGATE (T.value x))
         indices.old.items indices.new.items values.old.items values.new.items
         a.now a_values.now b.now b_values.now result.0 result.1 }
@@ -134,8 +122,12 @@ fn add_fronts<T: Ring, const NEGATE: bool>(
         let value = with_sign::<T, NEGATE>(b_values[q]);
         indices.push_reserved(j.min(k));
         values.push_reserved(front_value(j, a_values[p], k, value));
-        p += passes(j, k);
-        q += passes(k, j);
+        if j <= k {
+            p += 1;
+        }
+        if k <= j {
+            q += 1;
+        }
     }
     (p, q)
 }

@@ -2,7 +2,6 @@
 
 ghost use Rattle.std.specs.Prelude.{◌≡◌, ◌+◌, ◌≤◌, length};
 
-use crate::merge::passes;
 use sparse_pattern::pattern::SparsityPattern;
 
 // How many pairs of lanes are compared.
@@ -17,7 +16,16 @@ pub(crate) fn union_room(a: &SparsityPattern, b: &SparsityPattern) -> usize
     ensures most { result ≤ length a.now.indices + length b.now.indices }
 {
     let both = a.minor_indices().len() + b.minor_indices().len();
-    let (seen, shared) = sample(a, b);
+    let step = a.major_dim() / SAMPLED_LANES;
+    if step == 0 {
+        return both;
+    }
+    let (mut seen, mut shared): (usize, usize) = (0, 0);
+    for k in 0..SAMPLED_LANES {
+        let (lane, other) = (a.lane(k * step), b.lane(k * step));
+        seen = seen.saturating_add(lane.len() + other.len());
+        shared = shared.saturating_add(shared_count(lane, other));
+    }
     if seen == 0 {
         return both;
     }
@@ -25,37 +33,22 @@ pub(crate) fn union_room(a: &SparsityPattern, b: &SparsityPattern) -> usize
     both.saturating_sub(spared - spared / 8)
 }
 
-// Returns how many indices some pairs of lanes have, and how many of them are shared. It compares
-// no pair where there are few lanes.
-fn sample(a: &SparsityPattern, b: &SparsityPattern) -> (usize, usize)
-    requires { a.now.major_dim ≡ b.now.major_dim }
-    ensures { result.1 ≤ result.0 }
-{
-    let step = a.major_dim() / SAMPLED_LANES;
-    if step == 0 {
-        return (0, 0);
-    }
-    let (mut seen, mut shared): (usize, usize) = (0, 0);
-    for k in 0..SAMPLED_LANES {
-        let i = k * step;
-        let (lane, other) = (a.lane(i), b.lane(i));
-        seen = seen.saturating_add(lane.len() + other.len());
-        shared = shared.saturating_add(shared_count(lane, other));
-    }
-    (seen, shared)
-}
-
 // Returns the number of indices that both lanes have. No branch depends on an index.
 fn shared_count(a: &[usize], b: &[usize]) -> usize
     ensures { result ≤ length a.now }
 {
-    let (mut p, mut q, mut steps) = (0, 0, 0);
+    let (mut p, mut q, mut shared) = (0, 0, 0);
     while p < a.len() && q < b.len() {
         let (j, k) = (a[p], b[q]);
-        p += passes(j, k);
-        q += passes(k, j);
-        steps += 1;
+        if j == k {
+            shared += 1;
+        }
+        if j <= k {
+            p += 1;
+        }
+        if k <= j {
+            q += 1;
+        }
     }
-    // A step passes one index, or both if they are equal.
-    p + q - steps
+    shared
 }

@@ -1,35 +1,77 @@
-use Rattle.std.proofs.Common.{not, eqb, ℕ, List, ◌-◌, ◌++◌, length, drop, Contains, ◌⊎◌, subst}
-use Rattle.std.proofs.Common.{sym, ap, ◌∙◌, arith}
+use Rattle.std.proofs.Common.{not, eqb, ◌++◌, length, drop, Contains, ◌⊎◌, subst, sym, ap, ◌∙◌}
+use Rattle.std.proofs.Common.{arith}
+use Rattle.std.proofs.lemmas.List.{take_rest, length-drop}
 use Rattle.sparse_cs.specs.InnerRows.{lane_value}
 use Rattle.sparse_sums.specs.InnerSigns.{signed}
-use Rattle.sparse_sums.specs.InnerAdding.{GainsEntries}
+use Rattle.sparse_sums.specs.InnerAdding.{GainsValues, GainsEntries}
 use Rattle.sparse_sums.proofs.Adding.{rest_added}
-use Rattle.sparse_sums.proofs.Pushing.{less_room}
 use Rattle.sparse_sums.proofs.merge.add_lanes.Goals as goal
 
-pub add_fronts-p-requires-clause-room : goal.add_fronts-p-requires-clause-room
-add_fronts-p-requires-clause-room g c = c.in_ok-reserve.ensures.room
-
-pub push_rest-requires-clause-count : goal.push_rest-requires-clause-count
-push_rest-requires-clause-count g c = c.requires.a_count
-
-pub push_rest-requires-clause-within : goal.push_rest-requires-clause-within
-push_rest-requires-clause-within g c = c.add_fronts-p.ensures.first
-
 pub push_rest-requires-clause-room : goal.push_rest-requires-clause-room
-push_rest-requires-clause-room g c =
-    less_room _ _ _ _ (omega arith) c.add_fronts-p.ensures.room
+push_rest-requires-clause-room g c = rw take_rest
+    (omega (
+      arith,
+      length-drop c.add_fronts-p.result.0 c.args.a.now,
+      c.add_fronts-p.ensures.len,
+      c.add_fronts-p.ensures.capacity,
+      c.in_ok-reserve.ensures.ok,
+      c.in_ok-reserve-2.ensures.ok,
+      c.reserve.ensures.len,
+      c.reserve-2.ensures.len,
+      c.requires.count,
+    ))
 
-pub push_rest-requires-2-clause-count : goal.push_rest-requires-2-clause-count
-push_rest-requires-2-clause-count g c = c.requires.b_count
-
-pub push_rest-requires-2-clause-within : goal.push_rest-requires-2-clause-within
-push_rest-requires-2-clause-within g c = c.add_fronts-p.ensures.second
+pub push_rest-requires-clause-values_room : goal.push_rest-requires-clause-values_room
+push_rest-requires-clause-values_room g c = rw take_rest
+    (omega (
+      arith,
+      length-drop c.add_fronts-p.result.0 c.args.a.now,
+      c.add_fronts-p.ensures.len,
+      c.add_fronts-p.ensures.count,
+      c.add_fronts-p.ensures.values_capacity,
+      c.in_ok-reserve.ensures.ok,
+      c.in_ok-reserve-2.ensures.ok,
+      c.reserve.ensures.len,
+      c.reserve-2.ensures.len,
+      c.requires.count,
+    ))
 
 pub push_rest-requires-2-clause-room : goal.push_rest-requires-2-clause-room
-push_rest-requires-2-clause-room g c =
-    c.push_rest.ensures.room (length c.args.b.now - c.add_fronts-p.result.1)
-    c.add_fronts-p.ensures.room
+push_rest-requires-2-clause-room g c = rw take_rest
+    (omega (
+      arith,
+      length-drop c.add_fronts-p.result.1 c.args.b.now,
+      ap length (take_rest c.args.a.now c.add_fronts-p.result.0),
+      length-drop c.add_fronts-p.result.0 c.args.a.now,
+      c.add_fronts-p.ensures.len,
+      c.add_fronts-p.ensures.capacity,
+      c.push_rest.ensures.len,
+      c.push_rest.ensures.capacity,
+      c.in_ok-reserve.ensures.ok,
+      c.in_ok-reserve-2.ensures.ok,
+      c.reserve.ensures.len,
+      c.reserve-2.ensures.len,
+      c.requires.count,
+    ))
+
+pub push_rest-requires-2-clause-values_room : goal.push_rest-requires-2-clause-values_room
+push_rest-requires-2-clause-values_room g c = rw take_rest
+    (omega (
+      arith,
+      length-drop c.add_fronts-p.result.1 c.args.b.now,
+      ap length (take_rest c.args.a.now c.add_fronts-p.result.0),
+      length-drop c.add_fronts-p.result.0 c.args.a.now,
+      c.add_fronts-p.ensures.len,
+      c.add_fronts-p.ensures.count,
+      c.add_fronts-p.ensures.values_capacity,
+      c.push_rest.ensures.values_len,
+      c.push_rest.ensures.values_capacity,
+      c.in_ok-reserve.ensures.ok,
+      c.in_ok-reserve-2.ensures.ok,
+      c.reserve.ensures.len,
+      c.reserve-2.ensures.len,
+      c.requires.count,
+    ))
 
 pub returns : goal.returns
 returns g c =
@@ -45,18 +87,22 @@ returns g c =
     let now = c.add_fronts-p.new.indices.items in
     let ws = c.add_fronts-p.new.values.items in
     let m = c.add_fronts-p.ensures in
-    let added = rw (c.reserve.ensures.indices, c.reserve.ensures.values) at m.added in
+    let added = rw (c.reserve.ensures.items, c.reserve-2.ensures.items) at m.added in
     let p = c.add_fronts-p.result.0 in
     let q = c.add_fronts-p.result.1 in
     let mid = c.push_rest.new.values.items in
     let new = c.push_rest-2.new.values.items in
-    let second = c.push_rest-2.ensures.indices
-    ∙ ap (λ l. l ++ drop q b) c.push_rest.ensures.indices in
+    let first = c.push_rest.ensures.indices ∙ ap (λ l. now ++ l) (take_rest a p) in
+    let second = c.push_rest-2.ensures.indices ∙ ap (λ l. c.push_rest.new.indices.items ++ l)
+    (take_rest b q) ∙ ap (λ l. l ++ drop q b) first in
+    let front : GainsValues R f f ws mid (drop p av) = subst (λ l. GainsValues R f f ws mid l)
+    (take_rest av p) c.push_rest.ensures.values in
+    let more : GainsValues R f h mid new (drop q bv) = subst (λ l. GainsValues R f h mid new l)
+    (take_rest bv q) c.push_rest-2.ensures.values in
     let all = rest_added R f h old us a av b bv c.requires.a_rising c.requires.b_rising
     c.requires.a_count c.requires.b_count now ws mid new p q m.first m.second m.end added
-    c.push_rest.ensures.values c.push_rest-2.ensures.values in
+    front more in
     record {
       gained = subst (λ l. GainsEntries R f old l us new (λ j. Contains a j ⊎ Contains b j)
-          (λ j. R.add (lane_value R f a av j) (lane_value R h b bv j)))
-          (sym {A = List ℕ} second) all;
+          (λ j. R.add (lane_value R f a av j) (lane_value R h b bv j))) (sym second) all;
     }

@@ -5,8 +5,7 @@ abbrev pub invariant-loop-p : goal.invariant-loop-p
 invariant-loop-p l = record {
   first : l.p ≤ length l.a;
   second : l.q ≤ length l.b;
-  passed : l.steps ≤ l.p + l.q;
-  most : l.q ≤ l.steps;
+  most : l.shared ≤ l.p;
 }
 
 abbrev pub decreases-loop-p : goal.decreases-loop-p
