@@ -1,8 +1,8 @@
 -- A list after a part of it was written.
 use Rattle.std.proofs.Common.{◌≡◌, ℕ, ◌+◌, ◌-◌, ◌<◌, ◌≤◌, ◌⊎◌, inl, inr, List, [], ◌++◌, length}
-use Rattle.std.proofs.Common.{take, drop, get_or, length-append, ap, ◌∙◌, arith}
+use Rattle.std.proofs.Common.{take, drop, get_or, ap, ◌∙◌, arith}
 use Rattle.std.proofs.lemmas.List.{get_or_append_left, get_or-append_right, get_or-take, get_or-drop}
-use Rattle.std.proofs.lemmas.List.{length-take-le, length-drop, take_all, drop_at, drop_all}
+use Rattle.std.proofs.lemmas.List.{length-take-le, length-drop, take_all, drop_all}
 use Rattle.std.proofs.lemmas.List.{append-nil, take_at, get_or_past, get_or-replicate}
 use Rattle.std.proofs.lemmas.List.{length-replicate}
 use Rattle.std.specs.Prelude.{replicate}
@@ -38,13 +38,6 @@ pub length-tail : {X : Type 0} (xs : List X) (n : ℕ)
     → length (take (length xs - n) (drop n xs)) ≡ length xs - n
 length-tail xs n = ap length (take_all (length xs - n) (drop n xs)
     (omega (arith, length-drop n xs))) ∙ length-drop n xs
-
-pub tail_is : {X : Type 0} (xs old new : List X) (n : ℕ) → xs ≡ old ++ new → length old ≡ n
-    → take (length xs - n) (drop n xs) ≡ new
-tail_is xs old new n is at =
-    let dropped : drop n xs ≡ new = ap (λ l. drop n l) is ∙ drop_at old new n at in
-    ap (λ l. take (length xs - n) l) dropped
-    ∙ take_all (length xs - n) new (omega (arith, ap length is, length-append old new, at))
 
 -- a tail is written
 pub tail_written : {X : Type 0} (xs old ys : List X) (n : ℕ) → take n xs ≡ old

@@ -15,6 +15,14 @@ use Rattle.sparse_ops.proofs.Updating.{RowsAreOne}
 pub has_places : (d a b : Raw) → IsProductOf d a b → HasProductPlaces d a b
 has_places d a b is i j k left right = (is i j).1 (k, left, right)
 
+-- nothing of an old value, and the new one once
+pub from_zero : (R : CommRing) (none unit c x : R.Carrier) → none ≡ R.zero → unit ≡ R.one
+    → R.add (R.mul none c) (R.mul unit x) ≡ x
+from_zero R none unit c x none_is unit_is =
+    ap (λ c. R.add c (R.mul unit x)) (ap (λ n. R.mul n c) none_is
+    ∙ R.laws.mul_comm R.zero c ∙ mul_zero R c) ∙ zero_add R (R.mul unit x)
+    ∙ R.laws.mul_comm unit x ∙ ap (R.mul x) unit_is ∙ R.laws.mul_one x
+
 module _ (R : CommRing) {T : Type 0} (f : T → R.Carrier) (stand : RowsStand R f)
     (one : RowsAreOne R f) (a b : Compressed T) (sa : IsSound a) (sb : IsSound b)
     (fits : a.pattern.minor_dim ≡ b.pattern.major_dim) where
@@ -35,12 +43,8 @@ module _ (R : CommRing) {T : Type 0} (f : T → R.Carrier) (stand : RowsStand R 
         values = λ i j p y at.
             let lane = sound.valid.lanes i at.0.lane in
             let within : p < length new = omega (arith, sound.count, lane.inside, at.0.to) in
-            let x = P.value i j in
-            let c = f (get_or old p z) in
             ap f (get_or_default new p y z within) ∙ updated i j p at
-            ∙ ap (λ c. R.add c (R.mul unit x)) (ap (λ n. R.mul n c) none_is
-            ∙ R.laws.mul_comm R.zero c ∙ mul_zero R c) ∙ zero_add R (R.mul unit x)
-            ∙ R.laws.mul_comm unit x ∙ ap (R.mul x) unit_is ∙ R.laws.mul_one x;
+            ∙ from_zero R none unit (f (get_or old p z)) (P.value i j) none_is unit_is;
         within = within_product R (plain_of_rows R f a) (plain_of_rows R f b) (stand a sa).within
             (stand b sb).within;
         proper = product_is_proper R f stand a b sa sb fits;

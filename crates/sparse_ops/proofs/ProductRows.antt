@@ -1,10 +1,10 @@
 -- The product of two matrices, row after row: the indices of a row, and its values from a scratch row.
 use Rattle.std.proofs.Common.{◌≡◌, ◌≢◌, ℕ, zero, suc, ◌+◌, ◌<◌, ◌⊎◌, inl, inr, ◌↔◌, List, [], ◌∷◌}
-use Rattle.std.proofs.Common.{◌++◌, length, get_or, Contains, ap, sym, subst, ◌∙◌, refl, arith}
+use Rattle.std.proofs.Common.{◌++◌, length, get_or, drop, Contains, ap, sym, subst, ◌∙◌, refl, arith}
 use Rattle.std.specs.Prelude.{nat_eq}
 use Rattle.std.specs.List.Sorted.{IsStrictlyIncreasing}
 use Rattle.std.proofs.lemmas.Bool.{cases_eq}
-use Rattle.std.proofs.lemmas.List.{get_or_default}
+use Rattle.std.proofs.lemmas.List.{get_or_default, drop_at}
 use Rattle.std.proofs.lemmas.List.Kept.{AllPairs-from_increasing}
 use Rattle.sparse_lemmas.proofs.Cases.{nat_eq_no, true_or_false}
 use Rattle.sparse_algebra.specs.Algebra.{CommRing}
@@ -20,7 +20,7 @@ use Rattle.sparse_cs.specs.InnerRows.{lane_value}
 use Rattle.sparse_cs.proofs.Arrays.{where_yes, where_no}
 use Rattle.sparse_cs.proofs.RowSums.{eq_refl}
 use Rattle.sparse_cs.proofs.BuiltMatrices.{IsBuiltMatrix, matrix_lane_built, built_is}
-use Rattle.sparse_ops.specs.InnerProducts.{IsInLanes}
+use Rattle.sparse_ops.specs.InnerProducts.{IsInLanes, GainsValues}
 use Rattle.sparse_ops.proofs.ProductLanes.{IsJoined, in_lanes_is}
 use Rattle.sparse_ops.proofs.ProductPlaces.{RowsStand, product, joined_is, product_is_proper}
 
@@ -119,17 +119,17 @@ module _ (R : CommRing) {T : Type 0} (f : T → R.Carrier) (z : T) (stand : Rows
 
   -- zero where no lane has the index
   pub zero_off : (n : ℕ) → n < a.pattern.major_dim → (lane : List ℕ)
-      → ((j : ℕ) → Contains lane j ↔ IsInLanes b.pattern (lane_of a.pattern n) j) → (j : ℕ)
+      → ((j : ℕ) → IsInLanes b.pattern (lane_of a.pattern n) j → Contains lane j) → (j : ℕ)
       → (Contains lane j → ⊥) → P.value n j ≡ R.zero
   zero_off n lt lane holds j none = product_is_proper R f stand a b sa sb fits n j
       (elim (true_or_false (P.has n j)) [
-        | inl hit ↦ absurd (none ((holds j).1 ((in_lanes_is a.pattern b.pattern sa.valid n j lt).1
+        | inl hit ↦ absurd (none (holds j ((in_lanes_is a.pattern b.pattern sa.valid n j lt).1
             ((joined_is R f stand a b sa sb fits n j).1 hit))))
         | inr miss ↦ miss
       ])
 
   -- one row more
-  pub product_more : (n : ℕ) (offsets offsets' indices indices' : List ℕ)
+  product_more : (n : ℕ) (offsets offsets' indices indices' : List ℕ)
       (values values' part : List T) → n < a.pattern.major_dim → Below n offsets indices values
       → (gains : GainsLane indices indices' (IsInLanes b.pattern (lane_of a.pattern n)))
       → offsets' ≡ offsets ++ length indices' ∷ [] → values' ≡ values ++ part
@@ -149,7 +149,21 @@ module _ (R : CommRing) {T : Type 0} (f : T → R.Carrier) (z : T) (stand : Rows
       (matrix_lane_built R f b.pattern.minor_dim (IsJoined a.pattern b.pattern) P.value n offsets
       indices gains.lane values part built gains.rising bounded holds count
       (lane_read R f z (P.value n) gains.lane part count gains.rising read
-      (zero_off n lt gains.lane gains.holds)))
+      (zero_off n lt gains.lane (λ j. (gains.holds j).1))))
+
+  pub row_more : (n : ℕ) (offsets offsets' indices indices' : List ℕ) (values values' : List T)
+      → n < a.pattern.major_dim → Below n offsets indices values
+      → GainsLane indices indices' (IsInLanes b.pattern (lane_of a.pattern n))
+      → offsets' ≡ offsets ++ length indices' ∷ []
+      → GainsValues R f z values values' (drop (length values) indices') (P.value n)
+      → Below (n + 1) offsets' indices' values'
+  row_more n offsets offsets' indices indices' values values' lt built gains is more =
+      let lane : drop (length values) indices' ≡ gains.lane =
+      ap (λ l. drop (length values) l) gains.pushed
+      ∙ drop_at indices gains.lane (length values) (sym built.count) in
+      let own = subst (λ l. GainsValues R f z values values' l (P.value n)) lane more in
+      product_more n offsets offsets' indices indices' values values' own.part lt built gains is
+      own.pushed own.count own.values
 
   module _ (n : ℕ) (offsets indices : List ℕ) (values : List T) (whole : n ≡ a.pattern.major_dim)
       (built : Below n offsets indices values) where

@@ -8,6 +8,7 @@ use Rattle.sparse_algebra.specs.Plain.{Plain, plain_product, plain_transpose}
 use Rattle.sparse_algebra.proofs.PlainLemmas.{transpose_product}
 use Rattle.sparse_algebra.proofs.RingLemmas.{mul_zero}
 use Rattle.sparse_op.specs.Prealloc.{plain_update, IsCovered}
+use Rattle.sparse_pattern.specs.Raw.{Raw}
 use Rattle.sparse_cs.specs.Compressed.{Compressed, compressed_of, IsSound}
 use Rattle.sparse_cs.specs.PlainOfLanes.{plain_of_rows, plain_of_cols}
 use Rattle.sparse_cs.specs.Standing.{HasLanesAsRows}
@@ -73,68 +74,87 @@ module _ (R : CommRing) {T : Type 0} (f : T → R.Carrier) (stand : RowsStand R 
               ∙ R.laws.add_zero R.zero;
         })
 
+-- the matrix m has the pattern d and the values vs
+module _ (R : CommRing) {T : Type 0} (f : T → R.Carrier) (a b m : Compressed T) (d : Raw)
+    (vs : List T) (d_is : d ≡ m.pattern) (vs_is : vs ≡ m.values) where
+  abbrev Q : Plain R
+  Q = plain_product R (plain_of_rows R f a) (plain_of_rows R f b)
+
+  target_is : plain_of_rows R f (compressed_of d vs) ≡ plain_of_rows R f m
+  target_is = ap (λ d. plain_of_rows R f (compressed_of d vs)) d_is
+      ∙ ap (λ vs. plain_of_rows R f (compressed_of m.pattern vs)) vs_is
+
+  written_is : (ws : List T) → length ws ≡ length vs
+      → plain_of_rows R f (with_values m ws) ≡ plain_of_rows R f (compressed_of d ws)
+  written_is ws long =
+      ap (plain_of_rows R f) (written_back m ws (long ∙ ap length vs_is))
+      ∙ ap (λ d. plain_of_rows R f (compressed_of d ws)) (sym d_is)
+
   -- a product by rows, of operands that are equal to x and y
   module _ (x y : Plain R) (is_x : plain_of_rows R f a ≡ x) (is_y : plain_of_rows R f b ≡ y) where
-    product_is : P ≡ plain_product R x y
+    product_is : Q ≡ plain_product R x y
     product_is = ap (λ p. plain_product R p (plain_of_rows R f b)) is_x
         ∙ ap (plain_product R x) is_y
 
-    pub rows_covered : HasProductPlaces m.pattern a.pattern b.pattern
+    pub rows_covered : IsCovered Q (plain_of_rows R f (compressed_of d vs))
         ↔ IsCovered (plain_product R x y) (plain_of_rows R f m)
     rows_covered =
         let C : Plain R → Type 0 = λ p. IsCovered p (plain_of_rows R f m) in
-        (λ h. subst C product_is (covered_is.0 h), λ h. covered_is.1 (subst C (sym product_is) h))
+        let D : Plain R → Type 0 = λ p. IsCovered Q p in (
+          λ h. subst C product_is (subst D target_is h),
+          λ h. subst D (sym target_is) (subst C (sym product_is) h),
+        )
 
-    pub rows_written : (one : RowsAreOne R f) (z : T) (beta alpha : R.Carrier) (ws : List T)
-        → length ws ≡ length m.values
-        → HasProductPlaces m.pattern a.pattern b.pattern
-        → AreUpdated R f z m.pattern beta alpha P.value m.values ws
+    pub rows_written : (beta alpha : R.Carrier) (ws : List T) → length ws ≡ length vs
+        → plain_of_rows R f (compressed_of d ws) ≡ plain_update R beta
+        (plain_of_rows R f (compressed_of d vs)) alpha Q
         → plain_of_rows R f (with_values m ws) ≡ plain_update R beta (plain_of_rows R f m) alpha
         (plain_product R x y)
-    rows_written one z beta alpha ws long places updated =
-        ap (plain_of_rows R f) (written_back m ws long) ∙ updated_is one z beta alpha ws long places
-        updated ∙ ap (plain_update R beta (plain_of_rows R f m) alpha) product_is
+    rows_written beta alpha ws long updated = written_is ws long ∙ updated
+        ∙ ap (λ p. plain_update R beta p alpha Q) target_is
+        ∙ ap (plain_update R beta (plain_of_rows R f m) alpha) product_is
 
-    pub rows_updated : (one : RowsAreOne R f) (z : T) (beta alpha : R.Carrier) (ws : List T)
-        {X E : Type 0} (r : Result X E)
-        → length ws ≡ length m.values → (IsOk r → HasProductPlaces m.pattern a.pattern b.pattern)
-        → OnOk r (AreUpdated R f z m.pattern beta alpha P.value m.values ws)
+    pub rows_updated : (beta alpha : R.Carrier) (ws : List T) {X E : Type 0} (r : Result X E)
+        → length ws ≡ length vs
+        → OnOk r (plain_of_rows R f (compressed_of d ws) ≡ plain_update R beta
+        (plain_of_rows R f (compressed_of d vs)) alpha Q)
         → OnOk r (plain_of_rows R f (with_values m ws) ≡ plain_update R beta (plain_of_rows R f m)
         alpha (plain_product R x y))
-    rows_updated one z beta alpha ws r long places updated =
-        on_ok_also r (λ ok values. rows_written one z beta alpha ws long (places ok) values) updated
+    rows_updated beta alpha ws r long updated =
+        on_ok_also r (λ _ same. rows_written beta alpha ws long same) updated
 
   -- a product by columns, of operands that are equal to x and y: the rows of the core are the
   -- columns, in the reverse order
-  module _ (x y : Plain R) (is_y : plain_of_cols R f a ≡ y) (is_x : plain_of_cols R f b ≡ x) where
-    turned_is : plain_transpose R P ≡ plain_product R x y
+  module _ (fits : a.pattern.minor_dim ≡ b.pattern.major_dim) (x y : Plain R)
+      (is_y : plain_of_cols R f a ≡ y) (is_x : plain_of_cols R f b ≡ x) where
+    turned_is : plain_transpose R Q ≡ plain_product R x y
     turned_is = transpose_product R (plain_of_rows R f a) (plain_of_rows R f b) fits
         ∙ ap (λ p. plain_product R p (plain_of_cols R f a)) is_x ∙ ap (plain_product R x) is_y
 
-    pub cols_covered : HasProductPlaces m.pattern a.pattern b.pattern
+    pub cols_covered : IsCovered Q (plain_of_rows R f (compressed_of d vs))
         ↔ IsCovered (plain_product R x y) (plain_of_cols R f m)
     cols_covered =
-        let C : Plain R → Type 0 = λ p. IsCovered p (plain_of_cols R f m) in (
-          λ h. subst C turned_is (λ i j t. covered_is.0 h j i t),
-          λ h. covered_is.1 (λ i j t. subst C (sym turned_is) h j i t),
+        let C : Plain R → Type 0 = λ p. IsCovered p (plain_of_cols R f m) in
+        let D : Plain R → Type 0 = λ p. IsCovered Q p in (
+          λ h. subst C turned_is (λ i j t. subst D target_is h j i t),
+          λ h. subst D (sym target_is) (λ i j t. subst C (sym turned_is) h j i t),
         )
 
-    pub cols_written : (one : RowsAreOne R f) (z : T) (beta alpha : R.Carrier) (ws : List T)
-        → length ws ≡ length m.values
-        → HasProductPlaces m.pattern a.pattern b.pattern
-        → AreUpdated R f z m.pattern beta alpha P.value m.values ws
+    pub cols_written : (beta alpha : R.Carrier) (ws : List T) → length ws ≡ length vs
+        → plain_of_rows R f (compressed_of d ws) ≡ plain_update R beta
+        (plain_of_rows R f (compressed_of d vs)) alpha Q
         → plain_of_cols R f (with_values m ws) ≡ plain_update R beta (plain_of_cols R f m) alpha
         (plain_product R x y)
-    cols_written one z beta alpha ws long places updated =
-        ap (plain_of_cols R f) (written_back m ws long)
-        ∙ ap (plain_transpose R) (updated_is one z beta alpha ws long places updated)
+    cols_written beta alpha ws long updated =
+        ap (plain_transpose R) (written_is ws long ∙ updated
+        ∙ ap (λ p. plain_update R beta p alpha Q) target_is)
         ∙ ap (plain_update R beta (plain_of_cols R f m) alpha) turned_is
 
-    pub cols_updated : (one : RowsAreOne R f) (z : T) (beta alpha : R.Carrier) (ws : List T)
-        {X E : Type 0} (r : Result X E)
-        → length ws ≡ length m.values → (IsOk r → HasProductPlaces m.pattern a.pattern b.pattern)
-        → OnOk r (AreUpdated R f z m.pattern beta alpha P.value m.values ws)
+    pub cols_updated : (beta alpha : R.Carrier) (ws : List T) {X E : Type 0} (r : Result X E)
+        → length ws ≡ length vs
+        → OnOk r (plain_of_rows R f (compressed_of d ws) ≡ plain_update R beta
+        (plain_of_rows R f (compressed_of d vs)) alpha Q)
         → OnOk r (plain_of_cols R f (with_values m ws) ≡ plain_update R beta (plain_of_cols R f m)
         alpha (plain_product R x y))
-    cols_updated one z beta alpha ws r long places updated =
-        on_ok_also r (λ ok values. cols_written one z beta alpha ws long (places ok) values) updated
+    cols_updated beta alpha ws r long updated =
+        on_ok_also r (λ _ same. cols_written beta alpha ws long same) updated

@@ -1,7 +1,17 @@
 -- What the passes over one lane of a product find.
-use Rattle.std.specs.Prelude.{ℕ, List, Contains}
+use Rattle.std.specs.Prelude.{◌≡◌, ℕ, ◌<◌, ◌++◌, List, length, slice_index, slice_index_or, Contains}
+use Rattle.sparse_algebra.specs.Algebra.{CommRing}
 use Rattle.sparse_pattern.specs.Raw.{Raw, IsPlace}
 
 -- one of the lanes has the index j
 abbrev pub IsInLanes : Raw → List ℕ → ℕ → Type 0
 IsInLanes d lanes j = (k : ℕ) × Contains lanes k × IsPlace d k j
+
+-- the list gains at its end the values that represent x at the indices of a lane
+pub record GainsValues (R : CommRing) {T : Type 0} (f : T → R.Carrier) (z : T) (old new : List T)
+    (lane : List ℕ) (x : ℕ → R.Carrier) : Type 0 where
+  pub part : List T
+  pub pushed : new ≡ old ++ part
+  pub count : length part ≡ length lane
+  pub values : (q : ℕ) → q < length lane
+      → f (slice_index_or part q z) ≡ x (slice_index lane q)

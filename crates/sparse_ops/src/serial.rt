@@ -6,6 +6,7 @@ mod lane_sets;
 mod pattern;
 mod prealloc;
 mod product;
+mod rows;
 mod scatter;
 mod search;
 mod unchecked;

@@ -5,3 +5,4 @@ pub mod SumLanes
 pub mod Placing
 pub mod InOrder
 pub mod Updating
+pub mod Sampling

@@ -1,6 +1,7 @@
 -- A sum or a difference of matrices, lane after lane.
 use Rattle.std.proofs.Common.{◌≡◌, ℕ, ◌+◌, ◌<◌, ◌⊎◌, inl, inr, ◌↔◌, Bool, true, false, List, []}
 use Rattle.std.proofs.Common.{◌∷◌, ◌++◌, length, Contains, ap, sym, subst, ◌∙◌, refl, arith}
+use Rattle.std.proofs.Common.{length-append}
 use Rattle.std.specs.Prelude.{nat_eq}
 use Rattle.sparse_lemmas.proofs.Cases.{or_cases, or_left, or_right}
 use Rattle.sparse_algebra.specs.Algebra.{CommRing}
@@ -73,6 +74,18 @@ module _ (R : CommRing) {T : Type 0} (f : T → R.Carrier) (z : T) (negate : Boo
     (a b : Compressed T) (sa : IsSound a) (sb : IsSound b)
     (lanes : a.pattern.major_dim ≡ b.pattern.major_dim)
     (width : a.pattern.minor_dim ≡ b.pattern.minor_dim) where
+  -- as many values as indices are gained
+  pub gained_count : (old new : List ℕ) (us ws : List T) (P : ℕ → Type 0) (V : ℕ → R.Carrier)
+      → length us ≡ length old → GainsEntries R f old new us ws P V → length ws ≡ length new
+  gained_count old new us ws P V count gains = omega (
+    arith,
+    ap length gains.pushed,
+    ap length gains.values_pushed,
+    length-append old gains.lane,
+    length-append us gains.values,
+    gains.count,
+  )
+
   abbrev sum : Plain R
   sum = signed_sum R f negate a b
 

@@ -1,9 +1,17 @@
 -- Two lanes of indices and values that are added.
-use Rattle.std.specs.Prelude.{◌≡◌, ℕ, ◌↔◌, List, ◌++◌, length, map, take, Contains}
+use Rattle.std.specs.Prelude.{◌≡◌, ℕ, ◌⊎◌, ◌↔◌, Bool, List, ◌++◌, length, map, take, Contains}
 use Rattle.std.specs.List.Sorted.{IsStrictlyIncreasing}
 use Rattle.sparse_algebra.specs.Algebra.{CommRing}
+use Rattle.sparse_cs.specs.Compressed.{Compressed, arrays_of}
 use Rattle.sparse_cs.specs.InnerRows.{lane_value}
+use Rattle.sparse_cs.specs.Lanes.{Lane}
 use Rattle.sparse_sums.specs.InnerMerging.{IsMerging}
+use Rattle.sparse_sums.specs.InnerSigns.{signed}
+
+-- the arrays in the shape of a matrix
+abbrev pub with_arrays : {T : Type 0} → Compressed T → List ℕ → List ℕ → List T → Compressed T
+with_arrays a offsets indices values =
+    arrays_of a.pattern.major_dim a.pattern.minor_dim offsets indices values
 
 module _ (R : CommRing) {T : Type 0} (f : T → R.Carrier) where
   -- the list gains values that mean what g makes of vs
@@ -34,3 +42,10 @@ module _ (R : CommRing) {T : Type 0} (f : T → R.Carrier) where
     pub count : length values ≡ length indices.lane
     pub sums : (j : ℕ) → lane_value R f indices.lane values j
         ≡ R.add (lane_value R f (take p a) (take p us) j) (lane_value R g (take q b) (take q vs) j)
+
+  -- the lists gain the sum of two lanes, the second with its sign
+  abbrev pub GainsLanes : Bool → Lane T → Lane T → List ℕ → List ℕ → List T → List T → Type 0
+  GainsLanes negate a b old new old_values new_values = GainsEntries old new old_values new_values
+      (λ j. Contains a.indices j ⊎ Contains b.indices j)
+      (λ j. R.add (lane_value R f a.indices a.values j)
+      (lane_value R (λ x. signed R negate (f x)) b.indices b.values j))

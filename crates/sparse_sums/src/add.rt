@@ -1,8 +1,11 @@
 //! Sums and differences of matrices.
 
-ghost use Rattle.std.specs.Prelude.{◌≡◌, IfOk};
+ghost use Rattle.std.specs.Prelude.{◌≡◌, ◌<◌, [], vec_len, IfOk, OnOk};
 ghost use Rattle.sparse_algebra.specs.Plain.{plain_sum, plain_difference};
+ghost use Rattle.sparse_cs.specs.Compressed.{IsSound};
+ghost use Rattle.sparse_cs.specs.Lanes.{lane_at};
 ghost use Rattle.sparse_cs.specs.PlainOfLanes.{plain_of_rows, plain_of_cols};
+ghost use Rattle.sparse_sums.specs.InnerAdding.{GainsLanes, with_arrays};
 ghost use Rattle.sparse_sums.specs.InnerSigns.{plain_signed};
 
 use crate::merge::add_lanes;
@@ -130,32 +133,74 @@ fn merge<T: Ring, const NEGATE: bool>(
         ≡ plain_sum T.ring (plain_of_rows T.ring T.value a.now)
         (plain_signed T.ring NEGATE (plain_of_rows T.ring T.value b.now))) }
 {
-    let (a_offsets, a_indices, a_values) = a.cs_data();
-    let (b_offsets, b_indices, b_values) = b.cs_data();
-    let lanes = a.pattern().major_dim();
-    let room = union_room(a.pattern(), b.pattern());
-    let mut offsets = Vec::with_capacity(alloc, a_offsets.len())?;
+    let (first, second) = (a.pattern(), b.pattern());
+    let room = union_room(first, second);
+    let mut offsets = Vec::with_capacity(alloc, first.major_offsets().len())?;
     let mut indices = Vec::with_capacity(alloc, room)?;
     let mut values = Vec::with_capacity(alloc, room)?;
-    offsets.push(0)?;
-    for i in 0..lanes {
-        let (a_begin, a_end) = (a_offsets[i], a_offsets[i + 1]);
-        let (b_begin, b_end) = (b_offsets[i], b_offsets[i + 1]);
-        add_lanes::<T, NEGATE>(
-            &a_indices[a_begin..a_end],
-            &a_values[a_begin..a_end],
-            &b_indices[b_begin..b_end],
-            &b_values[b_begin..b_end],
-            &mut indices,
-            &mut values,
-        )?;
-        offsets.push(indices.len())?;
-    }
+    merge_lanes::<T, NEGATE>(a, b, &mut offsets, &mut indices, &mut values)?;
     let pattern = SparsityPattern::from_offset_and_indices_unchecked(
-        lanes,
-        a.pattern().minor_dim(),
+        first.major_dim(),
+        first.minor_dim(),
         offsets,
         indices,
     );
     Ok(CsMatrix::from_pattern_and_values(pattern, values))
+}
+
+// Fills empty arrays with the lanes of the sum or the difference. Inlined, as each lane is: where
+// lanes are short, a call takes as long as the lane.
+#[inline(always)]
+fn merge_lanes<T: Ring, const NEGATE: bool>(
+    a: &CsMatrix<T>,
+    b: &CsMatrix<T>,
+    offsets: &mut Vec<usize>,
+    indices: &mut Vec<usize>,
+    values: &mut Vec<T>,
+) -> Result<(), AllocError>
+    requires lanes { a.now.pattern.major_dim ≡ b.now.pattern.major_dim }
+    requires width { a.now.pattern.minor_dim ≡ b.now.pattern.minor_dim }
+    requires sound { IsSound b.now }
+    requires no_offsets { offsets.old.items ≡ [] }
+    requires no_indices { indices.old.items ≡ [] }
+    requires no_values { values.old.items ≡ [] }
+    ensures sound { OnOk result (IsSound (with_arrays a.now offsets.new.items indices.new.items
+        values.new.items)) }
+    ensures sum { OnOk result (plain_of_rows T.ring T.value
+        (with_arrays a.now offsets.new.items indices.new.items values.new.items)
+        ≡ plain_sum T.ring (plain_of_rows T.ring T.value a.now)
+        (plain_signed T.ring NEGATE (plain_of_rows T.ring T.value b.now))) }
+{
+    offsets.push(0)?;
+    for i in 0..a.pattern().major_dim() {
+        merge_lane::<T, NEGATE>(a, b, i, indices, values)?;
+        offsets.push(indices.len())?;
+    }
+    Ok(())
+}
+
+// Appends a lane of the sum or the difference.
+#[inline(always)]
+fn merge_lane<T: Ring, const NEGATE: bool>(
+    a: &CsMatrix<T>,
+    b: &CsMatrix<T>,
+    i: usize,
+    indices: &mut Vec<usize>,
+    values: &mut Vec<T>,
+) -> Result<(), AllocError>
+    requires first { i < a.now.pattern.major_dim }
+    requires second { i < b.now.pattern.major_dim }
+    requires count { vec_len values.old ≡ vec_len indices.old }
+    ensures gained { OnOk result (GainsLanes T.ring T.value NEGATE (lane_at a.now i)
+        (lane_at b.now i) indices.old.items indices.new.items values.old.items values.new.items) }
+{
+    let (first, second) = (a.lane(i), b.lane(i));
+    add_lanes::<T, NEGATE>(
+        first.minor_indices(),
+        first.values(),
+        second.minor_indices(),
+        second.values(),
+        indices,
+        values,
+    )
 }

@@ -59,17 +59,16 @@ pub(crate) fn add_in_order<T: Ring>(
         ≡ T.ring.add (T.value (slice_index_or values.old p T.zero_value))
         (T.ring.mul (T.value alpha) ((plain_of_rows T.ring T.value a.now).value i j)) }
 {
-    let (offsets, indices, a_values) = a.cs_data();
-    for i in 0..target.major_dim() {
-        let (begin, end) = (offsets[i], offsets[i + 1]);
+    for i in 0..a.pattern().major_dim() {
         let start = target.major_offsets()[i];
+        let lane = a.lane(i);
         add_lane(
             target.lane(i),
             start,
             values,
             alpha,
-            &indices[begin..end],
-            &a_values[begin..end],
+            lane.minor_indices(),
+            lane.values(),
         );
     }
 }

@@ -16,21 +16,32 @@ pub(crate) fn union_room(a: &SparsityPattern, b: &SparsityPattern) -> usize
     ensures most { result ≤ length a.now.indices + length b.now.indices }
 {
     let both = a.minor_indices().len() + b.minor_indices().len();
-    let step = a.major_dim() / SAMPLED_LANES;
-    if step == 0 {
-        return both;
-    }
-    let (mut seen, mut shared): (usize, usize) = (0, 0);
-    for k in 0..SAMPLED_LANES {
-        let (lane, other) = (a.lane(k * step), b.lane(k * step));
-        seen = seen.saturating_add(lane.len() + other.len());
-        shared = shared.saturating_add(shared_count(lane, other));
-    }
+    let (seen, shared) = sample(a, b);
     if seen == 0 {
         return both;
     }
     let spared = (both / seen).saturating_mul(shared);
     both.saturating_sub(spared - spared / 8)
+}
+
+// Returns how many indices some pairs of lanes have, and how many of them are shared. It compares
+// no pair where there are few lanes.
+fn sample(a: &SparsityPattern, b: &SparsityPattern) -> (usize, usize)
+    requires { a.now.major_dim ≡ b.now.major_dim }
+    ensures { result.1 ≤ result.0 }
+{
+    let step = a.major_dim() / SAMPLED_LANES;
+    if step == 0 {
+        return (0, 0);
+    }
+    let (mut seen, mut shared): (usize, usize) = (0, 0);
+    for k in 0..SAMPLED_LANES {
+        let i = k * step;
+        let (lane, other) = (a.lane(i), b.lane(i));
+        seen = seen.saturating_add(lane.len() + other.len());
+        shared = shared.saturating_add(shared_count(lane, other));
+    }
+    (seen, shared)
 }
 
 // Returns the number of indices that both lanes have. No branch depends on an index.

@@ -9,9 +9,8 @@ ghost use Rattle.sparse_cs.specs.PlainOfLanes.{plain_of_rows, plain_of_cols};
 ghost use Rattle.sparse_ops.specs.ScalarProducts.{IfNotTransposed};
 
 use super::factor::{csc_factor, csr_factor};
-use super::update::update_checked;
+use super::update::update_matrix_checked;
 use sparse_algebra::scalar::Ring;
-use sparse_cs::laws::stands_law;
 use sparse_forms::csc::CscMatrix;
 use sparse_forms::csr::CsrMatrix;
 use sparse_op::{Op, OperationError};
@@ -58,17 +57,13 @@ pub fn spmm_csr_prealloc<T: Ring>(
         (plain_product T.ring (plain_op T.ring (λ m. plain_of_rows T.ring T.value m.now) a.entry)
         (plain_op T.ring (λ m. plain_of_rows T.ring T.value m.now) b.entry))) }
 {
-    // The law costs nothing: it tells the prover what the plain matrices are.
-    stands_law::<T>();
     let a = csr_factor(alloc, a)?;
     let b = csr_factor(alloc, b)?;
     let (first, second) = (a.matrix().cs(), b.matrix().cs());
-    // The calls cost nothing: their contracts tell the prover that the matrices are sound.
-    let _ = first.values();
-    let _ = second.values();
+    // The call costs nothing: its contract tells the prover that the matrix is sound.
     let _ = c.values();
     let (pattern, values) = c.pattern_and_values_mut();
-    update_checked(beta, pattern, values, alpha, first, second)
+    update_matrix_checked(beta, pattern, values, alpha, first, second)
 }
 
 /// Replaces `c` by `beta * c + alpha * op(a) * op(b)` on the places of `c`.
@@ -112,15 +107,11 @@ pub fn spmm_csc_prealloc<T: Ring>(
         (plain_product T.ring (plain_op T.ring (λ m. plain_of_cols T.ring T.value m.now) a.entry)
         (plain_op T.ring (λ m. plain_of_cols T.ring T.value m.now) b.entry))) }
 {
-    // The law costs nothing: it tells the prover what the plain matrices are.
-    stands_law::<T>();
     let a = csc_factor(alloc, a)?;
     let b = csc_factor(alloc, b)?;
     let (first, second) = (b.matrix().cs(), a.matrix().cs());
-    // The calls cost nothing: their contracts tell the prover that the matrices are sound.
-    let _ = first.values();
-    let _ = second.values();
+    // The call costs nothing: its contract tells the prover that the matrix is sound.
     let _ = c.values();
     let (pattern, values) = c.pattern_and_values_mut();
-    update_checked(beta, pattern, values, alpha, first, second)
+    update_matrix_checked(beta, pattern, values, alpha, first, second)
 }

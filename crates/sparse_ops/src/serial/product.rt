@@ -4,9 +4,8 @@ ghost use Rattle.std.specs.Prelude.{◌≡◌, IfOk};
 ghost use Rattle.sparse_algebra.specs.Plain.{plain_product};
 ghost use Rattle.sparse_cs.specs.PlainOfLanes.{plain_of_rows, plain_of_cols};
 
-use super::lane_sets::LaneSets;
-use super::pattern::{count_indices, push_lane, spmm_csr_pattern};
-use super::scatter::{add_product_row, gather_row};
+use super::pattern::spmm_csr_pattern;
+use super::rows::multiply_rows;
 use super::update::update;
 use sparse_algebra::scalar::Ring;
 use sparse_base::steps::Steps;
@@ -103,59 +102,6 @@ fn is_large(a: &SparsityPattern, b: &SparsityPattern) -> bool {
     b.nnz() >= MANY_PLACES
         && first.saturating_mul(second) >= MANY_TRIPLES
         && a.nnz().saturating_add(b.nnz()) >= b.minor_dim()
-}
-
-// The product row by row: the indices of a row, and then its values, while the rows of `b` that it takes are in the cache.
-fn multiply_rows<T: Ring>(
-    alloc: Global,
-    a: &CsMatrix<T>,
-    b: &CsMatrix<T>,
-) -> Result<CsMatrix<T>, AllocError>
-    requires { a.now.pattern.minor_dim ≡ b.now.pattern.major_dim }
-    ensures { IfOk result (λ m. plain_of_rows T.ring T.value m
-        ≡ plain_product T.ring (plain_of_rows T.ring T.value a.now)
-        (plain_of_rows T.ring T.value b.now)) }
-{
-    // The law costs nothing: it tells the prover what the plain matrices are.
-    stands_law::<T>();
-    let (first, second) = (a.pattern(), b.pattern());
-    let mut sets = LaneSets::new(alloc, second.minor_dim())?;
-    let mut row = Vec::new(alloc);
-    row.resize(second.minor_dim(), T::zero())?;
-    let room = first_room(first, second);
-    let mut offsets = Vec::with_capacity(alloc, first.major_offsets().len())?;
-    let mut indices = Vec::with_capacity(alloc, room)?;
-    let mut values = Vec::with_capacity(alloc, room)?;
-    offsets.push(0)?;
-    for i in 0..first.major_dim() {
-        let begin = indices.len();
-        push_lane(first.lane(i), second, &mut sets, &mut indices)?;
-        offsets.push(indices.len())?;
-        values.resize(indices.len(), T::zero())?;
-        add_product_row(T::one(), a, i, b, &mut row, &mut Steps::new());
-        gather_row(
-            T::zero(),
-            &indices[begin..],
-            &mut row,
-            &mut values[begin..],
-            &mut Steps::new(),
-        );
-    }
-    let pattern = SparsityPattern::from_offset_and_indices_unchecked(
-        first.major_dim(),
-        second.minor_dim(),
-        offsets,
-        indices,
-    );
-    Ok(CsMatrix::from_pattern_and_values(pattern, values))
-}
-
-// How many places there is room for at first: one for each triple (i, k, j), but at most twice as many as both factors have.
-fn first_room(a: &SparsityPattern, b: &SparsityPattern) -> usize
-    requires { a.now.minor_dim ≡ b.now.major_dim }
-{
-    let most = a.nnz().saturating_add(b.nnz()).saturating_mul(2);
-    count_indices(a.minor_indices(), b).min(most)
 }
 
 // The product by whole passes: the pattern first, and then the values, from zeros.

@@ -1,12 +1,13 @@
 //! A product that is added to the values of a pattern, through a scratch row.
 
-ghost use Rattle.std.specs.Prelude.{◌≡◌, ℕ, ◌<◌, ◌+◌, ◌⊎◌, length, slice_index, slice_index_or, All, Contains, OnErr, OnOk};
+ghost use Rattle.std.specs.Prelude.{◌≡◌, ℕ, ◌<◌, ◌+◌, ◌⊎◌, length, slice_index, slice_index_or, All, Contains, IfOk, OnErr, OnOk, vec_len};
 ghost use Rattle.std.specs.List.Sorted.{IsStrictlyIncreasing};
 ghost use Rattle.sparse_algebra.specs.Plain.{plain_product};
-ghost use Rattle.sparse_pattern.specs.Raw.{nnz_of, start_of, end_of, lane_of};
-ghost use Rattle.sparse_cs.specs.Compressed.{IsSound};
+ghost use Rattle.sparse_pattern.specs.Raw.{IsInLane, IsPlace, nnz_of, start_of, end_of, lane_of};
+ghost use Rattle.sparse_cs.specs.Compressed.{IsPosition};
 ghost use Rattle.sparse_cs.specs.PlainOfLanes.{plain_of_rows};
 ghost use Rattle.sparse_cs.specs.InnerRows.{lane_value};
+ghost use Rattle.sparse_ops.specs.InnerProducts.{IsInLanes};
 ghost use Rattle.sparse_ops.specs.InnerUpdates.{HasProductPlaces, AreUpdated, triples_below};
 ghost use Rattle.sparse_ops.specs.ScalarProducts.{triples_of};
 
@@ -45,30 +46,128 @@ pub(super) fn scatter_rows<T: Ring>(
         + triples_of a.now.pattern b.now.pattern) }
     ensures none { OnErr result (steps.new ≡ steps.old) }
 {
-    // The calls cost nothing: their contracts tell the prover that the matrices are sound.
+    // The calls cost nothing: their contracts tell the prover that the pattern is valid and the first matrix sound.
+    let _ = pattern.major_offsets();
     let _ = a.values();
-    let _ = b.values();
-    // The law costs nothing: it tells the prover what the plain matrices are.
-    stands_law::<T>();
-    let (offsets, indices) = (pattern.major_offsets(), pattern.minor_indices());
-    let mut row = Vec::new(alloc);
-    row.resize(pattern.minor_dim(), T::zero())?;
+    let mut row = zero_row(alloc, pattern.minor_dim())?;
     for i in 0..pattern.major_dim() {
-        add_product_row(alpha, a, i, b, &mut row, steps);
-        let (begin, end) = (offsets[i], offsets[i + 1]);
-        gather_row(
-            beta,
-            &indices[begin..end],
-            &mut row,
-            &mut values[begin..end],
-            steps,
-        );
+        scatter_row(beta, pattern, values, alpha, a, i, b, &mut row, steps);
     }
     Ok(())
 }
 
+// A scratch row of `width` zeros.
+pub(super) fn zero_row<T: Ring>(alloc: Global, width: usize) -> Result<Vec<T>, AllocError>
+    ensures width { IfOk result (λ row. vec_len row ≡ width) }
+    ensures zero { IfOk result (λ row. (j : ℕ)
+        → T.value (slice_index_or row.items j T.zero_value) ≡ T.ring.zero) }
+{
+    let mut row = Vec::new(alloc);
+    row.resize(width, T::zero())?;
+    Ok(row)
+}
+
+// Replaces each value `c` of lane i by `beta * c + alpha * x`, where `x` is the entry of the product at its place.
+#[inline(always)]
+fn scatter_row<T: Ring>(
+    beta: T,
+    pattern: &SparsityPattern,
+    values: &mut [T],
+    alpha: T,
+    a: &CsMatrix<T>,
+    i: usize,
+    b: &CsMatrix<T>,
+    row: &mut [T],
+    steps: &mut Steps,
+)
+    requires inner { a.now.pattern.minor_dim ≡ b.now.pattern.major_dim }
+    requires lane { i < a.now.pattern.major_dim }
+    requires target { i < pattern.now.major_dim }
+    requires count { length values.old ≡ length pattern.now.indices }
+    requires cols { b.now.pattern.minor_dim ≡ pattern.now.minor_dim }
+    requires places { (j : ℕ) → IsInLanes b.now.pattern (lane_of a.now.pattern i) j
+        → IsPlace pattern.now i j }
+    requires width { length row.old ≡ b.now.pattern.minor_dim }
+    requires zero { (j : ℕ) → T.value (slice_index_or row.old j T.zero_value) ≡ T.ring.zero }
+    ensures zero { (j : ℕ) → T.value (slice_index_or row.new j T.zero_value) ≡ T.ring.zero }
+    ensures updated { (j p : ℕ) → IsPosition pattern.now i j p
+        → T.value (slice_index_or values.new p T.zero_value)
+        ≡ T.ring.add (T.ring.mul (T.value beta)
+        (T.value (slice_index_or values.old p T.zero_value)))
+        (T.ring.mul (T.value alpha)
+        ((plain_product T.ring (plain_of_rows T.ring T.value a.now)
+        (plain_of_rows T.ring T.value b.now)).value i j)) }
+    ensures others { (p : ℕ) → (IsInLane pattern.now i p → ⊥)
+        → slice_index_or values.new p T.zero_value ≡ slice_index_or values.old p T.zero_value }
+    ensures counted { steps.new + start_of a.now.pattern i
+        + triples_below (start_of a.now.pattern i) a.now.pattern b.now.pattern
+        + start_of pattern.now i
+        ≡ steps.old + end_of a.now.pattern i
+        + triples_below (end_of a.now.pattern i) a.now.pattern b.now.pattern
+        + end_of pattern.now i }
+{
+    let offsets = pattern.major_offsets();
+    let (begin, end) = (offsets[i], offsets[i + 1]);
+    update_row(
+        beta,
+        pattern.lane(i),
+        &mut values[begin..end],
+        alpha,
+        a,
+        i,
+        b,
+        row,
+        steps,
+    );
+}
+
+// Replaces each value `c` by `beta * c + alpha * x`, where `x` is the entry of row i of the product at its index. The scratch row is zero
+// before and after.
+#[inline(always)]
+pub(super) fn update_row<T: Ring>(
+    beta: T,
+    indices: &[usize],
+    values: &mut [T],
+    alpha: T,
+    a: &CsMatrix<T>,
+    i: usize,
+    b: &CsMatrix<T>,
+    row: &mut [T],
+    steps: &mut Steps,
+)
+    requires inner { a.now.pattern.minor_dim ≡ b.now.pattern.major_dim }
+    requires lane { i < a.now.pattern.major_dim }
+    requires rising { IsStrictlyIncreasing indices.now }
+    requires inside { All (λ j. j < length row.old) indices.now }
+    requires count { length values.old ≡ length indices.now }
+    requires places { (j : ℕ) → IsInLanes b.now.pattern (lane_of a.now.pattern i) j
+        → Contains indices.now j }
+    requires width { length row.old ≡ b.now.pattern.minor_dim }
+    requires zero { (j : ℕ) → T.value (slice_index_or row.old j T.zero_value) ≡ T.ring.zero }
+    ensures zero { (j : ℕ) → T.value (slice_index_or row.new j T.zero_value) ≡ T.ring.zero }
+    ensures updated { (k : ℕ) → k < length indices.now
+        → T.value (slice_index_or values.new k T.zero_value)
+        ≡ T.ring.add (T.ring.mul (T.value beta)
+        (T.value (slice_index_or values.old k T.zero_value)))
+        (T.ring.mul (T.value alpha)
+        ((plain_product T.ring (plain_of_rows T.ring T.value a.now)
+        (plain_of_rows T.ring T.value b.now)).value i (slice_index indices.now k))) }
+    ensures counted { steps.new + start_of a.now.pattern i
+        + triples_below (start_of a.now.pattern i) a.now.pattern b.now.pattern
+        ≡ steps.old + end_of a.now.pattern i
+        + triples_below (end_of a.now.pattern i) a.now.pattern b.now.pattern
+        + length indices.now }
+{
+    // The calls cost nothing: they tell the prover that the matrices are sound, and what their plain matrices are.
+    stands_law::<T>();
+    let _ = a.values();
+    let _ = b.values();
+    add_product_row(alpha, a, i, b, row, steps);
+    gather_row(beta, indices, row, values, steps);
+}
+
 // Adds `alpha` times row i of the product to a row.
-pub(super) fn add_product_row<T: Ring>(
+fn add_product_row<T: Ring>(
     alpha: T,
     a: &CsMatrix<T>,
     i: usize,
@@ -129,7 +228,7 @@ fn add_row<T: Ring>(scale: T, columns: &[usize], values: &[T], row: &mut [T], st
 }
 
 // Multiplies the values by `beta`, adds to each the row's value at its index, and sets the row to zero there.
-pub(super) fn gather_row<T: Ring>(
+fn gather_row<T: Ring>(
     beta: T,
     indices: &[usize],
     row: &mut [T],

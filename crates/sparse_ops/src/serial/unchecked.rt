@@ -10,10 +10,9 @@ ghost use Rattle.sparse_cs.specs.PlainOfLanes.{plain_of_rows, plain_of_cols};
 ghost use Rattle.sparse_ops.specs.ScalarProducts.{IfNotTransposed, triples_of};
 
 use super::factor::{csc_factor, csr_factor};
-use super::update::update;
+use super::update::update_matrix;
 use sparse_algebra::scalar::Ring;
 use sparse_base::steps::Steps;
-use sparse_cs::laws::stands_law;
 use sparse_forms::csc::CscMatrix;
 use sparse_forms::csr::CsrMatrix;
 use sparse_op::{Op, OperationError};
@@ -114,17 +113,13 @@ pub fn spmm_csr_prealloc_unchecked_counted<T: Ring>(
     ensures all_multiplied { OnOk result (IfNotTransposed a.entry b.entry (λ m n.
         steps.old + triples_of m.now.pattern n.now.pattern ≤ steps.new)) }
 {
-    // The law costs nothing: it tells the prover what the plain matrices are.
-    stands_law::<T>();
     let a = csr_factor(alloc, a)?;
     let b = csr_factor(alloc, b)?;
     let (first, second) = (a.matrix().cs(), b.matrix().cs());
-    // The calls cost nothing: their contracts tell the prover that the matrices are sound.
-    let _ = first.values();
-    let _ = second.values();
+    // The call costs nothing: its contract tells the prover that the matrix is sound.
     let _ = c.values();
     let (pattern, values) = c.pattern_and_values_mut();
-    update(alloc, beta, pattern, values, alpha, first, second, steps)?;
+    update_matrix(alloc, beta, pattern, values, alpha, first, second, steps)?;
     Ok(())
 }
 
@@ -162,17 +157,13 @@ pub fn spmm_csc_prealloc_unchecked<T: Ring>(
         (plain_product T.ring (plain_op T.ring (λ m. plain_of_cols T.ring T.value m.now) a.entry)
         (plain_op T.ring (λ m. plain_of_cols T.ring T.value m.now) b.entry))) }
 {
-    // The law costs nothing: it tells the prover what the plain matrices are.
-    stands_law::<T>();
     let a = csc_factor(alloc, a)?;
     let b = csc_factor(alloc, b)?;
     let (first, second) = (b.matrix().cs(), a.matrix().cs());
-    // The calls cost nothing: their contracts tell the prover that the matrices are sound.
-    let _ = first.values();
-    let _ = second.values();
+    // The call costs nothing: its contract tells the prover that the matrix is sound.
     let _ = c.values();
     let (pattern, values) = c.pattern_and_values_mut();
-    update(
+    update_matrix(
         alloc,
         beta,
         pattern,

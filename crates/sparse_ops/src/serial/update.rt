@@ -3,7 +3,9 @@
 ghost use Rattle.std.specs.Prelude.{◌≡◌, ◌+◌, ◌≤◌, ◌↔◌, length, IsOk, IfErr, OnErr, OnOk};
 ghost use Rattle.sparse_algebra.specs.Plain.{plain_product};
 ghost use Rattle.sparse_op.specs.declared.error.OperationErrorKind.TheVariants.{InvalidPattern};
+ghost use Rattle.sparse_op.specs.Prealloc.{plain_update, IsCovered};
 ghost use Rattle.sparse_pattern.specs.Raw.{nnz_of};
+ghost use Rattle.sparse_cs.specs.Compressed.{compressed_of};
 ghost use Rattle.sparse_cs.specs.PlainOfLanes.{plain_of_rows};
 ghost use Rattle.sparse_ops.specs.InnerUpdates.{HasProductPlaces, AreUpdated};
 ghost use Rattle.sparse_ops.specs.ScalarProducts.{triples_of};
@@ -13,13 +15,47 @@ use super::search::{covers_product, search_rows};
 use sparse_algebra::scalar::Ring;
 use sparse_base::steps::Steps;
 use sparse_cs::CsMatrix;
+use sparse_cs::laws::stands_law;
 use sparse_op::OperationError;
 use sparse_pattern::pattern::SparsityPattern;
 use std::alloc::{AllocError, Global};
 
+// Replaces the matrix `c` of a pattern and its values by `beta * c + alpha * a * b` on its places, or refuses before any value is written.
+pub(super) fn update_matrix_checked<T: Ring>(
+    beta: T,
+    pattern: &SparsityPattern,
+    values: &mut [T],
+    alpha: T,
+    a: &CsMatrix<T>,
+    b: &CsMatrix<T>,
+) -> Result<(), OperationError>
+    requires count { length values.old ≡ length pattern.now.indices }
+    requires inner { a.now.pattern.minor_dim ≡ b.now.pattern.major_dim }
+    requires lanes { a.now.pattern.major_dim ≡ pattern.now.major_dim }
+    ensures covered { IsOk result ↔ IsCovered
+        (plain_product T.ring (plain_of_rows T.ring T.value a.now)
+        (plain_of_rows T.ring T.value b.now))
+        (plain_of_rows T.ring T.value (compressed_of pattern.now values.old)) }
+    ensures kind { IfErr result (λ e. e ≡ InvalidPattern) }
+    ensures unchanged { OnErr result (values.new ≡ values.old) }
+    ensures updated { OnOk result
+        (plain_of_rows T.ring T.value (compressed_of pattern.now values.new)
+        ≡ plain_update T.ring (T.value beta)
+        (plain_of_rows T.ring T.value (compressed_of pattern.now values.old)) (T.value alpha)
+        (plain_product T.ring (plain_of_rows T.ring T.value a.now)
+        (plain_of_rows T.ring T.value b.now))) }
+{
+    // The calls cost nothing: they tell the prover that the arrays are sound, and what the plain matrices are.
+    stands_law::<T>();
+    let _ = pattern.major_offsets();
+    let _ = a.values();
+    let _ = b.values();
+    update_checked(beta, pattern, values, alpha, a, b)
+}
+
 // Replaces each value `c` by `beta * c + alpha * x`, where `x` is the entry of the product `a * b` at its place, or refuses before any value
 // is written.
-pub(super) fn update_checked<T: Ring>(
+fn update_checked<T: Ring>(
     beta: T,
     pattern: &SparsityPattern,
     values: &mut [T],
@@ -44,6 +80,45 @@ pub(super) fn update_checked<T: Ring>(
     }
     search_rows(beta, pattern, values, alpha, a, b, &mut Steps::new());
     Ok(())
+}
+
+// Replaces the matrix `c` of a pattern and its values, which has the places of the product, by `beta * c + alpha * a * b`.
+pub(super) fn update_matrix<T: Ring>(
+    alloc: Global,
+    beta: T,
+    pattern: &SparsityPattern,
+    values: &mut [T],
+    alpha: T,
+    a: &CsMatrix<T>,
+    b: &CsMatrix<T>,
+    steps: &mut Steps,
+) -> Result<(), AllocError>
+    requires count { length values.old ≡ length pattern.now.indices }
+    requires inner { a.now.pattern.minor_dim ≡ b.now.pattern.major_dim }
+    requires lanes { a.now.pattern.major_dim ≡ pattern.now.major_dim }
+    requires width { b.now.pattern.minor_dim ≡ pattern.now.minor_dim }
+    requires covered { IsCovered
+        (plain_product T.ring (plain_of_rows T.ring T.value a.now)
+        (plain_of_rows T.ring T.value b.now))
+        (plain_of_rows T.ring T.value (compressed_of pattern.now values.old)) }
+    ensures unchanged { OnErr result (values.new ≡ values.old) }
+    ensures updated { OnOk result
+        (plain_of_rows T.ring T.value (compressed_of pattern.now values.new)
+        ≡ plain_update T.ring (T.value beta)
+        (plain_of_rows T.ring T.value (compressed_of pattern.now values.old)) (T.value alpha)
+        (plain_product T.ring (plain_of_rows T.ring T.value a.now)
+        (plain_of_rows T.ring T.value b.now))) }
+    ensures no_more { steps.new ≤ steps.old + nnz_of a.now.pattern + nnz_of pattern.now
+        + triples_of a.now.pattern b.now.pattern }
+    ensures all_multiplied { OnOk result
+        (steps.old + triples_of a.now.pattern b.now.pattern ≤ steps.new) }
+{
+    // The calls cost nothing: they tell the prover that the arrays are sound, and what the plain matrices are.
+    stands_law::<T>();
+    let _ = pattern.major_offsets();
+    let _ = a.values();
+    let _ = b.values();
+    update(alloc, beta, pattern, values, alpha, a, b, steps)
 }
 
 // Replaces each value `c` by `beta * c + alpha * x`, where `x` is the entry of the product `a * b` at its place.

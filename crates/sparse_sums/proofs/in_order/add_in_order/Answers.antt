@@ -1,25 +1,75 @@
-use Rattle.std.proofs.Common.{arith}
+use Rattle.std.proofs.Common.{◌<◌, ap, arith}
+use Rattle.sparse_pattern.specs.Raw.{Raw}
+use Rattle.sparse_pattern.proofs.PatternLanes.{length-lane}
+use Rattle.sparse_cs.proofs.LaneSearch.{rising_lane}
 use Rattle.sparse_sums.proofs.InOrder.{added_more, lane_covered}
 use Rattle.sparse_sums.proofs.in_order.add_in_order.Goals as goal
 
-pub add_lane-requires-clause-covered : goal.add_lane-requires-clause-covered
-add_lane-requires-clause-covered g c =
-    let covered = (lane_covered c.args.target.now c.args.a.now.pattern c.major_offsets.ensures.valid
-    c.cs_data.ensures.sound.valid c.requires.lanes c.loop-i.i
-    (omega (arith, c.requires.lanes))).1 (λ j place. c.requires.covered c.loop-i.i j place) in
-    rw (c.lane.ensures, c.cs_data.ensures.offsets, c.cs_data.ensures.indices) covered
+pub lane-lane-requires : goal.lane-lane-requires
+lane-lane-requires g c = omega (
+  arith,
+  c.loop-i-test.true,
+  c.major_dim-i-end.ensures,
+  ap (λ (d : Raw). d.major_dim) c.pattern.ensures.pattern,
+)
+
+pub lane-requires : goal.lane-requires
+lane-requires g c = omega (
+  arith,
+  c.loop-i-test.true,
+  c.major_dim-i-end.ensures,
+  ap (λ (d : Raw). d.major_dim) c.pattern.ensures.pattern,
+  c.requires.lanes,
+)
+
+pub add_lane-requires : goal.add_lane-requires
+add_lane-requires g c =
+    let d = c.args.target.now in
+    let i = c.loop-i.i in
+    let lt : i < c.args.a.now.pattern.major_dim = omega (
+      arith,
+      c.loop-i-test.true,
+      c.major_dim-i-end.ensures,
+      ap (λ (d : Raw). d.major_dim) c.pattern.ensures.pattern,
+    ) in
+    let valid = c.major_offsets.ensures.valid.lanes i (omega (arith, lt, c.requires.lanes)) in
+    let covered = (lane_covered d c.args.a.now.pattern c.major_offsets.ensures.valid
+    c.pattern.ensures.sound.valid c.requires.lanes i lt).1
+    (λ j place. c.requires.covered i j place) in
+    record {
+      inside = rw (c.lane.ensures, c.major_offsets.ensures.offsets, length-lane d i valid)
+          (omega (
+            arith,
+            valid.ordered,
+            valid.inside,
+            c.requires.count,
+            c.loop-i.invariant.count,
+          ));
+      count = rw (c.values.ensures.values, c.minor_indices.ensures.indices)
+          c.values.ensures.sound.count;
+      target_rising = rw c.lane.ensures (rising_lane d i valid);
+      rising = rw c.minor_indices.ensures.indices c.minor_indices.ensures.sound.rising;
+      covered = rw (c.lane.ensures, c.minor_indices.ensures.indices, c.lane-lane.ensures) covered;
+    }
 
 pub loop-i-preserved : goal.loop-i-preserved
 loop-i-preserved g c =
+    let lt : c.loop-i.i < c.args.target.now.major_dim = omega (
+      arith,
+      c.loop-i-test.true,
+      c.major_dim-i-end.ensures,
+      ap (λ (d : Raw). d.major_dim) c.pattern.ensures.pattern,
+      c.requires.lanes,
+    ) in
     let added = rw (
       c.lane.ensures,
       c.major_offsets.ensures.offsets,
-      c.cs_data.ensures.offsets,
-      c.cs_data.ensures.indices,
-      c.cs_data.ensures.values,
+      c.minor_indices.ensures.indices,
+      c.values.ensures.values,
+      c.lane-lane.ensures,
     ) at c.add_lane.ensures.added in
     let kept = rw (c.lane.ensures, c.major_offsets.ensures.offsets) at c.add_lane.ensures.kept in
     added_more g.T.Ring.ring g.T.Ring.value g.T.Zero.zero_value c.args.target.now c.args.a.now
-    (g.T.Ring.value c.args.alpha) c.major_offsets.ensures.valid c.cs_data.ensures.sound
-    c.requires.lanes c.args.values.now c.loop-i.values c.add_lane.new.values c.loop-i.i
-    (omega arith) c.loop-i.invariant c.add_lane.ensures.count added kept
+    (g.T.Ring.value c.args.alpha) c.major_offsets.ensures.valid c.pattern.ensures.sound
+    c.requires.lanes c.args.values.now c.loop-i.values c.add_lane.new.values c.loop-i.i lt
+    c.loop-i.invariant c.add_lane.ensures.count added kept

@@ -63,3 +63,19 @@ returns-clause-added g c = λ m lt.
     (take_all k lane (omega (arith, all)))
     ∙ ap (λ l. R.add start (R.mul (f c.args.alpha) (lane_value R f lane l at)))
     (take_all k us (omega (arith, all, c.requires.count)))
+
+pub bounds-values-start : goal.bounds-values-start
+bounds-values-start g c = omega (
+  arith,
+  c.requires.inside,
+  c.loop-p.invariant.count,
+  c.loop-p-test.true,
+)
+
+pub bounds-values-start-then-target-p : goal.bounds-values-start-then-target-p
+bounds-values-start-then-target-p g c = omega (
+  arith,
+  c.requires.inside,
+  c.loop-p.invariant.count,
+  c.loop-p-test.true,
+)

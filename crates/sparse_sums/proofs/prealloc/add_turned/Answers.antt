@@ -1,3 +1,4 @@
+use Rattle.std.proofs.lemmas.Grind.{common_steps}
 use Rattle.std.proofs.Common.{◌≡◌, ◌<◌, length, get_or, true, ap, refl, sym, ◌∙◌, None, Some, rules}
 use Rattle.std.proofs.Common.{arith}
 use Rattle.std.proofs.lemmas.List.{get_or_default}
@@ -71,3 +72,20 @@ returns-clause-added g c =
     c.major_offsets.ensures.valid true (g.T.Ring.value c.args.alpha) c.args.a.now
     c.loop-i.i-iterator c.args.values.now c.loop-i.values c.in-None.ensures.steps.0
     c.loop-i.invariant
+
+pub bounds-values-at : goal.bounds-values-at
+bounds-values-at g c = omega (
+  arith,
+  c.in-Some-position_of.ensures.within,
+  c.requires.count,
+  c.loop-i.invariant.count,
+)
+
+pub returns-clause-count : goal.returns-clause-count
+returns-clause-count g c = c.loop-i.invariant.count
+
+pub offset_bounds-values-at : goal.offset_bounds-values-at
+offset_bounds-values-at g c = grind (arith, common_steps)
+
+pub offset_bounds-values-at-in-Some-position_of : goal.offset_bounds-values-at-in-Some-position_of
+offset_bounds-values-at-in-Some-position_of g c = grind (arith, common_steps)

@@ -17,3 +17,9 @@ returns-clause-added g c = λ i j p at.
     let x = R.mul (f c.args.alpha) ((plain_turned R true (plain_of_rows R f c.args.a.now)).value i
     j) in
     c.add_turned.ensures.added i j p at ∙ ap (λ y. R.add y x) (c.scale_values.ensures.each p within)
+
+pub returns-then-not-covers_turned-clause-covered :
+    goal.returns-then-not-covers_turned-clause-covered
+returns-then-not-covers_turned-clause-covered g c =
+    let covered = rw c.pattern.ensures.pattern at c.covers_turned.ensures in
+    (λ h. cc, λ h. let ok = covered.1 h in cc)

@@ -1,5 +1,5 @@
-use Rattle.std.proofs.Common.{◌≡◌, length, ap, sym, ◌∙◌}
-use Rattle.sparse_algebra.specs.Plain.{Plain}
+use Rattle.std.proofs.lemmas.Grind.{common_steps}
+use Rattle.std.proofs.Common.{ap, ◌∙◌, arith}
 use Rattle.sparse_cs.specs.PlainOfLanes.{plain_of_rows}
 use Rattle.sparse_op.specs.declared.error.OperationErrorKind.TheVariants.{InvalidPattern}
 use Rattle.sparse_op.specs.declared.error.OperationErrorKind.TheVariants.{OutOfMemory}
@@ -16,14 +16,9 @@ returns-clause-covered g c = λ ok.
     ∙ c.in_ok-a.ensures.plain in
     let is_second = ap (plain_of_rows R f) (c.cs-second.ensures.core ∙ c.matrix-2.ensures)
     ∙ c.in_ok-b.ensures.plain in
-    let fits : first.pattern.minor_dim ≡ second.pattern.major_dim =
-    ap (λ (p : Plain R). p.cols) is_first ∙ c.requires.inner
-    ∙ sym (ap (λ (p : Plain R). p.rows) is_second) in
-    let covered = rw c.pattern_and_values_mut-values.ensures.pattern at
-    c.update_checked.ensures.covered in
-    (rows_covered R f c.stands_law.ensures.rows first second c.values.ensures.sound
-    c.values-2.ensures.sound fits c.args.c.now c.values-3.ensures.sound _ _ is_first is_second).0
-    (covered.0 ok)
+    (rows_covered R f first second c.args.c.now _ _ c.pattern_and_values_mut-values.ensures.pattern
+    c.pattern_and_values_mut-values.ensures.values _ _ is_first is_second).0
+    (c.update_matrix_checked.ensures.covered.0 ok)
 
 pub returns-clause-refused : goal.returns-clause-refused
 returns-clause-refused g c =
@@ -35,16 +30,10 @@ returns-clause-refused g c =
     ∙ c.in_ok-a.ensures.plain in
     let is_second = ap (plain_of_rows R f) (c.cs-second.ensures.core ∙ c.matrix-2.ensures)
     ∙ c.in_ok-b.ensures.plain in
-    let fits : first.pattern.minor_dim ≡ second.pattern.major_dim =
-    ap (λ (p : Plain R). p.cols) is_first ∙ c.requires.inner
-    ∙ sym (ap (λ (p : Plain R). p.rows) is_second) in
-    let covered = rw c.pattern_and_values_mut-values.ensures.pattern at
-    c.update_checked.ensures.covered in
-    refused_is c.update_checked.result InvalidPattern OutOfMemory c.update_checked.ensures.kind
-    (λ h. covered.1
-    ((rows_covered R f c.stands_law.ensures.rows first second c.values.ensures.sound
-    c.values-2.ensures.sound fits c.args.c.now c.values-3.ensures.sound _ _ is_first is_second).1
-    h))
+    refused_is c.update_matrix_checked.result InvalidPattern OutOfMemory
+    c.update_matrix_checked.ensures.kind (λ h. c.update_matrix_checked.ensures.covered.1
+    ((rows_covered R f first second c.args.c.now _ _ c.pattern_and_values_mut-values.ensures.pattern
+    c.pattern_and_values_mut-values.ensures.values _ _ is_first is_second).1 h))
 
 pub returns-clause-updated : goal.returns-clause-updated
 returns-clause-updated g c =
@@ -56,18 +45,11 @@ returns-clause-updated g c =
     ∙ c.in_ok-a.ensures.plain in
     let is_second = ap (plain_of_rows R f) (c.cs-second.ensures.core ∙ c.matrix-2.ensures)
     ∙ c.in_ok-b.ensures.plain in
-    let fits : first.pattern.minor_dim ≡ second.pattern.major_dim =
-    ap (λ (p : Plain R). p.cols) is_first ∙ c.requires.inner
-    ∙ sym (ap (λ (p : Plain R). p.rows) is_second) in
-    let covered = rw c.pattern_and_values_mut-values.ensures.pattern at
-    c.update_checked.ensures.covered in
-    let updated = rw (
-      c.pattern_and_values_mut-values.ensures.pattern,
-      c.pattern_and_values_mut-values.ensures.values,
-    ) at c.update_checked.ensures.updated in
-    let long = c.update_checked.auto.values ∙ ap length
-    c.pattern_and_values_mut-values.ensures.values in
-    rows_updated R f c.stands_law.ensures.rows first second c.values.ensures.sound
-    c.values-2.ensures.sound fits c.args.c.now c.values-3.ensures.sound _ _ is_first is_second
-    c.stands_law.ensures.one_by_rows g.T.Zero.zero_value (f c.args.beta) (f c.args.alpha)
-    c.update_checked.new.values c.update_checked.result long covered.0 updated
+    rows_updated R f first second c.args.c.now _ _ c.pattern_and_values_mut-values.ensures.pattern
+    c.pattern_and_values_mut-values.ensures.values _ _ is_first is_second
+    (f c.args.beta) (f c.args.alpha) c.update_matrix_checked.new.values
+    c.update_matrix_checked.result c.update_matrix_checked.auto.values
+    c.update_matrix_checked.ensures.updated
+
+pub returns-clause-unchanged : goal.returns-clause-unchanged
+returns-clause-unchanged g c = grind (arith, common_steps)

@@ -1,4 +1,5 @@
-use Rattle.std.proofs.Common.{◌≡◌, length, ap, subst, ◌∙◌}
+use Rattle.std.proofs.lemmas.Grind.{common_steps}
+use Rattle.std.proofs.Common.{◌≡◌, length, ap, subst, ◌∙◌, arith}
 use Rattle.std.proofs.lemmas.List.{take_at}
 use Rattle.sparse_pattern.specs.Raw.{Raw}
 use Rattle.sparse_cs.specs.Compressed.{IsSound, compressed_of}
@@ -41,3 +42,6 @@ returns g c =
     c.stands_law.ensures.one_by_rows a b c.pattern.ensures.sound c.pattern-2.ensures.sound
     c.requires d z (f c.zero-2.result) none (f c.one.result) c.one.ensures c.deref_mut.result.now
     c.update.new.values sound major minor places c.in_ok-update.ensures.updated
+
+pub from_pattern_and_values-requires : goal.from_pattern_and_values-requires
+from_pattern_and_values-requires g c = grind (arith, common_steps)

@@ -1,4 +1,5 @@
-use Rattle.std.proofs.Common.{◌≡◌, ◌<◌, ℕ, length, get_or, ◌∙◌, ap}
+use Rattle.std.proofs.lemmas.Grind.{elements}
+use Rattle.std.proofs.Common.{◌≡◌, ◌<◌, ℕ, length, get_or, ◌∙◌, ap, arith}
 use Rattle.sparse_pattern.specs.Raw.{lane_of}
 use Rattle.sparse_cs.specs.InnerRows.{lane_value}
 use Rattle.sparse_cs.proofs.LaneValues.{values_of, lane_value_is}
@@ -24,3 +25,6 @@ returns-clause-added g c =
 pub returns-clause-counted : goal.returns-clause-counted
 returns-clause-counted g c = rw (← c.cs_data.ensures.offsets, ← c.cs_data.ensures.indices)
     c.add_row.ensures.counted
+
+pub add_row-requires-clause-inside : goal.add_row-requires-clause-inside
+add_row-requires-clause-inside g c = grind (arith, elements)

@@ -1,3 +1,4 @@
+use Rattle.std.proofs.lemmas.Grind.{elements}
 use Rattle.std.proofs.Common.{ℕ, inl, inr, refl, subst, sym, arith}
 use Rattle.sparse_lemmas.proofs.Cases.{lt_add_one_cases}
 use Rattle.sparse_pattern.specs.Raw.{lane_of, IsPlace}
@@ -34,3 +35,6 @@ returns c = (
       c.major_offsets-2.ensures.valid (λ i lt. c.loop-i.invariant i (omega arith)),
   λ _. refl,
 )
+
+pub covers_lanes-requires-clause-shared : goal.covers_lanes-requires-clause-shared
+covers_lanes-requires-clause-shared c = grind (arith, elements)

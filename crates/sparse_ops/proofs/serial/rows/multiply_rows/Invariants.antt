@@ -1,7 +1,7 @@
 use Rattle.std.proofs.Common.{◌≡◌, ℕ, get_or, vec_len}
 use Rattle.sparse_ops.specs.InnerLaneSets.{AreEmptySets}
 use Rattle.sparse_ops.proofs.ProductRows.{IsMultipliedBelow}
-use Rattle.sparse_ops.proofs.serial.product.multiply_rows.Given as goal
+use Rattle.sparse_ops.proofs.serial.rows.multiply_rows.Given as goal
 
 abbrev pub invariant-loop-i : goal.invariant-loop-i
 invariant-loop-i g l =
@@ -11,5 +11,6 @@ invariant-loop-i g l =
       empty : AreEmptySets l.b.pattern.minor_dim l.sets;
       width : vec_len l.row ≡ l.b.pattern.minor_dim;
       zero : (j : ℕ) → f (get_or l.row.items j g.T.Zero.zero_value) ≡ R.zero;
-      built : IsMultipliedBelow R f l.a l.b l.i l.offsets.items l.indices.items l.values.items;
+      built : IsMultipliedBelow R f l.a l.b l.i l.rows.offsets.items
+          l.rows.indices.items l.rows.values.items;
     }

@@ -1,0 +1,177 @@
+//! The product row by row: the indices of a row, and then its values, while the rows of `b` that it takes are in the cache.
+
+ghost use Rattle.std.specs.Prelude.{◌≡◌, ℕ, ◌<◌, ◌≤◌, ◌++◌, [], ◌∷◌, length, drop, slice_index_or, All, Contains, IfOk, OnOk};
+ghost use Rattle.std.specs.List.Sorted.{IsStrictlyIncreasing};
+ghost use Rattle.sparse_algebra.specs.Plain.{plain_product};
+ghost use Rattle.sparse_pattern.specs.Raw.{lane_of};
+ghost use Rattle.sparse_pattern.specs.InnerGainedLanes.{GainsLane};
+ghost use Rattle.sparse_cs.specs.Compressed.{IsSound, arrays_of};
+ghost use Rattle.sparse_cs.specs.PlainOfLanes.{plain_of_rows};
+ghost use Rattle.sparse_ops.specs.InnerLaneSets.{AreEmptySets};
+ghost use Rattle.sparse_ops.specs.InnerProducts.{IsInLanes, GainsValues};
+
+use super::lane_sets::LaneSets;
+use super::pattern::{count_indices, push_lane};
+use super::scatter::{update_row, zero_row};
+use sparse_algebra::scalar::Ring;
+use sparse_base::steps::Steps;
+use sparse_cs::CsMatrix;
+use sparse_cs::laws::stands_law;
+use sparse_pattern::pattern::SparsityPattern;
+use std::alloc::{AllocError, Global};
+
+// The rows of a product that are made so far.
+#[derive(Drop)]
+struct Rows<T> {
+    offsets: Vec<usize>,
+    indices: Vec<usize>,
+    values: Vec<T>,
+}
+
+// Returns the product `a * b` of two matrices whose lanes are rows.
+pub(super) fn multiply_rows<T: Ring>(
+    alloc: Global,
+    a: &CsMatrix<T>,
+    b: &CsMatrix<T>,
+) -> Result<CsMatrix<T>, AllocError>
+    requires { a.now.pattern.minor_dim ≡ b.now.pattern.major_dim }
+    ensures { IfOk result (λ m. plain_of_rows T.ring T.value m
+        ≡ plain_product T.ring (plain_of_rows T.ring T.value a.now)
+        (plain_of_rows T.ring T.value b.now)) }
+{
+    // The law costs nothing: it tells the prover what the plain matrices are.
+    stands_law::<T>();
+    let (first, second) = (a.pattern(), b.pattern());
+    let mut sets = LaneSets::new(alloc, second.minor_dim())?;
+    let mut row = zero_row(alloc, second.minor_dim())?;
+    let mut rows = no_rows(alloc, first, second)?;
+    for i in 0..first.major_dim() {
+        push_row(a, i, b, &mut sets, &mut row, &mut rows)?;
+    }
+    Ok(into_matrix(rows, first.major_dim(), second.minor_dim()))
+}
+
+// No rows yet, with room for those of the product.
+fn no_rows<T: Ring>(
+    alloc: Global,
+    a: &SparsityPattern,
+    b: &SparsityPattern,
+) -> Result<Rows<T>, AllocError>
+    requires { a.now.minor_dim ≡ b.now.major_dim }
+    ensures offsets { IfOk result (λ rows. rows.offsets.items ≡ 0 ∷ []) }
+    ensures indices { IfOk result (λ rows. rows.indices.items ≡ []) }
+    ensures values { IfOk result (λ rows. rows.values.items ≡ []) }
+{
+    let room = first_room(a, b);
+    let mut offsets = Vec::with_capacity(alloc, a.major_offsets().len())?;
+    offsets.push(0)?;
+    Ok(Rows {
+        offsets,
+        indices: Vec::with_capacity(alloc, room)?,
+        values: Vec::with_capacity(alloc, room)?,
+    })
+}
+
+// How many places there is room for at first: one for each triple (i, k, j), but at most twice as many as both factors have.
+fn first_room(a: &SparsityPattern, b: &SparsityPattern) -> usize
+    requires { a.now.minor_dim ≡ b.now.major_dim }
+{
+    let most = a.nnz().saturating_add(b.nnz()).saturating_mul(2);
+    count_indices(a.minor_indices(), b).min(most)
+}
+
+// Appends row i of the product. The scratch sets are empty and the scratch row is zero before and after. Inlined: where rows are short, the
+// calls for a row took half of the time.
+#[inline(always)]
+fn push_row<T: Ring>(
+    a: &CsMatrix<T>,
+    i: usize,
+    b: &CsMatrix<T>,
+    sets: &mut LaneSets,
+    row: &mut [T],
+    rows: &mut Rows<T>,
+) -> Result<(), AllocError>
+    requires inner { a.now.pattern.minor_dim ≡ b.now.pattern.major_dim }
+    requires lane { i < a.now.pattern.major_dim }
+    requires empty { AreEmptySets b.now.pattern.minor_dim sets.old }
+    requires width { length row.old ≡ b.now.pattern.minor_dim }
+    requires zero { (j : ℕ) → T.value (slice_index_or row.old j T.zero_value) ≡ T.ring.zero }
+    requires count { length rows.old.values.items ≡ length rows.old.indices.items }
+    ensures empty { OnOk result (AreEmptySets b.now.pattern.minor_dim sets.new) }
+    ensures zero { OnOk result ((j : ℕ)
+        → T.value (slice_index_or row.new j T.zero_value) ≡ T.ring.zero) }
+    ensures lane { OnOk result (GainsLane rows.old.indices.items rows.new.indices.items
+        (IsInLanes b.now.pattern (lane_of a.now.pattern i))) }
+    ensures offset { OnOk result (rows.new.offsets.items
+        ≡ rows.old.offsets.items ++ length rows.new.indices.items ∷ []) }
+    ensures values { OnOk result (GainsValues T.ring T.value T.zero_value
+        rows.old.values.items rows.new.values.items
+        (drop (length rows.old.values.items) rows.new.indices.items)
+        ((plain_product T.ring (plain_of_rows T.ring T.value a.now)
+        (plain_of_rows T.ring T.value b.now)).value i)) }
+{
+    push_lane(a.pattern().lane(i), b.pattern(), sets, &mut rows.indices)?;
+    rows.offsets.push(rows.indices.len())?;
+    push_values(a, i, b, row, &rows.indices, &mut rows.values)
+}
+
+// Appends the values of row i of the product, at the indices that have none yet. The scratch row is zero before and after.
+#[inline(always)]
+fn push_values<T: Ring>(
+    a: &CsMatrix<T>,
+    i: usize,
+    b: &CsMatrix<T>,
+    row: &mut [T],
+    indices: &[usize],
+    values: &mut Vec<T>,
+) -> Result<(), AllocError>
+    requires inner { a.now.pattern.minor_dim ≡ b.now.pattern.major_dim }
+    requires lane { i < a.now.pattern.major_dim }
+    requires width { length row.old ≡ b.now.pattern.minor_dim }
+    requires zero { (j : ℕ) → T.value (slice_index_or row.old j T.zero_value) ≡ T.ring.zero }
+    requires room { length values.old.items ≤ length indices.now }
+    requires rising { IsStrictlyIncreasing (drop (length values.old.items) indices.now) }
+    requires inside { All (λ j. j < b.now.pattern.minor_dim)
+        (drop (length values.old.items) indices.now) }
+    requires places { (j : ℕ) → IsInLanes b.now.pattern (lane_of a.now.pattern i) j
+        → Contains (drop (length values.old.items) indices.now) j }
+    ensures zero { OnOk result ((j : ℕ)
+        → T.value (slice_index_or row.new j T.zero_value) ≡ T.ring.zero) }
+    ensures gained { OnOk result (GainsValues T.ring T.value T.zero_value
+        values.old.items values.new.items (drop (length values.old.items) indices.now)
+        ((plain_product T.ring (plain_of_rows T.ring T.value a.now)
+        (plain_of_rows T.ring T.value b.now)).value i)) }
+{
+    let begin = values.len();
+    values.resize(indices.len(), T::zero())?;
+    update_row(
+        T::zero(),
+        &indices[begin..],
+        &mut values[begin..],
+        T::one(),
+        a,
+        i,
+        b,
+        row,
+        &mut Steps::new(),
+    );
+    Ok(())
+}
+
+// Returns the matrix of the rows.
+fn into_matrix<T: Ring>(rows: Rows<T>, major_dim: usize, minor_dim: usize) -> CsMatrix<T>
+    requires { IsSound (arrays_of major_dim minor_dim rows.offsets.items rows.indices.items
+        rows.values.items) }
+    ensures { result ≡ arrays_of major_dim minor_dim rows.offsets.items rows.indices.items
+        rows.values.items }
+{
+    let Rows {
+        offsets,
+        indices,
+        values,
+    } = rows;
+    let pattern = SparsityPattern::from_offset_and_indices_unchecked(
+        major_dim, minor_dim, offsets, indices,
+    );
+    CsMatrix::from_pattern_and_values(pattern, values)
+}

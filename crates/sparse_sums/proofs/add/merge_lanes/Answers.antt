@@ -1,0 +1,84 @@
+use Rattle.std.proofs.Common.{◌≡◌, ◌<◌, not, eqb, ◌++◌, ◌∷◌, [], sym, ap, ◌∙◌, arith}
+use Rattle.sparse_pattern.specs.Raw.{Raw}
+use Rattle.sparse_sums.proofs.SumLanes.{sum_more, sum_is, sum_sound, gained_count}
+use Rattle.sparse_sums.proofs.add.merge_lanes.Goals as goal
+
+pub merge_lane-requires-clause-first : goal.merge_lane-requires-clause-first
+merge_lane-requires-clause-first g c = omega (
+  arith,
+  c.loop-i-test.true,
+  c.major_dim-i-end.ensures,
+  ap (λ (d : Raw). d.major_dim) c.pattern.ensures.pattern,
+)
+
+pub merge_lane-requires-clause-second : goal.merge_lane-requires-clause-second
+merge_lane-requires-clause-second g c = omega (
+  arith,
+  c.loop-i-test.true,
+  c.major_dim-i-end.ensures,
+  ap (λ (d : Raw). d.major_dim) c.pattern.ensures.pattern,
+  c.requires.lanes,
+)
+
+pub loop-i-preserved : goal.loop-i-preserved
+loop-i-preserved g c =
+    let R = g.T.Ring.ring in
+    let f = g.T.Ring.value in
+    let z = g.T.Zero.zero_value in
+    let negate = not (eqb g.row.NEGATE 0) in
+    let a = c.args.a.now in
+    let b = c.args.b.now in
+    let i = c.loop-i.i in
+    let sa = c.pattern.ensures.sound in
+    let sb = c.requires.sound in
+    let lt : i < a.pattern.major_dim = omega (
+      arith,
+      c.loop-i-test.true,
+      c.major_dim-i-end.ensures,
+      ap (λ (d : Raw). d.major_dim) c.pattern.ensures.pattern,
+    ) in
+    let gained = c.in_ok-merge_lane.ensures.gained in
+    let was = c.loop-i in
+    let now = c.merge_lane.new in
+    let inv = c.loop-i.invariant in
+    record {
+      values_count = now.values.ok.0 ∙ gained_count R f z negate a b sa sb c.requires.lanes
+          c.requires.width was.indices.items now.indices.items was.values.items now.values.items
+          _ _ (sym was.values.ok.0 ∙ inv.values_count ∙ was.indices.ok.0) gained
+          ∙ sym now.indices.ok.0;
+      built = sum_more R f z negate a b sa sb c.requires.lanes c.requires.width i
+          was.offsets.items _ was.indices.items now.indices.items was.values.items
+          now.values.items lt inv.built gained
+          (c.in_ok-push-2.ensures.items ∙ ap (λ n. was.offsets.items ++ n ∷ [])
+          (c.len.ensures ∙ now.indices.ok.0));
+    }
+
+pub returns-clause-sound : goal.returns-clause-sound
+returns-clause-sound g c =
+    let a = c.args.a.now in
+    let whole : c.loop-i.i ≡ a.pattern.major_dim = omega (
+      arith,
+      c.loop-i-test.false,
+      c.loop-i.auto.i-end,
+      c.major_dim-i-end.ensures,
+      ap (λ (d : Raw). d.major_dim) c.pattern.ensures.pattern,
+    ) in
+    sum_sound g.T.Ring.ring g.T.Ring.value g.T.Zero.zero_value (not (eqb g.row.NEGATE 0)) a
+    c.args.b.now c.pattern.ensures.sound c.requires.sound c.requires.lanes c.requires.width
+    c.loop-i.i c.loop-i.offsets.items c.loop-i.indices.items c.loop-i.values.items whole
+    c.loop-i.invariant.built
+
+pub returns-clause-sum : goal.returns-clause-sum
+returns-clause-sum g c =
+    let a = c.args.a.now in
+    let whole : c.loop-i.i ≡ a.pattern.major_dim = omega (
+      arith,
+      c.loop-i-test.false,
+      c.loop-i.auto.i-end,
+      c.major_dim-i-end.ensures,
+      ap (λ (d : Raw). d.major_dim) c.pattern.ensures.pattern,
+    ) in
+    sum_is g.T.Ring.ring g.T.Ring.value g.T.Zero.zero_value (not (eqb g.row.NEGATE 0)) a
+    c.args.b.now c.pattern.ensures.sound c.requires.sound c.requires.lanes c.requires.width
+    c.loop-i.i c.loop-i.offsets.items c.loop-i.indices.items c.loop-i.values.items whole
+    c.loop-i.invariant.built
