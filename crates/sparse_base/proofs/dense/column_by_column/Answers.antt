@@ -1,3 +1,4 @@
+use Rattle.std.proofs.lemmas.Grind.{common_steps}
 use Rattle.std.proofs.Common.{arith}
 use Rattle.std.proofs.Math.Nat.{mul_comm}
 use Rattle.std.proofs.lemmas.Nat.{mul-add-lt}
@@ -12,3 +13,6 @@ loop-i-preserved g c =
     rw c.in_ok-push.ensures.items (filled_more c.args.nrows c.args.ncols c.args.rows.now
     c.loop-i.columns.items c.loop-j.j c.loop-i.i c.index-rows-i.result c.loop-i.invariant
     c.loop-i-test.true c.index-rows-i.is (omega arith))
+
+pub returns : goal.returns
+returns g c = grind (arith, common_steps)

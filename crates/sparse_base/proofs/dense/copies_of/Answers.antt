@@ -1,4 +1,5 @@
-use Rattle.std.proofs.Common.{rules}
+use Rattle.std.proofs.lemmas.Grind.{common_steps}
+use Rattle.std.proofs.Common.{rules, arith}
 use Rattle.sparse_base.proofs.dense.copies_of.Goals as goal
 
 pub loop-init : goal.loop-init
@@ -6,3 +7,6 @@ loop-init g c = search rules
 
 pub returns : goal.returns
 returns g c = search rules
+
+pub loop-preserved : goal.loop-preserved
+loop-preserved g c = grind (arith, common_steps)

@@ -1,3 +1,4 @@
+use Rattle.std.proofs.lemmas.Grind.{common_steps}
 use Rattle.std.proofs.Common.{◌≡◌, ◌≢◌, ◌-◌, ◌<◌, length, get_or, slice_index, vec_capacity, ap}
 use Rattle.std.proofs.Common.{sym, ◌∙◌, arith}
 use Rattle.std.proofs.lemmas.List.{get_or_read}
@@ -67,3 +68,6 @@ loop-index-preserved g c =
                 ∙ w.push_reserved-else-len-start.ensures.capacity ∙ inv.value_capacity;
           }
     ]
+
+pub returns-clause-merged : goal.returns-clause-merged
+returns-clause-merged g c = grind (arith, common_steps)

@@ -1,3 +1,4 @@
+use Rattle.std.proofs.lemmas.Grind.{common_steps}
 use Rattle.std.proofs.Common.{◌≡◌, ◌<◌, ◌-◌, ℕ, All, IsPermutation, length, ap, sym, ◌∙◌, subst}
 use Rattle.std.proofs.Common.{arith}
 use Rattle.std.proofs.lemmas.List.Sorted.{All-permutation}
@@ -72,3 +73,6 @@ returns-clause-plain g c =
     ∙ rw (c.deref-2.ensures.value, c.deref-3.ensures.value, back) whole
     in
     IfOk-weaker c.merge_lanes.result _ _ (λ m e. e ∙ same) c.merge_lanes.ensures.plain
+
+pub merge_lanes-requires-clause-offsets : goal.merge_lanes-requires-clause-offsets
+merge_lanes-requires-clause-offsets g c = grind (arith, common_steps)

@@ -1,4 +1,5 @@
-use Rattle.std.proofs.Common.{◌≡◌, ◌<◌, All, map, ap, ◌∙◌}
+use Rattle.std.proofs.lemmas.Grind.{common_steps}
+use Rattle.std.proofs.Common.{◌≡◌, ◌<◌, All, map, ap, ◌∙◌, arith}
 use Rattle.std.proofs.lemmas.List.Elements.{All-map}
 use Rattle.sparse_base.specs.Coo.{zip_triplets}
 use Rattle.sparse_algebra.specs.Plain.{plain_of_triplets, plain_transpose}
@@ -44,3 +45,9 @@ returns-clause-plain g c =
     in
     ap (plain_of_cols R f) c.from_cs.ensures ∙ ap (plain_transpose R) c.in_ok-cs.ensures.plain
     ∙ plain_of_turned R f c.nrows.result c.ncols.result rows cols values ∙ parts
+
+pub compress-requires-clause-minors : goal.compress-requires-clause-minors
+compress-requires-clause-minors g c = grind (arith, common_steps)
+
+pub compress-requires-clause-values : goal.compress-requires-clause-values
+compress-requires-clause-values g c = grind (arith, common_steps)

@@ -1,4 +1,5 @@
-use Rattle.std.proofs.Common.{◌-◌, subst, sym, get_or}
+use Rattle.std.proofs.lemmas.Grind.{elements}
+use Rattle.std.proofs.Common.{◌-◌, subst, sym, get_or, arith}
 use Rattle.std.proofs.lemmas.Slice.Zip.{AllZip-long}
 use Rattle.sparse_base.specs.CooPlain.{plain_of_coo}
 use Rattle.sparse_expr.specs.InnerSources.{Provides}
@@ -40,3 +41,6 @@ returns-clause-provides g c =
     c.if-number-inputs.false) c.requires.provides
     (subst (λ list. Provides R f list c.matrix_of.new.source) c.index-inputs-number.is
     c.in_ok-matrix_of.ensures.provides)
+
+pub returns-then-number-eq0-clause-met : goal.returns-then-number-eq0-clause-met
+returns-then-number-eq0-clause-met g c = grind (arith, elements)

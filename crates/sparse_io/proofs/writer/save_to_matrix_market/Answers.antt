@@ -1,4 +1,5 @@
-use Rattle.std.proofs.Common.{refl, ◌∙◌, rules}
+use Rattle.std.proofs.lemmas.Grind.{common_steps, moves}
+use Rattle.std.proofs.Common.{refl, ◌∙◌, rules, arith}
 use Rattle.std.proofs.lemmas.Result.{err_from_is_err_and}
 use Rattle.sparse_io.proofs.Buffering.{IsWriting-none, IsWriting-more, IsWriting-refused}
 use Rattle.sparse_io.proofs.Buffering.{IsWriting-all}
@@ -35,3 +36,12 @@ returns-in_err-flush-clause-prefix g c =
     c.from_residual-in_err-flush.ensures.1 in
     rw (p.1) (IsWriting-refused _ _ _ _ _ _ _ _ c.loop-row.invariant.writing
     c.in_err-flush.ensures.prefix)
+
+pub returns-in_err-text-clause-prefix : goal.returns-in_err-text-clause-prefix
+returns-in_err-text-clause-prefix g c = grind (arith, common_steps)
+
+pub put_triplet-requires-clause-col : goal.put_triplet-requires-clause-col
+put_triplet-requires-clause-col g c = grind (arith, moves)
+
+pub put_triplet-requires-clause-row : goal.put_triplet-requires-clause-row
+put_triplet-requires-clause-row g c = grind (arith, moves)

@@ -1,4 +1,5 @@
-use Rattle.std.proofs.Common.{rules}
+use Rattle.std.proofs.lemmas.Grind.{moves}
+use Rattle.std.proofs.Common.{rules, arith}
 use Rattle.sparse_io.proofs.Buffering.{IsBegun-none, IsBegun-more, IsBegun-all}
 use Rattle.sparse_io.proofs.writer.save_to_matrix_market_str.Goals as goal
 
@@ -11,3 +12,9 @@ loop-row-preserved g c = rw c.in_ok-push_triplet.ensures
 
 pub returns : goal.returns
 returns g c = IsBegun-all _ _ _ _ _ c.loop-row.invariant c.in-None.ensures.steps.0
+
+pub push_triplet-requires-clause-col : goal.push_triplet-requires-clause-col
+push_triplet-requires-clause-col g c = grind (arith, moves)
+
+pub push_triplet-requires-clause-row : goal.push_triplet-requires-clause-row
+push_triplet-requires-clause-row g c = grind (arith, moves)

@@ -1,3 +1,4 @@
+use Rattle.std.proofs.lemmas.Grind.{common_steps}
 use Rattle.std.proofs.Common.{◌≡◌, ◌<◌, ◌≤◌, ◌+◌, ◌-◌, ◌*◌, ◌^◌, get_or, length, sym, subst, ◌∙◌, arith}
 use Rattle.std.proofs.Common.{rules, ℕ, true}
 use Rattle.std.specs.Char.{is_ascii_digit}
@@ -37,3 +38,9 @@ loop-at-preserved c =
       rest = after_passed is_ascii_digit _ _ inside digit ∙ c.loop-at.invariant.rest;
       number = rw is (digit_read c.loop-at.number _ _ inside digit ∙ c.loop-at.invariant.number);
     }
+
+pub returns-after-loop-at-clause-read : goal.returns-after-loop-at-clause-read
+returns-after-loop-at-clause-read c = grind (arith, common_steps)
+
+pub returns-else-is_ascii_digit-clause-read : goal.returns-else-is_ascii_digit-clause-read
+returns-else-is_ascii_digit-clause-read c = grind (arith, common_steps)

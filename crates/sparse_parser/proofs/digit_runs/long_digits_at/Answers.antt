@@ -1,3 +1,4 @@
+use Rattle.std.proofs.lemmas.Grind.{common_steps}
 use Rattle.std.proofs.Common.{arith}
 use Rattle.sparse_parser.proofs.Runs.{first_read}
 use Rattle.sparse_parser.proofs.digit_runs.long_digits_at.Goals as goal
@@ -7,3 +8,6 @@ returns-then-count-le-SHORT-clause-read c =
     first_read 24 c.args.text.now c.text_from-rest.result.now c.split_at.result.0.now c.args.from _ _
     c.requires c.text_from-rest.ensures c.split_at.ensures.front c.read_digits-count.ensures.end
     (omega arith) (omega arith) c.read_digits-count.ensures.value
+
+pub returns-then-count-le-SHORT-clause-inside : goal.returns-then-count-le-SHORT-clause-inside
+returns-then-count-le-SHORT-clause-inside c = grind (arith, common_steps)

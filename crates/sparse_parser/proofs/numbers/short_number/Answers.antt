@@ -1,3 +1,4 @@
+use Rattle.std.proofs.lemmas.Grind.{common_steps}
 use Rattle.std.proofs.Common.{◌≡◌, ◌-◌, ◌≤◌, List, ℕ, get_or, take, drop, length, length-drop}
 use Rattle.std.proofs.Common.{take_all, inl, sym, subst, ◌∙◌, arith, rules}
 use Rattle.std.specs.Char.{is_ascii_digit}
@@ -44,3 +45,6 @@ returns-clause-stopped c =
       | else-loop-at-test w ↦ stopped_end c.args.text.now c.loop-at.at c.min-end.result
           c.min-end.ensures w.loop-at-test.false c.loop-at.invariant.room
     ])
+
+pub loop-at-preserved : goal.loop-at-preserved
+loop-at-preserved c = grind (arith, common_steps)

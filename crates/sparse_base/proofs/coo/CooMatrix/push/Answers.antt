@@ -1,4 +1,5 @@
-use Rattle.std.proofs.Common.{ap, rules}
+use Rattle.std.proofs.lemmas.Grind.{common_steps}
+use Rattle.std.proofs.Common.{ap, rules, arith}
 use Rattle.sparse_base.specs.Coo.{coo_of}
 use Rattle.sparse_base.proofs.TripletLists.{triplets-push}
 use Rattle.sparse_base.proofs.coo.CooMatrix.push.Goals as goal
@@ -24,3 +25,6 @@ invariant_of-self-in_err-reserve-3 g c = search rules
 
 pub returns-in_err-reserve-3-clause-err : goal.returns-in_err-reserve-3-clause-err
 returns-in_err-reserve-3-clause-err g c = search rules
+
+pub invariant_of-self-2 : goal.invariant_of-self-2
+invariant_of-self-2 g c = grind (arith, common_steps)

@@ -1,4 +1,5 @@
-use Rattle.std.proofs.Common.{refl}
+use Rattle.std.proofs.lemmas.Grind.{common_steps}
+use Rattle.std.proofs.Common.{refl, arith}
 use Rattle.sparse_base.specs.Coo.{zip_triplets}
 use Rattle.sparse_base.proofs.TripletLists.{parts_inside, rows_back, cols_back, values_back}
 use Rattle.sparse_base.proofs.coo.CooMatrix.triplet_iter_mut.Goals as goal
@@ -29,3 +30,6 @@ returns g c =
         inside = rw (← c.self.view_is) (parts_inside parts);
       },
     )
+
+pub invariant_of-self-lent : goal.invariant_of-self-lent
+invariant_of-self-lent g c = grind (arith, common_steps)

@@ -1,4 +1,5 @@
-use Rattle.std.proofs.Common.{refl, true}
+use Rattle.std.proofs.lemmas.Grind.{common_steps}
+use Rattle.std.proofs.Common.{refl, true, arith}
 use Rattle.std.proofs.iter.runs.Made.{run, to_end}
 use Rattle.sparse_base.proofs.coo.from_iter.split_triplets.Goals as goal
 
@@ -12,3 +13,6 @@ returns g c =
       refl,
       (kept.rows, kept.cols, kept.values),
     )
+
+pub loop-row-preserved : goal.loop-row-preserved
+loop-row-preserved g c = grind (arith, common_steps)

@@ -4,3 +4,6 @@ use Rattle.sparse_base.proofs.dense.DMatrix.column_mut.Goals as goal
 
 pub returns : goal.returns
 returns g c = grind (arith, common_steps)
+
+pub invariant_of-self-lent : goal.invariant_of-self-lent
+invariant_of-self-lent g c = grind (arith, common_steps)

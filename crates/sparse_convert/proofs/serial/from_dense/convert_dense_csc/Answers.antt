@@ -1,4 +1,5 @@
-use Rattle.std.proofs.Common.{map, ap, sym, ◌∙◌}
+use Rattle.std.proofs.lemmas.Grind.{common_steps}
+use Rattle.std.proofs.Common.{map, ap, sym, ◌∙◌, arith}
 use Rattle.std.specs.List.{filter}
 use Rattle.sparse_cs.specs.Compressed.{turned}
 use Rattle.sparse_convert.specs.FromDense.{differs_from}
@@ -15,3 +16,6 @@ returns-clause-kept g c =
     rw c.from_cs.ensures
     (ap (map turned) (kept ∙ ap (filter (differs_from E z)) (lanes_by_columns z d))
     ∙ sym (kept_columns E z d))
+
+pub compress_lanes-requires-clause-starts : goal.compress_lanes-requires-clause-starts
+compress_lanes-requires-clause-starts g c = grind (arith, common_steps)

@@ -1,3 +1,4 @@
+use Rattle.std.proofs.lemmas.Grind.{common_steps}
 use Rattle.std.proofs.Common.{inl, inr, sym, subst, ap, refl, ◌∙◌, arith}
 use Rattle.std.specs.List.{flat_map}
 use Rattle.std.proofs.lemmas.Result.{MatchResult-weaker, err_from_is_err_and}
@@ -53,3 +54,6 @@ returns-clause-refused c =
         | inr more ↦ inr (omega (arith, more.0), more.1)
       ],
     ))))
+
+pub returns-clause-said : goal.returns-clause-said
+returns-clause-said c = grind (arith, common_steps)

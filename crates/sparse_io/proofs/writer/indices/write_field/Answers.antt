@@ -1,3 +1,4 @@
+use Rattle.std.proofs.lemmas.Grind.{common_steps}
 use Rattle.std.proofs.Common.{◌≤◌, length, rules, arith}
 use Rattle.std.specs.Fmt.{decimal}
 use Rattle.std.proofs.lemmas.Fmt.{length-decimal-le}
@@ -12,3 +13,6 @@ pub returns-clause-short : goal.returns-clause-short
 returns-clause-short c =
     let short : length (decimal c.args.number) ≤ 20 = search (rules, length-decimal-le 20) in
     omega (arith, c.write_digits.ensures.start)
+
+pub returns-clause-written : goal.returns-clause-written
+returns-clause-written c = grind (arith, common_steps)

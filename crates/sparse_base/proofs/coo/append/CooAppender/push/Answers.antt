@@ -1,4 +1,5 @@
-use Rattle.std.proofs.Common.{ap, rules}
+use Rattle.std.proofs.lemmas.Grind.{common_steps}
+use Rattle.std.proofs.Common.{ap, rules, arith}
 use Rattle.sparse_base.specs.Coo.{coo_of}
 use Rattle.sparse_base.proofs.TripletLists.{triplets-push}
 use Rattle.sparse_base.proofs.coo.append.CooAppender.push.Goals as goal
@@ -19,3 +20,6 @@ returns-clause-pushed g c =
 
 pub returns-clause-room : goal.returns-clause-room
 returns-clause-room g c = search rules
+
+pub invariant_of-self : goal.invariant_of-self
+invariant_of-self g c = grind (arith, common_steps)
