@@ -4,7 +4,7 @@
 //! the same places and values. The functions here take matrices by rows, those of [`columns`] matrices by columns.
 
 ghost use Rattle.std.specs.Prelude.{◌≡◌, ◌↔◌, ℕ, true, IfOk};
-ghost use Rattle.sparse_algebra.specs.Plain.{plain_product, plain_sum};
+ghost use Rattle.sparse_algebra.specs.Plain.{plain_product, plain_sum, plain_transpose};
 ghost use Rattle.sparse_pattern.specs.Raw.{Raw, IsPlace};
 ghost use Rattle.sparse_cs.specs.Compressed.{Compressed, IsSound};
 ghost use Rattle.sparse_cs.specs.PlainOfLanes.{plain_of_rows};
@@ -113,12 +113,39 @@ pub fn transpose_of_product<T: Ring>(
     ensures { IfOk result
         (λ m. plain_of_rows T.ring T.value m.0 ≡ plain_of_rows T.ring T.value m.1) }
 {
+    let transposed = transposed_product(alloc, a, b)?;
+    let reversed = product_of_transposes(alloc, a, b)?;
+    Ok((transposed, reversed))
+}
+
+// Returns the transpose of `a * b`.
+fn transposed_product<T: Ring>(
+    alloc: Global,
+    a: &CsrMatrix<T>,
+    b: &CsrMatrix<T>,
+) -> Result<CsrMatrix<T>, AllocError>
+    requires { a.now.pattern.minor_dim ≡ b.now.pattern.major_dim }
+    ensures { IfOk result (λ m. plain_of_rows T.ring T.value m ≡ plain_transpose T.ring
+        (plain_product T.ring (plain_of_rows T.ring T.value a.now) (plain_of_rows T.ring T.value b.now))) }
+{
     let product = mul_csr(alloc, a, b)?;
-    let transposed = transposed_csr(alloc, &product)?;
+    transposed_csr(alloc, &product)
+}
+
+// Returns the transpose of `b` times the transpose of `a`.
+fn product_of_transposes<T: Ring>(
+    alloc: Global,
+    a: &CsrMatrix<T>,
+    b: &CsrMatrix<T>,
+) -> Result<CsrMatrix<T>, AllocError>
+    requires { a.now.pattern.minor_dim ≡ b.now.pattern.major_dim }
+    ensures { IfOk result (λ m. plain_of_rows T.ring T.value m ≡ plain_product T.ring
+        (plain_transpose T.ring (plain_of_rows T.ring T.value b.now))
+        (plain_transpose T.ring (plain_of_rows T.ring T.value a.now))) }
+{
     let first = transposed_csr(alloc, a)?;
     let second = transposed_csr(alloc, b)?;
-    let reversed = mul_csr(alloc, &second, &first)?;
-    Ok((transposed, reversed))
+    mul_csr(alloc, &second, &first)
 }
 
 // Returns `a * (b + c)`.

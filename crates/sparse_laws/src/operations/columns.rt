@@ -1,7 +1,7 @@
 //! The laws of sums and products of matrices by columns.
 
 ghost use Rattle.std.specs.Prelude.{◌≡◌, IfOk};
-ghost use Rattle.sparse_algebra.specs.Plain.{plain_product, plain_sum};
+ghost use Rattle.sparse_algebra.specs.Plain.{plain_product, plain_sum, plain_transpose};
 ghost use Rattle.sparse_cs.specs.PlainOfLanes.{plain_of_cols};
 
 use sparse_algebra::scalar::Ring;
@@ -107,12 +107,39 @@ pub fn transpose_of_product<T: Ring>(
     ensures { IfOk result (λ m. plain_of_cols T.ring T.value m.0
         ≡ plain_of_cols T.ring T.value m.1) }
 {
+    let transposed = transposed_product(alloc, a, b)?;
+    let reversed = product_of_transposes(alloc, a, b)?;
+    Ok((transposed, reversed))
+}
+
+// Returns the transpose of `a * b`.
+fn transposed_product<T: Ring>(
+    alloc: Global,
+    a: &CscMatrix<T>,
+    b: &CscMatrix<T>,
+) -> Result<CscMatrix<T>, AllocError>
+    requires { a.now.pattern.major_dim ≡ b.now.pattern.minor_dim }
+    ensures { IfOk result (λ m. plain_of_cols T.ring T.value m ≡ plain_transpose T.ring
+        (plain_product T.ring (plain_of_cols T.ring T.value a.now) (plain_of_cols T.ring T.value b.now))) }
+{
     let product = mul_csc(alloc, a, b)?;
-    let transposed = transposed_csc(alloc, &product)?;
+    transposed_csc(alloc, &product)
+}
+
+// Returns the transpose of `b` times the transpose of `a`.
+fn product_of_transposes<T: Ring>(
+    alloc: Global,
+    a: &CscMatrix<T>,
+    b: &CscMatrix<T>,
+) -> Result<CscMatrix<T>, AllocError>
+    requires { a.now.pattern.major_dim ≡ b.now.pattern.minor_dim }
+    ensures { IfOk result (λ m. plain_of_cols T.ring T.value m ≡ plain_product T.ring
+        (plain_transpose T.ring (plain_of_cols T.ring T.value b.now))
+        (plain_transpose T.ring (plain_of_cols T.ring T.value a.now))) }
+{
     let first = transposed_csc(alloc, a)?;
     let second = transposed_csc(alloc, b)?;
-    let reversed = mul_csc(alloc, &second, &first)?;
-    Ok((transposed, reversed))
+    mul_csc(alloc, &second, &first)
 }
 
 // Returns `a * (b + c)`.

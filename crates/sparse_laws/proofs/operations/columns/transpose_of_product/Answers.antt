@@ -1,5 +1,4 @@
 use Rattle.std.proofs.Common.{ap, sym, ◌∙◌}
-use Rattle.sparse_algebra.specs.Plain.{Plain, plain_product, plain_transpose}
 use Rattle.sparse_algebra.proofs.PlainLemmas.{transpose_product}
 use Rattle.sparse_cs.specs.PlainOfLanes.{plain_of_cols}
 use Rattle.sparse_laws.proofs.operations.columns.transpose_of_product.Goals as goal
@@ -7,10 +6,7 @@ use Rattle.sparse_laws.proofs.operations.columns.transpose_of_product.Goals as g
 pub returns : goal.returns
 returns g c =
     let R = g.T.Ring.ring in
-    let a = plain_of_cols R g.T.Ring.value c.args.a.now in
-    let b = plain_of_cols R g.T.Ring.value c.args.b.now in
-    let second = plain_of_cols R g.T.Ring.value c.in_ok-second.second in
-    c.in_ok-transposed.ensures ∙ ap (plain_transpose R) c.in_ok-product.ensures
-    ∙ transpose_product R a b c.requires
-    ∙ ap (λ (x : Plain R). plain_product R x (plain_transpose R a)) (sym c.in_ok-second.ensures)
-    ∙ ap (plain_product R second) (sym c.in_ok-first.ensures) ∙ sym c.in_ok-reversed.ensures
+    let plain = plain_of_cols R g.T.Ring.value in
+    c.in_ok-transposed.ensures
+    ∙ transpose_product R (plain c.args.a.now) (plain c.args.b.now) c.requires
+    ∙ sym c.in_ok-reversed.ensures
