@@ -66,8 +66,23 @@ where
     S: MatrixMarketExport<T>,
     ensures { IfErr result (λ e. IsFileFault (kind_of e)) }
 {
-    match File::create(rt, path) {
-        Ok(file) => match save_whole(rt.alloc(), file, matrix) {
+    save_created(rt.alloc(), File::create(rt, path), matrix)
+}
+
+// Writes the text of a matrix to a file, if there is one, and flushes it.
+fn save_created<T, S, W>(
+    alloc: Global,
+    created: io::Result<W>,
+    matrix: &S,
+) -> Result<(), MatrixMarketError>
+where
+    T: MatrixMarketScalar,
+    S: MatrixMarketExport<T>,
+    W: Write + Drop,
+    ensures { IfErr result (λ e. IsFileFault (kind_of e)) }
+{
+    match created {
+        Ok(file) => match save_whole(alloc, file, matrix) {
             Ok(_) => Ok(()),
             Err(error) => Err(error),
         },
