@@ -25,15 +25,11 @@ loop-column-init g c =
     let chains = map f chs in
     let n = length chs in
     record {
-      latest = none_latest chains (map f c.in_ok-latest.latest.items) n c.in_ok-latest.ensures
-          (sym (length-map chs f));
-      built = rw (
-        c.in_ok-push.ensures.items,
-        c.in_ok-offsets.ensures.items,
-        c.in_ok-rows.ensures.items,
-      ) (none_built chains (columns_of f n c.args.starts.now c.args.entries.now) c.requires.valid
+      latest = none_latest chains (map f c.in_ok-latest.latest.items) n
+          c.in_ok-latest.ensures.latest (sym (length-map chs f));
+      built = rw (c.in_ok-latest.ensures.offsets, c.in_ok-latest.ensures.rows) (none_built chains (columns_of f n c.args.starts.now c.args.entries.now) c.requires.valid
           (sym (length-map chs f)) (sym (length-map chs f)));
-      counted = omega (arith, c.requires.valid.first, ap length c.in_ok-rows.ensures.items);
+      counted = omega (arith, c.requires.valid.first, ap length c.in_ok-latest.ensures.rows);
       onward = omega arith;
     }
 
@@ -188,8 +184,8 @@ loop-column-preserved g c =
           (latest_more (map f chs) latest column inv.latest lt (c.requires.chains column));
       built = column_built (map f chs) entries valid (sym long) (sym long) c.requires.low c.requires.once
           column latest offsets c.loop-column.rows.items inv.built inv.latest lt
-          c.push-in-loop-column.new.self.items
-          c.append_column.new.rows.items gains (c.in_ok-push-2.ensures.items
+          c.push.new.self.items
+          c.append_column.new.rows.items gains (c.in_ok-push.ensures.items
           ∙ ap (λ n. offsets ++ n ∷ []) (c.len.ensures ∙ c.append_column.new.rows.ok.0));
       counted = omega (
         arith,
@@ -268,19 +264,13 @@ steps_yet g c fill all =
 pub returns-in_err-latest-clause-no_more : goal.returns-in_err-latest-clause-no_more
 returns-in_err-latest-clause-no_more g c = none_yet g (goal.at.returns-in_err-latest-clause-no_more g c).Start
 
-pub returns-in_err-offsets-clause-no_more : goal.returns-in_err-offsets-clause-no_more
-returns-in_err-offsets-clause-no_more g c = none_yet g (goal.at.returns-in_err-offsets-clause-no_more g c).Start
-
-pub returns-in_err-rows-clause-no_more : goal.returns-in_err-rows-clause-no_more
-returns-in_err-rows-clause-no_more g c = none_yet g (goal.at.returns-in_err-rows-clause-no_more g c).Start
-
 pub returns-in_err-append_column-clause-no_more : goal.returns-in_err-append_column-clause-no_more
 returns-in_err-append_column-clause-no_more g c =
     steps_yet g (goal.at.returns-in_err-append_column-clause-no_more g c).At-loop-column
 
-pub returns-in_err-push-2-clause-no_more : goal.returns-in_err-push-2-clause-no_more
-returns-in_err-push-2-clause-no_more g c =
-    steps_yet g (goal.at.returns-in_err-push-2-clause-no_more g c).At-loop-column
+pub returns-in_err-push-clause-no_more : goal.returns-in_err-push-clause-no_more
+returns-in_err-push-clause-no_more g c =
+    steps_yet g (goal.at.returns-in_err-push-clause-no_more g c).At-loop-column
 
 pub returns-clause-no_more : goal.returns-clause-no_more
 returns-clause-no_more g c =
