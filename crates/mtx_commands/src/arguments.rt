@@ -6,6 +6,7 @@ ghost use Rattle.std.specs.Process.{exit_status};
 use crate::cli::{Failure, command, finish, report, views_of};
 use nalgebra_sparse::expr::ExprError;
 use nalgebra_sparse::io::Out;
+use std::alloc::Global;
 use std::env::Args;
 use std::io;
 use std::process::ExitCode;
@@ -26,7 +27,7 @@ where
     let mut err = Out::new(stderr);
     let status = match obey(rt, arguments, stdout, &mut err) {
         Ok(status) => status,
-        Err(failure) => report(rt, failure, &mut err),
+        Err(failure) => report(rt.alloc(), failure, &mut err),
     };
     exit_code(status)
 }
@@ -51,23 +52,20 @@ where
     E: io::Write,
     ensures status { IfOk result (λ status. status ≤ 2) }
 {
-    let words = given_words(rt, arguments)?;
-    let views = views_of(rt, &words)?;
+    let words = given_words(rt.alloc(), arguments)?;
+    let views = views_of(rt.alloc(), &words)?;
     let mut out = Out::new(stdout);
     match command(rt, &views, &mut out, err) {
-        0 => Ok(finish(rt, &mut out.into_inner(), err)),
+        0 => Ok(finish(rt.alloc(), &mut out.into_inner(), err)),
         status => Ok(status),
     }
 }
 
 // Returns the arguments after the program's name.
-fn given_words<R: AllocGlobal>(
-    rt: &R,
-    arguments: io::Result<Args>,
-) -> Result<Vec<String>, Failure> {
+fn given_words(alloc: Global, arguments: io::Result<Args>) -> Result<Vec<String>, Failure> {
     match arguments {
         Ok(arguments) => {
-            let mut words = Vec::with_capacity(rt.alloc(), arguments.len())?;
+            let mut words = Vec::with_capacity(alloc, arguments.len())?;
             for word in arguments.skip(1) {
                 words.push(word)?;
             }

@@ -1,7 +1,8 @@
 //! The commands of `mtx`.
 
-ghost use Rattle.std.specs.Prelude.{◌≡◌, ◌≢◌, ◌≤◌, length, None, OnOk, IfOk, IfErr, IfSome};
+ghost use Rattle.std.specs.Prelude.{◌≡◌, ◌≢◌, ◌≤◌, ℕ, List, length, None, OnOk, IfOk, IfErr, IfSome};
 ghost use Rattle.nalgebra_sparse.specs.PostfixWords.{texts};
+ghost use Rattle.nalgebra_sparse.specs.Run.{Writes};
 ghost use Rattle.sparse_expr.specs.declared.calculator.Form.{Form};
 ghost use Rattle.sparse_expr.specs.declared.error.ExprError.TheVariants.{OutOfMemory};
 ghost use Rattle.mtx_commands.specs.Commands.{IsAnswered, IsEvaluated, name_of, status_of};
@@ -10,7 +11,7 @@ ghost use Rattle.mtx_commands.specs.declared.cli.Failure.TheVariants.{Usage, Ref
 use crate::fill::fill;
 use nalgebra_sparse::expr::{Expr, ExprError, Form, run};
 use nalgebra_sparse::io::{MatrixMarketErrorKind, Sink, write_all_to};
-use std::alloc::{AllocError, AllocFailed};
+use std::alloc::{AllocError, AllocFailed, Global};
 use std::rt::Files;
 use std::{fs, io};
 
@@ -85,7 +86,7 @@ where
 {
     match execute(rt, words, out) {
         Ok(()) => 0,
-        Err(failure) => report(rt, failure, err),
+        Err(failure) => report(rt.alloc(), failure, err),
     }
 }
 
@@ -136,8 +137,23 @@ where
 {
     let expr = Expr::from_words(rt.alloc(), expression)?;
     let texts = read_all(rt, paths)?;
-    let views = views_of(rt, &texts)?;
-    run(rt.alloc(), form, &expr, &views, out)?;
+    write_value(rt.alloc(), form, &expr, &texts, out)
+}
+
+// Writes the value of an expression over the texts of the files.
+fn write_value<W: Sink>(
+    alloc: Global,
+    form: Form,
+    expr: &Expr,
+    sources: &[String],
+    out: &mut W,
+) -> Result<(), Failure>
+    ensures written { OnOk result ((read : List (List ℕ)) × (length read ≡ length sources.now)
+        × Writes form read expr.now (W.taken out.old) (W.taken out.new)) }
+    ensures refused { IfErr result (λ e. e ≡ Usage → ⊥) }
+{
+    let views = views_of(alloc, sources)?;
+    run(alloc, form, expr, &views, out)?;
     Ok(())
 }
 
@@ -157,10 +173,10 @@ fn read_all<R: Files + AllocGlobal>(rt: &R, paths: &[&str]) -> Result<Vec<String
 }
 
 /// Returns the texts, borrowed, in order.
-pub fn views_of<'a, R: AllocGlobal>(rt: &R, texts: &'a [String]) -> Result<Vec<&'a str>, AllocError>
+pub fn views_of(alloc: Global, texts: &[String]) -> Result<Vec<&str>, AllocError>
     ensures one_each { IfOk result (λ views. length views.items ≡ length texts.now) }
 {
-    texts.iter().map(|text| text.as_str()).collect(rt.alloc())
+    texts.iter().map(|text| text.as_str()).collect(alloc)
 }
 
 // The error of an unreadable file, whose number is counted from 1.
@@ -172,9 +188,8 @@ fn unreadable(number: usize, kind: io::ErrorKind) -> ExprError {
 }
 
 /// Flushes the output of a command and returns the exit status. A failed flush is reported as a failed write.
-pub fn finish<R, W, E>(rt: &R, out: &mut W, err: &mut E) -> u8
+pub fn finish<W, E>(alloc: Global, out: &mut W, err: &mut E) -> u8
 where
-    R: AllocGlobal,
     W: io::Write,
     E: Sink,
     ensures status { result ≤ 1 }
@@ -182,19 +197,19 @@ where
 {
     match out.flush() {
         Ok(()) => 0,
-        Err(error) => report(rt, Failure::Refused(ExprError::Write(error.kind())), err),
+        Err(error) => report(alloc, Failure::Refused(ExprError::Write(error.kind())), err),
     }
 }
 
 /// Writes the line of a failure, and returns its status.
-pub fn report<R: AllocGlobal, E: Sink>(rt: &R, failure: Failure, err: &mut E) -> u8
+pub fn report<E: Sink>(alloc: Global, failure: Failure, err: &mut E) -> u8
     ensures { result ≡ status_of failure }
 {
     // An error in writing the line is ignored.
     let _ = match failure {
         Failure::Usage => write_all_to(err, USAGE.as_bytes()),
         Failure::NotSquare => write_all_to(err, NOT_SQUARE.as_bytes()),
-        Failure::Refused(error) => match format!(in rt.alloc(); "mtx: {error}\n") {
+        Failure::Refused(error) => match format!(in alloc; "mtx: {error}\n") {
             Ok(line) => write_all_to(err, line.as_bytes()),
             Err(_) => write_all_to(err, OUT_OF_MEMORY.as_bytes()),
         },

@@ -23,14 +23,31 @@ where
     W: Sink,
     ensures refused { IfErr result (λ e. e ≡ Usage → ⊥) }
 {
-    let places: CooMatrix<()> = match load_coo_from_matrix_market_file(rt, path) {
-        Ok(places) => places,
-        Err(error) => return Err(Failure::Refused(unread(error.kind()))),
-    };
-    let pattern = pattern_of(rt.alloc(), &places)?;
+    let pattern = read_pattern(rt, path)?;
     let factor = factor_of(rt.alloc(), pattern)?;
-    let matrix = matrix_of(rt.alloc(), factor.l_pattern())?;
-    match save_to_matrix_market(rt.alloc(), out, &matrix) {
+    write_pattern(rt.alloc(), factor.l_pattern(), out)
+}
+
+// Reads the places in a file as a pattern by columns.
+fn read_pattern<R: Files + AllocGlobal>(rt: &R, path: &str) -> Result<SparsityPattern, Failure>
+    ensures refused { IfErr result (λ e. e ≡ Usage → ⊥) }
+{
+    match load_coo_from_matrix_market_file(rt, path) {
+        Ok(places) => Ok(pattern_of(rt.alloc(), &places)?),
+        Err(error) => Err(Failure::Refused(unread(error.kind()))),
+    }
+}
+
+// Writes a pattern by columns.
+fn write_pattern<W: Sink>(
+    alloc: Global,
+    pattern: &SparsityPattern,
+    out: &mut W,
+) -> Result<(), Failure>
+    ensures refused { IfErr result (λ e. e ≡ Usage → ⊥) }
+{
+    let matrix = matrix_of(alloc, pattern)?;
+    match save_to_matrix_market(alloc, out, &matrix) {
         Ok(()) => Ok(()),
         Err(error) => Err(Failure::Refused(unwritten(error.kind()))),
     }

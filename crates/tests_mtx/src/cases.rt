@@ -14,7 +14,8 @@ const B: &str = "2 1 2\n1 1 3\n2 1 -2\n";
 
 const F: &str = "2 2 3\n1 1 1\n1 2 2\n2 2 3\n";
 
-pub const CASES: [Case; 42] = [
+/// What `mtx rows` answers.
+pub const CASES: &[Case] = &[
     // One file by rows.
     (
         "1",
@@ -139,8 +140,8 @@ pub const CASES: [Case; 42] = [
     ("1 2", &[A], Err("mtx: expression: operands left over\n")),
 ];
 
-/// The same of `mtx cols`.
-pub const COLUMN_CASES: [Case; 3] = [
+/// What `mtx cols` answers.
+pub const COLUMN_CASES: &[Case] = &[
     ("1 t 1 -", &[F], Ok("2 2 4\n1 1 0\n2 1 2\n1 2 -2\n2 2 0\n")),
     (
         "1",
@@ -150,8 +151,11 @@ pub const COLUMN_CASES: [Case; 3] = [
     ("1 1 *", &[A], Err("mtx: expression: shapes do not fit\n")),
 ];
 
-/// A file, and the lines that `mtx fill` writes below the heading or the line of a refusal.
-pub const FILL_CASES: [(&str, Result<&str, &str>); 6] = [
+/// A file, and the lines that are written below the heading or the line of a refusal.
+pub type FillCase = (&'static str, Result<&'static str, &'static str>);
+
+/// What `mtx fill` answers.
+pub const FILL_CASES: &[FillCase] = &[
     (
         "%%MatrixMarket matrix coordinate pattern symmetric\n3 3 2\n3 1\n3 2\n",
         Ok("3 3 3\n3 1 \n3 2 \n3 3 \n"),
@@ -195,8 +199,16 @@ const NO_TEXT: &[u8] = &[0xff, 0xfe];
 
 const USAGE: &str = "usage: mtx rows EXPR FILE.. | mtx cols EXPR FILE.. | mtx fill FILE\n";
 
-/// Words, the files after them, and the line and the status over an output that takes nothing.
-pub const REFUSALS: [(&[&str], &[&[u8]], &str, u8); 22] = [
+/// Words, the files after them, and the line and the status of a refusal.
+pub type Refusal = (
+    &'static [&'static str],
+    &'static [&'static [u8]],
+    &'static str,
+    u8,
+);
+
+/// Refusals over an output that takes nothing.
+pub const REFUSALS: &[Refusal] = &[
     (
         &["rows", "1 x"],
         &[ONE],
