@@ -25,19 +25,31 @@ fn main(rt: HostRuntime) -> io::Result<ExitCode> {
     for word in &words {
         views.push(word.as_str())?;
     }
-    if views.is_empty() {
+    obey(&rt, &views)
+}
+
+// Does what the words after the program's name say.
+fn obey(rt: &HostRuntime, words: &[&str]) -> io::Result<ExitCode> {
+    if words.is_empty() {
         println!(rt; "{USAGE}")?;
         return Ok(ExitCode::SUCCESS);
     }
-    let Some((word, path, reps)) = command(&views) else {
-        eprintln!(rt; "{USAGE}")?;
-        return Ok(ExitCode::from(2));
-    };
-    match best_run(&rt, word, path, reps) {
-        None => {
-            eprintln!(rt; "{USAGE}")?;
-            Ok(ExitCode::from(2))
-        }
+    match command(words) {
+        Some((word, path, reps)) => print_best(rt, word, path, reps),
+        None => refuse_words(rt),
+    }
+}
+
+// Says how the program is used.
+fn refuse_words(rt: &HostRuntime) -> io::Result<ExitCode> {
+    eprintln!(rt; "{USAGE}")?;
+    Ok(ExitCode::from(2))
+}
+
+// Prints the best run of a task, or why there is none.
+fn print_best(rt: &HostRuntime, word: &str, path: &str, reps: usize) -> io::Result<ExitCode> {
+    match best_run(rt, word, path, reps) {
+        None => refuse_words(rt),
         Some(Ok(best)) => {
             let name = file_name(path);
             let (time, sum, places) = (best.nanoseconds, best.checksum, best.places);

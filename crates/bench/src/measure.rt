@@ -55,20 +55,30 @@ pub fn measure<R: Files + Clock + AllocGlobal>(
     reps: usize,
 ) -> Result<Best, Failure> {
     keep_freed_memory(rt.alloc())?;
-    let Some(input) = task.prepare(rt.alloc(), read_list(rt, task, path)?)? else {
-        return Err(Failure::NotSquare);
-    };
-    let (mut nanoseconds, answer) = timed(rt, &input)?;
-    let (checksum, places) = (answer.checksum(), answer.places());
-    drop(answer);
-    for _ in 1..reps {
-        let (run, _) = timed(rt, &input)?;
-        nanoseconds = nanoseconds.min(run);
+    let list = read_list(rt, task, path)?;
+    match task.prepare(rt.alloc(), list)? {
+        Some(input) => best_of(rt, &input, reps),
+        None => Err(Failure::NotSquare),
     }
+}
+
+// The best of so many runs, at least one.
+fn best_of<R: Clock + AllocGlobal>(rt: &R, input: &Input, reps: usize) -> Result<Best, Failure> {
+    let mut best = first_run(rt, input)?;
+    for _ in 1..reps {
+        let (run, _) = timed(rt, input)?;
+        best.nanoseconds = best.nanoseconds.min(run);
+    }
+    Ok(best)
+}
+
+// One run, with the checksum and the places of its answer.
+fn first_run<R: Clock + AllocGlobal>(rt: &R, input: &Input) -> Result<Best, Failure> {
+    let (nanoseconds, answer) = timed(rt, input)?;
     Ok(Best {
         nanoseconds,
-        checksum,
-        places,
+        checksum: answer.checksum(),
+        places: answer.places(),
     })
 }
 

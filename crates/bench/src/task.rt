@@ -61,26 +61,13 @@ impl Task {
         }
         match self {
             Task::CooToCsr => Ok(Some(Input::List(coo))),
-            Task::Transpose => Ok(Some(Input::Transposed(convert_coo_csr(alloc, &coo)?))),
-            Task::Spgemm => Ok(Some(Input::Squared(convert_coo_csr(alloc, &coo)?))),
-            Task::Spadd => {
-                let csr = convert_coo_csr(alloc, &coo)?;
-                let transposed = csr.transpose(alloc)?;
-                Ok(Some(Input::Added(csr, transposed)))
-            }
-            Task::Spmmd => {
-                let factor = dense_matrix(alloc, coo.ncols(), FACTOR_COLUMNS)?;
-                Ok(Some(Input::Multiplied(convert_coo_csr(alloc, &coo)?, factor)))
-            }
-            Task::Solve => {
-                let Some(lower) = unit_lower(alloc, &convert_coo_csc(alloc, &coo)?)? else {
-                    return Ok(None);
-                };
-                let right_sides = dense_matrix(alloc, coo.nrows(), SOLVED_COLUMNS)?;
-                Ok(Some(Input::Solved(lower, right_sides)))
-            }
+            Task::Transpose => Ok(Some(Input::Transposed(rows_of(alloc, coo)?))),
+            Task::Spgemm => Ok(Some(Input::Squared(rows_of(alloc, coo)?))),
+            Task::Spadd => Ok(Some(to_add(alloc, rows_of(alloc, coo)?)?)),
+            Task::Spmmd => Ok(Some(to_multiply(alloc, rows_of(alloc, coo)?)?)),
+            Task::Solve => to_solve(alloc, &columns_of(alloc, coo)?),
             Task::Fill => {
-                let (pattern, _) = convert_coo_csc(alloc, &coo)?.into_pattern_and_values();
+                let (pattern, _) = columns_of(alloc, coo)?.into_pattern_and_values();
                 Ok(Some(Input::Factored(pattern)))
             }
         }
@@ -94,14 +81,54 @@ impl Task {
     }
 }
 
+fn rows_of(alloc: Global, coo: CooMatrix<W64>) -> Result<CsrMatrix<W64>, AllocError> {
+    convert_coo_csr(alloc, &coo)
+}
+
+fn columns_of(alloc: Global, coo: CooMatrix<W64>) -> Result<CscMatrix<W64>, AllocError> {
+    convert_coo_csc(alloc, &coo)
+}
+
+// Returns a matrix and its transpose.
+fn to_add(alloc: Global, csr: CsrMatrix<W64>) -> Result<Input, AllocError> {
+    let transposed = csr.transpose(alloc)?;
+    Ok(Input::Added(csr, transposed))
+}
+
+// Returns a matrix and a dense factor.
+fn to_multiply(alloc: Global, csr: CsrMatrix<W64>) -> Result<Input, AllocError> {
+    let factor = dense_matrix(alloc, csr.ncols(), FACTOR_COLUMNS)?;
+    Ok(Input::Multiplied(csr, factor))
+}
+
+// Returns the lower triangle of a matrix and its right sides, or `None` if the matrix is not square.
+fn to_solve(alloc: Global, csc: &CscMatrix<W64>) -> Result<Option<Input>, AllocError> {
+    match unit_lower(alloc, csc)? {
+        Some(lower) => {
+            let right_sides = dense_matrix(alloc, csc.nrows(), SOLVED_COLUMNS)?;
+            Ok(Some(Input::Solved(lower, right_sides)))
+        }
+        None => Ok(None),
+    }
+}
+
 // Returns the places of a square matrix below the diagonal, and ones on it, or `None` if it is not square.
 fn unit_lower(alloc: Global, csc: &CscMatrix<W64>) -> Result<Option<CscMatrix<W64>>, AllocError> {
     let below = csc.filter(alloc, |i, j, _value| i > j)?;
     let ones: CscMatrix<W64> = CscMatrix::identity(alloc, csc.nrows())?;
-    if below.nrows() != ones.nrows() || below.ncols() != ones.ncols() {
+    sum(alloc, &below, &ones)
+}
+
+// Returns the sum, or `None` if the sizes differ.
+fn sum(
+    alloc: Global,
+    a: &CscMatrix<W64>,
+    b: &CscMatrix<W64>,
+) -> Result<Option<CscMatrix<W64>>, AllocError> {
+    if a.nrows() != b.nrows() || a.ncols() != b.ncols() {
         return Ok(None);
     }
-    Ok(Some(add_csc(alloc, &below, &ones)?))
+    Ok(Some(add_csc(alloc, a, b)?))
 }
 
 /// What a task works on.
