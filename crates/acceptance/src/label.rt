@@ -3,6 +3,7 @@
 ghost use Rattle.std.specs.Int.{w16};
 ghost use Rattle.nalgebra_sparse.specs.ScalarTypes.{signed_scalar};
 
+use nalgebra_sparse::CooMatrix;
 use nalgebra_sparse::io::{
     MatrixMarketError, MatrixMarketErrorKind, MatrixMarketScalar, load_coo_from_matrix_market_str,
     save_to_matrix_market_str,
@@ -62,16 +63,20 @@ const TEXT: &str = "%%matrixmarket matrix coordinate integer general
 2 1 17
 ";
 
+fn list_of(alloc: Global, text: &str) -> Result<CooMatrix<Label>, MatrixMarketError> {
+    load_coo_from_matrix_market_str(alloc, text)
+}
+
 // Whether the text is read and written as it is.
 fn is_kept(alloc: Global, text: &str) -> Result<bool, MatrixMarketError> {
-    let list = load_coo_from_matrix_market_str::<Label>(alloc, text)?;
+    let list = list_of(alloc, text)?;
     let written = save_to_matrix_market_str(alloc, &list)?;
     Ok(written.as_str() == text)
 }
 
 // The kind of the refusal of a text whose only value is this one.
 fn refusal(alloc: Global, text: &str) -> Option<MatrixMarketErrorKind> {
-    match load_coo_from_matrix_market_str::<Label>(alloc, text) {
+    match list_of(alloc, text) {
         Ok(_) => None,
         Err(error) => Some(error.kind()),
     }
@@ -84,11 +89,8 @@ fn labels_are_read_and_written(rt: HostRuntime) -> Result<(), Fail> {
         "%%MatrixMarket matrix coordinate integer general\n1 1 1\n1 1 32768\n",
         "%%MatrixMarket matrix coordinate pattern general\n1 1 1\n1 1\n",
     ] {
-        assert_eq!(rt;
-            refusal(rt.alloc(), text),
-            Some(MatrixMarketErrorKind::TypeMismatch),
-            "{text}"
-        );
+        let kind = refusal(rt.alloc(), text);
+        assert!(rt; kind == Some(MatrixMarketErrorKind::TypeMismatch), "{text}");
     }
     Ok(())
 }

@@ -3,244 +3,283 @@
 use crate::residue7::Residue7;
 use nalgebra_sparse::convert::serial::convert_coo_csr;
 use nalgebra_sparse::ops::serial::{mul_csr, spmm_csr_pattern};
+use nalgebra_sparse::pattern::SparsityPattern;
 use nalgebra_sparse::scalar::{Ring, W32, W64, Zero};
 use nalgebra_sparse::{CooMatrix, CsrMatrix};
 use std::alloc::{AllocError, Global};
-use std::process::Abort;
 use std::test::Fail;
 
+// A scalar that the tables state by an integer.
+trait Number: Ring {
+    fn of(number: i32) -> Self;
+}
+
+impl Number for W32 {
+    fn of(number: i32) -> W32 {
+        W32::new(number)
+    }
+}
+
+impl Number for W64 {
+    fn of(number: i32) -> W64 {
+        W64::new(i64::from(number))
+    }
+}
+
+impl Number for Residue7 {
+    // No table has negative residues.
+    fn of(number: i32) -> Residue7 {
+        Residue7::new(u64::from(number.unsigned_abs()), 9)
+    }
+}
+
 // A size, and triplets.
-type List<'a, T> = ((usize, usize), &'a [(usize, usize, T)]);
+type List<'a> = ((usize, usize), &'a [(usize, usize, i32)]);
 
 // The offsets, the columns and the values of a matrix.
-type Rows<'i, 'v, T> = (&'i [usize], &'i [usize], &'v [T]);
+type Rows<'a> = (&'a [usize], &'a [usize], &'a [i32]);
+
+// Triplets and their rows.
+type Conversion<'a> = (List<'a>, Rows<'a>);
+
+// The factors of a product, its places and its rows.
+type Product<'a> = (List<'a>, List<'a>, &'a [(usize, usize)], Rows<'a>);
 
 // The list of these triplets; those outside the shape are left out.
-fn coo<T: Ring>(
+fn coo<T: Number>(
     alloc: Global,
-    ((nrows, ncols), triplets): List<'_, T>,
+    ((nrows, ncols), triplets): List<'_>,
 ) -> Result<CooMatrix<T>, AllocError> {
     let mut matrix = CooMatrix::new(alloc, nrows, ncols);
     for (row, col, value) in triplets {
         if *row < matrix.nrows() && *col < matrix.ncols() {
-            matrix.push(*row, *col, *value)?;
+            matrix.push(*row, *col, T::of(*value))?;
         }
     }
     Ok(matrix)
 }
 
-fn csr<T: Ring>(alloc: Global, list: List<'_, T>) -> Result<CsrMatrix<T>, AllocError> {
+fn csr<T: Number>(alloc: Global, list: List<'_>) -> Result<CsrMatrix<T>, AllocError> {
     convert_coo_csr(alloc, &coo(alloc, list)?)
 }
 
-fn expect_rows<T: Ring>(
-    rt: &impl Abort,
+fn numbers<T: Number>(alloc: Global, values: &[i32]) -> Result<Vec<T>, AllocError> {
+    let mut numbers = Vec::new(alloc);
+    for value in values {
+        numbers.push(T::of(*value))?;
+    }
+    Ok(numbers)
+}
+
+fn has_rows<T: Number>(
+    alloc: Global,
     matrix: &CsrMatrix<T>,
-    (offsets, columns, values): Rows<'_, '_, T>,
-) {
-    assert_eq!(rt; matrix.row_offsets(), offsets);
-    assert_eq!(rt; matrix.col_indices(), columns);
-    assert!(rt; matrix.values() == values);
+    (offsets, columns, values): Rows<'_>,
+) -> Result<bool, AllocError> {
+    Ok(
+        matrix.row_offsets() == offsets
+            && matrix.col_indices() == columns
+            && matrix.values() == numbers(alloc, values)?.as_slice(),
+    )
 }
 
-// The factors of a product, its places and its rows.
-#[derive(Drop)]
-struct Product<'i, 'v, T> {
-    left: List<'v, T>,
-    right: List<'v, T>,
-    places: &'i [(usize, usize)],
-    rows: Rows<'i, 'v, T>,
+fn are_rows_of_triplets<T: Number>(
+    alloc: Global,
+    cases: &[Conversion<'_>],
+) -> Result<bool, AllocError> {
+    for (list, rows) in cases {
+        let matrix: CsrMatrix<T> = csr(alloc, *list)?;
+        if !has_rows(alloc, &matrix, *rows)? {
+            return Ok(false);
+        }
+    }
+    Ok(true)
 }
 
-// The pattern of the product of two matrices has these places, and is that of their product.
-fn expect_pattern<T: Ring>(
-    rt: &impl Abort,
+// Whether the pattern of the product of two matrices has these places, and is that of their product.
+fn has_pattern<T: Number>(
     alloc: Global,
     a: &CsrMatrix<T>,
     b: &CsrMatrix<T>,
     product: &CsrMatrix<T>,
     places: &[(usize, usize)],
-) -> Result<(), Fail> {
-    assert_eq!(rt; a.ncols(), b.nrows());
-    let pattern = spmm_csr_pattern(alloc, a.pattern(), b.pattern())?;
-    assert!(rt; pattern == *product.pattern());
-    let found: Vec<(usize, usize)> = pattern.entries().collect(alloc)?;
-    assert_eq!(rt; found.as_slice(), places);
-    Ok(())
-}
-
-fn expect_product<T: Ring>(
-    rt: &impl Abort,
-    alloc: Global,
-    case: &Product<'_, '_, T>,
-) -> Result<(), Fail> {
-    let (left, right) = (case.left, case.right);
-    let a = csr(alloc, left)?;
-    let b = csr(alloc, right)?;
-    assert_eq!(rt; a.ncols(), b.nrows());
-    let product = mul_csr(alloc, &a, &b)?;
-    assert_eq!(rt; (product.nrows(), product.ncols()), (left.0.0, right.0.1));
-    expect_rows(rt, &product, case.rows);
-    expect_pattern(rt, alloc, &a, &b, &product, case.places)
-}
-
-#[test]
-fn a_user_scalar(rt: HostRuntime) -> Result<(), Fail> {
-    let x = |number: u64| Residue7::new(number, 9);
-    let a: List<'_, Residue7> = ((1, 2), &[(0, 1, x(5)), (0, 0, x(3)), (0, 1, x(9))]);
-    let matrix = csr(rt.alloc(), a)?;
-    expect_rows(&rt, &matrix, (&[0, 2], &[0, 1], &[x(10), x(0)]));
-    let b: List<'_, Residue7> = ((2, 1), &[(0, 0, x(4)), (1, 0, x(6))]);
-    let product = Product {
-        left: a,
-        right: b,
-        places: &[(0, 0)],
-        rows: (&[0, 1], &[0], &[x(5)]),
-    };
-    expect_product(&rt, rt.alloc(), &product)?;
-    assert!(rt; x(3).add(x(3).neg()) == Residue7::zero());
-    assert!(rt; x(3).mul(Residue7::one()) == x(3));
-    Ok(())
-}
-
-#[test]
-fn triplets_become_rows(rt: HostRuntime) -> Result<(), Fail> {
-    let w = W64::new;
-    let last = usize::MAX - 1;
-    let cases: [(List<'_, W64>, Rows<'_, '_, W64>); 3] = [
-        (
-            (
-                (3, 4),
-                &[(1, 3, w(4)), (2, 0, w(1)), (2, 3, w(2)), (2, 2, w(1))],
-            ),
-            (&[0, 0, 1, 4], &[3, 0, 2, 3], &[w(4), w(1), w(1), w(2)]),
-        ),
-        // A sum of zero stays.
-        (
-            ((1, 2), &[(0, 1, w(5)), (0, 1, w(-5))]),
-            (&[0, 1], &[1], &[w(0)]),
-        ),
-        // Memory does not depend on the number of columns.
-        (
-            ((1, usize::MAX), &[(0, last, w(3)), (0, 0, w(1))]),
-            (&[0, 2], &[0, last], &[w(1), w(3)]),
-        ),
-    ];
-    for (list, rows) in cases {
-        expect_rows(&rt, &csr(rt.alloc(), list)?, rows);
+) -> Result<bool, AllocError> {
+    if a.ncols() != b.nrows() {
+        return Ok(false);
     }
-    Ok(())
+    let pattern = spmm_csr_pattern(alloc, a.pattern(), b.pattern())?;
+    Ok(pattern == *product.pattern() && iterates_over(&pattern, places))
+}
+
+fn iterates_over(pattern: &SparsityPattern, places: &[(usize, usize)]) -> bool {
+    let mut entries = pattern.entries();
+    for place in places {
+        if entries.next() != Some(*place) {
+            return false;
+        }
+    }
+    entries.next() == None
+}
+
+// Whether two matrices have the product of a case.
+fn is_multiplied<T: Number>(
+    alloc: Global,
+    a: &CsrMatrix<T>,
+    b: &CsrMatrix<T>,
+    (left, right, places, rows): Product<'_>,
+) -> Result<bool, AllocError> {
+    if a.ncols() != b.nrows() {
+        return Ok(false);
+    }
+    let product = mul_csr(alloc, a, b)?;
+    Ok(
+        (product.nrows(), product.ncols()) == (left.0.0, right.0.1)
+            && has_rows(alloc, &product, rows)?
+            && has_pattern(alloc, a, b, &product, places)?,
+    )
+}
+
+fn is_product<T: Number>(alloc: Global, case: Product<'_>) -> Result<bool, AllocError> {
+    let a: CsrMatrix<T> = csr(alloc, case.0)?;
+    let b: CsrMatrix<T> = csr(alloc, case.1)?;
+    is_multiplied(alloc, &a, &b, case)
+}
+
+fn are_products<T: Number>(alloc: Global, cases: &[Product<'_>]) -> Result<bool, AllocError> {
+    for case in cases {
+        if !is_product::<T>(alloc, *case)? {
+            return Ok(false);
+        }
+    }
+    Ok(true)
+}
+
+const RESIDUES: List<'static> = ((1, 2), &[(0, 1, 5), (0, 0, 3), (0, 1, 9)]);
+
+const RESIDUE_ROWS: &[Conversion<'static>] = &[(RESIDUES, (&[0, 2], &[0, 1], &[10, 0]))];
+
+const RESIDUE_PRODUCTS: &[Product<'static>] = &[(
+    RESIDUES,
+    ((2, 1), &[(0, 0, 4), (1, 0, 6)]),
+    &[(0, 0)],
+    (&[0, 1], &[0], &[5]),
+)];
+
+#[test]
+fn a_user_scalar(rt: HostRuntime) {
+    assert!(rt; are_rows_of_triplets::<Residue7>(rt.alloc(), RESIDUE_ROWS) == Ok(true));
+    assert!(rt; are_products::<Residue7>(rt.alloc(), RESIDUE_PRODUCTS) == Ok(true));
+    let three = Residue7::of(3);
+    assert!(rt; three.add(three.neg()) == Residue7::zero());
+    assert!(rt; three.mul(Residue7::one()) == three);
+}
+
+const CONVERSIONS: &[Conversion<'static>] = &[
+    (
+        ((3, 4), &[(1, 3, 4), (2, 0, 1), (2, 3, 2), (2, 2, 1)]),
+        (&[0, 0, 1, 4], &[3, 0, 2, 3], &[4, 1, 1, 2]),
+    ),
+    // A sum of zero stays.
+    (((1, 2), &[(0, 1, 5), (0, 1, -5)]), (&[0, 1], &[1], &[0])),
+    // Memory does not depend on the number of columns.
+    (
+        ((1, usize::MAX), &[(0, usize::MAX - 1, 3), (0, 0, 1)]),
+        (&[0, 2], &[0, usize::MAX - 1], &[1, 3]),
+    ),
+];
+
+#[test]
+fn triplets_become_rows(rt: HostRuntime) {
+    assert!(rt; are_rows_of_triplets::<W64>(rt.alloc(), CONVERSIONS) == Ok(true));
+}
+
+// Whether triplets give the same matrix in another order, and its copy is equal.
+fn is_one_in_any_order(alloc: Global) -> Result<bool, AllocError> {
+    let one = csr(alloc, ((3, 4), &[(1, 3, 4), (2, 0, 1), (2, 3, 2)]))?;
+    let other = csr(alloc, ((3, 4), &[(2, 3, 2), (2, 0, 1), (1, 3, 4)]))?;
+    Ok(one == other && is_copied(alloc, &one, &other)?)
+}
+
+fn is_copied(
+    alloc: Global,
+    one: &CsrMatrix<W64>,
+    other: &CsrMatrix<W64>,
+) -> Result<bool, AllocError> {
+    Ok(one.clone(alloc)? == *other)
 }
 
 #[test]
-fn any_order_gives_one_matrix(rt: HostRuntime) -> Result<(), Fail> {
-    let w = W64::new;
-    let one = csr(
-        rt.alloc(),
-        ((3, 4), &[(1, 3, w(4)), (2, 0, w(1)), (2, 3, w(2))]),
-    )?;
-    let other = csr(
-        rt.alloc(),
-        ((3, 4), &[(2, 3, w(2)), (2, 0, w(1)), (1, 3, w(4))]),
-    )?;
-    assert!(rt; one == other);
-    assert!(rt; one.clone(rt.alloc())? == other);
-    Ok(())
+fn any_order_gives_one_matrix(rt: HostRuntime) {
+    assert!(rt; is_one_in_any_order(rt.alloc()) == Ok(true));
 }
 
 #[test]
 fn too_many_rows_are_refused(rt: HostRuntime) -> Result<(), Fail> {
-    let tall = coo(
-        rt.alloc(),
-        ((usize::MAX, 1), &[(usize::MAX - 1, 0, W64::new(5))]),
-    )?;
-    assert!(rt; convert_coo_csr(rt.alloc(), &tall).is_err());
-    assert_eq!(rt; tall.nnz(), 1);
+    let tall: CooMatrix<W64> = coo(rt.alloc(), ((usize::MAX, 1), &[(usize::MAX - 1, 0, 5)]))?;
+    assert!(rt; convert_coo_csr(rt.alloc(), &tall).is_err() && tall.nnz() == 1);
     Ok(())
 }
 
-#[test]
-fn products(rt: HostRuntime) -> Result<(), Fail> {
-    let w = W64::new;
-    let row: List<'_, W64> = ((1, 2), &[(0, 0, w(2)), (0, 1, w(3))]);
-    let column: List<'_, W64> = ((2, 1), &[(0, 0, w(3)), (1, 0, w(-2))]);
-    let triangle: List<'_, W64> = ((2, 2), &[(0, 0, w(1)), (0, 1, w(2)), (1, 1, w(3))]);
-    let outer = [w(6), w(9), w(-4), w(-6)];
-    let cases = [
-        Product {
-            left: row,
-            right: column,
-            places: &[(0, 0)],
-            rows: (&[0, 1], &[0], &[w(0)]),
-        },
-        Product {
-            left: column,
-            right: row,
-            places: &[(0, 0), (0, 1), (1, 0), (1, 1)],
-            rows: (&[0, 2, 4], &[0, 1, 0, 1], &outer),
-        },
-        Product {
-            left: triangle,
-            right: triangle,
-            places: &[(0, 0), (0, 1), (1, 1)],
-            rows: (&[0, 2, 3], &[0, 1, 1], &[w(1), w(8), w(9)]),
-        },
-    ];
-    for case in &cases {
-        expect_product(&rt, rt.alloc(), case)?;
-    }
-    Ok(())
-}
+const ROW: List<'static> = ((1, 2), &[(0, 0, 2), (0, 1, 3)]);
+
+const COLUMN: List<'static> = ((2, 1), &[(0, 0, 3), (1, 0, -2)]);
+
+const TRIANGLE: List<'static> = ((2, 2), &[(0, 0, 1), (0, 1, 2), (1, 1, 3)]);
+
+const PRODUCTS: &[Product<'static>] = &[
+    (ROW, COLUMN, &[(0, 0)], (&[0, 1], &[0], &[0])),
+    (
+        COLUMN,
+        ROW,
+        &[(0, 0), (0, 1), (1, 0), (1, 1)],
+        (&[0, 2, 4], &[0, 1, 0, 1], &[6, 9, -4, -6]),
+    ),
+    (
+        TRIANGLE,
+        TRIANGLE,
+        &[(0, 0), (0, 1), (1, 1)],
+        (&[0, 2, 3], &[0, 1, 1], &[1, 8, 9]),
+    ),
+];
 
 #[test]
-fn places_of_products(rt: HostRuntime) -> Result<(), Fail> {
-    let w = W64::new;
-    let cases = [
-        // An inner size of zero.
-        Product {
-            left: ((2, 0), &[]),
-            right: ((0, 2), &[]),
-            places: &[],
-            rows: (&[0, 0, 0], &[], &[]),
-        },
-        // The places do not depend on the values.
-        Product {
-            left: ((2, 2), &[(0, 0, w(0)), (1, 0, w(1)), (1, 1, w(-1))]),
-            right: ((2, 3), &[(0, 2, w(1)), (0, 0, w(1)), (1, 1, w(1))]),
-            places: &[(0, 0), (0, 2), (1, 0), (1, 1), (1, 2)],
-            rows: (
-                &[0, 2, 5],
-                &[0, 2, 0, 1, 2],
-                &[w(0), w(0), w(1), w(-1), w(1)],
-            ),
-        },
-    ];
-    for case in &cases {
-        expect_product(&rt, rt.alloc(), case)?;
-    }
-    Ok(())
+fn products(rt: HostRuntime) {
+    assert!(rt; are_products::<W64>(rt.alloc(), PRODUCTS) == Ok(true));
 }
 
+const PLACES: &[Product<'static>] = &[
+    // An inner size of zero.
+    (((2, 0), &[]), ((0, 2), &[]), &[], (&[0, 0, 0], &[], &[])),
+    // The places do not depend on the values.
+    (
+        ((2, 2), &[(0, 0, 0), (1, 0, 1), (1, 1, -1)]),
+        ((2, 3), &[(0, 2, 1), (0, 0, 1), (1, 1, 1)]),
+        &[(0, 0), (0, 2), (1, 0), (1, 1), (1, 2)],
+        (&[0, 2, 5], &[0, 2, 0, 1, 2], &[0, 0, 1, -1, 1]),
+    ),
+];
+
 #[test]
-fn sums_and_products_wrap(rt: HostRuntime) -> Result<(), Fail> {
-    let w = W32::new;
-    let large = w(2147483647);
-    let cases = [
-        Product {
-            left: ((1, 3), &[(0, 0, large), (0, 1, w(1)), (0, 2, w(-1))]),
-            right: ((3, 1), &[(0, 0, w(1)), (1, 0, w(1)), (2, 0, w(1))]),
-            places: &[(0, 0)],
-            rows: (&[0, 1], &[0], &[large]),
-        },
-        Product {
-            left: ((1, 1), &[(0, 0, large)]),
-            right: ((1, 1), &[(0, 0, w(2))]),
-            places: &[(0, 0)],
-            rows: (&[0, 1], &[0], &[w(-2)]),
-        },
-    ];
-    for case in &cases {
-        expect_product(&rt, rt.alloc(), case)?;
-    }
-    Ok(())
+fn places_of_products(rt: HostRuntime) {
+    assert!(rt; are_products::<W64>(rt.alloc(), PLACES) == Ok(true));
+}
+
+const WRAPPED: &[Product<'static>] = &[
+    (
+        ((1, 3), &[(0, 0, i32::MAX), (0, 1, 1), (0, 2, -1)]),
+        ((3, 1), &[(0, 0, 1), (1, 0, 1), (2, 0, 1)]),
+        &[(0, 0)],
+        (&[0, 1], &[0], &[i32::MAX]),
+    ),
+    (
+        ((1, 1), &[(0, 0, i32::MAX)]),
+        ((1, 1), &[(0, 0, 2)]),
+        &[(0, 0)],
+        (&[0, 1], &[0], &[-2]),
+    ),
+];
+
+#[test]
+fn sums_and_products_wrap(rt: HostRuntime) {
+    assert!(rt; are_products::<W32>(rt.alloc(), WRAPPED) == Ok(true));
 }

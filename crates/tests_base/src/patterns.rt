@@ -122,13 +122,14 @@ fn zeros_without_lanes(alloc: Global, empty: SparsityPattern) -> bool {
     SparsityPattern::zeros(alloc, 0, 0).is_ok_and(|zeros| zeros == empty)
 }
 
-fn zeros_have_sizes_alone(alloc: Global) -> Result<bool, AllocError> {
-    let wide = SparsityPattern::zeros(alloc, 2, usize::MAX)?.clone(alloc)?;
-    Ok(
-        wide.major_offsets() == [0, 0, 0].as_slice()
-            && wide.nnz() == 0
-            && wide.minor_dim() == usize::MAX,
-    )
+fn a_copy_has_sizes_alone(alloc: Global, zeros: SparsityPattern) -> bool {
+    zeros.clone(alloc).is_ok_and(has_sizes_alone)
+}
+
+fn has_sizes_alone(wide: SparsityPattern) -> bool {
+    wide.major_offsets() == [0, 0, 0].as_slice()
+        && wide.nnz() == 0
+        && wide.minor_dim() == usize::MAX
 }
 
 fn a_valid_pattern_is_read_and_copied(alloc: Global) -> Option<bool> {
@@ -147,7 +148,9 @@ fn valid_data_is_taken(rt: HostRuntime) {
     assert!(rt;
         valid_pattern(alloc, (0, 0), &[0], &[]).is_some_and(|p| zeros_without_lanes(alloc, p))
     );
-    assert!(rt; zeros_have_sizes_alone(alloc) == Ok(true));
+    assert!(rt;
+        SparsityPattern::zeros(alloc, 2, usize::MAX).is_ok_and(|p| a_copy_has_sizes_alone(alloc, p))
+    );
     assert!(rt; SparsityPattern::zeros(alloc, usize::MAX, 0).is_err());
 }
 
@@ -186,7 +189,7 @@ const TEXTS: [(SparsityPatternFormatError, &str, SparseFormatErrorKind); 6] = [
 
 fn has_text_and_kind(
     alloc: Global,
-    error: SparseFormatError,
+    error: &SparseFormatError,
     text: &str,
     kind: SparseFormatErrorKind,
 ) -> Result<bool, AllocError> {
@@ -201,7 +204,7 @@ pub fn is_error(
     kind: SparseFormatErrorKind,
 ) -> Result<bool, AllocError> {
     match error {
-        Some(error) => has_text_and_kind(alloc, error, text, kind),
+        Some(error) => has_text_and_kind(alloc, &error, text, kind),
         None => Ok(false),
     }
 }
@@ -217,7 +220,7 @@ fn fault_has_text_and_kind(
     Ok(
         own_text.as_str() == text
             && error.message() == text
-            && has_text_and_kind(alloc, error, text, kind)?,
+            && has_text_and_kind(alloc, &error, text, kind)?,
     )
 }
 
@@ -229,7 +232,11 @@ fn faults_have_texts_and_kinds(rt: HostRuntime) {
             "{text}"
         );
     }
+}
+
+#[test]
+fn refused_memory_has_text_and_kind(rt: HostRuntime) {
     let refused = SparseFormatError::from(AllocError);
     let (text, kind) = ("Out of memory.", SparseFormatErrorKind::OutOfMemory);
-    assert!(rt; has_text_and_kind(rt.alloc(), refused, text, kind) == Ok(true));
+    assert!(rt; has_text_and_kind(rt.alloc(), &refused, text, kind) == Ok(true));
 }

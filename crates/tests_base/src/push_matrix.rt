@@ -50,14 +50,16 @@ fn are_triplets(matrix: &CooMatrix<i32>, want: &[(usize, usize, i32)]) -> bool {
 }
 
 fn a_block_follows_a_triplet(alloc: Global) -> Result<bool, AllocError> {
-    let block = DMatrix::repeat(alloc, 1, 1, W64::new(4))?;
     let mut matrix = CooMatrix::new(alloc, 2, 2);
     matrix.push(0, 1, W64::new(9))?;
+    let block = DMatrix::repeat(alloc, 1, 1, W64::new(4))?;
     matrix.push_matrix(1, 1, &block)?;
-    Ok(
-        matrix.row_indices() == [0, 1].as_slice()
-            && matrix.values() == [W64::new(9), W64::new(4)].as_slice(),
-    )
+    Ok(has_triplet_and_block(&matrix))
+}
+
+fn has_triplet_and_block(matrix: &CooMatrix<W64>) -> bool {
+    matrix.row_indices() == [0, 1].as_slice()
+        && matrix.values() == [W64::new(9), W64::new(4)].as_slice()
 }
 
 #[test]

@@ -90,7 +90,7 @@ const FAULTS: [Fault; 7] = [
 ];
 
 fn is_refused(alloc: Global, fault: &Fault) -> Result<bool, AllocError> {
-    let answer = coo_of(alloc, fault.0, fault.1, fault.2, fault.3, fault.4)?;
+    let answer = coo_of(alloc, fault.0, fault.1, fault.2, fault.3, fault.4);
     is_error(alloc, answer.err(), fault.6, fault.5)
 }
 

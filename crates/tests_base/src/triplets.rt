@@ -17,14 +17,27 @@ pub fn coo_of(
     rows: &[usize],
     cols: &[usize],
     values: &[i32],
-) -> Result<Result<CooMatrix<i32>, SparseFormatError>, AllocError> {
-    Ok(CooMatrix::try_from_triplets(
+) -> Result<CooMatrix<i32>, SparseFormatError> {
+    CooMatrix::try_from_triplets(
         nrows,
         ncols,
         rows.to_vec(alloc)?,
         cols.to_vec(alloc)?,
         values.to_vec(alloc)?,
-    ))
+    )
+}
+
+// Pushes these triplets, without those out of bounds.
+fn push_all<T: Copy>(
+    matrix: &mut CooMatrix<T>,
+    triplets: &[(usize, usize, T)],
+) -> Result<(), AllocError> {
+    for (row, col, value) in triplets {
+        if *row < matrix.nrows() && *col < matrix.ncols() {
+            matrix.push(*row, *col, *value)?;
+        }
+    }
+    Ok(())
 }
 
 // The capacities of an empty list's three vectors for which `reserved` triplets were reserved, after `pushed` pushes.
@@ -141,49 +154,55 @@ const ROWS: [usize; 3] = [1, 1, 0];
 const COLS: [usize; 3] = [2, 2, MAX - 1];
 
 // The list with these values.
-fn with_values(alloc: Global, values: &[i32]) -> Option<CooMatrix<i32>> {
-    coo_of(alloc, 3, MAX, &ROWS, &COLS, values).ok()?.ok()
+fn with_values(alloc: Global, values: &[i32]) -> Result<CooMatrix<i32>, SparseFormatError> {
+    coo_of(alloc, 3, MAX, &ROWS, &COLS, values)
 }
 
-fn another_order_differs(alloc: Global) -> Option<bool> {
-    Some(with_values(alloc, &[-5, 5, 7])? != with_values(alloc, &[5, -5, 7])?)
+fn another_order_differs(
+    alloc: Global,
+    matrix: &CooMatrix<i32>,
+) -> Result<bool, SparseFormatError> {
+    Ok(with_values(alloc, &[-5, 5, 7])? != *matrix)
 }
 
-fn zeros_differ(alloc: Global) -> Option<bool> {
-    let without_triplets = CooMatrix::zeros(alloc, 3, MAX).clone(alloc).ok()?;
-    Some(without_triplets != with_values(alloc, &[5, -5, 7])?)
+fn zeros_differ(alloc: Global, matrix: &CooMatrix<i32>) -> Result<bool, AllocError> {
+    Ok(CooMatrix::zeros(alloc, 3, MAX).clone(alloc)? != *matrix)
 }
 
-fn a_copy_is_equal(alloc: Global) -> Option<bool> {
-    let matrix = with_values(alloc, &[5, -5, 7])?;
-    Some(matrix.clone(alloc).ok()? == matrix)
+fn a_copy_is_equal(alloc: Global, matrix: &CooMatrix<i32>) -> Result<bool, AllocError> {
+    Ok(matrix.clone(alloc)? == *matrix)
 }
 
-fn a_copy_has_the_triplets(alloc: Global) -> Option<bool> {
-    let matrix = with_values(alloc, &[5, -5, 7])?;
-    let (rows, cols, values) = matrix.clone(alloc).ok()?.disassemble();
-    Some(
+fn a_copy_has_the_triplets(alloc: Global, matrix: &CooMatrix<i32>) -> Result<bool, AllocError> {
+    let (rows, cols, values) = matrix.clone(alloc)?.disassemble();
+    Ok(
         rows.as_slice() == ROWS.as_slice()
             && cols.as_slice() == COLS.as_slice()
             && values.as_slice() == [5, -5, 7].as_slice(),
     )
 }
 
+fn others_differ_and_a_copy_is_equal(alloc: Global) -> Result<bool, SparseFormatError> {
+    let matrix = with_values(alloc, &[5, -5, 7])?;
+    Ok(
+        another_order_differs(alloc, &matrix).ok() == Some(true)
+            && zeros_differ(alloc, &matrix) == Ok(true)
+            && a_copy_is_equal(alloc, &matrix) == Ok(true)
+            && a_copy_has_the_triplets(alloc, &matrix) == Ok(true),
+    )
+}
+
 #[test]
 fn lists_are_equal_in_sizes_order_and_values(rt: HostRuntime) {
-    assert!(rt; another_order_differs(rt.alloc()) == Some(true));
-    assert!(rt; zeros_differ(rt.alloc()) == Some(true));
-    assert!(rt; a_copy_is_equal(rt.alloc()) == Some(true));
-    assert!(rt; a_copy_has_the_triplets(rt.alloc()) == Some(true));
+    assert!(rt; others_differ_and_a_copy_is_equal(rt.alloc()).ok() == Some(true));
 }
 
 fn cleared_lists_keep_their_sizes(alloc: Global) -> Result<bool, AllocError> {
     let mut matrix = CooMatrix::new(alloc, 2, 3);
-    matrix.push(1, 2, 5)?;
-    matrix.push(1, 2, 6)?;
+    push_all(&mut matrix, &[(1, 2, 5), (1, 2, 6)])?;
     matrix.clear_triplets();
     let cleared = (matrix.nnz(), matrix.nrows(), matrix.ncols());
-    matrix.push(0, 1, 7)?;
+    push_all(&mut matrix, &[(0, 1, 7)])?;
     Ok(
         cleared == (0, 2, 3)
             && matrix.triplet_iter().next() == Some((0, 1, &7))
@@ -194,10 +213,9 @@ fn cleared_lists_keep_their_sizes(alloc: Global) -> Result<bool, AllocError> {
 // A list of two triplets that had another one before it was cleared.
 fn refilled(alloc: Global) -> Result<CooMatrix<i32>, AllocError> {
     let mut matrix = CooMatrix::new(alloc, 2, 3);
-    matrix.push(0, 1, 7)?;
+    push_all(&mut matrix, &[(0, 1, 7)])?;
     matrix.clear_triplets();
-    matrix.push(1, 2, 5)?;
-    matrix.push(0, 1, 7)?;
+    push_all(&mut matrix, &[(1, 2, 5), (0, 1, 7)])?;
     Ok(matrix)
 }
 
@@ -211,26 +229,30 @@ fn an_iterator_is_copied_where_it_stands(alloc: Global) -> Result<bool, AllocErr
     Ok(first && second && second_of_copy && left.next().is_none())
 }
 
-fn values_are_lent_in_order(alloc: Global) -> Result<bool, AllocError> {
-    let mut matrix = refilled(alloc)?;
+fn values_are_lent_in_order(matrix: &mut CooMatrix<i32>) -> bool {
     let mut borrowed = matrix.triplet_iter_mut();
-    let first = borrowed.next() == Some((1, 2, &mut 5));
-    let second = borrowed.next() == Some((0, 1, &mut 7));
-    Ok(first && second && borrowed.next().is_none() && borrowed.next().is_none())
+    for (row, col, mut value) in [(1, 2, 5), (0, 1, 7)] {
+        if borrowed.next() != Some((row, col, &mut value)) {
+            return false;
+        }
+    }
+    borrowed.next().is_none() && borrowed.next().is_none()
 }
 
 #[test]
 fn triplets_are_pushed_cleared_and_read(rt: HostRuntime) {
     assert!(rt; cleared_lists_keep_their_sizes(rt.alloc()) == Ok(true));
     assert!(rt; an_iterator_is_copied_where_it_stands(rt.alloc()) == Ok(true));
-    assert!(rt; values_are_lent_in_order(rt.alloc()) == Ok(true));
+    assert!(rt; refilled(rt.alloc()).is_ok_and(|mut list| values_are_lent_in_order(&mut list)));
 }
 
 fn doubled(alloc: Global) -> Result<CooMatrix<W64>, AllocError> {
     let mut matrix = CooMatrix::new(alloc, 2, 3);
-    matrix.push(1, 2, W64::new(5))?;
-    matrix.push(0, 1, W64::new(-7))?;
-    matrix.push(1, 2, W64::new(i64::MAX))?;
+    let w = W64::new;
+    push_all(
+        &mut matrix,
+        &[(1, 2, w(5)), (0, 1, w(-7)), (1, 2, w(i64::MAX))],
+    )?;
     for (_, _, value) in matrix.triplet_iter_mut() {
         *value = value.add(*value);
     }
@@ -249,41 +271,47 @@ fn is_doubled(matrix: CooMatrix<W64>) -> bool {
         && matrix.values() == values.as_slice()
 }
 
-fn triplets_are_taken_in_order(alloc: Global) -> Result<bool, SparseFormatError> {
-    let given = [(1, 2, 5), (0, 1, 7), (1, 2, -5)].to_vec(alloc)?;
-    let matrix = CooMatrix::try_from_triplets_iter(alloc, 2, 3, given.into_iter())?;
-    Ok(
-        matrix.row_indices() == [1, 0, 1].as_slice()
-            && matrix.col_indices() == [2, 1, 2].as_slice()
-            && matrix.values() == [5, 7, -5].as_slice(),
-    )
+// The list that an iterator of these triplets gives.
+fn taken(
+    alloc: Global,
+    nrows: usize,
+    ncols: usize,
+    triplets: &[(usize, usize, i32)],
+) -> Result<CooMatrix<i32>, SparseFormatError> {
+    let given = triplets.to_vec(alloc)?;
+    CooMatrix::try_from_triplets_iter(alloc, nrows, ncols, given.into_iter())
 }
 
-fn no_triplets_are_taken(alloc: Global) -> Result<bool, SparseFormatError> {
-    let none: Vec<(usize, usize, i32)> = Vec::new(alloc);
-    Ok(CooMatrix::try_from_triplets_iter(alloc, 0, 0, none.into_iter())?.nnz() == 0)
+fn has_the_triplets_in_order(matrix: CooMatrix<i32>) -> bool {
+    matrix.row_indices() == [1, 0, 1].as_slice()
+        && matrix.col_indices() == [2, 1, 2].as_slice()
+        && matrix.values() == [5, 7, -5].as_slice()
+}
+
+fn has_no_triplets(matrix: CooMatrix<i32>) -> bool {
+    matrix.nnz() == 0
 }
 
 fn triplets_are_refused(
     alloc: Global,
-    triplets: [(usize, usize, i32); 2],
+    triplets: &[(usize, usize, i32)],
     text: &str,
 ) -> Result<bool, AllocError> {
-    let given = triplets.to_vec(alloc)?;
-    let answer = CooMatrix::try_from_triplets_iter(alloc, 2, 3, given.into_iter());
+    let answer = taken(alloc, 2, 3, triplets);
     is_error(alloc, answer.err(), text, IndexOutOfBounds)
 }
 
 #[test]
 fn an_iterator_is_taken_or_refused(rt: HostRuntime) {
+    let triplets = [(1, 2, 5), (0, 1, 7), (1, 2, -5)];
     let past_rows = [(0, 3, 5), (2, 0, 7)];
     let past_columns = [(1, 2, 5), (0, 3, 7)];
-    assert!(rt; triplets_are_taken_in_order(rt.alloc()).ok() == Some(true));
-    assert!(rt; no_triplets_are_taken(rt.alloc()).ok() == Some(true));
+    assert!(rt; taken(rt.alloc(), 2, 3, &triplets).is_ok_and(has_the_triplets_in_order));
+    assert!(rt; taken(rt.alloc(), 0, 0, &[]).is_ok_and(has_no_triplets));
     assert!(rt;
-        triplets_are_refused(rt.alloc(), past_rows, "Row index out of bounds.") == Ok(true)
+        triplets_are_refused(rt.alloc(), &past_rows, "Row index out of bounds.") == Ok(true)
     );
     assert!(rt;
-        triplets_are_refused(rt.alloc(), past_columns, "Col index out of bounds.") == Ok(true)
+        triplets_are_refused(rt.alloc(), &past_columns, "Col index out of bounds.") == Ok(true)
     );
 }

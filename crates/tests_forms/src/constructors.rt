@@ -1,6 +1,9 @@
 //! Matrices from arrays and from patterns, copies, zeros and identities.
 
-use crate::fixtures::{Arrays, BY_ROWS, csc, csc_is, csr, csr_is, unsorted_csc, unsorted_csr};
+use crate::fixtures::{
+    Arrays, BY_ROWS, csc, csc_is, csc_made_equals, csc_made_is, csr, csr_is, csr_made_equals,
+    csr_made_is, unsorted_csc, unsorted_csr,
+};
 use SparseFormatErrorKind::InvalidStructure;
 use sparse_algebra::scalar::W64;
 use sparse_forms::csc::CscMatrix;
@@ -38,29 +41,30 @@ const UNSORTED: &[Unsorted] = &[
     ((0, usize::MAX, &[0], &[], &[]), &[], &[]),
 ];
 
-fn is_sorted_by_rows(alloc: Global, case: &Unsorted) -> Result<bool, SparseFormatError> {
+fn is_sorted(alloc: Global, case: &Unsorted) -> bool {
     let sorted = (case.0.0, case.0.1, case.0.2, case.1, case.2);
-    Ok(csr_is(&unsorted_csr(alloc, case.0)?, sorted))
-}
-
-fn is_sorted_by_columns(alloc: Global, case: &Unsorted) -> Result<bool, SparseFormatError> {
-    let sorted = (case.0.0, case.0.1, case.0.2, case.1, case.2);
-    Ok(csc_is(&unsorted_csc(alloc, case.0)?, sorted))
+    csr_made_is(unsorted_csr(alloc, case.0), sorted)
+        && csc_made_is(unsorted_csc(alloc, case.0), sorted)
 }
 
 #[test]
 fn lanes_are_sorted_with_their_values(rt: HostRuntime) {
     for case in UNSORTED {
-        assert!(rt; is_sorted_by_rows(rt.alloc(), case).ok() == Some(true));
-        assert!(rt; is_sorted_by_columns(rt.alloc(), case).ok() == Some(true));
+        assert!(rt; is_sorted(rt.alloc(), case));
+    }
+}
+
+// Whether zeros by rows are not equal to the matrix.
+fn differs_from_zeros_by_rows(alloc: Global, matrix: &CsrMatrix<i32>) -> bool {
+    match CsrMatrix::zeros(alloc, matrix.nrows(), matrix.ncols()) {
+        Ok(zeros) => zeros != *matrix,
+        Err(_error) => false,
     }
 }
 
 // Whether a copy by rows is equal to the matrix, and zeros are not.
-fn copies_by_rows(alloc: Global, matrix: &CsrMatrix<i32>) -> Result<bool, AllocError> {
-    let copy = matrix.clone(alloc)?;
-    let zeros = CsrMatrix::zeros(alloc, matrix.nrows(), matrix.ncols())?;
-    Ok(copy == *matrix && zeros != *matrix)
+fn copies_by_rows(alloc: Global, matrix: &CsrMatrix<i32>) -> bool {
+    csr_made_equals(matrix.clone(alloc), matrix) && differs_from_zeros_by_rows(alloc, matrix)
 }
 
 // The matrix by rows made again from its pattern and its values.
@@ -83,17 +87,20 @@ fn reassembled_by_rows(
     csr(alloc, (nrows, ncols, &offsets, &columns, &values))
 }
 
+// Whether a matrix by rows is equal to the other, and its pattern to the pattern of the other.
+fn has_equal_pattern_by_rows(rebuilt: &CsrMatrix<i32>, matrix: &CsrMatrix<i32>) -> bool {
+    *rebuilt == *matrix && rebuilt.pattern() == matrix.pattern()
+}
+
 // Whether the parts of a matrix by rows, and its arrays, make it again.
-fn is_made_again_by_rows(
-    alloc: Global,
-    matrix: &CsrMatrix<i32>,
-) -> Result<bool, SparseFormatError> {
-    let rebuilt = rebuilt_by_rows(alloc, matrix)?;
-    Ok(
-        rebuilt == *matrix
-            && rebuilt.pattern() == matrix.pattern()
-            && reassembled_by_rows(alloc, matrix)? == *matrix,
-    )
+fn is_made_again_by_rows(alloc: Global, matrix: &CsrMatrix<i32>) -> bool {
+    match rebuilt_by_rows(alloc, matrix) {
+        Ok(rebuilt) => {
+            has_equal_pattern_by_rows(&rebuilt, matrix)
+                && csr_made_equals(reassembled_by_rows(alloc, matrix), matrix)
+        }
+        Err(_error) => false,
+    }
 }
 
 // Whether the pattern of a matrix by rows of three places refuses two values.
@@ -108,23 +115,31 @@ fn refuses_two_values(alloc: Global, matrix: &CsrMatrix<i32>) -> Result<bool, Al
 
 #[test]
 fn parts_and_copies_by_rows(rt: HostRuntime) {
-    assert!(rt; has_parts_and_copies_by_rows(rt.alloc()).ok() == Some(true));
+    assert!(rt; has_parts_and_copies_by_rows(rt.alloc()));
 }
 
-fn has_parts_and_copies_by_rows(alloc: Global) -> Result<bool, SparseFormatError> {
-    let matrix = csr(alloc, BY_ROWS)?;
-    Ok(
-        copies_by_rows(alloc, &matrix) == Ok(true)
-            && is_made_again_by_rows(alloc, &matrix)?
-            && refuses_two_values(alloc, &matrix) == Ok(true),
-    )
+fn has_parts_and_copies_by_rows(alloc: Global) -> bool {
+    match csr(alloc, BY_ROWS) {
+        Ok(matrix) => {
+            copies_by_rows(alloc, &matrix)
+                && is_made_again_by_rows(alloc, &matrix)
+                && refuses_two_values(alloc, &matrix) == Ok(true)
+        }
+        Err(_error) => false,
+    }
+}
+
+// Whether zeros by columns are not equal to the matrix.
+fn differs_from_zeros_by_columns(alloc: Global, matrix: &CscMatrix<i32>) -> bool {
+    match CscMatrix::zeros(alloc, matrix.nrows(), matrix.ncols()) {
+        Ok(zeros) => zeros != *matrix,
+        Err(_error) => false,
+    }
 }
 
 // Whether a copy by columns is equal to the matrix, and zeros are not.
-fn copies_by_columns(alloc: Global, matrix: &CscMatrix<i32>) -> Result<bool, AllocError> {
-    let copy = matrix.clone(alloc)?;
-    let zeros = CscMatrix::zeros(alloc, matrix.nrows(), matrix.ncols())?;
-    Ok(copy == *matrix && zeros != *matrix)
+fn copies_by_columns(alloc: Global, matrix: &CscMatrix<i32>) -> bool {
+    csc_made_equals(matrix.clone(alloc), matrix) && differs_from_zeros_by_columns(alloc, matrix)
 }
 
 // The matrix by columns made again from its pattern and its values.
@@ -147,46 +162,57 @@ fn reassembled_by_columns(
     csc(alloc, (ncols, nrows, &offsets, &rows, &values))
 }
 
+// Whether a matrix by columns is equal to the other, and its pattern to the pattern of the other.
+fn has_equal_pattern_by_columns(rebuilt: &CscMatrix<i32>, matrix: &CscMatrix<i32>) -> bool {
+    *rebuilt == *matrix && rebuilt.pattern() == matrix.pattern()
+}
+
+// Whether a matrix by columns has the sizes 2 and 4 turned round.
+fn has_sizes_turned_round(matrix: CscMatrix<i32>) -> bool {
+    let by_rows = matrix.transpose_as_csr();
+    (by_rows.nrows(), by_rows.ncols()) == (2, 4)
+}
+
 // Whether the parts of a matrix by columns, and its arrays, make it again, with the sizes 2 and 4 turned round.
-fn is_made_again_by_columns(
-    alloc: Global,
-    matrix: &CscMatrix<i32>,
-) -> Result<bool, SparseFormatError> {
-    let rebuilt = rebuilt_by_columns(alloc, matrix)?;
-    let same = rebuilt == *matrix && rebuilt.pattern() == matrix.pattern();
-    let by_rows = rebuilt.transpose_as_csr();
-    Ok(
-        same && (by_rows.nrows(), by_rows.ncols()) == (2, 4)
-            && reassembled_by_columns(alloc, matrix)? == *matrix,
-    )
+fn is_made_again_by_columns(alloc: Global, matrix: &CscMatrix<i32>) -> bool {
+    match rebuilt_by_columns(alloc, matrix) {
+        Ok(rebuilt) => {
+            has_equal_pattern_by_columns(&rebuilt, matrix)
+                && has_sizes_turned_round(rebuilt)
+                && csc_made_equals(reassembled_by_columns(alloc, matrix), matrix)
+        }
+        Err(_error) => false,
+    }
 }
 
 #[test]
 fn parts_and_copies_by_columns(rt: HostRuntime) {
-    assert!(rt; has_parts_and_copies_by_columns(rt.alloc()).ok() == Some(true));
+    assert!(rt; has_parts_and_copies_by_columns(rt.alloc()));
 }
 
-fn has_parts_and_copies_by_columns(alloc: Global) -> Result<bool, SparseFormatError> {
-    let matrix = unsorted_csc(alloc, UNSORTED[2].0)?;
-    Ok(copies_by_columns(alloc, &matrix) == Ok(true) && is_made_again_by_columns(alloc, &matrix)?)
+fn has_parts_and_copies_by_columns(alloc: Global) -> bool {
+    match unsorted_csc(alloc, UNSORTED[2].0) {
+        Ok(matrix) => copies_by_columns(alloc, &matrix) && is_made_again_by_columns(alloc, &matrix),
+        Err(_error) => false,
+    }
 }
 
 // Whether a copy of a matrix by rows, and all of its places, are equal to it.
-fn is_kept_by_rows(alloc: Global, matrix: &CsrMatrix<i32>) -> Result<bool, AllocError> {
-    let copy = matrix.clone(alloc)?;
-    Ok(copy == *matrix && matrix.filter(alloc, |_, _, _| true)? == *matrix)
+fn is_kept_by_rows(alloc: Global, matrix: &CsrMatrix<i32>) -> bool {
+    csr_made_equals(matrix.clone(alloc), matrix)
+        && csr_made_equals(matrix.filter(alloc, |_, _, _| true), matrix)
 }
 
 // Whether a copy of a matrix by columns, and all of its places, are equal to it.
-fn is_kept_by_columns(alloc: Global, matrix: &CscMatrix<i32>) -> Result<bool, AllocError> {
-    let copy = matrix.clone(alloc)?;
-    Ok(copy == *matrix && matrix.filter(alloc, |_, _, _| true)? == *matrix)
+fn is_kept_by_columns(alloc: Global, matrix: &CscMatrix<i32>) -> bool {
+    csc_made_equals(matrix.clone(alloc), matrix)
+        && csc_made_equals(matrix.filter(alloc, |_, _, _| true), matrix)
 }
 
 // Whether zeros by rows of these sizes have these arrays, and copies that are equal.
 fn has_zeros_by_rows(alloc: Global, want: Arrays<'_, i32>) -> Result<bool, AllocError> {
     let zeros = CsrMatrix::zeros(alloc, want.0, want.1)?;
-    Ok(csr_is(&zeros, want) && is_kept_by_rows(alloc, &zeros)?)
+    Ok(csr_is(&zeros, want) && is_kept_by_rows(alloc, &zeros))
 }
 
 // Whether zeros by columns of these sizes have these arrays and their pattern, and copies that are equal.
@@ -194,7 +220,12 @@ fn has_zeros_by_columns(alloc: Global, want: Arrays<'_, i32>) -> Result<bool, Al
     let zeros = CscMatrix::zeros(alloc, want.1, want.0)?;
     let pattern = SparsityPattern::zeros(alloc, want.0, want.1)?;
     let same = csc_is(&zeros, want) && *zeros.pattern() == pattern;
-    Ok(same && is_kept_by_columns(alloc, &zeros)?)
+    Ok(same && is_kept_by_columns(alloc, &zeros))
+}
+
+// The same by rows and by columns.
+fn has_zeros(alloc: Global, want: Arrays<'_, i32>) -> Result<bool, AllocError> {
+    Ok(has_zeros_by_rows(alloc, want)? && has_zeros_by_columns(alloc, want)?)
 }
 
 // Matrices without stored places.
@@ -204,26 +235,13 @@ const EMPTY: &[Arrays<'static, i32>] = &[
 ];
 
 // Whether identities over wrapping integers have ones on the diagonal, and one of size 0 has none.
-fn has_identities(alloc: Global) -> Result<bool, AllocError> {
-    Ok(
-        has_ones_by_rows(&CsrMatrix::identity(alloc, 3)?)
-            && has_ones_by_columns(&CscMatrix::identity(alloc, 2)?)
-            && has_nothing(&CsrMatrix::identity(alloc, 0)?),
-    )
-}
-
-fn has_ones_by_rows(matrix: &CsrMatrix<W64>) -> bool {
+fn has_identities(alloc: Global) -> bool {
     let ones = [W64::new(1), W64::new(1), W64::new(1)];
-    csr_is(matrix, (3, 3, &[0, 1, 2, 3], &[0, 1, 2], &ones))
-}
-
-fn has_ones_by_columns(matrix: &CscMatrix<W64>) -> bool {
-    let ones = [W64::new(1), W64::new(1)];
-    csc_is(matrix, (2, 2, &[0, 1, 2], &[0, 1], &ones))
-}
-
-fn has_nothing(matrix: &CsrMatrix<W64>) -> bool {
-    csr_is(matrix, (0, 0, &[0], &[], &[]))
+    let by_rows: Arrays<'_, W64> = (3, 3, &[0, 1, 2, 3], &[0, 1, 2], &ones);
+    let by_columns: Arrays<'_, W64> = (2, 2, &[0, 1, 2], &[0, 1], &ones[..2]);
+    csr_made_is(CsrMatrix::identity(alloc, 3), by_rows)
+        && csc_made_is(CscMatrix::identity(alloc, 2), by_columns)
+        && csr_made_is(CsrMatrix::<W64>::identity(alloc, 0), (0, 0, &[0], &[], &[]))
 }
 
 // Whether zeros and identities with more lanes than an array of offsets can count are refused.
@@ -238,9 +256,7 @@ fn refuses_too_many_lanes(alloc: Global) -> bool {
 #[test]
 fn zeros_and_identities(rt: HostRuntime) {
     for want in EMPTY {
-        assert!(rt; has_zeros_by_rows(rt.alloc(), *want) == Ok(true));
-        assert!(rt; has_zeros_by_columns(rt.alloc(), *want) == Ok(true));
+        assert!(rt; has_zeros(rt.alloc(), *want) == Ok(true));
     }
-    assert!(rt; refuses_too_many_lanes(rt.alloc()));
-    assert!(rt; has_identities(rt.alloc()) == Ok(true));
+    assert!(rt; refuses_too_many_lanes(rt.alloc()) && has_identities(rt.alloc()));
 }

@@ -4,7 +4,7 @@ ghost use Rattle.std.specs.Prelude.{◌≡◌, ◌<◌, length, slice_set};
 ghost use Rattle.sparse_cs.specs.Lanes.{lane_at};
 ghost use Rattle.sparse_cs.specs.Writing.{with_lane};
 
-use crate::fixtures::{BY_COLUMNS, csc};
+use crate::fixtures::{BY_COLUMNS, csc, fill, is_at};
 use sparse_forms::csc::{CscColMut, CscMatrix};
 use sparse_pattern::entry::{SparseEntry, SparseEntryMut};
 
@@ -69,10 +69,14 @@ fn write(matrix: &mut CscMatrix<i32>, place: Place, value: i32) {
     }
 }
 
+fn has_values(matrix: &CscMatrix<i32>, values: &[i32]) -> bool {
+    matrix.values() == values
+}
+
 // Whether the values are those wanted once the value of the case is written.
 fn is_written(mut matrix: CscMatrix<i32>, case: &Write) -> bool {
     write(&mut matrix, case.0, case.1);
-    matrix.values() == case.2.as_slice()
+    has_values(&matrix, &case.2)
 }
 
 #[test]
@@ -112,17 +116,17 @@ fn fill_last_column(matrix: &mut CscMatrix<i32>) -> bool {
     bounded && is_last_column(&column) && fill_column(&mut column)
 }
 
+// Whether the slices of the example are its arrays, with these values.
+fn slices_are(matrix: &mut CscMatrix<i32>, want: &[i32]) -> bool {
+    let (offsets, rows, values) = matrix.csc_data_mut();
+    offsets == [0, 1, 2, 3].as_slice() && rows == [0, 1, 0].as_slice() && &*values == want
+}
+
 // Writes through the slices of the example, and answers whether they are its arrays.
 fn fill_slices(matrix: &mut CscMatrix<i32>) -> bool {
-    for value in matrix.values_mut().iter_mut() {
-        *value = 7;
-    }
+    fill(matrix.values_mut(), 7);
     let (pattern, values) = matrix.pattern_and_values_mut();
-    let same = pattern.nnz() == values.len();
-    let (offsets, rows, values) = matrix.csc_data_mut();
-    same && offsets == [0, 1, 2, 3].as_slice()
-        && rows == [0, 1, 0].as_slice()
-        && &*values == [7, 7, 7].as_slice()
+    pattern.nnz() == values.len() && slices_are(matrix, &[7, 7, 7])
 }
 
 #[test]
@@ -131,18 +135,21 @@ fn a_column_for_writing(rt: HostRuntime) {
 }
 
 fn column_and_slices_are_filled(mut matrix: CscMatrix<i32>) -> bool {
-    fill_last_column(&mut matrix)
-        && matrix.values() == [1, 4, 8].as_slice()
-        && fill_slices(&mut matrix)
+    fill_last_column(&mut matrix) && has_values(&matrix, &[1, 4, 8]) && fill_slices(&mut matrix)
+}
+
+fn value_for(rows: &[usize]) -> i32 {
+    match rows.first() {
+        Some(1) => 9,
+        _ => 5,
+    }
 }
 
 // Writes 9 into each column whose first row is 1, and 5 into the others.
 fn fill_columns(matrix: &mut CscMatrix<i32>) {
     for mut column in matrix.col_iter_mut() {
-        let first = column.row_indices().first().copied().unwrap_or(0);
-        for value in column.values_mut() {
-            *value = if first == 1 { 9 } else { 5 };
-        }
+        let value = value_for(column.row_indices());
+        fill(column.values_mut(), value);
     }
 }
 
@@ -157,7 +164,7 @@ fn double(matrix: &mut CscMatrix<i32>) {
 fn places_for_writing_are(matrix: &mut CscMatrix<i32>, places: [(usize, usize); 3]) -> bool {
     let mut triplets = matrix.triplet_iter_mut();
     for place in places {
-        if triplets.next().map(|t| (t.0, t.1)) != Some(place) {
+        if !is_at(triplets.next(), place) {
             return false;
         }
     }
@@ -187,11 +194,10 @@ fn iterators_for_writing_by_columns(rt: HostRuntime) {
 // Whether the values of the example are doubled, and its triplets for writing are in order.
 fn is_doubled(mut matrix: CscMatrix<i32>) -> bool {
     double(&mut matrix);
-    matrix.values() == [2, 8, 0].as_slice()
-        && places_for_writing_are(&mut matrix, [(0, 0), (1, 1), (0, 2)])
+    has_values(&matrix, &[2, 8, 0]) && places_for_writing_are(&mut matrix, [(0, 0), (1, 1), (0, 2)])
 }
 
 fn columns_are_filled(mut matrix: CscMatrix<i32>) -> bool {
     fill_columns(&mut matrix);
-    matrix.values() == [5, 9, 5].as_slice() && rows_for_writing_are(&mut matrix, [&[0], &[1], &[0]])
+    has_values(&matrix, &[5, 9, 5]) && rows_for_writing_are(&mut matrix, [&[0], &[1], &[0]])
 }

@@ -5,7 +5,7 @@ ghost use Rattle.sparse_cs.specs.Lanes.{lane_at};
 ghost use Rattle.sparse_cs.specs.StoredEntries.{IsInBounds, place_of};
 ghost use Rattle.sparse_cs.specs.Writing.{with_value, with_lane};
 
-use crate::fixtures::{BY_ROWS, csr, wrapping_csr};
+use crate::fixtures::{BY_ROWS, csr, fill, is_at, wrapping_csr};
 use sparse_algebra::scalar::{Ring, W64};
 use sparse_forms::csr::{CsrMatrix, CsrRowMut};
 use sparse_pattern::entry::{SparseEntry, SparseEntryMut};
@@ -98,10 +98,14 @@ fn write(matrix: &mut CsrMatrix<i32>, place: Place, value: i32) {
     }
 }
 
+fn has_values<T: PartialEq>(matrix: &CsrMatrix<T>, values: &[T]) -> bool {
+    matrix.values() == values
+}
+
 // Whether the values are those wanted once the value of the case is written.
 fn is_written(mut matrix: CsrMatrix<i32>, case: &Write) -> bool {
     write(&mut matrix, case.0, case.1);
-    matrix.values() == case.2.as_slice()
+    has_values(&matrix, &case.2)
 }
 
 #[test]
@@ -141,17 +145,17 @@ fn fill_first_row(matrix: &mut CsrMatrix<i32>) -> bool {
     bounded && is_first_row(&row) && fill_row(&mut row)
 }
 
+// Whether the slices of the example are its arrays, with these values.
+fn slices_are(matrix: &mut CsrMatrix<i32>, want: &[i32]) -> bool {
+    let (offsets, columns, values) = matrix.csr_data_mut();
+    offsets == [0, 2, 3].as_slice() && columns == [0, 2, 1].as_slice() && &*values == want
+}
+
 // Writes through the slices of the example, and answers whether they are its arrays.
 fn fill_slices(matrix: &mut CsrMatrix<i32>) -> bool {
-    for value in matrix.values_mut().iter_mut() {
-        *value = 7;
-    }
+    fill(matrix.values_mut(), 7);
     let (pattern, values) = matrix.pattern_and_values_mut();
-    let same = pattern.nnz() == values.len();
-    let (offsets, columns, values) = matrix.csr_data_mut();
-    same && offsets == [0, 2, 3].as_slice()
-        && columns == [0, 2, 1].as_slice()
-        && &*values == [7, 7, 7].as_slice()
+    pattern.nnz() == values.len() && slices_are(matrix, &[7, 7, 7])
 }
 
 #[test]
@@ -160,9 +164,7 @@ fn a_row_for_writing(rt: HostRuntime) {
 }
 
 fn row_and_slices_are_filled(mut matrix: CsrMatrix<i32>) -> bool {
-    fill_first_row(&mut matrix)
-        && matrix.values() == [8, 8, 4].as_slice()
-        && fill_slices(&mut matrix)
+    fill_first_row(&mut matrix) && has_values(&matrix, &[8, 8, 4]) && fill_slices(&mut matrix)
 }
 
 // Doubles each value through its triplet.
@@ -176,24 +178,28 @@ fn double(matrix: &mut CsrMatrix<i32>) {
 fn places_for_writing_are(matrix: &mut CsrMatrix<i32>, places: [(usize, usize); 3]) -> bool {
     let mut triplets = matrix.triplet_iter_mut();
     for place in places {
-        if triplets.next().map(|t| (t.0, t.1)) != Some(place) {
+        if !is_at(triplets.next(), place) {
             return false;
         }
     }
     triplets.next().is_none() && triplets.next().is_none()
 }
 
-// Writes into the example over wrapping integers, and answers whether its values are then the ones wanted.
-fn writes_wrapping_values(mut matrix: CsrMatrix<W64>) -> bool {
-    let w = W64::new;
+fn double_wrapping_values(matrix: &mut CsrMatrix<W64>) {
     for (_, _, value) in matrix.triplet_iter_mut() {
         *value = (*value).add(*value);
     }
-    let doubled = matrix.values() == [w(2), w(0), w(8)].as_slice();
+}
+
+// Writes into the example over wrapping integers, and answers whether its values are then the ones wanted.
+fn writes_wrapping_values(mut matrix: CsrMatrix<W64>) -> bool {
+    let w = W64::new;
+    double_wrapping_values(&mut matrix);
+    let doubled = has_values(&matrix, &[w(2), w(0), w(8)]);
     if matrix.nrows() > 1 {
         write_through_row(&mut matrix, 1, 1, w(9));
     }
-    doubled && matrix.values() == [w(2), w(0), w(9)].as_slice()
+    doubled && has_values(&matrix, &[w(2), w(0), w(9)])
 }
 
 #[test]
@@ -205,8 +211,7 @@ fn triplets_for_writing_by_rows(rt: HostRuntime) {
 // Whether the values of the example are doubled, and its triplets for writing are in order.
 fn is_doubled(mut matrix: CsrMatrix<i32>) -> bool {
     double(&mut matrix);
-    matrix.values() == [2, 0, 8].as_slice()
-        && places_for_writing_are(&mut matrix, [(0, 0), (0, 2), (1, 1)])
+    has_values(&matrix, &[2, 0, 8]) && places_for_writing_are(&mut matrix, [(0, 0), (0, 2), (1, 1)])
 }
 
 // Writes 9 into each row of one value, and 5 into the others.
@@ -217,9 +222,7 @@ fn fill_rows(matrix: &mut CsrMatrix<W64>) {
         } else {
             W64::new(5)
         };
-        for old in row.values_mut() {
-            *old = value;
-        }
+        fill(row.values_mut(), value);
     }
 }
 
@@ -246,6 +249,6 @@ fn rows_for_writing(rt: HostRuntime) {
 
 fn rows_are_filled(mut matrix: CsrMatrix<W64>) -> bool {
     fill_rows(&mut matrix);
-    matrix.values() == [W64::new(9), W64::new(5), W64::new(5)].as_slice()
+    has_values(&matrix, &[W64::new(9), W64::new(5), W64::new(5)])
         && columns_for_writing_are(&mut matrix, [&[1], &[], &[0, 1]])
 }

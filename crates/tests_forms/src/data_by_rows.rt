@@ -5,9 +5,8 @@ use crate::outcome::{read_coo, read_csc, read_csr, read_pattern};
 use SparseFormatErrorKind::{IndexOutOfBounds, InvalidStructure};
 use sparse_pattern::error::SparseFormatErrorKind;
 use sparse_pattern::pattern::SparsityPatternFormatError;
-use std::test::Fail;
 
-const COO: [(&str, Outcome<SparseFormatErrorKind>); 4] = [
+const COO: &[(&str, Outcome<SparseFormatErrorKind>)] = &[
     (
         r#"{"nrows":3,"ncols":5,"row_indices":[0,1,0,0,2],"col_indices":[0,2,1,3,3],"values":[2,3,7,3,1]}"#,
         Taken,
@@ -29,7 +28,7 @@ const COO: [(&str, Outcome<SparseFormatErrorKind>); 4] = [
 const FOURTH: &str =
     r#"{"nrows":3,"ncols":6,"row_offsets":[0,2,2,5],"col_indices":[0,5,1,2,3],"values":[0,1,2,3,4]}"#;
 
-const CSR: [(&str, Outcome<SparseFormatErrorKind>); 4] = [
+const CSR: &[(&str, Outcome<SparseFormatErrorKind>)] = &[
     (FOURTH, Taken),
     // The fields come in any order.
     (
@@ -46,7 +45,7 @@ const CSR: [(&str, Outcome<SparseFormatErrorKind>); 4] = [
     ),
 ];
 
-const CSC: [(&str, Outcome<SparseFormatErrorKind>); 3] = [
+const CSC: &[(&str, Outcome<SparseFormatErrorKind>)] = &[
     (FOURTH, Unread),
     (
         r#"{"nrows":6,"ncols":3,"col_offsets":[0,2,2,5],"row_indices":[0,5,1,2,3],"values":[0,1,2,3,4]}"#,
@@ -58,7 +57,7 @@ const CSC: [(&str, Outcome<SparseFormatErrorKind>); 3] = [
     ),
 ];
 
-const PATTERNS: [(&str, Outcome<SparsityPatternFormatError>); 2] = [
+const PATTERNS: &[(&str, Outcome<SparsityPatternFormatError>)] = &[
     (
         r#"{"major_dim":0,"minor_dim":0,"major_offsets":[],"minor_indices":[]}"#,
         Refused(SparsityPatternFormatError::InvalidOffsetArrayLength),
@@ -70,28 +69,29 @@ const PATTERNS: [(&str, Outcome<SparsityPatternFormatError>); 2] = [
 ];
 
 #[test]
-fn triplets_are_taken_or_refused(rt: HostRuntime) -> Result<(), Fail> {
+fn triplets_are_taken_or_refused(rt: HostRuntime) {
     for (text, want) in COO {
-        assert_eq!(rt; read_coo(rt.alloc(), text), want, "{text}");
+        assert!(rt; read_coo(rt.alloc(), text) == *want, "{text}");
     }
-    Ok(())
 }
 
 #[test]
-fn rows_and_columns_are_taken_or_refused(rt: HostRuntime) -> Result<(), Fail> {
+fn rows_are_taken_or_refused(rt: HostRuntime) {
     for (text, want) in CSR {
-        assert_eq!(rt; read_csr(rt.alloc(), text), want, "{text}");
+        assert!(rt; read_csr(rt.alloc(), text) == *want, "{text}");
     }
-    for (text, want) in CSC {
-        assert_eq!(rt; read_csc(rt.alloc(), text), want, "{text}");
-    }
-    Ok(())
 }
 
 #[test]
-fn patterns_are_taken_or_refused(rt: HostRuntime) -> Result<(), Fail> {
-    for (text, want) in PATTERNS {
-        assert_eq!(rt; read_pattern(rt.alloc(), text), want, "{text}");
+fn columns_are_taken_or_refused(rt: HostRuntime) {
+    for (text, want) in CSC {
+        assert!(rt; read_csc(rt.alloc(), text) == *want, "{text}");
     }
-    Ok(())
+}
+
+#[test]
+fn patterns_are_taken_or_refused(rt: HostRuntime) {
+    for (text, want) in PATTERNS {
+        assert!(rt; read_pattern(rt.alloc(), text) == *want, "{text}");
+    }
 }

@@ -1,81 +1,125 @@
 //! Matrices written as JSON and taken back.
 
+use crate::fixtures::{csc_made_equals, csr_made_equals};
+use serde::{Deserialize, Serialize};
 use sparse_base::coo::CooMatrix;
 use sparse_data::laws::{coo_returns, csc_returns, csr_returns, pattern_returns};
-use sparse_data::{CooData, CscData, CsrData, PatternData, ToData, TryFromData};
+use sparse_data::{ToData, TryFromData};
 use sparse_forms::csc::CscMatrix;
 use sparse_forms::csr::CsrMatrix;
 use sparse_pattern::pattern::SparsityPattern;
 use std::alloc::Global;
-use std::test::Fail;
+
+// What a text describes.
+#[derive(Clone, Copy)]
+enum Kind {
+    Coo,
+    Csr,
+    Csc,
+    Pattern,
+}
 
 // For each kind, the text of a matrix with places and that of one without.
-const COO: [&str; 2] = [
-    r#"{"nrows":3,"ncols":5,"row_indices":[2,1,2],"col_indices":[4,0,4],"values":[7,0,-7]}"#,
-    r#"{"nrows":0,"ncols":2,"row_indices":[],"col_indices":[],"values":[]}"#,
+const TEXTS: &[(Kind, &str)] = &[
+    (
+        Kind::Coo,
+        r#"{"nrows":3,"ncols":5,"row_indices":[2,1,2],"col_indices":[4,0,4],"values":[7,0,-7]}"#,
+    ),
+    (
+        Kind::Coo,
+        r#"{"nrows":0,"ncols":2,"row_indices":[],"col_indices":[],"values":[]}"#,
+    ),
+    (
+        Kind::Csr,
+        r#"{"nrows":3,"ncols":6,"row_offsets":[0,2,2,5],"col_indices":[0,5,1,2,3],"values":[0,1,2,3,4]}"#,
+    ),
+    (
+        Kind::Csr,
+        r#"{"nrows":1,"ncols":0,"row_offsets":[0,0],"col_indices":[],"values":[]}"#,
+    ),
+    (
+        Kind::Csc,
+        r#"{"nrows":6,"ncols":3,"col_offsets":[0,2,2,5],"row_indices":[0,5,1,2,3],"values":[0,1,2,3,4]}"#,
+    ),
+    (
+        Kind::Csc,
+        r#"{"nrows":0,"ncols":1,"col_offsets":[0,0],"row_indices":[],"values":[]}"#,
+    ),
+    (
+        Kind::Pattern,
+        r#"{"major_dim":3,"minor_dim":6,"major_offsets":[0,2,2,5],"minor_indices":[0,5,1,2,3]}"#,
+    ),
+    (
+        Kind::Pattern,
+        r#"{"major_dim":0,"minor_dim":2,"major_offsets":[0],"minor_indices":[]}"#,
+    ),
 ];
 
-const CSR: [&str; 2] = [
-    r#"{"nrows":3,"ncols":6,"row_offsets":[0,2,2,5],"col_indices":[0,5,1,2,3],"values":[0,1,2,3,4]}"#,
-    r#"{"nrows":1,"ncols":0,"row_offsets":[0,0],"col_indices":[],"values":[]}"#,
-];
+// The matrix or the pattern of a text. `None` for a refusal.
+fn taken<'a, M: TryFromData>(alloc: Global, text: &'a str) -> Option<M>
+where
+    M::Data: Deserialize<'a>,
+    M::Refusal: Drop,
+{
+    let source = serde_json::from_str::<M::Data>(alloc, text).ok()?;
+    M::try_from_data(source).ok()
+}
 
-const CSC: [&str; 2] = [
-    r#"{"nrows":6,"ncols":3,"col_offsets":[0,2,2,5],"row_indices":[0,5,1,2,3],"values":[0,1,2,3,4]}"#,
-    r#"{"nrows":0,"ncols":1,"col_offsets":[0,0],"row_indices":[],"values":[]}"#,
-];
-
-const PATTERN: [&str; 2] = [
-    r#"{"major_dim":3,"minor_dim":6,"major_offsets":[0,2,2,5],"minor_indices":[0,5,1,2,3]}"#,
-    r#"{"major_dim":0,"minor_dim":2,"major_offsets":[0],"minor_indices":[]}"#,
-];
+// Whether a matrix or a pattern is written as this text. `None` for want of memory.
+fn is_written<M: ToData>(alloc: Global, matrix: &M, text: &str) -> Option<bool>
+where
+    M::Copied: Serialize + Drop,
+{
+    let data = matrix.to_data(alloc).ok()?;
+    Some(serde_json::to_string(alloc, &data).ok()?.as_str() == text)
+}
 
 // Whether the matrix of a text is written as that text, and taken back as an equal matrix. `None` for a refusal.
 fn coo_returns_text(alloc: Global, text: &str) -> Option<bool> {
-    let source = serde_json::from_str::<CooData<i32>>(alloc, text).ok()?;
-    let matrix = CooMatrix::try_from_data(source).ok()?;
-    let written = serde_json::to_string(alloc, &matrix.to_data(alloc).ok()?).ok()?;
-    Some(written.as_str() == text && coo_returns(alloc, &matrix).ok()? == matrix)
+    let matrix = taken::<CooMatrix<i32>>(alloc, text)?;
+    Some(is_written(alloc, &matrix, text)? && coo_returns(alloc, &matrix).ok()? == matrix)
+}
+
+// Whether the matrix that is copied to a data struct and taken back is equal to this one.
+fn csr_comes_back(alloc: Global, matrix: &CsrMatrix<i32>) -> bool {
+    csr_made_equals(csr_returns(alloc, matrix), matrix)
 }
 
 fn csr_returns_text(alloc: Global, text: &str) -> Option<bool> {
-    let source = serde_json::from_str::<CsrData<i32>>(alloc, text).ok()?;
-    let matrix = CsrMatrix::try_from_data(source).ok()?;
-    let written = serde_json::to_string(alloc, &matrix.to_data(alloc).ok()?).ok()?;
-    Some(written.as_str() == text && csr_returns(alloc, &matrix).ok()? == matrix)
+    let matrix = taken::<CsrMatrix<i32>>(alloc, text)?;
+    Some(is_written(alloc, &matrix, text)? && csr_comes_back(alloc, &matrix))
+}
+
+// The same by columns.
+fn csc_comes_back(alloc: Global, matrix: &CscMatrix<i32>) -> bool {
+    csc_made_equals(csc_returns(alloc, matrix), matrix)
 }
 
 fn csc_returns_text(alloc: Global, text: &str) -> Option<bool> {
-    let source = serde_json::from_str::<CscData<i32>>(alloc, text).ok()?;
-    let matrix = CscMatrix::try_from_data(source).ok()?;
-    let written = serde_json::to_string(alloc, &matrix.to_data(alloc).ok()?).ok()?;
-    Some(written.as_str() == text && csc_returns(alloc, &matrix).ok()? == matrix)
+    let matrix = taken::<CscMatrix<i32>>(alloc, text)?;
+    Some(is_written(alloc, &matrix, text)? && csc_comes_back(alloc, &matrix))
 }
 
 fn pattern_returns_text(alloc: Global, text: &str) -> Option<bool> {
-    let source = serde_json::from_str::<PatternData>(alloc, text).ok()?;
-    let pattern = SparsityPattern::try_from_data(source).ok()?;
-    let written = serde_json::to_string(alloc, &pattern.to_data(alloc).ok()?).ok()?;
-    Some(written.as_str() == text && pattern_returns(alloc, &pattern).ok()? == pattern)
+    let pattern = taken::<SparsityPattern>(alloc, text)?;
+    Some(is_written(alloc, &pattern, text)? && pattern_returns(alloc, &pattern).ok()? == pattern)
+}
+
+fn returns_text(alloc: Global, kind: Kind, text: &str) -> Option<bool> {
+    match kind {
+        Kind::Coo => coo_returns_text(alloc, text),
+        Kind::Csr => csr_returns_text(alloc, text),
+        Kind::Csc => csc_returns_text(alloc, text),
+        Kind::Pattern => pattern_returns_text(alloc, text),
+    }
 }
 
 #[test]
-fn what_is_written_is_what_was_read(rt: HostRuntime) -> Result<(), Fail> {
-    for text in COO {
-        assert_eq!(rt; coo_returns_text(rt.alloc(), text), Some(true), "{text}");
-    }
-    for text in CSR {
-        assert_eq!(rt; csr_returns_text(rt.alloc(), text), Some(true), "{text}");
-    }
-    for text in CSC {
-        assert_eq!(rt; csc_returns_text(rt.alloc(), text), Some(true), "{text}");
-    }
-    for text in PATTERN {
-        assert_eq!(rt;
-            pattern_returns_text(rt.alloc(), text),
-            Some(true),
+fn what_is_written_is_what_was_read(rt: HostRuntime) {
+    for (kind, text) in TEXTS {
+        assert!(rt;
+            returns_text(rt.alloc(), *kind, text) == Some(true),
             "{text}"
         );
     }
-    Ok(())
 }

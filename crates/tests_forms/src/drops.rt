@@ -28,47 +28,64 @@ const REFUSED: &[Refused] = &[
     (1, &[0, 2], &[0, 1], 3),
 ];
 
-// Whether arrays of rows of length 4 are refused and none of their values is left.
-fn drops_rows(
+// Whether arrays of rows of length 4 are refused with these values.
+fn refuses_rows(
     alloc: Global,
-    (nrows, offsets, indices, count): Refused,
+    (nrows, offsets, indices, _): Refused,
+    values: Vec<Rc<i32>>,
 ) -> Result<bool, AllocError> {
-    let one = Rc::new(alloc, 7)?;
-    let values = copies(alloc, &one, count)?;
     let (offsets, indices) = (offsets.to_vec(alloc)?, indices.to_vec(alloc)?);
-    let refused = CsrMatrix::try_from_csr_data(nrows, 4, offsets, indices, values).is_err();
-    Ok(refused && Rc::strong_count(&one) == 1)
+    Ok(CsrMatrix::try_from_csr_data(nrows, 4, offsets, indices, values).is_err())
 }
 
 // The same of columns of length 4.
-fn drops_columns(
+fn refuses_columns(
     alloc: Global,
-    (ncols, offsets, indices, count): Refused,
+    (ncols, offsets, indices, _): Refused,
+    values: Vec<Rc<i32>>,
 ) -> Result<bool, AllocError> {
-    let one = Rc::new(alloc, 7)?;
-    let values = copies(alloc, &one, count)?;
     let (offsets, indices) = (offsets.to_vec(alloc)?, indices.to_vec(alloc)?);
-    let refused = CscMatrix::try_from_csc_data(4, ncols, offsets, indices, values).is_err();
-    Ok(refused && Rc::strong_count(&one) == 1)
+    Ok(CscMatrix::try_from_csc_data(4, ncols, offsets, indices, values).is_err())
+}
+
+// Whether arrays by rows and by columns are refused, and after each none of their values is left.
+fn drops_values_of_arrays(alloc: Global, arrays: Refused) -> Result<bool, AllocError> {
+    let one = Rc::new(alloc, 7)?;
+    Ok(
+        refuses_rows(alloc, arrays, copies(alloc, &one, arrays.3)?)?
+            && Rc::strong_count(&one) == 1
+            && refuses_columns(alloc, arrays, copies(alloc, &one, arrays.3)?)?
+            && Rc::strong_count(&one) == 1,
+    )
 }
 
 #[test]
 fn refused_arrays_drop_their_values(rt: HostRuntime) {
     for arrays in REFUSED {
-        assert!(rt; drops_rows(rt.alloc(), *arrays) == Ok(true));
-        assert!(rt; drops_columns(rt.alloc(), *arrays) == Ok(true));
+        assert!(rt; drops_values_of_arrays(rt.alloc(), *arrays) == Ok(true));
     }
+}
+
+// Whether a pattern without places refuses these values by rows.
+fn refuses_values_by_rows(alloc: Global, values: Vec<Rc<i32>>) -> Result<bool, AllocError> {
+    let pattern = SparsityPattern::zeros(alloc, 1, 1)?;
+    Ok(CsrMatrix::try_from_pattern_and_values(pattern, values).is_err())
+}
+
+// The same by columns.
+fn refuses_values_by_columns(alloc: Global, values: Vec<Rc<i32>>) -> Result<bool, AllocError> {
+    let pattern = SparsityPattern::zeros(alloc, 1, 1)?;
+    Ok(CscMatrix::try_from_pattern_and_values(pattern, values).is_err())
 }
 
 // Whether a pattern without places refuses values by rows and by columns, and none of them is left.
 fn drops_values(alloc: Global, count: usize) -> Result<bool, AllocError> {
     let one = Rc::new(alloc, 7)?;
-    let (by_rows, by_columns) = (copies(alloc, &one, count)?, copies(alloc, &one, count)?);
-    let pattern = SparsityPattern::zeros(alloc, 1, 1)?;
-    let rows_refused = CsrMatrix::try_from_pattern_and_values(pattern, by_rows).is_err();
-    let pattern = SparsityPattern::zeros(alloc, 1, 1)?;
-    let columns_refused = CscMatrix::try_from_pattern_and_values(pattern, by_columns).is_err();
-    Ok(rows_refused && columns_refused && Rc::strong_count(&one) == 1)
+    Ok(
+        refuses_values_by_rows(alloc, copies(alloc, &one, count)?)?
+            && refuses_values_by_columns(alloc, copies(alloc, &one, count)?)?
+            && Rc::strong_count(&one) == 1,
+    )
 }
 
 #[test]

@@ -41,12 +41,26 @@ fn indexed_by_columns(matrix: &CscMatrix<i32>, row: usize, col: usize) -> Option
     value_of(Some(matrix.index_entry(row, col)))
 }
 
+fn is_entry(entry: Option<(i32, bool)>, want: Option<(i32, bool)>) -> bool {
+    entry == want
+}
+
+// Whether a matrix by rows has this entry.
+fn has_entry_by_rows(matrix: &CsrMatrix<i32>, (row, col, want): &Entry) -> bool {
+    is_entry(value_of(matrix.get_entry(*row, *col)), *want)
+        && is_entry(indexed_by_rows(matrix, *row, *col), *want)
+}
+
+// The same by columns.
+fn has_entry_by_columns(matrix: &CscMatrix<i32>, (row, col, want): &Entry) -> bool {
+    is_entry(value_of(matrix.get_entry(*row, *col)), *want)
+        && is_entry(indexed_by_columns(matrix, *row, *col), *want)
+}
+
 // Whether the example by rows has its arrays and its entries.
 fn has_entries_by_rows(matrix: CsrMatrix<i32>) -> bool {
-    for (row, col, want) in ENTRIES {
-        if value_of(matrix.get_entry(*row, *col)) != *want
-            || indexed_by_rows(&matrix, *row, *col) != *want
-        {
+    for entry in ENTRIES {
+        if !has_entry_by_rows(&matrix, entry) {
             return false;
         }
     }
@@ -55,26 +69,26 @@ fn has_entries_by_rows(matrix: CsrMatrix<i32>) -> bool {
 
 // The same by columns.
 fn has_entries_by_columns(matrix: CscMatrix<i32>) -> bool {
-    for (row, col, want) in ENTRIES {
-        if value_of(matrix.get_entry(*row, *col)) != *want
-            || indexed_by_columns(&matrix, *row, *col) != *want
-        {
+    for entry in ENTRIES {
+        if !has_entry_by_columns(&matrix, entry) {
             return false;
         }
     }
     matrix.csc_data() == (BY_COLUMNS.2, BY_COLUMNS.3, BY_COLUMNS.4)
 }
 
-// An entry over wrapping integers.
-fn wrapped(entry: Option<(i32, bool)>) -> Option<(W64, bool)> {
-    let (value, stored) = entry?;
-    Some((W64::new(value as i64), stored))
+// Whether an entry over wrapping integers is this one.
+fn is_wrapping_entry(entry: Option<(W64, bool)>, want: Option<(i32, bool)>) -> bool {
+    match want {
+        Some((value, stored)) => entry == Some((W64::new(value as i64), stored)),
+        None => entry.is_none(),
+    }
 }
 
 // Whether the example by rows has its entries over wrapping integers.
 fn has_wrapping_entries_by_rows(matrix: CsrMatrix<W64>) -> bool {
     for (row, col, want) in ENTRIES {
-        if value_of(matrix.get_entry(*row, *col)) != wrapped(*want) {
+        if !is_wrapping_entry(value_of(matrix.get_entry(*row, *col)), *want) {
             return false;
         }
     }
@@ -84,7 +98,7 @@ fn has_wrapping_entries_by_rows(matrix: CsrMatrix<W64>) -> bool {
 // The same by columns.
 fn has_wrapping_entries_by_columns(matrix: CscMatrix<W64>) -> bool {
     for (row, col, want) in ENTRIES {
-        if value_of(matrix.get_entry(*row, *col)) != wrapped(*want) {
+        if !is_wrapping_entry(value_of(matrix.get_entry(*row, *col)), *want) {
             return false;
         }
     }
@@ -137,15 +151,19 @@ fn indexed_mut_by_columns(matrix: &mut CscMatrix<i32>, row: usize, col: usize) -
     Some(matrix.index_entry_mut(row, col).into_value())
 }
 
-fn value_alone(entry: Option<(i32, bool)>) -> Option<i32> {
-    Some(entry?.0)
+// Whether this is the value of the entry, and `None` where there is none.
+fn is_value_of(value: Option<i32>, entry: Option<(i32, bool)>) -> bool {
+    match entry {
+        Some((want, _)) => value == Some(want),
+        None => value.is_none(),
+    }
 }
 
 // Whether the example by rows has its entries for writing.
 fn has_entries_for_writing_by_rows(mut matrix: CsrMatrix<i32>) -> bool {
     for (row, col, want) in ENTRIES {
-        if entry_mut_by_rows(&mut matrix, *row, *col) != *want
-            || indexed_mut_by_rows(&mut matrix, *row, *col) != value_alone(*want)
+        if !is_entry(entry_mut_by_rows(&mut matrix, *row, *col), *want)
+            || !is_value_of(indexed_mut_by_rows(&mut matrix, *row, *col), *want)
         {
             return false;
         }
@@ -156,8 +174,8 @@ fn has_entries_for_writing_by_rows(mut matrix: CsrMatrix<i32>) -> bool {
 // The same by columns.
 fn has_entries_for_writing_by_columns(mut matrix: CscMatrix<i32>) -> bool {
     for (row, col, want) in ENTRIES {
-        if entry_mut_by_columns(&mut matrix, *row, *col) != *want
-            || indexed_mut_by_columns(&mut matrix, *row, *col) != value_alone(*want)
+        if !is_entry(entry_mut_by_columns(&mut matrix, *row, *col), *want)
+            || !is_value_of(indexed_mut_by_columns(&mut matrix, *row, *col), *want)
         {
             return false;
         }

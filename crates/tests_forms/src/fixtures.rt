@@ -4,7 +4,7 @@ use sparse_algebra::scalar::W64;
 use sparse_forms::csc::CscMatrix;
 use sparse_forms::csr::CsrMatrix;
 use sparse_pattern::error::SparseFormatError;
-use std::alloc::Global;
+use std::alloc::{AllocError, Global};
 
 /// The number of lanes, their length, the offsets, the indices and the values of a matrix.
 pub type Arrays<'a, T> = (usize, usize, &'a [usize], &'a [usize], &'a [T]);
@@ -15,14 +15,25 @@ pub const BY_ROWS: Arrays<'static, i32> = (2, 3, &[0, 2, 3], &[0, 2, 1], &[1, 0,
 /// The same matrix by columns.
 pub const BY_COLUMNS: Arrays<'static, i32> = (3, 2, &[0, 1, 2, 3], &[0, 1, 0], &[1, 4, 0]);
 
+// Copies of the offsets, the indices and the values.
+fn copied<T: Copy>(
+    alloc: Global,
+    arrays: Arrays<'_, T>,
+) -> Result<(Vec<usize>, Vec<usize>, Vec<T>), AllocError> {
+    Ok((
+        arrays.2.to_vec(alloc)?,
+        arrays.3.to_vec(alloc)?,
+        arrays.4.to_vec(alloc)?,
+    ))
+}
+
 /// The CSR matrix of arrays whose rows are sorted.
 pub fn csr<T: Copy>(
     alloc: Global,
     arrays: Arrays<'_, T>,
 ) -> Result<CsrMatrix<T>, SparseFormatError> {
-    let (nrows, ncols, offsets, indices, values) = arrays;
-    let (offsets, indices) = (offsets.to_vec(alloc)?, indices.to_vec(alloc)?);
-    CsrMatrix::try_from_csr_data(nrows, ncols, offsets, indices, values.to_vec(alloc)?)
+    let (offsets, indices, values) = copied(alloc, arrays)?;
+    CsrMatrix::try_from_csr_data(arrays.0, arrays.1, offsets, indices, values)
 }
 
 /// The CSC matrix of arrays whose columns are sorted.
@@ -30,9 +41,8 @@ pub fn csc<T: Copy>(
     alloc: Global,
     arrays: Arrays<'_, T>,
 ) -> Result<CscMatrix<T>, SparseFormatError> {
-    let (ncols, nrows, offsets, indices, values) = arrays;
-    let (offsets, indices) = (offsets.to_vec(alloc)?, indices.to_vec(alloc)?);
-    CscMatrix::try_from_csc_data(nrows, ncols, offsets, indices, values.to_vec(alloc)?)
+    let (offsets, indices, values) = copied(alloc, arrays)?;
+    CscMatrix::try_from_csc_data(arrays.1, arrays.0, offsets, indices, values)
 }
 
 /// The CSR matrix of arrays whose rows need not be sorted.
@@ -40,10 +50,8 @@ pub fn unsorted_csr(
     alloc: Global,
     arrays: Arrays<'_, i32>,
 ) -> Result<CsrMatrix<i32>, SparseFormatError> {
-    let (nrows, ncols, offsets, indices, values) = arrays;
-    let (offsets, indices) = (offsets.to_vec(alloc)?, indices.to_vec(alloc)?);
-    let values = values.to_vec(alloc)?;
-    CsrMatrix::try_from_unsorted_csr_data(alloc, nrows, ncols, offsets, indices, values)
+    let (offsets, indices, values) = copied(alloc, arrays)?;
+    CsrMatrix::try_from_unsorted_csr_data(alloc, arrays.0, arrays.1, offsets, indices, values)
 }
 
 /// The CSC matrix of arrays whose columns need not be sorted.
@@ -51,10 +59,8 @@ pub fn unsorted_csc(
     alloc: Global,
     arrays: Arrays<'_, i32>,
 ) -> Result<CscMatrix<i32>, SparseFormatError> {
-    let (ncols, nrows, offsets, indices, values) = arrays;
-    let (offsets, indices) = (offsets.to_vec(alloc)?, indices.to_vec(alloc)?);
-    let values = values.to_vec(alloc)?;
-    CscMatrix::try_from_unsorted_csc_data(alloc, nrows, ncols, offsets, indices, values)
+    let (offsets, indices, values) = copied(alloc, arrays)?;
+    CscMatrix::try_from_unsorted_csc_data(alloc, arrays.1, arrays.0, offsets, indices, values)
 }
 
 /// The example by rows over wrapping integers.
@@ -87,4 +93,63 @@ pub fn csc_is<T: PartialEq>(matrix: &CscMatrix<T>, want: Arrays<'_, T>) -> bool 
         && matrix.col_offsets() == want.2
         && matrix.row_indices() == want.3
         && matrix.values() == want.4
+}
+
+/// Whether a CSR matrix was made that has these sizes and arrays.
+pub fn csr_made_is<T: Copy + PartialEq, E: Drop>(
+    made: Result<CsrMatrix<T>, E>,
+    want: Arrays<'_, T>,
+) -> bool {
+    match made {
+        Ok(matrix) => csr_is(&matrix, want),
+        Err(_error) => false,
+    }
+}
+
+/// Whether a CSC matrix was made that has these sizes and arrays.
+pub fn csc_made_is<T: Copy + PartialEq, E: Drop>(
+    made: Result<CscMatrix<T>, E>,
+    want: Arrays<'_, T>,
+) -> bool {
+    match made {
+        Ok(matrix) => csc_is(&matrix, want),
+        Err(_error) => false,
+    }
+}
+
+/// Whether a CSR matrix was made that is equal to the other.
+pub fn csr_made_equals<T: Copy + PartialEq, E: Drop>(
+    made: Result<CsrMatrix<T>, E>,
+    other: &CsrMatrix<T>,
+) -> bool {
+    match made {
+        Ok(matrix) => matrix == *other,
+        Err(_error) => false,
+    }
+}
+
+/// Whether a CSC matrix was made that is equal to the other.
+pub fn csc_made_equals<T: Copy + PartialEq, E: Drop>(
+    made: Result<CscMatrix<T>, E>,
+    other: &CscMatrix<T>,
+) -> bool {
+    match made {
+        Ok(matrix) => matrix == *other,
+        Err(_error) => false,
+    }
+}
+
+/// Whether there is a triplet for writing, at this row and column.
+pub fn is_at(triplet: Option<(usize, usize, &mut i32)>, place: (usize, usize)) -> bool {
+    match triplet {
+        Some((row, col, _)) => (row, col) == place,
+        None => false,
+    }
+}
+
+/// Writes one value at each position.
+pub fn fill<T: Copy>(values: &mut [T], value: T) {
+    for lent in values.iter_mut() {
+        *lent = value;
+    }
 }

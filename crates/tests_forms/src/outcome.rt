@@ -9,7 +9,7 @@ use sparse_pattern::pattern::{SparsityPattern, SparsityPatternFormatError};
 use std::alloc::Global;
 
 // What becomes of a text: a value, a refusal of the JSON reading, or one of the checked constructor.
-#[derive(Clone, Copy, Debug, PartialEq, Eq)]
+#[derive(Clone, Copy, PartialEq, Eq)]
 pub(crate) enum Outcome<E> {
     Taken,
     Unread,

@@ -2,37 +2,58 @@
 
 use crate::fixtures::{Arrays, BY_COLUMNS, BY_ROWS, csc, csr};
 use sparse_algebra::scalar::W64;
-use sparse_forms::csc::{CscMatrix, CscTripletIter};
-use sparse_forms::csr::{CsrMatrix, CsrTripletIter};
+use sparse_forms::csc::{CscMatrix, CscTripletIter, CscTripletValues};
+use sparse_forms::csr::{CsrMatrix, CsrTripletIter, CsrTripletValues};
 use std::alloc::{AllocError, Global};
 
 type Triplet = (usize, usize, i32);
+
+// Whether there is a triplet of a lent value, and it is this one.
+fn is_lent_triplet(triplet: Option<(usize, usize, &i32)>, (row, col, value): Triplet) -> bool {
+    triplet == Some((row, col, &value))
+}
+
+// Whether these triplets are left by rows, and `None` comes from then on.
+fn are_left_by_rows(triplets: &mut CsrTripletIter<'_, i32>, want: [Triplet; 2]) -> bool {
+    for triplet in want {
+        if !is_lent_triplet(triplets.next(), triplet) {
+            return false;
+        }
+    }
+    triplets.next().is_none() && triplets.next().is_none()
+}
+
+// Whether there is a triplet, and it is this one.
+fn is_triplet(triplet: Option<Triplet>, want: Triplet) -> bool {
+    triplet == Some(want)
+}
+
+// The next triplet of a copy by rows.
+fn next_of_copy_by_rows(values: &CsrTripletValues<'_, i32>) -> Result<Option<Triplet>, AllocError> {
+    Ok(values.clone()?.next())
+}
+
+// Whether copies of the values left by rows give these triplets and then end.
+fn values_left_by_rows_are(
+    mut values: CsrTripletValues<'_, i32>,
+    want: [Triplet; 2],
+) -> Result<bool, AllocError> {
+    for triplet in want {
+        let copied = next_of_copy_by_rows(&values)?;
+        if !is_triplet(copied, triplet) || !is_triplet(values.next(), triplet) {
+            return Ok(false);
+        }
+    }
+    Ok(values.next().is_none())
+}
 
 // Whether a copy of what is left by rows, and copies of the values, give these triplets and then end.
 fn copies_by_rows_are(
     triplets: &CsrTripletIter<'_, i32>,
     want: [Triplet; 2],
 ) -> Result<bool, AllocError> {
-    let mut copy = triplets.clone()?;
-    let mut values = triplets.clone()?.cloned_values();
-    for triplet in want {
-        let copied = values.clone()?.next();
-        let same = copied == Some(triplet) && values.next() == Some(triplet);
-        if !same || copy.next() != Some((triplet.0, triplet.1, &triplet.2)) {
-            return Ok(false);
-        }
-    }
-    Ok(copy.next().is_none() && values.next().is_none())
-}
-
-// Whether these triplets are left by rows, and `None` comes from then on.
-fn are_left_by_rows(triplets: &mut CsrTripletIter<'_, i32>, want: [Triplet; 2]) -> bool {
-    for (row, col, value) in want {
-        if triplets.next() != Some((row, col, &value)) {
-            return false;
-        }
-    }
-    triplets.next().is_none() && triplets.next().is_none()
+    let values = triplets.clone()?.cloned_values();
+    Ok(are_left_by_rows(&mut triplets.clone()?, want) && values_left_by_rows_are(values, want)?)
 }
 
 // Whether the triplets by rows are the first one and the others, in this order.
@@ -43,7 +64,7 @@ fn triplets_by_rows_are(
 ) -> Result<bool, AllocError> {
     let mut triplets = matrix.triplet_iter();
     Ok(
-        triplets.next() == Some((first.0, first.1, &first.2))
+        is_lent_triplet(triplets.next(), first)
             && copies_by_rows_are(&triplets, others)?
             && are_left_by_rows(&mut triplets, others),
     )
@@ -52,19 +73,48 @@ fn triplets_by_rows_are(
 #[test]
 fn triplets_by_rows(rt: HostRuntime) {
     assert!(rt; csr(rt.alloc(), BY_ROWS).is_ok_and(has_its_triplets));
-    assert!(rt; one_by_rows(rt.alloc()) == Ok(true));
+    assert!(rt; CsrMatrix::identity(rt.alloc(), 1).is_ok_and(has_one_by_rows));
 }
 
 fn has_its_triplets(matrix: CsrMatrix<i32>) -> bool {
     triplets_by_rows_are(&matrix, (0, 0, 1), [(0, 2, 0), (1, 1, 4)]) == Ok(true)
 }
 
-// Whether the identity of one row has the one triplet, a wrapping one.
-fn one_by_rows(alloc: Global) -> Result<bool, AllocError> {
-    let identity: CsrMatrix<W64> = CsrMatrix::identity(alloc, 1)?;
-    let mut ones = identity.triplet_iter().cloned_values();
-    let first = ones.next();
-    Ok(first == Some((0, 0, W64::new(1))) && ones.next().is_none())
+// Whether a matrix by rows has the one triplet of the identity of one row, a wrapping one.
+fn has_one_by_rows(matrix: CsrMatrix<W64>) -> bool {
+    let mut ones = matrix.triplet_iter().cloned_values();
+    ones.next() == Some((0, 0, W64::new(1))) && ones.next().is_none()
+}
+
+// Whether these triplets are left by columns, and `None` comes from then on.
+fn are_left_by_columns(triplets: &mut CscTripletIter<'_, i32>, want: [Triplet; 2]) -> bool {
+    for triplet in want {
+        if !is_lent_triplet(triplets.next(), triplet) {
+            return false;
+        }
+    }
+    triplets.next().is_none() && triplets.next().is_none()
+}
+
+// The next triplet of a copy by columns.
+fn next_of_copy_by_columns(
+    values: &CscTripletValues<'_, i32>,
+) -> Result<Option<Triplet>, AllocError> {
+    Ok(values.clone()?.next())
+}
+
+// Whether copies of the values left by columns give these triplets and then end.
+fn values_left_by_columns_are(
+    mut values: CscTripletValues<'_, i32>,
+    want: [Triplet; 2],
+) -> Result<bool, AllocError> {
+    for triplet in want {
+        let copied = next_of_copy_by_columns(&values)?;
+        if !is_triplet(copied, triplet) || !is_triplet(values.next(), triplet) {
+            return Ok(false);
+        }
+    }
+    Ok(values.next().is_none())
 }
 
 // Whether a copy of what is left by columns, and copies of the values, give these triplets and then end.
@@ -72,26 +122,11 @@ fn copies_by_columns_are(
     triplets: &CscTripletIter<'_, i32>,
     want: [Triplet; 2],
 ) -> Result<bool, AllocError> {
-    let mut copy = triplets.clone()?;
-    let mut values = triplets.clone()?.cloned_values();
-    for triplet in want {
-        let copied = values.clone()?.next();
-        let same = copied == Some(triplet) && values.next() == Some(triplet);
-        if !same || copy.next() != Some((triplet.0, triplet.1, &triplet.2)) {
-            return Ok(false);
-        }
-    }
-    Ok(copy.next().is_none() && values.next().is_none())
-}
-
-// Whether these triplets are left by columns, and `None` comes from then on.
-fn are_left_by_columns(triplets: &mut CscTripletIter<'_, i32>, want: [Triplet; 2]) -> bool {
-    for (row, col, value) in want {
-        if triplets.next() != Some((row, col, &value)) {
-            return false;
-        }
-    }
-    triplets.next().is_none() && triplets.next().is_none()
+    let values = triplets.clone()?.cloned_values();
+    Ok(
+        are_left_by_columns(&mut triplets.clone()?, want)
+            && values_left_by_columns_are(values, want)?,
+    )
 }
 
 // The arrays of a matrix by columns, its first triplet, and the others.
@@ -115,7 +150,7 @@ fn triplets_by_columns_are(
 ) -> Result<bool, AllocError> {
     let mut triplets = matrix.triplet_iter();
     Ok(
-        triplets.next() == Some((first.0, first.1, &first.2))
+        is_lent_triplet(triplets.next(), first)
             && copies_by_columns_are(&triplets, others)?
             && are_left_by_columns(&mut triplets, others),
     )
@@ -126,7 +161,7 @@ fn triplets_by_columns(rt: HostRuntime) {
     for case in BY_COLUMNS_IN_ORDER {
         assert!(rt; are_in_order_by_columns(rt.alloc(), case));
     }
-    assert!(rt; one_by_columns(rt.alloc()) == Ok(true));
+    assert!(rt; CscMatrix::identity(rt.alloc(), 1).is_ok_and(has_one_by_columns));
 }
 
 fn are_in_order_by_columns(alloc: Global, case: &InOrder) -> bool {
@@ -136,10 +171,8 @@ fn are_in_order_by_columns(alloc: Global, case: &InOrder) -> bool {
     }
 }
 
-// Whether the identity of one column has the one triplet, a wrapping one.
-fn one_by_columns(alloc: Global) -> Result<bool, AllocError> {
-    let identity: CscMatrix<W64> = CscMatrix::identity(alloc, 1)?;
-    let mut ones = identity.triplet_iter().cloned_values();
-    let first = ones.next();
-    Ok(first == Some((0, 0, W64::new(1))) && ones.next().is_none())
+// Whether a matrix by columns has the one triplet of the identity of one column, a wrapping one.
+fn has_one_by_columns(matrix: CscMatrix<W64>) -> bool {
+    let mut ones = matrix.triplet_iter().cloned_values();
+    ones.next() == Some((0, 0, W64::new(1))) && ones.next().is_none()
 }

@@ -31,8 +31,8 @@ fn refusal(alloc: Global, text: &str) -> Option<ExprError> {
 
 #[test]
 fn words_are_taken_or_refused(rt: HostRuntime) -> Result<(), Fail> {
-    for (text, want) in WORDS {
-        assert_eq!(rt; refusal(rt.alloc(), text), want, "{text}");
+    for (text, want) in &WORDS {
+        assert_eq!(rt; refusal(rt.alloc(), text), *want, "{text}");
     }
     Ok(())
 }
@@ -48,9 +48,9 @@ const LINES: [(ExprError, &str); 6] = [
 
 #[test]
 fn refusals_have_lines(rt: HostRuntime) -> Result<(), Fail> {
-    for (error, line) in LINES {
+    for (error, line) in &LINES {
         let text = format!(in rt.alloc(); "{error}")?;
-        assert_eq!(rt; text.as_str(), line);
+        assert!(rt; text.as_str() == *line, "{text}");
     }
     Ok(())
 }

@@ -1,6 +1,7 @@
 //! Formats, fields and symmetries: the triplets that texts mean as i32, and the kinds of their refusals.
 
-use crate::reading::load;
+use crate::matrices::is_listed;
+use crate::reading::{load, refusal};
 use sparse_base::coo::CooMatrix;
 use sparse_io::MatrixMarketErrorKind::{
     DiagonalError, EntryMismatch, InvalidHeader, NonSquare, NotLowerTriangle, ParsingError,
@@ -102,17 +103,12 @@ pub fn means<T: MatrixMarketScalar + PartialEq>(
     triplets: &[(usize, usize, T)],
 ) -> Result<bool, MatrixMarketError> {
     let matrix: CooMatrix<T> = load(rt, START, below)?;
-    let mut same = (matrix.nrows(), matrix.ncols()) == sizes && matrix.nnz() == triplets.len();
-    for (found, wanted) in matrix.triplet_iter().zip(triplets) {
-        let (row, col, value) = found;
-        same = same && row == wanted.0 && col == wanted.1 && *value == wanted.2;
-    }
-    Ok(same)
+    Ok(is_listed(&matrix, sizes, triplets))
 }
 
 #[test]
 fn reads_each_format_and_symmetry(rt: HostRuntime) -> Result<(), Fail> {
-    for (below, (sizes, triplets)) in MEANINGS {
+    for &(below, (sizes, triplets)) in &MEANINGS {
         let same = means(&rt, below, sizes, triplets)?;
         assert!(rt; same, "at {below}");
     }
@@ -170,10 +166,7 @@ const REFUSALS: [(&str, MatrixMarketErrorKind); 21] = [
 
 #[test]
 fn refuses_by_the_first_fault(rt: HostRuntime) {
-    for (below, kind) in REFUSALS {
-        let refusal = load::<i32>(&rt, START, below)
-            .err()
-            .map(|error| error.kind());
-        assert_eq!(rt; refusal, Some(kind), "at {below}");
+    for &(below, kind) in &REFUSALS {
+        assert_eq!(rt; refusal::<i32>(&rt, START, below), Some(kind), "at {below}");
     }
 }

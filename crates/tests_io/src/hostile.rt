@@ -1,11 +1,13 @@
 //! Hostile texts, read by the library and by whole lines.
 
+use crate::files;
+use crate::matrices::is_listed;
+use crate::reading::refusal;
 use reference::texts::entries::Listed;
 use reference::texts::meaning;
 use sparse_base::coo::CooMatrix;
 use sparse_io::{
-    MatrixMarketErrorKind, MatrixMarketScalar, load_coo_from_matrix_market_file,
-    load_coo_from_matrix_market_str,
+    MatrixMarketError, MatrixMarketErrorKind, MatrixMarketScalar, load_coo_from_matrix_market_str,
 };
 use std::alloc::{AllocError, Global};
 use std::fs;
@@ -24,24 +26,24 @@ const TEXTS: [&str; 7] = [
     "%%MatrixMarket matrix coordinate pattern symmetric\n2 2 2\n1 1\n2 1\n",
 ];
 
-// Whether a matrix has these sizes and triplets.
-fn is_listed<T: MatrixMarketScalar + PartialEq>(matrix: &CooMatrix<T>, listed: &Listed<T>) -> bool {
-    let mut same = (matrix.nrows(), matrix.ncols()) == (listed.nrows, listed.ncols)
-        && matrix.nnz() == listed.triplets.len();
-    for ((row, col, value), wanted) in matrix.triplet_iter().zip(&listed.triplets) {
-        same = same && row == wanted.0 && col == wanted.1 && *value == wanted.2;
+// Whether both readers give the same sizes and triplets, or the same kind of refusal.
+fn are_same<T: MatrixMarketScalar + PartialEq>(
+    found: &Result<CooMatrix<T>, MatrixMarketError>,
+    wanted: &Result<Listed<T>, MatrixMarketErrorKind>,
+) -> bool {
+    match (found, wanted) {
+        (Ok(matrix), Ok(listed)) => {
+            is_listed(matrix, (listed.nrows, listed.ncols), &listed.triplets)
+        }
+        (Err(error), Err(kind)) => error.kind() == *kind,
+        (Ok(_), Err(_)) | (Err(_), Ok(_)) => false,
     }
-    same
 }
 
-// Whether both readers give the same sizes and triplets, or refuse the text with the same kind.
+// Whether both readers agree on the text.
 fn agree<T: MatrixMarketScalar + PartialEq>(alloc: Global, text: &str) -> Result<bool, AllocError> {
     let wanted = meaning::<T>(alloc, text)?;
-    match (load_coo_from_matrix_market_str::<T>(alloc, text), wanted) {
-        (Ok(matrix), Ok(listed)) => Ok(is_listed(&matrix, &listed)),
-        (Err(error), Err(kind)) => Ok(error.kind() == kind),
-        (Ok(_), Err(_)) | (Err(_), Ok(_)) => Ok(false),
-    }
+    Ok(are_same(&load_coo_from_matrix_market_str(alloc, text), &wanted))
 }
 
 // The same for integers and patterns.
@@ -51,7 +53,7 @@ fn agree_on_both(alloc: Global, text: &str) -> Result<bool, AllocError> {
 
 #[test]
 fn a_text_cut_at_each_byte(rt: HostRuntime) -> Result<(), Fail> {
-    for text in TEXTS {
+    for text in &TEXTS {
         for end in 0..=text.len() {
             let front = std::str::from_utf8(&text.as_bytes()[..end])?;
             assert!(rt; agree_on_both(rt.alloc(), front)?, "{front}");
@@ -89,9 +91,8 @@ fn a_character_replaced_by_each_of_256(rt: HostRuntime) -> Result<(), Fail> {
 // Whether a file with these bytes, which are not UTF-8, is refused as invalid.
 fn is_invalid(rt: &(impl Files + AllocGlobal), bytes: &[u8]) -> Result<bool, Fail> {
     fs::write(rt, "replaced.mtx", bytes)?;
-    let answer = load_coo_from_matrix_market_file::<i32>(rt, "replaced.mtx");
+    let refusal = files::refusal(rt, "replaced.mtx");
     fs::remove_file(rt, "replaced.mtx")?;
-    let refusal = answer.err().map(|error| error.kind());
     Ok(refusal == Some(MatrixMarketErrorKind::IOError(ErrorKind::InvalidData)))
 }
 
@@ -151,37 +152,60 @@ fn long_text(
     Ok(text)
 }
 
+// Whether both readers agree on a text with this line.
+fn agree_on_long(alloc: Global, line: (&str, &str, &str)) -> Result<bool, AllocError> {
+    let text = long_text(alloc, line)?;
+    agree::<i32>(alloc, text.as_str())
+}
+
 #[test]
 fn lines_of_a_million_bytes(rt: HostRuntime) -> Result<(), Fail> {
-    for line in LONG_LINES {
-        let text = long_text(rt.alloc(), line)?;
-        assert!(rt; agree::<i32>(rt.alloc(), text.as_str())?, "{line:?}");
+    for &(before, part, after) in &LONG_LINES {
+        let agreed = agree_on_long(rt.alloc(), (before, part, after))?;
+        assert!(rt; agreed, "{before}{part}{after}");
     }
     Ok(())
 }
 
 // The greatest size in kilobytes that the memory of this process has had.
-fn peak(rt: &(impl Files + AllocGlobal)) -> Result<usize, Fail> {
-    let status = fs::read_to_string(rt, "/proc/self/status")?;
-    let (_, after) = status.as_str().split_once("VmPeak:").ok_or("no peak")?;
-    let (number, _) = after.split_once("kB").ok_or("no kilobytes")?;
-    Ok(number.trim().parse()?)
+fn peak(rt: &(impl Files + AllocGlobal)) -> Option<usize> {
+    let status = fs::read_to_string(rt, "/proc/self/status").ok()?;
+    let (_, after) = status.as_str().split_once("VmPeak:")?;
+    let (number, _) = after.split_once("kB")?;
+    number.trim().parse().ok()
+}
+
+/// The headers of texts that promise too many entries.
+const HEADS: [&str; 3] = [
+    "%%MatrixMarket matrix coordinate integer general\n",
+    "%%MatrixMarket matrix coordinate integer symmetric\n",
+    "%%MatrixMarket matrix coordinate integer skew-symmetric\n",
+];
+
+/// Shape lines that promise too many entries, each with one entry below.
+const PROMISES: [&str; 3] = [
+    "9 9 1000000000\n2 1 5\n",
+    "9 9 100000000000\n2 1 5\n",
+    "9 9 18446744073709551615\n2 1 5\n",
+];
+
+// Whether a text with these lines is refused, with each header.
+fn are_refused(rt: &impl AllocGlobal, below: &str) -> bool {
+    let mut refused = true;
+    for head in &HEADS {
+        let refusal = refusal::<i32>(rt, head, below);
+        refused = refused && refusal == Some(MatrixMarketErrorKind::EntryMismatch);
+    }
+    refused
 }
 
 #[test]
 fn promised_entries_take_no_memory(rt: HostRuntime) -> Result<(), Fail> {
-    let before = peak(&rt)?;
-    for count in ["1000000000", "100000000000", "18446744073709551615"] {
-        for symmetry in ["general", "symmetric", "skew-symmetric"] {
-            let text = format!(in rt.alloc();
-                "%%MatrixMarket matrix coordinate integer {symmetry}\n9 9 {count}\n2 1 5\n"
-            )?;
-            let answer = load_coo_from_matrix_market_str::<i32>(rt.alloc(), text.as_str());
-            let refusal = answer.err().map(|error| error.kind());
-            assert_eq!(rt; refusal, Some(MatrixMarketErrorKind::EntryMismatch));
-        }
+    let before = peak(&rt).ok_or("no peak")?;
+    for below in &PROMISES {
+        assert!(rt; are_refused(&rt, below), "{below}");
     }
-    let after = peak(&rt)?;
+    let after = peak(&rt).ok_or("no peak")?;
     assert!(rt; after.saturating_sub(before) < 1024, "{before} {after}");
     Ok(())
 }

@@ -1,37 +1,35 @@
 //! Values of expressions, short and of many words.
 
+use crate::matrices::{are, list};
 use sparse_algebra::scalar::W64;
 use sparse_base::coo::CooMatrix;
-use sparse_expr::{Expr, evaluate_cols, evaluate_rows};
+use sparse_expr::{Expr, ExprError, evaluate_cols, evaluate_rows};
 use std::alloc::{AllocError, Global};
+use std::slice::from_ref;
 use std::test::Fail;
 
-// The matrix with the rows `1 2` and `0 3`.
-fn upper(alloc: Global) -> Option<CooMatrix<W64>> {
-    let rows = [0, 0, 1].to_vec(alloc).ok()?;
-    let cols = [0, 1, 1].to_vec(alloc).ok()?;
-    let values = [W64::new(1), W64::new(2), W64::new(3)].to_vec(alloc).ok()?;
-    CooMatrix::try_from_triplets(2, 2, rows, cols, values).ok()
-}
-
-fn are(values: &[W64], wanted: &[i64]) -> bool {
-    values.len() == wanted.len() && values.iter().zip(wanted).all(|(a, b)| a.get() == *b)
-}
-
-// Whether the value of the words over `upper` has these values, row after row.
-fn has_rows(alloc: Global, words: &str, wanted: &[i64]) -> Option<bool> {
-    let expr = Expr::from_words(alloc, words).ok()?;
-    let inputs = [upper(alloc)?];
-    let value = evaluate_rows(alloc, &expr, &inputs).ok()?;
-    Some(are(value.values(), wanted))
+// Whether the value of the words over the inputs has these values, row after row.
+fn has_rows(
+    alloc: Global,
+    words: &str,
+    inputs: &[CooMatrix<W64>],
+    wanted: &[i64],
+) -> Result<bool, ExprError> {
+    let expr = Expr::from_words(alloc, words)?;
+    let value = evaluate_rows(alloc, &expr, inputs)?;
+    Ok(are(value.values(), wanted))
 }
 
 // The same column after column.
-fn has_cols(alloc: Global, words: &str, wanted: &[i64]) -> Option<bool> {
-    let expr = Expr::from_words(alloc, words).ok()?;
-    let inputs = [upper(alloc)?];
-    let value = evaluate_cols(alloc, &expr, &inputs).ok()?;
-    Some(are(value.values(), wanted))
+fn has_cols(
+    alloc: Global,
+    words: &str,
+    inputs: &[CooMatrix<W64>],
+    wanted: &[i64],
+) -> Result<bool, ExprError> {
+    let expr = Expr::from_words(alloc, words)?;
+    let value = evaluate_cols(alloc, &expr, inputs)?;
+    Ok(are(value.values(), wanted))
 }
 
 // Words, and the values by rows and by columns.
@@ -45,11 +43,23 @@ const SHORT: [(&str, &[i64], &[i64]); 6] = [
     ("1 n 1 +", &[0, 0, 0], &[0, 0, 0]),
 ];
 
+// Whether the words over the inputs have these values, by rows and by columns.
+fn has_both(
+    alloc: Global,
+    words: &str,
+    inputs: &[CooMatrix<W64>],
+    (rows, cols): (&[i64], &[i64]),
+) -> Result<bool, ExprError> {
+    Ok(has_rows(alloc, words, inputs, rows)? && has_cols(alloc, words, inputs, cols)?)
+}
+
 #[test]
 fn short_expressions(rt: HostRuntime) -> Result<(), Fail> {
-    for (words, rows, cols) in SHORT {
-        assert_eq!(rt; has_rows(rt.alloc(), words, rows), Some(true), "{words}");
-        assert_eq!(rt; has_cols(rt.alloc(), words, cols), Some(true), "{words}");
+    // The matrix with the rows `1 2` and `0 3`.
+    let upper = list(rt.alloc(), 2, 2, &[(0, 0, 1), (0, 1, 2), (1, 1, 3)])?;
+    for &(words, rows, cols) in &SHORT {
+        let same = has_both(rt.alloc(), words, from_ref(&upper), (rows, cols))?;
+        assert!(rt; same, "{words}");
     }
     Ok(())
 }
@@ -73,11 +83,15 @@ fn ones(alloc: Global, count: usize) -> Option<CooMatrix<W64>> {
     CooMatrix::try_from_triplets(1, 1, rows, cols, values).ok()
 }
 
-// The only value of the words over the list.
-fn value(alloc: Global, words: &str, list: &[CooMatrix<W64>]) -> Option<i64> {
-    let expr = Expr::from_words(alloc, words).ok()?;
-    let value = evaluate_rows(alloc, &expr, list).ok()?;
-    value.values().first().map(|x| x.get())
+// Whether the expression of these parts over the 1 by 1 list has this value.
+fn has_value(
+    alloc: Global,
+    parts: [(&str, usize); 2],
+    list: &CooMatrix<W64>,
+    wanted: i64,
+) -> Result<bool, ExprError> {
+    let words = repeated(alloc, parts)?;
+    has_rows(alloc, &words, from_ref(list), &[wanted])
 }
 
 // Expressions of 20,000 words, and their values: deep to the left, to the right, and of one operand.
@@ -98,10 +112,8 @@ fn deep_expressions_convert_their_input_once(rt: HostRuntime) -> Result<(), Fail
     let Some(list) = ones(rt.alloc(), TRIPLETS) else {
         return Err(Fail::new("no list"));
     };
-    let inputs = [list];
     for (parts, wanted) in DEEP {
-        let words = repeated(rt.alloc(), parts)?;
-        assert_eq!(rt; value(rt.alloc(), &words, &inputs), Some(wanted));
+        assert!(rt; has_value(rt.alloc(), parts, &list, wanted)?, "{wanted}");
     }
     Ok(())
 }

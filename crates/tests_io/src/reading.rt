@@ -1,8 +1,11 @@
 //! Texts that are read, and the triplets that they mean.
 
+use crate::matrices::are;
 use sparse_algebra::scalar::W64;
 use sparse_base::coo::CooMatrix;
-use sparse_io::{MatrixMarketError, MatrixMarketScalar, load_coo_from_matrix_market_str};
+use sparse_io::{
+    MatrixMarketError, MatrixMarketErrorKind, MatrixMarketScalar, load_coo_from_matrix_market_str,
+};
 use std::test::Fail;
 
 /// The header of most texts that are read.
@@ -16,6 +19,18 @@ pub fn load<T: MatrixMarketScalar>(
 ) -> Result<CooMatrix<T>, MatrixMarketError> {
     let text = format!(in rt.alloc(); "{head}{below}")?;
     load_coo_from_matrix_market_str(rt.alloc(), text.as_str())
+}
+
+/// The kind of the refusal of a text of two parts.
+pub fn refusal<T: MatrixMarketScalar>(
+    rt: &impl AllocGlobal,
+    head: &str,
+    below: &str,
+) -> Option<MatrixMarketErrorKind> {
+    match load::<T>(rt, head, below) {
+        Ok(_) => None,
+        Err(error) => Some(error.kind()),
+    }
 }
 
 /// A text of two parts, and the list of triplets that it means.
@@ -74,20 +89,21 @@ const CASES: [Case; 5] = [
     },
 ];
 
+// Whether a text means the sizes and the triplets of its case.
+fn is_read(rt: &impl AllocGlobal, case: &Case) -> Result<bool, MatrixMarketError> {
+    let matrix: CooMatrix<W64> = load(rt, case.head, case.below)?;
+    Ok(
+        (matrix.nrows(), matrix.ncols()) == case.sizes
+            && matrix.row_indices() == case.rows
+            && matrix.col_indices() == case.cols
+            && are(matrix.values(), case.values),
+    )
+}
+
 #[test]
 fn reads_the_triplets_of_a_text(rt: HostRuntime) -> Result<(), Fail> {
     for case in &CASES {
-        let matrix: CooMatrix<W64> = load(&rt, case.head, case.below)?;
-        assert_eq!(rt; (matrix.nrows(), matrix.ncols()), case.sizes);
-        assert_eq!(rt; matrix.row_indices(), case.rows);
-        assert_eq!(rt; matrix.col_indices(), case.cols);
-        assert!(rt;
-            matrix
-                .values()
-                .iter()
-                .map(|value| value.get())
-                .eq(case.values.iter().copied())
-        );
+        assert!(rt; is_read(&rt, case)?, "at {}{}", case.head, case.below);
     }
     Ok(())
 }

@@ -97,15 +97,19 @@ fn refusal(alloc: Global, kind: ErrorKind) -> Result<Option<MatrixMarketErrorKin
     Ok(answer.err().map(|error| error.kind()))
 }
 
+// Whether short and long writes, and a save, answer this fault of the writer below.
+fn is_answered(alloc: Global, kind: ErrorKind) -> Result<bool, AllocError> {
+    Ok(
+        written(alloc, kind, 1)? == Err(kind)
+            && written(alloc, kind, 2 * CAPACITY)? == Err(kind)
+            && refusal(alloc, kind)? == Some(MatrixMarketErrorKind::IOError(kind)),
+    )
+}
+
 #[test]
 fn faults_of_each_kind_are_answered(rt: HostRuntime) -> Result<(), Fail> {
     for kind in KINDS {
-        assert_eq!(rt; written(rt.alloc(), kind, 1)?, Err(kind));
-        assert_eq!(rt; written(rt.alloc(), kind, 2 * CAPACITY)?, Err(kind));
-        assert_eq!(rt;
-            refusal(rt.alloc(), kind)?,
-            Some(MatrixMarketErrorKind::IOError(kind))
-        );
+        assert!(rt; is_answered(rt.alloc(), kind)?, "{kind:?}");
     }
     Ok(())
 }
@@ -144,8 +148,7 @@ fn writes_of(alloc: Global, order: usize) -> Result<Option<(usize, usize)>, Allo
 fn the_buffer_is_emptied_before_it_is_full(rt: HostRuntime) -> Result<(), Fail> {
     // The lines of 100,000 entries have about 15 bytes each.
     let (count, most) = writes_of(rt.alloc(), 100_000)?.ok_or("a refusal")?;
-    assert!(rt; most <= CAPACITY, "{most}");
-    assert!(rt; most > CAPACITY / 2, "{most}");
+    assert!(rt; most <= CAPACITY && most > CAPACITY / 2, "{most}");
     assert!(rt; count >= 20 && count < 40, "{count}");
     Ok(())
 }

@@ -1,9 +1,12 @@
 //! Texts that are written, and writers that take a part of them.
 
 use crate::matrices::{antidiagonal, list};
+use sparse_algebra::scalar::W64;
+use sparse_base::coo::CooMatrix;
+use sparse_io::MatrixMarketErrorKind::IOError;
 use sparse_io::{
-    MatrixMarketErrorKind, Out, load_coo_from_matrix_market_str, save_to_matrix_market,
-    save_to_matrix_market_str,
+    MatrixMarketError, MatrixMarketErrorKind, Out, load_coo_from_matrix_market_str,
+    save_to_matrix_market, save_to_matrix_market_str,
 };
 use std::alloc::{AllocError, Global};
 use std::io;
@@ -20,44 +23,59 @@ const TEXT: &str =
 /// The bytes of the writer's buffer.
 pub const CAPACITY: usize = 64 * 1024;
 
+/// Sizes and triplets of a list, and the lines below the heading that it is written as.
+type Written = (usize, usize, &'static [(usize, usize, i64)], &'static str);
+
+const WRITTEN: [Written; 2] = [
+    (2, 2, &[(0, 1, 5)], "2 2 1\n1 2 5\n"),
+    (
+        usize::MAX,
+        1000,
+        &[(usize::MAX - 1, 99, i64::MIN), (9, 0, i64::MAX), (9, 0, 0)],
+        "18446744073709551615 1000 3\n18446744073709551615 100 -9223372036854775808\n10 1 9223372036854775807\n10 1 0\n",
+    ),
+];
+
+// Whether a writer is given this text of the list.
+fn saves(alloc: Global, matrix: &CooMatrix<W64>, text: &str) -> Result<bool, MatrixMarketError> {
+    let mut out = Out::new(Vec::new(alloc));
+    save_to_matrix_market(alloc, &mut out, matrix)?;
+    Ok(out.into_inner().as_slice() == text.as_bytes())
+}
+
+// Whether the list is written as these lines below the heading, as a text and to a writer.
+fn has_lines(
+    alloc: Global,
+    matrix: &CooMatrix<W64>,
+    lines: &str,
+) -> Result<bool, MatrixMarketError> {
+    let text = save_to_matrix_market_str(alloc, matrix)?;
+    Ok(text.as_str().strip_prefix(HEADING) == Some(lines) && saves(alloc, matrix, text.as_str())?)
+}
+
 #[test]
 fn writes_the_triplets_of_a_list(rt: HostRuntime) -> Result<(), Fail> {
-    let ends: [(usize, usize, i64); 3] = [
-        (usize::MAX - 1, 99, i64::MIN),
-        (9, 0, i64::MAX),
-        (9, 0, 0),
-    ];
-    let cases: [(usize, usize, &[(usize, usize, i64)], &str); 2] = [
-        (2, 2, &[(0, 1, 5)], "2 2 1\n1 2 5\n"),
-        (
-            usize::MAX,
-            1000,
-            &ends,
-            "18446744073709551615 1000 3\n18446744073709551615 100 -9223372036854775808\n10 1 9223372036854775807\n10 1 0\n",
-        ),
-    ];
-    for (nrows, ncols, triplets, lines) in cases {
+    for &(nrows, ncols, triplets, lines) in &WRITTEN {
         let matrix = list(rt.alloc(), nrows, ncols, triplets)?;
-        let wanted = format!(in rt.alloc(); "{HEADING}{lines}")?;
-        let text = save_to_matrix_market_str(rt.alloc(), &matrix)?;
-        assert_eq!(rt; text.as_str(), wanted.as_str());
-        let mut out = Out::new(Vec::new(rt.alloc()));
-        save_to_matrix_market(rt.alloc(), &mut out, &matrix)?;
-        assert_eq!(rt; out.into_inner().as_slice(), wanted.as_bytes());
+        assert!(rt; has_lines(rt.alloc(), &matrix, lines)?, "{lines}");
     }
-    assert_eq!(rt; TEXT.len(), 111);
     Ok(())
+}
+
+// Whether a matrix is written as a long text, the same to a writer, and read from it again.
+fn is_kept(alloc: Global, matrix: &CooMatrix<W64>) -> Result<bool, MatrixMarketError> {
+    let text = save_to_matrix_market_str(alloc, matrix)?;
+    Ok(
+        text.len() > 3 * CAPACITY
+            && saves(alloc, matrix, text.as_str())?
+            && load_coo_from_matrix_market_str(alloc, text.as_str())? == *matrix,
+    )
 }
 
 #[test]
 fn writes_and_reads_a_text_longer_than_the_buffer(rt: HostRuntime) -> Result<(), Fail> {
     let matrix = antidiagonal(rt.alloc(), 20000)?;
-    let text = save_to_matrix_market_str(rt.alloc(), &matrix)?;
-    let mut out = Out::new(Vec::new(rt.alloc()));
-    save_to_matrix_market(rt.alloc(), &mut out, &matrix)?;
-    assert!(rt; text.len() > 3 * CAPACITY);
-    assert!(rt; out.into_inner().as_slice() == text.as_bytes());
-    assert!(rt; load_coo_from_matrix_market_str(rt.alloc(), text.as_str())? == matrix);
+    assert!(rt; is_kept(rt.alloc(), &matrix)?);
     Ok(())
 }
 
@@ -110,23 +128,40 @@ fn saved(
     Ok((refusal, taken))
 }
 
+// Whether a save to the writer has this failure, and the writer took these bytes.
+fn stops(
+    alloc: Global,
+    writer: Limited,
+    failure: Option<MatrixMarketErrorKind>,
+    wanted: &[u8],
+) -> Result<bool, AllocError> {
+    let (refusal, taken) = saved(alloc, writer)?;
+    Ok(refusal == failure && taken.as_slice() == wanted)
+}
+
 #[test]
 fn goes_on_after_short_writes_and_stops_at_a_failed_one(rt: HostRuntime) -> Result<(), Fail> {
+    assert!(rt; TEXT.len() == 111);
     for (step, rooms, fault, failure) in [
         (1, usize::MAX..=usize::MAX, None, None),
         (
             100,
             3..=3,
             Some(ErrorKind::BrokenPipe),
-            Some(ErrorKind::BrokenPipe),
+            Some(IOError(ErrorKind::BrokenPipe)),
         ),
         (
             usize::MAX,
             0..=110,
             Some(ErrorKind::Interrupted),
-            Some(ErrorKind::Interrupted),
+            Some(IOError(ErrorKind::Interrupted)),
         ),
-        (usize::MAX, 0..=110, None, Some(ErrorKind::WriteZero)),
+        (
+            usize::MAX,
+            0..=110,
+            None,
+            Some(IOError(ErrorKind::WriteZero)),
+        ),
     ] {
         for room in rooms {
             let writer = Limited {
@@ -135,9 +170,11 @@ fn goes_on_after_short_writes_and_stops_at_a_failed_one(rt: HostRuntime) -> Resu
                 room,
                 fault,
             };
-            let (refusal, taken) = saved(rt.alloc(), writer)?;
-            assert_eq!(rt; refusal, failure.map(MatrixMarketErrorKind::IOError));
-            assert!(rt; taken.as_slice() == &TEXT.as_bytes()[..room.min(111)]);
+            let wanted = &TEXT.as_bytes()[..room.min(111)];
+            assert!(rt;
+                stops(rt.alloc(), writer, failure, wanted)?,
+                "{step} {room}"
+            );
         }
     }
     Ok(())

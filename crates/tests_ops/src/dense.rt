@@ -1,96 +1,101 @@
 //! Dense matrices, converted.
 
+use crate::matrices::{Lanes, are_lanes, columns_are, rows_are};
 use sparse_algebra::scalar::W64;
+use sparse_base::coo::CooMatrix;
 use sparse_base::dense::DMatrix;
 use sparse_convert::serial::{
     convert_dense_coo, convert_dense_csc, convert_dense_csr, from_dense_law,
 };
 use std::alloc::{AllocError, Global};
-use std::test::Fail;
 
-// Offsets, indices and values.
-type Lanes<'a> = (&'a [usize], &'a [usize], &'a [i32]);
-
-// Whether the dense matrix becomes a list of its sizes with these rows, columns and values.
-fn becomes_list(
-    alloc: Global,
-    dense: &DMatrix<i32>,
-    (rows, columns, values): Lanes<'_>,
-) -> Result<bool, AllocError> {
-    let coo = convert_dense_coo(alloc, dense)?;
-    Ok(
-        (coo.nrows(), coo.ncols()) == (dense.nrows(), dense.ncols())
-            && coo.row_indices() == rows
-            && coo.col_indices() == columns
-            && coo.values() == values,
-    )
+// Whether a list was made, of this size and with these rows, columns and values.
+fn is_list(
+    made: Result<CooMatrix<i32>, AllocError>,
+    size: (usize, usize),
+    triplets: Lanes<'_, i32>,
+) -> bool {
+    match made {
+        Ok(coo) => {
+            (coo.nrows(), coo.ncols()) == size
+                && are_lanes(
+                    (coo.row_indices(), coo.col_indices(), coo.values()),
+                    triplets,
+                )
+        }
+        Err(_) => false,
+    }
 }
 
-fn becomes_rows(
-    alloc: Global,
-    dense: &DMatrix<i32>,
-    (offsets, columns, values): Lanes<'_>,
-) -> Result<bool, AllocError> {
-    let csr = convert_dense_csr(alloc, dense)?;
-    Ok(csr.row_offsets() == offsets && csr.col_indices() == columns && csr.values() == values)
-}
-
-fn becomes_columns(
-    alloc: Global,
-    dense: &DMatrix<i32>,
-    (offsets, rows, values): Lanes<'_>,
-) -> Result<bool, AllocError> {
-    let csc = convert_dense_csc(alloc, dense)?;
-    Ok(csc.col_offsets() == offsets && csc.row_indices() == rows && csc.values() == values)
-}
-
-// Whether the dense matrix becomes this list, these rows and these columns.
+// Whether the dense matrix becomes this list of its sizes, these rows and these columns.
 fn becomes(
     alloc: Global,
     dense: &DMatrix<i32>,
-    [list, rows, columns]: [Lanes<'_>; 3],
+    [list, rows, columns]: [Lanes<'_, i32>; 3],
+) -> bool {
+    let size = (dense.nrows(), dense.ncols());
+    is_list(convert_dense_coo(alloc, dense), size, list)
+        && rows_are(convert_dense_csr(alloc, dense), rows)
+        && columns_are(convert_dense_csc(alloc, dense), columns)
+}
+
+// The list, the rows and the columns of `1 0 3` over `0 5 0`.
+const PLACES: [Lanes<'static, i32>; 3] = [
+    (&[0, 1, 0], &[0, 1, 2], &[1, 5, 3]),
+    (&[0, 2, 3], &[0, 2, 1], &[1, 3, 5]),
+    (&[0, 1, 2, 3], &[0, 1, 0], &[1, 5, 3]),
+];
+
+fn leaves_zeros_out(alloc: Global) -> Result<bool, AllocError> {
+    let dense = DMatrix::from_row_slice(alloc, 2, 3, &[1, 0, 3, 0, 5, 0])?;
+    Ok(becomes(alloc, &dense, PLACES))
+}
+
+#[test]
+fn zeros_are_left_out(rt: HostRuntime) {
+    assert!(rt; leaves_zeros_out(rt.alloc()) == Ok(true));
+}
+
+// A size, and the offsets of the rows and of the columns.
+type Offsets = ((usize, usize), &'static [usize], &'static [usize]);
+
+const OFFSETS: &[Offsets] = &[
+    ((2, 2), &[0, 0, 0], &[0, 0, 0]),
+    ((2, 1), &[0, 0, 0], &[0, 0]),
+    ((0, 3), &[0], &[0, 0, 0, 0]),
+    ((3, 0), &[0, 0, 0, 0], &[0]),
+    ((0, 0), &[0], &[0]),
+];
+
+// Whether nothing but these offsets is left of a dense matrix of zeros.
+fn leaves_nothing(
+    alloc: Global,
+    (size, row_offsets, col_offsets): Offsets,
 ) -> Result<bool, AllocError> {
-    Ok(
-        becomes_list(alloc, dense, list)?
-            && becomes_rows(alloc, dense, rows)?
-            && becomes_columns(alloc, dense, columns)?,
-    )
+    let dense = DMatrix::zeros(alloc, size.0, size.1)?;
+    let rows: Lanes<'_, i32> = (row_offsets, &[], &[]);
+    let columns: Lanes<'_, i32> = (col_offsets, &[], &[]);
+    Ok(becomes(alloc, &dense, [(&[], &[], &[]), rows, columns]))
 }
 
 #[test]
-fn zeros_are_left_out(rt: HostRuntime) -> Result<(), Fail> {
-    let dense = DMatrix::from_row_slice(rt.alloc(), 2, 3, &[1, 0, 3, 0, 5, 0])?;
-    let list: Lanes<'_> = (&[0, 1, 0], &[0, 1, 2], &[1, 5, 3]);
-    let rows: Lanes<'_> = (&[0, 2, 3], &[0, 2, 1], &[1, 3, 5]);
-    let columns: Lanes<'_> = (&[0, 1, 2, 3], &[0, 1, 0], &[1, 5, 3]);
-    assert!(rt; becomes(rt.alloc(), &dense, [list, rows, columns])?);
-    Ok(())
-}
-
-#[test]
-fn nothing_is_left_of_zeros(rt: HostRuntime) -> Result<(), Fail> {
-    // The size, and the offsets of the rows and of the columns.
-    let cases: [((usize, usize), &[usize], &[usize]); 5] = [
-        ((2, 2), &[0, 0, 0], &[0, 0, 0]),
-        ((2, 1), &[0, 0, 0], &[0, 0]),
-        ((0, 3), &[0], &[0, 0, 0, 0]),
-        ((3, 0), &[0, 0, 0, 0], &[0]),
-        ((0, 0), &[0], &[0]),
-    ];
-    for ((nrows, ncols), row_offsets, col_offsets) in cases {
-        let dense = DMatrix::zeros(rt.alloc(), nrows, ncols)?;
-        let rows: Lanes<'_> = (row_offsets, &[], &[]);
-        let columns: Lanes<'_> = (col_offsets, &[], &[]);
-        assert!(rt; becomes(rt.alloc(), &dense, [(&[], &[], &[]), rows, columns])?);
+fn nothing_is_left_of_zeros(rt: HostRuntime) {
+    for offsets in OFFSETS {
+        assert!(rt; leaves_nothing(rt.alloc(), *offsets) == Ok(true));
     }
-    Ok(())
+}
+
+fn has_no_zeros(alloc: Global) -> Option<bool> {
+    let dense = DMatrix::repeat(alloc, 1, 2, W64::new(4)).ok()?;
+    let values = [W64::new(4), W64::new(4)];
+    Some(rows_are(
+        convert_dense_csr(alloc, &dense),
+        (&[0, 2], &[0, 1], &values),
+    ))
 }
 
 #[test]
-fn scalars_without_zeros(rt: HostRuntime) -> Result<(), Fail> {
+fn scalars_without_zeros(rt: HostRuntime) {
     from_dense_law::<W64>();
-    let dense = DMatrix::repeat(rt.alloc(), 1, 2, W64::new(4))?;
-    let csr = convert_dense_csr(rt.alloc(), &dense)?;
-    assert!(rt; csr.col_indices() == [0, 1].as_slice());
-    Ok(())
+    assert!(rt; has_no_zeros(rt.alloc()) == Some(true));
 }

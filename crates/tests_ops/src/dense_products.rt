@@ -2,25 +2,15 @@
 
 use crate::dense_updates::{update_by_columns, update_by_rows};
 use crate::matrices::{Arrays, csr, dense};
+use crate::operand_sizes::op_of;
 use crate::scalars::{Scalar, are};
 use sparse_algebra::scalar::{W32, W64};
 use sparse_base::dense::DMatrix;
 use sparse_dense::{mul_csc_dense, mul_csr_dense};
 use sparse_forms::csc::CscMatrix;
 use sparse_forms::csr::CsrMatrix;
-use sparse_op::Op;
 use sparse_units::Mod;
-use std::alloc::Global;
-use std::test::Fail;
-
-// The matrix, transposed or not.
-fn op_of<M>(turned: bool, matrix: M) -> Op<M> {
-    if turned {
-        Op::Transpose(matrix)
-    } else {
-        Op::NoOp(matrix)
-    }
-}
+use std::alloc::{AllocError, Global};
 
 // The rows `1 0 2` and `0 3 0`; the last zero is stored.
 const A: Arrays<'static> = (2, 3, &[0, 2, 4], &[0, 2, 1, 2], &[1, 2, 3, 0]);
@@ -139,35 +129,44 @@ const UPDATES: &[Update] = &[
     ),
 ];
 
-// Whether the update by rows leaves the values that are wanted.
-fn is_right_by_rows(alloc: Global, update: &Update) -> Result<bool, Fail> {
-    let (arrays, (turned, b_turned), (beta, alpha), (size, c), (b_size, b), want) = *update;
+// Updates C by rows, and returns whether the sizes fit.
+fn is_updated_by_rows(alloc: Global, c: &mut DMatrix<W64>, update: &Update) -> Option<bool> {
+    let (arrays, (turned, b_turned), (beta, alpha), _, (b_size, b), _) = *update;
     let a = csr(alloc, arrays)?;
-    let mut c = dense(alloc, size, c)?;
     let b = dense(alloc, b_size, b)?;
-    let (beta, alpha) = (W64::of(beta), W64::of(alpha));
-    let fits = update_by_rows(beta, &mut c, alpha, op_of(turned, &a), op_of(b_turned, &b));
-    Ok(fits && are(c.as_slice(), want))
+    let (a, b) = (op_of(turned, &a), op_of(b_turned, &b));
+    Some(update_by_rows(W64::of(beta), c, W64::of(alpha), a, b))
 }
 
-// The same by columns. The transpose of a matrix by rows is the other one of the same matrix by columns.
-fn is_right_by_columns(alloc: Global, update: &Update) -> Result<bool, Fail> {
-    let (arrays, (turned, b_turned), (beta, alpha), (size, c), (b_size, b), want) = *update;
+// Whether the update by rows leaves the values that are wanted.
+fn is_right_by_rows(alloc: Global, update: &Update) -> Option<bool> {
+    let mut c = dense(alloc, update.3.0, update.3.1)?;
+    let fits = is_updated_by_rows(alloc, &mut c, update) == Some(true);
+    Some(fits && are(c.as_slice(), update.5))
+}
+
+// Updates C by columns. The transpose of a matrix by rows is the other one of the same matrix by columns.
+fn is_updated_by_columns(alloc: Global, c: &mut DMatrix<W64>, update: &Update) -> Option<bool> {
+    let (arrays, (turned, b_turned), (beta, alpha), _, (b_size, b), _) = *update;
     let a = csr(alloc, arrays)?.transpose_as_csc();
-    let mut c = dense(alloc, size, c)?;
     let b = dense(alloc, b_size, b)?;
-    let (beta, alpha) = (W64::of(beta), W64::of(alpha));
-    let fits = update_by_columns(beta, &mut c, alpha, op_of(!turned, &a), op_of(b_turned, &b));
-    Ok(fits && are(c.as_slice(), want))
+    let (a, b) = (op_of(!turned, &a), op_of(b_turned, &b));
+    Some(update_by_columns(W64::of(beta), c, W64::of(alpha), a, b))
+}
+
+// Whether the update by columns leaves the values that are wanted.
+fn is_right_by_columns(alloc: Global, update: &Update) -> Option<bool> {
+    let mut c = dense(alloc, update.3.0, update.3.1)?;
+    let fits = is_updated_by_columns(alloc, &mut c, update) == Some(true);
+    Some(fits && are(c.as_slice(), update.5))
 }
 
 #[test]
-fn updates(rt: HostRuntime) -> Result<(), Fail> {
+fn updates(rt: HostRuntime) {
     for update in UPDATES {
-        let by_rows = is_right_by_rows(rt.alloc(), update)?;
-        assert!(rt; by_rows && is_right_by_columns(rt.alloc(), update)?);
+        assert!(rt; is_right_by_rows(rt.alloc(), update) == Some(true));
+        assert!(rt; is_right_by_columns(rt.alloc(), update) == Some(true));
     }
-    Ok(())
 }
 
 // Whether the product of a matrix by rows and a column has these values.
@@ -176,11 +175,11 @@ fn multiplies_by_rows<T: Scalar>(
     a: &CsrMatrix<T>,
     b: &DMatrix<T>,
     want: &[i32],
-) -> Result<bool, Fail> {
+) -> bool {
     if a.ncols() != b.nrows() {
-        return Ok(false);
+        return false;
     }
-    Ok(are(mul_csr_dense(alloc, a, b)?.as_slice(), want))
+    is_product(mul_csr_dense(alloc, a, b), want)
 }
 
 // The same by columns.
@@ -189,11 +188,28 @@ fn multiplies_by_columns<T: Scalar>(
     a: &CscMatrix<T>,
     b: &DMatrix<T>,
     want: &[i32],
-) -> Result<bool, Fail> {
+) -> bool {
     if a.ncols() != b.nrows() {
-        return Ok(false);
+        return false;
     }
-    Ok(are(mul_csc_dense(alloc, a, b)?.as_slice(), want))
+    is_product(mul_csc_dense(alloc, a, b), want)
+}
+
+// Whether a product was made, with these values.
+fn is_product<T: Scalar>(made: Result<DMatrix<T>, AllocError>, want: &[i32]) -> bool {
+    match made {
+        Ok(product) => are(product.as_slice(), want),
+        Err(_) => false,
+    }
+}
+
+fn by_columns<T: Scalar>(alloc: Global, arrays: Arrays<'_>) -> Option<CscMatrix<T>> {
+    Some(
+        csr::<T>(alloc, arrays)?
+            .transpose(alloc)
+            .ok()?
+            .transpose_as_csc(),
+    )
 }
 
 // Whether both products of a matrix and a column have these values.
@@ -202,16 +218,14 @@ fn multiplies<T: Scalar>(
     arrays: Arrays<'_>,
     column: &[i32],
     want: &[i32],
-) -> Result<bool, Fail> {
-    let a = csr::<T>(alloc, arrays)?;
-    let b = dense(alloc, (column.len(), 1), column)?;
-    let by_rows = multiplies_by_rows(alloc, &a, &b, want)?;
-    let turned = a.transpose(alloc)?.transpose_as_csc();
-    Ok(by_rows && multiplies_by_columns(alloc, &turned, &b, want)?)
+) -> Option<bool> {
+    let b = dense::<T>(alloc, (column.len(), 1), column)?;
+    let by_rows = multiplies_by_rows(alloc, &csr(alloc, arrays)?, &b, want);
+    Some(by_rows && multiplies_by_columns(alloc, &by_columns(alloc, arrays)?, &b, want))
 }
 
 // Matrices over wrapping integers, columns, and the products.
-const WRAPPING: [(Arrays<'static>, &[i32], &[i32]); 3] = [
+const WRAPPING: &[(Arrays<'static>, &[i32], &[i32])] = &[
     (
         (1, 3, &[0, 3], &[0, 1, 2], &[2147483647, 1, -1]),
         &[1, 1, 1],
@@ -222,27 +236,28 @@ const WRAPPING: [(Arrays<'static>, &[i32], &[i32]); 3] = [
 ];
 
 #[test]
-fn products(rt: HostRuntime) -> Result<(), Fail> {
+fn products(rt: HostRuntime) {
     for (arrays, column, want) in WRAPPING {
-        assert!(rt; multiplies::<W32>(rt.alloc(), arrays, column, want)?);
+        assert!(rt; multiplies::<W32>(rt.alloc(), *arrays, *column, *want) == Some(true));
     }
-    assert!(rt; multiplies::<Mod<7>>(rt.alloc(), F, &[3, 5], &[6, 1])?);
-    Ok(())
+    assert!(rt; multiplies::<Mod<7>>(rt.alloc(), F, &[3, 5], &[6, 1]) == Some(true));
+}
+
+// Whether the product of matrices whose sizes fit is refused.
+fn refuses(alloc: Global, a: &CsrMatrix<W64>, b: &DMatrix<W64>) -> bool {
+    if a.ncols() != b.nrows() {
+        return false;
+    }
+    mul_csr_dense(alloc, a, b).is_err()
 }
 
 // Whether a product of more values than there is memory for is refused.
-fn refuses(alloc: Global) -> Result<bool, Fail> {
-    let a: CsrMatrix<W64> = csr(alloc, (2, 0, &[0, 0, 0], &[], &[]))?;
-    let b: DMatrix<W64> = dense(alloc, (0, usize::MAX), &[])?;
-    if a.ncols() != b.nrows() {
-        return Ok(false);
-    }
-    Ok(mul_csr_dense(alloc, &a, &b).is_err())
+fn refuses_a_wide_product(alloc: Global) -> Option<bool> {
+    let a = csr(alloc, (2, 0, &[0, 0, 0], &[], &[]))?;
+    Some(refuses(alloc, &a, &dense(alloc, (0, usize::MAX), &[])?))
 }
 
 #[test]
-fn products_past_the_memory(rt: HostRuntime) -> Result<(), Fail> {
-    let refused = refuses(rt.alloc())?;
-    assert!(rt; refused);
-    Ok(())
+fn products_past_the_memory(rt: HostRuntime) {
+    assert!(rt; refuses_a_wide_product(rt.alloc()) == Some(true));
 }

@@ -1,34 +1,15 @@
 //! Products of sparse and dense matrices whose sizes fit.
 
 ghost use Rattle.std.specs.Prelude.{◌≡◌};
-ghost use Rattle.sparse_dense.specs.DenseOperands.{op_cols, op_dense, op_rows};
+ghost use Rattle.sparse_dense.specs.DenseOperands.{op_dense};
 
+use crate::operand_sizes::{sizes_of_columns, sizes_of_rows};
 use sparse_algebra::scalar::Ring;
 use sparse_base::dense::DMatrix;
 use sparse_dense::{spmm_csc_dense, spmm_csr_dense};
 use sparse_forms::csc::CscMatrix;
 use sparse_forms::csr::CsrMatrix;
 use sparse_op::Op;
-
-fn sizes_of_rows<T: Ring>(a: Op<&CsrMatrix<T>>) -> (usize, usize)
-    ensures rows { result.0 ≡ (op_rows T.ring T.value a.entry).rows }
-    ensures cols { result.1 ≡ (op_rows T.ring T.value a.entry).cols }
-{
-    match a {
-        Op::NoOp(a) => (a.nrows(), a.ncols()),
-        Op::Transpose(a) => (a.ncols(), a.nrows()),
-    }
-}
-
-fn sizes_of_columns<T: Ring>(a: Op<&CscMatrix<T>>) -> (usize, usize)
-    ensures rows { result.0 ≡ (op_cols T.ring T.value a.entry).rows }
-    ensures cols { result.1 ≡ (op_cols T.ring T.value a.entry).cols }
-{
-    match a {
-        Op::NoOp(a) => (a.nrows(), a.ncols()),
-        Op::Transpose(a) => (a.ncols(), a.nrows()),
-    }
-}
 
 fn sizes_of_dense<T: Ring>(b: Op<&DMatrix<T>>) -> (usize, usize)
     ensures rows { result.0 ≡ (op_dense T.ring T.value b.entry).rows }

@@ -20,6 +20,8 @@ mod laws;
 #[cfg(test)]
 mod matrices;
 #[cfg(test)]
+mod operand_sizes;
+#[cfg(test)]
 mod operands;
 #[cfg(test)]
 mod pairs;

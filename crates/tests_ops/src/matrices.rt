@@ -1,78 +1,107 @@
-//! Lists and matrices that the tests begin with.
+//! Lists and matrices that the tests begin with, and their arrays.
 
 use crate::scalars::{Scalar, scalars};
 use sparse_base::coo::CooMatrix;
 use sparse_base::dense::DMatrix;
 use sparse_forms::csc::CscMatrix;
 use sparse_forms::csr::CsrMatrix;
-use std::alloc::Global;
-use std::test::Fail;
+use std::alloc::{AllocError, Global};
 
 /// The list of these triplets, in this order.
 pub fn list<T: Scalar>(
     alloc: Global,
     (nrows, ncols): (usize, usize),
     triplets: &[(usize, usize, i32)],
-) -> Result<CooMatrix<T>, Fail> {
+) -> Option<CooMatrix<T>> {
     let mut coo = CooMatrix::new(alloc, nrows, ncols);
     for (row, col, number) in triplets {
         if coo.nrows() <= *row || coo.ncols() <= *col {
-            return Err(Fail::from("a triplet outside the matrix"));
+            return None;
         }
-        coo.push(*row, *col, T::of(*number))?;
+        coo.push(*row, *col, T::of(*number)).ok()?;
     }
-    Ok(coo)
+    Some(coo)
+}
+
+// Copies of offsets, indices and values.
+fn copies<T: Copy>(
+    alloc: Global,
+    (offsets, indices, values): Lanes<'_, T>,
+) -> Result<(Vec<usize>, Vec<usize>, Vec<T>), AllocError> {
+    let offsets = Vec::from_slice(alloc, offsets)?;
+    let indices = Vec::from_slice(alloc, indices)?;
+    Ok((offsets, indices, Vec::from_slice(alloc, values)?))
 }
 
 /// The CSR matrix of these arrays and values.
-pub fn csr_of<T: Copy + Drop>(
+pub fn csr_of<T: Copy>(
     alloc: Global,
     (nrows, ncols): (usize, usize),
     offsets: &[usize],
     columns: &[usize],
     values: &[T],
-) -> Result<CsrMatrix<T>, Fail> {
-    let offsets = Vec::from_slice(alloc, offsets)?;
-    let columns = Vec::from_slice(alloc, columns)?;
-    let values = Vec::from_slice(alloc, values)?;
-    Ok(CsrMatrix::try_from_csr_data(nrows, ncols, offsets, columns, values)?)
+) -> Option<CsrMatrix<T>> {
+    let (offsets, columns, values) = copies(alloc, (offsets, columns, values)).ok()?;
+    CsrMatrix::try_from_csr_data(nrows, ncols, offsets, columns, values).ok()
 }
 
 /// The number of rows and of columns, the offsets, the indices and the values of compressed arrays.
 pub type Arrays<'a> = (usize, usize, &'a [usize], &'a [usize], &'a [i32]);
 
-pub fn csr<T: Scalar>(alloc: Global, arrays: Arrays<'_>) -> Result<CsrMatrix<T>, Fail> {
-    let (nrows, ncols, offsets, columns, numbers) = arrays;
-    let offsets = Vec::from_slice(alloc, offsets)?;
-    let columns = Vec::from_slice(alloc, columns)?;
-    let values = scalars(alloc, numbers)?;
-    Ok(CsrMatrix::try_from_csr_data(nrows, ncols, offsets, columns, values)?)
-}
-
-pub fn csc<T: Scalar>(alloc: Global, arrays: Arrays<'_>) -> Result<CscMatrix<T>, Fail> {
-    let (nrows, ncols, offsets, rows, numbers) = arrays;
-    let offsets = Vec::from_slice(alloc, offsets)?;
-    let rows = Vec::from_slice(alloc, rows)?;
-    let values = scalars(alloc, numbers)?;
-    Ok(CscMatrix::try_from_csc_data(nrows, ncols, offsets, rows, values)?)
-}
-
-/// The number of columns of a matrix by rows, its offsets, its columns and its values.
-pub type Rows<'a> = (usize, &'a [usize], &'a [usize], &'a [i32]);
-
-/// The CSR matrix of these rows.
-pub fn matrix<T: Scalar>(alloc: Global, rows: Rows<'_>) -> Result<CsrMatrix<T>, Fail> {
-    let (ncols, offsets, columns, numbers) = rows;
-    csr(
+pub fn csr<T: Scalar>(alloc: Global, arrays: Arrays<'_>) -> Option<CsrMatrix<T>> {
+    let values = scalars(alloc, arrays.4).ok()?;
+    csr_of(
         alloc,
-        (
-            offsets.len().saturating_sub(1),
-            ncols,
-            offsets,
-            columns,
-            numbers,
-        ),
+        (arrays.0, arrays.1),
+        arrays.2,
+        arrays.3,
+        values.as_slice(),
     )
+}
+
+pub fn csc<T: Scalar>(alloc: Global, arrays: Arrays<'_>) -> Option<CscMatrix<T>> {
+    let values = scalars(alloc, arrays.4).ok()?;
+    let lanes = (arrays.2, arrays.3, values.as_slice());
+    let (offsets, rows, values) = copies(alloc, lanes).ok()?;
+    CscMatrix::try_from_csc_data(arrays.0, arrays.1, offsets, rows, values).ok()
+}
+
+/// The offsets, the indices and the values of a compressed matrix.
+pub type Lanes<'a, T> = (&'a [usize], &'a [usize], &'a [T]);
+
+/// Whether these are the same arrays.
+pub fn are_lanes<T: PartialEq>(left: Lanes<'_, T>, right: Lanes<'_, T>) -> bool {
+    left.0 == right.0 && left.1 == right.1 && left.2 == right.2
+}
+
+/// Whether a matrix by rows was made, with these offsets, columns and values.
+pub fn rows_are<T: Copy + PartialEq>(
+    made: Result<CsrMatrix<T>, AllocError>,
+    lanes: Lanes<'_, T>,
+) -> bool {
+    match made {
+        Ok(csr) => are_lanes((csr.row_offsets(), csr.col_indices(), csr.values()), lanes),
+        Err(_) => false,
+    }
+}
+
+/// Whether a matrix by columns was made, with these offsets, rows and values.
+pub fn columns_are<T: Copy + PartialEq>(
+    made: Result<CscMatrix<T>, AllocError>,
+    lanes: Lanes<'_, T>,
+) -> bool {
+    match made {
+        Ok(csc) => are_lanes((csc.col_offsets(), csc.row_indices(), csc.values()), lanes),
+        Err(_) => false,
+    }
+}
+
+/// Whether a matrix was made that equals the other one.
+pub fn equals<M: PartialEq + Drop>(made: Option<M>, other: &M) -> bool {
+    match made {
+        Some(made) => made == *other,
+        None => false,
+    }
 }
 
 /// The dense matrix of this size with these values, column by column.
@@ -80,13 +109,10 @@ pub fn dense<T: Scalar>(
     alloc: Global,
     (nrows, ncols): (usize, usize),
     numbers: &[i32],
-) -> Result<DMatrix<T>, Fail> {
-    let values = scalars(alloc, numbers)?;
-    let Some(count) = nrows.checked_mul(ncols) else {
-        return Err(Fail::from("sizes past the end of the type"));
-    };
-    if values.len() != count {
-        return Err(Fail::from("values of another size"));
+) -> Option<DMatrix<T>> {
+    let values = scalars(alloc, numbers).ok()?;
+    if nrows.checked_mul(ncols) != Some(values.len()) {
+        return None;
     }
-    Ok(DMatrix::from_column_slice(alloc, nrows, ncols, values.as_slice())?)
+    DMatrix::from_column_slice(alloc, nrows, ncols, values.as_slice()).ok()
 }

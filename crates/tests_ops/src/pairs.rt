@@ -1,30 +1,43 @@
 //! Pairs of matrices, what matrices hold, and what the updates of a matrix answer.
 
-use crate::matrices::{Rows, matrix};
+use crate::matrices::{Arrays, csr};
 use crate::scalars::are;
 use sparse_algebra::scalar::W64;
 use sparse_forms::csc::CscMatrix;
 use sparse_forms::csr::CsrMatrix;
 use sparse_op::{OperationError, OperationErrorKind};
 use std::alloc::Global;
-use std::test::Fail;
 
 /// Two matrices.
 pub type Pair = (CsrMatrix<W64>, CsrMatrix<W64>);
 
-/// Returns the CSR matrices of these rows.
-pub fn pair(alloc: Global, left: Rows<'_>, right: Rows<'_>) -> Result<Pair, Fail> {
-    Ok((matrix(alloc, left)?, matrix(alloc, right)?))
+/// Two matrices by columns.
+pub type PairByColumns = (CscMatrix<W64>, CscMatrix<W64>);
+
+/// Returns the CSR matrices of these arrays.
+pub fn pair(alloc: Global, left: Arrays<'_>, right: Arrays<'_>) -> Option<Pair> {
+    Some((csr(alloc, left)?, csr(alloc, right)?))
 }
 
-/// Whether the matrix has these columns and values.
-pub fn holds(matrix: CsrMatrix<W64>, columns: &[usize], numbers: &[i32]) -> bool {
-    matrix.col_indices() == columns && are(matrix.values(), numbers)
+/// Returns the transposes of these matrices: the same arrays by columns.
+pub fn by_columns((a, b): Pair) -> PairByColumns {
+    (a.transpose_as_csc(), b.transpose_as_csc())
 }
 
-/// Whether the matrix has these rows and values.
-pub fn holds_by_columns(matrix: CscMatrix<W64>, rows: &[usize], numbers: &[i32]) -> bool {
-    matrix.row_indices() == rows && are(matrix.values(), numbers)
+/// Whether the matrix was made, with these columns and values.
+pub fn holds(made: Option<CsrMatrix<W64>>, columns: &[usize], numbers: &[i32]) -> bool {
+    match made {
+        Some(matrix) => matrix.col_indices() == columns && are(matrix.values(), numbers),
+        None => false,
+    }
+}
+
+/// Whether the matrix was made, with these rows and values.
+pub fn holds_by_columns(made: Option<CscMatrix<W64>>, rows: &[usize], numbers: &[i32]) -> bool {
+    match made {
+        Some(matrix) => matrix.row_indices() == rows && are(matrix.values(), numbers),
+        None => false,
+    }
 }
 
 /// What a call returns that updates a matrix; `None` where the sizes do not fit, and nothing is called.

@@ -1,23 +1,18 @@
 //! Products, and patterns of products.
 
-use crate::matrices::{Rows, csr_of, matrix};
+use crate::matrices::{Arrays, csr, csr_of};
 use crate::scalars::{Scalar, are};
 use sparse_algebra::scalar::{Ring, W32, W64};
 use sparse_forms::csr::CsrMatrix;
 use sparse_ops::serial::{mul_csr, spmm_csr_pattern};
 use std::alloc::{AllocError, Global};
-use std::test::Fail;
 
 // The product of two matrices whose sizes fit.
-fn product<T: Ring>(
-    alloc: Global,
-    a: &CsrMatrix<T>,
-    b: &CsrMatrix<T>,
-) -> Result<CsrMatrix<T>, Fail> {
+fn product<T: Ring>(alloc: Global, a: &CsrMatrix<T>, b: &CsrMatrix<T>) -> Option<CsrMatrix<T>> {
     if a.ncols() != b.nrows() {
-        return Err(Fail::from("factors of other sizes"));
+        return None;
     }
-    Ok(mul_csr(alloc, a, b)?)
+    mul_csr(alloc, a, b).ok()
 }
 
 // Whether the pattern of the product has these columns.
@@ -26,83 +21,117 @@ fn has_columns<T: Ring>(
     a: &CsrMatrix<T>,
     b: &CsrMatrix<T>,
     columns: &[usize],
-) -> Result<bool, Fail> {
+) -> bool {
     if a.ncols() != b.nrows() {
-        return Err(Fail::from("factors of other sizes"));
+        return false;
     }
-    let pattern = spmm_csr_pattern(alloc, a.pattern(), b.pattern())?;
-    Ok(pattern.minor_indices() == columns)
+    match spmm_csr_pattern(alloc, a.pattern(), b.pattern()) {
+        Ok(pattern) => pattern.minor_indices() == columns,
+        Err(_) => false,
+    }
 }
 
-fn holds<T: Scalar>(matrix: &CsrMatrix<T>, (ncols, offsets, columns, numbers): Rows<'_>) -> bool {
-    matrix.ncols() == ncols
-        && matrix.row_offsets() == offsets
-        && matrix.col_indices() == columns
-        && are(matrix.values(), numbers)
+// Whether the matrix has these arrays.
+fn has_arrays<T: Scalar>(matrix: &CsrMatrix<T>, arrays: Arrays<'_>) -> bool {
+    matrix.ncols() == arrays.1
+        && matrix.row_offsets() == arrays.2
+        && matrix.col_indices() == arrays.3
+        && are(matrix.values(), arrays.4)
+}
+
+fn holds<T: Scalar>(made: Option<CsrMatrix<T>>, want: Arrays<'_>) -> bool {
+    match made {
+        Some(matrix) => has_arrays(&matrix, want),
+        None => false,
+    }
+}
+
+// Whether the product of two matrices has these arrays, and its pattern the same columns.
+fn has_product<T: Scalar>(
+    alloc: Global,
+    a: &CsrMatrix<T>,
+    b: &CsrMatrix<T>,
+    want: Arrays<'_>,
+) -> bool {
+    has_columns(alloc, a, b, want.3) && holds(product(alloc, a, b), want)
 }
 
 // Whether the product of the first two matrices is the third, and its pattern that of the third.
-fn is_product<T: Scalar>(alloc: Global, [left, right, want]: [Rows<'_>; 3]) -> Result<bool, Fail> {
-    let a = matrix::<T>(alloc, left)?;
-    let b = matrix::<T>(alloc, right)?;
-    Ok(has_columns(alloc, &a, &b, want.2)? && holds(&product(alloc, &a, &b)?, want))
+fn is_product<T: Scalar>(alloc: Global, [left, right, want]: [Arrays<'_>; 3]) -> Option<bool> {
+    let a = csr::<T>(alloc, left)?;
+    Some(has_product(alloc, &a, &csr(alloc, right)?, want))
 }
 
-#[test]
-fn products(rt: HostRuntime) -> Result<(), Fail> {
-    let row: Rows<'_> = (2, &[0, 2], &[0, 1], &[2, 3]);
-    let column: Rows<'_> = (1, &[0, 1, 2], &[0, 0], &[3, -2]);
-    let triangle: Rows<'_> = (2, &[0, 2, 3], &[0, 1, 1], &[1, 2, 3]);
-    let ones: Rows<'_> = (2, &[0, 2, 3], &[0, 1, 1], &[1, 1, 1]);
-    let cases: [[Rows<'_>; 3]; 7] = [
-        // A row times a column: the sum of zero stays.
-        [row, column, (1, &[0, 1], &[0], &[0])],
-        [column, row, (2, &[0, 2, 4], &[0, 1, 0, 1], &[6, 9, -4, -6])],
-        [triangle, triangle, (2, &[0, 2, 3], &[0, 1, 1], &[1, 8, 9])],
-        [ones, ones, (2, &[0, 2, 3], &[0, 1, 1], &[1, 2, 1])],
-        // The columns of a row of the product are met out of order.
-        [
-            ones,
-            (4, &[0, 2, 4], &[2, 3, 0, 2], &[1, 1, 1, 1]),
-            (4, &[0, 3, 5], &[0, 2, 3, 0, 2], &[1, 2, 1, 1, 1]),
-        ],
-        // A stored zero has a place in the product.
-        [
-            (1, &[0, 1], &[0], &[0]),
-            (1, &[0, 1], &[0], &[5]),
-            (1, &[0, 1], &[0], &[0]),
-        ],
-        // An inner size of zero.
-        [
-            (0, &[0, 0, 0], &[], &[]),
-            (2, &[0], &[], &[]),
-            (2, &[0, 0, 0], &[], &[]),
-        ],
-    ];
-    for case in cases {
-        assert!(rt; is_product::<W32>(rt.alloc(), case)? && is_product::<W64>(rt.alloc(), case)?);
-    }
-    Ok(())
-}
+const ROW: Arrays<'static> = (1, 2, &[0, 2], &[0, 1], &[2, 3]);
+
+const COLUMN: Arrays<'static> = (2, 1, &[0, 1, 2], &[0, 0], &[3, -2]);
+
+const TRIANGLE: Arrays<'static> = (2, 2, &[0, 2, 3], &[0, 1, 1], &[1, 2, 3]);
+
+const ONES: Arrays<'static> = (2, 2, &[0, 2, 3], &[0, 1, 1], &[1, 1, 1]);
+
+// Two factors, and their product.
+const PRODUCTS: &[[Arrays<'static>; 3]] = &[
+    // A row times a column: the sum of zero stays.
+    [ROW, COLUMN, (1, 1, &[0, 1], &[0], &[0])],
+    [
+        COLUMN,
+        ROW,
+        (2, 2, &[0, 2, 4], &[0, 1, 0, 1], &[6, 9, -4, -6]),
+    ],
+    [
+        TRIANGLE,
+        TRIANGLE,
+        (2, 2, &[0, 2, 3], &[0, 1, 1], &[1, 8, 9]),
+    ],
+    [ONES, ONES, (2, 2, &[0, 2, 3], &[0, 1, 1], &[1, 2, 1])],
+    // The columns of a row of the product are met out of order.
+    [
+        ONES,
+        (2, 4, &[0, 2, 4], &[2, 3, 0, 2], &[1, 1, 1, 1]),
+        (2, 4, &[0, 3, 5], &[0, 2, 3, 0, 2], &[1, 2, 1, 1, 1]),
+    ],
+    // A stored zero has a place in the product.
+    [
+        (1, 1, &[0, 1], &[0], &[0]),
+        (1, 1, &[0, 1], &[0], &[5]),
+        (1, 1, &[0, 1], &[0], &[0]),
+    ],
+    // An inner size of zero.
+    [
+        (2, 0, &[0, 0, 0], &[], &[]),
+        (0, 2, &[0], &[], &[]),
+        (2, 2, &[0, 0, 0], &[], &[]),
+    ],
+];
 
 #[test]
-fn sums_and_products_wrap(rt: HostRuntime) -> Result<(), Fail> {
-    let cases: [[Rows<'_>; 3]; 2] = [
-        [
-            (3, &[0, 3], &[0, 1, 2], &[2147483647, 1, -1]),
-            (1, &[0, 1, 2, 3], &[0, 0, 0], &[1, 1, 1]),
-            (1, &[0, 1], &[0], &[2147483647]),
-        ],
-        [
-            (1, &[0, 1], &[0], &[2147483647]),
-            (1, &[0, 1], &[0], &[2]),
-            (1, &[0, 1], &[0], &[-2]),
-        ],
-    ];
-    for case in cases {
-        assert!(rt; is_product::<W32>(rt.alloc(), case)?);
+fn products(rt: HostRuntime) {
+    for case in PRODUCTS {
+        assert!(rt; is_product::<W32>(rt.alloc(), *case) == Some(true));
+        assert!(rt; is_product::<W64>(rt.alloc(), *case) == Some(true));
     }
-    Ok(())
+}
+
+// Factors whose sums or products wrap, and their product.
+const WRAPPING: &[[Arrays<'static>; 3]] = &[
+    [
+        (1, 3, &[0, 3], &[0, 1, 2], &[2147483647, 1, -1]),
+        (3, 1, &[0, 1, 2, 3], &[0, 0, 0], &[1, 1, 1]),
+        (1, 1, &[0, 1], &[0], &[2147483647]),
+    ],
+    [
+        (1, 1, &[0, 1], &[0], &[2147483647]),
+        (1, 1, &[0, 1], &[0], &[2]),
+        (1, 1, &[0, 1], &[0], &[-2]),
+    ],
+];
+
+#[test]
+fn sums_and_products_wrap(rt: HostRuntime) {
+    for case in WRAPPING {
+        assert!(rt; is_product::<W32>(rt.alloc(), *case) == Some(true));
+    }
 }
 
 // A million columns: all even ones in the even rows, all odd ones in the odd rows.
@@ -140,37 +169,44 @@ fn ones(
     size: (usize, usize),
     offsets: &[usize],
     columns: &[usize],
-) -> Result<CsrMatrix<W64>, Fail> {
-    let ones = vec![in alloc; W64::new(1); columns.len()]?;
+) -> Option<CsrMatrix<W64>> {
+    let ones = vec![in alloc; W64::new(1); columns.len()].ok()?;
     csr_of(alloc, size, offsets, columns, ones.as_slice())
 }
 
 // Two rows: ones in all columns, and in the even ones.
-fn left_factor(alloc: Global) -> Result<CsrMatrix<W64>, Fail> {
-    let columns = all_and_even_columns(alloc, 2000)?;
+fn left_factor(alloc: Global) -> Option<CsrMatrix<W64>> {
+    let columns = all_and_even_columns(alloc, 2000).ok()?;
     ones(alloc, (2, 2000), &[0, 2000, 3000], &columns)
 }
 
 // 2000 rows: ones in the even columns of the even rows, and in the odd ones of the odd rows. A product of this size goes row by row.
-fn right_factor(alloc: Global) -> Result<CsrMatrix<W64>, Fail> {
-    let offsets = multiples(alloc, 2001, 500)?;
-    let columns = even_and_odd_columns(alloc)?;
+fn right_factor(alloc: Global) -> Option<CsrMatrix<W64>> {
+    let offsets = multiples(alloc, 2001, 500).ok()?;
+    let columns = even_and_odd_columns(alloc).ok()?;
     ones(alloc, (2000, 1000), &offsets, &columns)
 }
 
 // The first row of the product is 1000 in all columns, the second in the even ones.
-fn is_large_product(alloc: Global, product: &CsrMatrix<W64>) -> Result<bool, Fail> {
-    let columns = all_and_even_columns(alloc, 1000)?;
-    Ok(
+fn is_large_product(alloc: Global, product: &CsrMatrix<W64>) -> Option<bool> {
+    let columns = all_and_even_columns(alloc, 1000).ok()?;
+    Some(
         product.row_offsets() == [0, 1000, 1500].as_slice()
             && product.col_indices() == columns.as_slice()
             && are(product.values(), &[1000; 1500]),
     )
 }
 
+// The product of the two factors, which are large.
+fn large_product(alloc: Global) -> Option<CsrMatrix<W64>> {
+    product(alloc, &left_factor(alloc)?, &right_factor(alloc)?)
+}
+
+fn has_large_product(alloc: Global) -> Option<bool> {
+    is_large_product(alloc, &large_product(alloc)?)
+}
+
 #[test]
-fn a_large_product(rt: HostRuntime) -> Result<(), Fail> {
-    let (left, right) = (left_factor(rt.alloc())?, right_factor(rt.alloc())?);
-    assert!(rt; is_large_product(rt.alloc(), &product(rt.alloc(), &left, &right)?)?);
-    Ok(())
+fn a_large_product(rt: HostRuntime) {
+    assert!(rt; has_large_product(rt.alloc()) == Some(true));
 }

@@ -1,15 +1,15 @@
 //! Triangular systems.
 
-use crate::matrices::{Arrays, csc, dense};
+use crate::matrices::{Arrays, csc, dense, equals};
+use crate::pairs::{Answer, is_done};
 use crate::scalars::Scalar;
 use sparse_algebra::scalar::W32;
 use sparse_base::dense::DMatrix;
 use sparse_forms::csc::CscMatrix;
-use sparse_op::{Op, OperationError, OperationErrorKind};
+use sparse_op::{Op, OperationErrorKind};
 use sparse_solve::spsolve_csc_lower_triangular;
 use sparse_units::{Mod, Units};
 use std::alloc::Global;
-use std::test::Fail;
 
 // What a system shows, its matrix, whether that is transposed, and the number of columns.
 type System = (&'static str, Arrays<'static>, bool, usize);
@@ -31,7 +31,7 @@ const TWO: Arrays<'static> = (1, 1, &[0, 1], &[0], &[2]);
 const EMPTY: Arrays<'static> = (0, 0, &[0], &[], &[]);
 
 // Systems over wrapping integers.
-const WRAPPING: [(System, Columns); 6] = [
+const WRAPPING: &[(System, Columns)] = &[
     (("two rows", LOWER, false, 1), (&[1, 5], &[1, 1])),
     (("two rows, transposed", LOWER, true, 1), (&[5, 3], &[3, 1])),
     (
@@ -50,7 +50,7 @@ const WRAPPING: [(System, Columns); 6] = [
 ];
 
 // Systems over the residues modulo 7.
-const RESIDUES: [(System, Columns); 5] = [
+const RESIDUES: &[(System, Columns)] = &[
     (
         ("five columns", THREE, false, 5),
         (
@@ -91,7 +91,7 @@ const RESIDUES: [(System, Columns); 5] = [
 ];
 
 // Singular systems over wrapping integers, and their right sides.
-const SINGULAR: [(System, &[i32]); 3] = [
+const SINGULAR: &[(System, &[i32])] = &[
     (("an entry without an inverse", TWO, false, 1), &[1]),
     (
         (
@@ -114,11 +114,7 @@ const SINGULAR: [(System, &[i32]); 3] = [
 ];
 
 // Solves with a matrix or its transpose, if the sizes fit.
-fn solve<T: Units>(
-    l: &CscMatrix<T>,
-    transposed: bool,
-    b: &mut DMatrix<T>,
-) -> Option<Result<(), OperationError>> {
+fn solve<T: Units>(l: &CscMatrix<T>, transposed: bool, b: &mut DMatrix<T>) -> Answer {
     if l.nrows() != l.ncols() || b.nrows() != l.ncols() {
         return None;
     }
@@ -129,22 +125,28 @@ fn solve<T: Units>(
     }
 }
 
+// Solves a system, if the sizes fit and its matrix can be made.
+fn solve_system<T: Scalar + Units>(alloc: Global, system: System, b: &mut DMatrix<T>) -> Answer {
+    solve(&csc(alloc, system.1)?, system.2, b)
+}
+
+// The right sides or the solutions of a system.
+fn columns_of<T: Scalar>(alloc: Global, system: System, numbers: &[i32]) -> Option<DMatrix<T>> {
+    dense(alloc, (system.1.0, system.3), numbers)
+}
+
 // Whether the system with these right sides is solved by these values.
 fn is_solved<T: Scalar + Units>(
     alloc: Global,
-    (_, l, transposed, ncols): System,
+    system: System,
     (right, want): Columns,
-) -> Result<bool, Fail> {
-    let l = csc::<T>(alloc, l)?;
-    let mut b = dense::<T>(alloc, (l.nrows(), ncols), right)?;
-    let solved = match solve(&l, transposed, &mut b) {
-        Some(answer) => answer.is_ok(),
-        None => false,
-    };
-    Ok(solved && b == dense(alloc, (l.nrows(), ncols), want)?)
+) -> Option<bool> {
+    let mut b = columns_of::<T>(alloc, system, right)?;
+    let solved = is_done(solve_system(alloc, system, &mut b));
+    Some(solved && equals(columns_of(alloc, system, want), &b))
 }
 
-fn is_refused_as_singular(answer: Option<Result<(), OperationError>>) -> bool {
+fn is_refused_as_singular(answer: Answer) -> bool {
     match answer {
         Some(Err(refusal)) => *refusal.kind() == OperationErrorKind::Singular,
         _ => false,
@@ -152,52 +154,44 @@ fn is_refused_as_singular(answer: Option<Result<(), OperationError>>) -> bool {
 }
 
 // Whether the system is refused as singular, and the right sides are unchanged.
-fn is_singular<T: Scalar + Units>(
-    alloc: Global,
-    (_, l, transposed, ncols): System,
-    right: &[i32],
-) -> Result<bool, Fail> {
-    let l = csc::<T>(alloc, l)?;
-    let mut b = dense::<T>(alloc, (l.nrows(), ncols), right)?;
-    let refused = is_refused_as_singular(solve(&l, transposed, &mut b));
-    Ok(refused && b == dense(alloc, (l.nrows(), ncols), right)?)
+fn is_singular<T: Scalar + Units>(alloc: Global, system: System, right: &[i32]) -> Option<bool> {
+    let mut b = columns_of::<T>(alloc, system, right)?;
+    let refused = is_refused_as_singular(solve_system(alloc, system, &mut b));
+    Some(refused && equals(columns_of(alloc, system, right), &b))
 }
 
 #[test]
-fn solutions_over_wrapping_integers(rt: HostRuntime) -> Result<(), Fail> {
+fn solutions_over_wrapping_integers(rt: HostRuntime) {
     for (system, columns) in WRAPPING {
         assert!(rt;
-            is_solved::<W32>(rt.alloc(), system, columns)?,
+            is_solved::<W32>(rt.alloc(), *system, *columns) == Some(true),
             "{}",
             system.0
         );
     }
-    Ok(())
 }
 
 #[test]
-fn solutions_modulo_seven(rt: HostRuntime) -> Result<(), Fail> {
+fn solutions_modulo_seven(rt: HostRuntime) {
     for (system, columns) in RESIDUES {
         assert!(rt;
-            is_solved::<Mod<7>>(rt.alloc(), system, columns)?,
+            is_solved::<Mod<7>>(rt.alloc(), *system, *columns) == Some(true),
             "{}",
             system.0
         );
     }
-    Ok(())
 }
 
 // The last diagonal entry is tested first, and before anything is written.
 #[test]
-fn singular_systems(rt: HostRuntime) -> Result<(), Fail> {
+fn singular_systems(rt: HostRuntime) {
     for (system, right) in SINGULAR {
         assert!(rt;
-            is_singular::<W32>(rt.alloc(), system, right)?,
+            is_singular::<W32>(rt.alloc(), *system, *right) == Some(true),
             "{}",
             system.0
         );
     }
-    Ok(())
 }
 
 const STORED_ZERO: Arrays<'static> = (1, 1, &[0, 1], &[0], &[0]);
@@ -205,17 +199,10 @@ const STORED_ZERO: Arrays<'static> = (1, 1, &[0, 1], &[0], &[0]);
 const NO_ENTRY: Arrays<'static> = (1, 1, &[0, 0], &[], &[]);
 
 // Where one is zero, a stored zero has an inverse, and an entry that is not stored has none.
-fn zero_has_an_inverse_where_stored(alloc: Global) -> Result<bool, Fail> {
-    let stored = ("one stored zero", STORED_ZERO, false, 1);
-    let missing = ("no stored entry", NO_ENTRY, false, 1);
-    Ok(
-        is_solved::<Mod<0>>(alloc, stored, (&[0], &[0]))?
-            && is_singular::<Mod<0>>(alloc, missing, &[0])?,
-    )
-}
-
 #[test]
-fn where_one_is_zero(rt: HostRuntime) -> Result<(), Fail> {
-    assert!(rt; zero_has_an_inverse_where_stored(rt.alloc())?);
-    Ok(())
+fn where_one_is_zero(rt: HostRuntime) {
+    let stored = ("one stored zero", STORED_ZERO, false, 1);
+    assert!(rt; is_solved::<Mod<0>>(rt.alloc(), stored, (&[0], &[0])) == Some(true));
+    let missing = ("no stored entry", NO_ENTRY, false, 1);
+    assert!(rt; is_singular::<Mod<0>>(rt.alloc(), missing, &[0]) == Some(true));
 }

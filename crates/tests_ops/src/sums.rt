@@ -1,7 +1,7 @@
 //! Sums, differences and multiples.
 
-use crate::matrices::{Rows, matrix};
-use crate::pairs::{Pair, holds, holds_by_columns, pair};
+use crate::matrices::{Arrays, csr};
+use crate::pairs::{Pair, PairByColumns, by_columns, holds, holds_by_columns, pair};
 use crate::scalars::are;
 use sparse_algebra::scalar::W64;
 use sparse_forms::csc::CscMatrix;
@@ -9,50 +9,52 @@ use sparse_forms::csr::CsrMatrix;
 use sparse_ops::serial::{
     add_csc, add_csr, neg_csc, neg_csr, scale_csc, scale_csr, spadd_pattern, sub_csc, sub_csr,
 };
-use sparse_pattern::pattern::SparsityPattern;
 use std::alloc::{AllocError, Global};
-use std::test::Fail;
 
-fn sum(alloc: Global, (a, b): Pair) -> Result<CsrMatrix<W64>, Fail> {
+fn sum(alloc: Global, (a, b): &Pair) -> Option<CsrMatrix<W64>> {
     if a.nrows() != b.nrows() || a.ncols() != b.ncols() {
-        return Err(Fail::from("matrices of other sizes"));
+        return None;
     }
-    Ok(add_csr(alloc, &a, &b)?)
+    add_csr(alloc, a, b).ok()
 }
 
-fn difference(alloc: Global, (a, b): Pair) -> Result<CsrMatrix<W64>, Fail> {
+fn difference(alloc: Global, (a, b): &Pair) -> Option<CsrMatrix<W64>> {
     if a.nrows() != b.nrows() || a.ncols() != b.ncols() {
-        return Err(Fail::from("matrices of other sizes"));
+        return None;
     }
-    Ok(sub_csr(alloc, &a, &b)?)
+    sub_csr(alloc, a, b).ok()
 }
 
-fn sum_of_patterns(alloc: Global, (a, b): Pair) -> Result<SparsityPattern, Fail> {
+// Whether the sum of the patterns has these columns.
+fn sum_has_columns(alloc: Global, (a, b): &Pair, columns: &[usize]) -> bool {
     if a.nrows() != b.nrows() || a.ncols() != b.ncols() {
-        return Err(Fail::from("matrices of other sizes"));
+        return false;
     }
-    Ok(spadd_pattern(alloc, a.pattern(), b.pattern())?)
+    match spadd_pattern(alloc, a.pattern(), b.pattern()) {
+        Ok(pattern) => pattern.minor_indices() == columns,
+        Err(_) => false,
+    }
 }
 
 // The operands, the columns and values of their sum, and the values of their difference.
 type Case = (
-    (Rows<'static>, Rows<'static>),
+    (Arrays<'static>, Arrays<'static>),
     &'static [usize],
     &'static [i32],
     &'static [i32],
 );
 
-const TRIANGLE: Rows<'static> = (2, &[0, 2, 3], &[0, 1, 1], &[1, 2, 3]);
+const TRIANGLE: Arrays<'static> = (2, 2, &[0, 2, 3], &[0, 1, 1], &[1, 2, 3]);
 
-const NO_ROWS: Rows<'static> = (2, &[0], &[], &[]);
+const NO_ROWS: Arrays<'static> = (0, 2, &[0], &[], &[]);
 
-const NO_COLUMNS: Rows<'static> = (0, &[0, 0, 0], &[], &[]);
+const NO_COLUMNS: Arrays<'static> = (2, 0, &[0, 0, 0], &[], &[]);
 
-const LEFT: Rows<'static> = (3, &[0, 2], &[0, 2], &[1, -2]);
+const LEFT: Arrays<'static> = (1, 3, &[0, 2], &[0, 2], &[1, -2]);
 
-const RIGHT: Rows<'static> = (3, &[0, 2], &[1, 2], &[5, 2]);
+const RIGHT: Arrays<'static> = (1, 3, &[0, 2], &[1, 2], &[5, 2]);
 
-const CASES: [Case; 4] = [
+const CASES: &[Case] = &[
     ((TRIANGLE, TRIANGLE), &[0, 1, 1], &[2, 4, 6], &[0, 0, 0]),
     // A sum of zero stays stored, and the rest of the longer row follows.
     ((LEFT, RIGHT), &[0, 1, 2], &[1, 5, 0], &[1, -5, -4]),
@@ -60,41 +62,37 @@ const CASES: [Case; 4] = [
     ((NO_COLUMNS, NO_COLUMNS), &[], &[], &[]),
 ];
 
-fn has_sum(alloc: Global, ((a, b), columns, sums, _): Case) -> Result<bool, Fail> {
-    Ok(holds(sum(alloc, pair(alloc, a, b)?)?, columns, sums))
+fn has_sum(alloc: Global, ((a, b), columns, sums, _): Case) -> Option<bool> {
+    Some(holds(sum(alloc, &pair(alloc, a, b)?), columns, sums))
 }
 
-fn has_difference(alloc: Global, ((a, b), columns, _, differences): Case) -> Result<bool, Fail> {
-    Ok(holds(difference(alloc, pair(alloc, a, b)?)?, columns, differences))
+fn has_difference(alloc: Global, ((a, b), columns, _, differences): Case) -> Option<bool> {
+    Some(holds(difference(alloc, &pair(alloc, a, b)?), columns, differences))
 }
 
-fn has_sum_of_patterns(alloc: Global, ((a, b), columns, _, _): Case) -> Result<bool, Fail> {
-    let pattern = sum_of_patterns(alloc, pair(alloc, a, b)?)?;
-    Ok(pattern.minor_indices() == columns)
-}
-
-#[test]
-fn sums(rt: HostRuntime) -> Result<(), Fail> {
-    for case in CASES {
-        assert!(rt; has_sum(rt.alloc(), case)?);
-    }
-    Ok(())
+fn has_sum_of_patterns(alloc: Global, ((a, b), columns, _, _): Case) -> Option<bool> {
+    Some(sum_has_columns(alloc, &pair(alloc, a, b)?, columns))
 }
 
 #[test]
-fn differences(rt: HostRuntime) -> Result<(), Fail> {
+fn sums(rt: HostRuntime) {
     for case in CASES {
-        assert!(rt; has_difference(rt.alloc(), case)?);
+        assert!(rt; has_sum(rt.alloc(), *case) == Some(true));
     }
-    Ok(())
 }
 
 #[test]
-fn sums_of_patterns(rt: HostRuntime) -> Result<(), Fail> {
+fn differences(rt: HostRuntime) {
     for case in CASES {
-        assert!(rt; has_sum_of_patterns(rt.alloc(), case)?);
+        assert!(rt; has_difference(rt.alloc(), *case) == Some(true));
     }
-    Ok(())
+}
+
+#[test]
+fn sums_of_patterns(rt: HostRuntime) {
+    for case in CASES {
+        assert!(rt; has_sum_of_patterns(rt.alloc(), *case) == Some(true));
+    }
 }
 
 // The numbers below `end`.
@@ -116,16 +114,18 @@ fn alternating_columns(alloc: Global) -> Result<Vec<usize>, AllocError> {
 }
 
 // In every other lane the two matrices share their only place: the lanes that are sampled to estimate the sum, 64 of 128.
-fn long_matrices(alloc: Global) -> Result<Pair, Fail> {
-    let offsets = numbers_below(alloc, 129)?;
-    let columns = alternating_columns(alloc)?;
+fn long_matrices(alloc: Global) -> Option<Pair> {
+    let offsets = numbers_below(alloc, 129).ok()?;
+    let columns = alternating_columns(alloc).ok()?;
     let ones = (
+        128,
         2,
         offsets.as_slice(),
         [0; 128].as_slice(),
         [1; 128].as_slice(),
     );
     let twos = (
+        128,
         2,
         offsets.as_slice(),
         columns.as_slice(),
@@ -144,91 +144,83 @@ fn is_long_sum(sum: &[W64]) -> bool {
     sum.len() == 192
 }
 
+fn has_long_sum(alloc: Global) -> Option<bool> {
+    Some(is_long_sum(sum(alloc, &long_matrices(alloc)?)?.values()))
+}
+
 #[test]
-fn a_sum_that_outgrows_its_estimate(rt: HostRuntime) -> Result<(), Fail> {
-    let sum = sum(rt.alloc(), long_matrices(rt.alloc())?)?;
-    assert!(rt; is_long_sum(sum.values()));
-    Ok(())
+fn a_sum_that_outgrows_its_estimate(rt: HostRuntime) {
+    assert!(rt; has_long_sum(rt.alloc()) == Some(true));
 }
 
 // The same arrays by columns.
-fn sum_by_columns(alloc: Global, (a, b): Pair) -> Result<CscMatrix<W64>, Fail> {
-    let (a, b) = (a.transpose_as_csc(), b.transpose_as_csc());
+fn sum_by_columns(alloc: Global, (a, b): &PairByColumns) -> Option<CscMatrix<W64>> {
     if a.nrows() != b.nrows() || a.ncols() != b.ncols() {
-        return Err(Fail::from("matrices of other sizes"));
+        return None;
     }
-    Ok(add_csc(alloc, &a, &b)?)
+    add_csc(alloc, a, b).ok()
 }
 
-fn difference_by_columns(alloc: Global, (a, b): Pair) -> Result<CscMatrix<W64>, Fail> {
-    let (a, b) = (a.transpose_as_csc(), b.transpose_as_csc());
+fn difference_by_columns(alloc: Global, (a, b): &PairByColumns) -> Option<CscMatrix<W64>> {
     if a.nrows() != b.nrows() || a.ncols() != b.ncols() {
-        return Err(Fail::from("matrices of other sizes"));
+        return None;
     }
-    Ok(sub_csc(alloc, &a, &b)?)
+    sub_csc(alloc, a, b).ok()
 }
 
-fn has_sum_by_columns(alloc: Global) -> Result<bool, Fail> {
-    let sum = sum_by_columns(alloc, pair(alloc, LEFT, RIGHT)?)?;
-    Ok(holds_by_columns(sum, &[0, 1, 2], &[1, 5, 0]))
-}
-
-fn has_difference_by_columns(alloc: Global) -> Result<bool, Fail> {
-    let difference = difference_by_columns(alloc, pair(alloc, LEFT, RIGHT)?)?;
-    Ok(holds_by_columns(difference, &[0, 1, 2], &[1, -5, -4]))
+fn has_sum_and_difference_by_columns(alloc: Global) -> Option<bool> {
+    let pair = by_columns(pair(alloc, LEFT, RIGHT)?);
+    let summed = holds_by_columns(sum_by_columns(alloc, &pair), &[0, 1, 2], &[1, 5, 0]);
+    let difference = difference_by_columns(alloc, &pair);
+    Some(summed && holds_by_columns(difference, &[0, 1, 2], &[1, -5, -4]))
 }
 
 #[test]
-fn sums_by_columns(rt: HostRuntime) -> Result<(), Fail> {
-    assert!(rt; has_sum_by_columns(rt.alloc())? && has_difference_by_columns(rt.alloc())?);
-    Ok(())
+fn sums_by_columns(rt: HostRuntime) {
+    assert!(rt; has_sum_and_difference_by_columns(rt.alloc()) == Some(true));
 }
 
-const MULTIPLIED: Rows<'static> = (2, &[0, 2, 3], &[0, 1, 1], &[1, 0, 3]);
+const MULTIPLIED: Arrays<'static> = (2, 2, &[0, 2, 3], &[0, 1, 1], &[1, 0, 3]);
 
-// Multiples and negatives: copies, and in place.
-fn has_multiple(alloc: Global) -> Result<bool, Fail> {
-    let a = matrix(alloc, MULTIPLIED)?;
-    Ok(holds(scale_csr(alloc, &a, W64::new(3))?, &[0, 1, 1], &[3, 0, 9]))
+// Multiples and negatives: copies.
+fn has_multiple_and_negative(alloc: Global) -> Option<bool> {
+    let a = csr(alloc, MULTIPLIED)?;
+    let multiplied = holds(
+        scale_csr(alloc, &a, W64::new(3)).ok(),
+        &[0, 1, 1],
+        &[3, 0, 9],
+    );
+    Some(multiplied && holds(neg_csr(alloc, &a).ok(), &[0, 1, 1], &[-1, 0, -3]))
 }
 
-fn has_negative(alloc: Global) -> Result<bool, Fail> {
-    let a = matrix(alloc, MULTIPLIED)?;
-    Ok(holds(neg_csr(alloc, &a)?, &[0, 1, 1], &[-1, 0, -3]))
-}
-
-fn is_scaled_in_place(alloc: Global) -> Result<bool, Fail> {
-    let mut owned = -matrix(alloc, MULTIPLIED)?;
+// The same in place.
+fn is_scaled_in_place(alloc: Global) -> Option<bool> {
+    let mut owned = -csr(alloc, MULTIPLIED)?;
     owned *= &W64::new(3);
-    Ok(holds(owned, &[0, 1, 1], &[-3, 0, -9]))
+    Some(holds(Some(owned), &[0, 1, 1], &[-3, 0, -9]))
 }
 
 #[test]
-fn multiples(rt: HostRuntime) -> Result<(), Fail> {
-    let copied = has_multiple(rt.alloc())? && has_negative(rt.alloc())?;
-    assert!(rt; copied && is_scaled_in_place(rt.alloc())?);
-    Ok(())
+fn multiples(rt: HostRuntime) {
+    assert!(rt; has_multiple_and_negative(rt.alloc()) == Some(true));
+    assert!(rt; is_scaled_in_place(rt.alloc()) == Some(true));
 }
 
-fn has_multiple_by_columns(alloc: Global) -> Result<bool, Fail> {
-    let a = matrix(alloc, MULTIPLIED)?.transpose_as_csc();
-    Ok(holds_by_columns(scale_csc(alloc, &a, W64::new(3))?, &[0, 1, 1], &[3, 0, 9]))
+fn has_multiple_and_negative_by_columns(alloc: Global) -> Option<bool> {
+    let a = csr(alloc, MULTIPLIED)?.transpose_as_csc();
+    let multiple = scale_csc(alloc, &a, W64::new(3)).ok();
+    let multiplied = holds_by_columns(multiple, &[0, 1, 1], &[3, 0, 9]);
+    Some(multiplied && holds_by_columns(neg_csc(alloc, &a).ok(), &[0, 1, 1], &[-1, 0, -3]))
 }
 
-fn has_negative_by_columns(alloc: Global) -> Result<bool, Fail> {
-    let a = matrix(alloc, MULTIPLIED)?.transpose_as_csc();
-    Ok(holds_by_columns(neg_csc(alloc, &a)?, &[0, 1, 1], &[-1, 0, -3]))
-}
-
-fn is_scaled_in_place_by_columns(alloc: Global) -> Result<bool, Fail> {
-    let mut owned = -matrix(alloc, MULTIPLIED)?.transpose_as_csc();
+fn is_scaled_in_place_by_columns(alloc: Global) -> Option<bool> {
+    let mut owned = -csr(alloc, MULTIPLIED)?.transpose_as_csc();
     owned *= W64::new(3);
-    Ok(holds_by_columns(owned, &[0, 1, 1], &[-3, 0, -9]))
+    Some(holds_by_columns(Some(owned), &[0, 1, 1], &[-3, 0, -9]))
 }
 
 #[test]
-fn multiples_by_columns(rt: HostRuntime) -> Result<(), Fail> {
-    let copied = has_multiple_by_columns(rt.alloc())? && has_negative_by_columns(rt.alloc())?;
-    assert!(rt; copied && is_scaled_in_place_by_columns(rt.alloc())?);
-    Ok(())
+fn multiples_by_columns(rt: HostRuntime) {
+    assert!(rt; has_multiple_and_negative_by_columns(rt.alloc()) == Some(true));
+    assert!(rt; is_scaled_in_place_by_columns(rt.alloc()) == Some(true));
 }

@@ -1,14 +1,14 @@
 //! Lists of triplets, converted.
 
-use crate::matrices::list;
+use crate::matrices::{equals, list};
 use crate::scalars::{Scalar, are};
 use sparse_algebra::scalar::{W32, W64};
 use sparse_base::coo::CooMatrix;
 use sparse_convert::serial::{convert_coo_csc, convert_coo_csr, convert_coo_dense, order_law};
 use sparse_counting::{key_offsets, next_slot};
+use sparse_forms::csc::CscMatrix;
 use sparse_forms::csr::CsrMatrix;
-use std::alloc::Global;
-use std::test::Fail;
+use std::alloc::{AllocError, Global};
 
 // The size of a list, its triplets, and the offsets, indices and values of the compressed matrix.
 type Case<'a> = (
@@ -22,20 +22,41 @@ type Case<'a> = (
 const LAST: usize = usize::MAX - 1;
 
 // Whether the list becomes the matrix by rows of these arrays.
-fn becomes_rows<T: Scalar>(alloc: Global, case: &Case<'_>) -> Result<bool, Fail> {
-    let (size, triplets, offsets, indices, values) = *case;
-    let csr = convert_coo_csr(alloc, &list::<T>(alloc, size, triplets)?)?;
-    Ok(csr.row_offsets() == offsets && csr.col_indices() == indices && are(csr.values(), values))
+fn becomes_rows<T: Scalar>(alloc: Global, case: &Case<'_>) -> Option<bool> {
+    let coo = list::<T>(alloc, case.0, case.1)?;
+    Some(rows_are_of(convert_coo_csr(alloc, &coo), case))
 }
 
 // The same by columns.
-fn becomes_columns<T: Scalar>(alloc: Global, case: &Case<'_>) -> Result<bool, Fail> {
-    let (size, triplets, offsets, indices, values) = *case;
-    let csc = convert_coo_csc(alloc, &list::<T>(alloc, size, triplets)?)?;
-    Ok(csc.col_offsets() == offsets && csc.row_indices() == indices && are(csc.values(), values))
+fn becomes_columns<T: Scalar>(alloc: Global, case: &Case<'_>) -> Option<bool> {
+    let coo = list::<T>(alloc, case.0, case.1)?;
+    Some(columns_are_of(convert_coo_csc(alloc, &coo), case))
 }
 
-const BY_ROWS: [Case<'static>; 6] = [
+fn rows_are_of<T: Scalar>(made: Result<CsrMatrix<T>, AllocError>, case: &Case<'_>) -> bool {
+    match made {
+        Ok(csr) => are_arrays_of(case, csr.row_offsets(), csr.col_indices(), csr.values()),
+        Err(_) => false,
+    }
+}
+
+fn columns_are_of<T: Scalar>(made: Result<CscMatrix<T>, AllocError>, case: &Case<'_>) -> bool {
+    match made {
+        Ok(csc) => are_arrays_of(case, csc.col_offsets(), csc.row_indices(), csc.values()),
+        Err(_) => false,
+    }
+}
+
+fn are_arrays_of<T: Scalar>(
+    case: &Case<'_>,
+    offsets: &[usize],
+    indices: &[usize],
+    values: &[T],
+) -> bool {
+    offsets == case.2 && indices == case.3 && are(values, case.4)
+}
+
+const BY_ROWS: &[Case<'static>] = &[
     // Rows are sorted.
     (
         (3, 4),
@@ -67,16 +88,14 @@ const BY_ROWS: [Case<'static>; 6] = [
 ];
 
 #[test]
-fn triplets_become_rows(rt: HostRuntime) -> Result<(), Fail> {
-    for case in &BY_ROWS {
-        assert!(rt;
-            becomes_rows::<W32>(rt.alloc(), case)? && becomes_rows::<W64>(rt.alloc(), case)?
-        );
+fn triplets_become_rows(rt: HostRuntime) {
+    for case in BY_ROWS {
+        assert!(rt; becomes_rows::<W32>(rt.alloc(), case) == Some(true));
+        assert!(rt; becomes_rows::<W64>(rt.alloc(), case) == Some(true));
     }
-    Ok(())
 }
 
-const BY_COLUMNS: [Case<'static>; 3] = [
+const BY_COLUMNS: &[Case<'static>] = &[
     // Columns are sorted, and a value of zero stays.
     (
         (2, 3),
@@ -97,13 +116,11 @@ const BY_COLUMNS: [Case<'static>; 3] = [
 ];
 
 #[test]
-fn triplets_become_columns(rt: HostRuntime) -> Result<(), Fail> {
-    for case in &BY_COLUMNS {
-        assert!(rt;
-            becomes_columns::<W32>(rt.alloc(), case)? && becomes_columns::<W64>(rt.alloc(), case)?
-        );
+fn triplets_become_columns(rt: HostRuntime) {
+    for case in BY_COLUMNS {
+        assert!(rt; becomes_columns::<W32>(rt.alloc(), case) == Some(true));
+        assert!(rt; becomes_columns::<W64>(rt.alloc(), case) == Some(true));
     }
-    Ok(())
 }
 
 // Whether the list becomes the dense matrix with these values, column by column.
@@ -112,9 +129,9 @@ fn becomes_dense<T: Scalar>(
     size: (usize, usize),
     triplets: &[(usize, usize, i32)],
     values: &[i32],
-) -> Result<bool, Fail> {
-    let dense = convert_coo_dense(alloc, &list::<T>(alloc, size, triplets)?)?;
-    Ok((dense.nrows(), dense.ncols()) == size && are(dense.as_slice(), values))
+) -> Option<bool> {
+    let dense = convert_coo_dense(alloc, &list::<T>(alloc, size, triplets)?).ok()?;
+    Some((dense.nrows(), dense.ncols()) == size && are(dense.as_slice(), values))
 }
 
 const TRIPLETS: [(usize, usize, i32); 8] = [
@@ -131,15 +148,14 @@ const TRIPLETS: [(usize, usize, i32); 8] = [
 const DENSE: [i32; 15] = [7, 0, 0, 7, 0, 0, 0, 8, 0, 3, 0, 1, 0, 0, 0];
 
 #[test]
-fn triplets_become_dense(rt: HostRuntime) -> Result<(), Fail> {
-    let summed = becomes_dense::<W32>(rt.alloc(), (3, 5), &TRIPLETS, &DENSE)?;
-    assert!(rt; summed && becomes_dense::<W64>(rt.alloc(), (0, 0), &[], &[])?);
-    Ok(())
+fn triplets_become_dense(rt: HostRuntime) {
+    assert!(rt; becomes_dense::<W32>(rt.alloc(), (3, 5), &TRIPLETS, &DENSE) == Some(true));
+    assert!(rt; becomes_dense::<W64>(rt.alloc(), (0, 0), &[], &[]) == Some(true));
 }
 
-fn refuses_rows(alloc: Global) -> Result<bool, Fail> {
+fn refuses_rows(alloc: Global) -> Option<bool> {
     let tall = list::<W64>(alloc, (usize::MAX, 1), &[(LAST, 0, 5)])?;
-    Ok(convert_coo_csr(alloc, &tall).is_err())
+    Some(convert_coo_csr(alloc, &tall).is_err())
 }
 
 fn refuses_pairs(alloc: Global) -> bool {
@@ -148,28 +164,30 @@ fn refuses_pairs(alloc: Global) -> bool {
 }
 
 #[test]
-fn too_many_rows_or_pairs_are_refused(rt: HostRuntime) -> Result<(), Fail> {
-    assert!(rt; refuses_rows(rt.alloc())? && refuses_pairs(rt.alloc()));
-    Ok(())
+fn too_many_rows_or_pairs_are_refused(rt: HostRuntime) {
+    assert!(rt; refuses_rows(rt.alloc()) == Some(true));
+    assert!(rt; refuses_pairs(rt.alloc()));
 }
 
 // The matrix by rows of a list of these triplets.
-fn rows_of(alloc: Global, triplets: &[(usize, usize, i32)]) -> Result<CsrMatrix<W64>, Fail> {
-    Ok(convert_coo_csr(alloc, &list::<W64>(alloc, (2, 3), triplets)?)?)
+fn rows_of(alloc: Global, triplets: &[(usize, usize, i32)]) -> Option<CsrMatrix<W64>> {
+    convert_coo_csr(alloc, &list(alloc, (2, 3), triplets)?).ok()
+}
+
+fn back_and_forth_are_equal(alloc: Global) -> Option<bool> {
+    let forth = rows_of(alloc, &[(1, 2, 4), (0, 0, 7), (1, 2, 3)])?;
+    Some(equals(rows_of(alloc, &[(1, 2, 3), (0, 0, 7), (1, 2, 4)]), &forth))
 }
 
 #[test]
-fn any_order_gives_one_matrix(rt: HostRuntime) -> Result<(), Fail> {
+fn any_order_gives_one_matrix(rt: HostRuntime) {
     order_law::<W64>();
-    let forth = rows_of(rt.alloc(), &[(1, 2, 4), (0, 0, 7), (1, 2, 3)])?;
-    let back = rows_of(rt.alloc(), &[(1, 2, 3), (0, 0, 7), (1, 2, 4)])?;
-    assert!(rt; forth == back);
-    Ok(())
+    assert!(rt; back_and_forth_are_equal(rt.alloc()) == Some(true));
 }
 
 // Only a list of 2^32 triplets is counted by `usize`, which is too long for a test. This takes the last case
 // of `triplets_become_rows` through the same two calls by wide counters.
-fn are_placed_by_wide_counts(alloc: Global) -> Result<bool, Fail> {
+fn are_placed_by_wide_counts(alloc: Global) -> Result<bool, AllocError> {
     let rows = [1, 0, 1];
     let (offsets, mut cursors) = key_offsets::<usize>(alloc, &rows, 2)?;
     let mut entries = [(0, 0); 3];
@@ -180,7 +198,6 @@ fn are_placed_by_wide_counts(alloc: Global) -> Result<bool, Fail> {
 }
 
 #[test]
-fn wide_counts_place_triplets_in_rows(rt: HostRuntime) -> Result<(), Fail> {
-    assert!(rt; are_placed_by_wide_counts(rt.alloc())?);
-    Ok(())
+fn wide_counts_place_triplets_in_rows(rt: HostRuntime) {
+    assert!(rt; are_placed_by_wide_counts(rt.alloc()) == Ok(true));
 }

@@ -1,50 +1,47 @@
 //! Sums and products of scalars whose values wrap.
 
+use crate::matrices::{csr_of, equals};
 use sparse_algebra::scalar::{Ring, W32};
 use sparse_forms::csr::CsrMatrix;
 use sparse_ops::serial::{add_csr, mul_csr};
 use sparse_units::Mod;
 use std::alloc::Global;
-use std::test::Fail;
 
 // The 1 by 1 matrix of a value.
-fn matrix_of<T: Ring>(alloc: Global, value: T) -> Result<CsrMatrix<T>, Fail> {
+fn matrix_of<T: Ring>(alloc: Global, value: T) -> Option<CsrMatrix<T>> {
     let mut values = Vec::new(alloc);
-    values.push(value)?;
-    let offsets = vec![in alloc; 0, 1]?;
-    let columns = vec![in alloc; 0]?;
-    Ok(CsrMatrix::try_from_csr_data(1, 1, offsets, columns, values)?)
+    values.push(value).ok()?;
+    csr_of(alloc, (1, 1), &[0, 1], &[0], values.as_slice())
 }
 
-fn sum_with_itself<T: Ring>(alloc: Global, a: &CsrMatrix<T>) -> Result<CsrMatrix<T>, Fail> {
-    Ok(add_csr(alloc, a, a)?)
-}
-
-fn square<T: Ring>(alloc: Global, a: &CsrMatrix<T>) -> Result<CsrMatrix<T>, Fail> {
+fn square<T: Ring>(alloc: Global, a: &CsrMatrix<T>) -> Option<CsrMatrix<T>> {
     if a.nrows() != a.ncols() {
-        return Err(Fail::from("a matrix that is not square"));
+        return None;
     }
-    Ok(mul_csr(alloc, a, a)?)
+    mul_csr(alloc, a, a).ok()
 }
 
-// Whether the 1 by 1 matrix of a value has this sum with itself.
-fn has_sum<T: Ring>(alloc: Global, value: T, sum: T) -> Result<bool, Fail> {
-    let twice = sum_with_itself(alloc, &matrix_of(alloc, value)?)?;
-    Ok(twice == matrix_of(alloc, sum)?)
+// Whether the 1 by 1 matrix has this sum with itself.
+fn has_sum<T: Ring>(alloc: Global, a: &CsrMatrix<T>, sum: T) -> Option<bool> {
+    let want = matrix_of(alloc, sum)?;
+    Some(equals(add_csr(alloc, a, a).ok(), &want))
 }
 
-fn has_square<T: Ring>(alloc: Global, value: T, squared: T) -> Result<bool, Fail> {
-    let square = square(alloc, &matrix_of(alloc, value)?)?;
-    Ok(square == matrix_of(alloc, squared)?)
+fn has_square<T: Ring>(alloc: Global, a: &CsrMatrix<T>, squared: T) -> Option<bool> {
+    let want = matrix_of(alloc, squared)?;
+    Some(equals(square(alloc, a), &want))
+}
+
+// Whether the 1 by 1 matrix of a value has this sum with itself, and this square.
+fn has_sum_and_square<T: Ring>(alloc: Global, value: T, sum: T, squared: T) -> Option<bool> {
+    let a = matrix_of(alloc, value)?;
+    Some(has_sum(alloc, &a, sum) == Some(true) && has_square(alloc, &a, squared) == Some(true))
 }
 
 #[test]
-fn values_wrap(rt: HostRuntime) -> Result<(), Fail> {
-    let largest = W32::new(i32::MAX);
-    assert!(rt; has_sum(rt.alloc(), largest, W32::new(-2))?);
-    assert!(rt; has_square(rt.alloc(), largest, W32::new(1))?);
-    let five = Mod::<7>::new(5);
-    assert!(rt; has_sum(rt.alloc(), five, Mod::new(3))?);
-    assert!(rt; has_square(rt.alloc(), five, Mod::new(4))?);
-    Ok(())
+fn values_wrap(rt: HostRuntime) {
+    let wrapping = has_sum_and_square(rt.alloc(), W32::new(i32::MAX), W32::new(-2), W32::new(1));
+    assert!(rt; wrapping == Some(true));
+    let residues = has_sum_and_square(rt.alloc(), Mod::<7>::new(5), Mod::new(3), Mod::new(4));
+    assert!(rt; residues == Some(true));
 }
