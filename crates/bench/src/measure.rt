@@ -62,7 +62,7 @@ pub fn measure<R: Files + Clock + AllocGlobal>(
     }
 }
 
-// The best of so many runs, at least one.
+// The best of `reps` runs; there is at least one run.
 fn best_of<R: Clock + AllocGlobal>(rt: &R, input: &Input, reps: usize) -> Result<Best, Failure> {
     let mut best = first_run(rt, input)?;
     for _ in 1..reps {
