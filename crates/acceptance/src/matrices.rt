@@ -7,7 +7,6 @@ use nalgebra_sparse::pattern::SparsityPattern;
 use nalgebra_sparse::scalar::{Ring, W32, W64, Zero};
 use nalgebra_sparse::{CooMatrix, CsrMatrix};
 use std::alloc::{AllocError, Global};
-use std::test::Fail;
 
 // A scalar that the tables state by an integer.
 trait Number: Ring {
@@ -63,52 +62,40 @@ fn csr<T: Number>(alloc: Global, list: List<'_>) -> Result<CsrMatrix<T>, AllocEr
     convert_coo_csr(alloc, &coo(alloc, list)?)
 }
 
-fn numbers<T: Number>(alloc: Global, values: &[i32]) -> Result<Vec<T>, AllocError> {
-    let mut numbers = Vec::new(alloc);
-    for value in values {
-        numbers.push(T::of(*value))?;
+// Whether the scalars are these numbers.
+fn are<T: Number>(values: &[T], numbers: &[i32]) -> bool {
+    if values.len() != numbers.len() {
+        return false;
     }
-    Ok(numbers)
-}
-
-fn has_rows<T: Number>(
-    alloc: Global,
-    matrix: &CsrMatrix<T>,
-    (offsets, columns, values): Rows<'_>,
-) -> Result<bool, AllocError> {
-    Ok(
-        matrix.row_offsets() == offsets
-            && matrix.col_indices() == columns
-            && matrix.values() == numbers(alloc, values)?.as_slice(),
-    )
-}
-
-fn are_rows_of_triplets<T: Number>(
-    alloc: Global,
-    cases: &[Conversion<'_>],
-) -> Result<bool, AllocError> {
-    for (list, rows) in cases {
-        let matrix: CsrMatrix<T> = csr(alloc, *list)?;
-        if !has_rows(alloc, &matrix, *rows)? {
-            return Ok(false);
+    for (value, number) in values.iter().zip(numbers) {
+        if *value != T::of(*number) {
+            return false;
         }
     }
-    Ok(true)
+    true
 }
 
-// Whether the pattern of the product of two matrices has these places, and is that of their product.
-fn has_pattern<T: Number>(
-    alloc: Global,
-    a: &CsrMatrix<T>,
-    b: &CsrMatrix<T>,
-    product: &CsrMatrix<T>,
-    places: &[(usize, usize)],
-) -> Result<bool, AllocError> {
-    if a.ncols() != b.nrows() {
-        return Ok(false);
+fn has_rows<T: Number>(matrix: &CsrMatrix<T>, (offsets, columns, values): Rows<'_>) -> bool {
+    matrix.row_offsets() == offsets
+        && matrix.col_indices() == columns
+        && are(matrix.values(), values)
+}
+
+// Whether a matrix was made, with these rows.
+fn rows_are<T: Number>(made: Result<CsrMatrix<T>, AllocError>, rows: Rows<'_>) -> bool {
+    match made {
+        Ok(matrix) => has_rows(&matrix, rows),
+        Err(_) => false,
     }
-    let pattern = spmm_csr_pattern(alloc, a.pattern(), b.pattern())?;
-    Ok(pattern == *product.pattern() && iterates_over(&pattern, places))
+}
+
+fn are_rows_of_triplets<T: Number>(alloc: Global, cases: &[Conversion<'_>]) -> bool {
+    for (list, rows) in cases {
+        if !rows_are::<T>(csr(alloc, *list), *rows) {
+            return false;
+        }
+    }
+    true
 }
 
 fn iterates_over(pattern: &SparsityPattern, places: &[(usize, usize)]) -> bool {
@@ -121,22 +108,34 @@ fn iterates_over(pattern: &SparsityPattern, places: &[(usize, usize)]) -> bool {
     entries.next() == None
 }
 
-// Whether two matrices have the product of a case.
+// Whether a product was made, with the size and the rows of a case, over this pattern.
+fn is_made<T: Number>(
+    made: Result<CsrMatrix<T>, AllocError>,
+    pattern: &SparsityPattern,
+    (left, right, _, rows): Product<'_>,
+) -> bool {
+    match made {
+        Ok(product) => {
+            (product.nrows(), product.ncols()) == (left.0.0, right.0.1)
+                && has_rows(&product, rows)
+                && product.pattern() == pattern
+        }
+        Err(_) => false,
+    }
+}
+
+// Whether two matrices have the product of a case, and its pattern has the places of the case.
 fn is_multiplied<T: Number>(
     alloc: Global,
     a: &CsrMatrix<T>,
     b: &CsrMatrix<T>,
-    (left, right, places, rows): Product<'_>,
+    case: Product<'_>,
 ) -> Result<bool, AllocError> {
     if a.ncols() != b.nrows() {
         return Ok(false);
     }
-    let product = mul_csr(alloc, a, b)?;
-    Ok(
-        (product.nrows(), product.ncols()) == (left.0.0, right.0.1)
-            && has_rows(alloc, &product, rows)?
-            && has_pattern(alloc, a, b, &product, places)?,
-    )
+    let pattern = spmm_csr_pattern(alloc, a.pattern(), b.pattern())?;
+    Ok(iterates_over(&pattern, case.2) && is_made(mul_csr(alloc, a, b), &pattern, case))
 }
 
 fn is_product<T: Number>(alloc: Global, case: Product<'_>) -> Result<bool, AllocError> {
@@ -145,13 +144,13 @@ fn is_product<T: Number>(alloc: Global, case: Product<'_>) -> Result<bool, Alloc
     is_multiplied(alloc, &a, &b, case)
 }
 
-fn are_products<T: Number>(alloc: Global, cases: &[Product<'_>]) -> Result<bool, AllocError> {
+fn are_products<T: Number>(alloc: Global, cases: &[Product<'_>]) -> bool {
     for case in cases {
-        if !is_product::<T>(alloc, *case)? {
-            return Ok(false);
+        if !matches!(is_product::<T>(alloc, *case), Ok(true)) {
+            return false;
         }
     }
-    Ok(true)
+    true
 }
 
 const RESIDUES: List<'static> = ((1, 2), &[(0, 1, 5), (0, 0, 3), (0, 1, 9)]);
@@ -167,8 +166,8 @@ const RESIDUE_PRODUCTS: &[Product<'static>] = &[(
 
 #[test]
 fn a_user_scalar(rt: HostRuntime) {
-    assert!(rt; are_rows_of_triplets::<Residue7>(rt.alloc(), RESIDUE_ROWS) == Ok(true));
-    assert!(rt; are_products::<Residue7>(rt.alloc(), RESIDUE_PRODUCTS) == Ok(true));
+    assert!(rt; are_rows_of_triplets::<Residue7>(rt.alloc(), RESIDUE_ROWS));
+    assert!(rt; are_products::<Residue7>(rt.alloc(), RESIDUE_PRODUCTS));
     let three = Residue7::of(3);
     assert!(rt; three.add(three.neg()) == Residue7::zero());
     assert!(rt; three.mul(Residue7::one()) == three);
@@ -190,34 +189,57 @@ const CONVERSIONS: &[Conversion<'static>] = &[
 
 #[test]
 fn triplets_become_rows(rt: HostRuntime) {
-    assert!(rt; are_rows_of_triplets::<W64>(rt.alloc(), CONVERSIONS) == Ok(true));
+    assert!(rt; are_rows_of_triplets::<W64>(rt.alloc(), CONVERSIONS));
 }
 
 // Whether triplets give the same matrix in another order, and its copy is equal.
-fn is_one_in_any_order(alloc: Global) -> Result<bool, AllocError> {
-    let one = csr(alloc, ((3, 4), &[(1, 3, 4), (2, 0, 1), (2, 3, 2)]))?;
-    let other = csr(alloc, ((3, 4), &[(2, 3, 2), (2, 0, 1), (1, 3, 4)]))?;
-    Ok(one == other && is_copied(alloc, &one, &other)?)
+fn is_one_in_any_order(alloc: Global) -> bool {
+    match csr(alloc, ((3, 4), &[(2, 3, 2), (2, 0, 1), (1, 3, 4)])) {
+        Ok(other) => is_copied(
+            alloc,
+            csr(alloc, ((3, 4), &[(1, 3, 4), (2, 0, 1), (2, 3, 2)])),
+            &other,
+        ),
+        Err(_) => false,
+    }
 }
 
+// Whether a matrix was made that equals the other one, and so does its copy.
 fn is_copied(
     alloc: Global,
-    one: &CsrMatrix<W64>,
+    made: Result<CsrMatrix<W64>, AllocError>,
     other: &CsrMatrix<W64>,
-) -> Result<bool, AllocError> {
-    Ok(one.clone(alloc)? == *other)
+) -> bool {
+    match made {
+        Ok(one) => one == *other && equals(one.clone(alloc), other),
+        Err(_) => false,
+    }
+}
+
+fn equals(made: Result<CsrMatrix<W64>, AllocError>, other: &CsrMatrix<W64>) -> bool {
+    match made {
+        Ok(matrix) => matrix == *other,
+        Err(_) => false,
+    }
 }
 
 #[test]
 fn any_order_gives_one_matrix(rt: HostRuntime) {
-    assert!(rt; is_one_in_any_order(rt.alloc()) == Ok(true));
+    assert!(rt; is_one_in_any_order(rt.alloc()));
+}
+
+// Whether a list of one triplet is refused, and kept.
+fn is_refused(alloc: Global, made: Result<CooMatrix<W64>, AllocError>) -> bool {
+    match made {
+        Ok(list) => convert_coo_csr(alloc, &list).is_err() && list.nnz() == 1,
+        Err(_) => false,
+    }
 }
 
 #[test]
-fn too_many_rows_are_refused(rt: HostRuntime) -> Result<(), Fail> {
-    let tall: CooMatrix<W64> = coo(rt.alloc(), ((usize::MAX, 1), &[(usize::MAX - 1, 0, 5)]))?;
-    assert!(rt; convert_coo_csr(rt.alloc(), &tall).is_err() && tall.nnz() == 1);
-    Ok(())
+fn too_many_rows_are_refused(rt: HostRuntime) {
+    let tall = coo(rt.alloc(), ((usize::MAX, 1), &[(usize::MAX - 1, 0, 5)]));
+    assert!(rt; is_refused(rt.alloc(), tall));
 }
 
 const ROW: List<'static> = ((1, 2), &[(0, 0, 2), (0, 1, 3)]);
@@ -244,7 +266,7 @@ const PRODUCTS: &[Product<'static>] = &[
 
 #[test]
 fn products(rt: HostRuntime) {
-    assert!(rt; are_products::<W64>(rt.alloc(), PRODUCTS) == Ok(true));
+    assert!(rt; are_products::<W64>(rt.alloc(), PRODUCTS));
 }
 
 const PLACES: &[Product<'static>] = &[
@@ -261,7 +283,7 @@ const PLACES: &[Product<'static>] = &[
 
 #[test]
 fn places_of_products(rt: HostRuntime) {
-    assert!(rt; are_products::<W64>(rt.alloc(), PLACES) == Ok(true));
+    assert!(rt; are_products::<W64>(rt.alloc(), PLACES));
 }
 
 const WRAPPED: &[Product<'static>] = &[
@@ -281,5 +303,5 @@ const WRAPPED: &[Product<'static>] = &[
 
 #[test]
 fn sums_and_products_wrap(rt: HostRuntime) {
-    assert!(rt; are_products::<W32>(rt.alloc(), WRAPPED) == Ok(true));
+    assert!(rt; are_products::<W32>(rt.alloc(), WRAPPED));
 }

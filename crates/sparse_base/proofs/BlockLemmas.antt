@@ -87,6 +87,21 @@ module _ {T : Type 0} where
     parts = pushed.parts;
   }
 
+  pub none_pushed : (r c : ℕ) (d : Dense T) (is js : List ℕ) (vs : List T)
+      → length is ≡ length vs → length js ≡ length vs → IsPushed r c d is js vs 0 0 is js vs
+  none_pushed r c d is js vs rows cols = record {
+    row_count = rows;
+    col_count = cols;
+    triplets = sym (append-nil (zip_triplets is js vs));
+    parts = λ _ _ parts _ _. parts;
+  }
+
+  pub all_pushed : (r c : ℕ) (d : Dense T) (is0 js0 : List ℕ) (vs0 : List T)
+      (is js : List ℕ) (vs : List T) → IsPushed r c d is0 js0 vs0 d.ncols 0 is js vs
+      → zip_triplets is js vs ≡ zip_triplets is0 js0 vs0 ++ block_triplets r c d
+  all_pushed r c d is0 js0 vs0 is js vs pushed = pushed.triplets
+      ∙ ap (λ l. zip_triplets is0 js0 vs0 ++ l) (append-nil (block_triplets r c d))
+
   pub empty_block : (r c : ℕ) (d : Dense T) → length d.values ≡ 0 → block_triplets r c d ≡ []
   empty_block r c d none = flat_map-nothing _ (below d.ncols)
       (λ j. flat_map-nothing _ (below d.nrows)

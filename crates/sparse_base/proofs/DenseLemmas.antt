@@ -71,6 +71,9 @@ module _ {T : Type 0} where
     pub placed : (k l : ℕ) (z : T) → k < n → l * n + k < j * n + i
         → get_or columns (l * n + k) z ≡ get_or rows (k * m + l) z
 
+  pub none_filled : (n m : ℕ) (rows : List T) → IsFilled n m rows [] 0 0
+  none_filled n m rows = record { count = omega arith; placed = λ k l z _ below. absurd (omega arith) }
+
   pub filled_more : (n m : ℕ) (rows columns : List T) (j i : ℕ) (v : T)
       → IsFilled n m rows columns j i → i < n → v ≡ get_or rows (i * m + j) v
       → i * m + j < length rows → IsFilled n m rows (columns ++ v ∷ []) j (i + 1)
@@ -90,6 +93,31 @@ module _ {T : Type 0} where
           (position_col n i j k l row inside here)
       by_place k l z inside (inr before) = get_or_append_left columns (v ∷ []) z (l * n + k)
           (omega (arith, filled.count)) ∙ filled.placed k l z inside before
+
+  pub column_filled : (n m : ℕ) (rows columns : List T) (j : ℕ)
+      → IsFilled n m rows columns j n → IsFilled n m rows columns (j + 1) 0
+  column_filled n m rows columns j filled =
+      let next : (j + 1) * n + 0 ≡ j * n + n = omega (arith, add-mul j 1 n) in
+      record { count = filled.count ∙ sym next; placed = rw next filled.placed }
+
+  pub all_filled : (n m : ℕ) (rows columns : List T) → IsFilled n m rows columns m 0
+      → HasValues n m (λ i j z. get_or rows (i * m + j) z) (dense_of n m columns)
+  all_filled n m rows columns filled = record {
+    rows = refl;
+    cols = refl;
+    count = omega (arith, filled.count, mul_comm n m);
+    values = λ i j z row col. filled.placed i j z row
+        (omega (arith, mul-add-lt j n i m col row, mul_comm n m));
+  }
+
+  pub no_values : (n m : ℕ) (value : ℕ → ℕ → T → T) → n * m ≡ 0
+      → HasValues n m value (dense_of n m [])
+  no_values n m value none = record {
+    rows = refl;
+    cols = refl;
+    count = sym none;
+    values = λ i j z row col. absurd (omega (arith, mul-add-lt i m j n row col, none));
+  }
 
 -- columns from the first one on, as a part of the values
 pub columns_within : (n first count cols : ℕ) → first + count ≤ cols

@@ -1,8 +1,7 @@
 -- The triplets that three lists give.
 use Rattle.std.proofs.Common.{◌≡◌, ℕ, zero, suc, ◌+◌, ◌<◌, List, [], ◌∷◌, ◌++◌, length, take}
 use Rattle.std.proofs.Common.{get_or, map, All, refl, ap, sym, ◌∙◌, arith}
-use Rattle.std.proofs.lemmas.Grind.{common_steps}
-use Rattle.std.proofs.lemmas.List.{take_more}
+use Rattle.std.proofs.lemmas.List.{take_more, length-append}
 use Rattle.std.proofs.lemmas.List.Elements.{All-push}
 use Rattle.sparse_base.specs.Coo.{coo_of, zip_triplets, AreParts, IsInside}
 
@@ -32,8 +31,18 @@ module _ {T : Type 0} where
       → AreParts n m is js vs → i < n → j < m
       → AreParts n m (is ++ i ∷ []) (js ++ j ∷ []) (vs ++ v ∷ [])
   sound_push n m is js vs i j v sound row col = record {
-    row_count = grind (arith, common_steps, sound.row_count);
-    col_count = grind (arith, common_steps, sound.col_count);
+    row_count = omega (
+      arith,
+      length-append is (i ∷ []),
+      length-append vs (v ∷ []),
+      sound.row_count,
+    );
+    col_count = omega (
+      arith,
+      length-append js (j ∷ []),
+      length-append vs (v ∷ []),
+      sound.col_count,
+    );
     rows_bounded = All-push (λ i. i < n) is i sound.rows_bounded row;
     cols_bounded = All-push (λ j. j < m) js j sound.cols_bounded col;
   }

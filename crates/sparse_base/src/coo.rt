@@ -1,6 +1,6 @@
 //! Matrices in coordinate form: lists of triplets.
 
-ghost use Rattle.std.specs.Prelude.{◌≡◌, ◌<◌, ◌≤◌, [], ◌∷◌, length, map, IsOk, IfOk, IfErr, OnOk, OnErr};
+ghost use Rattle.std.specs.Prelude.{◌≡◌, ◌+◌, ◌<◌, ◌≤◌, [], ◌∷◌, length, map, vec_len, vec_capacity, IsOk, IfOk, IfErr, OnOk, OnErr};
 ghost use Rattle.sparse_base.specs.Coo.{coo_of, zip_triplets, appended, AreParts, IsInside};
 ghost use Rattle.sparse_base.specs.TripletFaults.{IsFirstTripletFault};
 
@@ -143,9 +143,12 @@ impl<T> CooMatrix<T> {
     pub fn reserve(&mut self, additional: usize) -> Result<(), AllocError>
         ensures { self.new ≡ self.old }
     {
-        self.row_indices.reserve(additional)?;
-        self.col_indices.reserve(additional)?;
-        self.values.reserve(additional)
+        reserve_each(
+            &mut self.row_indices,
+            &mut self.col_indices,
+            &mut self.values,
+            additional,
+        )
     }
 
     /// Appends a triplet. `i` must be less than `nrows()`, and `j` less than `ncols()`.
@@ -159,9 +162,12 @@ impl<T> CooMatrix<T> {
         ensures ok { OnOk result (self.new ≡ appended self.old ((i, j, v) ∷ [])) }
         ensures err { OnErr result (self.new ≡ self.old) }
     {
-        self.row_indices.reserve(1)?;
-        self.col_indices.reserve(1)?;
-        self.values.reserve(1)?;
+        reserve_each(
+            &mut self.row_indices,
+            &mut self.col_indices,
+            &mut self.values,
+            1,
+        )?;
         self.row_indices.push_reserved(i);
         self.col_indices.push_reserved(j);
         self.values.push_reserved(v);
@@ -304,4 +310,24 @@ impl<T: Eq> Eq for CooMatrix<T> {
     ghost use Rattle.sparse_base.specs.CooEquality.{coo_eq-equiv};
 
     ghost laws = { coo_eq-equiv T.Eq.laws };
+}
+
+// Reserves memory for at least `additional` more elements in each of three lists. The elements are unchanged.
+#[inline(always)]
+fn reserve_each<T>(
+    rows: &mut Vec<usize>,
+    cols: &mut Vec<usize>,
+    values: &mut Vec<T>,
+    additional: usize,
+) -> Result<(), AllocError>
+    ensures rows { rows.new.items ≡ rows.old.items }
+    ensures cols { cols.new.items ≡ cols.old.items }
+    ensures values { values.new.items ≡ values.old.items }
+    ensures row_room { OnOk result (vec_len rows.new + additional ≤ vec_capacity rows.new) }
+    ensures col_room { OnOk result (vec_len cols.new + additional ≤ vec_capacity cols.new) }
+    ensures room { OnOk result (vec_len values.new + additional ≤ vec_capacity values.new) }
+{
+    rows.reserve(additional)?;
+    cols.reserve(additional)?;
+    values.reserve(additional)
 }

@@ -221,7 +221,6 @@ impl<T> DMatrix<T> {
     /// Returns the values of `count` columns from column `first` on, column by column, borrowed mutably.
     ///
     /// `first + count` must not exceed `ncols()`. The other columns are unchanged.
-    #[tactic(auto, using(crate::proofs::DenseLemmas::columns_within, crate::proofs::DenseLemmas::columns_read))]
     pub fn columns_mut(&mut self, first: usize, count: usize) -> &mut [T]
         requires { first + count ≤ self.old.ncols }
         ensures* writes_back { sem 𝓛 (LendsColumn T.row self.entry first result) }

@@ -6,6 +6,7 @@ use Rattle.std.specs.Prelude.{nat_eq, ◌||◌}
 use Rattle.std.specs.List.{list_any}
 use Rattle.std.proofs.lemmas.Grind.{common_steps}
 use Rattle.std.proofs.lemmas.Bool.Decides.{Decides-eqb, nat_tests}
+use Rattle.std.proofs.lemmas.List.{length-map, get_or_append_left, get_or-append_right, get_or-map}
 use Rattle.sparse_lemmas.proofs.Cases.{three, true_or_false}
 use Rattle.sparse_algebra.specs.Algebra.{CommRing}
 use Rattle.sparse_algebra.specs.Sums.{sum_by, where_true}
@@ -38,7 +39,7 @@ module _ (d : Raw) (valid : IsValid d) where
       let rest = entries_from d.offsets d.indices (k + 1) n in
       let low = starts_ordered d valid k i le (omega (arith, h.lane)) in
       let long : length front ≡ end_of d k - start_of d k =
-      grind (arith, common_steps, length-lane d k lane) in
+      length-map (lane_of d k) (λ j. (k, j)) ∙ length-lane d k lane in
       elim (three k i) [
         | inl lt ↦
             let after = starts_ordered d valid (k + 1) i (omega arith) (omega (arith, h.lane)) in
@@ -48,7 +49,8 @@ module _ (d : Raw) (valid : IsValid d) where
             let less : p - start_of d k - length front ≡ p - start_of d (k + 1) =
             omega (arith, long, h.from, after, lane.ordered) in
             let right : get_or (front ++ rest) (p - start_of d k) (0, 0) ≡ get_or rest
-            (p - start_of d k - length front) (0, 0) = grind (arith, common_steps, off) in
+            (p - start_of d k - length front) (0, 0) =
+            get_or-append_right front rest (length front) (p - start_of d k) (0, 0) refl off in
             right ∙ ap (λ q. get_or rest q (0, 0)) less ∙ ih
         | inr more ↦ elim more [
           | inl gt ↦ absurd (omega arith)
@@ -59,10 +61,11 @@ module _ (d : Raw) (valid : IsValid d) where
               let inside' : p - start_of d k < length (lane_of d k) =
               omega (arith, length-lane d k lane, from', to') in
               let left : get_or (front ++ rest) (p - start_of d k) (0, 0) ≡ get_or front
-              (p - start_of d k) (0, 0) = grind (arith, common_steps, inside) in
+              (p - start_of d k) (0, 0) =
+              get_or_append_left front rest (0, 0) (p - start_of d k) inside in
               let mapped : get_or front (p - start_of d k) (0, 0)
               ≡ (k, get_or (lane_of d k) (p - start_of d k) 0) =
-              grind (arith, common_steps, inside') in
+              get_or-map (λ j. (k, j)) (lane_of d k) (p - start_of d k) 0 (0, 0) inside' in
               let back : start_of d k + (p - start_of d k) ≡ p = omega (arith, from') in
               left ∙ mapped ∙ ap (λ x. (k, x)) (get_or-lane d k lane (p - start_of d k) inside'
               ∙ ap (λ q. get_or d.indices q 0) back) ∙ ap (λ l. (l, slice_index d.indices p)) same

@@ -2,12 +2,11 @@
 use Rattle.std.proofs.Common.{◌≡◌, ℕ, ◌+◌, ◌-◌, ◌<◌, ◌≤◌, ◌⊎◌, inl, inr, ◌↔◌, List, [], length}
 use Rattle.std.proofs.Common.{get_or, take, drop, Option, Some, None, Result, Ok, Err, ap, sym, ◌∙◌}
 use Rattle.std.proofs.Common.{refl, arith}
-use Rattle.std.specs.Prelude.{◌==◌, position, option_map}
+use Rattle.std.specs.Prelude.{◌==◌, position, option_map, nat_lt, cond}
 use Rattle.std.specs.List.Sorted.{IsBinarySearchResult, IsStrictlyIncreasing}
 use Rattle.std.specs.Ordering.{nat_cmp}
 use Rattle.std.specs.Result.{result_ok}
 use Rattle.std.proofs.lemmas.Bool.Decides.{nat_tests}
-use Rattle.std.proofs.lemmas.Grind.{common_steps}
 use Rattle.std.proofs.lemmas.List.Kept.{AllPairs-from_increasing}
 use Rattle.std.proofs.lemmas.List.Sorted.{searched}
 use Rattle.std.proofs.lemmas.List.Sums.{position_or_len_is}
@@ -15,6 +14,7 @@ use Rattle.std.proofs.lemmas.List.{get_or_past}
 use Rattle.std.proofs.lemmas.List.Quantifiers.{position-Some}
 use Rattle.std.proofs.lemmas.Option.{none-some, same_Some}
 use Rattle.sparse_lemmas.proofs.Cases.{lt_or_ge}
+use borrow.Author.Tests.{lt-ltb, le-ltb}
 use Rattle.sparse_pattern.specs.Raw.{Raw, start_of, end_of, lane_of, IsValid, IsValidLane}
 use Rattle.sparse_pattern.proofs.PatternLanes.{lane_rises, length-lane, get_or-lane}
 use Rattle.sparse_cs.specs.Compressed.{IsPosition}
@@ -35,7 +35,8 @@ position_at xs j k rising within is =
     let here = position_or_len_is (λ x. x == j) xs k 0 (omega arith)
     (λ l lt. grind (arith, nat_tests, AllPairs-from_increasing xs rising l k 0))
     (λ lt. grind (arith, nat_tests)) in
-    grind (arith, common_steps, nat_tests, here)
+    ap (λ n. cond (nat_lt n (length xs)) (Some n) None) here
+    ∙ ap (λ b. cond b (Some k) None) (lt-ltb k (length xs) within)
 
 -- a binary search in rising indices finds the position
 pub search_is_position : (xs : List ℕ) (j : ℕ) (r : Result ℕ ℕ) → IsStrictlyIncreasing xs
@@ -47,7 +48,8 @@ search_is_position xs j (Err k) rising is =
     let gap = searched xs j (Err k) is (not_falling xs rising) in
     let past = position_or_len_is (λ x. x == j) xs (length xs) 0 (omega arith)
     (λ l lt. grind (arith, nat_tests, gap.1 l, gap.2 l)) (λ lt. absurd (omega arith)) in
-    grind (arith, common_steps, nat_tests, past)
+    sym (ap (λ n. cond (nat_lt n (length xs)) (Some n) None) past
+    ∙ ap (λ b. cond b (Some (length xs)) None) (le-ltb (length xs) (length xs) (omega arith)))
 
 none_or_some : {X : Type 0} (o : Option X) → (o ≡ None) ⊎ ((x : X) × (o ≡ Some x))
 none_or_some None = inl refl

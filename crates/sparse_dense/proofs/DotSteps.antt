@@ -1,6 +1,7 @@
 -- Dot products and multiples, term after term.
 use Rattle.std.proofs.Common.{◌≡◌, ℕ, suc, ◌+◌, ◌<◌, Bool, true, false, List, length, get_or, take}
-use Rattle.std.proofs.Common.{ap, sym, ◌∙◌, arith}
+use Rattle.std.proofs.Common.{min, ap, sym, ◌∙◌, arith}
+use Rattle.std.proofs.lemmas.List.{take_all}
 use Rattle.sparse_algebra.specs.Algebra.{CommRing}
 use Rattle.sparse_algebra.specs.Sums.{sum_below}
 use Rattle.sparse_algebra.specs.Plain.{Plain, plain_product, plain_transpose}
@@ -22,6 +23,14 @@ module _ (R : CommRing) {T : Type 0} (f : T → R.Carrier) where
   dot_more x ks vs n k v sum new lt lt' is is' added so_far =
       added ∙ ap (λ s. R.add s (R.mul (f v) (x k))) so_far
       ∙ sym (sum_zip_more R (λ t. R.mul (f t.1) (x t.0)) ks vs n k v lt lt' is is')
+
+  -- all terms
+  pub dot_all : (x : ℕ → R.Carrier) (ks : List ℕ) (vs : List T) (n : ℕ) (sum : T)
+      → length vs ≡ length ks → n ≡ min (length ks) (length vs)
+      → f sum ≡ dot_of R f (take n ks) (take n vs) x → f sum ≡ dot_of R f ks vs x
+  dot_all x ks vs n sum fits end so_far =
+      so_far ∙ ap (λ l. dot_of R f l (take n vs) x) (take_all n ks (omega (arith, fits, end)))
+      ∙ ap (λ l. dot_of R f ks l x) (take_all n vs (omega (arith, fits, end)))
 
   -- the dot product of a lane with a vector is an entry of the matrix times the vector
   pub lane_sum : (z : T) (m : Compressed T) → IsSound m → (i : ℕ) → i < m.pattern.major_dim

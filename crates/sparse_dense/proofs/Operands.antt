@@ -1,11 +1,13 @@
 -- The columns of op(B), and a lane's indices.
 use Rattle.std.proofs.Common.{◌≡◌, ℕ, ◌+◌, ◌-◌, ◌*◌, ◌<◌, List, length, get_or, take, drop, All, ap}
-use Rattle.std.proofs.Common.{sym, subst, ◌∙◌, refl, arith}
+use Rattle.std.proofs.Common.{Bool, true, false, sym, subst, ◌∙◌, refl, arith}
 use Rattle.std.proofs.lemmas.List.{get_or_default, get_or-drop, take_rest}
+use Rattle.sparse_algebra.specs.Algebra.{CommRing}
+use Rattle.sparse_algebra.specs.Plain.{Plain}
 use Rattle.sparse_pattern.specs.Raw.{start_of, lane_of}
 use Rattle.sparse_pattern.proofs.PatternLanes.{length-lane, get_or-lane}
 use Rattle.sparse_cs.specs.Compressed.{Compressed, IsSound}
-use Rattle.sparse_dense.specs.InnerUpdates.{HasStrided}
+use Rattle.sparse_dense.specs.InnerUpdates.{HasStrided, plain_turned}
 
 -- every n-th element from the s-th on
 pub from_start : {X : Type 0} (xs : List X) (n j k s : ℕ) (z : X) → s ≡ j
@@ -36,3 +38,32 @@ lane_strided m sound i lane ks is xs step inside =
     subst (All (λ k. k * step < length xs)) (sym is)
     (λ q d lt. inside (get_or (lane_of m.pattern i) q d)
     (lane_inside m sound i m.pattern.minor_dim lane refl q d lt))
+
+-- each step-th element for fewer indices, where the step and the count are said otherwise
+pub strided_inside : {X : Type 0} (xs : List X) (s t m n : ℕ) → s ≡ t → m ≡ n → HasStrided xs t n
+    → HasStrided xs s m
+strided_inside xs s t m n step count inside = λ k lt.
+    subst (λ s. k * s < length xs) (sym step) (inside k (omega (arith, lt, count)))
+
+module _ (R : CommRing) where
+  -- the rows and columns of a matrix that is not transposed
+  pub plain_rows : (turned : Bool) (a : Plain R) → turned ≡ false → (plain_turned R turned a).rows
+      ≡ a.rows
+  plain_rows true a e = cc
+  plain_rows false a e = refl
+
+  pub plain_cols : (turned : Bool) (a : Plain R) → turned ≡ false → (plain_turned R turned a).cols
+      ≡ a.cols
+  plain_cols true a e = cc
+  plain_cols false a e = refl
+
+  -- the rows and columns of one that is
+  pub turned_rows : (turned : Bool) (a : Plain R) → turned ≡ true → (plain_turned R turned a).rows
+      ≡ a.cols
+  turned_rows true a e = refl
+  turned_rows false a e = cc
+
+  pub turned_cols : (turned : Bool) (a : Plain R) → turned ≡ true → (plain_turned R turned a).cols
+      ≡ a.rows
+  turned_cols true a e = refl
+  turned_cols false a e = cc

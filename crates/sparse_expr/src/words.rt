@@ -1,6 +1,6 @@
 //! From words to an expression.
 
-ghost use Rattle.std.specs.Prelude.{◌≡◌, ◌⊎◌, ◌<◌, ◌≤◌, [], ◌∷◌, ◌++◌, OnOk, IfOk, IfErr, length};
+ghost use Rattle.std.specs.Prelude.{◌≡◌, ◌⊎◌, ◌<◌, ◌≤◌, [], ◌∷◌, ◌++◌, OnOk, IfOk, IfErr, length, box_value};
 ghost use Rattle.std.specs.List.{flat_map};
 ghost use Rattle.sparse_expr.specs.PostfixWords.{token_of, operator_of, words_of, texts, takes, postfix, IsSaid, IsRefused};
 ghost use Rattle.sparse_expr.specs.declared.error.ExprError.TheVariants.{MissingOperand, LeftOver, OutOfMemory};
@@ -126,43 +126,49 @@ fn apply(alloc: Global, token: Token, stack: &mut Vec<Expr>) -> Result<(), ExprE
     let tree = match token {
         Token::Operand(number) => Expr::Input(number),
         Token::Plus => {
-            let (a, b) = operands(stack)?;
-            Expr::Add(Box::new(alloc, a)?, Box::new(alloc, b)?)
+            let (a, b) = operands(alloc, stack)?;
+            Expr::Add(a, b)
         }
         Token::Minus => {
-            let (a, b) = operands(stack)?;
-            Expr::Sub(Box::new(alloc, a)?, Box::new(alloc, b)?)
+            let (a, b) = operands(alloc, stack)?;
+            Expr::Sub(a, b)
         }
         Token::Times => {
-            let (a, b) = operands(stack)?;
-            Expr::Mul(Box::new(alloc, a)?, Box::new(alloc, b)?)
+            let (a, b) = operands(alloc, stack)?;
+            Expr::Mul(a, b)
         }
-        Token::Turn => Expr::Transpose(Box::new(alloc, operand(stack)?)?),
-        Token::Negate => Expr::Neg(Box::new(alloc, operand(stack)?)?),
+        Token::Turn => Expr::Transpose(operand(alloc, stack)?),
+        Token::Negate => Expr::Neg(operand(alloc, stack)?),
     };
     stack.push(tree)?;
     Ok(())
 }
 
-// Pops one tree.
-fn operand(stack: &mut Vec<Expr>) -> Result<Expr, ExprError>
-    ensures taken { IfOk result (λ a. stack.old.items ≡ stack.new.items ++ a ∷ []) }
-    ensures refused { IfErr result (λ e. (e ≡ MissingOperand) × (length stack.old.items < 1)) }
+// Pops one tree and boxes it.
+fn operand(alloc: Global, stack: &mut Vec<Expr>) -> Result<Box<Expr>, ExprError>
+    ensures taken { IfOk result (λ a. stack.old.items ≡ stack.new.items ++ box_value a ∷ []) }
+    ensures refused { IfErr result (λ e. (e ≡ OutOfMemory)
+        ⊎ ((e ≡ MissingOperand) × (length stack.old.items < 1))) }
 {
-    stack.pop().ok_or(ExprError::MissingOperand)
+    match stack.pop() {
+        Some(tree) => Ok(Box::new(alloc, tree)?),
+        None => Err(ExprError::MissingOperand),
+    }
 }
 
-// Pops two trees; the one pushed first comes first.
-fn operands(stack: &mut Vec<Expr>) -> Result<(Expr, Expr), ExprError>
-    ensures taken { IfOk result (λ p. stack.old.items ≡ stack.new.items ++ p.0 ∷ p.1 ∷ []) }
-    ensures refused { IfErr result (λ e. (e ≡ MissingOperand) × (length stack.old.items < 2)) }
+// Pops two trees and boxes them; the one pushed first comes first.
+fn operands(alloc: Global, stack: &mut Vec<Expr>) -> Result<(Box<Expr>, Box<Expr>), ExprError>
+    ensures taken { IfOk result
+        (λ p. stack.old.items ≡ stack.new.items ++ box_value p.0 ∷ box_value p.1 ∷ []) }
+    ensures refused { IfErr result (λ e. (e ≡ OutOfMemory)
+        ⊎ ((e ≡ MissingOperand) × (length stack.old.items < 2))) }
 {
     if stack.len() < 2 {
         return Err(ExprError::MissingOperand);
     }
     let b = stack.pop().unwrap();
     let a = stack.pop().unwrap();
-    Ok((a, b))
+    Ok((Box::new(alloc, a)?, Box::new(alloc, b)?))
 }
 
 // Returns the only tree of the stack.

@@ -99,11 +99,7 @@ impl CscSymbolicCholesky {
         ensures no_more { (fill : List (ℕ × ℕ)) → ListsFill (UpperBase pattern) fill
             → steps.new ≤ steps.old + nnz_of pattern + length fill }
     {
-        let l_pattern = if MAX_32_BITS < pattern.major_dim() {
-            fill_of::<usize>(alloc, &pattern, steps)?
-        } else {
-            fill_of::<u32>(alloc, &pattern, steps)?
-        };
+        let l_pattern = fill_of(alloc, &pattern, steps)?;
         Ok(CscSymbolicCholesky { pattern, l_pattern })
     }
 
@@ -125,8 +121,30 @@ impl CscSymbolicCholesky {
     }
 }
 
-// Returns the pattern of the factor. The type of the scratch arrays must hold the number of columns.
-fn fill_of<C: Count>(
+// Returns the pattern of the factor.
+fn fill_of(
+    alloc: Global,
+    pattern: &SparsityPattern,
+    steps: &mut Steps,
+) -> Result<SparsityPattern, AllocError>
+    requires { pattern.now.major_dim ≡ pattern.now.minor_dim }
+    ensures rows { IfOk result (λ l. l.minor_dim ≡ pattern.now.minor_dim) }
+    ensures columns { IfOk result (λ l. l.major_dim ≡ pattern.now.major_dim) }
+    ensures places { IfOk result (λ l. (i j : ℕ) → IsPlace l j i ↔ Filled (UpperBase pattern.now) i j) }
+    ensures valid { IfOk result IsValid }
+    ensures all_read { OnOk result (steps.old + nnz_of pattern.now ≤ steps.new) }
+    ensures no_more { (fill : List (ℕ × ℕ)) → ListsFill (UpperBase pattern.now) fill
+        → steps.new ≤ steps.old + nnz_of pattern.now + length fill }
+{
+    if MAX_32_BITS < pattern.major_dim() {
+        fill_with_scratch::<usize>(alloc, pattern, steps)
+    } else {
+        fill_with_scratch::<u32>(alloc, pattern, steps)
+    }
+}
+
+// Does the same with scratch arrays of a type that holds the number of columns.
+fn fill_with_scratch<C: Count>(
     alloc: Global,
     pattern: &SparsityPattern,
     steps: &mut Steps,

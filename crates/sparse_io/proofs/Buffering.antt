@@ -1,6 +1,7 @@
 -- A matrix's text, made line by line, that goes to a sink through a buffer.
 use Rattle.std.proofs.Common.{◌≡◌, ℕ, List, [], ◌∷◌, ◌++◌, Option, refl, sym, ap, ◌∙◌, subst}
-use Rattle.std.proofs.Common.{append_assoc, append-nil, length}
+use Rattle.std.proofs.Common.{append_assoc, append-nil, length, Result, Ok, Err, OnOk}
+use Rattle.std.specs.Prelude.{OnErr}
 use Rattle.std.specs.List.{flat_map}
 use Rattle.std.specs.Io.KnownBytes.{Appends}
 use Rattle.std.proofs.KnownBytes.{Appends-nil, Appends-trans}
@@ -150,3 +151,12 @@ AppendsSome-none old bytes = record {
   appended =
       Appends-nil old;
 }
+
+-- a consequence of what is so on success, or on failure
+pub on_ok-map : {A E P Q : Type 0} (r : Result A E) → (P → Q) → OnOk r P → OnOk r Q
+on_ok-map (Ok x) f h = f h
+on_ok-map (Err e) f h = h
+
+pub on_err-map : {A E P Q : Type 0} (r : Result A E) → (P → Q) → OnErr r P → OnErr r Q
+on_err-map (Ok x) f h = h
+on_err-map (Err e) f h = f h

@@ -91,6 +91,21 @@ where
     push_sizes(text, matrix.nrows(), matrix.ncols(), matrix.nnz())
 }
 
+// A buffer with the lines before those of the triplets.
+fn head<T, S>(alloc: Global, matrix: &S) -> Result<String, AllocError>
+where
+    T: MatrixMarketScalar,
+    S: MatrixMarketExport<T>,
+    ensures head { IfOk result
+        (λ text. string_bytes text ≡ head_of T.scalar.name (S.exported matrix.now)) }
+    ensures nrows { OnOk result ((S.exported matrix.now).nrows ≤ usize.MAX) }
+    ensures ncols { OnOk result ((S.exported matrix.now).ncols ≤ usize.MAX) }
+{
+    let mut text = String::with_capacity(alloc, CAPACITY)?;
+    push_head(&mut text, matrix)?;
+    Ok(text)
+}
+
 // Writes the buffer to the sink and clears it.
 #[inline(never)]
 fn flush<W: Sink>(sink: &mut W, text: &mut String) -> Result<(), MatrixMarketError>
@@ -171,14 +186,12 @@ where
         (λ e. IsRefusedWrite (kind_of e) (W.failures sink.old) (W.failures sink.new)
         (W.last sink.new)) }
 {
-    let mut text = String::with_capacity(alloc, CAPACITY)?;
-    push_head(&mut text, matrix)?;
+    let mut text = head(alloc, matrix)?;
     let mut room = [b' '; ROOM];
     for (row, col, value) in matrix.triplet_iter() {
         put_triplet(sink, &mut text, &mut room, row, col, value)?;
     }
-    flush(sink, &mut text)?;
-    Ok(())
+    flush(sink, &mut text)
 }
 
 /// Returns the text that [`save_to_matrix_market`] writes. Fails only if an allocation fails.

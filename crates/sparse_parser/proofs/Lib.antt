@@ -8,6 +8,7 @@ pub mod IntegerLaws
 pub mod Fronts
 pub mod LineLaws
 pub mod LineShapes
+pub mod DataLines
 pub mod NumberLaws
 pub mod Signs
 pub mod WordLaws

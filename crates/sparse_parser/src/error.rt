@@ -8,8 +8,8 @@ ghost use Rattle.sparse_parser.specs.ErrorTexts.{kind_name, cause_message, messa
 
 use sparse_pattern::error::{SparseFormatError, SparseFormatErrorKind};
 use std::alloc::{AllocError, AllocFailed};
-use std::io;
 use std::num::{ParseIntError, TryFromIntError};
+use std::{fmt, io};
 use thiserror::Error;
 
 /// The kind of an error in reading or writing a Matrix Market text.
@@ -61,7 +61,7 @@ impl MatrixMarketErrorKind {
 }
 
 /// The cause of an error. It determines the kind and the message.
-#[derive(Clone, Copy, Debug)]
+#[derive(Clone, Copy)]
 pub enum Cause {
     Grammar,
     RealHermitian,
@@ -163,7 +163,7 @@ impl Cause {
 }
 
 /// An error in reading or writing a Matrix Market text.
-#[derive(Debug, Drop, Error)]
+#[derive(Drop, Error)]
 #[error("Matrix Market error: {}, message: {}", .cause.kind().name(), .cause.message())]
 pub struct MatrixMarketError {
     cause: Cause,
@@ -189,6 +189,15 @@ impl MatrixMarketError {
         ensures { result.now ≡ message_of self.now }
     {
         self.cause.message()
+    }
+}
+
+impl fmt::Debug for MatrixMarketError {
+    fn fmt<W: fmt::Write>(&self, f: &mut fmt::Formatter<W>) -> fmt::Result {
+        f.debug_struct("MatrixMarketError")
+            .field("error_kind", &self.kind())
+            .field("message", &self.message())
+            .finish()
     }
 }
 

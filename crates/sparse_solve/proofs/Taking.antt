@@ -2,7 +2,6 @@
 use Rattle.std.proofs.Common.{◌≡◌, ℕ, ◌+◌, ◌-◌, ◌*◌, ◌<◌, ◌≤◌, inl, inr, List, length, get_or, set}
 use Rattle.std.proofs.Common.{slice_range, ap, sym, subst, ◌∙◌, refl, arith, add-one}
 use Rattle.std.proofs.Common.{get_or-set_same, get_or-set_other, length-set}
-use Rattle.std.proofs.lemmas.List.{get_or_default}
 use Rattle.sparse_lemmas.proofs.Cases.{lt_add_one_cases, lt_or_ge}
 use Rattle.sparse_algebra.specs.Algebra.{CommRing}
 use Rattle.sparse_algebra.specs.Plain.{Plain, IsProper}
@@ -80,31 +79,27 @@ module _ (R : CommRing) {T : Type 0} (f : T → R.Carrier) (z : T) where
         takes) h
 
     -- the answer of row k is written, after the rows that follow it
-    pub backward_list : (step : ℕ) (entry known minus rest new : T) → m.pattern.minor_dim ≡ length b
-        → k + 1 + step ≡ length b
-        → entry ≡ get_or x k entry → f known ≡ dot_of R f rows values (entries R f z x)
-        → f minus ≡ R.neg (f known) → f rest ≡ R.add (f entry) (f minus)
-        → f new ≡ R.mul (f rest) (f e)
+    pub backward_list : (step : ℕ) (known : T) (y : List T) → m.pattern.minor_dim ≡ length b
+        → k + 1 + step ≡ length b → f known ≡ dot_of R f rows values (entries R f z x)
+        → y ≡ set x k (get_or y k z)
+        → f (get_or y k z) ≡ R.mul (R.add (f (get_or x k z)) (R.neg (f known))) (f e)
         → IsBackward R (length b) (length b - step) (lower R f m) (entries R f z x)
         (entries R f z b)
-        → IsBackward R (length b) (length b - (step + 1)) (lower R f m)
-        (entries R f z (set x k new)) (entries R f z b)
-    backward_list step entry known minus rest new square place read known_is minus_is rest_is new_is
-        h =
+        → IsBackward R (length b) (length b - (step + 1)) (lower R f m) (entries R f z y)
+        (entries R f z b)
+    backward_list step known y square place known_is written is h =
         let n = length b in
-        let within : k < length x = omega (arith, lt, same) in
+        let new = get_or y k z in
         let old : n - step ≡ k + 1 = omega (arith, place) in
         let next : n - (step + 1) ≡ k = omega (arith, place) in
-        let is : f new ≡ R.mul (R.add (f (get_or x k z)) (R.neg (f known))) (f e) = new_is
-        ∙ ap (λ v. R.mul v (f e)) (rest_is ∙ ap (λ v. R.add v (f minus))
-        (ap f (read ∙ get_or_default x k entry z within))
-        ∙ ap (R.add (f (get_or x k z))) minus_is) in
         let before = subst (λ j. IsBackward R n j (lower R f m) (entries R f z x) (entries R f z b))
         old h in
         let after = backward_column R f z (plain_of_cols R f m) (λ i j. proper_rows R f m j i) n k
         rows values e column x (entries R f z b) lt same new known square known_is is before in
-        subst (λ j. IsBackward R n j (lower R f m) (entries R f z (set x k new)) (entries R f z b))
-        (sym next) after
+        subst (λ ys. IsBackward R n (n - (step + 1)) (lower R f m) (entries R f z ys)
+        (entries R f z b)) (sym written)
+        (subst (λ j. IsBackward R n j (lower R f m) (entries R f z (set x k new)) (entries R f z b))
+        (sym next) after)
 
   -- after the last row the list is solved
   pub forward_solved : (t : ℕ → ℕ → R.Carrier) (k : ℕ) (b x : List T) → k ≡ length b

@@ -1,11 +1,12 @@
 //! Backward substitution with the transpose of a lower triangle: the column below the diagonal is the row of the transpose after it.
 
-ghost use Rattle.std.specs.Prelude.{◌≡◌, length};
+ghost use Rattle.std.specs.Prelude.{◌≡◌, ◌<◌, length, slice_index_or, slice_set};
 ghost use Rattle.sparse_cs.specs.PlainOfLanes.{plain_of_cols};
 ghost use Rattle.sparse_solve.specs.InnerColumns.{HasPivots, SolvesList, lower};
 
 use crate::column::column_below;
 use crate::kernels::{dot, four_dots};
+use sparse_algebra::scalar::Ring;
 use sparse_forms::csc::CscMatrix;
 use sparse_units::Units;
 
@@ -26,7 +27,7 @@ pub fn solve_backward<T: Units>(l: &CscMatrix<T>, x: &mut [T])
             return;
         };
         let known = dot(rows, values, column.begin, column.end, x);
-        x[k] = x[k].add(known.neg()).mul(column.inverse);
+        solve_row(x, k, known, column.inverse);
     }
 }
 
@@ -64,9 +65,21 @@ pub fn solve_four_backward<T: Units>(
         let (begin, end) = (column.begin, column.end);
         let (a, b, c, d) = four_dots(rows, values, begin, end, first, second, third, fourth);
         let e = column.inverse;
-        first[k] = first[k].add(a.neg()).mul(e);
-        second[k] = second[k].add(b.neg()).mul(e);
-        third[k] = third[k].add(c.neg()).mul(e);
-        fourth[k] = fourth[k].add(d.neg()).mul(e);
+        solve_row(first, k, a, e);
+        solve_row(second, k, b, e);
+        solve_row(third, k, c, e);
+        solve_row(fourth, k, d, e);
     }
+}
+
+// Writes the answer of row k: its entry less the sum of the known terms, times the inverse of the diagonal entry.
+#[inline(always)]
+fn solve_row<T: Ring>(x: &mut [T], k: usize, known: T, inverse: T)
+    requires { k < length x.old }
+    ensures written { x.new ≡ slice_set x.old k (slice_index_or x.new k T.zero_value) }
+    ensures value { T.value (slice_index_or x.new k T.zero_value)
+        ≡ T.ring.mul (T.ring.add (T.value (slice_index_or x.old k T.zero_value))
+        (T.ring.neg (T.value known))) (T.value inverse) }
+{
+    x[k] = x[k].add(known.neg()).mul(inverse);
 }

@@ -1,90 +1,138 @@
 //! Dense matrices: order of the values, writing, equality and refused sizes.
 
+use crate::slices::are_equal;
 use sparse_algebra::scalar::W64;
 use sparse_base::dense::DMatrix;
 use std::alloc::{AllocError, Global};
 
-fn rows_and_columns_give_one_matrix(alloc: Global) -> Result<bool, AllocError> {
-    let by_rows = DMatrix::from_row_slice(alloc, 2, 3, &[1, 2, 3, 4, 5, 6])?;
-    let by_columns = DMatrix::from_column_slice(alloc, 2, 3, &[1, 4, 2, 5, 3, 6])?;
-    Ok(
-        by_rows == by_columns
-            && by_rows.as_slice() == [1, 4, 2, 5, 3, 6].as_slice()
-            && (by_rows.nrows(), by_rows.ncols()) == (2, 3),
-    )
+// Whether a matrix was made that is equal to the other.
+fn made_equals<T: Copy + PartialEq>(
+    made: Result<DMatrix<T>, AllocError>,
+    other: &DMatrix<T>,
+) -> bool {
+    match made {
+        Ok(matrix) => matrix == *other,
+        Err(_error) => false,
+    }
 }
 
-fn a_set_value_is_read(alloc: Global) -> Result<bool, AllocError> {
-    let mut matrix = DMatrix::zeros(alloc, 2, 2)?;
-    matrix.set(1, 0, 7);
-    Ok(
-        matrix.get(1, 0) == 7
-            && matrix.column(0) == [0, 7].as_slice()
-            && matrix.as_slice() == [0, 7, 0, 0].as_slice(),
-    )
+fn rows_and_columns_give_one_matrix(alloc: Global) -> bool {
+    match DMatrix::from_row_slice(alloc, 2, 3, &[1, 2, 3, 4, 5, 6]) {
+        Ok(by_rows) => {
+            are_two_rows_of_three(&by_rows)
+                && made_equals(
+                    DMatrix::from_column_slice(alloc, 2, 3, &[1, 4, 2, 5, 3, 6]),
+                    &by_rows,
+                )
+        }
+        Err(_error) => false,
+    }
 }
 
-fn a_copy_is_not_written(alloc: Global) -> Result<bool, AllocError> {
-    let mut matrix = DMatrix::repeat(alloc, 2, 2, W64::new(3))?;
-    let copy = matrix.clone(alloc)?;
-    matrix.column_mut(1)[0] = W64::new(-8);
-    Ok(is_changed_alone(&matrix, &copy))
+fn are_two_rows_of_three(matrix: &DMatrix<i32>) -> bool {
+    matrix.nrows() == 2 && matrix.ncols() == 3 && are_equal(matrix.as_slice(), &[1, 4, 2, 5, 3, 6])
 }
 
-fn is_changed_alone(matrix: &DMatrix<W64>, copy: &DMatrix<W64>) -> bool {
+fn a_set_value_is_read(alloc: Global) -> bool {
+    match DMatrix::zeros(alloc, 2, 2) {
+        Ok(mut matrix) => {
+            matrix.set(1, 0, 7);
+            matrix.get(1, 0) == 7
+                && are_equal(matrix.column(0), &[0, 7])
+                && are_equal(matrix.as_slice(), &[0, 7, 0, 0])
+        }
+        Err(_error) => false,
+    }
+}
+
+fn a_copy_is_not_written(alloc: Global) -> bool {
+    match DMatrix::repeat(alloc, 2, 2, W64::new(3)) {
+        Ok(mut matrix) => {
+            let copy = matrix.clone(alloc);
+            matrix.column_mut(1)[0] = W64::new(-8);
+            is_changed_alone(&matrix, copy)
+        }
+        Err(_error) => false,
+    }
+}
+
+fn is_changed_alone(matrix: &DMatrix<W64>, copy: Result<DMatrix<W64>, AllocError>) -> bool {
     let (three, changed) = (W64::new(3), W64::new(-8));
-    *matrix != *copy
-        && copy.as_slice() == [three, three, three, three].as_slice()
-        && matrix.as_slice() == [three, three, changed, three].as_slice()
+    match copy {
+        Ok(copy) => {
+            *matrix != copy
+                && are_equal(copy.as_slice(), &[three, three, three, three])
+                && are_equal(matrix.as_slice(), &[three, three, changed, three])
+        }
+        Err(_error) => false,
+    }
 }
 
-fn wide_and_high_differ(alloc: Global) -> Result<bool, AllocError> {
-    let (one, two) = (W64::new(1), W64::new(2));
-    let wide = DMatrix::from_row_slice(alloc, 1, 2, &[one, two])?;
-    let high = DMatrix::from_row_slice(alloc, 2, 1, &[one, two])?;
-    Ok(wide != high)
+fn wide_and_high_differ(alloc: Global) -> bool {
+    let values = [W64::new(1), W64::new(2)];
+    match DMatrix::from_row_slice(alloc, 1, 2, &values) {
+        Ok(wide) => made_differs(DMatrix::from_row_slice(alloc, 2, 1, &values), &wide),
+        Err(_error) => false,
+    }
+}
+
+fn made_differs(made: Result<DMatrix<W64>, AllocError>, other: &DMatrix<W64>) -> bool {
+    match made {
+        Ok(matrix) => matrix != *other,
+        Err(_error) => false,
+    }
 }
 
 #[test]
 fn values_are_placed_written_and_compared(rt: HostRuntime) {
-    assert!(rt; rows_and_columns_give_one_matrix(rt.alloc()) == Ok(true));
-    assert!(rt; a_set_value_is_read(rt.alloc()) == Ok(true));
-    assert!(rt; a_copy_is_not_written(rt.alloc()) == Ok(true));
-    assert!(rt; wide_and_high_differ(rt.alloc()) == Ok(true));
+    assert!(rt; rows_and_columns_give_one_matrix(rt.alloc()));
+    assert!(rt; a_set_value_is_read(rt.alloc()));
+    assert!(rt; a_copy_is_not_written(rt.alloc()));
+    assert!(rt; wide_and_high_differ(rt.alloc()));
     assert!(rt; DMatrix::repeat(rt.alloc(), usize::MAX, 2, 1).is_err());
 }
 
 type Sizes = (usize, usize);
 
-fn slices_without_values(alloc: Global, (nrows, ncols): Sizes) -> Result<bool, AllocError> {
+fn slices_without_values(alloc: Global, (nrows, ncols): Sizes) -> bool {
     if nrows.checked_mul(ncols) != Some(0) {
-        return Ok(false);
+        return false;
     }
-    let by_rows: DMatrix<i32> = DMatrix::from_row_slice(alloc, nrows, ncols, &[])?;
-    let by_columns = DMatrix::from_column_slice(alloc, nrows, ncols, &[])?;
-    Ok(by_rows == by_columns && is_repeated(alloc, &by_rows) == Ok(true))
+    match DMatrix::from_row_slice(alloc, nrows, ncols, &[]) {
+        Ok(by_rows) => {
+            made_equals(
+                DMatrix::from_column_slice(alloc, nrows, ncols, &[]),
+                &by_rows,
+            ) && is_repeated(alloc, &by_rows)
+        }
+        Err(_error) => false,
+    }
 }
 
 // Whether a matrix without values is a copy of one that repeats a value.
-fn is_repeated(alloc: Global, matrix: &DMatrix<i32>) -> Result<bool, AllocError> {
-    let repeated = DMatrix::repeat(alloc, matrix.nrows(), matrix.ncols(), 7)?;
-    Ok(repeated.clone(alloc)? == *matrix)
+fn is_repeated(alloc: Global, matrix: &DMatrix<i32>) -> bool {
+    match DMatrix::repeat(alloc, matrix.nrows(), matrix.ncols(), 7) {
+        Ok(repeated) => made_equals(repeated.clone(alloc), matrix),
+        Err(_error) => false,
+    }
 }
 
-fn zeros_have_no_values(alloc: Global, sizes: Sizes) -> Result<bool, AllocError> {
-    let zeros: DMatrix<i32> = DMatrix::zeros(alloc, sizes.0, sizes.1)?;
-    Ok(
-        zeros.as_slice().is_empty()
-            && zeros.ncols() == sizes.1
-            && is_repeated(alloc, &zeros) == Ok(true)
-            && slices_without_values(alloc, sizes) == Ok(true),
-    )
+fn zeros_have_no_values(alloc: Global, sizes: Sizes) -> bool {
+    match DMatrix::zeros(alloc, sizes.0, sizes.1) {
+        Ok(zeros) => {
+            zeros.as_slice().is_empty()
+                && zeros.ncols() == sizes.1
+                && is_repeated(alloc, &zeros)
+                && slices_without_values(alloc, sizes)
+        }
+        Err(_error) => false,
+    }
 }
 
 // Sizes without values need no memory, whatever the other size is.
 #[test]
 fn matrices_without_values(rt: HostRuntime) {
-    for sizes in [(0, 3), (3, 0), (0, usize::MAX), (usize::MAX, 0)] {
-        assert!(rt; zeros_have_no_values(rt.alloc(), sizes) == Ok(true));
+    for &sizes in &[(0, 3), (3, 0), (0, usize::MAX), (usize::MAX, 0)] {
+        assert!(rt; zeros_have_no_values(rt.alloc(), sizes));
     }
 }

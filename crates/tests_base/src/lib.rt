@@ -12,6 +12,8 @@ mod patterns;
 #[cfg(test)]
 mod push_matrix;
 #[cfg(test)]
+mod slices;
+#[cfg(test)]
 mod steps;
 #[cfg(test)]
 mod transposes;

@@ -1,5 +1,6 @@
 //! Sparsity patterns of raw data, and the faults of the data.
 
+use crate::slices::are_equal;
 use SparsityPatternFormatError::{
     DuplicateEntry, InvalidOffsetArrayLength, InvalidOffsetFirstLast, MinorIndexOutOfBounds,
     NonmonotonicMinorIndices, NonmonotonicOffsets,
@@ -62,15 +63,17 @@ const FAULTS: [Fault; 9] = [
     (3, 6, &[0, 2, 2, 5], &[0, 5, 2, 2, 3], DuplicateEntry),
 ];
 
-fn is_refused(alloc: Global, fault: &Fault) -> Result<bool, AllocError> {
-    let answer = pattern_of(alloc, fault.0, fault.1, fault.2, fault.3)?;
-    Ok(answer.err() == Some(fault.4))
+fn is_refused(alloc: Global, fault: &Fault) -> bool {
+    match pattern_of(alloc, fault.0, fault.1, fault.2, fault.3) {
+        Ok(answer) => answer.err() == Some(fault.4),
+        Err(_error) => false,
+    }
 }
 
 #[test]
 fn the_first_fault_is_named(rt: HostRuntime) {
     for fault in &FAULTS {
-        assert!(rt; is_refused(rt.alloc(), fault) == Ok(true));
+        assert!(rt; is_refused(rt.alloc(), fault));
     }
 }
 
@@ -89,12 +92,16 @@ pub fn valid_pattern(
 fn iterates_over(pattern: &SparsityPattern, places: &[(usize, usize)]) -> bool {
     let mut entries = pattern.entries();
     for place in places {
-        if entries.next() != Some(*place) {
+        if !is_place(entries.next(), *place) {
             return false;
         }
     }
     // The end is reached once and for all.
-    entries.next() == None && entries.next() == None
+    entries.next().is_none() && entries.next().is_none()
+}
+
+fn is_place(entry: Option<(usize, usize)>, place: (usize, usize)) -> bool {
+    entry == Some(place)
 }
 
 const OFFSETS: &[usize] = &[0, 2, 2, 5];
@@ -105,53 +112,65 @@ const PLACES: &[(usize, usize)] = &[(0, 0), (0, 5), (2, 1), (2, 2), (2, 3)];
 
 fn places_and_lanes_are_read(pattern: SparsityPattern) -> bool {
     iterates_over(&pattern, PLACES)
-        && pattern.get_lane(0) == Some([0, 5].as_slice())
-        && pattern.get_lane(3) == None
+        && is_lane(pattern.get_lane(0), &[0, 5])
+        && pattern.get_lane(3).is_none()
 }
 
-fn a_copy_is_equal(alloc: Global, pattern: &SparsityPattern) -> bool {
-    pattern.clone(alloc).is_ok_and(|copy| copy == *pattern)
+fn is_lane(lane: Option<&[usize]>, indices: &[usize]) -> bool {
+    match lane {
+        Some(lane) => are_equal(lane, indices),
+        None => false,
+    }
 }
 
-fn a_copy_has_the_data(alloc: Global, pattern: &SparsityPattern) -> Result<bool, AllocError> {
-    let (offsets, indices) = pattern.clone(alloc)?.disassemble();
-    Ok(offsets.as_slice() == OFFSETS && indices.as_slice() == INDICES)
+/// Whether a pattern was made that is equal to the other.
+pub fn made_equals(made: Result<SparsityPattern, AllocError>, other: &SparsityPattern) -> bool {
+    match made {
+        Ok(pattern) => pattern == *other,
+        Err(_error) => false,
+    }
 }
 
-fn zeros_without_lanes(alloc: Global, empty: SparsityPattern) -> bool {
-    SparsityPattern::zeros(alloc, 0, 0).is_ok_and(|zeros| zeros == empty)
+fn has_the_data(copy: SparsityPattern) -> bool {
+    let (offsets, indices) = copy.disassemble();
+    are_equal(&offsets, OFFSETS) && are_equal(&indices, INDICES)
 }
 
-fn a_copy_has_sizes_alone(alloc: Global, zeros: SparsityPattern) -> bool {
-    zeros.clone(alloc).is_ok_and(has_sizes_alone)
+fn zeros_without_lanes(alloc: Global) -> bool {
+    match valid_pattern(alloc, (0, 0), &[0], &[]) {
+        Some(empty) => made_equals(SparsityPattern::zeros(alloc, 0, 0), &empty),
+        None => false,
+    }
+}
+
+fn a_copy_has_sizes_alone(alloc: Global) -> bool {
+    match SparsityPattern::zeros(alloc, 2, usize::MAX) {
+        Ok(zeros) => zeros.clone(alloc).is_ok_and(has_sizes_alone),
+        Err(_error) => false,
+    }
 }
 
 fn has_sizes_alone(wide: SparsityPattern) -> bool {
-    wide.major_offsets() == [0, 0, 0].as_slice()
-        && wide.nnz() == 0
-        && wide.minor_dim() == usize::MAX
+    are_equal(wide.major_offsets(), &[0, 0, 0]) && wide.nnz() == 0 && wide.minor_dim() == usize::MAX
 }
 
-fn a_valid_pattern_is_read_and_copied(alloc: Global) -> Option<bool> {
-    let pattern = valid_pattern(alloc, (3, 6), OFFSETS, INDICES)?;
-    Some(
-        a_copy_is_equal(alloc, &pattern)
-            && a_copy_has_the_data(alloc, &pattern) == Ok(true)
-            && places_and_lanes_are_read(pattern),
-    )
+fn a_valid_pattern_is_read_and_copied(alloc: Global) -> bool {
+    match valid_pattern(alloc, (3, 6), OFFSETS, INDICES) {
+        Some(pattern) => {
+            made_equals(pattern.clone(alloc), &pattern)
+                && pattern.clone(alloc).is_ok_and(has_the_data)
+                && places_and_lanes_are_read(pattern)
+        }
+        None => false,
+    }
 }
 
 #[test]
 fn valid_data_is_taken(rt: HostRuntime) {
-    let alloc = rt.alloc();
-    assert!(rt; a_valid_pattern_is_read_and_copied(alloc) == Some(true));
-    assert!(rt;
-        valid_pattern(alloc, (0, 0), &[0], &[]).is_some_and(|p| zeros_without_lanes(alloc, p))
-    );
-    assert!(rt;
-        SparsityPattern::zeros(alloc, 2, usize::MAX).is_ok_and(|p| a_copy_has_sizes_alone(alloc, p))
-    );
-    assert!(rt; SparsityPattern::zeros(alloc, usize::MAX, 0).is_err());
+    assert!(rt; a_valid_pattern_is_read_and_copied(rt.alloc()));
+    assert!(rt; zeros_without_lanes(rt.alloc()));
+    assert!(rt; a_copy_has_sizes_alone(rt.alloc()));
+    assert!(rt; SparsityPattern::zeros(rt.alloc(), usize::MAX, 0).is_err());
 }
 
 const TEXTS: [(SparsityPatternFormatError, &str, SparseFormatErrorKind); 6] = [
@@ -187,13 +206,20 @@ const TEXTS: [(SparsityPatternFormatError, &str, SparseFormatErrorKind); 6] = [
     ),
 ];
 
+fn is_text(made: Result<String, AllocError>, text: &str) -> bool {
+    match made {
+        Ok(made) => made.as_str() == text,
+        Err(_error) => false,
+    }
+}
+
 fn has_text_and_kind(
     alloc: Global,
     error: &SparseFormatError,
     text: &str,
     kind: SparseFormatErrorKind,
-) -> Result<bool, AllocError> {
-    Ok(error.to_string(alloc)?.as_str() == text && *error.kind() == kind)
+) -> bool {
+    is_text(error.to_string(alloc), text) && *error.kind() == kind
 }
 
 /// Whether there is an error, with this text and this kind.
@@ -202,11 +228,20 @@ pub fn is_error(
     error: Option<SparseFormatError>,
     text: &str,
     kind: SparseFormatErrorKind,
-) -> Result<bool, AllocError> {
+) -> bool {
     match error {
         Some(error) => has_text_and_kind(alloc, &error, text, kind),
-        None => Ok(false),
+        None => false,
     }
+}
+
+fn has_message_and_kind(
+    alloc: Global,
+    error: SparseFormatError,
+    text: &str,
+    kind: SparseFormatErrorKind,
+) -> bool {
+    error.message() == text && has_text_and_kind(alloc, &error, text, kind)
 }
 
 fn fault_has_text_and_kind(
@@ -214,21 +249,16 @@ fn fault_has_text_and_kind(
     fault: SparsityPatternFormatError,
     text: &str,
     kind: SparseFormatErrorKind,
-) -> Result<bool, AllocError> {
-    let own_text = fault.to_string(alloc)?;
-    let error = SparseFormatError::from(fault);
-    Ok(
-        own_text.as_str() == text
-            && error.message() == text
-            && has_text_and_kind(alloc, &error, text, kind)?,
-    )
+) -> bool {
+    is_text(fault.to_string(alloc), text)
+        && has_message_and_kind(alloc, SparseFormatError::from(fault), text, kind)
 }
 
 #[test]
 fn faults_have_texts_and_kinds(rt: HostRuntime) {
-    for (fault, text, kind) in TEXTS {
+    for &(fault, text, kind) in &TEXTS {
         assert!(rt;
-            fault_has_text_and_kind(rt.alloc(), fault, text, kind) == Ok(true),
+            fault_has_text_and_kind(rt.alloc(), fault, text, kind),
             "{text}"
         );
     }
@@ -238,5 +268,5 @@ fn faults_have_texts_and_kinds(rt: HostRuntime) {
 fn refused_memory_has_text_and_kind(rt: HostRuntime) {
     let refused = SparseFormatError::from(AllocError);
     let (text, kind) = ("Out of memory.", SparseFormatErrorKind::OutOfMemory);
-    assert!(rt; has_text_and_kind(rt.alloc(), &refused, text, kind) == Ok(true));
+    assert!(rt; has_text_and_kind(rt.alloc(), &refused, text, kind));
 }

@@ -2,6 +2,8 @@
 
 ghost use Rattle.std.specs.Prelude.{◌≡◌, IfOk};
 
+use crate::slices::are_equal;
+use crate::triplets::is_triplet;
 use sparse_algebra::scalar::W64;
 use sparse_base::coo::CooMatrix;
 use sparse_base::dense::DMatrix;
@@ -17,55 +19,75 @@ fn with_empty_block(alloc: Global) -> Result<CooMatrix<i32>, AllocError>
     Ok(matrix)
 }
 
-fn a_block_follows_an_empty_one(alloc: Global) -> Result<bool, AllocError> {
-    let mut matrix = with_empty_block(alloc)?;
-    let before = matrix.nnz();
-    let block = DMatrix::from_row_slice(alloc, 2, 2, &[5, 0, 6, 8])?;
-    matrix.push_matrix(1, 0, &block)?;
-    Ok(before == 0 && are_triplets(&matrix, &[(1, 0, 5), (2, 0, 6), (1, 1, 0), (2, 1, 8)]))
+fn a_block_follows_an_empty_one(alloc: Global) -> bool {
+    match with_empty_block(alloc) {
+        Ok(matrix) => matrix.nnz() == 0 && a_block_follows(alloc, matrix),
+        Err(_error) => false,
+    }
 }
 
-fn an_empty_block_adds_nothing(alloc: Global) -> Result<bool, AllocError> {
-    let mut matrix = CooMatrix::new(alloc, 3, 3);
-    let empty: DMatrix<i32> = DMatrix::zeros(alloc, 0, 2)?;
-    matrix.push_matrix(0, 0, &empty)?;
-    Ok(matrix.nnz() == 0)
+fn a_block_follows(alloc: Global, mut matrix: CooMatrix<i32>) -> bool
+    requires { matrix.nrows ≡ 3 × matrix.ncols ≡ 2 }
+{
+    match DMatrix::from_row_slice(alloc, 2, 2, &[5, 0, 6, 8]) {
+        Ok(block) => {
+            matrix.push_matrix(1, 0, &block).is_ok()
+                && are_triplets(&matrix, &[(1, 0, 5), (2, 0, 6), (1, 1, 0), (2, 1, 8)])
+        }
+        Err(_error) => false,
+    }
 }
 
-fn a_block_is_read_back(alloc: Global) -> Result<bool, AllocError> {
+fn an_empty_block_adds_nothing(alloc: Global) -> bool {
+    let mut matrix: CooMatrix<i32> = CooMatrix::new(alloc, 3, 3);
+    match DMatrix::zeros(alloc, 0, 2) {
+        Ok(empty) => matrix.push_matrix(0, 0, &empty).is_ok() && matrix.nnz() == 0,
+        Err(_error) => false,
+    }
+}
+
+fn a_block_is_read_back(alloc: Global) -> bool {
     let mut matrix = CooMatrix::new(alloc, 3, 3);
-    let block = DMatrix::from_row_slice(alloc, 2, 2, &[1, 2, 3, 4])?;
-    matrix.push_matrix(1, 1, &block)?;
-    Ok(are_triplets(&matrix, &[(1, 1, 1), (2, 1, 3), (1, 2, 2), (2, 2, 4)]))
+    match DMatrix::from_row_slice(alloc, 2, 2, &[1, 2, 3, 4]) {
+        Ok(block) => {
+            matrix.push_matrix(1, 1, &block).is_ok()
+                && are_triplets(&matrix, &[(1, 1, 1), (2, 1, 3), (1, 2, 2), (2, 2, 4)])
+        }
+        Err(_error) => false,
+    }
 }
 
 fn are_triplets(matrix: &CooMatrix<i32>, want: &[(usize, usize, i32)]) -> bool {
     let mut triplets = matrix.triplet_iter();
-    for (row, col, value) in want {
-        if triplets.next() != Some((*row, *col, value)) {
+    for triplet in want {
+        if !is_triplet(triplets.next(), *triplet) {
             return false;
         }
     }
     triplets.next().is_none()
 }
 
-fn a_block_follows_a_triplet(alloc: Global) -> Result<bool, AllocError> {
+fn a_block_follows_a_triplet(alloc: Global) -> bool {
     let mut matrix = CooMatrix::new(alloc, 2, 2);
-    matrix.push(0, 1, W64::new(9))?;
-    let block = DMatrix::repeat(alloc, 1, 1, W64::new(4))?;
-    matrix.push_matrix(1, 1, &block)?;
-    Ok(has_triplet_and_block(&matrix))
+    match DMatrix::repeat(alloc, 1, 1, W64::new(4)) {
+        Ok(block) => {
+            matrix.push(0, 1, W64::new(9)).is_ok()
+                && matrix.push_matrix(1, 1, &block).is_ok()
+                && has_triplet_and_block(&matrix)
+        }
+        Err(_error) => false,
+    }
 }
 
 fn has_triplet_and_block(matrix: &CooMatrix<W64>) -> bool {
-    matrix.row_indices() == [0, 1].as_slice()
-        && matrix.values() == [W64::new(9), W64::new(4)].as_slice()
+    are_equal(matrix.row_indices(), &[0, 1])
+        && are_equal(matrix.values(), &[W64::new(9), W64::new(4)])
 }
 
 #[test]
 fn blocks_are_pushed_column_by_column(rt: HostRuntime) {
-    assert!(rt; a_block_follows_an_empty_one(rt.alloc()) == Ok(true));
-    assert!(rt; an_empty_block_adds_nothing(rt.alloc()) == Ok(true));
-    assert!(rt; a_block_is_read_back(rt.alloc()) == Ok(true));
-    assert!(rt; a_block_follows_a_triplet(rt.alloc()) == Ok(true));
+    assert!(rt; a_block_follows_an_empty_one(rt.alloc()));
+    assert!(rt; an_empty_block_adds_nothing(rt.alloc()));
+    assert!(rt; a_block_is_read_back(rt.alloc()));
+    assert!(rt; a_block_follows_a_triplet(rt.alloc()));
 }

@@ -1,6 +1,7 @@
 //! Transposes of patterns, with and without values.
 
-use crate::patterns::valid_pattern;
+use crate::patterns::{made_equals, valid_pattern};
+use crate::slices::are_equal;
 use sparse_pattern::pattern::SparsityPattern;
 use std::alloc::{AllocError, Global};
 
@@ -21,45 +22,58 @@ const CASES: &[Case] = &[
 ];
 
 // Whether a pattern has these arrays transposed, and is its transpose's transpose.
-fn has_transpose(alloc: Global, case: &Case) -> Option<bool> {
-    let pattern = valid_pattern(alloc, case.0, case.1.0, case.1.1)?;
-    let transposed = pattern.transpose(alloc).ok()?;
-    Some(has_arrays(&transposed, case) && is_transpose(alloc, transposed, pattern))
+fn has_transpose(alloc: Global, case: &Case) -> bool {
+    match valid_pattern(alloc, case.0, case.1.0, case.1.1) {
+        Some(pattern) => is_its_transpose(alloc, pattern.transpose(alloc), &pattern, case),
+        None => false,
+    }
+}
+
+fn is_its_transpose(
+    alloc: Global,
+    made: Result<SparsityPattern, AllocError>,
+    pattern: &SparsityPattern,
+    case: &Case,
+) -> bool {
+    match made {
+        Ok(transposed) => {
+            has_arrays(&transposed, case) && made_equals(transposed.transpose(alloc), pattern)
+        }
+        Err(_error) => false,
+    }
 }
 
 // Whether a pattern has the arrays of the case's transpose.
 fn has_arrays(transposed: &SparsityPattern, case: &Case) -> bool {
     transposed.major_dim() == case.0.1
         && transposed.minor_dim() == case.0.0
-        && transposed.major_offsets() == case.2.0
-        && transposed.minor_indices() == case.2.1
+        && are_equal(transposed.major_offsets(), case.2.0)
+        && are_equal(transposed.minor_indices(), case.2.1)
 }
 
-fn is_transpose(alloc: Global, transposed: SparsityPattern, pattern: SparsityPattern) -> bool {
-    transposed
-        .transpose(alloc)
-        .is_ok_and(|again| again == pattern)
-}
-
-fn values_move_with_their_places(alloc: Global) -> Option<bool> {
-    let pattern = valid_pattern(alloc, (2, 3), &[0, 2, 3], &[0, 2, 1])?;
-    Some(are_values_moved(alloc, &pattern) == Ok(true))
-}
-
-fn are_values_moved(alloc: Global, pattern: &SparsityPattern) -> Result<bool, AllocError> {
-    if pattern.nnz() != 3 {
-        return Ok(false);
+fn values_move_with_their_places(alloc: Global) -> bool {
+    match valid_pattern(alloc, (2, 3), &[0, 2, 3], &[0, 2, 1]) {
+        Some(pattern) => are_values_moved(alloc, &pattern),
+        None => false,
     }
-    let (_, values) = pattern.transpose_with(alloc, &['a', 'b', 'c'])?;
-    Ok(values.as_slice() == ['a', 'c', 'b'].as_slice())
+}
+
+fn are_values_moved(alloc: Global, pattern: &SparsityPattern) -> bool {
+    if pattern.nnz() != 3 {
+        return false;
+    }
+    match pattern.transpose_with(alloc, &['a', 'b', 'c']) {
+        Ok((_, values)) => are_equal(&values, &['a', 'c', 'b']),
+        Err(_error) => false,
+    }
 }
 
 #[test]
 fn places_are_exchanged(rt: HostRuntime) {
     for case in CASES {
-        assert!(rt; has_transpose(rt.alloc(), case) == Some(true));
+        assert!(rt; has_transpose(rt.alloc(), case));
     }
-    assert!(rt; values_move_with_their_places(rt.alloc()) == Some(true));
+    assert!(rt; values_move_with_their_places(rt.alloc()));
 }
 
 // 64 lanes with the indices 0 and `last` each.
@@ -77,10 +91,25 @@ fn offsets_of_pairs(alloc: Global) -> Result<Vec<usize>, AllocError> {
     Ok(offsets)
 }
 
-fn two_columns_are_transposed(alloc: Global, last: usize) -> Option<bool> {
-    let pattern = two_columns(alloc, last)?;
-    let transposed = pattern.transpose(alloc).ok()?;
-    Some(has_two_rows(&transposed, last) && is_transpose(alloc, transposed, pattern))
+fn two_columns_are_transposed(alloc: Global, last: usize) -> bool {
+    match two_columns(alloc, last) {
+        Some(pattern) => are_two_rows(alloc, pattern.transpose(alloc), &pattern, last),
+        None => false,
+    }
+}
+
+fn are_two_rows(
+    alloc: Global,
+    made: Result<SparsityPattern, AllocError>,
+    pattern: &SparsityPattern,
+    last: usize,
+) -> bool {
+    match made {
+        Ok(transposed) => {
+            has_two_rows(&transposed, last) && made_equals(transposed.transpose(alloc), pattern)
+        }
+        Err(_error) => false,
+    }
 }
 
 fn has_two_rows(transposed: &SparsityPattern, last: usize) -> bool {
@@ -93,10 +122,7 @@ fn has_two_rows(transposed: &SparsityPattern, last: usize) -> bool {
 // Lanes whose indices are far apart are transposed by another algorithm: the distance 4096 is the last that counts as near.
 #[test]
 fn near_and_far_indices_are_exchanged(rt: HostRuntime) {
-    for last in [4096, 4097, 4999] {
-        assert!(rt;
-            two_columns_are_transposed(rt.alloc(), last) == Some(true),
-            "{last}"
-        );
+    for &last in &[4096, 4097, 4999] {
+        assert!(rt; two_columns_are_transposed(rt.alloc(), last), "{last}");
     }
 }

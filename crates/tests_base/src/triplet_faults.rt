@@ -89,7 +89,7 @@ const FAULTS: [Fault; 7] = [
     ),
 ];
 
-fn is_refused(alloc: Global, fault: &Fault) -> Result<bool, AllocError> {
+fn is_refused(alloc: Global, fault: &Fault) -> bool {
     let answer = coo_of(alloc, fault.0, fault.1, fault.2, fault.3, fault.4);
     is_error(alloc, answer.err(), fault.6, fault.5)
 }
@@ -97,39 +97,53 @@ fn is_refused(alloc: Global, fault: &Fault) -> Result<bool, AllocError> {
 #[test]
 fn the_first_fault_is_named(rt: HostRuntime) {
     for fault in &FAULTS {
-        assert!(rt; is_refused(rt.alloc(), fault) == Ok(true), "{}", fault.6);
+        assert!(rt; is_refused(rt.alloc(), fault), "{}", fault.6);
     }
 }
 
-// How many values are left of three copies that a refused list is given.
-fn copies_after_refusal(
-    alloc: Global,
-    nrows: usize,
-    rows: &[usize],
-    cols: &[usize],
-) -> Result<Option<usize>, AllocError> {
-    let counted = Rc::new(alloc, 7)?;
+// The number of rows, the rows and the columns of a list of 2 columns that three values do not fit.
+type Refused = (usize, &'static [usize], &'static [usize]);
+
+const REFUSED: &[Refused] = &[
+    (3, &[0, 1, 2], &[0, 1]),
+    (3, &[0, 1], &[0, 1]),
+    (2, &[0, 1, 2], &[0, 1, 1]),
+    (3, &[0, 1, 2], &[0, 1, 2]),
+];
+
+// Three copies of one value.
+fn three_copies(alloc: Global, one: &Rc<i32>) -> Result<Vec<Rc<i32>>, AllocError> {
     let mut values = Vec::with_capacity(alloc, 3)?;
     for _ in 0..3 {
-        values.push(counted.clone()?)?;
+        values.push(one.clone()?)?;
     }
-    let (rows, cols) = (rows.to_vec(alloc)?, cols.to_vec(alloc)?);
-    match CooMatrix::try_from_triplets(nrows, 2, rows, cols, values) {
-        Ok(_) => Ok(None),
-        Err(_) => Ok(Some(Rc::strong_count(&counted))),
+    Ok(values)
+}
+
+fn refuses(alloc: Global, list: &Refused, values: Vec<Rc<i32>>) -> Result<bool, AllocError> {
+    let (rows, cols) = (list.1.to_vec(alloc)?, list.2.to_vec(alloc)?);
+    Ok(CooMatrix::try_from_triplets(list.0, 2, rows, cols, values).is_err())
+}
+
+fn refuses_copies(alloc: Global, list: &Refused, one: &Rc<i32>) -> bool {
+    match three_copies(alloc, one) {
+        Ok(values) => refuses(alloc, list, values) == Ok(true),
+        Err(_error) => false,
+    }
+}
+
+// Whether a list is refused, and none of the copies of one value that it was given is left.
+fn drops_its_values(alloc: Global, list: &Refused) -> bool {
+    match Rc::new(alloc, 7) {
+        Ok(one) => refuses_copies(alloc, list, &one) && Rc::strong_count(&one) == 1,
+        Err(_error) => false,
     }
 }
 
 // No clause sees values that are neither kept nor dropped.
 #[test]
 fn a_refused_list_drops_its_values(rt: HostRuntime) {
-    let cases: [(usize, &[usize], &[usize]); 4] = [
-        (3, &[0, 1, 2], &[0, 1]),
-        (3, &[0, 1], &[0, 1]),
-        (2, &[0, 1, 2], &[0, 1, 1]),
-        (3, &[0, 1, 2], &[0, 1, 2]),
-    ];
-    for (nrows, rows, cols) in cases {
-        assert!(rt; copies_after_refusal(rt.alloc(), nrows, rows, cols) == Ok(Some(1)));
+    for list in REFUSED {
+        assert!(rt; drops_its_values(rt.alloc(), list));
     }
 }

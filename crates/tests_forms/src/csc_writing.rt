@@ -4,14 +4,15 @@ ghost use Rattle.std.specs.Prelude.{◌≡◌, ◌<◌, length, slice_set};
 ghost use Rattle.sparse_cs.specs.Lanes.{lane_at};
 ghost use Rattle.sparse_cs.specs.Writing.{with_lane};
 
-use crate::fixtures::{BY_COLUMNS, csc, fill, is_at};
+use crate::fixtures::{BY_COLUMNS, are_equal, csc, entry_is, fill, is_at};
 use sparse_forms::csc::{CscColMut, CscMatrix};
 use sparse_pattern::entry::{SparseEntry, SparseEntryMut};
+use std::alloc::Global;
 
 // Writes through an entry, where the matrix has the place.
 fn write_where_stored(matrix: &mut CscMatrix<i32>, row: usize, col: usize, value: i32) {
-    if let Some(SparseEntryMut::NonZero(lent)) = matrix.get_entry_mut(row, col) {
-        *lent = value;
+    if let Some(SparseEntryMut::NonZero(borrowed)) = matrix.get_entry_mut(row, col) {
+        *borrowed = value;
     }
 }
 
@@ -19,8 +20,8 @@ fn write_where_stored(matrix: &mut CscMatrix<i32>, row: usize, col: usize, value
 fn write_through_col(matrix: &mut CscMatrix<i32>, row: usize, col: usize, value: i32)
     requires { col < matrix.old.pattern.major_dim }
 {
-    if let Some(SparseEntryMut::NonZero(lent)) = matrix.col_mut(col).get_entry_mut(row) {
-        *lent = value;
+    if let Some(SparseEntryMut::NonZero(borrowed)) = matrix.col_mut(col).get_entry_mut(row) {
+        *borrowed = value;
     }
 }
 
@@ -73,16 +74,21 @@ fn has_values(matrix: &CscMatrix<i32>, values: &[i32]) -> bool {
     matrix.values() == values
 }
 
-// Whether the values are those wanted once the value of the case is written.
-fn is_written(mut matrix: CscMatrix<i32>, case: &Write) -> bool {
-    write(&mut matrix, case.0, case.1);
-    has_values(&matrix, &case.2)
+// Whether the values are those wanted once the value of the case is written into the example.
+fn is_written(alloc: Global, case: &Write) -> bool {
+    match csc(alloc, BY_COLUMNS) {
+        Ok(mut matrix) => {
+            write(&mut matrix, case.0, case.1);
+            has_values(&matrix, &case.2)
+        }
+        Err(_error) => false,
+    }
 }
 
 #[test]
 fn writes_by_columns(rt: HostRuntime) {
     for case in WRITES {
-        assert!(rt; csc(rt.alloc(), BY_COLUMNS).is_ok_and(|matrix| is_written(matrix, case)));
+        assert!(rt; is_written(rt.alloc(), case));
     }
 }
 
@@ -90,11 +96,11 @@ fn writes_by_columns(rt: HostRuntime) {
 fn is_last_column(column: &CscColMut<'_, i32>) -> bool {
     column.nrows() == 2
         && column.nnz() == 1
-        && column.row_indices() == [0].as_slice()
-        && column.values() == [0].as_slice()
-        && column.get_entry(0) == Some(SparseEntry::NonZero(&0))
-        && column.get_entry(1) == Some(SparseEntry::Zero)
-        && column.get_entry(2) == None
+        && are_equal(column.row_indices(), &[0])
+        && are_equal(column.values(), &[0])
+        && entry_is(column.get_entry(0), SparseEntry::NonZero(&0))
+        && entry_is(column.get_entry(1), SparseEntry::Zero)
+        && column.get_entry(2).is_none()
 }
 
 // Writes into a column, and answers whether it has as many rows as values.
@@ -119,7 +125,7 @@ fn fill_last_column(matrix: &mut CscMatrix<i32>) -> bool {
 // Whether the slices of the example are its arrays, with these values.
 fn slices_are(matrix: &mut CscMatrix<i32>, want: &[i32]) -> bool {
     let (offsets, rows, values) = matrix.csc_data_mut();
-    offsets == [0, 1, 2, 3].as_slice() && rows == [0, 1, 0].as_slice() && &*values == want
+    are_equal(offsets, &[0, 1, 2, 3]) && are_equal(rows, &[0, 1, 0]) && are_equal(values, want)
 }
 
 // Writes through the slices of the example, and answers whether they are its arrays.
@@ -161,9 +167,9 @@ fn double(matrix: &mut CscMatrix<i32>) {
 }
 
 // Whether the triplets for writing have these places, and then end.
-fn places_for_writing_are(matrix: &mut CscMatrix<i32>, places: [(usize, usize); 3]) -> bool {
+fn places_for_writing_are(matrix: &mut CscMatrix<i32>, places: &[(usize, usize)]) -> bool {
     let mut triplets = matrix.triplet_iter_mut();
-    for place in places {
+    for &place in places {
         if !is_at(triplets.next(), place) {
             return false;
         }
@@ -171,14 +177,19 @@ fn places_for_writing_are(matrix: &mut CscMatrix<i32>, places: [(usize, usize); 
     triplets.next().is_none()
 }
 
+// Whether there is a column for writing, and it has these rows.
+fn has_rows(column: Option<CscColMut<'_, i32>>, rows: &[usize]) -> bool {
+    match column {
+        Some(column) => are_equal(column.row_indices(), rows) && column.nnz() == rows.len(),
+        None => false,
+    }
+}
+
 // Whether the columns for writing have these rows, and then end.
-fn rows_for_writing_are(matrix: &mut CscMatrix<i32>, lanes: [&[usize]; 3]) -> bool {
+fn rows_for_writing_are(matrix: &mut CscMatrix<i32>, lanes: &[&[usize]]) -> bool {
     let mut columns = matrix.col_iter_mut();
-    for rows in lanes {
-        let Some(column) = columns.next() else {
-            return false;
-        };
-        if column.row_indices() != rows || column.nnz() != rows.len() {
+    for &rows in lanes {
+        if !has_rows(columns.next(), rows) {
             return false;
         }
     }
@@ -194,10 +205,11 @@ fn iterators_for_writing_by_columns(rt: HostRuntime) {
 // Whether the values of the example are doubled, and its triplets for writing are in order.
 fn is_doubled(mut matrix: CscMatrix<i32>) -> bool {
     double(&mut matrix);
-    has_values(&matrix, &[2, 8, 0]) && places_for_writing_are(&mut matrix, [(0, 0), (1, 1), (0, 2)])
+    has_values(&matrix, &[2, 8, 0])
+        && places_for_writing_are(&mut matrix, &[(0, 0), (1, 1), (0, 2)])
 }
 
 fn columns_are_filled(mut matrix: CscMatrix<i32>) -> bool {
     fill_columns(&mut matrix);
-    has_values(&matrix, &[5, 9, 5]) && rows_for_writing_are(&mut matrix, [&[0], &[1], &[0]])
+    has_values(&matrix, &[5, 9, 5]) && rows_for_writing_are(&mut matrix, &[&[0], &[1], &[0]])
 }

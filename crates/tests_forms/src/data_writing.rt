@@ -65,29 +65,51 @@ where
     M::try_from_data(source).ok()
 }
 
-// Whether a matrix or a pattern is written as this text. `None` for want of memory.
-fn is_written<M: ToData>(alloc: Global, matrix: &M, text: &str) -> Option<bool>
+// Whether a text was written that is the other one.
+fn written_equals<E: Drop>(written: Result<String, E>, text: &str) -> bool {
+    match written {
+        Ok(written) => written.as_str() == text,
+        Err(_error) => false,
+    }
+}
+
+// Whether a matrix or a pattern is written as this text.
+fn is_written<M: ToData>(alloc: Global, matrix: &M, text: &str) -> bool
 where
     M::Copied: Serialize + Drop,
 {
-    let data = matrix.to_data(alloc).ok()?;
-    Some(serde_json::to_string(alloc, &data).ok()?.as_str() == text)
-}
-
-// Whether the matrix of a text is written as that text, and taken back as an equal matrix. `None` for a refusal.
-fn coo_returns_text(alloc: Global, text: &str) -> Option<bool> {
-    let matrix = taken::<CooMatrix<i32>>(alloc, text)?;
-    Some(is_written(alloc, &matrix, text)? && coo_returns(alloc, &matrix).ok()? == matrix)
+    match matrix.to_data(alloc) {
+        Ok(data) => written_equals(serde_json::to_string(alloc, &data), text),
+        Err(_error) => false,
+    }
 }
 
 // Whether the matrix that is copied to a data struct and taken back is equal to this one.
+fn coo_comes_back(alloc: Global, matrix: &CooMatrix<i32>) -> bool {
+    match coo_returns(alloc, matrix) {
+        Ok(returned) => returned == *matrix,
+        Err(_error) => false,
+    }
+}
+
+// Whether the matrix of a text is written as that text, and taken back as an equal matrix.
+fn coo_returns_text(alloc: Global, text: &str) -> bool {
+    match taken::<CooMatrix<i32>>(alloc, text) {
+        Some(matrix) => is_written(alloc, &matrix, text) && coo_comes_back(alloc, &matrix),
+        None => false,
+    }
+}
+
+// The same by rows.
 fn csr_comes_back(alloc: Global, matrix: &CsrMatrix<i32>) -> bool {
     csr_made_equals(csr_returns(alloc, matrix), matrix)
 }
 
-fn csr_returns_text(alloc: Global, text: &str) -> Option<bool> {
-    let matrix = taken::<CsrMatrix<i32>>(alloc, text)?;
-    Some(is_written(alloc, &matrix, text)? && csr_comes_back(alloc, &matrix))
+fn csr_returns_text(alloc: Global, text: &str) -> bool {
+    match taken::<CsrMatrix<i32>>(alloc, text) {
+        Some(matrix) => is_written(alloc, &matrix, text) && csr_comes_back(alloc, &matrix),
+        None => false,
+    }
 }
 
 // The same by columns.
@@ -95,17 +117,29 @@ fn csc_comes_back(alloc: Global, matrix: &CscMatrix<i32>) -> bool {
     csc_made_equals(csc_returns(alloc, matrix), matrix)
 }
 
-fn csc_returns_text(alloc: Global, text: &str) -> Option<bool> {
-    let matrix = taken::<CscMatrix<i32>>(alloc, text)?;
-    Some(is_written(alloc, &matrix, text)? && csc_comes_back(alloc, &matrix))
+fn csc_returns_text(alloc: Global, text: &str) -> bool {
+    match taken::<CscMatrix<i32>>(alloc, text) {
+        Some(matrix) => is_written(alloc, &matrix, text) && csc_comes_back(alloc, &matrix),
+        None => false,
+    }
 }
 
-fn pattern_returns_text(alloc: Global, text: &str) -> Option<bool> {
-    let pattern = taken::<SparsityPattern>(alloc, text)?;
-    Some(is_written(alloc, &pattern, text)? && pattern_returns(alloc, &pattern).ok()? == pattern)
+// The same of a pattern.
+fn pattern_comes_back(alloc: Global, pattern: &SparsityPattern) -> bool {
+    match pattern_returns(alloc, pattern) {
+        Ok(returned) => returned == *pattern,
+        Err(_error) => false,
+    }
 }
 
-fn returns_text(alloc: Global, kind: Kind, text: &str) -> Option<bool> {
+fn pattern_returns_text(alloc: Global, text: &str) -> bool {
+    match taken::<SparsityPattern>(alloc, text) {
+        Some(pattern) => is_written(alloc, &pattern, text) && pattern_comes_back(alloc, &pattern),
+        None => false,
+    }
+}
+
+fn returns_text(alloc: Global, kind: Kind, text: &str) -> bool {
     match kind {
         Kind::Coo => coo_returns_text(alloc, text),
         Kind::Csr => csr_returns_text(alloc, text),
@@ -117,9 +151,6 @@ fn returns_text(alloc: Global, kind: Kind, text: &str) -> Option<bool> {
 #[test]
 fn what_is_written_is_what_was_read(rt: HostRuntime) {
     for (kind, text) in TEXTS {
-        assert!(rt;
-            returns_text(rt.alloc(), *kind, text) == Some(true),
-            "{text}"
-        );
+        assert!(rt; returns_text(rt.alloc(), *kind, text), "{text}");
     }
 }

@@ -1,6 +1,8 @@
 //! The arrays of a matrix, and its entries: what it has at a row and a column, to read and to write.
 
-use crate::fixtures::{BY_COLUMNS, BY_ROWS, csc, csr, wrapping_csc, wrapping_csr};
+use crate::fixtures::{
+    Arrays, BY_COLUMNS, BY_ROWS, are_equal, csc, csr, wrapping_csc, wrapping_csr,
+};
 use sparse_algebra::scalar::{W64, Zero};
 use sparse_forms::csc::CscMatrix;
 use sparse_forms::csr::CsrMatrix;
@@ -57,6 +59,14 @@ fn has_entry_by_columns(matrix: &CscMatrix<i32>, (row, col, want): &Entry) -> bo
         && is_entry(indexed_by_columns(matrix, *row, *col), *want)
 }
 
+// The offsets, the indices and the values of a matrix.
+type Data<'a> = (&'a [usize], &'a [usize], &'a [i32]);
+
+// Whether these are the arrays.
+fn are_arrays((offsets, indices, values): Data<'_>, want: Arrays<'_, i32>) -> bool {
+    are_equal(offsets, want.2) && are_equal(indices, want.3) && are_equal(values, want.4)
+}
+
 // Whether the example by rows has its arrays and its entries.
 fn has_entries_by_rows(matrix: CsrMatrix<i32>) -> bool {
     for entry in ENTRIES {
@@ -64,7 +74,7 @@ fn has_entries_by_rows(matrix: CsrMatrix<i32>) -> bool {
             return false;
         }
     }
-    matrix.csr_data() == (BY_ROWS.2, BY_ROWS.3, BY_ROWS.4)
+    are_arrays(matrix.csr_data(), BY_ROWS)
 }
 
 // The same by columns.
@@ -74,7 +84,7 @@ fn has_entries_by_columns(matrix: CscMatrix<i32>) -> bool {
             return false;
         }
     }
-    matrix.csc_data() == (BY_COLUMNS.2, BY_COLUMNS.3, BY_COLUMNS.4)
+    are_arrays(matrix.csc_data(), BY_COLUMNS)
 }
 
 // Whether an entry over wrapping integers is this one.
@@ -159,12 +169,16 @@ fn is_value_of(value: Option<i32>, entry: Option<(i32, bool)>) -> bool {
     }
 }
 
+// Whether a matrix by rows has this entry for writing.
+fn has_entry_for_writing_by_rows(matrix: &mut CsrMatrix<i32>, (row, col, want): &Entry) -> bool {
+    is_entry(entry_mut_by_rows(matrix, *row, *col), *want)
+        && is_value_of(indexed_mut_by_rows(matrix, *row, *col), *want)
+}
+
 // Whether the example by rows has its entries for writing.
 fn has_entries_for_writing_by_rows(mut matrix: CsrMatrix<i32>) -> bool {
-    for (row, col, want) in ENTRIES {
-        if !is_entry(entry_mut_by_rows(&mut matrix, *row, *col), *want)
-            || !is_value_of(indexed_mut_by_rows(&mut matrix, *row, *col), *want)
-        {
+    for entry in ENTRIES {
+        if !has_entry_for_writing_by_rows(&mut matrix, entry) {
             return false;
         }
     }
@@ -172,11 +186,15 @@ fn has_entries_for_writing_by_rows(mut matrix: CsrMatrix<i32>) -> bool {
 }
 
 // The same by columns.
+fn has_entry_for_writing_by_columns(matrix: &mut CscMatrix<i32>, (row, col, want): &Entry) -> bool {
+    is_entry(entry_mut_by_columns(matrix, *row, *col), *want)
+        && is_value_of(indexed_mut_by_columns(matrix, *row, *col), *want)
+}
+
+// The same by columns.
 fn has_entries_for_writing_by_columns(mut matrix: CscMatrix<i32>) -> bool {
-    for (row, col, want) in ENTRIES {
-        if !is_entry(entry_mut_by_columns(&mut matrix, *row, *col), *want)
-            || !is_value_of(indexed_mut_by_columns(&mut matrix, *row, *col), *want)
-        {
+    for entry in ENTRIES {
+        if !has_entry_for_writing_by_columns(&mut matrix, entry) {
             return false;
         }
     }

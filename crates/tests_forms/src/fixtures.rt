@@ -3,6 +3,7 @@
 use sparse_algebra::scalar::W64;
 use sparse_forms::csc::CscMatrix;
 use sparse_forms::csr::CsrMatrix;
+use sparse_pattern::entry::SparseEntry;
 use sparse_pattern::error::SparseFormatError;
 use std::alloc::{AllocError, Global};
 
@@ -75,14 +76,24 @@ pub fn wrapping_csc(alloc: Global) -> Result<CscMatrix<W64>, SparseFormatError> 
     csc(alloc, (3, 2, &[0, 1, 2, 3], &[0, 1, 0], &values))
 }
 
+/// Whether two slices are equal. A call takes the prover less time than `==` with its references.
+pub fn are_equal<T: PartialEq>(left: &[T], right: &[T]) -> bool {
+    left == right
+}
+
+/// Whether there is an entry, and it is this one.
+pub fn entry_is(entry: Option<SparseEntry<'_, i32>>, want: SparseEntry<'_, i32>) -> bool {
+    entry == Some(want)
+}
+
 /// Whether a CSR matrix has these sizes and arrays.
 pub fn csr_is<T: PartialEq>(matrix: &CsrMatrix<T>, want: Arrays<'_, T>) -> bool {
     matrix.nrows() == want.0
         && matrix.ncols() == want.1
         && matrix.nnz() == want.4.len()
-        && matrix.row_offsets() == want.2
-        && matrix.col_indices() == want.3
-        && matrix.values() == want.4
+        && are_equal(matrix.row_offsets(), want.2)
+        && are_equal(matrix.col_indices(), want.3)
+        && are_equal(matrix.values(), want.4)
 }
 
 /// Whether a CSC matrix has these sizes and arrays.
@@ -90,9 +101,9 @@ pub fn csc_is<T: PartialEq>(matrix: &CscMatrix<T>, want: Arrays<'_, T>) -> bool 
     matrix.ncols() == want.0
         && matrix.nrows() == want.1
         && matrix.nnz() == want.4.len()
-        && matrix.col_offsets() == want.2
-        && matrix.row_indices() == want.3
-        && matrix.values() == want.4
+        && are_equal(matrix.col_offsets(), want.2)
+        && are_equal(matrix.row_indices(), want.3)
+        && are_equal(matrix.values(), want.4)
 }
 
 /// Whether a CSR matrix was made that has these sizes and arrays.
@@ -149,7 +160,7 @@ pub fn is_at(triplet: Option<(usize, usize, &mut i32)>, place: (usize, usize)) -
 
 /// Writes one value at each position.
 pub fn fill<T: Copy>(values: &mut [T], value: T) {
-    for lent in values.iter_mut() {
-        *lent = value;
+    for borrowed in values.iter_mut() {
+        *borrowed = value;
     }
 }

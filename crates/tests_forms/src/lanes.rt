@@ -1,6 +1,6 @@
 //! Rows and columns in order, and one of them.
 
-use crate::fixtures::{Arrays, csc, csr, wrapping_csc, wrapping_csr};
+use crate::fixtures::{Arrays, are_equal, csc, csr, entry_is, wrapping_csc, wrapping_csr};
 use sparse_algebra::scalar::W64;
 use sparse_forms::csc::{CscCol, CscColIter, CscMatrix};
 use sparse_forms::csr::{CsrMatrix, CsrRow, CsrRowIter};
@@ -23,24 +23,31 @@ const LANES: &[Lane] = &[
 fn row_is(row: &CsrRow<'_, i32>, columns: &[usize], values: &[i32]) -> bool {
     row.ncols() == 3
         && row.nnz() == columns.len()
-        && row.col_indices() == columns
-        && row.values() == values
+        && are_equal(row.col_indices(), columns)
+        && are_equal(row.values(), values)
 }
 
 // Whether the first row has its entries: a stored one, one that isn't, and none out of bounds.
 fn has_first_row(row: &CsrRow<'_, i32>) -> bool {
-    row.get_entry(0) == Some(SparseEntry::NonZero(&1))
-        && row.get_entry(1) == Some(SparseEntry::Zero)
+    entry_is(row.get_entry(0), SparseEntry::NonZero(&1))
+        && entry_is(row.get_entry(1), SparseEntry::Zero)
         && row.get_entry(3).is_none()
 }
 
+// Whether a row is equal to a copy of it.
+fn equals_copy_of_row<T: PartialEq>(row: &CsrRow<'_, T>) -> bool {
+    match row.clone() {
+        Ok(copy) => copy == *row,
+        Err(_error) => false,
+    }
+}
+
 // Whether the first row has these values, and is equal to a copy of it.
-fn first_row_is<T: PartialEq>(matrix: &CsrMatrix<T>, values: &[T]) -> Result<bool, AllocError> {
-    let Some(row) = matrix.row_iter().next() else {
-        return Ok(false);
-    };
-    let copy = row.clone()?;
-    Ok(row.values() == values && copy == row)
+fn first_row_is<T: PartialEq>(matrix: &CsrMatrix<T>, values: &[T]) -> bool {
+    match matrix.row_iter().next() {
+        Some(row) => are_equal(row.values(), values) && equals_copy_of_row(&row),
+        None => false,
+    }
 }
 
 // Whether a copy of the iterator gives exactly `count` more rows.
@@ -99,37 +106,42 @@ fn rows_in_order(rt: HostRuntime) {
 }
 
 fn has_its_rows(matrix: CsrMatrix<i32>) -> bool {
-    has_rows_in_order(&matrix) == Ok(true)
-        && first_row_is(&matrix, &[1, 0]) == Ok(true)
-        && has_one_row(&matrix)
+    has_rows_in_order(&matrix) == Ok(true) && first_row_is(&matrix, &[1, 0]) && has_one_row(&matrix)
 }
 
 fn has_wrapping_row(matrix: CsrMatrix<W64>) -> bool {
-    first_row_is(&matrix, &[W64::new(1), W64::new(0)]) == Ok(true)
+    first_row_is(&matrix, &[W64::new(1), W64::new(0)])
 }
 
 // Whether a column of length 3 has these rows and values.
 fn column_is(column: &CscCol<'_, i32>, rows: &[usize], values: &[i32]) -> bool {
     column.nrows() == 3
         && column.nnz() == rows.len()
-        && column.row_indices() == rows
-        && column.values() == values
+        && are_equal(column.row_indices(), rows)
+        && are_equal(column.values(), values)
 }
 
 // Whether the first column has its entries: a stored one, one that isn't, and none out of bounds.
 fn has_first_column(column: &CscCol<'_, i32>) -> bool {
-    column.get_entry(0) == Some(SparseEntry::NonZero(&1))
-        && column.get_entry(1) == Some(SparseEntry::Zero)
+    entry_is(column.get_entry(0), SparseEntry::NonZero(&1))
+        && entry_is(column.get_entry(1), SparseEntry::Zero)
         && column.get_entry(3).is_none()
 }
 
+// Whether a column is equal to a copy of it.
+fn equals_copy_of_column<T: PartialEq>(column: &CscCol<'_, T>) -> bool {
+    match column.clone() {
+        Ok(copy) => copy == *column,
+        Err(_error) => false,
+    }
+}
+
 // Whether the first column has these values, and is equal to a copy of it.
-fn first_column_is<T: PartialEq>(matrix: &CscMatrix<T>, values: &[T]) -> Result<bool, AllocError> {
-    let Some(column) = matrix.col_iter().next() else {
-        return Ok(false);
-    };
-    let copy = column.clone()?;
-    Ok(column.values() == values && copy == column)
+fn first_column_is<T: PartialEq>(matrix: &CscMatrix<T>, values: &[T]) -> bool {
+    match matrix.col_iter().next() {
+        Some(column) => are_equal(column.values(), values) && equals_copy_of_column(&column),
+        None => false,
+    }
 }
 
 // Whether a copy of the iterator gives exactly `count` more columns.
@@ -189,10 +201,10 @@ fn columns_in_order(rt: HostRuntime) {
 
 fn has_its_columns(matrix: CscMatrix<i32>) -> bool {
     has_columns_in_order(&matrix) == Ok(true)
-        && first_column_is(&matrix, &[1, 0]) == Ok(true)
+        && first_column_is(&matrix, &[1, 0])
         && has_one_column(&matrix)
 }
 
 fn has_wrapping_column(matrix: CscMatrix<W64>) -> bool {
-    first_column_is(&matrix, &[W64::new(1)]) == Ok(true)
+    first_column_is(&matrix, &[W64::new(1)])
 }

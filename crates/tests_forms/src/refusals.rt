@@ -204,13 +204,16 @@ fn is_error(
     text: &str,
 ) -> bool {
     match error {
-        Some(error) => *error.kind() == kind && has_text(alloc, &error, text) == Ok(true),
+        Some(error) => *error.kind() == kind && has_text(alloc, &error, text),
         None => false,
     }
 }
 
-fn has_text(alloc: Global, error: &SparseFormatError, text: &str) -> Result<bool, AllocError> {
-    Ok(error.to_string(alloc)?.as_str() == text)
+fn has_text(alloc: Global, error: &SparseFormatError, text: &str) -> bool {
+    match error.to_string(alloc) {
+        Ok(own) => own.as_str() == text,
+        Err(_error) => false,
+    }
 }
 
 fn refuses_sorted(alloc: Global, refusal: &SortedRefusal) -> bool {
@@ -256,18 +259,24 @@ fn error_by_columns(alloc: Global) -> Result<Option<SparseFormatError>, AllocErr
     Ok(CscMatrix::try_from_pattern_and_values(pattern, [7].to_vec(alloc)?).err())
 }
 
-fn refuses_one_value_by_rows(alloc: Global) -> Result<bool, AllocError> {
+fn refuses_one_value_by_rows(alloc: Global) -> bool {
     let text = "Number of values and column indices must be the same";
-    Ok(is_error(alloc, error_by_rows(alloc)?, InvalidStructure, text))
+    match error_by_rows(alloc) {
+        Ok(error) => is_error(alloc, error, InvalidStructure, text),
+        Err(_error) => false,
+    }
 }
 
-fn refuses_one_value_by_columns(alloc: Global) -> Result<bool, AllocError> {
+fn refuses_one_value_by_columns(alloc: Global) -> bool {
     let text = "Number of values and row indices must be the same";
-    Ok(is_error(alloc, error_by_columns(alloc)?, InvalidStructure, text))
+    match error_by_columns(alloc) {
+        Ok(error) => is_error(alloc, error, InvalidStructure, text),
+        Err(_error) => false,
+    }
 }
 
 #[test]
 fn a_wrong_number_of_values_is_refused(rt: HostRuntime) {
-    assert!(rt; refuses_one_value_by_rows(rt.alloc()) == Ok(true));
-    assert!(rt; refuses_one_value_by_columns(rt.alloc()) == Ok(true));
+    assert!(rt; refuses_one_value_by_rows(rt.alloc()));
+    assert!(rt; refuses_one_value_by_columns(rt.alloc()));
 }

@@ -8,15 +8,15 @@ use std::alloc::{AllocError, Global};
 
 type Triplet = (usize, usize, i32);
 
-// Whether there is a triplet of a lent value, and it is this one.
-fn is_lent_triplet(triplet: Option<(usize, usize, &i32)>, (row, col, value): Triplet) -> bool {
+// Whether there is a triplet of a borrowed value, and it is this one.
+fn is_borrowed_triplet(triplet: Option<(usize, usize, &i32)>, (row, col, value): Triplet) -> bool {
     triplet == Some((row, col, &value))
 }
 
 // Whether these triplets are left by rows, and `None` comes from then on.
 fn are_left_by_rows(triplets: &mut CsrTripletIter<'_, i32>, want: [Triplet; 2]) -> bool {
     for triplet in want {
-        if !is_lent_triplet(triplets.next(), triplet) {
+        if !is_borrowed_triplet(triplets.next(), triplet) {
             return false;
         }
     }
@@ -64,7 +64,7 @@ fn triplets_by_rows_are(
 ) -> Result<bool, AllocError> {
     let mut triplets = matrix.triplet_iter();
     Ok(
-        is_lent_triplet(triplets.next(), first)
+        is_borrowed_triplet(triplets.next(), first)
             && copies_by_rows_are(&triplets, others)?
             && are_left_by_rows(&mut triplets, others),
     )
@@ -89,7 +89,7 @@ fn has_one_by_rows(matrix: CsrMatrix<W64>) -> bool {
 // Whether these triplets are left by columns, and `None` comes from then on.
 fn are_left_by_columns(triplets: &mut CscTripletIter<'_, i32>, want: [Triplet; 2]) -> bool {
     for triplet in want {
-        if !is_lent_triplet(triplets.next(), triplet) {
+        if !is_borrowed_triplet(triplets.next(), triplet) {
             return false;
         }
     }
@@ -150,7 +150,7 @@ fn triplets_by_columns_are(
 ) -> Result<bool, AllocError> {
     let mut triplets = matrix.triplet_iter();
     Ok(
-        is_lent_triplet(triplets.next(), first)
+        is_borrowed_triplet(triplets.next(), first)
             && copies_by_columns_are(&triplets, others)?
             && are_left_by_columns(&mut triplets, others),
     )

@@ -2,13 +2,12 @@
 
 use crate::matrices::is_listed;
 use crate::reading::{load, refusal};
-use sparse_base::coo::CooMatrix;
 use sparse_io::MatrixMarketErrorKind::{
     DiagonalError, EntryMismatch, InvalidHeader, NonSquare, NotLowerTriangle, ParsingError,
     TypeMismatch, ZeroError,
 };
-use sparse_io::{MatrixMarketError, MatrixMarketErrorKind, MatrixMarketScalar};
-use std::test::Fail;
+use sparse_io::{MatrixMarketErrorKind, MatrixMarketScalar};
+use std::alloc::Global;
 
 const START: &str = "%%MatrixMarket matrix ";
 
@@ -16,7 +15,7 @@ const START: &str = "%%MatrixMarket matrix ";
 type Listed<T> = ((usize, usize), &'static [(usize, usize, T)]);
 
 /// Texts below the first words of the header, and what they mean as i32.
-const MEANINGS: [(&str, Listed<i32>); 13] = [
+const MEANINGS: &[(&str, Listed<i32>)] = &[
     (
         "array integer symmetric\n2 2\n1\n2\n3\n",
         ((2, 2), &[(0, 0, 1), (1, 0, 2), (0, 1, 2), (1, 1, 3)]),
@@ -97,26 +96,31 @@ const MEANINGS: [(&str, Listed<i32>); 13] = [
 
 /// Whether the text means these sizes and triplets.
 pub fn means<T: MatrixMarketScalar + PartialEq>(
-    rt: &impl AllocGlobal,
+    alloc: Global,
     below: &str,
     sizes: (usize, usize),
     triplets: &[(usize, usize, T)],
-) -> Result<bool, MatrixMarketError> {
-    let matrix: CooMatrix<T> = load(rt, START, below)?;
-    Ok(is_listed(&matrix, sizes, triplets))
+) -> bool {
+    match load::<T>(alloc, START, below) {
+        Ok(matrix) => is_listed(&matrix, sizes, triplets),
+        Err(_) => false,
+    }
+}
+
+// Whether the text of a case means its sizes and triplets.
+fn is_meant(alloc: Global, &(below, (sizes, triplets)): &(&str, Listed<i32>)) -> bool {
+    means(alloc, below, sizes, triplets)
 }
 
 #[test]
-fn reads_each_format_and_symmetry(rt: HostRuntime) -> Result<(), Fail> {
-    for &(below, (sizes, triplets)) in &MEANINGS {
-        let same = means(&rt, below, sizes, triplets)?;
-        assert!(rt; same, "at {below}");
+fn reads_each_format_and_symmetry(rt: HostRuntime) {
+    for case in MEANINGS {
+        assert!(rt; is_meant(rt.alloc(), case), "at {}", case.0);
     }
-    Ok(())
 }
 
 /// Texts below the first words of the header, and the kinds of their refusals as i32.
-const REFUSALS: [(&str, MatrixMarketErrorKind); 21] = [
+const REFUSALS: &[(&str, MatrixMarketErrorKind)] = &[
     (
         "coordinate integer symmetric\n2 2 2\n1 1 7\n1 2 3\n",
         NotLowerTriangle,
@@ -164,9 +168,14 @@ const REFUSALS: [(&str, MatrixMarketErrorKind); 21] = [
     ),
 ];
 
+// Whether the text of a case is refused with its kind.
+fn is_refused(alloc: Global, &(below, kind): &(&str, MatrixMarketErrorKind)) -> bool {
+    refusal::<i32>(alloc, START, below) == Some(kind)
+}
+
 #[test]
 fn refuses_by_the_first_fault(rt: HostRuntime) {
-    for &(below, kind) in &REFUSALS {
-        assert_eq!(rt; refusal::<i32>(&rt, START, below), Some(kind), "at {below}");
+    for case in REFUSALS {
+        assert!(rt; is_refused(rt.alloc(), case), "at {}", case.0);
     }
 }

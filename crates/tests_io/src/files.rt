@@ -4,17 +4,14 @@
 
 use sparse_base::coo::CooMatrix;
 use sparse_io::{
-    MatrixMarketError, MatrixMarketErrorKind, load_coo_from_matrix_market_file,
-    save_to_matrix_market_file,
+    MatrixMarketErrorKind, load_coo_from_matrix_market_file, save_to_matrix_market_file,
 };
 use std::alloc::{AllocError, Global};
 use std::fs::remove_file;
 use std::io::ErrorKind;
-use std::rt::Files;
-use std::test::Fail;
 
 /// The kind of the refusal of a file, read as i32.
-pub fn refusal(rt: &(impl Files + AllocGlobal), path: &str) -> Option<MatrixMarketErrorKind> {
+pub fn refusal(rt: &HostRuntime, path: &str) -> Option<MatrixMarketErrorKind> {
     match load_coo_from_matrix_market_file::<i32>(rt, path) {
         Ok(_) => None,
         Err(error) => Some(error.kind()),
@@ -37,50 +34,51 @@ fn matrix(
     Ok(matrix)
 }
 
+// Whether a file means this list.
+fn is_read(rt: &HostRuntime, path: &str, matrix: &CooMatrix<i32>) -> bool {
+    match load_coo_from_matrix_market_file::<i32>(rt, path) {
+        Ok(again) => again == *matrix,
+        Err(_) => false,
+    }
+}
+
 // Whether a list that is written to a file is read from it again.
-fn is_kept(rt: &(impl Files + AllocGlobal), path: &str) -> Result<bool, MatrixMarketError> {
-    let matrix = matrix(rt.alloc(), 2, 3, &[(1, 2, -5), (0, 0, 7)])?;
-    save_to_matrix_market_file(rt, &matrix, path)?;
-    let again: CooMatrix<i32> = load_coo_from_matrix_market_file(rt, path)?;
-    remove_file(rt, path)?;
-    Ok(again == matrix)
-}
-
-#[test]
-fn reads_what_it_wrote(rt: HostRuntime) -> Result<(), Fail> {
-    assert!(rt; is_kept(&rt, "written.mtx")?);
-    Ok(())
-}
-
-#[test]
-fn refuses_files_that_cannot_be_read(rt: HostRuntime) {
-    let missing = refusal(&rt, "/nonexistent/file.mtx");
-    assert_eq!(rt;
-        missing,
-        Some(MatrixMarketErrorKind::IOError(ErrorKind::NotFound))
-    );
-    let folder = refusal(&rt, "/tmp");
-    assert_eq!(rt;
-        folder,
-        Some(MatrixMarketErrorKind::IOError(ErrorKind::IsADirectory))
-    );
-}
-
-// The kind of the refusal to write a list of one triplet to a file.
-fn refusal_to_write(
-    rt: &(impl Files + AllocGlobal),
-    path: &str,
-) -> Result<Option<MatrixMarketErrorKind>, AllocError> {
-    let matrix = matrix(rt.alloc(), 1, 1, &[(0, 0, 1)])?;
-    match save_to_matrix_market_file(rt, &matrix, path) {
-        Ok(()) => Ok(None),
-        Err(error) => Ok(Some(error.kind())),
+fn is_kept(rt: &HostRuntime, path: &str) -> bool {
+    match matrix(rt.alloc(), 2, 3, &[(1, 2, -5), (0, 0, 7)]) {
+        Ok(matrix) => {
+            save_to_matrix_market_file(rt, &matrix, path).is_ok() && is_read(rt, path, &matrix)
+        }
+        Err(_) => false,
     }
 }
 
 #[test]
-fn refuses_a_full_device(rt: HostRuntime) -> Result<(), Fail> {
+fn reads_what_it_wrote(rt: HostRuntime) {
+    assert!(rt; is_kept(&rt, "written.mtx"));
+    assert!(rt; remove_file(&rt, "written.mtx").is_ok());
+}
+
+#[test]
+fn refuses_files_that_cannot_be_read(rt: HostRuntime) {
+    let missing = MatrixMarketErrorKind::IOError(ErrorKind::NotFound);
+    assert!(rt; refusal(&rt, "/nonexistent/file.mtx") == Some(missing));
+    let folder = MatrixMarketErrorKind::IOError(ErrorKind::IsADirectory);
+    assert!(rt; refusal(&rt, "/tmp") == Some(folder));
+}
+
+// Whether a list of one triplet is refused by a file for this reason.
+fn is_refused(rt: &HostRuntime, path: &str, kind: MatrixMarketErrorKind) -> bool {
+    let Ok(matrix) = matrix(rt.alloc(), 1, 1, &[(0, 0, 1)]) else {
+        return false;
+    };
+    match save_to_matrix_market_file(rt, &matrix, path) {
+        Ok(()) => false,
+        Err(error) => error.kind() == kind,
+    }
+}
+
+#[test]
+fn refuses_a_full_device(rt: HostRuntime) {
     let full = MatrixMarketErrorKind::IOError(ErrorKind::StorageFull);
-    assert!(rt; refusal_to_write(&rt, "/dev/full")? == Some(full));
-    Ok(())
+    assert!(rt; is_refused(&rt, "/dev/full", full));
 }

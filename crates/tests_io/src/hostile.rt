@@ -12,7 +12,6 @@ use sparse_io::{
 use std::alloc::{AllocError, Global};
 use std::fs;
 use std::io::ErrorKind;
-use std::rt::Files;
 use std::test::Fail;
 
 /// Texts with each format, field and symmetry, each line end and comments.
@@ -41,25 +40,34 @@ fn are_same<T: MatrixMarketScalar + PartialEq>(
 }
 
 // Whether both readers agree on the text.
-fn agree<T: MatrixMarketScalar + PartialEq>(alloc: Global, text: &str) -> Result<bool, AllocError> {
-    let wanted = meaning::<T>(alloc, text)?;
-    Ok(are_same(&load_coo_from_matrix_market_str(alloc, text), &wanted))
+fn agree<T: MatrixMarketScalar + PartialEq>(alloc: Global, text: &str) -> bool {
+    match meaning::<T>(alloc, text) {
+        Ok(wanted) => are_same(&load_coo_from_matrix_market_str(alloc, text), &wanted),
+        Err(AllocError) => false,
+    }
 }
 
 // The same for integers and patterns.
-fn agree_on_both(alloc: Global, text: &str) -> Result<bool, AllocError> {
-    Ok(agree::<i32>(alloc, text)? && agree::<()>(alloc, text)?)
+fn agree_on_both(alloc: Global, text: &str) -> bool {
+    agree::<i32>(alloc, text) && agree::<()>(alloc, text)
+}
+
+// Whether both readers agree on the text of these bytes.
+fn agree_on_bytes(alloc: Global, bytes: &[u8]) -> bool {
+    match std::str::from_utf8(bytes) {
+        Ok(text) => agree_on_both(alloc, text),
+        Err(_) => false,
+    }
 }
 
 #[test]
-fn a_text_cut_at_each_byte(rt: HostRuntime) -> Result<(), Fail> {
+fn a_text_cut_at_each_byte(rt: HostRuntime) {
     for text in &TEXTS {
         for end in 0..=text.len() {
-            let front = std::str::from_utf8(&text.as_bytes()[..end])?;
-            assert!(rt; agree_on_both(rt.alloc(), front)?, "{front}");
+            let front = &text.as_bytes()[..end];
+            assert!(rt; agree_on_bytes(rt.alloc(), front), "{end} bytes of {text}");
         }
     }
-    Ok(())
 }
 
 // The text with the character at a position replaced.
@@ -71,46 +79,58 @@ fn replaced(alloc: Global, text: &str, at: usize, by: char) -> Result<String, Al
     Ok(copy)
 }
 
+// Whether both readers agree on the text with the character at a position replaced.
+fn agree_on_replaced(alloc: Global, text: &str, at: usize, by: char) -> bool {
+    match replaced(alloc, text, at, by) {
+        Ok(copy) => agree_on_both(alloc, copy.as_str()),
+        Err(AllocError) => false,
+    }
+}
+
 // The characters past ASCII take two bytes each; among them are a line end and a blank of Unicode.
 #[test]
-fn a_character_replaced_by_each_of_256(rt: HostRuntime) -> Result<(), Fail> {
-    for text in [TEXTS[0], TEXTS[2]] {
+fn a_character_replaced_by_each_of_256(rt: HostRuntime) {
+    for text in &[TEXTS[0], TEXTS[2]] {
         for at in 0..text.len() {
             for value in 0..=255_u8 {
-                let copy = replaced(rt.alloc(), text, at, char::from(value))?;
-                assert!(rt;
-                    agree_on_both(rt.alloc(), copy.as_str())?,
-                    "{value} at {at} in {text}"
-                );
+                let agreed = agree_on_replaced(rt.alloc(), text, at, char::from(value));
+                assert!(rt; agreed, "{value} at {at} in {text}");
             }
         }
     }
-    Ok(())
 }
 
 // Whether a file with these bytes, which are not UTF-8, is refused as invalid.
-fn is_invalid(rt: &(impl Files + AllocGlobal), bytes: &[u8]) -> Result<bool, Fail> {
-    fs::write(rt, "replaced.mtx", bytes)?;
-    let refusal = files::refusal(rt, "replaced.mtx");
-    fs::remove_file(rt, "replaced.mtx")?;
-    Ok(refusal == Some(MatrixMarketErrorKind::IOError(ErrorKind::InvalidData)))
+fn is_invalid(rt: &HostRuntime, bytes: &[u8]) -> bool {
+    let invalid = MatrixMarketErrorKind::IOError(ErrorKind::InvalidData);
+    fs::write(rt, "replaced.mtx", bytes).is_ok()
+        && files::refusal(rt, "replaced.mtx") == Some(invalid)
+        && fs::remove_file(rt, "replaced.mtx").is_ok()
+}
+
+// Whether a file with the text in which the byte at a position is replaced is refused as invalid.
+fn is_invalid_with(rt: &HostRuntime, text: &str, at: usize, value: u8) -> bool {
+    let Ok(mut bytes) = text.as_bytes().to_vec(rt.alloc()) else {
+        return false;
+    };
+    if let Some(byte) = bytes.get_mut(at) {
+        *byte = value;
+    }
+    is_invalid(rt, &bytes)
 }
 
 #[test]
-fn files_that_are_not_utf_8(rt: HostRuntime) -> Result<(), Fail> {
+fn files_that_are_not_utf_8(rt: HostRuntime) {
     let text = TEXTS[0];
     for at in 0..text.len() {
         for value in 128..=255 {
-            let mut bytes = text.as_bytes().to_vec(rt.alloc())?;
-            bytes[at] = value;
-            assert!(rt; is_invalid(&rt, &bytes)?, "{value} at {at}");
+            assert!(rt; is_invalid_with(&rt, text, at, value), "{value} at {at}");
         }
     }
-    Ok(())
 }
 
 /// Lines of a part that is repeated, between what stands before and after it.
-const LONG_LINES: [(&str, &str, &str); 6] = [
+const LONG_LINES: &[(&str, &str, &str)] = &[
     (
         "%%MatrixMarket matrix coordinate integer general\n%",
         "x",
@@ -153,22 +173,28 @@ fn long_text(
 }
 
 // Whether both readers agree on a text with this line.
-fn agree_on_long(alloc: Global, line: (&str, &str, &str)) -> Result<bool, AllocError> {
-    let text = long_text(alloc, line)?;
-    agree::<i32>(alloc, text.as_str())
+fn agree_on_long(alloc: Global, line: (&str, &str, &str)) -> bool {
+    match long_text(alloc, line) {
+        Ok(text) => agree::<i32>(alloc, text.as_str()),
+        Err(AllocError) => false,
+    }
 }
 
 #[test]
-fn lines_of_a_million_bytes(rt: HostRuntime) -> Result<(), Fail> {
-    for &(before, part, after) in &LONG_LINES {
-        let agreed = agree_on_long(rt.alloc(), (before, part, after))?;
-        assert!(rt; agreed, "{before}{part}{after}");
+fn lines_of_a_million_bytes(rt: HostRuntime) {
+    for &line in LONG_LINES {
+        assert!(rt;
+            agree_on_long(rt.alloc(), line),
+            "{}{}{}",
+            line.0,
+            line.1,
+            line.2
+        );
     }
-    Ok(())
 }
 
 // The greatest size in kilobytes that the memory of this process has had.
-fn peak(rt: &(impl Files + AllocGlobal)) -> Option<usize> {
+fn peak(rt: &HostRuntime) -> Option<usize> {
     let status = fs::read_to_string(rt, "/proc/self/status").ok()?;
     let (_, after) = status.as_str().split_once("VmPeak:")?;
     let (number, _) = after.split_once("kB")?;
@@ -176,36 +202,52 @@ fn peak(rt: &(impl Files + AllocGlobal)) -> Option<usize> {
 }
 
 /// The headers of texts that promise too many entries.
-const HEADS: [&str; 3] = [
+const HEADS: &[&str] = &[
     "%%MatrixMarket matrix coordinate integer general\n",
     "%%MatrixMarket matrix coordinate integer symmetric\n",
     "%%MatrixMarket matrix coordinate integer skew-symmetric\n",
 ];
 
 /// Shape lines that promise too many entries, each with one entry below.
-const PROMISES: [&str; 3] = [
+const PROMISES: &[&str] = &[
     "9 9 1000000000\n2 1 5\n",
     "9 9 100000000000\n2 1 5\n",
     "9 9 18446744073709551615\n2 1 5\n",
 ];
 
 // Whether a text with these lines is refused, with each header.
-fn are_refused(rt: &impl AllocGlobal, below: &str) -> bool {
-    let mut refused = true;
-    for head in &HEADS {
-        let refusal = refusal::<i32>(rt, head, below);
-        refused = refused && refusal == Some(MatrixMarketErrorKind::EntryMismatch);
+fn are_refused(alloc: Global, below: &str) -> bool {
+    for head in HEADS {
+        if refusal::<i32>(alloc, head, below) != Some(MatrixMarketErrorKind::EntryMismatch) {
+            return false;
+        }
     }
-    refused
+    true
+}
+
+// Whether all these texts are refused.
+fn all_are_refused(alloc: Global) -> bool {
+    for below in PROMISES {
+        if !are_refused(alloc, below) {
+            return false;
+        }
+    }
+    true
+}
+
+// By how many kilobytes the greatest size has grown after the refusals.
+fn growth(rt: &HostRuntime) -> Option<usize> {
+    let before = peak(rt)?;
+    if !all_are_refused(rt.alloc()) {
+        return None;
+    }
+    let after = peak(rt)?;
+    Some(after.saturating_sub(before))
 }
 
 #[test]
 fn promised_entries_take_no_memory(rt: HostRuntime) -> Result<(), Fail> {
-    let before = peak(&rt).ok_or("no peak")?;
-    for below in &PROMISES {
-        assert!(rt; are_refused(&rt, below), "{below}");
-    }
-    let after = peak(&rt).ok_or("no peak")?;
-    assert!(rt; after.saturating_sub(before) < 1024, "{before} {after}");
+    let growth = growth(&rt).ok_or("no peak, or a text that is not refused")?;
+    assert!(rt; growth < 1024, "{growth}");
     Ok(())
 }

@@ -6,28 +6,28 @@ use sparse_base::coo::CooMatrix;
 use sparse_io::{
     MatrixMarketError, MatrixMarketErrorKind, MatrixMarketScalar, load_coo_from_matrix_market_str,
 };
-use std::test::Fail;
+use std::alloc::Global;
 
 /// The header of most texts that are read.
 pub const HEADER: &str = "%%MatrixMarket matrix coordinate integer general\n";
 
 /// What the text of two parts means.
 pub fn load<T: MatrixMarketScalar>(
-    rt: &impl AllocGlobal,
+    alloc: Global,
     head: &str,
     below: &str,
 ) -> Result<CooMatrix<T>, MatrixMarketError> {
-    let text = format!(in rt.alloc(); "{head}{below}")?;
-    load_coo_from_matrix_market_str(rt.alloc(), text.as_str())
+    let text = format!(in alloc; "{head}{below}")?;
+    load_coo_from_matrix_market_str(alloc, text.as_str())
 }
 
 /// The kind of the refusal of a text of two parts.
 pub fn refusal<T: MatrixMarketScalar>(
-    rt: &impl AllocGlobal,
+    alloc: Global,
     head: &str,
     below: &str,
 ) -> Option<MatrixMarketErrorKind> {
-    match load::<T>(rt, head, below) {
+    match load::<T>(alloc, head, below) {
         Ok(_) => None,
         Err(error) => Some(error.kind()),
     }
@@ -43,7 +43,7 @@ struct Case {
     values: &'static [i64],
 }
 
-const CASES: [Case; 5] = [
+const CASES: &[Case] = &[
     // Entries that are repeated stay, in the order of the text.
     Case {
         head: HEADER,
@@ -90,20 +90,21 @@ const CASES: [Case; 5] = [
 ];
 
 // Whether a text means the sizes and the triplets of its case.
-fn is_read(rt: &impl AllocGlobal, case: &Case) -> Result<bool, MatrixMarketError> {
-    let matrix: CooMatrix<W64> = load(rt, case.head, case.below)?;
-    Ok(
-        (matrix.nrows(), matrix.ncols()) == case.sizes
-            && matrix.row_indices() == case.rows
-            && matrix.col_indices() == case.cols
-            && are(matrix.values(), case.values),
-    )
+fn is_read(alloc: Global, case: &Case) -> bool {
+    match load::<W64>(alloc, case.head, case.below) {
+        Ok(matrix) => {
+            (matrix.nrows(), matrix.ncols()) == case.sizes
+                && matrix.row_indices() == case.rows
+                && matrix.col_indices() == case.cols
+                && are(matrix.values(), case.values)
+        }
+        Err(_) => false,
+    }
 }
 
 #[test]
-fn reads_the_triplets_of_a_text(rt: HostRuntime) -> Result<(), Fail> {
-    for case in &CASES {
-        assert!(rt; is_read(&rt, case)?, "at {}{}", case.head, case.below);
+fn reads_the_triplets_of_a_text(rt: HostRuntime) {
+    for case in CASES {
+        assert!(rt; is_read(rt.alloc(), case), "at {}{}", case.head, case.below);
     }
-    Ok(())
 }

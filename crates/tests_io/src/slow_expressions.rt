@@ -13,13 +13,13 @@ use std::test::Fail;
 type List = (usize, usize, &'static [(usize, usize, i64)]);
 
 // Some places occur twice, one of them with the sum zero.
-const SMALL: [List; 3] = [
+const SMALL: &[List] = &[
     (2, 2, &[(1, 0, 3), (0, 1, -2), (1, 0, -3), (1, 1, 5)]),
     (2, 3, &[(1, 2, 7), (0, 0, 2), (0, 2, -1)]),
     (3, 2, &[(2, 0, 4), (0, 1, -6), (0, 1, 1)]),
 ];
 
-const SQUARE: [List; 3] = [
+const SQUARE: &[List] = &[
     (3, 3, &[(0, 1, 2), (1, 2, -1), (2, 0, 3)]),
     (3, 3, &[(2, 2, 5), (0, 0, 1), (2, 2, -4), (1, 0, 6)]),
     (3, 3, &[(1, 1, -7)]),
@@ -42,26 +42,40 @@ fn are_same(fast: &CsrMatrix<W64>, slow: &CooMatrix<W64>) -> bool {
             && a.2.get() == b.2.get())
 }
 
-// Whether both evaluators give the expression this value or this refusal, by rows.
-fn agree_by_rows(alloc: Global, expr: &Expr, inputs: &[CooMatrix<W64>]) -> bool {
-    match evaluate_rows(alloc, expr, inputs) {
-        Ok(fast) => match expression_value(alloc, expr, inputs) {
-            Ok(slow) => are_same(&fast, &slow),
-            Err(_) => false,
-        },
-        Err(error) => expression_value(alloc, expr, inputs).err() == Some(error),
+// Whether both evaluators gave this value or this refusal.
+fn are_equal(
+    fast: &Result<CsrMatrix<W64>, ExprError>,
+    slow: &Result<CooMatrix<W64>, ExprError>,
+) -> bool {
+    match (fast, slow) {
+        (Ok(fast), Ok(slow)) => are_same(fast, slow),
+        (Err(fast), Err(slow)) => fast == slow,
+        (Ok(_), Err(_)) | (Err(_), Ok(_)) => false,
     }
 }
 
-// The same by columns, which are the rows of the transpose.
-fn agree_by_cols(alloc: Global, expr: &Expr, turned: &Expr, inputs: &[CooMatrix<W64>]) -> bool {
+// Whether both evaluators give the expression this value or this refusal, by rows.
+fn agree_by_rows(alloc: Global, expr: &Expr, inputs: &[CooMatrix<W64>]) -> bool {
+    let slow = expression_value(alloc, expr, inputs);
+    are_equal(&evaluate_rows(alloc, expr, inputs), &slow)
+}
+
+// The columns of the value, as the rows of the transpose.
+fn evaluate_turned(
+    alloc: Global,
+    expr: &Expr,
+    inputs: &[CooMatrix<W64>],
+) -> Result<CsrMatrix<W64>, ExprError> {
     match evaluate_cols(alloc, expr, inputs) {
-        Ok(fast) => match expression_value(alloc, turned, inputs) {
-            Ok(slow) => are_same(&fast.transpose_as_csr(), &slow),
-            Err(_) => false,
-        },
-        Err(error) => expression_value(alloc, turned, inputs).err() == Some(error),
+        Ok(value) => Ok(value.transpose_as_csr()),
+        Err(error) => Err(error),
     }
+}
+
+// The same by columns.
+fn agree_by_cols(alloc: Global, expr: &Expr, turned: &Expr, inputs: &[CooMatrix<W64>]) -> bool {
+    let slow = expression_value(alloc, turned, inputs);
+    are_equal(&evaluate_turned(alloc, expr, inputs), &slow)
 }
 
 // The expression of the words, transposed.
@@ -74,8 +88,18 @@ fn turned(alloc: Global, words: &str) -> Result<Expr, ExprError> {
 // Whether the evaluators agree on the words, by rows and by columns.
 fn agree(alloc: Global, words: &str, inputs: &[CooMatrix<W64>]) -> Result<bool, ExprError> {
     let expr = Expr::from_words(alloc, words)?;
+    agree_on(alloc, words, &expr, inputs)
+}
+
+// The same of the expression that the words say.
+fn agree_on(
+    alloc: Global,
+    words: &str,
+    expr: &Expr,
+    inputs: &[CooMatrix<W64>],
+) -> Result<bool, ExprError> {
     let turned = turned(alloc, words)?;
-    Ok(agree_by_rows(alloc, &expr, inputs) && agree_by_cols(alloc, &expr, &turned, inputs))
+    Ok(agree_by_rows(alloc, expr, inputs) && agree_by_cols(alloc, expr, &turned, inputs))
 }
 
 // The last word is none.
@@ -106,18 +130,32 @@ fn agree_on_short(
     }
 }
 
-#[test]
-fn all_expressions_of_five_words(rt: HostRuntime) -> Result<(), Fail> {
-    let inputs = matrices(rt.alloc(), &SMALL)?;
+// The number of texts that say an expression, or the number of the first on which the evaluators differ.
+fn count_agreed(
+    alloc: Global,
+    inputs: &[CooMatrix<W64>],
+) -> Result<Result<usize, usize>, ExprError> {
     let mut count: usize = 0;
     for number in 0..100_000 {
-        if let Some(agreed) = agree_on_short(rt.alloc(), number, &inputs)? {
-            assert!(rt; agreed, "{number}");
-            count = count.saturating_add(1);
+        match agree_on_short(alloc, number, inputs)? {
+            Some(true) => count = count.saturating_add(1),
+            Some(false) => return Ok(Err(number)),
+            None => {}
         }
     }
-    // The number of texts that say an expression.
-    assert!(rt; count == 4708, "{count}");
+    Ok(Ok(count))
+}
+
+// The same over the small matrices.
+fn count_agreed_on_small(alloc: Global) -> Result<Result<usize, usize>, ExprError> {
+    let inputs = matrices(alloc, SMALL)?;
+    count_agreed(alloc, &inputs)
+}
+
+#[test]
+fn all_expressions_of_five_words(rt: HostRuntime) -> Result<(), Fail> {
+    let count = count_agreed_on_small(rt.alloc())?;
+    assert!(rt; count == Ok(4708), "{count:?}");
     Ok(())
 }
 
@@ -148,15 +186,23 @@ fn long_text(alloc: Global, count: usize) -> Result<String, AllocError> {
     Ok(text)
 }
 
-// Whether the evaluators agree on a text of a thousand words.
-fn agree_on_long(alloc: Global) -> Result<bool, ExprError> {
+// Whether the evaluators agree on a text of a thousand words over these matrices.
+fn agree_on_long(alloc: Global, inputs: &[CooMatrix<W64>]) -> Result<bool, ExprError> {
     let text = long_text(alloc, 1000)?;
-    let inputs = matrices(alloc, &SQUARE)?;
-    Ok(text.len() == 2000 && agree(alloc, &text, &inputs)?)
+    if text.len() != 2000 {
+        return Ok(false);
+    }
+    agree(alloc, &text, inputs)
+}
+
+// The same over the square matrices.
+fn agree_on_long_of_square(alloc: Global) -> Result<bool, ExprError> {
+    let inputs = matrices(alloc, SQUARE)?;
+    agree_on_long(alloc, &inputs)
 }
 
 #[test]
 fn an_expression_of_a_thousand_words(rt: HostRuntime) -> Result<(), Fail> {
-    assert!(rt; agree_on_long(rt.alloc())?);
+    assert!(rt; agree_on_long_of_square(rt.alloc())?);
     Ok(())
 }

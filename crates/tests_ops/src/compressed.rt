@@ -1,6 +1,6 @@
 //! Compressed matrices, converted.
 
-use crate::matrices::{columns_are, csr, csr_of, equals, rows_are};
+use crate::matrices::{columns_are, csc, csr, csr_of, equals, is_empty_list, rows_are};
 use crate::scalars::are;
 use sparse_algebra::scalar::{W32, W64};
 use sparse_base::coo::CooMatrix;
@@ -25,124 +25,154 @@ fn by_columns(alloc: Global) -> Option<CscMatrix<i32>> {
 }
 
 // Whether the rows become columns with these arrays, and the same rows again.
-fn become_columns_and_back(alloc: Global, rows: &CsrMatrix<i32>) -> Option<bool> {
-    let csc = convert_csr_csc(alloc, rows).ok()?;
+fn become_columns_and_back(alloc: Global, rows: &CsrMatrix<i32>) -> bool {
+    let Ok(csc) = convert_csr_csc(alloc, rows) else {
+        return false;
+    };
     let same = equals(convert_csc_csr(alloc, &csc).ok(), rows);
-    Some(columns_are(Ok(csc), (&[0, 1, 2, 3], &[0, 1, 0], &[1, 4, 0])) && same)
+    columns_are(Ok(csc), (&[0, 1, 2, 3], &[0, 1, 0], &[1, 4, 0])) && same
 }
 
-fn rows_become_columns_and_back(alloc: Global) -> Option<bool> {
-    become_columns_and_back(alloc, &by_rows(alloc)?)
+fn rows_become_columns_and_back(alloc: Global) -> bool {
+    match by_rows(alloc) {
+        Some(rows) => become_columns_and_back(alloc, &rows),
+        None => false,
+    }
 }
 
 #[test]
 fn rows_to_columns_and_back(rt: HostRuntime) {
-    assert!(rt; rows_become_columns_and_back(rt.alloc()) == Some(true));
+    assert!(rt; rows_become_columns_and_back(rt.alloc()));
 }
 
 fn is_list(coo: &CooMatrix<W64>, rows: &[usize], cols: &[usize], numbers: &[i32]) -> bool {
-    (coo.nrows(), coo.ncols()) == (2, 3)
+    coo.nrows() == 2
+        && coo.ncols() == 3
         && coo.row_indices() == rows
         && coo.col_indices() == cols
         && are(coo.values(), numbers)
 }
 
 // Whether the rows become a list with these values, and the same rows again.
-fn rows_become_a_list_and_back(alloc: Global) -> Option<bool> {
-    let rows = csr(alloc, (2, 3, &[0, 2, 3], &[0, 2, 1], &[1, 0, 4]))?;
-    let coo = convert_csr_coo(alloc, &rows).ok()?;
-    let same = equals(convert_coo_csr(alloc, &coo).ok(), &rows);
-    Some(same && is_list(&coo, &[0, 0, 1], &[0, 2, 1], &[1, 0, 4]))
+fn rows_become_a_list_and_back(alloc: Global) -> bool {
+    let Some(rows) = csr(alloc, (2, 3, &[0, 2, 3], &[0, 2, 1], &[1, 0, 4])) else {
+        return false;
+    };
+    match convert_csr_coo(alloc, &rows) {
+        Ok(coo) => {
+            equals(convert_coo_csr(alloc, &coo).ok(), &rows)
+                && is_list(&coo, &[0, 0, 1], &[0, 2, 1], &[1, 0, 4])
+        }
+        Err(_) => false,
+    }
 }
 
 // The same of columns.
-fn columns_become_a_list_and_back(alloc: Global) -> Option<bool> {
-    let turned = csr(alloc, (3, 2, &[0, 1, 2, 3], &[0, 1, 0], &[1, 4, 0]))?;
-    let columns = turned.transpose_as_csc();
-    let coo = convert_csc_coo(alloc, &columns).ok()?;
-    let same = equals(convert_coo_csc(alloc, &coo).ok(), &columns);
-    Some(same && is_list(&coo, &[0, 1, 0], &[0, 1, 2], &[1, 4, 0]))
+fn columns_become_a_list_and_back(alloc: Global) -> bool {
+    let Some(columns) = csc(alloc, (2, 3, &[0, 1, 2, 3], &[0, 1, 0], &[1, 4, 0])) else {
+        return false;
+    };
+    match convert_csc_coo(alloc, &columns) {
+        Ok(coo) => {
+            equals(convert_coo_csc(alloc, &coo).ok(), &columns)
+                && is_list(&coo, &[0, 1, 0], &[0, 1, 2], &[1, 4, 0])
+        }
+        Err(_) => false,
+    }
 }
 
 #[test]
 fn to_lists_and_back(rt: HostRuntime) {
     one_matrix_law::<W64>();
-    assert!(rt; rows_become_a_list_and_back(rt.alloc()) == Some(true));
-    assert!(rt; columns_become_a_list_and_back(rt.alloc()) == Some(true));
+    assert!(rt; rows_become_a_list_and_back(rt.alloc()));
+    assert!(rt; columns_become_a_list_and_back(rt.alloc()));
 }
 
 // Whether a dense matrix was made, of this size and with these values, column by column.
 fn is_dense(made: Result<DMatrix<i32>, AllocError>, size: (usize, usize), values: &[i32]) -> bool {
     match made {
-        Ok(dense) => (dense.nrows(), dense.ncols()) == size && dense.as_slice() == values,
+        Ok(dense) => {
+            dense.nrows() == size.0 && dense.ncols() == size.1 && dense.as_slice() == values
+        }
         Err(_) => false,
     }
 }
 
-fn columns_become_dense(alloc: Global) -> Option<bool> {
-    let csc = by_columns(alloc)?;
-    Some(is_dense(convert_csc_dense(alloc, &csc), (2, 3), &[1, 0, 0, 4, 0, 0]))
+fn columns_become_dense(alloc: Global) -> bool {
+    match by_columns(alloc) {
+        Some(csc) => is_dense(convert_csc_dense(alloc, &csc), (2, 3), &[1, 0, 0, 4, 0, 0]),
+        None => false,
+    }
 }
 
 // Whether the rows become a dense matrix, whose rows have lost the stored zero.
-fn rows_become_dense(alloc: Global) -> Option<bool> {
-    let dense = convert_csr_dense(alloc, &by_rows(alloc)?).ok()?;
+fn rows_become_dense(alloc: Global) -> bool {
+    let Some(rows) = by_rows(alloc) else {
+        return false;
+    };
+    let Ok(dense) = convert_csr_dense(alloc, &rows) else {
+        return false;
+    };
     let lost = rows_are(
         convert_dense_csr(alloc, &dense),
         (&[0, 1, 2], &[0, 1], &[1, 4]),
     );
-    Some(is_dense(Ok(dense), (2, 3), &[1, 0, 0, 4, 0, 0]) && lost)
+    is_dense(Ok(dense), (2, 3), &[1, 0, 0, 4, 0, 0]) && lost
 }
 
 #[test]
 fn to_dense_matrices(rt: HostRuntime) {
     to_dense_law::<W64>();
-    assert!(rt; columns_become_dense(rt.alloc()) == Some(true));
-    assert!(rt; rows_become_dense(rt.alloc()) == Some(true));
+    assert!(rt; columns_become_dense(rt.alloc()));
+    assert!(rt; rows_become_dense(rt.alloc()));
 }
 
-// Whether the list was made of a matrix of this size without places.
-fn is_empty(made: Result<CooMatrix<i32>, AllocError>, size: (usize, usize)) -> bool {
-    match made {
-        Ok(coo) => (coo.nrows(), coo.ncols()) == size && coo.nnz() == 0,
+// Whether rows of this size without places become an empty list and a dense matrix without values.
+fn empty_rows_are_converted(alloc: Global, size: (usize, usize)) -> bool {
+    match CsrMatrix::zeros(alloc, size.0, size.1) {
+        Ok(csr) => {
+            is_empty_list(convert_csr_coo(alloc, &csr), size)
+                && is_dense(convert_csr_dense(alloc, &csr), size, &[])
+        }
         Err(_) => false,
     }
 }
 
-// Whether rows of this size without places become an empty list and a dense matrix without values.
-fn empty_rows_are_converted(alloc: Global, size: (usize, usize)) -> Option<bool> {
-    let csr = CsrMatrix::zeros(alloc, size.0, size.1).ok()?;
-    let listed = is_empty(convert_csr_coo(alloc, &csr), size);
-    Some(listed && is_dense(convert_csr_dense(alloc, &csr), size, &[]))
-}
-
 // The same of columns.
-fn empty_columns_are_converted(alloc: Global, size: (usize, usize)) -> Option<bool> {
-    let csc = CscMatrix::zeros(alloc, size.0, size.1).ok()?;
-    let listed = is_empty(convert_csc_coo(alloc, &csc), size);
-    Some(listed && is_dense(convert_csc_dense(alloc, &csc), size, &[]))
+fn empty_columns_are_converted(alloc: Global, size: (usize, usize)) -> bool {
+    match CscMatrix::zeros(alloc, size.0, size.1) {
+        Ok(csc) => {
+            is_empty_list(convert_csc_coo(alloc, &csc), size)
+                && is_dense(convert_csc_dense(alloc, &csc), size, &[])
+        }
+        Err(_) => false,
+    }
 }
 
 #[test]
 fn matrices_without_places(rt: HostRuntime) {
     for size in [(0, 0), (0, 3), (3, 0)] {
-        assert!(rt; empty_rows_are_converted(rt.alloc(), size) == Some(true));
-        assert!(rt; empty_columns_are_converted(rt.alloc(), size) == Some(true));
+        assert!(rt; empty_rows_are_converted(rt.alloc(), size));
+        assert!(rt; empty_columns_are_converted(rt.alloc(), size));
     }
 }
 
-fn has_no_columns(alloc: Global) -> Option<bool> {
-    let csr: CsrMatrix<W32> = convert_coo_csr(alloc, &CooMatrix::new(alloc, 3, 0)).ok()?;
-    Some(columns_are(convert_csr_csc(alloc, &csr), (&[0], &[], &[])))
+fn has_no_columns(alloc: Global) -> bool {
+    let Ok(csr) = convert_coo_csr(alloc, &CooMatrix::<W32>::new(alloc, 3, 0)) else {
+        return false;
+    };
+    columns_are(convert_csr_csc(alloc, &csr), (&[0], &[], &[]))
 }
 
-fn has_no_rows(alloc: Global) -> Option<bool> {
-    let csc: CscMatrix<W32> = convert_coo_csc(alloc, &CooMatrix::new(alloc, 0, 2)).ok()?;
-    Some(rows_are(convert_csc_csr(alloc, &csc), (&[0], &[], &[])))
+fn has_no_rows(alloc: Global) -> bool {
+    let Ok(csc) = convert_coo_csc(alloc, &CooMatrix::<W32>::new(alloc, 0, 2)) else {
+        return false;
+    };
+    rows_are(convert_csc_csr(alloc, &csc), (&[0], &[], &[]))
 }
 
 #[test]
 fn a_list_without_rows_or_columns(rt: HostRuntime) {
-    assert!(rt; has_no_columns(rt.alloc()) == Some(true));
-    assert!(rt; has_no_rows(rt.alloc()) == Some(true));
+    assert!(rt; has_no_columns(rt.alloc()));
+    assert!(rt; has_no_rows(rt.alloc()));
 }

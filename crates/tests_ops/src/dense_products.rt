@@ -129,43 +129,76 @@ const UPDATES: &[Update] = &[
     ),
 ];
 
-// Updates C by rows, and returns whether the sizes fit.
-fn is_updated_by_rows(alloc: Global, c: &mut DMatrix<W64>, update: &Update) -> Option<bool> {
-    let (arrays, (turned, b_turned), (beta, alpha), _, (b_size, b), _) = *update;
-    let a = csr(alloc, arrays)?;
-    let b = dense(alloc, b_size, b)?;
-    let (a, b) = (op_of(turned, &a), op_of(b_turned, &b));
-    Some(update_by_rows(W64::of(beta), c, W64::of(alpha), a, b))
+// Updates C by A and B, and returns whether the sizes fit.
+fn update_rows(
+    c: &mut DMatrix<W64>,
+    update: &Update,
+    a: &CsrMatrix<W64>,
+    b: &DMatrix<W64>,
+) -> bool {
+    let (turned, b_turned) = update.1;
+    let (beta, alpha) = update.2;
+    let (a, b) = (op_of(turned, a), op_of(b_turned, b));
+    update_by_rows(W64::of(beta), c, W64::of(alpha), a, b)
+}
+
+// Applies the update to C by rows, and returns whether the sizes fit.
+fn apply_by_rows(alloc: Global, c: &mut DMatrix<W64>, update: &Update) -> bool {
+    let Some(a) = csr(alloc, update.0) else {
+        return false;
+    };
+    match dense(alloc, update.4.0, update.4.1) {
+        Some(b) => update_rows(c, update, &a, &b),
+        None => false,
+    }
 }
 
 // Whether the update by rows leaves the values that are wanted.
-fn is_right_by_rows(alloc: Global, update: &Update) -> Option<bool> {
-    let mut c = dense(alloc, update.3.0, update.3.1)?;
-    let fits = is_updated_by_rows(alloc, &mut c, update) == Some(true);
-    Some(fits && are(c.as_slice(), update.5))
+fn is_right_by_rows(alloc: Global, update: &Update) -> bool {
+    match dense(alloc, update.3.0, update.3.1) {
+        Some(mut c) => apply_by_rows(alloc, &mut c, update) && are(c.as_slice(), update.5),
+        None => false,
+    }
 }
 
-// Updates C by columns. The transpose of a matrix by rows is the other one of the same matrix by columns.
-fn is_updated_by_columns(alloc: Global, c: &mut DMatrix<W64>, update: &Update) -> Option<bool> {
-    let (arrays, (turned, b_turned), (beta, alpha), _, (b_size, b), _) = *update;
-    let a = csr(alloc, arrays)?.transpose_as_csc();
-    let b = dense(alloc, b_size, b)?;
-    let (a, b) = (op_of(!turned, &a), op_of(b_turned, &b));
-    Some(update_by_columns(W64::of(beta), c, W64::of(alpha), a, b))
+// Updates C by A and B. The transpose of a matrix by rows is the other one of the same matrix by columns.
+fn update_columns(
+    c: &mut DMatrix<W64>,
+    update: &Update,
+    a: &CscMatrix<W64>,
+    b: &DMatrix<W64>,
+) -> bool {
+    let (turned, b_turned) = update.1;
+    let (beta, alpha) = update.2;
+    let (a, b) = (op_of(!turned, a), op_of(b_turned, b));
+    update_by_columns(W64::of(beta), c, W64::of(alpha), a, b)
+}
+
+// Applies the update to C by columns, and returns whether the sizes fit.
+fn apply_by_columns(alloc: Global, c: &mut DMatrix<W64>, update: &Update) -> bool {
+    let Some(a) = csr(alloc, update.0) else {
+        return false;
+    };
+    let a = a.transpose_as_csc();
+    match dense(alloc, update.4.0, update.4.1) {
+        Some(b) => update_columns(c, update, &a, &b),
+        None => false,
+    }
 }
 
 // Whether the update by columns leaves the values that are wanted.
-fn is_right_by_columns(alloc: Global, update: &Update) -> Option<bool> {
-    let mut c = dense(alloc, update.3.0, update.3.1)?;
-    let fits = is_updated_by_columns(alloc, &mut c, update) == Some(true);
-    Some(fits && are(c.as_slice(), update.5))
+fn is_right_by_columns(alloc: Global, update: &Update) -> bool {
+    match dense(alloc, update.3.0, update.3.1) {
+        Some(mut c) => apply_by_columns(alloc, &mut c, update) && are(c.as_slice(), update.5),
+        None => false,
+    }
 }
 
 #[test]
 fn updates(rt: HostRuntime) {
     for update in UPDATES {
-        assert!(rt; is_right_by_rows(rt.alloc(), update) == Some(true));
-        assert!(rt; is_right_by_columns(rt.alloc(), update) == Some(true));
+        assert!(rt; is_right_by_rows(rt.alloc(), update));
+        assert!(rt; is_right_by_columns(rt.alloc(), update));
     }
 }
 
@@ -204,24 +237,25 @@ fn is_product<T: Scalar>(made: Result<DMatrix<T>, AllocError>, want: &[i32]) -> 
 }
 
 fn by_columns<T: Scalar>(alloc: Global, arrays: Arrays<'_>) -> Option<CscMatrix<T>> {
-    Some(
-        csr::<T>(alloc, arrays)?
-            .transpose(alloc)
-            .ok()?
-            .transpose_as_csc(),
-    )
+    let a = csr::<T>(alloc, arrays)?;
+    match a.transpose(alloc) {
+        Ok(transposed) => Some(transposed.transpose_as_csc()),
+        Err(_) => None,
+    }
 }
 
 // Whether both products of a matrix and a column have these values.
-fn multiplies<T: Scalar>(
-    alloc: Global,
-    arrays: Arrays<'_>,
-    column: &[i32],
-    want: &[i32],
-) -> Option<bool> {
-    let b = dense::<T>(alloc, (column.len(), 1), column)?;
-    let by_rows = multiplies_by_rows(alloc, &csr(alloc, arrays)?, &b, want);
-    Some(by_rows && multiplies_by_columns(alloc, &by_columns(alloc, arrays)?, &b, want))
+fn multiplies<T: Scalar>(alloc: Global, arrays: Arrays<'_>, column: &[i32], want: &[i32]) -> bool {
+    let Some(b) = dense::<T>(alloc, (column.len(), 1), column) else {
+        return false;
+    };
+    let Some(rows) = csr(alloc, arrays) else {
+        return false;
+    };
+    let Some(columns) = by_columns(alloc, arrays) else {
+        return false;
+    };
+    multiplies_by_rows(alloc, &rows, &b, want) && multiplies_by_columns(alloc, &columns, &b, want)
 }
 
 // Matrices over wrapping integers, columns, and the products.
@@ -238,9 +272,9 @@ const WRAPPING: &[(Arrays<'static>, &[i32], &[i32])] = &[
 #[test]
 fn products(rt: HostRuntime) {
     for (arrays, column, want) in WRAPPING {
-        assert!(rt; multiplies::<W32>(rt.alloc(), *arrays, *column, *want) == Some(true));
+        assert!(rt; multiplies::<W32>(rt.alloc(), *arrays, *column, *want));
     }
-    assert!(rt; multiplies::<Mod<7>>(rt.alloc(), F, &[3, 5], &[6, 1]) == Some(true));
+    assert!(rt; multiplies::<Mod<7>>(rt.alloc(), F, &[3, 5], &[6, 1]));
 }
 
 // Whether the product of matrices whose sizes fit is refused.
@@ -252,12 +286,17 @@ fn refuses(alloc: Global, a: &CsrMatrix<W64>, b: &DMatrix<W64>) -> bool {
 }
 
 // Whether a product of more values than there is memory for is refused.
-fn refuses_a_wide_product(alloc: Global) -> Option<bool> {
-    let a = csr(alloc, (2, 0, &[0, 0, 0], &[], &[]))?;
-    Some(refuses(alloc, &a, &dense(alloc, (0, usize::MAX), &[])?))
+fn refuses_a_wide_product(alloc: Global) -> bool {
+    let Some(a) = csr(alloc, (2, 0, &[0, 0, 0], &[], &[])) else {
+        return false;
+    };
+    match dense(alloc, (0, usize::MAX), &[]) {
+        Some(b) => refuses(alloc, &a, &b),
+        None => false,
+    }
 }
 
 #[test]
 fn products_past_the_memory(rt: HostRuntime) {
-    assert!(rt; refuses_a_wide_product(rt.alloc()) == Some(true));
+    assert!(rt; refuses_a_wide_product(rt.alloc()));
 }

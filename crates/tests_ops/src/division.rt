@@ -1,6 +1,6 @@
 //! Division by a scalar.
 
-use crate::matrices::{Arrays, csr, equals};
+use crate::matrices::{Arrays, csc, csr, equals};
 use crate::scalars::Scalar;
 use sparse_algebra::scalar::W32;
 use sparse_forms::csc::CscMatrix;
@@ -24,20 +24,22 @@ fn refuses<R: Drop>(answer: Result<R, OperationError>) -> bool {
     }
 }
 
-// Whether a quotient by rows was made, with these values.
+// Whether a quotient by rows was made, with the places of the triangle and these values.
 fn is_quotient<T: Scalar>(made: Result<CsrMatrix<T>, OperationError>, want: &[T]) -> bool {
     match made {
-        Ok(quotient) => quotient.values() == want,
+        Ok(quotient) => quotient.values() == want && quotient.col_indices() == [0, 1, 1].as_slice(),
         Err(_) => false,
     }
 }
 
 // Whether the quotient by rows has these values, made and in place.
-fn rows_divided<T: Scalar + Units>(alloc: Global, divisor: i32, want: &[T]) -> Option<bool> {
-    let mut a = csr(alloc, TRIANGLE)?;
+fn rows_divided<T: Scalar + Units>(alloc: Global, divisor: i32, want: &[T]) -> bool {
+    let Some(mut a) = csr(alloc, TRIANGLE) else {
+        return false;
+    };
     let made = is_quotient(div_scalar_csr(alloc, &a, T::of(divisor)), want);
     let divided = div_scalar_mut_csr(&mut a, T::of(divisor)).is_ok();
-    Some(made && divided && a.values() == want && a.col_indices() == [0, 1, 1].as_slice())
+    is_quotient(Ok(a), want) && made && divided
 }
 
 fn is_quotient_by_columns<T: Scalar>(
@@ -45,21 +47,23 @@ fn is_quotient_by_columns<T: Scalar>(
     want: &[T],
 ) -> bool {
     match made {
-        Ok(quotient) => quotient.values() == want,
+        Ok(quotient) => quotient.values() == want && quotient.row_indices() == [0, 1, 1].as_slice(),
         Err(_) => false,
     }
 }
 
-// The same of the transposed quotient, by columns.
-fn columns_divided<T: Scalar + Units>(alloc: Global, divisor: i32, want: &[T]) -> Option<bool> {
-    let mut a = csr(alloc, TRIANGLE)?.transpose_as_csc();
+// The same of the same arrays by columns.
+fn columns_divided<T: Scalar + Units>(alloc: Global, divisor: i32, want: &[T]) -> bool {
+    let Some(mut a) = csc(alloc, TRIANGLE) else {
+        return false;
+    };
     let made = is_quotient_by_columns(div_scalar_csc(alloc, &a, T::of(divisor)), want);
     let divided = div_scalar_mut_csc(&mut a, T::of(divisor)).is_ok();
-    Some(made && divided && a.values() == want && a.row_indices() == [0, 1, 1].as_slice())
+    is_quotient_by_columns(Ok(a), want) && made && divided
 }
 
 fn divided_by_three<T: Scalar + Units>(alloc: Global, want: &[T]) -> bool {
-    rows_divided(alloc, 3, want) == Some(true) && columns_divided(alloc, 3, want) == Some(true)
+    rows_divided(alloc, 3, want) && columns_divided(alloc, 3, want)
 }
 
 #[test]
@@ -71,23 +75,27 @@ fn quotients(rt: HostRuntime) {
 }
 
 // Whether division by two is refused by rows, made and in place, and leaves the matrix.
-fn rows_refused(alloc: Global) -> Option<bool> {
-    let mut a = csr(alloc, TRIANGLE)?;
+fn rows_refused(alloc: Global) -> bool {
+    let Some(mut a) = csr(alloc, TRIANGLE) else {
+        return false;
+    };
     let made = refuses(div_scalar_csr(alloc, &a, W32::new(2)));
     let in_place = refuses(div_scalar_mut_csr(&mut a, W32::new(2)));
-    Some(made && in_place && equals(csr(alloc, TRIANGLE), &a))
+    made && in_place && equals(csr(alloc, TRIANGLE), &a)
 }
 
 // The same by columns, of a matrix without entries.
-fn columns_refused(alloc: Global) -> Option<bool> {
-    let mut a = CscMatrix::zeros(alloc, 2, 2).ok()?;
+fn columns_refused(alloc: Global) -> bool {
+    let Ok(mut a) = CscMatrix::zeros(alloc, 2, 2) else {
+        return false;
+    };
     let made = refuses(div_scalar_csc(alloc, &a, W32::new(2)));
     let in_place = refuses(div_scalar_mut_csc(&mut a, W32::new(2)));
-    Some(made && in_place && equals(CscMatrix::zeros(alloc, 2, 2).ok(), &a))
+    made && in_place && equals(CscMatrix::zeros(alloc, 2, 2).ok(), &a)
 }
 
 #[test]
 fn division_by_two_is_refused(rt: HostRuntime) {
-    assert!(rt; rows_refused(rt.alloc()) == Some(true));
-    assert!(rt; columns_refused(rt.alloc()) == Some(true));
+    assert!(rt; rows_refused(rt.alloc()));
+    assert!(rt; columns_refused(rt.alloc()));
 }

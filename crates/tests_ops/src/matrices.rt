@@ -23,6 +23,15 @@ pub fn list<T: Scalar>(
     Some(coo)
 }
 
+/// The first `count` multiples of `step`.
+pub fn first_multiples(alloc: Global, count: usize, step: usize) -> Result<Vec<usize>, AllocError> {
+    let mut numbers = Vec::new(alloc);
+    for number in 0..count {
+        numbers.push(number.wrapping_mul(step))?;
+    }
+    Ok(numbers)
+}
+
 // Copies of offsets, indices and values.
 fn copies<T: Copy>(
     alloc: Global,
@@ -60,10 +69,9 @@ pub fn csr<T: Scalar>(alloc: Global, arrays: Arrays<'_>) -> Option<CsrMatrix<T>>
 }
 
 pub fn csc<T: Scalar>(alloc: Global, arrays: Arrays<'_>) -> Option<CscMatrix<T>> {
-    let values = scalars(alloc, arrays.4).ok()?;
-    let lanes = (arrays.2, arrays.3, values.as_slice());
-    let (offsets, rows, values) = copies(alloc, lanes).ok()?;
-    CscMatrix::try_from_csc_data(arrays.0, arrays.1, offsets, rows, values).ok()
+    let (nrows, ncols, offsets, rows, numbers) = arrays;
+    let transposed = csr::<T>(alloc, (ncols, nrows, offsets, rows, numbers))?;
+    Some(transposed.transpose_as_csc())
 }
 
 /// The offsets, the indices and the values of a compressed matrix.
@@ -101,6 +109,14 @@ pub fn equals<M: PartialEq + Drop>(made: Option<M>, other: &M) -> bool {
     match made {
         Some(made) => made == *other,
         None => false,
+    }
+}
+
+/// Whether the list was made of a matrix of this size without places.
+pub fn is_empty_list(made: Result<CooMatrix<i32>, AllocError>, size: (usize, usize)) -> bool {
+    match made {
+        Ok(coo) => coo.nrows() == size.0 && coo.ncols() == size.1 && coo.nnz() == 0,
+        Err(_) => false,
     }
 }
 

@@ -16,12 +16,17 @@ pub type PairByColumns = (CscMatrix<W64>, CscMatrix<W64>);
 
 /// Returns the CSR matrices of these arrays.
 pub fn pair(alloc: Global, left: Arrays<'_>, right: Arrays<'_>) -> Option<Pair> {
-    Some((csr(alloc, left)?, csr(alloc, right)?))
+    csr(alloc, left).zip(csr(alloc, right))
 }
 
-/// Returns the transposes of these matrices: the same arrays by columns.
-pub fn by_columns((a, b): Pair) -> PairByColumns {
-    (a.transpose_as_csc(), b.transpose_as_csc())
+/// Returns the transposes of the CSR matrices of these arrays: the same arrays by columns.
+pub fn pair_by_columns(
+    alloc: Global,
+    left: Arrays<'_>,
+    right: Arrays<'_>,
+) -> Option<PairByColumns> {
+    let (a, b) = pair(alloc, left, right)?;
+    Some((a.transpose_as_csc(), b.transpose_as_csc()))
 }
 
 /// Whether the matrix was made, with these columns and values.

@@ -1,6 +1,6 @@
 //! Products, and patterns of products.
 
-use crate::matrices::{Arrays, csr, csr_of};
+use crate::matrices::{Arrays, csr, csr_of, first_multiples};
 use crate::scalars::{Scalar, are};
 use sparse_algebra::scalar::{Ring, W32, W64};
 use sparse_forms::csr::CsrMatrix;
@@ -57,9 +57,14 @@ fn has_product<T: Scalar>(
 }
 
 // Whether the product of the first two matrices is the third, and its pattern that of the third.
-fn is_product<T: Scalar>(alloc: Global, [left, right, want]: [Arrays<'_>; 3]) -> Option<bool> {
-    let a = csr::<T>(alloc, left)?;
-    Some(has_product(alloc, &a, &csr(alloc, right)?, want))
+fn is_product<T: Scalar>(alloc: Global, matrices: &[Arrays<'_>; 3]) -> bool {
+    let Some(a) = csr::<T>(alloc, matrices[0]) else {
+        return false;
+    };
+    match csr(alloc, matrices[1]) {
+        Some(b) => has_product(alloc, &a, &b, matrices[2]),
+        None => false,
+    }
 }
 
 const ROW: Arrays<'static> = (1, 2, &[0, 2], &[0, 1], &[2, 3]);
@@ -108,8 +113,8 @@ const PRODUCTS: &[[Arrays<'static>; 3]] = &[
 #[test]
 fn products(rt: HostRuntime) {
     for case in PRODUCTS {
-        assert!(rt; is_product::<W32>(rt.alloc(), *case) == Some(true));
-        assert!(rt; is_product::<W64>(rt.alloc(), *case) == Some(true));
+        assert!(rt; is_product::<W32>(rt.alloc(), case));
+        assert!(rt; is_product::<W64>(rt.alloc(), case));
     }
 }
 
@@ -130,7 +135,7 @@ const WRAPPING: &[[Arrays<'static>; 3]] = &[
 #[test]
 fn sums_and_products_wrap(rt: HostRuntime) {
     for case in WRAPPING {
-        assert!(rt; is_product::<W32>(rt.alloc(), *case) == Some(true));
+        assert!(rt; is_product::<W32>(rt.alloc(), case));
     }
 }
 
@@ -145,18 +150,9 @@ fn even_and_odd_columns(alloc: Global) -> Result<Vec<usize>, AllocError> {
     Ok(columns)
 }
 
-// The first `count` multiples of `step`.
-fn multiples(alloc: Global, count: usize, step: usize) -> Result<Vec<usize>, AllocError> {
-    let mut numbers = Vec::new(alloc);
-    for number in 0..count {
-        numbers.push(number.wrapping_mul(step))?;
-    }
-    Ok(numbers)
-}
-
 // All columns below `count`, and then all even ones.
 fn all_and_even_columns(alloc: Global, count: usize) -> Result<Vec<usize>, AllocError> {
-    let mut columns = multiples(alloc, count, 1)?;
+    let mut columns = first_multiples(alloc, count, 1)?;
     for number in 0..count / 2 {
         columns.push(2 * number)?;
     }
@@ -182,19 +178,21 @@ fn left_factor(alloc: Global) -> Option<CsrMatrix<W64>> {
 
 // 2000 rows: ones in the even columns of the even rows, and in the odd ones of the odd rows. A product of this size goes row by row.
 fn right_factor(alloc: Global) -> Option<CsrMatrix<W64>> {
-    let offsets = multiples(alloc, 2001, 500).ok()?;
+    let offsets = first_multiples(alloc, 2001, 500).ok()?;
     let columns = even_and_odd_columns(alloc).ok()?;
     ones(alloc, (2000, 1000), &offsets, &columns)
 }
 
 // The first row of the product is 1000 in all columns, the second in the even ones.
-fn is_large_product(alloc: Global, product: &CsrMatrix<W64>) -> Option<bool> {
-    let columns = all_and_even_columns(alloc, 1000).ok()?;
-    Some(
-        product.row_offsets() == [0, 1000, 1500].as_slice()
-            && product.col_indices() == columns.as_slice()
-            && are(product.values(), &[1000; 1500]),
-    )
+fn is_large_product(alloc: Global, product: &CsrMatrix<W64>) -> bool {
+    match all_and_even_columns(alloc, 1000) {
+        Ok(columns) => {
+            product.row_offsets() == [0, 1000, 1500].as_slice()
+                && product.col_indices() == columns.as_slice()
+                && are(product.values(), &[1000; 1500])
+        }
+        Err(_) => false,
+    }
 }
 
 // The product of the two factors, which are large.
@@ -202,11 +200,14 @@ fn large_product(alloc: Global) -> Option<CsrMatrix<W64>> {
     product(alloc, &left_factor(alloc)?, &right_factor(alloc)?)
 }
 
-fn has_large_product(alloc: Global) -> Option<bool> {
-    is_large_product(alloc, &large_product(alloc)?)
+fn has_large_product(alloc: Global) -> bool {
+    match large_product(alloc) {
+        Some(product) => is_large_product(alloc, &product),
+        None => false,
+    }
 }
 
 #[test]
 fn a_large_product(rt: HostRuntime) {
-    assert!(rt; has_large_product(rt.alloc()) == Some(true));
+    assert!(rt; has_large_product(rt.alloc()));
 }

@@ -1,8 +1,8 @@
 //! Products into a given matrix, and products by columns.
 
-use crate::matrices::{Arrays, csr, equals};
+use crate::matrices::{Arrays, csc, csr, equals};
 use crate::operand_sizes::{op_of, sizes_of_columns, sizes_of_rows};
-use crate::pairs::{Answer, by_columns, holds_by_columns, is_done, is_refused, pair};
+use crate::pairs::{Answer, holds_by_columns, is_done, is_refused, pair, pair_by_columns};
 use crate::scalars::are;
 use sparse_algebra::scalar::{Ring, W64};
 use sparse_forms::csc::CscMatrix;
@@ -18,7 +18,9 @@ const LOWER: Arrays<'static> = (2, 2, &[0, 1, 3], &[0, 0, 1], &[4, 5, 6]);
 const FULL: Arrays<'static> = (2, 2, &[0, 2, 4], &[0, 1, 0, 1], &[1, 2, 3, 4]);
 
 // Which of the two factors are transposed, and the values of 2 C + 3 op(A) op(B).
-const UPDATES: [(bool, bool, [i32; 4]); 4] = [
+type Update = (bool, bool, [i32; 4]);
+
+const UPDATES: [Update; 4] = [
     (false, false, [44, 40, 51, 62]),
     (true, false, [14, 4, 75, 62]),
     (false, true, [14, 55, 6, 62]),
@@ -56,55 +58,48 @@ fn update_columns<T: Ring>(
 }
 
 // Updates C to 2 C + 3 op(A) op(B), where A is `1 2` over `0 3` and B is `4 0` over `5 6`.
-fn is_updated(alloc: Global, c: &mut CsrMatrix<W64>, transposed: (bool, bool)) -> Option<bool> {
-    let (a, b) = pair(alloc, TRIANGLE, LOWER)?;
-    let (a, b) = (op_of(transposed.0, &a), op_of(transposed.1, &b));
-    Some(is_done(update_rows(alloc, (W64::new(2), W64::new(3)), c, a, b)))
+fn add_product(alloc: Global, c: &mut CsrMatrix<W64>, update: &Update) -> Answer {
+    let factors = pair(alloc, TRIANGLE, LOWER)?;
+    let (a, b) = (op_of(update.0, &factors.0), op_of(update.1, &factors.1));
+    update_rows(alloc, (W64::new(2), W64::new(3)), c, a, b)
 }
 
 // Whether this has these values, where C is `1 2` over `3 4`.
-fn updates_rows(
-    alloc: Global,
-    (is_a_transposed, is_b_transposed, numbers): (bool, bool, [i32; 4]),
-) -> Option<bool> {
-    let mut c = csr(alloc, FULL)?;
-    let done = is_updated(alloc, &mut c, (is_a_transposed, is_b_transposed)) == Some(true);
-    Some(done && are(c.values(), &numbers))
+fn updates_rows(alloc: Global, update: &Update) -> bool {
+    match csr(alloc, FULL) {
+        Some(mut c) => is_done(add_product(alloc, &mut c, update)) && are(c.values(), &update.2),
+        None => false,
+    }
 }
 
 // The same arrays by columns are the transposes, so the factors are exchanged.
-fn is_updated_by_columns(
-    alloc: Global,
-    c: &mut CscMatrix<W64>,
-    transposed: (bool, bool),
-) -> Option<bool> {
-    let (a, b) = by_columns(pair(alloc, TRIANGLE, LOWER)?);
-    let (a, b) = (op_of(transposed.0, &a), op_of(transposed.1, &b));
-    Some(is_done(update_columns(alloc, (W64::new(2), W64::new(3)), c, b, a)))
+fn add_product_by_columns(alloc: Global, c: &mut CscMatrix<W64>, update: &Update) -> Answer {
+    let factors = pair_by_columns(alloc, TRIANGLE, LOWER)?;
+    let (a, b) = (op_of(update.0, &factors.0), op_of(update.1, &factors.1));
+    update_columns(alloc, (W64::new(2), W64::new(3)), c, b, a)
 }
 
-fn updates_columns(
-    alloc: Global,
-    (is_a_transposed, is_b_transposed, numbers): (bool, bool, [i32; 4]),
-) -> Option<bool> {
-    let mut c = csr(alloc, FULL)?.transpose_as_csc();
-    let transposed = (is_a_transposed, is_b_transposed);
-    let done = is_updated_by_columns(alloc, &mut c, transposed) == Some(true);
-    Some(done && are(c.values(), &numbers))
+fn updates_columns(alloc: Global, update: &Update) -> bool {
+    match csc(alloc, FULL) {
+        Some(mut c) => {
+            is_done(add_product_by_columns(alloc, &mut c, update)) && are(c.values(), &update.2)
+        }
+        None => false,
+    }
 }
 
 #[test]
 fn products_into_a_matrix(rt: HostRuntime) {
-    for update in UPDATES {
-        assert!(rt; updates_rows(rt.alloc(), update) == Some(true));
-        assert!(rt; updates_columns(rt.alloc(), update) == Some(true));
+    for update in &UPDATES {
+        assert!(rt; updates_rows(rt.alloc(), update));
+        assert!(rt; updates_columns(rt.alloc(), update));
     }
 }
 
 // C, and the factors A and B.
 type Refusal = (Arrays<'static>, Arrays<'static>, Arrays<'static>);
 
-const REFUSALS: [Refusal; 2] = [
+const REFUSALS: &[Refusal] = &[
     // The product of `1 1` and the column `1`, `-1` is zero, at a place that C lacks.
     (
         (1, 1, &[0, 0], &[], &[]),
@@ -120,24 +115,27 @@ const REFUSALS: [Refusal; 2] = [
 ];
 
 // Whether 2 C + 2 A B is refused for its pattern.
-fn refuses(alloc: Global, c: &mut CsrMatrix<W64>, refusal: &Refusal) -> Option<bool> {
-    let (a, b) = pair(alloc, refusal.1, refusal.2)?;
-    let two = W64::new(2);
-    let answer = update_rows(alloc, (two, two), c, Op::NoOp(&a), Op::NoOp(&b));
-    Some(is_refused(answer, "Found unexpected entry that is not present in `c`."))
+fn refuses(alloc: Global, c: &mut CsrMatrix<W64>, refusal: &Refusal) -> bool {
+    let Some(factors) = pair(alloc, refusal.1, refusal.2) else {
+        return false;
+    };
+    let (a, b) = (Op::NoOp(&factors.0), Op::NoOp(&factors.1));
+    let answer = update_rows(alloc, (W64::new(2), W64::new(2)), c, a, b);
+    is_refused(answer, "Found unexpected entry that is not present in `c`.")
 }
 
 // Whether the product into C is refused for its pattern, and leaves C as it was.
-fn is_left_by_a_refusal(alloc: Global, refusal: &Refusal) -> Option<bool> {
-    let mut c = csr(alloc, refusal.0)?;
-    let refused = refuses(alloc, &mut c, refusal) == Some(true);
-    Some(refused && equals(csr(alloc, refusal.0), &c))
+fn is_left_by_a_refusal(alloc: Global, refusal: &Refusal) -> bool {
+    match csr(alloc, refusal.0) {
+        Some(mut c) => refuses(alloc, &mut c, refusal) && equals(csr(alloc, refusal.0), &c),
+        None => false,
+    }
 }
 
 #[test]
 fn refused_products_leave_their_target(rt: HostRuntime) {
-    for refusal in &REFUSALS {
-        assert!(rt; is_left_by_a_refusal(rt.alloc(), refusal) == Some(true));
+    for refusal in REFUSALS {
+        assert!(rt; is_left_by_a_refusal(rt.alloc(), refusal));
     }
 }
 
@@ -159,13 +157,17 @@ fn has_pattern_by_columns(alloc: Global, f: &CscMatrix<W64>) -> bool {
 }
 
 // By columns the arrays of the triangle are the transpose: rows `1 0` and `2 3`, and `1 0` and `8 9` in its square.
-fn is_squared_by_columns(alloc: Global) -> Option<bool> {
-    let f = csr(alloc, TRIANGLE)?.transpose_as_csc();
-    let squared = holds_by_columns(square_by_columns(alloc, &f), &[0, 1, 1], &[1, 8, 9]);
-    Some(squared && has_pattern_by_columns(alloc, &f))
+fn is_squared_by_columns(alloc: Global) -> bool {
+    match csc(alloc, TRIANGLE) {
+        Some(f) => {
+            holds_by_columns(square_by_columns(alloc, &f), &[0, 1, 1], &[1, 8, 9])
+                && has_pattern_by_columns(alloc, &f)
+        }
+        None => false,
+    }
 }
 
 #[test]
 fn products_by_columns(rt: HostRuntime) {
-    assert!(rt; is_squared_by_columns(rt.alloc()) == Some(true));
+    assert!(rt; is_squared_by_columns(rt.alloc()));
 }

@@ -1,7 +1,7 @@
 //! Sizes at which a call could take too much memory or time, or answer an allocation failure that there was none.
 
-use crate::matrices::list;
-use crate::scalars::are;
+use crate::matrices::{is_empty_list, list};
+use crate::pairs::{holds, holds_by_columns};
 use sparse_algebra::scalar::W64;
 use sparse_base::coo::CooMatrix;
 use sparse_base::dense::DMatrix;
@@ -13,7 +13,6 @@ use sparse_forms::csr::CsrMatrix;
 use sparse_op::Op;
 use sparse_ops::serial::{mul_csr, spmm_csr_prealloc_unchecked_counted};
 use std::alloc::{AllocError, Global};
-use std::test::Fail;
 
 // Whether the product of matrices whose sizes fit has these sizes and no places.
 fn has_empty_product(
@@ -26,19 +25,22 @@ fn has_empty_product(
         return false;
     }
     match mul_csr(alloc, a, b) {
-        Ok(product) => (product.nrows(), product.ncols()) == size && product.nnz() == 0,
+        Ok(product) => {
+            product.nrows() == size.0 && product.ncols() == size.1 && product.nnz() == 0
+        }
         Err(_) => false,
     }
 }
 
 // Whether the product of matrices without places, of these sizes, has the sizes and no places.
-fn is_empty_product(
-    alloc: Global,
-    (nrows, inner, ncols): (usize, usize, usize),
-) -> Result<bool, AllocError> {
-    let a = CsrMatrix::zeros(alloc, nrows, inner)?;
-    let b = CsrMatrix::zeros(alloc, inner, ncols)?;
-    Ok(has_empty_product(alloc, &a, &b, (nrows, ncols)))
+fn is_empty_product(alloc: Global, (nrows, inner, ncols): (usize, usize, usize)) -> bool {
+    let Ok(a) = CsrMatrix::zeros(alloc, nrows, inner) else {
+        return false;
+    };
+    match CsrMatrix::zeros(alloc, inner, ncols) {
+        Ok(b) => has_empty_product(alloc, &a, &b, (nrows, ncols)),
+        Err(_) => false,
+    }
 }
 
 #[test]
@@ -52,33 +54,30 @@ fn products_without_places(rt: HostRuntime) {
         (0, 1, most),
         (1, 1, most),
     ] {
-        assert!(rt; is_empty_product(rt.alloc(), sizes) == Ok(true));
+        assert!(rt; is_empty_product(rt.alloc(), sizes));
     }
 }
 
 // Whether the square of an identity, computed again in counted steps, is the identity.
-fn is_squared_in_steps(alloc: Global, size: usize) -> Result<bool, Fail> {
+fn is_squared_in_steps(alloc: Global, size: usize) -> Result<bool, AllocError> {
     let identity = CsrMatrix::<W64>::identity(alloc, size)?;
     let mut square = mul_csr(alloc, &identity, &identity)?;
-    let (zero, one) = (W64::new(0), W64::new(1));
     let operand = Op::NoOp(&identity);
-    let mut steps = Steps::new();
-    spmm_csr_prealloc_unchecked_counted(
+    let computed = spmm_csr_prealloc_unchecked_counted(
         alloc,
-        zero,
+        W64::new(0),
         &mut square,
-        one,
+        W64::new(1),
         operand,
         operand,
-        &mut steps,
-    )?;
-    Ok(square == identity)
+        &mut Steps::new(),
+    );
+    Ok(computed.is_ok() && square == identity)
 }
 
 #[test]
-fn a_large_identity_is_squared_in_steps(rt: HostRuntime) -> Result<(), Fail> {
-    assert!(rt; is_squared_in_steps(rt.alloc(), 200_000)?);
-    Ok(())
+fn a_large_identity_is_squared_in_steps(rt: HostRuntime) {
+    assert!(rt; is_squared_in_steps(rt.alloc(), 200_000) == Ok(true));
 }
 
 // A list of triplets that go round the places of a 3 by 5 matrix.
@@ -90,38 +89,55 @@ fn long_list(alloc: Global, count: usize) -> Result<CooMatrix<W64>, AllocError> 
     Ok(coo)
 }
 
+// The columns of all places of a 3 by 5 matrix, row by row.
+const COLUMNS: [usize; 15] = [0, 1, 2, 3, 4, 0, 1, 2, 3, 4, 0, 1, 2, 3, 4];
+
+// The rows of all its places, column by column.
+const ROWS: [usize; 15] = [0, 1, 2, 0, 1, 2, 0, 1, 2, 0, 1, 2, 0, 1, 2];
+
 // Whether the list of 3000 triplets is converted: each place is met once in 15 triplets.
-fn long_list_is_converted(alloc: Global) -> Result<bool, AllocError> {
-    let coo = long_list(alloc, 3000)?;
-    let by_rows = are(convert_coo_csr(alloc, &coo)?.values(), &[200; 15]);
-    Ok(by_rows && are(convert_coo_csc(alloc, &coo)?.values(), &[200; 15]))
+fn long_list_is_converted(alloc: Global) -> bool {
+    match long_list(alloc, 3000) {
+        Ok(coo) => {
+            holds(convert_coo_csr(alloc, &coo).ok(), &COLUMNS, &[200; 15])
+                && holds_by_columns(convert_coo_csc(alloc, &coo).ok(), &ROWS, &[200; 15])
+        }
+        Err(_) => false,
+    }
 }
 
 #[test]
 fn a_long_list_is_converted(rt: HostRuntime) {
-    assert!(rt; long_list_is_converted(rt.alloc()) == Ok(true));
+    assert!(rt; long_list_is_converted(rt.alloc()));
 }
 
 // Whether a dense matrix of this size, without values, is converted to a list, and to rows and columns just where
 // their offsets can be had.
-fn converts_at_once(alloc: Global, nrows: usize, ncols: usize) -> Result<bool, AllocError> {
-    let dense: DMatrix<i32> = DMatrix::zeros(alloc, nrows, ncols)?;
-    let count = convert_dense_coo(alloc, &dense)?.nnz();
-    let has_rows = convert_dense_csr(alloc, &dense).is_ok();
-    let has_columns = convert_dense_csc(alloc, &dense).is_ok();
-    Ok(count == 0 && has_rows == (nrows < 1000) && has_columns == (ncols < 1000))
+fn converts_at_once(alloc: Global, nrows: usize, ncols: usize) -> bool {
+    match DMatrix::<i32>::zeros(alloc, nrows, ncols) {
+        Ok(dense) => {
+            is_empty_list(convert_dense_coo(alloc, &dense), (nrows, ncols))
+                && convert_dense_csr(alloc, &dense).is_ok() == (nrows < 1000)
+                && convert_dense_csc(alloc, &dense).is_ok() == (ncols < 1000)
+        }
+        Err(_) => false,
+    }
 }
 
 // Whether a list of as many rows as there can be, without columns, is refused by rows and not by columns.
-fn is_converted_by_columns_alone(alloc: Global) -> Option<bool> {
-    let tall = list::<W64>(alloc, (usize::MAX, 0), &[])?;
-    Some(convert_coo_csr(alloc, &tall).is_err() && convert_coo_csc(alloc, &tall).is_ok())
+fn is_converted_by_columns_alone(alloc: Global) -> bool {
+    match list::<W64>(alloc, (usize::MAX, 0), &[]) {
+        Some(tall) => {
+            convert_coo_csr(alloc, &tall).is_err() && convert_coo_csc(alloc, &tall).is_ok()
+        }
+        None => false,
+    }
 }
 
 #[test]
 fn dense_matrices_without_values_end_at_once(rt: HostRuntime) {
     for (nrows, ncols) in [(0, usize::MAX), (usize::MAX, 0), (0, 5), (5, 0)] {
-        assert!(rt; converts_at_once(rt.alloc(), nrows, ncols) == Ok(true));
+        assert!(rt; converts_at_once(rt.alloc(), nrows, ncols));
     }
-    assert!(rt; is_converted_by_columns_alone(rt.alloc()) == Some(true));
+    assert!(rt; is_converted_by_columns_alone(rt.alloc()));
 }

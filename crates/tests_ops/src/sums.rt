@@ -1,7 +1,7 @@
 //! Sums, differences and multiples.
 
-use crate::matrices::{Arrays, csr};
-use crate::pairs::{Pair, PairByColumns, by_columns, holds, holds_by_columns, pair};
+use crate::matrices::{Arrays, csc, csr, first_multiples};
+use crate::pairs::{Pair, PairByColumns, holds, holds_by_columns, pair, pair_by_columns};
 use crate::scalars::are;
 use sparse_algebra::scalar::W64;
 use sparse_forms::csc::CscMatrix;
@@ -62,46 +62,23 @@ const CASES: &[Case] = &[
     ((NO_COLUMNS, NO_COLUMNS), &[], &[], &[]),
 ];
 
-fn has_sum(alloc: Global, ((a, b), columns, sums, _): Case) -> Option<bool> {
-    Some(holds(sum(alloc, &pair(alloc, a, b)?), columns, sums))
-}
-
-fn has_difference(alloc: Global, ((a, b), columns, _, differences): Case) -> Option<bool> {
-    Some(holds(difference(alloc, &pair(alloc, a, b)?), columns, differences))
-}
-
-fn has_sum_of_patterns(alloc: Global, ((a, b), columns, _, _): Case) -> Option<bool> {
-    Some(sum_has_columns(alloc, &pair(alloc, a, b)?, columns))
-}
-
-#[test]
-fn sums(rt: HostRuntime) {
-    for case in CASES {
-        assert!(rt; has_sum(rt.alloc(), *case) == Some(true));
+// Whether the sum, the difference and the sum of the patterns are those of the case.
+fn has_sum_and_difference(alloc: Global, case: &Case) -> bool {
+    match pair(alloc, case.0.0, case.0.1) {
+        Some(pair) => {
+            holds(sum(alloc, &pair), case.1, case.2)
+                && holds(difference(alloc, &pair), case.1, case.3)
+                && sum_has_columns(alloc, &pair, case.1)
+        }
+        None => false,
     }
 }
 
 #[test]
-fn differences(rt: HostRuntime) {
+fn sums_and_differences(rt: HostRuntime) {
     for case in CASES {
-        assert!(rt; has_difference(rt.alloc(), *case) == Some(true));
+        assert!(rt; has_sum_and_difference(rt.alloc(), case));
     }
-}
-
-#[test]
-fn sums_of_patterns(rt: HostRuntime) {
-    for case in CASES {
-        assert!(rt; has_sum_of_patterns(rt.alloc(), *case) == Some(true));
-    }
-}
-
-// The numbers below `end`.
-fn numbers_below(alloc: Global, end: usize) -> Result<Vec<usize>, AllocError> {
-    let mut numbers = Vec::new(alloc);
-    for number in 0..end {
-        numbers.push(number)?;
-    }
-    Ok(numbers)
 }
 
 // The columns 0, 1, 0, 1 and so on.
@@ -115,7 +92,7 @@ fn alternating_columns(alloc: Global) -> Result<Vec<usize>, AllocError> {
 
 // In every other lane the two matrices share their only place: the lanes that are sampled to estimate the sum, 64 of 128.
 fn long_matrices(alloc: Global) -> Option<Pair> {
-    let offsets = numbers_below(alloc, 129).ok()?;
+    let offsets = first_multiples(alloc, 129, 1).ok()?;
     let columns = alternating_columns(alloc).ok()?;
     let ones = (
         128,
@@ -144,13 +121,20 @@ fn is_long_sum(sum: &[W64]) -> bool {
     sum.len() == 192
 }
 
-fn has_long_sum(alloc: Global) -> Option<bool> {
-    Some(is_long_sum(sum(alloc, &long_matrices(alloc)?)?.values()))
+fn long_sum(alloc: Global) -> Option<CsrMatrix<W64>> {
+    sum(alloc, &long_matrices(alloc)?)
+}
+
+fn has_long_sum(alloc: Global) -> bool {
+    match long_sum(alloc) {
+        Some(sum) => is_long_sum(sum.values()),
+        None => false,
+    }
 }
 
 #[test]
 fn a_sum_that_outgrows_its_estimate(rt: HostRuntime) {
-    assert!(rt; has_long_sum(rt.alloc()) == Some(true));
+    assert!(rt; has_long_sum(rt.alloc()));
 }
 
 // The same arrays by columns.
@@ -168,59 +152,71 @@ fn difference_by_columns(alloc: Global, (a, b): &PairByColumns) -> Option<CscMat
     sub_csc(alloc, a, b).ok()
 }
 
-fn has_sum_and_difference_by_columns(alloc: Global) -> Option<bool> {
-    let pair = by_columns(pair(alloc, LEFT, RIGHT)?);
-    let summed = holds_by_columns(sum_by_columns(alloc, &pair), &[0, 1, 2], &[1, 5, 0]);
-    let difference = difference_by_columns(alloc, &pair);
-    Some(summed && holds_by_columns(difference, &[0, 1, 2], &[1, -5, -4]))
+fn has_sum_and_difference_by_columns(alloc: Global) -> bool {
+    let Some(pair) = pair_by_columns(alloc, LEFT, RIGHT) else {
+        return false;
+    };
+    holds_by_columns(sum_by_columns(alloc, &pair), &[0, 1, 2], &[1, 5, 0])
+        && holds_by_columns(
+            difference_by_columns(alloc, &pair),
+            &[0, 1, 2],
+            &[1, -5, -4],
+        )
 }
 
 #[test]
 fn sums_by_columns(rt: HostRuntime) {
-    assert!(rt; has_sum_and_difference_by_columns(rt.alloc()) == Some(true));
+    assert!(rt; has_sum_and_difference_by_columns(rt.alloc()));
 }
 
 const MULTIPLIED: Arrays<'static> = (2, 2, &[0, 2, 3], &[0, 1, 1], &[1, 0, 3]);
 
 // Multiples and negatives: copies.
-fn has_multiple_and_negative(alloc: Global) -> Option<bool> {
-    let a = csr(alloc, MULTIPLIED)?;
-    let multiplied = holds(
-        scale_csr(alloc, &a, W64::new(3)).ok(),
-        &[0, 1, 1],
-        &[3, 0, 9],
-    );
-    Some(multiplied && holds(neg_csr(alloc, &a).ok(), &[0, 1, 1], &[-1, 0, -3]))
+fn has_multiple_and_negative(alloc: Global) -> bool {
+    let Some(a) = csr(alloc, MULTIPLIED) else {
+        return false;
+    };
+    let multiple = scale_csr(alloc, &a, W64::new(3)).ok();
+    holds(multiple, &[0, 1, 1], &[3, 0, 9])
+        && holds(neg_csr(alloc, &a).ok(), &[0, 1, 1], &[-1, 0, -3])
 }
 
 // The same in place.
-fn is_scaled_in_place(alloc: Global) -> Option<bool> {
-    let mut owned = -csr(alloc, MULTIPLIED)?;
+fn is_scaled_in_place(alloc: Global) -> bool {
+    let Some(a) = csr(alloc, MULTIPLIED) else {
+        return false;
+    };
+    let mut owned = -a;
     owned *= &W64::new(3);
-    Some(holds(Some(owned), &[0, 1, 1], &[-3, 0, -9]))
+    holds(Some(owned), &[0, 1, 1], &[-3, 0, -9])
 }
 
 #[test]
 fn multiples(rt: HostRuntime) {
-    assert!(rt; has_multiple_and_negative(rt.alloc()) == Some(true));
-    assert!(rt; is_scaled_in_place(rt.alloc()) == Some(true));
+    assert!(rt; has_multiple_and_negative(rt.alloc()));
+    assert!(rt; is_scaled_in_place(rt.alloc()));
 }
 
-fn has_multiple_and_negative_by_columns(alloc: Global) -> Option<bool> {
-    let a = csr(alloc, MULTIPLIED)?.transpose_as_csc();
+fn has_multiple_and_negative_by_columns(alloc: Global) -> bool {
+    let Some(a) = csc(alloc, MULTIPLIED) else {
+        return false;
+    };
     let multiple = scale_csc(alloc, &a, W64::new(3)).ok();
-    let multiplied = holds_by_columns(multiple, &[0, 1, 1], &[3, 0, 9]);
-    Some(multiplied && holds_by_columns(neg_csc(alloc, &a).ok(), &[0, 1, 1], &[-1, 0, -3]))
+    holds_by_columns(multiple, &[0, 1, 1], &[3, 0, 9])
+        && holds_by_columns(neg_csc(alloc, &a).ok(), &[0, 1, 1], &[-1, 0, -3])
 }
 
-fn is_scaled_in_place_by_columns(alloc: Global) -> Option<bool> {
-    let mut owned = -csr(alloc, MULTIPLIED)?.transpose_as_csc();
+fn is_scaled_in_place_by_columns(alloc: Global) -> bool {
+    let Some(a) = csc(alloc, MULTIPLIED) else {
+        return false;
+    };
+    let mut owned = -a;
     owned *= W64::new(3);
-    Some(holds_by_columns(Some(owned), &[0, 1, 1], &[-3, 0, -9]))
+    holds_by_columns(Some(owned), &[0, 1, 1], &[-3, 0, -9])
 }
 
 #[test]
 fn multiples_by_columns(rt: HostRuntime) {
-    assert!(rt; has_multiple_and_negative_by_columns(rt.alloc()) == Some(true));
-    assert!(rt; is_scaled_in_place_by_columns(rt.alloc()) == Some(true));
+    assert!(rt; has_multiple_and_negative_by_columns(rt.alloc()));
+    assert!(rt; is_scaled_in_place_by_columns(rt.alloc()));
 }

@@ -1,7 +1,7 @@
 //! Sums into a given matrix.
 
 use crate::matrices::Arrays;
-use crate::pairs::{Answer, by_columns, holds, holds_by_columns, is_done, is_refused, pair};
+use crate::pairs::{Answer, holds, holds_by_columns, is_done, is_refused, pair, pair_by_columns};
 use sparse_algebra::scalar::{Ring, W64};
 use sparse_forms::csc::CscMatrix;
 use sparse_forms::csr::CsrMatrix;
@@ -43,49 +43,57 @@ const ROW: Arrays<'static> = (1, 2, &[0, 1], &[1], &[3]);
 const COLUMN: Arrays<'static> = (2, 1, &[0, 0, 1], &[0], &[3]);
 
 // 2 C - A, with 5 and 6 in C and 3 in A at the second place.
-fn is_added(alloc: Global) -> Option<bool> {
-    let (mut c, a) = pair(alloc, TARGET, ROW)?;
+fn is_added(alloc: Global) -> bool {
+    let Some((mut c, a)) = pair(alloc, TARGET, ROW) else {
+        return false;
+    };
     let done = is_done(add((W64::new(2), W64::new(-1)), &mut c, &a));
-    Some(holds(Some(c), &[0, 1], &[10, 9]) && done)
+    holds(Some(c), &[0, 1], &[10, 9]) && done
 }
 
-fn is_added_turned(alloc: Global) -> Option<bool> {
-    let (mut c, a) = pair(alloc, TARGET, COLUMN)?;
+fn is_added_turned(alloc: Global) -> bool {
+    let Some((mut c, a)) = pair(alloc, TARGET, COLUMN) else {
+        return false;
+    };
     let done = is_done(add_turned((W64::new(2), W64::new(-1)), &mut c, &a));
-    Some(holds(Some(c), &[0, 1], &[10, 9]) && done)
+    holds(Some(c), &[0, 1], &[10, 9]) && done
 }
 
 #[test]
 fn sums_into_a_matrix(rt: HostRuntime) {
-    assert!(rt; is_added(rt.alloc()) == Some(true));
-    assert!(rt; is_added_turned(rt.alloc()) == Some(true));
+    assert!(rt; is_added(rt.alloc()));
+    assert!(rt; is_added_turned(rt.alloc()));
 }
 
 // The same arrays by columns.
-fn is_added_by_columns(alloc: Global) -> Option<bool> {
-    let (mut c, a) = by_columns(pair(alloc, TARGET, ROW)?);
+fn is_added_by_columns(alloc: Global) -> bool {
+    let Some((mut c, a)) = pair_by_columns(alloc, TARGET, ROW) else {
+        return false;
+    };
     let done = is_done(add_by_columns((W64::new(2), W64::new(-1)), &mut c, &a));
-    Some(holds_by_columns(Some(c), &[0, 1], &[10, 9]) && done)
+    holds_by_columns(Some(c), &[0, 1], &[10, 9]) && done
 }
 
 #[test]
 fn sums_into_columns(rt: HostRuntime) {
-    assert!(rt; is_added_by_columns(rt.alloc()) == Some(true));
+    assert!(rt; is_added_by_columns(rt.alloc()));
 }
 
+const FIRST_PLACE: Arrays<'static> = (1, 2, &[0, 1], &[0], &[5]);
+
+const ZERO: Arrays<'static> = (1, 2, &[0, 1], &[1], &[0]);
+
 // A has a stored zero at a place that C lacks.
-fn leaves_its_target(alloc: Global) -> Option<bool> {
-    let (mut c, a) = pair(
-        alloc,
-        (1, 2, &[0, 1], &[0], &[5]),
-        (1, 2, &[0, 1], &[1], &[0]),
-    )?;
+fn leaves_its_target(alloc: Global) -> bool {
+    let Some((mut c, a)) = pair(alloc, FIRST_PLACE, ZERO) else {
+        return false;
+    };
     let answer = add((W64::new(2), W64::new(1)), &mut c, &a);
     let refused = is_refused(answer, "Found entry in `op(a)` that is not present in `c`.");
-    Some(holds(Some(c), &[0], &[5]) && refused)
+    holds(Some(c), &[0], &[5]) && refused
 }
 
 #[test]
 fn a_refused_sum_leaves_its_target(rt: HostRuntime) {
-    assert!(rt; leaves_its_target(rt.alloc()) == Some(true));
+    assert!(rt; leaves_its_target(rt.alloc()));
 }

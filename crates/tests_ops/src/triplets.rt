@@ -22,15 +22,19 @@ type Case<'a> = (
 const LAST: usize = usize::MAX - 1;
 
 // Whether the list becomes the matrix by rows of these arrays.
-fn becomes_rows<T: Scalar>(alloc: Global, case: &Case<'_>) -> Option<bool> {
-    let coo = list::<T>(alloc, case.0, case.1)?;
-    Some(rows_are_of(convert_coo_csr(alloc, &coo), case))
+fn becomes_rows<T: Scalar>(alloc: Global, case: &Case<'_>) -> bool {
+    match list::<T>(alloc, case.0, case.1) {
+        Some(coo) => rows_are_of(convert_coo_csr(alloc, &coo), case),
+        None => false,
+    }
 }
 
 // The same by columns.
-fn becomes_columns<T: Scalar>(alloc: Global, case: &Case<'_>) -> Option<bool> {
-    let coo = list::<T>(alloc, case.0, case.1)?;
-    Some(columns_are_of(convert_coo_csc(alloc, &coo), case))
+fn becomes_columns<T: Scalar>(alloc: Global, case: &Case<'_>) -> bool {
+    match list::<T>(alloc, case.0, case.1) {
+        Some(coo) => columns_are_of(convert_coo_csc(alloc, &coo), case),
+        None => false,
+    }
 }
 
 fn rows_are_of<T: Scalar>(made: Result<CsrMatrix<T>, AllocError>, case: &Case<'_>) -> bool {
@@ -90,8 +94,8 @@ const BY_ROWS: &[Case<'static>] = &[
 #[test]
 fn triplets_become_rows(rt: HostRuntime) {
     for case in BY_ROWS {
-        assert!(rt; becomes_rows::<W32>(rt.alloc(), case) == Some(true));
-        assert!(rt; becomes_rows::<W64>(rt.alloc(), case) == Some(true));
+        assert!(rt; becomes_rows::<W32>(rt.alloc(), case));
+        assert!(rt; becomes_rows::<W64>(rt.alloc(), case));
     }
 }
 
@@ -118,8 +122,8 @@ const BY_COLUMNS: &[Case<'static>] = &[
 #[test]
 fn triplets_become_columns(rt: HostRuntime) {
     for case in BY_COLUMNS {
-        assert!(rt; becomes_columns::<W32>(rt.alloc(), case) == Some(true));
-        assert!(rt; becomes_columns::<W64>(rt.alloc(), case) == Some(true));
+        assert!(rt; becomes_columns::<W32>(rt.alloc(), case));
+        assert!(rt; becomes_columns::<W64>(rt.alloc(), case));
     }
 }
 
@@ -129,9 +133,16 @@ fn becomes_dense<T: Scalar>(
     size: (usize, usize),
     triplets: &[(usize, usize, i32)],
     values: &[i32],
-) -> Option<bool> {
-    let dense = convert_coo_dense(alloc, &list::<T>(alloc, size, triplets)?).ok()?;
-    Some((dense.nrows(), dense.ncols()) == size && are(dense.as_slice(), values))
+) -> bool {
+    let Some(coo) = list::<T>(alloc, size, triplets) else {
+        return false;
+    };
+    match convert_coo_dense(alloc, &coo) {
+        Ok(dense) => {
+            dense.nrows() == size.0 && dense.ncols() == size.1 && are(dense.as_slice(), values)
+        }
+        Err(_) => false,
+    }
 }
 
 const TRIPLETS: [(usize, usize, i32); 8] = [
@@ -149,13 +160,15 @@ const DENSE: [i32; 15] = [7, 0, 0, 7, 0, 0, 0, 8, 0, 3, 0, 1, 0, 0, 0];
 
 #[test]
 fn triplets_become_dense(rt: HostRuntime) {
-    assert!(rt; becomes_dense::<W32>(rt.alloc(), (3, 5), &TRIPLETS, &DENSE) == Some(true));
-    assert!(rt; becomes_dense::<W64>(rt.alloc(), (0, 0), &[], &[]) == Some(true));
+    assert!(rt; becomes_dense::<W32>(rt.alloc(), (3, 5), &TRIPLETS, &DENSE));
+    assert!(rt; becomes_dense::<W64>(rt.alloc(), (0, 0), &[], &[]));
 }
 
-fn refuses_rows(alloc: Global) -> Option<bool> {
-    let tall = list::<W64>(alloc, (usize::MAX, 1), &[(LAST, 0, 5)])?;
-    Some(convert_coo_csr(alloc, &tall).is_err())
+fn refuses_rows(alloc: Global) -> bool {
+    match list::<W64>(alloc, (usize::MAX, 1), &[(LAST, 0, 5)]) {
+        Some(tall) => convert_coo_csr(alloc, &tall).is_err(),
+        None => false,
+    }
 }
 
 fn refuses_pairs(alloc: Global) -> bool {
@@ -165,7 +178,7 @@ fn refuses_pairs(alloc: Global) -> bool {
 
 #[test]
 fn too_many_rows_or_pairs_are_refused(rt: HostRuntime) {
-    assert!(rt; refuses_rows(rt.alloc()) == Some(true));
+    assert!(rt; refuses_rows(rt.alloc()));
     assert!(rt; refuses_pairs(rt.alloc()));
 }
 
@@ -174,30 +187,34 @@ fn rows_of(alloc: Global, triplets: &[(usize, usize, i32)]) -> Option<CsrMatrix<
     convert_coo_csr(alloc, &list(alloc, (2, 3), triplets)?).ok()
 }
 
-fn back_and_forth_are_equal(alloc: Global) -> Option<bool> {
-    let forth = rows_of(alloc, &[(1, 2, 4), (0, 0, 7), (1, 2, 3)])?;
-    Some(equals(rows_of(alloc, &[(1, 2, 3), (0, 0, 7), (1, 2, 4)]), &forth))
+fn back_and_forth_are_equal(alloc: Global) -> bool {
+    match rows_of(alloc, &[(1, 2, 4), (0, 0, 7), (1, 2, 3)]) {
+        Some(forth) => equals(rows_of(alloc, &[(1, 2, 3), (0, 0, 7), (1, 2, 4)]), &forth),
+        None => false,
+    }
 }
 
 #[test]
 fn any_order_gives_one_matrix(rt: HostRuntime) {
     order_law::<W64>();
-    assert!(rt; back_and_forth_are_equal(rt.alloc()) == Some(true));
+    assert!(rt; back_and_forth_are_equal(rt.alloc()));
 }
 
 // Only a list of 2^32 triplets is counted by `usize`, which is too long for a test. This takes the last case
 // of `triplets_become_rows` through the same two calls by wide counters.
-fn are_placed_by_wide_counts(alloc: Global) -> Result<bool, AllocError> {
+fn are_placed_by_wide_counts(alloc: Global) -> bool {
     let rows = [1, 0, 1];
-    let (offsets, mut cursors) = key_offsets::<usize>(alloc, &rows, 2)?;
+    let Ok((offsets, mut cursors)) = key_offsets::<usize>(alloc, &rows, 2) else {
+        return false;
+    };
     let mut entries = [(0, 0); 3];
     entries[next_slot(&rows, 0, &mut cursors)] = (0, 5);
     entries[next_slot(&rows, 1, &mut cursors)] = (1, 6);
     entries[next_slot(&rows, 2, &mut cursors)] = (2, 7);
-    Ok(offsets.as_slice() == [0, 1, 3].as_slice() && entries == [(1, 6), (0, 5), (2, 7)])
+    offsets.as_slice() == [0, 1, 3].as_slice() && entries == [(1, 6), (0, 5), (2, 7)]
 }
 
 #[test]
 fn wide_counts_place_triplets_in_rows(rt: HostRuntime) {
-    assert!(rt; are_placed_by_wide_counts(rt.alloc()) == Ok(true));
+    assert!(rt; are_placed_by_wide_counts(rt.alloc()));
 }

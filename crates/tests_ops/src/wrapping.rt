@@ -22,26 +22,32 @@ fn square<T: Ring>(alloc: Global, a: &CsrMatrix<T>) -> Option<CsrMatrix<T>> {
 }
 
 // Whether the 1 by 1 matrix has this sum with itself.
-fn has_sum<T: Ring>(alloc: Global, a: &CsrMatrix<T>, sum: T) -> Option<bool> {
-    let want = matrix_of(alloc, sum)?;
-    Some(equals(add_csr(alloc, a, a).ok(), &want))
+fn has_sum<T: Ring>(alloc: Global, a: &CsrMatrix<T>, sum: T) -> bool {
+    match matrix_of(alloc, sum) {
+        Some(want) => equals(add_csr(alloc, a, a).ok(), &want),
+        None => false,
+    }
 }
 
-fn has_square<T: Ring>(alloc: Global, a: &CsrMatrix<T>, squared: T) -> Option<bool> {
-    let want = matrix_of(alloc, squared)?;
-    Some(equals(square(alloc, a), &want))
+fn has_square<T: Ring>(alloc: Global, a: &CsrMatrix<T>, squared: T) -> bool {
+    match matrix_of(alloc, squared) {
+        Some(want) => equals(square(alloc, a), &want),
+        None => false,
+    }
 }
 
 // Whether the 1 by 1 matrix of a value has this sum with itself, and this square.
-fn has_sum_and_square<T: Ring>(alloc: Global, value: T, sum: T, squared: T) -> Option<bool> {
-    let a = matrix_of(alloc, value)?;
-    Some(has_sum(alloc, &a, sum) == Some(true) && has_square(alloc, &a, squared) == Some(true))
+fn has_sum_and_square<T: Ring>(alloc: Global, value: T, sum: T, squared: T) -> bool {
+    match matrix_of(alloc, value) {
+        Some(a) => has_sum(alloc, &a, sum) && has_square(alloc, &a, squared),
+        None => false,
+    }
 }
 
 #[test]
 fn values_wrap(rt: HostRuntime) {
     let wrapping = has_sum_and_square(rt.alloc(), W32::new(i32::MAX), W32::new(-2), W32::new(1));
-    assert!(rt; wrapping == Some(true));
+    assert!(rt; wrapping);
     let residues = has_sum_and_square(rt.alloc(), Mod::<7>::new(5), Mod::new(3), Mod::new(4));
-    assert!(rt; residues == Some(true));
+    assert!(rt; residues);
 }

@@ -1,11 +1,12 @@
 //! The factor beside a slow program that follows the definition.
 
-ghost use Rattle.std.specs.Prelude.{◌≡◌, IfOk};
+ghost use Rattle.std.specs.Prelude.{◌≡◌};
 
+use crate::square_patterns::Columns;
 use reference::fill::fill_by_pairs;
 use sparse_factor::factorization::CscSymbolicCholesky;
 use sparse_pattern::pattern::SparsityPattern;
-use std::alloc::Global;
+use std::alloc::{AllocError, Global};
 use std::test::Fail;
 
 // Whether each column of the pattern has the rows that the pairs (row, column) name, and no others. The pairs are distinct.
@@ -23,38 +24,53 @@ fn stores(l_pattern: &SparsityPattern, pairs: &[(usize, usize)]) -> bool {
     l_pattern.nnz() == pairs.len()
 }
 
-fn agrees(alloc: Global, pattern: SparsityPattern) -> Result<bool, Fail>
+// Whether the factor of a pattern stores these pairs.
+fn has_fill(
+    alloc: Global,
+    pattern: SparsityPattern,
+    pairs: &[(usize, usize)],
+) -> Result<bool, AllocError>
     requires { pattern.major_dim ≡ pattern.minor_dim }
 {
-    let pairs = fill_by_pairs(alloc, &pattern)?;
     let factor = CscSymbolicCholesky::factor(alloc, pattern)?;
-    Ok(stores(factor.l_pattern(), &pairs))
+    Ok(stores(factor.l_pattern(), pairs))
+}
+
+// Whether the columns are those of a square pattern whose factor stores its fill.
+fn agrees(alloc: Global, columns: Columns, size: usize) -> Result<bool, AllocError> {
+    let Ok(pattern) = columns.square(size) else {
+        return Ok(false);
+    };
+    let pairs = fill_by_pairs(alloc, &pattern)?;
+    has_fill(alloc, pattern, &pairs)
+}
+
+// Adds a column whose places are the lowest bits of a number. Returns the bits that are left.
+fn push_bits(columns: &mut Columns, size: usize, bits: u32) -> Result<u32, AllocError> {
+    let mut rest = bits;
+    for row in 0..size {
+        if rest % 2 == 1 {
+            columns.push(row)?;
+        }
+        rest /= 2;
+    }
+    columns.end()?;
+    Ok(rest)
 }
 
 // The square pattern whose places are the bits of a number, column by column.
-fn of_bits(alloc: Global, size: usize, bits: u32) -> Result<SparsityPattern, Fail>
-    ensures rows { IfOk result (λ p. p.minor_dim ≡ size) }
-    ensures columns { IfOk result (λ p. p.major_dim ≡ size) }
-{
-    let mut offsets = Vec::new(alloc);
-    let mut indices = Vec::new(alloc);
-    offsets.push(0)?;
+fn of_bits(alloc: Global, size: usize, bits: u32) -> Result<Columns, AllocError> {
+    let mut columns = Columns::new(alloc)?;
     let mut rest = bits;
     for _ in 0..size {
-        for row in 0..size {
-            if rest % 2 == 1 {
-                indices.push(row)?;
-            }
-            rest /= 2;
-        }
-        offsets.push(indices.len())?;
+        rest = push_bits(&mut columns, size, rest)?;
     }
-    Ok(SparsityPattern::try_from_offsets_and_indices(size, size, offsets, indices)?)
+    Ok(columns)
 }
 
-fn all_agree(alloc: Global, size: usize, count: u32) -> Result<bool, Fail> {
+fn all_agree(alloc: Global, size: usize, count: u32) -> Result<bool, AllocError> {
     for bits in 0..count {
-        if !agrees(alloc, of_bits(alloc, size, bits)?)? {
+        if !agrees(alloc, of_bits(alloc, size, bits)?, size)? {
             return Ok(false);
         }
     }
@@ -63,42 +79,46 @@ fn all_agree(alloc: Global, size: usize, count: u32) -> Result<bool, Fail> {
 
 #[test]
 fn every_small_pattern_has_its_fill(rt: HostRuntime) -> Result<(), Fail> {
-    for (size, count) in [(0, 1), (1, 2), (2, 16), (3, 512), (4, 65_536)] {
+    for &(size, count) in &[(0, 1), (1, 2), (2, 16), (3, 512), (4, 65_536)] {
         assert!(rt; all_agree(rt.alloc(), size, count)?);
     }
     Ok(())
 }
 
-// A square pattern with about one place in five, from a linear congruential generator (Knuth's MMIX).
-fn random(alloc: Global, size: usize, seed: u64) -> Result<SparsityPattern, Fail>
-    ensures rows { IfOk result (λ p. p.minor_dim ≡ size) }
-    ensures columns { IfOk result (λ p. p.major_dim ≡ size) }
-{
-    let mut offsets = Vec::new(alloc);
-    let mut indices = Vec::new(alloc);
-    offsets.push(0)?;
+// Adds a column with about one place in five, from a linear congruential generator (Knuth's MMIX). Returns its new state.
+fn push_random(columns: &mut Columns, size: usize, seed: u64) -> Result<u64, AllocError> {
+    let mut state = seed;
+    for row in 0..size {
+        state = state
+            .wrapping_mul(6_364_136_223_846_793_005)
+            .wrapping_add(1_442_695_040_888_963_407);
+        if (state >> 33) % 5 == 0 {
+            columns.push(row)?;
+        }
+    }
+    columns.end()?;
+    Ok(state)
+}
+
+// The columns of a square pattern with about one place in five.
+fn random(alloc: Global, size: usize, seed: u64) -> Result<Columns, AllocError> {
+    let mut columns = Columns::new(alloc)?;
     let mut state = seed;
     for _ in 0..size {
-        for row in 0..size {
-            state = state
-                .wrapping_mul(6_364_136_223_846_793_005)
-                .wrapping_add(1_442_695_040_888_963_407);
-            if (state >> 33) % 5 == 0 {
-                indices.push(row)?;
-            }
-        }
-        offsets.push(indices.len())?;
+        state = push_random(&mut columns, size, state)?;
     }
-    Ok(SparsityPattern::try_from_offsets_and_indices(size, size, offsets, indices)?)
+    Ok(columns)
+}
+
+// Whether the random pattern of this seed, of 10 columns, has its fill.
+fn random_agrees(alloc: Global, seed: u64) -> Result<bool, AllocError> {
+    agrees(alloc, random(alloc, 10, seed)?, 10)
 }
 
 #[test]
 fn larger_patterns_have_their_fill(rt: HostRuntime) -> Result<(), Fail> {
     for seed in 0..40 {
-        assert!(rt;
-            agrees(rt.alloc(), random(rt.alloc(), 10, seed)?)?,
-            "seed {seed}"
-        );
+        assert!(rt; random_agrees(rt.alloc(), seed)?, "seed {seed}");
     }
     Ok(())
 }

@@ -1,70 +1,77 @@
 //! Large patterns: work that is not counted, or counted twice, would not come to an end.
 
-ghost use Rattle.std.specs.Prelude.{◌≡◌, IfOk, ◌<◌, ◌^◌};
+ghost use Rattle.std.specs.Prelude.{◌<◌, ◌^◌};
 
+use crate::square_patterns::Columns;
 use sparse_factor::factorization::CscSymbolicCholesky;
-use sparse_pattern::pattern::SparsityPattern;
-use std::alloc::Global;
+use std::alloc::{AllocError, Global};
 use std::test::Fail;
 
-// The diagonal and the places beside it, and the two corners.
-fn cycle(alloc: Global, size: usize) -> Result<SparsityPattern, Fail>
-    ensures rows { IfOk result (λ p. p.minor_dim ≡ size) }
-    ensures columns { IfOk result (λ p. p.major_dim ≡ size) }
+// Adds a column of the cycle: the diagonal and the places beside it, and in the last column the corner.
+fn push_on_cycle(columns: &mut Columns, size: usize, column: usize) -> Result<(), AllocError>
+    requires { column < size }
 {
-    let mut offsets = Vec::new(alloc);
-    let mut indices = Vec::new(alloc);
-    offsets.push(0)?;
-    for column in 0..size {
-        if column + 1 == size {
-            indices.push(0)?;
-        }
-        if 0 < column {
-            indices.push(column - 1)?;
-        }
-        indices.push(column)?;
-        offsets.push(indices.len())?;
+    if column + 1 == size {
+        columns.push(0)?;
     }
-    Ok(SparsityPattern::try_from_offsets_and_indices(size, size, offsets, indices)?)
+    if 0 < column {
+        columns.push(column - 1)?;
+    }
+    columns.push(column)?;
+    columns.end()
+}
+
+// The diagonal and the places beside it, and the two corners.
+fn cycle(alloc: Global, size: usize) -> Result<Columns, AllocError> {
+    let mut columns = Columns::new(alloc)?;
+    for column in 0..size {
+        push_on_cycle(&mut columns, size, column)?;
+    }
+    Ok(columns)
+}
+
+// Adds a column of the arrow: the first row and the diagonal.
+fn push_on_arrow(columns: &mut Columns, column: usize) -> Result<(), AllocError> {
+    if 0 < column {
+        columns.push(0)?;
+    }
+    columns.push(column)?;
+    columns.end()
 }
 
 // The diagonal and the first row.
-fn arrow(alloc: Global, size: usize) -> Result<SparsityPattern, Fail>
-    ensures rows { IfOk result (λ p. p.minor_dim ≡ size) }
-    ensures columns { IfOk result (λ p. p.major_dim ≡ size) }
-{
-    let mut offsets = Vec::new(alloc);
-    let mut indices = Vec::new(alloc);
-    offsets.push(0)?;
+fn arrow(alloc: Global, size: usize) -> Result<Columns, AllocError> {
+    let mut columns = Columns::new(alloc)?;
     for column in 0..size {
-        if 0 < column {
-            indices.push(0)?;
-        }
-        indices.push(column)?;
-        offsets.push(indices.len())?;
+        push_on_arrow(&mut columns, column)?;
     }
-    Ok(SparsityPattern::try_from_offsets_and_indices(size, size, offsets, indices)?)
+    Ok(columns)
 }
 
-// The places of a pattern and of its factor.
-fn places(alloc: Global, pattern: SparsityPattern) -> Result<(usize, usize), Fail>
-    requires { pattern.major_dim ≡ pattern.minor_dim }
-{
+// The places of a square pattern and of its factor, or `None` where the columns are not those of one.
+fn places(
+    alloc: Global,
+    columns: Columns,
+    size: usize,
+) -> Result<Option<(usize, usize)>, AllocError> {
+    let Ok(pattern) = columns.square(size) else {
+        return Ok(None);
+    };
     let nnz = pattern.nnz();
     let factor = CscSymbolicCholesky::factor(alloc, pattern)?;
-    Ok((nnz, factor.l_pattern().nnz()))
+    Ok(Some((nnz, factor.l_pattern().nnz())))
 }
 
 #[test]
 fn a_cycle_comes_to_its_end(rt: HostRuntime) -> Result<(), Fail> {
-    let pattern = cycle(rt.alloc(), 200_000)?;
-    assert_eq!(rt; places(rt.alloc(), pattern)?, (400_000, 599_997));
+    let columns = cycle(rt.alloc(), 200_000)?;
+    assert!(rt; places(rt.alloc(), columns, 200_000)? == Some((400_000, 599_997)));
     Ok(())
 }
 
 #[test]
 fn an_arrow_comes_to_its_end(rt: HostRuntime) -> Result<(), Fail> {
-    let pattern = arrow(rt.alloc(), 3_000)?;
-    assert_eq!(rt; places(rt.alloc(), pattern)?, (5_999, 4_501_500));
+    let columns = arrow(rt.alloc(), 3_000)?;
+    assert!(rt; places(rt.alloc(), columns, 3_000)? == Some((5_999, 4_501_500)));
     Ok(())
 }

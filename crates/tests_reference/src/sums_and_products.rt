@@ -93,17 +93,35 @@ fn columns_of_list(alloc: Global, coo: &CooMatrix<W64>) -> Result<Arrays, AllocE
     Ok(arrays)
 }
 
+// Whether a list is converted to its rows.
+fn has_its_rows(alloc: Global, coo: &CooMatrix<W64>) -> Result<bool, AllocError> {
+    let rows = rows_of_list(alloc, coo)?;
+    let csr = convert_coo_csr(alloc, coo)?;
+    Ok(rows.are(csr.row_offsets(), csr.col_indices(), csr.values()))
+}
+
+// Whether a list is converted to its columns.
+fn has_its_columns(alloc: Global, coo: &CooMatrix<W64>) -> Result<bool, AllocError> {
+    let columns = columns_of_list(alloc, coo)?;
+    let csc = convert_coo_csc(alloc, coo)?;
+    Ok(columns.are(csc.col_offsets(), csc.row_indices(), csc.values()))
+}
+
+// Whether the next list of these sizes, of 12 triplets, is converted to its rows and to its columns.
+fn next_list_is_converted(
+    alloc: Global,
+    generator: &mut Generator,
+    sizes: (u8, u8),
+) -> Result<bool, AllocError> {
+    let coo = list(alloc, generator, sizes, 12)?;
+    Ok(has_its_rows(alloc, &coo)? && has_its_columns(alloc, &coo)?)
+}
+
 #[test]
 fn lists_by_rows_and_columns(rt: HostRuntime) -> Result<(), Fail> {
     let mut generator = Generator::new(1);
-    for sizes in [(1, 1), (3, 5), (5, 3), (4, 4), (0, 3), (3, 0), (200, 2)] {
-        let coo = list(rt.alloc(), &mut generator, sizes, 12)?;
-        let rows = rows_of_list(rt.alloc(), &coo)?;
-        let csr = convert_coo_csr(rt.alloc(), &coo)?;
-        assert!(rt; rows.are(csr.row_offsets(), csr.col_indices(), csr.values()));
-        let columns = columns_of_list(rt.alloc(), &coo)?;
-        let csc = convert_coo_csc(rt.alloc(), &coo)?;
-        assert!(rt; columns.are(csc.col_offsets(), csc.row_indices(), csc.values()));
+    for &sizes in &[(1, 1), (3, 5), (5, 3), (4, 4), (0, 3), (3, 0), (200, 2)] {
+        assert!(rt; next_list_is_converted(rt.alloc(), &mut generator, sizes)?);
     }
     Ok(())
 }
@@ -134,22 +152,32 @@ fn rows_of_product(
     Ok(arrays)
 }
 
+// The product of two matrices, or `None` where their sizes don't fit.
+fn product_of(
+    alloc: Global,
+    left: &CsrMatrix<W64>,
+    right: &CsrMatrix<W64>,
+) -> Result<Option<CsrMatrix<W64>>, AllocError> {
+    if left.ncols() != right.nrows() {
+        return Ok(None);
+    }
+    Ok(Some(mul_csr(alloc, left, right)?))
+}
+
 // The product of two lists by rows, or `None` where their sizes don't fit.
 fn product(
     alloc: Global,
     a: &CooMatrix<W64>,
     b: &CooMatrix<W64>,
 ) -> Result<Option<CsrMatrix<W64>>, AllocError> {
-    let (left, right) = (convert_coo_csr(alloc, a)?, convert_coo_csr(alloc, b)?);
-    if left.ncols() != right.nrows() {
-        return Ok(None);
-    }
-    Ok(Some(mul_csr(alloc, &left, &right)?))
+    let left = convert_coo_csr(alloc, a)?;
+    let right = convert_coo_csr(alloc, b)?;
+    product_of(alloc, &left, &right)
 }
 
 // Numbers of rows, of middle indices, of columns and of triplets. The rows of the last two products take hundreds of multiplications each,
 // and their indices are read from several words of bits.
-const SIZES: [(u8, u8, u8, usize); 7] = [
+const SIZES: &[(u8, u8, u8, usize)] = &[
     (1, 1, 1, 8),
     (4, 3, 5, 8),
     (3, 5, 4, 8),
@@ -159,22 +187,46 @@ const SIZES: [(u8, u8, u8, usize); 7] = [
     (3, 7, 65, 400),
 ];
 
+// Whether the product was made, and has as many columns and these rows.
+fn product_is(
+    made: Result<Option<CsrMatrix<W64>>, AllocError>,
+    ncols: usize,
+    rows: &Arrays,
+) -> bool {
+    match made {
+        Ok(Some(csr)) => {
+            csr.ncols() == ncols && rows.are(csr.row_offsets(), csr.col_indices(), csr.values())
+        }
+        Ok(None) | Err(AllocError) => false,
+    }
+}
+
+// Whether the product of two lists by rows has as many columns as the second, and the rows of the slow product.
+fn has_its_product(
+    alloc: Global,
+    a: &CooMatrix<W64>,
+    b: &CooMatrix<W64>,
+) -> Result<bool, AllocError> {
+    let rows = rows_of_product(alloc, a, b)?;
+    Ok(product_is(product(alloc, a, b), b.ncols(), &rows))
+}
+
+// Whether the next two lists of these sizes have their product.
+fn next_product_is_right(
+    alloc: Global,
+    generator: &mut Generator,
+    (nrows, inner, ncols, count): (u8, u8, u8, usize),
+) -> Result<bool, AllocError> {
+    let a = list(alloc, generator, (nrows, inner), count)?;
+    let b = list(alloc, generator, (inner, ncols), count)?;
+    Ok(b.ncols() == usize::from(ncols) && has_its_product(alloc, &a, &b)?)
+}
+
 #[test]
 fn products_by_rows(rt: HostRuntime) -> Result<(), Fail> {
     let mut generator = Generator::new(2);
-    for (nrows, inner, ncols, count) in SIZES {
-        let a = list(rt.alloc(), &mut generator, (nrows, inner), count)?;
-        let b = list(rt.alloc(), &mut generator, (inner, ncols), count)?;
-        let product = product(rt.alloc(), &a, &b)?.ok_or("sizes that don't fit")?;
-        let rows = rows_of_product(rt.alloc(), &a, &b)?;
-        assert!(rt; product.ncols() == usize::from(ncols));
-        assert!(rt;
-            rows.are(
-                product.row_offsets(),
-                product.col_indices(),
-                product.values()
-            )
-        );
+    for &sizes in SIZES {
+        assert!(rt; next_product_is_right(rt.alloc(), &mut generator, sizes)?);
     }
     Ok(())
 }

@@ -1,5 +1,6 @@
 //! Examples of the module `convert`.
 
+use crate::example::holds;
 use nalgebra_sparse::convert::serial::{
     convert_coo_csr, convert_csc_csr, convert_csr_coo, convert_csr_csc, convert_csr_dense,
     convert_dense_csr,
@@ -43,10 +44,11 @@ fn zeros_are_not_stored(alloc: Global) -> Result<bool, Fail> {
 }
 
 #[test]
-fn conversions(rt: HostRuntime) -> Result<(), Fail> {
+fn conversions(rt: HostRuntime) {
     let alloc = rt.alloc();
-    let sparse = repeated_triplets_are_added(alloc)? && columns_and_back(alloc)?;
-    let dense = missing_places_become_zeros(alloc)? && zeros_are_not_stored(alloc)?;
-    assert!(rt; sparse && dense && stored_places_become_triplets(alloc)?);
-    Ok(())
+    assert!(rt; holds(&rt, repeated_triplets_are_added(alloc)));
+    assert!(rt; holds(&rt, columns_and_back(alloc)));
+    assert!(rt; holds(&rt, missing_places_become_zeros(alloc)));
+    assert!(rt; holds(&rt, zeros_are_not_stored(alloc)));
+    assert!(rt; holds(&rt, stored_places_become_triplets(alloc)));
 }

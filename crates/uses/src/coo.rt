@@ -1,5 +1,6 @@
 //! Examples of the module `coo`.
 
+use crate::example::holds;
 use nalgebra_sparse::dense::DMatrix;
 use nalgebra_sparse::scalar::{Ring, W64};
 use nalgebra_sparse::{CooMatrix, SparseFormatErrorKind};
@@ -56,11 +57,12 @@ fn triplets_are_dropped(alloc: Global) -> Result<bool, Fail> {
 }
 
 #[test]
-fn triplet_lists(rt: HostRuntime) -> Result<(), Fail> {
+fn triplet_lists(rt: HostRuntime) {
     let alloc = rt.alloc();
-    let built = repeated_triplets_are_kept(alloc)? && lists_become_triplets(alloc)?;
-    let refused = a_row_is_out_of_bounds(alloc)?;
-    let changed = values_are_doubled(alloc)? && triplets_are_dropped(alloc)?;
-    assert!(rt; built && refused && changed && a_block_is_appended(alloc)?);
-    Ok(())
+    assert!(rt; holds(&rt, repeated_triplets_are_kept(alloc)));
+    assert!(rt; holds(&rt, lists_become_triplets(alloc)));
+    assert!(rt; holds(&rt, a_row_is_out_of_bounds(alloc)));
+    assert!(rt; holds(&rt, values_are_doubled(alloc)));
+    assert!(rt; holds(&rt, triplets_are_dropped(alloc)));
+    assert!(rt; holds(&rt, a_block_is_appended(alloc)));
 }

@@ -1,5 +1,6 @@
 //! Examples of the module `csc`.
 
+use crate::example::holds;
 use nalgebra_sparse::scalar::W64;
 use nalgebra_sparse::{CscMatrix, SparseEntry};
 use std::alloc::Global;
@@ -46,10 +47,11 @@ fn columns_become_rows_in_place(alloc: Global) -> Result<bool, Fail> {
 }
 
 #[test]
-fn columns(rt: HostRuntime) -> Result<(), Fail> {
+fn columns(rt: HostRuntime) {
     let alloc = rt.alloc();
-    let built = sorted_arrays_become_columns(alloc)? && unsorted_rows_are_sorted(alloc)?;
-    let used = columns_are_read_in_order(alloc)? && one_value_is_replaced(alloc)?;
-    assert!(rt; built && used && columns_become_rows_in_place(alloc)?);
-    Ok(())
+    assert!(rt; holds(&rt, sorted_arrays_become_columns(alloc)));
+    assert!(rt; holds(&rt, unsorted_rows_are_sorted(alloc)));
+    assert!(rt; holds(&rt, columns_are_read_in_order(alloc)));
+    assert!(rt; holds(&rt, one_value_is_replaced(alloc)));
+    assert!(rt; holds(&rt, columns_become_rows_in_place(alloc)));
 }

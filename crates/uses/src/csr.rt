@@ -1,5 +1,6 @@
 //! Examples of the module `csr`.
 
+use crate::example::holds;
 use nalgebra_sparse::scalar::{Ring, W64};
 use nalgebra_sparse::{CsrMatrix, SparseEntry, SparseFormatErrorKind};
 use std::alloc::Global;
@@ -84,26 +85,27 @@ fn values_are_negated_and_scaled(alloc: Global) -> Result<bool, Fail> {
 }
 
 #[test]
-fn construction(rt: HostRuntime) -> Result<(), Fail> {
+fn construction(rt: HostRuntime) {
     let alloc = rt.alloc();
-    let sorted = sorted_arrays_become_rows(alloc)? && a_repeated_column_is_an_error(alloc)?;
-    let unsorted = unsorted_arrays_are_sorted(alloc)?;
-    assert!(rt; sorted && unsorted && the_identity_stores_its_diagonal(alloc)?);
-    Ok(())
+    assert!(rt; holds(&rt, sorted_arrays_become_rows(alloc)));
+    assert!(rt; holds(&rt, a_repeated_column_is_an_error(alloc)));
+    assert!(rt; holds(&rt, unsorted_arrays_are_sorted(alloc)));
+    assert!(rt; holds(&rt, the_identity_stores_its_diagonal(alloc)));
 }
 
 #[test]
-fn reading_and_writing(rt: HostRuntime) -> Result<(), Fail> {
+fn reading_and_writing(rt: HostRuntime) {
     let alloc = rt.alloc();
-    let read = a_missing_entry_is_zero(alloc)? && one_row_is_read(alloc)?;
-    assert!(rt; read && values_are_replaced(alloc)? && values_are_negated_and_scaled(alloc)?);
-    Ok(())
+    assert!(rt; holds(&rt, a_missing_entry_is_zero(alloc)));
+    assert!(rt; holds(&rt, one_row_is_read(alloc)));
+    assert!(rt; holds(&rt, values_are_replaced(alloc)));
+    assert!(rt; holds(&rt, values_are_negated_and_scaled(alloc)));
 }
 
 #[test]
-fn copies(rt: HostRuntime) -> Result<(), Fail> {
+fn copies(rt: HostRuntime) {
     let alloc = rt.alloc();
-    let kept = the_diagonal_is_filtered_out(alloc)? && the_upper_triangle_is_kept(alloc)?;
-    assert!(rt; kept && rows_become_columns(alloc)?);
-    Ok(())
+    assert!(rt; holds(&rt, the_diagonal_is_filtered_out(alloc)));
+    assert!(rt; holds(&rt, the_upper_triangle_is_kept(alloc)));
+    assert!(rt; holds(&rt, rows_become_columns(alloc)));
 }

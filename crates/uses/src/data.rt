@@ -1,5 +1,6 @@
 //! Examples of the module `data`.
 
+use crate::example::holds;
 use nalgebra_sparse::CsrMatrix;
 use nalgebra_sparse::data::{ToData, TryFromData};
 use std::alloc::Global;
@@ -12,7 +13,6 @@ fn data_becomes_the_same_matrix(alloc: Global) -> Result<bool, Fail> {
 }
 
 #[test]
-fn data_structs(rt: HostRuntime) -> Result<(), Fail> {
-    assert!(rt; data_becomes_the_same_matrix(rt.alloc())?);
-    Ok(())
+fn data_structs(rt: HostRuntime) {
+    assert!(rt; holds(&rt, data_becomes_the_same_matrix(rt.alloc())));
 }

@@ -1,5 +1,6 @@
 //! Examples of the module `dense`.
 
+use crate::example::holds;
 use nalgebra_sparse::dense::DMatrix;
 use std::alloc::Global;
 use std::test::Fail;
@@ -24,9 +25,9 @@ fn one_column_is_filled(alloc: Global) -> Result<bool, Fail> {
 }
 
 #[test]
-fn dense_matrices(rt: HostRuntime) -> Result<(), Fail> {
+fn dense_matrices(rt: HostRuntime) {
     let alloc = rt.alloc();
-    let read = rows_are_stored_by_columns(alloc)? && one_place_is_set(alloc)?;
-    assert!(rt; read && one_column_is_filled(alloc)?);
-    Ok(())
+    assert!(rt; holds(&rt, rows_are_stored_by_columns(alloc)));
+    assert!(rt; holds(&rt, one_place_is_set(alloc)));
+    assert!(rt; holds(&rt, one_column_is_filled(alloc)));
 }

@@ -1,5 +1,6 @@
 //! Examples of the module `expr`.
 
+use crate::example::holds;
 use nalgebra_sparse::expr::{Expr, ExprError, Form, run};
 use nalgebra_sparse::io::Out;
 use std::alloc::Global;
@@ -24,9 +25,9 @@ fn a_square_is_written(alloc: Global) -> Result<bool, Fail> {
 }
 
 #[test]
-fn expressions(rt: HostRuntime) -> Result<(), Fail> {
+fn expressions(rt: HostRuntime) {
     let alloc = rt.alloc();
-    let words = words_become_a_tree(alloc)? && an_operand_is_missing(alloc)?;
-    assert!(rt; words && a_square_is_written(alloc)?);
-    Ok(())
+    assert!(rt; holds(&rt, words_become_a_tree(alloc)));
+    assert!(rt; holds(&rt, an_operand_is_missing(alloc)));
+    assert!(rt; holds(&rt, a_square_is_written(alloc)));
 }

@@ -1,5 +1,6 @@
 //! Examples of the module `io`.
 
+use crate::example::holds;
 use nalgebra_sparse::io::{
     MatrixMarketErrorKind, load_coo_from_matrix_market_str, save_to_matrix_market_str,
 };
@@ -28,9 +29,9 @@ fn what_is_written_is_read_back(alloc: Global) -> Result<bool, Fail> {
 }
 
 #[test]
-fn texts(rt: HostRuntime) -> Result<(), Fail> {
+fn texts(rt: HostRuntime) {
     let alloc = rt.alloc();
-    let read = a_text_is_read(alloc)? && an_entry_is_missing(alloc)?;
-    assert!(rt; read && what_is_written_is_read_back(alloc)?);
-    Ok(())
+    assert!(rt; holds(&rt, a_text_is_read(alloc)));
+    assert!(rt; holds(&rt, an_entry_is_missing(alloc)));
+    assert!(rt; holds(&rt, what_is_written_is_read_back(alloc)));
 }

@@ -16,6 +16,8 @@ mod data;
 #[cfg(test)]
 mod dense;
 #[cfg(test)]
+mod example;
+#[cfg(test)]
 mod expr;
 #[cfg(test)]
 mod factorization;

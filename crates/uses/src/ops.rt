@@ -1,5 +1,6 @@
 //! Examples of the module `ops`.
 
+use crate::example::holds;
 use nalgebra_sparse::dense::DMatrix;
 use nalgebra_sparse::ops::serial::{
     OperationErrorKind, add_csr, div_scalar_csr, mul_csc_dense, mul_csr, mul_csr_dense, scale_csr,
@@ -120,30 +121,27 @@ fn a_matrix_by_columns_times_a_dense_matrix(alloc: Global) -> Result<bool, Fail>
 }
 
 #[test]
-fn products_and_solves(rt: HostRuntime) -> Result<(), Fail> {
+fn products_and_solves(rt: HostRuntime) {
     let alloc = rt.alloc();
-    let products = a_matrix_is_squared(alloc)? && places_of_a_square(alloc)?;
-    assert!(rt; products && steps_of_a_square(alloc)?);
-    assert!(rt; a_triangular_system_is_solved(alloc)?);
-    Ok(())
+    assert!(rt; holds(&rt, a_matrix_is_squared(alloc)));
+    assert!(rt; holds(&rt, places_of_a_square(alloc)));
+    assert!(rt; holds(&rt, steps_of_a_square(alloc)));
+    assert!(rt; holds(&rt, a_triangular_system_is_solved(alloc)));
 }
 
 #[test]
-fn sums_and_multiples(rt: HostRuntime) -> Result<(), Fail> {
+fn sums_and_multiples(rt: HostRuntime) {
     let alloc = rt.alloc();
-    let sums = a_matrix_is_doubled(alloc)? && a_difference_stores_zeros(alloc)?;
-    assert!(rt; sums && two_has_no_inverse(alloc)?);
-    Ok(())
+    assert!(rt; holds(&rt, a_matrix_is_doubled(alloc)));
+    assert!(rt; holds(&rt, a_difference_stores_zeros(alloc)));
+    assert!(rt; holds(&rt, two_has_no_inverse(alloc)));
 }
 
 #[test]
-fn products_with_dense_matrices(rt: HostRuntime) -> Result<(), Fail> {
+fn products_with_dense_matrices(rt: HostRuntime) {
     let alloc = rt.alloc();
-    let updates = a_product_is_added_to_a_dense_matrix(alloc)?
-        && a_product_by_columns_replaces_a_dense_matrix(alloc)?;
-    assert!(rt; updates);
-    let products = a_matrix_times_a_dense_matrix(alloc)?
-        && a_matrix_by_columns_times_a_dense_matrix(alloc)?;
-    assert!(rt; products);
-    Ok(())
+    assert!(rt; holds(&rt, a_product_is_added_to_a_dense_matrix(alloc)));
+    assert!(rt; holds(&rt, a_product_by_columns_replaces_a_dense_matrix(alloc)));
+    assert!(rt; holds(&rt, a_matrix_times_a_dense_matrix(alloc)));
+    assert!(rt; holds(&rt, a_matrix_by_columns_times_a_dense_matrix(alloc)));
 }

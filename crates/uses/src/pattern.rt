@@ -1,5 +1,6 @@
 //! Examples of the module `pattern`.
 
+use crate::example::holds;
 use nalgebra_sparse::pattern::{SparsityPattern, SparsityPatternFormatError};
 use std::alloc::Global;
 use std::test::Fail;
@@ -26,9 +27,9 @@ fn places_are_transposed(alloc: Global) -> Result<bool, Fail> {
 }
 
 #[test]
-fn patterns(rt: HostRuntime) -> Result<(), Fail> {
+fn patterns(rt: HostRuntime) {
     let alloc = rt.alloc();
-    let read = lanes_are_read(alloc)? && an_index_is_out_of_bounds(alloc)?;
-    assert!(rt; read && places_are_transposed(alloc)?);
-    Ok(())
+    assert!(rt; holds(&rt, lanes_are_read(alloc)));
+    assert!(rt; holds(&rt, an_index_is_out_of_bounds(alloc)));
+    assert!(rt; holds(&rt, places_are_transposed(alloc)));
 }

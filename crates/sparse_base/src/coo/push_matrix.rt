@@ -4,7 +4,7 @@ ghost use Rattle.std.specs.Prelude.{◌≡◌, ◌+◌, ◌*◌, ◌<◌, ◌≤
 ghost use Rattle.sparse_base.specs.Coo.{zip_triplets, appended, AreParts};
 ghost use Rattle.sparse_base.specs.Blocks.{block_triplets, IsEmptyBlock, IsBlockInside};
 
-use super::CooMatrix;
+use super::{CooMatrix, reserve_each};
 use crate::dense::DMatrix;
 use std::alloc::AllocError;
 
@@ -37,9 +37,12 @@ impl<T: Copy> CooMatrix<T> {
         if count == 0 {
             return Ok(());
         }
-        self.row_indices.reserve(count)?;
-        self.col_indices.reserve(count)?;
-        self.values.reserve(count)?;
+        reserve_each(
+            &mut self.row_indices,
+            &mut self.col_indices,
+            &mut self.values,
+            count,
+        )?;
         push_block(
             &mut self.row_indices,
             &mut self.col_indices,

@@ -1,10 +1,11 @@
 //! The triplets of a data line.
 
-ghost use Rattle.std.specs.Prelude.{◌≡◌, [], ◌∷◌, ℕ, Option, None, true, IsTrue, map, Ok};
+ghost use Rattle.std.specs.Prelude.{◌≡◌, [], ◌∷◌, ℕ, Option, None, true, IsTrue, map, Ok, Err};
 ghost use Rattle.sparse_parser.specs.declared.header.Format.TheVariants.{Coordinate, Array};
 ghost use Rattle.sparse_parser.specs.declared.header.Field.TheVariants.{Integer};
+ghost use Rattle.sparse_parser.specs.Errors.{kind_of_cause};
 ghost use Rattle.sparse_parser.specs.Reads.{read_as};
-ghost use Rattle.sparse_parser.specs.Meaning.{number_of, place_of, value_of, entry_of, mirrored, triplets_of, value_triplet};
+ghost use Rattle.sparse_parser.specs.Meaning.{number_of, place_of, value_of, placed, entry_of, mirrored, triplets_of, value_triplet};
 ghost use Rattle.sparse_parser.specs.InnerReading.{found};
 ghost use Rattle.sparse_parser.specs.InnerLines.{is_plain, IsNumber, AreNumbers, words_in};
 ghost use Rattle.sparse_io.specs.InnerEntries.{both_of, triplets_at};
@@ -95,23 +96,73 @@ fn coordinate_entry<T: MatrixMarketScalar>(
 {
     match (field, line) {
         (Field::Pattern, Line::Two(row, col)) if row.is_index() && col.is_index() => {
-            let (row, col) = index_place(row, col)?;
-            Ok((row, col, T::from_pattern(())?))
+            pattern_entry(row, col)
         }
-        (Field::Integer, Line::Three(row, col, value)) => {
-            let (row, col) = index_place(row, col)?;
-            Ok((row, col, integer_value(value)?))
-        }
-        (Field::Real, Line::Three(row, col, _)) => {
-            index_place(row, col)?;
-            Err(MatrixMarketError::new(Cause::RealEntry))
-        }
-        (Field::Complex, Line::Four(row, col, _, _)) => {
-            index_place(row, col)?;
-            Err(MatrixMarketError::new(Cause::ComplexEntry))
-        }
+        (Field::Integer, Line::Three(row, col, value)) => integer_entry(row, col, value),
+        (Field::Real, Line::Three(row, col, _)) => refused_entry(row, col, Cause::RealEntry),
+        (Field::Complex, Line::Four(row, col, _, _)) => refused_entry(
+            row,
+            col,
+            Cause::ComplexEntry,
+        ),
         _ => Err(MatrixMarketError::new(Cause::EntryShape)),
     }
+}
+
+// The entry of a row and a column alone.
+#[inline(always)]
+fn pattern_entry<T: MatrixMarketScalar>(
+    row: Number<'_>,
+    col: Number<'_>,
+) -> Result<Triplet<T>, MatrixMarketError>
+    requires row_is { IsNumber row }
+    requires col_is { IsNumber col }
+    requires row_index { is_plain row.kind ≡ true }
+    requires col_index { is_plain col.kind ≡ true }
+    ensures { read_as (λ t. value_triplet T.value t) result
+        ≡ placed T.scalar (place_of (number_of row.entry.word.now) (number_of col.entry.word.now))
+        T.scalar.from_pattern }
+{
+    let (row, col) = index_place(row, col)?;
+    Ok((row, col, T::from_pattern(())?))
+}
+
+// The entry of a row, a column and an integer.
+#[inline(always)]
+fn integer_entry<T: MatrixMarketScalar>(
+    row: Number<'_>,
+    col: Number<'_>,
+    value: Number<'_>,
+) -> Result<Triplet<T>, MatrixMarketError>
+    requires row_is { IsNumber row }
+    requires col_is { IsNumber col }
+    requires value_is { IsNumber value }
+    requires row_index { is_plain row.kind ≡ true }
+    requires col_index { is_plain col.kind ≡ true }
+    ensures { read_as (λ t. value_triplet T.value t) result
+        ≡ placed T.scalar (place_of (number_of row.entry.word.now) (number_of col.entry.word.now))
+        (value_of T.scalar Integer (value.entry.word.now ∷ [])) }
+{
+    integer_at(index_place(row, col)?, value)
+}
+
+// The error of an entry whose value has no type here: that of its place, or else the given one.
+#[inline(always)]
+fn refused_entry<T: MatrixMarketScalar>(
+    row: Number<'_>,
+    col: Number<'_>,
+    cause: Cause,
+) -> Result<Triplet<T>, MatrixMarketError>
+    requires row_is { IsNumber row }
+    requires col_is { IsNumber col }
+    requires row_index { is_plain row.kind ≡ true }
+    requires col_index { is_plain col.kind ≡ true }
+    ensures { read_as (λ t. value_triplet T.value t) result
+        ≡ placed T.scalar (place_of (number_of row.entry.word.now) (number_of col.entry.word.now))
+        (Err (kind_of_cause cause)) }
+{
+    index_place(row, col)?;
+    Err(MatrixMarketError::new(cause))
 }
 
 // The entry of an array, which has the given place.
@@ -125,15 +176,28 @@ fn array_entry<T: MatrixMarketScalar>(
     ensures { read_as (λ t. value_triplet T.value t) result
         ≡ entry_of T.scalar Array field at (words_in line.entry) }
 {
-    let Some((row, col)) = at else {
+    let Some(place) = at else {
         return Err(MatrixMarketError::new(Cause::EntryShape));
     };
     match (field, line) {
-        (Field::Integer, Line::One(value)) => Ok((row, col, integer_value(value)?)),
+        (Field::Integer, Line::One(value)) => integer_at(place, value),
         (Field::Real, Line::One(_)) => Err(MatrixMarketError::new(Cause::RealEntry)),
         (Field::Complex, Line::Two(_, _)) => Err(MatrixMarketError::new(Cause::ComplexEntry)),
         _ => Err(MatrixMarketError::new(Cause::EntryShape)),
     }
+}
+
+// The entry of an integer at a place.
+#[inline(always)]
+fn integer_at<T: MatrixMarketScalar>(
+    place: (usize, usize),
+    number: Number<'_>,
+) -> Result<Triplet<T>, MatrixMarketError>
+    requires { IsNumber number }
+    ensures { read_as (λ t. value_triplet T.value t) result
+        ≡ placed T.scalar (Ok place) (value_of T.scalar Integer (number.entry.word.now ∷ [])) }
+{
+    Ok((place.0, place.1, integer_value(number)?))
 }
 
 // The place of two indices counted from 1.

@@ -1,6 +1,7 @@
-use Rattle.std.proofs.Common.{◌≡◌, [], ◌∷◌, ◌++◌, ◌+◌, ◌-◌, length, ap, ◌∙◌, subst, refl, arith}
-use Rattle.std.proofs.Common.{slice_index}
+use Rattle.std.proofs.Common.{◌≡◌, [], ◌∷◌, ◌++◌, ◌+◌, ◌-◌, length, ap, sym, ◌∙◌, subst, refl}
+use Rattle.std.proofs.Common.{slice_index, arith}
 use Rattle.std.proofs.lemmas.List.Edits.{length-between}
+use Rattle.std.proofs.lemmas.Result.{IfOk-from_err}
 use Rattle.sparse_cs.specs.Compressed.{IsSound, compressed_of}
 use Rattle.sparse_convert.specs.InnerTripletLanes.{entries_of_lane}
 use Rattle.sparse_convert.specs.InnerMerged.{AreMerged}
@@ -9,6 +10,32 @@ use Rattle.sparse_convert.proofs.SortedTriplets.{offsets_within}
 use Rattle.sparse_convert.proofs.MergedLanes.{AreLanesMerged, no_lanes_merged, lanes_merged_more}
 use Rattle.sparse_convert.proofs.MergedLanes.{merged_valid, merged_stand}
 use Rattle.sparse_convert.proofs.merge.merge_lanes.Goals as goal
+
+pub overflow_sub-major_dim : goal.overflow_sub-major_dim
+overflow_sub-major_dim g c = omega (arith, c.requires.offsets.count)
+
+pub returns-in_err-starts : goal.returns-in_err-starts
+returns-in_err-starts g c =
+    let err = c.from_residual.ensures.0 in
+    record { plain = IfOk-from_err _ _ err; sound = IfOk-from_err _ _ err }
+
+pub returns-in_err-indices : goal.returns-in_err-indices
+returns-in_err-indices g c =
+    let err = c.from_residual-in_err-indices.ensures.0 in
+    record { plain = IfOk-from_err _ _ err; sound = IfOk-from_err _ _ err }
+
+pub returns-in_err-values : goal.returns-in_err-values
+returns-in_err-values g c =
+    let err = c.from_residual-in_err-values.ensures.0 in
+    record { plain = IfOk-from_err _ _ err; sound = IfOk-from_err _ _ err }
+
+pub push_reserved-requires : goal.push_reserved-requires
+push_reserved-requires g c = omega (
+  arith,
+  c.in_ok-starts.ensures.len,
+  c.in_ok-starts.ensures.exact,
+  c.requires.offsets.count,
+)
 
 pub loop-lane-init : goal.loop-lane-init
 loop-lane-init g c =
@@ -23,6 +50,12 @@ loop-lane-init g c =
       value_capacity = c.in_ok-values.ensures.exact;
     }
 
+pub bounds-offsets-lane : goal.bounds-offsets-lane
+bounds-offsets-lane g c = omega (arith, c.loop-lane-test.true)
+
+pub bounds-offsets-lane-in-loop-lane : goal.bounds-offsets-lane-in-loop-lane
+bounds-offsets-lane-in-loop-lane g c = omega (arith, c.loop-lane-test.true)
+
 pub offset_bounds-entries-start : goal.offset_bounds-entries-start
 offset_bounds-entries-start g c = offsets_within _ _ c.args.offsets.now c.requires.offsets
     c.loop-lane.lane (omega arith)
@@ -30,6 +63,13 @@ offset_bounds-entries-start g c = offsets_within _ _ c.args.offsets.now c.requir
 pub slice_bounds-merge_lane-end : goal.slice_bounds-merge_lane-end
 slice_bounds-merge_lane-end g c = offsets_within _ _ c.args.offsets.now c.requires.offsets
     (c.loop-lane.lane + 1) (omega arith)
+
+pub merge_lane-requires-clause-sorted : goal.merge_lane-requires-clause-sorted
+merge_lane-requires-clause-sorted g c = c.requires.sorted c.loop-lane.lane
+
+pub merge_lane-requires-clause-sizes : goal.merge_lane-requires-clause-sizes
+merge_lane-requires-clause-sizes g c = c.loop-lane.values.ok.0 ∙ c.loop-lane.invariant.merged.sizes
+    ∙ sym c.loop-lane.indices.ok.0
 
 pub merge_lane-requires-clause-index_room : goal.merge_lane-requires-clause-index_room
 merge_lane-requires-clause-index_room g c =
@@ -58,6 +98,18 @@ merge_lane-requires-clause-value_room g c =
       length-between entries (slice_index offsets n) (slice_index offsets (n + 1)) within,
       c.loop-lane.values.ok.0,
     )
+
+pub push_reserved-requires-in-loop-lane : goal.push_reserved-requires-in-loop-lane
+push_reserved-requires-in-loop-lane g c = omega (
+  arith,
+  c.loop-lane.starts.ok.0,
+  c.loop-lane.invariant.merged.count,
+  c.loop-lane.invariant.start_capacity,
+  c.loop-lane-test.true,
+)
+
+pub loop-lane-smaller : goal.loop-lane-smaller
+loop-lane-smaller g c = omega (arith, c.loop-lane-test.true)
 
 pub loop-lane-preserved : goal.loop-lane-preserved
 loop-lane-preserved g c =
@@ -105,6 +157,13 @@ from_offset_and_indices_unchecked-pattern-requires g c =
     c.args.entries.now c.args.minor_dim c.requires.below (length c.args.offsets.now - 1) refl
     c.requires.offsets c.loop-lane.starts.items c.loop-lane.indices.items c.loop-lane.values.items
     lanes
+
+pub from_pattern_and_values-requires : goal.from_pattern_and_values-requires
+from_pattern_and_values-requires g c =
+    rw c.from_offset_and_indices_unchecked-pattern.ensures c.loop-lane.invariant.merged.sizes
+
+pub returns-clause-sound : goal.returns-clause-sound
+returns-clause-sound g c = c.from_pattern_and_values.ensures.sound
 
 pub returns-clause-plain : goal.returns-clause-plain
 returns-clause-plain g c =

@@ -1,3 +1,4 @@
+use Rattle.std.proofs.lemmas.Result.{IfOk-from_err}
 use Rattle.std.proofs.lemmas.Grind.{common_steps}
 use Rattle.std.proofs.Common.{◌≡◌, ◌<◌, ◌-◌, ℕ, All, IsPermutation, length, ap, sym, ◌∙◌, subst}
 use Rattle.std.proofs.Common.{arith}
@@ -10,6 +11,14 @@ use Rattle.sparse_convert.specs.InnerTripletLanes.{entries_of_lane, plain_of_lan
 use Rattle.sparse_convert.proofs.LentLists.{lent_back}
 use Rattle.sparse_convert.proofs.Compressing.{lane_below, lanes_stand}
 use Rattle.sparse_convert.proofs.serial.compress.Goals as goal
+
+pub returns-in_err-lanes : goal.returns-in_err-lanes
+returns-in_err-lanes g c =
+    let err = c.from_residual.ensures.0 in
+    record {
+      plain = IfOk-from_err _ _ err;
+      sound = IfOk-from_err _ _ err;
+    }
 
 pub merge_lanes-requires-clause-sorted : goal.merge_lanes-requires-clause-sorted
 merge_lanes-requires-clause-sorted g c =

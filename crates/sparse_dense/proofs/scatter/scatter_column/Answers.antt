@@ -1,5 +1,5 @@
 use Rattle.std.proofs.lemmas.Grind.{common_steps}
-use Rattle.std.proofs.Common.{◌≡◌, ◌*◌, ◌<◌, ℕ, length, get_or, ap, sym, ◌∙◌, arith}
+use Rattle.std.proofs.Common.{◌≡◌, ◌*◌, ◌<◌, ℕ, length, get_or, ap, sym, ◌∙◌, arith, rules}
 use Rattle.std.proofs.lemmas.List.{get_or_default}
 use Rattle.sparse_algebra.proofs.RingLemmas.{mul_zero}
 use Rattle.sparse_pattern.specs.Raw.{Raw, lane_of}
@@ -66,3 +66,39 @@ loop-k-preserved g c =
 
 pub returns : goal.returns
 returns g c = grind (arith, common_steps)
+
+pub overflow_mul-k : goal.overflow_mul-k
+overflow_mul-k g c =
+    let lane : c.loop-k.k < c.args.a.now.pattern.major_dim = omega (
+      arith,
+      c.loop-k-test.true,
+      c.major_dim-lanes.ensures,
+      ap (λ (d : Raw). d.major_dim) c.pattern.ensures.pattern,
+    ) in
+    let inside : c.loop-k.k * c.args.step < length c.args.x.now =
+    c.requires.inside c.loop-k.k lane in
+    search (rules, inside)
+
+pub bounds-x-k : goal.bounds-x-k
+bounds-x-k g c =
+    let lane : c.loop-k.k < c.args.a.now.pattern.major_dim = omega (
+      arith,
+      c.loop-k-test.true,
+      c.major_dim-lanes.ensures,
+      ap (λ (d : Raw). d.major_dim) c.pattern.ensures.pattern,
+    ) in
+    let inside : c.loop-k.k * c.args.step < length c.args.x.now =
+    c.requires.inside c.loop-k.k lane in
+    inside
+
+pub offset_bounds-x-k : goal.offset_bounds-x-k
+offset_bounds-x-k g c =
+    let lane : c.loop-k.k < c.args.a.now.pattern.major_dim = omega (
+      arith,
+      c.loop-k-test.true,
+      c.major_dim-lanes.ensures,
+      ap (λ (d : Raw). d.major_dim) c.pattern.ensures.pattern,
+    ) in
+    let inside : c.loop-k.k * c.args.step < length c.args.x.now =
+    c.requires.inside c.loop-k.k lane in
+    search (rules, inside)

@@ -1,12 +1,20 @@
 use Rattle.std.proofs.Common.{◌≡◌, ◌+◌, ◌*◌, ◌<◌, ◌++◌, false, inl, inr, ℕ, suc, length, get_or, ap}
-use Rattle.std.proofs.Common.{◌∙◌, arith}
+use Rattle.std.proofs.Common.{◌∙◌, ◌⊎◌, Bool, sym, arith}
 use Rattle.sparse_algebra.specs.Plain.{plain_product, plain_transpose}
 use Rattle.sparse_cs.specs.PlainOfLanes.{plain_of_rows}
 use Rattle.sparse_dense.specs.DenseOperands.{op_dense}
-use Rattle.sparse_dense.specs.InnerUpdates.{plain_turned, strided, times_vector}
+use Rattle.sparse_dense.specs.InnerUpdates.{op_step, plain_turned, strided, times_vector}
 use Rattle.sparse_dense.proofs.BlockUpdates.{one_column, one_more_column}
 use Rattle.sparse_dense.proofs.DotSteps.{gathered_entry, scattered_entry}
+use Rattle.sparse_dense.proofs.Operands.{strided_inside, plain_rows, plain_cols}
+use Rattle.sparse_dense.proofs.Operands.{turned_rows, turned_cols}
 use Rattle.sparse_dense.proofs.update.update_block.Goals as goal
+
+-- where four columns are updated, the matrix is not transposed
+not_turned : (width : ℕ) (turned : Bool)
+    → (width ≡ 1) ⊎ ((width ≡ 4) × (turned ≡ false)) → width ≡ 4 → turned ≡ false
+not_turned width turned (inl one) four = absurd (omega (arith, one, four))
+not_turned width turned (inr both) four = both.1
 
 pub returns-then-width-eq-BLOCK : goal.returns-then-width-eq-BLOCK
 returns-then-width-eq-BLOCK g c =
@@ -17,10 +25,7 @@ returns-then-width-eq-BLOCK g c =
     let j = c.args.j in
     let turned = c.args.turned in
     let four = c.if-width-eq-BLOCK.true in
-    let off : turned ≡ false = elim c.requires.widths [
-      | inl e ↦ absurd (omega (arith, e, four))
-      | inr both ↦ both.1
-    ] in
+    let off = not_turned c.args.width turned c.requires.widths four in
     let rows = plain_of_rows R f c.args.a.now in
     let b = op_dense R f c.args.b in
     let product = plain_product R (plain_turned R turned rows) b in
@@ -126,3 +131,127 @@ returns-else-turned g c =
     (times_vector R rows x) c.args.c.now c.gather_column.new.c long
     (λ i _. gathered_entry R turned rows b x i (j + 0) c.if-turned.false c.requires.inner entries)
     c.gather_column.ensures)
+
+pub gather_four-requires-clause-inside0 : goal.gather_four-requires-clause-inside0
+gather_four-requires-clause-inside0 g c =
+    let R = g.T.Ring.ring in
+    let a = c.args.a.now in
+    let b = op_dense R g.T.Ring.value c.args.b in
+    let off = not_turned c.args.width c.args.turned c.requires.widths c.if-width-eq-BLOCK.true in
+    let cols = plain_cols R c.args.turned (plain_of_rows R g.T.Ring.value a) off in
+    let step = c.step_of-step in
+    strided_inside c.column_of-x0.result.now step.result (op_step c.args.b) a.pattern.minor_dim
+    b.rows step.ensures (sym cols ∙ c.requires.inner) c.column_of-x0.ensures.inside
+
+pub gather_four-requires-clause-inside1 : goal.gather_four-requires-clause-inside1
+gather_four-requires-clause-inside1 g c =
+    let R = g.T.Ring.ring in
+    let a = c.args.a.now in
+    let b = op_dense R g.T.Ring.value c.args.b in
+    let off = not_turned c.args.width c.args.turned c.requires.widths c.if-width-eq-BLOCK.true in
+    let cols = plain_cols R c.args.turned (plain_of_rows R g.T.Ring.value a) off in
+    let step = c.step_of-step in
+    strided_inside c.column_of-x1.result.now step.result (op_step c.args.b) a.pattern.minor_dim
+    b.rows step.ensures (sym cols ∙ c.requires.inner) c.column_of-x1.ensures.inside
+
+pub gather_four-requires-clause-inside2 : goal.gather_four-requires-clause-inside2
+gather_four-requires-clause-inside2 g c =
+    let R = g.T.Ring.ring in
+    let a = c.args.a.now in
+    let b = op_dense R g.T.Ring.value c.args.b in
+    let off = not_turned c.args.width c.args.turned c.requires.widths c.if-width-eq-BLOCK.true in
+    let cols = plain_cols R c.args.turned (plain_of_rows R g.T.Ring.value a) off in
+    let step = c.step_of-step in
+    strided_inside c.column_of-x2.result.now step.result (op_step c.args.b) a.pattern.minor_dim
+    b.rows step.ensures (sym cols ∙ c.requires.inner) c.column_of-x2.ensures.inside
+
+pub gather_four-requires-clause-inside3 : goal.gather_four-requires-clause-inside3
+gather_four-requires-clause-inside3 g c =
+    let R = g.T.Ring.ring in
+    let a = c.args.a.now in
+    let b = op_dense R g.T.Ring.value c.args.b in
+    let off = not_turned c.args.width c.args.turned c.requires.widths c.if-width-eq-BLOCK.true in
+    let cols = plain_cols R c.args.turned (plain_of_rows R g.T.Ring.value a) off in
+    let step = c.step_of-step in
+    strided_inside c.column_of-x3.result.now step.result (op_step c.args.b) a.pattern.minor_dim
+    b.rows step.ensures (sym cols ∙ c.requires.inner) c.column_of-x3.ensures.inside
+
+pub gather_four-requires-clause-rows0 : goal.gather_four-requires-clause-rows0
+gather_four-requires-clause-rows0 g c =
+    let R = g.T.Ring.ring in
+    let off = not_turned c.args.width c.args.turned c.requires.widths c.if-width-eq-BLOCK.true in
+    let rows = plain_rows R c.args.turned (plain_of_rows R g.T.Ring.value c.args.a.now) off in
+    omega (arith, rows, c.requires.rows, c.split_at_mut-c0.ensures.front_len)
+
+pub gather_four-requires-clause-rows1 : goal.gather_four-requires-clause-rows1
+gather_four-requires-clause-rows1 g c =
+    let R = g.T.Ring.ring in
+    let off = not_turned c.args.width c.args.turned c.requires.widths c.if-width-eq-BLOCK.true in
+    let rows = plain_rows R c.args.turned (plain_of_rows R g.T.Ring.value c.args.a.now) off in
+    omega (arith, rows, c.requires.rows, c.split_at_mut-c1.ensures.front_len)
+
+pub gather_four-requires-clause-rows2 : goal.gather_four-requires-clause-rows2
+gather_four-requires-clause-rows2 g c =
+    let R = g.T.Ring.ring in
+    let off = not_turned c.args.width c.args.turned c.requires.widths c.if-width-eq-BLOCK.true in
+    let rows = plain_rows R c.args.turned (plain_of_rows R g.T.Ring.value c.args.a.now) off in
+    omega (arith, rows, c.requires.rows, c.split_at_mut-c2.ensures.front_len)
+
+pub gather_four-requires-clause-rows3 : goal.gather_four-requires-clause-rows3
+gather_four-requires-clause-rows3 g c =
+    let R = g.T.Ring.ring in
+    let off = not_turned c.args.width c.args.turned c.requires.widths c.if-width-eq-BLOCK.true in
+    let rows = plain_rows R c.args.turned (plain_of_rows R g.T.Ring.value c.args.a.now) off in
+    omega (
+      arith,
+      rows,
+      c.requires.rows,
+      rw c.if-width-eq-BLOCK.true at c.requires.count,
+      c.split_at_mut-c0.ensures.back_len,
+      c.split_at_mut-c1.ensures.back_len,
+      c.split_at_mut-c2.ensures.back_len,
+    )
+
+pub scatter_column-requires-clause-inside : goal.scatter_column-requires-clause-inside
+scatter_column-requires-clause-inside g c =
+    let R = g.T.Ring.ring in
+    let a = c.args.a.now in
+    let b = op_dense R g.T.Ring.value c.args.b in
+    let cols = turned_cols R c.args.turned (plain_of_rows R g.T.Ring.value a) c.if-turned.true in
+    let step = c.step_of-step in
+    strided_inside c.column_of-x0.result.now step.result (op_step c.args.b) a.pattern.major_dim
+    b.rows step.ensures (sym cols ∙ c.requires.inner) c.column_of-x0.ensures.inside
+
+pub scatter_column-requires-clause-rows : goal.scatter_column-requires-clause-rows
+scatter_column-requires-clause-rows g c =
+    let R = g.T.Ring.ring in
+    let rows = turned_rows R c.args.turned (plain_of_rows R g.T.Ring.value c.args.a.now)
+    c.if-turned.true in
+    let one : c.args.width ≡ 1 = elim c.requires.widths [
+      | inl e ↦ e
+      | inr both ↦ absurd (c.if-width-eq-BLOCK.false both.0)
+    ] in
+    let count = rw one at c.requires.count in
+    omega (arith, rows, c.requires.rows, count)
+
+pub gather_column-requires-clause-inside : goal.gather_column-requires-clause-inside
+gather_column-requires-clause-inside g c =
+    let R = g.T.Ring.ring in
+    let a = c.args.a.now in
+    let b = op_dense R g.T.Ring.value c.args.b in
+    let cols = plain_cols R c.args.turned (plain_of_rows R g.T.Ring.value a) c.if-turned.false in
+    let step = c.step_of-step in
+    strided_inside c.column_of-x0.result.now step.result (op_step c.args.b) a.pattern.minor_dim
+    b.rows step.ensures (sym cols ∙ c.requires.inner) c.column_of-x0.ensures.inside
+
+pub gather_column-requires-clause-rows : goal.gather_column-requires-clause-rows
+gather_column-requires-clause-rows g c =
+    let R = g.T.Ring.ring in
+    let rows = plain_rows R c.args.turned (plain_of_rows R g.T.Ring.value c.args.a.now)
+    c.if-turned.false in
+    let one : c.args.width ≡ 1 = elim c.requires.widths [
+      | inl e ↦ e
+      | inr both ↦ absurd (c.if-width-eq-BLOCK.false both.0)
+    ] in
+    let count = rw one at c.requires.count in
+    omega (arith, rows, c.requires.rows, count)

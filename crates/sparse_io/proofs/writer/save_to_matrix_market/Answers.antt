@@ -2,7 +2,7 @@ use Rattle.std.proofs.lemmas.Grind.{common_steps, moves}
 use Rattle.std.proofs.Common.{refl, ◌∙◌, rules, arith}
 use Rattle.std.proofs.lemmas.Result.{err_from_is_err_and}
 use Rattle.sparse_io.proofs.Buffering.{IsWriting-none, IsWriting-more, IsWriting-refused}
-use Rattle.sparse_io.proofs.Buffering.{IsWriting-all}
+use Rattle.sparse_io.proofs.Buffering.{IsWriting-all, on_ok-map, on_err-map}
 use Rattle.sparse_io.proofs.writer.save_to_matrix_market.Goals as goal
 
 pub loop-row-init : goal.loop-row-init
@@ -27,15 +27,12 @@ returns-in_err-put_triplet-clause-prefix g c =
     c.in_err-put_triplet.ensures.prefix)
 
 pub returns-clause-ok : goal.returns-clause-ok
-returns-clause-ok g c = IsWriting-all _ _ _ _ _ _ _ _ c.loop-row.invariant.writing
-    c.in-None.ensures.steps.0 c.in_ok-flush.ensures.all
+returns-clause-ok g c = on_ok-map c.flush.result (IsWriting-all _ _ _ _ _ _ _ _
+    c.loop-row.invariant.writing c.in-None.ensures.steps.0) c.flush.ensures.all
 
-pub returns-in_err-flush-clause-prefix : goal.returns-in_err-flush-clause-prefix
-returns-in_err-flush-clause-prefix g c =
-    let p = err_from_is_err_and c.from_residual-in_err-flush.result
-    c.from_residual-in_err-flush.ensures.1 in
-    rw (p.1) (IsWriting-refused _ _ _ _ _ _ _ _ c.loop-row.invariant.writing
-    c.in_err-flush.ensures.prefix)
+pub returns-clause-prefix : goal.returns-clause-prefix
+returns-clause-prefix g c = on_err-map c.flush.result (IsWriting-refused _ _ _ _ _ _ _ _
+    c.loop-row.invariant.writing) c.flush.ensures.prefix
 
 pub returns-in_err-text-clause-prefix : goal.returns-in_err-text-clause-prefix
 returns-in_err-text-clause-prefix g c = grind (arith, common_steps)

@@ -1,4 +1,3 @@
-use Rattle.std.proofs.lemmas.Grind.{common_steps}
 use Rattle.std.proofs.Common.{◌-◌, length, slice_range, arith}
 use Rattle.sparse_solve.specs.InnerColumns.{lower}
 use Rattle.sparse_solve.proofs.Taking.{backward_begun, backward_list, backward_solved}
@@ -35,15 +34,13 @@ loop-step-preserved g c =
     backward_list R f z m k (slice_range m.pattern.indices column.begin column.end)
     (slice_range m.values column.begin column.end) column.inverse c.in-Some.ensures.some.entries
     c.args.x.now c.loop-step.x (omega arith) c.loop-step.auto.x c.loop-step.step
-    c.index-x-k.result c.dot-known.result c.neg.result c.add.result c.mul.result
-    (omega (arith, c.requires.square, c.requires.rows)) (omega arith) c.index-x-k.is
+    c.dot-known.result c.solve_row.new.x (omega (arith, c.requires.square, c.requires.rows))
+    (omega arith)
     (rw (c.row_indices-rows.ensures.indices, c.values-values.ensures.values) at
-    c.dot-known.ensures) c.neg.ensures c.add.ensures c.mul.ensures c.loop-step.invariant
+    c.dot-known.ensures) c.solve_row.ensures.written c.solve_row.ensures.value
+    c.loop-step.invariant
 
 pub returns : goal.returns
 returns g c = backward_solved g.T.Ring.ring g.T.Ring.value g.T.Zero.zero_value
     (lower g.T.Ring.ring g.T.Ring.value c.args.l.now) c.loop-step.step c.args.x.now c.loop-step.x
     (omega arith) c.loop-step.invariant
-
-pub offset_bounds-x-k : goal.offset_bounds-x-k
-offset_bounds-x-k g c = grind (arith, common_steps)

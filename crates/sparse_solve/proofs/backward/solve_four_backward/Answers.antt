@@ -49,30 +49,28 @@ loop-step-preserved g c =
     let row = backward_list R f z m k rows values column.inverse is in
     let dots = c.four_dots-a in
     record {
-      first = row c.args.first.now was.first (omega (arith)) was.auto.first was.step
-          c.index-first-k.result dots.result.0 c.neg.result c.add.result c.mul.result
-          (omega (arith, c.requires.square, c.requires.rows)) (omega (arith)) c.index-first-k.is
-          dots.ensures.first c.neg.ensures c.add.ensures c.mul.ensures was.invariant.first;
-      second = row c.args.second.now was.second (omega (arith, c.requires.rows_2)) was.auto.second
-          was.step c.index-second-k.result dots.result.1 c.neg-in-loop-step.result
-          c.add-in-loop-step.result c.mul-in-loop-step.result
+      first = row c.args.first.now was.first (omega arith)
+          was.auto.first was.step dots.result.0 c.solve_row.new.x
+          (omega (arith, c.requires.square, c.requires.rows))
+          (omega arith) dots.ensures.first c.solve_row.ensures.written
+          c.solve_row.ensures.value was.invariant.first;
+      second = row c.args.second.now was.second (omega (arith, c.requires.rows_2))
+          was.auto.second was.step dots.result.1 c.solve_row-in-loop-step.new.x
           (omega (arith, c.requires.square, c.requires.rows, c.requires.rows_2))
-          (omega (arith, c.requires.rows_2)) c.index-second-k.is dots.ensures.second
-          c.neg-in-loop-step.ensures c.add-in-loop-step.ensures c.mul-in-loop-step.ensures
+          (omega (arith, c.requires.rows_2)) dots.ensures.second
+          c.solve_row-in-loop-step.ensures.written c.solve_row-in-loop-step.ensures.value
           was.invariant.second;
-      third = row c.args.third.now was.third (omega (arith, c.requires.rows_3)) was.auto.third
-          was.step c.index-third-k.result dots.result.2 c.neg-in-loop-step-2.result
-          c.add-in-loop-step-2.result c.mul-in-loop-step-2.result
+      third = row c.args.third.now was.third (omega (arith, c.requires.rows_3))
+          was.auto.third was.step dots.result.2 c.solve_row-in-loop-step-2.new.x
           (omega (arith, c.requires.square, c.requires.rows, c.requires.rows_3))
-          (omega (arith, c.requires.rows_3)) c.index-third-k.is dots.ensures.third
-          c.neg-in-loop-step-2.ensures c.add-in-loop-step-2.ensures c.mul-in-loop-step-2.ensures
+          (omega (arith, c.requires.rows_3)) dots.ensures.third
+          c.solve_row-in-loop-step-2.ensures.written c.solve_row-in-loop-step-2.ensures.value
           was.invariant.third;
-      fourth = row c.args.fourth.now was.fourth (omega (arith, c.requires.rows_4)) was.auto.fourth
-          was.step c.index-fourth-k.result dots.result.3 c.neg-in-loop-step-3.result
-          c.add-in-loop-step-3.result c.mul-in-loop-step-3.result
+      fourth = row c.args.fourth.now was.fourth (omega (arith, c.requires.rows_4))
+          was.auto.fourth was.step dots.result.3 c.solve_row-in-loop-step-3.new.x
           (omega (arith, c.requires.square, c.requires.rows, c.requires.rows_4))
-          (omega (arith, c.requires.rows_4)) c.index-fourth-k.is dots.ensures.fourth
-          c.neg-in-loop-step-3.ensures c.add-in-loop-step-3.ensures c.mul-in-loop-step-3.ensures
+          (omega (arith, c.requires.rows_4)) dots.ensures.fourth
+          c.solve_row-in-loop-step-3.ensures.written c.solve_row-in-loop-step-3.ensures.value
           was.invariant.fourth;
     }
 

@@ -5,3 +5,6 @@ solve_forward-requires-clause-pivots g c = rw c.in-NoOp.is at c.requires.pivots
 
 pub solve_backward-requires-clause-pivots : goal.solve_backward-requires-clause-pivots
 solve_backward-requires-clause-pivots g c = rw c.in-Transpose.is at c.requires.pivots
+
+pub returns-in-Transpose : goal.returns-in-Transpose
+returns-in-Transpose g c = rw c.in-Transpose.is c.solve_backward.ensures

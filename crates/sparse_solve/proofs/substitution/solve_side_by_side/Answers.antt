@@ -8,3 +8,15 @@ solve_four_lower-requires-clause-ones g c = rw c.in-NoOp.is at c.requires.ones
 
 pub solve_four_backward-requires-clause-pivots : goal.solve_four_backward-requires-clause-pivots
 solve_four_backward-requires-clause-pivots g c = rw c.in-Transpose.is at c.requires.pivots
+
+pub returns-in-Transpose-clause-first : goal.returns-in-Transpose-clause-first
+returns-in-Transpose-clause-first g c = rw c.in-Transpose.is c.solve_four_backward.ensures.first
+
+pub returns-in-Transpose-clause-second : goal.returns-in-Transpose-clause-second
+returns-in-Transpose-clause-second g c = rw c.in-Transpose.is c.solve_four_backward.ensures.second
+
+pub returns-in-Transpose-clause-third : goal.returns-in-Transpose-clause-third
+returns-in-Transpose-clause-third g c = rw c.in-Transpose.is c.solve_four_backward.ensures.third
+
+pub returns-in-Transpose-clause-fourth : goal.returns-in-Transpose-clause-fourth
+returns-in-Transpose-clause-fourth g c = rw c.in-Transpose.is c.solve_four_backward.ensures.fourth

@@ -27,6 +27,10 @@ returns-then-not-can_solve-clause-singular g c =
       λ _. refl,
     )
 
+pub returns-then-not-can_solve-clause-unchanged :
+    goal.returns-then-not-can_solve-clause-unchanged
+returns-then-not-can_solve-clause-unchanged g c = refl
+
 pub solve_columns-requires-clause-pivots : goal.solve_columns-requires-clause-pivots
 solve_columns-requires-clause-pivots g c = rw (c.into_inner-t.ensures, c.ncols-ncols.ensures) at
     c.if-not-can_solve.ensures.cases

@@ -1,4 +1,4 @@
-use Rattle.std.proofs.Common.{◌≡◌, ◌<◌, not, eqb, get_or, refl, ap, ◌∙◌, arith}
+use Rattle.std.proofs.Common.{◌≡◌, ◌<◌, inl, inr, not, eqb, get_or, refl, ap, ◌∙◌, arith}
 use Rattle.sparse_sums.specs.InnerSigns.{signed}
 use Rattle.sparse_sums.proofs.Adding.{none_added, adding_first, adding_second, adding_both}
 use Rattle.sparse_sums.proofs.merge.add_fronts.Goals as goal
@@ -43,7 +43,8 @@ loop-p-preserved-then-k-j g c =
           c.min.result c.front_value.result
           (omega arith) (omega arith) least (least ∙ same)
           c.index-a_values-p.result c.index-b_values-q.result c.index-a_values-p.is
-          c.index-b_values-q.is (front.sum same ∙ ap (R.add (f c.index-a_values-p.result)) c.with_sign-value.ensures) in
+          c.index-b_values-q.is
+          (front.sum same ∙ ap (R.add (f c.index-a_values-p.result)) c.with_sign-value.ensures) in
           record {
             first = omega arith;
             second = omega arith;
@@ -61,7 +62,8 @@ loop-p-preserved-then-k-j g c =
           c.requires.a_rising c.requires.b_rising c.requires.a_count c.requires.b_count inv.added
           c.min.result c.front_value.result
           (omega arith) least (λ _. omega (arith, least))
-          c.index-b_values-q.result c.index-b_values-q.is (ap f (front.second later) ∙ c.with_sign-value.ensures) in
+          c.index-b_values-q.result c.index-b_values-q.is
+          (ap f (front.second later) ∙ c.with_sign-value.ensures) in
           record {
             first = omega arith;
             second = omega arith;
@@ -107,3 +109,31 @@ loop-p-preserved g c =
           }
       | else-j-k w ↦ absurd (omega arith)
     ]
+
+pub returns-after-loop-p : goal.returns-after-loop-p
+returns-after-loop-p g c =
+    let inv = c.loop-p.invariant in
+    record {
+      capacity = inv.capacity;
+      values_capacity = inv.values_capacity;
+      count = inv.values_count;
+      first = inv.first;
+      second = inv.second;
+      len = inv.count;
+      end = inl (omega (arith, inv.first));
+      added = inv.added;
+    }
+
+pub returns-else-q-b : goal.returns-else-q-b
+returns-else-q-b g c =
+    let inv = c.loop-p.invariant in
+    record {
+      capacity = inv.capacity;
+      values_capacity = inv.values_capacity;
+      count = inv.values_count;
+      first = inv.first;
+      second = inv.second;
+      len = inv.count;
+      end = inr (omega (arith, inv.second));
+      added = inv.added;
+    }

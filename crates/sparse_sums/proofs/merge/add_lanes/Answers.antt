@@ -1,11 +1,31 @@
 use Rattle.std.proofs.Common.{not, eqb, ◌++◌, length, drop, Contains, ◌⊎◌, subst, sym, ap, ◌∙◌}
 use Rattle.std.proofs.Common.{arith}
 use Rattle.std.proofs.lemmas.List.{take_rest, length-drop}
+use Rattle.std.proofs.lemmas.Result.{IfOk-from_err}
 use Rattle.sparse_cs.specs.InnerRows.{lane_value}
 use Rattle.sparse_sums.specs.InnerSigns.{signed}
 use Rattle.sparse_sums.specs.InnerAdding.{GainsValues, GainsEntries}
 use Rattle.sparse_sums.proofs.Adding.{rest_added}
 use Rattle.sparse_sums.proofs.merge.add_lanes.Goals as goal
+
+pub returns-in_err-reserve : goal.returns-in_err-reserve
+returns-in_err-reserve g c = record { gained = IfOk-from_err _ _ c.from_residual.ensures.0 }
+
+pub returns-in_err-reserve-2 : goal.returns-in_err-reserve-2
+returns-in_err-reserve-2 g c = record {
+  gained = IfOk-from_err _ _ c.from_residual-in_err-reserve-2.ensures.0;
+}
+
+pub add_fronts-p-requires : goal.add_fronts-p-requires
+add_fronts-p-requires g c = record {
+  a_count = c.requires.a_count;
+  b_count = c.requires.b_count;
+  a_rising = c.requires.a_rising;
+  b_rising = c.requires.b_rising;
+  count = omega (arith, c.reserve.ensures.len, c.reserve-2.ensures.len, c.requires.count);
+  room = omega (arith, c.in_ok-reserve.ensures.ok, c.reserve.ensures.len);
+  values_room = omega (arith, c.in_ok-reserve-2.ensures.ok, c.reserve-2.ensures.len);
+}
 
 pub push_rest-requires-clause-room : goal.push_rest-requires-clause-room
 push_rest-requires-clause-room g c = rw take_rest

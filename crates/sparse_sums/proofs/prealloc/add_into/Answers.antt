@@ -1,8 +1,49 @@
-use Rattle.std.proofs.Common.{◌<◌, false, length, ap, ◌∙◌, arith}
+use Rattle.std.proofs.Common.{◌<◌, false, length, ap, ◌∙◌, refl, arith}
 use Rattle.sparse_cs.proofs.Arrays.{position_within}
 use Rattle.sparse_cs.specs.PlainOfLanes.{plain_of_rows}
 use Rattle.sparse_sums.specs.InnerPlacing.{plain_turned}
 use Rattle.sparse_sums.proofs.prealloc.add_into.Goals as goal
+
+pub covers_lanes-requires : goal.covers_lanes-requires
+covers_lanes-requires g c = rw c.pattern.ensures.pattern c.requires.lanes
+
+pub returns-then-not-covers_lanes-clause-count : goal.returns-then-not-covers_lanes-clause-count
+returns-then-not-covers_lanes-clause-count g c = refl
+
+pub returns-then-not-covers_lanes-clause-kind : goal.returns-then-not-covers_lanes-clause-kind
+returns-then-not-covers_lanes-clause-kind g c = c.of_sum_pattern.ensures
+
+pub returns-then-not-covers_lanes-clause-unchanged :
+    goal.returns-then-not-covers_lanes-clause-unchanged
+returns-then-not-covers_lanes-clause-unchanged g c = refl
+
+pub returns-then-not-covers_lanes-clause-sound : goal.returns-then-not-covers_lanes-clause-sound
+returns-then-not-covers_lanes-clause-sound g c = c.pattern.ensures.sound
+
+pub returns-then-not-covers_lanes-clause-added : goal.returns-then-not-covers_lanes-clause-added
+returns-then-not-covers_lanes-clause-added g c = tt
+
+pub add_in_order-requires-clause-lanes : goal.add_in_order-requires-clause-lanes
+add_in_order-requires-clause-lanes g c = c.requires.lanes
+
+pub add_in_order-requires-clause-covered : goal.add_in_order-requires-clause-covered
+add_in_order-requires-clause-covered g c =
+    let places = rw c.pattern.ensures.pattern at c.covers_lanes.ensures.0 in
+    places c.if-not-covers_lanes.false
+
+pub returns-clause-covered : goal.returns-clause-covered
+returns-clause-covered g c =
+    let places = rw c.pattern.ensures.pattern at c.covers_lanes.ensures.0 in
+    (λ covered. places c.if-not-covers_lanes.false, λ all. refl)
+
+pub returns-clause-kind : goal.returns-clause-kind
+returns-clause-kind g c = tt
+
+pub returns-clause-unchanged : goal.returns-clause-unchanged
+returns-clause-unchanged g c = tt
+
+pub returns-clause-sound : goal.returns-clause-sound
+returns-clause-sound g c = c.pattern.ensures.sound
 
 pub returns-clause-added : goal.returns-clause-added
 returns-clause-added g c = λ i j p at.

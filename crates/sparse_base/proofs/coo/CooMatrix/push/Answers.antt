@@ -14,17 +14,17 @@ returns-clause-ok g c =
       c.push_reserved.ensures.items,
       c.push_reserved-2.ensures.items,
       c.push_reserved-3.ensures.items,
-      c.in_ok-reserve.ensures.items,
-      c.in_ok-reserve-2.ensures.items,
-      c.in_ok-reserve-3.ensures.items,
+      c.in_ok-reserve_each.ensures.rows,
+      c.in_ok-reserve_each.ensures.cols,
+      c.in_ok-reserve_each.ensures.values,
     )
     (ap (coo_of m.nrows m.ncols) more)
 
-pub invariant_of-self-in_err-reserve-3 : goal.invariant_of-self-in_err-reserve-3
-invariant_of-self-in_err-reserve-3 g c = search rules
+pub invariant_of-self : goal.invariant_of-self
+invariant_of-self g c = search rules
 
-pub returns-in_err-reserve-3-clause-err : goal.returns-in_err-reserve-3-clause-err
-returns-in_err-reserve-3-clause-err g c = search rules
+pub returns-in_err-reserve_each-clause-err : goal.returns-in_err-reserve_each-clause-err
+returns-in_err-reserve_each-clause-err g c = search rules
 
 pub invariant_of-self-2 : goal.invariant_of-self-2
 invariant_of-self-2 g c = grind (arith, common_steps)

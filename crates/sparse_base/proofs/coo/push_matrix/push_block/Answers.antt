@@ -1,7 +1,31 @@
-use Rattle.std.proofs.Common.{arith, ◌∙◌, ◌≡◌, ◌+◌, ◌*◌, ◌<◌}
+use Rattle.std.proofs.Common.{refl, arith, ◌∙◌, ◌≡◌, ◌+◌, ◌*◌, ◌<◌}
 use Rattle.std.proofs.Math.Nat.{add-mul}
-use Rattle.sparse_base.proofs.BlockLemmas.{one_pushed, column_pushed}
+use Rattle.std.proofs.lemmas.Nat.{mul-add-lt}
+use Rattle.sparse_base.proofs.BlockLemmas.{none_pushed, one_pushed, column_pushed, all_pushed}
 use Rattle.sparse_base.proofs.coo.push_matrix.push_block.Goals as goal
+
+pub loop-j-init : goal.loop-j-init
+loop-j-init g c = record {
+  pushed = none_pushed c.args.r c.args.c c.args.matrix.now c.args.rows.now.items
+      c.args.cols.now.items c.args.values.now.items c.requires.row_count c.requires.col_count;
+  row_len = omega arith;
+  col_len = omega arith;
+  len = omega arith;
+  row_room = refl;
+  col_room = refl;
+  room = refl;
+}
+
+pub loop-i-init : goal.loop-i-init
+loop-i-init g c = record {
+  pushed = c.loop-j.invariant.pushed;
+  row_len = omega arith;
+  col_len = omega arith;
+  len = omega arith;
+  row_room = refl;
+  col_room = refl;
+  room = refl;
+}
 
 pub loop-i-preserved : goal.loop-i-preserved
 loop-i-preserved g c =
@@ -47,3 +71,37 @@ loop-j-preserved g c =
       col_room = omega arith;
       room = omega arith;
     }
+
+pub returns-clause-triplets : goal.returns-clause-triplets
+returns-clause-triplets g c =
+    let whole : c.loop-j.j ≡ c.args.matrix.now.ncols = omega (arith, c.ncols-j-end.ensures) in
+    all_pushed c.args.r c.args.c c.args.matrix.now c.args.rows.now.items c.args.cols.now.items
+    c.args.values.now.items c.loop-j.rows.items c.loop-j.cols.items c.loop-j.values.items
+    (rw whole at c.loop-j.invariant.pushed)
+
+pub returns-clause-parts : goal.returns-clause-parts
+returns-clause-parts g c = c.loop-j.invariant.pushed.parts
+
+pub overflow_add-r : goal.overflow_add-r
+overflow_add-r g c = omega (arith, c.column-value-items.ensures.rows)
+
+pub overflow_add-c : goal.overflow_add-c
+overflow_add-c g c = omega (arith, c.ncols-j-end.ensures)
+
+pub push_reserved-requires : goal.push_reserved-requires
+push_reserved-requires g c =
+    let place = mul-add-lt c.loop-j.j c.args.matrix.now.nrows c.loop-i.i c.args.matrix.now.ncols
+    (omega (arith, c.ncols-j-end.ensures)) (omega (arith, c.column-value-items.ensures.rows)) in
+    omega (arith, place)
+
+pub push_reserved-requires-in-loop-i : goal.push_reserved-requires-in-loop-i
+push_reserved-requires-in-loop-i g c =
+    let place = mul-add-lt c.loop-j.j c.args.matrix.now.nrows c.loop-i.i c.args.matrix.now.ncols
+    (omega (arith, c.ncols-j-end.ensures)) (omega (arith, c.column-value-items.ensures.rows)) in
+    omega (arith, place)
+
+pub push_reserved-requires-in-loop-i-2 : goal.push_reserved-requires-in-loop-i-2
+push_reserved-requires-in-loop-i-2 g c =
+    let place = mul-add-lt c.loop-j.j c.args.matrix.now.nrows c.loop-i.i c.args.matrix.now.ncols
+    (omega (arith, c.ncols-j-end.ensures)) (omega (arith, c.column-value-items.ensures.rows)) in
+    omega (arith, place)

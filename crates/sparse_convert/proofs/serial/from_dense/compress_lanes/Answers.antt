@@ -1,11 +1,53 @@
 use Rattle.std.proofs.Common.{◌≡◌, ℕ, ◌+◌, ◌*◌, ◌++◌, [], ◌∷◌, length, map, get_or, ap, sym, subst}
-use Rattle.std.proofs.Common.{◌∙◌, arith}
+use Rattle.std.proofs.Common.{◌∙◌, refl, arith}
+use Rattle.std.proofs.lemmas.Result.{IfOk-from_err}
 use Rattle.std.specs.List.{filter}
+use Rattle.sparse_pattern.specs.Raw.{raw_of, IsValid}
 use Rattle.sparse_cs.specs.Compressed.{compressed_of, arrays_of, lane_triplets}
 use Rattle.sparse_convert.specs.FromDense.{full_lanes, differs_from}
 use Rattle.sparse_convert.proofs.FullLanes.{kept_indices, kept_lane, rising_kept, bounded_kept}
 use Rattle.sparse_convert.proofs.LaneGrowth.{sound_grown, triplets_grown}
 use Rattle.sparse_convert.proofs.serial.from_dense.compress_lanes.Goals as goal
+
+pub returns-in_err-offsets : goal.returns-in_err-offsets
+returns-in_err-offsets g c =
+    let err = c.from_residual.ensures.0 in
+    record {
+      major_dim = IfOk-from_err _ _ err;
+      minor_dim = IfOk-from_err _ _ err;
+      kept = IfOk-from_err _ _ err;
+      sound = IfOk-from_err _ _ err;
+    }
+
+pub returns-in_err-push : goal.returns-in_err-push
+returns-in_err-push g c =
+    let err = c.from_residual-in_err-push.ensures.0 in
+    record {
+      major_dim = IfOk-from_err _ _ err;
+      minor_dim = IfOk-from_err _ _ err;
+      kept = IfOk-from_err _ _ err;
+      sound = IfOk-from_err _ _ err;
+    }
+
+pub returns-in_err-push_lane : goal.returns-in_err-push_lane
+returns-in_err-push_lane g c =
+    let err = c.from_residual-in_err-push_lane.ensures.0 in
+    record {
+      major_dim = IfOk-from_err _ _ err;
+      minor_dim = IfOk-from_err _ _ err;
+      kept = IfOk-from_err _ _ err;
+      sound = IfOk-from_err _ _ err;
+    }
+
+pub returns-in_err-push-2 : goal.returns-in_err-push-2
+returns-in_err-push-2 g c =
+    let err = c.from_residual-in_err-push-2.ensures.0 in
+    record {
+      major_dim = IfOk-from_err _ _ err;
+      minor_dim = IfOk-from_err _ _ err;
+      kept = IfOk-from_err _ _ err;
+      sound = IfOk-from_err _ _ err;
+    }
 
 pub loop-lane-preserved : goal.loop-lane-preserved
 loop-lane-preserved g c =
@@ -39,6 +81,42 @@ loop-lane-preserved g c =
           ∙ ap (λ l. l ++ map (λ k. (n, k, value n k)) js) inv.triplets
           ∙ sym (kept_lane E z m value n));
     }
+
+pub push_lane-requires : goal.push_lane-requires
+push_lane-requires g c = λ k lt. c.requires.inside c.loop-lane.lane k c.loop-lane-test.true lt
+
+pub loop-lane-smaller : goal.loop-lane-smaller
+loop-lane-smaller g c = omega (arith, c.loop-lane-test.true)
+
+pub overflow_mul-start : goal.overflow_mul-start
+overflow_mul-start g c =
+    omega (arith, c.requires.starts c.loop-lane.lane c.loop-lane-test.true)
+
+pub from_offset_and_indices_unchecked-pattern-requires :
+    goal.from_offset_and_indices_unchecked-pattern-requires
+from_offset_and_indices_unchecked-pattern-requires g c =
+    let end : c.loop-lane.lane ≡ c.args.major_dim = omega arith in
+    subst (λ n. IsValid (raw_of n c.args.minor_dim c.loop-lane.offsets.items
+    c.loop-lane.indices.items)) end c.loop-lane.invariant.sound.valid
+
+pub from_pattern_and_values-requires : goal.from_pattern_and_values-requires
+from_pattern_and_values-requires g c =
+    rw c.from_offset_and_indices_unchecked-pattern.ensures c.loop-lane.invariant.sound.count
+
+pub returns-clause-major_dim : goal.returns-clause-major_dim
+returns-clause-major_dim g c = rw (
+  c.from_pattern_and_values.ensures.is,
+  c.from_offset_and_indices_unchecked-pattern.ensures,
+) refl
+
+pub returns-clause-minor_dim : goal.returns-clause-minor_dim
+returns-clause-minor_dim g c = rw (
+  c.from_pattern_and_values.ensures.is,
+  c.from_offset_and_indices_unchecked-pattern.ensures,
+) refl
+
+pub returns-clause-sound : goal.returns-clause-sound
+returns-clause-sound g c = c.from_pattern_and_values.ensures.sound
 
 pub returns-clause-kept : goal.returns-clause-kept
 returns-clause-kept g c =

@@ -41,6 +41,9 @@ climb-requires-clause-climbed g c =
           (omega (arith, c.if-start-row.true)),
     )
 
+pub climb-requires-clause-start : goal.climb-requires-clause-start
+climb-requires-clause-start g c = c.if-start-row.true
+
 pub loop-at-preserved-then-start-row : goal.loop-at-preserved-then-start-row
 loop-at-preserved-then-start-row g c =
     let f = g.C.Count.number in

@@ -14,3 +14,6 @@ returns-clause-nodes g c = grind (arith, common_steps)
 
 pub returns-clause-rows : goal.returns-clause-rows
 returns-clause-rows g c = grind (arith, common_steps)
+
+pub returns-clause-counted : goal.returns-clause-counted
+returns-clause-counted g c = c.tick.ensures

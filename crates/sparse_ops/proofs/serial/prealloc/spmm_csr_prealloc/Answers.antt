@@ -1,3 +1,4 @@
+use Rattle.std.proofs.lemmas.Result.{IfOk-from_err}
 use Rattle.std.proofs.lemmas.Grind.{common_steps}
 use Rattle.std.proofs.Common.{ap, ◌∙◌, arith}
 use Rattle.sparse_cs.specs.PlainOfLanes.{plain_of_rows}
@@ -5,6 +6,12 @@ use Rattle.sparse_op.specs.declared.error.OperationErrorKind.TheVariants.{Invali
 use Rattle.sparse_op.specs.declared.error.OperationErrorKind.TheVariants.{OutOfMemory}
 use Rattle.sparse_ops.proofs.Updating.{refused_is, rows_covered, rows_updated}
 use Rattle.sparse_ops.proofs.serial.prealloc.spmm_csr_prealloc.Goals as goal
+
+pub returns-in_err-a-clause-updated : goal.returns-in_err-a-clause-updated
+returns-in_err-a-clause-updated g c = IfOk-from_err _ _ c.from_residual.ensures.0
+
+pub returns-in_err-b-clause-updated : goal.returns-in_err-b-clause-updated
+returns-in_err-b-clause-updated g c = IfOk-from_err _ _ c.from_residual-in_err-b.ensures.0
 
 pub returns-clause-covered : goal.returns-clause-covered
 returns-clause-covered g c = λ ok.

@@ -1,3 +1,4 @@
+use Rattle.std.proofs.lemmas.Result.{IfOk-from_err}
 use Rattle.std.proofs.lemmas.Grind.{common_steps}
 use Rattle.std.proofs.Common.{◌≡◌, length, ap, subst, ◌∙◌, arith}
 use Rattle.std.proofs.lemmas.List.{take_at}
@@ -7,6 +8,15 @@ use Rattle.sparse_cs.specs.PlainOfLanes.{plain_of_rows}
 use Rattle.sparse_ops.specs.Products.{IsProductOf}
 use Rattle.sparse_ops.proofs.MadeProducts.{has_places, product_made}
 use Rattle.sparse_ops.proofs.serial.product.multiply_whole.Goals as goal
+
+pub returns-in_err-pattern : goal.returns-in_err-pattern
+returns-in_err-pattern g c = IfOk-from_err _ _ c.from_residual.ensures.0
+
+pub returns-in_err-resize : goal.returns-in_err-resize
+returns-in_err-resize g c = IfOk-from_err _ _ c.from_residual-in_err-resize.ensures.0
+
+pub returns-in_err-update : goal.returns-in_err-update
+returns-in_err-update g c = IfOk-from_err _ _ c.from_residual-in_err-update.ensures.0
 
 pub update-requires-clause-places : goal.update-requires-clause-places
 update-requires-clause-places g c =

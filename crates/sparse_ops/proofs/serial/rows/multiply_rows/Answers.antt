@@ -1,3 +1,4 @@
+use Rattle.std.proofs.lemmas.Result.{IfOk-from_err}
 use Rattle.std.proofs.Common.{◌≡◌, ◌<◌, length, get_or, ap, subst, ◌∙◌, arith}
 use Rattle.std.proofs.lemmas.List.{take_at}
 use Rattle.sparse_pattern.specs.Raw.{Raw}
@@ -6,6 +7,18 @@ use Rattle.sparse_cs.specs.PlainOfLanes.{plain_of_rows}
 use Rattle.sparse_ops.specs.InnerLaneSets.{AreEmptySets}
 use Rattle.sparse_ops.proofs.ProductRows.{product_none, row_more, product_sound, product_is}
 use Rattle.sparse_ops.proofs.serial.rows.multiply_rows.Goals as goal
+
+pub returns-in_err-sets : goal.returns-in_err-sets
+returns-in_err-sets g c = IfOk-from_err _ _ c.from_residual.ensures.0
+
+pub returns-in_err-row : goal.returns-in_err-row
+returns-in_err-row g c = IfOk-from_err _ _ c.from_residual-in_err-row.ensures.0
+
+pub returns-in_err-rows : goal.returns-in_err-rows
+returns-in_err-rows g c = IfOk-from_err _ _ c.from_residual-in_err-rows.ensures.0
+
+pub returns-in_err-push_row : goal.returns-in_err-push_row
+returns-in_err-push_row g c = IfOk-from_err _ _ c.from_residual-in_err-push_row.ensures.0
 
 pub loop-i-init : goal.loop-i-init
 loop-i-init g c =

@@ -1,3 +1,4 @@
+use Rattle.std.proofs.lemmas.Result.{IfOk-from_err}
 use Rattle.std.proofs.Common.{◌≡◌, ◌<◌, ◌∷◌, [], ◌++◌, length, get_or, drop, All, Contains}
 use Rattle.std.proofs.Common.{length-append, ap, sym, subst, ◌∙◌, arith}
 use Rattle.std.specs.List.Sorted.{IsStrictlyIncreasing}
@@ -10,6 +11,28 @@ use Rattle.sparse_sums.proofs.Updating.{on_ok_also}
 use Rattle.sparse_ops.specs.InnerProducts.{IsInLanes}
 use Rattle.sparse_ops.proofs.ProductLanes.{lane_below}
 use Rattle.sparse_ops.proofs.serial.rows.push_row.Goals as goal
+
+pub returns-in_err-push_lane : goal.returns-in_err-push_lane
+returns-in_err-push_lane g c =
+    let err = c.from_residual.ensures.0 in
+    record {
+      empty = IfOk-from_err _ _ err;
+      zero = IfOk-from_err _ _ err;
+      lane = IfOk-from_err _ _ err;
+      offset = IfOk-from_err _ _ err;
+      values = IfOk-from_err _ _ err;
+    }
+
+pub returns-in_err-push : goal.returns-in_err-push
+returns-in_err-push g c =
+    let err = c.from_residual-in_err-push.ensures.0 in
+    record {
+      empty = IfOk-from_err _ _ err;
+      zero = IfOk-from_err _ _ err;
+      lane = IfOk-from_err _ _ err;
+      offset = IfOk-from_err _ _ err;
+      values = IfOk-from_err _ _ err;
+    }
 
 pub push_lane-requires-clause-shared : goal.push_lane-requires-clause-shared
 push_lane-requires-clause-shared g c = rw (

@@ -1,3 +1,4 @@
+use Rattle.std.proofs.lemmas.Result.{IfOk-from_err}
 use Rattle.std.proofs.Common.{◌≡◌, ◌-◌, ◌<◌, ℕ, ◌++◌, length, get_or, take, drop, All, Contains}
 use Rattle.std.proofs.Common.{length-append, length-drop, ap, sym, subst, ◌∙◌, arith}
 use Rattle.std.specs.List.Sorted.{IsStrictlyIncreasing}
@@ -10,6 +11,14 @@ use Rattle.sparse_ops.specs.InnerProducts.{IsInLanes}
 use Rattle.sparse_ops.proofs.LaneParts.{length-tail, tail_written, front_kept}
 use Rattle.sparse_ops.proofs.MadeProducts.{from_zero}
 use Rattle.sparse_ops.proofs.serial.rows.push_values.Goals as goal
+
+pub returns-in_err-resize : goal.returns-in_err-resize
+returns-in_err-resize g c =
+    let err = c.from_residual.ensures.0 in
+    record {
+      zero = IfOk-from_err _ _ err;
+      gained = IfOk-from_err _ _ err;
+    }
 
 pub update_row-requires-clause-rising : goal.update_row-requires-clause-rising
 update_row-requires-clause-rising g c =

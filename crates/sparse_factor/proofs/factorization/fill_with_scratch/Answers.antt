@@ -9,9 +9,9 @@ use Rattle.sparse_factor.proofs.EntryColumns.{rows_at}
 use Rattle.sparse_factor.proofs.FilledColumns.{column_low, column_once, column_filled}
 use Rattle.sparse_factor.proofs.FilledColumns.{columns_filled}
 use Rattle.sparse_factor.proofs.FillLaws.{in_fill}
-use Rattle.sparse_factor.proofs.factorization.fill_of.Given.{Over}
-use Rattle.sparse_factor.proofs.factorization.fill_of.Goals as goal
-use Rattle.sparse_factor.proofs.factorization.fill_of.Goals.{After-columns_on_chains}
+use Rattle.sparse_factor.proofs.factorization.fill_with_scratch.Given.{Over}
+use Rattle.sparse_factor.proofs.factorization.fill_with_scratch.Goals as goal
+use Rattle.sparse_factor.proofs.factorization.fill_with_scratch.Goals.{After-columns_on_chains}
 
 pub entries_by_columns-requires-clause-rows : goal.entries_by_columns-requires-clause-rows
 entries_by_columns-requires-clause-rows g c =
