@@ -111,7 +111,7 @@ const DEEP: &[(&[(&str, usize)], i64)] = &[
 // a test.
 const TRIPLETS: usize = 2_000_000;
 
-// Whether a case holds over the list of so many triplets.
+// Whether a case holds over a list of `TRIPLETS` triplets.
 fn holds_deep(alloc: Global, case: &(&[(&str, usize)], i64)) -> bool {
     match ones(alloc, TRIPLETS) {
         Some(list) => has_value(alloc, &list, case),
