@@ -5,5 +5,7 @@
 mod label;
 #[cfg(test)]
 mod matrices;
+#[cfg(test)]
+mod numbers;
 pub mod residue7;
 pub mod solving;

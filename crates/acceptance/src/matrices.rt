@@ -1,5 +1,6 @@
 //! Conversions and products, over the library's scalars and over a user's own.
 
+use crate::numbers::Number;
 use crate::residue7::Residue7;
 use nalgebra_sparse::convert::serial::convert_coo_csr;
 use nalgebra_sparse::ops::serial::{mul_csr, spmm_csr_pattern};
@@ -7,30 +8,6 @@ use nalgebra_sparse::pattern::SparsityPattern;
 use nalgebra_sparse::scalar::{Ring, W32, W64, Zero};
 use nalgebra_sparse::{CooMatrix, CsrMatrix};
 use std::alloc::{AllocError, Global};
-
-// A scalar that the tables state by an integer.
-trait Number: Ring {
-    fn of(number: i32) -> Self;
-}
-
-impl Number for W32 {
-    fn of(number: i32) -> W32 {
-        W32::new(number)
-    }
-}
-
-impl Number for W64 {
-    fn of(number: i32) -> W64 {
-        W64::new(i64::from(number))
-    }
-}
-
-impl Number for Residue7 {
-    // No table has negative residues.
-    fn of(number: i32) -> Residue7 {
-        Residue7::new(u64::from(number.unsigned_abs()), 9)
-    }
-}
 
 // A size, and triplets.
 type List<'a> = ((usize, usize), &'a [(usize, usize, i32)]);

@@ -1,6 +1,7 @@
 //! The commands of `mtx`.
 
-ghost use Rattle.std.specs.Prelude.{◌≡◌, ◌≢◌, ◌≤◌, ℕ, List, length, None, OnOk, IfOk, IfErr, IfSome};
+ghost use Rattle.std.specs.Prelude.{◌≡◌, ◌≢◌, ◌≤◌, ℕ, List, length, None, OnOk, IfOk, IfErr};
+ghost use Rattle.std.specs.Prelude.{IfSome};
 ghost use Rattle.nalgebra_sparse.specs.PostfixWords.{texts};
 ghost use Rattle.nalgebra_sparse.specs.Run.{Writes};
 ghost use Rattle.sparse_expr.specs.declared.calculator.Form.{Form};

@@ -1,4 +1,5 @@
--- The definitions that the contracts of the library cite, and those that an implementation of `Ring` needs.
+-- The definitions that the contracts of the library cite, and those that an implementation of
+-- `Ring` needs.
 -- A crate above names them by `Rattle.nalgebra_sparse.specs.Plain.{Plain}` and the like.
 
 -- rings, sums, plain matrices and their algebra

@@ -105,7 +105,8 @@ module _ (R : CommRing) where
           ]
 
       values : (i j : ℕ)
-          → sum_by R (λ t. where_true R (is_at i j t) (f t.2)) (m.triplets ++ triplet row col v ∷ [])
+          → sum_by R (λ t. where_true R (is_at i j t) (f t.2))
+          (m.triplets ++ triplet row col v ∷ [])
           ≡ where_true R (p.has i j && t i j) (p.value i j)
       values i j =
           sum_by-append R (λ t. where_true R (is_at i j t) (f t.2)) m.triplets

@@ -5,7 +5,8 @@ ghost use Rattle.std.specs.List.{Contains, AllPairs};
 ghost use Rattle.sparse_pattern.specs.Raw.{IsValid};
 ghost use Rattle.sparse_factor.specs.Fill.{InFill, UpperBase};
 ghost use Rattle.reference.specs.Pairs.{pair};
-ghost use Rattle.reference.specs.InnerClosure.{HasPlacesOf, HasFillOf, IsWhole, IsLacking, IsLackingPlace, IsLackingFill};
+ghost use Rattle.reference.specs.InnerClosure.{HasPlacesOf, HasFillOf, IsWhole, IsLacking};
+ghost use Rattle.reference.specs.InnerClosure.{IsLackingPlace, IsLackingFill};
 
 use sparse_pattern::pattern::SparsityPattern;
 use std::alloc::{AllocError, Global};

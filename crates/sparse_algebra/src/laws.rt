@@ -2,7 +2,10 @@
 
 ghost use Rattle.std.specs.Prelude.{◌≡◌, ℕ, ◌<◌, Bool, List, All};
 ghost use Rattle.std.specs.List.Sorted.{IsPermutation};
-ghost use Rattle.sparse_algebra.specs.Plain.{Plain, plain_of_triplets, plain_sum, plain_negation, plain_difference, plain_scaled, plain_product, plain_transpose, plain_identity, plain_kept, IsProper, IsWithin};
+ghost use Rattle.sparse_algebra.specs.Plain.{Plain, plain_of_triplets, plain_sum, plain_negation};
+ghost use Rattle.sparse_algebra.specs.Plain.{plain_difference, plain_scaled, plain_product};
+ghost use Rattle.sparse_algebra.specs.Plain.{plain_transpose, plain_identity, plain_kept, IsProper};
+ghost use Rattle.sparse_algebra.specs.Plain.{IsWithin};
 
 pub mod whole;
 

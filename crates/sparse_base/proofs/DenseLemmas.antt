@@ -72,7 +72,8 @@ module _ {T : Type 0} where
         → get_or columns (l * n + k) z ≡ get_or rows (k * m + l) z
 
   pub none_filled : (n m : ℕ) (rows : List T) → IsFilled n m rows [] 0 0
-  none_filled n m rows = record { count = omega arith; placed = λ k l z _ below. absurd (omega arith) }
+  none_filled n m rows =
+      record { count = omega arith; placed = λ k l z _ below. absurd (omega arith) }
 
   pub filled_more : (n m : ℕ) (rows columns : List T) (j i : ℕ) (v : T)
       → IsFilled n m rows columns j i → i < n → v ≡ get_or rows (i * m + j) v

@@ -1,6 +1,7 @@
 //! Matrices in coordinate form: lists of triplets.
 
-ghost use Rattle.std.specs.Prelude.{◌≡◌, ◌+◌, ◌<◌, ◌≤◌, [], ◌∷◌, length, map, vec_len, vec_capacity, IsOk, IfOk, IfErr, OnOk, OnErr};
+ghost use Rattle.std.specs.Prelude.{◌≡◌, ◌+◌, ◌<◌, ◌≤◌, [], ◌∷◌, length, map, vec_len};
+ghost use Rattle.std.specs.Prelude.{vec_capacity, IsOk, IfOk, IfErr, OnOk, OnErr};
 ghost use Rattle.sparse_base.specs.Coo.{coo_of, zip_triplets, appended, AreParts, IsInside};
 ghost use Rattle.sparse_base.specs.TripletFaults.{IsFirstTripletFault};
 
@@ -11,6 +12,7 @@ use triplet_fault::first_fault;
 
 pub(crate) mod append;
 pub(crate) mod columns;
+mod equality;
 mod from_iter;
 mod iter;
 mod push_matrix;
@@ -271,45 +273,6 @@ impl<T: Copy> CooMatrix<T> {
             values: Vec::from_slice(alloc, &self.values)?,
         })
     }
-}
-
-impl<T> CooMatrix<T> {
-    ghost use Rattle.sparse_base.specs.CooEquality.{coo_sizes_eq, coo_places_eq};
-
-    // Whether the sizes are equal.
-    fn has_same_sizes(&self, other: &Self) -> bool
-        ensures { result ≡ coo_sizes_eq self.now other.now }
-    {
-        self.nrows() == other.nrows() && self.ncols() == other.ncols()
-    }
-
-    // Whether the sizes and the lists of rows and of columns are equal.
-    fn has_same_places(&self, other: &Self) -> bool
-        ensures { result ≡ coo_places_eq self.now other.now }
-    {
-        self.has_same_sizes(other)
-            && self.row_indices() == other.row_indices()
-            && self.col_indices() == other.col_indices()
-    }
-}
-
-/// Matrices are equal if their shapes and their lists of triplets are. Lists in a different order are not equal.
-impl<T: PartialEq> PartialEq for CooMatrix<T> {
-    ghost use Rattle.sparse_base.specs.CooEquality.{coo_eq, coo_eq-laws};
-
-    ghost eq = { coo_eq T.eq };
-
-    ghost laws = { coo_eq-laws T.laws };
-
-    fn eq(&self, other: &Self) -> bool {
-        self.has_same_places(other) && self.values() == other.values()
-    }
-}
-
-impl<T: Eq> Eq for CooMatrix<T> {
-    ghost use Rattle.sparse_base.specs.CooEquality.{coo_eq-equiv};
-
-    ghost laws = { coo_eq-equiv T.Eq.laws };
 }
 
 // Reserves memory for at least `additional` more elements in each of three lists. The elements are unchanged.

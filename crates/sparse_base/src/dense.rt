@@ -1,6 +1,7 @@
 //! Dense matrices in column-major order.
 
-ghost use Rattle.std.specs.Prelude.{◌≡◌, ◌+◌, ◌*◌, ◌<◌, ◌≤◌, ℕ, ◌==◌, ◌&&◌, if◌then◌else◌, length, replicate, slice_index_or, slice_range, IfOk};
+ghost use Rattle.std.specs.Prelude.{◌≡◌, ◌+◌, ◌*◌, ◌<◌, ◌≤◌, ℕ, ◌==◌, ◌&&◌, if◌then◌else◌, length};
+ghost use Rattle.std.specs.Prelude.{replicate, slice_index_or, slice_range, IfOk};
 ghost use Rattle.std.specs.Borrow.{sem};
 ghost use Rattle.sparse_base.specs.Dense.{dense_of, value_at, column_of, with_value_at, HasValues};
 ghost use Rattle.sparse_base.specs.DenseLending.{LendsColumn, LendsValues};
@@ -8,6 +9,8 @@ ghost use Rattle.sparse_base.specs.DenseLending.{LendsColumn, LendsValues};
 use sparse_algebra::scalar::Zero;
 use std::alloc::{AllocError, Global};
 use std::marker::Model;
+
+mod equality;
 
 /// A dense matrix, stored column by column.
 ///
@@ -234,36 +237,6 @@ impl<T> DMatrix<T> {
         let start = first * self.nrows;
         self.values.slice_mut(start..start + count * self.nrows)
     }
-}
-
-impl<T> DMatrix<T> {
-    ghost use Rattle.sparse_base.specs.DenseEquality.{dense_sizes_eq};
-
-    // Whether the sizes are equal.
-    fn has_same_sizes(&self, other: &Self) -> bool
-        ensures { result ≡ dense_sizes_eq self.now other.now }
-    {
-        self.nrows() == other.nrows() && self.ncols() == other.ncols()
-    }
-}
-
-/// Matrices are equal if their shapes are equal and they have equal values at each place.
-impl<T: PartialEq> PartialEq for DMatrix<T> {
-    ghost use Rattle.sparse_base.specs.DenseEquality.{dense_eq, dense_eq-laws};
-
-    ghost eq = { dense_eq T.eq };
-
-    ghost laws = { dense_eq-laws T.laws };
-
-    fn eq(&self, other: &Self) -> bool {
-        self.has_same_sizes(other) && self.as_slice() == other.as_slice()
-    }
-}
-
-impl<T: Eq> Eq for DMatrix<T> {
-    ghost use Rattle.sparse_base.specs.DenseEquality.{dense_eq-equiv};
-
-    ghost laws = { dense_eq-equiv T.Eq.laws };
 }
 
 // Returns `count` copies of a value.

@@ -13,7 +13,8 @@ use Rattle.sparse_lemmas.proofs.Cases.{lt_suc_cases}
 use Rattle.sparse_algebra.specs.Plain.{below}
 use Rattle.sparse_base.specs.Dense.{Dense, value_at}
 use Rattle.sparse_cs.specs.Compressed.{turned}
-use Rattle.sparse_convert.specs.FromDense.{full_lanes, column_triplets, differs_from}
+use Rattle.sparse_convert.specs.FromDense.{full_lanes, row_triplets, column_triplets}
+use Rattle.sparse_convert.specs.FromDense.{differs_from}
 
 -- ---- the numbers below n
 
@@ -191,6 +192,14 @@ module _ {T : Type 0} where
       d
   lanes_by_columns z d = full_lanes_same d.ncols d.nrows _ _
       (λ j i. let at : j * d.nrows + i * 1 ≡ j * d.nrows + i =
+      omega arith in ap (λ p. get_or d.values p z) at)
+
+  -- the same, where the lanes are rows
+  pub lanes_by_rows : (z : T) (d : Dense T)
+      → full_lanes d.nrows d.ncols (λ i j. get_or d.values (i * 1 + j * d.nrows) z)
+      ≡ row_triplets z d
+  lanes_by_rows z d = full_lanes_same d.nrows d.ncols _ _
+      (λ i j. let at : i * 1 + j * d.nrows ≡ j * d.nrows + i =
       omega arith in ap (λ p. get_or d.values p z) at)
 
 -- ---- no values

@@ -1,10 +1,12 @@
 //! Compressed matrices of sorted lanes; entries with the same index are added.
 
-ghost use Rattle.std.specs.Prelude.{◌≡◌, ℕ, ◌+◌, ◌-◌, ◌<◌, ◌≤◌, All, IfOk, length, vec_len, vec_capacity};
+ghost use Rattle.std.specs.Prelude.{◌≡◌, ℕ, ◌+◌, ◌-◌, ◌<◌, ◌≤◌, All, IfOk, length, vec_len};
+ghost use Rattle.std.specs.Prelude.{vec_capacity};
 ghost use Rattle.std.specs.List.Sorted.{IsNonDecreasingBy};
 ghost use Rattle.sparse_cs.specs.Compressed.{IsSound};
 ghost use Rattle.sparse_cs.specs.PlainOfLanes.{plain_of_rows};
-ghost use Rattle.sparse_convert.specs.InnerTripletLanes.{AreOffsets, entries_of_lane, plain_of_lanes};
+ghost use Rattle.sparse_convert.specs.InnerTripletLanes.{AreOffsets, entries_of_lane};
+ghost use Rattle.sparse_convert.specs.InnerTripletLanes.{plain_of_lanes};
 ghost use Rattle.sparse_convert.specs.InnerMerged.{AreMerged, KeepsFirst};
 
 use sparse_algebra::scalar::Ring;

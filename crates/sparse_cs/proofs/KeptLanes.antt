@@ -108,6 +108,16 @@ module _ {T : Type 0} (R : ℕ × ℕ × T → Bool → Type 0) (m : Compressed 
       ];
     }
 
+  -- no lane is traversed
+  pub none_kept : AreKeptLanes R m (0 ∷ []) [] [] 0
+  none_kept = record {
+    offset_count = refl;
+    first = refl;
+    last = refl;
+    value_count = refl;
+    lanes = λ k lt. absurd (omega arith);
+  }
+
   -- one more lane is traversed
   pub kept_step : (offsets indices indices' : List ℕ) (values values' : List T) (i e : ℕ)
       (js : List ℕ) (us : List T)

@@ -5,7 +5,8 @@ ghost use Rattle.std.specs.Borrow.{sem};
 ghost use Rattle.sparse_cs.specs.Compressed.{IsSound};
 ghost use Rattle.sparse_cs.specs.StoredEntries.{IsInBounds, place_of};
 ghost use Rattle.sparse_cs.specs.Lanes.{lane_parts};
-ghost use Rattle.sparse_cs.specs.Writing.{LendsValues, LendsFound, LendsIndexed, LendsElement, IsFoundAt, IsEntryMutAt, IsLentEntryOf};
+ghost use Rattle.sparse_cs.specs.Writing.{LendsValues, LendsFound, LendsIndexed, LendsElement};
+ghost use Rattle.sparse_cs.specs.Writing.{IsFoundAt, IsEntryMutAt, IsLentEntryOf};
 
 use crate::CsMatrix;
 use crate::lane::{LaneIndices, lane_bounds};

@@ -2,7 +2,8 @@
 
 ghost use Rattle.std.specs.Prelude.{◌≡◌, ℕ, ◌<◌, ◌*◌, All, length, slice_index_or};
 ghost use Rattle.sparse_cs.specs.PlainOfLanes.{plain_of_rows};
-ghost use Rattle.sparse_dense.specs.InnerUpdates.{HasStrided, IsUpdatedAt, IsUpdatedColumn, dot_of, strided, times_vector};
+ghost use Rattle.sparse_dense.specs.InnerUpdates.{HasStrided, IsUpdatedAt, IsUpdatedColumn, dot_of};
+ghost use Rattle.sparse_dense.specs.InnerUpdates.{strided, times_vector};
 
 use crate::operand::lane_slices;
 use sparse_algebra::scalar::Ring;

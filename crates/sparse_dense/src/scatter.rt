@@ -3,7 +3,8 @@
 ghost use Rattle.std.specs.Prelude.{◌≡◌, ℕ, ◌<◌, ◌+◌, ◌*◌, All, length, slice_index_or};
 ghost use Rattle.sparse_cs.specs.InnerRows.{lane_value};
 ghost use Rattle.sparse_cs.specs.PlainOfLanes.{plain_of_cols};
-ghost use Rattle.sparse_dense.specs.InnerUpdates.{HasStrided, IsUpdatedColumn, strided, times_vector};
+ghost use Rattle.sparse_dense.specs.InnerUpdates.{HasStrided, IsUpdatedColumn, strided};
+ghost use Rattle.sparse_dense.specs.InnerUpdates.{times_vector};
 
 use crate::operand::lane_slices;
 use sparse_algebra::scalar::Ring;

@@ -1,9 +1,12 @@
 //! From words to an expression.
 
-ghost use Rattle.std.specs.Prelude.{◌≡◌, ◌⊎◌, ◌<◌, ◌≤◌, [], ◌∷◌, ◌++◌, OnOk, IfOk, IfErr, length, box_value};
+ghost use Rattle.std.specs.Prelude.{◌≡◌, ◌⊎◌, ◌<◌, ◌≤◌, [], ◌∷◌, ◌++◌, OnOk, IfOk, IfErr, length};
+ghost use Rattle.std.specs.Prelude.{box_value};
 ghost use Rattle.std.specs.List.{flat_map};
-ghost use Rattle.sparse_expr.specs.PostfixWords.{token_of, operator_of, words_of, texts, takes, postfix, IsSaid, IsRefused};
-ghost use Rattle.sparse_expr.specs.declared.error.ExprError.TheVariants.{MissingOperand, LeftOver, OutOfMemory};
+ghost use Rattle.sparse_expr.specs.PostfixWords.{token_of, operator_of, words_of, texts, takes};
+ghost use Rattle.sparse_expr.specs.PostfixWords.{postfix, IsSaid, IsRefused};
+ghost use Rattle.sparse_expr.specs.declared.error.ExprError.TheVariants.{MissingOperand, LeftOver};
+ghost use Rattle.sparse_expr.specs.declared.error.ExprError.TheVariants.{OutOfMemory};
 
 use crate::error::ExprError;
 use crate::expr::Expr;

@@ -37,8 +37,8 @@ module _ (chains : List ℕ) (entries : Raw) (valid : IsValid entries)
       → IsBuilt (length chains) (IsInColumn chains entries) n offsets indices
       → (i j : ℕ) → IsPlace d j i ↔ IsInColumn chains entries j i
   all_columns n d offsets indices whole is built i j =
-      all_built (length chains) (IsInColumn chains entries) n (length chains) d offsets indices whole
-      is (λ j i h. omega (arith, h.0, column_within j i h)) built j i
+      all_built (length chains) (IsInColumn chains entries) n (length chains) d offsets indices
+      whole is (λ j i h. omega (arith, h.0, column_within j i h)) built j i
 
   -- the column after those below n
   module _ (low : (i k : ℕ) → IsPlace entries k i → k ≤ i)

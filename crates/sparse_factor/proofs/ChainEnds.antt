@@ -168,7 +168,8 @@ module _ (base : ℕ → ℕ → Type 0) (t : Tree) (i node : ℕ) (is : IsRowTr
               | inr late ↦ late
             ];
           } in
-          subst (λ x. IsParent base x (parent x)) (sym e) (subst (IsParent base l) (sym at_last) here)
+          subst (λ x. IsParent base x (parent x)) (sym e)
+          (subst (IsParent base l) (sym at_last) here)
       | inr ne ↦
           let p = old_parent k ne in
           subst (IsParent base k) (sym p) (is.parents k (λ z. some (p ∙ z)))
@@ -195,7 +196,8 @@ module _ (base : ℕ → ℕ → Type 0) (t : Tree) (i node : ℕ) (is : IsRowTr
             | inr n ↦
                 let b = before_last k n.0 ne in
                 let r = is.tree.rises k b.1 in
-                let up = gained (t.parent k) b.3 (omega (arith, r.0, n.1)) (omega (arith, b.2, l_below)) in
+                let up = gained (t.parent k) b.3 (omega (arith, r.0, n.1))
+                (omega (arith, b.2, l_below)) in
                 (λ z. b.1 (sym p ∙ z), subst W (sym p) (later (t.parent k) up))
           ]
     ]

@@ -181,7 +181,8 @@ module _ (base : ℕ → ℕ → Type 0) (t : Tree) (i node : ℕ) (is : IsRowTr
                 let p = old_parent k (not_last k q.0) in (
                   λ z. q.0 (sym p ∙ z),
                   omega (arith, p, q.1),
-                  ap chain p ∙ chain_others (t.parent k) (parent_other k (omega (arith, r.0, r.1)) q.2)
+                  ap chain p
+                      ∙ chain_others (t.parent k) (parent_other k (omega (arith, r.0, r.1)) q.2)
                       ∙ q.2 ∙ sym kc,
                 )
           ]

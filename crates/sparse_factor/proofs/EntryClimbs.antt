@@ -1,6 +1,6 @@
 -- What one turn of a climb does to the arrays.
-use Rattle.std.proofs.Common.{◌≡◌, ◌≢◌, ℕ, ◌+◌, ◌<◌, ◌≤◌, inl, inr, List, [], ◌∷◌, ◌++◌, length, map, set}
-use Rattle.std.proofs.Common.{get_or, slice_index, sym, ap, ◌∙◌, subst, arith}
+use Rattle.std.proofs.Common.{◌≡◌, ◌≢◌, ℕ, ◌+◌, ◌<◌, ◌≤◌, inl, inr, List, [], ◌∷◌, ◌++◌, length}
+use Rattle.std.proofs.Common.{map, set, get_or, slice_index, sym, ap, ◌∙◌, subst, arith}
 use Rattle.std.proofs.lemmas.List.{get_or_default, length-map}
 use Rattle.sparse_lemmas.proofs.Cases.{lt_or_ge}
 use Rattle.sparse_counting.proofs.CountLemmas.{read_number}
@@ -63,7 +63,8 @@ module _ (p : Raw) (first s : Climb) (i node : ℕ) (is : IsClimbed p first s i 
       → IsStepped (with_arrays cs ns ms ps rs vs) next
   stepped cs ns ms ps rs vs next new m q r v is_next =
       let h = chain_at s node in
-      let new_h = λ (x : slice_index s.marks h ≡ i + 1). new (ap (λ y. slice_index s.marks y) e ∙ x) in
+      let new_h =
+      λ (x : slice_index s.marks h ≡ i + 1). new (ap (λ y. slice_index s.marks y) e ∙ x) in
       let m_h = m ∙ ap (λ y. set s.marks y (i + 1)) e in
       let q_h = q ∙ ap (λ y. set s.positions y (length s.nodes)) e in
       let next_h = subst (λ y. IsNextNode s.chains s.nexts cs ns y i next) e is_next in

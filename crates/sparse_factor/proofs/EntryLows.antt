@@ -114,12 +114,14 @@ module _ (s : Climb) (i b node n : ℕ) (sizes : AreSized s n) (entered : AreEnt
         ap (chain_at more) (node_kept p early) in
         let other : chain_at s (slice_index s.nodes p) ≢ h =
         λ e. new (sym (ap (slice_index s.marks) e) ∙ k.0) in (
-          ap (slice_index more.marks) at ∙ mark_other (chain_at s (slice_index s.nodes p)) other ∙ k.0,
+          ap (slice_index more.marks) at ∙ mark_other (chain_at s (slice_index s.nodes p)) other
+              ∙ k.0,
           ap (slice_index more.positions) at
               ∙ position_other (chain_at s (slice_index s.nodes p)) other ∙ k.1,
         )
     | inr e ↦
-        let at : chain_at more (slice_index more.nodes p) ≡ h = ap (chain_at more) (node_new p e) in (
+        let at : chain_at more (slice_index more.nodes p) ≡ h =
+        ap (chain_at more) (node_new p e) in (
           ap (slice_index more.marks) at ∙ mark_here,
           ap (slice_index more.positions) at ∙ position_here
               ∙ sym e,

@@ -150,7 +150,8 @@ module _ (p : Raw) (first s : Climb) (i : ℕ) (is : IsClimbed p first s i i 0)
   pub row_entered : IsClimbed p first now i (i + 1) 0
   row_entered = record {
     row = is.row;
-    sizes = sizes_more s i (length first.nodes) i p.major_dim is.sizes is.entered inside not_entered;
+    sizes =
+        sizes_more s i (length first.nodes) i p.major_dim is.sizes is.entered inside not_entered;
     marks = marks_more s i (length first.nodes) i p.major_dim is.sizes is.entered inside not_entered
         (i + 1) (omega arith) is.marks;
     entered = entered_more s i (length first.nodes) i p.major_dim is.sizes is.entered inside

@@ -1,7 +1,7 @@
 -- A climb from chain to chain, step by step.
-use Rattle.std.proofs.Common.{◌≡◌, ◌≢◌, ℕ, ◌+◌, ◌<◌, ◌≤◌, inl, inr, List, [], ◌∷◌, ◌++◌, length, set}
-use Rattle.std.proofs.Common.{get_or, slice_index, length-set, get_or-set_same, get_or-set_other, refl}
-use Rattle.std.proofs.Common.{sym, ap, ◌∙◌, subst, arith}
+use Rattle.std.proofs.Common.{◌≡◌, ◌≢◌, ℕ, ◌+◌, ◌<◌, ◌≤◌, inl, inr, List, [], ◌∷◌, ◌++◌, length}
+use Rattle.std.proofs.Common.{set, get_or, slice_index, length-set, get_or-set_same}
+use Rattle.std.proofs.Common.{get_or-set_other, refl, sym, ap, ◌∙◌, subst, arith}
 use Rattle.std.specs.Prelude.{nat_eq, cond}
 use Rattle.std.proofs.lemmas.Bool.Decides.{nat_tests}
 use Rattle.std.proofs.lemmas.List.{get_or_default}
@@ -91,7 +91,8 @@ module _ (p : Raw) (first s : Climb) (i node : ℕ) (is : IsClimbed p first s i 
     now = more s i b node p.major_dim is.sizes is.entered chain_inside.0 new
 
     entered_now : AreEntered now i b i
-    entered_now = entered_more s i b node p.major_dim is.sizes is.entered chain_inside.0 new i before
+    entered_now =
+        entered_more s i b node p.major_dim is.sizes is.entered chain_inside.0 new i before
         (omega arith)
 
     -- the entries are on the same chains
@@ -128,7 +129,8 @@ module _ (p : Raw) (first s : Climb) (i node : ℕ) (is : IsClimbed p first s i 
           marks = marks_more s i b node p.major_dim is.sizes is.entered chain_inside.0 new (i + 1)
               (omega arith) is.marks;
           entered = entered_on cs ns same;
-          appended = (let a = appended_more s i b node p.major_dim is.sizes is.entered chain_inside.0
+          appended =
+              (let a = appended_more s i b node p.major_dim is.sizes is.entered chain_inside.0
               new first refl is.appended in
               record { nodes = a.nodes; rows = a.rows; new = a.new });
           chains = λ k lt. same k lt ∙ is.chains k lt;
@@ -243,8 +245,8 @@ module _ (p : Raw) (first s : Climb) (i node : ℕ) (is : IsClimbed p first s i 
           (omega (arith, chain_inside.0, is.sizes.nexts)) in
           let other = λ (k : ℕ) (differ : k ≢ h). get_or-set_other s.nexts h k i 0 differ in
           let tree = row_ended base t i node is.tree filled before fresh low at others none parent
-          (put_same is.parent l i) (put_other is.parent l i) moved (λ k. slice_index nexts k) next_at
-          other in (
+          (put_same is.parent l i) (put_other is.parent l i) moved (λ k. slice_index nexts k)
+          next_at other in (
             record {
               climbed = climbed_on s.chains nexts parent i refl (length-set s.nexts h i)
                   (λ q lt. refl)
@@ -258,13 +260,14 @@ module _ (p : Raw) (first s : Climb) (i node : ℕ) (is : IsClimbed p first s i 
             before,
           )
 
-    pub step : (cs ns : List ℕ) (next : ℕ) → IsNextNode s.chains s.nexts cs ns (chain_at s node) i next
+    pub step : (cs ns : List ℕ) (next : ℕ)
+        → IsNextNode s.chains s.nexts cs ns (chain_at s node) i next
         → IsStep cs ns next
     step cs ns next is_next = elim (same_or_not (slice_index s.nexts h) 0) [
       | inr some ↦
           let e = is_next.had_next some in
-          moved_step (slice_index s.nexts h) s.chains s.nexts next cs ns (sym e.0) (sym e.1) (sym e.2)
-          (step_up some)
+          moved_step (slice_index s.nexts h) s.chains s.nexts next cs ns (sym e.0) (sym e.1)
+          (sym e.2) (step_up some)
       | inl none ↦ elim (same_or_not (slice_index s.chains i) i) [
         | inl own ↦
             let e = is_next.joins none own in

@@ -1,5 +1,5 @@
--- The fill by chains of the elimination tree. A chain is a list of nodes, each the parent of the one
--- before, and is known by a number that is at most each of its nodes.
+-- The fill by chains of the elimination tree. A chain is a list of nodes, each the parent of the
+-- one before, and is known by a number that is at most each of its nodes.
 use Rattle.std.specs.Prelude.{◌≡◌, ℕ, ◌≤◌, ◌↔◌, List, map, slice_index}
 use Rattle.sparse_pattern.specs.Raw.{Raw, IsPlace}
 

@@ -130,7 +130,8 @@ fn fill_of(
     requires { pattern.now.major_dim ≡ pattern.now.minor_dim }
     ensures rows { IfOk result (λ l. l.minor_dim ≡ pattern.now.minor_dim) }
     ensures columns { IfOk result (λ l. l.major_dim ≡ pattern.now.major_dim) }
-    ensures places { IfOk result (λ l. (i j : ℕ) → IsPlace l j i ↔ Filled (UpperBase pattern.now) i j) }
+    ensures places { IfOk result (λ l. (i j : ℕ)
+        → IsPlace l j i ↔ Filled (UpperBase pattern.now) i j) }
     ensures valid { IfOk result IsValid }
     ensures all_read { OnOk result (steps.old + nnz_of pattern.now ≤ steps.new) }
     ensures no_more { (fill : List (ℕ × ℕ)) → ListsFill (UpperBase pattern.now) fill
@@ -153,7 +154,8 @@ fn fill_with_scratch<C: Count>(
     requires width { pattern.now.major_dim < C.limit }
     ensures rows { IfOk result (λ l. l.minor_dim ≡ pattern.now.minor_dim) }
     ensures columns { IfOk result (λ l. l.major_dim ≡ pattern.now.major_dim) }
-    ensures places { IfOk result (λ l. (i j : ℕ) → IsPlace l j i ↔ Filled (UpperBase pattern.now) i j) }
+    ensures places { IfOk result (λ l. (i j : ℕ)
+        → IsPlace l j i ↔ Filled (UpperBase pattern.now) i j) }
     ensures valid { IfOk result IsValid }
     ensures all_read { OnOk result (steps.old + nnz_of pattern.now ≤ steps.new) }
     ensures no_more { (fill : List (ℕ × ℕ)) → ListsFill (UpperBase pattern.now) fill

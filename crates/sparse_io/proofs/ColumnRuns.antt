@@ -1,8 +1,10 @@
 -- Lines of values, and runs of them down a column.
 use Rattle.std.proofs.Common.{◌≡◌, ℕ, ℤ, zero, suc, ◌+◌, ◌-◌, ◌<◌, true, List, [], ◌∷◌, drop}
-use Rattle.std.proofs.Common.{slice_get, drop-drop, Option, Some, Ok, refl, sym, ap, subst, ◌∙◌, arith}
-use Rattle.std.proofs.lemmas.Bool.{lt-ltb}
+use Rattle.std.proofs.Common.{slice_get, drop-drop, Option, Some, Ok, refl, sym, ap, subst, ◌∙◌}
+use Rattle.std.proofs.Common.{◌≢◌, ◌==◌, Bool, false, arith, length, length-drop, nat_lt}
+use Rattle.std.proofs.lemmas.Bool.{eqb-false, lt-ltb}
 use Rattle.std.proofs.lemmas.List.{map-append}
+use mir.Val.{bool_byte}
 use Rattle.sparse_base.specs.Coo.{Coo, coo_of, appended}
 use Rattle.sparse_parser.specs.declared.header.Format.TheVariants.{Array}
 use Rattle.sparse_parser.specs.declared.header.Field.TheVariants.{Integer}
@@ -44,6 +46,23 @@ first_behind zero xs = refl
 first_behind (suc n) [] = refl
 first_behind (suc n) (x ∷ xs) = first_behind n xs
 
+-- a list that is not empty
+pub some_left : {X : Type 0} (xs : List X) → (length xs == 0) ≡ false → 0 < length xs
+some_left xs some = let n : length xs ≢ 0 = eqb-false _ _ some in omega (arith, n)
+
+fewer_left : (count : ℕ) (places : List (ℕ × ℕ)) → 0 < length places
+    → length (drop count places) + bool_byte (nat_lt 0 count) < length places + bool_byte true
+fewer_left zero places some = omega arith
+fewer_left (suc n) places some =
+    rw (lt-ltb 0 (suc n) (omega arith)) (omega (arith, length-drop (suc n) places))
+
+-- with each column there are fewer places left, or the reading ends
+pub column_smaller : (count : ℕ) (places places' : List (ℕ × ℕ)) (goes_on : Bool)
+    → (length places == 0) ≡ false → goes_on ≡ true → places' ≡ drop count places
+    → length places' + bool_byte (nat_lt 0 count) < length places + bool_byte goes_on
+column_smaller count places places' goes_on some on is =
+    rw (on, is) (fewer_left count places (some_left places some))
+
 module _ (S : Scalar) (h : Header) {T : Type 0} (value : T → S.Value) where
   one_triplet : (row col : ℕ) (v : T) (number : ℤ) → h.symmetry ≡ General
       → Ok (value v) ≡ S.from_number number
@@ -52,18 +71,25 @@ module _ (S : Scalar) (h : Header) {T : Type 0} (value : T → S.Value) where
   unfolding mirrored
   one_triplet row col v number g f = rw (g, sym f) refl
 
+  -- no line of a column was read
+  pub column_none : (read : ℕ) (places : List (ℕ × ℕ)) (m : Coo T) (text : List ℕ)
+      → BeginsLine text → IsReadOn S h (reading read true places (values_of value m) text)
+      (reading (read + 0) true places (values_of value m) text)
+  column_none read places m text b =
+      let same : read ≡ read + 0 = omega arith in
+      let start = reading read true places (values_of value m) text in
+      subst (λ (n : ℕ). IsReadOn S h start (reading n true places (values_of value m) text)) same
+      (read_none S h value read true places m text b)
+
   -- no line of a column was read yet
   pub column_start : (read most : ℕ) (places : List (ℕ × ℕ)) (m : Coo T) (text : List ℕ)
       → BeginsLine text → IsReadOn S h (reading read true places (values_of value m) text)
       (reading (read + (most - most)) true (drop (most - most) places) (values_of value m) text)
   column_start read most places m text b =
       let none : 0 ≡ most - most = omega arith in
-      let same : read ≡ read + 0 = omega arith in
       let start = reading read true places (values_of value m) text in
       subst (λ (n : ℕ). IsReadOn S h start (reading (read + n) true (drop n places)
-      (values_of value m) text)) none
-      (subst (λ (n : ℕ). IsReadOn S h start (reading n true places (values_of value m) text)) same
-      (read_none S h value read true places m text b))
+      (values_of value m) text)) none (column_none read places m text b)
 
   -- the line of the next row of a column was read, and its entry was appended
   pub column_more : (old : Reading S.Value) (m m' : Coo T) (text next : List ℕ)

@@ -150,7 +150,8 @@ module _ (S : Scalar) (h : Header) (s : Sizes) where
           ∙ ap (λ (x : Bool). x && list_all (is_inside S s.0 s.1) us) e
 
       by : (i j kept : Bool) → list_all (is_inside S s.0 s.1) new ≡ j → kept ≡ (i && j)
-          → (IsTrue kept → ts' ≡ ts ++ new) → ending S h s i ts (new ++ us) ≡ ending S h s kept ts' us
+          → (IsTrue kept → ts' ≡ ts ++ new) → ending S h s i ts (new ++ us)
+          ≡ ending S h s kept ts' us
       by true true true e f g =
           let same : ts ++ (new ++ us) ≡ ts' ++ us = sym (append_assoc ts new us)
           ∙ ap (λ (x : List (Triplet S.Value)). x ++ us) (sym (g refl)) in
@@ -164,7 +165,8 @@ module _ (S : Scalar) (h : Header) (s : Sizes) where
   entries-more : (inside kept : Bool) (ts ts' new : List (Triplet S.Value))
       (read : Read (List (Triplet S.Value)))
       → kept ≡ (inside && list_all (is_inside S s.0 s.1) new) → (IsTrue kept → ts' ≡ ts ++ new)
-      → ((read >>= λ us. Ok (new ++ us)) >>= ending S h s inside ts) ≡ (read >>= ending S h s kept ts')
+      → ((read >>= λ us. Ok (new ++ us)) >>= ending S h s inside ts)
+      ≡ (read >>= ending S h s kept ts')
   entries-more inside kept ts ts' new (Ok us) k add = all-more inside kept ts ts' new us k add
   entries-more inside kept ts ts' new (Err e) k add = refl
 
@@ -187,13 +189,15 @@ module _ (S : Scalar) (h : Header) (s : Sizes) where
       omega arith in
       let m = entries-more inside kept ts ts' a.new
       (entries_of S h (drop 1 places) (contents_of next)) a.kept_is a.added in
-      let one : still_read S h s read inside places ts (words ∷ contents_of next) ≡ still_read S h s (read + 1)
+      let one : still_read S h s read inside places ts (words ∷ contents_of next)
+      ≡ still_read S h s (read + 1)
       kept (drop 1 places) ts' (contents_of next) =
       rw (r.is, a.found, n)
       (ap (λ (x : Read (Coo S.Value)). cond (list_all is_entry (contents_of next))
       (cond (is_count s.2 (read + 1 + length (contents_of next))) x (Err EntryMismatch))
       (Err ParsingError)) m) in
-      ap (λ (x : List (ℕ × ℕ)). still_read S h s (read + 1) kept x ts' (contents_of next)) p ∙ sym one
+      ap (λ (x : List (ℕ × ℕ)). still_read S h s (read + 1) kept x ts' (contents_of next)) p
+      ∙ sym one
       ∙ sym (ap (still_read S h s read inside places ts) r.same) ∙ so_far
 
   pub read_fault : (text rest : List ℕ) (words : List (List ℕ)) (e : MatrixMarketErrorKind)

@@ -1,7 +1,6 @@
 -- Runs of data lines: what is read in the end stays the same.
-use Rattle.std.proofs.Common.{◌≡◌, ◌≢◌, ℕ, ◌+◌, ◌≤◌, Bool, true, ◌&&◌, List, [], ◌∷◌, length, drop, slice_get}
-use Rattle.std.proofs.Common.{Option, Ok}
-use Rattle.std.proofs.Common.{refl, sym, ap, ◌∙◌, arith}
+use Rattle.std.proofs.Common.{◌≡◌, ◌≢◌, ℕ, ◌+◌, ◌≤◌, Bool, true, ◌&&◌, List, [], ◌∷◌, length, drop}
+use Rattle.std.proofs.Common.{slice_get, Option, Ok, refl, sym, ap, ◌∙◌, arith}
 use Rattle.std.specs.Prelude.{IsTrue}
 use Rattle.std.specs.List.{list_all}
 use Rattle.sparse_base.specs.Coo.{Coo, appended}
@@ -14,7 +13,8 @@ use Rattle.sparse_parser.specs.Scalars.{Scalar}
 use Rattle.sparse_parser.proofs.WordLaws.{words_of-nil}
 use Rattle.sparse_parser.specs.Meaning.{Triplet, Sizes, is_inside, triplets_of, values_of}
 use Rattle.sparse_parser.specs.InnerReading.{line_words, contents_of}
-use Rattle.sparse_io.specs.InnerEntries.{IsMeant, IsLineRead, still_read, Reading, IsReadOn, reading}
+use Rattle.sparse_io.specs.InnerEntries.{IsMeant, IsLineRead, still_read, Reading, IsReadOn}
+use Rattle.sparse_io.specs.InnerEntries.{reading}
 use Rattle.sparse_io.proofs.EntryLoop.{IsRead, matrix_more}
 
 no_entry : is_entry [] ≡ true → ⊥

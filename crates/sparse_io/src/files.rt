@@ -111,7 +111,8 @@ where
 
 // The error of a failure in opening, creating or reading a file.
 fn file_fault(fault: io::Error) -> MatrixMarketError
-    ensures { kind_of result ≡ file_fault (error_kind fault) }
+    ensures kind { kind_of result ≡ file_fault (error_kind fault) }
+    ensures fault { IsFileFault (kind_of result) }
 {
     match fault.kind() {
         io::ErrorKind::OutOfMemory => AllocError.into(),

@@ -4,7 +4,8 @@ ghost use Rattle.std.specs.Prelude.{◌≡◌, ◌⊎◌, IfOk, IfErr, Ok, Err};
 ghost use Rattle.sparse_parser.specs.declared.error.MatrixMarketErrorKind.TheVariants.{OutOfMemory};
 ghost use Rattle.sparse_parser.specs.Errors.{kind_of, kind_of_cause};
 ghost use Rattle.sparse_parser.specs.Meaning.{Means, values_of};
-ghost use Rattle.sparse_parser.specs.InnerReading.{Gives, contents_of, grammar_kind_of, count_of, settled_of, body_of, read};
+ghost use Rattle.sparse_parser.specs.InnerReading.{Gives, contents_of, grammar_kind_of, count_of};
+ghost use Rattle.sparse_parser.specs.InnerReading.{settled_of, body_of, read};
 
 use entries::entries;
 use sparse_base::coo::CooMatrix;

@@ -1,11 +1,13 @@
 //! Writing a matrix in Matrix Market format.
 
-ghost use Rattle.std.specs.Prelude.{◌≡◌, ℕ, ◌+◌, ◌<◌, ◌≤◌, ◌++◌, [], OnOk, OnErr, IfOk, IfErr, string_bytes};
+ghost use Rattle.std.specs.Prelude.{◌≡◌, ℕ, ◌+◌, ◌<◌, ◌≤◌, ◌++◌, [], OnOk, OnErr, IfOk, IfErr};
+ghost use Rattle.std.specs.Prelude.{string_bytes};
 ghost use Rattle.std.specs.Fmt.{decimal};
 ghost use Rattle.std.specs.Io.KnownBytes.{Appends};
 ghost use Rattle.sparse_parser.specs.Errors.{kind_of};
 ghost use Rattle.sparse_io.specs.Sink.{AppendsSome};
-ghost use Rattle.sparse_io.specs.Written.{heading, size_line, triplet_line, text_of, IsRefusedWrite};
+ghost use Rattle.sparse_io.specs.Written.{heading, size_line, triplet_line, text_of};
+ghost use Rattle.sparse_io.specs.Written.{IsRefusedWrite};
 ghost use Rattle.sparse_io.specs.InnerWriting.{head_of, IsBuffered};
 
 use crate::export::MatrixMarketExport;

@@ -6,8 +6,10 @@ ghost use Rattle.std.specs.Iterator.{YieldsFirstBy, item_count};
 ghost use Rattle.sparse_cs.specs.Compressed.{IsSound};
 ghost use Rattle.sparse_cs.specs.Lanes.{lane_at};
 ghost use Rattle.sparse_cs.specs.Left.{lanes_left, lane_values, lent_lane};
-ghost use Rattle.sparse_cs.specs.Writing.{LendsLane, IsLaneFoundAt, IsLaneEntryMutOf, IsLentEntryOf};
-ghost use Rattle.sparse_lanes.specs.RowWriting.{lent_row, row_values, LendsRowValues, all_row_values, rows_left, LendsRowEntry};
+ghost use Rattle.sparse_cs.specs.Writing.{LendsLane, IsLaneFoundAt, IsLaneEntryMutOf};
+ghost use Rattle.sparse_cs.specs.Writing.{IsLentEntryOf};
+ghost use Rattle.sparse_lanes.specs.RowWriting.{lent_row, row_values, LendsRowValues};
+ghost use Rattle.sparse_lanes.specs.RowWriting.{all_row_values, rows_left, LendsRowEntry};
 ghost use Rattle.sparse_lanes.specs.InnerRowWriting.{LendsRowAt, LendsRowFound};
 
 use sparse_cs::writing::{element_mut, entry_in};

@@ -126,7 +126,8 @@ fn transposed_product<T: Ring>(
 ) -> Result<CsrMatrix<T>, AllocError>
     requires { a.now.pattern.minor_dim ≡ b.now.pattern.major_dim }
     ensures { IfOk result (λ m. plain_of_rows T.ring T.value m ≡ plain_transpose T.ring
-        (plain_product T.ring (plain_of_rows T.ring T.value a.now) (plain_of_rows T.ring T.value b.now))) }
+        (plain_product T.ring (plain_of_rows T.ring T.value a.now)
+        (plain_of_rows T.ring T.value b.now))) }
 {
     let product = mul_csr(alloc, a, b)?;
     transposed_csr(alloc, &product)
@@ -160,7 +161,8 @@ fn product_with_sum<T: Ring>(
     requires cols { b.now.pattern.minor_dim ≡ c.now.pattern.minor_dim }
     ensures { IfOk result (λ m. plain_of_rows T.ring T.value m
         ≡ plain_product T.ring (plain_of_rows T.ring T.value a.now)
-        (plain_sum T.ring (plain_of_rows T.ring T.value b.now) (plain_of_rows T.ring T.value c.now))) }
+        (plain_sum T.ring (plain_of_rows T.ring T.value b.now)
+        (plain_of_rows T.ring T.value c.now))) }
 {
     let sum = add_csr(alloc, b, c)?;
     mul_csr(alloc, a, &sum)
@@ -198,8 +200,10 @@ fn sum_of_products<T: Ring>(
     requires rows { a.now.pattern.major_dim ≡ c.now.pattern.major_dim }
     requires cols { b.now.pattern.minor_dim ≡ d.now.pattern.minor_dim }
     ensures { IfOk result (λ m. plain_of_rows T.ring T.value m ≡ plain_sum T.ring
-        (plain_product T.ring (plain_of_rows T.ring T.value a.now) (plain_of_rows T.ring T.value b.now))
-        (plain_product T.ring (plain_of_rows T.ring T.value c.now) (plain_of_rows T.ring T.value d.now))) }
+        (plain_product T.ring (plain_of_rows T.ring T.value a.now)
+        (plain_of_rows T.ring T.value b.now))
+        (plain_product T.ring (plain_of_rows T.ring T.value c.now)
+        (plain_of_rows T.ring T.value d.now))) }
 {
     let first = mul_csr(alloc, a, b)?;
     let second = mul_csr(alloc, c, d)?;

@@ -1,7 +1,9 @@
 //! Errors of operations.
 
 ghost use Rattle.std.specs.Prelude.{◌≡◌};
-ghost use Rattle.sparse_op.specs.declared.error.OperationErrorKind.TheVariants.{InvalidPattern, Singular, OutOfMemory};
+ghost use Rattle.sparse_op.specs.declared.error.OperationErrorKind.TheVariants.{InvalidPattern};
+ghost use Rattle.sparse_op.specs.declared.error.OperationErrorKind.TheVariants.{Singular};
+ghost use Rattle.sparse_op.specs.declared.error.OperationErrorKind.TheVariants.{OutOfMemory};
 
 use std::alloc::AllocError;
 use std::marker::Model;

@@ -4,7 +4,8 @@ ghost use Rattle.std.specs.Prelude.{◌≡◌};
 ghost use Rattle.sparse_algebra.specs.Plain.{Plain, plain_transpose};
 ghost use Rattle.sparse_op.specs.declared.operand.Op.{Op};
 ghost use Rattle.sparse_op.specs.declared.operand.Op.TheVariants.{NoOp};
-ghost use Rattle.sparse_op.specs.Operands.{inner_of, op_map, op_turned, plain_op, MatchOp, IsNoOpAnd, IsTransposeAnd};
+ghost use Rattle.sparse_op.specs.Operands.{inner_of, op_map, op_turned, plain_op, MatchOp};
+ghost use Rattle.sparse_op.specs.Operands.{IsNoOpAnd, IsTransposeAnd};
 
 use sparse_algebra::scalar::Ring;
 

@@ -1,12 +1,15 @@
 -- A product into a given matrix, in plain matrices.
 use Rattle.std.proofs.Common.{◌≡◌, ◌<◌, ◌↔◌, ◌⊎◌, inr, List, length, ap, sym, subst, ◌∙◌, refl}
 use Rattle.std.proofs.Common.{arith}
-use Rattle.std.specs.Prelude.{Result, Ok, Err, IsOk, IfErr, OnOk}
+use Rattle.std.specs.Prelude.{⊤, Result, Ok, Err, IsOk, IfErr, OnOk}
 use Rattle.std.proofs.lemmas.List.{get_or_default}
 use Rattle.sparse_algebra.specs.Algebra.{CommRing}
 use Rattle.sparse_algebra.specs.Plain.{Plain, plain_product, plain_transpose}
 use Rattle.sparse_algebra.proofs.PlainLemmas.{transpose_product}
 use Rattle.sparse_algebra.proofs.RingLemmas.{mul_zero}
+use Rattle.sparse_op.specs.declared.operand.Op.{Op}
+use Rattle.sparse_op.specs.declared.operand.Op.TheVariants.{NoOp, Transpose}
+use Rattle.sparse_op.specs.Operands.{MatchOp}
 use Rattle.sparse_op.specs.Prealloc.{plain_update, IsCovered}
 use Rattle.sparse_pattern.specs.Raw.{Raw}
 use Rattle.sparse_cs.specs.Compressed.{Compressed, compressed_of, IsSound}
@@ -15,6 +18,7 @@ use Rattle.sparse_cs.specs.Standing.{HasLanesAsRows}
 use Rattle.sparse_cs.specs.Writing.{with_values}
 use Rattle.sparse_sums.proofs.Updating.{on_ok_also, written_back}
 use Rattle.sparse_ops.specs.InnerUpdates.{HasProductPlaces, AreUpdated}
+use Rattle.sparse_ops.specs.ScalarProducts.{IfNotTransposed}
 use Rattle.sparse_ops.proofs.ProductPlaces.{RowsStand, product, joined_is, zero_elsewhere}
 
 -- a refusal of one kind, which comes exactly where the places lack
@@ -23,6 +27,22 @@ pub refused_is : {X E : Type 0} (r : Result X E) (kind memory : E) {P : Type 0}
     → (P → IsOk r) → IfErr r (λ e. (e ≡ memory) ⊎ ((e ≡ kind) × (P → ⊥)))
 refused_is (Ok x) kind memory is covered = tt
 refused_is (Err e) kind memory is covered = inr (is, λ p. let no = covered p in cc)
+
+-- P of both matrices, where P holds of all
+pub if_of_all : {X Y : Type 0} (a : Op X) (b : Op Y) (P : X → Y → Type 0)
+    → ((m : X) (n : Y) → P m n) → IfNotTransposed a b P
+if_of_all (NoOp m) (NoOp n) P all = all m n
+if_of_all (NoOp m) (Transpose n) P all = tt
+if_of_all (Transpose m) b P all = tt
+
+-- P of both matrices, where P holds of the factors that were made of the operands
+pub if_of_factors : {X Y Z : Type 0} (a : Op X) (b : Op Y) (u : X → Z) (v : Y → Z) (x y : Z)
+    (P : Z → Z → Type 0) → MatchOp a (λ m. x ≡ u m) (λ _. ⊤) → MatchOp b (λ n. y ≡ v n) (λ _. ⊤)
+    → P x y → IfNotTransposed a b (λ m n. P (u m) (v n))
+if_of_factors (NoOp m) (NoOp n) u v x y P is_x is_y p =
+    subst (λ k. P k (v n)) is_x (subst (P x) is_y p)
+if_of_factors (NoOp m) (Transpose n) u v x y P is_x is_y p = tt
+if_of_factors (Transpose m) b u v x y P is_x is_y p = tt
 
 -- each matrix is the only one that its arrays stand for
 abbrev pub RowsAreOne : (R : CommRing) {T : Type 0} → (T → R.Carrier) → Type 0
@@ -125,10 +145,14 @@ module _ (R : CommRing) {T : Type 0} (f : T → R.Carrier) (a b m : Compressed T
 
   -- a product by columns, of operands that are equal to x and y: the rows of the core are the
   -- columns, in the reverse order
-  module _ (fits : a.pattern.minor_dim ≡ b.pattern.major_dim) (x y : Plain R)
-      (is_y : plain_of_cols R f a ≡ y) (is_x : plain_of_cols R f b ≡ x) where
+  module _ (x y : Plain R) (is_y : plain_of_cols R f a ≡ y) (is_x : plain_of_cols R f b ≡ x)
+      (inner : x.cols ≡ y.rows) where
+    pub factors_fit : a.pattern.minor_dim ≡ b.pattern.major_dim
+    factors_fit = ap (λ (p : Plain R). p.rows) is_y ∙ sym inner
+        ∙ sym (ap (λ (p : Plain R). p.cols) is_x)
+
     turned_is : plain_transpose R Q ≡ plain_product R x y
-    turned_is = transpose_product R (plain_of_rows R f a) (plain_of_rows R f b) fits
+    turned_is = transpose_product R (plain_of_rows R f a) (plain_of_rows R f b) factors_fit
         ∙ ap (λ p. plain_product R p (plain_of_cols R f a)) is_x ∙ ap (plain_product R x) is_y
 
     pub cols_covered : IsCovered Q (plain_of_rows R f (compressed_of d vs))

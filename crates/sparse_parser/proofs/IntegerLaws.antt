@@ -206,7 +206,8 @@ one_digit text from number inside digit end is =
     record {
       behind = drop (from + 1) text;
       read = record {
-        value = ap (λ (n : ℕ). digits_value_after 10 n (front is_ascii_digit (drop (from + 1) text)))
+        value =
+            ap (λ (n : ℕ). digits_value_after 10 n (front is_ascii_digit (drop (from + 1) text)))
             first ∙ digit_read 0 text from (omega arith) digit;
         others = after_passed is_ascii_digit text from (omega arith) digit;
         small = omega arith;

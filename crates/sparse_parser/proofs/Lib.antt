@@ -8,7 +8,6 @@ pub mod IntegerLaws
 pub mod Fronts
 pub mod LineLaws
 pub mod LineShapes
-pub mod DataLines
 pub mod NumberLaws
 pub mod Signs
 pub mod WordLaws

@@ -37,34 +37,6 @@ entry_fault_2 words a w (c ∷ d ∷ []) e n = ap is_entry e
     ∙ and-first _ _ (and-first _ _ (and-second (is_index a) _ (no_index w n)))
 entry_fault_2 words a w (c ∷ d ∷ f ∷ ws) e n = ap is_entry e
 
-pub entry_fault_3 : (words : List (List ℕ)) (a b w : List ℕ) (ws : List (List ℕ))
-    → words ≡ a ∷ b ∷ w ∷ ws → is_number w ≡ false → is_entry words ≡ false
-unfolding is_entry
-entry_fault_3 words a b w [] e n = ap is_entry e ∙ and-second _ _ n
-entry_fault_3 words a b w (d ∷ []) e n = ap is_entry e ∙ and-first _ _ (and-second _ _ n)
-entry_fault_3 words a b w (d ∷ f ∷ ws) e n = ap is_entry e
-
-pub entry_fault_4 : (words : List (List ℕ)) (a b c w : List ℕ) (ws : List (List ℕ))
-    → words ≡ a ∷ b ∷ c ∷ w ∷ ws → is_number w ≡ false → is_entry words ≡ false
-unfolding is_entry
-entry_fault_4 words a b c w [] e n = ap is_entry e ∙ and-second _ _ n
-entry_fault_4 words a b c w (f ∷ ws) e n = ap is_entry e
-
-pub entry_no_index_1 : (a b c : List ℕ) (ws : List (List ℕ)) → is_index a ≡ false
-    → is_entry (a ∷ b ∷ c ∷ ws) ≡ false
-unfolding is_entry
-entry_no_index_1 a b c [] e = rw e refl
-entry_no_index_1 a b c (d ∷ []) e = rw e refl
-entry_no_index_1 a b c (d ∷ f ∷ ws) e = refl
-
-pub entry_no_index_2 : (a b c : List ℕ) (ws : List (List ℕ)) → is_index b ≡ false
-    → is_entry (a ∷ b ∷ c ∷ ws) ≡ false
-unfolding is_entry
-entry_no_index_2 a b c [] e = and-first _ _ (and-second (is_index a) _ e)
-entry_no_index_2 a b c (d ∷ []) e =
-    and-first _ _ (and-first _ _ (and-second (is_index a) _ e))
-entry_no_index_2 a b c (d ∷ f ∷ ws) e = refl
-
 pub entry_more : (words : List (List ℕ)) (a b c d f : List ℕ) (ws : List (List ℕ))
     → words ≡ a ∷ b ∷ c ∷ d ∷ f ∷ ws → is_entry words ≡ false
 unfolding is_entry
@@ -83,8 +55,3 @@ pub entry_3 : (a b c : List ℕ) → is_index a ≡ true → is_index b ≡ true
     → is_entry (a ∷ b ∷ c ∷ []) ≡ true
 unfolding is_entry
 entry_3 a b c i j n = rw (i, j, n) refl
-
-pub entry_4 : (a b c d : List ℕ) → is_index a ≡ true → is_index b ≡ true → is_number c ≡ true
-    → is_number d ≡ true → is_entry (a ∷ b ∷ c ∷ d ∷ []) ≡ true
-unfolding is_entry
-entry_4 a b c d i j n m = rw (i, j, n, m) refl

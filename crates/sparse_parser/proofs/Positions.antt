@@ -17,7 +17,8 @@ after_passed p text i lt e = sym (ap (after p) (drop_more text i 0 lt) ∙ after
 -- one digit more is read
 pub digit_read : (n : ℕ) (text : List ℕ) (i : ℕ) → i < length text
     → is_ascii_digit (get_or text i 0) ≡ true
-    → digits_value_after 10 (n * 10 + (get_or text i 0 - 48)) (front is_ascii_digit (drop (i + 1) text))
+    → digits_value_after 10 (n * 10 + (get_or text i 0 - 48))
+    (front is_ascii_digit (drop (i + 1) text))
     ≡ digits_value_after 10 n (front is_ascii_digit (drop i text))
 digit_read n text i lt e =
     let d = ap (front is_ascii_digit) (drop_more text i 0 lt)

@@ -1,6 +1,6 @@
 -- A run of digits that is read at once, and a line end before a number.
-use Rattle.std.proofs.Common.{◌≡◌, ◌≢◌, ℕ, ◌+◌, ◌-◌, ◌*◌, ◌%◌, ◌^◌, ◌≤◌, ◌<◌, true, false}
-use Rattle.std.proofs.Common.{List, [], ◌∷◌, length, get_or, take, drop, slice_range, refl, sym, ap, subst}
+use Rattle.std.proofs.Common.{◌≡◌, ◌≢◌, ℕ, ◌+◌, ◌-◌, ◌*◌, ◌%◌, ◌^◌, ◌≤◌, ◌<◌, true, false, List, []}
+use Rattle.std.proofs.Common.{◌∷◌, length, get_or, take, drop, slice_range, refl, sym, ap, subst}
 use Rattle.std.proofs.Common.{◌∙◌, arith, length-drop, drop-drop, length-take-le, take-take}
 use Rattle.std.proofs.lemmas.List.{drop_more, drop-take}
 use Rattle.std.proofs.lemmas.Bool.Decides.{nat_tests}
@@ -78,7 +78,8 @@ short_run_read text from count first number digit run short is =
     let below : digits_value 10 (take count start) < 10 ^ count =
     subst (λ (n : ℕ). digits_value 10 (take count start) < 10 ^ n) len
     (digits_value-lt 10 (take count start) (AllDigits-digits_len start count (omega arith))) in
-    let six : 10 ^ count ≤ 10 ^ 6 = pow-le-pow_right {n = 10} (omega arith) {i = count} {j = 6} short in
+    let six : 10 ^ count ≤ 10 ^ 6 =
+    pow-le-pow_right {n = 10} (omega arith) {i = count} {j = 6} short in
     let product : first * 10 ^ count ≤ 9 * 10 ^ count = mul-le-mul_right (10 ^ count) digit in
     let value : number ≡ first * 10 ^ count + digits_value 10 (take count start) = omega arith in
     let digits : number ≡ first * 10 ^ length (front is_ascii_digit start)
@@ -114,7 +115,8 @@ number_from_digit text rest from number inside digit r =
     let first : get_or text from 0 - 48 ≡ 0 * 10 + (get_or text from 0 - 48) = omega arith in
     record {
       value = ap (digits_value_after 10 number) none.0 ∙ r.value
-          ∙ ap (λ (n : ℕ). digits_value_after 10 n (front is_ascii_digit (drop (from + 1) text))) first
+          ∙ ap (λ (n : ℕ). digits_value_after 10 n (front is_ascii_digit (drop (from + 1) text)))
+          first
           ∙ digit_read 0 text from inside digit;
       others = none.1 ∙ r.others ∙ after_passed is_ascii_digit text from inside digit;
       small = omega (arith, r.small);
@@ -189,7 +191,8 @@ pub line_begins_at : (text : List ℕ) (from : ℕ) → from + 1 < length text �
 line_begins_at text from inside e more =
     let here = drop_more text from 0 (omega arith) in
     let next = drop_more text (from + 1) 0 inside in
-    let both : drop from text ≡ get_or text from 0 ∷ get_or text (from + 1) 0 ∷ drop (from + 1 + 1) text =
+    let both : drop from text
+    ≡ get_or text from 0 ∷ get_or text (from + 1) 0 ∷ drop (from + 1 + 1) text =
     here ∙ ap (λ (t : List ℕ). get_or text from 0 ∷ t) next in
     let l = line_begins (get_or text from 0 ∷ get_or text (from + 1) 0 ∷ drop (from + 1 + 1) text)
     (omega arith) e more in

@@ -1,5 +1,5 @@
 -- A data line as a list of numbers.
-use Rattle.std.specs.Prelude.{◌≡◌, ℕ, ◌<◌, ◌^◌, Bool, true, false, List, [], ◌∷◌, ◌++◌, Option}
+use Rattle.std.specs.Prelude.{◌≡◌, ℕ, ◌<◌, ◌^◌, Bool, true, false, List, [], ◌∷◌, Option}
 use Rattle.std.specs.Prelude.{IsTrue}
 use Rattle.std.specs.Option.{SomeIff}
 use Rattle.std.specs.Str.Parse.{digits_value, without_leading_sign}
@@ -70,14 +70,6 @@ AreNumbers (Four a b c d) = IsNumber a × IsNumber b × IsNumber c × IsNumber d
 -- the first line of a text is this data line, and this is the text from its end on
 pub record IsLine (text : List ℕ) (line : Line) (rest : List ℕ) : Type 0 where
   pub words : line_words text ≡ words_in line
-  pub is : is_entry (words_in line) ≡ true
-  pub numbers : AreNumbers line
-  pub after_line : rest ≡ after is_within_line text
-
--- these words and the first line of a text are this data line, and this is the text from its end on
-pub record IsLineAfter (before : List (List ℕ)) (text : List ℕ) (line : Line) (rest : List ℕ) : Type
-    0 where
-  pub words : before ++ line_words text ≡ words_in line
   pub is : is_entry (words_in line) ≡ true
   pub numbers : AreNumbers line
   pub after_line : rest ≡ after is_within_line text

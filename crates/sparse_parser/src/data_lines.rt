@@ -1,6 +1,7 @@
 //! Data lines.
 
-ghost use Rattle.std.specs.Prelude.{◌≡◌, pos, ◌+◌, ◌≤ℤ◌, ◌<ℤ◌, ◌≤◌, if◌then◌else◌, IsTrue, false, true, [], ◌∷◌, MatchOption, length};
+ghost use Rattle.std.specs.Prelude.{◌≡◌, pos, ◌+◌, ◌≤ℤ◌, ◌<ℤ◌, ◌≤◌, if◌then◌else◌, IsTrue, false};
+ghost use Rattle.std.specs.Prelude.{true, MatchOption, length};
 ghost use Rattle.std.specs.Str.Parse.{starts_with_minus, without_leading_sign};
 ghost use lib.IntN.{neg_ℤ};
 ghost use Rattle.sparse_parser.specs.declared.data_lines.Found.TheVariants as found;
@@ -9,7 +10,8 @@ ghost use Rattle.sparse_parser.specs.InnerBytes.{is_solid};
 ghost use Rattle.sparse_parser.specs.Grammar.{is_integer, is_number, is_entry};
 ghost use Rattle.sparse_parser.specs.Meaning.{integer_of, number_of};
 ghost use Rattle.sparse_parser.specs.InnerReading.{found as found_read, found_number, line_words};
-ghost use Rattle.sparse_parser.specs.InnerLines.{is_plain, WriteNumber, IsNumber, IsFound, IsLine, IsLineAfter, StartsWord};
+ghost use Rattle.sparse_parser.specs.InnerLines.{is_plain, WriteNumber, IsNumber, IsFound, IsLine};
+ghost use Rattle.sparse_parser.specs.InnerLines.{StartsWord};
 
 use crate::error::Cause;
 use crate::lines::{after_blanks, ends_line, ends_word, split_solid};
@@ -90,65 +92,37 @@ impl Number<'_> {
 
 /// Parses the first line of a text as a data line. Returns its numbers and the text from the line's end on, or `None` if it is not a
 /// data line.
+#[tactic(auto, unfolding(crate::specs::Grammar::is_entry))]
 #[inline(never)]
 pub fn data_line(text: &[u8]) -> Option<(Line<'_>, &[u8])>
     ensures { MatchOption result (is_entry (line_words text.now) ≡ false)
         (λ found. IsLine text.now found.0 found.1.now) }
 {
-    match next_number(text) {
-        Found::Number(a, rest) => match next_number(rest) {
-            Found::Number(b, rest) => after_two(a, b, rest),
-            Found::End(after) => Some((Line::One(a), after)),
-            Found::Fault => None,
-        },
-        Found::End(_) | Found::Fault => None,
-    }
-}
-
-// The data line of two numbers and the rest of their line.
-#[inline(always)]
-fn after_two<'a>(a: Number<'a>, b: Number<'a>, text: &'a [u8]) -> Option<(Line<'a>, &'a [u8])>
-    requires a { IsNumber a }
-    requires b { IsNumber b }
-    ensures { MatchOption result
-        (is_entry (a.entry.word.now ∷ b.entry.word.now ∷ line_words text.now) ≡ false)
-        (λ found. IsLineAfter (a.entry.word.now ∷ b.entry.word.now ∷ []) text.now found.0
-        found.1.now) }
-{
-    match next_number(text) {
-        Found::Number(c, rest) => after_three(a, b, c, rest),
-        Found::End(after) => Some((Line::Two(a, b), after)),
-        Found::Fault => None,
-    }
-}
-
-// The data line of three numbers and the rest of their line.
-#[inline(always)]
-fn after_three<'a>(
-    a: Number<'a>,
-    b: Number<'a>,
-    c: Number<'a>,
-    text: &'a [u8],
-) -> Option<(Line<'a>, &'a [u8])>
-    requires a { IsNumber a }
-    requires b { IsNumber b }
-    requires c { IsNumber c }
-    ensures { MatchOption result
-        (is_entry (a.entry.word.now ∷ b.entry.word.now ∷ c.entry.word.now ∷ line_words text.now)
-        ≡ false)
-        (λ found. IsLineAfter (a.entry.word.now ∷ b.entry.word.now ∷ c.entry.word.now ∷ [])
-        text.now found.0 found.1.now) }
-{
+    let (a, rest) = match next_number(text) {
+        Found::Number(a, rest) => (a, rest),
+        Found::End(_) | Found::Fault => return None,
+    };
+    let (b, rest) = match next_number(rest) {
+        Found::Number(b, rest) => (b, rest),
+        Found::End(after) => return Some((Line::One(a), after)),
+        Found::Fault => return None,
+    };
+    let (c, rest) = match next_number(rest) {
+        Found::Number(c, rest) => (c, rest),
+        Found::End(after) => return Some((Line::Two(a, b), after)),
+        Found::Fault => return None,
+    };
     if !a.is_index() || !b.is_index() {
         return None;
     }
-    match next_number(text) {
-        Found::Number(d, rest) => match next_number(rest) {
-            Found::End(after) => Some((Line::Four(a, b, c, d), after)),
-            Found::Number(_, _) | Found::Fault => None,
-        },
-        Found::End(after) => Some((Line::Three(a, b, c), after)),
-        Found::Fault => None,
+    let (d, rest) = match next_number(rest) {
+        Found::Number(d, rest) => (d, rest),
+        Found::End(after) => return Some((Line::Three(a, b, c), after)),
+        Found::Fault => return None,
+    };
+    match next_number(rest) {
+        Found::End(after) => Some((Line::Four(a, b, c, d), after)),
+        Found::Number(_, _) | Found::Fault => None,
     }
 }
 

@@ -2,7 +2,11 @@
 
 ghost use Rattle.std.specs.Prelude.{◌≡◌};
 ghost use Rattle.std.specs.IoError.{error_kind};
-ghost use Rattle.sparse_parser.specs.declared.error.MatrixMarketErrorKind.TheVariants.{ParsingError, TypeMismatch, SparseFormatError, IOError, OutOfMemory};
+ghost use Rattle.sparse_parser.specs.declared.error.MatrixMarketErrorKind.TheVariants.{ParsingError};
+ghost use Rattle.sparse_parser.specs.declared.error.MatrixMarketErrorKind.TheVariants.{TypeMismatch};
+ghost use Rattle.sparse_parser.specs.declared.error.MatrixMarketErrorKind.TheVariants.{SparseFormatError};
+ghost use Rattle.sparse_parser.specs.declared.error.MatrixMarketErrorKind.TheVariants.{IOError};
+ghost use Rattle.sparse_parser.specs.declared.error.MatrixMarketErrorKind.TheVariants.{OutOfMemory};
 ghost use Rattle.sparse_parser.specs.Errors.{kind_of, kind_of_cause};
 ghost use Rattle.sparse_parser.specs.ErrorTexts.{kind_name, cause_message, message_of};
 

@@ -5,7 +5,8 @@ ghost use Rattle.sparse_parser.specs.declared.error.MatrixMarketErrorKind.TheVar
 ghost use Rattle.sparse_parser.specs.declared.header.Format.TheVariants.{Coordinate, Array};
 ghost use Rattle.sparse_parser.specs.Errors.{kind_of_cause};
 ghost use Rattle.sparse_parser.specs.InnerReading.{words_of};
-ghost use Rattle.sparse_parser.specs.Header.{says, format_of, field_of, symmetry_of, fields_of, header_of, is_allowed};
+ghost use Rattle.sparse_parser.specs.Header.{says, format_of, field_of, symmetry_of, fields_of};
+ghost use Rattle.sparse_parser.specs.Header.{header_of, is_allowed};
 
 use crate::error::Cause;
 use crate::lines::next_word;

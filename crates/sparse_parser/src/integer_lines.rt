@@ -2,20 +2,21 @@
 //!
 //! The lines are read by positions in one text, which takes half as many instructions as a slice for each number.
 
-ghost use Rattle.std.specs.Prelude.{◌≡◌, ◌≢◌, ◌≤◌, pos, true, if◌then◌else◌, MatchOption, length, drop};
+ghost use Rattle.std.specs.Prelude.{◌≡◌, ◌≢◌, ◌≤◌, pos, true, if◌then◌else◌, MatchOption, length};
+ghost use Rattle.std.specs.Prelude.{drop};
 ghost use Rattle.std.specs.Str.Parse.{starts_with_minus, without_leading_sign};
 ghost use lib.IntN.{neg_ℤ};
 ghost use Rattle.sparse_parser.specs.Bytes.{is_blank, after};
 ghost use Rattle.sparse_parser.specs.InnerBytes.{BeginsLine};
 ghost use Rattle.sparse_parser.specs.InnerLines.{ends_word};
-ghost use Rattle.sparse_parser.specs.InnerIntegers.{IsIndexAt, IsEndAt, IsLastIndex, IsLastNumber, IsIntegerLine, IsPlaceLine, IsValueLine};
+ghost use Rattle.sparse_parser.specs.InnerIntegers.{IsIndexAt, IsEndAt, IsLastIndex, IsLastNumber};
+ghost use Rattle.sparse_parser.specs.InnerIntegers.{IsIntegerLine, IsPlaceLine, IsValueLine};
 
 use crate::digit_runs::{digits_at, long_digits_at};
 use crate::lines::{ends_line, ends_word, is_blank, text_from};
 
 /// Parses the line at a position as two indices and an integer. Returns the row, the column, the value and the position of the line's end,
 /// or `None` if the line has another form.
-#[tactic(auto, using(crate::proofs::IntegerLaws::integer_line_is))]
 #[inline(always)]
 pub fn integer_line(text: &[u8], from: usize) -> Option<(usize, usize, i64, usize)>
     requires { from ≤ length text.now }

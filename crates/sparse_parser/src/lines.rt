@@ -2,7 +2,8 @@
 
 ghost use Rattle.std.specs.Prelude.{◌≡◌, ◌≤◌, ◌-◌, ℕ, Bool, [], ◌∷◌, length, drop, MatchOption};
 ghost use Rattle.sparse_parser.specs.Bytes.{is_blank, is_line_end, front, after};
-ghost use Rattle.sparse_parser.specs.InnerBytes.{is_space, is_within_line, is_within_word, is_solid, Decides, BeginsLine};
+ghost use Rattle.sparse_parser.specs.InnerBytes.{is_space, is_within_line, is_within_word};
+ghost use Rattle.sparse_parser.specs.InnerBytes.{is_solid, Decides, BeginsLine};
 ghost use Rattle.sparse_parser.specs.InnerReading.{words_of, contents_of, ends_line};
 ghost use Rattle.sparse_parser.specs.InnerLines.{ends_word};
 

@@ -4,9 +4,11 @@ ghost use Rattle.std.specs.Prelude.{◌≡◌, ◌<◌, ◌+◌, ◌*◌, ◌^�
 ghost use Rattle.std.specs.Option.{SomeIff};
 ghost use Rattle.std.specs.List.{list_all, list_any};
 ghost use Rattle.std.specs.Char.{is_ascii_digit};
-ghost use Rattle.std.specs.Str.Parse.{without_leading_sign, digits_value, digits_value_after, signed_digits_value};
+ghost use Rattle.std.specs.Str.Parse.{without_leading_sign, digits_value, digits_value_after};
+ghost use Rattle.std.specs.Str.Parse.{signed_digits_value};
 ghost use Rattle.std.specs.Int.{w128};
-ghost use Rattle.sparse_parser.specs.Grammar.{is_index, is_integer, is_mantissa, is_exponent, is_number};
+ghost use Rattle.sparse_parser.specs.Grammar.{is_index, is_integer, is_mantissa, is_exponent};
+ghost use Rattle.sparse_parser.specs.Grammar.{is_number};
 ghost use Rattle.sparse_parser.specs.Bytes.{front, after, is_exponent_letter, is_point};
 ghost use Rattle.sparse_parser.specs.InnerNumbers.{IsNumberRead, HasStopped};
 

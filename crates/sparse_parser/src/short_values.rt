@@ -1,6 +1,7 @@
 //! The values of an array that have few digits.
 
-ghost use Rattle.std.specs.Prelude.{◌≡◌, ◌≤◌, ◌<◌, ◌-◌, pos, if◌then◌else◌, MatchOption, length, drop};
+ghost use Rattle.std.specs.Prelude.{◌≡◌, ◌≤◌, ◌<◌, ◌-◌, pos, if◌then◌else◌, MatchOption, length};
+ghost use Rattle.std.specs.Prelude.{drop};
 ghost use lib.IntN.{neg_ℤ};
 ghost use Rattle.sparse_parser.specs.InnerBytes.{BeginsLine};
 ghost use Rattle.sparse_parser.specs.InnerIntegers.{IsValueLine};

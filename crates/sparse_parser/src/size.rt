@@ -1,10 +1,14 @@
 //! The size line.
 
-ghost use Rattle.std.specs.Prelude.{◌≡◌, [], ◌∷◌, ◌<◌, ◌^◌, IsTrue, MatchOption, None, Some, false, true};
+ghost use Rattle.std.specs.Prelude.{◌≡◌, [], ◌∷◌, ◌<◌, ◌^◌, IsTrue, MatchOption, None, Some, false};
+ghost use Rattle.std.specs.Prelude.{true};
 ghost use Rattle.std.specs.Option.{option_map, SomeIff};
+ghost use Rattle.sparse_parser.specs.declared.header.Format.TheVariants.{Coordinate, Array};
+ghost use Rattle.sparse_parser.specs.declared.header.Symmetry.TheVariants.{General};
 ghost use Rattle.sparse_parser.specs.Grammar.{is_index, is_size};
 ghost use Rattle.sparse_parser.specs.ArrayPlaces.{array_count};
-ghost use Rattle.sparse_parser.specs.Meaning.{number_of, numbers_of_size, sizes_of, is_fitting, within_usize};
+ghost use Rattle.sparse_parser.specs.Meaning.{number_of, numbers_of_size, sizes_of, is_fitting};
+ghost use Rattle.sparse_parser.specs.Meaning.{within_usize};
 ghost use Rattle.sparse_parser.specs.InnerReading.{found, words_of, size_numbers, size_at};
 ghost use Rattle.sparse_parser.specs.InnerSize.{size_words, AreIndices};
 
@@ -64,19 +68,45 @@ impl Size {
         ensures { size_numbers result ≡ numbers_of_size format symmetry (size_words words.entry) }
     {
         match (format, words.count) {
-            (Format::Coordinate, Some(count)) => {
-                let rows = number(words.rows)?;
-                let cols = number(words.cols)?;
-                let count = Some(number(count)?);
-                Ok(Size { rows, cols, count })
-            }
-            (Format::Array, None) => {
-                let rows = number(words.rows)?;
-                let cols = number(words.cols)?;
-                let count = array_count(symmetry, rows, cols);
-                Ok(Size { rows, cols, count })
-            }
+            (Format::Coordinate, Some(count)) => Size::coordinate(words.rows, words.cols, count),
+            (Format::Array, None) => Size::array(symmetry, words.rows, words.cols),
             (Format::Coordinate, None) | (Format::Array, Some(_)) => Err(Cause::SizeCount),
+        }
+    }
+
+    // The numbers of a matrix in the coordinate format, if they fit in `usize`.
+    #[tactic(auto, unfolding(crate::specs::Meaning::numbers_of_size))]
+    fn coordinate(rows: &[u8], cols: &[u8], count: &[u8]) -> Result<Size, Cause>
+        requires rows { IsTrue (is_index rows.now) }
+        requires cols { IsTrue (is_index cols.now) }
+        requires count { IsTrue (is_index count.now) }
+        ensures { size_numbers result
+            ≡ numbers_of_size Coordinate General (rows.now ∷ cols.now ∷ count.now ∷ []) }
+    {
+        match (number(rows), number(cols), number(count)) {
+            (Ok(rows), Ok(cols), Ok(count)) => Ok(Size {
+                rows,
+                cols,
+                count: Some(count),
+            }),
+            (Err(cause), _, _) | (_, Err(cause), _) | (_, _, Err(cause)) => Err(cause),
+        }
+    }
+
+    // The numbers of a matrix in the array format, if they fit in `usize`.
+    #[tactic(auto, unfolding(crate::specs::Meaning::numbers_of_size))]
+    fn array(symmetry: Symmetry, rows: &[u8], cols: &[u8]) -> Result<Size, Cause>
+        requires rows { IsTrue (is_index rows.now) }
+        requires cols { IsTrue (is_index cols.now) }
+        ensures { size_numbers result ≡ numbers_of_size Array symmetry (rows.now ∷ cols.now ∷ []) }
+    {
+        match (number(rows), number(cols)) {
+            (Ok(rows), Ok(cols)) => Ok(Size {
+                rows,
+                cols,
+                count: array_count(symmetry, rows, cols),
+            }),
+            (Err(cause), _) | (_, Err(cause)) => Err(cause),
         }
     }
 }

@@ -1,7 +1,9 @@
 //! Sparsity patterns of CSR and CSC matrices.
 
-ghost use Rattle.std.specs.Prelude.{◌≡◌, ◌<◌, ◌↔◌, length, IfOk, IfErr, IfSome, IsOk, IsSome, IsTrue, OnOk};
-ghost use Rattle.sparse_pattern.specs.Raw.{IsValid, IsValidLane, raw_of, empty_raw, lane_of, start_of, end_of, raw_eq, HasSamePlaces};
+ghost use Rattle.std.specs.Prelude.{◌≡◌, ◌<◌, ◌↔◌, length, IfOk, IfErr, IfSome, IsOk, IsSome};
+ghost use Rattle.std.specs.Prelude.{IsTrue, OnOk};
+ghost use Rattle.sparse_pattern.specs.Raw.{IsValid, IsValidLane, raw_of, empty_raw, lane_of};
+ghost use Rattle.sparse_pattern.specs.Raw.{start_of, end_of, raw_eq, HasSamePlaces};
 ghost use Rattle.sparse_pattern.specs.PatternFaults.{IsFirstFault};
 
 use std::alloc::{AllocError, Global};

@@ -1,6 +1,7 @@
 //! Columns of a lower triangle.
 
-ghost use Rattle.std.specs.Prelude.{◌≡◌, ◌<◌, ◌↔◌, Contains, IfNone, IfSome, IsTrue, MatchOption, length, slice_index};
+ghost use Rattle.std.specs.Prelude.{◌≡◌, ◌<◌, ◌↔◌, Contains, IfNone, IfSome, IsTrue, MatchOption};
+ghost use Rattle.std.specs.Prelude.{length, slice_index};
 ghost use Rattle.sparse_cs.specs.PlainOfLanes.{plain_of_cols};
 ghost use Rattle.sparse_solve.specs.Solutions.{HasPivot};
 ghost use Rattle.sparse_solve.specs.InnerColumns.{BeginsWithOne, IsColumnIn};

@@ -3,7 +3,8 @@
 ghost use Rattle.std.specs.Prelude.{◌≡◌, ◌<◌, All, length, slice_range};
 ghost use Rattle.sparse_cs.specs.PlainOfLanes.{plain_of_cols};
 ghost use Rattle.sparse_cs.specs.InnerRows.{lane_value};
-ghost use Rattle.sparse_solve.specs.InnerColumns.{BeginWithOnes, HasPivots, HasRange, SolvesList, TakesAnswer, lower};
+ghost use Rattle.sparse_solve.specs.InnerColumns.{BeginWithOnes, HasPivots, HasRange, SolvesList};
+ghost use Rattle.sparse_solve.specs.InnerColumns.{TakesAnswer, lower};
 
 use crate::column::{Column, column_after_one, column_below};
 use crate::kernels::{divide_entry, take_off, take_off_four};

@@ -3,7 +3,9 @@
 ghost use Rattle.std.specs.Prelude.{◌≡◌, ℕ, ◌+◌, ◌*◌, ◌<◌, ◌≤◌, length, slice_index_or};
 ghost use Rattle.sparse_op.specs.Operands.{inner_of};
 ghost use Rattle.sparse_cs.specs.PlainOfLanes.{plain_of_cols};
-ghost use Rattle.sparse_solve.specs.InnerColumns.{BeginWithOnes, ChangesBlock, HasPivots, SolvesColumn, SolvesColumns, SolvesList, lower, op_lower};
+ghost use Rattle.sparse_solve.specs.InnerColumns.{BeginWithOnes, ChangesBlock, HasPivots};
+ghost use Rattle.sparse_solve.specs.InnerColumns.{SolvesColumn, SolvesColumns, SolvesList, lower};
+ghost use Rattle.sparse_solve.specs.InnerColumns.{op_lower};
 
 use crate::backward::{solve_backward, solve_four_backward};
 use crate::forward::{solve_forward, solve_four_after_ones, solve_four_forward};

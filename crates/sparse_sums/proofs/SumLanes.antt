@@ -70,6 +70,22 @@ module _ (R : CommRing) {T : Type 0} (f : T → R.Carrier) (negate : Bool) (a b 
   IsSumBelow n offsets indices values = IsBuiltMatrix R f a.pattern.minor_dim
       (IsEither a.pattern b.pattern) signed_sum.value n offsets indices values
 
+  -- no lanes have no places
+  pub none_summed : IsSumBelow 0 (0 ∷ []) [] []
+  none_summed = record {
+    built = record {
+      valid = record {
+        count = refl;
+        first = refl;
+        last = refl;
+        lanes = λ i lt. absurd (omega arith);
+      };
+      places = λ i j lt. absurd (omega arith);
+    };
+    count = refl;
+    values_are = λ i j lt. absurd (omega arith);
+  }
+
 module _ (R : CommRing) {T : Type 0} (f : T → R.Carrier) (z : T) (negate : Bool)
     (a b : Compressed T) (sa : IsSound a) (sb : IsSound b)
     (lanes : a.pattern.major_dim ≡ b.pattern.major_dim)

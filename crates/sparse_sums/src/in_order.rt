@@ -1,7 +1,8 @@
 //! A sum into a given matrix, lane after lane: both lanes are in order, so one pass over the
 //! target's finds each place of the operand's.
 
-ghost use Rattle.std.specs.Prelude.{◌≡◌, ℕ, ◌+◌, ◌<◌, ◌≤◌, ◌⊎◌, ◌↔◌, false, IsTrue, length, slice_index, slice_index_or};
+ghost use Rattle.std.specs.Prelude.{◌≡◌, ℕ, ◌+◌, ◌<◌, ◌≤◌, ◌⊎◌, ◌↔◌, false, IsTrue, length};
+ghost use Rattle.std.specs.Prelude.{slice_index, slice_index_or};
 ghost use Rattle.std.specs.List.Sorted.{IsStrictlyIncreasing};
 ghost use Rattle.sparse_cs.specs.Compressed.{IsPosition};
 ghost use Rattle.sparse_cs.specs.InnerRows.{lane_value};

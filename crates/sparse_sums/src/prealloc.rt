@@ -1,6 +1,7 @@
 //! A sum into a given matrix.
 
-ghost use Rattle.std.specs.Prelude.{◌≡◌, ℕ, ◌<◌, ◌↔◌, true, false, IsTrue, IsOk, IfErr, OnOk, OnErr, IfSome, length, slice_index_or};
+ghost use Rattle.std.specs.Prelude.{◌≡◌, ℕ, ◌<◌, ◌↔◌, true, false, IsTrue, IsOk, IfErr, OnOk};
+ghost use Rattle.std.specs.Prelude.{OnErr, IfSome, length, slice_index_or};
 ghost use Rattle.sparse_op.specs.declared.error.OperationErrorKind.TheVariants.{InvalidPattern};
 ghost use Rattle.sparse_pattern.specs.Raw.{IsPlace};
 ghost use Rattle.sparse_cs.specs.Compressed.{IsPosition, IsSound};

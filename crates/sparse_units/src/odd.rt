@@ -5,7 +5,8 @@ ghost use Rattle.std.specs.Int.{w32, w64, w128};
 ghost use Rattle.sparse_algebra.specs.Numbers.{w32_number, w64_number};
 ghost use Rattle.sparse_algebra.specs.Wrapping.{wrapping_ring};
 ghost use Rattle.sparse_units.specs.Inverses.{HasInverse};
-ghost use Rattle.sparse_units.specs.WrappingValues.{w128_number, w32_value, w64_value, w128_value, IsOdd};
+ghost use Rattle.sparse_units.specs.WrappingValues.{w128_number, w32_value, w64_value, w128_value};
+ghost use Rattle.sparse_units.specs.WrappingValues.{IsOdd};
 
 use crate::inverses::Units;
 use crate::newton::approach;

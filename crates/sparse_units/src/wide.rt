@@ -3,7 +3,8 @@
 ghost use Rattle.std.specs.Prelude.{◌≡◌, pos};
 ghost use Rattle.std.specs.Int.{w128};
 ghost use Rattle.std.specs.Int.RustNames.{FitsSigned};
-ghost use Rattle.sparse_algebra.specs.Wrapping.{wrapping_ring, class_of, class_decides, fits_zero, class_of_zero};
+ghost use Rattle.sparse_algebra.specs.Wrapping.{wrapping_ring, class_of, class_decides, fits_zero};
+ghost use Rattle.sparse_algebra.specs.Wrapping.{class_of_zero};
 
 use sparse_algebra::scalar::{Ring, Zero};
 

@@ -20,4 +20,6 @@ mod transposes;
 #[cfg(test)]
 mod triplet_faults;
 #[cfg(test)]
+mod triplet_iterators;
+#[cfg(test)]
 mod triplets;

@@ -3,7 +3,7 @@
 ghost use Rattle.std.specs.Prelude.{◌≡◌, IfOk};
 
 use crate::slices::are_equal;
-use crate::triplets::is_triplet;
+use crate::triplet_iterators::is_triplet;
 use sparse_algebra::scalar::W64;
 use sparse_base::coo::CooMatrix;
 use sparse_base::dense::DMatrix;

@@ -5,3 +5,5 @@
 mod cases;
 #[cfg(test)]
 mod commands;
+#[cfg(test)]
+mod files;

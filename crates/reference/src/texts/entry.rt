@@ -4,7 +4,8 @@ ghost use Rattle.std.specs.Prelude.{◌≡◌, ℕ, true, IsTrue, Option, map};
 ghost use Rattle.sparse_parser.specs.Grammar.{is_index};
 ghost use Rattle.sparse_parser.specs.declared.header.Format.TheVariants.{Coordinate, Array};
 ghost use Rattle.sparse_parser.specs.Reads.{read_as};
-ghost use Rattle.sparse_parser.specs.Meaning.{value_of, entry_of, place_of, number_of, is_of_field, mirrored, triplets_of, value_triplet};
+ghost use Rattle.sparse_parser.specs.Meaning.{value_of, entry_of, place_of, number_of, is_of_field};
+ghost use Rattle.sparse_parser.specs.Meaning.{mirrored, triplets_of, value_triplet};
 ghost use Rattle.reference.specs.Texts.{seen};
 ghost use Rattle.reference.specs.InnerTexts.{texts, both_of};
 

@@ -1,7 +1,8 @@
 //! The header line.
 
 ghost use Rattle.std.specs.Prelude.{◌≡◌, [], ◌∷◌};
-ghost use Rattle.sparse_parser.specs.Header.{says, format_of, field_of, symmetry_of, fields_of, header_of, is_allowed};
+ghost use Rattle.sparse_parser.specs.Header.{says, format_of, field_of, symmetry_of, fields_of};
+ghost use Rattle.sparse_parser.specs.Header.{header_of, is_allowed};
 ghost use Rattle.reference.specs.InnerTexts.{texts};
 
 use crate::texts::lines::first_word;

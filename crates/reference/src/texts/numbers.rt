@@ -5,7 +5,8 @@ ghost use Rattle.std.specs.List.{list_all, list_any};
 ghost use Rattle.std.specs.Char.{is_ascii_digit};
 ghost use Rattle.std.specs.Str.Parse.{without_leading_sign};
 ghost use Rattle.sparse_parser.specs.Bytes.{is_point, is_exponent_letter};
-ghost use Rattle.sparse_parser.specs.Grammar.{is_index, is_integer, is_mantissa, is_exponent, is_number};
+ghost use Rattle.sparse_parser.specs.Grammar.{is_index, is_integer, is_mantissa, is_exponent};
+ghost use Rattle.sparse_parser.specs.Grammar.{is_number};
 ghost use Rattle.sparse_parser.specs.Meaning.{number_of, integer_of};
 
 use sparse_parser::error::MatrixMarketErrorKind;

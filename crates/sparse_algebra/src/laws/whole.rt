@@ -4,9 +4,12 @@ ghost use Rattle.std.specs.Prelude.{◌≡◌, ℕ, Bool, List, ℤ};
 ghost use Rattle.std.specs.Int.{Width, w32, w64};
 ghost use Rattle.std.specs.Int.RustNames.{FitsSigned};
 ghost use Rattle.sparse_algebra.specs.Numbers.{w32_number, w64_number};
-ghost use Rattle.sparse_algebra.specs.Plain.{Plain, plain_of_triplets, plain_sum, plain_negation, plain_difference, plain_scaled, plain_product, plain_transpose, plain_identity, plain_kept};
+ghost use Rattle.sparse_algebra.specs.Plain.{Plain, plain_of_triplets, plain_sum, plain_negation};
+ghost use Rattle.sparse_algebra.specs.Plain.{plain_difference, plain_scaled, plain_product};
+ghost use Rattle.sparse_algebra.specs.Plain.{plain_transpose, plain_identity, plain_kept};
 ghost use Rattle.sparse_algebra.specs.RingMaps.{IsRingMap};
-ghost use Rattle.sparse_algebra.specs.Whole.{whole_ring, wrapped, number_of, plain_wrapped, plain_numbers, Shows};
+ghost use Rattle.sparse_algebra.specs.Whole.{whole_ring, wrapped, number_of, plain_wrapped};
+ghost use Rattle.sparse_algebra.specs.Whole.{plain_numbers, Shows};
 ghost use Rattle.sparse_algebra.specs.Wrapping.{wrapping_ring, class_of};
 
 use crate::scalar::{W32, W64};

@@ -30,7 +30,8 @@ pub struct ColumnAppender<T> {
 impl<T> Model for ColumnAppender<T> {
     ghost use Rattle.std.specs.Prelude.{◌-◌, ◌+◌, ◌++◌, length, vec_len, vec_capacity};
     ghost use Rattle.sparse_base.specs.Coo.{coo_of, zip_triplets, AreParts};
-    ghost use Rattle.sparse_base.specs.Appender.{InColumn, in_column_code, in_column_of, appender_of};
+    ghost use Rattle.sparse_base.specs.Appender.{InColumn, in_column_code, in_column_of};
+    ghost use Rattle.sparse_base.specs.Appender.{appender_of};
     ghost use Rattle.sparse_base.specs.InnerAppender.{HasRoom, IsDownColumn, rows_from, cols_at};
 
     ghost Value = { InColumn T };

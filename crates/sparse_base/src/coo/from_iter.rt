@@ -5,7 +5,8 @@ ghost use Rattle.std.specs.Iterator.{IsFinite};
 ghost use Rattle.std.specs.Iterator.Runs.{WholeRun};
 ghost use Rattle.sparse_base.specs.Coo.{coo_of, IsInside};
 ghost use Rattle.sparse_base.specs.TripletFaults.{IsSomeOutside};
-ghost use Rattle.sparse_pattern.specs.declared.error.SparseFormatErrorKind.TheVariants.{IndexOutOfBounds, OutOfMemory};
+ghost use Rattle.sparse_pattern.specs.declared.error.SparseFormatErrorKind.TheVariants.{IndexOutOfBounds};
+ghost use Rattle.sparse_pattern.specs.declared.error.SparseFormatErrorKind.TheVariants.{OutOfMemory};
 
 use super::CooMatrix;
 use sparse_pattern::error::SparseFormatError;

@@ -1,6 +1,7 @@
 //! Dense blocks as triplets.
 
-ghost use Rattle.std.specs.Prelude.{◌≡◌, ◌+◌, ◌*◌, ◌<◌, ◌≤◌, ◌^◌, ◌⊎◌, ℕ, ◌++◌, length, vec_len, vec_capacity, IsOk, OnOk, OnErr};
+ghost use Rattle.std.specs.Prelude.{◌≡◌, ◌+◌, ◌*◌, ◌<◌, ◌≤◌, ◌^◌, ◌⊎◌, ℕ, ◌++◌, length, vec_len};
+ghost use Rattle.std.specs.Prelude.{vec_capacity, IsOk, OnOk, OnErr};
 ghost use Rattle.sparse_base.specs.Coo.{zip_triplets, appended, AreParts};
 ghost use Rattle.sparse_base.specs.Blocks.{block_triplets, IsEmptyBlock, IsBlockInside};
 

@@ -1,6 +1,7 @@
 //! Conversions from dense matrices. They store the values that are not `==` to zero.
 
-ghost use Rattle.std.specs.Prelude.{◌≡◌, ◌+◌, ◌*◌, ◌<◌, ◌≤◌, ◌^◌, ◌++◌, ℕ, IfOk, OnOk, length, map, not, slice_index_or};
+ghost use Rattle.std.specs.Prelude.{◌≡◌, ◌+◌, ◌*◌, ◌<◌, ◌≤◌, ◌^◌, ◌++◌, ℕ, IfOk, OnOk, length, map};
+ghost use Rattle.std.specs.Prelude.{not, slice_index_or};
 ghost use Rattle.std.specs.List.{filter};
 ghost use Rattle.sparse_base.specs.Coo.{coo_of, appended};
 ghost use Rattle.sparse_base.specs.Dense.{Dense};
@@ -9,7 +10,8 @@ ghost use Rattle.sparse_algebra.specs.Plain.{below};
 ghost use Rattle.sparse_cs.specs.Compressed.{Compressed, IsSound, lane_triplets, turned};
 ghost use Rattle.sparse_base.specs.CooPlain.{plain_of_coo};
 ghost use Rattle.sparse_cs.specs.PlainOfLanes.{plain_of_rows, plain_of_cols};
-ghost use Rattle.sparse_convert.specs.FromDense.{full_lanes, row_triplets, column_triplets, differs_from, IsNonzeroPart};
+ghost use Rattle.sparse_convert.specs.FromDense.{full_lanes, row_triplets, column_triplets};
+ghost use Rattle.sparse_convert.specs.FromDense.{differs_from, IsNonzeroPart};
 
 use sparse_algebra::scalar::{Ring, Zero};
 use sparse_base::coo::CooMatrix;

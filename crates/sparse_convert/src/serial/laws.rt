@@ -5,7 +5,9 @@ ghost use Rattle.sparse_base.specs.Coo.{Coo};
 ghost use Rattle.sparse_cs.specs.Compressed.{Compressed, IsSound, compressed_eq};
 ghost use Rattle.sparse_base.specs.CooPlain.{plain_of_coo};
 ghost use Rattle.sparse_cs.specs.PlainOfLanes.{plain_of_rows, plain_of_cols};
-ghost use Rattle.sparse_convert.specs.OneMatrix.{Representation, Triplets, Rows, Cols, coo_of_rows, coo_of_cols, IsSoundRepresentation, IsReached, MeanOneMatrix};
+ghost use Rattle.sparse_convert.specs.OneMatrix.{Representation, Triplets, Rows, Cols, coo_of_rows};
+ghost use Rattle.sparse_convert.specs.OneMatrix.{coo_of_cols, IsSoundRepresentation, IsReached};
+ghost use Rattle.sparse_convert.specs.OneMatrix.{MeanOneMatrix};
 
 use sparse_algebra::scalar::Ring;
 

@@ -1,14 +1,16 @@
 //! The rows of the factor, found by climbing the elimination tree from chain to chain.
 
-ghost use Rattle.std.specs.Prelude.{◌≡◌, ℕ, ◌+◌, ◌<◌, ◌≤◌, List, [], ◌∷◌, ◌++◌, length, map, replicate, IfOk, OnOk};
-ghost use Rattle.std.specs.Prelude.{slice_index, slice_set, vec_len, vec_capacity};
+ghost use Rattle.std.specs.Prelude.{◌≡◌, ℕ, ◌+◌, ◌<◌, ◌≤◌, List, [], ◌∷◌, ◌++◌, length, map};
+ghost use Rattle.std.specs.Prelude.{replicate, IfOk, OnOk, slice_index, slice_set, vec_len};
+ghost use Rattle.std.specs.Prelude.{vec_capacity};
 ghost use Rattle.sparse_pattern.specs.Raw.{Raw, nnz_of};
 ghost use Rattle.sparse_factor.specs.Fill.{UpperBase, ListsFill};
 ghost use Rattle.sparse_factor.specs.InnerFilled.{Filled};
 ghost use Rattle.sparse_factor.specs.InnerClimbs.{unmarked};
 ghost use Rattle.sparse_factor.specs.InnerRowLists.{AreRows, square_of};
 ghost use Rattle.sparse_factor.specs.InnerChains.{nodes_in, rows_in, AreEntries, AreRowsAbove};
-ghost use Rattle.sparse_factor.specs.InnerEntries.{Climb, climb_of, IsVisited, IsBase, IsClimbed, AreClimbed, IsNextNode};
+ghost use Rattle.sparse_factor.specs.InnerEntries.{Climb, climb_of, IsVisited, IsBase, IsClimbed};
+ghost use Rattle.sparse_factor.specs.InnerEntries.{AreClimbed, IsNextNode};
 
 use sparse_base::steps::Steps;
 use sparse_counting::Count;

@@ -5,7 +5,8 @@ ghost use Rattle.sparse_algebra.specs.Plain.{plain_identity};
 ghost use Rattle.sparse_cs.specs.Compressed.{compressed_of, arrays_of, IsSound};
 ghost use Rattle.sparse_cs.specs.PlainOfLanes.{plain_of_cols};
 ghost use Rattle.sparse_cs.specs.SortedFaults.{IsSortedRefusal, sorted_kind};
-ghost use Rattle.sparse_cs.specs.UnsortedFaults.{NeedsSorting, IsFaultless, IsSortedForm, IsUnsortedRefusal};
+ghost use Rattle.sparse_cs.specs.UnsortedFaults.{NeedsSorting, IsFaultless, IsSortedForm};
+ghost use Rattle.sparse_cs.specs.UnsortedFaults.{IsUnsortedRefusal};
 
 use super::CscMatrix;
 use sparse_algebra::scalar::Ring;

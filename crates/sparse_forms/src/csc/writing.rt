@@ -6,9 +6,11 @@ ghost use Rattle.sparse_cs.specs.Compressed.{IsSound, lane_triplets, turned};
 ghost use Rattle.sparse_cs.specs.StoredEntries.{IsInBounds};
 ghost use Rattle.sparse_cs.specs.Lanes.{lane_at, lanes_of};
 ghost use Rattle.sparse_cs.specs.Writing.{IsFoundAt, IsEntryMutAt, IsEntryMutOf};
-ghost use Rattle.sparse_forms.specs.CscWriting.{LendsValues, LendsCol, LendsColIf, LendsEntry, LendsIndexed};
+ghost use Rattle.sparse_forms.specs.CscWriting.{LendsValues, LendsCol, LendsColIf, LendsEntry};
+ghost use Rattle.sparse_forms.specs.CscWriting.{LendsIndexed};
 ghost use Rattle.sparse_forms.specs.InnerCscWriting.{LendsCoreIf, LendsFound};
-ghost use Rattle.sparse_lanes.specs.ColWriting.{lent_col, col_values, all_col_values, cols_left, csc_triplet_values, csc_triplets_left};
+ghost use Rattle.sparse_lanes.specs.ColWriting.{lent_col, col_values, all_col_values, cols_left};
+ghost use Rattle.sparse_lanes.specs.ColWriting.{csc_triplet_values, csc_triplets_left};
 
 use super::CscMatrix;
 use sparse_cs::CsMatrix;

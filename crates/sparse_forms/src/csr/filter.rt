@@ -3,7 +3,8 @@
 ghost use Rattle.std.specs.Prelude.{◌≡◌, ℕ, Bool, IfOk};
 ghost use Rattle.std.specs.List.{filter};
 ghost use Rattle.sparse_cs.specs.Compressed.{IsSound, lane_triplets};
-ghost use Rattle.sparse_cs.specs.Filter.{Answers, AnswersAs, HasSizesOf, IsKept, is_upper, is_lower, is_diagonal};
+ghost use Rattle.sparse_cs.specs.Filter.{Answers, AnswersAs, HasSizesOf, IsKept, is_upper};
+ghost use Rattle.sparse_cs.specs.Filter.{is_lower, is_diagonal};
 
 use super::CsrMatrix;
 use std::alloc::{AllocError, Global};

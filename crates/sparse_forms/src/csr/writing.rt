@@ -6,9 +6,11 @@ ghost use Rattle.sparse_cs.specs.Compressed.{IsSound, lane_triplets};
 ghost use Rattle.sparse_cs.specs.StoredEntries.{IsInBounds};
 ghost use Rattle.sparse_cs.specs.Lanes.{lane_at, lanes_of};
 ghost use Rattle.sparse_cs.specs.Writing.{IsFoundAt, IsEntryMutAt, IsEntryMutOf};
-ghost use Rattle.sparse_forms.specs.CsrWriting.{LendsValues, LendsRow, LendsRowIf, LendsEntry, LendsIndexed};
+ghost use Rattle.sparse_forms.specs.CsrWriting.{LendsValues, LendsRow, LendsRowIf, LendsEntry};
+ghost use Rattle.sparse_forms.specs.CsrWriting.{LendsIndexed};
 ghost use Rattle.sparse_forms.specs.InnerCsrWriting.{LendsCoreIf, LendsFound};
-ghost use Rattle.sparse_lanes.specs.RowWriting.{lent_row, row_values, all_row_values, rows_left, csr_triplet_values, csr_triplets_left};
+ghost use Rattle.sparse_lanes.specs.RowWriting.{lent_row, row_values, all_row_values, rows_left};
+ghost use Rattle.sparse_lanes.specs.RowWriting.{csr_triplet_values, csr_triplets_left};
 
 use super::CsrMatrix;
 use sparse_cs::CsMatrix;

@@ -5,7 +5,8 @@ ghost use Rattle.sparse_parser.specs.declared.header.Format.TheVariants.{Coordin
 ghost use Rattle.sparse_parser.specs.declared.header.Field.TheVariants.{Integer};
 ghost use Rattle.sparse_parser.specs.Errors.{kind_of_cause};
 ghost use Rattle.sparse_parser.specs.Reads.{read_as};
-ghost use Rattle.sparse_parser.specs.Meaning.{number_of, place_of, value_of, placed, entry_of, mirrored, triplets_of, value_triplet};
+ghost use Rattle.sparse_parser.specs.Meaning.{number_of, place_of, value_of, placed, entry_of};
+ghost use Rattle.sparse_parser.specs.Meaning.{mirrored, triplets_of, value_triplet};
 ghost use Rattle.sparse_parser.specs.InnerReading.{found};
 ghost use Rattle.sparse_parser.specs.InnerLines.{is_plain, IsNumber, AreNumbers, words_in};
 ghost use Rattle.sparse_io.specs.InnerEntries.{both_of, triplets_at};

@@ -120,7 +120,8 @@ fn transposed_product<T: Ring>(
 ) -> Result<CscMatrix<T>, AllocError>
     requires { a.now.pattern.major_dim ≡ b.now.pattern.minor_dim }
     ensures { IfOk result (λ m. plain_of_cols T.ring T.value m ≡ plain_transpose T.ring
-        (plain_product T.ring (plain_of_cols T.ring T.value a.now) (plain_of_cols T.ring T.value b.now))) }
+        (plain_product T.ring (plain_of_cols T.ring T.value a.now)
+        (plain_of_cols T.ring T.value b.now))) }
 {
     let product = mul_csc(alloc, a, b)?;
     transposed_csc(alloc, &product)
@@ -154,7 +155,8 @@ fn product_with_sum<T: Ring>(
     requires cols { b.now.pattern.major_dim ≡ c.now.pattern.major_dim }
     ensures { IfOk result (λ m. plain_of_cols T.ring T.value m
         ≡ plain_product T.ring (plain_of_cols T.ring T.value a.now)
-        (plain_sum T.ring (plain_of_cols T.ring T.value b.now) (plain_of_cols T.ring T.value c.now))) }
+        (plain_sum T.ring (plain_of_cols T.ring T.value b.now)
+        (plain_of_cols T.ring T.value c.now))) }
 {
     let sum = add_csc(alloc, b, c)?;
     mul_csc(alloc, a, &sum)
@@ -192,8 +194,10 @@ fn sum_of_products<T: Ring>(
     requires rows { a.now.pattern.minor_dim ≡ c.now.pattern.minor_dim }
     requires cols { b.now.pattern.major_dim ≡ d.now.pattern.major_dim }
     ensures { IfOk result (λ m. plain_of_cols T.ring T.value m ≡ plain_sum T.ring
-        (plain_product T.ring (plain_of_cols T.ring T.value a.now) (plain_of_cols T.ring T.value b.now))
-        (plain_product T.ring (plain_of_cols T.ring T.value c.now) (plain_of_cols T.ring T.value d.now))) }
+        (plain_product T.ring (plain_of_cols T.ring T.value a.now)
+        (plain_of_cols T.ring T.value b.now))
+        (plain_product T.ring (plain_of_cols T.ring T.value c.now)
+        (plain_of_cols T.ring T.value d.now))) }
 {
     let first = mul_csc(alloc, a, b)?;
     let second = mul_csc(alloc, c, d)?;

@@ -7,6 +7,7 @@ ghost use Rattle.sparse_cs.specs.PlainOfLanes.{plain_of_rows, plain_of_cols};
 ghost use Rattle.sparse_ops.specs.InnerFactors.{matrix_of};
 
 use sparse_algebra::scalar::Ring;
+use sparse_cs::CsMatrix;
 use sparse_forms::csc::CscMatrix;
 use sparse_forms::csr::CsrMatrix;
 use sparse_op::Op;
@@ -35,15 +36,19 @@ impl<'a, M> Factor<'a, M> {
 pub(super) fn csr_factor<T: Ring>(
     alloc: Global,
     operand: Op<&CsrMatrix<T>>,
-) -> Result<Factor<'_, CsrMatrix<T>>, AllocError>
+) -> Result<Factor<'_, CsMatrix<T>>, AllocError>
     ensures plain { IfOk result (λ x. plain_of_rows T.ring T.value (matrix_of x)
         ≡ plain_op T.ring (λ m. plain_of_rows T.ring T.value m.now) operand.entry) }
     ensures given { IfOk result (λ x. MatchOp operand.entry (λ m. matrix_of x ≡ m.now) (λ _. ⊤)) }
     ensures free { MatchOp operand.entry (λ _. IsOk result) (λ _. ⊤) }
 {
     match operand {
-        Op::NoOp(matrix) => Ok(Factor::Given(matrix)),
-        Op::Transpose(matrix) => Ok(Factor::Made(transposed_csr(alloc, matrix)?)),
+        Op::NoOp(rows) => Ok(Factor::Given(rows.cs())),
+        Op::Transpose(rows) => {
+            // The call costs nothing: its contract tells the prover that the matrix is sound.
+            let _ = rows.values();
+            Ok(Factor::Made(rows.cs().transpose(alloc)?))
+        }
     }
 }
 
@@ -51,15 +56,19 @@ pub(super) fn csr_factor<T: Ring>(
 pub(super) fn csc_factor<T: Ring>(
     alloc: Global,
     operand: Op<&CscMatrix<T>>,
-) -> Result<Factor<'_, CscMatrix<T>>, AllocError>
+) -> Result<Factor<'_, CsMatrix<T>>, AllocError>
     ensures plain { IfOk result (λ x. plain_of_cols T.ring T.value (matrix_of x)
         ≡ plain_op T.ring (λ m. plain_of_cols T.ring T.value m.now) operand.entry) }
     ensures given { IfOk result (λ x. MatchOp operand.entry (λ m. matrix_of x ≡ m.now) (λ _. ⊤)) }
     ensures free { MatchOp operand.entry (λ _. IsOk result) (λ _. ⊤) }
 {
     match operand {
-        Op::NoOp(matrix) => Ok(Factor::Given(matrix)),
-        Op::Transpose(matrix) => Ok(Factor::Made(transposed_csc(alloc, matrix)?)),
+        Op::NoOp(cols) => Ok(Factor::Given(cols.cs())),
+        Op::Transpose(cols) => {
+            // The call costs nothing: its contract tells the prover that the matrix is sound.
+            let _ = cols.values();
+            Ok(Factor::Made(cols.cs().transpose(alloc)?))
+        }
     }
 }
 

@@ -2,7 +2,8 @@
 
 ghost use Rattle.std.specs.Prelude.{◌≡◌, ◌⊎◌, IsOk, IfErr, OnOk, OnErr};
 ghost use Rattle.sparse_algebra.specs.Plain.{plain_product};
-ghost use Rattle.sparse_op.specs.declared.error.OperationErrorKind.TheVariants.{InvalidPattern, OutOfMemory};
+ghost use Rattle.sparse_op.specs.declared.error.OperationErrorKind.TheVariants.{InvalidPattern};
+ghost use Rattle.sparse_op.specs.declared.error.OperationErrorKind.TheVariants.{OutOfMemory};
 ghost use Rattle.sparse_op.specs.Operands.{plain_op};
 ghost use Rattle.sparse_op.specs.Prealloc.{plain_update, IsCovered};
 ghost use Rattle.sparse_cs.specs.PlainOfLanes.{plain_of_rows, plain_of_cols};
@@ -59,11 +60,10 @@ pub fn spmm_csr_prealloc<T: Ring>(
 {
     let a = csr_factor(alloc, a)?;
     let b = csr_factor(alloc, b)?;
-    let (first, second) = (a.matrix().cs(), b.matrix().cs());
     // The call costs nothing: its contract tells the prover that the matrix is sound.
     let _ = c.values();
     let (pattern, values) = c.pattern_and_values_mut();
-    update_matrix_checked(beta, pattern, values, alpha, first, second)
+    update_matrix_checked(beta, pattern, values, alpha, a, b)
 }
 
 /// Replaces `c` by `beta * c + alpha * op(a) * op(b)` on the places of `c`.
@@ -109,9 +109,8 @@ pub fn spmm_csc_prealloc<T: Ring>(
 {
     let a = csc_factor(alloc, a)?;
     let b = csc_factor(alloc, b)?;
-    let (first, second) = (b.matrix().cs(), a.matrix().cs());
     // The call costs nothing: its contract tells the prover that the matrix is sound.
     let _ = c.values();
     let (pattern, values) = c.pattern_and_values_mut();
-    update_matrix_checked(beta, pattern, values, alpha, first, second)
+    update_matrix_checked(beta, pattern, values, alpha, b, a)
 }

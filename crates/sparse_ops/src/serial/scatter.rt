@@ -1,6 +1,7 @@
 //! A product that is added to the values of a pattern, through a scratch row.
 
-ghost use Rattle.std.specs.Prelude.{◌≡◌, ℕ, ◌<◌, ◌+◌, ◌⊎◌, length, slice_index, slice_index_or, All, Contains, IfOk, OnErr, OnOk, vec_len};
+ghost use Rattle.std.specs.Prelude.{◌≡◌, ℕ, ◌<◌, ◌+◌, ◌⊎◌, length, slice_index, slice_index_or};
+ghost use Rattle.std.specs.Prelude.{All, Contains, IfOk, OnErr, OnOk, vec_len};
 ghost use Rattle.std.specs.List.Sorted.{IsStrictlyIncreasing};
 ghost use Rattle.sparse_algebra.specs.Plain.{plain_product};
 ghost use Rattle.sparse_pattern.specs.Raw.{IsInLane, IsPlace, nnz_of, start_of, end_of, lane_of};

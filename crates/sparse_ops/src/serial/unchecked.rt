@@ -115,11 +115,10 @@ pub fn spmm_csr_prealloc_unchecked_counted<T: Ring>(
 {
     let a = csr_factor(alloc, a)?;
     let b = csr_factor(alloc, b)?;
-    let (first, second) = (a.matrix().cs(), b.matrix().cs());
     // The call costs nothing: its contract tells the prover that the matrix is sound.
     let _ = c.values();
     let (pattern, values) = c.pattern_and_values_mut();
-    update_matrix(alloc, beta, pattern, values, alpha, first, second, steps)?;
+    update_matrix(alloc, beta, pattern, values, alpha, a, b, steps)?;
     Ok(())
 }
 
@@ -159,19 +158,9 @@ pub fn spmm_csc_prealloc_unchecked<T: Ring>(
 {
     let a = csc_factor(alloc, a)?;
     let b = csc_factor(alloc, b)?;
-    let (first, second) = (b.matrix().cs(), a.matrix().cs());
     // The call costs nothing: its contract tells the prover that the matrix is sound.
     let _ = c.values();
     let (pattern, values) = c.pattern_and_values_mut();
-    update_matrix(
-        alloc,
-        beta,
-        pattern,
-        values,
-        alpha,
-        first,
-        second,
-        &mut Steps::new(),
-    )?;
+    update_matrix(alloc, beta, pattern, values, alpha, b, a, &mut Steps::new())?;
     Ok(())
 }

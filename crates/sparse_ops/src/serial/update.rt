@@ -7,9 +7,11 @@ ghost use Rattle.sparse_op.specs.Prealloc.{plain_update, IsCovered};
 ghost use Rattle.sparse_pattern.specs.Raw.{nnz_of};
 ghost use Rattle.sparse_cs.specs.Compressed.{compressed_of};
 ghost use Rattle.sparse_cs.specs.PlainOfLanes.{plain_of_rows};
+ghost use Rattle.sparse_ops.specs.InnerFactors.{matrix_of};
 ghost use Rattle.sparse_ops.specs.InnerUpdates.{HasProductPlaces, AreUpdated};
 ghost use Rattle.sparse_ops.specs.ScalarProducts.{triples_of};
 
+use super::factor::Factor;
 use super::scatter::scatter_rows;
 use super::search::{covers_product, search_rows};
 use sparse_algebra::scalar::Ring;
@@ -26,15 +28,15 @@ pub(super) fn update_matrix_checked<T: Ring>(
     pattern: &SparsityPattern,
     values: &mut [T],
     alpha: T,
-    a: &CsMatrix<T>,
-    b: &CsMatrix<T>,
+    a: Factor<'_, CsMatrix<T>>,
+    b: Factor<'_, CsMatrix<T>>,
 ) -> Result<(), OperationError>
     requires count { length values.old ≡ length pattern.now.indices }
-    requires inner { a.now.pattern.minor_dim ≡ b.now.pattern.major_dim }
-    requires lanes { a.now.pattern.major_dim ≡ pattern.now.major_dim }
+    requires inner { (matrix_of a).pattern.minor_dim ≡ (matrix_of b).pattern.major_dim }
+    requires lanes { (matrix_of a).pattern.major_dim ≡ pattern.now.major_dim }
     ensures covered { IsOk result ↔ IsCovered
-        (plain_product T.ring (plain_of_rows T.ring T.value a.now)
-        (plain_of_rows T.ring T.value b.now))
+        (plain_product T.ring (plain_of_rows T.ring T.value (matrix_of a.entry))
+        (plain_of_rows T.ring T.value (matrix_of b.entry)))
         (plain_of_rows T.ring T.value (compressed_of pattern.now values.old)) }
     ensures kind { IfErr result (λ e. e ≡ InvalidPattern) }
     ensures unchanged { OnErr result (values.new ≡ values.old) }
@@ -42,15 +44,16 @@ pub(super) fn update_matrix_checked<T: Ring>(
         (plain_of_rows T.ring T.value (compressed_of pattern.now values.new)
         ≡ plain_update T.ring (T.value beta)
         (plain_of_rows T.ring T.value (compressed_of pattern.now values.old)) (T.value alpha)
-        (plain_product T.ring (plain_of_rows T.ring T.value a.now)
-        (plain_of_rows T.ring T.value b.now))) }
+        (plain_product T.ring (plain_of_rows T.ring T.value (matrix_of a.entry))
+        (plain_of_rows T.ring T.value (matrix_of b.entry)))) }
 {
+    let (first, second) = (a.matrix(), b.matrix());
     // The calls cost nothing: they tell the prover that the arrays are sound, and what the plain matrices are.
     stands_law::<T>();
     let _ = pattern.major_offsets();
-    let _ = a.values();
-    let _ = b.values();
-    update_checked(beta, pattern, values, alpha, a, b)
+    let _ = first.values();
+    let _ = second.values();
+    update_checked(beta, pattern, values, alpha, first, second)
 }
 
 // Replaces each value `c` by `beta * c + alpha * x`, where `x` is the entry of the product `a * b` at its place, or refuses before any value
@@ -89,36 +92,38 @@ pub(super) fn update_matrix<T: Ring>(
     pattern: &SparsityPattern,
     values: &mut [T],
     alpha: T,
-    a: &CsMatrix<T>,
-    b: &CsMatrix<T>,
+    a: Factor<'_, CsMatrix<T>>,
+    b: Factor<'_, CsMatrix<T>>,
     steps: &mut Steps,
 ) -> Result<(), AllocError>
     requires count { length values.old ≡ length pattern.now.indices }
-    requires inner { a.now.pattern.minor_dim ≡ b.now.pattern.major_dim }
-    requires lanes { a.now.pattern.major_dim ≡ pattern.now.major_dim }
-    requires width { b.now.pattern.minor_dim ≡ pattern.now.minor_dim }
+    requires inner { (matrix_of a).pattern.minor_dim ≡ (matrix_of b).pattern.major_dim }
+    requires lanes { (matrix_of a).pattern.major_dim ≡ pattern.now.major_dim }
+    requires width { (matrix_of b).pattern.minor_dim ≡ pattern.now.minor_dim }
     requires covered { IsCovered
-        (plain_product T.ring (plain_of_rows T.ring T.value a.now)
-        (plain_of_rows T.ring T.value b.now))
+        (plain_product T.ring (plain_of_rows T.ring T.value (matrix_of a))
+        (plain_of_rows T.ring T.value (matrix_of b)))
         (plain_of_rows T.ring T.value (compressed_of pattern.now values.old)) }
     ensures unchanged { OnErr result (values.new ≡ values.old) }
     ensures updated { OnOk result
         (plain_of_rows T.ring T.value (compressed_of pattern.now values.new)
         ≡ plain_update T.ring (T.value beta)
         (plain_of_rows T.ring T.value (compressed_of pattern.now values.old)) (T.value alpha)
-        (plain_product T.ring (plain_of_rows T.ring T.value a.now)
-        (plain_of_rows T.ring T.value b.now))) }
-    ensures no_more { steps.new ≤ steps.old + nnz_of a.now.pattern + nnz_of pattern.now
-        + triples_of a.now.pattern b.now.pattern }
-    ensures all_multiplied { OnOk result
-        (steps.old + triples_of a.now.pattern b.now.pattern ≤ steps.new) }
+        (plain_product T.ring (plain_of_rows T.ring T.value (matrix_of a.entry))
+        (plain_of_rows T.ring T.value (matrix_of b.entry)))) }
+    ensures no_more { steps.new
+        ≤ steps.old + nnz_of (matrix_of a.entry).pattern + nnz_of pattern.now
+        + triples_of (matrix_of a.entry).pattern (matrix_of b.entry).pattern }
+    ensures all_multiplied { OnOk result (steps.old
+        + triples_of (matrix_of a.entry).pattern (matrix_of b.entry).pattern ≤ steps.new) }
 {
+    let (first, second) = (a.matrix(), b.matrix());
     // The calls cost nothing: they tell the prover that the arrays are sound, and what the plain matrices are.
     stands_law::<T>();
     let _ = pattern.major_offsets();
-    let _ = a.values();
-    let _ = b.values();
-    update(alloc, beta, pattern, values, alpha, a, b, steps)
+    let _ = first.values();
+    let _ = second.values();
+    update(alloc, beta, pattern, values, alpha, first, second, steps)
 }
 
 // Replaces each value `c` by `beta * c + alpha * x`, where `x` is the entry of the product `a * b` at its place.

@@ -7,11 +7,11 @@ ghost use Rattle.sparse_pattern.specs.InnerPatternFaults.{IsRisingBelow, IsFirst
 
 use crate::error::SparseFormatErrorKind;
 use std::cmp::Ordering;
+use std::fmt;
 use thiserror::Error;
 
 /// The error returned when offsets and indices do not describe a pattern.
 #[derive(Debug, Clone, Copy, PartialEq, Eq, Error)]
-#[error("{}", self.message())]
 pub enum SparsityPatternFormatError {
     /// The number of offsets is not one more than the number of lanes.
     InvalidOffsetArrayLength,
@@ -58,6 +58,13 @@ impl SparsityPatternFormatError {
             SparsityPatternFormatError::NonmonotonicMinorIndices =>
                 "Minor indices are not monotonically increasing within each lane.",
         }
+    }
+}
+
+// Displays the message. Written by hand: the derive would write one call for each variant.
+impl fmt::Display for SparsityPatternFormatError {
+    fn fmt<W: fmt::Write>(&self, f: &mut fmt::Formatter<W>) -> fmt::Result {
+        f.write_str(self.message())
     }
 }
 

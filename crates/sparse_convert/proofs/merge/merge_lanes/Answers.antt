@@ -56,6 +56,27 @@ bounds-offsets-lane g c = omega (arith, c.loop-lane-test.true)
 pub bounds-offsets-lane-in-loop-lane : goal.bounds-offsets-lane-in-loop-lane
 bounds-offsets-lane-in-loop-lane g c = omega (arith, c.loop-lane-test.true)
 
+pub offset_bounds-offsets-lane : goal.offset_bounds-offsets-lane
+offset_bounds-offsets-lane g c = omega (arith, c.loop-lane-test.true, c.well_formed.1.1.0.1)
+
+pub overflow_add-end : goal.overflow_add-end
+overflow_add-end g c = omega (arith, c.loop-lane-test.true, c.well_formed.1.1.0.0)
+
+pub offset_bounds-offsets-lane-in-loop-lane : goal.offset_bounds-offsets-lane-in-loop-lane
+offset_bounds-offsets-lane-in-loop-lane g c = omega (
+  arith,
+  c.loop-lane-test.true,
+  c.well_formed.1.1.0.1,
+)
+
+pub slice_bounds-merge_lane-count : goal.slice_bounds-merge_lane-count
+slice_bounds-merge_lane-count g c =
+    c.requires.offsets.ordered c.loop-lane.lane c.loop-lane-test.true
+
+pub slice_bounds-merge_lane-start : goal.slice_bounds-merge_lane-start
+slice_bounds-merge_lane-start g c =
+    c.requires.offsets.ordered c.loop-lane.lane c.loop-lane-test.true
+
 pub offset_bounds-entries-start : goal.offset_bounds-entries-start
 offset_bounds-entries-start g c = offsets_within _ _ c.args.offsets.now c.requires.offsets
     c.loop-lane.lane (omega arith)

@@ -85,3 +85,22 @@ returns-clause-plain g c =
 
 pub merge_lanes-requires-clause-offsets : goal.merge_lanes-requires-clause-offsets
 merge_lanes-requires-clause-offsets g c = grind (arith, common_steps)
+
+pub gather-requires-clause-minors : goal.gather-requires-clause-minors
+gather-requires-clause-minors g c = c.requires.minors
+
+pub gather-requires-clause-values : goal.gather-requires-clause-values
+gather-requires-clause-values g c = c.requires.values
+
+pub gather-requires-clause-below : goal.gather-requires-clause-below
+gather-requires-clause-below g c = c.requires.majors_below
+
+pub sort_lanes-requires : goal.sort_lanes-requires
+sort_lanes-requires g c =
+    let are = c.in_ok-lanes.ensures.offsets in
+    let n : length c.in_ok-lanes.lanes.offsets.items - 1 ≡ c.args.major_dim =
+    omega (arith, are.count) in
+    rw (c.deref.ensures.value, c.deref_mut.ensures.value, n) are
+
+pub returns-clause-sound : goal.returns-clause-sound
+returns-clause-sound g c = c.merge_lanes.ensures.sound

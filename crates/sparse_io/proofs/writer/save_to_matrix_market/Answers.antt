@@ -1,6 +1,6 @@
 use Rattle.std.proofs.lemmas.Grind.{common_steps, moves}
-use Rattle.std.proofs.Common.{refl, ◌∙◌, rules, arith}
-use Rattle.std.proofs.lemmas.Result.{err_from_is_err_and}
+use Rattle.std.proofs.Common.{refl, sym, ◌∙◌, rules, arith}
+use Rattle.std.proofs.lemmas.Result.{IfOk-from_err, IfOk-equal, err_from_is_err_and}
 use Rattle.sparse_io.proofs.Buffering.{IsWriting-none, IsWriting-more, IsWriting-refused}
 use Rattle.sparse_io.proofs.Buffering.{IsWriting-all, on_ok-map, on_err-map}
 use Rattle.sparse_io.proofs.writer.save_to_matrix_market.Goals as goal
@@ -42,3 +42,30 @@ put_triplet-requires-clause-col g c = grind (arith, moves)
 
 pub put_triplet-requires-clause-row : goal.put_triplet-requires-clause-row
 put_triplet-requires-clause-row g c = grind (arith, moves)
+
+pub returns-in_err-text-clause-ok : goal.returns-in_err-text-clause-ok
+returns-in_err-text-clause-ok g c = IfOk-from_err _ _ c.from_residual.ensures.0
+
+pub returns-in_err-text-clause-unfailed : goal.returns-in_err-text-clause-unfailed
+returns-in_err-text-clause-unfailed g c = IfOk-from_err _ _ c.from_residual.ensures.0
+
+pub returns-in_err-put_triplet-clause-ok : goal.returns-in_err-put_triplet-clause-ok
+returns-in_err-put_triplet-clause-ok g c =
+    IfOk-from_err _ _ c.from_residual-in_err-put_triplet.ensures.0
+
+pub returns-in_err-put_triplet-clause-unfailed : goal.returns-in_err-put_triplet-clause-unfailed
+returns-in_err-put_triplet-clause-unfailed g c =
+    IfOk-from_err _ _ c.from_residual-in_err-put_triplet.ensures.0
+
+pub returns-in_err-put_triplet-clause-refused : goal.returns-in_err-put_triplet-clause-refused
+returns-in_err-put_triplet-clause-refused g c =
+    let p = err_from_is_err_and c.from_residual-in_err-put_triplet.result
+    c.from_residual-in_err-put_triplet.ensures.1 in
+    rw (p.1, p.2, sym c.loop-row.invariant.unfailed) c.in_err-put_triplet.ensures.refused
+
+pub returns-clause-unfailed : goal.returns-clause-unfailed
+returns-clause-unfailed g c = IfOk-equal _ _ _ _ c.flush.ensures.unfailed
+    c.loop-row.invariant.unfailed
+
+pub returns-clause-refused : goal.returns-clause-refused
+returns-clause-refused g c = rw (sym c.loop-row.invariant.unfailed) c.flush.ensures.refused

@@ -10,7 +10,8 @@ returns g c =
     let plain = plain_of_rows R g.T.Ring.value in
     let first = plain_product R (plain c.args.a.now) (plain c.args.b.now) in
     let second = plain_product R (plain c.args.c.now) (plain c.args.d.now) in
-    ok_further plain c.add_csr.result (plain_sum R (plain c.in_ok-first.first) (plain c.in_ok-second.second))
+    ok_further plain c.add_csr.result
+    (plain_sum R (plain c.in_ok-first.first) (plain c.in_ok-second.second))
     (plain_sum R first second)
     (ap (λ (x : Plain R). plain_sum R x (plain c.in_ok-second.second)) c.in_ok-first.ensures
     ∙ ap (plain_sum R first) c.in_ok-second.ensures) c.add_csr.ensures

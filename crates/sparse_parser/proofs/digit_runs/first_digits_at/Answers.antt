@@ -1,6 +1,6 @@
 use Rattle.std.proofs.lemmas.Grind.{common_steps}
-use Rattle.std.proofs.Common.{◌≡◌, ◌<◌, ◌≤◌, ◌+◌, ◌-◌, ◌*◌, ◌^◌, get_or, length, sym, subst, ◌∙◌, arith}
-use Rattle.std.proofs.Common.{rules, ℕ, true}
+use Rattle.std.proofs.Common.{◌≡◌, ◌<◌, ◌≤◌, ◌+◌, ◌-◌, ◌*◌, ◌^◌, get_or, length, sym, subst, ◌∙◌}
+use Rattle.std.proofs.Common.{arith, rules, ℕ, true}
 use Rattle.std.specs.Char.{is_ascii_digit}
 use Rattle.sparse_parser.proofs.Digits.{digit_small, short_fits}
 use Rattle.sparse_parser.proofs.Positions.{after_passed, digit_read, digits_below}

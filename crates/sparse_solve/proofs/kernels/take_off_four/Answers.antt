@@ -69,13 +69,16 @@ loop-at-preserved g c =
           inside was.auto.first c.take_term.ensures.written
           c.take_term.ensures.value was.invariant.first;
       second = more was.second c.args.second.now c.take_term-in-loop-at.new.x c.args.factors.1
-          (omega (arith, inside, c.requires.rows_2)) was.auto.second c.take_term-in-loop-at.ensures.written
+          (omega (arith, inside, c.requires.rows_2)) was.auto.second
+          c.take_term-in-loop-at.ensures.written
           c.take_term-in-loop-at.ensures.value was.invariant.second;
       third = more was.third c.args.third.now c.take_term-in-loop-at-2.new.x c.args.factors.2
-          (omega (arith, inside, c.requires.rows_3)) was.auto.third c.take_term-in-loop-at-2.ensures.written
+          (omega (arith, inside, c.requires.rows_3)) was.auto.third
+          c.take_term-in-loop-at-2.ensures.written
           c.take_term-in-loop-at-2.ensures.value was.invariant.third;
       fourth = more was.fourth c.args.fourth.now c.take_term-in-loop-at-3.new.x c.args.factors.3
-          (omega (arith, inside, c.requires.rows_4)) was.auto.fourth c.take_term-in-loop-at-3.ensures.written
+          (omega (arith, inside, c.requires.rows_4)) was.auto.fourth
+          c.take_term-in-loop-at-3.ensures.written
           c.take_term-in-loop-at-3.ensures.value was.invariant.fourth;
     }
 

@@ -41,7 +41,8 @@ solve_columns-requires-clause-ones g c =
 
 pub returns-clause-solved : goal.returns-clause-solved
 returns-clause-solved g c =
-    let sound = rw (c.into_inner-t.ensures, c.ncols-ncols.ensures) at c.if-not-can_solve.ensures.sound in
+    let sound =
+    rw (c.into_inner-t.ensures, c.ncols-ncols.ensures) at c.if-not-can_solve.ensures.sound in
     op_solution g.T.Ring.ring g.T.Ring.value g.T.Zero.zero_value g.met.T.Ring.zero_law (λ m. m.now)
     c.args.l c.solve_columns.new.b c.args.b.now c.requires.square c.requires.rows sound
     c.solve_columns.ensures
@@ -52,7 +53,8 @@ returns-clause-singular g c =
     let f = g.T.Ring.value in
     let a = plain_of_cols R f (inner_of c.args.l).now in
     let proper = λ (i j : ℕ). proper_rows R f (inner_of c.args.l).now j i in
-    let pivots = rw (c.into_inner-t.ensures, c.ncols-ncols.ensures) at c.if-not-can_solve.ensures.cases in (
+    let pivots =
+    rw (c.into_inner-t.ensures, c.ncols-ncols.ensures) at c.if-not-can_solve.ensures.cases in (
       λ ok. cc,
       λ refused. absurd
           (refused.1.2 (lower_has_pivot R f a proper refused.1.0
@@ -65,7 +67,8 @@ returns-clause-above g c = λ m x same solves i j row col.
     let f = g.T.Ring.value in
     let l = (inner_of c.args.l).now in
     let b = c.args.b.now in
-    let pivots = rw (c.into_inner-t.ensures, c.ncols-ncols.ensures) at c.if-not-can_solve.ensures.cases in
+    let pivots =
+    rw (c.into_inner-t.ensures, c.ncols-ncols.ensures) at c.if-not-can_solve.ensures.cases in
     let some : 0 < b.ncols = omega arith in
     op_one_solution R (λ m. plain_of_cols R f m.now) c.args.l (plain_lower R (plain_of_cols R f m))
     x (plain_of_dense R f c.solve_columns.new.b) (plain_of_dense R f b) b.ncols

@@ -1,7 +1,7 @@
 use Rattle.std.proofs.lemmas.Result.{IfOk-from_err}
-use Rattle.std.proofs.Common.{◌≡◌, ◌<◌, not, eqb, ◌++◌, ◌∷◌, [], sym, ap, ◌∙◌, arith}
+use Rattle.std.proofs.Common.{◌≡◌, ◌<◌, not, eqb, ◌++◌, ◌∷◌, [], length, sym, ap, ◌∙◌, arith}
 use Rattle.sparse_pattern.specs.Raw.{Raw}
-use Rattle.sparse_sums.proofs.SumLanes.{sum_more, sum_is, sum_sound, gained_count}
+use Rattle.sparse_sums.proofs.SumLanes.{none_summed, sum_more, sum_is, sum_sound, gained_count}
 use Rattle.sparse_sums.proofs.add.merge_lanes.Goals as goal
 
 pub returns-in_err-push : goal.returns-in_err-push
@@ -27,6 +27,23 @@ returns-in_err-push-2 g c =
       sound = IfOk-from_err _ _ err;
       sum = IfOk-from_err _ _ err;
     }
+
+pub loop-i-init : goal.loop-i-init
+loop-i-init g c =
+    let r = c.requires in
+    let values = c.args.values.now in
+    let indices = c.args.indices.now in
+    let offsets_is : c.push.new.self.items ≡ 0 ∷ [] =
+    c.in_ok-push.ensures.items ∙ ap (λ l. l ++ 0 ∷ []) r.no_offsets in
+    record {
+      values_count = values.ok.0 ∙ ap length r.no_values
+          ∙ sym (indices.ok.0 ∙ ap length r.no_indices);
+      built = rw (offsets_is, r.no_indices, r.no_values) (none_summed g.T.Ring.ring
+          g.T.Ring.value (not (eqb g.row.NEGATE 0)) c.args.a.now c.args.b.now);
+    }
+
+pub merge_lane-requires-clause-count : goal.merge_lane-requires-clause-count
+merge_lane-requires-clause-count g c = c.loop-i.invariant.values_count
 
 pub merge_lane-requires-clause-first : goal.merge_lane-requires-clause-first
 merge_lane-requires-clause-first g c = omega (

@@ -1,6 +1,7 @@
-use Rattle.std.proofs.Common.{◌≡◌, ◌+◌, length, get_or, take, ap, ◌∙◌, arith}
+use Rattle.std.proofs.Common.{◌≡◌, ◌<◌, ◌+◌, length, get_or, take, ap, ◌∙◌, arith}
 use Rattle.std.proofs.lemmas.List.{get_or_default, take_all}
 use Rattle.sparse_cs.specs.InnerRows.{lane_value}
+use Rattle.sparse_cs.proofs.RowSums.{offset_fits}
 use Rattle.sparse_sums.proofs.InOrder.{none_added, adding_hit, adding_miss, all_passed}
 use Rattle.sparse_sums.proofs.in_order.add_lane.Goals as goal
 use Rattle.sparse_sums.proofs.in_order.add_lane.Goals.{then-k-lane+then-target-p, else-k-lane}
@@ -79,3 +80,42 @@ bounds-values-start-then-target-p g c = omega (
   c.loop-p.invariant.count,
   c.loop-p-test.true,
 )
+
+pub bounds-target-p : goal.bounds-target-p
+bounds-target-p g c = c.loop-p-test.true
+
+pub bounds-lane-k : goal.bounds-lane-k
+bounds-lane-k g c = c.if-k-lane.true
+
+pub bounds-lane_values-k : goal.bounds-lane_values-k
+bounds-lane_values-k g c = rw c.requires.count c.if-k-lane.true
+
+pub overflow_add-start : goal.overflow_add-start
+overflow_add-start g c = omega (arith, c.requires.inside, c.loop-p-test.true)
+
+pub overflow_add-start-then-target-p : goal.overflow_add-start-then-target-p
+overflow_add-start-then-target-p g c = omega (arith, c.requires.inside, c.loop-p-test.true)
+
+pub offset_bounds-target-p : goal.offset_bounds-target-p
+offset_bounds-target-p g c = offset_fits _ _ _ c.loop-p-test.true c.well_formed.0.1
+
+pub offset_bounds-lane-k : goal.offset_bounds-lane-k
+offset_bounds-lane-k g c = offset_fits _ _ _ c.if-k-lane.true c.well_formed.1.1.1.1.0.1
+
+pub offset_bounds-values-start : goal.offset_bounds-values-start
+offset_bounds-values-start g c =
+    let within : c.args.start + c.loop-p.p < length c.args.values.now =
+    omega (arith, c.requires.inside, c.loop-p-test.true) in
+    offset_fits _ _ _ within c.well_formed.1.1.0.1
+
+pub offset_bounds-values-start-then-target-p : goal.offset_bounds-values-start-then-target-p
+offset_bounds-values-start-then-target-p g c =
+    let within : c.args.start + c.loop-p.p < length c.args.values.now =
+    omega (arith, c.requires.inside, c.loop-p-test.true) in
+    offset_fits _ _ _ within c.well_formed.1.1.0.1
+
+pub returns-clause-count : goal.returns-clause-count
+returns-clause-count g c = c.loop-p.invariant.count
+
+pub returns-clause-kept : goal.returns-clause-kept
+returns-clause-kept g c = c.loop-p.invariant.kept

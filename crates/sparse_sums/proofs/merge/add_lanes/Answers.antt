@@ -1,5 +1,6 @@
 use Rattle.std.proofs.Common.{not, eqb, ◌++◌, length, drop, Contains, ◌⊎◌, subst, sym, ap, ◌∙◌}
 use Rattle.std.proofs.Common.{arith}
+use borrow.Author.Rules.{scaled_fits≤}
 use Rattle.std.proofs.lemmas.List.{take_rest, length-drop}
 use Rattle.std.proofs.lemmas.Result.{IfOk-from_err}
 use Rattle.sparse_cs.specs.InnerRows.{lane_value}
@@ -26,6 +27,60 @@ add_fronts-p-requires g c = record {
   room = omega (arith, c.in_ok-reserve.ensures.ok, c.reserve.ensures.len);
   values_room = omega (arith, c.in_ok-reserve-2.ensures.ok, c.reserve-2.ensures.len);
 }
+
+pub offset_bounds-a-p : goal.offset_bounds-a-p
+offset_bounds-a-p g c = scaled_fits≤ _ _ _ c.add_fronts-p.ensures.first c.well_formed.0.1
+
+pub offset_bounds-a_values-p : goal.offset_bounds-a_values-p
+offset_bounds-a_values-p g c = rw c.requires.a_count c.add_fronts-p.ensures.first
+
+pub offset_bounds-b-q : goal.offset_bounds-b-q
+offset_bounds-b-q g c = scaled_fits≤ _ _ _ c.add_fronts-p.ensures.second c.well_formed.1.1.0.1
+
+pub offset_bounds-b_values-q : goal.offset_bounds-b_values-q
+offset_bounds-b_values-q g c = rw c.requires.b_count c.add_fronts-p.ensures.second
+
+pub slice_bounds-push_rest-count : goal.slice_bounds-push_rest-count
+slice_bounds-push_rest-count g c = c.add_fronts-p.ensures.first
+
+pub slice_bounds-push_rest-start : goal.slice_bounds-push_rest-start
+slice_bounds-push_rest-start g c = c.add_fronts-p.ensures.first
+
+pub slice_bounds-push_rest-count-2 : goal.slice_bounds-push_rest-count-2
+slice_bounds-push_rest-count-2 g c = rw c.requires.a_count c.add_fronts-p.ensures.first
+
+pub slice_bounds-push_rest-start-2 : goal.slice_bounds-push_rest-start-2
+slice_bounds-push_rest-start-2 g c = rw c.requires.a_count c.add_fronts-p.ensures.first
+
+pub slice_bounds-push_rest-count-3 : goal.slice_bounds-push_rest-count-3
+slice_bounds-push_rest-count-3 g c = c.add_fronts-p.ensures.second
+
+pub slice_bounds-push_rest-start-3 : goal.slice_bounds-push_rest-start-3
+slice_bounds-push_rest-start-3 g c = c.add_fronts-p.ensures.second
+
+pub slice_bounds-push_rest-count-4 : goal.slice_bounds-push_rest-count-4
+slice_bounds-push_rest-count-4 g c = rw c.requires.b_count c.add_fronts-p.ensures.second
+
+pub slice_bounds-push_rest-start-4 : goal.slice_bounds-push_rest-start-4
+slice_bounds-push_rest-start-4 g c = rw c.requires.b_count c.add_fronts-p.ensures.second
+
+pub push_rest-requires-clause-count : goal.push_rest-requires-clause-count
+push_rest-requires-clause-count g c = rw (take_rest, take_rest)
+    (omega (
+      arith,
+      length-drop c.add_fronts-p.result.0 c.args.a.now,
+      length-drop c.add_fronts-p.result.0 c.args.a_values.now,
+      c.requires.a_count,
+    ))
+
+pub push_rest-requires-2-clause-count : goal.push_rest-requires-2-clause-count
+push_rest-requires-2-clause-count g c = rw (take_rest, take_rest)
+    (omega (
+      arith,
+      length-drop c.add_fronts-p.result.1 c.args.b.now,
+      length-drop c.add_fronts-p.result.1 c.args.b_values.now,
+      c.requires.b_count,
+    ))
 
 pub push_rest-requires-clause-room : goal.push_rest-requires-clause-room
 push_rest-requires-clause-room g c = rw take_rest

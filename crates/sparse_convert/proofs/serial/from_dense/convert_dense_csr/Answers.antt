@@ -1,5 +1,8 @@
 use Rattle.std.proofs.lemmas.Result.{IfOk-from_err}
-use Rattle.std.proofs.Common.{rules}
+use Rattle.std.proofs.Common.{ap, ◌∙◌}
+use Rattle.std.specs.List.{filter}
+use Rattle.sparse_convert.specs.FromDense.{differs_from}
+use Rattle.sparse_convert.proofs.FullLanes.{lanes_by_rows}
 use Rattle.sparse_convert.proofs.serial.from_dense.convert_dense_csr.Goals as goal
 
 pub returns-in_err-cs : goal.returns-in_err-cs
@@ -12,5 +15,22 @@ returns-in_err-cs g c =
       sound = IfOk-from_err _ _ err;
     }
 
+pub returns-clause-rows : goal.returns-clause-rows
+returns-clause-rows g c = rw c.from_cs.ensures
+    (c.in_ok-cs.ensures.major_dim ∙ c.nrows-nrows.ensures)
+
+pub returns-clause-cols : goal.returns-clause-cols
+returns-clause-cols g c = rw c.from_cs.ensures
+    (c.in_ok-cs.ensures.minor_dim ∙ c.ncols-ncols.ensures)
+
 pub returns-clause-kept : goal.returns-clause-kept
-returns-clause-kept g c = search rules
+returns-clause-kept g c =
+    let E = g.T.PartialEq.eq in
+    let z = g.T.Zero.zero_value in
+    let d = c.args.dense.now in
+    let kept = rw (c.nrows-nrows.ensures, c.ncols-ncols.ensures, c.as_slice.ensures.values) at
+    c.in_ok-cs.ensures.kept in
+    rw c.from_cs.ensures (kept ∙ ap (filter (differs_from E z)) (lanes_by_rows z d))
+
+pub returns-clause-sound : goal.returns-clause-sound
+returns-clause-sound g c = rw c.from_cs.ensures c.in_ok-cs.ensures.sound

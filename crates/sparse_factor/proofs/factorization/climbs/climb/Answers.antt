@@ -1,3 +1,4 @@
+use borrow.Author.Rules.{scaled_Fits}
 use Rattle.std.proofs.Common.{◌≡◌, ◌+◌, ◌<◌, ◌≤◌, ◌++◌, inl, inr, length, map, take}
 use Rattle.std.proofs.Common.{drop, set, slice_index, refl, sym, ap, ◌∙◌, subst, arith}
 use Rattle.std.proofs.lemmas.Grind.{common_steps}
@@ -57,7 +58,8 @@ lower_entry-requires-clause-position g c =
     let old = sym mark ∙ sym c.get.ensures ∙ c.if-get-row.true in
     let req = c.requires.climbed in
     let w = l.invariant.climbing req.0 req.1 req.2 req.3 in
-    let inside = entry_inside req.0 req.1 s row l.node w.climbed w.filled before c.get-chain.result e
+    let inside =
+    entry_inside req.0 req.1 s row l.node w.climbed w.filled before c.get-chain.result e
     old in
     omega (
       arith,
@@ -112,7 +114,8 @@ enter_chain-requires-clause-room g c =
     let chain = c.get-chain.result in
     let before : l.node < row = omega (arith, l.invariant.within, c.loop-node-test.true) in
     let inside : chain < length l.marks = omega (arith, before) in
-    let mark = read_number f l.marks chain c.index-marks-chain.result inside c.index-marks-chain.is in
+    let mark =
+    read_number f l.marks chain c.index-marks-chain.result inside c.index-marks-chain.is in
     let fewer = unmarked-set (row + 1) (row + 1) (map f l.marks) chain (omega (arith, before))
     (omega (arith, inside, length-map l.marks f))
     (λ x. c.if-get-row.false (c.get.ensures ∙ mark ∙ x)) in
@@ -136,7 +139,8 @@ loop-node-smaller g c =
     let e = chain_read f l.chains l.node c.index-chains-node.result chain (omega (arith, before))
     c.index-chains-node.is c.get-chain.ensures in
     let inside : chain < length l.marks = omega (arith, before) in
-    let mark = read_number f l.marks chain c.index-marks-chain.result inside c.index-marks-chain.is in
+    let mark =
+    read_number f l.marks chain c.index-marks-chain.result inside c.index-marks-chain.is in
     let new = λ (x : slice_index (map f l.marks) chain ≡ row + 1). c.if-get-row.false
     (c.get.ensures ∙ mark ∙ x) in
     let long = length-nodes f l.entries.items in
@@ -171,7 +175,8 @@ loop-node-preserved g c =
     let e = chain_read f l.chains l.node c.index-chains-node.result chain (omega (arith, before))
     c.index-chains-node.is c.get-chain.ensures in
     let inside : chain < length l.marks = omega (arith, before) in
-    let mark = read_number f l.marks chain c.index-marks-chain.result inside c.index-marks-chain.is in
+    let mark =
+    read_number f l.marks chain c.index-marks-chain.result inside c.index-marks-chain.is in
     let new = λ (x : slice_index (map f l.marks) chain ≡ row + 1). c.if-get-row.false
     (c.get.ensures ∙ mark ∙ x) in
     let long = length-nodes f l.entries.items in
@@ -219,3 +224,37 @@ returns-clause-climbed g c = λ p first is filled.
     let s = climb_of g.C.Count.number l.chains l.nexts l.marks l.positions l.entries.items in
     climb_done p first s c.args.row l.node (l.invariant.climbing p first is filled)
     c.loop-node-test.false
+
+pub offset_bounds-chains-node : goal.offset_bounds-chains-node
+offset_bounds-chains-node g c =
+    let inside : c.loop-node.node < length c.args.chains.now =
+    omega (arith, c.loop-node.invariant.within, c.requires.row) in
+    search (scaled_Fits, inside, c.well_formed)
+
+pub offset_bounds-marks-chain : goal.offset_bounds-marks-chain
+offset_bounds-marks-chain g c =
+    let inside : c.get-chain.result < length c.args.marks.now = omega (
+      arith,
+      c.if-prove.false,
+      c.loop-node.invariant.within,
+      c.requires.row,
+      c.requires.mark_count,
+    ) in
+    search (scaled_Fits, inside, c.well_formed)
+
+pub enter_chain-requires-clause-node : goal.enter_chain-requires-clause-node
+enter_chain-requires-clause-node g c = c.loop-node.invariant.within
+
+pub enter_chain-requires-clause-position_count : goal.enter_chain-requires-clause-position_count
+enter_chain-requires-clause-position_count g c =
+    rw (c.loop-node.auto.positions, c.loop-node.auto.marks)
+    (c.requires.position_count ∙ sym c.requires.mark_count)
+
+pub returns-clause-kept : goal.returns-clause-kept
+returns-clause-kept g c = c.loop-node.invariant.kept
+
+pub returns-clause-room : goal.returns-clause-room
+returns-clause-room g c = c.loop-node.invariant.room
+
+pub returns-clause-counted : goal.returns-clause-counted
+returns-clause-counted g c = c.loop-node.invariant.counted

@@ -1,5 +1,6 @@
+use borrow.Author.Rules.{scaled_Fits}
 use Rattle.std.proofs.Common.{◌≡◌, ◌+◌, ◌-◌, ◌<◌, length, map, set}
-use Rattle.std.proofs.Common.{true, sym, ap, ◌∙◌, arith}
+use Rattle.std.proofs.Common.{true, refl, sym, ap, ◌∙◌, arith}
 use Rattle.std.proofs.lemmas.List.{length-map, get_or_default}
 use Rattle.sparse_factor.specs.InnerChains.{nodes_in, rows_in}
 use Rattle.sparse_factor.specs.InnerEntries.{climb_of}
@@ -24,7 +25,8 @@ loop-at-init g c =
       started = λ k le lt below. omega (arith, le, lt);
       stored = λ t. cc;
       found = λ k le lt e. absurd (omega (arith, le, lt));
-      room = omega (arith, unmarked-le (row + 1) (row + 1) (map f c.args.marks.now), c.requires.room);
+      room =
+          omega (arith, unmarked-le (row + 1) (row + 1) (map f c.args.marks.now), c.requires.room);
       counted = omega arith;
     }
 
@@ -68,6 +70,48 @@ loop-at-preserved-then-start-row g c =
           (λ e. absurd (omega (arith, e, c.if-start-row.true)));
       room = c.climb.ensures.room;
       counted = omega (arith, inv.counted, c.climb.ensures.counted, c.tick.ensures, step);
+    }
+
+pub loop-at-preserved-then-start-row-2 : goal.loop-at-preserved-then-start-row-2
+loop-at-preserved-then-start-row-2 g c =
+    let row = c.args.row in
+    let l = c.loop-at in
+    let inv = l.invariant in
+    let starts = c.args.starts.now in
+    let s = climb_of g.C.Count.number l.chains l.nexts l.marks l.positions l.entries.items in
+    let step : l.at ≡ l.at - 1 + 1 = omega (arith, c.loop-at-test.true) in
+    let inside : l.at - 1 < length starts = omega (arith, step, l.auto.at) in
+    record {
+      climbed = inv.climbed;
+      started = more_started starts (l.at - 1) l.at row step s s (λ j v. v) inv.started
+          (λ below. absurd (omega (arith, below, c.if-start-row.false)));
+      stored = λ t. (
+        l.at - 1,
+        inside,
+        get_or_default starts (l.at - 1) row 0 inside ∙ c.if-start-row-2.true,
+      );
+      found = λ k le lt e. refl;
+      room = inv.room;
+      counted = omega (arith, inv.counted, c.tick.ensures, step);
+    }
+
+pub loop-at-preserved : goal.loop-at-preserved
+loop-at-preserved g c =
+    let row = c.args.row in
+    let l = c.loop-at in
+    let inv = l.invariant in
+    let starts = c.args.starts.now in
+    let s = climb_of g.C.Count.number l.chains l.nexts l.marks l.positions l.entries.items in
+    let step : l.at ≡ l.at - 1 + 1 = omega (arith, c.loop-at-test.true) in
+    record {
+      climbed = inv.climbed;
+      started = more_started starts (l.at - 1) l.at row step s s (λ j v. v) inv.started
+          (λ below. absurd (omega (arith, below, c.if-start-row.false)));
+      stored = inv.stored;
+      found = more_found starts (l.at - 1) l.at row step (l.is_stored ≡ true) inv.found
+          (λ e. absurd (c.if-start-row-2.false e));
+      room = inv.room;
+      counted = omega (arith, inv.counted, c.tick.ensures, step);
     }
 
 pub returns-then-not-is_stored-clause-climbed : goal.returns-then-not-is_stored-clause-climbed
@@ -114,7 +158,8 @@ enter_chain-requires-clause-room g c =
     let e = chain_read f l.chains row c.index-chains-row.result c.get.result (omega arith)
     c.index-chains-row.is c.get.ensures in
     let req = c.requires.climbed in
-    let new = last_new req.0 first s row req.2 (inv.climbed req.0 req.1 req.2) c.args.starts.now req.1
+    let new =
+    last_new req.0 first s row req.2 (inv.climbed req.0 req.1 req.2) c.args.starts.now req.1
     (λ k lt below. inv.started k (omega arith) lt below) (inv.stored c.if-not-is_stored.false)
     (sym e ∙ c.if-get-row.false) in
     let inside : row < length l.marks = omega arith in
@@ -141,3 +186,39 @@ returns-clause-climbed g c = λ p base are.
     (sym e ∙ c.if-get-row.false) (map f c.enter_chain.new.marks) c.enter_chain.new.positions
     (rows_in f xs) (nodes_in f xs) c.enter_chain.ensures.marks positions c.enter_chain.ensures.rows
     c.enter_chain.ensures.nodes
+
+pub climb-requires-clause-width : goal.climb-requires-clause-width
+climb-requires-clause-width g c = rw c.loop-at.auto.chains c.requires.width
+
+pub climb-requires-clause-row : goal.climb-requires-clause-row
+climb-requires-clause-row g c = rw c.loop-at.auto.chains c.requires.row
+
+pub climb-requires-clause-next_count : goal.climb-requires-clause-next_count
+climb-requires-clause-next_count g c =
+    rw (c.loop-at.auto.nexts, c.loop-at.auto.chains) c.requires.next_count
+
+pub climb-requires-clause-mark_count : goal.climb-requires-clause-mark_count
+climb-requires-clause-mark_count g c =
+    rw (c.loop-at.auto.marks, c.loop-at.auto.chains) c.requires.mark_count
+
+pub climb-requires-clause-position_count : goal.climb-requires-clause-position_count
+climb-requires-clause-position_count g c =
+    rw (c.loop-at.auto.positions, c.loop-at.auto.chains) c.requires.position_count
+
+pub climb-requires-clause-room : goal.climb-requires-clause-room
+climb-requires-clause-room g c = c.loop-at.invariant.room
+
+pub bounds-chains-row : goal.bounds-chains-row
+bounds-chains-row g c = rw c.loop-at.auto.chains c.requires.row
+
+pub offset_bounds-chains-row : goal.offset_bounds-chains-row
+offset_bounds-chains-row g c = search (scaled_Fits, c.requires.row, c.well_formed)
+
+pub enter_chain-requires-clause-chain : goal.enter_chain-requires-clause-chain
+enter_chain-requires-clause-chain g c =
+    rw (c.loop-at.auto.marks, c.requires.mark_count) c.requires.row
+
+pub enter_chain-requires-clause-position_count : goal.enter_chain-requires-clause-position_count
+enter_chain-requires-clause-position_count g c =
+    rw (c.loop-at.auto.positions, c.loop-at.auto.marks)
+    (c.requires.position_count ∙ sym c.requires.mark_count)

@@ -1,17 +1,21 @@
-use Rattle.std.proofs.Common.{◌≡◌, ℕ, ◌≤◌, ◌++◌, length, map, take, drop, ap, ◌∙◌, arith}
+use Rattle.std.proofs.Common.{◌≡◌, ℕ, ◌+◌, ◌<◌, ◌≤◌, List, ◌++◌, length, map, take, drop, ap, sym}
+use Rattle.std.proofs.Common.{◌∙◌, arith}
 use Rattle.std.proofs.lemmas.Grind.{common_steps}
 use Rattle.std.proofs.lemmas.List.{length-map, length-replicate}
+use Rattle.std.proofs.lemmas.Result.{IfOk-from_err}
 use Rattle.sparse_pattern.specs.Raw.{start_of, nnz_of}
 use Rattle.sparse_pattern.proofs.PatternLanes.{length-lane}
 use Rattle.sparse_pattern.proofs.Positions.{starts_ordered}
-use Rattle.sparse_factor.specs.Fill.{UpperBase}
+use Rattle.sparse_factor.specs.Fill.{UpperBase, ListsFill}
 use Rattle.sparse_factor.specs.InnerChains.{nodes_in}
 use Rattle.sparse_factor.specs.InnerEntries.{climb_of, AreClimbed}
 use Rattle.sparse_factor.proofs.FillCounts.{found_at_most}
 use Rattle.sparse_factor.proofs.EntryWrites.{length-nodes}
 use Rattle.sparse_factor.proofs.EntryStarts.{starts_base}
 use Rattle.sparse_factor.proofs.EntryAll.{none_climbed, climbed_rows}
+use Rattle.sparse_factor.proofs.factorization.climbs.climb_rows.Given.{Over}
 use Rattle.sparse_factor.proofs.factorization.climbs.climb_rows.Goals as goal
+use Rattle.sparse_factor.proofs.factorization.climbs.climb_rows.Goals.{At-loop-row}
 
 pub loop-row-init : goal.loop-row-init
 loop-row-init g c =
@@ -38,8 +42,51 @@ loop-row-init g c =
       counted = omega (arith, c.major_offsets.ensures.valid.first);
     }
 
-pub returns-in_err-reserve-clause-no_more : goal.returns-in_err-reserve-clause-no_more
-returns-in_err-reserve-clause-no_more g c = λ fill all.
+pub returns-in_err-chains : goal.returns-in_err-chains
+returns-in_err-chains g c =
+    let err = c.from_residual.ensures.0 in
+    record {
+      rows = IfOk-from_err _ _ err;
+      chain_count = IfOk-from_err _ _ err;
+      counted = IfOk-from_err _ _ err;
+      no_more = λ fill all. omega arith;
+    }
+
+pub returns-in_err-nexts : goal.returns-in_err-nexts
+returns-in_err-nexts g c =
+    let err = c.from_residual-in_err-nexts.ensures.0 in
+    record {
+      rows = IfOk-from_err _ _ err;
+      chain_count = IfOk-from_err _ _ err;
+      counted = IfOk-from_err _ _ err;
+      no_more = λ fill all. omega arith;
+    }
+
+pub returns-in_err-marks : goal.returns-in_err-marks
+returns-in_err-marks g c =
+    let err = c.from_residual-in_err-marks.ensures.0 in
+    record {
+      rows = IfOk-from_err _ _ err;
+      chain_count = IfOk-from_err _ _ err;
+      counted = IfOk-from_err _ _ err;
+      no_more = λ fill all. omega arith;
+    }
+
+pub returns-in_err-positions : goal.returns-in_err-positions
+returns-in_err-positions g c =
+    let err = c.from_residual-in_err-positions.ensures.0 in
+    record {
+      rows = IfOk-from_err _ _ err;
+      chain_count = IfOk-from_err _ _ err;
+      counted = IfOk-from_err _ _ err;
+      no_more = λ fill all. omega arith;
+    }
+
+-- the rows so far have taken no more steps than there are places of the pattern and of the fill
+steps_yet : (g : Over) (c : At-loop-row g) (fill : List (ℕ × ℕ))
+    → ListsFill (UpperBase c.args.pattern.now) fill
+    → c.loop-row.steps ≤ c.args.steps.now + nnz_of c.args.pattern.now + length fill
+steps_yet g c fill all =
     let f = g.C.Count.number in
     let p = c.args.pattern.now in
     let l = c.loop-row in
@@ -53,6 +100,16 @@ returns-in_err-reserve-clause-no_more g c = λ fill all.
       valid.last,
     ) in
     omega (arith, few, read, l.invariant.counted, length-nodes f l.entries.items)
+
+pub returns-in_err-reserve : goal.returns-in_err-reserve
+returns-in_err-reserve g c =
+    let err = c.from_residual-in_err-reserve.ensures.0 in
+    record {
+      rows = IfOk-from_err _ _ err;
+      chain_count = IfOk-from_err _ _ err;
+      counted = IfOk-from_err _ _ err;
+      no_more = steps_yet g (goal.at.returns-in_err-reserve g c).At-loop-row;
+    }
 
 pub climb_row-requires-clause-climbed : goal.climb_row-requires-clause-climbed
 climb_row-requires-clause-climbed g c =
@@ -95,7 +152,8 @@ loop-row-preserved g c =
     ≡ on.nexts = grind (arith, common_steps) in
     let marks : take l.marks.len (on.marks ++ drop (length on.marks) l.marks.items)
     ≡ on.marks = grind (arith, common_steps) in
-    let positions : take l.positions.len (on.positions ++ drop (length on.positions) l.positions.items)
+    let positions : take l.positions.len
+    (on.positions ++ drop (length on.positions) l.positions.items)
     ≡ on.positions = grind (arith, common_steps) in
     let lane = length-lane p row (valid.lanes row (omega arith)) in
     let long = ap length c.lane.ensures in
@@ -124,20 +182,7 @@ returns-clause-rows g c =
     climbed_rows c.args.pattern.now s l.row (omega arith) l.invariant.climbed
 
 pub returns-clause-no_more : goal.returns-clause-no_more
-returns-clause-no_more g c = λ fill all.
-    let f = g.C.Count.number in
-    let p = c.args.pattern.now in
-    let l = c.loop-row in
-    let valid = c.major_offsets.ensures.valid in
-    let few = found_at_most (UpperBase p) l.row (length (nodes_in f l.entries.items))
-    l.invariant.climbed.found fill all in
-    let read : start_of p l.row ≤ nnz_of p =
-    omega (
-      arith,
-      starts_ordered p valid l.row p.major_dim (omega arith) (omega arith),
-      valid.last,
-    ) in
-    omega (arith, few, read, l.invariant.counted, length-nodes f l.entries.items)
+returns-clause-no_more g c = steps_yet g (goal.at.returns-clause-no_more g c).At-loop-row
 
 pub returns-clause-counted : goal.returns-clause-counted
 returns-clause-counted g c =
@@ -146,3 +191,49 @@ returns-clause-counted g c =
     let read : start_of p c.loop-row.row ≡ nnz_of p = ap (start_of p) last
     ∙ c.major_offsets.ensures.valid.last in
     omega (arith, read, c.loop-row.invariant.counted)
+
+-- a bound of a number is above zero
+positive : {k n : ℕ} → k < n → 0 < n
+positive lt = omega arith
+
+pub own_chains-requires : goal.own_chains-requires
+own_chains-requires g c = rw c.major_dim-size.ensures c.requires.width
+
+pub zeros-requires : goal.zeros-requires
+zeros-requires g c = positive c.requires.width
+
+pub zeros-requires-2 : goal.zeros-requires-2
+zeros-requires-2 g c = positive c.requires.width
+
+pub lane-requires : goal.lane-requires
+lane-requires g c = rw c.major_dim-size.ensures at c.loop-row-test.true
+
+pub climb_row-requires-clause-width : goal.climb_row-requires-clause-width
+climb_row-requires-clause-width g c =
+    rw (c.deref_mut.ensures.value, c.loop-row.invariant.chain_count) c.requires.width
+
+pub climb_row-requires-clause-row : goal.climb_row-requires-clause-row
+climb_row-requires-clause-row g c =
+    rw (c.deref_mut.ensures.value, c.loop-row.invariant.chain_count)
+    (rw c.major_dim-size.ensures at c.loop-row-test.true)
+
+pub climb_row-requires-clause-next_count : goal.climb_row-requires-clause-next_count
+climb_row-requires-clause-next_count g c =
+    let inv = c.loop-row.invariant in
+    rw (c.deref_mut-in-loop-row.ensures.value, c.deref_mut.ensures.value)
+    (inv.next_count ∙ sym inv.chain_count)
+
+pub climb_row-requires-clause-mark_count : goal.climb_row-requires-clause-mark_count
+climb_row-requires-clause-mark_count g c =
+    let inv = c.loop-row.invariant in
+    rw (c.deref_mut-in-loop-row-2.ensures.value, c.deref_mut.ensures.value)
+    (inv.mark_count ∙ sym inv.chain_count)
+
+pub climb_row-requires-clause-position_count : goal.climb_row-requires-clause-position_count
+climb_row-requires-clause-position_count g c =
+    let inv = c.loop-row.invariant in
+    rw (c.deref_mut-in-loop-row-3.ensures.value, c.deref_mut.ensures.value)
+    (inv.position_count ∙ sym inv.chain_count)
+
+pub returns-clause-chain_count : goal.returns-clause-chain_count
+returns-clause-chain_count g c = c.loop-row.invariant.chain_count

@@ -1,4 +1,5 @@
-use Rattle.std.proofs.Common.{slice_index_or, arith}
+use borrow.Author.Rules.{scaled_Fits}
+use Rattle.std.proofs.Common.{slice_index_or, refl, arith}
 use Rattle.sparse_factor.proofs.EntryWrites.{node_read, rows_set, nodes_set}
 use Rattle.sparse_factor.proofs.factorization.climbs.lower_entry.Goals as goal
 
@@ -37,3 +38,34 @@ returns-else-node-get-clause-lowered g c = λ lt.
       node_read f xs c.args.position c.index-entries-position.result c.requires.position,
       node_read f xs c.args.position c.index-entries-position-2.result c.requires.position,
     ))
+
+pub bounds-entries-position : goal.bounds-entries-position
+bounds-entries-position g c = c.requires.position
+
+pub bounds-entries-position-2 : goal.bounds-entries-position-2
+bounds-entries-position-2 g c = c.requires.position
+
+pub bounds-entries-position-3 : goal.bounds-entries-position-3
+bounds-entries-position-3 g c = c.requires.position
+
+pub bounds-entries-position-4 : goal.bounds-entries-position-4
+bounds-entries-position-4 g c = c.requires.position
+
+pub bounds-entries-position-then-node-get : goal.bounds-entries-position-then-node-get
+bounds-entries-position-then-node-get g c = c.requires.position
+
+pub of-requires : goal.of-requires
+of-requires g c = c.requires.node
+
+pub returns-else-node-get-clause-rows : goal.returns-else-node-get-clause-rows
+returns-else-node-get-clause-rows g c = refl
+
+pub returns-else-node-get-clause-kept : goal.returns-else-node-get-clause-kept
+returns-else-node-get-clause-kept g c = λ le. refl
+
+pub offset_bounds-entries-position : goal.offset_bounds-entries-position
+offset_bounds-entries-position g c = search (scaled_Fits, c.requires.position, c.well_formed)
+
+pub offset_bounds-entries-position-then-node-get : goal.offset_bounds-entries-position-then-node-get
+offset_bounds-entries-position-then-node-get g c =
+    search (scaled_Fits, c.requires.position, c.well_formed)

@@ -1,22 +1,24 @@
-use Rattle.std.proofs.Common.{◌≡◌, ℕ, ◌+◌, ◌-◌, ◌<◌, ◌≤◌, List, ◌++◌, ◌∷◌, [], length, map, set}
-use Rattle.std.proofs.Common.{slice_index, slice_range, ap, sym, subst, ◌∙◌, arith}
+mod ColumnReads
+use Rattle.std.proofs.Common.{◌≡◌, ◌+◌, ◌<◌, ◌++◌, ◌∷◌, [], length, map, set}
+use Rattle.std.proofs.Common.{slice_index, slice_range, ap, sym, subst, ◌∙◌, arith, rules}
 use Rattle.std.proofs.lemmas.List.{length-map}
+use Rattle.std.proofs.lemmas.Result.{IfOk-from_err}
 use Rattle.std.proofs.lemmas.List.{map-set}
-use Rattle.sparse_pattern.specs.Raw.{raw_of, IsValid}
+use Rattle.sparse_pattern.specs.Raw.{Raw, raw_of, IsValid}
 use Rattle.sparse_pattern.proofs.PatternLanes.{length-lane}
 use Rattle.sparse_factor.specs.InnerChains.{chain_of}
-use Rattle.sparse_factor.specs.InnerColumns.{ListsColumns}
 use Rattle.sparse_factor.specs.InnerSortedEntries.{columns_of}
-use Rattle.sparse_factor.proofs.LatestColumns.{AreLatest, none_latest, latest_more, offset_at}
-use Rattle.sparse_factor.proofs.LatestColumns.{chain_is, chain_within, first_on_chain, end_is, end_within}
+use Rattle.sparse_factor.proofs.LatestColumns.{AreLatest, none_latest, latest_more}
+use Rattle.sparse_factor.proofs.LatestColumns.{first_on_chain}
 use Rattle.sparse_factor.proofs.ChainColumns.{rising_entries, none_built, all_columns, run_before}
 use Rattle.sparse_factor.proofs.ChainColumns.{apart_before, column_built}
 use Rattle.sparse_factor.proofs.EntryColumns.{lane_read}
-use Rattle.sparse_factor.proofs.ColumnSteps.{steps_within, none_taken}
-use Rattle.sparse_factor.proofs.factorization.columns.columns_on_chains.Given.{Over}
 use Rattle.sparse_factor.proofs.factorization.columns.columns_on_chains.Goals as goal
-use Rattle.sparse_factor.proofs.factorization.columns.columns_on_chains.Goals.{Start, At-loop-column, After-get-chain}
-use Rattle.sparse_factor.proofs.factorization.columns.columns_on_chains.Goals.{After-end_on_chain-end, After-index}
+use Rattle.sparse_factor.proofs.factorization.columns.columns_on_chains.Answers.ColumnReads.{chain_read}
+use Rattle.sparse_factor.proofs.factorization.columns.columns_on_chains.Answers.ColumnReads.{end_read}
+use Rattle.sparse_factor.proofs.factorization.columns.columns_on_chains.Answers.ColumnReads.{run_read}
+use Rattle.sparse_factor.proofs.factorization.columns.columns_on_chains.Answers.ColumnReads.{none_yet}
+use Rattle.sparse_factor.proofs.factorization.columns.columns_on_chains.Answers.ColumnReads.{steps_yet}
 
 pub loop-column-init : goal.loop-column-init
 loop-column-init g c =
@@ -27,50 +29,12 @@ loop-column-init g c =
     record {
       latest = none_latest chains (map f c.in_ok-latest.latest.items) n
           c.in_ok-latest.ensures.latest (sym (length-map chs f));
-      built = rw (c.in_ok-latest.ensures.offsets, c.in_ok-latest.ensures.rows) (none_built chains (columns_of f n c.args.starts.now c.args.entries.now) c.requires.valid
+      built = rw (c.in_ok-latest.ensures.offsets, c.in_ok-latest.ensures.rows)
+          (none_built chains (columns_of f n c.args.starts.now c.args.entries.now) c.requires.valid
           (sym (length-map chs f)) (sym (length-map chs f)));
       counted = omega (arith, c.requires.valid.first, ap length c.in_ok-latest.ensures.rows);
       onward = omega arith;
     }
-
--- the chain of the column, as it was read, has a last column
-chain_read : (g : Over) (c : After-get-chain g)
-    → (c.get-chain.result
-    ≡ chain_of (map g.C.Count.number c.args.chains.now) c.loop-column.column)
-    × (c.get-chain.result < length c.loop-column.latest.items)
-chain_read g c =
-    let f = g.C.Count.number in
-    let chs = c.args.chains.now in
-    let l = c.loop-column in
-    let chain = c.get-chain.result in
-    let x = c.index-chains-column.result in
-    let low = c.requires.chains l.column in (
-      chain_is f chs l.latest.items l.column chain x c.loop-column-test.true
-          c.index-chains-column.is c.get-chain.ensures low l.invariant.latest,
-      chain_within f chs l.latest.items l.column chain x c.loop-column-test.true
-          c.index-chains-column.is c.get-chain.ensures low l.invariant.latest,
-    )
-
--- the end of the column before, as it was read
-end_read : (g : Over) (c : After-end_on_chain-end g)
-    → (c.end_on_chain-end.result ≡ slice_index (map g.C.Count.number c.loop-column.latest.items)
-    (chain_of (map g.C.Count.number c.args.chains.now) c.loop-column.column))
-    × (c.end_on_chain-end.result ≤ c.loop-column.column)
-end_read g c =
-    let f = g.C.Count.number in
-    let chs = c.args.chains.now in
-    let l = c.loop-column in
-    let chain = c.get-chain.result in
-    let x = c.index-chains-column.result in
-    let low = c.requires.chains l.column in
-    let end = c.end_on_chain-end.result in
-    let read : end ≡ slice_index (map f l.latest.items) chain = c.end_on_chain-end.ensures
-    ∙ ap (λ xs. slice_index (map f xs) chain) c.deref.ensures.value in (
-      end_is f chs l.latest.items l.column chain x c.loop-column-test.true
-          c.index-chains-column.is c.get-chain.ensures low l.invariant.latest end read,
-      end_within f chs l.latest.items l.column chain x c.loop-column-test.true
-          c.index-chains-column.is c.get-chain.ensures low l.invariant.latest end read,
-    )
 
 pub end_on_chain-end-requires-clause-chain : goal.end_on_chain-end-requires-clause-chain
 end_on_chain-end-requires-clause-chain g c =
@@ -107,30 +71,6 @@ index-requires g c =
     let read = end_read g (goal.at.index-requires g c).After-end_on_chain-end in
     let count = c.loop-column.invariant.built.valid.count in
     omega (arith, read.1, count, c.loop-column.offsets.ok.0)
-
--- the run of the column before, as it was read
-run_read : (g : Over) (c : After-index g)
-    → (c.end_on_chain-end.result ≡ slice_index (map g.C.Count.number c.loop-column.latest.items)
-    (chain_of (map g.C.Count.number c.args.chains.now) c.loop-column.column))
-    → c.end_on_chain-end.result ≤ c.loop-column.column
-    → (c.index-from.result.now ≡ slice_index c.loop-column.offsets.items
-    (slice_index (map g.C.Count.number c.loop-column.latest.items)
-    (chain_of (map g.C.Count.number c.args.chains.now) c.loop-column.column) - 1))
-    × (c.index.result.now ≡ slice_index c.loop-column.offsets.items
-    (slice_index (map g.C.Count.number c.loop-column.latest.items)
-    (chain_of (map g.C.Count.number c.args.chains.now) c.loop-column.column)))
-run_read g c end le =
-    let f = g.C.Count.number in
-    let chs = c.args.chains.now in
-    let l = c.loop-column in
-    let last = slice_index (map f l.latest.items) (chain_of (map f chs) l.column) in
-    let count = l.invariant.built.valid.count in (
-      offset_at l.offsets.items c.saturating_sub.result (last - 1) c.index-from.result.now
-          (omega (arith, le, count, c.saturating_sub.ensures)) c.index-from.ensures
-          (c.saturating_sub.ensures ∙ ap (λ k. k - 1) end),
-      offset_at l.offsets.items c.end_on_chain-end.result last c.index.result.now
-          (omega (arith, le, count)) c.index.ensures end,
-    )
 
 pub append_column-requires : goal.append_column-requires
 append_column-requires g c =
@@ -182,7 +122,8 @@ loop-column-preserved g c =
     record {
       latest = subst (λ l. AreLatest (map f chs) l (column + 1)) (sym written)
           (latest_more (map f chs) latest column inv.latest lt (c.requires.chains column));
-      built = column_built (map f chs) entries valid (sym long) (sym long) c.requires.low c.requires.once
+      built = column_built (map f chs) entries valid (sym long) (sym long) c.requires.low
+          c.requires.once
           column latest offsets c.loop-column.rows.items inv.built inv.latest lt
           c.push.new.self.items
           c.append_column.new.rows.items gains (c.in_ok-push.ensures.items
@@ -212,69 +153,65 @@ from_offset_and_indices_unchecked-requires g c =
     let whole : l.column ≡ length chs = omega arith in
     subst (λ m. IsValid (raw_of (length chs) m l.offsets.items l.rows.items))
     (length-map chs g.C.Count.number)
-    (subst (λ k. IsValid (raw_of k (length (map g.C.Count.number chs)) l.offsets.items l.rows.items))
+    (subst
+    (λ k. IsValid (raw_of k (length (map g.C.Count.number chs)) l.offsets.items l.rows.items))
     whole l.invariant.built.valid)
 
-pub returns-clause-places : goal.returns-clause-places
-returns-clause-places g c =
+pub returns-in_err-latest : goal.returns-in_err-latest
+returns-in_err-latest g c =
+    let err = c.from_residual.ensures.0 in
+    record {
+      rows = IfOk-from_err _ _ err;
+      columns = IfOk-from_err _ _ err;
+      valid = IfOk-from_err _ _ err;
+      places = IfOk-from_err _ _ err;
+      onward = omega arith;
+      no_more = none_yet g (goal.at.returns-in_err-latest g c).Start;
+    }
+
+pub returns-in_err-append_column : goal.returns-in_err-append_column
+returns-in_err-append_column g c =
+    let err = c.from_residual-in_err-append_column.ensures.0 in
+    record {
+      rows = IfOk-from_err _ _ err;
+      columns = IfOk-from_err _ _ err;
+      valid = IfOk-from_err _ _ err;
+      places = IfOk-from_err _ _ err;
+      onward = c.loop-column.invariant.onward;
+      no_more = steps_yet g (goal.at.returns-in_err-append_column g c).At-loop-column;
+    }
+
+pub returns-in_err-push : goal.returns-in_err-push
+returns-in_err-push g c =
+    let err = c.from_residual-in_err-push.ensures.0 in
+    record {
+      rows = IfOk-from_err _ _ err;
+      columns = IfOk-from_err _ _ err;
+      valid = IfOk-from_err _ _ err;
+      places = IfOk-from_err _ _ err;
+      onward = c.loop-column.invariant.onward;
+      no_more = steps_yet g (goal.at.returns-in_err-push g c).At-loop-column;
+    }
+
+pub returns : goal.returns
+returns g c =
     let chs = c.args.chains.now in
     let f = g.C.Count.number in
     let long = length-map chs f in
     let l = c.loop-column in
-    all_columns (map f chs) (columns_of f (length chs) c.args.starts.now c.args.entries.now)
-    c.requires.valid (sym long) (sym long) l.column c.from_offset_and_indices_unchecked.result
-    l.offsets.items l.rows.items (omega (arith, long)) (c.from_offset_and_indices_unchecked.ensures
-    ∙ ap (λ k. raw_of k k l.offsets.items l.rows.items) (sym long)) l.invariant.built
-
--- no column has taken a step yet
-none_yet : (g : Over) (c : Start g) (fill : List (ℕ × ℕ))
-    → ListsColumns (map g.C.Count.number c.args.chains.now)
-    (columns_of g.C.Count.number (length c.args.chains.now) c.args.starts.now c.args.entries.now)
-    fill
-    → c.args.steps.now + length c.args.entries.now ≤ c.args.steps.now + length fill
-none_yet g c fill all =
-    let f = g.C.Count.number in
-    let chs = c.args.chains.now in
-    let long = length-map chs f in
-    omega (
-      arith,
-      none_taken (map f chs) (columns_of f (length chs) c.args.starts.now c.args.entries.now)
-          c.requires.valid (sym long) (sym long) c.requires.low c.args.steps.now fill all,
-      length-map c.args.entries.now f,
-    )
-
--- the columns so far have taken no more steps than there are places of the fill
-steps_yet : (g : Over) (c : At-loop-column g) (fill : List (ℕ × ℕ))
-    → ListsColumns (map g.C.Count.number c.args.chains.now)
-    (columns_of g.C.Count.number (length c.args.chains.now) c.args.starts.now c.args.entries.now)
-    fill
-    → c.loop-column.steps + length c.args.entries.now ≤ c.args.steps.now + length fill
-steps_yet g c fill all =
-    let f = g.C.Count.number in
-    let chs = c.args.chains.now in
-    let l = c.loop-column in
-    omega (
-      arith,
-      steps_within (map f chs) (columns_of f (length chs) c.args.starts.now c.args.entries.now)
-          c.requires.valid c.requires.low l.column (omega arith) l.offsets.items l.rows.items
-          l.invariant.built c.args.steps.now l.steps l.invariant.counted fill all,
-      length-map c.args.entries.now f,
-    )
-
-pub returns-in_err-latest-clause-no_more : goal.returns-in_err-latest-clause-no_more
-returns-in_err-latest-clause-no_more g c = none_yet g (goal.at.returns-in_err-latest-clause-no_more g c).Start
-
-pub returns-in_err-append_column-clause-no_more : goal.returns-in_err-append_column-clause-no_more
-returns-in_err-append_column-clause-no_more g c =
-    steps_yet g (goal.at.returns-in_err-append_column-clause-no_more g c).At-loop-column
-
-pub returns-in_err-push-clause-no_more : goal.returns-in_err-push-clause-no_more
-returns-in_err-push-clause-no_more g c =
-    steps_yet g (goal.at.returns-in_err-push-clause-no_more g c).At-loop-column
-
-pub returns-clause-no_more : goal.returns-clause-no_more
-returns-clause-no_more g c =
-    steps_yet g (goal.at.returns-clause-no_more g c).At-loop-column
+    let pattern = c.from_offset_and_indices_unchecked.ensures in
+    record {
+      rows = ap (λ (p : Raw). p.minor_dim) pattern;
+      columns = ap (λ (p : Raw). p.major_dim) pattern;
+      valid = search rules;
+      places = all_columns (map f chs)
+          (columns_of f (length chs) c.args.starts.now c.args.entries.now) c.requires.valid
+          (sym long) (sym long) l.column c.from_offset_and_indices_unchecked.result
+          l.offsets.items l.rows.items (omega (arith, long)) (pattern
+          ∙ ap (λ k. raw_of k k l.offsets.items l.rows.items) (sym long)) l.invariant.built;
+      onward = l.invariant.onward;
+      no_more = steps_yet g (goal.at.returns g c).At-loop-column;
+    }
 
 pub offset_bounds-entries-starts : goal.offset_bounds-entries-starts
 offset_bounds-entries-starts g c =
@@ -285,3 +222,49 @@ pub slice_bounds-added-end : goal.slice_bounds-added-end
 slice_bounds-added-end g c =
     let lane = c.requires.valid.lanes c.loop-column.column c.loop-column-test.true in
     omega (arith, lane.ordered, lane.inside, length-map c.args.entries.now g.C.Count.number)
+
+pub slice_bounds-added-count : goal.slice_bounds-added-count
+slice_bounds-added-count g c =
+    (c.requires.valid.lanes c.loop-column.column c.loop-column-test.true).ordered
+
+pub no_columns-requires : goal.no_columns-requires
+no_columns-requires g c = omega (arith, c.requires.width)
+
+pub bounds-chains-column : goal.bounds-chains-column
+bounds-chains-column g c = c.loop-column-test.true
+
+pub offset_bounds-chains-column : goal.offset_bounds-chains-column
+offset_bounds-chains-column g c = omega (arith, c.loop-column-test.true)
+
+pub bounds-starts-column : goal.bounds-starts-column
+bounds-starts-column g c = omega (arith, c.loop-column-test.true, c.requires.valid.count)
+
+pub bounds-starts-column-in-loop-column : goal.bounds-starts-column-in-loop-column
+bounds-starts-column-in-loop-column g c =
+    omega (arith, c.loop-column-test.true, c.requires.valid.count)
+
+pub offset_bounds-starts-column : goal.offset_bounds-starts-column
+offset_bounds-starts-column g c = omega (arith, c.loop-column-test.true, c.requires.valid.count)
+
+pub offset_bounds-starts-column-in-loop-column : goal.offset_bounds-starts-column-in-loop-column
+offset_bounds-starts-column-in-loop-column g c =
+    omega (arith, c.loop-column-test.true, c.requires.valid.count)
+
+pub overflow_add-added : goal.overflow_add-added
+overflow_add-added g c = omega (arith, c.loop-column-test.true)
+
+pub overflow_add-column : goal.overflow_add-column
+overflow_add-column g c = omega (arith, c.loop-column-test.true)
+
+pub of-requires : goal.of-requires
+of-requires g c = omega (arith, c.loop-column-test.true, c.requires.width)
+
+pub overflow_sub-len : goal.overflow_sub-len
+overflow_sub-len g c = omega (
+  arith,
+  c.in_ok-append_column.ensures.longer,
+  c.len-in-loop-column.ensures,
+  c.len-before.ensures,
+  c.append_column.new.rows.ok.0,
+  c.loop-column.rows.ok.0,
+)

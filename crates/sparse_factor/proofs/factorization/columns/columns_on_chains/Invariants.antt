@@ -12,7 +12,8 @@ invariant-loop-column g l =
     record {
       latest : AreLatest chains (map f l.latest.items) l.column;
       built : IsBuilt (length chains) (IsInColumn chains
-          (columns_of f (length l.chains) l.starts l.entries)) l.column l.offsets.items l.rows.items;
+          (columns_of f (length l.chains) l.starts l.entries)) l.column l.offsets.items
+          l.rows.items;
       counted : l.steps + slice_index l.starts l.column ≡ l.initial.steps + length l.rows.items;
       onward : l.initial.steps ≤ l.steps;
     }

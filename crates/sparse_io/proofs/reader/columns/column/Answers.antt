@@ -1,17 +1,20 @@
 use Rattle.std.proofs.Common.{◌≡◌, ◌-◌, ap, drop, refl, rules, sym, ◌∙◌, arith}
 use Rattle.sparse_io.specs.InnerPlaces.{places_left}
 use Rattle.sparse_parser.specs.Reads.{read_as}
-use Rattle.sparse_io.proofs.ColumnRuns.{column_start, column_more}
+use Rattle.sparse_io.proofs.ColumnRuns.{column_none, column_start, column_more}
 use Rattle.sparse_io.proofs.reader.columns.column.Goals as goal
 
 pub lines-init : goal.lines-init
 lines-init g c =
     let is = c.into_column-column.ensures in
-    let row = ap (λ x. x.row) is in
-    let col = ap (λ x. x.col) is in
-    let left = ap (λ x. x.left) is in
-    let rows = ap (λ x. x.list.matrix.nrows) is in
-    let cols = ap (λ x. x.list.matrix.ncols) is in
+    let made = c.into_column-column.result in
+    let row : made.row ≡ c.first-row.result.0 = ap (λ x. x.row) is in
+    let col : made.col ≡ c.first-row.result.1 = ap (λ x. x.col) is in
+    let left : made.left ≡ c.min-lines.result = ap (λ x. x.left) is in
+    let rows : made.list.matrix.nrows ≡ c.args.list.matrix.nrows =
+    ap (λ x. x.list.matrix.nrows) is in
+    let cols : made.list.matrix.ncols ≡ c.args.list.matrix.ncols =
+    ap (λ x. x.list.matrix.ncols) is in
     record {
       inside = c.requires.inside;
       begins = c.requires.begins;
@@ -68,3 +71,37 @@ returns-clause-on g c h general read = rw (
   sym (ap (λ x. x.left) c.into_column-column.ensures),
   sym (ap (λ x. x.list.matrix) c.into_column-column.ensures),
 ) (c.lines.invariant.on h general read)
+
+pub returns-then-row-nrows-clause-on : goal.returns-then-row-nrows-clause-on
+returns-then-row-nrows-clause-on g c h general read =
+    column_none g.T.MatrixMarketScalar.scalar h g.T.MatrixMarketScalar.value read _ _ _
+    c.requires.begins
+
+pub overflow_sub-nrows : goal.overflow_sub-nrows
+overflow_sub-nrows g c = omega (arith, c.if-row-nrows.false, c.nrows.ensures, c.nrows-2.ensures)
+
+pub into_column-column-requires-clause-rows : goal.into_column-column-requires-clause-rows
+into_column-column-requires-clause-rows g c = omega (
+  arith,
+  c.if-row-nrows.false,
+  c.nrows.ensures,
+  c.nrows-2.ensures,
+  c.min.ensures,
+  c.min-lines.ensures,
+)
+
+pub into_column-column-requires-clause-room : goal.into_column-column-requires-clause-room
+into_column-column-requires-clause-room g c =
+    omega (arith, c.room.ensures, c.min-most.ensures, c.min-lines.ensures)
+
+pub into_column-column-requires-clause-col : goal.into_column-column-requires-clause-col
+into_column-column-requires-clause-col g c =
+    omega (arith, c.if-col-ncols.false, c.ncols.ensures)
+
+pub returns-clause-count : goal.returns-clause-count
+returns-clause-count g c = omega (
+  arith,
+  c.rows_left.ensures.count,
+  c.min.ensures,
+  c.min-lines.ensures,
+)

@@ -23,7 +23,8 @@ columns-requires-clause-begins g c =
 pub columns-requires-clause-room : goal.columns-requires-clause-room
 columns-requires-clause-room g c =
     let first = c.columns-matrix.ensures c.args.header (c.requires.kind, c.in-General.is) in
-    let second = c.columns-matrix-in-General.ensures c.args.header (c.requires.kind, c.in-General.is) in
+    let second =
+    c.columns-matrix-in-General.ensures c.args.header (c.requires.kind, c.in-General.is) in
     let room = first.room in
     let less = second.room in
     let most = c.requires.room in

@@ -28,7 +28,8 @@ lines-smaller g c =
     front_read (drop c.lines.at c.args.text.now) _ _ c.lines.invariant.on.begins (omega arith)
     c.in-Some.ensures.read.is refl c.in-Some.ensures.read.same c.in-Some.ensures.read.shorter in
     let shorter = turn.shorter in
-    omega (arith, length-drop c.lines.at c.args.text.now, length-drop c.in-Some.next c.args.text.now)
+    omega
+    (arith, length-drop c.lines.at c.args.text.now, length-drop c.in-Some.next c.args.text.now)
 
 pub lines-preserved : goal.lines-preserved
 lines-preserved g c =

@@ -55,3 +55,12 @@ returns-clause-counted g c =
     c.into_iter-j-iterator.result c.loop-j.j-iterator c.next.new.self c.next.result
     (search rules) (search rules) c.loop-j.yielded_by c.in-None.is c.next.ensures.steps in
     omega (arith, c.loop-j.invariant.counted, count)
+
+pub bounds-row-j : goal.bounds-row-j
+bounds-row-j g c =
+    let turn = zip_turn c.args.columns.now c.args.values.now c.loop-j.yielded
+    c.into_iter-j-iterator.result c.loop-j.j-iterator c.next.new.self c.next.result
+    (search rules) (search rules) c.loop-j.yielded_by (c.in-Some.j, c.in-Some.value)
+    c.in-Some.is c.next.ensures.steps in
+    rw (turn.2 0)
+    (omega (arith, c.requires.inside (length c.loop-j.yielded) 0 turn.0, c.loop-j.auto.row))

@@ -5,6 +5,7 @@ use Rattle.std.proofs.lemmas.List.{get_or-set_same, get_or-set_other, get_or_def
 use Rattle.std.proofs.lemmas.List.Elements.{Contains-get_or}
 use Rattle.std.proofs.lemmas.List.Kept.{AllPairs-from_increasing}
 use Rattle.sparse_lemmas.proofs.Cases.{lt_add_one_cases}
+use Rattle.sparse_cs.proofs.RowSums.{offset_fits}
 use Rattle.sparse_ops.proofs.serial.scatter.gather_row.Goals as goal
 
 pub loop-at-preserved : goal.loop-at-preserved
@@ -75,3 +76,39 @@ returns g c =
           (subst (λ x. Contains js x) e (Contains-get_or js p 0 (omega (arith, whole)))));
       counted = omega (arith, inv.counted, whole);
     }
+
+pub offset_bounds-values-at : goal.offset_bounds-values-at
+offset_bounds-values-at g c =
+    let within : c.loop-at.at < length c.args.values.now = omega (arith, c.requires.count) in
+    let values = c.well_formed.1.1.1.0 in
+    offset_fits _ _ _ within values.1
+
+pub bounds-values-at : goal.bounds-values-at
+bounds-values-at g c = omega (arith, c.requires.count, c.loop-at.auto.values)
+
+pub offset_bounds-row-j : goal.offset_bounds-row-j
+offset_bounds-row-j g c =
+    let row = c.well_formed.1.1.0 in
+    offset_fits _ _ _ (c.requires.inside c.loop-at.at 0 (omega arith)) row.1
+
+pub bounds-row-j : goal.bounds-row-j
+bounds-row-j g c =
+    omega (arith, c.requires.inside c.loop-at.at 0 (omega arith), c.loop-at.auto.row)
+
+pub offset_bounds-values-at-in-loop-at : goal.offset_bounds-values-at-in-loop-at
+offset_bounds-values-at-in-loop-at g c =
+    let within : c.loop-at.at < length c.args.values.now = omega (arith, c.requires.count) in
+    let values = c.well_formed.1.1.1.0 in
+    offset_fits _ _ _ within values.1
+
+pub bounds-values-at-in-loop-at : goal.bounds-values-at-in-loop-at
+bounds-values-at-in-loop-at g c = omega (arith, c.requires.count, c.loop-at.auto.values)
+
+pub offset_bounds-row-j-in-loop-at : goal.offset_bounds-row-j-in-loop-at
+offset_bounds-row-j-in-loop-at g c =
+    let row = c.well_formed.1.1.0 in
+    offset_fits _ _ _ (c.requires.inside c.loop-at.at 0 (omega arith)) row.1
+
+pub bounds-row-j-in-loop-at : goal.bounds-row-j-in-loop-at
+bounds-row-j-in-loop-at g c =
+    omega (arith, c.requires.inside c.loop-at.at 0 (omega arith), c.loop-at.auto.row)

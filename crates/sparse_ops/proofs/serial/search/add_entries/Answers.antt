@@ -3,6 +3,7 @@ use Rattle.std.proofs.lemmas.List.{get_or_default, length_push, take_all}
 use Rattle.std.proofs.lemmas.Slice.Zip.{zip_turn, zip_end}
 use Rattle.sparse_algebra.proofs.RingLemmas.{mul_zero}
 use Rattle.sparse_cs.specs.InnerRows.{lane_value}
+use Rattle.sparse_cs.proofs.RowSums.{offset_fits}
 use Rattle.sparse_cs.proofs.LaneSearch.{place_of_is_position}
 use Rattle.sparse_sums.proofs.Placing.{missed}
 use Rattle.sparse_ops.proofs.SearchedEntries.{entry_more, others_kept}
@@ -90,3 +91,39 @@ returns g c =
       others = c.loop-j.invariant.others;
       counted = omega (arith, c.loop-j.invariant.counted, count, c.requires.fits);
     }
+
+pub offset_bounds-values-at : goal.offset_bounds-values-at
+offset_bounds-values-at g c =
+    let within : c.in-Some-position_of.at < length c.args.values.now = omega (
+      arith,
+      c.in-Some-position_of.ensures.within,
+      c.requires.count,
+    ) in
+    let values = c.well_formed.1.1.1.1.1.0 in
+    offset_fits _ _ _ within values.1
+
+pub bounds-values-at : goal.bounds-values-at
+bounds-values-at g c = omega (
+  arith,
+  c.in-Some-position_of.ensures.within,
+  c.requires.count,
+  c.loop-j.auto.values,
+)
+
+pub offset_bounds-values-at-in-Some-position_of : goal.offset_bounds-values-at-in-Some-position_of
+offset_bounds-values-at-in-Some-position_of g c =
+    let within : c.in-Some-position_of.at < length c.args.values.now = omega (
+      arith,
+      c.in-Some-position_of.ensures.within,
+      c.requires.count,
+    ) in
+    let values = c.well_formed.1.1.1.1.1.0 in
+    offset_fits _ _ _ within values.1
+
+pub bounds-values-at-in-Some-position_of : goal.bounds-values-at-in-Some-position_of
+bounds-values-at-in-Some-position_of g c = omega (
+  arith,
+  c.in-Some-position_of.ensures.within,
+  c.requires.count,
+  c.loop-j.auto.values,
+)

@@ -1,8 +1,7 @@
 use Rattle.std.proofs.lemmas.Result.{IfOk-from_err}
 use Rattle.std.proofs.lemmas.Grind.{common_steps}
-use Rattle.std.proofs.Common.{◌≡◌, ap, sym, ◌∙◌, arith}
+use Rattle.std.proofs.Common.{ap, sym, ◌∙◌, arith}
 use Rattle.sparse_algebra.specs.Plain.{Plain}
-use Rattle.sparse_cs.specs.PlainOfLanes.{plain_of_cols}
 use Rattle.sparse_ops.proofs.Updating.{cols_covered, cols_written}
 use Rattle.sparse_ops.proofs.serial.unchecked.spmm_csc_prealloc_unchecked.Goals as goal
 
@@ -16,41 +15,45 @@ pub returns-in_err-update_matrix-clause-updated : goal.returns-in_err-update_mat
 returns-in_err-update_matrix-clause-updated g c =
     IfOk-from_err _ _ c.from_residual-in_err-update_matrix.ensures.0
 
+pub update_matrix-requires-clause-inner : goal.update_matrix-requires-clause-inner
+update_matrix-requires-clause-inner g c =
+    let R = g.T.Ring.ring in
+    ap (λ (p : Plain R). p.rows) c.in_ok-b.ensures.plain ∙ sym c.requires.inner
+    ∙ sym (ap (λ (p : Plain R). p.cols) c.in_ok-a.ensures.plain)
+
 pub update_matrix-requires-clause-covered : goal.update_matrix-requires-clause-covered
 update_matrix-requires-clause-covered g c =
     let R = g.T.Ring.ring in
     let f = g.T.Ring.value in
-    let first = c.cs-first.result.now in
-    let second = c.cs-second.result.now in
-    let is_first = ap (plain_of_cols R f) (c.cs-first.ensures.core ∙ c.matrix.ensures)
-    ∙ c.in_ok-b.ensures.plain in
-    let is_second = ap (plain_of_cols R f) (c.cs-second.ensures.core ∙ c.matrix-2.ensures)
-    ∙ c.in_ok-a.ensures.plain in
-    let fits : first.pattern.minor_dim ≡ second.pattern.major_dim =
-    ap (λ (p : Plain R). p.rows) is_first ∙ sym c.requires.inner
-    ∙ sym (ap (λ (p : Plain R). p.cols) is_second) in
-    (cols_covered R f first second c.args.c.now _ _ c.pattern_and_values_mut-values.ensures.pattern
-    c.pattern_and_values_mut-values.ensures.values fits _ _ is_first is_second).1
+    let is_first = c.in_ok-b.ensures.plain in
+    let is_second = c.in_ok-a.ensures.plain in
+    (cols_covered R f _ _ c.args.c.now _ _ c.pattern_and_values_mut-values.ensures.pattern
+    c.pattern_and_values_mut-values.ensures.values _ _ is_first is_second c.requires.inner).1
     c.requires.covered
 
 pub returns-clause-updated : goal.returns-clause-updated
 returns-clause-updated g c =
     let R = g.T.Ring.ring in
     let f = g.T.Ring.value in
-    let first = c.cs-first.result.now in
-    let second = c.cs-second.result.now in
-    let is_first = ap (plain_of_cols R f) (c.cs-first.ensures.core ∙ c.matrix.ensures)
-    ∙ c.in_ok-b.ensures.plain in
-    let is_second = ap (plain_of_cols R f) (c.cs-second.ensures.core ∙ c.matrix-2.ensures)
-    ∙ c.in_ok-a.ensures.plain in
-    let fits : first.pattern.minor_dim ≡ second.pattern.major_dim =
-    ap (λ (p : Plain R). p.rows) is_first ∙ sym c.requires.inner
-    ∙ sym (ap (λ (p : Plain R). p.cols) is_second) in
-    cols_written R f first second c.args.c.now _ _ c.pattern_and_values_mut-values.ensures.pattern
-    c.pattern_and_values_mut-values.ensures.values fits _ _ is_first is_second
+    let is_first = c.in_ok-b.ensures.plain in
+    let is_second = c.in_ok-a.ensures.plain in
+    cols_written R f _ _ c.args.c.now _ _ c.pattern_and_values_mut-values.ensures.pattern
+    c.pattern_and_values_mut-values.ensures.values _ _ is_first is_second c.requires.inner
     (f c.args.beta) (f c.args.alpha) c.update_matrix.new.values c.update_matrix.auto.values
     c.in_ok-update_matrix.ensures.updated
 
 pub returns-in_err-update_matrix-clause-unchanged :
     goal.returns-in_err-update_matrix-clause-unchanged
 returns-in_err-update_matrix-clause-unchanged g c = grind (arith, common_steps)
+
+pub update_matrix-requires-clause-lanes : goal.update_matrix-requires-clause-lanes
+update_matrix-requires-clause-lanes g c =
+    let R = g.T.Ring.ring in
+    ap (λ (p : Plain R). p.cols) c.in_ok-b.ensures.plain ∙ c.requires.cols
+    ∙ sym (ap (λ d. d.major_dim) c.pattern_and_values_mut-values.ensures.pattern)
+
+pub update_matrix-requires-clause-width : goal.update_matrix-requires-clause-width
+update_matrix-requires-clause-width g c =
+    let R = g.T.Ring.ring in
+    ap (λ (p : Plain R). p.rows) c.in_ok-a.ensures.plain ∙ c.requires.rows
+    ∙ sym (ap (λ d. d.minor_dim) c.pattern_and_values_mut-values.ensures.pattern)

@@ -1,5 +1,5 @@
 use Rattle.std.proofs.Common.{arith, inl, inr, rules}
-use Rattle.std.proofs.lemmas.Result.{err_from_is_err_and}
+use Rattle.std.proofs.lemmas.Result.{IfOk-from_err, err_from_is_err_and}
 use Rattle.sparse_pattern.proofs.FirstFaults.{first_at_end, first_among}
 use Rattle.sparse_pattern.proofs.pattern.faults.check.Goals as goal
 use Rattle.sparse_pattern.proofs.pattern.faults.check.Goals.{then-end-start-via-then-end-start}
@@ -21,3 +21,36 @@ returns-in_err-check_lane-clause-fault c =
 
 pub loop-lane-init : goal.loop-lane-init
 loop-lane-init c = search rules
+
+pub overflow_add-major_dim : goal.overflow_add-major_dim
+overflow_add-major_dim c = omega arith
+
+pub bounds-offsets-0 : goal.bounds-offsets-0
+bounds-offsets-0 c = omega arith
+
+pub offset_bounds-offsets-major_dim : goal.offset_bounds-offsets-major_dim
+offset_bounds-offsets-major_dim c = omega arith
+
+pub bounds-offsets-major_dim : goal.bounds-offsets-major_dim
+bounds-offsets-major_dim c = omega arith
+
+pub offset_bounds-offsets-lane : goal.offset_bounds-offsets-lane
+offset_bounds-offsets-lane c = omega arith
+
+pub bounds-offsets-lane : goal.bounds-offsets-lane
+bounds-offsets-lane c = omega arith
+
+pub overflow_add-end : goal.overflow_add-end
+overflow_add-end c = omega arith
+
+pub offset_bounds-offsets-lane-in-loop-lane : goal.offset_bounds-offsets-lane-in-loop-lane
+offset_bounds-offsets-lane-in-loop-lane c = omega arith
+
+pub bounds-offsets-lane-in-loop-lane : goal.bounds-offsets-lane-in-loop-lane
+bounds-offsets-lane-in-loop-lane c = omega arith
+
+pub check_lane-requires : goal.check_lane-requires
+check_lane-requires c = omega arith
+
+pub returns-in_err-check_lane-clause-ok : goal.returns-in_err-check_lane-clause-ok
+returns-in_err-check_lane-clause-ok c = IfOk-from_err _ _ c.from_residual.ensures.0
