@@ -1,6 +1,6 @@
 //! A scalar as a user of the library may write one: its `==` is coarser than being identical.
 
-ghost use Rattle.std.specs.Prelude.{◌≡◌, ◌%◌, nat_eq, refl};
+ghost use Rattle.std.specs.Prelude.{◌%◌, nat_eq, refl};
 ghost use Rattle.std.proofs.Common.{rules};
 ghost use Rattle.std.specs.Cmp.Rules.{comparing};
 

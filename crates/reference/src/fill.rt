@@ -1,6 +1,6 @@
 //! The fill of a pattern, by its definition.
 
-ghost use Rattle.std.specs.Prelude.{◌≡◌, ◌≢◌, ℕ, ◌<◌, ◌≤◌, ◌↔◌, IfOk, IsTrue, MatchOption};
+ghost use Rattle.std.specs.Prelude.{◌≢◌, ℕ, ◌<◌, ◌↔◌, IfOk, IsTrue, MatchOption};
 ghost use Rattle.std.specs.List.{Contains, AllPairs};
 ghost use Rattle.sparse_pattern.specs.Raw.{IsValid};
 ghost use Rattle.sparse_factor.specs.Fill.{InFill, UpperBase};

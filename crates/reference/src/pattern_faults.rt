@@ -1,6 +1,6 @@
 //! The first fault of a pattern's raw data, by trying every spot.
 
-ghost use Rattle.std.specs.Prelude.{◌≡◌, ◌≤◌, ◌<◌, length, OnOk, IfErr};
+ghost use Rattle.std.specs.Prelude.{◌≤◌, ◌<◌, length, OnOk, IfErr};
 ghost use Rattle.sparse_pattern.specs.Raw.{IsValid, raw_of};
 ghost use Rattle.sparse_pattern.specs.PatternFaults.{IsFirstFault};
 ghost use Rattle.sparse_pattern.specs.InnerPatternFaults.{IsRisingBelow, IsFirstAmong, IsBadAt};

@@ -1,6 +1,6 @@
 -- Columns updated block after block.
 use Rattle.std.proofs.Common.{◌≡◌, ℕ, zero, suc, ◌+◌, ◌-◌, ◌*◌, ◌<◌, ◌≤◌, inl, inr, List, ◌++◌}
-use Rattle.std.proofs.Common.{length, get_or, take, drop, slice_range, ap, sym, ◌∙◌, refl}
+use Rattle.std.proofs.Common.{length, get_or, take, drop, slice_range, ap, sym, ◌∙◌}
 use Rattle.std.proofs.Common.{arith}
 use Rattle.std.proofs.Math.Nat.{add-mul, mul-le-mul_right}
 use Rattle.std.proofs.lemmas.List.{get_or-take, get_or-drop, get_or_append_left, get_or-append-add}
@@ -73,20 +73,6 @@ module _ (R : CommRing) {T : Type 0} (f : T → R.Carrier) (z : T) (beta alpha :
           ∙ ap f (get_or-append-add first rest (j * n + i) z)
           ∙ k.each i j row (omega arith)
           ∙ ap (λ v. updated R f z beta alpha v (x i (suc j))) (there (suc j * n + i) (j * n + i) e)
-
-  pub none_updated : (n : ℕ) (x : ℕ → ℕ → R.Carrier) (xs : List T)
-      → AreUpdatedBelow R f z beta alpha n 0 x xs xs
-  none_updated n x xs = record {
-    count = refl;
-    before = λ i j _ lt. absurd (omega arith);
-    behind =
-        λ p _. refl;
-  }
-
-  pub all_updated : (n m j : ℕ) (x : ℕ → ℕ → R.Carrier) (old now : List T) → m ≤ j
-      → AreUpdatedBelow R f z beta alpha n j x old now → AreUpdated R f z beta alpha n m x old now
-  all_updated n m j x old now le h = record
-      { count = h.count; each = λ i l row col. h.before i l row (omega arith) }
 
   -- a block of columns more
   pub block_more : (n m j w : ℕ) (x : ℕ → ℕ → R.Carrier) (old now new : List T)

@@ -1,10 +1,10 @@
 -- A column updated entry after entry.
-use Rattle.std.proofs.Common.{◌≡◌, ℕ, ◌+◌, ◌<◌, ◌≤◌, inl, inr, List, length, get_or, set, ap, sym}
-use Rattle.std.proofs.Common.{subst, ◌∙◌, refl, arith, get_or-set_same, get_or-set_other}
+use Rattle.std.proofs.Common.{◌≡◌, ℕ, ◌+◌, ◌<◌, inl, inr, List, length, get_or, set, ap, sym}
+use Rattle.std.proofs.Common.{subst, ◌∙◌, arith, get_or-set_same, get_or-set_other}
 use Rattle.std.proofs.lemmas.List.{get_or_default, length-set}
 use Rattle.sparse_lemmas.proofs.Cases.{lt_add_one_cases}
 use Rattle.sparse_algebra.specs.Algebra.{CommRing}
-use Rattle.sparse_dense.specs.InnerUpdates.{IsUpdatedAt, IsUpdatedBelow, IsUpdatedColumn}
+use Rattle.sparse_dense.specs.InnerUpdates.{IsUpdatedAt, IsUpdatedBelow}
 use Rattle.sparse_dense.specs.InnerUpdates.{updated}
 
 module _ (R : CommRing) {T : Type 0} (f : T → R.Carrier) (z : T) (beta alpha : R.Carrier) where
@@ -21,14 +21,6 @@ module _ (R : CommRing) {T : Type 0} (f : T → R.Carrier) (z : T) (beta alpha :
 
 module _ (R : CommRing) {T : Type 0} (f : T → R.Carrier) (z : T) (beta alpha : R.Carrier)
     (x : ℕ → R.Carrier) where
-  pub updated_none : (xs : List T) → IsUpdatedBelow R f z beta alpha 0 x xs xs
-  updated_none xs = record {
-    count = refl;
-    before = λ i lt. absurd (omega arith);
-    behind =
-        λ i _. refl;
-  }
-
   -- one entry more
   pub updated_more : (n : ℕ) (old now new : List T) (sum : R.Carrier)
       → IsUpdatedBelow R f z beta alpha n x old now
@@ -47,7 +39,3 @@ module _ (R : CommRing) {T : Type 0} (f : T → R.Carrier) (z : T) (beta alpha :
       here : f (get_or new n z) ≡ updated R f z beta alpha (get_or old n z) (x n)
       here = one.here ∙ ap (updated R f z beta alpha (get_or now n z)) is
           ∙ ap (λ v. updated R f z beta alpha v (x n)) (h.behind n (omega arith))
-
-  pub updated_all : (n : ℕ) (old now : List T) → length old ≤ n
-      → IsUpdatedBelow R f z beta alpha n x old now → IsUpdatedColumn R f z beta alpha x old now
-  updated_all n old now le h = record { count = h.count; each = λ i lt. h.before i (omega arith) }

@@ -1,6 +1,6 @@
 //! Products by rows of the sparse factor: an entry is the dot product of a row with a column.
 
-ghost use Rattle.std.specs.Prelude.{◌≡◌, ℕ, ◌<◌, ◌*◌, All, length, slice_index_or};
+ghost use Rattle.std.specs.Prelude.{◌≡◌, ◌<◌, ◌*◌, All, length, slice_index_or};
 ghost use Rattle.sparse_cs.specs.PlainOfLanes.{plain_of_rows};
 ghost use Rattle.sparse_dense.specs.InnerUpdates.{HasStrided, IsUpdatedAt, IsUpdatedColumn, dot_of};
 ghost use Rattle.sparse_dense.specs.InnerUpdates.{strided, times_vector};

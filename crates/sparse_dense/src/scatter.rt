@@ -1,6 +1,6 @@
 //! Products by columns of the sparse factor: a column of it is added to a column of the result, times one entry.
 
-ghost use Rattle.std.specs.Prelude.{◌≡◌, ℕ, ◌<◌, ◌+◌, ◌*◌, All, length, slice_index_or};
+ghost use Rattle.std.specs.Prelude.{◌≡◌, ℕ, ◌<◌, ◌*◌, All, length, slice_index_or};
 ghost use Rattle.sparse_cs.specs.InnerRows.{lane_value};
 ghost use Rattle.sparse_cs.specs.PlainOfLanes.{plain_of_cols};
 ghost use Rattle.sparse_dense.specs.InnerUpdates.{HasStrided, IsUpdatedColumn, strided};

@@ -1,6 +1,6 @@
 //! The update of a dense matrix, some columns at a time.
 
-ghost use Rattle.std.specs.Prelude.{◌≡◌, ℕ, ◌<◌, ◌≤◌, ◌+◌, ◌*◌, ◌⊎◌, false, length};
+ghost use Rattle.std.specs.Prelude.{◌≡◌, ◌<◌, ◌≤◌, ◌+◌, ◌*◌, ◌⊎◌, false, length};
 ghost use Rattle.sparse_algebra.specs.Plain.{plain_product};
 ghost use Rattle.sparse_op.specs.Prealloc.{plain_update};
 ghost use Rattle.sparse_base.specs.DensePlain.{plain_of_dense};

@@ -1,8 +1,8 @@
 //! The value of an expression over lists of triplets.
 
-ghost use Rattle.std.specs.Prelude.{◌≡◌, ℕ, Bool, Ok, IfOk, OnOk, map};
+ghost use Rattle.std.specs.Prelude.{◌≡◌, Bool, Ok, IfOk, OnOk, map};
 ghost use Rattle.std.specs.List.{AllZip};
-ghost use Rattle.sparse_algebra.specs.Plain.{Plain, plain_negation};
+ghost use Rattle.sparse_algebra.specs.Plain.{plain_negation};
 ghost use Rattle.sparse_base.specs.CooPlain.{plain_of_coo};
 ghost use Rattle.sparse_cs.specs.PlainOfLanes.{plain_of_rows, plain_of_cols};
 ghost use Rattle.sparse_expr.specs.Value.{value_of, Meets, sum_of, difference_of, product_of};

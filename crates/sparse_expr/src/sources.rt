@@ -1,6 +1,6 @@
 //! The inputs of an expression, each converted at most once by rows and once by columns.
 
-ghost use Rattle.std.specs.Prelude.{◌≡◌, Bool, List, IfOk, OnOk, map};
+ghost use Rattle.std.specs.Prelude.{◌≡◌, List, IfOk, OnOk, map};
 ghost use Rattle.std.specs.List.{AllZip};
 ghost use Rattle.sparse_base.specs.Coo.{Coo};
 ghost use Rattle.sparse_base.specs.CooPlain.{plain_of_coo};

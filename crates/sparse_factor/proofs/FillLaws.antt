@@ -25,10 +25,6 @@ row_base (given {i} {j} b) = (j, b)
 row_base (fill p q lt le) = row_base p
 
 module _ (base : ℕ → ℕ → Type 0) (low : (i j : ℕ) → base i j → j ≤ i) where
-  pub low_filled : {i j : ℕ} → Filled base i j → j ≤ i
-  low_filled (given {i} {j} b) = low i j b
-  low_filled (fill p q lt le) = le
-
   pub diagonal : (j r : ℕ) → base j r → Filled base j j
   diagonal j r b = elim (eq-or-lt_of_le (low j r b)) [
     | inl e ↦ given (subst (λ x. base j x) e b)

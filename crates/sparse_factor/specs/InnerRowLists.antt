@@ -1,6 +1,6 @@
 -- The rows of the fill as lists of columns in any order, row after row.
-use Rattle.std.specs.Prelude.{◌≡◌, ℕ, ◌+◌, ◌-◌, ◌<◌, ◌≤◌, ◌↔◌, List, length, slice_index}
-use Rattle.sparse_pattern.specs.Raw.{Raw, raw_of, start_of, end_of, IsInLane, IsPlace}
+use Rattle.std.specs.Prelude.{◌≡◌, ℕ, ◌+◌, ◌-◌, ◌<◌, ◌≤◌, List, length, slice_index}
+use Rattle.sparse_pattern.specs.Raw.{Raw, raw_of, start_of, end_of, IsInLane}
 
 -- offsets that increase from 0 to the number of indices, and indices in bounds, each once in its
 -- lane
@@ -12,10 +12,6 @@ pub record AreRowLists (d : Raw) : Type 0 where
   pub bounded : (p : ℕ) → p < length d.indices → slice_index d.indices p < d.minor_dim
   pub once : (i p q : ℕ) → IsInLane d i p → IsInLane d i q
       → slice_index d.indices p ≡ slice_index d.indices q → p ≡ q
-
--- lane i has exactly the columns of row i in the set
-abbrev pub StoresByRows : (ℕ → ℕ → Type 0) → Raw → Type 0
-StoresByRows set d = (i j : ℕ) → IsPlace d i j ↔ set i j
 
 -- the rows of a square pattern with one row fewer than offsets
 abbrev pub square_of : List ℕ → List ℕ → Raw

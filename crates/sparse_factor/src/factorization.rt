@@ -1,7 +1,7 @@
 //! Symbolic factorisations.
 
 ghost use Rattle.std.specs.Prelude.{◌≡◌, ℕ, ◌+◌, ◌<◌, ◌≤◌, ◌↔◌, List, length, IfOk, OnOk, IsTrue};
-ghost use Rattle.sparse_pattern.specs.Raw.{Raw, IsValid, IsPlace, nnz_of, HasSamePlaces};
+ghost use Rattle.sparse_pattern.specs.Raw.{IsValid, IsPlace, nnz_of, HasSamePlaces};
 ghost use Rattle.sparse_factor.specs.Fill.{InFill, UpperBase, StoresByColumns, ListsFill};
 ghost use Rattle.sparse_factor.specs.Walks.{StoresWalks, StoresDiagonal};
 ghost use Rattle.sparse_factor.specs.InnerFilled.{Filled};

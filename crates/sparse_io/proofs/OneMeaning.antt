@@ -73,12 +73,6 @@ one_document text h g s z ls ks a b =
     (cc, cc, cc)
 
 module _ (S : Scalar) where
-  not_document : (text : List ℕ) (r : Read (Coo S.Value)) → r ≡ Err ParsingError
-      → ((h : Header) (size : List (List ℕ)) (lines : List (List (List ℕ)))
-      → IsDocument text h size lines → ⊥)
-      → Means S text r
-  not_document text r e none_is = inl (none_is, e)
-
   contents_mean : (text : List ℕ) (words : List (List ℕ)) (others : List (List (List ℕ)))
       (header : Header) (contents : List (List (List ℕ)))
       → written_of text ≡ words ∷ others → header_of words ≡ Some header

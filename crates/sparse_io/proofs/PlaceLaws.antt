@@ -132,12 +132,6 @@ module _ (s : Symmetry) (rows cols : ℕ) where
             (left_outside row col (ltb-false col cols f)) in
             absurd (omega (arith, some, none))
 
-    pub left_end : cols ≤ col
-        → left_from s rows cols row col ≡ drop 1 (left_from s rows cols row col)
-    left_end le =
-        left_outside row col le
-        ∙ sym (ap (λ (l : List (ℕ × ℕ)). drop 1 l) (left_outside row col le))
-
     module _ (inside : col < cols → row < rows) where
       pub left_none : leb cols col ≡ (length (left_from s rows cols row col) == 0)
       left_none = by (ltb col cols) refl

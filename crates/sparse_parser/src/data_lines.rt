@@ -1,17 +1,15 @@
 //! Data lines.
 
-ghost use Rattle.std.specs.Prelude.{◌≡◌, pos, ◌+◌, ◌≤ℤ◌, ◌<ℤ◌, ◌≤◌, if◌then◌else◌, IsTrue, false};
-ghost use Rattle.std.specs.Prelude.{true, MatchOption, length};
-ghost use Rattle.std.specs.Str.Parse.{starts_with_minus, without_leading_sign};
+ghost use Rattle.std.specs.Prelude.{◌≡◌, pos, if◌then◌else◌, IsTrue, false, true, MatchOption};
+ghost use Rattle.std.specs.Str.Parse.{starts_with_minus};
 ghost use lib.IntN.{neg_ℤ};
 ghost use Rattle.sparse_parser.specs.declared.data_lines.Found.TheVariants as found;
 ghost use Rattle.sparse_parser.specs.Bytes.{is_blank, front, after};
 ghost use Rattle.sparse_parser.specs.InnerBytes.{is_solid};
 ghost use Rattle.sparse_parser.specs.Grammar.{is_integer, is_number, is_entry};
 ghost use Rattle.sparse_parser.specs.Meaning.{integer_of, number_of};
-ghost use Rattle.sparse_parser.specs.InnerReading.{found as found_read, found_number, line_words};
-ghost use Rattle.sparse_parser.specs.InnerLines.{is_plain, WriteNumber, IsNumber, IsFound, IsLine};
-ghost use Rattle.sparse_parser.specs.InnerLines.{StartsWord};
+ghost use Rattle.sparse_parser.specs.InnerReading.{found as found_read, line_words};
+ghost use Rattle.sparse_parser.specs.InnerLines.{is_plain, IsNumber, IsFound, IsLine, StartsWord};
 
 use crate::error::Cause;
 use crate::lines::{after_blanks, ends_line, ends_word, split_solid};

@@ -1,6 +1,6 @@
 //! Numbers at a position of a text: runs of digits.
 
-ghost use Rattle.std.specs.Prelude.{◌≡◌, ◌≤◌, ◌<◌, ◌+◌, MatchOption, length, drop};
+ghost use Rattle.std.specs.Prelude.{◌≤◌, ◌<◌, ◌+◌, MatchOption, length, drop};
 ghost use Rattle.sparse_parser.specs.InnerNumbers.{IsNumberRead, IsRunRead};
 
 use crate::lines::text_from;

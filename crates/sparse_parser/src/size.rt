@@ -1,8 +1,8 @@
 //! The size line.
 
-ghost use Rattle.std.specs.Prelude.{◌≡◌, [], ◌∷◌, ◌<◌, ◌^◌, IsTrue, MatchOption, None, Some, false};
+ghost use Rattle.std.specs.Prelude.{◌≡◌, [], ◌∷◌, ◌<◌, IsTrue, MatchOption, None, Some, false};
 ghost use Rattle.std.specs.Prelude.{true};
-ghost use Rattle.std.specs.Option.{option_map, SomeIff};
+ghost use Rattle.std.specs.Option.{option_map};
 ghost use Rattle.sparse_parser.specs.declared.header.Format.TheVariants.{Coordinate, Array};
 ghost use Rattle.sparse_parser.specs.declared.header.Symmetry.TheVariants.{General};
 ghost use Rattle.sparse_parser.specs.Grammar.{is_index, is_size};

@@ -15,9 +15,6 @@ module _ {X : Type 0} (xs ws : List X) (i : ℕ) (room : i + length ws ≤ lengt
       ap (λ n. take n (written ++ drop (length written) xs)) (sym length-parts)
       ∙ take-append_seam written (drop (length written) xs)
 
-  pub length-refill_from : length (refill_from xs i ws) ≡ length xs
-  length-refill_from = ap length refill_from-is ∙ length-parts
-
   -- inside the part that was written
   pub refill_from-inside : (q : ℕ) (z : X) → q < length ws
       → get_or (refill_from xs i ws) (i + q) z ≡ get_or ws q z

@@ -3,7 +3,6 @@ use Rattle.std.proofs.Common.{◌≡◌, ◌≢◌, ℕ, suc, ◌<◌, ◌≤◌
 use Rattle.sparse_lemmas.proofs.Cases.{three}
 use Rattle.sparse_algebra.specs.Algebra.{CommRing}
 use Rattle.sparse_algebra.specs.Sums.{sum_below}
-use Rattle.sparse_algebra.proofs.RingLemmas.{zero_add}
 use Rattle.sparse_algebra.proofs.SumLemmas.{sum_below-same}
 use Rattle.sparse_solve.specs.InnerColumns.{SolvesColumn}
 use Rattle.sparse_solve.proofs.RingSteps.{mul_off, add_off, moved_over, back, divided}
@@ -19,13 +18,6 @@ module _ (R : CommRing) where
     pub before : (i : ℕ) → i < n → i < k → sum_below R k (λ c. R.mul (t i c) (x c)) ≡ b i
     pub after : (i : ℕ) → i < n → k ≤ i → R.add (sum_below R k (λ c. R.mul (t i c) (x c))) (x i) ≡ b
         i
-
-  pub forward_start : (n : ℕ) (t : ℕ → ℕ → R.Carrier) (x : ℕ → R.Carrier) → IsForward n 0 t x x
-  forward_start n t x = record {
-    before = λ i lt none. absurd (omega arith);
-    after =
-        λ i lt _. zero_add R (x i);
-  }
 
   pub forward_end : (n : ℕ) (t : ℕ → ℕ → R.Carrier) (x b : ℕ → R.Carrier) → IsForward n n t x b
       → SolvesColumn R n t x b

@@ -1,6 +1,6 @@
 //! The solve of a triangular system.
 
-ghost use Rattle.std.specs.Prelude.{◌≡◌, ℕ, ◌<◌, ◌↔◌, IsErr, OnOk, OnErr, IfErr};
+ghost use Rattle.std.specs.Prelude.{◌≡◌, ◌<◌, ◌↔◌, IsErr, OnOk, OnErr, IfErr};
 ghost use Rattle.std.specs.Bool.{MatchBool};
 ghost use Rattle.sparse_op.specs.declared.error.OperationErrorKind.TheVariants.{Singular};
 ghost use Rattle.sparse_op.specs.Operands.{inner_of, plain_op};

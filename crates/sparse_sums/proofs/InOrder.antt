@@ -217,14 +217,6 @@ module _ (R : CommRing) {T : Type 0} (f : T → R.Carrier) (z : T) (d : Raw) (a 
         (R.mul alpha ((plain_of_rows R f a).value i j))
     pub kept : (p : ℕ) → start_of d n ≤ p → get_or now p z ≡ get_or old p z
 
-  pub none_below : (old : List T) → AreAddedBelow old old 0
-  none_below old = record {
-    count = refl;
-    added = λ i j p lt at. absurd (omega (arith, lt));
-    kept =
-        λ p le. refl;
-  }
-
   pub added_more : IsValid d → IsSound a → a.pattern.major_dim ≡ d.major_dim
       → (old now new : List T) (n : ℕ)
       → n < d.major_dim → AreAddedBelow old now n

@@ -14,12 +14,9 @@ abbrev pub index_in : Bool → ℕ → ℕ → ℕ
 index_in true i j = i
 index_in false i j = j
 
--- the number of lanes of the operand, transposed or not, and their length
+-- the number of lanes of the operand, transposed or not
 abbrev pub lanes_of_op : Bool → Raw → ℕ
 lanes_of_op turned d = lane_in turned d.major_dim d.minor_dim
-
-abbrev pub width_of_op : Bool → Raw → ℕ
-width_of_op turned d = index_in turned d.major_dim d.minor_dim
 
 -- the operand, transposed or not
 abbrev pub plain_turned : (R : CommRing) → Bool → Plain R → Plain R

@@ -3,7 +3,6 @@
 ghost use Rattle.std.specs.Prelude.{◌≡◌, ℕ, ◌<◌, ◌↔◌, true, false, IsTrue, IsOk, IfErr, OnOk};
 ghost use Rattle.std.specs.Prelude.{OnErr, IfSome, length, slice_index_or};
 ghost use Rattle.sparse_op.specs.declared.error.OperationErrorKind.TheVariants.{InvalidPattern};
-ghost use Rattle.sparse_pattern.specs.Raw.{IsPlace};
 ghost use Rattle.sparse_cs.specs.Compressed.{IsPosition, IsSound};
 ghost use Rattle.sparse_cs.specs.PlainOfLanes.{plain_of_rows, plain_of_cols};
 ghost use Rattle.sparse_cs.specs.StoredEntries.{place_of};

@@ -1,6 +1,6 @@
 //! Large patterns: work that is not counted, or counted twice, would not come to an end.
 
-ghost use Rattle.std.specs.Prelude.{◌<◌, ◌^◌};
+ghost use Rattle.std.specs.Prelude.{◌<◌};
 
 use crate::square_patterns::Columns;
 use sparse_factor::factorization::CscSymbolicCholesky;

@@ -1,7 +1,7 @@
 //! Conversions from dense matrices. They store the values that are not `==` to zero.
 
-ghost use Rattle.std.specs.Prelude.{◌≡◌, ◌+◌, ◌*◌, ◌<◌, ◌≤◌, ◌^◌, ◌++◌, ℕ, IfOk, OnOk, length, map};
-ghost use Rattle.std.specs.Prelude.{not, slice_index_or};
+ghost use Rattle.std.specs.Prelude.{◌≡◌, ◌+◌, ◌*◌, ◌<◌, ◌^◌, ◌++◌, ℕ, IfOk, OnOk, length, map, not};
+ghost use Rattle.std.specs.Prelude.{slice_index_or};
 ghost use Rattle.std.specs.List.{filter};
 ghost use Rattle.sparse_base.specs.Coo.{coo_of, appended};
 ghost use Rattle.sparse_base.specs.Dense.{Dense};

@@ -1,8 +1,7 @@
 //! The rows of the factor, found by climbing the elimination tree from chain to chain.
 
 ghost use Rattle.std.specs.Prelude.{◌≡◌, ℕ, ◌+◌, ◌<◌, ◌≤◌, List, [], ◌∷◌, ◌++◌, length, map};
-ghost use Rattle.std.specs.Prelude.{replicate, IfOk, OnOk, slice_index, slice_set, vec_len};
-ghost use Rattle.std.specs.Prelude.{vec_capacity};
+ghost use Rattle.std.specs.Prelude.{replicate, IfOk, slice_index, slice_set, vec_len, vec_capacity};
 ghost use Rattle.sparse_pattern.specs.Raw.{Raw, nnz_of};
 ghost use Rattle.sparse_factor.specs.Fill.{UpperBase, ListsFill};
 ghost use Rattle.sparse_factor.specs.InnerFilled.{Filled};

@@ -2,7 +2,7 @@
 //!
 //! The loop over the lines of a column writes their values alone, and the shape is tested once a column.
 
-ghost use Rattle.std.specs.Prelude.{◌≡◌, ◌≤◌, ◌<◌, ◌+◌, ℕ, true, length, drop};
+ghost use Rattle.std.specs.Prelude.{◌≤◌, ◌<◌, ◌+◌, ℕ, true, length, drop};
 ghost use Rattle.sparse_parser.specs.declared.header.Header.{Header};
 ghost use Rattle.sparse_parser.specs.InnerBytes.{BeginsLine};
 ghost use Rattle.sparse_parser.specs.Meaning.{values_of};

@@ -1,6 +1,6 @@
 //! The triplets of a data line.
 
-ghost use Rattle.std.specs.Prelude.{◌≡◌, [], ◌∷◌, ℕ, Option, None, true, IsTrue, map, Ok, Err};
+ghost use Rattle.std.specs.Prelude.{◌≡◌, [], ◌∷◌, ℕ, Option, None, true, map, Ok, Err};
 ghost use Rattle.sparse_parser.specs.declared.header.Format.TheVariants.{Coordinate, Array};
 ghost use Rattle.sparse_parser.specs.declared.header.Field.TheVariants.{Integer};
 ghost use Rattle.sparse_parser.specs.Errors.{kind_of_cause};

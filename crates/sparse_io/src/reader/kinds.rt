@@ -1,6 +1,6 @@
 //! The kinds of data lines that are read by loops of their own.
 
-ghost use Rattle.std.specs.Prelude.{◌≡◌, ◌≤◌, MatchOption, Ok, length, drop, map, slice_get};
+ghost use Rattle.std.specs.Prelude.{◌≤◌, MatchOption, Ok, length, drop, map, slice_get};
 ghost use Rattle.sparse_parser.specs.InnerBytes.{BeginsLine};
 ghost use Rattle.sparse_parser.specs.Meaning.{value_triplet};
 ghost use Rattle.sparse_io.specs.InnerEntries.{both_of, IsLineRead};

@@ -3,8 +3,7 @@
 ghost use Rattle.std.specs.Prelude.{◌≡◌, ℕ, ◌+◌, ◌<◌, ◌↔◌, length, slice_index_or, All, Contains};
 ghost use Rattle.std.specs.Prelude.{IfSome, IsTrue};
 ghost use Rattle.sparse_algebra.specs.Plain.{plain_product};
-ghost use Rattle.sparse_pattern.specs.Raw.{IsInLane, IsPlace, IsValid, nnz_of, start_of, end_of};
-ghost use Rattle.sparse_pattern.specs.Raw.{lane_of};
+ghost use Rattle.sparse_pattern.specs.Raw.{IsInLane, IsPlace, nnz_of, start_of, end_of, lane_of};
 ghost use Rattle.sparse_cs.specs.ChangedValues.{AreChanged};
 ghost use Rattle.sparse_cs.specs.Compressed.{IsPosition};
 ghost use Rattle.sparse_cs.specs.StoredEntries.{place_of};
