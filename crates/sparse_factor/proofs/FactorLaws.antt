@@ -1,16 +1,26 @@
 -- The columns of a factor, from its rows.
-use Rattle.std.proofs.Common.{◌≡◌, ℕ, ◌<◌, ◌≤◌, ◌↔◌, Bool, true, IsTrue, ◌&&◌, ltb, arith}
+use Rattle.std.proofs.Common.{◌≡◌, ℕ, ◌<◌, ◌≤◌, inl, inr, ◌↔◌, Bool, true, IsTrue, ◌&&◌, ltb}
+use Rattle.std.proofs.Common.{List, Result, Ok, Err, IfOk, refl, sym, ap, ◌∙◌, subst, arith}
 use Rattle.std.proofs.Math.Dec.{eqb}
 use Rattle.std.specs.Set.{is_member}
+use Rattle.std.proofs.Common.{rules}
+use Rattle.std.specs.Cmp.{IsEquivalence}
+use Rattle.std.specs.Cmp.Rules.{comparing}
 use Rattle.std.proofs.lemmas.Bool.Decides.{nat_tests, Decides-eqb}
 use Rattle.std.proofs.lemmas.Map.Made.{is_member-Decides}
 use Rattle.sparse_lemmas.proofs.Cases.{and_parts, and_both}
-use Rattle.sparse_pattern.specs.Raw.{Raw, lane_of, IsValid, IsPlace}
+use Rattle.sparse_pattern.specs.Raw.{Raw, lane_of, IsValid, IsPlace, raw_eq, HasSamePlaces}
+use Rattle.sparse_pattern.specs.TransposedPattern.{IsTransposedPattern}
 use Rattle.sparse_pattern.proofs.LaneLists.{lane_has}
-use Rattle.sparse_factor.specs.Fill.{InFill, UpperBase, StoresByColumns}
+use Rattle.sparse_pattern.proofs.SamePlaces.{places_decide}
+use Rattle.sparse_sums.specs.PatternSums.{IsUnionOf}
+use Rattle.sparse_factor.specs.declared.factorization.Triangle.{Triangle}
+use Rattle.sparse_factor.specs.declared.factorization.Triangle.TheVariants.{Upper, Lower, Both}
+use Rattle.sparse_factor.specs.Fill.{InFill, LowerBase, TriangleBase, StoresByColumns, ListsFill}
+use Rattle.sparse_factor.specs.Symbolic.{Symbolic, symbolic_eq, IsFactorOf}
 use Rattle.sparse_factor.specs.Walks.{StoresWalks, StoresDiagonal}
 use Rattle.sparse_factor.specs.InnerFilled.{Filled}
-use Rattle.sparse_factor.proofs.FillLaws.{in_fill, filled_in, filled_diagonal}
+use Rattle.sparse_factor.proofs.FillLaws.{in_fill, filled_in, filled_diagonal, filled_into}
 use Rattle.sparse_factor.proofs.WalkLaws.{filled_walk}
 
 below_true : (a b : ℕ) → a < b → ltb a b ≡ true
@@ -57,5 +67,80 @@ module _ (base : ℕ → ℕ → Type 0) (low : (i j : ℕ) → base i j → j �
       let at = filled_diagonal base low j in
       (λ h. at.0 (same.0 h), λ b. same.1 (at.1 b))
 
-pub upper_low : (p : Raw) (i j : ℕ) → UpperBase p i j → j ≤ i
-upper_low p i j b = b.1
+-- ---- the bases of the triangles
+
+pub triangle_low : (triangle : Triangle) (p : Raw) (i j : ℕ) → TriangleBase triangle p i j → j ≤ i
+triangle_low Upper p i j b = b.1
+triangle_low Lower p i j b = b.1
+triangle_low Both p i j (inl b) = b.1
+triangle_low Both p i j (inr b) = b.1
+
+pub upper_is : (p t : Raw) → IsTransposedPattern p t → (i j : ℕ)
+    → LowerBase t i j ↔ TriangleBase Upper p i j
+upper_is p t is i j = (
+  λ b. ((is.places i j).0 b.0, b.1),
+  λ b. ((is.places i j).1 b.0, b.1),
+)
+
+pub lower_is : (p : Raw) (i j : ℕ) → LowerBase p i j ↔ TriangleBase Lower p i j
+lower_is p i j = (λ b. b, λ b. b)
+
+pub both_is : (p t u : Raw) → IsTransposedPattern p t → IsUnionOf u p t → (i j : ℕ)
+    → LowerBase u i j ↔ TriangleBase Both p i j
+both_is p t u is union i j = (
+  λ b. elim ((union j i).0 b.0) [
+    | inl lower ↦ inr (lower, b.1)
+    | inr upper ↦ inl ((is.places i j).0 upper, b.1)
+  ],
+  λ b. elim b [
+    | inl upper ↦ ((union j i).1 (inr ((is.places i j).1 upper.0)), upper.1)
+    | inr lower ↦ ((union j i).1 (inl lower.0), lower.1)
+  ],
+)
+
+-- bases with the same pairs have the same fill
+module _ {a b : ℕ → ℕ → Type 0} (same : (i j : ℕ) → a i j ↔ b i j) where
+  places_same : (l : Raw) → ((i j : ℕ) → IsPlace l j i ↔ Filled a i j) → (i j : ℕ)
+      → IsPlace l j i ↔ Filled b i j
+  places_same l is i j = (
+    λ h. filled_into (λ i j x. (same i j).0 x) ((is i j).0 h),
+    λ f. (is i j).1 (filled_into (λ i j x. (same i j).1 x) f),
+  )
+
+  pub places_at_ok : {E : Type 0} (r : Result Raw E)
+      → IfOk r (λ l. (i j : ℕ) → IsPlace l j i ↔ Filled a i j)
+      → IfOk r (λ l. (i j : ℕ) → IsPlace l j i ↔ Filled b i j)
+  places_at_ok (Ok l) is = places_same l is
+  places_at_ok (Err e) is = tt
+
+  pub lists_same : (fill : List (ℕ × ℕ)) → ListsFill b fill → ListsFill a fill
+  lists_same fill all i j h =
+      all i j (λ set closed holds. h set closed (λ i j x. holds i j ((same i j).0 x)))
+
+-- ---- one factor
+
+raw_equiv : IsEquivalence raw_eq
+raw_equiv = search (comparing, rules)
+
+module _ (triangle : Triangle) (s t : Symbolic) (input : s.input ≡ t.input)
+    (a : IsFactorOf triangle s) (b : IsFactorOf triangle t) where
+  same_factor : HasSamePlaces s.factor t.factor
+  same_factor =
+      let fill = subst (λ d. StoresByColumns (InFill (TriangleBase triangle d)) s.factor) input
+      a.fill in
+      record {
+        major_dim = a.columns ∙ ap (λ d. d.major_dim) input ∙ sym b.columns;
+        minor_dim = a.rows ∙ ap (λ d. d.minor_dim) input ∙ sym b.rows;
+        places = λ j i. (
+          λ h. (b.fill i j).1 ((fill i j).0 h),
+          λ h. (fill i j).1 ((b.fill i j).0 h),
+        );
+      }
+
+  pub factors_equal : IsTrue (symbolic_eq s t)
+  factors_equal =
+      let inputs : raw_eq s.input t.input ≡ true =
+      subst (λ d. raw_eq s.input d ≡ true) input (raw_equiv.refl s.input) in
+      let factors = (places_decide s.factor t.factor a.valid b.valid
+      (raw_eq s.factor t.factor) refl).1 same_factor in
+      and_both (raw_eq s.input t.input) (raw_eq s.factor t.factor) inputs factors

@@ -1,5 +1,5 @@
--- Laws of the fill of a base: it is the smallest closed set, and climbs find its rows.
-use Rattle.std.proofs.Common.{ℕ, zero, suc, ◌+◌, ◌<◌, ◌≤◌, ◌↔◌, inl, inr, Bool, IsTrue, subst}
+-- Laws of the fill of a base: it is the smallest closed set, and a column comes from its children.
+use Rattle.std.proofs.Common.{ℕ, zero, suc, ◌+◌, ◌<◌, ◌≤◌, ◌⊎◌, ◌↔◌, inl, inr, Bool, IsTrue, subst}
 use Rattle.std.proofs.Common.{arith}
 use Rattle.std.proofs.Math.Nat.{eq-or-lt_of_le}
 use Rattle.sparse_factor.specs.Fill.{InFill}
@@ -24,7 +24,17 @@ pub row_base : {base : ℕ → ℕ → Type 0} {i j : ℕ} → Filled base i j �
 row_base (given {i} {j} b) = (j, b)
 row_base (fill p q lt le) = row_base p
 
+-- the fills of two bases with the same pairs
+pub filled_into : {a b : ℕ → ℕ → Type 0} → ((i j : ℕ) → a i j → b i j) → {i j : ℕ} → Filled a i j
+    → Filled b i j
+filled_into into (given {i} {j} x) = given (into i j x)
+filled_into into (fill p q lt le) = fill (filled_into into p) (filled_into into q) lt le
+
 module _ (base : ℕ → ℕ → Type 0) (low : (i j : ℕ) → base i j → j ≤ i) where
+  pub low_filled : {i j : ℕ} → Filled base i j → j ≤ i
+  low_filled (given {i} {j} b) = low i j b
+  low_filled (fill p q lt le) = le
+
   pub diagonal : (j r : ℕ) → base j r → Filled base j j
   diagonal j r b = elim (eq-or-lt_of_le (low j r b)) [
     | inl e ↦ given (subst (λ x. base j x) e b)
@@ -34,28 +44,35 @@ module _ (base : ℕ → ℕ → Type 0) (low : (i j : ℕ) → base i j → j �
   pub filled_diagonal : (j : ℕ) → Filled base j j ↔ ((r : ℕ) × base j r)
   filled_diagonal j = ((λ f. row_base f), (λ b. diagonal j b.0 b.1))
 
--- the nodes of row i; the parent of each node below i is one of them
-abbrev pub IsClimbed : (ℕ → ℕ → Type 0) → ℕ → (ℕ → Type 0) → Type 0
-IsClimbed base i M =
-    (k : ℕ) → M k → k < i →
-    (p : ℕ) × (k < p) × (p ≤ i) × M p × Filled base p k
-    × ((q : ℕ) → k < q → q ≤ i → Filled base q k → p ≤ q)
+-- p is the least row of column k below the diagonal
+pub record IsParent (base : ℕ → ℕ → Type 0) (k p : ℕ) : Type 0 where
+  pub above : k < p
+  pub filled : Filled base p k
+  pub least : (q : ℕ) → k < q → Filled base q k → p ≤ q
 
-climbs : (base : ℕ → ℕ → Type 0) (n i j k : ℕ) (M : ℕ → Type 0) → IsClimbed base i M → j ≤ k + n
-    → k < j → j ≤ i →
-    M k → Filled base j k → M j
-climbs base zero i j k M climbed near lt le m g = absurd (omega arith)
-climbs base (suc n) i j k M climbed near lt le m g =
-    let (p, up, within, mp, fp, least) = climbed k m (omega arith) in
-    elim (eq-or-lt_of_le (least j lt le g)) [
-      | inl e ↦ subst (λ x. M x) e mp
-      | inr l ↦ climbs base n i j p M climbed (omega arith) l le mp (fill g fp up (omega arith))
-    ]
+-- each column before j that has a row below its diagonal has a parent
+abbrev pub HaveParents : (ℕ → ℕ → Type 0) → ℕ → Type 0
+HaveParents base j = (k q : ℕ) → k < j → k < q → Filled base q k → (p : ℕ) × IsParent base k p
 
--- row i is exactly what the climbs from its base mark
-pub row_fill : (base : ℕ → ℕ → Type 0) {i j : ℕ} → Filled base i j → (M : ℕ → Type 0)
-    → IsClimbed base i M →
-    ((k : ℕ) → base i k → M k) → M j
-row_fill base (given {i} {j} b) M climbed holds = holds j b
-row_fill base (fill {i} {j} {k} f g lt le) M climbed holds =
-    climbs base j i j k M climbed (omega arith) lt le (row_fill base f M climbed holds) g
+module _ (base : ℕ → ℕ → Type 0) where
+  -- two rows of a column before j are both in a child of j
+  in_child : (n i j k : ℕ) → HaveParents base j → j ≤ k + n → k < j → j ≤ i → Filled base i k
+      → Filled base j k → (c : ℕ) × (c < j) × IsParent base c j × Filled base i c
+  in_child zero i j k parents near lt le f g = absurd (omega arith)
+  in_child (suc n) i j k parents near lt le f g =
+      let (p, is) = parents k j lt lt g in
+      elim (eq-or-lt_of_le (is.least j lt g)) [
+        | inl e ↦ (k, lt, subst (IsParent base k) e is, f)
+        | inr l ↦ in_child n i j p parents (omega (arith, is.above)) l le
+            (fill f is.filled is.above (omega arith)) (fill g is.filled is.above (omega arith))
+      ]
+
+  -- a column is its base and the columns of its children
+  pub column_fill : {i j : ℕ} → Filled base i j → HaveParents base j
+      → base i j ⊎ ((c : ℕ) × (c < j) × IsParent base c j × Filled base i c)
+  column_fill (given b) parents = inl b
+  column_fill (fill {i} {j} {k} f g lt le) parents =
+      inr (in_child j i j k parents (omega arith) lt le f g)
+
+  pub child_filled : (i j c : ℕ) → IsParent base c j → Filled base i c → c < i → Filled base i j
+  child_filled i j c is f lt = fill f is.filled is.above (is.least i lt f)

@@ -1,5 +1,5 @@
 -- Runs of a list: their numbers, and the same runs after the list has grown.
-use Rattle.std.proofs.Common.{◌≡◌, ℕ, ◌+◌, ◌-◌, ◌<◌, ◌≤◌, inl, inr, ◌↔◌, List, ◌++◌, length, get_or}
+use Rattle.std.proofs.Common.{◌≡◌, ℕ, zero, suc, ◌+◌, ◌-◌, ◌<◌, ◌≤◌, inl, inr, ◌↔◌, List, ◌++◌, length, get_or}
 use Rattle.std.proofs.Common.{take, drop, slice_range, Contains, length-append, ap, sym, ◌∙◌, refl}
 use Rattle.std.proofs.Common.{arith}
 use Rattle.std.specs.List.Sorted.{IsStrictlyIncreasing}
@@ -119,3 +119,28 @@ module _ (xs : List ℕ) (low high : ℕ) (run : IsRun xs low high) where
       let ordered = run.ordered in
       ap (take (high - low)) (drop-append-le low xs ys (omega arith))
       ∙ take-append-le (high - low) (drop low xs) ys (omega (arith, length-drop low xs))
+
+-- numbers of a strictly increasing list
+rising_at : (xs : List ℕ) → IsStrictlyIncreasing xs → (p n : ℕ) → p + suc n < length xs
+    → get_or xs p 0 < get_or xs (p + suc n) 0
+rising_at xs rising p zero lt =
+    let e : p + 1 ≡ p + suc zero = omega arith in
+    omega (arith, rising p (omega arith), ap (λ q. get_or xs q 0) e)
+rising_at xs rising p (suc n) lt =
+    let e : p + suc n + 1 ≡ p + suc (suc n) = omega arith in
+    omega (
+      arith,
+      rising_at xs rising p n (omega arith),
+      rising (p + suc n) (omega arith),
+      ap (λ q. get_or xs q 0) e,
+    )
+
+-- a strictly increasing list is one run
+pub run_whole : (xs : List ℕ) → IsStrictlyIncreasing xs → IsRun xs 0 (length xs)
+run_whole xs rising = record {
+  ordered = omega arith;
+  inside = omega arith;
+  rising = λ p q from lt to.
+      let e : p + suc (q - p - 1) ≡ q = omega arith in
+      omega (arith, rising_at xs rising p (q - p - 1) (omega arith), ap (λ r. get_or xs r 0) e);
+}

@@ -1,7 +1,9 @@
 -- The fill of a symmetric elimination: the smallest closed set that contains a base.
-use Rattle.std.specs.Prelude.{ℕ, ◌<◌, ◌≤◌, ◌↔◌, Bool, IsTrue, List}
+use Rattle.std.specs.Prelude.{ℕ, ◌<◌, ◌≤◌, ◌↔◌, ◌⊎◌, Bool, IsTrue, List}
 use Rattle.std.specs.List.{Contains}
 use Rattle.sparse_pattern.specs.Raw.{Raw, IsPlace}
+use Rattle.sparse_factor.specs.declared.factorization.Triangle.{Triangle}
+use Rattle.sparse_factor.specs.declared.factorization.Triangle.TheVariants.{Upper, Lower, Both}
 
 -- if the set has (i, k) and (j, k) with k < j ≤ i, then it has (i, j): eliminating column k adds
 -- column j to row i
@@ -20,6 +22,16 @@ InFill base i j = (set : ℕ → ℕ → Bool) → IsFillClosed set → HoldsBas
 -- the upper triangle transposed
 abbrev pub UpperBase : Raw → ℕ → ℕ → Type 0
 UpperBase p c r = IsPlace p c r × (r ≤ c)
+
+-- the base of the lower triangle: (r, c) for each stored row r ≥ c of column c
+abbrev pub LowerBase : Raw → ℕ → ℕ → Type 0
+LowerBase p r c = IsPlace p c r × (c ≤ r)
+
+-- the base by triangle; that of both triangles is the union
+abbrev pub TriangleBase : Triangle → Raw → ℕ → ℕ → Type 0
+TriangleBase Upper p i j = UpperBase p i j
+TriangleBase Lower p i j = LowerBase p i j
+TriangleBase Both p i j = UpperBase p i j ⊎ LowerBase p i j
 
 -- the pattern, read by columns, has exactly the pairs (row, column) of the set
 abbrev pub StoresByColumns : (ℕ → ℕ → Type 0) → Raw → Type 0

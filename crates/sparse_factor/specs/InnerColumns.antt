@@ -1,8 +1,5 @@
--- The columns of a factor along the chains of the elimination tree.
-use Rattle.std.specs.Prelude.{◌≡◌, ℕ, ◌<◌, ◌≤◌, List, length, slice_index}
-use Rattle.std.specs.List.{Contains}
-use Rattle.sparse_pattern.specs.Raw.{Raw, IsPlace}
-use Rattle.sparse_factor.specs.InnerChains.{chain_of}
+-- Finished columns: their offsets, and their rows one column after another.
+use Rattle.std.specs.Prelude.{◌≡◌, ℕ, ◌+◌, ◌<◌, ◌≤◌, List, length, slice_index, Contains}
 
 -- the positions from low to high are within the list, and its numbers there are strictly increasing
 pub record IsRun (xs : List ℕ) (low high : ℕ) : Type 0 where
@@ -17,12 +14,22 @@ pub record IsInRun (xs : List ℕ) (low high x : ℕ) : Type 0 where
   pub to : at < high
   pub is : slice_index xs at ≡ x
 
--- row i, which is not above the diagonal, has an entry at column j or before it on the chain
-abbrev pub IsInColumn : List ℕ → Raw → ℕ → ℕ → Type 0
-IsInColumn chains entries j i = (j ≤ i)
-    × ((k : ℕ) × (k ≤ j) × (chain_of chains k ≡ chain_of chains j) × IsPlace entries k i)
+-- row i is in column k
+abbrev pub IsInColumn : List ℕ → List ℕ → ℕ → ℕ → Type 0
+IsInColumn offsets rows k i = IsInRun rows (slice_index offsets k) (slice_index offsets (k + 1)) i
 
--- the list contains every pair (row, column) of the columns
-abbrev pub ListsColumns : List ℕ → Raw → List (ℕ × ℕ) → Type 0
-ListsColumns chains entries pairs = (i j : ℕ) → IsInColumn chains entries j i
-    → Contains pairs (i, j)
+-- row i is in column k, below the diagonal
+abbrev pub IsInTail : List ℕ → List ℕ → ℕ → ℕ → Type 0
+IsInTail offsets rows k i = IsInColumn offsets rows k i × (k < i)
+
+-- the columns are strictly increasing, and have no row above the diagonal
+pub record AreColumns (offsets rows : List ℕ) : Type 0 where
+  pub runs : (k : ℕ) → k + 1 < length offsets
+      → IsRun rows (slice_index offsets k) (slice_index offsets (k + 1))
+  pub low : (k i : ℕ) → k + 1 < length offsets → IsInColumn offsets rows k i → k ≤ i
+
+-- p is the least row of the lane below the diagonal of `column`
+pub record IsFirstBelow (lane : List ℕ) (column p : ℕ) : Type 0 where
+  pub below : column < p
+  pub stored : Contains lane p
+  pub least : (q : ℕ) → column < q → Contains lane q → p ≤ q

@@ -2,10 +2,6 @@ pub mod Fill
 pub mod Walks
 pub mod Symbolic
 pub mod InnerFilled
-pub mod InnerRowLists
-pub mod InnerClimbs
-pub mod InnerChains
-pub mod InnerTrees
-pub mod InnerEntries
-pub mod InnerSortedEntries
 pub mod InnerColumns
+pub mod InnerChildren
+pub mod InnerTaken

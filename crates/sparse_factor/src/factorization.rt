@@ -2,26 +2,37 @@
 
 ghost use Rattle.std.specs.Prelude.{◌≡◌, ℕ, ◌+◌, ◌<◌, ◌≤◌, ◌↔◌, List, length, IfOk, OnOk, IsTrue};
 ghost use Rattle.sparse_pattern.specs.Raw.{IsValid, IsPlace, nnz_of, HasSamePlaces};
-ghost use Rattle.sparse_factor.specs.Fill.{InFill, UpperBase, StoresByColumns, ListsFill};
+ghost use Rattle.sparse_factor.specs.Fill.{InFill, UpperBase, LowerBase, TriangleBase};
+ghost use Rattle.sparse_factor.specs.Fill.{StoresByColumns, ListsFill};
+ghost use Rattle.sparse_factor.specs.Symbolic.{Symbolic, symbolic_eq, IsFactorOf};
+ghost use Rattle.sparse_factor.specs.declared.factorization.Triangle.{Triangle};
 ghost use Rattle.sparse_factor.specs.Walks.{StoresWalks, StoresDiagonal};
 ghost use Rattle.sparse_factor.specs.InnerFilled.{Filled};
 
 use sparse_base::steps::Steps;
 use sparse_counting::Count;
 use sparse_pattern::pattern::SparsityPattern;
+use sparse_sums::spadd_pattern;
 use std::alloc::{AllocError, Global};
 use std::marker::Model;
 
-mod climbs;
 mod columns;
-mod entries;
 
-use climbs::climb_rows;
-use columns::columns_on_chains;
-use entries::entries_by_columns;
+use columns::merged_columns;
 
-// The largest number of columns, or of entries of rows, for which scratch arrays use 32-bit numbers.
+// The largest number of columns for which scratch arrays use 32-bit numbers.
 const MAX_32_BITS: usize = u32::MAX as usize;
+
+/// The entries of a square pattern that a factorisation starts from.
+#[derive(Clone, Copy, Debug, PartialEq, Eq)]
+pub enum Triangle {
+    /// Those on and above the diagonal.
+    Upper,
+    /// Those on and below the diagonal.
+    Lower,
+    /// All entries.
+    Both,
+}
 
 /// The symbolic Cholesky factorisation of a square pattern stored by columns: the pattern and the pattern of its factor.
 ///
@@ -58,12 +69,10 @@ impl CscSymbolicCholesky {
     /// has (c, r) for each stored row `r <= c` of each column c, and that has (i, j) whenever it has (i, k) and (j, k) with
     /// `k < j <= i`.
     ///
-    /// The columns of each row are found by climbing the elimination tree from the row's places, and the tree is built on the way (Liu,
-    /// "The role of elimination trees in sparse factorization", 1990). The tree is kept as chains of nodes, each the parent of the one
-    /// before; a row is kept as the first node that its climbs visit on each chain, since it has all later ones up to the row itself.
-    /// Each column is then a copy of the column before it on its chain, merged with the rows that enter the chain there. Time is linear
-    /// in the number of columns and of the places of pattern and factor. Scratch memory is linear in the number of columns and of the
-    /// chains that rows enter, of which there are at most as many as places of the factor. Fails only if an allocation fails.
+    /// Each column is merged from its own entries and the finished columns whose parent in the elimination tree it is (left-looking;
+    /// Gilbert, Ng and Peyton 1994, Davis 2006). Time is linear in the number of columns and of the places of pattern and factor, but for
+    /// a sort of the rows that come to a column from its base and all children but the longest. Scratch memory is one transpose of the
+    /// pattern, two counters for each column, and one column. Fails only if an allocation fails.
     pub fn factor(alloc: Global, pattern: SparsityPattern) -> Result<Self, AllocError>
         requires square { pattern.major_dim ≡ pattern.minor_dim }
         ensures input { IfOk result (λ s. s.input ≡ pattern) }
@@ -74,11 +83,40 @@ impl CscSymbolicCholesky {
         ensures diagonal { IfOk result (λ s. StoresDiagonal (UpperBase pattern) s.factor) }
         ensures valid { IfOk result (λ s. IsValid s.factor) }
     {
-        Self::factor_counted(alloc, pattern, &mut Steps::new())
+        Self::factor_triangle(alloc, pattern, Triangle::Upper)
     }
 
-    /// Does the same as [`CscSymbolicCholesky::factor`] and counts the steps: one for each place of the pattern, one for each chain of the
-    /// elimination tree that a row's climbs enter, and one for each place that a column takes from a finished column.
+    /// Returns the symbolic factorisation that starts from the given triangle of a square pattern, read by columns.
+    ///
+    /// `pattern.major_dim()` must equal `pattern.minor_dim()`. The pattern of the factor is the smallest set of pairs (row, column) that
+    /// has the base and that has (i, j) whenever it has (i, k) and (j, k) with `k < j <= i`. The base of the upper triangle is (c, r) for
+    /// each stored row `r <= c` of each column c, that of the lower triangle (r, c) for each stored row `r >= c`, and that of both is
+    /// their union.
+    ///
+    /// [`CscSymbolicCholesky::factor`] starts from the upper triangle, and has the same cost and errors. Scratch memory of the lower
+    /// triangle is without the transpose; that of both triangles has the union beside it.
+    pub fn factor_triangle(
+        alloc: Global,
+        pattern: SparsityPattern,
+        triangle: Triangle,
+    ) -> Result<Self, AllocError>
+        requires square { pattern.major_dim ≡ pattern.minor_dim }
+        ensures input { IfOk result (λ s. s.input ≡ pattern) }
+        ensures rows { IfOk result (λ s. s.factor.minor_dim ≡ pattern.minor_dim) }
+        ensures columns { IfOk result (λ s. s.factor.major_dim ≡ pattern.major_dim) }
+        ensures fill { IfOk result (λ s.
+            StoresByColumns (InFill (TriangleBase triangle pattern)) s.factor) }
+        ensures walks { IfOk result (λ s. StoresWalks (TriangleBase triangle pattern) s.factor) }
+        ensures diagonal { IfOk result (λ s.
+            StoresDiagonal (TriangleBase triangle pattern) s.factor) }
+        ensures valid { IfOk result (λ s. IsValid s.factor) }
+    {
+        let l_pattern = fill_of(alloc, &pattern, triangle)?;
+        Ok(CscSymbolicCholesky { pattern, l_pattern })
+    }
+
+    /// Does the same as [`CscSymbolicCholesky::factor`] and counts the steps: one for each place of the pattern, and one for each place
+    /// that a column takes up from a finished column.
     ///
     /// The count grows by at most the number of places of the pattern plus that of the factor, even if an allocation fails. Fails only
     /// if an allocation fails.
@@ -99,7 +137,7 @@ impl CscSymbolicCholesky {
         ensures no_more { (fill : List (ℕ × ℕ)) → ListsFill (UpperBase pattern) fill
             → steps.new ≤ steps.old + nnz_of pattern + length fill }
     {
-        let l_pattern = fill_of(alloc, &pattern, steps)?;
+        let l_pattern = fill_of_upper(alloc, &pattern, steps)?;
         Ok(CscSymbolicCholesky { pattern, l_pattern })
     }
 
@@ -121,37 +159,37 @@ impl CscSymbolicCholesky {
     }
 }
 
-// Returns the pattern of the factor.
+// Returns the fill of the given triangle of a pattern.
 fn fill_of(
     alloc: Global,
     pattern: &SparsityPattern,
-    steps: &mut Steps,
+    triangle: Triangle,
 ) -> Result<SparsityPattern, AllocError>
-    requires { pattern.now.major_dim ≡ pattern.now.minor_dim }
+    requires square { pattern.now.major_dim ≡ pattern.now.minor_dim }
     ensures rows { IfOk result (λ l. l.minor_dim ≡ pattern.now.minor_dim) }
     ensures columns { IfOk result (λ l. l.major_dim ≡ pattern.now.major_dim) }
     ensures places { IfOk result (λ l. (i j : ℕ)
-        → IsPlace l j i ↔ Filled (UpperBase pattern.now) i j) }
+        → IsPlace l j i ↔ Filled (TriangleBase triangle pattern.now) i j) }
     ensures valid { IfOk result IsValid }
-    ensures all_read { OnOk result (steps.old + nnz_of pattern.now ≤ steps.new) }
-    ensures no_more { (fill : List (ℕ × ℕ)) → ListsFill (UpperBase pattern.now) fill
-        → steps.new ≤ steps.old + nnz_of pattern.now + length fill }
 {
-    if MAX_32_BITS < pattern.major_dim() {
-        fill_with_scratch::<usize>(alloc, pattern, steps)
-    } else {
-        fill_with_scratch::<u32>(alloc, pattern, steps)
+    match triangle {
+        Triangle::Upper => fill_of_upper(alloc, pattern, &mut Steps::new()),
+        Triangle::Lower => fill_below(alloc, pattern, &mut Steps::new()),
+        Triangle::Both => {
+            let both = spadd_pattern(alloc, pattern, &pattern.transpose(alloc)?)?;
+            fill_below(alloc, &both, &mut Steps::new())
+        }
     }
 }
 
-// Does the same with scratch arrays of a type that holds the number of columns.
-fn fill_with_scratch<C: Count>(
+// Returns the fill of the upper triangle of a pattern, which the transpose has on and below the diagonal. Counts a step for each place of the
+// pattern, and for each place that a column takes from a finished column.
+fn fill_of_upper(
     alloc: Global,
     pattern: &SparsityPattern,
     steps: &mut Steps,
 ) -> Result<SparsityPattern, AllocError>
     requires square { pattern.now.major_dim ≡ pattern.now.minor_dim }
-    requires width { pattern.now.major_dim < C.limit }
     ensures rows { IfOk result (λ l. l.minor_dim ≡ pattern.now.minor_dim) }
     ensures columns { IfOk result (λ l. l.major_dim ≡ pattern.now.major_dim) }
     ensures places { IfOk result (λ l. (i j : ℕ)
@@ -161,11 +199,42 @@ fn fill_with_scratch<C: Count>(
     ensures no_more { (fill : List (ℕ × ℕ)) → ListsFill (UpperBase pattern.now) fill
         → steps.new ≤ steps.old + nnz_of pattern.now + length fill }
 {
-    let (chains, row_entries) = climb_rows::<C>(alloc, pattern, steps)?;
-    let (starts, entries) = entries_by_columns(alloc, &row_entries, pattern.major_dim())?;
-    let l_pattern = columns_on_chains(alloc, &chains, &starts, &entries, steps)?;
-    Ok(l_pattern)
+    // Tells the prover that the pattern is valid.
+    let _ = pattern.major_offsets();
+    let mirrored = pattern.transpose(alloc)?;
+    fill_below(alloc, &mirrored, steps)
 }
+
+// Returns the fill of the places on and below the diagonal, with scratch arrays of a type that holds the number of columns.
+fn fill_below(
+    alloc: Global,
+    base: &SparsityPattern,
+    steps: &mut Steps,
+) -> Result<SparsityPattern, AllocError>
+    requires square { base.now.major_dim ≡ base.now.minor_dim }
+    ensures rows { IfOk result (λ l. l.minor_dim ≡ base.now.minor_dim) }
+    ensures columns { IfOk result (λ l. l.major_dim ≡ base.now.major_dim) }
+    ensures places { IfOk result (λ l. (i j : ℕ)
+        → IsPlace l j i ↔ Filled (LowerBase base.now) i j) }
+    ensures valid { IfOk result IsValid }
+    ensures all_read { OnOk result (steps.old + nnz_of base.now ≤ steps.new) }
+    ensures no_more { (fill : List (ℕ × ℕ)) → ListsFill (LowerBase base.now) fill
+        → steps.new ≤ steps.old + nnz_of base.now + length fill }
+{
+    if MAX_32_BITS < base.major_dim() {
+        merged_columns::<usize>(alloc, base, steps)
+    } else {
+        merged_columns::<u32>(alloc, base, steps)
+    }
+}
+
+/// A law: two symbolic factorisations of one pattern from one triangle are `==`.
+///
+/// So `factor_triangle(alloc, pattern, Triangle::Upper)` is `==` to `factor(alloc, pattern)`.
+pub fn one_factor()
+    ensures { (triangle : Triangle) (s t : Symbolic) → s.input ≡ t.input → IsFactorOf triangle s
+        → IsFactorOf triangle t → IsTrue (symbolic_eq s t) }
+{}
 
 impl PartialEq for CscSymbolicCholesky {
     ghost use Rattle.std.specs.Cmp.Rules.{comparing};

@@ -1,0 +1,120 @@
+-- The columns of a factor that are finished, each on the list of its parent.
+use Rattle.std.proofs.Common.{◌≡◌, ℕ, ◌<◌, ◌≤◌, ◌⊎◌, inl, inr, ◌↔◌}
+use Rattle.std.proofs.Common.{List, [], ◌∷◌, length, slice_index, Contains, replicate}
+use Rattle.std.proofs.Common.{refl, ap, ◌∙◌, arith}
+use Rattle.std.proofs.lemmas.List.{get_or_past, get_or-replicate, length-replicate}
+use Rattle.sparse_lemmas.proofs.Cases.{lt_or_ge}
+use Rattle.sparse_pattern.specs.Raw.{Raw, raw_of}
+use Rattle.sparse_pattern.proofs.BuiltLanes.{IsBuilt}
+use Rattle.sparse_pattern.proofs.PatternLanes.{rises_at}
+use Rattle.sparse_factor.specs.InnerFilled.{Filled, given}
+use Rattle.sparse_factor.specs.InnerColumns.{IsInColumn, AreColumns}
+use Rattle.sparse_factor.specs.InnerChildren.{Reaches, AreFalling, IsInTails}
+use Rattle.sparse_factor.proofs.FillLaws.{IsParent, HaveParents, column_fill, child_filled}
+use Rattle.sparse_factor.proofs.FillLaws.{low_filled}
+use Rattle.sparse_factor.proofs.Children.{reach_none}
+
+-- the columns before j of the fill of a base, of n columns
+pub record AreMerged (base : ℕ → ℕ → Type 0) (n : ℕ) (offsets rows firsts nexts : List ℕ) (j : ℕ) :
+    Type 0 where
+  pub built : IsBuilt n (λ k i. Filled base i k) j offsets rows
+  pub first_count : length firsts ≡ n
+  pub next_count : length nexts ≡ n
+  pub falling : AreFalling nexts
+  pub heads : (p : ℕ) → slice_index firsts p ≤ j
+  pub parents : HaveParents base j
+  pub listed : (k p : ℕ) → Reaches nexts (slice_index firsts p) k ↔ ((k < j) × IsParent base k p)
+
+zero_at : (n k : ℕ) → slice_index (replicate n 0) k ≡ 0
+zero_at n k = elim (lt_or_ge k n) [
+  | inl inside ↦ get_or-replicate n k 0 0 inside
+  | inr past ↦ get_or_past (replicate n 0) k 0 (omega (arith, length-replicate {A = ℕ} n 0))
+]
+
+pub none_merged : (base : ℕ → ℕ → Type 0) (n : ℕ) (firsts nexts : List ℕ) → firsts ≡ replicate n 0
+    → nexts ≡ replicate n 0 → AreMerged base n (0 ∷ []) [] firsts nexts 0
+none_merged base n firsts nexts f l =
+    let first : (k : ℕ) → slice_index firsts k ≡ 0 =
+    λ k. ap (λ xs. slice_index xs k) f ∙ zero_at n k in
+    let link : (k : ℕ) → slice_index nexts k ≡ 0 =
+    λ k. ap (λ xs. slice_index xs k) l ∙ zero_at n k in
+    record {
+      built = record {
+        valid = record {
+          count = refl;
+          first = refl;
+          last = refl;
+          lanes = λ i lt. absurd (omega arith);
+        };
+        places = λ i j lt. absurd (omega arith);
+      };
+      first_count = ap length f ∙ length-replicate {A = ℕ} n 0;
+      next_count = ap length l ∙ length-replicate {A = ℕ} n 0;
+      falling = λ k. omega (arith, link k);
+      heads = λ p. omega (arith, first p);
+      parents = λ k q lt. absurd (omega arith);
+      listed = λ k p. (
+        λ r. absurd (reach_none r (first p)),
+        λ h. absurd (omega (arith, h.0)),
+      );
+    }
+
+module _ (base : ℕ → ℕ → Type 0) (low : (i j : ℕ) → base i j → j ≤ i) (n : ℕ)
+    (offsets rows firsts nexts : List ℕ) (j : ℕ)
+    (are : AreMerged base n offsets rows firsts nexts j) where
+  abbrev so_far : Raw
+  so_far = raw_of j n offsets rows
+
+  pub column_has : (k i : ℕ) → k < j → IsInColumn offsets rows k i ↔ Filled base i k
+  column_has k i lt =
+      let is = are.built.places k i lt in (
+        λ h. is.0 record {
+          at = h.at;
+          in_lane = record { lane = lt; from = h.from; to = h.to };
+          index = h.is;
+        },
+        λ f.
+            let place = is.1 f in
+            record {
+              at = place.at;
+              from = place.in_lane.from;
+              to = place.in_lane.to;
+              is = place.index;
+            },
+      )
+
+  pub are_columns : AreColumns offsets rows
+  are_columns = record {
+    runs = λ k lt.
+        let lane = are.built.valid.lanes k (omega (arith, are.built.valid.count)) in
+        record {
+          ordered = lane.ordered;
+          inside = lane.inside;
+          rising = λ p q from lt to. rises_at so_far k lane p q from lt to;
+        };
+    low = λ k i lt h. low_filled base low
+        ((column_has k i (omega (arith, are.built.valid.count))).0 h);
+  }
+
+  -- the rows that are merged into column j are those of the fill
+  pub merged_has : (own : List ℕ) → ((i : ℕ) → Contains own i ↔ base i j) → (i : ℕ)
+      → (IsInTails offsets rows nexts (slice_index firsts j) i ⊎ Contains own i) ↔ Filled base i j
+  merged_has own has i = (
+    λ h. elim h [
+      | inl tail ↦
+          let (k, reached, is_in) = tail in
+          let (early, is) = (are.listed k j).0 reached in
+          child_filled base i j k is ((column_has k i early).0 is_in.0) is_in.1
+      | inr mine ↦ given ((has i).0 mine)
+    ],
+    λ f. elim (column_fill base f are.parents) [
+      | inl b ↦ inr ((has i).1 b)
+      | inr child ↦
+          let (c, early, is, g) = child in
+          inl (
+            c,
+            (are.listed c j).1 (early, is),
+            ((column_has c i early).1 g, omega (arith, early, low_filled base low f)),
+          )
+    ],
+  )

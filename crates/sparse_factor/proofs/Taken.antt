@@ -1,0 +1,109 @@
+-- Steps that are counted for pairs (row, column), each pair once.
+use Rattle.std.proofs.Common.{◌≡◌, ◌≢◌, ℕ, ◌+◌, ◌-◌, ◌<◌, ◌≤◌, inl, inr, List, [], ◌++◌, map, length}
+use Rattle.std.proofs.Common.{get_or, slice_range, length-append, sym, ap, ◌∙◌, subst, arith, ◌⊎◌}
+use Rattle.std.specs.List.{Contains, AllPairs}
+use Rattle.std.proofs.lemmas.List.{get_or-map, length-map}
+use Rattle.std.proofs.lemmas.List.Elements.{Contains-append_cases}
+use Rattle.std.proofs.lemmas.Map.Made.{length-le_from_is_member, is_member-Decides}
+use Rattle.std.proofs.lemmas.Map.Made.{IsDistinct-from_AllPairs}
+use Rattle.sparse_factor.specs.InnerColumns.{IsRun, IsInRun}
+use Rattle.sparse_factor.specs.InnerTaken.{HasTaken}
+use Rattle.sparse_factor.proofs.DistinctLists.{all_pairs_append}
+use Rattle.sparse_factor.proofs.Pairs.{pair, same_pair, pair_laws}
+use Rattle.sparse_factor.proofs.Runs.{length-run, get_or-run, run_has}
+
+pub none_taken : (In : ℕ → ℕ → Type 0) (n : ℕ) → HasTaken In n n
+none_taken In n = record {
+  pairs = [];
+  size = omega arith;
+  once = λ a b d lt within. absurd (omega arith);
+  inside = λ p h. absurd (omega (arith, h.1));
+}
+
+-- the same steps, counted after k others
+pub taken_later : {In : ℕ → ℕ → Type 0} {old new : ℕ} (k first last : ℕ) → HasTaken In old new
+    → first ≡ old + k → last ≡ new + k → HasTaken In first last
+taken_later k first last taken begin end = record {
+  pairs = taken.pairs;
+  size = omega (arith, taken.size);
+  once = taken.once;
+  inside = taken.inside;
+}
+
+pub taken_into : {A B : ℕ → ℕ → Type 0} {old new : ℕ} → ((i j : ℕ) → A i j → B i j)
+    → HasTaken A old new → HasTaken B old new
+taken_into into taken = record {
+  pairs = taken.pairs;
+  size = taken.size;
+  once = taken.once;
+  inside = λ p h. into p.0 p.1 (taken.inside p h);
+}
+
+-- what two parts have taken, which share no pair
+pub taken_both : {A B : ℕ → ℕ → Type 0} {a b c : ℕ} → HasTaken A a b → HasTaken B b c
+    → ((i j : ℕ) → A i j → B i j → ⊥) → HasTaken (λ i j. A i j ⊎ B i j) a c
+taken_both {A} {B} first second apart = record {
+  pairs = first.pairs ++ second.pairs;
+  size = omega (arith, first.size, second.size, length-append first.pairs second.pairs);
+  once = all_pairs_append (λ x y. x ≢ y) first.pairs second.pairs first.once second.once
+      (λ x y hx hy e. apart y.0 y.1 (subst (λ z. A z.0 z.1) e (first.inside x hx))
+      (second.inside y hy));
+  inside = λ p h. elim (Contains-append_cases first.pairs second.pairs p h) [
+    | inl old ↦ inl (first.inside p old)
+    | inr new ↦ inr (second.inside p new)
+  ];
+}
+
+-- a list that contains every pair is at least as long
+pub taken_at_most : {In : ℕ → ℕ → Type 0} {old new : ℕ} → HasTaken In old new
+    → (fill : List (ℕ × ℕ)) → ((i j : ℕ) → In i j → Contains fill (i, j))
+    → new ≤ old + length fill
+taken_at_most taken fill all =
+    let most : length taken.pairs ≤ length fill = length-le_from_is_member pair_laws
+    taken.pairs fill (IsDistinct-from_AllPairs same_pair taken.pairs taken.once)
+    (λ q h. (is_member-Decides same_pair fill q).1 (all q.0 q.1
+    (taken.inside q ((is_member-Decides same_pair taken.pairs q).0 h)))) in
+    omega (arith, taken.size, most)
+
+-- ---- the rows of a run, each in column k
+
+abbrev in_column : ℕ → List ℕ → List (ℕ × ℕ)
+in_column k rows = map (λ i. pair i k) rows
+
+in_column_has : (k : ℕ) (rows : List ℕ) (p : ℕ × ℕ) → Contains (in_column k rows) p
+    → (p.1 ≡ k) × Contains rows p.0
+in_column_has k rows p h =
+    let within : h.0 < length rows = omega (arith, h.1, length-map rows (λ i. pair i k)) in
+    let e : p ≡ pair (get_or rows h.0 p.0) k = sym h.2
+    ∙ get_or-map (λ i. pair i k) rows h.0 p.0 p within in
+    (ap (λ p. p.1) e, (h.0, within, sym (ap (λ p. p.0) e)))
+
+module _ (xs : List ℕ) (low high : ℕ) (run : IsRun xs low high) (k : ℕ) where
+  abbrev rows : List ℕ
+  rows = slice_range xs low high
+
+  rows_once : AllPairs (λ x y. x ≢ y) (in_column k rows)
+  rows_once a b d lt within same =
+      let inside : b < length rows = omega (arith, within, length-map rows (λ i. pair i k)) in
+      let left = get_or-map (λ i. pair i k) rows a 0 d (omega arith) in
+      let right = get_or-map (λ i. pair i k) rows b 0 d inside in
+      let e : get_or rows a 0 ≡ get_or rows b 0 = ap (λ p. p.0) (sym left ∙ same ∙ right) in
+      omega (
+        arith,
+        e,
+        get_or-run xs low high run a (omega arith),
+        get_or-run xs low high run b inside,
+        run.rising (low + a) (low + b) (omega arith) (omega arith)
+            (omega (arith, length-run xs low high run)),
+      )
+
+  pub run_taken : (old new : ℕ) → new ≡ old + (high - low)
+      → HasTaken (λ i j. (j ≡ k) × IsInRun xs low high i) old new
+  run_taken old new size = record {
+    pairs = in_column k rows;
+    size = omega (arith, size, length-map rows (λ i. pair i k), length-run xs low high run);
+    once = rows_once;
+    inside = λ p h.
+        let at = in_column_has k rows p h in
+        (at.0, (run_has xs low high run p.0).0 at.1);
+  }

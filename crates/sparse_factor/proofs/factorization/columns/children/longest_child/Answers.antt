@@ -1,0 +1,64 @@
+use Rattle.std.proofs.Common.{◌≡◌, suc, ◌-◌, length, map, slice_index, sym, ◌∙◌, subst, arith}
+use Rattle.sparse_factor.specs.InnerChildren.{Reaches, here, next}
+use Rattle.sparse_factor.proofs.Children.{link_at, column_run}
+use Rattle.sparse_factor.proofs.factorization.columns.children.longest_child.Given.{Over}
+use Rattle.sparse_factor.proofs.factorization.columns.children.longest_child.Goals as goal
+use Rattle.sparse_factor.proofs.factorization.columns.children.longest_child.Goals.{After-get-head}
+use Rattle.sparse_factor.proofs.factorization.columns.children.longest_child.Goals.{then-most-places, else-most-places}
+
+pub loop-head-init : goal.loop-head-init
+loop-head-init g c = record {
+  within = c.requires.first;
+  some = λ ne. ne;
+  reached = λ k e. subst (λ h. Reaches (map g.C.Count.number c.args.nexts.now) h k) (sym e) here;
+  rest = λ k r. r;
+}
+
+link : (g : Over) (c : After-get-head g) → c.get-head.result
+    ≡ slice_index (map g.C.Count.number c.args.nexts.now) (c.loop-head.head - 1)
+link g c =
+    link_at g.C.Count.number c.args.nexts.now (length c.args.columns.now.offsets.items)
+    c.loop-head.head c.get-head.result c.index-nexts-head.result c.loop-head-test.true
+    c.loop-head.invariant.within c.requires.linked c.index-nexts-head.is c.get-head.ensures
+
+pub loop-head-smaller : goal.loop-head-smaller
+loop-head-smaller g c = omega (
+  arith,
+  link g (goal.at.loop-head-smaller g c).After-get-head,
+  c.requires.falling (c.loop-head.head - 1),
+  c.loop-head-test.true,
+)
+
+pub overflow_sub-places : goal.overflow_sub-places
+overflow_sub-places g c =
+    (column_run c.args.columns.now.offsets.items c.args.columns.now.rows.items c.requires.columns
+    c.loop-head.head c.index-in-loop-head.result.now c.index.result.now c.loop-head-test.true
+    c.loop-head.invariant.within c.index-in-loop-head.ensures c.index.ensures).ordered
+
+pub loop-head-preserved : goal.loop-head-preserved
+loop-head-preserved g c =
+    let nexts = map g.C.Count.number c.args.nexts.now in
+    let l = c.loop-head in
+    let inv = l.invariant in
+    let read = link g (goal.at.loop-head-preserved g c).After-get-head in
+    let head_is : l.head ≡ suc (l.head - 1) = omega (arith, c.loop-head-test.true) in
+    record {
+      within = omega (
+        arith,
+        read,
+        c.requires.falling (l.head - 1),
+        inv.within,
+      );
+      some = λ ne. elim c.if-most-places.branch [
+        | then-most-places w ↦ λ e. c.loop-head-test.true (sym w.longest-is ∙ e)
+        | else-most-places w ↦ λ e. inv.some ne (sym w.longest-is ∙ e)
+      ];
+      reached = λ k e. elim c.if-most-places.branch [
+        | then-most-places w ↦
+            let at : l.head ≡ suc k = sym w.longest-is ∙ e in
+            inv.rest k (subst (λ h. Reaches nexts h k) (sym at) here)
+        | else-most-places w ↦ inv.reached k (sym w.longest-is ∙ e)
+      ];
+      rest = λ k r. inv.rest k (subst (λ h. Reaches nexts h k) (sym head_is)
+          (next (subst (λ h. Reaches nexts h k) read r)));
+    }

@@ -1,0 +1,18 @@
+use Rattle.std.proofs.Common.{◌+◌, map}
+use Rattle.sparse_pattern.specs.Raw.{start_of}
+use Rattle.sparse_factor.specs.Fill.{LowerBase}
+use Rattle.sparse_factor.specs.InnerTaken.{HasTaken}
+use Rattle.sparse_factor.proofs.Merged.{AreMerged}
+use Rattle.sparse_factor.proofs.MergedSteps.{IsTakenBefore}
+use Rattle.sparse_factor.proofs.factorization.columns.merged_columns.Given as goal
+
+abbrev pub invariant-loop-column : goal.invariant-loop-column
+invariant-loop-column g l =
+    let base = LowerBase l.base in
+    let f = g.C.Count.number in
+    record {
+      merged : AreMerged base l.size l.columns.offsets.items l.columns.rows.items
+          (map f l.firsts.items) (map f l.nexts.items) l.column;
+      taken : HasTaken (IsTakenBefore base l.column)
+          (l.initial.steps + start_of l.base l.column) l.steps;
+    }

@@ -1,0 +1,21 @@
+-- Lists of columns that are linked by their numbers. A head is one more than a column, or 0.
+use Rattle.std.specs.Prelude.{◌≡◌, ℕ, suc, ◌≤◌, List, slice_index}
+use Rattle.sparse_factor.specs.InnerColumns.{IsInTail}
+
+-- the list that begins at a head reaches a column
+pub data Reaches (nexts : List ℕ) : ℕ → ℕ → Type 0 where
+  here : {k : ℕ} → Reaches nexts (suc k) k
+  next : {k m : ℕ} → Reaches nexts (slice_index nexts k) m → Reaches nexts (suc k) m
+
+-- the link of each column leads to columns before it
+abbrev pub AreFalling : List ℕ → Type 0
+AreFalling nexts = (k : ℕ) → slice_index nexts k ≤ k
+
+-- row i is in the tail of the column of the head
+abbrev pub IsInTailOf : List ℕ → List ℕ → ℕ → ℕ → Type 0
+IsInTailOf offsets rows head i = (k : ℕ) × (head ≡ suc k) × IsInTail offsets rows k i
+
+-- row i is in the tail of a column of the list
+abbrev pub IsInTails : List ℕ → List ℕ → List ℕ → ℕ → ℕ → Type 0
+IsInTails offsets rows nexts head i =
+    (k : ℕ) × Reaches nexts head k × IsInTail offsets rows k i
