@@ -10,11 +10,13 @@ use Rattle.std.proofs.lemmas.List.Quantifiers.{all_pairs_push}
 use Rattle.std.proofs.lemmas.Map.Made.{length-le_from_is_member, is_member-Decides}
 use Rattle.std.proofs.lemmas.Map.Made.{IsDistinct-from_AllPairs}
 use Rattle.sparse_lemmas.proofs.Cases.{lt_suc_cases}
-use Rattle.sparse_pattern.specs.Raw.{Raw, paired}
-use Rattle.sparse_factor.specs.Fill.{InFill, UpperBase}
+use Rattle.sparse_pattern.specs.Raw.{Raw, IsValid, paired}
+use Rattle.sparse_factor.specs.Fill.{InFill, TriangleBase}
+use Rattle.sparse_factor.specs.declared.factorization.Triangle.{Triangle}
 use Rattle.sparse_factor.proofs.FillCounts.{pair_eq, same_pair, pair_laws}
 use Rattle.reference.specs.Pairs.{pair}
 use Rattle.reference.specs.InnerClosure.{IsWhole, IsLacking}
+use Rattle.reference.proofs.TriangleBases.{base_bounds}
 
 -- ---- a list of all pairs below n
 
@@ -58,62 +60,70 @@ all_pairs_below n = rows_of_pairs n n
 
 -- ---- the set so far
 
--- pairs of the fill, each once
-pub record IsPartOfFill (p : Raw) (set : List (ℕ × ℕ)) : Type 0 where
-  pub once : AllPairs (λ x y. x ≢ y) set
-  pub sound : (x : ℕ × ℕ) → Contains set x → InFill (UpperBase p) x.0 x.1
-  pub below : (x : ℕ × ℕ) → Contains set x → (x.0 < p.major_dim) × (x.1 ≤ x.0)
+-- the rows and columns of a pattern are below the sum of its sizes
+abbrev pub bound_of : Raw → ℕ
+bound_of p = p.major_dim + p.minor_dim
 
-module _ (p : Raw) (set : List (ℕ × ℕ)) (x : ℕ × ℕ) (part : IsPartOfFill p set)
-    (lacks : IsLacking p set x) where
-  sound_new : InFill (UpperBase p) x.0 x.1
+-- pairs of the fill, each once
+pub record IsPartOfFill (triangle : Triangle) (p : Raw) (set : List (ℕ × ℕ)) : Type 0 where
+  pub once : AllPairs (λ x y. x ≢ y) set
+  pub sound : (x : ℕ × ℕ) → Contains set x → InFill (TriangleBase triangle p) x.0 x.1
+  pub below : (x : ℕ × ℕ) → Contains set x → (x.0 < bound_of p) × (x.1 ≤ x.0)
+
+module _ (triangle : Triangle) (p : Raw) (set : List (ℕ × ℕ)) (x : ℕ × ℕ) (valid : IsValid p)
+    (part : IsPartOfFill triangle p set) (lacks : IsLacking triangle p set x) where
+  sound_new : InFill (TriangleBase triangle p) x.0 x.1
   sound_new = elim lacks.from [
     | inl b ↦ λ s closed holds. holds x.0 x.1 b
     | inr f ↦ λ s closed holds. closed x.0 x.1 f.0 (part.sound (pair x.0 f.0) f.1 s closed holds)
         (part.sound (pair x.1 f.0) f.2 s closed holds) f.3 f.4
   ]
 
-  below_new : (x.0 < p.major_dim) × (x.1 ≤ x.0)
+  below_new : (x.0 < bound_of p) × (x.1 ≤ x.0)
   below_new = elim lacks.from [
-    | inl b ↦ (b.0.in_lane.lane, b.1)
+    | inl b ↦ base_bounds triangle p x.0 x.1 valid b
     | inr f ↦ ((part.below (pair x.0 f.0) f.1).0, f.4)
   ]
 
-  pub part_more : IsPartOfFill p (set ++ x ∷ [])
+  pub part_more : IsPartOfFill triangle p (set ++ x ∷ [])
   part_more = record {
     once = all_pairs_push (λ a b. a ≢ b) set x part.once
         (λ k d lt same. lacks.new (k, lt, get_or_default set k x d lt ∙ same));
     sound = λ y h. elim (Contains-push_cases set x y h) [
       | inl old ↦ part.sound y old
-      | inr e ↦ subst (λ z. InFill (UpperBase p) z.0 z.1) e sound_new
+      | inr e ↦ subst (λ z. InFill (TriangleBase triangle p) z.0 z.1) e sound_new
     ];
     below = λ y h. elim (Contains-push_cases set x y h) [
       | inl old ↦ part.below y old
-      | inr e ↦ subst (λ z. (z.0 < p.major_dim) × (z.1 ≤ z.0)) e below_new
+      | inr e ↦ subst (λ z. (z.0 < bound_of p) × (z.1 ≤ z.0)) e below_new
     ];
   }
 
--- there are not more of them than pairs below the size
-pub part_length : (p : Raw) (set : List (ℕ × ℕ)) → IsPartOfFill p set
-    → length set ≤ length (all_pairs_below p.major_dim)
+-- there are not more of them than pairs below the bound
+pub part_length : (triangle : Triangle) (p : Raw) (set : List (ℕ × ℕ))
+    → IsPartOfFill triangle p set → length set ≤ length (all_pairs_below (bound_of p))
 unfolding all_pairs_below
-part_length p set part = length-le_from_is_member pair_laws set
-    (rows_of_pairs p.major_dim p.major_dim)
+part_length triangle p set part = length-le_from_is_member pair_laws set
+    (rows_of_pairs (bound_of p) (bound_of p))
     (IsDistinct-from_AllPairs same_pair set part.once)
     (λ q h.
     let b = part.below q ((is_member-Decides same_pair set q).0 h) in
-    (is_member-Decides same_pair (rows_of_pairs p.major_dim p.major_dim) q).1
-    (has_row p.major_dim p.major_dim q.0 q.1 b.0 (omega arith)))
+    (is_member-Decides same_pair (rows_of_pairs (bound_of p) (bound_of p)) q).1
+    (has_row (bound_of p) (bound_of p) q.0 q.1 b.0 (omega arith)))
 
-pub part_grows : (p : Raw) (set : List (ℕ × ℕ)) (x : ℕ × ℕ) → IsPartOfFill p set → IsLacking p set x
-    → length set + 1 ≤ length (all_pairs_below p.major_dim)
-part_grows p set x part lacks =
-    omega (arith, part_length p (set ++ x ∷ []) (part_more p set x part lacks), length_push set x)
+pub part_grows : (triangle : Triangle) (p : Raw) (set : List (ℕ × ℕ)) (x : ℕ × ℕ) → IsValid p
+    → IsPartOfFill triangle p set → IsLacking triangle p set x
+    → length set + 1 ≤ length (all_pairs_below (bound_of p))
+part_grows triangle p set x valid part lacks =
+    let longer = part_length triangle p (set ++ x ∷ [])
+    (part_more triangle p set x valid part lacks) in
+    omega (arith, longer, length_push set x)
 
 -- a part that lacks nothing is the fill
-pub whole_is_fill : (p : Raw) (set : List (ℕ × ℕ)) → IsPartOfFill p set → IsWhole p set
-    → (i j : ℕ) → Contains set (pair i j) ↔ InFill (UpperBase p) i j
-whole_is_fill p set part whole i j =
+pub whole_is_fill : (triangle : Triangle) (p : Raw) (set : List (ℕ × ℕ))
+    → IsPartOfFill triangle p set → IsWhole triangle p set
+    → (i j : ℕ) → Contains set (pair i j) ↔ InFill (TriangleBase triangle p) i j
+whole_is_fill triangle p set part whole i j =
     let stored = λ (a b : ℕ). is_member pair_eq set (pair a b) in
     let is = λ (a b : ℕ). is_member-Decides same_pair set (pair a b) in (
       λ h. part.sound (pair i j) h,

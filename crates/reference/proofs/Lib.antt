@@ -1,3 +1,4 @@
+mod TriangleBases
 mod Closures
 mod Reaching
 mod TextLines

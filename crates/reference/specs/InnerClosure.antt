@@ -1,18 +1,30 @@
--- What a set of pairs lacks to hold the upper triangle of a pattern and to be closed under fill.
-use Rattle.std.specs.Prelude.{◌≡◌, ℕ, ◌<◌, ◌≤◌, ◌⊎◌, List}
+-- What a set of pairs lacks to hold a triangle of a pattern and to be closed under fill.
+use Rattle.std.specs.Prelude.{◌≡◌, ℕ, ◌<◌, ◌≤◌, ◌⊎◌, List, max, min}
 use Rattle.std.specs.List.{Contains}
 use Rattle.sparse_pattern.specs.Raw.{Raw}
-use Rattle.sparse_factor.specs.Fill.{UpperBase}
+use Rattle.sparse_factor.specs.Fill.{TriangleBase}
+use Rattle.sparse_factor.specs.declared.factorization.Triangle.{Triangle}
+use Rattle.sparse_factor.specs.declared.factorization.Triangle.TheVariants.{Upper, Lower, Both}
 use Rattle.reference.specs.Pairs.{pair}
 
--- each row of the lane up to the column, turned over
-abbrev pub HasPlacesOf : List ℕ → ℕ → List (ℕ × ℕ) → Type 0
-HasPlacesOf lane column set = (row : ℕ) → Contains lane row → row ≤ column
-    → Contains set (pair column row)
+-- an entry in this row and column is of the triangle
+abbrev pub IsOfTriangle : Triangle → ℕ → ℕ → Type 0
+IsOfTriangle Upper row column = row ≤ column
+IsOfTriangle Lower row column = column ≤ row
+IsOfTriangle Both row column = Unit {0}
 
-abbrev pub IsLackingPlace : List ℕ → ℕ → List (ℕ × ℕ) → ℕ × ℕ → Type 0
-IsLackingPlace lane column set x = (x.0 ≡ column) × Contains lane x.1 × (x.1 ≤ column)
-    × (Contains set x → ⊥)
+-- the pair of an entry in the base: its row and its column, or its mirror image above the diagonal
+abbrev pub base_pair : ℕ → ℕ → ℕ × ℕ
+base_pair row column = pair (max row column) (min row column)
+
+-- the pair of each entry of the lane
+abbrev pub HasPlacesOf : Triangle → List ℕ → ℕ → List (ℕ × ℕ) → Type 0
+HasPlacesOf triangle lane column set = (row : ℕ) → Contains lane row
+    → IsOfTriangle triangle row column → Contains set (base_pair row column)
+
+abbrev pub IsLackingPlace : Triangle → List ℕ → ℕ → List (ℕ × ℕ) → ℕ × ℕ → Type 0
+IsLackingPlace triangle lane column set x = ((row : ℕ) × Contains lane row
+    × IsOfTriangle triangle row column × (x ≡ base_pair row column)) × (Contains set x → ⊥)
 
 -- what the pair (i, k) gives with the other pairs of column k
 abbrev pub HasFillOf : ℕ → ℕ → List (ℕ × ℕ) → Type 0
@@ -22,13 +34,14 @@ abbrev pub IsLackingFill : ℕ → ℕ → List (ℕ × ℕ) → ℕ × ℕ → 
 IsLackingFill i k set x = (x.0 ≡ i) × Contains set (pair x.1 k) × (k < x.1) × (x.1 ≤ i)
     × (Contains set x → ⊥)
 
-pub record IsWhole (p : Raw) (set : List (ℕ × ℕ)) : Type 0 where
-  pub base : (i j : ℕ) → UpperBase p i j → Contains set (pair i j)
+pub record IsWhole (triangle : Triangle) (p : Raw) (set : List (ℕ × ℕ)) : Type 0 where
+  pub base : (i j : ℕ) → TriangleBase triangle p i j → Contains set (pair i j)
   pub closed : (i j k : ℕ) → Contains set (pair i k) → Contains set (pair j k) → k < j → j ≤ i
       → Contains set (pair i j)
 
 -- the set lacks x, which is of the base or given by two pairs of the set
-pub record IsLacking (p : Raw) (set : List (ℕ × ℕ)) (x : ℕ × ℕ) : Type 0 where
+pub record IsLacking (triangle : Triangle) (p : Raw) (set : List (ℕ × ℕ)) (x : ℕ × ℕ) : Type
+    0 where
   pub new : Contains set x → ⊥
-  pub from : UpperBase p x.0 x.1
+  pub from : TriangleBase triangle p x.0 x.1
       ⊎ ((k : ℕ) × Contains set (pair x.0 k) × Contains set (pair x.1 k) × (k < x.1) × (x.1 ≤ x.0))

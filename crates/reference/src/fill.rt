@@ -1,43 +1,49 @@
 //! The fill of a pattern, by its definition.
 
-ghost use Rattle.std.specs.Prelude.{◌≢◌, ℕ, ◌<◌, ◌↔◌, IfOk, IsTrue, MatchOption};
+ghost use Rattle.std.specs.Prelude.{◌≡◌, ◌≢◌, ℕ, ◌<◌, ◌↔◌, IfOk, IsTrue, MatchOption};
 ghost use Rattle.std.specs.List.{Contains, AllPairs};
 ghost use Rattle.sparse_pattern.specs.Raw.{IsValid};
-ghost use Rattle.sparse_factor.specs.Fill.{InFill, UpperBase};
+ghost use Rattle.sparse_factor.specs.Fill.{InFill, TriangleBase};
 ghost use Rattle.reference.specs.Pairs.{pair};
-ghost use Rattle.reference.specs.InnerClosure.{HasPlacesOf, HasFillOf, IsWhole, IsLacking};
-ghost use Rattle.reference.specs.InnerClosure.{IsLackingPlace, IsLackingFill};
+ghost use Rattle.reference.specs.InnerClosure.{IsOfTriangle, base_pair, HasPlacesOf, HasFillOf};
+ghost use Rattle.reference.specs.InnerClosure.{IsWhole, IsLacking, IsLackingPlace, IsLackingFill};
 
+use sparse_factor::factorization::Triangle;
 use sparse_pattern::pattern::SparsityPattern;
 use std::alloc::{AllocError, Global};
 
-/// Returns the pairs (row, column) of the fill of a pattern's upper triangle, each once.
+/// Returns the pairs (row, column) of the fill of a pattern's triangle, each once.
 ///
 /// The set gains a pair that it lacks until it lacks none. It looks at every pair of pairs for each pair. Fails only if an allocation fails.
 pub fn fill_by_pairs(
     alloc: Global,
     pattern: &SparsityPattern,
+    triangle: Triangle,
 ) -> Result<Vec<(usize, usize)>, AllocError>
-    ensures fill { IfOk result (λ pairs.
-        (i j : ℕ) → Contains pairs.items (pair i j) ↔ InFill (UpperBase pattern.now) i j) }
+    ensures fill { IfOk result (λ pairs. (i j : ℕ)
+        → Contains pairs.items (pair i j) ↔ InFill (TriangleBase triangle pattern.now) i j) }
     ensures once { IfOk result (λ pairs. AllPairs (λ x y. x ≢ y) pairs.items) }
 {
     let mut set = Vec::new(alloc);
-    while let Some(pair) = lacking(pattern, &set) {
+    while let Some(pair) = lacking(pattern, triangle, &set) {
         set.push(pair)?;
     }
     Ok(set)
 }
 
-// Returns a pair that the set lacks to hold the upper triangle and to be closed under fill.
-fn lacking(pattern: &SparsityPattern, set: &[(usize, usize)]) -> Option<(usize, usize)>
+// Returns a pair that the set lacks to hold the triangle and to be closed under fill.
+fn lacking(
+    pattern: &SparsityPattern,
+    triangle: Triangle,
+    set: &[(usize, usize)],
+) -> Option<(usize, usize)>
     ensures valid { IsValid pattern.now }
-    ensures cases { MatchOption result (IsWhole pattern.now set.now)
-        (IsLacking pattern.now set.now) }
+    ensures cases { MatchOption result (IsWhole triangle pattern.now set.now)
+        (IsLacking triangle pattern.now set.now) }
 {
     let _ = pattern.major_offsets();
     for column in 0..pattern.major_dim() {
-        match lacking_place(pattern.lane(column), column, set) {
+        match lacking_place(pattern.lane(column), column, triangle, set) {
             Some(pair) => return Some(pair),
             None => {}
         }
@@ -51,17 +57,34 @@ fn lacking(pattern: &SparsityPattern, set: &[(usize, usize)]) -> Option<(usize, 
     None
 }
 
-// Returns a place of the column not below the diagonal that the set lacks, turned over.
-fn lacking_place(lane: &[usize], column: usize, set: &[(usize, usize)]) -> Option<(usize, usize)>
-    ensures { MatchOption result (HasPlacesOf lane.now column set.now)
-        (IsLackingPlace lane.now column set.now) }
+// Returns the pair of an entry of the column that the set lacks.
+fn lacking_place(
+    lane: &[usize],
+    column: usize,
+    triangle: Triangle,
+    set: &[(usize, usize)],
+) -> Option<(usize, usize)>
+    ensures { MatchOption result (HasPlacesOf triangle lane.now column set.now)
+        (IsLackingPlace triangle lane.now column set.now) }
 {
     for &row in lane {
-        if row <= column && !has(set, column, row) {
-            return Some((column, row));
+        let (i, j) = (row.max(column), row.min(column));
+        if is_of_triangle(triangle, row, column) && !has(set, i, j) {
+            return Some((i, j));
         }
     }
     None
+}
+
+// Whether an entry in this row and column is of the triangle.
+fn is_of_triangle(triangle: Triangle, row: usize, column: usize) -> bool
+    ensures { IsTrue result ↔ IsOfTriangle triangle row column }
+{
+    match triangle {
+        Triangle::Upper => row <= column,
+        Triangle::Lower => column <= row,
+        Triangle::Both => true,
+    }
 }
 
 // Returns a pair that the set lacks, given by its pair (i, k) and another of column k.

@@ -4,36 +4,42 @@ use Rattle.std.proofs.lemmas.List.{get_or_default}
 use Rattle.sparse_lemmas.proofs.Cases.{lt_add_one_cases}
 use Rattle.sparse_pattern.specs.Raw.{IsPlace}
 use Rattle.sparse_pattern.proofs.LaneLists.{lane_has}
+use Rattle.sparse_factor.specs.Fill.{TriangleBase}
 use Rattle.reference.specs.Pairs.{pair}
-use Rattle.reference.specs.InnerClosure.{HasFillOf}
+use Rattle.reference.specs.InnerClosure.{IsOfTriangle, base_pair, HasFillOf}
+use Rattle.reference.proofs.TriangleBases.{base_from_entry, given_from_base}
 use Rattle.reference.proofs.fill.lacking.Goals as goal
 
 pub returns-in-Some-clause-cases : goal.returns-in-Some-clause-cases
 returns-in-Some-clause-cases c =
+    let t = c.args.triangle in
     let p = c.args.pattern.now in
     let column = c.loop-column.column in
-    let x = c.in-Some.pair in
     let h = c.in-Some.ensures in
-    let lane = subst (λ xs. Contains xs x.1) c.lane.ensures h.1 in
-    let place : IsPlace p column x.1 = (lane_has p c.major_offsets.ensures.valid column x.1
-    (omega arith)).0 lane in
+    let (row, has, of_triangle, is) = h.0 in
+    let lane = subst (λ xs. Contains xs row) c.lane.ensures has in
+    let place : IsPlace p column row =
+    (lane_has p c.major_offsets.ensures.valid column row (omega arith)).0 lane in
     record {
-      new = h.3;
-      from = inl (subst (λ i. IsPlace p i x.1) (sym h.0) place, omega (arith, h.0, h.2));
+      new = h.1;
+      from = inl (subst (λ x. TriangleBase t p x.0 x.1) (sym is)
+          (base_from_entry t p row column place of_triangle));
     }
 
 pub loop-column-preserved : goal.loop-column-preserved
-loop-column-preserved c = λ i j lt base. elim (lt_add_one_cases i c.loop-column.column lt) [
-  | inl before ↦ c.loop-column.invariant i j before base
-  | inr e ↦
-      let p = c.args.pattern.now in
-      let column = c.loop-column.column in
-      let place : IsPlace p column j = subst (λ k. IsPlace p k j) e base.0 in
-      let lane = (lane_has p c.major_offsets.ensures.valid column j (omega arith)).1 place in
-      let here = c.in-None.ensures j (subst (λ xs. Contains xs j) (sym c.lane.ensures) lane)
-      (omega (arith, base.1)) in
-      subst (λ k. Contains c.args.set.now (pair k j)) (sym e) here
-]
+loop-column-preserved c = λ row k lt place of_triangle.
+    elim (lt_add_one_cases k c.loop-column.column lt) [
+      | inl before ↦ c.loop-column.invariant row k before place of_triangle
+      | inr e ↦
+          let t = c.args.triangle in
+          let p = c.args.pattern.now in
+          let column = c.loop-column.column in
+          let here : IsPlace p column row = subst (λ k. IsPlace p k row) e place in
+          let lane = (lane_has p c.major_offsets.ensures.valid column row (omega arith)).1 here in
+          let has = c.in-None.ensures row (subst (λ xs. Contains xs row) (sym c.lane.ensures) lane)
+          (subst (IsOfTriangle t row) e of_triangle) in
+          subst (λ k. Contains c.args.set.now (base_pair row k)) (sym e) has
+    ]
 
 pub returns-in-Some-lacking_fill-clause-cases : goal.returns-in-Some-lacking_fill-clause-cases
 returns-in-Some-lacking_fill-clause-cases c =
@@ -66,7 +72,10 @@ loop-i-preserved c = λ q lt. elim (lt_add_one_cases q c.loop-i.i-index lt) [
 
 pub returns-clause-cases : goal.returns-clause-cases
 returns-clause-cases c = record {
-  base = λ i j b. c.loop-column.invariant i j (omega (arith, b.0.in_lane.lane)) b;
+  base = λ i j b.
+      let g = given_from_base c.args.triangle c.args.pattern.now i j b in
+      subst (Contains c.args.set.now) g.is (c.loop-column.invariant g.row g.column
+      (omega (arith, g.place.in_lane.lane)) g.place g.of_triangle);
   closed = λ i j k left right lt le.
       let at : get_or c.args.set.now left.0 (pair 0 0) ≡ pair i k =
       get_or_default c.args.set.now left.0 (pair 0 0) (pair i k) left.1 ∙ left.2 in

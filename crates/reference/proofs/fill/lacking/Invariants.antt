@@ -1,13 +1,13 @@
 use Rattle.std.proofs.Common.{ℕ, ◌<◌, get_or}
 use Rattle.std.specs.List.{Contains}
-use Rattle.sparse_factor.specs.Fill.{UpperBase}
+use Rattle.sparse_pattern.specs.Raw.{IsPlace}
 use Rattle.reference.specs.Pairs.{pair}
-use Rattle.reference.specs.InnerClosure.{HasFillOf}
+use Rattle.reference.specs.InnerClosure.{IsOfTriangle, base_pair, HasFillOf}
 use Rattle.reference.proofs.fill.lacking.Given as goal
 
 abbrev pub invariant-loop-column : goal.invariant-loop-column
-invariant-loop-column l = (i j : ℕ) → i < l.column → UpperBase l.pattern i j
-    → Contains l.set (pair i j)
+invariant-loop-column l = (row column : ℕ) → column < l.column → IsPlace l.pattern column row
+    → IsOfTriangle l.triangle row column → Contains l.set (base_pair row column)
 
 abbrev pub invariant-loop-i : goal.invariant-loop-i
 invariant-loop-i l = (q : ℕ) → q < l.i-index
