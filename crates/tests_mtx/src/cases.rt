@@ -151,34 +151,66 @@ pub const COLUMN_CASES: &[Case] = &[
     ("1 1 *", &[A], Err("mtx: expression: shapes do not fit\n")),
 ];
 
-/// A file, and the lines that are written below the heading or the line of a refusal.
-pub type FillCase = (&'static str, Result<&'static str, &'static str>);
+/// The words before a file, its text, and the lines that are written below the heading or the line of a refusal.
+pub type FillCase = (
+    &'static [&'static str],
+    &'static str,
+    Result<&'static str, &'static str>,
+);
+
+// A place on each side of the diagonal.
+const TWO_SIDES: &str = "%%MatrixMarket matrix coordinate pattern general\n3 3 2\n2 1\n1 3\n";
 
 /// What `mtx fill` answers.
 pub const FILL_CASES: &[FillCase] = &[
     (
+        &["fill"],
         "%%MatrixMarket matrix coordinate pattern symmetric\n3 3 2\n3 1\n3 2\n",
         Ok("3 3 3\n3 1 \n3 2 \n3 3 \n"),
     ),
     // A repeated place counts once.
     (
+        &["fill"],
         "%%MatrixMarket matrix coordinate pattern general\n1 1 2\n1 1\n1 1\n",
         Ok("1 1 1\n1 1 \n"),
     ),
+    // Places in no order, one of them repeated.
+    (
+        &["fill"],
+        "%%MatrixMarket matrix coordinate pattern general\n3 3 4\n3 3\n1 3\n1 1\n1 3\n",
+        Ok("3 3 3\n1 1 \n3 1 \n3 3 \n"),
+    ),
     // Places below the diagonal alone.
     (
+        &["fill"],
         "%%MatrixMarket matrix coordinate pattern general\n2 2 1\n2 1\n",
         Ok("2 2 0\n"),
     ),
+    (&["fill"], TWO_SIDES, Ok("3 3 2\n3 1 \n3 3 \n")),
+    (&["fill", "upper"], TWO_SIDES, Ok("3 3 2\n3 1 \n3 3 \n")),
+    (&["fill", "lower"], TWO_SIDES, Ok("3 3 2\n2 1 \n2 2 \n")),
     (
+        &["fill", "both"],
+        TWO_SIDES,
+        Ok("3 3 5\n2 1 \n3 1 \n2 2 \n3 2 \n3 3 \n"),
+    ),
+    (
+        &["fill"],
         "%%MatrixMarket matrix coordinate pattern general\n2 3 1\n1 2\n",
         Err("mtx: not square\n"),
     ),
     (
+        &["fill", "lower"],
+        "%%MatrixMarket matrix coordinate pattern general\n2 3 1\n1 2\n",
+        Err("mtx: not square\n"),
+    ),
+    (
+        &["fill"],
         "%%MatrixMarket matrix coordinate integer general\n1 1 1\n1 1 5\n",
         Err("mtx: input 1: TypeMismatch\n"),
     ),
-    ("3 3 2\n", Err("mtx: input 1: ParsingError\n")),
+    (&["fill"], "3 3 2\n", Err("mtx: input 1: ParsingError\n")),
+    (&["fill", "both"], "3 3 2\n", Err("mtx: input 1: ParsingError\n")),
 ];
 
 const ONE: &[u8] = b"%%MatrixMarket matrix coordinate integer general\n1 1 1\n1 1 5\n";
@@ -197,7 +229,9 @@ const ARRAY: &[u8] = b"%%MatrixMarket matrix array pattern general\n1 1\n5\n";
 
 const NO_TEXT: &[u8] = &[0xff, 0xfe];
 
-const USAGE: &str = "usage: mtx rows EXPR FILE.. | mtx cols EXPR FILE.. | mtx fill FILE\n";
+/// The line of wrong usage.
+pub const USAGE: &str =
+    "usage: mtx rows EXPR FILE.. | mtx cols EXPR FILE.. | mtx fill [upper|lower|both] FILE\n";
 
 /// Words, the files after them, and the line and the status of a refusal.
 pub type Refusal = (
@@ -277,4 +311,10 @@ pub const REFUSALS: &[Refusal] = &[
     (&["lines", "1"], &[ONE], USAGE, 2),
     (&["fill"], &[], USAGE, 2),
     (&["fill"], &[PATTERN, PATTERN], USAGE, 2),
+    (&["fill", "upper"], &[PATTERN], "mtx: write failed\n", 1),
+    // One argument is the file, whatever its name.
+    (&["fill", "lower"], &[], "mtx: input 1: IOError\n", 1),
+    (&["fill", "Lower"], &[PATTERN], USAGE, 2),
+    (&["fill", ""], &[PATTERN], USAGE, 2),
+    (&["fill", "both"], &[PATTERN, PATTERN], USAGE, 2),
 ];

@@ -1,7 +1,7 @@
 //! What the program writes and answers.
 
-use crate::cases::{CASES, COLUMN_CASES, Case, FILL_CASES, REFUSALS};
-use crate::files::{file, files_of, matrices, matrix, remove_all};
+use crate::cases::{CASES, COLUMN_CASES, Case, FILL_CASES, REFUSALS, USAGE};
+use crate::files::{files_of, matrices, matrix, remove_all};
 use mtx_commands::{answer, command, finish};
 use nalgebra_sparse::io::Out;
 use std::alloc::{AllocError, Global};
@@ -145,18 +145,19 @@ fn columns_of_files(rt: HostRuntime) -> Result<(), Fail> {
     Ok(())
 }
 
-// What `mtx fill` answers on a file with this text.
-fn filled(rt: &HostRuntime, text: &str) -> io::Result<Answer> {
-    let path = file(rt, "fill", text.as_bytes())?;
-    let answer = answered(rt, &["fill", path.as_str()]);
-    fs::remove_file(rt, path.as_str())?;
+// What `mtx fill` answers where these words stand before a file with this text.
+fn filled(rt: &HostRuntime, first: &[&str], text: &str) -> io::Result<Answer> {
+    let paths = files_of(rt, &[text.as_bytes()])?;
+    let words = words_of(rt, first, &paths)?;
+    let answer = answered(rt, &words);
+    remove_all(rt, &paths)?;
     Ok(answer)
 }
 
 #[test]
 fn fills_of_patterns(rt: HostRuntime) -> Result<(), Fail> {
-    for (text, wanted) in FILL_CASES {
-        let answer = filled(&rt, text)?;
+    for (words, text, wanted) in FILL_CASES {
+        let answer = filled(&rt, words, text)?;
         assert!(rt; is_wanted(&answer, PATTERN_HEADING, *wanted));
     }
     Ok(())
@@ -229,21 +230,17 @@ fn failed_flushes_and_lines(rt: HostRuntime) {
 }
 
 // The status and the line of an error where the arguments can't be read.
-const UNREAD: [(ErrorKind, u8, &[u8]); 2] = [
-    (
-        ErrorKind::InvalidData,
-        2,
-        b"usage: mtx rows EXPR FILE.. | mtx cols EXPR FILE.. | mtx fill FILE\n",
-    ),
-    (ErrorKind::OutOfMemory, 1, b"mtx: out of memory\n"),
+const UNREAD: [(ErrorKind, u8, &str); 2] = [
+    (ErrorKind::InvalidData, 2, USAGE),
+    (ErrorKind::OutOfMemory, 1, "mtx: out of memory\n"),
 ];
 
 // Whether arguments that can't be read for this reason are answered with this status and this line.
-fn is_answered(rt: &HostRuntime, kind: ErrorKind, status: u8, line: &[u8]) -> bool {
+fn is_answered(rt: &HostRuntime, kind: ErrorKind, status: u8, line: &str) -> bool {
     let mut err = Vec::new(rt.alloc());
     let given = Err(io::Error::from(kind));
     let code = answer(rt, given, Vec::new(rt.alloc()), &mut err);
-    code == ExitCode::from(status) && err.as_slice() == line
+    code == ExitCode::from(status) && err.as_slice() == line.as_bytes()
 }
 
 #[test]

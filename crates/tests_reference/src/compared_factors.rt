@@ -4,13 +4,13 @@ ghost use Rattle.std.specs.Prelude.{◌≡◌};
 
 use crate::square_patterns::Columns;
 use reference::fill::fill_by_pairs;
-use sparse_factor::factorization::CscSymbolicCholesky;
+use sparse_factor::factorization::{CscSymbolicCholesky, Triangle};
 use sparse_pattern::pattern::SparsityPattern;
 use std::alloc::{AllocError, Global};
 use std::test::Fail;
 
-// Whether each column of the pattern has the rows that the pairs (row, column) name, and no others. The pairs are distinct.
-fn stores(l_pattern: &SparsityPattern, pairs: &[(usize, usize)]) -> bool {
+/// Whether each column of the pattern has the rows that the pairs (row, column) name, and no others. The pairs are distinct.
+pub fn stores(l_pattern: &SparsityPattern, pairs: &[(usize, usize)]) -> bool {
     for (row, column) in pairs {
         match l_pattern.get_lane(*column) {
             Some(lane) => {
@@ -41,7 +41,7 @@ fn agrees(alloc: Global, columns: Columns, size: usize) -> Result<bool, AllocErr
     let Ok(pattern) = columns.square(size) else {
         return Ok(false);
     };
-    let pairs = fill_by_pairs(alloc, &pattern)?;
+    let pairs = fill_by_pairs(alloc, &pattern, Triangle::Upper)?;
     has_fill(alloc, pattern, &pairs)
 }
 
@@ -58,8 +58,8 @@ fn push_bits(columns: &mut Columns, size: usize, bits: u32) -> Result<u32, Alloc
     Ok(rest)
 }
 
-// The square pattern whose places are the bits of a number, column by column.
-fn of_bits(alloc: Global, size: usize, bits: u32) -> Result<Columns, AllocError> {
+/// The square pattern whose places are the bits of a number, column by column.
+pub fn of_bits(alloc: Global, size: usize, bits: u32) -> Result<Columns, AllocError> {
     let mut columns = Columns::new(alloc)?;
     let mut rest = bits;
     for _ in 0..size {
@@ -100,8 +100,8 @@ fn push_random(columns: &mut Columns, size: usize, seed: u64) -> Result<u64, All
     Ok(state)
 }
 
-// The columns of a square pattern with about one place in five.
-fn random(alloc: Global, size: usize, seed: u64) -> Result<Columns, AllocError> {
+/// The columns of a square pattern with about one place in five.
+pub fn random(alloc: Global, size: usize, seed: u64) -> Result<Columns, AllocError> {
     let mut columns = Columns::new(alloc)?;
     let mut state = seed;
     for _ in 0..size {

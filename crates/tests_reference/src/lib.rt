@@ -4,6 +4,8 @@
 #[cfg(test)]
 mod compared_factors;
 #[cfg(test)]
+mod compared_triangles;
+#[cfg(test)]
 mod generated;
 #[cfg(test)]
 mod large_factors;
@@ -11,6 +13,8 @@ mod large_factors;
 mod patterns;
 #[cfg(test)]
 mod small_factors;
+#[cfg(test)]
+mod small_triangles;
 #[cfg(test)]
 mod square_patterns;
 #[cfg(test)]
