@@ -13,7 +13,7 @@ use Rattle.sparse_lemmas.proofs.Cases.{lt_suc_cases}
 use Rattle.sparse_pattern.specs.Raw.{Raw, IsValid, paired}
 use Rattle.sparse_factor.specs.Fill.{InFill, TriangleBase}
 use Rattle.sparse_factor.specs.declared.factorization.Triangle.{Triangle}
-use Rattle.sparse_factor.proofs.FillCounts.{pair_eq, same_pair, pair_laws}
+use Rattle.sparse_factor.proofs.Pairs.{pair_eq, same_pair, pair_laws}
 use Rattle.reference.specs.Pairs.{pair}
 use Rattle.reference.specs.InnerClosure.{IsWhole, IsLacking}
 use Rattle.reference.proofs.TriangleBases.{base_bounds}
