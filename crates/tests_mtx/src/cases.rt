@@ -210,7 +210,11 @@ pub const FILL_CASES: &[FillCase] = &[
         Err("mtx: input 1: TypeMismatch\n"),
     ),
     (&["fill"], "3 3 2\n", Err("mtx: input 1: ParsingError\n")),
-    (&["fill", "both"], "3 3 2\n", Err("mtx: input 1: ParsingError\n")),
+    (
+        &["fill", "both"],
+        "3 3 2\n",
+        Err("mtx: input 1: ParsingError\n"),
+    ),
 ];
 
 const ONE: &[u8] = b"%%MatrixMarket matrix coordinate integer general\n1 1 1\n1 1 5\n";

@@ -49,10 +49,7 @@ const CASES: &[Case] = &[
     Case {
         size: 5,
         pattern: (&[0, 1, 5, 6, 8, 10], &[0, 0, 1, 2, 4, 2, 0, 3, 0, 4]),
-        upper: (
-            &[0, 4, 7, 8, 10, 11],
-            &[0, 1, 3, 4, 1, 3, 4, 2, 3, 4, 4],
-        ),
+        upper: (&[0, 4, 7, 8, 10, 11], &[0, 1, 3, 4, 1, 3, 4, 2, 3, 4, 4]),
         lower: (&[0, 1, 4, 6, 7, 8], &[0, 1, 2, 4, 2, 4, 3, 4]),
         both: (
             &[0, 4, 8, 11, 13, 14],
@@ -125,13 +122,43 @@ const FIRST_ROW: Arrays = (&[0, 1, 3, 5], &[0, 0, 1, 0, 2]);
 
 const COMPARISONS: &[Comparison] = &[
     (DIAGONAL, Triangle::Upper, DIAGONAL, Triangle::Both, true),
-    (FIRST_COLUMN, Triangle::Lower, FIRST_COLUMN, Triangle::Both, true),
-    (FIRST_COLUMN, Triangle::Upper, FIRST_COLUMN, Triangle::Lower, false),
+    (
+        FIRST_COLUMN,
+        Triangle::Lower,
+        FIRST_COLUMN,
+        Triangle::Both,
+        true,
+    ),
+    (
+        FIRST_COLUMN,
+        Triangle::Upper,
+        FIRST_COLUMN,
+        Triangle::Lower,
+        false,
+    ),
     // The input is kept as it was given: these factors are the same, and their inputs are transposes.
-    (FIRST_COLUMN, Triangle::Lower, FIRST_ROW, Triangle::Upper, false),
-    (FIRST_COLUMN, Triangle::Both, FIRST_ROW, Triangle::Both, false),
+    (
+        FIRST_COLUMN,
+        Triangle::Lower,
+        FIRST_ROW,
+        Triangle::Upper,
+        false,
+    ),
+    (
+        FIRST_COLUMN,
+        Triangle::Both,
+        FIRST_ROW,
+        Triangle::Both,
+        false,
+    ),
     // These too, and entries of the input are left out in the first.
-    (FIRST_COLUMN, Triangle::Upper, DIAGONAL, Triangle::Upper, false),
+    (
+        FIRST_COLUMN,
+        Triangle::Upper,
+        DIAGONAL,
+        Triangle::Upper,
+        false,
+    ),
 ];
 
 // Whether both are factorisations, and equal as it is wanted.
