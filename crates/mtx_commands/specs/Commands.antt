@@ -5,6 +5,8 @@ use Rattle.nalgebra_sparse.specs.Run.{Writes}
 use Rattle.sparse_expr.specs.declared.expr.Expr.{Expr}
 use Rattle.sparse_expr.specs.declared.calculator.Form.{Form}
 use Rattle.sparse_expr.specs.declared.calculator.Form.TheVariants.{Rows, Cols}
+use Rattle.sparse_factor.specs.declared.factorization.Triangle.{Triangle}
+use Rattle.sparse_factor.specs.declared.factorization.Triangle.TheVariants.{Upper, Lower, Both}
 use Rattle.mtx_commands.specs.declared.cli.Failure.{Failure}
 use Rattle.mtx_commands.specs.declared.cli.Failure.TheVariants as failure
 
@@ -31,10 +33,22 @@ abbrev pub name_of : Form → List ℕ
 name_of Rows = codes "rows"
 name_of Cols = codes "cols"
 
--- the words are the name of an order and what was calculated, or `fill` and a file
+-- the word that names a triangle
+abbrev pub triangle_name : Triangle → List ℕ
+triangle_name Upper = codes "upper"
+triangle_name Lower = codes "lower"
+triangle_name Both = codes "both"
+
+-- the words ask for the fill of this triangle of a file: `fill`, the triangle's name and the file,
+-- or `fill` and the file for the upper triangle
+abbrev pub AsksFill : Triangle → List ℕ → List (List ℕ) → Type 0
+AsksFill triangle path words = (words ≡ codes "fill" ∷ (triangle_name triangle ∷ (path ∷ [])))
+    ⊎ ((triangle ≡ Upper) × (words ≡ codes "fill" ∷ (path ∷ [])))
+
+-- the words are the name of an order and what was calculated, or they ask for a fill
 abbrev pub IsAnswered : List (List ℕ) → Option (List ℕ) → Option (List ℕ) → Type 0
 IsAnswered words old new = ((form : Form) × IsCalculated form (name_of form) words old new)
-    ⊎ ((path : List ℕ) × (words ≡ codes "fill" ∷ (path ∷ [])))
+    ⊎ ((triangle : Triangle) × ((path : List ℕ) × AsksFill triangle path words))
 
 -- the exit status of a failure
 abbrev pub status_of : Failure → ℕ

@@ -6,11 +6,14 @@ ghost use Rattle.nalgebra_sparse.specs.PostfixWords.{texts};
 ghost use Rattle.nalgebra_sparse.specs.Run.{Writes};
 ghost use Rattle.sparse_expr.specs.declared.calculator.Form.{Form};
 ghost use Rattle.sparse_expr.specs.declared.error.ExprError.TheVariants.{OutOfMemory};
-ghost use Rattle.mtx_commands.specs.Commands.{IsAnswered, IsEvaluated, name_of, status_of};
+ghost use Rattle.sparse_factor.specs.declared.factorization.Triangle.{Triangle};
+ghost use Rattle.mtx_commands.specs.Commands.{IsAnswered, IsEvaluated, name_of, triangle_name};
+ghost use Rattle.mtx_commands.specs.Commands.{status_of};
 ghost use Rattle.mtx_commands.specs.declared.cli.Failure.TheVariants.{Usage, Refused};
 
 use crate::fill::fill;
 use nalgebra_sparse::expr::{Expr, ExprError, Form, run};
+use nalgebra_sparse::factorization::Triangle;
 use nalgebra_sparse::io::{MatrixMarketErrorKind, Sink, write_all_to};
 use std::alloc::{AllocError, AllocFailed, Global};
 use std::rt::Files;
@@ -64,7 +67,8 @@ impl<T: Drop> From<AllocFailed<T>> for Failure {
     }
 }
 
-const USAGE: &str = "usage: mtx rows EXPR FILE.. | mtx cols EXPR FILE.. | mtx fill FILE\n";
+const USAGE: &str =
+    "usage: mtx rows EXPR FILE.. | mtx cols EXPR FILE.. | mtx fill [upper|lower|both] FILE\n";
 
 const OUT_OF_MEMORY: &str = "mtx: out of memory\n";
 
@@ -100,7 +104,11 @@ where
     ensures unanswered { IfErr result (λ e. e ≡ Usage → W.taken out.new ≡ W.taken out.old) }
 {
     match words {
-        ["fill", path] => fill(rt, path, out),
+        ["fill", path] => fill(rt, Triangle::Upper, path, out),
+        ["fill", name, path] => match triangle_of(name) {
+            Some(triangle) => fill(rt, triangle, path, out),
+            None => Err(Failure::Usage),
+        },
         [order, expression, paths @ ..] if !paths.is_empty() => match form_of(order) {
             Some(form) => calculate(rt, form, expression, paths, out),
             None => Err(Failure::Usage),
@@ -117,6 +125,19 @@ fn form_of(word: &str) -> Option<Form>
     match word {
         "rows" => Some(Form::Rows),
         "cols" => Some(Form::Cols),
+        _ => None,
+    }
+}
+
+// The triangle that a word before the file names.
+fn triangle_of(word: &str) -> Option<Triangle>
+    ensures named { IfSome result (λ triangle. word.now ≡ triangle_name triangle) }
+    ensures unnamed { result ≡ None → (triangle : Triangle) → word.now ≢ triangle_name triangle }
+{
+    match word {
+        "upper" => Some(Triangle::Upper),
+        "lower" => Some(Triangle::Lower),
+        "both" => Some(Triangle::Both),
         _ => None,
     }
 }

@@ -1,30 +1,32 @@
 //! The command `mtx fill`.
 
-ghost use Rattle.std.specs.Prelude.{◌≡◌, IfErr};
+ghost use Rattle.std.specs.Prelude.{◌≡◌, ℕ, ◌<◌, ◌↔◌, All, IfOk, IfErr, length};
+ghost use Rattle.nalgebra_sparse.specs.Raw.{IsValid, IsPlace};
+ghost use Rattle.nalgebra_sparse.specs.Fill.{InFill, TriangleBase, StoresByColumns};
+ghost use Rattle.mtx_commands.specs.Places.{HasTriplet, IsOneALane, AreNumbersTo};
 ghost use Rattle.mtx_commands.specs.declared.cli.Failure.TheVariants.{Usage};
 
 use crate::cli::Failure;
-use nalgebra_sparse::convert::serial::convert_coo_csc;
 use nalgebra_sparse::expr::ExprError;
-use nalgebra_sparse::factorization::CscSymbolicCholesky;
+use nalgebra_sparse::factorization::{CscSymbolicCholesky, Triangle};
 use nalgebra_sparse::io::{
     MatrixMarketErrorKind, Sink, load_coo_from_matrix_market_file, save_to_matrix_market,
 };
+use nalgebra_sparse::ops::serial::spmm_csr_pattern;
 use nalgebra_sparse::pattern::SparsityPattern;
-use nalgebra_sparse::scalar::W64;
 use nalgebra_sparse::{CooMatrix, CscMatrix};
 use std::alloc::{AllocError, Global};
 use std::rt::Files;
 
-/// Reads the pattern in a file, and writes the pattern of its Cholesky factor by columns.
-pub fn fill<R, W>(rt: &R, path: &str, out: &mut W) -> Result<(), Failure>
+/// Reads the pattern in a file, and writes the pattern of the Cholesky factor of its triangle by columns.
+pub fn fill<R, W>(rt: &R, triangle: Triangle, path: &str, out: &mut W) -> Result<(), Failure>
 where
     R: Files + AllocGlobal,
     W: Sink,
     ensures refused { IfErr result (λ e. e ≡ Usage → ⊥) }
 {
     let pattern = read_pattern(rt, path)?;
-    let factor = factor_of(rt.alloc(), pattern)?;
+    let factor = factor_of(rt.alloc(), pattern, triangle)?;
     write_pattern(rt.alloc(), factor.l_pattern(), out)
 }
 
@@ -54,27 +56,69 @@ fn write_pattern<W: Sink>(
 }
 
 // Returns the pattern by columns of the places of a list, each once.
-fn pattern_of(alloc: Global, places: &CooMatrix<()>) -> Result<SparsityPattern, AllocError> {
-    let mut counted: CooMatrix<W64> = CooMatrix::new(alloc, places.nrows(), places.ncols());
-    counted.reserve(places.nnz())?;
-    for (row, col, _) in places.triplet_iter() {
-        // Always so: the places of a list lie inside its sizes. The test spares the proof an invariant.
-        if row < counted.nrows() && col < counted.ncols() {
-            counted.push(row, col, W64::new(1))?;
-        }
-    }
-    let (pattern, _) = convert_coo_csc(alloc, &counted)?.into_pattern_and_values();
+//
+// It is the product of two patterns with a lane for each triplet: that of the columns, transposed, and that of the rows.
+fn pattern_of(alloc: Global, places: &CooMatrix<()>) -> Result<SparsityPattern, AllocError>
+    ensures columns { IfOk result (λ p. p.major_dim ≡ places.now.ncols) }
+    ensures rows { IfOk result (λ p. p.minor_dim ≡ places.now.nrows) }
+    ensures places { IfOk result (λ p. (i j : ℕ) → IsPlace p j i ↔ HasTriplet places.now i j) }
+    ensures valid { IfOk result IsValid }
+{
+    let rows = one_a_lane(alloc, places.row_indices(), places.nrows())?;
+    let columns = one_a_lane(alloc, places.col_indices(), places.ncols())?;
+    let transposed = columns.transpose(alloc)?;
+    let pattern = spmm_csr_pattern(alloc, &transposed, &rows)?;
     Ok(pattern)
 }
 
-// Returns the factor of a square pattern.
-fn factor_of(alloc: Global, pattern: SparsityPattern) -> Result<CscSymbolicCholesky, Failure>
+// Returns a pattern with a lane for each index.
+fn one_a_lane(
+    alloc: Global,
+    indices: &[usize],
+    minor_dim: usize,
+) -> Result<SparsityPattern, AllocError>
+    requires { All (λ i. i < minor_dim) indices.now }
+    ensures lanes { IfOk result (λ p. p.major_dim ≡ length indices.now) }
+    ensures size { IfOk result (λ p. p.minor_dim ≡ minor_dim) }
+    ensures places { IfOk result (λ p. IsOneALane p indices.now) }
+    ensures valid { IfOk result IsValid }
+{
+    let offsets = numbers_to(alloc, indices.len())?;
+    let indices = Vec::from_slice(alloc, indices)?;
+    Ok(SparsityPattern::from_offset_and_indices_unchecked(
+        indices.len(),
+        minor_dim,
+        offsets,
+        indices,
+    ))
+}
+
+// Returns the numbers from 0 to `last`.
+fn numbers_to(alloc: Global, last: usize) -> Result<Vec<usize>, AllocError>
+    ensures { IfOk result (λ v. AreNumbersTo v.items last) }
+{
+    let mut numbers = Vec::with_capacity(alloc, last.saturating_add(1))?;
+    for number in 0..last {
+        numbers.push(number)?;
+    }
+    numbers.push(last)?;
+    Ok(numbers)
+}
+
+// Returns the factor of a triangle of a square pattern.
+fn factor_of(
+    alloc: Global,
+    pattern: SparsityPattern,
+    triangle: Triangle,
+) -> Result<CscSymbolicCholesky, Failure>
+    ensures fill { IfOk result
+        (λ s. StoresByColumns (InFill (TriangleBase triangle pattern)) s.factor) }
     ensures refused { IfErr result (λ e. e ≡ Usage → ⊥) }
 {
     if pattern.major_dim() != pattern.minor_dim() {
         return Err(Failure::NotSquare);
     }
-    Ok(CscSymbolicCholesky::factor(alloc, pattern)?)
+    Ok(CscSymbolicCholesky::factor_triangle(alloc, pattern, triangle)?)
 }
 
 // Returns the matrix of a pattern by columns, without values.

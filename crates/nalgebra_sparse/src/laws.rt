@@ -5,6 +5,11 @@ pub mod conversions {
     pub use sparse_convert::serial::{from_dense_law, one_matrix_law, order_law, to_dense_law};
 }
 
+/// The symbolic factor: two factorisations of one pattern whose factors store the fill of one base are `==`.
+pub mod factors {
+    pub use sparse_factor::factorization::one_factor;
+}
+
 /// Patterns: the first fault of raw data is unique.
 pub mod patterns {
     pub use sparse_pattern::pattern::one_first_fault;

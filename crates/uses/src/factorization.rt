@@ -1,7 +1,7 @@
 //! Examples of the module `factorization`.
 
 use crate::example::holds;
-use nalgebra_sparse::factorization::CscSymbolicCholesky;
+use nalgebra_sparse::factorization::{CscSymbolicCholesky, Triangle};
 use nalgebra_sparse::pattern::SparsityPattern;
 use std::alloc::Global;
 use std::test::Fail;
@@ -14,7 +14,16 @@ fn a_factor_fills_in(alloc: Global) -> Result<bool, Fail> {
     Ok(factor.l_pattern().minor_indices() == [0, 1, 2, 1, 2, 2].as_slice())
 }
 
+fn a_lower_triangle_fills_in(alloc: Global) -> Result<bool, Fail> {
+    let offsets = vec![in alloc; 0, 3, 4, 5]?;
+    let indices = vec![in alloc; 0, 1, 2, 1, 2]?;
+    let pattern = SparsityPattern::try_from_offsets_and_indices(3, 3, offsets, indices)?;
+    let factor = CscSymbolicCholesky::factor_triangle(alloc, pattern, Triangle::Lower)?;
+    Ok(factor.l_pattern().minor_indices() == [0, 1, 2, 1, 2, 2].as_slice())
+}
+
 #[test]
 fn factors(rt: HostRuntime) {
     assert!(rt; holds(&rt, a_factor_fills_in(rt.alloc())));
+    assert!(rt; holds(&rt, a_lower_triangle_fills_in(rt.alloc())));
 }

@@ -1,7 +1,8 @@
-use Rattle.std.proofs.Common.{◌≡◌, ◌<◌, ◌≤◌, List, [], ◌∷◌, ℕ, inr, ap, length, get_or, arith}
+use Rattle.std.proofs.Common.{◌≡◌, ◌<◌, ◌≤◌, List, [], ◌∷◌, ℕ, inl, inr, refl, ap, ◌∙◌, length, get_or, arith}
 use Rattle.std.proofs.Common.{Result, Ok, Err, OnOk}
 use denote.Ref.{Bor}
 use Rattle.nalgebra_sparse.specs.PostfixWords.{texts}
+use Rattle.sparse_factor.specs.declared.factorization.Triangle.TheVariants.{Upper}
 use Rattle.mtx_commands.proofs.cli.execute.Goals as goal
 
 -- two words, the first of which is known
@@ -14,11 +15,33 @@ two_words (a ∷ (b ∷ [])) d first least below is =
     (b.now, ap (λ (w : List ℕ). w ∷ (b.now ∷ [])) is)
 two_words (a ∷ (b ∷ (c ∷ rest))) d first least below is = absurd (omega arith)
 
+-- three words, the first two of which are known
+three_words : (words : List (Bor (List ℕ))) (d e : Bor (List ℕ)) (first second : List ℕ)
+    → 3 ≤ length words → length words < 4 → (get_or words 0 d).now ≡ first
+    → (get_or words 1 e).now ≡ second
+    → (path : List ℕ) × (texts words ≡ first ∷ (second ∷ (path ∷ [])))
+three_words [] d e first second least below is at = absurd (omega arith)
+three_words (a ∷ []) d e first second least below is at = absurd (omega arith)
+three_words (a ∷ (b ∷ [])) d e first second least below is at = absurd (omega arith)
+three_words (a ∷ (b ∷ (c ∷ []))) d e first second least below is at = (
+  c.now,
+  ap (λ (w : List ℕ). w ∷ (b.now ∷ (c.now ∷ []))) is
+      ∙ ap (λ (w : List ℕ). first ∷ (w ∷ (c.now ∷ []))) at,
+)
+three_words (a ∷ (b ∷ (c ∷ (o ∷ rest)))) d e first second least below is at = absurd (omega arith)
+
 in_any_case : {T E P : Type 0} (r : Result T E) → P → OnOk r P
 in_any_case (Ok x) p = p
 in_any_case (Err e) p = tt
 
 pub returns-in-fill-clause-answered : goal.returns-in-fill-clause-answered
 returns-in-fill-clause-answered g c =
-    in_any_case c.fill.result (inr (two_words c.args.words.now _ _ c.in-fill.len_at_least
-    c.in-fill.len_below c.in-fill.is-fill))
+    let (path, words) = two_words c.args.words.now _ _ c.in-fill.len_at_least c.in-fill.len_below
+    c.in-fill.is-fill in
+    in_any_case c.fill.result (inr (Upper, (path, inr (refl, words))))
+
+pub returns-in-Some-clause-answered : goal.returns-in-Some-clause-answered
+returns-in-Some-clause-answered g c =
+    let (path, words) = three_words c.args.words.now _ _ _ _ c.in-fill-2.len_at_least
+    c.in-fill-2.len_below c.in-fill-2.is-fill c.in-Some.ensures.named in
+    in_any_case c.fill-in-Some.result (inr (c.in-Some.triangle, (path, inl words)))

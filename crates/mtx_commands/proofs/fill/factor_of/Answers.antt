@@ -1,5 +1,5 @@
 use Rattle.std.proofs.Common.{rules}
 use Rattle.mtx_commands.proofs.fill.factor_of.Goals as goal
 
-pub factor-requires : goal.factor-requires
-factor-requires c = search rules
+pub factor_triangle-requires : goal.factor_triangle-requires
+factor_triangle-requires c = search rules
