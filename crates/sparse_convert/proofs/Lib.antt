@@ -1,6 +1,9 @@
 pub mod LentLists
 pub mod PlacedTriplets
 pub mod SortedTriplets
+pub mod ByKey
+pub mod PlacedByKey
+pub mod CountedLanes
 pub mod IndexSums
 pub mod Merging
 pub mod MergedLanes

@@ -1,6 +1,8 @@
 //! Conversions between coordinate lists, CSR, CSC and dense matrices.
 #![tactic(auto)]
 
+mod counted;
 mod lanes;
 mod merge;
+mod passes;
 pub mod serial;
