@@ -4,6 +4,8 @@ pub mod SortedTriplets
 pub mod ByKey
 pub mod PlacedByKey
 pub mod CountedLanes
+pub mod Rising
+pub mod Both
 pub mod IndexSums
 pub mod Merging
 pub mod MergedLanes

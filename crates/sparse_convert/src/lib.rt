@@ -4,5 +4,7 @@
 mod counted;
 mod lanes;
 mod merge;
+mod nearness;
+mod order;
 mod passes;
 pub mod serial;

@@ -41,5 +41,6 @@ mod sums;
 mod sums_into;
 #[cfg(test)]
 mod triplets;
+mod ways;
 #[cfg(test)]
 mod wrapping;

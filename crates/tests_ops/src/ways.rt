@@ -1,0 +1,179 @@
+//! Lists that are compressed by two counting passes, and the same lists with so many columns that their rows are sorted.
+
+use crate::matrices::{are_lanes, list};
+use crate::scalars::{Scalar, scalars};
+use sparse_algebra::scalar::{W32, W64};
+use sparse_base::coo::CooMatrix;
+use sparse_convert::serial::{convert_coo_csc, convert_coo_csr};
+use sparse_forms::csr::CsrMatrix;
+use std::alloc::{AllocError, Global};
+
+// The numbers of rows and columns, the triplets, and the offsets, columns and values by rows.
+type Case<'a> = (
+    (usize, usize),
+    &'a [(usize, usize, i32)],
+    &'a [usize],
+    &'a [usize],
+    &'a [i32],
+);
+
+const LISTS: &[Case<'static>] = &[
+    // In no order.
+    (
+        (3, 4),
+        &[
+            (2, 1, 5),
+            (0, 3, 1),
+            (2, 1, -5),
+            (1, 0, 2),
+            (0, 0, 7),
+            (0, 3, 4),
+        ],
+        &[0, 2, 3, 4],
+        &[0, 3, 0, 1],
+        &[7, 5, 2, 0],
+    ),
+    // Row by row.
+    (
+        (3, 4),
+        &[
+            (0, 0, 7),
+            (0, 3, 1),
+            (0, 3, 4),
+            (1, 0, 2),
+            (2, 1, 5),
+            (2, 1, -5),
+        ],
+        &[0, 2, 3, 4],
+        &[0, 3, 0, 1],
+        &[7, 5, 2, 0],
+    ),
+    // Column by column.
+    (
+        (3, 4),
+        &[
+            (0, 0, 7),
+            (1, 0, 2),
+            (2, 1, 5),
+            (2, 1, -5),
+            (0, 3, 1),
+            (0, 3, 4),
+        ],
+        &[0, 2, 3, 4],
+        &[0, 3, 0, 1],
+        &[7, 5, 2, 0],
+    ),
+    // Rows that rise while the columns of the last one fall.
+    (
+        (2, 3),
+        &[(0, 1, 1), (1, 2, 2), (1, 0, 3)],
+        &[0, 1, 3],
+        &[1, 0, 2],
+        &[1, 3, 2],
+    ),
+    // One place, repeated.
+    (
+        (1, 1),
+        &[(0, 0, 1), (0, 0, 2), (0, 0, 3)],
+        &[0, 1],
+        &[0],
+        &[6],
+    ),
+    ((1, 2), &[(0, 1, 3), (0, 0, 1)], &[0, 2], &[0, 1], &[1, 3]),
+    ((2, 2), &[], &[0, 0, 0], &[], &[]),
+];
+
+// Whether the list becomes these rows with this number of columns, and these columns if its indices change places.
+fn becomes<T: Scalar>(alloc: Global, case: &Case<'_>, ncols: usize) -> bool {
+    let Ok(values) = scalars::<T>(alloc, case.4) else {
+        return false;
+    };
+    let Some(coo) = list::<T>(alloc, (case.0.0, ncols), case.1) else {
+        return false;
+    };
+    let expected = (case.2, case.3, values.as_slice());
+    let (Ok(csr), Ok(turned)) = (convert_coo_csr(alloc, &coo), turned(alloc, &coo)) else {
+        return false;
+    };
+    let Ok(csc) = convert_coo_csc(alloc, &turned) else {
+        return false;
+    };
+    are_lanes(
+        (csr.row_offsets(), csr.col_indices(), csr.values()),
+        expected,
+    ) && are_lanes(
+        (csc.col_offsets(), csc.row_indices(), csc.values()),
+        expected,
+    )
+}
+
+// The list with rows and columns exchanged.
+fn turned<T: Scalar>(alloc: Global, coo: &CooMatrix<T>) -> Result<CooMatrix<T>, AllocError> {
+    let mut turned = CooMatrix::new(alloc, coo.ncols(), coo.nrows());
+    for (row, col, value) in coo.triplet_iter() {
+        if col < turned.nrows() && row < turned.ncols() {
+            turned.push(col, row, *value)?;
+        }
+    }
+    Ok(turned)
+}
+
+#[test]
+fn both_ways_give_one_matrix(rt: HostRuntime) {
+    for case in LISTS {
+        assert!(rt; becomes::<W32>(rt.alloc(), case, case.0.1));
+        assert!(rt; becomes::<W32>(rt.alloc(), case, usize::MAX));
+        assert!(rt; becomes::<W64>(rt.alloc(), case, case.0.1));
+        assert!(rt; becomes::<W64>(rt.alloc(), case, usize::MAX));
+    }
+}
+
+// The number of rows and columns of a matrix whose list goes to and fro by half of them.
+const SIZE: usize = 10_007;
+
+const STEP: usize = SIZE / 2;
+
+// 200 places of the other diagonal, whose neighbours in the list are far apart.
+fn far_list(alloc: Global) -> Result<CooMatrix<W64>, AllocError> {
+    let mut coo = CooMatrix::new(alloc, SIZE, SIZE);
+    for number in 0..200 {
+        let row = number * STEP % SIZE;
+        coo.push(row, SIZE - 1 - row, W64::new(number as i64))?;
+    }
+    Ok(coo)
+}
+
+// The column and the value of the place at a position: the rows are 0, 4904 to 5003, and 9908 to 10006.
+fn far_place(position: usize) -> (usize, usize) {
+    match position {
+        0 => (10_006, 0),
+        1..=100 => (5103 - position, 201 - 2 * position),
+        101..200 => (199 - position, 400 - 2 * position),
+        _ => (0, 0),
+    }
+}
+
+fn are_far_places(csr: &CsrMatrix<W64>) -> bool {
+    let places = csr.col_indices().iter().zip(csr.values()).enumerate();
+    let mut holds = csr.nnz() == 200;
+    for (position, (col, value)) in places {
+        let (far_col, number) = far_place(position);
+        holds = holds && *col == far_col && value.get() == number as i64;
+    }
+    holds
+}
+
+fn far_list_is_converted(alloc: Global) -> bool {
+    let Ok(coo) = far_list(alloc) else {
+        return false;
+    };
+    match convert_coo_csr(alloc, &coo) {
+        Ok(csr) => are_far_places(&csr),
+        Err(_) => false,
+    }
+}
+
+#[test]
+fn a_list_of_far_neighbours_is_converted(rt: HostRuntime) {
+    assert!(rt; far_list_is_converted(rt.alloc()));
+}
