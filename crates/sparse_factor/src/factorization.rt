@@ -1,6 +1,6 @@
 //! Symbolic factorisations.
 
-ghost use Rattle.std.specs.Prelude.{◌≡◌, ℕ, ◌+◌, ◌<◌, ◌≤◌, ◌↔◌, List, length, IfOk, OnOk, IsTrue};
+ghost use Rattle.std.specs.Prelude.{◌≡◌, ℕ, ◌+◌, ◌≤◌, ◌↔◌, List, length, IfOk, OnOk, IsTrue};
 ghost use Rattle.sparse_pattern.specs.Raw.{IsValid, IsPlace, nnz_of, HasSamePlaces};
 ghost use Rattle.sparse_factor.specs.Fill.{InFill, UpperBase, LowerBase, TriangleBase};
 ghost use Rattle.sparse_factor.specs.Fill.{StoresByColumns, ListsFill};

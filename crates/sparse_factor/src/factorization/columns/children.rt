@@ -1,6 +1,6 @@
 //! The children of a column: finished columns in a linked list. A head is one more than a column, or 0 where the list ends.
 
-ghost use Rattle.std.specs.Prelude.{◌≡◌, ◌≢◌, ℕ, suc, ◌+◌, ◌-◌, ◌<◌, ◌≤◌, ◌↔◌, ◌⊎◌, length, map};
+ghost use Rattle.std.specs.Prelude.{◌≡◌, ◌≢◌, ℕ, suc, ◌+◌, ◌<◌, ◌≤◌, ◌↔◌, ◌⊎◌, length, map};
 ghost use Rattle.std.specs.Prelude.{slice_index, slice_set, Contains, IfOk, IsTrue};
 ghost use Rattle.sparse_factor.specs.InnerColumns.{IsRun, IsInRun, IsInColumn, IsInTail};
 ghost use Rattle.sparse_factor.specs.InnerColumns.{AreColumns};
