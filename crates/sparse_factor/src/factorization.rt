@@ -95,6 +95,18 @@ impl CscSymbolicCholesky {
     ///
     /// [`CscSymbolicCholesky::factor`] starts from the upper triangle, and has the same cost and errors. Scratch memory of the lower
     /// triangle is without the transpose; that of both triangles has the union beside it.
+    ///
+    /// # Examples
+    ///
+    /// ```rust
+    /// fn a_lower_triangle_fills_in(alloc: Global) -> Result<bool, Fail> {
+    ///     let offsets = vec![in alloc; 0, 3, 4, 5]?;
+    ///     let indices = vec![in alloc; 0, 1, 2, 1, 2]?;
+    ///     let pattern = SparsityPattern::try_from_offsets_and_indices(3, 3, offsets, indices)?;
+    ///     let factor = CscSymbolicCholesky::factor_triangle(alloc, pattern, Triangle::Lower)?;
+    ///     Ok(factor.l_pattern().minor_indices() == [0, 1, 2, 1, 2, 2].as_slice())
+    /// }
+    /// ```
     pub fn factor_triangle(
         alloc: Global,
         pattern: SparsityPattern,
