@@ -83,6 +83,9 @@ pub use Rattle.sparse_solve.specs.Solutions
 pub use Rattle.sparse_factor.specs.Fill
 pub use Rattle.sparse_factor.specs.Symbolic
 pub use Rattle.sparse_factor.specs.Walks
+-- exact factorisations
+pub use Rattle.sparse_ldl.specs.Factorisations
+pub use Rattle.sparse_ldl.specs.Factors
 -- Matrix Market texts: grammar and meaning
 pub use Rattle.sparse_parser.specs.ArrayPlaces
 pub use Rattle.sparse_parser.specs.Bytes

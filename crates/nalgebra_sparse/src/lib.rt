@@ -17,6 +17,7 @@ pub use sparse_forms::csc::CscMatrix;
 pub use sparse_forms::csr::CsrMatrix;
 pub use sparse_forms::{csc, csr};
 pub use sparse_io as io;
+pub use sparse_ldl::ldl;
 pub use sparse_pattern::entry::{SparseEntry, SparseEntryMut};
 pub use sparse_pattern::error::{SparseFormatError, SparseFormatErrorKind};
 pub use sparse_pattern::pattern;

@@ -29,7 +29,7 @@ module _ (R : CommRing) {T : Type 0} (f : T → R.Carrier) (i : ℕ) where
   no_values (k ∷ ks) = refl
 
   -- dropping entries of other rows keeps the value in row i
-  lane_value-drop : (p : ℕ) (ks : List ℕ) (vs : List T)
+  pub lane_value-drop : (p : ℕ) (ks : List ℕ) (vs : List T)
       → ((q : ℕ) → q < p → q < length ks → get_or ks q 0 ≢ i)
       → lane_value R f (drop p ks) (drop p vs) i ≡ lane_value R f ks vs i
   lane_value-drop zero ks vs others = refl
@@ -42,7 +42,7 @@ module _ (R : CommRing) {T : Type 0} (f : T → R.Carrier) (i : ℕ) where
       (nat_eq_no k i (others 0 (omega arith) (omega arith)))) ∙ zero_add R _)
 
   -- nothing stands in row i
-  lane_value-none : (ks : List ℕ) (vs : List T)
+  pub lane_value-none : (ks : List ℕ) (vs : List T)
       → ((q : ℕ) → q < length ks → get_or ks q 0 ≢ i) → lane_value R f ks vs i ≡ R.zero
   lane_value-none ks vs none =
       sym (lane_value-drop (length ks) ks vs (λ q _ lt. none q lt))
@@ -136,7 +136,7 @@ lane_sliced d offsets rows k o r =
     ∙ ap (λ o. slice_range d.indices (slice_index o k) (slice_index o (k + 1))) o
 
 -- the rest of a range
-drop_range : {X : Type 0} (xs : List X) (begin end n : ℕ) → begin + n ≤ end
+pub drop_range : {X : Type 0} (xs : List X) (begin end n : ℕ) → begin + n ≤ end
     → drop n (slice_range xs begin end) ≡ slice_range xs (begin + n) end
 drop_range xs begin end n le =
     let parts : end - begin ≡ n + (end - (begin + n)) = omega (arith, le) in

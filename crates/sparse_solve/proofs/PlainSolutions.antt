@@ -48,7 +48,7 @@ module _ (R : CommRing) {T : Type 0} (f : T → R.Carrier) (z : T) (zero : f z �
   not_lt i n le = grind (arith, nat_tests)
 
   -- the value of a dense matrix inside its sizes
-  dense_inside : (d : Dense T) (i j : ℕ) → i < d.nrows → j < d.ncols
+  pub dense_inside : (d : Dense T) (i j : ℕ) → i < d.nrows → j < d.ncols
       → (plain_of_dense R f d).value i j ≡ f (value_at d i j z)
   dense_inside d i j row col = inside_both _ _ (nat_lt i d.nrows) (nat_lt j d.ncols)
       (is_lt i d.nrows row) (is_lt j d.ncols col)
@@ -59,7 +59,7 @@ module _ (R : CommRing) {T : Type 0} (f : T → R.Carrier) (z : T) (zero : f z �
   dense_past_rows d i j le = outside_row _ (nat_lt i d.nrows) (nat_lt j d.ncols)
       (not_lt i d.nrows le)
 
-  dense_past_cols : (d : Dense T) (i j : ℕ) → d.ncols ≤ j
+  pub dense_past_cols : (d : Dense T) (i j : ℕ) → d.ncols ≤ j
       → (plain_of_dense R f d).value i j ≡ R.zero
   dense_past_cols d i j le = outside_col _ (nat_lt i d.nrows) (nat_lt j d.ncols)
       (not_lt j d.ncols le)

@@ -1,0 +1,3 @@
+pub mod Factorisations
+pub mod Factors
+pub mod InnerColumns

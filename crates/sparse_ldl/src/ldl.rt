@@ -1,0 +1,169 @@
+//! Exact factorisations `L D L^T`.
+
+ghost use Rattle.std.specs.Prelude.{◌≡◌, ◌⊎◌, length, IfOk, IfErr};
+ghost use Rattle.sparse_base.specs.DensePlain.{plain_of_dense};
+ghost use Rattle.sparse_cs.specs.Compressed.{Compressed, IsSound};
+ghost use Rattle.sparse_cs.specs.PlainOfLanes.{plain_of_cols};
+ghost use Rattle.sparse_factor.specs.Fill.{InFill, UpperBase, StoresByColumns};
+ghost use Rattle.sparse_ldl.specs.Factorisations.{IsUnitLower, plain_upper};
+ghost use Rattle.sparse_ldl.specs.Factors.{AreFactorsOf, AreOnlyFactorsOf, HasNoFactors};
+ghost use Rattle.sparse_ldl.specs.Factors.{HavePivots, plain_of_factors, symmetric_of};
+ghost use Rattle.sparse_op.specs.declared.error.OperationErrorKind.TheVariants.{OutOfMemory};
+ghost use Rattle.sparse_op.specs.declared.error.OperationErrorKind.TheVariants.{Singular};
+ghost use Rattle.sparse_solve.specs.Solutions.{HasSameValues, IsSolution};
+
+mod columns;
+mod numeric;
+mod solve;
+
+use numeric::factor_on_fill;
+use solve::divide_columns;
+use sparse_base::dense::DMatrix;
+use sparse_factor::factorization::CscSymbolicCholesky;
+use sparse_forms::csc::CscMatrix;
+use sparse_op::{Op, OperationError};
+use sparse_solve::spsolve_csc_lower_triangular;
+use sparse_units::Units;
+use std::alloc::{AllocError, Global};
+use std::marker::Model;
+
+/// The exact factorisation `L D L^T` of a symmetric matrix over a commutative ring: L is unit lower triangular, D is diagonal, and each
+/// entry of the diagonal has an inverse.
+///
+/// # Examples
+///
+/// ```rust
+/// fn a_symmetric_system_is_solved(alloc: Global) -> Result<bool, Fail> {
+///     let offsets = vec![in alloc; 0, 2, 4]?;
+///     let rows = vec![in alloc; 0, 1, 0, 1]?;
+///     let values = vec![in alloc; W64::new(1), W64::new(2), W64::new(2), W64::new(7)]?;
+///     let matrix = CscMatrix::try_from_csc_data(2, 2, offsets, rows, values)?;
+///     let ldl = Ldl::factor(alloc, &matrix)?;
+///     let mut b = DMatrix::from_column_slice(alloc, 2, 1, &[W64::new(3), W64::new(9)])?;
+///     ldl.solve_mut(&mut b);
+///     let ones = [W64::new(1), W64::new(1)];
+///     Ok(ldl.d() == [W64::new(1), W64::new(3)].as_slice() && b.as_slice() == ones.as_slice())
+/// }
+/// ```
+#[derive(Debug, Drop)]
+pub struct Ldl<T: Units> {
+    l: CscMatrix<T>,
+    d: Vec<T>,
+}
+
+impl<T: Units> Model for Ldl<T> {
+    ghost use Rattle.sparse_ldl.specs.Factors.{AreFactors, Factors, factors_code, factors_of};
+
+    ghost Value = { Factors T };
+
+    ghost coded = { factors_code T.code };
+
+    ghost view = { λ s. factors_of s.l s.d.items };
+
+    ghost invariant = { λ s. AreFactors T.ring T.value T.zero_value (factors_of s.l s.d.items) };
+}
+
+impl<T: Units> Ldl<T> {
+    /// Returns the factorisation of the symmetric matrix whose entries on and above the diagonal are those of `a`.
+    ///
+    /// `a` must be square. Entries below its diagonal have no effect. The places of L are exactly the fill of the pattern of `a`, as
+    /// [`CscSymbolicCholesky`] computes it, even where a value is zero. No other values of L and D satisfy the equation.
+    ///
+    /// A left-looking factorisation on the pattern of the fill (Davis 2006, chapter 4): one multiplication for each place of column k of L
+    /// from row j on, for each place (j, k) of L. Beside the factors it allocates the transposed pattern of L, the transposed upper
+    /// triangle of `a`, and two numbers for each row.
+    ///
+    /// # Errors
+    ///
+    /// Returns `Singular` if a pivot has no inverse; then no factorisation exists. Otherwise fails only if an allocation fails.
+    pub fn factor(alloc: Global, a: &CscMatrix<T>) -> Result<Self, OperationError>
+        requires square { a.now.pattern.minor_dim ≡ a.now.pattern.major_dim }
+        ensures rows { IfOk result (λ s. s.l.pattern.minor_dim ≡ a.now.pattern.minor_dim) }
+        ensures count { IfOk result (λ s. length s.d ≡ a.now.pattern.minor_dim) }
+        ensures places { IfOk result (λ s.
+            StoresByColumns (InFill (UpperBase a.now.pattern)) s.l.pattern) }
+        ensures unit_diagonal { IfOk result (λ s.
+            IsUnitLower T.ring (plain_of_cols T.ring T.value s.l)) }
+        ensures pivots { IfOk result (λ s. HavePivots T.ring T.value T.zero_value s.d) }
+        ensures equation { IfOk result (λ s. HasSameValues T.ring (length s.d) (length s.d)
+            (plain_of_factors T.ring T.value T.zero_value s)
+            (symmetric_of T.ring T.value a.now)) }
+        ensures unique { IfOk result (AreOnlyFactorsOf T.ring T.value T.zero_value a.now) }
+        ensures singular { IfErr result (λ e. e ≡ Singular → HasNoFactors T.ring T.value a.now) }
+        ensures kinds { IfErr result (λ e. (e ≡ Singular) ⊎ (e ≡ OutOfMemory)) }
+        ensures upper_only { (b : Compressed T) → IsSound b
+            → plain_upper T.ring (plain_of_cols T.ring T.value b)
+            ≡ plain_upper T.ring (plain_of_cols T.ring T.value a.now)
+            → IfOk result (AreFactorsOf T.ring T.value T.zero_value b)
+            × IfErr result (λ e. e ≡ Singular → HasNoFactors T.ring T.value b) }
+    {
+        let symbolic = CscSymbolicCholesky::factor(alloc, a.pattern().clone(alloc)?)?;
+        let (l, d) = factor_on_fill(alloc, a, symbolic.l_pattern())?;
+        Ok(Ldl { l, d })
+    }
+
+    /// Returns the unit lower triangular factor L.
+    pub fn l(&self) -> &CscMatrix<T>
+        ensures l { result.now ≡ self.now.l }
+        ensures lower { IsUnitLower T.ring (plain_of_cols T.ring T.value self.now.l) }
+    {
+        &self.l
+    }
+
+    /// Returns the diagonal of D, one entry for each row of L.
+    pub fn d(&self) -> &[T]
+        ensures d { result.now ≡ self.now.d }
+        ensures count { length self.now.d ≡ self.now.l.pattern.minor_dim }
+        ensures pivots { HavePivots T.ring T.value T.zero_value self.now.d }
+    {
+        &self.d
+    }
+
+    /// Solves `L D L^T X = B` in place. `b` holds B on entry and X on return.
+    ///
+    /// `b` must have as many rows as L. A solve with L, a division of each row by its entry of D, and a solve with the transpose of L.
+    /// Allocates nothing.
+    pub fn solve_mut(&self, b: &mut DMatrix<T>)
+        requires { b.old.nrows ≡ self.now.l.pattern.minor_dim }
+        ensures rows { b.new.nrows ≡ b.old.nrows }
+        ensures cols { b.new.ncols ≡ b.old.ncols }
+        ensures solved { IsSolution T.ring
+            (plain_of_factors T.ring T.value T.zero_value self.now)
+            (plain_of_dense T.ring T.value b.new) (plain_of_dense T.ring T.value b.old) }
+    {
+        // The call costs nothing: its contract tells the prover that the matrix is sound.
+        let _ = self.l.values();
+        // The solves refuse only over the ring in which one is zero, where any X is a solution.
+        let _ = spsolve_csc_lower_triangular(Op::NoOp(&self.l), b);
+        divide_columns(&self.d, b);
+        let _ = spsolve_csc_lower_triangular(Op::Transpose(&self.l), b);
+    }
+
+    /// Returns a copy. Fails only if an allocation fails.
+    pub fn clone(&self, alloc: Global) -> Result<Self, AllocError>
+        ensures { IfOk result (λ s. s ≡ self.now) }
+    {
+        Ok(Ldl {
+            l: self.l.clone(alloc)?,
+            d: Vec::from_slice(alloc, &self.d)?,
+        })
+    }
+}
+
+impl<T: Units> PartialEq for Ldl<T> {
+    ghost use Rattle.sparse_ldl.specs.Factors.{factors_eq, factors_eq-laws};
+
+    ghost eq = { factors_eq T.eq };
+
+    ghost laws = { factors_eq-laws T.laws };
+
+    fn eq(&self, other: &Self) -> bool {
+        self.l == other.l && self.d == other.d
+    }
+}
+
+impl<T: Units + Eq> Eq for Ldl<T> {
+    ghost use Rattle.sparse_ldl.specs.Factors.{factors_eq-equiv};
+
+    ghost laws = { factors_eq-equiv T.Eq.laws };
+}

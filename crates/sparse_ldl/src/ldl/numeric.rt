@@ -1,0 +1,116 @@
+//! The numeric factorisation on the pattern of the fill.
+
+ghost use Rattle.std.specs.Prelude.{◌≡◌, ℕ, ◌⊎◌, length, replicate, IfErr, IfOk};
+ghost use Rattle.sparse_algebra.specs.Plain.{plain_transpose};
+ghost use Rattle.sparse_cs.specs.PlainOfLanes.{plain_of_cols};
+ghost use Rattle.sparse_factor.specs.Fill.{InFill, UpperBase, StoresByColumns};
+ghost use Rattle.sparse_ldl.specs.Factorisations.{IsFactorisation, plain_upper};
+ghost use Rattle.sparse_ldl.specs.Factors.{HasNoFactors, symmetric_of};
+ghost use Rattle.sparse_ldl.specs.InnerColumns.{ArePartFactors, IsFilledPattern, IsIncluded};
+ghost use Rattle.sparse_op.specs.declared.error.OperationErrorKind.TheVariants.{OutOfMemory};
+ghost use Rattle.sparse_op.specs.declared.error.OperationErrorKind.TheVariants.{Singular};
+ghost use Rattle.sparse_pattern.specs.Raw.{IsPlace};
+ghost use Rattle.sparse_pattern.specs.TransposedPattern.{IsTransposedPattern};
+ghost use Rattle.sparse_solve.specs.InnerColumns.{entries};
+
+use super::columns::factor_columns;
+use sparse_algebra::scalar::{Ring, Zero};
+use sparse_cs::laws::kept_cols_law;
+use sparse_forms::csc::CscMatrix;
+use sparse_op::OperationError;
+use sparse_pattern::pattern::SparsityPattern;
+use sparse_units::Units;
+use std::alloc::{AllocError, Global};
+
+// Returns L and the diagonal of D, given the pattern of L.
+pub fn factor_on_fill<T: Units>(
+    alloc: Global,
+    a: &CscMatrix<T>,
+    pattern: &SparsityPattern,
+) -> Result<(CscMatrix<T>, Vec<T>), OperationError>
+    requires square { a.now.pattern.minor_dim ≡ a.now.pattern.major_dim }
+    requires rows { pattern.now.minor_dim ≡ a.now.pattern.minor_dim }
+    requires columns { pattern.now.major_dim ≡ a.now.pattern.major_dim }
+    requires fill { StoresByColumns (InFill (UpperBase a.now.pattern)) pattern.now }
+    ensures pattern { IfOk result (λ r. r.0.pattern ≡ pattern.now) }
+    ensures count { IfOk result (λ r. length r.1.items ≡ pattern.now.minor_dim) }
+    ensures factors { IfOk result (λ r. IsFactorisation T.ring T.value
+        (symmetric_of T.ring T.value a.now) (plain_of_cols T.ring T.value r.0)
+        (entries T.ring T.value T.zero_value r.1.items)) }
+    ensures singular { IfErr result (λ e. e ≡ Singular → HasNoFactors T.ring T.value a.now) }
+    ensures kinds { IfErr result (λ e. (e ≡ Singular) ⊎ (e ≡ OutOfMemory)) }
+{
+    let lower = lower_triangle(alloc, a)?;
+    let rows = pattern.transpose(alloc)?;
+    let l = matrix_of_zeros(alloc, pattern)?;
+    factor_lower(alloc, &lower, &rows, l)
+}
+
+// Returns the transposed upper triangle: column j is row j of the matrix, from the diagonal on.
+fn lower_triangle<T: Ring>(alloc: Global, a: &CscMatrix<T>) -> Result<CscMatrix<T>, AllocError>
+    ensures rows { IfOk result (λ m. m.pattern.minor_dim ≡ a.now.pattern.major_dim) }
+    ensures columns { IfOk result (λ m. m.pattern.major_dim ≡ a.now.pattern.minor_dim) }
+    ensures plain { IfOk result (λ m. plain_of_cols T.ring T.value m ≡ plain_transpose T.ring
+        (plain_upper T.ring (plain_of_cols T.ring T.value a.now))) }
+    ensures places { IfOk result (λ m. (i j : ℕ) → IsPlace m.pattern j i
+        → UpperBase a.now.pattern i j) }
+{
+    // The calls cost nothing: their contracts tell the prover that the matrix is sound, and which values the triangle has.
+    let _ = a.values();
+    kept_cols_law::<T>();
+    a.upper_triangle(alloc)?.transpose(alloc)
+}
+
+// Returns the matrix of zeros at the places of a pattern.
+fn matrix_of_zeros<T: Zero + Copy>(
+    alloc: Global,
+    pattern: &SparsityPattern,
+) -> Result<CscMatrix<T>, AllocError>
+    ensures pattern { IfOk result (λ m. m.pattern ≡ pattern.now) }
+{
+    let values = zeros(alloc, pattern.nnz())?;
+    match CscMatrix::try_from_pattern_and_values(pattern.clone(alloc)?, values) {
+        Ok(matrix) => Ok(matrix),
+        Err(_) => unreachable!(),
+    }
+}
+
+// Returns `count` zeros.
+fn zeros<T: Zero + Copy>(alloc: Global, count: usize) -> Result<Vec<T>, AllocError>
+    ensures { IfOk result (λ zeros. zeros.items ≡ replicate count T.zero_value) }
+{
+    let mut zeros = Vec::with_capacity(alloc, count)?;
+    for _ in 0..count {
+        zeros.push(T::zero())?;
+    }
+    Ok(zeros)
+}
+
+// Returns L and the diagonal of D for the symmetric matrix with this lower triangle. `l` has the pattern of L, and `rows` is its transpose.
+fn factor_lower<T: Units>(
+    alloc: Global,
+    lower: &CscMatrix<T>,
+    rows: &SparsityPattern,
+    mut l: CscMatrix<T>,
+) -> Result<(CscMatrix<T>, Vec<T>), OperationError>
+    requires filled { IsFilledPattern l.pattern }
+    requires included { IsIncluded lower.now.pattern l.pattern }
+    requires turned { IsTransposedPattern l.pattern rows.now }
+    ensures pattern { IfOk result (λ r. r.0.pattern ≡ l.pattern) }
+    ensures count { IfOk result (λ r. length r.1.items ≡ l.pattern.major_dim) }
+    ensures factors { IfOk result (λ r. ArePartFactors T.ring T.value l.pattern.major_dim
+        l.pattern.major_dim (plain_of_cols T.ring T.value lower.now).value
+        (plain_of_cols T.ring T.value r.0).value
+        (entries T.ring T.value T.zero_value r.1.items)) }
+    ensures singular { IfErr result (λ e. e ≡ Singular → (m : ℕ → ℕ → T.ring.Carrier)
+        (c : ℕ → T.ring.Carrier) → ArePartFactors T.ring T.value l.pattern.major_dim
+        l.pattern.major_dim (plain_of_cols T.ring T.value lower.now).value m c → ⊥) }
+    ensures kinds { IfErr result (λ e. (e ≡ Singular) ⊎ (e ≡ OutOfMemory)) }
+{
+    let n = l.ncols();
+    let mut d = zeros(alloc, n)?;
+    let mut column = zeros(alloc, n)?;
+    let mut cursors = Vec::from_slice(alloc, l.col_offsets())?;
+    factor_columns(lower, rows, &mut l, &mut d, &mut cursors, &mut column)?;
+    Ok((l, d))
+}
