@@ -1,0 +1,91 @@
+//! Files, and the commands of `mtx` over them.
+
+use crate::sink::Page;
+use mtx_commands::command;
+use nalgebra_sparse::CooMatrix;
+use nalgebra_sparse::io::{
+    MatrixMarketError, Out, load_coo_from_matrix_market_file, save_to_matrix_market_file,
+};
+use nalgebra_sparse::scalar::W64;
+use refused_calls::answer::of_bytes;
+use refused_calls::operands::list;
+use refused_calls::outcome::{Outcome, outcome_of};
+use refused_calls::turn::Turn;
+use std::fs;
+
+const INTEGERS: &str = "%%MatrixMarket matrix coordinate integer general\n2 2 2\n1 2 3\n2 2 4\n";
+
+const PLACES: &str = "%%MatrixMarket matrix coordinate pattern symmetric\n3 3 2\n3 1\n3 2\n";
+
+// The file that a scenario writes and reads.
+const PATH: &str = "refusals.mtx";
+
+pub fn run(rt: &HostRuntime, turn: &mut Turn, call: &str, case: &str) -> Outcome {
+    match call {
+        "load_coo_from_matrix_market_file" => load(rt, turn),
+        "save_to_matrix_market_file" => save(rt, turn),
+        "command" => obey_case(rt, turn, case),
+        _ => Outcome::Unknown,
+    }
+}
+
+fn load(rt: &HostRuntime, turn: &mut Turn) -> Outcome {
+    if fs::write(rt, PATH, INTEGERS.as_bytes()).is_err() {
+        return Outcome::Unready;
+    }
+    turn.begin();
+    let read: Result<CooMatrix<W64>, MatrixMarketError> = load_coo_from_matrix_market_file(
+        rt, PATH,
+    );
+    outcome_of(read)
+}
+
+fn save(rt: &HostRuntime, turn: &mut Turn) -> Outcome {
+    match list(turn.alloc(), (3, 3), &[(2, 1), (0, 1)]) {
+        Some(list) => {
+            turn.begin();
+            outcome_of(save_to_matrix_market_file(rt, &list, PATH))
+        }
+        None => Outcome::Unready,
+    }
+}
+
+// A command over a file.
+fn obey_case(rt: &HostRuntime, turn: &mut Turn, case: &str) -> Outcome {
+    match case {
+        "rows" => obey(rt, turn, &["rows", "1 1 *", PATH], INTEGERS),
+        "cols" => obey(rt, turn, &["cols", "1 t 1 +", PATH], INTEGERS),
+        "fill" => obey(rt, turn, &["fill", PATH], PLACES),
+        _ => Outcome::Unknown,
+    }
+}
+
+fn obey(rt: &HostRuntime, turn: &mut Turn, words: &[&str], text: &str) -> Outcome {
+    if fs::write(rt, PATH, text.as_bytes()).is_err() {
+        return Outcome::Unready;
+    }
+    let mut whole = Out::new(Page::new());
+    if command(rt, words, &mut whole, &mut Out::new(Page::new())) != 0 {
+        return Outcome::Unready;
+    }
+    let (mut out, mut err) = (Out::new(Page::new()), Out::new(Page::new()));
+    turn.begin();
+    let status = command(rt, words, &mut out, &mut err);
+    answered(
+        status,
+        &out.into_inner(),
+        &err.into_inner(),
+        &whole.into_inner(),
+    )
+}
+
+// The outcome of a command: a text and status 0, or the line of an allocation failure and status 1.
+fn answered(status: u8, out: &Page, err: &Page, whole: &Page) -> Outcome {
+    match (status, err.taken()) {
+        (0, b"") => Outcome::Answered(of_bytes(out.taken())),
+        (1, b"mtx: out of memory\n") => {
+            Outcome::Refused.leaving(whole.taken().starts_with(out.taken()))
+        }
+        _ => Outcome::Failed,
+    }
+}

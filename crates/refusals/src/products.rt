@@ -1,0 +1,89 @@
+//! Products.
+
+use nalgebra_sparse::dense::DMatrix;
+use nalgebra_sparse::ops::serial::{mul_csc, mul_csc_dense, mul_csr, mul_csr_dense};
+use nalgebra_sparse::scalar::W64;
+use nalgebra_sparse::{CscMatrix, CsrMatrix};
+use refused_calls::operands::{COLUMN, ONE, OTHER, SMALL, WIDE, full_row, matrix};
+use refused_calls::outcome::{Outcome, outcome_of};
+use refused_calls::turn::Turn;
+use std::alloc::Global;
+
+// From this number of places in the second factor on, a product is made row by row.
+const MANY_PLACES: usize = 1_000_000;
+
+pub fn run(turn: &mut Turn, call: &str, case: &str) -> Outcome {
+    match call {
+        "mul_csr" | "mul_csc" => of_pair(turn, call, case),
+        _ => with_dense(turn, call),
+    }
+}
+
+/// Two factors whose inner sizes are equal.
+pub fn factors(alloc: Global, case: &str) -> Option<(CsrMatrix<W64>, CsrMatrix<W64>)> {
+    match case {
+        "long rows" => Some((matrix(alloc, ONE)?, full_row(alloc, 64)?)),
+        "wide rows" => Some((matrix(alloc, ONE)?, matrix(alloc, WIDE)?)),
+        "many places" => Some((matrix(alloc, ONE)?, full_row(alloc, MANY_PLACES)?)),
+        "a column" => Some((matrix(alloc, SMALL)?, matrix(alloc, COLUMN)?)),
+        _ => Some((matrix(alloc, SMALL)?, matrix(alloc, OTHER)?)),
+    }
+}
+
+fn of_pair(turn: &mut Turn, call: &str, case: &str) -> Outcome {
+    match factors(turn.alloc(), case) {
+        Some((a, b)) => match call {
+            "mul_csr" => {
+                turn.begin();
+                by_rows(turn.alloc(), &a, &b)
+            }
+            _ => by_columns(turn, b.transpose_as_csc(), a.transpose_as_csc()),
+        },
+        None => Outcome::Unready,
+    }
+}
+
+fn by_rows(alloc: Global, a: &CsrMatrix<W64>, b: &CsrMatrix<W64>) -> Outcome {
+    if a.ncols() != b.nrows() {
+        return Outcome::Unready;
+    }
+    outcome_of(mul_csr(alloc, a, b))
+}
+
+fn by_columns(turn: &mut Turn, a: CscMatrix<W64>, b: CscMatrix<W64>) -> Outcome {
+    if a.ncols() != b.nrows() {
+        return Outcome::Unready;
+    }
+    turn.begin();
+    outcome_of(mul_csc(turn.alloc(), &a, &b))
+}
+
+fn with_dense(turn: &mut Turn, call: &str) -> Outcome {
+    let dense = DMatrix::repeat(turn.alloc(), 3, 2, W64::new(5));
+    match (matrix(turn.alloc(), SMALL), dense) {
+        (Some(a), Ok(b)) => match call {
+            "mul_csr_dense" => {
+                turn.begin();
+                rows_with_dense(turn.alloc(), &a, &b)
+            }
+            "mul_csc_dense" => columns_with_dense(turn, a.transpose_as_csc(), &b),
+            _ => Outcome::Unknown,
+        },
+        (_, _) => Outcome::Unready,
+    }
+}
+
+fn rows_with_dense(alloc: Global, a: &CsrMatrix<W64>, b: &DMatrix<W64>) -> Outcome {
+    if a.ncols() != b.nrows() {
+        return Outcome::Unready;
+    }
+    outcome_of(mul_csr_dense(alloc, a, b))
+}
+
+fn columns_with_dense(turn: &mut Turn, a: CscMatrix<W64>, b: &DMatrix<W64>) -> Outcome {
+    if a.ncols() != b.nrows() {
+        return Outcome::Unready;
+    }
+    turn.begin();
+    outcome_of(mul_csc_dense(turn.alloc(), &a, b))
+}
