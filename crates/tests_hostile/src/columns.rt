@@ -1,0 +1,167 @@
+//! Matrices by columns at the ends of their sizes.
+
+use crate::made::{MOST, is_empty_or_large, is_made};
+use nalgebra_sparse::convert::serial::{convert_csc_coo, convert_csc_csr, convert_csc_dense};
+use nalgebra_sparse::data::{ToData, TryFromData};
+use nalgebra_sparse::scalar::W64;
+use nalgebra_sparse::{CscMatrix, SparseEntry, SparseFormatErrorKind};
+use std::alloc::Global;
+
+/// Numbers of columns and of rows of matrices without places.
+const EMPTY: [(usize, usize); 5] = [(0, 0), (0, MOST), (2, 0), (2, MOST), (0, 2)];
+
+// The zeros with this number of columns and of rows.
+fn zeros(alloc: Global, lanes: usize, indices: usize) -> Option<CscMatrix<W64>> {
+    CscMatrix::zeros(alloc, indices, lanes).ok()
+}
+
+// Whether the readers of a matrix without places find none.
+fn is_read(matrix: &CscMatrix<W64>) -> bool {
+    let (nrows, ncols) = (matrix.nrows(), matrix.ncols());
+    matrix.triplet_iter().next().is_none()
+        && matrix.get_entry(nrows, 0).is_none()
+        && matrix.get_entry(0, ncols).is_none()
+        && matrix.get_col(MOST).is_none()
+        && matrix.col_iter().all(|col| col.nnz() == 0)
+        && matrix.values().is_empty()
+}
+
+// Whether the last place that is not stored is zero, if there is one.
+fn ends_with_zero(matrix: &CscMatrix<W64>) -> bool {
+    let (nrows, ncols) = (matrix.nrows(), matrix.ncols());
+    if nrows == 0 || ncols == 0 {
+        return true;
+    }
+    is_zero(matrix, nrows - 1, ncols - 1)
+}
+
+// Whether a place within the sizes is not stored.
+fn is_zero<T>(matrix: &CscMatrix<T>, row: usize, col: usize) -> bool {
+    matches!(matrix.get_entry(row, col), Some(SparseEntry::Zero))
+}
+
+// Whether what keeps the sizes keeps them.
+fn is_kept(alloc: Global, matrix: &CscMatrix<W64>, nrows: usize, ncols: usize) -> bool {
+    is_made(matrix.clone(alloc), nrows, ncols, 0)
+        && is_made(matrix.filter(alloc, |_, _, _| true), nrows, ncols, 0)
+        && is_made(matrix.upper_triangle(alloc), nrows, ncols, 0)
+        && is_made(matrix.lower_triangle(alloc), nrows, ncols, 0)
+        && is_made(matrix.diagonal_as_csc(alloc), nrows, ncols, 0)
+        && is_made(convert_csc_coo(alloc, matrix), nrows, ncols, 0)
+}
+
+// Whether what turns the lanes into indices is refused just where there are too many.
+fn is_turned(alloc: Global, matrix: &CscMatrix<W64>, nrows: usize, ncols: usize) -> bool {
+    is_empty_or_large(matrix.transpose(alloc), ncols, nrows, nrows)
+        && is_empty_or_large(convert_csc_csr(alloc, matrix), nrows, ncols, nrows)
+        && is_dense(alloc, matrix, nrows, ncols)
+}
+
+fn is_dense(alloc: Global, matrix: &CscMatrix<W64>, nrows: usize, ncols: usize) -> bool {
+    if nrows == 0 || ncols == 0 {
+        is_made(convert_csc_dense(alloc, matrix), nrows, ncols, 0)
+    } else {
+        convert_csc_dense(alloc, matrix).is_err()
+    }
+}
+
+// Whether the calls without memory keep the sizes too.
+fn is_moved(mut matrix: CscMatrix<W64>, nrows: usize, ncols: usize) -> bool {
+    for (_, _, value) in matrix.triplet_iter_mut() {
+        *value = W64::new(1);
+    }
+    matrix *= W64::new(2);
+    let matrix = -matrix;
+    let is_same = matrix == matrix;
+    let turned = matrix.transpose_as_csr();
+    is_same && turned.nrows() == ncols && turned.ncols() == nrows
+}
+
+fn is_whole(alloc: Global, matrix: CscMatrix<W64>) -> bool {
+    let (nrows, ncols) = (matrix.nrows(), matrix.ncols());
+    is_read(&matrix)
+        && ends_with_zero(&matrix)
+        && is_kept(alloc, &matrix, nrows, ncols)
+        && is_turned(alloc, &matrix, nrows, ncols)
+        && is_moved(matrix, nrows, ncols)
+}
+
+#[test]
+fn columns_without_places(rt: HostRuntime) {
+    for &(lanes, indices) in &EMPTY {
+        let made = zeros(rt.alloc(), lanes, indices);
+        assert!(rt; made.is_some_and(|matrix| is_whole(rt.alloc(), matrix)));
+    }
+    assert!(rt; zeros(rt.alloc(), MOST, 0).is_none());
+    assert!(rt; is_made(CscMatrix::<W64>::identity(rt.alloc(), 0), 0, 0, 0));
+    assert!(rt; CscMatrix::<W64>::identity(rt.alloc(), MOST).is_err());
+}
+
+// The lane with places at both ends of its indices, from arrays that are sorted or not.
+fn both_ends(alloc: Global, is_sorted: bool) -> Option<CscMatrix<i32>> {
+    let offsets = vec![in alloc; 0, 2].ok()?;
+    let values = vec![in alloc; 7, 8].ok()?;
+    let (lanes, indices) = (1, MOST);
+    if is_sorted {
+        let places = vec![in alloc; 0, MOST - 1].ok()?;
+        CscMatrix::try_from_csc_data(indices, lanes, offsets, places, values).ok()
+    } else {
+        let places = vec![in alloc; MOST - 1, 0].ok()?;
+        CscMatrix::try_from_unsorted_csc_data(alloc, indices, lanes, offsets, places, values).ok()
+    }
+}
+
+// Whether the lane has these values, is copied and taken back from its data struct.
+fn is_copied(alloc: Global, matrix: &CscMatrix<i32>, values: &[i32]) -> bool {
+    let is_copied = match matrix.to_data(alloc) {
+        Ok(copied) => CscMatrix::try_from_data(copied).is_ok_and(|again| again == *matrix),
+        Err(_) => false,
+    };
+    is_copied
+        && matrix.values() == values
+        && matrix.get_entry(MOST - 1, 0) == Some(SparseEntry::NonZero(&values[1]))
+        && matrix.transpose(alloc).is_err()
+}
+
+fn has_both_ends(alloc: Global, is_sorted: bool, values: &[i32; 2]) -> bool {
+    match both_ends(alloc, is_sorted) {
+        Some(matrix) => is_copied(alloc, &matrix, values),
+        None => false,
+    }
+}
+
+#[test]
+fn the_last_place_of_columns(rt: HostRuntime) {
+    assert!(rt; has_both_ends(rt.alloc(), true, &[7, 8]));
+    assert!(rt; has_both_ends(rt.alloc(), false, &[8, 7]));
+}
+
+// The kind of the refusal of arrays without places.
+fn refusal(
+    alloc: Global,
+    lanes: usize,
+    indices: usize,
+    offsets: &[usize],
+    is_sorted: bool,
+) -> Option<SparseFormatErrorKind> {
+    let offsets = Vec::from_slice(alloc, offsets).ok()?;
+    let (places, values): (Vec<usize>, Vec<i32>) = (Vec::new(alloc), Vec::new(alloc));
+    let made = if is_sorted {
+        CscMatrix::try_from_csc_data(indices, lanes, offsets, places, values)
+    } else {
+        CscMatrix::try_from_unsorted_csc_data(alloc, indices, lanes, offsets, places, values)
+    };
+    let error = made.err()?;
+    Some(*error.kind())
+}
+
+#[test]
+fn offsets_of_the_most_columns(rt: HostRuntime) {
+    let wrong = Some(SparseFormatErrorKind::InvalidStructure);
+    for &is_sorted in &[true, false] {
+        assert!(rt; refusal(rt.alloc(), MOST, 0, &[], is_sorted) == wrong);
+        assert!(rt; refusal(rt.alloc(), MOST, 0, &[0], is_sorted) == wrong);
+        assert!(rt; refusal(rt.alloc(), 0, MOST, &[], is_sorted) == wrong);
+        assert!(rt; refusal(rt.alloc(), 0, MOST, &[0], is_sorted).is_none());
+    }
+}
