@@ -7,3 +7,5 @@ mod cases;
 mod commands;
 #[cfg(test)]
 mod files;
+#[cfg(test)]
+mod unreadable;
