@@ -24,6 +24,10 @@ pub fn solve_columns<T: Units>(l: Op<&CscMatrix<T>>, ones: usize, b: &mut DMatri
     ensures { SolvesColumns T.ring T.value T.zero_value
         (op_lower T.ring T.value (λ m. m.now) l.entry) b.new b.old }
 {
+    // Columns without values take no time.
+    if b.nrows() == 0 {
+        return;
+    }
     let ncols = b.ncols();
     let mut from = 0;
     while from < ncols {
