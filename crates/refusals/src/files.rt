@@ -56,6 +56,7 @@ fn obey_case(rt: &HostRuntime, turn: &mut Turn, case: &str) -> Outcome {
         "rows" => obey(rt, turn, &["rows", "1 1 *", PATH], INTEGERS),
         "cols" => obey(rt, turn, &["cols", "1 t 1 +", PATH], INTEGERS),
         "fill" => obey(rt, turn, &["fill", PATH], PLACES),
+        "fill lower" => obey(rt, turn, &["fill", "lower", PATH], PLACES),
         _ => Outcome::Unknown,
     }
 }

@@ -11,6 +11,7 @@ mod files;
 mod products;
 mod sink;
 mod sums;
+mod systems;
 mod texts;
 mod updates;
 
@@ -109,6 +110,7 @@ fn of_memory(turn: &mut Turn, group: &str, call: &str, case: &str) -> Outcome {
         "conversions" => conversions::run(turn, call, case),
         "sums" => sums::run(turn, call, case),
         "products" => products::run(turn, call, case),
+        "systems" => systems::run(turn, call),
         "updates" => updates::run(turn, call, case),
         "texts" => texts::run(turn, call, case),
         "data" => data::run(turn, case),

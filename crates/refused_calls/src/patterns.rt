@@ -4,7 +4,7 @@ use crate::answer::Answer;
 use crate::operands::{Arrays, ONE, OTHER, SMALL, WIDE, full_row, pattern, scattered};
 use crate::outcome::{Outcome, of_error, outcome_of};
 use crate::turn::Turn;
-use nalgebra_sparse::factorization::CscSymbolicCholesky;
+use nalgebra_sparse::factorization::{CscSymbolicCholesky, Triangle};
 use nalgebra_sparse::ops::Steps;
 use nalgebra_sparse::ops::serial::{spadd_pattern, spmm_csc_pattern, spmm_csr_pattern};
 use nalgebra_sparse::pattern::SparsityPattern;
@@ -31,7 +31,7 @@ fn one(turn: &mut Turn, call: &str, case: &str) -> Outcome {
     match operand(turn.alloc(), call, case) {
         Some(pattern) => {
             turn.begin();
-            of_one(turn.alloc(), call, pattern)
+            of_one(turn.alloc(), call, case, pattern)
         }
         None => Outcome::Unready,
     }
@@ -43,20 +43,23 @@ fn operand(alloc: Global, call: &str, case: &str) -> Option<SparsityPattern> {
             let (pattern, _) = scattered(alloc)?.into_pattern_and_values();
             Some(pattern)
         }
-        ("CscSymbolicCholesky::factor" | "CscSymbolicCholesky::factor_counted", _) => {
-            pattern(alloc, FACTORED)
-        }
+        (
+            "CscSymbolicCholesky::factor"
+            | "CscSymbolicCholesky::factor_counted"
+            | "CscSymbolicCholesky::factor_triangle",
+            _,
+        ) => pattern(alloc, FACTORED),
         (_, _) => pattern(alloc, SMALL),
     }
 }
 
-fn of_one(alloc: Global, call: &str, pattern: SparsityPattern) -> Outcome {
+fn of_one(alloc: Global, call: &str, case: &str, pattern: SparsityPattern) -> Outcome {
     match call {
         "SparsityPattern::zeros" => outcome_of(SparsityPattern::zeros(alloc, 3, 4)),
         "SparsityPattern::clone" => outcome_of(pattern.clone(alloc)),
         "SparsityPattern::transpose" => outcome_of(pattern.transpose(alloc)),
         "SparsityPattern::transpose_with" => transposed_with(alloc, &pattern),
-        _ => factored(alloc, call, pattern),
+        _ => factored(alloc, call, case, pattern),
     }
 }
 
@@ -72,7 +75,7 @@ fn transposed_with(alloc: Global, pattern: &SparsityPattern) -> Outcome {
     }
 }
 
-fn factored(alloc: Global, call: &str, pattern: SparsityPattern) -> Outcome {
+fn factored(alloc: Global, call: &str, case: &str, pattern: SparsityPattern) -> Outcome {
     if pattern.major_dim() != pattern.minor_dim() {
         return Outcome::Unready;
     }
@@ -82,7 +85,19 @@ fn factored(alloc: Global, call: &str, pattern: SparsityPattern) -> Outcome {
             let mut steps = Steps::new();
             outcome_of(CscSymbolicCholesky::factor_counted(alloc, pattern, &mut steps))
         }
+        "CscSymbolicCholesky::factor_triangle" => {
+            let triangle = triangle_of(case);
+            outcome_of(CscSymbolicCholesky::factor_triangle(alloc, pattern, triangle))
+        }
         _ => Outcome::Unknown,
+    }
+}
+
+fn triangle_of(case: &str) -> Triangle {
+    match case {
+        "lower" => Triangle::Lower,
+        "both" => Triangle::Both,
+        _ => Triangle::Upper,
     }
 }
 

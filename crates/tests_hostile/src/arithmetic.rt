@@ -2,6 +2,7 @@
 
 use crate::made::{MOST, is_made};
 use nalgebra_sparse::dense::DMatrix;
+use nalgebra_sparse::ldl::Ldl;
 use nalgebra_sparse::ops::Op;
 use nalgebra_sparse::ops::serial::{
     OperationErrorKind, add_csc, add_csr, div_scalar_csc, div_scalar_csr, div_scalar_mut_csr,
@@ -189,7 +190,27 @@ fn refusal(alloc: Global, order: usize, ncols: usize) -> Option<OperationErrorKi
 
 #[test]
 fn systems_without_rows_or_columns(rt: HostRuntime) {
+    assert!(rt; refusal(rt.alloc(), 0, MOST).is_none());
     assert!(rt; refusal(rt.alloc(), 0, 0).is_none());
     assert!(rt; refusal(rt.alloc(), 2, 0).is_none());
     assert!(rt; refusal(rt.alloc(), 2, 1) == Some(OperationErrorKind::Singular));
+}
+
+// Whether the exact factorisation of a matrix without rows has none, and solves for each of the most columns.
+fn is_factored(alloc: Global) -> bool {
+    match (CscMatrix::<W64>::zeros(alloc, 0, 0), DMatrix::zeros(alloc, 0, MOST)) {
+        (Ok(a), Ok(mut b)) if a.nrows() == a.ncols() => match Ldl::factor(alloc, &a) {
+            Ok(ldl) if ldl.l().nrows() == b.nrows() => {
+                ldl.solve_mut(&mut b);
+                ldl.d().is_empty() && b.ncols() == MOST
+            }
+            _ => false,
+        },
+        (_, _) => false,
+    }
+}
+
+#[test]
+fn an_exact_factorisation_without_rows(rt: HostRuntime) {
+    assert!(rt; is_factored(rt.alloc()));
 }

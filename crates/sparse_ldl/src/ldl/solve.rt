@@ -15,6 +15,10 @@ pub fn divide_columns<T: Units>(d: &[T], b: &mut DMatrix<T>)
     ensures divided { ChangesBlock T.ring T.value T.zero_value 0 b.old.ncols
         (IsDivided T.ring b.old.nrows (entries T.ring T.value T.zero_value d.now)) b.old b.new }
 {
+    // Columns without values take no time.
+    if b.nrows() == 0 {
+        return;
+    }
     for j in 0..b.ncols() {
         divide_column(d, b.column_mut(j));
     }
