@@ -138,7 +138,10 @@ fn far_list(alloc: Global) -> Result<CooMatrix<W64>, AllocError> {
     let mut coo = CooMatrix::new(alloc, SIZE, SIZE);
     for number in 0..200 {
         let row = number * STEP % SIZE;
-        coo.push(row, SIZE - 1 - row, W64::new(number as i64))?;
+        let col = SIZE - 1 - row;
+        if row < coo.nrows() && col < coo.ncols() {
+            coo.push(row, col, W64::new(number as i64))?;
+        }
     }
     Ok(coo)
 }
@@ -158,7 +161,7 @@ fn are_far_places(csr: &CsrMatrix<W64>) -> bool {
     let mut holds = csr.nnz() == 200;
     for (position, (col, value)) in places {
         let (far_col, number) = far_place(position);
-        holds = holds && *col == far_col && value.get() == number as i64;
+        holds = holds && *col == far_col && value.get().cast_unsigned() == number as u64;
     }
     holds
 }
