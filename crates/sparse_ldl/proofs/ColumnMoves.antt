@@ -1,12 +1,11 @@
 -- Moving the places of a column out of a scratch column.
 use Rattle.std.proofs.Common.{◌≡◌, ◌≢◌, ℕ, ◌+◌, ◌<◌, ◌≤◌, inl, inr, List, length, get_or, set, ap}
-use Rattle.std.proofs.Common.{slice_index, sym, subst, ◌∙◌, refl, arith, get_or-set_same}
+use Rattle.std.proofs.Common.{slice_index, sym, ◌∙◌, arith, get_or-set_same}
 use Rattle.std.proofs.Common.{get_or-set_other, length-set}
-use Rattle.sparse_lemmas.proofs.Cases.{lt_add_one_cases, lt_or_ge}
+use Rattle.sparse_lemmas.proofs.Cases.{lt_add_one_cases}
 use Rattle.sparse_algebra.specs.Algebra.{CommRing}
-use Rattle.sparse_pattern.specs.Raw.{Raw, start_of, end_of, IsInLane, IsPlace, IsValid}
+use Rattle.sparse_pattern.specs.Raw.{Raw, start_of, end_of, IsValid}
 use Rattle.sparse_pattern.proofs.PatternLanes.{rises_at}
-use Rattle.sparse_ldl.specs.InnerColumns.{IsColumnMoved}
 
 module _ (R : CommRing) {T : Type 0} (f : T → R.Carrier) (z : T) (p : Raw) (j : ℕ)
     (e : R.Carrier) where

@@ -1,12 +1,11 @@
 -- One step of the factorisation over arrays.
-use Rattle.std.proofs.Common.{◌≡◌, ◌≢◌, ℕ, suc, ◌+◌, ◌<◌, ◌≤◌, inl, inr, true, false, List, length}
-use Rattle.std.proofs.Common.{get_or, set, ap, slice_index, sym, subst, ◌∙◌, arith, add-one}
+use Rattle.std.proofs.Common.{◌≡◌, ◌≢◌, ℕ, ◌+◌, ◌<◌, inl, inr, true, false, List, length}
+use Rattle.std.proofs.Common.{get_or, set, ap, sym, ◌∙◌, arith, add-one}
 use Rattle.std.proofs.Common.{get_or-set_same, get_or-set_other}
 use Rattle.sparse_lemmas.proofs.Cases.{lt_or_ge, true_or_false}
 use Rattle.sparse_algebra.specs.Algebra.{CommRing}
-use Rattle.sparse_algebra.specs.Sums.{sum_below}
 use Rattle.sparse_algebra.proofs.RingLemmas.{zero_add}
-use Rattle.sparse_pattern.specs.Raw.{Raw, IsInLane, IsPlace, IsValid}
+use Rattle.sparse_pattern.specs.Raw.{Raw, IsPlace, IsValid}
 use Rattle.sparse_pattern.proofs.Positions.{one_lane}
 use Rattle.sparse_cs.specs.Compressed.{Compressed, compressed_of, IsSound, IsPosition}
 use Rattle.sparse_cs.specs.PlainOfLanes.{plain_of_cols}
@@ -14,7 +13,7 @@ use Rattle.sparse_cs.proofs.Arrays.{value_at_position}
 use Rattle.sparse_solve.specs.InnerColumns.{entries}
 use Rattle.sparse_units.specs.Inverses.{HasInverse}
 use Rattle.sparse_ldl.specs.InnerColumns.{AreColumnsDone, AreCursors, ArePartFactors}
-use Rattle.sparse_ldl.specs.InnerColumns.{IsColumnMoved, IsFilledPattern, IsIncluded, IsLeft, term}
+use Rattle.sparse_ldl.specs.InnerColumns.{IsColumnMoved, IsFilledPattern, IsIncluded, IsLeft}
 use Rattle.sparse_ldl.proofs.ClosedSets.{IsClosed, IsZeroOutside, clash}
 use Rattle.sparse_ldl.proofs.Columns.{no_factorisation}
 use Rattle.sparse_ldl.proofs.FilledSets.{has_place, no_place_zero, place_has, set-closed}

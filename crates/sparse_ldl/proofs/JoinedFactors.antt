@@ -1,14 +1,13 @@
 -- What a factorisation on the fill says of the factors that are kept.
-use Rattle.std.proofs.Common.{◌≡◌, ℕ, ◌<◌, List, length, sym, ◌∙◌, arith}
+use Rattle.std.proofs.Common.{◌≡◌, List, length, sym, arith}
 use Rattle.sparse_algebra.specs.Algebra.{CommRing}
-use Rattle.sparse_algebra.specs.Plain.{Plain}
 use Rattle.sparse_cs.specs.Compressed.{Compressed, IsSound}
 use Rattle.sparse_cs.specs.PlainOfLanes.{plain_of_cols}
 use Rattle.sparse_factor.specs.Fill.{InFill, UpperBase, StoresByColumns}
 use Rattle.sparse_solve.specs.InnerColumns.{entries}
 use Rattle.sparse_solve.specs.Solutions.{HasSameValues}
 use Rattle.sparse_ldl.specs.Factorisations.{IsFactorisation, plain_upper}
-use Rattle.sparse_ldl.specs.Factors.{AreFactors, AreFactorsOf, AreOnlyFactorsOf, HasNoFactors}
+use Rattle.sparse_ldl.specs.Factors.{AreFactorsOf, AreOnlyFactorsOf, HasNoFactors}
 use Rattle.sparse_ldl.specs.Factors.{HavePivots, factors_of, plain_of_factors, symmetric_of}
 use Rattle.sparse_ldl.proofs.Columns.{part_unique}
 use Rattle.sparse_ldl.proofs.PlainProducts.{columns_of}

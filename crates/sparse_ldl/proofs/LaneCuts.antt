@@ -1,6 +1,6 @@
 -- The entries of a column from its cursor on, and what taking off a multiple of them changes.
-use Rattle.std.proofs.Common.{◌≡◌, ◌≢◌, ℕ, ◌+◌, ◌-◌, ◌<◌, ◌≤◌, inl, inr, List, length, get_or, All}
-use Rattle.std.proofs.Common.{drop, slice_index, slice_range, ap, sym, subst, ◌∙◌, refl, arith}
+use Rattle.std.proofs.Common.{◌≡◌, ℕ, ◌+◌, ◌-◌, ◌<◌, ◌≤◌, List, length, get_or, All}
+use Rattle.std.proofs.Common.{drop, slice_index, slice_range, ap, sym, subst, ◌∙◌, arith}
 use Rattle.std.proofs.lemmas.List.{get_or-drop, get_or_default, length-drop}
 use Rattle.std.proofs.lemmas.List.Edits.{get_or-between, length-between}
 use Rattle.sparse_algebra.specs.Algebra.{CommRing}

@@ -1,6 +1,6 @@
 -- What the first columns leave of column j.
 use Rattle.std.proofs.Common.{◌≡◌, ◌≢◌, ℕ, zero, suc, ◌+◌, ◌-◌, ◌<◌, ◌≤◌, inl, inr, List, length}
-use Rattle.std.proofs.Common.{slice_index, ap, sym, subst, ◌∙◌, refl, arith}
+use Rattle.std.proofs.Common.{slice_index, ap, subst, ◌∙◌, arith}
 use Rattle.sparse_lemmas.proofs.Cases.{three}
 use Rattle.sparse_algebra.specs.Algebra.{CommRing}
 use Rattle.sparse_algebra.specs.Sums.{sum_below}

@@ -1,7 +1,7 @@
 -- The solves with L and its transpose and the division between them solve the system of L D Lᵀ.
-use Rattle.std.proofs.Common.{◌≡◌, ℕ, ◌<◌, ◌≤◌, inl, inr, true, false, ◌&&◌, ap, sym, ◌∙◌, refl}
+use Rattle.std.proofs.Common.{◌≡◌, ℕ, ◌<◌, inl, inr, true, ◌&&◌, ap, sym, ◌∙◌, refl}
 use Rattle.std.proofs.Common.{arith, get_or}
-use Rattle.std.specs.Prelude.{nat_le, nat_lt, Result, Ok, Err, OnOk, IsErr, ◌↔◌}
+use Rattle.std.specs.Prelude.{nat_le, nat_lt, Result, Ok, Err, OnOk, IsErr}
 use Rattle.std.proofs.lemmas.Bool.Decides.{nat_tests}
 use Rattle.sparse_lemmas.proofs.Cases.{lt_or_ge, true_or_false, and_both}
 use Rattle.sparse_algebra.specs.Algebra.{CommRing}
@@ -15,12 +15,12 @@ use Rattle.sparse_base.specs.DensePlain.{plain_of_dense}
 use Rattle.sparse_cs.specs.Compressed.{Compressed, IsSound}
 use Rattle.sparse_cs.specs.PlainOfLanes.{plain_of_cols}
 use Rattle.sparse_cs.proofs.Arrays.{proper_rows, value_at_position}
-use Rattle.sparse_solve.specs.Solutions.{IsSolution, IsSingular, HasPivot, plain_lower}
+use Rattle.sparse_solve.specs.Solutions.{IsSolution, IsSingular, plain_lower}
 use Rattle.sparse_solve.specs.InnerColumns.{ChangesBlock}
 use Rattle.sparse_solve.proofs.ColumnSteps.{lower_is, lower_zero}
 use Rattle.sparse_solve.proofs.PlainSolutions.{dense_inside, dense_past_cols}
 use Rattle.sparse_ldl.specs.Factorisations.{IsUnitLower, plain_ldl}
-use Rattle.sparse_ldl.specs.InnerColumns.{IsDivided, term}
+use Rattle.sparse_ldl.specs.InnerColumns.{IsDivided}
 use Rattle.sparse_ldl.proofs.FilledSets.{has_place}
 use Rattle.sparse_ldl.proofs.PlainProducts.{ldl-value}
 use Rattle.sparse_ldl.proofs.RingFacts.{trivial}

@@ -1,6 +1,6 @@
 -- A lane of a transposed pattern lists the columns that have a row.
-use Rattle.std.proofs.Common.{◌≡◌, ℕ, ◌+◌, ◌-◌, ◌<◌, ◌≤◌, List, length, get_or, slice_index, ap, sym}
-use Rattle.std.proofs.Common.{subst, ◌∙◌, arith}
+use Rattle.std.proofs.Common.{◌≡◌, ℕ, ◌+◌, ◌-◌, ◌<◌, length, slice_index, ap}
+use Rattle.std.proofs.Common.{◌∙◌, arith}
 use Rattle.std.proofs.lemmas.List.Elements.{Contains-get_or}
 use Rattle.sparse_pattern.specs.Raw.{Raw, start_of, lane_of, IsPlace, IsValid}
 use Rattle.sparse_pattern.specs.TransposedPattern.{IsTransposedPattern}

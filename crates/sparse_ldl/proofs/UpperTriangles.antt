@@ -1,14 +1,13 @@
 -- The symmetric matrix of an upper triangle depends on that triangle alone.
-use Rattle.std.proofs.Common.{◌≡◌, ℕ, ◌<◌, ◌≤◌, inl, inr, Bool, true, false, ◌&&◌, ◌↔◌, min, max, ap}
-use Rattle.std.proofs.Common.{sym, subst, ◌∙◌, refl, arith}
+use Rattle.std.proofs.Common.{◌≡◌, ℕ, ◌≤◌, Bool, true, false, ◌&&◌, min, max, ap}
+use Rattle.std.proofs.Common.{sym, ◌∙◌, refl, arith}
 use Rattle.std.specs.Prelude.{nat_le}
 use Rattle.std.proofs.Math.Nat.{min-le_left, min-eq_right, max-eq_left, le-max_left}
-use Rattle.std.proofs.lemmas.Bool.Decides.{nat_tests}
 use Rattle.sparse_lemmas.proofs.Cases.{and_both, and_parts}
 use Rattle.sparse_algebra.specs.Algebra.{CommRing}
 use Rattle.sparse_algebra.specs.Sums.{where_true}
 use Rattle.sparse_algebra.specs.Plain.{Plain, IsProper, plain_transpose}
-use Rattle.sparse_pattern.specs.Raw.{Raw, IsPlace}
+use Rattle.sparse_pattern.specs.Raw.{Raw}
 use Rattle.sparse_cs.specs.Compressed.{Compressed, IsSound}
 use Rattle.sparse_cs.specs.PlainOfLanes.{plain_of_cols}
 use Rattle.sparse_cs.proofs.Arrays.{proper_rows}

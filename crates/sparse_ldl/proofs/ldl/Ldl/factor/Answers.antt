@@ -1,4 +1,4 @@
-use Rattle.std.proofs.Common.{◌≡◌, ℕ, length, ap, sym, subst, ◌∙◌}
+use Rattle.std.proofs.Common.{ap, sym, subst, ◌∙◌}
 use Rattle.std.proofs.lemmas.Result.{IfOk-from_err, err_from_is_err_and}
 use Rattle.sparse_factor.specs.Fill.{InFill, UpperBase, StoresByColumns}
 use Rattle.sparse_ldl.proofs.JoinedFactors.{kept_equation, kept_pivots, only_factors, factors_same}

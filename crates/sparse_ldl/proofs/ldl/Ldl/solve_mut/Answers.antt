@@ -1,6 +1,5 @@
-use Rattle.std.proofs.Common.{◌≡◌, ◌<◌, ℕ, ap, sym, subst, ◌∙◌, arith}
+use Rattle.std.proofs.Common.{◌≡◌, ap, sym, subst, ◌∙◌, arith}
 use Rattle.sparse_base.specs.DensePlain.{plain_of_dense}
-use Rattle.sparse_cs.specs.PlainOfLanes.{plain_of_cols}
 use Rattle.sparse_solve.specs.InnerColumns.{ChangesBlock, entries}
 use Rattle.sparse_solve.specs.Solutions.{IsSolution}
 use Rattle.sparse_ldl.specs.Factors.{HavePivots, plain_of_factors}

@@ -1,4 +1,4 @@
-use Rattle.std.proofs.Common.{length, get_or, ap, ◌∙◌}
+use Rattle.std.proofs.Common.{get_or, ap, ◌∙◌}
 use Rattle.sparse_cs.proofs.LaneValues.{lane_value_is}
 use Rattle.sparse_cs.specs.PlainOfLanes.{plain_of_cols}
 use Rattle.sparse_ldl.proofs.RingFacts.{neg_twice}

@@ -1,7 +1,6 @@
-use Rattle.std.proofs.Common.{◌≡◌, ◌+◌, ◌<◌, ◌≤◌, length, get_or, set, slice_index, ap, sym, subst, ◌∙◌}
-use Rattle.std.proofs.Common.{refl, arith}
+use Rattle.std.proofs.Common.{◌≡◌, ◌+◌, ◌<◌, ◌≤◌, length, get_or, slice_index, ap, subst, ◌∙◌}
+use Rattle.std.proofs.Common.{arith}
 use Rattle.std.proofs.lemmas.List.{get_or_default}
-use Rattle.sparse_pattern.specs.Raw.{start_of, end_of}
 use Rattle.sparse_ldl.proofs.ColumnMoves.{moved_more}
 use Rattle.sparse_ldl.proofs.ldl.columns.move_lane.Goals as goal
 

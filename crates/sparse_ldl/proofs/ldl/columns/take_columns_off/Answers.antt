@@ -1,4 +1,4 @@
-use Rattle.std.proofs.Common.{◌≡◌, ◌<◌, ◌≤◌, ◌+◌, ℕ, length, get_or, set, slice_index, ap, sym, subst}
+use Rattle.std.proofs.Common.{◌≡◌, ◌<◌, ◌+◌, length, get_or, slice_index, ap, sym, subst}
 use Rattle.std.proofs.Common.{◌∙◌, refl, arith, length-set}
 use Rattle.std.proofs.lemmas.List.{get_or_default}
 use Rattle.sparse_cs.specs.PlainOfLanes.{plain_of_cols}

@@ -1,4 +1,4 @@
-use Rattle.std.proofs.Common.{◌≡◌, ◌<◌, ◌≤◌, ◌+◌, length, get_or, set, ap, sym, subst, ◌∙◌, arith}
+use Rattle.std.proofs.Common.{◌≡◌, ◌<◌, length, get_or, set, ap, sym, subst, ◌∙◌, arith}
 use Rattle.std.proofs.Common.{get_or-set_same, get_or-set_other, inl, inr}
 use Rattle.std.proofs.lemmas.List.{get_or_default}
 use Rattle.sparse_lemmas.proofs.Cases.{lt_add_one_cases}

@@ -1,4 +1,4 @@
-use Rattle.std.proofs.Common.{◌≡◌, ◌<◌, ◌≤◌, ℕ, get_or, length}
+use Rattle.std.proofs.Common.{◌≡◌, ◌<◌, ◌≤◌, ℕ, length}
 use Rattle.sparse_solve.specs.InnerColumns.{entries}
 use Rattle.sparse_ldl.proofs.ldl.solve.divide_column.Given as goal
 

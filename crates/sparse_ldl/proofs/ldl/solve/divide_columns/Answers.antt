@@ -1,4 +1,4 @@
-use Rattle.std.proofs.Common.{◌≡◌, ◌<◌, ℕ, ap, sym, subst, ◌∙◌, arith}
+use Rattle.std.proofs.Common.{ℕ, ap, sym, subst, ◌∙◌, arith}
 use Rattle.sparse_algebra.specs.Algebra.{CommRing}
 use Rattle.sparse_solve.specs.InnerColumns.{entries}
 use Rattle.sparse_solve.proofs.Taking.{OnRows, changes_more}
