@@ -1,9 +1,12 @@
 //! The answer of a task.
 
-use crate::checksum::{checksum_of_columns, checksum_of_pattern, checksum_of_rows};
+use crate::checksum::{
+    checksum_of_columns, checksum_of_factors, checksum_of_pattern, checksum_of_rows,
+};
 use nalgebra_sparse::CsrMatrix;
 use nalgebra_sparse::dense::DMatrix;
 use nalgebra_sparse::factorization::CscSymbolicCholesky;
+use nalgebra_sparse::ldl::Ldl;
 use nalgebra_sparse::scalar::W64;
 
 /// The answer of a task.
@@ -12,6 +15,7 @@ pub enum Answer {
     Rows(CsrMatrix<W64>),
     Dense(DMatrix<W64>),
     Factor(CscSymbolicCholesky),
+    Exact(Ldl<W64>),
 }
 
 impl Answer {
@@ -21,6 +25,7 @@ impl Answer {
             Answer::Rows(matrix) => checksum_of_rows(matrix),
             Answer::Dense(matrix) => checksum_of_columns(matrix),
             Answer::Factor(factor) => checksum_of_pattern(factor.l_pattern()),
+            Answer::Exact(ldl) => checksum_of_factors(ldl.l(), ldl.d()),
         }
     }
 
@@ -30,6 +35,7 @@ impl Answer {
             Answer::Rows(matrix) => matrix.nnz(),
             Answer::Dense(matrix) => matrix.as_slice().len(),
             Answer::Factor(factor) => factor.l_pattern().nnz(),
+            Answer::Exact(ldl) => ldl.l().nnz(),
         }
     }
 }

@@ -5,7 +5,7 @@
 use nalgebra_sparse::dense::DMatrix;
 use nalgebra_sparse::pattern::SparsityPattern;
 use nalgebra_sparse::scalar::W64;
-use nalgebra_sparse::{CooMatrix, CsrMatrix};
+use nalgebra_sparse::{CooMatrix, CscMatrix, CsrMatrix};
 
 /// Returns the checksum of a matrix by rows.
 pub fn checksum_of_rows(matrix: &CsrMatrix<W64>) -> u64 {
@@ -50,6 +50,18 @@ pub fn checksum_of_pattern(pattern: &SparsityPattern) -> u64 {
     let mut sum: u64 = 0;
     for (col, row) in pattern.entries() {
         sum = sum.wrapping_add(mixed(row as u64, col as u64, 1));
+    }
+    sum
+}
+
+/// Returns the checksum of L by columns, and of D with its entries as a column more.
+pub fn checksum_of_factors(l: &CscMatrix<W64>, d: &[W64]) -> u64 {
+    let mut sum: u64 = 0;
+    for (row, col, value) in l.triplet_iter() {
+        sum = sum.wrapping_add(mixed(row as u64, col as u64, value.get().cast_unsigned()));
+    }
+    for (row, value) in d.iter().enumerate() {
+        sum = sum.wrapping_add(mixed(row as u64, d.len() as u64, value.get().cast_unsigned()));
     }
     sum
 }

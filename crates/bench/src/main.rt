@@ -6,6 +6,7 @@ mod checksum;
 mod dense;
 mod measure;
 mod reading;
+mod symmetric;
 mod task;
 
 use measure::{Best, Failure, measure};
@@ -14,7 +15,7 @@ use std::process::ExitCode;
 use std::{env, io};
 use task::Task;
 
-const USAGE: &str = "usage: bench coo2csr|transpose|spgemm|spadd|spmmd|solve|fill|read FILE REPS";
+const USAGE: &str = "usage: bench coo2csr|transpose|spgemm|spadd|spmmd|solve|fill|ldl|read FILE REPS";
 
 fn main(rt: HostRuntime) -> io::Result<ExitCode> {
     let mut words = Vec::new(rt.alloc());

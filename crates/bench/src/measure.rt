@@ -97,7 +97,7 @@ fn read_list<R: Files + AllocGlobal>(
     path: &str,
 ) -> Result<CooMatrix<W64>, Failure> {
     let text = fs::read_to_string(rt, path)?;
-    if task == Task::Fill
+    if (task == Task::Fill || task == Task::Ldl)
         && let Ok(places) = load_coo_from_matrix_market_str::<()>(rt.alloc(), text.as_str())
     {
         return Ok(ones_at(rt.alloc(), &places)?);

@@ -2,9 +2,11 @@
 
 use crate::answer::Answer;
 use crate::dense::dense_matrix;
+use crate::symmetric::with_odd_pivots;
 use nalgebra_sparse::convert::serial::{convert_coo_csc, convert_coo_csr};
 use nalgebra_sparse::dense::DMatrix;
 use nalgebra_sparse::factorization::CscSymbolicCholesky;
+use nalgebra_sparse::ldl::Ldl;
 use nalgebra_sparse::ops::Op;
 use nalgebra_sparse::ops::serial::{
     add_csc, add_csr, mul_csr, spmm_csr_dense, spsolve_csc_lower_triangular,
@@ -37,6 +39,8 @@ pub enum Task {
     Solve,
     /// The pattern of the Cholesky factor.
     Fill,
+    /// The exact factors of a symmetric matrix, with their pattern.
+    Ldl,
 }
 
 impl Task {
@@ -50,6 +54,7 @@ impl Task {
             "spmmd" => Some(Task::Spmmd),
             "solve" => Some(Task::Solve),
             "fill" => Some(Task::Fill),
+            "ldl" => Some(Task::Ldl),
             _ => None,
         }
     }
@@ -70,13 +75,14 @@ impl Task {
                 let (pattern, _) = columns_of(alloc, coo)?.into_pattern_and_values();
                 Ok(Some(Input::Factored(pattern)))
             }
+            Task::Ldl => Ok(Some(Input::Symmetric(with_odd_pivots(columns_of(alloc, coo)?)))),
         }
     }
 
     fn asks_square(self) -> bool {
         match self {
             Task::CooToCsr | Task::Transpose | Task::Spmmd => false,
-            Task::Spgemm | Task::Spadd | Task::Solve | Task::Fill => true,
+            Task::Spgemm | Task::Spadd | Task::Solve | Task::Fill | Task::Ldl => true,
         }
     }
 }
@@ -141,6 +147,7 @@ pub enum Input {
     Multiplied(CsrMatrix<W64>, DMatrix<W64>),
     Solved(CscMatrix<W64>, DMatrix<W64>),
     Factored(SparsityPattern),
+    Symmetric(CscMatrix<W64>),
 }
 
 impl Input {
@@ -157,6 +164,7 @@ impl Input {
             }
             Input::Solved(lower, right_sides) => Ok(Run::Solve(lower, right_sides.clone(alloc)?)),
             Input::Factored(pattern) => Ok(Run::Factor(pattern.clone(alloc)?)),
+            Input::Symmetric(matrix) => Ok(Run::FactorExactly(matrix)),
         }
     }
 }
@@ -171,6 +179,7 @@ pub enum Run<'a> {
     Multiply(&'a CsrMatrix<W64>, &'a DMatrix<W64>, DMatrix<W64>),
     Solve(&'a CscMatrix<W64>, DMatrix<W64>),
     Factor(SparsityPattern),
+    FactorExactly(&'a CscMatrix<W64>),
 }
 
 impl<'a> Run<'a> {
@@ -200,6 +209,7 @@ impl<'a> Run<'a> {
                 let factor = CscSymbolicCholesky::factor(alloc, pattern)?;
                 Ok(Some(Answer::Factor(factor)))
             }
+            Run::FactorExactly(matrix) => Ok(factored(alloc, matrix)),
         }
     }
 }
@@ -228,6 +238,17 @@ fn solved(lower: &CscMatrix<W64>, mut right_sides: DMatrix<W64>) -> Option<Answe
     }
     match spsolve_csc_lower_triangular(Op::NoOp(lower), &mut right_sides) {
         Ok(()) => Some(Answer::Dense(right_sides)),
+        Err(_) => None,
+    }
+}
+
+// Returns the exact factors, or `None` if the matrix is not square, has no factors or memory is short.
+fn factored(alloc: Global, matrix: &CscMatrix<W64>) -> Option<Answer> {
+    if matrix.nrows() != matrix.ncols() {
+        return None;
+    }
+    match Ldl::factor(alloc, matrix) {
+        Ok(ldl) => Some(Answer::Exact(ldl)),
         Err(_) => None,
     }
 }

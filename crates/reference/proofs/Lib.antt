@@ -7,3 +7,5 @@ mod TextPlaces
 mod TextMeanings
 mod TextBounds
 mod Tabulated
+mod DenseWrites
+mod Equations

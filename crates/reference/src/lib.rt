@@ -5,6 +5,7 @@
 
 pub mod expressions;
 pub mod fill;
+pub mod ldl;
 pub mod pattern_faults;
 pub mod products;
 pub mod sums;

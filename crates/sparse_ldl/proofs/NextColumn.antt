@@ -8,7 +8,7 @@ use Rattle.sparse_algebra.proofs.SumLemmas.{sum_below-same}
 use Rattle.sparse_units.specs.Inverses.{HasInverse}
 use Rattle.sparse_solve.proofs.RingSteps.{mul_off, divided}
 use Rattle.sparse_ldl.specs.InnerColumns.{term, ArePartFactors, IsLeft}
-use Rattle.sparse_ldl.proofs.RingFacts.{one_mul}
+use Rattle.sparse_ldl.proofs.RingFacts.{one_mul, trivial}
 use Rattle.sparse_ldl.proofs.ClosedSets.{IsClosed, IsZeroOutside, left-outside, part-outside}
 
 module _ (R : CommRing) {X : Type 0} (f : X → R.Carrier) (n j : ℕ) (m l l' : ℕ → ℕ → R.Carrier)
@@ -52,7 +52,7 @@ module _ (R : CommRing) {X : Type 0} (f : X → R.Carrier) (n j : ℕ) (m l l' :
         ∙ ap (λ x. R.add (sum_below R c (term R l d i c)) (R.mul (l i c) x)) (kept_d c other)
         ∙ p.columns i c before le within
 
-    part_step : ArePartFactors R f n (suc j) m l' d'
+    pub part_step : ArePartFactors R f n (suc j) m l' d'
     part_step = record {
       unit = λ c less. elim (three c j) [
         | inl before ↦ kept c c (λ same. absurd (omega (arith, same, before))) ∙ p.unit c before

@@ -26,10 +26,14 @@ mod first_steps;
 #[cfg(test)]
 mod io;
 #[cfg(test)]
+mod ldl;
+#[cfg(test)]
 mod ops;
 #[cfg(test)]
 mod pattern;
 #[cfg(test)]
 mod scalar;
+#[cfg(test)]
+mod symmetric;
 #[cfg(test)]
 mod units;

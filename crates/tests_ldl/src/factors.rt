@@ -1,0 +1,138 @@
+//! Factors and solutions.
+
+use crate::matrices::{Arrays, Scalar, are, csc, dense};
+use sparse_algebra::scalar::{W32, W64};
+use sparse_ldl::ldl::Ldl;
+use sparse_op::OperationErrorKind;
+use sparse_units::Mod;
+use std::alloc::Global;
+
+// The column offsets, the rows and the values of L, and the diagonal of D.
+type Factors = (
+    &'static [usize],
+    &'static [usize],
+    &'static [i32],
+    &'static [i32],
+);
+
+// Rows `1 1 1`, `1 2` and `1 . 3`.
+const ARROW: Arrays<'static> = (
+    3,
+    &[0, 3, 5, 7],
+    &[0, 1, 2, 0, 1, 0, 2],
+    &[1, 1, 1, 1, 2, 1, 3],
+);
+
+// Rows `2 1` and `1 1`.
+const TWO: Arrays<'static> = (2, &[0, 2, 4], &[0, 1, 0, 1], &[2, 1, 1, 1]);
+
+// Rows `0 1` and `1 0`, zeros not stored.
+const EXCHANGE: Arrays<'static> = (2, &[0, 1, 2], &[1, 0], &[1, 1]);
+
+// Rows `1 2` and `9 7`.
+const LOPSIDED: Arrays<'static> = (2, &[0, 2, 4], &[0, 1, 0, 1], &[1, 9, 2, 7]);
+
+const ONE_ZERO: Arrays<'static> = (1, &[0, 0], &[], &[]);
+
+const EMPTY: Arrays<'static> = (0, &[0], &[], &[]);
+
+const RESIDUES: &[(Arrays<'static>, Factors)] = &[
+    (
+        ARROW,
+        (
+            &[0, 3, 5, 6],
+            &[0, 1, 2, 1, 2, 2],
+            &[1, 1, 1, 1, 6, 1],
+            &[1, 1, 1],
+        ),
+    ),
+    (TWO, (&[0, 2, 3], &[0, 1, 1], &[1, 4, 1], &[2, 4])),
+];
+
+const WRAPPING: &[(Arrays<'static>, Factors)] = &[
+    (LOPSIDED, (&[0, 2, 3], &[0, 1, 1], &[1, 2, 1], &[1, 3])),
+    (EMPTY, (&[0], &[], &[], &[])),
+];
+
+fn has_factors<T: Scalar>(alloc: Global, matrix: Arrays<'_>, want: Factors) -> bool {
+    let Some(matrix) = csc::<T>(alloc, matrix) else {
+        return false;
+    };
+    if matrix.nrows() != matrix.ncols() {
+        return false;
+    }
+    match Ldl::factor(alloc, &matrix) {
+        Ok(ldl) => {
+            ldl.l().col_offsets() == want.0
+                && ldl.l().row_indices() == want.1
+                && are(ldl.l().values(), want.2)
+                && are(ldl.d(), want.3)
+        }
+        Err(_) => false,
+    }
+}
+
+fn is_singular<T: Scalar>(alloc: Global, matrix: Arrays<'_>) -> bool {
+    let Some(matrix) = csc::<T>(alloc, matrix) else {
+        return false;
+    };
+    if matrix.nrows() != matrix.ncols() {
+        return false;
+    }
+    match Ldl::factor(alloc, &matrix) {
+        Ok(_) => false,
+        Err(error) => *error.kind() == OperationErrorKind::Singular,
+    }
+}
+
+fn is_solved<T: Scalar>(
+    alloc: Global,
+    matrix: Arrays<'_>,
+    ncols: usize,
+    right: &[i32],
+    want: &[i32],
+) -> bool {
+    let (Some(matrix), Some(mut b)) = (
+        csc::<T>(alloc, matrix),
+        dense(alloc, (matrix.0, ncols), right),
+    ) else {
+        return false;
+    };
+    if matrix.nrows() != matrix.ncols() || b.nrows() != matrix.nrows() {
+        return false;
+    }
+    match Ldl::factor(alloc, &matrix) {
+        Ok(ldl) => {
+            ldl.solve_mut(&mut b);
+            are(b.as_slice(), want)
+        }
+        Err(_) => false,
+    }
+}
+
+#[test]
+fn factors_of_small_matrices(rt: HostRuntime) {
+    for (matrix, want) in RESIDUES {
+        assert!(rt; has_factors::<Mod<7>>(rt.alloc(), *matrix, *want));
+    }
+    for (matrix, want) in WRAPPING {
+        assert!(rt; has_factors::<W32>(rt.alloc(), *matrix, *want));
+        assert!(rt; has_factors::<W64>(rt.alloc(), *matrix, *want));
+    }
+    assert!(rt; has_factors::<Mod<0>>(rt.alloc(), ONE_ZERO, (&[0, 0], &[], &[], &[0])));
+}
+
+#[test]
+fn matrices_without_factors(rt: HostRuntime) {
+    assert!(rt; is_singular::<W32>(rt.alloc(), TWO));
+    assert!(rt; is_singular::<Mod<7>>(rt.alloc(), EXCHANGE));
+    assert!(rt; is_singular::<W64>(rt.alloc(), ONE_ZERO));
+}
+
+#[test]
+fn solutions_of_small_systems(rt: HostRuntime) {
+    assert!(rt; is_solved::<Mod<7>>(rt.alloc(), ARROW, 1, &[3, 3, 4], &[1, 1, 1]));
+    assert!(rt; is_solved::<Mod<7>>(rt.alloc(), TWO, 1, &[3, 2], &[1, 1]));
+    assert!(rt; is_solved::<Mod<7>>(rt.alloc(), TWO, 0, &[], &[]));
+    assert!(rt; is_solved::<Mod<0>>(rt.alloc(), ONE_ZERO, 1, &[5], &[0]));
+}

@@ -1,0 +1,46 @@
+-- Products with the solution of a symmetric system.
+use Rattle.std.proofs.Common.{◌≡◌, ℕ, zero, suc, ◌<◌, ◌≤◌, ◌⊎◌, inl, inr, max, ap, sym, ◌∙◌, refl}
+use Rattle.std.proofs.Common.{arith}
+use Rattle.std.proofs.Math.Nat.{min-eq_left, min-eq_right, max-eq_left, max-eq_right}
+use Rattle.nalgebra_sparse.specs.Algebra.{CommRing}
+use Rattle.nalgebra_sparse.specs.DensePlain.{plain_full}
+use Rattle.nalgebra_sparse.specs.Factorisations.{plain_symmetric}
+use Rattle.nalgebra_sparse.specs.Plain.{Plain, plain_product, plain_transpose}
+use Rattle.nalgebra_sparse.specs.Solutions.{HasSameValues}
+use Rattle.nalgebra_sparse.specs.Sums.{sum_below}
+
+order : (i j : ℕ) → (i ≤ j) ⊎ (j ≤ i)
+order i j = grind arith
+
+module _ (R : CommRing) where
+  same_sum : (n : ℕ) (f g : ℕ → R.Carrier) → ((k : ℕ) → k < n → f k ≡ g k)
+      → sum_below R n f ≡ sum_below R n g
+  same_sum zero f g same = refl
+  same_sum (suc n) f g same =
+      ap (λ s. R.add s (f n)) (same_sum n f g (λ k lt. same k (omega arith)))
+      ∙ ap (R.add (sum_below R n g)) (same n (omega arith))
+
+  -- a matrix that is its own transpose is its symmetric matrix
+  symmetric_is : (a : Plain R) → plain_transpose R a ≡ a → (i j : ℕ)
+      → (plain_symmetric R a).value i j ≡ a.value i j
+  symmetric_is a h i j = elim (order i j) [
+    | inl le ↦ ap (λ k. a.value k (max i j)) (min-eq_left le)
+        ∙ ap (a.value i) (max-eq_right le)
+    | inr le ↦ ap (λ k. a.value k (max i j)) (min-eq_right le)
+        ∙ ap (a.value j) (max-eq_left le) ∙ ap (λ (b : Plain R). b.value i j) h
+  ]
+
+  -- what solves the system of the factors solves that of the matrix
+  pub product_is : (a f x b c : Plain R) (n m : ℕ) → a.cols ≡ n → f.cols ≡ n
+      → plain_transpose R a ≡ a → HasSameValues R n n f (plain_symmetric R a)
+      → plain_full R (plain_product R f x) ≡ b → c ≡ plain_full R (plain_product R a x)
+      → HasSameValues R n m c b
+  product_is a f x b c n m cols same h equation solved times i j row _ =
+      ap (λ (p : Plain R). p.value i j) times
+      ∙ ap (λ s. sum_below R s (λ k. R.mul (a.value i k) (x.value k j))) cols
+      ∙ same_sum n (λ k. R.mul (a.value i k) (x.value k j))
+      (λ k. R.mul (f.value i k) (x.value k j))
+      (λ k lt. ap (λ v. R.mul v (x.value k j))
+      (sym (equation i k row lt ∙ symmetric_is a h i k)))
+      ∙ ap (λ s. sum_below R s (λ k. R.mul (f.value i k) (x.value k j))) (sym same)
+      ∙ ap (λ (p : Plain R). p.value i j) solved
