@@ -15,7 +15,8 @@ use std::process::ExitCode;
 use std::{env, io};
 use task::Task;
 
-const USAGE: &str = "usage: bench coo2csr|transpose|spgemm|spadd|spmmd|solve|fill|ldl|read FILE REPS";
+const USAGE: &str =
+    "usage: bench coo2csr|transpose|spgemm|spadd|spmmd|solve|fill|ldl|read FILE REPS";
 
 fn main(rt: HostRuntime) -> io::Result<ExitCode> {
     let mut words = Vec::new(rt.alloc());

@@ -198,7 +198,10 @@ fn systems_without_rows_or_columns(rt: HostRuntime) {
 
 // Whether the exact factorisation of a matrix without rows has none, and solves for each of the most columns.
 fn is_factored(alloc: Global) -> bool {
-    match (CscMatrix::<W64>::zeros(alloc, 0, 0), DMatrix::zeros(alloc, 0, MOST)) {
+    match (
+        CscMatrix::<W64>::zeros(alloc, 0, 0),
+        DMatrix::zeros(alloc, 0, MOST),
+    ) {
         (Ok(a), Ok(mut b)) if a.nrows() == a.ncols() => match Ldl::factor(alloc, &a) {
             Ok(ldl) if ldl.l().nrows() == b.nrows() => {
                 ldl.solve_mut(&mut b);
