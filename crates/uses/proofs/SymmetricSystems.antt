@@ -1,11 +1,15 @@
 -- Products with the solution of a symmetric system.
-use Rattle.std.proofs.Common.{◌≡◌, ℕ, zero, suc, ◌<◌, ◌≤◌, ◌⊎◌, inl, inr, max, ap, sym, ◌∙◌, refl}
-use Rattle.std.proofs.Common.{arith}
+use Rattle.std.proofs.Common.{◌≡◌, ℕ, zero, suc, ◌<◌, ◌≤◌, ◌⊎◌, inl, inr, List, length, max, ap, sym}
+use Rattle.std.proofs.Common.{subst, ◌∙◌, refl, arith}
 use Rattle.std.proofs.Math.Nat.{min-eq_left, min-eq_right, max-eq_left, max-eq_right}
 use Rattle.nalgebra_sparse.specs.Algebra.{CommRing}
 use Rattle.nalgebra_sparse.specs.DensePlain.{plain_full}
-use Rattle.nalgebra_sparse.specs.Factorisations.{plain_symmetric}
+use Rattle.nalgebra_sparse.specs.Compressed.{Compressed}
+use Rattle.nalgebra_sparse.specs.Factorisations.{IsFactorisation, IsUnitLower, plain_symmetric}
+use Rattle.nalgebra_sparse.specs.Factors.{Factors, HavePivots, diagonal, plain_of_factors}
+use Rattle.nalgebra_sparse.specs.Factors.{symmetric_of}
 use Rattle.nalgebra_sparse.specs.Plain.{Plain, plain_product, plain_transpose}
+use Rattle.nalgebra_sparse.specs.PlainOfLanes.{plain_of_cols}
 use Rattle.nalgebra_sparse.specs.Solutions.{HasSameValues}
 use Rattle.nalgebra_sparse.specs.Sums.{sum_below}
 
@@ -44,3 +48,19 @@ module _ (R : CommRing) where
       (sym (equation i k row lt ∙ symmetric_is a h i k)))
       ∙ ap (λ s. sum_below R s (λ k. R.mul (f.value i k) (x.value k j))) (sym same)
       ∙ ap (λ (p : Plain R). p.value i j) solved
+
+-- the factors that the library keeps are a factorisation
+pub factors_exist : (R : CommRing) {T : Type 0} (f : T → R.Carrier) (z : T) (a : Compressed T)
+    (s : Factors T) → s.l.pattern.minor_dim ≡ a.pattern.minor_dim
+    → length s.d ≡ a.pattern.minor_dim → IsUnitLower R (plain_of_cols R f s.l)
+    → HavePivots R f z s.d → HasSameValues R (length s.d) (length s.d)
+    (plain_of_factors R f z s) (symmetric_of R f a)
+    → (l : Plain R) × ((d : ℕ → R.Carrier) × IsFactorisation R f (symmetric_of R f a) l d)
+factors_exist R f z a s rows count lower pivots equation =
+    (plain_of_cols R f s.l, (diagonal R f z s.d, record {
+      rows = rows;
+      lower = lower;
+      pivots = λ j lt. pivots j (omega (arith, lt, count));
+      equation = subst (λ n. HasSameValues R n n (plain_of_factors R f z s) (symmetric_of R f a))
+          count equation;
+    }))
