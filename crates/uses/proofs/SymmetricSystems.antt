@@ -1,5 +1,5 @@
 -- Products with the solution of a symmetric system.
-use Rattle.std.proofs.Common.{◌≡◌, ℕ, zero, suc, ◌<◌, ◌≤◌, ◌⊎◌, inl, inr, List, length, max, ap, sym}
+use Rattle.std.proofs.Common.{◌≡◌, ℕ, zero, suc, ◌<◌, ◌≤◌, ◌⊎◌, inl, inr, length, max, ap, sym}
 use Rattle.std.proofs.Common.{subst, ◌∙◌, refl, arith}
 use Rattle.std.proofs.Math.Nat.{min-eq_left, min-eq_right, max-eq_left, max-eq_right}
 use Rattle.nalgebra_sparse.specs.Algebra.{CommRing}
