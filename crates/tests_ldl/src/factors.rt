@@ -80,7 +80,7 @@ fn is_singular<T: Scalar>(alloc: Global, matrix: Arrays<'_>) -> bool {
         return false;
     }
     match Ldl::factor(alloc, &matrix) {
-        Ok(_) => false,
+        Ok(_ldl) => false,
         Err(error) => *error.kind() == OperationErrorKind::Singular,
     }
 }
