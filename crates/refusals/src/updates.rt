@@ -126,7 +126,12 @@ fn covers_rows<T: Ring>(
         (plain_of_rows T.ring T.value c.now) }
 {
     match c.clone(alloc) {
-        Ok(mut copy) => { spmm_csr_prealloc(alloc, T::zero(), &mut copy, T::one(), a, b).is_ok() }
+        Ok(mut copy) => {
+            match spmm_csr_prealloc(alloc, T::zero(), &mut copy, T::one(), a, b) {
+                Ok(()) => true,
+                Err(_) => false,
+            }
+        }
         Err(_) => false,
     }
 }
@@ -217,7 +222,12 @@ fn covers_columns<T: Ring>(
         (plain_of_cols T.ring T.value c.now) }
 {
     match c.clone(alloc) {
-        Ok(mut copy) => { spmm_csc_prealloc(alloc, T::zero(), &mut copy, T::one(), a, b).is_ok() }
+        Ok(mut copy) => {
+            match spmm_csc_prealloc(alloc, T::zero(), &mut copy, T::one(), a, b) {
+                Ok(()) => true,
+                Err(_) => false,
+            }
+        }
         Err(_) => false,
     }
 }

@@ -112,13 +112,13 @@ fn both_ends(alloc: Global, is_sorted: bool) -> Option<CsrMatrix<i32>> {
 }
 
 // Whether the lane has these values, is copied and taken back from its data struct.
-fn is_copied(alloc: Global, matrix: &CsrMatrix<i32>, values: &[i32]) -> bool {
+fn is_copied(alloc: Global, matrix: &CsrMatrix<i32>, values: &[i32; 2]) -> bool {
     let is_copied = match matrix.to_data(alloc) {
         Ok(copied) => CsrMatrix::try_from_data(copied).is_ok_and(|again| again == *matrix),
         Err(_) => false,
     };
     is_copied
-        && matrix.values() == values
+        && matrix.values() == values.as_slice()
         && matrix.get_entry(0, MOST - 1) == Some(SparseEntry::NonZero(&values[1]))
         && matrix.transpose(alloc).is_err()
 }
