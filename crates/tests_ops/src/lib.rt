@@ -41,6 +41,7 @@ mod sums;
 mod sums_into;
 #[cfg(test)]
 mod triplets;
+#[cfg(test)]
 mod ways;
 #[cfg(test)]
 mod wrapping;
