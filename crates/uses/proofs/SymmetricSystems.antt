@@ -56,11 +56,16 @@ pub factors_exist : (R : CommRing) {T : Type 0} (f : T → R.Carrier) (z : T) (a
     → HavePivots R f z s.d → HasSameValues R (length s.d) (length s.d)
     (plain_of_factors R f z s) (symmetric_of R f a)
     → (l : Plain R) × ((d : ℕ → R.Carrier) × IsFactorisation R f (symmetric_of R f a) l d)
-factors_exist R f z a s rows count lower pivots equation =
-    (plain_of_cols R f s.l, (diagonal R f z s.d, record {
+factors_exist R f z a s rows count lower pivots equation = (
+  plain_of_cols R f s.l,
+  (
+    diagonal R f z s.d,
+    record {
       rows = rows;
       lower = lower;
       pivots = λ j lt. pivots j (omega (arith, lt, count));
       equation = subst (λ n. HasSameValues R n n (plain_of_factors R f z s) (symmetric_of R f a))
           count equation;
-    }))
+    },
+  ),
+)
