@@ -196,20 +196,31 @@ fn systems_without_rows_or_columns(rt: HostRuntime) {
     assert!(rt; refusal(rt.alloc(), 2, 1) == Some(OperationErrorKind::Singular));
 }
 
-// Whether the exact factorisation of a matrix without rows has none, and solves for each of the most columns.
+// The exact factorisation of a matrix without rows and columns.
+fn empty_factors(alloc: Global) -> Option<Ldl<W64>> {
+    let a = CscMatrix::<W64>::zeros(alloc, 0, 0).ok()?;
+    if a.nrows() != a.ncols() {
+        return None;
+    }
+    Ldl::factor(alloc, &a).ok()
+}
+
+// Whether factors without rows solve for as many right sides as there can be.
+fn solve_all(alloc: Global, factors: &Ldl<W64>) -> bool {
+    let Ok(mut b) = DMatrix::zeros(alloc, 0, MOST) else {
+        return false;
+    };
+    if factors.l().nrows() != b.nrows() {
+        return false;
+    }
+    factors.solve_mut(&mut b);
+    factors.d().is_empty() && b.ncols() == MOST
+}
+
 fn is_factored(alloc: Global) -> bool {
-    match (
-        CscMatrix::<W64>::zeros(alloc, 0, 0),
-        DMatrix::zeros(alloc, 0, MOST),
-    ) {
-        (Ok(a), Ok(mut b)) if a.nrows() == a.ncols() => match Ldl::factor(alloc, &a) {
-            Ok(ldl) if ldl.l().nrows() == b.nrows() => {
-                ldl.solve_mut(&mut b);
-                ldl.d().is_empty() && b.ncols() == MOST
-            }
-            _ => false,
-        },
-        (_, _) => false,
+    match empty_factors(alloc) {
+        Some(factors) => solve_all(alloc, &factors),
+        None => false,
     }
 }
 
