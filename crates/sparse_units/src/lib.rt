@@ -2,6 +2,7 @@
 #![tactic(auto)]
 
 mod inverses;
+pub mod laws;
 mod newton;
 mod odd;
 mod residues;
