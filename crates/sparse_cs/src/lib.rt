@@ -1,10 +1,9 @@
 //! The storage shared by CSR and CSC matrices.
 #![tactic(auto)]
 
-ghost use Rattle.std.specs.Prelude.{◌≡◌, ◌<◌, ◌≤◌, ℕ, IfOk, length, List, ⊤};
+ghost use Rattle.std.specs.Prelude.{◌≡◌, IfOk, length};
 ghost use Rattle.std.specs.Iterator.{YieldsFirstBy, item_count};
-ghost use Rattle.sparse_pattern.specs.Raw.{lane_of};
-ghost use Rattle.sparse_cs.specs.Compressed.{Compressed, compressed_of, IsSound, lane_triplets};
+ghost use Rattle.sparse_cs.specs.Compressed.{compressed_of, IsSound, lane_triplets};
 
 mod entries;
 mod filter;
