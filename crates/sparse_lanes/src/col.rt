@@ -27,6 +27,9 @@ impl<'a, T> Model for CscCol<'a, T> {
 
 impl<'a, T> CscCol<'a, T> {
     /// Returns a lane as a column.
+    ///
+    /// For the crates of this library.
+    #[doc(hidden)]
     pub fn from_lane(lane: CsLane<'a, T>) -> Self
         ensures { result ≡ lane.entry }
     {
@@ -65,8 +68,11 @@ impl<'a, T> CscCol<'a, T> {
 
     /// Returns the entry at a row, or `None` if `row_index` is out of bounds. Binary search.
     pub fn get_entry(&self, row_index: usize) -> Option<SparseEntry<'a, T>>
-        ensures { IsLaneEntryOf self.now row_index result }
+        ensures entry { IsLaneEntryOf self.now row_index result }
+        ensures sound { IsSoundLane self.now }
     {
+        // Shows that the column is sound.
+        let _ = self.lane.values();
         self.lane.get_entry(row_index)
     }
 }
@@ -122,6 +128,9 @@ impl<'a, T> Model for CscColIter<'a, T> {
 
 impl<'a, T> CscColIter<'a, T> {
     /// Returns an iterator over the remaining lanes as columns.
+    ///
+    /// For the crates of this library.
+    #[doc(hidden)]
     pub fn from_lanes(lanes: CsLaneIter<'a, T>) -> Self
         ensures { result ≡ lanes.entry }
     {

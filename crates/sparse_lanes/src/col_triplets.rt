@@ -27,6 +27,9 @@ impl<'a, T> Model for CscTripletIter<'a, T> {
 
 impl<'a, T> CscTripletIter<'a, T> {
     /// Returns an iterator over the remaining triplets (lane, index, value), each as (row, column, value).
+    ///
+    /// For the crates of this library.
+    #[doc(hidden)]
     pub fn from_triplets(triplets: CsTripletIter<'a, T>) -> Self
         ensures { result ≡ map turned triplets.entry }
     {
@@ -122,6 +125,9 @@ pub struct CscTripletIterMut<'a, T> {
 
 impl<'a, T> CscTripletIterMut<'a, T> {
     /// Returns an iterator over the remaining triplets (lane, index, value), each as (row, column, value).
+    ///
+    /// For the crates of this library.
+    #[doc(hidden)]
     pub fn from_triplets(triplets: CsTripletIterMut<'a, T>) -> Self
         ensures same_values { csc_triplet_values result ≡ triplet_values triplets.entry }
         ensures all { csc_triplets_left result ≡ map turned (triplets_left triplets.entry) }

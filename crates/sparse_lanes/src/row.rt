@@ -27,6 +27,9 @@ impl<'a, T> Model for CsrRow<'a, T> {
 
 impl<'a, T> CsrRow<'a, T> {
     /// Returns a lane as a row.
+    ///
+    /// For the crates of this library.
+    #[doc(hidden)]
     pub fn from_lane(lane: CsLane<'a, T>) -> Self
         ensures { result ≡ lane.entry }
     {
@@ -65,8 +68,11 @@ impl<'a, T> CsrRow<'a, T> {
 
     /// Returns the entry at a column, or `None` if `col_index` is out of bounds. Binary search.
     pub fn get_entry(&self, col_index: usize) -> Option<SparseEntry<'a, T>>
-        ensures { IsLaneEntryOf self.now col_index result }
+        ensures entry { IsLaneEntryOf self.now col_index result }
+        ensures sound { IsSoundLane self.now }
     {
+        // Shows that the row is sound.
+        let _ = self.lane.values();
         self.lane.get_entry(col_index)
     }
 }
@@ -122,6 +128,9 @@ impl<'a, T> Model for CsrRowIter<'a, T> {
 
 impl<'a, T> CsrRowIter<'a, T> {
     /// Returns an iterator over the remaining lanes as rows.
+    ///
+    /// For the crates of this library.
+    #[doc(hidden)]
     pub fn from_lanes(lanes: CsLaneIter<'a, T>) -> Self
         ensures { result ≡ lanes.entry }
     {

@@ -47,6 +47,9 @@ impl<'a, T> CsrRowMut<'a, T> {
     }
 
     /// Returns a lane as a row, with its values borrowed mutably. `index` must be less than the number of lanes.
+    ///
+    /// For the crates of this library.
+    #[doc(hidden)]
     pub fn of(cs: &'a mut CsMatrix<T>, index: usize) -> Self
         requires { index < cs.old.pattern.major_dim }
         ensures* writes_back { sem 𝓛 (LendsLane T.row cs.entry index (row_values result)) }
@@ -160,6 +163,9 @@ pub struct CsrRowIterMut<'a, T> {
 
 impl<'a, T> CsrRowIterMut<'a, T> {
     /// Returns an iterator over the remaining lanes as rows.
+    ///
+    /// For the crates of this library.
+    #[doc(hidden)]
     pub fn from_lanes(lanes: CsLaneIterMut<'a, T>) -> Self
         ensures same_values { all_row_values result ≡ lane_values lanes.entry }
         ensures all { rows_left result ≡ lanes_left lanes.entry }

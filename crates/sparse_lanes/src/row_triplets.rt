@@ -25,6 +25,9 @@ impl<'a, T> Model for CsrTripletIter<'a, T> {
 
 impl<'a, T> CsrTripletIter<'a, T> {
     /// Returns an iterator over the remaining triplets (lane, index, value), each as (row, column, value).
+    ///
+    /// For the crates of this library.
+    #[doc(hidden)]
     pub fn from_triplets(triplets: CsTripletIter<'a, T>) -> Self
         ensures { result ≡ triplets.entry }
     {
@@ -113,6 +116,9 @@ pub struct CsrTripletIterMut<'a, T> {
 
 impl<'a, T> CsrTripletIterMut<'a, T> {
     /// Returns an iterator over the remaining triplets (lane, index, value), each as (row, column, value).
+    ///
+    /// For the crates of this library.
+    #[doc(hidden)]
     pub fn from_triplets(triplets: CsTripletIterMut<'a, T>) -> Self
         ensures same_values { csr_triplet_values result ≡ triplet_values triplets.entry }
         ensures all { csr_triplets_left result ≡ triplets_left triplets.entry }
