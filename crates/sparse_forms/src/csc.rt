@@ -52,6 +52,9 @@ impl<T> Model for CscMatrix<T> {
 
 impl<T> CscMatrix<T> {
     /// Returns the matrix whose columns are the lanes of `cs`.
+    ///
+    /// For the crates of this library.
+    #[doc(hidden)]
     pub fn from_cs(cs: CsMatrix<T>) -> Self
         ensures { result ≡ cs }
     {
@@ -59,10 +62,20 @@ impl<T> CscMatrix<T> {
     }
 
     /// Returns the underlying storage, whose lanes are the columns.
+    ///
+    /// For the crates of this library.
+    #[doc(hidden)]
     pub fn cs(&self) -> &CsMatrix<T>
         ensures core { result.now ≡ self.now }
     {
         &self.cs
+    }
+
+    // Tells the prover that the matrix is sound. Costs nothing: it reads no element.
+    fn show_sound(&self)
+        ensures sound { IsSound self.now }
+    {
+        let _ = self.cs.values();
     }
 
     /// Returns a matrix without stored places. Allocates `ncols + 1` offsets, and fails only if that allocation fails.

@@ -57,8 +57,10 @@ impl<T> CscMatrix<T> {
     /// Returns a column. `col_index` must be less than `ncols()`.
     pub fn col(&self, col_index: usize) -> CscCol<'_, T>
         requires { col_index < self.now.pattern.major_dim }
-        ensures { result ≡ lane_at self.now col_index }
+        ensures col { result ≡ lane_at self.now col_index }
+        ensures sound { IsSound self.now }
     {
+        self.show_sound();
         CscCol::from_lane(self.cs.lane(col_index))
     }
 
@@ -66,7 +68,9 @@ impl<T> CscMatrix<T> {
     pub fn get_col(&self, col_index: usize) -> Option<CscCol<'_, T>>
         ensures bounds { IsSome result ↔ (col_index < self.now.pattern.major_dim) }
         ensures col { IfSome result (λ col. col ≡ lane_at self.now col_index) }
+        ensures sound { IsSound self.now }
     {
+        self.show_sound();
         match self.cs.get_lane(col_index) {
             Some(lane) => Some(CscCol::from_lane(lane)),
             None => None,
@@ -98,8 +102,7 @@ impl<T> CscMatrix<T> {
         ensures entry { IsEntryAt self.now col_index row_index result }
         ensures sound { IsSound self.now }
     {
-        // Shows that the matrix is sound.
-        let _ = self.cs.values();
+        self.show_sound();
         self.cs.index_entry(col_index, row_index)
     }
 
@@ -108,8 +111,7 @@ impl<T> CscMatrix<T> {
         ensures entry { IsEntryOf self.now col_index row_index result }
         ensures sound { IsSound self.now }
     {
-        // Shows that the matrix is sound.
-        let _ = self.cs.values();
+        self.show_sound();
         self.cs.get_entry(col_index, row_index)
     }
 

@@ -55,6 +55,7 @@ impl<T> CscMatrix<T> {
         ensures* writes_back { sem 𝓛 (LendsColIf T.row self.entry index result) }
         ensures bounds { IsSome result ↔ (index < self.old.pattern.major_dim) }
         ensures col { IfSome result (λ col. lent_col col ≡ lane_at self.old index) }
+        ensures sound { IsSound self.old }
     {
         match self.cs_with_col(index) {
             Some(cs) => Some(CscColMut::of(cs, index)),
@@ -67,7 +68,9 @@ impl<T> CscMatrix<T> {
         ensures* writes_back { sem 𝓛 (LendsCoreIf T.row self.entry result) }
         ensures bounds { IsSome result ↔ (index < self.old.pattern.major_dim) }
         ensures core { IfSome result (λ cs. cs.now ≡ self.old) }
+        ensures sound { IsSound self.old }
     {
+        self.show_sound();
         if index >= self.ncols() {
             return None;
         }
@@ -91,6 +94,7 @@ impl<T> CscMatrix<T> {
     ) -> Option<SparseEntryMut<'_, T>>
         ensures* writes_back { sem 𝓛 (LendsEntry T.row self.entry col_index row_index result) }
         ensures entry { IsEntryMutOf self.old col_index row_index result }
+        ensures sound { IsSound self.old }
     {
         into_entry(self.find_mut(row_index, col_index))
     }
@@ -100,7 +104,9 @@ impl<T> CscMatrix<T> {
         requires { IsInBounds self.old.pattern col_index row_index }
         ensures* writes_back { sem 𝓛 (LendsIndexed T.row self.entry col_index row_index result) }
         ensures entry { IsEntryMutAt self.old col_index row_index result }
+        ensures sound { IsSound self.old }
     {
+        self.show_sound();
         self.cs.index_entry_mut(col_index, row_index)
     }
 
@@ -136,7 +142,9 @@ impl<T> CscMatrix<T> {
     fn find_mut(&mut self, row: usize, col: usize) -> Found<'_, T>
         ensures* writes_back { sem 𝓛 (LendsFound T.row self.entry col row result) }
         ensures found { IsFoundAt self.old col row result }
+        ensures sound { IsSound self.old }
     {
+        self.show_sound();
         self.cs.find_mut(col, row)
     }
 }

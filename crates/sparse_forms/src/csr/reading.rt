@@ -57,8 +57,10 @@ impl<T> CsrMatrix<T> {
     /// Returns a row. `row_index` must be less than `nrows()`.
     pub fn row(&self, row_index: usize) -> CsrRow<'_, T>
         requires { row_index < self.now.pattern.major_dim }
-        ensures { result ≡ lane_at self.now row_index }
+        ensures row { result ≡ lane_at self.now row_index }
+        ensures sound { IsSound self.now }
     {
+        self.show_sound();
         CsrRow::from_lane(self.cs.lane(row_index))
     }
 
@@ -76,7 +78,9 @@ impl<T> CsrMatrix<T> {
     pub fn get_row(&self, row_index: usize) -> Option<CsrRow<'_, T>>
         ensures bounds { IsSome result ↔ (row_index < self.now.pattern.major_dim) }
         ensures row { IfSome result (λ row. row ≡ lane_at self.now row_index) }
+        ensures sound { IsSound self.now }
     {
+        self.show_sound();
         match self.cs.get_lane(row_index) {
             Some(lane) => Some(CsrRow::from_lane(lane)),
             None => None,
@@ -97,8 +101,7 @@ impl<T> CsrMatrix<T> {
         ensures entry { IsEntryAt self.now row_index col_index result }
         ensures sound { IsSound self.now }
     {
-        // Shows that the matrix is sound.
-        let _ = self.cs.values();
+        self.show_sound();
         self.cs.index_entry(row_index, col_index)
     }
 
@@ -117,8 +120,7 @@ impl<T> CsrMatrix<T> {
         ensures entry { IsEntryOf self.now row_index col_index result }
         ensures sound { IsSound self.now }
     {
-        // Shows that the matrix is sound.
-        let _ = self.cs.values();
+        self.show_sound();
         self.cs.get_entry(row_index, col_index)
     }
 

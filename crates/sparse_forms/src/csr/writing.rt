@@ -43,6 +43,7 @@ impl<T> CsrMatrix<T> {
         ensures* writes_back { sem 𝓛 (LendsRowIf T.row self.entry index result) }
         ensures bounds { IsSome result ↔ (index < self.old.pattern.major_dim) }
         ensures row { IfSome result (λ row. lent_row row ≡ lane_at self.old index) }
+        ensures sound { IsSound self.old }
     {
         match self.cs_with_row(index) {
             Some(cs) => Some(CsrRowMut::of(cs, index)),
@@ -55,7 +56,9 @@ impl<T> CsrMatrix<T> {
         ensures* writes_back { sem 𝓛 (LendsCoreIf T.row self.entry result) }
         ensures bounds { IsSome result ↔ (index < self.old.pattern.major_dim) }
         ensures core { IfSome result (λ cs. cs.now ≡ self.old) }
+        ensures sound { IsSound self.old }
     {
+        self.show_sound();
         if index >= self.nrows() {
             return None;
         }
@@ -79,6 +82,7 @@ impl<T> CsrMatrix<T> {
     ) -> Option<SparseEntryMut<'_, T>>
         ensures* writes_back { sem 𝓛 (LendsEntry T.row self.entry row_index col_index result) }
         ensures entry { IsEntryMutOf self.old row_index col_index result }
+        ensures sound { IsSound self.old }
     {
         into_entry(self.find_mut(row_index, col_index))
     }
@@ -88,7 +92,9 @@ impl<T> CsrMatrix<T> {
         requires { IsInBounds self.old.pattern row_index col_index }
         ensures* writes_back { sem 𝓛 (LendsIndexed T.row self.entry row_index col_index result) }
         ensures entry { IsEntryMutAt self.old row_index col_index result }
+        ensures sound { IsSound self.old }
     {
+        self.show_sound();
         self.cs.index_entry_mut(row_index, col_index)
     }
 
@@ -136,7 +142,9 @@ impl<T> CsrMatrix<T> {
     fn find_mut(&mut self, row: usize, col: usize) -> Found<'_, T>
         ensures* writes_back { sem 𝓛 (LendsFound T.row self.entry row col result) }
         ensures found { IsFoundAt self.old row col result }
+        ensures sound { IsSound self.old }
     {
+        self.show_sound();
         self.cs.find_mut(row, col)
     }
 }

@@ -30,8 +30,9 @@ use denote.Triple.Clauses.{Lasts, lasts}
 use denote.Triple.Entry.{alive, on_entry}
 use denote.Triple.Spec.{triple_of}
 use denote.Triple.Table.{framed}
-use denote.Triple.Walked.{Stays, walk_of, says, stay_dropped, Goes-dropped, Goes-spent_ref, ends_at}
+use denote.Triple.Walked.{Stays, walk_of, stay_dropped, Goes-dropped, Goes-spent_ref, ends_at}
 use Rattle.std.proofs.raw_atomic.Walks.{proved}
+use Rattle.std.proofs.mem.Facts.{says_two}
 use Rattle.std.proofs.option.Option.TheLaws.{the_row_laws as option_laws}
 use Rattle.sparse_pattern.proofs.entry.Found.TheLaws.{the_row_laws as found_laws}
 use Rattle.sparse_pattern.proofs.entry.SparseEntryMut.TheLaws.{the_row_laws as entry_laws}
@@ -40,6 +41,7 @@ use Rattle.sparse_pattern.specs.contracts.entry.Found.{the_row as found_row}
 use Rattle.sparse_pattern.specs.contracts.entry.SparseEntryMut.{the_row as entry_row}
 use Rattle.sparse_forms.specs.contracts.csc.CscMatrix.{the_row as matrix_row}
 use Rattle.sparse_pattern.specs.SparseEntries.{entry_of_found, entry_name, found_name}
+use Rattle.sparse_cs.specs.Compressed.{IsSound}
 use Rattle.sparse_cs.specs.Writing.{IsFoundAt, IsEntryMutOf, with_value}
 use Rattle.sparse_cs.proofs.FoundEntries.{name_is, entry_is, with_fact}
 use Rattle.sparse_forms.specs.contracts.csc.CscMatrix.get_entry_mut as f
@@ -94,11 +96,12 @@ get_entry_mut_spec 𝓤 𝓛 𝓜 𝓡 wired T L =
     use1 𝓛 (later
     (some (λ (r : Got.Denot). (toks ⊛ ‵ (Got.own_val r (v ∷ []))) ⊛ some
     (λ (ws : Unit {0} × (Unit {0} × (Unit {0} × Unit {0}))). ‵ (lasts (g.ended T) κs a ws) ⊛
-    (‵ (Lent (found_name r)) ⊛ raw (fact 𝓤 (IsFoundAt a.0.now j i r))))))) (id⊢ 𝓤 _) $
+    (‵ (Lent (found_name r)) ⊛ (raw (fact 𝓤 (IsFoundAt a.0.now j i r)) ⊛ raw
+    (fact 𝓤 (IsSound a.0.now)))))))) (id⊢ 𝓤 _) $
     await ! tt $ pick ! (λ r. split ! $ split ! $ move ! (1 ∷ []) $ peeks ! Got (Is Got)
     (shows 𝓛 Got) r (v ∷ []) (λ is-got.
-    move ! (2 ∷ []) $ pick ! (λ ws. split ! $ drop ! $ split ! $ move ! (1 ∷ []) $ heard ! _
-    (λ found.
+    move ! (2 ∷ []) $ pick ! (λ ws. split ! $ drop ! $ split ! $ move ! (1 ∷ []) $ split ! $ heard
+    ! _ (λ found. heard ! _ (λ sound.
     -- [what the matrix follows; what was found; the tokens]
     lands_as ! refl refl
     (((found_laws (named_lft 2 0 tt κs) (param 0 T) (param_laws 0 T L)).lawful 𝓛).typed r (v ∷ [])
@@ -127,6 +130,7 @@ get_entry_mut_spec 𝓤 𝓛 𝓜 𝓡 wired T L =
     (tt, (tt, (tt, tt)))) $
     nothing ! $ nothing ! $ fjoin ! $ nothing ! $ fjoin ! $ nothing ! $ fjoin ! $ join ! $ move !
     (1 ∷ 0 ∷ []) $ join ! $ frame ! $
-    says ! (subst (λ o. IsEntryMutOf a.0.now j i o) (sym same) (entry_is a.0.now j i r found)) $
+    says_two !
+    (subst (λ o. IsEntryMutOf a.0.now j i o) (sym same) (entry_is a.0.now j i r found), sound) $
     rewrite ! 0 (λ (m : maybe.Option GName). ‵ (Lent m)) (name_is r ∙ ap entry_name (sym same)) refl
-    $ done !)))))))))))))
+    $ done !))))))))))))))

@@ -44,7 +44,7 @@ use denote.Triple.Table.{framed}
 use denote.Triple.Walked.{Stays, walk_of, stay_dropped, Goes-dropped, Goes-spent_ref, ends_at}
 use Rattle.std.proofs.raw_atomic.Walks.{proved}
 use Rattle.std.proofs.VecSteps.Shapes.{after, head, arm_body}
-use Rattle.std.proofs.mem.Facts.{says_two}
+use Rattle.std.proofs.mem.Facts.{says_three}
 use Rattle.std.proofs.option.Option.TheLaws.{the_row_laws as option_laws}
 use Rattle.std.specs.Prelude.{Option, Some, None, IsSome, IfSome}
 use Rattle.std.specs.Option.{ghost_name_of}
@@ -99,12 +99,12 @@ get_row_mut_spec 𝓤 𝓛 𝓜 𝓡 wired T L =
     let In = i < s.now.pattern.major_dim in
     -- from [the row, if there is one; the tokens; what the matrix follows]
     let leaves : (r : Out.Denot) (v : Val) → IsSome r ↔ In
-    → IfSome r (λ row. lent_row row ≡ lane_at s.now i)
+    → IfSome r (λ row. lent_row row ≡ lane_at s.now i) → IsSound s.now
     → Sq 𝓛 (‵ (Out.own_val r (v ∷ [])) ∷ toks ∷ ‵ (Lent (row_name r)) ∷ []) (prop (W.post y v)) =
-    λ r v inside is-lane.
+    λ r v inside is-lane sound.
     suffices ! _ (ends_at 𝓛 (f.ended T) (stayed T) c y v r (tt, (tt, tt)) (tt, (tt, tt))) $
     nothing ! $ nothing ! $ fjoin ! $ nothing ! $ fjoin ! $ join ! $ move ! (1 ∷ 0 ∷ []) $ join ! $
-    frame ! $ says_two ! (inside, is-lane) $ done ! in
+    frame ! $ says_three ! (inside, is-lane, sound) $ done ! in
     let G = triple_of 𝓛 (g.signature T) (g.spec T 𝓛 𝓜.mem 𝓡.returns) in
     let z : G.Ghost = ((κs, qs, bounds, a, vss), tt) in
     qed 𝓛 (raw (on_entry 𝓛 (f.signature T) κs qs a vss) ∷ (raw (fact 𝓤 within) ⊛ raw (emp 𝓤)) ∷ [])
@@ -124,11 +124,11 @@ get_row_mut_spec 𝓤 𝓛 𝓜 𝓡 wired T L =
     use1 𝓛 (later
     (some (λ (q : Got.Denot). (toks ⊛ ‵ (Got.own_val q (v ∷ []))) ⊛ some
     (λ (ws : Unit {0} × (Unit {0} × Unit {0})). ‵ (lasts (g.ended T) κs a ws) ⊛
-    (‵ (Whole q) ⊛ (raw (fact 𝓤 (IsSome q ↔ In)) ⊛ raw
-    (fact 𝓤 (IfSome q (λ m. m.now ≡ s.now))))))))) (id⊢ 𝓤 _) $
+    (‵ (Whole q) ⊛ (raw (fact 𝓤 (IsSome q ↔ In)) ⊛ (raw
+    (fact 𝓤 (IfSome q (λ m. m.now ≡ s.now))) ⊛ raw (fact 𝓤 (IsSound s.now))))))))) (id⊢ 𝓤 _) $
     await ! tt $ pick ! (λ q. split ! $ split ! $ move ! (2 ∷ []) $ pick !
     (λ ws. split ! $ drop ! $ split ! $ move ! (1 ∷ []) $ split ! $ heard ! _
-    (λ inside. heard ! _ (λ same.
+    (λ inside. split ! $ heard ! _ (λ same. heard ! _ (λ sound.
     -- [what the matrix follows; the tokens; the matrix, if it is borrowed]
     move ! (2 ∷ []) $ lent_cases ! (named 0) κs.0 S v q
     (λ m is-some is-val.
@@ -178,7 +178,7 @@ get_row_mut_spec 𝓤 𝓛 𝓜 𝓡 wired T L =
     typed $
     returns ! (look_at ! 0 refl) $ free_all ! refl $ move ! (0 ∷ 2 ∷ []) $
     leaves (Some w) (some_val u) ((λ _. below), λ _. refl)
-    (subst (λ (d : S.Denot). lent_row w ≡ lane_at d i) same-now lane))))))))
+    (subst (λ (d : S.Denot). lent_row w ≡ lane_at d i) same-now lane) sound)))))))
     (λ is-none is-val.
     lands_as ! is-val refl (tt, (record { fits = lit< tt }, tt)) $
     first ! $ switches_on ! (get_tag ! (vrt ! refl (fld ! refl (stop !))) (whole !)) $ exec ! 𝓣.C
@@ -193,4 +193,4 @@ get_row_mut_spec 𝓤 𝓛 𝓜 𝓡 wired T L =
     (with_lane s.now i)) $
     use0 𝓛 (‵ (Out.own_val None (none_val ∷ []))) (none_in 𝓛 Row) $ move ! (0 ∷ 2 ∷ []) $
     leaves None none_val (subst (λ (o : Option (MutBor S.Denot)). IsSome o ↔ In) is-none inside)
-    tt)))))))))
+    tt sound))))))))))
