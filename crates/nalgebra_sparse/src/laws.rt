@@ -20,10 +20,16 @@ pub mod texts {
     pub use sparse_io::{each_text_means, one_document, one_meaning, round_trip};
 }
 
+/// Wrapping integers of 32, 64 and 128 bits show whole numbers wherever these fit.
+pub mod wrapping {
+    pub use sparse_algebra::laws::whole::{
+        read_back_law, whole_entry_law, wrapped_matrix_law, wrapping_law,
+    };
+    pub use sparse_units::laws::{wide_read_back_law, wide_triplets_law};
+}
+
 /// The algebra of plain matrices.
 pub use sparse_algebra::laws as plain;
-/// Wrapping integers show whole numbers wherever these fit.
-pub use sparse_algebra::laws::whole as wrapping;
 /// Compressed matrices: `==`, places, transposes, kept places, row order.
 pub use sparse_cs::laws as compressed;
 /// Data structs: what is copied out is taken back as an equal value.

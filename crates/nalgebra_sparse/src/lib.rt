@@ -3,6 +3,7 @@
 //! The crates below this one hold the code. This one gives each module its public path.
 #![tactic(auto)]
 
+pub mod io;
 pub mod laws;
 pub mod ops;
 pub mod scalar;
@@ -16,7 +17,6 @@ pub use sparse_factor::factorization;
 pub use sparse_forms::csc::CscMatrix;
 pub use sparse_forms::csr::CsrMatrix;
 pub use sparse_forms::{csc, csr};
-pub use sparse_io as io;
 pub use sparse_ldl::ldl;
 pub use sparse_pattern::entry::{SparseEntry, SparseEntryMut};
 pub use sparse_pattern::error::{SparseFormatError, SparseFormatErrorKind};
