@@ -20,8 +20,8 @@ pub trait Zero: PartialEq {
 
 /// A commutative ring.
 ///
-/// Each value of the type represents an element of the mathematical ring `ring`, given by `value`. Two values are `==` if and only if they
-/// represent the same element.
+/// Each value of the type represents an element of the mathematical ring `ring`, given by `value`. Two values are `==`
+/// if and only if they represent the same element.
 ///
 /// # Examples
 ///

@@ -11,11 +11,12 @@ use sparse_pattern::pattern::SparsityPattern;
 use std::alloc::{AllocError, Global};
 
 impl<T: Copy> CsMatrix<T> {
-    /// Returns a matrix of the same shape with the stored places (lane, index) for which `predicate` returns `true`, and their values.
+    /// Returns a matrix of the same shape with the stored places (lane, index) for which `predicate` returns `true`,
+    /// and their values.
     ///
-    /// The predicate is called once for each stored place, including those whose value is zero, lane by lane, indices increasing. It must
-    /// be callable with any arguments. Linear in lanes and places; the memory is proportional to the lanes and the places kept. Fails only
-    /// if an allocation fails.
+    /// The predicate is called once for each stored place, including those whose value is zero, lane by lane, indices
+    /// increasing. It must be callable with any arguments. Linear in lanes and places; the memory is proportional to
+    /// the lanes and the places kept. Fails only if an allocation fails.
     pub fn filter<P>(&self, alloc: Global, predicate: P) -> Result<Self, AllocError>
     where
         P: Fn(usize, usize, &T) -> bool,

@@ -122,8 +122,8 @@ impl<'a, T> Model for CsLane<'a, T> {
 }
 
 impl<'a, T> CsLane<'a, T> {
-    /// Returns the lane with these indices and values. There must be one value for each index, and each index must be less than
-    /// `minor_dim`.
+    /// Returns the lane with these indices and values. There must be one value for each index, and each index must be
+    /// less than `minor_dim`.
     pub fn new(minor_dim: usize, minor_indices: LaneIndices<'a>, values: &'a [T]) -> Self
         requires { IsSoundLane (lane_parts minor_dim minor_indices values.now) }
         ensures { result ≡ lane_parts minor_dim minor_indices.entry values.now }

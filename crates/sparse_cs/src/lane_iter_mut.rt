@@ -51,7 +51,8 @@ impl<T> CsMatrix<T> {
     }
 }
 
-/// An iterator over the lanes of a [`CsMatrix`], including those without stored places, that borrows their values mutably.
+/// An iterator over the lanes of a [`CsMatrix`], including those without stored places, that borrows their values
+/// mutably.
 #[derive(Drop)]
 pub struct CsLaneIterMut<'a, T> {
     pattern: &'a SparsityPattern,

@@ -37,14 +37,16 @@ pub fn stands_law<T: Ring>()
         → HasLanesAsCols T.ring T.value m a → plain_of_cols T.ring T.value m ≡ a }
 {}
 
-/// The triplets of a matrix by rows are the places of its plain matrix with their values, row by row, columns increasing.
+/// The triplets of a matrix by rows are the places of its plain matrix with their values, row by row, columns
+/// increasing.
 pub fn row_order_law<T: Ring>()
     ensures { (m : Compressed T)
         → IsSound m → meant T.ring T.value (lane_triplets m)
         ≡ row_order T.ring (plain_of_rows T.ring T.value m) }
 {}
 
-/// The triplets of a matrix by columns are the places of its plain matrix with their values, column by column, rows increasing.
+/// The triplets of a matrix by columns are the places of its plain matrix with their values, column by column, rows
+/// increasing.
 pub fn col_order_law<T: Ring>()
     ensures { (m : Compressed T)
         → IsSound m → meant T.ring T.value (map turned (lane_triplets m))

@@ -30,7 +30,8 @@ use std::marker::Model;
 pub use triplet_iter_mut::CsTripletIterMut;
 pub use triplets::CsTripletValues;
 
-/// A sparsity pattern with a value for each of its places. The lanes are the rows of a CSR matrix or the columns of a CSC matrix.
+/// A sparsity pattern with a value for each of its places. The lanes are the rows of a CSR matrix or the columns of a
+/// CSC matrix.
 #[derive(Debug, Drop)]
 pub struct CsMatrix<T> {
     sparsity_pattern: SparsityPattern,

@@ -30,7 +30,8 @@ impl SortedFault {
 }
 
 impl<T: Drop> CsMatrix<T> {
-    /// Returns the matrix of arrays whose lanes are sorted, or their first fault: first those of the pattern, then the number of values.
+    /// Returns the matrix of arrays whose lanes are sorted, or their first fault: first those of the pattern, then the
+    /// number of values.
     ///
     /// Linear in lanes and indices. Allocates nothing. Invalid arrays are dropped.
     pub fn try_from_sorted_arrays(
@@ -62,8 +63,8 @@ impl<T: Drop> CsMatrix<T> {
         }
     }
 
-    /// Returns the matrix of a pattern and its values, or `ValueCount` if the number of values is not the number of places. Allocates
-    /// nothing.
+    /// Returns the matrix of a pattern and its values, or `ValueCount` if the number of values is not the number of
+    /// places. Allocates nothing.
     pub fn try_from_pattern_and_values(
         pattern: SparsityPattern,
         values: Vec<T>,

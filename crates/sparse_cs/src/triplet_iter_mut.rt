@@ -12,7 +12,8 @@ use sparse_pattern::pattern::SparsityPatternIter;
 use std::mem;
 
 impl<T> CsMatrix<T> {
-    /// Returns an iterator over the triplets (lane, index, value), lane by lane, indices increasing, that borrows each value mutably.
+    /// Returns an iterator over the triplets (lane, index, value), lane by lane, indices increasing, that borrows each
+    /// value mutably.
     pub fn triplet_iter_mut(&mut self) -> CsTripletIterMut<'_, T>
         ensures* writes_back { sem 𝓛 (LendsValues T.row self.entry (triplet_values result)) }
         ensures all { triplets_left result ≡ lane_triplets self.old }

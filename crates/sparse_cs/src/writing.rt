@@ -61,7 +61,8 @@ impl<T> CsMatrix<T> {
         }
     }
 
-    /// Returns the value at a pair of indices, borrowed mutably, or the reason why there is none. Binary search in the lane.
+    /// Returns the value at a pair of indices, borrowed mutably, or the reason why there is none. Binary search in the
+    /// lane.
     pub fn find_mut(&mut self, major_index: usize, minor_index: usize) -> Found<'_, T>
         ensures* writes_back { sem 𝓛 (LendsFound T.row self.entry major_index minor_index result) }
         ensures found { IsFoundAt self.old major_index minor_index result }

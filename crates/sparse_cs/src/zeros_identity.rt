@@ -12,7 +12,8 @@ use sparse_pattern::pattern::SparsityPattern;
 use std::alloc::{AllocError, Global};
 
 impl<T> CsMatrix<T> {
-    /// Returns a matrix without stored places. Allocates `major_dim + 1` offsets, and fails only if that allocation fails.
+    /// Returns a matrix without stored places. Allocates `major_dim + 1` offsets, and fails only if that allocation
+    /// fails.
     pub fn zeros(alloc: Global, major_dim: usize, minor_dim: usize) -> Result<Self, AllocError>
         ensures is { IfOk result (λ m. m ≡ compressed_of (empty_raw major_dim minor_dim) []) }
         ensures sound { IfOk result IsSound }
@@ -23,8 +24,8 @@ impl<T> CsMatrix<T> {
 }
 
 impl<T: Ring> CsMatrix<T> {
-    /// Returns the identity matrix of order `n`, with `n` stored ones, even in a ring where one equals zero. Fails only if an allocation
-    /// fails.
+    /// Returns the identity matrix of order `n`, with `n` stored ones, even in a ring where one equals zero. Fails only
+    /// if an allocation fails.
     pub fn identity(alloc: Global, n: usize) -> Result<Self, AllocError>
         ensures plain { IfOk result
             (λ m. plain_of_rows T.ring T.value m ≡ plain_identity T.ring n) }

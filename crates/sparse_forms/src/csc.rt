@@ -107,7 +107,8 @@ impl<T> CscMatrix<T> {
         self.into_cs().into_pattern_and_values()
     }
 
-    /// Returns the transpose in CSR form, and consumes the matrix. The arrays are reused: constant time, and nothing is allocated.
+    /// Returns the transpose in CSR form, and consumes the matrix. The arrays are reused: constant time, and nothing is
+    /// allocated.
     ///
     /// # Examples
     ///

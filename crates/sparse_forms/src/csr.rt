@@ -107,7 +107,8 @@ impl<T> CsrMatrix<T> {
         self.into_cs().into_pattern_and_values()
     }
 
-    /// Returns the transpose in CSC form, and consumes the matrix. The arrays are reused: constant time, and nothing is allocated.
+    /// Returns the transpose in CSC form, and consumes the matrix. The arrays are reused: constant time, and nothing is
+    /// allocated.
     pub fn transpose_as_csc(self) -> CscMatrix<T>
         ensures { result ≡ self }
     {

@@ -155,7 +155,8 @@ impl<'a, T> CscColMut<'a, T> {
     }
 }
 
-/// An iterator over the columns of a CSC matrix, including those without stored places, that borrows their values mutably.
+/// An iterator over the columns of a CSC matrix, including those without stored places, that borrows their values
+/// mutably.
 #[derive(Drop)]
 pub struct CscColIterMut<'a, T> {
     lanes: CsLaneIterMut<'a, T>,

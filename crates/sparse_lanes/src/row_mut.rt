@@ -117,7 +117,8 @@ impl<'a, T> CsrRowMut<'a, T> {
         (cols, self.values_mut())
     }
 
-    /// Returns the entry at a column, borrowed mutably, or `None` if `global_col_index` is out of bounds. Binary search.
+    /// Returns the entry at a column, borrowed mutably, or `None` if `global_col_index` is out of bounds. Binary
+    /// search.
     pub fn get_entry_mut(&mut self, global_col_index: usize) -> Option<SparseEntryMut<'_, T>>
         ensures* writes_back { sem 𝓛 (LendsRowEntry T.row self.entry global_col_index result) }
         ensures entry { IsLaneEntryMutOf (lent_row self.old) global_col_index result }

@@ -16,10 +16,11 @@ mod transpose;
 pub use faults::{SparsityPatternFormatError, one_first_fault};
 pub use iter::SparsityPatternIter;
 
-/// The stored places of a compressed matrix, lane by lane. The lanes are the rows of a CSR matrix or the columns of a CSC matrix.
+/// The stored places of a compressed matrix, lane by lane. The lanes are the rows of a CSR matrix or the columns of a
+/// CSC matrix.
 ///
-/// The offsets start with 0, never decrease, and end with the number of indices. The minor indices of each lane are strictly increasing and
-/// less than `minor_dim`.
+/// The offsets start with 0, never decrease, and end with the number of indices. The minor indices of each lane are
+/// strictly increasing and less than `minor_dim`.
 ///
 /// # Examples
 ///
@@ -73,8 +74,9 @@ impl SparsityPattern {
     ///
     /// # Errors
     ///
-    /// Returns the first fault in this order: the number of offsets; the first and the last offset; then for each lane its end offset and
-    /// its indices, each compared first with `minor_dim` and then with the index before it. The arrays are dropped.
+    /// Returns the first fault in this order: the number of offsets; the first and the last offset; then for each lane
+    /// its end offset and its indices, each compared first with `minor_dim` and then with the index before it. The
+    /// arrays are dropped.
     ///
     /// # Examples
     ///
@@ -183,7 +185,8 @@ impl SparsityPattern {
 
     /// Returns the pattern described by the offsets and the indices, without checking them.
     ///
-    /// The data must be valid, as [`SparsityPattern::try_from_offsets_and_indices`] requires; the contract demands a proof of it.
+    /// The data must be valid, as [`SparsityPattern::try_from_offsets_and_indices`] requires; the contract demands a
+    /// proof of it.
     pub fn from_offset_and_indices_unchecked(
         major_dim: usize,
         minor_dim: usize,

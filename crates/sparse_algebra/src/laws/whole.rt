@@ -19,7 +19,8 @@ pub fn wrapping_law()
     ensures { (w : Width) → IsRingMap whole_ring (wrapping_ring w) (wrapped w) }
 {}
 
-/// An integer within the signed range equals the representative of its class, and each class contains its representative.
+/// An integer within the signed range equals the representative of its class, and each class contains its
+/// representative.
 ///
 /// `get` returns this representative.
 pub fn read_back_law()
@@ -31,7 +32,8 @@ pub fn read_back_law()
 
 /// Each operation on wrapped matrices equals the same operation on integer matrices, reduced afterwards.
 ///
-/// So any matrix computed with these operations is the integer result reduced, whatever the size of the intermediate values.
+/// So any matrix computed with these operations is the integer result reduced, whatever the size of the intermediate
+/// values.
 pub fn wrapped_matrix_law()
     ensures w32_triplets { (rows cols : ℕ) (ts : List (ℕ × ℕ × W32))
         → plain_wrapped w32 (plain_of_triplets whole_ring w32_number rows cols ts)
@@ -64,9 +66,11 @@ pub fn wrapped_matrix_law()
         ≡ plain_kept (wrapping_ring w) test (plain_wrapped w a) }
 {}
 
-/// If an entry of the integer result fits the signed range, the wrapping result has exactly that entry, even if partial sums overflow.
+/// If an entry of the integer result fits the signed range, the wrapping result has exactly that entry, even if partial
+/// sums overflow.
 ///
-/// The integer entry of a product is the sum of products; that of a list of triplets is the sum over the triplets at that pair.
+/// The integer entry of a product is the sum of products; that of a list of triplets is the sum over the triplets at
+/// that pair.
 pub fn whole_entry_law()
     ensures w32_triplets { (rows cols : ℕ) (ts : List (ℕ × ℕ × W32))
         → Shows w32 (plain_of_triplets (wrapping_ring w32)

@@ -23,8 +23,8 @@ impl<T: Drop> CscMatrix<T> {
     /// # Errors
     ///
     /// Returns the first fault: that of the offsets and indices, in the order of
-    /// [`SparsityPattern::try_from_offsets_and_indices`](sparse_pattern::pattern::SparsityPattern::try_from_offsets_and_indices), and then
-    /// the number of values. The arrays are dropped.
+    /// [`SparsityPattern::try_from_offsets_and_indices`](sparse_pattern::pattern::SparsityPattern::try_from_offsets_and_indices),
+    /// and then the number of values. The arrays are dropped.
     pub fn try_from_csc_data(
         nrows: usize,
         ncols: usize,
@@ -50,8 +50,8 @@ impl<T: Drop> CscMatrix<T> {
 
     /// Returns the matrix of a pattern, whose lanes are the columns, and its values.
     ///
-    /// Returns `InvalidStructure` if the number of values is not the number of places; pattern and values are then dropped. Allocates
-    /// nothing.
+    /// Returns `InvalidStructure` if the number of values is not the number of places; pattern and values are then
+    /// dropped. Allocates nothing.
     pub fn try_from_pattern_and_values(
         pattern: SparsityPattern,
         values: Vec<T>,
@@ -98,8 +98,8 @@ fn error_of(fault: SortedFault) -> SparseFormatError
 }
 
 impl<T: Ring> CscMatrix<T> {
-    /// Returns the identity matrix of order `n`, with `n` stored ones, even in a ring where one equals zero. Fails only if an allocation
-    /// fails.
+    /// Returns the identity matrix of order `n`, with `n` stored ones, even in a ring where one equals zero. Fails only
+    /// if an allocation fails.
     pub fn identity(alloc: Global, n: usize) -> Result<Self, AllocError>
         ensures plain { IfOk result
             (λ m. plain_of_cols T.ring T.value m ≡ plain_identity T.ring n) }
@@ -118,10 +118,10 @@ impl<T: Copy> CscMatrix<T> {
     ///
     /// # Errors
     ///
-    /// Returns the first fault in this order: the number of values is not the number of row indices; there is no offset; the number of
-    /// offsets; the first and the last offset; then for each column an end before its start, an end past the row indices, a row out of
-    /// bounds, a row that occurs twice. The arrays are dropped. `OutOfMemory` is returned if an allocation fails, possibly before a later
-    /// fault is found.
+    /// Returns the first fault in this order: the number of values is not the number of row indices; there is no
+    /// offset; the number of offsets; the first and the last offset; then for each column an end before its start, an
+    /// end past the row indices, a row out of bounds, a row that occurs twice. The arrays are dropped. `OutOfMemory` is
+    /// returned if an allocation fails, possibly before a later fault is found.
     ///
     /// # Examples
     ///

@@ -86,7 +86,8 @@ impl<T> CscMatrix<T> {
         self.cs.pattern_and_values_mut()
     }
 
-    /// Returns the entry at a row and a column, borrowed mutably, or `None` if one is out of bounds. Binary search in the column.
+    /// Returns the entry at a row and a column, borrowed mutably, or `None` if one is out of bounds. Binary search in
+    /// the column.
     pub fn get_entry_mut(
         &mut self,
         row_index: usize,
@@ -99,7 +100,8 @@ impl<T> CscMatrix<T> {
         into_entry(self.find_mut(row_index, col_index))
     }
 
-    /// Returns the entry at a row and a column, borrowed mutably. Both must be within bounds. Binary search in the column.
+    /// Returns the entry at a row and a column, borrowed mutably. Both must be within bounds. Binary search in the
+    /// column.
     pub fn index_entry_mut(&mut self, row_index: usize, col_index: usize) -> SparseEntryMut<'_, T>
         requires { IsInBounds self.old.pattern col_index row_index }
         ensures* writes_back { sem 𝓛 (LendsIndexed T.row self.entry col_index row_index result) }
@@ -120,7 +122,8 @@ impl<T> CscMatrix<T> {
         self.cs.cs_data_mut()
     }
 
-    /// Returns an iterator over the triplets (row, column, value) that borrows each value mutably, column by column, rows increasing.
+    /// Returns an iterator over the triplets (row, column, value) that borrows each value mutably, column by column,
+    /// rows increasing.
     pub fn triplet_iter_mut(&mut self) -> CscTripletIterMut<'_, T>
         ensures* writes_back { sem 𝓛 (LendsValues T.row self.entry (csc_triplet_values result)) }
         ensures all { csc_triplets_left result ≡ map turned (lane_triplets self.old) }

@@ -23,8 +23,8 @@ impl<T: Drop> CsrMatrix<T> {
     /// # Errors
     ///
     /// Returns the first fault: that of the offsets and indices, in the order of
-    /// [`SparsityPattern::try_from_offsets_and_indices`](sparse_pattern::pattern::SparsityPattern::try_from_offsets_and_indices), and then
-    /// the number of values. The arrays are dropped.
+    /// [`SparsityPattern::try_from_offsets_and_indices`](sparse_pattern::pattern::SparsityPattern::try_from_offsets_and_indices),
+    /// and then the number of values. The arrays are dropped.
     ///
     /// # Examples
     ///
@@ -63,8 +63,8 @@ impl<T: Drop> CsrMatrix<T> {
 
     /// Returns the matrix of a pattern, whose lanes are the rows, and its values.
     ///
-    /// Returns `InvalidStructure` if the number of values is not the number of places; pattern and values are then dropped. Allocates
-    /// nothing.
+    /// Returns `InvalidStructure` if the number of values is not the number of places; pattern and values are then
+    /// dropped. Allocates nothing.
     pub fn try_from_pattern_and_values(
         pattern: SparsityPattern,
         values: Vec<T>,
@@ -111,8 +111,8 @@ fn error_of(fault: SortedFault) -> SparseFormatError
 }
 
 impl<T: Ring> CsrMatrix<T> {
-    /// Returns the identity matrix of order `n`, with `n` stored ones, even in a ring where one equals zero. Fails only if an allocation
-    /// fails.
+    /// Returns the identity matrix of order `n`, with `n` stored ones, even in a ring where one equals zero. Fails only
+    /// if an allocation fails.
     ///
     /// # Examples
     ///
@@ -140,10 +140,10 @@ impl<T: Copy> CsrMatrix<T> {
     ///
     /// # Errors
     ///
-    /// Returns the first fault in this order: the number of values is not the number of column indices; there is no offset; the number of
-    /// offsets; the first and the last offset; then for each row an end before its start, an end past the column indices, a column out of
-    /// bounds, a column that occurs twice. The arrays are dropped. `OutOfMemory` is returned if an allocation fails, possibly before a
-    /// later fault is found.
+    /// Returns the first fault in this order: the number of values is not the number of column indices; there is no
+    /// offset; the number of offsets; the first and the last offset; then for each row an end before its start, an end
+    /// past the column indices, a column out of bounds, a column that occurs twice. The arrays are dropped.
+    /// `OutOfMemory` is returned if an allocation fails, possibly before a later fault is found.
     ///
     /// # Examples
     ///

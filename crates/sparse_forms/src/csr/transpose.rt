@@ -8,10 +8,11 @@ use super::CsrMatrix;
 use std::alloc::{AllocError, Global};
 
 impl<T: Copy> CsrMatrix<T> {
-    /// Returns the transpose in CSR form: its value at (j, i) is the value of this matrix at (i, j). Stored zeros stay stored.
+    /// Returns the transpose in CSR form: its value at (j, i) is the value of this matrix at (i, j). Stored zeros stay
+    /// stored.
     ///
-    /// A counting sort: linear in the number of places, rows and columns. Beside the result it allocates one counter for each row of the
-    /// result. Fails only if an allocation fails.
+    /// A counting sort: linear in the number of places, rows and columns. Beside the result it allocates one counter
+    /// for each row of the result. Fails only if an allocation fails.
     ///
     /// # Examples
     ///

@@ -74,7 +74,8 @@ impl<T> CsrMatrix<T> {
         self.cs.pattern_and_values_mut()
     }
 
-    /// Returns the entry at a row and a column, borrowed mutably, or `None` if one is out of bounds. Binary search in the row.
+    /// Returns the entry at a row and a column, borrowed mutably, or `None` if one is out of bounds. Binary search in
+    /// the row.
     pub fn get_entry_mut(
         &mut self,
         row_index: usize,
@@ -108,7 +109,8 @@ impl<T> CsrMatrix<T> {
         self.cs.cs_data_mut()
     }
 
-    /// Returns an iterator over the triplets (row, column, value) that borrows each value mutably, row by row, columns increasing.
+    /// Returns an iterator over the triplets (row, column, value) that borrows each value mutably, row by row, columns
+    /// increasing.
     ///
     /// # Examples
     ///
