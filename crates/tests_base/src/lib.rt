@@ -6,6 +6,8 @@ mod counting;
 #[cfg(test)]
 mod dense;
 #[cfg(test)]
+mod drops;
+#[cfg(test)]
 mod integers;
 #[cfg(test)]
 mod patterns;
