@@ -266,6 +266,8 @@ fn refuses_too_many_lanes(alloc: Global) -> bool {
     CsrMatrix::<i32>::zeros(alloc, usize::MAX, 0).is_err()
         && CscMatrix::<i32>::zeros(alloc, 0, usize::MAX).is_err()
         && CsrMatrix::<W64>::identity(alloc, usize::MAX).is_err()
+        && CsrMatrix::<W64>::identity(alloc, 1 << 63).is_err()
+        && CscMatrix::<W64>::identity(alloc, 1 << 63).is_err()
 }
 
 #[test]

@@ -165,6 +165,16 @@ const UNSORTED: &[UnsortedRefusal] = &[
         "A major offset is out of bounds.",
     ),
     (
+        (3, 4, &[0, 1, 3, 2], &[2, 0], &[7, 8]),
+        IndexOutOfBounds,
+        "A major offset is out of bounds.",
+    ),
+    (
+        (2, 4, &[0, usize::MAX, 1], &[0], &[7]),
+        IndexOutOfBounds,
+        "A major offset is out of bounds.",
+    ),
+    (
         (1, 4, &[0, 3], &[2, 2, 4], &[7, 8, 9]),
         IndexOutOfBounds,
         "A minor index is out of bounds.",

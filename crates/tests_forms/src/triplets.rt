@@ -1,6 +1,6 @@
 //! The triplets of a matrix in order, their copies, and copies of their values.
 
-use crate::fixtures::{Arrays, BY_COLUMNS, BY_ROWS, csc, csr};
+use crate::fixtures::{Arrays, BY_COLUMNS, BY_ROWS, csc, csr, wrapping_csc, wrapping_csr};
 use sparse_algebra::scalar::W64;
 use sparse_forms::csc::{CscMatrix, CscTripletIter, CscTripletValues};
 use sparse_forms::csr::{CsrMatrix, CsrTripletIter, CsrTripletValues};
@@ -175,4 +175,32 @@ fn are_in_order_by_columns(alloc: Global, case: &InOrder) -> bool {
 fn has_one_by_columns(matrix: CscMatrix<W64>) -> bool {
     let mut ones = matrix.triplet_iter().cloned_values();
     ones.next() == Some((0, 0, W64::new(1))) && ones.next().is_none()
+}
+
+// Whether the example over wrapping integers has its triplets by rows, the stored zero among them.
+fn has_wrapping_triplets_by_rows(matrix: CsrMatrix<W64>) -> bool {
+    let mut triplets = matrix.triplet_iter();
+    for &(row, col, value) in &[(0, 0, 1), (0, 2, 0), (1, 1, 4)] {
+        if triplets.next() != Some((row, col, &W64::new(value))) {
+            return false;
+        }
+    }
+    triplets.next().is_none()
+}
+
+// The same by columns.
+fn has_wrapping_triplets_by_columns(matrix: CscMatrix<W64>) -> bool {
+    let mut triplets = matrix.triplet_iter();
+    for &(row, col, value) in &[(0, 0, 1), (1, 1, 4), (0, 2, 0)] {
+        if triplets.next() != Some((row, col, &W64::new(value))) {
+            return false;
+        }
+    }
+    triplets.next().is_none()
+}
+
+#[test]
+fn triplets_over_wrapping_integers(rt: HostRuntime) {
+    assert!(rt; wrapping_csr(rt.alloc()).is_ok_and(has_wrapping_triplets_by_rows));
+    assert!(rt; wrapping_csc(rt.alloc()).is_ok_and(has_wrapping_triplets_by_columns));
 }
