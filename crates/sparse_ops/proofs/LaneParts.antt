@@ -2,8 +2,8 @@
 use Rattle.std.proofs.Common.{◌≡◌, ℕ, ◌+◌, ◌-◌, ◌<◌, ◌≤◌, ◌⊎◌, inl, inr, List, [], ◌++◌, length}
 use Rattle.std.proofs.Common.{take, drop, get_or, ap, ◌∙◌, arith}
 use Rattle.std.proofs.lemmas.List.{get_or_append_left, get_or-append_right, get_or-take}
-use Rattle.std.proofs.lemmas.List.{get_or-drop, length-take-le, length-drop, take_all, drop_all}
-use Rattle.std.proofs.lemmas.List.{append-nil, take_at, get_or_past, get_or-replicate}
+use Rattle.std.proofs.lemmas.List.{get_or-drop, length-take-le, length-drop, take_all}
+use Rattle.std.proofs.lemmas.List.{drop_at, get_or_past, get_or-replicate}
 use Rattle.std.proofs.lemmas.List.{length-replicate}
 use Rattle.std.specs.Prelude.{replicate}
 use Rattle.sparse_lemmas.proofs.Cases.{lt_or_ge}
@@ -33,27 +33,11 @@ module _ {X : Type 0} (a k : ℕ) (xs ys : List X) (z : X) (inside : a + k ≤ l
         ∙ ap (λ q. get_or xs q z) e
   ]
 
--- what follows a known front
-pub length-tail : {X : Type 0} (xs : List X) (n : ℕ)
-    → length (take (length xs - n) (drop n xs)) ≡ length xs - n
-length-tail xs n = ap length (take_all (length xs - n) (drop n xs)
-    (omega (arith, length-drop n xs))) ∙ length-drop n xs
-
--- a tail is written
-pub tail_written : {X : Type 0} (xs old ys : List X) (n : ℕ) → take n xs ≡ old
-    → put_mid n (length xs - n) xs ys ≡ old ++ ys
-tail_written xs old ys n is =
-    let none : drop (length xs - n) (drop n xs) ≡ [] =
-    drop_all (length xs - n) (drop n xs) (omega (arith, length-drop n xs)) in
-    ap (λ l. l ++ (ys ++ drop (length xs - n) (drop n xs))) is
-    ∙ ap (λ l. old ++ (ys ++ l)) none ∙ ap (λ l. old ++ l) (append-nil ys)
-
--- a longer list, with copies of a value at its end, begins as before
-pub front_kept : {X : Type 0} (xs ys : List X) (n m k : ℕ) (v : X)
-    → ys ≡ take m xs ++ replicate k v → length xs ≡ n → n ≤ m → take n ys ≡ xs
-front_kept xs ys n m k v is at le =
-    ap (λ l. take n l) (is ∙ ap (λ l. l ++ replicate k v) (take_all m xs (omega arith)))
-    ∙ take_at xs (replicate k v) n at
+-- what a list has gained
+pub tail_is : {X : Type 0} (xs old lane : List X) (n : ℕ) → length old ≡ n → xs ≡ old ++ lane
+    → take (length xs - n) (drop n xs) ≡ lane
+tail_is xs old lane n at is = take_all (length xs - n) (drop n xs) (omega (arith, length-drop n xs))
+    ∙ ap (λ l. drop n l) is ∙ drop_at old lane n at
 
 -- copies of a value that means zero mean zero everywhere
 pub all_zero : {X Y : Type 0} (f : X → Y) (none : Y) (z v : X) → f z ≡ none → f v ≡ none

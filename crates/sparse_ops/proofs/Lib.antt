@@ -1,9 +1,6 @@
-pub mod MarkLemmas
-pub mod LaneMarks
-pub mod SortedMarks
 pub mod GainedLanes
 pub mod BitSets
-pub mod BitGroups
+pub mod BitReads
 pub mod ProductLanes
 pub mod ProductPlaces
 pub mod ProductRows
@@ -12,6 +9,8 @@ pub mod CoveredLanes
 pub mod SearchedEntries
 pub mod LaneParts
 pub mod UpdatedRows
+pub mod TakenRows
 pub mod Updating
 pub mod MadeProducts
+pub mod Refusals
 mod Transposing

@@ -1,10 +1,12 @@
 -- The pattern of a product, lane after lane.
-use Rattle.std.proofs.Common.{◌≡◌, ℕ, ◌+◌, ◌<◌, ◌↔◌, List, [], ◌∷◌, ◌++◌, length, get_or, All}
+use Rattle.std.proofs.Common.{◌≡◌, ℕ, ◌+◌, ◌<◌, ◌↔◌, ◌⊎◌, inl, inr, List, [], ◌∷◌, ◌++◌, length}
+use Rattle.std.proofs.Common.{take, get_or, All, Contains, subst, sym, refl}
 use Rattle.std.proofs.lemmas.List.Elements.{Contains-get_or}
 use Rattle.sparse_pattern.specs.Raw.{Raw, raw_of, lane_of, IsValid, IsPlace}
 use Rattle.sparse_pattern.specs.InnerGainedLanes.{GainsLane}
 use Rattle.sparse_pattern.proofs.BuiltLanes.{IsBuilt, lane_gained, all_built, place_within}
 use Rattle.sparse_pattern.proofs.LaneLists.{lane_has}
+use Rattle.sparse_sums.proofs.Merging.{more}
 use Rattle.sparse_ops.specs.Products.{IsProductOf}
 use Rattle.sparse_ops.specs.InnerProducts.{IsInLanes}
 use Rattle.sparse_ops.proofs.GainedLanes.{gains_same}
@@ -48,3 +50,22 @@ pub lane_below : (d : Raw) → IsValid d → (i : ℕ) → i < d.major_dim
 lane_below d valid i lt k z inside = place_within d valid i (get_or (lane_of d i) k z)
     ((lane_has d valid i (get_or (lane_of d i) k z) lt).0
     (Contains-get_or (lane_of d i) k z inside))
+
+-- what holds of the indices of the first p lanes, and then of those of one lane more
+pub in_lanes_more : (d : Raw) → IsValid d → (Old New : ℕ → Type 0) (lanes : List ℕ) (p k : ℕ)
+    → p < length lanes → k ≡ get_or lanes p 0 → k < d.major_dim
+    → ((j : ℕ) → New j ↔ (Old j ⊎ Contains (lane_of d k) j))
+    → ((j : ℕ) → Old j ↔ IsInLanes d (take p lanes) j) → (j : ℕ)
+    → New j ↔ IsInLanes d (take (p + 1) lanes) j
+in_lanes_more d valid Old New lanes p k lt is within adds before j =
+    let lane = lane_has d valid k j within in
+    let front = λ (l : ℕ). more lanes p k l lt is in (
+      λ h. elim ((adds j).0 h) [
+        | inl was ↦ let m = (before j).0 was in (m.0, (front m.0).1 (inl m.1), m.2)
+        | inr here ↦ (k, (front k).1 (inr refl), lane.0 here)
+      ],
+      λ h. (adds j).1 (elim ((front h.0).0 h.1) [
+        | inl was ↦ inl ((before j).1 (h.0, was, h.2))
+        | inr same ↦ inr (lane.1 (subst (λ l. IsPlace d l j) (sym same) h.2))
+      ]),
+    )

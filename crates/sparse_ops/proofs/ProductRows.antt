@@ -157,12 +157,12 @@ module _ (R : CommRing) {T : Type 0} (f : T → R.Carrier) (z : T) (stand : Rows
       → n < a.pattern.major_dim → Below n offsets indices values
       → GainsLane indices indices' (IsInLanes b.pattern (lane_of a.pattern n))
       → offsets' ≡ offsets ++ length indices' ∷ []
-      → GainsValues R f z values values' (drop (length values) indices') (P.value n)
+      → GainsValues R f z values values' (drop (length indices) indices') (P.value n)
       → Below (n + 1) offsets' indices' values'
   row_more n offsets offsets' indices indices' values values' lt built gains is more =
-      let lane : drop (length values) indices' ≡ gains.lane =
-      ap (λ l. drop (length values) l) gains.pushed
-      ∙ drop_at indices gains.lane (length values) (sym built.count) in
+      let lane : drop (length indices) indices' ≡ gains.lane =
+      ap (λ l. drop (length indices) l) gains.pushed
+      ∙ drop_at indices gains.lane (length indices) refl in
       let own = subst (λ l. GainsValues R f z values values' l (P.value n)) lane more in
       product_more n offsets offsets' indices indices' values values' own.part lt built gains is
       own.pushed own.count own.values

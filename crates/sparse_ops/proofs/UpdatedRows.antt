@@ -1,10 +1,8 @@
 -- The values of a pattern after one row more of a product is added to them.
-use Rattle.std.proofs.Common.{◌≡◌, ℕ, ◌+◌, ◌<◌, ◌≤◌, ◌⊎◌, inl, inr, List, length, get_or, ap, sym}
+use Rattle.std.proofs.Common.{◌≡◌, ℕ, ◌+◌, ◌<◌, ◌≤◌, inl, inr, List, get_or, ap, sym}
 use Rattle.std.proofs.Common.{subst, ◌∙◌, arith}
-use Rattle.std.proofs.lemmas.List.{get_or_past}
-use Rattle.sparse_lemmas.proofs.Cases.{lt_add_one_cases, lt_or_ge}
+use Rattle.sparse_lemmas.proofs.Cases.{lt_add_one_cases}
 use Rattle.sparse_algebra.specs.Algebra.{CommRing}
-use Rattle.sparse_algebra.proofs.RingLemmas.{mul_zero}
 use Rattle.sparse_pattern.specs.Raw.{Raw, start_of, IsInLane, IsValid}
 use Rattle.sparse_pattern.proofs.Positions.{one_lane}
 use Rattle.sparse_cs.specs.Compressed.{IsPosition}
@@ -38,19 +36,3 @@ module _ (R : CommRing) {T : Type 0} (f : T → R.Carrier) (z : T) (d : Raw) (va
       → (p : ℕ) → start_of d (n + 1) ≤ p → get_or new p z ≡ get_or start p z
   rest_more others rest p from = others p (λ here. omega (arith, here.to))
       ∙ rest p (omega (arith, (valid.lanes n lane).ordered))
-
--- what is left in the scratch row, which is zero but for the indices of a lane
-pub left_zero : (R : CommRing) {T : Type 0} (f : T → R.Carrier) (z : T) (P : ℕ → Type 0)
-    (alpha : R.Carrier) (x : ℕ → R.Carrier) (row left : List T)
-    → f z ≡ R.zero → ((j : ℕ) → (P j → ⊥) → x j ≡ R.zero)
-    → ((j : ℕ) → j < length row → f (get_or row j z) ≡ R.mul alpha (x j))
-    → ((j : ℕ) → (get_or left j z ≡ z) ⊎ (P j → ⊥))
-    → ((j : ℕ) → (P j → ⊥) → get_or left j z ≡ get_or row j z) → (j : ℕ)
-    → f (get_or left j z) ≡ R.zero
-left_zero R f z P alpha x row left zero elsewhere is_row cleared kept j = elim (cleared j) [
-  | inl is ↦ ap f is ∙ zero
-  | inr none ↦ ap f (kept j none) ∙ elim (lt_or_ge j (length row)) [
-    | inl lt ↦ is_row j lt ∙ ap (R.mul alpha) (elsewhere j none) ∙ mul_zero R alpha
-    | inr past ↦ ap f (get_or_past row j z past) ∙ zero
-  ]
-]

@@ -1,5 +1,5 @@
 -- What the passes over one lane of a product find.
-use Rattle.std.specs.Prelude.{◌≡◌, ℕ, ◌<◌, ◌++◌, List, length, slice_index, slice_index_or}
+use Rattle.std.specs.Prelude.{◌≡◌, ℕ, ◌<◌, ◌++◌, ◌⊎◌, List, length, slice_index, slice_index_or}
 use Rattle.std.specs.Prelude.{Contains}
 use Rattle.sparse_algebra.specs.Algebra.{CommRing}
 use Rattle.sparse_pattern.specs.Raw.{Raw, IsPlace}
@@ -16,3 +16,8 @@ pub record GainsValues (R : CommRing) {T : Type 0} (f : T → R.Carrier) (z : T)
   pub count : length part ≡ length lane
   pub values : (q : ℕ) → q < length lane
       → f (slice_index_or part q z) ≡ x (slice_index lane q)
+
+-- the new row has z at the lane's indices, and elsewhere what the old one has
+pub record IsTaken {T : Type 0} (z : T) (lane : List ℕ) (old new : List T) : Type 0 where
+  pub cleared : (j : ℕ) → (slice_index_or new j z ≡ z) ⊎ (Contains lane j → ⊥)
+  pub kept : (j : ℕ) → (Contains lane j → ⊥) → slice_index_or new j z ≡ slice_index_or old j z

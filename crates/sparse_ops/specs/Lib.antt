@@ -1,4 +1,3 @@
-pub mod InnerMarks
 pub mod InnerBits
 pub mod Products
 pub mod InnerProducts
@@ -6,3 +5,4 @@ pub mod InnerUpdates
 pub mod InnerFactors
 pub mod ScalarProducts
 pub mod InnerLaneSets
+pub mod InnerScratches

@@ -1,8 +1,7 @@
 //! Matrix operations in one thread.
 
-mod bits;
 pub(crate) mod factor;
-mod lane_sets;
+mod lane_set;
 mod pattern;
 mod prealloc;
 mod product;

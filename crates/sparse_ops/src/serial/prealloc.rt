@@ -25,6 +25,7 @@ use std::alloc::Global;
 ///
 /// Two binary searches in a row of `c` for each triple (i, k, j) with (i, k) in `op(a)` and (k, j) in `op(b)`: the first pass tests the
 /// pattern, the second writes. No memory is asked for where neither operand is transposed; a transposed operand is transposed first.
+#[tactic(auto, using(crate::proofs::Refusals::refused))]
 pub fn spmm_csr_prealloc<T: Ring>(
     alloc: Global,
     beta: T,
@@ -74,6 +75,7 @@ pub fn spmm_csr_prealloc<T: Ring>(
 ///
 /// Two binary searches in a column of `c` for each triple (i, k, j) with (i, k) in `op(a)` and (k, j) in `op(b)`: the first pass tests the
 /// pattern, the second writes. No memory is asked for where neither operand is transposed; a transposed operand is transposed first.
+#[tactic(auto, using(crate::proofs::Refusals::refused))]
 pub fn spmm_csc_prealloc<T: Ring>(
     alloc: Global,
     beta: T,

@@ -4,7 +4,7 @@ ghost use Rattle.std.specs.Prelude.{◌≡◌, IfOk};
 ghost use Rattle.sparse_algebra.specs.Plain.{plain_product};
 ghost use Rattle.sparse_cs.specs.PlainOfLanes.{plain_of_rows, plain_of_cols};
 
-use super::pattern::spmm_csr_pattern;
+use super::pattern::{is_wide, spmm_csr_pattern};
 use super::rows::multiply_rows;
 use super::update::update;
 use sparse_algebra::scalar::Ring;
@@ -13,21 +13,18 @@ use sparse_cs::CsMatrix;
 use sparse_cs::laws::stands_law;
 use sparse_forms::csc::CscMatrix;
 use sparse_forms::csr::CsrMatrix;
-use sparse_pattern::pattern::SparsityPattern;
 use std::alloc::{AllocError, Global};
-
-// A factor with this many places does not stay in the cache between two passes, as measured.
-const MANY_PLACES: usize = 1_000_000;
-
-// From this number of triples a row on, the two loops of a row take longer than their set-up, as measured.
-const MANY_TRIPLES: usize = 50;
 
 /// Returns the product `a * b`.
 ///
 /// The result stores every place of [`spmm_csr_pattern`], even where the sum is zero. `a.ncols()` must equal `b.nrows()`.
 ///
-/// Gustavson's algorithm (1978): the pattern first, then one multiplication for each triple (i, k, j), both row by row where `b` is large and
-/// the rows of the product are long. It uses scratch memory for one row of `b`. Fails only if an allocation fails.
+/// Gustavson's algorithm (1978), row by row: the indices of a row are read in order from a set of bits, and its values are added up in a scratch
+/// row, by the step of [`spmm_csr_prealloc_unchecked`](crate::serial::spmm_csr_prealloc_unchecked). It takes one multiplication for each triple
+/// (i, k, j) and one for each place of `a`, and for each row one step for each 262,144 columns. Scratch memory: a value and a bit for each
+/// column. If a row is longer than both factors have places, the pattern is made first and each triple added by a binary search, in scratch
+/// memory for the triples of a row. There is room at first for a place for each triple, but for at most twice as many as both factors have; more
+/// is taken by doubling. Fails only if an allocation fails.
 ///
 /// # Examples
 ///
@@ -74,7 +71,7 @@ pub fn mul_csc<T: Ring>(
     Ok(CscMatrix::from_cs(multiply(alloc, b.cs(), a.cs())?))
 }
 
-// The product of two matrices whose lanes are rows, in the way that is faster as measured.
+// The product of two matrices whose lanes are rows.
 fn multiply<T: Ring>(
     alloc: Global,
     a: &CsMatrix<T>,
@@ -85,27 +82,16 @@ fn multiply<T: Ring>(
         ≡ plain_product T.ring (plain_of_rows T.ring T.value a.now)
         (plain_of_rows T.ring T.value b.now)) }
 {
-    if is_large(a.pattern(), b.pattern()) {
-        multiply_rows(alloc, a, b)
+    if is_wide(a.pattern(), b.pattern()) {
+        multiply_wide(alloc, a, b)
     } else {
-        multiply_whole(alloc, a, b)
+        multiply_rows(alloc, a, b)
     }
 }
 
-// Whether `b` has many places and a row of the product has many triples (i, k, j) where all rows of a factor are of one length. Then a second
-// pass over all triples would read `b` from memory again. No row is longer than both factors have places.
-fn is_large(a: &SparsityPattern, b: &SparsityPattern) -> bool {
-    let (first, second) = (
-        a.nnz() / a.major_dim().max(1),
-        b.nnz() / b.major_dim().max(1),
-    );
-    b.nnz() >= MANY_PLACES
-        && first.saturating_mul(second) >= MANY_TRIPLES
-        && a.nnz().saturating_add(b.nnz()) >= b.minor_dim()
-}
-
-// The product by whole passes: the pattern first, and then the values, from zeros.
-fn multiply_whole<T: Ring>(
+// The product where no memory is asked for the length of a row: the pattern first, and then the values, from zeros.
+#[tactic(auto, using(crate::proofs::Refusals::refused))]
+fn multiply_wide<T: Ring>(
     alloc: Global,
     a: &CsMatrix<T>,
     b: &CsMatrix<T>,

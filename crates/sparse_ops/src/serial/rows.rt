@@ -8,12 +8,11 @@ ghost use Rattle.sparse_pattern.specs.Raw.{lane_of};
 ghost use Rattle.sparse_pattern.specs.InnerGainedLanes.{GainsLane};
 ghost use Rattle.sparse_cs.specs.Compressed.{IsSound, arrays_of};
 ghost use Rattle.sparse_cs.specs.PlainOfLanes.{plain_of_rows};
-ghost use Rattle.sparse_ops.specs.InnerLaneSets.{AreEmptySets};
-ghost use Rattle.sparse_ops.specs.InnerProducts.{IsInLanes, GainsValues};
+ghost use Rattle.sparse_ops.specs.InnerLaneSets.{IsEmptyLaneSet};
+ghost use Rattle.sparse_ops.specs.InnerProducts.{IsInLanes, GainsValues, IsTaken};
 
-use super::lane_sets::LaneSets;
-use super::pattern::{count_indices, push_lane};
-use super::scatter::{update_row, zero_row};
+use super::lane_set::{LaneSet, push_lane};
+use super::scatter::{add_product_row, zero_row};
 use sparse_algebra::scalar::Ring;
 use sparse_base::steps::Steps;
 use sparse_cs::CsMatrix;
@@ -30,6 +29,7 @@ struct Rows<T> {
 }
 
 // Returns the product `a * b` of two matrices whose lanes are rows.
+#[tactic(auto, using(crate::proofs::Refusals::refused))]
 pub(super) fn multiply_rows<T: Ring>(
     alloc: Global,
     a: &CsMatrix<T>,
@@ -43,16 +43,17 @@ pub(super) fn multiply_rows<T: Ring>(
     // The law costs nothing: it tells the prover what the plain matrices are.
     stands_law::<T>();
     let (first, second) = (a.pattern(), b.pattern());
-    let mut sets = LaneSets::new(alloc, second.minor_dim())?;
+    let mut set = LaneSet::new(alloc, second.minor_dim())?;
     let mut row = zero_row(alloc, second.minor_dim())?;
     let mut rows = no_rows(alloc, first, second)?;
     for i in 0..first.major_dim() {
-        push_row(a, i, b, &mut sets, &mut row, &mut rows)?;
+        push_row(a, i, b, &mut set, &mut row, &mut rows)?;
     }
     Ok(into_matrix(rows, first.major_dim(), second.minor_dim()))
 }
 
 // No rows yet, with room for those of the product.
+#[tactic(auto, using(crate::proofs::Refusals::refused))]
 fn no_rows<T: Ring>(
     alloc: Global,
     a: &SparsityPattern,
@@ -81,24 +82,36 @@ fn first_room(a: &SparsityPattern, b: &SparsityPattern) -> usize
     count_indices(a.minor_indices(), b).min(most)
 }
 
-// Appends row i of the product. The scratch sets are empty and the scratch row is zero before and after. Inlined: where rows are short, the
+// How many indices the lanes of `b` that `lane` lists have, repeated ones too.
+fn count_indices(lane: &[usize], b: &SparsityPattern) -> usize
+    requires { All (λ k. k < b.now.major_dim) lane.now }
+{
+    let offsets = b.major_offsets();
+    let mut count = 0usize;
+    for k in lane {
+        count = count.saturating_add(offsets[*k + 1] - offsets[*k]);
+    }
+    count
+}
+
+// Appends row i of the product. The scratch set is empty and the scratch row is zero before and after. Inlined: where rows are short, the
 // calls for a row took half of the time.
+#[tactic(auto, using(crate::proofs::Refusals::refused))]
 #[inline(always)]
 fn push_row<T: Ring>(
     a: &CsMatrix<T>,
     i: usize,
     b: &CsMatrix<T>,
-    sets: &mut LaneSets,
+    set: &mut LaneSet,
     row: &mut [T],
     rows: &mut Rows<T>,
 ) -> Result<(), AllocError>
     requires inner { a.now.pattern.minor_dim ≡ b.now.pattern.major_dim }
     requires lane { i < a.now.pattern.major_dim }
-    requires empty { AreEmptySets b.now.pattern.minor_dim sets.old }
+    requires empty { IsEmptyLaneSet b.now.pattern.minor_dim set.old }
     requires width { length row.old ≡ b.now.pattern.minor_dim }
     requires zero { (j : ℕ) → T.value (slice_index_or row.old j T.zero_value) ≡ T.ring.zero }
-    requires count { length rows.old.values.items ≡ length rows.old.indices.items }
-    ensures empty { OnOk result (AreEmptySets b.now.pattern.minor_dim sets.new) }
+    ensures empty { OnOk result (IsEmptyLaneSet b.now.pattern.minor_dim set.new) }
     ensures zero { OnOk result ((j : ℕ)
         → T.value (slice_index_or row.new j T.zero_value) ≡ T.ring.zero) }
     ensures lane { OnOk result (GainsLane rows.old.indices.items rows.new.indices.items
@@ -107,16 +120,17 @@ fn push_row<T: Ring>(
         ≡ rows.old.offsets.items ++ length rows.new.indices.items ∷ []) }
     ensures values { OnOk result (GainsValues T.ring T.value T.zero_value
         rows.old.values.items rows.new.values.items
-        (drop (length rows.old.values.items) rows.new.indices.items)
+        (drop (length rows.old.indices.items) rows.new.indices.items)
         ((plain_product T.ring (plain_of_rows T.ring T.value a.now)
         (plain_of_rows T.ring T.value b.now)).value i)) }
 {
-    push_lane(a.pattern().lane(i), b.pattern(), sets, &mut rows.indices)?;
+    let begin = rows.indices.len();
+    push_lane(a.pattern().lane(i), b.pattern(), set, &mut rows.indices)?;
     rows.offsets.push(rows.indices.len())?;
-    push_values(a, i, b, row, &rows.indices, &mut rows.values)
+    push_values(a, i, b, row, &rows.indices[begin..], &mut rows.values)
 }
 
-// Appends the values of row i of the product, at the indices that have none yet. The scratch row is zero before and after.
+// Appends the values of row i of the product at the indices. The scratch row is zero before and after.
 #[inline(always)]
 fn push_values<T: Ring>(
     a: &CsMatrix<T>,
@@ -130,32 +144,43 @@ fn push_values<T: Ring>(
     requires lane { i < a.now.pattern.major_dim }
     requires width { length row.old ≡ b.now.pattern.minor_dim }
     requires zero { (j : ℕ) → T.value (slice_index_or row.old j T.zero_value) ≡ T.ring.zero }
-    requires room { length values.old.items ≤ length indices.now }
-    requires rising { IsStrictlyIncreasing (drop (length values.old.items) indices.now) }
-    requires inside { All (λ j. j < b.now.pattern.minor_dim)
-        (drop (length values.old.items) indices.now) }
+    requires rising { IsStrictlyIncreasing indices.now }
+    requires inside { All (λ j. j < length row.old) indices.now }
     requires places { (j : ℕ) → IsInLanes b.now.pattern (lane_of a.now.pattern i) j
-        → Contains (drop (length values.old.items) indices.now) j }
+        → Contains indices.now j }
     ensures zero { OnOk result ((j : ℕ)
         → T.value (slice_index_or row.new j T.zero_value) ≡ T.ring.zero) }
     ensures gained { OnOk result (GainsValues T.ring T.value T.zero_value
-        values.old.items values.new.items (drop (length values.old.items) indices.now)
+        values.old.items values.new.items indices.now
         ((plain_product T.ring (plain_of_rows T.ring T.value a.now)
         (plain_of_rows T.ring T.value b.now)).value i)) }
 {
-    let begin = values.len();
-    values.resize(indices.len(), T::zero())?;
-    update_row(
-        T::zero(),
-        &indices[begin..],
-        &mut values[begin..],
-        T::one(),
-        a,
-        i,
-        b,
-        row,
-        &mut Steps::new(),
-    );
+    // The calls cost nothing: they tell the prover that the matrices are sound, and what their plain matrices are.
+    stands_law::<T>();
+    let _ = a.values();
+    let _ = b.values();
+    add_product_row(T::one(), a, i, b, row, &mut Steps::new());
+    push_taken(indices, row, values)
+}
+
+// Appends the row's values at the indices, and sets the row to zero there.
+#[tactic(auto, using(crate::proofs::Refusals::refused))]
+fn push_taken<T: Ring>(
+    indices: &[usize],
+    row: &mut [T],
+    values: &mut Vec<T>,
+) -> Result<(), AllocError>
+    requires rising { IsStrictlyIncreasing indices.now }
+    requires inside { All (λ j. j < length row.old) indices.now }
+    ensures taken { OnOk result (IsTaken T.zero_value indices.now row.old row.new) }
+    ensures gained { OnOk result (GainsValues T.ring T.value T.zero_value
+        values.old.items values.new.items indices.now
+        (λ j. T.value (slice_index_or row.old j T.zero_value))) }
+{
+    for j in indices {
+        values.push(row[*j])?;
+        row[*j] = T::zero();
+    }
     Ok(())
 }
 

@@ -1,6 +1,6 @@
 //! A product that is added to the values of a pattern, through a scratch row.
 
-ghost use Rattle.std.specs.Prelude.{◌≡◌, ℕ, ◌<◌, ◌+◌, ◌⊎◌, length, slice_index, slice_index_or};
+ghost use Rattle.std.specs.Prelude.{◌≡◌, ℕ, ◌<◌, ◌+◌, length, slice_index, slice_index_or};
 ghost use Rattle.std.specs.Prelude.{All, Contains, IfOk, OnErr, OnOk, vec_len};
 ghost use Rattle.std.specs.List.Sorted.{IsStrictlyIncreasing};
 ghost use Rattle.sparse_algebra.specs.Plain.{plain_product};
@@ -8,7 +8,7 @@ ghost use Rattle.sparse_pattern.specs.Raw.{IsInLane, IsPlace, nnz_of, start_of, 
 ghost use Rattle.sparse_cs.specs.Compressed.{IsPosition};
 ghost use Rattle.sparse_cs.specs.PlainOfLanes.{plain_of_rows};
 ghost use Rattle.sparse_cs.specs.InnerRows.{lane_value};
-ghost use Rattle.sparse_ops.specs.InnerProducts.{IsInLanes};
+ghost use Rattle.sparse_ops.specs.InnerProducts.{IsInLanes, IsTaken};
 ghost use Rattle.sparse_ops.specs.InnerUpdates.{HasProductPlaces, AreUpdated, triples_below};
 ghost use Rattle.sparse_ops.specs.ScalarProducts.{triples_of};
 
@@ -22,6 +22,7 @@ use std::alloc::{AllocError, Global};
 // Replaces each value `c` by `beta * c + alpha * x`, where `x` is the entry of the product `a * b` at its place.
 //
 // Gustavson's algorithm (1978): each row of the product is added up in a scratch row as wide as the pattern, and gathered at the places.
+#[tactic(auto, using(crate::proofs::Refusals::refused))]
 pub(super) fn scatter_rows<T: Ring>(
     alloc: Global,
     beta: T,
@@ -107,68 +108,18 @@ fn scatter_row<T: Ring>(
         + triples_below (end_of a.now.pattern i) a.now.pattern b.now.pattern
         + end_of pattern.now i }
 {
-    let offsets = pattern.major_offsets();
-    let (begin, end) = (offsets[i], offsets[i + 1]);
-    update_row(
-        beta,
-        pattern.lane(i),
-        &mut values[begin..end],
-        alpha,
-        a,
-        i,
-        b,
-        row,
-        steps,
-    );
-}
-
-// Replaces each value `c` by `beta * c + alpha * x`, where `x` is the entry of row i of the product at its index. The scratch row is zero
-// before and after.
-#[inline(always)]
-pub(super) fn update_row<T: Ring>(
-    beta: T,
-    indices: &[usize],
-    values: &mut [T],
-    alpha: T,
-    a: &CsMatrix<T>,
-    i: usize,
-    b: &CsMatrix<T>,
-    row: &mut [T],
-    steps: &mut Steps,
-)
-    requires inner { a.now.pattern.minor_dim ≡ b.now.pattern.major_dim }
-    requires lane { i < a.now.pattern.major_dim }
-    requires rising { IsStrictlyIncreasing indices.now }
-    requires inside { All (λ j. j < length row.old) indices.now }
-    requires count { length values.old ≡ length indices.now }
-    requires places { (j : ℕ) → IsInLanes b.now.pattern (lane_of a.now.pattern i) j
-        → Contains indices.now j }
-    requires width { length row.old ≡ b.now.pattern.minor_dim }
-    requires zero { (j : ℕ) → T.value (slice_index_or row.old j T.zero_value) ≡ T.ring.zero }
-    ensures zero { (j : ℕ) → T.value (slice_index_or row.new j T.zero_value) ≡ T.ring.zero }
-    ensures updated { (k : ℕ) → k < length indices.now
-        → T.value (slice_index_or values.new k T.zero_value)
-        ≡ T.ring.add (T.ring.mul (T.value beta)
-        (T.value (slice_index_or values.old k T.zero_value)))
-        (T.ring.mul (T.value alpha)
-        ((plain_product T.ring (plain_of_rows T.ring T.value a.now)
-        (plain_of_rows T.ring T.value b.now)).value i (slice_index indices.now k))) }
-    ensures counted { steps.new + start_of a.now.pattern i
-        + triples_below (start_of a.now.pattern i) a.now.pattern b.now.pattern
-        ≡ steps.old + end_of a.now.pattern i
-        + triples_below (end_of a.now.pattern i) a.now.pattern b.now.pattern
-        + length indices.now }
-{
     // The calls cost nothing: they tell the prover that the matrices are sound, and what their plain matrices are.
     stands_law::<T>();
     let _ = a.values();
     let _ = b.values();
+    let offsets = pattern.major_offsets();
+    let (begin, end) = (offsets[i], offsets[i + 1]);
     add_product_row(alpha, a, i, b, row, steps);
-    gather_row(beta, indices, row, values, steps);
+    gather_row(beta, pattern.lane(i), row, &mut values[begin..end], steps);
 }
 
 // Adds `alpha` times row i of the product to a row.
-fn add_product_row<T: Ring>(
+pub(super) fn add_product_row<T: Ring>(
     alpha: T,
     a: &CsMatrix<T>,
     i: usize,
@@ -244,10 +195,7 @@ fn gather_row<T: Ring>(
         ≡ T.ring.add (T.ring.mul (T.value beta)
         (T.value (slice_index_or values.old k T.zero_value)))
         (T.value (slice_index_or row.old (slice_index indices.now k) T.zero_value)) }
-    ensures cleared { (j : ℕ) → (slice_index_or row.new j T.zero_value ≡ T.zero_value)
-        ⊎ (Contains indices.now j → ⊥) }
-    ensures kept { (j : ℕ) → (Contains indices.now j → ⊥)
-        → slice_index_or row.new j T.zero_value ≡ slice_index_or row.old j T.zero_value }
+    ensures taken { IsTaken T.zero_value indices.now row.old row.new }
     ensures counted { steps.new ≡ steps.old + length indices.now }
 {
     for at in 0..indices.len() {

@@ -81,6 +81,7 @@ pub fn spmm_csr_prealloc_unchecked<T: Ring>(
 ///     Ok(square == matrix)
 /// }
 /// ```
+#[tactic(auto, using(crate::proofs::Refusals::refused))]
 pub fn spmm_csr_prealloc_unchecked_counted<T: Ring>(
     alloc: Global,
     beta: T,
@@ -130,6 +131,7 @@ pub fn spmm_csr_prealloc_unchecked_counted<T: Ring>(
 /// Gustavson's algorithm (1978): one multiplication for each triple (i, k, j) with (i, k) in `op(a)` and (k, j) in `op(b)`, and one for each
 /// place of `op(a)` and of `c`. Scratch memory for one column of `c`; none if it is longer than `c` and `op(a)` have places, where each
 /// triple is added by a binary search. A transposed operand is transposed first.
+#[tactic(auto, using(crate::proofs::Refusals::refused))]
 pub fn spmm_csc_prealloc_unchecked<T: Ring>(
     alloc: Global,
     beta: T,

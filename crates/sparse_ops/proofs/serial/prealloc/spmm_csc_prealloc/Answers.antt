@@ -1,4 +1,3 @@
-use Rattle.std.proofs.lemmas.Result.{IfOk-from_err}
 use Rattle.std.proofs.lemmas.Grind.{common_steps}
 use Rattle.std.proofs.Common.{ap, sym, ◌∙◌, arith}
 use Rattle.sparse_algebra.specs.Plain.{Plain}
@@ -6,12 +5,6 @@ use Rattle.sparse_op.specs.declared.error.OperationErrorKind.TheVariants.{Invali
 use Rattle.sparse_op.specs.declared.error.OperationErrorKind.TheVariants.{OutOfMemory}
 use Rattle.sparse_ops.proofs.Updating.{if_of_all, refused_is, cols_covered, cols_updated}
 use Rattle.sparse_ops.proofs.serial.prealloc.spmm_csc_prealloc.Goals as goal
-
-pub returns-in_err-a-clause-updated : goal.returns-in_err-a-clause-updated
-returns-in_err-a-clause-updated g c = IfOk-from_err _ _ c.from_residual.ensures.0
-
-pub returns-in_err-b-clause-updated : goal.returns-in_err-b-clause-updated
-returns-in_err-b-clause-updated g c = IfOk-from_err _ _ c.from_residual-in_err-b.ensures.0
 
 pub update_matrix_checked-requires-clause-inner : goal.update_matrix_checked-requires-clause-inner
 update_matrix_checked-requires-clause-inner g c =

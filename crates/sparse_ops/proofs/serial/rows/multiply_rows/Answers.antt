@@ -1,31 +1,18 @@
-use Rattle.std.proofs.lemmas.Result.{IfOk-from_err}
 use Rattle.std.proofs.Common.{◌≡◌, ◌<◌, length, get_or, ap, subst, ◌∙◌, arith}
 use Rattle.std.proofs.lemmas.List.{take_at}
 use Rattle.sparse_pattern.specs.Raw.{Raw}
 use Rattle.sparse_cs.specs.Compressed.{arrays_of}
 use Rattle.sparse_cs.specs.PlainOfLanes.{plain_of_rows}
-use Rattle.sparse_ops.specs.InnerLaneSets.{AreEmptySets}
+use Rattle.sparse_ops.specs.InnerLaneSets.{IsEmptyLaneSet}
 use Rattle.sparse_ops.proofs.ProductRows.{product_none, row_more, product_sound, product_is}
 use Rattle.sparse_ops.proofs.serial.rows.multiply_rows.Goals as goal
-
-pub returns-in_err-sets : goal.returns-in_err-sets
-returns-in_err-sets g c = IfOk-from_err _ _ c.from_residual.ensures.0
-
-pub returns-in_err-row : goal.returns-in_err-row
-returns-in_err-row g c = IfOk-from_err _ _ c.from_residual-in_err-row.ensures.0
-
-pub returns-in_err-rows : goal.returns-in_err-rows
-returns-in_err-rows g c = IfOk-from_err _ _ c.from_residual-in_err-rows.ensures.0
-
-pub returns-in_err-push_row : goal.returns-in_err-push_row
-returns-in_err-push_row g c = IfOk-from_err _ _ c.from_residual-in_err-push_row.ensures.0
 
 pub loop-i-init : goal.loop-i-init
 loop-i-init g c =
     let width_is = ap (λ (d : Raw). d.minor_dim) c.pattern-second.ensures.pattern in
     record {
-      empty = subst (λ n. AreEmptySets n c.in_ok-sets.sets) (c.minor_dim.ensures ∙ width_is)
-          c.in_ok-sets.ensures;
+      empty = subst (λ n. IsEmptyLaneSet n c.in_ok-set.set) (c.minor_dim.ensures ∙ width_is)
+          c.in_ok-set.ensures;
       width = c.in_ok-row.ensures.width ∙ c.minor_dim-2.ensures ∙ width_is;
       zero = c.in_ok-row.ensures.zero;
       built = rw (
@@ -53,9 +40,6 @@ pub push_row-requires-clause-zero : goal.push_row-requires-clause-zero
 push_row-requires-clause-zero g c = λ j.
     ap (λ xs. g.T.Ring.value (get_or xs j g.T.Zero.zero_value)) c.deref_mut.ensures.value
     ∙ c.loop-i.invariant.zero j
-
-pub push_row-requires-clause-count : goal.push_row-requires-clause-count
-push_row-requires-clause-count g c = c.loop-i.invariant.built.count
 
 pub loop-i-preserved : goal.loop-i-preserved
 loop-i-preserved g c =

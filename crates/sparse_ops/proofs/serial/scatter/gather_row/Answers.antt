@@ -1,11 +1,9 @@
-use Rattle.std.proofs.Common.{◌≡◌, ◌≢◌, ℕ, ◌<◌, inl, inr, length, get_or, set, Contains, ap}
-use Rattle.std.proofs.Common.{sym, subst, ◌∙◌, arith}
-use Rattle.std.proofs.lemmas.Bool.{cases_eq}
-use Rattle.std.proofs.lemmas.List.{get_or-set_same, get_or-set_other, get_or_default}
-use Rattle.std.proofs.lemmas.List.Elements.{Contains-get_or}
-use Rattle.std.proofs.lemmas.List.Kept.{AllPairs-from_increasing}
+use Rattle.std.proofs.Common.{◌≡◌, ◌<◌, inl, inr, length, get_or, set, ap, sym, subst, ◌∙◌, arith}
+use Rattle.std.proofs.lemmas.List.{get_or-set_same, get_or-set_other, get_or_default, take_all}
 use Rattle.sparse_lemmas.proofs.Cases.{lt_add_one_cases}
 use Rattle.sparse_cs.proofs.RowSums.{offset_fits}
+use Rattle.sparse_ops.specs.InnerProducts.{IsTaken}
+use Rattle.sparse_ops.proofs.TakenRows.{taken_more, not_before}
 use Rattle.sparse_ops.proofs.serial.scatter.gather_row.Goals as goal
 
 pub loop-at-preserved : goal.loop-at-preserved
@@ -23,15 +21,14 @@ loop-at-preserved g c =
     let inside : at < length js = omega arith in
     let j_lt : j < length row = omega (arith, c.requires.inside at 0 inside, c.loop-at.auto.row) in
     let at_lt : at < length values = omega (arith, c.requires.count, c.loop-at.auto.values) in
-    let differs : (p : ℕ) → p < at → get_or js p 0 ≢ j =
-    λ p lt e. grind (arith, AllPairs-from_increasing js c.requires.rising p at 0, e) in
     let w = c.add.result in
     let w_is : f w ≡ R.add (R.mul (f c.args.beta) (f (get_or c.args.values.now at z)))
     (f (get_or start j z)) =
     let old : c.index-values-at.result ≡ get_or c.args.values.now at z = c.index-values-at.is
     ∙ get_or_default values at c.index-values-at.result z at_lt ∙ inv.others at (omega arith) in
     let read : c.index-row-j.result ≡ get_or start j z = c.index-row-j.is
-    ∙ get_or_default row j c.index-row-j.result z j_lt ∙ inv.kept j differs in
+    ∙ get_or_default row j c.index-row-j.result z j_lt
+    ∙ inv.taken.kept j (not_before js at c.requires.rising inside) in
     c.add.ensures ∙ ap (λ x. R.add x (f c.index-row-j.result))
     (c.mul.ensures ∙ ap (λ x. R.mul (f c.args.beta) (f x)) old)
     ∙ ap (λ x. R.add (R.mul (f c.args.beta) (f (get_or c.args.values.now at z))) (f x)) read in
@@ -45,18 +42,7 @@ loop-at-preserved g c =
             (f (get_or start (get_or js p 0) z))) (sym here)
       ];
       others = λ p le. get_or-set_other values at p w z (omega arith) ∙ inv.others p (omega arith);
-      cleared = λ k. elim (cases_eq k j) [
-        | inl same ↦ inl (ap (λ k. get_or (set row j z) k z) same ∙ get_or-set_same row j z z j_lt)
-        | inr differ ↦ elim (inv.cleared k) [
-          | inl zero ↦ inl (get_or-set_other row j k z z differ ∙ zero)
-          | inr none ↦ inr (λ p lt. elim (lt_add_one_cases p at lt) [
-            | inl before ↦ none p before
-            | inr here ↦ λ e. differ (sym e ∙ ap (λ p. get_or js p 0) here)
-          ])
-        ]
-      ];
-      kept = λ k none. get_or-set_other row j k z z (λ e. none at (omega arith) (sym e))
-          ∙ inv.kept k (λ p lt. none p (omega arith));
+      taken = taken_more z start row js at inside j_lt inv.taken;
       counted = omega (arith, inv.counted, c.tick.ensures);
     }
 
@@ -67,13 +53,8 @@ returns g c =
     let whole : c.loop-at.at ≡ length js = omega arith in
     record {
       gathered = λ k lt. inv.gathered k (omega (arith, whole));
-      cleared = λ j. elim (inv.cleared j) [
-        | inl zero ↦ inl zero
-        | inr none ↦ inr (λ h. none h.0 (omega (arith, h.1, whole))
-            (get_or_default js h.0 0 j h.1 ∙ h.2))
-      ];
-      kept = λ j none. inv.kept j (λ p lt e. none
-          (subst (λ x. Contains js x) e (Contains-get_or js p 0 (omega (arith, whole)))));
+      taken = subst (λ l. IsTaken g.T.Zero.zero_value l c.args.row.now c.loop-at.row)
+          (take_all c.loop-at.at js (omega (arith, whole))) inv.taken;
       counted = omega (arith, inv.counted, whole);
     }
 

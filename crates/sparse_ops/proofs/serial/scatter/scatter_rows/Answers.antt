@@ -1,4 +1,3 @@
-use Rattle.std.proofs.lemmas.Result.{IfOk-from_err}
 use Rattle.std.proofs.Common.{◌≡◌, ◌<◌, length, get_or, sym, ◌∙◌, ap, arith}
 use Rattle.std.proofs.lemmas.List.{take_at}
 use Rattle.sparse_algebra.specs.Plain.{plain_product}
@@ -9,12 +8,6 @@ use Rattle.sparse_ops.specs.InnerUpdates.{triples_below}
 use Rattle.sparse_ops.proofs.ProductSums.{all_triples}
 use Rattle.sparse_ops.proofs.UpdatedRows.{rows_more, rest_more}
 use Rattle.sparse_ops.proofs.serial.scatter.scatter_rows.Goals as goal
-
-pub returns-in_err-row-clause-counted : goal.returns-in_err-row-clause-counted
-returns-in_err-row-clause-counted g c = IfOk-from_err _ _ c.from_residual.ensures.0
-
-pub returns-in_err-row-clause-updated : goal.returns-in_err-row-clause-updated
-returns-in_err-row-clause-updated g c = IfOk-from_err _ _ c.from_residual.ensures.0
 
 pub scatter_row-requires-clause-places : goal.scatter_row-requires-clause-places
 scatter_row-requires-clause-places g c = λ j h.

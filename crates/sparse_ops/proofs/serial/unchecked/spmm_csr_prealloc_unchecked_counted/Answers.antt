@@ -1,4 +1,3 @@
-use Rattle.std.proofs.lemmas.Result.{IfOk-from_err}
 use Rattle.std.proofs.lemmas.Grind.{common_steps}
 use Rattle.std.proofs.Common.{◌+◌, ◌≤◌, ap, sym, ◌∙◌, arith}
 use Rattle.sparse_algebra.specs.Plain.{Plain}
@@ -6,27 +5,6 @@ use Rattle.sparse_pattern.specs.Raw.{nnz_of}
 use Rattle.sparse_ops.specs.ScalarProducts.{triples_of}
 use Rattle.sparse_ops.proofs.Updating.{if_of_all, if_of_factors, rows_covered, rows_written}
 use Rattle.sparse_ops.proofs.serial.unchecked.spmm_csr_prealloc_unchecked_counted.Goals as goal
-
-pub returns-in_err-a-clause-all_multiplied : goal.returns-in_err-a-clause-all_multiplied
-returns-in_err-a-clause-all_multiplied g c = IfOk-from_err _ _ c.from_residual.ensures.0
-
-pub returns-in_err-a-clause-updated : goal.returns-in_err-a-clause-updated
-returns-in_err-a-clause-updated g c = IfOk-from_err _ _ c.from_residual.ensures.0
-
-pub returns-in_err-b-clause-all_multiplied : goal.returns-in_err-b-clause-all_multiplied
-returns-in_err-b-clause-all_multiplied g c = IfOk-from_err _ _ c.from_residual-in_err-b.ensures.0
-
-pub returns-in_err-b-clause-updated : goal.returns-in_err-b-clause-updated
-returns-in_err-b-clause-updated g c = IfOk-from_err _ _ c.from_residual-in_err-b.ensures.0
-
-pub returns-in_err-update_matrix-clause-all_multiplied :
-    goal.returns-in_err-update_matrix-clause-all_multiplied
-returns-in_err-update_matrix-clause-all_multiplied g c =
-    IfOk-from_err _ _ c.from_residual-in_err-update_matrix.ensures.0
-
-pub returns-in_err-update_matrix-clause-updated : goal.returns-in_err-update_matrix-clause-updated
-returns-in_err-update_matrix-clause-updated g c =
-    IfOk-from_err _ _ c.from_residual-in_err-update_matrix.ensures.0
 
 pub update_matrix-requires-clause-inner : goal.update_matrix-requires-clause-inner
 update_matrix-requires-clause-inner g c =
