@@ -6,10 +6,10 @@ use Rattle.std.proofs.Common.{length, get_or, drop, All, Contains, slice_index, 
 use Rattle.std.proofs.Common.{sym, ◌∙◌, refl, arith}
 use Rattle.std.specs.Prelude.{nat_eq}
 use Rattle.std.proofs.lemmas.List.{get_or-drop, get_or_default, length-drop, drop_all, drop-take}
-use Rattle.std.proofs.lemmas.List.{drop-drop, get_or_past}
+use Rattle.std.proofs.lemmas.List.{drop-drop}
 use Rattle.std.proofs.lemmas.List.Edits.{get_or-between}
 use Rattle.std.proofs.lemmas.List.Elements.{All-drop}
-use Rattle.sparse_lemmas.proofs.Cases.{le_cases, lt_or_ge, nat_eq_no}
+use Rattle.sparse_lemmas.proofs.Cases.{le_cases, nat_eq_no}
 use Rattle.sparse_algebra.specs.Algebra.{CommRing}
 use Rattle.sparse_algebra.proofs.RingLemmas.{zero_add}
 use Rattle.sparse_pattern.specs.Raw.{Raw, start_of, end_of, lane_of}
@@ -20,8 +20,7 @@ use Rattle.sparse_cs.specs.PlainOfLanes.{plain_of_rows, plain_of_cols}
 use Rattle.sparse_cs.proofs.Arrays.{where_no, value_at_position, has_is_place}
 use Rattle.sparse_cs.specs.InnerRows.{lane_value}
 use Rattle.sparse_cs.proofs.LaneValues.{values_of, length-values, lane_value_is}
-use Rattle.sparse_solve.specs.Solutions.{HasPivot}
-use Rattle.sparse_solve.specs.InnerColumns.{BeginsWithOne, IsColumnBelow, IsColumnIn}
+use Rattle.sparse_solve.specs.InnerColumns.{IsColumnBelow, IsColumnIn}
 
 module _ (R : CommRing) {T : Type 0} (f : T → R.Carrier) (i : ℕ) where
   no_values : (ks : List ℕ) → lane_value R f ks [] i ≡ R.zero
@@ -195,70 +194,3 @@ module _ (R : CommRing) {T : Type 0} (f : T → R.Carrier) (z : T) (m : Compress
       ∙ get_or_default m.values (start_of m.pattern k + q) v z
       (omega (arith, here, (sound.valid.lanes k lane).inside, sound.count))
       ∙ sym (get_or-between m.values (start_of m.pattern k) (end_of m.pattern k) q z here)
-
-module _ (R : CommRing) {T : Type 0} (f : T → R.Carrier) (z : T) (m : Compressed T)
-    (sound : IsSound m) (k : ℕ) (lane : k < m.pattern.major_dim) where
-  -- a first position, as column_in and value_read write it
-  first : (n : ℕ) → n ≡ n + 0
-  first n = omega arith
-
-  -- a column that isn't empty has a first entry
-  first_within : start_of m.pattern k < end_of m.pattern k → 0 < length (lane_of m.pattern k)
-  first_within some = omega (arith, some, length-lane m.pattern k (sound.valid.lanes k lane))
-
-  -- its row, among the rows of the column
-  first_row : start_of m.pattern k < end_of m.pattern k
-      → slice_index m.pattern.indices (start_of m.pattern k) ≡ k
-      → get_or (lane_of m.pattern k) 0 0 ≡ k
-  first_row some diagonal =
-      get_or-lane m.pattern k (sound.valid.lanes k lane) 0 (first_within some)
-      ∙ ap (λ p. get_or m.pattern.indices p 0) (sym (first (start_of m.pattern k))) ∙ diagonal
-
-  -- its value where its row is k, read among all values
-  pub first_value : (offsets : List ℕ) (values : List T) (v : T) → offsets ≡ m.pattern.offsets
-      → values ≡ m.values → start_of m.pattern k < end_of m.pattern k
-      → slice_index m.pattern.indices (start_of m.pattern k) ≡ k
-      → v ≡ get_or values (slice_index offsets k) v → (plain_of_cols R f m).value k k ≡ f v
-  first_value offsets values v o vs some diagonal read =
-      let lt = first_within some in
-      value_stored R f z m sound k lane k 0 lt (first_row some diagonal)
-      ∙ ap f (sym (value_read R f z m sound k lane 0 lt offsets values v o vs
-      (read ∙ ap (λ p. get_or values p v) (first (slice_index offsets k)))))
-
-  -- a column that begins with a one, behind that
-  pub column_of_one : (offsets : List ℕ) (e : T) → offsets ≡ m.pattern.offsets → f e ≡ R.one
-      → BeginsWithOne R f m k
-      → IsColumnIn R f m k (slice_index offsets k + 1) (slice_index offsets (k + 1)) e
-  column_of_one offsets e o e_one is =
-      let lt = first_within is.some in
-      let row = first_row is.some is.diagonal in
-      let value_one : f (get_or (values_of m k) 0 z) ≡ R.one =
-      sym (value_stored R f z m sound k lane k 0 lt row) ∙ is.one in
-      let inverts : R.mul (f (get_or (values_of m k) 0 z)) (f e) ≡ R.one =
-      ap (λ c. R.mul c (f e)) value_one ∙ ap (R.mul R.one) e_one ∙ R.laws.mul_one R.one in
-      subst (λ p. IsColumnIn R f m k (p + 1) (slice_index offsets (k + 1)) e)
-      (sym (first (slice_index offsets k)))
-      (column_in R f z m sound k lane 0 lt offsets e o row inverts)
-
--- only a column of the matrix has an entry
-column_exists : {T : Type 0} (m : Compressed T) → IsSound m → (k : ℕ)
-    → start_of m.pattern k < end_of m.pattern k → k < m.pattern.major_dim
-column_exists m sound k some = elim (lt_or_ge k m.pattern.major_dim) [
-  | inl less ↦ less
-  | inr past ↦
-      let none : end_of m.pattern k ≡ 0 =
-      get_or_past m.pattern.offsets (k + 1) 0 (omega (arith, past, sound.valid.count)) in
-      omega (arith, some, none)
-]
-
--- the diagonal entry of a column that begins with a one has an inverse
-pub pivot_of_one : (R : CommRing) {T : Type 0} (f : T → R.Carrier) (z : T) (m : Compressed T)
-    → IsSound m → (k : ℕ) → BeginsWithOne R f m k → HasPivot R f (plain_of_cols R f m) k
-pivot_of_one R f z m sound k is =
-    let lane = column_exists m sound k is.some in
-    let lt = first_within R f z m sound k lane is.some in
-    let row = first_row R f z m sound k lane is.some is.diagonal in
-    let e = get_or (values_of m k) 0 z in
-    let e_one : f e ≡ R.one = sym (value_stored R f z m sound k lane k 0 lt row) ∙ is.one in
-    let column = column_of_one R f z m sound k lane m.pattern.offsets e refl e_one is in
-    (column.entries.stored, (e, column.entries.inverts))

@@ -1,6 +1,6 @@
 -- A column of a lower triangle, and a column of a solution.
-use Rattle.std.specs.Prelude.{◌≡◌, ◌≢◌, ℕ, ◌+◌, ◌<◌, ◌≤◌, true, List, All, length}
-use Rattle.std.specs.Prelude.{slice_index, slice_index_or, slice_range, zip}
+use Rattle.std.specs.Prelude.{◌≡◌, ◌≢◌, ℕ, ◌<◌, ◌≤◌, true, List, All, length}
+use Rattle.std.specs.Prelude.{slice_index_or, slice_range, zip}
 use Rattle.sparse_algebra.specs.Algebra.{CommRing}
 use Rattle.sparse_algebra.specs.Sums.{sum_below, sum_by}
 use Rattle.sparse_algebra.specs.Plain.{Plain}
@@ -33,16 +33,6 @@ module _ (R : CommRing) {T : Type 0} (f : T → R.Carrier) where
     pub range : HasRange m.pattern.indices m.values begin end
     pub entries : IsColumnBelow (plain_of_cols R f m) k (slice_range m.pattern.indices begin end)
         (slice_range m.values begin end) inverse
-
-  -- column k begins with its diagonal entry, and that is one
-  pub record BeginsWithOne (m : Compressed T) (k : ℕ) : Type 0 where
-    pub some : slice_index m.pattern.offsets k < slice_index m.pattern.offsets (k + 1)
-    pub diagonal : slice_index m.pattern.indices (slice_index m.pattern.offsets k) ≡ k
-    pub one : (plain_of_cols R f m).value k k ≡ R.one
-
-  -- so do the first columns
-  abbrev pub BeginWithOnes : Compressed T → ℕ → Type 0
-  BeginWithOnes m count = (k : ℕ) → k < count → BeginsWithOne m k
 
   -- each diagonal entry is stored and has an inverse
   abbrev pub HasPivots : Plain R → Type 0

@@ -1,10 +1,10 @@
 //! Columns of a lower triangle.
 
-ghost use Rattle.std.specs.Prelude.{◌≡◌, ◌<◌, ◌↔◌, Contains, IfNone, IfSome, IsTrue, MatchOption};
+ghost use Rattle.std.specs.Prelude.{◌≡◌, ◌<◌, Contains, IfNone, IfSome, MatchOption};
 ghost use Rattle.std.specs.Prelude.{length, slice_index};
 ghost use Rattle.sparse_cs.specs.PlainOfLanes.{plain_of_cols};
 ghost use Rattle.sparse_solve.specs.Solutions.{HasPivot};
-ghost use Rattle.sparse_solve.specs.InnerColumns.{BeginsWithOne, IsColumnIn};
+ghost use Rattle.sparse_solve.specs.InnerColumns.{IsColumnIn};
 
 use sparse_forms::csc::CscMatrix;
 use sparse_units::Units;
@@ -35,34 +35,6 @@ pub fn column_below<T: Units>(l: &CscMatrix<T>, k: usize) -> Option<Column<T>>
         end,
         inverse,
     })
-}
-
-// Whether column k begins with its diagonal entry, and that is one. So does each column of a lower triangle with ones on its diagonal.
-pub fn begins_with_one<T: Units>(l: &CscMatrix<T>, k: usize) -> bool
-    requires { k < l.now.pattern.major_dim }
-    ensures { IsTrue result ↔ BeginsWithOne T.ring T.value l.now k }
-{
-    let offsets = l.col_offsets();
-    let (begin, end) = (offsets[k], offsets[k + 1]);
-    if begin == end || l.row_indices()[begin] != k {
-        return false;
-    }
-    l.values()[begin] == T::one()
-}
-
-// Returns column k, which begins with a one. Neither its rows nor its values are read.
-pub fn column_after_one<T: Units>(l: &CscMatrix<T>, k: usize) -> Column<T>
-    requires column { k < l.now.pattern.major_dim }
-    requires one { BeginsWithOne T.ring T.value l.now k }
-    ensures { IsColumnIn T.ring T.value l.now k result.begin result.end result.inverse }
-{
-    let inverse = T::one();
-    let offsets = l.col_offsets();
-    Column {
-        begin: offsets[k] + 1,
-        end: offsets[k + 1],
-        inverse,
-    }
 }
 
 // Returns the position of a row.

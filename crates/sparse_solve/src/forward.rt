@@ -3,11 +3,11 @@
 ghost use Rattle.std.specs.Prelude.{◌≡◌, ◌<◌, All, length, slice_range};
 ghost use Rattle.sparse_cs.specs.PlainOfLanes.{plain_of_cols};
 ghost use Rattle.sparse_cs.specs.InnerRows.{lane_value};
-ghost use Rattle.sparse_solve.specs.InnerColumns.{BeginWithOnes, HasPivots, HasRange, SolvesList};
-ghost use Rattle.sparse_solve.specs.InnerColumns.{TakesAnswer, lower};
+ghost use Rattle.sparse_solve.specs.InnerColumns.{HasPivots, HasRange, SolvesList, TakesAnswer};
+ghost use Rattle.sparse_solve.specs.InnerColumns.{lower};
 
-use crate::column::{Column, column_after_one, column_below};
-use crate::kernels::{divide_entry, take_off, take_off_four};
+use crate::column::{Column, column_below};
+use crate::kernels::{divide_entry, subtract_four_multiples, subtract_multiple};
 use sparse_algebra::scalar::Ring;
 use sparse_forms::csc::CscMatrix;
 use sparse_units::Units;
@@ -62,38 +62,7 @@ pub fn solve_four_forward<T: Units>(
     }
 }
 
-// The same where each column of T begins with a one: nothing is searched for, inverted or multiplied by an inverse.
-pub fn solve_four_after_ones<T: Units>(
-    l: &CscMatrix<T>,
-    first: &mut [T],
-    second: &mut [T],
-    third: &mut [T],
-    fourth: &mut [T],
-)
-    requires square { l.now.pattern.minor_dim ≡ l.now.pattern.major_dim }
-    requires rows { length first.old ≡ l.now.pattern.major_dim }
-    requires rows_2 { length second.old ≡ length first.old }
-    requires rows_3 { length third.old ≡ length first.old }
-    requires rows_4 { length fourth.old ≡ length first.old }
-    requires ones { BeginWithOnes T.ring T.value l.now (length first.old) }
-    ensures first { SolvesList T.ring T.value T.zero_value (lower T.ring T.value l.now)
-        first.new first.old }
-    ensures second { SolvesList T.ring T.value T.zero_value (lower T.ring T.value l.now)
-        second.new second.old }
-    ensures third { SolvesList T.ring T.value T.zero_value (lower T.ring T.value l.now)
-        third.new third.old }
-    ensures fourth { SolvesList T.ring T.value T.zero_value (lower T.ring T.value l.now)
-        fourth.new fourth.old }
-{
-    let rows = l.row_indices();
-    let values = l.values();
-    for k in 0..first.len() {
-        let column = column_after_one(l, k);
-        take_four_answers(column, k, rows, values, first, second, third, fourth);
-    }
-}
-
-// Takes the answer of row k, and what it adds to the rows below off them.
+// Computes the answer of row k, and subtracts its multiple of the column from the rows below.
 fn take_answer<T: Ring>(column: Column<T>, k: usize, rows: &[usize], values: &[T], x: &mut [T])
     requires row { k < length x.old }
     requires range { HasRange rows.now values.now column.begin column.end }
@@ -105,7 +74,7 @@ fn take_answer<T: Ring>(column: Column<T>, k: usize, rows: &[usize], values: &[T
         (slice_range values.now column.begin column.end) column.inverse x.old x.new }
 {
     let answer = divide_entry(k, column.inverse, x);
-    take_off(answer, rows, values, column.begin, column.end, x);
+    subtract_multiple(answer, rows, values, column.begin, column.end, x);
 }
 
 // The same in each of four columns.
@@ -147,7 +116,7 @@ fn take_four_answers<T: Ring>(
     let d = divide_entry(k, column.inverse, fourth);
     let answers = (a, b, c, d);
     let (begin, end) = (column.begin, column.end);
-    take_off_four(
+    subtract_four_multiples(
         answers, rows, values, begin, end, first, second, third, fourth,
     );
 }

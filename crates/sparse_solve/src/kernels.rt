@@ -18,8 +18,13 @@ pub fn divide_entry<T: Ring>(k: usize, inverse: T, x: &mut [T]) -> T
     x[k]
 }
 
-// Takes a multiple of the values off x, each in its row.
-pub fn take_off<T: Ring>(
+/// Subtracts `factor` times a sparse column from the dense column `x`.
+///
+/// The sparse column is a range of the arrays of a matrix by columns: for each position from `begin` to before `end` its row and its value.
+/// Positions must be inside both arrays, and rows inside `x`. A row that stands twice is subtracted twice.
+///
+/// One multiplication for each position. Allocates nothing.
+pub fn subtract_multiple<T: Ring>(
     factor: T,
     rows: &[usize],
     values: &[T],
@@ -33,12 +38,12 @@ pub fn take_off<T: Ring>(
         (slice_range rows.now begin end) (slice_range values.now begin end) x.old x.new }
 {
     for at in begin..end {
-        take_term(x, rows[at], values[at], factor);
+        subtract_term(x, rows[at], values[at], factor);
     }
 }
 
-// Takes the product of a value and a factor off an entry of x.
-fn take_term<T: Ring>(x: &mut [T], row: usize, value: T, factor: T)
+// Subtracts the product of a value and a factor from an entry of x.
+fn subtract_term<T: Ring>(x: &mut [T], row: usize, value: T, factor: T)
     requires { row < length x.old }
     ensures written { x.new ≡ slice_set x.old row (slice_index_or x.new row T.zero_value) }
     ensures value { T.value (slice_index_or x.new row T.zero_value)
@@ -49,8 +54,8 @@ fn take_term<T: Ring>(x: &mut [T], row: usize, value: T, factor: T)
     *entry = entry.add(value.mul(factor).neg());
 }
 
-// Takes a multiple of the values off each of four columns, each in its row.
-pub fn take_off_four<T: Ring>(
+// Subtracts a multiple of one sparse column from each of four dense columns.
+pub fn subtract_four_multiples<T: Ring>(
     factors: (T, T, T, T),
     rows: &[usize],
     values: &[T],
@@ -78,14 +83,14 @@ pub fn take_off_four<T: Ring>(
     let (a, b, c, d) = factors;
     for at in begin..end {
         let (row, value) = (rows[at], values[at]);
-        take_term(first, row, value, a);
-        take_term(second, row, value, b);
-        take_term(third, row, value, c);
-        take_term(fourth, row, value, d);
+        subtract_term(first, row, value, a);
+        subtract_term(second, row, value, b);
+        subtract_term(third, row, value, c);
+        subtract_term(fourth, row, value, d);
     }
 }
 
-// Returns the sum of the values, each times x in its row.
+// Returns the dot product of a sparse column and x.
 pub fn dot<T: Ring>(rows: &[usize], values: &[T], begin: usize, end: usize, x: &[T]) -> T
     requires range { HasRange rows.now values.now begin end }
     requires inside { All (λ i. i < length x.now) (slice_range rows.now begin end) }
@@ -108,7 +113,7 @@ fn add_term<T: Ring>(sum: T, value: T, x: &[T], row: usize) -> T
     sum.add(value.mul(x[row]))
 }
 
-// Returns the sums of the values, each times the entry of one of four columns in its row.
+// Returns the dot products of a sparse column and each of four dense columns.
 pub fn four_dots<T: Ring>(
     rows: &[usize],
     values: &[T],

@@ -3,24 +3,22 @@
 ghost use Rattle.std.specs.Prelude.{◌≡◌, ℕ, ◌+◌, ◌*◌, ◌<◌, ◌≤◌, length, slice_index_or};
 ghost use Rattle.sparse_op.specs.Operands.{inner_of};
 ghost use Rattle.sparse_cs.specs.PlainOfLanes.{plain_of_cols};
-ghost use Rattle.sparse_solve.specs.InnerColumns.{BeginWithOnes, ChangesBlock, HasPivots};
-ghost use Rattle.sparse_solve.specs.InnerColumns.{SolvesColumn, SolvesColumns, SolvesList, lower};
-ghost use Rattle.sparse_solve.specs.InnerColumns.{op_lower};
+ghost use Rattle.sparse_solve.specs.InnerColumns.{ChangesBlock, HasPivots, SolvesColumn};
+ghost use Rattle.sparse_solve.specs.InnerColumns.{SolvesColumns, SolvesList, op_lower};
 
 use crate::backward::{solve_backward, solve_four_backward};
-use crate::forward::{solve_forward, solve_four_after_ones, solve_four_forward};
+use crate::forward::{solve_forward, solve_four_forward};
 use sparse_base::dense::DMatrix;
 use sparse_forms::csc::CscMatrix;
 use sparse_op::Op;
 use sparse_units::Units;
 
-// Solves `op(T) X = B` over B, some columns at a time. The first columns of T, as many as `ones`, begin with a one.
-pub fn solve_columns<T: Units>(l: Op<&CscMatrix<T>>, ones: usize, b: &mut DMatrix<T>)
+// Solves `op(T) X = B` over B, some columns at a time.
+pub fn solve_columns<T: Units>(l: Op<&CscMatrix<T>>, b: &mut DMatrix<T>)
     requires square { (inner_of l).now.pattern.minor_dim ≡ (inner_of l).now.pattern.major_dim }
     requires rows { b.old.nrows ≡ (inner_of l).now.pattern.major_dim }
     requires pivots { 0 < b.old.ncols
         → HasPivots T.ring T.value (plain_of_cols T.ring T.value (inner_of l).now) }
-    requires ones { BeginWithOnes T.ring T.value (inner_of l).now ones }
     ensures { SolvesColumns T.ring T.value T.zero_value
         (op_lower T.ring T.value (λ m. m.now) l.entry) b.new b.old }
 {
@@ -31,17 +29,16 @@ pub fn solve_columns<T: Units>(l: Op<&CscMatrix<T>>, ones: usize, b: &mut DMatri
     let ncols = b.ncols();
     let mut from = 0;
     while from < ncols {
-        from = solve_next(l, ones, from, b);
+        from = solve_next(l, from, b);
     }
 }
 
 // Solves `op(T) X = B` over four columns of B, or over one where fewer are left. Returns the number of the column after them.
-fn solve_next<T: Units>(l: Op<&CscMatrix<T>>, ones: usize, from: usize, b: &mut DMatrix<T>) -> usize
+fn solve_next<T: Units>(l: Op<&CscMatrix<T>>, from: usize, b: &mut DMatrix<T>) -> usize
     requires square { (inner_of l).now.pattern.minor_dim ≡ (inner_of l).now.pattern.major_dim }
     requires rows { b.old.nrows ≡ (inner_of l).now.pattern.major_dim }
     requires column { from < b.old.ncols }
     requires pivots { HasPivots T.ring T.value (plain_of_cols T.ring T.value (inner_of l).now) }
-    requires ones { BeginWithOnes T.ring T.value (inner_of l).now ones }
     ensures order { from < result }
     ensures bounds { result ≤ b.old.ncols }
     ensures solved { ChangesBlock T.ring T.value T.zero_value from result
@@ -53,7 +50,7 @@ fn solve_next<T: Units>(l: Op<&CscMatrix<T>>, ones: usize, from: usize, b: &mut 
         return from + 1;
     }
     let nrows = b.nrows();
-    solve_four(l, ones, nrows, b.columns_mut(from, 4));
+    solve_four(l, nrows, b.columns_mut(from, 4));
     from + 4
 }
 
@@ -72,12 +69,11 @@ fn solve_one<T: Units>(l: Op<&CscMatrix<T>>, x: &mut [T])
 }
 
 // Solves `op(T) x = b` over four columns that stand one after the other.
-fn solve_four<T: Units>(l: Op<&CscMatrix<T>>, ones: usize, nrows: usize, x: &mut [T])
+fn solve_four<T: Units>(l: Op<&CscMatrix<T>>, nrows: usize, x: &mut [T])
     requires square { (inner_of l).now.pattern.minor_dim ≡ (inner_of l).now.pattern.major_dim }
     requires rows { nrows ≡ (inner_of l).now.pattern.major_dim }
     requires columns { length x.old ≡ 4 * nrows }
     requires pivots { HasPivots T.ring T.value (plain_of_cols T.ring T.value (inner_of l).now) }
-    requires ones { BeginWithOnes T.ring T.value (inner_of l).now ones }
     ensures { (j : ℕ) → j < 4 → SolvesColumn T.ring nrows
         (op_lower T.ring T.value (λ m. m.now) l.entry)
         (λ i. T.value (slice_index_or x.new (j * nrows + i) T.zero_value))
@@ -86,13 +82,12 @@ fn solve_four<T: Units>(l: Op<&CscMatrix<T>>, ones: usize, nrows: usize, x: &mut
     let (first, behind) = x.split_at_mut(nrows);
     let (second, behind) = behind.split_at_mut(nrows);
     let (third, fourth) = behind.split_at_mut(nrows);
-    solve_side_by_side(l, ones, first, second, third, fourth);
+    solve_side_by_side(l, first, second, third, fourth);
 }
 
 // Solves `op(T) x = b` over each of four columns.
 fn solve_side_by_side<T: Units>(
     l: Op<&CscMatrix<T>>,
-    ones: usize,
     first: &mut [T],
     second: &mut [T],
     third: &mut [T],
@@ -104,7 +99,6 @@ fn solve_side_by_side<T: Units>(
     requires rows_3 { length third.old ≡ length first.old }
     requires rows_4 { length fourth.old ≡ length first.old }
     requires pivots { HasPivots T.ring T.value (plain_of_cols T.ring T.value (inner_of l).now) }
-    requires ones { BeginWithOnes T.ring T.value (inner_of l).now ones }
     ensures first { SolvesList T.ring T.value T.zero_value
         (op_lower T.ring T.value (λ m. m.now) l.entry) first.new first.old }
     ensures second { SolvesList T.ring T.value T.zero_value
@@ -115,39 +109,7 @@ fn solve_side_by_side<T: Units>(
         (op_lower T.ring T.value (λ m. m.now) l.entry) fourth.new fourth.old }
 {
     match l {
-        Op::NoOp(l) => solve_four_lower(l, ones, first, second, third, fourth),
+        Op::NoOp(l) => solve_four_forward(l, first, second, third, fourth),
         Op::Transpose(l) => solve_four_backward(l, first, second, third, fourth),
-    }
-}
-
-// Solves `T x = b` over each of four columns.
-fn solve_four_lower<T: Units>(
-    l: &CscMatrix<T>,
-    ones: usize,
-    first: &mut [T],
-    second: &mut [T],
-    third: &mut [T],
-    fourth: &mut [T],
-)
-    requires square { l.now.pattern.minor_dim ≡ l.now.pattern.major_dim }
-    requires rows { length first.old ≡ l.now.pattern.major_dim }
-    requires rows_2 { length second.old ≡ length first.old }
-    requires rows_3 { length third.old ≡ length first.old }
-    requires rows_4 { length fourth.old ≡ length first.old }
-    requires pivots { HasPivots T.ring T.value (plain_of_cols T.ring T.value l.now) }
-    requires ones { BeginWithOnes T.ring T.value l.now ones }
-    ensures first { SolvesList T.ring T.value T.zero_value (lower T.ring T.value l.now)
-        first.new first.old }
-    ensures second { SolvesList T.ring T.value T.zero_value (lower T.ring T.value l.now)
-        second.new second.old }
-    ensures third { SolvesList T.ring T.value T.zero_value (lower T.ring T.value l.now)
-        third.new third.old }
-    ensures fourth { SolvesList T.ring T.value T.zero_value (lower T.ring T.value l.now)
-        fourth.new fourth.old }
-{
-    if first.len() <= ones {
-        solve_four_after_ones(l, first, second, third, fourth);
-    } else {
-        solve_four_forward(l, first, second, third, fourth);
     }
 }

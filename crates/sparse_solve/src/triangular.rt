@@ -9,9 +9,9 @@ ghost use Rattle.sparse_algebra.specs.Plain.{Plain};
 ghost use Rattle.sparse_cs.specs.Compressed.{Compressed, IsSound};
 ghost use Rattle.sparse_cs.specs.PlainOfLanes.{plain_of_cols};
 ghost use Rattle.sparse_solve.specs.Solutions.{plain_lower, IsSolution, IsSingular, HasSameValues};
-ghost use Rattle.sparse_solve.specs.InnerColumns.{BeginWithOnes, HasPivots};
+ghost use Rattle.sparse_solve.specs.InnerColumns.{HasPivots};
 
-use crate::column::{begins_with_one, column_below};
+use crate::column::column_below;
 use crate::substitution::solve_columns;
 use sparse_base::dense::DMatrix;
 use sparse_forms::csc::CscMatrix;
@@ -69,63 +69,33 @@ pub fn spsolve_csc_lower_triangular<T: Units>(
     ensures unchanged { OnErr result (b.new ≡ b.old) }
 {
     let (t, ncols) = (l.into_inner(), b.ncols());
-    let ones = leading_ones(t, ncols);
-    if !can_solve(t, ones, ncols) {
+    if !can_solve(t, ncols) {
         return Err(OperationError::of_singular_diagonal());
     }
-    solve_columns(l, ones, b);
+    solve_columns(l, b);
     Ok(())
 }
 
-// Returns a number of first columns that begin with a one, or zero if there is no column to solve for.
-//
-// In a lower triangle with ones on its diagonal it is the number of all columns. The halves are read side by side, up to the first pair with
-// a column that begins otherwise: that takes less time than one after the other, since more reads of memory overlap.
-fn leading_ones<T: Units>(l: &CscMatrix<T>, ncols: usize) -> usize
-    ensures ones { BeginWithOnes T.ring T.value l.now result }
-    ensures all { 0 < ncols → BeginWithOnes T.ring T.value l.now l.now.pattern.major_dim
-        → result ≡ l.now.pattern.major_dim }
-{
-    if ncols == 0 {
-        return 0;
-    }
-    let count = l.pattern().major_dim();
-    let half = count - count / 2;
-    for k in 0..half {
-        let other = (half + k).min(count - 1);
-        let (here, there) = (begins_with_one(l, k), begins_with_one(l, other));
-        if !here {
-            return k;
-        }
-        if !there {
-            return k;
-        }
-    }
-    count
-}
-
-// Whether there is no column to solve for, or each diagonal entry is stored and has an inverse. The first columns begin with a one.
-fn can_solve<T: Units>(l: &CscMatrix<T>, ones: usize, ncols: usize) -> bool
+// Whether there is no column to solve for, or each diagonal entry is stored and has an inverse.
+fn can_solve<T: Units>(l: &CscMatrix<T>, ncols: usize) -> bool
     requires square { l.now.pattern.minor_dim ≡ l.now.pattern.major_dim }
-    requires ones { BeginWithOnes T.ring T.value l.now ones }
     ensures cases { MatchBool result
         (0 < ncols → HasPivots T.ring T.value (plain_of_cols T.ring T.value l.now))
         ((0 < ncols) × IsSingular T.ring T.value (plain_of_cols T.ring T.value l.now)) }
     ensures sound { 0 < ncols → IsSound l.now }
 {
-    ncols == 0 || has_pivots(l, ones)
+    ncols == 0 || has_pivots(l)
 }
 
-// Whether each diagonal entry is stored and has an inverse. The first columns begin with a one.
-fn has_pivots<T: Units>(l: &CscMatrix<T>, ones: usize) -> bool
+// Whether each diagonal entry is stored and has an inverse.
+fn has_pivots<T: Units>(l: &CscMatrix<T>) -> bool
     requires square { l.now.pattern.minor_dim ≡ l.now.pattern.major_dim }
-    requires ones { BeginWithOnes T.ring T.value l.now ones }
     ensures cases { MatchBool result (HasPivots T.ring T.value (plain_of_cols T.ring T.value l.now))
         (IsSingular T.ring T.value (plain_of_cols T.ring T.value l.now)) }
     ensures sound { IsSound l.now }
 {
     let count = l.pattern().major_dim();
-    for k in ones..count {
+    for k in 0..count {
         if column_below(l, k).is_none() {
             return false;
         }

@@ -15,7 +15,7 @@ use sparse_algebra::scalar::Ring;
 use sparse_forms::csc::CscMatrix;
 use sparse_op::OperationError;
 use sparse_pattern::pattern::SparsityPattern;
-use sparse_solve::take_off;
+use sparse_solve::subtract_multiple;
 use sparse_units::Units;
 
 // Computes the columns of L, and the diagonal of D, for the symmetric matrix with this lower triangle.
@@ -56,7 +56,7 @@ pub fn factor_columns<T: Units>(
     let _ = rows.major_offsets();
     for j in 0..d.len() {
         add_lane(lower, j, column);
-        take_columns_off(l, rows.lane(j), j, d, cursors, column);
+        subtract_columns(l, rows.lane(j), j, d, cursors, column);
         let pivot = column[j];
         let Some(inverse) = pivot.recip() else {
             return Err(OperationError::of_singular_diagonal());
@@ -79,7 +79,7 @@ fn add_lane<T: Ring>(a: &CscMatrix<T>, j: usize, column: &mut [T])
     ensures sound { IsSound a.now }
 {
     let (offsets, rows, values) = a.csc_data();
-    take_off(
+    subtract_multiple(
         T::one().neg(),
         rows,
         values,
@@ -89,8 +89,8 @@ fn add_lane<T: Ring>(a: &CscMatrix<T>, j: usize, column: &mut [T])
     );
 }
 
-// Takes the columns before j off from row j on, each times its pivot and its entry in row j, and moves the cursors past row j.
-fn take_columns_off<T: Ring>(
+// Subtracts the columns before j from row j on, each times its pivot and its entry in row j, and moves the cursors past row j.
+fn subtract_columns<T: Ring>(
     l: &CscMatrix<T>,
     row: &[usize],
     j: usize,
@@ -121,7 +121,7 @@ fn take_columns_off<T: Ring>(
         let at = cursors[k];
         cursors[k] = at + 1;
         if k < j {
-            take_off(
+            subtract_multiple(
                 d[k].mul(values[at]),
                 rows,
                 values,

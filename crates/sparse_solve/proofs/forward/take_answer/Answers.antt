@@ -11,6 +11,6 @@ returns g c =
     let rows = slice_range c.args.rows.now column.begin column.end in
     let values = slice_range c.args.values.now column.begin column.end in
     let answer = c.divide_entry-answer.result in
-    taken R f z c.args.k rows values c.args.x.now c.take_off.new.x answer column.inverse
+    taken R f z c.args.k rows values c.args.x.now c.subtract_multiple.new.x answer column.inverse
     (R.neg (f answer)) c.requires.row c.requires.above c.divide_entry-answer.ensures.value refl
-    (rw c.divide_entry-answer.ensures.written at c.take_off.ensures)
+    (rw c.divide_entry-answer.ensures.written at c.subtract_multiple.ensures)

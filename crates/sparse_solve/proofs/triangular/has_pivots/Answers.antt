@@ -5,13 +5,8 @@ use Rattle.sparse_pattern.specs.Raw.{Raw}
 use Rattle.sparse_cs.specs.PlainOfLanes.{plain_of_cols}
 use Rattle.sparse_solve.specs.Solutions.{HasPivot}
 use Rattle.sparse_solve.specs.InnerColumns.{IsColumnIn}
-use Rattle.sparse_solve.proofs.BelowDiagonal.{pivot_of_one}
 use Rattle.sparse_solve.proofs.Pivots.{some_gives, none_gives, pivot_of}
 use Rattle.sparse_solve.proofs.triangular.has_pivots.Goals as goal
-
-pub loop-k-init : goal.loop-k-init
-loop-k-init g c = λ k lt. pivot_of_one g.T.Ring.ring g.T.Ring.value g.T.Zero.zero_value
-    c.args.l.now c.pattern.ensures.sound k (c.requires.ones k lt)
 
 pub loop-k-preserved : goal.loop-k-preserved
 loop-k-preserved g c = λ k lt.

@@ -35,10 +35,6 @@ pub solve_columns-requires-clause-pivots : goal.solve_columns-requires-clause-pi
 solve_columns-requires-clause-pivots g c = rw (c.into_inner-t.ensures, c.ncols-ncols.ensures) at
     c.if-not-can_solve.ensures.cases
 
-pub solve_columns-requires-clause-ones : goal.solve_columns-requires-clause-ones
-solve_columns-requires-clause-ones g c =
-    rw c.into_inner-t.ensures at c.leading_ones-ones.ensures.ones
-
 pub returns-clause-solved : goal.returns-clause-solved
 returns-clause-solved g c =
     let sound =

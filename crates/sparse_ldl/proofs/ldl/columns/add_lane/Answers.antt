@@ -12,7 +12,7 @@ returns-clause-added g c =
     let a = c.args.a.now in
     let j = c.args.j in
     let given = c.csc_data.ensures in
-    let taken = rw (given.offsets, given.indices, given.values) at c.take_off.ensures in
+    let taken = rw (given.offsets, given.indices, given.values) at c.subtract_multiple.ensures in
     λ i lt. taken i lt ∙ ap (R.add (f (get_or c.args.column.now i z)))
     (ap (R.mul (R.neg (f c.neg.result))) (lane_value_is R f z a given.sound j c.requires.lane i)
     ∙ neg_twice R (f c.neg.result) ((plain_of_cols R f a).value i j)

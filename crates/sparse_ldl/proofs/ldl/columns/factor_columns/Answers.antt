@@ -11,12 +11,12 @@ use Rattle.sparse_ldl.proofs.ColumnSteps.{step_done, step_singular}
 use Rattle.sparse_ldl.proofs.TurnedRows.{lane_is_row}
 use Rattle.sparse_ldl.proofs.ldl.columns.factor_columns.Goals as goal
 
-pub take_columns_off-requires-clause-lower : goal.take_columns_off-requires-clause-lower
-take_columns_off-requires-clause-lower g c = λ k i place.
+pub subtract_columns-requires-clause-lower : goal.subtract_columns-requires-clause-lower
+subtract_columns-requires-clause-lower g c = λ k i place.
     c.requires.filled.lower k i (subst (λ p. IsPlace p k i) c.loop-j.invariant.pattern place)
 
-pub take_columns_off-requires-clause-row : goal.take_columns_off-requires-clause-row
-take_columns_off-requires-clause-row g c =
+pub subtract_columns-requires-clause-row : goal.subtract_columns-requires-clause-row
+subtract_columns-requires-clause-row g c =
     let lane = lane_is_row c.args.l.now.pattern c.args.rows.now c.requires.turned
     c.major_offsets.ensures.valid c.loop-j.j
     (omega (
@@ -41,7 +41,7 @@ returns-in_default-clause-singular g c = λ m d' part.
     let d = c.loop-j.d in
     let column = c.loop-j.column in
     let added = c.add_lane.new.column in
-    let left = c.take_columns_off.new.column in
+    let left = c.subtract_columns.new.column in
     let filled = subst IsFilledPattern (sym inv.pattern) c.requires.filled in
     let included = subst (IsIncluded a.pattern) (sym inv.pattern) c.requires.included in
     let dim : l.pattern.major_dim ≡ c.args.l.now.pattern.major_dim =
@@ -52,11 +52,11 @@ returns-in_default-clause-singular g c = λ m d' part.
     omega (arith, c.loop-j-test.true, size) in
     let leaves = subst (λ n. IsLeft R n j (plain_of_cols R f l).value (entries R f z d) j
     (entries R f z left) (entries R f z added)) (c.add_lane.ensures.rows ∙ long)
-    c.take_columns_off.ensures.left in
+    c.subtract_columns.ensures.left in
     let within : j < length left = omega (
       arith,
       lt,
-      c.take_columns_off.ensures.rows,
+      c.subtract_columns.ensures.rows,
       c.add_lane.ensures.rows,
       long,
     ) in
@@ -80,10 +80,10 @@ loop-j-preserved g c =
     let d = c.loop-j.d in
     let column = c.loop-j.column in
     let added = c.add_lane.new.column in
-    let left = c.take_columns_off.new.column in
+    let left = c.subtract_columns.new.column in
     let last = c.move_column.new.column in
     let values = c.move_column.new.l.values in
-    let cursors = c.take_columns_off.new.cursors in
+    let cursors = c.subtract_columns.new.cursors in
     let e = c.in-Some.inverse in
     let filled = subst IsFilledPattern (sym inv.pattern) c.requires.filled in
     let included = subst (IsIncluded a.pattern) (sym inv.pattern) c.requires.included in
@@ -95,8 +95,8 @@ loop-j-preserved g c =
     omega (arith, c.loop-j-test.true, size) in
     let leaves = subst (λ n. IsLeft R n j (plain_of_cols R f l).value (entries R f z d) j
     (entries R f z left) (entries R f z added)) (c.add_lane.ensures.rows ∙ long)
-    c.take_columns_off.ensures.left in
-    let same = c.take_columns_off.ensures.rows ∙ c.add_lane.ensures.rows in
+    c.subtract_columns.ensures.left in
+    let same = c.subtract_columns.ensures.rows ∙ c.add_lane.ensures.rows in
     let within : j < length left = omega (arith, lt, same, long) in
     let read : c.index-column-j.result ≡ get_or left j z = c.index-column-j.is
     ∙ get_or_default left j c.index-column-j.result z within in
@@ -104,12 +104,12 @@ loop-j-preserved g c =
     ap (λ v. R.mul (f v) (f e)) (sym read) ∙ c.in-Some.ensures.inverse in
     let done = step_done R f z g.met.T.Ring.zero_law a l d c.loop-j.cursors column j filled included
     c.add_lane.ensures.sound lt long inv.done added left c.add_lane.ensures.added leaves e inverts
-    (omega (arith, lt, size, inv.pivots)) c.take_columns_off.ensures.above values last
-    c.move_column.ensures.moved cursors same c.take_columns_off.ensures.cursors in
+    (omega (arith, lt, size, inv.pivots)) c.subtract_columns.ensures.above values last
+    c.move_column.ensures.moved cursors same c.subtract_columns.ensures.cursors in
     record {
       pattern = c.move_column.ensures.pattern ∙ inv.pattern;
       pivots = length-set d j c.index-column-j.result ∙ inv.pivots;
-      count = c.take_columns_off.ensures.count ∙ inv.count;
+      count = c.subtract_columns.ensures.count ∙ inv.count;
       rows = c.move_column.ensures.moved.same ∙ same ∙ inv.rows;
       done = subst (λ m. AreColumnsDone R f z a m (set d j c.index-column-j.result) cursors last
           (j + 1)) (ap (λ p. compressed_of p values) (sym c.move_column.ensures.pattern))

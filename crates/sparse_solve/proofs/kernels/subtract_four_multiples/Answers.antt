@@ -1,7 +1,7 @@
 use Rattle.std.proofs.Common.{◌≡◌, length, arith}
 use Rattle.sparse_solve.proofs.EntrySteps.{inside_at, inside_both, off_none, off_more}
 use Rattle.sparse_solve.proofs.EntrySteps.{off_all}
-use Rattle.sparse_solve.proofs.kernels.take_off_four.Goals as goal
+use Rattle.sparse_solve.proofs.kernels.subtract_four_multiples.Goals as goal
 
 pub loop-at-init : goal.loop-at-init
 loop-at-init g c =
@@ -22,29 +22,29 @@ loop-at-init g c =
           c.args.fourth.now;
     }
 
-pub take_term-requires : goal.take_term-requires
-take_term-requires g c =
+pub subtract_term-requires : goal.subtract_term-requires
+subtract_term-requires g c =
     let within = inside_at c.args.rows.now c.args.begin c.loop-at.at c.args.end
     (length c.args.first.now) c.loop-at.invariant.order c.loop-at-test.true c.requires.range.1
     c.requires.inside in
     omega (arith, within, c.loop-at.auto.first)
 
-pub take_term-requires-in-loop-at : goal.take_term-requires-in-loop-at
-take_term-requires-in-loop-at g c =
+pub subtract_term-requires-in-loop-at : goal.subtract_term-requires-in-loop-at
+subtract_term-requires-in-loop-at g c =
     let within = inside_both c.args.rows.now c.args.begin c.loop-at.at c.args.end c.args.first.now
     c.args.second.now c.loop-at.invariant.order c.loop-at-test.true c.requires.range.1
     c.requires.inside c.requires.rows_2 in
     omega (arith, within, c.loop-at.auto.second)
 
-pub take_term-requires-in-loop-at-2 : goal.take_term-requires-in-loop-at-2
-take_term-requires-in-loop-at-2 g c =
+pub subtract_term-requires-in-loop-at-2 : goal.subtract_term-requires-in-loop-at-2
+subtract_term-requires-in-loop-at-2 g c =
     let within = inside_both c.args.rows.now c.args.begin c.loop-at.at c.args.end c.args.first.now
     c.args.third.now c.loop-at.invariant.order c.loop-at-test.true c.requires.range.1
     c.requires.inside c.requires.rows_3 in
     omega (arith, within, c.loop-at.auto.third)
 
-pub take_term-requires-in-loop-at-3 : goal.take_term-requires-in-loop-at-3
-take_term-requires-in-loop-at-3 g c =
+pub subtract_term-requires-in-loop-at-3 : goal.subtract_term-requires-in-loop-at-3
+subtract_term-requires-in-loop-at-3 g c =
     let within = inside_both c.args.rows.now c.args.begin c.loop-at.at c.args.end c.args.first.now
     c.args.fourth.now c.loop-at.invariant.order c.loop-at-test.true c.requires.range.1
     c.requires.inside c.requires.rows_4 in
@@ -65,21 +65,21 @@ loop-at-preserved g c =
     (omega (arith, c.loop-at-test.true, c.requires.range.2)) c.index-values-at.is in
     record {
       order = omega (arith, was.invariant.order);
-      first = more was.first c.args.first.now c.take_term.new.x c.args.factors.0
-          inside was.auto.first c.take_term.ensures.written
-          c.take_term.ensures.value was.invariant.first;
-      second = more was.second c.args.second.now c.take_term-in-loop-at.new.x c.args.factors.1
+      first = more was.first c.args.first.now c.subtract_term.new.x c.args.factors.0
+          inside was.auto.first c.subtract_term.ensures.written
+          c.subtract_term.ensures.value was.invariant.first;
+      second = more was.second c.args.second.now c.subtract_term-in-loop-at.new.x c.args.factors.1
           (omega (arith, inside, c.requires.rows_2)) was.auto.second
-          c.take_term-in-loop-at.ensures.written
-          c.take_term-in-loop-at.ensures.value was.invariant.second;
-      third = more was.third c.args.third.now c.take_term-in-loop-at-2.new.x c.args.factors.2
+          c.subtract_term-in-loop-at.ensures.written
+          c.subtract_term-in-loop-at.ensures.value was.invariant.second;
+      third = more was.third c.args.third.now c.subtract_term-in-loop-at-2.new.x c.args.factors.2
           (omega (arith, inside, c.requires.rows_3)) was.auto.third
-          c.take_term-in-loop-at-2.ensures.written
-          c.take_term-in-loop-at-2.ensures.value was.invariant.third;
-      fourth = more was.fourth c.args.fourth.now c.take_term-in-loop-at-3.new.x c.args.factors.3
+          c.subtract_term-in-loop-at-2.ensures.written
+          c.subtract_term-in-loop-at-2.ensures.value was.invariant.third;
+      fourth = more was.fourth c.args.fourth.now c.subtract_term-in-loop-at-3.new.x c.args.factors.3
           (omega (arith, inside, c.requires.rows_4)) was.auto.fourth
-          c.take_term-in-loop-at-3.ensures.written
-          c.take_term-in-loop-at-3.ensures.value was.invariant.fourth;
+          c.subtract_term-in-loop-at-3.ensures.written
+          c.subtract_term-in-loop-at-3.ensures.value was.invariant.fourth;
     }
 
 pub returns : goal.returns

@@ -3,7 +3,7 @@ use Rattle.sparse_cs.specs.PlainOfLanes.{plain_of_cols}
 use Rattle.sparse_solve.specs.InnerColumns.{entries}
 use Rattle.sparse_ldl.proofs.Cursors.{AreCursorsAt}
 use Rattle.sparse_ldl.proofs.Left.{IsLeftAt}
-use Rattle.sparse_ldl.proofs.ldl.columns.take_columns_off.Given as goal
+use Rattle.sparse_ldl.proofs.ldl.columns.subtract_columns.Given as goal
 
 abbrev pub invariant-loop-q : goal.invariant-loop-q
 invariant-loop-q g l =

@@ -1,6 +1,6 @@
 use Rattle.std.proofs.Common.{get_or, set, ap, sym, ◌∙◌, get_or-set_same}
 use Rattle.std.proofs.lemmas.List.{get_or_default}
-use Rattle.sparse_solve.proofs.kernels.take_term.Goals as goal
+use Rattle.sparse_solve.proofs.kernels.subtract_term.Goals as goal
 
 pub returns : goal.returns
 returns g c =

@@ -1,6 +1,6 @@
 use Rattle.std.proofs.Common.{◌≤◌, slice_range}
 use Rattle.sparse_solve.specs.InnerColumns.{AddsMultiple}
-use Rattle.sparse_solve.proofs.kernels.take_off.Given as goal
+use Rattle.sparse_solve.proofs.kernels.subtract_multiple.Given as goal
 
 abbrev pub invariant-loop-at : goal.invariant-loop-at
 invariant-loop-at g l =

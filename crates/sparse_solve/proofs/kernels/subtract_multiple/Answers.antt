@@ -1,6 +1,6 @@
 use Rattle.std.proofs.Common.{◌≡◌, length, arith}
 use Rattle.sparse_solve.proofs.EntrySteps.{inside_at, off_none, off_more, off_all}
-use Rattle.sparse_solve.proofs.kernels.take_off.Goals as goal
+use Rattle.sparse_solve.proofs.kernels.subtract_multiple.Goals as goal
 
 pub loop-at-init : goal.loop-at-init
 loop-at-init g c = record {
@@ -10,8 +10,8 @@ loop-at-init g c = record {
       c.args.begin c.args.x.now;
 }
 
-pub take_term-requires : goal.take_term-requires
-take_term-requires g c =
+pub subtract_term-requires : goal.subtract_term-requires
+subtract_term-requires g c =
     omega (
       arith,
       inside_at c.args.rows.now c.args.begin c.loop-at.at c.args.end (length c.args.x.now)
@@ -34,8 +34,8 @@ loop-at-preserved g c =
       taken = off_more R f z rows c.args.values.now c.args.begin at c.index-values-at.result
           was.order (omega (arith, c.loop-at-test.true, c.requires.range.1))
           (omega (arith, c.loop-at-test.true, c.requires.range.2)) c.index-values-at.is
-          c.loop-at.x c.args.x.now c.take_term.new.x c.args.factor inside c.loop-at.auto.x
-          c.take_term.ensures.written c.take_term.ensures.value was.taken;
+          c.loop-at.x c.args.x.now c.subtract_term.new.x c.args.factor inside c.loop-at.auto.x
+          c.subtract_term.ensures.written c.subtract_term.ensures.value was.taken;
     }
 
 pub returns : goal.returns

@@ -7,8 +7,8 @@ use Rattle.sparse_ldl.proofs.Cursors.{cursors_start, cursors_more}
 use Rattle.sparse_ldl.proofs.Left.{IsLeftAt, left_start, left_diagonal, left_end}
 use Rattle.sparse_ldl.proofs.RowEntries.{others_zero, entry_within, row_within, cut_rows, entry_above}
 use Rattle.sparse_ldl.proofs.RowEntries.{entry_left}
-use Rattle.sparse_ldl.proofs.ldl.columns.take_columns_off.Goals.{then-k-j, else-k-j}
-use Rattle.sparse_ldl.proofs.ldl.columns.take_columns_off.Goals as goal
+use Rattle.sparse_ldl.proofs.ldl.columns.subtract_columns.Goals.{then-k-j, else-k-j}
+use Rattle.sparse_ldl.proofs.ldl.columns.subtract_columns.Goals as goal
 
 pub loop-q-init : goal.loop-q-init
 loop-q-init g c =
@@ -38,8 +38,8 @@ bounds-values-at g c =
     given.sound c.args.j c.args.row.now c.requires.row c.loop-q.q c.loop-q-test.true
     c.loop-q.cursors c.loop-q.invariant.cursors)
 
-pub take_off-requires-clause-inside : goal.take_off-requires-clause-inside
-take_off-requires-clause-inside g c =
+pub subtract_multiple-requires-clause-inside : goal.subtract_multiple-requires-clause-inside
+subtract_multiple-requires-clause-inside g c =
     let given = c.csc_data.ensures in
     rw (given.indices, given.offsets) (cut_rows g.T.Ring.ring g.T.Ring.value
     g.T.Zero.zero_value c.args.l.now given.sound c.args.j c.args.row.now c.requires.row c.loop-q.q
@@ -74,7 +74,7 @@ loop-q-preserved g c =
     inside in
     elim c.if-k-j.branch [
       | then-k-j w ↦
-          let taken = rw (given.offsets, given.indices, given.values) at w.take_off.ensures in
+          let taken = rw (given.offsets, given.indices, given.values) at w.subtract_multiple.ensures in
           let d_in : k < length c.args.d.now = omega (arith, lane, c.requires.pivots) in
           let pivot = w.index-d-k.is
           ∙ get_or_default c.args.d.now k w.index-d-k.result z d_in in
@@ -91,13 +91,13 @@ loop-q-preserved g c =
             cursors = cursors;
             above = λ i less. ap (λ y. f (get_or y i z)) w.column-is
                 ∙ entry_above R f z m sound j row is q lt c.loop-q.cursors inv.cursors d
-                w.mul.result x w.take_off.new.x b product taken i less
+                w.mul.result x w.subtract_multiple.new.x b product taken i less
                 (omega (arith, less, low, inv.rows, c.requires.rows, c.requires.square))
                 ∙ inv.above i less;
             left = subst (λ y. IsLeftAt R long j L d row (q + 1) (entries R f z y)
                 (entries R f z b)) (sym w.column-is)
                 (entry_left R f z m sound j row is q lt c.loop-q.cursors inv.cursors d
-                w.mul.result x w.take_off.new.x b product taken w.if-k-j.true inv.rows inv.left);
+                w.mul.result x w.subtract_multiple.new.x b product taken w.if-k-j.true inv.rows inv.left);
           }
       | else-k-j w ↦
           let most = c.requires.lower k j (is.stored q lt) in
