@@ -1,29 +1,39 @@
-//! The laws of sums and products.
+//! The laws of sums and products, each side computed with ample memory.
 
-use crate::matrices::{Arrays, csr, equals};
+use crate::matrices::{Arrays, csc, csr, equals};
 use sparse_algebra::scalar::W64;
+use sparse_forms::csc::CscMatrix;
 use sparse_forms::csr::CsrMatrix;
 use sparse_laws::operations::{
-    difference_as_sum, identity_times, negative_twice, product_of_sum, transpose_of_product,
+    columns, difference_as_sum, identity_times, negative_twice, product_of_sum, sum_times,
+    times_identity, transpose_of_product,
 };
 use std::alloc::{AllocError, Global};
 
 const TRIANGLE: Arrays<'static> = (2, 2, &[0, 2, 3], &[0, 1, 1], &[1, 2, 3]);
 
 // Whether both sides of a law were made, and are equal.
-fn are_equal(sides: Result<(CsrMatrix<W64>, CsrMatrix<W64>), AllocError>) -> bool {
+fn are_equal<M: PartialEq + Drop>(sides: Result<(M, M), AllocError>) -> bool {
     match sides {
         Ok((left, right)) => left == right,
         Err(_) => false,
     }
 }
 
-// F (F + F) and F F + F F.
+// F (F + F) and F F + F F, then (F + F) F and F F + F F.
 fn products_distribute(alloc: Global, f: &CsrMatrix<W64>) -> bool {
     if f.ncols() != f.nrows() {
         return false;
     }
-    are_equal(product_of_sum(alloc, f, f, f))
+    are_equal(product_of_sum(alloc, f, f, f)) && are_equal(sum_times(alloc, f, f, f))
+}
+
+fn products_by_columns_distribute(alloc: Global, f: &CscMatrix<W64>) -> bool {
+    if f.ncols() != f.nrows() {
+        return false;
+    }
+    are_equal(columns::product_of_sum(alloc, f, f, f))
+        && are_equal(columns::sum_times(alloc, f, f, f))
 }
 
 // The transpose of F F, and the product of the transposes.
@@ -32,6 +42,13 @@ fn products_are_transposed(alloc: Global, f: &CsrMatrix<W64>) -> bool {
         return false;
     }
     are_equal(transpose_of_product(alloc, f, f))
+}
+
+fn products_by_columns_are_transposed(alloc: Global, f: &CscMatrix<W64>) -> bool {
+    if f.ncols() != f.nrows() {
+        return false;
+    }
+    are_equal(columns::transpose_of_product(alloc, f, f))
 }
 
 fn products_have_their_laws(alloc: Global) -> bool {
@@ -45,21 +62,48 @@ fn products_have_their_laws(alloc: Global) -> bool {
     }
 }
 
-#[test]
-fn laws_of_products(rt: HostRuntime) {
-    assert!(rt; products_have_their_laws(rt.alloc()));
-}
-
-fn negatives_cancel_and_the_identity_is_neutral(alloc: Global) -> bool {
-    match csr::<W64>(alloc, TRIANGLE) {
+fn products_by_columns_have_their_laws(alloc: Global) -> bool {
+    match csc(alloc, TRIANGLE) {
         Some(f) => {
-            equals(negative_twice(alloc, &f).ok(), &f) && equals(identity_times(alloc, &f).ok(), &f)
+            are_equal(columns::difference_as_sum(alloc, &f, &f))
+                && products_by_columns_distribute(alloc, &f)
+                && products_by_columns_are_transposed(alloc, &f)
         }
         None => false,
     }
 }
 
 #[test]
+fn laws_of_products(rt: HostRuntime) {
+    assert!(rt; products_have_their_laws(rt.alloc()));
+    assert!(rt; products_by_columns_have_their_laws(rt.alloc()));
+}
+
+fn neutral_steps_keep_rows(alloc: Global) -> bool {
+    match csr::<W64>(alloc, TRIANGLE) {
+        Some(f) => {
+            equals(negative_twice(alloc, &f).ok(), &f)
+                && equals(identity_times(alloc, &f).ok(), &f)
+                && equals(times_identity(alloc, &f).ok(), &f)
+        }
+        None => false,
+    }
+}
+
+fn neutral_steps_keep_columns(alloc: Global) -> bool {
+    match csc::<W64>(alloc, TRIANGLE) {
+        Some(f) => {
+            equals(columns::negative_twice(alloc, &f).ok(), &f)
+                && equals(columns::identity_times(alloc, &f).ok(), &f)
+                && equals(columns::times_identity(alloc, &f).ok(), &f)
+        }
+        None => false,
+    }
+}
+
+// Negatives cancel, and the identity is neutral.
+#[test]
 fn neutral_steps(rt: HostRuntime) {
-    assert!(rt; negatives_cancel_and_the_identity_is_neutral(rt.alloc()));
+    assert!(rt; neutral_steps_keep_rows(rt.alloc()));
+    assert!(rt; neutral_steps_keep_columns(rt.alloc()));
 }

@@ -42,6 +42,8 @@ mod sums_into;
 #[cfg(test)]
 mod triplets;
 #[cfg(test)]
+mod unchecked;
+#[cfg(test)]
 mod ways;
 #[cfg(test)]
 mod wrapping;

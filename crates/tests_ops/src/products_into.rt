@@ -11,16 +11,20 @@ use sparse_op::Op;
 use sparse_ops::serial::{mul_csc, spmm_csc_pattern, spmm_csc_prealloc, spmm_csr_prealloc};
 use std::alloc::Global;
 
-const TRIANGLE: Arrays<'static> = (2, 2, &[0, 2, 3], &[0, 1, 1], &[1, 2, 3]);
+/// The rows `1 2` and `0 3`.
+pub const TRIANGLE: Arrays<'static> = (2, 2, &[0, 2, 3], &[0, 1, 1], &[1, 2, 3]);
 
-const LOWER: Arrays<'static> = (2, 2, &[0, 1, 3], &[0, 0, 1], &[4, 5, 6]);
+/// The rows `4 0` and `5 6`.
+pub const LOWER: Arrays<'static> = (2, 2, &[0, 1, 3], &[0, 0, 1], &[4, 5, 6]);
 
-const FULL: Arrays<'static> = (2, 2, &[0, 2, 4], &[0, 1, 0, 1], &[1, 2, 3, 4]);
+/// The rows `1 2` and `3 4`. Where one of the factors is transposed, the product lacks one of its places.
+pub const FULL: Arrays<'static> = (2, 2, &[0, 2, 4], &[0, 1, 0, 1], &[1, 2, 3, 4]);
 
-// Which of the two factors are transposed, and the values of 2 C + 3 op(A) op(B).
-type Update = (bool, bool, [i32; 4]);
+/// Which of the two factors are transposed, and the values of 2 C + 3 op(A) op(B).
+pub type Update = (bool, bool, [i32; 4]);
 
-const UPDATES: [Update; 4] = [
+/// C is [`FULL`], A is [`TRIANGLE`] and B is [`LOWER`].
+pub const UPDATES: [Update; 4] = [
     (false, false, [44, 40, 51, 62]),
     (true, false, [14, 4, 75, 62]),
     (false, true, [14, 55, 6, 62]),

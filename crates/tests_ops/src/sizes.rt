@@ -1,7 +1,8 @@
 //! Sizes at which a call could take too much memory or time, or answer an allocation failure that there was none.
 
-use crate::matrices::{is_empty_list, list};
+use crate::matrices::{Arrays, csr, is_empty_list, list};
 use crate::pairs::{holds, holds_by_columns};
+use crate::scalars::are;
 use sparse_algebra::scalar::W64;
 use sparse_base::coo::CooMatrix;
 use sparse_base::dense::DMatrix;
@@ -9,6 +10,7 @@ use sparse_base::steps::Steps;
 use sparse_convert::serial::{
     convert_coo_csc, convert_coo_csr, convert_dense_coo, convert_dense_csc, convert_dense_csr,
 };
+use sparse_forms::csc::CscMatrix;
 use sparse_forms::csr::CsrMatrix;
 use sparse_op::Op;
 use sparse_ops::serial::{mul_csr, spmm_csr_prealloc_unchecked_counted};
@@ -78,6 +80,60 @@ fn is_squared_in_steps(alloc: Global, size: usize) -> Result<bool, AllocError> {
 #[test]
 fn a_large_identity_is_squared_in_steps(rt: HostRuntime) {
     assert!(rt; is_squared_in_steps(rt.alloc(), 200_000) == Ok(true));
+}
+
+// The rows `1 2` and `0 3`.
+const TRIANGLE: Arrays<'static> = (2, 2, &[0, 2, 3], &[0, 1, 1], &[1, 2, 3]);
+
+// Two long rows: 4 and 5 in columns 7 and 999, and 6 in column 7.
+const WIDE: Arrays<'static> = (2, 1000, &[0, 2, 3], &[7, 999, 7], &[4, 5, 6]);
+
+// Whether C = A B, computed by 2 C + 3 A B in counted steps, has the values of 5 A B.
+//
+// The rows of C are longer than it has places, so each triple is added by a binary search.
+fn is_updated_in_steps(
+    alloc: Global,
+    a: &CsrMatrix<W64>,
+    b: &CsrMatrix<W64>,
+) -> Result<bool, AllocError> {
+    if a.ncols() != b.nrows() {
+        return Ok(false);
+    }
+    let mut product = mul_csr(alloc, a, b)?;
+    let computed = spmm_csr_prealloc_unchecked_counted(
+        alloc,
+        W64::new(2),
+        &mut product,
+        W64::new(3),
+        Op::NoOp(a),
+        Op::NoOp(b),
+        &mut Steps::new(),
+    );
+    Ok(computed.is_ok() && are(product.values(), &[80, 25, 90]))
+}
+
+fn wide_rows_are_updated_in_steps(alloc: Global) -> bool {
+    let Some(a) = csr(alloc, TRIANGLE) else {
+        return false;
+    };
+    match csr(alloc, WIDE) {
+        Some(b) => is_updated_in_steps(alloc, &a, &b) == Ok(true),
+        None => false,
+    }
+}
+
+#[test]
+fn wide_rows_are_searched_in_steps(rt: HostRuntime) {
+    assert!(rt; wide_rows_are_updated_in_steps(rt.alloc()));
+}
+
+// An identity of an order whose arrays no memory can hold is refused.
+#[test]
+fn identities_past_any_memory_are_refused(rt: HostRuntime) {
+    for order in [1 << 63, usize::MAX] {
+        assert!(rt; CsrMatrix::<W64>::identity(rt.alloc(), order).is_err());
+        assert!(rt; CscMatrix::<W64>::identity(rt.alloc(), order).is_err());
+    }
 }
 
 // A list of triplets that go round the places of a 3 by 5 matrix.

@@ -36,6 +36,17 @@ fn add_by_columns<T: Ring>(
     Some(spadd_csc_prealloc(beta, c, alpha, Op::NoOp(a)))
 }
 
+fn add_turned_by_columns<T: Ring>(
+    (beta, alpha): (T, T),
+    c: &mut CscMatrix<T>,
+    a: &CscMatrix<T>,
+) -> Answer {
+    if a.ncols() != c.nrows() || a.nrows() != c.ncols() {
+        return None;
+    }
+    Some(spadd_csc_prealloc(beta, c, alpha, Op::Transpose(a)))
+}
+
 const TARGET: Arrays<'static> = (1, 2, &[0, 2], &[0, 1], &[5, 6]);
 
 const ROW: Arrays<'static> = (1, 2, &[0, 1], &[1], &[3]);
@@ -74,9 +85,18 @@ fn is_added_by_columns(alloc: Global) -> bool {
     holds_by_columns(Some(c), &[0, 1], &[10, 9]) && done
 }
 
+fn is_added_turned_by_columns(alloc: Global) -> bool {
+    let Some((mut c, a)) = pair_by_columns(alloc, TARGET, COLUMN) else {
+        return false;
+    };
+    let done = is_done(add_turned_by_columns((W64::new(2), W64::new(-1)), &mut c, &a));
+    holds_by_columns(Some(c), &[0, 1], &[10, 9]) && done
+}
+
 #[test]
 fn sums_into_columns(rt: HostRuntime) {
     assert!(rt; is_added_by_columns(rt.alloc()));
+    assert!(rt; is_added_turned_by_columns(rt.alloc()));
 }
 
 const FIRST_PLACE: Arrays<'static> = (1, 2, &[0, 1], &[0], &[5]);
