@@ -1,7 +1,8 @@
 pub mod Buffering
-pub mod DigitLines
 pub mod ColumnRuns
+pub mod DigitLines
 pub mod EntryLoop
+pub mod FileFaults
 pub mod IntegerEntries
 pub mod LineRuns
 pub mod OneMeaning

@@ -1,4 +1,5 @@
 -- Errors of files.
+use Rattle.std.specs.Prelude.{◌≡◌}
 use Rattle.std.specs.declared.io.ErrorKind.{ErrorKind}
 use Rattle.std.specs.declared.io.ErrorKind.TheVariants as io
 use Rattle.sparse_parser.specs.declared.error.MatrixMarketErrorKind.{MatrixMarketErrorKind}
@@ -9,6 +10,11 @@ use Rattle.sparse_parser.specs.declared.error.MatrixMarketErrorKind.TheVariants.
 abbrev pub file_fault : ErrorKind → MatrixMarketErrorKind
 file_fault io.OutOfMemory = OutOfMemory
 file_fault kind = IOError kind
+
+-- the error comes of a failure in opening or reading a file, with some kind
+pub record IsReadFault (e : MatrixMarketErrorKind) : Type 0 where
+  pub fault : ErrorKind
+  pub is : e ≡ file_fault fault
 
 -- an allocation failed, or the file could not be opened, created, read, written or flushed
 abbrev pub IsFileFault : MatrixMarketErrorKind → Type 0

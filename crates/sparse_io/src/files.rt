@@ -1,11 +1,13 @@
 //! Matrix Market files.
 
-ghost use Rattle.std.specs.Prelude.{◌≡◌, ◌⊎◌, ℕ, List, IfOk, IfErr, Ok, Err};
+ghost use Rattle.std.specs.Prelude.{◌≡◌, ◌⊎◌, ℕ, List, IfOk, IfErr, IsErrAnd, IsTrue, Ok, Err};
+ghost use Rattle.std.specs.Prelude.{string_bytes};
+ghost use Rattle.sparse_parser.specs.declared.error.MatrixMarketErrorKind.TheVariants.{OutOfMemory};
 ghost use Rattle.std.specs.Io.KnownBytes.{Appends};
 ghost use Rattle.std.specs.IoError.{error_kind};
 ghost use Rattle.sparse_parser.specs.Errors.{kind_of};
 ghost use Rattle.sparse_parser.specs.Meaning.{Means, values_of};
-ghost use Rattle.sparse_io.specs.Files.{file_fault, IsFileFault};
+ghost use Rattle.sparse_io.specs.Files.{file_fault, IsFileFault, IsReadFault};
 ghost use Rattle.sparse_io.specs.Written.{text_of};
 
 use crate::export::MatrixMarketExport;
@@ -37,11 +39,26 @@ pub fn load_coo_from_matrix_market_file<T: MatrixMarketScalar>(
 ) -> Result<CooMatrix<T>, MatrixMarketError>
     ensures ok { IfOk result
         (λ m. (text : List ℕ) × Means T.scalar text (Ok (values_of T.value m))) }
-    ensures refused { IfErr result (λ e. IsFileFault (kind_of e)
+    ensures refused { IfErr result (λ e. IsReadFault (kind_of e)
         ⊎ ((text : List ℕ) × Means T.scalar text (Err (kind_of e)))) }
 {
-    match fs::read_to_string(rt, path) {
-        Ok(text) => load_coo_from_matrix_market_str(rt.alloc(), text.as_str()),
+    load_read(rt.alloc(), fs::read_to_string(rt, path))
+}
+
+// Reads a matrix from the text of a file, if the file was read.
+fn load_read<T: MatrixMarketScalar>(
+    alloc: Global,
+    read: io::Result<String>,
+) -> Result<CooMatrix<T>, MatrixMarketError>
+    ensures ok { IfOk read (λ text. IfOk result
+        (λ m. Means T.scalar (string_bytes text) (Ok (values_of T.value m)))) }
+    ensures refused { IfOk read (λ text. IfErr result (λ e. (kind_of e ≡ OutOfMemory)
+        ⊎ Means T.scalar (string_bytes text) (Err (kind_of e)))) }
+    ensures unread { IfErr read
+        (λ fault. IsErrAnd result (λ e. kind_of e ≡ file_fault (error_kind fault))) }
+{
+    match read {
+        Ok(text) => load_coo_from_matrix_market_str(alloc, text.as_str()),
         Err(fault) => Err(file_fault(fault)),
     }
 }
@@ -66,53 +83,56 @@ where
     S: MatrixMarketExport<T>,
     ensures { IfErr result (λ e. IsFileFault (kind_of e)) }
 {
-    save_created(rt.alloc(), File::create(rt, path), matrix)
+    match save_created(rt.alloc(), File::create(rt, path), matrix) {
+        Ok(_flushed) => Ok(()),
+        Err(error) => Err(error),
+    }
 }
 
-// Writes the text of a matrix to a file, if there is one, and flushes it.
+// Writes the text of a matrix to a file, if it was created, and flushes it.
 fn save_created<T, S, W>(
     alloc: Global,
     created: io::Result<W>,
     matrix: &S,
-) -> Result<(), MatrixMarketError>
+) -> Result<Out<W>, MatrixMarketError>
 where
     T: MatrixMarketScalar,
     S: MatrixMarketExport<T>,
     W: Write + Drop,
-    ensures { IfErr result (λ e. IsFileFault (kind_of e)) }
+    ensures written { IfOk created (λ file. IfOk result
+        (λ out. Appends (W.contents file) (W.contents out.inner)
+        (text_of T.scalar.name (λ x. T.scalar.text (T.value x)) (S.exported matrix.now)))) }
+    ensures flushed { IfOk result (λ out. IsTrue out.flushed) }
+    ensures refused { IfErr result (λ e. IsFileFault (kind_of e)) }
+    ensures uncreated { IfErr created
+        (λ fault. IsErrAnd result (λ e. kind_of e ≡ file_fault (error_kind fault))) }
 {
     match created {
-        Ok(file) => match save_whole(alloc, file, matrix) {
-            Ok(_) => Ok(()),
-            Err(error) => Err(error),
-        },
+        Ok(file) => save_whole(alloc, file, matrix),
         Err(fault) => Err(file_fault(fault)),
     }
 }
 
 // Writes the text of a matrix to a writer and flushes it.
-fn save_whole<T, S, W>(alloc: Global, writer: W, matrix: &S) -> Result<W, MatrixMarketError>
+fn save_whole<T, S, W>(alloc: Global, writer: W, matrix: &S) -> Result<Out<W>, MatrixMarketError>
 where
     T: MatrixMarketScalar,
     S: MatrixMarketExport<T>,
     W: Write + Drop,
-    ensures written { IfOk result (λ w. Appends (W.contents writer) (W.contents w)
+    ensures written { IfOk result (λ out. Appends (W.contents writer) (W.contents out.inner)
         (text_of T.scalar.name (λ x. T.scalar.text (T.value x)) (S.exported matrix.now))) }
+    ensures flushed { IfOk result (λ out. IsTrue out.flushed) }
     ensures refused { IfErr result (λ e. IsFileFault (kind_of e)) }
 {
     let mut out = Out::new(writer);
     save_to_matrix_market(alloc, &mut out, matrix)?;
-    let mut writer = out.into_inner();
-    match writer.flush() {
-        Ok(()) => Ok(writer),
-        Err(fault) => Err(fault.into()),
-    }
+    out.flush()?;
+    Ok(out)
 }
 
 // The error of a failure in opening, creating or reading a file.
 fn file_fault(fault: io::Error) -> MatrixMarketError
-    ensures kind { kind_of result ≡ file_fault (error_kind fault) }
-    ensures fault { IsFileFault (kind_of result) }
+    ensures { kind_of result ≡ file_fault (error_kind fault) }
 {
     match fault.kind() {
         io::ErrorKind::OutOfMemory => AllocError.into(),

@@ -1,20 +1,24 @@
 //! A sink over a writer.
 
-ghost use Rattle.std.specs.Prelude.{◌≡◌, ◌+◌, None, Some};
+ghost use Rattle.std.specs.Prelude.{◌≡◌, ◌+◌, None, Some, false, is_ok, IfErr, IsErrAnd, IfOk, IsOk};
+ghost use Rattle.std.specs.Io.KnownBytes.{Keeps};
+ghost use Rattle.std.specs.IoError.{error_kind};
 ghost use Rattle.sparse_io.specs.Out.{out_state};
 
 use crate::sinks::Sink;
 use sparse_base::steps::Steps;
-use std::io::{ErrorKind, Write};
+use std::io::{self, ErrorKind, Write};
 use std::marker::Model;
 
 /// A [`Sink`] over any [`Write`].
 ///
-/// Its bytes are those of the writer. It keeps the kind of the last failure; the number of failures is visible to contracts only.
+/// Its bytes are those of the writer. It keeps the kind of the last failure. The number of failures, and whether the writer was flushed
+/// since the last write, are visible to contracts only.
 #[derive(Drop)]
 pub struct Out<W> {
     inner: W,
     last: Option<ErrorKind>,
+    flushed: bool,
     failures: Steps,
 }
 
@@ -23,17 +27,18 @@ impl<W> Model for Out<W> {
 
     ghost Value = { OutState W };
 
-    ghost view = { λ out. out_state out.inner out.failures out.last };
+    ghost view = { λ out. out_state out.inner out.failures out.last out.flushed };
 }
 
 impl<W> Out<W> {
     /// Returns a sink over the writer, without a failure so far.
     pub fn new(inner: W) -> Out<W>
-        ensures { result ≡ out_state inner 0 None }
+        ensures { result ≡ out_state inner 0 None false }
     {
         Out {
             inner,
             last: None,
+            flushed: false,
             failures: Steps::new(),
         }
     }
@@ -45,16 +50,50 @@ impl<W> Out<W> {
         let Out {
             inner,
             last: _,
+            flushed: _,
             failures: _,
         } = self;
         inner
     }
 
     fn fail(&mut self, kind: ErrorKind)
-        ensures { self.new ≡ out_state self.old.inner (self.old.failures + 1) (Some kind) }
+        ensures { self.new
+            ≡ out_state self.old.inner (self.old.failures + 1) (Some kind) self.old.flushed }
     {
         self.failures.tick();
         self.last = Some(kind);
+    }
+
+    // Records and returns what a flush of the writer answered.
+    fn settle(&mut self, answer: io::Result<()>) -> Result<(), ErrorKind>
+        ensures recorded { self.new
+            ≡ out_state self.old.inner self.old.failures self.old.last (is_ok answer) }
+        ensures flushed { IfOk answer (λ _. IsOk result) }
+        ensures refused { IfErr answer (λ e. IsErrAnd result (λ kind. kind ≡ error_kind e)) }
+    {
+        match answer {
+            Ok(()) => {
+                self.flushed = true;
+                Ok(())
+            }
+            Err(error) => {
+                self.flushed = false;
+                Err(error.kind())
+            }
+        }
+    }
+}
+
+impl<W: Write> Out<W> {
+    /// Flushes the writer. A flush that fails returns the kind of its error; it is not counted as a failed write.
+    pub fn flush(&mut self) -> Result<(), ErrorKind>
+        ensures flushed { self.new.flushed ≡ is_ok result }
+        ensures failures { self.new.failures ≡ self.old.failures }
+        ensures last { self.new.last ≡ self.old.last }
+        ensures bytes { Keeps (W.contents self.old.inner) (W.contents self.new.inner) }
+    {
+        let answer = self.inner.flush();
+        self.settle(answer)
     }
 }
 
@@ -66,6 +105,7 @@ impl<W: Write> Sink for Out<W> {
     ghost last = { λ out. out.last };
 
     fn write(&mut self, bytes: &[u8]) -> Result<usize, ErrorKind> {
+        self.flushed = false;
         match self.inner.write(bytes) {
             Ok(count) => {
                 if count == 0 && !bytes.is_empty() {
