@@ -97,6 +97,9 @@ pub use Rattle.sparse_parser.specs.Meaning
 pub use Rattle.sparse_parser.specs.Reads
 pub use Rattle.sparse_parser.specs.Scalars
 pub use Rattle.sparse_parser.specs.Words
+-- the causes of errors in texts, and their kinds
+pub use Rattle.sparse_parser.specs.declared.error.Cause
+pub use Rattle.sparse_parser.specs.declared.error.MatrixMarketErrorKind
 -- scalar types of texts
 pub use Rattle.sparse_market_scalar.specs.IntegerTexts
 pub use Rattle.sparse_market_scalar.specs.ScalarTypes
