@@ -23,8 +23,10 @@ use std::alloc::{AllocError, Global};
 /// row, by the step of [`spmm_csr_prealloc_unchecked`](crate::serial::spmm_csr_prealloc_unchecked). It takes one multiplication for each triple
 /// (i, k, j) and one for each place of `a`, and for each row one step for each 262,144 columns. Scratch memory: a value and a bit for each
 /// column. If a row is longer than both factors have places, the pattern is made first and each triple added by a binary search, in scratch
-/// memory for the triples of a row. There is room at first for a place for each triple, but for at most twice as many as both factors have; more
-/// is taken by doubling. Fails only if an allocation fails.
+/// memory for the triples of a row. Fails only if an allocation fails.
+///
+/// The room for the result is guessed: an eighth more places than if each row had as many for a triple as the first 64 rows, but at most twice
+/// as many as both factors have. Where it does not suffice, it grows by doubling.
 ///
 /// # Examples
 ///

@@ -20,6 +20,9 @@ use sparse_cs::laws::stands_law;
 use sparse_pattern::pattern::SparsityPattern;
 use std::alloc::{AllocError, Global};
 
+// How many first rows are looked at, to guess the places of all.
+const FIRST_ROWS: usize = 64;
+
 // The rows of a product that are made so far.
 #[derive(Drop)]
 struct Rows<T> {
@@ -45,27 +48,22 @@ pub(super) fn multiply_rows<T: Ring>(
     let (first, second) = (a.pattern(), b.pattern());
     let mut set = LaneSet::new(alloc, second.minor_dim())?;
     let mut row = zero_row(alloc, second.minor_dim())?;
-    let mut rows = no_rows(alloc, first, second)?;
+    let room = guess_places(alloc, first, second, &mut set)?;
+    let mut rows = no_rows(alloc, first.major_dim(), room)?;
     for i in 0..first.major_dim() {
         push_row(a, i, b, &mut set, &mut row, &mut rows)?;
     }
     Ok(into_matrix(rows, first.major_dim(), second.minor_dim()))
 }
 
-// No rows yet, with room for those of the product.
+// No rows yet, with room for a number of places.
 #[tactic(auto, using(crate::proofs::Refusals::refused))]
-fn no_rows<T: Ring>(
-    alloc: Global,
-    a: &SparsityPattern,
-    b: &SparsityPattern,
-) -> Result<Rows<T>, AllocError>
-    requires { a.now.minor_dim ≡ b.now.major_dim }
+fn no_rows<T: Ring>(alloc: Global, major_dim: usize, room: usize) -> Result<Rows<T>, AllocError>
     ensures offsets { IfOk result (λ rows. rows.offsets.items ≡ 0 ∷ []) }
     ensures indices { IfOk result (λ rows. rows.indices.items ≡ []) }
     ensures values { IfOk result (λ rows. rows.values.items ≡ []) }
 {
-    let room = first_room(a, b);
-    let mut offsets = Vec::with_capacity(alloc, a.major_offsets().len())?;
+    let mut offsets = Vec::with_capacity(alloc, major_dim.saturating_add(1))?;
     offsets.push(0)?;
     Ok(Rows {
         offsets,
@@ -74,12 +72,29 @@ fn no_rows<T: Ring>(
     })
 }
 
-// How many places there is room for at first: one for each triple (i, k, j), but at most twice as many as both factors have.
-fn first_room(a: &SparsityPattern, b: &SparsityPattern) -> usize
-    requires { a.now.minor_dim ≡ b.now.major_dim }
+// How many places the product may have: an eighth more than if each row had as many for a triple (i, k, j) as a few first rows, but at most
+// twice as many as both factors. A block that is larger than it need be may be new memory from the system, which costs more than the product
+// of short rows.
+fn guess_places(
+    alloc: Global,
+    a: &SparsityPattern,
+    b: &SparsityPattern,
+    set: &mut LaneSet,
+) -> Result<usize, AllocError>
+    requires inner { a.now.minor_dim ≡ b.now.major_dim }
+    requires empty { IsEmptyLaneSet b.now.minor_dim set.old }
+    ensures { OnOk result (IsEmptyLaneSet b.now.minor_dim set.new) }
 {
-    let most = a.nnz().saturating_add(b.nnz()).saturating_mul(2);
-    count_indices(a.minor_indices(), b).min(most)
+    let all = count_indices(a.minor_indices(), b);
+    let mut places = Vec::new(alloc);
+    let mut triples = 0usize;
+    for i in 0..FIRST_ROWS.min(a.major_dim() / 16) {
+        triples = triples.saturating_add(count_indices(a.lane(i), b));
+        push_lane(a.lane(i), b, set, &mut places)?;
+    }
+    let times = all / triples.max(1);
+    let guess = times.saturating_add(times / 8).saturating_mul(places.len());
+    Ok(guess.min(a.nnz().saturating_add(b.nnz()).saturating_mul(2)))
 }
 
 // How many indices the lanes of `b` that `lane` lists have, repeated ones too.

@@ -11,8 +11,8 @@ pub loop-i-init : goal.loop-i-init
 loop-i-init g c =
     let width_is = ap (λ (d : Raw). d.minor_dim) c.pattern-second.ensures.pattern in
     record {
-      empty = subst (λ n. IsEmptyLaneSet n c.in_ok-set.set) (c.minor_dim.ensures ∙ width_is)
-          c.in_ok-set.ensures;
+      empty = subst (λ n. IsEmptyLaneSet n c.guess_places.new.set) width_is
+          c.in_ok-room.ensures;
       width = c.in_ok-row.ensures.width ∙ c.minor_dim-2.ensures ∙ width_is;
       zero = c.in_ok-row.ensures.zero;
       built = rw (
@@ -66,7 +66,7 @@ loop-i-preserved g c =
 pub into_matrix-requires : goal.into_matrix-requires
 into_matrix-requires g c =
     let first_is = c.pattern-first.ensures.pattern in
-    let lanes = c.major_dim.ensures ∙ ap (λ (d : Raw). d.major_dim) first_is in
+    let lanes = c.major_dim-2.ensures ∙ ap (λ (d : Raw). d.major_dim) first_is in
     let cols = c.minor_dim-3.ensures
     ∙ ap (λ (d : Raw). d.minor_dim) c.pattern-second.ensures.pattern in
     let whole : c.loop-i.i ≡ c.args.a.now.pattern.major_dim = omega (
@@ -86,7 +86,7 @@ returns g c =
     let R = g.T.Ring.ring in
     let f = g.T.Ring.value in
     let first_is = c.pattern-first.ensures.pattern in
-    let lanes = c.major_dim.ensures ∙ ap (λ (d : Raw). d.major_dim) first_is in
+    let lanes = c.major_dim-2.ensures ∙ ap (λ (d : Raw). d.major_dim) first_is in
     let cols = c.minor_dim-3.ensures
     ∙ ap (λ (d : Raw). d.minor_dim) c.pattern-second.ensures.pattern in
     let whole : c.loop-i.i ≡ c.args.a.now.pattern.major_dim = omega (
