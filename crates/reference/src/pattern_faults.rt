@@ -1,4 +1,4 @@
-//! The first fault of a pattern's raw data, by trying every spot.
+//! The first fault of a pattern's raw data, by trying the spots in order up to the first with a fault.
 
 ghost use Rattle.std.specs.Prelude.{◌≤◌, ◌<◌, length, OnOk, IfErr};
 ghost use Rattle.sparse_pattern.specs.Raw.{IsValid, raw_of};
@@ -8,7 +8,8 @@ ghost use Rattle.reference.specs.InnerPositions.{IsFineAt};
 
 use sparse_pattern::pattern::SparsityPatternFormatError;
 
-/// Returns the first fault of the data, or `Ok` where it is valid. Tries all positions of the indices in each lane.
+/// Returns the first fault of the data, or `Ok` where it is valid. Goes through the positions of all indices once for each
+/// lane, up to the first fault.
 pub fn pattern_fault(
     major_dim: usize,
     minor_dim: usize,
@@ -36,7 +37,7 @@ pub fn pattern_fault(
     Ok(())
 }
 
-// Tries all positions, and passes over those outside the lane.
+// Goes through all positions up to the first fault, and passes over those outside the lane.
 fn lane_fault(
     minor_dim: usize,
     indices: &[usize],
