@@ -61,6 +61,7 @@ where
             "Pattern type has no negative" => "negative",
             "Pattern type has no conjugate" => "conjugate of a pattern",
             "Int type has no conjugate" => "conjugate",
+            "Int type can't be parsed from ()" => "pattern",
             "Please consider using a larger integer type." => "range",
             _ => "another text",
         },
@@ -76,9 +77,52 @@ fn reasons_are_told() -> bool {
         && message(i64::MIN.negative()) == "range"
 }
 
+// Whether the type of an integer says why it refuses pattern entries and conjugates.
+fn is_integer<T: MatrixMarketScalar>(value: T) -> bool {
+    message(T::from_pattern(())) == "pattern" && message(value.conjugate()) == "conjugate"
+}
+
+// Whether each integer type says so.
+fn integers_tell_reasons() -> bool {
+    is_integer(1i8)
+        && is_integer(1i16)
+        && is_integer(1i32)
+        && is_integer(1i64)
+        && is_integer(1i128)
+        && is_integer(W32::new(1))
+        && is_integer(W64::new(1))
+        && is_integer(W128::new(1))
+}
+
+// Whether a type of fewer than 128 bits says why it refuses a number beyond its own.
+fn is_narrow<T: MatrixMarketScalar>() -> bool {
+    message(T::from_i128(i128::MAX)) == "range" && message(T::from_i128(i128::MIN)) == "range"
+}
+
+// Whether a value says that it has no negative.
+fn has_no_negative<T: MatrixMarketScalar>(least: T) -> bool {
+    message(least.negative()) == "range"
+}
+
+// Whether each type says so of the values that it does not have.
+fn ranges_are_told() -> bool {
+    is_narrow::<i8>()
+        && is_narrow::<i16>()
+        && is_narrow::<i32>()
+        && is_narrow::<i64>()
+        && is_narrow::<W32>()
+        && is_narrow::<W64>()
+        && has_no_negative(i8::MIN)
+        && has_no_negative(i16::MIN)
+        && has_no_negative(i32::MIN)
+        && has_no_negative(i128::MIN)
+}
+
 #[test]
 fn tells_why_a_value_is_refused(rt: HostRuntime) {
     assert!(rt; reasons_are_told());
+    assert!(rt; integers_tell_reasons());
+    assert!(rt; ranges_are_told());
 }
 
 /// The text of the list of one triplet.
