@@ -14,7 +14,8 @@ use std::alloc::{AllocError, Global};
 
 /// Returns the pairs (row, column) of the fill of a pattern's triangle, each once.
 ///
-/// The set gains a pair that it lacks until it lacks none. It looks at every pair of pairs for each pair. Fails only if an allocation fails.
+/// The set gains a pair that it lacks until it lacks none. It looks at every pair of pairs for each pair. Fails only if
+/// an allocation fails.
 pub fn fill_by_pairs(
     alloc: Global,
     pattern: &SparsityPattern,

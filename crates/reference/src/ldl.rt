@@ -17,10 +17,11 @@ pub struct DenseFactors<T> {
     pub d: Vec<T>,
 }
 
-/// Returns the factors of the symmetric matrix whose entries on and above the diagonal are those of `a`, or `None` if it has none.
+/// Returns the factors of the symmetric matrix whose entries on and above the diagonal are those of `a`, or `None` if
+/// it has none.
 ///
-/// The equations `L D L^T = M` are solved column by column: that at (j, j) gives the pivot, and those below it give the column. Fails only
-/// if an allocation fails.
+/// The equations `L D L^T = M` are solved column by column: that at (j, j) gives the pivot, and those below it give the
+/// column. Fails only if an allocation fails.
 pub fn factors_by_columns<T: Units>(
     alloc: Global,
     a: &DMatrix<T>,

@@ -8,8 +8,8 @@ ghost use Rattle.reference.specs.InnerPositions.{IsFineAt};
 
 use sparse_pattern::pattern::SparsityPatternFormatError;
 
-/// Returns the first fault of the data, or `Ok` where it is valid. Goes through the positions of all indices once for each
-/// lane, up to the first fault.
+/// Returns the first fault of the data, or `Ok` where it is valid. Goes through the positions of all indices once for
+/// each lane, up to the first fault.
 pub fn pattern_fault(
     major_dim: usize,
     minor_dim: usize,

@@ -21,7 +21,8 @@ pub fn product_has<T: Ring>(a: &CooMatrix<T>, b: &CooMatrix<T>, i: usize, j: usi
     false
 }
 
-/// Returns the value of the product at (i, j): the sum over all k of the value at (i, k) in `a` times that at (k, j) in `b`.
+/// Returns the value of the product at (i, j): the sum over all k of the value at (i, k) in `a` times that at (k, j) in
+/// `b`.
 pub fn product_at<T: Ring>(a: &CooMatrix<T>, b: &CooMatrix<T>, i: usize, j: usize) -> T
     ensures { T.value result ≡ (plain_product T.ring
         (plain_of_coo T.ring T.value a.now) (plain_of_coo T.ring T.value b.now)).value i j }

@@ -27,8 +27,9 @@ mod sizes;
 
 /// Returns the sizes and triplets that a text means to a scalar type, or the kind of the first refusal.
 ///
-/// Splits the text into lines and these into words, and keeps them all. Tests the whole grammar first, then the header, the size line,
-/// the number of entries, the entries one after another, and the bounds. Fails only if an allocation fails.
+/// Splits the text into lines and these into words, and keeps them all. Tests the whole grammar first, then the header,
+/// the size line, the number of entries, the entries one after another, and the bounds. Fails only if an allocation
+/// fails.
 pub fn meaning<T: MatrixMarketScalar>(
     alloc: Global,
     text: &str,

@@ -86,8 +86,8 @@ impl<T> CooMatrix<T> {
     ///
     /// # Errors
     ///
-    /// Returns the first fault in this order: different numbers of rows and columns, different numbers of columns and values, a row index
-    /// not less than `nrows`, a column index not less than `ncols`. The lists are dropped.
+    /// Returns the first fault in this order: different numbers of rows and columns, different numbers of columns and
+    /// values, a row index not less than `nrows`, a column index not less than `ncols`. The lists are dropped.
     ///
     /// # Examples
     ///

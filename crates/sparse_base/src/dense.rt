@@ -52,7 +52,8 @@ impl<T: Zero + Copy> DMatrix<T> {
 }
 
 impl<T: Copy> DMatrix<T> {
-    /// Returns a matrix with `value` at each place. Fails only if an allocation fails or `nrows * ncols` exceeds `usize::MAX`.
+    /// Returns a matrix with `value` at each place. Fails only if an allocation fails or `nrows * ncols` exceeds
+    /// `usize::MAX`.
     pub fn repeat(alloc: Global, nrows: usize, ncols: usize, value: T) -> Result<Self, AllocError>
         ensures { IfOk result (HasValues nrows ncols (λ _ _ _. value)) }
     {
@@ -161,7 +162,8 @@ impl<T> DMatrix<T> {
         &mut self.values[..]
     }
 
-    /// Replaces the value at row `i` and column `j`, which must be within bounds. The old value is dropped; all other values are unchanged.
+    /// Replaces the value at row `i` and column `j`, which must be within bounds. The old value is dropped; all other
+    /// values are unchanged.
     ///
     /// # Examples
     ///
@@ -196,7 +198,8 @@ impl<T> DMatrix<T> {
         &self.values[start..start + self.nrows]
     }
 
-    /// Returns the values of column `j`, borrowed mutably. `j` must be less than `ncols()`. The other columns are unchanged.
+    /// Returns the values of column `j`, borrowed mutably. `j` must be less than `ncols()`. The other columns are
+    /// unchanged.
     ///
     /// # Examples
     ///

@@ -4,8 +4,8 @@ ghost use Rattle.std.specs.Prelude.{◌≡◌, ℕ, ◌+◌, ◌<◌, length};
 ghost use Rattle.std.specs.Bool.{OnTrue};
 ghost use Rattle.sparse_convert.specs.InnerTripletLanes.{LanesRise, RisesAt};
 
-/// Returns whether the minor indices never fall, or no pair (major, minor) falls, as in files written column by column or row by row: a sort
-/// by minor index then leaves each lane as it is.
+/// Returns whether the minor indices never fall, or no pair (major, minor) falls, as in files written column by column
+/// or row by row: a sort by minor index then leaves each lane as it is.
 ///
 /// It stops at the first fall of each.
 pub(crate) fn lanes_rise(majors: &[usize], minors: &[usize]) -> bool

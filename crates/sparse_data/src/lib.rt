@@ -1,6 +1,7 @@
 //! Data structs: patterns and matrices as plain arrays with public fields, which `serde` reads and writes.
 //!
-//! `TryFromData` makes a pattern or a matrix of such a struct through its checked constructor, and `ToData` copies one out.
+//! `TryFromData` makes a pattern or a matrix of such a struct through its checked constructor, and `ToData` copies one
+//! out.
 #![tactic(auto)]
 
 mod coo;

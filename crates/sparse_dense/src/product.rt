@@ -19,8 +19,9 @@ use std::alloc::{AllocError, Global};
 ///
 /// The inner sizes of `op(a)` and `op(b)` must be equal, and `c` must have the sizes of their product.
 ///
-/// One multiplication for each place of `a` and column of `c`, and two for each value of `c` (one more for each value of `b` where `a` is
-/// transposed). Where `a` is not transposed, each of its rows is read once for four columns. Takes no memory.
+/// One multiplication for each place of `a` and column of `c`, and two for each value of `c` (one more for each value
+/// of `b` where `a` is transposed). Where `a` is not transposed, each of its rows is read once for four columns. Takes
+/// no memory.
 ///
 /// # Examples
 ///
@@ -62,8 +63,9 @@ pub fn spmm_csr_dense<T: Ring>(
 ///
 /// The inner sizes of `op(a)` and `op(b)` must be equal, and `c` must have the sizes of their product.
 ///
-/// One multiplication for each place of `a` and column of `c`, and two for each value of `c` (one more for each value of `b` where `a` is
-/// not transposed). Where `a` is transposed, each of its columns is read once for four columns of `c`. Takes no memory.
+/// One multiplication for each place of `a` and column of `c`, and two for each value of `c` (one more for each value
+/// of `b` where `a` is not transposed). Where `a` is transposed, each of its columns is read once for four columns of
+/// `c`. Takes no memory.
 ///
 /// # Examples
 ///
@@ -103,8 +105,9 @@ pub fn spmm_csc_dense<T: Ring>(
 
 /// Returns the dense product `a * b`.
 ///
-/// `a.ncols()` must equal `b.nrows()`. One multiplication for each place of `a` and column of `b`, and two for each value of the result.
-/// Allocates the result alone, and fails only if that allocation fails or the number of its values exceeds `usize::MAX`.
+/// `a.ncols()` must equal `b.nrows()`. One multiplication for each place of `a` and column of `b`, and two for each
+/// value of the result. Allocates the result alone, and fails only if that allocation fails or the number of its values
+/// exceeds `usize::MAX`.
 ///
 /// # Examples
 ///
@@ -136,9 +139,9 @@ pub fn mul_csr_dense<T: Ring>(
 
 /// Returns the dense product `a * b`.
 ///
-/// `a.ncols()` must equal `b.nrows()`. One multiplication for each place of `a` and column of `b`, one for each value of `b`, and one for
-/// each value of the result. Allocates the result alone, and fails only if that allocation fails or the number of its values exceeds
-/// `usize::MAX`.
+/// `a.ncols()` must equal `b.nrows()`. One multiplication for each place of `a` and column of `b`, one for each value
+/// of `b`, and one for each value of the result. Allocates the result alone, and fails only if that allocation fails or
+/// the number of its values exceeds `usize::MAX`.
 ///
 /// # Examples
 ///

@@ -34,7 +34,8 @@ pub enum Triangle {
     Both,
 }
 
-/// The symbolic Cholesky factorisation of a square pattern stored by columns: the pattern and the pattern of its factor.
+/// The symbolic Cholesky factorisation of a square pattern stored by columns: the pattern and the pattern of its
+/// factor.
 ///
 /// # Examples
 ///
@@ -64,15 +65,16 @@ impl Model for CscSymbolicCholesky {
 impl CscSymbolicCholesky {
     /// Returns the symbolic factorisation of a square pattern, read by columns.
     ///
-    /// `pattern.major_dim()` must equal `pattern.minor_dim()`. Only the places on and above the diagonal are read, so the pattern need
-    /// not be symmetric, and its diagonal need not be stored. The pattern of the factor is the smallest set of pairs (row, column) that
-    /// has (c, r) for each stored row `r <= c` of each column c, and that has (i, j) whenever it has (i, k) and (j, k) with
-    /// `k < j <= i`.
+    /// `pattern.major_dim()` must equal `pattern.minor_dim()`. Only the places on and above the diagonal are read, so
+    /// the pattern need not be symmetric, and its diagonal need not be stored. The pattern of the factor is the
+    /// smallest set of pairs (row, column) that has (c, r) for each stored row `r <= c` of each column c, and that has
+    /// (i, j) whenever it has (i, k) and (j, k) with `k < j <= i`.
     ///
-    /// Each column is merged from its own entries and the finished columns whose parent in the elimination tree it is (left-looking;
-    /// Gilbert, Ng and Peyton 1994, Davis 2006). Time is linear in the number of columns and of the places of pattern and factor, but for
-    /// a sort of the rows that come to a column from its base and all children but the longest. Scratch memory is one transpose of the
-    /// pattern, two counters for each column, and one column. Fails only if an allocation fails.
+    /// Each column is merged from its own entries and the finished columns whose parent in the elimination tree it is
+    /// (left-looking; Gilbert, Ng and Peyton 1994, Davis 2006). Time is linear in the number of columns and of the
+    /// places of pattern and factor, but for a sort of the rows that come to a column from its base and all children
+    /// but the longest. Scratch memory is one transpose of the pattern, two counters for each column, and one column.
+    /// Fails only if an allocation fails.
     pub fn factor(alloc: Global, pattern: SparsityPattern) -> Result<Self, AllocError>
         requires square { pattern.major_dim ≡ pattern.minor_dim }
         ensures input { IfOk result (λ s. s.input ≡ pattern) }
@@ -88,13 +90,13 @@ impl CscSymbolicCholesky {
 
     /// Returns the symbolic factorisation that starts from the given triangle of a square pattern, read by columns.
     ///
-    /// `pattern.major_dim()` must equal `pattern.minor_dim()`. The pattern of the factor is the smallest set of pairs (row, column) that
-    /// has the base and that has (i, j) whenever it has (i, k) and (j, k) with `k < j <= i`. The base of the upper triangle is (c, r) for
-    /// each stored row `r <= c` of each column c, that of the lower triangle (r, c) for each stored row `r >= c`, and that of both is
-    /// their union.
+    /// `pattern.major_dim()` must equal `pattern.minor_dim()`. The pattern of the factor is the smallest set of pairs
+    /// (row, column) that has the base and that has (i, j) whenever it has (i, k) and (j, k) with `k < j <= i`. The
+    /// base of the upper triangle is (c, r) for each stored row `r <= c` of each column c, that of the lower triangle
+    /// (r, c) for each stored row `r >= c`, and that of both is their union.
     ///
-    /// [`CscSymbolicCholesky::factor`] starts from the upper triangle, and has the same cost and errors. Scratch memory of the lower
-    /// triangle is without the transpose; that of both triangles has the union beside it.
+    /// [`CscSymbolicCholesky::factor`] starts from the upper triangle, and has the same cost and errors. Scratch memory
+    /// of the lower triangle is without the transpose; that of both triangles has the union beside it.
     ///
     /// # Examples
     ///
@@ -127,11 +129,11 @@ impl CscSymbolicCholesky {
         Ok(CscSymbolicCholesky { pattern, l_pattern })
     }
 
-    /// Does the same as [`CscSymbolicCholesky::factor`] and counts the steps: one for each place of the pattern, and one for each place
-    /// that a column takes up from a finished column.
+    /// Does the same as [`CscSymbolicCholesky::factor`] and counts the steps: one for each place of the pattern, and
+    /// one for each place that a column takes up from a finished column.
     ///
-    /// The count grows by at most the number of places of the pattern plus that of the factor, even if an allocation fails. Fails only
-    /// if an allocation fails.
+    /// The count grows by at most the number of places of the pattern plus that of the factor, even if an allocation
+    /// fails. Fails only if an allocation fails.
     pub fn factor_counted(
         alloc: Global,
         pattern: SparsityPattern,
@@ -194,8 +196,8 @@ fn fill_of(
     }
 }
 
-// Returns the fill of the upper triangle of a pattern, which the transpose has on and below the diagonal. Counts a step for each place of the
-// pattern, and for each place that a column takes from a finished column.
+// Returns the fill of the upper triangle of a pattern, which the transpose has on and below the diagonal. Counts a step
+// for each place of the pattern, and for each place that a column takes from a finished column.
 fn fill_of_upper(
     alloc: Global,
     pattern: &SparsityPattern,
@@ -217,7 +219,8 @@ fn fill_of_upper(
     fill_below(alloc, &mirrored, steps)
 }
 
-// Returns the fill of the places on and below the diagonal, with scratch arrays of a type that holds the number of columns.
+// Returns the fill of the places on and below the diagonal, with scratch arrays of a type that holds the number of
+// columns.
 fn fill_below(
     alloc: Global,
     base: &SparsityPattern,

@@ -1,7 +1,8 @@
 //! Laws of sums and products of matrices, over every ring.
 //!
-//! Each function computes both sides of an equation by the public calls, and its contract says that they stand for one plain matrix, with
-//! the same places and values. The functions here take matrices by rows, those of [`columns`] matrices by columns.
+//! Each function computes both sides of an equation by the public calls, and its contract says that they stand for one
+//! plain matrix, with the same places and values. The functions here take matrices by rows, those of [`columns`]
+//! matrices by columns.
 
 ghost use Rattle.std.specs.Prelude.{◌≡◌, ◌↔◌, ℕ, true, IfOk};
 ghost use Rattle.sparse_algebra.specs.Plain.{plain_product, plain_sum, plain_transpose};
@@ -103,7 +104,8 @@ pub fn times_identity<T: Ring>(alloc: Global, a: &CsrMatrix<T>) -> Result<CsrMat
     mul_csr(alloc, a, &identity)
 }
 
-/// Returns the transpose of `a * b`, and the product of the transposes in reverse order, which are equal. Fails only if an allocation fails.
+/// Returns the transpose of `a * b`, and the product of the transposes in reverse order, which are equal. Fails only if
+/// an allocation fails.
 pub fn transpose_of_product<T: Ring>(
     alloc: Global,
     a: &CsrMatrix<T>,

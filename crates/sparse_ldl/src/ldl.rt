@@ -27,8 +27,8 @@ use sparse_units::Units;
 use std::alloc::{AllocError, Global};
 use std::marker::Model;
 
-/// The exact factorisation `L D L^T` of a symmetric matrix over a commutative ring: L is unit lower triangular, D is diagonal, and each
-/// entry of the diagonal has an inverse.
+/// The exact factorisation `L D L^T` of a symmetric matrix over a commutative ring: L is unit lower triangular, D is
+/// diagonal, and each entry of the diagonal has an inverse.
 ///
 /// # Examples
 ///
@@ -66,16 +66,18 @@ impl<T: Units> Model for Ldl<T> {
 impl<T: Units> Ldl<T> {
     /// Returns the factorisation of the symmetric matrix whose entries on and above the diagonal are those of `a`.
     ///
-    /// `a` must be square. Entries below its diagonal have no effect. The places of L are exactly the fill of the pattern of `a`, as
-    /// [`CscSymbolicCholesky`] computes it, even where a value is zero. No other values of L and D satisfy the equation.
+    /// `a` must be square. Entries below its diagonal have no effect. The places of L are exactly the fill of the
+    /// pattern of `a`, as [`CscSymbolicCholesky`] computes it, even where a value is zero. No other values of L and D
+    /// satisfy the equation.
     ///
-    /// A left-looking factorisation on the pattern of the fill (Davis 2006, chapter 4): one multiplication for each place of column k of L
-    /// from row j on, for each place (j, k) of L. Beside the factors it allocates the transposed pattern of L, the transposed upper
-    /// triangle of `a`, and two numbers for each row.
+    /// A left-looking factorisation on the pattern of the fill (Davis 2006, chapter 4): one multiplication for each
+    /// place of column k of L from row j on, for each place (j, k) of L. Beside the factors it allocates the transposed
+    /// pattern of L, the transposed upper triangle of `a`, and two numbers for each row.
     ///
     /// # Errors
     ///
-    /// Returns `Singular` if a pivot has no inverse; then no factorisation exists. Otherwise fails only if an allocation fails.
+    /// Returns `Singular` if a pivot has no inverse; then no factorisation exists. Otherwise fails only if an
+    /// allocation fails.
     pub fn factor(alloc: Global, a: &CscMatrix<T>) -> Result<Self, OperationError>
         requires square { a.now.pattern.minor_dim ≡ a.now.pattern.major_dim }
         ensures rows { IfOk result (λ s. s.l.pattern.minor_dim ≡ a.now.pattern.minor_dim) }
@@ -121,8 +123,8 @@ impl<T: Units> Ldl<T> {
 
     /// Solves `L D L^T X = B` in place. `b` holds B on entry and X on return.
     ///
-    /// `b` must have as many rows as L. A solve with L, a division of each row by its entry of D, and a solve with the transpose of L.
-    /// Allocates nothing.
+    /// `b` must have as many rows as L. A solve with L, a division of each row by its entry of D, and a solve with the
+    /// transpose of L. Allocates nothing.
     pub fn solve_mut(&self, b: &mut DMatrix<T>)
         requires { b.old.nrows ≡ self.now.l.pattern.minor_dim }
         ensures rows { b.new.nrows ≡ b.old.nrows }

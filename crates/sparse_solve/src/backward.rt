@@ -1,4 +1,5 @@
-//! Backward substitution with the transpose of a lower triangle: the column below the diagonal is the row of the transpose after it.
+//! Backward substitution with the transpose of a lower triangle: the column below the diagonal is the row of the
+//! transpose after it.
 
 ghost use Rattle.std.specs.Prelude.{◌≡◌, ◌<◌, length, slice_index_or, slice_set};
 ghost use Rattle.sparse_cs.specs.PlainOfLanes.{plain_of_cols};

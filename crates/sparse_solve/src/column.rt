@@ -17,7 +17,8 @@ pub struct Column<T> {
     pub inverse: T,
 }
 
-// Returns column k, or `None` where its diagonal entry isn't stored or has no inverse. The entries above the diagonal are passed over.
+// Returns column k, or `None` where its diagonal entry isn't stored or has no inverse. The entries above the diagonal
+// are passed over.
 pub fn column_below<T: Units>(l: &CscMatrix<T>, k: usize) -> Option<Column<T>>
     requires { k < l.now.pattern.major_dim }
     ensures none { IfNone result

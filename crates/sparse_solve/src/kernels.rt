@@ -20,8 +20,9 @@ pub fn divide_entry<T: Ring>(k: usize, inverse: T, x: &mut [T]) -> T
 
 /// Subtracts `factor` times a sparse column from the dense column `x`.
 ///
-/// The sparse column is a range of the arrays of a matrix by columns: for each position from `begin` to before `end` its row and its value.
-/// Positions must be inside both arrays, and rows inside `x`. A row that stands twice is subtracted twice.
+/// The sparse column is a range of the arrays of a matrix by columns: for each position from `begin` to before `end`
+/// its row and its value. Positions must be inside both arrays, and rows inside `x`. A row that stands twice is
+/// subtracted twice.
 ///
 /// One multiplication for each position. Allocates nothing.
 pub fn subtract_multiple<T: Ring>(

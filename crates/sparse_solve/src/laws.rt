@@ -6,7 +6,8 @@ ghost use Rattle.sparse_solve.specs.Solutions.{plain_lower, IsSolution, HasSameV
 
 use sparse_algebra::scalar::Ring;
 
-/// A system of a square lower triangle whose diagonal values have inverses has at most one solution, as it is and transposed.
+/// A system of a square lower triangle whose diagonal values have inverses has at most one solution, as it is and
+/// transposed.
 pub fn one_solution_law<T: Ring>()
     ensures lower { (a x y b : Plain T.ring) → IsProper a → a.cols ≡ a.rows
         → ((k : ℕ) → k < a.rows → (e : T.ring.Carrier) × (T.ring.mul (a.value k k) e ≡ T.ring.one))

@@ -33,7 +33,8 @@ pub fn solve_columns<T: Units>(l: Op<&CscMatrix<T>>, b: &mut DMatrix<T>)
     }
 }
 
-// Solves `op(T) X = B` over four columns of B, or over one where fewer are left. Returns the number of the column after them.
+// Solves `op(T) X = B` over four columns of B, or over one where fewer are left. Returns the number of the column after
+// them.
 fn solve_next<T: Units>(l: Op<&CscMatrix<T>>, from: usize, b: &mut DMatrix<T>) -> usize
     requires square { (inner_of l).now.pattern.minor_dim ≡ (inner_of l).now.pattern.major_dim }
     requires rows { b.old.nrows ≡ (inner_of l).now.pattern.major_dim }

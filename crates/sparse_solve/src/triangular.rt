@@ -18,17 +18,19 @@ use sparse_forms::csc::CscMatrix;
 use sparse_op::{Op, OperationError};
 use sparse_units::Units;
 
-/// Solves `op(T) X = B` in place, where `T` is the part of `l` on and below its diagonal. `b` holds B on entry and X on return.
+/// Solves `op(T) X = B` in place, where `T` is the part of `l` on and below its diagonal. `b` holds B on entry and X on
+/// return.
 ///
-/// `l` must be square, with as many rows as `b`. Entries above the diagonal are never read.
+/// `l` must be square, with as many rows as `b`. No value above the diagonal is read;
+/// their indices are, to find the diagonal.
 ///
-/// Forward substitution, or backward for a transposed operand (Davis 2006, chapter 3): one multiplication for each place of `T` and column
-/// of `b`. Allocates nothing.
+/// Forward substitution, or backward for a transposed operand (Davis 2006, chapter 3): one multiplication for each
+/// place of `T` and column of `b`. Allocates nothing.
 ///
 /// # Errors
 ///
-/// Returns `Singular` if and only if `b` has a column and some diagonal entry of `l` is not stored or has no inverse. The whole diagonal is
-/// tested before anything is written, so `b` is then unchanged.
+/// Returns `Singular` if and only if `b` has a column and some diagonal entry of `l` is not stored or has no inverse.
+/// The whole diagonal is tested before anything is written, so `b` is then unchanged.
 ///
 /// # Examples
 ///

@@ -18,7 +18,8 @@ pub fn wide_read_back_law()
 
 /// The matrix of a list of triplets is that of their integers, reduced afterwards.
 ///
-/// If the integer sum of the triplets at a pair fits 128 bits, the entry there is exactly that sum, even if partial sums overflow.
+/// If the integer sum of the triplets at a pair fits 128 bits, the entry there is exactly that sum, even if partial
+/// sums overflow.
 pub fn wide_triplets_law()
     ensures wrapped { (rows cols : ℕ) (ts : List (ℕ × ℕ × W128))
         → plain_wrapped w128 (plain_of_triplets whole_ring w128_number rows cols ts)

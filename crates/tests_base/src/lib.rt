@@ -1,4 +1,5 @@
-//! Tests of the crates below the compressed forms: scalars, counting by keys, patterns, triplet lists and dense matrices.
+//! Tests of the crates below the compressed forms: scalars, counting by keys, patterns, triplet lists and dense
+//! matrices.
 #![tactic(auto)]
 
 #[cfg(test)]

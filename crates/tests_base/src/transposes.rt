@@ -119,7 +119,8 @@ fn has_two_rows(transposed: &SparsityPattern, last: usize) -> bool {
     lane.len() == 64 && transposed.entries().last() == Some((last, 63))
 }
 
-// Lanes whose indices are far apart are transposed by another algorithm: the distance 4096 is the last that counts as near.
+// Lanes whose indices are far apart are transposed by another algorithm: the distance 4096 is the last that counts as
+// near.
 #[test]
 fn near_and_far_indices_are_exchanged(rt: HostRuntime) {
     for &last in &[4096, 4097, 4999] {

@@ -68,7 +68,8 @@ fn reserved_triplets_are_pushed_without_growth(rt: HostRuntime) {
 // The rows, the columns and the values of a list.
 type Lists = (Vec<usize>, Vec<usize>, Vec<i32>);
 
-// The lists of a matrix with memory for at least four triplets, after a triplet and the mirrored one and then as many as fit.
+// The lists of a matrix with memory for at least four triplets, after a triplet and the mirrored one and then as many
+// as fit.
 fn filled(alloc: Global) -> Result<Lists, AllocError> {
     let mut matrix = CooMatrix::new(alloc, 2, 2);
     matrix.reserve(4)?;

@@ -1,5 +1,5 @@
-//! Texts that the JSON reading refuses: fields that are missing, doubled, unknown or misspelt, numbers that do not fit, deep nesting, and
-//! each proper prefix of a text.
+//! Texts that the JSON reading refuses: fields that are missing, doubled, unknown or misspelt, numbers that do not fit,
+//! deep nesting, and each proper prefix of a text.
 
 use crate::outcome::Outcome::Unread;
 use crate::outcome::read_coo;

@@ -20,7 +20,8 @@ pub const A: Arrays<'static> = (2, 3, &[0, 2, 4], &[0, 2, 1, 2], &[1, 2, 3, 0]);
 /// The rows `1 2` and `0 3`.
 pub const F: Arrays<'static> = (2, 2, &[0, 2, 3], &[0, 1, 1], &[1, 2, 3]);
 
-// Whether A is transposed, and B; beta, alpha; the sizes and values of C, of B, and of beta C + alpha op(A) op(B), column by column.
+// Whether A is transposed, and B; beta, alpha; the sizes and values of C, of B, and of beta C + alpha op(A) op(B),
+// column by column.
 type Update = (
     Arrays<'static>,
     (bool, bool),

@@ -1,4 +1,5 @@
-//! Tests of conversions, sums, products, units, division and the triangular solve, through the public calls of the crates.
+//! Tests of conversions, sums, products, units, division and the triangular solve, through the public calls of the
+//! crates.
 #![tactic(auto)]
 
 #[cfg(test)]

@@ -149,7 +149,8 @@ fn is_solved<T: Scalar + Units>(alloc: Global, system: System, (right, want): Co
     }
 }
 
-// Whether the system was refused as singular. The text tells it from a division by a scalar without an inverse, which has the same kind.
+// Whether the system was refused as singular. The text tells it from a division by a scalar without an inverse, which
+// has the same kind.
 fn is_refused_as_singular(answer: Answer) -> bool {
     match answer {
         Some(Err(refusal)) => {

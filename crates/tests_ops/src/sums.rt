@@ -90,7 +90,8 @@ fn alternating_columns(alloc: Global) -> Result<Vec<usize>, AllocError> {
     Ok(columns)
 }
 
-// In every other lane the two matrices share their only place: the lanes that are sampled to estimate the sum, 64 of 128.
+// In every other lane the two matrices share their only place: the lanes that are sampled to estimate the sum, 64 of
+// 128.
 fn long_matrices(alloc: Global) -> Option<Pair> {
     let offsets = first_multiples(alloc, 129, 1).ok()?;
     let columns = alternating_columns(alloc).ok()?;

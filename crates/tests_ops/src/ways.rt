@@ -1,4 +1,5 @@
-//! Lists that are compressed by two counting passes, and the same lists with so many columns that their rows are sorted.
+//! Lists that are compressed by two counting passes, and the same lists with so many columns that their rows are
+//! sorted.
 
 use crate::matrices::{are_lanes, list};
 use crate::scalars::{Scalar, scalars};

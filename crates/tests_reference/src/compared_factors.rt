@@ -9,7 +9,8 @@ use sparse_pattern::pattern::SparsityPattern;
 use std::alloc::{AllocError, Global};
 use std::test::Fail;
 
-/// Whether each column of the pattern has the rows that the pairs (row, column) name, and no others. The pairs are distinct.
+/// Whether each column of the pattern has the rows that the pairs (row, column) name, and no others. The pairs are
+/// distinct.
 pub fn stores(l_pattern: &SparsityPattern, pairs: &[(usize, usize)]) -> bool {
     for (row, column) in pairs {
         match l_pattern.get_lane(*column) {
@@ -85,7 +86,8 @@ fn every_small_pattern_has_its_fill(rt: HostRuntime) -> Result<(), Fail> {
     Ok(())
 }
 
-// Adds a column with about one place in five, from a linear congruential generator (Knuth's MMIX). Returns its new state.
+// Adds a column with about one place in five, from a linear congruential generator (Knuth's MMIX). Returns its new
+// state.
 fn push_random(columns: &mut Columns, size: usize, seed: u64) -> Result<u64, AllocError> {
     let mut state = seed;
     for row in 0..size {

@@ -1,4 +1,5 @@
-//! The factor of each triangle beside a slow program that follows the definition, and the factor of the upper triangle beside `factor`.
+//! The factor of each triangle beside a slow program that follows the definition, and the factor of the upper triangle
+//! beside `factor`.
 
 ghost use Rattle.std.specs.Prelude.{◌≡◌};
 

@@ -78,7 +78,8 @@ fn an_arrow_comes_to_its_end(rt: HostRuntime) -> Result<(), Fail> {
     Ok(())
 }
 
-// The places of a square pattern and of its factor. The steps are counted: they are at most as many as both have places.
+// The places of a square pattern and of its factor. The steps are counted: they are at most as many as both have
+// places.
 fn counted_places(
     alloc: Global,
     pattern: SparsityPattern,
@@ -92,7 +93,8 @@ fn counted_places(
     Ok((nnz, factor.l_pattern().nnz()))
 }
 
-// Whether the columns are those of a square pattern with so many places whose factor has so many, so that the steps are at most the sum.
+// Whether the columns are those of a square pattern with so many places whose factor has so many, so that the steps are
+// at most the sum.
 fn has_places(
     alloc: Global,
     columns: Columns,

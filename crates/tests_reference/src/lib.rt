@@ -1,4 +1,5 @@
-//! Tests of the symbolic factor, and tests that compare the libraries with the slow programs of `reference` on generated inputs.
+//! Tests of the symbolic factor, and tests that compare the libraries with the slow programs of `reference` on
+//! generated inputs.
 #![tactic(auto)]
 
 #[cfg(test)]

@@ -45,7 +45,8 @@ const CASES: &[Case] = &[
         lower: (&[0, 0, 0, 0], &[]),
         both: (&[0, 1, 2, 3], &[2, 2, 2]),
     },
-    // Column 0 has the rows 1, 3 and 4 of the upper triangle: row 4 comes to column 1, which eliminates column 0 first, and to column 3.
+    // Column 0 has the rows 1, 3 and 4 of the upper triangle: row 4 comes to column 1, which eliminates column 0 first,
+    // and to column 3.
     Case {
         size: 5,
         pattern: (&[0, 1, 5, 6, 8, 10], &[0, 0, 1, 2, 4, 2, 0, 3, 0, 4]),
@@ -96,7 +97,8 @@ fn each_triangle_has_its_factor(rt: HostRuntime) -> Result<(), Fail> {
     Ok(())
 }
 
-// The factorisation of a triangle of the pattern of these arrays, of 3 columns, or `None` where they are not those of a pattern.
+// The factorisation of a triangle of the pattern of these arrays, of 3 columns, or `None` where they are not those of a
+// pattern.
 fn factored(
     alloc: Global,
     arrays: &Arrays,

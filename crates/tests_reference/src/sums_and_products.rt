@@ -175,8 +175,8 @@ fn product(
     product_of(alloc, &left, &right)
 }
 
-// Numbers of rows, of middle indices, of columns and of triplets. The rows of the last two products take hundreds of multiplications each,
-// and their indices are read from several words of bits.
+// Numbers of rows, of middle indices, of columns and of triplets. The rows of the last two products take hundreds of
+// multiplications each, and their indices are read from several words of bits.
 const SIZES: &[(u8, u8, u8, usize)] = &[
     (1, 1, 1, 8),
     (4, 3, 5, 8),

@@ -24,7 +24,8 @@ pub struct Listed<T> {
     pub triplets: Vec<(usize, usize, T)>,
 }
 
-/// Returns what data lines mean below a header and a size line: first their number, then the entries in order, then the bounds.
+/// Returns what data lines mean below a header and a size line: first their number, then the entries in order, then the
+/// bounds.
 #[tactic(auto, unfolding(sparse_parser::specs::Meaning::listed_of))]
 pub(crate) fn counted_entries<T: MatrixMarketScalar>(
     alloc: Global,
@@ -75,7 +76,8 @@ fn all_inside<T: Copy>(nrows: usize, ncols: usize, triplets: &[(usize, usize, T)
         .all(|triplet| triplet.0 < nrows && triplet.1 < ncols)
 }
 
-// The triplets of data lines. No place is made where there is no line, since an array without rows may have any number of columns.
+// The triplets of data lines. No place is made where there is no line, since an array without rows may have any number
+// of columns.
 fn placed_entries<T: MatrixMarketScalar>(
     alloc: Global,
     header: Header,

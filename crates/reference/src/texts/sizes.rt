@@ -17,7 +17,8 @@ use sparse_parser::header::{Format, Header, Symmetry};
 /// The rows, the columns, and the number of data lines where it is a usize.
 pub type Sizes = (usize, usize, Option<usize>);
 
-/// Returns what a size line says below a header: first the header's rules, then the numbers, then their fit to the symmetry.
+/// Returns what a size line says below a header: first the header's rules, then the numbers, then their fit to the
+/// symmetry.
 #[tactic(auto, unfolding(sparse_parser::specs::Meaning::sizes_of))]
 pub fn read_sizes(header: Header, words: &[&[u8]]) -> Result<Sizes, MatrixMarketErrorKind>
     requires { is_size (texts words.now) ≡ true }

@@ -8,7 +8,8 @@ use std::marker::Model;
 
 /// A matrix in coordinate form to which triplets are appended as long as it has memory for them.
 ///
-/// It never allocates. A loop that appends to it keeps its pointers in registers, and one test decides whether all three lists have room.
+/// It never allocates. A loop that appends to it keeps its pointers in registers, and one test decides whether all
+/// three lists have room.
 #[derive(Drop)]
 pub struct CooAppender<T> {
     pub(super) nrows: usize,

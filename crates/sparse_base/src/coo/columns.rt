@@ -10,7 +10,8 @@ use std::marker::Model;
 
 /// A matrix in coordinate form to which entries of one column are appended, one row after the other.
 ///
-/// Only the value of an entry is written at once. The rows and columns are written by loops of their own when the column ends.
+/// Only the value of an entry is written at once. The rows and columns are written by loops of their own when the
+/// column ends.
 #[derive(Drop)]
 pub struct ColumnAppender<T> {
     nrows: usize,
@@ -117,8 +118,8 @@ impl<T> ColumnAppender<T> {
 }
 
 impl<T> CooAppender<T> {
-    /// Begins to append entries of column `j`, from row `i` on, `most` at most. These rows and the column must lie within the shape, and
-    /// `room()` must be at least `most`.
+    /// Begins to append entries of column `j`, from row `i` on, `most` at most. These rows and the column must lie
+    /// within the shape, and `room()` must be at least `most`.
     #[inline(always)]
     pub fn into_column(self, i: usize, j: usize, most: usize) -> ColumnAppender<T>
         requires rows { i + most ≤ self.matrix.nrows }

@@ -19,8 +19,8 @@ impl<T> CooMatrix<T> {
     ///
     /// # Errors
     ///
-    /// Returns `OutOfMemory` if an allocation fails while the triplets are collected. Otherwise returns `IndexOutOfBounds` if a row index
-    /// is not less than `nrows` or a column index is not less than `ncols`.
+    /// Returns `OutOfMemory` if an allocation fails while the triplets are collected. Otherwise returns
+    /// `IndexOutOfBounds` if a row index is not less than `nrows` or a column index is not less than `ncols`.
     pub fn try_from_triplets_iter<I: Iterator<Item = (usize, usize, T)>>(
         alloc: Global,
         nrows: usize,

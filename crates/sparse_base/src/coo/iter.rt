@@ -111,7 +111,8 @@ impl<'a, T> Clone for CooTripletIter<'a, T> {
     }
 }
 
-/// An iterator over the triplets of a [`CooMatrix`] that borrows each value mutably, in the order in which they were added.
+/// An iterator over the triplets of a [`CooMatrix`] that borrows each value mutably, in the order in which they were
+/// added.
 #[derive(Drop)]
 pub struct CooTripletIterMut<'a, T> {
     rows: &'a [usize],

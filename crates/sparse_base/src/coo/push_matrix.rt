@@ -10,11 +10,11 @@ use crate::dense::DMatrix;
 use std::alloc::AllocError;
 
 impl<T: Copy> CooMatrix<T> {
-    /// Appends a triplet for each value of a dense block whose first value is at row `r` and column `c`. Zeros are included; the triplets
-    /// follow the block column by column.
+    /// Appends a triplet for each value of a dense block whose first value is at row `r` and column `c`. Zeros are
+    /// included; the triplets follow the block column by column.
     ///
-    /// The block must lie within the matrix, unless it is empty. An empty block adds nothing at any offset. Fails only if an allocation
-    /// fails; the matrix is then unchanged.
+    /// The block must lie within the matrix, unless it is empty. An empty block adds nothing at any offset. Fails only
+    /// if an allocation fails; the matrix is then unchanged.
     ///
     /// # Examples
     ///

@@ -109,7 +109,8 @@ pub fn convert_dense_csr<T: Zero + Copy>(
     Ok(CsrMatrix::from_cs(cs))
 }
 
-// The compressed matrix of the nonzero values. Lanes start `lane_step` apart, and the values of a lane are `step` apart.
+// The compressed matrix of the nonzero values. Lanes start `lane_step` apart, and the values of a lane are `step`
+// apart.
 fn compress_lanes<T: Zero + Copy>(
     alloc: Global,
     major_dim: usize,

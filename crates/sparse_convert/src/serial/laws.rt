@@ -13,10 +13,10 @@ use sparse_algebra::scalar::Ring;
 
 /// A list of triplets, a CSR matrix and a CSC matrix that are converted from one another represent the same matrix.
 ///
-/// This holds for any first representation and any sequence of conversions (`three_representations`). CSR matrices converted from the same
-/// representation are `==`, and so are CSC matrices (`rows_equal`, `cols_equal`). A matrix converted to a list and back is `==` to the
-/// original (`rows_and_back`, `cols_and_back`). Lists that represent the same matrix convert to CSR matrices that are `==`, and to CSC
-/// matrices that are `==` (`same_lists`).
+/// This holds for any first representation and any sequence of conversions (`three_representations`). CSR matrices
+/// converted from the same representation are `==`, and so are CSC matrices (`rows_equal`, `cols_equal`). A matrix
+/// converted to a list and back is `==` to the original (`rows_and_back`, `cols_and_back`). Lists that represent the
+/// same matrix convert to CSR matrices that are `==`, and to CSC matrices that are `==` (`same_lists`).
 pub fn one_matrix_law<T: Ring>()
     ensures three_representations { (x : Representation T) (a : Coo T) (m n : Compressed T)
         → IsSoundRepresentation x

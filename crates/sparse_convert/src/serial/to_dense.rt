@@ -15,10 +15,11 @@ use sparse_forms::csc::CscMatrix;
 use sparse_forms::csr::CsrMatrix;
 use std::alloc::{AllocError, Global};
 
-/// Returns the dense matrix of a list of triplets. Values of triplets at the same place are added; all other places are zero.
+/// Returns the dense matrix of a list of triplets. Values of triplets at the same place are added; all other places are
+/// zero.
 ///
-/// Time linear in the triplets and in `nrows * ncols`, memory for `nrows * ncols` values. Fails only if an allocation fails or `nrows *
-/// ncols` exceeds `usize::MAX`.
+/// Time linear in the triplets and in `nrows * ncols`, memory for `nrows * ncols` values. Fails only if an allocation
+/// fails or `nrows * ncols` exceeds `usize::MAX`.
 pub fn convert_coo_dense<T: Ring>(
     alloc: Global,
     coo: &CooMatrix<T>,
@@ -37,8 +38,8 @@ pub fn convert_coo_dense<T: Ring>(
 
 /// Returns the dense matrix of a CSR matrix, with zero at each place that is not stored.
 ///
-/// Time linear in the rows and in `nrows * ncols`, memory for `nrows * ncols` values. Fails only if an allocation fails or `nrows * ncols`
-/// exceeds `usize::MAX`.
+/// Time linear in the rows and in `nrows * ncols`, memory for `nrows * ncols` values. Fails only if an allocation fails
+/// or `nrows * ncols` exceeds `usize::MAX`.
 ///
 /// # Examples
 ///
@@ -64,8 +65,8 @@ pub fn convert_csr_dense<T: Zero + Copy>(
 
 /// Returns the dense matrix of a CSC matrix, with zero at each place that is not stored.
 ///
-/// Time linear in the columns and in `nrows * ncols`, memory for `nrows * ncols` values. Fails only if an allocation fails or `nrows *
-/// ncols` exceeds `usize::MAX`.
+/// Time linear in the columns and in `nrows * ncols`, memory for `nrows * ncols` values. Fails only if an allocation
+/// fails or `nrows * ncols` exceeds `usize::MAX`.
 pub fn convert_csc_dense<T: Zero + Copy>(
     alloc: Global,
     csc: &CscMatrix<T>,
@@ -79,7 +80,8 @@ pub fn convert_csc_dense<T: Zero + Copy>(
     Ok(dense)
 }
 
-/// The dense matrix of a compressed matrix represents the same plain matrix, with every pair within the shape as a place.
+/// The dense matrix of a compressed matrix represents the same plain matrix, with every pair within the shape as a
+/// place.
 pub fn to_dense_law<T: Ring>()
     ensures rows { (m : Compressed T) (d : Dense T) → IsSound m → IsDenseOfRows T.zero_value m d
         → plain_of_dense T.ring T.value d ≡ plain_full T.ring (plain_of_rows T.ring T.value m) }

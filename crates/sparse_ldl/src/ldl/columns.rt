@@ -20,9 +20,9 @@ use sparse_units::Units;
 
 // Computes the columns of L, and the diagonal of D, for the symmetric matrix with this lower triangle.
 //
-// Left-looking: column j of the matrix, less the multiples of the columns of L before it that have row j, divided by the pivot (Davis 2006,
-// chapter 4). `rows` is the transposed pattern of L. `cursors` has for each column of L the position of its first row from j on, and
-// `column` is zero between two steps.
+// Left-looking: column j of the matrix, less the multiples of the columns of L before it that have row j, divided by
+// the pivot (Davis 2006, chapter 4). `rows` is the transposed pattern of L. `cursors` has for each column of L the
+// position of its first row from j on, and `column` is zero between two steps.
 pub fn factor_columns<T: Units>(
     lower: &CscMatrix<T>,
     rows: &SparsityPattern,
@@ -89,7 +89,8 @@ fn add_lane<T: Ring>(a: &CscMatrix<T>, j: usize, column: &mut [T])
     );
 }
 
-// Subtracts the columns before j from row j on, each times its pivot and its entry in row j, and moves the cursors past row j.
+// Subtracts the columns before j from row j on, each times its pivot and its entry in row j, and moves the cursors past
+// row j.
 fn subtract_columns<T: Ring>(
     l: &CscMatrix<T>,
     row: &[usize],

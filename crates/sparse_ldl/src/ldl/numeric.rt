@@ -55,7 +55,8 @@ fn lower_triangle<T: Ring>(alloc: Global, a: &CscMatrix<T>) -> Result<CscMatrix<
     ensures places { IfOk result (λ m. (i j : ℕ) → IsPlace m.pattern j i
         → UpperBase a.now.pattern i j) }
 {
-    // The calls cost nothing: their contracts tell the prover that the matrix is sound, and which values the triangle has.
+    // The calls cost nothing: their contracts tell the prover that the matrix is sound, and which values the triangle
+    // has.
     let _ = a.values();
     kept_cols_law::<T>();
     a.upper_triangle(alloc)?.transpose(alloc)
@@ -86,7 +87,8 @@ fn zeros<T: Zero + Copy>(alloc: Global, count: usize) -> Result<Vec<T>, AllocErr
     Ok(zeros)
 }
 
-// Returns L and the diagonal of D for the symmetric matrix with this lower triangle. `l` has the pattern of L, and `rows` is its transpose.
+// Returns L and the diagonal of D for the symmetric matrix with this lower triangle. `l` has the pattern of L, and
+// `rows` is its transpose.
 fn factor_lower<T: Units>(
     alloc: Global,
     lower: &CscMatrix<T>,

@@ -17,16 +17,18 @@ use std::alloc::{AllocError, Global};
 
 /// Returns the product `a * b`.
 ///
-/// The result stores every place of [`spmm_csr_pattern`], even where the sum is zero. `a.ncols()` must equal `b.nrows()`.
+/// The result stores every place of [`spmm_csr_pattern`], even where the sum is zero. `a.ncols()` must equal
+/// `b.nrows()`.
 ///
-/// Gustavson's algorithm (1978), row by row: the indices of a row are read in order from a set of bits, and its values are added up in a scratch
-/// row, by the step of [`spmm_csr_prealloc_unchecked`](crate::serial::spmm_csr_prealloc_unchecked). It takes one multiplication for each triple
-/// (i, k, j) and one for each place of `a`, and for each row one step for each 262,144 columns. Scratch memory: a value and a bit for each
-/// column. If a row is longer than both factors have places, the pattern is made first and each triple added by a binary search, in scratch
-/// memory for the triples of a row. Fails only if an allocation fails.
+/// Gustavson's algorithm (1978), row by row: the indices of a row are read in order from a set of bits, and its values
+/// are added up in a scratch row, by the step of
+/// [`spmm_csr_prealloc_unchecked`](crate::serial::spmm_csr_prealloc_unchecked). It takes one multiplication for each
+/// triple (i, k, j) and one for each place of `a`, and for each row one step for each 262,144 columns. Scratch memory:
+/// a value and a bit for each column. If a row is longer than both factors have places, the pattern is made first and
+/// each triple added by a binary search, in scratch memory for the triples of a row. Fails only if an allocation fails.
 ///
-/// The room for the result is guessed: an eighth more places than if each row had as many for a triple as the first 64 rows, but at most twice
-/// as many as both factors have. Where it does not suffice, it grows by doubling.
+/// The room for the result is guessed: an eighth more places than if each row had as many for a triple as the first 64
+/// rows, but at most twice as many as both factors have. Where it does not suffice, it grows by doubling.
 ///
 /// # Examples
 ///
@@ -55,11 +57,11 @@ pub fn mul_csr<T: Ring>(
 
 /// Returns the product `a * b`.
 ///
-/// The result stores every place of [`spmm_csc_pattern`](crate::serial::spmm_csc_pattern), even where the sum is zero. `a.ncols()` must
-/// equal `b.nrows()`.
+/// The result stores every place of [`spmm_csc_pattern`](crate::serial::spmm_csc_pattern), even where the sum is zero.
+/// `a.ncols()` must equal `b.nrows()`.
 ///
-/// It is the product by rows of the transposes, in reverse order. Time and memory are those of [`mul_csr`] with the factors exchanged: scratch
-/// memory for one column of `a`. Fails only if an allocation fails.
+/// It is the product by rows of the transposes, in reverse order. Time and memory are those of [`mul_csr`] with the
+/// factors exchanged: scratch memory for one column of `a`. Fails only if an allocation fails.
 pub fn mul_csc<T: Ring>(
     alloc: Global,
     a: &CscMatrix<T>,

@@ -1,4 +1,5 @@
-//! The product row by row: the indices of a row, and then its values, while the rows of `b` that it takes are in the cache.
+//! The product row by row: the indices of a row, and then its values, while the rows of `b` that it takes are in the
+//! cache.
 
 ghost use Rattle.std.specs.Prelude.{◌≡◌, ℕ, ◌<◌, ◌≤◌, ◌++◌, [], ◌∷◌, length, drop, slice_index_or};
 ghost use Rattle.std.specs.Prelude.{All, Contains, IfOk, OnOk};
@@ -72,9 +73,9 @@ fn no_rows<T: Ring>(alloc: Global, major_dim: usize, room: usize) -> Result<Rows
     })
 }
 
-// How many places the product may have: an eighth more than if each row had as many for a triple (i, k, j) as a few first rows, but at most
-// twice as many as both factors. A block that is larger than it need be may be new memory from the system, which costs more than the product
-// of short rows.
+// How many places the product may have: an eighth more than if each row had as many for a triple (i, k, j) as a few
+// first rows, but at most twice as many as both factors. A block that is larger than it need be may be new memory from
+// the system, which costs more than the product of short rows.
 fn guess_places(
     alloc: Global,
     a: &SparsityPattern,
@@ -109,8 +110,8 @@ fn count_indices(lane: &[usize], b: &SparsityPattern) -> usize
     count
 }
 
-// Appends row i of the product. The scratch set is empty and the scratch row is zero before and after. Inlined: where rows are short, the
-// calls for a row took half of the time.
+// Appends row i of the product. The scratch set is empty and the scratch row is zero before and after. Inlined: where
+// rows are short, the calls for a row took half of the time.
 #[tactic(auto, using(crate::proofs::Refusals::refused))]
 #[inline(always)]
 fn push_row<T: Ring>(

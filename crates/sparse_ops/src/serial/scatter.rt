@@ -21,7 +21,8 @@ use std::alloc::{AllocError, Global};
 
 // Replaces each value `c` by `beta * c + alpha * x`, where `x` is the entry of the product `a * b` at its place.
 //
-// Gustavson's algorithm (1978): each row of the product is added up in a scratch row as wide as the pattern, and gathered at the places.
+// Gustavson's algorithm (1978): each row of the product is added up in a scratch row as wide as the pattern, and
+// gathered at the places.
 #[tactic(auto, using(crate::proofs::Refusals::refused))]
 pub(super) fn scatter_rows<T: Ring>(
     alloc: Global,

@@ -20,12 +20,13 @@ use std::alloc::Global;
 
 /// Replaces `c` by `beta * c + alpha * op(a) * op(b)`, where `c` has each place of the product's pattern.
 ///
-/// The inner sizes of `op(a)` and `op(b)` must be equal, and `c` must have the sizes of their product. Refuses with `OutOfMemory` only if an
-/// allocation fails; `c` is then unchanged.
+/// The inner sizes of `op(a)` and `op(b)` must be equal, and `c` must have the sizes of their product. Refuses with
+/// `OutOfMemory` only if an allocation fails; `c` is then unchanged.
 ///
-/// Gustavson's algorithm (1978): one multiplication for each triple (i, k, j) with (i, k) in `op(a)` and (k, j) in `op(b)`, and one for each
-/// place of `op(a)` and of `c`. Scratch memory for one row of `c`; none if it is longer than `c` and `op(b)` have places, where each
-/// triple is added by a binary search. A transposed operand is transposed first.
+/// Gustavson's algorithm (1978): one multiplication for each triple (i, k, j) with (i, k) in `op(a)` and (k, j) in
+/// `op(b)`, and one for each place of `op(a)` and of `c`. Scratch memory for one row of `c`; none if it is longer than
+/// `c` and `op(b)` have places, where each triple is added by a binary search. A transposed operand is transposed
+/// first.
 pub fn spmm_csr_prealloc_unchecked<T: Ring>(
     alloc: Global,
     beta: T,
@@ -57,8 +58,9 @@ pub fn spmm_csr_prealloc_unchecked<T: Ring>(
 
 /// Does what [`spmm_csr_prealloc_unchecked`] does, and counts its steps: one for each multiplication of scalars.
 ///
-/// If neither operand is transposed, the count grows by at most the number of places of `a` and of `c` and of triples (i, k, j) with (i, k) in
-/// `a` and (k, j) in `b`, also where the call refuses, and at `Ok` by at least the number of triples.
+/// If neither operand is transposed, the count grows by at most the number of places of `a` and of `c` and of triples
+/// (i, k, j) with (i, k) in `a` and (k, j) in `b`, also where the call refuses, and at `Ok` by at least the number of
+/// triples.
 ///
 /// # Examples
 ///
@@ -125,12 +127,13 @@ pub fn spmm_csr_prealloc_unchecked_counted<T: Ring>(
 
 /// Replaces `c` by `beta * c + alpha * op(a) * op(b)`, where `c` has each place of the product's pattern.
 ///
-/// The inner sizes of `op(a)` and `op(b)` must be equal, and `c` must have the sizes of their product. Refuses with `OutOfMemory` only if an
-/// allocation fails; `c` is then unchanged.
+/// The inner sizes of `op(a)` and `op(b)` must be equal, and `c` must have the sizes of their product. Refuses with
+/// `OutOfMemory` only if an allocation fails; `c` is then unchanged.
 ///
-/// Gustavson's algorithm (1978): one multiplication for each triple (i, k, j) with (i, k) in `op(a)` and (k, j) in `op(b)`, and one for each
-/// place of `op(a)` and of `c`. Scratch memory for one column of `c`; none if it is longer than `c` and `op(a)` have places, where each
-/// triple is added by a binary search. A transposed operand is transposed first.
+/// Gustavson's algorithm (1978): one multiplication for each triple (i, k, j) with (i, k) in `op(a)` and (k, j) in
+/// `op(b)`, and one for each place of `op(a)` and of `c`. Scratch memory for one column of `c`; none if it is longer
+/// than `c` and `op(a)` have places, where each triple is added by a binary search. A transposed operand is transposed
+/// first.
 #[tactic(auto, using(crate::proofs::Refusals::refused))]
 pub fn spmm_csc_prealloc_unchecked<T: Ring>(
     alloc: Global,

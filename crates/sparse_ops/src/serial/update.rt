@@ -22,7 +22,8 @@ use sparse_op::OperationError;
 use sparse_pattern::pattern::SparsityPattern;
 use std::alloc::{AllocError, Global};
 
-// Replaces the matrix `c` of a pattern and its values by `beta * c + alpha * a * b` on its places, or refuses before any value is written.
+// Replaces the matrix `c` of a pattern and its values by `beta * c + alpha * a * b` on its places, or refuses before
+// any value is written.
 pub(super) fn update_matrix_checked<T: Ring>(
     beta: T,
     pattern: &SparsityPattern,
@@ -56,8 +57,8 @@ pub(super) fn update_matrix_checked<T: Ring>(
     update_checked(beta, pattern, values, alpha, first, second)
 }
 
-// Replaces each value `c` by `beta * c + alpha * x`, where `x` is the entry of the product `a * b` at its place, or refuses before any value
-// is written.
+// Replaces each value `c` by `beta * c + alpha * x`, where `x` is the entry of the product `a * b` at its place, or
+// refuses before any value is written.
 fn update_checked<T: Ring>(
     beta: T,
     pattern: &SparsityPattern,
@@ -85,7 +86,8 @@ fn update_checked<T: Ring>(
     Ok(())
 }
 
-// Replaces the matrix `c` of a pattern and its values, which has the places of the product, by `beta * c + alpha * a * b`.
+// Replaces the matrix `c` of a pattern and its values, which has the places of the product, by `beta * c + alpha * a *
+// b`.
 pub(super) fn update_matrix<T: Ring>(
     alloc: Global,
     beta: T,

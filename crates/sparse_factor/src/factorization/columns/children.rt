@@ -1,4 +1,5 @@
-//! The children of a column: finished columns in a linked list. A head is one more than a column, or 0 where the list ends.
+//! The children of a column: finished columns in a linked list. A head is one more than a column, or 0 where the list
+//! ends.
 
 ghost use Rattle.std.specs.Prelude.{◌≡◌, ◌≢◌, ℕ, suc, ◌+◌, ◌<◌, ◌≤◌, ◌↔◌, ◌⊎◌, length, map};
 ghost use Rattle.std.specs.Prelude.{slice_index, slice_set, Contains, IfOk, IsTrue};
