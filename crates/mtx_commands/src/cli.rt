@@ -1,7 +1,7 @@
 //! The commands of `mtx`.
 
 ghost use Rattle.std.specs.Prelude.{◌≡◌, ◌≢◌, ◌≤◌, ℕ, List, length, None, OnOk, IfOk, IfErr};
-ghost use Rattle.std.specs.Prelude.{IfSome};
+ghost use Rattle.std.specs.Prelude.{IfSome, map, string_bytes};
 ghost use Rattle.nalgebra_sparse.specs.PostfixWords.{texts};
 ghost use Rattle.nalgebra_sparse.specs.Run.{Writes};
 ghost use Rattle.sparse_expr.specs.declared.calculator.Form.{Form};
@@ -195,10 +195,11 @@ fn read_all<R: Files + AllocGlobal>(rt: &R, paths: &[&str]) -> Result<Vec<String
 }
 
 /// Returns the texts, borrowed, in order.
-pub fn views_of(alloc: Global, texts: &[String]) -> Result<Vec<&str>, AllocError>
-    ensures one_each { IfOk result (λ views. length views.items ≡ length texts.now) }
+pub fn views_of(alloc: Global, strings: &[String]) -> Result<Vec<&str>, AllocError>
+    ensures one_each { IfOk result (λ views. length views.items ≡ length strings.now) }
+    ensures same { IfOk result (λ views. texts views.items ≡ map string_bytes strings.now) }
 {
-    texts.iter().map(|text| text.as_str()).collect(alloc)
+    strings.iter().map(|text| text.as_str()).collect(alloc)
 }
 
 // The error of an unreadable file, whose number is counted from 1.
