@@ -1,0 +1,20 @@
+use Rattle.std.proofs.Common.{ap, subst, ◌∙◌}
+use Rattle.sparse_pattern.specs.Raw.{raw_of}
+use Rattle.sparse_ops.specs.Products.{IsProductOf}
+use Rattle.sparse_c.proofs.products.nalgebra_sparse_multiply_places.Goals as goal
+
+pub returns-in-Ok-spmm_csr_pattern-clause-counted : goal.returns-in-Ok-spmm_csr_pattern-clause-counted
+returns-in-Ok-spmm_csr_pattern-clause-counted c = λ _.
+    let p = c.in-Ok-spmm_csr_pattern.product in
+    let b = raw_of c.args.inner c.args.cols c.args.b_offsets.now c.args.b_indices.now in
+    record {
+      product = p;
+      valid = c.in-Ok-spmm_csr_pattern.ensures.valid;
+      rows = c.in-Ok-spmm_csr_pattern.ensures.major ∙ ap (λ d. d.major_dim) c.in-Ok.ensures.is;
+      cols = c.in-Ok-spmm_csr_pattern.ensures.minor
+          ∙ ap (λ d. d.minor_dim) c.in-Ok-pattern_of.ensures.is;
+      places = subst (λ d. IsProductOf p d b) c.in-Ok.ensures.is
+          (subst (IsProductOf p c.in-Ok.a) c.in-Ok-pattern_of.ensures.is
+          c.in-Ok-spmm_csr_pattern.ensures.places);
+      count = c.nnz.ensures;
+    }

@@ -1,0 +1,4 @@
+pub mod Arrays
+pub mod Patterns
+pub mod Refused
+pub mod Statuses

@@ -1,0 +1,113 @@
+//! Products.
+
+ghost use Rattle.std.specs.Prelude.{◌≡◌, ◌≢◌, pos, IfOk, IfErr, OnOk};
+ghost use Rattle.sparse_cs.specs.Compressed.{arrays_of};
+ghost use Rattle.sparse_algebra.specs.Plain.{plain_product};
+ghost use Rattle.sparse_pattern.specs.Raw.{IsValid, raw_of};
+ghost use Rattle.sparse_c.specs.Arrays.{ring64, plain_by_rows, room_of, HoldsRows};
+ghost use Rattle.sparse_c.specs.Patterns.{CountsProduct, IsFaultOfPattern, IsPatternPairRefused};
+ghost use Rattle.sparse_c.specs.Refused.{IsFaultOfPair, IsMemoryOr, IsRefused};
+
+use crate::arrays::{finish_rows, rows_of};
+use crate::refusal::Refusal;
+use sparse_ops::serial::{mul_csr, spmm_csr_pattern};
+use sparse_pattern::pattern::SparsityPattern;
+use std::alloc::Global;
+
+/// Writes how many places the product of two patterns by rows has.
+#[unsafe(no_mangle)]
+pub extern "C" fn nalgebra_sparse_multiply_places(
+    alloc: Global,
+    rows: usize,
+    inner: usize,
+    cols: usize,
+    a_offsets: &[usize],
+    a_indices: &[usize],
+    b_offsets: &[usize],
+    b_indices: &[usize],
+    out_places: &mut usize,
+) -> i32
+    ensures counted { result ≡ pos 0 → CountsProduct (raw_of rows inner a_offsets.now a_indices.now)
+        (raw_of inner cols b_offsets.now b_indices.now) out_places.new }
+    ensures untouched { result ≢ pos 0 → out_places.new ≡ out_places.old }
+    ensures refused { result ≢ pos 0 → IsPatternPairRefused
+        (raw_of rows inner a_offsets.now a_indices.now)
+        (raw_of inner cols b_offsets.now b_indices.now) result }
+{
+    let a = match pattern_of(alloc, rows, inner, a_offsets, a_indices) {
+        Ok(a) => a,
+        Err(refusal) => return refusal.status(),
+    };
+    let b = match pattern_of(alloc, inner, cols, b_offsets, b_indices) {
+        Ok(b) => b,
+        Err(refusal) => return refusal.status(),
+    };
+    match spmm_csr_pattern(alloc, &a, &b) {
+        Ok(product) => {
+            *out_places = product.nnz();
+            0
+        }
+        Err(_refused) => Refusal::OutOfMemory.status(),
+    }
+}
+
+// The pattern of arrays by rows.
+fn pattern_of(
+    alloc: Global,
+    rows: usize,
+    cols: usize,
+    offsets: &[usize],
+    indices: &[usize],
+) -> Result<SparsityPattern, Refusal>
+    ensures is { IfOk result (λ d. d ≡ raw_of rows cols offsets.now indices.now) }
+    ensures valid { OnOk result (IsValid (raw_of rows cols offsets.now indices.now)) }
+    ensures fault { IfErr result (IsMemoryOr
+        (IsFaultOfPattern (raw_of rows cols offsets.now indices.now))) }
+{
+    let offsets = offsets.to_vec(alloc)?;
+    let indices = indices.to_vec(alloc)?;
+    Ok(SparsityPattern::try_from_offsets_and_indices(rows, cols, offsets, indices)?)
+}
+
+/// Writes the product of two matrices by rows: `a` with `rows` rows and `inner` columns, `b` with `inner` rows and `cols` columns.
+#[unsafe(no_mangle)]
+pub extern "C" fn nalgebra_sparse_multiply(
+    alloc: Global,
+    rows: usize,
+    inner: usize,
+    cols: usize,
+    a_offsets: &[usize],
+    a_indices: &[usize],
+    a_values: &[i64],
+    b_offsets: &[usize],
+    b_indices: &[usize],
+    b_values: &[i64],
+    out_offsets: &mut [usize],
+    out_indices: &mut [usize],
+    out_values: &mut [i64],
+    out_places: &mut usize,
+) -> i32
+    ensures written { let a = arrays_of rows inner a_offsets.now a_indices.now a_values.now in
+        let b = arrays_of inner cols b_offsets.now b_indices.now b_values.now in
+        result ≡ pos 0 → HoldsRows (plain_product ring64 (plain_by_rows a) (plain_by_rows b))
+        (room_of out_offsets.new out_indices.new out_values.new out_places.new) }
+    ensures untouched { result ≢ pos 0
+        → room_of out_offsets.new out_indices.new out_values.new out_places.new
+        ≡ room_of out_offsets.old out_indices.old out_values.old out_places.old }
+    ensures refused { let a = arrays_of rows inner a_offsets.now a_indices.now a_values.now in
+        let b = arrays_of inner cols b_offsets.now b_indices.now b_values.now in
+        result ≢ pos 0 → IsRefused (IsFaultOfPair a b)
+        (plain_product ring64 (plain_by_rows a) (plain_by_rows b))
+        (room_of out_offsets.old out_indices.old out_values.old out_places.old) result }
+{
+    let a = match rows_of(alloc, rows, inner, a_offsets, a_indices, a_values) {
+        Ok(a) => a,
+        Err(refusal) => return refusal.status(),
+    };
+    let b = match rows_of(alloc, inner, cols, b_offsets, b_indices, b_values) {
+        Ok(b) => b,
+        Err(refusal) => return refusal.status(),
+    };
+    let answer = mul_csr(alloc, &a, &b);
+    finish_rows(answer, out_offsets, out_indices, out_values, out_places)
+}
