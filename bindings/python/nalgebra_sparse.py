@@ -1,0 +1,160 @@
+"""Exact sparse matrices over the integers modulo 2^64, by the proved static library `sparse_c`.
+
+The functions take and return SciPy matrices whose values are `int64`. Sums and products wrap. What is proved of the calls is said in
+`bindings/c/nalgebra_sparse.h`; this module is only tested.
+
+`bindings/python/build` makes the shared library that is loaded here. `NALGEBRA_SPARSE_LIBRARY` names another one.
+"""
+import ctypes
+import os
+
+import numpy as np
+import scipy.sparse as sp
+
+_PATH = os.environ.get("NALGEBRA_SPARSE_LIBRARY") or os.path.join(os.path.dirname(os.path.abspath(__file__)), "libnalgebra_sparse.so")
+_library = ctypes.CDLL(_PATH)
+if ctypes.sizeof(ctypes.c_size_t) != 8:
+    raise ImportError("nalgebra_sparse needs 64 bits")
+
+
+class Error(ValueError):
+    """A call was refused."""
+
+
+class InvalidStructure(Error):
+    """The arrays have lengths, offsets or an order that the format does not allow."""
+
+
+class IndexOutOfBounds(Error):
+    """A row or a column index is out of bounds."""
+
+
+class DuplicateEntry(Error):
+    """The same place is given more than once."""
+
+
+_ERRORS = {
+    1: MemoryError("an allocation failed"),
+    2: InvalidStructure("the arrays have lengths, offsets or an order that the format does not allow"),
+    3: IndexOutOfBounds("a row or a column index is out of bounds"),
+    4: DuplicateEntry("the same place is given more than once"),
+}
+
+
+def _array(name, array, is_index):
+    """Returns a one-dimensional, contiguous array of 64-bit numbers, without a copy. Indices of 32 bits, as SciPy makes them, are widened.
+
+    A negative index becomes one that is out of bounds.
+    """
+    if not isinstance(array, np.ndarray):
+        raise TypeError(f"{name} must be a NumPy array, not {type(array).__name__}")
+    if array.ndim != 1:
+        raise TypeError(f"{name} must have one dimension, not {array.ndim}")
+    if not array.flags.c_contiguous or not array.flags.aligned:
+        raise TypeError(f"{name} must be contiguous and aligned: pass numpy.ascontiguousarray({name})")
+    if not array.dtype.isnative:
+        raise TypeError(f"{name} must have the byte order of this machine, not {array.dtype}")
+    if is_index and array.dtype in (np.dtype(np.int32), np.dtype(np.uint32)):
+        return array.astype(np.int64)
+    if array.dtype == np.dtype(np.int64) or (is_index and array.dtype == np.dtype(np.uint64)):
+        return array
+    wanted = "int64, uint64, int32 or uint32" if is_index else "int64"
+    raise TypeError(f"{name} must have the dtype {wanted}, not {array.dtype}")
+
+
+def _size(name, number):
+    if isinstance(number, bool) or not isinstance(number, (int, np.integer)) or not 0 <= number < 2**64:
+        raise TypeError(f"{name} must be an integer from 0 to 2^64 - 1, not {number!r}")
+    return ctypes.c_size_t(int(number))
+
+
+def _pair(array):
+    """Returns a pointer to an array's elements, and their number."""
+    return ctypes.c_void_p(array.ctypes.data), ctypes.c_size_t(array.size)
+
+
+def _call(name, *arguments):
+    """Calls a function of the library, and raises its error."""
+    status = getattr(_library, f"nalgebra_sparse_{name}")(*arguments)
+    if status:
+        raise _ERRORS[status]
+
+
+def _filled(name, lanes, room, *arguments):
+    """Calls with arrays for a result of so many lanes and at most so many places, and cuts them to the places that there are."""
+    offsets, indices, values = np.empty(lanes + 1, np.int64), np.empty(room, np.int64), np.empty(room, np.int64)
+    places = ctypes.c_size_t()
+    _call(name, *arguments, *_pair(offsets), *_pair(indices), *_pair(values), ctypes.byref(places))
+    return values[: places.value], indices[: places.value], offsets
+
+
+def _rows(name, matrix):
+    """Returns the shape and the arrays of a matrix by rows."""
+    if not sp.issparse(matrix) or matrix.format != "csr":
+        raise TypeError(f"{name} must be a SciPy matrix in CSR form, not {getattr(matrix, 'format', type(matrix).__name__)}: call tocsr()")
+    arrays = [_array(f"{name}.indptr", matrix.indptr, True), _array(f"{name}.indices", matrix.indices, True)]
+    return matrix.shape, [*arrays, _array(f"{name}.data", matrix.data, False)]
+
+
+def _pairs(arrays):
+    return [word for array in arrays for word in _pair(array)]
+
+
+def _csr(parts, shape):
+    """Returns the matrix of arrays that the library made, which need no test."""
+    matrix = sp.csr_matrix(parts, shape=shape, copy=False)
+    matrix.has_sorted_indices = matrix.has_canonical_format = True
+    return matrix
+
+
+def assemble_csr(shape, row_indices, col_indices, values):
+    """Returns the matrix of triplets by rows, in which the values at one place are added. A place is kept where its sum is 0."""
+    arrays = [_array("row_indices", row_indices, True), _array("col_indices", col_indices, True), _array("values", values, False)]
+    sizes = [_size("shape", size) for size in shape]
+    return _csr(_filled("assemble_csr", sizes[0].value, arrays[2].size, *sizes, *_pairs(arrays)), shape)
+
+
+def assemble_csc(shape, row_indices, col_indices, values):
+    """Returns the matrix of triplets by columns, in which the values at one place are added. A place is kept where its sum is 0."""
+    arrays = [_array("row_indices", row_indices, True), _array("col_indices", col_indices, True), _array("values", values, False)]
+    sizes = [_size("shape", size) for size in shape]
+    parts = _filled("assemble_csc", sizes[1].value, arrays[2].size, *sizes, *_pairs(arrays))
+    matrix = sp.csc_matrix(parts, shape=shape, copy=False)
+    matrix.has_sorted_indices = matrix.has_canonical_format = True
+    return matrix
+
+
+def transpose(matrix):
+    """Returns the transpose of a matrix by rows, by rows too."""
+    (rows, cols), arrays = _rows("matrix", matrix)
+    parts = _filled("transpose", cols, arrays[2].size, _size("rows", rows), _size("cols", cols), *_pairs(arrays))
+    return _csr(parts, (cols, rows))
+
+
+def _merged(name, a, b):
+    (shape, of_a), (other, of_b) = _rows("a", a), _rows("b", b)
+    if shape != other:
+        raise ValueError(f"the shapes {shape} and {other} differ")
+    sizes = [_size("rows", shape[0]), _size("cols", shape[1])]
+    return _csr(_filled(name, shape[0], of_a[2].size + of_b[2].size, *sizes, *_pairs(of_a), *_pairs(of_b)), shape)
+
+
+def add(a, b):
+    """Returns the sum of two matrices by rows, on the union of their places."""
+    return _merged("add", a, b)
+
+
+def subtract(a, b):
+    """Returns the difference of two matrices by rows, on the union of their places."""
+    return _merged("subtract", a, b)
+
+
+def multiply(a, b):
+    """Returns the product of two matrices by rows, with a place wherever they share a middle index."""
+    ((rows, inner), of_a), ((other, cols), of_b) = _rows("a", a), _rows("b", b)
+    if inner != other:
+        raise ValueError(f"the shapes {(rows, inner)} and {(other, cols)} do not fit")
+    sizes = [_size("rows", rows), _size("inner", inner), _size("cols", cols)]
+    places = ctypes.c_size_t()
+    _call("multiply_places", *sizes, *_pairs(of_a[:2]), *_pairs(of_b[:2]), ctypes.byref(places))
+    return _csr(_filled("multiply", rows, places.value, *sizes, *_pairs(of_a), *_pairs(of_b)), (rows, cols))

@@ -1,0 +1,106 @@
+"""Compares the module with SciPy in random cases, and tries each error. Run by bindings/test."""
+import os
+import sys
+
+import numpy as np
+import scipy.sparse as sp
+
+sys.path.insert(0, os.path.dirname(os.path.abspath(__file__)))
+import nalgebra_sparse as ns  # noqa: E402
+
+random = np.random.default_rng(20)
+
+
+def triplets(rows, cols):
+    """Returns random triplets, some of them with values at the ends of the range."""
+    count = random.integers(0, 12) if rows * cols else 0
+    i, j = (random.integers(0, size, count) if count else np.empty(0, np.int64) for size in (rows, cols))
+    values = random.integers(-3, 4, count)
+    values[random.random(count) < 0.3] = np.iinfo(np.int64).min
+    return i, j, values
+
+
+def same(ours, theirs):
+    """Says whether two matrices have the same places and values. SciPy keeps a place whose sum is 0."""
+    theirs.sort_indices()
+    return (
+        ours.shape == theirs.shape
+        and ours.dtype == np.int64
+        and np.array_equal(ours.indptr, theirs.indptr)
+        and np.array_equal(ours.indices, theirs.indices)
+        and np.array_equal(ours.data, theirs.data)
+    )
+
+
+def pattern_product(a, b):
+    """Returns the product by SciPy with a place wherever the operands share a middle index: SciPy keeps zeros that sums give."""
+    ones = [sp.csr_matrix((np.ones_like(m.data), m.indices, m.indptr), m.shape) for m in (a, b)]
+    places = (ones[0] @ ones[1]).tocoo()
+    values = np.zeros((a.shape[0], b.shape[1]), np.int64)
+    with np.errstate(over="ignore"):
+        values[:] = a.toarray() @ b.toarray()
+    return sp.csr_matrix((values[places.row, places.col], (places.row, places.col)), values.shape)
+
+
+def matrix(rows, cols):
+    i, j, values = triplets(rows, cols)
+    return sp.csr_matrix((values, (i, j)), (rows, cols))
+
+
+def merged(a, b, sign):
+    """Returns a + sign b on the union of the places, zeros among them."""
+    parts = [m.tocoo() for m in (a, b)]
+    i, j = (np.concatenate([getattr(m, it) for m in parts]) for it in ("row", "col"))
+    return sp.csr_matrix((np.concatenate([parts[0].data, sign * parts[1].data]), (i, j)), a.shape)
+
+
+def check_random_cases():
+    for _ in range(1000):
+        n, m, k = random.integers(1, 6, 3)
+        i, j, values = triplets(n, m)
+        assert same(ns.assemble_csr((n, m), i, j, values), sp.csr_matrix((values, (i, j)), (n, m)))
+        assert same(ns.assemble_csc((n, m), i, j, values), sp.csc_matrix((values, (i, j)), (n, m)))
+        a, b, c = matrix(n, m), matrix(n, m), matrix(m, k)
+        assert same(ns.transpose(a), a.T.tocsr())
+        assert same(ns.add(a, b), merged(a, b, 1))
+        assert same(ns.subtract(a, b), merged(a, b, -1))
+        assert same(ns.multiply(a, c), pattern_product(a, c))
+
+
+def refused(error, call, *arguments):
+    try:
+        call(*arguments)
+    except error:
+        return
+    raise AssertionError(f"{call.__name__} did not raise {error.__name__}")
+
+
+def check_errors():
+    one = np.array([0], np.int64)
+    value = np.array([7], np.int64)
+    refused(ns.InvalidStructure, ns.assemble_csr, (2, 2), np.array([0, 1]), one, value)
+    refused(ns.IndexOutOfBounds, ns.assemble_csr, (2, 2), np.array([2]), one, value)
+    refused(ns.IndexOutOfBounds, ns.assemble_csc, (2, 2), one, np.array([-1]), value)
+    refused(TypeError, ns.assemble_csr, (2, 2), one, one, value.astype(float))
+    refused(TypeError, ns.assemble_csr, (2, 2), one, one, value.astype(">i8"))
+    refused(TypeError, ns.assemble_csr, (2, 2), [0], one, value)
+    refused(TypeError, ns.assemble_csr, (2, 2), one, one, np.zeros((1, 1), np.int64))
+    refused(TypeError, ns.assemble_csr, (2, 2), np.zeros(4, np.int64)[::2], one, value)
+    refused(TypeError, ns.assemble_csr, (-1, 2), one, one, value)
+    # SciPy does not test the order of the columns of a row.
+    wide = np.array([5, 6], np.int64)
+    twice = sp.csr_matrix((wide, np.array([1, 1]), np.array([0, 2])), (1, 3))
+    falling = sp.csr_matrix((wide, np.array([2, 0]), np.array([0, 2])), (1, 3))
+    fine = matrix(1, 3)
+    refused(ns.DuplicateEntry, ns.transpose, twice)
+    refused(ns.InvalidStructure, ns.add, fine, falling)
+    refused(ns.InvalidStructure, ns.multiply, falling, matrix(3, 1))
+    refused(ValueError, ns.add, fine, matrix(1, 4))
+    refused(ValueError, ns.multiply, fine, fine)
+    refused(TypeError, ns.transpose, fine.tocsc())
+    refused(TypeError, ns.transpose, fine.astype(float))
+
+
+check_random_cases()
+check_errors()
+print("python: 1000 random cases equal SciPy, and each error is raised")

@@ -1,0 +1,90 @@
+//! The calls of the static library, as `bindings/c/nalgebra_sparse.h` declares them.
+
+#[cfg(not(target_pointer_width = "64"))]
+compile_error!("the static library is built for 64 bits");
+
+extern "C" {
+    pub fn nalgebra_sparse_assemble_csr(
+        rows: usize, cols: usize,
+        row_indices: *const usize, row_indices_len: usize,
+        col_indices: *const usize, col_indices_len: usize,
+        values: *const i64, values_len: usize,
+        out_offsets: *mut usize, out_offsets_len: usize,
+        out_indices: *mut usize, out_indices_len: usize,
+        out_values: *mut i64, out_values_len: usize,
+        out_places: *mut usize,
+    ) -> i32;
+
+    pub fn nalgebra_sparse_assemble_csc(
+        rows: usize, cols: usize,
+        row_indices: *const usize, row_indices_len: usize,
+        col_indices: *const usize, col_indices_len: usize,
+        values: *const i64, values_len: usize,
+        out_offsets: *mut usize, out_offsets_len: usize,
+        out_indices: *mut usize, out_indices_len: usize,
+        out_values: *mut i64, out_values_len: usize,
+        out_places: *mut usize,
+    ) -> i32;
+
+    pub fn nalgebra_sparse_transpose(
+        rows: usize, cols: usize,
+        offsets: *const usize, offsets_len: usize,
+        indices: *const usize, indices_len: usize,
+        values: *const i64, values_len: usize,
+        out_offsets: *mut usize, out_offsets_len: usize,
+        out_indices: *mut usize, out_indices_len: usize,
+        out_values: *mut i64, out_values_len: usize,
+        out_places: *mut usize,
+    ) -> i32;
+
+    pub fn nalgebra_sparse_add(
+        rows: usize, cols: usize,
+        a_offsets: *const usize, a_offsets_len: usize,
+        a_indices: *const usize, a_indices_len: usize,
+        a_values: *const i64, a_values_len: usize,
+        b_offsets: *const usize, b_offsets_len: usize,
+        b_indices: *const usize, b_indices_len: usize,
+        b_values: *const i64, b_values_len: usize,
+        out_offsets: *mut usize, out_offsets_len: usize,
+        out_indices: *mut usize, out_indices_len: usize,
+        out_values: *mut i64, out_values_len: usize,
+        out_places: *mut usize,
+    ) -> i32;
+
+    pub fn nalgebra_sparse_subtract(
+        rows: usize, cols: usize,
+        a_offsets: *const usize, a_offsets_len: usize,
+        a_indices: *const usize, a_indices_len: usize,
+        a_values: *const i64, a_values_len: usize,
+        b_offsets: *const usize, b_offsets_len: usize,
+        b_indices: *const usize, b_indices_len: usize,
+        b_values: *const i64, b_values_len: usize,
+        out_offsets: *mut usize, out_offsets_len: usize,
+        out_indices: *mut usize, out_indices_len: usize,
+        out_values: *mut i64, out_values_len: usize,
+        out_places: *mut usize,
+    ) -> i32;
+
+    pub fn nalgebra_sparse_multiply_places(
+        rows: usize, inner: usize, cols: usize,
+        a_offsets: *const usize, a_offsets_len: usize,
+        a_indices: *const usize, a_indices_len: usize,
+        b_offsets: *const usize, b_offsets_len: usize,
+        b_indices: *const usize, b_indices_len: usize,
+        out_places: *mut usize,
+    ) -> i32;
+
+    pub fn nalgebra_sparse_multiply(
+        rows: usize, inner: usize, cols: usize,
+        a_offsets: *const usize, a_offsets_len: usize,
+        a_indices: *const usize, a_indices_len: usize,
+        a_values: *const i64, a_values_len: usize,
+        b_offsets: *const usize, b_offsets_len: usize,
+        b_indices: *const usize, b_indices_len: usize,
+        b_values: *const i64, b_values_len: usize,
+        out_offsets: *mut usize, out_offsets_len: usize,
+        out_indices: *mut usize, out_indices_len: usize,
+        out_values: *mut i64, out_values_len: usize,
+        out_places: *mut usize,
+    ) -> i32;
+}
