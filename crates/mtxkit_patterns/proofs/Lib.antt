@@ -1,0 +1,3 @@
+mod LaneCounts
+mod Marks
+mod PlacesLeft

@@ -1,0 +1,33 @@
+-- Counting the lanes of a pattern by their numbers of places.
+use Rattle.std.specs.Prelude.{◌≡◌, ℕ, zero, suc, ◌+◌, ◌*◌, ◌<◌, Bool, ◌&&◌, nat_lt, nat_le, List}
+use Rattle.std.specs.Prelude.{length, slice_index, sum, if◌then◌else◌}
+use Rattle.sparse_pattern.specs.Raw.{Raw, IsValid, lane_of}
+use Rattle.sparse_pattern.specs.TransposedPattern.{IsTransposedPattern}
+
+-- how many numbers below n pass the test
+abbrev pub count_below : ℕ → (ℕ → Bool) → ℕ
+count_below zero test = 0
+count_below (suc n) test = count_below n test + (if test n then 1 else 0)
+
+-- the number of places of lane k
+abbrev pub size_of : Raw → ℕ → ℕ
+size_of p k = length (lane_of p k)
+
+-- lane k has at least `from` places and fewer than `to`
+abbrev pub has_size_in : Raw → ℕ → ℕ → ℕ → Bool
+has_size_in p from to k = nat_le from (size_of p k) && nat_lt (size_of p k) to
+
+-- so many lanes of the transposed pattern have no place
+pub record HasEmptyColumns (p : Raw) (count : ℕ) : Type 0 where
+  pub transposed : Raw
+  pub is : IsTransposedPattern p transposed
+  pub valid : IsValid transposed
+  pub counted : count ≡ count_below transposed.major_dim (has_size_in transposed 0 1)
+
+-- ten counts of lanes: count b is of those with at least b times `width` places and fewer than
+-- b + 1 times `width`; together they count each lane
+pub record IsHistogram (p : Raw) (width : ℕ) (counts : List ℕ) : Type 0 where
+  pub lines : length counts ≡ 10
+  pub each : (b : ℕ) → b < 10 → slice_index counts b
+      ≡ count_below p.major_dim (has_size_in p (b * width) ((b + 1) * width))
+  pub total : sum counts ≡ p.major_dim

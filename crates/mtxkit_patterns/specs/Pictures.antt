@@ -1,0 +1,37 @@
+-- Pictures of patterns.
+use Rattle.std.specs.Prelude.{◌≡◌, ℕ, ◌+◌, ◌*◌, ◌/◌, ◌<◌, Bool, false, List, slice_index_or}
+use Rattle.sparse_pattern.specs.Raw.{Raw, IsPlace}
+
+-- rows of cells, row by row; a black cell is true
+pub record Bitmap : Type 0 where
+  pub height : ℕ
+  pub width : ℕ
+  pub cells : List Bool
+
+abbrev pub bitmap_of : ℕ → ℕ → List Bool → Bitmap
+bitmap_of height width cells = record { height = height; width = width; cells = cells }
+
+abbrev pub is_black : Bitmap → ℕ → ℕ → Bool
+is_black m r c = slice_index_or m.cells (r * m.width + c) false
+
+-- the cell, of `cells`, in which index i of `size` lies
+abbrev pub cell_of : ℕ → ℕ → ℕ → ℕ
+cell_of size cells i = i * cells / size
+
+-- some place of the pattern lies in the cell at row r and column c of a picture of this height and
+-- this width
+pub record HasPlaceIn (p : Raw) (height width r c : ℕ) : Type 0 where
+  pub i : ℕ
+  pub j : ℕ
+  pub place : IsPlace p i j
+  pub down : cell_of p.major_dim height i ≡ r
+  pub across : cell_of p.minor_dim width j ≡ c
+
+-- some place of the pattern lies in the cell at position q
+pub record IsMarked (p : Raw) (height width q : ℕ) : Type 0 where
+  pub r : ℕ
+  pub c : ℕ
+  pub row : r < height
+  pub col : c < width
+  pub at : r * width + c ≡ q
+  pub has : HasPlaceIn p height width r c

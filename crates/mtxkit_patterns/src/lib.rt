@@ -1,0 +1,10 @@
+//! Facts about patterns and pictures of them, for the program `mtxkit`.
+#![tactic(auto)]
+
+mod lanes;
+mod picture;
+mod shape;
+
+pub use lanes::{Histogram, count_lanes, counted_lanes, longest_lane};
+pub use picture::{Picture, draw};
+pub use shape::{bandwidth, is_symmetric};
