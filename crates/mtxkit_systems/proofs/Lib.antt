@@ -1,0 +1,2 @@
+mod SymmetricSystems
+mod ZeroValues

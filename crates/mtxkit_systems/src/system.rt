@@ -1,0 +1,122 @@
+//! Symmetric systems, solved exactly, and the test of a solution.
+
+ghost use Rattle.std.specs.Prelude.{◌≡◌, ◌↔◌, IfOk, IfErr, IsTrue};
+ghost use Rattle.sparse_base.specs.CooPlain.{plain_of_coo};
+ghost use Rattle.sparse_base.specs.DensePlain.{plain_of_dense};
+ghost use Rattle.sparse_algebra.specs.Plain.{plain_product};
+ghost use Rattle.sparse_solve.specs.Solutions.{HasSameValues};
+ghost use Rattle.sparse_op.specs.declared.error.OperationErrorKind.TheVariants.{Singular};
+ghost use Rattle.mtxkit_systems.specs.Systems.{HasNoFactorisation};
+ghost use Rattle.mtxkit_systems.specs.Values.{IsSymmetricMatrix};
+ghost use Rattle.mtxkit_systems.specs.declared.system.SystemError.TheVariants.{NoFactors, NotSymmetric};
+
+use crate::values::{has_same_values, has_symmetric_values};
+use sparse_algebra::scalar::Ring;
+use sparse_base::coo::CooMatrix;
+use sparse_base::dense::DMatrix;
+use sparse_convert::serial::{convert_coo_csc, convert_coo_csr, convert_coo_dense};
+use sparse_ldl::ldl::Ldl;
+use sparse_op::OperationErrorKind;
+use sparse_ops::serial::mul_csr;
+use sparse_units::Units;
+use std::alloc::{AllocError, Global};
+
+/// Why a system is not solved, or a solution not tested.
+#[derive(Clone, Copy, Debug)]
+pub enum SystemError {
+    /// The sizes of the matrices do not fit.
+    Shapes,
+    /// The matrix is not symmetric.
+    NotSymmetric,
+    /// The matrix has no factorisation.
+    NoFactors,
+    /// An allocation failed.
+    OutOfMemory,
+}
+
+/// Returns the matrix X for which A X = B, by an exact factorisation of the symmetric matrix A.
+///
+/// # Errors
+///
+/// Returns `Shapes` if A is not square or B has another number of rows, `NotSymmetric` if A differs from its transpose, and
+/// `NoFactors` if no factorisation L D L^T exists. Otherwise fails only if an allocation fails.
+pub fn solve<T: Units>(
+    alloc: Global,
+    a: &CooMatrix<T>,
+    b: &CooMatrix<T>,
+) -> Result<DMatrix<T>, SystemError>
+    ensures rows { IfOk result (λ x. x.nrows ≡ a.now.ncols) }
+    ensures cols { IfOk result (λ x. x.ncols ≡ b.now.ncols) }
+    ensures solved { IfOk result (λ x. HasSameValues T.ring b.now.nrows b.now.ncols
+        (plain_product T.ring (plain_of_coo T.ring T.value a.now)
+        (plain_of_dense T.ring T.value x))
+        (plain_of_coo T.ring T.value b.now)) }
+    ensures unsymmetric { IfErr result (λ e. e ≡ NotSymmetric
+        → ¬ IsSymmetricMatrix T.ring (plain_of_coo T.ring T.value a.now)) }
+    ensures singular { IfErr result (λ e. e ≡ NoFactors
+        → HasNoFactorisation T.ring T.value (plain_of_coo T.ring T.value a.now)) }
+{
+    if a.nrows() != a.ncols() || b.nrows() != a.nrows() {
+        return Err(SystemError::Shapes);
+    }
+    let rows = convert_coo_csr(alloc, a)?;
+    if !has_symmetric_values(alloc, &rows)? {
+        return Err(SystemError::NotSymmetric);
+    }
+    let columns = convert_coo_csc(alloc, a)?;
+    let mut x = convert_coo_dense(alloc, b)?;
+    match Ldl::factor(alloc, &columns) {
+        Ok(factors) => {
+            factors.solve_mut(&mut x);
+            Ok(x)
+        }
+        Err(error) => Err(refusal(*error.kind())),
+    }
+}
+
+// The error of a factorisation that is refused.
+fn refusal(kind: OperationErrorKind) -> SystemError
+    ensures singular { result ≡ NoFactors → kind ≡ Singular }
+    ensures symmetric { result ≡ NotSymmetric → ⊥ }
+{
+    match kind {
+        OperationErrorKind::Singular => SystemError::NoFactors,
+        OperationErrorKind::OutOfMemory | OperationErrorKind::InvalidPattern => {
+            SystemError::OutOfMemory
+        }
+    }
+}
+
+/// Returns whether A X = B.
+///
+/// Fails with `Shapes` if the sizes do not fit. Otherwise fails only if an allocation fails.
+pub fn is_solution<T: Ring>(
+    alloc: Global,
+    a: &CooMatrix<T>,
+    x: &CooMatrix<T>,
+    b: &CooMatrix<T>,
+) -> Result<bool, SystemError>
+    ensures { IfOk result (λ yes. IsTrue yes ↔ HasSameValues T.ring b.now.nrows b.now.ncols
+        (plain_product T.ring (plain_of_coo T.ring T.value a.now)
+        (plain_of_coo T.ring T.value x.now))
+        (plain_of_coo T.ring T.value b.now)) }
+{
+    if a.ncols() != x.nrows() || a.nrows() != b.nrows() || x.ncols() != b.ncols() {
+        return Err(SystemError::Shapes);
+    }
+    let rows = convert_coo_csr(alloc, a)?;
+    let solution = convert_coo_csr(alloc, x)?;
+    let right = convert_coo_csr(alloc, b)?;
+    let product = mul_csr(alloc, &rows, &solution)?;
+    Ok(has_same_values(alloc, &product, &right)?)
+}
+
+impl From<AllocError> for SystemError {
+    ghost use Rattle.mtxkit_systems.specs.declared.system.SystemError.TheVariants.{OutOfMemory};
+
+    ghost from_gives = { λ _ e. e ≡ OutOfMemory };
+
+    fn from(_refused: AllocError) -> SystemError {
+        SystemError::OutOfMemory
+    }
+}

@@ -1,0 +1,90 @@
+//! Comparing the values of matrices.
+
+ghost use Rattle.std.specs.Prelude.{◌≡◌, ℕ, ◌<◌, ◌↔◌, IfOk, IsTrue, count_by, length};
+ghost use Rattle.std.specs.Prelude.{slice_index_or};
+ghost use Rattle.sparse_cs.specs.Compressed.{IsSound};
+ghost use Rattle.sparse_cs.specs.PlainOfLanes.{plain_of_rows};
+ghost use Rattle.sparse_solve.specs.Solutions.{HasSameValues};
+ghost use Rattle.mtxkit_systems.specs.Values.{AllZero, IsSymmetricMatrix};
+
+use sparse_algebra::scalar::Ring;
+use sparse_cs::laws::transpose_law;
+use sparse_forms::csr::CsrMatrix;
+use sparse_sums::sub_csr;
+use std::alloc::{AllocError, Global};
+
+/// Returns how many of the values are zero.
+pub fn count_zeros<T: Ring>(values: &[T]) -> usize
+    ensures { result ≡ count_by (λ v. T.eq v T.zero_value) values.now }
+{
+    let mut count = 0;
+    for value in values {
+        if *value == T::zero() {
+            count += 1;
+        }
+    }
+    count
+}
+
+/// Returns whether two matrices of the same shape have the same values, whatever their places are.
+///
+/// Linear in places and rows. Fails only if an allocation fails.
+pub fn has_same_values<T: Ring>(
+    alloc: Global,
+    a: &CsrMatrix<T>,
+    b: &CsrMatrix<T>,
+) -> Result<bool, AllocError>
+    requires rows { a.now.pattern.major_dim ≡ b.now.pattern.major_dim }
+    requires cols { a.now.pattern.minor_dim ≡ b.now.pattern.minor_dim }
+    ensures { IfOk result (λ same. IsTrue same
+        ↔ HasSameValues T.ring a.now.pattern.major_dim a.now.pattern.minor_dim
+        (plain_of_rows T.ring T.value a.now) (plain_of_rows T.ring T.value b.now)) }
+{
+    // The calls cost nothing: their contracts tell the prover that the matrices are sound.
+    let _ = a.values();
+    let _ = b.values();
+    let difference = sub_csr(alloc, a, b)?;
+    Ok(is_zero(&difference))
+}
+
+/// Returns whether a matrix is square and has the same values as its transpose, whatever its places are.
+///
+/// Linear in places, rows and columns. Fails only if an allocation fails.
+pub fn has_symmetric_values<T: Ring>(
+    alloc: Global,
+    matrix: &CsrMatrix<T>,
+) -> Result<bool, AllocError>
+    ensures { IfOk result (λ yes. IsTrue yes
+        ↔ IsSymmetricMatrix T.ring (plain_of_rows T.ring T.value matrix.now)) }
+{
+    if matrix.nrows() != matrix.ncols() {
+        return Ok(false);
+    }
+    // The calls cost nothing: their contracts tell the prover what the transpose means.
+    let _ = matrix.values();
+    transpose_law::<T>();
+    let transposed = matrix.transpose(alloc)?;
+    Ok(has_same_values(alloc, matrix, &transposed)?)
+}
+
+// Whether every value of the matrix is zero.
+fn is_zero<T: Ring>(matrix: &CsrMatrix<T>) -> bool
+    ensures zero { IsTrue result ↔ AllZero T.ring (plain_of_rows T.ring T.value matrix.now) }
+    ensures sound { IsSound matrix.now }
+{
+    are_zero(matrix.values())
+}
+
+// Whether each of the values is zero.
+fn are_zero<T: Ring>(values: &[T]) -> bool
+    ensures { IsTrue result
+        ↔ ((k : ℕ) → k < length values.now
+        → T.value (slice_index_or values.now k T.zero_value) ≡ T.ring.zero) }
+{
+    for value in values {
+        if *value != T::zero() {
+            return false;
+        }
+    }
+    true
+}
