@@ -11,9 +11,9 @@ use std::time::{Clock, Instant};
 use std::{fs, io};
 use thiserror::Error;
 
-// glibc takes the memory of a large block from the system, and gives it back when the block is freed. What is large grows to the largest
-// block that was given back, but never past 32 MiB; up to twice as much is then kept for the next allocations. This is the largest block
-// that counts.
+// glibc takes the memory of a large block from the system, and gives it back when the block is freed. What is large
+// grows to the largest block that was given back, but never past 32 MiB; up to twice as much is then kept for the next
+// allocations. This is the largest block that counts.
 const LARGEST_BLOCK: usize = (32 << 20) - (1 << 16);
 
 /// Why there is nothing to print.
@@ -82,8 +82,9 @@ fn first_run<R: Clock + AllocGlobal>(rt: &R, input: &Input) -> Result<Best, Fail
     })
 }
 
-/// Frees one block of the largest size that counts, so that a run finds the memory of the one before, as in programs that have freed lists
-/// of that size. Without it, the memory that a run gets anew from the system depends on what was read before.
+/// Frees one block of the largest size that counts, so that a run finds the memory of the one before, as in programs
+/// that have freed lists of that size. Without it, the memory that a run gets anew from the system depends on what was
+/// read before.
 pub fn keep_freed_memory(alloc: Global) -> Result<(), AllocError> {
     let mut block: Vec<u8> = Vec::with_capacity(alloc, LARGEST_BLOCK)?;
     block.push(0)?;

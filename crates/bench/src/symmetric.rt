@@ -3,8 +3,8 @@
 use nalgebra_sparse::CscMatrix;
 use nalgebra_sparse::scalar::W64;
 
-/// Gives each place of a matrix the value that all measured programs take: 1001 on the diagonal and an even number off it, so that every pivot
-/// is odd and has an inverse.
+/// Gives each place of a matrix the value that all measured programs take: 1001 on the diagonal and an even number off
+/// it, so that every pivot is odd and has an inverse.
 pub fn with_odd_pivots(mut matrix: CscMatrix<W64>) -> CscMatrix<W64> {
     for (row, col, value) in matrix.triplet_iter_mut() {
         *value = value_at(row, col);

@@ -52,10 +52,11 @@ impl Picture {
     }
 }
 
-/// Returns a picture of the pattern, `height` cells high and `width` cells wide. A cell is black exactly where a place lies in it.
+/// Returns a picture of the pattern, `height` cells high and `width` cells wide. A cell is black exactly where a place
+/// lies in it.
 ///
-/// Lane i lies in row i * height / major_dim, and index j in column j * width / minor_dim, both rounded down. Linear in the
-/// number of places and cells. Fails only if an allocation fails.
+/// Lane i lies in row i * height / major_dim, and index j in column j * width / minor_dim, both rounded down. Linear in
+/// the number of places and cells. Fails only if an allocation fails.
 pub fn draw(
     alloc: Global,
     pattern: &SparsityPattern,

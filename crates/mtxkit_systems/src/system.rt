@@ -38,8 +38,8 @@ pub enum SystemError {
 ///
 /// # Errors
 ///
-/// Returns `Shapes` if A is not square or B has another number of rows, `NotSymmetric` if A differs from its transpose, and
-/// `NoFactors` if no factorisation L D L^T exists. Otherwise fails only if an allocation fails.
+/// Returns `Shapes` if A is not square or B has another number of rows, `NotSymmetric` if A differs from its transpose,
+/// and `NoFactors` if no factorisation L D L^T exists. Otherwise fails only if an allocation fails.
 pub fn solve<T: Units>(
     alloc: Global,
     a: &CooMatrix<T>,

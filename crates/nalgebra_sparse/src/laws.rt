@@ -36,7 +36,8 @@ pub use sparse_cs::laws as compressed;
 pub use sparse_data::laws as data;
 /// Expressions: words say one tree.
 pub use sparse_expr::laws as expressions;
-/// Operations: the product distributes over sums, its transpose is the product of the transposes, the identity is neutral.
+/// Operations: the product distributes over sums, its transpose is the product of the transposes, the identity is
+/// neutral.
 pub use sparse_laws::operations;
 /// Triangular systems: a solution is unique.
 pub use sparse_solve::laws as systems;

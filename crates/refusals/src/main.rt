@@ -1,8 +1,8 @@
 //! The program `refusals`: calls whose requests for memory are refused in turn by `.ci/refusals`.
 //!
-//! Each line of standard input names a scenario: its group, its call and perhaps a case after a comma. Before the name there may be two
-//! numbers of idle requests for memory, made before the call and after it: with these a fixed request of the program is any one of the call.
-//! The program prints what came of each scenario.
+//! Each line of standard input names a scenario: its group, its call and perhaps a case after a comma. Before the name
+//! there may be two numbers of idle requests for memory, made before the call and after it: with these a fixed request
+//! of the program is any one of the call. The program prints what came of each scenario.
 #![tactic(auto)]
 
 mod data;
@@ -54,7 +54,8 @@ fn run_all(rt: &HostRuntime, text: &str) -> io::Result<()> {
     Ok(())
 }
 
-// Runs the scenario of a line and prints what came of it: with idle requests also the checksum of an answer and which request was refused.
+// Runs the scenario of a line and prints what came of it: with idle requests also the checksum of an answer and which
+// request was refused.
 fn run_line(rt: &HostRuntime, line: &str) -> io::Result<()> {
     let Some((before, after, name)) = parts(line) else {
         let outcome = scenario(rt, &mut Turn::new(rt.alloc(), 0, 0), line);
@@ -78,7 +79,8 @@ fn print_numbered(rt: &HostRuntime, outcome: Outcome, refused: Option<usize>) ->
     }
 }
 
-// The numbers of idle requests before and after the call, and the name of the scenario, if the line begins with two numbers.
+// The numbers of idle requests before and after the call, and the name of the scenario, if the line begins with two
+// numbers.
 fn parts(line: &str) -> Option<(usize, usize, &str)> {
     let (before, rest) = line.split_once(' ')?;
     let (after, name) = rest.split_once(' ')?;

@@ -43,7 +43,8 @@ impl Write for Page {
     }
 }
 
-/// The outcome of a call that writes, given what the page took in a call before. After a refusal a prefix of it was written.
+/// The outcome of a call that writes, given what the page took in a call before. After a refusal a prefix of it was
+/// written.
 pub fn written<E: Failure + Drop>(answer: Result<(), E>, out: Out<Page>, whole: &Page) -> Outcome {
     let page = out.into_inner();
     match answer {

@@ -33,7 +33,8 @@ fn from_list(turn: &mut Turn, call: &str, case: &str) -> Outcome {
     }
 }
 
-// A list with repeated places in no order. Many lists are counted by minor index too; a list of few triplets is not if its lanes are long.
+// A list with repeated places in no order. Many lists are counted by minor index too; a list of few triplets is not if
+// its lanes are long.
 fn triplets(alloc: Global, case: &str) -> Option<CooMatrix<W64>> {
     let sizes = match case {
         "wide" => (3, 100),

@@ -1,5 +1,5 @@
-//! Calls whose requests for memory the program `refusals` lets `.ci/refusals` refuse in turn: what comes of them, their operands, and those on
-//! patterns, lists, dense matrices, rows, columns and conversions.
+//! Calls whose requests for memory the program `refusals` lets `.ci/refusals` refuse in turn: what comes of them, their
+//! operands, and those on patterns, lists, dense matrices, rows, columns and conversions.
 #![tactic(auto)]
 
 pub mod answer;

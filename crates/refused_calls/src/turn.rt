@@ -2,7 +2,8 @@
 
 use std::alloc::{AllocError, Global};
 
-/// How many idle requests are made before and after the call of a scenario, and which of them was refused, counted from 0.
+/// How many idle requests are made before and after the call of a scenario, and which of them was refused, counted from
+/// 0.
 #[derive(Drop)]
 pub struct Turn {
     alloc: Global,

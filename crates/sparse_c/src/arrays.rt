@@ -75,7 +75,8 @@ pub(crate) fn finish_rows(
     }
 }
 
-// Writes a matrix by rows into arrays, and its number of places. An array may be longer than the matrix needs; the rest is left as it was.
+// Writes a matrix by rows into arrays, and its number of places. An array may be longer than the matrix needs; the rest
+// is left as it was.
 fn write_rows(
     matrix: &CsrMatrix<W64>,
     offsets: &mut [usize],

@@ -69,7 +69,8 @@ fn pattern_of(
     Ok(SparsityPattern::try_from_offsets_and_indices(rows, cols, offsets, indices)?)
 }
 
-/// Writes the product of two matrices by rows: `a` with `rows` rows and `inner` columns, `b` with `inner` rows and `cols` columns.
+/// Writes the product of two matrices by rows: `a` with `rows` rows and `inner` columns, `b` with `inner` rows and
+/// `cols` columns.
 #[unsafe(no_mangle)]
 pub extern "C" fn nalgebra_sparse_multiply(
     alloc: Global,

@@ -35,9 +35,10 @@ pub enum Form {
 ///
 /// # Errors
 ///
-/// Returns `Input`, with its number counted from 1, for the first text that has an error, and otherwise the error of the expression;
-/// nothing is written in these cases. Returns `Write` with its kind if a write fails; a prefix of the value's text has then been written.
-/// Returns `OutOfMemory` if an allocation fails; nothing or such a prefix has then been written.
+/// Returns `Input`, with its number counted from 1, for the first text that has an error, and otherwise the error of
+/// the expression; nothing is written in these cases. Returns `Write` with its kind if a write fails; a prefix of the
+/// value's text has then been written. Returns `OutOfMemory` if an allocation fails; nothing or such a prefix has then
+/// been written.
 ///
 /// # Examples
 ///

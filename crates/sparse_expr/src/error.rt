@@ -42,7 +42,8 @@ impl ExprError {
     }
 }
 
-// Displays the message, for an input after its number. Written by hand: the derive would write one call for each variant.
+// Displays the message, for an input after its number. Written by hand: the derive would write one call for each
+// variant.
 impl fmt::Display for ExprError {
     fn fmt<W: fmt::Write>(&self, f: &mut fmt::Formatter<W>) -> fmt::Result {
         if let ExprError::Input(number, _) = self {

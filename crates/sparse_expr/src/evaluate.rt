@@ -23,12 +23,12 @@ use std::rc::Rc;
 
 /// Returns the value of an expression over inputs, as a CSR matrix.
 ///
-/// The left operand comes before the right one, and both before their sizes: `NoSuchInput` for a number of no input, `Shape` where sizes do
-/// not fit. `OutOfMemory` if an allocation fails.
+/// The left operand comes before the right one, and both before their sizes: `NoSuchInput` for a number of no input,
+/// `Shape` where sizes do not fit. `OutOfMemory` if an allocation fails.
 ///
-/// Each input is converted at most twice, by rows and by columns, however often it is named, and a matrix is dropped after its last use.
-/// Transposes cost nothing: they are moved inwards to the inputs, which are read by columns there. The stack grows with the depth of the
-/// expression: 20,000 levels fit in 8 MiB.
+/// Each input is converted at most twice, by rows and by columns, however often it is named, and a matrix is dropped
+/// after its last use. Transposes cost nothing: they are moved inwards to the inputs, which are read by columns there.
+/// The stack grows with the depth of the expression: 20,000 levels fit in 8 MiB.
 pub fn evaluate_rows<T: Ring>(
     alloc: Global,
     expr: &Expr,
@@ -81,8 +81,8 @@ fn owned<T: Ring>(alloc: Global, matrix: Rc<CsrMatrix<T>>) -> Result<CsrMatrix<T
     }
 }
 
-// The value of an expression by rows, or its transpose by rows if `turned`. The functions that it calls are not inlined, so that its frame
-// stays small: it recurses once a level.
+// The value of an expression by rows, or its transpose by rows if `turned`. The functions that it calls are not
+// inlined, so that its frame stays small: it recurses once a level.
 fn evaluate<T: Ring>(
     alloc: Global,
     expr: &Expr,

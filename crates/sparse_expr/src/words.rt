@@ -77,15 +77,17 @@ fn words<'a>(alloc: Global, text: &'a [u8]) -> Result<Vec<&'a [u8]>, AllocError>
 impl Expr {
     /// Returns the expression given by words in postfix order, such as `"1 2 * t"`.
     ///
-    /// Words are separated by spaces. A word is the number of an input, counted from 1; `+`, `-` or `*` for the sum, the difference or the
-    /// product of the two operands before it; `t` or `n` for the transpose or the negation of the operand before it.
+    /// Words are separated by spaces. A word is the number of an input, counted from 1; `+`, `-` or `*` for the sum,
+    /// the difference or the product of the two operands before it; `t` or `n` for the transpose or the negation of the
+    /// operand before it.
     ///
     /// Takes time and memory linear in the words.
     ///
     /// # Errors
     ///
-    /// Returns the first error from the left: `BadWord` for any other word, `MissingOperand` for an operator without its operands or if
-    /// there are no words, `LeftOver` if operands are left at the end. `OutOfMemory` if an allocation fails.
+    /// Returns the first error from the left: `BadWord` for any other word, `MissingOperand` for an operator without
+    /// its operands or if there are no words, `LeftOver` if operands are left at the end. `OutOfMemory` if an
+    /// allocation fails.
     ///
     /// # Examples
     ///

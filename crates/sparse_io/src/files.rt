@@ -28,11 +28,12 @@ use std::rt::Files;
 ///
 /// # Errors
 ///
-/// Returns the errors of [`load_coo_from_matrix_market_str`]. Returns `IOError` with its kind if the file cannot be opened or read, and
-/// `IOError(InvalidData)` if it is not UTF-8. Returns `OutOfMemory` if an allocation fails, in opening and reading too.
+/// Returns the errors of [`load_coo_from_matrix_market_str`]. Returns `IOError` with its kind if the file cannot be
+/// opened or read, and `IOError(InvalidData)` if it is not UTF-8. Returns `OutOfMemory` if an allocation fails, in
+/// opening and reading too.
 ///
-/// No contract describes the contents of a file. It is proved that the matrix is the meaning of some text, and that an error is the
-/// error of some text, `IOError` or `OutOfMemory`.
+/// No contract describes the contents of a file. It is proved that the matrix is the meaning of some text, and that an
+/// error is the error of some text, `IOError` or `OutOfMemory`.
 pub fn load_coo_from_matrix_market_file<T: MatrixMarketScalar>(
     rt: &(impl Files + AllocGlobal),
     path: &str,
@@ -69,8 +70,8 @@ fn load_read<T: MatrixMarketScalar>(
 ///
 /// # Errors
 ///
-/// Returns `IOError` with its kind if the file cannot be created, written or flushed. Returns `OutOfMemory` if an allocation fails. The
-/// file then holds a prefix of the text.
+/// Returns `IOError` with its kind if the file cannot be created, written or flushed. Returns `OutOfMemory` if an
+/// allocation fails. The file then holds a prefix of the text.
 ///
 /// No contract describes the contents of a file. It is proved that every error is `IOError` or `OutOfMemory`.
 pub fn save_to_matrix_market_file<T, S>(

@@ -29,8 +29,8 @@ pub fn one_meaning<T: MatrixMarketScalar>()
 
 /// The text of a matrix means that matrix, for the same scalar type.
 ///
-/// The sizes and the number of triplets must fit in `usize`, the triplets must lie within the shape, and their values must be values of
-/// the type.
+/// The sizes and the number of triplets must fit in `usize`, the triplets must lie within the shape, and their values
+/// must be values of the type.
 pub fn round_trip<T: MatrixMarketScalar>()
     ensures { (m : Coo T.scalar.Value)
         → m.nrows < 2 ^ 64 → m.ncols < 2 ^ 64 → length m.triplets < 2 ^ 64

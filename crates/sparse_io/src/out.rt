@@ -12,8 +12,8 @@ use std::marker::Model;
 
 /// A [`Sink`] over any [`Write`].
 ///
-/// Its bytes are those of the writer. It keeps the kind of the last failure. The number of failures, and whether the writer was flushed
-/// since the last write, are visible to contracts only.
+/// Its bytes are those of the writer. It keeps the kind of the last failure. The number of failures, and whether the
+/// writer was flushed since the last write, are visible to contracts only.
 #[derive(Drop)]
 pub struct Out<W> {
     inner: W,

@@ -28,17 +28,18 @@ mod values;
 
 /// Reads a matrix from a text in Matrix Market format.
 ///
-/// Repeated entries are kept, in the order of the text. If the header names a symmetry, each mirrored entry directly follows its own.
-/// Arrays are read column by column, and their zeros are stored.
+/// Repeated entries are kept, in the order of the text. If the header names a symmetry, each mirrored entry directly
+/// follows its own. Arrays are read column by column, and their zeros are stored.
 ///
-/// A valid text is read in one pass. Memory for the triplets is reserved once, and never for more than the text has room for.
+/// A valid text is read in one pass. Memory for the triplets is reserved once: at most for as many lines as the text has
+/// room for, and for twice as many triplets where entries are mirrored.
 ///
 /// # Errors
 ///
-/// Returns the first error in this order: `ParsingError` if the text does not match the grammar; `InvalidHeader`; `ParsingError` if the
-/// size line does not fit the header or a size exceeds `usize`; `NonSquare`; `EntryMismatch`; then, entry by entry, `ParsingError` for
-/// its shape or its numbers, `ZeroError`, `TypeMismatch`, `NotLowerTriangle`, `DiagonalError`; last
-/// `SparseFormatError(IndexOutOfBounds)`. Returns `OutOfMemory` only if an allocation fails.
+/// Returns the first error in this order: `ParsingError` if the text does not match the grammar; `InvalidHeader`;
+/// `ParsingError` if the size line does not fit the header or a size exceeds `usize`; `NonSquare`; `EntryMismatch`;
+/// then, entry by entry, `ParsingError` for its shape or its numbers, `ZeroError`, `TypeMismatch`, `NotLowerTriangle`,
+/// `DiagonalError`; last `SparseFormatError(IndexOutOfBounds)`. Returns `OutOfMemory` only if an allocation fails.
 ///
 /// # Examples
 ///
@@ -110,8 +111,8 @@ fn in_grammar(cause: Cause, text: &[u8]) -> Cause
     }
 }
 
-// Returns the first error of a text with a refused entry, given the number of data lines read, the refused one included, and the rest
-// of the text.
+// Returns the first error of a text with a refused entry, given the number of data lines read, the refused one
+// included, and the rest of the text.
 #[tactic(auto, unfolding(sparse_parser::specs::InnerReading::settled_of, sparse_parser::specs::InnerReading::count_of))]
 fn settled(
     fault: MatrixMarketError,

@@ -9,8 +9,8 @@ use std::io::ErrorKind;
 
 /// A byte sink. Each write accepts a prefix of the slice.
 ///
-/// A write fails if it returns an error, or if it accepts nothing of a nonempty slice, which is a failure of the kind `WriteZero`.
-/// Contracts see the bytes accepted, where the type determines them, and the number of failures.
+/// A write fails if it returns an error, or if it accepts nothing of a nonempty slice, which is a failure of the kind
+/// `WriteZero`. Contracts see the bytes accepted, where the type determines them, and the number of failures.
 pub trait Sink {
     ghost use Rattle.std.specs.declared.io.ErrorKind.{ErrorKind};
 

@@ -159,15 +159,15 @@ where
     Ok(())
 }
 
-/// Writes a matrix to a sink in Matrix Market format: the header, the size line, and a line for each triplet in the order of the matrix's
-/// form.
+/// Writes a matrix to a sink in Matrix Market format: the header, the size line, and a line for each triplet in the
+/// order of the matrix's form.
 ///
 /// The text passes through one buffer of bounded size.
 ///
 /// # Errors
 ///
-/// Returns `IOError` with the kind of the first write that fails; short writes are continued. Returns `OutOfMemory` if an allocation fails.
-/// In both cases a prefix of the text has been written.
+/// Returns `IOError` with the kind of the first write that fails; short writes are continued. Returns `OutOfMemory` if
+/// an allocation fails. In both cases a prefix of the text has been written.
 pub fn save_to_matrix_market<T, W, S>(
     alloc: Global,
     sink: &mut W,

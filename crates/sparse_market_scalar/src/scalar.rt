@@ -13,9 +13,9 @@ mod wrapping;
 
 /// A scalar type that can be read from and written to Matrix Market texts.
 ///
-/// An implementation proves that its only error is `TypeMismatch`, and that the text of each of its values is read back as that value.
-/// A type named `integer` writes an optional sign and digits, which [`from_i128`](Self::from_i128) accepts. A type named `pattern` writes
-/// nothing, and [`from_pattern`](Self::from_pattern) returns its value.
+/// An implementation proves that its only error is `TypeMismatch`, and that the text of each of its values is read back
+/// as that value. A type named `integer` writes an optional sign and digits, which [`from_i128`](Self::from_i128)
+/// accepts. A type named `pattern` writes nothing, and [`from_pattern`](Self::from_pattern) returns its value.
 pub trait MatrixMarketScalar: Copy {
     ghost use Rattle.sparse_parser.specs.Scalars.{Scalar};
 

@@ -88,8 +88,8 @@ impl Number<'_> {
     }
 }
 
-/// Parses the first line of a text as a data line. Returns its numbers and the text from the line's end on, or `None` if it is not a
-/// data line.
+/// Parses the first line of a text as a data line. Returns its numbers and the text from the line's end on, or `None`
+/// if it is not a data line.
 #[tactic(auto, unfolding(crate::specs::Grammar::is_entry))]
 #[inline(never)]
 pub fn data_line(text: &[u8]) -> Option<(Line<'_>, &[u8])>

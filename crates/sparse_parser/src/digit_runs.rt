@@ -22,10 +22,11 @@ pub fn digits_at(text: &[u8], from: usize) -> (usize, usize)
     many_digits_at(text, from)
 }
 
-/// Returns the value of a digit and of up to six more at a position, and the position after them, or `None` if more follow.
+/// Returns the value of a digit and of up to six more at a position, and the position after them, or `None` if more
+/// follow.
 ///
-/// No branch depends on how many there are: `read_digits` has no loop to go through where less than eight of at least twelve bytes are left.
-/// So it gets five bytes before the digits too.
+/// No branch depends on how many there are: `read_digits` has no loop to go through where less than eight of at least
+/// twelve bytes are left. So it gets five bytes before the digits too.
 #[inline(always)]
 pub fn few_digits_at(text: &[u8], from: usize, first: u64) -> Option<(usize, usize)>
     requires before { 5 ≤ from }

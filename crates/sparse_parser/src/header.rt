@@ -149,8 +149,8 @@ impl Header {
         })
     }
 
-    /// Returns why the header is invalid, if it is: only complex matrices are hermitian, and pattern matrices are neither
-    /// skew-symmetric nor arrays.
+    /// Returns why the header is invalid, if it is: only complex matrices are hermitian, and pattern matrices are
+    /// neither skew-symmetric nor arrays.
     pub fn fault(self) -> Option<Cause>
         ensures { MatchOption result
             (is_allowed self ≡ true)

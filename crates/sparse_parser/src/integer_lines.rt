@@ -15,8 +15,8 @@ ghost use Rattle.sparse_parser.specs.InnerIntegers.{IsIntegerLine, IsPlaceLine, 
 use crate::digit_runs::{digits_at, long_digits_at};
 use crate::lines::{ends_line, ends_word, is_blank, text_from};
 
-/// Parses the line at a position as two indices and an integer. Returns the row, the column, the value and the position of the line's end,
-/// or `None` if the line has another form.
+/// Parses the line at a position as two indices and an integer. Returns the row, the column, the value and the position
+/// of the line's end, or `None` if the line has another form.
 #[inline(always)]
 pub fn integer_line(text: &[u8], from: usize) -> Option<(usize, usize, i64, usize)>
     requires { from ≤ length text.now }
@@ -30,8 +30,8 @@ pub fn integer_line(text: &[u8], from: usize) -> Option<(usize, usize, i64, usiz
     Some((row, col, value, end))
 }
 
-/// Parses the line at a position as two indices. Returns the row, the column and the position of the line's end, or `None` if the line has
-/// another form.
+/// Parses the line at a position as two indices. Returns the row, the column and the position of the line's end, or
+/// `None` if the line has another form.
 #[inline(always)]
 pub fn place_line(text: &[u8], from: usize) -> Option<(usize, usize, usize)>
     requires { from ≤ length text.now }
@@ -44,8 +44,8 @@ pub fn place_line(text: &[u8], from: usize) -> Option<(usize, usize, usize)>
     Some((row, col, end))
 }
 
-/// Parses the line at a position as an integer. Returns the value and the position of the line's end, or `None` if the line has another
-/// form.
+/// Parses the line at a position as an integer. Returns the value and the position of the line's end, or `None` if the
+/// line has another form.
 #[inline(always)]
 pub fn value_line(text: &[u8], from: usize) -> Option<(i64, usize)>
     requires inside { from ≤ length text.now }
@@ -73,8 +73,8 @@ fn last_integer(text: &[u8], from: usize) -> Option<(i64, usize)>
     Some((value, end))
 }
 
-// The value of at most 19 digits at a position, and the position of the line's end. One digit before LF is a case of its own, since small
-// values are common.
+// The value of at most 19 digits at a position, and the position of the line's end. One digit before LF is a case of
+// its own, since small values are common.
 #[inline(always)]
 fn last_number(text: &[u8], from: usize) -> Option<(usize, usize)>
     requires { from ≤ length text.now }
@@ -94,8 +94,8 @@ fn last_number(text: &[u8], from: usize) -> Option<(usize, usize)>
     Some((number, end))
 }
 
-// The same for the number of a line that has nothing else, most often with LF behind it. One digit is no case of its own, since arrays whose
-// values are short are read by `short_value_line`.
+// The same for the number of a line that has nothing else, most often with LF behind it. One digit is no case of its
+// own, since arrays whose values are short are read by `short_value_line`.
 #[inline(always)]
 fn whole_number(text: &[u8], from: usize) -> Option<(usize, usize)>
     requires { from ≤ length text.now }
@@ -114,8 +114,8 @@ fn whole_number(text: &[u8], from: usize) -> Option<(usize, usize)>
     Some((number, end))
 }
 
-// The index at a position, after blanks, and a position behind it. Most often one blank comes before the next number, and it is passed
-// over too.
+// The index at a position, after blanks, and a position behind it. Most often one blank comes before the next number,
+// and it is passed over too.
 #[inline(always)]
 fn index_at(text: &[u8], from: usize) -> Option<(usize, usize)>
     requires { from ≤ length text.now }
@@ -154,8 +154,8 @@ fn last_index(text: &[u8], from: usize) -> Option<(usize, usize)>
     Some((number, end))
 }
 
-// The index of any form at a position, after blanks, and the position behind it, which is `from` if there is no index. Two words are
-// returned in registers, and an option would not be.
+// The index of any form at a position, after blanks, and the position behind it, which is `from` if there is no index.
+// Two words are returned in registers, and an option would not be.
 #[cold]
 fn spaced_index_at(text: &[u8], from: usize) -> (usize, usize)
     requires { from ≤ length text.now }

@@ -99,7 +99,8 @@ pub fn split_line(text: &[u8]) -> (&[u8], &[u8])
     split_front(text, |byte| !is_line_end(byte))
 }
 
-/// Skips blank lines and comments. Returns the text from the first word of the next line on; it is empty if no line is left.
+/// Skips blank lines and comments. Returns the text from the first word of the next line on; it is empty if no line is
+/// left.
 pub fn next_line(text: &[u8]) -> &[u8]
     ensures begins { BeginsLine result.now }
     ensures same { contents_of result.now ≡ contents_of text.now }
@@ -108,8 +109,8 @@ pub fn next_line(text: &[u8]) -> &[u8]
     text_from(text, next_line_at(text, 0))
 }
 
-/// Skips blank lines and comments from a position on. Returns the position of the first word of the next line, or of the text's end if no
-/// line is left.
+/// Skips blank lines and comments from a position on. Returns the position of the first word of the next line, or of
+/// the text's end if no line is left.
 #[inline(always)]
 pub fn next_line_at(text: &[u8], from: usize) -> usize
     requires { from ≤ length text.now }

@@ -9,12 +9,13 @@ ghost use Rattle.sparse_parser.specs.InnerReading.{contents_of};
 
 use crate::digit_runs::few_digits_at;
 
-/// Parses the line at a position as an integer of at most seven digits, maybe after a minus, if it ends in LF and the next line follows at once.
-/// Returns the value and the position of the next line, or `None` if the line has another form or the text ends or begins within a few bytes.
+/// Parses the line at a position as an integer of at most seven digits, maybe after a minus, if it ends in LF and the
+/// next line follows at once. Returns the value and the position of the next line, or `None` if the line has another
+/// form or the text ends or begins within a few bytes.
 ///
-/// Such a line takes fewer steps than what a mispredicted branch costs, so no branch depends on the sign or on the number of digits. What the
-/// processor waits for is the position of the next line. It does not depend on the sign either: the first byte is taken apart, as a minus or
-/// as a digit, and the digits behind it are counted.
+/// Such a line takes fewer steps than what a mispredicted branch costs, so no branch depends on the sign or on the
+/// number of digits. What the processor waits for is the position of the next line. It does not depend on the sign
+/// either: the first byte is taken apart, as a minus or as a digit, and the digits behind it are counted.
 #[inline(always)]
 pub fn short_value_line(text: &[u8], from: usize) -> Option<(i64, usize)>
     requires { from ≤ length text.now }

@@ -35,8 +35,8 @@ pub struct SizeWords<'a> {
 }
 
 impl Size {
-    /// Parses the size line below a header. Returns `None` if the line does not match the grammar, and the cause of the error if the
-    /// header or the sizes are invalid.
+    /// Parses the size line below a header. Returns `None` if the line does not match the grammar, and the cause of the
+    /// error if the header or the sizes are invalid.
     #[tactic(auto, unfolding(crate::specs::InnerReading::size_at))]
     pub fn from_line(header: Header, line: &[u8]) -> Option<Result<Size, Cause>>
         ensures { option_map (λ r. size_numbers r) result ≡ size_at header (words_of line.now) }

@@ -55,7 +55,8 @@ pub fn is_made<M: Extent + Drop, E: Drop>(
     }
 }
 
-/// Whether a value of these sizes without places was made, or none because it has more `lanes` than offsets fit in memory.
+/// Whether a value of these sizes without places was made, or none because it has more `lanes` than offsets fit in
+/// memory.
 pub fn is_empty_or_large<M: Extent + Drop, E: Drop>(
     made: Result<M, E>,
     nrows: usize,

@@ -54,7 +54,8 @@ fn agree<T: MatrixMarketScalar + PartialEq>(alloc: Global, text: &str) -> bool {
     }
 }
 
-// Whether both readers agree on the text of these bytes, as integers and as places. Bytes that are no UTF-8 have no text.
+// Whether both readers agree on the text of these bytes, as integers and as places. Bytes that are no UTF-8 have no
+// text.
 fn agree_on_bytes(alloc: Global, bytes: &[u8]) -> bool {
     match std::str::from_utf8(bytes) {
         Ok(text) => agree::<W64>(alloc, text) && agree::<()>(alloc, text),
@@ -89,7 +90,8 @@ fn refusal(alloc: Global, end: usize) -> Option<MatrixMarketErrorKind> {
     }
 }
 
-/// The lengths of fronts from the first to the last, and how they are refused: the header ends at 48 bytes, the size line at 54, the second entry at 66.
+/// The lengths of fronts from the first to the last, and how they are refused: the header ends at 48 bytes, the size
+/// line at 54, the second entry at 66.
 ///
 /// The third entry is `2` at 68 bytes, `2 2` at 70, and whole at 72.
 const REFUSED: [(usize, usize, Option<MatrixMarketErrorKind>); 4] = [

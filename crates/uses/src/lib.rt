@@ -16,6 +16,8 @@ mod data;
 #[cfg(test)]
 mod dense;
 #[cfg(test)]
+mod dual;
+#[cfg(test)]
 mod example;
 #[cfg(test)]
 mod expr;
@@ -35,5 +37,7 @@ mod pattern;
 mod scalar;
 #[cfg(test)]
 mod symmetric;
+#[cfg(test)]
+mod tutorial;
 #[cfg(test)]
 mod units;

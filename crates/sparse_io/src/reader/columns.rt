@@ -15,12 +15,12 @@ use sparse_base::CooAppender;
 use sparse_base::coo::CooMatrix;
 use sparse_market_scalar::MatrixMarketScalar;
 
-// The rows and columns of as many entries are written at once, few enough that the processor's store buffer takes them while the next lines
-// are parsed.
+// The rows and columns of as many entries are written at once, few enough that the processor's store buffer takes them
+// while the next lines are parsed.
 const MOST_LINES: usize = 64;
 
-/// Reads lines of values of one kind as long as they have the common form, their entries lie within the shape and there is memory for
-/// them. Returns the matrix, the number of data lines and the text that is left.
+/// Reads lines of values of one kind as long as they have the common form, their entries lie within the shape and there
+/// is memory for them. Returns the matrix, the number of data lines and the text that is left.
 #[inline(never)]
 pub fn columns<'a, T: MatrixMarketScalar, V: Values>(
     matrix: CooMatrix<T>,

@@ -59,7 +59,8 @@ pub fn entries<T: MatrixMarketScalar>(
     finished(matrix, is_count(size.count, read), bounds)
 }
 
-// Reads the first line of a text. Returns its triplets and the text from the line's end on, or `None` if it is not a data line.
+// Reads the first line of a text. Returns its triplets and the text from the line's end on, or `None` if it is not a
+// data line.
 #[inline(never)]
 fn general_triplets<T: MatrixMarketScalar>(
     header: Header,

@@ -22,8 +22,8 @@ pub trait Kind<T: MatrixMarketScalar> {
     // The headers of the files that have such lines.
     ghost is_for: { Header → Type 0 };
 
-    /// Reads the line at a position. Returns its triplets and the position of the next line, or `None` if the line has another form or is
-    /// refused.
+    /// Reads the line at a position. Returns its triplets and the position of the next line, or `None` if the line has
+    /// another form or is refused.
     fn line(
         header: Header,
         places: &Places,

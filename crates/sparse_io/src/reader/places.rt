@@ -21,7 +21,8 @@ impl Places {
     ghost use Rattle.sparse_io.specs.InnerPlaces.{places_left, left_from, columns_left};
     ghost use Rattle.sparse_io.specs.InnerPlaces.{rows_left_of, IsDownFrom};
 
-    /// Returns the places of an array of these sizes. In the coordinate format there are none, since each data line gives its own.
+    /// Returns the places of an array of these sizes. In the coordinate format there are none, since each data line
+    /// gives its own.
     pub fn new(format: Format, symmetry: Symmetry, rows: usize, cols: usize) -> Places
         ensures { places_left result ≡ places_of format symmetry rows cols }
     {
@@ -108,7 +109,8 @@ impl Places {
         Some(place)
     }
 
-    // Returns the first place from a column on, or `(0, cols)` if there is none. After a column without places there are no more.
+    // Returns the first place from a column on, or `(0, cols)` if there is none. After a column without places there
+    // are no more.
     #[inline(always)]
     fn first_from(symmetry: Symmetry, rows: usize, cols: usize, col: usize) -> (usize, usize)
         ensures places { left_from symmetry rows cols result.0 result.1

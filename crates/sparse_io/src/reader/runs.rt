@@ -18,8 +18,8 @@ use sparse_base::coo::CooMatrix;
 use sparse_market_scalar::MatrixMarketScalar;
 use sparse_parser::header::{Field, Format, Header, Symmetry};
 
-/// Reads lines of integers or places as long as they have the common form, their triplets lie within the shape and there is memory for
-/// them. Returns the matrix, the number of data lines and the text that is left.
+/// Reads lines of integers or places as long as they have the common form, their triplets lie within the shape and
+/// there is memory for them. Returns the matrix, the number of data lines and the text that is left.
 pub fn common_lines<'a, T: MatrixMarketScalar>(
     header: Header,
     matrix: CooMatrix<T>,
@@ -50,7 +50,8 @@ pub fn common_lines<'a, T: MatrixMarketScalar>(
     }
 }
 
-// Reads the lines of an array: those of one digit, as long as all have one, those of short integers, and then those of any integer.
+// Reads the lines of an array: those of one digit, as long as all have one, those of short integers, and then those of
+// any integer.
 fn array_lines<'a, T: MatrixMarketScalar>(
     header: Header,
     matrix: CooMatrix<T>,
@@ -113,10 +114,11 @@ const SKEW_SYMMETRIC: u8 = 2;
 
 const HERMITIAN: u8 = 3;
 
-// Reads lines of one kind as long as they have the common form, their triplets lie within the shape and there is room for two more.
+// Reads lines of one kind as long as they have the common form, their triplets lie within the shape and there is room
+// for two more.
 //
-// The matrix is passed by value, so that its pointers stay in registers. No test of its own ends the loop with the text: an empty text has
-// no line of any kind.
+// The matrix is passed by value, so that its pointers stay in registers. No test of its own ends the loop with the
+// text: an empty text has no line of any kind.
 #[inline(never)]
 fn run<'a, T: MatrixMarketScalar, K: Kind<T>, const SYMMETRY: u8>(
     header: Header,

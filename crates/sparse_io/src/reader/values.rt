@@ -15,7 +15,8 @@ const BEFORE: usize = 4;
 
 /// A kind of values.
 pub trait Values {
-    /// Parses the line at a position. Returns its value and the position of the next line, or `None` if the line has another form.
+    /// Parses the line at a position. Returns its value and the position of the next line, or `None` if the line has
+    /// another form.
     fn line(text: &[u8], from: usize) -> Option<(i64, usize)>
         requires inside { from ≤ length text.now }
         requires begins { BeginsLine (drop from text.now) }
@@ -71,9 +72,9 @@ fn first_line(text: &[u8], from: usize) -> Option<(i64, usize)>
     Integers::line(text, from)
 }
 
-// Parses the line at a position as one digit, maybe after a minus, if it ends in LF and the next line follows at once. Returns the value and
-// the position of the line's end. No branch depends on the sign, since signs are hard to predict, and one decides on the digit and the two
-// bytes behind it together.
+// Parses the line at a position as one digit, maybe after a minus, if it ends in LF and the next line follows at once.
+// Returns the value and the position of the line's end. No branch depends on the sign, since signs are hard to predict,
+// and one decides on the digit and the two bytes behind it together.
 #[inline(always)]
 fn digit_line(text: &[u8], from: usize) -> Option<(i64, usize)>
     requires { from ≤ length text.now }

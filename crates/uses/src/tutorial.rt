@@ -1,0 +1,154 @@
+//! The examples of docs/TUTORIAL.md.
+
+ghost use Rattle.std.specs.Prelude.{◌≡◌, true, IfOk};
+ghost use Rattle.nalgebra_sparse.specs.Plain.{plain_identity, plain_product};
+ghost use Rattle.nalgebra_sparse.specs.PlainOfLanes.{plain_of_rows};
+
+use crate::dual::Dual;
+use crate::example::holds;
+use nalgebra_sparse::convert::serial::{convert_coo_csc, convert_coo_csr};
+use nalgebra_sparse::dense::DMatrix;
+use nalgebra_sparse::factorization::CscSymbolicCholesky;
+use nalgebra_sparse::io::load_coo_from_matrix_market_str;
+use nalgebra_sparse::laws::compressed::{equal_law, stands_law};
+use nalgebra_sparse::laws::plain::identity_product_law;
+use nalgebra_sparse::ops::Op;
+use nalgebra_sparse::ops::serial::{mul_csr, spsolve_csc_lower_triangular};
+use nalgebra_sparse::scalar::{Mod, Ring, W64};
+use nalgebra_sparse::{CooMatrix, CscMatrix, CsrMatrix};
+use std::alloc::{AllocError, Global};
+use std::test::Fail;
+
+fn repeated_triplets_are_summed(alloc: Global) -> Result<bool, Fail> {
+    let mut list = CooMatrix::new(alloc, 2, 2);
+    for (row, col, value) in &[(0, 0, 1), (0, 1, 2), (1, 1, 3), (1, 1, -3)] {
+        if *row < list.nrows() && *col < list.ncols() {
+            list.push(*row, *col, W64::new(*value))?;
+        }
+    }
+    let matrix = convert_coo_csr(alloc, &list)?;
+    let square = mul_csr(alloc, &matrix, &matrix)?;
+    Ok(square.values() == [W64::new(1), W64::new(2), W64::new(0)].as_slice())
+}
+
+const SYMMETRIC: &str = "%%MatrixMarket matrix coordinate integer symmetric
+4 4 6
+1 1 4
+2 2 4
+3 3 4
+4 4 4
+3 1 1
+4 1 1
+";
+
+fn a_symmetric_file_fills_in(alloc: Global) -> Result<bool, Fail> {
+    let list: CooMatrix<W64> = load_coo_from_matrix_market_str(alloc, SYMMETRIC)?;
+    let matrix = convert_coo_csc(alloc, &list)?;
+    if matrix.nrows() != matrix.ncols() {
+        return Ok(false);
+    }
+    let factor = CscSymbolicCholesky::factor(alloc, matrix.pattern().clone(alloc)?)?;
+    Ok(factor.l_pattern().minor_indices() == [0, 2, 3, 1, 2, 3, 3].as_slice())
+}
+
+fn a_system_is_solved_modulo_seven(alloc: Global) -> Result<bool, Fail> {
+    let offsets = vec![in alloc; 0, 2, 3]?;
+    let rows = vec![in alloc; 0, 1, 1]?;
+    let values = vec![in alloc; Mod::<7>::new(2), Mod::new(1), Mod::new(3)]?;
+    let l = CscMatrix::try_from_csc_data(2, 2, offsets, rows, values)?;
+    let mut b = DMatrix::from_column_slice(alloc, 2, 1, &[Mod::new(1), Mod::new(5)])?;
+    if l.nrows() != l.ncols() || b.nrows() != l.nrows() {
+        return Ok(false);
+    }
+    spsolve_csc_lower_triangular(Op::NoOp(&l), &mut b)?;
+    Ok(b.as_slice() == [Mod::new(4), Mod::new(5)].as_slice())
+}
+
+// The matrix with the one entry x, seen as a number whose derivative is 1.
+fn variable(alloc: Global, x: i64) -> Result<CsrMatrix<Dual<W64>>, Fail> {
+    let offsets = vec![in alloc; 0, 1]?;
+    let columns = vec![in alloc; 0]?;
+    let values = vec![in alloc;
+        Dual {
+            number: W64::new(x),
+            slope: W64::new(1)
+        },
+    ]?;
+    Ok(CsrMatrix::try_from_csr_data(1, 1, offsets, columns, values)?)
+}
+
+fn the_derivative_of_a_square_is_twice_the_number(alloc: Global) -> Result<bool, Fail> {
+    let x = variable(alloc, 5)?;
+    let y = variable(alloc, 5)?;
+    if x.ncols() != y.nrows() {
+        return Ok(false);
+    }
+    let square = mul_csr(alloc, &x, &y)?;
+    let want = Dual {
+        number: W64::new(25),
+        slope: W64::new(10),
+    };
+    Ok(square.values() == [want].as_slice())
+}
+
+// A law: the identity times a matrix is that matrix.
+fn identity_is_neutral<T: Ring>(a: &CsrMatrix<T>)
+    ensures neutral { plain_product T.ring (plain_identity T.ring a.now.pattern.major_dim)
+        (plain_of_rows T.ring T.value a.now) ≡ plain_of_rows T.ring T.value a.now }
+{
+    // These calls cost nothing: they tell the prover that the arrays are sound, what they stand for, and a law.
+    let _ = a.values();
+    stands_law::<T>();
+    identity_product_law::<T>();
+}
+
+// Multiplies by the identity from the left, which changes nothing.
+fn times_one<T: Ring>(alloc: Global, a: &CsrMatrix<T>) -> Result<CsrMatrix<T>, AllocError>
+    ensures { IfOk result
+        (λ m. plain_of_rows T.ring T.value m ≡ plain_of_rows T.ring T.value a.now) }
+{
+    identity_is_neutral(a);
+    let identity = CsrMatrix::identity(alloc, a.nrows())?;
+    mul_csr(alloc, &identity, a)
+}
+
+// Returns whether two products are `==`, which is whether they mean one matrix.
+fn is_one_matrix<T: Ring>(a: &CsrMatrix<T>, b: &CsrMatrix<T>) -> bool
+    ensures { result ≡ true
+        → plain_of_rows T.ring T.value a.now ≡ plain_of_rows T.ring T.value b.now }
+{
+    // These calls cost nothing: they tell the prover that the arrays are sound, and what `==` means.
+    let _ = a.values();
+    let _ = b.values();
+    equal_law::<T>();
+    *a == *b
+}
+
+// Appends a triplet with this value in each row, in the first column.
+fn push_in_each_row(list: &mut CooMatrix<W64>, value: W64) -> Result<(), AllocError> {
+    for row in 0..list.nrows() {
+        // A test after which the condition of `push` is known.
+        if row < list.nrows() && 0 < list.ncols() {
+            list.push(row, 0, value)?;
+        }
+    }
+    Ok(())
+}
+
+fn the_identity_changes_nothing(alloc: Global) -> Result<bool, Fail> {
+    let mut list = CooMatrix::new(alloc, 3, 2);
+    push_in_each_row(&mut list, W64::new(7))?;
+    let matrix = convert_coo_csr(alloc, &list)?;
+    let product = times_one(alloc, &matrix)?;
+    Ok(is_one_matrix(&product, &matrix))
+}
+
+#[test]
+fn the_tutorial(rt: HostRuntime) {
+    let alloc = rt.alloc();
+    assert!(rt; holds(&rt, repeated_triplets_are_summed(alloc)));
+    assert!(rt; holds(&rt, a_symmetric_file_fills_in(alloc)));
+    assert!(rt; holds(&rt, a_system_is_solved_modulo_seven(alloc)));
+    assert!(rt; holds(&rt, the_derivative_of_a_square_is_twice_the_number(alloc)));
+    assert!(rt; holds(&rt, the_identity_changes_nothing(alloc)));
+}
