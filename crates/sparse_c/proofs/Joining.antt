@@ -1,5 +1,5 @@
 -- What a call promises, from what it read, what it computed and how it ended.
-use Rattle.std.proofs.Common.{◌≡◌, ℤ, pos, Result, Ok, Err, inl, inr, subst, ◌∙◌, refl}
+use Rattle.std.proofs.Common.{◌≡◌, ℤ, Result, Ok, Err, inl, inr, subst, ◌∙◌, refl}
 use Rattle.std.specs.Prelude.{IfOk, MatchResult}
 use Rattle.sparse_algebra.specs.Plain.{Plain}
 use Rattle.sparse_algebra.specs.declared.scalar.wrapping.W64.{W64}
@@ -10,17 +10,8 @@ use Rattle.sparse_c.specs.Arrays.{ring64, Room, HoldsRows}
 use Rattle.sparse_c.specs.Refused.{IsRefused, IsTooSmall}
 use Rattle.sparse_c.specs.Statuses.{number_of}
 use Rattle.sparse_c.specs.declared.refusal.Refusal.{Refusal}
-use Rattle.sparse_c.specs.declared.refusal.Refusal.TheVariants.{OutOfMemory, InvalidStructure}
-use Rattle.sparse_c.specs.declared.refusal.Refusal.TheVariants.{IndexOutOfBounds, DuplicateEntry}
+use Rattle.sparse_c.specs.declared.refusal.Refusal.TheVariants.{OutOfMemory}
 use Rattle.sparse_c.specs.declared.refusal.Refusal.TheVariants.{TooSmall}
-
--- no refusal has the status of a call that is not refused
-pub number_of-not_done : (refusal : Refusal) → number_of refusal ≡ pos 0 → ⊥
-number_of-not_done OutOfMemory e = cc
-number_of-not_done InvalidStructure e = cc
-number_of-not_done IndexOutOfBounds e = cc
-number_of-not_done DuplicateEntry e = cc
-number_of-not_done TooSmall e = cc
 
 module _ {E : Type 0} (a b : Plain ring64) (status : ℤ) where
   -- the answer has the plain matrix b, which is a

@@ -10,22 +10,17 @@ use Rattle.sparse_algebra.specs.Numbers.{w64_number}
 use Rattle.sparse_algebra.specs.Plain.{is_at, plain_of_triplets}
 use Rattle.sparse_cs.specs.Compressed.{Compressed, compressed_of, IsSound, zip_values}
 use Rattle.sparse_cs.specs.Compressed.{lane_triplets, arrays_of}
-use Rattle.sparse_cs.specs.PlainOfLanes.{plain_of_rows, plain_of_cols}
-use Rattle.sparse_algebra.specs.Plain.{plain_transpose}
+use Rattle.sparse_cs.specs.PlainOfLanes.{plain_of_rows}
 use Rattle.sparse_base.specs.Coo.{Coo, coo_of, zip_triplets}
 use Rattle.sparse_base.specs.CooPlain.{plain_of_coo}
 use Rattle.sparse_pattern.specs.Raw.{entries_of}
-use Rattle.sparse_cs.specs.SortedFaults.{IsFirstSortedFault, IsSortedRefusal}
 use Rattle.sparse_algebra.specs.Wrapping.{class_of}
 use Rattle.sparse_units.specs.WrappingValues.{w64_value}
 use Rattle.sparse_algebra.specs.declared.scalar.wrapping.W64.{W64}
 use Rattle.sparse_algebra.proofs.PlainLemmas.{same_plain}
-use Rattle.sparse_pattern.specs.declared.error.SparseFormatErrorKind.{SparseFormatErrorKind}
 use Rattle.sparse_pattern.proofs.LaneOrder.{length-entries}
 use Rattle.sparse_cs.proofs.RowOrder.{row_order-rows}
-use Rattle.sparse_cs.specs.declared.sorted.SortedFault.{SortedFault}
-use Rattle.sparse_cs.specs.declared.sorted.SortedFault.TheVariants.{Pattern, ValueCount}
-use Rattle.sparse_c.specs.Arrays.{ring64, plain_by_rows, plain_by_cols, plain_of_lists}
+use Rattle.sparse_c.specs.Arrays.{ring64, plain_by_rows, plain_of_lists}
 use Rattle.sparse_c.specs.Arrays.{places_of}
 
 module _ {X Y : Type 0} (h : X → Y) where
@@ -63,28 +58,10 @@ pub plain_of_rows-numbers : (m : Compressed W64)
 plain_of_rows-numbers m = triplets-numbers w64_number ring64 _ m.pattern.major_dim
     m.pattern.minor_dim (entries_of m.pattern) m.values
 
-pub plain_of_cols-numbers : (m : Compressed W64)
-    → plain_of_cols ring64 w64_value m ≡ plain_by_cols (numbers_of m)
-plain_of_cols-numbers m = ap (plain_transpose ring64) (plain_of_rows-numbers m)
-
 pub sound-numbers : (m : Compressed W64) → IsSound m → IsSound (numbers_of m)
 sound-numbers m sound = record {
   valid = sound.valid;
   count = length-map m.values w64_number ∙ sound.count;
-}
-
-first-numbers : (m : Compressed W64) (fault : SortedFault)
-    → IsFirstSortedFault m fault → IsFirstSortedFault (numbers_of m) fault
-first-numbers m (Pattern e) first = first
-first-numbers m ValueCount first =
-    (first.0, λ e. first.1 (sym (length-map m.values w64_number) ∙ e))
-
-pub refusal-numbers : (m : Compressed W64) (kind : SparseFormatErrorKind)
-    → IsSortedRefusal m kind → IsSortedRefusal (numbers_of m) kind
-refusal-numbers m kind refused = record {
-  fault = refused.fault;
-  first = first-numbers m refused.fault refused.first;
-  is = refused.is;
 }
 
 length-zip_values : {X : Type 0} (ps : List (ℕ × ℕ)) (vs : List X)

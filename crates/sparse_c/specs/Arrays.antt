@@ -6,18 +6,15 @@ use Rattle.sparse_algebra.specs.Wrapping.{wrapping_ring, class_of}
 use Rattle.sparse_algebra.specs.Plain.{Plain, plain_of_triplets, plain_transpose, row_order}
 use Rattle.sparse_base.specs.Coo.{zip_triplets}
 use Rattle.sparse_cs.specs.Compressed.{Compressed, arrays_of, IsSound}
-use Rattle.sparse_cs.specs.PlainOfLanes.{plain_of_rows, plain_of_cols}
+use Rattle.sparse_cs.specs.PlainOfLanes.{plain_of_rows}
 
 -- the ring modulo 2^64
 abbrev pub ring64 : CommRing
 ring64 = wrapping_ring w64
 
--- the plain matrix of arrays by rows, and of arrays by columns
+-- the plain matrix of arrays by rows
 abbrev pub plain_by_rows : Compressed ℤ → Plain ring64
 plain_by_rows m = plain_of_rows ring64 (class_of w64) m
-
-abbrev pub plain_by_cols : Compressed ℤ → Plain ring64
-plain_by_cols m = plain_of_cols ring64 (class_of w64) m
 
 -- the plain matrix of lists of rows, columns and values: repeated triplets of a place are added
 abbrev pub plain_of_lists : ℕ → ℕ → List ℕ → List ℕ → List ℤ → Plain ring64
