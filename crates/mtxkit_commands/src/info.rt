@@ -1,0 +1,67 @@
+//! What `mtxkit info` says of a matrix.
+
+ghost use Rattle.std.specs.Prelude.{◌≡◌, ◌↔◌, IfOk, IsTrue, count_by, length};
+ghost use Rattle.sparse_cs.specs.PlainOfLanes.{plain_of_rows};
+ghost use Rattle.mtxkit_patterns.specs.Lanes.{count_below, has_size_in, HasEmptyColumns};
+ghost use Rattle.mtxkit_patterns.specs.Lanes.{IsHistogram};
+ghost use Rattle.mtxkit_patterns.specs.Shapes.{IsBandwidth, IsSymmetricPattern};
+ghost use Rattle.mtxkit_systems.specs.Values.{IsSymmetricMatrix};
+
+use mtxkit_patterns::{Histogram, bandwidth, count_lanes, counted_lanes, is_symmetric};
+use mtxkit_systems::{count_zeros, has_symmetric_values};
+use sparse_algebra::scalar::Ring;
+use sparse_forms::csr::CsrMatrix;
+use std::alloc::{AllocError, Global};
+
+/// Facts about a matrix.
+#[derive(Debug, Drop)]
+pub struct Info {
+    /// The number of stored places.
+    pub places: usize,
+    /// The number of stored places whose value is zero.
+    pub stored_zeros: usize,
+    /// The number of rows without places.
+    pub empty_rows: usize,
+    /// The number of columns without places.
+    pub empty_cols: usize,
+    /// The greatest distance of a place from the diagonal.
+    pub bandwidth: usize,
+    /// Whether the pattern is square and has (j, i) for each place (i, j).
+    pub has_symmetric_pattern: bool,
+    /// Whether the matrix is square and has the same value at (i, j) and (j, i).
+    pub has_symmetric_values: bool,
+    /// The rows, counted by their numbers of places.
+    pub rows: Histogram,
+}
+
+/// Returns the facts about a matrix.
+///
+/// Linear in places, rows and columns. Fails only if an allocation fails.
+pub fn info_of<T: Ring>(alloc: Global, matrix: &CsrMatrix<T>) -> Result<Info, AllocError>
+    ensures places { IfOk result (λ s. s.places ≡ length matrix.now.pattern.indices) }
+    ensures stored_zeros { IfOk result (λ s.
+        s.stored_zeros ≡ count_by (λ v. T.eq v T.zero_value) matrix.now.values) }
+    ensures empty_rows { IfOk result (λ s. s.empty_rows
+        ≡ count_below matrix.now.pattern.major_dim (has_size_in matrix.now.pattern 0 1)) }
+    ensures empty_cols { IfOk result (λ s. HasEmptyColumns matrix.now.pattern s.empty_cols) }
+    ensures bandwidth { IfOk result (λ s. IsBandwidth matrix.now.pattern s.bandwidth) }
+    ensures pattern { IfOk result (λ s. IsTrue s.has_symmetric_pattern
+        ↔ IsSymmetricPattern matrix.now.pattern) }
+    ensures values { IfOk result (λ s. IsTrue s.has_symmetric_values
+        ↔ IsSymmetricMatrix T.ring (plain_of_rows T.ring T.value matrix.now)) }
+    ensures rows { IfOk result (λ s.
+        IsHistogram matrix.now.pattern s.rows.width s.rows.counts.items) }
+{
+    let pattern = matrix.pattern();
+    let transposed = pattern.transpose(alloc)?;
+    Ok(Info {
+        places: pattern.nnz(),
+        stored_zeros: count_zeros(matrix.values()),
+        empty_rows: count_lanes(pattern, 0, 1),
+        empty_cols: count_lanes(&transposed, 0, 1),
+        bandwidth: bandwidth(pattern),
+        has_symmetric_pattern: is_symmetric(alloc, pattern)?,
+        has_symmetric_values: has_symmetric_values(alloc, matrix)?,
+        rows: counted_lanes(alloc, pattern)?,
+    })
+}

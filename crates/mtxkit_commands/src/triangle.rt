@@ -1,0 +1,29 @@
+//! The lower triangle of a symmetric matrix.
+
+ghost use Rattle.std.specs.Prelude.{◌≡◌, IfOk, MatchOption};
+ghost use Rattle.sparse_cs.specs.PlainOfLanes.{plain_of_rows};
+ghost use Rattle.sparse_cs.specs.Compressed.{lane_triplets};
+ghost use Rattle.sparse_cs.specs.Filter.{is_lower};
+ghost use Rattle.std.specs.List.{filter};
+ghost use Rattle.mtxkit_systems.specs.Values.{IsSymmetricMatrix};
+
+use mtxkit_systems::has_symmetric_values;
+use sparse_algebra::scalar::Ring;
+use sparse_forms::csr::CsrMatrix;
+use std::alloc::{AllocError, Global};
+
+/// Returns the lower triangle of a symmetric matrix with its diagonal, or `None` exactly if the matrix is not symmetric.
+pub fn lower_of<T: Ring>(
+    alloc: Global,
+    matrix: &CsrMatrix<T>,
+) -> Result<Option<CsrMatrix<T>>, AllocError>
+    ensures { IfOk result (λ found. MatchOption found
+        (¬ IsSymmetricMatrix T.ring (plain_of_rows T.ring T.value matrix.now))
+        (λ l. IsSymmetricMatrix T.ring (plain_of_rows T.ring T.value matrix.now)
+        × (lane_triplets l ≡ filter is_lower (lane_triplets matrix.now)))) }
+{
+    if !has_symmetric_values(alloc, matrix)? {
+        return Ok(None);
+    }
+    Ok(Some(matrix.lower_triangle(alloc)?))
+}
