@@ -1,1 +1,2 @@
 mod OneALane
+mod Unwritten

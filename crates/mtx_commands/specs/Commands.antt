@@ -1,10 +1,13 @@
 -- What the words of a command say, and what a command writes.
 use Rattle.std.specs.Prelude.{◌≡◌, ◌<◌, ◌⊎◌, ℕ, List, [], ◌∷◌, length, codes, Option}
+use Rattle.std.specs.declared.io.ErrorKind.{ErrorKind}
+use Rattle.std.specs.declared.io.ErrorKind.TheVariants as io
 use Rattle.nalgebra_sparse.specs.PostfixWords.{words_of, IsSaid}
 use Rattle.nalgebra_sparse.specs.Run.{Writes}
 use Rattle.sparse_expr.specs.declared.expr.Expr.{Expr}
 use Rattle.sparse_expr.specs.declared.calculator.Form.{Form}
 use Rattle.sparse_expr.specs.declared.calculator.Form.TheVariants.{Rows, Cols}
+use Rattle.sparse_expr.specs.declared.error.ExprError.TheVariants.{OutOfMemory}
 use Rattle.sparse_factor.specs.declared.factorization.Triangle.{Triangle}
 use Rattle.sparse_factor.specs.declared.factorization.Triangle.TheVariants.{Upper, Lower, Both}
 use Rattle.mtx_commands.specs.declared.cli.Failure.{Failure}
@@ -55,3 +58,8 @@ abbrev pub status_of : Failure → ℕ
 status_of failure.Usage = 2
 status_of failure.NotSquare = 1
 status_of (failure.Refused error) = 1
+
+-- the failure of arguments that cannot be read, of an error of this kind
+abbrev pub argument_fault : ErrorKind → Failure
+argument_fault io.OutOfMemory = failure.Refused OutOfMemory
+argument_fault kind = failure.Usage

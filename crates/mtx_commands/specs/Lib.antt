@@ -1,2 +1,4 @@
 pub mod Commands
 pub mod Places
+pub mod Inputs
+pub mod Writes

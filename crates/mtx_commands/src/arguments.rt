@@ -1,7 +1,11 @@
 //! From the program's arguments to its exit status.
 
-ghost use Rattle.std.specs.Prelude.{◌≡◌, ◌≤◌, IfOk};
+ghost use Rattle.std.specs.Prelude.{◌≡◌, ◌≤◌, IfOk, IfErr, IsTrue, Err};
+ghost use Rattle.std.specs.IoError.{error_kind};
 ghost use Rattle.std.specs.Process.{exit_status};
+ghost use Rattle.sparse_expr.specs.declared.error.ExprError.TheVariants.{OutOfMemory};
+ghost use Rattle.mtx_commands.specs.Commands.{status_of, argument_fault};
+ghost use Rattle.mtx_commands.specs.declared.cli.Failure.TheVariants.{Refused};
 
 use crate::cli::{Failure, command, finish, report, views_of};
 use nalgebra_sparse::expr::ExprError;
@@ -23,13 +27,12 @@ where
     W: io::Write + Drop,
     E: io::Write + Drop,
     ensures status { exit_status result ≤ 2 }
+    ensures unread { IfErr arguments
+        (λ e. exit_status result ≡ status_of (argument_fault (error_kind e))) }
 {
+    let mut out = Out::new(stdout);
     let mut err = Out::new(stderr);
-    let status = match obey(rt, arguments, stdout, &mut err) {
-        Ok(status) => status,
-        Err(failure) => report(rt.alloc(), failure, &mut err),
-    };
-    exit_code(status)
+    exit_code(obey(rt, arguments, &mut out, &mut err))
 }
 
 // The exit status as the runtime takes it.
@@ -39,41 +42,69 @@ fn exit_code(status: u8) -> ExitCode
     ExitCode::from(status)
 }
 
-// Runs the command and flushes its output. Fails if the arguments cannot be read.
-fn obey<R, W, E>(
-    rt: &R,
-    arguments: io::Result<Args>,
-    stdout: W,
-    err: &mut Out<E>,
-) -> Result<u8, Failure>
+// Runs the command that the arguments give, reports a failure, and returns the status. At status 0 the output was
+// flushed.
+fn obey<R, W, E>(rt: &R, arguments: io::Result<Args>, out: &mut Out<W>, err: &mut Out<E>) -> u8
 where
     R: Files + AllocGlobal,
-    W: io::Write + Drop,
+    W: io::Write,
     E: io::Write,
-    ensures status { IfOk result (λ status. status ≤ 2) }
+    ensures status { result ≤ 2 }
+    ensures flushed { result ≡ 0 → IsTrue out.new.flushed }
+    ensures unread { IfErr arguments (λ e. result ≡ status_of (argument_fault (error_kind e))) }
 {
-    let words = given_words(rt.alloc(), arguments)?;
-    let views = views_of(rt.alloc(), &words)?;
-    let mut out = Out::new(stdout);
-    match command(rt, &views, &mut out, err) {
-        0 => Ok(finish(rt.alloc(), &mut out.into_inner(), err)),
-        status => Ok(status),
+    match given_words(rt.alloc(), arguments) {
+        Ok(words) => obey_words(rt, &words, out, err),
+        Err(failure) => report(rt.alloc(), failure, err),
     }
 }
 
-// Returns the arguments after the program's name.
-fn given_words(alloc: Global, arguments: io::Result<Args>) -> Result<Vec<String>, Failure> {
+// Runs the command that these words give, and flushes its output at status 0.
+fn obey_words<R, W, E>(rt: &R, words: &[String], out: &mut Out<W>, err: &mut Out<E>) -> u8
+where
+    R: Files + AllocGlobal,
+    W: io::Write,
+    E: io::Write,
+    ensures status { result ≤ 2 }
+    ensures flushed { result ≡ 0 → IsTrue out.new.flushed }
+{
+    let Ok(views) = views_of(rt.alloc(), words) else {
+        return report(rt.alloc(), Failure::Refused(ExprError::OutOfMemory), err);
+    };
+    match command(rt, &views, out, err) {
+        0 => finish(rt.alloc(), out, err),
+        status => status,
+    }
+}
+
+// Returns the arguments after the program's name, if they were read.
+fn given_words(alloc: Global, arguments: io::Result<Args>) -> Result<Vec<String>, Failure>
+    ensures refused { IfOk arguments (λ _. IfErr result (λ e. e ≡ Refused OutOfMemory)) }
+    ensures unread { IfErr arguments (λ e. result ≡ Err (argument_fault (error_kind e))) }
+{
     match arguments {
-        Ok(arguments) => {
-            let mut words = Vec::with_capacity(alloc, arguments.len())?;
-            for word in arguments.skip(1) {
-                words.push(word)?;
-            }
-            Ok(words)
-        }
-        Err(error) => Err(match error.kind() {
-            io::ErrorKind::OutOfMemory => Failure::Refused(ExprError::OutOfMemory),
-            _ => Failure::Usage,
-        }),
+        Ok(arguments) => words_after_name(alloc, arguments),
+        Err(error) => Err(unread_arguments(error.kind())),
+    }
+}
+
+// Returns the arguments after the first.
+fn words_after_name(alloc: Global, arguments: Args) -> Result<Vec<String>, Failure>
+    ensures { IfErr result (λ e. e ≡ Refused OutOfMemory) }
+{
+    let mut words = Vec::with_capacity(alloc, arguments.len())?;
+    for word in arguments.skip(1) {
+        words.push(word)?;
+    }
+    Ok(words)
+}
+
+// The failure of arguments that cannot be read.
+fn unread_arguments(kind: io::ErrorKind) -> Failure
+    ensures { result ≡ argument_fault kind }
+{
+    match kind {
+        io::ErrorKind::OutOfMemory => Failure::Refused(ExprError::OutOfMemory),
+        _ => Failure::Usage,
     }
 }

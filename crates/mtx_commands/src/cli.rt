@@ -1,7 +1,7 @@
 //! The commands of `mtx`.
 
 ghost use Rattle.std.specs.Prelude.{◌≡◌, ◌≢◌, ◌≤◌, ℕ, List, length, None, OnOk, IfOk, IfErr};
-ghost use Rattle.std.specs.Prelude.{IfSome, map, string_bytes};
+ghost use Rattle.std.specs.Prelude.{IfSome, IsTrue, map, string_bytes};
 ghost use Rattle.nalgebra_sparse.specs.PostfixWords.{texts};
 ghost use Rattle.nalgebra_sparse.specs.Run.{Writes};
 ghost use Rattle.sparse_expr.specs.declared.calculator.Form.{Form};
@@ -12,12 +12,13 @@ ghost use Rattle.mtx_commands.specs.Commands.{status_of};
 ghost use Rattle.mtx_commands.specs.declared.cli.Failure.TheVariants.{Usage, Refused};
 
 use crate::fill::fill;
+use crate::inputs::read_all;
 use nalgebra_sparse::expr::{Expr, ExprError, Form, run};
 use nalgebra_sparse::factorization::Triangle;
-use nalgebra_sparse::io::{MatrixMarketErrorKind, Sink, write_all_to};
+use nalgebra_sparse::io::{Out, Sink, write_all_to};
 use std::alloc::{AllocError, AllocFailed, Global};
+use std::io::Write;
 use std::rt::Files;
-use std::{fs, io};
 
 /// Why a command fails.
 #[derive(Clone, Copy, Debug)]
@@ -179,21 +180,6 @@ fn write_value<W: Sink>(
     Ok(())
 }
 
-// Reads the files in order.
-fn read_all<R: Files + AllocGlobal>(rt: &R, paths: &[&str]) -> Result<Vec<String>, Failure>
-    ensures one_each { IfOk result (λ texts. length texts.items ≡ length paths.now) }
-    ensures refused { IfErr result (λ e. e ≡ Usage → ⊥) }
-{
-    let mut texts = Vec::with_capacity(rt.alloc(), paths.len())?;
-    for (index, path) in paths.iter().enumerate() {
-        match fs::read_to_string(rt, *path) {
-            Ok(text) => texts.push(text)?,
-            Err(error) => return Err(Failure::Refused(unreadable(index + 1, error.kind()))),
-        }
-    }
-    Ok(texts)
-}
-
 /// Returns the texts, borrowed, in order.
 pub fn views_of(alloc: Global, strings: &[String]) -> Result<Vec<&str>, AllocError>
     ensures one_each { IfOk result (λ views. length views.items ≡ length strings.now) }
@@ -202,25 +188,18 @@ pub fn views_of(alloc: Global, strings: &[String]) -> Result<Vec<&str>, AllocErr
     strings.iter().map(|text| text.as_str()).collect(alloc)
 }
 
-// The error of an unreadable file, whose number is counted from 1.
-fn unreadable(number: usize, kind: io::ErrorKind) -> ExprError {
-    match kind {
-        io::ErrorKind::OutOfMemory => ExprError::OutOfMemory,
-        kind => ExprError::Input(number, MatrixMarketErrorKind::IOError(kind)),
-    }
-}
-
 /// Flushes the output of a command and returns the exit status. A failed flush is reported as a failed write.
-pub fn finish<W, E>(alloc: Global, out: &mut W, err: &mut E) -> u8
+pub fn finish<W, E>(alloc: Global, out: &mut Out<W>, err: &mut E) -> u8
 where
-    W: io::Write,
+    W: Write,
     E: Sink,
     ensures status { result ≤ 1 }
+    ensures flushed { result ≡ 0 → IsTrue out.new.flushed }
     ensures silent { result ≡ 0 → E.taken err.new ≡ E.taken err.old }
 {
     match out.flush() {
         Ok(()) => 0,
-        Err(error) => report(alloc, Failure::Refused(ExprError::Write(error.kind())), err),
+        Err(kind) => report(alloc, Failure::Refused(ExprError::Write(kind)), err),
     }
 }
 

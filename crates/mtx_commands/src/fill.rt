@@ -1,17 +1,19 @@
 //! The command `mtx fill`.
 
-ghost use Rattle.std.specs.Prelude.{◌≡◌, ℕ, ◌<◌, ◌↔◌, All, IfOk, IfErr, length};
+ghost use Rattle.std.specs.Prelude.{◌≡◌, ℕ, ◌<◌, ◌↔◌, ◌⊎◌, All, IfOk, IfErr, length};
 ghost use Rattle.nalgebra_sparse.specs.Raw.{IsValid, IsPlace};
 ghost use Rattle.nalgebra_sparse.specs.Fill.{InFill, TriangleBase, StoresByColumns};
 ghost use Rattle.mtx_commands.specs.Places.{HasTriplet, IsOneALane, AreNumbersTo};
-ghost use Rattle.mtx_commands.specs.declared.cli.Failure.TheVariants.{Usage};
+ghost use Rattle.sparse_expr.specs.declared.error.ExprError.TheVariants.{OutOfMemory};
+ghost use Rattle.mtx_commands.specs.Inputs.{IsMisread};
+ghost use Rattle.mtx_commands.specs.Writes.{write_fault, IsUnwritten};
+ghost use Rattle.mtx_commands.specs.declared.cli.Failure.TheVariants.{Usage, Refused};
 
 use crate::cli::Failure;
+use crate::inputs::read_places;
 use nalgebra_sparse::expr::ExprError;
 use nalgebra_sparse::factorization::{CscSymbolicCholesky, Triangle};
-use nalgebra_sparse::io::{
-    MatrixMarketErrorKind, Sink, load_coo_from_matrix_market_file, save_to_matrix_market,
-};
+use nalgebra_sparse::io::{MatrixMarketErrorKind, Sink, save_to_matrix_market};
 use nalgebra_sparse::ops::serial::spmm_csr_pattern;
 use nalgebra_sparse::pattern::SparsityPattern;
 use nalgebra_sparse::{CooMatrix, CscMatrix};
@@ -33,20 +35,22 @@ where
 // Reads the places in a file as a pattern by columns.
 fn read_pattern<R: Files + AllocGlobal>(rt: &R, path: &str) -> Result<SparsityPattern, Failure>
     ensures refused { IfErr result (λ e. e ≡ Usage → ⊥) }
+    ensures unread { IfErr result (λ e. (e ≡ Refused OutOfMemory) ⊎ IsMisread e) }
 {
-    match load_coo_from_matrix_market_file(rt, path) {
-        Ok(places) => Ok(pattern_of(rt.alloc(), &places)?),
-        Err(error) => Err(Failure::Refused(unread(error.kind()))),
-    }
+    let places = read_places(rt, path)?;
+    Ok(pattern_of(rt.alloc(), &places)?)
 }
 
 // Writes a pattern by columns.
+#[tactic(auto, using(crate::proofs::Unwritten::refused_is))]
 fn write_pattern<W: Sink>(
     alloc: Global,
     pattern: &SparsityPattern,
     out: &mut W,
 ) -> Result<(), Failure>
     ensures refused { IfErr result (λ e. e ≡ Usage → ⊥) }
+    ensures unwritten { IfErr result
+        (IsUnwritten (W.failures out.old) (W.failures out.new) (W.last out.new)) }
 {
     let matrix = matrix_of(alloc, pattern)?;
     match save_to_matrix_market(alloc, out, &matrix) {
@@ -130,16 +134,10 @@ fn matrix_of(alloc: Global, pattern: &SparsityPattern) -> Result<CscMatrix<()>, 
     }
 }
 
-// The error of the file, which is the first and only one.
-fn unread(kind: MatrixMarketErrorKind) -> ExprError {
-    match kind {
-        MatrixMarketErrorKind::OutOfMemory => ExprError::OutOfMemory,
-        kind => ExprError::Input(1, kind),
-    }
-}
-
 // The error of a write that failed.
-fn unwritten(kind: MatrixMarketErrorKind) -> ExprError {
+fn unwritten(kind: MatrixMarketErrorKind) -> ExprError
+    ensures { result ≡ write_fault kind }
+{
     match kind {
         MatrixMarketErrorKind::IOError(kind) => ExprError::Write(kind),
         _ => ExprError::OutOfMemory,

@@ -4,6 +4,7 @@
 mod arguments;
 mod cli;
 mod fill;
+mod inputs;
 
 pub use arguments::answer;
 pub use cli::{Failure, command, finish};

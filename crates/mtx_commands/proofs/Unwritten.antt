@@ -1,0 +1,17 @@
+-- Why a pattern was not written.
+use Rattle.std.specs.Prelude.{ℕ, Option}
+use Rattle.std.specs.declared.io.ErrorKind.{ErrorKind}
+use Rattle.sparse_parser.specs.declared.error.MatrixMarketErrorKind.{MatrixMarketErrorKind}
+use Rattle.sparse_parser.specs.declared.error.MatrixMarketErrorKind.TheVariants.{IOError}
+use Rattle.sparse_parser.specs.declared.error.MatrixMarketErrorKind.TheVariants.{OutOfMemory}
+use Rattle.nalgebra_sparse.specs.Written.{IsRefusedWrite}
+use Rattle.mtx_commands.specs.declared.cli.Failure.TheVariants.{Refused}
+use Rattle.mtx_commands.specs.Writes.{write_fault, IsUnwritten}
+
+-- the failure that a refused write becomes has the same cause
+pub refused_is : (kind : MatrixMarketErrorKind) (before after : ℕ) (last : Option ErrorKind)
+    → IsRefusedWrite kind before after last
+    → IsUnwritten before after last (Refused (write_fault kind))
+refused_is OutOfMemory before after last is = is
+refused_is (IOError kind) before after last is = is
+refused_is kind before after last is = absurd is
