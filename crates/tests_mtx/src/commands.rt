@@ -1,7 +1,9 @@
 //! What the program writes and answers.
 
-use crate::cases::{CASES, COLUMN_CASES, Case, FILL_CASES, REFUSALS, USAGE};
+use crate::cases::{CASES, COLUMN_CASES, Case};
 use crate::files::{files_of, matrices, matrix, remove_all};
+use crate::fill_cases::FILL_CASES;
+use crate::refusals::{REFUSALS, USAGE};
 use mtx_commands::{answer, command, finish};
 use nalgebra_sparse::io::Out;
 use std::alloc::{AllocError, Global};
@@ -211,7 +213,8 @@ fn is_cut_off(answer: &Answer) -> bool {
 // Whether a fault in flushing is reported as a failed write.
 fn is_flush_reported(rt: &HostRuntime) -> bool {
     let mut err = Out::new(Vec::new(rt.alloc()));
-    let status = finish(rt.alloc(), &mut Short::new(rt.alloc(), 0), &mut err);
+    let mut out = Out::new(Short::new(rt.alloc(), 0));
+    let status = finish(rt.alloc(), &mut out, &mut err);
     status == 1 && err.into_inner().as_slice() == FAILED
 }
 

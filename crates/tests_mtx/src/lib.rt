@@ -8,4 +8,8 @@ mod commands;
 #[cfg(test)]
 mod files;
 #[cfg(test)]
+mod fill_cases;
+#[cfg(test)]
+mod refusals;
+#[cfg(test)]
 mod unreadable;

@@ -1,0 +1,67 @@
+//! What `mtx fill` answers.
+
+/// The words before a file, its text, and the lines that are written below the heading or the line of a refusal.
+pub type FillCase = (
+    &'static [&'static str],
+    &'static str,
+    Result<&'static str, &'static str>,
+);
+
+// A place on each side of the diagonal.
+const TWO_SIDES: &str = "%%MatrixMarket matrix coordinate pattern general\n3 3 2\n2 1\n1 3\n";
+
+/// Words, a text, and what `mtx fill` answers.
+pub const FILL_CASES: &[FillCase] = &[
+    (
+        &["fill"],
+        "%%MatrixMarket matrix coordinate pattern symmetric\n3 3 2\n3 1\n3 2\n",
+        Ok("3 3 3\n3 1 \n3 2 \n3 3 \n"),
+    ),
+    // A repeated place counts once.
+    (
+        &["fill"],
+        "%%MatrixMarket matrix coordinate pattern general\n1 1 2\n1 1\n1 1\n",
+        Ok("1 1 1\n1 1 \n"),
+    ),
+    // Places in no order, one of them repeated.
+    (
+        &["fill"],
+        "%%MatrixMarket matrix coordinate pattern general\n3 3 4\n3 3\n1 3\n1 1\n1 3\n",
+        Ok("3 3 3\n1 1 \n3 1 \n3 3 \n"),
+    ),
+    // Places below the diagonal alone.
+    (
+        &["fill"],
+        "%%MatrixMarket matrix coordinate pattern general\n2 2 1\n2 1\n",
+        Ok("2 2 0\n"),
+    ),
+    (&["fill"], TWO_SIDES, Ok("3 3 2\n3 1 \n3 3 \n")),
+    (&["fill", "upper"], TWO_SIDES, Ok("3 3 2\n3 1 \n3 3 \n")),
+    (&["fill", "lower"], TWO_SIDES, Ok("3 3 2\n2 1 \n2 2 \n")),
+    (
+        &["fill", "both"],
+        TWO_SIDES,
+        Ok("3 3 5\n2 1 \n3 1 \n2 2 \n3 2 \n3 3 \n"),
+    ),
+    (
+        &["fill"],
+        "%%MatrixMarket matrix coordinate pattern general\n2 3 1\n1 2\n",
+        Err("mtx: not square\n"),
+    ),
+    (
+        &["fill", "lower"],
+        "%%MatrixMarket matrix coordinate pattern general\n2 3 1\n1 2\n",
+        Err("mtx: not square\n"),
+    ),
+    (
+        &["fill"],
+        "%%MatrixMarket matrix coordinate integer general\n1 1 1\n1 1 5\n",
+        Err("mtx: input 1: TypeMismatch\n"),
+    ),
+    (&["fill"], "3 3 2\n", Err("mtx: input 1: ParsingError\n")),
+    (
+        &["fill", "both"],
+        "3 3 2\n",
+        Err("mtx: input 1: ParsingError\n"),
+    ),
+];
