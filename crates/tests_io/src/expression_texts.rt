@@ -1,8 +1,14 @@
 //! Words that are refused, and the lines of refusals.
 
-use sparse_expr::ExprError::{BadWord, LeftOver, MissingOperand, OutOfMemory};
+use sparse_expr::ExprError::{BadWord, Input, LeftOver, MissingOperand, OutOfMemory};
 use sparse_expr::{Expr, ExprError};
+use sparse_io::MatrixMarketErrorKind::{
+    DiagonalError, EntryMismatch, IOError, InvalidHeader, NonSquare, NotLowerTriangle,
+    ParsingError, SparseFormatError, TypeMismatch, ZeroError,
+};
+use sparse_pattern::error::SparseFormatErrorKind::IndexOutOfBounds;
 use std::alloc::Global;
+use std::io::ErrorKind;
 
 const WORDS: &[(&str, Option<ExprError>)] = &[
     ("1", None),
@@ -20,6 +26,10 @@ const WORDS: &[(&str, Option<ExprError>)] = &[
     ("18446744073709551616", Some(BadWord)),
     ("1 T", Some(BadWord)),
     ("1 tt", Some(BadWord)),
+    // A tab is part of a word.
+    ("1\tt", Some(BadWord)),
+    ("1 t\t", Some(BadWord)),
+    ("\t1", Some(BadWord)),
     // The first fault from the left.
     ("1 x +", Some(BadWord)),
 ];
@@ -41,6 +51,23 @@ const LINES: &[(ExprError, &str)] = &[
     (LeftOver, "expression: operands left over"),
     (ExprError::NoSuchInput, "expression: no such input"),
     (ExprError::Shape, "expression: shapes do not fit"),
+    (Input(2, ParsingError), "input 2: ParsingError"),
+    (Input(1, InvalidHeader), "input 1: InvalidHeader"),
+    (Input(3, EntryMismatch), "input 3: EntryMismatch"),
+    (Input(4, TypeMismatch), "input 4: TypeMismatch"),
+    (Input(5, ZeroError), "input 5: ZeroError"),
+    (
+        Input(6, SparseFormatError(IndexOutOfBounds)),
+        "input 6: SparseFormatError",
+    ),
+    (Input(7, DiagonalError), "input 7: DiagonalError"),
+    (Input(8, IOError(ErrorKind::NotFound)), "input 8: IOError"),
+    (Input(9, NotLowerTriangle), "input 9: NotLowerTriangle"),
+    (
+        Input(usize::MAX, NonSquare),
+        "input 18446744073709551615: NonSquare",
+    ),
+    (ExprError::Write(ErrorKind::BrokenPipe), "write failed"),
     (OutOfMemory, "out of memory"),
 ];
 

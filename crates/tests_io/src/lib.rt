@@ -14,6 +14,8 @@ mod forms;
 #[cfg(test)]
 mod hostile;
 #[cfg(test)]
+mod label;
+#[cfg(test)]
 mod long_expressions;
 #[cfg(test)]
 mod matrices;

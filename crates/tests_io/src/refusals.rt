@@ -76,6 +76,15 @@ const KINDS: &[(&str, &str, MatrixMarketErrorKind)] = &[
     (HEADER, "2 2 2\n0 1 1", EntryMismatch),
     (HEADER, "2 2 18446744073709551615\n3 1 1", EntryMismatch),
     (HEADER, "2 2 0\n1 1 1", EntryMismatch),
+    // Too many lines, one of them refused by itself.
+    (HEADER, "1 1 1\n0 1 5\n1 1 5", EntryMismatch),
+    (HEADER, "1 1 1\n1 1 5\n0 1 5", EntryMismatch),
+    (
+        HEADER,
+        "1 1 1\n1 1 9223372036854775808\n1 1 5",
+        EntryMismatch,
+    ),
+    (HEADER, "1 1 1\n1 2 5\n1 1 5", EntryMismatch),
     (HEADER, "1 1 1\n0 1 5", ZeroError),
     (HEADER, "1 1 1\n1 000 9223372036854775808", ZeroError),
     (HEADER, "1 1 1\n0 18446744073709551616 5", ParsingError),
@@ -164,6 +173,26 @@ const MESSAGES: &[(&str, &str, &str)] = &[
         "%%MatrixMarket matrix ",
         "array integer hermitian\n1 1",
         "InvalidHeader, message: Integer matrix can't be hermitian.",
+    ),
+    (
+        "%%MatrixMarket matrix ",
+        "array real hermitian\n1 1\n1",
+        "InvalidHeader, message: Real matrix can't be hermitian.",
+    ),
+    (
+        "%%MatrixMarket matrix ",
+        "array pattern hermitian\n1 1\n1",
+        "InvalidHeader, message: Pattern matrix can't be hermitian.",
+    ),
+    (
+        "%%MatrixMarket matrix ",
+        "array complex hermitian\n2 2\n1 0\n2 1\n3 0",
+        "TypeMismatch, message: Complex entries are not carried.",
+    ),
+    (
+        "%%MatrixMarket matrix ",
+        "array complex hermitian\n2 2\n1 0\n2 1\n2 -1\n3 0",
+        "EntryMismatch, message: The number of entries doesn't match the shape line.",
     ),
     (
         "%%MatrixMarket matrix ",

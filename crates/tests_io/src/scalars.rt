@@ -1,10 +1,11 @@
 //! Scalar types: what each takes of a text, refuses, and writes.
 
 use crate::fields::means;
+use crate::label::Label;
 use crate::reading::refusal;
 use sparse_algebra::scalar::{W32, W64};
 use sparse_base::coo::CooMatrix;
-use sparse_io::MatrixMarketErrorKind::{InvalidHeader, ParsingError, TypeMismatch};
+use sparse_io::MatrixMarketErrorKind::{DiagonalError, InvalidHeader, ParsingError, TypeMismatch};
 use sparse_io::{MatrixMarketError, MatrixMarketScalar, save_to_matrix_market_str};
 use sparse_units::W128;
 use std::alloc::{AllocError, Global};
@@ -16,8 +17,11 @@ fn values_are_taken(alloc: Global) -> bool {
     let widest = "coordinate integer general\n1 1 1\n1 1 170141183460469231731687303715884105727";
     let least = "coordinate integer skew-symmetric\n2 2 1\n2 1 -2147483648";
     let wrapped = [(1, 0, W32::new(i32::MIN)), (0, 1, W32::new(i32::MIN))];
+    let lowest = "coordinate integer general\n1 1 1\n1 1 -170141183460469231731687303715884105728";
     let pattern = "coordinate pattern symmetric\n2 2 1\n2 1\n";
-    means::<i128>(alloc, widest, (1, 1), &[(0, 0, i128::MAX)])
+    means::<i128>(alloc, lowest, (1, 1), &[(0, 0, i128::MIN)])
+        && means::<W128>(alloc, lowest, (1, 1), &[(0, 0, W128::new(i128::MIN))])
+        && means::<i128>(alloc, widest, (1, 1), &[(0, 0, i128::MAX)])
         && means::<W128>(alloc, widest, (1, 1), &[(0, 0, W128::new(i128::MAX))])
         && means::<W32>(alloc, least, (2, 2), &wrapped)
         && means::<()>(alloc, pattern, (2, 2), &[(1, 0, ()), (0, 1, ())])
@@ -33,6 +37,7 @@ fn values_are_refused(alloc: Global) -> bool {
     let wide = "coordinate integer general\n1 1 1\n1 1 170141183460469231731687303715884105727";
     let wider = "coordinate integer general\n1 1 1\n1 1 170141183460469231731687303715884105728";
     let small = "coordinate integer general\n1 1 1\n1 1 300";
+    let five = "coordinate integer general\n1 1 1\n1 1 5";
     let least = "coordinate integer skew-symmetric\n2 2 1\n2 1 -128";
     let dense = "array pattern general\n1 1\n1";
     refusal::<W64>(alloc, START, wide) == Some(TypeMismatch)
@@ -41,12 +46,29 @@ fn values_are_refused(alloc: Global) -> bool {
         && refusal::<i16>(alloc, START, small) == None
         && refusal::<i8>(alloc, START, least) == Some(TypeMismatch)
         && refusal::<()>(alloc, START, small) == Some(TypeMismatch)
+        && refusal::<()>(alloc, START, five) == Some(TypeMismatch)
         && refusal::<()>(alloc, START, dense) == Some(InvalidHeader)
 }
 
 #[test]
 fn refuses_values_of_other_types(rt: HostRuntime) {
     assert!(rt; values_are_refused(rt.alloc()));
+}
+
+// Whether an entry on the diagonal is refused as one before its negative is looked for.
+fn the_diagonal_comes_before_the_negative(alloc: Global) -> bool {
+    let diagonal = "coordinate integer skew-symmetric\n1 1 1\n1 1 5";
+    let least = "coordinate integer skew-symmetric\n1 1 1\n1 1 -128";
+    let below = "coordinate integer skew-symmetric\n2 2 1\n2 1 5";
+    refusal::<Label>(alloc, START, diagonal) == Some(DiagonalError)
+        && refusal::<i8>(alloc, START, least) == Some(DiagonalError)
+        && refusal::<()>(alloc, START, diagonal) == Some(TypeMismatch)
+        && refusal::<Label>(alloc, START, below) == Some(TypeMismatch)
+}
+
+#[test]
+fn refuses_skew_entries_without_a_negative(rt: HostRuntime) {
+    assert!(rt; the_diagonal_comes_before_the_negative(rt.alloc()));
 }
 
 /// The text of an error, or that there is none.

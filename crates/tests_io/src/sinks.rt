@@ -1,11 +1,11 @@
-//! Writers below a sink: how many bytes each write is given.
+//! Writers below a sink: how many bytes each write is given, and what a flush answers.
 
 use crate::matrices::antidiagonal;
 use crate::writing::CAPACITY;
 use sparse_io::{Out, save_to_matrix_market};
 use std::alloc::{AllocError, Global};
 use std::io;
-use std::io::Write;
+use std::io::{ErrorKind, Write};
 use std::test::Fail;
 
 /// A writer that keeps the number of writes and the length of the longest.
@@ -45,4 +45,35 @@ fn the_buffer_is_emptied_before_it_is_full(rt: HostRuntime) -> Result<(), Fail> 
     assert!(rt; most <= CAPACITY && most > CAPACITY / 2, "{most}");
     assert!(rt; count >= 20 && count < 40, "{count}");
     Ok(())
+}
+
+/// A writer that takes everything, and whose flush fails with an error of this kind, if there is one.
+#[derive(Drop)]
+struct Unflushed {
+    fault: Option<ErrorKind>,
+}
+
+impl Write for Unflushed {
+    fn write(&mut self, bytes: &[u8]) -> io::Result<usize> {
+        Ok(bytes.len())
+    }
+
+    fn flush(&mut self) -> io::Result<()> {
+        match self.fault {
+            Some(kind) => Err(io::Error::from(kind)),
+            None => Ok(()),
+        }
+    }
+}
+
+#[test]
+fn a_flush_answers_what_the_writer_answers(rt: HostRuntime) {
+    for fault in [
+        None,
+        Some(ErrorKind::StorageFull),
+        Some(ErrorKind::OutOfMemory),
+    ] {
+        let mut out = Out::new(Unflushed { fault });
+        assert!(rt; out.flush().err() == fault);
+    }
 }

@@ -66,6 +66,20 @@ fn writes_the_triplets_of_a_list(rt: HostRuntime) {
     }
 }
 
+// The text of the list of i32 with the triplet (0, 1, 5).
+fn text_of_integers(alloc: Global) -> Result<String, AllocError> {
+    let mut matrix: CooMatrix<i32> = CooMatrix::new(alloc, 2, 2);
+    matrix.push(0, 1, 5)?;
+    save_to_matrix_market_str(alloc, &matrix)
+}
+
+#[test]
+fn writes_a_list_of_i32_word_for_word(rt: HostRuntime) -> Result<(), Fail> {
+    let text = text_of_integers(rt.alloc())?;
+    assert!(rt; text.as_str() == TEXT && text.len() == 111);
+    Ok(())
+}
+
 // Whether a text means this list.
 fn is_read(alloc: Global, text: &str, matrix: &CooMatrix<W64>) -> bool {
     match load_coo_from_matrix_market_str::<W64>(alloc, text) {
