@@ -1,6 +1,9 @@
 //! Tests that cross crates, through the library's public face alone.
 #![tactic(auto)]
 
+pub mod bit;
+#[cfg(test)]
+mod bits;
 #[cfg(test)]
 mod label;
 #[cfg(test)]
