@@ -1,2 +1,3 @@
 pub mod Bit
 pub mod Residue7
+pub mod Small

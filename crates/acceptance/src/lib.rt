@@ -5,6 +5,8 @@ pub mod bit;
 #[cfg(test)]
 mod bits;
 #[cfg(test)]
+mod counting;
+#[cfg(test)]
 mod label;
 #[cfg(test)]
 mod matrices;
