@@ -77,8 +77,8 @@ const NOT_SQUARE: &str = "mtx: not square\n";
 
 /// Runs a command and returns its exit status.
 ///
-/// The result is written to `out`. At a status other than 0 one line is written to `err`; an error in writing that line is
-/// ignored. All files are read before anything is written.
+/// The result is written to `out`. At a status other than 0 one line is written to `err`; an error in writing that line
+/// is ignored. All files are read before anything is written.
 pub fn command<R, W, E>(rt: &R, words: &[&str], out: &mut W, err: &mut E) -> u8
 where
     R: Files + AllocGlobal,

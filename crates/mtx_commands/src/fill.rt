@@ -61,7 +61,8 @@ fn write_pattern<W: Sink>(
 
 // Returns the pattern by columns of the places of a list, each once.
 //
-// It is the product of two patterns with a lane for each triplet: that of the columns, transposed, and that of the rows.
+// It is the product of two patterns with a lane for each triplet: that of the columns, transposed, and that of the
+// rows.
 fn pattern_of(alloc: Global, places: &CooMatrix<()>) -> Result<SparsityPattern, AllocError>
     ensures columns { IfOk result (λ p. p.major_dim ≡ places.now.ncols) }
     ensures rows { IfOk result (λ p. p.minor_dim ≡ places.now.nrows) }

@@ -12,7 +12,8 @@ use sparse_algebra::scalar::Ring;
 use sparse_forms::csr::CsrMatrix;
 use std::alloc::{AllocError, Global};
 
-/// Returns the lower triangle of a symmetric matrix with its diagonal, or `None` exactly if the matrix is not symmetric.
+/// Returns the lower triangle of a symmetric matrix with its diagonal, or `None` exactly if the matrix is not
+/// symmetric.
 pub fn lower_of<T: Ring>(
     alloc: Global,
     matrix: &CsrMatrix<T>,

@@ -23,7 +23,8 @@ where
     }
 }
 
-/// The pattern of the matrix with the rows `1 2` and `4 0`, of which the last place is not stored. That of its columns is the same.
+/// The pattern of the matrix with the rows `1 2` and `4 0`, of which the last place is not stored. That of its columns
+/// is the same.
 fn pattern(alloc: Global) -> Option<SparsityPattern> {
     let offsets = vec![in alloc; 0, 2, 3].ok()?;
     let indices = vec![in alloc; 0, 1, 0].ok()?;

@@ -154,7 +154,8 @@ fn saved(
     Ok((refusal, taken))
 }
 
-/// The most bytes that a writer takes a call, the numbers of bytes after which it fails, how it fails, and the kind of the refusal to save.
+/// The most bytes that a writer takes a call, the numbers of bytes after which it fails, how it fails, and the kind of
+/// the refusal to save.
 struct Stop {
     step: usize,
     first_room: usize,
@@ -194,7 +195,8 @@ const STOPS: &[Stop] = &[
     },
 ];
 
-// Whether a save to a writer that fails after this many bytes is refused as the case says, and the writer took these bytes.
+// Whether a save to a writer that fails after this many bytes is refused as the case says, and the writer took these
+// bytes.
 fn stops(alloc: Global, case: &Stop, room: usize) -> bool {
     let writer = Limited {
         taken: Vec::new(alloc),
