@@ -27,6 +27,9 @@ fn repeated_triplets_are_summed(alloc: Global) -> Result<bool, Fail> {
         }
     }
     let matrix = convert_coo_csr(alloc, &list)?;
+    if matrix.ncols() != matrix.nrows() {
+        return Ok(false);
+    }
     let square = mul_csr(alloc, &matrix, &matrix)?;
     Ok(square.values() == [W64::new(1), W64::new(2), W64::new(0)].as_slice())
 }
