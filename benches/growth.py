@@ -1,10 +1,12 @@
-"""growth.py [FOLDER] [TASK..]: how the cost of each task grows over three sizes, a factor of ten apart, in places plus multiplications.
+"""growth.py [FOLDER] [TASK..]: how the cost of each task grows over three sizes, a factor of ten apart, in places plus
+multiplications.
 
-The cost of one run is counted in instructions, by valgrind, and timed. An exponent of 1 is growth by the factor by which places plus
-multiplications grow. Times grow faster where an input leaves a cache, which instructions don't see; C++ by hand, built by `run` in BENCH_DIR,
-is timed beside ours where it is there. The inputs are made in FOLDER (/tmp/nalgebra_sparse_growth): a square grid with a place for each node
-and each pair of neighbours, row by row or shuffled, and ten places of each row drawn at random. The factor (`fill`) is measured on patterns of its
-own, in places of the input and of the factor: the grid row by row, a cycle, and an arrow whose first row is full.
+The cost of one run is counted in instructions, by valgrind, and timed. An exponent of 1 is growth by the factor by
+which places plus multiplications grow. Times grow faster where an input leaves a cache, which instructions don't see;
+C++ by hand, built by `run` in BENCH_DIR, is timed beside ours where it is there. The inputs are made in FOLDER
+(/tmp/nalgebra_sparse_growth): a square grid with a place for each node and each pair of neighbours, row by row or
+shuffled, and ten places of each row drawn at random. The factor (`fill`) is measured on patterns of its own, in places
+of the input and of the factor: the grid row by row, a cycle, and an arrow whose first row is full.
 """
 
 import math

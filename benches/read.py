@@ -1,9 +1,9 @@
 #!/usr/bin/env python3
 """read.py BENCH [DIR]: the reader's time a byte on four files of one matrix: coordinate, symmetric, pattern and array.
 
-BENCH is the built program `bench`. The files are written into DIR (/tmp/nalgebra_sparse_read) where they are missing: symmetric matrices
-without zeros, of SIZE rows, with values of one digit, of one or two, and of one to eighteen. The files of a matrix are read in turn,
-ROUNDS times, and the best time of each counts.
+BENCH is the built program `bench`. The files are written into DIR (/tmp/nalgebra_sparse_read) where they are missing:
+symmetric matrices without zeros, of SIZE rows, with values of one digit, of one or two, and of one to eighteen. The
+files of a matrix are read in turn, ROUNDS times, and the best time of each counts.
 """
 
 import os

@@ -1,7 +1,7 @@
 """table.py FILE..: one table of lines `PEER TASK INPUT NANOSECONDS CHECKSUM PLACES`.
 
-Each cell has milliseconds, and in brackets the ratio to the fastest peer, ours left aside, that gives the whole, sorted answer with the
-checksum that ours has. Below the table stand the checksums that disagree.
+Each cell has milliseconds, and in brackets the ratio to the fastest peer, ours left aside, that gives the whole, sorted
+answer with the checksum that ours has. Below the table stand the checksums that disagree.
 """
 
 import sys

@@ -1,16 +1,20 @@
 /* Exact sparse matrices: the calls of the static library libsparse_c.a.
  *
- * Values are integers modulo 2^64, shown as int64_t: sums and products wrap. A matrix by rows (CSR) is a shape and three arrays: `offsets` with
- * rows + 1 numbers, of which row i has the places offsets[i] to offsets[i + 1] - 1; the column of each place, rising strictly in each row;
- * and the value of each place, which may be 0. The arrays of a matrix by columns (CSC) are those of its transpose by rows.
+ * Values are integers modulo 2^64, shown as int64_t: sums and products wrap. A matrix by rows (CSR) is a shape and
+ * three arrays: `offsets` with rows + 1 numbers, of which row i has the places offsets[i] to offsets[i + 1] - 1; the
+ * column of each place, rising strictly in each row; and the value of each place, which may be 0. The arrays of a
+ * matrix by columns (CSC) are those of its transpose by rows.
  *
- * What is proved. Every call returns, never touches memory outside the arrays that it is given, and has a contract in crates/sparse_c/src,
- * which holds for all arrays, sound or not. At status 0 the arrays for the result begin with the arrays of a sound matrix, and the plain
- * matrix of these is the one that the call names: the transpose, the sum, the product of the plain matrices of the operands.
- * At any other status nothing has been written, and the status tells why.
+ * What is proved. Every call returns, never touches memory outside the arrays that it is given, and has a contract in
+ * crates/sparse_c/src, which holds for all arrays, sound or not. At status 0 the arrays for the result begin with the
+ * arrays of a sound matrix, and the plain matrix of these is the one that the call names: the transpose, the sum, the
+ * product of the plain matrices of the operands. At any other status nothing has been written, and the status tells
+ * why.
  *
- * What is not proved. This header and the programs around the library are checked by tests alone (bindings/test). The caller must see to it that
- *   - each pointer is not null, even where the length is 0, is aligned, and has at least as many elements as the length says;
+ * What is not proved. This header and the programs around the library are checked by tests alone (bindings/test). The
+ * caller must see to it that
+ *   - each pointer is not null, even where the length is 0, is aligned, and has at least as many elements as the
+ *     length says;
  *   - no array for a result overlaps another array;
  *   - malloc, realloc and free come from one allocator, which aligns blocks as the C standard demands;
  *   - no call is made from a signal handler, or in the child of a fork of a process with threads.
@@ -45,8 +49,9 @@ enum {
 
 /* Writes the matrix of triplets by rows: each place that occurs in the lists, with the sum of its values.
  *
- * The three lists have the same length. out_offsets needs rows + 1 numbers, and out_indices and out_values one for each place: `values_len` is
- * always enough. Longer arrays are left as they are behind the result. *out_places becomes the number of places.
+ * The three lists have the same length. out_offsets needs rows + 1 numbers, and out_indices and out_values one for each
+ * place: `values_len` is always enough. Longer arrays are left as they are behind the result. *out_places becomes the
+ * number of places.
  *
  * Statuses: OUT_OF_MEMORY; INVALID_STRUCTURE if the lists have different lengths; INDEX_OUT_OF_BOUNDS; TOO_SMALL.
  */
@@ -73,9 +78,11 @@ int32_t nalgebra_sparse_assemble_csc(
     int64_t *out_values, size_t out_values_len,
     size_t *out_places);
 
-/* Writes the transpose of a matrix by rows, by rows too: out_offsets needs cols + 1 numbers, and out_indices and out_values `values_len` each.
+/* Writes the transpose of a matrix by rows, by rows too: out_offsets needs cols + 1 numbers, and out_indices and
+/* out_values `values_len` each.
  *
- * Statuses: OUT_OF_MEMORY; INVALID_STRUCTURE, INDEX_OUT_OF_BOUNDS or DUPLICATE_ENTRY for the first fault of the arrays; TOO_SMALL.
+ * Statuses: OUT_OF_MEMORY; INVALID_STRUCTURE, INDEX_OUT_OF_BOUNDS or DUPLICATE_ENTRY for the first fault of the arrays;
+ * TOO_SMALL.
  */
 int32_t nalgebra_sparse_transpose(
     size_t rows, size_t cols,
@@ -87,7 +94,8 @@ int32_t nalgebra_sparse_transpose(
     int64_t *out_values, size_t out_values_len,
     size_t *out_places);
 
-/* Writes the sum a + b of two matrices by rows with one shape, on the union of their places, also where a sum is 0: out_offsets needs
+/* Writes the sum a + b of two matrices by rows with one shape, on the union of their places, also where a sum is 0:
+/* out_offsets needs
  * rows + 1 numbers, and for out_indices and out_values a_values_len + b_values_len is always enough.
  *
  * Statuses: OUT_OF_MEMORY; the first fault of a, and otherwise that of b, as for nalgebra_sparse_transpose; TOO_SMALL.
@@ -119,7 +127,8 @@ int32_t nalgebra_sparse_subtract(
     int64_t *out_values, size_t out_values_len,
     size_t *out_places);
 
-/* Writes to *out_places how many places the product of two patterns by rows has: the size for nalgebra_sparse_multiply. `a` has `rows` rows and
+/* Writes to *out_places how many places the product of two patterns by rows has: the size for nalgebra_sparse_multiply.
+/* `a` has `rows` rows and
  * `inner` columns, `b` has `inner` rows and `cols` columns.
  *
  * Statuses: OUT_OF_MEMORY; the first fault of a, and otherwise that of b, as for nalgebra_sparse_transpose.
@@ -132,7 +141,8 @@ int32_t nalgebra_sparse_multiply_places(
     const size_t *b_indices, size_t b_indices_len,
     size_t *out_places);
 
-/* Writes the product a b of two matrices by rows, with a place wherever the operands share a middle index, also where the sum is 0: out_offsets
+/* Writes the product a b of two matrices by rows, with a place wherever the operands share a middle index, also where
+/* the sum is 0: out_offsets
  * needs rows + 1 numbers, and out_indices and out_values as many as nalgebra_sparse_multiply_places says.
  *
  * Statuses: OUT_OF_MEMORY; the first fault of a, and otherwise that of b, as for nalgebra_sparse_transpose; TOO_SMALL.

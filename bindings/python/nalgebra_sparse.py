@@ -1,7 +1,7 @@
 """Exact sparse matrices over the integers modulo 2^64, by the proved static library `sparse_c`.
 
-The functions take and return SciPy matrices whose values are `int64`. Sums and products wrap. What is proved of the calls is said in
-`bindings/c/nalgebra_sparse.h`; this module is only tested.
+The functions take and return SciPy matrices whose values are `int64`. Sums and products wrap. What is proved of the
+calls is said in `bindings/c/nalgebra_sparse.h`; this module is only tested.
 
 `bindings/python/build` makes the shared library that is loaded here. `NALGEBRA_SPARSE_LIBRARY` names another one.
 """
