@@ -32,6 +32,9 @@ fn a_triangle_is_solved(alloc: Global) -> Result<bool, Fail> {
     let (zero, one) = (Bit::zero(), Bit::one());
     let ones = symmetric(alloc, [one, one, one])?;
     let mut b = column(alloc, [one, zero])?;
+    if ones.nrows() != ones.ncols() || b.nrows() != ones.nrows() {
+        return Ok(false);
+    }
     spsolve_csc_lower_triangular(Op::NoOp(&ones), &mut b)?;
     Ok(b.as_slice() == [one, one].as_slice())
 }
