@@ -13,8 +13,8 @@
  *
  * What is not proved. This header and the programs around the library are checked by tests alone (bindings/test). The
  * caller must see to it that
- *   - each pointer is not null, even where the length is 0, is aligned, and has at least as many elements as the
- *     length says;
+ *   - each pointer is not null, even where the length is 0, is aligned, and has at least as many elements as the length
+ *     says;
  *   - no array for a result overlaps another array;
  *   - malloc, realloc and free come from one allocator, which aligns blocks as the C standard demands;
  *   - no call is made from a signal handler, or in the child of a fork of a process with threads.
@@ -79,7 +79,7 @@ int32_t nalgebra_sparse_assemble_csc(
     size_t *out_places);
 
 /* Writes the transpose of a matrix by rows, by rows too: out_offsets needs cols + 1 numbers, and out_indices and
-/* out_values `values_len` each.
+ * out_values `values_len` each.
  *
  * Statuses: OUT_OF_MEMORY; INVALID_STRUCTURE, INDEX_OUT_OF_BOUNDS or DUPLICATE_ENTRY for the first fault of the arrays;
  * TOO_SMALL.
@@ -95,8 +95,7 @@ int32_t nalgebra_sparse_transpose(
     size_t *out_places);
 
 /* Writes the sum a + b of two matrices by rows with one shape, on the union of their places, also where a sum is 0:
-/* out_offsets needs
- * rows + 1 numbers, and for out_indices and out_values a_values_len + b_values_len is always enough.
+ * out_offsets needs rows + 1 numbers, and for out_indices and out_values a_values_len + b_values_len is always enough.
  *
  * Statuses: OUT_OF_MEMORY; the first fault of a, and otherwise that of b, as for nalgebra_sparse_transpose; TOO_SMALL.
  */
@@ -128,8 +127,7 @@ int32_t nalgebra_sparse_subtract(
     size_t *out_places);
 
 /* Writes to *out_places how many places the product of two patterns by rows has: the size for nalgebra_sparse_multiply.
-/* `a` has `rows` rows and
- * `inner` columns, `b` has `inner` rows and `cols` columns.
+ * `a` has `rows` rows and `inner` columns, `b` has `inner` rows and `cols` columns.
  *
  * Statuses: OUT_OF_MEMORY; the first fault of a, and otherwise that of b, as for nalgebra_sparse_transpose.
  */
@@ -142,8 +140,8 @@ int32_t nalgebra_sparse_multiply_places(
     size_t *out_places);
 
 /* Writes the product a b of two matrices by rows, with a place wherever the operands share a middle index, also where
-/* the sum is 0: out_offsets
- * needs rows + 1 numbers, and out_indices and out_values as many as nalgebra_sparse_multiply_places says.
+ * the sum is 0: out_offsets needs rows + 1 numbers, and out_indices and out_values as many as
+ * nalgebra_sparse_multiply_places says.
  *
  * Statuses: OUT_OF_MEMORY; the first fault of a, and otherwise that of b, as for nalgebra_sparse_transpose; TOO_SMALL.
  */

@@ -155,8 +155,7 @@ static void check_random_case(void) {
     CHECK(places == r.places);
 }
 
-/* Each fault of a matrix of two rows and three columns: status, offsets and their number, indices, places, number of
-/* values. */
+/* Each fault of a matrix of two rows and three columns: status, offsets and their number, indices, places, number of values. */
 static const struct {
     int32_t status;
     size_t offsets[3], offsets_len, indices[2], places, values_len;
