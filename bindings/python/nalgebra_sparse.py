@@ -81,7 +81,7 @@ def _call(name, *arguments):
 
 
 def _filled(name, lanes, room, *arguments):
-    """Calls with arrays for a result of so many lanes and at most so many places, and cuts them to the places that there are."""
+    """Calls with arrays for `lanes` lanes and `room` places, and cuts them to the places of the result."""
     offsets, indices, values = np.empty(lanes + 1, np.int64), np.empty(room, np.int64), np.empty(room, np.int64)
     places = ctypes.c_size_t()
     _call(name, *arguments, *_pair(offsets), *_pair(indices), *_pair(values), ctypes.byref(places))
