@@ -47,12 +47,12 @@ module _ {T : Type 0} (m : Coo T) where
   columns_inside inside = All-map (λ j. j < m.ncols) (λ t. t.1) m.triplets
       (λ k d lt. (inside k d lt).1)
 
-  pub triplets_placed : (p columns turned rows : Raw)
+  pub triplets_placed : (p columns transposed rows : Raw)
       → IsOneALane columns (map (λ t. t.1) m.triplets)
       → IsOneALane rows (map (λ t. t.0) m.triplets)
-      → IsTransposedPattern columns turned → IsProductOf p turned rows
+      → IsTransposedPattern columns transposed → IsProductOf p transposed rows
       → (i j : ℕ) → IsPlace p j i ↔ HasTriplet m i j
-  triplets_placed p columns turned rows of_columns of_rows transposed product i j = (
+  triplets_placed p columns transposed rows of_columns of_rows transposed product i j = (
     λ place.
         let (k, left, right) = (product j i).0 place in
         let column = (of_columns k j).0 ((transposed.places k j).0 left) in

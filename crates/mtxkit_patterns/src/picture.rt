@@ -4,6 +4,7 @@ ghost use Rattle.std.specs.Prelude.{◌≡◌, ℕ, ◌*◌, ◌<◌, ◌≤◌,
 ghost use Rattle.std.specs.Prelude.{slice_index_or};
 ghost use Rattle.mtxkit_patterns.specs.Pictures.{cell_of, is_black, HasPlaceIn, IsMarked};
 
+use sparse_algebra::learn;
 use sparse_pattern::pattern::SparsityPattern;
 use std::alloc::{AllocError, Global};
 use std::marker::Model;
@@ -85,8 +86,7 @@ fn mark(cells: &mut [bool], pattern: &SparsityPattern, height: usize, width: usi
     ensures marked { (q : ℕ) → q < length cells.old → IsTrue (slice_index_or cells.new q false)
         ↔ (IsTrue (slice_index_or cells.old q false) ⊎ IsMarked pattern.now height width q) }
 {
-    // The call costs nothing: its contract tells the prover that the pattern is valid.
-    let _ = pattern.major_offsets();
+    learn(pattern.major_offsets());
     for (lane, index) in pattern.entries() {
         let row = cell_of(lane, pattern.major_dim(), height);
         let col = cell_of(index, pattern.minor_dim(), width);

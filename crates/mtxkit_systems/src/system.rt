@@ -5,20 +5,19 @@ ghost use Rattle.sparse_base.specs.CooPlain.{plain_of_coo};
 ghost use Rattle.sparse_base.specs.DensePlain.{plain_of_dense};
 ghost use Rattle.sparse_algebra.specs.Plain.{plain_product};
 ghost use Rattle.sparse_solve.specs.Solutions.{HasSameValues};
-ghost use Rattle.sparse_op.specs.declared.error.OperationErrorKind.TheVariants.{Singular};
+ghost use Rattle.sparse_algebra.specs.declared.error.OperationErrorKind.TheVariants.{Singular};
 ghost use Rattle.mtxkit_systems.specs.Systems.{HasNoFactorisation};
 ghost use Rattle.mtxkit_systems.specs.Values.{IsSymmetricMatrix};
 ghost use Rattle.mtxkit_systems.specs.declared.system.SystemError.TheVariants.{NoFactors, NotSymmetric};
 
 use crate::values::{has_same_values, has_symmetric_values};
-use sparse_algebra::scalar::Ring;
+use sparse_algebra::scalar::{Ring, Units};
 use sparse_base::coo::CooMatrix;
 use sparse_base::dense::DMatrix;
 use sparse_convert::serial::{convert_coo_csc, convert_coo_csr, convert_coo_dense};
 use sparse_ldl::ldl::Ldl;
-use sparse_op::OperationErrorKind;
-use sparse_ops::serial::mul_csr;
-use sparse_units::Units;
+use sparse_algebra::error::OperationErrorKind;
+use sparse_products::serial::mul_csr;
 use std::alloc::{AllocError, Global};
 
 /// Why a system is not solved, or a solution not tested.

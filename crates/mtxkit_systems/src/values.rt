@@ -7,6 +7,7 @@ ghost use Rattle.sparse_cs.specs.PlainOfLanes.{plain_of_rows};
 ghost use Rattle.sparse_solve.specs.Solutions.{HasSameValues};
 ghost use Rattle.mtxkit_systems.specs.Values.{AllZero, IsSymmetricMatrix};
 
+use sparse_algebra::learn;
 use sparse_algebra::scalar::Ring;
 use sparse_cs::laws::transpose_law;
 use sparse_forms::csr::CsrMatrix;
@@ -40,9 +41,8 @@ pub fn has_same_values<T: Ring>(
         ↔ HasSameValues T.ring a.now.pattern.major_dim a.now.pattern.minor_dim
         (plain_of_rows T.ring T.value a.now) (plain_of_rows T.ring T.value b.now)) }
 {
-    // The calls cost nothing: their contracts tell the prover that the matrices are sound.
-    let _ = a.values();
-    let _ = b.values();
+    learn(a.values());
+    learn(b.values());
     let difference = sub_csr(alloc, a, b)?;
     Ok(is_zero(&difference))
 }
@@ -60,8 +60,7 @@ pub fn has_symmetric_values<T: Ring>(
     if matrix.nrows() != matrix.ncols() {
         return Ok(false);
     }
-    // The calls cost nothing: their contracts tell the prover what the transpose means.
-    let _ = matrix.values();
+    learn(matrix.values());
     transpose_law::<T>();
     let transposed = matrix.transpose(alloc)?;
     Ok(has_same_values(alloc, matrix, &transposed)?)

@@ -14,15 +14,15 @@ pub use Rattle.sparse_algebra.specs.Sums
 pub use Rattle.sparse_algebra.specs.Whole
 pub use Rattle.sparse_algebra.specs.Wrapping
 -- inverses, residues, wide wrapping integers
-pub use Rattle.sparse_units.specs.Inverses
-pub use Rattle.sparse_units.specs.ModNumbers
-pub use Rattle.sparse_units.specs.Moduli
-pub use Rattle.sparse_units.specs.WrappingValues
+pub use Rattle.sparse_algebra.specs.Inverses
+pub use Rattle.sparse_algebra.specs.ModNumbers
+pub use Rattle.sparse_algebra.specs.Moduli
+pub use Rattle.sparse_algebra.specs.WrappingValues
 -- operands and the errors of operations
-pub use Rattle.sparse_op.specs.Operands
-pub use Rattle.sparse_op.specs.Prealloc
+pub use Rattle.sparse_algebra.specs.Operands
+pub use Rattle.sparse_algebra.specs.Prealloc
 -- counting by keys
-pub use Rattle.sparse_counting.specs.Counting
+pub use Rattle.sparse_pattern.specs.Counting
 -- patterns, format errors and entries
 pub use Rattle.sparse_pattern.specs.FirstFault
 pub use Rattle.sparse_pattern.specs.PatternFaults
@@ -73,10 +73,10 @@ pub use Rattle.sparse_data.specs.DataStructs
 -- sums and differences
 pub use Rattle.sparse_sums.specs.PatternSums
 -- products
-pub use Rattle.sparse_ops.specs.Products
-pub use Rattle.sparse_ops.specs.ScalarProducts
+pub use Rattle.sparse_products.specs.Products
+pub use Rattle.sparse_products.specs.ScalarProducts
 -- products with dense matrices
-pub use Rattle.sparse_dense.specs.DenseOperands
+pub use Rattle.sparse_dense_products.specs.DenseOperands
 -- triangular systems and division
 pub use Rattle.sparse_solve.specs.Quotients
 pub use Rattle.sparse_solve.specs.Solutions

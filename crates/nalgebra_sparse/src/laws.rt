@@ -25,7 +25,7 @@ pub mod wrapping {
     pub use sparse_algebra::laws::whole::{
         read_back_law, whole_entry_law, wrapped_matrix_law, wrapping_law,
     };
-    pub use sparse_units::laws::{wide_read_back_law, wide_triplets_law};
+    pub use sparse_algebra::laws::wide::{wide_read_back_law, wide_triplets_law};
 }
 
 /// The algebra of plain matrices.

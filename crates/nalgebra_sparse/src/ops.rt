@@ -1,11 +1,11 @@
 //! Operations on sparse matrices.
 
-pub use sparse_ops::{Op, Steps};
+pub use sparse_products::{Op, Steps};
 
 /// Operations in one thread.
 pub mod serial {
-    pub use sparse_dense::{mul_csc_dense, mul_csr_dense, spmm_csc_dense, spmm_csr_dense};
-    pub use sparse_ops::serial::{
+    pub use sparse_dense_products::{mul_csc_dense, mul_csr_dense, spmm_csc_dense, spmm_csr_dense};
+    pub use sparse_products::serial::{
         OperationError, OperationErrorKind, add_csc, add_csr, mul_csc, mul_csr, neg_csc, neg_csr,
         scale_csc, scale_csr, spadd_csc_prealloc, spadd_csr_prealloc, spadd_pattern,
         spmm_csc_pattern, spmm_csc_prealloc, spmm_csc_prealloc_unchecked, spmm_csr_pattern,

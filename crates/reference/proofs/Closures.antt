@@ -9,7 +9,7 @@ use Rattle.std.proofs.lemmas.List.Elements.{Contains-append_left, Contains-appen
 use Rattle.std.proofs.lemmas.List.Quantifiers.{all_pairs_push}
 use Rattle.std.proofs.lemmas.Map.Made.{length-le_from_is_member, is_member-Decides}
 use Rattle.std.proofs.lemmas.Map.Made.{IsDistinct-from_AllPairs}
-use Rattle.sparse_lemmas.proofs.Cases.{lt_suc_cases}
+use Rattle.sparse_algebra.proofs.Cases.{lt_suc_cases}
 use Rattle.sparse_pattern.specs.Raw.{Raw, IsValid, paired}
 use Rattle.sparse_factor.specs.Fill.{InFill, TriangleBase}
 use Rattle.sparse_factor.specs.declared.factorization.Triangle.{Triangle}

@@ -6,7 +6,7 @@ use Rattle.std.specs.Prelude.{nat_lt, map}
 use Rattle.std.proofs.Math.ListN.{get_or-map}
 use Rattle.std.proofs.lemmas.Bool.Decides.{nat_tests}
 use Rattle.std.proofs.lemmas.Nat.{mul-add-lt}
-use Rattle.sparse_lemmas.proofs.Cases.{and_parts}
+use Rattle.sparse_algebra.proofs.Cases.{and_parts}
 use Rattle.sparse_algebra.specs.Algebra.{CommRing}
 use Rattle.sparse_algebra.specs.Sums.{where_true}
 use Rattle.sparse_base.specs.Dense.{Dense, HasValues, with_value_at}

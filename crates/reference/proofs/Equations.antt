@@ -10,7 +10,7 @@ use Rattle.sparse_algebra.proofs.SumLemmas.{sum_below-same}
 use Rattle.sparse_base.specs.Dense.{Dense, HasValues, value_at, with_value_at}
 use Rattle.sparse_base.specs.DensePlain.{plain_of_dense}
 use Rattle.sparse_base.proofs.DenseLemmas.{set_values}
-use Rattle.sparse_units.specs.Inverses.{HasInverse}
+use Rattle.sparse_algebra.specs.Inverses.{HasInverse}
 use Rattle.sparse_solve.specs.InnerColumns.{entries}
 use Rattle.sparse_solve.proofs.RingSteps.{back, moved_over}
 use Rattle.sparse_solve.proofs.PlainSolutions.{dense_inside}
@@ -18,7 +18,7 @@ use Rattle.sparse_ldl.specs.Factors.{diagonal}
 use Rattle.sparse_ldl.specs.InnerColumns.{ArePartFactors, term}
 use Rattle.sparse_ldl.proofs.Columns.{no_factorisation}
 use Rattle.sparse_ldl.proofs.NextColumn.{part_step}
-use Rattle.sparse_ldl.proofs.PlainProducts.{columns_of, factorisation_of, symmetric-turned}
+use Rattle.sparse_ldl.proofs.PlainProducts.{columns_of, factorisation_of, symmetric-transposed}
 use Rattle.sparse_ldl.proofs.RingFacts.{cancel_left}
 use Rattle.reference.specs.DenseFactors.{AreDenseFactorsOf, HasNoDenseFactors, dense_symmetric}
 use Rattle.reference.specs.InnerEquations.{AreFirstFactors, HasNoColumns, HaveOneSize}
@@ -174,7 +174,7 @@ module _ (R : CommRing) {T : Type 0} (f : T → R.Carrier) (z : T) (none : f z �
   all_factors a l d first =
       factorisation_of R f (dense_symmetric R f a) (plain_of_dense R f l) (diagonal R f z d)
       first.size.rows (first.size.cols ∙ sym first.size.rows)
-      (symmetric-turned R (plain_of_dense R f a)) first.part
+      (symmetric-transposed R (plain_of_dense R f a)) first.part
 
   pub none_at_all : (a : Dense T) → HasNoColumns R f a → HasNoDenseFactors R f a
   none_at_all a none l d whole =

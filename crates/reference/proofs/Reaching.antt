@@ -1,7 +1,7 @@
 -- A test below a bound that holds somewhere.
 use Rattle.std.proofs.Common.{◌≡◌, ℕ, zero, suc, ◌<◌, Bool, true, arith, inl, inr}
 use Rattle.sparse_algebra.specs.Plain.{any_below}
-use Rattle.sparse_lemmas.proofs.Cases.{lt_suc_cases, or_left, or_right}
+use Rattle.sparse_algebra.proofs.Cases.{lt_suc_cases, or_left, or_right}
 
 pub any_below-at : (n k : ℕ) (test : ℕ → Bool) → k < n → test k ≡ true → any_below n test ≡ true
 any_below-at zero k test below holds = absurd (omega (arith, below))

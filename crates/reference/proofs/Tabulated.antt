@@ -15,7 +15,7 @@ use Rattle.sparse_algebra.proofs.RingLemmas.{zero_add}
 use Rattle.sparse_algebra.proofs.SumLemmas.{sum_by-append}
 use Rattle.sparse_base.specs.Coo.{Coo, appended}
 use Rattle.sparse_base.specs.CooPlain.{plain_of_coo}
-use Rattle.sparse_lemmas.proofs.Cases.{true_or_false, and_parts, and_both, or_right, or_false}
+use Rattle.sparse_algebra.proofs.Cases.{true_or_false, and_parts, and_both, or_right, or_false}
 use Rattle.reference.specs.InnerOperation.{is_before, plain_of_operation, Lists}
 use Rattle.reference.specs.declared.expressions.operation.Operation.{Operation}
 use Rattle.reference.specs.declared.expressions.operation.Operation.TheVariants as operation

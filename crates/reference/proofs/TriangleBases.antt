@@ -1,6 +1,6 @@
 -- The base of a triangle, by the entries of the pattern.
 use Rattle.std.proofs.Common.{◌≡◌, ℕ, ◌+◌, ◌<◌, ◌≤◌, inl, inr, refl, sym, subst, arith, max, min}
-use Rattle.sparse_lemmas.proofs.Cases.{lt_or_ge}
+use Rattle.sparse_algebra.proofs.Cases.{lt_or_ge}
 use Rattle.sparse_pattern.specs.Raw.{Raw, IsValid, IsPlace}
 use Rattle.sparse_factor.specs.Fill.{TriangleBase, UpperBase, LowerBase}
 use Rattle.sparse_factor.specs.declared.factorization.Triangle.{Triangle}

@@ -7,6 +7,7 @@ ghost use Rattle.sparse_expr.specs.Value.{value_of, input_at, Meets, sum_of, dif
 ghost use Rattle.sparse_expr.specs.Value.{product_of};
 
 use crate::expressions::operation::{Operation, tabulated};
+use sparse_algebra::learn;
 use sparse_algebra::scalar::Ring;
 use sparse_base::coo::CooMatrix;
 use sparse_expr::{Expr, ExprError};
@@ -147,7 +148,6 @@ fn size<T: Ring>(list: &CooMatrix<T>) -> (usize, usize)
     ensures cols { result.1 ≡ list.now.ncols }
     ensures within { IsWithin (plain_of_coo T.ring T.value list.now) }
 {
-    // The call costs nothing: its contract tells the prover that the triplets lie within the shape.
-    let _ = list.col_indices();
+    learn(list.col_indices());
     (list.nrows(), list.ncols())
 }

@@ -8,6 +8,7 @@ ghost use Rattle.reference.specs.Pairs.{pair};
 ghost use Rattle.reference.specs.InnerClosure.{IsOfTriangle, base_pair, HasPlacesOf, HasFillOf};
 ghost use Rattle.reference.specs.InnerClosure.{IsWhole, IsLacking, IsLackingPlace, IsLackingFill};
 
+use sparse_algebra::learn;
 use sparse_factor::factorization::Triangle;
 use sparse_pattern::pattern::SparsityPattern;
 use std::alloc::{AllocError, Global};
@@ -42,7 +43,7 @@ fn lacking(
     ensures cases { MatchOption result (IsWhole triangle pattern.now set.now)
         (IsLacking triangle pattern.now set.now) }
 {
-    let _ = pattern.major_offsets();
+    learn(pattern.major_offsets());
     for column in 0..pattern.major_dim() {
         match lacking_place(pattern.lane(column), column, triangle, set) {
             Some(pair) => return Some(pair),

@@ -5,9 +5,8 @@ ghost use Rattle.reference.specs.DenseFactors.{AreDenseFactorsOf, HasNoDenseFact
 ghost use Rattle.reference.specs.InnerEquations.{AreFirstFactors, HasNoColumns, HaveOneSize};
 ghost use Rattle.reference.specs.InnerEquations.{IsColumnDivided, left_at};
 
-use sparse_algebra::scalar::Ring;
+use sparse_algebra::scalar::{Ring, Units};
 use sparse_base::dense::DMatrix;
-use sparse_units::Units;
 use std::alloc::{AllocError, Global};
 
 /// The unit lower triangle L and the diagonal of D.

@@ -1,6 +1,12 @@
+pub mod Cases
 pub mod RingLemmas
 pub mod SumLemmas
 pub mod PlainLemmas
 pub mod PlainLaws
 pub mod RingMapLemmas
 pub mod WholeNumbers
+pub mod Products
+pub mod NewtonSteps
+mod OddNumbers
+pub mod ModClasses
+mod Euclid

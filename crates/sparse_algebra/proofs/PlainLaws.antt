@@ -4,7 +4,7 @@ use Rattle.std.proofs.Common.{ap, sym, ◌∙◌, refl, arith}
 use Rattle.std.specs.Prelude.{◌||◌, nat_eq, nat_lt, List, [], ◌∷◌, All}
 use Rattle.std.specs.List.{list_any}
 use Rattle.std.proofs.lemmas.Bool.Decides.{Decides-eqb, Decides-ltb, nat_tests}
-use Rattle.sparse_lemmas.proofs.Cases.{and_both, and_parts, neither, or_cases, true_or_false}
+use Rattle.sparse_algebra.proofs.Cases.{and_both, and_parts, neither, or_cases, true_or_false}
 use Rattle.sparse_algebra.specs.Algebra.{CommRing}
 use Rattle.sparse_algebra.specs.Sums.{sum_below, sum_by, where_true}
 use Rattle.sparse_algebra.specs.Plain.{Plain, IsProper, IsWithin, any_below, is_at}
@@ -282,7 +282,7 @@ module _ (R : CommRing) where
   pub product-identity : (n : ℕ) (a : Plain R) → n ≡ a.cols → IsProper a → IsWithin a
       → plain_product R a (plain_identity R n) ≡ a
   product-identity n a e proper within =
-      let turned = identity-product n (plain_transpose R a) e (proper_transpose a proper)
+      let transposed = identity-product n (plain_transpose R a) e (proper_transpose a proper)
       (within_transpose a within) in
       ap (plain_transpose R) (transpose_product R a (plain_identity R n) (sym e)
-      ∙ ap (λ b. plain_product R b (plain_transpose R a)) (transpose_identity n) ∙ turned)
+      ∙ ap (λ b. plain_product R b (plain_transpose R a)) (transpose_identity n) ∙ transposed)

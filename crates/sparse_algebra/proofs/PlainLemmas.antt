@@ -4,8 +4,8 @@ use Rattle.std.proofs.Common.{List, ap, sym, ◌∙◌, refl, arith}
 use Rattle.std.specs.Prelude.{◌||◌}
 use Rattle.std.specs.List.Sorted.{IsPermutation}
 use Rattle.std.proofs.lemmas.List.Sorted.{list_any-IsPermutation}
-use Rattle.sparse_lemmas.proofs.Cases.{and_fails, lt_suc_cases, neither, or_cases, or_left}
-use Rattle.sparse_lemmas.proofs.Cases.{or_right}
+use Rattle.sparse_algebra.proofs.Cases.{and_fails, lt_suc_cases, neither, or_cases, or_left}
+use Rattle.sparse_algebra.proofs.Cases.{or_right}
 use Rattle.sparse_algebra.specs.Algebra.{CommRing}
 use Rattle.sparse_algebra.specs.Sums.{sum_below, where_true}
 use Rattle.sparse_algebra.proofs.RingLemmas.{mul_zero}

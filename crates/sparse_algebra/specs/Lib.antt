@@ -7,3 +7,10 @@ pub mod Numbers
 pub mod Plain
 pub mod RingMaps
 pub mod Whole
+pub mod Inverses
+pub mod Moduli
+pub mod ModNumbers
+pub mod WrappingValues
+pub mod InnerNewton
+pub mod Operands
+pub mod Prealloc

@@ -1,5 +1,5 @@
 -- Finite sums in a commutative ring.
-use Rattle.std.specs.Prelude.{ℕ, zero, suc, Bool, true, false, List, [], ◌∷◌}
+use Rattle.std.specs.Prelude.{ℕ, zero, suc, Bool, true, false, List, [], ◌∷◌, zip}
 use Rattle.sparse_algebra.specs.Algebra.{CommRing}
 
 -- f 0 + f 1 + .. + f (n - 1)
@@ -16,3 +16,8 @@ sum_by R f (x ∷ xs) = R.add (f x) (sum_by R f xs)
 abbrev pub where_true : (R : CommRing) → Bool → R.Carrier → R.Carrier
 where_true R true c = c
 where_true R false c = R.zero
+
+-- the sum of the values, each times x at its index
+abbrev pub dot_of : (R : CommRing) {T : Type 0} → (T → R.Carrier) → List ℕ → List T
+    → (ℕ → R.Carrier) → R.Carrier
+dot_of R f indices values x = sum_by R (λ t. R.mul (f t.1) (x t.0)) (zip indices values)

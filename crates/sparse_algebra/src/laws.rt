@@ -8,6 +8,7 @@ ghost use Rattle.sparse_algebra.specs.Plain.{plain_transpose, plain_identity, pl
 ghost use Rattle.sparse_algebra.specs.Plain.{IsWithin};
 
 pub mod whole;
+pub mod wide;
 
 use crate::scalar::Ring;
 

@@ -1,11 +1,19 @@
-//! Scalars: types with a zero, commutative rings, and the wrapping integers.
+//! Scalars: types with a zero, commutative rings, units, the wrapping integers, and residues.
 
 ghost use Rattle.std.specs.Prelude.{◌≡◌, ◌↔◌, true};
 ghost use Rattle.sparse_algebra.specs.Algebra.{CommRing};
 
+mod inverses;
 pub mod integers;
+mod newton;
+mod odd;
+mod residues;
+mod wide;
 pub mod wrapping;
 
+pub use inverses::Units;
+pub use residues::Mod;
+pub use wide::W128;
 pub use wrapping::{W32, W64};
 
 /// A type with a zero, the value of every place that is not stored.

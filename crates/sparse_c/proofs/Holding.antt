@@ -6,7 +6,7 @@ use Rattle.std.proofs.lemmas.List.{length-map}
 use Rattle.sparse_algebra.specs.Numbers.{w64_number}
 use Rattle.sparse_cs.specs.Compressed.{Compressed, arrays_of, IsSound}
 use Rattle.sparse_cs.specs.PlainOfLanes.{plain_of_rows}
-use Rattle.sparse_units.specs.WrappingValues.{w64_value}
+use Rattle.sparse_algebra.specs.WrappingValues.{w64_value}
 use Rattle.sparse_algebra.specs.declared.scalar.wrapping.W64.{W64}
 use Rattle.sparse_c.specs.Arrays.{ring64, plain_by_rows, room_of, written_in, HoldsRows}
 use Rattle.sparse_c.proofs.Numbers.{numbers_of, plain_of_rows-numbers, sound-numbers, places_of-rows}

@@ -5,7 +5,7 @@ use Rattle.sparse_algebra.specs.Plain.{Plain}
 use Rattle.sparse_algebra.specs.declared.scalar.wrapping.W64.{W64}
 use Rattle.sparse_cs.specs.Compressed.{Compressed}
 use Rattle.sparse_cs.specs.PlainOfLanes.{plain_of_rows}
-use Rattle.sparse_units.specs.WrappingValues.{w64_value}
+use Rattle.sparse_algebra.specs.WrappingValues.{w64_value}
 use Rattle.sparse_c.specs.Arrays.{ring64, Room, HoldsRows}
 use Rattle.sparse_c.specs.Refused.{IsRefused, IsTooSmall}
 use Rattle.sparse_c.specs.Statuses.{number_of}

@@ -15,7 +15,7 @@ use Rattle.sparse_base.specs.Coo.{Coo, coo_of, zip_triplets}
 use Rattle.sparse_base.specs.CooPlain.{plain_of_coo}
 use Rattle.sparse_pattern.specs.Raw.{entries_of}
 use Rattle.sparse_algebra.specs.Wrapping.{class_of}
-use Rattle.sparse_units.specs.WrappingValues.{w64_value}
+use Rattle.sparse_algebra.specs.WrappingValues.{w64_value}
 use Rattle.sparse_algebra.specs.declared.scalar.wrapping.W64.{W64}
 use Rattle.sparse_algebra.proofs.PlainLemmas.{same_plain}
 use Rattle.sparse_pattern.proofs.LaneOrder.{length-entries}

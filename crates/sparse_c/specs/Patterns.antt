@@ -1,7 +1,7 @@
 -- Patterns as arrays, and the number of places of a product.
 use Rattle.std.specs.Prelude.{◌≡◌, ◌⊎◌, ℕ, ℤ}
 use Rattle.sparse_pattern.specs.PatternFaults.{IsFirstFault, kind_of}
-use Rattle.sparse_ops.specs.Products.{IsProductOf}
+use Rattle.sparse_products.specs.Products.{IsProductOf}
 use Rattle.sparse_pattern.specs.Raw.{Raw, IsValid, nnz_of}
 use Rattle.sparse_pattern.specs.declared.pattern.faults.SparsityPatternFormatError.{SparsityPatternFormatError}
 use Rattle.sparse_c.specs.Refused.{IsMemoryOr}

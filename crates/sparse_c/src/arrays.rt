@@ -6,7 +6,7 @@ ghost use Rattle.sparse_cs.specs.Compressed.{arrays_of, IsSound};
 ghost use Rattle.sparse_algebra.specs.Numbers.{w64_number};
 ghost use Rattle.sparse_cs.specs.PlainOfLanes.{plain_of_rows};
 ghost use Rattle.sparse_pattern.specs.Raw.{raw_of};
-ghost use Rattle.sparse_units.specs.WrappingValues.{w64_value};
+ghost use Rattle.sparse_algebra.specs.WrappingValues.{w64_value};
 ghost use Rattle.sparse_c.specs.Arrays.{ring64, plain_by_rows, room_of, HoldsRows};
 ghost use Rattle.sparse_c.specs.Refused.{IsFaultOf, IsMemoryOr, IsTooSmall};
 ghost use Rattle.sparse_c.specs.Statuses.{number_of};

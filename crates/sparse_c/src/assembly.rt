@@ -4,7 +4,7 @@ ghost use Rattle.std.specs.Prelude.{◌≡◌, ◌≢◌, pos, IfOk, IfErr};
 ghost use Rattle.sparse_base.specs.CooPlain.{plain_of_coo};
 ghost use Rattle.sparse_algebra.specs.Plain.{plain_transpose};
 ghost use Rattle.sparse_cs.specs.PlainOfLanes.{plain_of_rows};
-ghost use Rattle.sparse_units.specs.WrappingValues.{w64_value};
+ghost use Rattle.sparse_algebra.specs.WrappingValues.{w64_value};
 ghost use Rattle.sparse_c.specs.Arrays.{ring64, plain_of_lists, room_of, HoldsRows, HoldsCols};
 ghost use Rattle.sparse_c.specs.Refused.{IsFaultOfList, IsMemoryOr, IsRefused};
 

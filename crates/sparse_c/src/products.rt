@@ -10,7 +10,7 @@ ghost use Rattle.sparse_c.specs.Refused.{IsFaultOfPair, IsMemoryOr, IsRefused};
 
 use crate::arrays::{finish_rows, rows_of};
 use crate::refusal::Refusal;
-use sparse_ops::serial::{mul_csr, spmm_csr_pattern};
+use sparse_products::serial::{mul_csr, spmm_csr_pattern};
 use sparse_pattern::pattern::SparsityPattern;
 use std::alloc::Global;
 

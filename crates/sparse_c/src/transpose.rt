@@ -7,7 +7,7 @@ ghost use Rattle.sparse_c.specs.Arrays.{ring64, plain_by_rows, room_of, HoldsRow
 ghost use Rattle.sparse_c.specs.Refused.{IsFaultOf, IsRefused};
 
 use crate::arrays::{finish_rows, rows_of};
-use sparse_ops::transposes::transposed_csr;
+use sparse_products::transposes::transposed_csr;
 use std::alloc::Global;
 
 /// Writes the transpose of a matrix by rows, by rows too.

@@ -9,7 +9,7 @@ use Rattle.std.proofs.lemmas.Bool.Decides.{Decides-ltb, Decides-and}
 use Rattle.std.proofs.lemmas.Grind.{common_steps}
 use Rattle.std.proofs.lemmas.List.Elements.{All-map}
 use Rattle.std.proofs.lemmas.Option.{none-some}
-use Rattle.sparse_lemmas.proofs.Cases.{true_or_false}
+use Rattle.sparse_algebra.proofs.Cases.{true_or_false}
 use Rattle.sparse_algebra.specs.Algebra.{CommRing}
 use Rattle.sparse_algebra.specs.Sums.{where_true}
 use Rattle.sparse_pattern.specs.Raw.{entries_of}
@@ -22,7 +22,7 @@ use Rattle.sparse_algebra.proofs.PlainLaws.{proper_transpose, within_plain_of_tr
 use Rattle.sparse_algebra.proofs.PlainLaws.{within_transpose}
 use Rattle.sparse_algebra.proofs.PlainLemmas.{same_plain}
 use Rattle.sparse_algebra.proofs.RingLemmas.{zero_add}
-use Rattle.sparse_cs.specs.Compressed.{Compressed, IsSound, zip_values, lane_triplets, turned}
+use Rattle.sparse_cs.specs.Compressed.{Compressed, IsSound, zip_values, lane_triplets, transposed}
 use Rattle.sparse_cs.specs.StoredEntries.{place_of}
 use Rattle.sparse_base.specs.CooPlain.{plain_of_coo}
 use Rattle.sparse_cs.specs.PlainOfLanes.{plain_of_rows, plain_of_cols}
@@ -34,7 +34,7 @@ use Rattle.sparse_cs.proofs.Arrays.{value_at as sum_at}
 use Rattle.sparse_cs.proofs.Inside.{lane_triplets-inside}
 use Rattle.sparse_cs.proofs.LaneSearch.{place_of_is_position}
 use Rattle.sparse_convert.specs.ToDense.{stored_or_zero, IsDenseOfRows, IsDenseOfCols}
-use Rattle.sparse_convert.proofs.DenseWriting.{written, written-nowhere, written-turned, IsWritten}
+use Rattle.sparse_convert.proofs.DenseWriting.{written, written-nowhere, written-transposed, IsWritten}
 
 -- the step that replaces a value
 abbrev pub replaced : {T : Type 0} → T → T → T
@@ -123,21 +123,21 @@ module _ {T : Type 0} where
 
     pub cols_written : (rest : List (ℕ × ℕ × T)) (d : Dense T) → rest ≡ []
         → IsWritten replaced (λ v. v) zero_value m.pattern.minor_dim m.pattern.major_dim
-        (map turned (lane_triplets m)) rest d
+        (map transposed (lane_triplets m)) rest d
         → IsDenseOfCols zero_value m d
     cols_written rest d end done = record {
       rows = done.rows;
       cols = done.cols;
       count = done.count;
       values = λ i j z row col. ap (λ l. written replaced (value_at d i j z) l i j) (sym end)
-          ∙ done.values i j z row col ∙ written-turned replaced zero_value (lane_triplets m) i j
+          ∙ done.values i j z row col ∙ written-transposed replaced zero_value (lane_triplets m) i j
           ∙ written_stored j i;
     }
 
     -- the columns' triplets are within the shape
-    pub turned_inside : All (λ t. (t.0 < m.pattern.minor_dim) × (t.1 < m.pattern.major_dim))
-        (map turned (lane_triplets m))
-    turned_inside = All-map (λ t. (t.0 < m.pattern.minor_dim) × (t.1 < m.pattern.major_dim)) turned
+    pub transposed_inside : All (λ t. (t.0 < m.pattern.minor_dim) × (t.1 < m.pattern.major_dim))
+        (map transposed (lane_triplets m))
+    transposed_inside = All-map (λ t. (t.0 < m.pattern.minor_dim) × (t.1 < m.pattern.major_dim)) transposed
         (lane_triplets m) (λ k t lt. let here = lane_triplets-inside m sound k t
         lt in (here.1, here.0))
 

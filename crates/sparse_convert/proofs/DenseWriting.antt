@@ -7,11 +7,11 @@ use Rattle.std.proofs.lemmas.Nat.{mul-add-lt}
 use Rattle.std.specs.Cmp.{nat_eq_equiv}
 use Rattle.std.specs.Prelude.{nat_eq, ◌||◌}
 use Rattle.std.specs.List.{list_any}
-use Rattle.sparse_lemmas.proofs.Cases.{true_or_false}
+use Rattle.sparse_algebra.proofs.Cases.{true_or_false}
 use Rattle.sparse_base.specs.Dense.{Dense, value_at, HasValues}
 use Rattle.sparse_algebra.specs.Plain.{is_at}
 use Rattle.sparse_algebra.proofs.PlainLemmas.{and_comm}
-use Rattle.sparse_cs.specs.Compressed.{turned}
+use Rattle.sparse_cs.specs.Compressed.{transposed}
 use Rattle.sparse_cs.proofs.Arrays.{pair_is}
 
 -- the test of a written place
@@ -38,13 +38,13 @@ module _ {T C : Type 0} (step : C → T → C) where
       neither false c h = (refl, h)
 
   -- rows and columns exchanged
-  pub written-turned : (c : C) (ts : List (ℕ × ℕ × T)) (i j : ℕ)
-      → written c (map turned ts) i j ≡ written c ts j i
-  written-turned c [] i j = refl
-  written-turned c (t ∷ ts) i j =
-      ap (λ b. written (if b then step c t.2 else c) (map turned ts) i j)
+  pub written-transposed : (c : C) (ts : List (ℕ × ℕ × T)) (i j : ℕ)
+      → written c (map transposed ts) i j ≡ written c ts j i
+  written-transposed c [] i j = refl
+  written-transposed c (t ∷ ts) i j =
+      ap (λ b. written (if b then step c t.2 else c) (map transposed ts) i j)
       (and_comm (nat_eq t.1 i) (nat_eq t.0 j))
-      ∙ written-turned (if is_at j i t then step c t.2 else c) ts i j
+      ∙ written-transposed (if is_at j i t then step c t.2 else c) ts i j
 
   module _ (f : T → C) where
     -- the matrix while the triplets of `rest` are still to be written

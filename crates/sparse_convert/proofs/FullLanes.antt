@@ -9,10 +9,10 @@ use Rattle.std.proofs.lemmas.Grind.{flat_map-append}
 use Rattle.std.proofs.lemmas.List.{append-nil, get_or_append_left, get_or_push, map-append}
 use Rattle.std.proofs.lemmas.List.Elements.{filter-append, All-filter}
 use Rattle.std.proofs.lemmas.List.Kept.{IsStrictlyIncreasing-filter}
-use Rattle.sparse_lemmas.proofs.Cases.{lt_suc_cases}
+use Rattle.sparse_algebra.proofs.Cases.{lt_suc_cases}
 use Rattle.sparse_algebra.specs.Plain.{below}
 use Rattle.sparse_base.specs.Dense.{Dense, value_at}
-use Rattle.sparse_cs.specs.Compressed.{turned}
+use Rattle.sparse_cs.specs.Compressed.{transposed}
 use Rattle.sparse_convert.specs.FromDense.{full_lanes, row_triplets, column_triplets}
 use Rattle.sparse_convert.specs.FromDense.{differs_from}
 
@@ -157,22 +157,22 @@ full_lanes_same n m v w h = λ t. full_lanes n m (λ i k. h i k t)
 -- ---- columns and rows
 
 module _ {T : Type 0} where
-  turned_lane : (value : ℕ → T) (j : ℕ) (is : List ℕ)
-      → map {B = ℕ × ℕ × T} (λ i. (i, j, value i)) is ≡ map turned
+  transposed_lane : (value : ℕ → T) (j : ℕ) (is : List ℕ)
+      → map {B = ℕ × ℕ × T} (λ i. (i, j, value i)) is ≡ map transposed
       (map {B = ℕ × ℕ × T} (λ i. (j, i, value i)) is)
-  turned_lane value j [] = refl
-  turned_lane value j (i ∷ is) = ap (λ l. (i, j, value i) ∷ l) (turned_lane value j is)
+  transposed_lane value j [] = refl
+  transposed_lane value j (i ∷ is) = ap (λ l. (i, j, value i) ∷ l) (transposed_lane value j is)
 
-  turned_lanes : (value : ℕ → ℕ → T) (is js : List ℕ)
-      → flat_map (λ j. map {B = ℕ × ℕ × T} (λ i. (i, j, value j i)) is) js ≡ map turned
+  transposed_lanes : (value : ℕ → ℕ → T) (is js : List ℕ)
+      → flat_map (λ j. map {B = ℕ × ℕ × T} (λ i. (i, j, value j i)) is) js ≡ map transposed
       (flat_map (λ j. map {B = ℕ × ℕ × T} (λ i. (j, i, value j i)) is) js)
-  turned_lanes value is [] = refl
-  turned_lanes value is (j ∷ js) =
+  transposed_lanes value is [] = refl
+  transposed_lanes value is (j ∷ js) =
       ap (λ l. l ++ flat_map (λ j. map {B = ℕ × ℕ × T} (λ i. (i, j, value j i)) is) js)
-      (turned_lane (value j) j is)
-      ∙ ap (λ l. map turned (map {B = ℕ × ℕ × T} (λ i. (j, i, value j i)) is) ++ l)
-      (turned_lanes value is js)
-      ∙ sym (map-append turned (map {B = ℕ × ℕ × T} (λ i. (j, i, value j i)) is)
+      (transposed_lane (value j) j is)
+      ∙ ap (λ l. map transposed (map {B = ℕ × ℕ × T} (λ i. (j, i, value j i)) is) ++ l)
+      (transposed_lanes value is js)
+      ∙ sym (map-append transposed (map {B = ℕ × ℕ × T} (λ i. (j, i, value j i)) is)
       (flat_map (λ j. map {B = ℕ × ℕ × T} (λ i. (j, i, value j i)) is) js))
 
   -- the columns of a dense matrix, as lanes
@@ -180,11 +180,11 @@ module _ {T : Type 0} where
   column_lanes z d = full_lanes d.ncols d.nrows (λ j i. value_at d i j z)
 
   pub kept_columns : (E : T → T → Bool) (z : T) (d : Dense T)
-      → filter (differs_from E z) (column_triplets z d) ≡ map turned
+      → filter (differs_from E z) (column_triplets z d) ≡ map transposed
       (filter (differs_from E z) (column_lanes z d))
   kept_columns E z d = ap (filter (differs_from E z))
-      (turned_lanes (λ j i. value_at d i j z) (below d.nrows) (below d.ncols))
-      ∙ filter-map (differs_from E z) turned (column_lanes z d)
+      (transposed_lanes (λ j i. value_at d i j z) (below d.nrows) (below d.ncols))
+      ∙ filter-map (differs_from E z) transposed (column_lanes z d)
 
   -- lanes that are read by steps
   pub lanes_by_columns : (z : T) (d : Dense T)

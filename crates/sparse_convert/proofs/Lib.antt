@@ -10,7 +10,7 @@ pub mod IndexSums
 pub mod Merging
 pub mod MergedLanes
 pub mod Compressing
-mod TurnedTriplets
+mod TransposedTriplets
 mod StoredTriplets
 mod Reaching
 mod LaneGrowth

@@ -7,7 +7,7 @@ use Rattle.std.proofs.lemmas.Bool.Decides.{Decides-eqb}
 use Rattle.std.proofs.lemmas.List.{get_or_append_left, get_or_push}
 use Rattle.std.proofs.lemmas.List.Edits.{length-between}
 use Rattle.std.proofs.lemmas.List.Elements.{All-tail}
-use Rattle.sparse_lemmas.proofs.Cases.{lt_or_ge, true_or_false}
+use Rattle.sparse_algebra.proofs.Cases.{lt_or_ge, true_or_false}
 use Rattle.sparse_algebra.specs.Algebra.{CommRing}
 use Rattle.sparse_pattern.specs.Raw.{raw_of, IsValid, IsPlace}
 use Rattle.sparse_algebra.specs.Plain.{IsProper}

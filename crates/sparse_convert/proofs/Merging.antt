@@ -5,7 +5,7 @@ use Rattle.std.proofs.Common.{slice_index_or, refl, ap, sym, ◌∙◌, subst, a
 use Rattle.std.proofs.Common.{length-set, get_or-set_same, get_or-set_other}
 use Rattle.std.specs.List.Sorted.{IsNonDecreasingBy}
 use Rattle.std.proofs.lemmas.List.{get_or_append_left, get_or_push, get_or_default}
-use Rattle.sparse_lemmas.proofs.Cases.{lt_or_ge, same_or_not, true_or_false}
+use Rattle.sparse_algebra.proofs.Cases.{lt_or_ge, same_or_not, true_or_false}
 use Rattle.sparse_algebra.specs.Algebra.{CommRing}
 use Rattle.sparse_algebra.proofs.RingLemmas.{zero_add}
 use Rattle.sparse_convert.specs.InnerTripletLanes.{index_sum}

@@ -6,7 +6,7 @@ use Rattle.std.specs.List.{filter, flat_map, list_any}
 use Rattle.std.proofs.Math.ListN.{get_or-map}
 use Rattle.std.proofs.lemmas.Bool.Decides.{Decides-eqb, Decides-ltb, nat_tests}
 use Rattle.std.proofs.lemmas.List.Folds.{list_any-append}
-use Rattle.sparse_lemmas.proofs.Cases.{and_both, and_parts, nat_eq_no, or_false, three}
+use Rattle.sparse_algebra.proofs.Cases.{and_both, and_parts, nat_eq_no, or_false, three}
 use Rattle.sparse_algebra.specs.Algebra.{CommRing}
 use Rattle.sparse_algebra.specs.Sums.{sum_by, where_true}
 use Rattle.sparse_algebra.specs.Plain.{Plain, any_below, below, is_at, plain_of_triplets}
@@ -16,7 +16,7 @@ use Rattle.sparse_base.specs.DensePlain.{plain_of_dense}
 use Rattle.sparse_algebra.proofs.RingLemmas.{zero_add}
 use Rattle.sparse_algebra.proofs.SumLemmas.{sum_by-append, sum_by-same, sum_by-zero}
 use Rattle.sparse_algebra.proofs.PlainLemmas.{any_is, any_below-same, and_comm, same_plain}
-use Rattle.sparse_cs.specs.Compressed.{turned}
+use Rattle.sparse_cs.specs.Compressed.{transposed}
 use Rattle.sparse_convert.specs.FromDense.{full_lanes, row_triplets, column_triplets, differs_from}
 use Rattle.sparse_convert.specs.FromDense.{IsNonzeroPart}
 use Rattle.sparse_convert.proofs.FullLanes.{column_lanes, kept_columns}
@@ -285,47 +285,47 @@ module _ (R : CommRing) where
                 λ i j. h.value j i;
           }
 
-      any_turned : (i j : ℕ) (ts : List (ℕ × ℕ × T))
-          → list_any (is_at i j) (map turned ts) ≡ list_any (is_at j i) ts
-      any_turned i j [] = refl
-      any_turned i j (t ∷ ts) = ap (λ b. b || list_any (is_at i j) (map turned ts))
+      any_transposed : (i j : ℕ) (ts : List (ℕ × ℕ × T))
+          → list_any (is_at i j) (map transposed ts) ≡ list_any (is_at j i) ts
+      any_transposed i j [] = refl
+      any_transposed i j (t ∷ ts) = ap (λ b. b || list_any (is_at i j) (map transposed ts))
           (and_comm (nat_eq t.1 i) (nat_eq t.0 j)) ∙ ap (λ b. (nat_eq t.0 j && nat_eq t.1 i) || b)
-          (any_turned i j ts)
+          (any_transposed i j ts)
 
-      sum_turned : (i j : ℕ) (ts : List (ℕ × ℕ × T))
-          → sum_by R (λ t. where_true R (is_at i j t) (f t.2)) (map turned ts) ≡ sum_by R
+      sum_transposed : (i j : ℕ) (ts : List (ℕ × ℕ × T))
+          → sum_by R (λ t. where_true R (is_at i j t) (f t.2)) (map transposed ts) ≡ sum_by R
           (λ t. where_true R (is_at j i t) (f t.2)) ts
-      sum_turned i j [] = refl
-      sum_turned i j (t ∷ ts) =
+      sum_transposed i j [] = refl
+      sum_transposed i j (t ∷ ts) =
           ap (λ b. R.add (where_true R b (f t.2))
           (sum_by R (λ t. where_true R (is_at i j t) (f t.2))
-          (map turned ts))) (and_comm (nat_eq t.1 i) (nat_eq t.0 j))
-          ∙ ap (R.add (where_true R (nat_eq t.0 j && nat_eq t.1 i) (f t.2))) (sum_turned i j ts)
+          (map transposed ts))) (and_comm (nat_eq t.1 i) (nat_eq t.0 j))
+          ∙ ap (R.add (where_true R (nat_eq t.0 j && nat_eq t.1 i) (f t.2))) (sum_transposed i j ts)
 
       pub triplets_part : (d : Dense T)
           → IsNonzeroPart (plain_of_dense R f d) (plain_of_triplets R f d.nrows d.ncols
           (filter (differs_from E z) (column_triplets z d)))
       triplets_part d =
           let kept = filter (differs_from E z) (column_lanes z d) in
-          let same : plain_of_triplets R f d.nrows d.ncols (map turned kept) ≡ plain_transpose R
+          let same : plain_of_triplets R f d.nrows d.ncols (map transposed kept) ≡ plain_transpose R
           (plain_of_triplets R f d.ncols d.nrows kept) =
-          same_plain _ _ refl refl (λ i j. any_turned i j kept) (λ i j. sum_turned i j kept) in
+          same_plain _ _ refl refl (λ i j. any_transposed i j kept) (λ i j. sum_transposed i j kept) in
           subst (IsNonzeroPart (plain_of_dense R f d))
           (sym (ap (plain_of_triplets R f d.nrows d.ncols) (kept_columns E z d) ∙ same))
           (columns_part d)
 
-      turned_twice : (ts : List (ℕ × ℕ × T)) → map turned (map turned ts) ≡ ts
-      turned_twice [] = refl
-      turned_twice (t ∷ ts) = ap (λ us. t ∷ us) (turned_twice ts)
+      transposed_twice : (ts : List (ℕ × ℕ × T)) → map transposed (map transposed ts) ≡ ts
+      transposed_twice [] = refl
+      transposed_twice (t ∷ ts) = ap (λ us. t ∷ us) (transposed_twice ts)
 
       pub cols_part : (d : Dense T) (ts : List (ℕ × ℕ × T))
-          → map turned ts ≡ filter (differs_from E z) (column_triplets z d)
+          → map transposed ts ≡ filter (differs_from E z) (column_triplets z d)
           → IsNonzeroPart (plain_of_dense R f d) (plain_transpose R
           (plain_of_triplets R f d.ncols d.nrows ts))
       cols_part d ts is =
           let kept = filter (differs_from E z) (column_lanes z d) in
-          let same : ts ≡ kept = sym (turned_twice ts) ∙ ap (map turned) (is ∙ kept_columns E z d)
-          ∙ turned_twice kept in
+          let same : ts ≡ kept = sym (transposed_twice ts) ∙ ap (map transposed) (is ∙ kept_columns E z d)
+          ∙ transposed_twice kept in
           subst (λ l. IsNonzeroPart (plain_of_dense R f d)
           (plain_transpose R (plain_of_triplets R f d.ncols d.nrows l))) (sym same)
           (columns_part d)

@@ -8,7 +8,7 @@ use Rattle.sparse_cs.proofs.MatrixTransposes.{plain_transposed}
 use Rattle.sparse_convert.specs.OneMatrix.{Representation, Triplets, Rows, Cols}
 use Rattle.sparse_convert.specs.OneMatrix.{IsSoundRepresentation, plain_of_representation}
 use Rattle.sparse_convert.specs.OneMatrix.{IsConverted, Leads, IsReached}
-use Rattle.sparse_convert.proofs.StoredTriplets.{plain_of_turned_list}
+use Rattle.sparse_convert.proofs.StoredTriplets.{plain_of_transposed_list}
 
 module _ (R : CommRing) {T : Type 0} (f : T → R.Carrier) (z : T) where
   -- one conversion
@@ -23,7 +23,7 @@ module _ (R : CommRing) {T : Type 0} (f : T → R.Carrier) (z : T) where
   converted_same (Rows m) (Cols n) sx sy h =
       ap (plain_transpose R) (plain_transposed R f z m n sx sy h)
   converted_same (Cols n) (Triplets a) sx sy h = ap (plain_of_coo R f) h
-      ∙ plain_of_turned_list R f n.pattern.major_dim n.pattern.minor_dim (lane_triplets n)
+      ∙ plain_of_transposed_list R f n.pattern.major_dim n.pattern.minor_dim (lane_triplets n)
   converted_same (Cols n) (Rows m) sx sy h = plain_transposed R f z n m sx sy h
   converted_same (Cols m) (Cols n) sx sy h = absurd h
 

@@ -1,4 +1,4 @@
--- The triplets of a compressed matrix, as three lists and turned.
+-- The triplets of a compressed matrix, as three lists and transposed.
 use Rattle.std.proofs.Common.{◌≡◌, ℕ, zero, suc, ◌<◌, List, [], ◌∷◌, length, map, get_or, All, ap}
 use Rattle.std.proofs.Common.{sym, ◌∙◌, refl, arith}
 use Rattle.std.proofs.lemmas.List.{length-map, same_lists, get_or-map}
@@ -8,12 +8,12 @@ use Rattle.sparse_base.specs.Coo.{zip_triplets, AreParts}
 use Rattle.sparse_algebra.specs.Plain.{plain_of_triplets, plain_transpose}
 use Rattle.sparse_pattern.specs.Raw.{Raw, IsValid, entries_of}
 use Rattle.sparse_pattern.proofs.LaneOrder.{length-entries}
-use Rattle.sparse_cs.specs.Compressed.{Compressed, IsSound, zip_values, lane_triplets, turned}
+use Rattle.sparse_cs.specs.Compressed.{Compressed, IsSound, zip_values, lane_triplets, transposed}
 use Rattle.sparse_pattern.proofs.Positions.{lane_of_position}
 use Rattle.sparse_cs.proofs.Arrays.{entry_at}
 use Rattle.sparse_cs.proofs.Inside.{lane_triplets-inside}
 use Rattle.sparse_convert.proofs.Compressing.{zip_of_parts}
-use Rattle.sparse_convert.proofs.TurnedTriplets.{plain_of_turned}
+use Rattle.sparse_convert.proofs.TransposedTriplets.{plain_of_transposed}
 
 -- the indices of the places are the pattern's
 indices-entries : (d : Raw) → IsValid d → map (λ (p : ℕ × ℕ). p.1) (entries_of d) ≡ d.indices
@@ -53,10 +53,10 @@ module _ {T : Type 0} where
   values-zip (p ∷ ps) (v ∷ vs) e = ap (λ l. v ∷ l) (values-zip ps vs (omega arith))
 
   -- rows, columns and values of triplets whose first two parts have changed places
-  pub zip_of_turned : (ts : List (ℕ × ℕ × T))
-      → zip_triplets (map (λ t. t.1) ts) (map (λ t. t.0) ts) (map (λ t. t.2) ts) ≡ map turned ts
-  zip_of_turned [] = refl
-  zip_of_turned (t ∷ ts) = ap (λ l. turned t ∷ l) (zip_of_turned ts)
+  pub zip_of_transposed : (ts : List (ℕ × ℕ × T))
+      → zip_triplets (map (λ t. t.1) ts) (map (λ t. t.0) ts) (map (λ t. t.2) ts) ≡ map transposed ts
+  zip_of_transposed [] = refl
+  zip_of_transposed (t ∷ ts) = ap (λ l. transposed t ∷ l) (zip_of_transposed ts)
 
   module _ (m : Compressed T) (sound : IsSound m) where
     long : length (entries_of m.pattern) ≡ length m.values
@@ -113,15 +113,15 @@ module _ {T : Type 0} where
       cols_bounded = lanes_below;
     }
 
--- turned triplets stand for the transpose
-pub plain_of_turned_list : (R : CommRing) {T : Type 0} (f : T → R.Carrier) (rows cols : ℕ)
+-- transposed triplets stand for the transpose
+pub plain_of_transposed_list : (R : CommRing) {T : Type 0} (f : T → R.Carrier) (rows cols : ℕ)
     (ts : List (ℕ × ℕ × T))
-    → plain_of_triplets R f cols rows (map turned ts) ≡ plain_transpose R
+    → plain_of_triplets R f cols rows (map transposed ts) ≡ plain_transpose R
     (plain_of_triplets R f rows cols ts)
-plain_of_turned_list R {T} f rows cols ts =
+plain_of_transposed_list R {T} f rows cols ts =
     let majors = map (λ (t : ℕ × ℕ × T). t.0) ts in
     let minors = map (λ (t : ℕ × ℕ × T). t.1) ts in
     let values = map (λ (t : ℕ × ℕ × T). t.2) ts in
-    ap (plain_of_triplets R f cols rows) (sym (zip_of_turned ts))
-    ∙ sym (plain_of_turned R f cols rows minors majors values)
+    ap (plain_of_triplets R f cols rows) (sym (zip_of_transposed ts))
+    ∙ sym (plain_of_transposed R f cols rows minors majors values)
     ∙ ap (λ l. plain_transpose R (plain_of_triplets R f rows cols l)) (zip_of_parts ts)

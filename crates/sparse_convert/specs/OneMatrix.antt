@@ -3,7 +3,7 @@ use Rattle.std.specs.Prelude.{◌≡◌, ⊤, List, [], ◌∷◌, map}
 use Rattle.sparse_algebra.specs.Algebra.{CommRing}
 use Rattle.sparse_base.specs.Coo.{Coo, coo_of}
 use Rattle.sparse_algebra.specs.Plain.{Plain}
-use Rattle.sparse_cs.specs.Compressed.{Compressed, IsSound, lane_triplets, turned}
+use Rattle.sparse_cs.specs.Compressed.{Compressed, IsSound, lane_triplets, transposed}
 use Rattle.sparse_base.specs.CooPlain.{plain_of_coo}
 use Rattle.sparse_cs.specs.PlainOfLanes.{plain_of_rows, plain_of_cols}
 use Rattle.sparse_cs.specs.TransposedMatrix.{IsTranspose}
@@ -20,7 +20,7 @@ module _ {T : Type 0} where
   coo_of_rows m = coo_of m.pattern.major_dim m.pattern.minor_dim (lane_triplets m)
 
   abbrev pub coo_of_cols : Compressed T → Coo T
-  coo_of_cols n = coo_of n.pattern.minor_dim n.pattern.major_dim (map turned (lane_triplets n))
+  coo_of_cols n = coo_of n.pattern.minor_dim n.pattern.major_dim (map transposed (lane_triplets n))
 
   -- compressed arrays are sound
   abbrev pub IsSoundRepresentation : Representation T → Type 0

@@ -3,7 +3,7 @@ use Rattle.std.proofs.Common.{◌≡◌, ℕ, ◌+◌, ◌<◌, inl, inr, ◌↔
 use Rattle.std.proofs.Common.{get_or, slice_range, Contains, length-append, ap, sym, subst, ◌∙◌}
 use Rattle.std.proofs.Common.{refl, arith}
 use Rattle.std.specs.List.Sorted.{IsStrictlyIncreasing}
-use Rattle.sparse_lemmas.proofs.Cases.{lt_add_one_cases, true_or_false}
+use Rattle.sparse_algebra.proofs.Cases.{lt_add_one_cases, true_or_false}
 use Rattle.sparse_algebra.specs.Algebra.{CommRing}
 use Rattle.sparse_algebra.specs.Plain.{Plain, IsProper}
 use Rattle.sparse_algebra.proofs.PlainLemmas.{same_plain, same_bool}

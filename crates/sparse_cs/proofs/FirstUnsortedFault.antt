@@ -1,6 +1,6 @@
 -- The first fault of arrays whose lanes needn't be sorted.
 use Rattle.std.proofs.Common.{◌≡◌, ℕ, ◌+◌, ◌<◌, ◌≤◌, inl, inr, List, length, All, Any, arith}
-use Rattle.sparse_lemmas.proofs.Cases.{le_cases}
+use Rattle.sparse_algebra.proofs.Cases.{le_cases}
 use Rattle.sparse_pattern.specs.Raw.{start_of, end_of, lane_of}
 use Rattle.sparse_pattern.specs.FirstFault.{IsBefore}
 use Rattle.sparse_cs.specs.Compressed.{Compressed}

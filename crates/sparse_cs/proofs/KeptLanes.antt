@@ -9,7 +9,7 @@ use Rattle.std.proofs.lemmas.List.{take-append-le, drop-append-le, length-drop}
 use Rattle.std.proofs.lemmas.List.Edits.{length-between, get_or-between}
 use Rattle.std.proofs.lemmas.List.Kept.{AllPairs-from_increasing}
 use Rattle.std.proofs.lemmas.Slice.Zip.{firsts-zip}
-use Rattle.sparse_lemmas.proofs.Cases.{lt_add_one_cases}
+use Rattle.sparse_algebra.proofs.Cases.{lt_add_one_cases}
 use Rattle.sparse_pattern.specs.Raw.{start_of, end_of, lane_of, IsValidLane, IsValid, entries_from}
 use Rattle.sparse_pattern.proofs.PatternLanes.{lane_rises, length-lane, get_or-lane}
 use Rattle.sparse_cs.specs.Compressed.{Compressed, arrays_of, IsSound, zip_values, lane_triplets}

@@ -3,13 +3,13 @@ use Rattle.std.proofs.Common.{◌≡◌, ℕ, inl, inr, Bool, true, false, ◌&&
 use Rattle.std.proofs.Common.{ap, sym, ◌∙◌, refl}
 use Rattle.std.specs.List.{filter, list_any}
 use Rattle.std.proofs.lemmas.Map.Views.{any-filter_same}
-use Rattle.sparse_lemmas.proofs.Cases.{and_both, true_or_false}
+use Rattle.sparse_algebra.proofs.Cases.{and_both, true_or_false}
 use Rattle.sparse_algebra.specs.Algebra.{CommRing}
 use Rattle.sparse_algebra.specs.Sums.{where_true}
 use Rattle.sparse_algebra.specs.Plain.{is_at, plain_kept, plain_transpose}
 use Rattle.sparse_algebra.proofs.RingLemmas.{zero_add}
 use Rattle.sparse_algebra.proofs.PlainLemmas.{same_plain, and_comm}
-use Rattle.sparse_cs.specs.Compressed.{Compressed, lane_triplets, turned}
+use Rattle.sparse_cs.specs.Compressed.{Compressed, lane_triplets, transposed}
 use Rattle.sparse_cs.specs.Filter.{HasSizesOf}
 use Rattle.sparse_cs.specs.PlainOfLanes.{plain_of_rows, plain_of_cols}
 use Rattle.sparse_cs.proofs.Arrays.{pair_is, value_at, where_no, where_yes, unnamed}
@@ -23,22 +23,22 @@ no_and true c e = cc
 no_and false c e = refl
 
 -- a filter of triplets whose first true_or_false parts have changed places
-filter-turned : {T : Type 0} (test : ℕ × ℕ × T → Bool) (ts : List (ℕ × ℕ × T))
-    → map turned (filter test (map turned ts)) ≡ filter (λ t. test (turned t)) ts
-filter-turned test [] = refl
-filter-turned test (t ∷ ts) = chosen (test (turned t))
-    ∙ ap (λ us. cond (test (turned t)) (t ∷ us) us) (filter-turned test ts)
+filter-transposed : {T : Type 0} (test : ℕ × ℕ × T → Bool) (ts : List (ℕ × ℕ × T))
+    → map transposed (filter test (map transposed ts)) ≡ filter (λ t. test (transposed t)) ts
+filter-transposed test [] = refl
+filter-transposed test (t ∷ ts) = chosen (test (transposed t))
+    ∙ ap (λ us. cond (test (transposed t)) (t ∷ us) us) (filter-transposed test ts)
   where
     chosen : (b : Bool)
-        → map turned (cond b (turned t ∷ filter test (map turned ts)) (filter test (map turned ts)))
-        ≡ cond b (t ∷ map turned (filter test (map turned ts)))
-        (map turned (filter test (map turned ts)))
+        → map transposed (cond b (transposed t ∷ filter test (map transposed ts)) (filter test (map transposed ts)))
+        ≡ cond b (t ∷ map transposed (filter test (map transposed ts)))
+        (map transposed (filter test (map transposed ts)))
     chosen true = refl
     chosen false = refl
 
-turned_twice : {T : Type 0} (ts : List (ℕ × ℕ × T)) → map turned (map turned ts) ≡ ts
-turned_twice [] = refl
-turned_twice (t ∷ ts) = ap (λ us. t ∷ us) (turned_twice ts)
+transposed_twice : {T : Type 0} (ts : List (ℕ × ℕ × T)) → map transposed (map transposed ts) ≡ ts
+transposed_twice [] = refl
+transposed_twice (t ∷ ts) = ap (λ us. t ∷ us) (transposed_twice ts)
 
 module _ (R : CommRing) {T : Type 0} (f : T → R.Carrier) (test : ℕ → ℕ → Bool) where
   abbrev passes : ℕ × ℕ × T → Bool
@@ -99,10 +99,10 @@ module _ (R : CommRing) {T : Type 0} (f : T → R.Carrier) (test : ℕ → ℕ �
 pub kept_cols : (R : CommRing) {T : Type 0} (f : T → R.Carrier) (test : ℕ → ℕ → Bool)
     (m n : Compressed T)
     → HasSizesOf m n
-    → map turned (lane_triplets n) ≡ filter (λ t. test t.0 t.1) (map turned (lane_triplets m))
+    → map transposed (lane_triplets n) ≡ filter (λ t. test t.0 t.1) (map transposed (lane_triplets m))
     → plain_of_cols R f n ≡ plain_kept R test (plain_of_cols R f m)
 kept_cols R f test m n sizes kept =
     let lanes : lane_triplets n ≡ filter (λ t. test t.1 t.0) (lane_triplets m) =
-    sym (turned_twice (lane_triplets n)) ∙ ap (map turned) kept
-    ∙ filter-turned (λ t. test t.0 t.1) (lane_triplets m) in
+    sym (transposed_twice (lane_triplets n)) ∙ ap (map transposed) kept
+    ∙ filter-transposed (λ t. test t.0 t.1) (lane_triplets m) in
     ap (plain_transpose R) (kept_rows R f (λ i j. test j i) m n sizes lanes)

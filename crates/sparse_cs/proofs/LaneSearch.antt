@@ -13,7 +13,7 @@ use Rattle.std.proofs.lemmas.List.Sums.{position_or_len_is}
 use Rattle.std.proofs.lemmas.List.{get_or_past}
 use Rattle.std.proofs.lemmas.List.Quantifiers.{position-Some}
 use Rattle.std.proofs.lemmas.Option.{none-some, same_Some}
-use Rattle.sparse_lemmas.proofs.Cases.{lt_or_ge}
+use Rattle.sparse_algebra.proofs.Cases.{lt_or_ge}
 use borrow.Author.Tests.{lt-ltb, le-ltb}
 use Rattle.sparse_pattern.specs.Raw.{Raw, start_of, end_of, lane_of, IsValid, IsValidLane}
 use Rattle.sparse_pattern.proofs.PatternLanes.{lane_rises, length-lane, get_or-lane}

@@ -30,8 +30,8 @@ module _ {T : Type 0} where
   same_read xs ys p q z same = sym (unwrap_or-slice_get xs p z) ∙ ap (λ x. unwrap_or x z) same
       ∙ unwrap_or-slice_get ys q z
 
-  turned_back : (m n : Compressed T) → IsTranspose m n → IsTranspose n m
-  turned_back m n h = record {
+  transposed_back : (m n : Compressed T) → IsTranspose m n → IsTranspose n m
+  transposed_back m n h = record {
     pattern = record {
       major_dim = sym h.pattern.minor_dim;
       minor_dim = sym h.pattern.major_dim;
@@ -74,7 +74,7 @@ module _ {T : Type 0} where
 
   pub one_transpose : (m n k : Compressed T) → IsSound n → IsSound k → IsTranspose m n
       → IsTranspose m k → n ≡ k
-  one_transpose m n k sn sk left right = twice k m n sk sn (turned_back m k right) left
+  one_transpose m n k sn sk left right = twice k m n sk sn (transposed_back m k right) left
 
   -- the plain matrix of a transpose
   pub plain_transposed : (R : CommRing) (f : T → R.Carrier) (z : T) (m n : Compressed T) → IsSound m

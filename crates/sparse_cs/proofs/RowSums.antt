@@ -5,7 +5,7 @@ use Rattle.std.specs.Prelude.{nat_eq, zip}
 use Rattle.std.proofs.lemmas.Bool.{cases_eq}
 use Rattle.std.proofs.lemmas.Bool.Decides.{Decides-eqb}
 use Rattle.std.proofs.lemmas.List.{get_or-set_same, get_or-set_other, get_or_default}
-use Rattle.sparse_lemmas.proofs.Cases.{nat_eq_no}
+use Rattle.sparse_algebra.proofs.Cases.{nat_eq_no}
 use Rattle.sparse_algebra.specs.Algebra.{CommRing}
 use Rattle.sparse_algebra.specs.Sums.{sum_by, where_true}
 use Rattle.sparse_cs.proofs.Arrays.{where_yes, where_no}

@@ -41,7 +41,7 @@ module _ (R : CommRing) {T : Type 0} (f : T → R.Carrier) where
 
     pub cols_are : (z : T) (a : Plain R) → HasLanesAsCols R f m a → plain_of_cols R f m ≡ a
     cols_are z a has =
-        let turned : HasLanesAsRows R f m (plain_transpose R a) = record {
+        let transposed : HasLanesAsRows R f m (plain_transpose R a) = record {
           rows = has.cols;
           cols = has.rows;
           places = λ i j. has.places j i;
@@ -49,4 +49,4 @@ module _ (R : CommRing) {T : Type 0} (f : T → R.Carrier) where
           within = within_transpose R a has.within;
           proper = proper_transpose R a has.proper;
         } in
-        ap (plain_transpose R) (rows_are z (plain_transpose R a) turned) ∙ transpose_twice R a
+        ap (plain_transpose R) (rows_are z (plain_transpose R a) transposed) ∙ transpose_twice R a

@@ -47,8 +47,8 @@ module _ {T : Type 0} where
   lane_triplets m = zip_values (entries_of m.pattern) m.values
 
   -- a triplet with its first two components exchanged
-  abbrev pub turned : ℕ × ℕ × T → ℕ × ℕ × T
-  turned t = (t.1, t.0, t.2)
+  abbrev pub transposed : ℕ × ℕ × T → ℕ × ℕ × T
+  transposed t = (t.1, t.0, t.2)
 
   -- the result of `==`
   abbrev pub compressed_eq : (T → T → Bool) → Compressed T → Compressed T → Bool

@@ -17,3 +17,4 @@ pub mod Filter
 pub mod InnerFilter
 pub mod TransposedMatrix
 pub mod ColumnOrder
+pub mod InnerUpdates

@@ -5,6 +5,7 @@ ghost use Rattle.std.specs.List.Sorted.{IsStrictlyIncreasing};
 ghost use Rattle.sparse_pattern.specs.Raw.{IsValidLane, lane_of, start_of, end_of};
 ghost use Rattle.sparse_cs.specs.Lanes.{IsLaneEntryAt, IsLaneEntryOf, IsSoundLane, lane_parts};
 
+use sparse_algebra::learn;
 use sparse_pattern::entry::SparseEntry;
 use sparse_pattern::pattern::SparsityPattern;
 use std::alloc::AllocError;
@@ -42,8 +43,7 @@ impl<'a> LaneIndices<'a> {
         requires { major_index < pattern.now.major_dim }
         ensures { result ≡ lane_of pattern.now major_index }
     {
-        // The call costs nothing: its contract tells the prover that the pattern is valid.
-        let _ = pattern.major_offsets();
+        learn(pattern.major_offsets());
         LaneIndices::new(pattern.lane(major_index))
     }
 

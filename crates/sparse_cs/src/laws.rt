@@ -6,7 +6,7 @@ ghost use Rattle.sparse_algebra.specs.Plain.{Plain, plain_kept, plain_transpose,
 ghost use Rattle.sparse_pattern.specs.Raw.{Raw, IsValid};
 ghost use Rattle.sparse_cs.specs.ColumnOrder.{col_order};
 ghost use Rattle.sparse_cs.specs.Compressed.{Compressed, IsPosition, IsSound, lane_triplets};
-ghost use Rattle.sparse_cs.specs.Compressed.{turned, compressed_eq};
+ghost use Rattle.sparse_cs.specs.Compressed.{transposed, compressed_eq};
 ghost use Rattle.sparse_cs.specs.StoredEntries.{place_of};
 ghost use Rattle.sparse_cs.specs.Filter.{HasSizesOf};
 ghost use Rattle.sparse_cs.specs.PlainOfLanes.{meant, plain_of_rows, plain_of_cols};
@@ -49,7 +49,7 @@ pub fn row_order_law<T: Ring>()
 /// increasing.
 pub fn col_order_law<T: Ring>()
     ensures { (m : Compressed T)
-        → IsSound m → meant T.ring T.value (map turned (lane_triplets m))
+        → IsSound m → meant T.ring T.value (map transposed (lane_triplets m))
         ≡ col_order T.ring (plain_of_cols T.ring T.value m) }
 {}
 
@@ -68,8 +68,8 @@ pub fn kept_rows_law<T: Ring>()
 /// Keeping the triplets by columns that pass a test keeps exactly those places of the plain matrix, with their values.
 pub fn kept_cols_law<T: Ring>()
     ensures { (test : ℕ → ℕ → Bool) (m n : Compressed T)
-        → HasSizesOf m n → map turned (lane_triplets n)
-        ≡ filter (λ t. test t.0 t.1) (map turned (lane_triplets m))
+        → HasSizesOf m n → map transposed (lane_triplets n)
+        ≡ filter (λ t. test t.0 t.1) (map transposed (lane_triplets m))
         → plain_of_cols T.ring T.value n ≡ plain_kept T.ring test (plain_of_cols T.ring T.value m) }
 {}
 

@@ -24,6 +24,7 @@ pub use lane::{CsLane, LaneIndices};
 pub use lane_iter::CsLaneIter;
 pub use lane_iter_mut::{CsLaneIterMut, CsLaneMut};
 pub use sorted::SortedFault;
+use sparse_algebra::learn;
 use sparse_pattern::pattern::{SparsityPattern, SparsityPatternIter};
 use std::alloc::{AllocError, Global};
 use std::marker::Model;
@@ -59,8 +60,7 @@ impl<T> CsMatrix<T> {
         ensures is { result ≡ compressed_of pattern values.items }
         ensures sound { IsSound result }
     {
-        // The call costs nothing: its contract tells the prover that the pattern is valid.
-        let _ = pattern.major_offsets();
+        learn(pattern.major_offsets());
         CsMatrix {
             sparsity_pattern: pattern,
             values,

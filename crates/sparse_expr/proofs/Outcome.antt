@@ -17,7 +17,7 @@ use Rattle.sparse_algebra.specs.Numbers.{w64_number}
 use Rattle.sparse_algebra.specs.declared.scalar.wrapping.W64.{W64}
 use Rattle.sparse_algebra.proofs.PlainLemmas.{same_plain}
 use Rattle.sparse_algebra.proofs.WholeNumbers.{number_of-class}
-use Rattle.sparse_cs.specs.Compressed.{Compressed, IsSound, lane_triplets, turned}
+use Rattle.sparse_cs.specs.Compressed.{Compressed, IsSound, lane_triplets, transposed}
 use Rattle.sparse_base.specs.CooPlain.{plain_of_coo}
 use Rattle.sparse_cs.specs.PlainOfLanes.{plain_of_rows, plain_of_cols, meant}
 use Rattle.sparse_cs.proofs.RowOrder.{row_order-rows}
@@ -108,13 +108,13 @@ text_in-rows m sound =
 
 pub text_in-cols : (m : Compressed W64) → IsSound m
     → text_in Cols (plain_of_cols ring64 (λ x. class_of w64 (w64_number x)) m)
-    ≡ text_of_coo (coo_of m.pattern.minor_dim m.pattern.major_dim (map turned (lane_triplets m)))
+    ≡ text_of_coo (coo_of m.pattern.minor_dim m.pattern.major_dim (map transposed (lane_triplets m)))
 text_in-cols m sound =
     ap (written_text (codes "integer") element_text m.pattern.minor_dim m.pattern.major_dim)
     (col_order-cols ring64 (λ x. class_of w64 (w64_number x)) m sound)
     ∙ written-via (λ x. class_of w64 (w64_number x)) element_text
     (λ x. signed_decimal (w64_number x)) element-text (codes "integer") m.pattern.minor_dim
-    m.pattern.major_dim (map turned (lane_triplets m))
+    m.pattern.major_dim (map transposed (lane_triplets m))
 
 -- ---- the answer of a run
 

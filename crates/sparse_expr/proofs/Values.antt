@@ -10,12 +10,12 @@ use Rattle.sparse_algebra.specs.Plain.{plain_product, plain_transpose}
 use Rattle.sparse_algebra.proofs.PlainLemmas.{transpose_product}
 use Rattle.sparse_cs.specs.Compressed.{Compressed}
 use Rattle.sparse_cs.specs.PlainOfLanes.{plain_of_rows}
-use Rattle.sparse_expr.specs.InnerTurned.{rows_or_turned}
+use Rattle.sparse_expr.specs.InnerTransposed.{rows_or_transposed}
 use Rattle.sparse_expr.specs.Value.{both, one, Meets, same_sizes, sum_of, difference_of, product_of}
 use Rattle.sparse_expr.specs.Value.{input_at, found}
 use Rattle.sparse_expr.specs.declared.error.ExprError.{ExprError}
 use Rattle.sparse_expr.specs.declared.error.ExprError.TheVariants.{Shape}
-use Rattle.sparse_lemmas.proofs.Cases.{nat_eq_no}
+use Rattle.sparse_algebra.proofs.Cases.{nat_eq_no}
 
 if_true : {X : Type 0} (b : Bool) (u v : X) → b ≡ true → (if b then u else v) ≡ u
 if_true true u v h = refl
@@ -51,10 +51,10 @@ module _ (R : CommRing) where
       and_true (nat_eq x.rows y.rows) (nat_eq x.cols y.cols) ((Decides-eqb x.rows y.rows).1 er)
       ((Decides-eqb x.cols y.cols).1 ec)
 
-  turned_product : (a b : Plain R)
+  transposed_product : (a b : Plain R)
       → product_of R (plain_transpose R b) (plain_transpose R a) ≡ one R (plain_transpose R)
       (product_of R a b)
-  turned_product a b = by_test (nat_eq a.cols b.rows) refl
+  transposed_product a b = by_test (nat_eq a.cols b.rows) refl
     where
       by_test : (fits : Bool) → nat_eq a.cols b.rows ≡ fits
           → product_of R (plain_transpose R b) (plain_transpose R a) ≡ one R (plain_transpose R)
@@ -74,11 +74,11 @@ module _ (R : CommRing) where
           ∙ sym (ap (one R (plain_transpose R)) (if_false (nat_eq a.cols b.rows) _ (Err Shape) h))
 
   module _ {T : Type 0} (f : T → R.Carrier) where
-    pub sum_met : (turned : Bool) (x y z : Compressed T)
+    pub sum_met : (transposed : Bool) (x y z : Compressed T)
         → x.pattern.major_dim ≡ y.pattern.major_dim → x.pattern.minor_dim ≡ y.pattern.minor_dim
         → plain_of_rows R f z ≡ plain_sum R (plain_of_rows R f x) (plain_of_rows R f y)
-        → sum_of R (rows_or_turned R f turned x) (rows_or_turned R f turned y)
-        ≡ Ok (rows_or_turned R f turned z)
+        → sum_of R (rows_or_transposed R f transposed x) (rows_or_transposed R f transposed y)
+        ≡ Ok (rows_or_transposed R f transposed z)
     sum_met true x y z er ec is =
         if_true _ (Ok (plain_sum R (plain_transpose R (plain_of_rows R f x))
         (plain_transpose R (plain_of_rows R f y)))) _
@@ -89,11 +89,11 @@ module _ (R : CommRing) where
         if_true _ (Ok (plain_sum R (plain_of_rows R f x) (plain_of_rows R f y))) _
         (sizes_met (plain_of_rows R f x) (plain_of_rows R f y) er ec) ∙ ap Ok (sym is)
 
-    pub difference_met : (turned : Bool) (x y z : Compressed T)
+    pub difference_met : (transposed : Bool) (x y z : Compressed T)
         → x.pattern.major_dim ≡ y.pattern.major_dim → x.pattern.minor_dim ≡ y.pattern.minor_dim
         → plain_of_rows R f z ≡ plain_difference R (plain_of_rows R f x) (plain_of_rows R f y)
-        → difference_of R (rows_or_turned R f turned x) (rows_or_turned R f turned y)
-        ≡ Ok (rows_or_turned R f turned z)
+        → difference_of R (rows_or_transposed R f transposed x) (rows_or_transposed R f transposed y)
+        ≡ Ok (rows_or_transposed R f transposed z)
     difference_met true x y z er ec is =
         if_true _ (Ok (plain_difference R (plain_transpose R (plain_of_rows R f x))
         (plain_transpose R (plain_of_rows R f y)))) _
@@ -104,25 +104,25 @@ module _ (R : CommRing) where
         if_true _ (Ok (plain_difference R (plain_of_rows R f x) (plain_of_rows R f y))) _
         (sizes_met (plain_of_rows R f x) (plain_of_rows R f y) er ec) ∙ ap Ok (sym is)
 
-    pub negation_met : (turned : Bool) (x z : Compressed T)
+    pub negation_met : (transposed : Bool) (x z : Compressed T)
         → plain_of_rows R f z ≡ plain_negation R (plain_of_rows R f x)
-        → plain_negation R (rows_or_turned R f turned x) ≡ rows_or_turned R f turned z
+        → plain_negation R (rows_or_transposed R f transposed x) ≡ rows_or_transposed R f transposed z
     negation_met true x z is = ap (plain_transpose R) (sym is)
     negation_met false x z is = sym is
 
     -- a product of transposes is the transpose of the product in reverse order
-    pub product_turned : {M : Type 0} (g : M → Compressed T) (x y : Compressed T)
+    pub product_transposed : {M : Type 0} (g : M → Compressed T) (x y : Compressed T)
         (r : Result M ExprError)
         → Meets R (λ m. plain_of_rows R f (g m))
         (product_of R (plain_of_rows R f y) (plain_of_rows R f x)) r
-        → Meets R (λ m. rows_or_turned R f true (g m))
-        (product_of R (rows_or_turned R f true x) (rows_or_turned R f true y)) r
-    product_turned g x y (Ok z) met =
-        turned_product (plain_of_rows R f y) (plain_of_rows R f x)
+        → Meets R (λ m. rows_or_transposed R f true (g m))
+        (product_of R (rows_or_transposed R f true x) (rows_or_transposed R f true y)) r
+    product_transposed g x y (Ok z) met =
+        transposed_product (plain_of_rows R f y) (plain_of_rows R f x)
         ∙ ap (one R (plain_transpose R)) met
-    product_turned g x y (Err e) met = elim met [
+    product_transposed g x y (Err e) met = elim met [
       | inl memory ↦ inl memory
-      | inr refused ↦ inr (turned_product (plain_of_rows R f y) (plain_of_rows R f x)
+      | inr refused ↦ inr (transposed_product (plain_of_rows R f y) (plain_of_rows R f x)
           ∙ ap (one R (plain_transpose R)) refused)
     ]
 

@@ -3,17 +3,17 @@ use Rattle.std.specs.Prelude.{◌≡◌, Bool, true, false, IfSome}
 use Rattle.sparse_algebra.specs.Algebra.{CommRing}
 use Rattle.sparse_base.specs.Coo.{Coo}
 use Rattle.sparse_base.specs.CooPlain.{plain_of_coo}
-use Rattle.sparse_expr.specs.InnerTurned.{rows_or_turned}
+use Rattle.sparse_expr.specs.InnerTransposed.{rows_or_transposed}
 use Rattle.sparse_expr.specs.declared.sources.Slot.{Slot}
 use Rattle.sparse_expr.specs.declared.sources.Source.{Source}
 
 module _ (R : CommRing) {T : Type 0} (f : T → R.Carrier) where
-  -- a matrix that is kept is that of the list, or its transpose if `turned`
+  -- a matrix that is kept is that of the list, or its transpose if `transposed`
   abbrev pub Keeps : Bool → Coo T → Slot T → Type 0
-  Keeps turned list slot = IfSome slot.matrix
-      (λ m. rows_or_turned R f turned m.value ≡ plain_of_coo R f list)
+  Keeps transposed list slot = IfSome slot.matrix
+      (λ m. rows_or_transposed R f transposed m.value ≡ plain_of_coo R f list)
 
   -- both ways of a source keep matrices of the list
   pub record Provides (list : Coo T) (source : Source T) : Type 0 where
     pub rows : Keeps false list source.rows
-    pub turned : Keeps true list source.turned
+    pub transposed : Keeps true list source.transposed

@@ -3,5 +3,5 @@ pub mod PostfixWords
 pub mod OneTree
 pub mod Run
 pub mod InnerRun
-pub mod InnerTurned
+pub mod InnerTransposed
 pub mod InnerSources

@@ -14,6 +14,7 @@ ghost use Rattle.sparse_expr.specs.declared.error.ExprError.TheVariants.{Input, 
 use crate::error::ExprError;
 use crate::evaluate::{evaluate_cols, evaluate_rows};
 use crate::expr::Expr;
+use sparse_algebra::learn;
 use sparse_algebra::scalar::W64;
 use sparse_base::coo::CooMatrix;
 use sparse_io::{
@@ -69,13 +70,12 @@ pub fn run<W: Sink>(
     match form {
         Form::Rows => {
             let value = evaluate_rows(alloc, expr, &inputs)?;
-            // The call costs nothing: its contract tells the prover that the matrix is sound.
-            let _ = value.values();
+            learn(value.values());
             save(alloc, &value, out)
         }
         Form::Cols => {
             let value = evaluate_cols(alloc, expr, &inputs)?;
-            let _ = value.values();
+            learn(value.values());
             save(alloc, &value, out)
         }
     }

@@ -6,7 +6,7 @@ ghost use Rattle.sparse_algebra.specs.Plain.{plain_negation};
 ghost use Rattle.sparse_base.specs.CooPlain.{plain_of_coo};
 ghost use Rattle.sparse_cs.specs.PlainOfLanes.{plain_of_rows, plain_of_cols};
 ghost use Rattle.sparse_expr.specs.Value.{value_of, Meets, sum_of, difference_of, product_of};
-ghost use Rattle.sparse_expr.specs.InnerTurned.{rows_or_turned};
+ghost use Rattle.sparse_expr.specs.InnerTransposed.{rows_or_transposed};
 ghost use Rattle.sparse_expr.specs.InnerSources.{Provides};
 
 use crate::error::ExprError;
@@ -16,7 +16,7 @@ use sparse_algebra::scalar::Ring;
 use sparse_base::coo::CooMatrix;
 use sparse_forms::csc::CscMatrix;
 use sparse_forms::csr::CsrMatrix;
-use sparse_ops::serial::mul_csr;
+use sparse_products::serial::mul_csr;
 use sparse_sums::{add_csr, sub_csr};
 use std::alloc::{AllocError, Global};
 use std::rc::Rc;
@@ -50,24 +50,24 @@ pub fn evaluate_cols<T: Ring>(
         (value_of T.ring (map (λ m. plain_of_coo T.ring T.value m) inputs.now) expr.now) result }
 {
     match value(alloc, expr, inputs, true) {
-        Ok(turned) => Ok(turned.transpose_as_csc()),
+        Ok(transposed) => Ok(transposed.transpose_as_csc()),
         Err(error) => Err(error),
     }
 }
 
-// The value of an expression by rows, or its transpose by rows if `turned`.
+// The value of an expression by rows, or its transpose by rows if `transposed`.
 fn value<T: Ring>(
     alloc: Global,
     expr: &Expr,
     inputs: &[CooMatrix<T>],
-    turned: bool,
+    transposed: bool,
 ) -> Result<CsrMatrix<T>, ExprError>
-    ensures { Meets T.ring (rows_or_turned T.ring T.value turned)
+    ensures { Meets T.ring (rows_or_transposed T.ring T.value transposed)
         (value_of T.ring (map (λ m. plain_of_coo T.ring T.value m) inputs.now) expr.now) result }
 {
     let mut sources = empty_sources(alloc, inputs)?;
-    count_uses(expr, turned, &mut sources);
-    let matrix = evaluate(alloc, expr, inputs, turned, &mut sources)?;
+    count_uses(expr, transposed, &mut sources);
+    let matrix = evaluate(alloc, expr, inputs, transposed, &mut sources)?;
     Ok(owned(alloc, matrix)?)
 }
 
@@ -81,40 +81,40 @@ fn owned<T: Ring>(alloc: Global, matrix: Rc<CsrMatrix<T>>) -> Result<CsrMatrix<T
     }
 }
 
-// The value of an expression by rows, or its transpose by rows if `turned`. The functions that it calls are not
+// The value of an expression by rows, or its transpose by rows if `transposed`. The functions that it calls are not
 // inlined, so that its frame stays small: it recurses once a level.
 fn evaluate<T: Ring>(
     alloc: Global,
     expr: &Expr,
     inputs: &[CooMatrix<T>],
-    turned: bool,
+    transposed: bool,
     sources: &mut [Source<T>],
 ) -> Result<Rc<CsrMatrix<T>>, ExprError>
     requires provides { AllZip (Provides T.ring T.value) inputs.now sources.old }
-    ensures met { Meets T.ring (λ m. rows_or_turned T.ring T.value turned m.value)
+    ensures met { Meets T.ring (λ m. rows_or_transposed T.ring T.value transposed m.value)
         (value_of T.ring (map (λ m. plain_of_coo T.ring T.value m) inputs.now) expr.now) result }
     ensures provides { OnOk result (AllZip (Provides T.ring T.value) inputs.now sources.new) }
 {
     match expr {
-        Expr::Input(number) => input(alloc, *number, inputs, turned, sources),
+        Expr::Input(number) => input(alloc, *number, inputs, transposed, sources),
         Expr::Add(a, b) => {
-            let first = evaluate(alloc, a, inputs, turned, sources)?;
-            let second = evaluate(alloc, b, inputs, turned, sources)?;
+            let first = evaluate(alloc, a, inputs, transposed, sources)?;
+            let second = evaluate(alloc, b, inputs, transposed, sources)?;
             sum(alloc, first, second)
         }
         Expr::Sub(a, b) => {
-            let minuend = evaluate(alloc, a, inputs, turned, sources)?;
-            let subtrahend = evaluate(alloc, b, inputs, turned, sources)?;
+            let minuend = evaluate(alloc, a, inputs, transposed, sources)?;
+            let subtrahend = evaluate(alloc, b, inputs, transposed, sources)?;
             difference(alloc, minuend, subtrahend)
         }
         Expr::Mul(a, b) => {
-            let left = evaluate(alloc, a, inputs, turned, sources)?;
-            let right = evaluate(alloc, b, inputs, turned, sources)?;
-            product(alloc, left, right, turned)
+            let left = evaluate(alloc, a, inputs, transposed, sources)?;
+            let right = evaluate(alloc, b, inputs, transposed, sources)?;
+            product(alloc, left, right, transposed)
         }
-        Expr::Transpose(a) => evaluate(alloc, a, inputs, !turned, sources),
+        Expr::Transpose(a) => evaluate(alloc, a, inputs, !transposed, sources),
         Expr::Neg(a) => {
-            let operand = evaluate(alloc, a, inputs, turned, sources)?;
+            let operand = evaluate(alloc, a, inputs, transposed, sources)?;
             negation(alloc, operand)
         }
     }
@@ -123,8 +123,8 @@ fn evaluate<T: Ring>(
 // The negation of a matrix, or of its transpose; in place if the matrix is not shared.
 #[inline(never)]
 fn negation<T: Ring>(alloc: Global, x: Rc<CsrMatrix<T>>) -> Result<Rc<CsrMatrix<T>>, ExprError>
-    ensures { (turned : Bool) → Meets T.ring (λ m. rows_or_turned T.ring T.value turned m.value)
-        (Ok (plain_negation T.ring (rows_or_turned T.ring T.value turned x.value))) result }
+    ensures { (transposed : Bool) → Meets T.ring (λ m. rows_or_transposed T.ring T.value transposed m.value)
+        (Ok (plain_negation T.ring (rows_or_transposed T.ring T.value transposed x.value))) result }
 {
     let negated = -owned(alloc, x)?;
     Ok(Rc::new(alloc, negated)?)
@@ -137,9 +137,9 @@ fn sum<T: Ring>(
     x: Rc<CsrMatrix<T>>,
     y: Rc<CsrMatrix<T>>,
 ) -> Result<Rc<CsrMatrix<T>>, ExprError>
-    ensures { (turned : Bool) → Meets T.ring (λ m. rows_or_turned T.ring T.value turned m.value)
-        (sum_of T.ring (rows_or_turned T.ring T.value turned x.value)
-        (rows_or_turned T.ring T.value turned y.value)) result }
+    ensures { (transposed : Bool) → Meets T.ring (λ m. rows_or_transposed T.ring T.value transposed m.value)
+        (sum_of T.ring (rows_or_transposed T.ring T.value transposed x.value)
+        (rows_or_transposed T.ring T.value transposed y.value)) result }
 {
     if x.nrows() != y.nrows() || x.ncols() != y.ncols() {
         return Err(ExprError::Shape);
@@ -154,9 +154,9 @@ fn difference<T: Ring>(
     x: Rc<CsrMatrix<T>>,
     y: Rc<CsrMatrix<T>>,
 ) -> Result<Rc<CsrMatrix<T>>, ExprError>
-    ensures { (turned : Bool) → Meets T.ring (λ m. rows_or_turned T.ring T.value turned m.value)
-        (difference_of T.ring (rows_or_turned T.ring T.value turned x.value)
-        (rows_or_turned T.ring T.value turned y.value)) result }
+    ensures { (transposed : Bool) → Meets T.ring (λ m. rows_or_transposed T.ring T.value transposed m.value)
+        (difference_of T.ring (rows_or_transposed T.ring T.value transposed x.value)
+        (rows_or_transposed T.ring T.value transposed y.value)) result }
 {
     if x.nrows() != y.nrows() || x.ncols() != y.ncols() {
         return Err(ExprError::Shape);
@@ -170,13 +170,13 @@ fn product<T: Ring>(
     alloc: Global,
     x: Rc<CsrMatrix<T>>,
     y: Rc<CsrMatrix<T>>,
-    turned: bool,
+    transposed: bool,
 ) -> Result<Rc<CsrMatrix<T>>, ExprError>
-    ensures { Meets T.ring (λ m. rows_or_turned T.ring T.value turned m.value)
-        (product_of T.ring (rows_or_turned T.ring T.value turned x.value)
-        (rows_or_turned T.ring T.value turned y.value)) result }
+    ensures { Meets T.ring (λ m. rows_or_transposed T.ring T.value transposed m.value)
+        (product_of T.ring (rows_or_transposed T.ring T.value transposed x.value)
+        (rows_or_transposed T.ring T.value transposed y.value)) result }
 {
-    if turned {
+    if transposed {
         multiply(alloc, y, x)
     } else {
         multiply(alloc, x, y)

@@ -5,7 +5,7 @@ ghost use Rattle.std.specs.List.{AllZip};
 ghost use Rattle.sparse_base.specs.Coo.{Coo};
 ghost use Rattle.sparse_base.specs.CooPlain.{plain_of_coo};
 ghost use Rattle.sparse_expr.specs.Value.{Meets, input_at};
-ghost use Rattle.sparse_expr.specs.InnerTurned.{rows_or_turned};
+ghost use Rattle.sparse_expr.specs.InnerTransposed.{rows_or_transposed};
 ghost use Rattle.sparse_expr.specs.InnerSources.{Keeps, Provides};
 
 use crate::error::ExprError;
@@ -29,7 +29,7 @@ pub(crate) struct Slot<T> {
 #[derive(Drop)]
 pub(crate) struct Source<T> {
     rows: Slot<T>,
-    turned: Slot<T>,
+    transposed: Slot<T>,
 }
 
 /// Returns a source for each input, without matrices.
@@ -46,57 +46,57 @@ pub(crate) fn empty_sources<T: Ring>(
             uses: 0,
             matrix: None,
         };
-        let turned = Slot {
+        let transposed = Slot {
             uses: 0,
             matrix: None,
         };
-        sources.push(Source { rows, turned })?;
+        sources.push(Source { rows, transposed })?;
     }
     Ok(sources)
 }
 
-/// Counts the uses of each source in an expression, or in its transpose if `turned`.
-pub(crate) fn count_uses<T: Ring>(expr: &Expr, turned: bool, sources: &mut [Source<T>])
+/// Counts the uses of each source in an expression, or in its transpose if `transposed`.
+pub(crate) fn count_uses<T: Ring>(expr: &Expr, transposed: bool, sources: &mut [Source<T>])
     ensures provides { (inputs : List (Coo T)) → AllZip (Provides T.ring T.value) inputs sources.old
         → AllZip (Provides T.ring T.value) inputs sources.new }
 {
     match expr {
-        Expr::Input(number) => count_use(*number, turned, sources),
+        Expr::Input(number) => count_use(*number, transposed, sources),
         Expr::Add(a, b) | Expr::Sub(a, b) | Expr::Mul(a, b) => {
-            count_uses(a, turned, sources);
-            count_uses(b, turned, sources);
+            count_uses(a, transposed, sources);
+            count_uses(b, transposed, sources);
         }
-        Expr::Transpose(a) => count_uses(a, !turned, sources),
-        Expr::Neg(a) => count_uses(a, turned, sources),
+        Expr::Transpose(a) => count_uses(a, !transposed, sources),
+        Expr::Neg(a) => count_uses(a, transposed, sources),
     }
 }
 
 // Counts one more use of the source of this number, counted from 1.
-fn count_use<T: Ring>(number: usize, turned: bool, sources: &mut [Source<T>])
+fn count_use<T: Ring>(number: usize, transposed: bool, sources: &mut [Source<T>])
     ensures provides { (inputs : List (Coo T)) → AllZip (Provides T.ring T.value) inputs sources.old
         → AllZip (Provides T.ring T.value) inputs sources.new }
 {
     if number > 0 && number <= sources.len() {
         let source = &mut sources[number - 1];
-        if turned {
-            source.turned.uses = source.turned.uses.saturating_add(1);
+        if transposed {
+            source.transposed.uses = source.transposed.uses.saturating_add(1);
         } else {
             source.rows.uses = source.rows.uses.saturating_add(1);
         }
     }
 }
 
-/// Returns an input by rows, or its transpose by rows if `turned`.
+/// Returns an input by rows, or its transpose by rows if `transposed`.
 #[inline(never)]
 pub(crate) fn input<T: Ring>(
     alloc: Global,
     number: usize,
     inputs: &[CooMatrix<T>],
-    turned: bool,
+    transposed: bool,
     sources: &mut [Source<T>],
 ) -> Result<Rc<CsrMatrix<T>>, ExprError>
     requires provides { AllZip (Provides T.ring T.value) inputs.now sources.old }
-    ensures met { Meets T.ring (λ m. rows_or_turned T.ring T.value turned m.value)
+    ensures met { Meets T.ring (λ m. rows_or_transposed T.ring T.value transposed m.value)
         (input_at T.ring (map (λ m. plain_of_coo T.ring T.value m) inputs.now) number) result }
     ensures provides { OnOk result (AllZip (Provides T.ring T.value) inputs.now sources.new) }
 {
@@ -105,23 +105,23 @@ pub(crate) fn input<T: Ring>(
     }
     let list = &inputs[number - 1];
     let source = &mut sources[number - 1];
-    Ok(matrix_of(alloc, list, turned, source)?)
+    Ok(matrix_of(alloc, list, transposed, source)?)
 }
 
-// Returns the matrix of a list by rows, or its transpose by rows if `turned`.
+// Returns the matrix of a list by rows, or its transpose by rows if `transposed`.
 fn matrix_of<T: Ring>(
     alloc: Global,
     list: &CooMatrix<T>,
-    turned: bool,
+    transposed: bool,
     source: &mut Source<T>,
 ) -> Result<Rc<CsrMatrix<T>>, AllocError>
     requires provides { Provides T.ring T.value list.now source.old }
     ensures is { IfOk result
-        (λ m. rows_or_turned T.ring T.value turned m.value ≡ plain_of_coo T.ring T.value list.now) }
+        (λ m. rows_or_transposed T.ring T.value transposed m.value ≡ plain_of_coo T.ring T.value list.now) }
     ensures provides { OnOk result (Provides T.ring T.value list.now source.new) }
 {
-    if turned {
-        shared(alloc, list, true, &mut source.turned)
+    if transposed {
+        shared(alloc, list, true, &mut source.transposed)
     } else {
         shared(alloc, list, false, &mut source.rows)
     }
@@ -131,17 +131,17 @@ fn matrix_of<T: Ring>(
 fn shared<T: Ring>(
     alloc: Global,
     list: &CooMatrix<T>,
-    turned: bool,
+    transposed: bool,
     slot: &mut Slot<T>,
 ) -> Result<Rc<CsrMatrix<T>>, AllocError>
-    requires keeps { Keeps T.ring T.value turned list.now slot.old }
+    requires keeps { Keeps T.ring T.value transposed list.now slot.old }
     ensures is { IfOk result
-        (λ m. rows_or_turned T.ring T.value turned m.value ≡ plain_of_coo T.ring T.value list.now) }
-    ensures keeps { OnOk result (Keeps T.ring T.value turned list.now slot.new) }
+        (λ m. rows_or_transposed T.ring T.value transposed m.value ≡ plain_of_coo T.ring T.value list.now) }
+    ensures keeps { OnOk result (Keeps T.ring T.value transposed list.now slot.new) }
 {
     let matrix = match slot.matrix.take() {
         Some(matrix) => matrix,
-        None => Rc::new(alloc, converted(alloc, list, turned)?)?,
+        None => Rc::new(alloc, converted(alloc, list, transposed)?)?,
     };
     if slot.uses > 1 {
         slot.uses -= 1;
@@ -150,16 +150,16 @@ fn shared<T: Ring>(
     Ok(matrix)
 }
 
-// Converts a list by rows, or by columns read as the rows of the transpose if `turned`.
+// Converts a list by rows, or by columns read as the rows of the transpose if `transposed`.
 fn converted<T: Ring>(
     alloc: Global,
     list: &CooMatrix<T>,
-    turned: bool,
+    transposed: bool,
 ) -> Result<CsrMatrix<T>, AllocError>
     ensures is { IfOk result
-        (λ m. rows_or_turned T.ring T.value turned m ≡ plain_of_coo T.ring T.value list.now) }
+        (λ m. rows_or_transposed T.ring T.value transposed m ≡ plain_of_coo T.ring T.value list.now) }
 {
-    if turned {
+    if transposed {
         Ok(convert_coo_csc(alloc, list)?.transpose_as_csr())
     } else {
         convert_coo_csr(alloc, list)

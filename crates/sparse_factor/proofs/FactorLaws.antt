@@ -8,7 +8,7 @@ use Rattle.std.specs.Cmp.{IsEquivalence}
 use Rattle.std.specs.Cmp.Rules.{comparing}
 use Rattle.std.proofs.lemmas.Bool.Decides.{nat_tests, Decides-eqb}
 use Rattle.std.proofs.lemmas.Map.Made.{is_member-Decides}
-use Rattle.sparse_lemmas.proofs.Cases.{and_parts, and_both}
+use Rattle.sparse_algebra.proofs.Cases.{and_parts, and_both}
 use Rattle.sparse_pattern.specs.Raw.{Raw, lane_of, IsValid, IsPlace, raw_eq, HasSamePlaces}
 use Rattle.sparse_pattern.specs.TransposedPattern.{IsTransposedPattern}
 use Rattle.sparse_pattern.proofs.LaneLists.{lane_has}

@@ -8,7 +8,7 @@ use Rattle.std.proofs.lemmas.List.{get_or_append_left, get_or-append_right, take
 use Rattle.std.proofs.lemmas.List.{drop-append-le, length-drop}
 use Rattle.std.proofs.lemmas.List.Edits.{length-between}
 use Rattle.std.proofs.lemmas.List.Elements.{Contains-get_or}
-use Rattle.sparse_lemmas.proofs.Cases.{lt_or_ge}
+use Rattle.sparse_algebra.proofs.Cases.{lt_or_ge}
 use Rattle.sparse_pattern.proofs.LaneLists.{has_from_contains, contains_from_has}
 use Rattle.sparse_factor.specs.InnerColumns.{IsRun, IsInRun}
 

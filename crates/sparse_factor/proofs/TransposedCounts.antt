@@ -55,7 +55,7 @@ no_more_places d t valid-d valid-t into =
 
 pub transposed_count : (d t : Raw) → IsValid d → IsValid t → IsTransposedPattern d t
     → nnz_of t ≡ nnz_of d
-transposed_count d t valid-d valid-t turned =
-    let up = no_more_places d t valid-d valid-t (λ i j h. (turned.places i j).1 h) in
-    let down = no_more_places t d valid-t valid-d (λ j i h. (turned.places i j).0 h) in
+transposed_count d t valid-d valid-t transposed =
+    let up = no_more_places d t valid-d valid-t (λ i j h. (transposed.places i j).1 h) in
+    let down = no_more_places t d valid-t valid-d (λ j i h. (transposed.places i j).0 h) in
     omega arith

@@ -48,17 +48,17 @@ module _ (base : ℕ → ℕ → Type 0) (low : (i j : ℕ) → base i j → j �
       walk_join (walk_wider j (omega arith) (walk_of p)) j lt
       (walk_back (walk_wider j (omega arith) (walk_of q)))
 
-  turned : (i j : ℕ) → i ≡ j → base i j → base j i
-  turned i j e b = subst (λ x. base x i) e (subst (λ x. base i x) (sym e) b)
+  transposed : (i j : ℕ) → i ≡ j → base i j → base j i
+  transposed i j e b = subst (λ x. base x i) e (subst (λ x. base i x) (sym e) b)
 
   joined_filled : (i j : ℕ) → Joined base i j → (j ≤ i → Filled base i j)
       × (i ≤ j → Filled base j i)
   joined_filled i j (inl b) =
       let l : j ≤ i = low i j b in
-      ((λ h. given b), (λ h. let e : i ≡ j = omega arith in given (turned i j e b)))
+      ((λ h. given b), (λ h. let e : i ≡ j = omega arith in given (transposed i j e b)))
   joined_filled i j (inr b) =
       let l : i ≤ j = low j i b in
-      ((λ h. let e : j ≡ i = omega arith in given (turned j i e b)), (λ h. given b))
+      ((λ h. let e : j ≡ i = omega arith in given (transposed j i e b)), (λ h. given b))
 
   -- the ends of a walk whose inner nodes are below both are a place of the fill
   pub walk_any : (m i j : ℕ) → m ≤ i → m ≤ j → Walk base m i j → (j ≤ i → Filled base i j)

@@ -9,8 +9,9 @@ ghost use Rattle.sparse_factor.specs.declared.factorization.Triangle.{Triangle};
 ghost use Rattle.sparse_factor.specs.Walks.{StoresWalks, StoresDiagonal};
 ghost use Rattle.sparse_factor.specs.InnerFilled.{Filled};
 
+use sparse_algebra::learn;
 use sparse_base::steps::Steps;
-use sparse_counting::Count;
+use sparse_pattern::counting::Count;
 use sparse_pattern::pattern::SparsityPattern;
 use sparse_sums::spadd_pattern;
 use std::alloc::{AllocError, Global};
@@ -214,7 +215,7 @@ fn fill_of_upper(
         → steps.new ≤ steps.old + nnz_of pattern.now + length fill }
 {
     // Tells the prover that the pattern is valid.
-    let _ = pattern.major_offsets();
+    learn(pattern.major_offsets());
     let mirrored = pattern.transpose(alloc)?;
     fill_below(alloc, &mirrored, steps)
 }

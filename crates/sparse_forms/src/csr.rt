@@ -11,6 +11,7 @@ mod reading;
 mod transpose;
 mod writing;
 
+use sparse_algebra::learn;
 use crate::csc::CscMatrix;
 use sparse_cs::CsMatrix;
 pub use sparse_lanes::row::{CsrRow, CsrRowIter};
@@ -75,7 +76,7 @@ impl<T> CsrMatrix<T> {
     fn show_sound(&self)
         ensures sound { IsSound self.now }
     {
-        let _ = self.cs.values();
+        learn(self.cs.values());
     }
 
     /// Returns a matrix without stored places. Allocates `nrows + 1` offsets, and fails only if that allocation fails.

@@ -9,4 +9,4 @@ pub mod OneMeaning
 pub mod Parts
 pub mod PlaceLaws
 pub mod RoundTrip
-pub mod Turned
+pub mod Transposed

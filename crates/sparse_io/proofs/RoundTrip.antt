@@ -13,7 +13,7 @@ use Rattle.std.proofs.lemmas.Bool.Decides.{eqb_tells, nat_tests}
 use Rattle.std.proofs.lemmas.List.{length-map}
 use Rattle.std.proofs.lemmas.List.Concat.{flat_map-cons}
 use Rattle.std.proofs.lemmas.List.Elements.{recursion_from_All}
-use Rattle.sparse_lemmas.proofs.Cases.{and_parts}
+use Rattle.sparse_algebra.proofs.Cases.{and_parts}
 use Rattle.sparse_base.specs.Coo.{Coo, IsInside}
 use Rattle.sparse_parser.specs.declared.header.Format.TheVariants.{Coordinate}
 use Rattle.sparse_parser.specs.declared.header.Field.{Field}

@@ -109,10 +109,10 @@ impl<T> MatrixMarketExport<T> for CsrMatrix<T> {
 impl<T> MatrixMarketExport<T> for CscMatrix<T> {
     ghost use Rattle.std.specs.Prelude.{map};
     ghost use Rattle.sparse_base.specs.Coo.{coo_of};
-    ghost use Rattle.sparse_cs.specs.Compressed.{lane_triplets, turned};
+    ghost use Rattle.sparse_cs.specs.Compressed.{lane_triplets, transposed};
 
     ghost exported = { λ m. coo_of m.pattern.minor_dim m.pattern.major_dim
-        (map turned (lane_triplets m)) };
+        (map transposed (lane_triplets m)) };
 
     fn triplet_iter(&self) -> ExportIter<'_, T> {
         ExportIter::Csc(CscMatrix::triplet_iter(self))

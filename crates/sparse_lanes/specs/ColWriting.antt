@@ -5,7 +5,7 @@ use mathlib.Core.Option as maybe
 use mir.Syntax.{named}
 use Rattle.sparse_pattern.specs.SparseEntries.{entry_name}
 use Rattle.sparse_pattern.specs.declared.entry.SparseEntryMut.{SparseEntryMut}
-use Rattle.sparse_cs.specs.Compressed.{turned}
+use Rattle.sparse_cs.specs.Compressed.{transposed}
 use Rattle.sparse_cs.specs.Lanes.{Lane, lane_parts}
 use Rattle.sparse_cs.specs.Left.{triplets_left, lanes_left, triplet_values, lane_values}
 use Rattle.sparse_cs.specs.Writing.{index_in}
@@ -41,7 +41,7 @@ module _ {T : Type 0} where
 
   -- the remaining triplets (row, column, value)
   abbrev pub csc_triplets_left : CscTripletIterMut T → List (ℕ × ℕ × T)
-  csc_triplets_left it = map turned (triplets_left it.lanes)
+  csc_triplets_left it = map transposed (triplets_left it.lanes)
 
   -- the values that the iterators borrow mutably
   abbrev pub csc_triplet_values : CscTripletIterMut T → MutBor (List T)

@@ -4,6 +4,7 @@ ghost use Rattle.std.specs.Prelude.{◌≡◌, ⊤, length};
 ghost use Rattle.std.specs.Iterator.{YieldsFirst, item_count};
 ghost use Rattle.sparse_cs.specs.Lanes.{IsLaneEntryOf, IsSoundLane};
 
+use sparse_algebra::learn;
 use sparse_cs::{CsLane, CsLaneIter};
 use sparse_pattern::entry::SparseEntry;
 use std::alloc::AllocError;
@@ -72,7 +73,7 @@ impl<'a, T> CscCol<'a, T> {
         ensures sound { IsSoundLane self.now }
     {
         // Shows that the column is sound.
-        let _ = self.lane.values();
+        learn(self.lane.values());
         self.lane.get_entry(row_index)
     }
 }

@@ -2,7 +2,7 @@
 
 ghost use Rattle.std.specs.Prelude.{◌≡◌, ⊤, map};
 ghost use Rattle.std.specs.Iterator.{YieldsFirst, YieldsFirstBy, item_count};
-ghost use Rattle.sparse_cs.specs.Compressed.{turned};
+ghost use Rattle.sparse_cs.specs.Compressed.{transposed};
 ghost use Rattle.sparse_cs.specs.Left.{triplets_left, triplet_values};
 ghost use Rattle.sparse_lanes.specs.ColWriting.{csc_triplets_left, csc_triplet_values};
 
@@ -18,11 +18,11 @@ pub struct CscTripletIter<'a, T> {
 
 impl<'a, T> Model for CscTripletIter<'a, T> {
     ghost use Rattle.std.specs.Prelude.{ℕ, List, map};
-    ghost use Rattle.sparse_cs.specs.Compressed.{turned};
+    ghost use Rattle.sparse_cs.specs.Compressed.{transposed};
 
     ghost Value = { List (ℕ × ℕ × T) };
 
-    ghost view = { λ it. map turned it.lanes };
+    ghost view = { λ it. map transposed it.lanes };
 }
 
 impl<'a, T> CscTripletIter<'a, T> {
@@ -31,7 +31,7 @@ impl<'a, T> CscTripletIter<'a, T> {
     /// For the crates of this library.
     #[doc(hidden)]
     pub fn from_triplets(triplets: CsTripletIter<'a, T>) -> Self
-        ensures { result ≡ map turned triplets.entry }
+        ensures { result ≡ map transposed triplets.entry }
     {
         CscTripletIter { lanes: triplets }
     }
@@ -83,11 +83,11 @@ pub struct CscTripletValues<'a, T> {
 
 impl<'a, T> Model for CscTripletValues<'a, T> {
     ghost use Rattle.std.specs.Prelude.{ℕ, List, map};
-    ghost use Rattle.sparse_cs.specs.Compressed.{turned};
+    ghost use Rattle.sparse_cs.specs.Compressed.{transposed};
 
     ghost Value = { List (ℕ × ℕ × T) };
 
-    ghost view = { λ it. map turned it.lanes };
+    ghost view = { λ it. map transposed it.lanes };
 }
 
 impl<'a, T: Copy> Iterator for CscTripletValues<'a, T> {
@@ -130,7 +130,7 @@ impl<'a, T> CscTripletIterMut<'a, T> {
     #[doc(hidden)]
     pub fn from_triplets(triplets: CsTripletIterMut<'a, T>) -> Self
         ensures same_values { csc_triplet_values result ≡ triplet_values triplets.entry }
-        ensures all { csc_triplets_left result ≡ map turned (triplets_left triplets.entry) }
+        ensures all { csc_triplets_left result ≡ map transposed (triplets_left triplets.entry) }
     {
         CscTripletIterMut { lanes: triplets }
     }

@@ -10,14 +10,15 @@ ghost use Rattle.sparse_pattern.specs.Raw.{Raw, IsPlace};
 ghost use Rattle.sparse_cs.specs.Compressed.{Compressed, IsSound};
 ghost use Rattle.sparse_cs.specs.PlainOfLanes.{plain_of_rows};
 ghost use Rattle.sparse_sums.specs.PatternSums.{IsUnionOf};
-ghost use Rattle.sparse_ops.specs.Products.{IsProductOf};
+ghost use Rattle.sparse_products.specs.Products.{IsProductOf};
 
 pub mod columns;
 
+use sparse_algebra::learn;
 use sparse_algebra::scalar::Ring;
 use sparse_forms::csr::CsrMatrix;
-use sparse_ops::serial::{add_csr, mul_csr, neg_csr, sub_csr};
-use sparse_ops::transposes::transposed_csr;
+use sparse_products::serial::{add_csr, mul_csr, neg_csr, sub_csr};
+use sparse_products::transposes::transposed_csr;
 use std::alloc::{AllocError, Global};
 
 /// Returns `a * (b + c)` and `a * b + a * c`, which are equal. Fails only if an allocation fails.
@@ -87,8 +88,7 @@ pub fn identity_times<T: Ring>(alloc: Global, a: &CsrMatrix<T>) -> Result<CsrMat
     ensures { IfOk result
         (λ m. plain_of_rows T.ring T.value m ≡ plain_of_rows T.ring T.value a.now) }
 {
-    // The call costs nothing: its contract tells the prover that the matrix is sound.
-    let _ = a.values();
+    learn(a.values());
     let identity = CsrMatrix::identity(alloc, a.nrows())?;
     mul_csr(alloc, &identity, a)
 }
@@ -98,8 +98,7 @@ pub fn times_identity<T: Ring>(alloc: Global, a: &CsrMatrix<T>) -> Result<CsrMat
     ensures { IfOk result
         (λ m. plain_of_rows T.ring T.value m ≡ plain_of_rows T.ring T.value a.now) }
 {
-    // The call costs nothing: its contract tells the prover that the matrix is sound.
-    let _ = a.values();
+    learn(a.values());
     let identity = CsrMatrix::identity(alloc, a.ncols())?;
     mul_csr(alloc, a, &identity)
 }

@@ -2,7 +2,7 @@
 -- contains the places of the matrix.
 use Rattle.std.proofs.Common.{◌≡◌, ℕ, zero, suc, ◌<◌, ◌≤◌, ◌⊎◌, inl, inr, Bool, true, false, ap}
 use Rattle.std.proofs.Common.{sym, ◌∙◌, refl, arith}
-use Rattle.sparse_lemmas.proofs.Cases.{true_or_false}
+use Rattle.sparse_algebra.proofs.Cases.{true_or_false}
 use Rattle.sparse_algebra.specs.Algebra.{CommRing}
 use Rattle.sparse_algebra.specs.Sums.{sum_below}
 use Rattle.sparse_algebra.proofs.RingLemmas.{zero_add}

@@ -2,7 +2,7 @@
 use Rattle.std.proofs.Common.{◌≡◌, ◌≢◌, ℕ, ◌+◌, ◌<◌, inl, inr, true, false, List, length}
 use Rattle.std.proofs.Common.{get_or, set, ap, sym, ◌∙◌, arith, add-one}
 use Rattle.std.proofs.Common.{get_or-set_same, get_or-set_other}
-use Rattle.sparse_lemmas.proofs.Cases.{lt_or_ge, true_or_false}
+use Rattle.sparse_algebra.proofs.Cases.{lt_or_ge, true_or_false}
 use Rattle.sparse_algebra.specs.Algebra.{CommRing}
 use Rattle.sparse_algebra.proofs.RingLemmas.{zero_add}
 use Rattle.sparse_pattern.specs.Raw.{Raw, IsPlace, IsValid}
@@ -11,7 +11,7 @@ use Rattle.sparse_cs.specs.Compressed.{Compressed, compressed_of, IsSound, IsPos
 use Rattle.sparse_cs.specs.PlainOfLanes.{plain_of_cols}
 use Rattle.sparse_cs.proofs.Arrays.{value_at_position}
 use Rattle.sparse_solve.specs.InnerColumns.{entries}
-use Rattle.sparse_units.specs.Inverses.{HasInverse}
+use Rattle.sparse_algebra.specs.Inverses.{HasInverse}
 use Rattle.sparse_ldl.specs.InnerColumns.{AreColumnsDone, AreCursors, ArePartFactors}
 use Rattle.sparse_ldl.specs.InnerColumns.{IsColumnMoved, IsFilledPattern, IsIncluded, IsLeft}
 use Rattle.sparse_ldl.proofs.ClosedSets.{IsClosed, IsZeroOutside, clash}

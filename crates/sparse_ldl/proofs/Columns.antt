@@ -1,11 +1,11 @@
 -- The law by columns: the equation at (j, j) fixes the pivot j, and those below it fix column j of
 -- the triangle, since the pivot has an inverse. Nothing else is cancelled.
 use Rattle.std.proofs.Common.{◌≡◌, ℕ, zero, suc, ◌<◌, ◌≤◌, inl, inr, ap, sym, subst, ◌∙◌, arith}
-use Rattle.sparse_lemmas.proofs.Cases.{three}
+use Rattle.sparse_algebra.proofs.Cases.{three}
 use Rattle.sparse_algebra.specs.Algebra.{CommRing}
 use Rattle.sparse_algebra.specs.Sums.{sum_below}
 use Rattle.sparse_algebra.proofs.SumLemmas.{sum_below-same}
-use Rattle.sparse_units.specs.Inverses.{HasInverse}
+use Rattle.sparse_algebra.specs.Inverses.{HasInverse}
 use Rattle.sparse_ldl.specs.InnerColumns.{term, ArePartFactors}
 use Rattle.sparse_ldl.proofs.RingFacts.{mul_off_right, one_mul, cancel_mul, cancel_left}
 use Rattle.sparse_ldl.proofs.RingFacts.{sum_below-cut}
@@ -43,13 +43,13 @@ module _ (R : CommRing) {X : Type 0} (f : X → R.Carrier) where
       → (i j : ℕ) → i < n → j < n → sum_below R n (term R l d i j) ≡ m i j
   equations_of_part n m l d symmetric h i j a b = elim (three i j) [
     | inl less ↦ sum_below-same R n (term R l d i j) (term R l d j i)
-        (λ k _. turned (l i k) (d k) (l j k)) ∙ low j i b a (omega arith) ∙ symmetric j i
+        (λ k _. transposed (l i k) (d k) (l j k)) ∙ low j i b a (omega arith) ∙ symmetric j i
     | inr (inl more) ↦ low i j a b (omega arith)
     | inr (inr is) ↦ low i j a b (omega (arith, is))
   ]
     where
-      turned : (x y z : R.Carrier) → R.mul (R.mul x y) z ≡ R.mul (R.mul z y) x
-      turned x y z = R.laws.mul_comm (R.mul x y) z ∙ ap (R.mul z) (R.laws.mul_comm x y)
+      transposed : (x y z : R.Carrier) → R.mul (R.mul x y) z ≡ R.mul (R.mul z y) x
+      transposed x y z = R.laws.mul_comm (R.mul x y) z ∙ ap (R.mul z) (R.laws.mul_comm x y)
           ∙ sym (R.laws.mul_assoc z y x)
 
       low : (i j : ℕ) → i < n → j < n → j ≤ i → sum_below R n (term R l d i j) ≡ m i j

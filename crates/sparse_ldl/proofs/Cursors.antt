@@ -2,7 +2,7 @@
 use Rattle.std.proofs.Common.{◌≡◌, ◌≢◌, ℕ, ◌+◌, ◌<◌, ◌≤◌, inl, inr, List, length, get_or, set, ap}
 use Rattle.std.proofs.Common.{slice_index, sym, subst, ◌∙◌, arith, get_or-set_same}
 use Rattle.std.proofs.Common.{get_or-set_other}
-use Rattle.sparse_lemmas.proofs.Cases.{three, same_or_not, lt_add_one_cases, le_cases}
+use Rattle.sparse_algebra.proofs.Cases.{three, same_or_not, lt_add_one_cases, le_cases}
 use Rattle.sparse_pattern.specs.Raw.{Raw, end_of, IsPlace, IsValid}
 use Rattle.sparse_pattern.proofs.PatternLanes.{rises_at}
 use Rattle.sparse_ldl.specs.InnerColumns.{AreCursors, IsCursor, IsRowOf}

@@ -8,7 +8,7 @@ use Rattle.sparse_cs.proofs.Arrays.{proper_rows}
 use Rattle.sparse_ldl.specs.Factorisations.{IsFactorisation, plain_upper}
 use Rattle.sparse_ldl.specs.Factors.{symmetric_of}
 use Rattle.sparse_ldl.specs.InnerColumns.{ArePartFactors}
-use Rattle.sparse_ldl.proofs.PlainProducts.{columns_of, factorisation_of, symmetric-turned}
+use Rattle.sparse_ldl.proofs.PlainProducts.{columns_of, factorisation_of, symmetric-transposed}
 use Rattle.sparse_ldl.proofs.UpperTriangles.{lower_symmetric, part_same}
 
 module _ (R : CommRing) {T : Type 0} (f : T → R.Carrier) (a t : Compressed T)
@@ -24,7 +24,7 @@ module _ (R : CommRing) {T : Type 0} (f : T → R.Carrier) (a t : Compressed T)
       → IsFactorisation R f (symmetric_of R f a) l d
   factors_of_part n l d size rows square part =
       factorisation_of R f (symmetric_of R f a) l d rows square
-      (symmetric-turned R (plain_of_cols R f a))
+      (symmetric-transposed R (plain_of_cols R f a))
       (subst (λ n. ArePartFactors R f n n (symmetric_of R f a).value l.value d) size
       (part_same R f n n (plain_of_cols R f t).value (symmetric_of R f a).value l.value d below_same
       part))

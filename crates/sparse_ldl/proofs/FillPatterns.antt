@@ -2,7 +2,7 @@
 use Rattle.std.proofs.Common.{◌≡◌, ℕ, ◌≤◌, true, ◌&&◌, ap, sym, ◌∙◌, arith}
 use Rattle.std.specs.Prelude.{nat_le}
 use Rattle.std.proofs.lemmas.Bool.Decides.{nat_tests}
-use Rattle.sparse_lemmas.proofs.Cases.{and_parts}
+use Rattle.sparse_algebra.proofs.Cases.{and_parts}
 use Rattle.sparse_algebra.specs.Algebra.{CommRing}
 use Rattle.sparse_algebra.specs.Plain.{Plain}
 use Rattle.sparse_pattern.specs.Raw.{Raw, IsPlace}
@@ -43,10 +43,10 @@ module _ (R : CommRing) {T : Type 0} (f : T → R.Carrier) (a u : Compressed T) 
   -- the places of the transposed upper triangle
   pub lower_places : (t : Compressed T) → IsTransposedPattern u.pattern t.pattern → (i j : ℕ)
       → IsPlace t.pattern j i → UpperBase a.pattern i j
-  lower_places t turned i j place =
+  lower_places t transposed i j place =
       let kept : ((plain_of_cols R f a).has j i && nat_le j i) ≡ true =
       sym (ap (λ (m : Plain R). m.has j i) upper)
-      ∙ place_has R f u su j i ((turned.places i j).0 place) in
+      ∙ place_has R f u su j i ((transposed.places i j).0 place) in
       let parts = and_parts ((plain_of_cols R f a).has j i) (nat_le j i) kept in
       (has_place R f a sa j i parts.0, is_le j i parts.1)
 

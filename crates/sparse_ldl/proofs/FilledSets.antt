@@ -1,6 +1,6 @@
 -- The places of a filled pattern, as a set of pairs.
 use Rattle.std.proofs.Common.{◌≡◌, ℕ, ◌<◌, inl, inr, true, false, arith}
-use Rattle.sparse_lemmas.proofs.Cases.{true_or_false}
+use Rattle.sparse_algebra.proofs.Cases.{true_or_false}
 use Rattle.sparse_algebra.specs.Algebra.{CommRing}
 use Rattle.sparse_pattern.specs.Raw.{IsPlace}
 use Rattle.sparse_cs.specs.Compressed.{Compressed, IsSound}

@@ -1,7 +1,7 @@
 -- What the first columns leave of column j.
 use Rattle.std.proofs.Common.{◌≡◌, ◌≢◌, ℕ, zero, suc, ◌+◌, ◌-◌, ◌<◌, ◌≤◌, inl, inr, List, length}
 use Rattle.std.proofs.Common.{slice_index, ap, subst, ◌∙◌, arith}
-use Rattle.sparse_lemmas.proofs.Cases.{three}
+use Rattle.sparse_algebra.proofs.Cases.{three}
 use Rattle.sparse_algebra.specs.Algebra.{CommRing}
 use Rattle.sparse_algebra.specs.Sums.{sum_below}
 use Rattle.sparse_algebra.proofs.RingLemmas.{zero_add}

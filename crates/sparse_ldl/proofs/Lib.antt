@@ -9,7 +9,7 @@ pub mod LaneCuts
 pub mod FilledSets
 pub mod FillPatterns
 pub mod SolvedFactors
-pub mod TurnedRows
+pub mod TransposedRows
 pub mod RowEntries
 pub mod UpperTriangles
 pub mod FactorsOfFill

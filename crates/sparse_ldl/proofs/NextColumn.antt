@@ -1,11 +1,11 @@
 -- A column more of a factorisation, on the places of a set that is closed under fill.
 use Rattle.std.proofs.Common.{◌≡◌, ◌≢◌, ℕ, suc, ◌<◌, ◌≤◌, inl, inr, Bool, true, false, ap, sym}
 use Rattle.std.proofs.Common.{subst, ◌∙◌, arith}
-use Rattle.sparse_lemmas.proofs.Cases.{three, true_or_false}
+use Rattle.sparse_algebra.proofs.Cases.{three, true_or_false}
 use Rattle.sparse_algebra.specs.Algebra.{CommRing}
 use Rattle.sparse_algebra.specs.Sums.{sum_below}
 use Rattle.sparse_algebra.proofs.SumLemmas.{sum_below-same}
-use Rattle.sparse_units.specs.Inverses.{HasInverse}
+use Rattle.sparse_algebra.specs.Inverses.{HasInverse}
 use Rattle.sparse_solve.proofs.RingSteps.{mul_off, divided}
 use Rattle.sparse_ldl.specs.InnerColumns.{term, ArePartFactors, IsLeft}
 use Rattle.sparse_ldl.proofs.RingFacts.{one_mul, trivial}

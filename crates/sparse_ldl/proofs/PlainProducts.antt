@@ -4,7 +4,7 @@ use Rattle.std.proofs.Common.{◌∙◌, refl, arith}
 use Rattle.std.specs.Prelude.{nat_eq, nat_lt}
 use Rattle.std.proofs.Math.Nat.{min_comm, max_comm}
 use Rattle.std.proofs.lemmas.Bool.Decides.{nat_tests}
-use Rattle.sparse_lemmas.proofs.Cases.{nat_eq_no}
+use Rattle.sparse_algebra.proofs.Cases.{nat_eq_no}
 use Rattle.sparse_algebra.specs.Algebra.{CommRing}
 use Rattle.sparse_algebra.specs.Sums.{sum_below, where_true}
 use Rattle.sparse_algebra.specs.Plain.{Plain}
@@ -51,9 +51,9 @@ module _ (R : CommRing) where
         (λ c lt. ap (λ x. R.mul x (l.value j c)) (scaled i c lt))
 
   -- a symmetric matrix
-  pub symmetric-turned : (a : Plain R) (i j : ℕ)
+  pub symmetric-transposed : (a : Plain R) (i j : ℕ)
       → (plain_symmetric R a).value i j ≡ (plain_symmetric R a).value j i
-  symmetric-turned a i j = ap (λ k. a.value k (max i j)) (min_comm i j)
+  symmetric-transposed a i j = ap (λ k. a.value k (max i j)) (min_comm i j)
       ∙ ap (a.value (min j i)) (max_comm i j)
 
   module _ {T : Type 0} (f : T → R.Carrier) (m l : Plain R) (d : ℕ → R.Carrier) where

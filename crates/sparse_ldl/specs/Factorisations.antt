@@ -3,7 +3,7 @@ use Rattle.std.specs.Prelude.{◌≡◌, ℕ, ◌<◌, nat_eq, nat_lt, nat_le, �
 use Rattle.sparse_algebra.specs.Algebra.{CommRing}
 use Rattle.sparse_algebra.specs.Sums.{where_true}
 use Rattle.sparse_algebra.specs.Plain.{Plain, plain_kept, plain_product, plain_transpose}
-use Rattle.sparse_units.specs.Inverses.{HasInverse}
+use Rattle.sparse_algebra.specs.Inverses.{HasInverse}
 use Rattle.sparse_solve.specs.Solutions.{HasSameValues}
 
 module _ (R : CommRing) where

@@ -10,7 +10,7 @@ use Rattle.sparse_cs.specs.Compressed.{Compressed, compressed_code, compressed_e
 use Rattle.sparse_cs.specs.Laws.{compressed_eq-laws, compressed_eq-equiv}
 use Rattle.sparse_cs.specs.PlainOfLanes.{plain_of_cols}
 use Rattle.sparse_factor.specs.Fill.{InFill, UpperBase, StoresByColumns}
-use Rattle.sparse_units.specs.Inverses.{HasInverse}
+use Rattle.sparse_algebra.specs.Inverses.{HasInverse}
 use Rattle.sparse_solve.specs.Solutions.{HasSameValues}
 use Rattle.sparse_ldl.specs.Factorisations.{IsFactorisation, IsUnitLower, plain_ldl}
 use Rattle.sparse_ldl.specs.Factorisations.{plain_symmetric}

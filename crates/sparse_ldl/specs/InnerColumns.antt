@@ -5,7 +5,7 @@ use Rattle.sparse_algebra.specs.Sums.{sum_below}
 use Rattle.sparse_pattern.specs.Raw.{Raw, start_of, end_of, IsInLane, IsPlace}
 use Rattle.sparse_cs.specs.Compressed.{Compressed, IsSound}
 use Rattle.sparse_cs.specs.PlainOfLanes.{plain_of_cols}
-use Rattle.sparse_units.specs.Inverses.{HasInverse}
+use Rattle.sparse_algebra.specs.Inverses.{HasInverse}
 use Rattle.sparse_solve.specs.InnerColumns.{entries}
 
 module _ (R : CommRing) where

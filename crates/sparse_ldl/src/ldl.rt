@@ -8,8 +8,8 @@ ghost use Rattle.sparse_factor.specs.Fill.{InFill, UpperBase, StoresByColumns};
 ghost use Rattle.sparse_ldl.specs.Factorisations.{IsUnitLower, plain_upper};
 ghost use Rattle.sparse_ldl.specs.Factors.{AreFactorsOf, AreOnlyFactorsOf, HasNoFactors};
 ghost use Rattle.sparse_ldl.specs.Factors.{HavePivots, plain_of_factors, symmetric_of};
-ghost use Rattle.sparse_op.specs.declared.error.OperationErrorKind.TheVariants.{OutOfMemory};
-ghost use Rattle.sparse_op.specs.declared.error.OperationErrorKind.TheVariants.{Singular};
+ghost use Rattle.sparse_algebra.specs.declared.error.OperationErrorKind.TheVariants.{OutOfMemory};
+ghost use Rattle.sparse_algebra.specs.declared.error.OperationErrorKind.TheVariants.{Singular};
 ghost use Rattle.sparse_solve.specs.Solutions.{HasSameValues, IsSolution};
 
 mod columns;
@@ -21,9 +21,11 @@ use solve::divide_columns;
 use sparse_base::dense::DMatrix;
 use sparse_factor::factorization::CscSymbolicCholesky;
 use sparse_forms::csc::CscMatrix;
-use sparse_op::{Op, OperationError};
+use sparse_algebra::learn;
+use sparse_algebra::error::OperationError;
+use sparse_algebra::operand::Op;
 use sparse_solve::spsolve_csc_lower_triangular;
-use sparse_units::Units;
+use sparse_algebra::scalar::Units;
 use std::alloc::{AllocError, Global};
 use std::marker::Model;
 
@@ -133,8 +135,7 @@ impl<T: Units> Ldl<T> {
             (plain_of_factors T.ring T.value T.zero_value self.now)
             (plain_of_dense T.ring T.value b.new) (plain_of_dense T.ring T.value b.old) }
     {
-        // The call costs nothing: its contract tells the prover that the matrix is sound.
-        let _ = self.l.values();
+        learn(self.l.values());
         // The solves refuse only over the ring in which one is zero, where any X is a solution.
         let _ = spsolve_csc_lower_triangular(Op::NoOp(&self.l), b);
         divide_columns(&self.d, b);

@@ -14,7 +14,7 @@ use Rattle.std.proofs.lemmas.Str.Ascii.{IsAscii-cons}
 use Rattle.std.proofs.lemmas.Str.{IsUtf8-from_ascii}
 use Rattle.std.proofs.lemmas.Fmt.{IsAscii-from_digits}
 use Rattle.std.proofs.lemmas.Bool.{ltb-true, ltb-false, eqb-true}
-use Rattle.sparse_lemmas.proofs.Cases.{and_parts}
+use Rattle.sparse_algebra.proofs.Cases.{and_parts}
 use Rattle.sparse_parser.specs.Grammar.{is_index, is_integer}
 use Rattle.std.specs.Char.{is_ascii_digit, digit_value}
 use Rattle.std.specs.Str.Parse.{digits_value_after}

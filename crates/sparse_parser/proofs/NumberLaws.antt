@@ -5,7 +5,7 @@ use Rattle.std.specs.List.{list_all, list_any}
 use Rattle.std.specs.Char.{is_ascii_digit}
 use Rattle.std.specs.Str.Parse.{without_leading_sign}
 use Rattle.std.proofs.lemmas.Bool.{ltb-true}
-use Rattle.sparse_lemmas.proofs.Cases.{and_parts}
+use Rattle.sparse_algebra.proofs.Cases.{and_parts}
 use Rattle.sparse_parser.specs.Bytes.{is_point, front, after}
 use Rattle.sparse_parser.specs.InnerBytes.{is_unscaled}
 use Rattle.sparse_parser.specs.Grammar.{is_index, is_integer, is_mantissa}

@@ -1,7 +1,7 @@
 -- Data that is free of faults so far, and the first fault from there.
 use Rattle.std.proofs.Common.{◌≡◌, ℕ, ◌+◌, ◌-◌, ◌<◌, ◌≤◌, ◌⊎◌, inl, inr, length, slice_index, refl}
 use Rattle.std.proofs.Common.{arith}
-use Rattle.sparse_lemmas.proofs.Cases.{le_cases}
+use Rattle.sparse_algebra.proofs.Cases.{le_cases}
 use Rattle.sparse_pattern.specs.Raw.{Raw, start_of, end_of, IsInLane, IsValidLane}
 use Rattle.sparse_pattern.specs.FirstFault.{IsBefore}
 use Rattle.sparse_pattern.specs.PatternFaults.{Spot, OffsetCount, FirstLast, LaneEnd, Bound, Fall}

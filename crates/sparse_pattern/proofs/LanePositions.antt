@@ -1,7 +1,7 @@
 -- Positions of lanes: each position is in one lane.
 use Rattle.std.proofs.Common.{◌≡◌, ℕ, zero, suc, ◌+◌, ◌-◌, ◌<◌, ◌≤◌, inl, inr, length, slice_index}
 use Rattle.std.proofs.Common.{subst, arith}
-use Rattle.sparse_lemmas.proofs.Cases.{lt_or_ge, three}
+use Rattle.sparse_algebra.proofs.Cases.{lt_or_ge, three}
 use Rattle.sparse_pattern.specs.Raw.{Raw, start_of, end_of, IsInLane, IsValid}
 
 -- offsets that rise from 0 to the number of indices

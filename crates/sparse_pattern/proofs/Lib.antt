@@ -1,3 +1,7 @@
+pub mod KeyCounts
+pub mod StableOrders
+pub mod CountLemmas
+pub mod Cursors
 pub mod PatternLanes
 pub mod LanePositions
 pub mod Positions

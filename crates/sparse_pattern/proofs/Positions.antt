@@ -2,7 +2,7 @@
 use Rattle.std.proofs.Common.{◌≡◌, ℕ, ◌<◌, ◌≤◌, inl, inr, length, get_or, slice_index, All, sym}
 use Rattle.std.proofs.Common.{subst, arith}
 use Rattle.std.proofs.lemmas.Grind.{get_or_default_zero}
-use Rattle.sparse_lemmas.proofs.Cases.{three}
+use Rattle.sparse_algebra.proofs.Cases.{three}
 use Rattle.sparse_pattern.specs.Raw.{Raw, start_of, IsInLane, IsValid}
 use Rattle.sparse_pattern.proofs.LanePositions as lanes
 use Rattle.sparse_pattern.proofs.LanePositions.{valid_lanes}

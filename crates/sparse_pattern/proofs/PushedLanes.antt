@@ -6,7 +6,7 @@ use Rattle.std.specs.List.Sorted.{IsStrictlyIncreasing}
 use Rattle.std.proofs.lemmas.List.{get_or_append_left, get_or_push, get_or-append_right}
 use Rattle.std.proofs.lemmas.List.{length_push, drop_at, take_all}
 use Rattle.std.proofs.lemmas.List.Elements.{Contains-get_or}
-use Rattle.sparse_lemmas.proofs.Cases.{lt_add_one_cases}
+use Rattle.sparse_algebra.proofs.Cases.{lt_add_one_cases}
 use Rattle.sparse_pattern.specs.Raw.{Raw, raw_of, start_of, end_of, lane_of, IsValidLane, IsValid}
 use Rattle.sparse_pattern.specs.Raw.{IsPlace}
 use Rattle.sparse_pattern.proofs.LaneLists.{lane_has}

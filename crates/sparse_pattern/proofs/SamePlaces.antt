@@ -7,7 +7,7 @@ use Rattle.std.specs.Cmp.Rules.{comparing}
 use Rattle.std.proofs.lemmas.Slice.Eq.{bytes_eq-Decides}
 use Rattle.std.proofs.lemmas.Grind.{same_number_lists}
 use Rattle.std.proofs.lemmas.Bool.Decides.{Decides-eqb}
-use Rattle.sparse_lemmas.proofs.Cases.{lt_or_ge}
+use Rattle.sparse_algebra.proofs.Cases.{lt_or_ge}
 use Rattle.sparse_pattern.specs.Raw.{Raw, raw_of, raw_eq, start_of, end_of, lane_of, IsValidLane}
 use Rattle.sparse_pattern.specs.Raw.{IsValid, IsPlace, HasSamePlaces}
 use Rattle.sparse_pattern.proofs.PatternLanes.{length-lane, get_or-lane, lane_rises}

@@ -8,3 +8,4 @@ pub mod TransposedPattern
 pub mod InnerTransposes
 pub mod Refill
 pub mod InnerGainedLanes
+pub mod Counting

@@ -9,7 +9,7 @@ use Rattle.std.proofs.lemmas.List.{get_or-drop, get_or_default, length-drop, dro
 use Rattle.std.proofs.lemmas.List.{drop-drop}
 use Rattle.std.proofs.lemmas.List.Edits.{get_or-between}
 use Rattle.std.proofs.lemmas.List.Elements.{All-drop}
-use Rattle.sparse_lemmas.proofs.Cases.{le_cases, nat_eq_no}
+use Rattle.sparse_algebra.proofs.Cases.{le_cases, nat_eq_no}
 use Rattle.sparse_algebra.specs.Algebra.{CommRing}
 use Rattle.sparse_algebra.proofs.RingLemmas.{zero_add}
 use Rattle.sparse_pattern.specs.Raw.{Raw, start_of, end_of, lane_of}

@@ -10,7 +10,8 @@ use Rattle.sparse_algebra.specs.Plain.{Plain, IsProper}
 use Rattle.sparse_cs.specs.InnerRows.{lane_value}
 use Rattle.sparse_cs.proofs.LaneValues.{product_by_lane}
 use Rattle.sparse_solve.specs.Solutions.{plain_lower}
-use Rattle.sparse_solve.specs.InnerColumns.{IsColumnBelow, dot_of, entries}
+use Rattle.sparse_solve.specs.InnerColumns.{IsColumnBelow, entries}
+use Rattle.sparse_algebra.specs.Sums.{dot_of}
 use Rattle.sparse_solve.proofs.Substitutions.{IsLower, IsBackward, backward_step}
 
 module _ (R : CommRing) (a : Plain R) where

@@ -6,9 +6,10 @@ use Rattle.std.proofs.lemmas.List.{get_or_default, get_or-drop, length-drop}
 use Rattle.std.proofs.lemmas.List.Edits.{get_or-between, length-between}
 use Rattle.sparse_algebra.specs.Algebra.{CommRing}
 use Rattle.sparse_algebra.proofs.RingLemmas.{mul_zero}
-use Rattle.sparse_units.proofs.Products.{mul_neg}
+use Rattle.sparse_algebra.proofs.Products.{mul_neg}
 use Rattle.sparse_cs.proofs.RowSums.{lane_step, sum_zip_more}
-use Rattle.sparse_solve.specs.InnerColumns.{AddsMultiple, dot_of, entries}
+use Rattle.sparse_solve.specs.InnerColumns.{AddsMultiple, entries}
+use Rattle.sparse_algebra.specs.Sums.{dot_of}
 
 -- an entry of a range is as the range says
 pub inside_at : (rows : List ℕ) (begin at end bound : ℕ) → begin ≤ at → at < end

@@ -4,7 +4,7 @@ use Rattle.std.proofs.Common.{ap, sym, ◌∙◌, refl, arith}
 use Rattle.std.specs.Prelude.{nat_lt, nat_le}
 use Rattle.std.proofs.Math.ListN.{get_or-map}
 use Rattle.std.proofs.lemmas.Bool.Decides.{nat_tests}
-use Rattle.sparse_lemmas.proofs.Cases.{lt_or_ge}
+use Rattle.sparse_algebra.proofs.Cases.{lt_or_ge}
 use Rattle.sparse_algebra.specs.Algebra.{CommRing}
 use Rattle.sparse_algebra.specs.Sums.{sum_below, where_true}
 use Rattle.sparse_algebra.specs.Plain.{Plain, IsProper, IsWithin, plain_product, plain_transpose}
@@ -16,9 +16,9 @@ use Rattle.sparse_algebra.proofs.PlainLaws.{within_transpose, within_plain_of_tr
 use Rattle.sparse_cs.specs.Compressed.{Compressed, IsSound, lane_triplets}
 use Rattle.sparse_cs.specs.PlainOfLanes.{plain_of_rows, plain_of_cols}
 use Rattle.sparse_cs.proofs.Inside.{lane_triplets-inside}
-use Rattle.sparse_op.specs.declared.operand.Op.{Op}
-use Rattle.sparse_op.specs.declared.operand.Op.TheVariants.{NoOp, Transpose}
-use Rattle.sparse_op.specs.Operands.{inner_of, plain_op}
+use Rattle.sparse_algebra.specs.declared.operand.Op.{Op}
+use Rattle.sparse_algebra.specs.declared.operand.Op.TheVariants.{NoOp, Transpose}
+use Rattle.sparse_algebra.specs.Operands.{inner_of, plain_op}
 use Rattle.sparse_base.specs.Dense.{Dense, value_at}
 use Rattle.sparse_base.specs.DensePlain.{plain_of_dense}
 use Rattle.sparse_solve.specs.Solutions.{IsSolution, plain_lower}

@@ -1,6 +1,6 @@
 -- What the ring laws give of sums, differences and inverses.
 use Rattle.std.proofs.Common.{◌≡◌, ◌≢◌, ℕ, zero, suc, ◌<◌, inl, inr, ap, sym, ◌∙◌, arith}
-use Rattle.sparse_lemmas.proofs.Cases.{three}
+use Rattle.sparse_algebra.proofs.Cases.{three}
 use Rattle.sparse_algebra.specs.Algebra.{CommRing}
 use Rattle.sparse_algebra.specs.Sums.{sum_below}
 use Rattle.sparse_algebra.proofs.RingLemmas.{add_cross, mul_zero}

@@ -4,7 +4,7 @@ use Rattle.std.proofs.Common.{slice_range, ap, sym, ◌∙◌, refl, arith}
 use Rattle.std.proofs.Math.Nat.{add-mul, mul-le-mul_right}
 use Rattle.std.proofs.lemmas.Grind.{common_steps}
 use Rattle.std.proofs.lemmas.Nat.{mul-add-lt}
-use Rattle.sparse_lemmas.proofs.Cases.{lt_or_gt}
+use Rattle.sparse_algebra.proofs.Cases.{lt_or_gt}
 use Rattle.sparse_algebra.specs.Algebra.{CommRing}
 use Rattle.sparse_algebra.proofs.SumLemmas.{sum_below-same}
 use Rattle.sparse_pattern.specs.Refill.{refill_from}

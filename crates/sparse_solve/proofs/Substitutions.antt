@@ -1,6 +1,6 @@
 -- Forward and backward substitution, a column of the triangle at a time.
 use Rattle.std.proofs.Common.{◌≡◌, ◌≢◌, ℕ, suc, ◌<◌, ◌≤◌, inl, inr, ap, sym, ◌∙◌, refl, arith}
-use Rattle.sparse_lemmas.proofs.Cases.{three}
+use Rattle.sparse_algebra.proofs.Cases.{three}
 use Rattle.sparse_algebra.specs.Algebra.{CommRing}
 use Rattle.sparse_algebra.specs.Sums.{sum_below}
 use Rattle.sparse_algebra.proofs.SumLemmas.{sum_below-same}

@@ -2,11 +2,11 @@
 use Rattle.std.proofs.Common.{◌≡◌, ℕ, ◌+◌, ◌-◌, ◌*◌, ◌<◌, ◌≤◌, inl, inr, List, length, get_or, set}
 use Rattle.std.proofs.Common.{slice_range, ap, sym, subst, ◌∙◌, refl, arith, add-one}
 use Rattle.std.proofs.Common.{get_or-set_same, get_or-set_other, length-set}
-use Rattle.sparse_lemmas.proofs.Cases.{lt_add_one_cases, lt_or_ge}
+use Rattle.sparse_algebra.proofs.Cases.{lt_add_one_cases, lt_or_ge}
 use Rattle.sparse_algebra.specs.Algebra.{CommRing}
 use Rattle.sparse_algebra.specs.Plain.{Plain, IsProper}
 use Rattle.sparse_algebra.proofs.RingLemmas.{mul_zero}
-use Rattle.sparse_units.proofs.Products.{mul_neg}
+use Rattle.sparse_algebra.proofs.Products.{mul_neg}
 use Rattle.sparse_base.specs.Dense.{Dense, value_at, column_of, with_column}
 use Rattle.sparse_cs.specs.Compressed.{Compressed}
 use Rattle.sparse_cs.specs.InnerRows.{lane_value}
@@ -14,7 +14,8 @@ use Rattle.sparse_cs.specs.PlainOfLanes.{plain_of_cols}
 use Rattle.sparse_cs.proofs.Arrays.{proper_rows}
 use Rattle.sparse_solve.specs.Solutions.{plain_lower}
 use Rattle.sparse_solve.specs.InnerColumns.{ChangesBlock, IsColumnBelow, IsTaken, SolvesColumn}
-use Rattle.sparse_solve.specs.InnerColumns.{SolvesList, TakesAnswer, column_entries, dot_of}
+use Rattle.sparse_solve.specs.InnerColumns.{SolvesList, TakesAnswer, column_entries}
+use Rattle.sparse_algebra.specs.Sums.{dot_of}
 use Rattle.sparse_solve.specs.InnerColumns.{entries, lower}
 use Rattle.sparse_solve.proofs.RingSteps.{add_off}
 use Rattle.sparse_solve.proofs.ColumnSteps.{lower_is, lower_zero, backward_column}

@@ -2,13 +2,13 @@
 use Rattle.std.proofs.Common.{◌≡◌, ℕ, ◌<◌, true, ap, sym, subst, ◌∙◌, refl, arith}
 use Rattle.std.specs.Prelude.{nat_le}
 use Rattle.std.proofs.lemmas.Bool.Decides.{nat_tests}
-use Rattle.sparse_lemmas.proofs.Cases.{and_both, and_parts}
+use Rattle.sparse_algebra.proofs.Cases.{and_both, and_parts}
 use Rattle.sparse_algebra.specs.Algebra.{CommRing}
 use Rattle.sparse_algebra.specs.Sums.{sum_below}
 use Rattle.sparse_algebra.specs.Plain.{Plain, IsProper, plain_transpose}
-use Rattle.sparse_op.specs.declared.operand.Op.{Op}
-use Rattle.sparse_op.specs.declared.operand.Op.TheVariants.{NoOp, Transpose}
-use Rattle.sparse_op.specs.Operands.{inner_of, plain_op}
+use Rattle.sparse_algebra.specs.declared.operand.Op.{Op}
+use Rattle.sparse_algebra.specs.declared.operand.Op.TheVariants.{NoOp, Transpose}
+use Rattle.sparse_algebra.specs.Operands.{inner_of, plain_op}
 use Rattle.sparse_solve.specs.Solutions.{plain_lower, IsSolution, HasPivot, HasSameValues}
 use Rattle.sparse_solve.specs.InnerColumns.{SolvesColumn}
 use Rattle.sparse_solve.proofs.ColumnSteps.{lower_is, lower_zero}

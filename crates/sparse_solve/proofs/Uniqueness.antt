@@ -1,6 +1,6 @@
 -- A triangular system has one solution.
 use Rattle.std.proofs.Common.{◌≡◌, ◌≢◌, ℕ, zero, suc, ◌+◌, ◌<◌, ◌≤◌, inl, inr, ap, sym, ◌∙◌, arith}
-use Rattle.sparse_lemmas.proofs.Cases.{three, lt_or_gt}
+use Rattle.sparse_algebra.proofs.Cases.{three, lt_or_gt}
 use Rattle.sparse_algebra.specs.Algebra.{CommRing}
 use Rattle.sparse_algebra.specs.Sums.{sum_below}
 use Rattle.sparse_algebra.proofs.RingLemmas.{cancel}

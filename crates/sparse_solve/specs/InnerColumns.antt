@@ -1,15 +1,15 @@
 -- A column of a lower triangle, and a column of a solution.
 use Rattle.std.specs.Prelude.{◌≡◌, ◌≢◌, ℕ, ◌<◌, ◌≤◌, true, List, All, length}
-use Rattle.std.specs.Prelude.{slice_index_or, slice_range, zip}
+use Rattle.std.specs.Prelude.{slice_index_or, slice_range}
 use Rattle.sparse_algebra.specs.Algebra.{CommRing}
-use Rattle.sparse_algebra.specs.Sums.{sum_below, sum_by}
+use Rattle.sparse_algebra.specs.Sums.{sum_below}
 use Rattle.sparse_algebra.specs.Plain.{Plain}
 use Rattle.sparse_base.specs.Dense.{Dense, value_at}
 use Rattle.sparse_cs.specs.InnerRows.{lane_value}
 use Rattle.sparse_cs.specs.Compressed.{Compressed}
 use Rattle.sparse_cs.specs.PlainOfLanes.{plain_of_cols}
-use Rattle.sparse_op.specs.declared.operand.Op.{Op}
-use Rattle.sparse_op.specs.Operands.{plain_op}
+use Rattle.sparse_algebra.specs.declared.operand.Op.{Op}
+use Rattle.sparse_algebra.specs.Operands.{plain_op}
 use Rattle.sparse_solve.specs.Solutions.{HasPivot, plain_lower}
 
 -- the positions from begin to end are some of both lists
@@ -41,10 +41,6 @@ module _ (R : CommRing) {T : Type 0} (f : T → R.Carrier) where
   -- what each scalar of a list means, and past its end what z means
   abbrev pub entries : T → List T → ℕ → R.Carrier
   entries z xs i = f (slice_index_or xs i z)
-
-  -- the sum of the values, each times x in its row
-  abbrev pub dot_of : List ℕ → List T → (ℕ → R.Carrier) → R.Carrier
-  dot_of rows values x = sum_by R (λ t. R.mul (f t.1) (x t.0)) (zip rows values)
 
 -- x solves the n equations with these coefficients and right sides
 abbrev pub SolvesColumn : (R : CommRing) → ℕ → (ℕ → ℕ → R.Carrier) → (ℕ → R.Carrier)

@@ -7,9 +7,8 @@ ghost use Rattle.sparse_solve.specs.InnerColumns.{HasPivots, SolvesList, lower};
 
 use crate::column::column_below;
 use crate::kernels::{dot, four_dots};
-use sparse_algebra::scalar::Ring;
+use sparse_algebra::scalar::{Ring, Units};
 use sparse_forms::csc::CscMatrix;
-use sparse_units::Units;
 
 // Solves `T^t x = b` over b, from the last row to the first.
 pub fn solve_backward<T: Units>(l: &CscMatrix<T>, x: &mut [T])

@@ -7,7 +7,7 @@ ghost use Rattle.sparse_solve.specs.Solutions.{HasPivot};
 ghost use Rattle.sparse_solve.specs.InnerColumns.{IsColumnIn};
 
 use sparse_forms::csc::CscMatrix;
-use sparse_units::Units;
+use sparse_algebra::scalar::Units;
 
 // The positions of a column's entries below its diagonal, and the inverse of its diagonal entry.
 #[derive(Clone, Copy)]

@@ -1,16 +1,16 @@
 //! Division of matrices by a scalar.
 
 ghost use Rattle.std.specs.Prelude.{◌≡◌, ◌↔◌, IfOk, IfErr, IsErr};
-ghost use Rattle.sparse_op.specs.declared.error.OperationErrorKind.TheVariants.{Singular};
-ghost use Rattle.sparse_units.specs.Inverses.{HasInverse};
+ghost use Rattle.sparse_algebra.specs.declared.error.OperationErrorKind.TheVariants.{Singular};
+ghost use Rattle.sparse_algebra.specs.Inverses.{HasInverse};
 
 mod csc;
 mod csr;
 
 pub use csc::{div_scalar_csc, div_scalar_mut_csc};
 pub use csr::{div_scalar_csr, div_scalar_mut_csr};
-use sparse_op::OperationError;
-use sparse_units::Units;
+use sparse_algebra::error::OperationError;
+use sparse_algebra::scalar::Units;
 
 // Returns the inverse of a scalar, or the error of a division by it.
 fn inverse_of<T: Units>(s: T) -> Result<T, OperationError>

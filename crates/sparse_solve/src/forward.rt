@@ -8,9 +8,8 @@ ghost use Rattle.sparse_solve.specs.InnerColumns.{lower};
 
 use crate::column::{Column, column_below};
 use crate::kernels::{divide_entry, subtract_four_multiples, subtract_multiple};
-use sparse_algebra::scalar::Ring;
+use sparse_algebra::scalar::{Ring, Units};
 use sparse_forms::csc::CscMatrix;
-use sparse_units::Units;
 
 // Solves `T x = b` over b, from the first row to the last.
 pub fn solve_forward<T: Units>(l: &CscMatrix<T>, x: &mut [T])

@@ -1,7 +1,8 @@
 //! The loops over a column's entries below the diagonal, which are a range of positions of the matrix.
 
 ghost use Rattle.std.specs.Prelude.{◌≡◌, ◌<◌, All, length, slice_index_or, slice_range, slice_set};
-ghost use Rattle.sparse_solve.specs.InnerColumns.{AddsMultiple, HasRange, dot_of, entries};
+ghost use Rattle.sparse_solve.specs.InnerColumns.{AddsMultiple, HasRange, entries};
+ghost use Rattle.sparse_algebra.specs.Sums.{dot_of};
 
 use sparse_algebra::scalar::Ring;
 

@@ -1,7 +1,7 @@
 //! Substitution over the columns of B, four side by side.
 
 ghost use Rattle.std.specs.Prelude.{◌≡◌, ℕ, ◌+◌, ◌*◌, ◌<◌, ◌≤◌, length, slice_index_or};
-ghost use Rattle.sparse_op.specs.Operands.{inner_of};
+ghost use Rattle.sparse_algebra.specs.Operands.{inner_of};
 ghost use Rattle.sparse_cs.specs.PlainOfLanes.{plain_of_cols};
 ghost use Rattle.sparse_solve.specs.InnerColumns.{ChangesBlock, HasPivots, SolvesColumn};
 ghost use Rattle.sparse_solve.specs.InnerColumns.{SolvesColumns, SolvesList, op_lower};
@@ -10,8 +10,8 @@ use crate::backward::{solve_backward, solve_four_backward};
 use crate::forward::{solve_forward, solve_four_forward};
 use sparse_base::dense::DMatrix;
 use sparse_forms::csc::CscMatrix;
-use sparse_op::Op;
-use sparse_units::Units;
+use sparse_algebra::operand::Op;
+use sparse_algebra::scalar::Units;
 
 // Solves `op(T) X = B` over B, some columns at a time.
 pub fn solve_columns<T: Units>(l: Op<&CscMatrix<T>>, b: &mut DMatrix<T>)

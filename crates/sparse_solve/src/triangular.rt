@@ -2,8 +2,8 @@
 
 ghost use Rattle.std.specs.Prelude.{◌≡◌, ◌<◌, ◌↔◌, IsErr, OnOk, OnErr, IfErr};
 ghost use Rattle.std.specs.Bool.{MatchBool};
-ghost use Rattle.sparse_op.specs.declared.error.OperationErrorKind.TheVariants.{Singular};
-ghost use Rattle.sparse_op.specs.Operands.{inner_of, plain_op};
+ghost use Rattle.sparse_algebra.specs.declared.error.OperationErrorKind.TheVariants.{Singular};
+ghost use Rattle.sparse_algebra.specs.Operands.{inner_of, plain_op};
 ghost use Rattle.sparse_base.specs.DensePlain.{plain_of_dense};
 ghost use Rattle.sparse_algebra.specs.Plain.{Plain};
 ghost use Rattle.sparse_cs.specs.Compressed.{Compressed, IsSound};
@@ -15,8 +15,9 @@ use crate::column::column_below;
 use crate::substitution::solve_columns;
 use sparse_base::dense::DMatrix;
 use sparse_forms::csc::CscMatrix;
-use sparse_op::{Op, OperationError};
-use sparse_units::Units;
+use sparse_algebra::error::OperationError;
+use sparse_algebra::operand::Op;
+use sparse_algebra::scalar::Units;
 
 /// Solves `op(T) X = B` in place, where `T` is the part of `l` on and below its diagonal. `b` holds B on entry and X on
 /// return.

@@ -8,7 +8,7 @@ use Rattle.std.proofs.lemmas.List.{get_or_default, get_or-take, length-take-le, 
 use Rattle.std.proofs.lemmas.List.{length-set, get_or-set_same, get_or-set_other}
 use Rattle.std.proofs.lemmas.List.Elements.{Contains-get_or}
 use Rattle.std.proofs.lemmas.List.Kept.{AllPairs-from_increasing}
-use Rattle.sparse_lemmas.proofs.Cases.{lt_or_ge, lt_add_one_cases, nat_eq_no}
+use Rattle.sparse_algebra.proofs.Cases.{lt_or_ge, lt_add_one_cases, nat_eq_no}
 use Rattle.sparse_algebra.specs.Algebra.{CommRing}
 use Rattle.sparse_algebra.specs.Sums.{where_true}
 use Rattle.sparse_algebra.proofs.RingLemmas.{mul_zero}

@@ -7,7 +7,7 @@ use Rattle.std.proofs.lemmas.List.{append-nil, take_more, take_all, drop_all, dr
 use Rattle.std.proofs.lemmas.List.{get_or_append_left, get_or_push, length_push}
 use Rattle.std.proofs.lemmas.List.Elements.{Contains-push, Contains-push_cases}
 use Rattle.std.proofs.lemmas.List.Elements.{Contains-append_left, Contains-get_or}
-use Rattle.sparse_lemmas.proofs.Cases.{lt_add_one_cases}
+use Rattle.sparse_algebra.proofs.Cases.{lt_add_one_cases}
 use Rattle.sparse_pattern.specs.InnerGainedLanes.{GainsLane}
 use Rattle.sparse_sums.specs.InnerMerging.{IsMerged, IsMerging}
 
@@ -206,8 +206,8 @@ module _ (old a b : List ℕ) (q : ℕ) (ra : IsStrictlyIncreasing a) (rb : IsSt
       (merging_first old now a b p q ra rb m x lt refl (λ left. absurd (omega arith))))
 
 module _ (old a b : List ℕ) (ra : IsStrictlyIncreasing a) (rb : IsStrictlyIncreasing b) where
-  turned : (now : List ℕ) (p q : ℕ) → IsMerging old now a b p q → IsMerging old now b a q p
-  turned now p q m = record {
+  transposed : (now : List ℕ) (p q : ℕ) → IsMerging old now a b p q → IsMerging old now b a q p
+  transposed now p q m = record {
     lane = m.lane;
     pushed = m.pushed;
     merged =
@@ -223,7 +223,7 @@ module _ (old a b : List ℕ) (ra : IsStrictlyIncreasing a) (rb : IsStrictlyIncr
         let none : drop p a ≡ [] = drop_all p a (omega arith) in
         let same : now ++ drop p a ≡ now = ap (λ l. now ++ l) none ∙ append-nil now in
         let b_rest = rest_first old b a p rb ra (omega arith) (length b - q) q now (omega arith)
-        (turned now p q m) in
+        (transposed now p q m) in
         let all : IsMerging old (now ++ drop q b) a b p (length b) =
         record {
           lane = b_rest.lane;

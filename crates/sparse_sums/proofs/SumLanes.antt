@@ -3,7 +3,7 @@ use Rattle.std.proofs.Common.{◌≡◌, ℕ, ◌+◌, ◌<◌, ◌⊎◌, inl, 
 use Rattle.std.proofs.Common.{◌∷◌, ◌++◌, length, Contains, ap, sym, subst, ◌∙◌, refl, arith}
 use Rattle.std.proofs.Common.{length-append}
 use Rattle.std.specs.Prelude.{nat_eq}
-use Rattle.sparse_lemmas.proofs.Cases.{or_cases, or_left, or_right}
+use Rattle.sparse_algebra.proofs.Cases.{or_cases, or_left, or_right}
 use Rattle.sparse_algebra.specs.Algebra.{CommRing}
 use Rattle.sparse_algebra.specs.Sums.{where_true}
 use Rattle.sparse_algebra.specs.Plain.{Plain, IsProper, plain_sum}

@@ -3,19 +3,21 @@ use Rattle.std.proofs.Common.{◌≡◌, ℕ, ◌↔◌, Bool, true, false, inl,
 use Rattle.std.proofs.Common.{refl}
 use Rattle.std.specs.Prelude.{Result, Ok, Err, IsOk, OnOk, OnErr}
 use Rattle.std.proofs.lemmas.List.{take_at}
-use Rattle.sparse_lemmas.proofs.Cases.{true_or_false}
+use Rattle.sparse_algebra.proofs.Cases.{true_or_false}
 use Rattle.sparse_algebra.specs.Algebra.{CommRing}
 use Rattle.sparse_algebra.specs.Plain.{IsProper, plain_transpose}
 use Rattle.sparse_algebra.proofs.RingLemmas.{mul_zero}
 use Rattle.sparse_algebra.proofs.PlainLaws.{proper_transpose}
 use Rattle.sparse_pattern.specs.Raw.{IsPlace}
-use Rattle.sparse_op.specs.Prealloc.{plain_update, IsCovered}
+use Rattle.sparse_algebra.specs.Prealloc.{plain_update, IsCovered}
 use Rattle.sparse_cs.specs.Compressed.{Compressed, compressed_of, IsSound}
 use Rattle.sparse_cs.specs.PlainOfLanes.{plain_of_rows, plain_of_cols}
 use Rattle.sparse_cs.specs.Writing.{with_values}
 use Rattle.sparse_cs.proofs.Arrays.{has_is_place, proper_rows, value_at_position}
 use Rattle.sparse_cs.proofs.Updates.{updated}
-use Rattle.sparse_sums.specs.InnerPlacing.{plain_turned, HasPlacesOf, AreAdded}
+use Rattle.sparse_sums.specs.InnerPlacing.{HasPlacesOf}
+use Rattle.sparse_cs.specs.InnerUpdates.{AreUpdated}
+use Rattle.sparse_algebra.specs.Prealloc.{plain_transpose_if}
 
 module _ (R : CommRing) {T : Type 0} (f : T → R.Carrier) (m a : Compressed T) (sm : IsSound m)
     (sa : IsSound a) where
@@ -26,9 +28,9 @@ module _ (R : CommRing) {T : Type 0} (f : T → R.Carrier) (m a : Compressed T) 
   there i j = has_is_place R f a.pattern sa.valid a.values sa.count i j
 
   -- the target has the places of the operand
-  pub covered_is : (turned : Bool)
-      → HasPlacesOf m.pattern turned a.pattern
-      ↔ IsCovered (plain_turned R turned (plain_of_rows R f a)) (plain_of_rows R f m)
+  pub covered_is : (transposed : Bool)
+      → HasPlacesOf m.pattern transposed a.pattern
+      ↔ IsCovered (plain_transpose_if R transposed (plain_of_rows R f a)) (plain_of_rows R f m)
   covered_is true = (
     λ h i j x. (here i j).1 (h j i ((there j i).0 x)),
     λ h i j x. (here j i).0 (h j i ((there i j).1 x)),
@@ -38,28 +40,28 @@ module _ (R : CommRing) {T : Type 0} (f : T → R.Carrier) (m a : Compressed T) 
     λ h i j x. (here i j).0 (h i j ((there i j).1 x)),
   )
 
-  turned_proper : (turned : Bool) → IsProper (plain_turned R turned (plain_of_rows R f a))
-  turned_proper true = proper_transpose R (plain_of_rows R f a) (proper_rows R f a)
-  turned_proper false = proper_rows R f a
+  transposed_proper : (transposed : Bool) → IsProper (plain_transpose_if R transposed (plain_of_rows R f a))
+  transposed_proper true = proper_transpose R (plain_of_rows R f a) (proper_rows R f a)
+  transposed_proper false = proper_rows R f a
 
-  pub updated_is : (z : T) (turned : Bool) (beta alpha : R.Carrier) (ws : List T)
+  pub updated_is : (z : T) (transposed : Bool) (beta alpha : R.Carrier) (ws : List T)
       → length ws ≡ length m.values
-      → HasPlacesOf m.pattern turned a.pattern
-      → AreAdded R f z m.pattern beta alpha (plain_turned R turned (plain_of_rows R f a)).value
+      → HasPlacesOf m.pattern transposed a.pattern
+      → AreUpdated R f z m.pattern beta alpha (plain_transpose_if R transposed (plain_of_rows R f a)).value
       m.values ws
       → plain_of_rows R f (compressed_of m.pattern ws) ≡ plain_update R beta (plain_of_rows R f m)
-      alpha (plain_turned R turned (plain_of_rows R f a))
-  updated_is z turned beta alpha ws long places added =
-      let x = plain_turned R turned (plain_of_rows R f a) in
+      alpha (plain_transpose_if R transposed (plain_of_rows R f a))
+  updated_is z transposed beta alpha ws long places added =
+      let x = plain_transpose_if R transposed (plain_of_rows R f a) in
       updated R f z m ws (plain_update R beta (plain_of_rows R f m) alpha x).value sm long
       (λ i j none.
       let off : x.has i j ≡ false = elim (true_or_false (x.has i j)) [
-        | inl hit ↦ let there = (covered_is turned).0 places i j hit in cc
+        | inl hit ↦ let there = (covered_is transposed).0 places i j hit in cc
         | inr miss ↦ miss
       ] in
       ap (λ c. R.add (R.mul beta c) (R.mul alpha (x.value i j))) (proper_rows R f m i j none)
       ∙ ap (λ c. R.add c (R.mul alpha (x.value i j))) (mul_zero R beta)
-      ∙ ap (λ c. R.add R.zero (R.mul alpha c)) (turned_proper turned i j off)
+      ∙ ap (λ c. R.add R.zero (R.mul alpha c)) (transposed_proper transposed i j off)
       ∙ ap (R.add R.zero) (mul_zero R alpha) ∙ R.laws.add_zero R.zero)
       (λ i j p at. added i j p at ∙ ap (λ c. R.add (R.mul beta c) (R.mul alpha (x.value i j)))
       (sym (value_at_position R f m.pattern sm.valid m.values sm.count z i j p at)))
@@ -84,34 +86,34 @@ unchanged_at_err (Err e) m ws vs is long same = written_back m ws long
     ∙ ap (compressed_of m.pattern) (same ∙ is)
 
 module _ (R : CommRing) {T : Type 0} (f : T → R.Carrier) (z : T) (m a : Compressed T)
-    (sm : IsSound m) (sa : IsSound a) (turned : Bool) {E : Type 0} (r : Result (Unit {0}) E)
-    (covered : IsOk r ↔ HasPlacesOf m.pattern turned a.pattern) where
+    (sm : IsSound m) (sa : IsSound a) (transposed : Bool) {E : Type 0} (r : Result (Unit {0}) E)
+    (covered : IsOk r ↔ HasPlacesOf m.pattern transposed a.pattern) where
   -- the refusals of a sum into a matrix by rows
-  pub rows_covered : IsOk r ↔ IsCovered (plain_turned R turned (plain_of_rows R f a))
+  pub rows_covered : IsOk r ↔ IsCovered (plain_transpose_if R transposed (plain_of_rows R f a))
       (plain_of_rows R f m)
   rows_covered = let same = covered_is R f m a sm sa
-      turned in (λ h. same.0 (covered.0 h), λ h. covered.1 (same.1 h))
+      transposed in (λ h. same.0 (covered.0 h), λ h. covered.1 (same.1 h))
 
   -- what it leaves
   pub rows_updated : (beta alpha : R.Carrier) (ws : List T) → length ws ≡ length m.values
-      → OnOk r (AreAdded R f z m.pattern beta alpha
-      (plain_turned R turned (plain_of_rows R f a)).value m.values ws)
+      → OnOk r (AreUpdated R f z m.pattern beta alpha
+      (plain_transpose_if R transposed (plain_of_rows R f a)).value m.values ws)
       → OnOk r (plain_of_rows R f (with_values m ws) ≡ plain_update R beta (plain_of_rows R f m)
-      alpha (plain_turned R turned (plain_of_rows R f a)))
+      alpha (plain_transpose_if R transposed (plain_of_rows R f a)))
   rows_updated beta alpha ws long added = on_ok_also r
       (λ ok values. ap (plain_of_rows R f) (written_back m ws long)
-      ∙ updated_is R f m a sm sa z turned beta alpha ws long (covered.0 ok) values) added
+      ∙ updated_is R f m a sm sa z transposed beta alpha ws long (covered.0 ok) values) added
 
   -- the same by columns
   pub cols_covered : IsOk r
-      ↔ IsCovered (plain_transpose R (plain_turned R turned (plain_of_rows R f a)))
+      ↔ IsCovered (plain_transpose R (plain_transpose_if R transposed (plain_of_rows R f a)))
       (plain_of_cols R f m)
   cols_covered = (λ h i j x. rows_covered.0 h j i x, λ h. rows_covered.1 (λ i j x. h j i x))
 
   pub cols_updated : (beta alpha : R.Carrier) (ws : List T) → length ws ≡ length m.values
-      → OnOk r (AreAdded R f z m.pattern beta alpha
-      (plain_turned R turned (plain_of_rows R f a)).value m.values ws)
+      → OnOk r (AreUpdated R f z m.pattern beta alpha
+      (plain_transpose_if R transposed (plain_of_rows R f a)).value m.values ws)
       → OnOk r (plain_of_cols R f (with_values m ws) ≡ plain_update R beta (plain_of_cols R f m)
-      alpha (plain_transpose R (plain_turned R turned (plain_of_rows R f a))))
+      alpha (plain_transpose R (plain_transpose_if R transposed (plain_of_rows R f a))))
   cols_updated beta alpha ws long added = on_ok_also r (λ _ same. ap (plain_transpose R) same)
       (rows_updated beta alpha ws long added)

@@ -9,6 +9,7 @@ ghost use Rattle.sparse_cs.specs.InnerRows.{lane_value};
 ghost use Rattle.sparse_cs.specs.PlainOfLanes.{plain_of_rows};
 ghost use Rattle.sparse_sums.specs.InnerPlacing.{HasIndicesOf, HasPlacesOf};
 
+use sparse_algebra::learn;
 use sparse_algebra::scalar::Ring;
 use sparse_cs::CsMatrix;
 use sparse_pattern::pattern::SparsityPattern;
@@ -18,9 +19,8 @@ pub(crate) fn covers_lanes(target: &SparsityPattern, a: &SparsityPattern) -> boo
     requires { a.now.major_dim ≡ target.now.major_dim }
     ensures { IsTrue result ↔ HasPlacesOf target.now false a.now }
 {
-    // The calls cost nothing: their contracts tell the prover that the patterns are valid.
-    let _ = target.major_offsets();
-    let _ = a.major_offsets();
+    learn(target.major_offsets());
+    learn(a.major_offsets());
     for i in 0..a.major_dim() {
         if !covers_lane(target.lane(i), a.lane(i)) {
             return false;

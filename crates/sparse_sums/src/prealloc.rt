@@ -2,27 +2,31 @@
 
 ghost use Rattle.std.specs.Prelude.{◌≡◌, ℕ, ◌<◌, ◌↔◌, true, false, IsTrue, IsOk, IfErr, OnOk};
 ghost use Rattle.std.specs.Prelude.{OnErr, IfSome, length, slice_index_or};
-ghost use Rattle.sparse_op.specs.declared.error.OperationErrorKind.TheVariants.{InvalidPattern};
+ghost use Rattle.sparse_algebra.specs.declared.error.OperationErrorKind.TheVariants.{InvalidPattern};
 ghost use Rattle.sparse_cs.specs.Compressed.{IsPosition, IsSound};
 ghost use Rattle.sparse_cs.specs.PlainOfLanes.{plain_of_rows, plain_of_cols};
 ghost use Rattle.sparse_cs.specs.StoredEntries.{place_of};
-ghost use Rattle.sparse_op.specs.Operands.{plain_op};
-ghost use Rattle.sparse_op.specs.Prealloc.{plain_update, IsCovered};
-ghost use Rattle.sparse_sums.specs.InnerPlacing.{plain_turned, HasPlacesOf, AreAdded};
+ghost use Rattle.sparse_algebra.specs.Operands.{plain_op};
+ghost use Rattle.sparse_algebra.specs.Prealloc.{plain_update, IsCovered};
+ghost use Rattle.sparse_sums.specs.InnerPlacing.{HasPlacesOf};
+ghost use Rattle.sparse_cs.specs.InnerUpdates.{AreUpdated};
+ghost use Rattle.sparse_algebra.specs.Prealloc.{plain_transpose_if};
 
 use crate::in_order::{add_in_order, covers_lanes};
+use sparse_algebra::learn;
 use sparse_algebra::scalar::Ring;
 use sparse_cs::scaling::scale_values;
 use sparse_cs::{CsMatrix, LaneIndices};
 use sparse_forms::csc::CscMatrix;
 use sparse_forms::csr::CsrMatrix;
-use sparse_op::{Op, OperationError};
+use sparse_algebra::error::OperationError;
+use sparse_algebra::operand::Op;
 use sparse_pattern::pattern::SparsityPattern;
 
 /// Replaces `c` by `beta * c + alpha * op(a)` on the places of `c`.
 ///
 /// `op(a)` must have the sizes of `c`. Refuses with
-/// [`InvalidPattern`](sparse_op::OperationErrorKind::InvalidPattern) exactly where `op(a)` has a
+/// [`InvalidPattern`](sparse_algebra::error::OperationErrorKind::InvalidPattern) exactly where `op(a)` has a
 /// place that `c` lacks, whatever its value is; `c` is then unchanged.
 ///
 /// Without a transpose two passes over the rows of `c` and of `a` side by side; with one, two
@@ -48,19 +52,18 @@ pub fn spadd_csr_prealloc<T: Ring>(
         ≡ plain_update T.ring (T.value beta) (plain_of_rows T.ring T.value c.old) (T.value alpha)
         (plain_op T.ring (λ m. plain_of_rows T.ring T.value m.now) a.entry)) }
 {
-    // The call costs nothing: its contract tells the prover that the matrix is sound.
-    let _ = c.values();
+    learn(c.values());
     let (pattern, values) = c.pattern_and_values_mut();
     match a {
         Op::NoOp(a) => add_into(beta, pattern, values, alpha, a.cs()),
-        Op::Transpose(a) => add_turned_into(beta, pattern, values, alpha, a.cs()),
+        Op::Transpose(a) => add_transposed_into(beta, pattern, values, alpha, a.cs()),
     }
 }
 
 /// Replaces `c` by `beta * c + alpha * op(a)` on the places of `c`.
 ///
 /// `op(a)` must have the sizes of `c`. Refuses with
-/// [`InvalidPattern`](sparse_op::OperationErrorKind::InvalidPattern) exactly where `op(a)` has a
+/// [`InvalidPattern`](sparse_algebra::error::OperationErrorKind::InvalidPattern) exactly where `op(a)` has a
 /// place that `c` lacks, whatever its value is; `c` is then unchanged.
 ///
 /// Without a transpose two passes over the columns of `c` and of `a` side by side; with one, two
@@ -86,12 +89,11 @@ pub fn spadd_csc_prealloc<T: Ring>(
         ≡ plain_update T.ring (T.value beta) (plain_of_cols T.ring T.value c.old) (T.value alpha)
         (plain_op T.ring (λ m. plain_of_cols T.ring T.value m.now) a.entry)) }
 {
-    // The call costs nothing: its contract tells the prover that the matrix is sound.
-    let _ = c.values();
+    learn(c.values());
     let (pattern, values) = c.pattern_and_values_mut();
     match a {
         Op::NoOp(a) => add_into(beta, pattern, values, alpha, a.cs()),
-        Op::Transpose(a) => add_turned_into(beta, pattern, values, alpha, a.cs()),
+        Op::Transpose(a) => add_transposed_into(beta, pattern, values, alpha, a.cs()),
     }
 }
 
@@ -111,13 +113,12 @@ pub(crate) fn add_into<T: Ring>(
     ensures kind { IfErr result (λ e. e ≡ InvalidPattern) }
     ensures unchanged { OnErr result (values.new ≡ values.old) }
     ensures sound { IsSound a.now }
-    ensures added { OnOk result (AreAdded T.ring T.value T.zero_value pattern.now
+    ensures added { OnOk result (AreUpdated T.ring T.value T.zero_value pattern.now
         (T.value beta) (T.value alpha)
-        (plain_turned T.ring false (plain_of_rows T.ring T.value a.now)).value
+        (plain_transpose_if T.ring false (plain_of_rows T.ring T.value a.now)).value
         values.old values.new) }
 {
-    // The call costs nothing: its contract tells the prover that the pattern is valid.
-    let _ = pattern.major_offsets();
+    learn(pattern.major_offsets());
     if !covers_lanes(pattern, a.pattern()) {
         return Err(OperationError::of_sum_pattern());
     }
@@ -127,7 +128,7 @@ pub(crate) fn add_into<T: Ring>(
 }
 
 // The same for the transpose of the operand.
-fn add_turned_into<T: Ring>(
+fn add_transposed_into<T: Ring>(
     beta: T,
     pattern: &SparsityPattern,
     values: &mut [T],
@@ -141,29 +142,27 @@ fn add_turned_into<T: Ring>(
     ensures kind { IfErr result (λ e. e ≡ InvalidPattern) }
     ensures unchanged { OnErr result (values.new ≡ values.old) }
     ensures sound { IsSound a.now }
-    ensures added { OnOk result (AreAdded T.ring T.value T.zero_value pattern.now
+    ensures added { OnOk result (AreUpdated T.ring T.value T.zero_value pattern.now
         (T.value beta) (T.value alpha)
-        (plain_turned T.ring true (plain_of_rows T.ring T.value a.now)).value
+        (plain_transpose_if T.ring true (plain_of_rows T.ring T.value a.now)).value
         values.old values.new) }
 {
-    // The call costs nothing: its contract tells the prover that the pattern is valid.
-    let _ = pattern.major_offsets();
-    if !covers_turned(pattern, a.pattern()) {
+    learn(pattern.major_offsets());
+    if !covers_transposed(pattern, a.pattern()) {
         return Err(OperationError::of_sum_pattern());
     }
     scale_values(beta, values);
-    add_turned(pattern, values, alpha, a);
+    add_transposed(pattern, values, alpha, a);
     Ok(())
 }
 
 // Whether the target has each place of the operand's transpose.
-fn covers_turned(target: &SparsityPattern, a: &SparsityPattern) -> bool
+fn covers_transposed(target: &SparsityPattern, a: &SparsityPattern) -> bool
     requires { a.now.minor_dim ≡ target.now.major_dim }
     ensures { IsTrue result ↔ HasPlacesOf target.now true a.now }
 {
-    // The calls cost nothing: their contracts tell the prover that the patterns are valid.
-    let _ = target.major_offsets();
-    let _ = a.major_offsets();
+    learn(target.major_offsets());
+    learn(a.major_offsets());
     for (i, j) in a.entries() {
         match position_of(target, j, i) {
             Some(_) => {}
@@ -174,7 +173,7 @@ fn covers_turned(target: &SparsityPattern, a: &SparsityPattern) -> bool
 }
 
 // Adds `alpha` times the values of the operand's transpose at their places.
-fn add_turned<T: Ring>(target: &SparsityPattern, values: &mut [T], alpha: T, a: &CsMatrix<T>)
+fn add_transposed<T: Ring>(target: &SparsityPattern, values: &mut [T], alpha: T, a: &CsMatrix<T>)
     requires count { length values.old ≡ length target.now.indices }
     requires covered { HasPlacesOf target.now true a.now.pattern }
     ensures count { length values.new ≡ length values.old }
@@ -182,10 +181,9 @@ fn add_turned<T: Ring>(target: &SparsityPattern, values: &mut [T], alpha: T, a: 
         → T.value (slice_index_or values.new p T.zero_value)
         ≡ T.ring.add (T.value (slice_index_or values.old p T.zero_value))
         (T.ring.mul (T.value alpha)
-        ((plain_turned T.ring true (plain_of_rows T.ring T.value a.now)).value i j)) }
+        ((plain_transpose_if T.ring true (plain_of_rows T.ring T.value a.now)).value i j)) }
 {
-    // The call costs nothing: its contract tells the prover that the pattern is valid.
-    let _ = target.major_offsets();
+    learn(target.major_offsets());
     for (i, j, value) in a.triplet_iter() {
         match position_of(target, j, i) {
             Some(at) => values[at] = values[at].add(alpha.mul(*value)),

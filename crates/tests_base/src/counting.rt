@@ -1,7 +1,7 @@
 //! Offsets and slots of keys, with counts of both widths.
 
 use crate::slices::are_equal;
-use sparse_counting::{counts_to_offsets, key_offsets, next_slot};
+use sparse_pattern::counting::{counts_to_offsets, key_offsets, next_slot};
 use std::alloc::Global;
 
 // The offsets of the keys 2, 0, 2 and 1.

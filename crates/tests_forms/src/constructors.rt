@@ -72,8 +72,8 @@ fn rebuilt_by_rows(
     alloc: Global,
     matrix: &CsrMatrix<i32>,
 ) -> Result<CsrMatrix<i32>, SparseFormatError> {
-    let turned = matrix.clone(alloc)?.transpose_as_csc();
-    let (pattern, values) = turned.transpose_as_csr().into_pattern_and_values();
+    let transposed = matrix.clone(alloc)?.transpose_as_csc();
+    let (pattern, values) = transposed.transpose_as_csr().into_pattern_and_values();
     CsrMatrix::try_from_pattern_and_values(pattern, values)
 }
 
@@ -147,8 +147,8 @@ fn rebuilt_by_columns(
     alloc: Global,
     matrix: &CscMatrix<i32>,
 ) -> Result<CscMatrix<i32>, SparseFormatError> {
-    let turned = matrix.clone(alloc)?.transpose_as_csr();
-    let (pattern, values) = turned.transpose_as_csc().into_pattern_and_values();
+    let transposed = matrix.clone(alloc)?.transpose_as_csr();
+    let (pattern, values) = transposed.transpose_as_csc().into_pattern_and_values();
     CscMatrix::try_from_pattern_and_values(pattern, values)
 }
 
@@ -167,18 +167,18 @@ fn has_equal_pattern_by_columns(rebuilt: &CscMatrix<i32>, matrix: &CscMatrix<i32
     *rebuilt == *matrix && rebuilt.pattern() == matrix.pattern()
 }
 
-// Whether a matrix by columns has the sizes 2 and 4 turned round.
-fn has_sizes_turned_round(matrix: CscMatrix<i32>) -> bool {
+// Whether a matrix by columns has the sizes 2 and 4 transposed round.
+fn has_sizes_transposed_round(matrix: CscMatrix<i32>) -> bool {
     let by_rows = matrix.transpose_as_csr();
     (by_rows.nrows(), by_rows.ncols()) == (2, 4)
 }
 
-// Whether the parts of a matrix by columns, and its arrays, make it again, with the sizes 2 and 4 turned round.
+// Whether the parts of a matrix by columns, and its arrays, make it again, with the sizes 2 and 4 transposed round.
 fn is_made_again_by_columns(alloc: Global, matrix: &CscMatrix<i32>) -> bool {
     match rebuilt_by_columns(alloc, matrix) {
         Ok(rebuilt) => {
             has_equal_pattern_by_columns(&rebuilt, matrix)
-                && has_sizes_turned_round(rebuilt)
+                && has_sizes_transposed_round(rebuilt)
                 && csc_made_equals(reassembled_by_columns(alloc, matrix), matrix)
         }
         Err(_error) => false,

@@ -51,7 +51,7 @@ fn is_kept(alloc: Global, matrix: &CsrMatrix<W64>, nrows: usize, ncols: usize) -
 }
 
 // Whether what turns the lanes into indices is refused just where there are too many.
-fn is_turned(alloc: Global, matrix: &CsrMatrix<W64>, nrows: usize, ncols: usize) -> bool {
+fn is_transposed(alloc: Global, matrix: &CsrMatrix<W64>, nrows: usize, ncols: usize) -> bool {
     is_empty_or_large(matrix.transpose(alloc), ncols, nrows, ncols)
         && is_empty_or_large(convert_csr_csc(alloc, matrix), nrows, ncols, ncols)
         && is_dense(alloc, matrix, nrows, ncols)
@@ -73,8 +73,8 @@ fn is_moved(mut matrix: CsrMatrix<W64>, nrows: usize, ncols: usize) -> bool {
     matrix *= W64::new(2);
     let matrix = -matrix;
     let is_same = matrix == matrix;
-    let turned = matrix.transpose_as_csc();
-    is_same && turned.nrows() == ncols && turned.ncols() == nrows
+    let transposed = matrix.transpose_as_csc();
+    is_same && transposed.nrows() == ncols && transposed.ncols() == nrows
 }
 
 fn is_whole(alloc: Global, matrix: CsrMatrix<W64>) -> bool {
@@ -82,7 +82,7 @@ fn is_whole(alloc: Global, matrix: CsrMatrix<W64>) -> bool {
     is_read(&matrix)
         && ends_with_zero(&matrix)
         && is_kept(alloc, &matrix, nrows, ncols)
-        && is_turned(alloc, &matrix, nrows, ncols)
+        && is_transposed(alloc, &matrix, nrows, ncols)
         && is_moved(matrix, nrows, ncols)
 }
 

@@ -61,7 +61,7 @@ fn agree_by_rows(alloc: Global, expr: &Expr, inputs: &[CooMatrix<W64>]) -> bool 
 }
 
 // The columns of the value, as the rows of the transpose.
-fn evaluate_turned(
+fn evaluate_transposed(
     alloc: Global,
     expr: &Expr,
     inputs: &[CooMatrix<W64>],
@@ -73,13 +73,13 @@ fn evaluate_turned(
 }
 
 // The same by columns.
-fn agree_by_cols(alloc: Global, expr: &Expr, turned: &Expr, inputs: &[CooMatrix<W64>]) -> bool {
-    let slow = expression_value(alloc, turned, inputs);
-    are_equal(&evaluate_turned(alloc, expr, inputs), &slow)
+fn agree_by_cols(alloc: Global, expr: &Expr, transposed: &Expr, inputs: &[CooMatrix<W64>]) -> bool {
+    let slow = expression_value(alloc, transposed, inputs);
+    are_equal(&evaluate_transposed(alloc, expr, inputs), &slow)
 }
 
 // The expression of the words, transposed.
-fn turned(alloc: Global, words: &str) -> Result<Expr, ExprError> {
+fn transposed(alloc: Global, words: &str) -> Result<Expr, ExprError> {
     let mut text = String::from_str(alloc, words)?;
     text.push_str(" t")?;
     Expr::from_words(alloc, &text)
@@ -98,8 +98,8 @@ fn agree_on(
     expr: &Expr,
     inputs: &[CooMatrix<W64>],
 ) -> Result<bool, ExprError> {
-    let turned = turned(alloc, words)?;
-    Ok(agree_by_rows(alloc, expr, inputs) && agree_by_cols(alloc, expr, &turned, inputs))
+    let transposed = transposed(alloc, words)?;
+    Ok(agree_by_rows(alloc, expr, inputs) && agree_by_cols(alloc, expr, &transposed, inputs))
 }
 
 // The last word is none.

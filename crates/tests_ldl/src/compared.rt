@@ -5,8 +5,8 @@ use sparse_base::dense::DMatrix;
 use sparse_convert::serial::{convert_csc_dense, convert_dense_csc};
 use sparse_forms::csc::CscMatrix;
 use sparse_ldl::ldl::Ldl;
-use sparse_op::{OperationError, OperationErrorKind};
-use sparse_units::Units;
+use sparse_algebra::error::{OperationError, OperationErrorKind};
+use sparse_algebra::scalar::Units;
 use std::alloc::{AllocError, Global};
 
 // The library's answer, if the matrix is square.

@@ -1,9 +1,8 @@
 //! Matrices that the tables write as integers.
 
-use sparse_algebra::scalar::{Ring, W32, W64};
+use sparse_algebra::scalar::{Mod, Ring, Units, W32, W64};
 use sparse_base::dense::DMatrix;
 use sparse_forms::csc::CscMatrix;
-use sparse_units::{Mod, Units};
 use std::alloc::{AllocError, Global};
 
 /// A scalar that the tables write as an integer.

@@ -3,13 +3,12 @@
 use crate::compared::{agree, factored, has_factors};
 use crate::generated::{Generator, entries, of_values, unit_lower, units};
 use crate::matrices::Scalar;
-use sparse_algebra::scalar::W64;
+use sparse_algebra::scalar::{Mod, W64};
 use sparse_base::dense::DMatrix;
 use sparse_convert::serial::convert_dense_csc;
-use sparse_dense::mul_csc_dense;
+use sparse_dense_products::mul_csc_dense;
 use sparse_forms::csc::CscMatrix;
 use sparse_ldl::ldl::Ldl;
-use sparse_units::Mod;
 use std::alloc::{AllocError, Global};
 
 // Whether both programs agree on matrices of each size, whose entries below the diagonal are mostly not those above.

@@ -2,7 +2,7 @@
 
 use crate::compared::agree;
 use sparse_base::dense::DMatrix;
-use sparse_units::Mod;
+use sparse_algebra::scalar::Mod;
 use std::alloc::{AllocError, Global};
 
 // The last digit of a number in base M, and the digits before it.

@@ -2,10 +2,9 @@
 
 use crate::compared::factored;
 use crate::matrices::{Arrays, Scalar, csc, dense};
-use sparse_algebra::scalar::W64;
+use sparse_algebra::scalar::{Mod, W64};
 use sparse_base::dense::DMatrix;
 use sparse_ldl::ldl::Ldl;
-use sparse_units::Mod;
 use std::alloc::Global;
 
 // Rows `1 2` and `2 7`.

@@ -30,7 +30,7 @@ pub const CASES: &[Case] = &[
     ),
     (
         "1",
-        &["% turned about\n2 2 3\n2 1 4\n1 2 2\n1 1 1"],
+        &["% transposed about\n2 2 3\n2 1 4\n1 2 2\n1 1 1"],
         Ok("2 2 3\n1 1 1\n1 2 2\n2 1 4\n"),
     ),
     (

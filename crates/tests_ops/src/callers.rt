@@ -7,9 +7,10 @@ ghost use Rattle.sparse_solve.specs.Solutions.{plain_lower, IsSolution, HasSameV
 
 use sparse_base::dense::DMatrix;
 use sparse_forms::csc::CscMatrix;
-use sparse_op::{Op, OperationError};
+use sparse_algebra::error::OperationError;
+use sparse_algebra::operand::Op;
 use sparse_solve::spsolve_csc_lower_triangular;
-use sparse_units::Units;
+use sparse_algebra::scalar::Units;
 
 /// Solves a system, and has the values of a solution that was known before: there is no other one.
 pub fn solve_known<T: Units>(

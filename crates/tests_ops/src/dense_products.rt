@@ -3,12 +3,11 @@
 use crate::dense_updates::{A, F};
 use crate::matrices::{Arrays, csr, dense};
 use crate::scalars::{Scalar, are};
-use sparse_algebra::scalar::{W32, W64};
+use sparse_algebra::scalar::{Mod, W32, W64};
 use sparse_base::dense::DMatrix;
-use sparse_dense::{mul_csc_dense, mul_csr_dense};
+use sparse_dense_products::{mul_csc_dense, mul_csr_dense};
 use sparse_forms::csc::CscMatrix;
 use sparse_forms::csr::CsrMatrix;
-use sparse_units::Mod;
 use std::alloc::{AllocError, Global};
 
 // Whether the product of a matrix by rows and a column has these values.

@@ -1,17 +1,17 @@
 //! Dense matrices updated by a product of a sparse and a dense matrix.
 
 ghost use Rattle.std.specs.Prelude.{◌≡◌};
-ghost use Rattle.sparse_dense.specs.DenseOperands.{op_dense};
+ghost use Rattle.sparse_dense_products.specs.DenseOperands.{op_dense};
 
 use crate::matrices::{Arrays, csr, dense};
 use crate::operand_sizes::{op_of, sizes_of_columns, sizes_of_rows};
 use crate::scalars::{Scalar, are};
 use sparse_algebra::scalar::{Ring, W64};
 use sparse_base::dense::DMatrix;
-use sparse_dense::{spmm_csc_dense, spmm_csr_dense};
+use sparse_dense_products::{spmm_csc_dense, spmm_csr_dense};
 use sparse_forms::csc::CscMatrix;
 use sparse_forms::csr::CsrMatrix;
-use sparse_op::Op;
+use sparse_algebra::operand::Op;
 use std::alloc::Global;
 
 /// The rows `1 0 2` and `0 3 0`; the last zero is stored.
@@ -183,9 +183,9 @@ fn update_rows(
     a: &CsrMatrix<W64>,
     b: &DMatrix<W64>,
 ) -> bool {
-    let (turned, b_turned) = update.1;
+    let (transposed, b_transposed) = update.1;
     let (beta, alpha) = update.2;
-    let (a, b) = (op_of(turned, a), op_of(b_turned, b));
+    let (a, b) = (op_of(transposed, a), op_of(b_transposed, b));
     update_by_rows(W64::of(beta), c, W64::of(alpha), a, b)
 }
 
@@ -215,9 +215,9 @@ fn update_columns(
     a: &CscMatrix<W64>,
     b: &DMatrix<W64>,
 ) -> bool {
-    let (turned, b_turned) = update.1;
+    let (transposed, b_transposed) = update.1;
     let (beta, alpha) = update.2;
-    let (a, b) = (op_of(!turned, a), op_of(b_turned, b));
+    let (a, b) = (op_of(!transposed, a), op_of(b_transposed, b));
     update_by_columns(W64::of(beta), c, W64::of(alpha), a, b)
 }
 

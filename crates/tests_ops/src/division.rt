@@ -2,12 +2,11 @@
 
 use crate::matrices::{Arrays, csc, csr, equals};
 use crate::scalars::Scalar;
-use sparse_algebra::scalar::W32;
+use sparse_algebra::scalar::{Mod, Units, W32};
 use sparse_forms::csc::CscMatrix;
 use sparse_forms::csr::CsrMatrix;
-use sparse_op::{OperationError, OperationErrorKind};
+use sparse_algebra::error::{OperationError, OperationErrorKind};
 use sparse_solve::{div_scalar_csc, div_scalar_csr, div_scalar_mut_csc, div_scalar_mut_csr};
-use sparse_units::{Mod, Units};
 use std::alloc::Global;
 
 // The rows `1 2` and `0 3`.

@@ -1,6 +1,7 @@
 //! Operands, and the texts of operation errors.
 
-use sparse_op::{Op, OperationError, OperationErrorKind};
+use sparse_algebra::error::{OperationError, OperationErrorKind};
+use sparse_algebra::operand::Op;
 use std::alloc::{AllocError, Global};
 
 fn doubled(number: u32) -> u32 {
@@ -9,13 +10,13 @@ fn doubled(number: u32) -> u32 {
 
 fn operands_are_right() -> bool {
     let plain = Op::from(4_u32);
-    let turned = plain.transposed();
+    let transposed = plain.transposed();
     plain == Op::NoOp(4)
-        && turned == Op::Transpose(4)
-        && turned.transposed() == plain
-        && *turned.inner_ref() == 4
-        && *turned.as_ref().into_inner() == 4
-        && turned.map_same_op(doubled) == Op::Transpose(8)
+        && transposed == Op::Transpose(4)
+        && transposed.transposed() == plain
+        && *transposed.inner_ref() == 4
+        && *transposed.as_ref().into_inner() == 4
+        && transposed.map_same_op(doubled) == Op::Transpose(8)
         && plain.map_same_op(doubled) == Op::NoOp(8)
 }
 

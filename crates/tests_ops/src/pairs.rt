@@ -5,7 +5,7 @@ use crate::scalars::are;
 use sparse_algebra::scalar::W64;
 use sparse_forms::csc::CscMatrix;
 use sparse_forms::csr::CsrMatrix;
-use sparse_op::{OperationError, OperationErrorKind};
+use sparse_algebra::error::{OperationError, OperationErrorKind};
 use std::alloc::Global;
 
 /// Two matrices.

@@ -7,8 +7,8 @@ use crate::scalars::are;
 use sparse_algebra::scalar::{Ring, W64};
 use sparse_forms::csc::CscMatrix;
 use sparse_forms::csr::CsrMatrix;
-use sparse_op::Op;
-use sparse_ops::serial::{mul_csc, spmm_csc_pattern, spmm_csc_prealloc, spmm_csr_prealloc};
+use sparse_algebra::operand::Op;
+use sparse_products::serial::{mul_csc, spmm_csc_pattern, spmm_csc_prealloc, spmm_csr_prealloc};
 use std::alloc::Global;
 
 /// The rows `1 2` and `0 3`.

@@ -1,7 +1,6 @@
 //! Scalars that the tables write as integers.
 
-use sparse_algebra::scalar::{Ring, W32, W64};
-use sparse_units::Mod;
+use sparse_algebra::scalar::{Mod, Ring, W32, W64};
 use std::alloc::{AllocError, Global};
 
 /// A scalar that the tables write as an integer.

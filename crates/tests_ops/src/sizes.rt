@@ -12,8 +12,8 @@ use sparse_convert::serial::{
 };
 use sparse_forms::csc::CscMatrix;
 use sparse_forms::csr::CsrMatrix;
-use sparse_op::Op;
-use sparse_ops::serial::{mul_csr, spmm_csr_prealloc_unchecked_counted};
+use sparse_algebra::operand::Op;
+use sparse_products::serial::{mul_csr, spmm_csr_prealloc_unchecked_counted};
 use std::alloc::{AllocError, Global};
 
 // Whether the product of matrices whose sizes fit has these sizes and no places.

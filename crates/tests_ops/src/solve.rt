@@ -3,12 +3,12 @@
 use crate::matrices::{Arrays, csc, dense, equals};
 use crate::pairs::{Answer, is_done};
 use crate::scalars::Scalar;
-use sparse_algebra::scalar::W32;
+use sparse_algebra::scalar::{Mod, Units, W32};
 use sparse_base::dense::DMatrix;
 use sparse_forms::csc::CscMatrix;
-use sparse_op::{Op, OperationErrorKind};
+use sparse_algebra::error::OperationErrorKind;
+use sparse_algebra::operand::Op;
 use sparse_solve::spsolve_csc_lower_triangular;
-use sparse_units::{Mod, Units};
 use std::alloc::Global;
 
 // What a system shows, its matrix, whether that is transposed, and the number of columns.

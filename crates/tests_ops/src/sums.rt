@@ -6,7 +6,7 @@ use crate::scalars::are;
 use sparse_algebra::scalar::W64;
 use sparse_forms::csc::CscMatrix;
 use sparse_forms::csr::CsrMatrix;
-use sparse_ops::serial::{
+use sparse_products::serial::{
     add_csc, add_csr, neg_csc, neg_csr, scale_csc, scale_csr, spadd_pattern, sub_csc, sub_csr,
 };
 use std::alloc::{AllocError, Global};

@@ -5,8 +5,8 @@ use crate::pairs::{Answer, holds, holds_by_columns, is_done, is_refused, pair, p
 use sparse_algebra::scalar::{Ring, W64};
 use sparse_forms::csc::CscMatrix;
 use sparse_forms::csr::CsrMatrix;
-use sparse_op::Op;
-use sparse_ops::serial::{spadd_csc_prealloc, spadd_csr_prealloc};
+use sparse_algebra::operand::Op;
+use sparse_products::serial::{spadd_csc_prealloc, spadd_csr_prealloc};
 use std::alloc::Global;
 
 // Adds A, scaled, to C, scaled, if the sizes fit.
@@ -18,7 +18,7 @@ fn add<T: Ring>((beta, alpha): (T, T), c: &mut CsrMatrix<T>, a: &CsrMatrix<T>) -
 }
 
 // The same with the transpose of A.
-fn add_turned<T: Ring>((beta, alpha): (T, T), c: &mut CsrMatrix<T>, a: &CsrMatrix<T>) -> Answer {
+fn add_transposed<T: Ring>((beta, alpha): (T, T), c: &mut CsrMatrix<T>, a: &CsrMatrix<T>) -> Answer {
     if c.nrows() != a.ncols() || c.ncols() != a.nrows() {
         return None;
     }
@@ -36,7 +36,7 @@ fn add_by_columns<T: Ring>(
     Some(spadd_csc_prealloc(beta, c, alpha, Op::NoOp(a)))
 }
 
-fn add_turned_by_columns<T: Ring>(
+fn add_transposed_by_columns<T: Ring>(
     (beta, alpha): (T, T),
     c: &mut CscMatrix<T>,
     a: &CscMatrix<T>,
@@ -62,18 +62,18 @@ fn is_added(alloc: Global) -> bool {
     holds(Some(c), &[0, 1], &[10, 9]) && done
 }
 
-fn is_added_turned(alloc: Global) -> bool {
+fn is_added_transposed(alloc: Global) -> bool {
     let Some((mut c, a)) = pair(alloc, TARGET, COLUMN) else {
         return false;
     };
-    let done = is_done(add_turned((W64::new(2), W64::new(-1)), &mut c, &a));
+    let done = is_done(add_transposed((W64::new(2), W64::new(-1)), &mut c, &a));
     holds(Some(c), &[0, 1], &[10, 9]) && done
 }
 
 #[test]
 fn sums_into_a_matrix(rt: HostRuntime) {
     assert!(rt; is_added(rt.alloc()));
-    assert!(rt; is_added_turned(rt.alloc()));
+    assert!(rt; is_added_transposed(rt.alloc()));
 }
 
 // The same arrays by columns.
@@ -85,18 +85,18 @@ fn is_added_by_columns(alloc: Global) -> bool {
     holds_by_columns(Some(c), &[0, 1], &[10, 9]) && done
 }
 
-fn is_added_turned_by_columns(alloc: Global) -> bool {
+fn is_added_transposed_by_columns(alloc: Global) -> bool {
     let Some((mut c, a)) = pair_by_columns(alloc, TARGET, COLUMN) else {
         return false;
     };
-    let done = is_done(add_turned_by_columns((W64::new(2), W64::new(-1)), &mut c, &a));
+    let done = is_done(add_transposed_by_columns((W64::new(2), W64::new(-1)), &mut c, &a));
     holds_by_columns(Some(c), &[0, 1], &[10, 9]) && done
 }
 
 #[test]
 fn sums_into_columns(rt: HostRuntime) {
     assert!(rt; is_added_by_columns(rt.alloc()));
-    assert!(rt; is_added_turned_by_columns(rt.alloc()));
+    assert!(rt; is_added_transposed_by_columns(rt.alloc()));
 }
 
 const FIRST_PLACE: Arrays<'static> = (1, 2, &[0, 1], &[0], &[5]);

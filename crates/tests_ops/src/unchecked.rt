@@ -8,8 +8,8 @@ use crate::scalars::are;
 use sparse_algebra::scalar::{Ring, W64};
 use sparse_forms::csc::CscMatrix;
 use sparse_forms::csr::CsrMatrix;
-use sparse_op::Op;
-use sparse_ops::serial::{
+use sparse_algebra::operand::Op;
+use sparse_products::serial::{
     spmm_csc_prealloc, spmm_csc_prealloc_unchecked, spmm_csr_prealloc, spmm_csr_prealloc_unchecked,
 };
 use std::alloc::Global;

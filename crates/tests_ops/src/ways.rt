@@ -93,10 +93,10 @@ fn becomes<T: Scalar>(alloc: Global, case: &Case<'_>, ncols: usize) -> bool {
         return false;
     };
     let expected = (case.2, case.3, values.as_slice());
-    let (Ok(csr), Ok(turned)) = (convert_coo_csr(alloc, &coo), turned(alloc, &coo)) else {
+    let (Ok(csr), Ok(transposed)) = (convert_coo_csr(alloc, &coo), transposed(alloc, &coo)) else {
         return false;
     };
-    let Ok(csc) = convert_coo_csc(alloc, &turned) else {
+    let Ok(csc) = convert_coo_csc(alloc, &transposed) else {
         return false;
     };
     are_lanes(
@@ -109,14 +109,14 @@ fn becomes<T: Scalar>(alloc: Global, case: &Case<'_>, ncols: usize) -> bool {
 }
 
 // The list with rows and columns exchanged.
-fn turned<T: Scalar>(alloc: Global, coo: &CooMatrix<T>) -> Result<CooMatrix<T>, AllocError> {
-    let mut turned = CooMatrix::new(alloc, coo.ncols(), coo.nrows());
+fn transposed<T: Scalar>(alloc: Global, coo: &CooMatrix<T>) -> Result<CooMatrix<T>, AllocError> {
+    let mut transposed = CooMatrix::new(alloc, coo.ncols(), coo.nrows());
     for (row, col, value) in coo.triplet_iter() {
-        if col < turned.nrows() && row < turned.ncols() {
-            turned.push(col, row, *value)?;
+        if col < transposed.nrows() && row < transposed.ncols() {
+            transposed.push(col, row, *value)?;
         }
     }
-    Ok(turned)
+    Ok(transposed)
 }
 
 #[test]

@@ -1,10 +1,9 @@
 //! Sums and products of scalars whose values wrap.
 
 use crate::matrices::{csr_of, equals};
-use sparse_algebra::scalar::{Ring, W32};
+use sparse_algebra::scalar::{Mod, Ring, W32};
 use sparse_forms::csr::CsrMatrix;
-use sparse_ops::serial::{add_csr, mul_csr};
-use sparse_units::Mod;
+use sparse_products::serial::{add_csr, mul_csr};
 use std::alloc::Global;
 
 // The 1 by 1 matrix of a value.

@@ -7,7 +7,7 @@ use sparse_algebra::scalar::W64;
 use sparse_base::coo::CooMatrix;
 use sparse_convert::serial::{convert_coo_csc, convert_coo_csr};
 use sparse_forms::csr::CsrMatrix;
-use sparse_ops::serial::mul_csr;
+use sparse_products::serial::mul_csr;
 use std::alloc::{AllocError, Global};
 use std::test::Fail;
 

@@ -7,7 +7,7 @@ ghost use Rattle.sparse_base.specs.Coo.{coo_of, appended};
 ghost use Rattle.sparse_base.specs.Dense.{Dense};
 ghost use Rattle.sparse_base.specs.DensePlain.{plain_of_dense};
 ghost use Rattle.sparse_algebra.specs.Plain.{below};
-ghost use Rattle.sparse_cs.specs.Compressed.{Compressed, IsSound, lane_triplets, turned};
+ghost use Rattle.sparse_cs.specs.Compressed.{Compressed, IsSound, lane_triplets, transposed};
 ghost use Rattle.sparse_base.specs.CooPlain.{plain_of_coo};
 ghost use Rattle.sparse_cs.specs.PlainOfLanes.{plain_of_rows, plain_of_cols};
 ghost use Rattle.sparse_convert.specs.FromDense.{full_lanes, row_triplets, column_triplets};
@@ -72,7 +72,7 @@ pub fn convert_dense_csc<T: Zero + Copy>(
 ) -> Result<CscMatrix<T>, AllocError>
     ensures rows { IfOk result (λ m. m.pattern.minor_dim ≡ dense.now.nrows) }
     ensures cols { IfOk result (λ m. m.pattern.major_dim ≡ dense.now.ncols) }
-    ensures kept { IfOk result (λ m. map turned (lane_triplets m)
+    ensures kept { IfOk result (λ m. map transposed (lane_triplets m)
         ≡ filter (differs_from T.eq T.zero_value) (column_triplets T.zero_value dense.now)) }
     ensures sound { IfOk result IsSound }
 {
@@ -181,7 +181,7 @@ pub fn from_dense_law<T: Ring>()
         (filter (differs_from T.eq T.zero_value) (column_triplets T.zero_value d)))) }
     ensures csc { (d : Dense T) (m : Compressed T) → m.pattern.minor_dim ≡ d.nrows
         → m.pattern.major_dim ≡ d.ncols
-        → map turned (lane_triplets m)
+        → map transposed (lane_triplets m)
         ≡ filter (differs_from T.eq T.zero_value) (column_triplets T.zero_value d)
         → IsNonzeroPart (plain_of_dense T.ring T.value d) (plain_of_cols T.ring T.value m) }
     ensures csr { (d : Dense T) (m : Compressed T) → m.pattern.major_dim ≡ d.nrows

@@ -2,7 +2,7 @@
 
 ghost use Rattle.std.specs.Prelude.{◌≡◌, ℕ, Bool, map, IfOk};
 ghost use Rattle.std.specs.List.{filter};
-ghost use Rattle.sparse_cs.specs.Compressed.{IsSound, lane_triplets, turned};
+ghost use Rattle.sparse_cs.specs.Compressed.{IsSound, lane_triplets, transposed};
 ghost use Rattle.sparse_cs.specs.Filter.{Answers, AnswersAs, HasSizesOf, IsKept, is_upper};
 ghost use Rattle.sparse_cs.specs.Filter.{is_lower, is_diagonal};
 
@@ -22,11 +22,11 @@ impl<T: Copy> CscMatrix<T> {
         requires { P.IsAlwaysCallable predicate }
         ensures sizes { IfOk result (HasSizesOf self.now) }
         ensures kept { IfOk result
-            (λ m. IsKept (Answers P.Fn predicate) (map turned (lane_triplets self.now))
-            (map turned (lane_triplets m))) }
+            (λ m. IsKept (Answers P.Fn predicate) (map transposed (lane_triplets self.now))
+            (map transposed (lane_triplets m))) }
         ensures tested { (test : ℕ × ℕ × T → Bool) → AnswersAs P.Fn predicate test
-            → IfOk result (λ m. map turned (lane_triplets m)
-            ≡ filter test (map turned (lane_triplets self.now))) }
+            → IfOk result (λ m. map transposed (lane_triplets m)
+            ≡ filter test (map transposed (lane_triplets self.now))) }
         ensures sound { IfOk result IsSound }
     {
         Ok(CscMatrix {
@@ -41,8 +41,8 @@ impl<T: Copy> CscMatrix<T> {
     pub fn upper_triangle(&self, alloc: Global) -> Result<Self, AllocError>
         ensures sizes { IfOk result (HasSizesOf self.now) }
         ensures kept { IfOk result
-            (λ m. map turned (lane_triplets m)
-            ≡ filter is_upper (map turned (lane_triplets self.now))) }
+            (λ m. map transposed (lane_triplets m)
+            ≡ filter is_upper (map transposed (lane_triplets self.now))) }
         ensures sound { IfOk result IsSound }
     {
         self.filter(alloc, |row, column, _| row <= column)
@@ -53,8 +53,8 @@ impl<T: Copy> CscMatrix<T> {
     pub fn lower_triangle(&self, alloc: Global) -> Result<Self, AllocError>
         ensures sizes { IfOk result (HasSizesOf self.now) }
         ensures kept { IfOk result
-            (λ m. map turned (lane_triplets m)
-            ≡ filter is_lower (map turned (lane_triplets self.now))) }
+            (λ m. map transposed (lane_triplets m)
+            ≡ filter is_lower (map transposed (lane_triplets self.now))) }
         ensures sound { IfOk result IsSound }
     {
         self.filter(alloc, |row, column, _| row >= column)
@@ -65,8 +65,8 @@ impl<T: Copy> CscMatrix<T> {
     pub fn diagonal_as_csc(&self, alloc: Global) -> Result<Self, AllocError>
         ensures sizes { IfOk result (HasSizesOf self.now) }
         ensures kept { IfOk result
-            (λ m. map turned (lane_triplets m)
-            ≡ filter is_diagonal (map turned (lane_triplets self.now))) }
+            (λ m. map transposed (lane_triplets m)
+            ≡ filter is_diagonal (map transposed (lane_triplets self.now))) }
         ensures sound { IfOk result IsSound }
     {
         self.filter(alloc, |row, column, _| row == column)

@@ -1,7 +1,7 @@
 //! Arrays, columns, entries and triplets of a CSC matrix.
 
 ghost use Rattle.std.specs.Prelude.{◌≡◌, ◌<◌, ◌↔◌, IfSome, IsSome, map};
-ghost use Rattle.sparse_cs.specs.Compressed.{IsSound, lane_triplets, turned};
+ghost use Rattle.sparse_cs.specs.Compressed.{IsSound, lane_triplets, transposed};
 ghost use Rattle.sparse_cs.specs.StoredEntries.{IsEntryAt, IsEntryOf, IsInBounds};
 ghost use Rattle.sparse_cs.specs.Lanes.{lane_at, lanes_of};
 
@@ -117,7 +117,7 @@ impl<T> CscMatrix<T> {
 
     /// Returns an iterator over the triplets (row, column, value), column by column, rows increasing.
     pub fn triplet_iter(&self) -> CscTripletIter<'_, T>
-        ensures all { result ≡ map turned (lane_triplets self.now) }
+        ensures all { result ≡ map transposed (lane_triplets self.now) }
         ensures sound { IsSound self.now }
     {
         CscTripletIter::from_triplets(self.cs.triplet_iter())

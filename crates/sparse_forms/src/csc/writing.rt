@@ -2,7 +2,7 @@
 
 ghost use Rattle.std.specs.Prelude.{◌≡◌, ◌<◌, ◌↔◌, IfSome, IsSome, map};
 ghost use Rattle.std.specs.Borrow.{sem};
-ghost use Rattle.sparse_cs.specs.Compressed.{IsSound, lane_triplets, turned};
+ghost use Rattle.sparse_cs.specs.Compressed.{IsSound, lane_triplets, transposed};
 ghost use Rattle.sparse_cs.specs.StoredEntries.{IsInBounds};
 ghost use Rattle.sparse_cs.specs.Lanes.{lane_at, lanes_of};
 ghost use Rattle.sparse_cs.specs.Writing.{IsFoundAt, IsEntryMutAt, IsEntryMutOf};
@@ -126,7 +126,7 @@ impl<T> CscMatrix<T> {
     /// rows increasing.
     pub fn triplet_iter_mut(&mut self) -> CscTripletIterMut<'_, T>
         ensures* writes_back { sem 𝓛 (LendsValues T.row self.entry (csc_triplet_values result)) }
-        ensures all { csc_triplets_left result ≡ map turned (lane_triplets self.old) }
+        ensures all { csc_triplets_left result ≡ map transposed (lane_triplets self.old) }
         ensures sound { IsSound self.old }
     {
         CscTripletIterMut::from_triplets(self.cs.triplet_iter_mut())

@@ -4,10 +4,11 @@ ghost use Rattle.std.specs.Prelude.{◌≡◌, IfOk};
 ghost use Rattle.sparse_algebra.specs.Plain.{plain_product, plain_sum, plain_transpose};
 ghost use Rattle.sparse_cs.specs.PlainOfLanes.{plain_of_cols};
 
+use sparse_algebra::learn;
 use sparse_algebra::scalar::Ring;
 use sparse_forms::csc::CscMatrix;
-use sparse_ops::serial::{add_csc, mul_csc, neg_csc, sub_csc};
-use sparse_ops::transposes::transposed_csc;
+use sparse_products::serial::{add_csc, mul_csc, neg_csc, sub_csc};
+use sparse_products::transposes::transposed_csc;
 use std::alloc::{AllocError, Global};
 
 /// Returns `a * (b + c)` and `a * b + a * c`, which are equal. Fails only if an allocation fails.
@@ -78,8 +79,7 @@ pub fn identity_times<T: Ring>(alloc: Global, a: &CscMatrix<T>) -> Result<CscMat
     ensures { IfOk result (λ m. plain_of_cols T.ring T.value m
         ≡ plain_of_cols T.ring T.value a.now) }
 {
-    // The call costs nothing: its contract tells the prover that the matrix is sound.
-    let _ = a.values();
+    learn(a.values());
     let identity = CscMatrix::identity(alloc, a.nrows())?;
     mul_csc(alloc, &identity, a)
 }
@@ -90,8 +90,7 @@ pub fn times_identity<T: Ring>(alloc: Global, a: &CscMatrix<T>) -> Result<CscMat
     ensures { IfOk result (λ m. plain_of_cols T.ring T.value m
         ≡ plain_of_cols T.ring T.value a.now) }
 {
-    // The call costs nothing: its contract tells the prover that the matrix is sound.
-    let _ = a.values();
+    learn(a.values());
     let identity = CscMatrix::identity(alloc, a.ncols())?;
     mul_csc(alloc, a, &identity)
 }

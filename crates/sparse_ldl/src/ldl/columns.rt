@@ -7,16 +7,16 @@ ghost use Rattle.sparse_cs.specs.PlainOfLanes.{plain_of_cols};
 ghost use Rattle.sparse_ldl.specs.InnerColumns.{AreCursors, ArePartFactors, IsColumnMoved};
 ghost use Rattle.sparse_ldl.specs.InnerColumns.{IsFilledPattern, IsIncluded, IsLeft};
 ghost use Rattle.sparse_ldl.specs.InnerColumns.{IsLowerPattern, IsRowOf};
-ghost use Rattle.sparse_op.specs.declared.error.OperationErrorKind.TheVariants.{Singular};
+ghost use Rattle.sparse_algebra.specs.declared.error.OperationErrorKind.TheVariants.{Singular};
 ghost use Rattle.sparse_pattern.specs.TransposedPattern.{IsTransposedPattern};
 ghost use Rattle.sparse_solve.specs.InnerColumns.{entries};
 
-use sparse_algebra::scalar::Ring;
+use sparse_algebra::learn;
+use sparse_algebra::scalar::{Ring, Units};
 use sparse_forms::csc::CscMatrix;
-use sparse_op::OperationError;
+use sparse_algebra::error::OperationError;
 use sparse_pattern::pattern::SparsityPattern;
 use sparse_solve::subtract_multiple;
-use sparse_units::Units;
 
 // Computes the columns of L, and the diagonal of D, for the symmetric matrix with this lower triangle.
 //
@@ -33,7 +33,7 @@ pub fn factor_columns<T: Units>(
 ) -> Result<(), OperationError>
     requires filled { IsFilledPattern l.old.pattern }
     requires included { IsIncluded lower.now.pattern l.old.pattern }
-    requires turned { IsTransposedPattern l.old.pattern rows.now }
+    requires transposed { IsTransposedPattern l.old.pattern rows.now }
     requires pivots { length d.old ≡ l.old.pattern.major_dim }
     requires count { l.old.pattern.major_dim ≤ length cursors.old }
     requires cursors { AreCursors l.old.pattern 0 cursors.old }
@@ -51,9 +51,8 @@ pub fn factor_columns<T: Units>(
         (plain_of_cols T.ring T.value lower.now).value m c → ⊥) }
     ensures kind { IfErr result (λ e. e ≡ Singular) }
 {
-    // The calls cost nothing: their contracts tell the prover that the matrix and the pattern are sound.
-    let _ = l.values();
-    let _ = rows.major_offsets();
+    learn(l.values());
+    learn(rows.major_offsets());
     for j in 0..d.len() {
         add_lane(lower, j, column);
         subtract_columns(l, rows.lane(j), j, d, cursors, column);
@@ -143,8 +142,7 @@ fn move_column<T: Ring>(l: &mut CscMatrix<T>, j: usize, inverse: T, column: &mut
     ensures moved { IsColumnMoved T.ring T.value T.zero_value l.old.pattern j (T.value inverse)
         l.old.values l.new.values column.old column.new }
 {
-    // The call costs nothing: its contract tells the prover that the matrix is sound.
-    let _ = l.values();
+    learn(l.values());
     let (pattern, values) = l.pattern_and_values_mut();
     move_lane(pattern, j, inverse, values, column);
 }

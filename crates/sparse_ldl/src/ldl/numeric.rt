@@ -7,19 +7,19 @@ ghost use Rattle.sparse_factor.specs.Fill.{InFill, UpperBase, StoresByColumns};
 ghost use Rattle.sparse_ldl.specs.Factorisations.{IsFactorisation, plain_upper};
 ghost use Rattle.sparse_ldl.specs.Factors.{HasNoFactors, symmetric_of};
 ghost use Rattle.sparse_ldl.specs.InnerColumns.{ArePartFactors, IsFilledPattern, IsIncluded};
-ghost use Rattle.sparse_op.specs.declared.error.OperationErrorKind.TheVariants.{OutOfMemory};
-ghost use Rattle.sparse_op.specs.declared.error.OperationErrorKind.TheVariants.{Singular};
+ghost use Rattle.sparse_algebra.specs.declared.error.OperationErrorKind.TheVariants.{OutOfMemory};
+ghost use Rattle.sparse_algebra.specs.declared.error.OperationErrorKind.TheVariants.{Singular};
 ghost use Rattle.sparse_pattern.specs.Raw.{IsPlace};
 ghost use Rattle.sparse_pattern.specs.TransposedPattern.{IsTransposedPattern};
 ghost use Rattle.sparse_solve.specs.InnerColumns.{entries};
 
 use super::columns::factor_columns;
-use sparse_algebra::scalar::{Ring, Zero};
+use sparse_algebra::learn;
+use sparse_algebra::scalar::{Ring, Units, Zero};
 use sparse_cs::laws::kept_cols_law;
 use sparse_forms::csc::CscMatrix;
-use sparse_op::OperationError;
+use sparse_algebra::error::OperationError;
 use sparse_pattern::pattern::SparsityPattern;
-use sparse_units::Units;
 use std::alloc::{AllocError, Global};
 
 // Returns L and the diagonal of D, given the pattern of L.
@@ -55,9 +55,7 @@ fn lower_triangle<T: Ring>(alloc: Global, a: &CscMatrix<T>) -> Result<CscMatrix<
     ensures places { IfOk result (λ m. (i j : ℕ) → IsPlace m.pattern j i
         → UpperBase a.now.pattern i j) }
 {
-    // The calls cost nothing: their contracts tell the prover that the matrix is sound, and which values the triangle
-    // has.
-    let _ = a.values();
+    learn(a.values());
     kept_cols_law::<T>();
     a.upper_triangle(alloc)?.transpose(alloc)
 }
@@ -97,7 +95,7 @@ fn factor_lower<T: Units>(
 ) -> Result<(CscMatrix<T>, Vec<T>), OperationError>
     requires filled { IsFilledPattern l.pattern }
     requires included { IsIncluded lower.now.pattern l.pattern }
-    requires turned { IsTransposedPattern l.pattern rows.now }
+    requires transposed { IsTransposedPattern l.pattern rows.now }
     ensures pattern { IfOk result (λ r. r.0.pattern ≡ l.pattern) }
     ensures count { IfOk result (λ r. length r.1.items ≡ l.pattern.major_dim) }
     ensures factors { IfOk result (λ r. ArePartFactors T.ring T.value l.pattern.major_dim

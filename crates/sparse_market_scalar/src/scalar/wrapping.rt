@@ -2,15 +2,13 @@
 
 ghost use Rattle.std.specs.Int.{w32, w64, w128};
 ghost use Rattle.sparse_algebra.specs.Numbers.{w32_number, w64_number};
-ghost use Rattle.sparse_units.specs.WrappingValues.{w128_number};
+ghost use Rattle.sparse_algebra.specs.WrappingValues.{w128_number};
 ghost use Rattle.sparse_market_scalar.specs.ScalarTypes.{wrapping_scalar};
 
-use crate::scalar::MatrixMarketScalar;
+use crate::scalar::{MatrixMarketScalar, W128, W32, W64};
 use crate::scalar::decimal::push_integer;
 use itoa::Buffer;
-use sparse_algebra::scalar::{W32, W64};
 use sparse_parser::error::{Cause, MatrixMarketError};
-use sparse_units::W128;
 use std::alloc::AllocError;
 
 impl MatrixMarketScalar for W32 {

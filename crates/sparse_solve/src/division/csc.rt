@@ -2,14 +2,14 @@
 
 ghost use Rattle.std.specs.Prelude.{◌≡◌, ◌↔◌, IfOk, IfErr, IsErr, OnErr, OnOk};
 ghost use Rattle.sparse_cs.specs.PlainOfLanes.{plain_of_cols};
-ghost use Rattle.sparse_op.specs.declared.error.OperationErrorKind.TheVariants.{Singular};
+ghost use Rattle.sparse_algebra.specs.declared.error.OperationErrorKind.TheVariants.{Singular};
 ghost use Rattle.sparse_solve.specs.Quotients.{IsDivisionRefusal, IsQuotient};
-ghost use Rattle.sparse_units.specs.Inverses.{HasInverse};
+ghost use Rattle.sparse_algebra.specs.Inverses.{HasInverse};
 
 use super::inverse_of;
 use sparse_forms::csc::CscMatrix;
-use sparse_op::OperationError;
-use sparse_units::Units;
+use sparse_algebra::error::OperationError;
+use sparse_algebra::scalar::Units;
 use std::alloc::Global;
 
 /// Returns `a` divided by `s`: each stored value is multiplied by the inverse of `s`. The pattern is that of `a`.

@@ -1,3 +1,4 @@
+-- written by tools/answer-goals
 use Rattle.std.proofs.Common.{rules}
 use Rattle.mtx_commands.proofs.fill.factor_of.Goals as goal
 

@@ -11,7 +11,7 @@ returns g c =
     let t = c.in_ok-transposed.transposed in
     let pm = plain_of_rows R f m in
     let n = m.pattern.major_dim in
-    let turned = c.transpose_law.ensures.rows m t c.values.ensures.sound
+    let transposed = c.transpose_law.ensures.rows m t c.values.ensures.sound
     c.in_ok-transposed.ensures.sound c.in_ok-transposed.ensures.transposed in
     let square : m.pattern.minor_dim ≡ n = search rules in
     let test = c.in_ok-has_same_values.ensures in (
@@ -20,8 +20,8 @@ returns g c =
           record {
             square = square;
             values = λ i j row col. same i j row (omega (arith, col, square))
-                ∙ ap (λ (p : Plain R). p.value i j) turned;
+                ∙ ap (λ (p : Plain R). p.value i j) transposed;
           },
       λ s. test.1 (λ i j row col. s.values i j row (omega (arith, col, square))
-          ∙ sym (ap (λ (p : Plain R). p.value i j) turned)),
+          ∙ sym (ap (λ (p : Plain R). p.value i j) transposed)),
     )

@@ -1,7 +1,7 @@
 use Rattle.std.proofs.Common.{◌≡◌, ◌<◌, sym, true, rules}
 use Rattle.std.specs.Prelude.{◌&&◌}
 use Rattle.sparse_base.specs.CooPlain.{plain_of_coo}
-use Rattle.sparse_lemmas.proofs.Cases.{and_both}
+use Rattle.sparse_algebra.proofs.Cases.{and_both}
 use Rattle.reference.proofs.Reaching.{any_below-at}
 use Rattle.reference.proofs.products.product_has.Goals as goal
 

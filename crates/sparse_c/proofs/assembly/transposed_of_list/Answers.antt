@@ -1,7 +1,7 @@
 use Rattle.std.proofs.Common.{ap, ◌∙◌}
 use Rattle.sparse_algebra.specs.Plain.{plain_transpose}
 use Rattle.sparse_cs.specs.PlainOfLanes.{plain_of_rows}
-use Rattle.sparse_units.specs.WrappingValues.{w64_value}
+use Rattle.sparse_algebra.specs.WrappingValues.{w64_value}
 use Rattle.sparse_c.specs.Arrays.{ring64}
 use Rattle.sparse_c.proofs.assembly.transposed_of_list.Goals as goal
 

@@ -1,6 +1,6 @@
 use Rattle.std.proofs.Common.{ap, subst, ◌∙◌}
 use Rattle.sparse_pattern.specs.Raw.{raw_of}
-use Rattle.sparse_ops.specs.Products.{IsProductOf}
+use Rattle.sparse_products.specs.Products.{IsProductOf}
 use Rattle.sparse_c.proofs.products.nalgebra_sparse_multiply_places.Goals as goal
 
 pub returns-in-Ok-spmm_csr_pattern-clause-counted : goal.returns-in-Ok-spmm_csr_pattern-clause-counted

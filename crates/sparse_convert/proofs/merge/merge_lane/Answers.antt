@@ -69,5 +69,7 @@ loop-index-preserved g c =
           }
     ]
 
+-- ---- written by tools/answer-goals
+
 pub returns-clause-merged : goal.returns-clause-merged
 returns-clause-merged g c = grind (arith, common_steps)

@@ -6,7 +6,7 @@ use Rattle.sparse_algebra.specs.Plain.{plain_of_triplets, plain_transpose}
 use Rattle.sparse_base.specs.CooPlain.{plain_of_coo}
 use Rattle.sparse_cs.specs.PlainOfLanes.{plain_of_cols}
 use Rattle.sparse_convert.proofs.Compressing.{zip_of_parts}
-use Rattle.sparse_convert.proofs.TurnedTriplets.{plain_of_turned}
+use Rattle.sparse_convert.proofs.TransposedTriplets.{plain_of_transposed}
 use Rattle.sparse_convert.proofs.serial.convert_coo_csc.Goals as goal
 
 pub compress-requires-clause-majors_below : goal.compress-requires-clause-majors_below
@@ -44,7 +44,9 @@ returns-clause-plain g c =
     ) (ap (plain_of_triplets R f m.nrows m.ncols) (zip_of_parts m.triplets))
     in
     ap (plain_of_cols R f) c.from_cs.ensures ∙ ap (plain_transpose R) c.in_ok-cs.ensures.plain
-    ∙ plain_of_turned R f c.nrows.result c.ncols.result rows cols values ∙ parts
+    ∙ plain_of_transposed R f c.nrows.result c.ncols.result rows cols values ∙ parts
+
+-- ---- written by tools/answer-goals
 
 pub compress-requires-clause-minors : goal.compress-requires-clause-minors
 compress-requires-clause-minors g c = grind (arith, common_steps)

@@ -42,6 +42,8 @@ returns-clause-plain g c =
     in
     ap (plain_of_rows R f) c.from_cs.ensures ∙ c.in_ok-cs.ensures.plain ∙ parts
 
+-- ---- written by tools/answer-goals
+
 pub compress-requires-clause-minors : goal.compress-requires-clause-minors
 compress-requires-clause-minors g c = grind (arith, common_steps)
 

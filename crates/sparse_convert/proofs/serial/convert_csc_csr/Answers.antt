@@ -1,3 +1,4 @@
+-- written by tools/answer-goals
 use Rattle.std.proofs.Common.{rules}
 use Rattle.sparse_convert.proofs.serial.convert_csc_csr.Goals as goal
 

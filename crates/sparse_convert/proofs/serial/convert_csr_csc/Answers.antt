@@ -1,3 +1,4 @@
+-- written by tools/answer-goals
 use Rattle.std.proofs.Common.{rules}
 use Rattle.sparse_convert.proofs.serial.convert_csr_csc.Goals as goal
 

@@ -1,3 +1,4 @@
+-- written by tools/answer-goals
 use Rattle.std.proofs.Common.{rules}
 use Rattle.sparse_cs.proofs.CsMatrix.find_mut.Goals as goal
 

@@ -1,3 +1,4 @@
+-- written by tools/answer-goals
 use Rattle.std.proofs.Common.{rules}
 use Rattle.sparse_cs.proofs.CsMatrix.index_entry_mut.Goals as goal
 

@@ -13,5 +13,7 @@ returns g c = rw (
   c.pattern-pattern.ensures.pattern,
 )
 
+-- ---- written by tools/answer-goals
+
 pub new-requires : goal.new-requires
 new-requires g c = grind (arith, elements)

@@ -35,5 +35,7 @@ returns g c =
     grind (arith, common_steps) in
     rw (indices, values) at c.loop-at.invariant
 
+-- ---- written by tools/answer-goals
+
 pub loop-at-init : goal.loop-at-init
 loop-at-init g c = grind (arith, common_steps)

@@ -16,5 +16,7 @@ returns-in_default g c =
       refused = memory-refused c.kind.result _ _ _ refused c.in_default.not-IOError;
     }
 
+-- ---- written by tools/answer-goals
+
 pub returns-in-Ok-clause-refused : goal.returns-in-Ok-clause-refused
 returns-in-Ok-clause-refused g c = search rules

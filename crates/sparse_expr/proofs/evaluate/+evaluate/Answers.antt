@@ -2,7 +2,7 @@ use Rattle.std.proofs.Common.{ap, sym, ◌∙◌, map, subst, rules}
 use Rattle.std.proofs.lemmas.Result.{IfOk-from_err}
 use Rattle.sparse_algebra.specs.Plain.{plain_negation}
 use Rattle.sparse_base.specs.CooPlain.{plain_of_coo}
-use Rattle.sparse_expr.specs.InnerTurned.{rows_or_turned}
+use Rattle.sparse_expr.specs.InnerTransposed.{rows_or_transposed}
 use Rattle.sparse_expr.specs.Value.{value_of, Meets, one, sum_of, difference_of}
 use Rattle.sparse_expr.proofs.Values.{both_made}
 use Rattle.sparse_expr.proofs.evaluate.+evaluate.Goals as goal
@@ -32,9 +32,6 @@ pub returns-in_err-right-in-Mul-clause-provides : goal.returns-in_err-right-in-M
 returns-in_err-right-in-Mul-clause-provides g t c =
     IfOk-from_err _ _ c.from_residual-in_err-right-in-Mul.ensures.0
 
-pub returns-in_err-right-in-Mul-clause-met : goal.returns-in_err-right-in-Mul-clause-met
-returns-in_err-right-in-Mul-clause-met g t c = search rules
-
 pub returns-in_err-operand-in-Neg-clause-provides :
     goal.returns-in_err-operand-in-Neg-clause-provides
 returns-in_err-operand-in-Neg-clause-provides g t c =
@@ -47,9 +44,9 @@ returns-in_ok-second-in-Add-clause-met g t c =
     let a = ap (value_of R inputs) (sym c.deref.ensures) ∙ c.in_ok-first-in-Add.ensures.met in
     let b = ap (value_of R inputs) (sym c.deref-in-Add.ensures)
     ∙ c.in_ok-second-in-Add.ensures.met in
-    subst (λ v. Meets R (λ m. rows_or_turned R g.T.Ring.value c.args.turned m.value) v c.sum.result)
+    subst (λ v. Meets R (λ m. rows_or_transposed R g.T.Ring.value c.args.transposed m.value) v c.sum.result)
     (sym (ap (value_of R inputs) c.in-Add.is ∙ both_made R (sum_of R) _ _ _ _ a b))
-    (c.sum.ensures c.args.turned)
+    (c.sum.ensures c.args.transposed)
 
 pub returns-in_ok-subtrahend-in-Sub-clause-met : goal.returns-in_ok-subtrahend-in-Sub-clause-met
 returns-in_ok-subtrahend-in-Sub-clause-met g t c =
@@ -59,10 +56,10 @@ returns-in_ok-subtrahend-in-Sub-clause-met g t c =
     ∙ c.in_ok-minuend-in-Sub.ensures.met in
     let b = ap (value_of R inputs) (sym c.deref-in-Sub-2.ensures)
     ∙ c.in_ok-subtrahend-in-Sub.ensures.met in
-    subst (λ v. Meets R (λ m. rows_or_turned R g.T.Ring.value c.args.turned m.value) v
+    subst (λ v. Meets R (λ m. rows_or_transposed R g.T.Ring.value c.args.transposed m.value) v
     c.difference.result)
     (sym (ap (value_of R inputs) c.in-Sub.is ∙ both_made R (difference_of R) _ _ _ _ a b))
-    (c.difference.ensures c.args.turned)
+    (c.difference.ensures c.args.transposed)
 
 pub returns-in_ok-operand-in-Neg-clause-met : goal.returns-in_ok-operand-in-Neg-clause-met
 returns-in_ok-operand-in-Neg-clause-met g t c =
@@ -70,7 +67,12 @@ returns-in_ok-operand-in-Neg-clause-met g t c =
     let inputs = map (λ m. plain_of_coo R g.T.Ring.value m) c.args.inputs.now in
     let a = ap (value_of R inputs) (sym c.deref-in-Neg.ensures)
     ∙ c.in_ok-operand-in-Neg.ensures.met in
-    subst (λ v. Meets R (λ m. rows_or_turned R g.T.Ring.value c.args.turned m.value) v
+    subst (λ v. Meets R (λ m. rows_or_transposed R g.T.Ring.value c.args.transposed m.value) v
     c.negation.result)
     (sym (ap (value_of R inputs) c.in-Neg.is ∙ ap (one R (plain_negation R)) a))
-    (c.negation.ensures c.args.turned)
+    (c.negation.ensures c.args.transposed)
+
+-- ---- written by tools/answer-goals
+
+pub returns-in_err-right-in-Mul-clause-met : goal.returns-in_err-right-in-Mul-clause-met
+returns-in_err-right-in-Mul-clause-met g t c = search rules

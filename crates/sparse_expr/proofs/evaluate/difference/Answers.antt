@@ -5,10 +5,10 @@ use Rattle.sparse_expr.proofs.Values.{difference_met}
 use Rattle.sparse_expr.proofs.evaluate.difference.Goals as goal
 
 pub returns : goal.returns
-returns g c = λ turned.
+returns g c = λ transposed.
     let R = g.T.Ring.ring in
     let f = g.T.Ring.value in
-    difference_met R f turned c.args.x.value c.args.y.value c.in_ok-new.field-0.value
+    difference_met R f transposed c.args.x.value c.args.y.value c.in_ok-new.field-0.value
     (omega (
       arith,
       c.if-nrows.false,

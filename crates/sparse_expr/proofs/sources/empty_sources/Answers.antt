@@ -10,7 +10,7 @@ loop-input-preserved g c =
     AllZip-more (Provides g.T.Ring.ring g.T.Ring.value) c.args.inputs.now c.loop-input.sources.items
     _ c.loop-input._input-index c._input-item.result _ c.loop-input-test.true
     c.loop-input.invariant c.in_ok-push.ensures.items
-    (record { rows = tt; turned = tt })
+    (record { rows = tt; transposed = tt })
 
 pub returns : goal.returns
 returns g c =

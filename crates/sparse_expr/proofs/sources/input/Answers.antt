@@ -42,5 +42,7 @@ returns-clause-provides g c =
     (subst (λ list. Provides R f list c.matrix_of.new.source) c.index-inputs-number.is
     c.in_ok-matrix_of.ensures.provides)
 
+-- ---- written by tools/answer-goals
+
 pub returns-then-number-eq0-clause-met : goal.returns-then-number-eq0-clause-met
 returns-then-number-eq0-clause-met g c = grind (arith, elements)

@@ -11,7 +11,7 @@ ghost use Rattle.sparse_factor.specs.InnerTaken.{HasTaken};
 use super::runs::skip_row;
 use super::{Columns, count_steps};
 use sparse_base::steps::Steps;
-use sparse_counting::Count;
+use sparse_pattern::counting::Count;
 use std::alloc::AllocError;
 
 // Returns the positions of the rows below the diagonal of the column of `head`, none if that is 0.

@@ -26,5 +26,7 @@ loop-rest-preserved g c =
       ),
     )
 
+-- ---- written by tools/answer-goals
+
 pub returns-clause-all : goal.returns-clause-all
 returns-clause-all g c = grind (arith, common_steps)

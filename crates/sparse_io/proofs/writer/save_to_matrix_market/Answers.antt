@@ -34,15 +34,6 @@ pub returns-clause-prefix : goal.returns-clause-prefix
 returns-clause-prefix g c = on_err-map c.flush.result (IsWriting-refused _ _ _ _ _ _ _ _
     c.loop-row.invariant.writing) c.flush.ensures.prefix
 
-pub returns-in_err-text-clause-prefix : goal.returns-in_err-text-clause-prefix
-returns-in_err-text-clause-prefix g c = grind (arith, common_steps)
-
-pub put_triplet-requires-clause-col : goal.put_triplet-requires-clause-col
-put_triplet-requires-clause-col g c = grind (arith, moves)
-
-pub put_triplet-requires-clause-row : goal.put_triplet-requires-clause-row
-put_triplet-requires-clause-row g c = grind (arith, moves)
-
 pub returns-in_err-text-clause-ok : goal.returns-in_err-text-clause-ok
 returns-in_err-text-clause-ok g c = IfOk-from_err _ _ c.from_residual.ensures.0
 
@@ -69,3 +60,14 @@ returns-clause-unfailed g c = IfOk-equal _ _ _ _ c.flush.ensures.unfailed
 
 pub returns-clause-refused : goal.returns-clause-refused
 returns-clause-refused g c = rw (sym c.loop-row.invariant.unfailed) c.flush.ensures.refused
+
+-- ---- written by tools/answer-goals
+
+pub returns-in_err-text-clause-prefix : goal.returns-in_err-text-clause-prefix
+returns-in_err-text-clause-prefix g c = grind (arith, common_steps)
+
+pub put_triplet-requires-clause-col : goal.put_triplet-requires-clause-col
+put_triplet-requires-clause-col g c = grind (arith, moves)
+
+pub put_triplet-requires-clause-row : goal.put_triplet-requires-clause-row
+put_triplet-requires-clause-row g c = grind (arith, moves)

@@ -13,6 +13,8 @@ loop-row-preserved g c = rw c.in_ok-push_triplet.ensures
 pub returns : goal.returns
 returns g c = IsBegun-all _ _ _ _ _ c.loop-row.invariant c.in-None.ensures.steps.0
 
+-- ---- written by tools/answer-goals
+
 pub push_triplet-requires-clause-col : goal.push_triplet-requires-clause-col
 push_triplet-requires-clause-col g c = grind (arith, moves)
 

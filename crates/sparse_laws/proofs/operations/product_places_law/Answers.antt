@@ -1,5 +1,5 @@
 use Rattle.sparse_cs.proofs.Standing.{rows_have}
-use Rattle.sparse_ops.proofs.ProductPlaces.{joined_is}
+use Rattle.sparse_products.proofs.ProductPlaces.{joined_is}
 use Rattle.sparse_laws.proofs.operations.product_places_law.Goals as goal
 
 pub returns : goal.returns

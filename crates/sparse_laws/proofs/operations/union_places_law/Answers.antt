@@ -1,5 +1,5 @@
 use Rattle.std.proofs.Common.{inl, inr}
-use Rattle.sparse_lemmas.proofs.Cases.{or_cases, or_left, or_right}
+use Rattle.sparse_algebra.proofs.Cases.{or_cases, or_left, or_right}
 use Rattle.sparse_cs.proofs.Arrays.{has_is_place}
 use Rattle.sparse_laws.proofs.operations.union_places_law.Goals as goal
 

@@ -10,5 +10,7 @@ returns-then-end-lt12-clause-read c =
     c.split_at.ensures.front c.read_digits-end.ensures.end c.if-end-lt12.true
     c.read_digits-end.ensures.value
 
+-- ---- written by tools/answer-goals
+
 pub split_at-requires : goal.split_at-requires
 split_at-requires c = grind (arith, common_steps)

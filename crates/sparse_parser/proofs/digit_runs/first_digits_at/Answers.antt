@@ -39,6 +39,8 @@ loop-at-preserved c =
       number = rw is (digit_read c.loop-at.number _ _ inside digit ∙ c.loop-at.invariant.number);
     }
 
+-- ---- written by tools/answer-goals
+
 pub returns-after-loop-at-clause-read : goal.returns-after-loop-at-clause-read
 returns-after-loop-at-clause-read c = grind (arith, common_steps)
 

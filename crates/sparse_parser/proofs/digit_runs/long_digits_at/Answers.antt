@@ -10,5 +10,7 @@ returns-then-count-le-SHORT-clause-read c =
     c.requires c.text_from-rest.ensures c.split_at.ensures.front c.read_digits-count.ensures.end
     (omega arith) (omega arith) c.read_digits-count.ensures.value
 
+-- ---- written by tools/answer-goals
+
 pub returns-then-count-le-SHORT-clause-inside : goal.returns-then-count-le-SHORT-clause-inside
 returns-then-count-le-SHORT-clause-inside c = grind (arith, common_steps)

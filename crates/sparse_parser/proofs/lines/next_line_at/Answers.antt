@@ -8,5 +8,7 @@ returns-then-text-from-gt37-clause-same c =
     (line_begins_at c.args.text.now c.args.from (omega arith) c.if-text-from-eq10.true
     c.if-text-from-gt37.true).0
 
+-- ---- written by tools/answer-goals
+
 pub returns-then-text-from-gt37-clause-begins : goal.returns-then-text-from-gt37-clause-begins
 returns-then-text-from-gt37-clause-begins c = grind (arith, common_steps)

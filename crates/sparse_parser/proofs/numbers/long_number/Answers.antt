@@ -28,6 +28,8 @@ returns-clause-number c = fits_all c.loop-at.number c.args.text.now c.loop-at.at
               w.loop-at-test.false
         ]
 
+-- ---- written by tools/answer-goals
+
 pub loop-at-preserved : goal.loop-at-preserved
 loop-at-preserved c = grind (arith, common_steps)
 

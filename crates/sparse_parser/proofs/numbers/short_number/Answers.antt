@@ -46,5 +46,7 @@ returns-clause-stopped c =
           c.min-end.ensures w.loop-at-test.false c.loop-at.invariant.room
     ])
 
+-- ---- written by tools/answer-goals
+
 pub loop-at-preserved : goal.loop-at-preserved
 loop-at-preserved c = grind (arith, common_steps)

@@ -46,5 +46,7 @@ returns g c =
     forward_solved R f z (lower R f c.args.l.now) c.loop-k.k c.args.x.now c.loop-k.x (omega arith)
     c.loop-k.invariant
 
+-- ---- written by tools/answer-goals
+
 pub loop-k-init : goal.loop-k-init
 loop-k-init g c = grind (arith, elements)

@@ -63,5 +63,7 @@ returns g c =
       fourth = solved c.args.fourth.now was.fourth (omega arith) was.invariant.fourth;
     }
 
+-- ---- written by tools/answer-goals
+
 pub loop-k-init : goal.loop-k-init
 loop-k-init g c = grind (arith, common_steps)

@@ -1,5 +1,6 @@
 use Rattle.std.proofs.Common.{◌≤◌, slice_range, ◌≡◌}
-use Rattle.sparse_solve.specs.InnerColumns.{dot_of, entries}
+use Rattle.sparse_solve.specs.InnerColumns.{entries}
+use Rattle.sparse_algebra.specs.Sums.{dot_of}
 use Rattle.sparse_solve.proofs.kernels.four_dots.Given as goal
 
 abbrev pub invariant-loop-at : goal.invariant-loop-at

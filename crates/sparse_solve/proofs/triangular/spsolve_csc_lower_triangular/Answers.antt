@@ -1,5 +1,5 @@
 use Rattle.std.proofs.Common.{◌<◌, ℕ, sym, refl, arith}
-use Rattle.sparse_op.specs.Operands.{inner_of}
+use Rattle.sparse_algebra.specs.Operands.{inner_of}
 use Rattle.sparse_base.specs.DensePlain.{plain_of_dense}
 use Rattle.sparse_cs.specs.PlainOfLanes.{plain_of_cols}
 use Rattle.sparse_solve.specs.Solutions.{plain_lower}

@@ -1,7 +1,7 @@
 use Rattle.std.proofs.Common.{◌<◌, false, length, ap, ◌∙◌, refl, arith}
 use Rattle.sparse_cs.proofs.Arrays.{position_within}
 use Rattle.sparse_cs.specs.PlainOfLanes.{plain_of_rows}
-use Rattle.sparse_sums.specs.InnerPlacing.{plain_turned}
+use Rattle.sparse_algebra.specs.Prealloc.{plain_transpose_if}
 use Rattle.sparse_sums.proofs.prealloc.add_into.Goals as goal
 
 pub covers_lanes-requires : goal.covers_lanes-requires
@@ -55,7 +55,7 @@ returns-clause-added g c = λ i j p at.
       position_within c.args.pattern.now c.major_offsets.ensures.valid i j p at,
       c.requires.count,
     ) in
-    let x = R.mul (f c.args.alpha) ((plain_turned R false (plain_of_rows R f c.args.a.now)).value i
+    let x = R.mul (f c.args.alpha) ((plain_transpose_if R false (plain_of_rows R f c.args.a.now)).value i
     j) in
     c.add_in_order.ensures.added i j p at ∙ ap (λ y. R.add y x)
     (c.scale_values.ensures.each p within)

@@ -18,5 +18,7 @@ returns-in-Some c =
       within = rw c.major_offsets.ensures.offsets (omega (arith, within, valid.inside));
     }
 
+-- ---- written by tools/answer-goals
+
 pub overflow_add-result : goal.overflow_add-result
 overflow_add-result c = grind (arith, elements)

@@ -26,5 +26,7 @@ returns-clause-scaled c = λ w s a. scaled_shows w a s
 pub returns-clause-product : goal.returns-clause-product
 returns-clause-product c = product_shows
 
+-- ---- written by tools/answer-goals
+
 pub returns-clause-from_whole : goal.returns-clause-from_whole
 returns-clause-from_whole c = grind (arith, common_steps)

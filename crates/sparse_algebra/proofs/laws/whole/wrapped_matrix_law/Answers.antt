@@ -29,6 +29,8 @@ returns-clause-scaled c = wrapped-scaled
 pub returns-clause-product : goal.returns-clause-product
 returns-clause-product c = wrapped-product
 
+-- ---- written by tools/answer-goals
+
 pub returns-clause-identity : goal.returns-clause-identity
 returns-clause-identity c = grind (arith, common_steps)
 

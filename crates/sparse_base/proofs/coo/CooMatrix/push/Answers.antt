@@ -20,6 +20,8 @@ returns-clause-ok g c =
     )
     (ap (coo_of m.nrows m.ncols) more)
 
+-- ---- written by tools/answer-goals
+
 pub invariant_of-self : goal.invariant_of-self
 invariant_of-self g c = search rules
 

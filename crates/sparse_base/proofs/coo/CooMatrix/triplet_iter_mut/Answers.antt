@@ -31,5 +31,7 @@ returns g c =
       },
     )
 
+-- ---- written by tools/answer-goals
+
 pub invariant_of-self-lent : goal.invariant_of-self-lent
 invariant_of-self-lent g c = grind (arith, common_steps)

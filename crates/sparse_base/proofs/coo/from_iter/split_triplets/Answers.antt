@@ -14,5 +14,7 @@ returns g c =
       (kept.rows, kept.cols, kept.values),
     )
 
+-- ---- written by tools/answer-goals
+
 pub loop-row-preserved : goal.loop-row-preserved
 loop-row-preserved g c = grind (arith, common_steps)

@@ -3,9 +3,6 @@ use Rattle.std.proofs.Common.{rules, arith}
 use Rattle.sparse_base.proofs.DenseLemmas.{columns_within, columns_read}
 use Rattle.sparse_base.proofs.dense.DMatrix.columns_mut.Goals as goal
 
-pub invariant_of-self-lent : goal.invariant_of-self-lent
-invariant_of-self-lent g c = grind (arith, common_steps)
-
 pub overflow_mul-start : goal.overflow_mul-start
 overflow_mul-start g c =
     let m = c.self.inside in
@@ -52,3 +49,8 @@ returns g c =
             (rw (← c.self.view_is) at row) col (omega (arith, within, c.self.invariant)));
       },
     )
+
+-- ---- written by tools/answer-goals
+
+pub invariant_of-self-lent : goal.invariant_of-self-lent
+invariant_of-self-lent g c = grind (arith, common_steps)

@@ -8,5 +8,7 @@ pub returns : goal.returns
 returns g c = repeated_values c.args.nrows c.args.ncols c.args.value _
     (c.in_ok-copies_of.ensures ∙ ap (λ n. replicate n c.args.value) c.in-Some.ensures.1)
 
+-- ---- written by tools/answer-goals
+
 pub invariant_of-result : goal.invariant_of-result
 invariant_of-result g c = grind (arith, common_steps)

@@ -32,5 +32,7 @@ index_mut-requires g c =
     (rw (← c.self.view_is) at c.requires.col) (rw (← c.self.view_is) at c.requires.row) in
     omega (arith, place, c.self.invariant)
 
+-- ---- written by tools/answer-goals
+
 pub returns-clause-exact : goal.returns-clause-exact
 returns-clause-exact g c = search rules

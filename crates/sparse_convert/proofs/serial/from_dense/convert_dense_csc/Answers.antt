@@ -2,7 +2,7 @@ use Rattle.std.proofs.lemmas.Result.{IfOk-from_err}
 use Rattle.std.proofs.lemmas.Grind.{common_steps}
 use Rattle.std.proofs.Common.{map, ap, sym, ◌∙◌, arith}
 use Rattle.std.specs.List.{filter}
-use Rattle.sparse_cs.specs.Compressed.{turned}
+use Rattle.sparse_cs.specs.Compressed.{transposed}
 use Rattle.sparse_convert.specs.FromDense.{differs_from}
 use Rattle.sparse_convert.proofs.FullLanes.{kept_columns, lanes_by_columns}
 use Rattle.sparse_convert.proofs.serial.from_dense.convert_dense_csc.Goals as goal
@@ -25,8 +25,10 @@ returns-clause-kept g c =
     let kept = rw (c.nrows-nrows.ensures, c.ncols-ncols.ensures, c.as_slice.ensures.values) at
     c.in_ok-cs.ensures.kept in
     rw c.from_cs.ensures
-    (ap (map turned) (kept ∙ ap (filter (differs_from E z)) (lanes_by_columns z d))
+    (ap (map transposed) (kept ∙ ap (filter (differs_from E z)) (lanes_by_columns z d))
     ∙ sym (kept_columns E z d))
+
+-- ---- written by tools/answer-goals
 
 pub compress_lanes-requires-clause-starts : goal.compress_lanes-requires-clause-starts
 compress_lanes-requires-clause-starts g c = grind (arith, common_steps)

@@ -4,7 +4,7 @@ use Rattle.sparse_cs.proofs.Arrays.{equal_decides}
 use Rattle.sparse_cs.specs.Compressed.{lane_triplets}
 use Rattle.sparse_convert.specs.OneMatrix.{Triplets, Rows, Cols}
 use Rattle.sparse_convert.proofs.Reaching.{reached_same, reached_sound}
-use Rattle.sparse_convert.proofs.StoredTriplets.{plain_of_turned_list}
+use Rattle.sparse_convert.proofs.StoredTriplets.{plain_of_transposed_list}
 use Rattle.sparse_convert.proofs.serial.laws.one_matrix_law.Goals as goal
 
 pub returns-clause-three_representations : goal.returns-clause-three_representations
@@ -47,7 +47,7 @@ pub returns-clause-cols_and_back : goal.returns-clause-cols_and_back
 returns-clause-cols_and_back g c = λ m n sm sn back.
     let R = g.T.Ring.ring in
     let f = g.T.Ring.value in
-    let list = plain_of_turned_list R f m.pattern.major_dim m.pattern.minor_dim (lane_triplets m) in
+    let list = plain_of_transposed_list R f m.pattern.major_dim m.pattern.minor_dim (lane_triplets m) in
     (equal_decides R f g.T.PartialEq.eq g.met.T.Ring.eq_law g.T.Zero.zero_value m n sm sn).1
     (ap (plain_transpose R) (sym (back ∙ list)))
 

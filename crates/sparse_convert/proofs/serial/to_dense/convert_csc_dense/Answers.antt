@@ -1,17 +1,17 @@
 use Rattle.std.proofs.Common.{◌≡◌, map, refl, rules}
-use Rattle.sparse_cs.specs.Compressed.{lane_triplets, turned}
+use Rattle.sparse_cs.specs.Compressed.{lane_triplets, transposed}
 use Rattle.sparse_convert.proofs.DenseWriting.{none_written, next_inside, one_written}
-use Rattle.sparse_convert.proofs.DenseValues.{replaced, cols_written, turned_inside}
+use Rattle.sparse_convert.proofs.DenseValues.{replaced, cols_written, transposed_inside}
 use Rattle.sparse_convert.proofs.serial.to_dense.convert_csc_dense.Goals as goal
 
 pub loop-i-init : goal.loop-i-init
 loop-i-init g c =
     let m = c.args.csc.now in
-    let all : c.into_iter-i-iterator.result ≡ map turned (lane_triplets m) = search rules in
+    let all : c.into_iter-i-iterator.result ≡ map transposed (lane_triplets m) = search rules in
     rw all (none_written replaced (λ v. v) m.pattern.minor_dim m.pattern.major_dim
-    (map turned (lane_triplets m)) g.T.Zero.zero_value c.in_ok-dense.dense
+    (map transposed (lane_triplets m)) g.T.Zero.zero_value c.in_ok-dense.dense
     (rw (c.nrows.ensures, c.ncols.ensures) at c.in_ok-dense.ensures)
-    (turned_inside g.T.Zero.zero_value m c.triplet_iter-i-items.ensures.sound))
+    (transposed_inside g.T.Zero.zero_value m c.triplet_iter-i-items.ensures.sound))
 
 pub set-requires-clause-row : goal.set-requires-clause-row
 set-requires-clause-row g c =

@@ -1,6 +1,6 @@
 use Rattle.std.proofs.Common.{ap}
 use Rattle.sparse_base.specs.Coo.{coo_of}
-use Rattle.sparse_convert.proofs.StoredTriplets.{parts_by_cols, zip_of_turned}
+use Rattle.sparse_convert.proofs.StoredTriplets.{parts_by_cols, zip_of_transposed}
 use Rattle.sparse_cs.specs.Compressed.{lane_triplets}
 use Rattle.sparse_convert.proofs.serial.triplets.convert_csc_coo.Goals as goal
 
@@ -30,4 +30,4 @@ returns g c =
       lists.values,
       c.cs.ensures.core,
     ) (ap (coo_of m.pattern.minor_dim m.pattern.major_dim)
-    (zip_of_turned (lane_triplets m)))
+    (zip_of_transposed (lane_triplets m)))

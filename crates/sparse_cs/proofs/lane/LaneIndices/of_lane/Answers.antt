@@ -1,3 +1,4 @@
+-- written by tools/answer-goals
 use Rattle.std.proofs.lemmas.Grind.{elements}
 use Rattle.std.proofs.Common.{arith}
 use Rattle.sparse_cs.proofs.lane.LaneIndices.of_lane.Goals as goal

@@ -1,3 +1,4 @@
+-- written by tools/answer-goals
 use Rattle.std.proofs.Common.{arith}
 use Rattle.std.proofs.lemmas.Grind.{elements}
 use Rattle.sparse_cs.proofs.lane_iter_mut.CsLaneIterMutIterator.next.Goals as goal

@@ -1,3 +1,4 @@
+-- written by tools/answer-goals
 use Rattle.std.proofs.Common.{rules}
 use Rattle.sparse_data.proofs.csc.CscMatrixTryFromData.try_from_data.Goals as goal
 

@@ -55,5 +55,7 @@ returns-clause-refused c =
       ],
     ))))
 
+-- ---- written by tools/answer-goals
+
 pub returns-clause-said : goal.returns-clause-said
 returns-clause-said c = grind (arith, common_steps)

@@ -1,3 +1,4 @@
+-- written by tools/answer-goals
 use Rattle.std.proofs.Common.{rules}
 use Rattle.sparse_expr.proofs.words.Token.from_word.Goals as goal
 

@@ -28,5 +28,7 @@ returns-clause-diagonal c =
     stores_diagonal (TriangleBase side p) (triangle_low side p) l.l_pattern
     l.ensures.places l.ensures.valid
 
+-- ---- written by tools/answer-goals
+
 pub returns-clause-input : goal.returns-clause-input
 returns-clause-input c = search rules

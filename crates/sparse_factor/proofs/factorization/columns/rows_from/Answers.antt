@@ -1,5 +1,5 @@
 use Rattle.std.proofs.Common.{inl, inr, length, arith}
-use Rattle.sparse_lemmas.proofs.Cases.{lt_or_ge}
+use Rattle.sparse_algebra.proofs.Cases.{lt_or_ge}
 use Rattle.sparse_pattern.proofs.LaneLists.{has_from_contains, contains_from_has}
 use Rattle.sparse_factor.proofs.Runs.{run_whole, run_back, rising_run, run_has}
 use Rattle.sparse_factor.proofs.factorization.columns.rows_from.Goals as goal

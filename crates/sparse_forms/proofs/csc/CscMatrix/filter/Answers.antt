@@ -1,12 +1,12 @@
 use Rattle.std.proofs.Common.{rules}
-use Rattle.sparse_cs.specs.Compressed.{turned}
+use Rattle.sparse_cs.specs.Compressed.{transposed}
 use Rattle.sparse_cs.specs.Filter.{Answers}
 use Rattle.sparse_cs.proofs.Kept.{IsKept-map, filter_from_kept}
 use Rattle.sparse_forms.proofs.csc.CscMatrix.filter.Goals as goal
 
 pub returns-clause-kept : goal.returns-clause-kept
 returns-clause-kept g c = rw (← c.cs.ensures.core)
-    (IsKept-map _ (Answers g.P.Fn c.args.predicate) turned
+    (IsKept-map _ (Answers g.P.Fn c.args.predicate) transposed
     (λ t b a. record { shown = a.shown; shows = a.shows; says = record { met = search rules } }) _ _
     c.in_ok-filter.ensures.kept)
 

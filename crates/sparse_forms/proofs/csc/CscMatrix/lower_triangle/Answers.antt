@@ -1,3 +1,4 @@
+-- written by tools/answer-goals
 use Rattle.std.proofs.Common.{rules}
 use Rattle.sparse_forms.proofs.csc.CscMatrix.lower_triangle.Goals as goal
 

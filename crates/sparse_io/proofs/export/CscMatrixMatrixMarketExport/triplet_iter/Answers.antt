@@ -1,7 +1,7 @@
 use Rattle.sparse_cs.proofs.Inside.{lane_triplets-inside}
-use Rattle.sparse_io.proofs.Turned.{turned-inside}
+use Rattle.sparse_io.proofs.Transposed.{transposed-inside}
 use Rattle.sparse_io.proofs.export.CscMatrixMatrixMarketExport.triplet_iter.Goals as goal
 
 pub returns-clause-inside : goal.returns-clause-inside
-returns-clause-inside g c = turned-inside _ _ _
+returns-clause-inside g c = transposed-inside _ _ _
     (lane_triplets-inside _ c.triplet_iter.ensures.sound)

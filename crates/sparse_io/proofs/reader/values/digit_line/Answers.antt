@@ -2,7 +2,7 @@ use Rattle.std.proofs.Common.{◌≡◌, ℕ, ◌+◌, ◌<◌, true, subst, eqb
 use Rattle.std.proofs.Common.{arith, rules}
 use Rattle.std.specs.Prelude.{◌&&◌}
 use Rattle.std.proofs.lemmas.Bool.{eqb-true, ltb-true}
-use Rattle.sparse_lemmas.proofs.Cases.{and_parts}
+use Rattle.sparse_algebra.proofs.Cases.{and_parts}
 use Rattle.sparse_parser.specs.InnerIntegers.{IsValueLine}
 use Rattle.sparse_parser.specs.InnerBytes.{BeginsLine}
 use Rattle.sparse_parser.specs.InnerReading.{contents_of}

@@ -14,5 +14,7 @@ returns-clause-short c =
     let short : length (decimal c.args.number) ≤ 20 = search (rules, length-decimal-le 20) in
     omega (arith, c.write_digits.ensures.start)
 
+-- ---- written by tools/answer-goals
+
 pub returns-clause-written : goal.returns-clause-written
 returns-clause-written c = grind (arith, common_steps)

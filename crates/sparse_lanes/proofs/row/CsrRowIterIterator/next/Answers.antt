@@ -1,3 +1,4 @@
+-- written by tools/answer-goals
 use Rattle.std.proofs.Common.{rules}
 use Rattle.sparse_lanes.proofs.row.CsrRowIterIterator.next.Goals as goal
 

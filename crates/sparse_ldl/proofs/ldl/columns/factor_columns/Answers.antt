@@ -4,11 +4,11 @@ use Rattle.sparse_cs.specs.Compressed.{compressed_of}
 use Rattle.sparse_cs.specs.PlainOfLanes.{plain_of_cols}
 use Rattle.sparse_pattern.specs.Raw.{IsPlace}
 use Rattle.sparse_solve.specs.InnerColumns.{entries}
-use Rattle.sparse_units.specs.Inverses.{HasInverse}
+use Rattle.sparse_algebra.specs.Inverses.{HasInverse}
 use Rattle.sparse_ldl.specs.InnerColumns.{AreColumnsDone, ArePartFactors, IsFilledPattern, IsLeft}
 use Rattle.sparse_ldl.specs.InnerColumns.{IsIncluded, IsRowOf}
 use Rattle.sparse_ldl.proofs.ColumnSteps.{step_done, step_singular}
-use Rattle.sparse_ldl.proofs.TurnedRows.{lane_is_row}
+use Rattle.sparse_ldl.proofs.TransposedRows.{lane_is_row}
 use Rattle.sparse_ldl.proofs.ldl.columns.factor_columns.Goals as goal
 
 pub subtract_columns-requires-clause-lower : goal.subtract_columns-requires-clause-lower
@@ -17,12 +17,12 @@ subtract_columns-requires-clause-lower g c = λ k i place.
 
 pub subtract_columns-requires-clause-row : goal.subtract_columns-requires-clause-row
 subtract_columns-requires-clause-row g c =
-    let lane = lane_is_row c.args.l.now.pattern c.args.rows.now c.requires.turned
+    let lane = lane_is_row c.args.l.now.pattern c.args.rows.now c.requires.transposed
     c.major_offsets.ensures.valid c.loop-j.j
     (omega (
       arith,
       c.loop-j-test.true,
-      c.requires.turned.major_dim,
+      c.requires.transposed.major_dim,
       c.requires.filled.square,
       c.requires.pivots,
     )) in

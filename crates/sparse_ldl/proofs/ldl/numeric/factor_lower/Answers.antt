@@ -2,7 +2,7 @@ use Rattle.std.proofs.Common.{◌≡◌, ◌<◌, ℕ, length, get_or, replicate
 use Rattle.std.proofs.lemmas.List.{get_or-replicate, length-replicate}
 use Rattle.sparse_cs.specs.PlainOfLanes.{plain_of_cols}
 use Rattle.sparse_ldl.specs.InnerColumns.{ArePartFactors}
-use Rattle.sparse_op.specs.declared.error.OperationErrorKind.TheVariants.{Singular}
+use Rattle.sparse_algebra.specs.declared.error.OperationErrorKind.TheVariants.{Singular}
 use Rattle.sparse_ldl.proofs.Results.{err_any}
 use Rattle.sparse_ldl.proofs.Cursors.{first_cursors}
 use Rattle.sparse_ldl.proofs.ldl.numeric.factor_lower.Goals as goal

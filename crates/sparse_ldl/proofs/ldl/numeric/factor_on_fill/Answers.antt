@@ -1,6 +1,6 @@
 use Rattle.std.proofs.Common.{◌≡◌, ℕ, ap, sym, subst, ◌∙◌}
 use Rattle.sparse_cs.specs.PlainOfLanes.{plain_of_cols}
-use Rattle.sparse_op.specs.declared.error.OperationErrorKind.TheVariants.{Singular}
+use Rattle.sparse_algebra.specs.declared.error.OperationErrorKind.TheVariants.{Singular}
 use Rattle.sparse_pattern.specs.TransposedPattern.{IsTransposedPattern}
 use Rattle.sparse_solve.specs.InnerColumns.{entries}
 use Rattle.sparse_ldl.specs.Factorisations.{IsFactorisation}
@@ -27,8 +27,8 @@ factor_lower-requires-clause-included g c =
     (lower.rows ∙ sym need.square ∙ sym need.rows)
     (lower.columns ∙ need.square ∙ sym need.columns) lower.places)
 
-pub factor_lower-requires-clause-turned : goal.factor_lower-requires-clause-turned
-factor_lower-requires-clause-turned g c =
+pub factor_lower-requires-clause-transposed : goal.factor_lower-requires-clause-transposed
+factor_lower-requires-clause-transposed g c =
     subst (λ p. IsTransposedPattern p c.in_ok-rows.rows) (sym c.in_ok-l.ensures.pattern)
     c.in_ok-rows.ensures.transposed
 

@@ -24,7 +24,7 @@ returns-clause-plain g c =
     ok_both (IsTranspose u) IsSound
     (λ m. plain_of_cols R f m ≡ plain_transpose R (plain_upper R (plain_of_cols R f a)))
     c.transpose-2.result
-    (λ t turned sound. ap (plain_transpose R) (plain_transposed R f z u t upper.sound sound turned)
+    (λ t transposed sound. ap (plain_transpose R) (plain_transposed R f z u t upper.sound sound transposed)
     ∙ ap (plain_transpose R) kept) c.transpose-2.ensures.transposed c.transpose-2.ensures.sound
 
 pub returns-clause-places : goal.returns-clause-places
@@ -37,5 +37,5 @@ returns-clause-places g c =
     let kept = c.kept_cols_law.ensures (λ i j. nat_le i j) a u upper.sizes upper.kept in
     ok_both (IsTranspose u) IsSound
     (λ m. (i j : ℕ) → IsPlace m.pattern j i → UpperBase a.pattern i j) c.transpose-2.result
-    (λ t turned sound i j place. lower_places R f a u c.values.ensures.sound upper.sound kept t
-    turned.pattern i j place) c.transpose-2.ensures.transposed c.transpose-2.ensures.sound
+    (λ t transposed sound i j place. lower_places R f a u c.values.ensures.sound upper.sound kept t
+    transposed.pattern i j place) c.transpose-2.ensures.transposed c.transpose-2.ensures.sound

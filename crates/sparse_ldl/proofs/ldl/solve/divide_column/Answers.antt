@@ -1,8 +1,8 @@
 use Rattle.std.proofs.Common.{◌≡◌, ◌<◌, length, get_or, set, ap, sym, subst, ◌∙◌, arith}
 use Rattle.std.proofs.Common.{get_or-set_same, get_or-set_other, inl, inr}
 use Rattle.std.proofs.lemmas.List.{get_or_default}
-use Rattle.sparse_lemmas.proofs.Cases.{lt_add_one_cases}
-use Rattle.sparse_units.specs.Inverses.{HasInverse}
+use Rattle.sparse_algebra.proofs.Cases.{lt_add_one_cases}
+use Rattle.sparse_algebra.specs.Inverses.{HasInverse}
 use Rattle.sparse_solve.proofs.RingSteps.{divided}
 use Rattle.sparse_solve.specs.InnerColumns.{entries}
 use Rattle.sparse_ldl.proofs.ldl.solve.divide_column.Goals.{in-Some, in_default}

@@ -1,3 +1,4 @@
+-- written by tools/answer-goals
 use Rattle.std.proofs.Common.{rules}
 use Rattle.sparse_market_scalar.proofs.scalar.UnitMatrixMarketScalar.typename.Goals as goal
 

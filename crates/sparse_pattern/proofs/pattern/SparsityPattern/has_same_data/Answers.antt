@@ -1,3 +1,4 @@
+-- written by tools/answer-goals
 use Rattle.std.proofs.Common.{rules}
 use Rattle.sparse_pattern.proofs.pattern.SparsityPattern.has_same_data.Goals as goal
 

@@ -1,3 +1,4 @@
+-- written by tools/answer-goals
 use Rattle.std.proofs.Common.{rules}
 use Rattle.sparse_pattern.proofs.pattern.SparsityPattern.try_from_offsets_and_indices.Goals as goal
 

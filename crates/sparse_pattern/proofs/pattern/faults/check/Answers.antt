@@ -19,9 +19,6 @@ returns-in_err-check_lane-clause-fault c =
     rw (p.1, p.2) (first_among _ c.loop-lane.lane c.loop-lane.invariant (omega arith) (omega arith)
     (omega arith) _ c.in_err-check_lane.ensures.fault)
 
-pub loop-lane-init : goal.loop-lane-init
-loop-lane-init c = search rules
-
 pub overflow_add-major_dim : goal.overflow_add-major_dim
 overflow_add-major_dim c = omega arith
 
@@ -54,3 +51,8 @@ check_lane-requires c = omega arith
 
 pub returns-in_err-check_lane-clause-ok : goal.returns-in_err-check_lane-clause-ok
 returns-in_err-check_lane-clause-ok c = IfOk-from_err _ _ c.from_residual.ensures.0
+
+-- ---- written by tools/answer-goals
+
+pub loop-lane-init : goal.loop-lane-init
+loop-lane-init c = search rules

@@ -1,3 +1,4 @@
+-- written by tools/answer-goals
 use Rattle.std.proofs.Common.{rules}
 use Rattle.sparse_solve.proofs.division.csc.div_scalar_mut_csc.Goals as goal
 

@@ -1,3 +1,4 @@
+-- written by tools/answer-goals
 use Rattle.std.proofs.Common.{rules}
 use Rattle.sparse_solve.proofs.division.csr.div_scalar_mut_csr.Goals as goal
 

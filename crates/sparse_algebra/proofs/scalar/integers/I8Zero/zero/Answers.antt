@@ -1,3 +1,4 @@
+-- written by tools/answer-goals
 use Rattle.std.proofs.Common.{rules}
 use Rattle.sparse_algebra.proofs.scalar.integers.I8Zero.zero.Goals as goal
 

@@ -1,3 +1,4 @@
+-- written by tools/answer-goals
 use Rattle.std.proofs.Common.{rules}
 use Rattle.sparse_algebra.proofs.scalar.wrapping.W64.new.Goals as goal
 

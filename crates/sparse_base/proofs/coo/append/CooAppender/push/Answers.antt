@@ -18,6 +18,8 @@ returns-clause-pushed g c =
     )
     (ap (coo_of m.nrows m.ncols) more)
 
+-- ---- written by tools/answer-goals
+
 pub returns-clause-room : goal.returns-clause-room
 returns-clause-room g c = search rules
 

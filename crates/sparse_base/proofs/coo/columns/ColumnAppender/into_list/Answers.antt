@@ -1,3 +1,4 @@
+-- written by tools/answer-goals
 use Rattle.std.proofs.Common.{arith, rules}
 use Rattle.std.proofs.lemmas.Grind.{common_steps}
 use Rattle.sparse_base.proofs.coo.columns.ColumnAppender.into_list.Goals as goal

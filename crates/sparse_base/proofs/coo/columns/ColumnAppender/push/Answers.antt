@@ -36,9 +36,6 @@ returns-clause-pushed g c =
     m.values.items c.push_reserved.new.self.items c.args.v count _ c.push_reserved.ensures.items
     next parts))
 
-pub returns-clause-left : goal.returns-clause-left
-returns-clause-left g c = search rules
-
 pub push_reserved-requires : goal.push_reserved-requires
 push_reserved-requires g c =
     let m = c.self.inside in
@@ -78,3 +75,8 @@ returns-clause-room g c =
 
 pub returns-clause-col : goal.returns-clause-col
 returns-clause-col g c = rw (← c.self.view_is) refl
+
+-- ---- written by tools/answer-goals
+
+pub returns-clause-left : goal.returns-clause-left
+returns-clause-left g c = search rules

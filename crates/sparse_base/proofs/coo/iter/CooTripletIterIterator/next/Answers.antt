@@ -1,3 +1,4 @@
+-- written by tools/answer-goals
 use Rattle.std.proofs.lemmas.Grind.{common_steps}
 use Rattle.std.proofs.Common.{rules, arith}
 use Rattle.sparse_base.proofs.coo.iter.CooTripletIterIterator.next.Goals as goal

@@ -11,5 +11,7 @@ remove-requires-clause-within c =
     let inside = p.in_array (left_some p.symmetry p.rows p.cols p.row p.col some) in
     omega (arith, inside)
 
+-- ---- written by tools/answer-goals
+
 pub returns-then-not-is_empty : goal.returns-then-not-is_empty
 returns-then-not-is_empty c = search rules

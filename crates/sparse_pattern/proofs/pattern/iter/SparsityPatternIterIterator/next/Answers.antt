@@ -9,6 +9,8 @@ loop-left-preserved c =
     skip_lane _ _ c.loop-left.left.now c.loop-left.lane (grind (arith, nat_tests)) (omega arith)
     ∙ c.loop-left.invariant
 
+-- ---- written by tools/answer-goals
+
 pub returns-in-Some-clause-steps : goal.returns-in-Some-clause-steps
 returns-in-Some-clause-steps c = search rules
 

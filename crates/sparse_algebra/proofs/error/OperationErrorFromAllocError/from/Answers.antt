@@ -1,0 +1,6 @@
+-- written by tools/answer-goals
+use Rattle.std.proofs.Common.{rules}
+use Rattle.sparse_algebra.proofs.error.OperationErrorFromAllocError.from.Goals as goal
+
+pub returns : goal.returns
+returns c = search rules

@@ -1,0 +1,12 @@
+-- The number that a residue shows.
+use Rattle.std.specs.Prelude.{ℕ}
+use Rattle.sparse_algebra.specs.Residues.{Residue}
+use Rattle.sparse_algebra.specs.Moduli.{modulus, mod_class}
+use Rattle.sparse_algebra.specs.declared.scalar.residues.Mod.{Mod}
+
+abbrev pub mod_number : {m : ℕ} → Mod m → ℕ
+mod_number x = x.number
+
+-- the residue that it means
+abbrev pub mod_value : {m : ℕ} → Mod m → Residue (modulus m)
+mod_value {m} x = mod_class m x.number

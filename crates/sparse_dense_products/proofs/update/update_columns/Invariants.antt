@@ -1,0 +1,22 @@
+use Rattle.std.proofs.Common.{◌-◌, ◌≤◌}
+use Rattle.sparse_algebra.specs.Plain.{plain_product}
+use Rattle.sparse_cs.specs.PlainOfLanes.{plain_of_rows}
+use Rattle.sparse_dense_products.specs.DenseOperands.{op_dense}
+use Rattle.sparse_dense_products.specs.InnerUpdates.{AreUpdatedBelow}
+use Rattle.sparse_algebra.specs.Prealloc.{plain_transpose_if}
+use Rattle.sparse_dense_products.proofs.update.update_columns.Given as goal
+
+abbrev pub invariant-loop-j : goal.invariant-loop-j
+invariant-loop-j g l =
+    let R = g.T.Ring.ring in
+    let f = g.T.Ring.value in
+    record {
+      within : l.j ≤ l.ncols;
+      done : AreUpdatedBelow R f g.T.Zero.zero_value (f l.beta) (f l.alpha) l.nrows l.j
+          (plain_product R (plain_transpose_if R l.transposed (plain_of_rows R f l.a))
+          (op_dense R f l.b)).value
+          l.initial.c l.c;
+    }
+
+abbrev pub decreases-loop-j : goal.decreases-loop-j
+decreases-loop-j g l = l.ncols - l.j

@@ -1,0 +1,53 @@
+//! The columns of op(B), and the lanes of A.
+
+ghost use Rattle.std.specs.Prelude.{◌≡◌, ℕ, ◌<◌, length};
+ghost use Rattle.sparse_cs.specs.Compressed.{IsSound};
+ghost use Rattle.sparse_cs.specs.Lanes.{lane_at};
+ghost use Rattle.sparse_dense_products.specs.DenseOperands.{op_dense};
+ghost use Rattle.sparse_dense_products.specs.InnerUpdates.{HasStrided, op_step, strided};
+
+use sparse_algebra::scalar::Ring;
+use sparse_base::dense::DMatrix;
+use sparse_cs::CsMatrix;
+use sparse_algebra::operand::Op;
+
+// Returns how far apart the entries of a column of op(B) stand.
+pub fn step_of<T>(b: Op<&DMatrix<T>>) -> usize
+    ensures { result ≡ op_step b.entry }
+{
+    match b {
+        Op::NoOp(_) => 1,
+        Op::Transpose(b) => b.nrows(),
+    }
+}
+
+// Returns the values of B from the first entry of column j of op(B) on.
+pub fn column_of<T: Ring>(b: Op<&DMatrix<T>>, j: usize) -> &[T]
+    requires { j < (op_dense T.ring T.value b).cols }
+    ensures inside { HasStrided result.now (op_step b.entry)
+        (op_dense T.ring T.value b.entry).rows }
+    ensures entries { (k : ℕ) → k < (op_dense T.ring T.value b.entry).rows
+        → strided T.ring T.value T.zero_value result.now (op_step b.entry) k
+        ≡ (op_dense T.ring T.value b.entry).value k j }
+{
+    match b {
+        Op::NoOp(b) => b.column(j),
+        Op::Transpose(b) => {
+            let values = b.as_slice();
+            &values[j.min(values.len())..]
+        }
+    }
+}
+
+// Returns the indices and the values of lane i of A.
+pub fn lane_slices<T>(a: &CsMatrix<T>, i: usize) -> (&[usize], &[T])
+    requires { i < a.now.pattern.major_dim }
+    ensures indices { result.0.now ≡ (lane_at a.now i).indices }
+    ensures values { result.1.now ≡ (lane_at a.now i).values }
+    ensures fits { length result.1.now ≡ length result.0.now }
+    ensures sound { IsSound a.now }
+{
+    let (offsets, indices, values) = a.cs_data();
+    let (begin, end) = (offsets[i], offsets[i + 1]);
+    (&indices[begin..end], &values[begin..end])
+}

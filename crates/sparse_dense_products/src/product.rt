@@ -1,0 +1,172 @@
+//! The products of a sparse and a dense matrix.
+
+ghost use Rattle.std.specs.Prelude.{◌≡◌, IfOk};
+ghost use Rattle.sparse_algebra.specs.Plain.{plain_product};
+ghost use Rattle.sparse_algebra.specs.Prealloc.{plain_update};
+ghost use Rattle.sparse_base.specs.DensePlain.{plain_of_dense, plain_full};
+ghost use Rattle.sparse_cs.specs.PlainOfLanes.{plain_of_rows, plain_of_cols};
+ghost use Rattle.sparse_dense_products.specs.DenseOperands.{op_cols, op_dense, op_rows};
+
+use crate::update::update;
+use sparse_algebra::scalar::Ring;
+use sparse_base::dense::DMatrix;
+use sparse_forms::csc::CscMatrix;
+use sparse_forms::csr::CsrMatrix;
+use sparse_algebra::operand::Op;
+use std::alloc::{AllocError, Global};
+
+/// Replaces `c` by `beta * c + alpha * op(a) * op(b)`.
+///
+/// The inner sizes of `op(a)` and `op(b)` must be equal, and `c` must have the sizes of their product.
+///
+/// One multiplication for each place of `a` and column of `c`, and two for each value of `c` (one more for each value
+/// of `b` where `a` is transposed). Where `a` is not transposed, each of its rows is read once for four columns. Takes
+/// no memory.
+///
+/// # Examples
+///
+/// ```rust
+/// fn a_product_is_added_to_a_dense_matrix(alloc: Global) -> Result<bool, Fail> {
+///     let offsets = vec![in alloc; 0, 2, 3]?;
+///     let columns = vec![in alloc; 0, 1, 1]?;
+///     let values = vec![in alloc; W64::new(1), W64::new(2), W64::new(3)]?;
+///     let a = CsrMatrix::try_from_csr_data(2, 2, offsets, columns, values)?;
+///     let b = DMatrix::repeat(alloc, 2, 1, W64::new(1))?;
+///     let mut c = DMatrix::repeat(alloc, 2, 1, W64::new(1))?;
+///     spmm_csr_dense(W64::new(1), &mut c, W64::new(2), Op::NoOp(&a), Op::NoOp(&b));
+///     Ok(c.as_slice() == [W64::new(7), W64::new(7)].as_slice())
+/// }
+/// ```
+pub fn spmm_csr_dense<T: Ring>(
+    beta: T,
+    c: &mut DMatrix<T>,
+    alpha: T,
+    a: Op<&CsrMatrix<T>>,
+    b: Op<&DMatrix<T>>,
+)
+    requires inner { (op_rows T.ring T.value a).cols ≡ (op_dense T.ring T.value b).rows }
+    requires rows { (op_rows T.ring T.value a).rows ≡ c.old.nrows }
+    requires cols { (op_dense T.ring T.value b).cols ≡ c.old.ncols }
+    ensures rows { c.new.nrows ≡ c.old.nrows }
+    ensures cols { c.new.ncols ≡ c.old.ncols }
+    ensures updated { plain_of_dense T.ring T.value c.new
+        ≡ plain_update T.ring (T.value beta) (plain_of_dense T.ring T.value c.old) (T.value alpha)
+        (plain_product T.ring (op_rows T.ring T.value a.entry) (op_dense T.ring T.value b.entry)) }
+{
+    match a {
+        Op::NoOp(a) => update(beta, c, alpha, a.cs(), false, b),
+        Op::Transpose(a) => update(beta, c, alpha, a.cs(), true, b),
+    }
+}
+
+/// Replaces `c` by `beta * c + alpha * op(a) * op(b)`.
+///
+/// The inner sizes of `op(a)` and `op(b)` must be equal, and `c` must have the sizes of their product.
+///
+/// One multiplication for each place of `a` and column of `c`, and two for each value of `c` (one more for each value
+/// of `b` where `a` is not transposed). Where `a` is transposed, each of its columns is read once for four columns of
+/// `c`. Takes no memory.
+///
+/// # Examples
+///
+/// ```rust
+/// fn a_product_by_columns_replaces_a_dense_matrix(alloc: Global) -> Result<bool, Fail> {
+///     let offsets = vec![in alloc; 0, 1, 3]?;
+///     let rows = vec![in alloc; 0, 0, 1]?;
+///     let values = vec![in alloc; W64::new(1), W64::new(2), W64::new(3)]?;
+///     let a = CscMatrix::try_from_csc_data(2, 2, offsets, rows, values)?;
+///     let b = DMatrix::repeat(alloc, 2, 1, W64::new(1))?;
+///     let mut c = DMatrix::repeat(alloc, 2, 1, W64::new(9))?;
+///     spmm_csc_dense(W64::new(0), &mut c, W64::new(1), Op::NoOp(&a), Op::NoOp(&b));
+///     Ok(c.as_slice() == [W64::new(3), W64::new(3)].as_slice())
+/// }
+/// ```
+pub fn spmm_csc_dense<T: Ring>(
+    beta: T,
+    c: &mut DMatrix<T>,
+    alpha: T,
+    a: Op<&CscMatrix<T>>,
+    b: Op<&DMatrix<T>>,
+)
+    requires inner { (op_cols T.ring T.value a).cols ≡ (op_dense T.ring T.value b).rows }
+    requires rows { (op_cols T.ring T.value a).rows ≡ c.old.nrows }
+    requires cols { (op_dense T.ring T.value b).cols ≡ c.old.ncols }
+    ensures rows { c.new.nrows ≡ c.old.nrows }
+    ensures cols { c.new.ncols ≡ c.old.ncols }
+    ensures updated { plain_of_dense T.ring T.value c.new
+        ≡ plain_update T.ring (T.value beta) (plain_of_dense T.ring T.value c.old) (T.value alpha)
+        (plain_product T.ring (op_cols T.ring T.value a.entry) (op_dense T.ring T.value b.entry)) }
+{
+    match a {
+        Op::NoOp(a) => update(beta, c, alpha, a.cs(), true, b),
+        Op::Transpose(a) => update(beta, c, alpha, a.cs(), false, b),
+    }
+}
+
+/// Returns the dense product `a * b`.
+///
+/// `a.ncols()` must equal `b.nrows()`. One multiplication for each place of `a` and column of `b`, and two for each
+/// value of the result. Allocates the result alone, and fails only if that allocation fails or the number of its values
+/// exceeds `usize::MAX`.
+///
+/// # Examples
+///
+/// ```rust
+/// fn a_matrix_times_a_dense_matrix(alloc: Global) -> Result<bool, Fail> {
+///     let offsets = vec![in alloc; 0, 2, 3]?;
+///     let columns = vec![in alloc; 0, 1, 1]?;
+///     let values = vec![in alloc; W64::new(1), W64::new(2), W64::new(3)]?;
+///     let a = CsrMatrix::try_from_csr_data(2, 2, offsets, columns, values)?;
+///     let b = DMatrix::from_column_slice(alloc, 2, 1, &[W64::new(1), W64::new(5)])?;
+///     let product = mul_csr_dense(alloc, &a, &b)?;
+///     Ok(product.as_slice() == [W64::new(11), W64::new(15)].as_slice())
+/// }
+/// ```
+pub fn mul_csr_dense<T: Ring>(
+    alloc: Global,
+    a: &CsrMatrix<T>,
+    b: &DMatrix<T>,
+) -> Result<DMatrix<T>, AllocError>
+    requires { a.now.pattern.minor_dim ≡ b.now.nrows }
+    ensures { IfOk result (λ c. plain_of_dense T.ring T.value c
+        ≡ plain_full T.ring (plain_product T.ring (plain_of_rows T.ring T.value a.now)
+        (plain_of_dense T.ring T.value b.now))) }
+{
+    let mut product = DMatrix::zeros(alloc, a.nrows(), b.ncols())?;
+    spmm_csr_dense(T::zero(), &mut product, T::one(), Op::NoOp(a), Op::NoOp(b));
+    Ok(product)
+}
+
+/// Returns the dense product `a * b`.
+///
+/// `a.ncols()` must equal `b.nrows()`. One multiplication for each place of `a` and column of `b`, one for each value
+/// of `b`, and one for each value of the result. Allocates the result alone, and fails only if that allocation fails or
+/// the number of its values exceeds `usize::MAX`.
+///
+/// # Examples
+///
+/// ```rust
+/// fn a_matrix_by_columns_times_a_dense_matrix(alloc: Global) -> Result<bool, Fail> {
+///     let offsets = vec![in alloc; 0, 1, 3]?;
+///     let rows = vec![in alloc; 0, 0, 1]?;
+///     let values = vec![in alloc; W64::new(1), W64::new(2), W64::new(3)]?;
+///     let a = CscMatrix::try_from_csc_data(2, 2, offsets, rows, values)?;
+///     let b = DMatrix::from_column_slice(alloc, 2, 1, &[W64::new(1), W64::new(5)])?;
+///     let product = mul_csc_dense(alloc, &a, &b)?;
+///     Ok(product.as_slice() == [W64::new(11), W64::new(15)].as_slice())
+/// }
+/// ```
+pub fn mul_csc_dense<T: Ring>(
+    alloc: Global,
+    a: &CscMatrix<T>,
+    b: &DMatrix<T>,
+) -> Result<DMatrix<T>, AllocError>
+    requires { a.now.pattern.major_dim ≡ b.now.nrows }
+    ensures { IfOk result (λ c. plain_of_dense T.ring T.value c
+        ≡ plain_full T.ring (plain_product T.ring (plain_of_cols T.ring T.value a.now)
+        (plain_of_dense T.ring T.value b.now))) }
+{
+    let mut product = DMatrix::zeros(alloc, a.nrows(), b.ncols())?;
+    spmm_csc_dense(T::zero(), &mut product, T::one(), Op::NoOp(a), Op::NoOp(b));
+    Ok(product)
+}

@@ -1,2 +1,0 @@
-//! Lemmas on cases and numbers, which the proofs of the other crates cite. There is no code here.
-#![tactic(auto)]

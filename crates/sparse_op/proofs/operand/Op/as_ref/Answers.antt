@@ -1,5 +1,0 @@
-use Rattle.std.proofs.Common.{rules}
-use Rattle.sparse_op.proofs.operand.Op.as_ref.Goals as goal
-
-pub returns-in-Transpose : goal.returns-in-Transpose
-returns-in-Transpose g c = search rules

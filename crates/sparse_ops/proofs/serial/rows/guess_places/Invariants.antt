@@ -1,5 +1,0 @@
-use Rattle.sparse_ops.specs.InnerLaneSets.{IsEmptyLaneSet}
-use Rattle.sparse_ops.proofs.serial.rows.guess_places.Given as goal
-
-abbrev pub invariant-loop-i : goal.invariant-loop-i
-invariant-loop-i l = IsEmptyLaneSet l.b.minor_dim l.set

@@ -1,5 +1,0 @@
-use Rattle.std.proofs.Common.{rules}
-use Rattle.sparse_ops.proofs.serial.unchecked.spmm_csr_prealloc_unchecked.Goals as goal
-
-pub returns-clause-updated : goal.returns-clause-updated
-returns-clause-updated g c = search rules

@@ -1,0 +1,43 @@
+-- The places of a product that a pattern has, lane after lane.
+use Rattle.std.proofs.Common.{ℕ, ◌+◌, ◌<◌, inl, inr, List, length, take, get_or, Contains, subst}
+use Rattle.std.proofs.lemmas.List.{take_more}
+use Rattle.std.proofs.lemmas.List.Elements.{Contains-push_cases}
+use Rattle.sparse_pattern.specs.Raw.{Raw, lane_of, IsValid, IsPlace}
+use Rattle.sparse_pattern.proofs.LaneLists.{lane_has}
+use Rattle.sparse_products.specs.InnerProducts.{IsInLanes}
+use Rattle.sparse_products.specs.InnerUpdates.{HasProductPlaces}
+
+-- what holds of the first n elements and of the next holds of the first n + 1
+pub element_more : (P : ℕ → Type 0) (xs : List ℕ) (n : ℕ) → n < length xs → P (get_or xs n 0)
+    → ((j : ℕ) → Contains (take n xs) j → P j) → (j : ℕ) → Contains (take (n + 1) xs) j → P j
+element_more P xs n lt here before j h =
+    elim (Contains-push_cases (take n xs) (get_or xs n 0) j
+    (subst (λ l. Contains l j) (take_more xs n 0 lt) h)) [
+      | inl was ↦ before j was
+      | inr same ↦ subst P same here
+    ]
+
+module _ (d b : Raw) (vb : IsValid b) (i : ℕ) where
+  -- lane i of d has the indices of lane k of b
+  abbrev pub HasLane : ℕ → Type 0
+  HasLane k = (j : ℕ) → Contains (lane_of b k) j → IsPlace d i j
+
+  pub has_lanes : (lanes : List ℕ) → ((k : ℕ) → Contains lanes k → k < b.major_dim)
+      → ((k : ℕ) → Contains lanes k → HasLane k) → (j : ℕ) → IsInLanes b lanes j → IsPlace d i j
+  has_lanes lanes below all j h = all h.0 h.1 j ((lane_has b vb h.0 j (below h.0 h.1)).1 h.2)
+
+  pub has_lane : (lanes : List ℕ) (k : ℕ) → Contains lanes k → k < b.major_dim
+      → ((j : ℕ) → IsInLanes b lanes j → IsPlace d i j) → HasLane k
+  has_lane lanes k there below all j h = all j (k, there, (lane_has b vb k j below).0 h)
+
+module _ (d a b : Raw) (va : IsValid a) where
+  -- lane i of d has the indices of the lanes of b that lane i of a names
+  abbrev pub HasLanes : ℕ → Type 0
+  HasLanes i = (j : ℕ) → IsInLanes b (lane_of a i) j → IsPlace d i j
+
+  pub product_places : ((i : ℕ) → i < a.major_dim → HasLanes i) → HasProductPlaces d a b
+  product_places all i j k left right = all i left.in_lane.lane j
+      (k, (lane_has a va i k left.in_lane.lane).1 left, right)
+
+  pub places_of_product : HasProductPlaces d a b → (i : ℕ) → i < a.major_dim → HasLanes i
+  places_of_product all i lt j h = all i j h.0 ((lane_has a va i h.0 lt).0 h.1) h.2

@@ -1,0 +1,50 @@
+-- The places of a product, in plain matrices.
+use Rattle.std.proofs.Common.{◌≡◌, ℕ, ◌↔◌, inl, inr, true, ◌&&◌, arith}
+use Rattle.sparse_algebra.proofs.Cases.{and_both, and_parts, true_or_false}
+use Rattle.sparse_algebra.specs.Algebra.{CommRing}
+use Rattle.sparse_algebra.specs.Plain.{Plain, IsProper, plain_product}
+use Rattle.sparse_algebra.proofs.PlainLemmas.{any_is, proper_product}
+use Rattle.sparse_pattern.specs.Raw.{Raw, IsPlace}
+use Rattle.sparse_cs.specs.Compressed.{Compressed, IsSound}
+use Rattle.sparse_cs.specs.PlainOfLanes.{plain_of_rows}
+use Rattle.sparse_cs.specs.Standing.{HasLanesAsRows}
+use Rattle.sparse_products.specs.InnerUpdates.{HasProductPlaces}
+use Rattle.sparse_products.proofs.ProductLanes.{IsJoined}
+
+-- each matrix has the shape, the places and the values of its arrays
+abbrev pub RowsStand : (R : CommRing) {T : Type 0} → (T → R.Carrier) → Type 0
+RowsStand R {T} f = (m : Compressed T) → IsSound m → HasLanesAsRows R f m (plain_of_rows R f m)
+
+module _ (R : CommRing) {T : Type 0} (f : T → R.Carrier) (stand : RowsStand R f)
+    (a b : Compressed T) (sa : IsSound a) (sb : IsSound b)
+    (fits : a.pattern.minor_dim ≡ b.pattern.major_dim) where
+  abbrev pub product : Plain R
+  product = plain_product R (plain_of_rows R f a) (plain_of_rows R f b)
+
+  -- the places of the product are the pairs that some k joins
+  pub joined_is : (i j : ℕ) → IsJoined a.pattern b.pattern i j ↔ (product.has i j ≡ true)
+  joined_is i j =
+      let left = (stand a sa).places i in
+      let right = λ (k : ℕ). (stand b sb).places k j in
+      let any = any_is a.pattern.minor_dim (λ k. (plain_of_rows R f a).has i k
+      && (plain_of_rows R f b).has k j) in (
+        λ h. any.1 (
+          h.0,
+          omega (arith, h.2.in_lane.lane),
+          and_both _ _ ((left h.0).0 h.1) ((right h.0).0 h.2),
+        ),
+        λ h. let s = any.0 h in let t = and_parts _ _
+            s.2 in (s.0, (left s.0).1 t.0, (right s.0).1 t.1),
+      )
+
+  pub product_is_proper : IsProper product
+  product_is_proper = proper_product R (plain_of_rows R f a) (plain_of_rows R f b)
+      (stand a sa).proper (stand b sb).proper
+
+  -- where a pattern has the places of the product, the product is zero elsewhere
+  pub zero_elsewhere : (d : Raw) → HasProductPlaces d a.pattern b.pattern → (i j : ℕ)
+      → (IsPlace d i j → ⊥) → product.value i j ≡ R.zero
+  zero_elsewhere d places i j none = product_is_proper i j (elim (true_or_false (product.has i j)) [
+    | inl hit ↦ let s = (joined_is i j).1 hit in absurd (none (places i j s.0 s.1 s.2))
+    | inr miss ↦ miss
+  ])

@@ -1,0 +1,107 @@
+use Rattle.std.proofs.Common.{◌≡◌, ◌<◌, length, get_or, ap, subst, ◌∙◌, arith}
+use Rattle.std.proofs.lemmas.List.{take_at}
+use Rattle.sparse_pattern.specs.Raw.{Raw}
+use Rattle.sparse_cs.specs.Compressed.{arrays_of}
+use Rattle.sparse_cs.specs.PlainOfLanes.{plain_of_rows}
+use Rattle.sparse_products.specs.InnerLaneSets.{IsEmptyLaneSet}
+use Rattle.sparse_products.proofs.ProductRows.{product_none, row_more, product_sound, product_is}
+use Rattle.sparse_products.proofs.serial.rows.multiply_rows.Goals as goal
+
+pub loop-i-init : goal.loop-i-init
+loop-i-init g c =
+    let width_is = ap (λ (d : Raw). d.minor_dim) c.pattern-second.ensures.pattern in
+    record {
+      empty = subst (λ n. IsEmptyLaneSet n c.guess_places.new.set) width_is
+          c.in_ok-room.ensures;
+      width = c.in_ok-row.ensures.width ∙ c.minor_dim-2.ensures ∙ width_is;
+      zero = c.in_ok-row.ensures.zero;
+      built = rw (
+        c.in_ok-rows.ensures.offsets,
+        c.in_ok-rows.ensures.indices,
+        c.in_ok-rows.ensures.values,
+      )
+          (product_none g.T.Ring.ring g.T.Ring.value g.T.Zero.zero_value
+          c.stands_law.ensures.rows c.args.a.now c.args.b.now c.pattern-first.ensures.sound
+          c.pattern-second.ensures.sound c.requires);
+    }
+
+pub push_row-requires-clause-lane : goal.push_row-requires-clause-lane
+push_row-requires-clause-lane g c = omega (
+  arith,
+  c.loop-i-test.true,
+  c.major_dim-i-end.ensures,
+  ap (λ (d : Raw). d.major_dim) c.pattern-first.ensures.pattern,
+)
+
+pub push_row-requires-clause-width : goal.push_row-requires-clause-width
+push_row-requires-clause-width g c = c.deref_mut.ensures.len ∙ c.loop-i.invariant.width
+
+pub push_row-requires-clause-zero : goal.push_row-requires-clause-zero
+push_row-requires-clause-zero g c = λ j.
+    ap (λ xs. g.T.Ring.value (get_or xs j g.T.Zero.zero_value)) c.deref_mut.ensures.value
+    ∙ c.loop-i.invariant.zero j
+
+pub loop-i-preserved : goal.loop-i-preserved
+loop-i-preserved g c =
+    let f = g.T.Ring.value in
+    let z = g.T.Zero.zero_value in
+    let lt : c.loop-i.i < c.args.a.now.pattern.major_dim = omega (
+      arith,
+      c.loop-i-test.true,
+      c.major_dim-i-end.ensures,
+      ap (λ (d : Raw). d.major_dim) c.pattern-first.ensures.pattern,
+    ) in
+    let left = c.push_row.new.row in
+    let long : length left ≡ c.loop-i.row.len = c.push_row.auto.row ∙ c.deref_mut.ensures.len in
+    let gained = c.in_ok-push_row.ensures in
+    record {
+      empty = gained.empty;
+      width = c.loop-i.invariant.width;
+      zero = λ j. ap (λ xs. f (get_or xs j z)) (take_at left _ _ long) ∙ gained.zero j;
+      built = row_more g.T.Ring.ring f z c.stands_law.ensures.rows c.args.a.now c.args.b.now
+          c.pattern-first.ensures.sound c.pattern-second.ensures.sound c.requires c.loop-i.i
+          _ _ _ _ _ _ lt c.loop-i.invariant.built gained.lane gained.offset gained.values;
+    }
+
+pub into_matrix-requires : goal.into_matrix-requires
+into_matrix-requires g c =
+    let first_is = c.pattern-first.ensures.pattern in
+    let lanes = c.major_dim-2.ensures ∙ ap (λ (d : Raw). d.major_dim) first_is in
+    let cols = c.minor_dim-3.ensures
+    ∙ ap (λ (d : Raw). d.minor_dim) c.pattern-second.ensures.pattern in
+    let whole : c.loop-i.i ≡ c.args.a.now.pattern.major_dim = omega (
+      arith,
+      c.loop-i-test.false,
+      c.loop-i.auto.i-end,
+      c.major_dim-i-end.ensures,
+      ap (λ (d : Raw). d.major_dim) first_is,
+    ) in
+    rw (lanes, cols) (product_sound g.T.Ring.ring g.T.Ring.value g.T.Zero.zero_value
+    c.stands_law.ensures.rows c.args.a.now c.args.b.now c.pattern-first.ensures.sound
+    c.pattern-second.ensures.sound c.requires c.loop-i.i c.loop-i.rows.offsets.items
+    c.loop-i.rows.indices.items c.loop-i.rows.values.items whole c.loop-i.invariant.built)
+
+pub returns : goal.returns
+returns g c =
+    let R = g.T.Ring.ring in
+    let f = g.T.Ring.value in
+    let first_is = c.pattern-first.ensures.pattern in
+    let lanes = c.major_dim-2.ensures ∙ ap (λ (d : Raw). d.major_dim) first_is in
+    let cols = c.minor_dim-3.ensures
+    ∙ ap (λ (d : Raw). d.minor_dim) c.pattern-second.ensures.pattern in
+    let whole : c.loop-i.i ≡ c.args.a.now.pattern.major_dim = omega (
+      arith,
+      c.loop-i-test.false,
+      c.loop-i.auto.i-end,
+      c.major_dim-i-end.ensures,
+      ap (λ (d : Raw). d.major_dim) first_is,
+    ) in
+    let offsets = c.loop-i.rows.offsets.items in
+    let indices = c.loop-i.rows.indices.items in
+    let values = c.loop-i.rows.values.items in
+    ap (plain_of_rows R f) (c.into_matrix.ensures
+    ∙ ap (λ n. arrays_of n c.minor_dim-3.result offsets indices values) lanes
+    ∙ ap (λ m. arrays_of c.args.a.now.pattern.major_dim m offsets indices values) cols)
+    ∙ product_is R f g.T.Zero.zero_value c.stands_law.ensures.rows c.args.a.now c.args.b.now
+    c.pattern-first.ensures.sound c.pattern-second.ensures.sound c.requires c.loop-i.i offsets
+    indices values whole c.loop-i.invariant.built

@@ -1,0 +1,135 @@
+use borrow.Author.Rules.{scaled_fits≤}
+use Rattle.std.proofs.Common.{◌≡◌, ◌+◌, ◌-◌, ◌<◌, ◌≤◌, ℕ, inl, inr, length, get_or, sym, ◌∙◌}
+use Rattle.std.proofs.Common.{slice_range, ap, subst, All, arith}
+use Rattle.std.specs.List.Sorted.{IsStrictlyIncreasing}
+use borrow.Rule.Slice.PartMut.{mid_len}
+use Rattle.std.proofs.lemmas.List.Edits.{get_or-between}
+use Rattle.sparse_algebra.proofs.Cases.{lt_or_ge}
+use Rattle.sparse_algebra.proofs.RingLemmas.{zero_add}
+use Rattle.sparse_pattern.specs.Raw.{start_of, end_of, lane_of}
+use Rattle.sparse_pattern.proofs.LaneLists.{lane_has}
+use Rattle.sparse_pattern.proofs.PatternLanes.{length-lane, get_or-lane}
+use Rattle.sparse_cs.proofs.LaneSearch.{rising_lane}
+use Rattle.sparse_products.proofs.LaneParts.{in_part, off_part}
+use Rattle.sparse_products.proofs.ProductLanes.{lane_below}
+use Rattle.sparse_products.proofs.ProductPlaces.{product}
+use Rattle.sparse_products.proofs.ProductRows.{zero_off}
+use Rattle.sparse_products.proofs.TakenRows.{left_zero}
+use Rattle.sparse_products.proofs.serial.scatter.scatter_row.Goals as goal
+
+pub gather_row-requires-clause-rising : goal.gather_row-requires-clause-rising
+gather_row-requires-clause-rising g c =
+    let valid = c.major_offsets-offsets.ensures.valid in
+    subst (λ l. IsStrictlyIncreasing l) (sym c.lane.ensures)
+    (rising_lane c.args.pattern.now c.args.i (valid.lanes c.args.i c.requires.target))
+
+pub gather_row-requires-clause-inside : goal.gather_row-requires-clause-inside
+gather_row-requires-clause-inside g c =
+    let valid = c.major_offsets-offsets.ensures.valid in
+    subst (λ l. All (λ j. j < length c.add_product_row.new.row) l) (sym c.lane.ensures) (λ k d lt. omega (
+      arith,
+      lane_below c.args.pattern.now valid c.args.i c.requires.target k d lt,
+      c.requires.width,
+      c.requires.cols,
+      c.add_product_row.auto.row,
+    ))
+
+pub gather_row-requires-clause-count : goal.gather_row-requires-clause-count
+gather_row-requires-clause-count g c =
+    let d = c.args.pattern.now in
+    let i = c.args.i in
+    let old = c.args.values.now in
+    let offsets_are = c.major_offsets-offsets.ensures.offsets in
+    let in_lane = c.major_offsets-offsets.ensures.valid.lanes i c.requires.target in
+    let within : end_of d i ≤ length old = omega (arith, c.requires.count, in_lane.inside) in
+    rw (offsets_are, c.lane.ensures) (mid_len _ _ old (omega (arith, within, in_lane.ordered))
+    ∙ sym (length-lane d i in_lane))
+
+pub returns : goal.returns
+returns g c =
+    let R = g.T.Ring.ring in
+    let f = g.T.Ring.value in
+    let z = g.T.Zero.zero_value in
+    let a = c.args.a.now in
+    let b = c.args.b.now in
+    let d = c.args.pattern.now in
+    let i = c.args.i in
+    let old = c.args.values.now in
+    let part = c.gather_row.new.values in
+    let valid = c.major_offsets-offsets.ensures.valid in
+    let offsets_are = c.major_offsets-offsets.ensures.offsets in
+    let in_lane = valid.lanes i c.requires.target in
+    let s = start_of d i in
+    let n = end_of d i - s in
+    let lane_long = length-lane d i in_lane in
+    let within : s + n ≤ length old =
+    omega (arith, c.requires.count, in_lane.inside, in_lane.ordered) in
+    let part_long : length part ≡ n =
+    rw offsets_are at (c.gather_row.auto.values ∙ mid_len _ _ old (omega (
+      arith,
+      within,
+      in_lane.ordered,
+      ap (λ xs. get_or xs (i + 1) 0) offsets_are,
+    ))) in
+    let sa = c.values.ensures.sound in
+    let stand = c.stands_law.ensures.rows in
+    let x = (product R f stand a b sa c.values-2.ensures.sound c.requires.inner).value in
+    let alpha = f c.args.alpha in
+    let row = c.add_product_row.new.row in
+    let is_row : (j : ℕ) → j < length row → f (get_or row j z) ≡ R.mul alpha (x i j) = λ j lt.
+    c.add_product_row.ensures.added j (omega (arith, lt, c.add_product_row.auto.row))
+    ∙ ap (λ y. R.add y (R.mul alpha (x i j))) (c.requires.zero j)
+    ∙ zero_add R (R.mul alpha (x i j)) in
+    let gathered = rw (offsets_are, c.lane.ensures) at c.gather_row.ensures.gathered in
+    let taken = rw c.lane.ensures at c.gather_row.ensures.taken in
+    let counted = rw c.lane.ensures at c.gather_row.ensures.counted in
+    rw offsets_are record {
+      zero = left_zero R f z (lane_of d i) alpha (x i) row c.gather_row.new.row
+          g.met.T.Ring.zero_law
+          (zero_off R f z stand a b sa c.values-2.ensures.sound c.requires.inner i c.requires.lane
+          (lane_of d i) (λ j h. (lane_has d valid i j c.requires.target).1 (c.requires.places j h)))
+          is_row taken;
+      updated = λ j p at.
+          let k = p - s in
+          let k_lt : k < length (lane_of d i) = omega (arith, lane_long, at.0.from, at.0.to) in
+          let back : s + k ≡ p = omega (arith, at.0.from) in
+          let index : get_or (lane_of d i) k 0 ≡ j = get_or-lane d i in_lane k k_lt
+          ∙ ap (λ p. get_or d.indices p 0) back ∙ at.1 in
+          let was : get_or (slice_range old s (end_of d i)) k z ≡ get_or old p z =
+          get_or-between old s (end_of d i) k z (omega (arith, back, at.0.to))
+          ∙ ap (λ p. get_or old p z) back in
+          let col : j < length row = omega (
+            arith,
+            lane_below d valid i c.requires.target k 0 k_lt,
+            index,
+            c.requires.cols,
+            c.requires.width,
+            c.add_product_row.auto.row,
+          ) in
+          ap f (in_part s n old part z within part_long p at.0.from
+          (omega (arith, at.0.to, in_lane.ordered))) ∙ rw (was, index) at (gathered k k_lt)
+          ∙ ap (R.add (R.mul (f c.args.beta) (f (get_or old p z)))) (is_row j col);
+      others = λ p none. off_part s n old part z within part_long p (elim (lt_or_ge p s) [
+        | inl below ↦ inl below
+        | inr from ↦ elim (lt_or_ge p (end_of d i)) [
+          | inl to ↦ absurd (none
+              (record { lane = c.requires.target; from = from; to = to }))
+          | inr past ↦ inr (omega (arith, past, in_lane.ordered))
+        ]
+      ]);
+      counted = omega (
+        arith,
+        c.add_product_row.ensures.counted,
+        counted,
+        lane_long,
+        in_lane.ordered,
+      );
+    }
+
+pub offset_bounds-values-begin : goal.offset_bounds-values-begin
+offset_bounds-values-begin g c =
+    let d = c.args.pattern.now in
+    let lane = c.major_offsets-offsets.ensures.valid.lanes c.args.i c.requires.target in
+    let within : start_of d c.args.i ≤ length c.args.values.now =
+    omega (arith, c.requires.count, lane.ordered, lane.inside) in
+    rw c.major_offsets-offsets.ensures.offsets (search (scaled_fits≤, within, c.well_formed))

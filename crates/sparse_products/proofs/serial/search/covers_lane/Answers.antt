@@ -1,0 +1,34 @@
+use Rattle.std.proofs.Common.{ℕ, get_or, refl, subst, sym, ◌∙◌, Contains}
+use Rattle.std.proofs.lemmas.List.{take_all}
+use Rattle.std.proofs.lemmas.List.Elements.{Contains-get_or}
+use Rattle.sparse_pattern.specs.Raw.{IsPlace}
+use Rattle.sparse_sums.proofs.Placing.{missed, found_place}
+use Rattle.sparse_products.proofs.CoveredLanes.{element_more}
+use Rattle.sparse_products.proofs.serial.search.covers_lane.Goals as goal
+
+pub loop-j-preserved : goal.loop-j-preserved
+loop-j-preserved c =
+    let d = c.args.pattern.now in
+    let j = get_or c.args.indices.now c.loop-j.j-index 0 in
+    element_more (IsPlace d c.args.i) c.args.indices.now c.loop-j.j-index c.loop-j-test.true
+    (found_place d c.major_offsets.ensures.valid c.args.i j _
+    (sym c.position_of.ensures.position ∙ c.in-Some.is)) c.loop-j.invariant
+
+pub returns-in-None : goal.returns-in-None
+returns-in-None c =
+    let d = c.args.pattern.now in
+    let j = get_or c.args.indices.now c.loop-j.j-index 0 in
+    let none = missed d c.major_offsets.ensures.valid c.args.i j
+    (sym c.position_of.ensures.position ∙ c.in-None.is) in (
+      λ h. cc,
+      λ h. absurd
+          (none (h j (Contains-get_or c.args.indices.now c.loop-j.j-index 0 c.loop-j-test.true))),
+    )
+
+pub returns : goal.returns
+returns c =
+    let whole = take_all c.loop-j.j-index c.args.indices.now c.loop-j-test.false in (
+      λ _. subst (λ xs. (j : ℕ) → Contains xs j → IsPlace c.args.pattern.now c.args.i j) whole
+          c.loop-j.invariant,
+      λ _. refl,
+    )

@@ -1,0 +1,12 @@
+//! Operations on sparse matrices.
+#![tactic(auto)]
+
+pub mod serial;
+
+pub use sparse_base::steps::Steps;
+pub use sparse_algebra::operand::Op;
+
+/// Transposes whose contracts are equations of plain matrices, for the laws.
+pub mod transposes {
+    pub use crate::serial::factor::{transposed_csc, transposed_csr};
+}

@@ -1,0 +1,120 @@
+//! A product into a given matrix, which may lack a place.
+
+ghost use Rattle.std.specs.Prelude.{◌≡◌, ◌⊎◌, IsOk, IfErr, OnOk, OnErr};
+ghost use Rattle.sparse_algebra.specs.Plain.{plain_product};
+ghost use Rattle.sparse_algebra.specs.declared.error.OperationErrorKind.TheVariants.{InvalidPattern};
+ghost use Rattle.sparse_algebra.specs.declared.error.OperationErrorKind.TheVariants.{OutOfMemory};
+ghost use Rattle.sparse_algebra.specs.Operands.{plain_op};
+ghost use Rattle.sparse_algebra.specs.Prealloc.{plain_update, IsCovered};
+ghost use Rattle.sparse_cs.specs.PlainOfLanes.{plain_of_rows, plain_of_cols};
+ghost use Rattle.sparse_products.specs.ScalarProducts.{IfNotTransposed};
+
+use super::factor::{csc_factor, csr_factor};
+use super::update::update_matrix_checked;
+use sparse_algebra::learn;
+use sparse_algebra::scalar::Ring;
+use sparse_forms::csc::CscMatrix;
+use sparse_forms::csr::CsrMatrix;
+use sparse_algebra::error::OperationError;
+use sparse_algebra::operand::Op;
+use std::alloc::Global;
+
+/// Replaces `c` by `beta * c + alpha * op(a) * op(b)` on the places of `c`.
+///
+/// The inner sizes of `op(a)` and `op(b)` must be equal, and `c` must have the sizes of their product. Refuses with
+/// [`InvalidPattern`](sparse_algebra::error::OperationErrorKind::InvalidPattern) only where the product's pattern has a place that
+/// `c` lacks, whatever its value is, and with `OutOfMemory` only if an allocation fails; `c` is then unchanged.
+///
+/// Two binary searches in a row of `c` for each triple (i, k, j) with (i, k) in `op(a)` and (k, j) in `op(b)`: the
+/// first pass tests the pattern, the second writes. No memory is asked for where neither operand is transposed; a
+/// transposed operand is transposed first.
+#[tactic(auto, using(crate::proofs::Refusals::refused))]
+pub fn spmm_csr_prealloc<T: Ring>(
+    alloc: Global,
+    beta: T,
+    c: &mut CsrMatrix<T>,
+    alpha: T,
+    a: Op<&CsrMatrix<T>>,
+    b: Op<&CsrMatrix<T>>,
+) -> Result<(), OperationError>
+    requires inner { (plain_op T.ring (λ m. plain_of_rows T.ring T.value m.now) a).cols
+        ≡ (plain_op T.ring (λ m. plain_of_rows T.ring T.value m.now) b).rows }
+    requires rows { (plain_op T.ring (λ m. plain_of_rows T.ring T.value m.now) a).rows
+        ≡ c.old.pattern.major_dim }
+    requires cols { (plain_op T.ring (λ m. plain_of_rows T.ring T.value m.now) b).cols
+        ≡ c.old.pattern.minor_dim }
+    ensures covered { IsOk result
+        → IsCovered (plain_product T.ring
+        (plain_op T.ring (λ m. plain_of_rows T.ring T.value m.now) a.entry)
+        (plain_op T.ring (λ m. plain_of_rows T.ring T.value m.now) b.entry))
+        (plain_of_rows T.ring T.value c.old) }
+    ensures refused { IfErr result (λ e. (e ≡ OutOfMemory) ⊎ ((e ≡ InvalidPattern)
+        × (IsCovered (plain_product T.ring
+        (plain_op T.ring (λ m. plain_of_rows T.ring T.value m.now) a.entry)
+        (plain_op T.ring (λ m. plain_of_rows T.ring T.value m.now) b.entry))
+        (plain_of_rows T.ring T.value c.old) → ⊥))) }
+    ensures no_memory { IfNotTransposed a.entry b.entry
+        (λ _ _. IfErr result (λ e. e ≡ InvalidPattern)) }
+    ensures unchanged { OnErr result (c.new ≡ c.old) }
+    ensures pattern { c.new.pattern ≡ c.old.pattern }
+    ensures updated { OnOk result (plain_of_rows T.ring T.value c.new
+        ≡ plain_update T.ring (T.value beta) (plain_of_rows T.ring T.value c.old) (T.value alpha)
+        (plain_product T.ring (plain_op T.ring (λ m. plain_of_rows T.ring T.value m.now) a.entry)
+        (plain_op T.ring (λ m. plain_of_rows T.ring T.value m.now) b.entry))) }
+{
+    let a = csr_factor(alloc, a)?;
+    let b = csr_factor(alloc, b)?;
+    learn(c.values());
+    let (pattern, values) = c.pattern_and_values_mut();
+    update_matrix_checked(beta, pattern, values, alpha, a, b)
+}
+
+/// Replaces `c` by `beta * c + alpha * op(a) * op(b)` on the places of `c`.
+///
+/// The inner sizes of `op(a)` and `op(b)` must be equal, and `c` must have the sizes of their product. Refuses with
+/// [`InvalidPattern`](sparse_algebra::error::OperationErrorKind::InvalidPattern) only where the product's pattern has a place that
+/// `c` lacks, whatever its value is, and with `OutOfMemory` only if an allocation fails; `c` is then unchanged.
+///
+/// Two binary searches in a column of `c` for each triple (i, k, j) with (i, k) in `op(a)` and (k, j) in `op(b)`: the
+/// first pass tests the pattern, the second writes. No memory is asked for where neither operand is transposed; a
+/// transposed operand is transposed first.
+#[tactic(auto, using(crate::proofs::Refusals::refused))]
+pub fn spmm_csc_prealloc<T: Ring>(
+    alloc: Global,
+    beta: T,
+    c: &mut CscMatrix<T>,
+    alpha: T,
+    a: Op<&CscMatrix<T>>,
+    b: Op<&CscMatrix<T>>,
+) -> Result<(), OperationError>
+    requires inner { (plain_op T.ring (λ m. plain_of_cols T.ring T.value m.now) a).cols
+        ≡ (plain_op T.ring (λ m. plain_of_cols T.ring T.value m.now) b).rows }
+    requires rows { (plain_op T.ring (λ m. plain_of_cols T.ring T.value m.now) a).rows
+        ≡ c.old.pattern.minor_dim }
+    requires cols { (plain_op T.ring (λ m. plain_of_cols T.ring T.value m.now) b).cols
+        ≡ c.old.pattern.major_dim }
+    ensures covered { IsOk result
+        → IsCovered (plain_product T.ring
+        (plain_op T.ring (λ m. plain_of_cols T.ring T.value m.now) a.entry)
+        (plain_op T.ring (λ m. plain_of_cols T.ring T.value m.now) b.entry))
+        (plain_of_cols T.ring T.value c.old) }
+    ensures refused { IfErr result (λ e. (e ≡ OutOfMemory) ⊎ ((e ≡ InvalidPattern)
+        × (IsCovered (plain_product T.ring
+        (plain_op T.ring (λ m. plain_of_cols T.ring T.value m.now) a.entry)
+        (plain_op T.ring (λ m. plain_of_cols T.ring T.value m.now) b.entry))
+        (plain_of_cols T.ring T.value c.old) → ⊥))) }
+    ensures no_memory { IfNotTransposed a.entry b.entry
+        (λ _ _. IfErr result (λ e. e ≡ InvalidPattern)) }
+    ensures unchanged { OnErr result (c.new ≡ c.old) }
+    ensures pattern { c.new.pattern ≡ c.old.pattern }
+    ensures updated { OnOk result (plain_of_cols T.ring T.value c.new
+        ≡ plain_update T.ring (T.value beta) (plain_of_cols T.ring T.value c.old) (T.value alpha)
+        (plain_product T.ring (plain_op T.ring (λ m. plain_of_cols T.ring T.value m.now) a.entry)
+        (plain_op T.ring (λ m. plain_of_cols T.ring T.value m.now) b.entry))) }
+{
+    let a = csc_factor(alloc, a)?;
+    let b = csc_factor(alloc, b)?;
+    learn(c.values());
+    let (pattern, values) = c.pattern_and_values_mut();
+    update_matrix_checked(beta, pattern, values, alpha, b, a)
+}

@@ -1,0 +1,123 @@
+//! The product of two matrices.
+
+ghost use Rattle.std.specs.Prelude.{◌≡◌, IfOk};
+ghost use Rattle.sparse_algebra.specs.Plain.{plain_product};
+ghost use Rattle.sparse_cs.specs.PlainOfLanes.{plain_of_rows, plain_of_cols};
+
+use super::pattern::{is_wide, spmm_csr_pattern};
+use super::rows::multiply_rows;
+use super::update::update;
+use sparse_algebra::scalar::Ring;
+use sparse_base::steps::Steps;
+use sparse_cs::CsMatrix;
+use sparse_cs::laws::stands_law;
+use sparse_forms::csc::CscMatrix;
+use sparse_forms::csr::CsrMatrix;
+use std::alloc::{AllocError, Global};
+
+/// Returns the product `a * b`.
+///
+/// The result stores every place of [`spmm_csr_pattern`], even where the sum is zero. `a.ncols()` must equal
+/// `b.nrows()`.
+///
+/// Gustavson's algorithm (1978), row by row: the indices of a row are read in order from a set of bits, and its values
+/// are added up in a scratch row, by the step of
+/// [`spmm_csr_prealloc_unchecked`](crate::serial::spmm_csr_prealloc_unchecked). It takes one multiplication for each
+/// triple (i, k, j) and one for each place of `a`, and for each row one step for each 262,144 columns. Scratch memory:
+/// a value and a bit for each column. If a row is longer than both factors have places, the pattern is made first and
+/// each triple added by a binary search, in scratch memory for the triples of a row. Fails only if an allocation fails.
+///
+/// The room for the result is guessed: an eighth more places than if each row had as many for a triple as the first 64
+/// rows, but at most twice as many as both factors have. Where it does not suffice, it grows by doubling.
+///
+/// # Examples
+///
+/// ```rust
+/// fn a_matrix_is_squared(alloc: Global) -> Result<bool, Fail> {
+///     let offsets = vec![in alloc; 0, 2, 3]?;
+///     let columns = vec![in alloc; 0, 1, 1]?;
+///     let values = vec![in alloc; W64::new(1), W64::new(2), W64::new(3)]?;
+///     let matrix = CsrMatrix::try_from_csr_data(2, 2, offsets, columns, values)?;
+///     let square = mul_csr(alloc, &matrix, &matrix)?;
+///     Ok(square.values() == [W64::new(1), W64::new(8), W64::new(9)].as_slice())
+/// }
+/// ```
+pub fn mul_csr<T: Ring>(
+    alloc: Global,
+    a: &CsrMatrix<T>,
+    b: &CsrMatrix<T>,
+) -> Result<CsrMatrix<T>, AllocError>
+    requires { a.now.pattern.minor_dim ≡ b.now.pattern.major_dim }
+    ensures { IfOk result (λ m. plain_of_rows T.ring T.value m
+        ≡ plain_product T.ring (plain_of_rows T.ring T.value a.now)
+        (plain_of_rows T.ring T.value b.now)) }
+{
+    Ok(CsrMatrix::from_cs(multiply(alloc, a.cs(), b.cs())?))
+}
+
+/// Returns the product `a * b`.
+///
+/// The result stores every place of [`spmm_csc_pattern`](crate::serial::spmm_csc_pattern), even where the sum is zero.
+/// `a.ncols()` must equal `b.nrows()`.
+///
+/// It is the product by rows of the transposes, in reverse order. Time and memory are those of [`mul_csr`] with the
+/// factors exchanged: scratch memory for one column of `a`. Fails only if an allocation fails.
+pub fn mul_csc<T: Ring>(
+    alloc: Global,
+    a: &CscMatrix<T>,
+    b: &CscMatrix<T>,
+) -> Result<CscMatrix<T>, AllocError>
+    requires { a.now.pattern.major_dim ≡ b.now.pattern.minor_dim }
+    ensures { IfOk result (λ m. plain_of_cols T.ring T.value m
+        ≡ plain_product T.ring (plain_of_cols T.ring T.value a.now)
+        (plain_of_cols T.ring T.value b.now)) }
+{
+    Ok(CscMatrix::from_cs(multiply(alloc, b.cs(), a.cs())?))
+}
+
+// The product of two matrices whose lanes are rows.
+fn multiply<T: Ring>(
+    alloc: Global,
+    a: &CsMatrix<T>,
+    b: &CsMatrix<T>,
+) -> Result<CsMatrix<T>, AllocError>
+    requires { a.now.pattern.minor_dim ≡ b.now.pattern.major_dim }
+    ensures { IfOk result (λ m. plain_of_rows T.ring T.value m
+        ≡ plain_product T.ring (plain_of_rows T.ring T.value a.now)
+        (plain_of_rows T.ring T.value b.now)) }
+{
+    if is_wide(a.pattern(), b.pattern()) {
+        multiply_wide(alloc, a, b)
+    } else {
+        multiply_rows(alloc, a, b)
+    }
+}
+
+// The product where no memory is asked for the length of a row: the pattern first, and then the values, from zeros.
+#[tactic(auto, using(crate::proofs::Refusals::refused))]
+fn multiply_wide<T: Ring>(
+    alloc: Global,
+    a: &CsMatrix<T>,
+    b: &CsMatrix<T>,
+) -> Result<CsMatrix<T>, AllocError>
+    requires { a.now.pattern.minor_dim ≡ b.now.pattern.major_dim }
+    ensures { IfOk result (λ m. plain_of_rows T.ring T.value m
+        ≡ plain_product T.ring (plain_of_rows T.ring T.value a.now)
+        (plain_of_rows T.ring T.value b.now)) }
+{
+    stands_law::<T>();
+    let pattern = spmm_csr_pattern(alloc, a.pattern(), b.pattern())?;
+    let mut values = Vec::new(alloc);
+    values.resize(pattern.nnz(), T::zero())?;
+    update(
+        alloc,
+        T::zero(),
+        &pattern,
+        &mut values,
+        T::one(),
+        a,
+        b,
+        &mut Steps::new(),
+    )?;
+    Ok(CsMatrix::from_pattern_and_values(pattern, values))
+}

@@ -1,0 +1,218 @@
+//! The product row by row: the indices of a row, and then its values, while the rows of `b` that it takes are in the
+//! cache.
+
+ghost use Rattle.std.specs.Prelude.{◌≡◌, ℕ, ◌<◌, ◌≤◌, ◌++◌, [], ◌∷◌, length, drop, slice_index_or};
+ghost use Rattle.std.specs.Prelude.{All, Contains, IfOk, OnOk};
+ghost use Rattle.std.specs.List.Sorted.{IsStrictlyIncreasing};
+ghost use Rattle.sparse_algebra.specs.Plain.{plain_product};
+ghost use Rattle.sparse_pattern.specs.Raw.{lane_of};
+ghost use Rattle.sparse_pattern.specs.InnerGainedLanes.{GainsLane};
+ghost use Rattle.sparse_cs.specs.Compressed.{IsSound, arrays_of};
+ghost use Rattle.sparse_cs.specs.PlainOfLanes.{plain_of_rows};
+ghost use Rattle.sparse_products.specs.InnerLaneSets.{IsEmptyLaneSet};
+ghost use Rattle.sparse_products.specs.InnerProducts.{IsInLanes, GainsValues, IsTaken};
+
+use super::lane_set::{LaneSet, push_lane};
+use super::scatter::{add_product_row, zero_row};
+use sparse_algebra::learn;
+use sparse_algebra::scalar::Ring;
+use sparse_base::steps::Steps;
+use sparse_cs::CsMatrix;
+use sparse_cs::laws::stands_law;
+use sparse_pattern::pattern::SparsityPattern;
+use std::alloc::{AllocError, Global};
+
+// How many first rows are looked at, to guess the places of all.
+const FIRST_ROWS: usize = 64;
+
+// The rows of a product that are made so far.
+#[derive(Drop)]
+struct Rows<T> {
+    offsets: Vec<usize>,
+    indices: Vec<usize>,
+    values: Vec<T>,
+}
+
+// Returns the product `a * b` of two matrices whose lanes are rows.
+#[tactic(auto, using(crate::proofs::Refusals::refused))]
+pub(super) fn multiply_rows<T: Ring>(
+    alloc: Global,
+    a: &CsMatrix<T>,
+    b: &CsMatrix<T>,
+) -> Result<CsMatrix<T>, AllocError>
+    requires { a.now.pattern.minor_dim ≡ b.now.pattern.major_dim }
+    ensures { IfOk result (λ m. plain_of_rows T.ring T.value m
+        ≡ plain_product T.ring (plain_of_rows T.ring T.value a.now)
+        (plain_of_rows T.ring T.value b.now)) }
+{
+    stands_law::<T>();
+    let (first, second) = (a.pattern(), b.pattern());
+    let mut set = LaneSet::new(alloc, second.minor_dim())?;
+    let mut row = zero_row(alloc, second.minor_dim())?;
+    let room = guess_places(alloc, first, second, &mut set)?;
+    let mut rows = no_rows(alloc, first.major_dim(), room)?;
+    for i in 0..first.major_dim() {
+        push_row(a, i, b, &mut set, &mut row, &mut rows)?;
+    }
+    Ok(into_matrix(rows, first.major_dim(), second.minor_dim()))
+}
+
+// No rows yet, with room for a number of places.
+#[tactic(auto, using(crate::proofs::Refusals::refused))]
+fn no_rows<T: Ring>(alloc: Global, major_dim: usize, room: usize) -> Result<Rows<T>, AllocError>
+    ensures offsets { IfOk result (λ rows. rows.offsets.items ≡ 0 ∷ []) }
+    ensures indices { IfOk result (λ rows. rows.indices.items ≡ []) }
+    ensures values { IfOk result (λ rows. rows.values.items ≡ []) }
+{
+    let mut offsets = Vec::with_capacity(alloc, major_dim.saturating_add(1))?;
+    offsets.push(0)?;
+    Ok(Rows {
+        offsets,
+        indices: Vec::with_capacity(alloc, room)?,
+        values: Vec::with_capacity(alloc, room)?,
+    })
+}
+
+// How many places the product may have: an eighth more than if each row had as many for a triple (i, k, j) as a few
+// first rows, but at most twice as many as both factors. A block that is larger than it need be may be new memory from
+// the system, which costs more than the product of short rows.
+fn guess_places(
+    alloc: Global,
+    a: &SparsityPattern,
+    b: &SparsityPattern,
+    set: &mut LaneSet,
+) -> Result<usize, AllocError>
+    requires inner { a.now.minor_dim ≡ b.now.major_dim }
+    requires empty { IsEmptyLaneSet b.now.minor_dim set.old }
+    ensures { OnOk result (IsEmptyLaneSet b.now.minor_dim set.new) }
+{
+    let all = count_indices(a.minor_indices(), b);
+    let mut places = Vec::new(alloc);
+    let mut triples = 0usize;
+    for i in 0..FIRST_ROWS.min(a.major_dim() / 16) {
+        triples = triples.saturating_add(count_indices(a.lane(i), b));
+        push_lane(a.lane(i), b, set, &mut places)?;
+    }
+    let times = all / triples.max(1);
+    let guess = times.saturating_add(times / 8).saturating_mul(places.len());
+    Ok(guess.min(a.nnz().saturating_add(b.nnz()).saturating_mul(2)))
+}
+
+// How many indices the lanes of `b` that `lane` lists have, repeated ones too.
+fn count_indices(lane: &[usize], b: &SparsityPattern) -> usize
+    requires { All (λ k. k < b.now.major_dim) lane.now }
+{
+    let offsets = b.major_offsets();
+    let mut count = 0usize;
+    for k in lane {
+        count = count.saturating_add(offsets[*k + 1] - offsets[*k]);
+    }
+    count
+}
+
+// Appends row i of the product. The scratch set is empty and the scratch row is zero before and after. Inlined: where
+// rows are short, the calls for a row took half of the time.
+#[tactic(auto, using(crate::proofs::Refusals::refused))]
+#[inline(always)]
+fn push_row<T: Ring>(
+    a: &CsMatrix<T>,
+    i: usize,
+    b: &CsMatrix<T>,
+    set: &mut LaneSet,
+    row: &mut [T],
+    rows: &mut Rows<T>,
+) -> Result<(), AllocError>
+    requires inner { a.now.pattern.minor_dim ≡ b.now.pattern.major_dim }
+    requires lane { i < a.now.pattern.major_dim }
+    requires empty { IsEmptyLaneSet b.now.pattern.minor_dim set.old }
+    requires width { length row.old ≡ b.now.pattern.minor_dim }
+    requires zero { (j : ℕ) → T.value (slice_index_or row.old j T.zero_value) ≡ T.ring.zero }
+    ensures empty { OnOk result (IsEmptyLaneSet b.now.pattern.minor_dim set.new) }
+    ensures zero { OnOk result ((j : ℕ)
+        → T.value (slice_index_or row.new j T.zero_value) ≡ T.ring.zero) }
+    ensures lane { OnOk result (GainsLane rows.old.indices.items rows.new.indices.items
+        (IsInLanes b.now.pattern (lane_of a.now.pattern i))) }
+    ensures offset { OnOk result (rows.new.offsets.items
+        ≡ rows.old.offsets.items ++ length rows.new.indices.items ∷ []) }
+    ensures values { OnOk result (GainsValues T.ring T.value T.zero_value
+        rows.old.values.items rows.new.values.items
+        (drop (length rows.old.indices.items) rows.new.indices.items)
+        ((plain_product T.ring (plain_of_rows T.ring T.value a.now)
+        (plain_of_rows T.ring T.value b.now)).value i)) }
+{
+    let begin = rows.indices.len();
+    push_lane(a.pattern().lane(i), b.pattern(), set, &mut rows.indices)?;
+    rows.offsets.push(rows.indices.len())?;
+    push_values(a, i, b, row, &rows.indices[begin..], &mut rows.values)
+}
+
+// Appends the values of row i of the product at the indices. The scratch row is zero before and after.
+#[inline(always)]
+fn push_values<T: Ring>(
+    a: &CsMatrix<T>,
+    i: usize,
+    b: &CsMatrix<T>,
+    row: &mut [T],
+    indices: &[usize],
+    values: &mut Vec<T>,
+) -> Result<(), AllocError>
+    requires inner { a.now.pattern.minor_dim ≡ b.now.pattern.major_dim }
+    requires lane { i < a.now.pattern.major_dim }
+    requires width { length row.old ≡ b.now.pattern.minor_dim }
+    requires zero { (j : ℕ) → T.value (slice_index_or row.old j T.zero_value) ≡ T.ring.zero }
+    requires rising { IsStrictlyIncreasing indices.now }
+    requires inside { All (λ j. j < length row.old) indices.now }
+    requires places { (j : ℕ) → IsInLanes b.now.pattern (lane_of a.now.pattern i) j
+        → Contains indices.now j }
+    ensures zero { OnOk result ((j : ℕ)
+        → T.value (slice_index_or row.new j T.zero_value) ≡ T.ring.zero) }
+    ensures gained { OnOk result (GainsValues T.ring T.value T.zero_value
+        values.old.items values.new.items indices.now
+        ((plain_product T.ring (plain_of_rows T.ring T.value a.now)
+        (plain_of_rows T.ring T.value b.now)).value i)) }
+{
+    stands_law::<T>();
+    learn(a.values());
+    learn(b.values());
+    add_product_row(T::one(), a, i, b, row, &mut Steps::new());
+    push_taken(indices, row, values)
+}
+
+// Appends the row's values at the indices, and sets the row to zero there.
+#[tactic(auto, using(crate::proofs::Refusals::refused))]
+fn push_taken<T: Ring>(
+    indices: &[usize],
+    row: &mut [T],
+    values: &mut Vec<T>,
+) -> Result<(), AllocError>
+    requires rising { IsStrictlyIncreasing indices.now }
+    requires inside { All (λ j. j < length row.old) indices.now }
+    ensures taken { OnOk result (IsTaken T.zero_value indices.now row.old row.new) }
+    ensures gained { OnOk result (GainsValues T.ring T.value T.zero_value
+        values.old.items values.new.items indices.now
+        (λ j. T.value (slice_index_or row.old j T.zero_value))) }
+{
+    for j in indices {
+        values.push(row[*j])?;
+        row[*j] = T::zero();
+    }
+    Ok(())
+}
+
+// Returns the matrix of the rows.
+fn into_matrix<T: Ring>(rows: Rows<T>, major_dim: usize, minor_dim: usize) -> CsMatrix<T>
+    requires { IsSound (arrays_of major_dim minor_dim rows.offsets.items rows.indices.items
+        rows.values.items) }
+    ensures { result ≡ arrays_of major_dim minor_dim rows.offsets.items rows.indices.items
+        rows.values.items }
+{
+    let Rows {
+        offsets,
+        indices,
+        values,
+    } = rows;
+    let pattern = SparsityPattern::from_offset_and_indices_unchecked(
+        major_dim, minor_dim, offsets, indices,
+    );
+    CsMatrix::from_pattern_and_values(pattern, values)
+}

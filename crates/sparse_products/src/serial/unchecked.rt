@@ -1,0 +1,171 @@
+//! A product into a given matrix that has each place.
+
+ghost use Rattle.std.specs.Prelude.{◌≡◌, ◌+◌, ◌≤◌, IfErr, OnOk, OnErr};
+ghost use Rattle.sparse_algebra.specs.Plain.{plain_product};
+ghost use Rattle.sparse_algebra.specs.declared.error.OperationErrorKind.TheVariants.{OutOfMemory};
+ghost use Rattle.sparse_algebra.specs.Operands.{plain_op};
+ghost use Rattle.sparse_algebra.specs.Prealloc.{plain_update, IsCovered};
+ghost use Rattle.sparse_pattern.specs.Raw.{nnz_of};
+ghost use Rattle.sparse_cs.specs.PlainOfLanes.{plain_of_rows, plain_of_cols};
+ghost use Rattle.sparse_products.specs.ScalarProducts.{IfNotTransposed, triples_of};
+
+use super::factor::{csc_factor, csr_factor};
+use super::update::update_matrix;
+use sparse_algebra::learn;
+use sparse_algebra::scalar::Ring;
+use sparse_base::steps::Steps;
+use sparse_forms::csc::CscMatrix;
+use sparse_forms::csr::CsrMatrix;
+use sparse_algebra::error::OperationError;
+use sparse_algebra::operand::Op;
+use std::alloc::Global;
+
+/// Replaces `c` by `beta * c + alpha * op(a) * op(b)`, where `c` has each place of the product's pattern.
+///
+/// The inner sizes of `op(a)` and `op(b)` must be equal, and `c` must have the sizes of their product. Refuses with
+/// `OutOfMemory` only if an allocation fails; `c` is then unchanged.
+///
+/// Gustavson's algorithm (1978): one multiplication for each triple (i, k, j) with (i, k) in `op(a)` and (k, j) in
+/// `op(b)`, and one for each place of `op(a)` and of `c`. Scratch memory for one row of `c`; none if it is longer than
+/// `c` and `op(b)` have places, where each triple is added by a binary search. A transposed operand is transposed
+/// first.
+pub fn spmm_csr_prealloc_unchecked<T: Ring>(
+    alloc: Global,
+    beta: T,
+    c: &mut CsrMatrix<T>,
+    alpha: T,
+    a: Op<&CsrMatrix<T>>,
+    b: Op<&CsrMatrix<T>>,
+) -> Result<(), OperationError>
+    requires inner { (plain_op T.ring (λ m. plain_of_rows T.ring T.value m.now) a).cols
+        ≡ (plain_op T.ring (λ m. plain_of_rows T.ring T.value m.now) b).rows }
+    requires rows { (plain_op T.ring (λ m. plain_of_rows T.ring T.value m.now) a).rows
+        ≡ c.old.pattern.major_dim }
+    requires cols { (plain_op T.ring (λ m. plain_of_rows T.ring T.value m.now) b).cols
+        ≡ c.old.pattern.minor_dim }
+    requires covered { IsCovered
+        (plain_product T.ring (plain_op T.ring (λ m. plain_of_rows T.ring T.value m.now) a)
+        (plain_op T.ring (λ m. plain_of_rows T.ring T.value m.now) b))
+        (plain_of_rows T.ring T.value c.old) }
+    ensures refused { IfErr result (λ e. e ≡ OutOfMemory) }
+    ensures unchanged { OnErr result (c.new ≡ c.old) }
+    ensures pattern { c.new.pattern ≡ c.old.pattern }
+    ensures updated { OnOk result (plain_of_rows T.ring T.value c.new
+        ≡ plain_update T.ring (T.value beta) (plain_of_rows T.ring T.value c.old) (T.value alpha)
+        (plain_product T.ring (plain_op T.ring (λ m. plain_of_rows T.ring T.value m.now) a.entry)
+        (plain_op T.ring (λ m. plain_of_rows T.ring T.value m.now) b.entry))) }
+{
+    spmm_csr_prealloc_unchecked_counted(alloc, beta, c, alpha, a, b, &mut Steps::new())
+}
+
+/// Does what [`spmm_csr_prealloc_unchecked`] does, and counts its steps: one for each multiplication of scalars.
+///
+/// If neither operand is transposed, the count grows by at most the number of places of `a` and of `c` and of triples
+/// (i, k, j) with (i, k) in `a` and (k, j) in `b`, also where the call refuses, and at `Ok` by at least the number of
+/// triples.
+///
+/// # Examples
+///
+/// ```rust
+/// fn steps_of_a_square(alloc: Global) -> Result<bool, Fail> {
+///     let matrix = CsrMatrix::<W64>::identity(alloc, 2)?;
+///     let mut square = mul_csr(alloc, &matrix, &matrix)?;
+///     let (zero, one) = (W64::new(0), W64::new(1));
+///     let operand = Op::NoOp(&matrix);
+///     let mut steps = Steps::new();
+///     spmm_csr_prealloc_unchecked_counted(
+///         alloc,
+///         zero,
+///         &mut square,
+///         one,
+///         operand,
+///         operand,
+///         &mut steps,
+///     )?;
+///     Ok(square == matrix)
+/// }
+/// ```
+#[tactic(auto, using(crate::proofs::Refusals::refused))]
+pub fn spmm_csr_prealloc_unchecked_counted<T: Ring>(
+    alloc: Global,
+    beta: T,
+    c: &mut CsrMatrix<T>,
+    alpha: T,
+    a: Op<&CsrMatrix<T>>,
+    b: Op<&CsrMatrix<T>>,
+    steps: &mut Steps,
+) -> Result<(), OperationError>
+    requires inner { (plain_op T.ring (λ m. plain_of_rows T.ring T.value m.now) a).cols
+        ≡ (plain_op T.ring (λ m. plain_of_rows T.ring T.value m.now) b).rows }
+    requires rows { (plain_op T.ring (λ m. plain_of_rows T.ring T.value m.now) a).rows
+        ≡ c.old.pattern.major_dim }
+    requires cols { (plain_op T.ring (λ m. plain_of_rows T.ring T.value m.now) b).cols
+        ≡ c.old.pattern.minor_dim }
+    requires covered { IsCovered
+        (plain_product T.ring (plain_op T.ring (λ m. plain_of_rows T.ring T.value m.now) a)
+        (plain_op T.ring (λ m. plain_of_rows T.ring T.value m.now) b))
+        (plain_of_rows T.ring T.value c.old) }
+    ensures refused { IfErr result (λ e. e ≡ OutOfMemory) }
+    ensures unchanged { OnErr result (c.new ≡ c.old) }
+    ensures pattern { c.new.pattern ≡ c.old.pattern }
+    ensures updated { OnOk result (plain_of_rows T.ring T.value c.new
+        ≡ plain_update T.ring (T.value beta) (plain_of_rows T.ring T.value c.old) (T.value alpha)
+        (plain_product T.ring (plain_op T.ring (λ m. plain_of_rows T.ring T.value m.now) a.entry)
+        (plain_op T.ring (λ m. plain_of_rows T.ring T.value m.now) b.entry))) }
+    ensures no_more { IfNotTransposed a.entry b.entry
+        (λ m n. steps.new ≤ steps.old + nnz_of m.now.pattern
+        + nnz_of c.old.pattern + triples_of m.now.pattern n.now.pattern) }
+    ensures all_multiplied { OnOk result (IfNotTransposed a.entry b.entry (λ m n.
+        steps.old + triples_of m.now.pattern n.now.pattern ≤ steps.new)) }
+{
+    let a = csr_factor(alloc, a)?;
+    let b = csr_factor(alloc, b)?;
+    learn(c.values());
+    let (pattern, values) = c.pattern_and_values_mut();
+    update_matrix(alloc, beta, pattern, values, alpha, a, b, steps)?;
+    Ok(())
+}
+
+/// Replaces `c` by `beta * c + alpha * op(a) * op(b)`, where `c` has each place of the product's pattern.
+///
+/// The inner sizes of `op(a)` and `op(b)` must be equal, and `c` must have the sizes of their product. Refuses with
+/// `OutOfMemory` only if an allocation fails; `c` is then unchanged.
+///
+/// Gustavson's algorithm (1978): one multiplication for each triple (i, k, j) with (i, k) in `op(a)` and (k, j) in
+/// `op(b)`, and one for each place of `op(a)` and of `c`. Scratch memory for one column of `c`; none if it is longer
+/// than `c` and `op(a)` have places, where each triple is added by a binary search. A transposed operand is transposed
+/// first.
+#[tactic(auto, using(crate::proofs::Refusals::refused))]
+pub fn spmm_csc_prealloc_unchecked<T: Ring>(
+    alloc: Global,
+    beta: T,
+    c: &mut CscMatrix<T>,
+    alpha: T,
+    a: Op<&CscMatrix<T>>,
+    b: Op<&CscMatrix<T>>,
+) -> Result<(), OperationError>
+    requires inner { (plain_op T.ring (λ m. plain_of_cols T.ring T.value m.now) a).cols
+        ≡ (plain_op T.ring (λ m. plain_of_cols T.ring T.value m.now) b).rows }
+    requires rows { (plain_op T.ring (λ m. plain_of_cols T.ring T.value m.now) a).rows
+        ≡ c.old.pattern.minor_dim }
+    requires cols { (plain_op T.ring (λ m. plain_of_cols T.ring T.value m.now) b).cols
+        ≡ c.old.pattern.major_dim }
+    requires covered { IsCovered
+        (plain_product T.ring (plain_op T.ring (λ m. plain_of_cols T.ring T.value m.now) a)
+        (plain_op T.ring (λ m. plain_of_cols T.ring T.value m.now) b))
+        (plain_of_cols T.ring T.value c.old) }
+    ensures refused { IfErr result (λ e. e ≡ OutOfMemory) }
+    ensures unchanged { OnErr result (c.new ≡ c.old) }
+    ensures pattern { c.new.pattern ≡ c.old.pattern }
+    ensures updated { OnOk result (plain_of_cols T.ring T.value c.new
+        ≡ plain_update T.ring (T.value beta) (plain_of_cols T.ring T.value c.old) (T.value alpha)
+        (plain_product T.ring (plain_op T.ring (λ m. plain_of_cols T.ring T.value m.now) a.entry)
+        (plain_op T.ring (λ m. plain_of_cols T.ring T.value m.now) b.entry))) }
+{
+    let a = csc_factor(alloc, a)?;
+    let b = csc_factor(alloc, b)?;
+    learn(c.values());
+    let (pattern, values) = c.pattern_and_values_mut();
+    update_matrix(alloc, beta, pattern, values, alpha, b, a, &mut Steps::new())?;
+    Ok(())
+}

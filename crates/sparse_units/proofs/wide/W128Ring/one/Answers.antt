@@ -1,5 +1,0 @@
-use Rattle.std.proofs.Common.{rules}
-use Rattle.sparse_units.proofs.wide.W128Ring.one.Goals as goal
-
-pub returns : goal.returns
-returns c = search rules
