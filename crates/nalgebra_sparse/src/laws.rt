@@ -15,6 +15,14 @@ pub mod patterns {
     pub use sparse_pattern::pattern::one_first_fault;
 }
 
+/// The algebra of plain matrices.
+pub mod plain {
+    pub use sparse_algebra::laws::{
+        identity_product_law, order_law, product_associative_law, product_distributes_law,
+        proper_law, transpose_product_law, transpose_twice_law, within_law,
+    };
+}
+
 /// Matrix Market texts: a text is at most one document, has one meaning, and means what was written.
 pub mod texts {
     pub use sparse_io::{each_text_means, one_document, one_meaning, round_trip};
@@ -28,8 +36,6 @@ pub mod wrapping {
     pub use sparse_algebra::laws::wide::{wide_read_back_law, wide_triplets_law};
 }
 
-/// The algebra of plain matrices.
-pub use sparse_algebra::laws as plain;
 /// Compressed matrices: `==`, places, transposes, kept places, row order.
 pub use sparse_cs::laws as compressed;
 /// Data structs: what is copied out is taken back as an equal value.

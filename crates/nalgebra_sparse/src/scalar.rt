@@ -1,4 +1,3 @@
 //! Scalars: commutative rings, and those whose inverses can be found.
 
-pub use sparse_algebra::scalar::{Ring, W32, W64, Zero};
-pub use sparse_algebra::scalar::{Mod, Units, W128};
+pub use sparse_algebra::scalar::{Mod, Ring, Units, W32, W64, W128, Zero};

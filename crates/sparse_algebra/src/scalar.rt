@@ -3,8 +3,8 @@
 ghost use Rattle.std.specs.Prelude.{◌≡◌, ◌↔◌, true};
 ghost use Rattle.sparse_algebra.specs.Algebra.{CommRing};
 
-mod inverses;
 pub mod integers;
+mod inverses;
 mod newton;
 mod odd;
 mod residues;

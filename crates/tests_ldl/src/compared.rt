@@ -1,12 +1,12 @@
 //! The library beside the slow program that solves the equations column by column.
 
 use reference::ldl::{DenseFactors, factors_by_columns};
+use sparse_algebra::error::{OperationError, OperationErrorKind};
+use sparse_algebra::scalar::Units;
 use sparse_base::dense::DMatrix;
 use sparse_convert::serial::{convert_csc_dense, convert_dense_csc};
 use sparse_forms::csc::CscMatrix;
 use sparse_ldl::ldl::Ldl;
-use sparse_algebra::error::{OperationError, OperationErrorKind};
-use sparse_algebra::scalar::Units;
 use std::alloc::{AllocError, Global};
 
 // The library's answer, if the matrix is square.

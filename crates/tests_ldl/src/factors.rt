@@ -1,9 +1,9 @@
 //! Factors and solutions.
 
 use crate::matrices::{Arrays, Scalar, are, csc, dense};
+use sparse_algebra::error::OperationErrorKind;
 use sparse_algebra::scalar::{Mod, W32, W64};
 use sparse_ldl::ldl::Ldl;
-use sparse_algebra::error::OperationErrorKind;
 use std::alloc::Global;
 
 // The column offsets, the rows and the values of L, and the diagonal of D.

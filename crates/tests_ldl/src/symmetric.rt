@@ -1,8 +1,8 @@
 //! All symmetric matrices of three rows over rings with zero divisors.
 
 use crate::compared::agree;
-use sparse_base::dense::DMatrix;
 use sparse_algebra::scalar::Mod;
+use sparse_base::dense::DMatrix;
 use std::alloc::{AllocError, Global};
 
 // The last digit of a number in base M, and the digits before it.

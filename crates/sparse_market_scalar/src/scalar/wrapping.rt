@@ -5,8 +5,8 @@ ghost use Rattle.sparse_algebra.specs.Numbers.{w32_number, w64_number};
 ghost use Rattle.sparse_algebra.specs.WrappingValues.{w128_number};
 ghost use Rattle.sparse_market_scalar.specs.ScalarTypes.{wrapping_scalar};
 
-use crate::scalar::{MatrixMarketScalar, W128, W32, W64};
 use crate::scalar::decimal::push_integer;
+use crate::scalar::{MatrixMarketScalar, W32, W64, W128};
 use itoa::Buffer;
 use sparse_parser::error::{Cause, MatrixMarketError};
 use std::alloc::AllocError;
