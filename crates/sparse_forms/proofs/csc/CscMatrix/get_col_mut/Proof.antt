@@ -1,54 +1,24 @@
 -- `get_col_mut` lends a column of the core that `cs_with_col` lends, where it lends it: a walk over
 -- the two calls and the match between.
-use mathlib.Core.Path.{◌≡◌, refl, sym, subst}
-use mathlib.Core.List.{List, [], ◌∷◌}
-use mathlib.Core.Logic.{◌↔◌}
+use Rattle.sparse_lanes.proofs.Walking.{◌≡◌, refl, sym, subst, List, [], ◌∷◌, ◌↔◌, lit<, ◌<◌, w64}
+use Rattle.sparse_lanes.proofs.Walking.{named, a_type, Fn, Body, Val, inst_fn, emp, id⊢, GName, Env}
+use Rattle.sparse_lanes.proofs.Walking.{Wp, after_seq, at_return, Post, any_q, at_ret, prop, Sq, ‵}
+use Rattle.sparse_lanes.proofs.Walking.{raw, ◌⊛◌, some, later, ◌$◌, ◌∵◌, !, qed, done, move, drop}
+use Rattle.sparse_lanes.proofs.Walking.{use0, use1, use2, split, join, fjoin, pick, await, rewrite}
+use Rattle.sparse_lanes.proofs.Walking.{suffices, frame, vrt, in_variant, whole, agg, enter, addr}
+use Rattle.sparse_lanes.proofs.Walking.{of_opd, lit, stop, fld, first, exec, switches_on, no_more}
+use Rattle.sparse_lanes.proofs.Walking.{and_then, returns, alloc_all, pass_all, free_all, look_at}
+use Rattle.sparse_lanes.proofs.Walking.{get, get_in, get_tag, through, sets, sets_last, lands_as}
+use Rattle.sparse_lanes.proofs.Walking.{env, fact, ◌⊑◌, tables, RattleType, Array, usize, yes, no}
+use Rattle.sparse_lanes.proofs.Walking.{Is, shows, param, layouts, param_laws, uint_vals}
+use Rattle.sparse_lanes.proofs.Walking.{uint_Tells, uint_Makes, MutBor, MutRef, mut_vals, mut_Tells}
+use Rattle.sparse_lanes.proofs.Walking.{follows, follows_if, plain, named_lft, nothing, heard}
+use Rattle.sparse_lanes.proofs.Walking.{owned, peeks, calls_at, Lasts, lasts, alive, on_entry}
+use Rattle.sparse_lanes.proofs.Walking.{triple_of, framed, Stays, walk_of, stay_dropped}
+use Rattle.sparse_lanes.proofs.Walking.{Goes-dropped, Goes-spent_ref, ends_at, proved, after, head}
+use Rattle.sparse_lanes.proofs.Walking.{arm_body, says_three, option_laws, Option, Some, None}
+use Rattle.sparse_lanes.proofs.Walking.{IsSome, IfSome, ghost_name_of, option_row}
 use mathlib.Core.Option as maybe
-use lib.Dec.{lit<}
-use Prim.Native.Nat.{◌<◌}
-use mir.Syntax.{w64, named, a_type, Fn, Body}
-use mir.Val.{Val}
-use mir.MapTy.{inst_fn}
-use base.Logic.{emp, id⊢}
-use base.Fml.{GName}
-use prog.Wp.{Env, Wp, after_seq, at_return}
-use types.Kit.{Post, any_q, at_ret, prop, Sq, ‵, raw, ◌⊛◌, some, later, ◌$◌, ◌∵◌, !, qed, done}
-use types.Kit.{move, drop, use0, use1, use2, split, join, fjoin, pick, await, rewrite, suffices}
-use types.Kit.{frame}
-use types.Match.{vrt, in_variant}
-use types.Part.{whole, agg}
-use types.Run.{enter, addr, of_opd, lit, stop, fld, first, exec, switches_on, no_more, and_then}
-use types.Run.{returns}
-use types.ByLocal.{alloc_all, pass_all, free_all, look_at, get, get_in, get_tag, through, sets}
-use types.ByLocal.{sets_last, lands_as, env}
-use contract.Monad.{fact}
-use contract.BorrowLft.{◌⊑◌}
-use contract.Running.{tables}
-use denote.RattleType.{RattleType}
-use denote.Array.{Array}
-use denote.Builtin.{usize}
-use denote.Exit.{yes, no}
-use denote.Laws.{Is, shows}
-use denote.Param.{param, layouts}
-use denote.Param.Laws.{param_laws}
-use denote.Plain.{uint_vals, uint_Tells, uint_Makes}
-use denote.Ref.{MutBor, MutRef, mut_vals, mut_Tells}
-use denote.Follow.{follows, follows_if}
-use denote.Signature.{plain, named_lft}
-use denote.Steps.{nothing, heard, owned, peeks}
-use denote.Triple.Call.{calls_at}
-use denote.Triple.Clauses.{Lasts, lasts}
-use denote.Triple.Entry.{alive, on_entry}
-use denote.Triple.Spec.{triple_of}
-use denote.Triple.Table.{framed}
-use denote.Triple.Walked.{Stays, walk_of, stay_dropped, Goes-dropped, Goes-spent_ref, ends_at}
-use Rattle.std.proofs.raw_atomic.Walks.{proved}
-use Rattle.std.proofs.VecSteps.Shapes.{after, head, arm_body}
-use Rattle.std.proofs.mem.Facts.{says_three}
-use Rattle.std.proofs.option.Option.TheLaws.{the_row_laws as option_laws}
-use Rattle.std.specs.Prelude.{Option, Some, None, IsSome, IfSome}
-use Rattle.std.specs.Option.{ghost_name_of}
-use Rattle.std.specs.contracts.option.Option.{the_row as option_row}
 use Rattle.sparse_cs.specs.Compressed.{IsSound}
 use Rattle.sparse_cs.specs.Lanes.{lane_at}
 use Rattle.sparse_cs.specs.Writing.{with_lane}

@@ -1,42 +1,20 @@
 -- `get_entry_mut` passes on what `find_mut` lends, as an entry.
-use mathlib.Core.Path.{◌≡◌, refl, sym, ap, ◌∙◌, subst}
-use mathlib.Core.List.{List, [], ◌∷◌}
-use mir.Val.{Val}
+use Rattle.sparse_lanes.proofs.Walking.{◌≡◌, refl, sym, ap, ◌∙◌, subst, List, [], ◌∷◌, Val, w64}
+use Rattle.sparse_lanes.proofs.Walking.{named, a_type, inst_fn, emp, id⊢, GName, ‵, raw, ◌⊛◌, some}
+use Rattle.sparse_lanes.proofs.Walking.{later, ◌$◌, ◌∵◌, !, qed, done, move, drop, use1, split}
+use Rattle.sparse_lanes.proofs.Walking.{join, fjoin, pick, await, rewrite, suffices, frame, enter}
+use Rattle.sparse_lanes.proofs.Walking.{addr, stop, no_more, and_then, returns, alloc_all, pass_all}
+use Rattle.sparse_lanes.proofs.Walking.{free_all, look_at, get, through, sets, lands_as, fact, ◌⊑◌}
+use Rattle.sparse_lanes.proofs.Walking.{tables, RattleType, usize, yes, no, Is, shows, param}
+use Rattle.sparse_lanes.proofs.Walking.{layouts, param_laws, uint_vals, uint_Tells, mut_vals}
+use Rattle.sparse_lanes.proofs.Walking.{mut_Tells, follows_if, plain, named_lft, nothing, heard}
+use Rattle.sparse_lanes.proofs.Walking.{peeks, calls_at, Lasts, lasts, alive, on_entry, triple_of}
+use Rattle.sparse_lanes.proofs.Walking.{framed, Stays, walk_of, stay_dropped, Goes-dropped}
+use Rattle.sparse_lanes.proofs.Walking.{Goes-spent_ref, ends_at, proved, says_two, option_laws}
+use Rattle.sparse_lanes.proofs.Walking.{option_row}
 use mathlib.Core.Option as maybe
-use mir.Syntax.{w64, named, a_type}
-use mir.MapTy.{inst_fn}
-use base.Logic.{emp, id⊢}
-use base.Fml.{GName}
-use types.Kit.{‵, raw, ◌⊛◌, some, later, ◌$◌, ◌∵◌, !, qed, done, move, drop, use1, split, join}
-use types.Kit.{fjoin, pick, await, rewrite, suffices, frame}
-use types.Run.{enter, addr, stop, no_more, and_then, returns}
-use types.ByLocal.{alloc_all, pass_all, free_all, look_at, get, through, sets, lands_as}
-use contract.Monad.{fact}
-use contract.BorrowLft.{◌⊑◌}
-use contract.Running.{tables}
-use denote.RattleType.{RattleType}
-use denote.Builtin.{usize}
-use denote.Exit.{yes, no}
-use denote.Laws.{Is, shows}
-use denote.Param.{param, layouts}
-use denote.Param.Laws.{param_laws}
-use denote.Plain.{uint_vals, uint_Tells}
-use denote.Ref.{mut_vals, mut_Tells}
-use denote.Follow.{follows_if}
-use denote.Signature.{plain, named_lft}
-use denote.Steps.{nothing, heard, peeks}
-use denote.Triple.Call.{calls_at}
-use denote.Triple.Clauses.{Lasts, lasts}
-use denote.Triple.Entry.{alive, on_entry}
-use denote.Triple.Spec.{triple_of}
-use denote.Triple.Table.{framed}
-use denote.Triple.Walked.{Stays, walk_of, stay_dropped, Goes-dropped, Goes-spent_ref, ends_at}
-use Rattle.std.proofs.raw_atomic.Walks.{proved}
-use Rattle.std.proofs.mem.Facts.{says_two}
-use Rattle.std.proofs.option.Option.TheLaws.{the_row_laws as option_laws}
 use Rattle.sparse_pattern.proofs.entry.Found.TheLaws.{the_row_laws as found_laws}
 use Rattle.sparse_pattern.proofs.entry.SparseEntryMut.TheLaws.{the_row_laws as entry_laws}
-use Rattle.std.specs.contracts.option.Option.{the_row as option_row}
 use Rattle.sparse_pattern.specs.contracts.entry.Found.{the_row as found_row}
 use Rattle.sparse_pattern.specs.contracts.entry.SparseEntryMut.{the_row as entry_row}
 use Rattle.sparse_forms.specs.contracts.csc.CscMatrix.{the_row as matrix_row}

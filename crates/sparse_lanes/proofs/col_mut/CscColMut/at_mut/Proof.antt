@@ -1,41 +1,18 @@
 -- `at_mut` lends one value of what `values_mut` lends.
-use mathlib.Core.Path.{◌≡◌, refl, sym, subst}
-use mathlib.Core.List.{List, [], ◌∷◌}
-use lib.ListN.{length}
-use mir.Val.{Val}
-use Prim.Native.Nat.{◌<◌}
-use mir.Syntax.{w64, named, a_type}
-use mir.MapTy.{inst_fn}
-use base.Logic.{emp, id⊢}
-use base.Fml.{flft, ftrue}
-use types.Kit.{‵, raw, ◌⊛◌, some, later, ◌$◌, ◌∵◌, !, qed, done, move, drop, use1, use2, split}
-use types.Kit.{join, fjoin, pick, await, rewrite, suffices, frame}
-use types.Run.{enter, addr, stop, no_more, and_then, returns}
-use types.ByLocal.{alloc_all, pass_all, free_all, look_at, get, through, sets, lands_as}
-use contract.Monad.{fact}
-use contract.BorrowLft.{◌⊑◌}
-use contract.Lifetimes.{Lfts, Shares}
-use contract.Running.{tables}
-use denote.RattleType.{RattleType}
-use denote.Array.{Array}
-use denote.Builtin.{usize}
-use denote.Exit.{yes, no}
-use denote.Laws.{Is, shows}
-use denote.Param.{param, layouts}
-use denote.Plain.{uint_vals, uint_Tells, uint_Makes}
-use denote.Ref.{MutBor, MutRef, mut_vals, mut_Tells, mut_Lawful}
-use denote.Slice.{MutSlice, mut_slice_Lawful}
-use denote.Follow.{follows, follows_then}
-use denote.Signature.{plain, named_lft}
-use denote.Steps.{nothing, heard, owned, peeks}
-use denote.Triple.Call.{calls_at}
-use denote.Triple.Clauses.{Lasts, lasts}
-use denote.Triple.Entry.{on_entry}
-use denote.Triple.Spec.{triple_of}
-use denote.Triple.Table.{framed}
-use denote.Triple.Walked.{Stays, walk_of, says, stay_dropped, Goes-dropped, Goes-spent_ref, ends_at}
-use Rattle.std.proofs.raw_atomic.Walks.{proved}
-use Rattle.std.specs.Prelude.{slice_set, slice_index_or}
+use Rattle.sparse_lanes.proofs.Walking.{◌≡◌, refl, sym, subst, List, [], ◌∷◌, length, Val, ◌<◌, w64}
+use Rattle.sparse_lanes.proofs.Walking.{named, a_type, inst_fn, emp, id⊢, flft, ftrue, ‵, raw, ◌⊛◌}
+use Rattle.sparse_lanes.proofs.Walking.{some, later, ◌$◌, ◌∵◌, !, qed, done, move, drop, use1, use2}
+use Rattle.sparse_lanes.proofs.Walking.{split, join, fjoin, pick, await, rewrite, suffices, frame}
+use Rattle.sparse_lanes.proofs.Walking.{enter, addr, stop, no_more, and_then, returns, alloc_all}
+use Rattle.sparse_lanes.proofs.Walking.{pass_all, free_all, look_at, get, through, sets, lands_as}
+use Rattle.sparse_lanes.proofs.Walking.{fact, ◌⊑◌, Lfts, Shares, tables, RattleType, Array, usize}
+use Rattle.sparse_lanes.proofs.Walking.{yes, no, Is, shows, param, layouts, uint_vals, uint_Tells}
+use Rattle.sparse_lanes.proofs.Walking.{uint_Makes, MutBor, MutRef, mut_vals, mut_Tells, mut_Lawful}
+use Rattle.sparse_lanes.proofs.Walking.{MutSlice, mut_slice_Lawful, follows, follows_then, plain}
+use Rattle.sparse_lanes.proofs.Walking.{named_lft, nothing, heard, owned, peeks, calls_at, Lasts}
+use Rattle.sparse_lanes.proofs.Walking.{lasts, on_entry, triple_of, framed, Stays, walk_of, says}
+use Rattle.sparse_lanes.proofs.Walking.{stay_dropped, Goes-dropped, Goes-spent_ref, ends_at, proved}
+use Rattle.sparse_lanes.proofs.Walking.{slice_set, slice_index_or}
 use Rattle.sparse_cs.proofs.FoundEntries.{with_fact, with_facts}
 use Rattle.sparse_lanes.specs.contracts.col_mut.CscColMut.{the_row}
 use Rattle.sparse_lanes.specs.ColWriting.{col_with_values}
