@@ -11,8 +11,8 @@ use std::alloc::Global;
 const EMPTY: [(usize, usize); 5] = [(0, 0), (0, MOST), (2, 0), (2, MOST), (0, 2)];
 
 // The zeros with this number of columns and of rows.
-fn zeros(alloc: Global, lanes: usize, indices: usize) -> Option<CscMatrix<W64>> {
-    CscMatrix::zeros(alloc, indices, lanes).ok()
+fn zeros(alloc: Global, ncols: usize, nrows: usize) -> Option<CscMatrix<W64>> {
+    CscMatrix::zeros(alloc, nrows, ncols).ok()
 }
 
 // Whether the readers of a matrix without places find none.
@@ -29,7 +29,7 @@ fn is_read(matrix: &CscMatrix<W64>) -> bool {
 // Whether the last place that is not stored is zero, if there is one.
 fn ends_with_zero(matrix: &CscMatrix<W64>) -> bool {
     let (nrows, ncols) = (matrix.nrows(), matrix.ncols());
-    if nrows == 0 || ncols == 0 {
+    if ncols == 0 || nrows == 0 {
         return true;
     }
     is_zero(matrix, nrows - 1, ncols - 1)
@@ -44,8 +44,8 @@ fn is_zero<T>(matrix: &CscMatrix<T>, row: usize, col: usize) -> bool {
 fn is_kept(alloc: Global, matrix: &CscMatrix<W64>, nrows: usize, ncols: usize) -> bool {
     is_made(matrix.clone(alloc), nrows, ncols, 0)
         && is_made(matrix.filter(alloc, |_, _, _| true), nrows, ncols, 0)
-        && is_made(matrix.upper_triangle(alloc), nrows, ncols, 0)
         && is_made(matrix.lower_triangle(alloc), nrows, ncols, 0)
+        && is_made(matrix.upper_triangle(alloc), nrows, ncols, 0)
         && is_made(matrix.diagonal_as_csc(alloc), nrows, ncols, 0)
         && is_made(convert_csc_coo(alloc, matrix), nrows, ncols, 0)
 }
@@ -58,7 +58,7 @@ fn is_transposed(alloc: Global, matrix: &CscMatrix<W64>, nrows: usize, ncols: us
 }
 
 fn is_dense(alloc: Global, matrix: &CscMatrix<W64>, nrows: usize, ncols: usize) -> bool {
-    if nrows == 0 || ncols == 0 {
+    if ncols == 0 || nrows == 0 {
         is_made(convert_csc_dense(alloc, matrix), nrows, ncols, 0)
     } else {
         convert_csc_dense(alloc, matrix).is_err()
@@ -74,7 +74,7 @@ fn is_moved(mut matrix: CscMatrix<W64>, nrows: usize, ncols: usize) -> bool {
     let matrix = -matrix;
     let is_same = matrix == matrix;
     let transposed = matrix.transpose_as_csr();
-    is_same && transposed.nrows() == ncols && transposed.ncols() == nrows
+    is_same && transposed.ncols() == nrows && transposed.nrows() == ncols
 }
 
 fn is_whole(alloc: Global, matrix: CscMatrix<W64>) -> bool {
@@ -88,8 +88,8 @@ fn is_whole(alloc: Global, matrix: CscMatrix<W64>) -> bool {
 
 #[test]
 fn columns_without_places(rt: HostRuntime) {
-    for &(lanes, indices) in &EMPTY {
-        let made = zeros(rt.alloc(), lanes, indices);
+    for &(ncols, nrows) in &EMPTY {
+        let made = zeros(rt.alloc(), ncols, nrows);
         assert!(rt; made.is_some_and(|matrix| is_whole(rt.alloc(), matrix)));
     }
     assert!(rt; zeros(rt.alloc(), MOST, 0).is_none());
@@ -101,13 +101,13 @@ fn columns_without_places(rt: HostRuntime) {
 fn both_ends(alloc: Global, is_sorted: bool) -> Option<CscMatrix<i32>> {
     let offsets = vec![in alloc; 0, 2].ok()?;
     let values = vec![in alloc; 7, 8].ok()?;
-    let (lanes, indices) = (1, MOST);
+    let (ncols, nrows) = (1, MOST);
     if is_sorted {
         let places = vec![in alloc; 0, MOST - 1].ok()?;
-        CscMatrix::try_from_csc_data(indices, lanes, offsets, places, values).ok()
+        CscMatrix::try_from_csc_data(nrows, ncols, offsets, places, values).ok()
     } else {
         let places = vec![in alloc; MOST - 1, 0].ok()?;
-        CscMatrix::try_from_unsorted_csc_data(alloc, indices, lanes, offsets, places, values).ok()
+        CscMatrix::try_from_unsorted_csc_data(alloc, nrows, ncols, offsets, places, values).ok()
     }
 }
 
@@ -139,17 +139,17 @@ fn the_last_place_of_columns(rt: HostRuntime) {
 // The kind of the refusal of arrays without places.
 fn refusal(
     alloc: Global,
-    lanes: usize,
-    indices: usize,
+    ncols: usize,
+    nrows: usize,
     offsets: &[usize],
     is_sorted: bool,
 ) -> Option<SparseFormatErrorKind> {
     let offsets = Vec::from_slice(alloc, offsets).ok()?;
     let (places, values): (Vec<usize>, Vec<i32>) = (Vec::new(alloc), Vec::new(alloc));
     let made = if is_sorted {
-        CscMatrix::try_from_csc_data(indices, lanes, offsets, places, values)
+        CscMatrix::try_from_csc_data(nrows, ncols, offsets, places, values)
     } else {
-        CscMatrix::try_from_unsorted_csc_data(alloc, indices, lanes, offsets, places, values)
+        CscMatrix::try_from_unsorted_csc_data(alloc, nrows, ncols, offsets, places, values)
     };
     let error = made.err()?;
     Some(*error.kind())

@@ -11,8 +11,8 @@ use std::alloc::Global;
 const EMPTY: [(usize, usize); 5] = [(0, 0), (0, MOST), (2, 0), (2, MOST), (0, 2)];
 
 // The zeros with this number of rows and of columns.
-fn zeros(alloc: Global, lanes: usize, indices: usize) -> Option<CsrMatrix<W64>> {
-    CsrMatrix::zeros(alloc, lanes, indices).ok()
+fn zeros(alloc: Global, nrows: usize, ncols: usize) -> Option<CsrMatrix<W64>> {
+    CsrMatrix::zeros(alloc, nrows, ncols).ok()
 }
 
 // Whether the readers of a matrix without places find none.
@@ -88,8 +88,8 @@ fn is_whole(alloc: Global, matrix: CsrMatrix<W64>) -> bool {
 
 #[test]
 fn rows_without_places(rt: HostRuntime) {
-    for &(lanes, indices) in &EMPTY {
-        let made = zeros(rt.alloc(), lanes, indices);
+    for &(nrows, ncols) in &EMPTY {
+        let made = zeros(rt.alloc(), nrows, ncols);
         assert!(rt; made.is_some_and(|matrix| is_whole(rt.alloc(), matrix)));
     }
     assert!(rt; zeros(rt.alloc(), MOST, 0).is_none());
@@ -101,13 +101,13 @@ fn rows_without_places(rt: HostRuntime) {
 fn both_ends(alloc: Global, is_sorted: bool) -> Option<CsrMatrix<i32>> {
     let offsets = vec![in alloc; 0, 2].ok()?;
     let values = vec![in alloc; 7, 8].ok()?;
-    let (lanes, indices) = (1, MOST);
+    let (nrows, ncols) = (1, MOST);
     if is_sorted {
         let places = vec![in alloc; 0, MOST - 1].ok()?;
-        CsrMatrix::try_from_csr_data(lanes, indices, offsets, places, values).ok()
+        CsrMatrix::try_from_csr_data(nrows, ncols, offsets, places, values).ok()
     } else {
         let places = vec![in alloc; MOST - 1, 0].ok()?;
-        CsrMatrix::try_from_unsorted_csr_data(alloc, lanes, indices, offsets, places, values).ok()
+        CsrMatrix::try_from_unsorted_csr_data(alloc, nrows, ncols, offsets, places, values).ok()
     }
 }
 
@@ -139,17 +139,17 @@ fn the_last_place_of_rows(rt: HostRuntime) {
 // The kind of the refusal of arrays without places.
 fn refusal(
     alloc: Global,
-    lanes: usize,
-    indices: usize,
+    nrows: usize,
+    ncols: usize,
     offsets: &[usize],
     is_sorted: bool,
 ) -> Option<SparseFormatErrorKind> {
     let offsets = Vec::from_slice(alloc, offsets).ok()?;
     let (places, values): (Vec<usize>, Vec<i32>) = (Vec::new(alloc), Vec::new(alloc));
     let made = if is_sorted {
-        CsrMatrix::try_from_csr_data(lanes, indices, offsets, places, values)
+        CsrMatrix::try_from_csr_data(nrows, ncols, offsets, places, values)
     } else {
-        CsrMatrix::try_from_unsorted_csr_data(alloc, lanes, indices, offsets, places, values)
+        CsrMatrix::try_from_unsorted_csr_data(alloc, nrows, ncols, offsets, places, values)
     };
     let error = made.err()?;
     Some(*error.kind())
