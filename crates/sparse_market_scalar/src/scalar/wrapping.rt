@@ -6,8 +6,9 @@ ghost use Rattle.sparse_algebra.specs.WrappingValues.{w128_number};
 ghost use Rattle.sparse_market_scalar.specs.ScalarTypes.{wrapping_scalar};
 
 use crate::scalar::decimal::push_integer;
-use crate::scalar::{MatrixMarketScalar, W32, W64, W128};
+use crate::scalar::MatrixMarketScalar;
 use itoa::Buffer;
+use sparse_algebra::scalar::{W32, W64, W128};
 use sparse_parser::error::{Cause, MatrixMarketError};
 use std::alloc::AllocError;
 
