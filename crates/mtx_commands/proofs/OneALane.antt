@@ -52,10 +52,10 @@ module _ {T : Type 0} (m : Coo T) where
       → IsOneALane rows (map (λ t. t.0) m.triplets)
       → IsTransposedPattern columns transposed → IsProductOf p transposed rows
       → (i j : ℕ) → IsPlace p j i ↔ HasTriplet m i j
-  triplets_placed p columns transposed rows of_columns of_rows transposed product i j = (
+  triplets_placed p columns transposed rows of_columns of_rows is_transposed product i j = (
     λ place.
         let (k, left, right) = (product j i).0 place in
-        let column = (of_columns k j).0 ((transposed.places k j).0 left) in
+        let column = (of_columns k j).0 ((is_transposed.places k j).0 left) in
         let row = (of_rows k i).0 right in
         record {
           at = k;
