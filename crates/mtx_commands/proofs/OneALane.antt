@@ -68,5 +68,5 @@ module _ {T : Type 0} (m : Coo T) where
         (omega (arith, h.within, length-map m.triplets (λ t. t.1)), h.column) in
         let right = (of_rows h.at i).1
         (omega (arith, h.within, length-map m.triplets (λ t. t.0)), h.row) in
-        (product j i).1 (h.at, (transposed.places h.at j).1 left, right),
+        (product j i).1 (h.at, (is_transposed.places h.at j).1 left, right),
   )
