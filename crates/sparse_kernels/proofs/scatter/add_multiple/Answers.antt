@@ -1,0 +1,56 @@
+use Rattle.std.proofs.Common.{◌<◌, length, arith, rules}
+use Rattle.std.proofs.lemmas.List.{length_push}
+use Rattle.std.proofs.lemmas.Slice.Zip.{zip_turn, zip_end}
+use Rattle.sparse_kernels.proofs.Terms.{adds_none, adds_more, adds_all}
+use Rattle.sparse_kernels.proofs.scatter.add_multiple.Goals as goal
+
+pub loop-index-init : goal.loop-index-init
+loop-index-init g c = record {
+  added = adds_none g.T.Ring.ring g.T.Ring.value g.T.Zero.zero_value (g.T.Ring.value c.args.scale)
+      c.args.row.now;
+  counted = omega arith;
+}
+
+pub add_term-requires : goal.add_term-requires
+add_term-requires g c =
+    let turn = zip_turn c.args.indices.now c.args.values.now c.loop-index.yielded
+    c.into_iter-index-iterator.result c.loop-index.index-iterator c.next.new.self c.next.result
+    (search rules) (search rules) c.loop-index.yielded_by (c.in-Some.index, c.in-Some.value)
+    c.in-Some.is c.next.ensures.steps in
+    rw (turn.2 0) (omega (
+      arith,
+      c.requires.inside (length c.loop-index.yielded) 0 turn.0,
+      c.loop-index.auto.row,
+    ))
+
+pub loop-index-preserved : goal.loop-index-preserved
+loop-index-preserved g c =
+    let n = length c.loop-index.yielded in
+    let turn = zip_turn c.args.indices.now c.args.values.now c.loop-index.yielded
+    c.into_iter-index-iterator.result c.loop-index.index-iterator c.next.new.self c.next.result
+    (search rules) (search rules) c.loop-index.yielded_by (c.in-Some.index, c.in-Some.value)
+    c.in-Some.is c.next.ensures.steps in
+    let k = c.in-Some.index.now in
+    let v = c.in-Some.value.now in
+    let within : k < length c.args.row.now = rw (turn.2 0) (c.requires.inside n 0 turn.0) in
+    rw (length_push c.loop-index.yielded (c.in-Some.index, c.in-Some.value)) (record {
+      added = adds_more g.T.Ring.ring g.T.Ring.value g.T.Zero.zero_value
+          (g.T.Ring.value c.args.scale) c.args.indices.now c.args.values.now c.args.row.now
+          c.loop-index.row c.add_term.new.row n k v turn.0 turn.1 (turn.2 k) (turn.3 v) within
+          c.loop-index.auto.row c.add_term.ensures.written c.add_term.ensures.value
+          c.loop-index.invariant.added;
+      counted = omega (arith, c.loop-index.invariant.counted, c.tick.ensures);
+    })
+
+pub returns : goal.returns
+returns g c =
+    let count = zip_end c.args.indices.now c.args.values.now c.loop-index.yielded
+    c.into_iter-index-iterator.result c.loop-index.index-iterator c.next.new.self c.next.result
+    (search rules) (search rules) c.loop-index.yielded_by c.in-None.is c.next.ensures.steps in
+    record {
+      added = adds_all g.T.Ring.ring g.T.Ring.value g.T.Zero.zero_value
+          (g.T.Ring.value c.args.scale) c.args.indices.now c.args.values.now c.args.row.now
+          c.loop-index.row (length c.loop-index.yielded) c.requires.fits count
+          c.loop-index.invariant.added;
+      counted = omega (arith, c.loop-index.invariant.counted, count, c.requires.fits);
+    }

@@ -1,0 +1,17 @@
+use Rattle.std.proofs.Common.{length, take}
+use Rattle.sparse_kernels.specs.InnerKernels.{AddsMultiple}
+use Rattle.sparse_kernels.proofs.scatter.add_multiple_four.Given as goal
+
+abbrev pub invariant-loop-index : goal.invariant-loop-index
+invariant-loop-index g l =
+    let R = g.T.Ring.ring in
+    let f = g.T.Ring.value in
+    let z = g.T.Zero.zero_value in
+    let ks = take (length l.yielded) l.indices in
+    let vs = take (length l.yielded) l.values in
+    record {
+      first : AddsMultiple R f z (f l.a) ks vs l.initial.first l.first;
+      second : AddsMultiple R f z (f l.b) ks vs l.initial.second l.second;
+      third : AddsMultiple R f z (f l.c) ks vs l.initial.third l.third;
+      fourth : AddsMultiple R f z (f l.d) ks vs l.initial.fourth l.fourth;
+    }

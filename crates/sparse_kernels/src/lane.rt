@@ -1,0 +1,38 @@
+//! A lane's slices, and the position of a place.
+
+ghost use Rattle.std.specs.Prelude.{◌≡◌, ◌<◌, All, IfSome, length};
+ghost use Rattle.std.specs.List.Sorted.{IsStrictlyIncreasing};
+ghost use Rattle.sparse_cs.specs.Compressed.{IsSound};
+ghost use Rattle.sparse_cs.specs.Lanes.{lane_at};
+ghost use Rattle.sparse_cs.specs.StoredEntries.{place_of};
+
+use sparse_cs::{CsMatrix, LaneIndices};
+use sparse_pattern::pattern::SparsityPattern;
+
+/// Returns the indices and the values of lane i.
+pub fn lane_slices<T>(a: &CsMatrix<T>, i: usize) -> (&[usize], &[T])
+    requires { i < a.now.pattern.major_dim }
+    ensures indices { result.0.now ≡ (lane_at a.now i).indices }
+    ensures values { result.1.now ≡ (lane_at a.now i).values }
+    ensures fits { length result.1.now ≡ length result.0.now }
+    ensures rising { IsStrictlyIncreasing result.0.now }
+    ensures inside { All (λ j. j < a.now.pattern.minor_dim) result.0.now }
+    ensures sound { IsSound a.now }
+{
+    let (offsets, indices, values) = a.cs_data();
+    let (begin, end) = (offsets[i], offsets[i + 1]);
+    (&indices[begin..end], &values[begin..end])
+}
+
+/// Returns the position of a place, or `None` if the pattern lacks it. Binary search in the lane.
+pub fn position_of(pattern: &SparsityPattern, lane: usize, index: usize) -> Option<usize>
+    requires { lane < pattern.now.major_dim }
+    ensures position { result ≡ place_of pattern.now lane index }
+    ensures within { IfSome result (λ p. p < length pattern.now.indices) }
+{
+    let start = pattern.major_offsets()[lane];
+    match LaneIndices::of_lane(pattern, lane).position_of(index) {
+        Some(at) => Some(start + at),
+        None => None,
+    }
+}

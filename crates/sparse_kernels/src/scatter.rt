@@ -1,0 +1,82 @@
+//! A multiple of a lane, added to a dense row.
+
+ghost use Rattle.std.specs.Prelude.{◌≡◌, ◌+◌, ◌<◌, All, length, slice_index_or, slice_set};
+ghost use Rattle.sparse_kernels.specs.InnerKernels.{AddsMultiple};
+
+use sparse_algebra::scalar::Ring;
+use sparse_base::steps::Steps;
+
+/// Adds `scale` times a lane to a dense row.
+///
+/// There must be one value for each index, and indices must be inside the row. A value whose index stands twice is
+/// added twice.
+///
+/// One multiplication for each index, which `steps` counts. Allocates nothing.
+pub fn add_multiple<T: Ring>(
+    scale: T,
+    indices: &[usize],
+    values: &[T],
+    row: &mut [T],
+    steps: &mut Steps,
+)
+    requires fits { length values.now ≡ length indices.now }
+    requires inside { All (λ j. j < length row.old) indices.now }
+    ensures added { AddsMultiple T.ring T.value T.zero_value (T.value scale) indices.now values.now
+        row.old row.new }
+    ensures counted { steps.new ≡ steps.old + length indices.now }
+{
+    for (index, value) in indices.iter().zip(values) {
+        steps.tick();
+        add_term(row, *index, scale, *value);
+    }
+}
+
+/// Adds multiples of one lane to four dense rows, so that the lane is read once for them.
+///
+/// There must be one value for each index, and indices must be inside the rows, which are equally long.
+///
+/// Four multiplications for each index. Allocates nothing.
+pub fn add_multiple_four<T: Ring>(
+    scales: (T, T, T, T),
+    indices: &[usize],
+    values: &[T],
+    first: &mut [T],
+    second: &mut [T],
+    third: &mut [T],
+    fourth: &mut [T],
+)
+    requires fits { length values.now ≡ length indices.now }
+    requires inside { All (λ j. j < length first.old) indices.now }
+    requires width_2 { length second.old ≡ length first.old }
+    requires width_3 { length third.old ≡ length first.old }
+    requires width_4 { length fourth.old ≡ length first.old }
+    ensures first { AddsMultiple T.ring T.value T.zero_value (T.value scales.0)
+        indices.now values.now first.old first.new }
+    ensures second { AddsMultiple T.ring T.value T.zero_value (T.value scales.1)
+        indices.now values.now second.old second.new }
+    ensures third { AddsMultiple T.ring T.value T.zero_value (T.value scales.2)
+        indices.now values.now third.old third.new }
+    ensures fourth { AddsMultiple T.ring T.value T.zero_value (T.value scales.3)
+        indices.now values.now fourth.old fourth.new }
+{
+    let (a, b, c, d) = scales;
+    for (index, value) in indices.iter().zip(values) {
+        add_term(first, *index, a, *value);
+        add_term(second, *index, b, *value);
+        add_term(third, *index, c, *value);
+        add_term(fourth, *index, d, *value);
+    }
+}
+
+// Adds a product to the entry at an index.
+#[inline(always)]
+fn add_term<T: Ring>(row: &mut [T], index: usize, scale: T, value: T)
+    requires { index < length row.old }
+    ensures written { row.new ≡ slice_set row.old index (slice_index_or row.new index T.zero_value) }
+    ensures value { T.value (slice_index_or row.new index T.zero_value)
+        ≡ T.ring.add (T.value (slice_index_or row.old index T.zero_value))
+        (T.ring.mul (T.value scale) (T.value value)) }
+{
+    let entry = &mut row[index];
+    *entry = entry.add(scale.mul(value));
+}
