@@ -27,7 +27,7 @@ pub fn add_multiple<T: Ring>(
 {
     for (index, value) in indices.iter().zip(values) {
         steps.tick();
-        add_term(row, *index, scale, *value);
+        add_product(row, *index, scale, *value);
     }
 }
 
@@ -61,16 +61,16 @@ pub fn add_multiple_four<T: Ring>(
 {
     let (a, b, c, d) = scales;
     for (index, value) in indices.iter().zip(values) {
-        add_term(first, *index, a, *value);
-        add_term(second, *index, b, *value);
-        add_term(third, *index, c, *value);
-        add_term(fourth, *index, d, *value);
+        add_product(first, *index, a, *value);
+        add_product(second, *index, b, *value);
+        add_product(third, *index, c, *value);
+        add_product(fourth, *index, d, *value);
     }
 }
 
 // Adds a product to the entry at an index.
 #[inline(always)]
-fn add_term<T: Ring>(row: &mut [T], index: usize, scale: T, value: T)
+fn add_product<T: Ring>(row: &mut [T], index: usize, scale: T, value: T)
     requires { index < length row.old }
     ensures written { row.new ≡ slice_set row.old index (slice_index_or row.new index T.zero_value) }
     ensures value { T.value (slice_index_or row.new index T.zero_value)

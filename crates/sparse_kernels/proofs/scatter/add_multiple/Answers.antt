@@ -11,8 +11,8 @@ loop-index-init g c = record {
   counted = omega arith;
 }
 
-pub add_term-requires : goal.add_term-requires
-add_term-requires g c =
+pub add_product-requires : goal.add_product-requires
+add_product-requires g c =
     let turn = zip_turn c.args.indices.now c.args.values.now c.loop-index.yielded
     c.into_iter-index-iterator.result c.loop-index.index-iterator c.next.new.self c.next.result
     (search rules) (search rules) c.loop-index.yielded_by (c.in-Some.index, c.in-Some.value)
@@ -36,8 +36,8 @@ loop-index-preserved g c =
     rw (length_push c.loop-index.yielded (c.in-Some.index, c.in-Some.value)) (record {
       added = adds_more g.T.Ring.ring g.T.Ring.value g.T.Zero.zero_value
           (g.T.Ring.value c.args.scale) c.args.indices.now c.args.values.now c.args.row.now
-          c.loop-index.row c.add_term.new.row n k v turn.0 turn.1 (turn.2 k) (turn.3 v) within
-          c.loop-index.auto.row c.add_term.ensures.written c.add_term.ensures.value
+          c.loop-index.row c.add_product.new.row n k v turn.0 turn.1 (turn.2 k) (turn.3 v) within
+          c.loop-index.auto.row c.add_product.ensures.written c.add_product.ensures.value
           c.loop-index.invariant.added;
       counted = omega (arith, c.loop-index.invariant.counted, c.tick.ensures);
     })

@@ -17,8 +17,8 @@ loop-index-init g c =
       fourth = none (f c.args.scales.3) c.args.fourth.now;
     }
 
-pub add_term-requires : goal.add_term-requires
-add_term-requires g c =
+pub add_product-requires : goal.add_product-requires
+add_product-requires g c =
     let turn = zip_turn c.args.indices.now c.args.values.now c.loop-index.yielded
     c.into_iter-index-iterator.result c.loop-index.index-iterator c.next.new.self c.next.result
     (search rules) (search rules) c.loop-index.yielded_by (c.in-Some.index, c.in-Some.value)
@@ -29,8 +29,8 @@ add_term-requires g c =
       c.loop-index.auto.first,
     ))
 
-pub add_term-requires-in-loop-index : goal.add_term-requires-in-loop-index
-add_term-requires-in-loop-index g c =
+pub add_product-requires-in-loop-index : goal.add_product-requires-in-loop-index
+add_product-requires-in-loop-index g c =
     let turn = zip_turn c.args.indices.now c.args.values.now c.loop-index.yielded
     c.into_iter-index-iterator.result c.loop-index.index-iterator c.next.new.self c.next.result
     (search rules) (search rules) c.loop-index.yielded_by (c.in-Some.index, c.in-Some.value)
@@ -42,8 +42,8 @@ add_term-requires-in-loop-index g c =
       c.loop-index.auto.second,
     ))
 
-pub add_term-requires-in-loop-index-2 : goal.add_term-requires-in-loop-index-2
-add_term-requires-in-loop-index-2 g c =
+pub add_product-requires-in-loop-index-2 : goal.add_product-requires-in-loop-index-2
+add_product-requires-in-loop-index-2 g c =
     let turn = zip_turn c.args.indices.now c.args.values.now c.loop-index.yielded
     c.into_iter-index-iterator.result c.loop-index.index-iterator c.next.new.self c.next.result
     (search rules) (search rules) c.loop-index.yielded_by (c.in-Some.index, c.in-Some.value)
@@ -55,8 +55,8 @@ add_term-requires-in-loop-index-2 g c =
       c.loop-index.auto.third,
     ))
 
-pub add_term-requires-in-loop-index-3 : goal.add_term-requires-in-loop-index-3
-add_term-requires-in-loop-index-3 g c =
+pub add_product-requires-in-loop-index-3 : goal.add_product-requires-in-loop-index-3
+add_product-requires-in-loop-index-3 g c =
     let turn = zip_turn c.args.indices.now c.args.values.now c.loop-index.yielded
     c.into_iter-index-iterator.result c.loop-index.index-iterator c.next.new.self c.next.result
     (search rules) (search rules) c.loop-index.yielded_by (c.in-Some.index, c.in-Some.value)
@@ -83,20 +83,20 @@ loop-index-preserved g c =
     let within : k < length c.args.first.now = rw (turn.2 0) (c.requires.inside n 0 turn.0) in
     rw (length_push c.loop-index.yielded (c.in-Some.index, c.in-Some.value)) (record {
       first = adds_more R f z (f c.args.scales.0) c.args.indices.now c.args.values.now
-          c.args.first.now c.loop-index.first c.add_term.new.row n k v turn.0 turn.1 (turn.2 k) (turn.3 v)
-          within c.loop-index.auto.first c.add_term.ensures.written c.add_term.ensures.value
+          c.args.first.now c.loop-index.first c.add_product.new.row n k v turn.0 turn.1 (turn.2 k) (turn.3 v)
+          within c.loop-index.auto.first c.add_product.ensures.written c.add_product.ensures.value
           c.loop-index.invariant.first;
       second = adds_more R f z (f c.args.scales.1) c.args.indices.now c.args.values.now
-          c.args.second.now c.loop-index.second c.add_term-in-loop-index.new.row n k v turn.0 turn.1 (turn.2 k) (turn.3 v)
-          (omega (arith, within, c.requires.width_2)) c.loop-index.auto.second c.add_term-in-loop-index.ensures.written c.add_term-in-loop-index.ensures.value
+          c.args.second.now c.loop-index.second c.add_product-in-loop-index.new.row n k v turn.0 turn.1 (turn.2 k) (turn.3 v)
+          (omega (arith, within, c.requires.width_2)) c.loop-index.auto.second c.add_product-in-loop-index.ensures.written c.add_product-in-loop-index.ensures.value
           c.loop-index.invariant.second;
       third = adds_more R f z (f c.args.scales.2) c.args.indices.now c.args.values.now
-          c.args.third.now c.loop-index.third c.add_term-in-loop-index-2.new.row n k v turn.0 turn.1 (turn.2 k) (turn.3 v)
-          (omega (arith, within, c.requires.width_3)) c.loop-index.auto.third c.add_term-in-loop-index-2.ensures.written c.add_term-in-loop-index-2.ensures.value
+          c.args.third.now c.loop-index.third c.add_product-in-loop-index-2.new.row n k v turn.0 turn.1 (turn.2 k) (turn.3 v)
+          (omega (arith, within, c.requires.width_3)) c.loop-index.auto.third c.add_product-in-loop-index-2.ensures.written c.add_product-in-loop-index-2.ensures.value
           c.loop-index.invariant.third;
       fourth = adds_more R f z (f c.args.scales.3) c.args.indices.now c.args.values.now
-          c.args.fourth.now c.loop-index.fourth c.add_term-in-loop-index-3.new.row n k v turn.0 turn.1 (turn.2 k) (turn.3 v)
-          (omega (arith, within, c.requires.width_4)) c.loop-index.auto.fourth c.add_term-in-loop-index-3.ensures.written c.add_term-in-loop-index-3.ensures.value
+          c.args.fourth.now c.loop-index.fourth c.add_product-in-loop-index-3.new.row n k v turn.0 turn.1 (turn.2 k) (turn.3 v)
+          (omega (arith, within, c.requires.width_4)) c.loop-index.auto.fourth c.add_product-in-loop-index-3.ensures.written c.add_product-in-loop-index-3.ensures.value
           c.loop-index.invariant.fourth;
     })
 

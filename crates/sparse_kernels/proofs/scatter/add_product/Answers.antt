@@ -1,6 +1,6 @@
 use Rattle.std.proofs.Common.{get_or, set, ap, sym, ◌∙◌, get_or-set_same}
 use Rattle.std.proofs.lemmas.List.{get_or_default}
-use Rattle.sparse_kernels.proofs.scatter.add_term.Goals as goal
+use Rattle.sparse_kernels.proofs.scatter.add_product.Goals as goal
 
 pub returns : goal.returns
 returns g c =
