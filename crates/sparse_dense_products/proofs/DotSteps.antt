@@ -1,7 +1,6 @@
 -- Dot products and multiples, term after term.
-use Rattle.std.proofs.Common.{◌≡◌, ℕ, suc, ◌+◌, ◌<◌, Bool, true, false, List, length, get_or, take}
-use Rattle.std.proofs.Common.{min, ap, sym, ◌∙◌, arith}
-use Rattle.std.proofs.lemmas.List.{take_all}
+use Rattle.std.proofs.Common.{◌≡◌, ℕ, suc, ◌+◌, ◌<◌, Bool, true, false, List}
+use Rattle.std.proofs.Common.{ap, sym, ◌∙◌, arith}
 use Rattle.sparse_algebra.specs.Algebra.{CommRing}
 use Rattle.sparse_algebra.specs.Sums.{sum_below}
 use Rattle.sparse_algebra.specs.Plain.{Plain, plain_product, plain_transpose}
@@ -10,30 +9,11 @@ use Rattle.sparse_pattern.specs.Raw.{lane_of}
 use Rattle.sparse_cs.specs.Compressed.{Compressed, IsSound}
 use Rattle.sparse_cs.specs.PlainOfLanes.{plain_of_rows}
 use Rattle.sparse_cs.proofs.LaneValues.{values_of, row_sum}
-use Rattle.sparse_cs.proofs.RowSums.{sum_zip_more}
 use Rattle.sparse_dense_products.specs.InnerUpdates.{times_vector}
 use Rattle.sparse_algebra.specs.Sums.{dot_of}
 use Rattle.sparse_algebra.specs.Prealloc.{plain_transpose_if}
 
 module _ (R : CommRing) {T : Type 0} (f : T → R.Carrier) where
-  -- one term more
-  pub dot_more : (x : ℕ → R.Carrier) (ks : List ℕ) (vs : List T) (n k : ℕ) (v sum new : T)
-      → n < length ks → n < length vs → k ≡ get_or ks n k → v ≡ get_or vs n v
-      → f new ≡ R.add (f sum) (R.mul (f v) (x k))
-      → f sum ≡ dot_of R f (take n ks) (take n vs) x
-      → f new ≡ dot_of R f (take (n + 1) ks) (take (n + 1) vs) x
-  dot_more x ks vs n k v sum new lt lt' is is' added so_far =
-      added ∙ ap (λ s. R.add s (R.mul (f v) (x k))) so_far
-      ∙ sym (sum_zip_more R (λ t. R.mul (f t.1) (x t.0)) ks vs n k v lt lt' is is')
-
-  -- all terms
-  pub dot_all : (x : ℕ → R.Carrier) (ks : List ℕ) (vs : List T) (n : ℕ) (sum : T)
-      → length vs ≡ length ks → n ≡ min (length ks) (length vs)
-      → f sum ≡ dot_of R f (take n ks) (take n vs) x → f sum ≡ dot_of R f ks vs x
-  dot_all x ks vs n sum fits end so_far =
-      so_far ∙ ap (λ l. dot_of R f l (take n vs) x) (take_all n ks (omega (arith, fits, end)))
-      ∙ ap (λ l. dot_of R f ks l x) (take_all n vs (omega (arith, fits, end)))
-
   -- the dot product of a lane with a vector is an entry of the matrix times the vector
   pub lane_sum : (z : T) (m : Compressed T) → IsSound m → (i : ℕ) → i < m.pattern.major_dim
       → (ks : List ℕ) (vs : List T) → ks ≡ lane_of m.pattern i → vs ≡ values_of m i

@@ -19,11 +19,6 @@ module _ (R : CommRing) where
   abbrev pub times_vector : Plain R → (ℕ → R.Carrier) → ℕ → R.Carrier
   times_vector a x i = sum_below R a.cols (λ k. R.mul (a.value i k) (x k))
 
-module _ (R : CommRing) {T : Type 0} (f : T → R.Carrier) where
-  -- every step-th scalar of a list
-  abbrev pub strided : T → List T → ℕ → ℕ → R.Carrier
-  strided z xs step k = f (slice_index_or xs (k * step) z)
-
 -- each step-th element for the indices below n lies within the list
 abbrev pub HasStrided : {T : Type 0} → List T → ℕ → ℕ → Type 0
 HasStrided xs step n = (k : ℕ) → k < n → k * step < length xs

@@ -1,14 +1,12 @@
-//! The columns of op(B), and the lanes of A.
+//! The columns of op(B).
 
-ghost use Rattle.std.specs.Prelude.{◌≡◌, ℕ, ◌<◌, length};
-ghost use Rattle.sparse_cs.specs.Compressed.{IsSound};
-ghost use Rattle.sparse_cs.specs.Lanes.{lane_at};
+ghost use Rattle.std.specs.Prelude.{◌≡◌, ℕ, ◌<◌};
 ghost use Rattle.sparse_dense_products.specs.DenseOperands.{op_dense};
-ghost use Rattle.sparse_dense_products.specs.InnerUpdates.{HasStrided, op_step, strided};
+ghost use Rattle.sparse_dense_products.specs.InnerUpdates.{HasStrided, op_step};
+ghost use Rattle.sparse_kernels.specs.InnerKernels.{strided};
 
 use sparse_algebra::scalar::Ring;
 use sparse_base::dense::DMatrix;
-use sparse_cs::CsMatrix;
 use sparse_algebra::operand::Op;
 
 // Returns how far apart the entries of a column of op(B) stand.
@@ -37,17 +35,4 @@ pub fn column_of<T: Ring>(b: Op<&DMatrix<T>>, j: usize) -> &[T]
             &values[j.min(values.len())..]
         }
     }
-}
-
-// Returns the indices and the values of lane i of A.
-pub fn lane_slices<T>(a: &CsMatrix<T>, i: usize) -> (&[usize], &[T])
-    requires { i < a.now.pattern.major_dim }
-    ensures indices { result.0.now ≡ (lane_at a.now i).indices }
-    ensures values { result.1.now ≡ (lane_at a.now i).values }
-    ensures fits { length result.1.now ≡ length result.0.now }
-    ensures sound { IsSound a.now }
-{
-    let (offsets, indices, values) = a.cs_data();
-    let (begin, end) = (offsets[i], offsets[i + 1]);
-    (&indices[begin..end], &values[begin..end])
 }

@@ -1,15 +1,16 @@
 //! Products by columns of the sparse factor: a column of it is added to a column of the result, times one entry.
 
-ghost use Rattle.std.specs.Prelude.{◌≡◌, ℕ, ◌<◌, ◌*◌, All, length, slice_index_or};
-ghost use Rattle.sparse_cs.specs.InnerRows.{lane_value};
+ghost use Rattle.std.specs.Prelude.{◌≡◌, length};
 ghost use Rattle.sparse_cs.specs.PlainOfLanes.{plain_of_cols};
-ghost use Rattle.sparse_dense_products.specs.InnerUpdates.{HasStrided, IsUpdatedColumn, strided};
+ghost use Rattle.sparse_dense_products.specs.InnerUpdates.{HasStrided, IsUpdatedColumn};
 ghost use Rattle.sparse_dense_products.specs.InnerUpdates.{times_vector};
+ghost use Rattle.sparse_kernels.specs.InnerKernels.{strided};
 
-use crate::operand::lane_slices;
 use sparse_algebra::scalar::Ring;
+use sparse_base::steps::Steps;
 use sparse_cs::CsMatrix;
 use sparse_cs::scaling::scale_values;
+use sparse_kernels::{add_multiple, lane_slices};
 
 // Updates a column of C by the transpose of A times a column of op(B), whose entries stand `step` apart in `x`.
 pub fn scatter_column<T: Ring>(
@@ -30,21 +31,7 @@ pub fn scatter_column<T: Ring>(
     let lanes = a.pattern().major_dim();
     for k in 0..lanes {
         let (rows, values) = lane_slices(a, k);
-        let factor = alpha.mul(x[k * step]);
-        add_multiple(factor, rows, values, c);
-    }
-}
-
-// Adds a multiple of the values to a column, each in its row.
-fn add_multiple<T: Ring>(factor: T, rows: &[usize], values: &[T], c: &mut [T])
-    requires fits { length values.now ≡ length rows.now }
-    requires inside { All (λ i. i < length c.old) rows.now }
-    ensures { (i : ℕ) → i < length c.old → T.value (slice_index_or c.new i T.zero_value)
-        ≡ T.ring.add (T.value (slice_index_or c.old i T.zero_value))
-        (T.ring.mul (T.value factor) (lane_value T.ring T.value rows.now values.now i)) }
-{
-    for (row, value) in rows.iter().zip(values) {
-        let entry = &mut c[*row];
-        *entry = entry.add(factor.mul(*value));
+        let scale = alpha.mul(x[k * step]);
+        add_multiple(scale, rows, values, c, &mut Steps::new());
     }
 }

@@ -126,7 +126,7 @@ fn update_block<T: Ring>(
             column_of(b, j + 2),
             column_of(b, j + 3),
         );
-        gather_four(beta, c0, c1, c2, c3, alpha, a, x0, x1, x2, x3, step);
+        gather_four(beta, c0, c1, c2, c3, alpha, a, (x0, x1, x2, x3), step);
     } else if transposed {
         scatter_column(beta, c, alpha, a, x0, step);
     } else {

@@ -1,6 +1,7 @@
 use Rattle.std.proofs.Common.{◌<◌, arith}
 use Rattle.sparse_cs.specs.PlainOfLanes.{plain_of_rows}
-use Rattle.sparse_dense_products.specs.InnerUpdates.{strided, times_vector}
+use Rattle.sparse_dense_products.specs.InnerUpdates.{times_vector}
+use Rattle.sparse_kernels.specs.InnerKernels.{strided}
 use Rattle.sparse_dense_products.proofs.ColumnUpdates.{updated_more}
 use Rattle.sparse_dense_products.proofs.DotSteps.{lane_sum}
 use Rattle.sparse_dense_products.proofs.Operands.{lane_strided}

@@ -1,5 +1,6 @@
 use Rattle.sparse_cs.specs.PlainOfLanes.{plain_of_rows}
-use Rattle.sparse_dense_products.specs.InnerUpdates.{IsUpdatedBelow, strided, times_vector}
+use Rattle.sparse_dense_products.specs.InnerUpdates.{IsUpdatedBelow, times_vector}
+use Rattle.sparse_kernels.specs.InnerKernels.{strided}
 use Rattle.sparse_dense_products.proofs.gather.gather_column.Given as goal
 
 abbrev pub invariant-loop-i : goal.invariant-loop-i

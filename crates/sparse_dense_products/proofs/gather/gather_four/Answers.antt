@@ -1,5 +1,6 @@
 use Rattle.sparse_cs.specs.PlainOfLanes.{plain_of_rows}
-use Rattle.sparse_dense_products.specs.InnerUpdates.{strided, times_vector}
+use Rattle.sparse_dense_products.specs.InnerUpdates.{times_vector}
+use Rattle.sparse_kernels.specs.InnerKernels.{strided}
 use Rattle.sparse_dense_products.proofs.ColumnUpdates.{updated_more}
 use Rattle.sparse_dense_products.proofs.gather.gather_four.Goals as goal
 
@@ -13,19 +14,19 @@ loop-i-preserved g c =
     let sums = c.row_times_four-s0 in
     record {
       column0 = updated_more R f z (f c.args.beta) (f c.args.alpha)
-          (times_vector R rows (strided R f z c.args.x0.now c.args.step)) i c.args.c0.now
+          (times_vector R rows (strided R f z c.args.x.0.now c.args.step)) i c.args.c0.now
           c.loop-i.c0 c.update_entry.new.c (f sums.result.0) c.loop-i.invariant.column0
           c.update_entry.ensures sums.ensures.sum0;
       column1 = updated_more R f z (f c.args.beta) (f c.args.alpha)
-          (times_vector R rows (strided R f z c.args.x1.now c.args.step)) i c.args.c1.now
+          (times_vector R rows (strided R f z c.args.x.1.now c.args.step)) i c.args.c1.now
           c.loop-i.c1 c.update_entry-in-loop-i.new.c (f sums.result.1) c.loop-i.invariant.column1
           c.update_entry-in-loop-i.ensures sums.ensures.sum1;
       column2 = updated_more R f z (f c.args.beta) (f c.args.alpha)
-          (times_vector R rows (strided R f z c.args.x2.now c.args.step)) i c.args.c2.now
+          (times_vector R rows (strided R f z c.args.x.2.now c.args.step)) i c.args.c2.now
           c.loop-i.c2 c.update_entry-in-loop-i-2.new.c (f sums.result.2) c.loop-i.invariant.column2
           c.update_entry-in-loop-i-2.ensures sums.ensures.sum2;
       column3 = updated_more R f z (f c.args.beta) (f c.args.alpha)
-          (times_vector R rows (strided R f z c.args.x3.now c.args.step)) i c.args.c3.now
+          (times_vector R rows (strided R f z c.args.x.3.now c.args.step)) i c.args.c3.now
           c.loop-i.c3 c.update_entry-in-loop-i-3.new.c (f sums.result.3) c.loop-i.invariant.column3
           c.update_entry-in-loop-i-3.ensures sums.ensures.sum3;
     }

@@ -6,7 +6,7 @@ use Rattle.sparse_pattern.specs.Raw.{Raw, lane_of}
 use Rattle.sparse_cs.specs.InnerRows.{lane_value}
 use Rattle.sparse_cs.specs.PlainOfLanes.{plain_of_rows}
 use Rattle.sparse_cs.proofs.LaneValues.{values_of, lane_value_is}
-use Rattle.sparse_dense_products.specs.InnerUpdates.{strided}
+use Rattle.sparse_kernels.specs.InnerKernels.{strided}
 use Rattle.sparse_dense_products.proofs.DotSteps.{term_more}
 use Rattle.sparse_dense_products.proofs.Operands.{lane_inside}
 use Rattle.sparse_dense_products.proofs.scatter.scatter_column.Goals as goal
@@ -50,19 +50,20 @@ loop-k-preserved g c =
     ) in
     let read = c.index-x-k.is ∙ get_or_default x (k * c.args.step) c.index-x-k.result z
     (c.requires.inside k lane) in
-    let added : (i : ℕ) → i < length c.loop-k.c → f (get_or c.add_multiple.new.c i z) ≡ R.add
-    (f (get_or c.loop-k.c i z)) (R.mul (f c.mul-factor.result)
+    let added : (i : ℕ) → i < length c.loop-k.c → f (get_or c.add_multiple.new.row i z) ≡ R.add
+    (f (get_or c.loop-k.c i z)) (R.mul (f c.mul-scale.result)
     (lane_value R f (lane_of a.pattern k) (values_of a k) i)) =
-    rw (c.lane_slices.ensures.indices, c.lane_slices.ensures.values) at c.add_multiple.ensures in
+    rw (c.lane_slices.ensures.indices, c.lane_slices.ensures.values) at
+    c.add_multiple.ensures.added in
     λ i lt.
-    let inside : i < length c.loop-k.c = omega (arith, lt, c.add_multiple.auto.c) in
+    let inside : i < length c.loop-k.c = omega (arith, lt, c.add_multiple.auto.row) in
     term_more R k (λ k. (plain_of_rows R f a).value k i) (strided R f z x c.args.step)
     (f c.args.alpha) (R.mul (f c.args.beta) (f (get_or c.args.c.now i z)))
-    (f (get_or c.loop-k.c i z)) (f (get_or c.add_multiple.new.c i z)) (f c.mul-factor.result)
+    (f (get_or c.loop-k.c i z)) (f (get_or c.add_multiple.new.row i z)) (f c.mul-scale.result)
     (c.loop-k.invariant i inside)
-    (added i inside ∙ ap (λ v. R.add (f (get_or c.loop-k.c i z)) (R.mul (f c.mul-factor.result) v))
+    (added i inside ∙ ap (λ v. R.add (f (get_or c.loop-k.c i z)) (R.mul (f c.mul-scale.result) v))
     (lane_value_is R f z a c.lane_slices.ensures.sound k lane i))
-    (c.mul-factor.ensures ∙ ap (R.mul (f c.args.alpha)) (ap f read))
+    (c.mul-scale.ensures ∙ ap (R.mul (f c.args.alpha)) (ap f read))
 
 pub overflow_mul-k : goal.overflow_mul-k
 overflow_mul-k g c =

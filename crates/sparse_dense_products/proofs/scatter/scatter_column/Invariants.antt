@@ -1,7 +1,7 @@
 use Rattle.std.proofs.Common.{◌≡◌, ◌<◌, ℕ, length, get_or}
 use Rattle.sparse_algebra.specs.Sums.{sum_below}
 use Rattle.sparse_cs.specs.PlainOfLanes.{plain_of_rows}
-use Rattle.sparse_dense_products.specs.InnerUpdates.{strided}
+use Rattle.sparse_kernels.specs.InnerKernels.{strided}
 use Rattle.sparse_dense_products.proofs.scatter.scatter_column.Given as goal
 
 abbrev pub invariant-loop-k : goal.invariant-loop-k

@@ -3,7 +3,8 @@ use Rattle.std.proofs.Common.{◌∙◌, ◌⊎◌, Bool, sym, arith}
 use Rattle.sparse_algebra.specs.Plain.{plain_product, plain_transpose}
 use Rattle.sparse_cs.specs.PlainOfLanes.{plain_of_rows}
 use Rattle.sparse_dense_products.specs.DenseOperands.{op_dense}
-use Rattle.sparse_dense_products.specs.InnerUpdates.{op_step, strided, times_vector}
+use Rattle.sparse_dense_products.specs.InnerUpdates.{op_step, times_vector}
+use Rattle.sparse_kernels.specs.InnerKernels.{strided}
 use Rattle.sparse_algebra.specs.Prealloc.{plain_transpose_if}
 use Rattle.sparse_dense_products.proofs.BlockUpdates.{one_column, one_more_column}
 use Rattle.sparse_dense_products.proofs.DotSteps.{gathered_entry, scattered_entry}
