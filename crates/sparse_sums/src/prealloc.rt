@@ -1,11 +1,10 @@
 //! A sum into a given matrix.
 
 ghost use Rattle.std.specs.Prelude.{◌≡◌, ℕ, ◌<◌, ◌↔◌, true, false, IsTrue, IsOk, IfErr, OnOk};
-ghost use Rattle.std.specs.Prelude.{OnErr, IfSome, length, slice_index_or};
+ghost use Rattle.std.specs.Prelude.{OnErr, length, slice_index_or};
 ghost use Rattle.sparse_algebra.specs.declared.error.OperationErrorKind.TheVariants.{InvalidPattern};
 ghost use Rattle.sparse_cs.specs.Compressed.{IsPosition, IsSound};
 ghost use Rattle.sparse_cs.specs.PlainOfLanes.{plain_of_rows, plain_of_cols};
-ghost use Rattle.sparse_cs.specs.StoredEntries.{place_of};
 ghost use Rattle.sparse_algebra.specs.Operands.{plain_op};
 ghost use Rattle.sparse_algebra.specs.Prealloc.{plain_update, IsCovered};
 ghost use Rattle.sparse_sums.specs.InnerPlacing.{HasPlacesOf};
@@ -16,9 +15,10 @@ use crate::in_order::{add_in_order, covers_lanes};
 use sparse_algebra::learn;
 use sparse_algebra::scalar::Ring;
 use sparse_cs::scaling::scale_values;
-use sparse_cs::{CsMatrix, LaneIndices};
+use sparse_cs::CsMatrix;
 use sparse_forms::csc::CscMatrix;
 use sparse_forms::csr::CsrMatrix;
+use sparse_kernels::position_of;
 use sparse_algebra::error::OperationError;
 use sparse_algebra::operand::Op;
 use sparse_pattern::pattern::SparsityPattern;
@@ -189,18 +189,5 @@ fn add_transposed<T: Ring>(target: &SparsityPattern, values: &mut [T], alpha: T,
             Some(at) => values[at] = values[at].add(alpha.mul(*value)),
             None => {}
         }
-    }
-}
-
-// The position of a place, by binary search in the lane.
-fn position_of(target: &SparsityPattern, lane: usize, index: usize) -> Option<usize>
-    requires { lane < target.now.major_dim }
-    ensures position { result ≡ place_of target.now lane index }
-    ensures within { IfSome result (λ p. p < length target.now.indices) }
-{
-    let start = target.major_offsets()[lane];
-    match LaneIndices::of_lane(target, lane).position_of(index) {
-        Some(at) => Some(start + at),
-        None => None,
     }
 }
