@@ -12,7 +12,7 @@ use Rattle.sparse_cs.specs.Compressed.{Compressed, IsSound}
 use Rattle.sparse_cs.specs.PlainOfLanes.{plain_of_cols}
 use Rattle.sparse_cs.specs.InnerRows.{lane_value}
 use Rattle.sparse_cs.proofs.LaneValues.{values_of, lane_value_is}
-use Rattle.sparse_solve.specs.InnerColumns.{AddsMultiple}
+use Rattle.sparse_kernels.specs.InnerKernels.{AddsMultiple}
 use Rattle.sparse_solve.proofs.BelowDiagonal.{lane_value-drop, lane_value-none, drop_range}
 use Rattle.sparse_solve.proofs.RingSteps.{add_off}
 use Rattle.sparse_ldl.specs.InnerColumns.{IsCursor, term}
@@ -86,24 +86,24 @@ module _ (R : CommRing) {T : Type 0} (f : T → R.Carrier) (z : T) (m : Compress
       (sym (get_or-between m.pattern.indices c (end_of m.pattern k) q e room
       ∙ get_or_default m.pattern.indices (c + q) e 0 (omega (arith, room, v.inside)))) bound
 
-  module _ (factor : T) (x y : List T)
-      (taken : AddsMultiple R f z (R.neg (f factor))
+  module _ (scale : T) (x y : List T)
+      (taken : AddsMultiple R f z (R.neg (f scale))
       (slice_range m.pattern.indices c (end_of m.pattern k))
       (slice_range m.values c (end_of m.pattern k)) x y) where
     pub taken-above : (i : ℕ) → i < j → i < length x → f (get_or y i z) ≡ f (get_or x i z)
     taken-above i less lt = taken i lt ∙ add_off R _ _
-        (ap (R.mul (R.neg (f factor))) (cut_above i less) ∙ mul_zero R _)
+        (ap (R.mul (R.neg (f scale))) (cut_above i less) ∙ mul_zero R _)
 
     -- the column times a pivot and its entry in row j is taken off
     pub taken-below : (d : ℕ → R.Carrier)
-        → f factor ≡ R.mul (d k) ((plain_of_cols R f m).value j k) → (i : ℕ) → j ≤ i
+        → f scale ≡ R.mul (d k) ((plain_of_cols R f m).value j k) → (i : ℕ) → j ≤ i
         → i < length x
         → f (get_or y i z)
         ≡ R.add (f (get_or x i z)) (R.neg (term R (plain_of_cols R f m).value d i j k))
     taken-below d is i le lt =
         let l = (plain_of_cols R f m).value in
         taken i lt ∙ ap (R.add (f (get_or x i z))) (
-        ap (R.mul (R.neg (f factor))) (cut_below i le) ∙ R.laws.mul_comm _ (l i k)
-        ∙ mul_neg R (l i k) (f factor)
+        ap (R.mul (R.neg (f scale))) (cut_below i le) ∙ R.laws.mul_comm _ (l i k)
+        ∙ mul_neg R (l i k) (f scale)
         ∙ ap R.neg (ap (R.mul (l i k)) is ∙ sym (R.laws.mul_assoc (l i k) (d k) (l j k)))
         )

@@ -8,7 +8,7 @@ use Rattle.sparse_algebra.proofs.SumLemmas.{sum_below-same}
 use Rattle.sparse_algebra.specs.Inverses.{HasInverse}
 use Rattle.sparse_solve.proofs.RingSteps.{mul_off, divided}
 use Rattle.sparse_ldl.specs.InnerColumns.{term, ArePartFactors, IsLeft}
-use Rattle.sparse_ldl.proofs.RingFacts.{one_mul, trivial}
+use Rattle.sparse_ldl.proofs.RingFacts.{one_mul}
 use Rattle.sparse_ldl.proofs.ClosedSets.{IsClosed, IsZeroOutside, left-outside, part-outside}
 
 module _ (R : CommRing) {X : Type 0} (f : X → R.Carrier) (n j : ℕ) (m l l' : ℕ → ℕ → R.Carrier)

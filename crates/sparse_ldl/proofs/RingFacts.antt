@@ -3,7 +3,7 @@ use Rattle.std.proofs.Common.{◌≡◌, ℕ, zero, suc, ◌<◌, inl, inr, ap, 
 use Rattle.sparse_algebra.proofs.Cases.{three}
 use Rattle.sparse_algebra.specs.Algebra.{CommRing}
 use Rattle.sparse_algebra.specs.Sums.{sum_below}
-use Rattle.sparse_algebra.proofs.RingLemmas.{mul_zero, neg_unique, cancel}
+use Rattle.sparse_algebra.proofs.RingLemmas.{mul_zero, cancel}
 use Rattle.sparse_algebra.proofs.SumLemmas.{sum_below-same, sum_below-zero}
 use Rattle.sparse_algebra.specs.Inverses.{HasInverse}
 use Rattle.sparse_solve.proofs.RingSteps.{add_off}
@@ -16,13 +16,6 @@ module _ (R : CommRing) where
   -- a product with one on the left
   pub one_mul : (a b : R.Carrier) → a ≡ R.one → R.mul a b ≡ b
   one_mul a b e = ap (λ x. R.mul x b) e ∙ R.laws.mul_comm R.one b ∙ R.laws.mul_one b
-
-  -- -(-1) * v is v
-  pub neg_twice : (x v : R.Carrier) → x ≡ R.neg R.one → R.mul (R.neg x) v ≡ v
-  neg_twice x v e =
-      let back : R.one ≡ R.neg (R.neg R.one) = neg_unique R (R.neg R.one) R.one
-      (R.laws.add_comm (R.neg R.one) R.one ∙ R.laws.add_neg R.one) in
-      one_mul (R.neg x) v (ap R.neg e ∙ sym back)
 
   -- a factor with an inverse cancels
   pub cancel_mul : {X : Type 0} (f : X → R.Carrier) (a b c : R.Carrier) → HasInverse R f c

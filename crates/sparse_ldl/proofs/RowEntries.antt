@@ -6,7 +6,8 @@ use Rattle.sparse_pattern.specs.Raw.{end_of}
 use Rattle.sparse_cs.specs.Compressed.{Compressed, IsSound}
 use Rattle.sparse_cs.specs.PlainOfLanes.{plain_of_cols}
 use Rattle.sparse_cs.proofs.Arrays.{value_at_position}
-use Rattle.sparse_solve.specs.InnerColumns.{AddsMultiple, entries}
+use Rattle.sparse_kernels.specs.InnerKernels.{AddsMultiple}
+use Rattle.sparse_solve.specs.InnerColumns.{entries}
 use Rattle.sparse_ldl.specs.InnerColumns.{IsCursor, IsRowOf}
 use Rattle.sparse_ldl.proofs.Cursors.{AreCursorsAt, at_cursor, here}
 use Rattle.sparse_ldl.proofs.FilledSets.{no_place_zero}
@@ -60,17 +61,17 @@ module _ (R : CommRing) {T : Type 0} (f : T → R.Carrier) (z : T) (m : Compress
       entry_found.1,
     )
 
-    module _ (d : ℕ → R.Carrier) (factor : T) (x y b : List T)
-        (product : f factor ≡ R.mul (d (slice_index row q))
+    module _ (d : ℕ → R.Carrier) (scale : T) (x y b : List T)
+        (product : f scale ≡ R.mul (d (slice_index row q))
         (f (get_or m.values (slice_index cursors (slice_index row q)) z)))
-        (taken : AddsMultiple R f z (R.neg (f factor))
+        (taken : AddsMultiple R f z (R.neg (f scale))
         (slice_range m.pattern.indices (slice_index cursors (slice_index row q))
         (end_of m.pattern (slice_index row q)))
         (slice_range m.values (slice_index cursors (slice_index row q))
         (end_of m.pattern (slice_index row q))) x y) where
       pub entry_above : (i : ℕ) → i < j → i < length x → f (get_or y i z) ≡ f (get_or x i z)
       entry_above i less within =
-          taken-above R f z m sound k lane j c cursor factor x y taken i less within
+          taken-above R f z m sound k lane j c cursor scale x y taken i less within
 
       pub entry_left : slice_index row q < j → length x ≡ length b
           → IsLeftAt R (length b) j (plain_of_cols R f m).value d row q (entries R f z x)
@@ -80,5 +81,5 @@ module _ (R : CommRing) {T : Type 0} (f : T → R.Carrier) (z : T) (m : Compress
       entry_left below same left =
           left_more R (length b) j (plain_of_cols R f m).value d row is.rising others_zero q lt
           (entries R f z x) (entries R f z y) (entries R f z b) below left
-          (λ i le within. taken-below R f z m sound k lane j c cursor factor x y taken d
+          (λ i le within. taken-below R f z m sound k lane j c cursor scale x y taken d
           (product ∙ ap (R.mul (d k)) (sym entry_value)) i le (omega (arith, within, same)))

@@ -18,14 +18,14 @@ mod solve;
 
 use numeric::factor_on_fill;
 use solve::divide_columns;
+use sparse_algebra::error::OperationError;
+use sparse_algebra::learn;
+use sparse_algebra::operand::Op;
+use sparse_algebra::scalar::Units;
 use sparse_base::dense::DMatrix;
 use sparse_factor::factorization::CscSymbolicCholesky;
 use sparse_forms::csc::CscMatrix;
-use sparse_algebra::learn;
-use sparse_algebra::error::OperationError;
-use sparse_algebra::operand::Op;
 use sparse_solve::spsolve_csc_lower_triangular;
-use sparse_algebra::scalar::Units;
 use std::alloc::{AllocError, Global};
 use std::marker::Model;
 

@@ -1,18 +1,18 @@
 -- The entries of a column below the diagonal.
 use Rattle.std.proofs.Common.{◌≡◌, ◌≢◌, ℕ, zero, suc, ◌+◌, ◌-◌, ◌<◌, ◌≤◌, inl, inr, true, List}
 use Rattle.std.proofs.Common.{[], ◌∷◌}
-use Rattle.std.proofs.Common.{take, subst}
-use Rattle.std.proofs.Common.{length, get_or, drop, All, Contains, slice_index, slice_range, ap}
+use Rattle.std.proofs.Common.{take}
+use Rattle.std.proofs.Common.{length, get_or, drop, All, Contains, slice_range, ap}
 use Rattle.std.proofs.Common.{sym, ◌∙◌, refl, arith}
 use Rattle.std.specs.Prelude.{nat_eq}
 use Rattle.std.proofs.lemmas.List.{get_or-drop, get_or_default, length-drop, drop_all, drop-take}
-use Rattle.std.proofs.lemmas.List.{drop-drop}
+use Rattle.std.proofs.lemmas.List.{drop-drop, take_rest}
 use Rattle.std.proofs.lemmas.List.Edits.{get_or-between}
 use Rattle.std.proofs.lemmas.List.Elements.{All-drop}
 use Rattle.sparse_algebra.proofs.Cases.{le_cases, nat_eq_no}
 use Rattle.sparse_algebra.specs.Algebra.{CommRing}
 use Rattle.sparse_algebra.proofs.RingLemmas.{zero_add}
-use Rattle.sparse_pattern.specs.Raw.{Raw, start_of, end_of, lane_of}
+use Rattle.sparse_pattern.specs.Raw.{start_of, end_of, lane_of}
 use Rattle.sparse_pattern.proofs.PatternLanes.{length-lane, get_or-lane, lane_rises}
 use Rattle.sparse_pattern.proofs.LaneLists.{lane_has}
 use Rattle.sparse_cs.specs.Compressed.{Compressed, IsSound, IsPosition}
@@ -20,7 +20,7 @@ use Rattle.sparse_cs.specs.PlainOfLanes.{plain_of_rows, plain_of_cols}
 use Rattle.sparse_cs.proofs.Arrays.{where_no, value_at_position, has_is_place}
 use Rattle.sparse_cs.specs.InnerRows.{lane_value}
 use Rattle.sparse_cs.proofs.LaneValues.{values_of, length-values, lane_value_is}
-use Rattle.sparse_solve.specs.InnerColumns.{IsColumnBelow, IsColumnIn}
+use Rattle.sparse_solve.specs.InnerColumns.{IsColumnBelow}
 
 module _ (R : CommRing) {T : Type 0} (f : T → R.Carrier) (i : ℕ) where
   no_values : (ks : List ℕ) → lane_value R f ks [] i ≡ R.zero
@@ -126,13 +126,26 @@ module _ (R : CommRing) {T : Type 0} (f : T → R.Carrier) (z : T) (m : Compress
         | inr same ↦ omega (arith, ap (λ s. get_or (lane_of m.pattern k) s 0) same, is)
       ]
 
--- slices between the offsets of a lane are the lane and its values
-pub lane_sliced : (d : Raw) (offsets rows : List ℕ) (k : ℕ) → offsets ≡ d.offsets
-    → rows ≡ d.indices
-    → slice_range rows (slice_index offsets k) (slice_index offsets (k + 1)) ≡ lane_of d k
-lane_sliced d offsets rows k o r =
-    ap (λ v. slice_range v (slice_index offsets k) (slice_index offsets (k + 1))) r
-    ∙ ap (λ o. slice_range d.indices (slice_index o k) (slice_index o (k + 1))) o
+  -- a value that was read in a lane's slice
+  pub value_read : (values : List T) → values ≡ values_of m k → (q : ℕ)
+      → q < length (lane_of m.pattern k) → (v : T) → v ≡ get_or values q v
+      → v ≡ get_or (values_of m k) q z
+  value_read values are q lt v read =
+      read ∙ ap (λ vs. get_or vs q v) are
+      ∙ get_or_default (values_of m k) q v z (omega (arith, lt, length-values R f z m sound k lane))
+
+  -- the rest of the lane's slices after the diagonal
+  pub column_found : (rows : List ℕ) (values : List T) → rows ≡ lane_of m.pattern k
+      → values ≡ values_of m k → (q : ℕ) → q < length rows → get_or rows q 0 ≡ k → (e v : T)
+      → v ≡ get_or values q v → R.mul (f v) (f e) ≡ R.one
+      → IsColumnBelow R f (plain_of_cols R f m) k
+      (take (length rows - (q + 1)) (drop (q + 1) rows))
+      (take (length values - (q + 1)) (drop (q + 1) values)) e
+  column_found rows values rows_are values_are q lt is e v read inverts =
+      let within : q < length (lane_of m.pattern k) = rw (← rows_are) lt in
+      rw (take_rest rows (q + 1), take_rest values (q + 1), rows_are, values_are)
+      (column_is q e within (rw (← rows_are) is)
+      (ap (λ v. R.mul (f v) (f e)) (sym (value_read values values_are q within v read)) ∙ inverts))
 
 -- the rest of a range
 pub drop_range : {X : Type 0} (xs : List X) (begin end n : ℕ) → begin + n ≤ end
@@ -142,55 +155,3 @@ drop_range xs begin end n le =
     ap (λ m. drop n (take m (drop begin xs))) parts
     ∙ drop-take n (end - (begin + n)) (drop begin xs)
     ∙ ap (take (end - (begin + n))) (drop-drop n begin xs)
-
-module _ (R : CommRing) {T : Type 0} (f : T → R.Carrier) (z : T) (m : Compressed T)
-    (sound : IsSound m) (k : ℕ) (lane : k < m.pattern.major_dim) (q : ℕ)
-    (lt : q < length (lane_of m.pattern k)) where
-  room : start_of m.pattern k + q < end_of m.pattern k
-  room = omega (arith, lt, length-lane m.pattern k (sound.valid.lanes k lane))
-
-  -- the same as positions of the matrix
-  pub column_in : (offsets : List ℕ) (e : T) → offsets ≡ m.pattern.offsets
-      → get_or (lane_of m.pattern k) q 0 ≡ k → R.mul (f (get_or (values_of m k) q z)) (f e) ≡ R.one
-      → IsColumnIn R f m k (slice_index offsets k + q + 1) (slice_index offsets (k + 1)) e
-  column_in offsets e o is inverts =
-      let start = start_of m.pattern k in
-      let end = end_of m.pattern k in
-      let here : start + q < end = room in
-      let valid = sound.valid.lanes k lane in
-      let place : start + (q + 1) ≡ start + q + 1 = omega arith in
-      let rows_are : drop (q + 1) (lane_of m.pattern k)
-      ≡ slice_range m.pattern.indices (start + q + 1) end =
-      drop_range m.pattern.indices start end (q + 1) (omega (arith, here))
-      ∙ ap (λ b. slice_range m.pattern.indices b end) place in
-      let values_are : drop (q + 1) (values_of m k)
-      ≡ slice_range m.values (start + q + 1) end =
-      drop_range m.values start end (q + 1) (omega (arith, here))
-      ∙ ap (λ b. slice_range m.values b end) place in
-      let plain = plain_of_cols R f m in
-      let column = column_is R f z m sound k lane q e lt is inverts in
-      let found : IsColumnIn R f m k (start + q + 1) end e = record {
-        range = (
-          omega (arith, here),
-          valid.inside,
-          omega (arith, valid.inside, sound.count),
-        );
-        entries = subst (λ rs. IsColumnBelow R f plain k rs
-            (slice_range m.values (start + q + 1) end) e) rows_are
-            (subst (λ vs. IsColumnBelow R f plain k (drop (q + 1) (lane_of m.pattern k)) vs e)
-            values_are column);
-      } in
-      subst (λ os. IsColumnIn R f m k (slice_index os k + q + 1) (slice_index os (k + 1)) e) (sym o)
-      found
-
-  -- a value of the lane, read among all values
-  pub value_read : (offsets : List ℕ) (values : List T) (v : T) → offsets ≡ m.pattern.offsets
-      → values ≡ m.values → v ≡ get_or values (slice_index offsets k + q) v
-      → v ≡ get_or (values_of m k) q z
-  value_read offsets values v o vs read =
-      let here : start_of m.pattern k + q < end_of m.pattern k = room in
-      read ∙ ap (λ xs. get_or xs (slice_index offsets k + q) v) vs
-      ∙ ap (λ os. get_or m.values (slice_index os k + q) v) o
-      ∙ get_or_default m.values (start_of m.pattern k + q) v z
-      (omega (arith, here, (sound.valid.lanes k lane).inside, sound.count))
-      ∙ sym (get_or-between m.values (start_of m.pattern k) (end_of m.pattern k) q z here)

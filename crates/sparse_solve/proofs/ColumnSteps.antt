@@ -1,14 +1,16 @@
 -- One column of a substitution over lists.
-use Rattle.std.proofs.Common.{◌≡◌, ℕ, ◌+◌, ◌<◌, ◌≤◌, Bool, true, false, ◌&&◌, List, length, get_or}
+use Rattle.std.proofs.Common.{◌≡◌, ℕ, ◌+◌, ◌*◌, ◌<◌, ◌≤◌, Bool, true, false, ◌&&◌, List, length, get_or}
 use Rattle.std.proofs.Common.{set, ap, sym, ◌∙◌, refl, arith, add-one, get_or-set_same}
 use Rattle.std.proofs.Common.{get_or-set_other}
-use Rattle.std.specs.Prelude.{nat_le}
+use Rattle.std.specs.Prelude.{nat_le, zip}
 use Rattle.std.proofs.lemmas.Bool.Decides.{nat_tests}
 use Rattle.sparse_algebra.specs.Algebra.{CommRing}
 use Rattle.sparse_algebra.specs.Sums.{sum_below, where_true}
 use Rattle.sparse_algebra.specs.Plain.{Plain, IsProper}
+use Rattle.sparse_algebra.proofs.SumLemmas.{sum_by-same}
 use Rattle.sparse_cs.specs.InnerRows.{lane_value}
 use Rattle.sparse_cs.proofs.LaneValues.{product_by_lane}
+use Rattle.sparse_kernels.specs.InnerKernels.{strided}
 use Rattle.sparse_solve.specs.Solutions.{plain_lower}
 use Rattle.sparse_solve.specs.InnerColumns.{IsColumnBelow, entries}
 use Rattle.sparse_algebra.specs.Sums.{dot_of}
@@ -63,3 +65,12 @@ module _ (R : CommRing) {T : Type 0} (f : T → R.Carrier) (z : T) (a : Plain R)
       (λ i ne. ap f (get_or-set_other x k i new z ne))
       (ap f (get_or-set_same x k new z (omega arith)) ∙ is
       ∙ ap (λ d. R.mul (R.add (f (get_or x k z)) (R.neg d)) (f e)) whole)
+
+module _ (R : CommRing) {T : Type 0} (f : T → R.Carrier) (z : T) (rows : List ℕ) (values : List T)
+    (x : List T) where
+  -- a dot product with entries that stand side by side
+  pub dot_unit : (sum : T) → f sum ≡ dot_of R f rows values (strided R f z x 1)
+      → f sum ≡ dot_of R f rows values (entries R f z x)
+  dot_unit sum is = is ∙ sum_by-same R _ _ (λ t.
+      let one : t.0 * 1 ≡ t.0 = omega arith in
+      ap (λ p. R.mul (f t.1) (f (get_or x p z))) one) (zip rows values)

@@ -3,7 +3,6 @@ pub mod Substitutions
 pub mod BelowDiagonal
 pub mod Pivots
 pub mod ColumnSteps
-pub mod EntrySteps
 pub mod Refills
 pub mod SolvedColumns
 pub mod Taking

@@ -1,6 +1,6 @@
 -- A column of a lower triangle, and a column of a solution.
 use Rattle.std.specs.Prelude.{◌≡◌, ◌≢◌, ℕ, ◌<◌, ◌≤◌, true, List, All, length}
-use Rattle.std.specs.Prelude.{slice_index_or, slice_range}
+use Rattle.std.specs.Prelude.{slice_index_or}
 use Rattle.sparse_algebra.specs.Algebra.{CommRing}
 use Rattle.sparse_algebra.specs.Sums.{sum_below}
 use Rattle.sparse_algebra.specs.Plain.{Plain}
@@ -12,11 +12,6 @@ use Rattle.sparse_algebra.specs.declared.operand.Op.{Op}
 use Rattle.sparse_algebra.specs.Operands.{plain_op}
 use Rattle.sparse_solve.specs.Solutions.{HasPivot, plain_lower}
 
--- the positions from begin to end are some of both lists
-abbrev pub HasRange : {T : Type 0} → List ℕ → List T → ℕ → ℕ → Type 0
-HasRange rows values begin end =
-    (begin ≤ end) × (end ≤ length rows) × (end ≤ length values)
-
 module _ (R : CommRing) {T : Type 0} (f : T → R.Carrier) where
   -- the entries of column k below the diagonal, and the inverse of the stored diagonal entry
   pub record IsColumnBelow (a : Plain R) (k : ℕ) (rows : List ℕ) (values : List T) (inverse : T) :
@@ -27,12 +22,6 @@ module _ (R : CommRing) {T : Type 0} (f : T → R.Carrier) where
     pub inverts : R.mul (a.value k k) (f inverse) ≡ R.one
     pub below : (i : ℕ) → k < i → lane_value R f rows values i ≡ a.value i k
     pub above : (i : ℕ) → i ≤ k → lane_value R f rows values i ≡ R.zero
-
-  -- the positions from begin to end hold the entries of column k below the diagonal
-  pub record IsColumnIn (m : Compressed T) (k begin end : ℕ) (inverse : T) : Type 0 where
-    pub range : HasRange m.pattern.indices m.values begin end
-    pub entries : IsColumnBelow (plain_of_cols R f m) k (slice_range m.pattern.indices begin end)
-        (slice_range m.values begin end) inverse
 
   -- each diagonal entry is stored and has an inverse
   abbrev pub HasPivots : Plain R → Type 0
@@ -82,12 +71,6 @@ module _ (R : CommRing) {T : Type 0} (f : T → R.Carrier) (z : T) where
   abbrev pub TakesAnswer : ℕ → List ℕ → List T → T → List T → List T → Type 0
   TakesAnswer k rows values e old new = IsTaken R f (length old) k rows values (f e)
       (entries R f z old) (entries R f z new)
-
-  -- c times the values is added, each in its row
-  abbrev pub AddsMultiple : R.Carrier → List ℕ → List T → List T → List T → Type 0
-  AddsMultiple c rows values old new = (i : ℕ) → i < length old
-      → f (slice_index_or new i z) ≡ R.add (f (slice_index_or old i z))
-      (R.mul c (lane_value R f rows values i))
 
   -- column j of a dense matrix
   abbrev pub column_entries : Dense T → ℕ → ℕ → R.Carrier

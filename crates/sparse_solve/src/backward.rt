@@ -6,9 +6,9 @@ ghost use Rattle.sparse_cs.specs.PlainOfLanes.{plain_of_cols};
 ghost use Rattle.sparse_solve.specs.InnerColumns.{HasPivots, SolvesList, lower};
 
 use crate::column::column_below;
-use crate::kernels::{dot, four_dots};
 use sparse_algebra::scalar::{Ring, Units};
 use sparse_forms::csc::CscMatrix;
+use sparse_kernels::{dot, dot_four};
 
 // Solves `T^t x = b` over b, from the last row to the first.
 pub fn solve_backward<T: Units>(l: &CscMatrix<T>, x: &mut [T])
@@ -18,21 +18,19 @@ pub fn solve_backward<T: Units>(l: &CscMatrix<T>, x: &mut [T])
     ensures { SolvesList T.ring T.value T.zero_value (λ i j. lower T.ring T.value l.now j i)
         x.new x.old }
 {
-    let rows = l.row_indices();
-    let values = l.values();
     let count = x.len();
     for step in 0..count {
         let k = count - 1 - step;
         let Some(column) = column_below(l, k) else {
             return;
         };
-        let known = dot(rows, values, column.begin, column.end, x);
+        let known = dot(column.rows, column.values, x, 1);
         solve_row(x, k, known, column.inverse);
     }
 }
 
 // Solves `T^t x = b` over each of four columns, so that each column of T is read once for them.
-pub fn solve_four_backward<T: Units>(
+pub fn solve_backward_four<T: Units>(
     l: &CscMatrix<T>,
     first: &mut [T],
     second: &mut [T],
@@ -54,16 +52,14 @@ pub fn solve_four_backward<T: Units>(
     ensures fourth { SolvesList T.ring T.value T.zero_value (λ i j. lower T.ring T.value l.now j i)
         fourth.new fourth.old }
 {
-    let rows = l.row_indices();
-    let values = l.values();
     let count = first.len();
     for step in 0..count {
         let k = count - 1 - step;
         let Some(column) = column_below(l, k) else {
             return;
         };
-        let (begin, end) = (column.begin, column.end);
-        let (a, b, c, d) = four_dots(rows, values, begin, end, first, second, third, fourth);
+        let columns = (&*first, &*second, &*third, &*fourth);
+        let (a, b, c, d) = dot_four(column.rows, column.values, columns, 1);
         let e = column.inverse;
         solve_row(first, k, a, e);
         solve_row(second, k, b, e);

@@ -5,11 +5,9 @@ mod backward;
 mod column;
 mod division;
 mod forward;
-mod kernels;
 pub mod laws;
 mod substitution;
 mod triangular;
 
 pub use division::{div_scalar_csc, div_scalar_csr, div_scalar_mut_csc, div_scalar_mut_csr};
-pub use kernels::subtract_multiple;
 pub use triangular::spsolve_csc_lower_triangular;

@@ -6,12 +6,12 @@ ghost use Rattle.sparse_cs.specs.PlainOfLanes.{plain_of_cols};
 ghost use Rattle.sparse_solve.specs.InnerColumns.{ChangesBlock, HasPivots, SolvesColumn};
 ghost use Rattle.sparse_solve.specs.InnerColumns.{SolvesColumns, SolvesList, op_lower};
 
-use crate::backward::{solve_backward, solve_four_backward};
-use crate::forward::{solve_forward, solve_four_forward};
-use sparse_base::dense::DMatrix;
-use sparse_forms::csc::CscMatrix;
+use crate::backward::{solve_backward, solve_backward_four};
+use crate::forward::{solve_forward, solve_forward_four};
 use sparse_algebra::operand::Op;
 use sparse_algebra::scalar::Units;
+use sparse_base::dense::DMatrix;
+use sparse_forms::csc::CscMatrix;
 
 // Solves `op(T) X = B` over B, some columns at a time.
 pub fn solve_columns<T: Units>(l: Op<&CscMatrix<T>>, b: &mut DMatrix<T>)
@@ -110,7 +110,7 @@ fn solve_side_by_side<T: Units>(
         (op_lower T.ring T.value (λ m. m.now) l.entry) fourth.new fourth.old }
 {
     match l {
-        Op::NoOp(l) => solve_four_forward(l, first, second, third, fourth),
-        Op::Transpose(l) => solve_four_backward(l, first, second, third, fourth),
+        Op::NoOp(l) => solve_forward_four(l, first, second, third, fourth),
+        Op::Transpose(l) => solve_backward_four(l, first, second, third, fourth),
     }
 }

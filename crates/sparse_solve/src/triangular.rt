@@ -13,11 +13,11 @@ ghost use Rattle.sparse_solve.specs.InnerColumns.{HasPivots};
 
 use crate::column::column_below;
 use crate::substitution::solve_columns;
-use sparse_base::dense::DMatrix;
-use sparse_forms::csc::CscMatrix;
 use sparse_algebra::error::OperationError;
 use sparse_algebra::operand::Op;
 use sparse_algebra::scalar::Units;
+use sparse_base::dense::DMatrix;
+use sparse_forms::csc::CscMatrix;
 
 /// Solves `op(T) X = B` in place, where `T` is the part of `l` on and below its diagonal. `b` holds B on entry and X on
 /// return.

@@ -11,12 +11,13 @@ ghost use Rattle.sparse_algebra.specs.declared.error.OperationErrorKind.TheVaria
 ghost use Rattle.sparse_pattern.specs.TransposedPattern.{IsTransposedPattern};
 ghost use Rattle.sparse_solve.specs.InnerColumns.{entries};
 
+use sparse_algebra::error::OperationError;
 use sparse_algebra::learn;
 use sparse_algebra::scalar::{Ring, Units};
+use sparse_base::steps::Steps;
 use sparse_forms::csc::CscMatrix;
-use sparse_algebra::error::OperationError;
+use sparse_kernels::{add_multiple, lane_slices};
 use sparse_pattern::pattern::SparsityPattern;
-use sparse_solve::subtract_multiple;
 
 // Computes the columns of L, and the diagonal of D, for the symmetric matrix with this lower triangle.
 //
@@ -77,15 +78,8 @@ fn add_lane<T: Ring>(a: &CscMatrix<T>, j: usize, column: &mut [T])
         ((plain_of_cols T.ring T.value a.now).value i j) }
     ensures sound { IsSound a.now }
 {
-    let (offsets, rows, values) = a.csc_data();
-    subtract_multiple(
-        T::one().neg(),
-        rows,
-        values,
-        offsets[j],
-        offsets[j + 1],
-        column,
-    );
+    let (rows, values) = lane_slices(a.cs(), j);
+    add_multiple(T::one(), rows, values, column, &mut Steps::new());
 }
 
 // Subtracts the columns before j from row j on, each times its pivot and its entry in row j, and moves the cursors past
@@ -121,13 +115,14 @@ fn subtract_columns<T: Ring>(
         let at = cursors[k];
         cursors[k] = at + 1;
         if k < j {
-            subtract_multiple(
-                d[k].mul(values[at]),
-                rows,
-                values,
-                at,
-                offsets[k + 1],
+            let end = offsets[k + 1];
+            let scale = d[k].mul(values[at]).neg();
+            add_multiple(
+                scale,
+                &rows[at..end],
+                &values[at..end],
                 column,
+                &mut Steps::new(),
             );
         }
     }

@@ -14,11 +14,11 @@ ghost use Rattle.sparse_pattern.specs.TransposedPattern.{IsTransposedPattern};
 ghost use Rattle.sparse_solve.specs.InnerColumns.{entries};
 
 use super::columns::factor_columns;
+use sparse_algebra::error::OperationError;
 use sparse_algebra::learn;
 use sparse_algebra::scalar::{Ring, Units, Zero};
 use sparse_cs::laws::kept_cols_law;
 use sparse_forms::csc::CscMatrix;
-use sparse_algebra::error::OperationError;
 use sparse_pattern::pattern::SparsityPattern;
 use std::alloc::{AllocError, Global};
 

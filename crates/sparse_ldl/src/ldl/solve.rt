@@ -5,8 +5,8 @@ ghost use Rattle.sparse_ldl.specs.Factors.{HavePivots};
 ghost use Rattle.sparse_ldl.specs.InnerColumns.{IsDivided};
 ghost use Rattle.sparse_solve.specs.InnerColumns.{ChangesBlock, entries};
 
-use sparse_base::dense::DMatrix;
 use sparse_algebra::scalar::Units;
+use sparse_base::dense::DMatrix;
 
 // Divides each row of b by its entry of d.
 pub fn divide_columns<T: Units>(d: &[T], b: &mut DMatrix<T>)

@@ -7,9 +7,9 @@ ghost use Rattle.sparse_solve.specs.Quotients.{IsDivisionRefusal, IsQuotient};
 ghost use Rattle.sparse_algebra.specs.Inverses.{HasInverse};
 
 use super::inverse_of;
-use sparse_forms::csc::CscMatrix;
 use sparse_algebra::error::OperationError;
 use sparse_algebra::scalar::Units;
+use sparse_forms::csc::CscMatrix;
 use std::alloc::Global;
 
 /// Returns `a` divided by `s`: each stored value is multiplied by the inverse of `s`. The pattern is that of `a`.

@@ -1,5 +1,6 @@
-use Rattle.std.proofs.Common.{◌-◌, length, slice_range, arith}
+use Rattle.std.proofs.Common.{◌-◌, length, arith}
 use Rattle.sparse_solve.specs.InnerColumns.{lower}
+use Rattle.sparse_solve.proofs.ColumnSteps.{dot_unit}
 use Rattle.sparse_solve.proofs.Taking.{backward_begun, backward_list, backward_solved}
 use Rattle.sparse_solve.proofs.backward.solve_backward.Goals as goal
 
@@ -7,21 +8,15 @@ pub loop-step-init : goal.loop-step-init
 loop-step-init g c = backward_begun g.T.Ring.ring g.T.Ring.value g.T.Zero.zero_value
     (lower g.T.Ring.ring g.T.Ring.value c.args.l.now) c.args.x.now
 
-pub dot-known-requires-clause-range : goal.dot-known-requires-clause-range
-dot-known-requires-clause-range g c =
-    rw (c.row_indices-rows.ensures.indices, c.values-values.ensures.values)
-    c.in-Some.ensures.some.range
-
 pub dot-known-requires-clause-inside : goal.dot-known-requires-clause-inside
-dot-known-requires-clause-inside g c =
-    rw c.row_indices-rows.ensures.indices (λ q d lt.
+dot-known-requires-clause-inside g c = λ q d lt.
     omega (
       arith,
-      c.in-Some.ensures.some.entries.inside q d lt,
+      c.in-Some.ensures.some.inside q d lt,
       c.loop-step.auto.x,
       c.requires.rows,
       c.requires.square,
-    ))
+    )
 
 pub loop-step-preserved : goal.loop-step-preserved
 loop-step-preserved g c =
@@ -31,12 +26,12 @@ loop-step-preserved g c =
     let m = c.args.l.now in
     let k = length c.args.x.now - 1 - c.loop-step.step in
     let column = c.in-Some.column in
-    backward_list R f z m k (slice_range m.pattern.indices column.begin column.end)
-    (slice_range m.values column.begin column.end) column.inverse c.in-Some.ensures.some.entries
+    backward_list R f z m k column.rows.now
+    column.values.now column.inverse c.in-Some.ensures.some
     c.args.x.now c.loop-step.x (omega arith) c.loop-step.auto.x c.loop-step.step
     c.dot-known.result c.solve_row.new.x (omega (arith, c.requires.square, c.requires.rows))
     (omega arith)
-    (rw (c.row_indices-rows.ensures.indices, c.values-values.ensures.values) at
+    (dot_unit R f z column.rows.now column.values.now c.loop-step.x c.dot-known.result
     c.dot-known.ensures) c.solve_row.ensures.written c.solve_row.ensures.value
     c.loop-step.invariant
 

@@ -1,29 +1,21 @@
 use Rattle.std.proofs.lemmas.Grind.{elements}
-use Rattle.std.proofs.Common.{slice_range, arith}
+use Rattle.std.proofs.Common.{arith}
 use Rattle.sparse_solve.specs.InnerColumns.{lower}
 use Rattle.sparse_solve.proofs.Taking.{forward_list, forward_solved}
 use Rattle.sparse_solve.proofs.forward.solve_forward.Goals as goal
 
-pub take_answer-requires-clause-range : goal.take_answer-requires-clause-range
-take_answer-requires-clause-range g c =
-    rw (c.row_indices-rows.ensures.indices, c.values-values.ensures.values)
-    c.in-Some.ensures.some.range
-
 pub take_answer-requires-clause-inside : goal.take_answer-requires-clause-inside
-take_answer-requires-clause-inside g c =
-    rw c.row_indices-rows.ensures.indices (λ q d lt.
+take_answer-requires-clause-inside g c = λ q d lt.
     omega (
       arith,
-      c.in-Some.ensures.some.entries.inside q d lt,
+      c.in-Some.ensures.some.inside q d lt,
       c.loop-k.auto.x,
       c.requires.rows,
       c.requires.square,
-    ))
+    )
 
 pub take_answer-requires-clause-above : goal.take_answer-requires-clause-above
-take_answer-requires-clause-above g c =
-    rw (c.row_indices-rows.ensures.indices, c.values-values.ensures.values)
-    (c.in-Some.ensures.some.entries.above c.loop-k.k (omega arith))
+take_answer-requires-clause-above g c = c.in-Some.ensures.some.above c.loop-k.k (omega arith)
 
 pub loop-k-preserved : goal.loop-k-preserved
 loop-k-preserved g c =
@@ -32,11 +24,10 @@ loop-k-preserved g c =
     let z = g.T.Zero.zero_value in
     let column = c.in-Some.column in
     let m = c.args.l.now in
-    forward_list R f z m c.loop-k.k (slice_range m.pattern.indices column.begin column.end)
-    (slice_range m.values column.begin column.end) column.inverse c.in-Some.ensures.some.entries
+    forward_list R f z m c.loop-k.k column.rows.now
+    column.values.now column.inverse c.in-Some.ensures.some
     c.args.x.now c.loop-k.x (omega arith) c.loop-k.auto.x c.take_answer.new.x
-    (rw (c.row_indices-rows.ensures.indices, c.values-values.ensures.values) at
-    c.take_answer.ensures) c.loop-k.invariant
+    c.take_answer.ensures c.loop-k.invariant
 
 pub returns : goal.returns
 returns g c =

@@ -4,7 +4,7 @@ use Rattle.sparse_algebra.proofs.Cases.{lt_add_one_cases}
 use Rattle.sparse_pattern.specs.Raw.{Raw}
 use Rattle.sparse_cs.specs.PlainOfLanes.{plain_of_cols}
 use Rattle.sparse_solve.specs.Solutions.{HasPivot}
-use Rattle.sparse_solve.specs.InnerColumns.{IsColumnIn}
+use Rattle.sparse_solve.specs.InnerColumns.{IsColumnBelow}
 use Rattle.sparse_solve.proofs.Pivots.{some_gives, none_gives, pivot_of}
 use Rattle.sparse_solve.proofs.triangular.has_pivots.Goals as goal
 
@@ -16,9 +16,9 @@ loop-k-preserved g c = λ k lt.
     elim (lt_add_one_cases k c.loop-k.k lt) [
       | inl before ↦ c.loop-k.invariant k before
       | inr here ↦ subst (HasPivot R f a) (sym here)
-          (some_gives (λ column. IsColumnIn R f c.args.l.now c.loop-k.k column.begin column.end
+          (some_gives (λ column. IsColumnBelow R f a c.loop-k.k column.rows.now column.values.now
           column.inverse) (HasPivot R f a c.loop-k.k) c.column_below.result
-          (λ column is. pivot_of R f a c.loop-k.k _ _ column.inverse is.entries)
+          (λ column is. pivot_of R f a c.loop-k.k _ _ column.inverse is)
           c.column_below.ensures.some (c.is_none.ensures ∙ ap not c.if-is_none.false))
     ]
 

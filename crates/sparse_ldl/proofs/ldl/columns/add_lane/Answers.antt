@@ -1,7 +1,7 @@
 use Rattle.std.proofs.Common.{get_or, ap, ◌∙◌}
 use Rattle.sparse_cs.proofs.LaneValues.{lane_value_is}
 use Rattle.sparse_cs.specs.PlainOfLanes.{plain_of_cols}
-use Rattle.sparse_ldl.proofs.RingFacts.{neg_twice}
+use Rattle.sparse_ldl.proofs.RingFacts.{one_mul}
 use Rattle.sparse_ldl.proofs.ldl.columns.add_lane.Goals as goal
 
 pub returns-clause-added : goal.returns-clause-added
@@ -11,9 +11,8 @@ returns-clause-added g c =
     let z = g.T.Zero.zero_value in
     let a = c.args.a.now in
     let j = c.args.j in
-    let given = c.csc_data.ensures in
-    let taken = rw (given.offsets, given.indices, given.values) at c.subtract_multiple.ensures in
-    λ i lt. taken i lt ∙ ap (R.add (f (get_or c.args.column.now i z)))
-    (ap (R.mul (R.neg (f c.neg.result))) (lane_value_is R f z a given.sound j c.requires.lane i)
-    ∙ neg_twice R (f c.neg.result) ((plain_of_cols R f a).value i j)
-    (c.neg.ensures ∙ ap R.neg c.one.ensures))
+    let lane = rw c.cs.ensures.core at c.lane_slices.ensures in
+    let added = rw (lane.indices, lane.values) at c.add_multiple.ensures.added in
+    λ i lt. added i lt ∙ ap (R.add (f (get_or c.args.column.now i z)))
+    (ap (R.mul (f c.one.result)) (lane_value_is R f z a lane.sound j c.requires.lane i)
+    ∙ one_mul R (f c.one.result) ((plain_of_cols R f a).value i j) c.one.ensures)

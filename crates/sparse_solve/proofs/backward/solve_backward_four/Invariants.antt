@@ -1,7 +1,7 @@
 use Rattle.std.proofs.Common.{◌-◌, length}
 use Rattle.sparse_solve.specs.InnerColumns.{entries, lower}
 use Rattle.sparse_solve.proofs.Substitutions.{IsBackward}
-use Rattle.sparse_solve.proofs.backward.solve_four_backward.Given as goal
+use Rattle.sparse_solve.proofs.backward.solve_backward_four.Given as goal
 
 abbrev pub invariant-loop-step : goal.invariant-loop-step
 invariant-loop-step g l =

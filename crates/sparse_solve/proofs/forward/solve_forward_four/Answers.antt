@@ -1,29 +1,21 @@
 use Rattle.std.proofs.lemmas.Grind.{common_steps}
-use Rattle.std.proofs.Common.{slice_range, arith}
+use Rattle.std.proofs.Common.{arith}
 use Rattle.sparse_solve.specs.InnerColumns.{lower}
 use Rattle.sparse_solve.proofs.Taking.{forward_list, forward_solved}
-use Rattle.sparse_solve.proofs.forward.solve_four_forward.Goals as goal
+use Rattle.sparse_solve.proofs.forward.solve_forward_four.Goals as goal
 
-pub take_four_answers-requires-clause-range : goal.take_four_answers-requires-clause-range
-take_four_answers-requires-clause-range g c =
-    rw (c.row_indices-rows.ensures.indices, c.values-values.ensures.values)
-    c.in-Some.ensures.some.range
-
-pub take_four_answers-requires-clause-inside : goal.take_four_answers-requires-clause-inside
-take_four_answers-requires-clause-inside g c =
-    rw c.row_indices-rows.ensures.indices (λ q d lt.
+pub take_answer_four-requires-clause-inside : goal.take_answer_four-requires-clause-inside
+take_answer_four-requires-clause-inside g c = λ q d lt.
     omega (
       arith,
-      c.in-Some.ensures.some.entries.inside q d lt,
+      c.in-Some.ensures.some.inside q d lt,
       c.loop-k.auto.first,
       c.requires.rows,
       c.requires.square,
-    ))
+    )
 
-pub take_four_answers-requires-clause-above : goal.take_four_answers-requires-clause-above
-take_four_answers-requires-clause-above g c =
-    rw (c.row_indices-rows.ensures.indices, c.values-values.ensures.values)
-    (c.in-Some.ensures.some.entries.above c.loop-k.k (omega arith))
+pub take_answer_four-requires-clause-above : goal.take_answer_four-requires-clause-above
+take_answer_four-requires-clause-above g c = c.in-Some.ensures.some.above c.loop-k.k (omega arith)
 
 pub loop-k-preserved : goal.loop-k-preserved
 loop-k-preserved g c =
@@ -33,20 +25,19 @@ loop-k-preserved g c =
     let column = c.in-Some.column in
     let m = c.args.l.now in
     let step = forward_list R f z m c.loop-k.k
-    (slice_range m.pattern.indices column.begin column.end)
-    (slice_range m.values column.begin column.end) column.inverse c.in-Some.ensures.some.entries in
-    let took = rw (c.row_indices-rows.ensures.indices, c.values-values.ensures.values) at
-    c.take_four_answers.ensures in
+    column.rows.now
+    column.values.now column.inverse c.in-Some.ensures.some in
+    let took = c.take_answer_four.ensures in
     let was = c.loop-k in
     record {
       first = step c.args.first.now was.first (omega arith) was.auto.first
-          c.take_four_answers.new.first took.first was.invariant.first;
+          c.take_answer_four.new.first took.first was.invariant.first;
       second = step c.args.second.now was.second (omega arith) was.auto.second
-          c.take_four_answers.new.second took.second was.invariant.second;
+          c.take_answer_four.new.second took.second was.invariant.second;
       third = step c.args.third.now was.third (omega arith) was.auto.third
-          c.take_four_answers.new.third took.third was.invariant.third;
+          c.take_answer_four.new.third took.third was.invariant.third;
       fourth = step c.args.fourth.now was.fourth (omega arith) was.auto.fourth
-          c.take_four_answers.new.fourth took.fourth was.invariant.fourth;
+          c.take_answer_four.new.fourth took.fourth was.invariant.fourth;
     }
 
 pub returns : goal.returns

@@ -1,8 +1,8 @@
-use Rattle.std.proofs.Common.{◌-◌, length, slice_range, arith}
-use Rattle.sparse_cs.specs.PlainOfLanes.{plain_of_cols}
-use Rattle.sparse_solve.specs.InnerColumns.{IsColumnBelow, lower}
+use Rattle.std.proofs.Common.{◌-◌, length, arith}
+use Rattle.sparse_solve.specs.InnerColumns.{lower}
+use Rattle.sparse_solve.proofs.ColumnSteps.{dot_unit}
 use Rattle.sparse_solve.proofs.Taking.{backward_begun, backward_list, backward_solved}
-use Rattle.sparse_solve.proofs.backward.solve_four_backward.Goals as goal
+use Rattle.sparse_solve.proofs.backward.solve_backward_four.Goals as goal
 
 pub loop-step-init : goal.loop-step-init
 loop-step-init g c =
@@ -16,21 +16,48 @@ loop-step-init g c =
       fourth = begun c.args.fourth.now;
     }
 
-pub four_dots-a-requires-clause-range : goal.four_dots-a-requires-clause-range
-four_dots-a-requires-clause-range g c =
-    rw (c.row_indices-rows.ensures.indices, c.values-values.ensures.values)
-    c.in-Some.ensures.some.range
-
-pub four_dots-a-requires-clause-inside : goal.four_dots-a-requires-clause-inside
-four_dots-a-requires-clause-inside g c =
-    rw c.row_indices-rows.ensures.indices (λ q d lt.
+pub dot_four-a-requires-clause-first : goal.dot_four-a-requires-clause-first
+dot_four-a-requires-clause-first g c = λ q d lt.
     omega (
       arith,
-      c.in-Some.ensures.some.entries.inside q d lt,
+      c.in-Some.ensures.some.inside q d lt,
       c.loop-step.auto.first,
       c.requires.rows,
       c.requires.square,
-    ))
+    )
+
+pub dot_four-a-requires-clause-second : goal.dot_four-a-requires-clause-second
+dot_four-a-requires-clause-second g c = λ q d lt.
+    omega (
+      arith,
+      c.in-Some.ensures.some.inside q d lt,
+      c.loop-step.auto.second,
+      c.requires.rows_2,
+      c.requires.rows,
+      c.requires.square,
+    )
+
+pub dot_four-a-requires-clause-third : goal.dot_four-a-requires-clause-third
+dot_four-a-requires-clause-third g c = λ q d lt.
+    omega (
+      arith,
+      c.in-Some.ensures.some.inside q d lt,
+      c.loop-step.auto.third,
+      c.requires.rows_3,
+      c.requires.rows,
+      c.requires.square,
+    )
+
+pub dot_four-a-requires-clause-fourth : goal.dot_four-a-requires-clause-fourth
+dot_four-a-requires-clause-fourth g c = λ q d lt.
+    omega (
+      arith,
+      c.in-Some.ensures.some.inside q d lt,
+      c.loop-step.auto.fourth,
+      c.requires.rows_4,
+      c.requires.rows,
+      c.requires.square,
+    )
 
 pub loop-step-preserved : goal.loop-step-preserved
 loop-step-preserved g c =
@@ -41,35 +68,33 @@ loop-step-preserved g c =
     let column = c.in-Some.column in
     let was = c.loop-step in
     let m = c.args.l.now in
-    let rows = slice_range c.row_indices-rows.result.now column.begin column.end in
-    let values = slice_range c.values-values.result.now column.begin column.end in
-    let is : IsColumnBelow R f (plain_of_cols R f m) k rows values column.inverse =
-    rw (c.row_indices-rows.ensures.indices, c.values-values.ensures.values)
-    c.in-Some.ensures.some.entries in
-    let row = backward_list R f z m k rows values column.inverse is in
-    let dots = c.four_dots-a in
+    let rows = column.rows.now in
+    let values = column.values.now in
+    let row = backward_list R f z m k rows values column.inverse c.in-Some.ensures.some in
+    let unit = dot_unit R f z rows values in
+    let dots = c.dot_four-a in
     record {
       first = row c.args.first.now was.first (omega arith)
           was.auto.first was.step dots.result.0 c.solve_row.new.x
           (omega (arith, c.requires.square, c.requires.rows))
-          (omega arith) dots.ensures.first c.solve_row.ensures.written
+          (omega arith) (unit was.first dots.result.0 dots.ensures.first) c.solve_row.ensures.written
           c.solve_row.ensures.value was.invariant.first;
       second = row c.args.second.now was.second (omega (arith, c.requires.rows_2))
           was.auto.second was.step dots.result.1 c.solve_row-in-loop-step.new.x
           (omega (arith, c.requires.square, c.requires.rows, c.requires.rows_2))
-          (omega (arith, c.requires.rows_2)) dots.ensures.second
+          (omega (arith, c.requires.rows_2)) (unit was.second dots.result.1 dots.ensures.second)
           c.solve_row-in-loop-step.ensures.written c.solve_row-in-loop-step.ensures.value
           was.invariant.second;
       third = row c.args.third.now was.third (omega (arith, c.requires.rows_3))
           was.auto.third was.step dots.result.2 c.solve_row-in-loop-step-2.new.x
           (omega (arith, c.requires.square, c.requires.rows, c.requires.rows_3))
-          (omega (arith, c.requires.rows_3)) dots.ensures.third
+          (omega (arith, c.requires.rows_3)) (unit was.third dots.result.2 dots.ensures.third)
           c.solve_row-in-loop-step-2.ensures.written c.solve_row-in-loop-step-2.ensures.value
           was.invariant.third;
       fourth = row c.args.fourth.now was.fourth (omega (arith, c.requires.rows_4))
           was.auto.fourth was.step dots.result.3 c.solve_row-in-loop-step-3.new.x
           (omega (arith, c.requires.square, c.requires.rows, c.requires.rows_4))
-          (omega (arith, c.requires.rows_4)) dots.ensures.fourth
+          (omega (arith, c.requires.rows_4)) (unit was.fourth dots.result.3 dots.ensures.fourth)
           c.solve_row-in-loop-step-3.ensures.written c.solve_row-in-loop-step-3.ensures.value
           was.invariant.fourth;
     }

@@ -1,7 +1,7 @@
 use Rattle.std.proofs.Common.{length}
 use Rattle.sparse_solve.specs.InnerColumns.{entries, lower}
 use Rattle.sparse_solve.proofs.Substitutions.{IsForward}
-use Rattle.sparse_solve.proofs.forward.solve_four_forward.Given as goal
+use Rattle.sparse_solve.proofs.forward.solve_forward_four.Given as goal
 
 abbrev pub invariant-loop-k : goal.invariant-loop-k
 invariant-loop-k g l =

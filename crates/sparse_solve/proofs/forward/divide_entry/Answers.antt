@@ -1,7 +1,7 @@
 -- written by tools/answer-goals
 use Rattle.std.proofs.Common.{arith}
 use Rattle.std.proofs.lemmas.Grind.{common_steps}
-use Rattle.sparse_solve.proofs.kernels.divide_entry.Goals as goal
+use Rattle.sparse_solve.proofs.forward.divide_entry.Goals as goal
 
 pub returns-clause-value : goal.returns-clause-value
 returns-clause-value g c = grind (arith, common_steps)
