@@ -8,8 +8,8 @@ use sparse_algebra::scalar::Ring;
 
 /// Returns the sum of a lane's values, each times the entry of a column at its index.
 ///
-/// The entries of the column stand `step` apart in `column`. There must be one value for each index, and indices must be
-/// inside the column.
+/// The entries of the column stand `step` apart in `column`. There must be one value for each index, and indices must
+/// be inside the column.
 ///
 /// One multiplication for each index. Allocates nothing.
 #[inline(always)]
