@@ -1,6 +1,0 @@
--- written by tools/answer-goals
-use Rattle.std.proofs.Common.{rules}
-use Rattle.sparse_lanes.proofs.col_triplets.CscTripletIterMutIterator.next.Goals as goal
-
-pub returns-clause-steps : goal.returns-clause-steps
-returns-clause-steps g c = search rules
