@@ -1,6 +1,0 @@
--- written by tools/answer-goals
-use Rattle.std.proofs.Common.{rules}
-use Rattle.sparse_forms.proofs.csc.CscMatrix.transpose.Goals as goal
-
-pub returns-clause-transposed : goal.returns-clause-transposed
-returns-clause-transposed g c = search rules

@@ -1,6 +1,0 @@
--- written by tools/answer-goals
-use Rattle.std.proofs.Common.{rules}
-use Rattle.sparse_forms.proofs.csr.CsrMatrix.get_entry.Goals as goal
-
-pub returns-clause-entry : goal.returns-clause-entry
-returns-clause-entry g c = search rules
