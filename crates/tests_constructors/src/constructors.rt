@@ -1,9 +1,5 @@
 //! Matrices from arrays and from patterns, copies, zeros and identities.
 
-use crate::fixtures::{
-    Arrays, BY_ROWS, csc, csc_is, csc_made_equals, csc_made_is, csr, csr_is, csr_made_equals,
-    csr_made_is, unsorted_csc, unsorted_csr,
-};
 use SparseFormatErrorKind::InvalidStructure;
 use sparse_algebra::scalar::W64;
 use sparse_forms::csc::CscMatrix;
@@ -11,6 +7,10 @@ use sparse_forms::csr::CsrMatrix;
 use sparse_pattern::error::{SparseFormatError, SparseFormatErrorKind};
 use sparse_pattern::pattern::SparsityPattern;
 use std::alloc::{AllocError, Global};
+use test_matrices::fixtures::{
+    Arrays, BY_ROWS, csc, csc_is, csc_made_equals, csc_made_is, csr, csr_is, csr_made_equals,
+    csr_made_is, unsorted_csc, unsorted_csr,
+};
 
 // Arrays whose lanes are not sorted, with their indices and values once they are.
 type Unsorted = (Arrays<'static, i32>, &'static [usize], &'static [i32]);

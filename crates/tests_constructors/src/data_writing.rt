@@ -1,6 +1,5 @@
 //! Matrices written as JSON and taken back.
 
-use crate::fixtures::{csc_made_equals, csr_made_equals};
 use serde::{Deserialize, Serialize};
 use sparse_base::coo::CooMatrix;
 use sparse_data::laws::{coo_returns, csc_returns, csr_returns, pattern_returns};
@@ -9,6 +8,7 @@ use sparse_forms::csc::CscMatrix;
 use sparse_forms::csr::CsrMatrix;
 use sparse_pattern::pattern::SparsityPattern;
 use std::alloc::Global;
+use test_matrices::fixtures::{csc_made_equals, csr_made_equals};
 
 // What a text describes.
 #[derive(Clone, Copy)]

@@ -1,14 +1,14 @@
 //! The places that a predicate keeps, triangles and diagonals.
 
-use crate::fixtures::{
-    BY_COLUMNS, BY_ROWS, csc, csc_is, csc_made_equals, csc_made_is, csr, csr_is, csr_made_equals,
-    csr_made_is, wrapping_csr,
-};
 use sparse_algebra::scalar::W64;
 use sparse_forms::csc::CscMatrix;
 use sparse_forms::csr::CsrMatrix;
 use std::alloc::{AllocError, Global};
 use std::cell::Cell;
+use test_matrices::fixtures::{
+    BY_COLUMNS, BY_ROWS, csc, csc_is, csc_made_equals, csc_made_is, csr, csr_is, csr_made_equals,
+    csr_made_is, wrapping_csr,
+};
 
 // Whether a predicate keeps the stored zero of the example by rows.
 fn keeps_zero_by_rows<T: Copy + PartialEq>(

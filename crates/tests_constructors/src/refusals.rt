@@ -1,12 +1,12 @@
 //! Arrays that the constructors refuse, with the kind and the text of the error.
 
-use crate::fixtures::{Arrays, csc, csr, unsorted_csc, unsorted_csr};
 use SparseFormatErrorKind::{DuplicateEntry, IndexOutOfBounds, InvalidStructure};
 use sparse_forms::csc::CscMatrix;
 use sparse_forms::csr::CsrMatrix;
 use sparse_pattern::error::{SparseFormatError, SparseFormatErrorKind};
 use sparse_pattern::pattern::SparsityPattern;
 use std::alloc::{AllocError, Global};
+use test_matrices::fixtures::{Arrays, csc, csr, unsorted_csc, unsorted_csr};
 
 // Arrays, the kind of the error, and its text by rows and by columns.
 type SortedRefusal = (

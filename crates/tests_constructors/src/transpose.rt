@@ -1,7 +1,7 @@
 //! Transposes in the same form.
 
-use crate::fixtures::{Arrays, BY_COLUMNS, BY_ROWS, csc, csc_made_is, csr, csr_made_is};
 use std::alloc::Global;
+use test_matrices::fixtures::{Arrays, BY_COLUMNS, BY_ROWS, csc, csc_made_is, csr, csr_made_is};
 
 const NO_ROWS: Arrays<'static, i32> = (0, 3, &[0], &[], &[]);
 

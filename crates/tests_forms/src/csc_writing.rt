@@ -4,10 +4,10 @@ ghost use Rattle.std.specs.Prelude.{◌≡◌, ◌<◌, length, slice_set};
 ghost use Rattle.sparse_cs.specs.Lanes.{lane_at};
 ghost use Rattle.sparse_cs.specs.Writing.{with_lane};
 
-use crate::fixtures::{BY_COLUMNS, are_equal, csc, entry_is, fill, is_at};
 use sparse_forms::csc::{CscColMut, CscMatrix};
 use sparse_pattern::entry::{SparseEntry, SparseEntryMut};
 use std::alloc::Global;
+use test_matrices::fixtures::{BY_COLUMNS, are_equal, csc, entry_is, fill, is_at};
 
 // Writes through an entry, where the matrix has the place.
 fn write_where_stored(matrix: &mut CscMatrix<i32>, row: usize, col: usize, value: i32) {

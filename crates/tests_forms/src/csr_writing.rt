@@ -5,11 +5,11 @@ ghost use Rattle.sparse_cs.specs.Lanes.{lane_at};
 ghost use Rattle.sparse_cs.specs.StoredEntries.{IsInBounds, place_of};
 ghost use Rattle.sparse_cs.specs.Writing.{with_value, with_lane};
 
-use crate::fixtures::{BY_ROWS, are_equal, csr, entry_is, fill, is_at, wrapping_csr};
 use sparse_algebra::scalar::{Ring, W64};
 use sparse_forms::csr::{CsrMatrix, CsrRowMut};
 use sparse_pattern::entry::{SparseEntry, SparseEntryMut};
 use std::alloc::Global;
+use test_matrices::fixtures::{BY_ROWS, are_equal, csr, entry_is, fill, is_at, wrapping_csr};
 
 // What is left after a write through an entry: another value at its own place, or nothing changed.
 fn write_entry<T: Copy>(matrix: &mut CsrMatrix<T>, row: usize, col: usize, value: T)

@@ -1,12 +1,12 @@
 //! The arrays of a matrix, and its entries: what it has at a row and a column, to read and to write.
 
-use crate::fixtures::{
-    Arrays, BY_COLUMNS, BY_ROWS, are_equal, csc, csr, wrapping_csc, wrapping_csr,
-};
 use sparse_algebra::scalar::{W64, Zero};
 use sparse_forms::csc::CscMatrix;
 use sparse_forms::csr::CsrMatrix;
 use sparse_pattern::entry::{SparseEntry, SparseEntryMut};
+use test_matrices::fixtures::{
+    Arrays, BY_COLUMNS, BY_ROWS, are_equal, csc, csr, wrapping_csc, wrapping_csr,
+};
 
 // A row and a column, with the value there, zero where it isn't stored, and whether it is: `None` out of bounds.
 type Entry = (usize, usize, Option<(i32, bool)>);

@@ -1,11 +1,11 @@
 //! Rows and columns in order, and one of them.
 
-use crate::fixtures::{Arrays, are_equal, csc, csr, entry_is, wrapping_csc, wrapping_csr};
 use sparse_algebra::scalar::W64;
 use sparse_forms::csc::{CscCol, CscColIter, CscMatrix};
 use sparse_forms::csr::{CsrMatrix, CsrRow, CsrRowIter};
 use sparse_pattern::entry::SparseEntry;
 use std::alloc::AllocError;
+use test_matrices::fixtures::{Arrays, are_equal, csc, csr, entry_is, wrapping_csc, wrapping_csr};
 
 // With a lane in the middle that has no stored places.
 const EMPTY_LANE: Arrays<'static, i32> = (3, 3, &[0, 2, 2, 3], &[0, 2, 1], &[1, 0, 4]);

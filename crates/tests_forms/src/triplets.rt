@@ -1,10 +1,10 @@
 //! The triplets of a matrix in order, their copies, and copies of their values.
 
-use crate::fixtures::{Arrays, BY_COLUMNS, BY_ROWS, csc, csr, wrapping_csc, wrapping_csr};
 use sparse_algebra::scalar::W64;
 use sparse_forms::csc::{CscMatrix, CscTripletIter, CscTripletValues};
 use sparse_forms::csr::{CsrMatrix, CsrTripletIter, CsrTripletValues};
 use std::alloc::{AllocError, Global};
+use test_matrices::fixtures::{Arrays, BY_COLUMNS, BY_ROWS, csc, csr, wrapping_csc, wrapping_csr};
 
 type Triplet = (usize, usize, i32);
 
