@@ -2,3 +2,7 @@
 #![tactic(auto)]
 
 pub mod fixtures;
+pub mod matrices;
+pub mod operand_sizes;
+pub mod pairs;
+pub mod scalars;

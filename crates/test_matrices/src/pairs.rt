@@ -2,10 +2,10 @@
 
 use crate::matrices::{Arrays, csr};
 use crate::scalars::are;
+use sparse_algebra::error::{OperationError, OperationErrorKind};
 use sparse_algebra::scalar::W64;
 use sparse_forms::csc::CscMatrix;
 use sparse_forms::csr::CsrMatrix;
-use sparse_algebra::error::{OperationError, OperationErrorKind};
 use std::alloc::Global;
 
 /// Two matrices.

@@ -1,7 +1,5 @@
 //! Compressed matrices, converted.
 
-use crate::matrices::{columns_are, csc, csr, csr_of, equals, is_empty_list, rows_are};
-use crate::scalars::are;
 use sparse_algebra::scalar::{W32, W64};
 use sparse_base::coo::CooMatrix;
 use sparse_base::dense::DMatrix;
@@ -13,6 +11,8 @@ use sparse_convert::serial::{
 use sparse_forms::csc::CscMatrix;
 use sparse_forms::csr::CsrMatrix;
 use std::alloc::{AllocError, Global};
+use test_matrices::matrices::{columns_are, csc, csr, csr_of, equals, is_empty_list, rows_are};
+use test_matrices::scalars::are;
 
 // The matrix 1 0 0, 0 4 0 by rows; the zero at the end of the first row is stored.
 fn by_rows(alloc: Global) -> Option<CsrMatrix<i32>> {

@@ -1,6 +1,5 @@
 //! Dense matrices, converted.
 
-use crate::matrices::{Lanes, are_lanes, columns_are, rows_are};
 use sparse_algebra::scalar::W64;
 use sparse_base::coo::CooMatrix;
 use sparse_base::dense::DMatrix;
@@ -8,6 +7,7 @@ use sparse_convert::serial::{
     convert_dense_coo, convert_dense_csc, convert_dense_csr, from_dense_law,
 };
 use std::alloc::{AllocError, Global};
+use test_matrices::matrices::{Lanes, are_lanes, columns_are, rows_are};
 
 // Whether a list was made, of this size and with these rows, columns and values.
 fn is_list(

@@ -1,8 +1,6 @@
 //! Sizes at which a call could take too much memory or time, or answer an allocation failure that there was none.
 
-use crate::matrices::{Arrays, csr, is_empty_list, list};
-use crate::pairs::{holds, holds_by_columns};
-use crate::scalars::are;
+use sparse_algebra::operand::Op;
 use sparse_algebra::scalar::W64;
 use sparse_base::coo::CooMatrix;
 use sparse_base::dense::DMatrix;
@@ -12,9 +10,11 @@ use sparse_convert::serial::{
 };
 use sparse_forms::csc::CscMatrix;
 use sparse_forms::csr::CsrMatrix;
-use sparse_algebra::operand::Op;
 use sparse_products::serial::{mul_csr, spmm_csr_prealloc_unchecked_counted};
 use std::alloc::{AllocError, Global};
+use test_matrices::matrices::{Arrays, csr, is_empty_list, list};
+use test_matrices::pairs::{holds, holds_by_columns};
+use test_matrices::scalars::are;
 
 // Whether the product of matrices whose sizes fit has these sizes and no places.
 fn has_empty_product(

@@ -1,14 +1,14 @@
 //! Lists of triplets, converted.
 
-use crate::matrices::{equals, list};
-use crate::scalars::{Scalar, are};
 use sparse_algebra::scalar::{W32, W64};
 use sparse_base::coo::CooMatrix;
 use sparse_convert::serial::{convert_coo_csc, convert_coo_csr, convert_coo_dense, order_law};
-use sparse_pattern::counting::{key_offsets, next_slot};
 use sparse_forms::csc::CscMatrix;
 use sparse_forms::csr::CsrMatrix;
+use sparse_pattern::counting::{key_offsets, next_slot};
 use std::alloc::{AllocError, Global};
+use test_matrices::matrices::{equals, list};
+use test_matrices::scalars::{Scalar, are};
 
 // The size of a list, its triplets, and the offsets, indices and values of the compressed matrix.
 type Case<'a> = (

@@ -1,13 +1,13 @@
 //! Lists that are compressed by two counting passes, and the same lists with so many columns that their rows are
 //! sorted.
 
-use crate::matrices::{are_lanes, list};
-use crate::scalars::{Scalar, scalars};
 use sparse_algebra::scalar::{W32, W64};
 use sparse_base::coo::CooMatrix;
 use sparse_convert::serial::{convert_coo_csc, convert_coo_csr};
 use sparse_forms::csr::CsrMatrix;
 use std::alloc::{AllocError, Global};
+use test_matrices::matrices::{are_lanes, list};
+use test_matrices::scalars::{Scalar, scalars};
 
 // The numbers of rows and columns, the triplets, and the offsets, columns and values by rows.
 type Case<'a> = (

@@ -5,12 +5,12 @@ ghost use Rattle.sparse_base.specs.DensePlain.{plain_of_dense};
 ghost use Rattle.sparse_cs.specs.PlainOfLanes.{plain_of_cols};
 ghost use Rattle.sparse_solve.specs.Solutions.{plain_lower, IsSolution, HasSameValues};
 
-use sparse_base::dense::DMatrix;
-use sparse_forms::csc::CscMatrix;
 use sparse_algebra::error::OperationError;
 use sparse_algebra::operand::Op;
-use sparse_solve::spsolve_csc_lower_triangular;
 use sparse_algebra::scalar::Units;
+use sparse_base::dense::DMatrix;
+use sparse_forms::csc::CscMatrix;
+use sparse_solve::spsolve_csc_lower_triangular;
 
 /// Solves a system, and has the values of a solution that was known before: there is no other one.
 pub fn solve_known<T: Units>(

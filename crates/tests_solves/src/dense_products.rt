@@ -1,14 +1,14 @@
 //! Products of a sparse and a dense matrix.
 
 use crate::dense_updates::{A, F};
-use crate::matrices::{Arrays, csr, dense};
-use crate::scalars::{Scalar, are};
 use sparse_algebra::scalar::{Mod, W32, W64};
 use sparse_base::dense::DMatrix;
 use sparse_dense_products::{mul_csc_dense, mul_csr_dense};
 use sparse_forms::csc::CscMatrix;
 use sparse_forms::csr::CsrMatrix;
 use std::alloc::{AllocError, Global};
+use test_matrices::matrices::{Arrays, csr, dense};
+use test_matrices::scalars::{Scalar, are};
 
 // Whether the product of a matrix by rows and a column has these values.
 fn multiplies_by_rows<T: Scalar>(

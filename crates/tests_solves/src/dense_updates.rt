@@ -3,16 +3,16 @@
 ghost use Rattle.std.specs.Prelude.{◌≡◌};
 ghost use Rattle.sparse_dense_products.specs.DenseOperands.{op_dense};
 
-use crate::matrices::{Arrays, csr, dense};
-use crate::operand_sizes::{op_of, sizes_of_columns, sizes_of_rows};
-use crate::scalars::{Scalar, are};
+use sparse_algebra::operand::Op;
 use sparse_algebra::scalar::{Ring, W64};
 use sparse_base::dense::DMatrix;
 use sparse_dense_products::{spmm_csc_dense, spmm_csr_dense};
 use sparse_forms::csc::CscMatrix;
 use sparse_forms::csr::CsrMatrix;
-use sparse_algebra::operand::Op;
 use std::alloc::Global;
+use test_matrices::matrices::{Arrays, csr, dense};
+use test_matrices::operand_sizes::{op_of, sizes_of_columns, sizes_of_rows};
+use test_matrices::scalars::{Scalar, are};
 
 /// The rows `1 0 2` and `0 3 0`; the last zero is stored.
 pub const A: Arrays<'static> = (2, 3, &[0, 2, 4], &[0, 2, 1, 2], &[1, 2, 3, 0]);

@@ -1,13 +1,13 @@
 //! Division by a scalar.
 
-use crate::matrices::{Arrays, csc, csr, equals};
-use crate::scalars::Scalar;
+use sparse_algebra::error::{OperationError, OperationErrorKind};
 use sparse_algebra::scalar::{Mod, Units, W32};
 use sparse_forms::csc::CscMatrix;
 use sparse_forms::csr::CsrMatrix;
-use sparse_algebra::error::{OperationError, OperationErrorKind};
 use sparse_solve::{div_scalar_csc, div_scalar_csr, div_scalar_mut_csc, div_scalar_mut_csr};
 use std::alloc::Global;
+use test_matrices::matrices::{Arrays, csc, csr, equals};
+use test_matrices::scalars::Scalar;
 
 // The rows `1 2` and `0 3`.
 const TRIANGLE: Arrays<'static> = (2, 2, &[0, 2, 3], &[0, 1, 1], &[1, 2, 3]);

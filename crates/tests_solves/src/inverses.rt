@@ -1,6 +1,6 @@
 //! Inverses, and arithmetic at the ends of the types.
 
-use sparse_algebra::scalar::{Mod, Ring, Units, W128, W32, W64, Zero};
+use sparse_algebra::scalar::{Mod, Ring, Units, W32, W64, W128, Zero};
 
 const GREATEST: u64 = 18446744073709551615;
 

@@ -1,15 +1,15 @@
 //! Triangular systems.
 
-use crate::matrices::{Arrays, csc, dense, equals};
-use crate::pairs::{Answer, is_done};
-use crate::scalars::Scalar;
+use sparse_algebra::error::OperationErrorKind;
+use sparse_algebra::operand::Op;
 use sparse_algebra::scalar::{Mod, Units, W32};
 use sparse_base::dense::DMatrix;
 use sparse_forms::csc::CscMatrix;
-use sparse_algebra::error::OperationErrorKind;
-use sparse_algebra::operand::Op;
 use sparse_solve::spsolve_csc_lower_triangular;
 use std::alloc::Global;
+use test_matrices::matrices::{Arrays, csc, dense, equals};
+use test_matrices::pairs::{Answer, is_done};
+use test_matrices::scalars::Scalar;
 
 // What a system shows, its matrix, whether that is transposed, and the number of columns.
 type System = (&'static str, Arrays<'static>, bool, usize);

@@ -1,6 +1,5 @@
 //! The laws of sums and products, each side computed with ample memory.
 
-use crate::matrices::{Arrays, csc, csr, equals};
 use sparse_algebra::scalar::W64;
 use sparse_forms::csc::CscMatrix;
 use sparse_forms::csr::CsrMatrix;
@@ -9,6 +8,7 @@ use sparse_laws::operations::{
     times_identity, transpose_of_product,
 };
 use std::alloc::{AllocError, Global};
+use test_matrices::matrices::{Arrays, csc, csr, equals};
 
 const TRIANGLE: Arrays<'static> = (2, 2, &[0, 2, 3], &[0, 1, 1], &[1, 2, 3]);
 

@@ -1,11 +1,11 @@
 //! Products, and patterns of products.
 
-use crate::matrices::{Arrays, csr, csr_of, first_multiples};
-use crate::scalars::{Scalar, are};
 use sparse_algebra::scalar::{Ring, W32, W64};
 use sparse_forms::csr::CsrMatrix;
 use sparse_products::serial::{mul_csr, spmm_csr_pattern};
 use std::alloc::{AllocError, Global};
+use test_matrices::matrices::{Arrays, csr, csr_of, first_multiples};
+use test_matrices::scalars::{Scalar, are};
 
 // The product of two matrices whose sizes fit.
 fn product<T: Ring>(alloc: Global, a: &CsrMatrix<T>, b: &CsrMatrix<T>) -> Option<CsrMatrix<T>> {

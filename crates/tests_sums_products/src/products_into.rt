@@ -1,30 +1,31 @@
 //! Products into a given matrix, and products by columns.
 
-use crate::matrices::{Arrays, csc, csr, equals};
-use crate::operand_sizes::{op_of, sizes_of_columns, sizes_of_rows};
-use crate::pairs::{Answer, holds_by_columns, is_done, is_refused, pair, pair_by_columns};
-use crate::scalars::are;
+use crate::unchecked;
+use sparse_algebra::operand::Op;
 use sparse_algebra::scalar::{Ring, W64};
 use sparse_forms::csc::CscMatrix;
 use sparse_forms::csr::CsrMatrix;
-use sparse_algebra::operand::Op;
 use sparse_products::serial::{mul_csc, spmm_csc_pattern, spmm_csc_prealloc, spmm_csr_prealloc};
 use std::alloc::Global;
+use test_matrices::matrices::{Arrays, csc, csr, equals};
+use test_matrices::operand_sizes::{op_of, sizes_of_columns, sizes_of_rows};
+use test_matrices::pairs::{Answer, holds_by_columns, is_done, is_refused, pair, pair_by_columns};
+use test_matrices::scalars::are;
 
 /// The rows `1 2` and `0 3`.
-pub const TRIANGLE: Arrays<'static> = (2, 2, &[0, 2, 3], &[0, 1, 1], &[1, 2, 3]);
+const TRIANGLE: Arrays<'static> = (2, 2, &[0, 2, 3], &[0, 1, 1], &[1, 2, 3]);
 
 /// The rows `4 0` and `5 6`.
-pub const LOWER: Arrays<'static> = (2, 2, &[0, 1, 3], &[0, 0, 1], &[4, 5, 6]);
+const LOWER: Arrays<'static> = (2, 2, &[0, 1, 3], &[0, 0, 1], &[4, 5, 6]);
 
 /// The rows `1 2` and `3 4`. Where one of the factors is transposed, the product lacks one of its places.
-pub const FULL: Arrays<'static> = (2, 2, &[0, 2, 4], &[0, 1, 0, 1], &[1, 2, 3, 4]);
+const FULL: Arrays<'static> = (2, 2, &[0, 2, 4], &[0, 1, 0, 1], &[1, 2, 3, 4]);
 
 /// Which of the two factors are transposed, and the values of 2 C + 3 op(A) op(B).
-pub type Update = (bool, bool, [i32; 4]);
+type Update = (bool, bool, [i32; 4]);
 
 /// C is [`FULL`], A is [`TRIANGLE`] and B is [`LOWER`].
-pub const UPDATES: [Update; 4] = [
+const UPDATES: [Update; 4] = [
     (false, false, [44, 40, 51, 62]),
     (true, false, [14, 4, 75, 62]),
     (false, true, [14, 55, 6, 62]),
@@ -61,32 +62,51 @@ fn update_columns<T: Ring>(
     Some(spmm_csc_prealloc(alloc, beta, c, alpha, a, b))
 }
 
-// Updates C to 2 C + 3 op(A) op(B), where A is `1 2` over `0 3` and B is `4 0` over `5 6`.
-fn add_product(alloc: Global, c: &mut CsrMatrix<W64>, update: &Update) -> Answer {
+// Updates C to 2 C + 3 op(A) op(B), where A is `1 2` over `0 3` and B is `4 0` over `5 6`, by the call that tests the
+// pattern or by the one that does not.
+fn add_product(alloc: Global, is_tested: bool, c: &mut CsrMatrix<W64>, update: &Update) -> Answer {
     let factors = pair(alloc, TRIANGLE, LOWER)?;
     let (a, b) = (op_of(update.0, &factors.0), op_of(update.1, &factors.1));
-    update_rows(alloc, (W64::new(2), W64::new(3)), c, a, b)
+    let scalars = (W64::new(2), W64::new(3));
+    if is_tested {
+        update_rows(alloc, scalars, c, a, b)
+    } else {
+        unchecked::update_rows(alloc, scalars, c, a, b)
+    }
 }
 
 // Whether this has these values, where C is `1 2` over `3 4`.
-fn updates_rows(alloc: Global, update: &Update) -> bool {
+fn updates_rows(alloc: Global, is_tested: bool, update: &Update) -> bool {
     match csr(alloc, FULL) {
-        Some(mut c) => is_done(add_product(alloc, &mut c, update)) && are(c.values(), &update.2),
+        Some(mut c) => {
+            is_done(add_product(alloc, is_tested, &mut c, update)) && are(c.values(), &update.2)
+        }
         None => false,
     }
 }
 
 // The same arrays by columns are the transposes, so the factors are exchanged.
-fn add_product_by_columns(alloc: Global, c: &mut CscMatrix<W64>, update: &Update) -> Answer {
+fn add_product_by_columns(
+    alloc: Global,
+    is_tested: bool,
+    c: &mut CscMatrix<W64>,
+    update: &Update,
+) -> Answer {
     let factors = pair_by_columns(alloc, TRIANGLE, LOWER)?;
     let (a, b) = (op_of(update.0, &factors.0), op_of(update.1, &factors.1));
-    update_columns(alloc, (W64::new(2), W64::new(3)), c, b, a)
+    let scalars = (W64::new(2), W64::new(3));
+    if is_tested {
+        update_columns(alloc, scalars, c, b, a)
+    } else {
+        unchecked::update_columns(alloc, scalars, c, b, a)
+    }
 }
 
-fn updates_columns(alloc: Global, update: &Update) -> bool {
+fn updates_columns(alloc: Global, is_tested: bool, update: &Update) -> bool {
     match csc(alloc, FULL) {
         Some(mut c) => {
-            is_done(add_product_by_columns(alloc, &mut c, update)) && are(c.values(), &update.2)
+            is_done(add_product_by_columns(alloc, is_tested, &mut c, update))
+                && are(c.values(), &update.2)
         }
         None => false,
     }
@@ -95,8 +115,17 @@ fn updates_columns(alloc: Global, update: &Update) -> bool {
 #[test]
 fn products_into_a_matrix(rt: HostRuntime) {
     for update in &UPDATES {
-        assert!(rt; updates_rows(rt.alloc(), update));
-        assert!(rt; updates_columns(rt.alloc(), update));
+        assert!(rt; updates_rows(rt.alloc(), true, update));
+        assert!(rt; updates_columns(rt.alloc(), true, update));
+    }
+}
+
+// With ample memory no call refuses.
+#[test]
+fn unchecked_products_into_a_matrix(rt: HostRuntime) {
+    for update in &UPDATES {
+        assert!(rt; updates_rows(rt.alloc(), false, update));
+        assert!(rt; updates_columns(rt.alloc(), false, update));
     }
 }
 

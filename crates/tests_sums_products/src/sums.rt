@@ -1,8 +1,5 @@
 //! Sums, differences and multiples.
 
-use crate::matrices::{Arrays, csc, csr, first_multiples};
-use crate::pairs::{Pair, PairByColumns, holds, holds_by_columns, pair, pair_by_columns};
-use crate::scalars::are;
 use sparse_algebra::scalar::W64;
 use sparse_forms::csc::CscMatrix;
 use sparse_forms::csr::CsrMatrix;
@@ -10,6 +7,9 @@ use sparse_products::serial::{
     add_csc, add_csr, neg_csc, neg_csr, scale_csc, scale_csr, spadd_pattern, sub_csc, sub_csr,
 };
 use std::alloc::{AllocError, Global};
+use test_matrices::matrices::{Arrays, csc, csr, first_multiples};
+use test_matrices::pairs::{Pair, PairByColumns, holds, holds_by_columns, pair, pair_by_columns};
+use test_matrices::scalars::are;
 
 fn sum(alloc: Global, (a, b): &Pair) -> Option<CsrMatrix<W64>> {
     if a.nrows() != b.nrows() || a.ncols() != b.ncols() {

@@ -1,13 +1,15 @@
 //! Sums into a given matrix.
 
-use crate::matrices::Arrays;
-use crate::pairs::{Answer, holds, holds_by_columns, is_done, is_refused, pair, pair_by_columns};
+use sparse_algebra::operand::Op;
 use sparse_algebra::scalar::{Ring, W64};
 use sparse_forms::csc::CscMatrix;
 use sparse_forms::csr::CsrMatrix;
-use sparse_algebra::operand::Op;
 use sparse_products::serial::{spadd_csc_prealloc, spadd_csr_prealloc};
 use std::alloc::Global;
+use test_matrices::matrices::Arrays;
+use test_matrices::pairs::{
+    Answer, holds, holds_by_columns, is_done, is_refused, pair, pair_by_columns,
+};
 
 // Adds A, scaled, to C, scaled, if the sizes fit.
 fn add<T: Ring>((beta, alpha): (T, T), c: &mut CsrMatrix<T>, a: &CsrMatrix<T>) -> Answer {
@@ -18,7 +20,11 @@ fn add<T: Ring>((beta, alpha): (T, T), c: &mut CsrMatrix<T>, a: &CsrMatrix<T>) -
 }
 
 // The same with the transpose of A.
-fn add_transposed<T: Ring>((beta, alpha): (T, T), c: &mut CsrMatrix<T>, a: &CsrMatrix<T>) -> Answer {
+fn add_transposed<T: Ring>(
+    (beta, alpha): (T, T),
+    c: &mut CsrMatrix<T>,
+    a: &CsrMatrix<T>,
+) -> Answer {
     if c.nrows() != a.ncols() || c.ncols() != a.nrows() {
         return None;
     }

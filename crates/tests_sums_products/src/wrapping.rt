@@ -1,10 +1,10 @@
 //! Sums and products of scalars whose values wrap.
 
-use crate::matrices::{csr_of, equals};
 use sparse_algebra::scalar::{Mod, Ring, W32};
 use sparse_forms::csr::CsrMatrix;
 use sparse_products::serial::{add_csr, mul_csr};
 use std::alloc::Global;
+use test_matrices::matrices::{csr_of, equals};
 
 // The 1 by 1 matrix of a value.
 fn matrix_of<T: Ring>(alloc: Global, value: T) -> Option<CsrMatrix<T>> {

@@ -1,4 +1,4 @@
-use Rattle.tests_ops.proofs.unchecked.update_columns.Goals as goal
+use Rattle.tests_sums_products.proofs.unchecked.update_columns.Goals as goal
 
 -- the call that tests the pattern found each place in the copy
 pub spmm_csc_prealloc_unchecked-requires-clause-covered :
