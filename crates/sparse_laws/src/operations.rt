@@ -22,7 +22,7 @@ use sparse_products::transposes::transposed_csr;
 use std::alloc::{AllocError, Global};
 
 /// Returns `a * (b + c)` and `a * b + a * c`, which are equal. Fails only if an allocation fails.
-pub fn product_of_sum<T: Ring>(
+pub fn product_distributes<T: Ring>(
     alloc: Global,
     a: &CsrMatrix<T>,
     b: &CsrMatrix<T>,
@@ -40,7 +40,7 @@ pub fn product_of_sum<T: Ring>(
 }
 
 /// Returns `(a + b) * c` and `a * c + b * c`, which are equal. Fails only if an allocation fails.
-pub fn sum_times<T: Ring>(
+pub fn product_distributes_right<T: Ring>(
     alloc: Global,
     a: &CsrMatrix<T>,
     b: &CsrMatrix<T>,

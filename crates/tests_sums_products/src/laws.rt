@@ -4,8 +4,8 @@ use sparse_algebra::scalar::W64;
 use sparse_forms::csc::CscMatrix;
 use sparse_forms::csr::CsrMatrix;
 use sparse_laws::operations::{
-    columns, difference_as_sum, identity_times, negative_twice, product_of_sum, sum_times,
-    times_identity, transpose_of_product,
+    columns, difference_as_sum, identity_times, negative_twice, product_distributes,
+    product_distributes_right, times_identity, transpose_of_product,
 };
 use std::alloc::{AllocError, Global};
 use test_matrices::matrices::{Arrays, csc, csr, equals};
@@ -25,15 +25,16 @@ fn products_distribute(alloc: Global, f: &CsrMatrix<W64>) -> bool {
     if f.ncols() != f.nrows() {
         return false;
     }
-    are_equal(product_of_sum(alloc, f, f, f)) && are_equal(sum_times(alloc, f, f, f))
+    are_equal(product_distributes(alloc, f, f, f))
+        && are_equal(product_distributes_right(alloc, f, f, f))
 }
 
 fn products_by_columns_distribute(alloc: Global, f: &CscMatrix<W64>) -> bool {
     if f.ncols() != f.nrows() {
         return false;
     }
-    are_equal(columns::product_of_sum(alloc, f, f, f))
-        && are_equal(columns::sum_times(alloc, f, f, f))
+    are_equal(columns::product_distributes(alloc, f, f, f))
+        && are_equal(columns::product_distributes_right(alloc, f, f, f))
 }
 
 // The transpose of F F, and the product of the transposes.

@@ -12,7 +12,7 @@ use sparse_products::transposes::transposed_csc;
 use std::alloc::{AllocError, Global};
 
 /// Returns `a * (b + c)` and `a * b + a * c`, which are equal. Fails only if an allocation fails.
-pub fn product_of_sum<T: Ring>(
+pub fn product_distributes<T: Ring>(
     alloc: Global,
     a: &CscMatrix<T>,
     b: &CscMatrix<T>,
@@ -30,7 +30,7 @@ pub fn product_of_sum<T: Ring>(
 }
 
 /// Returns `(a + b) * c` and `a * c + b * c`, which are equal. Fails only if an allocation fails.
-pub fn sum_times<T: Ring>(
+pub fn product_distributes_right<T: Ring>(
     alloc: Global,
     a: &CscMatrix<T>,
     b: &CscMatrix<T>,
