@@ -1,6 +1,5 @@
 //! Fronts of texts, replaced bytes and sizes at their ends, read by the library and by whole lines.
 
-use crate::made::MOST;
 use nalgebra_sparse::CooMatrix;
 use nalgebra_sparse::io::MatrixMarketErrorKind::{EntryMismatch, ParsingError};
 use nalgebra_sparse::io::{
@@ -12,6 +11,9 @@ use reference::texts::entries::Listed;
 use reference::texts::meaning;
 use std::alloc::{AllocError, Global};
 use std::test::Fail;
+
+/// The greatest size.
+const MOST: usize = usize::MAX;
 
 /// The matrix `1 2` over `0 3`.
 const TRIANGLE: &str =
