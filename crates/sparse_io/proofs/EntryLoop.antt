@@ -28,7 +28,7 @@ use Rattle.sparse_parser.specs.InnerReading.{Gives, words_of, line_words, conten
 use Rattle.sparse_parser.specs.InnerReading.{among_entries, settled_of}
 use Rattle.sparse_parser.specs.InnerLines.{IsLine}
 use Rattle.sparse_parser.proofs.Fronts.{length-after-lt}
-use Rattle.sparse_parser.proofs.LineLaws.{outside, contents_of-line, contents_of-nil}
+use Rattle.sparse_parser.proofs.FrontLines.{outside, contents_of-line, contents_of-nil}
 use Rattle.sparse_io.specs.InnerEntries.{ended_of, ending, still_read}
 
 -- a data line was read, and the search went on to the next line

@@ -6,7 +6,7 @@ use Rattle.sparse_parser.specs.declared.header.Header.{Header}
 use Rattle.sparse_parser.specs.Grammar.{is_entry}
 use Rattle.sparse_parser.specs.Reads.{Read}
 use Rattle.sparse_parser.specs.Scalars.{Scalar}
-use Rattle.sparse_parser.specs.Meaning.{Triplet, place_of, value_of, entry_of, triplets_of}
+use Rattle.sparse_parser.specs.Meaning.{Triplet, place_of, field_value, entry_of, triplets_of}
 use Rattle.sparse_parser.specs.InnerIntegers.{IsIntegerLine, IsPlaceLine, IsValueLine}
 use Rattle.sparse_parser.proofs.NumberLaws.{index-number, integer-number}
 use Rattle.sparse_parser.proofs.LineShapes.{entry_1, entry_2, entry_3}
@@ -18,7 +18,7 @@ module _ (S : Scalar) (h : Header) (at : Option (ℕ × ℕ)) where
       → h.format ≡ Coordinate → h.field ≡ Integer → IsIntegerLine text row col value rest
       → given ≡ triplets_at S h.symmetry (place_of (Ok row) (Ok col)) (S.from_number value)
       → IsMeant S h at text given rest
-  unfolding triplets_of entry_of value_of
+  unfolding triplets_of entry_of field_value
   integer_meant text rest row col value given f g l e = record {
     is = ap is_entry l.words ∙ entry_3 _ _ _ l.row_index l.col_index (integer-number _ l.integer);
     means = e ∙ sym (rw (l.words, f, g, l.row_index, l.col_index, l.row_is, l.col_is, l.value_is)
@@ -30,7 +30,7 @@ module _ (S : Scalar) (h : Header) (at : Option (ℕ × ℕ)) where
       → h.format ≡ Coordinate → h.field ≡ Pattern → IsPlaceLine text row col rest
       → given ≡ triplets_at S h.symmetry (place_of (Ok row) (Ok col)) S.from_pattern
       → IsMeant S h at text given rest
-  unfolding triplets_of entry_of value_of
+  unfolding triplets_of entry_of field_value
   place_meant text rest row col given f g l e = record {
     is = ap is_entry l.words ∙ entry_2 _ _ (index-number _ l.row_index)
         (index-number _ l.col_index);
@@ -43,7 +43,7 @@ module _ (S : Scalar) (h : Header) (at : Option (ℕ × ℕ)) where
       → h.format ≡ Array → h.field ≡ Integer → at ≡ Some place → IsValueLine text value rest
       → given ≡ triplets_at S h.symmetry (Ok place) (S.from_number value)
       → IsMeant S h at text given rest
-  unfolding triplets_of entry_of value_of
+  unfolding triplets_of entry_of field_value
   value_meant text rest value place given f g p l e = record {
     is = ap is_entry l.words ∙ entry_1 _ (integer-number _ l.integer);
     means = e ∙ sym (rw (l.words, f, g, p, l.value_is) refl);

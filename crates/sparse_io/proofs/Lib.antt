@@ -1,6 +1,4 @@
 pub mod Buffering
-pub mod ColumnRuns
-pub mod DigitLines
 pub mod EntryLoop
 pub mod FileFaults
 pub mod IntegerEntries
@@ -9,4 +7,6 @@ pub mod OneMeaning
 pub mod Parts
 pub mod PlaceLaws
 pub mod RoundTrip
+pub mod WrittenFields
+pub mod WrittenLines
 pub mod Transposed

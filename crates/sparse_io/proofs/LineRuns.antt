@@ -98,21 +98,3 @@ module _ (S : Scalar) (h : Header) where
           x.matrix.triplets (contents_of x.text)) r
           ∙ ap (λ (n : ℕ). still_read S h (s.0, n, s.2) x.read x.inside x.places
           x.matrix.triplets (contents_of x.text)) c
-
-  -- lines were read, and then others
-  pub read_on_twice : (old middle new : Reading S.Value) → IsReadOn S h old middle
-      → IsReadOn S h middle new → IsReadOn S h old new
-  read_on_twice old middle new a b =
-      let first = a.shorter in
-      let second = b.shorter in
-      let room = a.room in
-      let more = b.room in
-      record {
-        begins = b.begins;
-        shorter = omega arith;
-        room = omega arith;
-        rows = b.rows ∙ a.rows;
-        cols = b.cols ∙ a.cols;
-        same = λ count. read_on_same (old.matrix.nrows, old.matrix.ncols, count) middle new _ b
-            a.rows a.cols (a.same count);
-      }

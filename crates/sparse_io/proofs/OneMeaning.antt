@@ -13,7 +13,8 @@ use Rattle.sparse_parser.specs.Scalars.{Scalar}
 use Rattle.sparse_parser.specs.Meaning.{matrix_of, Means}
 use Rattle.sparse_parser.specs.InnerReading.{is_content, written_of, among_entries, body_of}
 use Rattle.sparse_parser.specs.InnerReading.{document_of, read, judged}
-use Rattle.sparse_parser.proofs.LineLaws.{Begins, lines_only, some_lines, headed_only, headed_are}
+use Rattle.sparse_parser.proofs.LineLaws.{lines_only, some_lines}
+use Rattle.sparse_parser.proofs.ContentLaws.{Begins, headed_only, headed_are}
 
 pub headed_lines : (text : List ℕ) (header : Header) (contents : List (List (List ℕ)))
     (h : IsHeaded text header contents)

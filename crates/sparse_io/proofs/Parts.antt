@@ -24,8 +24,8 @@ use Rattle.sparse_parser.specs.InnerReading.{size_at, size_numbers, grammar_kind
 use Rattle.sparse_io.proofs.OneMeaning.{read_means}
 use Rattle.sparse_parser.proofs.Fronts.{IsStopped, IsStopped-after}
 use Rattle.sparse_parser.proofs.WordLaws.{words_of-nil}
-use Rattle.sparse_parser.proofs.LineLaws.{contents_of-nil, contents_of-line, written_of-nil}
-use Rattle.sparse_parser.proofs.LineLaws.{written_of-first, written_of-after_space}
+use Rattle.sparse_parser.proofs.FrontLines.{contents_of-nil, contents_of-line, written_of-nil}
+use Rattle.sparse_parser.proofs.FrontLines.{written_of-first, written_of-after_space}
 
 size_none : (h : Header) (words : List (List ℕ)) → None ≡ size_at h words → is_size words ≡ false
 unfolding size_at

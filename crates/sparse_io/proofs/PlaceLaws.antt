@@ -1,8 +1,7 @@
 -- The places of an array that are left, as a walk goes over them.
 use Rattle.std.proofs.Common.{◌≡◌, ℕ, zero, suc, ◌+◌, ◌-◌, ◌<◌, ◌≤◌, Bool, true, false, ltb}
 use Rattle.std.proofs.Common.{List, [], ◌∷◌, ◌++◌, length, drop, slice_get, leb, ◌==◌}
-use Rattle.std.proofs.Common.{Option, Some, refl, sym, ap, ◌∙◌, arith}
-use Rattle.std.specs.Prelude.{unwrap_or}
+use Rattle.std.proofs.Common.{Some, refl, sym, ap, ◌∙◌, arith}
 use Rattle.std.specs.List.{flat_map, range_with_len}
 use Rattle.std.proofs.Math.Dec.{eqb-suc-zero}
 use Rattle.std.proofs.lemmas.Bool.{lt-ltb, le-ltb, lt-leb, le-leb, ltb-true, ltb-false}
@@ -11,7 +10,7 @@ use Rattle.sparse_parser.specs.declared.header.Symmetry.{Symmetry}
 use Rattle.sparse_parser.specs.declared.header.Symmetry.TheVariants.{General, Symmetric}
 use Rattle.sparse_parser.specs.declared.header.Symmetry.TheVariants.{SkewSymmetric, Hermitian}
 use Rattle.sparse_parser.specs.ArrayPlaces.{first_row, column, array_places}
-use Rattle.sparse_io.specs.InnerPlaces.{column_left, columns_left, left_from, IsDownFrom}
+use Rattle.sparse_io.specs.InnerPlaces.{column_left, columns_left, left_from}
 
 -- n numbers from a on, where there are some
 range_more : (a n m : ℕ) → n ≡ suc m → range_with_len a n ≡ a ∷ range_with_len (a + 1) m
@@ -88,39 +87,20 @@ module _ (s : Symmetry) (rows cols : ℕ) where
       left_outside 0 cols (omega arith)
       ∙ sym (columns_empty (cols - col) col refl (omega (arith, e, le)))
 
-  -- some first places of a column are removed
-  pub left_rows : (n row col : ℕ) → col < cols → row + n ≤ rows
-      → left_from s rows cols (row + n) col ≡ drop n (left_from s rows cols row col)
-  left_rows zero row col lt le =
-      let e : row + 0 ≡ row = omega arith in ap (λ (r : ℕ). left_from s rows cols r col) e
-  left_rows (suc n) row col lt le =
-      let e : row + suc n ≡ row + 1 + n = omega arith in
-      ap (λ (r : ℕ). left_from s rows cols r col) e
-      ∙ left_rows n (row + 1) col lt (omega (arith, le))
-      ∙ sym (ap (λ (l : List (ℕ × ℕ)). drop (suc n) l)
-      (left_first row col lt (omega (arith, le))))
-
-  -- the k-th place lies k rows below the first one
-  left_down : (k row col : ℕ) → col < cols → row + k < rows
-      → slice_get (left_from s rows cols row col) k ≡ Some (row + k, col)
-  left_down zero row col lt inside =
-      let e : row ≡ row + 0 = omega arith in
-      ap (λ (l : List (ℕ × ℕ)). slice_get l 0) (left_first row col lt (omega (arith, inside)))
-      ∙ ap (λ (r : ℕ). Some (r, col)) e
-  left_down (suc k) row col lt inside =
-      let e : row + 1 + k ≡ row + suc k = omega arith in
-      ap (λ (l : List (ℕ × ℕ)). slice_get l (suc k))
-      (left_first row col lt (omega (arith, inside)))
-      ∙ left_down k (row + 1) col lt (omega (arith, inside)) ∙ ap (λ (r : ℕ). Some (r, col)) e
+  -- the first place of a column is removed
+  pub left_next : (row col : ℕ) → col < cols → row < rows
+      → left_from s rows cols (row + 1) col ≡ drop 1 (left_from s rows cols row col)
+  left_next row col lt inside =
+      sym (ap (λ (l : List (ℕ × ℕ)). drop 1 l) (left_first row col lt inside))
 
   module _ (row col : ℕ) where
-    -- the last places of a column are removed
-    pub left_column : (n : ℕ) → col < cols → row + n ≤ rows → rows ≤ row + n
-        → columns_left s rows cols (col + 1) ≡ drop n (left_from s rows cols row col)
-    left_column n lt le last =
-        sym (left_inside (row + n) col lt
+    -- the last place of a column is removed
+    pub left_column : col < cols → row < rows → rows ≤ row + 1
+        → columns_left s rows cols (col + 1) ≡ drop 1 (left_from s rows cols row col)
+    left_column lt inside last =
+        sym (left_inside (row + 1) col lt
         ∙ ap (λ (l : List (ℕ × ℕ)). l ++ columns_left s rows cols (col + 1))
-        (column_none (row + n) col last)) ∙ left_rows n row col lt le
+        (column_none (row + 1) col last)) ∙ left_next row col lt inside
 
     pub left_some : 0 < length (left_from s rows cols row col) → col < cols
     left_some some = by (ltb col cols) refl
@@ -153,12 +133,3 @@ module _ (s : Symmetry) (rows cols : ℕ) where
       left_head some =
           let lt = left_some some in
           ap (λ (l : List (ℕ × ℕ)). slice_get l 0) (left_first row col lt (inside lt))
-
-      -- the places left of the first column go down from the first one
-      pub left_down_from : 0 < length (left_from s rows cols row col) → (p : ℕ × ℕ)
-          → slice_get (left_from s rows cols row col) 0 ≡ Some p
-          → IsDownFrom p (rows - row) (left_from s rows cols row col)
-      left_down_from some p e k lt =
-          left_down k row col (left_some some) (omega (arith, lt))
-          ∙ ap (λ (o : Option (ℕ × ℕ)). Some ((unwrap_or o p).0 + k, (unwrap_or o p).1))
-          (sym (left_head some) ∙ e)

@@ -1,5 +1,5 @@
 -- An entry and its mirrored one, and the end of the list of entries.
-use Rattle.std.specs.Prelude.{◌≡◌, ◌≤◌, ℕ, ℤ, zero, suc, ◌+◌, Bool, true, ◌&&◌, List, [], ◌∷◌, ◌++◌}
+use Rattle.std.specs.Prelude.{◌≡◌, ◌≤◌, ℕ, zero, suc, ◌+◌, Bool, true, ◌&&◌, List, [], ◌∷◌, ◌++◌}
 use Rattle.std.specs.Prelude.{length, Option, Some, None, Ok, Err, if◌then◌else◌}
 use Rattle.std.specs.List.{list_all}
 use Rattle.sparse_pattern.specs.declared.error.SparseFormatErrorKind.TheVariants.{IndexOutOfBounds}
@@ -10,7 +10,7 @@ use Rattle.sparse_parser.specs.declared.header.Format.TheVariants.{Coordinate, A
 use Rattle.sparse_parser.specs.declared.header.Field.TheVariants.{Integer, Pattern}
 use Rattle.sparse_parser.specs.declared.header.Symmetry.{Symmetry}
 use Rattle.sparse_parser.specs.declared.header.Symmetry.TheVariants.{General, Symmetric}
-use Rattle.sparse_parser.specs.declared.header.Symmetry.TheVariants.{SkewSymmetric, Hermitian}
+use Rattle.sparse_parser.specs.declared.header.Symmetry.TheVariants.{SkewSymmetric}
 use Rattle.sparse_parser.specs.declared.header.Header.{Header}
 use Rattle.sparse_parser.specs.Bytes.{after}
 use Rattle.sparse_parser.specs.InnerBytes.{is_within_line, BeginsLine}
@@ -20,7 +20,6 @@ use Rattle.sparse_parser.specs.Scalars.{Scalar}
 use Rattle.sparse_parser.specs.Meaning.{Triplet, Sizes, placed, mirrored, triplets_of}
 use Rattle.sparse_parser.specs.Meaning.{is_count, is_inside, entries_of}
 use Rattle.sparse_parser.specs.InnerReading.{line_words, contents_of, among_entries}
-use Rattle.sparse_parser.specs.InnerIntegers.{IsValueLine}
 
 -- an entry, and the mirrored one if it has a value
 abbrev pub both_of : {T : Type 0} → (ℕ × ℕ × T) × Option T → List (ℕ × ℕ × T)
@@ -53,14 +52,6 @@ pub record IsLineRead (S : Scalar) (h : Header) (at : Option (ℕ × ℕ)) (text
   pub same : contents_of next ≡ contents_of (after is_within_line text)
   pub shorter : length next ≤ length (after is_within_line text)
 
--- the first line of a text is this integer, and this is the text from the next line on
-pub record IsValueRead (text : List ℕ) (value : ℤ) (next : List ℕ) : Type 0 where
-  pub rest : List ℕ
-  pub line : IsValueLine text value rest
-  pub begins : BeginsLine next
-  pub same : contents_of next ≡ contents_of rest
-  pub shorter : length next ≤ length rest
-
 module _ (S : Scalar) (h : Header) (s : Sizes) where
   -- how a list of triplets ends, where these stand before it and lie within the shape or not
   abbrev pub ending : Bool → List (Triplet S.Value) → List (Triplet S.Value) → Read (Coo S.Value)
@@ -75,12 +66,11 @@ module _ (S : Scalar) (h : Header) (s : Sizes) where
       (if is_count s.2 (read + length lines) then entries_of S h places lines >>= ending inside ts
       else Err EntryMismatch)
 
--- the symmetries as numbers
-abbrev pub symmetry_of : ℕ → Symmetry
-symmetry_of zero = General
-symmetry_of (suc zero) = Symmetric
-symmetry_of (suc (suc zero)) = SkewSymmetric
-symmetry_of (suc (suc (suc n))) = Hermitian
+-- the symmetries as numbers, without that of complex matrices
+abbrev pub numbered_symmetry : ℕ → Symmetry
+numbered_symmetry zero = General
+numbered_symmetry (suc zero) = Symmetric
+numbered_symmetry (suc (suc n)) = SkewSymmetric
 
 -- the headers of files whose data lines are two indices and an integer, two indices, or an integer
 abbrev pub HasIntegers : Header → Type 0
@@ -91,10 +81,6 @@ HasPlaces h = (h.format ≡ Coordinate) × (h.field ≡ Pattern)
 
 abbrev pub HasValues : Header → Type 0
 HasValues h = (h.format ≡ Array) × (h.field ≡ Integer)
-
--- the headers of arrays of integers without symmetry
-abbrev pub IsGeneralArray : Header → Type 0
-IsGeneralArray h = HasValues h × (h.symmetry ≡ General)
 
 -- how far a text was read: the number of data lines, whether all triplets lie inside, the places
 -- that are left, the matrix and the text that is left

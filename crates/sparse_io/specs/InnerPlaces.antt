@@ -1,7 +1,5 @@
 -- The places that are left of an array.
-use Rattle.std.specs.Prelude.{◌≡◌, ◌<◌, ℕ, ◌+◌, ◌-◌, ◌++◌, List, [], map, nat_lt}
-use Rattle.std.specs.Prelude.{Some, slice_get}
-use Rattle.std.specs.Prelude.{if◌then◌else◌}
+use Rattle.std.specs.Prelude.{ℕ, ◌+◌, ◌-◌, ◌++◌, List, [], map, nat_lt, if◌then◌else◌}
 use Rattle.std.specs.List.{flat_map, range_with_len}
 use Rattle.sparse_io.specs.declared.reader.places.Places.{Places}
 use Rattle.sparse_parser.specs.declared.header.Symmetry.{Symmetry}
@@ -21,11 +19,3 @@ left_from s rows cols row col = if nat_lt col cols then column_left rows row col
 
 unfoldable pub places_left : Places → List (ℕ × ℕ)
 places_left p = left_from p.symmetry p.rows p.cols p.row p.col
-
--- how many of them lie in the column of the first one
-unfoldable pub rows_left_of : Places → ℕ
-rows_left_of p = p.rows - p.row
-
--- the first n places go from p on down its column, row by row
-abbrev pub IsDownFrom : ℕ × ℕ → ℕ → List (ℕ × ℕ) → Type 0
-IsDownFrom p n places = (k : ℕ) → k < n → slice_get places k ≡ Some (p.0 + k, p.1)

@@ -17,14 +17,12 @@ use sparse_parser::lines::{after_space, next_line, split_line};
 use sparse_parser::size::Size;
 use std::alloc::Global;
 
-mod columns;
 mod entries;
 mod entry;
 mod kinds;
 mod places;
 mod pushes;
 mod runs;
-mod values;
 
 /// Reads a matrix from a text in Matrix Market format.
 ///

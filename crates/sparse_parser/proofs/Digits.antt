@@ -122,10 +122,11 @@ short_fits n k d small short digit =
     omega arith
 
 -- where 19 digits were read or the text ends
-pub stopped_end : (text : List ℕ) (at end : ℕ) → end ≡ min (length text) 19 → end ≤ at → at ≤ end
-    → HasStopped text (drop at text)
-stopped_end text at end e ge le = by (ltb at (length text)) refl
+pub stopped_end : (text : List ℕ) (from at end : ℕ) → from ≤ length text
+    → end ≡ from + min (length text - from) 19 → end ≤ at → at ≤ end
+    → HasStopped (drop from text) (drop at text)
+stopped_end text from at end inside e ge le = by (ltb at (length text)) refl
   where
-    by : (t : Bool) → ltb at (length text) ≡ t → HasStopped text (drop at text)
-    by true f = inr (omega (arith, length-drop at text, ltb-true _ _ f))
+    by : (t : Bool) → ltb at (length text) ≡ t → HasStopped (drop from text) (drop at text)
+    by true f = inr (omega (arith, length-drop at text, length-drop from text, ltb-true _ _ f))
     by false f = inl (front-drop_all is_ascii_digit text at (ltb-false _ _ f))

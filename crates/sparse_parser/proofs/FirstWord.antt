@@ -9,8 +9,8 @@ use Rattle.std.specs.Char.{is_ascii_digit}
 use Rattle.std.specs.Str.Parse.{digits_value, without_leading_sign}
 use Rattle.std.proofs.lemmas.List.{nil_from_length}
 use Rattle.std.proofs.lemmas.Bool.Decides.{nat_tests}
-use Rattle.sparse_parser.specs.declared.data_lines.Kind.{Kind}
-use Rattle.sparse_parser.specs.declared.data_lines.Kind.TheVariants.{Index, Signed, Other}
+use Rattle.sparse_parser.specs.declared.data_lines.NumberKind.{NumberKind}
+use Rattle.sparse_parser.specs.declared.data_lines.NumberKind.TheVariants.{Index, Signed, Other}
 use Rattle.sparse_parser.specs.declared.data_lines.Found.{Found}
 use Rattle.sparse_parser.specs.declared.data_lines.Found.TheVariants as found
 use Rattle.sparse_parser.specs.Bytes.{is_blank, is_line_end, front, after}
@@ -282,13 +282,13 @@ other_is word n i = record {
 }
 
 -- the number of an index, which has no sign
-pub index_digits : (word : List ℕ) (digits : Option ℕ) (kind : Kind) → IsNumberOf word digits kind
+pub index_digits : (word : List ℕ) (digits : Option ℕ) (kind : NumberKind) → IsNumberOf word digits kind
     → is_plain kind ≡ true → SomeIff digits (digits_value 10 word < 2 ^ 64) (digits_value 10 word)
 index_digits word digits kind h p =
     subst (λ (w : List ℕ). SomeIff digits (digits_value 10 w < 2 ^ 64) (digits_value 10 w))
     (index-unsigned word (h.index ∙ p)) (h.digits_are (whole kind p))
   where
-    whole : (kind : Kind) → is_plain kind ≡ true → IsTrue (is_whole kind)
+    whole : (kind : NumberKind) → is_plain kind ≡ true → IsTrue (is_whole kind)
     whole Index p = refl
     whole Signed p = refl
     whole Other p = absurd cc

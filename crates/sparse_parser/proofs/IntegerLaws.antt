@@ -1,8 +1,9 @@
 -- The indices and integers of a line, read one after the other.
 use Rattle.std.proofs.Common.{◌≡◌, ◌≢◌, ℕ, ℤ, pos, zero, suc, ◌^◌, ◌<◌, Bool, true, false, cond}
-use Rattle.std.proofs.Common.{eqb, List, [], ◌∷◌, ◌++◌, length, Some, Ok, Err, refl, sym}
+use Rattle.std.proofs.Common.{eqb, List, [], ◌∷◌, ◌++◌, length, Option, Some, None, Ok, Err, refl, sym}
 use Rattle.std.proofs.Common.{ap, subst, ◌∙◌, arith, ◌+◌, ◌-◌, ◌*◌, get_or, drop, length-drop}
 use Rattle.std.proofs.lemmas.List.{drop_more}
+use Rattle.std.specs.Prelude.{IsTrue, MatchOption}
 use Rattle.std.specs.Option.{SomeIff}
 use Rattle.std.specs.Char.{is_ascii_digit}
 use Rattle.std.specs.Str.Parse.{digits_value, digits_value_after, starts_with_minus}
@@ -18,7 +19,8 @@ use Rattle.sparse_parser.specs.Scalars.{fits}
 use Rattle.sparse_parser.specs.Meaning.{integer_of}
 use Rattle.sparse_parser.specs.InnerReading.{line_words, ends_line}
 use Rattle.sparse_parser.specs.InnerNumbers.{IsNumberRead}
-use Rattle.sparse_parser.specs.InnerLines.{IsWord, ends_word}
+use Rattle.sparse_parser.specs.declared.data_lines.NumberKind.{NumberKind}
+use Rattle.sparse_parser.specs.InnerLines.{is_whole, WriteNumber, IsNumberOf, IsWord, ends_word}
 use Rattle.sparse_parser.specs.InnerIntegers.{IsIndexAt, IsIntegerAt, IsEndAt, IsIntegerLine}
 use Rattle.sparse_parser.specs.InnerIntegers.{IsLastIndex, IsLastNumber}
 use Rattle.sparse_parser.specs.InnerIntegers.{IsPlaceLine, IsValueLine}
@@ -138,7 +140,7 @@ same_sign (b ∷ text) = by (eqb b 45) (eqb b 43) (is_ascii_digit b) refl refl r
         let w : value_word (b ∷ text) ≡ [] = rw (m, p, d) refl in
         ap starts_with_minus w ∙ sym m
 
-integer_is : (word : List ℕ) (n : ℕ) (minus : Bool) → is_integer word ≡ true
+pub integer_is : (word : List ℕ) (n : ℕ) (minus : Bool) → is_integer word ≡ true
     → starts_with_minus word ≡ minus
     → n ≡ digits_value 10 (without_leading_sign word) → n < 2 ^ 64
     → integer_of word ≡ Ok (cond minus (neg_ℤ (pos n)) (pos n))
@@ -151,6 +153,19 @@ integer_is word n true i m e lt = rw (← e, i, m) (negative n lt)
     negative zero lt = refl
     negative (suc n) lt = rw (lt-ltb n (2 ^ 127) (omega arith)) refl
 integer_is word n false i m e lt = rw (← e, i, m, lt-ltb n (2 ^ 127) (omega arith)) refl
+
+-- the digits of an integer with its sign
+pub signed_integer : (word : List ℕ) (digits : Option ℕ) (kind : NumberKind) (n : ℕ) (minus : Bool)
+    (value : Option ℤ) → IsNumberOf word digits kind → digits ≡ Some n
+    → minus ≡ starts_with_minus word
+    → MatchOption value (Unit {0}) (λ v. v ≡ cond minus (neg_ℤ (pos n)) (pos n))
+    → MatchOption value (Unit {0}) (λ v. IsTrue (is_whole kind) → integer_of word ≡ Ok v)
+signed_integer word digits kind n minus None number d m is = tt
+signed_integer word digits kind n minus (Some v) number d m is = λ whole.
+    let w : WriteNumber word (Some n) = subst (WriteNumber word) d (number.digits_are whole) in
+    integer_is word n minus (number.integer ∙ whole) (sym m) w.1
+    (subst (λ (k : ℕ). k < 2 ^ 64) (sym w.1) w.0)
+    ∙ ap (λ (z : ℤ). Ok z) (sym is)
 
 pub integer_at : (text start unsigned rest : List ℕ) (number : ℕ) (minus : Bool) (value : ℤ)
     → start ≡ after is_blank text → unsigned ≡ without_leading_sign start
@@ -216,20 +231,6 @@ one_digit text from number inside digit end is =
       some = omega (arith, length-drop from text, length-drop (from + 1) text);
       word = ap ends_word ends ∙ ap is_space end;
       line = end_at _ _ refl (ap ends_line ends ∙ ap is_line_end end);
-    }
-
--- digits, and LF after them
-pub number_and_end : (text from : List ℕ) (number end : ℕ) → end < length text
-    → get_or text end 0 ≡ 10 → IsNumberRead from number (drop end text)
-    → length (drop end text) ≢ length from → IsLastNumber from number (drop end text)
-number_and_end text from number end lt e r some =
-    let ends = drop_more text end 0 lt in
-    record {
-      behind = drop end text;
-      read = r;
-      some = some;
-      word = ap ends_word ends ∙ ap is_space e;
-      line = end_at _ _ refl (ap ends_line ends ∙ ap is_line_end e);
     }
 
 -- an index, and LF after it

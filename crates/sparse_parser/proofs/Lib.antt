@@ -6,8 +6,9 @@ pub mod EntryLaws
 pub mod FirstWord
 pub mod IntegerLaws
 pub mod Fronts
+pub mod ContentLaws
+pub mod FrontLines
 pub mod LineLaws
 pub mod LineShapes
 pub mod NumberLaws
-pub mod Signs
 pub mod WordLaws

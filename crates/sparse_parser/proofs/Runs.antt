@@ -1,5 +1,5 @@
 -- A run of digits that is read at once, and a line end before a number.
-use Rattle.std.proofs.Common.{◌≡◌, ◌≢◌, ℕ, ◌+◌, ◌-◌, ◌*◌, ◌%◌, ◌^◌, ◌≤◌, ◌<◌, true, false, List, []}
+use Rattle.std.proofs.Common.{◌≡◌, ◌≢◌, ℕ, ◌+◌, ◌-◌, ◌*◌, ◌%◌, ◌^◌, ◌≤◌, ◌<◌, false, List, []}
 use Rattle.std.proofs.Common.{◌∷◌, length, get_or, take, drop, slice_range, refl, sym, ap, subst}
 use Rattle.std.proofs.Common.{◌∙◌, arith, length-drop, drop-drop, length-take-le, take-take}
 use Rattle.std.proofs.lemmas.List.{drop_more, drop-take}
@@ -7,20 +7,17 @@ use Rattle.std.proofs.lemmas.Bool.Decides.{nat_tests}
 use Rattle.std.specs.Char.{is_ascii_digit}
 use Rattle.std.specs.Str.Parse.{digits_value, digits_value_after}
 use Rattle.std.specs.Float.Numeral.{digits_len}
-use Rattle.core.proofs.dec2flt.DigitsLemmas.{digits_len_short, digits_value_after_is}
-use Rattle.std.proofs.lemmas.Int.Digits.{digits_value-lt}
-use Rattle.std.proofs.Math.Nat.{pow-le-pow_right, mul-le-mul_right}
-use Rattle.sparse_parser.proofs.Positions.{after_passed, digit_read}
+use Rattle.core.proofs.dec2flt.DigitsLemmas.{digits_len_short}
 use Rattle.core.proofs.dec2flt.Rows.{AllDigits-digits_len, short_fits}
 use Rattle.core.proofs.slice.Prefixes.{prefix_len-le-length}
-use Rattle.sparse_parser.specs.Bytes.{is_blank, front, after}
+use Rattle.sparse_parser.specs.Bytes.{front, after}
 use Rattle.sparse_parser.specs.InnerBytes.{is_space, BeginsLine}
-use Rattle.sparse_parser.specs.InnerNumbers.{IsNumberRead, IsRunRead}
+use Rattle.sparse_parser.specs.InnerNumbers.{IsNumberRead}
 use Rattle.sparse_parser.specs.InnerReading.{contents_of}
 use Rattle.sparse_parser.proofs.Fronts.{IsStopped-after, front-append, after-append, after-yes}
 use Rattle.sparse_parser.proofs.Fronts.{front_take, after_drop}
 use Rattle.sparse_parser.proofs.Fronts.{after-no}
-use Rattle.sparse_parser.proofs.LineLaws.{IsSought, sought_first, outside}
+use Rattle.sparse_parser.proofs.FrontLines.{IsSought, sought_first}
 
 -- the digits of a run, and what follows them
 run_is : (text : List ℕ) (from count : ℕ) → count ≡ digits_len (drop from text)
@@ -65,64 +62,6 @@ run_read text from count number inside run short is =
       shorter = omega (arith, length-drop from text, length-drop (from + count) text);
     }
 
--- at most six digits were read, up to the last
-short_run_read : (text : List ℕ) (from count first number : ℕ) → first ≤ 9
-    → count ≡ digits_len (drop from text) → count ≤ 6
-    → number ≡ (first * 10 ^ count + digits_value 10 (take count (drop from text))) % 2 ^ 64
-    → IsRunRead first (drop from text) number (drop (from + count) text)
-short_run_read text from count first number digit run short is =
-    let start = drop from text in
-    let r = run_is text from count run in
-    let all = prefix_len-le-length is_ascii_digit start in
-    let len : length (take count start) ≡ count = length-take-le count start (omega arith) in
-    let below : digits_value 10 (take count start) < 10 ^ count =
-    subst (λ (n : ℕ). digits_value 10 (take count start) < 10 ^ n) len
-    (digits_value-lt 10 (take count start) (AllDigits-digits_len start count (omega arith))) in
-    let six : 10 ^ count ≤ 10 ^ 6 =
-    pow-le-pow_right {n = 10} (omega arith) {i = count} {j = 6} short in
-    let product : first * 10 ^ count ≤ 9 * 10 ^ count = mul-le-mul_right (10 ^ count) digit in
-    let value : number ≡ first * 10 ^ count + digits_value 10 (take count start) = omega arith in
-    let digits : number ≡ first * 10 ^ length (front is_ascii_digit start)
-    + digits_value 10 (front is_ascii_digit start) =
-    value ∙ ap (λ (n : ℕ). first * 10 ^ n + digits_value 10 (take count start)) (sym len)
-    ∙ ap (λ (ds : List ℕ). first * 10 ^ length ds + digits_value 10 ds) r.0 in
-    record {
-      value = digits ∙ sym (digits_value_after_is first (front is_ascii_digit start));
-      others = r.1;
-      small = omega arith;
-      shorter = omega (arith, length-drop from text, length-drop (from + count) text);
-    }
-
--- with no digit before it, the run is a number
-pub number_read : (text rest : List ℕ) (number : ℕ) → IsRunRead 0 text number rest
-    → IsNumberRead text number rest
-number_read text rest number r =
-    let none = run_ends text rest r.others in
-    record {
-      value = ap (digits_value_after 10 number) none.0 ∙ r.value;
-      others = none.1 ∙ r.others;
-      small = omega (arith, r.small);
-      shorter = r.shorter;
-    }
-
--- the digit before the run is the first one of a number
-pub number_from_digit : (text rest : List ℕ) (from number : ℕ) → from < length text
-    → is_ascii_digit (get_or text from 0) ≡ true
-    → IsRunRead (get_or text from 0 - 48) (drop (from + 1) text) number rest
-    → IsNumberRead (drop from text) number rest
-number_from_digit text rest from number inside digit r =
-    let none = run_ends (drop (from + 1) text) rest r.others in
-    let first : get_or text from 0 - 48 ≡ 0 * 10 + (get_or text from 0 - 48) = omega arith in
-    record {
-      value = ap (digits_value_after 10 number) none.0 ∙ r.value
-          ∙ ap (λ (n : ℕ). digits_value_after 10 n (front is_ascii_digit (drop (from + 1) text)))
-          first
-          ∙ digit_read 0 text from inside digit;
-      others = none.1 ∙ r.others ∙ after_passed is_ascii_digit text from inside digit;
-      small = omega (arith, r.small);
-      shorter = omega (arith, r.shorter, length-drop from text, length-drop (from + 1) text);
-    }
-
 -- the digits end within the first bytes, and there are at most 19
 pub first_read : (most : ℕ) (text rest first : List ℕ) (from count number : ℕ)
     → from ≤ length text → rest ≡ drop from text → first ≡ take most rest
@@ -144,12 +83,12 @@ first_read most text rest first from count number inside r e run short few is =
     (omega (arith, ap (digits_value 10) digits))
 
 -- at most six digits are read from a window that begins five bytes before them
-pub window_read : (text before window : List ℕ) (from end first number : ℕ) → first ≤ 9 → 5 ≤ from
-    → before ≡ drop (from - 5) text → window ≡ take 12 before
+pub window_read : (text before window : List ℕ) (from end number : ℕ) → from ≤ length text
+    → 5 ≤ from → before ≡ drop (from - 5) text → window ≡ take 12 before
     → end ≡ 5 + digits_len (drop 5 window) → end < 12
-    → number ≡ (first * 10 ^ (end - 5) + digits_value 10 (slice_range window 5 end)) % 2 ^ 64
-    → IsRunRead first (drop from text) number (drop (from + (end - 5)) text)
-window_read text before window from end first number digit room b w run short is =
+    → number ≡ (0 * 10 ^ (end - 5) + digits_value 10 (slice_range window 5 end)) % 2 ^ 64
+    → IsNumberRead (drop from text) number (drop (from + (end - 5)) text)
+window_read text before window from end number inside room b w run short is =
     let start = drop from text in
     let at : from - 5 + 5 ≡ from = omega arith in
     let seven : drop 5 window ≡ take 7 start =
@@ -160,12 +99,8 @@ window_read text before window from end first number digit room b w run short is
     let whole = digits_len_short start 7 (omega arith) in
     let digits : slice_range window 5 end ≡ take (end - 5) start =
     ap (take (end - 5)) seven ∙ take-take (end - 5) 7 start (omega arith) in
-    short_run_read text from (end - 5) first number digit (omega arith) (omega arith)
-    (is ∙ ap (λ (ds : List ℕ). (first * 10 ^ (end - 5) + digits_value 10 ds) % 2 ^ 64) digits)
-
-pub no_blank_before : (text : List ℕ) → BeginsLine text → text ≡ after is_blank text
-no_blank_before [] begins = refl
-no_blank_before (b ∷ text) begins = sym (after-no is_blank b text (outside b begins.0).0)
+    run_read text from (end - 5) number inside (omega arith) (omega arith)
+    (omega (arith, ap (digits_value 10) digits))
 
 visible : (b : ℕ) → 37 < b → is_space b ≡ false
 visible b lt = grind (arith, nat_tests)

@@ -3,8 +3,8 @@ use Rattle.std.specs.Prelude.{◌≡◌, ℕ, ◌<◌, ◌^◌, Bool, true, fals
 use Rattle.std.specs.Prelude.{IsTrue}
 use Rattle.std.specs.Option.{SomeIff}
 use Rattle.std.specs.Str.Parse.{digits_value, without_leading_sign}
-use Rattle.sparse_parser.specs.declared.data_lines.Kind.{Kind}
-use Rattle.sparse_parser.specs.declared.data_lines.Kind.TheVariants.{Index, Signed, Other}
+use Rattle.sparse_parser.specs.declared.data_lines.NumberKind.{NumberKind}
+use Rattle.sparse_parser.specs.declared.data_lines.NumberKind.TheVariants.{Index, Signed, Other}
 use Rattle.sparse_parser.specs.declared.data_lines.Number.{Number}
 use Rattle.sparse_parser.specs.declared.data_lines.Found.{Found}
 use Rattle.sparse_parser.specs.declared.data_lines.Found.TheVariants as found
@@ -15,12 +15,12 @@ use Rattle.sparse_parser.specs.InnerBytes.{is_within_line, is_space}
 use Rattle.sparse_parser.specs.Grammar.{is_index, is_integer, is_number, is_entry}
 use Rattle.sparse_parser.specs.InnerReading.{line_words}
 
-abbrev pub is_plain : Kind → Bool
+abbrev pub is_plain : NumberKind → Bool
 is_plain Index = true
 is_plain Signed = false
 is_plain Other = false
 
-abbrev pub is_whole : Kind → Bool
+abbrev pub is_whole : NumberKind → Bool
 is_whole Index = true
 is_whole Signed = true
 is_whole Other = false
@@ -31,7 +31,7 @@ WriteNumber word n = SomeIff n (digits_value 10 (without_leading_sign word) < 2 
     (digits_value 10 (without_leading_sign word))
 
 -- a word of this form, and the value of its digits
-pub record IsNumberOf (word : List ℕ) (digits : Option ℕ) (kind : Kind) : Type 0 where
+pub record IsNumberOf (word : List ℕ) (digits : Option ℕ) (kind : NumberKind) : Type 0 where
   pub number : is_number word ≡ true
   pub index : is_index word ≡ is_plain kind
   pub integer : is_integer word ≡ is_whole kind

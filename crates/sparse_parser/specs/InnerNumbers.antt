@@ -12,13 +12,6 @@ pub record IsNumberRead (text : List ℕ) (number : ℕ) (rest : List ℕ) : Typ
   pub small : number < 2 ^ 64
   pub shorter : length rest ≤ length text
 
--- the leading digits were read, behind a digit of this value
-pub record IsRunRead (first : ℕ) (text : List ℕ) (number : ℕ) (rest : List ℕ) : Type 0 where
-  pub value : number ≡ digits_value_after 10 first (front is_ascii_digit text)
-  pub others : rest ≡ after is_ascii_digit text
-  pub small : number < 10 ^ 7
-  pub shorter : length rest ≤ length text
-
 -- the digits end here, or 19 were read
 abbrev pub HasStopped : List ℕ → List ℕ → Type 0
 HasStopped text rest = (front is_ascii_digit rest ≡ []) ⊎ (length text ≡ length rest + 19)

@@ -11,10 +11,10 @@ last_word (Some word) = word.now ∷ []
 abbrev pub size_words : SizeWords → List (List ℕ)
 size_words w = w.rows.now ∷ (w.cols.now ∷ last_word w.count)
 
-abbrev pub IsLastIndex : Option (Bor (List ℕ)) → Type 0
-IsLastIndex None = Unit {0}
-IsLastIndex (Some word) = is_index word.now ≡ true
+abbrev pub IsIndexIfAny : Option (Bor (List ℕ)) → Type 0
+IsIndexIfAny None = Unit {0}
+IsIndexIfAny (Some word) = is_index word.now ≡ true
 
 -- each word is an index
 abbrev pub AreIndices : SizeWords → Type 0
-AreIndices w = (is_index w.rows.now ≡ true) × (is_index w.cols.now ≡ true) × IsLastIndex w.count
+AreIndices w = (is_index w.rows.now ≡ true) × (is_index w.cols.now ≡ true) × IsIndexIfAny w.count

@@ -106,10 +106,10 @@ Triplet V = ℕ × ℕ × V
 
 module _ (S : Scalar) where
   -- the value of a field that these words spell
-  unfoldable pub value_of : Field → List (List ℕ) → Read S.Value
-  value_of Integer (word ∷ words) = integer_of word >>= S.from_number
-  value_of Pattern words = S.from_pattern
-  value_of field words = Err TypeMismatch
+  unfoldable pub field_value : Field → List (List ℕ) → Read S.Value
+  field_value Integer (word ∷ words) = integer_of word >>= S.from_number
+  field_value Pattern words = S.from_pattern
+  field_value field words = Err TypeMismatch
 
   abbrev pub placed : Read (ℕ × ℕ) → Read S.Value → Read (Triplet S.Value)
   placed place value = do
@@ -122,10 +122,10 @@ module _ (S : Scalar) where
       → Read (Triplet S.Value)
   entry_of Coordinate field at (row ∷ col ∷ words) =
       if is_index row && is_index col && is_of_field field words
-      then placed (place_of (number_of row) (number_of col)) (value_of field words)
+      then placed (place_of (number_of row) (number_of col)) (field_value field words)
       else Err ParsingError
   entry_of Array field (Some p) words =
-      if is_of_field field words then placed (Ok p) (value_of field words) else Err ParsingError
+      if is_of_field field words then placed (Ok p) (field_value field words) else Err ParsingError
   entry_of format field at words = Err ParsingError
 
   -- an entry, followed by the mirrored one if the symmetry implies one

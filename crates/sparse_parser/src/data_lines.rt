@@ -1,23 +1,23 @@
 //! Data lines.
 
-ghost use Rattle.std.specs.Prelude.{◌≡◌, pos, if◌then◌else◌, IsTrue, false, true, MatchOption};
-ghost use Rattle.std.specs.Str.Parse.{starts_with_minus};
-ghost use lib.IntN.{neg_ℤ};
+ghost use Rattle.std.specs.Prelude.{◌≡◌, IsTrue, false, true, MatchOption, Ok};
 ghost use Rattle.sparse_parser.specs.declared.data_lines.Found.TheVariants as found;
 ghost use Rattle.sparse_parser.specs.Bytes.{is_blank, front, after};
 ghost use Rattle.sparse_parser.specs.InnerBytes.{is_solid};
 ghost use Rattle.sparse_parser.specs.Grammar.{is_integer, is_number, is_entry};
 ghost use Rattle.sparse_parser.specs.Meaning.{integer_of, number_of};
 ghost use Rattle.sparse_parser.specs.InnerReading.{found as found_read, line_words};
-ghost use Rattle.sparse_parser.specs.InnerLines.{is_plain, IsNumber, IsFound, IsLine, StartsWord};
+ghost use Rattle.sparse_parser.specs.InnerLines.{is_plain, is_whole, IsNumber, IsFound, IsLine, StartsWord};
 
 use crate::error::Cause;
 use crate::lines::{after_blanks, ends_line, ends_word, split_solid};
-use crate::numbers::{after_sign, integer, is_number, leading_number};
+use crate::numbers::{
+    after_sign, integer, is_number, leading_number, starts_with_minus, with_sign,
+};
 
-/// The form of a number.
+/// The kinds of numbers.
 #[derive(Clone, Copy)]
-pub enum Kind {
+pub enum NumberKind {
     /// Digits alone.
     Index,
     /// A sign and digits.
@@ -31,7 +31,7 @@ pub enum Kind {
 pub struct Number<'a> {
     word: &'a [u8],
     digits: Option<usize>,
-    kind: Kind,
+    kind: NumberKind,
 }
 
 /// The first item of a line.
@@ -60,7 +60,7 @@ impl Number<'_> {
     pub fn is_index(&self) -> bool
         ensures { result ≡ is_plain self.now.kind }
     {
-        matches!(self.kind, Kind::Index)
+        matches!(self.kind, NumberKind::Index)
     }
 
     /// Returns the value of an index, or an error if it exceeds `usize`.
@@ -80,11 +80,22 @@ impl Number<'_> {
         requires { IsNumber self.now }
         ensures { found_read result ≡ integer_of self.now.word.now }
     {
-        match (self.kind, self.digits) {
-            (Kind::Other, _) => Err(Cause::NotAnI128),
-            (_, Some(digits)) => Ok(with_sign(digits, self.word)),
+        match (self.kind, self.short_integer()) {
+            (NumberKind::Other, _) => Err(Cause::NotAnI128),
+            (_, Some(value)) => Ok(i128::from(value)),
             (_, None) => long_integer(self.word),
         }
+    }
+
+    // The value of an integer, if its digits fit in 63 bits.
+    #[inline(always)]
+    fn short_integer(&self) -> Option<i64>
+        requires { IsNumber self.now }
+        ensures { MatchOption result (Unit {0}) (λ value. IsTrue (is_whole self.now.kind)
+            → integer_of self.now.word.now ≡ Ok value) }
+    {
+        let digits = self.digits?;
+        with_sign(digits, starts_with_minus(self.word))
     }
 }
 
@@ -128,7 +139,7 @@ pub fn data_line(text: &[u8]) -> Option<(Line<'_>, &[u8])>
 fn next_number(text: &[u8]) -> Found<'_>
     ensures { IsFound text.now result }
 {
-    if let Some((number, rest)) = whole_number(text) {
+    if let Some((number, rest)) = leading_integer(text) {
         return Found::Number(number, rest);
     }
     let text = after_blanks(text);
@@ -140,7 +151,7 @@ fn next_number(text: &[u8]) -> Found<'_>
 
 // The integer at the start of a line, after leading blanks.
 #[inline(always)]
-fn whole_number(text: &[u8]) -> Option<(Number<'_>, &[u8])>
+fn leading_integer(text: &[u8]) -> Option<(Number<'_>, &[u8])>
     ensures { MatchOption result (is_integer (front is_solid (after is_blank text.now)) ≡ false)
         (λ x. IsFound text.now (found.Number x.0 x.1)) }
 {
@@ -152,9 +163,9 @@ fn whole_number(text: &[u8]) -> Option<(Number<'_>, &[u8])>
     }
     let word = &text[..text.len() - rest.len()];
     let kind = if unsigned.len() == text.len() {
-        Kind::Index
+        NumberKind::Index
     } else {
-        Kind::Signed
+        NumberKind::Signed
     };
     Some((Number { word, digits, kind }, rest))
 }
@@ -173,22 +184,12 @@ fn other_number(text: &[u8]) -> Found<'_>
     let number = Number {
         word,
         digits: None,
-        kind: Kind::Other,
+        kind: NumberKind::Other,
     };
     Found::Number(number, rest)
 }
 
-// The value of digits with the sign of their word.
-fn with_sign(digits: usize, word: &[u8]) -> i128
-    ensures { result ≡ (if starts_with_minus word.now then neg_ℤ (pos digits) else pos digits) }
-{
-    match word {
-        [b'-', ..] => -(digits as i128),
-        _ => digits as i128,
-    }
-}
-
-// The value of an integer whose digits exceed 64 bits.
+// The value of an integer whose digits exceed 63 bits.
 #[tactic(auto, unfolding(crate::specs::Meaning::integer_of))]
 #[cold]
 fn long_integer(word: &[u8]) -> Result<i128, Cause>

@@ -1,11 +1,13 @@
 //! Numbers at a position of a text: runs of digits.
 
-ghost use Rattle.std.specs.Prelude.{◌≤◌, ◌<◌, ◌+◌, MatchOption, length, drop};
-ghost use Rattle.sparse_parser.specs.InnerNumbers.{IsNumberRead, IsRunRead};
+ghost use Rattle.std.specs.Prelude.{◌≤◌, ◌+◌, MatchOption, length, drop};
+ghost use Rattle.sparse_parser.specs.InnerNumbers.{IsNumberRead, HasStopped};
 
 use crate::lines::text_from;
-use crate::numbers::SHORT;
 use core::dec2flt::read_digits;
+
+/// 19 digits always fit in 64 bits.
+pub const SHORT: usize = 19;
 
 /// Returns the value of at most 19 digits at a position, and the position after them.
 #[inline(always)]
@@ -14,32 +16,29 @@ pub fn digits_at(text: &[u8], from: usize) -> (usize, usize)
     ensures inside { result.1 ≤ length text.now }
     ensures read { IsNumberRead (drop from text.now) result.0 (drop result.1 text.now) }
 {
-    if from >= 5 && text.len() - from >= 8 {
-        if let Some((number, end)) = few_digits_at(text, from, 0) {
+    if from >= 5 && text.len() - from >= 7 {
+        if let Some((number, end)) = few_digits_at(text, from) {
             return (number, end);
         }
     }
     many_digits_at(text, from)
 }
 
-/// Returns the value of a digit and of up to six more at a position, and the position after them, or `None` if more
-/// follow.
-///
-/// No branch depends on how many there are: `read_digits` has no loop to go through where less than eight of at least
-/// twelve bytes are left. So it gets five bytes before the digits too.
+// The value of at most six digits at a position, and the position after them, or `None` if there are more.
+//
+// No branch depends on how many there are: `read_digits` has no loop to go through where less than eight of at least
+// twelve bytes are left. So it gets five bytes before the digits too.
 #[inline(always)]
-pub fn few_digits_at(text: &[u8], from: usize, first: u64) -> Option<(usize, usize)>
+fn few_digits_at(text: &[u8], from: usize) -> Option<(usize, usize)>
     requires before { 5 ≤ from }
-    requires behind { from + 8 ≤ length text.now }
-    requires digit { first ≤ 9 }
-    ensures inside { MatchOption result (Unit {0}) (λ found. found.1 + 1 < length text.now) }
-    ensures some { MatchOption result (Unit {0}) (λ found. from ≤ found.1) }
+    requires behind { from + 7 ≤ length text.now }
+    ensures inside { MatchOption result (Unit {0}) (λ found. found.1 ≤ length text.now) }
     ensures read { MatchOption result (Unit {0})
-        (λ found. IsRunRead first (drop from text.now) found.0 (drop found.1 text.now)) }
+        (λ found. IsNumberRead (drop from text.now) found.0 (drop found.1 text.now)) }
 {
     let before = text_from(text, from - 5);
     let (window, _) = before.split_at(12);
-    let (end, number) = read_digits(window, 5, first);
+    let (end, number) = read_digits(window, 5, 0);
     if end < 12 {
         Some((number as usize, from + (end - 5)))
     } else {
@@ -47,7 +46,7 @@ pub fn few_digits_at(text: &[u8], from: usize, first: u64) -> Option<(usize, usi
     }
 }
 
-// The same where more than six digits may follow.
+// The value of at most 19 digits, where more than six may follow.
 #[cold]
 fn many_digits_at(text: &[u8], from: usize) -> (usize, usize)
     requires { from ≤ length text.now }
@@ -75,15 +74,15 @@ pub fn long_digits_at(text: &[u8], from: usize) -> (usize, usize)
     first_digits_at(text, from)
 }
 
-// The value of at most 19 digits at a position, one by one, and the position after them.
+/// Returns the value of at most 19 digits at a position, read one by one, and the position after them.
 #[inline(always)]
-fn first_digits_at(text: &[u8], from: usize) -> (usize, usize)
+pub fn first_digits_at(text: &[u8], from: usize) -> (usize, usize)
     requires { from ≤ length text.now }
     ensures inside { result.1 ≤ length text.now }
     ensures read { IsNumberRead (drop from text.now) result.0 (drop result.1 text.now) }
+    ensures stopped { HasStopped (drop from text.now) (drop result.1 text.now) }
 {
-    let room = (text.len() - from).min(SHORT);
-    let end = from + room;
+    let end = from + (text.len() - from).min(SHORT);
     let mut number = 0;
     let mut at = from;
     while at < end && text[at].is_ascii_digit() {

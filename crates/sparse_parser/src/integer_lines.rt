@@ -2,18 +2,16 @@
 //!
 //! The lines are read by positions in one text, which takes half as many instructions as a slice for each number.
 
-ghost use Rattle.std.specs.Prelude.{◌≡◌, ◌≢◌, ◌≤◌, pos, true, if◌then◌else◌, MatchOption, length};
-ghost use Rattle.std.specs.Prelude.{drop};
-ghost use Rattle.std.specs.Str.Parse.{starts_with_minus, without_leading_sign};
-ghost use lib.IntN.{neg_ℤ};
+ghost use Rattle.std.specs.Prelude.{◌≡◌, ◌≢◌, ◌≤◌, true, MatchOption, length, drop};
+ghost use Rattle.std.specs.Str.Parse.{without_leading_sign};
 ghost use Rattle.sparse_parser.specs.Bytes.{is_blank, after};
-ghost use Rattle.sparse_parser.specs.InnerBytes.{BeginsLine};
 ghost use Rattle.sparse_parser.specs.InnerLines.{ends_word};
 ghost use Rattle.sparse_parser.specs.InnerIntegers.{IsIndexAt, IsEndAt, IsLastIndex, IsLastNumber};
 ghost use Rattle.sparse_parser.specs.InnerIntegers.{IsIntegerLine, IsPlaceLine, IsValueLine};
 
 use crate::digit_runs::{digits_at, long_digits_at};
 use crate::lines::{ends_line, ends_word, is_blank, text_from};
+use crate::numbers::{starts_with_minus, with_sign};
 
 /// Parses the line at a position as two indices and an integer. Returns the row, the column, the value and the position
 /// of the line's end, or `None` if the line has another form.
@@ -26,7 +24,7 @@ pub fn integer_line(text: &[u8], from: usize) -> Option<(usize, usize, i64, usiz
 {
     let (row, at) = index_at(text, from)?;
     let (col, at) = index_at(text, at)?;
-    let (value, end) = last_integer(text, at)?;
+    let (value, end) = value_line(text, at)?;
     Some((row, col, value, end))
 }
 
@@ -44,24 +42,10 @@ pub fn place_line(text: &[u8], from: usize) -> Option<(usize, usize, usize)>
     Some((row, col, end))
 }
 
-/// Parses the line at a position as an integer. Returns the value and the position of the line's end, or `None` if the
-/// line has another form.
+/// Parses the line at a position as an integer, after blanks. Returns the value and the position of the line's end, or
+/// `None` if the line has another form.
 #[inline(always)]
 pub fn value_line(text: &[u8], from: usize) -> Option<(i64, usize)>
-    requires inside { from ≤ length text.now }
-    requires begins { BeginsLine (drop from text.now) }
-    ensures inside { MatchOption result (Unit {0}) (λ line. line.1 ≤ length text.now) }
-    ensures line { MatchOption result (Unit {0})
-        (λ line. IsValueLine (drop from text.now) line.0 (drop line.1 text.now)) }
-{
-    let (number, end) = whole_number(text, after_sign_at(text, from))?;
-    let value = signed(number, starts_with_minus(text_from(text, from)))?;
-    Some((value, end))
-}
-
-// The integer at a position, after blanks, and the position of the line's end.
-#[inline(always)]
-fn last_integer(text: &[u8], from: usize) -> Option<(i64, usize)>
     requires { from ≤ length text.now }
     ensures inside { MatchOption result (Unit {0}) (λ line. line.1 ≤ length text.now) }
     ensures line { MatchOption result (Unit {0})
@@ -69,7 +53,7 @@ fn last_integer(text: &[u8], from: usize) -> Option<(i64, usize)>
 {
     let start = skip_blanks(text, from);
     let (number, end) = last_number(text, after_sign_at(text, start))?;
-    let value = signed(number, starts_with_minus(text_from(text, start)))?;
+    let value = with_sign(number, starts_with_minus(text_from(text, start)))?;
     Some((value, end))
 }
 
@@ -87,26 +71,6 @@ fn last_number(text: &[u8], from: usize) -> Option<(usize, usize)>
         return Some((number, from + 1));
     }
     let (number, end) = long_digits_at(text, from);
-    if end == from {
-        return None;
-    }
-    let end = number_end(text, end)?;
-    Some((number, end))
-}
-
-// The same for the number of a line that has nothing else, most often with LF behind it. One digit is no case of its
-// own, since arrays whose values are short are read by `short_value_line`.
-#[inline(always)]
-fn whole_number(text: &[u8], from: usize) -> Option<(usize, usize)>
-    requires { from ≤ length text.now }
-    ensures inside { MatchOption result (Unit {0}) (λ found. found.1 ≤ length text.now) }
-    ensures number { MatchOption result (Unit {0})
-        (λ found. IsLastNumber (drop from text.now) found.0 (drop found.1 text.now)) }
-{
-    let (number, end) = long_digits_at(text, from);
-    if end > from && end < text.len() && text[end] == b'\n' {
-        return Some((number, end));
-    }
     if end == from {
         return None;
     }
@@ -194,28 +158,6 @@ fn after_sign_at(text: &[u8], at: usize) -> usize
 {
     let is_signed = at < text.len() && ((text[at] == b'+') | (text[at] == b'-'));
     at + usize::from(is_signed)
-}
-
-#[inline(always)]
-fn starts_with_minus(text: &[u8]) -> bool
-    ensures { result ≡ starts_with_minus text.now }
-{
-    match text {
-        [first, ..] => *first == b'-',
-        [] => false,
-    }
-}
-
-// A number or its negative, if it fits. The sign is selected without a branch, since signs are hard to predict.
-#[inline(always)]
-fn signed(number: usize, is_negative: bool) -> Option<i64>
-    ensures { MatchOption result (Unit {0})
-        (λ value. value ≡ (if is_negative then neg_ℤ (pos number) else pos number)) }
-{
-    match i64::try_from(number) {
-        Ok(value) => Some(if is_negative { -value } else { value }),
-        Err(_) => None,
-    }
 }
 
 // The position of the line's end, if a number ends here and only blanks come before it.

@@ -8,5 +8,4 @@ pub mod header;
 pub mod integer_lines;
 pub mod lines;
 pub mod numbers;
-pub mod short_values;
 pub mod size;

@@ -1,37 +1,20 @@
 //! Numbers at the start of a text.
 
 ghost use Rattle.std.specs.Prelude.{◌≡◌, ◌<◌, ◌+◌, ◌*◌, ◌^◌, ◌||◌, IsTrue, FitsSigned, count_by};
+ghost use Rattle.std.specs.Prelude.{pos, if◌then◌else◌, MatchOption};
 ghost use Rattle.std.specs.Option.{SomeIff};
 ghost use Rattle.std.specs.List.{list_all, list_any};
 ghost use Rattle.std.specs.Char.{is_ascii_digit};
 ghost use Rattle.std.specs.Str.Parse.{without_leading_sign, digits_value, digits_value_after};
-ghost use Rattle.std.specs.Str.Parse.{signed_digits_value};
+ghost use Rattle.std.specs.Str.Parse.{signed_digits_value, starts_with_minus};
 ghost use Rattle.std.specs.Int.{w128};
+ghost use lib.IntN.{neg_ℤ};
 ghost use Rattle.sparse_parser.specs.Grammar.{is_index, is_integer, is_mantissa, is_exponent};
 ghost use Rattle.sparse_parser.specs.Grammar.{is_number};
 ghost use Rattle.sparse_parser.specs.Bytes.{front, after, is_exponent_letter, is_point};
-ghost use Rattle.sparse_parser.specs.InnerNumbers.{IsNumberRead, HasStopped};
 
-use crate::lines::split_front;
-
-/// 19 digits always fit in 64 bits.
-pub const SHORT: usize = 19;
-
-// Parses at most 19 leading digits. Returns their value and the rest of the text.
-#[inline(always)]
-fn short_number(text: &[u8]) -> (usize, &[u8])
-    ensures read { IsNumberRead text.now result.0 result.1.now }
-    ensures stopped { HasStopped text.now result.1.now }
-{
-    let end = text.len().min(SHORT);
-    let mut number = 0;
-    let mut at = 0;
-    while at < end && text[at].is_ascii_digit() {
-        number = number * 10 + usize::from(text[at] - b'0');
-        at += 1;
-    }
-    (number, &text[at..])
-}
+use crate::digit_runs::{SHORT, first_digits_at};
+use crate::lines::{split_front, text_from};
 
 /// Parses all leading digits. Returns their value, or `None` if it exceeds 64 bits, and the rest of the text.
 pub fn leading_number(text: &[u8]) -> (Option<usize>, &[u8])
@@ -40,8 +23,9 @@ pub fn leading_number(text: &[u8]) -> (Option<usize>, &[u8])
         (digits_value 10 (front is_ascii_digit text.now)) }
     ensures rest { result.1.now ≡ after is_ascii_digit text.now }
 {
-    let (number, rest) = short_number(text);
-    if text.len() - rest.len() == SHORT {
+    let (number, end) = first_digits_at(text, 0);
+    let rest = text_from(text, end);
+    if end == SHORT {
         return long_number(number, rest);
     }
     (Some(number), rest)
@@ -80,6 +64,30 @@ fn after_digits(text: &[u8]) -> &[u8]
 {
     let (_, rest) = split_front(text, |byte| byte.is_ascii_digit());
     rest
+}
+
+/// Returns whether a text starts with a minus.
+#[inline(always)]
+pub fn starts_with_minus(text: &[u8]) -> bool
+    ensures { result ≡ starts_with_minus text.now }
+{
+    match text {
+        [first, ..] => *first == b'-',
+        [] => false,
+    }
+}
+
+/// Returns a number or its negative, or `None` if the number exceeds `i64`. The sign is selected without a branch, since
+/// signs are hard to predict.
+#[inline(always)]
+pub fn with_sign(number: usize, is_negative: bool) -> Option<i64>
+    ensures { MatchOption result (Unit {0})
+        (λ value. value ≡ (if is_negative then neg_ℤ (pos number) else pos number)) }
+{
+    match i64::try_from(number) {
+        Ok(value) => Some(if is_negative { -value } else { value }),
+        Err(_) => None,
+    }
 }
 
 /// Returns the value of an integer, or `None` if it exceeds `i128`.

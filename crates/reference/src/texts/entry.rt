@@ -4,7 +4,8 @@ ghost use Rattle.std.specs.Prelude.{◌≡◌, ℕ, true, IsTrue, Option, map};
 ghost use Rattle.sparse_parser.specs.Grammar.{is_index};
 ghost use Rattle.sparse_parser.specs.declared.header.Format.TheVariants.{Coordinate, Array};
 ghost use Rattle.sparse_parser.specs.Reads.{read_as};
-ghost use Rattle.sparse_parser.specs.Meaning.{value_of, entry_of, place_of, number_of, is_of_field};
+ghost use Rattle.sparse_parser.specs.Meaning.{field_value, entry_of, place_of, number_of};
+ghost use Rattle.sparse_parser.specs.Meaning.{is_of_field};
 ghost use Rattle.sparse_parser.specs.Meaning.{mirrored, triplets_of, value_triplet};
 ghost use Rattle.reference.specs.Texts.{seen};
 ghost use Rattle.reference.specs.InnerTexts.{texts, both_of};
@@ -54,7 +55,7 @@ fn coordinate_entry<T: MatrixMarketScalar>(
         return Err(MatrixMarketErrorKind::ParsingError);
     }
     let (row, col) = place(row, col)?;
-    Ok((row, col, value_of(field, value)?))
+    Ok((row, col, field_value(field, value)?))
 }
 
 // The entry of an array at its place.
@@ -68,7 +69,7 @@ fn array_entry<T: MatrixMarketScalar>(
         ≡ entry_of T.scalar Array field at (texts words.now) }
 {
     match at {
-        Some((row, col)) if is_of_field(field, words) => Ok((row, col, value_of(field, words)?)),
+        Some((row, col)) if is_of_field(field, words) => Ok((row, col, field_value(field, words)?)),
         _ => Err(MatrixMarketErrorKind::ParsingError),
     }
 }
@@ -101,13 +102,13 @@ fn place(row: &[u8], col: &[u8]) -> Result<(usize, usize), MatrixMarketErrorKind
 }
 
 // The value that words of its field write.
-#[tactic(auto, unfolding(sparse_parser::specs::Meaning::value_of))]
-fn value_of<T: MatrixMarketScalar>(
+#[tactic(auto, unfolding(sparse_parser::specs::Meaning::field_value))]
+fn field_value<T: MatrixMarketScalar>(
     field: Field,
     words: &[&[u8]],
 ) -> Result<T, MatrixMarketErrorKind>
     requires { is_of_field field (texts words.now) ≡ true }
-    ensures { seen T.value result ≡ value_of T.scalar field (texts words.now) }
+    ensures { seen T.value result ≡ field_value T.scalar field (texts words.now) }
 {
     match (field, words) {
         (Field::Integer, [word, ..]) => kind_of(T::from_i128(integer(word)?)),

@@ -5,7 +5,7 @@ ghost use Rattle.sparse_parser.specs.declared.header.Format.TheVariants.{Coordin
 ghost use Rattle.sparse_parser.specs.declared.header.Field.TheVariants.{Integer};
 ghost use Rattle.sparse_parser.specs.Errors.{kind_of_cause};
 ghost use Rattle.sparse_parser.specs.Reads.{read_as};
-ghost use Rattle.sparse_parser.specs.Meaning.{number_of, place_of, value_of, placed, entry_of};
+ghost use Rattle.sparse_parser.specs.Meaning.{number_of, place_of, field_value, placed, entry_of};
 ghost use Rattle.sparse_parser.specs.Meaning.{mirrored, triplets_of, value_triplet};
 ghost use Rattle.sparse_parser.specs.InnerReading.{found};
 ghost use Rattle.sparse_parser.specs.InnerLines.{is_plain, IsNumber, AreNumbers, words_in};
@@ -86,7 +86,7 @@ pub fn value_triplets<T: MatrixMarketScalar>(
 }
 
 // The entry of a coordinate line.
-#[tactic(auto, unfolding(sparse_parser::specs::Meaning::entry_of, sparse_parser::specs::Meaning::value_of))]
+#[tactic(auto, unfolding(sparse_parser::specs::Meaning::entry_of, sparse_parser::specs::Meaning::field_value))]
 fn coordinate_entry<T: MatrixMarketScalar>(
     field: Field,
     line: Line<'_>,
@@ -142,7 +142,7 @@ fn integer_entry<T: MatrixMarketScalar>(
     requires col_index { is_plain col.kind ≡ true }
     ensures { read_as (λ t. value_triplet T.value t) result
         ≡ placed T.scalar (place_of (number_of row.entry.word.now) (number_of col.entry.word.now))
-        (value_of T.scalar Integer (value.entry.word.now ∷ [])) }
+        (field_value T.scalar Integer (value.entry.word.now ∷ [])) }
 {
     integer_at(index_place(row, col)?, value)
 }
@@ -167,7 +167,7 @@ fn refused_entry<T: MatrixMarketScalar>(
 }
 
 // The entry of an array, which has the given place.
-#[tactic(auto, unfolding(sparse_parser::specs::Meaning::entry_of, sparse_parser::specs::Meaning::value_of))]
+#[tactic(auto, unfolding(sparse_parser::specs::Meaning::entry_of, sparse_parser::specs::Meaning::field_value))]
 fn array_entry<T: MatrixMarketScalar>(
     field: Field,
     at: Option<(usize, usize)>,
@@ -196,7 +196,7 @@ fn integer_at<T: MatrixMarketScalar>(
 ) -> Result<Triplet<T>, MatrixMarketError>
     requires { IsNumber number }
     ensures { read_as (λ t. value_triplet T.value t) result
-        ≡ placed T.scalar (Ok place) (value_of T.scalar Integer (number.entry.word.now ∷ [])) }
+        ≡ placed T.scalar (Ok place) (field_value T.scalar Integer (number.entry.word.now ∷ [])) }
 {
     Ok((place.0, place.1, integer_value(number)?))
 }
@@ -229,11 +229,11 @@ fn place(row: usize, col: usize) -> Result<(usize, usize), Cause>
 }
 
 // The value of an integer entry.
-#[tactic(auto, unfolding(sparse_parser::specs::Meaning::value_of))]
+#[tactic(auto, unfolding(sparse_parser::specs::Meaning::field_value))]
 fn integer_value<T: MatrixMarketScalar>(number: Number<'_>) -> Result<T, MatrixMarketError>
     requires { IsNumber number }
     ensures { read_as (λ x. T.value x) result
-        ≡ value_of T.scalar Integer (number.entry.word.now ∷ []) }
+        ≡ field_value T.scalar Integer (number.entry.word.now ∷ []) }
 {
     T::from_i128(number.integer()?)
 }

@@ -8,15 +8,13 @@ ghost use Rattle.sparse_io.specs.InnerPlaces.{places_left};
 
 use crate::reader::entry::{Triplets, integer_triplets, place_triplets, value_triplets};
 use crate::reader::places::Places;
-use crate::reader::values::Values;
 use sparse_market_scalar::MatrixMarketScalar;
 use sparse_parser::header::Header;
-use sparse_parser::integer_lines::{integer_line, place_line};
+use sparse_parser::integer_lines::{integer_line, place_line, value_line};
 use sparse_parser::lines::next_line_at;
-use std::marker::PhantomData;
 
 /// A kind of data line.
-pub trait Kind<T: MatrixMarketScalar> {
+pub trait LineKind<T: MatrixMarketScalar> {
     ghost use Rattle.sparse_parser.specs.declared.header.Header.{Header};
 
     // The headers of the files that have such lines.
@@ -45,10 +43,10 @@ pub struct IntegerLines;
 /// Lines of two indices.
 pub struct PlaceLines;
 
-/// Lines of an integer, of a kind of values.
-pub struct ValueLines<V>(PhantomData<V>);
+/// Lines of an integer, as arrays have them.
+pub struct ValueLines;
 
-impl<T: MatrixMarketScalar> Kind<T> for IntegerLines {
+impl<T: MatrixMarketScalar> LineKind<T> for IntegerLines {
     ghost use Rattle.sparse_io.specs.InnerEntries.{HasIntegers};
 
     ghost is_for = { HasIntegers };
@@ -68,7 +66,7 @@ impl<T: MatrixMarketScalar> Kind<T> for IntegerLines {
     }
 }
 
-impl<T: MatrixMarketScalar> Kind<T> for PlaceLines {
+impl<T: MatrixMarketScalar> LineKind<T> for PlaceLines {
     ghost use Rattle.sparse_io.specs.InnerEntries.{HasPlaces};
 
     ghost is_for = { HasPlaces };
@@ -88,7 +86,7 @@ impl<T: MatrixMarketScalar> Kind<T> for PlaceLines {
     }
 }
 
-impl<T: MatrixMarketScalar, V: Values> Kind<T> for ValueLines<V> {
+impl<T: MatrixMarketScalar> LineKind<T> for ValueLines {
     ghost use Rattle.sparse_io.specs.InnerEntries.{HasValues};
 
     ghost is_for = { HasValues };
@@ -103,9 +101,9 @@ impl<T: MatrixMarketScalar, V: Values> Kind<T> for ValueLines<V> {
         if places.is_empty() {
             return None;
         }
-        let (value, next) = V::line(text, from)?;
+        let (value, end) = value_line(text, from)?;
         match value_triplets(header.symmetry, places.first(), i128::from(value)) {
-            Ok(found) => Some((found, next)),
+            Ok(found) => Some((found, next_line_at(text, end))),
             Err(_) => None,
         }
     }

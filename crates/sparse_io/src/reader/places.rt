@@ -1,6 +1,6 @@
 //! The places of an array's entries.
 
-ghost use Rattle.std.specs.Prelude.{◌≡◌, ◌+◌, ◌<◌, ◌≤◌, ◌==◌, ℕ, Some, slice_get, drop, length};
+ghost use Rattle.std.specs.Prelude.{◌≡◌, ◌<◌, ◌==◌, Some, slice_get, drop, length};
 ghost use Rattle.sparse_parser.specs.ArrayPlaces.{first_row, places_of};
 
 use sparse_parser::header::{Format, Symmetry};
@@ -19,7 +19,6 @@ pub struct Places {
 
 impl Places {
     ghost use Rattle.sparse_io.specs.InnerPlaces.{places_left, left_from, columns_left};
-    ghost use Rattle.sparse_io.specs.InnerPlaces.{rows_left_of, IsDownFrom};
 
     /// Returns the places of an array of these sizes. In the coordinate format there are none, since each data line
     /// gives its own.
@@ -57,36 +56,15 @@ impl Places {
         (self.row, self.col)
     }
 
-    /// Returns how many of the places that are left lie in the column of the first one. There must be one.
-    #[inline(always)]
-    pub fn rows_left(&self) -> usize
-        requires { 0 < length (places_left self.now) }
-        ensures some { 0 < result }
-        ensures count { result ≡ rows_left_of self.now }
-        ensures column { (p : ℕ × ℕ) → slice_get (places_left self.now) 0 ≡ Some p
-            → IsDownFrom p result (places_left self.now) }
-    {
-        self.rows - self.row
-    }
-
     /// Removes the first place, if there is one.
     #[inline(always)]
     pub fn remove_first(&mut self)
         ensures { places_left self.new ≡ drop 1 (places_left self.old) }
     {
-        if !self.is_empty() {
-            self.remove(1);
+        if self.is_empty() {
+            return;
         }
-    }
-
-    /// Removes the first `n` places, which lie in the column of the first one. There must be one.
-    #[inline(always)]
-    pub fn remove(&mut self, n: usize)
-        requires some { 0 < length (places_left self.old) }
-        requires within { n ≤ rows_left_of self.old }
-        ensures { places_left self.new ≡ drop n (places_left self.old) }
-    {
-        self.row += n;
+        self.row += 1;
         if self.row >= self.rows {
             let next = self.col + 1;
             let (row, col) = Places::first_from(self.symmetry, self.rows, self.cols, next);

@@ -5,21 +5,19 @@
 ghost use Rattle.std.specs.Prelude.{◌≡◌, ◌≤◌, ◌+◌, true, length};
 ghost use Rattle.sparse_parser.specs.InnerBytes.{BeginsLine};
 ghost use Rattle.sparse_parser.specs.Meaning.{values_of};
-ghost use Rattle.sparse_io.specs.InnerEntries.{symmetry_of, HasValues, IsReadOn, reading};
+ghost use Rattle.sparse_io.specs.InnerEntries.{numbered_symmetry, IsReadOn, reading};
 ghost use Rattle.sparse_io.specs.InnerPlaces.{places_left};
 
-use crate::reader::columns::columns;
-use crate::reader::kinds::{IntegerLines, Kind, PlaceLines, ValueLines};
+use crate::reader::kinds::{IntegerLines, LineKind, PlaceLines, ValueLines};
 use crate::reader::places::Places;
 use crate::reader::pushes::{append_all, are_inside};
-use crate::reader::values::{Digits, Integers, Shorts};
 use sparse_base::CooAppender;
 use sparse_base::coo::CooMatrix;
 use sparse_market_scalar::MatrixMarketScalar;
 use sparse_parser::header::{Field, Format, Header, Symmetry};
 
-/// Reads lines of integers or places as long as they have the common form, their triplets lie within the shape and
-/// there is memory for them. Returns the matrix, the number of data lines and the text that is left.
+/// Reads lines of integers, places or values as long as they have the common form, their triplets lie within the shape
+/// and there is memory for them. Returns the matrix, the number of data lines and the text that is left.
 pub fn common_lines<'a, T: MatrixMarketScalar>(
     header: Header,
     matrix: CooMatrix<T>,
@@ -45,44 +43,15 @@ pub fn common_lines<'a, T: MatrixMarketScalar>(
         (Format::Coordinate, Field::Pattern) => {
             lines_of::<T, PlaceLines>(header, matrix, places, read, text)
         }
-        (Format::Array, Field::Integer) => array_lines(header, matrix, places, read, text),
+        (Format::Array, Field::Integer) => {
+            lines_of::<T, ValueLines>(header, matrix, places, read, text)
+        }
         _ => (matrix, read, text),
     }
 }
 
-// Reads the lines of an array: those of one digit, as long as all have one, those of short integers, and then those of
-// any integer.
-fn array_lines<'a, T: MatrixMarketScalar>(
-    header: Header,
-    matrix: CooMatrix<T>,
-    places: &mut Places,
-    read: usize,
-    text: &'a [u8],
-) -> (CooMatrix<T>, usize, &'a [u8])
-    requires kind { HasValues header }
-    requires begins { BeginsLine text.now }
-    requires room { read + length text.now ≤ usize.MAX }
-    ensures { IsReadOn T.scalar header
-        (reading read true (places_left places.old) (values_of T.value matrix) text.now)
-        (reading result.1 true (places_left places.new) (values_of T.value result.0)
-        result.2.now) }
-{
-    if let Symmetry::General = header.symmetry {
-        let (matrix, read, others) = columns::<T, Digits>(matrix, places, read, text);
-        let (matrix, read, others) = columns::<T, Shorts>(matrix, places, read, others);
-        return columns::<T, Integers>(matrix, places, read, others);
-    }
-    let (matrix, read, others) = lines_of::<T, ValueLines<Digits>>(
-        header, matrix, places, read, text,
-    );
-    let (matrix, read, others) = lines_of::<T, ValueLines<Shorts>>(
-        header, matrix, places, read, others,
-    );
-    lines_of::<T, ValueLines<Integers>>(header, matrix, places, read, others)
-}
-
 // Reads lines of one kind.
-fn lines_of<'a, T: MatrixMarketScalar, K: Kind<T>>(
+fn lines_of<'a, T: MatrixMarketScalar, K: LineKind<T>>(
     header: Header,
     matrix: CooMatrix<T>,
     places: &mut Places,
@@ -101,7 +70,8 @@ fn lines_of<'a, T: MatrixMarketScalar, K: Kind<T>>(
         Symmetry::General => run::<T, K, GENERAL>(header, matrix, places, read, text),
         Symmetry::Symmetric => run::<T, K, SYMMETRIC>(header, matrix, places, read, text),
         Symmetry::SkewSymmetric => run::<T, K, SKEW_SYMMETRIC>(header, matrix, places, read, text),
-        Symmetry::Hermitian => run::<T, K, HERMITIAN>(header, matrix, places, read, text),
+        // A hermitian matrix is complex, and has no such lines.
+        Symmetry::Hermitian => (matrix, read, text),
     }
 }
 
@@ -112,15 +82,13 @@ const SYMMETRIC: u8 = 1;
 
 const SKEW_SYMMETRIC: u8 = 2;
 
-const HERMITIAN: u8 = 3;
-
 // Reads lines of one kind as long as they have the common form, their triplets lie within the shape and there is room
 // for two more.
 //
 // The matrix is passed by value, so that its pointers stay in registers. No test of its own ends the loop with the
 // text: an empty text has no line of any kind.
 #[inline(never)]
-fn run<'a, T: MatrixMarketScalar, K: Kind<T>, const SYMMETRY: u8>(
+fn run<'a, T: MatrixMarketScalar, K: LineKind<T>, const SYMMETRY: u8>(
     header: Header,
     matrix: CooMatrix<T>,
     places: &mut Places,
@@ -128,14 +96,14 @@ fn run<'a, T: MatrixMarketScalar, K: Kind<T>, const SYMMETRY: u8>(
     text: &'a [u8],
 ) -> (CooMatrix<T>, usize, &'a [u8])
     requires kind { K.is_for header }
-    requires symmetry { symmetry_of SYMMETRY ≡ header.symmetry }
+    requires symmetry { numbered_symmetry SYMMETRY ≡ header.symmetry }
     requires begins { BeginsLine text.now }
     requires room { read + length text.now ≤ usize.MAX }
     ensures { IsReadOn T.scalar header
         (reading read true (places_left places.old) (values_of T.value matrix) text.now)
         (reading result.1 true (places_left places.new) (values_of T.value result.0) result.2.now) }
 {
-    let header = known::<SYMMETRY>(header);
+    let header = with_symmetry::<SYMMETRY>(header);
     let mut list = CooAppender::new(matrix);
     let mut left = *places;
     let mut at = 0;
@@ -156,27 +124,26 @@ fn run<'a, T: MatrixMarketScalar, K: Kind<T>, const SYMMETRY: u8>(
     (list.into_matrix(), read, rest)
 }
 
-// A header, with its symmetry as a constant.
+// The same header, with its symmetry as a constant.
 #[inline(always)]
-fn known<const SYMMETRY: u8>(header: Header) -> Header
-    requires { symmetry_of SYMMETRY ≡ header.symmetry }
+fn with_symmetry<const SYMMETRY: u8>(header: Header) -> Header
+    requires { numbered_symmetry SYMMETRY ≡ header.symmetry }
     ensures { result ≡ header }
 {
     Header {
         format: header.format,
         field: header.field,
-        symmetry: symmetry_of(SYMMETRY),
+        symmetry: numbered_symmetry(SYMMETRY),
     }
 }
 
 #[inline(always)]
-fn symmetry_of(number: u8) -> Symmetry
-    ensures { result ≡ symmetry_of number }
+fn numbered_symmetry(number: u8) -> Symmetry
+    ensures { result ≡ numbered_symmetry number }
 {
     match number {
         0 => Symmetry::General,
         1 => Symmetry::Symmetric,
-        2 => Symmetry::SkewSymmetric,
-        _ => Symmetry::Hermitian,
+        _ => Symmetry::SkewSymmetric,
     }
 }

@@ -1,8 +1,9 @@
 use Rattle.std.proofs.lemmas.Grind.{common_steps}
 use Rattle.std.proofs.Common.{◌≡◌, ◌<◌, ◌≤◌, ◌+◌, ◌-◌, ◌*◌, ◌^◌, get_or, length, sym, subst, ◌∙◌}
-use Rattle.std.proofs.Common.{arith, rules, ℕ, true}
+use Rattle.std.proofs.Common.{arith, rules, ℕ, true, inl}
 use Rattle.std.specs.Char.{is_ascii_digit}
-use Rattle.sparse_parser.proofs.Digits.{digit_small, short_fits}
+use Rattle.sparse_parser.proofs.Digits.{digit_small, short_fits, stopped_end}
+use Rattle.sparse_parser.proofs.Fronts.{front-drop_stop}
 use Rattle.sparse_parser.proofs.Positions.{after_passed, digit_read, digits_below}
 use Rattle.sparse_parser.proofs.digit_runs.first_digits_at.Goals as goal
 
@@ -38,6 +39,16 @@ loop-at-preserved c =
       rest = after_passed is_ascii_digit _ _ inside digit ∙ c.loop-at.invariant.rest;
       number = rw is (digit_read c.loop-at.number _ _ inside digit ∙ c.loop-at.invariant.number);
     }
+
+pub returns-after-loop-at-clause-stopped : goal.returns-after-loop-at-clause-stopped
+returns-after-loop-at-clause-stopped c =
+    stopped_end c.args.text.now c.args.from c.loop-at.at _ c.requires (omega arith)
+    c.loop-at-test.false c.loop-at.invariant.room
+
+pub returns-else-is_ascii_digit-clause-stopped : goal.returns-else-is_ascii_digit-clause-stopped
+returns-else-is_ascii_digit-clause-stopped c =
+    inl (front-drop_stop is_ascii_digit c.args.text.now c.loop-at.at (omega arith)
+    (sym c.is_ascii_digit.ensures.value ∙ c.if-is_ascii_digit.false))
 
 -- ---- written by tools/answer-goals
 

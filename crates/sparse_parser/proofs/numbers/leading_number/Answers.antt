@@ -1,4 +1,4 @@
-use Rattle.std.proofs.Common.{◌≡◌, [], inl, inr, sym, ◌∙◌, arith}
+use Rattle.std.proofs.Common.{◌≡◌, [], drop, length-drop, inl, inr, sym, ◌∙◌, arith}
 use Rattle.std.specs.Char.{is_ascii_digit}
 use Rattle.sparse_parser.specs.Bytes.{front}
 use Rattle.sparse_parser.proofs.Fronts.{after-none}
@@ -6,10 +6,12 @@ use Rattle.sparse_parser.proofs.numbers.leading_number.Goals as goal
 
 pub returns-clause-rest : goal.returns-clause-rest
 returns-clause-rest c =
-    let none : front is_ascii_digit c.short_number-number.result.1.now ≡ [] =
-    elim c.short_number-number.ensures.stopped [
+    let text = c.args.text.now in
+    let end = c.first_digits_at-number.result.1 in
+    let none : front is_ascii_digit (drop end text) ≡ [] =
+    elim c.first_digits_at-number.ensures.stopped [
       | inl e ↦ e
-      | inr e ↦ absurd (c.if-text-rest-eq-SHORT.false (omega arith))
+      | inr e ↦ absurd (c.if-end-eq-SHORT.false (omega (arith, length-drop end text)))
     ] in
-    sym (after-none is_ascii_digit c.short_number-number.result.1.now none)
-    ∙ c.short_number-number.ensures.read.others
+    c.text_from-rest.ensures ∙ sym (after-none is_ascii_digit (drop end text) none)
+    ∙ c.first_digits_at-number.ensures.read.others

@@ -7,7 +7,7 @@ use Rattle.sparse_io.proofs.reader.runs.run.Goals as goal
 pub lines-init : goal.lines-init
 lines-init g c = record {
   inside = omega arith;
-  on = read_none g.T.MatrixMarketScalar.scalar c.known-header.result
+  on = read_none g.T.MatrixMarketScalar.scalar c.with_symmetry-header.result
       g.T.MatrixMarketScalar.value _ _ _ _ _ c.requires.begins;
 }
 
@@ -41,7 +41,7 @@ lines-preserved g c =
     c.in-Some.ensures.read.is refl c.in-Some.ensures.read.same c.in-Some.ensures.read.shorter in
     record {
       inside = c.in-Some.ensures.inside;
-      on = read_one_more g.T.MatrixMarketScalar.scalar c.known-header.result
+      on = read_one_more g.T.MatrixMarketScalar.scalar c.with_symmetry-header.result
           g.T.MatrixMarketScalar.value _ c.lines.list.matrix _ _ _ _ _ _ _ _ _ _ _
           c.lines.invariant.on c.append_all.ensures.rows c.append_all.ensures.cols
           c.in-Some.ensures.read.begins turn refl c.remove_first.ensures
@@ -53,7 +53,7 @@ lines-preserved g c =
 
 pub returns : goal.returns
 returns g c = rw (
-  sym c.known-header.ensures,
+  sym c.with_symmetry-header.ensures,
   sym c.new-list.ensures.matrix,
   c.into_matrix.ensures,
   c.split_at.ensures.back,

@@ -1,0 +1,185 @@
+-- The lines of a text as they are read from its front, and the search for the next one.
+use Rattle.std.proofs.Common.{◌≡◌, ◌≢◌, ℕ, ◌-◌, ◌<◌, ◌≤◌, Bool, true, false, eqb, not, List}
+use Rattle.std.proofs.Common.{[], ◌∷◌, ◌++◌, length, get_or, drop, refl, sym, ap, subst, ◌∙◌, arith}
+use Rattle.std.specs.Prelude.{filter}
+use Rattle.std.proofs.lemmas.Bool.{eqb-true}
+use Rattle.std.proofs.lemmas.List.{append-nil}
+use Rattle.sparse_parser.specs.Bytes.{is_blank, is_line_end, front, after}
+use Rattle.sparse_parser.specs.InnerBytes.{is_space, is_within_line}
+use Rattle.sparse_parser.specs.InnerReading.{is_content, words_of}
+use Rattle.sparse_parser.specs.InnerReading.{written_of, contents_of}
+use Rattle.sparse_parser.proofs.Fronts.{Passes, IsStopped, front-yes, after-yes, after-no}
+use Rattle.sparse_parser.proofs.Fronts.{Passes-front, IsStopped-after, front-append-after}
+use Rattle.sparse_parser.proofs.Fronts.{length-after, length-after-lt, after_is_end, end_of_end}
+use Rattle.sparse_parser.proofs.WordLaws.{words_of-nil, words_of-blank}
+use Rattle.sparse_parser.proofs.LineLaws.{add, IsPlain, add-blank, ended, last, written_of-end}
+use Rattle.sparse_parser.proofs.ContentLaws.{first_word_of, content_line, is_content-comment}
+
+-- ---- the lines of a text, as they are read from its front
+
+plain-from : (line : List ℕ) → Passes is_within_line line → IsPlain line
+plain-from [] h = tt
+plain-from (b ∷ line) h = (by (is_line_end b) refl, plain-from line h.1)
+  where
+    by : (t : Bool) → is_line_end b ≡ t → is_line_end b ≡ false
+    by true e = absurd (let f : not (is_line_end b) ≡ false = rw e refl in let g = h.0 in cc)
+    by false e = e
+
+pub end-from : (b : ℕ) → not (is_line_end b) ≡ false → is_line_end b ≡ true
+end-from b h = by (is_line_end b) refl
+  where
+    by : (t : Bool) → is_line_end b ≡ t → is_line_end b ≡ true
+    by true e = e
+    by false e = absurd (let f : not (is_line_end b) ≡ true = rw e refl in cc)
+
+-- the front line, and the lines after it
+written_of-parts : (line rest : List ℕ) → IsPlain line → IsStopped is_within_line rest
+    → written_of (line ++ rest) ≡ add line (written_of rest)
+written_of-parts line [] plain stop = ap written_of (append-nil line) ∙ last line plain
+    ∙ ap (add line) (sym (last [] tt ∙ add-blank [] [] words_of-nil))
+written_of-parts line (b ∷ rest) plain stop = ended line b rest plain (end-from b stop)
+    ∙ ap (add line) (sym (written_of-end b rest (end-from b stop)))
+
+pub written_of-line : (text : List ℕ)
+    → written_of text ≡ add (front is_within_line text) (written_of (after is_within_line text))
+written_of-line text = ap written_of (sym (front-append-after is_within_line text))
+    ∙ written_of-parts _ _ (plain-from _ (Passes-front is_within_line text))
+    (IsStopped-after is_within_line text)
+
+-- what is neither a blank nor a line end
+pub outside : (b : ℕ) → is_space b ≡ false → (is_blank b ≡ false) × (is_within_line b ≡ true)
+outside b e = by (is_blank b) (is_line_end b) refl refl
+  where
+    by : (t u : Bool) → is_blank b ≡ t → is_line_end b ≡ u
+        → (is_blank b ≡ false) × (is_within_line b ≡ true)
+    by true u f g = absurd (let h : is_space b ≡ true = rw f refl in cc)
+    by false true f g = absurd (let h : is_space b ≡ true = rw (f, g) refl in cc)
+    by false false f g = (f, rw g refl)
+
+blank-within : (b : ℕ) → is_blank b ≡ true → is_within_line b ≡ true
+blank-within b e = by (eqb b 10) (eqb b 13) refl refl
+  where
+    by : (lf cr : Bool) → eqb b 10 ≡ lf → eqb b 13 ≡ cr → is_within_line b ≡ true
+    by true cr f g = absurd (let h : is_blank 10 ≡ true = subst (λ (x : ℕ). is_blank x ≡ true)
+        (eqb-true b 10 f) e in cc)
+    by false true f g = absurd (let h : is_blank 13 ≡ true = subst (λ (x : ℕ). is_blank x ≡ true)
+        (eqb-true b 13 g) e in cc)
+    by false false f g = rw (f, g) refl
+
+written_of-blank : (b : ℕ) (text : List ℕ) → is_blank b ≡ true
+    → written_of (b ∷ text) ≡ written_of text
+written_of-blank b text e =
+    written_of-line (b ∷ text) ∙ rw (
+      front-yes is_within_line b text (blank-within b e),
+      after-yes is_within_line b text (blank-within b e),
+      words_of-blank b (front is_within_line text) e,
+    ) refl ∙ sym (written_of-line text)
+
+written_of-space : (b : ℕ) (text : List ℕ) → is_space b ≡ true
+    → written_of (b ∷ text) ≡ written_of text
+written_of-space b text e = by (is_blank b) (is_line_end b) refl refl
+  where
+    by : (t u : Bool) → is_blank b ≡ t → is_line_end b ≡ u → written_of (b ∷ text) ≡ written_of text
+    by true u f g = written_of-blank b text f
+    by false true f g = written_of-end b text g
+    by false false f g = absurd (let h : is_space b ≡ false = rw (f, g) refl in cc)
+
+pub written_of-after_space : (text : List ℕ) → written_of (after is_space text) ≡ written_of text
+written_of-after_space [] = refl
+written_of-after_space (b ∷ text) = by (is_space b) refl (written_of-after_space text)
+  where
+    by : (t : Bool) → is_space b ≡ t → written_of (after is_space text) ≡ written_of text
+        → written_of (after is_space (b ∷ text)) ≡ written_of (b ∷ text)
+    by true e h = ap written_of (after-yes is_space b text e) ∙ h ∙ sym (written_of-space b text e)
+    by false e h = ap written_of (after-no is_space b text e)
+
+pub contents_of-after_space : (text : List ℕ) → contents_of (after is_space text) ≡ contents_of text
+unfolding contents_of
+contents_of-after_space text = ap (filter is_content) (written_of-after_space text)
+
+-- the words of the front line, where it is neither blank nor a comment, and the contents after it
+pub contents_of-line : (b : ℕ) (text : List ℕ) → is_space b ≡ false → b ≢ 37
+    → contents_of (b ∷ text) ≡ words_of (front is_within_line (b ∷ text)) ∷ contents_of
+    (after is_within_line (b ∷ text))
+unfolding contents_of
+contents_of-line b text e n =
+    let o = outside b e in
+    let w = first_word_of b (front is_within_line text) o.0 in
+    let f : words_of (front is_within_line (b ∷ text)) ≡ w.0 ∷ w.1 =
+    ap words_of (front-yes is_within_line b text o.1) ∙ w.2 in
+    let c : is_content (w.0 ∷ w.1) ≡ true = content_line w.0 w.1
+    (subst (λ (x : ℕ). x ≢ 37) (sym w.3) n) in
+    ap (filter is_content) (written_of-line (b ∷ text)) ∙ rw (f, c) refl
+
+pub contents_of-comment : (text : List ℕ)
+    → contents_of (37 ∷ text) ≡ contents_of (after is_within_line (37 ∷ text))
+unfolding contents_of
+contents_of-comment text =
+    let w = first_word_of 37 (front is_within_line text) refl in
+    let f : words_of (front is_within_line (37 ∷ text)) ≡ w.0 ∷ w.1 = w.2 in
+    ap (filter is_content) (written_of-line (37 ∷ text)) ∙ rw (f, is_content-comment w.0 w.1 w.3)
+    refl
+
+-- the first line that isn't blank
+pub written_of-first : (b : ℕ) (text : List ℕ) → is_space b ≡ false
+    → written_of (b ∷ text) ≡ words_of (front is_within_line (b ∷ text)) ∷ written_of
+    (after is_within_line (b ∷ text))
+written_of-first b text e =
+    let o = outside b e in
+    let w = first_word_of b (front is_within_line text) o.0 in
+    let f : words_of (front is_within_line (b ∷ text)) ≡ w.0 ∷ w.1 =
+    ap words_of (front-yes is_within_line b text o.1) ∙ w.2 in
+    written_of-line (b ∷ text) ∙ rw f refl
+
+pub written_of-nil : written_of [] ≡ []
+written_of-nil = last [] tt ∙ add-blank [] [] words_of-nil
+
+pub contents_of-nil : contents_of [] ≡ []
+unfolding contents_of
+contents_of-nil = ap (filter is_content) written_of-nil
+
+-- ---- the search for the next line
+
+-- up to the front of what is left there are blank lines and comments
+pub record IsSought (text rest : List ℕ) : Type 0 where
+  pub same : contents_of rest ≡ contents_of text
+  pub len : length rest ≤ length text
+  pub end : rest ≡ drop (length text - length rest) text
+  pub stop : IsStopped is_space rest
+
+pub sought_first : (text rest : List ℕ) → rest ≡ after is_space text → IsSought text rest
+sought_first text rest e = record {
+  same = ap contents_of e ∙ contents_of-after_space text;
+  len = subst (λ (r : List ℕ). length r ≤ length text) (sym e) (length-after is_space text);
+  end = subst (λ (r : List ℕ). r ≡ drop (length text - length r) text) (sym e)
+      (after_is_end is_space text);
+  stop = subst (IsStopped is_space) (sym e) (IsStopped-after is_space text);
+}
+
+pub head_byte : (b : ℕ) (text : List ℕ) → 0 < length text → get_or text 0 0 ≡ b
+    → text ≡ b ∷ drop 1 text
+head_byte b [] lt e = absurd (omega arith)
+head_byte b (c ∷ text) lt e = ap (λ (x : ℕ). x ∷ text) e
+
+pub sought_more : (text comment others rest : List ℕ) → IsSought text comment
+    → comment ≡ 37 ∷ drop 1 comment → others ≡ after is_within_line comment
+    → rest ≡ after is_space others → IsSought text rest × (length rest < length comment)
+sought_more text comment others rest h c o e =
+    let next = sought_first others rest e in
+    let a : others ≡ after is_within_line (37 ∷ drop 1 comment) = o ∙ ap (after is_within_line) c in
+    let less : length others < length comment = subst (λ (x : List ℕ). length x < length comment)
+    (sym a) (subst (λ (x : List ℕ). length (after is_within_line (37 ∷ drop 1 comment)) < length
+    x) (sym c) (length-after-lt is_within_line 37 (drop 1 comment) refl)) in (
+      record {
+        same = next.same ∙ ap contents_of a ∙ sym (contents_of-comment (drop 1 comment))
+            ∙ ap contents_of (sym c) ∙ h.same;
+        len = let l = next.len in let m = h.len in omega arith;
+        end = end_of_end text comment rest h.len
+            (let l = next.len in omega arith) h.end
+            (end_of_end comment others rest (omega arith) next.len
+            (subst (λ (x : List ℕ). x ≡ drop (length comment - length x) comment) (sym o)
+            (after_is_end is_within_line comment)) next.end);
+        stop = next.stop;
+      },
+      let l = next.len in omega arith,
+    )
