@@ -2,4 +2,3 @@ pub mod TripletLists
 pub mod TripletRuns
 pub mod DenseLemmas
 pub mod BlockLemmas
-pub mod ColumnLemmas

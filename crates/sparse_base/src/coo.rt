@@ -11,7 +11,6 @@ use std::marker::Model;
 use triplet_fault::first_fault;
 
 pub(crate) mod append;
-pub(crate) mod columns;
 mod equality;
 mod from_iter;
 mod iter;

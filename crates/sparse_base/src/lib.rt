@@ -6,4 +6,3 @@ pub mod dense;
 pub mod steps;
 
 pub use coo::append::CooAppender;
-pub use coo::columns::ColumnAppender;

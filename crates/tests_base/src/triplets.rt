@@ -106,14 +106,12 @@ fn down_a_column(alloc: Global) -> Result<Lists, AllocError> {
     let mut matrix = CooMatrix::new(alloc, 4, 2);
     matrix.reserve(4)?;
     matrix.push(0, 0, 5)?;
-    let list = CooAppender::new(matrix);
-    if list.room() < 3 {
-        return Ok(list.into_matrix().disassemble());
+    let mut list = CooAppender::new(matrix);
+    if list.room() > 1 {
+        list.push(1, 1, 8);
+        list.push(2, 1, 9);
     }
-    let mut column = list.into_column(1, 1, 3);
-    column.push(8);
-    column.push(9);
-    Ok(column.into_list().into_matrix().disassemble())
+    Ok(list.into_matrix().disassemble())
 }
 
 fn is_down_a_column((rows, cols, values): Lists) -> bool {

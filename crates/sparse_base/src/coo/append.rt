@@ -12,13 +12,13 @@ use std::marker::Model;
 /// three lists have room.
 #[derive(Drop)]
 pub struct CooAppender<T> {
-    pub(super) nrows: usize,
-    pub(super) ncols: usize,
-    pub(super) row_indices: Vec<usize>,
-    pub(super) col_indices: Vec<usize>,
-    pub(super) values: Vec<T>,
+    nrows: usize,
+    ncols: usize,
+    row_indices: Vec<usize>,
+    col_indices: Vec<usize>,
+    values: Vec<T>,
     // How many triplets fit at least.
-    pub(super) room: usize,
+    room: usize,
 }
 
 impl<T> Model for CooAppender<T> {
