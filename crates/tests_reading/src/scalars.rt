@@ -3,7 +3,7 @@
 use crate::fields::means;
 use crate::label::Label;
 use crate::reading::refusal;
-use sparse_algebra::scalar::{W128, W32, W64};
+use sparse_algebra::scalar::{W32, W64, W128};
 use sparse_base::coo::CooMatrix;
 use sparse_io::MatrixMarketErrorKind::{DiagonalError, InvalidHeader, ParsingError, TypeMismatch};
 use sparse_io::{MatrixMarketError, MatrixMarketScalar, save_to_matrix_market_str};

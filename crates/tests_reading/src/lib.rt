@@ -1,0 +1,21 @@
+//! Tests of Matrix Market texts and files that are read, and of the scalar types of texts.
+#![tactic(auto)]
+
+#[cfg(test)]
+mod errors;
+#[cfg(test)]
+mod fields;
+#[cfg(test)]
+mod files;
+#[cfg(test)]
+mod hostile;
+#[cfg(test)]
+mod label;
+#[cfg(test)]
+mod matrices;
+#[cfg(test)]
+mod reading;
+#[cfg(test)]
+mod refusals;
+#[cfg(test)]
+mod scalars;
