@@ -20,12 +20,12 @@ use Rattle.sparse_expr.specs.declared.error.ExprError.TheVariants.{LeftOver}
 abbrev pub texts : List (Bor (List ℕ)) → List (List ℕ)
 texts words = map (λ word. word.now) words
 
-abbrev pub is_space : ℕ → Bool
-is_space b = b == 32
+abbrev pub is_separator : ℕ → Bool
+is_separator b = b == 32
 
 -- the longest runs of a text without a space
 abbrev pub words_of : List ℕ → List (List ℕ)
-words_of text = words_between is_space text
+words_of text = words_between is_separator text
 
 -- inputs are counted from 1, and their number is a usize
 abbrev pub operand_of : ℕ → Option Token
