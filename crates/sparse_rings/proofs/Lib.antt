@@ -1,0 +1,2 @@
+pub mod Inverses
+pub mod Norms

@@ -1,0 +1,6 @@
+pub mod InnerPairs
+pub mod DualRing
+pub mod GaussianRing
+pub mod PairRing
+pub mod Closed
+pub mod RingValues

@@ -1,0 +1,12 @@
+//! Rings made of rings: dual numbers, Gaussian numbers and pairs.
+#![tactic(auto)]
+
+mod closed;
+mod dual;
+mod gaussian;
+mod pair;
+
+pub use closed::Closed;
+pub use dual::Dual;
+pub use gaussian::Gaussian;
+pub use pair::Pair;
