@@ -4,3 +4,4 @@ pub mod GaussianRing
 pub mod PairRing
 pub mod Closed
 pub mod RingValues
+pub mod InnerValues
