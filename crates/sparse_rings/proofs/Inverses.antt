@@ -3,7 +3,7 @@ use Rattle.std.proofs.Common.{◌≡◌, sym, ap, ◌∙◌}
 use Rattle.sparse_algebra.specs.Algebra.{CommRing}
 use Rattle.sparse_algebra.proofs.Products.{mul_neg, mul_swap}
 use Rattle.sparse_rings.specs.DualRing.{dual_ring}
-use Rattle.sparse_rings.specs.InnerPairs.{same_pair, same_sum}
+use Rattle.sparse_rings.specs.InnerPairs.{same_pair}
 
 module _ (R : CommRing) where
   -- where a t is one, (a, b) times (t, -(b (t t))) is one

@@ -1,2 +1,4 @@
 pub mod Inverses
 pub mod Norms
+pub mod Chinese
+pub mod RingMaps

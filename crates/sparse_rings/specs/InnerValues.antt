@@ -15,13 +15,9 @@ use Rattle.sparse_algebra.specs.WrappingValues.{w32_value, w64_value, w128_value
 use Rattle.sparse_algebra.proofs.WholeNumbers.{number_fits}
 use Rattle.sparse_rings.specs.Closed.{IsValue}
 use Rattle.sparse_rings.specs.DualRing.{dual_ring}
-use Rattle.sparse_rings.specs.GaussianRing.{gaussian_ring}
 use Rattle.sparse_rings.specs.InnerPairs.{same_pair, same_sum}
-use Rattle.sparse_rings.specs.PairRing.{pair_ring}
-use Rattle.sparse_rings.specs.RingValues.{dual_value, gaussian_value, pair_value}
+use Rattle.sparse_rings.specs.RingValues.{dual_value}
 use Rattle.sparse_rings.specs.declared.dual.Dual.{Dual}
-use Rattle.sparse_rings.specs.declared.gaussian.Gaussian.{Gaussian}
-use Rattle.sparse_rings.specs.declared.pair.Pair.{Pair}
 
 -- ---- residues and wrapping integers stand for every element
 
@@ -53,7 +49,7 @@ w128-is_value c = (
   class-number_of w128 c,
 )
 
--- ---- dual and Gaussian numbers over closed scalars
+-- ---- dual numbers over closed scalars
 
 module _ (R : CommRing) {T : Type 0} (f : T → R.Carrier)
     (sums : (x y : T) → IsValue R f (R.add (f x) (f y)))
@@ -70,14 +66,16 @@ module _ (R : CommRing) {T : Type 0} (f : T → R.Carrier)
       → IsValue (dual_ring R) (dual_value f) ((dual_ring R).add (dual_value f x) (dual_value f y))
   dual-sum x y =
       let number = sums x.number y.number in
-      let derivative = sums x.derivative y.derivative in
-      (record { number = number.0; derivative = derivative.0 },
-      same_pair _ _ number.1 derivative.1)
+      let derivative = sums x.derivative y.derivative in (
+        record { number = number.0; derivative = derivative.0 },
+        same_pair _ _ number.1 derivative.1,
+      )
 
   pub dual-product : (x y : Dual T)
       → IsValue (dual_ring R) (dual_value f) ((dual_ring R).mul (dual_value f x) (dual_value f y))
   dual-product x y =
       let number = products x.number y.number in
-      let derivative = two_products x.number y.derivative x.derivative y.number in
-      (record { number = number.0; derivative = derivative.0 },
-      same_pair _ _ number.1 derivative.1)
+      let derivative = two_products x.number y.derivative x.derivative y.number in (
+        record { number = number.0; derivative = derivative.0 },
+        same_pair _ _ number.1 derivative.1,
+      )

@@ -5,3 +5,5 @@ pub mod PairRing
 pub mod Closed
 pub mod RingValues
 pub mod InnerValues
+pub mod ChineseRemainders
+pub mod DualMatrices

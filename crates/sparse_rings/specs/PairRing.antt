@@ -1,5 +1,4 @@
 -- Two commutative rings at once: pairs, with every operation in each part.
-use Rattle.std.specs.Prelude.{◌≡◌}
 use Rattle.sparse_algebra.specs.Algebra.{RingLaws, CommRing}
 use Rattle.sparse_rings.specs.InnerPairs.{same_pair}
 

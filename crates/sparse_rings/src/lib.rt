@@ -2,8 +2,10 @@
 #![tactic(auto)]
 
 mod closed;
+mod combine;
 mod dual;
 mod gaussian;
+pub mod laws;
 mod pair;
 
 pub use closed::Closed;
