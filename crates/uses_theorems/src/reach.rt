@@ -1,0 +1,85 @@
+//! Reachability: the pairs that a walk of at most k steps joins, by powers of a pattern.
+
+ghost use Rattle.std.specs.Prelude.{◌≡◌, IfOk};
+ghost use Rattle.uses_theorems.specs.Walking.{IsDiagonal, HoldsWalks, TakesSteps};
+
+#[cfg(test)]
+use crate::example::holds;
+use sparse_algebra::scalar::W64;
+use sparse_cs::laws::stands_law;
+use sparse_forms::csr::CsrMatrix;
+use sparse_pattern::pattern::SparsityPattern;
+use sparse_products::serial::spmm_csr_pattern;
+use sparse_sums::spadd_pattern;
+use std::alloc::{AllocError, Global};
+#[cfg(test)]
+use std::test::Fail;
+
+// Returns the diagonal of order n.
+fn diagonal(alloc: Global, n: usize) -> Result<SparsityPattern, AllocError>
+    ensures major { IfOk result (λ p. p.major_dim ≡ n) }
+    ensures minor { IfOk result (λ p. p.minor_dim ≡ n) }
+    ensures places { IfOk result (λ p. IsDiagonal p n) }
+{
+    stands_law::<W64>();
+    let identity = CsrMatrix::<W64>::identity(alloc, n)?;
+    let copy = identity.pattern().clone(alloc)?;
+    Ok(copy)
+}
+
+// Multiplies by `step` from the left, so many times.
+fn take_steps(
+    alloc: Global,
+    step: &SparsityPattern,
+    start: SparsityPattern,
+    steps: usize,
+) -> Result<SparsityPattern, AllocError>
+    requires square { step.now.minor_dim ≡ step.now.major_dim }
+    requires lanes { start.major_dim ≡ step.now.major_dim }
+    ensures major { IfOk result (λ p. p.major_dim ≡ start.major_dim) }
+    ensures minor { IfOk result (λ p. p.minor_dim ≡ start.minor_dim) }
+    ensures steps { IfOk result (TakesSteps step.now start steps) }
+{
+    let mut reached = start;
+    for length in 0..steps {
+        reached = spmm_csr_pattern(alloc, step, &reached)?;
+    }
+    Ok(reached)
+}
+
+// Returns the pairs (i, j) for which a walk of at most `steps` steps along places of the pattern leads from i to j.
+fn reach(
+    alloc: Global,
+    pattern: &SparsityPattern,
+    steps: usize,
+) -> Result<SparsityPattern, AllocError>
+    requires { pattern.now.major_dim ≡ pattern.now.minor_dim }
+    ensures major { IfOk result (λ p. p.major_dim ≡ pattern.now.major_dim) }
+    ensures minor { IfOk result (λ p. p.minor_dim ≡ pattern.now.major_dim) }
+    ensures walks { IfOk result (HoldsWalks pattern.now steps) }
+{
+    let start = diagonal(alloc, pattern.major_dim())?;
+    let step = spadd_pattern(alloc, &start, pattern)?;
+    let reached = take_steps(alloc, &step, start, steps)?;
+    Ok(reached)
+}
+
+// Whether walks of so many steps on the cycle 0 -> 1 -> 2 -> 0 join the pairs with these indices.
+#[cfg(test)]
+fn joins(alloc: Global, steps: usize, indices: &[usize]) -> Result<bool, Fail> {
+    let offsets = vec![in alloc; 0, 1, 2, 3]?;
+    let next = vec![in alloc; 1, 2, 0]?;
+    let cycle = SparsityPattern::try_from_offsets_and_indices(3, 3, offsets, next)?;
+    if cycle.major_dim() != cycle.minor_dim() {
+        return Ok(false);
+    }
+    Ok(reach(alloc, &cycle, steps)?.minor_indices() == indices)
+}
+
+#[test]
+fn walks_on_a_cycle(rt: HostRuntime) {
+    let alloc = rt.alloc();
+    assert!(rt; holds(&rt, joins(alloc, 0, &[0, 1, 2])));
+    assert!(rt; holds(&rt, joins(alloc, 1, &[0, 1, 1, 2, 0, 2])));
+    assert!(rt; holds(&rt, joins(alloc, 2, &[0, 1, 2, 0, 1, 2, 0, 1, 2])));
+}
