@@ -18,6 +18,14 @@ pub use Rattle.sparse_algebra.specs.Inverses
 pub use Rattle.sparse_algebra.specs.ModNumbers
 pub use Rattle.sparse_algebra.specs.Moduli
 pub use Rattle.sparse_algebra.specs.WrappingValues
+-- dual numbers, Gaussian numbers and pairs
+pub use Rattle.sparse_rings.specs.ChineseRemainders
+pub use Rattle.sparse_rings.specs.Closed
+pub use Rattle.sparse_rings.specs.DualMatrices
+pub use Rattle.sparse_rings.specs.DualRing
+pub use Rattle.sparse_rings.specs.GaussianRing
+pub use Rattle.sparse_rings.specs.PairRing
+pub use Rattle.sparse_rings.specs.RingValues
 -- operands and the errors of operations
 pub use Rattle.sparse_algebra.specs.Operands
 pub use Rattle.sparse_algebra.specs.Prealloc

@@ -45,5 +45,7 @@ pub use sparse_expr::laws as expressions;
 /// Operations: the product distributes over sums, its transpose is the product of the transposes, the identity is
 /// neutral.
 pub use sparse_laws::operations;
+/// Rings made of rings: the product rule, norms, the Chinese remainder theorem.
+pub use sparse_rings::laws as rings;
 /// Triangular systems: a solution is unique.
 pub use sparse_solve::laws as systems;

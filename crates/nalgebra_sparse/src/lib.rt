@@ -21,3 +21,4 @@ pub use sparse_ldl::ldl;
 pub use sparse_pattern::entry::{SparseEntry, SparseEntryMut};
 pub use sparse_pattern::error::{SparseFormatError, SparseFormatErrorKind};
 pub use sparse_pattern::pattern;
+pub use sparse_rings as rings;

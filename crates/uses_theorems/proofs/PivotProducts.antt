@@ -1,13 +1,13 @@
 -- Products of pivots, and that the factors of a factorisation are factors.
 use Rattle.std.proofs.Common.{◌≡◌, ℕ, zero, suc, ◌<◌, length, ap, ◌∙◌, sym, subst, refl, arith}
-use Rattle.sparse_algebra.specs.Algebra.{CommRing}
-use Rattle.sparse_cs.specs.Compressed.{Compressed}
-use Rattle.sparse_cs.specs.PlainOfLanes.{plain_of_cols}
-use Rattle.sparse_algebra.specs.Plain.{Plain}
-use Rattle.sparse_ldl.specs.Factorisations.{IsFactorisation, IsUnitLower}
-use Rattle.sparse_ldl.specs.Factors.{Factors, AreOnlyFactorsOf, HavePivots, diagonal}
-use Rattle.sparse_ldl.specs.Factors.{plain_of_factors, symmetric_of}
-use Rattle.sparse_solve.specs.Solutions.{HasSameValues}
+use Rattle.nalgebra_sparse.specs.Algebra.{CommRing}
+use Rattle.nalgebra_sparse.specs.Compressed.{Compressed}
+use Rattle.nalgebra_sparse.specs.PlainOfLanes.{plain_of_cols}
+use Rattle.nalgebra_sparse.specs.Plain.{Plain}
+use Rattle.nalgebra_sparse.specs.Factorisations.{IsFactorisation, IsUnitLower}
+use Rattle.nalgebra_sparse.specs.Factors.{Factors, AreOnlyFactorsOf, HavePivots, diagonal}
+use Rattle.nalgebra_sparse.specs.Factors.{plain_of_factors, symmetric_of}
+use Rattle.nalgebra_sparse.specs.Solutions.{HasSameValues}
 use Rattle.uses_theorems.specs.Pivots.{product_below, HasFactors}
 
 module _ (R : CommRing) where

@@ -4,14 +4,14 @@ use Rattle.std.proofs.Common.{ap, ◌∙◌}
 use Rattle.std.specs.Prelude.{nat_eq, nat_lt, ◌&&◌, true}
 use Rattle.std.proofs.lemmas.Bool.{and_from, and_parts}
 use Rattle.std.proofs.lemmas.Bool.Decides.{Decides-eqb, Decides-ltb}
-use Rattle.sparse_algebra.specs.Algebra.{CommRing}
-use Rattle.sparse_algebra.specs.Plain.{plain_identity}
-use Rattle.sparse_cs.specs.Compressed.{Compressed}
-use Rattle.sparse_cs.specs.PlainOfLanes.{plain_of_rows}
-use Rattle.sparse_cs.specs.Standing.{HasLanesAsRows}
-use Rattle.sparse_pattern.specs.Raw.{Raw, IsPlace}
-use Rattle.sparse_products.specs.Products.{IsProductOf}
-use Rattle.sparse_sums.specs.PatternSums.{IsUnionOf}
+use Rattle.nalgebra_sparse.specs.Algebra.{CommRing}
+use Rattle.nalgebra_sparse.specs.Plain.{plain_identity}
+use Rattle.nalgebra_sparse.specs.Compressed.{Compressed}
+use Rattle.nalgebra_sparse.specs.PlainOfLanes.{plain_of_rows}
+use Rattle.nalgebra_sparse.specs.Standing.{HasLanesAsRows}
+use Rattle.nalgebra_sparse.specs.Raw.{Raw, IsPlace}
+use Rattle.nalgebra_sparse.specs.Products.{IsProductOf}
+use Rattle.nalgebra_sparse.specs.PatternSums.{IsUnionOf}
 use Rattle.uses_theorems.specs.Walking.{IsDiagonal, WalkWithin, HoldsWalks, TakesSteps}
 use Rattle.uses_theorems.specs.Walking.WalkWithin.{here, step}
 

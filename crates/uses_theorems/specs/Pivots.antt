@@ -1,10 +1,10 @@
 -- Products of the pivots of a factorisation L D Lᵀ.
 use Rattle.std.specs.Prelude.{◌≡◌, ℕ, zero, suc}
-use Rattle.sparse_algebra.specs.Algebra.{CommRing}
-use Rattle.sparse_algebra.specs.Plain.{Plain}
-use Rattle.sparse_cs.specs.Compressed.{Compressed}
-use Rattle.sparse_ldl.specs.Factorisations.{IsFactorisation}
-use Rattle.sparse_ldl.specs.Factors.{symmetric_of}
+use Rattle.nalgebra_sparse.specs.Algebra.{CommRing}
+use Rattle.nalgebra_sparse.specs.Plain.{Plain}
+use Rattle.nalgebra_sparse.specs.Compressed.{Compressed}
+use Rattle.nalgebra_sparse.specs.Factorisations.{IsFactorisation}
+use Rattle.nalgebra_sparse.specs.Factors.{symmetric_of}
 
 -- f 0 * f 1 * .. * f (n - 1)
 abbrev pub product_below : (R : CommRing) → ℕ → (ℕ → R.Carrier) → R.Carrier

@@ -1,7 +1,7 @@
 -- Walks along the places of a square pattern.
 use Rattle.std.specs.Prelude.{◌≡◌, ℕ, suc, ◌<◌, ◌↔◌}
-use Rattle.sparse_pattern.specs.Raw.{Raw, IsPlace}
-use Rattle.sparse_sums.specs.PatternSums.{IsUnionOf}
+use Rattle.nalgebra_sparse.specs.Raw.{Raw, IsPlace}
+use Rattle.nalgebra_sparse.specs.PatternSums.{IsUnionOf}
 
 -- the places on the diagonal of order n, and no others
 abbrev pub IsDiagonal : Raw → ℕ → Type 0

@@ -1,18 +1,17 @@
 //! The determinant of a symmetric matrix, as the product of the pivots of its factorisation L D Lᵀ.
 
 ghost use Rattle.std.specs.Prelude.{◌≡◌, IfOk, IfErr, length, slice_index_or};
-ghost use Rattle.sparse_ldl.specs.Factors.{HasNoFactors, diagonal};
-ghost use Rattle.sparse_algebra.specs.declared.error.OperationErrorKind.TheVariants.{Singular};
+ghost use Rattle.nalgebra_sparse.specs.Factors.{HasNoFactors, diagonal};
 ghost use Rattle.uses_theorems.specs.Pivots.{product_below, HasFactors, IsPivotProduct};
 
 #[cfg(test)]
 use crate::example::holds;
-use sparse_algebra::error::OperationError;
+use nalgebra_sparse::csc::CscMatrix;
+use nalgebra_sparse::ldl::Ldl;
+use nalgebra_sparse::ops::serial::{OperationError, OperationErrorKind};
 #[cfg(test)]
-use sparse_algebra::scalar::Mod;
-use sparse_algebra::scalar::{Ring, Units};
-use sparse_forms::csc::CscMatrix;
-use sparse_ldl::ldl::Ldl;
+use nalgebra_sparse::scalar::Mod;
+use nalgebra_sparse::scalar::{Ring, Units};
 use std::alloc::Global;
 #[cfg(test)]
 use std::test::Fail;
@@ -35,7 +34,7 @@ fn determinant<T: Units>(alloc: Global, a: &CscMatrix<T>) -> Result<T, Operation
     requires { a.now.pattern.minor_dim ≡ a.now.pattern.major_dim }
     ensures factors { IfOk result (λ _. HasFactors T.ring T.value a.now) }
     ensures product { IfOk result (λ x. IsPivotProduct T.ring T.value a.now (T.value x)) }
-    ensures singular { IfErr result (λ e. e ≡ Singular → HasNoFactors T.ring T.value a.now) }
+    ensures singular { IfErr result (λ e. e ≡ OperationErrorKind.Singular → HasNoFactors T.ring T.value a.now) }
 {
     match Ldl::factor(alloc, a) {
         Ok(ldl) => Ok(product_of(ldl.d())),

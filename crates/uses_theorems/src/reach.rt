@@ -5,12 +5,11 @@ ghost use Rattle.uses_theorems.specs.Walking.{IsDiagonal, HoldsWalks, TakesSteps
 
 #[cfg(test)]
 use crate::example::holds;
-use sparse_algebra::scalar::W64;
-use sparse_cs::laws::stands_law;
-use sparse_forms::csr::CsrMatrix;
-use sparse_pattern::pattern::SparsityPattern;
-use sparse_products::serial::spmm_csr_pattern;
-use sparse_sums::spadd_pattern;
+use nalgebra_sparse::csr::CsrMatrix;
+use nalgebra_sparse::laws::compressed::stands_law;
+use nalgebra_sparse::ops::serial::{spadd_pattern, spmm_csr_pattern};
+use nalgebra_sparse::pattern::SparsityPattern;
+use nalgebra_sparse::scalar::W64;
 use std::alloc::{AllocError, Global};
 #[cfg(test)]
 use std::test::Fail;

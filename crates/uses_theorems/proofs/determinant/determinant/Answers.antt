@@ -1,5 +1,5 @@
 use Rattle.std.proofs.Common.{◌≡◌, ◌∙◌, length, sym, ap}
-use Rattle.sparse_ldl.specs.Factors.{diagonal}
+use Rattle.nalgebra_sparse.specs.Factors.{diagonal}
 use Rattle.uses_theorems.specs.Pivots.{product_below}
 use Rattle.uses_theorems.proofs.PivotProducts.{one_product, factors_exist}
 use Rattle.uses_theorems.proofs.determinant.determinant.Goals as goal

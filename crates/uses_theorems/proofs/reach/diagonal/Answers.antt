@@ -1,7 +1,7 @@
 use Rattle.std.proofs.Common.{◌∙◌}
 use Rattle.std.specs.Int.{w64}
-use Rattle.sparse_algebra.specs.Wrapping.{wrapping_ring}
-use Rattle.sparse_algebra.specs.WrappingValues.{w64_value}
+use Rattle.nalgebra_sparse.specs.Wrapping.{wrapping_ring}
+use Rattle.nalgebra_sparse.specs.WrappingValues.{w64_value}
 use Rattle.uses_theorems.proofs.WalkSteps.{identity-diagonal}
 use Rattle.uses_theorems.proofs.reach.diagonal.Goals as goal
 
