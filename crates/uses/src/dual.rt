@@ -2,7 +2,7 @@
 
 ghost use Rattle.std.specs.Prelude.{refl};
 
-use nalgebra_sparse::scalar::{Ring, Zero};
+use nalgebra_sparse::scalar::{Ring, W64, Zero};
 
 /// A number and its derivative: a + b e, where e * e = 0.
 #[derive(Clone, Copy, Debug, PartialEq)]
@@ -69,4 +69,17 @@ impl<T: Ring> Ring for Dual<T> {
             slope: self.slope.neg(),
         }
     }
+}
+
+#[test]
+fn a_product_has_both_slopes(rt: HostRuntime) {
+    let x = Dual {
+        number: W64::new(5),
+        slope: W64::new(1),
+    };
+    let want = Dual {
+        number: W64::new(25),
+        slope: W64::new(10),
+    };
+    assert!(rt; x.mul(x) == want);
 }

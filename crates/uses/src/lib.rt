@@ -1,6 +1,7 @@
 //! The examples of the documentation, proved and run.
 //!
-//! Each function stands in the documentation of the item that it shows. It returns `true`, and the test of its module asserts that.
+//! Each function stands in the documentation of the item that it shows. It returns `true`, and the test of its module
+//! asserts that.
 #![tactic(auto)]
 
 #[cfg(test)]
@@ -33,6 +34,8 @@ mod ldl;
 mod ops;
 #[cfg(test)]
 mod pattern;
+#[cfg(test)]
+mod rings;
 #[cfg(test)]
 mod scalar;
 #[cfg(test)]

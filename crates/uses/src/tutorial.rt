@@ -4,7 +4,6 @@ ghost use Rattle.std.specs.Prelude.{◌≡◌, true, IfOk};
 ghost use Rattle.nalgebra_sparse.specs.Plain.{plain_identity, plain_product};
 ghost use Rattle.nalgebra_sparse.specs.PlainOfLanes.{plain_of_rows};
 
-use crate::dual::Dual;
 use crate::example::holds;
 use nalgebra_sparse::convert::serial::{convert_coo_csc, convert_coo_csr};
 use nalgebra_sparse::dense::DMatrix;
@@ -14,7 +13,8 @@ use nalgebra_sparse::laws::compressed::{equal_law, stands_law};
 use nalgebra_sparse::laws::plain::identity_product_law;
 use nalgebra_sparse::ops::Op;
 use nalgebra_sparse::ops::serial::{mul_csr, spsolve_csc_lower_triangular};
-use nalgebra_sparse::scalar::{Mod, Ring, W64};
+use nalgebra_sparse::rings::{Dual, Gaussian, Pair};
+use nalgebra_sparse::scalar::{Mod, Ring, W64, Zero};
 use nalgebra_sparse::{CooMatrix, CscMatrix, CsrMatrix};
 use std::alloc::{AllocError, Global};
 use std::test::Fail;
@@ -67,31 +67,68 @@ fn a_system_is_solved_modulo_seven(alloc: Global) -> Result<bool, Fail> {
     Ok(b.as_slice() == [Mod::new(4), Mod::new(5)].as_slice())
 }
 
-// The matrix with the one entry x, seen as a number whose derivative is 1.
-fn variable(alloc: Global, x: i64) -> Result<CsrMatrix<Dual<W64>>, Fail> {
+// The matrix with this one entry.
+fn one_entry<T: Zero + Copy>(alloc: Global, entry: T) -> Result<CsrMatrix<T>, Fail> {
     let offsets = vec![in alloc; 0, 1]?;
     let columns = vec![in alloc; 0]?;
-    let values = vec![in alloc;
-        Dual {
-            number: W64::new(x),
-            slope: W64::new(1)
-        },
-    ]?;
+    let values = vec![in alloc; entry]?;
     Ok(CsrMatrix::try_from_csr_data(1, 1, offsets, columns, values)?)
 }
 
 fn the_derivative_of_a_square_is_twice_the_number(alloc: Global) -> Result<bool, Fail> {
-    let x = variable(alloc, 5)?;
-    let y = variable(alloc, 5)?;
-    if x.ncols() != y.nrows() {
+    let x = one_entry(alloc, Dual::variable(W64::new(5)))?;
+    if x.ncols() != x.nrows() {
         return Ok(false);
     }
-    let square = mul_csr(alloc, &x, &y)?;
-    let want = Dual {
-        number: W64::new(25),
-        slope: W64::new(10),
-    };
-    Ok(square.values() == [want].as_slice())
+    let square = mul_csr(alloc, &x, &x)?;
+    Ok(square.values() == [Dual::new(W64::new(25), W64::new(10))].as_slice())
+}
+
+fn a_solve_differentiates_itself(alloc: Global) -> Result<bool, Fail> {
+    let offsets = vec![in alloc; 0, 2, 3]?;
+    let rows = vec![in alloc; 0, 1, 1]?;
+    let parameter = Dual::variable(Mod::<7>::new(1));
+    let pivots = [Dual::constant(Mod::new(2)), Dual::constant(Mod::new(3))];
+    let values = vec![in alloc; pivots[0], parameter, pivots[1]]?;
+    let l = CscMatrix::try_from_csc_data(2, 2, offsets, rows, values)?;
+    let right = [Dual::constant(Mod::new(1)), Dual::constant(Mod::new(5))];
+    let mut b = DMatrix::from_column_slice(alloc, 2, 1, &right)?;
+    if l.nrows() != l.ncols() || b.nrows() != l.nrows() {
+        return Ok(false);
+    }
+    spsolve_csc_lower_triangular(Op::NoOp(&l), &mut b)?;
+    let want = [Dual::constant(Mod::new(4)), Dual::new(Mod::new(5), Mod::new(1))];
+    Ok(b.as_slice() == want.as_slice())
+}
+
+fn a_quarter_turn_taken_twice_is_a_half_turn(alloc: Global) -> Result<bool, Fail> {
+    let quarter = one_entry(alloc, Gaussian::new(W64::zero(), W64::one()))?;
+    if quarter.ncols() != quarter.nrows() {
+        return Ok(false);
+    }
+    let half = mul_csr(alloc, &quarter, &quarter)?;
+    Ok(half.values() == [Gaussian::new(W64::new(-1), W64::zero())].as_slice())
+}
+
+// A number modulo the primes 2^61 - 1 and 2^64 - 59.
+fn residues(number: u64) -> Pair<Mod<2305843009213693951>, Mod<18446744073709551557>> {
+    Pair::new(Mod::new(number), Mod::new(number))
+}
+
+fn a_product_past_64_bits_is_recovered(alloc: Global) -> Result<bool, Fail> {
+    let offsets = vec![in alloc; 0, 2]?;
+    let columns = vec![in alloc; 0, 1]?;
+    let values = vec![in alloc; residues(1 << 61), residues(1 << 62)]?;
+    let row = CsrMatrix::try_from_csr_data(1, 2, offsets, columns, values)?;
+    let column = row.transpose(alloc)?;
+    if row.ncols() != column.nrows() {
+        return Ok(false);
+    }
+    let product = mul_csr(alloc, &row, &column)?;
+    Ok(match product.values() {
+        [entry] => entry.combine() == Some(5 << 122),
+        _ => false,
+    })
 }
 
 // A law: the identity times a matrix is that matrix.
@@ -152,6 +189,14 @@ fn the_tutorial(rt: HostRuntime) {
     assert!(rt; holds(&rt, repeated_triplets_are_summed(alloc)));
     assert!(rt; holds(&rt, a_symmetric_file_fills_in(alloc)));
     assert!(rt; holds(&rt, a_system_is_solved_modulo_seven(alloc)));
-    assert!(rt; holds(&rt, the_derivative_of_a_square_is_twice_the_number(alloc)));
     assert!(rt; holds(&rt, the_identity_changes_nothing(alloc)));
+}
+
+#[test]
+fn rings_of_the_tutorial(rt: HostRuntime) {
+    let alloc = rt.alloc();
+    assert!(rt; holds(&rt, the_derivative_of_a_square_is_twice_the_number(alloc)));
+    assert!(rt; holds(&rt, a_solve_differentiates_itself(alloc)));
+    assert!(rt; holds(&rt, a_quarter_turn_taken_twice_is_a_half_turn(alloc)));
+    assert!(rt; holds(&rt, a_product_past_64_bits_is_recovered(alloc)));
 }
