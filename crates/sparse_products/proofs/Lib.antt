@@ -6,7 +6,7 @@ pub mod ProductPlaces
 pub mod ProductRows
 pub mod ProductSums
 pub mod CoveredLanes
-pub mod SearchedEntries
+pub mod Walks
 pub mod LaneParts
 pub mod UpdatedRows
 pub mod TakenRows

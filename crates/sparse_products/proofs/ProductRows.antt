@@ -22,7 +22,7 @@ use Rattle.sparse_cs.specs.InnerRows.{lane_value}
 use Rattle.sparse_cs.proofs.Arrays.{where_yes, where_no}
 use Rattle.sparse_cs.proofs.RowSums.{eq_refl}
 use Rattle.sparse_cs.proofs.BuiltMatrices.{IsBuiltMatrix, matrix_lane_built, built_is}
-use Rattle.sparse_products.specs.InnerProducts.{IsInLanes, GainsValues}
+use Rattle.sparse_products.specs.InnerProducts.{IsInLanes, GainsTaken}
 use Rattle.sparse_products.proofs.ProductLanes.{IsJoined, in_lanes_is}
 use Rattle.sparse_products.proofs.ProductPlaces.{RowsStand, product, joined_is, product_is_proper}
 
@@ -157,13 +157,13 @@ module _ (R : CommRing) {T : Type 0} (f : T → R.Carrier) (z : T) (stand : Rows
       → n < a.pattern.major_dim → Below n offsets indices values
       → GainsLane indices indices' (IsInLanes b.pattern (lane_of a.pattern n))
       → offsets' ≡ offsets ++ length indices' ∷ []
-      → GainsValues R f z values values' (drop (length indices) indices') (P.value n)
+      → GainsTaken R f z values values' (drop (length indices) indices') (P.value n)
       → Below (n + 1) offsets' indices' values'
   row_more n offsets offsets' indices indices' values values' lt built gains is more =
       let lane : drop (length indices) indices' ≡ gains.lane =
       ap (λ l. drop (length indices) l) gains.pushed
       ∙ drop_at indices gains.lane (length indices) refl in
-      let own = subst (λ l. GainsValues R f z values values' l (P.value n)) lane more in
+      let own = subst (λ l. GainsTaken R f z values values' l (P.value n)) lane more in
       product_more n offsets offsets' indices indices' values values' own.part lt built gains is
       own.pushed own.count own.values
 

@@ -9,7 +9,7 @@ abbrev pub IsInLanes : Raw → List ℕ → ℕ → Type 0
 IsInLanes d lanes j = (k : ℕ) × Contains lanes k × IsPlace d k j
 
 -- the list gains at its end the values that represent x at the indices of a lane
-pub record GainsValues (R : CommRing) {T : Type 0} (f : T → R.Carrier) (z : T) (old new : List T)
+pub record GainsTaken (R : CommRing) {T : Type 0} (f : T → R.Carrier) (z : T) (old new : List T)
     (lane : List ℕ) (x : ℕ → R.Carrier) : Type 0 where
   pub part : List T
   pub pushed : new ≡ old ++ part

@@ -6,3 +6,4 @@ pub mod InnerFactors
 pub mod ScalarProducts
 pub mod InnerLaneSets
 pub mod InnerScratches
+pub mod InnerWalks

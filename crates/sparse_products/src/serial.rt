@@ -10,6 +10,7 @@ mod scatter;
 mod search;
 mod unchecked;
 mod update;
+mod walk;
 
 pub use pattern::{spmm_csc_pattern, spmm_csr_pattern};
 pub use prealloc::{spmm_csc_prealloc, spmm_csr_prealloc};

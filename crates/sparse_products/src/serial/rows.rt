@@ -1,19 +1,21 @@
 //! The product row by row: the indices of a row, and then its values, while the rows of `b` that it takes are in the
 //! cache.
 
-ghost use Rattle.std.specs.Prelude.{◌≡◌, ℕ, ◌<◌, ◌≤◌, ◌++◌, [], ◌∷◌, length, drop, slice_index_or};
-ghost use Rattle.std.specs.Prelude.{All, Contains, IfOk, OnOk};
+ghost use Rattle.std.specs.Prelude.{◌≡◌, ℕ, ◌<◌, ◌≤◌, ◌+◌, ◌↔◌, ◌++◌, [], ◌∷◌, length, drop, map};
+ghost use Rattle.std.specs.Prelude.{All, IfOk, OnOk, slice_index_or, vec_len, vec_capacity};
 ghost use Rattle.std.specs.List.Sorted.{IsStrictlyIncreasing};
 ghost use Rattle.sparse_algebra.specs.Plain.{plain_product};
 ghost use Rattle.sparse_pattern.specs.Raw.{lane_of};
 ghost use Rattle.sparse_pattern.specs.InnerGainedLanes.{GainsLane};
 ghost use Rattle.sparse_cs.specs.Compressed.{IsSound, arrays_of};
 ghost use Rattle.sparse_cs.specs.PlainOfLanes.{plain_of_rows};
-ghost use Rattle.sparse_products.specs.InnerLaneSets.{IsEmptyLaneSet};
-ghost use Rattle.sparse_products.specs.InnerProducts.{IsInLanes, GainsValues, IsTaken};
+ghost use Rattle.sparse_products.specs.InnerLaneSets.{HasRoom, IsEmptyLaneSet};
+ghost use Rattle.sparse_products.specs.InnerBits.{HasBit};
+ghost use Rattle.sparse_products.specs.InnerProducts.{IsInLanes, GainsTaken, IsTaken};
 
 use super::lane_set::{LaneSet, push_lane};
-use super::scatter::{add_product_row, zero_row};
+use super::scatter::zero_row;
+use super::walk::add_product_row;
 use sparse_algebra::learn;
 use sparse_algebra::scalar::Ring;
 use sparse_base::steps::Steps;
@@ -134,69 +136,61 @@ fn push_row<T: Ring>(
         (IsInLanes b.now.pattern (lane_of a.now.pattern i))) }
     ensures offset { OnOk result (rows.new.offsets.items
         ≡ rows.old.offsets.items ++ length rows.new.indices.items ∷ []) }
-    ensures values { OnOk result (GainsValues T.ring T.value T.zero_value
+    ensures values { OnOk result (GainsTaken T.ring T.value T.zero_value
         rows.old.values.items rows.new.values.items
         (drop (length rows.old.indices.items) rows.new.indices.items)
-        ((plain_product T.ring (plain_of_rows T.ring T.value a.now)
-        (plain_of_rows T.ring T.value b.now)).value i)) }
-{
-    let begin = rows.indices.len();
-    push_lane(a.pattern().lane(i), b.pattern(), set, &mut rows.indices)?;
-    rows.offsets.push(rows.indices.len())?;
-    push_values(a, i, b, row, &rows.indices[begin..], &mut rows.values)
-}
-
-// Appends the values of row i of the product at the indices. The scratch row is zero before and after.
-#[inline(always)]
-fn push_values<T: Ring>(
-    a: &CsMatrix<T>,
-    i: usize,
-    b: &CsMatrix<T>,
-    row: &mut [T],
-    indices: &[usize],
-    values: &mut Vec<T>,
-) -> Result<(), AllocError>
-    requires inner { a.now.pattern.minor_dim ≡ b.now.pattern.major_dim }
-    requires lane { i < a.now.pattern.major_dim }
-    requires width { length row.old ≡ b.now.pattern.minor_dim }
-    requires zero { (j : ℕ) → T.value (slice_index_or row.old j T.zero_value) ≡ T.ring.zero }
-    requires rising { IsStrictlyIncreasing indices.now }
-    requires inside { All (λ j. j < length row.old) indices.now }
-    requires places { (j : ℕ) → IsInLanes b.now.pattern (lane_of a.now.pattern i) j
-        → Contains indices.now j }
-    ensures zero { OnOk result ((j : ℕ)
-        → T.value (slice_index_or row.new j T.zero_value) ≡ T.ring.zero) }
-    ensures gained { OnOk result (GainsValues T.ring T.value T.zero_value
-        values.old.items values.new.items indices.now
         ((plain_product T.ring (plain_of_rows T.ring T.value a.now)
         (plain_of_rows T.ring T.value b.now)).value i)) }
 {
     stands_law::<T>();
     learn(a.values());
     learn(b.values());
-    add_product_row(T::one(), a, i, b, row, &mut Steps::new());
-    push_taken(indices, row, values)
+    let begin = rows.indices.len();
+    add_row(a, i, b, set, row);
+    set.drain_into(&mut rows.indices)?;
+    rows.offsets.push(rows.indices.len())?;
+    let indices = &rows.indices[begin..];
+    rows.values.reserve(indices.len())?;
+    push_taken(indices, row, &mut rows.values);
+    Ok(())
 }
 
-// Appends the row's values at the indices, and sets the row to zero there.
-#[tactic(auto, using(crate::proofs::Refusals::refused))]
-fn push_taken<T: Ring>(
-    indices: &[usize],
-    row: &mut [T],
-    values: &mut Vec<T>,
-) -> Result<(), AllocError>
+// Adds up row i of the product in a scratch row of zeros, and its indices in an empty set.
+#[inline(always)]
+fn add_row<T: Ring>(a: &CsMatrix<T>, i: usize, b: &CsMatrix<T>, set: &mut LaneSet, row: &mut [T])
+    requires inner { a.now.pattern.minor_dim ≡ b.now.pattern.major_dim }
+    requires lane { i < a.now.pattern.major_dim }
+    requires empty { IsEmptyLaneSet b.now.pattern.minor_dim set.old }
+    requires width { length row.old ≡ b.now.pattern.minor_dim }
+    requires zero { (j : ℕ) → T.value (slice_index_or row.old j T.zero_value) ≡ T.ring.zero }
+    ensures room { (j : ℕ) → HasRoom set.old j → HasRoom set.new j }
+    ensures met { (j : ℕ) → HasBit set.new.words.items j
+        ↔ IsInLanes b.now.pattern (lane_of a.now.pattern i) j }
+    ensures added { (j : ℕ) → j < length row.old
+        → T.value (slice_index_or row.new j T.zero_value) ≡ (plain_product T.ring (plain_of_rows T.ring T.value a.now)
+        (plain_of_rows T.ring T.value b.now)).value i j }
+    ensures bounded { (j : ℕ) → IsInLanes b.now.pattern (lane_of a.now.pattern i) j
+        → j < length row.old }
+{
+    stands_law::<T>();
+    learn(a.values());
+    learn(b.values());
+    add_product_row(T::one(), a, i, b, set, row, &mut Steps::new());
+}
+
+// Appends the row's values at the indices, for which there is room, and sets the row to zero there.
+fn push_taken<T: Ring>(indices: &[usize], row: &mut [T], values: &mut Vec<T>)
     requires rising { IsStrictlyIncreasing indices.now }
     requires inside { All (λ j. j < length row.old) indices.now }
-    ensures taken { OnOk result (IsTaken T.zero_value indices.now row.old row.new) }
-    ensures gained { OnOk result (GainsValues T.ring T.value T.zero_value
-        values.old.items values.new.items indices.now
-        (λ j. T.value (slice_index_or row.old j T.zero_value))) }
+    requires room { vec_len values.old + length indices.now ≤ vec_capacity values.old }
+    ensures taken { IsTaken T.zero_value indices.now row.old row.new }
+    ensures pushed { values.new.items ≡ values.old.items
+        ++ map (λ j. slice_index_or row.old j T.zero_value) indices.now }
 {
     for j in indices {
-        values.push(row[*j])?;
+        values.push_reserved(row[*j]);
         row[*j] = T::zero();
     }
-    Ok(())
 }
 
 // Returns the matrix of the rows.

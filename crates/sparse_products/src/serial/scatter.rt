@@ -13,6 +13,7 @@ ghost use Rattle.sparse_products.specs.InnerUpdates.{HasProductPlaces, triples_b
 ghost use Rattle.sparse_cs.specs.InnerUpdates.{AreUpdated};
 ghost use Rattle.sparse_products.specs.ScalarProducts.{triples_of};
 
+use super::walk::{EachColumn, add_product_row};
 use sparse_algebra::learn;
 use sparse_algebra::scalar::Ring;
 use sparse_base::steps::Steps;
@@ -115,69 +116,8 @@ fn scatter_row<T: Ring>(
     learn(b.values());
     let offsets = pattern.major_offsets();
     let (begin, end) = (offsets[i], offsets[i + 1]);
-    add_product_row(alpha, a, i, b, row, steps);
+    add_product_row(alpha, a, i, b, &mut EachColumn, row, steps);
     gather_row(beta, pattern.lane(i), row, &mut values[begin..end], steps);
-}
-
-// Adds `alpha` times row i of the product to a row.
-pub(super) fn add_product_row<T: Ring>(
-    alpha: T,
-    a: &CsMatrix<T>,
-    i: usize,
-    b: &CsMatrix<T>,
-    row: &mut [T],
-    steps: &mut Steps,
-)
-    requires inner { a.now.pattern.minor_dim ≡ b.now.pattern.major_dim }
-    requires lane { i < a.now.pattern.major_dim }
-    requires width { length row.old ≡ b.now.pattern.minor_dim }
-    ensures added { (j : ℕ) → j < length row.old → T.value (slice_index_or row.new j T.zero_value)
-        ≡ T.ring.add (T.value (slice_index_or row.old j T.zero_value)) (T.ring.mul (T.value alpha)
-        ((plain_product T.ring (plain_of_rows T.ring T.value a.now)
-        (plain_of_rows T.ring T.value b.now)).value i j)) }
-    ensures counted { steps.new + start_of a.now.pattern i
-        + triples_below (start_of a.now.pattern i) a.now.pattern b.now.pattern
-        ≡ steps.old + end_of a.now.pattern i
-        + triples_below (end_of a.now.pattern i) a.now.pattern b.now.pattern }
-{
-    let (offsets, indices, values) = a.cs_data();
-    let (begin, end) = (offsets[i], offsets[i + 1]);
-    let lanes = &indices[begin..end];
-    let entries = &values[begin..end];
-    for (k, entry) in lanes.iter().zip(entries) {
-        steps.tick();
-        add_matrix_row(alpha.mul(*entry), b, *k, row, steps);
-    }
-}
-
-// Adds a multiple of row k of a matrix to a row.
-fn add_matrix_row<T: Ring>(scale: T, b: &CsMatrix<T>, k: usize, row: &mut [T], steps: &mut Steps)
-    requires lane { k < b.now.pattern.major_dim }
-    requires width { length row.old ≡ b.now.pattern.minor_dim }
-    ensures added { (j : ℕ) → j < length row.old → T.value (slice_index_or row.new j T.zero_value)
-        ≡ T.ring.add (T.value (slice_index_or row.old j T.zero_value))
-        (T.ring.mul (T.value scale) ((plain_of_rows T.ring T.value b.now).value k j)) }
-    ensures counted { steps.new ≡ steps.old + length (lane_of b.now.pattern k) }
-{
-    let (offsets, indices, values) = b.cs_data();
-    let (begin, end) = (offsets[k], offsets[k + 1]);
-    add_row(scale, &indices[begin..end], &values[begin..end], row, steps);
-}
-
-// Adds a multiple of the values at the columns to a row.
-fn add_row<T: Ring>(scale: T, columns: &[usize], values: &[T], row: &mut [T], steps: &mut Steps)
-    requires fits { length values.now ≡ length columns.now }
-    requires inside { All (λ j. j < length row.old) columns.now }
-    ensures added { (j : ℕ) → j < length row.old → T.value (slice_index_or row.new j T.zero_value)
-        ≡ T.ring.add (T.value (slice_index_or row.old j T.zero_value))
-        (T.ring.mul (T.value scale) (lane_value T.ring T.value columns.now values.now j)) }
-    ensures counted { steps.new ≡ steps.old + length columns.now }
-{
-    for (j, value) in columns.iter().zip(values) {
-        steps.tick();
-        let entry = &mut row[*j];
-        *entry = entry.add(scale.mul(*value));
-    }
 }
 
 // Multiplies the values by `beta`, adds to each the row's value at its index, and sets the row to zero there.

@@ -14,6 +14,7 @@ ghost use Rattle.sparse_products.specs.InnerUpdates.{HasProductPlaces, triples_b
 ghost use Rattle.sparse_cs.specs.InnerUpdates.{AreUpdated};
 ghost use Rattle.sparse_products.specs.ScalarProducts.{triples_of};
 
+use super::walk::{Slots, add_product_row};
 use sparse_algebra::learn;
 use sparse_algebra::scalar::Ring;
 use sparse_base::steps::Steps;
@@ -85,6 +86,38 @@ fn position_of(pattern: &SparsityPattern, i: usize, j: usize) -> Option<usize>
     }
 }
 
+// The positions of a lane of a pattern as slots of its columns.
+#[derive(Drop)]
+struct LaneSlots<'a> {
+    pattern: &'a SparsityPattern,
+    lane: usize,
+}
+
+// The slot of a column is the position of its place, and nothing is noted.
+impl<'a> Slots for LaneSlots<'a> {
+    ghost use Rattle.std.specs.Prelude.{⊤};
+    ghost use Rattle.std.proofs.Common.{sym, ◌∙◌};
+    ghost use Rattle.sparse_pattern.proofs.Positions.{one_position};
+    ghost use Rattle.sparse_products.specs.InnerWalks.{IsSlotOf};
+
+    ghost slot = { λ s. IsSlotOf s.pattern.now s.lane };
+
+    ghost noted = { λ _ _. ⊤ };
+
+    #[inline(always)]
+    fn slot_of(&mut self, column: usize) -> usize {
+        match position_of(self.pattern, self.lane, column) {
+            Some(at) => at,
+            None => 0,
+        }
+    }
+
+    ghost one_slot = { λ s j p q here there. one_position s.pattern.now here.0 s.lane p q here.1.0
+        there.1.0 (here.1.1 ∙ sym there.1.1) };
+
+    ghost one_column = { λ s i j p here there. sym here.1.1 ∙ there.1.1 };
+}
+
 // Replaces each value `c` by `beta * c + alpha * x`, where `x` is the entry of the product `a * b` at its place.
 pub(super) fn search_rows<T: Ring>(
     beta: T,
@@ -112,7 +145,8 @@ pub(super) fn search_rows<T: Ring>(
     learn(b.values());
     scale_values(beta, values, steps);
     for i in 0..pattern.major_dim() {
-        add_lanes(alpha, a, i, b, pattern, values, steps);
+        let mut slots = LaneSlots { pattern, lane: i };
+        add_product_row(alpha, a, i, b, &mut slots, values, steps);
     }
 }
 
@@ -125,111 +159,5 @@ fn scale_values<T: Ring>(factor: T, values: &mut [T], steps: &mut Steps)
     for value in values.iter_mut() {
         steps.tick();
         *value = factor.mul(*value);
-    }
-}
-
-// Adds `alpha` times row i of the product to the values of lane i.
-fn add_lanes<T: Ring>(
-    alpha: T,
-    a: &CsMatrix<T>,
-    i: usize,
-    b: &CsMatrix<T>,
-    pattern: &SparsityPattern,
-    values: &mut [T],
-    steps: &mut Steps,
-)
-    requires inner { a.now.pattern.minor_dim ≡ b.now.pattern.major_dim }
-    requires lane { i < a.now.pattern.major_dim }
-    requires target { i < pattern.now.major_dim }
-    requires count { length values.old ≡ length pattern.now.indices }
-    requires places { (j : ℕ) → IsInLanes b.now.pattern (lane_of a.now.pattern i) j
-        → IsPlace pattern.now i j }
-    ensures added { (j p : ℕ) → IsPosition pattern.now i j p
-        → T.value (slice_index_or values.new p T.zero_value)
-        ≡ T.ring.add (T.value (slice_index_or values.old p T.zero_value))
-        (T.ring.mul (T.value alpha)
-        ((plain_product T.ring (plain_of_rows T.ring T.value a.now)
-        (plain_of_rows T.ring T.value b.now)).value i j)) }
-    ensures others { (p : ℕ) → (IsInLane pattern.now i p → ⊥)
-        → slice_index_or values.new p T.zero_value ≡ slice_index_or values.old p T.zero_value }
-    ensures counted { steps.new + start_of a.now.pattern i
-        + triples_below (start_of a.now.pattern i) a.now.pattern b.now.pattern
-        ≡ steps.old + end_of a.now.pattern i
-        + triples_below (end_of a.now.pattern i) a.now.pattern b.now.pattern }
-{
-    let (offsets, indices, entries) = a.cs_data();
-    let (begin, end) = (offsets[i], offsets[i + 1]);
-    let lanes = &indices[begin..end];
-    let entries = &entries[begin..end];
-    for (k, entry) in lanes.iter().zip(entries) {
-        steps.tick();
-        add_matrix_lane(alpha.mul(*entry), b, *k, pattern, i, values, steps);
-    }
-}
-
-// Adds a multiple of lane k of a matrix to the values of lane i.
-fn add_matrix_lane<T: Ring>(
-    scale: T,
-    b: &CsMatrix<T>,
-    k: usize,
-    pattern: &SparsityPattern,
-    i: usize,
-    values: &mut [T],
-    steps: &mut Steps,
-)
-    requires lane { k < b.now.pattern.major_dim }
-    requires target { i < pattern.now.major_dim }
-    requires count { length values.old ≡ length pattern.now.indices }
-    requires places { (j : ℕ) → IsPlace b.now.pattern k j → IsPlace pattern.now i j }
-    ensures added { (j p : ℕ) → IsPosition pattern.now i j p
-        → T.value (slice_index_or values.new p T.zero_value)
-        ≡ T.ring.add (T.value (slice_index_or values.old p T.zero_value))
-        (T.ring.mul (T.value scale) ((plain_of_rows T.ring T.value b.now).value k j)) }
-    ensures others { (p : ℕ) → (IsInLane pattern.now i p → ⊥)
-        → slice_index_or values.new p T.zero_value ≡ slice_index_or values.old p T.zero_value }
-    ensures counted { steps.new ≡ steps.old + length (lane_of b.now.pattern k) }
-{
-    let (offsets, indices, entries) = b.cs_data();
-    let (begin, end) = (offsets[k], offsets[k + 1]);
-    add_entries(
-        scale,
-        &indices[begin..end],
-        &entries[begin..end],
-        pattern,
-        i,
-        values,
-        steps,
-    );
-}
-
-// Adds a multiple of the entries at the indices to the values of lane i.
-fn add_entries<T: Ring>(
-    scale: T,
-    indices: &[usize],
-    entries: &[T],
-    pattern: &SparsityPattern,
-    i: usize,
-    values: &mut [T],
-    steps: &mut Steps,
-)
-    requires fits { length entries.now ≡ length indices.now }
-    requires target { i < pattern.now.major_dim }
-    requires count { length values.old ≡ length pattern.now.indices }
-    requires places { (j : ℕ) → Contains indices.now j → IsPlace pattern.now i j }
-    ensures added { (j p : ℕ) → IsPosition pattern.now i j p
-        → T.value (slice_index_or values.new p T.zero_value)
-        ≡ T.ring.add (T.value (slice_index_or values.old p T.zero_value))
-        (T.ring.mul (T.value scale) (lane_value T.ring T.value indices.now entries.now j)) }
-    ensures others { (p : ℕ) → (IsInLane pattern.now i p → ⊥)
-        → slice_index_or values.new p T.zero_value ≡ slice_index_or values.old p T.zero_value }
-    ensures counted { steps.new ≡ steps.old + length indices.now }
-{
-    learn(pattern.major_offsets());
-    for (j, entry) in indices.iter().zip(entries) {
-        steps.tick();
-        match position_of(pattern, i, *j) {
-            Some(at) => values[at] = values[at].add(scale.mul(*entry)),
-            None => {}
-        }
     }
 }

@@ -1,80 +1,98 @@
-use Rattle.std.proofs.Common.{◌≡◌, ◌∷◌, [], ◌++◌, length, get_or, drop, ap, ◌∙◌, refl, arith}
+use Rattle.std.proofs.Common.{◌≡◌, ◌<◌, ℕ, ◌∷◌, [], ◌++◌, length, get_or, drop, ap, ◌∙◌, refl, arith}
 use Rattle.std.proofs.lemmas.List.{drop_at}
 use Rattle.std.proofs.lemmas.List.Elements.{Contains-get_or}
 use Rattle.sparse_pattern.specs.Raw.{lane_of}
 use Rattle.sparse_pattern.specs.InnerGainedLanes.{GainsLane}
-use Rattle.sparse_pattern.proofs.BuiltLanes.{place_within}
-use Rattle.sparse_sums.proofs.Updating.{on_ok_also}
+use Rattle.sparse_products.specs.InnerBits.{HasBit}
 use Rattle.sparse_products.specs.InnerProducts.{IsInLanes}
+use Rattle.sparse_products.proofs.GainedLanes.{gains_same}
 use Rattle.sparse_products.proofs.LaneParts.{tail_is}
-use Rattle.sparse_products.proofs.ProductLanes.{lane_below}
+use Rattle.sparse_products.proofs.ProductPlaces.{product}
+use Rattle.sparse_products.proofs.ProductRows.{zero_off}
+use Rattle.sparse_products.proofs.TakenRows.{left_zero, values_taken}
 use Rattle.sparse_products.proofs.serial.rows.push_row.Goals as goal
 
-pub push_lane-requires-clause-shared : goal.push_lane-requires-clause-shared
-push_lane-requires-clause-shared g c = rw (
-  c.lane.ensures,
-  c.pattern-2.ensures.pattern,
-  c.pattern.ensures.pattern,
-  ← c.requires.inner,
-) (lane_below c.args.a.now.pattern c.pattern.ensures.sound.valid c.args.i c.requires.lane)
+pub drain_into-requires : goal.drain_into-requires
+drain_into-requires g c = c.add_row.ensures.room 0 (c.requires.empty.room 0 (omega arith))
 
-pub push_lane-requires-clause-empty : goal.push_lane-requires-clause-empty
-push_lane-requires-clause-empty g c = rw c.pattern-2.ensures.pattern c.requires.empty
-
-pub push_values-requires : goal.push_values-requires
-push_values-requires g c =
-    let a = c.args.a.now in
-    let b = c.args.b.now in
-    let lanes_are : c.lane.result.now ≡ lane_of a.pattern c.args.i = c.lane.ensures
-    ∙ ap (λ d. lane_of d c.args.i) c.pattern.ensures.pattern in
+pub push_taken-requires-clause-rising : goal.push_taken-requires-clause-rising
+push_taken-requires-clause-rising g c =
+    let b = c.args.b.now.pattern in
+    let lanes = lane_of c.args.a.now.pattern c.args.i in
     let old = c.args.rows.now.indices.items in
-    let gains : GainsLane old c.push_lane.new.indices.items
-    (IsInLanes b.pattern (lane_of a.pattern c.args.i)) =
-    rw (lanes_are, c.pattern-2.ensures.pattern) at c.in_ok-push_lane.ensures.pushed in
+    let gains : GainsLane old c.drain_into.new.indices.items (IsInLanes b lanes) =
+    gains_same _ _ (HasBit c.add_row.new.set.words.items) (IsInLanes b lanes)
+    c.add_row.ensures.met c.in_ok-drain_into.ensures.pushed in
     let begin : length old ≡ c.len-begin.result =
     omega (arith, c.len-begin.ensures, c.args.rows.now.indices.ok.0) in
     let tail = tail_is c.deref.result.now old gains.lane c.len-begin.result begin
     (c.deref.ensures.value ∙ gains.pushed) in
-    rw tail record {
-      inner = c.requires.inner;
-      lane = c.requires.lane;
-      width = c.requires.width;
-      zero = c.requires.zero;
-      rising = gains.rising;
-      inside = λ k d lt.
-          let s = (gains.holds (get_or gains.lane k d)).0 (Contains-get_or gains.lane k d lt) in
-          omega (
-            arith,
-            place_within b.pattern c.pattern-2.ensures.sound.valid s.0 (get_or gains.lane k d) s.2,
-            c.requires.width,
-          );
-      places = λ j h. (gains.holds j).1 h;
-    }
+    rw tail gains.rising
+
+pub push_taken-requires-clause-inside : goal.push_taken-requires-clause-inside
+push_taken-requires-clause-inside g c =
+    let b = c.args.b.now.pattern in
+    let lanes = lane_of c.args.a.now.pattern c.args.i in
+    let old = c.args.rows.now.indices.items in
+    let gains : GainsLane old c.drain_into.new.indices.items (IsInLanes b lanes) =
+    gains_same _ _ (HasBit c.add_row.new.set.words.items) (IsInLanes b lanes)
+    c.add_row.ensures.met c.in_ok-drain_into.ensures.pushed in
+    let begin : length old ≡ c.len-begin.result =
+    omega (arith, c.len-begin.ensures, c.args.rows.now.indices.ok.0) in
+    let tail = tail_is c.deref.result.now old gains.lane c.len-begin.result begin
+    (c.deref.ensures.value ∙ gains.pushed) in
+    rw tail (λ k d lt. omega (
+      arith,
+      c.add_row.ensures.bounded (get_or gains.lane k d)
+          ((gains.holds (get_or gains.lane k d)).0 (Contains-get_or gains.lane k d lt)),
+      c.add_row.auto.row,
+    ))
 
 pub returns : goal.returns
 returns g c =
-    let a = c.args.a.now in
-    let b = c.args.b.now in
-    let lanes_are : c.lane.result.now ≡ lane_of a.pattern c.args.i = c.lane.ensures
-    ∙ ap (λ d. lane_of d c.args.i) c.pattern.ensures.pattern in
+    let R = g.T.Ring.ring in
+    let f = g.T.Ring.value in
+    let z = g.T.Zero.zero_value in
+    let stand = c.stands_law.ensures.rows in
+    let sa = c.values.ensures.sound in
+    let sb = c.values-2.ensures.sound in
+    let i = c.args.i in
+    let x = (product R f stand c.args.a.now c.args.b.now sa sb c.requires.inner).value i in
+    let row = c.add_row.new.row in
+    let is_row : (j : ℕ) → j < length row → f (get_or row j z) ≡ x j = λ j lt.
+    c.add_row.ensures.added j (omega (arith, lt, c.add_row.auto.row)) in
+    let b = c.args.b.now.pattern in
+    let lanes = lane_of c.args.a.now.pattern c.args.i in
     let old = c.args.rows.now.indices.items in
-    let gains : GainsLane old c.push_lane.new.indices.items
-    (IsInLanes b.pattern (lane_of a.pattern c.args.i)) =
-    rw (lanes_are, c.pattern-2.ensures.pattern) at c.in_ok-push_lane.ensures.pushed in
+    let gains : GainsLane old c.drain_into.new.indices.items (IsInLanes b lanes) =
+    gains_same _ _ (HasBit c.add_row.new.set.words.items) (IsInLanes b lanes)
+    c.add_row.ensures.met c.in_ok-drain_into.ensures.pushed in
     let begin : length old ≡ c.len-begin.result =
     omega (arith, c.len-begin.ensures, c.args.rows.now.indices.ok.0) in
     let tail = tail_is c.deref.result.now old gains.lane c.len-begin.result begin
     (c.deref.ensures.value ∙ gains.pushed) in
-    let lane : drop (length old) c.push_lane.new.indices.items ≡ gains.lane =
+    let lane : drop (length old) c.drain_into.new.indices.items ≡ gains.lane =
     ap (λ l. drop (length old) l) gains.pushed ∙ drop_at old gains.lane (length old) refl in
-    let zero = c.push_values.ensures.zero in
-    let empty = rw c.pattern-2.ensures.pattern at c.in_ok-push_lane.ensures.empty in
+    let taken = rw tail at c.push_taken.ensures.taken in
+    let pushed = rw (tail, c.in_ok-reserve.ensures.items) at c.push_taken.ensures.pushed in
     record {
-      empty = on_ok_also c.push_values.result (λ _ _. empty) zero;
-      zero = zero;
-      lane = on_ok_also c.push_values.result (λ _ _. gains) zero;
-      offset = on_ok_also c.push_values.result (λ _ _. c.in_ok-push.ensures.items
-          ∙ ap (λ n. c.args.rows.now.offsets.items ++ n ∷ [])
-          (c.len.ensures ∙ c.push_lane.new.indices.ok.0)) zero;
-      values = rw lane (rw tail at c.push_values.ensures.gained);
+      empty = record {
+        room = λ j lt. c.in_ok-drain_into.ensures.room j
+            (c.add_row.ensures.room j (c.requires.empty.room j lt));
+        empty = c.in_ok-drain_into.ensures.empty;
+      };
+      zero = left_zero R f z gains.lane x row c.push_taken.new.row g.met.T.Ring.zero_law
+          (zero_off R f z stand c.args.a.now c.args.b.now sa sb c.requires.inner i c.requires.lane
+          gains.lane (λ j. (gains.holds j).1)) is_row taken;
+      lane = gains;
+      offset = c.in_ok-push.ensures.items ∙ ap (λ n. c.args.rows.now.offsets.items ++ n ∷ [])
+          (c.len.ensures ∙ c.drain_into.new.indices.ok.0);
+      values = rw lane (values_taken R f z x row c.args.rows.now.values.items
+          c.push_taken.new.values.items gains.lane pushed (λ q lt. is_row (get_or gains.lane q 0)
+          (omega (
+            arith,
+            c.add_row.ensures.bounded (get_or gains.lane q 0)
+                ((gains.holds (get_or gains.lane q 0)).0 (Contains-get_or gains.lane q 0 lt)),
+            c.add_row.auto.row,
+          ))));
     }

@@ -1,24 +1,12 @@
-use Rattle.std.proofs.Common.{◌≡◌, ◌<◌, length, get_or, ap, subst, ◌∙◌, arith}
-use Rattle.std.proofs.lemmas.List.{get_or_default, take_all}
-use Rattle.sparse_products.specs.InnerProducts.{GainsValues, IsTaken}
-use Rattle.sparse_products.proofs.TakenRows.{taken_none, taken_more, values_none, values_more}
-use Rattle.sparse_products.proofs.TakenRows.{not_before}
+use Rattle.std.proofs.Common.{◌≡◌, ◌<◌, ℕ, ◌∷◌, [], ◌++◌, length, map, get_or, ap, sym, ◌∙◌, arith}
+use Rattle.std.proofs.Common.{append_assoc, subst, take}
+use Rattle.std.proofs.lemmas.List.{append-nil, get_or_default, map-append, take_all, take_more}
+use Rattle.sparse_products.specs.InnerProducts.{IsTaken}
+use Rattle.sparse_products.proofs.TakenRows.{taken_none, taken_more, not_before}
 use Rattle.sparse_products.proofs.serial.rows.push_taken.Goals as goal
-
-pub loop-j-init : goal.loop-j-init
-loop-j-init g c =
-    let f = g.T.Ring.value in
-    let z = g.T.Zero.zero_value in
-    let row = c.args.row.now in
-    let js = c.args.indices.now in
-    record {
-      taken = taken_none z row row js;
-      gained = values_none g.T.Ring.ring f z (λ j. f (get_or row j z)) c.args.values.now.items js;
-    }
 
 pub loop-j-preserved : goal.loop-j-preserved
 loop-j-preserved g c =
-    let f = g.T.Ring.value in
     let z = g.T.Zero.zero_value in
     let js = c.args.indices.now in
     let start = c.args.row.now in
@@ -28,23 +16,30 @@ loop-j-preserved g c =
     let inv = c.loop-j.invariant in
     let j = get_or js p 0 in
     let v = c.index-row-j.result in
+    let own = λ (j : ℕ). get_or start j z in
     let within : j < length row = omega (arith, c.requires.inside p 0 lt, c.loop-j.auto.row) in
-    let read : v ≡ get_or start j z = c.index-row-j.is ∙ get_or_default row j v z within
+    let read : v ≡ own j = c.index-row-j.is ∙ get_or_default row j v z within
     ∙ inv.taken.kept j (not_before js p c.requires.rising lt) in
-    rw (c.zero.ensures, c.in_ok-push.ensures.items) record {
+    rw c.zero.ensures record {
+      room = omega (
+        arith,
+        inv.room,
+        c.push_reserved.ensures.len,
+        c.push_reserved.ensures.capacity,
+      );
       taken = taken_more z start row js p lt within inv.taken;
-      gained = values_more g.T.Ring.ring f z (λ j. f (get_or start j z)) c.args.values.now.items
-          c.loop-j.values.items js p v lt (ap f read) inv.gained;
+      pushed = c.push_reserved.ensures.items ∙ ap (λ xs. xs ++ v ∷ []) inv.pushed
+          ∙ append_assoc c.args.values.now.items (map own (take p js)) (v ∷ [])
+          ∙ ap (λ xs. c.args.values.now.items ++ xs)
+          (ap (λ x. map own (take p js) ++ x ∷ []) read
+          ∙ sym (map-append own (take p js) (j ∷ [])) ∙ ap (map own) (sym (take_more js p 0 lt)));
     }
 
-pub returns : goal.returns
-returns g c =
-    let f = g.T.Ring.value in
-    let z = g.T.Zero.zero_value in
-    let whole = take_all c.loop-j.j-index c.args.indices.now c.loop-j-test.false in
-    record {
-      taken = subst (λ l. IsTaken z l c.args.row.now c.loop-j.row) whole c.loop-j.invariant.taken;
-      gained = subst (λ l. GainsValues g.T.Ring.ring f z c.args.values.now.items
-          c.loop-j.values.items l (λ j. f (get_or c.args.row.now j z))) whole
-          c.loop-j.invariant.gained;
-    }
+pub returns-clause-taken : goal.returns-clause-taken
+returns-clause-taken g c = subst (λ l. IsTaken g.T.Zero.zero_value l c.args.row.now c.loop-j.row)
+    (take_all c.loop-j.j-index c.args.indices.now c.loop-j-test.false) c.loop-j.invariant.taken
+
+pub returns-clause-pushed : goal.returns-clause-pushed
+returns-clause-pushed g c = c.loop-j.invariant.pushed ∙ ap (λ l. c.args.values.now.items
+    ++ map (λ j. get_or c.args.row.now j g.T.Zero.zero_value) l)
+    (take_all c.loop-j.j-index c.args.indices.now c.loop-j-test.false)

@@ -1,14 +1,15 @@
-use Rattle.std.proofs.Common.{take, get_or}
-use Rattle.sparse_products.specs.InnerProducts.{GainsValues, IsTaken}
+use Rattle.std.proofs.Common.{◌≡◌, ◌+◌, ◌≤◌, ◌++◌, length, map, take, get_or}
+use Rattle.std.specs.Vec.{vec_capacity}
+use Rattle.sparse_products.specs.InnerProducts.{IsTaken}
 use Rattle.sparse_products.proofs.serial.rows.push_taken.Given as goal
 
 abbrev pub invariant-loop-j : goal.invariant-loop-j
 invariant-loop-j g l =
-    let f = g.T.Ring.value in
     let z = g.T.Zero.zero_value in
     let lane = take l.j-index l.indices in
     record {
+      room : l.values.len + length l.indices ≤ vec_capacity l.values + l.j-index;
       taken : IsTaken z lane l.initial.row l.row;
-      gained : GainsValues g.T.Ring.ring f z l.initial.values.items l.values.items lane
-          (λ j. f (get_or l.initial.row j z));
+      pushed : l.values.items ≡ l.initial.values.items
+          ++ map (λ j. get_or l.initial.row j z) lane;
     }

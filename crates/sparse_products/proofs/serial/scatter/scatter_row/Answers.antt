@@ -1,12 +1,13 @@
 use borrow.Author.Rules.{scaled_fits≤}
 use Rattle.std.proofs.Common.{◌≡◌, ◌+◌, ◌-◌, ◌<◌, ◌≤◌, ℕ, inl, inr, length, get_or, sym, ◌∙◌}
-use Rattle.std.proofs.Common.{slice_range, ap, subst, All, arith}
+use Rattle.std.proofs.Common.{slice_range, ap, subst, refl, All, arith}
 use Rattle.std.specs.List.Sorted.{IsStrictlyIncreasing}
 use borrow.Rule.Slice.PartMut.{mid_len}
 use Rattle.std.proofs.lemmas.List.Edits.{get_or-between}
 use Rattle.sparse_algebra.proofs.Cases.{lt_or_ge}
-use Rattle.sparse_algebra.proofs.RingLemmas.{zero_add}
+use Rattle.sparse_algebra.proofs.RingLemmas.{zero_add, mul_zero}
 use Rattle.sparse_pattern.specs.Raw.{start_of, end_of, lane_of}
+use Rattle.sparse_pattern.proofs.BuiltLanes.{place_within}
 use Rattle.sparse_pattern.proofs.LaneLists.{lane_has}
 use Rattle.sparse_pattern.proofs.PatternLanes.{length-lane, get_or-lane}
 use Rattle.sparse_cs.proofs.LaneSearch.{rising_lane}
@@ -17,6 +18,17 @@ use Rattle.sparse_products.proofs.ProductRows.{zero_off}
 use Rattle.sparse_products.proofs.TakenRows.{left_zero}
 use Rattle.sparse_products.proofs.serial.scatter.scatter_row.Goals as goal
 
+pub add_product_row-requires-clause-slots : goal.add_product_row-requires-clause-slots
+add_product_row-requires-clause-slots g c = λ j h. (
+  j,
+  refl,
+  omega (
+    arith,
+    place_within c.args.b.now.pattern c.values-2.ensures.sound.valid h.0 j h.2,
+    c.requires.width,
+  ),
+)
+
 pub gather_row-requires-clause-rising : goal.gather_row-requires-clause-rising
 gather_row-requires-clause-rising g c =
     let valid = c.major_offsets-offsets.ensures.valid in
@@ -26,12 +38,12 @@ gather_row-requires-clause-rising g c =
 pub gather_row-requires-clause-inside : goal.gather_row-requires-clause-inside
 gather_row-requires-clause-inside g c =
     let valid = c.major_offsets-offsets.ensures.valid in
-    subst (λ l. All (λ j. j < length c.add_product_row.new.row) l) (sym c.lane.ensures) (λ k d lt. omega (
+    subst (λ l. All (λ j. j < length c.add_product_row.new.target) l) (sym c.lane.ensures) (λ k d lt. omega (
       arith,
       lane_below c.args.pattern.now valid c.args.i c.requires.target k d lt,
       c.requires.width,
       c.requires.cols,
-      c.add_product_row.auto.row,
+      c.add_product_row.auto.target,
     ))
 
 pub gather_row-requires-clause-count : goal.gather_row-requires-clause-count
@@ -75,20 +87,21 @@ returns g c =
     let stand = c.stands_law.ensures.rows in
     let x = (product R f stand a b sa c.values-2.ensures.sound c.requires.inner).value in
     let alpha = f c.args.alpha in
-    let row = c.add_product_row.new.row in
+    let row = c.add_product_row.new.target in
     let is_row : (j : ℕ) → j < length row → f (get_or row j z) ≡ R.mul alpha (x i j) = λ j lt.
-    c.add_product_row.ensures.added j (omega (arith, lt, c.add_product_row.auto.row))
+    c.add_product_row.ensures.added.added j j refl (omega (arith, lt, c.add_product_row.auto.target))
     ∙ ap (λ y. R.add y (R.mul alpha (x i j))) (c.requires.zero j)
     ∙ zero_add R (R.mul alpha (x i j)) in
     let gathered = rw (offsets_are, c.lane.ensures) at c.gather_row.ensures.gathered in
     let taken = rw c.lane.ensures at c.gather_row.ensures.taken in
     let counted = rw c.lane.ensures at c.gather_row.ensures.counted in
     rw offsets_are record {
-      zero = left_zero R f z (lane_of d i) alpha (x i) row c.gather_row.new.row
+      zero = left_zero R f z (lane_of d i) (λ j. R.mul alpha (x i j)) row c.gather_row.new.row
           g.met.T.Ring.zero_law
-          (zero_off R f z stand a b sa c.values-2.ensures.sound c.requires.inner i c.requires.lane
-          (lane_of d i) (λ j h. (lane_has d valid i j c.requires.target).1 (c.requires.places j h)))
-          is_row taken;
+          (λ j none. ap (R.mul alpha) (zero_off R f z stand a b sa c.values-2.ensures.sound
+          c.requires.inner i c.requires.lane (lane_of d i)
+          (λ j h. (lane_has d valid i j c.requires.target).1 (c.requires.places j h)) j none)
+          ∙ mul_zero R alpha) is_row taken;
       updated = λ j p at.
           let k = p - s in
           let k_lt : k < length (lane_of d i) = omega (arith, lane_long, at.0.from, at.0.to) in
@@ -104,7 +117,7 @@ returns g c =
             index,
             c.requires.cols,
             c.requires.width,
-            c.add_product_row.auto.row,
+            c.add_product_row.auto.target,
           ) in
           ap f (in_part s n old part z within part_long p at.0.from
           (omega (arith, at.0.to, in_lane.ordered))) ∙ rw (was, index) at (gathered k k_lt)

@@ -1,5 +1,6 @@
-use Rattle.std.proofs.Common.{◌≡◌, ◌<◌, length, sym, ◌∙◌, ap, arith}
-use Rattle.sparse_pattern.specs.Raw.{start_of}
+use Rattle.std.proofs.Common.{◌≡◌, ◌<◌, ℕ, length, sym, ◌∙◌, ap, arith}
+use Rattle.sparse_pattern.specs.Raw.{start_of, IsInLane}
+use Rattle.sparse_cs.specs.Compressed.{IsPosition}
 use Rattle.sparse_cs.specs.PlainOfLanes.{plain_of_rows}
 use Rattle.sparse_algebra.specs.Plain.{plain_product}
 use Rattle.sparse_products.specs.InnerUpdates.{triples_below}
@@ -8,9 +9,23 @@ use Rattle.sparse_products.proofs.ProductSums.{all_triples}
 use Rattle.sparse_products.proofs.UpdatedRows.{rows_more, rest_more}
 use Rattle.sparse_products.proofs.serial.search.search_rows.Goals as goal
 
-pub add_lanes-requires-clause-places : goal.add_lanes-requires-clause-places
-add_lanes-requires-clause-places g c = places_of_product c.args.pattern.now c.args.a.now.pattern
-    c.args.b.now.pattern c.values.ensures.sound.valid c.requires.places c.loop-i.i (omega arith)
+pub add_product_row-requires-clause-slots : goal.add_product_row-requires-clause-slots
+add_product_row-requires-clause-slots g c = λ j h.
+    let d = c.args.pattern.now in
+    let i = c.loop-i.i in
+    let valid = c.major_offsets.ensures.valid in
+    let place = places_of_product d c.args.a.now.pattern c.args.b.now.pattern
+    c.values.ensures.sound.valid c.requires.places i (omega arith) j h in (
+      place.at,
+      (valid, (place.in_lane, place.index)),
+      omega (
+        arith,
+        place.in_lane.to,
+        (valid.lanes i place.in_lane.lane).inside,
+        c.requires.count,
+        c.loop-i.auto.values,
+      ),
+    )
 
 pub loop-i-preserved : goal.loop-i-preserved
 loop-i-preserved g c =
@@ -24,13 +39,23 @@ loop-i-preserved g c =
     let lane : i < d.major_dim = omega arith in
     let x = (plain_product R (plain_of_rows R f c.args.a.now)
     (plain_of_rows R f c.args.b.now)).value in
+    let others = λ (p : ℕ) (none : IsInLane d i p → ⊥).
+    c.add_product_row.ensures.added.others p (λ j at. none at.1.0) in
+    let added = λ (j p : ℕ) (at : IsPosition d i j p).
+    c.add_product_row.ensures.added.added j p (valid, at) (omega (
+      arith,
+      at.0.to,
+      (valid.lanes i lane).inside,
+      c.requires.count,
+      c.loop-i.auto.values,
+    )) in
     record {
       updated = rows_more R f z d valid f (f c.args.alpha) x c.scale_values.new.values
-          c.loop-i.values c.add_lanes.new.values i lane c.add_lanes.ensures.others
-          c.add_lanes.ensures.added inv.updated inv.rest;
+          c.loop-i.values c.add_product_row.new.target i lane others
+          added inv.updated inv.rest;
       rest = rest_more R f z d valid f (f c.args.alpha) x c.scale_values.new.values c.loop-i.values
-          c.add_lanes.new.values i lane c.add_lanes.ensures.others inv.rest;
-      counted = omega (arith, inv.counted, c.add_lanes.ensures.counted);
+          c.add_product_row.new.target i lane others inv.rest;
+      counted = omega (arith, inv.counted, c.add_product_row.ensures.counted);
     }
 
 pub returns-clause-updated : goal.returns-clause-updated

@@ -1,0 +1,141 @@
+-- What the walk through the terms of a row adds and notes, one part after another.
+use Rattle.std.proofs.Common.{◌≡◌, ◌≢◌, ℕ, ◌+◌, ◌<◌, ◌↔◌, ◌⊎◌, inl, inr, List, length, get_or, set}
+use Rattle.std.proofs.Common.{take, Contains, ap, sym, subst, ◌∙◌, refl, arith}
+use Rattle.std.specs.Prelude.{nat_eq}
+use Rattle.std.proofs.lemmas.Bool.{cases_eq}
+use Rattle.std.proofs.lemmas.List.{get_or-set_same, get_or-set_other}
+use Rattle.sparse_algebra.proofs.Cases.{nat_eq_no}
+use Rattle.sparse_algebra.specs.Algebra.{CommRing}
+use Rattle.sparse_algebra.specs.Sums.{where_true}
+use Rattle.sparse_algebra.proofs.RingLemmas.{mul_zero}
+use Rattle.sparse_pattern.specs.Raw.{Raw, IsPlace}
+use Rattle.sparse_cs.proofs.Arrays.{where_yes, where_no}
+use Rattle.sparse_cs.proofs.RowSums.{eq_refl}
+use Rattle.sparse_sums.proofs.Merging.{more}
+use Rattle.sparse_products.specs.InnerProducts.{IsInLanes}
+use Rattle.sparse_products.specs.InnerWalks.{AreAdded, AreNoted}
+
+module _ (R : CommRing) {T : Type 0} (f : T → R.Carrier) (z : T) (slot : ℕ → ℕ → Type 0)
+    (scale : R.Carrier) where
+  pub added_none : (old : List T) → AreAdded R f z slot scale (λ j. R.zero) old old
+  added_none old = record {
+    added = λ j p at lt.
+        let c = f (get_or old p z) in
+        sym (ap (R.add c) (mul_zero R scale) ∙ R.laws.add_zero c);
+    others = λ p none. refl;
+  }
+
+  -- one sum after another
+  pub added_then : (slot' : ℕ → ℕ → Type 0) (scale' : R.Carrier) (x x' sum : ℕ → R.Carrier)
+      (start now new : List T) → ((j p : ℕ) → slot' j p ↔ slot j p)
+      → length now ≡ length start
+      → ((j : ℕ) → R.mul scale (sum j) ≡ R.add (R.mul scale (x j)) (R.mul scale' (x' j)))
+      → AreAdded R f z slot scale x start now → AreAdded R f z slot' scale' x' now new
+      → AreAdded R f z slot scale sum start new
+  added_then slot' scale' x x' sum start now new same long more before after = record {
+    added = λ j p at lt.
+        let c = f (get_or start p z) in
+        after.added j p ((same j p).1 at) (omega (arith, lt, long))
+        ∙ ap (λ y. R.add y (R.mul scale' (x' j))) (before.added j p at lt)
+        ∙ R.laws.add_assoc c (R.mul scale (x j)) (R.mul scale' (x' j))
+        ∙ ap (R.add c) (sym (more j));
+    others = λ p none. after.others p (λ j at. none j ((same j p).0 at)) ∙ before.others p none;
+  }
+
+  pub added_same : (x y : ℕ → R.Carrier) (old new : List T) → ((j : ℕ) → x j ≡ y j)
+      → AreAdded R f z slot scale x old new → AreAdded R f z slot scale y old new
+  added_same x y old new same was = record {
+    added = λ j p at lt. was.added j p at lt
+        ∙ ap (λ c. R.add (f (get_or old p z)) (R.mul scale c)) (same j);
+    others = was.others;
+  }
+
+  -- one entry, at the slot of its column
+  pub entry_added : ((j p q : ℕ) → slot j p → slot j q → p ≡ q)
+      → ((i j p : ℕ) → slot i p → slot j p → i ≡ j) → (old : List T) (k q : ℕ) (v w : T)
+      → slot k q → f w ≡ R.add (f (get_or old q z)) (R.mul scale (f v))
+      → AreAdded R f z slot scale (λ j. where_true R (nat_eq k j) (f v)) old (set old q w)
+  entry_added one_slot one_column old k q v w here is = record {
+    added = λ j p at lt.
+        let c = f (get_or old p z) in
+        elim (cases_eq p q) [
+          | inl same ↦
+              let index : k ≡ j = one_column k j q here (subst (λ p. slot j p) same at) in
+              let hit : where_true R (nat_eq k j) (f v) ≡ f v = where_yes R
+              (λ (c : R.Carrier). c) (nat_eq k j) (f v) (rw index (eq_refl j)) in
+              ap (λ p. f (get_or (set old q w) p z)) same
+              ∙ ap f (get_or-set_same old q w z (omega (arith, lt, same))) ∙ is
+              ∙ ap (λ p. R.add (f (get_or old p z)) (R.mul scale (f v))) (sym same)
+              ∙ ap (λ x. R.add c (R.mul scale x)) (sym hit)
+          | inr differs ↦
+              let other : k ≢ j =
+              λ e. differs (one_slot j p q at (subst (λ i. slot i q) e here)) in
+              let miss : where_true R (nat_eq k j) (f v) ≡ R.zero = where_no R
+              (λ (c : R.Carrier). c) (nat_eq k j) (f v) (nat_eq_no k j other) in
+              ap f (get_or-set_other old q p w z differs)
+              ∙ sym (ap (λ x. R.add c (R.mul scale x)) miss ∙ ap (R.add c) (mul_zero R scale)
+              ∙ R.laws.add_zero c)
+        ];
+    others = λ p none. get_or-set_other old q p w z
+        (λ e. none k (subst (λ p. slot k p) (sym e) here));
+  }
+
+pub noted_none : (slot : ℕ → ℕ → Type 0) (before P : ℕ → Type 0) → ((j : ℕ) → P j → ⊥)
+    → AreNoted slot slot before before P
+noted_none slot before P none = record {
+  kept = λ j p. (λ h. h, λ h. h);
+  noted = λ j. (λ h. inl h, λ h. elim h [ inl was ↦ was | inr p ↦ absurd (none j p) ]);
+}
+
+pub noted_then : (slot slot' slot'' : ℕ → ℕ → Type 0) (before mid after P Q S : ℕ → Type 0)
+    → ((j : ℕ) → S j ↔ (P j ⊎ Q j)) → AreNoted slot slot' before mid P
+    → AreNoted slot' slot'' mid after Q → AreNoted slot slot'' before after S
+noted_then slot slot' slot'' before mid after P Q S both first second = record {
+  kept = λ j p. (
+    λ h. (first.kept j p).0 ((second.kept j p).0 h),
+    λ h. (second.kept j p).1 ((first.kept j p).1 h),
+  );
+  noted = λ j. (
+    λ h. elim ((second.noted j).0 h) [
+      | inl m ↦ elim ((first.noted j).0 m) [
+        | inl b ↦ inl b
+        | inr p ↦ inr ((both j).1 (inl p))
+      ]
+      | inr q ↦ inr ((both j).1 (inr q))
+    ],
+    λ h. (second.noted j).1 (elim h [
+      | inl b ↦ inl ((first.noted j).1 (inl b))
+      | inr s ↦ elim ((both j).0 s) [
+        | inl p ↦ inl ((first.noted j).1 (inr p))
+        | inr q ↦ inr q
+      ]
+    ]),
+  );
+}
+
+pub noted_same : (slot slot' : ℕ → ℕ → Type 0) (before after P Q : ℕ → Type 0)
+    → ((j : ℕ) → P j ↔ Q j) → AreNoted slot slot' before after P
+    → AreNoted slot slot' before after Q
+noted_same slot slot' before after P Q same was = record {
+  kept = was.kept;
+  noted = λ j. (
+    λ h. elim ((was.noted j).0 h) [ inl b ↦ inl b | inr p ↦ inr ((same j).0 p) ],
+    λ h. (was.noted j).1 (elim h [ inl b ↦ inl b | inr q ↦ inr ((same j).1 q) ]),
+  );
+}
+
+-- the lanes that a list names, with one name more
+pub in_lanes_then : (d : Raw) (lanes : List ℕ) (p k : ℕ) → p < length lanes → k ≡ get_or lanes p 0
+    → (j : ℕ)
+    → IsInLanes d (take (p + 1) lanes) j ↔ (IsInLanes d (take p lanes) j ⊎ IsPlace d k j)
+in_lanes_then d lanes p k lt is j =
+    let front = λ (l : ℕ). more lanes p k l lt is in (
+      λ h. elim ((front h.0).0 h.1) [
+        | inl was ↦ inl (h.0, was, h.2)
+        | inr same ↦ inr (subst (λ l. IsPlace d l j) (sym same) h.2)
+      ],
+      λ h. elim h [
+        | inl was ↦ (was.0, (front was.0).1 (inl was.1), was.2)
+        | inr here ↦ (k, (front k).1 (inr refl), here)
+      ],
+    )

@@ -1,0 +1,46 @@
+use Rattle.std.proofs.Common.{◌≡◌, ◌<◌, ℕ, length, inl, inr, refl, ap, ◌∙◌, arith}
+use Rattle.sparse_algebra.proofs.RingLemmas.{zero_add}
+use Rattle.sparse_pattern.specs.Raw.{lane_of}
+use Rattle.sparse_pattern.proofs.BuiltLanes.{place_within}
+use Rattle.sparse_products.specs.InnerProducts.{IsInLanes}
+use Rattle.sparse_products.proofs.ProductPlaces.{product}
+use Rattle.sparse_products.proofs.serial.rows.add_row.Goals as goal
+
+pub add_product_row-requires-clause-slots : goal.add_product_row-requires-clause-slots
+add_product_row-requires-clause-slots g c = λ j h.
+    let b = c.args.b.now.pattern in
+    let below = place_within b c.values-2.ensures.sound.valid h.0 j h.2 in (
+      j,
+      (c.requires.empty.room j (omega (arith, below)), refl),
+      omega (arith, below, c.requires.width),
+    )
+
+pub returns-clause-room : goal.returns-clause-room
+returns-clause-room g c = λ j has.
+    ((c.add_product_row.ensures.noted.kept j j).1 (has, refl)).0
+
+pub returns-clause-met : goal.returns-clause-met
+returns-clause-met g c = λ j.
+    let noted = c.add_product_row.ensures.noted.noted j in (
+      λ h. elim (noted.0 h) [ inl was ↦ absurd (c.requires.empty.empty j was) | inr met ↦ met ],
+      λ h. noted.1 (inr h),
+    )
+
+pub returns-clause-added : goal.returns-clause-added
+returns-clause-added g c = λ j lt.
+    let R = g.T.Ring.ring in
+    let f = g.T.Ring.value in
+    let x = (product R f c.stands_law.ensures.rows c.args.a.now c.args.b.now
+    c.values.ensures.sound c.values-2.ensures.sound c.requires.inner).value c.args.i j in
+    let unit = f c.one.result in
+    c.add_product_row.ensures.added.added j j
+    (c.requires.empty.room j (omega (arith, c.requires.width)), refl) lt
+    ∙ ap (λ y. R.add y (R.mul unit x)) (c.requires.zero j) ∙ zero_add R (R.mul unit x)
+    ∙ ap (λ u. R.mul u x) c.one.ensures ∙ R.laws.mul_comm R.one x ∙ R.laws.mul_one x
+
+pub returns-clause-bounded : goal.returns-clause-bounded
+returns-clause-bounded g c = λ j h. omega (
+  arith,
+  place_within c.args.b.now.pattern c.values-2.ensures.sound.valid h.0 j h.2,
+  c.requires.width,
+)

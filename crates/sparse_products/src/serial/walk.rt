@@ -1,0 +1,134 @@
+//! The walk through the terms of a row of a product, which all products share (Gustavson 1978).
+
+ghost use Rattle.std.specs.Prelude.{◌≡◌, ℕ, ◌+◌, ◌<◌, length, slice_range};
+ghost use Rattle.sparse_algebra.specs.Plain.{plain_product};
+ghost use Rattle.sparse_pattern.specs.Raw.{IsPlace, start_of, end_of, lane_of};
+ghost use Rattle.sparse_cs.specs.Compressed.{IsSound};
+ghost use Rattle.sparse_cs.specs.PlainOfLanes.{plain_of_rows};
+ghost use Rattle.sparse_products.specs.InnerProducts.{IsInLanes};
+ghost use Rattle.sparse_products.specs.InnerUpdates.{triples_below};
+ghost use Rattle.sparse_products.specs.InnerWalks.{AreAdded, AreNoted};
+
+use sparse_algebra::learn;
+use sparse_algebra::scalar::Ring;
+use sparse_base::steps::Steps;
+use sparse_cs::CsMatrix;
+
+// Where the terms of a row are added: a slot for each column, at which each has its own.
+pub(super) trait Slots {
+    ghost use Rattle.std.specs.Prelude.{◌⊎◌, ◌↔◌};
+
+    // The slot of a column is p.
+    ghost slot: { Self → ℕ → ℕ → Type 0 };
+
+    // The columns that are noted.
+    ghost noted: { Self → ℕ → Type 0 };
+
+    // Returns the slot of a column, and notes the column.
+    fn slot_of(&mut self, column: usize) -> usize
+        requires { (p : ℕ) × slot self.old column p }
+        ensures found { slot self.old column result }
+        ensures kept { (j p : ℕ) → slot self.new j p ↔ slot self.old j p }
+        ensures noted { (j : ℕ) → noted self.new j ↔ (noted self.old j ⊎ (column ≡ j)) };
+
+    ghost one_slot: { (s : Self) → (j p q : ℕ) → slot s j p → slot s j q → p ≡ q };
+
+    ghost one_column: { (s : Self) → (i j p : ℕ) → slot s i p → slot s j p → i ≡ j };
+}
+
+// Each column is its own slot, and nothing is noted.
+#[derive(Drop)]
+pub(super) struct EachColumn;
+
+impl Slots for EachColumn {
+    ghost use Rattle.std.specs.Prelude.{⊤};
+    ghost use Rattle.std.proofs.Common.{sym, ◌∙◌};
+
+    ghost slot = { λ _ j p. j ≡ p };
+
+    ghost noted = { λ _ _. ⊤ };
+
+    #[inline(always)]
+    fn slot_of(&mut self, column: usize) -> usize {
+        column
+    }
+
+    ghost one_slot = { λ s j p q here there. sym here ∙ there };
+
+    ghost one_column = { λ s i j p here there. here ∙ sym there };
+}
+
+// Adds `alpha` times row i of the product to the slots of its columns, and notes the columns.
+#[inline(always)]
+pub(super) fn add_product_row<T: Ring, S: Slots>(
+    alpha: T,
+    a: &CsMatrix<T>,
+    i: usize,
+    b: &CsMatrix<T>,
+    slots: &mut S,
+    target: &mut [T],
+    steps: &mut Steps,
+)
+    requires inner { a.now.pattern.minor_dim ≡ b.now.pattern.major_dim }
+    requires lane { i < a.now.pattern.major_dim }
+    requires slots { (j : ℕ) → IsInLanes b.now.pattern (lane_of a.now.pattern i) j
+        → (p : ℕ) × S.slot slots.old j p × (p < length target.old) }
+    ensures added { AreAdded T.ring T.value T.zero_value (S.slot slots.old) (T.value alpha)
+        ((plain_product T.ring (plain_of_rows T.ring T.value a.now)
+        (plain_of_rows T.ring T.value b.now)).value i)
+        target.old target.new }
+    ensures noted { AreNoted (S.slot slots.old) (S.slot slots.new) (S.noted slots.old)
+        (S.noted slots.new)
+        (IsInLanes b.now.pattern (lane_of a.now.pattern i)) }
+    ensures counted { steps.new + start_of a.now.pattern i
+        + triples_below (start_of a.now.pattern i) a.now.pattern b.now.pattern
+        ≡ steps.old + end_of a.now.pattern i
+        + triples_below (end_of a.now.pattern i) a.now.pattern b.now.pattern }
+{
+    let (lanes, entries) = lane_entries(a, i);
+    for (k, entry) in lanes.iter().zip(entries) {
+        steps.tick();
+        add_matrix_row(alpha.mul(*entry), b, *k, slots, target, steps);
+    }
+}
+
+// Adds a multiple of row k of a matrix to the slots of its columns, and notes the columns.
+#[inline(always)]
+fn add_matrix_row<T: Ring, S: Slots>(
+    scale: T,
+    b: &CsMatrix<T>,
+    k: usize,
+    slots: &mut S,
+    target: &mut [T],
+    steps: &mut Steps,
+)
+    requires lane { k < b.now.pattern.major_dim }
+    requires slots { (j : ℕ) → IsPlace b.now.pattern k j
+        → (p : ℕ) × S.slot slots.old j p × (p < length target.old) }
+    ensures added { AreAdded T.ring T.value T.zero_value (S.slot slots.old) (T.value scale)
+        ((plain_of_rows T.ring T.value b.now).value k) target.old target.new }
+    ensures noted { AreNoted (S.slot slots.old) (S.slot slots.new) (S.noted slots.old)
+        (S.noted slots.new) (IsPlace b.now.pattern k) }
+    ensures counted { steps.new ≡ steps.old + length (lane_of b.now.pattern k) }
+{
+    let (columns, entries) = lane_entries(b, k);
+    for (j, entry) in columns.iter().zip(entries) {
+        steps.tick();
+        let sum = &mut target[slots.slot_of(*j)];
+        *sum = sum.add(scale.mul(*entry));
+    }
+}
+
+// Returns the minor indices and the values of lane i.
+#[inline(always)]
+fn lane_entries<T>(matrix: &CsMatrix<T>, i: usize) -> (&[usize], &[T])
+    requires { i < matrix.now.pattern.major_dim }
+    ensures indices { result.0.now ≡ lane_of matrix.now.pattern i }
+    ensures values { result.1.now ≡ slice_range matrix.now.values
+        (start_of matrix.now.pattern i) (end_of matrix.now.pattern i) }
+    ensures sound { IsSound matrix.now }
+{
+    learn(matrix.values());
+    let lane = matrix.lane(i);
+    (lane.minor_indices(), lane.values())
+}
