@@ -1,6 +1,6 @@
 -- What the walk through the terms of a row adds and notes, one part after another.
 use Rattle.std.proofs.Common.{◌≡◌, ◌≢◌, ℕ, ◌+◌, ◌<◌, ◌↔◌, ◌⊎◌, inl, inr, List, length, get_or, set}
-use Rattle.std.proofs.Common.{take, Contains, ap, sym, subst, ◌∙◌, refl, arith}
+use Rattle.std.proofs.Common.{take, ap, sym, subst, ◌∙◌, refl, arith}
 use Rattle.std.specs.Prelude.{nat_eq}
 use Rattle.std.proofs.lemmas.Bool.{cases_eq}
 use Rattle.std.proofs.lemmas.List.{get_or-set_same, get_or-set_other}

@@ -7,28 +7,28 @@ ghost use Rattle.sparse_cs.specs.PlainOfLanes.{plain_of_rows, plain_of_cols};
 ghost use Rattle.sparse_products.specs.InnerFactors.{matrix_of};
 
 use sparse_algebra::learn;
+use sparse_algebra::operand::Op;
 use sparse_algebra::scalar::Ring;
 use sparse_cs::CsMatrix;
 use sparse_forms::csc::CscMatrix;
 use sparse_forms::csr::CsrMatrix;
-use sparse_algebra::operand::Op;
 use std::alloc::{AllocError, Global};
 
 // A matrix that an operand lends, or the transpose that was made of one.
 #[derive(Drop)]
-pub(super) enum Factor<'a, M> {
-    Given(&'a M),
-    Made(M),
+pub(super) enum Multiplicand<'a, T> {
+    Given(&'a CsMatrix<T>),
+    Made(CsMatrix<T>),
 }
 
-impl<'a, M> Factor<'a, M> {
+impl<'a, T> Multiplicand<'a, T> {
     // Returns a reference to the matrix.
-    pub(super) fn matrix(&self) -> &M
+    pub(super) fn matrix(&self) -> &CsMatrix<T>
         ensures { result.now ≡ matrix_of self.now }
     {
         match self {
-            Factor::Given(matrix) => matrix,
-            Factor::Made(matrix) => matrix,
+            Multiplicand::Given(matrix) => matrix,
+            Multiplicand::Made(matrix) => matrix,
         }
     }
 }
@@ -37,17 +37,17 @@ impl<'a, M> Factor<'a, M> {
 pub(super) fn csr_factor<T: Ring>(
     alloc: Global,
     operand: Op<&CsrMatrix<T>>,
-) -> Result<Factor<'_, CsMatrix<T>>, AllocError>
+) -> Result<Multiplicand<'_, T>, AllocError>
     ensures plain { IfOk result (λ x. plain_of_rows T.ring T.value (matrix_of x)
         ≡ plain_op T.ring (λ m. plain_of_rows T.ring T.value m.now) operand.entry) }
     ensures given { IfOk result (λ x. MatchOp operand.entry (λ m. matrix_of x ≡ m.now) (λ _. ⊤)) }
     ensures free { MatchOp operand.entry (λ _. IsOk result) (λ _. ⊤) }
 {
     match operand {
-        Op::NoOp(rows) => Ok(Factor::Given(rows.cs())),
+        Op::NoOp(rows) => Ok(Multiplicand::Given(rows.cs())),
         Op::Transpose(rows) => {
             learn(rows.values());
-            Ok(Factor::Made(rows.cs().transpose(alloc)?))
+            Ok(Multiplicand::Made(rows.cs().transpose(alloc)?))
         }
     }
 }
@@ -56,17 +56,17 @@ pub(super) fn csr_factor<T: Ring>(
 pub(super) fn csc_factor<T: Ring>(
     alloc: Global,
     operand: Op<&CscMatrix<T>>,
-) -> Result<Factor<'_, CsMatrix<T>>, AllocError>
+) -> Result<Multiplicand<'_, T>, AllocError>
     ensures plain { IfOk result (λ x. plain_of_cols T.ring T.value (matrix_of x)
         ≡ plain_op T.ring (λ m. plain_of_cols T.ring T.value m.now) operand.entry) }
     ensures given { IfOk result (λ x. MatchOp operand.entry (λ m. matrix_of x ≡ m.now) (λ _. ⊤)) }
     ensures free { MatchOp operand.entry (λ _. IsOk result) (λ _. ⊤) }
 {
     match operand {
-        Op::NoOp(cols) => Ok(Factor::Given(cols.cs())),
+        Op::NoOp(cols) => Ok(Multiplicand::Given(cols.cs())),
         Op::Transpose(cols) => {
             learn(cols.values());
-            Ok(Factor::Made(cols.cs().transpose(alloc)?))
+            Ok(Multiplicand::Made(cols.cs().transpose(alloc)?))
         }
     }
 }

@@ -11,12 +11,12 @@ ghost use Rattle.sparse_products.specs.ScalarProducts.{IfNotTransposed};
 
 use super::factor::{csc_factor, csr_factor};
 use super::update::update_matrix_checked;
+use sparse_algebra::error::OperationError;
 use sparse_algebra::learn;
+use sparse_algebra::operand::Op;
 use sparse_algebra::scalar::Ring;
 use sparse_forms::csc::CscMatrix;
 use sparse_forms::csr::CsrMatrix;
-use sparse_algebra::error::OperationError;
-use sparse_algebra::operand::Op;
 use std::alloc::Global;
 
 /// Replaces `c` by `beta * c + alpha * op(a) * op(b)` on the places of `c`.

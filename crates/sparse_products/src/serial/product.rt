@@ -20,11 +20,11 @@ use std::alloc::{AllocError, Global};
 /// The result stores every place of [`spmm_csr_pattern`], even where the sum is zero. `a.ncols()` must equal
 /// `b.nrows()`.
 ///
-/// Gustavson's algorithm (1978), row by row: the indices of a row are read in order from a set of bits, and its values
-/// are added up in a scratch row, by the step of
-/// [`spmm_csr_prealloc_unchecked`](crate::serial::spmm_csr_prealloc_unchecked). It takes one multiplication for each
-/// triple (i, k, j) and one for each place of `a`, and for each row one step for each 262,144 columns. Scratch memory:
-/// a value and a bit for each column. If a row is longer than both factors have places, the pattern is made first and
+/// Gustavson's algorithm (1978), row by row: the walk of
+/// [`spmm_csr_prealloc_unchecked`](crate::serial::spmm_csr_prealloc_unchecked) adds up a row in a scratch row, and
+/// notes its indices in a set of bits, from which they are read in order. It takes one multiplication for each triple
+/// (i, k, j) and one for each place of `a`, and for each row one step for each 262,144 columns. Scratch memory: a value
+/// and a bit for each column. If a row is longer than both factors have places, the pattern is made first and
 /// each triple added by a binary search, in scratch memory for the triples of a row. Fails only if an allocation fails.
 ///
 /// The room for the result is guessed: an eighth more places than if each row had as many for a triple as the first 64

@@ -1,5 +1,5 @@
-//! The product row by row: the indices of a row, and then its values, while the rows of `b` that it takes are in the
-//! cache.
+//! The product row by row: one walk adds up a row in a scratch row and notes its indices in a set, which is then read
+//! in order.
 
 ghost use Rattle.std.specs.Prelude.{◌≡◌, ℕ, ◌<◌, ◌≤◌, ◌+◌, ◌↔◌, ◌++◌, [], ◌∷◌, length, drop, map};
 ghost use Rattle.std.specs.Prelude.{All, IfOk, OnOk, slice_index_or, vec_len, vec_capacity};
@@ -167,7 +167,8 @@ fn add_row<T: Ring>(a: &CsMatrix<T>, i: usize, b: &CsMatrix<T>, set: &mut LaneSe
     ensures met { (j : ℕ) → HasBit set.new.words.items j
         ↔ IsInLanes b.now.pattern (lane_of a.now.pattern i) j }
     ensures added { (j : ℕ) → j < length row.old
-        → T.value (slice_index_or row.new j T.zero_value) ≡ (plain_product T.ring (plain_of_rows T.ring T.value a.now)
+        → T.value (slice_index_or row.new j T.zero_value)
+        ≡ (plain_product T.ring (plain_of_rows T.ring T.value a.now)
         (plain_of_rows T.ring T.value b.now)).value i j }
     ensures bounded { (j : ℕ) → IsInLanes b.now.pattern (lane_of a.now.pattern i) j
         → j < length row.old }

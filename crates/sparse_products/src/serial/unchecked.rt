@@ -11,13 +11,13 @@ ghost use Rattle.sparse_products.specs.ScalarProducts.{IfNotTransposed, triples_
 
 use super::factor::{csc_factor, csr_factor};
 use super::update::update_matrix;
+use sparse_algebra::error::OperationError;
 use sparse_algebra::learn;
+use sparse_algebra::operand::Op;
 use sparse_algebra::scalar::Ring;
 use sparse_base::steps::Steps;
 use sparse_forms::csc::CscMatrix;
 use sparse_forms::csr::CsrMatrix;
-use sparse_algebra::error::OperationError;
-use sparse_algebra::operand::Op;
 use std::alloc::Global;
 
 /// Replaces `c` by `beta * c + alpha * op(a) * op(b)`, where `c` has each place of the product's pattern.

@@ -12,15 +12,15 @@ ghost use Rattle.sparse_products.specs.InnerUpdates.{HasProductPlaces};
 ghost use Rattle.sparse_cs.specs.InnerUpdates.{AreUpdated};
 ghost use Rattle.sparse_products.specs.ScalarProducts.{triples_of};
 
-use super::factor::Factor;
+use super::factor::Multiplicand;
 use super::scatter::scatter_rows;
 use super::search::{covers_product, search_rows};
+use sparse_algebra::error::OperationError;
 use sparse_algebra::learn;
 use sparse_algebra::scalar::Ring;
 use sparse_base::steps::Steps;
 use sparse_cs::CsMatrix;
 use sparse_cs::laws::stands_law;
-use sparse_algebra::error::OperationError;
 use sparse_pattern::pattern::SparsityPattern;
 use std::alloc::{AllocError, Global};
 
@@ -31,8 +31,8 @@ pub(super) fn update_matrix_checked<T: Ring>(
     pattern: &SparsityPattern,
     values: &mut [T],
     alpha: T,
-    a: Factor<'_, CsMatrix<T>>,
-    b: Factor<'_, CsMatrix<T>>,
+    a: Multiplicand<'_, T>,
+    b: Multiplicand<'_, T>,
 ) -> Result<(), OperationError>
     requires count { length values.old ≡ length pattern.now.indices }
     requires inner { (matrix_of a).pattern.minor_dim ≡ (matrix_of b).pattern.major_dim }
@@ -95,8 +95,8 @@ pub(super) fn update_matrix<T: Ring>(
     pattern: &SparsityPattern,
     values: &mut [T],
     alpha: T,
-    a: Factor<'_, CsMatrix<T>>,
-    b: Factor<'_, CsMatrix<T>>,
+    a: Multiplicand<'_, T>,
+    b: Multiplicand<'_, T>,
     steps: &mut Steps,
 ) -> Result<(), AllocError>
     requires count { length values.old ≡ length pattern.now.indices }

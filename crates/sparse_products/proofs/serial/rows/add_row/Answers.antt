@@ -1,8 +1,6 @@
-use Rattle.std.proofs.Common.{◌≡◌, ◌<◌, ℕ, length, inl, inr, refl, ap, ◌∙◌, arith}
+use Rattle.std.proofs.Common.{inl, inr, refl, ap, ◌∙◌, arith}
 use Rattle.sparse_algebra.proofs.RingLemmas.{zero_add}
-use Rattle.sparse_pattern.specs.Raw.{lane_of}
 use Rattle.sparse_pattern.proofs.BuiltLanes.{place_within}
-use Rattle.sparse_products.specs.InnerProducts.{IsInLanes}
 use Rattle.sparse_products.proofs.ProductPlaces.{product}
 use Rattle.sparse_products.proofs.serial.rows.add_row.Goals as goal
 

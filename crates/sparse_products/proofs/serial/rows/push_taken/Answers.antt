@@ -1,8 +1,8 @@
 use Rattle.std.proofs.Common.{◌≡◌, ◌<◌, ℕ, ◌∷◌, [], ◌++◌, length, map, get_or, ap, sym, ◌∙◌, arith}
 use Rattle.std.proofs.Common.{append_assoc, subst, take}
-use Rattle.std.proofs.lemmas.List.{append-nil, get_or_default, map-append, take_all, take_more}
+use Rattle.std.proofs.lemmas.List.{get_or_default, map-append, take_all, take_more}
 use Rattle.sparse_products.specs.InnerProducts.{IsTaken}
-use Rattle.sparse_products.proofs.TakenRows.{taken_none, taken_more, not_before}
+use Rattle.sparse_products.proofs.TakenRows.{taken_more, not_before}
 use Rattle.sparse_products.proofs.serial.rows.push_taken.Goals as goal
 
 pub loop-j-preserved : goal.loop-j-preserved

@@ -57,11 +57,11 @@ add_matrix_row-requires-clause-slots g c =
     (rw (← c.lane_entries.ensures.values) (search rules)) c.loop-k.yielded_by
     (c.in-Some.k, c.in-Some.entry) c.in-Some.is c.next.ensures.steps in
     λ j here.
-        let own = c.requires.slots j (k, (n, turn.0, sym (turn.2 k)), here) in (
-          own.0,
-          (c.loop-k.invariant.noted.kept j own.0).1 own.1,
-          omega (arith, own.2, c.loop-k.auto.target),
-        )
+    let own = c.requires.slots j (k, (n, turn.0, sym (turn.2 k)), here) in (
+      own.0,
+      (c.loop-k.invariant.noted.kept j own.0).1 own.1,
+      omega (arith, own.2, c.loop-k.auto.target),
+    )
 
 pub loop-k-preserved : goal.loop-k-preserved
 loop-k-preserved g c =

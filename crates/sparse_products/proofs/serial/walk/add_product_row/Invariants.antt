@@ -1,4 +1,4 @@
-use Rattle.std.proofs.Common.{◌≡◌, ◌+◌, ℕ, length, take}
+use Rattle.std.proofs.Common.{◌≡◌, ◌+◌, length, take}
 use Rattle.std.specs.Prelude.{zip}
 use Rattle.sparse_pattern.specs.Raw.{start_of, lane_of}
 use Rattle.sparse_algebra.specs.Sums.{sum_by}
