@@ -11,12 +11,12 @@ ghost use Rattle.mtxkit_systems.specs.Values.{IsSymmetricMatrix};
 ghost use Rattle.mtxkit_systems.specs.declared.system.SystemError.TheVariants.{NoFactors, NotSymmetric};
 
 use crate::values::{has_same_values, has_symmetric_values};
+use sparse_algebra::error::OperationErrorKind;
 use sparse_algebra::scalar::{Ring, Units};
 use sparse_base::coo::CooMatrix;
 use sparse_base::dense::DMatrix;
 use sparse_convert::serial::{convert_coo_csc, convert_coo_csr, convert_coo_dense};
 use sparse_ldl::ldl::Ldl;
-use sparse_algebra::error::OperationErrorKind;
 use sparse_products::serial::mul_csr;
 use std::alloc::{AllocError, Global};
 

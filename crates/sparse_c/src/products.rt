@@ -10,8 +10,8 @@ ghost use Rattle.sparse_c.specs.Refused.{IsFaultOfPair, IsMemoryOr, IsRefused};
 
 use crate::arrays::{finish_rows, rows_of};
 use crate::refusal::Refusal;
-use sparse_products::serial::{mul_csr, spmm_csr_pattern};
 use sparse_pattern::pattern::SparsityPattern;
+use sparse_products::serial::{mul_csr, spmm_csr_pattern};
 use std::alloc::Global;
 
 /// Writes how many places the product of two patterns by rows has.

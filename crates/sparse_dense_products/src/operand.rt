@@ -5,9 +5,9 @@ ghost use Rattle.sparse_dense_products.specs.DenseOperands.{op_dense};
 ghost use Rattle.sparse_dense_products.specs.InnerUpdates.{HasStrided, op_step};
 ghost use Rattle.sparse_kernels.specs.InnerKernels.{strided};
 
+use sparse_algebra::operand::Op;
 use sparse_algebra::scalar::Ring;
 use sparse_base::dense::DMatrix;
-use sparse_algebra::operand::Op;
 
 // Returns how far apart the entries of a column of op(B) stand.
 pub fn step_of<T>(b: Op<&DMatrix<T>>) -> usize

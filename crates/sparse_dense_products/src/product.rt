@@ -8,11 +8,11 @@ ghost use Rattle.sparse_cs.specs.PlainOfLanes.{plain_of_rows, plain_of_cols};
 ghost use Rattle.sparse_dense_products.specs.DenseOperands.{op_cols, op_dense, op_rows};
 
 use crate::update::update;
+use sparse_algebra::operand::Op;
 use sparse_algebra::scalar::Ring;
 use sparse_base::dense::DMatrix;
 use sparse_forms::csc::CscMatrix;
 use sparse_forms::csr::CsrMatrix;
-use sparse_algebra::operand::Op;
 use std::alloc::{AllocError, Global};
 
 /// Replaces `c` by `beta * c + alpha * op(a) * op(b)`.

@@ -13,10 +13,10 @@ use crate::gather::{gather_column, gather_four};
 use crate::operand::{column_of, step_of};
 use crate::scatter::scatter_column;
 use sparse_algebra::learn;
+use sparse_algebra::operand::Op;
 use sparse_algebra::scalar::Ring;
 use sparse_base::dense::DMatrix;
 use sparse_cs::CsMatrix;
-use sparse_algebra::operand::Op;
 
 // How many columns are updated at once.
 const BLOCK: usize = 4;

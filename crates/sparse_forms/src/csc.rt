@@ -11,8 +11,8 @@ mod reading;
 mod transpose;
 mod writing;
 
-use sparse_algebra::learn;
 use crate::csr::CsrMatrix;
+use sparse_algebra::learn;
 use sparse_cs::CsMatrix;
 pub use sparse_lanes::col::{CscCol, CscColIter};
 pub use sparse_lanes::col_mut::{CscColIterMut, CscColMut};

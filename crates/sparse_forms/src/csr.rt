@@ -11,8 +11,8 @@ mod reading;
 mod transpose;
 mod writing;
 
-use sparse_algebra::learn;
 use crate::csc::CscMatrix;
+use sparse_algebra::learn;
 use sparse_cs::CsMatrix;
 pub use sparse_lanes::row::{CsrRow, CsrRowIter};
 pub use sparse_lanes::row_mut::{CsrRowIterMut, CsrRowMut};

@@ -97,7 +97,10 @@ fn a_solve_differentiates_itself(alloc: Global) -> Result<bool, Fail> {
         return Ok(false);
     }
     spsolve_csc_lower_triangular(Op::NoOp(&l), &mut b)?;
-    let want = [Dual::constant(Mod::new(4)), Dual::new(Mod::new(5), Mod::new(1))];
+    let want = [
+        Dual::constant(Mod::new(4)),
+        Dual::new(Mod::new(5), Mod::new(1)),
+    ];
     Ok(b.as_slice() == want.as_slice())
 }
 

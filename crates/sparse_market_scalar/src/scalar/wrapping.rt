@@ -5,8 +5,8 @@ ghost use Rattle.sparse_algebra.specs.Numbers.{w32_number, w64_number};
 ghost use Rattle.sparse_algebra.specs.WrappingValues.{w128_number};
 ghost use Rattle.sparse_market_scalar.specs.ScalarTypes.{wrapping_scalar};
 
-use crate::scalar::decimal::push_integer;
 use crate::scalar::MatrixMarketScalar;
+use crate::scalar::decimal::push_integer;
 use itoa::Buffer;
 use sparse_algebra::scalar::{W32, W64, W128};
 use sparse_parser::error::{Cause, MatrixMarketError};

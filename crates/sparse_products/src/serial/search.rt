@@ -1,12 +1,11 @@
 //! A product that is added to the values of a pattern by binary search, without memory.
 
 ghost use Rattle.std.specs.Prelude.{◌≡◌, ℕ, ◌+◌, ◌<◌, ◌↔◌, length, slice_index_or, All, Contains};
-ghost use Rattle.std.specs.Prelude.{IfSome, IsTrue};
+ghost use Rattle.std.specs.Prelude.{IsTrue};
 ghost use Rattle.sparse_algebra.specs.Plain.{plain_product};
 ghost use Rattle.sparse_pattern.specs.Raw.{IsInLane, IsPlace, nnz_of, start_of, end_of, lane_of};
 ghost use Rattle.sparse_cs.specs.ChangedValues.{AreChanged};
 ghost use Rattle.sparse_cs.specs.Compressed.{IsPosition};
-ghost use Rattle.sparse_cs.specs.StoredEntries.{place_of};
 ghost use Rattle.sparse_cs.specs.PlainOfLanes.{plain_of_rows};
 ghost use Rattle.sparse_cs.specs.InnerRows.{lane_value};
 ghost use Rattle.sparse_products.specs.InnerProducts.{IsInLanes};
@@ -18,7 +17,8 @@ use super::walk::{Slots, add_product_row};
 use sparse_algebra::learn;
 use sparse_algebra::scalar::Ring;
 use sparse_base::steps::Steps;
-use sparse_cs::{CsMatrix, LaneIndices};
+use sparse_cs::CsMatrix;
+use sparse_kernels::position_of;
 use sparse_pattern::pattern::SparsityPattern;
 
 // Whether the pattern has each place of the product of `a` and `b`.
@@ -71,19 +71,6 @@ fn covers_lane(pattern: &SparsityPattern, i: usize, indices: &[usize]) -> bool
         }
     }
     true
-}
-
-// The position of a place, by binary search in the lane.
-fn position_of(pattern: &SparsityPattern, i: usize, j: usize) -> Option<usize>
-    requires { i < pattern.now.major_dim }
-    ensures position { result ≡ place_of pattern.now i j }
-    ensures within { IfSome result (λ p. p < length pattern.now.indices) }
-{
-    let start = pattern.major_offsets()[i];
-    match LaneIndices::of_lane(pattern, i).position_of(j) {
-        Some(at) => Some(start + at),
-        None => None,
-    }
 }
 
 // The positions of a lane of a pattern as slots of its columns.
