@@ -1,3 +1,1 @@
-pub mod Holding
-pub mod Joining
-pub mod Numbers
+mod Solving

@@ -1,4 +1,6 @@
-pub mod Arrays
+pub mod Combinations
+pub mod Fills
+pub mod Orders
 pub mod Patterns
-pub mod Refused
-pub mod Statuses
+pub mod Solved
+pub mod Symmetric

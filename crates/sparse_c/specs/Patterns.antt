@@ -1,12 +1,10 @@
 -- Patterns as arrays, and the number of places of a product.
 use Rattle.std.specs.Prelude.{◌≡◌, ◌⊎◌, ℕ, ℤ}
-use Rattle.sparse_pattern.specs.PatternFaults.{IsFirstFault, kind_of}
 use Rattle.sparse_products.specs.Products.{IsProductOf}
 use Rattle.sparse_pattern.specs.Raw.{Raw, IsValid, nnz_of}
-use Rattle.sparse_pattern.specs.declared.pattern.faults.SparsityPatternFormatError.{SparsityPatternFormatError}
-use Rattle.sparse_c.specs.Refused.{IsMemoryOr}
-use Rattle.sparse_c.specs.Statuses.{number_of, refusal_of}
-use Rattle.sparse_c.specs.declared.refusal.Refusal.{Refusal}
+use Rattle.sparse_c_views.specs.Refused.{IsFaultOfPattern, IsMemoryOr}
+use Rattle.sparse_c_views.specs.Statuses.{number_of}
+use Rattle.sparse_c_views.specs.declared.refusal.Refusal.{Refusal}
 
 -- n is the number of places of a pattern, which are those of the product
 pub record CountsProduct (a b : Raw) (n : ℕ) : Type 0 where
@@ -16,12 +14,6 @@ pub record CountsProduct (a b : Raw) (n : ℕ) : Type 0 where
   pub cols : product.minor_dim ≡ b.minor_dim
   pub places : IsProductOf product a b
   pub count : n ≡ nnz_of product
-
--- the first fault of the arrays gives this refusal
-pub record IsFaultOfPattern (d : Raw) (refusal : Refusal) : Type 0 where
-  pub error : SparsityPatternFormatError
-  pub first : IsFirstFault d error
-  pub is : refusal ≡ refusal_of (kind_of error)
 
 -- the status of a call that reads two patterns: memory was refused, the first pattern has a fault,
 -- or it has none and the second has one

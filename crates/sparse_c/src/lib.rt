@@ -1,9 +1,13 @@
 //! Exact sparse matrices for programs in C: the calls of the static library.
 #![tactic(auto)]
 
-mod arrays;
 mod assembly;
+mod combining;
+mod dense;
+mod division;
+mod fill;
 mod products;
-mod refusal;
+mod solve;
 mod sums;
+mod symmetric;
 mod transpose;

@@ -1,17 +1,18 @@
 //! Products.
 
-ghost use Rattle.std.specs.Prelude.{◌≡◌, ◌≢◌, pos, IfOk, IfErr, OnOk};
+ghost use Rattle.std.specs.Prelude.{◌≡◌, ◌≢◌, pos};
 ghost use Rattle.sparse_cs.specs.Compressed.{arrays_of};
 ghost use Rattle.sparse_algebra.specs.Plain.{plain_product};
-ghost use Rattle.sparse_pattern.specs.Raw.{IsValid, raw_of};
-ghost use Rattle.sparse_c.specs.Arrays.{ring64, plain_by_rows, room_of, HoldsRows};
-ghost use Rattle.sparse_c.specs.Patterns.{CountsProduct, IsFaultOfPattern, IsPatternPairRefused};
-ghost use Rattle.sparse_c.specs.Refused.{IsFaultOfPair, IsMemoryOr, IsRefused};
+ghost use Rattle.sparse_pattern.specs.Raw.{raw_of};
+ghost use Rattle.sparse_c.specs.Patterns.{CountsProduct, IsPatternPairRefused};
+ghost use Rattle.sparse_c_views.specs.Arrays.{plain_by_rows, ring64, room_of, HoldsRows};
+ghost use Rattle.sparse_c_views.specs.Refused.{IsFaultOfPair, IsRefused};
 
-use crate::arrays::{finish_rows, rows_of};
-use crate::refusal::Refusal;
-use sparse_pattern::pattern::SparsityPattern;
-use sparse_products::serial::{mul_csr, spmm_csr_pattern};
+use crate::combining::{Combination, combined};
+use sparse_c_views::lanes::{Lanes, pattern_of};
+use sparse_c_views::refusal::Refusal;
+use sparse_c_views::writing::finish_rows;
+use sparse_products::serial::spmm_csr_pattern;
 use std::alloc::Global;
 
 /// Writes how many places the product of two patterns by rows has.
@@ -51,24 +52,6 @@ pub extern "C" fn nalgebra_sparse_multiply_places(
     }
 }
 
-// The pattern of arrays by rows.
-fn pattern_of(
-    alloc: Global,
-    rows: usize,
-    cols: usize,
-    offsets: &[usize],
-    indices: &[usize],
-) -> Result<SparsityPattern, Refusal>
-    ensures is { IfOk result (λ d. d ≡ raw_of rows cols offsets.now indices.now) }
-    ensures valid { OnOk result (IsValid (raw_of rows cols offsets.now indices.now)) }
-    ensures fault { IfErr result (IsMemoryOr
-        (IsFaultOfPattern (raw_of rows cols offsets.now indices.now))) }
-{
-    let offsets = offsets.to_vec(alloc)?;
-    let indices = indices.to_vec(alloc)?;
-    Ok(SparsityPattern::try_from_offsets_and_indices(rows, cols, offsets, indices)?)
-}
-
 /// Writes the product of two matrices by rows: `a` with `rows` rows and `inner` columns, `b` with `inner` rows and
 /// `cols` columns.
 #[unsafe(no_mangle)]
@@ -90,7 +73,7 @@ pub extern "C" fn nalgebra_sparse_multiply(
 ) -> i32
     ensures written { let a = arrays_of rows inner a_offsets.now a_indices.now a_values.now in
         let b = arrays_of inner cols b_offsets.now b_indices.now b_values.now in
-        result ≡ pos 0 → HoldsRows (plain_product ring64 (plain_by_rows a) (plain_by_rows b))
+        result ≡ pos 0 → HoldsRows (plain_product ring64 (plain_by_rows ring64 a) (plain_by_rows ring64 b))
         (room_of out_offsets.new out_indices.new out_values.new out_places.new) }
     ensures untouched { result ≢ pos 0
         → room_of out_offsets.new out_indices.new out_values.new out_places.new
@@ -98,17 +81,11 @@ pub extern "C" fn nalgebra_sparse_multiply(
     ensures refused { let a = arrays_of rows inner a_offsets.now a_indices.now a_values.now in
         let b = arrays_of inner cols b_offsets.now b_indices.now b_values.now in
         result ≢ pos 0 → IsRefused (IsFaultOfPair a b)
-        (plain_product ring64 (plain_by_rows a) (plain_by_rows b))
+        (plain_product ring64 (plain_by_rows ring64 a) (plain_by_rows ring64 b))
         (room_of out_offsets.old out_indices.old out_values.old out_places.old) result }
 {
-    let a = match rows_of(alloc, rows, inner, a_offsets, a_indices, a_values) {
-        Ok(a) => a,
-        Err(refusal) => return refusal.status(),
-    };
-    let b = match rows_of(alloc, inner, cols, b_offsets, b_indices, b_values) {
-        Ok(b) => b,
-        Err(refusal) => return refusal.status(),
-    };
-    let answer = mul_csr(alloc, &a, &b);
+    let a = Lanes::new(rows, inner, a_offsets, a_indices, a_values);
+    let b = Lanes::new(inner, cols, b_offsets, b_indices, b_values);
+    let answer = combined(alloc, Combination::Product, a, b);
     finish_rows(answer, out_offsets, out_indices, out_values, out_places)
 }

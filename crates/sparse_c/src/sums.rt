@@ -3,11 +3,12 @@
 ghost use Rattle.std.specs.Prelude.{◌≡◌, ◌≢◌, pos};
 ghost use Rattle.sparse_cs.specs.Compressed.{arrays_of};
 ghost use Rattle.sparse_algebra.specs.Plain.{plain_sum, plain_difference};
-ghost use Rattle.sparse_c.specs.Arrays.{ring64, plain_by_rows, room_of, HoldsRows};
-ghost use Rattle.sparse_c.specs.Refused.{IsFaultOfPair, IsRefused};
+ghost use Rattle.sparse_c_views.specs.Arrays.{plain_by_rows, ring64, room_of, HoldsRows};
+ghost use Rattle.sparse_c_views.specs.Refused.{IsFaultOfPair, IsRefused};
 
-use crate::arrays::{finish_rows, rows_of};
-use sparse_sums::{add_csr, sub_csr};
+use crate::combining::{Combination, combined};
+use sparse_c_views::lanes::Lanes;
+use sparse_c_views::writing::finish_rows;
 use std::alloc::Global;
 
 /// Writes the sum of two matrices by rows, on the union of their places.
@@ -29,26 +30,20 @@ pub extern "C" fn nalgebra_sparse_add(
 ) -> i32
     ensures written { let a = arrays_of rows cols a_offsets.now a_indices.now a_values.now in
         let b = arrays_of rows cols b_offsets.now b_indices.now b_values.now in
-        result ≡ pos 0 → HoldsRows (plain_sum ring64 (plain_by_rows a) (plain_by_rows b))
-        (room_of out_offsets.new out_indices.new out_values.new out_places.new) }
+        result ≡ pos 0 → HoldsRows (plain_sum ring64 (plain_by_rows ring64 a)
+        (plain_by_rows ring64 b)) (room_of out_offsets.new out_indices.new out_values.new out_places.new) }
     ensures untouched { result ≢ pos 0
         → room_of out_offsets.new out_indices.new out_values.new out_places.new
         ≡ room_of out_offsets.old out_indices.old out_values.old out_places.old }
     ensures refused { let a = arrays_of rows cols a_offsets.now a_indices.now a_values.now in
         let b = arrays_of rows cols b_offsets.now b_indices.now b_values.now in
         result ≢ pos 0 → IsRefused (IsFaultOfPair a b)
-        (plain_sum ring64 (plain_by_rows a) (plain_by_rows b))
+        (plain_sum ring64 (plain_by_rows ring64 a) (plain_by_rows ring64 b))
         (room_of out_offsets.old out_indices.old out_values.old out_places.old) result }
 {
-    let a = match rows_of(alloc, rows, cols, a_offsets, a_indices, a_values) {
-        Ok(a) => a,
-        Err(refusal) => return refusal.status(),
-    };
-    let b = match rows_of(alloc, rows, cols, b_offsets, b_indices, b_values) {
-        Ok(b) => b,
-        Err(refusal) => return refusal.status(),
-    };
-    let answer = add_csr(alloc, &a, &b);
+    let a = Lanes::new(rows, cols, a_offsets, a_indices, a_values);
+    let b = Lanes::new(rows, cols, b_offsets, b_indices, b_values);
+    let answer = combined(alloc, Combination::Sum, a, b);
     finish_rows(answer, out_offsets, out_indices, out_values, out_places)
 }
 
@@ -71,7 +66,7 @@ pub extern "C" fn nalgebra_sparse_subtract(
 ) -> i32
     ensures written { let a = arrays_of rows cols a_offsets.now a_indices.now a_values.now in
         let b = arrays_of rows cols b_offsets.now b_indices.now b_values.now in
-        result ≡ pos 0 → HoldsRows (plain_difference ring64 (plain_by_rows a) (plain_by_rows b))
+        result ≡ pos 0 → HoldsRows (plain_difference ring64 (plain_by_rows ring64 a) (plain_by_rows ring64 b))
         (room_of out_offsets.new out_indices.new out_values.new out_places.new) }
     ensures untouched { result ≢ pos 0
         → room_of out_offsets.new out_indices.new out_values.new out_places.new
@@ -79,17 +74,11 @@ pub extern "C" fn nalgebra_sparse_subtract(
     ensures refused { let a = arrays_of rows cols a_offsets.now a_indices.now a_values.now in
         let b = arrays_of rows cols b_offsets.now b_indices.now b_values.now in
         result ≢ pos 0 → IsRefused (IsFaultOfPair a b)
-        (plain_difference ring64 (plain_by_rows a) (plain_by_rows b))
+        (plain_difference ring64 (plain_by_rows ring64 a) (plain_by_rows ring64 b))
         (room_of out_offsets.old out_indices.old out_values.old out_places.old) result }
 {
-    let a = match rows_of(alloc, rows, cols, a_offsets, a_indices, a_values) {
-        Ok(a) => a,
-        Err(refusal) => return refusal.status(),
-    };
-    let b = match rows_of(alloc, rows, cols, b_offsets, b_indices, b_values) {
-        Ok(b) => b,
-        Err(refusal) => return refusal.status(),
-    };
-    let answer = sub_csr(alloc, &a, &b);
+    let a = Lanes::new(rows, cols, a_offsets, a_indices, a_values);
+    let b = Lanes::new(rows, cols, b_offsets, b_indices, b_values);
+    let answer = combined(alloc, Combination::Difference, a, b);
     finish_rows(answer, out_offsets, out_indices, out_values, out_places)
 }

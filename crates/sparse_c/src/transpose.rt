@@ -1,12 +1,18 @@
 //! Transposes.
 
-ghost use Rattle.std.specs.Prelude.{◌≡◌, ◌≢◌, pos};
+ghost use Rattle.std.specs.Prelude.{◌≡◌, ◌≢◌, pos, IfOk, IfErr};
 ghost use Rattle.sparse_cs.specs.Compressed.{arrays_of};
+ghost use Rattle.sparse_cs.specs.PlainOfLanes.{plain_of_rows};
 ghost use Rattle.sparse_algebra.specs.Plain.{plain_transpose};
-ghost use Rattle.sparse_c.specs.Arrays.{ring64, plain_by_rows, room_of, HoldsRows};
-ghost use Rattle.sparse_c.specs.Refused.{IsFaultOf, IsRefused};
+ghost use Rattle.sparse_algebra.specs.WrappingValues.{w64_value};
+ghost use Rattle.sparse_c_views.specs.Arrays.{plain_by_rows, ring64, room_of, HoldsRows};
+ghost use Rattle.sparse_c_views.specs.Refused.{IsFaultOf, IsMemoryOr, IsRefused};
 
-use crate::arrays::{finish_rows, rows_of};
+use sparse_algebra::scalar::W64;
+use sparse_c_views::lanes::Lanes;
+use sparse_c_views::refusal::Refusal;
+use sparse_c_views::writing::finish_rows;
+use sparse_forms::csr::CsrMatrix;
 use sparse_products::transposes::transposed_csr;
 use std::alloc::Global;
 
@@ -25,7 +31,7 @@ pub extern "C" fn nalgebra_sparse_transpose(
     out_places: &mut usize,
 ) -> i32
     ensures written { result ≡ pos 0 → HoldsRows (plain_transpose ring64
-        (plain_by_rows (arrays_of rows cols offsets.now indices.now values.now)))
+        (plain_by_rows ring64 (arrays_of rows cols offsets.now indices.now values.now)))
         (room_of out_offsets.new out_indices.new out_values.new out_places.new) }
     ensures untouched { result ≢ pos 0
         → room_of out_offsets.new out_indices.new out_values.new out_places.new
@@ -33,14 +39,20 @@ pub extern "C" fn nalgebra_sparse_transpose(
     ensures refused { result ≢ pos 0 → IsRefused
         (IsFaultOf (arrays_of rows cols offsets.now indices.now values.now))
         (plain_transpose ring64
-        (plain_by_rows (arrays_of rows cols offsets.now indices.now values.now)))
+        (plain_by_rows ring64 (arrays_of rows cols offsets.now indices.now values.now)))
         (room_of out_offsets.old out_indices.old out_values.old out_places.old) result }
 {
-    match rows_of(alloc, rows, cols, offsets, indices, values) {
-        Ok(matrix) => {
-            let answer = transposed_csr(alloc, &matrix);
-            finish_rows(answer, out_offsets, out_indices, out_values, out_places)
-        }
-        Err(refusal) => refusal.status(),
-    }
+    let a = Lanes::new(rows, cols, offsets, indices, values);
+    let answer = transposed(alloc, a);
+    finish_rows(answer, out_offsets, out_indices, out_values, out_places)
+}
+
+// The transpose of a matrix by rows.
+fn transposed(alloc: Global, a: Lanes<'_>) -> Result<CsrMatrix<W64>, Refusal>
+    ensures plain { IfOk result (λ m. plain_of_rows ring64 w64_value m
+        ≡ plain_transpose ring64 (plain_by_rows ring64 a.entry)) }
+    ensures fault { IfErr result (IsMemoryOr (IsFaultOf a.entry)) }
+{
+    let a = a.rows(alloc)?;
+    Ok(transposed_csr(alloc, &a)?)
 }

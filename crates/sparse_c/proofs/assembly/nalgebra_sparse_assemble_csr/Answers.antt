@@ -1,21 +1,24 @@
-use Rattle.std.proofs.Common.{◌≡◌, sym, ◌∙◌, rules, to_z, of_z}
+use Rattle.std.proofs.Common.{◌≡◌, ℕ, ℤ, ap, sym, subst, ◌∙◌, refl, rules, to_z, of_z}
 use Rattle.std.specs.Int.{w32}
-use Rattle.sparse_c.specs.Arrays.{room_of}
-use Rattle.sparse_c.proofs.Joining.{written, refused}
+use Rattle.sparse_algebra.specs.WrappingValues.{w64_value}
+use Rattle.sparse_c_views.specs.Arrays.{ring64, room_of}
+use Rattle.sparse_c_views.proofs.Joining.{rows_written, rows_refused}
 use Rattle.sparse_c.proofs.assembly.nalgebra_sparse_assemble_csr.Goals as goal
 
-pub returns-in-Ok-clause-written : goal.returns-in-Ok-clause-written
-returns-in-Ok-clause-written c = λ h.
+pub returns-clause-written : goal.returns-clause-written
+returns-clause-written c = λ h.
     let same : to_z w32 (of_z w32 c.finish_rows.result) ≡ c.finish_rows.result = search rules in
-    written _ _ c.finish_rows.result c.convert_coo_csr-answer.result _ c.convert_coo_csr-answer.ensures.plain
-    (c.in-Ok.ensures.plain)
+    rows_written ring64 w64_value _ _ refl c.assembled-answer.result
+    c.assembled-answer.ensures.plain (room_of c.finish_rows.new.offsets c.finish_rows.new.indices
+    c.finish_rows.new.values c.finish_rows.new.places)
     (c.finish_rows.ensures.written (sym same ∙ h))
 
-pub returns-in-Ok-clause-refused : goal.returns-in-Ok-clause-refused
-returns-in-Ok-clause-refused c = λ h.
+pub returns-clause-refused : goal.returns-clause-refused
+returns-clause-refused c = λ h.
     let same : to_z w32 (of_z w32 c.finish_rows.result) ≡ c.finish_rows.result = search rules in
-    let room = room_of c.args.out_offsets.now c.args.out_indices.now c.args.out_values.now
-    c.args.out_places.now in
-    refused _ _ _ _ _ same c.convert_coo_csr-answer.result room c.convert_coo_csr-answer.ensures.plain
-    (c.in-Ok.ensures.plain)
+    rows_refused ring64 w64_value _ _ refl c.assembled-answer.result
+    c.assembled-answer.ensures.plain (room_of c.args.out_offsets.now c.args.out_indices.now
+    c.args.out_values.now c.args.out_places.now)
+    c.finish_rows.result _ same c.assembled-answer.ensures.fault
+    (λ e given. given)
     (c.finish_rows.ensures.refused (λ e. h (same ∙ e)))

@@ -1,6 +1,8 @@
-use Rattle.std.proofs.Common.{ap, subst, ◌∙◌}
+use Rattle.std.proofs.Common.{◌≡◌, inl, ap, subst, ◌∙◌, refl, rules, to_z, of_z}
+use Rattle.std.specs.Int.{w32}
 use Rattle.sparse_pattern.specs.Raw.{raw_of}
 use Rattle.sparse_products.specs.Products.{IsProductOf}
+use Rattle.sparse_c_views.specs.declared.refusal.Refusal.TheVariants.{OutOfMemory}
 use Rattle.sparse_c.proofs.products.nalgebra_sparse_multiply_places.Goals as goal
 
 pub returns-in-Ok-spmm_csr_pattern-clause-counted : goal.returns-in-Ok-spmm_csr_pattern-clause-counted
@@ -18,3 +20,9 @@ returns-in-Ok-spmm_csr_pattern-clause-counted c = λ _.
           c.in-Ok-spmm_csr_pattern.ensures.places);
       count = c.nnz.ensures;
     }
+
+pub returns-clause-refused : goal.returns-clause-refused
+returns-clause-refused c = λ _.
+    let status = c.status-in-Err-spmm_csr_pattern.result in
+    let same : to_z w32 (of_z w32 status) ≡ status = search rules in
+    (OutOfMemory, same ∙ c.status-in-Err-spmm_csr_pattern.ensures, inl refl)

@@ -1,0 +1,26 @@
+use Rattle.std.proofs.Common.{◌≡◌, sym, subst, ◌∙◌, rules, to_z, of_z}
+use Rattle.std.proofs.lemmas.Int.{to_z-of_z}
+use Rattle.std.specs.Int.{w32}
+use Rattle.sparse_pattern.specs.Raw.{raw_of}
+use Rattle.sparse_c.specs.Fills.{IsFaultOfFill, IsFillOf}
+use Rattle.sparse_c_views.proofs.Joining.{found, refused}
+use Rattle.sparse_c.proofs.fill.nalgebra_sparse_fill.Goals as goal
+
+pub returns-clause-written : goal.returns-clause-written
+returns-clause-written c = λ h.
+    let same : to_z w32 (of_z w32 c.finish_pattern.result) ≡ c.finish_pattern.result = search rules in
+    let pattern = raw_of c.args.size c.args.size c.args.offsets.now c.args.indices.now in
+    let p = found c.fill_of-answer.result c.fill_of-answer.ensures.fill
+    (c.finish_pattern.ensures.written (sym same ∙ h)) in
+    let triangle = to_z-of_z w32 c.args.triangle c.ranges.triangle in
+    (p.0, subst (λ n. IsFillOf n pattern p.0) triangle p.1.0, p.1.1)
+
+pub returns-clause-refused : goal.returns-clause-refused
+returns-clause-refused c = λ h.
+    let same : to_z w32 (of_z w32 c.finish_pattern.result) ≡ c.finish_pattern.result = search rules in
+    let pattern = raw_of c.args.size c.args.size c.args.offsets.now c.args.indices.now in
+    let triangle = to_z-of_z w32 c.args.triangle c.ranges.triangle in
+    refused c.fill_of-answer.result c.fill_of-answer.ensures.fill c.finish_pattern.result _ same
+    c.fill_of-answer.ensures.fault (λ e. subst (λ n. IsFaultOfFill n pattern e) triangle)
+    (λ l p small. (l, subst (λ n. IsFillOf n pattern l) triangle p, small))
+    (c.finish_pattern.ensures.refused (λ e. h (same ∙ e)))

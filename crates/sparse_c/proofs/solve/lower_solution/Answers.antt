@@ -1,0 +1,30 @@
+use Rattle.std.proofs.Common.{◌≡◌, ◌<◌, inr, ap, subst, ◌∙◌}
+use Rattle.std.proofs.lemmas.Result.{err_from_is_err_and}
+use Rattle.sparse_algebra.specs.Plain.{Plain}
+use Rattle.sparse_base.specs.DensePlain.{plain_of_dense}
+use Rattle.sparse_solve.specs.Solutions.{plain_lower, IsSingular, IsSolution}
+use Rattle.sparse_c.specs.Solved.{transposed_if}
+use Rattle.sparse_c_views.specs.Arrays.{plain_by_values}
+use Rattle.sparse_c_views.specs.Statuses.{refusal_of_operation}
+use Rattle.sparse_c.proofs.solve.lower_solution.Goals as goal
+
+pub returns-clause-solved : goal.returns-clause-solved
+returns-clause-solved g c =
+    let R = g.T.Ring.ring in
+    let x = plain_of_dense R g.T.Ring.value c.solve_triangle.new.b in
+    let b = plain_by_values R c.args.shape.0 c.args.shape.1 c.args.b.now in
+    subst (λ (p : Plain R). IsSolution R (transposed_if R c.args.transposed (plain_lower R p)) x b)
+    c.in_ok-l.ensures.plain (c.in_ok-solve_triangle.ensures.solved ∙ c.in_ok-x.ensures.plain)
+
+pub returns-in_err-solve_triangle-clause-fault : goal.returns-in_err-solve_triangle-clause-fault
+returns-in_err-solve_triangle-clause-fault g c =
+    let R = g.T.Ring.ring in
+    let p = err_from_is_err_and c.from_residual-in_err-solve_triangle.result
+    c.from_residual-in_err-solve_triangle.ensures.1 in
+    let e = c.in_err-solve_triangle.ensures in
+    rw p.1 (inr (inr (
+      p.2 ∙ ap refusal_of_operation e.kind,
+      subst (λ n. 0 < n) c.in_ok-x.ensures.cols e.some,
+      subst (λ (p : Plain R). IsSingular R g.T.Ring.value (plain_lower R p)) c.in_ok-l.ensures.plain
+          e.singular,
+    )))

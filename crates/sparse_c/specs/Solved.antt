@@ -1,0 +1,54 @@
+-- Systems of equations and quotients, as C has them.
+use Rattle.std.specs.Prelude.{◌≡◌, ◌≤◌, ◌⊎◌, ℕ, ℤ, ◌*◌, ◌<◌, Bool, true, false, List, length, take}
+use Rattle.sparse_algebra.specs.Algebra.{CommRing}
+use Rattle.sparse_algebra.specs.Inverses.{HasInverse}
+use Rattle.sparse_algebra.specs.Plain.{Plain, plain_scaled, plain_transpose}
+use Rattle.sparse_cs.specs.Compressed.{Compressed, IsSound}
+use Rattle.sparse_solve.specs.Solutions.{plain_lower, IsSingular, IsSolution, HasSameValues}
+use Rattle.sparse_c_views.specs.Arrays.{plain_by_cols, plain_by_rows, plain_by_values}
+use Rattle.sparse_c_views.specs.Arrays.{Room, HoldsRows}
+use Rattle.sparse_c_views.specs.Elements.{element_of}
+use Rattle.sparse_c_views.specs.Refused.{IsFaultOf, IsFaultOfSystem, IsTooSmall}
+use Rattle.sparse_c_views.specs.declared.refusal.Refusal.{Refusal}
+use Rattle.sparse_c_views.specs.declared.refusal.Refusal.TheVariants.{Singular}
+
+module _ (R : CommRing) where
+  -- the matrix, or its transpose
+  abbrev pub transposed_if : Bool → Plain R → Plain R
+  transposed_if false a = a
+  transposed_if true a = plain_transpose R a
+
+  -- the part of the matrix by columns on and below its diagonal, or the transpose of this part
+  abbrev pub lower_of : Bool → Compressed ℤ → Plain R
+  lower_of transposed m = transposed_if transposed (plain_lower R (plain_by_cols R m))
+
+  -- the array begins with the values of X, with n rows and m columns, where t X = b
+  pub record HoldsSolution (t b : Plain R) (n m : ℕ) (values : List ℤ) : Type 0 where
+    pub room : n * m ≤ length values
+    pub solved : IsSolution R t (plain_by_values R n m (take (n * m) values)) b
+
+  -- q is a, times the inverse of s
+  abbrev pub IsQuotientBy : R.Carrier → Plain R → Plain R → Type 0
+  IsQuotientBy s q a = (y : R.Carrier) × (R.mul s y ≡ R.one) × (q ≡ plain_scaled R y a)
+
+  -- the arrays begin with the quotient of the matrix by rows and the integer
+  abbrev pub WritesQuotient : Compressed ℤ → ℤ → Room → Type 0
+  WritesQuotient a divisor room = (q : Plain R)
+      × IsQuotientBy (element_of R divisor) q (plain_by_rows R a) × HoldsRows q room
+
+  -- an array has no room for the quotient
+  abbrev pub IsQuotientTooSmall : Compressed ℤ → ℤ → Room → Type 0
+  IsQuotientTooSmall a divisor room = (q : Plain R)
+      × IsQuotientBy (element_of R divisor) q (plain_by_rows R a) × IsTooSmall q room
+
+module _ (R : CommRing) {T : Type 0} (f : T → R.Carrier) where
+  -- the matrix by columns has a fault, or the right side has one, or there is a right side, and
+  -- some entry of the diagonal is not stored or has no inverse
+  abbrev pub IsFaultOfLower : Compressed ℤ → ℕ → ℕ → List ℤ → Refusal → Type 0
+  IsFaultOfLower m size cols b refusal = IsFaultOfSystem m size cols b refusal
+      ⊎ ((refusal ≡ Singular) × (0 < cols) × IsSingular R f (plain_lower R (plain_by_cols R m)))
+
+  -- the matrix has a fault, or it has none and the divisor has no inverse
+  abbrev pub IsFaultOfQuotient : Compressed ℤ → ℤ → Refusal → Type 0
+  IsFaultOfQuotient m divisor refusal = IsFaultOf m refusal
+      ⊎ (IsSound m × (refusal ≡ Singular) × (HasInverse R f (element_of R divisor) → ⊥))

@@ -1,0 +1,37 @@
+-- Symmetric systems, as C has them.
+use Rattle.std.specs.Prelude.{◌≡◌, ◌≤◌, ◌⊎◌, ℕ, ℤ, ◌*◌, List, length, take}
+use Rattle.sparse_algebra.specs.Algebra.{CommRing}
+use Rattle.sparse_algebra.specs.Plain.{Plain, plain_product}
+use Rattle.sparse_cs.specs.Compressed.{Compressed}
+use Rattle.sparse_ldl.specs.Factorisations.{plain_symmetric, IsFactorisation}
+use Rattle.sparse_solve.specs.Solutions.{HasSameValues}
+use Rattle.sparse_c_views.specs.Arrays.{plain_by_cols, plain_by_values}
+use Rattle.sparse_c_views.specs.Refused.{IsFaultOfSystem}
+use Rattle.sparse_c_views.specs.declared.refusal.Refusal.{Refusal}
+use Rattle.sparse_c_views.specs.declared.refusal.Refusal.TheVariants.{Singular}
+
+module _ (R : CommRing) where
+  -- the symmetric matrix with the entries of the matrix by columns on and above the diagonal
+  abbrev pub symmetric_by_cols : Compressed ℤ → Plain R
+  symmetric_by_cols a = plain_symmetric R (plain_by_cols R a)
+
+  -- A x has the values of b, which has n rows and m columns
+  abbrev pub SolvesSymmetric : Compressed ℤ → Plain R → Plain R → ℕ → ℕ → Type 0
+  SolvesSymmetric a x b n m = HasSameValues R n m (plain_product R (symmetric_by_cols a) x) b
+
+  -- the array begins with the values of X, with n rows and m columns, where A X = b
+  pub record HoldsSymmetricSolution (a : Compressed ℤ) (b : Plain R) (n m : ℕ) (values : List ℤ)
+      : Type 0 where
+    pub room : n * m ≤ length values
+    pub solved : SolvesSymmetric a (plain_by_values R n m (take (n * m) values)) b n m
+
+module _ (R : CommRing) {T : Type 0} (f : T → R.Carrier) where
+  -- no L and D are a factorisation L D Lᵀ of the symmetric matrix
+  abbrev pub HasNoFactors : Compressed ℤ → Type 0
+  HasNoFactors a = (l : Plain R) (d : ℕ → R.Carrier)
+      → IsFactorisation R f (symmetric_by_cols R a) l d → ⊥
+
+  -- the matrix by columns has a fault, or the right side has one, or there is no factorisation
+  abbrev pub IsFaultOfSymmetric : Compressed ℤ → ℕ → ℕ → List ℤ → Refusal → Type 0
+  IsFaultOfSymmetric a size cols b refusal =
+      IsFaultOfSystem a size cols b refusal ⊎ ((refusal ≡ Singular) × HasNoFactors a)

@@ -1,0 +1,99 @@
+//! Fill: the places of the factor of a symmetric matrix.
+
+ghost use Rattle.std.specs.Prelude.{◌≡◌, ◌≢◌, pos, IfOk, IfErr};
+ghost use Rattle.sparse_pattern.specs.Raw.{raw_of};
+ghost use Rattle.sparse_c.specs.Fills.{triangle_number, CountsFill, IsFaultOfFill, IsFillOf};
+ghost use Rattle.sparse_c.specs.Fills.{IsFillTooSmall, IsNoTriangle, WritesFill};
+ghost use Rattle.sparse_c_views.specs.Arrays.{pattern_room_of};
+ghost use Rattle.sparse_c_views.specs.Refused.{IsMemoryOr, IsRefusedFor};
+
+use sparse_c_views::lanes::pattern_of;
+use sparse_c_views::patterns::finish_pattern;
+use sparse_c_views::refusal::Refusal;
+use sparse_factor::factorization::{CscSymbolicCholesky, Triangle};
+use sparse_pattern::pattern::SparsityPattern;
+use std::alloc::Global;
+
+/// Writes how many places the factor has that starts from a triangle of a square pattern by columns: 0 for the upper
+/// triangle, 1 for the lower one, 2 for both.
+#[unsafe(no_mangle)]
+pub extern "C" fn nalgebra_sparse_fill_places(
+    alloc: Global,
+    size: usize,
+    triangle: i32,
+    offsets: &[usize],
+    indices: &[usize],
+    out_places: &mut usize,
+) -> i32
+    ensures counted { let pattern = raw_of size size offsets.now indices.now in
+        result ≡ pos 0 → CountsFill triangle pattern out_places.new }
+    ensures untouched { result ≢ pos 0 → out_places.new ≡ out_places.old }
+    ensures refused { let pattern = raw_of size size offsets.now indices.now in
+        result ≢ pos 0 → IsRefusedFor (IsFaultOfFill triangle pattern) ⊥ result }
+{
+    match fill_of(alloc, size, triangle, offsets, indices) {
+        Ok(fill) => {
+            *out_places = fill.nnz();
+            0
+        }
+        Err(refusal) => refusal.status(),
+    }
+}
+
+/// Writes the pattern of that factor, by columns.
+#[unsafe(no_mangle)]
+pub extern "C" fn nalgebra_sparse_fill(
+    alloc: Global,
+    size: usize,
+    triangle: i32,
+    offsets: &[usize],
+    indices: &[usize],
+    out_offsets: &mut [usize],
+    out_indices: &mut [usize],
+    out_places: &mut usize,
+) -> i32
+    ensures written { let pattern = raw_of size size offsets.now indices.now in
+        result ≡ pos 0 → WritesFill triangle pattern
+        (pattern_room_of out_offsets.new out_indices.new out_places.new) }
+    ensures untouched { result ≢ pos 0
+        → pattern_room_of out_offsets.new out_indices.new out_places.new
+        ≡ pattern_room_of out_offsets.old out_indices.old out_places.old }
+    ensures refused { let pattern = raw_of size size offsets.now indices.now in
+        result ≢ pos 0 → IsRefusedFor (IsFaultOfFill triangle pattern)
+        (IsFillTooSmall triangle pattern
+        (pattern_room_of out_offsets.old out_indices.old out_places.old)) result }
+{
+    let answer = fill_of(alloc, size, triangle, offsets, indices);
+    finish_pattern(answer, out_offsets, out_indices, out_places)
+}
+
+// The pattern of the factor that starts from a triangle of a square pattern by columns.
+fn fill_of(
+    alloc: Global,
+    size: usize,
+    triangle: i32,
+    offsets: &[usize],
+    indices: &[usize],
+) -> Result<SparsityPattern, Refusal>
+    ensures fill { IfOk result (IsFillOf triangle (raw_of size size offsets.now indices.now)) }
+    ensures fault { IfErr result (IsMemoryOr
+        (IsFaultOfFill triangle (raw_of size size offsets.now indices.now))) }
+{
+    let triangle = triangle_of(triangle)?;
+    let pattern = pattern_of(alloc, size, size, offsets, indices)?;
+    let factor = CscSymbolicCholesky::factor_triangle(alloc, pattern, triangle)?;
+    Ok(factor.l_pattern().clone(alloc)?)
+}
+
+// The triangle with this number.
+fn triangle_of(number: i32) -> Result<Triangle, Refusal>
+    ensures is { IfOk result (λ triangle. number ≡ triangle_number triangle) }
+    ensures unknown { IfErr result (IsNoTriangle number) }
+{
+    match number {
+        0 => Ok(Triangle::Upper),
+        1 => Ok(Triangle::Lower),
+        2 => Ok(Triangle::Both),
+        _ => Err(Refusal::UnknownChoice),
+    }
+}

@@ -1,0 +1,4 @@
+pub mod Elements
+pub mod Holding
+pub mod Joining
+pub mod Meanings

@@ -1,0 +1,86 @@
+-- Matrices as arrays of integers, as C has them: an integer means that many times one.
+use Rattle.std.specs.Prelude.{◌≡◌, ◌≤◌, ℕ, ℤ, ◌+◌, ◌*◌, List, length, take}
+use Rattle.std.specs.Int.{w64}
+use Rattle.sparse_algebra.specs.Algebra.{CommRing}
+use Rattle.sparse_algebra.specs.Wrapping.{wrapping_ring}
+use Rattle.sparse_algebra.specs.Plain.{Plain, plain_of_triplets, plain_transpose, row_order}
+use Rattle.sparse_pattern.specs.Raw.{Raw}
+use Rattle.sparse_base.specs.Coo.{zip_triplets}
+use Rattle.sparse_base.specs.Dense.{dense_of}
+use Rattle.sparse_base.specs.DensePlain.{plain_of_dense}
+use Rattle.sparse_cs.specs.Compressed.{Compressed, arrays_of, IsSound}
+use Rattle.sparse_cs.specs.PlainOfLanes.{plain_of_rows, plain_of_cols}
+use Rattle.sparse_c_views.specs.Elements.{element_of}
+
+-- the arrays that C lends for a matrix, and the variable for its number of places
+pub record Room : Type 0 where
+  pub offsets : List ℕ
+  pub indices : List ℕ
+  pub values : List ℤ
+  pub places : ℕ
+
+abbrev pub room_of : List ℕ → List ℕ → List ℤ → ℕ → Room
+room_of offsets indices values places =
+    record { offsets = offsets; indices = indices; values = values; places = places }
+
+-- the matrix of this shape at the front of the arrays
+abbrev pub written_in : ℕ → ℕ → Room → Compressed ℤ
+written_in rows cols r = arrays_of rows cols (take (rows + 1) r.offsets) (take r.places r.indices)
+    (take r.places r.values)
+
+-- how many places a plain matrix has
+abbrev pub places_of : {R : CommRing} → Plain R → ℕ
+places_of {R} a = length (row_order R a)
+
+module _ (R : CommRing) where
+  -- the plain matrix of arrays by rows
+  abbrev pub plain_by_rows : Compressed ℤ → Plain R
+  plain_by_rows m = plain_of_rows R (element_of R) m
+
+  -- the plain matrix of arrays by columns
+  abbrev pub plain_by_cols : Compressed ℤ → Plain R
+  plain_by_cols m = plain_of_cols R (element_of R) m
+
+  -- the plain matrix of values given column by column
+  abbrev pub plain_by_values : ℕ → ℕ → List ℤ → Plain R
+  plain_by_values rows cols values = plain_of_dense R (element_of R) (dense_of rows cols values)
+
+  -- the plain matrix of lists of rows, columns and values: repeated triplets of a place are added
+  abbrev pub plain_of_lists : ℕ → ℕ → List ℕ → List ℕ → List ℤ → Plain R
+  plain_of_lists rows cols is js vs =
+      plain_of_triplets R (element_of R) rows cols (zip_triplets is js vs)
+
+-- the arrays begin with those of a matrix by rows whose plain matrix is a
+pub record HoldsRows {R : CommRing} (a : Plain R) (r : Room) : Type 0 where
+  pub sound : IsSound (written_in a.rows a.cols r)
+  pub plain : plain_by_rows R (written_in a.rows a.cols r) ≡ a
+  pub places : r.places ≡ places_of a
+
+-- the same by columns: they are the rows of the transpose
+abbrev pub HoldsCols : {R : CommRing} → Plain R → Room → Type 0
+HoldsCols {R} a r = HoldsRows (plain_transpose R a) r
+
+-- the array begins with the values of a, column by column
+pub record HoldsDense {R : CommRing} (a : Plain R) (values : List ℤ) : Type 0 where
+  pub plain : plain_by_values R a.rows a.cols (take (a.rows * a.cols) values) ≡ a
+  pub room : a.rows * a.cols ≤ length values
+
+-- the arrays that C lends for a pattern, and the variable for its number of places
+pub record PatternRoom : Type 0 where
+  pub offsets : List ℕ
+  pub indices : List ℕ
+  pub places : ℕ
+
+abbrev pub pattern_room_of : List ℕ → List ℕ → ℕ → PatternRoom
+pattern_room_of offsets indices places =
+    record { offsets = offsets; indices = indices; places = places }
+
+-- the arrays begin with those of the pattern
+pub record HoldsPattern (d : Raw) (r : PatternRoom) : Type 0 where
+  pub offsets : take (length d.offsets) r.offsets ≡ d.offsets
+  pub indices : take (length d.indices) r.indices ≡ d.indices
+  pub places : r.places ≡ length d.indices
+
+-- the integers modulo 2^64
+abbrev pub ring64 : CommRing
+ring64 = wrapping_ring w64

@@ -1,0 +1,4 @@
+pub mod Arrays
+pub mod Elements
+pub mod Refused
+pub mod Statuses

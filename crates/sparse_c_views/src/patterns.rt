@@ -1,0 +1,65 @@
+//! Patterns written into arrays that C lends.
+
+ghost use Rattle.std.specs.Prelude.{◌≡◌, ◌≢◌, pos, MatchResult};
+ghost use Rattle.sparse_c_views.specs.Arrays.{pattern_room_of, HoldsPattern};
+ghost use Rattle.sparse_c_views.specs.Refused.{IsPatternTooSmall};
+ghost use Rattle.sparse_c_views.specs.Statuses.{number_of};
+ghost use Rattle.sparse_c_views.specs.declared.refusal.Refusal.TheVariants.{TooSmall};
+
+use crate::refusal::Refusal;
+use crate::scalars::put_indices;
+use sparse_pattern::pattern::SparsityPattern;
+
+/// Writes the pattern of an answer into arrays, and its number of places. Returns the status of the call: 0, or that of
+/// the refusal; the arrays are then unchanged.
+///
+/// An array may be longer than the pattern needs.
+pub fn finish_pattern(
+    answer: Result<SparsityPattern, Refusal>,
+    offsets: &mut [usize],
+    indices: &mut [usize],
+    places: &mut usize,
+) -> i32
+    ensures written { result ≡ pos 0 → MatchResult answer
+        (λ d. HoldsPattern d (pattern_room_of offsets.new indices.new places.new)) (λ _. ⊥) }
+    ensures untouched { result ≢ pos 0 → pattern_room_of offsets.new indices.new places.new
+        ≡ pattern_room_of offsets.old indices.old places.old }
+    ensures refused { result ≢ pos 0 → MatchResult answer
+        (λ d. (result ≡ number_of TooSmall)
+        × IsPatternTooSmall d (pattern_room_of offsets.old indices.old places.old))
+        (λ refusal. result ≡ number_of refusal) }
+{
+    match answer {
+        Ok(pattern) => write_pattern(&pattern, offsets, indices, places),
+        Err(refusal) => refusal.status(),
+    }
+}
+
+// Writes a pattern into arrays, and its number of places.
+fn write_pattern(
+    pattern: &SparsityPattern,
+    offsets: &mut [usize],
+    indices: &mut [usize],
+    places: &mut usize,
+) -> i32
+    ensures written { result ≡ pos 0
+        → HoldsPattern pattern.now (pattern_room_of offsets.new indices.new places.new) }
+    ensures untouched { result ≢ pos 0 → pattern_room_of offsets.new indices.new places.new
+        ≡ pattern_room_of offsets.old indices.old places.old }
+    ensures small { result ≢ pos 0 → IsPatternTooSmall pattern.now
+        (pattern_room_of offsets.old indices.old places.old) }
+    ensures status { result ≢ pos 0 → result ≡ number_of TooSmall }
+{
+    let (from_offsets, from_indices) = (pattern.major_offsets(), pattern.minor_indices());
+    let count = from_indices.len();
+    if offsets.len() < from_offsets.len() {
+        return Refusal::TooSmall.status();
+    }
+    if indices.len() < count {
+        return Refusal::TooSmall.status();
+    }
+    put_indices(offsets, from_offsets);
+    put_indices(indices, from_indices);
+    *places = count;
+    0
+}

@@ -1,0 +1,103 @@
+//! Why a call is refused, and the status that C sees.
+
+ghost use Rattle.std.specs.Prelude.{◌≡◌};
+ghost use Rattle.sparse_pattern.specs.PatternFaults.{kind_of};
+ghost use Rattle.sparse_c_views.specs.Statuses.{number_of, refusal_of, refusal_of_operation};
+ghost use Rattle.sparse_c_views.specs.declared.refusal.Refusal.TheVariants.{OutOfMemory};
+
+use sparse_algebra::error::{OperationError, OperationErrorKind};
+use sparse_pattern::error::{SparseFormatError, SparseFormatErrorKind};
+use sparse_pattern::pattern::SparsityPatternFormatError;
+use std::alloc::AllocError;
+
+/// Why a call is refused. Each reason has a status of its own, which the header lists.
+#[derive(Clone, Copy, Debug, PartialEq, Eq)]
+pub enum Refusal {
+    /// An allocation failed.
+    OutOfMemory,
+    /// The arrays have lengths, offsets or an order that the format does not allow.
+    InvalidStructure,
+    /// A row or a column index is out of bounds.
+    IndexOutOfBounds,
+    /// The same place is given more than once.
+    DuplicateEntry,
+    /// An array for the result is too small.
+    TooSmall,
+    /// A value that must have an inverse has none.
+    Singular,
+    /// A number that chooses among cases is none of those that the call knows.
+    UnknownChoice,
+}
+
+impl Refusal {
+    /// Returns the status of the refusal, which is not 0.
+    pub fn status(self) -> i32
+        ensures { result ≡ number_of self }
+    {
+        match self {
+            Refusal::OutOfMemory => 1,
+            Refusal::InvalidStructure => 2,
+            Refusal::IndexOutOfBounds => 3,
+            Refusal::DuplicateEntry => 4,
+            Refusal::TooSmall => 5,
+            Refusal::Singular => 6,
+            Refusal::UnknownChoice => 7,
+        }
+    }
+
+    /// Returns the refusal of data with an error of this kind.
+    pub fn of_format(kind: SparseFormatErrorKind) -> Refusal
+        ensures { result ≡ refusal_of kind }
+    {
+        match kind {
+            SparseFormatErrorKind::IndexOutOfBounds => Refusal::IndexOutOfBounds,
+            SparseFormatErrorKind::DuplicateEntry => Refusal::DuplicateEntry,
+            SparseFormatErrorKind::InvalidStructure => Refusal::InvalidStructure,
+            SparseFormatErrorKind::OutOfMemory => Refusal::OutOfMemory,
+        }
+    }
+
+    /// Returns the refusal of an operation with an error of this kind.
+    pub fn of_operation(kind: OperationErrorKind) -> Refusal
+        ensures { result ≡ refusal_of_operation kind }
+    {
+        match kind {
+            OperationErrorKind::Singular => Refusal::Singular,
+            OperationErrorKind::InvalidPattern => Refusal::InvalidStructure,
+            OperationErrorKind::OutOfMemory => Refusal::OutOfMemory,
+        }
+    }
+}
+
+impl From<AllocError> for Refusal {
+    ghost from_gives = { λ _ refusal. refusal ≡ OutOfMemory };
+
+    fn from(_refused: AllocError) -> Refusal {
+        Refusal::OutOfMemory
+    }
+}
+
+impl From<SparsityPatternFormatError> for Refusal {
+    ghost from_gives = { λ error refusal. refusal ≡ refusal_of (kind_of error) };
+
+    fn from(error: SparsityPatternFormatError) -> Refusal {
+        let error = SparseFormatError::from(error);
+        Refusal::of_format(*error.kind())
+    }
+}
+
+impl From<SparseFormatError> for Refusal {
+    ghost from_gives = { λ kind refusal. refusal ≡ refusal_of kind };
+
+    fn from(error: SparseFormatError) -> Refusal {
+        Refusal::of_format(*error.kind())
+    }
+}
+
+impl From<OperationError> for Refusal {
+    ghost from_gives = { λ kind refusal. refusal ≡ refusal_of_operation kind };
+
+    fn from(error: OperationError) -> Refusal {
+        Refusal::of_operation(*error.kind())
+    }
+}

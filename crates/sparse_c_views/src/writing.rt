@@ -1,0 +1,111 @@
+//! Results written into arrays that C lends, with the status of the call.
+
+ghost use Rattle.std.specs.Prelude.{◌≡◌, ◌≢◌, ◌*◌, ◌<◌, length, pos, MatchResult};
+ghost use Rattle.sparse_cs.specs.PlainOfLanes.{plain_of_rows};
+ghost use Rattle.sparse_base.specs.DensePlain.{plain_of_dense};
+ghost use Rattle.sparse_c_views.specs.Arrays.{room_of, HoldsDense, HoldsRows};
+ghost use Rattle.sparse_c_views.specs.Refused.{IsTooSmall};
+ghost use Rattle.sparse_c_views.specs.Statuses.{number_of};
+ghost use Rattle.sparse_c_views.specs.declared.refusal.Refusal.TheVariants.{TooSmall};
+
+use crate::number::Number;
+use crate::refusal::Refusal;
+use crate::scalars::{put_indices, put_scalars};
+use sparse_base::dense::DMatrix;
+use sparse_forms::csr::CsrMatrix;
+
+/// Writes the matrix of an answer into arrays by rows, and its number of places. Returns the status of the call: 0, or
+/// that of the refusal; the arrays are then unchanged.
+///
+/// An array may be longer than the matrix needs.
+pub fn finish_rows<T: Number>(
+    answer: Result<CsrMatrix<T>, Refusal>,
+    offsets: &mut [usize],
+    indices: &mut [usize],
+    values: &mut [i64],
+    places: &mut usize,
+) -> i32
+    ensures written { result ≡ pos 0 → MatchResult answer
+        (λ m. HoldsRows (plain_of_rows T.ring T.value m)
+        (room_of offsets.new indices.new values.new places.new)) (λ _. ⊥) }
+    ensures untouched { result ≢ pos 0 → room_of offsets.new indices.new values.new places.new
+        ≡ room_of offsets.old indices.old values.old places.old }
+    ensures refused { result ≢ pos 0 → MatchResult answer
+        (λ m. (result ≡ number_of TooSmall) × IsTooSmall (plain_of_rows T.ring T.value m)
+        (room_of offsets.old indices.old values.old places.old))
+        (λ refusal. result ≡ number_of refusal) }
+{
+    match answer {
+        Ok(matrix) => write_rows(&matrix, offsets, indices, values, places),
+        Err(refusal) => refusal.status(),
+    }
+}
+
+// Writes a matrix by rows into arrays, and its number of places.
+fn write_rows<T: Number>(
+    matrix: &CsrMatrix<T>,
+    offsets: &mut [usize],
+    indices: &mut [usize],
+    values: &mut [i64],
+    places: &mut usize,
+) -> i32
+    ensures written { result ≡ pos 0
+        → HoldsRows (plain_of_rows T.ring T.value matrix.now)
+        (room_of offsets.new indices.new values.new places.new) }
+    ensures untouched { result ≢ pos 0 → room_of offsets.new indices.new values.new places.new
+        ≡ room_of offsets.old indices.old values.old places.old }
+    ensures small { result ≢ pos 0 → IsTooSmall (plain_of_rows T.ring T.value matrix.now)
+        (room_of offsets.old indices.old values.old places.old) }
+    ensures status { result ≢ pos 0 → result ≡ number_of TooSmall }
+{
+    let (from_offsets, from_indices, from_values) = matrix.csr_data();
+    let count = from_values.len();
+    if offsets.len() < from_offsets.len() {
+        return Refusal::TooSmall.status();
+    }
+    if indices.len() < count {
+        return Refusal::TooSmall.status();
+    }
+    if values.len() < count {
+        return Refusal::TooSmall.status();
+    }
+    put_indices(offsets, from_offsets);
+    put_indices(indices, from_indices);
+    put_scalars(values, from_values);
+    *places = count;
+    0
+}
+
+/// Writes the dense matrix of an answer into an array, column by column. Returns the status of the call: 0, or that of
+/// the refusal; the array is then unchanged.
+///
+/// The array may be longer than the matrix needs.
+pub fn finish_dense<T: Number>(answer: Result<DMatrix<T>, Refusal>, values: &mut [i64]) -> i32
+    ensures written { result ≡ pos 0 → MatchResult answer
+        (λ d. HoldsDense (plain_of_dense T.ring T.value d) values.new) (λ _. ⊥) }
+    ensures untouched { result ≢ pos 0 → values.new ≡ values.old }
+    ensures refused { result ≢ pos 0 → MatchResult answer
+        (λ d. (result ≡ number_of TooSmall) × (length values.old < d.nrows * d.ncols))
+        (λ refusal. result ≡ number_of refusal) }
+{
+    match answer {
+        Ok(matrix) => write_dense(&matrix, values),
+        Err(refusal) => refusal.status(),
+    }
+}
+
+// Writes a dense matrix into an array.
+fn write_dense<T: Number>(matrix: &DMatrix<T>, values: &mut [i64]) -> i32
+    ensures written { result ≡ pos 0
+        → HoldsDense (plain_of_dense T.ring T.value matrix.now) values.new }
+    ensures untouched { result ≢ pos 0 → values.new ≡ values.old }
+    ensures small { result ≢ pos 0 → length values.old < matrix.now.nrows * matrix.now.ncols }
+    ensures status { result ≢ pos 0 → result ≡ number_of TooSmall }
+{
+    let source = matrix.as_slice();
+    if values.len() < source.len() {
+        return Refusal::TooSmall.status();
+    }
+    put_scalars(values, source);
+    0
+}
