@@ -3,7 +3,8 @@
  * Values are integers modulo 2^64, shown as int64_t: sums and products wrap. A matrix by rows (CSR) is a shape and
  * three arrays: `offsets` with rows + 1 numbers, of which row i has the places offsets[i] to offsets[i + 1] - 1; the
  * column of each place, rising strictly in each row; and the value of each place, which may be 0. The arrays of a
- * matrix by columns (CSC) are those of its transpose by rows.
+ * matrix by columns (CSC) are those of its transpose by rows. A dense matrix is an array of its values, column by
+ * column.
  *
  * What is proved. Every call returns, never touches memory outside the arrays that it is given, and has a contract in
  * crates/sparse_c/src, which holds for all arrays, sound or not. At status 0 the arrays for the result begin with the
@@ -25,6 +26,9 @@
 #ifndef NALGEBRA_SPARSE_H
 #define NALGEBRA_SPARSE_H
 
+#ifndef __cplusplus
+#include <stdbool.h>
+#endif
 #include <stddef.h>
 #include <stdint.h>
 
@@ -44,8 +48,15 @@ enum {
     /* The same place is given more than once. */
     NALGEBRA_SPARSE_DUPLICATE_ENTRY = 4,
     /* An array for the result is too small. */
-    NALGEBRA_SPARSE_TOO_SMALL = 5
+    NALGEBRA_SPARSE_TOO_SMALL = 5,
+    /* A value that must have an inverse has none. */
+    NALGEBRA_SPARSE_SINGULAR = 6,
+    /* A number that chooses among cases is none of those that the call knows. */
+    NALGEBRA_SPARSE_UNKNOWN_CHOICE = 7
 };
+
+/* The triangles of nalgebra_sparse_fill. */
+enum { NALGEBRA_SPARSE_UPPER = 0, NALGEBRA_SPARSE_LOWER = 1, NALGEBRA_SPARSE_BOTH = 2 };
 
 /* Writes the matrix of triplets by rows: each place that occurs in the lists, with the sum of its values.
  *
@@ -157,6 +168,100 @@ int32_t nalgebra_sparse_multiply(
     size_t *out_indices, size_t out_indices_len,
     int64_t *out_values, size_t out_values_len,
     size_t *out_places);
+
+/* Writes the dense product a b: `a` has `rows` rows and `inner` columns, by rows; `b` has `inner` rows and `cols`
+ * columns, and b_values_len is inner * cols. out_values needs rows * cols numbers.
+ *
+ * Statuses: OUT_OF_MEMORY; the first fault of a, as for nalgebra_sparse_transpose; INVALID_STRUCTURE if b has another
+ * number of values; TOO_SMALL.
+ */
+int32_t nalgebra_sparse_multiply_dense(
+    size_t rows, size_t inner, size_t cols,
+    const size_t *a_offsets, size_t a_offsets_len,
+    const size_t *a_indices, size_t a_indices_len,
+    const int64_t *a_values, size_t a_values_len,
+    const int64_t *b_values, size_t b_values_len,
+    int64_t *out_values, size_t out_values_len);
+
+/* Writes the X for which L X = B, or for which the transpose of L times X is B where `transposed` is true. L is the
+ * part on and below the diagonal of a matrix by columns with `size` rows and columns; what is above the diagonal has
+ * no effect. So of a matrix by rows, whose arrays are those of its transpose by columns, the part on and above the
+ * diagonal is solved with `transposed`. B and X have `cols` columns: b_values_len is size * cols, and out_values needs
+ * as many numbers.
+ *
+ * Statuses: OUT_OF_MEMORY; the first fault of the arrays, as for nalgebra_sparse_transpose; INVALID_STRUCTURE if B has
+ * another number of values; SINGULAR if there is a column to solve for, and some entry of the diagonal is not stored
+ * or is even, since odd numbers alone have an inverse modulo 2^64; TOO_SMALL.
+ */
+int32_t nalgebra_sparse_solve_lower(
+    size_t size, size_t cols,
+    const size_t *offsets, size_t offsets_len,
+    const size_t *indices, size_t indices_len,
+    const int64_t *values, size_t values_len,
+    bool transposed,
+    const int64_t *b_values, size_t b_values_len,
+    int64_t *out_values, size_t out_values_len);
+
+/* Writes the quotient of a matrix by rows and an integer: each value times the inverse of the integer, at the same
+ * places: out_offsets needs rows + 1 numbers, and out_indices and out_values `values_len` each.
+ *
+ * Statuses: OUT_OF_MEMORY; the first fault of the arrays, as for nalgebra_sparse_transpose; SINGULAR if the divisor is
+ * even, since it has no inverse modulo 2^64; TOO_SMALL.
+ */
+int32_t nalgebra_sparse_divide(
+    size_t rows, size_t cols,
+    const size_t *offsets, size_t offsets_len,
+    const size_t *indices, size_t indices_len,
+    const int64_t *values, size_t values_len,
+    int64_t divisor,
+    size_t *out_offsets, size_t out_offsets_len,
+    size_t *out_indices, size_t out_indices_len,
+    int64_t *out_values, size_t out_values_len,
+    size_t *out_places);
+
+/* Writes to *out_places how many places the factor L of a symmetric elimination has: the size for nalgebra_sparse_fill.
+ * `triangle` says which entries of the pattern by columns, with `size` rows and columns, the elimination starts from:
+ * NALGEBRA_SPARSE_UPPER, those on and above the diagonal; NALGEBRA_SPARSE_LOWER, those on and below it;
+ * NALGEBRA_SPARSE_BOTH, all.
+ *
+ * Statuses: OUT_OF_MEMORY; UNKNOWN_CHOICE if `triangle` is another number; the first fault of the arrays, as for
+ * nalgebra_sparse_transpose.
+ */
+int32_t nalgebra_sparse_fill_places(
+    size_t size, int32_t triangle,
+    const size_t *offsets, size_t offsets_len,
+    const size_t *indices, size_t indices_len,
+    size_t *out_places);
+
+/* Writes the pattern of that factor, by columns: the smallest set of places on and below the diagonal that has the
+ * places that the elimination starts from, and that has (i, j) wherever it has (i, k) and (j, k) with k < j <= i.
+ * out_offsets needs size + 1 numbers, and out_indices as many as nalgebra_sparse_fill_places says.
+ *
+ * Statuses: as for nalgebra_sparse_fill_places; TOO_SMALL.
+ */
+int32_t nalgebra_sparse_fill(
+    size_t size, int32_t triangle,
+    const size_t *offsets, size_t offsets_len,
+    const size_t *indices, size_t indices_len,
+    size_t *out_offsets, size_t out_offsets_len,
+    size_t *out_indices, size_t out_indices_len,
+    size_t *out_places);
+
+/* Writes the X for which A X = B, where A is the symmetric matrix whose entries on and above the diagonal are those of
+ * a matrix by columns with `size` rows and columns, by the exact factorisation of A into L D L^T. What is below the
+ * diagonal has no effect. B and X have `cols` columns: b_values_len is size * cols, and out_values needs as many
+ * numbers.
+ *
+ * Statuses: OUT_OF_MEMORY; the first fault of the arrays, as for nalgebra_sparse_transpose; INVALID_STRUCTURE if B has
+ * another number of values; SINGULAR if no factorisation exists; TOO_SMALL.
+ */
+int32_t nalgebra_sparse_solve_symmetric(
+    size_t size, size_t cols,
+    const size_t *offsets, size_t offsets_len,
+    const size_t *indices, size_t indices_len,
+    const int64_t *values, size_t values_len,
+    const int64_t *b_values, size_t b_values_len,
+    int64_t *out_values, size_t out_values_len);
 
 #ifdef __cplusplus
 }

@@ -33,11 +33,16 @@ class DuplicateEntry(Error):
     """The same place is given more than once."""
 
 
+class Singular(Error):
+    """A value that must have an inverse has none."""
+
+
 _ERRORS = {
     1: MemoryError("an allocation failed"),
     2: InvalidStructure("the arrays have lengths, offsets or an order that the format does not allow"),
     3: IndexOutOfBounds("a row or a column index is out of bounds"),
     4: DuplicateEntry("the same place is given more than once"),
+    6: Singular("a value that must have an inverse has none"),
 }
 
 
@@ -88,12 +93,48 @@ def _filled(name, lanes, room, *arguments):
     return values[: places.value], indices[: places.value], offsets
 
 
-def _rows(name, matrix):
-    """Returns the shape and the arrays of a matrix by rows."""
-    if not sp.issparse(matrix) or matrix.format != "csr":
-        raise TypeError(f"{name} must be a SciPy matrix in CSR form, not {getattr(matrix, 'format', type(matrix).__name__)}: call tocsr()")
+def _lanes(name, matrix, form):
+    """Returns the shape and the arrays of a matrix by rows (`csr`) or by columns (`csc`)."""
+    if not sp.issparse(matrix) or matrix.format != form:
+        found = getattr(matrix, "format", type(matrix).__name__)
+        raise TypeError(f"{name} must be a SciPy matrix in {form.upper()} form, not {found}: call to{form}()")
     arrays = [_array(f"{name}.indptr", matrix.indptr, True), _array(f"{name}.indices", matrix.indices, True)]
     return matrix.shape, [*arrays, _array(f"{name}.data", matrix.data, False)]
+
+
+def _rows(name, matrix):
+    """Returns the shape and the arrays of a matrix by rows."""
+    return _lanes(name, matrix, "csr")
+
+
+def _square(name, matrix):
+    """Returns the size and the arrays of a square matrix by columns."""
+    (rows, cols), arrays = _lanes(name, matrix, "csc")
+    if rows != cols:
+        raise ValueError(f"{name} must be square, not {rows} by {cols}")
+    return rows, arrays
+
+
+def _dense(name, matrix, rows):
+    """Returns the values of a dense matrix column by column, without a copy, and its number of columns.
+
+    A vector is one column. A matrix with more columns must be stored column by column (NumPy's order "F").
+    """
+    if not isinstance(matrix, np.ndarray) or matrix.ndim not in (1, 2):
+        raise TypeError(f"{name} must be a NumPy array with one or two dimensions")
+    if matrix.shape[0] != rows:
+        raise ValueError(f"{name} must have {rows} rows, not {matrix.shape[0]}")
+    if not matrix.flags.f_contiguous:
+        raise TypeError(f"{name} must be stored column by column: pass numpy.asfortranarray({name})")
+    return _array(name, matrix.reshape(-1, order="F"), False), 1 if matrix.ndim == 1 else matrix.shape[1]
+
+
+def _solved(name, size, arrays, b, *flags):
+    """Calls a solve, and returns X in the shape of b."""
+    values, cols = _dense("b", b, size)
+    solution = np.empty(size * cols, np.int64)
+    _call(name, _size("size", size), _size("cols", cols), *_pairs(arrays), *flags, *_pair(values), *_pair(solution))
+    return solution.reshape(b.shape, order="F")
 
 
 def _pairs(arrays):
@@ -158,3 +199,54 @@ def multiply(a, b):
     places = ctypes.c_size_t()
     _call("multiply_places", *sizes, *_pairs(of_a[:2]), *_pairs(of_b[:2]), ctypes.byref(places))
     return _csr(_filled("multiply", rows, places.value, *sizes, *_pairs(of_a), *_pairs(of_b)), (rows, cols))
+
+
+def multiply_dense(a, b):
+    """Returns the dense product of a matrix by rows and a NumPy array, a vector or a matrix that is stored column by column."""
+    (rows, inner), arrays = _rows("a", a)
+    values, cols = _dense("b", b, inner)
+    product = np.empty(rows * cols, np.int64)
+    sizes = [_size("rows", rows), _size("inner", inner), _size("cols", cols)]
+    _call("multiply_dense", *sizes, *_pairs(arrays), *_pair(values), *_pair(product))
+    return product.reshape((rows, *b.shape[1:]), order="F")
+
+
+def solve_lower(matrix, b, transposed=False):
+    """Returns the X for which L X = b, or L^T X = b, where L is the part of a square matrix by columns on and below its diagonal."""
+    size, arrays = _square("matrix", matrix)
+    return _solved("solve_lower", size, arrays, b, ctypes.c_bool(transposed))
+
+
+def solve_symmetric(matrix, b):
+    """Returns the X for which A X = b, where A is symmetric and has the entries of a square matrix by columns on and above its diagonal."""
+    size, arrays = _square("matrix", matrix)
+    return _solved("solve_symmetric", size, arrays, b)
+
+
+def divide(matrix, divisor):
+    """Returns the matrix by rows with each value times the inverse of an integer, which must be odd."""
+    shape, arrays = _rows("matrix", matrix)
+    if isinstance(divisor, bool) or not isinstance(divisor, (int, np.integer)) or not -(2**63) <= divisor < 2**63:
+        raise TypeError(f"divisor must be an integer of 64 bits, not {divisor!r}")
+    sizes = [_size("rows", shape[0]), _size("cols", shape[1])]
+    return _csr(_filled("divide", shape[0], arrays[2].size, *sizes, *_pairs(arrays), ctypes.c_int64(int(divisor))), shape)
+
+
+_TRIANGLES = {"upper": 0, "lower": 1, "both": 2}
+
+
+def fill(matrix, triangle="upper"):
+    """Returns the offsets and the indices by columns of the factor of a symmetric elimination.
+
+    It starts from the places of a square matrix by columns on and above the diagonal ("upper"), on and below it ("lower"),
+    or from all ("both"). The values have no effect.
+    """
+    if triangle not in _TRIANGLES:
+        raise ValueError(f"triangle must be one of {', '.join(_TRIANGLES)}, not {triangle!r}")
+    size, arrays = _square("matrix", matrix)
+    start = [_size("size", size), ctypes.c_int32(_TRIANGLES[triangle]), *_pairs(arrays[:2])]
+    places = ctypes.c_size_t()
+    _call("fill_places", *start, ctypes.byref(places))
+    offsets, indices = np.empty(size + 1, np.int64), np.empty(places.value, np.int64)
+    _call("fill", *start, *_pair(offsets), *_pair(indices), ctypes.byref(places))
+    return offsets, indices

@@ -65,6 +65,87 @@ def check_random_cases():
         assert same(ns.add(a, b), merged(a, b, 1))
         assert same(ns.subtract(a, b), merged(a, b, -1))
         assert same(ns.multiply(a, c), pattern_product(a, c))
+        check_dense_case()
+        check_solves()
+
+
+def below(count):
+    """Returns random values, some of them at the ends of the range."""
+    values = random.integers(-3, 4, count)
+    values[random.random(count) < 0.3] = np.iinfo(np.int64).min
+    return values
+
+
+def square(n):
+    """Returns a random square matrix by columns, most often with odd values on the diagonal."""
+    dense = matrix(n, n).toarray()
+    diagonal = np.arange(n)
+    if random.random() < 0.9:
+        dense[diagonal, diagonal] |= 1
+    return sp.csc_matrix(dense)
+
+
+def product(a, b):
+    """Returns the product of dense matrices, which wraps."""
+    with np.errstate(over="ignore"):
+        return a @ b
+
+
+def has_factors(symmetric):
+    """Says whether each pivot of the elimination is odd."""
+    s, n = [[int(x) for x in row] for row in symmetric], len(symmetric)
+    for k in range(n):
+        if s[k][k] % 2 == 0:
+            return False
+        inverse = pow(s[k][k], -1, 2**64)
+        for i in range(k + 1, n):
+            for j in range(k + 1, n):
+                s[i][j] -= s[i][k] * inverse * s[k][j]
+    return True
+
+
+def filled(base):
+    """Returns the fill of the places on and below the diagonal, by the definition."""
+    n = len(base)
+    for k in range(n):
+        for i in range(k + 1, n):
+            for j in range(k + 1, i + 1):
+                base[i, j] |= base[i, k] and base[j, k]
+    return sp.csc_matrix(base.astype(np.int64))
+
+
+def check_dense_case():
+    n, m, cols = (int(size) for size in random.integers(1, 6, 3))
+    a, b = matrix(n, m), np.asfortranarray(below(m * cols).reshape(m, cols))
+    assert np.array_equal(ns.multiply_dense(a, b), product(a.toarray(), b))
+    assert np.array_equal(ns.multiply_dense(a, b[:, 0]), product(a.toarray(), b[:, 0]))
+    divisor = int(random.integers(-(2**62), 2**62)) | 1
+    with np.errstate(over="ignore"):
+        back = ns.divide(a, divisor).toarray() * np.int64(divisor)
+    assert np.array_equal(back, a.toarray())
+
+
+def check_solves():
+    n, cols = (int(size) for size in random.integers(1, 6, 2))
+    a, b = square(n), np.asfortranarray(below(n * cols).reshape(n, cols))
+    dense = a.toarray()
+    lower = np.tril(dense)
+    symmetric = np.triu(dense) + np.triu(dense, 1).T
+    odd = bool(np.all(np.diag(dense) % 2 != 0))
+    systems = [(ns.solve_lower, (), lower, odd), (ns.solve_lower, (True,), lower.T, odd)]
+    for call, flags, plain, solvable in [*systems, (ns.solve_symmetric, (), symmetric, has_factors(symmetric))]:
+        try:
+            assert np.array_equal(product(plain, call(a, b, *flags)), b)
+        except ns.Singular:
+            assert not solvable
+    places = np.zeros((n, n), bool)
+    places[a.tocoo().row, a.tocoo().col] = True
+    bases = {"upper": places.T & np.tri(n, dtype=bool), "lower": places & np.tri(n, dtype=bool)}
+    bases["both"] = bases["upper"] | bases["lower"]
+    for triangle, base in bases.items():
+        want = filled(base.copy())
+        offsets, indices = ns.fill(a, triangle)
+        assert np.array_equal(offsets, want.indptr) and np.array_equal(indices, want.indices)
 
 
 def refused(error, call, *arguments):
@@ -97,6 +178,20 @@ def check_errors():
     refused(ns.InvalidStructure, ns.multiply, falling, matrix(3, 1))
     refused(ValueError, ns.add, fine, matrix(1, 4))
     refused(ValueError, ns.multiply, fine, fine)
+    odd, even = sp.csc_matrix(np.array([[5, 0], [0, 7]])), sp.csc_matrix(np.array([[5, 0], [0, 6]]))
+    b = np.array([1, 2])
+    refused(ns.Singular, ns.solve_lower, even, b)
+    refused(ns.Singular, ns.solve_symmetric, even, b)
+    refused(ns.Singular, ns.divide, fine, 2)
+    refused(ns.InvalidStructure, ns.divide, falling, 3)
+    refused(ns.InvalidStructure, ns.multiply_dense, falling, np.array([1, 2, 3]))
+    refused(ValueError, ns.solve_lower, odd, np.array([1, 2, 3]))
+    refused(ValueError, ns.solve_symmetric, sp.csc_matrix(np.ones((1, 2), np.int64)), b)
+    refused(ValueError, ns.fill, odd, "left")
+    refused(TypeError, ns.solve_lower, odd.tocsr(), b)
+    refused(TypeError, ns.solve_lower, odd, np.ones((2, 2), np.int64))
+    refused(TypeError, ns.solve_lower, odd, np.ones(2))
+    refused(TypeError, ns.divide, fine, 2**63)
     refused(TypeError, ns.transpose, fine.tocsc())
     refused(TypeError, ns.transpose, fine.astype(float))
 

@@ -87,4 +87,60 @@ extern "C" {
         out_values: *mut i64, out_values_len: usize,
         out_places: *mut usize,
     ) -> i32;
+
+    pub fn nalgebra_sparse_multiply_dense(
+        rows: usize, inner: usize, cols: usize,
+        a_offsets: *const usize, a_offsets_len: usize,
+        a_indices: *const usize, a_indices_len: usize,
+        a_values: *const i64, a_values_len: usize,
+        b_values: *const i64, b_values_len: usize,
+        out_values: *mut i64, out_values_len: usize,
+    ) -> i32;
+
+    pub fn nalgebra_sparse_solve_lower(
+        size: usize, cols: usize,
+        offsets: *const usize, offsets_len: usize,
+        indices: *const usize, indices_len: usize,
+        values: *const i64, values_len: usize,
+        transposed: bool,
+        b_values: *const i64, b_values_len: usize,
+        out_values: *mut i64, out_values_len: usize,
+    ) -> i32;
+
+    pub fn nalgebra_sparse_divide(
+        rows: usize, cols: usize,
+        offsets: *const usize, offsets_len: usize,
+        indices: *const usize, indices_len: usize,
+        values: *const i64, values_len: usize,
+        divisor: i64,
+        out_offsets: *mut usize, out_offsets_len: usize,
+        out_indices: *mut usize, out_indices_len: usize,
+        out_values: *mut i64, out_values_len: usize,
+        out_places: *mut usize,
+    ) -> i32;
+
+    pub fn nalgebra_sparse_fill_places(
+        size: usize, triangle: i32,
+        offsets: *const usize, offsets_len: usize,
+        indices: *const usize, indices_len: usize,
+        out_places: *mut usize,
+    ) -> i32;
+
+    pub fn nalgebra_sparse_fill(
+        size: usize, triangle: i32,
+        offsets: *const usize, offsets_len: usize,
+        indices: *const usize, indices_len: usize,
+        out_offsets: *mut usize, out_offsets_len: usize,
+        out_indices: *mut usize, out_indices_len: usize,
+        out_places: *mut usize,
+    ) -> i32;
+
+    pub fn nalgebra_sparse_solve_symmetric(
+        size: usize, cols: usize,
+        offsets: *const usize, offsets_len: usize,
+        indices: *const usize, indices_len: usize,
+        values: *const i64, values_len: usize,
+        b_values: *const i64, b_values_len: usize,
+        out_values: *mut i64, out_values_len: usize,
+    ) -> i32;
 }

@@ -18,6 +18,8 @@ pub enum Error {
     IndexOutOfBounds,
     /// The same place is given more than once.
     DuplicateEntry,
+    /// A value that must have an inverse has none.
+    Singular,
     /// The shapes of the operands do not fit.
     ShapeMismatch,
 }
@@ -29,6 +31,7 @@ impl fmt::Display for Error {
             Error::InvalidStructure => "the arrays have lengths, offsets or an order that the format does not allow",
             Error::IndexOutOfBounds => "a row or a column index is out of bounds",
             Error::DuplicateEntry => "the same place is given more than once",
+            Error::Singular => "a value that must have an inverse has none",
             Error::ShapeMismatch => "the shapes of the operands do not fit",
         })
     }
@@ -142,6 +145,110 @@ pub fn multiply(a: Rows<'_>, b: Rows<'_>) -> Result<Arrays, Error> {
     })
 }
 
+/// Returns the dense product of a matrix by rows and a dense matrix with `cols` columns, both dense matrices column by
+/// column.
+pub fn multiply_dense(a: Rows<'_>, cols: usize, b: &[i64]) -> Result<Vec<i64>, Error> {
+    into_values(a.rows, cols, |v| unsafe {
+        calls::nalgebra_sparse_multiply_dense(
+            a.rows, a.cols, cols,
+            a.offsets.as_ptr(), a.offsets.len(), a.indices.as_ptr(), a.indices.len(), a.values.as_ptr(), a.values.len(),
+            b.as_ptr(), b.len(), v.as_mut_ptr(), v.len(),
+        )
+    })
+}
+
+/// Which triangular system is solved.
+#[derive(Clone, Copy, Debug, PartialEq, Eq)]
+pub enum System {
+    /// `L X = B`.
+    Lower,
+    /// `L^T X = B`.
+    Transposed,
+}
+
+/// Returns the X for which `L X = B` or `L^T X = B`. `columns` has the arrays of a square matrix by columns, and L is its
+/// part on and below the diagonal. B and X have `cols` columns, one after the other.
+pub fn solve_lower(columns: Rows<'_>, system: System, cols: usize, b: &[i64]) -> Result<Vec<i64>, Error> {
+    let a = square(columns)?;
+    into_values(a.rows, cols, |v| unsafe {
+        calls::nalgebra_sparse_solve_lower(
+            a.rows, cols,
+            a.offsets.as_ptr(), a.offsets.len(), a.indices.as_ptr(), a.indices.len(), a.values.as_ptr(), a.values.len(),
+            system == System::Transposed, b.as_ptr(), b.len(), v.as_mut_ptr(), v.len(),
+        )
+    })
+}
+
+/// Returns the X for which `A X = B`, where A is the symmetric matrix whose entries on and above the diagonal are those of a
+/// square matrix, whose arrays by columns `columns` has. B and X have `cols` columns, one after the other.
+pub fn solve_symmetric(columns: Rows<'_>, cols: usize, b: &[i64]) -> Result<Vec<i64>, Error> {
+    let a = square(columns)?;
+    into_values(a.rows, cols, |v| unsafe {
+        calls::nalgebra_sparse_solve_symmetric(
+            a.rows, cols,
+            a.offsets.as_ptr(), a.offsets.len(), a.indices.as_ptr(), a.indices.len(), a.values.as_ptr(), a.values.len(),
+            b.as_ptr(), b.len(), v.as_mut_ptr(), v.len(),
+        )
+    })
+}
+
+/// Returns a matrix by rows with each value times the inverse of the divisor.
+pub fn divide(a: Rows<'_>, divisor: i64) -> Result<Arrays, Error> {
+    into_arrays(a.rows, a.values.len(), |o, x, v, places| unsafe {
+        calls::nalgebra_sparse_divide(
+            a.rows, a.cols,
+            a.offsets.as_ptr(), a.offsets.len(), a.indices.as_ptr(), a.indices.len(), a.values.as_ptr(), a.values.len(),
+            divisor, o.as_mut_ptr(), o.len(), x.as_mut_ptr(), x.len(), v.as_mut_ptr(), v.len(), places,
+        )
+    })
+}
+
+/// The entries of a square pattern that a symmetric elimination starts from.
+#[derive(Clone, Copy, Debug, PartialEq, Eq)]
+pub enum Triangle {
+    /// Those on and above the diagonal.
+    Upper = 0,
+    /// Those on and below the diagonal.
+    Lower = 1,
+    /// All entries.
+    Both = 2,
+}
+
+/// Returns the offsets and the indices by columns of the factor of a symmetric elimination, which starts from a triangle of
+/// the pattern by columns.
+pub fn fill(size: usize, triangle: Triangle, offsets: &[usize], indices: &[usize]) -> Result<(Vec<usize>, Vec<usize>), Error> {
+    let (o, x) = (offsets, indices);
+    let mut places = 0;
+    answer(unsafe {
+        calls::nalgebra_sparse_fill_places(size, triangle as i32, o.as_ptr(), o.len(), x.as_ptr(), x.len(), &mut places)
+    })?;
+    let count = size.checked_add(1).ok_or(Error::OutOfMemory)?;
+    let (mut to_offsets, mut to_indices) = (zeros(count, 0)?, zeros(places, 0)?);
+    answer(unsafe {
+        calls::nalgebra_sparse_fill(
+            size, triangle as i32, o.as_ptr(), o.len(), x.as_ptr(), x.len(),
+            to_offsets.as_mut_ptr(), to_offsets.len(), to_indices.as_mut_ptr(), to_indices.len(), &mut places,
+        )
+    })?;
+    Ok((to_offsets, to_indices))
+}
+
+fn square(a: Rows<'_>) -> Result<Rows<'_>, Error> {
+    if a.rows == a.cols {
+        Ok(a)
+    } else {
+        Err(Error::ShapeMismatch)
+    }
+}
+
+/// Calls with an array for the values of a dense matrix.
+fn into_values(rows: usize, cols: usize, call: impl FnOnce(&mut [i64]) -> i32) -> Result<Vec<i64>, Error> {
+    let count = rows.checked_mul(cols).ok_or(Error::OutOfMemory)?;
+    let mut values = zeros(count, 0)?;
+    answer(call(&mut values))?;
+    Ok(values)
+}
+
 fn same_shape(a: Rows<'_>, b: Rows<'_>) -> Result<(), Error> {
     if (a.rows, a.cols) == (b.rows, b.cols) {
         Ok(())
@@ -179,6 +286,7 @@ fn answer(status: i32) -> Result<(), Error> {
         2 => Err(Error::InvalidStructure),
         3 => Err(Error::IndexOutOfBounds),
         4 => Err(Error::DuplicateEntry),
+        6 => Err(Error::Singular),
         // The arrays for a result are as long as the header asks.
         _ => unreachable!("status {status}"),
     }

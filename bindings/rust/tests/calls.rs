@@ -1,6 +1,9 @@
 //! Compares the calls with plain dense matrices in random cases, and tries each error.
 
-use nalgebra_sparse_exact::{add, assemble_csc, assemble_csr, multiply, subtract, transpose, Arrays, Error, Rows};
+use nalgebra_sparse_exact::{
+    add, assemble_csc, assemble_csr, divide, fill, multiply, multiply_dense, solve_lower, solve_symmetric, subtract, transpose, Arrays, Error, Rows,
+    System, Triangle,
+};
 
 /// A generator of random numbers (xorshift).
 struct Random(u64);
@@ -135,6 +138,133 @@ fn random_cases_equal_plain_matrices() {
     }
 }
 
+/// The inverse of an odd number modulo 2^64, by Newton's steps.
+fn inverse(odd: i64) -> i64 {
+    (0..6).fold(odd, |x, _| x.wrapping_mul(2i64.wrapping_sub(odd.wrapping_mul(x))))
+}
+
+/// The plain product with a dense matrix, column by column.
+fn times_dense(a: &Plain, cols: usize, b: &[i64]) -> Vec<i64> {
+    let mut product = vec![0i64; a.rows * cols];
+    for j in 0..cols {
+        for i in 0..a.rows {
+            for k in 0..a.cols {
+                let term = a.at(i, k).unwrap_or(0).wrapping_mul(b[j * a.cols + k]);
+                product[j * a.rows + i] = product[j * a.rows + i].wrapping_add(term);
+            }
+        }
+    }
+    product
+}
+
+/// A square matrix, most often with odd values on the diagonal.
+fn square(random: &mut Random) -> Plain {
+    let n = random.below(6);
+    let (_, _, _, mut a) = triplets(random, n, n);
+    for k in 0..n {
+        if random.below(40) != 0 {
+            a.entries[k * n + k] = Some(a.at(k, k).unwrap_or(0) | 1);
+        }
+    }
+    a
+}
+
+/// The entries for which a test of row and column holds.
+fn kept(a: &Plain, keep: impl Fn(usize, usize) -> bool) -> Plain {
+    let mut part = a.clone();
+    for i in 0..a.rows {
+        for j in 0..a.cols {
+            if !keep(i, j) {
+                part.entries[i * a.cols + j] = None;
+            }
+        }
+    }
+    part
+}
+
+/// Says whether each pivot of the elimination is odd.
+fn has_factors(symmetric: &Plain) -> bool {
+    let n = symmetric.rows;
+    let mut s: Vec<i64> = symmetric.entries.iter().map(|entry| entry.unwrap_or(0)).collect();
+    for k in 0..n {
+        if s[k * n + k] % 2 == 0 {
+            return false;
+        }
+        for i in k + 1..n {
+            for j in k + 1..n {
+                let change = s[i * n + k].wrapping_mul(inverse(s[k * n + k])).wrapping_mul(s[k * n + j]);
+                s[i * n + j] = s[i * n + j].wrapping_sub(change);
+            }
+        }
+    }
+    true
+}
+
+#[test]
+fn dense_products_quotients_and_solves_equal_plain_ones() {
+    let mut random = Random(0x2545_f491_4f6c_dd1d);
+    for _ in 0..1000 {
+        let (n, m, cols) = (random.below(6), random.below(6), random.below(4));
+        let (_, _, _, a) = triplets(&mut random, n, m);
+        let x = a.arrays();
+        let b: Vec<i64> = (0..m * cols).map(|_| random.value()).collect();
+        assert_eq!(multiply_dense(view(&a, &x), cols, &b), Ok(times_dense(&a, cols, &b)));
+        let divisor = random.value() | 1;
+        let values = x.values.iter().map(|value| value.wrapping_mul(inverse(divisor))).collect();
+        assert_eq!(divide(view(&a, &x), divisor), Ok(Arrays { values, ..x.clone() }));
+
+        let a = square(&mut random);
+        let columns = a.transposed().arrays();
+        let b: Vec<i64> = (0..a.rows * cols).map(|_| random.value()).collect();
+        let lower = kept(&a, |i, j| j <= i);
+        let pivots = (0..a.rows).all(|k| a.at(k, k).is_some_and(|value| value % 2 != 0));
+        for (system, part) in [(System::Lower, lower.clone()), (System::Transposed, lower.transposed())] {
+            match solve_lower(view(&a, &columns), system, cols, &b) {
+                Ok(solution) => assert_eq!(times_dense(&part, cols, &solution), b),
+                Err(error) => assert!(error == Error::Singular && cols > 0 && !pivots),
+            }
+        }
+        let upper = kept(&a, |i, j| i <= j);
+        let symmetric = upper.sum(&kept(&upper, |i, j| i < j).transposed(), 1);
+        match solve_symmetric(view(&a, &columns), cols, &b) {
+            Ok(solution) => assert_eq!(times_dense(&symmetric, cols, &solution), b),
+            Err(error) => assert!(error == Error::Singular && !has_factors(&symmetric)),
+        }
+    }
+}
+
+#[test]
+fn fills_equal_those_of_the_definition() {
+    let mut random = Random(0x1234_5678_9abc_def1);
+    for _ in 0..1000 {
+        let a = square(&mut random);
+        let columns = a.transposed().arrays();
+        for triangle in [Triangle::Upper, Triangle::Lower, Triangle::Both] {
+            let mut base = Plain::empty(a.rows, a.rows);
+            for i in 0..a.rows {
+                for j in 0..=i {
+                    let upper = triangle != Triangle::Lower && a.at(j, i).is_some();
+                    let lower = triangle != Triangle::Upper && a.at(i, j).is_some();
+                    if upper || lower {
+                        base.add(i, j, 0);
+                    }
+                }
+            }
+            for k in 0..a.rows {
+                for i in k + 1..a.rows {
+                    for j in k + 1..=i {
+                        if base.at(i, k).is_some() && base.at(j, k).is_some() {
+                            base.add(i, j, 0);
+                        }
+                    }
+                }
+            }
+            let want = base.transposed().arrays();
+            assert_eq!(fill(a.rows, triangle, &columns.offsets, &columns.indices), Ok((want.offsets, want.indices)));
+        }
+    }
+}
+
 #[test]
 fn each_fault_is_an_error() {
     let rows = |offsets, indices, values| Rows { rows: 2, cols: 3, offsets, indices, values };
@@ -155,6 +285,21 @@ fn each_fault_is_an_error() {
         // The product reads the patterns first, and the number of values after them.
         assert_eq!(multiply(faulty, Rows { rows: 3, cols: 1, offsets: &[0, 0, 0, 0], indices: &[], values: &[] }), Err(error));
     }
+    let square = |indices, values| Rows { rows: 2, cols: 2, offsets: &[0, 1, 2], indices, values };
+    let (odd, even, out) = (square(&[0, 1], &[5, 7]), square(&[0, 1], &[5, 6]), square(&[0, 2], &[5, 7]));
+    assert_eq!(multiply_dense(sound, 1, &[1, 2]), Err(Error::InvalidStructure));
+    assert_eq!(multiply_dense(out, 1, &[1, 2]), Err(Error::IndexOutOfBounds));
+    assert_eq!(divide(odd, 2), Err(Error::Singular));
+    assert_eq!(divide(out, 3), Err(Error::IndexOutOfBounds));
+    assert_eq!(solve_lower(even, System::Lower, 1, &[1, 2]), Err(Error::Singular));
+    assert_eq!(solve_lower(out, System::Lower, 1, &[1, 2]), Err(Error::IndexOutOfBounds));
+    assert_eq!(solve_lower(odd, System::Transposed, 2, &[1, 2]), Err(Error::InvalidStructure));
+    assert_eq!(solve_lower(sound, System::Lower, 1, &[1, 2]), Err(Error::ShapeMismatch));
+    assert_eq!(solve_symmetric(even, 1, &[1, 2]), Err(Error::Singular));
+    assert_eq!(solve_symmetric(out, 1, &[1, 2]), Err(Error::IndexOutOfBounds));
+    assert_eq!(solve_symmetric(odd, 2, &[1, 2]), Err(Error::InvalidStructure));
+    assert_eq!(solve_symmetric(sound, 1, &[1, 2]), Err(Error::ShapeMismatch));
+    assert_eq!(fill(2, Triangle::Both, &[0, 1, 2], &[0, 2]), Err(Error::IndexOutOfBounds));
     assert_eq!(multiply(sound, sound), Err(Error::ShapeMismatch));
     assert_eq!(add(sound, Rows { cols: 4, ..sound }), Err(Error::ShapeMismatch));
     assert_eq!(assemble_csr(2, 2, &[0, 1], &[0], &[7]), Err(Error::InvalidStructure));
