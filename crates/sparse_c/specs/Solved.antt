@@ -4,7 +4,7 @@ use Rattle.sparse_algebra.specs.Algebra.{CommRing}
 use Rattle.sparse_algebra.specs.Inverses.{HasInverse}
 use Rattle.sparse_algebra.specs.Plain.{Plain, plain_scaled, plain_transpose}
 use Rattle.sparse_cs.specs.Compressed.{Compressed, IsSound}
-use Rattle.sparse_solve.specs.Solutions.{plain_lower, IsSingular, IsSolution, HasSameValues}
+use Rattle.sparse_solve.specs.Solutions.{plain_lower, IsSingular, IsSolution}
 use Rattle.sparse_c_views.specs.Arrays.{plain_by_cols, plain_by_rows, plain_by_values}
 use Rattle.sparse_c_views.specs.Arrays.{Room, HoldsRows}
 use Rattle.sparse_c_views.specs.Elements.{element_of}

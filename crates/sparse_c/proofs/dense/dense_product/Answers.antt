@@ -1,4 +1,4 @@
-use Rattle.std.proofs.Common.{ap, ◌∙◌}
+use Rattle.std.proofs.Common.{◌∙◌}
 use Rattle.sparse_algebra.specs.Plain.{plain_product}
 use Rattle.sparse_base.specs.DensePlain.{plain_full}
 use Rattle.sparse_c_views.specs.Arrays.{ring64}

@@ -1,4 +1,4 @@
-use Rattle.std.proofs.Common.{◌≡◌, ◌<◌, inr, ap, subst, ◌∙◌}
+use Rattle.std.proofs.Common.{◌<◌, inr, ap, subst, ◌∙◌}
 use Rattle.std.proofs.lemmas.Result.{err_from_is_err_and}
 use Rattle.sparse_algebra.specs.Plain.{Plain}
 use Rattle.sparse_base.specs.DensePlain.{plain_of_dense}

@@ -1,6 +1,5 @@
-use Rattle.std.proofs.Common.{◌≡◌, ℕ, ℤ, ◌<◌, ◌*◌, length, ap, sym, subst, ◌∙◌, rules, to_z, of_z}
+use Rattle.std.proofs.Common.{◌≡◌, ℕ, ℤ, ◌<◌, ◌*◌, length, sym, subst, ◌∙◌, rules, to_z, of_z}
 use Rattle.std.specs.Int.{w32}
-use Rattle.sparse_algebra.specs.Plain.{Plain}
 use Rattle.sparse_algebra.specs.WrappingValues.{w64_value}
 use Rattle.sparse_algebra.specs.declared.scalar.wrapping.W64.{W64}
 use Rattle.sparse_base.specs.Dense.{Dense}
