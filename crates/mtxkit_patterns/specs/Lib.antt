@@ -1,3 +1,4 @@
 pub mod Lanes
+pub mod PictureTexts
 pub mod Pictures
 pub mod Shapes
