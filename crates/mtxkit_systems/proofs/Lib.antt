@@ -1,2 +1,1 @@
 mod SymmetricSystems
-mod ZeroValues

@@ -47,6 +47,14 @@ module _ (R : CommRing) where
       ∙ ap (λ s. sum_below R s (λ k. R.mul (f.value i k) (x.value k j))) (sym same)
       ∙ ap (λ (p : Plain R). p.value i j) solved
 
+  -- a product depends on the values of its right factor alone
+  pub solution_same : (a x y b : Plain R) (n m : ℕ) → ((i j : ℕ) → y.value i j ≡ x.value i j)
+      → HasSameValues R n m (plain_product R a x) b → HasSameValues R n m (plain_product R a y) b
+  solution_same a x y b n m same solved i j row col =
+      same_sum a.cols (λ k. R.mul (a.value i k) (y.value k j))
+      (λ k. R.mul (a.value i k) (x.value k j)) (λ k lt. ap (R.mul (a.value i k)) (same k j))
+      ∙ solved i j row col
+
   pub no_factors : {T : Type 0} (f : T → R.Carrier) (a : Plain R) → IsSymmetricBelow a.rows a
       → ((l : Plain R) (d : ℕ → R.Carrier) → IsFactorisation R f (plain_symmetric R a) l d → ⊥)
       → HasNoFactorisation R f a

@@ -1,2 +1,1 @@
 pub mod Systems
-pub mod Values

@@ -7,15 +7,16 @@ ghost use Rattle.sparse_algebra.specs.Plain.{plain_product};
 ghost use Rattle.sparse_solve.specs.Solutions.{HasSameValues};
 ghost use Rattle.sparse_algebra.specs.declared.error.OperationErrorKind.TheVariants.{Singular};
 ghost use Rattle.mtxkit_systems.specs.Systems.{HasNoFactorisation};
-ghost use Rattle.mtxkit_systems.specs.Values.{IsSymmetricMatrix};
+ghost use Rattle.mtxkit_matrices.specs.Values.{IsSymmetricMatrix};
 ghost use Rattle.mtxkit_systems.specs.declared.system.SystemError.TheVariants.{NoFactors, NotSymmetric};
 
-use crate::values::{has_same_values, has_symmetric_values};
+use mtxkit_matrices::{has_same_values, has_symmetric_values};
 use sparse_algebra::error::OperationErrorKind;
 use sparse_algebra::scalar::{Ring, Units};
 use sparse_base::coo::CooMatrix;
 use sparse_base::dense::DMatrix;
 use sparse_convert::serial::{convert_coo_csc, convert_coo_csr, convert_coo_dense};
+use sparse_convert::serial::{convert_dense_coo, from_dense_law};
 use sparse_ldl::ldl::Ldl;
 use sparse_products::serial::mul_csr;
 use std::alloc::{AllocError, Global};
@@ -71,6 +72,33 @@ pub fn solve<T: Units>(
         }
         Err(error) => Err(refusal(*error.kind())),
     }
+}
+
+/// Returns the matrix X for which A X = B, as [`solve`] does, as a list of its values that are not zero, column by column.
+///
+/// # Errors
+///
+/// Returns the errors of [`solve`].
+pub fn solve_listed<T: Units>(
+    alloc: Global,
+    a: &CooMatrix<T>,
+    b: &CooMatrix<T>,
+) -> Result<CooMatrix<T>, SystemError>
+    ensures rows { IfOk result (λ x. x.nrows ≡ a.now.ncols) }
+    ensures cols { IfOk result (λ x. x.ncols ≡ b.now.ncols) }
+    ensures solved { IfOk result (λ x. HasSameValues T.ring b.now.nrows b.now.ncols
+        (plain_product T.ring (plain_of_coo T.ring T.value a.now)
+        (plain_of_coo T.ring T.value x))
+        (plain_of_coo T.ring T.value b.now)) }
+    ensures unsymmetric { IfErr result (λ e. e ≡ NotSymmetric
+        → ¬ IsSymmetricMatrix T.ring (plain_of_coo T.ring T.value a.now)) }
+    ensures singular { IfErr result (λ e. e ≡ NoFactors
+        → HasNoFactorisation T.ring T.value (plain_of_coo T.ring T.value a.now)) }
+{
+    from_dense_law::<T>();
+    let x = solve(alloc, a, b)?;
+    let listed = convert_dense_coo(alloc, &x)?;
+    Ok(listed)
 }
 
 // The error of a factorisation that is refused.

@@ -6,7 +6,7 @@ use Rattle.sparse_cs.specs.PlainOfLanes.{plain_of_cols}
 use Rattle.sparse_ldl.specs.Factorisations.{IsFactorisation, plain_symmetric}
 use Rattle.sparse_ldl.specs.Factors.{plain_of_factors}
 use Rattle.sparse_solve.specs.Solutions.{HasSameValues}
-use Rattle.mtxkit_systems.specs.Values.{IsSymmetricMatrix}
+use Rattle.mtxkit_matrices.specs.Values.{IsSymmetricMatrix}
 use Rattle.mtxkit_systems.proofs.SymmetricSystems.{solved_is, no_factors}
 use Rattle.mtxkit_systems.proofs.system.solve.Goals as goal
 

@@ -1,8 +1,8 @@
 use Rattle.std.proofs.Common.{sym, subst}
 use Rattle.sparse_cs.specs.PlainOfLanes.{plain_of_rows}
-use Rattle.mtxkit_systems.proofs.ZeroValues.{IsZeroOutside, zero_outside, same_of_zero}
-use Rattle.mtxkit_systems.proofs.ZeroValues.{zero_of_same}
-use Rattle.mtxkit_systems.proofs.values.has_same_values.Goals as goal
+use Rattle.mtxkit_matrices.proofs.ZeroValues.{IsZeroOutside, zero_outside, same_of_zero}
+use Rattle.mtxkit_matrices.proofs.ZeroValues.{zero_of_same}
+use Rattle.mtxkit_matrices.proofs.values.has_same_values.Goals as goal
 
 pub returns : goal.returns
 returns g c =

@@ -1,5 +1,5 @@
-use Rattle.mtxkit_systems.proofs.ZeroValues.{zero_values, values_zero}
-use Rattle.mtxkit_systems.proofs.values.is_zero.Goals as goal
+use Rattle.mtxkit_matrices.proofs.ZeroValues.{zero_values, values_zero}
+use Rattle.mtxkit_matrices.proofs.values.is_zero.Goals as goal
 
 pub returns-clause-zero : goal.returns-clause-zero
 returns-clause-zero g c =

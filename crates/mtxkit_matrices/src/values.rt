@@ -5,7 +5,7 @@ ghost use Rattle.std.specs.Prelude.{slice_index_or};
 ghost use Rattle.sparse_cs.specs.Compressed.{IsSound};
 ghost use Rattle.sparse_cs.specs.PlainOfLanes.{plain_of_rows};
 ghost use Rattle.sparse_solve.specs.Solutions.{HasSameValues};
-ghost use Rattle.mtxkit_systems.specs.Values.{AllZero, IsSymmetricMatrix};
+ghost use Rattle.mtxkit_matrices.specs.Values.{AllZero, IsSymmetricMatrix};
 
 use sparse_algebra::learn;
 use sparse_algebra::scalar::Ring;

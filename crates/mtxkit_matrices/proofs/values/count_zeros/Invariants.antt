@@ -1,5 +1,5 @@
 use Rattle.std.proofs.Common.{◌≡◌, count_by, take}
-use Rattle.mtxkit_systems.proofs.values.count_zeros.Given as goal
+use Rattle.mtxkit_matrices.proofs.values.count_zeros.Given as goal
 
 abbrev pub invariant-loop-value : goal.invariant-loop-value
 invariant-loop-value g l =

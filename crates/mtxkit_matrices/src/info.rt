@@ -5,10 +5,10 @@ ghost use Rattle.sparse_cs.specs.PlainOfLanes.{plain_of_rows};
 ghost use Rattle.mtxkit_patterns.specs.Lanes.{count_below, has_size_in, HasEmptyColumns};
 ghost use Rattle.mtxkit_patterns.specs.Lanes.{IsHistogram};
 ghost use Rattle.mtxkit_patterns.specs.Shapes.{IsBandwidth, IsSymmetricPattern};
-ghost use Rattle.mtxkit_systems.specs.Values.{IsSymmetricMatrix};
+ghost use Rattle.mtxkit_matrices.specs.Values.{IsSymmetricMatrix};
 
 use mtxkit_patterns::{Histogram, bandwidth, count_lanes, counted_lanes, is_symmetric};
-use mtxkit_systems::{count_zeros, has_symmetric_values};
+use crate::values::{count_zeros, has_symmetric_values};
 use sparse_algebra::scalar::Ring;
 use sparse_forms::csr::CsrMatrix;
 use std::alloc::{AllocError, Global};

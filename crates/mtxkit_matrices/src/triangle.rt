@@ -5,9 +5,9 @@ ghost use Rattle.sparse_cs.specs.PlainOfLanes.{plain_of_rows};
 ghost use Rattle.sparse_cs.specs.Compressed.{lane_triplets};
 ghost use Rattle.sparse_cs.specs.Filter.{is_lower};
 ghost use Rattle.std.specs.List.{filter};
-ghost use Rattle.mtxkit_systems.specs.Values.{IsSymmetricMatrix};
+ghost use Rattle.mtxkit_matrices.specs.Values.{IsSymmetricMatrix};
 
-use mtxkit_systems::has_symmetric_values;
+use crate::values::has_symmetric_values;
 use sparse_algebra::scalar::Ring;
 use sparse_forms::csr::CsrMatrix;
 use std::alloc::{AllocError, Global};

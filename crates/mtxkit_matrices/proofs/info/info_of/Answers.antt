@@ -1,4 +1,4 @@
-use Rattle.mtxkit_commands.proofs.info.info_of.Goals as goal
+use Rattle.mtxkit_matrices.proofs.info.info_of.Goals as goal
 
 pub returns-clause-bandwidth : goal.returns-clause-bandwidth
 returns-clause-bandwidth g c =

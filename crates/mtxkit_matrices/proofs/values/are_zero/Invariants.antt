@@ -1,5 +1,5 @@
 use Rattle.std.proofs.Common.{◌≡◌, ℕ, ◌<◌, slice_index_or}
-use Rattle.mtxkit_systems.proofs.values.are_zero.Given as goal
+use Rattle.mtxkit_matrices.proofs.values.are_zero.Given as goal
 
 abbrev pub invariant-loop-value : goal.invariant-loop-value
 invariant-loop-value g l = (k : ℕ) → k < l.value-index
