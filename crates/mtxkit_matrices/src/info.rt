@@ -7,8 +7,8 @@ ghost use Rattle.mtxkit_patterns.specs.Lanes.{IsHistogram};
 ghost use Rattle.mtxkit_patterns.specs.Shapes.{IsBandwidth, IsSymmetricPattern};
 ghost use Rattle.mtxkit_matrices.specs.Values.{IsSymmetricMatrix};
 
-use mtxkit_patterns::{Histogram, bandwidth, count_lanes, counted_lanes, is_symmetric};
 use crate::values::{count_zeros, has_symmetric_values};
+use mtxkit_patterns::{Histogram, bandwidth, count_lanes, counted_lanes, is_symmetric};
 use sparse_algebra::scalar::Ring;
 use sparse_forms::csr::CsrMatrix;
 use std::alloc::{AllocError, Global};

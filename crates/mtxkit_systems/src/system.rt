@@ -15,8 +15,9 @@ use sparse_algebra::error::OperationErrorKind;
 use sparse_algebra::scalar::{Ring, Units};
 use sparse_base::coo::CooMatrix;
 use sparse_base::dense::DMatrix;
-use sparse_convert::serial::{convert_coo_csc, convert_coo_csr, convert_coo_dense};
-use sparse_convert::serial::{convert_dense_coo, from_dense_law};
+use sparse_convert::serial::{
+    convert_coo_csc, convert_coo_csr, convert_coo_dense, convert_dense_coo, from_dense_law,
+};
 use sparse_ldl::ldl::Ldl;
 use sparse_products::serial::mul_csr;
 use std::alloc::{AllocError, Global};
