@@ -71,7 +71,8 @@ fn a_system_is_solved_modulo_seven(alloc: Global) -> Result<bool, Fail> {
 fn one_entry<T: Zero + Copy>(alloc: Global, entry: T) -> Result<CsrMatrix<T>, Fail> {
     let offsets = vec![in alloc; 0, 1]?;
     let columns = vec![in alloc; 0]?;
-    let values = vec![in alloc; entry]?;
+    let mut values = Vec::new(alloc);
+    values.push(entry)?;
     Ok(CsrMatrix::try_from_csr_data(1, 1, offsets, columns, values)?)
 }
 
