@@ -1,0 +1,18 @@
+-- The texts of matrices begin with their header lines.
+use Rattle.std.proofs.Common.{◌≡◌, ℕ, List, ◌++◌, codes, refl}
+use Rattle.sparse_base.specs.Coo.{Coo}
+use Rattle.sparse_io.specs.Written.{heading, size_line, triplet_line, written_text, text_of}
+use Rattle.mtxkit_texts.specs.Lower.{head}
+
+-- the text begins with the header line of a name
+abbrev pub Begins : List ℕ → List ℕ → Type 0
+Begins name text = (rest : List ℕ) × (text ≡ head name (codes " general\n") ++ rest)
+
+module _ {V : Type 0} (text : V → List ℕ) (m : Coo V) where
+  pub begins-integer : Begins (codes "integer") (text_of (codes "integer") text m)
+  unfolding heading written_text
+  begins-integer = (_, refl)
+
+  pub begins-pattern : Begins (codes "pattern") (text_of (codes "pattern") text m)
+  unfolding heading written_text
+  begins-pattern = (_, refl)

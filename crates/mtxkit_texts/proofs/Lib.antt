@@ -1,0 +1,3 @@
+mod Heads
+mod ListedPlaces
+mod Misread

@@ -1,0 +1,21 @@
+-- The headers of texts.
+use Rattle.std.specs.Prelude.{ℕ, List, Option, Bool, true, false}
+use Rattle.sparse_parser.specs.Bytes.{after, front}
+use Rattle.sparse_parser.specs.Header.{header_of}
+use Rattle.sparse_parser.specs.InnerBytes.{is_space, is_within_line}
+use Rattle.sparse_parser.specs.InnerReading.{words_of}
+use Rattle.sparse_parser.specs.declared.header.Header.{Header}
+use Rattle.sparse_parser.specs.declared.header.Symmetry.{Symmetry}
+use Rattle.sparse_parser.specs.declared.header.Symmetry.TheVariants.{General, Symmetric}
+use Rattle.sparse_parser.specs.declared.header.Symmetry.TheVariants.{SkewSymmetric, Hermitian}
+
+-- the contents of the first line that is not blank, if it is a header
+abbrev pub header_in : List ℕ → Option Header
+header_in text = header_of (words_of (front is_within_line (after is_space text)))
+
+-- some entries imply a mirrored one
+abbrev pub is_mirrored : Symmetry → Bool
+is_mirrored General = false
+is_mirrored Symmetric = true
+is_mirrored SkewSymmetric = true
+is_mirrored Hermitian = true

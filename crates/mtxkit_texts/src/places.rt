@@ -1,0 +1,85 @@
+//! Matrices of places: lists of places as matrices of ones, and patterns as matrices without values.
+
+ghost use Rattle.std.specs.Prelude.{◌≡◌, ℕ, ◌↔◌, All, IfOk, IsTrue, length, replicate};
+ghost use Rattle.std.specs.List.{list_any};
+ghost use Rattle.sparse_algebra.specs.Plain.{is_at};
+ghost use Rattle.sparse_cs.specs.Compressed.{IsSound};
+ghost use Rattle.sparse_pattern.specs.Raw.{IsPlace};
+ghost use Rattle.mtxkit_texts.specs.Places.{HasPlacesOf};
+
+use sparse_algebra::scalar::Ring;
+use sparse_base::coo::CooMatrix;
+use sparse_convert::serial::convert_coo_csr;
+use sparse_forms::csr::CsrMatrix;
+use sparse_pattern::pattern::SparsityPattern;
+use std::alloc::{AllocError, Global};
+
+/// Returns the matrix with one at each place of a list, also where the list has a place several times.
+///
+/// Fails only if an allocation fails.
+pub fn ones_of<T: Ring>(alloc: Global, places: &CooMatrix<()>) -> Result<CsrMatrix<T>, AllocError>
+    ensures places { IfOk result (λ m. HasPlacesOf places.now m.pattern) }
+    ensures ones { IfOk result (λ m. All (λ v. T.value v ≡ T.ring.one) m.values) }
+    ensures sound { IfOk result IsSound }
+{
+    let listed: CooMatrix<T> = listed_ones(alloc, places)?;
+    let summed = convert_coo_csr(alloc, &listed)?;
+    let pattern = summed.pattern().clone(alloc)?;
+    let matrix = filled(alloc, pattern, T::one())?;
+    Ok(matrix)
+}
+
+/// Returns the matrix of a pattern, without values.
+///
+/// Fails only if an allocation fails.
+pub fn matrix_of(alloc: Global, pattern: &SparsityPattern) -> Result<CsrMatrix<()>, AllocError>
+    ensures pattern { IfOk result (λ m. m.pattern ≡ pattern.now) }
+    ensures sound { IfOk result IsSound }
+{
+    filled(alloc, pattern.clone(alloc)?, ())
+}
+
+// The matrix with this value at each place of a pattern.
+fn filled<T: Copy>(
+    alloc: Global,
+    pattern: SparsityPattern,
+    value: T,
+) -> Result<CsrMatrix<T>, AllocError>
+    ensures pattern { IfOk result (λ m. m.pattern ≡ pattern) }
+    ensures values { IfOk result
+        (λ m. m.values ≡ replicate (length pattern.indices) value) }
+    ensures sound { IfOk result IsSound }
+{
+    let values = copies_of(alloc, value, pattern.nnz())?;
+    match CsrMatrix::try_from_pattern_and_values(pattern, values) {
+        Ok(matrix) => Ok(matrix),
+        Err(_) => unreachable!(),
+    }
+}
+
+// The list with one at each place of a list, as often as that has the place.
+fn listed_ones<T: Ring>(alloc: Global, places: &CooMatrix<()>) -> Result<CooMatrix<T>, AllocError>
+    ensures rows { IfOk result (λ m. m.nrows ≡ places.now.nrows) }
+    ensures cols { IfOk result (λ m. m.ncols ≡ places.now.ncols) }
+    ensures places { IfOk result (λ m. (i j : ℕ) → list_any (is_at i j) m.triplets
+        ≡ list_any (is_at i j) places.now.triplets) }
+{
+    let rows = Vec::from_slice(alloc, places.row_indices())?;
+    let cols = Vec::from_slice(alloc, places.col_indices())?;
+    let ones = copies_of(alloc, T::one(), places.nnz())?;
+    match CooMatrix::try_from_triplets(places.nrows(), places.ncols(), rows, cols, ones) {
+        Ok(listed) => Ok(listed),
+        Err(_) => unreachable!(),
+    }
+}
+
+// Returns `count` copies of a value.
+fn copies_of<T: Copy>(alloc: Global, value: T, count: usize) -> Result<Vec<T>, AllocError>
+    ensures { IfOk result (λ copies. copies.items ≡ replicate count value) }
+{
+    let mut copies = Vec::with_capacity(alloc, count)?;
+    for _ in 0..count {
+        copies.push(value)?;
+    }
+    Ok(copies)
+}

@@ -1,0 +1,44 @@
+//! Pictures of the patterns of texts.
+
+ghost use Rattle.std.specs.Prelude.{◌<◌, IfOk, string_bytes};
+ghost use Rattle.mtxkit_texts.specs.Shown.{IsPictureOf, ShowsBitmap, ShowsBlocks};
+
+use crate::failure::Failure;
+use crate::loaded::load;
+use mtxkit_patterns::{Picture, bitmap_text, block_text, draw, scaled_sizes};
+use std::alloc::Global;
+
+/// Returns the picture of a text's pattern as a portable bitmap, whose sides have at most `size` cells. A cell is black
+/// exactly where a place lies in it. `size` must not be 0.
+///
+/// Fails as [`load`](crate::load) does, or if an allocation fails.
+pub fn spy_bitmap(alloc: Global, text: &str, size: usize) -> Result<String, Failure>
+    requires { 0 < size }
+    ensures { IfOk result (λ shown. ShowsBitmap text.now size (string_bytes shown)) }
+{
+    let picture = spy(alloc, text, size)?;
+    Ok(bitmap_text(alloc, &picture)?)
+}
+
+/// Returns the picture of a text's pattern in block characters, whose sides have at most `size` cells. A cell is black
+/// exactly where a place lies in it. `size` must not be 0.
+///
+/// Fails as [`load`](crate::load) does, or if an allocation fails.
+pub fn spy_blocks(alloc: Global, text: &str, size: usize) -> Result<String, Failure>
+    requires { 0 < size }
+    ensures { IfOk result (λ shown. ShowsBlocks text.now size (string_bytes shown)) }
+{
+    let picture = spy(alloc, text, size)?;
+    Ok(block_text(alloc, &picture)?)
+}
+
+// The picture of a text's pattern.
+fn spy(alloc: Global, text: &str, size: usize) -> Result<Picture, Failure>
+    requires { 0 < size }
+    ensures picture { IfOk result (IsPictureOf text.now size) }
+{
+    let loaded = load(alloc, 1, text)?;
+    let pattern = loaded.matrix.pattern();
+    let (height, width) = scaled_sizes(pattern.major_dim(), pattern.minor_dim(), size);
+    Ok(draw(alloc, pattern, height, width)?)
+}

@@ -1,0 +1,111 @@
+//! Symmetric texts expanded, and symmetric matrices written by their lower triangles.
+
+ghost use Rattle.std.specs.Prelude.{◌≡◌, ◌++◌, ℕ, List, IfOk, IfErr, string_bytes};
+ghost use Rattle.mtxkit_texts.specs.Headers.{header_in, is_mirrored};
+ghost use Rattle.mtxkit_texts.specs.Lower.{IsSymmetricIntegers, IsSymmetricPattern};
+ghost use Rattle.mtxkit_texts.specs.Lower.{MeansUnsymmetric, WritesLower, Symmetrised};
+ghost use Rattle.mtxkit_texts.specs.Lower.{SymmetrisedUnder};
+ghost use Rattle.mtxkit_texts.specs.declared.failure.Failure.TheVariants.{NotSymmetric};
+
+use crate::failure::Failure;
+use crate::field::{integer_text, pattern_text, write_integers, write_pattern};
+use crate::loaded::{header_of, load};
+use mtxkit_matrices::lower_of;
+use sparse_algebra::scalar::W64;
+use sparse_forms::csr::CsrMatrix;
+use sparse_parser::header::{Field, Header, Symmetry};
+use std::alloc::{AllocError, Global};
+
+/// Returns the text of all entries where the header of a text names a symmetry, and otherwise the text of the lower
+/// triangle, with a header that says `symmetric`.
+///
+/// Fails as [`load`](crate::load) does, with `NotSymmetric` if the lower triangle is wanted of a matrix that is not
+/// symmetric, or if an allocation fails.
+pub fn symmetric_text(alloc: Global, text: &str) -> Result<String, Failure>
+    ensures written { IfOk result
+        (λ written. Symmetrised (header_in text.now) text.now (string_bytes written)) }
+    ensures unsymmetric { IfErr result (λ e. e ≡ NotSymmetric → MeansUnsymmetric text.now) }
+{
+    match header_of(text) {
+        Some(header) => symmetrised(alloc, text, header),
+        None => integer_text(alloc, text),
+    }
+}
+
+// Returns the text of all entries if this header names a symmetry, and otherwise that of the lower triangle.
+fn symmetrised(alloc: Global, text: &str, header: Header) -> Result<String, Failure>
+    ensures written { IfOk result
+        (λ written. SymmetrisedUnder header text.now (string_bytes written)) }
+    ensures unsymmetric { IfErr result (λ e. e ≡ NotSymmetric → MeansUnsymmetric text.now) }
+{
+    if !is_mirrored(header.symmetry) {
+        return lower_text(alloc, text, header.field);
+    }
+    match header.field {
+        Field::Pattern => pattern_text(alloc, text),
+        _ => integer_text(alloc, text),
+    }
+}
+
+// Whether some entries imply a mirrored one.
+fn is_mirrored(symmetry: Symmetry) -> bool
+    ensures { result ≡ is_mirrored symmetry }
+{
+    match symmetry {
+        Symmetry::General => false,
+        Symmetry::Symmetric | Symmetry::SkewSymmetric | Symmetry::Hermitian => true,
+    }
+}
+
+// Returns the text of the lower triangle of a symmetric matrix.
+fn lower_text(alloc: Global, text: &str, field: Field) -> Result<String, Failure>
+    ensures written { IfOk result (λ written. WritesLower text.now (string_bytes written)) }
+    ensures unsymmetric { IfErr result (λ e. e ≡ NotSymmetric → MeansUnsymmetric text.now) }
+{
+    let loaded = load(alloc, 1, text)?;
+    let Some(lower) = lower_of(alloc, &loaded.matrix)? else {
+        return Err(Failure::NotSymmetric);
+    };
+    match field {
+        Field::Pattern => Ok(symmetric_pattern(alloc, &lower)?),
+        _ => Ok(symmetric_integers(alloc, &lower)?),
+    }
+}
+
+// Returns the text of the lower triangle of a symmetric matrix without values, in symmetric form.
+fn symmetric_pattern(alloc: Global, lower: &CsrMatrix<W64>) -> Result<String, AllocError>
+    ensures { IfOk result (λ written. IsSymmetricPattern lower.now (string_bytes written)) }
+{
+    let general = write_pattern(alloc, lower)?;
+    with_head(
+        alloc,
+        general.as_str(),
+        "%%matrixmarket matrix coordinate pattern general\n",
+        "%%matrixmarket matrix coordinate pattern symmetric\n",
+    )
+}
+
+// Returns the text of the lower triangle of a symmetric matrix with its values, in symmetric form.
+fn symmetric_integers(alloc: Global, lower: &CsrMatrix<W64>) -> Result<String, AllocError>
+    ensures { IfOk result (λ written. IsSymmetricIntegers lower.now (string_bytes written)) }
+{
+    let general = write_integers(alloc, lower)?;
+    with_head(
+        alloc,
+        general.as_str(),
+        "%%matrixmarket matrix coordinate integer general\n",
+        "%%matrixmarket matrix coordinate integer symmetric\n",
+    )
+}
+
+// Returns a text that begins with `from` with `to` at its beginning instead.
+fn with_head(alloc: Global, text: &str, from: &str, to: &str) -> Result<String, AllocError>
+    requires { (rest : List ℕ) × (text.now ≡ from.now ++ rest) }
+    ensures { IfOk result (λ changed. (rest : List ℕ) → text.now ≡ from.now ++ rest
+        → string_bytes changed ≡ to.now ++ rest) }
+{
+    match text.strip_prefix(from) {
+        Some(rest) => format!(in alloc; "{to}{rest}"),
+        None => unreachable!(),
+    }
+}
