@@ -1,2 +1,3 @@
 pub mod WalkSteps
 pub mod PivotProducts
+pub mod ReadValues

@@ -1,0 +1,104 @@
+-- Lists of wrapping integers, and the lists of whole numbers that their texts mean.
+use Rattle.std.proofs.Common.{◌≡◌, ℕ, ◌<◌, List, [], ◌∷◌, ◌++◌, length, map, get_or, refl, sym, ap, ◌∙◌}
+use Rattle.std.specs.Prelude.{◌||◌, ◌&&◌, Bool, true, false, nat_eq, All}
+use Rattle.std.specs.List.{list_any, flat_map}
+use Rattle.std.proofs.lemmas.List.{length-map}
+use Rattle.std.proofs.lemmas.List.Elements.{All-map}
+use Rattle.nalgebra_sparse.specs.Algebra.{CommRing}
+use Rattle.nalgebra_sparse.specs.Sums.{sum_by, where_true}
+use Rattle.nalgebra_sparse.specs.Plain.{is_at}
+use Rattle.nalgebra_sparse.specs.Coo.{Coo, IsInside}
+use Rattle.nalgebra_sparse.specs.CooPlain.{plain_of_coo}
+use Rattle.nalgebra_sparse.specs.Compressed.{Compressed, lane_triplets, transposed}
+use Rattle.nalgebra_sparse.specs.PlainOfLanes.{plain_of_cols}
+use Rattle.nalgebra_sparse.specs.OneMatrix.{coo_of_cols}
+use Rattle.nalgebra_sparse.specs.Meaning.{value_triplet, values_of}
+use Rattle.nalgebra_sparse.specs.Written.{heading, size_line, triplet_line, written_text, text_of}
+
+module _ {T V : Type 0} (h : T → V) where
+  any-read : (i j : ℕ) (ts : List (ℕ × ℕ × T))
+      → list_any (is_at i j) (map (value_triplet h) ts) ≡ list_any (is_at i j) ts
+  any-read i j [] = refl
+  any-read i j (t ∷ ts) = ap (λ b. is_at i j t || b) (any-read i j ts)
+
+  module _ (R : CommRing) (f : V → R.Carrier) where
+    sum-read : (i j : ℕ) (ts : List (ℕ × ℕ × T))
+        → sum_by R (λ t. where_true R (is_at i j t) (f t.2)) (map (value_triplet h) ts)
+        ≡ sum_by R (λ t. where_true R (is_at i j t) (f (h t.2))) ts
+    sum-read i j [] = refl
+    sum-read i j (t ∷ ts) = ap (R.add (where_true R (is_at i j t) (f (h t.2)))) (sum-read i j ts)
+
+    -- both lists have one plain matrix
+    pub plain-read : (m : Coo T) → plain_of_coo R f (values_of h m) ≡ plain_of_coo R (λ x. f (h x)) m
+    plain-read m = λ k. record {
+      rows = m.nrows;
+      cols = m.ncols;
+      has = λ i j. any-read i j m.triplets k;
+      value = λ i j. sum-read i j m.triplets k;
+    }
+
+  module _ (text : V → List ℕ) where
+    lines-read : (ts : List (ℕ × ℕ × T)) → flat_map (triplet_line text) (map (value_triplet h) ts)
+        ≡ flat_map (triplet_line (λ x. text (h x))) ts
+    unfolding triplet_line
+    lines-read [] = refl
+    lines-read (t ∷ ts) = ap (λ l. triplet_line (λ x. text (h x)) t ++ l) (lines-read ts)
+
+    -- both lists have one text
+    pub text-read : (name : List ℕ) (m : Coo T)
+        → text_of name (λ x. text (h x)) m ≡ text_of name text (values_of h m)
+    unfolding written_text
+    text-read name m =
+        ap (λ n. heading name ++ (size_line m.nrows m.ncols n
+        ++ flat_map (triplet_line (λ x. text (h x))) m.triplets))
+        (sym (length-map m.triplets (value_triplet h)))
+        ∙ ap (λ l. heading name ++ (size_line m.nrows m.ncols
+        (length (map (value_triplet h) m.triplets)) ++ l)) (sym (lines-read m.triplets))
+
+  pub length-read : (m : Coo T) → length (values_of h m).triplets ≡ length m.triplets
+  length-read m = length-map m.triplets (value_triplet h)
+
+  pub inside-read : (m : Coo T) → IsInside m → IsInside (values_of h m)
+  inside-read m inside = All-map (λ t. (t.0 < m.nrows) × (t.1 < m.ncols)) (value_triplet h)
+      m.triplets inside
+
+  pub values-read : (P : V → Type 0) → ((x : T) → P (h x)) → (m : Coo T)
+      → All (λ t. P t.2) (values_of h m).triplets
+  values-read P own m = All-map (λ t. P t.2) (value_triplet h) m.triplets
+      (λ k t lt. own (get_or m.triplets k t).2)
+
+-- ---- lists by columns
+
+and_comm : (b c : Bool) → (b && c) ≡ (c && b)
+and_comm true true = refl
+and_comm true false = refl
+and_comm false true = refl
+and_comm false false = refl
+
+module _ {T : Type 0} where
+  any-cols : (i j : ℕ) (ts : List (ℕ × ℕ × T))
+      → list_any (is_at i j) (map transposed ts) ≡ list_any (is_at j i) ts
+  any-cols i j [] = refl
+  any-cols i j (t ∷ ts) =
+      ap (λ b. b || list_any (is_at i j) (map transposed ts))
+      (and_comm (nat_eq t.1 i) (nat_eq t.0 j)) ∙ ap (λ b. is_at j i t || b) (any-cols i j ts)
+
+  module _ (R : CommRing) (f : T → R.Carrier) where
+    sum-cols : (i j : ℕ) (ts : List (ℕ × ℕ × T))
+        → sum_by R (λ t. where_true R (is_at i j t) (f t.2)) (map transposed ts)
+        ≡ sum_by R (λ t. where_true R (is_at j i t) (f t.2)) ts
+    sum-cols i j [] = refl
+    sum-cols i j (t ∷ ts) =
+        ap (λ b. R.add (where_true R b (f t.2))
+        (sum_by R (λ t. where_true R (is_at i j t) (f t.2)) (map transposed ts)))
+        (and_comm (nat_eq t.1 i) (nat_eq t.0 j))
+        ∙ ap (R.add (where_true R (is_at j i t) (f t.2))) (sum-cols i j ts)
+
+    -- the list of a matrix by columns has its plain matrix
+    pub plain-cols : (m : Compressed T) → plain_of_coo R f (coo_of_cols m) ≡ plain_of_cols R f m
+    plain-cols m = λ k. record {
+      rows = m.pattern.minor_dim;
+      cols = m.pattern.major_dim;
+      has = λ i j. any-cols i j (lane_triplets m) k;
+      value = λ i j. sum-cols i j (lane_triplets m) k;
+    }
