@@ -1,4 +1,5 @@
 pub mod Elements
 pub mod Holding
 pub mod Joining
+mod Listing
 pub mod Meanings

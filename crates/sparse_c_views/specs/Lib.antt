@@ -1,4 +1,5 @@
 pub mod Arrays
 pub mod Elements
+pub mod Lists
 pub mod Refused
 pub mod Statuses

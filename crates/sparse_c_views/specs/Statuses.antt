@@ -4,6 +4,10 @@ use Rattle.sparse_algebra.specs.declared.error.OperationErrorKind.{OperationErro
 use Rattle.sparse_algebra.specs.declared.error.OperationErrorKind.TheVariants as operations
 use Rattle.sparse_pattern.specs.declared.error.SparseFormatErrorKind.{SparseFormatErrorKind}
 use Rattle.sparse_pattern.specs.declared.error.SparseFormatErrorKind.TheVariants as kinds
+use Rattle.sparse_parser.specs.Errors.{kind_of}
+use Rattle.sparse_parser.specs.declared.error.MatrixMarketError.{MatrixMarketError}
+use Rattle.sparse_parser.specs.declared.error.MatrixMarketErrorKind.{MatrixMarketErrorKind}
+use Rattle.sparse_parser.specs.declared.error.MatrixMarketErrorKind.TheVariants as texts
 use Rattle.sparse_c_views.specs.declared.refusal.Refusal.{Refusal}
 use Rattle.sparse_c_views.specs.declared.refusal.Refusal.TheVariants as refusals
 
@@ -16,6 +20,15 @@ number_of refusals.DuplicateEntry = pos 4
 number_of refusals.TooSmall = pos 5
 number_of refusals.Singular = pos 6
 number_of refusals.UnknownChoice = pos 7
+number_of refusals.InvalidText = pos 8
+number_of refusals.InvalidHeader = pos 9
+number_of refusals.EntryMismatch = pos 10
+number_of refusals.TypeMismatch = pos 11
+number_of refusals.ZeroIndex = pos 12
+number_of refusals.DiagonalEntry = pos 13
+number_of refusals.NotLowerTriangle = pos 14
+number_of refusals.NonSquare = pos 15
+number_of refusals.Unreadable = pos 16
 
 -- the refusal of data with an error of this kind
 abbrev pub refusal_of : SparseFormatErrorKind → Refusal
@@ -29,3 +42,21 @@ abbrev pub refusal_of_operation : OperationErrorKind → Refusal
 refusal_of_operation operations.Singular = refusals.Singular
 refusal_of_operation operations.InvalidPattern = refusals.InvalidStructure
 refusal_of_operation operations.OutOfMemory = refusals.OutOfMemory
+
+-- the kind of the error of a text
+abbrev pub kind_of_text : MatrixMarketError → MatrixMarketErrorKind
+kind_of_text error = kind_of error
+
+-- the refusal of a text with an error of this kind
+abbrev pub refusal_of_text : MatrixMarketErrorKind → Refusal
+refusal_of_text texts.ParsingError = refusals.InvalidText
+refusal_of_text texts.InvalidHeader = refusals.InvalidHeader
+refusal_of_text texts.EntryMismatch = refusals.EntryMismatch
+refusal_of_text texts.TypeMismatch = refusals.TypeMismatch
+refusal_of_text texts.ZeroError = refusals.ZeroIndex
+refusal_of_text (texts.SparseFormatError kind) = refusal_of kind
+refusal_of_text texts.DiagonalError = refusals.DiagonalEntry
+refusal_of_text (texts.IOError kind) = refusals.Unreadable
+refusal_of_text texts.NotLowerTriangle = refusals.NotLowerTriangle
+refusal_of_text texts.NonSquare = refusals.NonSquare
+refusal_of_text texts.OutOfMemory = refusals.OutOfMemory

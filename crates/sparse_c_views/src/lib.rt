@@ -3,9 +3,11 @@
 
 pub mod dense;
 pub mod lanes;
+pub mod lists;
 pub mod number;
 pub mod patterns;
 pub mod refusal;
 pub mod scalars;
+pub mod texts;
 pub mod triplets;
 pub mod writing;

@@ -7,7 +7,7 @@ ghost use Rattle.sparse_c_views.specs.Statuses.{number_of};
 ghost use Rattle.sparse_c_views.specs.declared.refusal.Refusal.TheVariants.{TooSmall};
 
 use crate::refusal::Refusal;
-use crate::scalars::put_indices;
+use crate::scalars::put_items;
 use sparse_pattern::pattern::SparsityPattern;
 
 /// Writes the pattern of an answer into arrays, and its number of places. Returns the status of the call: 0, or that of
@@ -58,8 +58,8 @@ fn write_pattern(
     if indices.len() < count {
         return Refusal::TooSmall.status();
     }
-    put_indices(offsets, from_offsets);
-    put_indices(indices, from_indices);
+    put_items(offsets, from_offsets);
+    put_items(indices, from_indices);
     *places = count;
     0
 }

@@ -3,9 +3,11 @@
 ghost use Rattle.std.specs.Prelude.{◌≡◌};
 ghost use Rattle.sparse_pattern.specs.PatternFaults.{kind_of};
 ghost use Rattle.sparse_c_views.specs.Statuses.{number_of, refusal_of, refusal_of_operation};
+ghost use Rattle.sparse_c_views.specs.Statuses.{kind_of_text, refusal_of_text};
 ghost use Rattle.sparse_c_views.specs.declared.refusal.Refusal.TheVariants.{OutOfMemory};
 
 use sparse_algebra::error::{OperationError, OperationErrorKind};
+use sparse_parser::error::{MatrixMarketError, MatrixMarketErrorKind};
 use sparse_pattern::error::{SparseFormatError, SparseFormatErrorKind};
 use sparse_pattern::pattern::SparsityPatternFormatError;
 use std::alloc::AllocError;
@@ -27,6 +29,24 @@ pub enum Refusal {
     Singular,
     /// A number that chooses among cases is none of those that the call knows.
     UnknownChoice,
+    /// A text does not match the grammar, or a number in it is out of range.
+    InvalidText,
+    /// The format, the field and the symmetry of a text's header do not go together.
+    InvalidHeader,
+    /// The number of entries of a text is not the one of its size line.
+    EntryMismatch,
+    /// A text has an entry that is no integer of 64 bits.
+    TypeMismatch,
+    /// An index of a text is zero.
+    ZeroIndex,
+    /// A skew-symmetric matrix has an entry on its diagonal.
+    DiagonalEntry,
+    /// A symmetric or skew-symmetric matrix has an entry above the diagonal.
+    NotLowerTriangle,
+    /// A symmetric or skew-symmetric matrix is not square.
+    NonSquare,
+    /// The bytes of a text are not UTF-8.
+    Unreadable,
 }
 
 impl Refusal {
@@ -42,6 +62,15 @@ impl Refusal {
             Refusal::TooSmall => 5,
             Refusal::Singular => 6,
             Refusal::UnknownChoice => 7,
+            Refusal::InvalidText => 8,
+            Refusal::InvalidHeader => 9,
+            Refusal::EntryMismatch => 10,
+            Refusal::TypeMismatch => 11,
+            Refusal::ZeroIndex => 12,
+            Refusal::DiagonalEntry => 13,
+            Refusal::NotLowerTriangle => 14,
+            Refusal::NonSquare => 15,
+            Refusal::Unreadable => 16,
         }
     }
 
@@ -65,6 +94,25 @@ impl Refusal {
             OperationErrorKind::Singular => Refusal::Singular,
             OperationErrorKind::InvalidPattern => Refusal::InvalidStructure,
             OperationErrorKind::OutOfMemory => Refusal::OutOfMemory,
+        }
+    }
+
+    /// Returns the refusal of a text with an error of this kind.
+    pub fn of_text(kind: MatrixMarketErrorKind) -> Refusal
+        ensures { result ≡ refusal_of_text kind }
+    {
+        match kind {
+            MatrixMarketErrorKind::ParsingError => Refusal::InvalidText,
+            MatrixMarketErrorKind::InvalidHeader => Refusal::InvalidHeader,
+            MatrixMarketErrorKind::EntryMismatch => Refusal::EntryMismatch,
+            MatrixMarketErrorKind::TypeMismatch => Refusal::TypeMismatch,
+            MatrixMarketErrorKind::ZeroError => Refusal::ZeroIndex,
+            MatrixMarketErrorKind::SparseFormatError(kind) => Refusal::of_format(kind),
+            MatrixMarketErrorKind::DiagonalError => Refusal::DiagonalEntry,
+            MatrixMarketErrorKind::IOError(_) => Refusal::Unreadable,
+            MatrixMarketErrorKind::NotLowerTriangle => Refusal::NotLowerTriangle,
+            MatrixMarketErrorKind::NonSquare => Refusal::NonSquare,
+            MatrixMarketErrorKind::OutOfMemory => Refusal::OutOfMemory,
         }
     }
 }
@@ -99,5 +147,13 @@ impl From<OperationError> for Refusal {
 
     fn from(error: OperationError) -> Refusal {
         Refusal::of_operation(*error.kind())
+    }
+}
+
+impl From<MatrixMarketError> for Refusal {
+    ghost from_gives = { λ error refusal. refusal ≡ refusal_of_text (kind_of_text error) };
+
+    fn from(error: MatrixMarketError) -> Refusal {
+        Refusal::of_text(error.kind())
     }
 }

@@ -1,9 +1,11 @@
 //! Lists of scalars out of integers and into integers.
 
 ghost use Rattle.std.specs.Prelude.{◌≡◌, ◌≤◌, length, map, take, drop, IfOk};
+ghost use Rattle.sparse_algebra.specs.Numbers.{w64_number};
 ghost use Rattle.sparse_c_views.specs.Elements.{element_of};
 
 use crate::number::Number;
+use sparse_algebra::scalar::W64;
 use std::alloc::{AllocError, Global};
 
 /// Returns the scalars that integers mean. Fails only if an allocation fails.
@@ -28,8 +30,19 @@ pub fn put_scalars<T: Number>(target: &mut [i64], source: &[T])
     }
 }
 
-/// Writes indices to the front of a slice, which must have room for them.
-pub fn put_indices(target: &mut [usize], source: &[usize])
+/// Writes the representatives of wrapping integers to the front of a slice, which must have room for them.
+pub fn put_numbers(target: &mut [i64], source: &[W64])
+    requires room { length source.now ≤ length target.old }
+    ensures written { take (length source.now) target.new ≡ map w64_number source.now }
+    ensures rest { drop (length source.now) target.new ≡ drop (length source.now) target.old }
+{
+    for at in 0..source.len() {
+        target[at] = source[at].get();
+    }
+}
+
+/// Copies items to the front of a slice, which must have room for them.
+pub fn put_items<T: Copy>(target: &mut [T], source: &[T])
     requires room { length source.now ≤ length target.old }
     ensures written { take (length source.now) target.new ≡ source.now }
     ensures rest { drop (length source.now) target.new ≡ drop (length source.now) target.old }

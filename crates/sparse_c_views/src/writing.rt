@@ -10,7 +10,7 @@ ghost use Rattle.sparse_c_views.specs.declared.refusal.Refusal.TheVariants.{TooS
 
 use crate::number::Number;
 use crate::refusal::Refusal;
-use crate::scalars::{put_indices, put_scalars};
+use crate::scalars::{put_items, put_scalars};
 use sparse_base::dense::DMatrix;
 use sparse_forms::csr::CsrMatrix;
 
@@ -69,8 +69,8 @@ fn write_rows<T: Number>(
     if values.len() < count {
         return Refusal::TooSmall.status();
     }
-    put_indices(offsets, from_offsets);
-    put_indices(indices, from_indices);
+    put_items(offsets, from_offsets);
+    put_items(indices, from_indices);
     put_scalars(values, from_values);
     *places = count;
     0

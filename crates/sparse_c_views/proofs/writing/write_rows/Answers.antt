@@ -20,14 +20,14 @@ pub returns-clause-written : goal.returns-clause-written
 returns-clause-written g c =
     let R = g.T.Ring.ring in
     let f = g.T.Ring.value in
-    let os = c.put_indices.new.target in
-    let is = c.put_indices-2.new.target in
+    let os = c.put_items.new.target in
+    let is = c.put_items-2.new.target in
     let vs = c.put_scalars.new.target in
     λ _. HoldsRows-put R f c.args.matrix.now c.csr_data.ensures.sound os is vs
     (length c.csr_data.result.2.now)
-    (subst (λ xs. take (length xs) os ≡ xs) c.csr_data.ensures.offsets c.put_indices.ensures.written)
+    (subst (λ xs. take (length xs) os ≡ xs) c.csr_data.ensures.offsets c.put_items.ensures.written)
     (subst (λ xs. take (length xs) is ≡ xs) c.csr_data.ensures.indices
-    c.put_indices-2.ensures.written)
+    c.put_items-2.ensures.written)
     (subst (λ xs. map (element_of R) (take (length xs) vs) ≡ map f xs) c.csr_data.ensures.values
     c.put_scalars.ensures.written)
     (ap length c.csr_data.ensures.values)

@@ -1,0 +1,72 @@
+//! Coordinate lists written into arrays that C lends.
+
+ghost use Rattle.std.specs.Prelude.{◌≡◌, ◌≢◌, pos, MatchResult};
+ghost use Rattle.sparse_algebra.specs.Numbers.{w64_number};
+ghost use Rattle.sparse_parser.specs.Meaning.{values_of};
+ghost use Rattle.sparse_c_views.specs.Lists.{list_room_of, HoldsList, IsListTooSmall};
+ghost use Rattle.sparse_c_views.specs.Statuses.{number_of};
+ghost use Rattle.sparse_c_views.specs.declared.refusal.Refusal.TheVariants.{TooSmall};
+
+use crate::refusal::Refusal;
+use crate::scalars::{put_items, put_numbers};
+use sparse_algebra::scalar::W64;
+use sparse_base::coo::CooMatrix;
+
+/// Writes the triplets of an answer into arrays, and their number. Returns the status of the call: 0, or that of the
+/// refusal; the arrays are then unchanged.
+///
+/// An array may be longer than the list needs.
+pub fn finish_list(
+    answer: Result<CooMatrix<W64>, Refusal>,
+    rows: &mut [usize],
+    cols: &mut [usize],
+    values: &mut [i64],
+    count: &mut usize,
+) -> i32
+    ensures written { result ≡ pos 0 → MatchResult answer (λ m. HoldsList (values_of w64_number m)
+        (list_room_of rows.new cols.new values.new count.new)) (λ _. ⊥) }
+    ensures untouched { result ≢ pos 0 → list_room_of rows.new cols.new values.new count.new
+        ≡ list_room_of rows.old cols.old values.old count.old }
+    ensures refused { result ≢ pos 0 → MatchResult answer
+        (λ m. (result ≡ number_of TooSmall) × IsListTooSmall (values_of w64_number m)
+        (list_room_of rows.old cols.old values.old count.old))
+        (λ refusal. result ≡ number_of refusal) }
+{
+    match answer {
+        Ok(list) => write_list(&list, rows, cols, values, count),
+        Err(refusal) => refusal.status(),
+    }
+}
+
+// Writes triplets into arrays, and their number.
+fn write_list(
+    list: &CooMatrix<W64>,
+    rows: &mut [usize],
+    cols: &mut [usize],
+    values: &mut [i64],
+    count: &mut usize,
+) -> i32
+    ensures written { result ≡ pos 0 → HoldsList (values_of w64_number list.now)
+        (list_room_of rows.new cols.new values.new count.new) }
+    ensures untouched { result ≢ pos 0 → list_room_of rows.new cols.new values.new count.new
+        ≡ list_room_of rows.old cols.old values.old count.old }
+    ensures small { result ≢ pos 0 → IsListTooSmall (values_of w64_number list.now)
+        (list_room_of rows.old cols.old values.old count.old) }
+    ensures status { result ≢ pos 0 → result ≡ number_of TooSmall }
+{
+    let triplets = list.nnz();
+    if rows.len() < triplets {
+        return Refusal::TooSmall.status();
+    }
+    if cols.len() < triplets {
+        return Refusal::TooSmall.status();
+    }
+    if values.len() < triplets {
+        return Refusal::TooSmall.status();
+    }
+    put_items(rows, list.row_indices());
+    put_items(cols, list.col_indices());
+    put_numbers(values, list.values());
+    *count = triplets;
+    0
+}

@@ -1,0 +1,42 @@
+//! Texts written into buffers that C lends.
+
+ghost use Rattle.std.specs.Prelude.{◌≡◌, ◌≢◌, ◌<◌, length, pos, string_bytes, MatchResult};
+ghost use Rattle.sparse_c_views.specs.Lists.{HoldsText};
+ghost use Rattle.sparse_c_views.specs.Statuses.{number_of};
+ghost use Rattle.sparse_c_views.specs.declared.refusal.Refusal.TheVariants.{TooSmall};
+
+use crate::refusal::Refusal;
+use crate::scalars::put_items;
+
+/// Writes the text of an answer into a buffer, and its length. Returns the status of the call: 0, or that of the
+/// refusal; the buffer is then unchanged.
+///
+/// The buffer may be longer than the text.
+pub fn finish_text(answer: Result<String, Refusal>, buffer: &mut [u8], size: &mut usize) -> i32
+    ensures written { result ≡ pos 0 → MatchResult answer
+        (λ text. HoldsText (string_bytes text) buffer.new size.new) (λ _. ⊥) }
+    ensures untouched { result ≢ pos 0 → (buffer.new ≡ buffer.old) × (size.new ≡ size.old) }
+    ensures refused { result ≢ pos 0 → MatchResult answer
+        (λ text. (result ≡ number_of TooSmall) × (length buffer.old < length (string_bytes text)))
+        (λ refusal. result ≡ number_of refusal) }
+{
+    match answer {
+        Ok(text) => write_bytes(text.as_bytes(), buffer, size),
+        Err(refusal) => refusal.status(),
+    }
+}
+
+// Writes bytes into a buffer, and their number.
+fn write_bytes(bytes: &[u8], buffer: &mut [u8], size: &mut usize) -> i32
+    ensures written { result ≡ pos 0 → HoldsText bytes.now buffer.new size.new }
+    ensures untouched { result ≢ pos 0 → (buffer.new ≡ buffer.old) × (size.new ≡ size.old) }
+    ensures small { result ≢ pos 0 → length buffer.old < length bytes.now }
+    ensures status { result ≢ pos 0 → result ≡ number_of TooSmall }
+{
+    if buffer.len() < bytes.len() {
+        return Refusal::TooSmall.status();
+    }
+    put_items(buffer, bytes);
+    *size = bytes.len();
+    0
+}
