@@ -9,8 +9,8 @@
  * What is proved. Every call returns, never touches memory outside the arrays that it is given, and has a contract in
  * crates/sparse_c/src, which holds for all arrays, sound or not. At status 0 the arrays for the result begin with the
  * arrays of a sound matrix, and the plain matrix of these is the one that the call names: the transpose, the sum, the
- * product of the plain matrices of the operands. At any other status nothing has been written, and the status tells
- * why.
+ * product of the plain matrices of the operands; or they begin with the triplets that a text means, or with the text of
+ * triplets. At any other status nothing has been written, and the status tells why.
  *
  * What is not proved. This header and the programs around the library are checked by tests alone (bindings/test). The
  * caller must see to it that
@@ -52,7 +52,25 @@ enum {
     /* A value that must have an inverse has none. */
     NALGEBRA_SPARSE_SINGULAR = 6,
     /* A number that chooses among cases is none of those that the call knows. */
-    NALGEBRA_SPARSE_UNKNOWN_CHOICE = 7
+    NALGEBRA_SPARSE_UNKNOWN_CHOICE = 7,
+    /* A text does not match the grammar, or a number in it is out of range. */
+    NALGEBRA_SPARSE_INVALID_TEXT = 8,
+    /* The format, the field and the symmetry of a text's header do not go together. */
+    NALGEBRA_SPARSE_INVALID_HEADER = 9,
+    /* The number of entries of a text is not the one of its size line. */
+    NALGEBRA_SPARSE_ENTRY_MISMATCH = 10,
+    /* A text has an entry that is no integer of 64 bits. */
+    NALGEBRA_SPARSE_TYPE_MISMATCH = 11,
+    /* An index of a text is 0; indices of texts count from 1. */
+    NALGEBRA_SPARSE_ZERO_INDEX = 12,
+    /* A skew-symmetric matrix has an entry on its diagonal. */
+    NALGEBRA_SPARSE_DIAGONAL_ENTRY = 13,
+    /* A symmetric or skew-symmetric matrix has an entry above the diagonal. */
+    NALGEBRA_SPARSE_NOT_LOWER_TRIANGLE = 14,
+    /* A symmetric or skew-symmetric matrix is not square. */
+    NALGEBRA_SPARSE_NON_SQUARE = 15,
+    /* The bytes of a text are not UTF-8. */
+    NALGEBRA_SPARSE_UNREADABLE = 16
 };
 
 /* The triangles of nalgebra_sparse_fill. */
@@ -262,6 +280,55 @@ int32_t nalgebra_sparse_solve_symmetric(
     const int64_t *values, size_t values_len,
     const int64_t *b_values, size_t b_values_len,
     int64_t *out_values, size_t out_values_len);
+
+/* Reads the bytes of a text in Matrix Market format, with integers or as an array of integers, and writes the shape of
+ * its matrix and the number of its triplets: the size for nalgebra_sparse_read.
+ *
+ * Statuses: OUT_OF_MEMORY; UNREADABLE; and the first error of the text, in this order: INVALID_TEXT if it does not match
+ * the grammar; INVALID_HEADER; INVALID_TEXT if the size line does not fit the header or a size is 2^64 or more;
+ * NON_SQUARE; ENTRY_MISMATCH; then, entry by entry, INVALID_TEXT for its shape or its numbers, ZERO_INDEX,
+ * TYPE_MISMATCH, NOT_LOWER_TRIANGLE, DIAGONAL_ENTRY; last INDEX_OUT_OF_BOUNDS.
+ */
+int32_t nalgebra_sparse_read_sizes(
+    const uint8_t *text, size_t text_len,
+    size_t *out_rows, size_t *out_cols, size_t *out_triplets);
+
+/* Writes the triplets of such a text, in its order: rows and columns count from 0, repeated places are kept, and the
+ * mirrored entry that a symmetry implies directly follows its own. The three arrays need as many numbers as
+ * nalgebra_sparse_read_sizes says there are triplets, and *out_triplets becomes their number.
+ *
+ * Statuses: as for nalgebra_sparse_read_sizes; TOO_SMALL.
+ */
+int32_t nalgebra_sparse_read(
+    const uint8_t *text, size_t text_len,
+    size_t *out_row_indices, size_t out_row_indices_len,
+    size_t *out_col_indices, size_t out_col_indices_len,
+    int64_t *out_values, size_t out_values_len,
+    size_t *out_triplets);
+
+/* Writes to *out_length how many bytes the text of triplets has: the size for nalgebra_sparse_write.
+ *
+ * Statuses: as for nalgebra_sparse_assemble_csr, but for TOO_SMALL.
+ */
+int32_t nalgebra_sparse_write_length(
+    size_t rows, size_t cols,
+    const size_t *row_indices, size_t row_indices_len,
+    const size_t *col_indices, size_t col_indices_len,
+    const int64_t *values, size_t values_len,
+    size_t *out_length);
+
+/* Writes the text of triplets in Matrix Market format (coordinate, integer, general), with a line for each triplet in
+ * the order of the lists. It is ASCII, and no zero byte ends it. *out_length becomes the number of its bytes.
+ *
+ * Statuses: as for nalgebra_sparse_write_length; TOO_SMALL.
+ */
+int32_t nalgebra_sparse_write(
+    size_t rows, size_t cols,
+    const size_t *row_indices, size_t row_indices_len,
+    const size_t *col_indices, size_t col_indices_len,
+    const int64_t *values, size_t values_len,
+    uint8_t *out_text, size_t out_text_len,
+    size_t *out_length);
 
 #ifdef __cplusplus
 }

@@ -37,12 +37,25 @@ class Singular(Error):
     """A value that must have an inverse has none."""
 
 
+class InvalidText(Error):
+    """A text in Matrix Market format has an error, which the message names."""
+
+
 _ERRORS = {
     1: MemoryError("an allocation failed"),
     2: InvalidStructure("the arrays have lengths, offsets or an order that the format does not allow"),
     3: IndexOutOfBounds("a row or a column index is out of bounds"),
     4: DuplicateEntry("the same place is given more than once"),
     6: Singular("a value that must have an inverse has none"),
+    8: InvalidText("a text does not match the grammar, or a number in it is out of range"),
+    9: InvalidText("the format, the field and the symmetry of a text's header do not go together"),
+    10: InvalidText("the number of entries of a text is not the one of its size line"),
+    11: InvalidText("a text has an entry that is no integer of 64 bits"),
+    12: InvalidText("an index of a text is 0"),
+    13: InvalidText("a skew-symmetric matrix has an entry on its diagonal"),
+    14: InvalidText("a symmetric or skew-symmetric matrix has an entry above the diagonal"),
+    15: InvalidText("a symmetric or skew-symmetric matrix is not square"),
+    16: InvalidText("the bytes of a text are not UTF-8"),
 }
 
 
@@ -250,3 +263,31 @@ def fill(matrix, triangle="upper"):
     offsets, indices = np.empty(size + 1, np.int64), np.empty(places.value, np.int64)
     _call("fill", *start, *_pair(offsets), *_pair(indices), ctypes.byref(places))
     return offsets, indices
+
+
+def read(text):
+    """Returns the triplets of the bytes of a Matrix Market text with integers, as a matrix in COO form.
+
+    Repeated places are kept, in the order of the text. A mirrored entry directly follows its own.
+    """
+    if not isinstance(text, bytes):
+        raise TypeError(f"text must be bytes, not {type(text).__name__}")
+    start = [ctypes.c_char_p(text), ctypes.c_size_t(len(text))]
+    rows, cols, count = ctypes.c_size_t(), ctypes.c_size_t(), ctypes.c_size_t()
+    _call("read_sizes", *start, ctypes.byref(rows), ctypes.byref(cols), ctypes.byref(count))
+    i, j, values = (np.empty(count.value, np.int64) for _ in range(3))
+    _call("read", *start, *_pairs([i, j, values]), ctypes.byref(count))
+    return sp.coo_matrix((values, (i, j)), (rows.value, cols.value))
+
+
+def write(matrix):
+    """Returns the bytes of the Matrix Market text of a matrix in COO form, with a line for each triplet, in their order."""
+    if not sp.issparse(matrix) or matrix.format != "coo":
+        raise TypeError("matrix must be a SciPy matrix in COO form: call tocoo()")
+    arrays = [_array("matrix.row", matrix.row, True), _array("matrix.col", matrix.col, True), _array("matrix.data", matrix.data, False)]
+    start = [*(_size("shape", size) for size in matrix.shape), *_pairs(arrays)]
+    length = ctypes.c_size_t()
+    _call("write_length", *start, ctypes.byref(length))
+    text = np.empty(length.value, np.uint8)
+    _call("write", *start, *_pair(text), ctypes.byref(length))
+    return text.tobytes()

@@ -1,8 +1,10 @@
 """Compares the module with SciPy in random cases, and tries each error. Run by bindings/test."""
+import io
 import os
 import sys
 
 import numpy as np
+import scipy.io
 import scipy.sparse as sp
 
 sys.path.insert(0, os.path.dirname(os.path.abspath(__file__)))
@@ -67,6 +69,7 @@ def check_random_cases():
         assert same(ns.multiply(a, c), pattern_product(a, c))
         check_dense_case()
         check_solves()
+        check_text()
 
 
 def below(count):
@@ -148,6 +151,20 @@ def check_solves():
         assert np.array_equal(offsets, want.indptr) and np.array_equal(indices, want.indices)
 
 
+def check_text():
+    """Reads what SciPy writes, and lets SciPy read what is written."""
+    n, m = (int(size) for size in random.integers(1, 6, 2))
+    i, j, values = triplets(n, m)
+    a = sp.coo_matrix((values, (i, j)), (n, m))
+    file = io.BytesIO()
+    scipy.io.mmwrite(file, a, field="integer", symmetry="general")
+    for text in (file.getvalue(), ns.write(a)):
+        found = ns.read(text)
+        assert found.shape == a.shape and np.array_equal(found.data, a.data)
+        assert np.array_equal(found.row, a.row) and np.array_equal(found.col, a.col)
+    assert (scipy.io.mmread(io.BytesIO(ns.write(a))) != a).nnz == 0
+
+
 def refused(error, call, *arguments):
     try:
         call(*arguments)
@@ -193,6 +210,13 @@ def check_errors():
     refused(TypeError, ns.solve_lower, odd, np.ones(2))
     refused(TypeError, ns.divide, fine, 2**63)
     refused(TypeError, ns.transpose, fine.tocsc())
+    head = b"%%MatrixMarket matrix coordinate integer "
+    for rest in (b"", b"hermitian\n1 1 0\n", b"general\n1 1 2\n1 1 1\n", b"general\n1 1 1\n0 1 1\n", b"symmetric\n1 2 0\n"):
+        refused(ns.InvalidText, ns.read, head + rest)
+    refused(ns.InvalidText, ns.read, b"\xff")
+    refused(ns.IndexOutOfBounds, ns.read, head + b"general\n1 1 1\n1 2 1\n")
+    refused(TypeError, ns.read, "a text")
+    refused(TypeError, ns.write, fine)
     refused(TypeError, ns.transpose, fine.astype(float))
 
 

@@ -143,4 +143,34 @@ extern "C" {
         b_values: *const i64, b_values_len: usize,
         out_values: *mut i64, out_values_len: usize,
     ) -> i32;
+
+    pub fn nalgebra_sparse_read_sizes(
+        text: *const u8, text_len: usize,
+        out_rows: *mut usize, out_cols: *mut usize, out_triplets: *mut usize,
+    ) -> i32;
+
+    pub fn nalgebra_sparse_read(
+        text: *const u8, text_len: usize,
+        out_row_indices: *mut usize, out_row_indices_len: usize,
+        out_col_indices: *mut usize, out_col_indices_len: usize,
+        out_values: *mut i64, out_values_len: usize,
+        out_triplets: *mut usize,
+    ) -> i32;
+
+    pub fn nalgebra_sparse_write_length(
+        rows: usize, cols: usize,
+        row_indices: *const usize, row_indices_len: usize,
+        col_indices: *const usize, col_indices_len: usize,
+        values: *const i64, values_len: usize,
+        out_length: *mut usize,
+    ) -> i32;
+
+    pub fn nalgebra_sparse_write(
+        rows: usize, cols: usize,
+        row_indices: *const usize, row_indices_len: usize,
+        col_indices: *const usize, col_indices_len: usize,
+        values: *const i64, values_len: usize,
+        out_text: *mut u8, out_text_len: usize,
+        out_length: *mut usize,
+    ) -> i32;
 }

@@ -4,40 +4,13 @@
 //! `bindings/c/nalgebra_sparse.h`; this crate around it is only tested.
 
 mod calls;
+mod error;
+mod texts;
 
-use std::fmt;
+pub use error::Error;
+pub use texts::{read, write, Triplets};
 
-/// Why a call is refused.
-#[derive(Clone, Copy, Debug, PartialEq, Eq)]
-pub enum Error {
-    /// An allocation failed.
-    OutOfMemory,
-    /// The arrays have lengths, offsets or an order that the format does not allow.
-    InvalidStructure,
-    /// A row or a column index is out of bounds.
-    IndexOutOfBounds,
-    /// The same place is given more than once.
-    DuplicateEntry,
-    /// A value that must have an inverse has none.
-    Singular,
-    /// The shapes of the operands do not fit.
-    ShapeMismatch,
-}
-
-impl fmt::Display for Error {
-    fn fmt(&self, f: &mut fmt::Formatter<'_>) -> fmt::Result {
-        f.write_str(match self {
-            Error::OutOfMemory => "an allocation failed",
-            Error::InvalidStructure => "the arrays have lengths, offsets or an order that the format does not allow",
-            Error::IndexOutOfBounds => "a row or a column index is out of bounds",
-            Error::DuplicateEntry => "the same place is given more than once",
-            Error::Singular => "a value that must have an inverse has none",
-            Error::ShapeMismatch => "the shapes of the operands do not fit",
-        })
-    }
-}
-
-impl std::error::Error for Error {}
+use error::answer;
 
 /// A matrix by rows: a shape and borrowed arrays, which the calls check.
 #[derive(Clone, Copy, Debug)]
@@ -277,17 +250,4 @@ fn zeros<T: Clone>(count: usize, zero: T) -> Result<Vec<T>, Error> {
     list.try_reserve_exact(count).map_err(|_| Error::OutOfMemory)?;
     list.resize(count, zero);
     Ok(list)
-}
-
-fn answer(status: i32) -> Result<(), Error> {
-    match status {
-        0 => Ok(()),
-        1 => Err(Error::OutOfMemory),
-        2 => Err(Error::InvalidStructure),
-        3 => Err(Error::IndexOutOfBounds),
-        4 => Err(Error::DuplicateEntry),
-        6 => Err(Error::Singular),
-        // The arrays for a result are as long as the header asks.
-        _ => unreachable!("status {status}"),
-    }
 }

@@ -4,3 +4,4 @@ pub mod Orders
 pub mod Patterns
 pub mod Solved
 pub mod Symmetric
+pub mod Texts

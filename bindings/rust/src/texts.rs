@@ -1,0 +1,54 @@
+//! Texts in Matrix Market format.
+
+use crate::error::answer;
+use crate::{calls, zeros, Error};
+
+/// A shape and triplets, in their order.
+#[derive(Clone, Debug, Default, PartialEq, Eq)]
+pub struct Triplets {
+    /// The number of rows.
+    pub rows: usize,
+    /// The number of columns.
+    pub cols: usize,
+    /// The row of each triplet.
+    pub row_indices: Vec<usize>,
+    /// The column of each triplet.
+    pub col_indices: Vec<usize>,
+    /// The value of each triplet.
+    pub values: Vec<i64>,
+}
+
+/// Returns the triplets of a text with integers. A mirrored entry directly follows its own.
+pub fn read(text: &[u8]) -> Result<Triplets, Error> {
+    let (mut rows, mut cols, mut count) = (0, 0, 0);
+    answer(unsafe { calls::nalgebra_sparse_read_sizes(text.as_ptr(), text.len(), &mut rows, &mut cols, &mut count) })?;
+    let (mut i, mut j, mut values) = (zeros(count, 0)?, zeros(count, 0)?, zeros(count, 0)?);
+    answer(unsafe {
+        calls::nalgebra_sparse_read(
+            text.as_ptr(), text.len(),
+            i.as_mut_ptr(), i.len(), j.as_mut_ptr(), j.len(), values.as_mut_ptr(), values.len(), &mut count,
+        )
+    })?;
+    Ok(Triplets { rows, cols, row_indices: i, col_indices: j, values })
+}
+
+/// Returns the text of triplets, which is ASCII.
+pub fn write(list: &Triplets) -> Result<Vec<u8>, Error> {
+    let (i, j, values) = (&list.row_indices, &list.col_indices, &list.values);
+    let mut length = 0;
+    answer(unsafe {
+        calls::nalgebra_sparse_write_length(
+            list.rows, list.cols,
+            i.as_ptr(), i.len(), j.as_ptr(), j.len(), values.as_ptr(), values.len(), &mut length,
+        )
+    })?;
+    let mut text = zeros(length, 0)?;
+    answer(unsafe {
+        calls::nalgebra_sparse_write(
+            list.rows, list.cols,
+            i.as_ptr(), i.len(), j.as_ptr(), j.len(), values.as_ptr(), values.len(),
+            text.as_mut_ptr(), text.len(), &mut length,
+        )
+    })?;
+    Ok(text)
+}

@@ -1,0 +1,21 @@
+use Rattle.std.proofs.Common.{◌≡◌, ℕ, ◌<◌, List, length, sym, subst, ◌∙◌, rules, to_z, of_z}
+use Rattle.std.specs.Int.{w32}
+use Rattle.sparse_c_views.specs.Lists.{HoldsText}
+use Rattle.sparse_c_views.proofs.Joining.{found, refused}
+use Rattle.sparse_c.proofs.writing.nalgebra_sparse_write.Goals as goal
+
+pub returns-clause-written : goal.returns-clause-written
+returns-clause-written c = λ h.
+    let same : to_z w32 (of_z w32 c.finish_text.result) ≡ c.finish_text.result = search rules in
+    let p = found c.text_of_list-answer.result c.text_of_list-answer.ensures.text
+    (c.finish_text.ensures.written (sym same ∙ h)) in
+    subst (λ (text : List ℕ). HoldsText text c.finish_text.new.buffer c.finish_text.new.size) p.1.0
+    p.1.1
+
+pub returns-clause-refused : goal.returns-clause-refused
+returns-clause-refused c = λ h.
+    let same : to_z w32 (of_z w32 c.finish_text.result) ≡ c.finish_text.result = search rules in
+    refused c.text_of_list-answer.result c.text_of_list-answer.ensures.text c.finish_text.result _
+    same c.text_of_list-answer.ensures.fault (λ e given. given)
+    (λ text p small. subst (λ (t : List ℕ). length c.args.out_text.now < length t) p small)
+    (c.finish_text.ensures.refused (λ e. h (same ∙ e)))

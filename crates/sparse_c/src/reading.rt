@@ -1,0 +1,91 @@
+//! Coordinate lists out of Matrix Market texts.
+
+ghost use Rattle.std.specs.Prelude.{◌≡◌, ◌≢◌, pos, IfOk, IfErr};
+ghost use Rattle.sparse_algebra.specs.Numbers.{w64_number};
+ghost use Rattle.sparse_parser.specs.Meaning.{values_of};
+ghost use Rattle.sparse_c.specs.Texts.{IsErrorOfText, IsFaultOfText, IsTextOf, IsTextTooLong};
+ghost use Rattle.sparse_c.specs.Texts.{SizesText, WritesTriplets};
+ghost use Rattle.sparse_c_views.specs.Lists.{list_room_of};
+ghost use Rattle.sparse_c_views.specs.Refused.{IsMemoryOr, IsRefusedFor};
+
+use sparse_algebra::scalar::W64;
+use sparse_base::coo::CooMatrix;
+use sparse_c_views::lists::finish_list;
+use sparse_c_views::refusal::Refusal;
+use sparse_io::load_coo_from_matrix_market_str;
+use std::alloc::Global;
+use std::str;
+
+/// Writes the numbers of rows, columns and triplets of a text in Matrix Market format.
+#[unsafe(no_mangle)]
+pub extern "C" fn nalgebra_sparse_read_sizes(
+    alloc: Global,
+    text: &[u8],
+    out_rows: &mut usize,
+    out_cols: &mut usize,
+    out_triplets: &mut usize,
+) -> i32
+    ensures read { result ≡ pos 0
+        → SizesText text.now out_rows.new out_cols.new out_triplets.new }
+    ensures untouched { result ≢ pos 0 → (out_rows.new ≡ out_rows.old)
+        × (out_cols.new ≡ out_cols.old) × (out_triplets.new ≡ out_triplets.old) }
+    ensures refused { result ≢ pos 0 → IsRefusedFor (IsFaultOfText text.now) ⊥ result }
+{
+    match list_of_text(alloc, text) {
+        Ok(list) => {
+            *out_rows = list.nrows();
+            *out_cols = list.ncols();
+            *out_triplets = list.nnz();
+            0
+        }
+        Err(refusal) => refusal.status(),
+    }
+}
+
+/// Writes the triplets of a text in Matrix Market format, in its order, each mirrored one after its own.
+#[unsafe(no_mangle)]
+pub extern "C" fn nalgebra_sparse_read(
+    alloc: Global,
+    text: &[u8],
+    out_row_indices: &mut [usize],
+    out_col_indices: &mut [usize],
+    out_values: &mut [i64],
+    out_triplets: &mut usize,
+) -> i32
+    ensures written { result ≡ pos 0 → WritesTriplets text.now (list_room_of
+        out_row_indices.new out_col_indices.new out_values.new out_triplets.new) }
+    ensures untouched { result ≢ pos 0
+        → list_room_of out_row_indices.new out_col_indices.new out_values.new out_triplets.new
+        ≡ list_room_of out_row_indices.old out_col_indices.old out_values.old out_triplets.old }
+    ensures refused { result ≢ pos 0 → IsRefusedFor (IsFaultOfText text.now)
+        (IsTextTooLong text.now (list_room_of
+        out_row_indices.old out_col_indices.old out_values.old out_triplets.old)) result }
+{
+    let answer = list_of_text(alloc, text);
+    finish_list(
+        answer,
+        out_row_indices,
+        out_col_indices,
+        out_values,
+        out_triplets,
+    )
+}
+
+// The triplets of bytes.
+fn list_of_text(alloc: Global, text: &[u8]) -> Result<CooMatrix<W64>, Refusal>
+    ensures means { IfOk result (λ m. IsTextOf text.now (values_of w64_number m)) }
+    ensures fault { IfErr result (IsMemoryOr (IsFaultOfText text.now)) }
+{
+    match str::from_utf8(text) {
+        Ok(text) => triplets_of(alloc, text),
+        Err(_fault) => Err(Refusal::Unreadable),
+    }
+}
+
+// The triplets of a text.
+fn triplets_of(alloc: Global, text: &str) -> Result<CooMatrix<W64>, Refusal>
+    ensures means { IfOk result (λ m. IsTextOf text.now (values_of w64_number m)) }
+    ensures fault { IfErr result (IsMemoryOr (IsErrorOfText text.now)) }
+{
+    Ok(load_coo_from_matrix_market_str(alloc, text)?)
+}
