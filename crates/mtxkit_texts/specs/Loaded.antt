@@ -23,14 +23,14 @@ ring64 = wrapping_ring w64
 abbrev pub value64 : W64 → ring64.Carrier
 value64 x = class_of w64 (w64_number x)
 
--- the text means a list of so many integers, and the matrix by rows has their sums
+-- the text means a list of `entries` integers, and the matrix by rows has their sums
 pub record MeansSums (text : List ℕ) (entries : ℕ) (m : Compressed W64) : Type 0 where
   pub list : Coo W64
   pub counted : entries ≡ length list.triplets
   pub means : Means (wrapping_scalar w64) text (Ok (values_of w64_number list))
   pub sums : plain_of_rows ring64 value64 m ≡ plain_of_coo ring64 value64 list
 
--- the text means a list of so many places, and the matrix by rows has one at each of them
+-- the text means a list of `entries` places, and the matrix by rows has one at each of them
 pub record MeansOnes (text : List ℕ) (entries : ℕ) (m : Compressed W64) : Type 0 where
   pub list : Coo (Unit {0})
   pub counted : entries ≡ length list.triplets

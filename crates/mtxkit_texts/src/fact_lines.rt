@@ -56,7 +56,7 @@ fn push_facts(alloc: Global, lines: &mut String, info: &Info) -> Result<(), Allo
     push_line(lines, "symmetric values", answer(info.has_symmetric_values))
 }
 
-// Appends how many of the rows have so many places, with a bar for their part of all rows.
+// Appends the number of rows with a given number of places, with a bar for their share of all rows.
 fn push_histogram(
     alloc: Global,
     lines: &mut String,

@@ -26,7 +26,7 @@ fn diagonal(alloc: Global, n: usize) -> Result<SparsityPattern, AllocError>
     Ok(copy)
 }
 
-// Multiplies by `step` from the left, so many times.
+// Multiplies by `step` from the left, `steps` times.
 fn take_steps(
     alloc: Global,
     step: &SparsityPattern,
@@ -63,7 +63,7 @@ fn reach(
     Ok(reached)
 }
 
-// Whether walks of so many steps on the cycle 0 -> 1 -> 2 -> 0 join the pairs with these indices.
+// Whether walks of at most `steps` steps on the cycle 0 -> 1 -> 2 -> 0 join the pairs with these indices.
 #[cfg(test)]
 fn joins(alloc: Global, steps: usize, indices: &[usize]) -> Result<bool, Fail> {
     let offsets = vec![in alloc; 0, 1, 2, 3]?;
