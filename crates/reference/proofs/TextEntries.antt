@@ -9,7 +9,7 @@ use Rattle.sparse_parser.specs.declared.error.MatrixMarketErrorKind.{MatrixMarke
 use Rattle.sparse_parser.specs.declared.header.Header.{Header}
 use Rattle.sparse_parser.specs.Reads.{Read, ◌>>=◌}
 use Rattle.sparse_parser.specs.Scalars.{Scalar}
-use Rattle.sparse_parser.specs.Meaning.{Triplet, triplets_of, entries_of}
+use Rattle.sparse_parser.specs.Meaning.{Triplet, triplets_of, triplets_of_lines}
 use Rattle.reference.specs.declared.texts.lines.Line.{Line}
 use Rattle.reference.specs.InnerTexts.{words_in, lines_in}
 
@@ -39,28 +39,29 @@ module _ (S : Scalar) (h : Header) where
   stepped first others = first >>= λ ts. prefixed ts others
 
   unfold_line : (places : List (ℕ × ℕ)) (words : List (List ℕ)) (lines : List (List (List ℕ)))
-      → entries_of S h places (words ∷ lines)
-      ≡ stepped (triplets_of S h (slice_get places 0) words) (entries_of S h (drop 1 places) lines)
-  unfolding entries_of stepped
+      → triplets_of_lines S h places (words ∷ lines)
+      ≡ stepped (triplets_of S h (slice_get places 0) words)
+      (triplets_of_lines S h (drop 1 places) lines)
+  unfolding triplets_of_lines stepped
   unfold_line places words lines = refl
 
   module _ (places : List (ℕ × ℕ)) (lines : List (List (List ℕ))) where
     -- the entries from a line on
     abbrev pub left_from : ℕ → Read (List (Triplet S.Value))
-    left_from i = entries_of S h (drop i places) (drop i lines)
+    left_from i = triplets_of_lines S h (drop i places) (drop i lines)
 
     line_left : (i : ℕ) → i < length lines
         → left_from i ≡ stepped (triplets_of S h (slice_get places i) (get_or lines i []))
         (left_from (i + 1))
     line_left i lt =
-        ap (entries_of S h (drop i places)) (drop-cons lines i [] lt)
+        ap (triplets_of_lines S h (drop i places)) (drop-cons lines i [] lt)
         ∙ unfold_line (drop i places) (get_or lines i []) (drop (suc i) lines)
         ∙ ap (λ (at : Option (ℕ × ℕ)). stepped (triplets_of S h at (get_or lines i []))
-        (entries_of S h (drop 1 (drop i places)) (drop (suc i) lines))) (first_left places i)
+        (triplets_of_lines S h (drop 1 (drop i places)) (drop (suc i) lines))) (first_left places i)
         ∙ ap (λ (ps : List (ℕ × ℕ)). stepped (triplets_of S h (slice_get places i)
-        (get_or lines i [])) (entries_of S h ps (drop (suc i) lines))) (one_less places i)
+        (get_or lines i [])) (triplets_of_lines S h ps (drop (suc i) lines))) (one_less places i)
         ∙ ap (λ (k : ℕ). stepped (triplets_of S h (slice_get places i) (get_or lines i []))
-        (entries_of S h (drop k places) (drop k lines))) (sym (add-one i))
+        (triplets_of_lines S h (drop k places) (drop k lines))) (sym (add-one i))
 
     pub line_read : (i : ℕ) (before ts : List (Triplet S.Value)) → i < length lines
         → triplets_of S h (slice_get places i) (get_or lines i []) ≡ Ok ts
@@ -80,8 +81,8 @@ module _ (S : Scalar) (h : Header) where
 
 pub no_lines : (S : Scalar) (h : Header) (places : List (ℕ × ℕ)) (lines : List Line)
     → length lines ≡ 0
-    → Ok [] ≡ entries_of S h places (lines_in lines)
-unfolding entries_of
+    → Ok [] ≡ triplets_of_lines S h places (lines_in lines)
+unfolding triplets_of_lines
 no_lines S h places [] e = refl
 no_lines S h places (l ∷ ls) e = absurd (omega arith)
 
@@ -95,8 +96,9 @@ lines_long lines i lt = omega (arith, length-map lines words_in)
 
 pub none_left : (S : Scalar) (h : Header) (places : List (ℕ × ℕ)) (lines : List Line) (i : ℕ)
     (before : List (Triplet S.Value)) → length lines ≤ i
-    → Ok before ≡ prefixed before (entries_of S h (drop i places) (drop i (lines_in lines)))
-unfolding entries_of
+    → Ok before ≡ prefixed before (triplets_of_lines S h (drop i places)
+    (drop i (lines_in lines)))
+unfolding triplets_of_lines
 none_left S h places lines i before le =
     let none : drop i (lines_in lines) ≡ [] = drop_of_length-le (lines_in lines)
     (omega (arith, length-map lines words_in)) in

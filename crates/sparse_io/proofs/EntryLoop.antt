@@ -23,7 +23,7 @@ use Rattle.sparse_parser.specs.Reads.{Read, ◌>>=◌, read_as}
 use Rattle.sparse_parser.specs.Scalars.{Scalar}
 use Rattle.sparse_parser.specs.ArrayPlaces.{places_of}
 use Rattle.sparse_parser.specs.Meaning.{Triplet, Sizes, is_count, is_inside, triplets_of}
-use Rattle.sparse_parser.specs.Meaning.{entries_of, listed_of, values_of}
+use Rattle.sparse_parser.specs.Meaning.{triplets_of_lines, listed_of, values_of}
 use Rattle.sparse_parser.specs.InnerReading.{Gives, words_of, line_words, contents_of, count_of}
 use Rattle.sparse_parser.specs.InnerReading.{among_entries, settled_of}
 use Rattle.sparse_parser.specs.InnerLines.{IsLine}
@@ -183,12 +183,12 @@ module _ (S : Scalar) (h : Header) (s : Sizes) where
       → IsRead text next words → IsAdded words inside kept places ts ts' → places' ≡ drop 1 places
       → still_read S h s read inside places ts (contents_of text) ≡ total
       → still_read S h s (read + 1) kept places' ts' (contents_of next) ≡ total
-  unfolding among_entries entries_of
+  unfolding among_entries triplets_of_lines
   read_more text next words read inside kept places places' ts ts' total r a p so_far =
       let n : read + suc (length (contents_of next)) ≡ read + 1 + length (contents_of next) =
       omega arith in
       let m = entries-more inside kept ts ts' a.new
-      (entries_of S h (drop 1 places) (contents_of next)) a.kept_is a.added in
+      (triplets_of_lines S h (drop 1 places) (contents_of next)) a.kept_is a.added in
       let one : still_read S h s read inside places ts (words ∷ contents_of next)
       ≡ still_read S h s (read + 1)
       kept (drop 1 places) ts' (contents_of next) =
@@ -206,7 +206,7 @@ module _ (S : Scalar) (h : Header) (s : Sizes) where
       → IsRead text rest words → triplets_of S h (slice_get places 0) words ≡ Err e
       → still_read S h s read inside places ts (contents_of text) ≡ total
       → total ≡ Err (settled_of e (read + 1) s.2 (contents_of rest))
-  unfolding among_entries entries_of settled_of
+  unfolding among_entries triplets_of_lines settled_of
   read_fault text rest words e read inside places ts total r f so_far =
       let n : read + suc (length (contents_of rest)) ≡ read + 1 + length (contents_of rest) =
       omega arith in
@@ -237,7 +237,7 @@ module _ (S : Scalar) (h : Header) (s : Sizes) where
       (ts : List (Triplet S.Value)) (total : Read (Coo S.Value))
       → length text ≡ 0 → still_read S h s read inside places ts (contents_of text) ≡ total
       → total ≡ ended_of (is_count s.2 read) inside (coo_of s.0 s.1 ts)
-  unfolding among_entries entries_of
+  unfolding among_entries triplets_of_lines
   read_end text read inside places ts total e so_far =
       let n : read + 0 ≡ read = omega arith in
       let one : still_read S h s read inside places ts [] ≡ ended_of (is_count s.2 read) inside

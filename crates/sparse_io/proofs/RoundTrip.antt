@@ -20,7 +20,7 @@ use Rattle.sparse_parser.specs.Grammar.{is_size}
 use Rattle.sparse_parser.specs.Grammar.{is_entry}
 use Rattle.sparse_parser.specs.Scalars.{Scalar}
 use Rattle.sparse_parser.specs.Meaning.{numbers_of_size, sizes_of}
-use Rattle.sparse_parser.specs.Meaning.{mirrored, triplets_of, entries_of}
+use Rattle.sparse_parser.specs.Meaning.{mirrored, triplets_of, triplets_of_lines}
 use Rattle.sparse_parser.specs.Meaning.{is_inside, listed_of, matrix_of, Means, Triplet}
 use Rattle.sparse_io.specs.Written.{heading, size_line, triplet_line, written_text, text_of}
 use Rattle.sparse_io.proofs.WrittenLines.{index-decimal, decimal_text, number-decimal, line_of}
@@ -80,8 +80,8 @@ module _ (S : Scalar) (field : Field) (named : IsNamed S.name field) (ws : S.Val
       rw e refl
 
   entries-words : (places : List (ℕ × ℕ)) (ts : List (Triplet S.Value)) → AllByRecursion IsSmall ts
-      → entries_of S header places (map triplet_words ts) ≡ Ok ts
-  unfolding entries_of
+      → triplets_of_lines S header places (map triplet_words ts) ≡ Ok ts
+  unfolding triplets_of_lines
   entries-words places [] h = refl
   entries-words places (t ∷ ts) h = rw (
     triplets-words (slice_get places 0) t h.0,

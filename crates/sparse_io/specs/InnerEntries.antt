@@ -18,7 +18,7 @@ use Rattle.sparse_parser.specs.Grammar.{is_entry}
 use Rattle.sparse_parser.specs.Reads.{Read, ◌>>=◌}
 use Rattle.sparse_parser.specs.Scalars.{Scalar}
 use Rattle.sparse_parser.specs.Meaning.{Triplet, Sizes, placed, mirrored, triplets_of}
-use Rattle.sparse_parser.specs.Meaning.{is_count, is_inside, entries_of}
+use Rattle.sparse_parser.specs.Meaning.{is_count, is_inside, triplets_of_lines}
 use Rattle.sparse_parser.specs.InnerReading.{line_words, contents_of, among_entries}
 
 -- an entry, and the mirrored one if it has a value
@@ -63,8 +63,8 @@ module _ (S : Scalar) (h : Header) (s : Sizes) where
   abbrev pub still_read : ℕ → Bool → List (ℕ × ℕ) → List (Triplet S.Value)
       → List (List (List ℕ)) → Read (Coo S.Value)
   still_read read inside places ts lines = among_entries lines
-      (if is_count s.2 (read + length lines) then entries_of S h places lines >>= ending inside ts
-      else Err EntryMismatch)
+      (if is_count s.2 (read + length lines)
+      then triplets_of_lines S h places lines >>= ending inside ts else Err EntryMismatch)
 
 -- the symmetries as numbers, without that of complex matrices
 abbrev pub numbered_symmetry : ℕ → Symmetry

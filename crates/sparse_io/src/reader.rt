@@ -7,7 +7,7 @@ ghost use Rattle.sparse_parser.specs.Meaning.{Means, values_of};
 ghost use Rattle.sparse_parser.specs.InnerReading.{Gives, contents_of, grammar_kind_of, count_of};
 ghost use Rattle.sparse_parser.specs.InnerReading.{settled_of, body_of, read};
 
-use entries::entries;
+use entries::read_entries;
 use sparse_base::coo::CooMatrix;
 use sparse_market_scalar::MatrixMarketScalar;
 use sparse_parser::data_lines::data_line;
@@ -94,7 +94,7 @@ fn body<T: MatrixMarketScalar>(
     match Size::from_line(header, line) {
         None => Err(MatrixMarketError::new(Cause::Grammar)),
         Some(Err(cause)) => Err(MatrixMarketError::new(in_grammar(cause, rest))),
-        Some(Ok(size)) => entries(alloc, header, size, rest),
+        Some(Ok(size)) => read_entries(alloc, header, size, rest),
     }
 }
 

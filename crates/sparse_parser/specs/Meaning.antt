@@ -146,12 +146,12 @@ module _ (S : Scalar) where
   triplets_of h at words = entry_of h.format h.field at words >>= mirrored h.symmetry
 
   -- the triplets of data lines; those of an array have these places
-  unfoldable pub entries_of : Header → List (ℕ × ℕ) → List (List (List ℕ))
+  unfoldable pub triplets_of_lines : Header → List (ℕ × ℕ) → List (List (List ℕ))
       → Read (List (Triplet S.Value))
-  entries_of h places [] = Ok []
-  entries_of h places (words ∷ lines) = do
+  triplets_of_lines h places [] = Ok []
+  triplets_of_lines h places (words ∷ lines) = do
     first ← triplets_of h (slice_get places 0) words
-    others ← entries_of h (drop 1 places) lines
+    others ← triplets_of_lines h (drop 1 places) lines
     Ok (first ++ others)
 
   abbrev pub is_inside : ℕ → ℕ → Triplet S.Value → Bool
@@ -167,7 +167,7 @@ module _ (S : Scalar) where
   unfoldable pub listed_of : Header → Sizes → List (List (List ℕ)) → Read (Coo S.Value)
   listed_of h s lines =
       if is_count s.2 (length lines)
-      then (entries_of h (places_of h.format h.symmetry s.0 s.1) lines >>= inside_of s)
+      then (triplets_of_lines h (places_of h.format h.symmetry s.0 s.1) lines >>= inside_of s)
       else Err EntryMismatch
 
   -- the matrix of a header, a size line and data lines

@@ -3,7 +3,8 @@
 ghost use Rattle.std.specs.Prelude.{◌≡◌, ◌<◌, ◌++◌, ◌&&◌, nat_lt, slice_get, IfOk, OnOk, None, map};
 ghost use Rattle.std.specs.List.{list_all};
 ghost use Rattle.sparse_parser.specs.ArrayPlaces.{places_of, array_places, column, first_row};
-ghost use Rattle.sparse_parser.specs.Meaning.{entries_of, listed_of, inside_of, value_triplet};
+ghost use Rattle.sparse_parser.specs.Meaning.{triplets_of_lines, listed_of, inside_of};
+ghost use Rattle.sparse_parser.specs.Meaning.{value_triplet};
 ghost use Rattle.reference.specs.Texts.{seen, listed_as};
 ghost use Rattle.reference.specs.InnerTexts.{lines_in, both_of};
 
@@ -86,7 +87,7 @@ fn placed_entries<T: MatrixMarketScalar>(
     lines: &[Line<'_>],
 ) -> Result<Result<Vec<(usize, usize, T)>, MatrixMarketErrorKind>, AllocError>
     ensures { IfOk result (λ r. seen (λ v. map (value_triplet T.value) v.items) r
-        ≡ entries_of T.scalar header (places_of header.format header.symmetry nrows ncols)
+        ≡ triplets_of_lines T.scalar header (places_of header.format header.symmetry nrows ncols)
         (lines_in lines.now)) }
 {
     if lines.is_empty() {
@@ -163,7 +164,7 @@ fn read_entries<T: MatrixMarketScalar>(
     lines: &[Line<'_>],
 ) -> Result<Result<Vec<(usize, usize, T)>, MatrixMarketErrorKind>, AllocError>
     ensures { IfOk result (λ r. seen (λ v. map (value_triplet T.value) v.items) r
-        ≡ entries_of T.scalar header places.now (lines_in lines.now)) }
+        ≡ triplets_of_lines T.scalar header places.now (lines_in lines.now)) }
 {
     let mut list = Vec::new(alloc);
     for (at, line) in lines.iter().enumerate() {

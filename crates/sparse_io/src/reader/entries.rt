@@ -24,7 +24,7 @@ use std::alloc::Global;
 
 /// Reads the data lines below a size line into a matrix.
 #[inline(never)]
-pub fn entries<T: MatrixMarketScalar>(
+pub fn read_entries<T: MatrixMarketScalar>(
     alloc: Global,
     header: Header,
     size: Size,

@@ -22,4 +22,4 @@ returns-in-Some-Ok g c =
     let e = body_good_size g.T.MatrixMarketScalar.scalar c.args.header c.args.text.now _ _ _
     c.next_line.ensures.begins c.next_line.ensures.same c.split_line.ensures.line
     c.split_line.ensures.rest _ _ c.in-Some-Ok.ensures c.in-Some-Ok.field-0-is in
-    Gives-along g.T.MatrixMarketScalar.scalar g.T.MatrixMarketScalar.value _ _ _ e c.entries.ensures
+    Gives-along g.T.MatrixMarketScalar.scalar g.T.MatrixMarketScalar.value _ _ _ e c.read_entries.ensures

@@ -1,5 +1,5 @@
 use Rattle.std.proofs.Common.{◌≡◌, drop, map}
-use Rattle.sparse_parser.specs.Meaning.{entries_of, value_triplet}
+use Rattle.sparse_parser.specs.Meaning.{triplets_of_lines, value_triplet}
 use Rattle.reference.specs.InnerTexts.{lines_in}
 use Rattle.reference.proofs.TextEntries.{prefixed}
 use Rattle.reference.proofs.texts.entries.read_entries.Given as goal
@@ -8,5 +8,5 @@ abbrev pub invariant-loop-at : goal.invariant-loop-at
 invariant-loop-at g l =
     let S = g.T.MatrixMarketScalar.scalar in
     prefixed (map (value_triplet g.T.MatrixMarketScalar.value) l.list.items)
-    (entries_of S l.header (drop l.at l.places) (drop l.at (lines_in l.lines)))
-    ≡ entries_of S l.header l.places (lines_in l.lines)
+    (triplets_of_lines S l.header (drop l.at l.places) (drop l.at (lines_in l.lines)))
+    ≡ triplets_of_lines S l.header l.places (lines_in l.lines)

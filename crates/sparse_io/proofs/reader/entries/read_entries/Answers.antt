@@ -7,7 +7,7 @@ use Rattle.sparse_parser.specs.InnerReading.{line_words}
 use Rattle.sparse_io.proofs.EntryLoop.{IsRead, front_read, line_refused, read_fault, read_refused}
 use Rattle.sparse_io.proofs.EntryLoop.{matrix_start, matrix_more, matrix_end, fault_is}
 use Rattle.sparse_io.proofs.LineRuns.{read_on_same}
-use Rattle.sparse_io.proofs.reader.entries.entries.Goals as goal
+use Rattle.sparse_io.proofs.reader.entries.read_entries.Goals as goal
 
 pub loop-rest-init : goal.loop-rest-init
 loop-rest-init g c =

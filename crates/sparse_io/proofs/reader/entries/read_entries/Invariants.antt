@@ -4,7 +4,7 @@ use Rattle.sparse_parser.specs.Meaning.{listed_of, values_of}
 use Rattle.sparse_io.specs.InnerPlaces.{places_left}
 use Rattle.sparse_parser.specs.InnerReading.{contents_of, among_entries}
 use Rattle.sparse_io.specs.InnerEntries.{still_read}
-use Rattle.sparse_io.proofs.reader.entries.entries.Given as goal
+use Rattle.sparse_io.proofs.reader.entries.read_entries.Given as goal
 
 abbrev pub invariant-loop-rest : goal.invariant-loop-rest
 invariant-loop-rest g l = record {
