@@ -10,6 +10,7 @@ use sparse_cs::{CsMatrix, LaneIndices};
 use sparse_pattern::pattern::SparsityPattern;
 
 /// Returns the indices and the values of lane i.
+#[inline(always)]
 pub fn lane_slices<T>(a: &CsMatrix<T>, i: usize) -> (&[usize], &[T])
     requires { i < a.now.pattern.major_dim }
     ensures indices { result.0.now ≡ (lane_at a.now i).indices }

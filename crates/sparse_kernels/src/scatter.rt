@@ -12,6 +12,7 @@ use sparse_base::steps::Steps;
 /// added twice.
 ///
 /// One multiplication for each index, which `steps` counts. Allocates nothing.
+#[inline(always)]
 pub fn add_multiple<T: Ring>(
     scale: T,
     indices: &[usize],
@@ -33,38 +34,42 @@ pub fn add_multiple<T: Ring>(
 
 /// Adds multiples of one lane to four dense rows, so that the lane is read once for them.
 ///
-/// There must be one value for each index, and indices must be inside the rows, which are equally long.
+/// `lane` is the lane's indices and values. There must be one value for each index, and indices must be inside the
+/// rows, which are equally long.
 ///
 /// Four multiplications for each index. Allocates nothing.
+#[inline(always)]
 pub fn add_multiple_four<T: Ring>(
     scales: (T, T, T, T),
-    indices: &[usize],
-    values: &[T],
+    lane: (&[usize], &[T]),
     first: &mut [T],
     second: &mut [T],
     third: &mut [T],
     fourth: &mut [T],
 )
-    requires fits { length values.now ≡ length indices.now }
-    requires inside { All (λ j. j < length first.old) indices.now }
+    requires fits { length lane.1.now ≡ length lane.0.now }
+    requires inside { All (λ j. j < length first.old) lane.0.now }
     requires width_2 { length second.old ≡ length first.old }
     requires width_3 { length third.old ≡ length first.old }
     requires width_4 { length fourth.old ≡ length first.old }
     ensures first { AddsMultiple T.ring T.value T.zero_value (T.value scales.0)
-        indices.now values.now first.old first.new }
+        lane.entry.0.now lane.entry.1.now first.old first.new }
     ensures second { AddsMultiple T.ring T.value T.zero_value (T.value scales.1)
-        indices.now values.now second.old second.new }
+        lane.entry.0.now lane.entry.1.now second.old second.new }
     ensures third { AddsMultiple T.ring T.value T.zero_value (T.value scales.2)
-        indices.now values.now third.old third.new }
+        lane.entry.0.now lane.entry.1.now third.old third.new }
     ensures fourth { AddsMultiple T.ring T.value T.zero_value (T.value scales.3)
-        indices.now values.now fourth.old fourth.new }
+        lane.entry.0.now lane.entry.1.now fourth.old fourth.new }
 {
     let (a, b, c, d) = scales;
+    let (indices, values) = lane;
     for (index, value) in indices.iter().zip(values) {
-        add_product(first, *index, a, *value);
-        add_product(second, *index, b, *value);
-        add_product(third, *index, c, *value);
-        add_product(fourth, *index, d, *value);
+        // Read once, since a write to a row may change what is behind the references, for all that LLVM knows.
+        let (index, value) = (*index, *value);
+        add_product(first, index, a, value);
+        add_product(second, index, b, value);
+        add_product(third, index, c, value);
+        add_product(fourth, index, d, value);
     }
 }
 

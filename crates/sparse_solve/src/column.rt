@@ -20,6 +20,7 @@ pub struct Column<'a, T> {
 
 // Returns column k, or `None` where its diagonal entry isn't stored or has no inverse. The entries above the diagonal
 // are passed over.
+#[inline(always)]
 pub fn column_below<T: Units>(l: &CscMatrix<T>, k: usize) -> Option<Column<'_, T>>
     requires { k < l.now.pattern.major_dim }
     ensures none { IfNone result
@@ -38,10 +39,15 @@ pub fn column_below<T: Units>(l: &CscMatrix<T>, k: usize) -> Option<Column<'_, T
     })
 }
 
-// Returns the position of a row.
+// Returns the position of a row. In a lower triangle that is the first, so it is looked at before the others are
+// searched.
+#[inline(always)]
 fn position_of(rows: &[usize], k: usize) -> Option<usize>
     ensures { MatchOption result (Contains rows.now k → ⊥)
         (λ at. (at < length rows.now) × (slice_index rows.now at ≡ k)) }
 {
+    if !rows.is_empty() && rows[0] == k {
+        return Some(0);
+    }
     rows.iter().position(|row| *row == k)
 }

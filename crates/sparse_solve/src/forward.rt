@@ -58,6 +58,7 @@ pub fn solve_forward_four<T: Units>(
 }
 
 // Computes the answer of row k, and subtracts its multiple of the column from the rows below.
+#[inline(always)]
 fn take_answer<T: Ring>(column: Column<'_, T>, k: usize, x: &mut [T])
     requires row { k < length x.old }
     requires fits { length column.values.now ≡ length column.rows.now }
@@ -71,6 +72,7 @@ fn take_answer<T: Ring>(column: Column<'_, T>, k: usize, x: &mut [T])
 }
 
 // The same in each of four columns.
+#[inline(always)]
 fn take_answer_four<T: Ring>(
     column: Column<'_, T>,
     k: usize,
@@ -99,19 +101,12 @@ fn take_answer_four<T: Ring>(
     let b = divide_entry(k, column.inverse, second).neg();
     let c = divide_entry(k, column.inverse, third).neg();
     let d = divide_entry(k, column.inverse, fourth).neg();
-    let scales = (a, b, c, d);
-    add_multiple_four(
-        scales,
-        column.rows,
-        column.values,
-        first,
-        second,
-        third,
-        fourth,
-    );
+    let lane = (column.rows, column.values);
+    add_multiple_four((a, b, c, d), lane, first, second, third, fourth);
 }
 
 // Multiplies entry k by an inverse, and returns it. A product with one is not computed: most diagonals are ones.
+#[inline(always)]
 fn divide_entry<T: Ring>(k: usize, inverse: T, x: &mut [T]) -> T
     requires { k < length x.old }
     ensures value { T.value result

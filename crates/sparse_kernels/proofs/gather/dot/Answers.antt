@@ -21,12 +21,11 @@ loop-index-preserved g c =
     c.into_iter-index-iterator.result c.loop-index.index-iterator c.next.new.self c.next.result
     (search rules) (search rules) c.loop-index.yielded_by (c.in-Some.index, c.in-Some.value)
     c.in-Some.is c.next.ensures.steps in
-    let k = c.in-Some.index.now in
-    let v = c.in-Some.value.now in
     rw (length_push c.loop-index.yielded (c.in-Some.index, c.in-Some.value))
-    (dot_more R f (strided R f g.T.Zero.zero_value c.args.column.now c.args.step) c.args.indices.now
-    c.args.values.now (length c.loop-index.yielded) k v c.loop-index.sum c.add_term-sum.result turn.0
-    turn.1 (turn.2 k) (turn.3 v) c.add_term-sum.ensures c.loop-index.invariant)
+    (dot_more R f c.args.indices.now c.args.values.now (length c.loop-index.yielded)
+    c.in-Some.index.now c.in-Some.value.now turn
+    (strided R f g.T.Zero.zero_value c.args.column.now c.args.step) c.loop-index.sum
+    c.add_term-sum.result c.add_term-sum.ensures c.loop-index.invariant)
 
 pub overflow_mul-index : goal.overflow_mul-index
 overflow_mul-index g c =
@@ -45,6 +44,6 @@ returns g c =
     let count = zip_end c.args.indices.now c.args.values.now c.loop-index.yielded
     c.into_iter-index-iterator.result c.loop-index.index-iterator c.next.new.self c.next.result
     (search rules) (search rules) c.loop-index.yielded_by c.in-None.is c.next.ensures.steps in
-    dot_all R f (strided R f g.T.Zero.zero_value c.args.column.now c.args.step) c.args.indices.now
-    c.args.values.now (length c.loop-index.yielded) c.loop-index.sum c.requires.fits count
+    dot_all R f c.args.indices.now c.args.values.now (length c.loop-index.yielded) c.requires.fits
+    count (strided R f g.T.Zero.zero_value c.args.column.now c.args.step) c.loop-index.sum
     c.loop-index.invariant

@@ -34,10 +34,9 @@ loop-index-preserved g c =
     let v = c.in-Some.value.now in
     let within : k < length c.args.row.now = rw (turn.2 0) (c.requires.inside n 0 turn.0) in
     rw (length_push c.loop-index.yielded (c.in-Some.index, c.in-Some.value)) (record {
-      added = adds_more g.T.Ring.ring g.T.Ring.value g.T.Zero.zero_value
-          (g.T.Ring.value c.args.scale) c.args.indices.now c.args.values.now c.args.row.now
-          c.loop-index.row c.add_product.new.row n k v turn.0 turn.1 (turn.2 k) (turn.3 v) within
-          c.loop-index.auto.row c.add_product.ensures.written c.add_product.ensures.value
+      added = adds_more g.T.Ring.ring g.T.Ring.value c.args.indices.now c.args.values.now n
+          g.T.Zero.zero_value k v turn (g.T.Ring.value c.args.scale) c.args.row.now
+          c.loop-index.row c.add_product.new.row within c.loop-index.auto.row c.add_product.ensures.written c.add_product.ensures.value
           c.loop-index.invariant.added;
       counted = omega (arith, c.loop-index.invariant.counted, c.tick.ensures);
     })
@@ -48,9 +47,9 @@ returns g c =
     c.into_iter-index-iterator.result c.loop-index.index-iterator c.next.new.self c.next.result
     (search rules) (search rules) c.loop-index.yielded_by c.in-None.is c.next.ensures.steps in
     record {
-      added = adds_all g.T.Ring.ring g.T.Ring.value g.T.Zero.zero_value
-          (g.T.Ring.value c.args.scale) c.args.indices.now c.args.values.now c.args.row.now
-          c.loop-index.row (length c.loop-index.yielded) c.requires.fits count
+      added = adds_all g.T.Ring.ring g.T.Ring.value c.args.indices.now c.args.values.now
+          (length c.loop-index.yielded) g.T.Zero.zero_value c.requires.fits count
+          (g.T.Ring.value c.args.scale) c.args.row.now c.loop-index.row
           c.loop-index.invariant.added;
       counted = omega (arith, c.loop-index.invariant.counted, count, c.requires.fits);
     }

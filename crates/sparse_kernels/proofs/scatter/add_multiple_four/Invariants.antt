@@ -7,8 +7,8 @@ invariant-loop-index g l =
     let R = g.T.Ring.ring in
     let f = g.T.Ring.value in
     let z = g.T.Zero.zero_value in
-    let ks = take (length l.yielded) l.indices in
-    let vs = take (length l.yielded) l.values in
+    let ks = take (length l.yielded) l.lane.0.now in
+    let vs = take (length l.yielded) l.lane.1.now in
     record {
       first : AddsMultiple R f z (f l.a) ks vs l.initial.first l.first;
       second : AddsMultiple R f z (f l.b) ks vs l.initial.second l.second;

@@ -1,4 +1,4 @@
-use Rattle.std.proofs.Common.{◌-◌, length, arith}
+use Rattle.std.proofs.Common.{◌≡◌, ℕ, ◌-◌, ◌*◌, ◌<◌, All, length, arith}
 use Rattle.sparse_solve.specs.InnerColumns.{lower}
 use Rattle.sparse_solve.proofs.ColumnSteps.{dot_unit}
 use Rattle.sparse_solve.proofs.Taking.{backward_begun, backward_list, backward_solved}
@@ -16,48 +16,24 @@ loop-step-init g c =
       fourth = begun c.args.fourth.now;
     }
 
-pub dot_four-a-requires-clause-first : goal.dot_four-a-requires-clause-first
-dot_four-a-requires-clause-first g c = λ q d lt.
-    omega (
-      arith,
-      c.in-Some.ensures.some.inside q d lt,
-      c.loop-step.auto.first,
-      c.requires.rows,
-      c.requires.square,
-    )
-
-pub dot_four-a-requires-clause-second : goal.dot_four-a-requires-clause-second
-dot_four-a-requires-clause-second g c = λ q d lt.
-    omega (
-      arith,
-      c.in-Some.ensures.some.inside q d lt,
-      c.loop-step.auto.second,
-      c.requires.rows_2,
-      c.requires.rows,
-      c.requires.square,
-    )
-
-pub dot_four-a-requires-clause-third : goal.dot_four-a-requires-clause-third
-dot_four-a-requires-clause-third g c = λ q d lt.
-    omega (
-      arith,
-      c.in-Some.ensures.some.inside q d lt,
-      c.loop-step.auto.third,
-      c.requires.rows_3,
-      c.requires.rows,
-      c.requires.square,
-    )
-
-pub dot_four-a-requires-clause-fourth : goal.dot_four-a-requires-clause-fourth
-dot_four-a-requires-clause-fourth g c = λ q d lt.
-    omega (
-      arith,
-      c.in-Some.ensures.some.inside q d lt,
-      c.loop-step.auto.fourth,
-      c.requires.rows_4,
-      c.requires.rows,
-      c.requires.square,
-    )
+pub dot_four-a-requires : goal.dot_four-a-requires
+dot_four-a-requires g c =
+    let was = c.loop-step in
+    let need = c.requires in
+    let some = c.in-Some.ensures.some in
+    let inside : (n : ℕ) → n ≡ c.args.l.now.pattern.minor_dim
+        → All (λ k. k * 1 < n) c.in-Some.column.rows.now = λ n long q d lt.
+    omega (arith, some.inside q d lt, long) in
+    record {
+      fits = some.count;
+      first = inside (length was.first) (omega (arith, was.auto.first, need.rows, need.square));
+      second = inside (length was.second)
+          (omega (arith, was.auto.second, need.rows_2, need.rows, need.square));
+      third = inside (length was.third)
+          (omega (arith, was.auto.third, need.rows_3, need.rows, need.square));
+      fourth = inside (length was.fourth)
+          (omega (arith, was.auto.fourth, need.rows_4, need.rows, need.square));
+    }
 
 pub loop-step-preserved : goal.loop-step-preserved
 loop-step-preserved g c =
