@@ -1,9 +1,9 @@
 -- Dot products and multiples, term after term.
-use Rattle.std.proofs.Common.{◌≡◌, ℕ, suc, ◌+◌, ◌<◌, Bool, true, false, List}
+use Rattle.std.proofs.Common.{◌≡◌, ℕ, suc, ◌+◌, ◌<◌, List}
 use Rattle.std.proofs.Common.{ap, sym, ◌∙◌, arith}
 use Rattle.sparse_algebra.specs.Algebra.{CommRing}
 use Rattle.sparse_algebra.specs.Sums.{sum_below}
-use Rattle.sparse_algebra.specs.Plain.{Plain, plain_product, plain_transpose}
+use Rattle.sparse_algebra.specs.Plain.{Plain, plain_product}
 use Rattle.sparse_algebra.proofs.SumLemmas.{sum_below-same}
 use Rattle.sparse_pattern.specs.Raw.{lane_of}
 use Rattle.sparse_cs.specs.Compressed.{Compressed, IsSound}
@@ -11,7 +11,6 @@ use Rattle.sparse_cs.specs.PlainOfLanes.{plain_of_rows}
 use Rattle.sparse_cs.proofs.LaneValues.{values_of, row_sum}
 use Rattle.sparse_dense_products.specs.InnerUpdates.{times_vector}
 use Rattle.sparse_algebra.specs.Sums.{dot_of}
-use Rattle.sparse_algebra.specs.Prealloc.{plain_transpose_if}
 
 module _ (R : CommRing) {T : Type 0} (f : T → R.Carrier) where
   -- the dot product of a lane with a vector is an entry of the matrix times the vector
@@ -45,25 +44,6 @@ module _ (R : CommRing) where
   -- second factor
   pub product_entry : (a b : Plain R) (x : ℕ → R.Carrier) (i j : ℕ) → a.cols ≡ b.rows
       → ((k : ℕ) → k < b.rows → x k ≡ b.value k j)
-      → times_vector R a x i ≡ sum_below R a.cols (λ k. R.mul (a.value i k) (b.value k j))
+      → times_vector R a x i ≡ (plain_product R a b).value i j
   product_entry a b x i j inner column = sum_below-same R a.cols _ _
       (λ k lt. ap (R.mul (a.value i k)) (column k (omega arith)))
-
-  -- that product, where the first factor is transposed or not
-  pub gathered_entry : (transposed : Bool) (a b : Plain R) (x : ℕ → R.Carrier) (i j : ℕ)
-      → transposed ≡ false
-      → (plain_transpose_if R transposed a).cols ≡ b.rows
-      → ((k : ℕ) → k < b.rows → x k ≡ b.value k j)
-      → times_vector R a x i ≡ (plain_product R (plain_transpose_if R transposed a) b).value i j
-  gathered_entry true a b x i j e inner column = cc
-  gathered_entry false a b x i j e inner column = product_entry a b x i j inner column
-
-  pub scattered_entry : (transposed : Bool) (a b : Plain R) (x : ℕ → R.Carrier) (i j : ℕ)
-      → transposed ≡ true
-      → (plain_transpose_if R transposed a).cols ≡ b.rows
-      → ((k : ℕ) → k < b.rows → x k ≡ b.value k j)
-      → times_vector R (plain_transpose R a) x i
-      ≡ (plain_product R (plain_transpose_if R transposed a) b).value i j
-  scattered_entry true a b x i j e inner column = product_entry (plain_transpose R a) b x i j inner
-      column
-  scattered_entry false a b x i j e inner column = cc

@@ -1,23 +1,31 @@
 //! Products by rows of the sparse factor: an entry is the dot product of a row with a column.
 
-ghost use Rattle.std.specs.Prelude.{◌≡◌, ◌<◌, length};
+ghost use Rattle.std.specs.Prelude.{◌≡◌, ◌+◌, ◌<◌, ◌≤◌, ◌^◌, length};
+ghost use Rattle.sparse_algebra.specs.Plain.{plain_product};
 ghost use Rattle.sparse_cs.specs.PlainOfLanes.{plain_of_rows};
+ghost use Rattle.sparse_dense_products.specs.DenseOperands.{op_dense};
 ghost use Rattle.sparse_dense_products.specs.InnerUpdates.{HasStrided, IsUpdatedAt, IsUpdatedColumn};
 ghost use Rattle.sparse_dense_products.specs.InnerUpdates.{times_vector};
 ghost use Rattle.sparse_kernels.specs.InnerKernels.{strided};
 
+use crate::operand::{column_of, step_of};
+use crate::update::Change;
 use sparse_algebra::scalar::Ring;
 use sparse_cs::CsMatrix;
 use sparse_kernels::{dot, dot_four, lane_slices};
 
-// Updates a column of C by A times a column of op(B), whose entries stand `step` apart in `x`.
-pub fn gather_column<T: Ring>(beta: T, c: &mut [T], alpha: T, a: &CsMatrix<T>, x: &[T], step: usize)
-    requires rows { length c.old ≡ a.now.pattern.major_dim }
-    requires inside { HasStrided x.now step a.now.pattern.minor_dim }
-    ensures { IsUpdatedColumn T.ring T.value T.zero_value (T.value beta) (T.value alpha)
-        (times_vector T.ring (plain_of_rows T.ring T.value a.now)
-        (strided T.ring T.value T.zero_value x.now step)) c.old c.new }
+// Updates column j of C by A times column j of op(B).
+pub fn gather_column<T: Ring>(change: &Change<'_, T>, j: usize, c: &mut [T])
+    requires inner { change.now.a.now.pattern.minor_dim ≡ (op_dense T.ring T.value change.now.b).rows }
+    requires rows { length c.old ≡ change.now.a.now.pattern.major_dim }
+    requires column { j < (op_dense T.ring T.value change.now.b).cols }
+    ensures { IsUpdatedColumn T.ring T.value T.zero_value (T.value change.now.beta)
+        (T.value change.now.alpha)
+        (λ i. (plain_product T.ring (plain_of_rows T.ring T.value change.now.a.now)
+        (op_dense T.ring T.value change.now.b)).value i j) c.old c.new }
 {
+    let (a, beta, alpha) = (change.a, change.beta, change.alpha);
+    let (x, step) = (column_of(change.b, j), step_of(change.b));
     for i in 0..c.len() {
         let (indices, values) = lane_slices(a, i);
         let sum = dot(indices, values, x, step);
@@ -25,45 +33,49 @@ pub fn gather_column<T: Ring>(beta: T, c: &mut [T], alpha: T, a: &CsMatrix<T>, x
     }
 }
 
-// Updates four columns of C by A times four columns of op(B). Each row of A is read once for them.
+// Updates four columns of C, from column j on, by A times those of op(B). Each row of A is read once for them.
 pub fn gather_four<T: Ring>(
-    beta: T,
-    c0: &mut [T],
-    c1: &mut [T],
-    c2: &mut [T],
-    c3: &mut [T],
-    alpha: T,
-    a: &CsMatrix<T>,
-    x: (&[T], &[T], &[T], &[T]),
-    step: usize,
+    change: &Change<'_, T>,
+    j: usize,
+    first: &mut [T],
+    second: &mut [T],
+    third: &mut [T],
+    fourth: &mut [T],
 )
-    requires rows0 { length c0.old ≡ a.now.pattern.major_dim }
-    requires rows1 { length c1.old ≡ a.now.pattern.major_dim }
-    requires rows2 { length c2.old ≡ a.now.pattern.major_dim }
-    requires rows3 { length c3.old ≡ a.now.pattern.major_dim }
-    requires inside0 { HasStrided x.0.now step a.now.pattern.minor_dim }
-    requires inside1 { HasStrided x.1.now step a.now.pattern.minor_dim }
-    requires inside2 { HasStrided x.2.now step a.now.pattern.minor_dim }
-    requires inside3 { HasStrided x.3.now step a.now.pattern.minor_dim }
-    ensures column0 { IsUpdatedColumn T.ring T.value T.zero_value (T.value beta) (T.value alpha)
-        (times_vector T.ring (plain_of_rows T.ring T.value a.now)
-        (strided T.ring T.value T.zero_value x.entry.0.now step)) c0.old c0.new }
-    ensures column1 { IsUpdatedColumn T.ring T.value T.zero_value (T.value beta) (T.value alpha)
-        (times_vector T.ring (plain_of_rows T.ring T.value a.now)
-        (strided T.ring T.value T.zero_value x.entry.1.now step)) c1.old c1.new }
-    ensures column2 { IsUpdatedColumn T.ring T.value T.zero_value (T.value beta) (T.value alpha)
-        (times_vector T.ring (plain_of_rows T.ring T.value a.now)
-        (strided T.ring T.value T.zero_value x.entry.2.now step)) c2.old c2.new }
-    ensures column3 { IsUpdatedColumn T.ring T.value T.zero_value (T.value beta) (T.value alpha)
-        (times_vector T.ring (plain_of_rows T.ring T.value a.now)
-        (strided T.ring T.value T.zero_value x.entry.3.now step)) c3.old c3.new }
+    requires inner { change.now.a.now.pattern.minor_dim ≡ (op_dense T.ring T.value change.now.b).rows }
+    requires rows { length first.old ≡ change.now.a.now.pattern.major_dim }
+    requires rows_2 { length second.old ≡ length first.old }
+    requires rows_3 { length third.old ≡ length first.old }
+    requires rows_4 { length fourth.old ≡ length first.old }
+    requires columns { j + 4 ≤ (op_dense T.ring T.value change.now.b).cols }
+    requires fits { j + 3 < 2 ^ 64 }
+    ensures first { IsUpdatedColumn T.ring T.value T.zero_value (T.value change.now.beta)
+        (T.value change.now.alpha)
+        (λ i. (plain_product T.ring (plain_of_rows T.ring T.value change.now.a.now)
+        (op_dense T.ring T.value change.now.b)).value i j) first.old first.new }
+    ensures second { IsUpdatedColumn T.ring T.value T.zero_value (T.value change.now.beta)
+        (T.value change.now.alpha)
+        (λ i. (plain_product T.ring (plain_of_rows T.ring T.value change.now.a.now)
+        (op_dense T.ring T.value change.now.b)).value i (j + 1)) second.old second.new }
+    ensures third { IsUpdatedColumn T.ring T.value T.zero_value (T.value change.now.beta)
+        (T.value change.now.alpha)
+        (λ i. (plain_product T.ring (plain_of_rows T.ring T.value change.now.a.now)
+        (op_dense T.ring T.value change.now.b)).value i (j + 2)) third.old third.new }
+    ensures fourth { IsUpdatedColumn T.ring T.value T.zero_value (T.value change.now.beta)
+        (T.value change.now.alpha)
+        (λ i. (plain_product T.ring (plain_of_rows T.ring T.value change.now.a.now)
+        (op_dense T.ring T.value change.now.b)).value i (j + 3)) fourth.old fourth.new }
 {
-    for i in 0..c0.len() {
-        let (s0, s1, s2, s3) = row_times_four(a, i, x, step);
-        update_entry(beta, c0, i, alpha, s0);
-        update_entry(beta, c1, i, alpha, s1);
-        update_entry(beta, c2, i, alpha, s2);
-        update_entry(beta, c3, i, alpha, s3);
+    let (a, beta, alpha) = (change.a, change.beta, change.alpha);
+    let (b, step) = (change.b, step_of(change.b));
+    let (x0, x1) = (column_of(b, j), column_of(b, j + 1));
+    let (x2, x3) = (column_of(b, j + 2), column_of(b, j + 3));
+    for i in 0..first.len() {
+        let (s0, s1, s2, s3) = row_times_four(a, i, (x0, x1, x2, x3), step);
+        update_entry(beta, first, i, alpha, s0);
+        update_entry(beta, second, i, alpha, s1);
+        update_entry(beta, third, i, alpha, s2);
+        update_entry(beta, fourth, i, alpha, s3);
     }
 }
 
@@ -84,17 +96,17 @@ fn row_times_four<T: Ring>(
     step: usize,
 ) -> (T, T, T, T)
     requires row { i < a.now.pattern.major_dim }
-    requires inside0 { HasStrided x.0.now step a.now.pattern.minor_dim }
-    requires inside1 { HasStrided x.1.now step a.now.pattern.minor_dim }
-    requires inside2 { HasStrided x.2.now step a.now.pattern.minor_dim }
-    requires inside3 { HasStrided x.3.now step a.now.pattern.minor_dim }
-    ensures sum0 { T.value result.0 ≡ times_vector T.ring (plain_of_rows T.ring T.value a.now)
+    requires first { HasStrided x.0.now step a.now.pattern.minor_dim }
+    requires second { HasStrided x.1.now step a.now.pattern.minor_dim }
+    requires third { HasStrided x.2.now step a.now.pattern.minor_dim }
+    requires fourth { HasStrided x.3.now step a.now.pattern.minor_dim }
+    ensures first { T.value result.0 ≡ times_vector T.ring (plain_of_rows T.ring T.value a.now)
         (strided T.ring T.value T.zero_value x.entry.0.now step) i }
-    ensures sum1 { T.value result.1 ≡ times_vector T.ring (plain_of_rows T.ring T.value a.now)
+    ensures second { T.value result.1 ≡ times_vector T.ring (plain_of_rows T.ring T.value a.now)
         (strided T.ring T.value T.zero_value x.entry.1.now step) i }
-    ensures sum2 { T.value result.2 ≡ times_vector T.ring (plain_of_rows T.ring T.value a.now)
+    ensures third { T.value result.2 ≡ times_vector T.ring (plain_of_rows T.ring T.value a.now)
         (strided T.ring T.value T.zero_value x.entry.2.now step) i }
-    ensures sum3 { T.value result.3 ≡ times_vector T.ring (plain_of_rows T.ring T.value a.now)
+    ensures fourth { T.value result.3 ≡ times_vector T.ring (plain_of_rows T.ring T.value a.now)
         (strided T.ring T.value T.zero_value x.entry.3.now step) i }
 {
     let (indices, values) = lane_slices(a, i);

@@ -1,33 +1,31 @@
 //! Products by columns of the sparse factor: a column of it is added to a column of the result, times one entry.
 
-ghost use Rattle.std.specs.Prelude.{◌≡◌, length};
+ghost use Rattle.std.specs.Prelude.{◌≡◌, ◌<◌, length};
+ghost use Rattle.sparse_algebra.specs.Plain.{plain_product};
 ghost use Rattle.sparse_cs.specs.PlainOfLanes.{plain_of_cols};
-ghost use Rattle.sparse_dense_products.specs.InnerUpdates.{HasStrided, IsUpdatedColumn};
-ghost use Rattle.sparse_dense_products.specs.InnerUpdates.{times_vector};
-ghost use Rattle.sparse_kernels.specs.InnerKernels.{strided};
+ghost use Rattle.sparse_dense_products.specs.DenseOperands.{op_dense};
+ghost use Rattle.sparse_dense_products.specs.InnerUpdates.{IsUpdatedColumn};
 
+use crate::operand::{column_of, step_of};
+use crate::update::Change;
 use sparse_algebra::scalar::Ring;
 use sparse_base::steps::Steps;
-use sparse_cs::CsMatrix;
 use sparse_cs::scaling::scale_values;
 use sparse_kernels::{add_multiple, lane_slices};
 
-// Updates a column of C by the transpose of A times a column of op(B), whose entries stand `step` apart in `x`.
-pub fn scatter_column<T: Ring>(
-    beta: T,
-    c: &mut [T],
-    alpha: T,
-    a: &CsMatrix<T>,
-    x: &[T],
-    step: usize,
-)
-    requires rows { length c.old ≡ a.now.pattern.minor_dim }
-    requires inside { HasStrided x.now step a.now.pattern.major_dim }
-    ensures { IsUpdatedColumn T.ring T.value T.zero_value (T.value beta) (T.value alpha)
-        (times_vector T.ring (plain_of_cols T.ring T.value a.now)
-        (strided T.ring T.value T.zero_value x.now step)) c.old c.new }
+// Updates column j of C by the transpose of A times column j of op(B).
+pub fn scatter_column<T: Ring>(change: &Change<'_, T>, j: usize, c: &mut [T])
+    requires inner { change.now.a.now.pattern.major_dim ≡ (op_dense T.ring T.value change.now.b).rows }
+    requires rows { length c.old ≡ change.now.a.now.pattern.minor_dim }
+    requires column { j < (op_dense T.ring T.value change.now.b).cols }
+    ensures { IsUpdatedColumn T.ring T.value T.zero_value (T.value change.now.beta)
+        (T.value change.now.alpha)
+        (λ i. (plain_product T.ring (plain_of_cols T.ring T.value change.now.a.now)
+        (op_dense T.ring T.value change.now.b)).value i j) c.old c.new }
 {
-    scale_values(beta, c);
+    scale_values(change.beta, c);
+    let (x, step) = (column_of(change.b, j), step_of(change.b));
+    let (a, alpha) = (change.a, change.alpha);
     let lanes = a.pattern().major_dim();
     for k in 0..lanes {
         let (rows, values) = lane_slices(a, k);

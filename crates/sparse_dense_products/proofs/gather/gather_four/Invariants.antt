@@ -1,6 +1,8 @@
+use Rattle.std.proofs.Common.{◌+◌}
+use Rattle.sparse_algebra.specs.Plain.{plain_product}
 use Rattle.sparse_cs.specs.PlainOfLanes.{plain_of_rows}
-use Rattle.sparse_dense_products.specs.InnerUpdates.{IsUpdatedBelow, times_vector}
-use Rattle.sparse_kernels.specs.InnerKernels.{strided}
+use Rattle.sparse_dense_products.specs.DenseOperands.{op_dense}
+use Rattle.sparse_dense_products.specs.InnerUpdates.{IsUpdatedBelow}
 use Rattle.sparse_dense_products.proofs.gather.gather_four.Given as goal
 
 abbrev pub invariant-loop-i : goal.invariant-loop-i
@@ -8,14 +10,15 @@ invariant-loop-i g l =
     let R = g.T.Ring.ring in
     let f = g.T.Ring.value in
     let z = g.T.Zero.zero_value in
-    let a = plain_of_rows R f l.a in
+    let product = plain_product R (plain_of_rows R f l.fn.change.a.now)
+    (op_dense R f l.fn.change.b) in
     record {
-      column0 : IsUpdatedBelow R f z (f l.beta) (f l.alpha) l.i
-          (times_vector R a (strided R f z l.x.0.now l.step)) l.initial.c0 l.c0;
-      column1 : IsUpdatedBelow R f z (f l.beta) (f l.alpha) l.i
-          (times_vector R a (strided R f z l.x.1.now l.step)) l.initial.c1 l.c1;
-      column2 : IsUpdatedBelow R f z (f l.beta) (f l.alpha) l.i
-          (times_vector R a (strided R f z l.x.2.now l.step)) l.initial.c2 l.c2;
-      column3 : IsUpdatedBelow R f z (f l.beta) (f l.alpha) l.i
-          (times_vector R a (strided R f z l.x.3.now l.step)) l.initial.c3 l.c3;
+      first : IsUpdatedBelow R f z (f l.fn.change.beta) (f l.fn.change.alpha) l.i
+          (λ i. product.value i l.fn.j) l.initial.first l.first;
+      second : IsUpdatedBelow R f z (f l.fn.change.beta) (f l.fn.change.alpha) l.i
+          (λ i. product.value i (l.fn.j + 1)) l.initial.second l.second;
+      third : IsUpdatedBelow R f z (f l.fn.change.beta) (f l.fn.change.alpha) l.i
+          (λ i. product.value i (l.fn.j + 2)) l.initial.third l.third;
+      fourth : IsUpdatedBelow R f z (f l.fn.change.beta) (f l.fn.change.alpha) l.i
+          (λ i. product.value i (l.fn.j + 3)) l.initial.fourth l.fourth;
     }

@@ -12,13 +12,15 @@ loop-j-preserved g c =
     let R = g.T.Ring.ring in
     let f = g.T.Ring.value in
     let z = g.T.Zero.zero_value in
-    let product = plain_product R (plain_transpose_if R c.args.transposed (plain_of_rows R f c.args.a.now))
-    (op_dense R f c.args.b) in
+    let change = c.args.change.now in
+    let product = plain_product R
+    (plain_transpose_if R change.transposed (plain_of_rows R f change.a.now))
+    (op_dense R f change.b) in
     let room : c.loop-j.j + c.width_of_block-width.result ≤ c.args.size.1 =
     omega (arith, c.width_of_block-width.ensures.within, c.loop-j-test.true) in
     record {
       within = room;
-      done = block_more R f z (f c.args.beta) (f c.args.alpha) c.args.size.0 c.args.size.1
+      done = block_more R f z (f change.beta) (f change.alpha) c.args.size.0 c.args.size.1
           c.loop-j.j c.width_of_block-width.result product.value c.args.c.now c.loop-j.c
           c.update_block.new.c c.requires.count room c.loop-j.invariant.done c.update_block.ensures;
     }

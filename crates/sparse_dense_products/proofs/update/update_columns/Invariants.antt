@@ -12,10 +12,10 @@ invariant-loop-j g l =
     let f = g.T.Ring.value in
     record {
       within : l.j ≤ l.ncols;
-      done : AreUpdatedBelow R f g.T.Zero.zero_value (f l.beta) (f l.alpha) l.nrows l.j
-          (plain_product R (plain_transpose_if R l.transposed (plain_of_rows R f l.a))
-          (op_dense R f l.b)).value
-          l.initial.c l.c;
+      done : AreUpdatedBelow R f g.T.Zero.zero_value (f l.change.beta) (f l.change.alpha) l.nrows
+          l.j (plain_product R
+          (plain_transpose_if R l.change.transposed (plain_of_rows R f l.change.a.now))
+          (op_dense R f l.change.b)).value l.initial.c l.c;
     }
 
 abbrev pub decreases-loop-j : goal.decreases-loop-j
