@@ -10,6 +10,7 @@ pub mod IndexSums
 pub mod Merging
 pub mod MergedLanes
 pub mod Compressing
+pub mod Refusals
 mod TransposedTriplets
 mod StoredTriplets
 mod Reaching

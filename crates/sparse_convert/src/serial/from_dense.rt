@@ -66,6 +66,7 @@ fn push_column<T: Zero + Copy>(
 /// Returns the CSC matrix of the values that are not `==` to zero.
 ///
 /// One pass over the values. Memory grows with the stored places. Fails only if an allocation fails.
+#[tactic(auto, using(crate::proofs::Refusals::refused))]
 pub fn convert_dense_csc<T: Zero + Copy>(
     alloc: Global,
     dense: &DMatrix<T>,
@@ -94,6 +95,7 @@ pub fn convert_dense_csc<T: Zero + Copy>(
 ///     Ok(csr.col_indices() == [1].as_slice())
 /// }
 /// ```
+#[tactic(auto, using(crate::proofs::Refusals::refused))]
 pub fn convert_dense_csr<T: Zero + Copy>(
     alloc: Global,
     dense: &DMatrix<T>,
@@ -111,6 +113,7 @@ pub fn convert_dense_csr<T: Zero + Copy>(
 
 // The compressed matrix of the nonzero values. Lanes start `lane_step` apart, and the values of a lane are `step`
 // apart.
+#[tactic(auto, using(crate::proofs::Refusals::refused))]
 fn compress_lanes<T: Zero + Copy>(
     alloc: Global,
     major_dim: usize,
@@ -145,6 +148,7 @@ fn compress_lanes<T: Zero + Copy>(
 }
 
 // Appends the indices and values of the nonzero values of a lane, which starts at `start` with its values `step` apart.
+#[tactic(auto, using(crate::proofs::Refusals::refused))]
 fn push_lane<T: Zero + Copy>(
     values: &[T],
     start: usize,

@@ -50,6 +50,7 @@ pub fn convert_csc_coo<T: Copy>(
 }
 
 // The lane, the index and the value of each stored place, lane by lane.
+#[tactic(auto, using(crate::proofs::Refusals::refused))]
 fn triplet_lists<T: Copy>(
     alloc: Global,
     cs: &CsMatrix<T>,

@@ -1,7 +1,6 @@
 use Rattle.std.proofs.Common.{◌≡◌, [], ◌∷◌, ◌++◌, ◌+◌, ◌-◌, length, ap, sym, ◌∙◌, subst, refl}
 use Rattle.std.proofs.Common.{slice_index, arith}
 use Rattle.std.proofs.lemmas.List.Edits.{length-between}
-use Rattle.std.proofs.lemmas.Result.{IfOk-from_err}
 use Rattle.sparse_cs.specs.Compressed.{IsSound, compressed_of}
 use Rattle.sparse_convert.specs.InnerTripletLanes.{entries_of_lane}
 use Rattle.sparse_convert.specs.InnerMerged.{AreMerged}
@@ -13,21 +12,6 @@ use Rattle.sparse_convert.proofs.merge.merge_lanes.Goals as goal
 
 pub overflow_sub-major_dim : goal.overflow_sub-major_dim
 overflow_sub-major_dim g c = omega (arith, c.requires.offsets.count)
-
-pub returns-in_err-starts : goal.returns-in_err-starts
-returns-in_err-starts g c =
-    let err = c.from_residual.ensures.0 in
-    record { plain = IfOk-from_err _ _ err; sound = IfOk-from_err _ _ err }
-
-pub returns-in_err-indices : goal.returns-in_err-indices
-returns-in_err-indices g c =
-    let err = c.from_residual-in_err-indices.ensures.0 in
-    record { plain = IfOk-from_err _ _ err; sound = IfOk-from_err _ _ err }
-
-pub returns-in_err-values : goal.returns-in_err-values
-returns-in_err-values g c =
-    let err = c.from_residual-in_err-values.ensures.0 in
-    record { plain = IfOk-from_err _ _ err; sound = IfOk-from_err _ _ err }
 
 pub push_reserved-requires : goal.push_reserved-requires
 push_reserved-requires g c = omega (

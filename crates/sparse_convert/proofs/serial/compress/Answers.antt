@@ -1,4 +1,3 @@
-use Rattle.std.proofs.lemmas.Result.{IfOk-from_err}
 use Rattle.std.proofs.Common.{◌≡◌, ◌<◌, ◌-◌, ℕ, All, length, ap, sym, ◌∙◌, arith}
 use Rattle.std.proofs.lemmas.List.Sorted.{All-permutation}
 use Rattle.std.proofs.lemmas.Result.{IfOk-weaker}
@@ -9,14 +8,6 @@ use Rattle.sparse_convert.specs.InnerTripletLanes.{entries_of_lane, triplets_of_
 use Rattle.sparse_convert.specs.InnerTripletLanes.{plain_of_lanes}
 use Rattle.sparse_convert.proofs.Compressing.{lane_below, lanes_stand}
 use Rattle.sparse_convert.proofs.serial.compress.Goals as goal
-
-pub returns-in_err-lanes : goal.returns-in_err-lanes
-returns-in_err-lanes g c =
-    let err = c.from_residual.ensures.0 in
-    record {
-      plain = IfOk-from_err _ _ err;
-      sound = IfOk-from_err _ _ err;
-    }
 
 pub merge_lanes-requires-clause-offsets : goal.merge_lanes-requires-clause-offsets
 merge_lanes-requires-clause-offsets g c =

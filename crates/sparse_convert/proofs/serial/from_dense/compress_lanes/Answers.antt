@@ -1,6 +1,5 @@
 use Rattle.std.proofs.Common.{◌≡◌, ℕ, ◌+◌, ◌*◌, ◌++◌, [], ◌∷◌, length, map, get_or, ap, sym, subst}
 use Rattle.std.proofs.Common.{◌∙◌, refl, arith}
-use Rattle.std.proofs.lemmas.Result.{IfOk-from_err}
 use Rattle.std.specs.List.{filter}
 use Rattle.sparse_pattern.specs.Raw.{raw_of, IsValid}
 use Rattle.sparse_cs.specs.Compressed.{compressed_of, arrays_of, lane_triplets}
@@ -8,46 +7,6 @@ use Rattle.sparse_convert.specs.FromDense.{full_lanes, differs_from}
 use Rattle.sparse_convert.proofs.FullLanes.{kept_indices, kept_lane, rising_kept, bounded_kept}
 use Rattle.sparse_convert.proofs.LaneGrowth.{sound_grown, triplets_grown}
 use Rattle.sparse_convert.proofs.serial.from_dense.compress_lanes.Goals as goal
-
-pub returns-in_err-offsets : goal.returns-in_err-offsets
-returns-in_err-offsets g c =
-    let err = c.from_residual.ensures.0 in
-    record {
-      major_dim = IfOk-from_err _ _ err;
-      minor_dim = IfOk-from_err _ _ err;
-      kept = IfOk-from_err _ _ err;
-      sound = IfOk-from_err _ _ err;
-    }
-
-pub returns-in_err-push : goal.returns-in_err-push
-returns-in_err-push g c =
-    let err = c.from_residual-in_err-push.ensures.0 in
-    record {
-      major_dim = IfOk-from_err _ _ err;
-      minor_dim = IfOk-from_err _ _ err;
-      kept = IfOk-from_err _ _ err;
-      sound = IfOk-from_err _ _ err;
-    }
-
-pub returns-in_err-push_lane : goal.returns-in_err-push_lane
-returns-in_err-push_lane g c =
-    let err = c.from_residual-in_err-push_lane.ensures.0 in
-    record {
-      major_dim = IfOk-from_err _ _ err;
-      minor_dim = IfOk-from_err _ _ err;
-      kept = IfOk-from_err _ _ err;
-      sound = IfOk-from_err _ _ err;
-    }
-
-pub returns-in_err-push-2 : goal.returns-in_err-push-2
-returns-in_err-push-2 g c =
-    let err = c.from_residual-in_err-push-2.ensures.0 in
-    record {
-      major_dim = IfOk-from_err _ _ err;
-      minor_dim = IfOk-from_err _ _ err;
-      kept = IfOk-from_err _ _ err;
-      sound = IfOk-from_err _ _ err;
-    }
 
 pub loop-lane-preserved : goal.loop-lane-preserved
 loop-lane-preserved g c =

@@ -1,4 +1,3 @@
-use Rattle.std.proofs.lemmas.Result.{IfOk-from_err}
 use Rattle.std.proofs.lemmas.Grind.{common_steps}
 use Rattle.std.proofs.Common.{map, ap, sym, ◌∙◌, arith}
 use Rattle.std.specs.List.{filter}
@@ -6,16 +5,6 @@ use Rattle.sparse_cs.specs.Compressed.{transposed}
 use Rattle.sparse_convert.specs.FromDense.{differs_from}
 use Rattle.sparse_convert.proofs.FullLanes.{kept_columns, lanes_by_columns}
 use Rattle.sparse_convert.proofs.serial.from_dense.convert_dense_csc.Goals as goal
-
-pub returns-in_err-cs : goal.returns-in_err-cs
-returns-in_err-cs g c =
-    let err = c.from_residual.ensures.0 in
-    record {
-      rows = IfOk-from_err _ _ err;
-      cols = IfOk-from_err _ _ err;
-      kept = IfOk-from_err _ _ err;
-      sound = IfOk-from_err _ _ err;
-    }
 
 pub returns-clause-kept : goal.returns-clause-kept
 returns-clause-kept g c =

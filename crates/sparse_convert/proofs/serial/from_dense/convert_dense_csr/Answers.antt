@@ -1,19 +1,8 @@
-use Rattle.std.proofs.lemmas.Result.{IfOk-from_err}
 use Rattle.std.proofs.Common.{ap, ◌∙◌}
 use Rattle.std.specs.List.{filter}
 use Rattle.sparse_convert.specs.FromDense.{differs_from}
 use Rattle.sparse_convert.proofs.FullLanes.{lanes_by_rows}
 use Rattle.sparse_convert.proofs.serial.from_dense.convert_dense_csr.Goals as goal
-
-pub returns-in_err-cs : goal.returns-in_err-cs
-returns-in_err-cs g c =
-    let err = c.from_residual.ensures.0 in
-    record {
-      rows = IfOk-from_err _ _ err;
-      cols = IfOk-from_err _ _ err;
-      kept = IfOk-from_err _ _ err;
-      sound = IfOk-from_err _ _ err;
-    }
 
 pub returns-clause-rows : goal.returns-clause-rows
 returns-clause-rows g c = rw c.from_cs.ensures
