@@ -6,3 +6,4 @@ pub mod Placing
 pub mod InOrder
 pub mod Updating
 pub mod Sampling
+pub mod Refusals

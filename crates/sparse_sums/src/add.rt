@@ -122,6 +122,7 @@ pub fn sub_csc<T: Ring>(
 }
 
 // The sum of two matrices with the same sizes, or their difference.
+#[tactic(auto, using(crate::proofs::Refusals::refused))]
 fn merge<T: Ring, const NEGATE: bool>(
     alloc: Global,
     a: &CsMatrix<T>,
@@ -150,6 +151,7 @@ fn merge<T: Ring, const NEGATE: bool>(
 
 // Fills empty arrays with the lanes of the sum or the difference. Inlined, as each lane is: where
 // lanes are short, a call takes as long as the lane.
+#[tactic(auto, using(crate::proofs::Refusals::refused))]
 #[inline(always)]
 fn merge_lanes<T: Ring, const NEGATE: bool>(
     a: &CsMatrix<T>,

@@ -43,6 +43,7 @@ fn push_rest<T: Ring, const NEGATE: bool>(
 
 // Appends the entries of both lanes, those of `b` with their sign, in increasing order of index.
 // Two of one index are added.
+#[tactic(auto, using(crate::proofs::Refusals::refused))]
 pub(crate) fn add_lanes<T: Ring, const NEGATE: bool>(
     a: &[usize],
     a_values: &[T],

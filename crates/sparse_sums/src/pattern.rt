@@ -18,6 +18,7 @@ use std::alloc::{AllocError, Global};
 /// One merge of two sorted lanes for each lane: linear in places and lanes. Memory for the indices
 /// is asked for once, for as many as both patterns have together. Fails only if an allocation
 /// fails.
+#[tactic(auto, using(crate::proofs::Refusals::refused))]
 pub fn spadd_pattern(
     alloc: Global,
     a: &SparsityPattern,

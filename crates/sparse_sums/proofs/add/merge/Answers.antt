@@ -1,21 +1,8 @@
-use Rattle.std.proofs.lemmas.Result.{IfOk-from_err}
 use Rattle.std.proofs.Common.{◌≡◌, ap, ◌∙◌}
 use Rattle.sparse_pattern.specs.Raw.{Raw, raw_of}
 use Rattle.sparse_cs.specs.Compressed.{compressed_of}
 use Rattle.sparse_cs.specs.PlainOfLanes.{plain_of_rows}
 use Rattle.sparse_sums.proofs.add.merge.Goals as goal
-
-pub returns-in_err-offsets : goal.returns-in_err-offsets
-returns-in_err-offsets g c = IfOk-from_err _ _ c.from_residual.ensures.0
-
-pub returns-in_err-indices : goal.returns-in_err-indices
-returns-in_err-indices g c = IfOk-from_err _ _ c.from_residual-in_err-indices.ensures.0
-
-pub returns-in_err-values : goal.returns-in_err-values
-returns-in_err-values g c = IfOk-from_err _ _ c.from_residual-in_err-values.ensures.0
-
-pub returns-in_err-merge_lanes : goal.returns-in_err-merge_lanes
-returns-in_err-merge_lanes g c = IfOk-from_err _ _ c.from_residual-in_err-merge_lanes.ensures.0
 
 pub from_offset_and_indices_unchecked-pattern-requires :
     goal.from_offset_and_indices_unchecked-pattern-requires

@@ -1,32 +1,7 @@
-use Rattle.std.proofs.lemmas.Result.{IfOk-from_err}
 use Rattle.std.proofs.Common.{◌≡◌, ◌<◌, not, eqb, ◌++◌, ◌∷◌, [], length, sym, ap, ◌∙◌, arith}
 use Rattle.sparse_pattern.specs.Raw.{Raw}
 use Rattle.sparse_sums.proofs.SumLanes.{none_summed, sum_more, sum_is, sum_sound, gained_count}
 use Rattle.sparse_sums.proofs.add.merge_lanes.Goals as goal
-
-pub returns-in_err-push : goal.returns-in_err-push
-returns-in_err-push g c =
-    let err = c.from_residual.ensures.0 in
-    record {
-      sound = IfOk-from_err _ _ err;
-      sum = IfOk-from_err _ _ err;
-    }
-
-pub returns-in_err-merge_lane : goal.returns-in_err-merge_lane
-returns-in_err-merge_lane g c =
-    let err = c.from_residual-in_err-merge_lane.ensures.0 in
-    record {
-      sound = IfOk-from_err _ _ err;
-      sum = IfOk-from_err _ _ err;
-    }
-
-pub returns-in_err-push-2 : goal.returns-in_err-push-2
-returns-in_err-push-2 g c =
-    let err = c.from_residual-in_err-push-2.ensures.0 in
-    record {
-      sound = IfOk-from_err _ _ err;
-      sum = IfOk-from_err _ _ err;
-    }
 
 pub loop-i-init : goal.loop-i-init
 loop-i-init g c =

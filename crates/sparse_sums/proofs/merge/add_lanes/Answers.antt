@@ -2,20 +2,11 @@ use Rattle.std.proofs.Common.{not, eqb, ◌++◌, length, drop, Contains, ◌⊎
 use Rattle.std.proofs.Common.{arith}
 use borrow.Author.Rules.{scaled_fits≤}
 use Rattle.std.proofs.lemmas.List.{take_rest, length-drop}
-use Rattle.std.proofs.lemmas.Result.{IfOk-from_err}
 use Rattle.sparse_cs.specs.InnerRows.{lane_value}
 use Rattle.sparse_sums.specs.InnerSigns.{signed}
 use Rattle.sparse_sums.specs.InnerAdding.{GainsValues, GainsEntries}
 use Rattle.sparse_sums.proofs.Adding.{rest_added}
 use Rattle.sparse_sums.proofs.merge.add_lanes.Goals as goal
-
-pub returns-in_err-reserve : goal.returns-in_err-reserve
-returns-in_err-reserve g c = record { gained = IfOk-from_err _ _ c.from_residual.ensures.0 }
-
-pub returns-in_err-reserve-2 : goal.returns-in_err-reserve-2
-returns-in_err-reserve-2 g c = record {
-  gained = IfOk-from_err _ _ c.from_residual-in_err-reserve-2.ensures.0;
-}
 
 pub add_fronts-p-requires : goal.add_fronts-p-requires
 add_fronts-p-requires g c = record {

@@ -1,60 +1,9 @@
-use Rattle.std.proofs.lemmas.Result.{IfOk-from_err}
 use Rattle.std.proofs.Common.{◌≡◌, ◌++◌, ◌∷◌, [], ◌∙◌, ap, arith}
 use Rattle.sparse_pattern.specs.Raw.{raw_of}
 use Rattle.sparse_pattern.proofs.PatternLanes.{length-lane}
 use Rattle.sparse_cs.proofs.LaneSearch.{rising_lane}
 use Rattle.sparse_sums.proofs.UnionLanes.{union_more, union_all}
 use Rattle.sparse_sums.proofs.pattern.spadd_pattern.Goals as goal
-
-pub returns-in_err-indices : goal.returns-in_err-indices
-returns-in_err-indices c =
-    let err = c.from_residual-in_err-indices.ensures.0 in
-    record {
-      major = IfOk-from_err _ _ err;
-      minor = IfOk-from_err _ _ err;
-      places = IfOk-from_err _ _ err;
-      valid = IfOk-from_err _ _ err;
-    }
-
-pub returns-in_err-merge_lanes : goal.returns-in_err-merge_lanes
-returns-in_err-merge_lanes c =
-    let err = c.from_residual-in_err-merge_lanes.ensures.0 in
-    record {
-      major = IfOk-from_err _ _ err;
-      minor = IfOk-from_err _ _ err;
-      places = IfOk-from_err _ _ err;
-      valid = IfOk-from_err _ _ err;
-    }
-
-pub returns-in_err-offsets : goal.returns-in_err-offsets
-returns-in_err-offsets c =
-    let err = c.from_residual.ensures.0 in
-    record {
-      major = IfOk-from_err _ _ err;
-      minor = IfOk-from_err _ _ err;
-      places = IfOk-from_err _ _ err;
-      valid = IfOk-from_err _ _ err;
-    }
-
-pub returns-in_err-push-2 : goal.returns-in_err-push-2
-returns-in_err-push-2 c =
-    let err = c.from_residual-in_err-push-2.ensures.0 in
-    record {
-      major = IfOk-from_err _ _ err;
-      minor = IfOk-from_err _ _ err;
-      places = IfOk-from_err _ _ err;
-      valid = IfOk-from_err _ _ err;
-    }
-
-pub returns-in_err-push : goal.returns-in_err-push
-returns-in_err-push c =
-    let err = c.from_residual-in_err-push.ensures.0 in
-    record {
-      major = IfOk-from_err _ _ err;
-      minor = IfOk-from_err _ _ err;
-      places = IfOk-from_err _ _ err;
-      valid = IfOk-from_err _ _ err;
-    }
 
 pub merge_lanes-requires-clause-a_rising : goal.merge_lanes-requires-clause-a_rising
 merge_lanes-requires-clause-a_rising c =
