@@ -11,7 +11,7 @@ use Rattle.sparse_base.specs.Dense.{Dense, HasValues, value_at, with_value_at}
 use Rattle.sparse_base.specs.DensePlain.{plain_of_dense}
 use Rattle.sparse_base.proofs.DenseLemmas.{set_values}
 use Rattle.sparse_algebra.specs.Inverses.{HasInverse}
-use Rattle.sparse_solve.specs.InnerColumns.{entries}
+use Rattle.sparse_solve.specs.InnerColumns.{elements}
 use Rattle.sparse_solve.proofs.RingSteps.{back, moved_over}
 use Rattle.sparse_solve.proofs.PlainSolutions.{dense_inside}
 use Rattle.sparse_ldl.specs.Factors.{diagonal}
@@ -86,10 +86,10 @@ module _ (R : CommRing) {T : Type 0} (f : T → R.Carrier) (z : T) (none : f z �
     pub no_columns : (HasInverse R f (f p) → ⊥) → HasNoColumns R f a
     no_columns singular c e whole =
         no_factorisation R f a.nrows j (dense_symmetric R f a).value (plain_of_dense R f l).value c
-        (entries R f z d) e (f p) lt first.part
-        (ap (R.add (sum_below R j (term R (plain_of_dense R f l).value (entries R f z d) j j)))
+        (elements R f z d) e (f p) lt first.part
+        (ap (R.add (sum_below R j (term R (plain_of_dense R f l).value (elements R f z d) j j)))
         pivot ∙ left_of-sum R (dense_symmetric R f a).value (plain_of_dense R f l).value
-        (entries R f z d) j j) singular whole
+        (elements R f z d) j j) singular whole
 
     -- a pivot with an inverse
     module _ (e one : T) (next : Dense T) (inverse : R.mul (f p) (f e) ≡ R.one)
@@ -109,13 +109,13 @@ module _ (R : CommRing) {T : Type 0} (f : T → R.Carrier) (z : T) (none : f z �
       pivot_in = omega (arith, lt, first.size.pivots)
 
       next_part : ArePartFactors R f a.nrows (suc j) (dense_symmetric R f a).value
-          (plain_of_dense R f (with_value_at next j j one)).value (entries R f z (set d j p))
+          (plain_of_dense R f (with_value_at next j j one)).value (elements R f z (set d j p))
       next_part =
           part_step R f a.nrows j (dense_symmetric R f a).value (plain_of_dense R f l).value
-          (plain_of_dense R f (with_value_at next j j one)).value (entries R f z d)
-          (entries R f z (set d j p)) (left_at R f z a l d j) e lt first.part
+          (plain_of_dense R f (with_value_at next j j one)).value (elements R f z d)
+          (elements R f z (set d j p)) (left_at R f z a l d j) e lt first.part
           (λ i _ _. left_of-sum R (dense_symmetric R f a).value (plain_of_dense R f l).value
-          (entries R f z d) j i)
+          (elements R f z d) j i)
           (ap (λ x. R.mul x (f e)) (sym pivot) ∙ inverse)
           (λ i c ne. off i c (λ _ same. ne same)
           ∙ divided.kept i c (λ same _. ne same))
@@ -141,7 +141,7 @@ module _ (R : CommRing) {T : Type 0} (f : T → R.Carrier) (z : T) (none : f z �
             part = let is : suc j ≡ j + 1 = omega arith in
                 subst (λ n. ArePartFactors R f a.nrows n (dense_symmetric R f a).value
                 (plain_of_dense R f (with_value_at next j j one)).value
-                (entries R f z (set d j p))) is next_part;
+                (elements R f z (set d j p))) is next_part;
             above = λ i c less. off i c (λ a b. absurd (omega (arith, a, b, less)))
                 ∙ divided.kept i c (λ is more. absurd (omega (arith, is, more, less)))
                 ∙ first.above i c less;

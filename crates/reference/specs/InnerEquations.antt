@@ -5,7 +5,7 @@ use Rattle.sparse_algebra.specs.Sums.{sum_below}
 use Rattle.sparse_base.specs.Dense.{Dense}
 use Rattle.sparse_base.specs.DensePlain.{plain_of_dense}
 use Rattle.sparse_ldl.specs.InnerColumns.{ArePartFactors, term}
-use Rattle.sparse_solve.specs.InnerColumns.{entries}
+use Rattle.sparse_solve.specs.InnerColumns.{elements}
 use Rattle.reference.specs.DenseFactors.{dense_symmetric}
 
 -- the matrices a and L and the diagonal d have one size
@@ -26,7 +26,7 @@ module _ (R : CommRing) {T : Type 0} (f : T → R.Carrier) (z : T) where
   -- the same of dense matrices
   abbrev pub left_at : Dense T → Dense T → List T → ℕ → ℕ → R.Carrier
   left_at a l d j i = left_of R (dense_symmetric R f a).value (plain_of_dense R f l).value
-      (entries R f z d) j i
+      (elements R f z d) j i
 
   -- column j below the diagonal becomes what is left there, times e, and the rest is unchanged
   pub record IsColumnDivided (a : Dense T) (d : List T) (j : ℕ) (e : R.Carrier) (x y : Dense T)
@@ -43,7 +43,7 @@ module _ (R : CommRing) {T : Type 0} (f : T → R.Carrier) (z : T) where
   pub record AreFirstFactors (a l : Dense T) (d : List T) (j : ℕ) : Type 0 where
     pub size : HaveOneSize a l d
     pub part : ArePartFactors R f a.nrows j (dense_symmetric R f a).value
-        (plain_of_dense R f l).value (entries R f z d)
+        (plain_of_dense R f l).value (elements R f z d)
     pub above : (i c : ℕ) → i < c → (plain_of_dense R f l).value i c ≡ R.zero
 
 module _ (R : CommRing) {T : Type 0} (f : T → R.Carrier) where

@@ -10,7 +10,7 @@ use Rattle.sparse_pattern.proofs.Positions.{one_lane}
 use Rattle.sparse_cs.specs.Compressed.{Compressed, compressed_of, IsSound, IsPosition}
 use Rattle.sparse_cs.specs.PlainOfLanes.{plain_of_cols}
 use Rattle.sparse_cs.proofs.Arrays.{value_at_position}
-use Rattle.sparse_solve.specs.InnerColumns.{entries}
+use Rattle.sparse_solve.specs.InnerColumns.{elements}
 use Rattle.sparse_algebra.specs.Inverses.{HasInverse}
 use Rattle.sparse_ldl.specs.InnerColumns.{AreColumnsDone, AreCursors, ArePartFactors}
 use Rattle.sparse_ldl.specs.InnerColumns.{IsColumnMoved, IsFilledPattern, IsIncluded, IsLeft}
@@ -68,8 +68,8 @@ module _ (R : CommRing) {T : Type 0} (f : T → R.Carrier) (z : T) (zero : f z �
     (done : AreColumnsDone R f z lower l d cursors column j) (added left : List T)
     (adds : (i : ℕ) → i < length column → f (get_or added i z)
     ≡ R.add (f (get_or column i z)) ((plain_of_cols R f lower).value i j))
-    (leaves : IsLeft R l.pattern.major_dim j (plain_of_cols R f l).value (entries R f z d) j
-    (entries R f z left) (entries R f z added)) where
+    (leaves : IsLeft R l.pattern.major_dim j (plain_of_cols R f l).value (elements R f z d) j
+    (elements R f z left) (elements R f z added)) where
   abbrev n : ℕ
   n = l.pattern.major_dim
 
@@ -80,7 +80,7 @@ module _ (R : CommRing) {T : Type 0} (f : T → R.Carrier) (z : T) (zero : f z �
   is_added i within = adds i (omega (arith, within, rows))
       ∙ ap (λ c. R.add c (a i j)) (done.empty i (omega (arith, within, rows))) ∙ zero_add R (a i j)
 
-  is_left : IsLeft R n j (plain_of_cols R f l).value (entries R f z d) j (entries R f z left)
+  is_left : IsLeft R n j (plain_of_cols R f l).value (elements R f z d) j (elements R f z left)
       (λ i. a i j)
   is_left i le within = leaves i le within ∙ is_added i within
 
@@ -88,7 +88,7 @@ module _ (R : CommRing) {T : Type 0} (f : T → R.Carrier) (z : T) (zero : f z �
   pub step_singular : (HasInverse R f (f (get_or left j z)) → ⊥) → (l' : ℕ → ℕ → R.Carrier)
       (d' : ℕ → R.Carrier) → ArePartFactors R f n n a l' d' → ⊥
   step_singular none l' d' = no_factorisation R f n j a (plain_of_cols R f l).value l'
-      (entries R f z d) d' (f (get_or left j z)) lt done.factors (is_left j (omega arith) lt) none
+      (elements R f z d) d' (f (get_or left j z)) lt done.factors (is_left j (omega arith) lt) none
 
   module _ (e : T) (inverts : R.mul (f (get_or left j z)) (f e) ≡ R.one) (d_in : j < length d)
       (above : (i : ℕ) → i < j → f (get_or left i z) ≡ f (get_or added i z))
@@ -123,16 +123,17 @@ module _ (R : CommRing) {T : Type 0} (f : T → R.Carrier) (z : T) (zero : f z �
     kept = moved-others R f z l.pattern done.sound.valid j (f e) l.values values left last
         done.sound.count moved
 
-    kept_pivots : (c : ℕ) → c ≢ j → entries R f z (set d j (get_or left j z)) c ≡ entries R f z d c
+    kept_pivots : (c : ℕ) → c ≢ j
+        → elements R f z (set d j (get_or left j z)) c ≡ elements R f z d c
     kept_pivots c ne = ap f (get_or-set_other d j c (get_or left j z) z ne)
 
-    new_pivot : entries R f z (set d j (get_or left j z)) j ≡ f (get_or left j z)
+    new_pivot : elements R f z (set d j (get_or left j z)) j ≡ f (get_or left j z)
     new_pivot = ap f (get_or-set_same d j (get_or left j z) z d_in)
 
     next : ArePartFactors R f n (j + 1) a (plain_of_cols R f next_l).value
-        (entries R f z (set d j (get_or left j z)))
+        (elements R f z (set d j (get_or left j z)))
     next = rw add-one (part_next R f n j a (plain_of_cols R f l).value (plain_of_cols R f next_l).value
-        (entries R f z d) (entries R f z (set d j (get_or left j z))) (entries R f z left) e lt
+        (elements R f z d) (elements R f z (set d j (get_or left j z))) (elements R f z left) e lt
         done.factors is_left inverts kept kept_pivots new_pivot (plain_of_cols R f next_l).has
         closed_set zeros (λ i less. set-low R f next_l next_sound filled i j less) stored out)
 
@@ -147,11 +148,12 @@ module _ (R : CommRing) {T : Type 0} (f : T → R.Carrier) (z : T) (zero : f z �
         | inl less ↦ above i less ∙ is_added i within ∙ no_place_zero R f lower lower_sound i j
             (λ place.
             let le = filled.lower j i (included.places i j place) in omega (arith, le, less))
-        | inr le ↦ left_nothing R f n j a (plain_of_cols R f l).value (plain_of_cols R f next_l).value
-            (entries R f z d) (entries R f z (set d j (get_or left j z))) (entries R f z left) e lt
-            done.factors is_left inverts kept kept_pivots new_pivot (plain_of_cols R f next_l).has
-            closed_set zeros (λ i less. set-low R f next_l next_sound filled i j less) stored out i le
-            within miss
+        | inr le ↦ left_nothing R f n j a (plain_of_cols R f l).value
+            (plain_of_cols R f next_l).value (elements R f z d)
+            (elements R f z (set d j (get_or left j z))) (elements R f z left) e lt done.factors
+            is_left inverts kept kept_pivots new_pivot (plain_of_cols R f next_l).has closed_set
+            zeros (λ i less. set-low R f next_l next_sound filled i j less) stored out i le within
+            miss
       ]
     ]
 

@@ -4,7 +4,7 @@ use Rattle.sparse_algebra.specs.Algebra.{CommRing}
 use Rattle.sparse_cs.specs.Compressed.{Compressed, IsSound}
 use Rattle.sparse_cs.specs.PlainOfLanes.{plain_of_cols}
 use Rattle.sparse_factor.specs.Fill.{InFill, UpperBase, StoresByColumns}
-use Rattle.sparse_solve.specs.InnerColumns.{entries}
+use Rattle.sparse_solve.specs.InnerColumns.{elements}
 use Rattle.sparse_solve.specs.Solutions.{HasSameValues}
 use Rattle.sparse_ldl.specs.Factorisations.{IsFactorisation, plain_upper}
 use Rattle.sparse_ldl.specs.Factors.{AreFactorsOf, AreOnlyFactorsOf, HasNoFactors}
@@ -16,7 +16,7 @@ use Rattle.sparse_ldl.proofs.UpperTriangles.{same_symmetric}
 
 module _ (R : CommRing) {T : Type 0} (f : T → R.Carrier) (z : T) (a l : Compressed T) (d : List T)
     (size : length d ≡ a.pattern.minor_dim)
-    (factors : IsFactorisation R f (symmetric_of R f a) (plain_of_cols R f l) (entries R f z d))
+    (factors : IsFactorisation R f (symmetric_of R f a) (plain_of_cols R f l) (elements R f z d))
   where
     pub kept_pivots : HavePivots R f z d
     kept_pivots j lt = factors.pivots j (omega (arith, lt, size))
@@ -30,9 +30,9 @@ module _ (R : CommRing) {T : Type 0} (f : T → R.Carrier) (z : T) (a l : Compre
     only_factors k c h =
         let n = a.pattern.minor_dim in
         let agree = part_unique R f n n (symmetric_of R f a).value k.value
-        (plain_of_cols R f l).value c (entries R f z d) (omega arith)
+        (plain_of_cols R f l).value c (elements R f z d) (omega arith)
         (columns_of R f (symmetric_of R f a) k c h)
-        (columns_of R f (symmetric_of R f a) (plain_of_cols R f l) (entries R f z d) factors) in (
+        (columns_of R f (symmetric_of R f a) (plain_of_cols R f l) (elements R f z d) factors) in (
           λ i j row col. (agree j (omega (arith, col, size))).1 i (omega (arith, row, size)),
           λ j lt. (agree j (omega (arith, lt, size))).0,
         )
@@ -45,7 +45,7 @@ module _ (R : CommRing) {T : Type 0} (f : T → R.Carrier) (z : T) (a l : Compre
     factors_same b sa sb same stores = record {
       places = same_fill R f a b sa sb same l.pattern stores;
       factors = factorisation_same R f (symmetric_of R f a) (symmetric_of R f b)
-          (plain_of_cols R f l) (entries R f z d) (same_rows R f a b sa sb same)
+          (plain_of_cols R f l) (elements R f z d) (same_rows R f a b sa sb same)
           (same_symmetric R f a b sa sb same) factors;
     }
 

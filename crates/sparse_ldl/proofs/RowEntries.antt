@@ -7,7 +7,7 @@ use Rattle.sparse_cs.specs.Compressed.{Compressed, IsSound}
 use Rattle.sparse_cs.specs.PlainOfLanes.{plain_of_cols}
 use Rattle.sparse_cs.proofs.Arrays.{value_at_position}
 use Rattle.sparse_kernels.specs.InnerKernels.{AddsMultiple}
-use Rattle.sparse_solve.specs.InnerColumns.{entries}
+use Rattle.sparse_solve.specs.InnerColumns.{elements}
 use Rattle.sparse_ldl.specs.InnerColumns.{IsCursor, IsRowOf}
 use Rattle.sparse_ldl.proofs.Cursors.{AreCursorsAt, at_cursor, here}
 use Rattle.sparse_ldl.proofs.FilledSets.{no_place_zero}
@@ -74,12 +74,12 @@ module _ (R : CommRing) {T : Type 0} (f : T → R.Carrier) (z : T) (m : Compress
           taken-above R f z m sound k lane j c cursor scale x y taken i less within
 
       pub entry_left : slice_index row q < j → length x ≡ length b
-          → IsLeftAt R (length b) j (plain_of_cols R f m).value d row q (entries R f z x)
-          (entries R f z b)
-          → IsLeftAt R (length b) j (plain_of_cols R f m).value d row (q + 1) (entries R f z y)
-          (entries R f z b)
+          → IsLeftAt R (length b) j (plain_of_cols R f m).value d row q (elements R f z x)
+          (elements R f z b)
+          → IsLeftAt R (length b) j (plain_of_cols R f m).value d row (q + 1) (elements R f z y)
+          (elements R f z b)
       entry_left below same left =
           left_more R (length b) j (plain_of_cols R f m).value d row is.rising others_zero q lt
-          (entries R f z x) (entries R f z y) (entries R f z b) below left
+          (elements R f z x) (elements R f z y) (elements R f z b) below left
           (λ i le within. taken-below R f z m sound k lane j c cursor scale x y taken d
           (product ∙ ap (R.mul (d k)) (sym entry_value)) i le (omega (arith, within, same)))

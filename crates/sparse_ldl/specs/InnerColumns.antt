@@ -6,7 +6,7 @@ use Rattle.sparse_pattern.specs.Raw.{Raw, start_of, end_of, IsInLane, IsPlace}
 use Rattle.sparse_cs.specs.Compressed.{Compressed, IsSound}
 use Rattle.sparse_cs.specs.PlainOfLanes.{plain_of_cols}
 use Rattle.sparse_algebra.specs.Inverses.{HasInverse}
-use Rattle.sparse_solve.specs.InnerColumns.{entries}
+use Rattle.sparse_solve.specs.InnerColumns.{elements}
 
 module _ (R : CommRing) where
   -- column k's part of L D Lᵀ at (i, j)
@@ -69,9 +69,9 @@ module _ (R : CommRing) {T : Type 0} (f : T → R.Carrier) (z : T) where
       (column : List T) (j : ℕ) : Type 0 where
     pub sound : IsSound l
     pub factors : ArePartFactors R f l.pattern.major_dim j (plain_of_cols R f lower).value
-        (plain_of_cols R f l).value (entries R f z d)
+        (plain_of_cols R f l).value (elements R f z d)
     pub placed : AreCursors l.pattern j cursors
-    pub empty : (i : ℕ) → i < length column → entries R f z column i ≡ R.zero
+    pub empty : (i : ℕ) → i < length column → elements R f z column i ≡ R.zero
 
 -- the pattern of L: no row is above its column, and it is closed under fill
 pub record IsFilledPattern (p : Raw) : Type 0 where

@@ -12,7 +12,7 @@ use Rattle.sparse_cs.specs.InnerRows.{lane_value}
 use Rattle.sparse_cs.proofs.LaneValues.{product_by_lane}
 use Rattle.sparse_kernels.specs.InnerKernels.{strided}
 use Rattle.sparse_solve.specs.Solutions.{plain_lower}
-use Rattle.sparse_solve.specs.InnerColumns.{IsColumnBelow, entries}
+use Rattle.sparse_solve.specs.InnerColumns.{IsColumnBelow, elements}
 use Rattle.sparse_algebra.specs.Sums.{dot_of}
 use Rattle.sparse_solve.proofs.Substitutions.{IsLower, IsBackward, backward_step}
 
@@ -49,16 +49,16 @@ module _ (R : CommRing) {T : Type 0} (f : T → R.Carrier) (z : T) (a : Plain R)
   inverts = ap (λ c. R.mul c (f e)) (lower_is R a proper k k (omega arith)) ∙ column.inverts
 
   pub backward_column : (new known : T) → a.rows ≡ n
-      → f known ≡ dot_of R f rows values (entries R f z x)
+      → f known ≡ dot_of R f rows values (elements R f z x)
       → f new ≡ R.mul (R.add (f (get_or x k z)) (R.neg (f known))) (f e)
-      → IsBackward R n (k + 1) (plain_lower R a).value (entries R f z x) b
-      → IsBackward R n k (plain_lower R a).value (entries R f z (set x k new)) b
+      → IsBackward R n (k + 1) (plain_lower R a).value (elements R f z x) b
+      → IsBackward R n k (plain_lower R a).value (elements R f z (set x k new)) b
   backward_column new known square known_is is h =
       let whole : f known ≡ sum_below R n (λ c. R.mul (lane_value R f rows values c)
-      (f (get_or x c z))) = known_is ∙ sym (product_by_lane R f n (entries R f z x) rows values
+      (f (get_or x c z))) = known_is ∙ sym (product_by_lane R f n (elements R f z x) rows values
       (rw (← square) column.inside)) in
-      backward_step R n k (plain_lower R a).value (entries R f z x) (entries R f z (set x k new)) b
-      (f e) lt (lower_zero R a) inverts (lane_value R f rows values)
+      backward_step R n k (plain_lower R a).value (elements R f z x)
+      (elements R f z (set x k new)) b (f e) lt (lower_zero R a) inverts (lane_value R f rows values)
       (λ i more. column.below i more ∙ sym (lower_is R a proper i k (omega arith)))
       column.above
       (rw (← add-one) h)
@@ -70,7 +70,7 @@ module _ (R : CommRing) {T : Type 0} (f : T → R.Carrier) (z : T) (rows : List 
     (x : List T) where
   -- a dot product with entries that stand side by side
   pub dot_unit : (sum : T) → f sum ≡ dot_of R f rows values (strided R f z x 1)
-      → f sum ≡ dot_of R f rows values (entries R f z x)
+      → f sum ≡ dot_of R f rows values (elements R f z x)
   dot_unit sum is = is ∙ sum_by-same R _ _ (λ t.
       let one : t.0 * 1 ≡ t.0 = omega arith in
       ap (λ p. R.mul (f t.1) (f (get_or x p z))) one) (zip rows values)

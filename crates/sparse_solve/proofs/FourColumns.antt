@@ -4,7 +4,7 @@ use Rattle.std.proofs.Common.{subst, ◌∙◌, arith}
 use Rattle.std.proofs.lemmas.List.{get_or_append_left, get_or-append-add}
 use Rattle.sparse_algebra.proofs.Cases.{lt_add_one_cases}
 use Rattle.sparse_algebra.specs.Algebra.{CommRing}
-use Rattle.sparse_solve.specs.InnerColumns.{SolvesColumn, SolvesList, entries}
+use Rattle.sparse_solve.specs.InnerColumns.{SolvesColumn, SolvesList, elements}
 use Rattle.sparse_solve.proofs.SolvedColumns.{solves_same}
 
 four_cases : (P : ℕ → Type 0) → P 0 → P 1 → P 2 → P 3 → (j : ℕ) → j < 4 → P j
@@ -60,9 +60,9 @@ module _ (R : CommRing) {T : Type 0} (f : T → R.Carrier) (z : T) (n : ℕ) (t 
       → SolvesColumn R n t (λ i. f (get_or (u ++ (v ++ (w ++ x))) (j * n + i) z))
       (λ i. f (get_or (a ++ (b ++ (c ++ d))) (j * n + i) z))
   solved_at j old new size read write h =
-      solves_same R f z t n (entries R f z new) _ (entries R f z old) _ (λ i lt. ap f (write i lt))
-      (λ i lt. ap f (read i lt))
-      (subst (λ n. SolvesColumn R n t (entries R f z new) (entries R f z old)) size h)
+      solves_same R f z t n (elements R f z new) _ (elements R f z old) _
+      (λ i lt. ap f (write i lt)) (λ i lt. ap f (read i lt))
+      (subst (λ n. SolvesColumn R n t (elements R f z new) (elements R f z old)) size h)
 
   -- each of the four columns is solved
   pub four_solved : length a ≡ n → length b ≡ n → length c ≡ n → length d ≡ n

@@ -14,9 +14,9 @@ use Rattle.sparse_cs.specs.PlainOfLanes.{plain_of_cols}
 use Rattle.sparse_cs.proofs.Arrays.{proper_rows}
 use Rattle.sparse_solve.specs.Solutions.{plain_lower}
 use Rattle.sparse_solve.specs.InnerColumns.{ChangesBlock, IsColumnBelow, IsTaken, SolvesColumn}
-use Rattle.sparse_solve.specs.InnerColumns.{SolvesList, TakesAnswer, column_entries}
+use Rattle.sparse_solve.specs.InnerColumns.{SolvesList, TakesAnswer, column_elements}
 use Rattle.sparse_algebra.specs.Sums.{dot_of}
-use Rattle.sparse_solve.specs.InnerColumns.{entries, lower}
+use Rattle.sparse_solve.specs.InnerColumns.{elements, lower}
 use Rattle.sparse_solve.proofs.RingSteps.{add_off}
 use Rattle.sparse_solve.proofs.ColumnSteps.{lower_is, lower_zero, backward_column}
 use Rattle.sparse_solve.proofs.SolvedColumns.{IsSolvedBelow, solves_same, with_column-here}
@@ -33,7 +33,7 @@ module _ (R : CommRing) {T : Type 0} (f : T → R.Carrier) (z : T) where
       → ((i : ℕ) → i < length (set x k answer)
       → f (get_or y i z) ≡ R.add (f (get_or (set x k answer) i z))
       (R.mul minus (lane_value R f rows values i)))
-      → IsTaken R f (length x) k rows values (f e) (entries R f z x) (entries R f z y)
+      → IsTaken R f (length x) k rows values (f e) (elements R f z x) (elements R f z y)
   taken k rows values x y answer e minus lt above is negative added =
       let within : (i : ℕ) → i < length x → i < length (set x k answer) =
       λ i l. omega (arith, length-set x k answer) in
@@ -72,56 +72,57 @@ module _ (R : CommRing) {T : Type 0} (f : T → R.Carrier) (z : T) where
       (lt : k < length b) (same : length x ≡ length b) where
     -- the answers of row k are taken in a list
     pub forward_list : (y : List T) → TakesAnswer R f z k rows values e x y
-        → IsForward R (length b) k (lower R f m) (entries R f z x) (entries R f z b)
-        → IsForward R (length b) (k + 1) (lower R f m) (entries R f z y) (entries R f z b)
+        → IsForward R (length b) k (lower R f m) (elements R f z x) (elements R f z b)
+        → IsForward R (length b) (k + 1) (lower R f m) (elements R f z y) (elements R f z b)
     forward_list y takes h = forward_taken (plain_of_cols R f m) (λ i j. proper_rows R f m j i)
-        (length b) k rows values e column lt (entries R f z x) (entries R f z y) (entries R f z b)
-        (subst (λ n. IsTaken R f n k rows values (f e) (entries R f z x) (entries R f z y)) same
+        (length b) k rows values e column lt (elements R f z x) (elements R f z y)
+        (elements R f z b)
+        (subst (λ n. IsTaken R f n k rows values (f e) (elements R f z x) (elements R f z y)) same
         takes) h
 
     -- the answer of row k is written, after the rows that follow it
     pub backward_list : (step : ℕ) (known : T) (y : List T) → m.pattern.minor_dim ≡ length b
-        → k + 1 + step ≡ length b → f known ≡ dot_of R f rows values (entries R f z x)
+        → k + 1 + step ≡ length b → f known ≡ dot_of R f rows values (elements R f z x)
         → y ≡ set x k (get_or y k z)
         → f (get_or y k z) ≡ R.mul (R.add (f (get_or x k z)) (R.neg (f known))) (f e)
-        → IsBackward R (length b) (length b - step) (lower R f m) (entries R f z x)
-        (entries R f z b)
-        → IsBackward R (length b) (length b - (step + 1)) (lower R f m) (entries R f z y)
-        (entries R f z b)
+        → IsBackward R (length b) (length b - step) (lower R f m) (elements R f z x)
+        (elements R f z b)
+        → IsBackward R (length b) (length b - (step + 1)) (lower R f m) (elements R f z y)
+        (elements R f z b)
     backward_list step known y square place known_is written is h =
         let n = length b in
         let new = get_or y k z in
         let old : n - step ≡ k + 1 = omega (arith, place) in
         let next : n - (step + 1) ≡ k = omega (arith, place) in
-        let before = subst (λ j. IsBackward R n j (lower R f m) (entries R f z x) (entries R f z b))
-        old h in
+        let before = subst (λ j. IsBackward R n j (lower R f m) (elements R f z x)
+        (elements R f z b)) old h in
         let after = backward_column R f z (plain_of_cols R f m) (λ i j. proper_rows R f m j i) n k
-        rows values e column x (entries R f z b) lt same new known square known_is is before in
-        subst (λ ys. IsBackward R n (n - (step + 1)) (lower R f m) (entries R f z ys)
-        (entries R f z b)) (sym written)
-        (subst (λ j. IsBackward R n j (lower R f m) (entries R f z (set x k new)) (entries R f z b))
-        (sym next) after)
+        rows values e column x (elements R f z b) lt same new known square known_is is before in
+        subst (λ ys. IsBackward R n (n - (step + 1)) (lower R f m) (elements R f z ys)
+        (elements R f z b)) (sym written)
+        (subst (λ j. IsBackward R n j (lower R f m) (elements R f z (set x k new))
+        (elements R f z b)) (sym next) after)
 
   -- after the last row the list is solved
   pub forward_solved : (t : ℕ → ℕ → R.Carrier) (k : ℕ) (b x : List T) → k ≡ length b
-      → IsForward R (length b) k t (entries R f z x) (entries R f z b) → SolvesList R f z t x b
-  forward_solved t k b x end h = forward_end R (length b) t (entries R f z x) (entries R f z b)
-      (subst (λ k. IsForward R (length b) k t (entries R f z x) (entries R f z b)) end h)
+      → IsForward R (length b) k t (elements R f z x) (elements R f z b) → SolvesList R f z t x b
+  forward_solved t k b x end h = forward_end R (length b) t (elements R f z x) (elements R f z b)
+      (subst (λ k. IsForward R (length b) k t (elements R f z x) (elements R f z b)) end h)
 
   pub backward_solved : (t : ℕ → ℕ → R.Carrier) (step : ℕ) (b x : List T) → step ≡ length b
-      → IsBackward R (length b) (length b - step) t (entries R f z x) (entries R f z b)
+      → IsBackward R (length b) (length b - step) t (elements R f z x) (elements R f z b)
       → SolvesList R f z (λ i j. t j i) x b
   backward_solved t step b x end h =
       let none : length b - step ≡ 0 = omega (arith, end) in
-      backward_end R (length b) t (entries R f z x) (entries R f z b)
-      (subst (λ k. IsBackward R (length b) k t (entries R f z x) (entries R f z b)) none h)
+      backward_end R (length b) t (elements R f z x) (elements R f z b)
+      (subst (λ k. IsBackward R (length b) k t (elements R f z x) (elements R f z b)) none h)
 
   pub backward_begun : (t : ℕ → ℕ → R.Carrier) (b : List T)
-      → IsBackward R (length b) (length b - 0) t (entries R f z b) (entries R f z b)
+      → IsBackward R (length b) (length b - 0) t (elements R f z b) (elements R f z b)
   backward_begun t b =
       let whole : length b ≡ length b - 0 = omega arith in
-      subst (λ k. IsBackward R (length b) k t (entries R f z b) (entries R f z b)) whole
-      (backward_start R (length b) t (entries R f z b))
+      subst (λ k. IsBackward R (length b) k t (elements R f z b) (elements R f z b)) whole
+      (backward_start R (length b) t (elements R f z b))
 
   -- columns that agree below the number of rows
   abbrev pub OnRows : ℕ → ((ℕ → R.Carrier) → (ℕ → R.Carrier) → Type 0) → Type 0
@@ -148,7 +149,7 @@ module _ (R : CommRing) {T : Type 0} (f : T → R.Carrier) (z : T) where
       → first ≤ j → OnRows b.nrows P → old ≡ column_of x j → length old ≡ x.nrows
       → length ws ≡ length old
       → ((i : ℕ) (z : T) → i < x.nrows → get_or old i z ≡ value_at x i j z)
-      → P (entries R f z old) (entries R f z ws) → ChangesBlock R f z first j P b x
+      → P (elements R f z old) (elements R f z ws) → ChangesBlock R f z first j P b x
       → ChangesBlock R f z first (j + 1) P b (with_column x j ws)
   changes_more first j P b x old ws le keeps is long same_long read changed h =
       let full : length (column_of x j) ≡ x.nrows = ap length (sym is) ∙ long in
@@ -160,8 +161,8 @@ module _ (R : CommRing) {T : Type 0} (f : T → R.Carrier) (z : T) where
           | inl before ↦ keeps _ _ _ _ (λ i _. refl)
               (λ i lt. ap f (with_column-other x j ws full count i l z (omega (arith, lt, h.rows))
               (λ e. omega (arith, e, before)))) (h.inside l from before)
-          | inr here ↦ subst (λ l. P (column_entries R f z b l)
-              (column_entries R f z (with_column x j ws) l)) (sym here)
+          | inr here ↦ subst (λ l. P (column_elements R f z b l)
+              (column_elements R f z (with_column x j ws) l)) (sym here)
               (keeps _ _ _ _
               (λ i lt. ap f (sym (h.behind i j lt (omega arith))
               ∙ sym (read i z (omega (arith, lt, h.rows)))))
@@ -197,8 +198,8 @@ module _ (R : CommRing) {T : Type 0} (f : T → R.Carrier) (z : T) where
             let j : ℕ = l - from in
             let place : from + j ≡ l = omega arith in
             let within : j < count = omega arith in
-            subst (λ l. P (column_entries R f z b l)
-            (column_entries R f z (with_column b from ws) l)) place
+            subst (λ l. P (column_elements R f z b l)
+            (column_elements R f z (with_column b from ws) l)) place
             (keeps _ _ _ _ (λ i row. ap f (sym (read i j z row within)))
             (λ i row. ap f (with_columns-inside b from count some ws full size i j z row within))
             (changed j within));
@@ -220,7 +221,7 @@ module _ (R : CommRing) {T : Type 0} (f : T → R.Carrier) (z : T) where
           (h.solved l before in_dim)
       | inr le ↦ solves_same R f z t b.nrows _ _ _ _ (λ i _. refl)
           (λ i row. ap f (sym (h.waiting i l le row)))
-          (subst (λ n. SolvesColumn R n t (column_entries R f z y l) (column_entries R f z x l))
+          (subst (λ n. SolvesColumn R n t (column_elements R f z y l) (column_elements R f z x l))
           h.rows (k.inside l le lt))
     ];
     waiting = λ i l le row. k.behind i l (omega (arith, row, h.rows)) le

@@ -28,8 +28,8 @@ module _ (R : CommRing) {T : Type 0} (f : T → R.Carrier) where
   HasPivots a = (k : ℕ) → k < a.rows → HasPivot R f a k
 
   -- what each scalar of a list means, and past its end what z means
-  abbrev pub entries : T → List T → ℕ → R.Carrier
-  entries z xs i = f (slice_index_or xs i z)
+  abbrev pub elements : T → List T → ℕ → R.Carrier
+  elements z xs i = f (slice_index_or xs i z)
 
 -- x solves the n equations with these coefficients and right sides
 abbrev pub SolvesColumn : (R : CommRing) → ℕ → (ℕ → ℕ → R.Carrier) → (ℕ → R.Carrier)
@@ -47,7 +47,7 @@ module _ (R : CommRing) {T : Type 0} (f : T → R.Carrier) where
 
   -- the scalars of x solve the equations whose right sides are those of b
   abbrev pub SolvesList : T → (ℕ → ℕ → R.Carrier) → List T → List T → Type 0
-  SolvesList z t x b = SolvesColumn R (length b) t (entries R f z x) (entries R f z b)
+  SolvesList z t x b = SolvesColumn R (length b) t (elements R f z x) (elements R f z b)
 
 -- each column of x solves the equations whose right sides are that column of b
 pub record SolvesColumns (R : CommRing) {T : Type 0} (f : T → R.Carrier) (z : T)
@@ -70,17 +70,17 @@ module _ (R : CommRing) {T : Type 0} (f : T → R.Carrier) (z : T) where
   -- the answer of row k is taken in a list
   abbrev pub TakesAnswer : ℕ → List ℕ → List T → T → List T → List T → Type 0
   TakesAnswer k rows values e old new = IsTaken R f (length old) k rows values (f e)
-      (entries R f z old) (entries R f z new)
+      (elements R f z old) (elements R f z new)
 
   -- column j of a dense matrix
-  abbrev pub column_entries : Dense T → ℕ → ℕ → R.Carrier
-  column_entries d j i = f (value_at d i j z)
+  abbrev pub column_elements : Dense T → ℕ → ℕ → R.Carrier
+  column_elements d j i = f (value_at d i j z)
 
   -- P of each column from first to last, and the others are the same
   pub record ChangesBlock (first last : ℕ) (P : (ℕ → R.Carrier) → (ℕ → R.Carrier) → Type 0)
       (old new : Dense T) : Type 0 where
     pub rows : new.nrows ≡ old.nrows
     pub cols : new.ncols ≡ old.ncols
-    pub inside : (j : ℕ) → first ≤ j → j < last → P (column_entries old j) (column_entries new j)
+    pub inside : (j : ℕ) → first ≤ j → j < last → P (column_elements old j) (column_elements new j)
     pub before : (i j : ℕ) → i < old.nrows → j < first → value_at new i j z ≡ value_at old i j z
     pub behind : (i j : ℕ) → i < old.nrows → last ≤ j → value_at new i j z ≡ value_at old i j z

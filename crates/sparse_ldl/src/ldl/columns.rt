@@ -9,7 +9,7 @@ ghost use Rattle.sparse_ldl.specs.InnerColumns.{IsFilledPattern, IsIncluded, IsL
 ghost use Rattle.sparse_ldl.specs.InnerColumns.{IsLowerPattern, IsRowOf};
 ghost use Rattle.sparse_algebra.specs.declared.error.OperationErrorKind.TheVariants.{Singular};
 ghost use Rattle.sparse_pattern.specs.TransposedPattern.{IsTransposedPattern};
-ghost use Rattle.sparse_solve.specs.InnerColumns.{entries};
+ghost use Rattle.sparse_solve.specs.InnerColumns.{elements};
 
 use sparse_algebra::error::OperationError;
 use sparse_algebra::learn;
@@ -40,13 +40,13 @@ pub fn factor_columns<T: Units>(
     requires cursors { AreCursors l.old.pattern 0 cursors.old }
     requires rows { length column.old ≡ l.old.pattern.major_dim }
     requires empty { (i : ℕ) → i < length column.old
-        → entries T.ring T.value T.zero_value column.old i ≡ T.ring.zero }
+        → elements T.ring T.value T.zero_value column.old i ≡ T.ring.zero }
     ensures pattern { l.new.pattern ≡ l.old.pattern }
     ensures sound { IsSound l.new }
     ensures pivots { length d.new ≡ length d.old }
     ensures factors { OnOk result (ArePartFactors T.ring T.value (length d.old) (length d.old)
         (plain_of_cols T.ring T.value lower.now).value (plain_of_cols T.ring T.value l.new).value
-        (entries T.ring T.value T.zero_value d.new)) }
+        (elements T.ring T.value T.zero_value d.new)) }
     ensures singular { OnErr result ((m : ℕ → ℕ → T.ring.Carrier) (c : ℕ → T.ring.Carrier)
         → ArePartFactors T.ring T.value (length d.old) (length d.old)
         (plain_of_cols T.ring T.value lower.now).value m c → ⊥) }
@@ -105,9 +105,9 @@ fn subtract_columns<T: Ring>(
     ensures above { (i : ℕ) → i < j → T.value (slice_index_or column.new i T.zero_value)
         ≡ T.value (slice_index_or column.old i T.zero_value) }
     ensures left { IsLeft T.ring (length column.old) j (plain_of_cols T.ring T.value l.now).value
-        (entries T.ring T.value T.zero_value d.now) j
-        (entries T.ring T.value T.zero_value column.new)
-        (entries T.ring T.value T.zero_value column.old) }
+        (elements T.ring T.value T.zero_value d.now) j
+        (elements T.ring T.value T.zero_value column.new)
+        (elements T.ring T.value T.zero_value column.old) }
 {
     let (offsets, rows, values) = l.csc_data();
     for q in 0..row.len() {

@@ -11,7 +11,7 @@ ghost use Rattle.sparse_algebra.specs.declared.error.OperationErrorKind.TheVaria
 ghost use Rattle.sparse_algebra.specs.declared.error.OperationErrorKind.TheVariants.{Singular};
 ghost use Rattle.sparse_pattern.specs.Raw.{IsPlace};
 ghost use Rattle.sparse_pattern.specs.TransposedPattern.{IsTransposedPattern};
-ghost use Rattle.sparse_solve.specs.InnerColumns.{entries};
+ghost use Rattle.sparse_solve.specs.InnerColumns.{elements};
 
 use super::columns::factor_columns;
 use sparse_algebra::error::OperationError;
@@ -36,7 +36,7 @@ pub fn factor_on_fill<T: Units>(
     ensures count { IfOk result (λ r. length r.1.items ≡ pattern.now.minor_dim) }
     ensures factors { IfOk result (λ r. IsFactorisation T.ring T.value
         (symmetric_of T.ring T.value a.now) (plain_of_cols T.ring T.value r.0)
-        (entries T.ring T.value T.zero_value r.1.items)) }
+        (elements T.ring T.value T.zero_value r.1.items)) }
     ensures singular { IfErr result (λ e. e ≡ Singular → HasNoFactors T.ring T.value a.now) }
     ensures kinds { IfErr result (λ e. (e ≡ Singular) ⊎ (e ≡ OutOfMemory)) }
 {
@@ -101,7 +101,7 @@ fn factor_lower<T: Units>(
     ensures factors { IfOk result (λ r. ArePartFactors T.ring T.value l.pattern.major_dim
         l.pattern.major_dim (plain_of_cols T.ring T.value lower.now).value
         (plain_of_cols T.ring T.value r.0).value
-        (entries T.ring T.value T.zero_value r.1.items)) }
+        (elements T.ring T.value T.zero_value r.1.items)) }
     ensures singular { IfErr result (λ e. e ≡ Singular → (m : ℕ → ℕ → T.ring.Carrier)
         (c : ℕ → T.ring.Carrier) → ArePartFactors T.ring T.value l.pattern.major_dim
         l.pattern.major_dim (plain_of_cols T.ring T.value lower.now).value m c → ⊥) }

@@ -1,7 +1,7 @@
 use Rattle.std.proofs.Common.{◌≡◌, ◌<◌, ℕ, inl, inr, ap, sym, ◌∙◌, arith}
 use Rattle.sparse_algebra.proofs.Cases.{lt_add_one_cases}
 use Rattle.sparse_base.specs.DensePlain.{plain_of_dense}
-use Rattle.sparse_solve.specs.InnerColumns.{entries}
+use Rattle.sparse_solve.specs.InnerColumns.{elements}
 use Rattle.reference.specs.DenseFactors.{dense_symmetric}
 use Rattle.reference.specs.InnerEquations.{left_at}
 use Rattle.reference.proofs.Equations.{entry_unwritten, entry_written, left_of-same}
@@ -28,7 +28,7 @@ loop-i-preserved g c =
     let within : i < a.nrows = omega (arith, c.loop-i-test.true, c.nrows-i-end.ensures) in
     let left : f c.find_left-left.result ≡ left_at R f z a first d j i =
     c.find_left-left.ensures ∙ left_of-same R (dense_symmetric R f a).value
-    (plain_of_dense R f x).value (plain_of_dense R f first).value (entries R f z d) j i
+    (plain_of_dense R f x).value (plain_of_dense R f first).value (elements R f z d) j i
     (λ k b less. inv.kept k b (λ same _ _. absurd (omega (arith, same, less)))) in
     let old : (k b : ℕ) → (k ≡ i → b ≡ j → ⊥)
     → (plain_of_dense R f c.set.new.self).value k b ≡ (plain_of_dense R f x).value k b =

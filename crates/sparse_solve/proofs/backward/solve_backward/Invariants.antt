@@ -1,5 +1,5 @@
 use Rattle.std.proofs.Common.{◌-◌, length}
-use Rattle.sparse_solve.specs.InnerColumns.{entries, lower}
+use Rattle.sparse_solve.specs.InnerColumns.{elements, lower}
 use Rattle.sparse_solve.proofs.Substitutions.{IsBackward}
 use Rattle.sparse_solve.proofs.backward.solve_backward.Given as goal
 
@@ -9,4 +9,4 @@ invariant-loop-step g l =
     let f = g.T.Ring.value in
     let z = g.T.Zero.zero_value in
     let n = length l.initial.x in
-    IsBackward R n (n - l.step) (lower R f l.l) (entries R f z l.x) (entries R f z l.initial.x)
+    IsBackward R n (n - l.step) (lower R f l.l) (elements R f z l.x) (elements R f z l.initial.x)

@@ -1,5 +1,5 @@
 use Rattle.std.proofs.Common.{◌-◌, length}
-use Rattle.sparse_solve.specs.InnerColumns.{entries, lower}
+use Rattle.sparse_solve.specs.InnerColumns.{elements, lower}
 use Rattle.sparse_solve.proofs.Substitutions.{IsBackward}
 use Rattle.sparse_solve.proofs.backward.solve_backward_four.Given as goal
 
@@ -11,11 +11,11 @@ invariant-loop-step g l =
     let t = lower R f l.l in
     record {
       first : IsBackward R (length l.initial.first) (length l.initial.first - l.step) t
-          (entries R f z l.first) (entries R f z l.initial.first);
+          (elements R f z l.first) (elements R f z l.initial.first);
       second : IsBackward R (length l.initial.second) (length l.initial.second - l.step) t
-          (entries R f z l.second) (entries R f z l.initial.second);
+          (elements R f z l.second) (elements R f z l.initial.second);
       third : IsBackward R (length l.initial.third) (length l.initial.third - l.step) t
-          (entries R f z l.third) (entries R f z l.initial.third);
+          (elements R f z l.third) (elements R f z l.initial.third);
       fourth : IsBackward R (length l.initial.fourth) (length l.initial.fourth - l.step) t
-          (entries R f z l.fourth) (entries R f z l.initial.fourth);
+          (elements R f z l.fourth) (elements R f z l.initial.fourth);
     }

@@ -1,5 +1,5 @@
 use Rattle.std.proofs.Common.{length}
-use Rattle.sparse_solve.specs.InnerColumns.{entries, lower}
+use Rattle.sparse_solve.specs.InnerColumns.{elements, lower}
 use Rattle.sparse_solve.proofs.Substitutions.{IsForward}
 use Rattle.sparse_solve.proofs.forward.solve_forward.Given as goal
 
@@ -8,5 +8,5 @@ invariant-loop-k g l =
     let R = g.T.Ring.ring in
     let f = g.T.Ring.value in
     let z = g.T.Zero.zero_value in
-    IsForward R (length l.initial.x) l.k (lower R f l.l) (entries R f z l.x)
-    (entries R f z l.initial.x)
+    IsForward R (length l.initial.x) l.k (lower R f l.l) (elements R f z l.x)
+    (elements R f z l.initial.x)

@@ -1,5 +1,5 @@
 use Rattle.std.proofs.Common.{length}
-use Rattle.sparse_solve.specs.InnerColumns.{entries, lower}
+use Rattle.sparse_solve.specs.InnerColumns.{elements, lower}
 use Rattle.sparse_solve.proofs.Substitutions.{IsForward}
 use Rattle.sparse_solve.proofs.forward.solve_forward_four.Given as goal
 
@@ -10,12 +10,12 @@ invariant-loop-k g l =
     let z = g.T.Zero.zero_value in
     let t = lower R f l.l in
     record {
-      first : IsForward R (length l.initial.first) l.k t (entries R f z l.first)
-          (entries R f z l.initial.first);
-      second : IsForward R (length l.initial.second) l.k t (entries R f z l.second)
-          (entries R f z l.initial.second);
-      third : IsForward R (length l.initial.third) l.k t (entries R f z l.third)
-          (entries R f z l.initial.third);
-      fourth : IsForward R (length l.initial.fourth) l.k t (entries R f z l.fourth)
-          (entries R f z l.initial.fourth);
+      first : IsForward R (length l.initial.first) l.k t (elements R f z l.first)
+          (elements R f z l.initial.first);
+      second : IsForward R (length l.initial.second) l.k t (elements R f z l.second)
+          (elements R f z l.initial.second);
+      third : IsForward R (length l.initial.third) l.k t (elements R f z l.third)
+          (elements R f z l.initial.third);
+      fourth : IsForward R (length l.initial.fourth) l.k t (elements R f z l.fourth)
+          (elements R f z l.initial.fourth);
     }

@@ -1,5 +1,5 @@
 use Rattle.std.proofs.Common.{subst, arith}
-use Rattle.sparse_solve.specs.InnerColumns.{SolvesColumn, entries, op_lower}
+use Rattle.sparse_solve.specs.InnerColumns.{SolvesColumn, elements, op_lower}
 use Rattle.sparse_solve.proofs.Taking.{changes_columns, changes_more, changes_none, solves_on_rows}
 use Rattle.sparse_solve.proofs.substitution.solve_next.Goals as goal
 
@@ -14,7 +14,7 @@ returns-then-ncols-from-lt4-clause-solved g c =
     let old = c.column_mut.result.now in
     let ws = c.solve_one.new.x in
     let lent = c.column_mut.ensures in
-    let solved = subst (λ n. SolvesColumn R n t (entries R f z ws) (entries R f z old)) lent.rows
+    let solved = subst (λ n. SolvesColumn R n t (elements R f z ws) (elements R f z old)) lent.rows
     c.solve_one.ensures in
     changes_more R f z from from (λ y x. SolvesColumn R b.nrows t x y) b b old ws (omega arith)
     (solves_on_rows R f z t b.nrows) lent.exact lent.rows c.solve_one.auto.x lent.values solved

@@ -1,6 +1,6 @@
 use Rattle.std.proofs.Common.{◌≡◌, ap, sym, subst, ◌∙◌, arith}
 use Rattle.sparse_base.specs.DensePlain.{plain_of_dense}
-use Rattle.sparse_solve.specs.InnerColumns.{ChangesBlock, entries}
+use Rattle.sparse_solve.specs.InnerColumns.{ChangesBlock, elements}
 use Rattle.sparse_solve.specs.Solutions.{IsSolution}
 use Rattle.sparse_ldl.specs.Factors.{HavePivots, plain_of_factors}
 use Rattle.sparse_ldl.specs.InnerColumns.{IsDivided}
@@ -19,14 +19,14 @@ returns-clause-solved g c =
     let z = g.T.Zero.zero_value in
     let m = c.self.inside.l in
     let unit = c.self.invariant.lower in
-    let d = entries R f z c.self.inside.d.items in
+    let d = elements R f z c.self.inside.d.items in
     let b = c.args.b.now in
     let y = c.spsolve_csc_lower_triangular.new.b in
     let w = c.divide_columns.new.b in
     let x = c.spsolve_csc_lower_triangular-2.new.b in
     let first = c.spsolve_csc_lower_triangular.ensures in
     let second = c.spsolve_csc_lower_triangular-2.ensures in
-    let quotient = subst (λ ds. ChangesBlock R f z 0 y.ncols (IsDivided R y.nrows (entries R f z ds))
+    let quotient = subst (λ ds. ChangesBlock R f z 0 y.ncols (IsDivided R y.nrows (elements R f z ds))
     y w) c.deref.ensures.value c.divide_columns.ensures.divided in
     let rows : b.nrows ≡ m.pattern.minor_dim =
     c.requires ∙ ap (λ s. s.l.pattern.minor_dim) (sym c.self.view_is) in

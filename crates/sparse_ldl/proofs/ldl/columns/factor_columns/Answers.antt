@@ -3,7 +3,7 @@ use Rattle.std.proofs.lemmas.List.{get_or_default}
 use Rattle.sparse_cs.specs.Compressed.{compressed_of}
 use Rattle.sparse_cs.specs.PlainOfLanes.{plain_of_cols}
 use Rattle.sparse_pattern.specs.Raw.{IsPlace}
-use Rattle.sparse_solve.specs.InnerColumns.{entries}
+use Rattle.sparse_solve.specs.InnerColumns.{elements}
 use Rattle.sparse_algebra.specs.Inverses.{HasInverse}
 use Rattle.sparse_ldl.specs.InnerColumns.{AreColumnsDone, ArePartFactors, IsFilledPattern, IsLeft}
 use Rattle.sparse_ldl.specs.InnerColumns.{IsIncluded, IsRowOf}
@@ -50,8 +50,8 @@ returns-in_default-clause-singular g c = λ m d' part.
     let long : length column ≡ l.pattern.major_dim = inv.rows ∙ c.requires.rows ∙ sym dim in
     let lt : j < l.pattern.major_dim =
     omega (arith, c.loop-j-test.true, size) in
-    let leaves = subst (λ n. IsLeft R n j (plain_of_cols R f l).value (entries R f z d) j
-    (entries R f z left) (entries R f z added)) (c.add_lane.ensures.rows ∙ long)
+    let leaves = subst (λ n. IsLeft R n j (plain_of_cols R f l).value (elements R f z d) j
+    (elements R f z left) (elements R f z added)) (c.add_lane.ensures.rows ∙ long)
     c.subtract_columns.ensures.left in
     let within : j < length left = omega (
       arith,
@@ -93,8 +93,8 @@ loop-j-preserved g c =
     let long : length column ≡ l.pattern.major_dim = inv.rows ∙ c.requires.rows ∙ sym dim in
     let lt : j < l.pattern.major_dim =
     omega (arith, c.loop-j-test.true, size) in
-    let leaves = subst (λ n. IsLeft R n j (plain_of_cols R f l).value (entries R f z d) j
-    (entries R f z left) (entries R f z added)) (c.add_lane.ensures.rows ∙ long)
+    let leaves = subst (λ n. IsLeft R n j (plain_of_cols R f l).value (elements R f z d) j
+    (elements R f z left) (elements R f z added)) (c.add_lane.ensures.rows ∙ long)
     c.subtract_columns.ensures.left in
     let same = c.subtract_columns.ensures.rows ∙ c.add_lane.ensures.rows in
     let within : j < length left = omega (arith, lt, same, long) in

@@ -5,7 +5,7 @@ use Rattle.std.proofs.lemmas.List.{get_or_default}
 use Rattle.sparse_cs.specs.PlainOfLanes.{plain_of_cols}
 use Rattle.sparse_kernels.specs.InnerKernels.{AddsMultiple}
 use Rattle.sparse_pattern.specs.Raw.{end_of}
-use Rattle.sparse_solve.specs.InnerColumns.{entries}
+use Rattle.sparse_solve.specs.InnerColumns.{elements}
 use Rattle.sparse_ldl.proofs.Cursors.{cursors_start, cursors_more}
 use Rattle.sparse_ldl.proofs.Left.{IsLeftAt, left_start, left_diagonal, left_end}
 use Rattle.sparse_ldl.proofs.RowEntries.{others_zero, entry_within, row_within, cut_rows, entry_above}
@@ -22,7 +22,7 @@ loop-q-init g c =
     let sound = c.csc_data.ensures.sound in
     let is = c.requires.row in
     let row = c.args.row.now in
-    let w = entries R f z c.args.column.now in
+    let w = elements R f z c.args.column.now in
     record {
       count = refl;
       rows = refl;
@@ -30,7 +30,7 @@ loop-q-init g c =
           c.requires.cursors;
       above = λ i _. refl;
       left = left_start R (length c.args.column.now) c.args.j (plain_of_cols R f m).value
-          (entries R f z c.args.d.now) row is.rising
+          (elements R f z c.args.d.now) row is.rising
           (others_zero R f z m sound c.args.j row is) w w (λ i _ _. refl);
     }
 
@@ -67,7 +67,7 @@ loop-q-preserved g c =
     let at = slice_index c.loop-q.cursors k in
     let inv = c.loop-q.invariant in
     let lane = (is.stored q lt).in_lane.lane in
-    let d = entries R f z c.args.d.now in
+    let d = elements R f z c.args.d.now in
     let b = c.args.column.now in
     let x = c.loop-q.column in
     let long = length b in
@@ -101,8 +101,8 @@ loop-q-preserved g c =
                 w.mul.result x w.add_multiple.new.row b product taken i less
                 (omega (arith, less, low, inv.rows, c.requires.rows, c.requires.square))
                 ∙ inv.above i less;
-            left = subst (λ y. IsLeftAt R long j L d row (q + 1) (entries R f z y)
-                (entries R f z b)) (sym w.column-is)
+            left = subst (λ y. IsLeftAt R long j L d row (q + 1) (elements R f z y)
+                (elements R f z b)) (sym w.column-is)
                 (entry_left R f z m sound j row is q lt c.loop-q.cursors inv.cursors d
                 w.mul.result x w.add_multiple.new.row b product taken w.if-k-j.true inv.rows inv.left);
           }
@@ -114,10 +114,10 @@ loop-q-preserved g c =
             rows = c.if-k-j.auto.column ∙ inv.rows;
             cursors = cursors;
             above = λ i less. ap (λ y. f (get_or y i z)) w.column-is ∙ inv.above i less;
-            left = subst (λ y. IsLeftAt R long j L d row (q + 1) (entries R f z y)
-                (entries R f z b)) (sym w.column-is)
+            left = subst (λ y. IsLeftAt R long j L d row (q + 1) (elements R f z y)
+                (elements R f z b)) (sym w.column-is)
                 (left_diagonal R long j L d row is.rising
-                (others_zero R f z m sound j row is) q lt (entries R f z x) (entries R f z b) same
+                (others_zero R f z m sound j row is) q lt (elements R f z x) (elements R f z b) same
                 inv.left);
           }
     ]
@@ -129,9 +129,9 @@ returns-clause-left g c =
     let z = g.T.Zero.zero_value in
     let m = c.args.l.now in
     let row = c.args.row.now in
-    let d = entries R f z c.args.d.now in
-    let w = entries R f z c.loop-q.column in
-    let b = entries R f z c.args.column.now in
+    let d = elements R f z c.args.d.now in
+    let w = elements R f z c.loop-q.column in
+    let b = elements R f z c.args.column.now in
     let end : c.loop-q.q ≡ length row = omega (arith, c.loop-q-test.false, c.loop-q.auto.q-end) in
     left_end R (length c.args.column.now) c.args.j (plain_of_cols R f m).value d row w b
     (subst (λ q. IsLeftAt R (length c.args.column.now) c.args.j (plain_of_cols R f m).value d row q

@@ -1,6 +1,6 @@
 use Rattle.std.proofs.Common.{◌≡◌, ◌<◌, ℕ, get_or, length}
 use Rattle.sparse_cs.specs.PlainOfLanes.{plain_of_cols}
-use Rattle.sparse_solve.specs.InnerColumns.{entries}
+use Rattle.sparse_solve.specs.InnerColumns.{elements}
 use Rattle.sparse_ldl.proofs.Cursors.{AreCursorsAt}
 use Rattle.sparse_ldl.proofs.Left.{IsLeftAt}
 use Rattle.sparse_ldl.proofs.ldl.columns.subtract_columns.Given as goal
@@ -16,6 +16,6 @@ invariant-loop-q g l =
       cursors : AreCursorsAt l.l.pattern l.j l.row l.q l.cursors;
       above : (i : ℕ) → i < l.j → f (get_or l.column i z) ≡ f (get_or l.initial.column i z);
       left : IsLeftAt R (length l.initial.column) l.j (plain_of_cols R f l.l).value
-          (entries R f z l.d) l.row l.q (entries R f z l.column)
-          (entries R f z l.initial.column);
+          (elements R f z l.d) l.row l.q (elements R f z l.column)
+          (elements R f z l.initial.column);
     }

@@ -2,7 +2,7 @@ use Rattle.std.proofs.Common.{◌≡◌, ℕ, ap, sym, subst, ◌∙◌}
 use Rattle.sparse_cs.specs.PlainOfLanes.{plain_of_cols}
 use Rattle.sparse_algebra.specs.declared.error.OperationErrorKind.TheVariants.{Singular}
 use Rattle.sparse_pattern.specs.TransposedPattern.{IsTransposedPattern}
-use Rattle.sparse_solve.specs.InnerColumns.{entries}
+use Rattle.sparse_solve.specs.InnerColumns.{elements}
 use Rattle.sparse_ldl.specs.Factorisations.{IsFactorisation}
 use Rattle.sparse_ldl.specs.Factors.{HasNoFactors, symmetric_of}
 use Rattle.sparse_ldl.specs.InnerColumns.{ArePartFactors, IsFilledPattern, IsIncluded}
@@ -47,14 +47,14 @@ returns-clause-factors g c =
     let minor : start.minor_dim ≡ c.args.pattern.now.minor_dim = ap (λ p. p.minor_dim) is in
     ok_both (λ r. r.0.pattern ≡ start)
     (λ r. ArePartFactors R f n n (plain_of_cols R f t).value (plain_of_cols R f r.0).value
-    (entries R f z r.1.items))
+    (elements R f z r.1.items))
     (λ r. IsFactorisation R f (symmetric_of R f a) (plain_of_cols R f r.0)
-    (entries R f z r.1.items)) c.factor_lower.result
+    (elements R f z r.1.items)) c.factor_lower.result
     (λ r same part.
     let rows = ap (λ p. p.minor_dim) same ∙ minor ∙ need.rows in
     let columns = ap (λ p. p.major_dim) same ∙ major ∙ need.columns in
     factors_of_part R f a t c.in_ok-lower.ensures.plain n (plain_of_cols R f r.0)
-    (entries R f z r.1.items) (major ∙ need.columns ∙ sym need.square) rows
+    (elements R f z r.1.items) (major ∙ need.columns ∙ sym need.square) rows
     (columns ∙ sym need.square ∙ sym rows) part)
     c.factor_lower.ensures.pattern c.factor_lower.ensures.factors
 

@@ -4,7 +4,7 @@ use Rattle.std.proofs.lemmas.List.{get_or_default}
 use Rattle.sparse_algebra.proofs.Cases.{lt_add_one_cases}
 use Rattle.sparse_algebra.specs.Inverses.{HasInverse}
 use Rattle.sparse_solve.proofs.RingSteps.{divided}
-use Rattle.sparse_solve.specs.InnerColumns.{entries}
+use Rattle.sparse_solve.specs.InnerColumns.{elements}
 use Rattle.sparse_ldl.proofs.ldl.solve.divide_column.Goals.{in-Some, in_default}
 use Rattle.sparse_ldl.proofs.ldl.solve.divide_column.Goals as goal
 
@@ -16,7 +16,7 @@ loop-i-preserved g c =
     let i = c.loop-i.i in
     let x = c.loop-i.x in
     let first = c.args.x.now in
-    let d = entries R f z c.args.d.now in
+    let d = elements R f z c.args.d.now in
     let inv = c.loop-i.invariant in
     let d_in : i < length c.args.d.now = omega (arith, c.loop-i-test.true, c.requires.rows) in
     let x_in : i < length x = omega (arith, c.loop-i-test.true, inv.rows) in

@@ -1,5 +1,5 @@
 use Rattle.std.proofs.Common.{◌≡◌, ◌<◌, ◌≤◌, ℕ, length}
-use Rattle.sparse_solve.specs.InnerColumns.{entries}
+use Rattle.sparse_solve.specs.InnerColumns.{elements}
 use Rattle.sparse_ldl.proofs.ldl.solve.divide_column.Given as goal
 
 abbrev pub invariant-loop-i : goal.invariant-loop-i
@@ -10,6 +10,6 @@ invariant-loop-i g l =
     record {
       rows : length l.x ≡ length l.initial.x;
       divided : (k : ℕ) → k < l.i
-          → R.mul (entries R f z l.d k) (entries R f z l.x k) ≡ entries R f z l.initial.x k;
-      waiting : (k : ℕ) → l.i ≤ k → entries R f z l.x k ≡ entries R f z l.initial.x k;
+          → R.mul (elements R f z l.d k) (elements R f z l.x k) ≡ elements R f z l.initial.x k;
+      waiting : (k : ℕ) → l.i ≤ k → elements R f z l.x k ≡ elements R f z l.initial.x k;
     }

@@ -1,6 +1,6 @@
 use Rattle.std.proofs.Common.{ℕ, ap, sym, subst, ◌∙◌, arith}
 use Rattle.sparse_algebra.specs.Algebra.{CommRing}
-use Rattle.sparse_solve.specs.InnerColumns.{entries}
+use Rattle.sparse_solve.specs.InnerColumns.{elements}
 use Rattle.sparse_solve.proofs.Taking.{OnRows, changes_more}
 use Rattle.sparse_ldl.specs.InnerColumns.{IsDivided}
 use Rattle.sparse_ldl.proofs.ldl.solve.divide_columns.Goals as goal
@@ -19,11 +19,11 @@ loop-j-preserved g c =
     let first = c.args.b.now in
     let b = c.loop-j.b in
     let n = first.nrows in
-    let d = entries R f z c.args.d.now in
+    let d = elements R f z c.args.d.now in
     let lent = c.column_mut.ensures in
     let old = c.column_mut.result.now in
     let ws = c.divide_column.new.x in
-    let divided = subst (λ n. IsDivided R n d (entries R f z old) (entries R f z ws))
+    let divided = subst (λ n. IsDivided R n d (elements R f z old) (elements R f z ws))
     (lent.rows ∙ c.loop-j.invariant.rows) c.divide_column.ensures.divided in
     changes_more R f z 0 c.loop-j.j (IsDivided R n d) first b old ws (omega arith)
     (divided_on_rows R f z n d) lent.exact lent.rows c.divide_column.ensures.rows lent.values divided

@@ -1,4 +1,4 @@
-use Rattle.sparse_solve.specs.InnerColumns.{ChangesBlock, entries}
+use Rattle.sparse_solve.specs.InnerColumns.{ChangesBlock, elements}
 use Rattle.sparse_ldl.specs.InnerColumns.{IsDivided}
 use Rattle.sparse_ldl.proofs.ldl.solve.divide_columns.Given as goal
 
@@ -7,4 +7,4 @@ invariant-loop-j g l =
     let R = g.T.Ring.ring in
     let f = g.T.Ring.value in
     let z = g.T.Zero.zero_value in
-    ChangesBlock R f z 0 l.j (IsDivided R l.initial.b.nrows (entries R f z l.d)) l.initial.b l.b
+    ChangesBlock R f z 0 l.j (IsDivided R l.initial.b.nrows (elements R f z l.d)) l.initial.b l.b
