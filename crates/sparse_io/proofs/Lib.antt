@@ -10,3 +10,4 @@ pub mod RoundTrip
 pub mod WrittenFields
 pub mod WrittenLines
 pub mod Transposed
+pub mod Refusals

@@ -1,5 +1,5 @@
 -- What is written is read again.
-use Rattle.std.proofs.Common.{eq-eqb, ◌≡◌, ℕ, ◌+◌, ◌-◌, ◌^◌, ◌<◌}
+use Rattle.std.proofs.Common.{eq-eqb, ◌≡◌, ℕ, ◌+◌, ◌^◌, ◌<◌}
 use Rattle.std.proofs.Common.{true, List, [], ◌∷◌, ◌++◌, length}
 use Rattle.std.proofs.Common.{drop, map, slice_get, Ok, Option, Some, refl, sym}
 use Rattle.std.proofs.Common.{subst, ◌∙◌, arith, inl, inr}
@@ -14,7 +14,6 @@ use Rattle.sparse_base.specs.Coo.{Coo, IsInside}
 use Rattle.sparse_parser.specs.declared.header.Field.{Field}
 use Rattle.sparse_parser.specs.declared.header.Field.TheVariants.{Integer, Pattern}
 use Rattle.sparse_parser.specs.declared.header.Header.{Header}
-use Rattle.sparse_parser.specs.Header.{says}
 use Rattle.sparse_parser.specs.Grammar.{AreLines, AreContents, IsHeaded}
 use Rattle.sparse_parser.specs.Grammar.{is_size}
 use Rattle.sparse_parser.specs.Grammar.{is_entry}

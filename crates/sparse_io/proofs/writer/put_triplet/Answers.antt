@@ -1,5 +1,5 @@
 use Rattle.std.proofs.Common.{string_bytes}
-use Rattle.std.proofs.lemmas.Result.{IfOk-from_err, err_from_is_err_and}
+use Rattle.std.proofs.lemmas.Result.{err_from_is_err_and}
 use Rattle.sparse_io.proofs.Buffering.{AppendsSome-all, AppendsSome-none}
 use Rattle.sparse_io.proofs.writer.put_triplet.Goals as goal
 use Rattle.sparse_io.proofs.writer.put_triplet.Goals.{then-len-ge-FULL+in_ok-flush}
@@ -14,17 +14,3 @@ returns-in_err-push_triplet-clause-prefix g c =
           (AppendsSome-all _ _ (string_bytes c.args.text.now) w.in_ok-flush.ensures.all)
       | else-len-ge-FULL w ↦ rw w.sink-is (AppendsSome-none _ (string_bytes c.args.text.now))
     ])
-
-pub returns-in_err-flush-clause-unfailed : goal.returns-in_err-flush-clause-unfailed
-returns-in_err-flush-clause-unfailed g c = IfOk-from_err _ _ c.from_residual.ensures.0
-
-pub returns-in_err-flush-clause-buffered : goal.returns-in_err-flush-clause-buffered
-returns-in_err-flush-clause-buffered g c = IfOk-from_err _ _ c.from_residual.ensures.0
-
-pub returns-in_err-push_triplet-clause-unfailed : goal.returns-in_err-push_triplet-clause-unfailed
-returns-in_err-push_triplet-clause-unfailed g c =
-    IfOk-from_err _ _ c.from_residual-in_err-push_triplet.ensures.0
-
-pub returns-in_err-push_triplet-clause-buffered : goal.returns-in_err-push_triplet-clause-buffered
-returns-in_err-push_triplet-clause-buffered g c =
-    IfOk-from_err _ _ c.from_residual-in_err-push_triplet.ensures.0

@@ -1,6 +1,6 @@
 use Rattle.std.proofs.lemmas.Grind.{common_steps, moves}
 use Rattle.std.proofs.Common.{refl, sym, ◌∙◌, rules, arith}
-use Rattle.std.proofs.lemmas.Result.{IfOk-from_err, IfOk-equal, err_from_is_err_and}
+use Rattle.std.proofs.lemmas.Result.{IfOk-equal, err_from_is_err_and}
 use Rattle.sparse_io.proofs.Buffering.{IsWriting-none, IsWriting-more, IsWriting-refused}
 use Rattle.sparse_io.proofs.Buffering.{IsWriting-all, on_ok-map, on_err-map}
 use Rattle.sparse_io.proofs.writer.save_to_matrix_market.Goals as goal
@@ -33,20 +33,6 @@ returns-clause-ok g c = on_ok-map c.flush.result (IsWriting-all _ _ _ _ _ _ _ _
 pub returns-clause-prefix : goal.returns-clause-prefix
 returns-clause-prefix g c = on_err-map c.flush.result (IsWriting-refused _ _ _ _ _ _ _ _
     c.loop-row.invariant.writing) c.flush.ensures.prefix
-
-pub returns-in_err-text-clause-ok : goal.returns-in_err-text-clause-ok
-returns-in_err-text-clause-ok g c = IfOk-from_err _ _ c.from_residual.ensures.0
-
-pub returns-in_err-text-clause-unfailed : goal.returns-in_err-text-clause-unfailed
-returns-in_err-text-clause-unfailed g c = IfOk-from_err _ _ c.from_residual.ensures.0
-
-pub returns-in_err-put_triplet-clause-ok : goal.returns-in_err-put_triplet-clause-ok
-returns-in_err-put_triplet-clause-ok g c =
-    IfOk-from_err _ _ c.from_residual-in_err-put_triplet.ensures.0
-
-pub returns-in_err-put_triplet-clause-unfailed : goal.returns-in_err-put_triplet-clause-unfailed
-returns-in_err-put_triplet-clause-unfailed g c =
-    IfOk-from_err _ _ c.from_residual-in_err-put_triplet.ensures.0
 
 pub returns-in_err-put_triplet-clause-refused : goal.returns-in_err-put_triplet-clause-refused
 returns-in_err-put_triplet-clause-refused g c =
