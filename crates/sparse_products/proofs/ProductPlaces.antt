@@ -7,25 +7,21 @@ use Rattle.sparse_algebra.proofs.PlainLemmas.{any_is, proper_product}
 use Rattle.sparse_pattern.specs.Raw.{Raw, IsPlace}
 use Rattle.sparse_cs.specs.Compressed.{Compressed, IsSound}
 use Rattle.sparse_cs.specs.PlainOfLanes.{plain_of_rows}
-use Rattle.sparse_cs.specs.Standing.{HasLanesAsRows}
+use Rattle.sparse_cs.proofs.Arrays.{proper_rows}
+use Rattle.sparse_cs.proofs.Standing.{rows_have}
 use Rattle.sparse_products.specs.InnerUpdates.{HasProductPlaces}
 use Rattle.sparse_products.proofs.ProductLanes.{IsJoined}
 
--- each matrix has the shape, the places and the values of its arrays
-abbrev pub RowsStand : (R : CommRing) {T : Type 0} → (T → R.Carrier) → Type 0
-RowsStand R {T} f = (m : Compressed T) → IsSound m → HasLanesAsRows R f m (plain_of_rows R f m)
-
-module _ (R : CommRing) {T : Type 0} (f : T → R.Carrier) (stand : RowsStand R f)
-    (a b : Compressed T) (sa : IsSound a) (sb : IsSound b)
-    (fits : a.pattern.minor_dim ≡ b.pattern.major_dim) where
+module _ (R : CommRing) {T : Type 0} (f : T → R.Carrier) {a b : Compressed T} (sa : IsSound a)
+    (sb : IsSound b) (fits : a.pattern.minor_dim ≡ b.pattern.major_dim) where
   abbrev pub product : Plain R
   product = plain_product R (plain_of_rows R f a) (plain_of_rows R f b)
 
   -- the places of the product are the pairs that some k joins
   pub joined_is : (i j : ℕ) → IsJoined a.pattern b.pattern i j ↔ (product.has i j ≡ true)
   joined_is i j =
-      let left = (stand a sa).places i in
-      let right = λ (k : ℕ). (stand b sb).places k j in
+      let left = (rows_have R f a sa).places i in
+      let right = λ (k : ℕ). (rows_have R f b sb).places k j in
       let any = any_is a.pattern.minor_dim (λ k. (plain_of_rows R f a).has i k
       && (plain_of_rows R f b).has k j) in (
         λ h. any.1 (
@@ -39,7 +35,7 @@ module _ (R : CommRing) {T : Type 0} (f : T → R.Carrier) (stand : RowsStand R 
 
   pub product_is_proper : IsProper product
   product_is_proper = proper_product R (plain_of_rows R f a) (plain_of_rows R f b)
-      (stand a sa).proper (stand b sb).proper
+      (proper_rows R f a) (proper_rows R f b)
 
   -- where a pattern has the places of the product, the product is zero elsewhere
   pub zero_elsewhere : (d : Raw) → HasProductPlaces d a.pattern b.pattern → (i j : ℕ)

@@ -24,7 +24,7 @@ use Rattle.sparse_cs.proofs.RowSums.{eq_refl}
 use Rattle.sparse_cs.proofs.BuiltMatrices.{IsBuiltMatrix, matrix_lane_built, built_is}
 use Rattle.sparse_products.specs.InnerProducts.{IsInLanes, GainsTaken}
 use Rattle.sparse_products.proofs.ProductLanes.{IsJoined, in_lanes_is}
-use Rattle.sparse_products.proofs.ProductPlaces.{RowsStand, product, joined_is, product_is_proper}
+use Rattle.sparse_products.proofs.ProductPlaces.{product, joined_is, product_is_proper}
 
 module _ (R : CommRing) {T : Type 0} (f : T → R.Carrier) (z : T) (x : ℕ → R.Carrier) where
   -- an index is at one place of the lane, with its value, or at none, with zero
@@ -94,11 +94,10 @@ IsMultipliedBelow R f a b n offsets indices values = IsBuiltMatrix R f b.pattern
     (IsJoined a.pattern b.pattern)
     (plain_product R (plain_of_rows R f a) (plain_of_rows R f b)).value n offsets indices values
 
-module _ (R : CommRing) {T : Type 0} (f : T → R.Carrier) (z : T) (stand : RowsStand R f)
-    (a b : Compressed T) (sa : IsSound a) (sb : IsSound b)
-    (fits : a.pattern.minor_dim ≡ b.pattern.major_dim) where
+module _ (R : CommRing) {T : Type 0} (f : T → R.Carrier) {a b : Compressed T} (sa : IsSound a)
+    (sb : IsSound b) (fits : a.pattern.minor_dim ≡ b.pattern.major_dim) where
   abbrev P : Plain R
-  P = product R f stand a b sa sb fits
+  P = product R f sa sb fits
 
   abbrev Below : ℕ → List ℕ → List ℕ → List T → Type 0
   Below n offsets indices values = IsMultipliedBelow R f a b n offsets indices values
@@ -123,23 +122,23 @@ module _ (R : CommRing) {T : Type 0} (f : T → R.Carrier) (z : T) (stand : Rows
   pub zero_off : (n : ℕ) → n < a.pattern.major_dim → (lane : List ℕ)
       → ((j : ℕ) → IsInLanes b.pattern (lane_of a.pattern n) j → Contains lane j) → (j : ℕ)
       → (Contains lane j → ⊥) → P.value n j ≡ R.zero
-  zero_off n lt lane holds j none = product_is_proper R f stand a b sa sb fits n j
+  zero_off n lt lane holds j none = product_is_proper R f sa sb fits n j
       (elim (true_or_false (P.has n j)) [
         | inl hit ↦ absurd (none (holds j ((in_lanes_is a.pattern b.pattern sa.valid n j lt).1
-            ((joined_is R f stand a b sa sb fits n j).1 hit))))
+            ((joined_is R f sa sb fits n j).1 hit))))
         | inr miss ↦ miss
       ])
 
   -- one row more
-  product_more : (n : ℕ) (offsets offsets' indices indices' : List ℕ)
-      (values values' part : List T) → n < a.pattern.major_dim → Below n offsets indices values
-      → (gains : GainsLane indices indices' (IsInLanes b.pattern (lane_of a.pattern n)))
+  product_more : (z : T) {n : ℕ} {offsets offsets' indices indices' : List ℕ}
+      {values values' : List T} (part : List T) → n < a.pattern.major_dim
+      → Below n offsets indices values → (gains : GainsLane indices indices' (IsInLanes b.pattern (lane_of a.pattern n)))
       → offsets' ≡ offsets ++ length indices' ∷ [] → values' ≡ values ++ part
       → length part ≡ length gains.lane
       → ((q : ℕ) → q < length gains.lane → f (get_or part q z) ≡ P.value n (get_or gains.lane q 0))
       → Below (n + 1) offsets' indices' values'
-  product_more n offsets offsets' indices indices' values values' part lt built gains is values_is
-      count read =
+  product_more z {n} {offsets} {indices = indices} {values = values} part lt built gains is values_is count
+      read =
       let in_lanes = λ (j : ℕ). in_lanes_is a.pattern b.pattern sa.valid n j lt in
       let holds : (j : ℕ) → Contains gains.lane j ↔ IsJoined a.pattern b.pattern n j = λ j. (
         λ h. (in_lanes j).0 ((gains.holds j).0 h),
@@ -153,21 +152,20 @@ module _ (R : CommRing) {T : Type 0} (f : T → R.Carrier) (z : T) (stand : Rows
       (lane_read R f z (P.value n) gains.lane part count gains.rising read
       (zero_off n lt gains.lane (λ j. (gains.holds j).1))))
 
-  pub row_more : (n : ℕ) (offsets offsets' indices indices' : List ℕ) (values values' : List T)
-      → n < a.pattern.major_dim → Below n offsets indices values
+  pub row_more : (z : T) {n : ℕ} {offsets offsets' indices indices' : List ℕ}
+      {values values' : List T} → n < a.pattern.major_dim → Below n offsets indices values
       → GainsLane indices indices' (IsInLanes b.pattern (lane_of a.pattern n))
       → offsets' ≡ offsets ++ length indices' ∷ []
       → GainsTaken R f z values values' (drop (length indices) indices') (P.value n)
       → Below (n + 1) offsets' indices' values'
-  row_more n offsets offsets' indices indices' values values' lt built gains is more =
+  row_more z {n} {indices = indices} {indices'} {values} {values'} lt built gains is more =
       let lane : drop (length indices) indices' ≡ gains.lane =
       ap (λ l. drop (length indices) l) gains.pushed
       ∙ drop_at indices gains.lane (length indices) refl in
       let own = subst (λ l. GainsTaken R f z values values' l (P.value n)) lane more in
-      product_more n offsets offsets' indices indices' values values' own.part lt built gains is
-      own.pushed own.count own.values
+      product_more z own.part lt built gains is own.pushed own.count own.values
 
-  module _ (n : ℕ) (offsets indices : List ℕ) (values : List T) (whole : n ≡ a.pattern.major_dim)
+  module _ {n : ℕ} {offsets indices : List ℕ} {values : List T} (whole : n ≡ a.pattern.major_dim)
       (built : Below n offsets indices values) where
     done : Below a.pattern.major_dim offsets indices values
     done = subst (λ k. Below k offsets indices values) whole built
@@ -176,8 +174,8 @@ module _ (R : CommRing) {T : Type 0} (f : T → R.Carrier) (z : T) (stand : Rows
         values)
     product_sound = record { valid = done.built.valid; count = done.count }
 
-    pub product_is : plain_of_rows R f (arrays_of a.pattern.major_dim b.pattern.minor_dim offsets
+    pub product_is : T → plain_of_rows R f (arrays_of a.pattern.major_dim b.pattern.minor_dim offsets
         indices values) ≡ P
-    product_is = built_is R f z P (product_is_proper R f stand a b sa sb fits)
-        (IsJoined a.pattern b.pattern) (joined_is R f stand a b sa sb fits) offsets indices values
+    product_is z = built_is R f z P (product_is_proper R f sa sb fits)
+        (IsJoined a.pattern b.pattern) (joined_is R f sa sb fits) offsets indices values
         done (λ i j h. h.1.in_lane.lane)

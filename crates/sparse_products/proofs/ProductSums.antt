@@ -3,8 +3,8 @@ use Rattle.std.proofs.Common.{◌≡◌, ℕ, ◌+◌, ◌<◌, [], ◌∷◌, l
 use Rattle.std.specs.List as naturals
 use Rattle.std.proofs.lemmas.List.{take_more, take_all}
 use Rattle.std.proofs.lemmas.List.Sums as natural_sums
-use Rattle.sparse_pattern.specs.Raw.{Raw, lane_of}
-use Rattle.sparse_products.specs.InnerUpdates.{triples_below}
+use Rattle.sparse_pattern.specs.Raw.{Raw, IsValid, lane_of, start_of}
+use Rattle.sparse_products.specs.InnerUpdates.{steps_below, triples_below}
 use Rattle.sparse_products.specs.ScalarProducts.{triples_of}
 
 -- the triples of a place more
@@ -16,6 +16,16 @@ triples_more n k a b lt is =
     ∙ natural_sums.sum_by-append g (take n a.indices) (get_or a.indices n 0 ∷ []) in
     omega (arith, whole, ap g is)
 
-pub all_triples : (a b : Raw) → triples_below (length a.indices) a b ≡ triples_of a b
+all_triples : (a b : Raw) → triples_below (length a.indices) a b ≡ triples_of a b
 all_triples a b = ap (naturals.sum_by (λ k. length (lane_of b k)))
     (take_all (length a.indices) a.indices (omega arith))
+
+pub no_steps : (a b : Raw) → IsValid a → steps_below 0 a b ≡ 0
+no_steps a b valid = omega (arith, valid.first, ap (λ n. triples_below n a b) valid.first)
+
+-- the steps of all lanes
+pub all_steps : (a b : Raw) → IsValid a → {n : ℕ} → n ≡ a.major_dim
+    → steps_below n a b ≡ length a.indices + triples_of a b
+all_steps a b valid is =
+    let end = ap (start_of a) is ∙ valid.last in
+    omega (arith, end, ap (λ n. triples_below n a b) end, all_triples a b)

@@ -2,11 +2,20 @@
 use Rattle.std.specs.Prelude.{◌≡◌, ℕ, ◌<◌, ◌++◌, ◌⊎◌, List, length, slice_index, slice_index_or}
 use Rattle.std.specs.Prelude.{Contains}
 use Rattle.sparse_algebra.specs.Algebra.{CommRing}
-use Rattle.sparse_pattern.specs.Raw.{Raw, IsPlace}
+use Rattle.sparse_pattern.specs.Raw.{Raw, IsPlace, lane_of}
+use Rattle.sparse_products.specs.declared.serial.factor.Factors.{Factors}
 
 -- one of the lanes has the index j
 abbrev pub IsInLanes : Raw → List ℕ → ℕ → Type 0
 IsInLanes d lanes j = (k : ℕ) × Contains lanes k × IsPlace d k j
+
+-- row i of the product has the index j
+abbrev pub IsInRow : {T : Type 0} → Factors T → ℕ → ℕ → Type 0
+IsInRow x i j = IsInLanes x.b.now.pattern (lane_of x.a.now.pattern i) j
+
+-- the row means zero everywhere
+abbrev pub IsZeroRow : (R : CommRing) {T : Type 0} → (T → R.Carrier) → T → List T → Type 0
+IsZeroRow R f z row = (j : ℕ) → f (slice_index_or row j z) ≡ R.zero
 
 -- the list gains at its end the values that represent x at the indices of a lane
 pub record GainsTaken (R : CommRing) {T : Type 0} (f : T → R.Carrier) (z : T) (old new : List T)

@@ -1,10 +1,11 @@
 //! The factors of a product, transposed where the operand says so.
 
-ghost use Rattle.std.specs.Prelude.{◌≡◌, IsOk, IfOk, ⊤};
-ghost use Rattle.sparse_algebra.specs.Plain.{plain_transpose};
+ghost use Rattle.std.specs.Prelude.{◌≡◌, IsOk, IfOk, ⊤, true, false};
+ghost use Rattle.sparse_algebra.specs.Plain.{plain_transpose, plain_product};
 ghost use Rattle.sparse_algebra.specs.Operands.{plain_op, MatchOp};
 ghost use Rattle.sparse_cs.specs.PlainOfLanes.{plain_of_rows, plain_of_cols};
-ghost use Rattle.sparse_products.specs.InnerFactors.{matrix_of};
+ghost use Rattle.sparse_products.specs.InnerFactors.{matrix_of, AreFactors};
+ghost use Rattle.sparse_products.specs.ScalarProducts.{IfNotTransposed};
 
 use sparse_algebra::learn;
 use sparse_algebra::operand::Op;
@@ -14,16 +15,23 @@ use sparse_forms::csc::CscMatrix;
 use sparse_forms::csr::CsrMatrix;
 use std::alloc::{AllocError, Global};
 
+// The factors of a product `a * b` of two matrices whose lanes are rows.
+#[derive(Clone, Copy)]
+pub(super) struct Factors<'a, T> {
+    pub(super) a: &'a CsMatrix<T>,
+    pub(super) b: &'a CsMatrix<T>,
+}
+
 // A matrix that an operand lends, or the transpose that was made of one.
 #[derive(Drop)]
-pub(super) enum Multiplicand<'a, T> {
+enum Multiplicand<'a, T> {
     Given(&'a CsMatrix<T>),
     Made(CsMatrix<T>),
 }
 
 impl<'a, T> Multiplicand<'a, T> {
     // Returns a reference to the matrix.
-    pub(super) fn matrix(&self) -> &CsMatrix<T>
+    fn matrix(&self) -> &CsMatrix<T>
         ensures { result.now ≡ matrix_of self.now }
     {
         match self {
@@ -33,8 +41,71 @@ impl<'a, T> Multiplicand<'a, T> {
     }
 }
 
+// The factors of a product of two operands.
+#[derive(Drop)]
+pub(super) struct Operands<'a, T> {
+    a: Multiplicand<'a, T>,
+    b: Multiplicand<'a, T>,
+}
+
+impl<'a, T> Operands<'a, T> {
+    // Returns references to the factors.
+    pub(super) fn factors(&self) -> Factors<'_, T>
+        ensures first { result.a.now ≡ matrix_of self.now.a }
+        ensures second { result.b.now ≡ matrix_of self.now.b }
+    {
+        Factors {
+            a: self.a.matrix(),
+            b: self.b.matrix(),
+        }
+    }
+}
+
+// Returns the factors of a product by rows. Only a transposed operand takes memory.
+#[tactic(auto, using(crate::proofs::Refusals::refused))]
+pub(super) fn csr_operands<'a, T: Ring>(
+    alloc: Global,
+    a: Op<&'a CsrMatrix<T>>,
+    b: Op<&'a CsrMatrix<T>>,
+) -> Result<Operands<'a, T>, AllocError>
+    requires { (plain_op T.ring (λ m. plain_of_rows T.ring T.value m.now) a).cols
+        ≡ (plain_op T.ring (λ m. plain_of_rows T.ring T.value m.now) b).rows }
+    ensures product { IfOk result (λ x. AreFactors T.ring T.value false
+        (plain_product T.ring (plain_op T.ring (λ m. plain_of_rows T.ring T.value m.now) a.entry)
+        (plain_op T.ring (λ m. plain_of_rows T.ring T.value m.now) b.entry))
+        (matrix_of x.a) (matrix_of x.b)) }
+    ensures given { IfOk result (λ x. IfNotTransposed a.entry b.entry
+        (λ m n. (matrix_of x.a ≡ m.now) × (matrix_of x.b ≡ n.now))) }
+    ensures free { IfNotTransposed a.entry b.entry (λ _ _. IsOk result) }
+{
+    let a = csr_factor(alloc, a)?;
+    let b = csr_factor(alloc, b)?;
+    Ok(Operands { a, b })
+}
+
+// Returns the factors of a product by columns, whose columns are the rows of the product in reverse order. Only a
+// transposed operand takes memory.
+#[tactic(auto, using(crate::proofs::Refusals::refused))]
+pub(super) fn csc_operands<'a, T: Ring>(
+    alloc: Global,
+    a: Op<&'a CscMatrix<T>>,
+    b: Op<&'a CscMatrix<T>>,
+) -> Result<Operands<'a, T>, AllocError>
+    requires { (plain_op T.ring (λ m. plain_of_cols T.ring T.value m.now) a).cols
+        ≡ (plain_op T.ring (λ m. plain_of_cols T.ring T.value m.now) b).rows }
+    ensures product { IfOk result (λ x. AreFactors T.ring T.value true
+        (plain_product T.ring (plain_op T.ring (λ m. plain_of_cols T.ring T.value m.now) a.entry)
+        (plain_op T.ring (λ m. plain_of_cols T.ring T.value m.now) b.entry))
+        (matrix_of x.a) (matrix_of x.b)) }
+    ensures free { IfNotTransposed a.entry b.entry (λ _ _. IsOk result) }
+{
+    let a = csc_factor(alloc, a)?;
+    let b = csc_factor(alloc, b)?;
+    Ok(Operands { a: b, b: a })
+}
+
 // Returns the matrix of an operand. Only a transposed operand takes memory.
-pub(super) fn csr_factor<T: Ring>(
+fn csr_factor<T: Ring>(
     alloc: Global,
     operand: Op<&CsrMatrix<T>>,
 ) -> Result<Multiplicand<'_, T>, AllocError>
@@ -53,13 +124,12 @@ pub(super) fn csr_factor<T: Ring>(
 }
 
 // Returns the matrix of an operand. Only a transposed operand takes memory.
-pub(super) fn csc_factor<T: Ring>(
+fn csc_factor<T: Ring>(
     alloc: Global,
     operand: Op<&CscMatrix<T>>,
 ) -> Result<Multiplicand<'_, T>, AllocError>
     ensures plain { IfOk result (λ x. plain_of_cols T.ring T.value (matrix_of x)
         ≡ plain_op T.ring (λ m. plain_of_cols T.ring T.value m.now) operand.entry) }
-    ensures given { IfOk result (λ x. MatchOp operand.entry (λ m. matrix_of x ≡ m.now) (λ _. ⊤)) }
     ensures free { MatchOp operand.entry (λ _. IsOk result) (λ _. ⊤) }
 {
     match operand {

@@ -9,8 +9,8 @@ ghost use Rattle.sparse_algebra.specs.Prealloc.{plain_update, IsCovered};
 ghost use Rattle.sparse_cs.specs.PlainOfLanes.{plain_of_rows, plain_of_cols};
 ghost use Rattle.sparse_products.specs.ScalarProducts.{IfNotTransposed};
 
-use super::factor::{csc_factor, csr_factor};
-use super::update::update_matrix_checked;
+use super::factor::{csc_operands, csr_operands};
+use super::update::{Update, update_checked};
 use sparse_algebra::error::OperationError;
 use sparse_algebra::learn;
 use sparse_algebra::operand::Op;
@@ -62,11 +62,15 @@ pub fn spmm_csr_prealloc<T: Ring>(
         (plain_product T.ring (plain_op T.ring (λ m. plain_of_rows T.ring T.value m.now) a.entry)
         (plain_op T.ring (λ m. plain_of_rows T.ring T.value m.now) b.entry))) }
 {
-    let a = csr_factor(alloc, a)?;
-    let b = csr_factor(alloc, b)?;
+    let operands = csr_operands(alloc, a, b)?;
     learn(c.values());
     let (pattern, values) = c.pattern_and_values_mut();
-    update_matrix_checked(beta, pattern, values, alpha, a, b)
+    let update = Update {
+        beta,
+        alpha,
+        factors: operands.factors(),
+    };
+    update_checked(update, pattern, values)
 }
 
 /// Replaces `c` by `beta * c + alpha * op(a) * op(b)` on the places of `c`.
@@ -112,9 +116,13 @@ pub fn spmm_csc_prealloc<T: Ring>(
         (plain_product T.ring (plain_op T.ring (λ m. plain_of_cols T.ring T.value m.now) a.entry)
         (plain_op T.ring (λ m. plain_of_cols T.ring T.value m.now) b.entry))) }
 {
-    let a = csc_factor(alloc, a)?;
-    let b = csc_factor(alloc, b)?;
+    let operands = csc_operands(alloc, a, b)?;
     learn(c.values());
     let (pattern, values) = c.pattern_and_values_mut();
-    update_matrix_checked(beta, pattern, values, alpha, b, a)
+    let update = Update {
+        beta,
+        alpha,
+        factors: operands.factors(),
+    };
+    update_checked(update, pattern, values)
 }

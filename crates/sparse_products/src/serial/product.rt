@@ -3,14 +3,15 @@
 ghost use Rattle.std.specs.Prelude.{◌≡◌, IfOk};
 ghost use Rattle.sparse_algebra.specs.Plain.{plain_product};
 ghost use Rattle.sparse_cs.specs.PlainOfLanes.{plain_of_rows, plain_of_cols};
+ghost use Rattle.sparse_products.specs.InnerFactors.{CanMultiply, product_of};
 
+use super::factor::Factors;
 use super::pattern::{is_wide, spmm_csr_pattern};
 use super::rows::multiply_rows;
-use super::update::update;
+use super::update::{Update, update_covered};
 use sparse_algebra::scalar::Ring;
 use sparse_base::steps::Steps;
 use sparse_cs::CsMatrix;
-use sparse_cs::laws::stands_law;
 use sparse_forms::csc::CscMatrix;
 use sparse_forms::csr::CsrMatrix;
 use std::alloc::{AllocError, Global};
@@ -87,37 +88,27 @@ fn multiply<T: Ring>(
         (plain_of_rows T.ring T.value b.now)) }
 {
     if is_wide(a.pattern(), b.pattern()) {
-        multiply_wide(alloc, a, b)
+        multiply_wide(alloc, Factors { a, b })
     } else {
-        multiply_rows(alloc, a, b)
+        multiply_rows(alloc, Factors { a, b })
     }
 }
 
 // The product where no memory is asked for the length of a row: the pattern first, and then the values, from zeros.
 #[tactic(auto, using(crate::proofs::Refusals::refused))]
-fn multiply_wide<T: Ring>(
-    alloc: Global,
-    a: &CsMatrix<T>,
-    b: &CsMatrix<T>,
-) -> Result<CsMatrix<T>, AllocError>
-    requires { a.now.pattern.minor_dim ≡ b.now.pattern.major_dim }
-    ensures { IfOk result (λ m. plain_of_rows T.ring T.value m
-        ≡ plain_product T.ring (plain_of_rows T.ring T.value a.now)
-        (plain_of_rows T.ring T.value b.now)) }
+fn multiply_wide<T: Ring>(alloc: Global, factors: Factors<'_, T>) -> Result<CsMatrix<T>, AllocError>
+    requires { CanMultiply factors }
+    ensures { IfOk result
+        (λ m. plain_of_rows T.ring T.value m ≡ product_of T.ring T.value factors.entry) }
 {
-    stands_law::<T>();
-    let pattern = spmm_csr_pattern(alloc, a.pattern(), b.pattern())?;
+    let pattern = spmm_csr_pattern(alloc, factors.a.pattern(), factors.b.pattern())?;
     let mut values = Vec::new(alloc);
     values.resize(pattern.nnz(), T::zero())?;
-    update(
-        alloc,
-        T::zero(),
-        &pattern,
-        &mut values,
-        T::one(),
-        a,
-        b,
-        &mut Steps::new(),
-    )?;
+    let update = Update {
+        beta: T::zero(),
+        alpha: T::one(),
+        factors,
+    };
+    update_covered(alloc, update, &pattern, &mut values, &mut Steps::new())?;
     Ok(CsMatrix::from_pattern_and_values(pattern, values))
 }

@@ -4,15 +4,15 @@
 ghost use Rattle.std.specs.Prelude.{◌≡◌, ℕ, ◌<◌, ◌≤◌, ◌+◌, ◌↔◌, ◌++◌, [], ◌∷◌, length, drop, map};
 ghost use Rattle.std.specs.Prelude.{All, IfOk, OnOk, slice_index_or, vec_len, vec_capacity};
 ghost use Rattle.std.specs.List.Sorted.{IsStrictlyIncreasing};
-ghost use Rattle.sparse_algebra.specs.Plain.{plain_product};
-ghost use Rattle.sparse_pattern.specs.Raw.{lane_of};
 ghost use Rattle.sparse_pattern.specs.InnerGainedLanes.{GainsLane};
 ghost use Rattle.sparse_cs.specs.Compressed.{IsSound, arrays_of};
 ghost use Rattle.sparse_cs.specs.PlainOfLanes.{plain_of_rows};
 ghost use Rattle.sparse_products.specs.InnerLaneSets.{HasRoom, IsEmptyLaneSet};
 ghost use Rattle.sparse_products.specs.InnerBits.{HasBit};
-ghost use Rattle.sparse_products.specs.InnerProducts.{IsInLanes, GainsTaken, IsTaken};
+ghost use Rattle.sparse_products.specs.InnerFactors.{CanMultiply, product_of};
+ghost use Rattle.sparse_products.specs.InnerProducts.{GainsTaken, IsInRow, IsTaken, IsZeroRow};
 
+use super::factor::Factors;
 use super::lane_set::{LaneSet, push_lane};
 use super::scatter::zero_row;
 use super::walk::add_product_row;
@@ -20,7 +20,6 @@ use sparse_algebra::learn;
 use sparse_algebra::scalar::Ring;
 use sparse_base::steps::Steps;
 use sparse_cs::CsMatrix;
-use sparse_cs::laws::stands_law;
 use sparse_pattern::pattern::SparsityPattern;
 use std::alloc::{AllocError, Global};
 
@@ -39,22 +38,19 @@ struct Rows<T> {
 #[tactic(auto, using(crate::proofs::Refusals::refused))]
 pub(super) fn multiply_rows<T: Ring>(
     alloc: Global,
-    a: &CsMatrix<T>,
-    b: &CsMatrix<T>,
+    factors: Factors<'_, T>,
 ) -> Result<CsMatrix<T>, AllocError>
-    requires { a.now.pattern.minor_dim ≡ b.now.pattern.major_dim }
-    ensures { IfOk result (λ m. plain_of_rows T.ring T.value m
-        ≡ plain_product T.ring (plain_of_rows T.ring T.value a.now)
-        (plain_of_rows T.ring T.value b.now)) }
+    requires { CanMultiply factors }
+    ensures { IfOk result
+        (λ m. plain_of_rows T.ring T.value m ≡ product_of T.ring T.value factors.entry) }
 {
-    stands_law::<T>();
-    let (first, second) = (a.pattern(), b.pattern());
+    let (first, second) = (factors.a.pattern(), factors.b.pattern());
     let mut set = LaneSet::new(alloc, second.minor_dim())?;
     let mut row = zero_row(alloc, second.minor_dim())?;
     let room = guess_places(alloc, first, second, &mut set)?;
     let mut rows = no_rows(alloc, first.major_dim(), room)?;
     for i in 0..first.major_dim() {
-        push_row(a, i, b, &mut set, &mut row, &mut rows)?;
+        push_row(factors, i, &mut set, &mut row, &mut rows)?;
     }
     Ok(into_matrix(rows, first.major_dim(), second.minor_dim()))
 }
@@ -117,36 +113,32 @@ fn count_indices(lane: &[usize], b: &SparsityPattern) -> usize
 #[tactic(auto, using(crate::proofs::Refusals::refused))]
 #[inline(always)]
 fn push_row<T: Ring>(
-    a: &CsMatrix<T>,
+    factors: Factors<'_, T>,
     i: usize,
-    b: &CsMatrix<T>,
     set: &mut LaneSet,
     row: &mut [T],
     rows: &mut Rows<T>,
 ) -> Result<(), AllocError>
-    requires inner { a.now.pattern.minor_dim ≡ b.now.pattern.major_dim }
-    requires lane { i < a.now.pattern.major_dim }
-    requires empty { IsEmptyLaneSet b.now.pattern.minor_dim set.old }
-    requires width { length row.old ≡ b.now.pattern.minor_dim }
-    requires zero { (j : ℕ) → T.value (slice_index_or row.old j T.zero_value) ≡ T.ring.zero }
-    ensures empty { OnOk result (IsEmptyLaneSet b.now.pattern.minor_dim set.new) }
-    ensures zero { OnOk result ((j : ℕ)
-        → T.value (slice_index_or row.new j T.zero_value) ≡ T.ring.zero) }
+    requires inner { CanMultiply factors }
+    requires lane { i < factors.a.now.pattern.major_dim }
+    requires empty { IsEmptyLaneSet factors.b.now.pattern.minor_dim set.old }
+    requires width { length row.old ≡ factors.b.now.pattern.minor_dim }
+    requires zero { IsZeroRow T.ring T.value T.zero_value row.old }
+    ensures empty { OnOk result (IsEmptyLaneSet factors.entry.b.now.pattern.minor_dim set.new) }
+    ensures zero { OnOk result (IsZeroRow T.ring T.value T.zero_value row.new) }
     ensures lane { OnOk result (GainsLane rows.old.indices.items rows.new.indices.items
-        (IsInLanes b.now.pattern (lane_of a.now.pattern i))) }
+        (IsInRow factors.entry i)) }
     ensures offset { OnOk result (rows.new.offsets.items
         ≡ rows.old.offsets.items ++ length rows.new.indices.items ∷ []) }
     ensures values { OnOk result (GainsTaken T.ring T.value T.zero_value
         rows.old.values.items rows.new.values.items
         (drop (length rows.old.indices.items) rows.new.indices.items)
-        ((plain_product T.ring (plain_of_rows T.ring T.value a.now)
-        (plain_of_rows T.ring T.value b.now)).value i)) }
+        ((product_of T.ring T.value factors.entry).value i)) }
 {
-    stands_law::<T>();
-    learn(a.values());
-    learn(b.values());
+    learn(factors.a.values());
+    learn(factors.b.values());
     let begin = rows.indices.len();
-    add_row(a, i, b, set, row);
+    add_row(factors, i, set, row);
     set.drain_into(&mut rows.indices)?;
     rows.offsets.push(rows.indices.len())?;
     let indices = &rows.indices[begin..];
@@ -157,26 +149,21 @@ fn push_row<T: Ring>(
 
 // Adds up row i of the product in a scratch row of zeros, and its indices in an empty set.
 #[inline(always)]
-fn add_row<T: Ring>(a: &CsMatrix<T>, i: usize, b: &CsMatrix<T>, set: &mut LaneSet, row: &mut [T])
-    requires inner { a.now.pattern.minor_dim ≡ b.now.pattern.major_dim }
-    requires lane { i < a.now.pattern.major_dim }
-    requires empty { IsEmptyLaneSet b.now.pattern.minor_dim set.old }
-    requires width { length row.old ≡ b.now.pattern.minor_dim }
-    requires zero { (j : ℕ) → T.value (slice_index_or row.old j T.zero_value) ≡ T.ring.zero }
+fn add_row<T: Ring>(factors: Factors<'_, T>, i: usize, set: &mut LaneSet, row: &mut [T])
+    requires inner { CanMultiply factors }
+    requires lane { i < factors.a.now.pattern.major_dim }
+    requires empty { IsEmptyLaneSet factors.b.now.pattern.minor_dim set.old }
+    requires width { length row.old ≡ factors.b.now.pattern.minor_dim }
+    requires zero { IsZeroRow T.ring T.value T.zero_value row.old }
     ensures room { (j : ℕ) → HasRoom set.old j → HasRoom set.new j }
-    ensures met { (j : ℕ) → HasBit set.new.words.items j
-        ↔ IsInLanes b.now.pattern (lane_of a.now.pattern i) j }
+    ensures met { (j : ℕ) → HasBit set.new.words.items j ↔ IsInRow factors.entry i j }
     ensures added { (j : ℕ) → j < length row.old
         → T.value (slice_index_or row.new j T.zero_value)
-        ≡ (plain_product T.ring (plain_of_rows T.ring T.value a.now)
-        (plain_of_rows T.ring T.value b.now)).value i j }
-    ensures bounded { (j : ℕ) → IsInLanes b.now.pattern (lane_of a.now.pattern i) j
-        → j < length row.old }
+        ≡ (product_of T.ring T.value factors.entry).value i j }
+    ensures bounded { (j : ℕ) → IsInRow factors.entry i j → j < length row.old }
 {
-    stands_law::<T>();
-    learn(a.values());
-    learn(b.values());
-    add_product_row(T::one(), a, i, b, set, row, &mut Steps::new());
+    learn(factors.b.values());
+    add_product_row(T::one(), factors, i, set, row, &mut Steps::new());
 }
 
 // Appends the row's values at the indices, for which there is room, and sets the row to zero there.

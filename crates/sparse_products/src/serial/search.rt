@@ -1,23 +1,17 @@
 //! A product that is added to the values of a pattern by binary search, without memory.
 
-ghost use Rattle.std.specs.Prelude.{◌≡◌, ℕ, ◌+◌, ◌<◌, ◌↔◌, length, slice_index_or, All, Contains};
-ghost use Rattle.std.specs.Prelude.{IsTrue};
-ghost use Rattle.sparse_algebra.specs.Plain.{plain_product};
-ghost use Rattle.sparse_pattern.specs.Raw.{IsInLane, IsPlace, nnz_of, start_of, end_of, lane_of};
+ghost use Rattle.std.specs.Prelude.{◌≡◌, ℕ, ◌+◌, ◌<◌, ◌↔◌, length, All, Contains, IsTrue};
+ghost use Rattle.sparse_pattern.specs.Raw.{IsPlace};
 ghost use Rattle.sparse_cs.specs.ChangedValues.{AreChanged};
-ghost use Rattle.sparse_cs.specs.Compressed.{IsPosition};
-ghost use Rattle.sparse_cs.specs.PlainOfLanes.{plain_of_rows};
-ghost use Rattle.sparse_cs.specs.InnerRows.{lane_value};
 ghost use Rattle.sparse_products.specs.InnerProducts.{IsInLanes};
-ghost use Rattle.sparse_products.specs.InnerUpdates.{HasProductPlaces, triples_below};
-ghost use Rattle.sparse_cs.specs.InnerUpdates.{AreUpdated};
-ghost use Rattle.sparse_products.specs.ScalarProducts.{triples_of};
+ghost use Rattle.sparse_products.specs.InnerUpdates.{CanUpdate, HasProductPlaces, IsUpdated};
+ghost use Rattle.sparse_products.specs.InnerUpdates.{steps_of};
 
+use super::update::Update;
 use super::walk::{Slots, add_product_row};
 use sparse_algebra::learn;
 use sparse_algebra::scalar::Ring;
 use sparse_base::steps::Steps;
-use sparse_cs::CsMatrix;
 use sparse_kernels::position_of;
 use sparse_pattern::pattern::SparsityPattern;
 
@@ -105,35 +99,26 @@ impl<'a> Slots for LaneSlots<'a> {
     ghost one_column = { λ s i j p here there. sym here.1.1 ∙ there.1.1 };
 }
 
-// Replaces each value `c` by `beta * c + alpha * x`, where `x` is the entry of the product `a * b` at its place.
+// Updates the matrix of a pattern and its values, which has the places of the product.
 pub(super) fn search_rows<T: Ring>(
-    beta: T,
+    update: Update<'_, T>,
     pattern: &SparsityPattern,
     values: &mut [T],
-    alpha: T,
-    a: &CsMatrix<T>,
-    b: &CsMatrix<T>,
     steps: &mut Steps,
 )
-    requires count { length values.old ≡ length pattern.now.indices }
-    requires inner { a.now.pattern.minor_dim ≡ b.now.pattern.major_dim }
-    requires lanes { a.now.pattern.major_dim ≡ pattern.now.major_dim }
-    requires places { HasProductPlaces pattern.now a.now.pattern b.now.pattern }
-    ensures updated { AreUpdated T.ring T.value T.zero_value pattern.now (T.value beta)
-        (T.value alpha)
-        (plain_product T.ring (plain_of_rows T.ring T.value a.now)
-        (plain_of_rows T.ring T.value b.now)).value
-        values.old values.new }
-    ensures counted { steps.new ≡ steps.old + nnz_of a.now.pattern + nnz_of pattern.now
-        + triples_of a.now.pattern b.now.pattern }
+    requires sizes { CanUpdate update.factors pattern.now values.old }
+    requires places { HasProductPlaces pattern.now update.factors.a.now.pattern
+        update.factors.b.now.pattern }
+    ensures updated { IsUpdated T.ring T.value update.entry pattern.now values.old values.new }
+    ensures counted { steps.new ≡ steps.old + steps_of update.entry.factors pattern.now }
 {
     learn(pattern.major_offsets());
-    learn(a.values());
-    learn(b.values());
-    scale_values(beta, values, steps);
+    learn(update.factors.a.values());
+    learn(update.factors.b.values());
+    scale_values(update.beta, values, steps);
     for i in 0..pattern.major_dim() {
         let mut slots = LaneSlots { pattern, lane: i };
-        add_product_row(alpha, a, i, b, &mut slots, values, steps);
+        add_product_row(update.alpha, update.factors, i, &mut slots, values, steps);
     }
 }
 

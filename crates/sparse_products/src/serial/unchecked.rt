@@ -9,8 +9,8 @@ ghost use Rattle.sparse_pattern.specs.Raw.{nnz_of};
 ghost use Rattle.sparse_cs.specs.PlainOfLanes.{plain_of_rows, plain_of_cols};
 ghost use Rattle.sparse_products.specs.ScalarProducts.{IfNotTransposed, triples_of};
 
-use super::factor::{csc_factor, csr_factor};
-use super::update::update_matrix;
+use super::factor::{csc_operands, csr_operands};
+use super::update::{Update, update_covered};
 use sparse_algebra::error::OperationError;
 use sparse_algebra::learn;
 use sparse_algebra::operand::Op;
@@ -118,11 +118,15 @@ pub fn spmm_csr_prealloc_unchecked_counted<T: Ring>(
     ensures all_multiplied { OnOk result (IfNotTransposed a.entry b.entry (λ m n.
         steps.old + triples_of m.now.pattern n.now.pattern ≤ steps.new)) }
 {
-    let a = csr_factor(alloc, a)?;
-    let b = csr_factor(alloc, b)?;
+    let operands = csr_operands(alloc, a, b)?;
     learn(c.values());
     let (pattern, values) = c.pattern_and_values_mut();
-    update_matrix(alloc, beta, pattern, values, alpha, a, b, steps)?;
+    let update = Update {
+        beta,
+        alpha,
+        factors: operands.factors(),
+    };
+    update_covered(alloc, update, pattern, values, steps)?;
     Ok(())
 }
 
@@ -162,10 +166,14 @@ pub fn spmm_csc_prealloc_unchecked<T: Ring>(
         (plain_product T.ring (plain_op T.ring (λ m. plain_of_cols T.ring T.value m.now) a.entry)
         (plain_op T.ring (λ m. plain_of_cols T.ring T.value m.now) b.entry))) }
 {
-    let a = csc_factor(alloc, a)?;
-    let b = csc_factor(alloc, b)?;
+    let operands = csc_operands(alloc, a, b)?;
     learn(c.values());
     let (pattern, values) = c.pattern_and_values_mut();
-    update_matrix(alloc, beta, pattern, values, alpha, b, a, &mut Steps::new())?;
+    let update = Update {
+        beta,
+        alpha,
+        factors: operands.factors(),
+    };
+    update_covered(alloc, update, pattern, values, &mut Steps::new())?;
     Ok(())
 }

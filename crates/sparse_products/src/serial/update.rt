@@ -1,165 +1,88 @@
 //! A product that is added to the values of a given pattern.
 
-ghost use Rattle.std.specs.Prelude.{◌≡◌, ◌+◌, ◌≤◌, ◌↔◌, length, IsOk, IfErr, OnErr, OnOk};
-ghost use Rattle.sparse_algebra.specs.Plain.{plain_product};
+ghost use Rattle.std.specs.Prelude.{◌≡◌, ◌+◌, ◌≤◌, ◌↔◌, IsOk, IfErr, OnErr, OnOk};
 ghost use Rattle.sparse_algebra.specs.declared.error.OperationErrorKind.TheVariants.{InvalidPattern};
-ghost use Rattle.sparse_algebra.specs.Prealloc.{plain_update, IsCovered};
-ghost use Rattle.sparse_pattern.specs.Raw.{nnz_of};
+ghost use Rattle.sparse_algebra.specs.Prealloc.{IsCovered};
 ghost use Rattle.sparse_cs.specs.Compressed.{compressed_of};
 ghost use Rattle.sparse_cs.specs.PlainOfLanes.{plain_of_rows};
-ghost use Rattle.sparse_products.specs.InnerFactors.{matrix_of};
-ghost use Rattle.sparse_products.specs.InnerUpdates.{HasProductPlaces};
-ghost use Rattle.sparse_cs.specs.InnerUpdates.{AreUpdated};
+ghost use Rattle.sparse_products.specs.InnerFactors.{product_of};
+ghost use Rattle.sparse_products.specs.InnerUpdates.{CanUpdate, IsUpdated, steps_of};
 ghost use Rattle.sparse_products.specs.ScalarProducts.{triples_of};
 
-use super::factor::Multiplicand;
+use super::factor::Factors;
 use super::scatter::scatter_rows;
 use super::search::{covers_product, search_rows};
 use sparse_algebra::error::OperationError;
 use sparse_algebra::learn;
 use sparse_algebra::scalar::Ring;
 use sparse_base::steps::Steps;
-use sparse_cs::CsMatrix;
-use sparse_cs::laws::stands_law;
 use sparse_pattern::pattern::SparsityPattern;
 use std::alloc::{AllocError, Global};
 
-// Replaces the matrix `c` of a pattern and its values by `beta * c + alpha * a * b` on its places, or refuses before
-// any value is written.
-pub(super) fn update_matrix_checked<T: Ring>(
-    beta: T,
+// The update `beta * c + alpha * a * b` of a matrix `c`, on the places of `c`.
+#[derive(Clone, Copy)]
+pub(super) struct Update<'a, T> {
+    pub(super) beta: T,
+    pub(super) alpha: T,
+    pub(super) factors: Factors<'a, T>,
+}
+
+// Updates the matrix of a pattern and its values, or refuses before any value is written.
+pub(super) fn update_checked<T: Ring>(
+    update: Update<'_, T>,
     pattern: &SparsityPattern,
     values: &mut [T],
-    alpha: T,
-    a: Multiplicand<'_, T>,
-    b: Multiplicand<'_, T>,
 ) -> Result<(), OperationError>
-    requires count { length values.old ≡ length pattern.now.indices }
-    requires inner { (matrix_of a).pattern.minor_dim ≡ (matrix_of b).pattern.major_dim }
-    requires lanes { (matrix_of a).pattern.major_dim ≡ pattern.now.major_dim }
-    ensures covered { IsOk result ↔ IsCovered
-        (plain_product T.ring (plain_of_rows T.ring T.value (matrix_of a.entry))
-        (plain_of_rows T.ring T.value (matrix_of b.entry)))
+    requires { CanUpdate update.factors pattern.now values.old }
+    ensures covered { IsOk result ↔ IsCovered (product_of T.ring T.value update.entry.factors)
         (plain_of_rows T.ring T.value (compressed_of pattern.now values.old)) }
     ensures kind { IfErr result (λ e. e ≡ InvalidPattern) }
     ensures unchanged { OnErr result (values.new ≡ values.old) }
     ensures updated { OnOk result
-        (plain_of_rows T.ring T.value (compressed_of pattern.now values.new)
-        ≡ plain_update T.ring (T.value beta)
-        (plain_of_rows T.ring T.value (compressed_of pattern.now values.old)) (T.value alpha)
-        (plain_product T.ring (plain_of_rows T.ring T.value (matrix_of a.entry))
-        (plain_of_rows T.ring T.value (matrix_of b.entry)))) }
+        (IsUpdated T.ring T.value update.entry pattern.now values.old values.new) }
 {
-    let (first, second) = (a.matrix(), b.matrix());
-    stands_law::<T>();
     learn(pattern.major_offsets());
-    learn(first.values());
-    learn(second.values());
-    update_checked(beta, pattern, values, alpha, first, second)
-}
-
-// Replaces each value `c` by `beta * c + alpha * x`, where `x` is the entry of the product `a * b` at its place, or
-// refuses before any value is written.
-fn update_checked<T: Ring>(
-    beta: T,
-    pattern: &SparsityPattern,
-    values: &mut [T],
-    alpha: T,
-    a: &CsMatrix<T>,
-    b: &CsMatrix<T>,
-) -> Result<(), OperationError>
-    requires count { length values.old ≡ length pattern.now.indices }
-    requires inner { a.now.pattern.minor_dim ≡ b.now.pattern.major_dim }
-    requires lanes { a.now.pattern.major_dim ≡ pattern.now.major_dim }
-    ensures covered { IsOk result ↔ HasProductPlaces pattern.now a.now.pattern b.now.pattern }
-    ensures kind { IfErr result (λ e. e ≡ InvalidPattern) }
-    ensures unchanged { OnErr result (values.new ≡ values.old) }
-    ensures updated { OnOk result
-        (AreUpdated T.ring T.value T.zero_value pattern.now (T.value beta) (T.value alpha)
-        (plain_product T.ring (plain_of_rows T.ring T.value a.now)
-        (plain_of_rows T.ring T.value b.now)).value
-        values.old values.new) }
-{
-    if !covers_product(pattern, a.pattern(), b.pattern()) {
+    if !covers_product(
+        pattern,
+        update.factors.a.pattern(),
+        update.factors.b.pattern(),
+    ) {
         return Err(OperationError::of_product_pattern());
     }
-    search_rows(beta, pattern, values, alpha, a, b, &mut Steps::new());
+    search_rows(update, pattern, values, &mut Steps::new());
     Ok(())
 }
 
-// Replaces the matrix `c` of a pattern and its values, which has the places of the product, by `beta * c + alpha * a *
-// b`.
-pub(super) fn update_matrix<T: Ring>(
+// Updates the matrix of a pattern and its values, which has the places of the product.
+//
+// Memory for a scratch row is taken only if the row is no longer than `b` and the pattern have places.
+pub(super) fn update_covered<T: Ring>(
     alloc: Global,
-    beta: T,
+    update: Update<'_, T>,
     pattern: &SparsityPattern,
     values: &mut [T],
-    alpha: T,
-    a: Multiplicand<'_, T>,
-    b: Multiplicand<'_, T>,
     steps: &mut Steps,
 ) -> Result<(), AllocError>
-    requires count { length values.old ≡ length pattern.now.indices }
-    requires inner { (matrix_of a).pattern.minor_dim ≡ (matrix_of b).pattern.major_dim }
-    requires lanes { (matrix_of a).pattern.major_dim ≡ pattern.now.major_dim }
-    requires width { (matrix_of b).pattern.minor_dim ≡ pattern.now.minor_dim }
-    requires covered { IsCovered
-        (plain_product T.ring (plain_of_rows T.ring T.value (matrix_of a))
-        (plain_of_rows T.ring T.value (matrix_of b)))
+    requires sizes { CanUpdate update.factors pattern.now values.old }
+    requires width { update.factors.b.now.pattern.minor_dim ≡ pattern.now.minor_dim }
+    requires covered { IsCovered (product_of T.ring T.value update.factors)
         (plain_of_rows T.ring T.value (compressed_of pattern.now values.old)) }
     ensures unchanged { OnErr result (values.new ≡ values.old) }
     ensures updated { OnOk result
-        (plain_of_rows T.ring T.value (compressed_of pattern.now values.new)
-        ≡ plain_update T.ring (T.value beta)
-        (plain_of_rows T.ring T.value (compressed_of pattern.now values.old)) (T.value alpha)
-        (plain_product T.ring (plain_of_rows T.ring T.value (matrix_of a.entry))
-        (plain_of_rows T.ring T.value (matrix_of b.entry)))) }
-    ensures no_more { steps.new
-        ≤ steps.old + nnz_of (matrix_of a.entry).pattern + nnz_of pattern.now
-        + triples_of (matrix_of a.entry).pattern (matrix_of b.entry).pattern }
-    ensures all_multiplied { OnOk result (steps.old
-        + triples_of (matrix_of a.entry).pattern (matrix_of b.entry).pattern ≤ steps.new) }
+        (IsUpdated T.ring T.value update.entry pattern.now values.old values.new) }
+    ensures no_more { steps.new ≤ steps.old + steps_of update.entry.factors pattern.now }
+    ensures all_multiplied { OnOk result (steps.old + triples_of
+        update.entry.factors.a.now.pattern update.entry.factors.b.now.pattern ≤ steps.new) }
 {
-    let (first, second) = (a.matrix(), b.matrix());
-    stands_law::<T>();
     learn(pattern.major_offsets());
-    learn(first.values());
-    learn(second.values());
-    update(alloc, beta, pattern, values, alpha, first, second, steps)
-}
-
-// Replaces each value `c` by `beta * c + alpha * x`, where `x` is the entry of the product `a * b` at its place.
-//
-// Memory for a scratch row is taken only if the row is no longer than `b` and the pattern have places.
-pub(super) fn update<T: Ring>(
-    alloc: Global,
-    beta: T,
-    pattern: &SparsityPattern,
-    values: &mut [T],
-    alpha: T,
-    a: &CsMatrix<T>,
-    b: &CsMatrix<T>,
-    steps: &mut Steps,
-) -> Result<(), AllocError>
-    requires count { length values.old ≡ length pattern.now.indices }
-    requires inner { a.now.pattern.minor_dim ≡ b.now.pattern.major_dim }
-    requires lanes { a.now.pattern.major_dim ≡ pattern.now.major_dim }
-    requires width { b.now.pattern.minor_dim ≡ pattern.now.minor_dim }
-    requires places { HasProductPlaces pattern.now a.now.pattern b.now.pattern }
-    ensures unchanged { OnErr result (values.new ≡ values.old) }
-    ensures updated { OnOk result
-        (AreUpdated T.ring T.value T.zero_value pattern.now (T.value beta) (T.value alpha)
-        (plain_product T.ring (plain_of_rows T.ring T.value a.now)
-        (plain_of_rows T.ring T.value b.now)).value
-        values.old values.new) }
-    ensures no_more { steps.new ≤ steps.old + nnz_of a.now.pattern + nnz_of pattern.now
-        + triples_of a.now.pattern b.now.pattern }
-    ensures all_multiplied { OnOk result
-        (steps.old + triples_of a.now.pattern b.now.pattern ≤ steps.new) }
-{
-    if pattern.nnz().saturating_add(b.pattern().nnz()) < pattern.minor_dim() {
-        search_rows(beta, pattern, values, alpha, a, b, steps);
+    learn(update.factors.a.values());
+    if pattern
+        .nnz()
+        .saturating_add(update.factors.b.pattern().nnz())
+        < pattern.minor_dim()
+    {
+        search_rows(update, pattern, values, steps);
         return Ok(());
     }
-    scatter_rows(alloc, beta, pattern, values, alpha, a, b, steps)
+    scatter_rows(alloc, update, pattern, values, steps)
 }

@@ -1,14 +1,15 @@
 //! The walk through the terms of a row of a product, which all products share (Gustavson 1978).
 
 ghost use Rattle.std.specs.Prelude.{◌≡◌, ℕ, ◌+◌, ◌<◌, length, slice_range};
-ghost use Rattle.sparse_algebra.specs.Plain.{plain_product};
 ghost use Rattle.sparse_pattern.specs.Raw.{IsPlace, start_of, end_of, lane_of};
 ghost use Rattle.sparse_cs.specs.Compressed.{IsSound};
 ghost use Rattle.sparse_cs.specs.PlainOfLanes.{plain_of_rows};
-ghost use Rattle.sparse_products.specs.InnerProducts.{IsInLanes};
-ghost use Rattle.sparse_products.specs.InnerUpdates.{triples_below};
+ghost use Rattle.sparse_products.specs.InnerFactors.{CanMultiply, product_of};
+ghost use Rattle.sparse_products.specs.InnerProducts.{IsInRow};
+ghost use Rattle.sparse_products.specs.InnerUpdates.{steps_below};
 ghost use Rattle.sparse_products.specs.InnerWalks.{AreAdded, AreNoted};
 
+use super::factor::Factors;
 use sparse_algebra::learn;
 use sparse_algebra::scalar::Ring;
 use sparse_base::steps::Steps;
@@ -62,33 +63,28 @@ impl Slots for EachColumn {
 #[inline(always)]
 pub(super) fn add_product_row<T: Ring, S: Slots>(
     alpha: T,
-    a: &CsMatrix<T>,
+    factors: Factors<'_, T>,
     i: usize,
-    b: &CsMatrix<T>,
     slots: &mut S,
     target: &mut [T],
     steps: &mut Steps,
 )
-    requires inner { a.now.pattern.minor_dim ≡ b.now.pattern.major_dim }
-    requires lane { i < a.now.pattern.major_dim }
-    requires slots { (j : ℕ) → IsInLanes b.now.pattern (lane_of a.now.pattern i) j
+    requires inner { CanMultiply factors }
+    requires lane { i < factors.a.now.pattern.major_dim }
+    requires slots { (j : ℕ) → IsInRow factors i j
         → (p : ℕ) × S.slot slots.old j p × (p < length target.old) }
     ensures added { AreAdded T.ring T.value T.zero_value (S.slot slots.old) (T.value alpha)
-        ((plain_product T.ring (plain_of_rows T.ring T.value a.now)
-        (plain_of_rows T.ring T.value b.now)).value i)
-        target.old target.new }
+        ((product_of T.ring T.value factors.entry).value i) target.old target.new }
     ensures noted { AreNoted (S.slot slots.old) (S.slot slots.new) (S.noted slots.old)
-        (S.noted slots.new)
-        (IsInLanes b.now.pattern (lane_of a.now.pattern i)) }
-    ensures counted { steps.new + start_of a.now.pattern i
-        + triples_below (start_of a.now.pattern i) a.now.pattern b.now.pattern
-        ≡ steps.old + end_of a.now.pattern i
-        + triples_below (end_of a.now.pattern i) a.now.pattern b.now.pattern }
+        (S.noted slots.new) (IsInRow factors.entry i) }
+    ensures counted { steps.new
+        + steps_below i factors.entry.a.now.pattern factors.entry.b.now.pattern ≡ steps.old
+        + steps_below (i + 1) factors.entry.a.now.pattern factors.entry.b.now.pattern }
 {
-    let (lanes, entries) = lane_entries(a, i);
+    let (lanes, entries) = lane_entries(factors.a, i);
     for (k, entry) in lanes.iter().zip(entries) {
         steps.tick();
-        add_matrix_row(alpha.mul(*entry), b, *k, slots, target, steps);
+        add_matrix_row(alpha.mul(*entry), factors.b, *k, slots, target, steps);
     }
 }
 

@@ -1,47 +1,59 @@
 use Rattle.std.proofs.lemmas.Grind.{common_steps}
-use Rattle.std.proofs.Common.{◌≡◌, length, ap, subst, ◌∙◌, arith}
+use Rattle.std.proofs.Common.{◌≡◌, length, ap, sym, ◌∙◌, arith}
 use Rattle.std.proofs.lemmas.List.{take_at}
 use Rattle.sparse_pattern.specs.Raw.{Raw}
 use Rattle.sparse_cs.specs.Compressed.{IsSound, compressed_of}
 use Rattle.sparse_cs.specs.PlainOfLanes.{plain_of_rows}
 use Rattle.sparse_products.specs.Products.{IsProductOf}
 use Rattle.sparse_products.proofs.MadeProducts.{has_places, product_made}
+use Rattle.sparse_products.proofs.Updating.{covered_is}
 use Rattle.sparse_products.proofs.serial.product.multiply_wide.Goals as goal
 
-pub update-requires-clause-places : goal.update-requires-clause-places
-update-requires-clause-places g c =
-    let a = c.args.a.now.pattern in
-    let b = c.args.b.now.pattern in
-    let places : IsProductOf c.in_ok-pattern.pattern a b =
+pub update_covered-requires-clause-sizes : goal.update_covered-requires-clause-sizes
+update_covered-requires-clause-sizes g c = record {
+  inner = c.requires;
+  lanes = sym (c.in_ok-pattern.ensures.major
+      ∙ ap (λ (d : Raw). d.major_dim) c.pattern.ensures.pattern);
+  count = omega (arith, c.deref_mut.ensures.len, c.in_ok-resize.ensures.len, c.nnz.ensures);
+}
+
+pub update_covered-requires-clause-covered : goal.update_covered-requires-clause-covered
+update_covered-requires-clause-covered g c =
+    let x = c.args.factors in
+    let d = c.in_ok-pattern.pattern in
+    let places : IsProductOf d x.a.now.pattern x.b.now.pattern =
     rw (c.pattern.ensures.pattern, c.pattern-2.ensures.pattern) at
     c.in_ok-pattern.ensures.places in
-    has_places c.in_ok-pattern.pattern a b places
+    let sound : IsSound (compressed_of d c.deref_mut.result.now) = record {
+      valid = c.in_ok-pattern.ensures.valid;
+      count = omega (arith, c.deref_mut.ensures.len, c.in_ok-resize.ensures.len, c.nnz.ensures);
+    } in
+    (covered_is g.T.Ring.ring g.T.Ring.value c.pattern.ensures.sound c.pattern-2.ensures.sound
+    c.requires sound).0 (has_places d x.a.now.pattern x.b.now.pattern places)
 
 pub returns : goal.returns
 returns g c =
     let R = g.T.Ring.ring in
     let f = g.T.Ring.value in
-    let z = g.T.Zero.zero_value in
-    let a = c.args.a.now in
-    let b = c.args.b.now in
+    let x = c.args.factors in
     let d = c.in_ok-pattern.pattern in
-    let places : IsProductOf d a.pattern b.pattern =
+    let places : IsProductOf d x.a.now.pattern x.b.now.pattern =
     rw (c.pattern.ensures.pattern, c.pattern-2.ensures.pattern) at
     c.in_ok-pattern.ensures.places in
-    let major = c.in_ok-pattern.ensures.major
-    ∙ ap (λ (d : Raw). d.major_dim) c.pattern.ensures.pattern in
-    let minor = c.in_ok-pattern.ensures.minor
-    ∙ ap (λ (d : Raw). d.minor_dim) c.pattern-2.ensures.pattern in
-    let long : length c.update.new.values ≡ c.resize.new.self.len = c.update.auto.values
-    ∙ c.deref_mut.ensures.len in
-    let is = c.from_pattern_and_values.ensures.is
-    ∙ ap (compressed_of d) (take_at c.update.new.values _ _ long) in
-    let sound = subst IsSound is c.from_pattern_and_values.ensures.sound in
-    let none = ap f c.zero-2.ensures ∙ g.met.T.Ring.zero_law in
-    ap (plain_of_rows R f) is ∙ product_made R f c.stands_law.ensures.rows
-    c.stands_law.ensures.one_by_rows a b c.pattern.ensures.sound c.pattern-2.ensures.sound
-    c.requires d z (f c.zero-2.result) none (f c.one.result) c.one.ensures c.deref_mut.result.now
-    c.update.new.values sound major minor places c.in_ok-update.ensures.updated
+    let sound : IsSound (compressed_of d c.deref_mut.result.now) = record {
+      valid = c.in_ok-pattern.ensures.valid;
+      count = omega (arith, c.deref_mut.ensures.len, c.in_ok-resize.ensures.len, c.nnz.ensures);
+    } in
+    let long : length c.update_covered.new.values ≡ c.resize.new.self.len =
+    c.update_covered.auto.values ∙ c.deref_mut.ensures.len in
+    ap (plain_of_rows R f) (c.from_pattern_and_values.ensures.is
+    ∙ ap (compressed_of d) (take_at c.update_covered.new.values _ _ long))
+    ∙ c.in_ok-update_covered.ensures.updated
+    ∙ product_made R f c.pattern.ensures.sound c.pattern-2.ensures.sound c.requires sound
+    (c.in_ok-pattern.ensures.major ∙ ap (λ (d : Raw). d.major_dim) c.pattern.ensures.pattern)
+    (c.in_ok-pattern.ensures.minor ∙ ap (λ (d : Raw). d.minor_dim) c.pattern-2.ensures.pattern)
+    places (f c.zero-2.result) (f c.one.result) (ap f c.zero-2.ensures ∙ g.met.T.Ring.zero_law)
+    c.one.ensures
 
 -- ---- written by tools/answer-goals
 

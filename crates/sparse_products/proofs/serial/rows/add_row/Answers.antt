@@ -1,13 +1,13 @@
 use Rattle.std.proofs.Common.{inl, inr, refl, ap, ◌∙◌, arith}
 use Rattle.sparse_algebra.proofs.RingLemmas.{zero_add}
 use Rattle.sparse_pattern.proofs.BuiltLanes.{place_within}
-use Rattle.sparse_products.proofs.ProductPlaces.{product}
+use Rattle.sparse_products.specs.InnerFactors.{product_of}
 use Rattle.sparse_products.proofs.serial.rows.add_row.Goals as goal
 
 pub add_product_row-requires-clause-slots : goal.add_product_row-requires-clause-slots
 add_product_row-requires-clause-slots g c = λ j h.
-    let b = c.args.b.now.pattern in
-    let below = place_within b c.values-2.ensures.sound.valid h.0 j h.2 in (
+    let b = c.args.factors.b.now.pattern in
+    let below = place_within b c.values.ensures.sound.valid h.0 j h.2 in (
       j,
       (c.requires.empty.room j (omega (arith, below)), refl),
       omega (arith, below, c.requires.width),
@@ -28,8 +28,7 @@ pub returns-clause-added : goal.returns-clause-added
 returns-clause-added g c = λ j lt.
     let R = g.T.Ring.ring in
     let f = g.T.Ring.value in
-    let x = (product R f c.stands_law.ensures.rows c.args.a.now c.args.b.now
-    c.values.ensures.sound c.values-2.ensures.sound c.requires.inner).value c.args.i j in
+    let x = (product_of R f c.args.factors).value c.args.i j in
     let unit = f c.one.result in
     c.add_product_row.ensures.added.added j j
     (c.requires.empty.room j (omega (arith, c.requires.width)), refl) lt
@@ -39,6 +38,6 @@ returns-clause-added g c = λ j lt.
 pub returns-clause-bounded : goal.returns-clause-bounded
 returns-clause-bounded g c = λ j h. omega (
   arith,
-  place_within c.args.b.now.pattern c.values-2.ensures.sound.valid h.0 j h.2,
+  place_within c.args.factors.b.now.pattern c.values.ensures.sound.valid h.0 j h.2,
   c.requires.width,
 )

@@ -20,8 +20,7 @@ loop-i-init g c =
         c.in_ok-rows.ensures.indices,
         c.in_ok-rows.ensures.values,
       )
-          (product_none g.T.Ring.ring g.T.Ring.value g.T.Zero.zero_value
-          c.stands_law.ensures.rows c.args.a.now c.args.b.now c.pattern-first.ensures.sound
+          (product_none g.T.Ring.ring g.T.Ring.value c.pattern-first.ensures.sound
           c.pattern-second.ensures.sound c.requires);
     }
 
@@ -45,7 +44,7 @@ pub loop-i-preserved : goal.loop-i-preserved
 loop-i-preserved g c =
     let f = g.T.Ring.value in
     let z = g.T.Zero.zero_value in
-    let lt : c.loop-i.i < c.args.a.now.pattern.major_dim = omega (
+    let lt : c.loop-i.i < c.args.factors.a.now.pattern.major_dim = omega (
       arith,
       c.loop-i-test.true,
       c.major_dim-i-end.ensures,
@@ -58,9 +57,9 @@ loop-i-preserved g c =
       empty = gained.empty;
       width = c.loop-i.invariant.width;
       zero = λ j. ap (λ xs. f (get_or xs j z)) (take_at left _ _ long) ∙ gained.zero j;
-      built = row_more g.T.Ring.ring f z c.stands_law.ensures.rows c.args.a.now c.args.b.now
-          c.pattern-first.ensures.sound c.pattern-second.ensures.sound c.requires c.loop-i.i
-          _ _ _ _ _ _ lt c.loop-i.invariant.built gained.lane gained.offset gained.values;
+      built = row_more g.T.Ring.ring f c.pattern-first.ensures.sound
+          c.pattern-second.ensures.sound c.requires z lt c.loop-i.invariant.built gained.lane
+          gained.offset gained.values;
     }
 
 pub into_matrix-requires : goal.into_matrix-requires
@@ -69,17 +68,15 @@ into_matrix-requires g c =
     let lanes = c.major_dim-2.ensures ∙ ap (λ (d : Raw). d.major_dim) first_is in
     let cols = c.minor_dim-3.ensures
     ∙ ap (λ (d : Raw). d.minor_dim) c.pattern-second.ensures.pattern in
-    let whole : c.loop-i.i ≡ c.args.a.now.pattern.major_dim = omega (
+    let whole : c.loop-i.i ≡ c.args.factors.a.now.pattern.major_dim = omega (
       arith,
       c.loop-i-test.false,
       c.loop-i.auto.i-end,
       c.major_dim-i-end.ensures,
       ap (λ (d : Raw). d.major_dim) first_is,
     ) in
-    rw (lanes, cols) (product_sound g.T.Ring.ring g.T.Ring.value g.T.Zero.zero_value
-    c.stands_law.ensures.rows c.args.a.now c.args.b.now c.pattern-first.ensures.sound
-    c.pattern-second.ensures.sound c.requires c.loop-i.i c.loop-i.rows.offsets.items
-    c.loop-i.rows.indices.items c.loop-i.rows.values.items whole c.loop-i.invariant.built)
+    rw (lanes, cols) (product_sound g.T.Ring.ring g.T.Ring.value c.pattern-first.ensures.sound
+    c.pattern-second.ensures.sound c.requires whole c.loop-i.invariant.built)
 
 pub returns : goal.returns
 returns g c =
@@ -89,7 +86,7 @@ returns g c =
     let lanes = c.major_dim-2.ensures ∙ ap (λ (d : Raw). d.major_dim) first_is in
     let cols = c.minor_dim-3.ensures
     ∙ ap (λ (d : Raw). d.minor_dim) c.pattern-second.ensures.pattern in
-    let whole : c.loop-i.i ≡ c.args.a.now.pattern.major_dim = omega (
+    let whole : c.loop-i.i ≡ c.args.factors.a.now.pattern.major_dim = omega (
       arith,
       c.loop-i-test.false,
       c.loop-i.auto.i-end,
@@ -101,7 +98,6 @@ returns g c =
     let values = c.loop-i.rows.values.items in
     ap (plain_of_rows R f) (c.into_matrix.ensures
     ∙ ap (λ n. arrays_of n c.minor_dim-3.result offsets indices values) lanes
-    ∙ ap (λ m. arrays_of c.args.a.now.pattern.major_dim m offsets indices values) cols)
-    ∙ product_is R f g.T.Zero.zero_value c.stands_law.ensures.rows c.args.a.now c.args.b.now
-    c.pattern-first.ensures.sound c.pattern-second.ensures.sound c.requires c.loop-i.i offsets
-    indices values whole c.loop-i.invariant.built
+    ∙ ap (λ m. arrays_of c.args.factors.a.now.pattern.major_dim m offsets indices values) cols)
+    ∙ product_is R f c.pattern-first.ensures.sound c.pattern-second.ensures.sound c.requires whole
+    c.loop-i.invariant.built g.T.Zero.zero_value

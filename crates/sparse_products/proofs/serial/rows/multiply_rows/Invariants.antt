@@ -8,9 +8,9 @@ invariant-loop-i g l =
     let R = g.T.Ring.ring in
     let f = g.T.Ring.value in
     record {
-      empty : IsEmptyLaneSet l.b.pattern.minor_dim l.set;
-      width : vec_len l.row ≡ l.b.pattern.minor_dim;
+      empty : IsEmptyLaneSet l.factors.b.now.pattern.minor_dim l.set;
+      width : vec_len l.row ≡ l.factors.b.now.pattern.minor_dim;
       zero : (j : ℕ) → f (get_or l.row.items j g.T.Zero.zero_value) ≡ R.zero;
-      built : IsMultipliedBelow R f l.a l.b l.i l.rows.offsets.items
+      built : IsMultipliedBelow R f l.factors.a.now l.factors.b.now l.i l.rows.offsets.items
           l.rows.indices.items l.rows.values.items;
     }

@@ -7,7 +7,7 @@ use Rattle.sparse_products.specs.InnerBits.{HasBit}
 use Rattle.sparse_products.specs.InnerProducts.{IsInLanes}
 use Rattle.sparse_products.proofs.GainedLanes.{gains_same}
 use Rattle.sparse_products.proofs.LaneParts.{tail_is}
-use Rattle.sparse_products.proofs.ProductPlaces.{product}
+use Rattle.sparse_products.specs.InnerFactors.{product_of}
 use Rattle.sparse_products.proofs.ProductRows.{zero_off}
 use Rattle.sparse_products.proofs.TakenRows.{left_zero, values_taken}
 use Rattle.sparse_products.proofs.serial.rows.push_row.Goals as goal
@@ -17,8 +17,8 @@ drain_into-requires g c = c.add_row.ensures.room 0 (c.requires.empty.room 0 (ome
 
 pub push_taken-requires-clause-rising : goal.push_taken-requires-clause-rising
 push_taken-requires-clause-rising g c =
-    let b = c.args.b.now.pattern in
-    let lanes = lane_of c.args.a.now.pattern c.args.i in
+    let b = c.args.factors.b.now.pattern in
+    let lanes = lane_of c.args.factors.a.now.pattern c.args.i in
     let old = c.args.rows.now.indices.items in
     let gains : GainsLane old c.drain_into.new.indices.items (IsInLanes b lanes) =
     gains_same _ _ (HasBit c.add_row.new.set.words.items) (IsInLanes b lanes)
@@ -31,8 +31,8 @@ push_taken-requires-clause-rising g c =
 
 pub push_taken-requires-clause-inside : goal.push_taken-requires-clause-inside
 push_taken-requires-clause-inside g c =
-    let b = c.args.b.now.pattern in
-    let lanes = lane_of c.args.a.now.pattern c.args.i in
+    let b = c.args.factors.b.now.pattern in
+    let lanes = lane_of c.args.factors.a.now.pattern c.args.i in
     let old = c.args.rows.now.indices.items in
     let gains : GainsLane old c.drain_into.new.indices.items (IsInLanes b lanes) =
     gains_same _ _ (HasBit c.add_row.new.set.words.items) (IsInLanes b lanes)
@@ -53,16 +53,15 @@ returns g c =
     let R = g.T.Ring.ring in
     let f = g.T.Ring.value in
     let z = g.T.Zero.zero_value in
-    let stand = c.stands_law.ensures.rows in
     let sa = c.values.ensures.sound in
     let sb = c.values-2.ensures.sound in
     let i = c.args.i in
-    let x = (product R f stand c.args.a.now c.args.b.now sa sb c.requires.inner).value i in
+    let x = (product_of R f c.args.factors).value i in
     let row = c.add_row.new.row in
     let is_row : (j : ℕ) → j < length row → f (get_or row j z) ≡ x j = λ j lt.
     c.add_row.ensures.added j (omega (arith, lt, c.add_row.auto.row)) in
-    let b = c.args.b.now.pattern in
-    let lanes = lane_of c.args.a.now.pattern c.args.i in
+    let b = c.args.factors.b.now.pattern in
+    let lanes = lane_of c.args.factors.a.now.pattern c.args.i in
     let old = c.args.rows.now.indices.items in
     let gains : GainsLane old c.drain_into.new.indices.items (IsInLanes b lanes) =
     gains_same _ _ (HasBit c.add_row.new.set.words.items) (IsInLanes b lanes)
@@ -82,8 +81,8 @@ returns g c =
         empty = c.in_ok-drain_into.ensures.empty;
       };
       zero = left_zero R f z gains.lane x row c.push_taken.new.row g.met.T.Ring.zero_law
-          (zero_off R f z stand c.args.a.now c.args.b.now sa sb c.requires.inner i c.requires.lane
-          gains.lane (λ j. (gains.holds j).1)) is_row taken;
+          (zero_off R f sa sb c.requires.inner i c.requires.lane gains.lane
+          (λ j. (gains.holds j).1)) is_row taken;
       lane = gains;
       offset = c.in_ok-push.ensures.items ∙ ap (λ n. c.args.rows.now.offsets.items ++ n ∷ [])
           (c.len.ensures ∙ c.drain_into.new.indices.ok.0);

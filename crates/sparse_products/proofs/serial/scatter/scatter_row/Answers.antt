@@ -11,9 +11,9 @@ use Rattle.sparse_pattern.proofs.BuiltLanes.{place_within}
 use Rattle.sparse_pattern.proofs.LaneLists.{lane_has}
 use Rattle.sparse_pattern.proofs.PatternLanes.{length-lane, get_or-lane}
 use Rattle.sparse_cs.proofs.LaneSearch.{rising_lane}
+use Rattle.sparse_products.specs.InnerFactors.{product_of}
 use Rattle.sparse_products.proofs.LaneParts.{in_part, off_part}
 use Rattle.sparse_products.proofs.ProductLanes.{lane_below}
-use Rattle.sparse_products.proofs.ProductPlaces.{product}
 use Rattle.sparse_products.proofs.ProductRows.{zero_off}
 use Rattle.sparse_products.proofs.TakenRows.{left_zero}
 use Rattle.sparse_products.proofs.serial.scatter.scatter_row.Goals as goal
@@ -24,7 +24,8 @@ add_product_row-requires-clause-slots g c = λ j h. (
   refl,
   omega (
     arith,
-    place_within c.args.b.now.pattern c.values-2.ensures.sound.valid h.0 j h.2,
+    place_within c.args.update.now.factors.b.now.pattern c.values-2.ensures.sound.valid h.0 j h.2,
+    c.requires.cols,
     c.requires.width,
   ),
 )
@@ -33,16 +34,15 @@ pub gather_row-requires-clause-rising : goal.gather_row-requires-clause-rising
 gather_row-requires-clause-rising g c =
     let valid = c.major_offsets-offsets.ensures.valid in
     subst (λ l. IsStrictlyIncreasing l) (sym c.lane.ensures)
-    (rising_lane c.args.pattern.now c.args.i (valid.lanes c.args.i c.requires.target))
+    (rising_lane c.args.pattern.now c.args.i (valid.lanes c.args.i c.requires.lane))
 
 pub gather_row-requires-clause-inside : goal.gather_row-requires-clause-inside
 gather_row-requires-clause-inside g c =
     let valid = c.major_offsets-offsets.ensures.valid in
     subst (λ l. All (λ j. j < length c.add_product_row.new.target) l) (sym c.lane.ensures) (λ k d lt. omega (
       arith,
-      lane_below c.args.pattern.now valid c.args.i c.requires.target k d lt,
+      lane_below c.args.pattern.now valid c.args.i c.requires.lane k d lt,
       c.requires.width,
-      c.requires.cols,
       c.add_product_row.auto.target,
     ))
 
@@ -52,8 +52,8 @@ gather_row-requires-clause-count g c =
     let i = c.args.i in
     let old = c.args.values.now in
     let offsets_are = c.major_offsets-offsets.ensures.offsets in
-    let in_lane = c.major_offsets-offsets.ensures.valid.lanes i c.requires.target in
-    let within : end_of d i ≤ length old = omega (arith, c.requires.count, in_lane.inside) in
+    let in_lane = c.major_offsets-offsets.ensures.valid.lanes i c.requires.lane in
+    let within : end_of d i ≤ length old = omega (arith, c.requires.sizes.count, in_lane.inside) in
     rw (offsets_are, c.lane.ensures) (mid_len _ _ old (omega (arith, within, in_lane.ordered))
     ∙ sym (length-lane d i in_lane))
 
@@ -62,20 +62,18 @@ returns g c =
     let R = g.T.Ring.ring in
     let f = g.T.Ring.value in
     let z = g.T.Zero.zero_value in
-    let a = c.args.a.now in
-    let b = c.args.b.now in
     let d = c.args.pattern.now in
     let i = c.args.i in
     let old = c.args.values.now in
     let part = c.gather_row.new.values in
     let valid = c.major_offsets-offsets.ensures.valid in
     let offsets_are = c.major_offsets-offsets.ensures.offsets in
-    let in_lane = valid.lanes i c.requires.target in
+    let in_lane = valid.lanes i c.requires.lane in
     let s = start_of d i in
     let n = end_of d i - s in
     let lane_long = length-lane d i in_lane in
     let within : s + n ≤ length old =
-    omega (arith, c.requires.count, in_lane.inside, in_lane.ordered) in
+    omega (arith, c.requires.sizes.count, in_lane.inside, in_lane.ordered) in
     let part_long : length part ≡ n =
     rw offsets_are at (c.gather_row.auto.values ∙ mid_len _ _ old (omega (
       arith,
@@ -83,10 +81,12 @@ returns g c =
       in_lane.ordered,
       ap (λ xs. get_or xs (i + 1) 0) offsets_are,
     ))) in
+    let a_lane : i < c.args.update.now.factors.a.now.pattern.major_dim =
+    omega (arith, c.requires.lane, c.requires.sizes.lanes) in
     let sa = c.values.ensures.sound in
-    let stand = c.stands_law.ensures.rows in
-    let x = (product R f stand a b sa c.values-2.ensures.sound c.requires.inner).value in
-    let alpha = f c.args.alpha in
+    let sb = c.values-2.ensures.sound in
+    let x = (product_of R f c.args.update.now.factors).value in
+    let alpha = f c.args.update.now.alpha in
     let row = c.add_product_row.new.target in
     let is_row : (j : ℕ) → j < length row → f (get_or row j z) ≡ R.mul alpha (x i j) = λ j lt.
     c.add_product_row.ensures.added.added j j refl (omega (arith, lt, c.add_product_row.auto.target))
@@ -98,9 +98,8 @@ returns g c =
     rw offsets_are record {
       zero = left_zero R f z (lane_of d i) (λ j. R.mul alpha (x i j)) row c.gather_row.new.row
           g.met.T.Ring.zero_law
-          (λ j none. ap (R.mul alpha) (zero_off R f z stand a b sa c.values-2.ensures.sound
-          c.requires.inner i c.requires.lane (lane_of d i)
-          (λ j h. (lane_has d valid i j c.requires.target).1 (c.requires.places j h)) j none)
+          (λ j none. ap (R.mul alpha) (zero_off R f sa sb c.requires.sizes.inner i a_lane
+          (lane_of d i) (λ j h. (lane_has d valid i j c.requires.lane).1 (c.requires.places j h)) j none)
           ∙ mul_zero R alpha) is_row taken;
       updated = λ j p at.
           let k = p - s in
@@ -113,20 +112,19 @@ returns g c =
           ∙ ap (λ p. get_or old p z) back in
           let col : j < length row = omega (
             arith,
-            lane_below d valid i c.requires.target k 0 k_lt,
+            lane_below d valid i c.requires.lane k 0 k_lt,
             index,
-            c.requires.cols,
             c.requires.width,
             c.add_product_row.auto.target,
           ) in
           ap f (in_part s n old part z within part_long p at.0.from
           (omega (arith, at.0.to, in_lane.ordered))) ∙ rw (was, index) at (gathered k k_lt)
-          ∙ ap (R.add (R.mul (f c.args.beta) (f (get_or old p z)))) (is_row j col);
+          ∙ ap (R.add (R.mul (f c.args.update.now.beta) (f (get_or old p z)))) (is_row j col);
       others = λ p none. off_part s n old part z within part_long p (elim (lt_or_ge p s) [
         | inl below ↦ inl below
         | inr from ↦ elim (lt_or_ge p (end_of d i)) [
           | inl to ↦ absurd (none
-              (record { lane = c.requires.target; from = from; to = to }))
+              (record { lane = c.requires.lane; from = from; to = to }))
           | inr past ↦ inr (omega (arith, past, in_lane.ordered))
         ]
       ]);
@@ -142,7 +140,7 @@ returns g c =
 pub offset_bounds-values-begin : goal.offset_bounds-values-begin
 offset_bounds-values-begin g c =
     let d = c.args.pattern.now in
-    let lane = c.major_offsets-offsets.ensures.valid.lanes c.args.i c.requires.target in
+    let lane = c.major_offsets-offsets.ensures.valid.lanes c.args.i c.requires.lane in
     let within : start_of d c.args.i ≤ length c.args.values.now =
-    omega (arith, c.requires.count, lane.ordered, lane.inside) in
+    omega (arith, c.requires.sizes.count, lane.ordered, lane.inside) in
     rw c.major_offsets-offsets.ensures.offsets (search (scaled_fits≤, within, c.well_formed))

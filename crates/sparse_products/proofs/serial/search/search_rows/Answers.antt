@@ -1,91 +1,88 @@
-use Rattle.std.proofs.Common.{◌≡◌, ◌<◌, ℕ, length, sym, ◌∙◌, ap, arith}
-use Rattle.sparse_pattern.specs.Raw.{start_of, IsInLane}
-use Rattle.sparse_cs.specs.Compressed.{IsPosition}
-use Rattle.sparse_cs.specs.PlainOfLanes.{plain_of_rows}
-use Rattle.sparse_algebra.specs.Plain.{plain_product}
-use Rattle.sparse_products.specs.InnerUpdates.{triples_below}
+use Rattle.std.proofs.Common.{◌≡◌, ◌<◌, length, ◌∙◌, ap, arith}
+use Rattle.sparse_cs.proofs.Arrays.{position_within}
+use Rattle.sparse_products.specs.InnerFactors.{product_of}
 use Rattle.sparse_products.proofs.CoveredLanes.{places_of_product}
-use Rattle.sparse_products.proofs.ProductSums.{all_triples}
-use Rattle.sparse_products.proofs.UpdatedRows.{rows_more, rest_more}
+use Rattle.sparse_products.proofs.ProductSums.{all_steps, no_steps}
+use Rattle.sparse_products.proofs.UpdatedRows.{rows_more, rows_none}
+use Rattle.sparse_products.proofs.Updating.{updated_is}
 use Rattle.sparse_products.proofs.serial.search.search_rows.Goals as goal
 
 pub add_product_row-requires-clause-slots : goal.add_product_row-requires-clause-slots
 add_product_row-requires-clause-slots g c = λ j h.
     let d = c.args.pattern.now in
     let i = c.loop-i.i in
+    let x = c.args.update.factors in
     let valid = c.major_offsets.ensures.valid in
-    let place = places_of_product d c.args.a.now.pattern c.args.b.now.pattern
-    c.values.ensures.sound.valid c.requires.places i (omega arith) j h in (
+    let lane : i < x.a.now.pattern.major_dim = omega (arith, c.requires.sizes.lanes) in
+    let place = places_of_product d x.a.now.pattern x.b.now.pattern
+    c.values.ensures.sound.valid c.requires.places i lane j h in (
       place.at,
       (valid, (place.in_lane, place.index)),
       omega (
         arith,
-        place.in_lane.to,
-        (valid.lanes i place.in_lane.lane).inside,
-        c.requires.count,
+        position_within d valid i j place.at (place.in_lane, place.index),
+        c.requires.sizes.count,
         c.loop-i.auto.values,
       ),
     )
 
+pub loop-i-init : goal.loop-i-init
+loop-i-init g c =
+    let x = c.args.update.factors in
+    record {
+      rows = rows_none;
+      counted = omega (arith, no_steps x.a.now.pattern x.b.now.pattern c.values.ensures.sound.valid);
+    }
+
 pub loop-i-preserved : goal.loop-i-preserved
 loop-i-preserved g c =
-    let R = g.T.Ring.ring in
-    let f = g.T.Ring.value in
-    let z = g.T.Zero.zero_value in
     let d = c.args.pattern.now in
     let i = c.loop-i.i in
-    let inv = c.loop-i.invariant in
     let valid = c.major_offsets.ensures.valid in
     let lane : i < d.major_dim = omega arith in
-    let x = (plain_product R (plain_of_rows R f c.args.a.now)
-    (plain_of_rows R f c.args.b.now)).value in
-    let others = λ (p : ℕ) (none : IsInLane d i p → ⊥).
-    c.add_product_row.ensures.added.others p (λ j at. none at.1.0) in
-    let added = λ (j p : ℕ) (at : IsPosition d i j p).
-    c.add_product_row.ensures.added.added j p (valid, at) (omega (
-      arith,
-      at.0.to,
-      (valid.lanes i lane).inside,
-      c.requires.count,
-      c.loop-i.auto.values,
-    )) in
+    let row = c.add_product_row.ensures in
     record {
-      updated = rows_more R f z d valid f (f c.args.alpha) x c.scale_values.new.values
-          c.loop-i.values c.add_product_row.new.target i lane others
-          added inv.updated inv.rest;
-      rest = rest_more R f z d valid f (f c.args.alpha) x c.scale_values.new.values c.loop-i.values
-          c.add_product_row.new.target i lane others inv.rest;
-      counted = omega (arith, inv.counted, c.add_product_row.ensures.counted);
+      rows = rows_more c.loop-i.invariant.rows valid lane c.add_product_row.new.target
+          (λ p none. row.added.others p (λ j at. none at.1.0))
+          (λ j p at. row.added.added j p (valid, at) (omega (
+            arith,
+            position_within d valid i j p at,
+            c.requires.sizes.count,
+            c.loop-i.auto.values,
+          )));
+      counted = omega (arith, c.loop-i.invariant.counted, row.counted);
     }
 
 pub returns-clause-updated : goal.returns-clause-updated
-returns-clause-updated g c = λ i j p at.
+returns-clause-updated g c =
     let R = g.T.Ring.ring in
     let f = g.T.Ring.value in
+    let u = c.args.update in
     let d = c.args.pattern.now in
     let valid = c.major_offsets.ensures.valid in
+    updated_is R f c.values.ensures.sound c.values-2.ensures.sound c.requires.sizes.inner
+    (record { valid = valid; count = c.requires.sizes.count }) g.T.Zero.zero_value (f u.beta)
+    (f u.alpha) c.loop-i.values
+    (c.loop-i.auto.values ∙ c.scale_values.auto.values) c.requires.places (λ i j p at.
     let within : p < length c.args.values.now =
-    omega (arith, (valid.lanes i at.0.lane).inside, at.0.to, c.requires.count) in
-    let x = R.mul (f c.args.alpha)
-    ((plain_product R (plain_of_rows R f c.args.a.now) (plain_of_rows R f c.args.b.now)).value i
-    j) in
-    c.loop-i.invariant.updated i j p (omega (arith, at.0.lane)) at
-    ∙ ap (λ y. R.add y x) (c.scale_values.ensures.scaled.each p within)
+    omega (arith, position_within d valid i j p at, c.requires.sizes.count) in
+    c.loop-i.invariant.rows.updated i j p (omega (arith, at.0.lane)) at
+    ∙ ap (λ y. R.add y (R.mul (f u.alpha) ((product_of R f u.factors).value i j)))
+    (c.scale_values.ensures.scaled.each p within))
 
 pub returns-clause-counted : goal.returns-clause-counted
 returns-clause-counted g c =
-    let a = c.args.a.now.pattern in
-    let i = c.loop-i.i in
-    let i_is : i ≡ c.args.pattern.now.major_dim =
-    omega (arith, c.loop-i-test.false, c.loop-i.auto.i-end) in
-    let a_end : start_of a i ≡ length a.indices = ap (start_of a) (i_is ∙ sym c.requires.lanes)
-    ∙ c.values.ensures.sound.valid.last in
+    let x = c.args.update.factors in
+    let whole : c.loop-i.i ≡ x.a.now.pattern.major_dim = omega (
+      arith,
+      c.loop-i-test.false,
+      c.loop-i.auto.i-end,
+      c.requires.sizes.lanes,
+    ) in
     omega (
       arith,
       c.loop-i.invariant.counted,
       c.scale_values.ensures.counted,
-      c.requires.count,
-      a_end,
-      ap (λ n. triples_below n a c.args.b.now.pattern) a_end,
-      all_triples a c.args.b.now.pattern,
+      c.requires.sizes.count,
+      all_steps x.a.now.pattern x.b.now.pattern c.values.ensures.sound.valid whole,
     )

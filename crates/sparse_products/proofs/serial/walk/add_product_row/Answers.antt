@@ -18,20 +18,20 @@ use Rattle.sparse_products.proofs.serial.walk.add_product_row.Goals as goal
 
 pub loop-k-init : goal.loop-k-init
 loop-k-init g c =
-    let p = c.args.a.now.pattern in
+    let p = c.args.factors.a.now.pattern in
     let s = start_of p c.args.i in
     let e : s + 0 ≡ s = omega arith in
     record {
       added = added_none g.T.Ring.ring g.T.Ring.value g.T.Zero.zero_value
           (g.S.Slots.slot c.args.slots.now) (g.T.Ring.value c.args.alpha) c.args.target.now;
       noted = noted_none (g.S.Slots.slot c.args.slots.now) (g.S.Slots.noted c.args.slots.now)
-          (IsInLanes c.args.b.now.pattern []) (λ j h. omega (arith, h.1.1));
-      counted = omega (arith, ap (λ n. triples_below n p c.args.b.now.pattern) e);
+          (IsInLanes c.args.factors.b.now.pattern []) (λ j h. omega (arith, h.1.1));
+      counted = omega (arith, ap (λ n. triples_below n p c.args.factors.b.now.pattern) e);
     }
 
 pub add_matrix_row-requires-clause-lane : goal.add_matrix_row-requires-clause-lane
 add_matrix_row-requires-clause-lane g c =
-    let a = c.args.a.now in
+    let a = c.args.factors.a.now in
     let i = c.args.i in
     let n = length c.loop-k.yielded in
     let turn = zip_turn (lane_of a.pattern i) (values_of a i) c.loop-k.yielded
@@ -47,7 +47,7 @@ add_matrix_row-requires-clause-lane g c =
 
 pub add_matrix_row-requires-clause-slots : goal.add_matrix_row-requires-clause-slots
 add_matrix_row-requires-clause-slots g c =
-    let a = c.args.a.now in
+    let a = c.args.factors.a.now in
     let i = c.args.i in
     let n = length c.loop-k.yielded in
     let k = c.in-Some.k.now in
@@ -68,8 +68,8 @@ loop-k-preserved g c =
     let R = g.T.Ring.ring in
     let f = g.T.Ring.value in
     let z = g.T.Zero.zero_value in
-    let a = c.args.a.now in
-    let b = c.args.b.now in
+    let a = c.args.factors.a.now in
+    let b = c.args.factors.b.now in
     let i = c.args.i in
     let ks = lane_of a.pattern i in
     let vs = values_of a i in
@@ -128,8 +128,8 @@ returns g c =
     let R = g.T.Ring.ring in
     let f = g.T.Ring.value in
     let z = g.T.Zero.zero_value in
-    let a = c.args.a.now in
-    let b = c.args.b.now in
+    let a = c.args.factors.a.now in
+    let b = c.args.factors.b.now in
     let i = c.args.i in
     let ks = lane_of a.pattern i in
     let vs = values_of a i in

@@ -14,16 +14,16 @@ invariant-loop-k g l =
     let R = g.T.Ring.ring in
     let f = g.T.Ring.value in
     let n = length l.yielded in
-    let s = start_of l.a.pattern l.i in
-    let ks = take n (lane_of l.a.pattern l.i) in
+    let s = start_of l.factors.a.now.pattern l.i in
+    let ks = take n (lane_of l.factors.a.now.pattern l.i) in
     let slot = g.S.Slots.slot in
     let noted = g.S.Slots.noted in
     record {
       added : AreAdded R f g.T.Zero.zero_value (slot l.initial.slots) (f l.alpha)
-          (λ j. sum_by R (λ t. R.mul (f t.1) ((plain_of_rows R f l.b).value t.0 j))
-          (zip ks (take n (values_of l.a l.i)))) l.initial.target l.target;
+          (λ j. sum_by R (λ t. R.mul (f t.1) ((plain_of_rows R f l.factors.b.now).value t.0 j))
+          (zip ks (take n (values_of l.factors.a.now l.i)))) l.initial.target l.target;
       noted : AreNoted (slot l.initial.slots) (slot l.slots) (noted l.initial.slots)
-          (noted l.slots) (IsInLanes l.b.pattern ks);
-      counted : l.steps + s + triples_below s l.a.pattern l.b.pattern ≡ l.initial.steps + (s + n)
-          + triples_below (s + n) l.a.pattern l.b.pattern;
+          (noted l.slots) (IsInLanes l.factors.b.now.pattern ks);
+      counted : l.steps + s + triples_below s l.factors.a.now.pattern l.factors.b.now.pattern ≡ l.initial.steps + (s + n)
+          + triples_below (s + n) l.factors.a.now.pattern l.factors.b.now.pattern;
     }

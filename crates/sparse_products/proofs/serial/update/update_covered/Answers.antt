@@ -1,0 +1,16 @@
+use Rattle.sparse_products.proofs.Updating.{covered_is}
+use Rattle.sparse_products.proofs.serial.update.update_covered.Goals as goal
+
+pub search_rows-requires-clause-places : goal.search_rows-requires-clause-places
+search_rows-requires-clause-places g c =
+    (covered_is g.T.Ring.ring g.T.Ring.value c.values.ensures.sound c.pattern.ensures.sound
+    c.requires.sizes.inner
+    (record { valid = c.major_offsets.ensures.valid; count = c.requires.sizes.count })).1
+    c.requires.covered
+
+pub scatter_rows-requires-clause-places : goal.scatter_rows-requires-clause-places
+scatter_rows-requires-clause-places g c =
+    (covered_is g.T.Ring.ring g.T.Ring.value c.values.ensures.sound c.pattern.ensures.sound
+    c.requires.sizes.inner
+    (record { valid = c.major_offsets.ensures.valid; count = c.requires.sizes.count })).1
+    c.requires.covered
