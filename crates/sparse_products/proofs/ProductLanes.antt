@@ -51,6 +51,22 @@ lane_below d valid i lt k z inside = place_within d valid i (get_or (lane_of d i
     ((lane_has d valid i (get_or (lane_of d i) k z) lt).0
     (Contains-get_or (lane_of d i) k z inside))
 
+-- the lanes that a list names, with one name more
+pub in_lanes_then : (d : Raw) (lanes : List ℕ) (p k : ℕ) → p < length lanes → k ≡ get_or lanes p 0
+    → (j : ℕ)
+    → IsInLanes d (take (p + 1) lanes) j ↔ (IsInLanes d (take p lanes) j ⊎ IsPlace d k j)
+in_lanes_then d lanes p k lt is j =
+    let front = λ (l : ℕ). more lanes p k l lt is in (
+      λ h. elim ((front h.0).0 h.1) [
+        | inl was ↦ inl (h.0, was, h.2)
+        | inr same ↦ inr (subst (λ l. IsPlace d l j) (sym same) h.2)
+      ],
+      λ h. elim h [
+        | inl was ↦ (was.0, (front was.0).1 (inl was.1), was.2)
+        | inr here ↦ (k, (front k).1 (inr refl), here)
+      ],
+    )
+
 -- what holds of the indices of the first p lanes, and then of those of one lane more
 pub in_lanes_more : (d : Raw) → IsValid d → (Old New : ℕ → Type 0) (lanes : List ℕ) (p k : ℕ)
     → p < length lanes → k ≡ get_or lanes p 0 → k < d.major_dim
@@ -59,13 +75,9 @@ pub in_lanes_more : (d : Raw) → IsValid d → (Old New : ℕ → Type 0) (lane
     → New j ↔ IsInLanes d (take (p + 1) lanes) j
 in_lanes_more d valid Old New lanes p k lt is within adds before j =
     let lane = lane_has d valid k j within in
-    let front = λ (l : ℕ). more lanes p k l lt is in (
-      λ h. elim ((adds j).0 h) [
-        | inl was ↦ let m = (before j).0 was in (m.0, (front m.0).1 (inl m.1), m.2)
-        | inr here ↦ (k, (front k).1 (inr refl), lane.0 here)
-      ],
-      λ h. (adds j).1 (elim ((front h.0).0 h.1) [
-        | inl was ↦ inl ((before j).1 (h.0, was, h.2))
-        | inr same ↦ inr (lane.1 (subst (λ l. IsPlace d l j) (sym same) h.2))
-      ]),
+    let both = in_lanes_then d lanes p k lt is j in (
+      λ h. both.1 (elim ((adds j).0 h)
+          [ inl was ↦ inl ((before j).0 was) | inr here ↦ inr (lane.0 here) ]),
+      λ h. (adds j).1 (elim (both.0 h)
+          [ inl was ↦ inl ((before j).1 was) | inr place ↦ inr (lane.1 place) ]),
     )

@@ -1,16 +1,14 @@
 -- The product of two matrices, row after row: the indices of a row, and its values from a scratch
 -- row.
-use Rattle.std.proofs.Common.{◌≡◌, ◌≢◌, ℕ, zero, suc, ◌+◌, ◌<◌, ◌⊎◌, inl, inr, ◌↔◌, List, [], ◌∷◌}
+use Rattle.std.proofs.Common.{◌≡◌, ◌≢◌, ℕ, zero, suc, ◌+◌, ◌<◌, inl, inr, ◌↔◌, List, [], ◌∷◌}
 use Rattle.std.proofs.Common.{◌++◌, length, get_or, drop, Contains, ap, sym, subst, ◌∙◌, refl}
 use Rattle.std.proofs.Common.{arith}
 use Rattle.std.specs.Prelude.{nat_eq}
-use Rattle.std.specs.List.Sorted.{IsStrictlyIncreasing}
-use Rattle.std.proofs.lemmas.Bool.{cases_eq}
+use Rattle.std.proofs.lemmas.List.Elements.{Contains-get_or}
 use Rattle.std.proofs.lemmas.List.{get_or_default, drop_at}
 use Rattle.std.proofs.lemmas.List.Kept.{AllPairs-from_increasing}
 use Rattle.sparse_algebra.proofs.Cases.{nat_eq_no, true_or_false}
 use Rattle.sparse_algebra.specs.Algebra.{CommRing}
-use Rattle.sparse_algebra.specs.Sums.{where_true}
 use Rattle.sparse_algebra.specs.Plain.{Plain, plain_product}
 use Rattle.sparse_algebra.proofs.RingLemmas.{zero_add}
 use Rattle.sparse_pattern.specs.Raw.{lane_of}
@@ -26,66 +24,36 @@ use Rattle.sparse_products.specs.InnerProducts.{IsInLanes, GainsTaken}
 use Rattle.sparse_products.proofs.ProductLanes.{IsJoined, in_lanes_is}
 use Rattle.sparse_products.proofs.ProductPlaces.{product, joined_is, product_is_proper}
 
-module _ (R : CommRing) {T : Type 0} (f : T → R.Carrier) (z : T) (x : ℕ → R.Carrier) where
-  -- an index is at one place of the lane, with its value, or at none, with zero
-  lane_cases : (ks : List ℕ) (vs : List T) → length vs ≡ length ks
-      → ((p q : ℕ) → p < q → q < length ks → get_or ks p 0 ≢ get_or ks q 0)
-      → ((q : ℕ) → q < length ks → f (get_or vs q z) ≡ x (get_or ks q 0)) → (j : ℕ)
-      → (((q : ℕ) × (q < length ks) × (get_or ks q 0 ≡ j)) × (lane_value R f ks vs j ≡ x j))
-      ⊎ (((q : ℕ) → q < length ks → get_or ks q 0 ≢ j) × (lane_value R f ks vs j ≡ R.zero))
-  lane_cases [] vs long apart is j = inr ((λ q lt. absurd (omega (arith, lt))), refl)
-  lane_cases (k ∷ ks) [] long apart is j = absurd (omega arith)
-  lane_cases (k ∷ ks) (v ∷ vs) long apart is j =
-      let rest = lane_cases ks vs (omega arith)
-      (λ p q lt within. apart (suc p) (suc q) (omega arith) (omega arith))
-      (λ q lt. is (suc q) (omega arith)) j in
-      let tail = lane_value R f ks vs j in
-      elim (cases_eq k j) [
-        | inl same ↦
-            let head : where_true R (nat_eq k j) (f v) ≡ f v =
-            where_yes R (λ (c : R.Carrier). c) (nat_eq k j) (f v) (rw same (eq_refl j)) in
-            let none : tail ≡ R.zero = elim rest [
-              | inl there ↦ absurd (apart 0 (suc there.0.0) (omega arith)
-                  (omega (arith, there.0.1)) (same ∙ sym there.0.2))
-              | inr off ↦ off.1
-            ] in
-            inl (
-              (0, omega arith, same),
-              ap (λ c. R.add c tail) head ∙ ap (R.add (f v)) none
-                  ∙ R.laws.add_zero (f v) ∙ is 0 (omega arith) ∙ ap x same,
-            )
-        | inr differ ↦
-            let head : where_true R (nat_eq k j) (f v) ≡ R.zero =
-            where_no R (λ (c : R.Carrier). c) (nat_eq k j) (f v) (nat_eq_no k j differ) in
-            let whole : lane_value R f (k ∷ ks) (v ∷ vs) j ≡ tail =
-            ap (λ c. R.add c tail) head ∙ zero_add R tail in
-            elim rest [
-              | inl there ↦ inl (
-                (suc there.0.0, omega (arith, there.0.1), there.0.2),
-                whole ∙ there.1,
-              )
-              | inr off ↦ inr (later k ks j differ off.0, whole ∙ off.1)
-            ]
-      ]
-    where
-      later : (k : ℕ) (ks : List ℕ) (j : ℕ) → k ≢ j
-          → ((q : ℕ) → q < length ks → get_or ks q 0 ≢ j) → (q : ℕ) → q < length (k ∷ ks)
-          → get_or (k ∷ ks) q 0 ≢ j
-      later k ks j differ off zero lt = differ
-      later k ks j differ off (suc q) lt = off q (omega arith)
+module _ (R : CommRing) {T : Type 0} (f : T → R.Carrier) where
+  -- where the index is not in the lane
+  lane_none : (j : ℕ) (ks : List ℕ) (vs : List T)
+      → ((q : ℕ) → q < length ks → get_or ks q 0 ≢ j) → lane_value R f ks vs j ≡ R.zero
+  lane_none j [] vs none = refl
+  lane_none j (k ∷ ks) [] none = refl
+  lane_none j (k ∷ ks) (v ∷ vs) none = ap (λ c. R.add c (lane_value R f ks vs j))
+      (where_no R (λ (c : R.Carrier). c) (nat_eq k j) (f v) (nat_eq_no k j (none 0 (omega arith))))
+      ∙ zero_add R _ ∙ lane_none j ks vs (λ q lt. none (suc q) (omega arith))
 
-  -- the values that are read from x at the indices of a rising lane are those of x, if x is zero
-  -- elsewhere
-  pub lane_read : (ks : List ℕ) (vs : List T) → length vs ≡ length ks → IsStrictlyIncreasing ks
-      → ((q : ℕ) → q < length ks → f (get_or vs q z) ≡ x (get_or ks q 0))
-      → ((j : ℕ) → (Contains ks j → ⊥) → x j ≡ R.zero) → (j : ℕ)
-      → lane_value R f ks vs j ≡ x j
-  lane_read ks vs long rising is elsewhere j = elim (lane_cases ks vs long
-      (λ p q lt within e. grind (arith, AllPairs-from_increasing ks rising p q 0, e)) is j) [
-        | inl there ↦ there.1
-        | inr off ↦ off.1 ∙ sym (elsewhere j (λ h. off.0 h.0 h.1
-            (get_or_default ks h.0 0 j h.1 ∙ h.2)))
-      ]
+  -- at the index of a position of a rising lane
+  lane_at : (z : T) (q : ℕ) (ks : List ℕ) (vs : List T) → length vs ≡ length ks
+      → ((r s : ℕ) → r < s → s < length ks → get_or ks r 0 < get_or ks s 0) → q < length ks
+      → lane_value R f ks vs (get_or ks q 0) ≡ f (get_or vs q z)
+  lane_at z q [] vs long rising lt = absurd (omega arith)
+  lane_at z q (k ∷ ks) [] long rising lt = absurd (omega arith)
+  lane_at z zero (k ∷ ks) (v ∷ vs) long rising lt = ap (λ c. R.add c (lane_value R f ks vs k))
+      (where_yes R (λ (c : R.Carrier). c) (nat_eq k k) (f v) (eq_refl k))
+      ∙ ap (R.add (f v)) (lane_none k ks vs (λ q q_lt e. omega (
+        arith,
+        rising 0 (suc q) (omega arith) (omega (arith, q_lt)),
+        e,
+      ))) ∙ R.laws.add_zero (f v)
+  lane_at z (suc q) (k ∷ ks) (v ∷ vs) long rising lt =
+      let j = get_or ks q 0 in
+      let less : k < j = rising 0 (suc q) (omega arith) lt in
+      ap (λ c. R.add c (lane_value R f ks vs j))
+      (where_no R (λ (c : R.Carrier). c) (nat_eq k j) (f v) (nat_eq_no k j (λ e. omega (arith, less, e))))
+      ∙ zero_add R _ ∙ lane_at z q ks vs (omega arith)
+      (λ r s less within. rising (suc r) (suc s) (omega arith) (omega arith)) (omega arith)
 
 -- the first n rows of the product
 abbrev pub IsMultipliedBelow : (R : CommRing) {T : Type 0} → (T → R.Carrier) → Compressed T
@@ -146,11 +114,23 @@ module _ (R : CommRing) {T : Type 0} (f : T → R.Carrier) {a b : Compressed T} 
       ) in
       let bounded : (j : ℕ) → Contains gains.lane j → j < b.pattern.minor_dim =
       λ j h. let s = (holds j).0 h in place_within b.pattern sb.valid s.0 j s.2 in
+      let joined = λ (j : ℕ). joined_is R f sa sb fits n j in
+      let value : (j : ℕ) → lane_value R f gains.lane part j ≡ P.value n j = λ j.
+      elim (true_or_false (P.has n j)) [
+        | inl hit ↦
+            let h = (holds j).1 ((joined j).1 hit) in
+            let index : get_or gains.lane h.0 0 ≡ j = get_or_default gains.lane h.0 0 j h.1 ∙ h.2 in
+            subst (λ j. lane_value R f gains.lane part j ≡ P.value n j) index
+            (lane_at R f z h.0 gains.lane part count (λ r s less within.
+            AllPairs-from_increasing gains.lane gains.rising r s 0 less within) h.1 ∙ read h.0 h.1)
+        | inr miss ↦ lane_none R f j gains.lane part (λ q lt e.
+            let hit = (joined j).0 ((holds j).0 (subst (Contains gains.lane) e
+            (Contains-get_or gains.lane q 0 lt))) in
+            cc) ∙ sym (product_is_proper R f sa sb fits n j miss)
+      ] in
       rw (is, gains.pushed, values_is)
       (matrix_lane_built R f b.pattern.minor_dim (IsJoined a.pattern b.pattern) P.value n offsets
-      indices gains.lane values part built gains.rising bounded holds count
-      (lane_read R f z (P.value n) gains.lane part count gains.rising read
-      (zero_off n lt gains.lane (λ j. (gains.holds j).1))))
+      indices gains.lane values part built gains.rising bounded holds count value)
 
   pub row_more : (z : T) {n : ℕ} {offsets offsets' indices indices' : List ℕ}
       {values values' : List T} → n < a.pattern.major_dim → Below n offsets indices values

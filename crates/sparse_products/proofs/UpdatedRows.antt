@@ -16,35 +16,30 @@ pub record HasUpdatedRows (R : CommRing) {T : Type 0} (f : T → R.Carrier) (z :
       → f (get_or now p z) ≡ R.add (base (get_or start p z)) (R.mul alpha (x i j))
   pub rest : (p : ℕ) → start_of d n ≤ p → get_or now p z ≡ get_or start p z
 
-pub rows_none : {R : CommRing} {T : Type 0} {f : T → R.Carrier} {z : T} {d : Raw}
-    {base : T → R.Carrier} {alpha : R.Carrier} {x : ℕ → ℕ → R.Carrier} {start : List T}
-    → HasUpdatedRows R f z d base alpha x start start 0
-rows_none = record {
-  updated = λ i j p lt at. absurd (omega (arith, lt));
-  rest = λ p from. refl;
-}
+module _ {R : CommRing} {T : Type 0} {f : T → R.Carrier} {z : T} {d : Raw} {base : T → R.Carrier}
+    {alpha : R.Carrier} {x : ℕ → ℕ → R.Carrier} {start : List T} where
+  pub rows_none : HasUpdatedRows R f z d base alpha x start start 0
+  rows_none = record {
+    updated = λ i j p lt at. absurd (omega (arith, lt));
+    rest = λ p from. refl;
+  }
 
--- a row more
-pub rows_more : {R : CommRing} {T : Type 0} {f : T → R.Carrier} {z : T} {d : Raw}
-    {base : T → R.Carrier} {alpha : R.Carrier} {x : ℕ → ℕ → R.Carrier} {start old : List T} {n : ℕ}
-    → HasUpdatedRows R f z d base alpha x start old n → IsValid d → n < d.major_dim
-    → (new : List T)
-    → ((p : ℕ) → (IsInLane d n p → ⊥) → get_or new p z ≡ get_or old p z)
-    → ((j p : ℕ) → IsPosition d n j p → f (get_or new p z) ≡ R.add (base (get_or old p z))
-    (R.mul alpha (x n j)))
-    → HasUpdatedRows R f z d base alpha x start new (n + 1)
-rows_more {R} {T} {f} {z} {d} {base} {alpha} {x} {start} {old} {n} was valid lane new others here =
-    record {
-      updated = λ i j p lt at. elim (lt_add_one_cases i n lt) [
-        | inl earlier ↦
-            ap f (others p (λ here. omega (arith, one_lane d valid i n p at.0 here)))
-            ∙ was.updated i j p earlier at
-        | inr last ↦
-            let at' : IsPosition d n j p = subst (λ i. IsPosition d i j p) last at in
-            here j p at'
-            ∙ ap (λ c. R.add (base c) (R.mul alpha (x n j))) (was.rest p at'.0.from)
-            ∙ ap (λ i. R.add (base (get_or start p z)) (R.mul alpha (x i j))) (sym last)
-      ];
-      rest = λ p from. others p (λ here. omega (arith, here.to))
-          ∙ was.rest p (omega (arith, (valid.lanes n lane).ordered));
-    }
+  -- a row more
+  pub rows_more : {old : List T} {n : ℕ} → HasUpdatedRows R f z d base alpha x start old n
+      → IsValid d → n < d.major_dim → (new : List T)
+      → ((p : ℕ) → (IsInLane d n p → ⊥) → get_or new p z ≡ get_or old p z)
+      → ((j p : ℕ) → IsPosition d n j p → f (get_or new p z) ≡ R.add (base (get_or old p z))
+      (R.mul alpha (x n j)))
+      → HasUpdatedRows R f z d base alpha x start new (n + 1)
+  rows_more {n = n} was valid lane new others here = record {
+    updated = λ i j p lt at. elim (lt_add_one_cases i n lt) [
+      | inl earlier ↦ ap f (others p (λ here. omega (arith, one_lane d valid i n p at.0 here)))
+          ∙ was.updated i j p earlier at
+      | inr last ↦
+          let at' : IsPosition d n j p = subst (λ i. IsPosition d i j p) last at in
+          here j p at' ∙ ap (λ c. R.add (base c) (R.mul alpha (x n j))) (was.rest p at'.0.from)
+          ∙ ap (λ i. R.add (base (get_or start p z)) (R.mul alpha (x i j))) (sym last)
+    ];
+    rest = λ p from. others p (λ here. omega (arith, here.to))
+        ∙ was.rest p (omega (arith, (valid.lanes n lane).ordered));
+  }

@@ -1,6 +1,6 @@
 -- What the walk through the terms of a row adds and notes, one part after another.
-use Rattle.std.proofs.Common.{◌≡◌, ◌≢◌, ℕ, ◌+◌, ◌<◌, ◌↔◌, ◌⊎◌, inl, inr, List, length, get_or, set}
-use Rattle.std.proofs.Common.{take, ap, sym, subst, ◌∙◌, refl, arith}
+use Rattle.std.proofs.Common.{◌≡◌, ◌≢◌, ℕ, ◌↔◌, ◌⊎◌, inl, inr, List, length, get_or, set}
+use Rattle.std.proofs.Common.{ap, sym, subst, ◌∙◌, refl, arith}
 use Rattle.std.specs.Prelude.{nat_eq}
 use Rattle.std.proofs.lemmas.Bool.{cases_eq}
 use Rattle.std.proofs.lemmas.List.{get_or-set_same, get_or-set_other}
@@ -8,11 +8,9 @@ use Rattle.sparse_algebra.proofs.Cases.{nat_eq_no}
 use Rattle.sparse_algebra.specs.Algebra.{CommRing}
 use Rattle.sparse_algebra.specs.Sums.{where_true}
 use Rattle.sparse_algebra.proofs.RingLemmas.{mul_zero}
-use Rattle.sparse_pattern.specs.Raw.{Raw, IsPlace}
 use Rattle.sparse_cs.proofs.Arrays.{where_yes, where_no}
 use Rattle.sparse_cs.proofs.RowSums.{eq_refl}
 use Rattle.sparse_sums.proofs.Merging.{more}
-use Rattle.sparse_products.specs.InnerProducts.{IsInLanes}
 use Rattle.sparse_products.specs.InnerWalks.{AreAdded, AreNoted}
 
 module _ (R : CommRing) {T : Type 0} (f : T → R.Carrier) (z : T) (slot : ℕ → ℕ → Type 0)
@@ -123,19 +121,3 @@ noted_same slot slot' before after P Q same was = record {
     λ h. (was.noted j).1 (elim h [ inl b ↦ inl b | inr q ↦ inr ((same j).1 q) ]),
   );
 }
-
--- the lanes that a list names, with one name more
-pub in_lanes_then : (d : Raw) (lanes : List ℕ) (p k : ℕ) → p < length lanes → k ≡ get_or lanes p 0
-    → (j : ℕ)
-    → IsInLanes d (take (p + 1) lanes) j ↔ (IsInLanes d (take p lanes) j ⊎ IsPlace d k j)
-in_lanes_then d lanes p k lt is j =
-    let front = λ (l : ℕ). more lanes p k l lt is in (
-      λ h. elim ((front h.0).0 h.1) [
-        | inl was ↦ inl (h.0, was, h.2)
-        | inr same ↦ inr (subst (λ l. IsPlace d l j) (sym same) h.2)
-      ],
-      λ h. elim h [
-        | inl was ↦ (was.0, (front was.0).1 (inl was.1), was.2)
-        | inr here ↦ (k, (front k).1 (inr refl), here)
-      ],
-    )

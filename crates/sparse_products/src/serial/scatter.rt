@@ -127,6 +127,8 @@ fn gather_row<T: Ring>(
     for at in 0..indices.len() {
         steps.tick();
         let j = indices[at];
+        prove!(at < values.len());
+        prove!(j < row.len());
         values[at] = beta.mul(values[at]).add(row[j]);
         row[j] = T::zero();
     }

@@ -110,7 +110,9 @@ fn add_matrix_row<T: Ring, S: Slots>(
     let (columns, entries) = lane_entries(b, k);
     for (j, entry) in columns.iter().zip(entries) {
         steps.tick();
-        let sum = &mut target[slots.slot_of(*j)];
+        let at = slots.slot_of(*j);
+        prove!(at < target.len());
+        let sum = &mut target[at];
         *sum = sum.add(scale.mul(*entry));
     }
 }

@@ -9,16 +9,8 @@ use Rattle.sparse_products.proofs.MadeProducts.{has_places, product_made}
 use Rattle.sparse_products.proofs.Updating.{covered_is}
 use Rattle.sparse_products.proofs.serial.product.multiply_wide.Goals as goal
 
-pub update_covered-requires-clause-sizes : goal.update_covered-requires-clause-sizes
-update_covered-requires-clause-sizes g c = record {
-  inner = c.requires;
-  lanes = sym (c.in_ok-pattern.ensures.major
-      ∙ ap (λ (d : Raw). d.major_dim) c.pattern.ensures.pattern);
-  count = omega (arith, c.deref_mut.ensures.len, c.in_ok-resize.ensures.len, c.nnz.ensures);
-}
-
-pub update_covered-requires-clause-covered : goal.update_covered-requires-clause-covered
-update_covered-requires-clause-covered g c =
+pub update_covered-requires : goal.update_covered-requires
+update_covered-requires g c =
     let x = c.args.factors in
     let d = c.in_ok-pattern.pattern in
     let places : IsProductOf d x.a.now.pattern x.b.now.pattern =
@@ -28,8 +20,19 @@ update_covered-requires-clause-covered g c =
       valid = c.in_ok-pattern.ensures.valid;
       count = omega (arith, c.deref_mut.ensures.len, c.in_ok-resize.ensures.len, c.nnz.ensures);
     } in
-    (covered_is g.T.Ring.ring g.T.Ring.value c.pattern.ensures.sound c.pattern-2.ensures.sound
-    c.requires sound).0 (has_places d x.a.now.pattern x.b.now.pattern places)
+    record {
+      sizes = record {
+        inner = c.requires;
+        lanes = sym (c.in_ok-pattern.ensures.major
+            ∙ ap (λ (d : Raw). d.major_dim) c.pattern.ensures.pattern);
+        count = sound.count;
+      };
+      width = sym (c.in_ok-pattern.ensures.minor
+          ∙ ap (λ (d : Raw). d.minor_dim) c.pattern-2.ensures.pattern);
+      covered = (covered_is g.T.Ring.ring g.T.Ring.value c.pattern.ensures.sound
+          c.pattern-2.ensures.sound c.requires sound).0
+          (has_places d x.a.now.pattern x.b.now.pattern places);
+    }
 
 pub returns : goal.returns
 returns g c =

@@ -1,8 +1,6 @@
 use Rattle.std.proofs.Common.{◌≡◌, ◌<◌, length, get_or, ap, subst, ◌∙◌, arith}
 use Rattle.std.proofs.lemmas.List.{take_at}
 use Rattle.sparse_pattern.specs.Raw.{Raw}
-use Rattle.sparse_cs.specs.Compressed.{arrays_of}
-use Rattle.sparse_cs.specs.PlainOfLanes.{plain_of_rows}
 use Rattle.sparse_products.specs.InnerLaneSets.{IsEmptyLaneSet}
 use Rattle.sparse_products.proofs.ProductRows.{product_none, row_more, product_sound, product_is}
 use Rattle.sparse_products.proofs.serial.rows.multiply_rows.Goals as goal
@@ -93,11 +91,6 @@ returns g c =
       c.major_dim-i-end.ensures,
       ap (λ (d : Raw). d.major_dim) first_is,
     ) in
-    let offsets = c.loop-i.rows.offsets.items in
-    let indices = c.loop-i.rows.indices.items in
-    let values = c.loop-i.rows.values.items in
-    ap (plain_of_rows R f) (c.into_matrix.ensures
-    ∙ ap (λ n. arrays_of n c.minor_dim-3.result offsets indices values) lanes
-    ∙ ap (λ m. arrays_of c.args.factors.a.now.pattern.major_dim m offsets indices values) cols)
-    ∙ product_is R f c.pattern-first.ensures.sound c.pattern-second.ensures.sound c.requires whole
-    c.loop-i.invariant.built g.T.Zero.zero_value
+    rw (c.into_matrix.ensures, lanes, cols) (product_is R f c.pattern-first.ensures.sound
+    c.pattern-second.ensures.sound c.requires whole c.loop-i.invariant.built
+    g.T.Zero.zero_value)

@@ -1,10 +1,10 @@
+use Rattle.std.proofs.lemmas.Grind.{common_steps}
 use Rattle.std.proofs.Common.{◌≡◌, ◌<◌, ℕ, ◌∷◌, [], ◌++◌, length, get_or, drop, ap, ◌∙◌, refl, arith}
 use Rattle.std.proofs.lemmas.List.{drop_at}
 use Rattle.std.proofs.lemmas.List.Elements.{Contains-get_or}
-use Rattle.sparse_pattern.specs.Raw.{lane_of}
 use Rattle.sparse_pattern.specs.InnerGainedLanes.{GainsLane}
 use Rattle.sparse_products.specs.InnerBits.{HasBit}
-use Rattle.sparse_products.specs.InnerProducts.{IsInLanes}
+use Rattle.sparse_products.specs.InnerProducts.{IsInRow}
 use Rattle.sparse_products.proofs.GainedLanes.{gains_same}
 use Rattle.sparse_products.proofs.LaneParts.{tail_is}
 use Rattle.sparse_products.specs.InnerFactors.{product_of}
@@ -15,38 +15,26 @@ use Rattle.sparse_products.proofs.serial.rows.push_row.Goals as goal
 pub drain_into-requires : goal.drain_into-requires
 drain_into-requires g c = c.add_row.ensures.room 0 (c.requires.empty.room 0 (omega arith))
 
-pub push_taken-requires-clause-rising : goal.push_taken-requires-clause-rising
-push_taken-requires-clause-rising g c =
-    let b = c.args.factors.b.now.pattern in
-    let lanes = lane_of c.args.factors.a.now.pattern c.args.i in
+pub push_taken-requires : goal.push_taken-requires
+push_taken-requires g c =
     let old = c.args.rows.now.indices.items in
-    let gains : GainsLane old c.drain_into.new.indices.items (IsInLanes b lanes) =
-    gains_same _ _ (HasBit c.add_row.new.set.words.items) (IsInLanes b lanes)
+    let gains : GainsLane old c.drain_into.new.indices.items (IsInRow c.args.factors c.args.i) =
+    gains_same _ _ (HasBit c.add_row.new.set.words.items) (IsInRow c.args.factors c.args.i)
     c.add_row.ensures.met c.in_ok-drain_into.ensures.pushed in
     let begin : length old ≡ c.len-begin.result =
     omega (arith, c.len-begin.ensures, c.args.rows.now.indices.ok.0) in
     let tail = tail_is c.deref.result.now old gains.lane c.len-begin.result begin
     (c.deref.ensures.value ∙ gains.pushed) in
-    rw tail gains.rising
-
-pub push_taken-requires-clause-inside : goal.push_taken-requires-clause-inside
-push_taken-requires-clause-inside g c =
-    let b = c.args.factors.b.now.pattern in
-    let lanes = lane_of c.args.factors.a.now.pattern c.args.i in
-    let old = c.args.rows.now.indices.items in
-    let gains : GainsLane old c.drain_into.new.indices.items (IsInLanes b lanes) =
-    gains_same _ _ (HasBit c.add_row.new.set.words.items) (IsInLanes b lanes)
-    c.add_row.ensures.met c.in_ok-drain_into.ensures.pushed in
-    let begin : length old ≡ c.len-begin.result =
-    omega (arith, c.len-begin.ensures, c.args.rows.now.indices.ok.0) in
-    let tail = tail_is c.deref.result.now old gains.lane c.len-begin.result begin
-    (c.deref.ensures.value ∙ gains.pushed) in
-    rw tail (λ k d lt. omega (
-      arith,
-      c.add_row.ensures.bounded (get_or gains.lane k d)
-          ((gains.holds (get_or gains.lane k d)).0 (Contains-get_or gains.lane k d lt)),
-      c.add_row.auto.row,
-    ))
+    record {
+      rising = rw tail gains.rising;
+      inside = rw tail (λ k d lt. omega (
+        arith,
+        c.add_row.ensures.bounded (get_or gains.lane k d)
+            ((gains.holds (get_or gains.lane k d)).0 (Contains-get_or gains.lane k d lt)),
+        c.add_row.auto.row,
+      ));
+      room = grind (arith, common_steps);
+    }
 
 pub returns : goal.returns
 returns g c =
@@ -60,11 +48,9 @@ returns g c =
     let row = c.add_row.new.row in
     let is_row : (j : ℕ) → j < length row → f (get_or row j z) ≡ x j = λ j lt.
     c.add_row.ensures.added j (omega (arith, lt, c.add_row.auto.row)) in
-    let b = c.args.factors.b.now.pattern in
-    let lanes = lane_of c.args.factors.a.now.pattern c.args.i in
     let old = c.args.rows.now.indices.items in
-    let gains : GainsLane old c.drain_into.new.indices.items (IsInLanes b lanes) =
-    gains_same _ _ (HasBit c.add_row.new.set.words.items) (IsInLanes b lanes)
+    let gains : GainsLane old c.drain_into.new.indices.items (IsInRow c.args.factors i) =
+    gains_same _ _ (HasBit c.add_row.new.set.words.items) (IsInRow c.args.factors i)
     c.add_row.ensures.met c.in_ok-drain_into.ensures.pushed in
     let begin : length old ≡ c.len-begin.result =
     omega (arith, c.len-begin.ensures, c.args.rows.now.indices.ok.0) in

@@ -1,7 +1,6 @@
 use Rattle.std.proofs.Common.{◌≡◌, ◌<◌, inl, inr, length, get_or, set, ap, sym, subst, ◌∙◌, arith}
 use Rattle.std.proofs.lemmas.List.{get_or-set_same, get_or-set_other, get_or_default, take_all}
 use Rattle.sparse_algebra.proofs.Cases.{lt_add_one_cases}
-use Rattle.sparse_cs.proofs.RowSums.{offset_fits}
 use Rattle.sparse_products.specs.InnerProducts.{IsTaken}
 use Rattle.sparse_products.proofs.TakenRows.{taken_more, not_before}
 use Rattle.sparse_products.proofs.serial.scatter.gather_row.Goals as goal
@@ -58,38 +57,9 @@ returns g c =
       counted = omega (arith, inv.counted, whole);
     }
 
-pub offset_bounds-values-at : goal.offset_bounds-values-at
-offset_bounds-values-at g c =
-    let within : c.loop-at.at < length c.args.values.now = omega (arith, c.requires.count) in
-    let values = c.well_formed.1.1.1.0 in
-    offset_fits _ _ _ within values.1
-
-pub bounds-values-at : goal.bounds-values-at
-bounds-values-at g c = omega (arith, c.requires.count, c.loop-at.auto.values)
-
-pub offset_bounds-row-j : goal.offset_bounds-row-j
-offset_bounds-row-j g c =
-    let row = c.well_formed.1.1.0 in
-    offset_fits _ _ _ (c.requires.inside c.loop-at.at 0 (omega arith)) row.1
-
-pub bounds-row-j : goal.bounds-row-j
-bounds-row-j g c =
+pub prove-unreachable-requires-in-loop-at : goal.prove-unreachable-requires-in-loop-at
+prove-unreachable-requires-in-loop-at g c =
     omega (arith, c.requires.inside c.loop-at.at 0 (omega arith), c.loop-at.auto.row)
 
-pub offset_bounds-values-at-in-loop-at : goal.offset_bounds-values-at-in-loop-at
-offset_bounds-values-at-in-loop-at g c =
-    let within : c.loop-at.at < length c.args.values.now = omega (arith, c.requires.count) in
-    let values = c.well_formed.1.1.1.0 in
-    offset_fits _ _ _ within values.1
-
-pub bounds-values-at-in-loop-at : goal.bounds-values-at-in-loop-at
-bounds-values-at-in-loop-at g c = omega (arith, c.requires.count, c.loop-at.auto.values)
-
-pub offset_bounds-row-j-in-loop-at : goal.offset_bounds-row-j-in-loop-at
-offset_bounds-row-j-in-loop-at g c =
-    let row = c.well_formed.1.1.0 in
-    offset_fits _ _ _ (c.requires.inside c.loop-at.at 0 (omega arith)) row.1
-
-pub bounds-row-j-in-loop-at : goal.bounds-row-j-in-loop-at
-bounds-row-j-in-loop-at g c =
-    omega (arith, c.requires.inside c.loop-at.at 0 (omega arith), c.loop-at.auto.row)
+pub prove-unreachable-requires : goal.prove-unreachable-requires
+prove-unreachable-requires g c = omega (arith, c.requires.count, c.loop-at.auto.values)

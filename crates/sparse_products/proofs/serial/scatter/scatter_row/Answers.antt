@@ -1,7 +1,6 @@
 use borrow.Author.Rules.{scaled_fits≤}
 use Rattle.std.proofs.Common.{◌≡◌, ◌+◌, ◌-◌, ◌<◌, ◌≤◌, ℕ, inl, inr, length, get_or, sym, ◌∙◌}
-use Rattle.std.proofs.Common.{slice_range, ap, subst, refl, All, arith}
-use Rattle.std.specs.List.Sorted.{IsStrictlyIncreasing}
+use Rattle.std.proofs.Common.{slice_range, ap, refl, arith}
 use borrow.Rule.Slice.PartMut.{mid_len}
 use Rattle.std.proofs.lemmas.List.Edits.{get_or-between}
 use Rattle.sparse_algebra.proofs.Cases.{lt_or_ge}
@@ -30,32 +29,25 @@ add_product_row-requires-clause-slots g c = λ j h. (
   ),
 )
 
-pub gather_row-requires-clause-rising : goal.gather_row-requires-clause-rising
-gather_row-requires-clause-rising g c =
-    let valid = c.major_offsets-offsets.ensures.valid in
-    subst (λ l. IsStrictlyIncreasing l) (sym c.lane.ensures)
-    (rising_lane c.args.pattern.now c.args.i (valid.lanes c.args.i c.requires.lane))
-
-pub gather_row-requires-clause-inside : goal.gather_row-requires-clause-inside
-gather_row-requires-clause-inside g c =
-    let valid = c.major_offsets-offsets.ensures.valid in
-    subst (λ l. All (λ j. j < length c.add_product_row.new.target) l) (sym c.lane.ensures) (λ k d lt. omega (
-      arith,
-      lane_below c.args.pattern.now valid c.args.i c.requires.lane k d lt,
-      c.requires.width,
-      c.add_product_row.auto.target,
-    ))
-
-pub gather_row-requires-clause-count : goal.gather_row-requires-clause-count
-gather_row-requires-clause-count g c =
+pub gather_row-requires : goal.gather_row-requires
+gather_row-requires g c =
     let d = c.args.pattern.now in
     let i = c.args.i in
     let old = c.args.values.now in
-    let offsets_are = c.major_offsets-offsets.ensures.offsets in
-    let in_lane = c.major_offsets-offsets.ensures.valid.lanes i c.requires.lane in
+    let valid = c.major_offsets-offsets.ensures.valid in
+    let in_lane = valid.lanes i c.requires.lane in
     let within : end_of d i ≤ length old = omega (arith, c.requires.sizes.count, in_lane.inside) in
-    rw (offsets_are, c.lane.ensures) (mid_len _ _ old (omega (arith, within, in_lane.ordered))
-    ∙ sym (length-lane d i in_lane))
+    rw (c.major_offsets-offsets.ensures.offsets, c.lane.ensures) record {
+      rising = rising_lane d i in_lane;
+      inside = λ k z lt. omega (
+        arith,
+        lane_below d valid i c.requires.lane k z lt,
+        c.requires.width,
+        c.add_product_row.auto.target,
+      );
+      count = mid_len _ _ old (omega (arith, within, in_lane.ordered))
+          ∙ sym (length-lane d i in_lane);
+    }
 
 pub returns : goal.returns
 returns g c =

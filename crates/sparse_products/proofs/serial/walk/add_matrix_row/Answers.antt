@@ -9,7 +9,7 @@ use Rattle.sparse_pattern.proofs.LaneLists.{lane_has}
 use Rattle.sparse_cs.specs.InnerRows.{lane_value}
 use Rattle.sparse_cs.specs.PlainOfLanes.{plain_of_rows}
 use Rattle.sparse_cs.proofs.LaneValues.{values_of, length-values, lane_value_is}
-use Rattle.sparse_cs.proofs.RowSums.{offset_fits, sum_zip_more}
+use Rattle.sparse_cs.proofs.RowSums.{sum_zip_more}
 use Rattle.sparse_sums.proofs.Merging.{more}
 use Rattle.sparse_products.proofs.Walks.{added_none, added_then, added_same, entry_added, noted_none}
 use Rattle.sparse_products.proofs.Walks.{noted_then, noted_same}
@@ -24,8 +24,8 @@ loop-j-init g c = record {
   counted = omega arith;
 }
 
-pub slot_of-requires : goal.slot_of-requires
-slot_of-requires g c =
+pub slot_of-at-requires : goal.slot_of-at-requires
+slot_of-at-requires g c =
     let b = c.args.b.now in
     let k = c.args.k in
     let turn = zip_turn (lane_of b.pattern k) (values_of b k) c.loop-j.yielded
@@ -38,29 +38,8 @@ slot_of-requires g c =
     c.requires.lane).0 (length c.loop-j.yielded, turn.0, sym (turn.2 j))) in
     (own.0, (c.loop-j.invariant.noted.kept j own.0).1 own.1)
 
-pub offset_bounds-target-slot_of : goal.offset_bounds-target-slot_of
-offset_bounds-target-slot_of g c =
-    let b = c.args.b.now in
-    let k = c.args.k in
-    let turn = zip_turn (lane_of b.pattern k) (values_of b k) c.loop-j.yielded
-    c.into_iter-j-iterator.result c.loop-j.j-iterator c.next.new.self c.next.result
-    (rw (← c.lane_entries.ensures.indices) (search rules))
-    (rw (← c.lane_entries.ensures.values) (search rules)) c.loop-j.yielded_by
-    (c.in-Some.j, c.in-Some.entry) c.in-Some.is c.next.ensures.steps in
-    let j = c.in-Some.j.now in
-    let own = c.requires.slots j ((lane_has b.pattern c.lane_entries.ensures.sound.valid k j
-    c.requires.lane).0 (length c.loop-j.yielded, turn.0, sym (turn.2 j))) in
-    let within : c.slot_of.result < length c.args.target.now = omega (
-      arith,
-      own.2,
-      g.met.S.Slots.one_slot c.loop-j.slots j own.0 c.slot_of.result
-          ((c.loop-j.invariant.noted.kept j own.0).1 own.1) c.slot_of.ensures.found,
-    ) in
-    let target = c.well_formed.1.1.1.1.0 in
-    offset_fits _ _ _ within target.1
-
-pub bounds-target-slot_of : goal.bounds-target-slot_of
-bounds-target-slot_of g c =
+pub prove-unreachable-requires : goal.prove-unreachable-requires
+prove-unreachable-requires g c =
     let b = c.args.b.now in
     let k = c.args.k in
     let turn = zip_turn (lane_of b.pattern k) (values_of b k) c.loop-j.yielded
@@ -74,8 +53,8 @@ bounds-target-slot_of g c =
     omega (
       arith,
       own.2,
-      g.met.S.Slots.one_slot c.loop-j.slots j own.0 c.slot_of.result
-          ((c.loop-j.invariant.noted.kept j own.0).1 own.1) c.slot_of.ensures.found,
+      g.met.S.Slots.one_slot c.loop-j.slots j own.0 c.slot_of-at.result
+          ((c.loop-j.invariant.noted.kept j own.0).1 own.1) c.slot_of-at.ensures.found,
       c.loop-j.auto.target,
     )
 
@@ -96,15 +75,15 @@ loop-j-preserved g c =
     (c.in-Some.j, c.in-Some.entry) c.in-Some.is c.next.ensures.steps in
     let i = c.in-Some.j.now in
     let v = c.in-Some.entry.now in
-    let q = c.slot_of.result in
+    let q = c.slot_of-at.result in
     let slot = g.S.Slots.slot in
     let noted = g.S.Slots.noted in
     let start = c.args.slots.now in
     let now = c.loop-j.slots in
-    let next = c.slot_of.new.self in
+    let next = c.slot_of-at.new.self in
     let old = c.loop-j.target in
     let inv = c.loop-j.invariant in
-    let found = c.slot_of.ensures.found in
+    let found = c.slot_of-at.ensures.found in
     let own = c.requires.slots i ((lane_has b.pattern c.lane_entries.ensures.sound.valid k i
     c.requires.lane).0 (n, turn.0, sym (turn.2 i))) in
     let within : q < length old = omega (
@@ -113,7 +92,7 @@ loop-j-preserved g c =
       g.met.S.Slots.one_slot now i own.0 q ((inv.noted.kept i own.0).1 own.1) found,
       c.loop-j.auto.target,
     ) in
-    let read = get_or_default old q c.index-target-slot_of.result z within in
+    let read = get_or_default old q c.index-target-at.result z within in
     let is : f c.add.result ≡ R.add (f (get_or old q z)) (R.mul scale (f v)) = c.add.ensures
     ∙ ap (λ x. R.add (f x) (f c.mul.result)) read
     ∙ ap (R.add (f (get_or old q z))) c.mul.ensures in
@@ -132,8 +111,8 @@ loop-j-preserved g c =
           (noted next) (Contains (take n js)) (λ j. i ≡ j) (Contains (take (n + 1) js))
           (λ j. more js n i j turn.0 (turn.2 0)) inv.noted
           (record {
-            kept = c.slot_of.ensures.kept;
-            noted = c.slot_of.ensures.noted;
+            kept = c.slot_of-at.ensures.kept;
+            noted = c.slot_of-at.ensures.noted;
           });
       counted = omega (arith, inv.counted, c.tick.ensures);
     }

@@ -13,7 +13,7 @@ use Rattle.sparse_products.specs.InnerProducts.{IsInLanes}
 use Rattle.sparse_products.specs.InnerUpdates.{triples_below}
 use Rattle.sparse_products.proofs.ProductSums.{triples_more}
 use Rattle.sparse_products.proofs.Walks.{added_none, added_then, added_same, noted_none, noted_then}
-use Rattle.sparse_products.proofs.Walks.{in_lanes_then}
+use Rattle.sparse_products.proofs.ProductLanes.{in_lanes_then}
 use Rattle.sparse_products.proofs.serial.walk.add_product_row.Goals as goal
 
 pub loop-k-init : goal.loop-k-init
