@@ -116,10 +116,7 @@ fn csr_factor<T: Ring>(
 {
     match operand {
         Op::NoOp(rows) => Ok(Multiplicand::Given(rows.cs())),
-        Op::Transpose(rows) => {
-            learn(rows.values());
-            Ok(Multiplicand::Made(rows.cs().transpose(alloc)?))
-        }
+        Op::Transpose(rows) => Ok(Multiplicand::Made(transposed(alloc, rows.cs())?)),
     }
 }
 
@@ -134,11 +131,17 @@ fn csc_factor<T: Ring>(
 {
     match operand {
         Op::NoOp(cols) => Ok(Multiplicand::Given(cols.cs())),
-        Op::Transpose(cols) => {
-            learn(cols.values());
-            Ok(Multiplicand::Made(cols.cs().transpose(alloc)?))
-        }
+        Op::Transpose(cols) => Ok(Multiplicand::Made(transposed(alloc, cols.cs())?)),
     }
+}
+
+// Returns the transpose of a matrix whose lanes are rows. Fails only if an allocation fails.
+fn transposed<T: Ring>(alloc: Global, matrix: &CsMatrix<T>) -> Result<CsMatrix<T>, AllocError>
+    ensures { IfOk result (λ m. plain_of_rows T.ring T.value m
+        ≡ plain_transpose T.ring (plain_of_rows T.ring T.value matrix.now)) }
+{
+    learn(matrix.values());
+    matrix.transpose(alloc)
 }
 
 /// Returns the transpose of a matrix, by rows too. Fails only if an allocation fails.
@@ -147,8 +150,7 @@ pub fn transposed_csr<T: Ring>(alloc: Global, a: &CsrMatrix<T>) -> Result<CsrMat
         (λ m. plain_of_rows T.ring T.value m
         ≡ plain_transpose T.ring (plain_of_rows T.ring T.value a.now)) }
 {
-    learn(a.values());
-    a.transpose(alloc)
+    Ok(CsrMatrix::from_cs(transposed(alloc, a.cs())?))
 }
 
 /// Returns the transpose of a matrix, by columns too. Fails only if an allocation fails.
@@ -157,6 +159,5 @@ pub fn transposed_csc<T: Ring>(alloc: Global, a: &CscMatrix<T>) -> Result<CscMat
         (λ m. plain_of_cols T.ring T.value m
         ≡ plain_transpose T.ring (plain_of_cols T.ring T.value a.now)) }
 {
-    learn(a.values());
-    a.transpose(alloc)
+    Ok(CscMatrix::from_cs(transposed(alloc, a.cs())?))
 }

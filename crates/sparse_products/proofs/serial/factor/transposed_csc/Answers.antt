@@ -1,7 +1,8 @@
-use Rattle.sparse_products.proofs.Transposing.{cols_transposed}
+use Rattle.std.proofs.Common.{ap, ◌∙◌}
+use Rattle.sparse_algebra.specs.Plain.{plain_transpose}
+use Rattle.sparse_cs.specs.PlainOfLanes.{plain_of_cols}
 use Rattle.sparse_products.proofs.serial.factor.transposed_csc.Goals as goal
 
 pub returns : goal.returns
-returns g c = cols_transposed g.T.Ring.ring g.T.Ring.value g.T.Zero.zero_value c.args.a.now
-    c.values.ensures.sound c.transpose.result c.transpose.ensures.transposed
-    c.transpose.ensures.sound
+returns g c = ap (plain_of_cols g.T.Ring.ring g.T.Ring.value) c.from_cs.ensures
+    ∙ ap (plain_transpose g.T.Ring.ring) (rw c.cs.ensures.core at c.in_ok-transposed.ensures)
