@@ -1,41 +1,10 @@
 use Rattle.std.proofs.Common.{ap, sym, ◌∙◌, map, subst, rules}
-use Rattle.std.proofs.lemmas.Result.{IfOk-from_err}
 use Rattle.sparse_algebra.specs.Plain.{plain_negation}
 use Rattle.sparse_base.specs.CooPlain.{plain_of_coo}
 use Rattle.sparse_expr.specs.InnerTransposed.{rows_or_transposed}
 use Rattle.sparse_expr.specs.Value.{value_of, Meets, one, sum_of, difference_of}
 use Rattle.sparse_expr.proofs.Values.{both_made}
 use Rattle.sparse_expr.proofs.evaluate.+evaluate.Goals as goal
-
-pub returns-in_err-first-in-Add-clause-provides : goal.returns-in_err-first-in-Add-clause-provides
-returns-in_err-first-in-Add-clause-provides g t c = IfOk-from_err _ _ c.from_residual.ensures.0
-
-pub returns-in_err-second-in-Add-clause-provides : goal.returns-in_err-second-in-Add-clause-provides
-returns-in_err-second-in-Add-clause-provides g t c =
-    IfOk-from_err _ _ c.from_residual-in_err-second-in-Add.ensures.0
-
-pub returns-in_err-minuend-in-Sub-clause-provides :
-    goal.returns-in_err-minuend-in-Sub-clause-provides
-returns-in_err-minuend-in-Sub-clause-provides g t c =
-    IfOk-from_err _ _ c.from_residual-in_err-minuend-in-Sub.ensures.0
-
-pub returns-in_err-subtrahend-in-Sub-clause-provides :
-    goal.returns-in_err-subtrahend-in-Sub-clause-provides
-returns-in_err-subtrahend-in-Sub-clause-provides g t c =
-    IfOk-from_err _ _ c.from_residual-in_err-subtrahend-in-Sub.ensures.0
-
-pub returns-in_err-left-in-Mul-clause-provides : goal.returns-in_err-left-in-Mul-clause-provides
-returns-in_err-left-in-Mul-clause-provides g t c =
-    IfOk-from_err _ _ c.from_residual-in_err-left-in-Mul.ensures.0
-
-pub returns-in_err-right-in-Mul-clause-provides : goal.returns-in_err-right-in-Mul-clause-provides
-returns-in_err-right-in-Mul-clause-provides g t c =
-    IfOk-from_err _ _ c.from_residual-in_err-right-in-Mul.ensures.0
-
-pub returns-in_err-operand-in-Neg-clause-provides :
-    goal.returns-in_err-operand-in-Neg-clause-provides
-returns-in_err-operand-in-Neg-clause-provides g t c =
-    IfOk-from_err _ _ c.from_residual-in_err-operand-in-Neg.ensures.0
 
 pub returns-in_ok-second-in-Add-clause-met : goal.returns-in_ok-second-in-Add-clause-met
 returns-in_ok-second-in-Add-clause-met g t c =
