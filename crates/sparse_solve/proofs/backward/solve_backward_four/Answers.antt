@@ -22,7 +22,7 @@ dot_four-a-requires g c =
     let need = c.requires in
     let some = c.in-Some.ensures.some in
     let inside : (n : ℕ) → n ≡ c.args.l.now.pattern.minor_dim
-        → All (λ k. k * 1 < n) c.in-Some.column.rows.now = λ n long q d lt.
+    → All (λ k. k * 1 < n) c.in-Some.column.rows.now = λ n long q d lt.
     omega (arith, some.inside q d lt, long) in
     record {
       fits = some.count;
