@@ -17,19 +17,6 @@ element_more P xs n lt here before j h =
       | inr same ↦ subst P same here
     ]
 
-module _ (d b : Raw) (vb : IsValid b) (i : ℕ) where
-  -- lane i of d has the indices of lane k of b
-  abbrev pub HasLane : ℕ → Type 0
-  HasLane k = (j : ℕ) → Contains (lane_of b k) j → IsPlace d i j
-
-  pub has_lanes : (lanes : List ℕ) → ((k : ℕ) → Contains lanes k → k < b.major_dim)
-      → ((k : ℕ) → Contains lanes k → HasLane k) → (j : ℕ) → IsInLanes b lanes j → IsPlace d i j
-  has_lanes lanes below all j h = all h.0 h.1 j ((lane_has b vb h.0 j (below h.0 h.1)).1 h.2)
-
-  pub has_lane : (lanes : List ℕ) (k : ℕ) → Contains lanes k → k < b.major_dim
-      → ((j : ℕ) → IsInLanes b lanes j → IsPlace d i j) → HasLane k
-  has_lane lanes k there below all j h = all j (k, there, (lane_has b vb k j below).0 h)
-
 module _ (d a b : Raw) (va : IsValid a) where
   -- lane i of d has the indices of the lanes of b that lane i of a names
   abbrev pub HasLanes : ℕ → Type 0

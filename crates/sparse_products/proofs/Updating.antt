@@ -9,7 +9,7 @@ use Rattle.sparse_algebra.specs.declared.operand.Op.{Op}
 use Rattle.sparse_algebra.specs.declared.operand.Op.TheVariants.{NoOp, Transpose}
 use Rattle.sparse_algebra.specs.Operands.{MatchOp}
 use Rattle.sparse_algebra.specs.Prealloc.{plain_update, plain_transpose_if, IsCovered}
-use Rattle.sparse_pattern.specs.Raw.{Raw}
+use Rattle.sparse_pattern.specs.Raw.{Raw, IsValid}
 use Rattle.sparse_cs.specs.Compressed.{Compressed, compressed_of, IsSound}
 use Rattle.sparse_cs.specs.PlainOfLanes.{plain_of_rows}
 use Rattle.sparse_cs.specs.Writing.{with_values}
@@ -54,39 +54,42 @@ pub product_same : (R : CommRing) {p q r s : Plain R} → p ≡ q → r ≡ s
     → plain_product R p r ≡ plain_product R q s
 product_same R {p} {q} {r} {s} e e' = ap (λ x. plain_product R x r) e ∙ ap (plain_product R q) e'
 
--- the matrix of the pattern d and the values vs
-module _ (R : CommRing) {T : Type 0} (f : T → R.Carrier) {a b : Compressed T} (sa : IsSound a)
-    (sb : IsSound b) (fits : a.pattern.minor_dim ≡ b.pattern.major_dim) {d : Raw} {vs : List T}
-    (sm : IsSound (compressed_of d vs)) where
-  abbrev P : Plain R
-  P = product R f sa sb fits
+-- an update of the matrix of the pattern d and the values vs
+module _ (R : CommRing) {T : Type 0} (f : T → R.Carrier) {x : Factors T} {d : Raw} {vs : List T}
+    (sizes : CanUpdate x d vs) (sa : IsSound x.a.now) (sb : IsSound x.b.now) (valid : IsValid d)
+  where
+    abbrev P : Plain R
+    P = product R f sa sb sizes.inner
 
-  pub covered_is : HasProductPlaces d a.pattern b.pattern
-      ↔ IsCovered P (plain_of_rows R f (compressed_of d vs))
-  covered_is =
-      let here = (rows_have R f (compressed_of d vs) sm).places in
-      let joined = joined_is R f sa sb fits in (
-        λ h i j x. let s = (joined i j).1 x in (here i j).0 (h i j s.0 s.1 s.2),
-        λ h i j k x y. (here i j).1 (h i j ((joined i j).0 (k, x, y))),
-      )
+    sound : IsSound (compressed_of d vs)
+    sound = record { valid = valid; count = sizes.count }
 
-  pub updated_is : (z : T) (beta alpha : R.Carrier) (ws : List T) → length ws ≡ length vs
-      → HasProductPlaces d a.pattern b.pattern → AreUpdated R f z d beta alpha P.value vs ws
-      → plain_of_rows R f (compressed_of d ws) ≡ plain_update R beta
-      (plain_of_rows R f (compressed_of d vs)) alpha P
-  updated_is z beta alpha ws long places values =
-      let was = rows_have R f (compressed_of d vs) sm in
-      let new = plain_update R beta (plain_of_rows R f (compressed_of d vs)) alpha P in
-      updated R f z (compressed_of d vs) ws new.value sm long
-      (λ i j none.
-      let off = zero_elsewhere R f sa sb fits d places i j
-      (λ place. let hit = (was.places i j).0 place in cc) in
-      ap (λ c. R.add (R.mul beta c) (R.mul alpha (P.value i j))) (was.proper i j none)
-      ∙ ap (λ c. R.add c (R.mul alpha (P.value i j))) (mul_zero R beta)
-      ∙ ap (λ c. R.add R.zero (R.mul alpha c)) off ∙ ap (R.add R.zero) (mul_zero R alpha)
-      ∙ R.laws.add_zero R.zero)
-      (λ i j p at. values i j p at
-      ∙ ap (λ c. R.add (R.mul beta c) (R.mul alpha (P.value i j))) (was.values i j p z at))
+    pub covered_is : HasProductPlaces d x.a.now.pattern x.b.now.pattern
+        ↔ IsCovered P (plain_of_rows R f (compressed_of d vs))
+    covered_is =
+        let here = (rows_have R f (compressed_of d vs) sound).places in
+        let joined = joined_is R f sa sb sizes.inner in (
+          λ h i j hit. let s = (joined i j).1 hit in (here i j).0 (h i j s.0 s.1 s.2),
+          λ h i j k left right. (here i j).1 (h i j ((joined i j).0 (k, left, right))),
+        )
+
+    pub updated_is : (z : T) (beta alpha : R.Carrier) (ws : List T) → length ws ≡ length vs
+        → HasProductPlaces d x.a.now.pattern x.b.now.pattern → AreUpdated R f z d beta alpha P.value vs ws
+        → plain_of_rows R f (compressed_of d ws) ≡ plain_update R beta
+        (plain_of_rows R f (compressed_of d vs)) alpha P
+    updated_is z beta alpha ws long places values =
+        let was = rows_have R f (compressed_of d vs) sound in
+        let new = plain_update R beta (plain_of_rows R f (compressed_of d vs)) alpha P in
+        updated R f z (compressed_of d vs) ws new.value sound long
+        (λ i j none.
+        let off = zero_elsewhere R f sa sb sizes.inner d places i j
+        (λ place. let hit = (was.places i j).0 place in cc) in
+        ap (λ c. R.add (R.mul beta c) (R.mul alpha (P.value i j))) (was.proper i j none)
+        ∙ ap (λ c. R.add c (R.mul alpha (P.value i j))) (mul_zero R beta)
+        ∙ ap (λ c. R.add R.zero (R.mul alpha c)) off ∙ ap (R.add R.zero) (mul_zero R alpha)
+        ∙ R.laws.add_zero R.zero)
+        (λ i j p at. values i j p at
+        ∙ ap (λ c. R.add (R.mul beta c) (R.mul alpha (P.value i j))) (was.values i j p z at))
 
 module _ (R : CommRing) where
   covered_through : (t : Bool) (q c : Plain R)

@@ -1,6 +1,6 @@
 //! A product that is added to the values of a pattern by binary search, without memory.
 
-ghost use Rattle.std.specs.Prelude.{◌≡◌, ℕ, ◌+◌, ◌<◌, ◌↔◌, length, All, Contains, IsTrue};
+ghost use Rattle.std.specs.Prelude.{◌≡◌, ℕ, ◌+◌, ◌<◌, ◌↔◌, length, All, IsTrue};
 ghost use Rattle.sparse_pattern.specs.Raw.{IsPlace};
 ghost use Rattle.sparse_cs.specs.ChangedValues.{AreChanged};
 ghost use Rattle.sparse_products.specs.InnerProducts.{IsInLanes};
@@ -42,22 +42,23 @@ fn covers_lanes(pattern: &SparsityPattern, i: usize, lanes: &[usize], b: &Sparsi
     requires shared { All (λ k. k < b.now.major_dim) lanes.now }
     ensures { IsTrue result ↔ ((j : ℕ) → IsInLanes b.now lanes.now j → IsPlace pattern.now i j) }
 {
-    learn(pattern.major_offsets());
-    learn(b.major_offsets());
     for k in lanes {
-        if !covers_lane(pattern, i, b.lane(*k)) {
+        if !covers_lane(pattern, i, b, *k) {
             return false;
         }
     }
     true
 }
 
-// Whether lane i of the pattern has each of the indices.
-fn covers_lane(pattern: &SparsityPattern, i: usize, indices: &[usize]) -> bool
-    requires { i < pattern.now.major_dim }
-    ensures { IsTrue result ↔ ((j : ℕ) → Contains indices.now j → IsPlace pattern.now i j) }
+// Whether lane i of the pattern has the indices of lane k of `b`.
+fn covers_lane(pattern: &SparsityPattern, i: usize, b: &SparsityPattern, k: usize) -> bool
+    requires lane { i < pattern.now.major_dim }
+    requires shared { k < b.now.major_dim }
+    ensures { IsTrue result ↔ ((j : ℕ) → IsPlace b.now k j → IsPlace pattern.now i j) }
 {
     learn(pattern.major_offsets());
+    learn(b.major_offsets());
+    let indices = b.lane(k);
     for j in indices {
         match position_of(pattern, i, *j) {
             Some(_) => {}

@@ -4,6 +4,7 @@ use Rattle.std.proofs.lemmas.List.{take_at}
 use Rattle.sparse_pattern.specs.Raw.{Raw}
 use Rattle.sparse_cs.specs.Compressed.{IsSound, compressed_of}
 use Rattle.sparse_cs.specs.PlainOfLanes.{plain_of_rows}
+use Rattle.sparse_products.specs.InnerUpdates.{CanUpdate}
 use Rattle.sparse_products.specs.Products.{IsProductOf}
 use Rattle.sparse_products.proofs.MadeProducts.{has_places, product_made}
 use Rattle.sparse_products.proofs.Updating.{covered_is}
@@ -16,21 +17,18 @@ update_covered-requires g c =
     let places : IsProductOf d x.a.now.pattern x.b.now.pattern =
     rw (c.pattern.ensures.pattern, c.pattern-2.ensures.pattern) at
     c.in_ok-pattern.ensures.places in
-    let sound : IsSound (compressed_of d c.deref_mut.result.now) = record {
-      valid = c.in_ok-pattern.ensures.valid;
+    let sizes : CanUpdate x d c.deref_mut.result.now = record {
+      inner = c.requires;
+      lanes = sym (c.in_ok-pattern.ensures.major
+          ∙ ap (λ (d : Raw). d.major_dim) c.pattern.ensures.pattern);
       count = omega (arith, c.deref_mut.ensures.len, c.in_ok-resize.ensures.len, c.nnz.ensures);
     } in
     record {
-      sizes = record {
-        inner = c.requires;
-        lanes = sym (c.in_ok-pattern.ensures.major
-            ∙ ap (λ (d : Raw). d.major_dim) c.pattern.ensures.pattern);
-        count = sound.count;
-      };
+      sizes = sizes;
       width = sym (c.in_ok-pattern.ensures.minor
           ∙ ap (λ (d : Raw). d.minor_dim) c.pattern-2.ensures.pattern);
-      covered = (covered_is g.T.Ring.ring g.T.Ring.value c.pattern.ensures.sound
-          c.pattern-2.ensures.sound c.requires sound).0
+      covered = (covered_is g.T.Ring.ring g.T.Ring.value sizes c.pattern.ensures.sound
+          c.pattern-2.ensures.sound c.in_ok-pattern.ensures.valid).0
           (has_places d x.a.now.pattern x.b.now.pattern places);
     }
 

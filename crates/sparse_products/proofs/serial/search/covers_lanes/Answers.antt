@@ -1,45 +1,28 @@
-use Rattle.std.proofs.Common.{◌<◌, ℕ, get_or, refl, subst, Contains, arith}
+use Rattle.std.proofs.Common.{ℕ, get_or, refl, subst, Contains}
 use Rattle.std.proofs.lemmas.List.{take_all}
 use Rattle.std.proofs.lemmas.List.Elements.{Contains-get_or}
-use Rattle.sparse_pattern.specs.Raw.{lane_of, IsPlace}
-use Rattle.sparse_products.proofs.CoveredLanes.{element_more, has_lanes, has_lane}
+use Rattle.sparse_pattern.specs.Raw.{IsPlace}
+use Rattle.sparse_products.proofs.CoveredLanes.{element_more}
 use Rattle.sparse_products.proofs.serial.search.covers_lanes.Goals as goal
 
 pub loop-k-preserved : goal.loop-k-preserved
-loop-k-preserved c =
-    let lanes = c.args.lanes.now in
-    let k = get_or lanes c.loop-k.k-index 0 in
-    let here : (j : ℕ) → Contains (lane_of c.args.b.now k) j
-    → IsPlace c.args.pattern.now c.args.i j =
-    rw c.lane.ensures at (c.covers_lane.ensures.0 c.if-not-covers_lane.false) in
-    element_more (λ k. (j : ℕ) → Contains (lane_of c.args.b.now k) j
-    → IsPlace c.args.pattern.now c.args.i j) lanes c.loop-k.k-index c.loop-k-test.true here
-    c.loop-k.invariant
+loop-k-preserved c = element_more
+    (λ k. (j : ℕ) → IsPlace c.args.b.now k j → IsPlace c.args.pattern.now c.args.i j)
+    c.args.lanes.now c.loop-k.k-index c.loop-k-test.true
+    (c.covers_lane.ensures.0 c.if-not-covers_lane.false) c.loop-k.invariant
 
 pub returns-then-not-covers_lane : goal.returns-then-not-covers_lane
 returns-then-not-covers_lane c =
-    let lanes = c.args.lanes.now in
-    let k = get_or lanes c.loop-k.k-index 0 in
-    let there = Contains-get_or lanes c.loop-k.k-index 0 c.loop-k-test.true in
-    let below : k < c.args.b.now.major_dim = c.requires.shared c.loop-k.k-index 0
-    c.loop-k-test.true in
+    let there = Contains-get_or c.args.lanes.now c.loop-k.k-index 0 c.loop-k-test.true in
     let no = c.if-not-covers_lane.true in (
       λ h. cc,
-      λ h. let yes = c.covers_lane.ensures.1
-          (rw c.lane.ensures (has_lane c.args.pattern.now c.args.b.now
-          c.major_offsets-2.ensures.valid
-          c.args.i lanes k there below h)) in cc,
+      λ h. let yes = c.covers_lane.ensures.1 (λ j here. h j
+          (get_or c.args.lanes.now c.loop-k.k-index 0, there, here)) in cc,
     )
 
 pub returns : goal.returns
 returns c =
-    let lanes = c.args.lanes.now in
-    let whole = take_all c.loop-k.k-index lanes c.loop-k-test.false in
-    let all = subst (λ xs. (k : ℕ) → Contains xs k → (j : ℕ) → Contains (lane_of c.args.b.now k) j
-    → IsPlace c.args.pattern.now c.args.i j) whole c.loop-k.invariant in
-    let below : (k : ℕ) → Contains lanes k → k < c.args.b.now.major_dim =
-    λ k h. omega (arith, c.requires.shared h.0 k h.1, h.2) in (
-      λ _. has_lanes c.args.pattern.now c.args.b.now c.major_offsets-2.ensures.valid c.args.i lanes
-          below all,
-      λ _. refl,
-    )
+    let all = subst (λ xs. (k : ℕ) → Contains xs k → (j : ℕ) → IsPlace c.args.b.now k j
+    → IsPlace c.args.pattern.now c.args.i j)
+    (take_all c.loop-k.k-index c.args.lanes.now c.loop-k-test.false) c.loop-k.invariant in
+    (λ _ j h. all h.0 h.1 j h.2, λ _. refl)

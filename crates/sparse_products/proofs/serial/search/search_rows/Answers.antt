@@ -60,9 +60,8 @@ returns-clause-updated g c =
     let u = c.args.update in
     let d = c.args.pattern.now in
     let valid = c.major_offsets.ensures.valid in
-    updated_is R f c.values.ensures.sound c.values-2.ensures.sound c.requires.sizes.inner
-    (record { valid = valid; count = c.requires.sizes.count }) g.T.Zero.zero_value (f u.beta)
-    (f u.alpha) c.loop-i.values
+    updated_is R f c.requires.sizes c.values.ensures.sound c.values-2.ensures.sound valid
+    g.T.Zero.zero_value (f u.beta) (f u.alpha) c.loop-i.values
     (c.loop-i.auto.values ∙ c.scale_values.auto.values) c.requires.places (λ i j p at.
     let within : p < length c.args.values.now =
     omega (arith, position_within d valid i j p at, c.requires.sizes.count) in

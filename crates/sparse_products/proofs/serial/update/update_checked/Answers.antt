@@ -15,9 +15,8 @@ returns-then-not-covers_product-clause-covered g c =
     let no = c.if-not-covers_product.true in
     let places = rw (c.pattern.ensures.pattern, c.pattern-2.ensures.pattern)
     at c.covers_product.ensures.1 in
-    let same = covered_is g.T.Ring.ring g.T.Ring.value c.pattern.ensures.sound
-    c.pattern-2.ensures.sound c.requires.inner
-    (record { valid = c.major_offsets.ensures.valid; count = c.requires.count }) in
+    let same = covered_is g.T.Ring.ring g.T.Ring.value c.requires c.pattern.ensures.sound
+    c.pattern-2.ensures.sound c.major_offsets.ensures.valid in
     (λ covered. cc, λ all. let yes = places (same.1 all) in cc)
 
 pub search_rows-requires-clause-places : goal.search_rows-requires-clause-places
@@ -30,7 +29,6 @@ pub returns-clause-covered : goal.returns-clause-covered
 returns-clause-covered g c =
     let places = rw (c.pattern.ensures.pattern, c.pattern-2.ensures.pattern)
     at c.covers_product.ensures.0 in
-    let same = covered_is g.T.Ring.ring g.T.Ring.value c.pattern.ensures.sound
-    c.pattern-2.ensures.sound c.requires.inner
-    (record { valid = c.major_offsets.ensures.valid; count = c.requires.count }) in
+    let same = covered_is g.T.Ring.ring g.T.Ring.value c.requires c.pattern.ensures.sound
+    c.pattern-2.ensures.sound c.major_offsets.ensures.valid in
     (λ covered. same.0 (places c.if-not-covers_product.false), λ all. refl)

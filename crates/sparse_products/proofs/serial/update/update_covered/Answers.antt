@@ -3,14 +3,10 @@ use Rattle.sparse_products.proofs.serial.update.update_covered.Goals as goal
 
 pub search_rows-requires-clause-places : goal.search_rows-requires-clause-places
 search_rows-requires-clause-places g c =
-    (covered_is g.T.Ring.ring g.T.Ring.value c.values.ensures.sound c.pattern.ensures.sound
-    c.requires.sizes.inner
-    (record { valid = c.major_offsets.ensures.valid; count = c.requires.sizes.count })).1
-    c.requires.covered
+    (covered_is g.T.Ring.ring g.T.Ring.value c.requires.sizes c.values.ensures.sound
+    c.pattern.ensures.sound c.major_offsets.ensures.valid).1 c.requires.covered
 
 pub scatter_rows-requires-clause-places : goal.scatter_rows-requires-clause-places
 scatter_rows-requires-clause-places g c =
-    (covered_is g.T.Ring.ring g.T.Ring.value c.values.ensures.sound c.pattern.ensures.sound
-    c.requires.sizes.inner
-    (record { valid = c.major_offsets.ensures.valid; count = c.requires.sizes.count })).1
-    c.requires.covered
+    (covered_is g.T.Ring.ring g.T.Ring.value c.requires.sizes c.values.ensures.sound
+    c.pattern.ensures.sound c.major_offsets.ensures.valid).1 c.requires.covered

@@ -13,7 +13,7 @@ use Rattle.sparse_products.specs.InnerProducts.{IsInLanes}
 use Rattle.sparse_products.specs.InnerUpdates.{triples_below}
 use Rattle.sparse_products.proofs.ProductSums.{triples_more}
 use Rattle.sparse_products.proofs.Walks.{added_none, added_then, added_same, noted_none, noted_then}
-use Rattle.sparse_products.proofs.ProductLanes.{in_lanes_then}
+use Rattle.sparse_products.proofs.ProductLanes.{in_lanes_then, lane_below}
 use Rattle.sparse_products.proofs.serial.walk.add_product_row.Goals as goal
 
 pub loop-k-init : goal.loop-k-init
@@ -29,24 +29,8 @@ loop-k-init g c =
       counted = omega (arith, ap (λ n. triples_below n p c.args.factors.b.now.pattern) e);
     }
 
-pub add_matrix_row-requires-clause-lane : goal.add_matrix_row-requires-clause-lane
-add_matrix_row-requires-clause-lane g c =
-    let a = c.args.factors.a.now in
-    let i = c.args.i in
-    let n = length c.loop-k.yielded in
-    let turn = zip_turn (lane_of a.pattern i) (values_of a i) c.loop-k.yielded
-    c.into_iter-k-iterator.result c.loop-k.k-iterator c.next.new.self c.next.result
-    (rw (← c.lane_entries.ensures.indices) (search rules))
-    (rw (← c.lane_entries.ensures.values) (search rules)) c.loop-k.yielded_by
-    (c.in-Some.k, c.in-Some.entry) c.in-Some.is c.next.ensures.steps in
-    let lane = c.lane_entries.ensures.sound.valid.lanes i c.requires.lane in
-    let at = get_or-lane a.pattern i lane n turn.0 in
-    let below = lane.bounded (start_of a.pattern i + n) (omega arith)
-    (omega (arith, turn.0, length-lane a.pattern i lane)) in
-    omega (arith, turn.2 0, at, below, c.requires.inner)
-
-pub add_matrix_row-requires-clause-slots : goal.add_matrix_row-requires-clause-slots
-add_matrix_row-requires-clause-slots g c =
+pub add_matrix_row-requires : goal.add_matrix_row-requires
+add_matrix_row-requires g c =
     let a = c.args.factors.a.now in
     let i = c.args.i in
     let n = length c.loop-k.yielded in
@@ -56,12 +40,17 @@ add_matrix_row-requires-clause-slots g c =
     (rw (← c.lane_entries.ensures.indices) (search rules))
     (rw (← c.lane_entries.ensures.values) (search rules)) c.loop-k.yielded_by
     (c.in-Some.k, c.in-Some.entry) c.in-Some.is c.next.ensures.steps in
-    λ j here.
-    let own = c.requires.slots j (k, (n, turn.0, sym (turn.2 k)), here) in (
-      own.0,
-      (c.loop-k.invariant.noted.kept j own.0).1 own.1,
-      omega (arith, own.2, c.loop-k.auto.target),
-    )
+    let below = lane_below a.pattern c.lane_entries.ensures.sound.valid i c.requires.lane n 0
+    turn.0 in
+    record {
+      lane = omega (arith, turn.2 0, below, c.requires.inner);
+      slots = λ j here.
+          let own = c.requires.slots j (k, (n, turn.0, sym (turn.2 k)), here) in (
+            own.0,
+            (c.loop-k.invariant.noted.kept j own.0).1 own.1,
+            omega (arith, own.2, c.loop-k.auto.target),
+          );
+    }
 
 pub loop-k-preserved : goal.loop-k-preserved
 loop-k-preserved g c =
