@@ -3,6 +3,7 @@
 ghost use Rattle.std.specs.Prelude.{◌≡◌, ◌≤◌, length, map, take, drop, IfOk};
 ghost use Rattle.sparse_algebra.specs.Numbers.{w64_number};
 ghost use Rattle.sparse_c_views.specs.Elements.{element_of};
+ghost use Rattle.sparse_c_views.specs.Reduced.{FirstAre};
 
 use crate::number::Number;
 use sparse_algebra::scalar::W64;
@@ -23,6 +24,7 @@ pub fn scalars_of<T: Number>(alloc: Global, numbers: &[i64]) -> Result<Vec<T>, A
 pub fn put_scalars<T: Number>(target: &mut [i64], source: &[T])
     requires room { length source.now ≤ length target.old }
     ensures written { map (element_of T.ring) (take (length source.now) target.new) ≡ map T.value source.now }
+    ensures shown { FirstAre T.is_shown (length source.now) target.new }
     ensures rest { drop (length source.now) target.new ≡ drop (length source.now) target.old }
 {
     for at in 0..source.len() {

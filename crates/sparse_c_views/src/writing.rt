@@ -4,6 +4,7 @@ ghost use Rattle.std.specs.Prelude.{◌≡◌, ◌≢◌, ◌*◌, ◌<◌, leng
 ghost use Rattle.sparse_cs.specs.PlainOfLanes.{plain_of_rows};
 ghost use Rattle.sparse_base.specs.DensePlain.{plain_of_dense};
 ghost use Rattle.sparse_c_views.specs.Arrays.{room_of, HoldsDense, HoldsRows};
+ghost use Rattle.sparse_c_views.specs.Reduced.{FirstAre};
 ghost use Rattle.sparse_c_views.specs.Refused.{IsTooSmall};
 ghost use Rattle.sparse_c_views.specs.Statuses.{number_of};
 ghost use Rattle.sparse_c_views.specs.declared.refusal.Refusal.TheVariants.{TooSmall};
@@ -28,6 +29,7 @@ pub fn finish_rows<T: Number>(
     ensures written { result ≡ pos 0 → MatchResult answer
         (λ m. HoldsRows (plain_of_rows T.ring T.value m)
         (room_of offsets.new indices.new values.new places.new)) (λ _. ⊥) }
+    ensures shown { result ≡ pos 0 → FirstAre T.is_shown places.new values.new }
     ensures untouched { result ≢ pos 0 → room_of offsets.new indices.new values.new places.new
         ≡ room_of offsets.old indices.old values.old places.old }
     ensures refused { result ≢ pos 0 → MatchResult answer
@@ -41,8 +43,9 @@ pub fn finish_rows<T: Number>(
     }
 }
 
-// Writes a matrix by rows into arrays, and its number of places.
-fn write_rows<T: Number>(
+/// Writes a matrix by rows into arrays, and its number of places. Returns 0, or the status of arrays that are too small;
+/// they are then unchanged.
+pub fn write_rows<T: Number>(
     matrix: &CsrMatrix<T>,
     offsets: &mut [usize],
     indices: &mut [usize],
@@ -52,6 +55,7 @@ fn write_rows<T: Number>(
     ensures written { result ≡ pos 0
         → HoldsRows (plain_of_rows T.ring T.value matrix.now)
         (room_of offsets.new indices.new values.new places.new) }
+    ensures shown { result ≡ pos 0 → FirstAre T.is_shown places.new values.new }
     ensures untouched { result ≢ pos 0 → room_of offsets.new indices.new values.new places.new
         ≡ room_of offsets.old indices.old values.old places.old }
     ensures small { result ≢ pos 0 → IsTooSmall (plain_of_rows T.ring T.value matrix.now)
@@ -83,6 +87,8 @@ fn write_rows<T: Number>(
 pub fn finish_dense<T: Number>(answer: Result<DMatrix<T>, Refusal>, values: &mut [i64]) -> i32
     ensures written { result ≡ pos 0 → MatchResult answer
         (λ d. HoldsDense (plain_of_dense T.ring T.value d) values.new) (λ _. ⊥) }
+    ensures shown { result ≡ pos 0 → MatchResult answer
+        (λ d. FirstAre T.is_shown (d.nrows * d.ncols) values.new) (λ _. ⊥) }
     ensures untouched { result ≢ pos 0 → values.new ≡ values.old }
     ensures refused { result ≢ pos 0 → MatchResult answer
         (λ d. (result ≡ number_of TooSmall) × (length values.old < d.nrows * d.ncols))
@@ -98,6 +104,8 @@ pub fn finish_dense<T: Number>(answer: Result<DMatrix<T>, Refusal>, values: &mut
 fn write_dense<T: Number>(matrix: &DMatrix<T>, values: &mut [i64]) -> i32
     ensures written { result ≡ pos 0
         → HoldsDense (plain_of_dense T.ring T.value matrix.now) values.new }
+    ensures shown { result ≡ pos 0
+        → FirstAre T.is_shown (matrix.now.nrows * matrix.now.ncols) values.new }
     ensures untouched { result ≢ pos 0 → values.new ≡ values.old }
     ensures small { result ≢ pos 0 → length values.old < matrix.now.nrows * matrix.now.ncols }
     ensures status { result ≢ pos 0 → result ≡ number_of TooSmall }

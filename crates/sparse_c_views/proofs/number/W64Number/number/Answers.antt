@@ -6,8 +6,8 @@ use Rattle.sparse_c_views.specs.Elements.{element_of}
 use Rattle.sparse_c_views.proofs.Elements.{element_of-class}
 use Rattle.sparse_c_views.proofs.number.W64Number.number.Goals as goal
 
-pub returns : goal.returns
-returns c =
+pub returns-clause-means : goal.returns-clause-means
+returns-clause-means c =
     let number = c.args.self.number in
     ap (element_of (wrapping_ring w64)) (ap (λ z. to_z w64 (of_z w64 z)) c.get.ensures
     ∙ to_z-of_z w64 number c.args.self.in_range)
