@@ -1,1 +1,3 @@
+mod Factoring
+mod Listed
 mod Solving

@@ -1,6 +1,7 @@
 -- Solutions in arrays.
 use Rattle.std.proofs.Common.{◌≡◌, ◌≤◌, ℕ, zero, suc, ℤ, ◌<◌, ◌*◌, List, length, take, ap, sym}
-use Rattle.std.proofs.Common.{subst, ◌∙◌, refl, arith}
+use Rattle.std.proofs.Common.{Result, subst, ◌∙◌, refl, arith}
+use Rattle.std.specs.Prelude.{IfOk, IfErr, MatchResult}
 use Rattle.sparse_algebra.specs.Algebra.{CommRing}
 use Rattle.sparse_algebra.specs.Plain.{Plain, plain_product}
 use Rattle.sparse_algebra.specs.Sums.{sum_below}
@@ -8,20 +9,50 @@ use Rattle.sparse_base.specs.Dense.{Dense}
 use Rattle.sparse_base.specs.DensePlain.{plain_of_dense}
 use Rattle.sparse_solve.specs.Solutions.{HasSameValues, IsSolution}
 use Rattle.sparse_c_views.specs.Arrays.{plain_by_values, HoldsDense}
+use Rattle.sparse_c_views.specs.Reduced.{FirstAre}
+use Rattle.sparse_c_views.specs.Refused.{IsDenseRefused, IsMemoryOr}
+use Rattle.sparse_c_views.specs.Statuses.{number_of}
+use Rattle.sparse_c_views.specs.declared.refusal.Refusal.{Refusal}
+use Rattle.sparse_c_views.specs.declared.refusal.Refusal.TheVariants.{TooSmall}
+use Rattle.sparse_c_views.proofs.Joining.{both, found, refused}
 
-module _ (R : CommRing) {T : Type 0} (f : T → R.Carrier) (x : Dense T) (n m : ℕ)
-    (values : List ℤ) where
-  -- what holds of a dense matrix of this shape holds of the values that were written
-  pub of_written : (P : Plain R → Type 0) → x.nrows ≡ n → x.ncols ≡ m → P (plain_of_dense R f x)
-      → HoldsDense (plain_of_dense R f x) values
-      → P (plain_by_values R n m (take (n * m) values))
-  of_written P rows cols px holds = subst P (sym holds.plain
-      ∙ (λ k. plain_by_values R (rows k) (cols k) (take (rows k * cols k) values))) px
+-- ---- a dense answer of a known shape, as it was written
 
-  pub room_written : x.nrows ≡ n → x.ncols ≡ m → HoldsDense (plain_of_dense R f x) values
-      → n * m ≤ length values
-  room_written rows cols holds =
-      subst (λ (s : ℕ × ℕ). s.0 * s.1 ≤ length values) (λ k. (rows k, cols k)) holds.room
+module _ {T : Type 0} (answer : Result (Dense T) Refusal) (n m : ℕ)
+    (rows : IfOk answer (λ x. x.nrows ≡ n)) (cols : IfOk answer (λ x. x.ncols ≡ m)) where
+  shape : IfOk answer (λ x. (x.nrows ≡ n) × (x.ncols ≡ m))
+  shape = both (λ (x : Dense T). x.nrows ≡ n) (λ (x : Dense T). x.ncols ≡ m) answer rows cols
+
+  -- what holds of the answer holds of the values that were written
+  pub solution_written : (R : CommRing) (f : T → R.Carrier) (P : Plain R → Type 0)
+      (values : List ℤ) → IfOk answer (λ x. P (plain_of_dense R f x))
+      → MatchResult answer (λ x. HoldsDense (plain_of_dense R f x) values) (λ _. ⊥)
+      → (n * m ≤ length values) × P (plain_by_values R n m (take (n * m) values))
+  solution_written R f P values is written =
+      let p = found answer (both (λ (x : Dense T). (x.nrows ≡ n) × (x.ncols ≡ m))
+      (λ (x : Dense T). P (plain_of_dense R f x)) answer shape is) written in (
+        subst (λ (s : ℕ × ℕ). s.0 * s.1 ≤ length values) (λ k. (p.1.0.0.0 k, p.1.0.0.1 k))
+            p.1.1.room,
+        subst P (sym p.1.1.plain ∙ (λ k. plain_by_values R (p.1.0.0.0 k) (p.1.0.0.1 k)
+            (take (p.1.0.0.0 k * p.1.0.0.1 k) values))) p.1.0.1,
+      )
+
+  pub solution_shown : (S : ℤ → Type 0) (values : List ℤ)
+      → MatchResult answer (λ x. FirstAre S (x.nrows * x.ncols) values) (λ _. ⊥)
+      → FirstAre S (n * m) values
+  solution_shown S values written =
+      let p = found answer shape written in
+      subst (λ (s : ℕ × ℕ). FirstAre S (s.0 * s.1) values) (λ k. (p.1.0.0 k, p.1.0.1 k)) p.1.1
+
+  pub solution_refused : {Given Fault : Refusal → Type 0} (values : List ℤ) (status seen : ℤ)
+      → seen ≡ status → IfErr answer (IsMemoryOr Given) → ((e : Refusal) → Given e → Fault e)
+      → MatchResult answer
+      (λ x. (status ≡ number_of TooSmall) × (length values < x.nrows * x.ncols))
+      (λ e. status ≡ number_of e)
+      → IsDenseRefused Fault n m values seen
+  solution_refused values status seen same fault as_fault how = refused answer shape status seen same
+      fault as_fault (λ x p small. subst (λ (s : ℕ × ℕ). length values < s.0 * s.1)
+      (λ k. (p.0 k, p.1 k)) small) how
 
 module _ (R : CommRing) where
   same_sum : (n : ℕ) (f g : ℕ → R.Carrier) → ((k : ℕ) → k < n → f k ≡ g k)

@@ -1,5 +1,7 @@
 pub mod Combinations
+pub mod Factors
 pub mod Fills
+pub mod Moduli
 pub mod Orders
 pub mod Patterns
 pub mod Solved

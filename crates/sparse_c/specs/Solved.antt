@@ -32,7 +32,7 @@ module _ (R : CommRing) where
   IsQuotientBy s q a = (y : R.Carrier) × (R.mul s y ≡ R.one) × (q ≡ plain_scaled R y a)
 
   -- the arrays begin with the quotient of the matrix by rows and the integer
-  abbrev pub WritesQuotient : Compressed ℤ → ℤ → Room → Type 0
+  unfoldable pub WritesQuotient : Compressed ℤ → ℤ → Room → Type 0
   WritesQuotient a divisor room = (q : Plain R)
       × IsQuotientBy (element_of R divisor) q (plain_by_rows R a) × HoldsRows q room
 

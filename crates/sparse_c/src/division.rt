@@ -1,16 +1,23 @@
 //! Division by an integer.
 
-ghost use Rattle.std.specs.Prelude.{◌≡◌, ◌≢◌, pos, IfOk, IfErr};
+ghost use Rattle.std.specs.Prelude.{◌≡◌, ◌≢◌, ◌≤◌, pos, IfOk, IfErr};
+ghost use Rattle.std.specs.Int.{w64};
+ghost use Rattle.std.specs.Int.RustNames.{FitsSigned};
+ghost use Rattle.sparse_algebra.specs.ModNumbers.{mod_value};
+ghost use Rattle.sparse_algebra.specs.Moduli.{mod_ring};
 ghost use Rattle.sparse_algebra.specs.WrappingValues.{w64_value};
 ghost use Rattle.sparse_cs.specs.Compressed.{arrays_of};
 ghost use Rattle.sparse_cs.specs.PlainOfLanes.{plain_of_rows};
+ghost use Rattle.sparse_c.specs.Moduli.{IsFaultModulo};
 ghost use Rattle.sparse_c.specs.Solved.{IsFaultOfQuotient, IsQuotientBy, IsQuotientTooSmall};
 ghost use Rattle.sparse_c.specs.Solved.{WritesQuotient};
 ghost use Rattle.sparse_c_views.specs.Arrays.{plain_by_rows, ring64, room_of};
 ghost use Rattle.sparse_c_views.specs.Elements.{element_of};
+ghost use Rattle.sparse_c_views.specs.Reduced.{AreReduced};
 ghost use Rattle.sparse_c_views.specs.Refused.{IsMemoryOr, IsRefusedFor};
 
-use sparse_algebra::scalar::W64;
+use crate::moduli::by_modulus;
+use sparse_algebra::scalar::{Mod, W64};
 use sparse_c_views::lanes::Lanes;
 use sparse_c_views::number::Number;
 use sparse_c_views::refusal::Refusal;
@@ -47,12 +54,142 @@ pub extern "C" fn nalgebra_sparse_divide(
         (room_of out_offsets.old out_indices.old out_values.old out_places.old)) result }
 {
     let a = Lanes::new(rows, cols, offsets, indices, values);
-    let answer = quotient::<W64>(alloc, a, divisor);
+    let answer = quotient_of::<W64>(alloc, a, divisor);
+    finish_rows(answer, out_offsets, out_indices, out_values, out_places)
+}
+
+/// Writes the quotient over the ring of residues modulo a listed number.
+#[unsafe(no_mangle)]
+pub extern "C" fn nalgebra_sparse_divide_mod(
+    alloc: Global,
+    modulus: u64,
+    rows: usize,
+    cols: usize,
+    offsets: &[usize],
+    indices: &[usize],
+    values: &[i64],
+    divisor: i64,
+    out_offsets: &mut [usize],
+    out_indices: &mut [usize],
+    out_values: &mut [i64],
+    out_places: &mut usize,
+) -> i32
+    ensures written { let a = arrays_of rows cols offsets.now indices.now values.now in
+        result ≡ pos 0 → WritesQuotient (mod_ring modulus) a divisor
+        (room_of out_offsets.new out_indices.new out_values.new out_places.new) }
+    ensures reduced { result ≡ pos 0 → AreReduced modulus out_places.new out_values.new }
+    ensures untouched { result ≢ pos 0
+        → room_of out_offsets.new out_indices.new out_values.new out_places.new
+        ≡ room_of out_offsets.old out_indices.old out_values.old out_places.old }
+    ensures refused { let a = arrays_of rows cols offsets.now indices.now values.now in
+        result ≢ pos 0 → IsRefusedFor (IsFaultModulo modulus
+        (IsFaultOfQuotient (mod_ring modulus) (mod_value {m = modulus}) a divisor))
+        (IsQuotientTooSmall (mod_ring modulus) a divisor
+        (room_of out_offsets.old out_indices.old out_values.old out_places.old)) result }
+{
+    let a = Lanes::new(rows, cols, offsets, indices, values);
+    let quotient = Quotient::new(a, divisor);
+    write_by_modulus(
+        alloc,
+        modulus,
+        quotient,
+        out_offsets,
+        out_indices,
+        out_values,
+        out_places,
+    )
+}
+
+/// A matrix by rows, and the integer that it is divided by.
+#[derive(Drop)]
+struct Quotient<'a> {
+    a: Lanes<'a>,
+    divisor: i64,
+    ghost in_range: { FitsSigned w64 divisor },
+}
+
+impl<'a> Quotient<'a> {
+    fn new(a: Lanes<'a>, divisor: i64) -> Self
+        ensures a { result.a ≡ a.entry }
+        ensures divisor { result.divisor ≡ divisor }
+    {
+        Quotient { a, divisor }
+    }
+}
+
+// Writes a quotient over the residues modulo a listed number.
+fn write_by_modulus(
+    alloc: Global,
+    modulus: u64,
+    quotient: Quotient<'_>,
+    out_offsets: &mut [usize],
+    out_indices: &mut [usize],
+    out_values: &mut [i64],
+    out_places: &mut usize,
+) -> i32
+    ensures written { let q = quotient.entry in
+        result ≡ pos 0 → WritesQuotient (mod_ring modulus) q.a q.divisor
+        (room_of out_offsets.new out_indices.new out_values.new out_places.new) }
+    ensures reduced { result ≡ pos 0 → AreReduced modulus out_places.new out_values.new }
+    ensures untouched { result ≢ pos 0
+        → room_of out_offsets.new out_indices.new out_values.new out_places.new
+        ≡ room_of out_offsets.old out_indices.old out_values.old out_places.old }
+    ensures refused { let q = quotient.entry in
+        result ≢ pos 0 → IsRefusedFor (IsFaultModulo modulus
+        (IsFaultOfQuotient (mod_ring modulus) (mod_value {m = modulus}) q.a q.divisor))
+        (IsQuotientTooSmall (mod_ring modulus) q.a q.divisor
+        (room_of out_offsets.old out_indices.old out_values.old out_places.old)) result }
+{
+    by_modulus!(
+        modulus,
+        write_modulo(
+            alloc,
+            modulus,
+            quotient,
+            out_offsets,
+            out_indices,
+            out_values,
+            out_places
+        )
+    )
+}
+
+// Writes a quotient over the residues modulo `M`, which is the modulus.
+fn write_modulo<const M: u64>(
+    alloc: Global,
+    modulus: u64,
+    quotient: Quotient<'_>,
+    out_offsets: &mut [usize],
+    out_indices: &mut [usize],
+    out_values: &mut [i64],
+    out_places: &mut usize,
+) -> i32
+    requires is { modulus ≡ M }
+    requires short { M ≤ 9223372036854775808 }
+    ensures written { let q = quotient.entry in
+        result ≡ pos 0 → WritesQuotient (mod_ring modulus) q.a q.divisor
+        (room_of out_offsets.new out_indices.new out_values.new out_places.new) }
+    ensures reduced { result ≡ pos 0 → AreReduced modulus out_places.new out_values.new }
+    ensures untouched { result ≢ pos 0
+        → room_of out_offsets.new out_indices.new out_values.new out_places.new
+        ≡ room_of out_offsets.old out_indices.old out_values.old out_places.old }
+    ensures refused { let q = quotient.entry in
+        result ≢ pos 0 → IsRefusedFor (IsFaultModulo modulus
+        (IsFaultOfQuotient (mod_ring modulus) (mod_value {m = modulus}) q.a q.divisor))
+        (IsQuotientTooSmall (mod_ring modulus) q.a q.divisor
+        (room_of out_offsets.old out_indices.old out_values.old out_places.old)) result }
+{
+    let Quotient { a, divisor } = quotient;
+    let answer = quotient_of::<Mod<M>>(alloc, a, divisor);
     finish_rows(answer, out_offsets, out_indices, out_values, out_places)
 }
 
 // The quotient of a matrix by rows and an integer.
-fn quotient<T: Number>(alloc: Global, a: Lanes<'_>, divisor: i64) -> Result<CsrMatrix<T>, Refusal>
+fn quotient_of<T: Number>(
+    alloc: Global,
+    a: Lanes<'_>,
+    divisor: i64,
+) -> Result<CsrMatrix<T>, Refusal>
     ensures quotient { IfOk result (λ m. IsQuotientBy T.ring (element_of T.ring divisor)
         (plain_of_rows T.ring T.value m) (plain_by_rows T.ring a.entry)) }
     ensures fault { IfErr result (IsMemoryOr

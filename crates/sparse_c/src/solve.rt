@@ -1,19 +1,24 @@
 //! Solves of triangular systems.
 
-ghost use Rattle.std.specs.Prelude.{◌≡◌, ◌≢◌, ◌<◌, pos, IfOk, IfErr, OnOk, OnErr};
+ghost use Rattle.std.specs.Prelude.{◌≡◌, ◌≢◌, ◌<◌, ◌≤◌, ◌*◌, pos, IfOk, IfErr, OnOk, OnErr};
+ghost use Rattle.sparse_algebra.specs.ModNumbers.{mod_value};
+ghost use Rattle.sparse_algebra.specs.Moduli.{mod_ring};
 ghost use Rattle.sparse_algebra.specs.WrappingValues.{w64_value};
 ghost use Rattle.sparse_algebra.specs.declared.error.OperationErrorKind.TheVariants.{Singular};
 ghost use Rattle.sparse_base.specs.DensePlain.{plain_of_dense};
 ghost use Rattle.sparse_cs.specs.Compressed.{arrays_of};
 ghost use Rattle.sparse_cs.specs.PlainOfLanes.{plain_of_cols};
 ghost use Rattle.sparse_solve.specs.Solutions.{plain_lower, IsSingular, IsSolution};
+ghost use Rattle.sparse_c.specs.Moduli.{IsFaultModulo};
 ghost use Rattle.sparse_c.specs.Solved.{lower_of, transposed_if, HoldsSolution, IsFaultOfLower};
 ghost use Rattle.sparse_c_views.specs.Arrays.{plain_by_values, ring64};
+ghost use Rattle.sparse_c_views.specs.Reduced.{AreReduced};
 ghost use Rattle.sparse_c_views.specs.Refused.{IsDenseRefused, IsMemoryOr};
 
+use crate::moduli::by_modulus;
 use sparse_algebra::error::OperationError;
 use sparse_algebra::operand::Op;
-use sparse_algebra::scalar::W64;
+use sparse_algebra::scalar::{Mod, W64};
 use sparse_base::dense::DMatrix;
 use sparse_c_views::dense::dense_matrix_of;
 use sparse_c_views::lanes::Lanes;
@@ -51,6 +56,70 @@ pub extern "C" fn nalgebra_sparse_solve_lower(
 {
     let l = Lanes::new(size, size, offsets, indices, values);
     let answer = lower_solution::<W64>(alloc, l, transposed, (size, cols), b_values);
+    finish_dense(answer, out_values)
+}
+
+/// Writes that X over the ring of residues modulo a listed number.
+#[unsafe(no_mangle)]
+pub extern "C" fn nalgebra_sparse_solve_lower_mod(
+    alloc: Global,
+    modulus: u64,
+    size: usize,
+    cols: usize,
+    offsets: &[usize],
+    indices: &[usize],
+    values: &[i64],
+    transposed: bool,
+    b_values: &[i64],
+    out_values: &mut [i64],
+) -> i32
+    ensures written { let l = arrays_of size size offsets.now indices.now values.now in
+        let ring = mod_ring modulus in
+        result ≡ pos 0 → HoldsSolution ring (lower_of ring transposed l)
+        (plain_by_values ring size cols b_values.now) size cols out_values.new }
+    ensures reduced { result ≡ pos 0 → AreReduced modulus (size * cols) out_values.new }
+    ensures untouched { result ≢ pos 0 → out_values.new ≡ out_values.old }
+    ensures refused { let l = arrays_of size size offsets.now indices.now values.now in
+        result ≢ pos 0 → IsDenseRefused (IsFaultModulo modulus
+        (IsFaultOfLower (mod_ring modulus) (mod_value {m = modulus}) l size cols b_values.now))
+        size cols out_values.old result }
+{
+    by_modulus!(
+        modulus,
+        solve_lower_mod(
+            alloc, modulus, size, cols, offsets, indices, values, transposed, b_values, out_values
+        )
+    )
+}
+
+// Writes that X over the residues modulo `M`, which is the modulus.
+fn solve_lower_mod<const M: u64>(
+    alloc: Global,
+    modulus: u64,
+    size: usize,
+    cols: usize,
+    offsets: &[usize],
+    indices: &[usize],
+    values: &[i64],
+    transposed: bool,
+    b_values: &[i64],
+    out_values: &mut [i64],
+) -> i32
+    requires is { modulus ≡ M }
+    requires short { M ≤ 9223372036854775808 }
+    ensures written { let l = arrays_of size size offsets.now indices.now values.now in
+        let ring = mod_ring modulus in
+        result ≡ pos 0 → HoldsSolution ring (lower_of ring transposed l)
+        (plain_by_values ring size cols b_values.now) size cols out_values.new }
+    ensures reduced { result ≡ pos 0 → AreReduced modulus (size * cols) out_values.new }
+    ensures untouched { result ≢ pos 0 → out_values.new ≡ out_values.old }
+    ensures refused { let l = arrays_of size size offsets.now indices.now values.now in
+        result ≢ pos 0 → IsDenseRefused (IsFaultModulo modulus
+        (IsFaultOfLower (mod_ring modulus) (mod_value {m = modulus}) l size cols b_values.now))
+        size cols out_values.old result }
+{
+    let l = Lanes::new(size, size, offsets, indices, values);
+    let answer = lower_solution::<Mod<M>>(alloc, l, transposed, (size, cols), b_values);
     finish_dense(answer, out_values)
 }
 

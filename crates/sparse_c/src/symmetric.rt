@@ -1,15 +1,20 @@
 //! Solves of symmetric systems, by the exact factorisation L D Lᵀ.
 
-ghost use Rattle.std.specs.Prelude.{◌≡◌, ◌≢◌, pos, IfOk, IfErr};
+ghost use Rattle.std.specs.Prelude.{◌≡◌, ◌≢◌, ◌≤◌, ◌*◌, pos, IfOk, IfErr};
+ghost use Rattle.sparse_algebra.specs.ModNumbers.{mod_value};
+ghost use Rattle.sparse_algebra.specs.Moduli.{mod_ring};
 ghost use Rattle.sparse_algebra.specs.WrappingValues.{w64_value};
 ghost use Rattle.sparse_base.specs.DensePlain.{plain_of_dense};
 ghost use Rattle.sparse_cs.specs.Compressed.{arrays_of};
+ghost use Rattle.sparse_c.specs.Moduli.{IsFaultModulo};
 ghost use Rattle.sparse_c.specs.Symmetric.{HoldsSymmetricSolution, IsFaultOfSymmetric};
 ghost use Rattle.sparse_c.specs.Symmetric.{SolvesSymmetric};
 ghost use Rattle.sparse_c_views.specs.Arrays.{plain_by_values, ring64};
+ghost use Rattle.sparse_c_views.specs.Reduced.{AreReduced};
 ghost use Rattle.sparse_c_views.specs.Refused.{IsDenseRefused, IsMemoryOr};
 
-use sparse_algebra::scalar::W64;
+use crate::moduli::by_modulus;
+use sparse_algebra::scalar::{Mod, W64};
 use sparse_base::dense::DMatrix;
 use sparse_c_views::dense::dense_matrix_of;
 use sparse_c_views::lanes::Lanes;
@@ -44,6 +49,68 @@ pub extern "C" fn nalgebra_sparse_solve_symmetric(
 {
     let a = Lanes::new(size, size, offsets, indices, values);
     let answer = symmetric_solution::<W64>(alloc, a, (size, cols), b_values);
+    finish_dense(answer, out_values)
+}
+
+/// Writes that X over the ring of residues modulo a listed number.
+#[unsafe(no_mangle)]
+pub extern "C" fn nalgebra_sparse_solve_symmetric_mod(
+    alloc: Global,
+    modulus: u64,
+    size: usize,
+    cols: usize,
+    offsets: &[usize],
+    indices: &[usize],
+    values: &[i64],
+    b_values: &[i64],
+    out_values: &mut [i64],
+) -> i32
+    ensures written { let a = arrays_of size size offsets.now indices.now values.now in
+        let ring = mod_ring modulus in
+        result ≡ pos 0 → HoldsSymmetricSolution ring a
+        (plain_by_values ring size cols b_values.now) size cols out_values.new }
+    ensures reduced { result ≡ pos 0 → AreReduced modulus (size * cols) out_values.new }
+    ensures untouched { result ≢ pos 0 → out_values.new ≡ out_values.old }
+    ensures refused { let a = arrays_of size size offsets.now indices.now values.now in
+        result ≢ pos 0 → IsDenseRefused (IsFaultModulo modulus (IsFaultOfSymmetric
+        (mod_ring modulus) (mod_value {m = modulus}) a size cols b_values.now))
+        size cols out_values.old result }
+{
+    by_modulus!(
+        modulus,
+        solve_symmetric_mod(
+            alloc, modulus, size, cols, offsets, indices, values, b_values, out_values
+        )
+    )
+}
+
+// Writes that X over the residues modulo `M`, which is the modulus.
+fn solve_symmetric_mod<const M: u64>(
+    alloc: Global,
+    modulus: u64,
+    size: usize,
+    cols: usize,
+    offsets: &[usize],
+    indices: &[usize],
+    values: &[i64],
+    b_values: &[i64],
+    out_values: &mut [i64],
+) -> i32
+    requires is { modulus ≡ M }
+    requires short { M ≤ 9223372036854775808 }
+    ensures written { let a = arrays_of size size offsets.now indices.now values.now in
+        let ring = mod_ring modulus in
+        result ≡ pos 0 → HoldsSymmetricSolution ring a
+        (plain_by_values ring size cols b_values.now) size cols out_values.new }
+    ensures reduced { result ≡ pos 0 → AreReduced modulus (size * cols) out_values.new }
+    ensures untouched { result ≢ pos 0 → out_values.new ≡ out_values.old }
+    ensures refused { let a = arrays_of size size offsets.now indices.now values.now in
+        result ≢ pos 0 → IsDenseRefused (IsFaultModulo modulus (IsFaultOfSymmetric
+        (mod_ring modulus) (mod_value {m = modulus}) a size cols b_values.now))
+        size cols out_values.old result }
+{
+    let a = Lanes::new(size, size, offsets, indices, values);
+    let answer = symmetric_solution::<Mod<M>>(alloc, a, (size, cols), b_values);
     finish_dense(answer, out_values)
 }
 

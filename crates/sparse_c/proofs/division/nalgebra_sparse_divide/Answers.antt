@@ -10,11 +10,12 @@ use Rattle.sparse_c_views.proofs.Joining.{found, refused}
 use Rattle.sparse_c.proofs.division.nalgebra_sparse_divide.Goals as goal
 
 pub returns-clause-written : goal.returns-clause-written
+unfolding WritesQuotient
 returns-clause-written c = λ h.
     let same : to_z w32 (of_z w32 c.finish_rows.result) ≡ c.finish_rows.result = search rules in
     let room = room_of c.finish_rows.new.offsets c.finish_rows.new.indices c.finish_rows.new.values
     c.finish_rows.new.places in
-    let p = found c.quotient-answer.result c.quotient-answer.ensures.quotient
+    let p = found c.quotient_of-answer.result c.quotient_of-answer.ensures.quotient
     (c.finish_rows.ensures.written (sym same ∙ h)) in
     let divisor = to_z-of_z w64 c.args.divisor c.ranges.divisor in
     subst (λ (s : Compressed ℤ × ℤ). WritesQuotient ring64 s.0 s.1 room)
@@ -27,8 +28,8 @@ returns-clause-refused c = λ h.
     let room = room_of c.args.out_offsets.now c.args.out_indices.now c.args.out_values.now
     c.args.out_places.now in
     let divisor = to_z-of_z w64 c.args.divisor c.ranges.divisor in
-    refused c.quotient-answer.result c.quotient-answer.ensures.quotient c.finish_rows.result _ same
-    c.quotient-answer.ensures.fault
+    refused c.quotient_of-answer.result c.quotient_of-answer.ensures.quotient c.finish_rows.result _ same
+    c.quotient_of-answer.ensures.fault
     (λ e. subst (λ (s : Compressed ℤ × ℤ). IsFaultOfQuotient ring64 w64_value s.0 s.1 e)
     (λ k. (c.new-a.ensures k, divisor k)))
     (λ q p small. subst (λ (s : Compressed ℤ × ℤ). IsQuotientTooSmall ring64 s.0 s.1 room)

@@ -1,0 +1,72 @@
+-- Factors of symmetric matrices, and the arrays that hold them.
+use Rattle.std.proofs.Common.{◌≡◌, ◌≤◌, ◌<◌, ℕ, ℤ, pos, List, length, map, take, ap, sym, subst, ◌∙◌}
+use Rattle.std.specs.Prelude.{slice_index_or}
+use Rattle.std.proofs.Math.ListN.{get_or, get_or-map}
+use Rattle.sparse_algebra.specs.Algebra.{CommRing}
+use Rattle.sparse_algebra.specs.Plain.{Plain}
+use Rattle.sparse_cs.specs.Compressed.{Compressed, IsSound}
+use Rattle.sparse_cs.specs.PlainOfLanes.{plain_of_cols, plain_of_rows}
+use Rattle.sparse_factor.specs.Fill.{InFill, UpperBase, StoresByColumns}
+use Rattle.sparse_ldl.specs.Factorisations.{plain_symmetric, IsUnitLower}
+use Rattle.sparse_ldl.specs.Factors.{Factors, diagonal, plain_of_factors, symmetric_of, HavePivots}
+use Rattle.sparse_ldl.proofs.FilledSets.{has_place, place_has}
+use Rattle.sparse_pattern.specs.Raw.{Raw}
+use Rattle.sparse_solve.specs.Solutions.{HasSameValues}
+use Rattle.sparse_c.specs.Factors.{first_elements, AreFactors, WritesFactors}
+use Rattle.sparse_c_views.specs.Arrays.{plain_by_cols, Room, HoldsRows}
+use Rattle.sparse_c_views.specs.Elements.{times_one, element_of}
+
+-- the factors of a matrix are those of the arrays that it was made of
+module _ (R : CommRing) {T : Type 0} (f : T → R.Carrier) (z : T) (a : Compressed ℤ) (m : Compressed T)
+    (s : Factors T) (pattern : m.pattern ≡ a.pattern)
+    (plain : plain_of_cols R f m ≡ plain_by_cols R a)
+    (rows : s.l.pattern.minor_dim ≡ m.pattern.minor_dim)
+    (count : length s.d ≡ m.pattern.minor_dim) where
+  pub factors_of_arrays : IsSound s.l
+      → StoresByColumns (InFill (UpperBase m.pattern)) s.l.pattern
+      → IsUnitLower R (plain_of_cols R f s.l) → HavePivots R f z s.d
+      → HasSameValues R (length s.d) (length s.d) (plain_of_factors R f z s) (symmetric_of R f m)
+      → AreFactors R f a (plain_of_cols R f s.l) (diagonal R f z s.d)
+  factors_of_arrays sound places lower pivots equation =
+      let size = count ∙ ap (λ d. d.minor_dim) pattern in
+      let product = plain_of_factors R f z s in
+      let stored = subst (λ (p : Raw). StoresByColumns (InFill (UpperBase p)) s.l.pattern) pattern
+      places in
+      record {
+        factors = record {
+          rows = rows ∙ ap (λ d. d.minor_dim) pattern;
+          lower = lower;
+          pivots = λ j lt. pivots j (subst (λ n. j < n) (sym size) lt);
+          equation = subst (λ (p : Plain R). HasSameValues R a.pattern.minor_dim a.pattern.minor_dim
+              product (plain_symmetric R p)) plain
+              (subst (λ n. HasSameValues R n n product (symmetric_of R f m)) size equation);
+        };
+        places = λ i j. (
+          λ has. (stored i j).0 (has_place R f s.l sound i j has),
+          λ fill. place_has R f s.l sound i j ((stored i j).1 fill),
+        );
+      }
+
+module _ (R : CommRing) {T : Type 0} (f : T → R.Carrier) (z : T) (zero_is : f z ≡ R.zero) where
+  -- lists with the same ring elements have them at each index
+  same_elements : (xs : List ℤ) (ys : List T) → map (element_of R) xs ≡ map f ys → (j : ℕ)
+      → element_of R (slice_index_or xs j (pos 0)) ≡ f (slice_index_or ys j z)
+  unfolding element_of times_one
+  same_elements xs ys same j = sym (get_or-map (element_of R) xs j (pos 0))
+      ∙ (λ k. get_or (same k) j (sym zero_is k)) ∙ get_or-map f ys j z
+
+  -- the arrays hold the factors whose columns and diagonal were written
+  pub factors_held : (a : Compressed ℤ) (l : Compressed T) (d : List T) (room : Room)
+      (pivots : List ℤ) → AreFactors R f a (plain_of_cols R f l) (diagonal R f z d)
+      → l.pattern.minor_dim ≡ length d → HoldsRows (plain_of_rows R f l) room
+      → map (element_of R) (take (length d) pivots) ≡ map f d → length d ≤ length pivots
+      → WritesFactors R f a room pivots
+  unfolding WritesFactors
+  factors_held a l d room pivots factors rows columns same long = (
+    plain_of_cols R f l,
+    columns,
+    subst (λ n. n ≤ length pivots) (sym rows) long,
+    subst (AreFactors R f a (plain_of_cols R f l)) (λ k j. (sym (same_elements
+        (take (length d) pivots) d same j)
+        ∙ ap (λ n. first_elements R n pivots j) (sym rows)) k) factors,
+  )

@@ -1,0 +1,38 @@
+-- Exact factors L D Lᵀ of symmetric matrices, as C has them.
+use Rattle.std.specs.Prelude.{◌≡◌, ◌≤◌, ◌<◌, ◌↔◌, ◌⊎◌, ℕ, ℤ, pos, true, List, length, slice_index_or, take}
+use Rattle.sparse_algebra.specs.Algebra.{CommRing}
+use Rattle.sparse_algebra.specs.Plain.{Plain, plain_transpose}
+use Rattle.sparse_cs.specs.Compressed.{Compressed}
+use Rattle.sparse_factor.specs.Fill.{InFill, UpperBase}
+use Rattle.sparse_ldl.specs.Factorisations.{IsFactorisation}
+use Rattle.sparse_c.specs.Symmetric.{symmetric_by_cols, HasNoFactors}
+use Rattle.sparse_c_views.specs.Arrays.{Room, HoldsCols}
+use Rattle.sparse_c_views.specs.Elements.{element_of}
+use Rattle.sparse_c_views.specs.Refused.{IsFaultOf, IsTooSmall}
+use Rattle.sparse_c_views.specs.declared.refusal.Refusal.{Refusal}
+use Rattle.sparse_c_views.specs.declared.refusal.Refusal.TheVariants.{Singular}
+
+-- the first n numbers, as ring elements, and then zeros
+abbrev pub first_elements : (R : CommRing) → ℕ → List ℤ → ℕ → R.Carrier
+first_elements R n numbers j = element_of R (slice_index_or (take n numbers) j (pos 0))
+
+module _ (R : CommRing) {T : Type 0} (f : T → R.Carrier) where
+  -- l and d are the factors of the symmetric matrix, and l has exactly the places of the fill
+  pub record AreFactors (a : Compressed ℤ) (l : Plain R) (d : ℕ → R.Carrier) : Type 0 where
+    pub factors : IsFactorisation R f (symmetric_by_cols R a) l d
+    pub places : (i j : ℕ) → (l.has i j ≡ true) ↔ InFill (UpperBase a.pattern) i j
+
+  -- the arrays begin with the columns of L and with the diagonal of D
+  unfoldable pub WritesFactors : Compressed ℤ → Room → List ℤ → Type 0
+  WritesFactors a room diagonal = (l : Plain R) × HoldsCols l room × (l.rows ≤ length diagonal)
+      × AreFactors a l (first_elements R l.rows diagonal)
+
+  -- an array has no room for the factors
+  abbrev pub AreFactorsTooLong : Compressed ℤ → Room → List ℤ → Type 0
+  AreFactorsTooLong a room diagonal = (l : Plain R) × (d : ℕ → R.Carrier) × AreFactors a l d
+      × (IsTooSmall (plain_transpose R l) room ⊎ (length diagonal < l.rows))
+
+  -- the matrix by columns has a fault, or there is no factorisation
+  abbrev pub IsFaultOfFactors : Compressed ℤ → Refusal → Type 0
+  IsFaultOfFactors a refusal =
+      IsFaultOf a refusal ⊎ ((refusal ≡ Singular) × HasNoFactors R f a)

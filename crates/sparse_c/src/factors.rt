@@ -1,0 +1,258 @@
+//! The exact factors L D Lᵀ of symmetric matrices.
+
+ghost use Rattle.std.specs.Prelude.{◌≡◌, ◌≢◌, ◌≤◌, ◌⊎◌, ◌<◌, pos, length, map, take, IfOk, IfErr};
+ghost use Rattle.sparse_algebra.specs.ModNumbers.{mod_value};
+ghost use Rattle.sparse_algebra.specs.Moduli.{mod_ring};
+ghost use Rattle.sparse_algebra.specs.WrappingValues.{w64_value};
+ghost use Rattle.sparse_cs.specs.Compressed.{arrays_of};
+ghost use Rattle.sparse_cs.specs.PlainOfLanes.{plain_of_cols, plain_of_rows};
+ghost use Rattle.sparse_ldl.specs.Factors.{diagonal};
+ghost use Rattle.sparse_c.specs.Factors.{AreFactors, AreFactorsTooLong, IsFaultOfFactors};
+ghost use Rattle.sparse_c.specs.Factors.{WritesFactors};
+ghost use Rattle.sparse_c.specs.Moduli.{IsFaultModulo};
+ghost use Rattle.sparse_c_views.specs.Arrays.{ring64, room_of, HoldsRows};
+ghost use Rattle.sparse_c_views.specs.Elements.{element_of};
+ghost use Rattle.sparse_c_views.specs.Reduced.{AreReduced, FirstAre};
+ghost use Rattle.sparse_c_views.specs.Refused.{IsMemoryOr, IsRefusedFor, IsTooSmall};
+ghost use Rattle.sparse_c_views.specs.Statuses.{number_of};
+ghost use Rattle.sparse_c_views.specs.declared.refusal.Refusal.TheVariants.{TooSmall};
+
+use crate::moduli::by_modulus;
+use sparse_algebra::learn;
+use sparse_algebra::scalar::{Mod, W64};
+use sparse_c_views::lanes::Lanes;
+use sparse_c_views::number::Number;
+use sparse_c_views::refusal::Refusal;
+use sparse_c_views::scalars::put_scalars;
+use sparse_c_views::writing::write_rows;
+use sparse_forms::csr::CsrMatrix;
+use sparse_ldl::ldl::Ldl;
+use std::alloc::Global;
+
+/// Writes the unit lower triangular L, by columns, and the diagonal of D, for which `A = L D Lᵀ`.
+///
+/// A is the symmetric matrix whose entries on and above the diagonal are those of a square matrix by columns. L has
+/// exactly the places of the fill that starts from this triangle.
+#[unsafe(no_mangle)]
+pub extern "C" fn nalgebra_sparse_factor_symmetric(
+    alloc: Global,
+    size: usize,
+    offsets: &[usize],
+    indices: &[usize],
+    values: &[i64],
+    out_offsets: &mut [usize],
+    out_indices: &mut [usize],
+    out_values: &mut [i64],
+    out_diagonal: &mut [i64],
+    out_places: &mut usize,
+) -> i32
+    ensures written { let a = arrays_of size size offsets.now indices.now values.now in
+        result ≡ pos 0 → WritesFactors ring64 w64_value a
+        (room_of out_offsets.new out_indices.new out_values.new out_places.new) out_diagonal.new }
+    ensures untouched { result ≢ pos 0
+        → room_of out_offsets.new out_indices.new out_values.new out_places.new
+        ≡ room_of out_offsets.old out_indices.old out_values.old out_places.old }
+    ensures untouched_diagonal { result ≢ pos 0 → out_diagonal.new ≡ out_diagonal.old }
+    ensures refused { let a = arrays_of size size offsets.now indices.now values.now in
+        result ≢ pos 0 → IsRefusedFor (IsFaultOfFactors ring64 w64_value a)
+        (AreFactorsTooLong ring64 w64_value a
+        (room_of out_offsets.old out_indices.old out_values.old out_places.old)
+        out_diagonal.old) result }
+{
+    let a = Lanes::new(size, size, offsets, indices, values);
+    factor::<W64>(
+        alloc,
+        a,
+        out_offsets,
+        out_indices,
+        out_values,
+        out_diagonal,
+        out_places,
+    )
+}
+
+/// Writes these factors over the ring of residues modulo a listed number.
+#[unsafe(no_mangle)]
+pub extern "C" fn nalgebra_sparse_factor_symmetric_mod(
+    alloc: Global,
+    modulus: u64,
+    size: usize,
+    offsets: &[usize],
+    indices: &[usize],
+    values: &[i64],
+    out_offsets: &mut [usize],
+    out_indices: &mut [usize],
+    out_values: &mut [i64],
+    out_diagonal: &mut [i64],
+    out_places: &mut usize,
+) -> i32
+    ensures written { let a = arrays_of size size offsets.now indices.now values.now in
+        result ≡ pos 0 → WritesFactors (mod_ring modulus) (mod_value {m = modulus}) a
+        (room_of out_offsets.new out_indices.new out_values.new out_places.new) out_diagonal.new }
+    ensures reduced { result ≡ pos 0 → AreReduced modulus out_places.new out_values.new }
+    ensures reduced_diagonal { result ≡ pos 0 → AreReduced modulus size out_diagonal.new }
+    ensures untouched { result ≢ pos 0
+        → room_of out_offsets.new out_indices.new out_values.new out_places.new
+        ≡ room_of out_offsets.old out_indices.old out_values.old out_places.old }
+    ensures untouched_diagonal { result ≢ pos 0 → out_diagonal.new ≡ out_diagonal.old }
+    ensures refused { let a = arrays_of size size offsets.now indices.now values.now in
+        result ≢ pos 0 → IsRefusedFor (IsFaultModulo modulus
+        (IsFaultOfFactors (mod_ring modulus) (mod_value {m = modulus}) a))
+        (AreFactorsTooLong (mod_ring modulus) (mod_value {m = modulus}) a
+        (room_of out_offsets.old out_indices.old out_values.old out_places.old)
+        out_diagonal.old) result }
+{
+    by_modulus!(
+        modulus,
+        factor_symmetric_mod(
+            alloc,
+            modulus,
+            size,
+            offsets,
+            indices,
+            values,
+            out_offsets,
+            out_indices,
+            out_values,
+            out_diagonal,
+            out_places
+        )
+    )
+}
+
+// Writes these factors over the residues modulo `M`, which is the modulus.
+fn factor_symmetric_mod<const M: u64>(
+    alloc: Global,
+    modulus: u64,
+    size: usize,
+    offsets: &[usize],
+    indices: &[usize],
+    values: &[i64],
+    out_offsets: &mut [usize],
+    out_indices: &mut [usize],
+    out_values: &mut [i64],
+    out_diagonal: &mut [i64],
+    out_places: &mut usize,
+) -> i32
+    requires is { modulus ≡ M }
+    requires short { M ≤ 9223372036854775808 }
+    ensures written { let a = arrays_of size size offsets.now indices.now values.now in
+        result ≡ pos 0 → WritesFactors (mod_ring modulus) (mod_value {m = modulus}) a
+        (room_of out_offsets.new out_indices.new out_values.new out_places.new) out_diagonal.new }
+    ensures reduced { result ≡ pos 0 → AreReduced modulus out_places.new out_values.new }
+    ensures reduced_diagonal { result ≡ pos 0 → AreReduced modulus size out_diagonal.new }
+    ensures untouched { result ≢ pos 0
+        → room_of out_offsets.new out_indices.new out_values.new out_places.new
+        ≡ room_of out_offsets.old out_indices.old out_values.old out_places.old }
+    ensures untouched_diagonal { result ≢ pos 0 → out_diagonal.new ≡ out_diagonal.old }
+    ensures refused { let a = arrays_of size size offsets.now indices.now values.now in
+        result ≢ pos 0 → IsRefusedFor (IsFaultModulo modulus
+        (IsFaultOfFactors (mod_ring modulus) (mod_value {m = modulus}) a))
+        (AreFactorsTooLong (mod_ring modulus) (mod_value {m = modulus}) a
+        (room_of out_offsets.old out_indices.old out_values.old out_places.old)
+        out_diagonal.old) result }
+{
+    let a = Lanes::new(size, size, offsets, indices, values);
+    factor::<Mod<M>>(
+        alloc,
+        a,
+        out_offsets,
+        out_indices,
+        out_values,
+        out_diagonal,
+        out_places,
+    )
+}
+
+// Writes these factors over the ring of a scalar.
+fn factor<T: Number>(
+    alloc: Global,
+    a: Lanes<'_>,
+    out_offsets: &mut [usize],
+    out_indices: &mut [usize],
+    out_values: &mut [i64],
+    out_diagonal: &mut [i64],
+    out_places: &mut usize,
+) -> i32
+    requires square { a.pattern.minor_dim ≡ a.pattern.major_dim }
+    ensures written { result ≡ pos 0 → WritesFactors T.ring T.value a.entry
+        (room_of out_offsets.new out_indices.new out_values.new out_places.new) out_diagonal.new }
+    ensures shown { result ≡ pos 0 → FirstAre T.is_shown out_places.new out_values.new }
+    ensures shown_diagonal { result ≡ pos 0
+        → FirstAre T.is_shown a.entry.pattern.minor_dim out_diagonal.new }
+    ensures untouched { result ≢ pos 0
+        → room_of out_offsets.new out_indices.new out_values.new out_places.new
+        ≡ room_of out_offsets.old out_indices.old out_values.old out_places.old }
+    ensures untouched_diagonal { result ≢ pos 0 → out_diagonal.new ≡ out_diagonal.old }
+    ensures refused { result ≢ pos 0 → IsRefusedFor (IsFaultOfFactors T.ring T.value a.entry)
+        (AreFactorsTooLong T.ring T.value a.entry
+        (room_of out_offsets.old out_indices.old out_values.old out_places.old)
+        out_diagonal.old) result }
+{
+    match factors_of::<T>(alloc, a) {
+        Ok((l, d)) => write_factors(
+            &l,
+            &d,
+            out_offsets,
+            out_indices,
+            out_values,
+            out_diagonal,
+            out_places,
+        ),
+        Err(refusal) => refusal.status(),
+    }
+}
+
+// The columns of L as rows, and the diagonal of D.
+fn factors_of<T: Number>(alloc: Global, a: Lanes<'_>) -> Result<(CsrMatrix<T>, Vec<T>), Refusal>
+    requires square { a.pattern.minor_dim ≡ a.pattern.major_dim }
+    ensures factors { IfOk result (λ s. AreFactors T.ring T.value a.entry
+        (plain_of_cols T.ring T.value s.0)
+        (diagonal T.ring T.value T.zero_value s.1.items)) }
+    ensures rows { IfOk result (λ s. s.0.pattern.minor_dim ≡ a.entry.pattern.minor_dim) }
+    ensures count { IfOk result (λ s. length s.1.items ≡ a.entry.pattern.minor_dim) }
+    ensures fault { IfErr result (IsMemoryOr (IsFaultOfFactors T.ring T.value a.entry)) }
+{
+    let a = a.columns::<T>(alloc)?;
+    let factors = Ldl::factor(alloc, &a)?;
+    let l = factors.l().clone(alloc)?;
+    learn(l.values());
+    let d = Vec::from_slice(alloc, factors.d())?;
+    Ok((l.transpose_as_csr(), d))
+}
+
+// Writes the columns of L, whose rows are given, and the diagonal of D.
+fn write_factors<T: Number>(
+    l: &CsrMatrix<T>,
+    d: &[T],
+    offsets: &mut [usize],
+    indices: &mut [usize],
+    values: &mut [i64],
+    pivots: &mut [i64],
+    places: &mut usize,
+) -> i32
+    ensures written { result ≡ pos 0
+        → HoldsRows (plain_of_rows T.ring T.value l.now)
+        (room_of offsets.new indices.new values.new places.new) }
+    ensures pivots { result ≡ pos 0
+        → map (element_of T.ring) (take (length d.now) pivots.new) ≡ map T.value d.now }
+    ensures room { result ≡ pos 0 → length d.now ≤ length pivots.new }
+    ensures shown { result ≡ pos 0 → FirstAre T.is_shown places.new values.new }
+    ensures shown_pivots { result ≡ pos 0 → FirstAre T.is_shown (length d.now) pivots.new }
+    ensures untouched { result ≢ pos 0 → room_of offsets.new indices.new values.new places.new
+        ≡ room_of offsets.old indices.old values.old places.old }
+    ensures untouched_pivots { result ≢ pos 0 → pivots.new ≡ pivots.old }
+    ensures small { result ≢ pos 0 → IsTooSmall (plain_of_rows T.ring T.value l.now)
+        (room_of offsets.old indices.old values.old places.old)
+        ⊎ (length pivots.old < length d.now) }
+    ensures status { result ≢ pos 0 → result ≡ number_of TooSmall }
+{
+    if pivots.len() < d.len() {
+        return Refusal::TooSmall.status();
+    }
+    let status = write_rows(l, offsets, indices, values, places);
+    if status == 0 {
+        put_scalars(pivots, d);
+    }
+    status
+}
