@@ -6,11 +6,18 @@
  * matrix by columns (CSC) are those of its transpose by rows. A dense matrix is an array of its values, column by
  * column.
  *
+ * The calls whose names end in _mod compute modulo `modulus` instead, which is one of 2, 3, 5, 7, 11, 13, 101, 65537,
+ * 998244353, 1000000007 and 2305843009213693951 (2^61 - 1); any other modulus has the status UNKNOWN_CHOICE. An int64_t
+ * of an operand means its residue, also where it is negative or larger than the modulus, and the values of a result are
+ * from 0 to modulus - 1.
+ *
  * What is proved. Every call returns, never touches memory outside the arrays that it is given, and has a contract in
  * crates/sparse_c/src, which holds for all arrays, sound or not. At status 0 the arrays for the result begin with the
  * arrays of a sound matrix, and the plain matrix of these is the one that the call names: the transpose, the sum, the
- * product of the plain matrices of the operands; or they begin with the triplets that a text means, or with the text of
- * triplets. At any other status nothing has been written, and the status tells why.
+ * product of the plain matrices of the operands; or they begin with an X that solves the equation, with the factors of
+ * the matrix, with the triplets that a text means, or with the text of triplets. At any other status nothing has been
+ * written, and the status tells why. Equations hold in the ring of the call: the integers modulo 2^64, or modulo
+ * `modulus`.
  *
  * What is not proved. This header and the programs around the library are checked by tests alone (bindings/test). The
  * caller must see to it that
@@ -51,7 +58,7 @@ enum {
     NALGEBRA_SPARSE_TOO_SMALL = 5,
     /* A value that must have an inverse has none. */
     NALGEBRA_SPARSE_SINGULAR = 6,
-    /* A number that chooses among cases is none of those that the call knows. */
+    /* A number that chooses among cases, such as a modulus, is none of those that the call knows. */
     NALGEBRA_SPARSE_UNKNOWN_CHOICE = 7,
     /* A text does not match the grammar, or a number in it is out of range. */
     NALGEBRA_SPARSE_INVALID_TEXT = 8,
@@ -220,6 +227,21 @@ int32_t nalgebra_sparse_solve_lower(
     const int64_t *b_values, size_t b_values_len,
     int64_t *out_values, size_t out_values_len);
 
+/* Writes that X modulo `modulus`: the list of moduli and the meaning of values are at the head of this file.
+ *
+ * Statuses: UNKNOWN_CHOICE if the modulus is not listed; otherwise as for nalgebra_sparse_solve_lower, and SINGULAR if
+ * there is a column to solve for, and some entry of the diagonal is not stored or is a multiple of the modulus.
+ */
+int32_t nalgebra_sparse_solve_lower_mod(
+    uint64_t modulus,
+    size_t size, size_t cols,
+    const size_t *offsets, size_t offsets_len,
+    const size_t *indices, size_t indices_len,
+    const int64_t *values, size_t values_len,
+    bool transposed,
+    const int64_t *b_values, size_t b_values_len,
+    int64_t *out_values, size_t out_values_len);
+
 /* Writes the quotient of a matrix by rows and an integer: each value times the inverse of the integer, at the same
  * places: out_offsets needs rows + 1 numbers, and out_indices and out_values `values_len` each.
  *
@@ -227,6 +249,24 @@ int32_t nalgebra_sparse_solve_lower(
  * even, since it has no inverse modulo 2^64; TOO_SMALL.
  */
 int32_t nalgebra_sparse_divide(
+    size_t rows, size_t cols,
+    const size_t *offsets, size_t offsets_len,
+    const size_t *indices, size_t indices_len,
+    const int64_t *values, size_t values_len,
+    int64_t divisor,
+    size_t *out_offsets, size_t out_offsets_len,
+    size_t *out_indices, size_t out_indices_len,
+    int64_t *out_values, size_t out_values_len,
+    size_t *out_places);
+
+/* Writes that quotient modulo `modulus`: the list of moduli and the meaning of values are at the head of this file.
+ * The arrays for the result are as for nalgebra_sparse_divide.
+ *
+ * Statuses: UNKNOWN_CHOICE if the modulus is not listed; otherwise as for nalgebra_sparse_divide, and SINGULAR if the
+ * divisor is a multiple of the modulus.
+ */
+int32_t nalgebra_sparse_divide_mod(
+    uint64_t modulus,
     size_t rows, size_t cols,
     const size_t *offsets, size_t offsets_len,
     const size_t *indices, size_t indices_len,
@@ -280,6 +320,58 @@ int32_t nalgebra_sparse_solve_symmetric(
     const int64_t *values, size_t values_len,
     const int64_t *b_values, size_t b_values_len,
     int64_t *out_values, size_t out_values_len);
+
+/* Writes that X modulo `modulus`: the list of moduli and the meaning of values are at the head of this file.
+ *
+ * Statuses: UNKNOWN_CHOICE if the modulus is not listed; otherwise as for nalgebra_sparse_solve_symmetric.
+ */
+int32_t nalgebra_sparse_solve_symmetric_mod(
+    uint64_t modulus,
+    size_t size, size_t cols,
+    const size_t *offsets, size_t offsets_len,
+    const size_t *indices, size_t indices_len,
+    const int64_t *values, size_t values_len,
+    const int64_t *b_values, size_t b_values_len,
+    int64_t *out_values, size_t out_values_len);
+
+/* Writes the exact factors of a symmetric matrix, A = L D L^T, where A has the entries on and above the diagonal of a
+ * matrix by columns with `size` rows and columns. L has ones on the diagonal and zeros above it, and is written by
+ * columns; D is diagonal, each of its values has an inverse, and they are written to out_diagonal. No other L and D
+ * satisfy the equation.
+ *
+ * L has exactly the places that nalgebra_sparse_fill gives for NALGEBRA_SPARSE_UPPER, also where a value is 0: so
+ * out_indices and out_values need as many numbers as nalgebra_sparse_fill_places says for that triangle, out_offsets
+ * needs size + 1, and out_diagonal `size`. *out_places becomes the number of places of L.
+ *
+ * Statuses: OUT_OF_MEMORY; the first fault of the arrays, as for nalgebra_sparse_transpose; SINGULAR if no
+ * factorisation exists; TOO_SMALL.
+ */
+int32_t nalgebra_sparse_factor_symmetric(
+    size_t size,
+    const size_t *offsets, size_t offsets_len,
+    const size_t *indices, size_t indices_len,
+    const int64_t *values, size_t values_len,
+    size_t *out_offsets, size_t out_offsets_len,
+    size_t *out_indices, size_t out_indices_len,
+    int64_t *out_values, size_t out_values_len,
+    int64_t *out_diagonal, size_t out_diagonal_len,
+    size_t *out_places);
+
+/* Writes those factors modulo `modulus`: the list of moduli and the meaning of values are at the head of this file.
+ *
+ * Statuses: UNKNOWN_CHOICE if the modulus is not listed; otherwise as for nalgebra_sparse_factor_symmetric.
+ */
+int32_t nalgebra_sparse_factor_symmetric_mod(
+    uint64_t modulus,
+    size_t size,
+    const size_t *offsets, size_t offsets_len,
+    const size_t *indices, size_t indices_len,
+    const int64_t *values, size_t values_len,
+    size_t *out_offsets, size_t out_offsets_len,
+    size_t *out_indices, size_t out_indices_len,
+    int64_t *out_values, size_t out_values_len,
+    int64_t *out_diagonal, size_t out_diagonal_len,
+    size_t *out_places);
 
 /* Reads the bytes of a text in Matrix Market format, with integers or as an array of integers, and writes the shape of
  * its matrix and the number of its triplets: the size for nalgebra_sparse_read.

@@ -3,6 +3,9 @@
 The functions take and return SciPy matrices whose values are `int64`. Sums and products wrap. What is proved of the
 calls is said in `bindings/c/nalgebra_sparse.h`; this module is only tested.
 
+Division, solves and factors are also computed modulo a prime: `modulus` is one of `MODULI`. An integer then means its
+residue, also where it is negative, and the values of a result are from 0 to modulus - 1.
+
 `bindings/python/build` makes the shared library that is loaded here. `NALGEBRA_SPARSE_LIBRARY` names another one.
 """
 import ctypes
@@ -37,9 +40,15 @@ class Singular(Error):
     """A value that must have an inverse has none."""
 
 
+class UnknownModulus(Error):
+    """The modulus is none of `MODULI`."""
+
+
 class InvalidText(Error):
     """A text in Matrix Market format has an error, which the message names."""
 
+
+MODULI = (2, 3, 5, 7, 11, 13, 101, 65537, 998244353, 1000000007, 2305843009213693951)
 
 _ERRORS = {
     1: MemoryError("an allocation failed"),
@@ -47,6 +56,7 @@ _ERRORS = {
     3: IndexOutOfBounds("a row or a column index is out of bounds"),
     4: DuplicateEntry("the same place is given more than once"),
     6: Singular("a value that must have an inverse has none"),
+    7: UnknownModulus("the modulus is none of MODULI"),
     8: InvalidText("a text does not match the grammar, or a number in it is out of range"),
     9: InvalidText("the format, the field and the symmetry of a text's header do not go together"),
     10: InvalidText("the number of entries of a text is not the one of its size line"),
@@ -142,11 +152,19 @@ def _dense(name, matrix, rows):
     return _array(name, matrix.reshape(-1, order="F"), False), 1 if matrix.ndim == 1 else matrix.shape[1]
 
 
-def _solved(name, size, arrays, b, *flags):
+def _modular(name, modulus):
+    """Returns the name of a call, and its first arguments: those of the call with a modulus, if there is one."""
+    if modulus is None:
+        return name, []
+    return f"{name}_mod", [ctypes.c_uint64(_size("modulus", modulus).value)]
+
+
+def _solved(name, modulus, size, arrays, b, *flags):
     """Calls a solve, and returns X in the shape of b."""
     values, cols = _dense("b", b, size)
     solution = np.empty(size * cols, np.int64)
-    _call(name, _size("size", size), _size("cols", cols), *_pairs(arrays), *flags, *_pair(values), *_pair(solution))
+    name, start = _modular(name, modulus)
+    _call(name, *start, _size("size", size), _size("cols", cols), *_pairs(arrays), *flags, *_pair(values), *_pair(solution))
     return solution.reshape(b.shape, order="F")
 
 
@@ -224,25 +242,26 @@ def multiply_dense(a, b):
     return product.reshape((rows, *b.shape[1:]), order="F")
 
 
-def solve_lower(matrix, b, transposed=False):
+def solve_lower(matrix, b, transposed=False, modulus=None):
     """Returns the X for which L X = b, or L^T X = b, where L is the part of a square matrix by columns on and below its diagonal."""
     size, arrays = _square("matrix", matrix)
-    return _solved("solve_lower", size, arrays, b, ctypes.c_bool(transposed))
+    return _solved("solve_lower", modulus, size, arrays, b, ctypes.c_bool(transposed))
 
 
-def solve_symmetric(matrix, b):
+def solve_symmetric(matrix, b, modulus=None):
     """Returns the X for which A X = b, where A is symmetric and has the entries of a square matrix by columns on and above its diagonal."""
     size, arrays = _square("matrix", matrix)
-    return _solved("solve_symmetric", size, arrays, b)
+    return _solved("solve_symmetric", modulus, size, arrays, b)
 
 
-def divide(matrix, divisor):
-    """Returns the matrix by rows with each value times the inverse of an integer, which must be odd."""
+def divide(matrix, divisor, modulus=None):
+    """Returns the matrix by rows with each value times the inverse of an integer."""
     shape, arrays = _rows("matrix", matrix)
     if isinstance(divisor, bool) or not isinstance(divisor, (int, np.integer)) or not -(2**63) <= divisor < 2**63:
         raise TypeError(f"divisor must be an integer of 64 bits, not {divisor!r}")
-    sizes = [_size("rows", shape[0]), _size("cols", shape[1])]
-    return _csr(_filled("divide", shape[0], arrays[2].size, *sizes, *_pairs(arrays), ctypes.c_int64(int(divisor))), shape)
+    name, start = _modular("divide", modulus)
+    start += [_size("rows", shape[0]), _size("cols", shape[1])]
+    return _csr(_filled(name, shape[0], arrays[2].size, *start, *_pairs(arrays), ctypes.c_int64(int(divisor))), shape)
 
 
 _TRIANGLES = {"upper": 0, "lower": 1, "both": 2}
@@ -257,12 +276,35 @@ def fill(matrix, triangle="upper"):
     if triangle not in _TRIANGLES:
         raise ValueError(f"triangle must be one of {', '.join(_TRIANGLES)}, not {triangle!r}")
     size, arrays = _square("matrix", matrix)
-    start = [_size("size", size), ctypes.c_int32(_TRIANGLES[triangle]), *_pairs(arrays[:2])]
-    places = ctypes.c_size_t()
-    _call("fill_places", *start, ctypes.byref(places))
-    offsets, indices = np.empty(size + 1, np.int64), np.empty(places.value, np.int64)
-    _call("fill", *start, *_pair(offsets), *_pair(indices), ctypes.byref(places))
+    start, places = _fill_places(size, triangle, arrays)
+    offsets, indices = np.empty(size + 1, np.int64), np.empty(places, np.int64)
+    _call("fill", *start, *_pair(offsets), *_pair(indices), ctypes.byref(ctypes.c_size_t()))
     return offsets, indices
+
+
+def _fill_places(size, triangle, arrays):
+    """Returns the first arguments of a call for the fill, and how many places the factor has."""
+    start, places = [_size("size", size), ctypes.c_int32(_TRIANGLES[triangle]), *_pairs(arrays[:2])], ctypes.c_size_t()
+    _call("fill_places", *start, ctypes.byref(places))
+    return start, places.value
+
+
+def factor_symmetric(matrix, modulus=None):
+    """Returns the factors L and D of a symmetric matrix A = L D L^T: L by columns, and the diagonal of D as an array.
+
+    A has the entries of a square matrix by columns on and above its diagonal. L has ones on its diagonal and exactly the
+    places of `fill` with "upper", also where a value is 0. Each entry of D has an inverse.
+    """
+    size, arrays = _square("matrix", matrix)
+    _, room = _fill_places(size, "upper", arrays)
+    offsets, indices, values = np.empty(size + 1, np.int64), np.empty(room, np.int64), np.empty(room, np.int64)
+    diagonal = np.empty(size, np.int64)
+    name, start = _modular("factor_symmetric", modulus)
+    outputs = _pairs([offsets, indices, values, diagonal])
+    _call(name, *start, _size("size", size), *_pairs(arrays), *outputs, ctypes.byref(ctypes.c_size_t()))
+    factor = sp.csc_matrix((values, indices, offsets), shape=(size, size), copy=False)
+    factor.has_sorted_indices = factor.has_canonical_format = True
+    return factor, diagonal
 
 
 def read(text):

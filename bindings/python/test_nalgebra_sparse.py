@@ -1,5 +1,6 @@
 """Compares the module with SciPy in random cases, and tries each error. Run by bindings/test."""
 import io
+import math
 import os
 import sys
 
@@ -69,6 +70,7 @@ def check_random_cases():
         assert same(ns.multiply(a, c), pattern_product(a, c))
         check_dense_case()
         check_solves()
+        check_modulus()
         check_text()
 
 
@@ -94,13 +96,13 @@ def product(a, b):
         return a @ b
 
 
-def has_factors(symmetric):
-    """Says whether each pivot of the elimination is odd."""
+def has_factors(symmetric, modulus=2**64):
+    """Says whether each pivot of the elimination has an inverse."""
     s, n = [[int(x) for x in row] for row in symmetric], len(symmetric)
     for k in range(n):
-        if s[k][k] % 2 == 0:
+        if math.gcd(s[k][k], modulus) != 1:
             return False
-        inverse = pow(s[k][k], -1, 2**64)
+        inverse = pow(s[k][k], -1, modulus)
         for i in range(k + 1, n):
             for j in range(k + 1, n):
                 s[i][j] -= s[i][k] * inverse * s[k][j]
@@ -149,6 +151,46 @@ def check_solves():
         want = filled(base.copy())
         offsets, indices = ns.fill(a, triangle)
         assert np.array_equal(offsets, want.indptr) and np.array_equal(indices, want.indices)
+
+
+def whole(array):
+    """Returns the array with Python's integers, which don't wrap."""
+    return array.astype(object)
+
+
+def check_modulus():
+    """Checks the equations of quotients, solves and factors modulo a prime, and of factors modulo 2^64."""
+    modulus = ns.MODULI[random.integers(len(ns.MODULI))]
+    n, cols = (int(size) for size in random.integers(1, 6, 2))
+    a, b = square(n), np.asfortranarray(below(n * cols).reshape(n, cols))
+    dense = whole(a.toarray())
+    lower, symmetric = np.tril(dense), np.triu(dense) + np.triu(dense, 1).T
+    pivots = all(x % modulus for x in np.diag(dense))
+    systems = [(ns.solve_lower, (False,), lower, pivots), (ns.solve_lower, (True,), lower.T, pivots)]
+    for call, flags, plain, solvable in [*systems, (ns.solve_symmetric, (), symmetric, has_factors(symmetric, modulus))]:
+        try:
+            found = call(a, b, *flags, modulus=modulus)
+            assert found.min() >= 0 and found.max() < modulus
+            assert np.all((plain.dot(whole(found)) - whole(b)) % modulus == 0)
+        except ns.Singular:
+            assert not solvable
+    divisor = int(random.integers(-(2**62), 2**62))
+    try:
+        quotient = ns.divide(a.tocsr(), divisor, modulus=modulus).toarray()
+        assert quotient.min() >= 0 and quotient.max() < modulus
+        assert np.all((whole(quotient) * divisor - dense) % modulus == 0)
+    except ns.Singular:
+        assert divisor % modulus == 0
+    for given, ring in [(None, 2**64), (modulus, modulus)]:
+        try:
+            l, d = ns.factor_symmetric(a, modulus=given)
+            plain = whole(l.toarray())
+            assert np.all(np.diag(plain) == 1) and np.all(np.triu(plain, 1) == 0)
+            assert np.all(((plain * whole(d)).dot(plain.T) - symmetric) % ring == 0)
+            offsets, indices = ns.fill(a)
+            assert np.array_equal(l.indptr, offsets) and np.array_equal(l.indices, indices)
+        except ns.Singular:
+            assert not has_factors(symmetric, ring)
 
 
 def check_text():
@@ -201,7 +243,21 @@ def check_errors():
     b = np.array([1, 2])
     refused(ns.Singular, ns.solve_lower, even, b)
     refused(ns.Singular, ns.solve_symmetric, even, b)
+    refused(ns.Singular, ns.factor_symmetric, even)
     refused(ns.Singular, ns.divide, fine, 2)
+    for modulus in (0, 1, 4, 2**64 - 1):
+        refused(ns.UnknownModulus, ns.solve_lower, odd, b, False, modulus)
+        refused(ns.UnknownModulus, ns.solve_symmetric, odd, b, modulus)
+        refused(ns.UnknownModulus, ns.divide, fine, 3, modulus)
+        refused(ns.UnknownModulus, ns.factor_symmetric, odd, modulus)
+    refused(ns.Singular, ns.solve_lower, odd, b, False, 7)
+    refused(ns.Singular, ns.solve_symmetric, odd, b, 5)
+    refused(ns.Singular, ns.factor_symmetric, odd, 7)
+    refused(ns.Singular, ns.divide, fine, 14, 7)
+    refused(ns.InvalidStructure, ns.divide, falling, 3, 7)
+    refused(TypeError, ns.solve_lower, odd, b, False, 7.0)
+    refused(TypeError, ns.factor_symmetric, odd, 2**64)
+    refused(ValueError, ns.factor_symmetric, sp.csc_matrix(np.ones((1, 2), np.int64)))
     refused(ns.InvalidStructure, ns.divide, falling, 3)
     refused(ns.InvalidStructure, ns.multiply_dense, falling, np.array([1, 2, 3]))
     refused(ValueError, ns.solve_lower, odd, np.array([1, 2, 3]))

@@ -144,6 +144,65 @@ extern "C" {
         out_values: *mut i64, out_values_len: usize,
     ) -> i32;
 
+    pub fn nalgebra_sparse_solve_lower_mod(
+        modulus: u64,
+        size: usize, cols: usize,
+        offsets: *const usize, offsets_len: usize,
+        indices: *const usize, indices_len: usize,
+        values: *const i64, values_len: usize,
+        transposed: bool,
+        b_values: *const i64, b_values_len: usize,
+        out_values: *mut i64, out_values_len: usize,
+    ) -> i32;
+
+    pub fn nalgebra_sparse_divide_mod(
+        modulus: u64,
+        rows: usize, cols: usize,
+        offsets: *const usize, offsets_len: usize,
+        indices: *const usize, indices_len: usize,
+        values: *const i64, values_len: usize,
+        divisor: i64,
+        out_offsets: *mut usize, out_offsets_len: usize,
+        out_indices: *mut usize, out_indices_len: usize,
+        out_values: *mut i64, out_values_len: usize,
+        out_places: *mut usize,
+    ) -> i32;
+
+    pub fn nalgebra_sparse_solve_symmetric_mod(
+        modulus: u64,
+        size: usize, cols: usize,
+        offsets: *const usize, offsets_len: usize,
+        indices: *const usize, indices_len: usize,
+        values: *const i64, values_len: usize,
+        b_values: *const i64, b_values_len: usize,
+        out_values: *mut i64, out_values_len: usize,
+    ) -> i32;
+
+    pub fn nalgebra_sparse_factor_symmetric(
+        size: usize,
+        offsets: *const usize, offsets_len: usize,
+        indices: *const usize, indices_len: usize,
+        values: *const i64, values_len: usize,
+        out_offsets: *mut usize, out_offsets_len: usize,
+        out_indices: *mut usize, out_indices_len: usize,
+        out_values: *mut i64, out_values_len: usize,
+        out_diagonal: *mut i64, out_diagonal_len: usize,
+        out_places: *mut usize,
+    ) -> i32;
+
+    pub fn nalgebra_sparse_factor_symmetric_mod(
+        modulus: u64,
+        size: usize,
+        offsets: *const usize, offsets_len: usize,
+        indices: *const usize, indices_len: usize,
+        values: *const i64, values_len: usize,
+        out_offsets: *mut usize, out_offsets_len: usize,
+        out_indices: *mut usize, out_indices_len: usize,
+        out_values: *mut i64, out_values_len: usize,
+        out_diagonal: *mut i64, out_diagonal_len: usize,
+        out_places: *mut usize,
+    ) -> i32;
+
     pub fn nalgebra_sparse_read_sizes(
         text: *const u8, text_len: usize,
         out_rows: *mut usize, out_cols: *mut usize, out_triplets: *mut usize,

@@ -15,6 +15,8 @@ pub enum Error {
     DuplicateEntry,
     /// A value that must have an inverse has none.
     Singular,
+    /// The modulus is none of [`MODULI`](crate::MODULI).
+    UnknownModulus,
     /// A text does not match the grammar, or a number in it is out of range.
     InvalidText,
     /// The format, the field and the symmetry of a text's header do not go together.
@@ -45,6 +47,7 @@ impl fmt::Display for Error {
             Error::IndexOutOfBounds => "a row or a column index is out of bounds",
             Error::DuplicateEntry => "the same place is given more than once",
             Error::Singular => "a value that must have an inverse has none",
+            Error::UnknownModulus => "the modulus is none of those of the library",
             Error::InvalidText => "a text does not match the grammar, or a number in it is out of range",
             Error::InvalidHeader => "the format, the field and the symmetry of a text's header do not go together",
             Error::EntryMismatch => "the number of entries of a text is not the one of its size line",
@@ -70,6 +73,8 @@ pub(crate) fn answer(status: i32) -> Result<(), Error> {
         3 => Err(Error::IndexOutOfBounds),
         4 => Err(Error::DuplicateEntry),
         6 => Err(Error::Singular),
+        // A triangle has a number that the library knows.
+        7 => Err(Error::UnknownModulus),
         8 => Err(Error::InvalidText),
         9 => Err(Error::InvalidHeader),
         10 => Err(Error::EntryMismatch),

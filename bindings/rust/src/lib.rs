@@ -1,13 +1,18 @@
-//! Exact sparse matrices by rows over the integers modulo 2^64, by the proved static library `sparse_c`.
+//! Exact sparse matrices by rows over the integers modulo 2^64, by the proved static library `sparse_c`. Division, solves
+//! and factors are also computed modulo the primes of [`MODULI`].
 //!
 //! Each call takes slices and returns the arrays of its result, or an [`Error`]. What is proved of a call is said in
 //! `bindings/c/nalgebra_sparse.h`; this crate around it is only tested.
 
 mod calls;
 mod error;
+mod factors;
+mod moduli;
 mod texts;
 
 pub use error::Error;
+pub use factors::{factor_symmetric, factor_symmetric_mod, Factors};
+pub use moduli::{divide_mod, solve_lower_mod, solve_symmetric_mod, MODULI};
 pub use texts::{read, write, Triplets};
 
 use error::answer;
@@ -191,10 +196,7 @@ pub enum Triangle {
 /// the pattern by columns.
 pub fn fill(size: usize, triangle: Triangle, offsets: &[usize], indices: &[usize]) -> Result<(Vec<usize>, Vec<usize>), Error> {
     let (o, x) = (offsets, indices);
-    let mut places = 0;
-    answer(unsafe {
-        calls::nalgebra_sparse_fill_places(size, triangle as i32, o.as_ptr(), o.len(), x.as_ptr(), x.len(), &mut places)
-    })?;
+    let mut places = fill_places(size, triangle, offsets, indices)?;
     let count = size.checked_add(1).ok_or(Error::OutOfMemory)?;
     let (mut to_offsets, mut to_indices) = (zeros(count, 0)?, zeros(places, 0)?);
     answer(unsafe {
@@ -204,6 +206,15 @@ pub fn fill(size: usize, triangle: Triangle, offsets: &[usize], indices: &[usize
         )
     })?;
     Ok((to_offsets, to_indices))
+}
+
+/// Returns how many places that factor has.
+fn fill_places(size: usize, triangle: Triangle, o: &[usize], x: &[usize]) -> Result<usize, Error> {
+    let mut places = 0;
+    answer(unsafe {
+        calls::nalgebra_sparse_fill_places(size, triangle as i32, o.as_ptr(), o.len(), x.as_ptr(), x.len(), &mut places)
+    })?;
+    Ok(places)
 }
 
 fn square(a: Rows<'_>) -> Result<Rows<'_>, Error> {
