@@ -1,3 +1,6 @@
 pub mod WalkSteps
 pub mod PivotProducts
 pub mod ReadValues
+pub mod PlainTotals
+pub mod FoldedBlocks
+pub mod AssembledBlocks

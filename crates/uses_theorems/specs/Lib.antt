@@ -1,3 +1,4 @@
 pub mod Walking
 pub mod Pivots
 pub mod ConvertedTexts
+pub mod Assembly

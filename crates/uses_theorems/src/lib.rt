@@ -1,6 +1,7 @@
 //! Theorems of users: functions over the library's calls, each with a contract of its own that follows from the library's.
 #![tactic(auto)]
 
+mod assembly;
 mod converter;
 mod determinant;
 #[cfg(test)]

@@ -1,4 +1,4 @@
-use Rattle.std.proofs.Common.{◌≡◌, ◌∙◌, length, sym, ap}
+use Rattle.std.proofs.Common.{◌∙◌, length, ap}
 use Rattle.nalgebra_sparse.specs.Factors.{diagonal}
 use Rattle.uses_theorems.specs.Pivots.{product_below}
 use Rattle.uses_theorems.proofs.PivotProducts.{one_product, factors_exist}

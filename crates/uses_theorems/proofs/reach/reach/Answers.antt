@@ -1,5 +1,4 @@
-use Rattle.std.proofs.Common.{◌≡◌, ℕ, sym, subst, ap, ◌∙◌}
-use Rattle.nalgebra_sparse.specs.Raw.{Raw}
+use Rattle.std.proofs.Common.{ℕ, subst}
 use Rattle.uses_theorems.specs.Walking.{IsDiagonal}
 use Rattle.uses_theorems.proofs.WalkSteps.{diagonal-walks}
 use Rattle.uses_theorems.proofs.reach.reach.Goals as goal

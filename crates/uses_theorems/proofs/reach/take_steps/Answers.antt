@@ -1,4 +1,4 @@
-use Rattle.std.proofs.Common.{◌≡◌, ℕ, ◌+◌, suc, ◌∙◌, subst, sym, add-one, arith}
+use Rattle.std.proofs.Common.{◌≡◌, ℕ, ◌+◌, suc, ◌∙◌, subst, arith}
 use Rattle.uses_theorems.specs.Walking.{TakesSteps}
 use Rattle.uses_theorems.proofs.WalkSteps.{more-steps}
 use Rattle.uses_theorems.proofs.reach.take_steps.Goals as goal
