@@ -4,3 +4,4 @@ pub mod ReadValues
 pub mod PlainTotals
 pub mod FoldedBlocks
 pub mod AssembledBlocks
+pub mod NumberedElements

@@ -2,3 +2,5 @@ pub mod Walking
 pub mod Pivots
 pub mod ConvertedTexts
 pub mod Assembly
+pub mod Elements
+pub mod InnerElements

@@ -4,6 +4,7 @@
 mod assembly;
 mod converter;
 mod determinant;
+mod elements;
 #[cfg(test)]
 mod example;
 mod reach;
