@@ -5,3 +5,4 @@ pub mod PlainTotals
 pub mod FoldedBlocks
 pub mod AssembledBlocks
 pub mod NumberedElements
+pub mod ShortWalks

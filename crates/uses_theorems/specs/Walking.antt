@@ -24,3 +24,11 @@ TakesSteps b start k r = (p d : Raw)
     → IsUnionOf b d p
     → HoldsWalks p 0 start
     → HoldsWalks p k r
+
+-- some walk leads from i to j
+abbrev pub IsReachable : Raw → ℕ → ℕ → Type 0
+IsReachable p i j = (k : ℕ) × WalkWithin p k i j
+
+-- (i, j) is a place of r exactly where some walk leads from i to j
+abbrev pub HoldsReachable : Raw → Raw → Type 0
+HoldsReachable p r = (i j : ℕ) → IsPlace r i j ↔ IsReachable p i j

@@ -1,7 +1,7 @@
 //! Reachability: the pairs that a walk of at most k steps joins, by powers of a pattern.
 
 ghost use Rattle.std.specs.Prelude.{◌≡◌, IfOk};
-ghost use Rattle.uses_theorems.specs.Walking.{IsDiagonal, HoldsWalks, TakesSteps};
+ghost use Rattle.uses_theorems.specs.Walking.{IsDiagonal, HoldsReachable, HoldsWalks, TakesSteps};
 
 #[cfg(test)]
 use crate::example::holds;
@@ -63,6 +63,18 @@ fn reach(
     Ok(reached)
 }
 
+// Returns the pairs (i, j) for which some walk along places of the pattern leads from i to j, however long. A shortest
+// walk repeats no index, so its steps are fewer than the lanes.
+fn closure(alloc: Global, pattern: &SparsityPattern) -> Result<SparsityPattern, AllocError>
+    requires { pattern.now.major_dim ≡ pattern.now.minor_dim }
+    ensures major { IfOk result (λ p. p.major_dim ≡ pattern.now.major_dim) }
+    ensures minor { IfOk result (λ p. p.minor_dim ≡ pattern.now.major_dim) }
+    ensures walks { IfOk result (HoldsReachable pattern.now) }
+{
+    let reached = reach(alloc, pattern, pattern.major_dim())?;
+    Ok(reached)
+}
+
 // Whether walks of at most `steps` steps on the cycle 0 -> 1 -> 2 -> 0 join the pairs with these indices.
 #[cfg(test)]
 fn joins(alloc: Global, steps: usize, indices: &[usize]) -> Result<bool, Fail> {
@@ -73,6 +85,24 @@ fn joins(alloc: Global, steps: usize, indices: &[usize]) -> Result<bool, Fail> {
         return Ok(false);
     }
     Ok(reach(alloc, &cycle, steps)?.minor_indices() == indices)
+}
+
+// Whether the closure of the path 0 -> 1 -> 2 -> 3 joins each index with those from it on.
+#[cfg(test)]
+fn joins_all(alloc: Global) -> Result<bool, Fail> {
+    let offsets = vec![in alloc; 0, 1, 2, 3, 3]?;
+    let next = vec![in alloc; 1, 2, 3]?;
+    let path = SparsityPattern::try_from_offsets_and_indices(4, 4, offsets, next)?;
+    if path.major_dim() != path.minor_dim() {
+        return Ok(false);
+    }
+    let reached = closure(alloc, &path)?;
+    Ok(reached.minor_indices() == [0, 1, 2, 3, 1, 2, 3, 2, 3, 3].as_slice())
+}
+
+#[test]
+fn walks_on_a_path(rt: HostRuntime) {
+    assert!(rt; holds(&rt, joins_all(rt.alloc())));
 }
 
 #[test]
