@@ -6,3 +6,4 @@ pub mod FoldedBlocks
 pub mod AssembledBlocks
 pub mod NumberedElements
 pub mod ShortWalks
+pub mod OneSolution

@@ -8,3 +8,4 @@ mod elements;
 #[cfg(test)]
 mod example;
 mod reach;
+mod solution;
