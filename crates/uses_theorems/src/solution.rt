@@ -28,6 +28,8 @@ fn solve_symmetric<T: Units>(
 ) -> Result<DMatrix<T>, OperationError>
     requires square { a.now.pattern.minor_dim ≡ a.now.pattern.major_dim }
     requires rows { b.now.nrows ≡ a.now.pattern.minor_dim }
+    ensures nrows { IfOk result (λ x. x.nrows ≡ b.now.nrows) }
+    ensures ncols { IfOk result (λ x. x.ncols ≡ b.now.ncols) }
     ensures only { IfOk result (λ x. IsOnlySolution T.ring (symmetric_of T.ring T.value a.now)
         (plain_of_dense T.ring T.value x) (plain_of_dense T.ring T.value b.now)) }
     ensures singular { IfErr result (λ e. e ≡ OperationErrorKind.Singular
