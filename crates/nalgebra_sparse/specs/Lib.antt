@@ -5,6 +5,7 @@
 -- rings, sums, plain matrices and their algebra
 pub use Rattle.sparse_algebra.specs.Algebra
 pub use Rattle.sparse_algebra.proofs.RingLemmas
+pub use Rattle.sparse_algebra.proofs.SumLemmas
 pub use Rattle.sparse_algebra.specs.Classes
 pub use Rattle.sparse_algebra.specs.Numbers
 pub use Rattle.sparse_algebra.specs.Plain

@@ -14,11 +14,12 @@ use Rattle.nalgebra_sparse.specs.Coo.{Coo, appended, coo_of}
 use Rattle.nalgebra_sparse.specs.Dense.{Dense, value_at}
 use Rattle.nalgebra_sparse.specs.DensePlain.{is_inside, plain_of_dense}
 use Rattle.nalgebra_sparse.specs.Plain.{any_below, below, is_at, plain_of_triplets}
+use Rattle.nalgebra_sparse.specs.SumLemmas.{sum_by-append}
 use Rattle.nalgebra_sparse.specs.Sums.{sum_below, sum_by, where_true}
 use Rattle.uses_theorems.specs.declared.elements.Element.{Element}
 use Rattle.uses_theorems.specs.Elements.{IsNumbered, is_numbered_at, numbered_element}
 use Rattle.uses_theorems.specs.InnerElements.{element_triplet, row_triplets, element_triplets}
-use Rattle.uses_theorems.proofs.PlainTotals.{or_false, sum_by-append}
+use Rattle.uses_theorems.proofs.PlainTotals.{or_false}
 
 -- one number more
 flat_map-next : {X : Type 0} (h : ℕ → List X) (n : ℕ)

@@ -1,5 +1,5 @@
 -- A system whose matrix is L D Lᵀ, with units on the diagonal of D, has at most one solution.
-use Rattle.std.proofs.Common.{◌≡◌, ℕ, zero, suc, ◌+◌, ◌<◌, ◌≤◌, ◌≢◌, inl, inr, ap, sym, ◌∙◌, refl}
+use Rattle.std.proofs.Common.{◌≡◌, ℕ, zero, suc, ◌+◌, ◌<◌, ◌≤◌, ◌≢◌, inl, inr, ap, sym, ◌∙◌}
 use Rattle.std.proofs.Common.{length, subst, arith, true, false, ◌&&◌}
 use Rattle.std.specs.Prelude.{nat_eq, nat_lt}
 use Rattle.std.proofs.lemmas.Bool.Decides.{nat_tests}
@@ -13,17 +13,11 @@ use Rattle.nalgebra_sparse.specs.Plain.{Plain, plain_product, plain_transpose}
 use Rattle.nalgebra_sparse.specs.PlainOfLanes.{plain_of_cols}
 use Rattle.nalgebra_sparse.specs.RingLemmas.{mul_zero, cancel}
 use Rattle.nalgebra_sparse.specs.Solutions.{HasSameValues, IsSolution}
+use Rattle.nalgebra_sparse.specs.SumLemmas.{sum_below-same}
 use Rattle.nalgebra_sparse.specs.Sums.{sum_below, where_true}
 use Rattle.uses_theorems.specs.OnlySolutions.{Solves, IsOnlySolution}
 
 module _ (R : CommRing) where
-  sum_below-same : (n : ℕ) (f g : ℕ → R.Carrier) → ((k : ℕ) → k < n → f k ≡ g k)
-      → sum_below R n f ≡ sum_below R n g
-  sum_below-same zero f g same = refl
-  sum_below-same (suc n) f g same =
-      ap (λ c. R.add c (f n)) (sum_below-same n f g (λ k lt. same k (omega arith)))
-      ∙ ap (R.add (sum_below R n g)) (same n (omega arith))
-
   -- where two sums are equal, and all terms but one, that one is equal too
   one_term : (n i : ℕ) (f g : ℕ → R.Carrier) → i < n → sum_below R n f ≡ sum_below R n g
       → ((k : ℕ) → k < n → k ≢ i → f k ≡ g k) → f i ≡ g i
@@ -31,7 +25,7 @@ module _ (R : CommRing) where
   one_term (suc n) i f g lt sums same = elim (cases_eq i n) [
     | inl is ↦
         let front : sum_below R n f ≡ sum_below R n g =
-        sum_below-same n f g (λ k l. same k (omega arith) (λ e. omega arith)) in
+        sum_below-same R n f g (λ k l. same k (omega arith) (λ e. omega arith)) in
         ap f is
         ∙ cancel R (f n) (g n) (sum_below R n g)
         (R.laws.add_comm (f n) (sum_below R n g)
@@ -164,7 +158,7 @@ module _ (R : CommRing) where
         pub product-same : (x : Plain R) (i : ℕ) → i < l.rows
             → (plain_product R (plain_ldl R l d) x).value i c ≡ (plain_product R s x).value i c
         product-same x i lt =
-            sum_below-same l.rows (λ k. R.mul ((plain_ldl R l d).value i k) (x.value k c))
+            sum_below-same R l.rows (λ k. R.mul ((plain_ldl R l d).value i k) (x.value k c))
             (λ k. R.mul (s.value i k) (x.value k c))
             (λ k inside. ap (λ t. R.mul t (x.value k c)) (equation i k lt inside))
             ∙ ap (λ n. sum_below R n (λ k. R.mul (s.value i k) (x.value k c))) (sym cols)

@@ -9,7 +9,7 @@ use Rattle.nalgebra_sparse.specs.Algebra.{CommRing}
 use Rattle.nalgebra_sparse.specs.Coo.{Coo, appended}
 use Rattle.nalgebra_sparse.specs.CooPlain.{plain_of_coo}
 use Rattle.nalgebra_sparse.specs.Plain.{Plain, is_at, plain_of_triplets}
-use Rattle.nalgebra_sparse.specs.RingLemmas.{zero_add}
+use Rattle.nalgebra_sparse.specs.SumLemmas.{sum_by-append}
 use Rattle.nalgebra_sparse.specs.Sums.{sum_by, where_true}
 use Rattle.uses_theorems.specs.Assembly.{plain_total}
 
@@ -22,15 +22,9 @@ or_false true = refl
 or_false false = refl
 
 module _ (R : CommRing) where
-  pub sum_by-append : {X : Type 0} (g : X → R.Carrier) (xs ys : List X)
-      → sum_by R g (xs ++ ys) ≡ R.add (sum_by R g xs) (sum_by R g ys)
-  sum_by-append g [] ys = sym (zero_add R (sum_by R g ys))
-  sum_by-append g (x ∷ xs) ys = ap (R.add (g x)) (sum_by-append g xs ys)
-      ∙ sym (R.laws.add_assoc (g x) (sum_by R g xs) (sum_by R g ys))
-
   sum_by-push : {X : Type 0} (g : X → R.Carrier) (xs : List X) (x : X)
       → sum_by R g (xs ++ x ∷ []) ≡ R.add (sum_by R g xs) (g x)
-  sum_by-push g xs x = sum_by-append g xs (x ∷ [])
+  sum_by-push g xs x = sum_by-append R g xs (x ∷ [])
       ∙ ap (R.add (sum_by R g xs)) (R.laws.add_zero (g x))
 
   list_any-push : {X : Type 0} (t : X → Bool) (xs : List X) (x : X)
@@ -65,7 +59,7 @@ module _ (R : CommRing) where
         value_more i j =
             let u : ℕ × ℕ × T → R.Carrier = λ t. where_true R (is_at i j t) (f t.2) in
             let value : X → R.Carrier = λ x. (g x).value i j in
-            sum_by-append u m.triplets ts
+            sum_by-append R u m.triplets ts
             ∙ ap (λ c. R.add c (sum_by R u ts)) (ap (λ a. a.value i j) same)
             ∙ ap (R.add (sum_by R value xs)) (ap (λ a. a.value i j) one)
             ∙ sym (sum_by-push value xs x)
