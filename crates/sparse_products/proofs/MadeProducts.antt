@@ -10,7 +10,7 @@ use Rattle.sparse_cs.specs.PlainOfLanes.{plain_of_rows}
 use Rattle.sparse_cs.proofs.Standing.{rows_have}
 use Rattle.sparse_products.specs.Products.{IsProductOf}
 use Rattle.sparse_products.specs.InnerUpdates.{HasProductPlaces}
-use Rattle.sparse_products.proofs.ProductPlaces.{product, joined_is}
+use Rattle.sparse_products.proofs.ProductPlaces.{product, joined_places}
 
 pub has_places : (d a b : Raw) → IsProductOf d a b → HasProductPlaces d a b
 has_places d a b is i j k left right = (is i j).1 (k, left, right)
@@ -27,7 +27,7 @@ pub product_made : (R : CommRing) {T : Type 0} (f : T → R.Carrier) {a b m : Co
 product_made R f {m = m} sa sb fits sm major minor is none unit none_is unit_is =
     let P = product R f sa sb fits in
     let here = (rows_have R f m sm).places in
-    let joined = joined_is R f sa sb fits in
+    let joined = joined_places R f sa sb fits in
     same_plain _ P major minor
     (λ i j. same_bool _ _ (λ h. (joined i j).0 ((is i j).0 ((here i j).1 h)))
     (λ h. (here i j).0 ((is i j).1 ((joined i j).1 h))))

@@ -22,7 +22,7 @@ use Rattle.sparse_cs.proofs.RowSums.{eq_refl}
 use Rattle.sparse_cs.proofs.BuiltMatrices.{IsBuiltMatrix, matrix_lane_built, built_is}
 use Rattle.sparse_products.specs.InnerProducts.{IsInLanes, GainsTaken}
 use Rattle.sparse_products.proofs.ProductLanes.{IsJoined, in_lanes_is}
-use Rattle.sparse_products.proofs.ProductPlaces.{product, joined_is, product_is_proper}
+use Rattle.sparse_products.proofs.ProductPlaces.{product, joined_places, product_is_proper}
 
 module _ (R : CommRing) {T : Type 0} (f : T → R.Carrier) where
   -- where the index is not in the lane
@@ -51,7 +51,8 @@ module _ (R : CommRing) {T : Type 0} (f : T → R.Carrier) where
       let j = get_or ks q 0 in
       let less : k < j = rising 0 (suc q) (omega arith) lt in
       ap (λ c. R.add c (lane_value R f ks vs j))
-      (where_no R (λ (c : R.Carrier). c) (nat_eq k j) (f v) (nat_eq_no k j (λ e. omega (arith, less, e))))
+      (where_no R (λ (c : R.Carrier). c) (nat_eq k j) (f v)
+      (nat_eq_no k j (λ e. omega (arith, less, e))))
       ∙ zero_add R _ ∙ lane_at z q ks vs (omega arith)
       (λ r s less within. rising (suc r) (suc s) (omega arith) (omega arith)) (omega arith)
 
@@ -93,20 +94,21 @@ module _ (R : CommRing) {T : Type 0} (f : T → R.Carrier) {a b : Compressed T} 
   zero_off n lt lane holds j none = product_is_proper R f sa sb fits n j
       (elim (true_or_false (P.has n j)) [
         | inl hit ↦ absurd (none (holds j ((in_lanes_is a.pattern b.pattern sa.valid n j lt).1
-            ((joined_is R f sa sb fits n j).1 hit))))
+            ((joined_places R f sa sb fits n j).1 hit))))
         | inr miss ↦ miss
       ])
 
   -- one row more
   product_more : (z : T) {n : ℕ} {offsets offsets' indices indices' : List ℕ}
       {values values' : List T} (part : List T) → n < a.pattern.major_dim
-      → Below n offsets indices values → (gains : GainsLane indices indices' (IsInLanes b.pattern (lane_of a.pattern n)))
+      → Below n offsets indices values
+      → (gains : GainsLane indices indices' (IsInLanes b.pattern (lane_of a.pattern n)))
       → offsets' ≡ offsets ++ length indices' ∷ [] → values' ≡ values ++ part
       → length part ≡ length gains.lane
       → ((q : ℕ) → q < length gains.lane → f (get_or part q z) ≡ P.value n (get_or gains.lane q 0))
       → Below (n + 1) offsets' indices' values'
-  product_more z {n} {offsets} {indices = indices} {values = values} part lt built gains is values_is count
-      read =
+  product_more z {n} {offsets} {indices = indices} {values = values} part lt built gains is
+      values_is count read =
       let in_lanes = λ (j : ℕ). in_lanes_is a.pattern b.pattern sa.valid n j lt in
       let holds : (j : ℕ) → Contains gains.lane j ↔ IsJoined a.pattern b.pattern n j = λ j. (
         λ h. (in_lanes j).0 ((gains.holds j).0 h),
@@ -114,7 +116,7 @@ module _ (R : CommRing) {T : Type 0} (f : T → R.Carrier) {a b : Compressed T} 
       ) in
       let bounded : (j : ℕ) → Contains gains.lane j → j < b.pattern.minor_dim =
       λ j h. let s = (holds j).0 h in place_within b.pattern sb.valid s.0 j s.2 in
-      let joined = λ (j : ℕ). joined_is R f sa sb fits n j in
+      let joined = λ (j : ℕ). joined_places R f sa sb fits n j in
       let value : (j : ℕ) → lane_value R f gains.lane part j ≡ P.value n j = λ j.
       elim (true_or_false (P.has n j)) [
         | inl hit ↦
@@ -154,8 +156,9 @@ module _ (R : CommRing) {T : Type 0} (f : T → R.Carrier) {a b : Compressed T} 
         values)
     product_sound = record { valid = done.built.valid; count = done.count }
 
-    pub product_is : T → plain_of_rows R f (arrays_of a.pattern.major_dim b.pattern.minor_dim offsets
+    pub product_is : T
+        → plain_of_rows R f (arrays_of a.pattern.major_dim b.pattern.minor_dim offsets
         indices values) ≡ P
     product_is z = built_is R f z P (product_is_proper R f sa sb fits)
-        (IsJoined a.pattern b.pattern) (joined_is R f sa sb fits) offsets indices values
+        (IsJoined a.pattern b.pattern) (joined_places R f sa sb fits) offsets indices values
         done (λ i j h. h.1.in_lane.lane)

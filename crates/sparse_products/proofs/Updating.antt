@@ -20,7 +20,7 @@ use Rattle.sparse_sums.proofs.Updating.{written_back}
 use Rattle.sparse_products.specs.declared.serial.factor.Factors.{Factors}
 use Rattle.sparse_products.specs.InnerUpdates.{CanUpdate, HasProductPlaces}
 use Rattle.sparse_products.specs.ScalarProducts.{IfNotTransposed}
-use Rattle.sparse_products.proofs.ProductPlaces.{product, joined_is, zero_elsewhere}
+use Rattle.sparse_products.proofs.ProductPlaces.{product, joined_places, zero_elsewhere}
 
 -- a refusal of one kind, which comes exactly where the places lack
 pub refused_is : {X E : Type 0} (r : Result X E) (kind memory : E) {P : Type 0}
@@ -68,13 +68,14 @@ module _ (R : CommRing) {T : Type 0} (f : T → R.Carrier) {x : Factors T} {d : 
         ↔ IsCovered P (plain_of_rows R f (compressed_of d vs))
     covered_is =
         let here = (rows_have R f (compressed_of d vs) sound).places in
-        let joined = joined_is R f sa sb sizes.inner in (
+        let joined = joined_places R f sa sb sizes.inner in (
           λ h i j hit. let s = (joined i j).1 hit in (here i j).0 (h i j s.0 s.1 s.2),
           λ h i j k left right. (here i j).1 (h i j ((joined i j).0 (k, left, right))),
         )
 
     pub updated_is : (z : T) (beta alpha : R.Carrier) (ws : List T) → length ws ≡ length vs
-        → HasProductPlaces d x.a.now.pattern x.b.now.pattern → AreUpdated R f z d beta alpha P.value vs ws
+        → HasProductPlaces d x.a.now.pattern x.b.now.pattern
+        → AreUpdated R f z d beta alpha P.value vs ws
         → plain_of_rows R f (compressed_of d ws) ≡ plain_update R beta
         (plain_of_rows R f (compressed_of d vs)) alpha P
     updated_is z beta alpha ws long places values =

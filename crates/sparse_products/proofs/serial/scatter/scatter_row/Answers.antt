@@ -91,7 +91,8 @@ returns g c =
       zero = left_zero R f z (lane_of d i) (λ j. R.mul alpha (x i j)) row c.gather_row.new.row
           g.met.T.Ring.zero_law
           (λ j none. ap (R.mul alpha) (zero_off R f sa sb c.requires.sizes.inner i a_lane
-          (lane_of d i) (λ j h. (lane_has d valid i j c.requires.lane).1 (c.requires.places j h)) j none)
+          (lane_of d i) (λ j h. (lane_has d valid i j c.requires.lane).1 (c.requires.places j h))
+          j none)
           ∙ mul_zero R alpha) is_row taken;
       updated = λ j p at.
           let k = p - s in

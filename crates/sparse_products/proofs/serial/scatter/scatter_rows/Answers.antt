@@ -54,7 +54,8 @@ returns-clause-updated g c =
     let f = g.T.Ring.value in
     let u = c.args.update in
     updated_is R f c.requires.sizes c.values.ensures.sound c.values-2.ensures.sound
-    c.major_offsets.ensures.valid g.T.Zero.zero_value (f u.beta) (f u.alpha) c.loop-i.values c.loop-i.auto.values
+    c.major_offsets.ensures.valid g.T.Zero.zero_value (f u.beta) (f u.alpha) c.loop-i.values
+    c.loop-i.auto.values
     c.requires.places (λ i j p at.
     c.loop-i.invariant.rows.updated i j p (omega (arith, at.0.lane)) at)
 

@@ -17,6 +17,7 @@ invariant-loop-i g l =
       zero : IsZeroRow R f z l.row.items;
       rows : HasUpdatedRows R f z l.pattern (λ c. R.mul (f u.beta) (f c)) (f u.alpha)
           (product_of R f u.factors).value l.initial.values l.values l.i;
-      counted : l.steps ≡ l.initial.steps + steps_below l.i u.factors.a.now.pattern u.factors.b.now.pattern
+      counted : l.steps ≡ l.initial.steps + steps_below l.i u.factors.a.now.pattern
+          u.factors.b.now.pattern
           + start_of l.pattern l.i;
     }

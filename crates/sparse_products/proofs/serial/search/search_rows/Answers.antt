@@ -31,7 +31,10 @@ loop-i-init g c =
     let x = c.args.update.factors in
     record {
       rows = rows_none;
-      counted = omega (arith, no_steps x.a.now.pattern x.b.now.pattern c.values.ensures.sound.valid);
+      counted = omega (
+        arith,
+        no_steps x.a.now.pattern x.b.now.pattern c.values.ensures.sound.valid,
+      );
     }
 
 pub loop-i-preserved : goal.loop-i-preserved

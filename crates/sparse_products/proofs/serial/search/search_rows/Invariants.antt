@@ -12,5 +12,6 @@ invariant-loop-i g l =
     record {
       rows : HasUpdatedRows R f g.T.Zero.zero_value l.pattern f (f u.alpha)
           (product_of R f u.factors).value l.initial.values l.values l.i;
-      counted : l.steps ≡ l.initial.steps + steps_below l.i u.factors.a.now.pattern u.factors.b.now.pattern;
+      counted : l.steps ≡ l.initial.steps + steps_below l.i u.factors.a.now.pattern
+          u.factors.b.now.pattern;
     }

@@ -24,6 +24,7 @@ invariant-loop-k g l =
           (zip ks (take n (values_of l.factors.a.now l.i)))) l.initial.target l.target;
       noted : AreNoted (slot l.initial.slots) (slot l.slots) (noted l.initial.slots)
           (noted l.slots) (IsInLanes l.factors.b.now.pattern ks);
-      counted : l.steps + s + triples_below s l.factors.a.now.pattern l.factors.b.now.pattern ≡ l.initial.steps + (s + n)
+      counted : l.steps + s + triples_below s l.factors.a.now.pattern l.factors.b.now.pattern
+          ≡ l.initial.steps + (s + n)
           + triples_below (s + n) l.factors.a.now.pattern l.factors.b.now.pattern;
     }
