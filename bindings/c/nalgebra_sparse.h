@@ -177,7 +177,8 @@ int32_t nalgebra_sparse_multiply_places(
 
 /* Writes the product a b of two matrices by rows, with a place wherever the operands share a middle index, also where
  * the sum is 0: out_offsets needs rows + 1 numbers, and out_indices and out_values as many as
- * nalgebra_sparse_multiply_places says.
+ * nalgebra_sparse_multiply_places says, which takes about as long as the product. One number for each multiplication is
+ * always enough: the sum, over the places of a, of the lengths of the rows of b that their indices name.
  *
  * Statuses: OUT_OF_MEMORY; the first fault of a, and otherwise that of b, as for nalgebra_sparse_transpose; TOO_SMALL.
  */

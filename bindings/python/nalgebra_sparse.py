@@ -69,6 +69,22 @@ _ERRORS = {
 }
 
 
+def reuse_memory(most=1 << 30):
+    """Lets the process keep up to `most` bytes of freed memory for its next allocations. Returns whether it could be arranged.
+
+    By default glibc gives the memory of large arrays back to the system, and each call pays for its pages again: about a
+    third of the time of `assemble_csr` with a million triplets. This sets two limits of malloc (mallopt) for the whole
+    process, so it is never done unasked. Other C libraries ignore it.
+    """
+    try:
+        mallopt = ctypes.CDLL(None).mallopt
+    except AttributeError:
+        return False
+    trim_threshold, mmap_threshold = -1, -3
+    # Older versions of glibc take no threshold for mmap above 32 MiB.
+    return bool(mallopt(trim_threshold, most)) and any(mallopt(mmap_threshold, limit) for limit in (most, min(most, 1 << 25)))
+
+
 def _array(name, array, is_index):
     """Returns a one-dimensional, contiguous array of 64-bit numbers, without a copy. Indices of 32 bits, as SciPy makes them, are widened.
 
@@ -227,9 +243,29 @@ def multiply(a, b):
     if inner != other:
         raise ValueError(f"the shapes {(rows, inner)} and {(other, cols)} do not fit")
     sizes = [_size("rows", rows), _size("inner", inner), _size("cols", cols)]
+    room = _product_room(sizes, of_a, of_b)
+    return _csr(_filled("multiply", rows, room, *sizes, *_pairs(of_a), *_pairs(of_b)), (rows, cols))
+
+
+# Up to this many places, a product is computed into room for one place for each multiplication. What is left of the
+# room is never touched, so it takes no memory.
+_MOST_UNCOUNTED = 1 << 24
+
+
+def _product_room(sizes, of_a, of_b):
+    """Returns a number of places that is enough for a product: that of its multiplications, or, where that is large, the exact one.
+
+    To count the exact number takes about as long as the product.
+    """
+    try:
+        room = int(np.diff(of_b[0])[of_a[1]].sum())
+    except IndexError:
+        room = -1
+    if 0 <= room <= _MOST_UNCOUNTED:
+        return room
     places = ctypes.c_size_t()
     _call("multiply_places", *sizes, *_pairs(of_a[:2]), *_pairs(of_b[:2]), ctypes.byref(places))
-    return _csr(_filled("multiply", rows, places.value, *sizes, *_pairs(of_a), *_pairs(of_b)), (rows, cols))
+    return places.value
 
 
 def multiply_dense(a, b):

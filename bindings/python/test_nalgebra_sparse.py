@@ -2,6 +2,7 @@
 import io
 import math
 import os
+import resource
 import sys
 
 import numpy as np
@@ -68,6 +69,9 @@ def check_random_cases():
         assert same(ns.add(a, b), merged(a, b, 1))
         assert same(ns.subtract(a, b), merged(a, b, -1))
         assert same(ns.multiply(a, c), pattern_product(a, c))
+        ns._MOST_UNCOUNTED, most = 0, ns._MOST_UNCOUNTED
+        assert same(ns.multiply(a, c), pattern_product(a, c))
+        ns._MOST_UNCOUNTED = most
         check_dense_case()
         check_solves()
         check_modulus()
@@ -237,6 +241,14 @@ def check_errors():
     refused(ns.DuplicateEntry, ns.transpose, twice)
     refused(ns.InvalidStructure, ns.add, fine, falling)
     refused(ns.InvalidStructure, ns.multiply, falling, matrix(3, 1))
+    # The faults of operands that SciPy does not test are found before the room for the product is.
+    outside = sp.csr_matrix((1, 3), dtype=np.int64)
+    for index in (3, -1, -4):
+        outside.data, outside.indices, outside.indptr = wide[:1], np.array([index]), np.array([0, 1])
+        refused(ns.IndexOutOfBounds, ns.multiply, outside, matrix(3, 1))
+    falling_rows = sp.csr_matrix((2, 1), dtype=np.int64)
+    falling_rows.data, falling_rows.indices, falling_rows.indptr = wide[:1], np.array([0]), np.array([0, 2, 1])
+    refused(ns.InvalidStructure, ns.multiply, sp.csr_matrix(np.ones((1, 2), np.int64)), falling_rows)
     refused(ValueError, ns.add, fine, matrix(1, 4))
     refused(ValueError, ns.multiply, fine, fine)
     odd, even = sp.csc_matrix(np.array([[5, 0], [0, 7]])), sp.csc_matrix(np.array([[5, 0], [0, 6]]))
@@ -278,6 +290,20 @@ def check_errors():
     refused(TypeError, ns.transpose, fine.astype(float))
 
 
+def check_memory():
+    """Checks that the pages of a call are those of the call before it, once memory is kept."""
+    if not ns.reuse_memory():
+        return
+    i = np.arange(200_000)
+    for _ in range(3):
+        before = resource.getrusage(resource.RUSAGE_SELF).ru_minflt
+        ns.assemble_csr((i.size, i.size), i, i, i)
+        faults = resource.getrusage(resource.RUSAGE_SELF).ru_minflt - before
+    # The arrays of a call have some 4000 pages.
+    assert faults < 400, faults
+
+
 check_random_cases()
 check_errors()
+check_memory()
 print("python: 1000 random cases equal SciPy, and each error is raised")
