@@ -28,8 +28,8 @@ returns-clause-refused c = λ h.
     let room = room_of c.args.out_offsets.now c.args.out_indices.now c.args.out_values.now
     c.args.out_places.now in
     let divisor = to_z-of_z w64 c.args.divisor c.ranges.divisor in
-    refused c.quotient_of-answer.result c.quotient_of-answer.ensures.quotient c.finish_rows.result _ same
-    c.quotient_of-answer.ensures.fault
+    refused c.quotient_of-answer.result c.quotient_of-answer.ensures.quotient c.finish_rows.result _
+    same c.quotient_of-answer.ensures.fault
     (λ e. subst (λ (s : Compressed ℤ × ℤ). IsFaultOfQuotient ring64 w64_value s.0 s.1 e)
     (λ k. (c.new-a.ensures k, divisor k)))
     (λ q p small. subst (λ (s : Compressed ℤ × ℤ). IsQuotientTooSmall ring64 s.0 s.1 room)

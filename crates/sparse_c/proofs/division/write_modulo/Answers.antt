@@ -21,7 +21,8 @@ returns-clause-written g c = λ h.
     let q = c.args.quotient in
     let divisor = to_z-of_z w64 q.divisor q.in_range in
     subst (λ (s : ℤ × ℕ). WritesQuotient (mod_ring s.1) q.a s.0 room)
-    (λ k. (divisor k, sym c.requires.is k)) (plain_of_rows (mod_ring g.row.M) (mod_value {m = g.row.M}) p.0, p.1.0, p.1.1)
+    (λ k. (divisor k, sym c.requires.is k))
+    (plain_of_rows (mod_ring g.row.M) (mod_value {m = g.row.M}) p.0, p.1.0, p.1.1)
 
 pub returns-clause-reduced : goal.returns-clause-reduced
 returns-clause-reduced g c = λ h.

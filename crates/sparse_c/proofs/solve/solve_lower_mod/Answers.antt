@@ -22,9 +22,11 @@ returns-clause-written g c = λ h.
     let b = plain_by_values R size cols c.args.b_values.now in
     let facts = c.lower_solution-answer.ensures in
     let p = solution_written c.lower_solution-answer.result size cols facts.rows facts.cols R
-    (mod_value {m = g.row.M}) (λ (y : Plain R). IsSolution R (lower_of R c.args.transposed c.new-l.result) y b) out facts.solved
-    (c.finish_dense.ensures.written (sym same ∙ h)) in
-    subst (λ (s : Compressed ℤ × ℕ). HoldsSolution (mod_ring s.1) (lower_of (mod_ring s.1) c.args.transposed s.0)
+    (mod_value {m = g.row.M})
+    (λ (y : Plain R). IsSolution R (lower_of R c.args.transposed c.new-l.result) y b) out
+    facts.solved (c.finish_dense.ensures.written (sym same ∙ h)) in
+    subst (λ (s : Compressed ℤ × ℕ). HoldsSolution (mod_ring s.1)
+    (lower_of (mod_ring s.1) c.args.transposed s.0)
     (plain_by_values (mod_ring s.1) size cols c.args.b_values.now) size cols out)
     (λ k. (c.new-l.ensures k, sym c.requires.is k)) (record { room = p.0; solved = p.1 })
 
@@ -36,7 +38,8 @@ returns-clause-reduced g c = λ h.
     let out = c.finish_dense.new.values in
     reduced_modulo c.args.modulus M (c.args.size * c.args.cols) out c.requires.is c.requires.short
     (solution_shown c.lower_solution-answer.result c.args.size c.args.cols facts.rows facts.cols
-    (λ z. M ≤ 9223372036854775808 → IsReduced M z) out (c.finish_dense.ensures.shown (sym same ∙ h)))
+    (λ z. M ≤ 9223372036854775808 → IsReduced M z) out
+    (c.finish_dense.ensures.shown (sym same ∙ h)))
 
 pub returns-clause-refused : goal.returns-clause-refused
 returns-clause-refused g c = λ h.
@@ -44,7 +47,7 @@ returns-clause-refused g c = λ h.
     let facts = c.lower_solution-answer.ensures in
     solution_refused c.lower_solution-answer.result c.args.size c.args.cols facts.rows facts.cols
     c.args.out_values.now c.finish_dense.result _ same facts.fault
-    (λ e given. inr (subst (λ (s : Compressed ℤ × ℕ). IsFaultOfLower (mod_ring s.1) (mod_value {m = s.1})
-    s.0 c.args.size c.args.cols c.args.b_values.now e)
+    (λ e given. inr (subst (λ (s : Compressed ℤ × ℕ). IsFaultOfLower (mod_ring s.1)
+    (mod_value {m = s.1}) s.0 c.args.size c.args.cols c.args.b_values.now e)
     (λ k. (c.new-l.ensures k, sym c.requires.is k)) given))
     (c.finish_dense.ensures.refused (λ e. h (same ∙ e)))

@@ -17,12 +17,12 @@ returns-clause-written c = λ h.
     let out = c.finish_dense.new.values in
     let b = plain_by_values ring64 size cols c.args.b_values.now in
     let facts = c.symmetric_solution-answer.ensures in
-    let p = solution_written c.symmetric_solution-answer.result size cols facts.rows facts.cols ring64 w64_value
-    (λ (y : Plain ring64). SolvesSymmetric ring64 c.new-a.result y b size cols) out facts.solved
+    let p = solution_written c.symmetric_solution-answer.result size cols facts.rows facts.cols
+    ring64 w64_value (λ (y : Plain ring64). SolvesSymmetric ring64 c.new-a.result y b size cols) out
+    facts.solved
     (c.finish_dense.ensures.written (sym same ∙ h)) in
-    subst (λ (x : Compressed ℤ). HoldsSymmetricSolution ring64 x b size
-    cols out) c.new-a.ensures
-    (record { room = p.0; solved = p.1 })
+    subst (λ (x : Compressed ℤ). HoldsSymmetricSolution ring64 x b size cols out)
+    c.new-a.ensures (record { room = p.0; solved = p.1 })
 
 pub returns-clause-refused : goal.returns-clause-refused
 returns-clause-refused c = λ h.
