@@ -8,13 +8,15 @@ ghost use Rattle.sparse_algebra.specs.Moduli.{mod_ring};
 ghost use Rattle.sparse_algebra.specs.WrappingValues.{w64_value};
 ghost use Rattle.sparse_cs.specs.Compressed.{arrays_of};
 ghost use Rattle.sparse_cs.specs.PlainOfLanes.{plain_of_rows};
-ghost use Rattle.sparse_c.specs.Moduli.{IsFaultModulo};
+ghost use Rattle.sparse_c.specs.Moduli.{moduli, IsFaultModulo, IsNoneOf};
 ghost use Rattle.sparse_c.specs.Solved.{IsFaultOfQuotient, IsQuotientBy, IsQuotientTooSmall};
 ghost use Rattle.sparse_c.specs.Solved.{WritesQuotient};
 ghost use Rattle.sparse_c_views.specs.Arrays.{plain_by_rows, ring64, room_of};
 ghost use Rattle.sparse_c_views.specs.Elements.{element_of};
 ghost use Rattle.sparse_c_views.specs.Reduced.{AreReduced};
 ghost use Rattle.sparse_c_views.specs.Refused.{IsMemoryOr, IsRefusedFor};
+ghost use Rattle.sparse_c_views.specs.Statuses.{number_of};
+ghost use Rattle.sparse_c_views.specs.declared.refusal.Refusal.TheVariants.{UnknownChoice};
 
 use crate::moduli::by_modulus;
 use sparse_algebra::scalar::{Mod, W64};
@@ -78,6 +80,7 @@ pub extern "C" fn nalgebra_sparse_divide_mod(
         result ≡ pos 0 → WritesQuotient (mod_ring modulus) a divisor
         (room_of out_offsets.new out_indices.new out_values.new out_places.new) }
     ensures reduced { result ≡ pos 0 → AreReduced modulus out_places.new out_values.new }
+    ensures unlisted { IsNoneOf moduli modulus → result ≡ number_of UnknownChoice }
     ensures untouched { result ≢ pos 0
         → room_of out_offsets.new out_indices.new out_values.new out_places.new
         ≡ room_of out_offsets.old out_indices.old out_values.old out_places.old }
@@ -131,6 +134,7 @@ fn write_by_modulus(
         result ≡ pos 0 → WritesQuotient (mod_ring modulus) q.a q.divisor
         (room_of out_offsets.new out_indices.new out_values.new out_places.new) }
     ensures reduced { result ≡ pos 0 → AreReduced modulus out_places.new out_values.new }
+    ensures unlisted { IsNoneOf moduli modulus → result ≡ number_of UnknownChoice }
     ensures untouched { result ≢ pos 0
         → room_of out_offsets.new out_indices.new out_values.new out_places.new
         ≡ room_of out_offsets.old out_indices.old out_values.old out_places.old }

@@ -9,13 +9,13 @@ ghost use Rattle.sparse_cs.specs.PlainOfLanes.{plain_of_cols, plain_of_rows};
 ghost use Rattle.sparse_ldl.specs.Factors.{diagonal};
 ghost use Rattle.sparse_c.specs.Factors.{AreFactors, AreFactorsTooLong, IsFaultOfFactors};
 ghost use Rattle.sparse_c.specs.Factors.{WritesFactors};
-ghost use Rattle.sparse_c.specs.Moduli.{IsFaultModulo};
+ghost use Rattle.sparse_c.specs.Moduli.{moduli, IsFaultModulo, IsNoneOf};
 ghost use Rattle.sparse_c_views.specs.Arrays.{ring64, room_of, HoldsRows};
 ghost use Rattle.sparse_c_views.specs.Elements.{element_of};
 ghost use Rattle.sparse_c_views.specs.Reduced.{AreReduced, FirstAre};
 ghost use Rattle.sparse_c_views.specs.Refused.{IsMemoryOr, IsRefusedFor, IsTooSmall};
 ghost use Rattle.sparse_c_views.specs.Statuses.{number_of};
-ghost use Rattle.sparse_c_views.specs.declared.refusal.Refusal.TheVariants.{TooSmall};
+ghost use Rattle.sparse_c_views.specs.declared.refusal.Refusal.TheVariants.{TooSmall, UnknownChoice};
 
 use crate::moduli::by_modulus;
 use sparse_algebra::learn;
@@ -91,6 +91,7 @@ pub extern "C" fn nalgebra_sparse_factor_symmetric_mod(
         (room_of out_offsets.new out_indices.new out_values.new out_places.new) out_diagonal.new }
     ensures reduced { result ≡ pos 0 → AreReduced modulus out_places.new out_values.new }
     ensures reduced_diagonal { result ≡ pos 0 → AreReduced modulus size out_diagonal.new }
+    ensures unlisted { IsNoneOf moduli modulus → result ≡ number_of UnknownChoice }
     ensures untouched { result ≢ pos 0
         → room_of out_offsets.new out_indices.new out_values.new out_places.new
         ≡ room_of out_offsets.old out_indices.old out_values.old out_places.old }

@@ -6,12 +6,14 @@ ghost use Rattle.sparse_algebra.specs.Moduli.{mod_ring};
 ghost use Rattle.sparse_algebra.specs.WrappingValues.{w64_value};
 ghost use Rattle.sparse_base.specs.DensePlain.{plain_of_dense};
 ghost use Rattle.sparse_cs.specs.Compressed.{arrays_of};
-ghost use Rattle.sparse_c.specs.Moduli.{IsFaultModulo};
+ghost use Rattle.sparse_c.specs.Moduli.{moduli, IsFaultModulo, IsNoneOf};
 ghost use Rattle.sparse_c.specs.Symmetric.{HoldsSymmetricSolution, IsFaultOfSymmetric};
 ghost use Rattle.sparse_c.specs.Symmetric.{SolvesSymmetric};
 ghost use Rattle.sparse_c_views.specs.Arrays.{plain_by_values, ring64};
 ghost use Rattle.sparse_c_views.specs.Reduced.{AreReduced};
 ghost use Rattle.sparse_c_views.specs.Refused.{IsDenseRefused, IsMemoryOr};
+ghost use Rattle.sparse_c_views.specs.Statuses.{number_of};
+ghost use Rattle.sparse_c_views.specs.declared.refusal.Refusal.TheVariants.{UnknownChoice};
 
 use crate::moduli::by_modulus;
 use sparse_algebra::scalar::{Mod, W64};
@@ -70,6 +72,7 @@ pub extern "C" fn nalgebra_sparse_solve_symmetric_mod(
         result ≡ pos 0 → HoldsSymmetricSolution ring a
         (plain_by_values ring size cols b_values.now) size cols out_values.new }
     ensures reduced { result ≡ pos 0 → AreReduced modulus (size * cols) out_values.new }
+    ensures unlisted { IsNoneOf moduli modulus → result ≡ number_of UnknownChoice }
     ensures untouched { result ≢ pos 0 → out_values.new ≡ out_values.old }
     ensures refused { let a = arrays_of size size offsets.now indices.now values.now in
         result ≢ pos 0 → IsDenseRefused (IsFaultModulo modulus (IsFaultOfSymmetric
