@@ -1,7 +1,7 @@
 -- The texts of matrices begin with their header lines.
 use Rattle.std.proofs.Common.{◌≡◌, ℕ, List, ◌++◌, codes, refl}
 use Rattle.sparse_base.specs.Coo.{Coo}
-use Rattle.sparse_io.specs.Written.{heading, size_line, triplet_line, written_text, text_of}
+use Rattle.sparse_io.specs.Written.{heading, written_text, text_of}
 use Rattle.mtxkit_texts.specs.Lower.{head}
 
 -- the text begins with the header line of a name

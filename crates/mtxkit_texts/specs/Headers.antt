@@ -1,9 +1,11 @@
 -- The headers of texts.
-use Rattle.std.specs.Prelude.{ℕ, List, Option, Bool, true, false}
+use Rattle.std.specs.Prelude.{ℕ, List, Option, Some, None, Bool, true, false}
 use Rattle.sparse_parser.specs.Bytes.{after, front}
 use Rattle.sparse_parser.specs.Header.{header_of}
 use Rattle.sparse_parser.specs.InnerBytes.{is_space, is_within_line}
 use Rattle.sparse_parser.specs.InnerReading.{words_of}
+use Rattle.sparse_parser.specs.declared.header.Field.{Field}
+use Rattle.sparse_parser.specs.declared.header.Field.TheVariants.{Real, Complex, Integer, Pattern}
 use Rattle.sparse_parser.specs.declared.header.Header.{Header}
 use Rattle.sparse_parser.specs.declared.header.Symmetry.{Symmetry}
 use Rattle.sparse_parser.specs.declared.header.Symmetry.TheVariants.{General, Symmetric}
@@ -19,3 +21,15 @@ is_mirrored General = false
 is_mirrored Symmetric = true
 is_mirrored SkewSymmetric = true
 is_mirrored Hermitian = true
+
+-- the values of the field are carried: integers, and the places of a pattern
+abbrev pub is_carried_field : Field → Bool
+is_carried_field Real = false
+is_carried_field Complex = false
+is_carried_field Integer = true
+is_carried_field Pattern = true
+
+-- the header, if there is one, names a field whose values are carried
+abbrev pub is_carried : Option Header → Bool
+is_carried None = true
+is_carried (Some h) = is_carried_field h.field

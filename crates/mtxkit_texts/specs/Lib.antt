@@ -1,3 +1,5 @@
+pub mod FactLines
+pub mod Facts
 pub mod Headers
 pub mod Loaded
 pub mod Lower

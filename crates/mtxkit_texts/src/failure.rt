@@ -16,6 +16,14 @@ pub enum Failure {
     NotCarried(usize),
     /// The matrix is not symmetric.
     NotSymmetric,
+    /// The shapes of the matrices do not fit.
+    Shapes,
+    /// The matrix has no factorisation.
+    NoFactors,
+    /// The product is another matrix.
+    NotSolution,
+    /// The modulus is none of those that the program is built for.
+    Modulus,
     /// The words of the command line are no command.
     Usage,
     /// A write failed.
@@ -39,8 +47,13 @@ impl Failure {
     fn message(&self) -> &'static str {
         match self {
             Failure::Input(_, kind) => kind.name(),
-            Failure::NotCarried(_) => "real and complex values are not carried",
+            Failure::NotCarried(_) =>
+                "real and complex values are not carried, nor is their pattern",
             Failure::NotSymmetric => "not symmetric",
+            Failure::Shapes => "shapes do not fit",
+            Failure::NoFactors => "no factorisation L D L^T exists",
+            Failure::NotSolution => "A X is not B",
+            Failure::Modulus => "no such modulus; see mtxkit solve --help",
             Failure::Usage => "no command; see mtxkit --help",
             Failure::Write(_) => "write failed",
             Failure::OutOfMemory => "out of memory",

@@ -1,11 +1,11 @@
 //! Matrices read from texts.
 
-ghost use Rattle.std.specs.Prelude.{◌≡◌, ◌⊎◌, Ok, Err, IfOk, IfErr, IsErrAnd};
+ghost use Rattle.std.specs.Prelude.{◌≡◌, ◌⊎◌, false, Ok, Err, IfOk, IfErr, IsErrAnd};
 ghost use Rattle.sparse_cs.specs.Compressed.{IsSound};
 ghost use Rattle.sparse_parser.specs.Errors.{kind_of};
 ghost use Rattle.sparse_parser.specs.declared.error.MatrixMarketErrorKind.TheVariants as kinds;
 ghost use Rattle.mtxkit_texts.specs.Loaded.{MeansMatrix, MeansOnes, MeansSums, IsMisread};
-ghost use Rattle.mtxkit_texts.specs.Headers.{header_in};
+ghost use Rattle.mtxkit_texts.specs.Headers.{header_in, is_carried, is_carried_field};
 ghost use Rattle.mtxkit_texts.specs.declared.failure.Failure.TheVariants.{Input, NotCarried};
 ghost use Rattle.mtxkit_texts.specs.declared.failure.Failure.TheVariants.{OutOfMemory};
 
@@ -96,6 +96,8 @@ fn load_integers(alloc: Global, number: usize, text: &str) -> Result<Loaded, Fai
 /// Returns the failure of a text whose matrix cannot be read.
 pub fn unread(number: usize, kind: MatrixMarketErrorKind, text: &str) -> Failure
     ensures memory { kind ≡ kinds.OutOfMemory → result ≡ OutOfMemory }
+    ensures carried { result ≡ NotCarried number
+        → (kind ≡ kinds.TypeMismatch) × (is_carried (header_in text.now) ≡ false) }
     ensures named { (result ≡ OutOfMemory)
         ⊎ (result ≡ Input number kind) ⊎ (result ≡ NotCarried number) }
 {
@@ -107,9 +109,21 @@ pub fn unread(number: usize, kind: MatrixMarketErrorKind, text: &str) -> Failure
 }
 
 // Whether the header of a text, if there is one, names integers or patterns.
-fn is_carried(text: &str) -> bool {
+fn is_carried(text: &str) -> bool
+    ensures { result ≡ is_carried (header_in text.now) }
+{
     match header_of(text) {
-        Some(header) => matches!(header.field, Field::Integer | Field::Pattern),
+        Some(header) => is_carried_field(header.field),
         None => true,
+    }
+}
+
+// Whether the values of a field are integers or patterns.
+fn is_carried_field(field: Field) -> bool
+    ensures { result ≡ is_carried_field field }
+{
+    match field {
+        Field::Integer | Field::Pattern => true,
+        Field::Real | Field::Complex => false,
     }
 }

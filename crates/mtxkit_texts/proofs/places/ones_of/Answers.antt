@@ -1,8 +1,6 @@
 use Rattle.std.proofs.Common.{◌≡◌, All, ap, ◌∙◌, sym, subst, rules}
-use Rattle.std.specs.List.{list_any}
 use Rattle.std.proofs.lemmas.List.Elements.{All-replicate}
-use Rattle.sparse_algebra.specs.Plain.{Plain, is_at}
-use Rattle.sparse_cs.specs.PlainOfLanes.{plain_of_rows}
+use Rattle.sparse_algebra.specs.Plain.{Plain}
 use Rattle.sparse_cs.proofs.Standing.{rows_have}
 use Rattle.sparse_pattern.specs.Raw.{IsPlace}
 use Rattle.mtxkit_texts.proofs.places.ones_of.Goals as goal

@@ -1,0 +1,97 @@
+-- The lines of facts about the matrix of a text.
+use Rattle.std.specs.Prelude.{ℕ, ◌+◌, ◌-◌, ◌*◌, ◌/◌, ◌==◌, Bool, true, false, if◌then◌else◌, max}
+use Rattle.std.specs.Prelude.{List, [], ◌∷◌, ◌++◌, codes, length, replicate, slice_index}
+use Rattle.std.specs.Prelude.{Option, Some, None}
+use Rattle.std.specs.Fmt.{decimal}
+use Rattle.std.specs.List.{flat_map}
+use Rattle.sparse_algebra.specs.Plain.{below}
+use Rattle.sparse_parser.specs.declared.header.Field.{Field}
+use Rattle.sparse_parser.specs.declared.header.Field.TheVariants.{Real, Complex, Integer, Pattern}
+use Rattle.sparse_parser.specs.declared.header.Format.{Format}
+use Rattle.sparse_parser.specs.declared.header.Format.TheVariants.{Coordinate, Array}
+use Rattle.sparse_parser.specs.declared.header.Header.{Header}
+use Rattle.sparse_parser.specs.declared.header.Symmetry.{Symmetry}
+use Rattle.sparse_parser.specs.declared.header.Symmetry.TheVariants.{General, Symmetric}
+use Rattle.sparse_parser.specs.declared.header.Symmetry.TheVariants.{SkewSymmetric, Hermitian}
+use Rattle.mtxkit_matrices.specs.declared.info.Info.{Info}
+
+-- ---- a line
+
+-- a name, a value, and a line end
+unfoldable pub line : List ℕ → List ℕ → List ℕ
+line name value = name ++ (codes ": " ++ (value ++ codes "\n"))
+
+abbrev pub count_line : List ℕ → ℕ → List ℕ
+count_line name count = line name (decimal count)
+
+abbrev pub answer : Bool → List ℕ
+answer true = codes "yes"
+answer false = codes "no"
+
+-- ---- what the header says
+
+abbrev pub format_name : Format → List ℕ
+format_name Coordinate = codes "coordinate"
+format_name Array = codes "array"
+
+abbrev pub field_name : Field → List ℕ
+field_name Real = codes "real"
+field_name Complex = codes "complex"
+field_name Integer = codes "integer"
+field_name Pattern = codes "pattern"
+
+abbrev pub symmetry_name : Symmetry → List ℕ
+symmetry_name General = codes "general"
+symmetry_name Symmetric = codes "symmetric"
+symmetry_name SkewSymmetric = codes "skew-symmetric"
+symmetry_name Hermitian = codes "hermitian"
+
+abbrev pub header_lines : Option Header → List ℕ
+header_lines None = []
+header_lines (Some h) = line (codes "format") (format_name h.format)
+    ++ (line (codes "field") (field_name h.field)
+    ++ line (codes "symmetry") (symmetry_name h.symmetry))
+
+-- ---- the matrix
+
+abbrev pub size_lines : ℕ → ℕ → ℕ → List ℕ
+size_lines nrows ncols entries = count_line (codes "rows") nrows
+    ++ (count_line (codes "columns") ncols ++ count_line (codes "entries") entries)
+
+abbrev pub count_lines : Info → List ℕ
+count_lines s = count_line (codes "places") s.places
+    ++ (count_line (codes "stored zeros") s.stored_zeros
+    ++ (count_line (codes "empty rows") s.empty_rows
+    ++ (count_line (codes "empty columns") s.empty_cols
+    ++ count_line (codes "bandwidth") s.bandwidth)))
+
+abbrev pub symmetry_lines : Info → List ℕ
+symmetry_lines s = line (codes "symmetric pattern") (answer s.has_symmetric_pattern)
+    ++ line (codes "symmetric values") (answer s.has_symmetric_values)
+
+-- ---- the histogram
+
+-- a blank and marks, 40 for all rows; nothing for no row
+abbrev pub bar : ℕ → ℕ → List ℕ
+bar count nrows =
+    if count == 0 then [] else 32 ∷ replicate (count * 40 / max nrows 1) 35
+
+-- how many rows have `from` to `to` places, with a bar for their share of all rows
+unfoldable pub bar_line : ℕ → ℕ → ℕ → ℕ → List ℕ
+bar_line from to count nrows =
+    codes "  " ++ (decimal from ++ (codes " to " ++ (decimal to ++ (codes ": "
+    ++ (decimal count ++ (bar count nrows ++ codes "\n"))))))
+
+-- a line for each count: that of line b is of the rows with at least b times `width` places and
+-- fewer than b + 1 times `width`
+abbrev pub bar_lines : ℕ → List ℕ → ℕ → List ℕ
+bar_lines width counts nrows =
+    flat_map (λ b. bar_line (b * width) ((b + 1) * width - 1) (slice_index counts b) nrows)
+    (below (length counts))
+
+-- what stands above those lines
+unfoldable pub bar_title : List ℕ
+bar_title = codes "rows by their places:\n"
+
+abbrev pub histogram_lines : ℕ → List ℕ → ℕ → List ℕ
+histogram_lines width counts nrows = bar_title ++ bar_lines width counts nrows
