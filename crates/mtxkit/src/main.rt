@@ -1,0 +1,16 @@
+//! The program `mtxkit`: facts about Matrix Market files, pictures of them, and symmetric systems.
+#![tactic(auto)]
+
+use mtxkit_commands::answer;
+use std::env;
+use std::process::ExitCode;
+
+fn main(rt: HostRuntime) -> ExitCode {
+    answer(
+        &rt,
+        env::args(&rt),
+        rt.stdin(),
+        rt.stdout(),
+        rt.stderr(),
+    )
+}

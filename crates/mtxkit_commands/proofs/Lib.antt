@@ -1,0 +1,3 @@
+mod Revalued
+mod Remainders
+mod Solving

@@ -1,0 +1,29 @@
+use Rattle.std.proofs.Common.{◌≡◌, All, map, ap, sym, subst, ◌∙◌}
+use Rattle.std.proofs.lemmas.Result.{IfOk-weaker}
+use Rattle.sparse_base.specs.CooPlain.{plain_of_coo}
+use Rattle.sparse_c_views.specs.Elements.{element_of}
+use Rattle.mtxkit_commands.proofs.Revalued.{length-revalued, plain-revalued}
+use Rattle.mtxkit_commands.proofs.lists.integers_of.Goals as goal
+
+pub with_values-requires : goal.with_values-requires
+with_values-requires g c =
+    let R = g.T.Ring.ring in
+    let value = g.T.Ring.value in
+    length-revalued c.args.list.now c.in_ok-integers.integers.items R (element_of R) value
+    (c.in_ok-integers.ensures.meant ∙ ap (map value) c.values.ensures)
+
+pub returns-clause-plain : goal.returns-clause-plain
+returns-clause-plain g c =
+    let R = g.T.Ring.ring in
+    let value = g.T.Ring.value in
+    let meant = plain-revalued c.args.list.now c.in_ok-integers.integers.items R (element_of R)
+    value (c.in_ok-integers.ensures.meant ∙ ap (map value) c.values.ensures) in
+    IfOk-weaker c.with_values.result _ _ (λ m is. ap (plain_of_coo R (element_of R)) is ∙ meant)
+    c.with_values.ensures.list
+
+pub returns-clause-reduced : goal.returns-clause-reduced
+returns-clause-reduced g c =
+    let reduced = g.T.Residues.reduced in
+    IfOk-weaker c.with_values.result _ _
+    (λ m is. subst (All (λ z. reduced z ≡ z)) (sym is) c.in_ok-integers.ensures.reduced)
+    c.with_values.ensures.values

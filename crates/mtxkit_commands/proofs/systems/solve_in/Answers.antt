@@ -1,0 +1,34 @@
+use Rattle.std.proofs.Common.{Err, ap, sym, subst, ◌∙◌}
+use Rattle.sparse_algebra.specs.Plain.{Plain}
+use Rattle.sparse_base.specs.CooPlain.{plain_of_coo}
+use Rattle.mtxkit_commands.specs.Systems.{plain_of_integers, IsSolved}
+use Rattle.mtxkit_commands.proofs.Solving.{product-same, refused}
+use Rattle.mtxkit_commands.proofs.systems.solve_in.Goals as goal
+
+pub returns-in-Ok : goal.returns-in-Ok
+returns-in-Ok g c =
+    let R = g.T.Ring.ring in
+    let value = g.T.Ring.value in
+    let a = c.in_ok-a.ensures in
+    let b = c.in_ok-b.ensures in
+    let x = c.in_ok-integers_of-in-Ok.ensures.plain in
+    record {
+      rows = ap (λ (p : Plain R). p.rows) x ∙ c.in-Ok.ensures.rows ∙ ap (λ (p : Plain R). p.cols) a;
+      cols = ap (λ (p : Plain R). p.cols) x ∙ c.in-Ok.ensures.cols ∙ ap (λ (p : Plain R). p.cols) b;
+      product = product-same R (plain_of_coo R value c.in_ok-a.a)
+          (plain_of_integers R c.args.a.now) (plain_of_coo R value c.in-Ok.x)
+          (plain_of_integers R c.in_ok-integers_of-in-Ok.field-0)
+          (plain_of_coo R value c.in_ok-b.b) (plain_of_integers R c.args.b.now) a (sym x) b
+          c.in-Ok.ensures.solved;
+      values = c.in_ok-integers_of-in-Ok.ensures.reduced;
+    }
+
+pub returns : goal.returns
+returns g c =
+    let R = g.T.Ring.ring in
+    let value = g.T.Ring.value in
+    let reduced = g.T.Residues.reduced in
+    subst (λ f. IsSolved R value reduced c.args.a.now c.args.b.now (Err f))
+    (sym c.system_fault.ensures)
+    (refused R value reduced c.args.a.now c.args.b.now (plain_of_coo R value c.in_ok-a.a)
+    c.in_ok-a.ensures c.in-Err.error c.in-Err.ensures.unsymmetric c.in-Err.ensures.singular)

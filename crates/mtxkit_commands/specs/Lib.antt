@@ -1,0 +1,5 @@
+pub mod Rings
+pub mod Systems
+pub mod Commands
+pub mod Inputs
+pub mod SystemErrors

@@ -1,0 +1,155 @@
+//! From the program's arguments to its exit status.
+
+ghost use Rattle.std.specs.Prelude.{◌≡◌, ◌≤◌, IfOk, IfErr, IsTrue, Err};
+ghost use Rattle.std.specs.IoError.{error_kind};
+ghost use Rattle.std.specs.Process.{exit_status};
+ghost use Rattle.mtxkit_texts.specs.Statuses.{status_of};
+ghost use Rattle.mtxkit_texts.specs.declared.failure.Failure.TheVariants.{OutOfMemory};
+ghost use Rattle.mtxkit_commands.specs.Inputs.{argument_fault};
+
+use crate::cli::{finish, report, run};
+use crate::words::parse;
+use mtxkit_texts::Failure;
+use sparse_io::{Out, Sink, write_all_to};
+use std::alloc::Global;
+use std::env::Args;
+use std::io;
+use std::process::ExitCode;
+use std::rt::Files;
+
+/// Runs the command that the arguments give over the streams, and returns the exit status.
+///
+/// The first argument is the program's name. An argument that is not UTF-8 is wrong usage; an allocation failure while
+/// the arguments are read is reported as one of the command. Help is written to `stdout`. At status 0 the output was
+/// flushed, and a failed flush is reported as a failed write.
+pub fn answer<R, I, W, E>(
+    rt: &R,
+    arguments: io::Result<Args>,
+    stdin: I,
+    stdout: W,
+    stderr: E,
+) -> ExitCode
+where
+    R: Files + AllocGlobal,
+    I: io::Read + Drop,
+    W: io::Write + Drop,
+    E: io::Write + Drop,
+    ensures status { exit_status result ≤ 2 }
+    ensures unread { IfErr arguments
+        (λ e. exit_status result ≡ status_of (argument_fault (error_kind e))) }
+{
+    let mut stdin = stdin;
+    let mut out = Out::new(stdout);
+    let mut err = Out::new(stderr);
+    exit_code(obey(rt, arguments, &mut stdin, &mut out, &mut err))
+}
+
+// The exit status as the runtime takes it.
+fn exit_code(status: u8) -> ExitCode
+    ensures { exit_status result ≡ status }
+{
+    ExitCode::from(status)
+}
+
+// Runs the command that the arguments give, reports a failure, and returns the status.
+fn obey<R, I, W, E>(
+    rt: &R,
+    arguments: io::Result<Args>,
+    stdin: &mut I,
+    out: &mut Out<W>,
+    err: &mut Out<E>,
+) -> u8
+where
+    R: Files + AllocGlobal,
+    I: io::Read,
+    W: io::Write,
+    E: io::Write,
+    ensures status { result ≤ 2 }
+    ensures flushed { result ≡ 0 → IsTrue out.new.flushed }
+    ensures unread { IfErr arguments (λ e. result ≡ status_of (argument_fault (error_kind e))) }
+{
+    match given_words(rt.alloc(), arguments) {
+        Ok(words) => obey_words(rt, &words, stdin, out, err),
+        Err(failure) => report(rt.alloc(), failure, err),
+    }
+}
+
+// Runs the command that these words give, and flushes its output at status 0.
+fn obey_words<R, I, W, E>(
+    rt: &R,
+    words: &[String],
+    stdin: &mut I,
+    out: &mut Out<W>,
+    err: &mut Out<E>,
+) -> u8
+where
+    R: Files + AllocGlobal,
+    I: io::Read,
+    W: io::Write,
+    E: io::Write,
+    ensures status { result ≤ 2 }
+    ensures flushed { result ≡ 0 → IsTrue out.new.flushed }
+{
+    let status = match parse(rt.alloc(), words) {
+        Ok(Some(command)) => run(rt, command, stdin, out, err),
+        Ok(None) => report(rt.alloc(), Failure::Usage, err),
+        Err(error) => explain(rt.alloc(), &error, out, err),
+    };
+    match status {
+        0 => finish(rt.alloc(), out, err),
+        status => status,
+    }
+}
+
+// Writes what `clap` answers: help to `out`, with status 0, and a mistake to `err`.
+fn explain<W: Sink, E: Sink>(alloc: Global, error: &clap::Error, out: &mut W, err: &mut E) -> u8
+    ensures { result ≤ 2 }
+{
+    let Ok(text) = format!(in alloc; "{error}") else {
+        return report(alloc, Failure::OutOfMemory, err);
+    };
+    if error.kind() == clap::error::ErrorKind::OutOfMemory {
+        return report(alloc, Failure::OutOfMemory, err);
+    }
+    if error.use_stderr() {
+        // An error in writing the text is ignored.
+        let _ = write_all_to(err, text.as_bytes());
+        return 2;
+    }
+    match write_all_to(out, text.as_bytes()) {
+        Ok(()) => 0,
+        Err(kind) => report(alloc, Failure::Write(kind), err),
+    }
+}
+
+// Returns the arguments, if they were read.
+fn given_words(alloc: Global, arguments: io::Result<Args>) -> Result<Vec<String>, Failure>
+    ensures refused { IfOk arguments (λ _. IfErr result (λ e. e ≡ OutOfMemory)) }
+    ensures unread { IfErr arguments (λ e. result ≡ Err (argument_fault (error_kind e))) }
+{
+    match arguments {
+        Ok(arguments) => listed(alloc, arguments),
+        Err(error) => Err(unread_arguments(error.kind())),
+    }
+}
+
+// Returns the arguments in order.
+fn listed(alloc: Global, arguments: Args) -> Result<Vec<String>, Failure>
+    ensures { IfErr result (λ e. e ≡ OutOfMemory) }
+{
+    let mut words = Vec::with_capacity(alloc, arguments.len())?;
+    for word in arguments {
+        words.push(word)?;
+    }
+    Ok(words)
+}
+
+// The failure of arguments that cannot be read.
+fn unread_arguments(kind: io::ErrorKind) -> Failure
+    ensures { result ≡ argument_fault kind }
+{
+    match kind {
+        io::ErrorKind::OutOfMemory => Failure::OutOfMemory,
+        _ => Failure::Usage,
+    }
+}

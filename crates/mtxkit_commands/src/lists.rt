@@ -1,0 +1,82 @@
+//! Lists of integers, and of the elements that they mean in a ring.
+
+ghost use Rattle.std.specs.Prelude.{◌≡◌, All, IfOk, length, map};
+ghost use Rattle.sparse_base.specs.Coo.{coo_of, zip_triplets};
+ghost use Rattle.sparse_base.specs.CooPlain.{plain_of_coo};
+ghost use Rattle.sparse_c_views.specs.Elements.{element_of};
+ghost use Rattle.mtxkit_commands.specs.Systems.{plain_of_integers};
+
+use crate::residues::Residues;
+use sparse_base::coo::CooMatrix;
+use std::alloc::{AllocError, Global};
+
+/// Returns the list of the elements that integers mean.
+pub fn elements_of<T: Residues>(
+    alloc: Global,
+    list: &CooMatrix<i128>,
+) -> Result<CooMatrix<T>, AllocError>
+    ensures { IfOk result (λ m. plain_of_coo T.ring T.value m
+        ≡ plain_of_integers T.ring list.now) }
+{
+    let elements = each_element(alloc, list.values())?;
+    with_values(alloc, list, elements)
+}
+
+/// Returns the list of the reduced integers that mean elements.
+pub fn integers_of<T: Residues>(
+    alloc: Global,
+    list: &CooMatrix<T>,
+) -> Result<CooMatrix<i128>, AllocError>
+    ensures plain { IfOk result (λ m. plain_of_integers T.ring m
+        ≡ plain_of_coo T.ring T.value list.now) }
+    ensures reduced { IfOk result
+        (λ m. All (λ z. T.reduced z ≡ z) (map (λ t. t.2) m.triplets)) }
+{
+    let integers = each_integer(alloc, list.values())?;
+    with_values(alloc, list, integers)
+}
+
+// Returns the element that each integer means.
+fn each_element<T: Residues>(alloc: Global, integers: &[i128]) -> Result<Vec<T>, AllocError>
+    ensures { IfOk result
+        (λ elements. map T.value elements.items ≡ map (element_of T.ring) integers.now) }
+{
+    let mut elements = Vec::with_capacity(alloc, integers.len())?;
+    for integer in integers {
+        elements.push(T::of_integer(*integer))?;
+    }
+    Ok(elements)
+}
+
+// Returns the reduced integer that means each element.
+fn each_integer<T: Residues>(alloc: Global, elements: &[T]) -> Result<Vec<i128>, AllocError>
+    ensures meant { IfOk result
+        (λ integers. map (element_of T.ring) integers.items ≡ map T.value elements.now) }
+    ensures reduced { IfOk result (λ integers. All (λ z. T.reduced z ≡ z) integers.items) }
+{
+    let mut integers = Vec::with_capacity(alloc, elements.len())?;
+    for element in elements {
+        integers.push(element.integer())?;
+    }
+    Ok(integers)
+}
+
+// Returns a list with other values.
+fn with_values<S: Copy, T: Copy>(
+    alloc: Global,
+    list: &CooMatrix<S>,
+    values: Vec<T>,
+) -> Result<CooMatrix<T>, AllocError>
+    requires { length values.items ≡ length list.now.triplets }
+    ensures list { IfOk result (λ m. m ≡ coo_of list.now.nrows list.now.ncols
+        (zip_triplets (map (λ t. t.0) list.now.triplets) (map (λ t. t.1) list.now.triplets)
+        values.items)) }
+    ensures values { IfOk result (λ m. map (λ t. t.2) m.triplets ≡ values.items) }
+{
+    let rows = Vec::from_slice(alloc, list.row_indices())?;
+    let cols = Vec::from_slice(alloc, list.col_indices())?;
+    match CooMatrix::try_from_triplets(list.nrows(), list.ncols(), rows, cols, values) {
+        Ok(list) => Ok(list),
+        Err(_) => unreachable!(),
+    }
+}

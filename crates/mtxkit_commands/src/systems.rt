@@ -1,0 +1,182 @@
+//! Systems of matrices that texts mean.
+
+ghost use Rattle.std.specs.Prelude.{◌≡◌, IfOk, IfErr, string_bytes};
+ghost use Rattle.mtxkit_commands.specs.Systems.{IsSolved, IsTested, IsSolvedBy, IsTestedBy};
+ghost use Rattle.mtxkit_commands.specs.Systems.{MeansIntegers, WritesSolution, MeansUnsymmetric};
+ghost use Rattle.mtxkit_commands.specs.Systems.{MeansUnfactored, SaysProduct, MeansOther};
+ghost use Rattle.mtxkit_texts.specs.declared.failure.Failure.TheVariants.{NotSymmetric, NoFactors};
+ghost use Rattle.mtxkit_texts.specs.declared.failure.Failure.TheVariants.{NotSolution};
+ghost use Rattle.mtxkit_commands.specs.SystemErrors.{system_fault};
+
+use crate::lists::{elements_of, integers_of};
+use crate::residues::Residues;
+use mtxkit_systems::{SystemError, is_solution, solve_listed};
+use mtxkit_texts::{Failure, unread};
+use sparse_algebra::scalar::{Mod, W64};
+use sparse_base::coo::CooMatrix;
+use sparse_io::{load_coo_from_matrix_market_str, save_to_matrix_market_str};
+use std::alloc::Global;
+
+/// Returns the text of the matrix X for which A X = B, where A and B are the matrices that two texts mean and A is
+/// symmetric. X is written column by column, without its zeros.
+///
+/// The integers are taken modulo a number, or modulo 2^64 if none is given.
+///
+/// # Errors
+///
+/// Returns `Input` or `NotCarried` if a text does not mean a matrix of integers, `Modulus` if the modulus is none of
+/// those that the program is built for, `Shapes` if A is not square or B has another number of rows, `NotSymmetric` if A
+/// is not symmetric, and `NoFactors` if A has no factorisation L D L^T. Otherwise fails only if an allocation fails.
+pub fn solve_text(alloc: Global, modulus: Option<u64>, a: &str, b: &str) -> Result<String, Failure>
+    ensures written { IfOk result
+        (λ written. WritesSolution modulus a.now b.now (string_bytes written)) }
+    ensures unsymmetric { IfErr result (λ e. e ≡ NotSymmetric → MeansUnsymmetric modulus a.now) }
+    ensures singular { IfErr result (λ e. e ≡ NoFactors → MeansUnfactored modulus a.now) }
+{
+    let a = read_integers(alloc, 1, a)?;
+    let b = read_integers(alloc, 2, b)?;
+    let x = solve_modulo(alloc, modulus, &a, &b)?;
+    Ok(save_to_matrix_market_str(alloc, &x)?)
+}
+
+/// Returns a line that says that A X = B, where A, X and B are the matrices that three texts mean.
+///
+/// The integers are taken modulo a number, or modulo 2^64 if none is given.
+///
+/// # Errors
+///
+/// Returns `Input` or `NotCarried` if a text does not mean a matrix of integers, `Modulus` if the modulus is none of
+/// those that the program is built for, `Shapes` if the shapes do not fit, and `NotSolution` if A X is another matrix.
+/// Otherwise fails only if an allocation fails.
+pub fn check_text(
+    alloc: Global,
+    modulus: Option<u64>,
+    a: &str,
+    x: &str,
+    b: &str,
+) -> Result<String, Failure>
+    ensures said { IfOk result
+        (λ written. SaysProduct modulus a.now x.now b.now (string_bytes written)) }
+    ensures other { IfErr result
+        (λ e. e ≡ NotSolution → MeansOther modulus a.now x.now b.now) }
+{
+    let a = read_integers(alloc, 1, a)?;
+    let x = read_integers(alloc, 2, x)?;
+    let b = read_integers(alloc, 3, b)?;
+    if !is_solution_modulo(alloc, modulus, &a, &x, &b)? {
+        return Err(Failure::NotSolution);
+    }
+    Ok(String::from_str(alloc, "A X = B\n")?)
+}
+
+// Reads the integers of a text.
+fn read_integers(alloc: Global, number: usize, text: &str) -> Result<CooMatrix<i128>, Failure>
+    ensures meant { IfOk result (MeansIntegers text.now) }
+    ensures symmetric { IfErr result (λ e. e ≡ NotSymmetric → ⊥) }
+    ensures factored { IfErr result (λ e. e ≡ NoFactors → ⊥) }
+    ensures product { IfErr result (λ e. e ≡ NotSolution → ⊥) }
+{
+    match load_coo_from_matrix_market_str::<i128>(alloc, text) {
+        Ok(integers) => Ok(integers),
+        Err(error) => Err(unread(number, error.kind(), text)),
+    }
+}
+
+// Returns the matrix X for which A X = B, modulo 2^64 or one of the moduli that the program is built for.
+fn solve_modulo(
+    alloc: Global,
+    modulus: Option<u64>,
+    a: &CooMatrix<i128>,
+    b: &CooMatrix<i128>,
+) -> Result<CooMatrix<i128>, Failure>
+    ensures { IsSolvedBy modulus a.now b.now result }
+{
+    match modulus {
+        None => solve_in::<W64>(alloc, a, b),
+        Some(2) => solve_in::<Mod<2>>(alloc, a, b),
+        Some(3) => solve_in::<Mod<3>>(alloc, a, b),
+        Some(5) => solve_in::<Mod<5>>(alloc, a, b),
+        Some(7) => solve_in::<Mod<7>>(alloc, a, b),
+        Some(11) => solve_in::<Mod<11>>(alloc, a, b),
+        Some(13) => solve_in::<Mod<13>>(alloc, a, b),
+        Some(101) => solve_in::<Mod<101>>(alloc, a, b),
+        Some(65537) => solve_in::<Mod<65537>>(alloc, a, b),
+        Some(998244353) => solve_in::<Mod<998244353>>(alloc, a, b),
+        Some(1000000007) => solve_in::<Mod<1000000007>>(alloc, a, b),
+        Some(2305843009213693951) => solve_in::<Mod<2305843009213693951>>(alloc, a, b),
+        Some(_) => Err(Failure::Modulus),
+    }
+}
+
+// Returns whether A X = B, modulo 2^64 or one of the moduli that the program is built for.
+fn is_solution_modulo(
+    alloc: Global,
+    modulus: Option<u64>,
+    a: &CooMatrix<i128>,
+    x: &CooMatrix<i128>,
+    b: &CooMatrix<i128>,
+) -> Result<bool, Failure>
+    ensures { IsTestedBy modulus a.now x.now b.now result }
+{
+    match modulus {
+        None => is_solution_in::<W64>(alloc, a, x, b),
+        Some(2) => is_solution_in::<Mod<2>>(alloc, a, x, b),
+        Some(3) => is_solution_in::<Mod<3>>(alloc, a, x, b),
+        Some(5) => is_solution_in::<Mod<5>>(alloc, a, x, b),
+        Some(7) => is_solution_in::<Mod<7>>(alloc, a, x, b),
+        Some(11) => is_solution_in::<Mod<11>>(alloc, a, x, b),
+        Some(13) => is_solution_in::<Mod<13>>(alloc, a, x, b),
+        Some(101) => is_solution_in::<Mod<101>>(alloc, a, x, b),
+        Some(65537) => is_solution_in::<Mod<65537>>(alloc, a, x, b),
+        Some(998244353) => is_solution_in::<Mod<998244353>>(alloc, a, x, b),
+        Some(1000000007) => is_solution_in::<Mod<1000000007>>(alloc, a, x, b),
+        Some(2305843009213693951) => is_solution_in::<Mod<2305843009213693951>>(alloc, a, x, b),
+        Some(_) => Err(Failure::Modulus),
+    }
+}
+
+// Returns the matrix X for which A X = B in this ring.
+fn solve_in<T: Residues>(
+    alloc: Global,
+    a: &CooMatrix<i128>,
+    b: &CooMatrix<i128>,
+) -> Result<CooMatrix<i128>, Failure>
+    ensures { IsSolved T.ring T.value T.reduced a.now b.now result }
+{
+    let a: CooMatrix<T> = elements_of(alloc, a)?;
+    let b: CooMatrix<T> = elements_of(alloc, b)?;
+    match solve_listed(alloc, &a, &b) {
+        Ok(x) => Ok(integers_of(alloc, &x)?),
+        Err(error) => Err(system_fault(error)),
+    }
+}
+
+// Returns whether A X = B in this ring.
+fn is_solution_in<T: Residues>(
+    alloc: Global,
+    a: &CooMatrix<i128>,
+    x: &CooMatrix<i128>,
+    b: &CooMatrix<i128>,
+) -> Result<bool, Failure>
+    ensures { IsTested T.ring a.now x.now b.now result }
+{
+    let a: CooMatrix<T> = elements_of(alloc, a)?;
+    let x: CooMatrix<T> = elements_of(alloc, x)?;
+    let b: CooMatrix<T> = elements_of(alloc, b)?;
+    match is_solution(alloc, &a, &x, &b) {
+        Ok(yes) => Ok(yes),
+        Err(error) => Err(system_fault(error)),
+    }
+}
+
+// Returns the failure of a command whose system has this error.
+fn system_fault(error: SystemError) -> Failure
+    ensures { result ≡ system_fault error }
+{
+    match error {
+        SystemError::Shapes => Failure::Shapes,
+        SystemError::NotSymmetric => Failure::NotSymmetric,
+        SystemError::NoFactors => Failure::NoFactors,
+        SystemError::OutOfMemory => Failure::OutOfMemory,
+    }
+}
