@@ -6,11 +6,5 @@ use std::env;
 use std::process::ExitCode;
 
 fn main(rt: HostRuntime) -> ExitCode {
-    answer(
-        &rt,
-        env::args(&rt),
-        rt.stdin(),
-        rt.stdout(),
-        rt.stderr(),
-    )
+    answer(&rt, env::args(&rt), rt.stdin(), rt.stdout(), rt.stderr())
 }

@@ -8,8 +8,7 @@ const SYMMETRIC: &str =
     "%%MatrixMarket matrix coordinate integer symmetric\n3 3 4\n1 1 2\n2 1 -1\n2 2 0\n3 2 5\n";
 
 // Two places in the first row, one of them named twice.
-const PATTERN: &str =
-    "%%MatrixMarket matrix coordinate pattern general\n2 3 3\n1 1\n1 3\n1 1\n";
+const PATTERN: &str = "%%MatrixMarket matrix coordinate pattern general\n2 3 3\n1 1\n1 3\n1 1\n";
 
 /// What commands answer to a text on standard input.
 pub const CASES: &[Case] = &[
@@ -74,11 +73,7 @@ rows by their places:
     (&["spy", "-"], SYMMETRIC, "P1\n3 3\n110\n111\n010\n"),
     (&["spy", "-"], PATTERN, "P1\n3 2\n101\n000\n"),
     // Rows and columns 1 and 2 lie in the first of two cells, and no place lies at (3, 3).
-    (
-        &["spy", "--size", "2", "-"],
-        SYMMETRIC,
-        "P1\n2 2\n11\n10\n",
-    ),
+    (&["spy", "--size", "2", "-"], SYMMETRIC, "P1\n2 2\n11\n10\n"),
     (&["spy", "-", "--text"], SYMMETRIC, "██▄\n ▀ \n"),
     (
         &["field", "integer", "-"],

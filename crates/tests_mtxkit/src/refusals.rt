@@ -48,7 +48,12 @@ pub const REFUSALS: &[Refusal] = &[
         1,
         "mtxkit: write failed\n",
     ),
-    (&["rank", "-"], ONE, 2, "error: unrecognized subcommand 'rank'\n"),
+    (
+        &["rank", "-"],
+        ONE,
+        2,
+        "error: unrecognized subcommand 'rank'\n",
+    ),
     (
         &["spy", "-", "--size", "0"],
         ONE,
