@@ -5,8 +5,8 @@ use Rattle.std.specs.Int.{int_rem_euclid}
 use Rattle.std.proofs.Math.Nat.{mod-lt, mod-eq_of_lt, mod-mod, mod_self, mod-add-mod}
 use Rattle.sparse_algebra.proofs.Cases.{lt_suc_cases}
 use Rattle.sparse_algebra.specs.Residues.{residue, residues, same_class}
-use Rattle.sparse_c_views.specs.Elements.{element_of}
-use Rattle.sparse_c_views.proofs.Elements.{times_one-residue}
+use Rattle.sparse_algebra.specs.Integers.{element_of}
+use Rattle.sparse_algebra.proofs.Integers.{times_one-residue}
 
 module _ (m : ℕ) (some : 0 < m) where
   -- the negative of a remainder and one

@@ -7,7 +7,7 @@ use Rattle.sparse_algebra.specs.Plain.{plain_of_triplets}
 use Rattle.sparse_base.specs.Coo.{Coo, IsInside, AreParts, coo_of, zip_triplets}
 use Rattle.sparse_base.specs.CooPlain.{plain_of_coo}
 use Rattle.sparse_base.proofs.TripletRuns.{zip-split}
-use Rattle.sparse_c_views.proofs.Meanings.{list-meant, same_length}
+use Rattle.sparse_base.proofs.Meanings.{list-meant, same_length}
 
 module _ {X Y : Type 0} (list : Coo Y) (vs : List X) where
   -- the list with these values

@@ -34,6 +34,6 @@ abbrev pub scalar_of : Option ℕ → Type 0
 scalar_of None = W64
 scalar_of (Some m) = Mod m
 
-abbrev pub value_of : (m : Option ℕ) → scalar_of m → (ring_of m).Carrier
-value_of None x = value64 x
-value_of (Some m) x = mod_value x
+abbrev pub ring_value : (m : Option ℕ) → scalar_of m → (ring_of m).Carrier
+ring_value None x = value64 x
+ring_value (Some m) x = mod_value x

@@ -7,7 +7,7 @@ use Rattle.sparse_algebra.specs.Algebra.{CommRing}
 use Rattle.sparse_algebra.specs.Plain.{Plain, plain_product}
 use Rattle.sparse_base.specs.Coo.{Coo}
 use Rattle.sparse_base.specs.CooPlain.{plain_of_coo}
-use Rattle.sparse_c_views.specs.Elements.{element_of}
+use Rattle.sparse_algebra.specs.Integers.{element_of}
 use Rattle.sparse_io.specs.Written.{text_of}
 use Rattle.sparse_market_scalar.specs.ScalarTypes.{signed_scalar}
 use Rattle.sparse_parser.specs.Meaning.{Means}
@@ -17,7 +17,7 @@ use Rattle.mtxkit_systems.specs.Systems.{HasNoFactorisation}
 use Rattle.mtxkit_texts.specs.declared.failure.Failure.{Failure}
 use Rattle.mtxkit_texts.specs.declared.failure.Failure.TheVariants.{NotSymmetric, NoFactors}
 use Rattle.mtxkit_texts.specs.declared.failure.Failure.TheVariants.{NotSolution}
-use Rattle.mtxkit_commands.specs.Rings.{ring_of, reduced_by, value_of}
+use Rattle.mtxkit_commands.specs.Rings.{ring_of, reduced_by, ring_value}
 
 -- ---- lists of integers, each of which means an element of a ring: that many times one
 
@@ -54,7 +54,7 @@ module _ (R : CommRing) where
 -- ---- by the modulus that a command gives, if any
 
 abbrev pub IsSolvedBy : Option ℕ → Coo ℤ → Coo ℤ → Result (Coo ℤ) Failure → Type 0
-IsSolvedBy m a b solved = IsSolved (ring_of m) (value_of m) (reduced_by m) a b solved
+IsSolvedBy m a b solved = IsSolved (ring_of m) (ring_value m) (reduced_by m) a b solved
 
 abbrev pub IsTestedBy : Option ℕ → Coo ℤ → Coo ℤ → Coo ℤ → Result Bool Failure → Type 0
 IsTestedBy m a x b tested = IsTested (ring_of m) a x b tested
@@ -83,7 +83,7 @@ MeansUnsymmetric m text = (a : Coo ℤ) × MeansIntegers text a
 -- the matrix that the text means has no factorisation
 abbrev pub MeansUnfactored : Option ℕ → List ℕ → Type 0
 MeansUnfactored m text = (a : Coo ℤ) × MeansIntegers text a
-    × HasNoFactorisation (ring_of m) (value_of m) (plain_of_integers (ring_of m) a)
+    × HasNoFactorisation (ring_of m) (ring_value m) (plain_of_integers (ring_of m) a)
 
 -- of the matrices that three texts mean, A X = B
 abbrev pub MeansProduct : Option ℕ → List ℕ → List ℕ → List ℕ → Type 0

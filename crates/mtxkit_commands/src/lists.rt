@@ -3,7 +3,7 @@
 ghost use Rattle.std.specs.Prelude.{◌≡◌, All, IfOk, length, map};
 ghost use Rattle.sparse_base.specs.Coo.{coo_of, zip_triplets};
 ghost use Rattle.sparse_base.specs.CooPlain.{plain_of_coo};
-ghost use Rattle.sparse_c_views.specs.Elements.{element_of};
+ghost use Rattle.sparse_algebra.specs.Integers.{element_of};
 ghost use Rattle.mtxkit_commands.specs.Systems.{plain_of_integers};
 
 use crate::residues::Residues;

@@ -2,7 +2,7 @@
 
 ghost use Rattle.std.specs.Prelude.{◌≡◌, ◌<◌, ◌≤◌, ◌^◌, ℤ};
 ghost use Rattle.sparse_algebra.specs.Moduli.{modulus};
-ghost use Rattle.sparse_c_views.specs.Elements.{element_of};
+ghost use Rattle.sparse_algebra.specs.Integers.{element_of};
 ghost use Rattle.mtxkit_commands.specs.Rings.{remainder, reduced64, reduced_modulo};
 
 use sparse_algebra::scalar::{Mod, Units, W64};

@@ -10,3 +10,4 @@ pub mod NewtonSteps
 mod OddNumbers
 pub mod ModClasses
 mod Euclid
+pub mod Integers

@@ -4,6 +4,7 @@ pub mod Classes
 pub mod Residues
 pub mod Wrapping
 pub mod Numbers
+pub mod Integers
 pub mod Plain
 pub mod RingMaps
 pub mod Whole

@@ -2,3 +2,4 @@ pub mod TripletLists
 pub mod TripletRuns
 pub mod DenseLemmas
 pub mod BlockLemmas
+pub mod Meanings

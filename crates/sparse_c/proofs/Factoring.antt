@@ -14,7 +14,7 @@ use Rattle.sparse_pattern.specs.Raw.{Raw}
 use Rattle.sparse_solve.specs.Solutions.{HasSameValues}
 use Rattle.sparse_c.specs.Factors.{first_elements, AreFactors, WritesFactors}
 use Rattle.sparse_c_views.specs.Arrays.{plain_by_cols, Room, HoldsRows}
-use Rattle.sparse_c_views.specs.Elements.{times_one, element_of}
+use Rattle.sparse_algebra.specs.Integers.{times_one, element_of}
 
 -- the factors of a matrix are those of the arrays that it was made of
 module _ (R : CommRing) {T : Type 0} (f : T → R.Carrier) (z : T) (a : Compressed ℤ) (m : Compressed T)

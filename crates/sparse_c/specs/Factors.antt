@@ -7,7 +7,7 @@ use Rattle.sparse_factor.specs.Fill.{InFill, UpperBase}
 use Rattle.sparse_ldl.specs.Factorisations.{IsFactorisation}
 use Rattle.sparse_c.specs.Symmetric.{symmetric_by_cols, HasNoFactors}
 use Rattle.sparse_c_views.specs.Arrays.{Room, HoldsCols}
-use Rattle.sparse_c_views.specs.Elements.{element_of}
+use Rattle.sparse_algebra.specs.Integers.{element_of}
 use Rattle.sparse_c_views.specs.Refused.{IsFaultOf, IsTooSmall}
 use Rattle.sparse_c_views.specs.declared.refusal.Refusal.{Refusal}
 use Rattle.sparse_c_views.specs.declared.refusal.Refusal.TheVariants.{Singular}

@@ -7,7 +7,7 @@ use Rattle.sparse_cs.specs.Compressed.{Compressed, IsSound}
 use Rattle.sparse_solve.specs.Solutions.{plain_lower, IsSingular, IsSolution}
 use Rattle.sparse_c_views.specs.Arrays.{plain_by_cols, plain_by_rows, plain_by_values}
 use Rattle.sparse_c_views.specs.Arrays.{Room, HoldsRows}
-use Rattle.sparse_c_views.specs.Elements.{element_of}
+use Rattle.sparse_algebra.specs.Integers.{element_of}
 use Rattle.sparse_c_views.specs.Refused.{IsFaultOf, IsFaultOfSystem, IsTooSmall}
 use Rattle.sparse_c_views.specs.declared.refusal.Refusal.{Refusal}
 use Rattle.sparse_c_views.specs.declared.refusal.Refusal.TheVariants.{Singular}

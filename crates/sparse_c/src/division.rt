@@ -12,7 +12,7 @@ ghost use Rattle.sparse_c.specs.Moduli.{moduli, IsFaultModulo, IsNoneOf};
 ghost use Rattle.sparse_c.specs.Solved.{IsFaultOfQuotient, IsQuotientBy, IsQuotientTooSmall};
 ghost use Rattle.sparse_c.specs.Solved.{WritesQuotient};
 ghost use Rattle.sparse_c_views.specs.Arrays.{plain_by_rows, ring64, room_of};
-ghost use Rattle.sparse_c_views.specs.Elements.{element_of};
+ghost use Rattle.sparse_algebra.specs.Integers.{element_of};
 ghost use Rattle.sparse_c_views.specs.Reduced.{AreReduced};
 ghost use Rattle.sparse_c_views.specs.Refused.{IsMemoryOr, IsRefusedFor};
 ghost use Rattle.sparse_c_views.specs.Statuses.{number_of};

@@ -11,7 +11,7 @@ ghost use Rattle.sparse_c.specs.Factors.{AreFactors, AreFactorsTooLong, IsFaultO
 ghost use Rattle.sparse_c.specs.Factors.{WritesFactors};
 ghost use Rattle.sparse_c.specs.Moduli.{moduli, IsFaultModulo, IsNoneOf};
 ghost use Rattle.sparse_c_views.specs.Arrays.{ring64, room_of, HoldsRows};
-ghost use Rattle.sparse_c_views.specs.Elements.{element_of};
+ghost use Rattle.sparse_algebra.specs.Integers.{element_of};
 ghost use Rattle.sparse_c_views.specs.Reduced.{AreReduced, FirstAre};
 ghost use Rattle.sparse_c_views.specs.Refused.{IsMemoryOr, IsRefusedFor, IsTooSmall};
 ghost use Rattle.sparse_c_views.specs.Statuses.{number_of};

@@ -8,8 +8,9 @@ use Rattle.sparse_cs.specs.Compressed.{Compressed, compressed_of, arrays_of, IsS
 use Rattle.sparse_cs.specs.PlainOfLanes.{plain_of_rows}
 use Rattle.sparse_c_views.specs.Arrays.{plain_by_rows, plain_by_values, room_of, written_in}
 use Rattle.sparse_c_views.specs.Arrays.{HoldsDense, HoldsRows}
-use Rattle.sparse_c_views.specs.Elements.{element_of}
-use Rattle.sparse_c_views.proofs.Meanings.{dense-meant, places_of-rows, rows-meant, same_length}
+use Rattle.sparse_algebra.specs.Integers.{element_of}
+use Rattle.sparse_base.proofs.Meanings.{dense-meant, same_length}
+use Rattle.sparse_c_views.proofs.Meanings.{places_of-rows, rows-meant}
 
 module _ (R : CommRing) {T : Type 0} (f : T → R.Carrier) where
   -- the arrays begin with those of a matrix

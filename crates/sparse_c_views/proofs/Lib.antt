@@ -1,4 +1,3 @@
-pub mod Elements
 pub mod Holding
 pub mod Joining
 mod Listing

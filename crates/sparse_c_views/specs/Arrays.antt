@@ -10,7 +10,7 @@ use Rattle.sparse_base.specs.Dense.{dense_of}
 use Rattle.sparse_base.specs.DensePlain.{plain_of_dense}
 use Rattle.sparse_cs.specs.Compressed.{Compressed, arrays_of, IsSound}
 use Rattle.sparse_cs.specs.PlainOfLanes.{plain_of_rows, plain_of_cols}
-use Rattle.sparse_c_views.specs.Elements.{element_of}
+use Rattle.sparse_algebra.specs.Integers.{element_of}
 
 -- the arrays that C lends for a matrix, and the variable for its number of places
 pub record Room : Type 0 where

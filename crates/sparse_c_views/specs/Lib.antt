@@ -1,5 +1,4 @@
 pub mod Arrays
-pub mod Elements
 pub mod Lists
 pub mod Reduced
 pub mod Refused

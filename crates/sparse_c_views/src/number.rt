@@ -1,7 +1,7 @@
 //! Scalars that C shows as 64-bit integers.
 
 ghost use Rattle.std.specs.Prelude.{◌≡◌, ◌≤◌, ℤ};
-ghost use Rattle.sparse_c_views.specs.Elements.{element_of};
+ghost use Rattle.sparse_algebra.specs.Integers.{element_of};
 ghost use Rattle.sparse_c_views.specs.Reduced.{IsReduced};
 
 use sparse_algebra::scalar::{Mod, Ring, Units, W64};

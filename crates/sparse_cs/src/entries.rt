@@ -6,7 +6,7 @@ ghost use Rattle.sparse_cs.specs.StoredEntries.{IsEntryAt, IsEntryOf, IsInBounds
 ghost use Rattle.sparse_cs.specs.Lanes.{lane_at};
 
 use crate::CsMatrix;
-use crate::lane::{CsLane, LaneIndices, lane_bounds};
+use crate::lane::{CsLane, LaneIndices};
 use sparse_pattern::entry::SparseEntry;
 
 impl<T> CsMatrix<T> {
@@ -31,7 +31,7 @@ impl<T> CsMatrix<T> {
         ensures { result ≡ lane_at self.now major_index }
     {
         let pattern = self.pattern();
-        let (begin, end) = lane_bounds(pattern, major_index);
+        let (begin, end) = pattern.lane_bounds(major_index);
         CsLane::new(
             pattern.minor_dim(),
             LaneIndices::of_lane(pattern, major_index),

@@ -2,7 +2,8 @@
 
 ghost use Rattle.std.specs.Prelude.{◌≡◌, ◌<◌, ◌==◌, ⊤, length, position, IfSome};
 ghost use Rattle.std.specs.List.Sorted.{IsStrictlyIncreasing};
-ghost use Rattle.sparse_pattern.specs.Raw.{IsValidLane, lane_of, start_of, end_of};
+ghost use Rattle.sparse_pattern.specs.Raw.{lane_of};
+ghost use Rattle.sparse_cs.specs.StoredEntries.{place_of};
 ghost use Rattle.sparse_cs.specs.Lanes.{IsLaneEntryAt, IsLaneEntryOf, IsSoundLane, lane_parts};
 
 use sparse_algebra::learn;
@@ -71,15 +72,19 @@ impl<'a> LaneIndices<'a> {
     }
 }
 
-// Returns the positions where a lane begins and ends. `lane` must be within bounds.
-pub(crate) fn lane_bounds(pattern: &SparsityPattern, lane: usize) -> (usize, usize)
+/// Returns the position of a place among those of the pattern, or `None` if it is not stored. Binary search in the lane.
+///
+/// `lane` must be within bounds.
+pub fn position_of(pattern: &SparsityPattern, lane: usize, index: usize) -> Option<usize>
     requires { lane < pattern.now.major_dim }
-    ensures start { result.0 ≡ start_of pattern.now lane }
-    ensures end { result.1 ≡ end_of pattern.now lane }
-    ensures lane { IsValidLane pattern.now lane }
+    ensures position { result ≡ place_of pattern.now lane index }
+    ensures within { IfSome result (λ p. p < length pattern.now.indices) }
 {
-    let offsets = pattern.major_offsets();
-    (offsets[lane], offsets[lane + 1])
+    let (start, _) = pattern.lane_bounds(lane);
+    match LaneIndices::of_lane(pattern, lane).position_of(index) {
+        Some(at) => Some(start + at),
+        None => None,
+    }
 }
 
 impl<'a> Clone for LaneIndices<'a> {

@@ -9,7 +9,7 @@ ghost use Rattle.sparse_cs.specs.Left.{lent_lane, lanes_left, lane_values};
 ghost use Rattle.sparse_cs.specs.Writing.{LendsLane, LendsValues};
 
 use crate::CsMatrix;
-use crate::lane::{LaneIndices, lane_bounds};
+use crate::lane::LaneIndices;
 use sparse_pattern::pattern::SparsityPattern;
 use std::mem;
 
@@ -29,7 +29,7 @@ impl<T> CsMatrix<T> {
         ensures lane { lent_lane result ≡ lane_at self.old major_index }
         ensures sound { IsSound self.old }
     {
-        let (start, end) = lane_bounds(&self.sparsity_pattern, major_index);
+        let (start, end) = self.sparsity_pattern.lane_bounds(major_index);
         CsLaneMut {
             minor_dim: self.sparsity_pattern.minor_dim(),
             indices: LaneIndices::of_lane(&self.sparsity_pattern, major_index),

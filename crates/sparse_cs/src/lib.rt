@@ -20,7 +20,7 @@ mod unsorted;
 pub mod writing;
 mod zeros_identity;
 
-pub use lane::{CsLane, LaneIndices};
+pub use lane::{CsLane, LaneIndices, position_of};
 pub use lane_iter::CsLaneIter;
 pub use lane_iter_mut::{CsLaneIterMut, CsLaneMut};
 pub use sorted::SortedFault;

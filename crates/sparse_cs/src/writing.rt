@@ -1,14 +1,14 @@
 //! Mutable borrows of the values: all of them, or the value at one place.
 
-ghost use Rattle.std.specs.Prelude.{◌≡◌, ◌<◌, length, slice_index_or, IfSome};
+ghost use Rattle.std.specs.Prelude.{◌≡◌, ◌<◌, length, slice_index_or};
 ghost use Rattle.std.specs.Borrow.{sem};
-ghost use Rattle.sparse_cs.specs.StoredEntries.{IsInBounds, place_of};
+ghost use Rattle.sparse_cs.specs.StoredEntries.{IsInBounds};
 ghost use Rattle.sparse_cs.specs.Lanes.{lane_parts};
 ghost use Rattle.sparse_cs.specs.Writing.{LendsValues, LendsFound, LendsIndexed, LendsElement};
 ghost use Rattle.sparse_cs.specs.Writing.{IsFoundAt, IsEntryMutAt, IsLentEntryOf};
 
 use crate::CsMatrix;
-use crate::lane::{LaneIndices, lane_bounds};
+use crate::lane::{LaneIndices, position_of};
 use sparse_pattern::entry::{Found, Missing, SparseEntry, SparseEntryMut};
 use sparse_pattern::pattern::SparsityPattern;
 
@@ -45,22 +45,6 @@ impl<T> CsMatrix<T> {
         )
     }
 
-    /// Returns the position of a place among the values, or `None` if it is not stored. Binary search in the lane.
-    ///
-    /// `major_index` must be less than the number of lanes.
-    pub fn position_of(&self, major_index: usize, minor_index: usize) -> Option<usize>
-        requires { major_index < self.now.pattern.major_dim }
-        ensures position { result ≡ place_of self.now.pattern major_index minor_index }
-        ensures within { IfSome result (λ p. p < length self.now.values) }
-    {
-        let (start, _) = lane_bounds(&self.sparsity_pattern, major_index);
-        let lane = LaneIndices::of_lane(&self.sparsity_pattern, major_index);
-        match lane.position_of(minor_index) {
-            Some(at) => Some(start + at),
-            None => None,
-        }
-    }
-
     /// Returns the value at a pair of indices, borrowed mutably, or the reason why there is none. Binary search in the
     /// lane.
     pub fn find_mut(&mut self, major_index: usize, minor_index: usize) -> Found<'_, T>
@@ -72,7 +56,7 @@ impl<T> CsMatrix<T> {
         {
             return Found::Nothing(Missing::OutOfBounds);
         }
-        match self.position_of(major_index, minor_index) {
+        match position_of(&self.sparsity_pattern, major_index, minor_index) {
             Some(p) => Found::Value(&mut self.values[p]),
             None => Found::Nothing(Missing::NotStored),
         }
@@ -89,7 +73,7 @@ impl<T> CsMatrix<T> {
             (LendsIndexed T.row self.entry major_index minor_index result) }
         ensures entry { IsEntryMutAt self.old major_index minor_index result }
     {
-        match self.position_of(major_index, minor_index) {
+        match position_of(&self.sparsity_pattern, major_index, minor_index) {
             Some(p) => SparseEntryMut::NonZero(&mut self.values[p]),
             None => SparseEntryMut::Zero,
         }

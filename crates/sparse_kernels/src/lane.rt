@@ -1,13 +1,11 @@
-//! A lane's slices, and the position of a place.
+//! A lane's slices.
 
-ghost use Rattle.std.specs.Prelude.{◌≡◌, ◌<◌, All, IfSome, length};
+ghost use Rattle.std.specs.Prelude.{◌≡◌, ◌<◌, All, length};
 ghost use Rattle.std.specs.List.Sorted.{IsStrictlyIncreasing};
 ghost use Rattle.sparse_cs.specs.Compressed.{IsSound};
 ghost use Rattle.sparse_cs.specs.Lanes.{lane_at};
-ghost use Rattle.sparse_cs.specs.StoredEntries.{place_of};
 
-use sparse_cs::{CsMatrix, LaneIndices};
-use sparse_pattern::pattern::SparsityPattern;
+use sparse_cs::CsMatrix;
 
 /// Returns the indices and the values of lane i.
 #[inline(always)]
@@ -23,17 +21,4 @@ pub fn lane_slices<T>(a: &CsMatrix<T>, i: usize) -> (&[usize], &[T])
     let (offsets, indices, values) = a.cs_data();
     let (begin, end) = (offsets[i], offsets[i + 1]);
     (&indices[begin..end], &values[begin..end])
-}
-
-/// Returns the position of a place, or `None` if the pattern lacks it. Binary search in the lane.
-pub fn position_of(pattern: &SparsityPattern, lane: usize, index: usize) -> Option<usize>
-    requires { lane < pattern.now.major_dim }
-    ensures position { result ≡ place_of pattern.now lane index }
-    ensures within { IfSome result (λ p. p < length pattern.now.indices) }
-{
-    let start = pattern.major_offsets()[lane];
-    match LaneIndices::of_lane(pattern, lane).position_of(index) {
-        Some(at) => Some(start + at),
-        None => None,
-    }
 }

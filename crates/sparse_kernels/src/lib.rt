@@ -6,5 +6,5 @@ mod lane;
 mod scatter;
 
 pub use gather::{dot, dot_four};
-pub use lane::{lane_slices, position_of};
+pub use lane::lane_slices;
 pub use scatter::{add_multiple, add_multiple_four};

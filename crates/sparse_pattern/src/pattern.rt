@@ -216,8 +216,9 @@ impl SparsityPattern {
         })
     }
 
-    // Returns the positions where a lane begins and ends. `lane` must be within bounds.
-    fn lane_bounds(&self, lane: usize) -> (usize, usize)
+    /// Returns the positions where a lane begins and ends. `lane` must be within bounds.
+    #[doc(hidden)]
+    pub fn lane_bounds(&self, lane: usize) -> (usize, usize)
         requires { lane < self.now.major_dim }
         ensures start { result.0 ≡ start_of self.now lane }
         ensures end { result.1 ≡ end_of self.now lane }

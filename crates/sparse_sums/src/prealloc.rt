@@ -16,11 +16,10 @@ use sparse_algebra::error::OperationError;
 use sparse_algebra::learn;
 use sparse_algebra::operand::Op;
 use sparse_algebra::scalar::Ring;
-use sparse_cs::CsMatrix;
+use sparse_cs::{CsMatrix, position_of};
 use sparse_cs::scaling::scale_values;
 use sparse_forms::csc::CscMatrix;
 use sparse_forms::csr::CsrMatrix;
-use sparse_kernels::position_of;
 use sparse_pattern::pattern::SparsityPattern;
 
 /// Replaces `c` by `beta * c + alpha * op(a)` on the places of `c`.

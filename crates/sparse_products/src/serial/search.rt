@@ -12,7 +12,7 @@ use super::walk::{Slots, add_product_row};
 use sparse_algebra::learn;
 use sparse_algebra::scalar::Ring;
 use sparse_base::steps::Steps;
-use sparse_kernels::position_of;
+use sparse_cs::position_of;
 use sparse_pattern::pattern::SparsityPattern;
 
 // Whether the pattern has each place of the product of `a` and `b`.

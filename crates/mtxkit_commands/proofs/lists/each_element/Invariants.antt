@@ -1,5 +1,5 @@
 use Rattle.std.proofs.Common.{◌≡◌, map, take}
-use Rattle.sparse_c_views.specs.Elements.{element_of}
+use Rattle.sparse_algebra.specs.Integers.{element_of}
 use Rattle.mtxkit_commands.proofs.lists.each_element.Given as goal
 
 abbrev pub invariant-loop-integer : goal.invariant-loop-integer

@@ -1,5 +1,5 @@
 use Rattle.std.proofs.Common.{◌≡◌, All, map, take}
-use Rattle.sparse_c_views.specs.Elements.{element_of}
+use Rattle.sparse_algebra.specs.Integers.{element_of}
 use Rattle.mtxkit_commands.proofs.lists.each_integer.Given as goal
 
 abbrev pub invariant-loop-element : goal.invariant-loop-element

@@ -2,7 +2,7 @@ use Rattle.std.proofs.Common.{ap, sym, ◌∙◌}
 use Rattle.std.proofs.lemmas.Int.{to_z-of_z}
 use Rattle.std.specs.Int.{w64}
 use Rattle.sparse_algebra.specs.Plain.{plain_scaled}
-use Rattle.sparse_c_views.specs.Elements.{element_of}
+use Rattle.sparse_algebra.specs.Integers.{element_of}
 use Rattle.sparse_c.proofs.division.quotient_of.Goals as goal
 
 pub returns-clause-quotient : goal.returns-clause-quotient

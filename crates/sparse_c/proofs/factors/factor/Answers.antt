@@ -5,7 +5,7 @@ use Rattle.sparse_cs.specs.PlainOfLanes.{plain_of_cols}
 use Rattle.sparse_ldl.specs.Factors.{diagonal}
 use Rattle.sparse_c.proofs.Factoring.{factors_held}
 use Rattle.sparse_c_views.specs.Arrays.{room_of}
-use Rattle.sparse_c_views.specs.Elements.{element_of}
+use Rattle.sparse_algebra.specs.Integers.{element_of}
 use Rattle.sparse_c_views.specs.declared.refusal.Refusal.TheVariants.{TooSmall}
 use Rattle.sparse_c.proofs.factors.factor.Goals as goal
 

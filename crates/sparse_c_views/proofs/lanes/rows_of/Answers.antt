@@ -2,7 +2,7 @@ use Rattle.std.proofs.Common.{ap, ◌∙◌}
 use Rattle.sparse_cs.specs.Compressed.{arrays_of}
 use Rattle.sparse_cs.specs.PlainOfLanes.{plain_of_rows}
 use Rattle.sparse_pattern.specs.Raw.{raw_of}
-use Rattle.sparse_c_views.specs.Elements.{element_of}
+use Rattle.sparse_algebra.specs.Integers.{element_of}
 use Rattle.sparse_c_views.proofs.Meanings.{rows-meant}
 use Rattle.sparse_c_views.proofs.lanes.rows_of.Goals as goal
 

@@ -1,5 +1,5 @@
 use Rattle.std.proofs.Common.{◌≡◌, map, take, drop}
-use Rattle.sparse_c_views.specs.Elements.{element_of}
+use Rattle.sparse_algebra.specs.Integers.{element_of}
 use Rattle.sparse_c_views.specs.Reduced.{FirstAre}
 use Rattle.sparse_c_views.proofs.scalars.put_scalars.Given as goal
 

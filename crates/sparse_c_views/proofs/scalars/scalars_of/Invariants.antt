@@ -1,5 +1,5 @@
 use Rattle.std.proofs.Common.{◌≡◌, length, map, take}
-use Rattle.sparse_c_views.specs.Elements.{element_of}
+use Rattle.sparse_algebra.specs.Integers.{element_of}
 use Rattle.sparse_c_views.proofs.scalars.scalars_of.Given as goal
 
 abbrev pub invariant-loop-number : goal.invariant-loop-number

@@ -1,5 +1,5 @@
 use Rattle.std.proofs.Common.{◌≡◌, length, map, take, ap, sym, subst, ◌∙◌, arith}
-use Rattle.sparse_c_views.specs.Elements.{element_of}
+use Rattle.sparse_algebra.specs.Integers.{element_of}
 use Rattle.sparse_c_views.proofs.Holding.{HoldsDense-put}
 use Rattle.sparse_c_views.proofs.writing.write_dense.Goals as goal
 

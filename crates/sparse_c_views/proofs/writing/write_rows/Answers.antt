@@ -1,5 +1,5 @@
 use Rattle.std.proofs.Common.{◌<◌, ◌≡◌, length, inl, inr, ap, sym, subst, ◌∙◌, map, take}
-use Rattle.sparse_c_views.specs.Elements.{element_of}
+use Rattle.sparse_algebra.specs.Integers.{element_of}
 use Rattle.sparse_c_views.proofs.Holding.{HoldsRows-put}
 use Rattle.sparse_c_views.proofs.Meanings.{places_of-rows}
 use Rattle.sparse_c_views.proofs.writing.write_rows.Goals as goal

@@ -1,8 +1,8 @@
 use Rattle.std.proofs.Common.{◌≡◌, to_z, of_z, rules, ap, sym, ◌∙◌}
 use Rattle.std.specs.Int.{w64, w128}
 use Rattle.sparse_algebra.specs.Wrapping.{wrapping_ring}
-use Rattle.sparse_c_views.specs.Elements.{element_of}
-use Rattle.sparse_c_views.proofs.Elements.{element_of-class}
+use Rattle.sparse_algebra.specs.Integers.{element_of}
+use Rattle.sparse_algebra.proofs.Integers.{element_of-class}
 use Rattle.mtxkit_commands.proofs.residues.W64Residues.integer.Goals as goal
 
 pub returns-clause-meant : goal.returns-clause-meant

@@ -3,7 +3,7 @@ use Rattle.std.proofs.lemmas.Int.{to_z-of_z}
 use Rattle.std.specs.Int.{w64}
 use Rattle.std.specs.Int.Signed.{lt_z}
 use Rattle.sparse_algebra.specs.Moduli.{modulus}
-use Rattle.sparse_c_views.proofs.Elements.{element_of-from_zero, element_of-below_zero}
+use Rattle.sparse_algebra.proofs.Integers.{element_of-from_zero, element_of-below_zero}
 use Rattle.sparse_c_views.proofs.number.ModNumber.from_number.Goals as goal
 
 pub returns-then-number-lt0 : goal.returns-then-number-lt0

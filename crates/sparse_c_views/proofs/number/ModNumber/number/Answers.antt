@@ -1,6 +1,6 @@
 use Rattle.std.proofs.Common.{ap, ◌∙◌}
 use Rattle.sparse_algebra.specs.Moduli.{mod_class}
-use Rattle.sparse_c_views.proofs.Elements.{element_of-short, element_of-long}
+use Rattle.sparse_algebra.proofs.Integers.{element_of-short, element_of-long}
 use Rattle.sparse_c_views.proofs.number.ModNumber.number.Goals as goal
 
 pub returns-then-number-clause-means : goal.returns-then-number-clause-means

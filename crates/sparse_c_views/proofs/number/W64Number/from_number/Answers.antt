@@ -2,7 +2,7 @@ use Rattle.std.proofs.Common.{ap, ◌∙◌}
 use Rattle.std.proofs.lemmas.Int.{to_z-of_z}
 use Rattle.std.specs.Int.{w64}
 use Rattle.sparse_algebra.specs.Wrapping.{class_of}
-use Rattle.sparse_c_views.proofs.Elements.{element_of-class}
+use Rattle.sparse_algebra.proofs.Integers.{element_of-class}
 use Rattle.sparse_c_views.proofs.number.W64Number.from_number.Goals as goal
 
 pub returns : goal.returns

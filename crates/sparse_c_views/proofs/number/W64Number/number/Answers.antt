@@ -2,8 +2,8 @@ use Rattle.std.proofs.Common.{ap, sym, ◌∙◌, to_z, of_z}
 use Rattle.std.proofs.lemmas.Int.{to_z-of_z}
 use Rattle.std.specs.Int.{w64}
 use Rattle.sparse_algebra.specs.Wrapping.{wrapping_ring}
-use Rattle.sparse_c_views.specs.Elements.{element_of}
-use Rattle.sparse_c_views.proofs.Elements.{element_of-class}
+use Rattle.sparse_algebra.specs.Integers.{element_of}
+use Rattle.sparse_algebra.proofs.Integers.{element_of-class}
 use Rattle.sparse_c_views.proofs.number.W64Number.number.Goals as goal
 
 pub returns-clause-means : goal.returns-clause-means

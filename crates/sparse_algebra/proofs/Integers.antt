@@ -11,7 +11,7 @@ use Rattle.sparse_algebra.proofs.ModClasses.{mod_class_neg, mod_class_of}
 use Rattle.sparse_algebra.specs.Moduli.{modulus, modulus_pos, mod_class, mod_ring}
 use Rattle.sparse_algebra.specs.Residues.{residue, residues, same_class}
 use Rattle.sparse_algebra.specs.Wrapping.{wrapping_ring, class_of}
-use Rattle.sparse_c_views.specs.Elements.{times_one, element_of}
+use Rattle.sparse_algebra.specs.Integers.{times_one, element_of}
 
 module _ (m : ℕ) (some : 0 < m) where
   pub times_one-residue : (n : ℕ) → times_one (residues m some) n ≡ residue m some n
