@@ -1,1 +1,2 @@
 mod LentOptions
+mod LentLanes
