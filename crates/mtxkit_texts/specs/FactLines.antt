@@ -71,10 +71,13 @@ symmetry_lines s = line (codes "symmetric pattern") (answer s.has_symmetric_patt
 
 -- ---- the histogram
 
--- a blank and marks, 40 for all rows; nothing for no row
+-- a blank and so many marks; nothing for no mark
+abbrev pub marks : ℕ → List ℕ
+marks n = if n == 0 then [] else 32 ∷ replicate n 35
+
+-- 40 marks for all rows
 abbrev pub bar : ℕ → ℕ → List ℕ
-bar count nrows =
-    if count == 0 then [] else 32 ∷ replicate (count * 40 / max nrows 1) 35
+bar count nrows = marks (count * 40 / max nrows 1)
 
 -- how many rows have `from` to `to` places, with a bar for their share of all rows
 unfoldable pub bar_line : ℕ → ℕ → ℕ → ℕ → List ℕ

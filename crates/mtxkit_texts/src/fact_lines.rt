@@ -179,11 +179,12 @@ fn push_bar(lines: &mut String, count: usize, nrows: usize) -> Result<(), AllocE
     ensures { OnOk result
         (string_bytes lines.new ≡ string_bytes lines.old ++ bar count nrows) }
 {
-    if count == 0 {
+    let marks = (count as u128) * BAR / (nrows.max(1) as u128);
+    if marks == 0 {
         return Ok(());
     }
     lines.push_str(" ")?;
-    push_marks(lines, (count as u128) * BAR / (nrows.max(1) as u128))
+    push_marks(lines, marks)
 }
 
 // Appends marks.

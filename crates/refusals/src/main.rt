@@ -13,6 +13,7 @@ mod sink;
 mod sums;
 mod systems;
 mod texts;
+mod toolkit;
 mod updates;
 
 use refused_calls::outcome::Outcome;
@@ -97,6 +98,7 @@ fn scenario(rt: &HostRuntime, turn: &mut Turn, name: &str) -> Outcome {
     let (call, case) = rest.split_once(", ").unwrap_or((rest, ""));
     match group {
         "files" => files::run(rt, turn, call, case),
+        "toolkit" => toolkit::run(rt, turn, case),
         _ => of_memory(turn, group, call, case),
     }
 }

@@ -70,6 +70,36 @@ rows by their places:
   9 to 9: 0
 ",
     ),
+    // One row of a hundred is less than a mark.
+    (
+        &["info", "-"],
+        "%%MatrixMarket matrix coordinate integer general\n100 1 1\n1 1 5\n",
+        "format: coordinate
+field: integer
+symmetry: general
+rows: 100
+columns: 1
+entries: 1
+places: 1
+stored zeros: 0
+empty rows: 99
+empty columns: 0
+bandwidth: 0
+symmetric pattern: no
+symmetric values: no
+rows by their places:
+  0 to 0: 99 #######################################
+  1 to 1: 1
+  2 to 2: 0
+  3 to 3: 0
+  4 to 4: 0
+  5 to 5: 0
+  6 to 6: 0
+  7 to 7: 0
+  8 to 8: 0
+  9 to 9: 0
+",
+    ),
     (&["spy", "-"], SYMMETRIC, "P1\n3 3\n110\n111\n010\n"),
     (&["spy", "-"], PATTERN, "P1\n3 2\n101\n000\n"),
     // Rows and columns 1 and 2 lie in the first of two cells, and no place lies at (3, 3).

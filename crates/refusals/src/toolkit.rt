@@ -1,0 +1,97 @@
+//! The commands of `mtxkit` over files.
+
+ghost use Rattle.mtxkit_commands.specs.Commands.{IsSized};
+
+use crate::sink::Page;
+use mtxkit_commands::{Command, Target, Values, run as execute};
+use nalgebra_sparse::io::Out;
+use refused_calls::answer::of_bytes;
+use refused_calls::outcome::Outcome;
+use refused_calls::turn::Turn;
+use std::fs;
+
+// The files of A, X and B, where A X = B.
+const A: &str = "matrix.mtx";
+const X: &str = "solution.mtx";
+const B: &str = "sides.mtx";
+
+const FILES: &[(&str, &str)] = &[
+    (
+        A,
+        "%%MatrixMarket matrix coordinate integer symmetric\n2 2 3\n1 1 1\n2 1 2\n2 2 3\n",
+    ),
+    (
+        X,
+        "%%MatrixMarket matrix coordinate integer general\n2 1 1\n1 1 1\n",
+    ),
+    (
+        B,
+        "%%MatrixMarket matrix coordinate integer general\n2 1 2\n1 1 1\n2 1 2\n",
+    ),
+];
+
+pub fn run(rt: &HostRuntime, turn: &mut Turn, case: &str) -> Outcome {
+    let modulus = Some(7);
+    match case {
+        "info" => obey(rt, turn, Command::Info { file: A }),
+        "spy" => obey(rt, turn, picture(Target::Bitmap)),
+        "spy text" => obey(rt, turn, picture(Target::Blocks)),
+        "field" => {
+            let values = Values::Pattern;
+            obey(rt, turn, Command::Field { file: A, values })
+        }
+        "symmetric" => obey(rt, turn, Command::Symmetric { file: A }),
+        "solve" => {
+            let modulus = None;
+            obey(rt, turn, Command::Solve { modulus, a: A, b: B })
+        }
+        "solve modulo" => obey(rt, turn, Command::Solve { modulus, a: A, b: B }),
+        "check" => {
+            let (a, x, b) = (A, X, B);
+            obey(rt, turn, Command::Check { modulus, a, x, b })
+        }
+        _ => Outcome::Unknown,
+    }
+}
+
+// A picture of A.
+fn picture(target: Target<'static>) -> Command<'static>
+    ensures { IsSized result }
+{
+    Command::Spy {
+        file: A,
+        size: 64,
+        target,
+    }
+}
+
+// Obeys a command twice. The first answer is the one that is wanted.
+fn obey(rt: &HostRuntime, turn: &mut Turn, command: Command<'static>) -> Outcome
+    requires { IsSized command }
+{
+    for (path, text) in FILES {
+        if fs::write(rt, *path, text.as_bytes()).is_err() {
+            return Outcome::Unready;
+        }
+    }
+    let mut stdin: &[u8] = &[];
+    let mut whole = Out::new(Page::new());
+    let mut errors = Out::new(Page::new());
+    if execute(rt, command, &mut stdin, &mut whole, &mut errors) != 0 {
+        return Outcome::Unready;
+    }
+    let (mut out, mut err) = (Out::new(Page::new()), Out::new(Page::new()));
+    turn.begin();
+    let status = execute(rt, command, &mut stdin, &mut out, &mut err);
+    answered(status, &out.into_inner(), &err.into_inner())
+}
+
+// The outcome of a command: a text and status 0, or the line of an allocation failure and status 1. A command writes its
+// answer whole.
+fn answered(status: u8, out: &Page, err: &Page) -> Outcome {
+    match (status, err.taken()) {
+        (0, b"") => Outcome::Answered(of_bytes(out.taken())),
+        (1, b"mtxkit: out of memory\n") => Outcome::Refused.leaving(out.taken().is_empty()),
+        _ => Outcome::Failed,
+    }
+}
