@@ -8,7 +8,7 @@ use Rattle.std.proofs.lemmas.Bool.{cases_eq}
 use Rattle.std.proofs.lemmas.List.{get_or_default}
 use Rattle.std.proofs.lemmas.List.Edits.{length-between, get_or-between}
 use Rattle.std.proofs.lemmas.List.Elements.{Contains-get_or}
-use Rattle.sparse_algebra.proofs.Cases.{nat_eq_no, three, true_or_false}
+use Rattle.sparse_algebra.proofs.Cases.{nat_eq_no, true_or_false}
 use Rattle.sparse_algebra.specs.Algebra.{CommRing}
 use Rattle.sparse_algebra.specs.Sums.{sum_by, sum_below, where_true}
 use Rattle.sparse_algebra.specs.Plain.{is_at}
@@ -30,8 +30,8 @@ module _ (R : CommRing) {T : Type 0} (f : T → R.Carrier) where
   no : (k j : ℕ) (c : R.Carrier) → k ≢ j → where_true R (nat_eq k j) c ≡ R.zero
   no k j c ne = where_no R (λ (c : R.Carrier). c) (nat_eq k j) c (nat_eq_no k j ne)
 
-  -- where the index isn't in the lane
-  lane_value_none : (j : ℕ) (ks : List ℕ) (vs : List T)
+  -- where the index is not in the lane
+  pub lane_value_none : (j : ℕ) (ks : List ℕ) (vs : List T)
       → ((q : ℕ) → q < length ks → get_or ks q 0 ≢ j) → lane_value R f ks vs j ≡ R.zero
   lane_value_none j [] vs none = refl
   lane_value_none j (k ∷ ks) [] none = refl
@@ -39,21 +39,22 @@ module _ (R : CommRing) {T : Type 0} (f : T → R.Carrier) where
       ap (λ c. R.add c (lane_value R f ks vs j)) (no k j (f v) (none 0 (omega arith)))
       ∙ zero_add R _ ∙ lane_value_none j ks vs (λ q lt. none (suc q) (omega arith))
 
-  -- where one position alone has the index
-  lane_value_at : (z : T) (j q : ℕ) (ks : List ℕ) (vs : List T) → length vs ≡ length ks
-      → q < length ks → get_or ks q 0 ≡ j → ((r : ℕ) → r < length ks → get_or ks r 0 ≡ j → r ≡ q)
-      → lane_value R f ks vs j ≡ f (get_or vs q z)
-  lane_value_at z j q [] vs long lt is only = absurd (omega arith)
-  lane_value_at z j q (k ∷ ks) [] long lt is only = absurd (omega arith)
-  lane_value_at z j zero (k ∷ ks) (v ∷ vs) long lt is only =
+  -- at the index of a position of a rising lane
+  pub lane_value_at : (z : T) (j q : ℕ) (ks : List ℕ) (vs : List T) → length vs ≡ length ks
+      → ((r s : ℕ) → r < s → s < length ks → get_or ks r 0 < get_or ks s 0) → q < length ks
+      → get_or ks q 0 ≡ j → lane_value R f ks vs j ≡ f (get_or vs q z)
+  lane_value_at z j q [] vs long rising lt is = absurd (omega arith)
+  lane_value_at z j q (k ∷ ks) [] long rising lt is = absurd (omega arith)
+  lane_value_at z j zero (k ∷ ks) (v ∷ vs) long rising lt is =
       ap (λ c. R.add c (lane_value R f ks vs j)) (yes k j (f v) is)
       ∙ ap (R.add (f v)) (lane_value_none j ks vs
-      (λ r r_lt e. omega (arith, only (suc r) (omega arith) e))) ∙ R.laws.add_zero (f v)
-  lane_value_at z j (suc q) (k ∷ ks) (v ∷ vs) long lt is only =
-      ap (λ c. R.add c (lane_value R f ks vs j))
-      (no k j (f v) (λ e. omega (arith, only 0 (omega arith) e))) ∙ zero_add R _
-      ∙ lane_value_at z j q ks vs (omega arith) (omega arith) is
-      (λ r r_lt e. omega (arith, only (suc r) (omega arith) e))
+      (λ r r_lt e. omega (arith, rising 0 (suc r) (omega arith) (omega (arith, r_lt)), is, e)))
+      ∙ R.laws.add_zero (f v)
+  lane_value_at z j (suc q) (k ∷ ks) (v ∷ vs) long rising lt is =
+      ap (λ c. R.add c (lane_value R f ks vs j)) (no k j (f v)
+      (λ e. omega (arith, rising 0 (suc q) (omega arith) lt, is, e))) ∙ zero_add R _
+      ∙ lane_value_at z j q ks vs (omega arith)
+      (λ r s less within. rising (suc r) (suc s) (omega arith) (omega arith)) (omega arith) is
 
 -- the values of lane i
 abbrev pub values_of : {T : Type 0} → Compressed T → ℕ → List T
@@ -84,22 +85,13 @@ module _ (R : CommRing) {T : Type 0} (f : T → R.Carrier) (z : T) (m : Compress
             let there : get_or (lane_of m.pattern i) q 0 ≡ j =
             get_or-lane m.pattern i valid q within
             ∙ ap (λ p. get_or m.pattern.indices p 0) back ∙ place.index in
-            let only : (r : ℕ) → r < length (lane_of m.pattern i)
-            → get_or (lane_of m.pattern i) r 0 ≡ j
-            → r ≡ q = λ r r_lt e. elim (three r q) [
-              | inl lt ↦ absurd (omega (arith, lane_rises m.pattern i valid r q lt within))
-              | inr more ↦ elim more [
-                | inl gt ↦ absurd (omega (arith, lane_rises m.pattern i valid q r gt r_lt))
-                | inr same ↦ same
-              ]
-            ] in
             let value : get_or (values_of m i) q z ≡ get_or m.values place.at z =
             get_or-between m.values (start_of m.pattern i) (end_of m.pattern i) q z
             (omega (arith, place.in_lane.to)) ∙ ap (λ p. get_or m.values p z) back in
-            lane_value_at R f z j q (lane_of m.pattern i) (values_of m i) length-values within there
-            only ∙ ap f value ∙ sym (value_at_position R f m.pattern sound.valid m.values
-            sound.count
-            z i j place.at (place.in_lane, place.index))
+            lane_value_at R f z j q (lane_of m.pattern i) (values_of m i) length-values
+            (lane_rises m.pattern i valid) within there ∙ ap f value
+            ∙ sym (value_at_position R f m.pattern sound.valid m.values sound.count z i j place.at
+            (place.in_lane, place.index))
         | inr miss ↦
             let none : (q : ℕ) → q < length (lane_of m.pattern i)
             → get_or (lane_of m.pattern i) q 0 ≢ j = λ q lt e.

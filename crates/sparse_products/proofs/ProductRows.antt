@@ -1,60 +1,24 @@
 -- The product of two matrices, row after row: the indices of a row, and its values from a scratch
 -- row.
-use Rattle.std.proofs.Common.{◌≡◌, ◌≢◌, ℕ, zero, suc, ◌+◌, ◌<◌, inl, inr, ◌↔◌, List, [], ◌∷◌}
-use Rattle.std.proofs.Common.{◌++◌, length, get_or, drop, Contains, ap, sym, subst, ◌∙◌, refl}
-use Rattle.std.proofs.Common.{arith}
-use Rattle.std.specs.Prelude.{nat_eq}
+use Rattle.std.proofs.Common.{◌≡◌, ℕ, ◌+◌, ◌<◌, inl, inr, ◌↔◌, List, [], ◌∷◌, ◌++◌, length}
+use Rattle.std.proofs.Common.{get_or, drop, Contains, ap, sym, subst, ◌∙◌, refl, arith}
 use Rattle.std.proofs.lemmas.List.Elements.{Contains-get_or}
 use Rattle.std.proofs.lemmas.List.{get_or_default, drop_at}
 use Rattle.std.proofs.lemmas.List.Kept.{AllPairs-from_increasing}
-use Rattle.sparse_algebra.proofs.Cases.{nat_eq_no, true_or_false}
+use Rattle.sparse_algebra.proofs.Cases.{true_or_false}
 use Rattle.sparse_algebra.specs.Algebra.{CommRing}
 use Rattle.sparse_algebra.specs.Plain.{Plain, plain_product}
-use Rattle.sparse_algebra.proofs.RingLemmas.{zero_add}
 use Rattle.sparse_pattern.specs.Raw.{lane_of}
 use Rattle.sparse_pattern.specs.InnerGainedLanes.{GainsLane}
 use Rattle.sparse_pattern.proofs.BuiltLanes.{place_within}
 use Rattle.sparse_cs.specs.Compressed.{Compressed, arrays_of, IsSound}
 use Rattle.sparse_cs.specs.PlainOfLanes.{plain_of_rows}
 use Rattle.sparse_cs.specs.InnerRows.{lane_value}
-use Rattle.sparse_cs.proofs.Arrays.{where_yes, where_no}
-use Rattle.sparse_cs.proofs.RowSums.{eq_refl}
+use Rattle.sparse_cs.proofs.LaneValues.{lane_value_none, lane_value_at}
 use Rattle.sparse_cs.proofs.BuiltMatrices.{IsBuiltMatrix, matrix_lane_built, built_is}
 use Rattle.sparse_products.specs.InnerProducts.{IsInLanes, GainsTaken}
 use Rattle.sparse_products.proofs.ProductLanes.{IsJoined, in_lanes_is}
 use Rattle.sparse_products.proofs.ProductPlaces.{product, joined_places, product_is_proper}
-
-module _ (R : CommRing) {T : Type 0} (f : T → R.Carrier) where
-  -- where the index is not in the lane
-  lane_none : (j : ℕ) (ks : List ℕ) (vs : List T)
-      → ((q : ℕ) → q < length ks → get_or ks q 0 ≢ j) → lane_value R f ks vs j ≡ R.zero
-  lane_none j [] vs none = refl
-  lane_none j (k ∷ ks) [] none = refl
-  lane_none j (k ∷ ks) (v ∷ vs) none = ap (λ c. R.add c (lane_value R f ks vs j))
-      (where_no R (λ (c : R.Carrier). c) (nat_eq k j) (f v) (nat_eq_no k j (none 0 (omega arith))))
-      ∙ zero_add R _ ∙ lane_none j ks vs (λ q lt. none (suc q) (omega arith))
-
-  -- at the index of a position of a rising lane
-  lane_at : (z : T) (q : ℕ) (ks : List ℕ) (vs : List T) → length vs ≡ length ks
-      → ((r s : ℕ) → r < s → s < length ks → get_or ks r 0 < get_or ks s 0) → q < length ks
-      → lane_value R f ks vs (get_or ks q 0) ≡ f (get_or vs q z)
-  lane_at z q [] vs long rising lt = absurd (omega arith)
-  lane_at z q (k ∷ ks) [] long rising lt = absurd (omega arith)
-  lane_at z zero (k ∷ ks) (v ∷ vs) long rising lt = ap (λ c. R.add c (lane_value R f ks vs k))
-      (where_yes R (λ (c : R.Carrier). c) (nat_eq k k) (f v) (eq_refl k))
-      ∙ ap (R.add (f v)) (lane_none k ks vs (λ q q_lt e. omega (
-        arith,
-        rising 0 (suc q) (omega arith) (omega (arith, q_lt)),
-        e,
-      ))) ∙ R.laws.add_zero (f v)
-  lane_at z (suc q) (k ∷ ks) (v ∷ vs) long rising lt =
-      let j = get_or ks q 0 in
-      let less : k < j = rising 0 (suc q) (omega arith) lt in
-      ap (λ c. R.add c (lane_value R f ks vs j))
-      (where_no R (λ (c : R.Carrier). c) (nat_eq k j) (f v)
-      (nat_eq_no k j (λ e. omega (arith, less, e))))
-      ∙ zero_add R _ ∙ lane_at z q ks vs (omega arith)
-      (λ r s less within. rising (suc r) (suc s) (omega arith) (omega arith)) (omega arith)
 
 -- the first n rows of the product
 abbrev pub IsMultipliedBelow : (R : CommRing) {T : Type 0} → (T → R.Carrier) → Compressed T
@@ -122,10 +86,10 @@ module _ (R : CommRing) {T : Type 0} (f : T → R.Carrier) {a b : Compressed T} 
         | inl hit ↦
             let h = (holds j).1 ((joined j).1 hit) in
             let index : get_or gains.lane h.0 0 ≡ j = get_or_default gains.lane h.0 0 j h.1 ∙ h.2 in
-            subst (λ j. lane_value R f gains.lane part j ≡ P.value n j) index
-            (lane_at R f z h.0 gains.lane part count (λ r s less within.
-            AllPairs-from_increasing gains.lane gains.rising r s 0 less within) h.1 ∙ read h.0 h.1)
-        | inr miss ↦ lane_none R f j gains.lane part (λ q lt e.
+            lane_value_at R f z j h.0 gains.lane part count (λ r s less within.
+            AllPairs-from_increasing gains.lane gains.rising r s 0 less within) h.1 index
+            ∙ read h.0 h.1 ∙ ap (P.value n) index
+        | inr miss ↦ lane_value_none R f j gains.lane part (λ q lt e.
             let hit = (joined j).0 ((holds j).0 (subst (Contains gains.lane) e
             (Contains-get_or gains.lane q 0 lt))) in
             cc) ∙ sym (product_is_proper R f sa sb fits n j miss)
