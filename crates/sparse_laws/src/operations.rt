@@ -16,6 +16,7 @@ pub mod columns;
 
 use sparse_algebra::learn;
 use sparse_algebra::scalar::Ring;
+use sparse_cs::laws::stands_law;
 use sparse_forms::csr::CsrMatrix;
 use sparse_products::serial::{add_csr, mul_csr, neg_csr, sub_csr};
 use sparse_products::transposes::transposed_csr;
@@ -88,6 +89,7 @@ pub fn identity_times<T: Ring>(alloc: Global, a: &CsrMatrix<T>) -> Result<CsrMat
     ensures { IfOk result
         (λ m. plain_of_rows T.ring T.value m ≡ plain_of_rows T.ring T.value a.now) }
 {
+    stands_law::<T>();
     learn(a.values());
     let identity = CsrMatrix::identity(alloc, a.nrows())?;
     mul_csr(alloc, &identity, a)
@@ -98,6 +100,7 @@ pub fn times_identity<T: Ring>(alloc: Global, a: &CsrMatrix<T>) -> Result<CsrMat
     ensures { IfOk result
         (λ m. plain_of_rows T.ring T.value m ≡ plain_of_rows T.ring T.value a.now) }
 {
+    stands_law::<T>();
     learn(a.values());
     let identity = CsrMatrix::identity(alloc, a.ncols())?;
     mul_csr(alloc, a, &identity)
@@ -218,7 +221,9 @@ pub fn product_places_law<T: Ring>()
         → (i j : ℕ) → IsPlace d i j
         ↔ ((plain_product T.ring (plain_of_rows T.ring T.value a)
         (plain_of_rows T.ring T.value b)).has i j ≡ true) }
-{}
+{
+    stands_law::<T>();
+}
 
 /// The places of the union of two patterns are those of the plain sum.
 pub fn union_places_law<T: Ring>()
@@ -227,4 +232,6 @@ pub fn union_places_law<T: Ring>()
         → (i j : ℕ) → IsPlace d i j
         ↔ ((plain_sum T.ring (plain_of_rows T.ring T.value a) (plain_of_rows T.ring T.value b)).has
         i j ≡ true) }
-{}
+{
+    stands_law::<T>();
+}

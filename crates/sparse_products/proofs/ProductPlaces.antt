@@ -7,7 +7,6 @@ use Rattle.sparse_algebra.proofs.PlainLemmas.{any_is, proper_product}
 use Rattle.sparse_pattern.specs.Raw.{Raw, IsPlace}
 use Rattle.sparse_cs.specs.Compressed.{Compressed, IsSound}
 use Rattle.sparse_cs.specs.PlainOfLanes.{plain_of_rows}
-use Rattle.sparse_cs.specs.Standing.{HasLanesAsRows}
 use Rattle.sparse_cs.proofs.Arrays.{proper_rows}
 use Rattle.sparse_cs.proofs.Standing.{rows_have}
 use Rattle.sparse_products.specs.InnerUpdates.{HasProductPlaces}
@@ -45,11 +44,3 @@ module _ (R : CommRing) {T : Type 0} (f : T → R.Carrier) {a b : Compressed T} 
     | inl hit ↦ let s = (joined_places i j).1 hit in absurd (none (places i j s.0 s.1 s.2))
     | inr miss ↦ miss
   ])
-
--- the same, where what each matrix has is given
-pub joined_is : (R : CommRing) {T : Type 0} (f : T → R.Carrier)
-    → ((m : Compressed T) → IsSound m → HasLanesAsRows R f m (plain_of_rows R f m))
-    → (a b : Compressed T) (sa : IsSound a) (sb : IsSound b)
-    (fits : a.pattern.minor_dim ≡ b.pattern.major_dim) (i j : ℕ)
-    → IsJoined a.pattern b.pattern i j ↔ ((product R f sa sb fits).has i j ≡ true)
-joined_is R f have a b sa sb fits = joined_places R f sa sb fits

@@ -6,6 +6,7 @@ ghost use Rattle.sparse_cs.specs.PlainOfLanes.{plain_of_cols};
 
 use sparse_algebra::learn;
 use sparse_algebra::scalar::Ring;
+use sparse_cs::laws::stands_law;
 use sparse_forms::csc::CscMatrix;
 use sparse_products::serial::{add_csc, mul_csc, neg_csc, sub_csc};
 use sparse_products::transposes::transposed_csc;
@@ -79,6 +80,7 @@ pub fn identity_times<T: Ring>(alloc: Global, a: &CscMatrix<T>) -> Result<CscMat
     ensures { IfOk result (λ m. plain_of_cols T.ring T.value m
         ≡ plain_of_cols T.ring T.value a.now) }
 {
+    stands_law::<T>();
     learn(a.values());
     let identity = CscMatrix::identity(alloc, a.nrows())?;
     mul_csc(alloc, &identity, a)
@@ -90,6 +92,7 @@ pub fn times_identity<T: Ring>(alloc: Global, a: &CscMatrix<T>) -> Result<CscMat
     ensures { IfOk result (λ m. plain_of_cols T.ring T.value m
         ≡ plain_of_cols T.ring T.value a.now) }
 {
+    stands_law::<T>();
     learn(a.values());
     let identity = CscMatrix::identity(alloc, a.ncols())?;
     mul_csc(alloc, a, &identity)

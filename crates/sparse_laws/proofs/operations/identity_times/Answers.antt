@@ -2,7 +2,6 @@ use Rattle.std.proofs.Common.{ap, ◌∙◌}
 use Rattle.sparse_algebra.specs.Plain.{Plain, plain_product}
 use Rattle.sparse_algebra.proofs.PlainLaws.{identity-product}
 use Rattle.sparse_cs.specs.PlainOfLanes.{plain_of_rows}
-use Rattle.sparse_cs.proofs.Standing.{rows_have}
 use Rattle.sparse_laws.proofs.OkEquations.{ok_further}
 use Rattle.sparse_laws.proofs.operations.identity_times.Goals as goal
 
@@ -11,7 +10,7 @@ returns g c =
     let R = g.T.Ring.ring in
     let plain = plain_of_rows R g.T.Ring.value in
     let a = plain c.args.a.now in
-    let has = rows_have R g.T.Ring.value c.args.a.now c.values.ensures.sound in
+    let has = c.stands_law.ensures.rows c.args.a.now c.values.ensures.sound in
     ok_further plain c.mul_csr.result (plain_product R (plain c.in_ok-identity.identity) a) a
     (ap (λ (x : Plain R). plain_product R x a) c.in_ok-identity.ensures.plain
     ∙ identity-product R c.nrows.result a c.nrows.ensures has.proper has.within) c.mul_csr.ensures
