@@ -26,9 +26,13 @@ fn counts_of_any_size(alloc: Global) -> bool {
 }
 
 fn counts_become_offsets(alloc: Global) -> bool {
-    let mut counts = [1_u32, 1, 2, 0];
-    match counts_to_offsets(alloc, &mut counts) {
-        Ok(offsets) => are_equal(&offsets, OFFSETS) && are_equal(&counts, &[0, 1, 2, 4]),
+    let Ok(counts) = Vec::from_slice(alloc, &[1_u32, 1, 2, 0]) else {
+        return false;
+    };
+    match counts_to_offsets(alloc, counts) {
+        Ok((offsets, cursors)) => {
+            are_equal(&offsets, OFFSETS) && are_equal(&cursors, &[0, 1, 2, 4])
+        }
         Err(_error) => false,
     }
 }
