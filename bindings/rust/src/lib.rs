@@ -105,6 +105,39 @@ pub fn multiply(a: Rows<'_>, b: Rows<'_>) -> Result<Arrays, Error> {
     if a.cols != b.rows {
         return Err(Error::ShapeMismatch);
     }
+    into_arrays(a.rows, product_room(a, b)?, |o, x, v, places| unsafe {
+        calls::nalgebra_sparse_multiply(
+            a.rows, a.cols, b.cols,
+            a.offsets.as_ptr(), a.offsets.len(), a.indices.as_ptr(), a.indices.len(), a.values.as_ptr(), a.values.len(),
+            b.offsets.as_ptr(), b.offsets.len(), b.indices.as_ptr(), b.indices.len(), b.values.as_ptr(), b.values.len(),
+            o.as_mut_ptr(), o.len(), x.as_mut_ptr(), x.len(), v.as_mut_ptr(), v.len(), places,
+        )
+    })
+}
+
+// Up to this many places, a product is computed into room for one place for each multiplication.
+const MOST_UNCOUNTED: usize = 1 << 24;
+
+// Returns a number of places that is enough for a product: that of its multiplications, or, where that is large or an
+// index names no row, the exact one, which takes about as long to count as the product to compute.
+fn product_room(a: Rows<'_>, b: Rows<'_>) -> Result<usize, Error> {
+    match multiplications(a, b) {
+        Some(room) if room <= MOST_UNCOUNTED => Ok(room),
+        _ => product_places(a, b),
+    }
+}
+
+// Returns the number of multiplications of a product: the lengths of the rows of `b` that the indices of `a` name.
+fn multiplications(a: Rows<'_>, b: Rows<'_>) -> Option<usize> {
+    a.indices.iter().try_fold(0_usize, |sum, &k| {
+        let begin = b.offsets.get(k)?;
+        let end = b.offsets.get(k.checked_add(1)?)?;
+        sum.checked_add(end.checked_sub(*begin)?)
+    })
+}
+
+// Returns the number of places of a product.
+fn product_places(a: Rows<'_>, b: Rows<'_>) -> Result<usize, Error> {
     let mut places = 0;
     answer(unsafe {
         calls::nalgebra_sparse_multiply_places(
@@ -113,14 +146,7 @@ pub fn multiply(a: Rows<'_>, b: Rows<'_>) -> Result<Arrays, Error> {
             b.offsets.as_ptr(), b.offsets.len(), b.indices.as_ptr(), b.indices.len(), &mut places,
         )
     })?;
-    into_arrays(a.rows, places, |o, x, v, places| unsafe {
-        calls::nalgebra_sparse_multiply(
-            a.rows, a.cols, b.cols,
-            a.offsets.as_ptr(), a.offsets.len(), a.indices.as_ptr(), a.indices.len(), a.values.as_ptr(), a.values.len(),
-            b.offsets.as_ptr(), b.offsets.len(), b.indices.as_ptr(), b.indices.len(), b.values.as_ptr(), b.values.len(),
-            o.as_mut_ptr(), o.len(), x.as_mut_ptr(), x.len(), v.as_mut_ptr(), v.len(), places,
-        )
-    })
+    Ok(places)
 }
 
 /// Returns the dense product of a matrix by rows and a dense matrix with `cols` columns, both dense matrices column by
