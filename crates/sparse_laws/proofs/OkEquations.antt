@@ -7,15 +7,15 @@ use Rattle.sparse_algebra.proofs.PlainLemmas.{same_plain}
 use Rattle.sparse_algebra.proofs.RingLemmas.{neg_unique}
 
 -- what is equal to one thing is equal to another
-pub ok_further : {X Y E : Type 0} (f : X → Y) (r : Result X E) (y z : Y) → y ≡ z
+pub ok_further : {X Y E : Type 0} (f : X → Y) (r : Result X E) {y z : Y} → y ≡ z
     → IfOk r (λ x. f x ≡ y) → IfOk r (λ x. f x ≡ z)
-ok_further f (Ok x) y z e h = h ∙ e
-ok_further f (Err x) y z e h = tt
+ok_further f (Ok x) e h = h ∙ e
+ok_further f (Err x) e h = tt
 
 -- the operands of what it is equal to are equal to others
 pub ok_of_equals : {X Y E : Type 0} (f : X → Y) (op : Y → Y → Y) (r : Result X E) {p q y z : Y}
     → p ≡ q → y ≡ z → IfOk r (λ x. f x ≡ op p y) → IfOk r (λ x. f x ≡ op q z)
-ok_of_equals f op r {q = q} {y} e e' = ok_further f r _ _ (ap (λ p. op p y) e ∙ ap (op q) e')
+ok_of_equals f op r {q = q} {y} e e' = ok_further f r (ap (λ p. op p y) e ∙ ap (op q) e')
 
 pub negation_twice : (R : CommRing) (a : Plain R) → plain_negation R (plain_negation R a) ≡ a
 negation_twice R a = same_plain (plain_negation R (plain_negation R a)) a refl refl (λ i j. refl)

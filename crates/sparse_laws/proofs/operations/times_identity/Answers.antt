@@ -11,6 +11,6 @@ returns g c =
     let plain = plain_of_rows R g.T.Ring.value in
     let a = plain c.args.a.now in
     let has = c.stands_law.ensures.rows c.args.a.now c.values.ensures.sound in
-    ok_further plain c.mul_csr.result (plain_product R a (plain c.in_ok-identity.identity)) a
+    ok_further plain c.mul_csr.result
     (ap (plain_product R a) c.in_ok-identity.ensures.plain
     ∙ product-identity R c.ncols.result a c.ncols.ensures has.proper has.within) c.mul_csr.ensures

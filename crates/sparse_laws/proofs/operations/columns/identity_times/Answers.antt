@@ -11,6 +11,6 @@ returns g c =
     let plain = plain_of_cols R g.T.Ring.value in
     let a = plain c.args.a.now in
     let has = c.stands_law.ensures.cols c.args.a.now c.values.ensures.sound in
-    ok_further plain c.mul_csc.result (plain_product R (plain c.in_ok-identity.identity) a) a
+    ok_further plain c.mul_csc.result
     (ap (λ (x : Plain R). plain_product R x a) c.in_ok-identity.ensures.plain
     ∙ identity-product R c.nrows.result a c.nrows.ensures has.proper has.within) c.mul_csc.ensures

@@ -8,7 +8,6 @@ pub returns : goal.returns
 returns g c =
     let R = g.T.Ring.ring in
     let plain = plain_of_cols R g.T.Ring.value in
-    ok_further plain c.neg_csc-2.result (plain_negation R (plain c.in_ok-negative.negative))
-    (plain c.args.a.now)
+    ok_further plain c.neg_csc-2.result
     (ap (plain_negation R) c.in_ok-negative.ensures ∙ negation_twice R (plain c.args.a.now))
     c.neg_csc-2.ensures
