@@ -9,7 +9,8 @@ use Rattle.std.proofs.lemmas.List.Sorted.{list_any-IsPermutation}
 use Rattle.sparse_algebra.proofs.Cases.{true_or_false}
 use Rattle.sparse_algebra.specs.Algebra.{CommRing}
 use Rattle.sparse_algebra.specs.Sums.{where_true}
-use Rattle.sparse_base.specs.Coo.{zip_triplets}
+use Rattle.sparse_base.specs.Coo.{Coo, IsInside, zip_triplets}
+use Rattle.sparse_base.specs.CooPlain.{plain_of_coo}
 use Rattle.sparse_algebra.specs.Plain.{is_at, plain_of_triplets}
 use Rattle.sparse_algebra.proofs.RingLemmas.{zero_add}
 use Rattle.sparse_algebra.proofs.SumLemmas.{sum_by-permutation}
@@ -94,3 +95,20 @@ pub zip_of_parts : {T : Type 0} (ts : List (ℕ × ℕ × T))
     → zip_triplets (map (λ t. t.0) ts) (map (λ t. t.1) ts) (map (λ t. t.2) ts) ≡ ts
 zip_of_parts [] = refl
 zip_of_parts (t ∷ ts) = ap (λ l. t ∷ l) (zip_of_parts ts)
+
+-- the lists that a coordinate list is read as, with its sizes
+module _ {T : Type 0} (m : Coo T) (rows cols : ℕ) (is js : List ℕ) (vs : List T)
+    (rows_is : rows ≡ m.nrows) (cols_is : cols ≡ m.ncols) (inside : IsInside m)
+    (is_is : is ≡ map (λ t. t.0) m.triplets) (js_is : js ≡ map (λ t. t.1) m.triplets) where
+  pub rows_below : All (λ i. i < rows) is
+  rows_below = rw (rows_is, is_is)
+      (All-map (λ i. i < m.nrows) (λ t. t.0) m.triplets (λ k d lt. (inside k d lt).0))
+
+  pub cols_below : All (λ j. j < cols) js
+  cols_below = rw (cols_is, js_is)
+      (All-map (λ j. j < m.ncols) (λ t. t.1) m.triplets (λ k d lt. (inside k d lt).1))
+
+  pub plain_of_lists : (R : CommRing) (f : T → R.Carrier) → vs ≡ map (λ t. t.2) m.triplets
+      → plain_of_triplets R f rows cols (zip_triplets is js vs) ≡ plain_of_coo R f m
+  plain_of_lists R f vs_is = rw (rows_is, cols_is, is_is, js_is, vs_is)
+      (ap (plain_of_triplets R f m.nrows m.ncols) (zip_of_parts m.triplets))

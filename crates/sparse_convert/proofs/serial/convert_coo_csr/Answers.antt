@@ -1,46 +1,27 @@
 use Rattle.std.proofs.lemmas.Grind.{common_steps}
-use Rattle.std.proofs.Common.{◌≡◌, ◌<◌, All, map, ap, ◌∙◌, arith}
-use Rattle.std.proofs.lemmas.List.Elements.{All-map}
-use Rattle.sparse_base.specs.Coo.{zip_triplets}
-use Rattle.sparse_algebra.specs.Plain.{plain_of_triplets}
-use Rattle.sparse_base.specs.CooPlain.{plain_of_coo}
+use Rattle.std.proofs.Common.{ap, ◌∙◌, arith}
 use Rattle.sparse_cs.specs.PlainOfLanes.{plain_of_rows}
-use Rattle.sparse_convert.proofs.Compressing.{zip_of_parts}
+use Rattle.sparse_convert.proofs.Compressing.{rows_below, cols_below, plain_of_lists}
 use Rattle.sparse_convert.proofs.serial.convert_coo_csr.Goals as goal
 
 pub compress-requires-clause-majors_below : goal.compress-requires-clause-majors_below
-compress-requires-clause-majors_below g c =
-    let m = c.args.coo.now in
-    let below : All (λ i. i < m.nrows) (map (λ t. t.0) m.triplets) =
-    All-map (λ i. i < m.nrows) (λ t. t.0) m.triplets
-    (λ k d lt. (c.row_indices.ensures.inside k d lt).0) in
-    rw (c.row_indices.ensures.rows, c.nrows.ensures) below
+compress-requires-clause-majors_below g c = rows_below c.args.coo.now c.nrows.result c.ncols.result c.row_indices.result.now
+    c.col_indices.result.now c.values.result.now c.nrows.ensures c.ncols.ensures
+    c.row_indices.ensures.inside c.row_indices.ensures.rows c.col_indices.ensures.cols
 
 pub compress-requires-clause-minors_below : goal.compress-requires-clause-minors_below
-compress-requires-clause-minors_below g c =
-    let m = c.args.coo.now in
-    let below : All (λ j. j < m.ncols) (map (λ t. t.1) m.triplets) =
-    All-map (λ j. j < m.ncols) (λ t. t.1) m.triplets
-    (λ k d lt. (c.row_indices.ensures.inside k d lt).1) in
-    rw (c.col_indices.ensures.cols, c.ncols.ensures) below
+compress-requires-clause-minors_below g c = cols_below c.args.coo.now c.nrows.result c.ncols.result c.row_indices.result.now
+    c.col_indices.result.now c.values.result.now c.nrows.ensures c.ncols.ensures
+    c.row_indices.ensures.inside c.row_indices.ensures.rows c.col_indices.ensures.cols
 
 pub returns-clause-plain : goal.returns-clause-plain
 returns-clause-plain g c =
     let R = g.T.Ring.ring in
     let f = g.T.Ring.value in
-    let m = c.args.coo.now in
-    let parts : plain_of_triplets R f c.nrows.result c.ncols.result
-    (zip_triplets c.row_indices.result.now c.col_indices.result.now c.values.result.now)
-    ≡ plain_of_coo R f m =
-    rw (
-      c.nrows.ensures,
-      c.ncols.ensures,
-      c.row_indices.ensures.rows,
-      c.col_indices.ensures.cols,
-      c.values.ensures,
-    ) (ap (plain_of_triplets R f m.nrows m.ncols) (zip_of_parts m.triplets))
-    in
-    ap (plain_of_rows R f) c.from_cs.ensures ∙ c.in_ok-cs.ensures.plain ∙ parts
+    let lists = plain_of_lists c.args.coo.now c.nrows.result c.ncols.result c.row_indices.result.now
+    c.col_indices.result.now c.values.result.now c.nrows.ensures c.ncols.ensures
+    c.row_indices.ensures.inside c.row_indices.ensures.rows c.col_indices.ensures.cols R f c.values.ensures in
+    ap (plain_of_rows R f) c.from_cs.ensures ∙ c.in_ok-cs.ensures.plain ∙ lists
 
 -- ---- written by tools/answer-goals
 
