@@ -1,6 +1,7 @@
 -- A product into a given matrix, in plain matrices.
-use Rattle.std.proofs.Common.{◌≡◌, ◌↔◌, ◌⊎◌, inr, Bool, true, false, List, length, ap, sym, subst}
-use Rattle.std.proofs.Common.{◌∙◌, refl}
+use denote.Ref.{Bor}
+use Rattle.std.proofs.Common.{◌≡◌, ℕ, ◌+◌, ◌≤◌, ◌↔◌, ◌⊎◌, inr, Bool, true, false, List, length}
+use Rattle.std.proofs.Common.{ap, sym, subst, ◌∙◌, refl, arith}
 use Rattle.std.specs.Prelude.{⊤, Result, Ok, Err, IsOk, IfErr}
 use Rattle.sparse_algebra.specs.Algebra.{CommRing}
 use Rattle.sparse_algebra.specs.Plain.{Plain, plain_product}
@@ -9,7 +10,7 @@ use Rattle.sparse_algebra.specs.declared.operand.Op.{Op}
 use Rattle.sparse_algebra.specs.declared.operand.Op.TheVariants.{NoOp, Transpose}
 use Rattle.sparse_algebra.specs.Operands.{MatchOp}
 use Rattle.sparse_algebra.specs.Prealloc.{plain_update, plain_transpose_if, IsCovered}
-use Rattle.sparse_pattern.specs.Raw.{Raw, IsValid}
+use Rattle.sparse_pattern.specs.Raw.{Raw, IsValid, nnz_of}
 use Rattle.sparse_cs.specs.Compressed.{Compressed, compressed_of, IsSound}
 use Rattle.sparse_cs.specs.PlainOfLanes.{plain_of_rows}
 use Rattle.sparse_cs.specs.Writing.{with_values}
@@ -18,8 +19,10 @@ use Rattle.sparse_cs.proofs.Standing.{rows_have}
 use Rattle.sparse_cs.proofs.Updates.{updated}
 use Rattle.sparse_sums.proofs.Updating.{written_back}
 use Rattle.sparse_products.specs.declared.serial.factor.Factors.{Factors}
-use Rattle.sparse_products.specs.InnerUpdates.{CanUpdate, HasProductPlaces}
-use Rattle.sparse_products.specs.ScalarProducts.{IfNotTransposed}
+use Rattle.sparse_products.specs.declared.serial.factor.Operands.{Operands}
+use Rattle.sparse_products.specs.InnerFactors.{AreFactors, AreMatricesOf, matrix_of, product_of}
+use Rattle.sparse_products.specs.InnerUpdates.{CanUpdate, HasProductPlaces, steps_of}
+use Rattle.sparse_products.specs.ScalarProducts.{IfNotTransposed, triples_of}
 use Rattle.sparse_products.proofs.ProductPlaces.{product, joined_places, zero_elsewhere}
 
 -- a refusal of one kind, which comes exactly where the places lack
@@ -93,57 +96,68 @@ module _ (R : CommRing) {T : Type 0} (f : T → R.Carrier) {x : Factors T} {d : 
         ∙ ap (λ c. R.add (R.mul beta c) (R.mul alpha (P.value i j))) (was.values i j p z at))
 
 module _ (R : CommRing) where
-  covered_through : (t : Bool) (q c : Plain R)
-      → IsCovered q c ↔ IsCovered (plain_transpose_if R t q) (plain_transpose_if R t c)
-  covered_through true q c = (λ h i j. h j i, λ h i j. h j i)
-  covered_through false q c = (λ h. h, λ h. h)
+  covered_through : (t : Bool) (p c : Plain R)
+      → IsCovered (plain_transpose_if R t p) c ↔ IsCovered p (plain_transpose_if R t c)
+  covered_through true p c = (λ h i j. h j i, λ h i j. h j i)
+  covered_through false p c = (λ h. h, λ h. h)
 
-  update_through : (t : Bool) (beta alpha : R.Carrier) (c q : Plain R)
-      → plain_transpose_if R t (plain_update R beta c alpha q)
-      ≡ plain_update R beta (plain_transpose_if R t c) alpha (plain_transpose_if R t q)
-  update_through true beta alpha c q = refl
-  update_through false beta alpha c q = refl
+  update_through : (t : Bool) (beta alpha : R.Carrier) (c p : Plain R)
+      → plain_transpose_if R t (plain_update R beta c alpha (plain_transpose_if R t p))
+      ≡ plain_update R beta (plain_transpose_if R t c) alpha p
+  update_through true beta alpha c p = refl
+  update_through false beta alpha c p = refl
 
--- the matrix m has the pattern d and the values vs
-module _ {T : Type 0} {m : Compressed T} {d : Raw} {vs : List T} (d_is : d ≡ m.pattern)
-    (vs_is : vs ≡ m.values) where
-  pub can_update : {x : Factors T} → IsSound m → x.a.now.pattern.minor_dim
-      ≡ x.b.now.pattern.major_dim → x.a.now.pattern.major_dim ≡ m.pattern.major_dim
-      → CanUpdate x d vs
-  can_update sound inner lanes = record {
-    inner = inner;
-    lanes = lanes ∙ sym (ap (λ d. d.major_dim) d_is);
-    count = ap length vs_is ∙ sound.count ∙ sym (ap (λ d. length d.indices) d_is);
-  }
+-- the update of the pattern d and the values vs by the factors x is one of the matrix m by the
+-- product p, of matrices by rows, or by columns where the test is true
+pub record IsUpdateOf (R : CommRing) {T : Type 0} (f : T → R.Carrier) (t : Bool) (m : Compressed T)
+    (p : Plain R) (x : Factors T) (d : Raw) (vs : List T) : Type 0 where
+  pub sizes : CanUpdate x d vs
+  pub width : x.b.now.pattern.minor_dim ≡ d.minor_dim
+  pub covered : IsCovered (product_of R f x) (plain_of_rows R f (compressed_of d vs))
+      ↔ IsCovered p (plain_transpose_if R t (plain_of_rows R f m))
+  pub updated : (beta alpha : R.Carrier) (ws : List T) → length ws ≡ length vs
+      → plain_of_rows R f (compressed_of d ws) ≡ plain_update R beta
+      (plain_of_rows R f (compressed_of d vs)) alpha (product_of R f x)
+      → plain_transpose_if R t (plain_of_rows R f (with_values m ws)) ≡ plain_update R beta
+      (plain_transpose_if R t (plain_of_rows R f m)) alpha p
 
-  target_is : (R : CommRing) (f : T → R.Carrier)
-      → plain_of_rows R f (compressed_of d vs) ≡ plain_of_rows R f m
-  target_is R f = ap (λ d. plain_of_rows R f (compressed_of d vs)) d_is
-      ∙ ap (λ vs. plain_of_rows R f (compressed_of m.pattern vs)) vs_is
+pub update_of : (R : CommRing) {T : Type 0} (f : T → R.Carrier) (t : Bool) (o : Operands T)
+    (x : Factors T) {m : Compressed T} {p : Plain R} {d : Raw} {vs : List T} → AreMatricesOf o x
+    → AreFactors R f t p o → d ≡ m.pattern → vs ≡ m.values → IsSound m
+    → (plain_transpose_if R t p).rows ≡ m.pattern.major_dim
+    → (plain_transpose_if R t p).cols ≡ m.pattern.minor_dim → IsUpdateOf R f t m p x d vs
+update_of R f t o x {m} {p} {d} {vs} same are d_is vs_is sound lanes width =
+    let q = product_of R f x in
+    let is : q ≡ plain_transpose_if R t p = rw (same.0, same.1) are.product in
+    let old = plain_of_rows R f m in
+    let old_is : plain_of_rows R f (compressed_of d vs) ≡ old =
+    ap (λ d. plain_of_rows R f (compressed_of d vs)) d_is
+    ∙ ap (λ vs. plain_of_rows R f (compressed_of m.pattern vs)) vs_is in
+    let C : Plain R → Plain R → Type 0 =
+    λ q c. IsCovered q c ↔ IsCovered p (plain_transpose_if R t old) in
+    record {
+      sizes = record {
+        inner = rw (same.0, same.1) are.inner;
+        lanes = ap (λ (q : Plain R). q.rows) is ∙ lanes ∙ sym (ap (λ (d : Raw). d.major_dim) d_is);
+        count = ap length vs_is ∙ sound.count ∙ sym (ap (λ (d : Raw). length d.indices) d_is);
+      };
+      width = ap (λ (q : Plain R). q.cols) is ∙ width ∙ sym (ap (λ (d : Raw). d.minor_dim) d_is);
+      covered = subst (λ q. C q (plain_of_rows R f (compressed_of d vs))) (sym is)
+          (subst (C (plain_transpose_if R t p)) (sym old_is) (covered_through R t p old));
+      updated = λ beta alpha ws long new. ap (plain_transpose_if R t)
+          (ap (plain_of_rows R f) (written_back m ws (long ∙ ap length vs_is))
+          ∙ ap (λ d. plain_of_rows R f (compressed_of d ws)) (sym d_is) ∙ new
+          ∙ ap (λ c. plain_update R beta c alpha q) old_is ∙ ap (plain_update R beta old alpha) is)
+          ∙ update_through R t beta alpha old p;
+    }
 
-  -- q is x where rows are lanes, and its transpose where columns are lanes
-  module _ (R : CommRing) (f : T → R.Carrier) (t : Bool) (q x : Plain R)
-      (is : plain_transpose_if R t q ≡ x) where
-    pub covered_as : IsCovered q (plain_of_rows R f (compressed_of d vs))
-        ↔ IsCovered x (plain_transpose_if R t (plain_of_rows R f m))
-    covered_as =
-        let through = covered_through R t q (plain_of_rows R f m) in
-        let C : Plain R → Type 0 = λ c. IsCovered q c in
-        let D : Plain R → Type 0 = λ p. IsCovered p
-        (plain_transpose_if R t (plain_of_rows R f m)) in (
-          λ h. subst D is (through.0 (subst C (target_is R f) h)),
-          λ h. subst C (sym (target_is R f)) (through.1 (subst D (sym is) h)),
-        )
-
-    pub updated_as : (beta alpha : R.Carrier) (ws : List T) → length ws ≡ length vs
-        → plain_of_rows R f (compressed_of d ws) ≡ plain_update R beta
-        (plain_of_rows R f (compressed_of d vs)) alpha q
-        → plain_transpose_if R t (plain_of_rows R f (with_values m ws)) ≡ plain_update R beta
-        (plain_transpose_if R t (plain_of_rows R f m)) alpha x
-    updated_as beta alpha ws long same =
-        ap (plain_transpose_if R t) (ap (plain_of_rows R f)
-        (written_back m ws (long ∙ ap length vs_is))
-        ∙ ap (λ d. plain_of_rows R f (compressed_of d ws)) (sym d_is) ∙ same
-        ∙ ap (λ p. plain_update R beta p alpha q) (target_is R f))
-        ∙ update_through R t beta alpha (plain_of_rows R f m) q
-        ∙ ap (plain_update R beta (plain_transpose_if R t (plain_of_rows R f m)) alpha) is
+-- the steps of an update by the factors x, where they are the matrices of two operands
+pub no_more_as : {T : Type 0} (a b : Op (Bor (Compressed T))) (o : Operands T) (x : Factors T)
+    (old : ℕ) {c d : Raw} {new : ℕ} → AreMatricesOf o x → d ≡ c
+    → IfNotTransposed a b (λ m n. (matrix_of o.a ≡ m.now) × (matrix_of o.b ≡ n.now))
+    → new ≤ old + steps_of x d
+    → IfNotTransposed a b (λ m n. new ≤ old + nnz_of m.now.pattern + nnz_of c
+    + triples_of m.now.pattern n.now.pattern)
+no_more_as a b o x old same d_is given no_more =
+    let steps = rw (same.0, same.1, d_is) at no_more in
+    if_also a b (λ m n are. rw (← are.0, ← are.1) (omega (arith, steps))) given

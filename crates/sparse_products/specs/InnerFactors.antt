@@ -8,6 +8,7 @@ use Rattle.sparse_cs.specs.PlainOfLanes.{plain_of_rows}
 use Rattle.sparse_products.specs.declared.serial.factor.Factors.{Factors}
 use Rattle.sparse_products.specs.declared.serial.factor.Multiplicand.{Multiplicand}
 use Rattle.sparse_products.specs.declared.serial.factor.Multiplicand.TheVariants.{Given, Made}
+use Rattle.sparse_products.specs.declared.serial.factor.Operands.{Operands}
 
 -- the matrix of a factor
 abbrev pub matrix_of : {T : Type 0} → Multiplicand T → Compressed T
@@ -22,9 +23,13 @@ CanMultiply x = x.a.now.pattern.minor_dim ≡ x.b.now.pattern.major_dim
 abbrev pub product_of : (R : CommRing) {T : Type 0} → (T → R.Carrier) → Factors T → Plain R
 product_of R f x = plain_product R (plain_of_rows R f x.a.now) (plain_of_rows R f x.b.now)
 
--- the product of the factors by rows is x, or its transpose
+-- the factors are the matrices of the operands
+abbrev pub AreMatricesOf : {T : Type 0} → Operands T → Factors T → Type 0
+AreMatricesOf o x = (x.a.now ≡ matrix_of o.a) × (x.b.now ≡ matrix_of o.b)
+
+-- the product of the operands by rows is p, or its transpose
 pub record AreFactors (R : CommRing) {T : Type 0} (f : T → R.Carrier) (transposed : Bool)
-    (x : Plain R) (a b : Compressed T) : Type 0 where
-  pub inner : a.pattern.minor_dim ≡ b.pattern.major_dim
-  pub product : plain_transpose_if R transposed
-      (plain_product R (plain_of_rows R f a) (plain_of_rows R f b)) ≡ x
+    (p : Plain R) (o : Operands T) : Type 0 where
+  pub inner : (matrix_of o.a).pattern.minor_dim ≡ (matrix_of o.b).pattern.major_dim
+  pub product : plain_product R (plain_of_rows R f (matrix_of o.a))
+      (plain_of_rows R f (matrix_of o.b)) ≡ plain_transpose_if R transposed p

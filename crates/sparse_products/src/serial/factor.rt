@@ -1,10 +1,11 @@
 //! The factors of a product, transposed where the operand says so.
 
 ghost use Rattle.std.specs.Prelude.{◌≡◌, IsOk, IfOk, ⊤, true, false};
-ghost use Rattle.sparse_algebra.specs.Plain.{plain_transpose, plain_product};
+ghost use Rattle.sparse_algebra.specs.Plain.{plain_transpose};
 ghost use Rattle.sparse_algebra.specs.Operands.{plain_op, MatchOp};
 ghost use Rattle.sparse_cs.specs.PlainOfLanes.{plain_of_rows, plain_of_cols};
-ghost use Rattle.sparse_products.specs.InnerFactors.{matrix_of, AreFactors};
+ghost use Rattle.sparse_products.specs.InnerFactors.{matrix_of, AreFactors, AreMatricesOf};
+ghost use Rattle.sparse_products.specs.Products.{product_by_rows, product_by_cols};
 ghost use Rattle.sparse_products.specs.ScalarProducts.{IfNotTransposed};
 
 use sparse_algebra::learn;
@@ -51,8 +52,7 @@ pub(super) struct Operands<'a, T> {
 impl<'a, T> Operands<'a, T> {
     // Returns references to the factors.
     pub(super) fn factors(&self) -> Factors<'_, T>
-        ensures first { result.a.now ≡ matrix_of self.now.a }
-        ensures second { result.b.now ≡ matrix_of self.now.b }
+        ensures { AreMatricesOf self.now result }
     {
         Factors {
             a: self.a.matrix(),
@@ -70,10 +70,8 @@ pub(super) fn csr_operands<'a, T: Ring>(
 ) -> Result<Operands<'a, T>, AllocError>
     requires { (plain_op T.ring (λ m. plain_of_rows T.ring T.value m.now) a).cols
         ≡ (plain_op T.ring (λ m. plain_of_rows T.ring T.value m.now) b).rows }
-    ensures product { IfOk result (λ x. AreFactors T.ring T.value false
-        (plain_product T.ring (plain_op T.ring (λ m. plain_of_rows T.ring T.value m.now) a.entry)
-        (plain_op T.ring (λ m. plain_of_rows T.ring T.value m.now) b.entry))
-        (matrix_of x.a) (matrix_of x.b)) }
+    ensures product { IfOk result
+        (AreFactors T.ring T.value false (product_by_rows T.ring T.value a.entry b.entry)) }
     ensures given { IfOk result (λ x. IfNotTransposed a.entry b.entry
         (λ m n. (matrix_of x.a ≡ m.now) × (matrix_of x.b ≡ n.now))) }
     ensures free { IfNotTransposed a.entry b.entry (λ _ _. IsOk result) }
@@ -93,10 +91,8 @@ pub(super) fn csc_operands<'a, T: Ring>(
 ) -> Result<Operands<'a, T>, AllocError>
     requires { (plain_op T.ring (λ m. plain_of_cols T.ring T.value m.now) a).cols
         ≡ (plain_op T.ring (λ m. plain_of_cols T.ring T.value m.now) b).rows }
-    ensures product { IfOk result (λ x. AreFactors T.ring T.value true
-        (plain_product T.ring (plain_op T.ring (λ m. plain_of_cols T.ring T.value m.now) a.entry)
-        (plain_op T.ring (λ m. plain_of_cols T.ring T.value m.now) b.entry))
-        (matrix_of x.a) (matrix_of x.b)) }
+    ensures product { IfOk result
+        (AreFactors T.ring T.value true (product_by_cols T.ring T.value a.entry b.entry)) }
     ensures free { IfNotTransposed a.entry b.entry (λ _ _. IsOk result) }
 {
     let a = csc_factor(alloc, a)?;

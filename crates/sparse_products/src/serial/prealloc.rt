@@ -1,12 +1,12 @@
 //! A product into a given matrix, which may lack a place.
 
 ghost use Rattle.std.specs.Prelude.{◌≡◌, ◌⊎◌, IsOk, IfErr, OnOk, OnErr};
-ghost use Rattle.sparse_algebra.specs.Plain.{plain_product};
 ghost use Rattle.sparse_algebra.specs.declared.error.OperationErrorKind.TheVariants.{InvalidPattern};
 ghost use Rattle.sparse_algebra.specs.declared.error.OperationErrorKind.TheVariants.{OutOfMemory};
 ghost use Rattle.sparse_algebra.specs.Operands.{plain_op};
 ghost use Rattle.sparse_algebra.specs.Prealloc.{plain_update, IsCovered};
 ghost use Rattle.sparse_cs.specs.PlainOfLanes.{plain_of_rows, plain_of_cols};
+ghost use Rattle.sparse_products.specs.Products.{product_by_rows, product_by_cols};
 ghost use Rattle.sparse_products.specs.ScalarProducts.{IfNotTransposed};
 
 use super::factor::{csc_operands, csr_operands};
@@ -39,19 +39,13 @@ pub fn spmm_csr_prealloc<T: Ring>(
 ) -> Result<(), OperationError>
     requires inner { (plain_op T.ring (λ m. plain_of_rows T.ring T.value m.now) a).cols
         ≡ (plain_op T.ring (λ m. plain_of_rows T.ring T.value m.now) b).rows }
-    requires rows { (plain_op T.ring (λ m. plain_of_rows T.ring T.value m.now) a).rows
-        ≡ c.old.pattern.major_dim }
-    requires cols { (plain_op T.ring (λ m. plain_of_rows T.ring T.value m.now) b).cols
-        ≡ c.old.pattern.minor_dim }
+    requires rows { (product_by_rows T.ring T.value a b).rows ≡ c.old.pattern.major_dim }
+    requires cols { (product_by_rows T.ring T.value a b).cols ≡ c.old.pattern.minor_dim }
     ensures covered { IsOk result
-        → IsCovered (plain_product T.ring
-        (plain_op T.ring (λ m. plain_of_rows T.ring T.value m.now) a.entry)
-        (plain_op T.ring (λ m. plain_of_rows T.ring T.value m.now) b.entry))
+        → IsCovered (product_by_rows T.ring T.value a.entry b.entry)
         (plain_of_rows T.ring T.value c.old) }
     ensures refused { IfErr result (λ e. (e ≡ OutOfMemory) ⊎ ((e ≡ InvalidPattern)
-        × (IsCovered (plain_product T.ring
-        (plain_op T.ring (λ m. plain_of_rows T.ring T.value m.now) a.entry)
-        (plain_op T.ring (λ m. plain_of_rows T.ring T.value m.now) b.entry))
+        × (IsCovered (product_by_rows T.ring T.value a.entry b.entry)
         (plain_of_rows T.ring T.value c.old) → ⊥))) }
     ensures no_memory { IfNotTransposed a.entry b.entry
         (λ _ _. IfErr result (λ e. e ≡ InvalidPattern)) }
@@ -59,8 +53,7 @@ pub fn spmm_csr_prealloc<T: Ring>(
     ensures pattern { c.new.pattern ≡ c.old.pattern }
     ensures updated { OnOk result (plain_of_rows T.ring T.value c.new
         ≡ plain_update T.ring (T.value beta) (plain_of_rows T.ring T.value c.old) (T.value alpha)
-        (plain_product T.ring (plain_op T.ring (λ m. plain_of_rows T.ring T.value m.now) a.entry)
-        (plain_op T.ring (λ m. plain_of_rows T.ring T.value m.now) b.entry))) }
+        (product_by_rows T.ring T.value a.entry b.entry)) }
 {
     let operands = csr_operands(alloc, a, b)?;
     learn(c.values());
@@ -93,19 +86,13 @@ pub fn spmm_csc_prealloc<T: Ring>(
 ) -> Result<(), OperationError>
     requires inner { (plain_op T.ring (λ m. plain_of_cols T.ring T.value m.now) a).cols
         ≡ (plain_op T.ring (λ m. plain_of_cols T.ring T.value m.now) b).rows }
-    requires rows { (plain_op T.ring (λ m. plain_of_cols T.ring T.value m.now) a).rows
-        ≡ c.old.pattern.minor_dim }
-    requires cols { (plain_op T.ring (λ m. plain_of_cols T.ring T.value m.now) b).cols
-        ≡ c.old.pattern.major_dim }
+    requires rows { (product_by_cols T.ring T.value a b).rows ≡ c.old.pattern.minor_dim }
+    requires cols { (product_by_cols T.ring T.value a b).cols ≡ c.old.pattern.major_dim }
     ensures covered { IsOk result
-        → IsCovered (plain_product T.ring
-        (plain_op T.ring (λ m. plain_of_cols T.ring T.value m.now) a.entry)
-        (plain_op T.ring (λ m. plain_of_cols T.ring T.value m.now) b.entry))
+        → IsCovered (product_by_cols T.ring T.value a.entry b.entry)
         (plain_of_cols T.ring T.value c.old) }
     ensures refused { IfErr result (λ e. (e ≡ OutOfMemory) ⊎ ((e ≡ InvalidPattern)
-        × (IsCovered (plain_product T.ring
-        (plain_op T.ring (λ m. plain_of_cols T.ring T.value m.now) a.entry)
-        (plain_op T.ring (λ m. plain_of_cols T.ring T.value m.now) b.entry))
+        × (IsCovered (product_by_cols T.ring T.value a.entry b.entry)
         (plain_of_cols T.ring T.value c.old) → ⊥))) }
     ensures no_memory { IfNotTransposed a.entry b.entry
         (λ _ _. IfErr result (λ e. e ≡ InvalidPattern)) }
@@ -113,8 +100,7 @@ pub fn spmm_csc_prealloc<T: Ring>(
     ensures pattern { c.new.pattern ≡ c.old.pattern }
     ensures updated { OnOk result (plain_of_cols T.ring T.value c.new
         ≡ plain_update T.ring (T.value beta) (plain_of_cols T.ring T.value c.old) (T.value alpha)
-        (plain_product T.ring (plain_op T.ring (λ m. plain_of_cols T.ring T.value m.now) a.entry)
-        (plain_op T.ring (λ m. plain_of_cols T.ring T.value m.now) b.entry))) }
+        (product_by_cols T.ring T.value a.entry b.entry)) }
 {
     let operands = csc_operands(alloc, a, b)?;
     learn(c.values());

@@ -1,12 +1,12 @@
 //! A product into a given matrix that has each place.
 
 ghost use Rattle.std.specs.Prelude.{◌≡◌, ◌+◌, ◌≤◌, IfErr, OnOk, OnErr};
-ghost use Rattle.sparse_algebra.specs.Plain.{plain_product};
 ghost use Rattle.sparse_algebra.specs.declared.error.OperationErrorKind.TheVariants.{OutOfMemory};
 ghost use Rattle.sparse_algebra.specs.Operands.{plain_op};
 ghost use Rattle.sparse_algebra.specs.Prealloc.{plain_update, IsCovered};
 ghost use Rattle.sparse_pattern.specs.Raw.{nnz_of};
 ghost use Rattle.sparse_cs.specs.PlainOfLanes.{plain_of_rows, plain_of_cols};
+ghost use Rattle.sparse_products.specs.Products.{product_by_rows, product_by_cols};
 ghost use Rattle.sparse_products.specs.ScalarProducts.{IfNotTransposed, triples_of};
 
 use super::factor::{csc_operands, csr_operands};
@@ -39,21 +39,17 @@ pub fn spmm_csr_prealloc_unchecked<T: Ring>(
 ) -> Result<(), OperationError>
     requires inner { (plain_op T.ring (λ m. plain_of_rows T.ring T.value m.now) a).cols
         ≡ (plain_op T.ring (λ m. plain_of_rows T.ring T.value m.now) b).rows }
-    requires rows { (plain_op T.ring (λ m. plain_of_rows T.ring T.value m.now) a).rows
-        ≡ c.old.pattern.major_dim }
-    requires cols { (plain_op T.ring (λ m. plain_of_rows T.ring T.value m.now) b).cols
-        ≡ c.old.pattern.minor_dim }
+    requires rows { (product_by_rows T.ring T.value a b).rows ≡ c.old.pattern.major_dim }
+    requires cols { (product_by_rows T.ring T.value a b).cols ≡ c.old.pattern.minor_dim }
     requires covered { IsCovered
-        (plain_product T.ring (plain_op T.ring (λ m. plain_of_rows T.ring T.value m.now) a)
-        (plain_op T.ring (λ m. plain_of_rows T.ring T.value m.now) b))
+        (product_by_rows T.ring T.value a b)
         (plain_of_rows T.ring T.value c.old) }
     ensures refused { IfErr result (λ e. e ≡ OutOfMemory) }
     ensures unchanged { OnErr result (c.new ≡ c.old) }
     ensures pattern { c.new.pattern ≡ c.old.pattern }
     ensures updated { OnOk result (plain_of_rows T.ring T.value c.new
         ≡ plain_update T.ring (T.value beta) (plain_of_rows T.ring T.value c.old) (T.value alpha)
-        (plain_product T.ring (plain_op T.ring (λ m. plain_of_rows T.ring T.value m.now) a.entry)
-        (plain_op T.ring (λ m. plain_of_rows T.ring T.value m.now) b.entry))) }
+        (product_by_rows T.ring T.value a.entry b.entry)) }
 {
     spmm_csr_prealloc_unchecked_counted(alloc, beta, c, alpha, a, b, &mut Steps::new())
 }
@@ -97,21 +93,17 @@ pub fn spmm_csr_prealloc_unchecked_counted<T: Ring>(
 ) -> Result<(), OperationError>
     requires inner { (plain_op T.ring (λ m. plain_of_rows T.ring T.value m.now) a).cols
         ≡ (plain_op T.ring (λ m. plain_of_rows T.ring T.value m.now) b).rows }
-    requires rows { (plain_op T.ring (λ m. plain_of_rows T.ring T.value m.now) a).rows
-        ≡ c.old.pattern.major_dim }
-    requires cols { (plain_op T.ring (λ m. plain_of_rows T.ring T.value m.now) b).cols
-        ≡ c.old.pattern.minor_dim }
+    requires rows { (product_by_rows T.ring T.value a b).rows ≡ c.old.pattern.major_dim }
+    requires cols { (product_by_rows T.ring T.value a b).cols ≡ c.old.pattern.minor_dim }
     requires covered { IsCovered
-        (plain_product T.ring (plain_op T.ring (λ m. plain_of_rows T.ring T.value m.now) a)
-        (plain_op T.ring (λ m. plain_of_rows T.ring T.value m.now) b))
+        (product_by_rows T.ring T.value a b)
         (plain_of_rows T.ring T.value c.old) }
     ensures refused { IfErr result (λ e. e ≡ OutOfMemory) }
     ensures unchanged { OnErr result (c.new ≡ c.old) }
     ensures pattern { c.new.pattern ≡ c.old.pattern }
     ensures updated { OnOk result (plain_of_rows T.ring T.value c.new
         ≡ plain_update T.ring (T.value beta) (plain_of_rows T.ring T.value c.old) (T.value alpha)
-        (plain_product T.ring (plain_op T.ring (λ m. plain_of_rows T.ring T.value m.now) a.entry)
-        (plain_op T.ring (λ m. plain_of_rows T.ring T.value m.now) b.entry))) }
+        (product_by_rows T.ring T.value a.entry b.entry)) }
     ensures no_more { IfNotTransposed a.entry b.entry
         (λ m n. steps.new ≤ steps.old + nnz_of m.now.pattern
         + nnz_of c.old.pattern + triples_of m.now.pattern n.now.pattern) }
@@ -150,21 +142,17 @@ pub fn spmm_csc_prealloc_unchecked<T: Ring>(
 ) -> Result<(), OperationError>
     requires inner { (plain_op T.ring (λ m. plain_of_cols T.ring T.value m.now) a).cols
         ≡ (plain_op T.ring (λ m. plain_of_cols T.ring T.value m.now) b).rows }
-    requires rows { (plain_op T.ring (λ m. plain_of_cols T.ring T.value m.now) a).rows
-        ≡ c.old.pattern.minor_dim }
-    requires cols { (plain_op T.ring (λ m. plain_of_cols T.ring T.value m.now) b).cols
-        ≡ c.old.pattern.major_dim }
+    requires rows { (product_by_cols T.ring T.value a b).rows ≡ c.old.pattern.minor_dim }
+    requires cols { (product_by_cols T.ring T.value a b).cols ≡ c.old.pattern.major_dim }
     requires covered { IsCovered
-        (plain_product T.ring (plain_op T.ring (λ m. plain_of_cols T.ring T.value m.now) a)
-        (plain_op T.ring (λ m. plain_of_cols T.ring T.value m.now) b))
+        (product_by_cols T.ring T.value a b)
         (plain_of_cols T.ring T.value c.old) }
     ensures refused { IfErr result (λ e. e ≡ OutOfMemory) }
     ensures unchanged { OnErr result (c.new ≡ c.old) }
     ensures pattern { c.new.pattern ≡ c.old.pattern }
     ensures updated { OnOk result (plain_of_cols T.ring T.value c.new
         ≡ plain_update T.ring (T.value beta) (plain_of_cols T.ring T.value c.old) (T.value alpha)
-        (plain_product T.ring (plain_op T.ring (λ m. plain_of_cols T.ring T.value m.now) a.entry)
-        (plain_op T.ring (λ m. plain_of_cols T.ring T.value m.now) b.entry))) }
+        (product_by_cols T.ring T.value a.entry b.entry)) }
 {
     let operands = csc_operands(alloc, a, b)?;
     learn(c.values());

@@ -1,6 +1,7 @@
 use Rattle.std.proofs.Common.{ap, sym, ◌∙◌}
-use Rattle.sparse_algebra.specs.Plain.{Plain}
+use Rattle.sparse_algebra.specs.Plain.{Plain, plain_transpose}
 use Rattle.sparse_algebra.proofs.PlainLemmas.{transpose_product}
+use Rattle.sparse_algebra.proofs.PlainLaws.{transpose_twice}
 use Rattle.sparse_cs.specs.PlainOfLanes.{plain_of_rows}
 use Rattle.sparse_products.specs.InnerFactors.{matrix_of}
 use Rattle.sparse_products.proofs.Updating.{product_same}
@@ -16,6 +17,7 @@ returns-clause-product g c =
     ∙ sym (ap (λ (p : Plain R). p.cols) first) in
     record {
       inner = fits;
-      product = transpose_product R (plain_of_rows R f (matrix_of c.in_ok-b.b))
-          (plain_of_rows R f (matrix_of c.in_ok-a.a)) fits ∙ product_same R first second;
+      product = sym (transpose_twice R _) ∙ ap (plain_transpose R)
+          (transpose_product R (plain_of_rows R f (matrix_of c.in_ok-b.b))
+          (plain_of_rows R f (matrix_of c.in_ok-a.a)) fits ∙ product_same R first second);
     }

@@ -1,32 +1,29 @@
-use Rattle.std.proofs.Common.{ap, sym, ◌∙◌, true, arith}
+use Rattle.std.proofs.Common.{true, arith}
 use Rattle.std.proofs.lemmas.Grind.{common_steps}
-use Rattle.sparse_algebra.specs.Plain.{Plain}
-use Rattle.sparse_products.proofs.Updating.{can_update, covered_as, updated_as}
+use Rattle.sparse_products.proofs.Updating.{update_of}
 use Rattle.sparse_products.proofs.serial.unchecked.spmm_csc_prealloc_unchecked.Goals as goal
 
 pub update_covered-requires : goal.update_covered-requires
 update_covered-requires g c =
-    let R = g.T.Ring.ring in
     let target = c.pattern_and_values_mut-values.ensures in
-    let are = rw (← c.factors.ensures.first, ← c.factors.ensures.second)
-    at c.in_ok-operands.ensures.product in
+    let update = update_of g.T.Ring.ring g.T.Ring.value true c.in_ok-operands.operands c.factors.result
+    c.factors.ensures c.in_ok-operands.ensures.product target.pattern target.values
+    c.values.ensures.sound c.requires.cols c.requires.rows in
     record {
-      sizes = can_update target.pattern target.values c.values.ensures.sound are.inner
-          (ap (λ (p : Plain R). p.cols) are.product ∙ c.requires.cols);
-      width = ap (λ (p : Plain R). p.rows) are.product ∙ c.requires.rows
-          ∙ sym (ap (λ d. d.minor_dim) target.pattern);
-      covered = (covered_as target.pattern target.values R g.T.Ring.value true _ _
-          are.product).1 c.requires.covered;
+      sizes = update.sizes;
+      width = update.width;
+      covered = update.covered.1 c.requires.covered;
     }
 
 pub returns-clause-updated : goal.returns-clause-updated
 returns-clause-updated g c =
     let f = g.T.Ring.value in
     let target = c.pattern_and_values_mut-values.ensures in
-    let are = rw (← c.factors.ensures.first, ← c.factors.ensures.second)
-    at c.in_ok-operands.ensures.product in
-    updated_as target.pattern target.values g.T.Ring.ring f true _ _ are.product (f c.args.beta)
-    (f c.args.alpha) _ c.update_covered.auto.values c.in_ok-update_covered.ensures.updated
+    let update = update_of g.T.Ring.ring f true c.in_ok-operands.operands c.factors.result
+    c.factors.ensures c.in_ok-operands.ensures.product target.pattern target.values
+    c.values.ensures.sound c.requires.cols c.requires.rows in
+    update.updated (f c.args.beta) (f c.args.alpha) _ c.update_covered.auto.values
+    c.in_ok-update_covered.ensures.updated
 
 -- ---- written by tools/answer-goals
 

@@ -1,61 +1,49 @@
-use Rattle.std.proofs.Common.{ap, sym, ◌∙◌, false, arith}
+use Rattle.std.proofs.Common.{false, arith}
 use Rattle.std.proofs.lemmas.Grind.{common_steps}
-use Rattle.sparse_algebra.specs.Plain.{Plain}
-use Rattle.sparse_products.proofs.Updating.{can_update, covered_as, if_also, if_of_all}
-use Rattle.sparse_products.proofs.Updating.{updated_as}
+use Rattle.sparse_products.proofs.Updating.{if_also, if_of_all, no_more_as, update_of}
 use Rattle.sparse_products.proofs.serial.unchecked.spmm_csr_prealloc_unchecked_counted.Goals as goal
 
 pub update_covered-requires : goal.update_covered-requires
 update_covered-requires g c =
-    let R = g.T.Ring.ring in
     let target = c.pattern_and_values_mut-values.ensures in
-    let are = rw (← c.factors.ensures.first, ← c.factors.ensures.second)
-    at c.in_ok-operands.ensures.product in
+    let update = update_of g.T.Ring.ring g.T.Ring.value false c.in_ok-operands.operands c.factors.result
+    c.factors.ensures c.in_ok-operands.ensures.product target.pattern target.values
+    c.values.ensures.sound c.requires.rows c.requires.cols in
     record {
-      sizes = can_update target.pattern target.values c.values.ensures.sound are.inner
-          (ap (λ (p : Plain R). p.rows) are.product ∙ c.requires.rows);
-      width = ap (λ (p : Plain R). p.cols) are.product ∙ c.requires.cols
-          ∙ sym (ap (λ d. d.minor_dim) target.pattern);
-      covered = (covered_as target.pattern target.values R g.T.Ring.value false _ _
-          are.product).1 c.requires.covered;
+      sizes = update.sizes;
+      width = update.width;
+      covered = update.covered.1 c.requires.covered;
     }
 
 pub returns-clause-updated : goal.returns-clause-updated
 returns-clause-updated g c =
     let f = g.T.Ring.value in
     let target = c.pattern_and_values_mut-values.ensures in
-    let are = rw (← c.factors.ensures.first, ← c.factors.ensures.second)
-    at c.in_ok-operands.ensures.product in
-    updated_as target.pattern target.values g.T.Ring.ring f false _ _ are.product (f c.args.beta)
-    (f c.args.alpha) _ c.update_covered.auto.values c.in_ok-update_covered.ensures.updated
+    let update = update_of g.T.Ring.ring f false c.in_ok-operands.operands c.factors.result
+    c.factors.ensures c.in_ok-operands.ensures.product target.pattern target.values
+    c.values.ensures.sound c.requires.rows c.requires.cols in
+    update.updated (f c.args.beta) (f c.args.alpha) _ c.update_covered.auto.values
+    c.in_ok-update_covered.ensures.updated
 
 pub returns-in_err-operands-clause-no_more : goal.returns-in_err-operands-clause-no_more
 returns-in_err-operands-clause-no_more g c = if_of_all c.args.a c.args.b (λ m n. omega arith)
 
 pub returns-in_err-update_covered-clause-no_more : goal.returns-in_err-update_covered-clause-no_more
 returns-in_err-update_covered-clause-no_more g c =
-    let steps = rw (
-      c.factors.ensures.first,
-      c.factors.ensures.second,
-      c.pattern_and_values_mut-values.ensures.pattern,
-    ) at c.update_covered.ensures.no_more in
-    if_also c.args.a c.args.b (λ m n same. rw (← same.0, ← same.1) (omega (arith, steps)))
-    c.in_ok-operands.ensures.given
+    no_more_as c.args.a c.args.b c.in_ok-operands.operands c.factors.result _ c.factors.ensures
+    c.pattern_and_values_mut-values.ensures.pattern c.in_ok-operands.ensures.given
+    c.update_covered.ensures.no_more
 
 pub returns-clause-no_more : goal.returns-clause-no_more
 returns-clause-no_more g c =
-    let steps = rw (
-      c.factors.ensures.first,
-      c.factors.ensures.second,
-      c.pattern_and_values_mut-values.ensures.pattern,
-    ) at c.update_covered.ensures.no_more in
-    if_also c.args.a c.args.b (λ m n same. rw (← same.0, ← same.1) (omega (arith, steps)))
-    c.in_ok-operands.ensures.given
+    no_more_as c.args.a c.args.b c.in_ok-operands.operands c.factors.result _ c.factors.ensures
+    c.pattern_and_values_mut-values.ensures.pattern c.in_ok-operands.ensures.given
+    c.update_covered.ensures.no_more
 
 pub returns-clause-all_multiplied : goal.returns-clause-all_multiplied
 returns-clause-all_multiplied g c =
     if_also c.args.a c.args.b (λ m n same. rw (← same.0, ← same.1)
-    (rw (c.factors.ensures.first, c.factors.ensures.second)
+    (rw (c.factors.ensures.0, c.factors.ensures.1)
     at c.in_ok-update_covered.ensures.all_multiplied)) c.in_ok-operands.ensures.given
 
 -- ---- written by tools/answer-goals
