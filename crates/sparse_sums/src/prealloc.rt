@@ -1,13 +1,13 @@
 //! A sum into a given matrix.
 
-ghost use Rattle.std.specs.Prelude.{◌≡◌, ℕ, ◌<◌, ◌↔◌, true, false, IsTrue, IsOk, IfErr, OnOk};
+ghost use Rattle.std.specs.Prelude.{◌≡◌, ℕ, ◌↔◌, true, false, IsTrue, IsOk, IfErr, OnOk};
 ghost use Rattle.std.specs.Prelude.{OnErr, length, slice_index_or};
 ghost use Rattle.sparse_algebra.specs.declared.error.OperationErrorKind.TheVariants.{InvalidPattern};
 ghost use Rattle.sparse_cs.specs.Compressed.{IsPosition, IsSound};
 ghost use Rattle.sparse_cs.specs.PlainOfLanes.{plain_of_rows, plain_of_cols};
 ghost use Rattle.sparse_algebra.specs.Operands.{plain_op};
 ghost use Rattle.sparse_algebra.specs.Prealloc.{plain_update, IsCovered};
-ghost use Rattle.sparse_sums.specs.InnerPlacing.{HasPlacesOf};
+ghost use Rattle.sparse_sums.specs.InnerPlacing.{lanes_of_op, HasPlacesOf};
 ghost use Rattle.sparse_cs.specs.InnerUpdates.{AreUpdated};
 ghost use Rattle.sparse_algebra.specs.Prealloc.{plain_transpose_if};
 
@@ -16,8 +16,8 @@ use sparse_algebra::error::OperationError;
 use sparse_algebra::learn;
 use sparse_algebra::operand::Op;
 use sparse_algebra::scalar::Ring;
-use sparse_cs::{CsMatrix, position_of};
 use sparse_cs::scaling::scale_values;
+use sparse_cs::{CsMatrix, position_of};
 use sparse_forms::csc::CscMatrix;
 use sparse_forms::csr::CsrMatrix;
 use sparse_pattern::pattern::SparsityPattern;
@@ -54,8 +54,8 @@ pub fn spadd_csr_prealloc<T: Ring>(
     learn(c.values());
     let (pattern, values) = c.pattern_and_values_mut();
     match a {
-        Op::NoOp(a) => add_into(beta, pattern, values, alpha, a.cs()),
-        Op::Transpose(a) => add_transposed_into(beta, pattern, values, alpha, a.cs()),
+        Op::NoOp(a) => add_into(beta, pattern, values, alpha, false, a.cs()),
+        Op::Transpose(a) => add_into(beta, pattern, values, alpha, true, a.cs()),
     }
 }
 
@@ -91,68 +91,77 @@ pub fn spadd_csc_prealloc<T: Ring>(
     learn(c.values());
     let (pattern, values) = c.pattern_and_values_mut();
     match a {
-        Op::NoOp(a) => add_into(beta, pattern, values, alpha, a.cs()),
-        Op::Transpose(a) => add_transposed_into(beta, pattern, values, alpha, a.cs()),
+        Op::NoOp(a) => add_into(beta, pattern, values, alpha, false, a.cs()),
+        Op::Transpose(a) => add_into(beta, pattern, values, alpha, true, a.cs()),
     }
 }
 
-// Multiplies the values by `beta` and adds `alpha` times the operand's, or refuses before any value
+// Multiplies the values by `beta` and adds `alpha` times the operand's, or its transpose's, or refuses before any value
 // is written.
-pub(crate) fn add_into<T: Ring>(
+fn add_into<T: Ring>(
     beta: T,
     pattern: &SparsityPattern,
     values: &mut [T],
     alpha: T,
+    transposed: bool,
     a: &CsMatrix<T>,
 ) -> Result<(), OperationError>
     requires count { length values.old ≡ length pattern.now.indices }
-    requires lanes { a.now.pattern.major_dim ≡ pattern.now.major_dim }
+    requires lanes { lanes_of_op transposed a.now.pattern ≡ pattern.now.major_dim }
     ensures count { length values.new ≡ length values.old }
-    ensures covered { IsOk result ↔ HasPlacesOf pattern.now false a.now.pattern }
+    ensures covered { IsOk result ↔ HasPlacesOf pattern.now transposed a.now.pattern }
     ensures kind { IfErr result (λ e. e ≡ InvalidPattern) }
     ensures unchanged { OnErr result (values.new ≡ values.old) }
     ensures sound { IsSound a.now }
     ensures added { OnOk result (AreUpdated T.ring T.value T.zero_value pattern.now
         (T.value beta) (T.value alpha)
-        (plain_transpose_if T.ring false (plain_of_rows T.ring T.value a.now)).value
+        (plain_transpose_if T.ring transposed (plain_of_rows T.ring T.value a.now)).value
         values.old values.new) }
 {
     learn(pattern.major_offsets());
-    if !covers_lanes(pattern, a.pattern()) {
+    if !covers(pattern, transposed, a.pattern()) {
         return Err(OperationError::of_sum_pattern());
     }
     scale_values(beta, values);
-    add_in_order(pattern, values, alpha, a);
+    add_entries(pattern, values, alpha, transposed, a);
     Ok(())
 }
 
-// The same for the transpose of the operand.
-fn add_transposed_into<T: Ring>(
-    beta: T,
-    pattern: &SparsityPattern,
+// Whether the target has each place of the operand, or of its transpose.
+fn covers(target: &SparsityPattern, transposed: bool, a: &SparsityPattern) -> bool
+    requires { lanes_of_op transposed a.now ≡ target.now.major_dim }
+    ensures { IsTrue result ↔ HasPlacesOf target.now transposed a.now }
+{
+    if transposed {
+        covers_transposed(target, a)
+    } else {
+        covers_lanes(target, a)
+    }
+}
+
+// Adds `alpha` times the values of the operand, or of its transpose, at their places.
+fn add_entries<T: Ring>(
+    target: &SparsityPattern,
     values: &mut [T],
     alpha: T,
+    transposed: bool,
     a: &CsMatrix<T>,
-) -> Result<(), OperationError>
-    requires count { length values.old ≡ length pattern.now.indices }
-    requires lanes { a.now.pattern.minor_dim ≡ pattern.now.major_dim }
+)
+    requires count { length values.old ≡ length target.now.indices }
+    requires lanes { lanes_of_op transposed a.now.pattern ≡ target.now.major_dim }
+    requires covered { HasPlacesOf target.now transposed a.now.pattern }
     ensures count { length values.new ≡ length values.old }
-    ensures covered { IsOk result ↔ HasPlacesOf pattern.now true a.now.pattern }
-    ensures kind { IfErr result (λ e. e ≡ InvalidPattern) }
-    ensures unchanged { OnErr result (values.new ≡ values.old) }
-    ensures sound { IsSound a.now }
-    ensures added { OnOk result (AreUpdated T.ring T.value T.zero_value pattern.now
-        (T.value beta) (T.value alpha)
-        (plain_transpose_if T.ring true (plain_of_rows T.ring T.value a.now)).value
-        values.old values.new) }
+    ensures added { (i j p : ℕ) → IsPosition target.now i j p
+        → T.value (slice_index_or values.new p T.zero_value)
+        ≡ T.ring.add (T.value (slice_index_or values.old p T.zero_value))
+        (T.ring.mul (T.value alpha)
+        ((plain_transpose_if T.ring transposed (plain_of_rows T.ring T.value a.now)).value i j)) }
 {
-    learn(pattern.major_offsets());
-    if !covers_transposed(pattern, a.pattern()) {
-        return Err(OperationError::of_sum_pattern());
+    if transposed {
+        add_transposed(target, values, alpha, a);
+    } else {
+        add_in_order(target, values, alpha, a);
     }
-    scale_values(beta, values);
-    add_transposed(pattern, values, alpha, a);
-    Ok(())
 }
 
 // Whether the target has each place of the operand's transpose.
@@ -180,7 +189,7 @@ fn add_transposed<T: Ring>(target: &SparsityPattern, values: &mut [T], alpha: T,
         → T.value (slice_index_or values.new p T.zero_value)
         ≡ T.ring.add (T.value (slice_index_or values.old p T.zero_value))
         (T.ring.mul (T.value alpha)
-        ((plain_transpose_if T.ring true (plain_of_rows T.ring T.value a.now)).value i j)) }
+        ((plain_of_rows T.ring T.value a.now).value j i)) }
 {
     learn(target.major_offsets());
     for (i, j, value) in a.triplet_iter() {
