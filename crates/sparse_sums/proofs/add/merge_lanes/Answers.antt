@@ -17,25 +17,16 @@ loop-i-init g c =
           g.T.Ring.value (not (eqb g.row.NEGATE 0)) c.args.a.now c.args.b.now);
     }
 
-pub merge_lane-requires-clause-count : goal.merge_lane-requires-clause-count
-merge_lane-requires-clause-count g c = c.loop-i.invariant.values_count
-
-pub merge_lane-requires-clause-first : goal.merge_lane-requires-clause-first
-merge_lane-requires-clause-first g c = omega (
-  arith,
-  c.loop-i-test.true,
-  c.major_dim-i-end.ensures,
-  ap (λ (d : Raw). d.major_dim) c.pattern.ensures.pattern,
-)
-
-pub merge_lane-requires-clause-second : goal.merge_lane-requires-clause-second
-merge_lane-requires-clause-second g c = omega (
-  arith,
-  c.loop-i-test.true,
-  c.major_dim-i-end.ensures,
-  ap (λ (d : Raw). d.major_dim) c.pattern.ensures.pattern,
-  c.requires.lanes,
-)
+pub merge_lane-requires : goal.merge_lane-requires
+merge_lane-requires g c =
+    let lanes = ap (λ (d : Raw). d.major_dim) c.pattern.ensures.pattern in
+    let below : c.loop-i.i < c.args.a.now.pattern.major_dim =
+    omega (arith, c.loop-i-test.true, c.major_dim-i-end.ensures, lanes) in
+    record {
+      first = below;
+      second = omega (arith, below, c.requires.lanes);
+      count = c.loop-i.invariant.values_count;
+    }
 
 pub loop-i-preserved : goal.loop-i-preserved
 loop-i-preserved g c =
@@ -70,32 +61,27 @@ loop-i-preserved g c =
           (c.len.ensures ∙ now.indices.ok.0));
     }
 
-pub returns-clause-sound : goal.returns-clause-sound
-returns-clause-sound g c =
+pub returns : goal.returns
+returns g c =
+    let R = g.T.Ring.ring in
+    let f = g.T.Ring.value in
+    let z = g.T.Zero.zero_value in
+    let negate = not (eqb g.row.NEGATE 0) in
     let a = c.args.a.now in
-    let whole : c.loop-i.i ≡ a.pattern.major_dim = omega (
+    let b = c.args.b.now in
+    let sa = c.pattern.ensures.sound in
+    let r = c.requires in
+    let done = c.loop-i in
+    let whole : done.i ≡ a.pattern.major_dim = omega (
       arith,
       c.loop-i-test.false,
-      c.loop-i.auto.i-end,
+      done.auto.i-end,
       c.major_dim-i-end.ensures,
       ap (λ (d : Raw). d.major_dim) c.pattern.ensures.pattern,
     ) in
-    sum_sound g.T.Ring.ring g.T.Ring.value g.T.Zero.zero_value (not (eqb g.row.NEGATE 0)) a
-    c.args.b.now c.pattern.ensures.sound c.requires.sound c.requires.lanes c.requires.width
-    c.loop-i.i c.loop-i.offsets.items c.loop-i.indices.items c.loop-i.values.items whole
-    c.loop-i.invariant.built
-
-pub returns-clause-sum : goal.returns-clause-sum
-returns-clause-sum g c =
-    let a = c.args.a.now in
-    let whole : c.loop-i.i ≡ a.pattern.major_dim = omega (
-      arith,
-      c.loop-i-test.false,
-      c.loop-i.auto.i-end,
-      c.major_dim-i-end.ensures,
-      ap (λ (d : Raw). d.major_dim) c.pattern.ensures.pattern,
-    ) in
-    sum_is g.T.Ring.ring g.T.Ring.value g.T.Zero.zero_value (not (eqb g.row.NEGATE 0)) a
-    c.args.b.now c.pattern.ensures.sound c.requires.sound c.requires.lanes c.requires.width
-    c.loop-i.i c.loop-i.offsets.items c.loop-i.indices.items c.loop-i.values.items whole
-    c.loop-i.invariant.built
+    record {
+      sound = sum_sound R f z negate a b sa r.sound r.lanes r.width done.i done.offsets.items
+          done.indices.items done.values.items whole done.invariant.built;
+      sum = sum_is R f z negate a b sa r.sound r.lanes r.width done.i done.offsets.items
+          done.indices.items done.values.items whole done.invariant.built;
+    }

@@ -1,4 +1,4 @@
-use Rattle.std.proofs.Common.{◌≡◌, ◌<◌, inl, inr, not, eqb, get_or, refl, ap, ◌∙◌, arith}
+use Rattle.std.proofs.Common.{◌≡◌, ◌<◌, not, eqb, get_or, refl, ap, ◌∙◌, arith}
 use Rattle.sparse_sums.specs.InnerSigns.{signed}
 use Rattle.sparse_sums.proofs.Adding.{none_added, adding_first, adding_second, adding_both}
 use Rattle.sparse_sums.proofs.merge.add_fronts.Goals as goal
@@ -109,31 +109,3 @@ loop-p-preserved g c =
           }
       | else-j-k w ↦ absurd (omega arith)
     ]
-
-pub returns-after-loop-p : goal.returns-after-loop-p
-returns-after-loop-p g c =
-    let inv = c.loop-p.invariant in
-    record {
-      capacity = inv.capacity;
-      values_capacity = inv.values_capacity;
-      count = inv.values_count;
-      first = inv.first;
-      second = inv.second;
-      len = inv.count;
-      end = inl (omega (arith, inv.first));
-      added = inv.added;
-    }
-
-pub returns-else-q-b : goal.returns-else-q-b
-returns-else-q-b g c =
-    let inv = c.loop-p.invariant in
-    record {
-      capacity = inv.capacity;
-      values_capacity = inv.values_capacity;
-      count = inv.values_count;
-      first = inv.first;
-      second = inv.second;
-      len = inv.count;
-      end = inr (omega (arith, inv.second));
-      added = inv.added;
-    }

@@ -55,89 +55,73 @@ slice_bounds-push_rest-count-4 g c = rw c.requires.b_count c.add_fronts-p.ensure
 pub slice_bounds-push_rest-start-4 : goal.slice_bounds-push_rest-start-4
 slice_bounds-push_rest-start-4 g c = rw c.requires.b_count c.add_fronts-p.ensures.second
 
-pub push_rest-requires-clause-count : goal.push_rest-requires-clause-count
-push_rest-requires-clause-count g c = rw (take_rest, take_rest)
-    (omega (
-      arith,
-      length-drop c.add_fronts-p.result.0 c.args.a.now,
-      length-drop c.add_fronts-p.result.0 c.args.a_values.now,
-      c.requires.a_count,
-    ))
+pub push_rest-requires : goal.push_rest-requires
+push_rest-requires g c =
+    let fronts = c.add_fronts-p.ensures in
+    let rest = length-drop c.add_fronts-p.result.0 c.args.a.now in
+    let rest_values = length-drop c.add_fronts-p.result.0 c.args.a_values.now in
+    let room = c.in_ok-reserve.ensures.ok in
+    let values_room = c.in_ok-reserve-2.ensures.ok in
+    let len = c.reserve.ensures.len in
+    let values_len = c.reserve-2.ensures.len in
+    record {
+      count = rw (take_rest, take_rest) (omega (arith, rest, rest_values, c.requires.a_count));
+      room = rw take_rest (omega (arith, rest, fronts.len, fronts.capacity, room, len));
+      values_room = rw take_rest (omega (
+        arith,
+        rest,
+        fronts.len,
+        fronts.count,
+        fronts.values_capacity,
+        values_room,
+        len,
+        values_len,
+        c.requires.count,
+      ));
+    }
 
-pub push_rest-requires-2-clause-count : goal.push_rest-requires-2-clause-count
-push_rest-requires-2-clause-count g c = rw (take_rest, take_rest)
-    (omega (
-      arith,
-      length-drop c.add_fronts-p.result.1 c.args.b.now,
-      length-drop c.add_fronts-p.result.1 c.args.b_values.now,
-      c.requires.b_count,
-    ))
-
-pub push_rest-requires-clause-room : goal.push_rest-requires-clause-room
-push_rest-requires-clause-room g c = rw take_rest
-    (omega (
-      arith,
-      length-drop c.add_fronts-p.result.0 c.args.a.now,
-      c.add_fronts-p.ensures.len,
-      c.add_fronts-p.ensures.capacity,
-      c.in_ok-reserve.ensures.ok,
-      c.in_ok-reserve-2.ensures.ok,
-      c.reserve.ensures.len,
-      c.reserve-2.ensures.len,
-      c.requires.count,
-    ))
-
-pub push_rest-requires-clause-values_room : goal.push_rest-requires-clause-values_room
-push_rest-requires-clause-values_room g c = rw take_rest
-    (omega (
-      arith,
-      length-drop c.add_fronts-p.result.0 c.args.a.now,
-      c.add_fronts-p.ensures.len,
-      c.add_fronts-p.ensures.count,
-      c.add_fronts-p.ensures.values_capacity,
-      c.in_ok-reserve.ensures.ok,
-      c.in_ok-reserve-2.ensures.ok,
-      c.reserve.ensures.len,
-      c.reserve-2.ensures.len,
-      c.requires.count,
-    ))
-
-pub push_rest-requires-2-clause-room : goal.push_rest-requires-2-clause-room
-push_rest-requires-2-clause-room g c = rw take_rest
-    (omega (
-      arith,
-      length-drop c.add_fronts-p.result.1 c.args.b.now,
-      ap length (take_rest c.args.a.now c.add_fronts-p.result.0),
-      length-drop c.add_fronts-p.result.0 c.args.a.now,
-      c.add_fronts-p.ensures.len,
-      c.add_fronts-p.ensures.capacity,
-      c.push_rest.ensures.len,
-      c.push_rest.ensures.capacity,
-      c.in_ok-reserve.ensures.ok,
-      c.in_ok-reserve-2.ensures.ok,
-      c.reserve.ensures.len,
-      c.reserve-2.ensures.len,
-      c.requires.count,
-    ))
-
-pub push_rest-requires-2-clause-values_room : goal.push_rest-requires-2-clause-values_room
-push_rest-requires-2-clause-values_room g c = rw take_rest
-    (omega (
-      arith,
-      length-drop c.add_fronts-p.result.1 c.args.b.now,
-      ap length (take_rest c.args.a.now c.add_fronts-p.result.0),
-      length-drop c.add_fronts-p.result.0 c.args.a.now,
-      c.add_fronts-p.ensures.len,
-      c.add_fronts-p.ensures.count,
-      c.add_fronts-p.ensures.values_capacity,
-      c.push_rest.ensures.values_len,
-      c.push_rest.ensures.values_capacity,
-      c.in_ok-reserve.ensures.ok,
-      c.in_ok-reserve-2.ensures.ok,
-      c.reserve.ensures.len,
-      c.reserve-2.ensures.len,
-      c.requires.count,
-    ))
+pub push_rest-requires-2 : goal.push_rest-requires-2
+push_rest-requires-2 g c =
+    let fronts = c.add_fronts-p.ensures in
+    let pushed = c.push_rest.ensures in
+    let rest = length-drop c.add_fronts-p.result.1 c.args.b.now in
+    let rest_values = length-drop c.add_fronts-p.result.1 c.args.b_values.now in
+    let first = length-drop c.add_fronts-p.result.0 c.args.a.now in
+    let was = ap length (take_rest c.args.a.now c.add_fronts-p.result.0) in
+    let room = c.in_ok-reserve.ensures.ok in
+    let values_room = c.in_ok-reserve-2.ensures.ok in
+    let len = c.reserve.ensures.len in
+    let values_len = c.reserve-2.ensures.len in
+    record {
+      count = rw (take_rest, take_rest) (omega (arith, rest, rest_values, c.requires.b_count));
+      room = rw take_rest (omega (
+        arith,
+        rest,
+        was,
+        first,
+        fronts.len,
+        fronts.capacity,
+        pushed.len,
+        pushed.capacity,
+        room,
+        len,
+      ));
+      values_room = rw take_rest (omega (
+        arith,
+        rest,
+        was,
+        first,
+        fronts.len,
+        fronts.count,
+        fronts.values_capacity,
+        pushed.values_len,
+        pushed.values_capacity,
+        values_room,
+        len,
+        values_len,
+        c.requires.count,
+      ));
+    }
 
 pub returns : goal.returns
 returns g c =

@@ -1,4 +1,4 @@
-use Rattle.std.proofs.Common.{◌≡◌, inl, inr, get_or, refl, ◌∙◌, arith}
+use Rattle.std.proofs.Common.{◌≡◌, get_or, refl, ◌∙◌, arith}
 use Rattle.sparse_sums.proofs.Merging.{merging_first, merging_second, merging_both}
 use Rattle.sparse_sums.proofs.pattern.merge_fronts.Goals as goal
 
@@ -53,28 +53,4 @@ loop-p-preserved c =
           (merging_both c.args.indices.now.items c.loop-p.indices.items a b p q c.requires.a_rising
           c.requires.b_rising c.loop-p.invariant.merged (get_or a p 0) (omega arith) (omega arith)
           refl same);
-    }
-
-pub returns-after-loop-p : goal.returns-after-loop-p
-returns-after-loop-p c =
-    let inv = c.loop-p.invariant in
-    record {
-      capacity = inv.capacity;
-      count = inv.count;
-      first = inv.first;
-      second = inv.second;
-      end = inl (omega (arith, inv.first));
-      merged = inv.merged;
-    }
-
-pub returns-else-q-b : goal.returns-else-q-b
-returns-else-q-b c =
-    let inv = c.loop-p.invariant in
-    record {
-      capacity = inv.capacity;
-      count = inv.count;
-      first = inv.first;
-      second = inv.second;
-      end = inr (omega (arith, inv.second));
-      merged = inv.merged;
     }
