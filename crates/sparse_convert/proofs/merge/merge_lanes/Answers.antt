@@ -69,40 +69,22 @@ pub slice_bounds-merge_lane-end : goal.slice_bounds-merge_lane-end
 slice_bounds-merge_lane-end g c = offsets_within _ _ c.args.offsets.now c.requires.offsets
     (c.loop-lane.lane + 1) (omega arith)
 
-pub merge_lane-requires-clause-sorted : goal.merge_lane-requires-clause-sorted
-merge_lane-requires-clause-sorted g c = c.requires.sorted c.loop-lane.lane
-
-pub merge_lane-requires-clause-sizes : goal.merge_lane-requires-clause-sizes
-merge_lane-requires-clause-sizes g c = c.loop-lane.values.ok.0 ∙ c.loop-lane.invariant.merged.sizes
-    ∙ sym c.loop-lane.indices.ok.0
-
-pub merge_lane-requires-clause-index_room : goal.merge_lane-requires-clause-index_room
-merge_lane-requires-clause-index_room g c =
+pub merge_lane-requires : goal.merge_lane-requires
+merge_lane-requires g c =
     let offsets = c.args.offsets.now in
-    let entries = c.args.entries.now in
     let n = c.loop-lane.lane in
+    let is = c.loop-lane.indices.ok.0 in
+    let vs = c.loop-lane.values.ok.0 in
     let within = offsets_within _ _ offsets c.requires.offsets (n + 1) (omega arith) in
-    omega (
-      arith,
-      within,
-      c.requires.offsets.ordered n (omega arith),
-      length-between entries (slice_index offsets n) (slice_index offsets (n + 1)) within,
-      c.loop-lane.indices.ok.0,
-    )
-
-pub merge_lane-requires-clause-value_room : goal.merge_lane-requires-clause-value_room
-merge_lane-requires-clause-value_room g c =
-    let offsets = c.args.offsets.now in
-    let entries = c.args.entries.now in
-    let n = c.loop-lane.lane in
-    let within = offsets_within _ _ offsets c.requires.offsets (n + 1) (omega arith) in
-    omega (
-      arith,
-      within,
-      c.requires.offsets.ordered n (omega arith),
-      length-between entries (slice_index offsets n) (slice_index offsets (n + 1)) within,
-      c.loop-lane.values.ok.0,
-    )
+    let ordered = c.requires.offsets.ordered n (omega arith) in
+    let long = length-between c.args.entries.now (slice_index offsets n)
+    (slice_index offsets (n + 1)) within in
+    record {
+      sorted = c.requires.sorted n;
+      sizes = vs ∙ c.loop-lane.invariant.merged.sizes ∙ sym is;
+      index_room = omega (arith, within, ordered, long, is);
+      value_room = omega (arith, within, ordered, long, vs);
+    }
 
 pub push_reserved-requires-in-loop-lane : goal.push_reserved-requires-in-loop-lane
 push_reserved-requires-in-loop-lane g c = omega (
