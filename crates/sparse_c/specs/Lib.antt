@@ -4,6 +4,7 @@ pub mod Fills
 pub mod Moduli
 pub mod Orders
 pub mod Patterns
+pub mod Rooms
 pub mod Solved
 pub mod Symmetric
 pub mod Texts

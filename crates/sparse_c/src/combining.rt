@@ -1,15 +1,18 @@
 //! Sums, differences and products of matrices from outside.
 
-ghost use Rattle.std.specs.Prelude.{◌≡◌, IfOk, IfErr};
+ghost use Rattle.std.specs.Prelude.{◌≡◌, ◌≢◌, pos, IfOk, IfErr};
 ghost use Rattle.sparse_cs.specs.PlainOfLanes.{plain_of_rows};
 ghost use Rattle.sparse_algebra.specs.WrappingValues.{w64_value};
 ghost use Rattle.sparse_c.specs.Combinations.{combination_of, CanCombine};
-ghost use Rattle.sparse_c_views.specs.Arrays.{plain_by_rows, ring64};
-ghost use Rattle.sparse_c_views.specs.Refused.{IsFaultOfPair, IsMemoryOr};
+ghost use Rattle.sparse_c.specs.Rooms.{room_after, room_before};
+ghost use Rattle.sparse_c_views.specs.Arrays.{plain_by_rows, ring64, HoldsRows};
+ghost use Rattle.sparse_c_views.specs.Refused.{IsFaultOfPair, IsMemoryOr, IsRefused};
 
+use crate::arguments::Room;
 use sparse_algebra::scalar::W64;
 use sparse_c_views::lanes::Lanes;
 use sparse_c_views::refusal::Refusal;
+use sparse_c_views::writing::finish_rows;
 use sparse_forms::csr::CsrMatrix;
 use sparse_products::serial::mul_csr;
 use sparse_sums::{add_csr, sub_csr};
@@ -23,8 +26,34 @@ pub(crate) enum Combination {
     Product,
 }
 
-/// Returns the combination of two matrices by rows.
-pub(crate) fn combined(
+/// Writes the combination of two matrices by rows.
+pub(crate) fn write_combination(
+    alloc: Global,
+    how: Combination,
+    a: Lanes<'_>,
+    b: Lanes<'_>,
+    room: Room<'_>,
+) -> i32
+    requires { CanCombine how a b }
+    ensures written { result ≡ pos 0 → HoldsRows (combination_of how (plain_by_rows ring64 a.entry)
+        (plain_by_rows ring64 b.entry)) (room_after room.exit) }
+    ensures untouched { result ≢ pos 0 → room_after room.exit ≡ room_before room.entry }
+    ensures refused { result ≢ pos 0 → IsRefused (IsFaultOfPair a.entry b.entry)
+        (combination_of how (plain_by_rows ring64 a.entry) (plain_by_rows ring64 b.entry))
+        (room_before room.entry) result }
+{
+    let Room {
+        offsets,
+        indices,
+        values,
+        places,
+    } = room;
+    let answer = combined(alloc, how, a, b);
+    finish_rows(answer, offsets, indices, values, places)
+}
+
+// The combination of two matrices by rows.
+fn combined(
     alloc: Global,
     how: Combination,
     a: Lanes<'_>,

@@ -1,6 +1,7 @@
 //! Exact sparse matrices for programs in C: the calls of the static library.
 #![tactic(auto)]
 
+mod arguments;
 mod assembly;
 mod combining;
 mod dense;

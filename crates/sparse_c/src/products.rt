@@ -8,10 +8,10 @@ ghost use Rattle.sparse_c.specs.Patterns.{CountsProduct, IsPatternPairRefused};
 ghost use Rattle.sparse_c_views.specs.Arrays.{plain_by_rows, ring64, room_of, HoldsRows};
 ghost use Rattle.sparse_c_views.specs.Refused.{IsFaultOfPair, IsRefused};
 
-use crate::combining::{Combination, combined};
-use sparse_c_views::lanes::{Lanes, pattern_of};
+use crate::arguments::{lanes, room};
+use crate::combining::{Combination, write_combination};
+use sparse_c_views::lanes::pattern_of;
 use sparse_c_views::refusal::Refusal;
-use sparse_c_views::writing::finish_rows;
 use sparse_products::serial::spmm_csr_pattern;
 use std::alloc::Global;
 
@@ -84,8 +84,8 @@ pub extern "C" fn nalgebra_sparse_multiply(
         (plain_product ring64 (plain_by_rows ring64 a) (plain_by_rows ring64 b))
         (room_of out_offsets.old out_indices.old out_values.old out_places.old) result }
 {
-    let a = Lanes::new(rows, inner, a_offsets, a_indices, a_values);
-    let b = Lanes::new(inner, cols, b_offsets, b_indices, b_values);
-    let answer = combined(alloc, Combination::Product, a, b);
-    finish_rows(answer, out_offsets, out_indices, out_values, out_places)
+    let a = lanes!(rows, inner, a_offsets, a_indices, a_values);
+    let b = lanes!(inner, cols, b_offsets, b_indices, b_values);
+    let room = room!(out_offsets, out_indices, out_values, out_places);
+    write_combination(alloc, Combination::Product, a, b, room)
 }

@@ -6,9 +6,8 @@ ghost use Rattle.sparse_algebra.specs.Plain.{plain_sum, plain_difference};
 ghost use Rattle.sparse_c_views.specs.Arrays.{plain_by_rows, ring64, room_of, HoldsRows};
 ghost use Rattle.sparse_c_views.specs.Refused.{IsFaultOfPair, IsRefused};
 
-use crate::combining::{Combination, combined};
-use sparse_c_views::lanes::Lanes;
-use sparse_c_views::writing::finish_rows;
+use crate::arguments::{lanes, room};
+use crate::combining::{Combination, write_combination};
 use std::alloc::Global;
 
 /// Writes the sum of two matrices by rows, on the union of their places.
@@ -41,10 +40,10 @@ pub extern "C" fn nalgebra_sparse_add(
         (plain_sum ring64 (plain_by_rows ring64 a) (plain_by_rows ring64 b))
         (room_of out_offsets.old out_indices.old out_values.old out_places.old) result }
 {
-    let a = Lanes::new(rows, cols, a_offsets, a_indices, a_values);
-    let b = Lanes::new(rows, cols, b_offsets, b_indices, b_values);
-    let answer = combined(alloc, Combination::Sum, a, b);
-    finish_rows(answer, out_offsets, out_indices, out_values, out_places)
+    let a = lanes!(rows, cols, a_offsets, a_indices, a_values);
+    let b = lanes!(rows, cols, b_offsets, b_indices, b_values);
+    let room = room!(out_offsets, out_indices, out_values, out_places);
+    write_combination(alloc, Combination::Sum, a, b, room)
 }
 
 /// Writes the difference of two matrices by rows, on the union of their places.
@@ -77,8 +76,8 @@ pub extern "C" fn nalgebra_sparse_subtract(
         (plain_difference ring64 (plain_by_rows ring64 a) (plain_by_rows ring64 b))
         (room_of out_offsets.old out_indices.old out_values.old out_places.old) result }
 {
-    let a = Lanes::new(rows, cols, a_offsets, a_indices, a_values);
-    let b = Lanes::new(rows, cols, b_offsets, b_indices, b_values);
-    let answer = combined(alloc, Combination::Difference, a, b);
-    finish_rows(answer, out_offsets, out_indices, out_values, out_places)
+    let a = lanes!(rows, cols, a_offsets, a_indices, a_values);
+    let b = lanes!(rows, cols, b_offsets, b_indices, b_values);
+    let room = room!(out_offsets, out_indices, out_values, out_places);
+    write_combination(alloc, Combination::Difference, a, b, room)
 }

@@ -8,6 +8,7 @@ ghost use Rattle.sparse_algebra.specs.WrappingValues.{w64_value};
 ghost use Rattle.sparse_c_views.specs.Arrays.{plain_by_rows, ring64, room_of, HoldsRows};
 ghost use Rattle.sparse_c_views.specs.Refused.{IsFaultOf, IsMemoryOr, IsRefused};
 
+use crate::arguments::lanes;
 use sparse_algebra::scalar::W64;
 use sparse_c_views::lanes::Lanes;
 use sparse_c_views::refusal::Refusal;
@@ -42,7 +43,7 @@ pub extern "C" fn nalgebra_sparse_transpose(
         (plain_by_rows ring64 (arrays_of rows cols offsets.now indices.now values.now)))
         (room_of out_offsets.old out_indices.old out_values.old out_places.old) result }
 {
-    let a = Lanes::new(rows, cols, offsets, indices, values);
+    let a = lanes!(rows, cols, offsets, indices, values);
     let answer = transposed(alloc, a);
     finish_rows(answer, out_offsets, out_indices, out_values, out_places)
 }

@@ -19,11 +19,16 @@ use std::marker::Model;
 /// The arrays of a matrix by rows, or by columns, as they come from outside: nothing is known of them.
 #[derive(Drop)]
 pub struct Lanes<'a> {
-    major_dim: usize,
-    minor_dim: usize,
-    offsets: &'a [usize],
-    indices: &'a [usize],
-    values: &'a [i64],
+    /// The number of rows, or of columns.
+    pub major_dim: usize,
+    /// The number of columns, or of rows.
+    pub minor_dim: usize,
+    /// The offsets of the rows, or of the columns.
+    pub offsets: &'a [usize],
+    /// The indices of the columns, or of the rows.
+    pub indices: &'a [usize],
+    /// The values.
+    pub values: &'a [i64],
 }
 
 impl<'a> Model for Lanes<'a> {

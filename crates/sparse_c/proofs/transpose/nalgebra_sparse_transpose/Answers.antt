@@ -1,27 +1,23 @@
-use Rattle.std.proofs.Common.{◌≡◌, ℤ, sym, subst, ◌∙◌, rules, to_z, of_z}
+use Rattle.std.proofs.Common.{◌≡◌, sym, ◌∙◌, refl, rules, to_z, of_z}
 use Rattle.std.specs.Int.{w32}
 use Rattle.sparse_algebra.specs.WrappingValues.{w64_value}
-use Rattle.sparse_algebra.specs.Plain.{plain_transpose}
-use Rattle.sparse_cs.specs.Compressed.{Compressed}
-use Rattle.sparse_c_views.specs.Arrays.{plain_by_rows, ring64, room_of}
-use Rattle.sparse_c_views.specs.Refused.{IsFaultOf}
+use Rattle.sparse_c_views.specs.Arrays.{ring64, room_of}
 use Rattle.sparse_c_views.proofs.Joining.{rows_written, rows_refused}
 use Rattle.sparse_c.proofs.transpose.nalgebra_sparse_transpose.Goals as goal
 
 pub returns-clause-written : goal.returns-clause-written
 returns-clause-written c = λ h.
     let same : to_z w32 (of_z w32 c.finish_rows.result) ≡ c.finish_rows.result = search rules in
-    rows_written ring64 w64_value _ _ (λ k. plain_transpose ring64 (plain_by_rows ring64 (c.new-a.ensures k))) c.transposed-answer.result
-    c.transposed-answer.ensures.plain (room_of c.finish_rows.new.offsets c.finish_rows.new.indices
-    c.finish_rows.new.values c.finish_rows.new.places)
+    let new = c.finish_rows.new in
+    rows_written ring64 w64_value _ _ refl c.transposed-answer.result
+    c.transposed-answer.ensures.plain (room_of new.offsets new.indices new.values new.places)
     (c.finish_rows.ensures.written (sym same ∙ h))
 
 pub returns-clause-refused : goal.returns-clause-refused
 returns-clause-refused c = λ h.
     let same : to_z w32 (of_z w32 c.finish_rows.result) ≡ c.finish_rows.result = search rules in
-    rows_refused ring64 w64_value _ _ (λ k. plain_transpose ring64 (plain_by_rows ring64 (c.new-a.ensures k))) c.transposed-answer.result
+    rows_refused ring64 w64_value _ _ refl c.transposed-answer.result
     c.transposed-answer.ensures.plain (room_of c.args.out_offsets.now c.args.out_indices.now
-    c.args.out_values.now c.args.out_places.now)
-    c.finish_rows.result _ same c.transposed-answer.ensures.fault
-    (λ e. subst (λ (m : Compressed ℤ). IsFaultOf m e) c.new-a.ensures)
+    c.args.out_values.now c.args.out_places.now) c.finish_rows.result _ same
+    c.transposed-answer.ensures.fault (λ e given. given)
     (c.finish_rows.ensures.refused (λ e. h (same ∙ e)))
