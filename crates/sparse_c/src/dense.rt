@@ -8,6 +8,7 @@ ghost use Rattle.sparse_cs.specs.Compressed.{arrays_of};
 ghost use Rattle.sparse_c_views.specs.Arrays.{plain_by_rows, plain_by_values, ring64, HoldsDense};
 ghost use Rattle.sparse_c_views.specs.Refused.{IsDenseRefused, IsFaultOfSystem, IsMemoryOr};
 
+use crate::arguments::lanes;
 use sparse_algebra::scalar::W64;
 use sparse_base::dense::DMatrix;
 use sparse_c_views::dense::dense_matrix_of;
@@ -40,7 +41,7 @@ pub extern "C" fn nalgebra_sparse_multiply_dense(
         result ≢ pos 0 → IsDenseRefused (IsFaultOfSystem a inner cols b_values.now)
         rows cols out_values.old result }
 {
-    let a = Lanes::new(rows, inner, a_offsets, a_indices, a_values);
+    let a = lanes!(rows, inner, a_offsets, a_indices, a_values);
     let answer = dense_product(alloc, a, inner, cols, b_values);
     finish_dense(answer, out_values)
 }

@@ -1,10 +1,7 @@
-use Rattle.std.proofs.Common.{◌≡◌, ℤ, ◌<◌, ◌*◌, length, ap, sym, subst, ◌∙◌, rules, to_z, of_z}
+use Rattle.std.proofs.Common.{◌≡◌, ◌<◌, ◌*◌, length, sym, subst, ◌∙◌, rules, to_z, of_z}
 use Rattle.std.specs.Int.{w32}
-use Rattle.sparse_algebra.specs.Plain.{Plain, plain_product}
-use Rattle.sparse_base.specs.DensePlain.{plain_full}
-use Rattle.sparse_cs.specs.Compressed.{Compressed}
-use Rattle.sparse_c_views.specs.Arrays.{plain_by_rows, plain_by_values, ring64, HoldsDense}
-use Rattle.sparse_c_views.specs.Refused.{IsFaultOfSystem}
+use Rattle.sparse_algebra.specs.Plain.{Plain}
+use Rattle.sparse_c_views.specs.Arrays.{ring64, HoldsDense}
 use Rattle.sparse_c_views.proofs.Joining.{found, refused}
 use Rattle.sparse_c.proofs.dense.nalgebra_sparse_multiply_dense.Goals as goal
 
@@ -13,21 +10,13 @@ returns-clause-written c = λ h.
     let same : to_z w32 (of_z w32 c.finish_dense.result) ≡ c.finish_dense.result = search rules in
     let p = found c.dense_product-answer.result c.dense_product-answer.ensures.plain
     (c.finish_dense.ensures.written (sym same ∙ h)) in
-    let is = ap (λ (m : Compressed ℤ). plain_full ring64 (plain_product ring64
-    (plain_by_rows ring64 m) (plain_by_values ring64 c.args.inner c.args.cols c.args.b_values.now)))
-    c.new-a.ensures in
-    subst (λ (x : Plain ring64). HoldsDense x c.finish_dense.new.values) (p.1.0 ∙ is) p.1.1
+    subst (λ (x : Plain ring64). HoldsDense x c.finish_dense.new.values) p.1.0 p.1.1
 
 pub returns-clause-refused : goal.returns-clause-refused
 returns-clause-refused c = λ h.
     let same : to_z w32 (of_z w32 c.finish_dense.result) ≡ c.finish_dense.result = search rules in
-    let is = ap (λ (m : Compressed ℤ). plain_full ring64 (plain_product ring64
-    (plain_by_rows ring64 m) (plain_by_values ring64 c.args.inner c.args.cols c.args.b_values.now)))
-    c.new-a.ensures in
     refused c.dense_product-answer.result c.dense_product-answer.ensures.plain c.finish_dense.result
-    _ same c.dense_product-answer.ensures.fault
-    (λ e. subst (λ (m : Compressed ℤ). IsFaultOfSystem m c.args.inner c.args.cols
-    c.args.b_values.now e) c.new-a.ensures)
-    (λ d p small. subst (λ (x : Plain ring64). length c.args.out_values.now < x.rows * x.cols)
-    (p ∙ is) small)
+    _ same c.dense_product-answer.ensures.fault (λ e given. given)
+    (λ d p small. subst (λ (x : Plain ring64). length c.args.out_values.now < x.rows * x.cols) p
+    small)
     (c.finish_dense.ensures.refused (λ e. h (same ∙ e)))
