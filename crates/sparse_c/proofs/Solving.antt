@@ -8,6 +8,7 @@ use Rattle.sparse_algebra.specs.Sums.{sum_below}
 use Rattle.sparse_base.specs.Dense.{Dense}
 use Rattle.sparse_base.specs.DensePlain.{plain_of_dense}
 use Rattle.sparse_solve.specs.Solutions.{HasSameValues, IsSolution}
+use Rattle.sparse_c.specs.Solved.{HoldsMatrix}
 use Rattle.sparse_c_views.specs.Arrays.{plain_by_values, HoldsDense}
 use Rattle.sparse_c_views.specs.Reduced.{FirstAre}
 use Rattle.sparse_c_views.specs.Refused.{IsDenseRefused, IsMemoryOr}
@@ -27,15 +28,15 @@ module _ {T : Type 0} (answer : Result (Dense T) Refusal) (n m : ℕ)
   pub solution_written : (R : CommRing) (f : T → R.Carrier) (P : Plain R → Type 0)
       (values : List ℤ) → IfOk answer (λ x. P (plain_of_dense R f x))
       → MatchResult answer (λ x. HoldsDense (plain_of_dense R f x) values) (λ _. ⊥)
-      → (n * m ≤ length values) × P (plain_by_values R n m (take (n * m) values))
+      → HoldsMatrix R P n m values
   solution_written R f P values is written =
       let p = found answer (both (λ (x : Dense T). (x.nrows ≡ n) × (x.ncols ≡ m))
-      (λ (x : Dense T). P (plain_of_dense R f x)) answer shape is) written in (
-        subst (λ (s : ℕ × ℕ). s.0 * s.1 ≤ length values) (λ k. (p.1.0.0.0 k, p.1.0.0.1 k))
-            p.1.1.room,
-        subst P (sym p.1.1.plain ∙ (λ k. plain_by_values R (p.1.0.0.0 k) (p.1.0.0.1 k)
-            (take (p.1.0.0.0 k * p.1.0.0.1 k) values))) p.1.0.1,
-      )
+      (λ (x : Dense T). P (plain_of_dense R f x)) answer shape is) written in record {
+        room = subst (λ (s : ℕ × ℕ). s.0 * s.1 ≤ length values)
+            (λ k. (p.1.0.0.0 k, p.1.0.0.1 k)) p.1.1.room;
+        holds = subst P (sym p.1.1.plain ∙ (λ k. plain_by_values R (p.1.0.0.0 k) (p.1.0.0.1 k)
+            (take (p.1.0.0.0 k * p.1.0.0.1 k) values))) p.1.0.1;
+      }
 
   pub solution_shown : (S : ℤ → Type 0) (values : List ℤ)
       → MatchResult answer (λ x. FirstAre S (x.nrows * x.ncols) values) (λ _. ⊥)
@@ -44,14 +45,14 @@ module _ {T : Type 0} (answer : Result (Dense T) Refusal) (n m : ℕ)
       let p = found answer shape written in
       subst (λ (s : ℕ × ℕ). FirstAre S (s.0 * s.1) values) (λ k. (p.1.0.0 k, p.1.0.1 k)) p.1.1
 
-  pub solution_refused : {Given Fault : Refusal → Type 0} (values : List ℤ) (status seen : ℤ)
-      → seen ≡ status → IfErr answer (IsMemoryOr Given) → ((e : Refusal) → Given e → Fault e)
+  pub solution_refused : {Fault : Refusal → Type 0} (values : List ℤ) (status seen : ℤ)
+      → seen ≡ status → IfErr answer (IsMemoryOr Fault)
       → MatchResult answer
       (λ x. (status ≡ number_of TooSmall) × (length values < x.nrows * x.ncols))
       (λ e. status ≡ number_of e)
       → IsDenseRefused Fault n m values seen
-  solution_refused values status seen same fault as_fault how = refused answer shape status seen same
-      fault as_fault (λ x p small. subst (λ (s : ℕ × ℕ). length values < s.0 * s.1)
+  solution_refused values status seen same fault how = refused answer shape status seen same fault
+      (λ e given. given) (λ x p small. subst (λ (s : ℕ × ℕ). length values < s.0 * s.1)
       (λ k. (p.0 k, p.1 k)) small) how
 
 module _ (R : CommRing) where

@@ -7,4 +7,5 @@ pub mod Patterns
 pub mod Rooms
 pub mod Solved
 pub mod Symmetric
+pub mod Systems
 pub mod Texts

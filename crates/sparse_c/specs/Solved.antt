@@ -22,10 +22,14 @@ module _ (R : CommRing) where
   abbrev pub lower_of : Bool → Compressed ℤ → Plain R
   lower_of transposed m = transposed_if transposed (plain_lower R (plain_by_cols R m))
 
-  -- the array begins with the values of X, with n rows and m columns, where t X = b
-  pub record HoldsSolution (t b : Plain R) (n m : ℕ) (values : List ℤ) : Type 0 where
+  -- the array begins with the values of a matrix with n rows and m columns, and P holds of it
+  pub record HoldsMatrix (P : Plain R → Type 0) (n m : ℕ) (values : List ℤ) : Type 0 where
     pub room : n * m ≤ length values
-    pub solved : IsSolution R t (plain_by_values R n m (take (n * m) values)) b
+    pub holds : P (plain_by_values R n m (take (n * m) values))
+
+  -- the array begins with the values of X, with n rows and m columns, where t X = b
+  abbrev pub HoldsSolution : Plain R → Plain R → ℕ → ℕ → List ℤ → Type 0
+  HoldsSolution t b = HoldsMatrix (λ x. IsSolution R t x b)
 
   -- q is a, times the inverse of s
   abbrev pub IsQuotientBy : R.Carrier → Plain R → Plain R → Type 0

@@ -1,11 +1,12 @@
 -- Symmetric systems, as C has them.
-use Rattle.std.specs.Prelude.{◌≡◌, ◌≤◌, ◌⊎◌, ℕ, ℤ, ◌*◌, List, length, take}
+use Rattle.std.specs.Prelude.{◌≡◌, ◌⊎◌, ℕ, ℤ, List}
 use Rattle.sparse_algebra.specs.Algebra.{CommRing}
 use Rattle.sparse_algebra.specs.Plain.{Plain, plain_product}
 use Rattle.sparse_cs.specs.Compressed.{Compressed}
 use Rattle.sparse_ldl.specs.Factorisations.{plain_symmetric, IsFactorisation}
 use Rattle.sparse_solve.specs.Solutions.{HasSameValues}
-use Rattle.sparse_c_views.specs.Arrays.{plain_by_cols, plain_by_values}
+use Rattle.sparse_c.specs.Solved.{HoldsMatrix}
+use Rattle.sparse_c_views.specs.Arrays.{plain_by_cols}
 use Rattle.sparse_c_views.specs.Refused.{IsFaultOfSystem}
 use Rattle.sparse_c_views.specs.declared.refusal.Refusal.{Refusal}
 use Rattle.sparse_c_views.specs.declared.refusal.Refusal.TheVariants.{Singular}
@@ -20,10 +21,8 @@ module _ (R : CommRing) where
   SolvesSymmetric a x b n m = HasSameValues R n m (plain_product R (symmetric_by_cols a) x) b
 
   -- the array begins with the values of X, with n rows and m columns, where A X = b
-  pub record HoldsSymmetricSolution (a : Compressed ℤ) (b : Plain R) (n m : ℕ) (values : List ℤ)
-      : Type 0 where
-    pub room : n * m ≤ length values
-    pub solved : SolvesSymmetric a (plain_by_values R n m (take (n * m) values)) b n m
+  abbrev pub HoldsSymmetricSolution : Compressed ℤ → Plain R → ℕ → ℕ → List ℤ → Type 0
+  HoldsSymmetricSolution a b n m = HoldsMatrix R (λ x. SolvesSymmetric a x b n m) n m
 
 module _ (R : CommRing) {T : Type 0} (f : T → R.Carrier) where
   -- no L and D are a factorisation L D Lᵀ of the symmetric matrix

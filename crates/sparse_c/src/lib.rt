@@ -14,5 +14,6 @@ mod reading;
 mod solve;
 mod sums;
 mod symmetric;
+mod systems;
 mod transpose;
 mod writing;

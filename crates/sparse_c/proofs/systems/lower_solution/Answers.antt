@@ -6,7 +6,7 @@ use Rattle.sparse_solve.specs.Solutions.{plain_lower, IsSingular, IsSolution}
 use Rattle.sparse_c.specs.Solved.{transposed_if}
 use Rattle.sparse_c_views.specs.Arrays.{plain_by_values}
 use Rattle.sparse_c_views.specs.Statuses.{refusal_of_operation}
-use Rattle.sparse_c.proofs.solve.lower_solution.Goals as goal
+use Rattle.sparse_c.proofs.systems.lower_solution.Goals as goal
 
 pub returns-clause-solved : goal.returns-clause-solved
 returns-clause-solved g c =

@@ -10,7 +10,7 @@ use Rattle.sparse_c.specs.Symmetric.{symmetric_by_cols}
 use Rattle.sparse_c.proofs.Solving.{solved_as}
 use Rattle.sparse_c_views.specs.Arrays.{plain_by_values}
 use Rattle.sparse_c_views.specs.Statuses.{refusal_of_operation}
-use Rattle.sparse_c.proofs.symmetric.symmetric_solution.Goals as goal
+use Rattle.sparse_c.proofs.systems.symmetric_solution.Goals as goal
 
 pub returns-clause-solved : goal.returns-clause-solved
 returns-clause-solved g c =

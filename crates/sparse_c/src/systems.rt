@@ -1,0 +1,192 @@
+//! Systems of equations from outside.
+
+ghost use Rattle.std.specs.Prelude.{◌≡◌, ◌≢◌, ◌<◌, ◌≤◌, ◌*◌, pos, IfOk, IfErr, OnOk, OnErr};
+ghost use Rattle.sparse_algebra.specs.ModNumbers.{mod_value};
+ghost use Rattle.sparse_algebra.specs.Moduli.{mod_ring};
+ghost use Rattle.sparse_algebra.specs.declared.error.OperationErrorKind.TheVariants.{Singular};
+ghost use Rattle.sparse_base.specs.DensePlain.{plain_of_dense};
+ghost use Rattle.sparse_cs.specs.PlainOfLanes.{plain_of_cols};
+ghost use Rattle.sparse_solve.specs.Solutions.{plain_lower, IsSingular, IsSolution};
+ghost use Rattle.sparse_c.specs.Moduli.{IsFaultModulo};
+ghost use Rattle.sparse_c.specs.Solved.{lower_of, transposed_if, HoldsMatrix, IsFaultOfLower};
+ghost use Rattle.sparse_c.specs.Symmetric.{IsFaultOfSymmetric, SolvesSymmetric};
+ghost use Rattle.sparse_c.specs.Systems.{IsFaultOfEquation, Solves};
+ghost use Rattle.sparse_c_views.specs.Arrays.{plain_by_values};
+ghost use Rattle.sparse_c_views.specs.Reduced.{AreReduced, FirstAre};
+ghost use Rattle.sparse_c_views.specs.Refused.{IsDenseRefused, IsMemoryOr};
+
+use sparse_algebra::error::OperationError;
+use sparse_algebra::operand::Op;
+use sparse_algebra::scalar::Mod;
+use sparse_base::dense::DMatrix;
+use sparse_c_views::dense::dense_matrix_of;
+use sparse_c_views::lanes::Lanes;
+use sparse_c_views::number::Number;
+use sparse_c_views::refusal::Refusal;
+use sparse_c_views::writing::finish_dense;
+use sparse_forms::csc::CscMatrix;
+use sparse_ldl::ldl::Ldl;
+use sparse_solve::spsolve_csc_lower_triangular;
+use std::alloc::Global;
+
+/// The equation that is solved.
+#[derive(Clone, Copy)]
+pub(crate) enum Equation {
+    /// `L X = B`, or `Lᵀ X = B` where the flag is set: L is the part of the matrix on and below its diagonal.
+    Lower(bool),
+    /// `A X = B`: A is the symmetric matrix with the entries of the matrix on and above its diagonal.
+    Symmetric,
+}
+
+/// A square matrix by columns, and the columns of the right side of the equation, one after the other.
+#[derive(Drop)]
+pub(crate) struct System<'a> {
+    pub(crate) equation: Equation,
+    pub(crate) matrix: Lanes<'a>,
+    pub(crate) size: usize,
+    pub(crate) cols: usize,
+    pub(crate) b: &'a [i64],
+}
+
+/// Writes the solution over the residues modulo `M`, which is the modulus.
+pub(crate) fn write_solution_mod<const M: u64>(
+    alloc: Global,
+    modulus: u64,
+    system: System<'_>,
+    out: &mut [i64],
+) -> i32
+    requires is { modulus ≡ M }
+    requires short { M ≤ 9223372036854775808 }
+    requires rows { system.matrix.pattern.minor_dim ≡ system.size }
+    requires cols { system.matrix.pattern.major_dim ≡ system.size }
+    ensures written { let s = system.entry in
+        let ring = mod_ring modulus in
+        result ≡ pos 0 → HoldsMatrix ring (λ x. Solves ring s.equation s.matrix x
+        (plain_by_values ring s.size s.cols s.b.now) s.size s.cols) s.size s.cols out.new }
+    ensures reduced { let s = system.entry in
+        result ≡ pos 0 → AreReduced modulus (s.size * s.cols) out.new }
+    ensures untouched { result ≢ pos 0 → out.new ≡ out.old }
+    ensures refused { let s = system.entry in
+        result ≢ pos 0 → IsDenseRefused (IsFaultModulo modulus (IsFaultOfEquation
+        (mod_ring modulus) (mod_value {m = modulus}) s.equation s.matrix s.size s.cols s.b.now))
+        s.size s.cols out.old result }
+{
+    write_solution::<Mod<M>>(alloc, system, out)
+}
+
+/// Writes the solution over the ring of a scalar.
+pub(crate) fn write_solution<T: Number>(alloc: Global, system: System<'_>, out: &mut [i64]) -> i32
+    requires rows { system.matrix.pattern.minor_dim ≡ system.size }
+    requires cols { system.matrix.pattern.major_dim ≡ system.size }
+    ensures written { let s = system.entry in
+        result ≡ pos 0 → HoldsMatrix T.ring (λ x. Solves T.ring s.equation s.matrix x
+        (plain_by_values T.ring s.size s.cols s.b.now) s.size s.cols) s.size s.cols out.new }
+    ensures shown { let s = system.entry in
+        result ≡ pos 0 → FirstAre T.is_shown (s.size * s.cols) out.new }
+    ensures untouched { result ≢ pos 0 → out.new ≡ out.old }
+    ensures refused { let s = system.entry in
+        result ≢ pos 0 → IsDenseRefused (IsFaultOfEquation T.ring T.value s.equation s.matrix
+        s.size s.cols s.b.now) s.size s.cols out.old result }
+{
+    finish_dense(solution::<T>(alloc, system), out)
+}
+
+// The solution of a system.
+fn solution<T: Number>(alloc: Global, system: System<'_>) -> Result<DMatrix<T>, Refusal>
+    requires rows { system.matrix.pattern.minor_dim ≡ system.size }
+    requires cols { system.matrix.pattern.major_dim ≡ system.size }
+    ensures rows { IfOk result (λ x. x.nrows ≡ system.entry.size) }
+    ensures cols { IfOk result (λ x. x.ncols ≡ system.entry.cols) }
+    ensures solved { let s = system.entry in IfOk result (λ x. Solves T.ring s.equation s.matrix
+        (plain_of_dense T.ring T.value x) (plain_by_values T.ring s.size s.cols s.b.now)
+        s.size s.cols) }
+    ensures fault { let s = system.entry in IfErr result (IsMemoryOr (IsFaultOfEquation T.ring
+        T.value s.equation s.matrix s.size s.cols s.b.now)) }
+{
+    let System {
+        equation,
+        matrix,
+        size,
+        cols,
+        b,
+    } = system;
+    match equation {
+        Equation::Lower(transposed) => lower_solution(alloc, matrix, transposed, (size, cols), b),
+        Equation::Symmetric => symmetric_solution(alloc, matrix, (size, cols), b),
+    }
+}
+
+// The solution of the system with the lower triangle of a matrix by columns, or with its transpose.
+fn lower_solution<T: Number>(
+    alloc: Global,
+    l: Lanes<'_>,
+    transposed: bool,
+    shape: (usize, usize),
+    b: &[i64],
+) -> Result<DMatrix<T>, Refusal>
+    requires rows { l.pattern.minor_dim ≡ shape.0 }
+    requires cols { l.pattern.major_dim ≡ shape.0 }
+    ensures rows { IfOk result (λ x. x.nrows ≡ shape.0) }
+    ensures cols { IfOk result (λ x. x.ncols ≡ shape.1) }
+    ensures solved { IfOk result (λ x. IsSolution T.ring (lower_of T.ring transposed l.entry)
+        (plain_of_dense T.ring T.value x)
+        (plain_by_values T.ring shape.0 shape.1 b.now)) }
+    ensures fault { IfErr result (IsMemoryOr
+        (IsFaultOfLower T.ring T.value l.entry shape.0 shape.1 b.now)) }
+{
+    let l = l.columns::<T>(alloc)?;
+    let (size, cols) = shape;
+    let mut x = dense_matrix_of(alloc, size, cols, b)?;
+    solve_triangle(&l, transposed, &mut x)?;
+    Ok(x)
+}
+
+// Replaces B by the solution of the system with the lower triangle of a matrix, or with its transpose.
+fn solve_triangle<T: Number>(
+    l: &CscMatrix<T>,
+    transposed: bool,
+    b: &mut DMatrix<T>,
+) -> Result<(), OperationError>
+    requires square { l.now.pattern.minor_dim ≡ l.now.pattern.major_dim }
+    requires fits { b.old.nrows ≡ l.now.pattern.major_dim }
+    ensures rows { b.new.nrows ≡ b.old.nrows }
+    ensures cols { b.new.ncols ≡ b.old.ncols }
+    ensures solved { OnOk result (IsSolution T.ring (transposed_if T.ring transposed
+        (plain_lower T.ring (plain_of_cols T.ring T.value l.now)))
+        (plain_of_dense T.ring T.value b.new) (plain_of_dense T.ring T.value b.old)) }
+    ensures kind { IfErr result (λ e. e ≡ Singular) }
+    ensures some { OnErr result (0 < b.old.ncols) }
+    ensures singular { OnErr result (IsSingular T.ring T.value
+        (plain_lower T.ring (plain_of_cols T.ring T.value l.now))) }
+{
+    if transposed {
+        spsolve_csc_lower_triangular(Op::Transpose(l), b)
+    } else {
+        spsolve_csc_lower_triangular(Op::NoOp(l), b)
+    }
+}
+
+// The solution of the symmetric system with the entries of a matrix by columns on and above its diagonal.
+fn symmetric_solution<T: Number>(
+    alloc: Global,
+    a: Lanes<'_>,
+    shape: (usize, usize),
+    b: &[i64],
+) -> Result<DMatrix<T>, Refusal>
+    requires rows { a.pattern.minor_dim ≡ shape.0 }
+    requires cols { a.pattern.major_dim ≡ shape.0 }
+    ensures rows { IfOk result (λ x. x.nrows ≡ shape.0) }
+    ensures cols { IfOk result (λ x. x.ncols ≡ shape.1) }
+    ensures solved { IfOk result (λ x. SolvesSymmetric T.ring a.entry
+        (plain_of_dense T.ring T.value x)
+        (plain_by_values T.ring shape.0 shape.1 b.now) shape.0 shape.1) }
+    ensures fault { IfErr result (IsMemoryOr
+        (IsFaultOfSymmetric T.ring T.value a.entry shape.0 shape.1 b.now)) }
+{
+    let a = a.columns::<T>(alloc)?;
+    let (size, cols) = shape;
+    let mut x = dense_matrix_of(alloc, size, cols, b)?;
+    let factors = Ldl::factor(alloc, &a)?;
+    factors.solve_mut(&mut x);
+    Ok(x)
+}
