@@ -1,6 +1,7 @@
 -- Factors of symmetric matrices, and the arrays that hold them.
-use Rattle.std.proofs.Common.{◌≡◌, ◌≤◌, ◌<◌, ℕ, ℤ, pos, List, length, map, take, ap, sym, subst, ◌∙◌}
-use Rattle.std.specs.Prelude.{slice_index_or}
+use Rattle.std.proofs.Common.{◌≡◌, ◌≤◌, ◌<◌, ◌⊎◌, ℕ, ℤ, pos, List, length, map, take, ap, sym, subst, ◌∙◌}
+use Rattle.std.proofs.Common.{Result, inl, inr}
+use Rattle.std.specs.Prelude.{slice_index_or, IfOk, IfErr, MatchResult}
 use Rattle.std.proofs.Math.ListN.{get_or, get_or-map}
 use Rattle.sparse_algebra.specs.Algebra.{CommRing}
 use Rattle.sparse_algebra.specs.Plain.{Plain}
@@ -12,8 +13,15 @@ use Rattle.sparse_ldl.specs.Factors.{Factors, diagonal, plain_of_factors, symmet
 use Rattle.sparse_ldl.proofs.FilledSets.{has_place, place_has}
 use Rattle.sparse_pattern.specs.Raw.{Raw}
 use Rattle.sparse_solve.specs.Solutions.{HasSameValues}
-use Rattle.sparse_c.specs.Factors.{first_elements, AreFactors, WritesFactors}
-use Rattle.sparse_c_views.specs.Arrays.{plain_by_cols, Room, HoldsRows}
+use Rattle.sparse_c.specs.Factors.{first_elements, AreFactors, AreFactorsTooLong, HoldsFactors}
+use Rattle.sparse_c.specs.Factors.{IsFaultOfFactors, WritesFactors}
+use Rattle.sparse_c_views.specs.Arrays.{plain_by_cols, Room}
+use Rattle.sparse_c_views.specs.Reduced.{FirstAre}
+use Rattle.sparse_c_views.specs.Refused.{IsMemoryOr, IsRefusedFor, IsTooSmall}
+use Rattle.sparse_c_views.specs.Statuses.{number_of}
+use Rattle.sparse_c_views.specs.declared.refusal.Refusal.{Refusal}
+use Rattle.sparse_c_views.specs.declared.refusal.Refusal.TheVariants.{TooSmall}
+use Rattle.sparse_c_views.proofs.Joining.{both, found, refused}
 use Rattle.sparse_algebra.specs.Integers.{times_one, element_of}
 
 -- the factors of a matrix are those of the arrays that it was made of
@@ -55,18 +63,56 @@ module _ (R : CommRing) {T : Type 0} (f : T → R.Carrier) (z : T) (zero_is : f 
   same_elements xs ys same j = sym (get_or-map (element_of R) xs j (pos 0))
       ∙ (λ k. get_or (same k) j (sym zero_is k)) ∙ get_or-map f ys j z
 
-  -- the arrays hold the factors whose columns and diagonal were written
-  pub factors_held : (a : Compressed ℤ) (l : Compressed T) (d : List T) (room : Room)
-      (pivots : List ℤ) → AreFactors R f a (plain_of_cols R f l) (diagonal R f z d)
-      → l.pattern.minor_dim ≡ length d → HoldsRows (plain_of_rows R f l) room
-      → map (element_of R) (take (length d) pivots) ≡ map f d → length d ≤ length pivots
-      → WritesFactors R f a room pivots
-  unfolding WritesFactors
-  factors_held a l d room pivots factors rows columns same long = (
-    plain_of_cols R f l,
-    columns,
-    subst (λ n. n ≤ length pivots) (sym rows) long,
-    subst (AreFactors R f a (plain_of_cols R f l)) (λ k j. (sym (same_elements
-        (take (length d) pivots) d same j)
-        ∙ ap (λ n. first_elements R n pivots j) (sym rows)) k) factors,
-  )
+  -- an answer that is written
+  module _ {V : Type 0} (items : V → List T) (a : Compressed ℤ)
+      (answer : Result (Compressed T × V) Refusal)
+      (factors : IfOk answer (λ s. AreFactors R f a (plain_of_cols R f s.0)
+      (diagonal R f z (items s.1))))
+      (rows : IfOk answer (λ s. s.0.pattern.minor_dim ≡ a.pattern.minor_dim))
+      (count : IfOk answer (λ s. length (items s.1) ≡ a.pattern.minor_dim)) where
+    known : IfOk answer (λ s. (AreFactors R f a (plain_of_cols R f s.0) (diagonal R f z (items s.1))
+        × (s.0.pattern.minor_dim ≡ a.pattern.minor_dim))
+        × (length (items s.1) ≡ a.pattern.minor_dim))
+    known = both _ _ answer (both _ _ answer factors rows) count
+
+    pub factors_written : (room : Room) (pivots : List ℤ)
+        → MatchResult answer (λ s. HoldsFactors R f s.0 (items s.1) room pivots) (λ _. ⊥)
+        → WritesFactors R f a room pivots
+    unfolding WritesFactors
+    factors_written room pivots written =
+        let p = found answer known written in
+        let l = p.0.0 in
+        let d = items p.0.1 in
+        let size = p.1.0.0.1 ∙ sym p.1.0.1 in (
+          plain_of_cols R f l,
+          p.1.1.0,
+          subst (λ n. n ≤ length pivots) (sym size) p.1.1.1,
+          subst (AreFactors R f a (plain_of_cols R f l)) (λ k j. (sym (same_elements
+              (take (length d) pivots) d p.1.1.2 j)
+              ∙ ap (λ n. first_elements R n pivots j) (sym size)) k) p.1.0.0.0,
+        )
+
+    pub factors_shown : (S : ℤ → Type 0) (pivots : List ℤ)
+        → MatchResult answer (λ s. FirstAre S (length (items s.1)) pivots) (λ _. ⊥)
+        → FirstAre S a.pattern.minor_dim pivots
+    factors_shown S pivots written =
+        let p = found answer known written in
+        subst (λ n. FirstAre S n pivots) p.1.0.1 p.1.1
+
+    pub factors_refused : {Fault : Refusal → Type 0} (room : Room) (pivots : List ℤ)
+        (status seen : ℤ) → seen ≡ status → IfErr answer (IsMemoryOr (IsFaultOfFactors R f a))
+        → ((e : Refusal) → IsFaultOfFactors R f a e → Fault e)
+        → MatchResult answer (λ s. (status ≡ number_of TooSmall)
+        × (IsTooSmall (plain_of_rows R f s.0) room ⊎ (length pivots < length (items s.1))))
+        (λ e. status ≡ number_of e)
+        → IsRefusedFor Fault (AreFactorsTooLong R f a room pivots) seen
+    factors_refused room pivots status seen same fault as_fault how = refused answer known status
+        seen same fault as_fault (λ s p small. (
+          plain_of_cols R f s.0,
+          diagonal R f z (items s.1),
+          p.0.0,
+          elim small [
+            | inl few ↦ inl few
+            | inr short ↦ inr (subst (λ n. length pivots < n) (p.1 ∙ sym p.0.1) short)
+          ],
+        )) how

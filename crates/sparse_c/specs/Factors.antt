@@ -1,12 +1,13 @@
 -- Exact factors L D Lᵀ of symmetric matrices, as C has them.
-use Rattle.std.specs.Prelude.{◌≡◌, ◌≤◌, ◌<◌, ◌↔◌, ◌⊎◌, ℕ, ℤ, pos, true, List, length, slice_index_or, take}
+use Rattle.std.specs.Prelude.{◌≡◌, ◌≤◌, ◌<◌, ◌↔◌, ◌⊎◌, ℕ, ℤ, pos, true, List, length, map, slice_index_or, take}
 use Rattle.sparse_algebra.specs.Algebra.{CommRing}
 use Rattle.sparse_algebra.specs.Plain.{Plain, plain_transpose}
 use Rattle.sparse_cs.specs.Compressed.{Compressed}
+use Rattle.sparse_cs.specs.PlainOfLanes.{plain_of_rows}
 use Rattle.sparse_factor.specs.Fill.{InFill, UpperBase}
 use Rattle.sparse_ldl.specs.Factorisations.{IsFactorisation}
 use Rattle.sparse_c.specs.Symmetric.{symmetric_by_cols, HasNoFactors}
-use Rattle.sparse_c_views.specs.Arrays.{Room, HoldsCols}
+use Rattle.sparse_c_views.specs.Arrays.{Room, HoldsCols, HoldsRows}
 use Rattle.sparse_algebra.specs.Integers.{element_of}
 use Rattle.sparse_c_views.specs.Refused.{IsFaultOf, IsTooSmall}
 use Rattle.sparse_c_views.specs.declared.refusal.Refusal.{Refusal}
@@ -26,6 +27,11 @@ module _ (R : CommRing) {T : Type 0} (f : T → R.Carrier) where
   unfoldable pub WritesFactors : Compressed ℤ → Room → List ℤ → Type 0
   WritesFactors a room diagonal = (l : Plain R) × HoldsCols l room × (l.rows ≤ length diagonal)
       × AreFactors a l (first_elements R l.rows diagonal)
+
+  -- the arrays begin with the columns of L, whose rows are given, and with the diagonal of D
+  abbrev pub HoldsFactors : Compressed T → List T → Room → List ℤ → Type 0
+  HoldsFactors l d room pivots = HoldsRows (plain_of_rows R f l) room × (length d ≤ length pivots)
+      × (map (element_of R) (take (length d) pivots) ≡ map f d)
 
   -- an array has no room for the factors
   abbrev pub AreFactorsTooLong : Compressed ℤ → Room → List ℤ → Type 0

@@ -1,6 +1,6 @@
 //! The exact factors L D Lᵀ of symmetric matrices.
 
-ghost use Rattle.std.specs.Prelude.{◌≡◌, ◌≢◌, ◌≤◌, ◌⊎◌, ◌<◌, pos, length, map, take, IfOk, IfErr};
+ghost use Rattle.std.specs.Prelude.{◌≡◌, ◌≢◌, ◌≤◌, ◌⊎◌, ◌<◌, pos, length, IfOk, IfErr, MatchResult};
 ghost use Rattle.sparse_algebra.specs.ModNumbers.{mod_value};
 ghost use Rattle.sparse_algebra.specs.Moduli.{mod_ring};
 ghost use Rattle.sparse_algebra.specs.WrappingValues.{w64_value};
@@ -8,15 +8,16 @@ ghost use Rattle.sparse_cs.specs.Compressed.{arrays_of};
 ghost use Rattle.sparse_cs.specs.PlainOfLanes.{plain_of_cols, plain_of_rows};
 ghost use Rattle.sparse_ldl.specs.Factors.{diagonal};
 ghost use Rattle.sparse_c.specs.Factors.{AreFactors, AreFactorsTooLong, IsFaultOfFactors};
-ghost use Rattle.sparse_c.specs.Factors.{WritesFactors};
+ghost use Rattle.sparse_c.specs.Factors.{HoldsFactors, WritesFactors};
 ghost use Rattle.sparse_c.specs.Moduli.{moduli, IsFaultModulo, IsNoneOf};
-ghost use Rattle.sparse_c_views.specs.Arrays.{ring64, room_of, HoldsRows};
-ghost use Rattle.sparse_algebra.specs.Integers.{element_of};
+ghost use Rattle.sparse_c.specs.Rooms.{room_after, room_before};
+ghost use Rattle.sparse_c_views.specs.Arrays.{ring64, room_of};
 ghost use Rattle.sparse_c_views.specs.Reduced.{AreReduced, FirstAre};
 ghost use Rattle.sparse_c_views.specs.Refused.{IsMemoryOr, IsRefusedFor, IsTooSmall};
 ghost use Rattle.sparse_c_views.specs.Statuses.{number_of};
 ghost use Rattle.sparse_c_views.specs.declared.refusal.Refusal.TheVariants.{TooSmall, UnknownChoice};
 
+use crate::arguments::{Room, lanes, room};
 use crate::moduli::by_modulus;
 use sparse_algebra::learn;
 use sparse_algebra::scalar::{Mod, W64};
@@ -59,10 +60,10 @@ pub extern "C" fn nalgebra_sparse_factor_symmetric(
         (room_of out_offsets.old out_indices.old out_values.old out_places.old)
         out_diagonal.old) result }
 {
-    let a = Lanes::new(size, size, offsets, indices, values);
-    factor::<W64>(
-        alloc,
-        a,
+    let a = lanes!(size, size, offsets, indices, values);
+    let answer = factors_of::<W64>(alloc, a);
+    finish_factors(
+        answer,
         out_offsets,
         out_indices,
         out_values,
@@ -103,21 +104,11 @@ pub extern "C" fn nalgebra_sparse_factor_symmetric_mod(
         (room_of out_offsets.old out_indices.old out_values.old out_places.old)
         out_diagonal.old) result }
 {
+    let a = lanes!(size, size, offsets, indices, values);
+    let room = room!(out_offsets, out_indices, out_values, out_places);
     by_modulus!(
         modulus,
-        factor_symmetric_mod(
-            alloc,
-            modulus,
-            size,
-            offsets,
-            indices,
-            values,
-            out_offsets,
-            out_indices,
-            out_values,
-            out_diagonal,
-            out_places
-        )
+        factor_symmetric_mod(alloc, modulus, a, room, out_diagonal)
     )
 }
 
@@ -125,83 +116,34 @@ pub extern "C" fn nalgebra_sparse_factor_symmetric_mod(
 fn factor_symmetric_mod<const M: u64>(
     alloc: Global,
     modulus: u64,
-    size: usize,
-    offsets: &[usize],
-    indices: &[usize],
-    values: &[i64],
-    out_offsets: &mut [usize],
-    out_indices: &mut [usize],
-    out_values: &mut [i64],
-    out_diagonal: &mut [i64],
-    out_places: &mut usize,
+    a: Lanes<'_>,
+    room: Room<'_>,
+    pivots: &mut [i64],
 ) -> i32
     requires is { modulus ≡ M }
     requires short { M ≤ 9223372036854775808 }
-    ensures written { let a = arrays_of size size offsets.now indices.now values.now in
-        result ≡ pos 0 → WritesFactors (mod_ring modulus) (mod_value {m = modulus}) a
-        (room_of out_offsets.new out_indices.new out_values.new out_places.new) out_diagonal.new }
-    ensures reduced { result ≡ pos 0 → AreReduced modulus out_places.new out_values.new }
-    ensures reduced_diagonal { result ≡ pos 0 → AreReduced modulus size out_diagonal.new }
-    ensures untouched { result ≢ pos 0
-        → room_of out_offsets.new out_indices.new out_values.new out_places.new
-        ≡ room_of out_offsets.old out_indices.old out_values.old out_places.old }
-    ensures untouched_diagonal { result ≢ pos 0 → out_diagonal.new ≡ out_diagonal.old }
-    ensures refused { let a = arrays_of size size offsets.now indices.now values.now in
-        result ≢ pos 0 → IsRefusedFor (IsFaultModulo modulus
-        (IsFaultOfFactors (mod_ring modulus) (mod_value {m = modulus}) a))
-        (AreFactorsTooLong (mod_ring modulus) (mod_value {m = modulus}) a
-        (room_of out_offsets.old out_indices.old out_values.old out_places.old)
-        out_diagonal.old) result }
-{
-    let a = Lanes::new(size, size, offsets, indices, values);
-    factor::<Mod<M>>(
-        alloc,
-        a,
-        out_offsets,
-        out_indices,
-        out_values,
-        out_diagonal,
-        out_places,
-    )
-}
-
-// Writes these factors over the ring of a scalar.
-fn factor<T: Number>(
-    alloc: Global,
-    a: Lanes<'_>,
-    out_offsets: &mut [usize],
-    out_indices: &mut [usize],
-    out_values: &mut [i64],
-    out_diagonal: &mut [i64],
-    out_places: &mut usize,
-) -> i32
     requires square { a.pattern.minor_dim ≡ a.pattern.major_dim }
-    ensures written { result ≡ pos 0 → WritesFactors T.ring T.value a.entry
-        (room_of out_offsets.new out_indices.new out_values.new out_places.new) out_diagonal.new }
-    ensures shown { result ≡ pos 0 → FirstAre T.is_shown out_places.new out_values.new }
-    ensures shown_diagonal { result ≡ pos 0
-        → FirstAre T.is_shown a.entry.pattern.minor_dim out_diagonal.new }
-    ensures untouched { result ≢ pos 0
-        → room_of out_offsets.new out_indices.new out_values.new out_places.new
-        ≡ room_of out_offsets.old out_indices.old out_values.old out_places.old }
-    ensures untouched_diagonal { result ≢ pos 0 → out_diagonal.new ≡ out_diagonal.old }
-    ensures refused { result ≢ pos 0 → IsRefusedFor (IsFaultOfFactors T.ring T.value a.entry)
-        (AreFactorsTooLong T.ring T.value a.entry
-        (room_of out_offsets.old out_indices.old out_values.old out_places.old)
-        out_diagonal.old) result }
+    ensures written { result ≡ pos 0 → WritesFactors (mod_ring modulus) (mod_value {m = modulus})
+        a.entry (room_after room.exit) pivots.new }
+    ensures reduced { let after = room_after room.exit in
+        result ≡ pos 0 → AreReduced modulus after.places after.values }
+    ensures reduced_diagonal { result ≡ pos 0
+        → AreReduced modulus a.entry.pattern.minor_dim pivots.new }
+    ensures untouched { result ≢ pos 0 → room_after room.exit ≡ room_before room.entry }
+    ensures untouched_diagonal { result ≢ pos 0 → pivots.new ≡ pivots.old }
+    ensures refused { result ≢ pos 0 → IsRefusedFor (IsFaultModulo modulus
+        (IsFaultOfFactors (mod_ring modulus) (mod_value {m = modulus}) a.entry))
+        (AreFactorsTooLong (mod_ring modulus) (mod_value {m = modulus}) a.entry
+        (room_before room.entry) pivots.old) result }
 {
-    match factors_of::<T>(alloc, a) {
-        Ok((l, d)) => write_factors(
-            &l,
-            &d,
-            out_offsets,
-            out_indices,
-            out_values,
-            out_diagonal,
-            out_places,
-        ),
-        Err(refusal) => refusal.status(),
-    }
+    let Room {
+        offsets,
+        indices,
+        values,
+        places,
+    } = room;
+    let answer = factors_of::<Mod<M>>(alloc, a);
+    finish_factors(answer, offsets, indices, values, pivots, places)
 }
 
 // The columns of L as rows, and the diagonal of D.
@@ -222,38 +164,42 @@ fn factors_of<T: Number>(alloc: Global, a: Lanes<'_>) -> Result<(CsrMatrix<T>, V
     Ok((l.transpose_as_csr(), d))
 }
 
-// Writes the columns of L, whose rows are given, and the diagonal of D.
-fn write_factors<T: Number>(
-    l: &CsrMatrix<T>,
-    d: &[T],
+// Writes the columns of L, whose rows are given, and the diagonal of D. Returns the status of the call; at a refusal
+// nothing is written.
+fn finish_factors<T: Number>(
+    answer: Result<(CsrMatrix<T>, Vec<T>), Refusal>,
     offsets: &mut [usize],
     indices: &mut [usize],
     values: &mut [i64],
     pivots: &mut [i64],
     places: &mut usize,
 ) -> i32
-    ensures written { result ≡ pos 0
-        → HoldsRows (plain_of_rows T.ring T.value l.now)
-        (room_of offsets.new indices.new values.new places.new) }
-    ensures pivots { result ≡ pos 0
-        → map (element_of T.ring) (take (length d.now) pivots.new) ≡ map T.value d.now }
-    ensures room { result ≡ pos 0 → length d.now ≤ length pivots.new }
+    ensures written { result ≡ pos 0 → MatchResult answer
+        (λ s. HoldsFactors T.ring T.value s.0 s.1.items
+        (room_of offsets.new indices.new values.new places.new) pivots.new) (λ _. ⊥) }
     ensures shown { result ≡ pos 0 → FirstAre T.is_shown places.new values.new }
-    ensures shown_pivots { result ≡ pos 0 → FirstAre T.is_shown (length d.now) pivots.new }
+    ensures shown_pivots { result ≡ pos 0 → MatchResult answer
+        (λ s. FirstAre T.is_shown (length s.1.items) pivots.new) (λ _. ⊥) }
     ensures untouched { result ≢ pos 0 → room_of offsets.new indices.new values.new places.new
         ≡ room_of offsets.old indices.old values.old places.old }
     ensures untouched_pivots { result ≢ pos 0 → pivots.new ≡ pivots.old }
-    ensures small { result ≢ pos 0 → IsTooSmall (plain_of_rows T.ring T.value l.now)
+    ensures refused { result ≢ pos 0 → MatchResult answer
+        (λ s. (result ≡ number_of TooSmall) × (IsTooSmall (plain_of_rows T.ring T.value s.0)
         (room_of offsets.old indices.old values.old places.old)
-        ⊎ (length pivots.old < length d.now) }
-    ensures status { result ≢ pos 0 → result ≡ number_of TooSmall }
+        ⊎ (length pivots.old < length s.1.items)))
+        (λ refusal. result ≡ number_of refusal) }
 {
-    if pivots.len() < d.len() {
-        return Refusal::TooSmall.status();
+    match answer {
+        Ok((l, d)) => {
+            if pivots.len() < d.len() {
+                return Refusal::TooSmall.status();
+            }
+            let status = write_rows(&l, offsets, indices, values, places);
+            if status == 0 {
+                put_scalars(pivots, &d);
+            }
+            status
+        }
+        Err(refusal) => refusal.status(),
     }
-    let status = write_rows(l, offsets, indices, values, places);
-    if status == 0 {
-        put_scalars(pivots, d);
-    }
-    status
 }
