@@ -18,6 +18,7 @@ ghost use Rattle.sparse_c_views.specs.Refused.{IsMemoryOr, IsRefusedFor};
 ghost use Rattle.sparse_c_views.specs.Statuses.{number_of};
 ghost use Rattle.sparse_c_views.specs.declared.refusal.Refusal.TheVariants.{UnknownChoice};
 
+use crate::arguments::lanes;
 use crate::moduli::by_modulus;
 use sparse_algebra::scalar::{Mod, W64};
 use sparse_c_views::lanes::Lanes;
@@ -55,7 +56,7 @@ pub extern "C" fn nalgebra_sparse_divide(
         (IsQuotientTooSmall ring64 a divisor
         (room_of out_offsets.old out_indices.old out_values.old out_places.old)) result }
 {
-    let a = Lanes::new(rows, cols, offsets, indices, values);
+    let a = lanes!(rows, cols, offsets, indices, values);
     let answer = quotient_of::<W64>(alloc, a, divisor);
     finish_rows(answer, out_offsets, out_indices, out_values, out_places)
 }
@@ -90,11 +91,13 @@ pub extern "C" fn nalgebra_sparse_divide_mod(
         (IsQuotientTooSmall (mod_ring modulus) a divisor
         (room_of out_offsets.old out_indices.old out_values.old out_places.old)) result }
 {
-    let a = Lanes::new(rows, cols, offsets, indices, values);
-    let quotient = Quotient::new(a, divisor);
+    let quotient = Quotient {
+        modulus,
+        a: lanes!(rows, cols, offsets, indices, values),
+        divisor,
+    };
     write_by_modulus(
         alloc,
-        modulus,
         quotient,
         out_offsets,
         out_indices,
@@ -103,27 +106,18 @@ pub extern "C" fn nalgebra_sparse_divide_mod(
     )
 }
 
-/// A matrix by rows, and the integer that it is divided by.
+/// A modulus, a matrix by rows, and the integer that it is divided by.
 #[derive(Drop)]
 struct Quotient<'a> {
+    modulus: u64,
     a: Lanes<'a>,
     divisor: i64,
     ghost in_range: { FitsSigned w64 divisor },
 }
 
-impl<'a> Quotient<'a> {
-    fn new(a: Lanes<'a>, divisor: i64) -> Self
-        ensures a { result.a ≡ a.entry }
-        ensures divisor { result.divisor ≡ divisor }
-    {
-        Quotient { a, divisor }
-    }
-}
-
 // Writes a quotient over the residues modulo a listed number.
 fn write_by_modulus(
     alloc: Global,
-    modulus: u64,
     quotient: Quotient<'_>,
     out_offsets: &mut [usize],
     out_indices: &mut [usize],
@@ -131,24 +125,24 @@ fn write_by_modulus(
     out_places: &mut usize,
 ) -> i32
     ensures written { let q = quotient.entry in
-        result ≡ pos 0 → WritesQuotient (mod_ring modulus) q.a q.divisor
+        result ≡ pos 0 → WritesQuotient (mod_ring q.modulus) q.a q.divisor
         (room_of out_offsets.new out_indices.new out_values.new out_places.new) }
-    ensures reduced { result ≡ pos 0 → AreReduced modulus out_places.new out_values.new }
-    ensures unlisted { IsNoneOf moduli modulus → result ≡ number_of UnknownChoice }
+    ensures reduced { result ≡ pos 0
+        → AreReduced quotient.entry.modulus out_places.new out_values.new }
+    ensures unlisted { IsNoneOf moduli quotient.entry.modulus → result ≡ number_of UnknownChoice }
     ensures untouched { result ≢ pos 0
         → room_of out_offsets.new out_indices.new out_values.new out_places.new
         ≡ room_of out_offsets.old out_indices.old out_values.old out_places.old }
     ensures refused { let q = quotient.entry in
-        result ≢ pos 0 → IsRefusedFor (IsFaultModulo modulus
-        (IsFaultOfQuotient (mod_ring modulus) (mod_value {m = modulus}) q.a q.divisor))
-        (IsQuotientTooSmall (mod_ring modulus) q.a q.divisor
+        result ≢ pos 0 → IsRefusedFor (IsFaultModulo q.modulus
+        (IsFaultOfQuotient (mod_ring q.modulus) (mod_value {m = q.modulus}) q.a q.divisor))
+        (IsQuotientTooSmall (mod_ring q.modulus) q.a q.divisor
         (room_of out_offsets.old out_indices.old out_values.old out_places.old)) result }
 {
     by_modulus!(
-        modulus,
+        quotient.modulus,
         write_modulo(
             alloc,
-            modulus,
             quotient,
             out_offsets,
             out_indices,
@@ -161,29 +155,29 @@ fn write_by_modulus(
 // Writes a quotient over the residues modulo `M`, which is the modulus.
 fn write_modulo<const M: u64>(
     alloc: Global,
-    modulus: u64,
     quotient: Quotient<'_>,
     out_offsets: &mut [usize],
     out_indices: &mut [usize],
     out_values: &mut [i64],
     out_places: &mut usize,
 ) -> i32
-    requires is { modulus ≡ M }
+    requires is { quotient.modulus ≡ M }
     requires short { M ≤ 9223372036854775808 }
     ensures written { let q = quotient.entry in
-        result ≡ pos 0 → WritesQuotient (mod_ring modulus) q.a q.divisor
+        result ≡ pos 0 → WritesQuotient (mod_ring q.modulus) q.a q.divisor
         (room_of out_offsets.new out_indices.new out_values.new out_places.new) }
-    ensures reduced { result ≡ pos 0 → AreReduced modulus out_places.new out_values.new }
+    ensures reduced { result ≡ pos 0
+        → AreReduced quotient.entry.modulus out_places.new out_values.new }
     ensures untouched { result ≢ pos 0
         → room_of out_offsets.new out_indices.new out_values.new out_places.new
         ≡ room_of out_offsets.old out_indices.old out_values.old out_places.old }
     ensures refused { let q = quotient.entry in
-        result ≢ pos 0 → IsRefusedFor (IsFaultModulo modulus
-        (IsFaultOfQuotient (mod_ring modulus) (mod_value {m = modulus}) q.a q.divisor))
-        (IsQuotientTooSmall (mod_ring modulus) q.a q.divisor
+        result ≢ pos 0 → IsRefusedFor (IsFaultModulo q.modulus
+        (IsFaultOfQuotient (mod_ring q.modulus) (mod_value {m = q.modulus}) q.a q.divisor))
+        (IsQuotientTooSmall (mod_ring q.modulus) q.a q.divisor
         (room_of out_offsets.old out_indices.old out_values.old out_places.old)) result }
 {
-    let Quotient { a, divisor } = quotient;
+    let Quotient { a, divisor, .. } = quotient;
     let answer = quotient_of::<Mod<M>>(alloc, a, divisor);
     finish_rows(answer, out_offsets, out_indices, out_values, out_places)
 }

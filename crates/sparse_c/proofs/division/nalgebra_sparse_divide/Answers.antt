@@ -2,7 +2,7 @@ use Rattle.std.proofs.Common.{◌≡◌, ℤ, sym, subst, ◌∙◌, rules, to_z
 use Rattle.std.proofs.lemmas.Int.{to_z-of_z}
 use Rattle.std.specs.Int.{w32, w64}
 use Rattle.sparse_algebra.specs.WrappingValues.{w64_value}
-use Rattle.sparse_cs.specs.Compressed.{Compressed}
+use Rattle.sparse_cs.specs.Compressed.{arrays_of}
 use Rattle.sparse_cs.specs.PlainOfLanes.{plain_of_rows}
 use Rattle.sparse_c.specs.Solved.{IsFaultOfQuotient, IsQuotientTooSmall, WritesQuotient}
 use Rattle.sparse_c_views.specs.Arrays.{ring64, room_of}
@@ -18,8 +18,9 @@ returns-clause-written c = λ h.
     let p = found c.quotient_of-answer.result c.quotient_of-answer.ensures.quotient
     (c.finish_rows.ensures.written (sym same ∙ h)) in
     let divisor = to_z-of_z w64 c.args.divisor c.ranges.divisor in
-    subst (λ (s : Compressed ℤ × ℤ). WritesQuotient ring64 s.0 s.1 room)
-    (λ k. (c.new-a.ensures k, divisor k))
+    let a = arrays_of c.args.rows c.args.cols c.args.offsets.now c.args.indices.now
+    c.args.values.now in
+    subst (λ (s : ℤ). WritesQuotient ring64 a s room) divisor
     (plain_of_rows ring64 w64_value p.0, p.1.0, p.1.1)
 
 pub returns-clause-refused : goal.returns-clause-refused
@@ -28,10 +29,11 @@ returns-clause-refused c = λ h.
     let room = room_of c.args.out_offsets.now c.args.out_indices.now c.args.out_values.now
     c.args.out_places.now in
     let divisor = to_z-of_z w64 c.args.divisor c.ranges.divisor in
+    let a = arrays_of c.args.rows c.args.cols c.args.offsets.now c.args.indices.now
+    c.args.values.now in
     refused c.quotient_of-answer.result c.quotient_of-answer.ensures.quotient c.finish_rows.result _
     same c.quotient_of-answer.ensures.fault
-    (λ e. subst (λ (s : Compressed ℤ × ℤ). IsFaultOfQuotient ring64 w64_value s.0 s.1 e)
-    (λ k. (c.new-a.ensures k, divisor k)))
-    (λ q p small. subst (λ (s : Compressed ℤ × ℤ). IsQuotientTooSmall ring64 s.0 s.1 room)
-    (λ k. (c.new-a.ensures k, divisor k)) (plain_of_rows ring64 w64_value q, p, small))
+    (λ e. subst (λ (s : ℤ). IsFaultOfQuotient ring64 w64_value a s e) divisor)
+    (λ q p small. subst (λ (s : ℤ). IsQuotientTooSmall ring64 a s room) divisor
+    (plain_of_rows ring64 w64_value q, p, small))
     (c.finish_rows.ensures.refused (λ e. h (same ∙ e)))

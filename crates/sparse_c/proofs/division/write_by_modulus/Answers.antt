@@ -7,5 +7,5 @@ use Rattle.sparse_c.proofs.division.write_by_modulus.Goals as goal
 pub returns-in_default-clause-refused : goal.returns-in_default-clause-refused
 returns-in_default-clause-refused c = λ _.
     let same : to_z w32 (of_z w32 c.status.result) ≡ c.status.result = search rules in
-    let none : IsNoneOf moduli c.args.modulus = search rules in
-    unlisted_refused c.args.modulus _ (same ∙ c.status.ensures) none
+    let none : IsNoneOf moduli c.args.quotient.modulus = search rules in
+    unlisted_refused c.args.quotient.modulus _ (same ∙ c.status.ensures) none

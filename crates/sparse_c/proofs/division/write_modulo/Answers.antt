@@ -27,7 +27,7 @@ returns-clause-written g c = λ h.
 pub returns-clause-reduced : goal.returns-clause-reduced
 returns-clause-reduced g c = λ h.
     let same : to_z w32 (of_z w32 c.finish_rows.result) ≡ c.finish_rows.result = search rules in
-    reduced_modulo c.args.modulus g.row.M c.finish_rows.new.places c.finish_rows.new.values
+    reduced_modulo c.args.quotient.modulus g.row.M c.finish_rows.new.places c.finish_rows.new.values
     c.requires.is c.requires.short (c.finish_rows.ensures.shown (sym same ∙ h))
 
 pub returns-clause-refused : goal.returns-clause-refused
