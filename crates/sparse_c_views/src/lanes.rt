@@ -41,25 +41,6 @@ impl<'a> Model for Lanes<'a> {
 }
 
 impl<'a> Lanes<'a> {
-    /// Returns the view of arrays.
-    pub fn new(
-        major_dim: usize,
-        minor_dim: usize,
-        offsets: &'a [usize],
-        indices: &'a [usize],
-        values: &'a [i64],
-    ) -> Self
-        ensures { result ≡ arrays_of major_dim minor_dim offsets.now indices.now values.now }
-    {
-        Lanes {
-            major_dim,
-            minor_dim,
-            offsets,
-            indices,
-            values,
-        }
-    }
-
     /// Returns the matrix with these arrays by rows.
     ///
     /// # Errors
