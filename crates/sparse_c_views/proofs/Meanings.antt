@@ -1,12 +1,12 @@
 -- Compressed matrices of scalars and of the integers that mean them have one plain matrix.
-use Rattle.std.proofs.Common.{◌≡◌, ℕ, ◌+◌, ◌*◌, List, [], ◌∷◌, length, map, ap, sym}
+use Rattle.std.proofs.Common.{◌≡◌, ℕ, List, [], ◌∷◌, length, map, ap, sym}
 use Rattle.std.proofs.Common.{◌∙◌, refl, arith}
 use Rattle.std.specs.Prelude.{◌||◌}
 use Rattle.std.specs.List.{list_any}
 use Rattle.std.proofs.lemmas.List.{length-map}
 use Rattle.sparse_algebra.specs.Algebra.{CommRing}
 use Rattle.sparse_algebra.specs.Sums.{sum_by, where_true}
-use Rattle.sparse_algebra.specs.Plain.{Plain, is_at, plain_of_triplets}
+use Rattle.sparse_algebra.specs.Plain.{is_at, plain_of_triplets}
 use Rattle.sparse_cs.specs.Compressed.{Compressed, compressed_of, IsSound, zip_values}
 use Rattle.sparse_cs.specs.Compressed.{lane_triplets}
 use Rattle.sparse_cs.specs.PlainOfLanes.{plain_of_rows}
