@@ -12,7 +12,9 @@ use std::fs;
 
 // The files of A, X and B, where A X = B.
 const A: &str = "matrix.mtx";
+
 const X: &str = "solution.mtx";
+
 const B: &str = "sides.mtx";
 
 const FILES: &[(&str, &str)] = &[
@@ -43,9 +45,25 @@ pub fn run(rt: &HostRuntime, turn: &mut Turn, case: &str) -> Outcome {
         "symmetric" => obey(rt, turn, Command::Symmetric { file: A }),
         "solve" => {
             let modulus = None;
-            obey(rt, turn, Command::Solve { modulus, a: A, b: B })
+            obey(
+                rt,
+                turn,
+                Command::Solve {
+                    modulus,
+                    a: A,
+                    b: B,
+                },
+            )
         }
-        "solve modulo" => obey(rt, turn, Command::Solve { modulus, a: A, b: B }),
+        "solve modulo" => obey(
+            rt,
+            turn,
+            Command::Solve {
+                modulus,
+                a: A,
+                b: B,
+            },
+        ),
         "check" => {
             let (a, x, b) = (A, X, B);
             obey(rt, turn, Command::Check { modulus, a, x, b })
