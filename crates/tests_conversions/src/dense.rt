@@ -28,7 +28,7 @@ fn is_list(
     }
 }
 
-// Whether the dense matrix becomes this list of its sizes, these rows and these columns.
+// Whether the dense matrix becomes this list of its shape, these rows and these columns.
 fn becomes(
     alloc: Global,
     dense: &DMatrix<i32>,

@@ -16,7 +16,7 @@ use test_matrices::matrices::{Arrays, csr, is_empty_list, list};
 use test_matrices::pairs::{holds, holds_by_columns};
 use test_matrices::scalars::are;
 
-// Whether the product of matrices whose sizes fit has these sizes and no places.
+// Whether the product of matrices whose shapes fit has this shape and no places.
 fn has_empty_product(
     alloc: Global,
     a: &CsrMatrix<W64>,
@@ -34,7 +34,7 @@ fn has_empty_product(
     }
 }
 
-// Whether the product of matrices without places, of these sizes, has the sizes and no places.
+// Whether the product of matrices without places, of these shapes, has its shape and no places.
 fn is_empty_product(alloc: Global, (nrows, inner, ncols): (usize, usize, usize)) -> bool {
     let Ok(a) = CsrMatrix::zeros(alloc, nrows, inner) else {
         return false;

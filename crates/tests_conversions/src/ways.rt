@@ -4,7 +4,6 @@
 use sparse_algebra::scalar::{W32, W64};
 use sparse_base::coo::CooMatrix;
 use sparse_convert::serial::{convert_coo_csc, convert_coo_csr};
-use sparse_forms::csr::CsrMatrix;
 use std::alloc::{AllocError, Global};
 use test_matrices::matrices::{are_lanes, list};
 use test_matrices::scalars::{Scalar, scalars};
@@ -129,6 +128,22 @@ fn both_ways_give_one_matrix(rt: HostRuntime) {
     }
 }
 
+// Whether the list becomes its matrix with one column less than it has triplets and rows, with as many, and with one
+// more, which is the first number of columns for which each row is sorted.
+fn becomes_at_the_edge(alloc: Global, case: &Case<'_>) -> bool {
+    let edge = case.1.len().saturating_add(case.0.0);
+    becomes::<W64>(alloc, case, edge.saturating_sub(1))
+        && becomes::<W64>(alloc, case, edge)
+        && becomes::<W64>(alloc, case, edge.saturating_add(1))
+}
+
+#[test]
+fn both_ways_meet_at_triplets_and_lanes(rt: HostRuntime) {
+    for case in LISTS {
+        assert!(rt; becomes_at_the_edge(rt.alloc(), case));
+    }
+}
+
 // The number of rows and columns of a matrix whose list goes to and fro by half of them.
 const SIZE: usize = 10_007;
 
@@ -157,27 +172,41 @@ fn far_place(position: usize) -> (usize, usize) {
     }
 }
 
-fn are_far_places(csr: &CsrMatrix<W64>) -> bool {
-    let places = csr.col_indices().iter().zip(csr.values()).enumerate();
-    let mut holds = csr.nnz() == 200;
-    for (position, (col, value)) in places {
-        let (far_col, number) = far_place(position);
-        holds = holds && *col == far_col && value.get().cast_unsigned() == number as u64;
+fn are_far_places(indices: &[usize], values: &[W64]) -> bool {
+    let mut holds = indices.len() == 200;
+    for (position, (index, value)) in indices.iter().zip(values).enumerate() {
+        let (far_index, number) = far_place(position);
+        holds = holds && *index == far_index && value.get().cast_unsigned() == number as u64;
     }
     holds
 }
 
-fn far_list_is_converted(alloc: Global) -> bool {
+fn far_list_is_converted_to_rows(alloc: Global) -> bool {
     let Ok(coo) = far_list(alloc) else {
         return false;
     };
     match convert_coo_csr(alloc, &coo) {
-        Ok(csr) => are_far_places(&csr),
+        Ok(csr) => are_far_places(csr.col_indices(), csr.values()),
+        Err(_) => false,
+    }
+}
+
+// The same with rows and columns exchanged.
+fn far_list_is_converted_to_columns(alloc: Global) -> bool {
+    let Ok(coo) = far_list(alloc) else {
+        return false;
+    };
+    let Ok(coo) = transposed(alloc, &coo) else {
+        return false;
+    };
+    match convert_coo_csc(alloc, &coo) {
+        Ok(csc) => are_far_places(csc.row_indices(), csc.values()),
         Err(_) => false,
     }
 }
 
 #[test]
 fn a_list_of_far_neighbours_is_converted(rt: HostRuntime) {
-    assert!(rt; far_list_is_converted(rt.alloc()));
+    assert!(rt; far_list_is_converted_to_rows(rt.alloc()));
+    assert!(rt; far_list_is_converted_to_columns(rt.alloc()));
 }
