@@ -77,7 +77,7 @@ fn lanes_of_places(alloc: Global, pattern: &SparsityPattern) -> Result<Vec<usize
     Ok(lanes)
 }
 
-// The matrix of lists that are known to fit each other and the sizes.
+// The matrix of lists that are known to fit each other and the shape.
 fn coo_from_lists<T: Copy>(
     nrows: usize,
     ncols: usize,
