@@ -111,7 +111,7 @@ fn ones_at(alloc: Global, places: &CooMatrix<()>) -> Result<CooMatrix<W64>, Allo
     let mut ones: CooMatrix<W64> = CooMatrix::new(alloc, places.nrows(), places.ncols());
     ones.reserve(places.nnz())?;
     for (row, col, _) in places.triplet_iter() {
-        // Always so: the places of a list lie inside its sizes. The test spares the proof an invariant.
+        // Always so: the places of a list lie inside its shape. The test spares the proof an invariant.
         if row < ones.nrows() && col < ones.ncols() {
             ones.push(row, col, W64::new(1))?;
         }

@@ -125,7 +125,7 @@ fn unit_lower(alloc: Global, csc: &CscMatrix<W64>) -> Result<Option<CscMatrix<W6
     sum(alloc, &below, &ones)
 }
 
-// Returns the sum, or `None` if the sizes differ.
+// Returns the sum, or `None` if the shapes differ.
 fn sum(
     alloc: Global,
     a: &CscMatrix<W64>,
@@ -183,7 +183,7 @@ pub enum Run<'a> {
 }
 
 impl<'a> Run<'a> {
-    /// Returns the answer, or `None` if the sizes do not fit.
+    /// Returns the answer, or `None` if the shapes do not fit.
     pub fn answer(self, alloc: Global) -> Result<Option<Answer>, AllocError> {
         match self {
             Run::Compress(coo) => Ok(Some(Answer::Rows(convert_coo_csr(alloc, coo)?))),
@@ -214,7 +214,7 @@ impl<'a> Run<'a> {
     }
 }
 
-// Returns the product, written over a matrix of its sizes, or `None` if the sizes do not fit.
+// Returns the product, written over a matrix of its shape, or `None` if the shapes do not fit.
 fn multiplied(
     csr: &CsrMatrix<W64>,
     factor: &DMatrix<W64>,
@@ -231,7 +231,7 @@ fn multiplied(
     Some(Answer::Dense(product))
 }
 
-// Returns the solution, or `None` if the sizes do not fit or the matrix is singular.
+// Returns the solution, or `None` if the shapes do not fit or the matrix is singular.
 fn solved(lower: &CscMatrix<W64>, mut right_sides: DMatrix<W64>) -> Option<Answer> {
     if lower.nrows() != lower.ncols() || right_sides.nrows() != lower.ncols() {
         return None;

@@ -25,7 +25,7 @@ use std::alloc::{AllocError, Global};
 /// Why a system is not solved, or a solution not tested.
 #[derive(Clone, Copy, Debug)]
 pub enum SystemError {
-    /// The sizes of the matrices do not fit.
+    /// The shapes of the matrices do not fit.
     Shapes,
     /// The matrix is not symmetric.
     NotSymmetric,
@@ -117,7 +117,7 @@ fn refusal(kind: OperationErrorKind) -> SystemError
 
 /// Returns whether A X = B.
 ///
-/// Fails with `Shapes` if the sizes do not fit. Otherwise fails only if an allocation fails.
+/// Fails with `Shapes` if the shapes do not fit. Otherwise fails only if an allocation fails.
 pub fn is_solution<T: Ring>(
     alloc: Global,
     a: &CooMatrix<T>,

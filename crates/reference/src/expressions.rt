@@ -17,13 +17,13 @@ mod operation;
 
 /// Returns the value of an expression over inputs, as a list that has each place once, row after row.
 ///
-/// The left operand comes before the right one, and both before their sizes. Converts an input each time it is named,
+/// The left operand comes before the right one, and both before their shapes. Converts an input each time it is named,
 /// keeps each operand as a list, and looks at every pair of each result. The stack grows with the depth of the
 /// expression.
 ///
 /// # Errors
 ///
-/// Returns `NoSuchInput` for a number of no input, `Shape` where sizes do not fit, and `OutOfMemory` if an allocation
+/// Returns `NoSuchInput` for a number of no input, `Shape` where shapes do not fit, and `OutOfMemory` if an allocation
 /// fails.
 pub fn expression_value<T: Ring>(
     alloc: Global,

@@ -25,7 +25,7 @@ mod lines;
 mod numbers;
 mod sizes;
 
-/// Returns the sizes and triplets that a text means to a scalar type, or the kind of the first refusal.
+/// Returns the shape and triplets that a text means to a scalar type, or the kind of the first refusal.
 ///
 /// Splits the text into lines and these into words, and keeps them all. Tests the whole grammar first, then the header,
 /// the size line, the number of entries, the entries one after another, and the bounds. Fails only if an allocation

@@ -19,7 +19,7 @@ pub fn run(turn: &mut Turn, call: &str, case: &str) -> Outcome {
     }
 }
 
-/// Two factors whose inner sizes are equal.
+/// Two factors whose inner dimensions are equal.
 pub fn factors(alloc: Global, case: &str) -> Option<(CsrMatrix<W64>, CsrMatrix<W64>)> {
     match case {
         "long rows" => Some((matrix(alloc, ONE)?, full_row(alloc, 64)?)),

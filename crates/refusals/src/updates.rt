@@ -75,7 +75,7 @@ fn update_rows(turn: &mut Turn, call: &str, case: &str, c: &mut CsrMatrix<W64>) 
     }
 }
 
-// Updates the target if the sizes fit and, for an unchecked product, if it has all places.
+// Updates the target if the shapes fit and, for an unchecked product, if it has all places.
 fn rows_by(
     turn: &mut Turn,
     call: &str,
@@ -179,7 +179,7 @@ fn update_columns(turn: &mut Turn, call: &str, case: &str, c: &mut CscMatrix<W64
     }
 }
 
-// Updates the target if the sizes fit and, for an unchecked product, if it has all places.
+// Updates the target if the shapes fit and, for an unchecked product, if it has all places.
 fn columns_by(
     turn: &mut Turn,
     call: &str,

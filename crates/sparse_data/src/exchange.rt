@@ -31,6 +31,6 @@ pub trait ToData {
     /// The data struct.
     type Copied;
 
-    /// Returns the sizes and copies of the arrays. Fails only if an allocation fails.
+    /// Returns the shape and copies of the arrays. Fails only if an allocation fails.
     fn to_data(&self, alloc: Global) -> Result<Self::Copied, AllocError>;
 }

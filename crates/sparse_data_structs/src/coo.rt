@@ -2,7 +2,7 @@
 
 use serde::{Deserialize, Serialize};
 
-/// The sizes and the arrays of a `CooMatrix`, unchecked.
+/// The shape and the arrays of a `CooMatrix`, unchecked.
 #[derive(Debug, Drop, PartialEq, Eq, Serialize, Deserialize)]
 #[serde(deny_unknown_fields)]
 pub struct CooData<T> {

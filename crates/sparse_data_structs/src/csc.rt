@@ -2,7 +2,7 @@
 
 use serde::{Deserialize, Serialize};
 
-/// The sizes and the arrays of a `CscMatrix`, unchecked.
+/// The shape and the arrays of a `CscMatrix`, unchecked.
 #[derive(Debug, Drop, PartialEq, Eq, Serialize, Deserialize)]
 #[serde(deny_unknown_fields)]
 pub struct CscData<T> {

@@ -1,4 +1,4 @@
-//! Data structs: the sizes and the arrays of patterns and matrices as public fields, which `serde` reads and writes.
+//! Data structs: the shape and the arrays of patterns and matrices as public fields, which `serde` reads and writes.
 #![tactic(auto)]
 
 mod coo;

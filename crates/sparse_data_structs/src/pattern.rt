@@ -2,7 +2,7 @@
 
 use serde::{Deserialize, Serialize};
 
-/// The sizes and the arrays of a `SparsityPattern`, unchecked.
+/// The shape and the arrays of a `SparsityPattern`, unchecked.
 #[derive(Debug, Drop, PartialEq, Eq, Serialize, Deserialize)]
 #[serde(deny_unknown_fields)]
 pub struct PatternData {

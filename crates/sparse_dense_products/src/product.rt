@@ -17,7 +17,7 @@ use std::alloc::{AllocError, Global};
 
 /// Replaces `c` by `beta * c + alpha * op(a) * op(b)`.
 ///
-/// The inner sizes of `op(a)` and `op(b)` must be equal, and `c` must have the sizes of their product.
+/// The inner dimensions of `op(a)` and `op(b)` must be equal, and `c` must have the shape of their product.
 ///
 /// One multiplication for each place of `a` and column of `c`, and two for each value of `c` (one more for each value
 /// of `b` where `a` is transposed). Where `a` is not transposed, each of its rows is read once for four columns. Takes
@@ -61,7 +61,7 @@ pub fn spmm_csr_dense<T: Ring>(
 
 /// Replaces `c` by `beta * c + alpha * op(a) * op(b)`.
 ///
-/// The inner sizes of `op(a)` and `op(b)` must be equal, and `c` must have the sizes of their product.
+/// The inner dimensions of `op(a)` and `op(b)` must be equal, and `c` must have the shape of their product.
 ///
 /// One multiplication for each place of `a` and column of `c`, and two for each value of `c` (one more for each value
 /// of `b` where `a` is not transposed). Where `a` is transposed, each of its columns is read once for four columns of

@@ -16,7 +16,7 @@ pub enum ExprError {
     LeftOver,
     /// No input has this number.
     NoSuchInput,
-    /// The sizes of the operands do not fit.
+    /// The shapes of the operands do not fit.
     Shape,
     /// The text with this number, counted from 1, has an error.
     Input(usize, MatrixMarketErrorKind),

@@ -23,8 +23,8 @@ use std::rc::Rc;
 
 /// Returns the value of an expression over inputs, as a CSR matrix.
 ///
-/// The left operand comes before the right one, and both before their sizes: `NoSuchInput` for a number of no input,
-/// `Shape` where sizes do not fit. `OutOfMemory` if an allocation fails.
+/// The left operand comes before the right one, and both before their shapes: `NoSuchInput` for a number of no input,
+/// `Shape` where shapes do not fit. `OutOfMemory` if an allocation fails.
 ///
 /// Each input is converted at most twice, by rows and by columns, however often it is named, and a matrix is dropped
 /// after its last use. Transposes cost nothing: they are moved inwards to the inputs, which are read by columns there.

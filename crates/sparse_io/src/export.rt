@@ -12,7 +12,7 @@ pub trait MatrixMarketExport<T> {
     ghost use Rattle.sparse_base.specs.Coo.{Coo, IsInside};
     ghost use Rattle.sparse_io.specs.Export.{triplets_left};
 
-    // The sizes, and the triplets in the order in which they are written.
+    // The shape, and the triplets in the order in which they are written.
     ghost exported: { Self → Coo T };
 
     /// Returns an iterator over the triplets, in the order of the matrix's form.

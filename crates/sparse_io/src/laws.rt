@@ -29,7 +29,7 @@ pub fn one_meaning<T: MatrixMarketScalar>()
 
 /// The text of a matrix means that matrix, for the same scalar type.
 ///
-/// The sizes and the number of triplets must fit in `usize`, the triplets must lie within the shape, and their values
+/// The shape and the number of triplets must fit in `usize`, the triplets must lie within the shape, and their values
 /// must be values of the type.
 pub fn round_trip<T: MatrixMarketScalar>()
     ensures { (m : Coo T.scalar.Value)

@@ -12,8 +12,9 @@ use std::marker::Model;
 
 /// A [`Sink`] over any [`Write`].
 ///
-/// Its bytes are those of the writer. It keeps the kind of the last failure. The number of failures, and whether the
-/// writer was flushed since the last write, are visible to contracts only.
+/// Its bytes are those of the writer. It keeps the kind of the last failure, and whether the writer was flushed since
+/// the last write. No call returns these; contracts see them, and the number of failures, which has no bytes at run
+/// time.
 #[derive(Drop)]
 pub struct Out<W> {
     inner: W,

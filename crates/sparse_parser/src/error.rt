@@ -29,7 +29,7 @@ pub enum MatrixMarketErrorKind {
     TypeMismatch,
     /// An index is zero; indices count from 1.
     ZeroError,
-    /// The entries do not form a matrix of the given sizes.
+    /// The entries do not form a matrix of the given shape.
     SparseFormatError(SparseFormatErrorKind),
     /// A skew-symmetric matrix has an entry on its diagonal.
     DiagonalError,

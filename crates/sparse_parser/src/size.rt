@@ -36,7 +36,7 @@ pub struct SizeWords<'a> {
 
 impl Size {
     /// Parses the size line below a header. Returns `None` if the line does not match the grammar, and the cause of the
-    /// error if the header or the sizes are invalid.
+    /// error if the header or the size line is invalid.
     #[tactic(auto, unfolding(crate::specs::InnerReading::size_at))]
     pub fn from_line(header: Header, line: &[u8]) -> Option<Result<Size, Cause>>
         ensures { option_map (λ r. size_numbers r) result ≡ size_at header (words_of line.now) }
@@ -147,7 +147,7 @@ fn number(word: &[u8]) -> Result<usize, Cause>
     index(word).ok_or(Cause::SizeTooLarge)
 }
 
-// Whether the sizes are equal, if the symmetry needs that.
+// Whether the shapes are equal, if the symmetry needs that.
 fn fits(symmetry: Symmetry, rows: usize, cols: usize) -> bool
     ensures { result ≡ is_fitting symmetry rows cols }
 {

@@ -20,7 +20,7 @@ use std::alloc::{AllocError, Global};
 /// Returns the sum `a + b`.
 ///
 /// The result stores the union of the places, even where a sum is zero. Both matrices must have the
-/// same sizes.
+/// same shape.
 ///
 /// One merge of two sorted rows for each row, linear in places and rows. Memory is reserved by an
 /// estimate from a sample of the rows, and grows if the result has more places. Fails only if an
@@ -52,7 +52,7 @@ pub fn add_csr<T: Ring>(
 /// Returns the difference `a - b`.
 ///
 /// The result stores the union of the places, even where a difference is zero. Both matrices must
-/// have the same sizes.
+/// have the same shape.
 ///
 /// Time, memory and errors are those of [`add_csr`].
 ///
@@ -82,7 +82,7 @@ pub fn sub_csr<T: Ring>(
 /// Returns the sum `a + b`.
 ///
 /// The result stores the union of the places, even where a sum is zero. Both matrices must have the
-/// same sizes.
+/// same shape.
 ///
 /// One merge of two sorted columns for each column, linear in places and columns. Memory is
 /// reserved by an estimate from a sample of the columns, and grows if the result has more places.
@@ -104,7 +104,7 @@ pub fn add_csc<T: Ring>(
 /// Returns the difference `a - b`.
 ///
 /// The result stores the union of the places, even where a difference is zero. Both matrices must
-/// have the same sizes.
+/// have the same shape.
 ///
 /// Time, memory and errors are those of [`add_csc`].
 pub fn sub_csc<T: Ring>(
@@ -121,7 +121,7 @@ pub fn sub_csc<T: Ring>(
     Ok(CscMatrix::from_cs(merge::<T, true>(alloc, a.cs(), b.cs())?))
 }
 
-// The sum of two matrices with the same sizes, or their difference.
+// The sum of two matrices with the same shape, or their difference.
 #[tactic(auto, using(crate::proofs::Refusals::refused))]
 fn merge<T: Ring, const NEGATE: bool>(
     alloc: Global,

@@ -13,7 +13,7 @@ use std::alloc::{AllocError, Global};
 
 /// Returns the pattern of the sum of two matrices: the union of their places.
 ///
-/// Both patterns must have the same sizes.
+/// Both patterns must have the same shape.
 ///
 /// One merge of two sorted lanes for each lane: linear in places and lanes. Memory for the indices
 /// is asked for once, for as many as both patterns have together. Fails only if an allocation

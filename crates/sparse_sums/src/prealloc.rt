@@ -24,9 +24,9 @@ use sparse_pattern::pattern::SparsityPattern;
 
 /// Replaces `c` by `beta * c + alpha * op(a)` on the places of `c`.
 ///
-/// `op(a)` must have the sizes of `c`. Refuses with
-/// [`InvalidPattern`](sparse_algebra::error::OperationErrorKind::InvalidPattern) exactly where `op(a)` has a
-/// place that `c` lacks, whatever its value is; `c` is then unchanged.
+/// `op(a)` must have the shape of `c`. Refuses with
+/// [`InvalidPattern`](sparse_algebra::error::OperationErrorKind::InvalidPattern) exactly where `op(a)` has a place that
+/// `c` lacks, whatever its value is; `c` is then unchanged.
 ///
 /// Without a transpose two passes over the rows of `c` and of `a` side by side; with one, two
 /// binary searches in a row of `c` for each place of `a`; then one more pass over the values of
@@ -61,9 +61,9 @@ pub fn spadd_csr_prealloc<T: Ring>(
 
 /// Replaces `c` by `beta * c + alpha * op(a)` on the places of `c`.
 ///
-/// `op(a)` must have the sizes of `c`. Refuses with
-/// [`InvalidPattern`](sparse_algebra::error::OperationErrorKind::InvalidPattern) exactly where `op(a)` has a
-/// place that `c` lacks, whatever its value is; `c` is then unchanged.
+/// `op(a)` must have the shape of `c`. Refuses with
+/// [`InvalidPattern`](sparse_algebra::error::OperationErrorKind::InvalidPattern) exactly where `op(a)` has a place that
+/// `c` lacks, whatever its value is; `c` is then unchanged.
 ///
 /// Without a transpose two passes over the columns of `c` and of `a` side by side; with one, two
 /// binary searches in a column of `c` for each place of `a`; then one more pass over the values of

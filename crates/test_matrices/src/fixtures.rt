@@ -86,7 +86,7 @@ pub fn entry_is(entry: Option<SparseEntry<'_, i32>>, want: SparseEntry<'_, i32>)
     entry == Some(want)
 }
 
-/// Whether a CSR matrix has these sizes and arrays.
+/// Whether a CSR matrix has this shape and arrays.
 pub fn csr_is<T: PartialEq>(matrix: &CsrMatrix<T>, want: Arrays<'_, T>) -> bool {
     matrix.nrows() == want.0
         && matrix.ncols() == want.1
@@ -96,7 +96,7 @@ pub fn csr_is<T: PartialEq>(matrix: &CsrMatrix<T>, want: Arrays<'_, T>) -> bool 
         && are_equal(matrix.values(), want.4)
 }
 
-/// Whether a CSC matrix has these sizes and arrays.
+/// Whether a CSC matrix has this shape and arrays.
 pub fn csc_is<T: PartialEq>(matrix: &CscMatrix<T>, want: Arrays<'_, T>) -> bool {
     matrix.ncols() == want.0
         && matrix.nrows() == want.1
@@ -106,7 +106,7 @@ pub fn csc_is<T: PartialEq>(matrix: &CscMatrix<T>, want: Arrays<'_, T>) -> bool 
         && are_equal(matrix.values(), want.4)
 }
 
-/// Whether a CSR matrix was made that has these sizes and arrays.
+/// Whether a CSR matrix was made that has this shape and arrays.
 pub fn csr_made_is<T: Copy + PartialEq, E: Drop>(
     made: Result<CsrMatrix<T>, E>,
     want: Arrays<'_, T>,
@@ -117,7 +117,7 @@ pub fn csr_made_is<T: Copy + PartialEq, E: Drop>(
     }
 }
 
-/// Whether a CSC matrix was made that has these sizes and arrays.
+/// Whether a CSC matrix was made that has this shape and arrays.
 pub fn csc_made_is<T: Copy + PartialEq, E: Drop>(
     made: Result<CscMatrix<T>, E>,
     want: Arrays<'_, T>,

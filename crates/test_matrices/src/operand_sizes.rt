@@ -1,4 +1,4 @@
-//! The sizes of operands.
+//! The shapes of operands.
 
 ghost use Rattle.std.specs.Prelude.{◌≡◌};
 ghost use Rattle.sparse_cs.specs.PlainOfLanes.{plain_of_rows, plain_of_cols};

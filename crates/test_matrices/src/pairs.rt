@@ -45,7 +45,7 @@ pub fn holds_by_columns(made: Option<CscMatrix<W64>>, rows: &[usize], numbers: &
     }
 }
 
-/// What a call returns that updates a matrix; `None` where the sizes do not fit, and nothing is called.
+/// What a call returns that updates a matrix; `None` where the shapes do not fit, and nothing is called.
 pub type Answer = Option<Result<(), OperationError>>;
 
 /// Whether the matrix was updated.

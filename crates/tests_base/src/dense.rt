@@ -1,4 +1,4 @@
-//! Dense matrices: order of the values, writing, equality and refused sizes.
+//! Dense matrices: order of the values, writing, equality and refused shapes.
 
 use crate::slices::are_equal;
 use sparse_algebra::scalar::W64;

@@ -24,7 +24,7 @@ pub fn pattern_of(
     ))
 }
 
-// The sizes and the arrays that are given, and the fault.
+// The shape and the arrays that are given, and the fault.
 type Fault = (
     usize,
     usize,

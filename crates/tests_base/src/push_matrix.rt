@@ -9,7 +9,7 @@ use sparse_base::coo::CooMatrix;
 use sparse_base::dense::DMatrix;
 use std::alloc::{AllocError, Global};
 
-// A list of 3 rows and 2 columns to which an empty block was pushed, past its sizes.
+// A list of 3 rows and 2 columns to which an empty block was pushed, past its shape.
 fn with_empty_block(alloc: Global) -> Result<CooMatrix<i32>, AllocError>
     ensures { IfOk result (λ m. m.nrows ≡ 3 × m.ncols ≡ 2) }
 {

@@ -8,7 +8,7 @@ use std::alloc::{AllocError, Global};
 // The offsets and the indices of a pattern.
 type Arrays = (&'static [usize], &'static [usize]);
 
-// The sizes and the arrays of a pattern, and then the arrays of its transpose.
+// The shape and the arrays of a pattern, and then the arrays of its transpose.
 type Case = ((usize, usize), Arrays, Arrays);
 
 const CASES: &[Case] = &[

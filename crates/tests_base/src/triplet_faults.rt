@@ -10,7 +10,7 @@ use std::rc::Rc;
 
 const MAX: usize = usize::MAX;
 
-// The sizes, the rows, the columns and the values that are given, and the kind and the text of the error.
+// The shape, the rows, the columns and the values that are given, and the kind and the text of the error.
 type Fault = (
     usize,
     usize,

@@ -79,7 +79,7 @@ fn filled(alloc: Global) -> Result<Lists, AllocError> {
         appender.push(0, 1, -5);
     }
     for _ in 0..100 {
-        // The sizes are always large enough. They are tested since the prover does not know them in the loop.
+        // The shape is always large enough. It is tested since the prover does not know that in the loop.
         if appender.room() > 0 && appender.nrows() > 0 && appender.ncols() > 1 {
             appender.push(0, 1, 7);
         }

@@ -167,13 +167,13 @@ fn has_equal_pattern_by_columns(rebuilt: &CscMatrix<i32>, matrix: &CscMatrix<i32
     *rebuilt == *matrix && rebuilt.pattern() == matrix.pattern()
 }
 
-// Whether a matrix by columns has the sizes 2 and 4 transposed round.
+// Whether the transpose of a matrix by columns has 2 rows and 4 columns.
 fn has_sizes_transposed_round(matrix: CscMatrix<i32>) -> bool {
     let by_rows = matrix.transpose_as_csr();
     (by_rows.nrows(), by_rows.ncols()) == (2, 4)
 }
 
-// Whether the parts of a matrix by columns, and its arrays, make it again, with the sizes 2 and 4 transposed round.
+// Whether the parts of a matrix by columns, and its arrays, make it again, and its transpose has 2 rows and 4 columns.
 fn is_made_again_by_columns(alloc: Global, matrix: &CscMatrix<i32>) -> bool {
     match rebuilt_by_columns(alloc, matrix) {
         Ok(rebuilt) => {
@@ -209,7 +209,7 @@ fn is_kept_by_columns(alloc: Global, matrix: &CscMatrix<i32>) -> bool {
         && csc_made_equals(matrix.filter(alloc, |_, _, _| true), matrix)
 }
 
-// Whether zeros by rows of these sizes have these arrays, and copies that are equal.
+// Whether zeros by rows of this shape have these arrays, and copies that are equal.
 fn has_zeros_by_rows(alloc: Global, want: Arrays<'_, i32>) -> bool {
     match CsrMatrix::zeros(alloc, want.0, want.1) {
         Ok(zeros) => csr_is(&zeros, want) && is_kept_by_rows(alloc, &zeros),
@@ -225,7 +225,7 @@ fn pattern_made_equals(made: Result<SparsityPattern, AllocError>, other: &Sparsi
     }
 }
 
-// Whether zeros by columns of these sizes have these arrays and their pattern, and copies that are equal.
+// Whether zeros by columns of this shape have these arrays and their pattern, and copies that are equal.
 fn has_zeros_by_columns(alloc: Global, want: Arrays<'_, i32>) -> bool {
     match CscMatrix::zeros(alloc, want.1, want.0) {
         Ok(zeros) => {

@@ -16,7 +16,7 @@ use std::alloc::Global;
 /// Numbers of rows and columns of matrices by rows without places.
 const EMPTY: [(usize, usize); 4] = [(0, 0), (0, MOST), (2, 0), (2, MOST)];
 
-// Whether the sums and multiples of a matrix by rows have its sizes.
+// Whether the sums and multiples of a matrix by rows have its shape.
 fn rows_are_kept(alloc: Global, matrix: &CsrMatrix<W64>) -> bool {
     let (nrows, ncols) = (matrix.nrows(), matrix.ncols());
     is_made(add_csr(alloc, matrix, matrix), nrows, ncols, 0)
@@ -47,7 +47,7 @@ fn is_updated(mut target: CsrMatrix<W64>, matrix: &CsrMatrix<W64>) -> bool {
         && target == *matrix
 }
 
-// Whether all of these hold of the matrix of these sizes, by rows and by columns.
+// Whether all of these hold of the matrix of this shape, by rows and by columns.
 fn are_kept(alloc: Global, (nrows, ncols): (usize, usize)) -> bool {
     let rows = CsrMatrix::zeros(alloc, nrows, ncols);
     match (rows, CsrMatrix::zeros(alloc, nrows, ncols)) {
@@ -67,7 +67,7 @@ fn sums_and_multiples_without_places(rt: HostRuntime) {
     }
 }
 
-// Whether the product by rows has these sizes, and no place.
+// Whether the product by rows has this shape, and no place.
 fn rows_are_multiplied(alloc: Global, a: &CsrMatrix<W64>, b: &CsrMatrix<W64>) -> bool {
     a.ncols() == b.nrows() && is_made(mul_csr(alloc, a, b), a.nrows(), b.ncols(), 0)
 }
@@ -76,7 +76,7 @@ fn columns_are_multiplied(alloc: Global, a: &CscMatrix<W64>, b: &CscMatrix<W64>)
     a.ncols() == b.nrows() && is_made(mul_csc(alloc, a, b), a.nrows(), b.ncols(), 0)
 }
 
-// Whether the product into a matrix of its sizes is made.
+// Whether the product into a matrix of its shape is made.
 fn is_multiplied_into(alloc: Global, a: &CsrMatrix<W64>, b: &CsrMatrix<W64>) -> bool {
     let (beta, alpha) = (W64::new(2), W64::new(3));
     match CsrMatrix::zeros(alloc, a.nrows(), b.ncols()) {

@@ -35,12 +35,12 @@ fn ends_with_zero(matrix: &CscMatrix<W64>) -> bool {
     is_zero(matrix, nrows - 1, ncols - 1)
 }
 
-// Whether a place within the sizes is not stored.
+// Whether a place within the shape is not stored.
 fn is_zero<T>(matrix: &CscMatrix<T>, row: usize, col: usize) -> bool {
     matches!(matrix.get_entry(row, col), Some(SparseEntry::Zero))
 }
 
-// Whether what keeps the sizes keeps them.
+// Whether what keeps the shape keeps it.
 fn is_kept(alloc: Global, matrix: &CscMatrix<W64>, nrows: usize, ncols: usize) -> bool {
     is_made(matrix.clone(alloc), nrows, ncols, 0)
         && is_made(matrix.filter(alloc, |_, _, _| true), nrows, ncols, 0)
@@ -65,7 +65,7 @@ fn is_dense(alloc: Global, matrix: &CscMatrix<W64>, nrows: usize, ncols: usize) 
     }
 }
 
-// Whether the calls without memory keep the sizes too.
+// Whether the calls without memory keep the shape too.
 fn is_moved(mut matrix: CscMatrix<W64>, nrows: usize, ncols: usize) -> bool {
     for (_, _, value) in matrix.triplet_iter_mut() {
         *value = W64::new(1);

@@ -18,7 +18,7 @@ const EMPTY: [(usize, usize); 6] = [
     (MOST, 2),
 ];
 
-// Whether the calls of a list without triplets keep its sizes.
+// Whether the calls of a list without triplets keep its shape.
 fn is_kept(alloc: Global, list: &CooMatrix<W64>, nrows: usize, ncols: usize) -> bool {
     list.triplet_iter().next().is_none()
         && is_made(list.clone(alloc), nrows, ncols, 0)
@@ -45,7 +45,7 @@ fn lists_without_triplets(rt: HostRuntime) {
     }
 }
 
-// The list of the greatest sizes with one triplet, at its last place.
+// The list of the largest shape with one triplet, at its last place.
 fn last(alloc: Global) -> Option<CooMatrix<i32>> {
     let mut list = CooMatrix::new(alloc, MOST, MOST);
     if list.nrows() < MOST || list.ncols() < MOST {

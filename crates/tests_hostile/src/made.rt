@@ -1,4 +1,4 @@
-//! What was made: its sizes and its number of places.
+//! What was made: its shape and its number of places.
 
 use nalgebra_sparse::dense::DMatrix;
 use nalgebra_sparse::pattern::SparsityPattern;
@@ -42,7 +42,7 @@ impl<T> Extent for DMatrix<T> {
     }
 }
 
-/// Whether a value of these sizes was made, with this number of places.
+/// Whether a value of this shape was made, with this number of places.
 pub fn is_made<M: Extent + Drop, E: Drop>(
     made: Result<M, E>,
     nrows: usize,
@@ -55,7 +55,7 @@ pub fn is_made<M: Extent + Drop, E: Drop>(
     }
 }
 
-/// Whether a value of these sizes without places was made, or none because it has more `lanes` than offsets fit in
+/// Whether a value of this shape without places was made, or none because it has more `lanes` than offsets fit in
 /// memory.
 pub fn is_empty_or_large<M: Extent + Drop, E: Drop>(
     made: Result<M, E>,

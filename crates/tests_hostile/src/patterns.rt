@@ -18,7 +18,7 @@ fn is_read(pattern: &SparsityPattern) -> bool {
         && pattern.major_offsets().iter().all(|offset| *offset == 0)
 }
 
-// Whether what is made of a pattern has its sizes.
+// Whether what is made of a pattern has its shape.
 fn is_kept(alloc: Global, pattern: &SparsityPattern, major: usize, minor: usize) -> bool {
     is_made(pattern.clone(alloc), major, minor, 0)
         && is_empty_or_large(pattern.transpose(alloc), minor, major, minor)
@@ -49,7 +49,7 @@ fn is_summed(alloc: Global, pattern: &SparsityPattern, major: usize, minor: usiz
     is_made(spadd_pattern(alloc, pattern, pattern), major, minor, 0)
 }
 
-// Whether the pattern of these sizes is made, read and kept.
+// Whether the pattern of this shape is made, read and kept.
 fn is_whole(alloc: Global, (major, minor): (usize, usize)) -> bool {
     match SparsityPattern::zeros(alloc, major, minor) {
         Ok(pattern) => is_read(&pattern) && is_kept(alloc, &pattern, major, minor),
@@ -91,7 +91,7 @@ fn the_last_place_of_a_lane(rt: HostRuntime) {
     assert!(rt; has_last_place(rt.alloc()));
 }
 
-// Whether the patterns of both products of matrices without places have these sizes.
+// Whether the patterns of both products of matrices without places have this shape.
 fn is_multiplied(alloc: Global, (rows, inner, cols): (usize, usize, usize)) -> bool {
     let a = SparsityPattern::zeros(alloc, rows, inner);
     match (a, SparsityPattern::zeros(alloc, inner, cols)) {

@@ -33,7 +33,7 @@ fn parts<T>(triplet: &(usize, usize, T)) -> (usize, usize, &T) {
     (triplet.0, triplet.1, &triplet.2)
 }
 
-// Whether both readers give the same sizes and triplets, or the same kind of refusal.
+// Whether both readers give the same shape and triplets, or the same kind of refusal.
 fn are_same<T: MatrixMarketScalar + PartialEq>(
     found: &Result<CooMatrix<T>, MatrixMarketError>,
     wanted: &Result<Listed<T>, MatrixMarketErrorKind>,
@@ -152,7 +152,7 @@ fn each_byte_replaced_by_each_of_256(rt: HostRuntime) {
     }
 }
 
-/// Lines below the words `%%MatrixMarket matrix`, and the sizes of the list without triplets that they mean.
+/// Lines below the words `%%MatrixMarket matrix`, and the shape of the list without triplets that they mean.
 const EMPTY: [(&str, usize, usize); 8] = [
     ("coordinate integer general\n0 0 0\n", 0, 0),
     (

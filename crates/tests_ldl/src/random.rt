@@ -55,7 +55,7 @@ fn times<T: Scalar>(alloc: Global, a: &CscMatrix<T>, x: &DMatrix<T>) -> Option<D
     mul_csc_dense(alloc, a, x).ok()
 }
 
-// The solution of a system, if the sizes fit.
+// The solution of a system, if the shapes fit.
 fn solved<T: Scalar>(ldl: &Ldl<T>, mut b: DMatrix<T>) -> Option<DMatrix<T>> {
     if b.nrows() != ldl.l().nrows() {
         return None;

@@ -11,7 +11,7 @@ use std::alloc::Global;
 
 const START: &str = "%%MatrixMarket matrix ";
 
-/// The sizes of a matrix and its triplets.
+/// The shape of a matrix and its triplets.
 type Listed<T> = ((usize, usize), &'static [(usize, usize, T)]);
 
 /// Texts below the first words of the header, and what they mean as i32.
@@ -94,7 +94,7 @@ const MEANINGS: &[(&str, Listed<i32>)] = &[
     ),
 ];
 
-/// Whether the text means these sizes and triplets.
+/// Whether the text means this shape and triplets.
 pub fn means<T: MatrixMarketScalar + PartialEq>(
     alloc: Global,
     below: &str,
@@ -107,7 +107,7 @@ pub fn means<T: MatrixMarketScalar + PartialEq>(
     }
 }
 
-// Whether the text of a case means its sizes and triplets.
+// Whether the text of a case means its shape and triplets.
 fn is_meant(alloc: Global, &(below, (sizes, triplets)): &(&str, Listed<i32>)) -> bool {
     means(alloc, below, sizes, triplets)
 }

@@ -25,7 +25,7 @@ const TEXTS: [&str; 7] = [
     "%%MatrixMarket matrix coordinate pattern symmetric\n2 2 2\n1 1\n2 1\n",
 ];
 
-// Whether both readers give the same sizes and triplets, or the same kind of refusal.
+// Whether both readers give the same shape and triplets, or the same kind of refusal.
 fn are_same<T: MatrixMarketScalar + PartialEq>(
     found: &Result<CooMatrix<T>, MatrixMarketError>,
     wanted: &Result<Listed<T>, MatrixMarketErrorKind>,

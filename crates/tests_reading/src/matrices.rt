@@ -9,7 +9,7 @@ fn parts<T>(triplet: &(usize, usize, T)) -> (usize, usize, &T) {
     (triplet.0, triplet.1, &triplet.2)
 }
 
-/// Whether a matrix has these sizes and triplets.
+/// Whether a matrix has this shape and triplets.
 pub fn is_listed<T: MatrixMarketScalar + PartialEq>(
     matrix: &CooMatrix<T>,
     sizes: (usize, usize),

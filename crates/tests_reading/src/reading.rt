@@ -89,7 +89,7 @@ const CASES: &[Case] = &[
     },
 ];
 
-// Whether a text means the sizes and the triplets of its case.
+// Whether a text means the shape and the triplets of its case.
 fn is_read(alloc: Global, case: &Case) -> bool {
     match load::<W64>(alloc, case.head, case.below) {
         Ok(matrix) => {

@@ -254,7 +254,7 @@ const MESSAGES: &[(&str, &str, &str)] = &[
         "1 1 1\n2 1 1",
         "SparseFormatError, message: Row index out of bounds.",
     ),
-    // A row past the sizes is named before a column, wherever the two stand.
+    // A row past the shape is named before a column, wherever the two stand.
     (
         HEADER,
         "2 2 2\n3 1 1\n1 3 1",

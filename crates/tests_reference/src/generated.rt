@@ -27,7 +27,7 @@ impl Generator {
     }
 }
 
-/// Returns a list of these sizes with this many triplets, some of them at one place, or with none where a size is zero.
+/// Returns a list of this shape with this many triplets, some of them at one place, or with none where a size is zero.
 pub fn list(
     alloc: Global,
     generator: &mut Generator,

@@ -107,7 +107,7 @@ fn has_its_columns(alloc: Global, coo: &CooMatrix<W64>) -> Result<bool, AllocErr
     Ok(columns.are(csc.col_offsets(), csc.row_indices(), csc.values()))
 }
 
-// Whether the next list of these sizes, of 12 triplets, is converted to its rows and to its columns.
+// Whether the next list of this shape, of 12 triplets, is converted to its rows and to its columns.
 fn next_list_is_converted(
     alloc: Global,
     generator: &mut Generator,
@@ -152,7 +152,7 @@ fn rows_of_product(
     Ok(arrays)
 }
 
-// The product of two matrices, or `None` where their sizes don't fit.
+// The product of two matrices, or `None` where their shapes don't fit.
 fn product_of(
     alloc: Global,
     left: &CsrMatrix<W64>,
@@ -164,7 +164,7 @@ fn product_of(
     Ok(Some(mul_csr(alloc, left, right)?))
 }
 
-// The product of two lists by rows, or `None` where their sizes don't fit.
+// The product of two lists by rows, or `None` where their shapes don't fit.
 fn product(
     alloc: Global,
     a: &CooMatrix<W64>,
@@ -211,7 +211,7 @@ fn has_its_product(
     Ok(product_is(product(alloc, a, b), b.ncols(), &rows))
 }
 
-// Whether the next two lists of these sizes have their product.
+// Whether the next two lists of this shape have their product.
 fn next_product_is_right(
     alloc: Global,
     generator: &mut Generator,

@@ -85,7 +85,7 @@ fn products(rt: HostRuntime) {
     assert!(rt; multiplies::<Mod<7>>(rt.alloc(), F, &[3, 5], &[6, 1]));
 }
 
-// Whether the product of matrices whose sizes fit is refused.
+// Whether the product of matrices whose shapes fit is refused.
 fn refuses(alloc: Global, a: &CsrMatrix<W64>, b: &DMatrix<W64>) -> bool {
     if a.ncols() != b.nrows() {
         return false;

@@ -20,7 +20,7 @@ pub const A: Arrays<'static> = (2, 3, &[0, 2, 4], &[0, 2, 1, 2], &[1, 2, 3, 0]);
 /// The rows `1 2` and `0 3`.
 pub const F: Arrays<'static> = (2, 2, &[0, 2, 3], &[0, 1, 1], &[1, 2, 3]);
 
-// Whether A is transposed, and B; beta, alpha; the sizes and values of C, of B, and of beta C + alpha op(A) op(B),
+// Whether A is transposed, and B; beta, alpha; the shapes and values of C, of B, and of beta C + alpha op(A) op(B),
 // column by column.
 type Update = (
     Arrays<'static>,
@@ -142,7 +142,7 @@ fn sizes_of_dense<T: Ring>(b: Op<&DMatrix<T>>) -> (usize, usize)
     }
 }
 
-// Updates `c` by a product of a matrix by rows, and returns whether the sizes fit.
+// Updates `c` by a product of a matrix by rows, and returns whether the shapes fit.
 fn update_by_rows<T: Ring>(
     beta: T,
     c: &mut DMatrix<T>,
@@ -159,7 +159,7 @@ fn update_by_rows<T: Ring>(
     true
 }
 
-// Updates `c` by a product of a matrix by columns, and returns whether the sizes fit.
+// Updates `c` by a product of a matrix by columns, and returns whether the shapes fit.
 fn update_by_columns<T: Ring>(
     beta: T,
     c: &mut DMatrix<T>,
@@ -176,7 +176,7 @@ fn update_by_columns<T: Ring>(
     true
 }
 
-// Updates C by A and B, and returns whether the sizes fit.
+// Updates C by A and B, and returns whether the shapes fit.
 fn update_rows(
     c: &mut DMatrix<W64>,
     update: &Update,
@@ -189,7 +189,7 @@ fn update_rows(
     update_by_rows(W64::of(beta), c, W64::of(alpha), a, b)
 }
 
-// Applies the update to C by rows, and returns whether the sizes fit.
+// Applies the update to C by rows, and returns whether the shapes fit.
 fn apply_by_rows(alloc: Global, c: &mut DMatrix<W64>, update: &Update) -> bool {
     let Some(a) = csr(alloc, update.0) else {
         return false;
@@ -221,7 +221,7 @@ fn update_columns(
     update_by_columns(W64::of(beta), c, W64::of(alpha), a, b)
 }
 
-// Applies the update to C by columns, and returns whether the sizes fit.
+// Applies the update to C by columns, and returns whether the shapes fit.
 fn apply_by_columns(alloc: Global, c: &mut DMatrix<W64>, update: &Update) -> bool {
     let Some(a) = csr(alloc, update.0) else {
         return false;

@@ -113,7 +113,7 @@ const SINGULAR: &[(System, &[i32])] = &[
     ),
 ];
 
-// Solves with a matrix or its transpose, if the sizes fit.
+// Solves with a matrix or its transpose, if the shapes fit.
 fn solve<T: Units>(l: &CscMatrix<T>, transposed: bool, b: &mut DMatrix<T>) -> Answer {
     if l.nrows() != l.ncols() || b.nrows() != l.ncols() {
         return None;
@@ -125,7 +125,7 @@ fn solve<T: Units>(l: &CscMatrix<T>, transposed: bool, b: &mut DMatrix<T>) -> An
     }
 }
 
-// Solves a system, if the sizes fit and its matrix can be made.
+// Solves a system, if the shapes fit and its matrix can be made.
 fn solve_system<T: Scalar + Units>(alloc: Global, system: System, b: &mut DMatrix<T>) -> Answer {
     match csc(alloc, system.1) {
         Some(l) => solve(&l, system.2, b),

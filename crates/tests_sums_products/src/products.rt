@@ -7,7 +7,7 @@ use std::alloc::{AllocError, Global};
 use test_matrices::matrices::{Arrays, csr, csr_of, first_multiples};
 use test_matrices::scalars::{Scalar, are};
 
-// The product of two matrices whose sizes fit.
+// The product of two matrices whose shapes fit.
 fn product<T: Ring>(alloc: Global, a: &CsrMatrix<T>, b: &CsrMatrix<T>) -> Option<CsrMatrix<T>> {
     if a.ncols() != b.nrows() {
         return None;

@@ -32,7 +32,7 @@ const UPDATES: [Update; 4] = [
     (true, true, [14, 19, 30, 92]),
 ];
 
-// Updates C, if its sizes and those of the factors fit.
+// Updates C, if its shape and those of the factors fit.
 fn update_rows<T: Ring>(
     alloc: Global,
     (beta, alpha): (T, T),

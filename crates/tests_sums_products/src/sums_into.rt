@@ -11,7 +11,7 @@ use test_matrices::pairs::{
     Answer, holds, holds_by_columns, is_done, is_refused, pair, pair_by_columns,
 };
 
-// Adds A, scaled, to C, scaled, if the sizes fit.
+// Adds A, scaled, to C, scaled, if the shapes fit.
 fn add<T: Ring>((beta, alpha): (T, T), c: &mut CsrMatrix<T>, a: &CsrMatrix<T>) -> Answer {
     if c.nrows() != a.nrows() || c.ncols() != a.ncols() {
         return None;

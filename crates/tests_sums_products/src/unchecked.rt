@@ -11,7 +11,7 @@ use std::alloc::Global;
 use test_matrices::operand_sizes::{sizes_of_columns, sizes_of_rows};
 use test_matrices::pairs::Answer;
 
-/// Updates C, if its sizes and those of the factors fit, and the call that tests the pattern updates a copy.
+/// Updates C, if its shape and those of the factors fit, and the call that tests the pattern updates a copy.
 pub fn update_rows<T: Ring>(
     alloc: Global,
     (beta, alpha): (T, T),

@@ -30,7 +30,7 @@ fn written<S: MatrixMarketExport<W64>>(alloc: Global, matrix: &S) -> Result<Stri
     ensures { IfOk result (λ text. Means (wrapping_scalar w64) (string_bytes text)
         (Ok (values_of w64_number (S.exported matrix.now)))) }
 {
-    // These calls cost nothing: they tell the prover the law, that the sizes fit, and that the triplets lie inside.
+    // These calls cost nothing: they tell the prover the law, that the shapes fit, and that the triplets lie inside.
     round_trip::<W64>();
     is_size(matrix.nrows());
     is_size(matrix.ncols());

@@ -81,7 +81,7 @@ impl<'a, T: Ring> Operation<'a, T> {
     }
 }
 
-/// Returns the result of an operation, each place once, row after row. The places must lie inside its sizes.
+/// Returns the result of an operation, each place once, row after row. The places must lie inside its shape.
 pub(crate) fn tabulated<T: Ring>(
     alloc: Global,
     operation: &Operation<'_, T>,

@@ -17,7 +17,7 @@ use sparse_parser::header::{Format, Header, Symmetry};
 use sparse_pattern::error::SparseFormatErrorKind;
 use std::alloc::{AllocError, Global};
 
-/// The sizes and the triplets that a text means.
+/// The shape and the triplets that a text means.
 #[derive(Drop)]
 pub struct Listed<T> {
     pub nrows: usize,

@@ -7,7 +7,7 @@ use super::DMatrix;
 impl<T> DMatrix<T> {
     ghost use Rattle.sparse_base.specs.DenseEquality.{dense_sizes_eq};
 
-    // Whether the sizes are equal.
+    // Whether the shapes are equal.
     fn has_same_sizes(&self, other: &Self) -> bool
         ensures { result ≡ dense_sizes_eq self.now other.now }
     {

@@ -20,7 +20,7 @@ pub struct Places {
 impl Places {
     ghost use Rattle.sparse_io.specs.InnerPlaces.{places_left, left_from, columns_left};
 
-    /// Returns the places of an array of these sizes. In the coordinate format there are none, since each data line
+    /// Returns the places of an array of this shape. In the coordinate format there are none, since each data line
     /// gives its own.
     pub fn new(format: Format, symmetry: Symmetry, rows: usize, cols: usize) -> Places
         ensures { places_left result ≡ places_of format symmetry rows cols }

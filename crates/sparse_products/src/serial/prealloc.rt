@@ -21,9 +21,10 @@ use std::alloc::Global;
 
 /// Replaces `c` by `beta * c + alpha * op(a) * op(b)` on the places of `c`.
 ///
-/// The inner sizes of `op(a)` and `op(b)` must be equal, and `c` must have the sizes of their product. Refuses with
-/// [`InvalidPattern`](sparse_algebra::error::OperationErrorKind::InvalidPattern) only where the product's pattern has a place that
-/// `c` lacks, whatever its value is, and with `OutOfMemory` only if an allocation fails; `c` is then unchanged.
+/// The inner dimensions of `op(a)` and `op(b)` must be equal, and `c` must have the shape of their product. Refuses
+/// with [`InvalidPattern`](sparse_algebra::error::OperationErrorKind::InvalidPattern) only where the product's pattern
+/// has a place that `c` lacks, whatever its value is, and with `OutOfMemory` only if an allocation fails; `c` is then
+/// unchanged.
 ///
 /// Two binary searches in a row of `c` for each triple (i, k, j) with (i, k) in `op(a)` and (k, j) in `op(b)`: the
 /// first pass tests the pattern, the second writes. No memory is asked for where neither operand is transposed; a
@@ -68,9 +69,10 @@ pub fn spmm_csr_prealloc<T: Ring>(
 
 /// Replaces `c` by `beta * c + alpha * op(a) * op(b)` on the places of `c`.
 ///
-/// The inner sizes of `op(a)` and `op(b)` must be equal, and `c` must have the sizes of their product. Refuses with
-/// [`InvalidPattern`](sparse_algebra::error::OperationErrorKind::InvalidPattern) only where the product's pattern has a place that
-/// `c` lacks, whatever its value is, and with `OutOfMemory` only if an allocation fails; `c` is then unchanged.
+/// The inner dimensions of `op(a)` and `op(b)` must be equal, and `c` must have the shape of their product. Refuses
+/// with [`InvalidPattern`](sparse_algebra::error::OperationErrorKind::InvalidPattern) only where the product's pattern
+/// has a place that `c` lacks, whatever its value is, and with `OutOfMemory` only if an allocation fails; `c` is then
+/// unchanged.
 ///
 /// Two binary searches in a column of `c` for each triple (i, k, j) with (i, k) in `op(a)` and (k, j) in `op(b)`: the
 /// first pass tests the pattern, the second writes. No memory is asked for where neither operand is transposed; a

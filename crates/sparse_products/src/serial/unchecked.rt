@@ -22,8 +22,8 @@ use std::alloc::Global;
 
 /// Replaces `c` by `beta * c + alpha * op(a) * op(b)`, where `c` has each place of the product's pattern.
 ///
-/// The inner sizes of `op(a)` and `op(b)` must be equal, and `c` must have the sizes of their product. Refuses with
-/// `OutOfMemory` only if an allocation fails; `c` is then unchanged.
+/// The inner dimensions of `op(a)` and `op(b)` must be equal, and `c` must have the shape of their product. Refuses
+/// with `OutOfMemory` only if an allocation fails; `c` is then unchanged.
 ///
 /// Gustavson's algorithm (1978): one multiplication for each triple (i, k, j) with (i, k) in `op(a)` and (k, j) in
 /// `op(b)`, and one for each place of `op(a)` and of `c`. Scratch memory for one row of `c`; none if it is longer than
@@ -124,8 +124,8 @@ pub fn spmm_csr_prealloc_unchecked_counted<T: Ring>(
 
 /// Replaces `c` by `beta * c + alpha * op(a) * op(b)`, where `c` has each place of the product's pattern.
 ///
-/// The inner sizes of `op(a)` and `op(b)` must be equal, and `c` must have the sizes of their product. Refuses with
-/// `OutOfMemory` only if an allocation fails; `c` is then unchanged.
+/// The inner dimensions of `op(a)` and `op(b)` must be equal, and `c` must have the shape of their product. Refuses
+/// with `OutOfMemory` only if an allocation fails; `c` is then unchanged.
 ///
 /// Gustavson's algorithm (1978): one multiplication for each triple (i, k, j) with (i, k) in `op(a)` and (k, j) in
 /// `op(b)`, and one for each place of `op(a)` and of `c`. Scratch memory for one column of `c`; none if it is longer
