@@ -1,9 +1,11 @@
 //! A sink over a writer.
 
 ghost use Rattle.std.specs.Prelude.{◌≡◌, ◌+◌, None, Some, false, is_ok, IfErr, IsErrAnd, IfOk, IsOk};
-ghost use Rattle.std.specs.Io.KnownBytes.{Keeps};
+ghost use Rattle.std.specs.Io.{WritesAtMost};
+ghost use Rattle.std.specs.Io.KnownBytes.{Keeps, WriteAppends};
 ghost use Rattle.std.specs.IoError.{error_kind};
 ghost use Rattle.sparse_io.specs.Out.{out_state};
+ghost use Rattle.sparse_io.specs.Sink.{failure_of, CountsFailure};
 
 use crate::sinks::Sink;
 use sparse_base::steps::Steps;
@@ -105,7 +107,15 @@ impl<W: Write> Sink for Out<W> {
 
     ghost last = { λ out. out.last };
 
-    fn write(&mut self, bytes: &[u8]) -> Result<usize, ErrorKind> {
+    /// Writes to the writer, and notes that it was not flushed since.
+    fn write(&mut self, bytes: &[u8]) -> Result<usize, ErrorKind>
+        ensures bound { WritesAtMost result bytes.now }
+        ensures bytes { WriteAppends (W.contents self.old.inner) (W.contents self.new.inner) result
+            bytes.now }
+        ensures failed { CountsFailure (failure_of result bytes.now) self.old.failures
+            self.new.failures self.old.last self.new.last }
+        ensures unflushed { self.new.flushed ≡ false }
+    {
         self.flushed = false;
         match self.inner.write(bytes) {
             Ok(count) => {
