@@ -71,6 +71,8 @@ fn has_factors<T: Scalar>(alloc: Global, matrix: Arrays<'_>, want: Factors) -> b
     }
 }
 
+const SINGULAR: &str = "Matrix contains at least one diagonal entry that is zero.";
+
 fn is_singular<T: Scalar>(alloc: Global, matrix: Arrays<'_>) -> bool {
     let Some(matrix) = csc::<T>(alloc, matrix) else {
         return false;
@@ -80,7 +82,9 @@ fn is_singular<T: Scalar>(alloc: Global, matrix: Arrays<'_>) -> bool {
     }
     match Ldl::factor(alloc, &matrix) {
         Ok(_ldl) => false,
-        Err(error) => *error.kind() == OperationErrorKind::Singular,
+        Err(error) => {
+            *error.kind() == OperationErrorKind::Singular && error.message() == SINGULAR
+        }
     }
 }
 

@@ -14,6 +14,8 @@ mod sums;
 #[cfg(test)]
 mod sums_into;
 #[cfg(test)]
+mod transposes;
+#[cfg(test)]
 mod unchecked;
 #[cfg(test)]
 mod wrapping;

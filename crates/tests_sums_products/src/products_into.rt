@@ -129,6 +129,57 @@ fn unchecked_products_into_a_matrix(rt: HostRuntime) {
     }
 }
 
+/// So many columns that no scratch row of them could be allocated.
+const WIDTH: usize = 1 << 63;
+
+const LAST: usize = WIDTH - 1;
+
+/// One row with 1 in its first place and 2 in its last.
+const WIDE: Arrays<'static> = (1, WIDTH, &[0, 2], &[0, LAST], &[1, 2]);
+
+/// One row with 7 in its last place.
+const WIDE_FACTOR: Arrays<'static> = (1, WIDTH, &[0, 1], &[LAST], &[7]);
+
+/// The same as columns.
+const LONG: Arrays<'static> = (WIDTH, 1, WIDE.2, WIDE.3, WIDE.4);
+
+const LONG_FACTOR: Arrays<'static> = (WIDTH, 1, WIDE_FACTOR.2, WIDE_FACTOR.3, WIDE_FACTOR.4);
+
+const FIVE: Arrays<'static> = (1, 1, &[0, 1], &[0], &[5]);
+
+// Whether 2 C + 3 A B is made of a wide C without a test of the pattern: 2, and 4 + 105.
+fn updates_a_wide_row(alloc: Global) -> bool {
+    let Some(mut c) = csr(alloc, WIDE) else {
+        return false;
+    };
+    let Some(factors) = pair(alloc, FIVE, WIDE_FACTOR) else {
+        return false;
+    };
+    let (a, b) = (Op::NoOp(&factors.0), Op::NoOp(&factors.1));
+    let scalars = (W64::new(2), W64::new(3));
+    is_done(unchecked::update_rows(alloc, scalars, &mut c, a, b)) && are(c.values(), &[2, 109])
+}
+
+// The same of the transposes by columns.
+fn updates_a_long_column(alloc: Global) -> bool {
+    let Some(mut c) = csc(alloc, LONG) else {
+        return false;
+    };
+    let Some(factors) = pair_by_columns(alloc, FIVE, LONG_FACTOR) else {
+        return false;
+    };
+    let (a, b) = (Op::NoOp(&factors.0), Op::NoOp(&factors.1));
+    let scalars = (W64::new(2), W64::new(3));
+    is_done(unchecked::update_columns(alloc, scalars, &mut c, b, a)) && are(c.values(), &[2, 109])
+}
+
+// Such a product succeeds, so it has no scratch row.
+#[test]
+fn unchecked_products_into_a_wide_matrix(rt: HostRuntime) {
+    assert!(rt; updates_a_wide_row(rt.alloc()));
+    assert!(rt; updates_a_long_column(rt.alloc()));
+}
+
 // C, and the factors A and B.
 type Refusal = (Arrays<'static>, Arrays<'static>, Arrays<'static>);
 
