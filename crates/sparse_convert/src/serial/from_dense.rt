@@ -24,7 +24,7 @@ use std::alloc::{AllocError, Global};
 
 /// Returns a triplet for each value that is not `==` to zero, column by column.
 ///
-/// One pass over the values. Memory grows with the triplets. Fails only if an allocation fails.
+/// One pass over the values. Fails only if an allocation fails.
 pub fn convert_dense_coo<T: Zero + Copy>(
     alloc: Global,
     dense: &DMatrix<T>,
@@ -65,7 +65,7 @@ fn push_column<T: Zero + Copy>(
 
 /// Returns the CSC matrix of the values that are not `==` to zero.
 ///
-/// One pass over the values. Memory grows with the stored places. Fails only if an allocation fails.
+/// One pass over the values. Fails only if an allocation fails.
 #[tactic(auto, using(crate::proofs::Refusals::refused))]
 pub fn convert_dense_csc<T: Zero + Copy>(
     alloc: Global,
@@ -84,7 +84,7 @@ pub fn convert_dense_csc<T: Zero + Copy>(
 
 /// Returns the CSR matrix of the values that are not `==` to zero.
 ///
-/// One pass over the values. Memory grows with the stored places. Fails only if an allocation fails.
+/// One pass over the values. Fails only if an allocation fails.
 ///
 /// # Examples
 ///
