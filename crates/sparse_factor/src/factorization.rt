@@ -163,6 +163,25 @@ impl CscSymbolicCholesky {
         &self.l_pattern
     }
 
+    /// Returns the pattern of the factor, and drops the pattern that it was found for.
+    ///
+    /// # Examples
+    ///
+    /// ```rust
+    /// fn a_factor_is_taken_out(alloc: Global) -> Result<bool, Fail> {
+    ///     let offsets = vec![in alloc; 0, 1, 3]?;
+    ///     let pattern =
+    ///         SparsityPattern::try_from_offsets_and_indices(2, 2, offsets, vec![in alloc; 0, 0, 1]?)?;
+    ///     let l_pattern = CscSymbolicCholesky::factor(alloc, pattern)?.into_l_pattern();
+    ///     Ok(l_pattern.major_offsets() == [0, 2, 3].as_slice())
+    /// }
+    /// ```
+    pub fn into_l_pattern(self) -> SparsityPattern
+        ensures { result ≡ self.factor }
+    {
+        self.l_pattern
+    }
+
     /// Returns a copy of the pattern and of the factor. Fails only if an allocation fails.
     pub fn clone(&self, alloc: Global) -> Result<Self, AllocError>
         ensures { IfOk result (λ s. s ≡ self.now) }

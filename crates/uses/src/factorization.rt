@@ -22,8 +22,21 @@ fn a_lower_triangle_fills_in(alloc: Global) -> Result<bool, Fail> {
     Ok(factor.l_pattern().minor_indices() == [0, 1, 2, 1, 2, 2].as_slice())
 }
 
+fn a_factor_is_taken_out(alloc: Global) -> Result<bool, Fail> {
+    let offsets = vec![in alloc; 0, 1, 3]?;
+    let pattern = SparsityPattern::try_from_offsets_and_indices(
+        2,
+        2,
+        offsets,
+        vec![in alloc; 0, 0, 1]?,
+    )?;
+    let l_pattern = CscSymbolicCholesky::factor(alloc, pattern)?.into_l_pattern();
+    Ok(l_pattern.major_offsets() == [0, 2, 3].as_slice())
+}
+
 #[test]
 fn factors(rt: HostRuntime) {
     assert!(rt; holds(&rt, a_factor_fills_in(rt.alloc())));
     assert!(rt; holds(&rt, a_lower_triangle_fills_in(rt.alloc())));
+    assert!(rt; holds(&rt, a_factor_is_taken_out(rt.alloc())));
 }
