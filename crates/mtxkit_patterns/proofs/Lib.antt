@@ -1,3 +1,4 @@
 mod LaneCounts
+mod LongestLanes
 mod Marks
 mod PlacesLeft

@@ -1,6 +1,6 @@
 -- Counting the lanes of a pattern by their numbers of places.
 use Rattle.std.specs.Prelude.{◌≡◌, ℕ, zero, suc, ◌+◌, ◌*◌, ◌<◌, Bool, ◌&&◌, nat_lt, nat_le, List}
-use Rattle.std.specs.Prelude.{length, slice_index, sum, if◌then◌else◌}
+use Rattle.std.specs.Prelude.{◌/◌, max, length, slice_index, sum, if◌then◌else◌}
 use Rattle.sparse_pattern.specs.Raw.{Raw, IsValid, lane_of}
 use Rattle.sparse_pattern.specs.TransposedPattern.{IsTransposedPattern}
 
@@ -12,6 +12,15 @@ count_below (suc n) test = count_below n test + (if test n then 1 else 0)
 -- the number of places of lane k
 abbrev pub size_of : Raw → ℕ → ℕ
 size_of p k = length (lane_of p k)
+
+-- the greatest of the numbers of places of the lanes below n, or 0
+abbrev pub longest_below : Raw → ℕ → ℕ
+longest_below p zero = 0
+longest_below p (suc n) = max (longest_below p n) (size_of p n)
+
+-- how many numbers of places one line of a histogram stands for, so that ten lines are enough
+abbrev pub line_width : Raw → ℕ
+line_width p = longest_below p p.major_dim / 10 + 1
 
 -- lane k has at least `from` places and fewer than `to`
 abbrev pub has_size_in : Raw → ℕ → ℕ → ℕ → Bool
@@ -27,6 +36,7 @@ pub record HasEmptyColumns (p : Raw) (count : ℕ) : Type 0 where
 -- ten counts of lanes: count b is of those with at least b times `width` places and fewer than
 -- b + 1 times `width`; together they count each lane
 pub record IsHistogram (p : Raw) (width : ℕ) (counts : List ℕ) : Type 0 where
+  pub exact : width ≡ line_width p
   pub lines : length counts ≡ 10
   pub each : (b : ℕ) → b < 10 → slice_index counts b
       ≡ count_below p.major_dim (has_size_in p (b * width) ((b + 1) * width))

@@ -3,6 +3,7 @@
 ghost use Rattle.std.specs.Prelude.{◌≡◌, ℕ, ◌+◌, ◌*◌, ◌^◌, ◌<◌, ◌≤◌, ◌⊎◌, IfOk, length, sum};
 ghost use Rattle.std.specs.Prelude.{slice_index};
 ghost use Rattle.mtxkit_patterns.specs.Lanes.{count_below, has_size_in, size_of};
+ghost use Rattle.mtxkit_patterns.specs.Lanes.{longest_below, line_width};
 
 use sparse_pattern::pattern::SparsityPattern;
 use std::alloc::{AllocError, Global};
@@ -38,6 +39,7 @@ pub fn count_lanes(pattern: &SparsityPattern, from: usize, to: usize) -> usize
 
 /// Returns the number of places of the longest lane.
 pub fn longest_lane(pattern: &SparsityPattern) -> usize
+    ensures longest { result ≡ longest_below pattern.now pattern.now.major_dim }
     ensures bound { (k : ℕ) → k < pattern.now.major_dim → size_of pattern.now k ≤ result }
     ensures reached { (result ≡ 0)
         ⊎ ((k : ℕ) × (k < pattern.now.major_dim) × (size_of pattern.now k ≡ result)) }
@@ -45,16 +47,15 @@ pub fn longest_lane(pattern: &SparsityPattern) -> usize
 {
     let mut longest = 0;
     for lane in 0..pattern.major_dim() {
-        let size = pattern.lane(lane).len();
-        if longest < size {
-            longest = size;
-        }
+        longest = longest.max(pattern.lane(lane).len());
     }
     longest
 }
 
-/// Returns the lanes counted by their numbers of places, in ten lines.
+/// Returns the lanes counted by their numbers of places, in ten lines. The width is a tenth of the longest lane's number
+/// of places, rounded down, and one.
 pub fn counted_lanes(alloc: Global, pattern: &SparsityPattern) -> Result<Histogram, AllocError>
+    ensures width { IfOk result (λ h. h.width ≡ line_width pattern.now) }
     ensures lines { IfOk result (λ h. length h.counts.items ≡ 10) }
     ensures each { IfOk result (λ h. (b : ℕ) → b < 10 → slice_index h.counts.items b
         ≡ count_below pattern.now.major_dim
