@@ -1,1 +1,2 @@
+mod ColumnOrders
 mod SymmetricSystems

@@ -1,14 +1,16 @@
 //! Symmetric systems, solved exactly, and the test of a solution.
 
-ghost use Rattle.std.specs.Prelude.{◌≡◌, ◌↔◌, IfOk, IfErr, IsTrue};
+ghost use Rattle.std.specs.Prelude.{◌≡◌, ◌↔◌, ℕ, All, Err, IfOk, IfErr, IsTrue};
 ghost use Rattle.sparse_base.specs.CooPlain.{plain_of_coo};
 ghost use Rattle.sparse_base.specs.DensePlain.{plain_of_dense};
 ghost use Rattle.sparse_algebra.specs.Plain.{plain_product};
 ghost use Rattle.sparse_solve.specs.Solutions.{HasSameValues};
 ghost use Rattle.sparse_algebra.specs.declared.error.OperationErrorKind.TheVariants.{Singular};
-ghost use Rattle.mtxkit_systems.specs.Systems.{HasNoFactorisation};
+ghost use Rattle.mtxkit_systems.specs.Orders.{IsByColumns, places_of};
+ghost use Rattle.mtxkit_systems.specs.Systems.{HasNoFactorisation, IsEquation, IsSystem};
 ghost use Rattle.mtxkit_matrices.specs.Values.{IsSymmetricMatrix};
 ghost use Rattle.mtxkit_systems.specs.declared.system.SystemError.TheVariants.{NoFactors, NotSymmetric};
+ghost use Rattle.mtxkit_systems.specs.declared.system.SystemError.TheVariants.{Shapes};
 
 use mtxkit_matrices::{has_same_values, has_symmetric_values};
 use sparse_algebra::error::OperationErrorKind;
@@ -39,13 +41,14 @@ pub enum SystemError {
 ///
 /// # Errors
 ///
-/// Returns `Shapes` if A is not square or B has another number of rows, `NotSymmetric` if A differs from its transpose,
-/// and `NoFactors` if no factorisation L D L^T exists. Otherwise fails only if an allocation fails.
+/// Returns `Shapes` exactly if A is not square or B has another number of rows, `NotSymmetric` if A differs from its
+/// transpose, and `NoFactors` if no factorisation L D L^T exists. Otherwise fails only if an allocation fails.
 pub fn solve<T: Units>(
     alloc: Global,
     a: &CooMatrix<T>,
     b: &CooMatrix<T>,
 ) -> Result<DMatrix<T>, SystemError>
+    ensures shapes { (result ≡ Err Shapes) ↔ (IsSystem a.now b.now → ⊥) }
     ensures rows { IfOk result (λ x. x.nrows ≡ a.now.ncols) }
     ensures cols { IfOk result (λ x. x.ncols ≡ b.now.ncols) }
     ensures solved { IfOk result (λ x. HasSameValues T.ring b.now.nrows b.now.ncols
@@ -60,6 +63,28 @@ pub fn solve<T: Units>(
     if a.nrows() != a.ncols() || b.nrows() != a.nrows() {
         return Err(SystemError::Shapes);
     }
+    solve_fitting(alloc, a, b)
+}
+
+// Returns the matrix X for which A X = B, where the shapes fit.
+fn solve_fitting<T: Units>(
+    alloc: Global,
+    a: &CooMatrix<T>,
+    b: &CooMatrix<T>,
+) -> Result<DMatrix<T>, SystemError>
+    requires { IsSystem a.now b.now }
+    ensures rows { IfOk result (λ x. x.nrows ≡ a.now.ncols) }
+    ensures cols { IfOk result (λ x. x.ncols ≡ b.now.ncols) }
+    ensures solved { IfOk result (λ x. HasSameValues T.ring b.now.nrows b.now.ncols
+        (plain_product T.ring (plain_of_coo T.ring T.value a.now)
+        (plain_of_dense T.ring T.value x))
+        (plain_of_coo T.ring T.value b.now)) }
+    ensures shapes { IfErr result (λ e. e ≡ Shapes → ⊥) }
+    ensures unsymmetric { IfErr result (λ e. e ≡ NotSymmetric
+        → ¬ IsSymmetricMatrix T.ring (plain_of_coo T.ring T.value a.now)) }
+    ensures singular { IfErr result (λ e. e ≡ NoFactors
+        → HasNoFactorisation T.ring T.value (plain_of_coo T.ring T.value a.now)) }
+{
     let rows = convert_coo_csr(alloc, a)?;
     if !has_symmetric_values(alloc, &rows)? {
         return Err(SystemError::NotSymmetric);
@@ -75,7 +100,8 @@ pub fn solve<T: Units>(
     }
 }
 
-/// Returns the matrix X for which A X = B, as [`solve`] does, as a list of its values that are not zero, column by column.
+/// Returns the matrix X for which A X = B, as [`solve`] does, as a list of its values that are not zero, column by
+/// column and each column from the top.
 ///
 /// # Errors
 ///
@@ -85,6 +111,10 @@ pub fn solve_listed<T: Units>(
     a: &CooMatrix<T>,
     b: &CooMatrix<T>,
 ) -> Result<CooMatrix<T>, SystemError>
+    ensures shapes { (result ≡ Err Shapes) ↔ (IsSystem a.now b.now → ⊥) }
+    ensures order { IfOk result (λ x. IsByColumns (places_of x.triplets)) }
+    ensures nonzero { IfOk result
+        (λ x. All (λ t. T.value t.2 ≡ T.ring.zero → ⊥) x.triplets) }
     ensures rows { IfOk result (λ x. x.nrows ≡ a.now.ncols) }
     ensures cols { IfOk result (λ x. x.ncols ≡ b.now.ncols) }
     ensures solved { IfOk result (λ x. HasSameValues T.ring b.now.nrows b.now.ncols
@@ -96,16 +126,30 @@ pub fn solve_listed<T: Units>(
     ensures singular { IfErr result (λ e. e ≡ NoFactors
         → HasNoFactorisation T.ring T.value (plain_of_coo T.ring T.value a.now)) }
 {
+    match solve(alloc, a, b) {
+        Ok(x) => Ok(listed(alloc, &x)?),
+        Err(error) => Err(error),
+    }
+}
+
+// Returns the values that are not zero, column by column.
+fn listed<T: Ring>(alloc: Global, x: &DMatrix<T>) -> Result<CooMatrix<T>, AllocError>
+    ensures rows { IfOk result (λ m. m.nrows ≡ x.now.nrows) }
+    ensures cols { IfOk result (λ m. m.ncols ≡ x.now.ncols) }
+    ensures values { IfOk result (λ m. (i j : ℕ) → (plain_of_coo T.ring T.value m).value i j
+        ≡ (plain_of_dense T.ring T.value x.now).value i j) }
+    ensures order { IfOk result (λ m. IsByColumns (places_of m.triplets)) }
+    ensures nonzero { IfOk result (λ m. All (λ t. T.value t.2 ≡ T.ring.zero → ⊥) m.triplets) }
+{
     from_dense_law::<T>();
-    let x = solve(alloc, a, b)?;
-    let listed = convert_dense_coo(alloc, &x)?;
-    Ok(listed)
+    convert_dense_coo(alloc, x)
 }
 
 // The error of a factorisation that is refused.
 fn refusal(kind: OperationErrorKind) -> SystemError
     ensures singular { result ≡ NoFactors → kind ≡ Singular }
     ensures symmetric { result ≡ NotSymmetric → ⊥ }
+    ensures shapes { result ≡ Shapes → ⊥ }
 {
     match kind {
         OperationErrorKind::Singular => SystemError::NoFactors,
@@ -117,14 +161,16 @@ fn refusal(kind: OperationErrorKind) -> SystemError
 
 /// Returns whether A X = B.
 ///
-/// Fails with `Shapes` if the shapes do not fit. Otherwise fails only if an allocation fails.
+/// Fails with `Shapes` exactly if A X does not exist or has another shape than B. Otherwise fails only if an allocation
+/// fails.
 pub fn is_solution<T: Ring>(
     alloc: Global,
     a: &CooMatrix<T>,
     x: &CooMatrix<T>,
     b: &CooMatrix<T>,
 ) -> Result<bool, SystemError>
-    ensures { IfOk result (λ yes. IsTrue yes ↔ HasSameValues T.ring b.now.nrows b.now.ncols
+    ensures shapes { (result ≡ Err Shapes) ↔ (IsEquation a.now x.now b.now → ⊥) }
+    ensures answer { IfOk result (λ yes. IsTrue yes ↔ HasSameValues T.ring b.now.nrows b.now.ncols
         (plain_product T.ring (plain_of_coo T.ring T.value a.now)
         (plain_of_coo T.ring T.value x.now))
         (plain_of_coo T.ring T.value b.now)) }
@@ -132,6 +178,22 @@ pub fn is_solution<T: Ring>(
     if a.ncols() != x.nrows() || a.nrows() != b.nrows() || x.ncols() != b.ncols() {
         return Err(SystemError::Shapes);
     }
+    Ok(has_product(alloc, a, x, b)?)
+}
+
+// Returns whether A X = B, where the shapes fit.
+fn has_product<T: Ring>(
+    alloc: Global,
+    a: &CooMatrix<T>,
+    x: &CooMatrix<T>,
+    b: &CooMatrix<T>,
+) -> Result<bool, AllocError>
+    requires { IsEquation a.now x.now b.now }
+    ensures { IfOk result (λ yes. IsTrue yes ↔ HasSameValues T.ring b.now.nrows b.now.ncols
+        (plain_product T.ring (plain_of_coo T.ring T.value a.now)
+        (plain_of_coo T.ring T.value x.now))
+        (plain_of_coo T.ring T.value b.now)) }
+{
     let rows = convert_coo_csr(alloc, a)?;
     let solution = convert_coo_csr(alloc, x)?;
     let right = convert_coo_csr(alloc, b)?;

@@ -8,7 +8,7 @@ use Rattle.sparse_ldl.specs.Factors.{plain_of_factors}
 use Rattle.sparse_solve.specs.Solutions.{HasSameValues}
 use Rattle.mtxkit_matrices.specs.Values.{IsSymmetricMatrix}
 use Rattle.mtxkit_systems.proofs.SymmetricSystems.{solved_is, no_factors}
-use Rattle.mtxkit_systems.proofs.system.solve.Goals as goal
+use Rattle.mtxkit_systems.proofs.system.solve_fitting.Goals as goal
 
 pub returns-in-Ok-clause-solved : goal.returns-in-Ok-clause-solved
 returns-in-Ok-clause-solved g c =
@@ -24,14 +24,9 @@ returns-in-Ok-clause-solved g c =
     let x = plain_of_dense R f c.solve_mut.new.b in
     let is : plain_of_cols R f columns ≡ a = c.in_ok-columns.ensures.plain in
     let square : c.args.a.now.nrows ≡ c.args.a.now.ncols =
-    omega (arith, c.if-nrows-ncols.false, c.nrows.ensures, c.ncols.ensures) in
+    sym c.requires.square in
     let tall : c.args.a.now.nrows ≡ n =
-    omega (
-      arith,
-      c.if-nrows.false,
-      c.nrows-else-nrows-ncols.ensures,
-      c.nrows-else-nrows-ncols-2.ensures,
-    ) in
+    sym c.requires.rows in
     let size : columns.pattern.minor_dim ≡ n = ap (λ (p : Plain R). p.rows) is ∙ tall in
     let equation = subst (λ (p : Plain R). HasSameValues R n n factors (plain_symmetric R p)) is
     (subst (λ k. HasSameValues R k k factors (plain_symmetric R (plain_of_cols R f columns)))

@@ -2,7 +2,7 @@ use Rattle.std.proofs.Common.{◌≡◌, ap, sym, ◌∙◌, arith}
 use Rattle.sparse_algebra.specs.Plain.{Plain, plain_product}
 use Rattle.sparse_base.specs.CooPlain.{plain_of_coo}
 use Rattle.sparse_cs.specs.PlainOfLanes.{plain_of_rows}
-use Rattle.mtxkit_systems.proofs.system.is_solution.Goals as goal
+use Rattle.mtxkit_systems.proofs.system.has_product.Goals as goal
 
 pub returns : goal.returns
 returns g c =
@@ -20,10 +20,10 @@ returns g c =
     let given : right ≡ b = c.in_ok-right.ensures.plain in
     let rows : c.in_ok-product.product.pattern.major_dim ≡ c.args.b.now.nrows =
     ap (λ (p : Plain R). p.rows) is
-    ∙ omega (arith, c.if-nrows.false, c.nrows-else-ncols-nrows.ensures, c.nrows-else-ncols-nrows-2.ensures) in
+    ∙ c.requires.rows in
     let cols : c.in_ok-product.product.pattern.minor_dim ≡ c.args.b.now.ncols =
     ap (λ (p : Plain R). p.cols) is
-    ∙ omega (arith, c.if-ncols.false, c.ncols-else-nrows.ensures, c.ncols-else-nrows-2.ensures) in
+    ∙ c.requires.cols in
     let test = c.in_ok-has_same_values.ensures in (
       λ yes i j row col.
           sym (ap (λ (p : Plain R). p.value i j) is)
