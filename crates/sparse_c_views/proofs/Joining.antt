@@ -1,5 +1,5 @@
 -- What a call promises, from what it read, what it computed and how it ended.
-use Rattle.std.proofs.Common.{◌≡◌, ℤ, Result, Ok, Err, inl, inr, subst, ◌∙◌, refl}
+use Rattle.std.proofs.Common.{◌≡◌, ℕ, ℤ, Result, Ok, Err, inl, inr, ap, subst, ◌∙◌, refl}
 use Rattle.std.specs.Prelude.{IfOk, IfErr, MatchResult}
 use Rattle.sparse_algebra.specs.Algebra.{CommRing}
 use Rattle.sparse_algebra.specs.Plain.{Plain}
@@ -7,6 +7,7 @@ use Rattle.sparse_cs.specs.Compressed.{Compressed}
 use Rattle.sparse_cs.specs.PlainOfLanes.{plain_of_rows}
 use Rattle.sparse_c_views.specs.Arrays.{Room, HoldsRows}
 use Rattle.sparse_c_views.specs.Refused.{IsMemoryOr, IsRefused, IsRefusedFor, IsTooSmall}
+use Rattle.sparse_c_views.specs.Rests.{KeepsRest}
 use Rattle.sparse_c_views.specs.Statuses.{number_of}
 use Rattle.sparse_c_views.specs.declared.refusal.Refusal.{Refusal}
 use Rattle.sparse_c_views.specs.declared.refusal.Refusal.TheVariants.{TooSmall}
@@ -54,6 +55,13 @@ module _ (R : CommRing) {T : Type 0} (f : T → R.Carrier) (a b : Plain R) (same
   rows_written r q =
       let p = found answer known q in
       subst (λ (x : Plain R). HoldsRows x r) (p.1.0 ∙ same) p.1.1
+
+  pub rows_rest : (old new : Room)
+      → MatchResult answer (λ m. KeepsRest m.pattern.major_dim old new) (λ _. ⊥)
+      → KeepsRest a.rows old new
+  rows_rest old new q =
+      let p = found answer known q in
+      subst (λ (n : ℕ). KeepsRest n old new) (ap (λ (x : Plain R). x.rows) (p.1.0 ∙ same)) p.1.1
 
   pub rows_refused : (r : Room) {Given Fault : Refusal → Type 0} (status seen : ℤ)
       → seen ≡ status → IfErr answer (IsMemoryOr Given) → ((e : Refusal) → Given e → Fault e)

@@ -1,3 +1,4 @@
+pub mod Faultless
 pub mod Holding
 pub mod Joining
 mod Listing

@@ -2,4 +2,5 @@ pub mod Arrays
 pub mod Lists
 pub mod Reduced
 pub mod Refused
+pub mod Rests
 pub mod Statuses

@@ -62,6 +62,10 @@ abbrev pub IsFaultOfSystem : Compressed ℤ → ℕ → ℕ → List ℤ → Ref
 IsFaultOfSystem m rows cols values refusal =
     IsFaultOf m refusal ⊎ (IsSound m × IsMissized rows cols values refusal)
 
+-- neither the matrix nor the values of the dense matrix have a fault
+abbrev pub IsSystemSound : Compressed ℤ → ℕ → ℕ → List ℤ → Type 0
+IsSystemSound m rows cols values = IsSound m × (length values ≡ rows * cols)
+
 -- the status of a call that is refused: memory was refused, the operands have a fault, or an array is
 -- too small for the result
 abbrev pub IsRefusedFor : (Refusal → Type 0) → Type 0 → ℤ → Type 0

@@ -1,5 +1,5 @@
 -- The statuses that C sees.
-use Rattle.std.specs.Prelude.{ℤ, pos}
+use Rattle.std.specs.Prelude.{◌≡◌, ◌⊎◌, ℤ, pos}
 use Rattle.sparse_algebra.specs.declared.error.OperationErrorKind.{OperationErrorKind}
 use Rattle.sparse_algebra.specs.declared.error.OperationErrorKind.TheVariants as operations
 use Rattle.sparse_pattern.specs.declared.error.SparseFormatErrorKind.{SparseFormatErrorKind}
@@ -29,6 +29,11 @@ number_of refusals.DiagonalEntry = pos 13
 number_of refusals.NotLowerTriangle = pos 14
 number_of refusals.NonSquare = pos 15
 number_of refusals.Unreadable = pos 16
+
+-- the status of a call whose operands have no fault: 0, or that of TooSmall or of Singular
+abbrev pub FindsNoFault : ℤ → Type 0
+FindsNoFault status = (status ≡ pos 0)
+    ⊎ ((status ≡ number_of refusals.TooSmall) ⊎ (status ≡ number_of refusals.Singular))
 
 -- the refusal of data with an error of this kind
 abbrev pub refusal_of : SparseFormatErrorKind → Refusal

@@ -4,6 +4,7 @@ ghost use Rattle.std.specs.Prelude.{◌≡◌, ◌≢◌, pos, MatchResult};
 ghost use Rattle.sparse_algebra.specs.Numbers.{w64_number};
 ghost use Rattle.sparse_parser.specs.Meaning.{values_of};
 ghost use Rattle.sparse_c_views.specs.Lists.{list_room_of, HoldsList, IsListTooSmall};
+ghost use Rattle.sparse_c_views.specs.Rests.{KeepsListRest};
 ghost use Rattle.sparse_c_views.specs.Statuses.{number_of};
 ghost use Rattle.sparse_c_views.specs.declared.refusal.Refusal.TheVariants.{TooSmall};
 
@@ -25,6 +26,9 @@ pub fn finish_list(
 ) -> i32
     ensures written { result ≡ pos 0 → MatchResult answer (λ m. HoldsList (values_of w64_number m)
         (list_room_of rows.new cols.new values.new count.new)) (λ _. ⊥) }
+    ensures rest { result ≡ pos 0 → KeepsListRest
+        (list_room_of rows.old cols.old values.old count.old)
+        (list_room_of rows.new cols.new values.new count.new) }
     ensures untouched { result ≢ pos 0 → list_room_of rows.new cols.new values.new count.new
         ≡ list_room_of rows.old cols.old values.old count.old }
     ensures refused { result ≢ pos 0 → MatchResult answer
@@ -47,6 +51,9 @@ fn write_list(
     count: &mut usize,
 ) -> i32
     ensures written { result ≡ pos 0 → HoldsList (values_of w64_number list.now)
+        (list_room_of rows.new cols.new values.new count.new) }
+    ensures rest { result ≡ pos 0 → KeepsListRest
+        (list_room_of rows.old cols.old values.old count.old)
         (list_room_of rows.new cols.new values.new count.new) }
     ensures untouched { result ≢ pos 0 → list_room_of rows.new cols.new values.new count.new
         ≡ list_room_of rows.old cols.old values.old count.old }

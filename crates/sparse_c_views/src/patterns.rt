@@ -3,6 +3,7 @@
 ghost use Rattle.std.specs.Prelude.{◌≡◌, ◌≢◌, pos, MatchResult};
 ghost use Rattle.sparse_c_views.specs.Arrays.{pattern_room_of, HoldsPattern};
 ghost use Rattle.sparse_c_views.specs.Refused.{IsPatternTooSmall};
+ghost use Rattle.sparse_c_views.specs.Rests.{KeepsPatternRest};
 ghost use Rattle.sparse_c_views.specs.Statuses.{number_of};
 ghost use Rattle.sparse_c_views.specs.declared.refusal.Refusal.TheVariants.{TooSmall};
 
@@ -22,6 +23,9 @@ pub fn finish_pattern(
 ) -> i32
     ensures written { result ≡ pos 0 → MatchResult answer
         (λ d. HoldsPattern d (pattern_room_of offsets.new indices.new places.new)) (λ _. ⊥) }
+    ensures rest { result ≡ pos 0 → MatchResult answer (λ d. KeepsPatternRest d.major_dim
+        (pattern_room_of offsets.old indices.old places.old)
+        (pattern_room_of offsets.new indices.new places.new)) (λ _. ⊥) }
     ensures untouched { result ≢ pos 0 → pattern_room_of offsets.new indices.new places.new
         ≡ pattern_room_of offsets.old indices.old places.old }
     ensures refused { result ≢ pos 0 → MatchResult answer
@@ -44,6 +48,9 @@ fn write_pattern(
 ) -> i32
     ensures written { result ≡ pos 0
         → HoldsPattern pattern.now (pattern_room_of offsets.new indices.new places.new) }
+    ensures rest { result ≡ pos 0 → KeepsPatternRest pattern.now.major_dim
+        (pattern_room_of offsets.old indices.old places.old)
+        (pattern_room_of offsets.new indices.new places.new) }
     ensures untouched { result ≢ pos 0 → pattern_room_of offsets.new indices.new places.new
         ≡ pattern_room_of offsets.old indices.old places.old }
     ensures small { result ≢ pos 0 → IsPatternTooSmall pattern.now

@@ -2,6 +2,7 @@
 
 ghost use Rattle.std.specs.Prelude.{◌≡◌, ◌≢◌, ◌<◌, length, pos, string_bytes, MatchResult};
 ghost use Rattle.sparse_c_views.specs.Lists.{HoldsText};
+ghost use Rattle.sparse_c_views.specs.Rests.{KeepsBehind};
 ghost use Rattle.sparse_c_views.specs.Statuses.{number_of};
 ghost use Rattle.sparse_c_views.specs.declared.refusal.Refusal.TheVariants.{TooSmall};
 
@@ -15,6 +16,7 @@ use crate::scalars::put_items;
 pub fn finish_text(answer: Result<String, Refusal>, buffer: &mut [u8], size: &mut usize) -> i32
     ensures written { result ≡ pos 0 → MatchResult answer
         (λ text. HoldsText (string_bytes text) buffer.new size.new) (λ _. ⊥) }
+    ensures rest { result ≡ pos 0 → KeepsBehind size.new buffer.old buffer.new }
     ensures untouched { result ≢ pos 0 → (buffer.new ≡ buffer.old) × (size.new ≡ size.old) }
     ensures refused { result ≢ pos 0 → MatchResult answer
         (λ text. (result ≡ number_of TooSmall) × (length buffer.old < length (string_bytes text)))
@@ -29,6 +31,7 @@ pub fn finish_text(answer: Result<String, Refusal>, buffer: &mut [u8], size: &mu
 // Writes bytes into a buffer, and their number.
 fn write_bytes(bytes: &[u8], buffer: &mut [u8], size: &mut usize) -> i32
     ensures written { result ≡ pos 0 → HoldsText bytes.now buffer.new size.new }
+    ensures rest { result ≡ pos 0 → KeepsBehind size.new buffer.old buffer.new }
     ensures untouched { result ≢ pos 0 → (buffer.new ≡ buffer.old) × (size.new ≡ size.old) }
     ensures small { result ≢ pos 0 → length buffer.old < length bytes.now }
     ensures status { result ≢ pos 0 → result ≡ number_of TooSmall }

@@ -1,6 +1,7 @@
 //! Coordinate lists out of arrays from outside.
 
-ghost use Rattle.std.specs.Prelude.{◌≡◌, IfOk, IfErr};
+ghost use Rattle.std.specs.Prelude.{◌≡◌, IfOk, IfErr, OnOk};
+ghost use Rattle.sparse_base.specs.Coo.{AreParts};
 ghost use Rattle.sparse_base.specs.CooPlain.{plain_of_coo};
 ghost use Rattle.sparse_c_views.specs.Arrays.{plain_of_lists};
 ghost use Rattle.sparse_c_views.specs.Refused.{IsFaultOfList, IsMemoryOr};
@@ -26,6 +27,8 @@ pub fn list_of<T: Number>(
 ) -> Result<CooMatrix<T>, Refusal>
     ensures plain { IfOk result (λ list. plain_of_coo T.ring T.value list ≡ plain_of_lists
         T.ring rows cols row_indices.now col_indices.now values.now) }
+    ensures sound { OnOk result
+        (AreParts rows cols row_indices.now col_indices.now values.now) }
     ensures fault { IfErr result (IsMemoryOr
         (IsFaultOfList rows cols row_indices.now col_indices.now values.now)) }
 {

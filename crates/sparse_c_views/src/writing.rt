@@ -6,6 +6,7 @@ ghost use Rattle.sparse_base.specs.DensePlain.{plain_of_dense};
 ghost use Rattle.sparse_c_views.specs.Arrays.{room_of, HoldsDense, HoldsRows};
 ghost use Rattle.sparse_c_views.specs.Reduced.{FirstAre};
 ghost use Rattle.sparse_c_views.specs.Refused.{IsTooSmall};
+ghost use Rattle.sparse_c_views.specs.Rests.{KeepsBehind, KeepsRest};
 ghost use Rattle.sparse_c_views.specs.Statuses.{number_of};
 ghost use Rattle.sparse_c_views.specs.declared.refusal.Refusal.TheVariants.{TooSmall};
 
@@ -28,6 +29,9 @@ pub fn finish_rows<T: Number>(
 ) -> i32
     ensures written { result ≡ pos 0 → MatchResult answer
         (λ m. HoldsRows (plain_of_rows T.ring T.value m)
+        (room_of offsets.new indices.new values.new places.new)) (λ _. ⊥) }
+    ensures rest { result ≡ pos 0 → MatchResult answer (λ m. KeepsRest m.pattern.major_dim
+        (room_of offsets.old indices.old values.old places.old)
         (room_of offsets.new indices.new values.new places.new)) (λ _. ⊥) }
     ensures shown { result ≡ pos 0 → FirstAre T.is_shown places.new values.new }
     ensures untouched { result ≢ pos 0 → room_of offsets.new indices.new values.new places.new
@@ -54,6 +58,9 @@ pub fn write_rows<T: Number>(
 ) -> i32
     ensures written { result ≡ pos 0
         → HoldsRows (plain_of_rows T.ring T.value matrix.now)
+        (room_of offsets.new indices.new values.new places.new) }
+    ensures rest { result ≡ pos 0 → KeepsRest matrix.now.pattern.major_dim
+        (room_of offsets.old indices.old values.old places.old)
         (room_of offsets.new indices.new values.new places.new) }
     ensures shown { result ≡ pos 0 → FirstAre T.is_shown places.new values.new }
     ensures untouched { result ≢ pos 0 → room_of offsets.new indices.new values.new places.new
@@ -87,6 +94,8 @@ pub fn write_rows<T: Number>(
 pub fn finish_dense<T: Number>(answer: Result<DMatrix<T>, Refusal>, values: &mut [i64]) -> i32
     ensures written { result ≡ pos 0 → MatchResult answer
         (λ d. HoldsDense (plain_of_dense T.ring T.value d) values.new) (λ _. ⊥) }
+    ensures rest { result ≡ pos 0 → MatchResult answer
+        (λ d. KeepsBehind (d.nrows * d.ncols) values.old values.new) (λ _. ⊥) }
     ensures shown { result ≡ pos 0 → MatchResult answer
         (λ d. FirstAre T.is_shown (d.nrows * d.ncols) values.new) (λ _. ⊥) }
     ensures untouched { result ≢ pos 0 → values.new ≡ values.old }
@@ -104,6 +113,8 @@ pub fn finish_dense<T: Number>(answer: Result<DMatrix<T>, Refusal>, values: &mut
 fn write_dense<T: Number>(matrix: &DMatrix<T>, values: &mut [i64]) -> i32
     ensures written { result ≡ pos 0
         → HoldsDense (plain_of_dense T.ring T.value matrix.now) values.new }
+    ensures rest { result ≡ pos 0
+        → KeepsBehind (matrix.now.nrows * matrix.now.ncols) values.old values.new }
     ensures shown { result ≡ pos 0
         → FirstAre T.is_shown (matrix.now.nrows * matrix.now.ncols) values.new }
     ensures untouched { result ≢ pos 0 → values.new ≡ values.old }
