@@ -46,6 +46,13 @@ fn columns_become_rows_in_place(alloc: Global) -> Result<bool, Fail> {
     Ok((transpose.nrows(), transpose.ncols()) == (2, 3))
 }
 
+fn a_pattern_by_columns_takes_its_values_back(alloc: Global) -> Result<bool, Fail> {
+    let identity = CscMatrix::<W64>::identity(alloc, 2)?;
+    let (pattern, values) = identity.into_pattern_and_values();
+    let matrix = CscMatrix::from_pattern_and_values_unchecked(pattern, values);
+    Ok(matrix.nnz() == 2 && matrix.get_entry(1, 1) == Some(SparseEntry::NonZero(&W64::new(1))))
+}
+
 #[test]
 fn columns(rt: HostRuntime) {
     let alloc = rt.alloc();
@@ -54,4 +61,5 @@ fn columns(rt: HostRuntime) {
     assert!(rt; holds(&rt, columns_are_read_in_order(alloc)));
     assert!(rt; holds(&rt, one_value_is_replaced(alloc)));
     assert!(rt; holds(&rt, columns_become_rows_in_place(alloc)));
+    assert!(rt; holds(&rt, a_pattern_by_columns_takes_its_values_back(alloc)));
 }

@@ -84,6 +84,13 @@ fn values_are_negated_and_scaled(alloc: Global) -> Result<bool, Fail> {
     Ok(matrix.values() == [W64::new(-3)].as_slice())
 }
 
+fn a_pattern_by_rows_takes_its_values_back(alloc: Global) -> Result<bool, Fail> {
+    let identity = CsrMatrix::<W64>::identity(alloc, 2)?;
+    let (pattern, values) = identity.into_pattern_and_values();
+    let matrix = CsrMatrix::from_pattern_and_values_unchecked(pattern, values);
+    Ok(matrix.nnz() == 2 && matrix.get_entry(1, 1) == Some(SparseEntry::NonZero(&W64::new(1))))
+}
+
 #[test]
 fn construction(rt: HostRuntime) {
     let alloc = rt.alloc();
@@ -108,4 +115,5 @@ fn copies(rt: HostRuntime) {
     assert!(rt; holds(&rt, the_diagonal_is_filtered_out(alloc)));
     assert!(rt; holds(&rt, the_upper_triangle_is_kept(alloc)));
     assert!(rt; holds(&rt, rows_become_columns(alloc)));
+    assert!(rt; holds(&rt, a_pattern_by_rows_takes_its_values_back(alloc)));
 }

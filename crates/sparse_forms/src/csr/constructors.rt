@@ -15,6 +15,32 @@ use sparse_pattern::error::{SparseFormatError, SparseFormatErrorKind};
 use sparse_pattern::pattern::{SparsityPattern, SparsityPatternFormatError};
 use std::alloc::{AllocError, Global};
 
+impl<T> CsrMatrix<T> {
+    /// Returns the matrix of a pattern, whose lanes are the rows, and its values. Nothing is tested.
+    ///
+    /// There must be one value for each place of the pattern. Constant time. Allocates nothing.
+    ///
+    /// # Examples
+    ///
+    /// ```rust
+    /// fn a_pattern_by_rows_takes_its_values_back(alloc: Global) -> Result<bool, Fail> {
+    ///     let identity = CsrMatrix::<W64>::identity(alloc, 2)?;
+    ///     let (pattern, values) = identity.into_pattern_and_values();
+    ///     let matrix = CsrMatrix::from_pattern_and_values_unchecked(pattern, values);
+    ///     Ok(matrix.nnz() == 2 && matrix.get_entry(1, 1) == Some(SparseEntry::NonZero(&W64::new(1))))
+    /// }
+    /// ```
+    pub fn from_pattern_and_values_unchecked(pattern: SparsityPattern, values: Vec<T>) -> Self
+        requires { length values.items ≡ length pattern.indices }
+        ensures is { result ≡ compressed_of pattern values.items }
+        ensures sound { IsSound result }
+    {
+        CsrMatrix {
+            cs: CsMatrix::from_pattern_and_values(pattern, values),
+        }
+    }
+}
+
 impl<T: Drop> CsrMatrix<T> {
     /// Returns the matrix of arrays whose rows are sorted by column.
     ///
