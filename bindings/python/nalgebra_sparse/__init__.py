@@ -1,0 +1,92 @@
+"""Exact sparse matrices over the integers modulo 2^64, by the proved static library `sparse_c`.
+
+The functions take and return SciPy matrices, `csr_matrix` and `csc_matrix` or `csr_array` and `csc_array`. The result has
+the class of the first operand, and values are `int64`. Sums and products wrap. What is proved of the calls is said in
+`bindings/c/nalgebra_sparse.h`; this module is only tested.
+
+Operands with other dtypes of integers that fit in `int64`, or that are not contiguous, are copied once. No other thread
+may change an operand during a call. Otherwise several threads may call at once, and a call does not hold Python's lock.
+
+Division, solves and factors are also computed modulo a prime: `modulus` is one of `MODULI`. An integer then means its
+residue, also where it is negative, and the values of a result are from 0 to modulus - 1.
+
+A refusal is an `Error` or a `MemoryError`, and an argument of the wrong type is a `TypeError`.
+
+`bindings/python/build` makes the shared library that is loaded here. `NALGEBRA_SPARSE_LIBRARY` names another one.
+
+>>> import numpy as np
+>>> import nalgebra_sparse
+>>> rows, cols, values = np.array([0, 0, 1, 1]), np.array([0, 1, 1, 1]), np.array([1, 2, 2, 1])
+>>> matrix = nalgebra_sparse.assemble_csr((2, 2), rows, cols, values)
+>>> nalgebra_sparse.multiply(matrix, matrix).toarray().tolist()
+[[1, 8], [0, 9]]
+"""
+from __future__ import annotations
+
+import ctypes
+import os
+
+from ._errors import DuplicateEntry, Error, IndexOutOfBounds, InvalidStructure, InvalidText, Singular, UnknownModulus
+from ._matrices import add, assemble_csc, assemble_csr, divide, multiply, multiply_dense, subtract, transpose
+from ._operands import integer as _integer
+from ._systems import factor_symmetric, fill, solve_lower, solve_symmetric
+from ._texts import read, write
+
+__all__ = [
+    "MODULI",
+    "DuplicateEntry",
+    "Error",
+    "IndexOutOfBounds",
+    "InvalidStructure",
+    "InvalidText",
+    "Singular",
+    "UnknownModulus",
+    "add",
+    "assemble_csc",
+    "assemble_csr",
+    "divide",
+    "factor_symmetric",
+    "fill",
+    "multiply",
+    "multiply_dense",
+    "read",
+    "reuse_memory",
+    "solve_lower",
+    "solve_symmetric",
+    "subtract",
+    "transpose",
+    "write",
+]
+
+MODULI = (2, 3, 5, 7, 11, 13, 101, 65537, 998244353, 1000000007, 2305843009213693951)
+
+
+def _version() -> str:
+    """Returns the text of the file VERSION: beside this file where the package is installed, else the repository's."""
+    here = os.path.dirname(os.path.abspath(__file__))
+    path = os.path.join(here, "VERSION")
+    if not os.path.exists(path):
+        path = os.path.join(here, "..", "..", "..", "VERSION")
+    with open(path, encoding="ascii") as file:
+        return file.read().strip()
+
+
+__version__ = _version()
+
+
+def reuse_memory(most: int = 1 << 30) -> bool:
+    """Lets the process keep up to `most` bytes of freed memory for its next allocations. Returns whether it could be arranged.
+
+    By default glibc gives the memory of large arrays back to the system, and each call pays for its pages again: about a
+    third of the time of `assemble_csr` with a million triplets. This sets two limits of malloc (mallopt) for the whole
+    process, so it is never done unasked. Other C libraries ignore it.
+    """
+    if not 0 <= _integer("most", most) < 2**31:
+        raise Error(f"most must be from 0 to 2^31 - 1, not {most}")
+    try:
+        mallopt = ctypes.CDLL(None).mallopt
+    except AttributeError:
+        return False
+    trim_threshold, mmap_threshold = -1, -3
+    # Older versions of glibc take no threshold for mmap above 32 MiB.
+    return bool(mallopt(trim_threshold, most)) and any(mallopt(mmap_threshold, limit) for limit in (most, min(most, 1 << 25)))

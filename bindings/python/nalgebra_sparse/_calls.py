@@ -1,0 +1,134 @@
+"""The calls of the shared library. Each argument is checked against one table, in number and kind, before a call."""
+from __future__ import annotations
+
+import ctypes
+import os
+from typing import Any, Callable, NamedTuple
+
+import numpy as np
+
+from ._errors import error_of
+
+_PATH = os.environ.get("NALGEBRA_SPARSE_LIBRARY") or os.path.join(os.path.dirname(os.path.abspath(__file__)), "libnalgebra_sparse.so")
+try:
+    _library = ctypes.CDLL(_PATH)
+except OSError as error:
+    raise ImportError(f"{error}: run bindings/python/build, or name the shared library in NALGEBRA_SPARSE_LIBRARY") from error
+if ctypes.sizeof(ctypes.c_size_t) != 8:
+    raise ImportError("nalgebra_sparse needs 64 bits")
+
+# What is passed for an empty array, whose own pointer may be null or not aligned.
+_NOWHERE = ctypes.c_uint64()
+
+
+class Kind(NamedTuple):
+    """A kind of argument: the types of the call's parameters for it, and what makes their values of an argument."""
+
+    types: tuple[Any, ...]
+    words: Callable[[Any], tuple[Any, ...]]
+
+
+def _integer(kind: Any, least: int, most: int) -> Kind:
+    def words(argument: Any) -> tuple[Any, ...]:
+        if type(argument) is not int or not least <= argument <= most:
+            raise TypeError(f"not an integer from {least} to {most}: {argument!r}")
+        return (argument,)
+
+    return Kind((kind,), words)
+
+
+def _instance(kind: Any, of: type, words: Callable[[Any], tuple[Any, ...]], *more: Any) -> Kind:
+    def checked(argument: Any) -> tuple[Any, ...]:
+        if type(argument) is not of:
+            raise TypeError(f"not of the type {of.__name__}: {argument!r}")
+        return words(argument)
+
+    return Kind((kind, *more), checked)
+
+
+def _array(written: bool, *dtypes: Any) -> Kind:
+    """Returns the kind of one-dimensional arrays of these types, which a call takes as a pointer and a length."""
+    allowed = tuple(np.dtype(dtype) for dtype in dtypes)
+
+    def words(argument: Any) -> tuple[Any, ...]:
+        if not isinstance(argument, np.ndarray) or argument.ndim != 1 or argument.dtype not in allowed:
+            raise TypeError(f"not an array with one dimension of {' or '.join(map(str, allowed))}: {argument!r}")
+        flags = argument.flags
+        if not flags.c_contiguous or not flags.aligned or (written and not flags.writeable):
+            raise TypeError("an array is not contiguous, not aligned, or cannot be written")
+        return argument.__array_interface__["data"][0] if argument.size else ctypes.addressof(_NOWHERE), argument.size
+
+    return Kind((ctypes.c_void_p, ctypes.c_size_t), words)
+
+
+_KINDS = {
+    "size": _integer(ctypes.c_size_t, 0, 2**64 - 1),
+    "modulus": _integer(ctypes.c_uint64, 0, 2**64 - 1),
+    "value": _integer(ctypes.c_int64, -(2**63), 2**63 - 1),
+    "choice": _integer(ctypes.c_int32, -(2**31), 2**31 - 1),
+    "flag": _instance(ctypes.c_bool, bool, lambda flag: (flag,)),
+    "text": _instance(ctypes.c_char_p, bytes, lambda text: (text, len(text)), ctypes.c_size_t),
+    "indices": _array(False, np.int64, np.uint64),
+    "values": _array(False, np.int64),
+    "out_indices": _array(True, np.int64),
+    "out_values": _array(True, np.int64),
+    "out_text": _array(True, np.uint8),
+    "out_size": _instance(ctypes.POINTER(ctypes.c_size_t), ctypes.c_size_t, lambda size: (ctypes.byref(size),)),
+}
+
+_TRIPLETS = "indices indices values"
+_PATTERN = "indices indices"
+_LANES = "indices indices values"
+_RESULT = "out_indices out_indices out_values out_size"
+_FACTORS = "out_indices out_indices out_values out_values out_size"
+
+# The arguments of each call, in the order of bindings/c/nalgebra_sparse.h.
+_TABLE = {
+    "assemble_csr": f"size size {_TRIPLETS} {_RESULT}",
+    "assemble_csc": f"size size {_TRIPLETS} {_RESULT}",
+    "transpose": f"size size {_LANES} {_RESULT}",
+    "add": f"size size {_LANES} {_LANES} {_RESULT}",
+    "subtract": f"size size {_LANES} {_LANES} {_RESULT}",
+    "multiply_places": f"size size size {_PATTERN} {_PATTERN} out_size",
+    "multiply": f"size size size {_LANES} {_LANES} {_RESULT}",
+    "multiply_dense": f"size size size {_LANES} values out_values",
+    "solve_lower": f"size size {_LANES} flag values out_values",
+    "solve_lower_mod": f"modulus size size {_LANES} flag values out_values",
+    "divide": f"size size {_LANES} value {_RESULT}",
+    "divide_mod": f"modulus size size {_LANES} value {_RESULT}",
+    "fill_places": f"size choice {_PATTERN} out_size",
+    "fill": f"size choice {_PATTERN} out_indices out_indices out_size",
+    "solve_symmetric": f"size size {_LANES} values out_values",
+    "solve_symmetric_mod": f"modulus size size {_LANES} values out_values",
+    "factor_symmetric": f"size {_LANES} {_FACTORS}",
+    "factor_symmetric_mod": f"modulus size {_LANES} {_FACTORS}",
+    "read_sizes": "text out_size out_size out_size",
+    "read": "text out_indices out_indices out_values out_size",
+    "write_length": f"size size {_TRIPLETS} out_size",
+    "write": f"size size {_TRIPLETS} out_text out_size",
+}
+
+
+def _declared(name: str, kinds: list[Kind]) -> Any:
+    function = getattr(_library, f"nalgebra_sparse_{name}")
+    function.argtypes = [kind for parameter in kinds for kind in parameter.types]
+    function.restype = ctypes.c_int32
+    return function
+
+
+_PARAMETERS = {name: [_KINDS[word] for word in words.split()] for name, words in _TABLE.items()}
+_FUNCTIONS = {name: _declared(name, kinds) for name, kinds in _PARAMETERS.items()}
+
+
+def call(name: str, *arguments: Any) -> None:
+    """Calls a function of the library, and raises its error.
+
+    An argument whose number or kind is not that of the table is a `TypeError`, and nothing is called.
+    """
+    kinds = _PARAMETERS[name]
+    if len(arguments) != len(kinds):
+        raise TypeError(f"{name} takes {len(kinds)} arguments, not {len(arguments)}")
+    words = [word for kind, argument in zip(kinds, arguments) for word in kind.words(argument)]
+    status = _FUNCTIONS[name](*words)
+    if status:
+        raise error_of(status)

@@ -1,0 +1,155 @@
+"""Assembly, transposes, sums, products and division."""
+from __future__ import annotations
+
+import ctypes
+from typing import Any, Optional
+
+import numpy as np
+import scipy.sparse as sp
+
+from ._calls import call
+from ._errors import Error
+from ._operands import Integers, Lanes, Matrix, dense_of, integer, lanes_of, modular, pair_of, shape_of, triplets_of
+from ._results import empty, filled, matrix_of
+
+
+def assemble_csr(shape: tuple[int, int], row_indices: Integers, col_indices: Integers, values: Integers) -> sp.csr_matrix:
+    """Returns the matrix of triplets by rows, in which the values at one place are added. A place is kept where its sum is 0.
+
+    >>> import numpy as np
+    >>> a = assemble_csr((2, 2), np.array([0, 0, 1, 1]), np.array([0, 1, 1, 1]), np.array([1, 2, 2, 1]))
+    >>> a.toarray().tolist()
+    [[1, 2], [0, 3]]
+    """
+    rows, cols = shape_of("shape", shape)
+    triplets = triplets_of(row_indices, col_indices, values)
+    return matrix_of(sp.csr_matrix, filled(rows, triplets[2].size, "assemble_csr", rows, cols, *triplets), (rows, cols))
+
+
+def assemble_csc(shape: tuple[int, int], row_indices: Integers, col_indices: Integers, values: Integers) -> sp.csc_matrix:
+    """Returns the matrix of triplets by columns, in which the values at one place are added. A place is kept where its sum is 0.
+
+    >>> import numpy as np
+    >>> a = assemble_csc((2, 3), np.array([0, 1, 0]), np.array([0, 2, 0]), np.array([5, 7, -5]))
+    >>> a.nnz, a.toarray().tolist()
+    (2, [[0, 0, 0], [0, 0, 7]])
+    """
+    rows, cols = shape_of("shape", shape)
+    triplets = triplets_of(row_indices, col_indices, values)
+    return matrix_of(sp.csc_matrix, filled(cols, triplets[2].size, "assemble_csc", rows, cols, *triplets), (rows, cols))
+
+
+def transpose(matrix: Matrix) -> Matrix:
+    """Returns the transpose of a matrix, in the form of the matrix.
+
+    >>> import numpy as np, scipy.sparse as sp
+    >>> transpose(sp.csr_matrix(np.array([[1, 2, 0], [0, 0, 3]]))).toarray().tolist()
+    [[1, 0], [2, 0], [0, 3]]
+    """
+    a = lanes_of("matrix", matrix, "csr", "csc")
+    lanes, inner = a.sizes
+    return matrix_of(a.kind, filled(inner, a.values.size, "transpose", lanes, inner, *a.arrays), a.shape[::-1])
+
+
+def _merged(name: str, a: Any, b: Any) -> Any:
+    x, y = pair_of(a, b)
+    if x.shape != y.shape:
+        raise Error(f"the shapes {x.shape} and {y.shape} differ")
+    parts = filled(x.sizes[0], x.values.size + y.values.size, name, *x.sizes, *x.arrays, *y.arrays)
+    return matrix_of(x.kind, parts, x.shape)
+
+
+def add(a: Matrix, b: Matrix) -> Matrix:
+    """Returns the sum of two matrices in one form, on the union of their places.
+
+    >>> import numpy as np, scipy.sparse as sp
+    >>> a, b = sp.csr_array(np.array([[1, 0], [0, 2]])), sp.csr_array(np.array([[-1, 4], [0, 0]]))
+    >>> c = add(a, b)
+    >>> c.nnz, c.toarray().tolist()
+    (3, [[0, 4], [0, 2]])
+    """
+    return _merged("add", a, b)
+
+
+def subtract(a: Matrix, b: Matrix) -> Matrix:
+    """Returns the difference of two matrices in one form, on the union of their places.
+
+    >>> import numpy as np, scipy.sparse as sp
+    >>> a, b = sp.csc_matrix(np.array([[1, 0], [0, 2]])), sp.csc_matrix(np.array([[0, 4], [0, 5]]))
+    >>> subtract(a, b).toarray().tolist()
+    [[1, -4], [0, -3]]
+    """
+    return _merged("subtract", a, b)
+
+
+def multiply(a: Matrix, b: Matrix) -> Matrix:
+    """Returns the product of two matrices in one form, with a place wherever they share a middle index.
+
+    >>> import numpy as np, scipy.sparse as sp
+    >>> a = sp.csr_matrix(np.array([[1, 2], [0, 3]]))
+    >>> multiply(a, a).toarray().tolist()
+    [[1, 8], [0, 9]]
+    """
+    x, y = pair_of(a, b)
+    (rows, inner), (other, cols) = x.shape, y.shape
+    if inner != other:
+        raise Error(f"the shapes {x.shape} and {y.shape} do not fit")
+    # By columns, the product of the transposes in the other order is the transpose of the product by rows.
+    first, second = (x, y) if x.sizes == x.shape else (y, x)
+    sizes = (first.sizes[0], inner, second.sizes[1])
+    parts = filled(sizes[0], _product_room(sizes, first, second), "multiply", *sizes, *first.arrays, *second.arrays)
+    return matrix_of(x.kind, parts, (rows, cols))
+
+
+# Up to this many places, a product is computed into room for one place for each multiplication. What is left of the
+# room is never touched, so it takes no memory.
+_MOST_UNCOUNTED = 1 << 24
+
+
+def _product_room(sizes: tuple[int, int, int], a: Lanes, b: Lanes) -> int:
+    """Returns a number of places that is enough for a product: that of its multiplications, or, where that is large, the exact one.
+
+    To count the exact number takes about as long as the product.
+    """
+    try:
+        room = int(np.diff(b.offsets)[a.indices].sum())
+    except IndexError:
+        room = -1
+    if 0 <= room <= _MOST_UNCOUNTED:
+        return room
+    places = ctypes.c_size_t()
+    call("multiply_places", *sizes, a.offsets, a.indices, b.offsets, b.indices, places)
+    return places.value
+
+
+def multiply_dense(a: Matrix, b: Integers) -> Integers:
+    """Returns the dense product of a matrix by rows and a NumPy array, a vector or a matrix. The result is stored column by column.
+
+    >>> import numpy as np, scipy.sparse as sp
+    >>> multiply_dense(sp.csr_matrix(np.array([[1, 2], [0, 3]])), np.array([5, 7])).tolist()
+    [19, 21]
+    """
+    lanes = lanes_of("a", a, "csr")
+    rows, inner = lanes.shape
+    values, cols = dense_of("b", b, inner)
+    product = empty(rows * cols)
+    call("multiply_dense", rows, inner, cols, *lanes.arrays, values, product)
+    return product.reshape((rows, *b.shape[1:]), order="F")
+
+
+def divide(matrix: Matrix, divisor: int, modulus: Optional[int] = None) -> Matrix:
+    """Returns the matrix with each value times the inverse of an integer, in the form of the matrix.
+
+    >>> import numpy as np, scipy.sparse as sp
+    >>> a = sp.csr_matrix(np.array([[6, 9]]))
+    >>> divide(a, 3).toarray().tolist()
+    [[2, 3]]
+    >>> divide(a, 2, modulus=7).toarray().tolist()
+    [[3, 1]]
+    """
+    a = lanes_of("matrix", matrix, "csr", "csc")
+    number = integer("divisor", divisor)
+    if not -(2**63) <= number < 2**63:
+        raise Error(f"divisor must be an integer of 64 bits, not {number}")
+    parts = filled(a.sizes[0], a.values.size, *modular("divide", modulus), *a.sizes, *a.arrays, number)
+    return matrix_of(a.kind, parts, a.shape)

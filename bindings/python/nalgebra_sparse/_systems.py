@@ -1,0 +1,93 @@
+"""Solves, fill and factors. Matrices are square and by columns."""
+from __future__ import annotations
+
+import ctypes
+from typing import Any, Optional
+
+from ._calls import call
+from ._errors import Error
+from ._operands import Integers, Lanes, Matrix, dense_of, modular, square_of
+from ._results import empty, matrix_of
+
+
+def _solved(name: str, modulus: Any, matrix: Any, b: Any, *flags: bool) -> Integers:
+    """Calls a solve, and returns X in the shape of b."""
+    size, lanes = square_of("matrix", matrix)
+    values, cols = dense_of("b", b, size)
+    solution = empty(size * cols)
+    call(*modular(name, modulus), size, cols, *lanes.arrays, *flags, values, solution)
+    return solution.reshape(b.shape, order="F")
+
+
+def solve_lower(matrix: Matrix, b: Integers, transposed: bool = False, modulus: Optional[int] = None) -> Integers:
+    """Returns the X for which L X = b, or L^T X = b, where L is the part of a square matrix by columns on and below its diagonal.
+
+    >>> import numpy as np, scipy.sparse as sp
+    >>> l = sp.csc_matrix(np.array([[1, 0], [2, 3]]))
+    >>> solve_lower(l, np.array([5, 16])).tolist()
+    [5, 2]
+    >>> solve_lower(l, np.array([9, 6]), transposed=True).tolist()
+    [5, 2]
+    """
+    return _solved("solve_lower", modulus, matrix, b, bool(transposed))
+
+
+def solve_symmetric(matrix: Matrix, b: Integers, modulus: Optional[int] = None) -> Integers:
+    """Returns the X for which A X = b, where A is symmetric and has the entries of a square matrix by columns on and above its diagonal.
+
+    >>> import numpy as np, scipy.sparse as sp
+    >>> a = sp.csc_array(np.array([[2, 1], [1, 3]]))
+    >>> solve_symmetric(a, np.array([8, 19]), modulus=7).tolist()
+    [1, 6]
+    """
+    return _solved("solve_symmetric", modulus, matrix, b)
+
+
+_TRIANGLES = {"upper": 0, "lower": 1, "both": 2}
+
+
+def fill(matrix: Matrix, triangle: str = "upper") -> tuple[Integers, Integers]:
+    """Returns the offsets and the indices by columns of the factor of a symmetric elimination.
+
+    It starts from the places of a square matrix by columns on and above the diagonal ("upper"), on and below it ("lower"),
+    or from all ("both"). The values have no effect.
+
+    >>> import numpy as np, scipy.sparse as sp
+    >>> offsets, indices = fill(sp.csc_matrix(np.array([[1, 1, 1], [0, 1, 0], [0, 0, 1]])))
+    >>> offsets.tolist(), indices.tolist()
+    ([0, 3, 5, 6], [0, 1, 2, 1, 2, 2])
+    """
+    if triangle not in _TRIANGLES:
+        raise Error(f"triangle must be one of {', '.join(_TRIANGLES)}, not {triangle!r}")
+    size, lanes = square_of("matrix", matrix)
+    places = _fill_places(size, triangle, lanes)
+    offsets, indices = empty(size + 1), empty(places)
+    call("fill", size, _TRIANGLES[triangle], lanes.offsets, lanes.indices, offsets, indices, ctypes.c_size_t())
+    return offsets, indices
+
+
+def _fill_places(size: int, triangle: str, lanes: Lanes) -> int:
+    """Returns how many places the factor has."""
+    places = ctypes.c_size_t()
+    call("fill_places", size, _TRIANGLES[triangle], lanes.offsets, lanes.indices, places)
+    return places.value
+
+
+def factor_symmetric(matrix: Matrix, modulus: Optional[int] = None) -> tuple[Matrix, Integers]:
+    """Returns the factors L and D of a symmetric matrix A = L D L^T: L by columns, and the diagonal of D as an array.
+
+    A has the entries of a square matrix by columns on and above its diagonal. L has ones on its diagonal and exactly the
+    places of `fill` with "upper", also where a value is 0. Each entry of D has an inverse.
+
+    >>> import numpy as np, scipy.sparse as sp
+    >>> l, d = factor_symmetric(sp.csc_matrix(np.array([[1, 2], [0, 7]])))
+    >>> l.toarray().tolist(), d.tolist()
+    ([[1, 0], [2, 1]], [1, 3])
+    """
+    name, *start = modular("factor_symmetric", modulus)
+    size, lanes = square_of("matrix", matrix)
+    room = _fill_places(size, "upper", lanes)
+    offsets, indices, values, diagonal = empty(size + 1), empty(room), empty(room), empty(size)
+    outputs = (offsets, indices, values, diagonal, ctypes.c_size_t())
+    call(name, *start, size, *lanes.arrays, *outputs)
+    return matrix_of(lanes.kind, (values, indices, offsets), (size, size)), diagonal
