@@ -73,6 +73,8 @@ pub use Rattle.sparse_lanes.specs.RowWriting
 -- CSR and CSC
 pub use Rattle.sparse_forms.specs.CscWriting
 pub use Rattle.sparse_forms.specs.CsrWriting
+-- sparse vectors and dense ones
+pub use Rattle.sparse_kernels.specs.SparseVectors
 -- conversions
 pub use Rattle.sparse_convert.specs.FromDense
 pub use Rattle.sparse_convert.specs.OneMatrix

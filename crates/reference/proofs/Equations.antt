@@ -11,7 +11,7 @@ use Rattle.sparse_base.specs.Dense.{Dense, HasValues, value_at, with_value_at}
 use Rattle.sparse_base.specs.DensePlain.{plain_of_dense}
 use Rattle.sparse_base.proofs.DenseLemmas.{set_values}
 use Rattle.sparse_algebra.specs.Inverses.{HasInverse}
-use Rattle.sparse_solve.specs.InnerColumns.{elements}
+use Rattle.sparse_kernels.specs.SparseVectors.{elements}
 use Rattle.sparse_solve.proofs.RingSteps.{back, moved_over}
 use Rattle.sparse_solve.proofs.PlainSolutions.{dense_inside}
 use Rattle.sparse_ldl.specs.Factors.{diagonal}

@@ -5,7 +5,7 @@ use Rattle.sparse_algebra.specs.Sums.{sum_below}
 use Rattle.sparse_base.specs.Dense.{Dense}
 use Rattle.sparse_base.specs.DensePlain.{plain_of_dense}
 use Rattle.sparse_ldl.specs.InnerColumns.{ArePartFactors, term}
-use Rattle.sparse_solve.specs.InnerColumns.{elements}
+use Rattle.sparse_kernels.specs.SparseVectors.{elements}
 use Rattle.reference.specs.DenseFactors.{dense_symmetric}
 
 -- the matrices a and L and the diagonal d have one size

@@ -9,9 +9,8 @@ ghost use Rattle.sparse_dense_products.specs.InnerUpdates.{IsUpdatedColumn};
 use crate::operand::{column_of, step_of};
 use crate::update::Change;
 use sparse_algebra::scalar::Ring;
-use sparse_base::steps::Steps;
 use sparse_cs::scaling::scale_values;
-use sparse_kernels::{add_multiple, lane_slices};
+use sparse_kernels::{lane_slices, usaxpy};
 
 // Updates column j of C by the transpose of A times column j of op(B).
 pub fn scatter_column<T: Ring>(change: &Change<'_, T>, j: usize, c: &mut [T])
@@ -30,6 +29,6 @@ pub fn scatter_column<T: Ring>(change: &Change<'_, T>, j: usize, c: &mut [T])
     for k in 0..lanes {
         let (rows, values) = lane_slices(a, k);
         let scale = alpha.mul(x[k * step]);
-        add_multiple(scale, rows, values, c, &mut Steps::new());
+        usaxpy(scale, values, rows, c);
     }
 }

@@ -1,4 +1,4 @@
--- Dot products and multiples of lanes, term after term.
+-- Dot products and multiples of sparse vectors, term after term.
 use Rattle.std.proofs.Common.{◌≡◌, ℕ, ◌+◌, ◌<◌, List, [], length, get_or, set, take, min, All, ap}
 use Rattle.std.proofs.Common.{sym, subst, ◌∙◌, arith}
 use Rattle.std.proofs.lemmas.List.{get_or_default, take_all}
@@ -6,7 +6,7 @@ use Rattle.sparse_algebra.specs.Algebra.{CommRing}
 use Rattle.sparse_algebra.specs.Sums.{dot_of}
 use Rattle.sparse_algebra.proofs.RingLemmas.{mul_zero}
 use Rattle.sparse_cs.proofs.RowSums.{lane_step, sum_zip_more}
-use Rattle.sparse_kernels.specs.InnerKernels.{AddsMultiple}
+use Rattle.sparse_kernels.specs.SparseVectors.{AddsMultiple, sparse_elements}
 
 module _ {T : Type 0} (ks : List ℕ) (vs : List T) (n k : ℕ) (v : T) where
   -- k and v are the n-th index and value
@@ -43,32 +43,32 @@ module _ (R : CommRing) {T : Type 0} (f : T → R.Carrier) (ks : List ℕ) (vs :
         (start row new : List T) → k < length start → length row ≡ length start
         → new ≡ set row k (get_or new k z)
         → f (get_or new k z) ≡ R.add (f (get_or row k z)) (R.mul scale (f v))
-        → AddsMultiple R f z scale (take n ks) (take n vs) start row
-        → AddsMultiple R f z scale (take (n + 1) ks) (take (n + 1) vs) start new
+        → AddsMultiple R f z scale (sparse_elements R f (take n ks) (take n vs)) start row
+        → AddsMultiple R f z scale (sparse_elements R f (take (n + 1) ks) (take (n + 1) vs)) start new
     adds_more k v term scale start row new within same written added so_far =
         let inside : k < length row = omega (arith, within, same) in
-        let more : AddsMultiple R f z scale (take (n + 1) ks) (take (n + 1) vs) start
+        let more : AddsMultiple R f z scale (sparse_elements R f (take (n + 1) ks) (take (n + 1) vs)) start
         (set row k (get_or new k z)) = λ j j_lt.
         lane_step R f scale ks vs row start z n k v (get_or row k z) (get_or new k z) term.0 term.1
         (term.2 k) (term.3 v) inside (get_or_default row k z (get_or row k z) inside) added
         (λ i i_lt. so_far i (omega (arith, same, i_lt))) j (omega (arith, same, j_lt)) in
-        subst (AddsMultiple R f z scale (take (n + 1) ks) (take (n + 1) vs) start) (sym written)
+        subst (AddsMultiple R f z scale (sparse_elements R f (take (n + 1) ks) (take (n + 1) vs)) start) (sym written)
         more
 
     -- all indices
     pub adds_all : length vs ≡ length ks → n ≡ min (length ks) (length vs)
         → (scale : R.Carrier) (start row : List T)
-        → AddsMultiple R f z scale (take n ks) (take n vs) start row
-        → AddsMultiple R f z scale ks vs start row
+        → AddsMultiple R f z scale (sparse_elements R f (take n ks) (take n vs)) start row
+        → AddsMultiple R f z scale (sparse_elements R f ks vs) start row
     adds_all fits end scale start row so_far =
-        subst (λ vs. AddsMultiple R f z scale ks vs start row)
+        subst (λ vs. AddsMultiple R f z scale (sparse_elements R f ks vs) start row)
         (take_all n vs (omega (arith, fits, end)))
-        (subst (λ ks. AddsMultiple R f z scale ks (take n vs) start row)
+        (subst (λ ks. AddsMultiple R f z scale (sparse_elements R f ks (take n vs)) start row)
         (take_all n ks (omega (arith, fits, end))) so_far)
 
 -- no index yet
 pub adds_none : (R : CommRing) {T : Type 0} (f : T → R.Carrier) (z : T) (scale : R.Carrier)
-    (row : List T) → AddsMultiple R f z scale [] [] row row
+    (row : List T) → AddsMultiple R f z scale (sparse_elements R f [] []) row row
 adds_none R f z scale row = λ j lt.
     sym (ap (R.add (f (get_or row j z))) (mul_zero R scale)
     ∙ R.laws.add_zero (f (get_or row j z)))

@@ -1,1 +1,2 @@
+pub mod SparseVectors
 pub mod InnerKernels

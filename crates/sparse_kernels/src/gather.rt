@@ -1,10 +1,38 @@
-//! Dot products of a lane and a dense column.
+//! Dot products of a sparse vector and dense ones.
 
 ghost use Rattle.std.specs.Prelude.{◌≡◌, ◌<◌, ◌*◌, All, length, slice_index_or};
 ghost use Rattle.sparse_algebra.specs.Sums.{dot_of};
 ghost use Rattle.sparse_kernels.specs.InnerKernels.{strided};
+ghost use Rattle.sparse_kernels.specs.SparseVectors.{elements};
 
 use sparse_algebra::scalar::Ring;
+
+/// Returns the dot product of a sparse vector and a dense one: the sum of the values, each times the element of `y` at
+/// its index.
+///
+/// There must be one value for each index, and the indices must be less than the length of `y`. They may be in any
+/// order, and an index may occur more than once.
+///
+/// USDOT of the Sparse BLAS standard (Duff, Heroux and Pozo 2002). One multiplication for each index. Allocates
+/// nothing.
+///
+/// # Examples
+///
+/// ```rust
+/// fn a_sparse_vector_is_multiplied() -> Result<bool, Fail> {
+///     let y = [W64::new(1), W64::new(2), W64::new(3)];
+///     Ok(usdot(&[W64::new(4), W64::new(5)], &[0, 2], &y) == W64::new(19))
+/// }
+/// ```
+#[inline(always)]
+pub fn usdot<T: Ring>(values: &[T], indices: &[usize], y: &[T]) -> T
+    requires fits { length values.now ≡ length indices.now }
+    requires inside { All (λ k. k < length y.now) indices.now }
+    ensures { T.value result ≡ dot_of T.ring T.value indices.now values.now
+        (elements T.ring T.value T.zero_value y.now) }
+{
+    dot(indices, values, y, 1)
+}
 
 /// Returns the sum of a lane's values, each times the entry of a column at its index.
 ///
@@ -12,6 +40,9 @@ use sparse_algebra::scalar::Ring;
 /// be inside the column.
 ///
 /// One multiplication for each index. Allocates nothing.
+///
+/// For the crates of this library.
+#[doc(hidden)]
 #[inline(always)]
 pub fn dot<T: Ring>(indices: &[usize], values: &[T], column: &[T], step: usize) -> T
     requires fits { length values.now ≡ length indices.now }
@@ -27,6 +58,9 @@ pub fn dot<T: Ring>(indices: &[usize], values: &[T], column: &[T], step: usize) 
 }
 
 /// Returns the [`dot`] products of one lane and four columns, so that the lane is read once for them.
+///
+/// For the crates of this library.
+#[doc(hidden)]
 #[inline(always)]
 pub fn dot_four<T: Ring>(
     indices: &[usize],

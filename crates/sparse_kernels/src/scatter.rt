@@ -1,34 +1,36 @@
-//! A multiple of a lane, added to a dense row.
+//! Multiples of a sparse vector, added to dense ones.
 
-ghost use Rattle.std.specs.Prelude.{◌≡◌, ◌+◌, ◌<◌, All, length, slice_index_or, slice_set};
-ghost use Rattle.sparse_kernels.specs.InnerKernels.{AddsMultiple};
+ghost use Rattle.std.specs.Prelude.{◌≡◌, ◌<◌, All, length, slice_index_or, slice_set};
+ghost use Rattle.sparse_kernels.specs.SparseVectors.{AddsMultiple, sparse_elements};
 
 use sparse_algebra::scalar::Ring;
-use sparse_base::steps::Steps;
 
-/// Adds `scale` times a lane to a dense row.
+/// Adds `alpha` times a sparse vector to a dense one: each value, times `alpha`, to the element of `y` at its index.
 ///
-/// There must be one value for each index, and indices must be inside the row. A value whose index stands twice is
-/// added twice.
+/// There must be one value for each index, and the indices must be less than the length of `y`. They may be in any
+/// order, and an index may occur more than once.
 ///
-/// One multiplication for each index, which `steps` counts. Allocates nothing.
+/// USAXPY of the Sparse BLAS standard (Duff, Heroux and Pozo 2002). One multiplication for each index. Allocates
+/// nothing.
+///
+/// # Examples
+///
+/// ```rust
+/// fn a_sparse_vector_is_added() -> Result<bool, Fail> {
+///     let mut y = [W64::new(1), W64::new(2), W64::new(3)];
+///     usaxpy(W64::new(10), &[W64::new(4), W64::new(5)], &[0, 2], &mut y);
+///     Ok(y == [W64::new(41), W64::new(2), W64::new(53)])
+/// }
+/// ```
 #[inline(always)]
-pub fn add_multiple<T: Ring>(
-    scale: T,
-    indices: &[usize],
-    values: &[T],
-    row: &mut [T],
-    steps: &mut Steps,
-)
+pub fn usaxpy<T: Ring>(alpha: T, values: &[T], indices: &[usize], y: &mut [T])
     requires fits { length values.now ≡ length indices.now }
-    requires inside { All (λ j. j < length row.old) indices.now }
-    ensures added { AddsMultiple T.ring T.value T.zero_value (T.value scale) indices.now values.now
-        row.old row.new }
-    ensures counted { steps.new ≡ steps.old + length indices.now }
+    requires inside { All (λ k. k < length y.old) indices.now }
+    ensures { AddsMultiple T.ring T.value T.zero_value (T.value alpha)
+        (sparse_elements T.ring T.value indices.now values.now) y.old y.new }
 {
     for (index, value) in indices.iter().zip(values) {
-        steps.tick();
-        add_product(row, *index, scale, *value);
+        add_product(y, *index, alpha, *value);
     }
 }
 
@@ -38,6 +40,9 @@ pub fn add_multiple<T: Ring>(
 /// rows, which are equally long.
 ///
 /// Four multiplications for each index. Allocates nothing.
+///
+/// For the crates of this library.
+#[doc(hidden)]
 #[inline(always)]
 pub fn add_multiple_four<T: Ring>(
     scales: (T, T, T, T),
@@ -53,13 +58,13 @@ pub fn add_multiple_four<T: Ring>(
     requires width_3 { length third.old ≡ length first.old }
     requires width_4 { length fourth.old ≡ length first.old }
     ensures first { AddsMultiple T.ring T.value T.zero_value (T.value scales.0)
-        lane.entry.0.now lane.entry.1.now first.old first.new }
+        (sparse_elements T.ring T.value lane.entry.0.now lane.entry.1.now) first.old first.new }
     ensures second { AddsMultiple T.ring T.value T.zero_value (T.value scales.1)
-        lane.entry.0.now lane.entry.1.now second.old second.new }
+        (sparse_elements T.ring T.value lane.entry.0.now lane.entry.1.now) second.old second.new }
     ensures third { AddsMultiple T.ring T.value T.zero_value (T.value scales.2)
-        lane.entry.0.now lane.entry.1.now third.old third.new }
+        (sparse_elements T.ring T.value lane.entry.0.now lane.entry.1.now) third.old third.new }
     ensures fourth { AddsMultiple T.ring T.value T.zero_value (T.value scales.3)
-        lane.entry.0.now lane.entry.1.now fourth.old fourth.new }
+        (sparse_elements T.ring T.value lane.entry.0.now lane.entry.1.now) fourth.old fourth.new }
 {
     let (a, b, c, d) = scales;
     let (indices, values) = lane;

@@ -1,8 +1,8 @@
 -- One step of the factorisation over arrays.
-use Rattle.std.proofs.Common.{◌≡◌, ◌≢◌, ℕ, ◌+◌, ◌<◌, inl, inr, true, false, List, length}
+use Rattle.std.proofs.Common.{◌≡◌, ◌≢◌, ℕ, ◌+◌, ◌<◌, ◌≤◌, inl, inr, true, false, List, length}
 use Rattle.std.proofs.Common.{get_or, set, ap, sym, ◌∙◌, arith, add-one}
-use Rattle.std.proofs.Common.{get_or-set_same, get_or-set_other}
-use Rattle.sparse_algebra.proofs.Cases.{lt_or_ge, true_or_false}
+use Rattle.std.proofs.Common.{get_or-set_same, get_or-set_other, length-set}
+use Rattle.sparse_algebra.proofs.Cases.{lt_add_one_cases, true_or_false}
 use Rattle.sparse_algebra.specs.Algebra.{CommRing}
 use Rattle.sparse_algebra.proofs.RingLemmas.{zero_add}
 use Rattle.sparse_pattern.specs.Raw.{Raw, IsPlace, IsValid}
@@ -10,10 +10,12 @@ use Rattle.sparse_pattern.proofs.Positions.{one_lane}
 use Rattle.sparse_cs.specs.Compressed.{Compressed, compressed_of, IsSound, IsPosition}
 use Rattle.sparse_cs.specs.PlainOfLanes.{plain_of_cols}
 use Rattle.sparse_cs.proofs.Arrays.{value_at_position}
-use Rattle.sparse_solve.specs.InnerColumns.{elements}
+use Rattle.sparse_kernels.specs.SparseVectors.{elements}
+use Rattle.sparse_solve.proofs.RingSteps.{add_off}
 use Rattle.sparse_algebra.specs.Inverses.{HasInverse}
 use Rattle.sparse_ldl.specs.InnerColumns.{AreColumnsDone, AreCursors, ArePartFactors}
 use Rattle.sparse_ldl.specs.InnerColumns.{IsColumnMoved, IsFilledPattern, IsIncluded, IsLeft}
+use Rattle.sparse_ldl.specs.InnerColumns.{IsLowerPattern}
 use Rattle.sparse_ldl.proofs.ClosedSets.{IsClosed, IsZeroOutside, clash}
 use Rattle.sparse_ldl.proofs.Columns.{no_factorisation}
 use Rattle.sparse_ldl.proofs.FilledSets.{has_place, no_place_zero, place_has, set-closed}
@@ -76,13 +78,14 @@ module _ (R : CommRing) {T : Type 0} (f : T → R.Carrier) (z : T) (zero : f z �
   abbrev a : ℕ → ℕ → R.Carrier
   a = (plain_of_cols R f lower).value
 
-  is_added : (i : ℕ) → i < n → f (get_or added i z) ≡ a i j
-  is_added i within = adds i (omega (arith, within, rows))
-      ∙ ap (λ c. R.add c (a i j)) (done.empty i (omega (arith, within, rows))) ∙ zero_add R (a i j)
+  is_added : (i : ℕ) → j ≤ i → i < n → f (get_or added i z) ≡ a i j
+  is_added i le within = adds i (omega (arith, within, rows))
+      ∙ ap (λ c. R.add c (a i j)) (done.empty i le (omega (arith, within, rows)))
+      ∙ zero_add R (a i j)
 
   is_left : IsLeft R n j (plain_of_cols R f l).value (elements R f z d) j (elements R f z left)
       (λ i. a i j)
-  is_left i le within = leaves i le within ∙ is_added i within
+  is_left i le within = leaves i le within ∙ is_added i le within
 
   -- without an inverse of the pivot there is no factorisation
   pub step_singular : (HasInverse R f (f (get_or left j z)) → ⊥) → (l' : ℕ → ℕ → R.Carrier)
@@ -137,32 +140,66 @@ module _ (R : CommRing) {T : Type 0} (f : T → R.Carrier) (z : T) (zero : f z �
         done.factors is_left inverts kept kept_pivots new_pivot (plain_of_cols R f next_l).has
         closed_set zeros (λ i less. set-low R f next_l next_sound filled i j less) stored out)
 
-    -- what is left in the scratch column is zero
-    emptied : (i : ℕ) → i < n → f (get_or last i z) ≡ R.zero
-    emptied i within = elim (true_or_false ((plain_of_cols R f next_l).has i j)) [
+    -- no row above the diagonal is a place of the column
+    none_above : (p : Raw) → IsLowerPattern p → (i : ℕ) → i < j → IsPlace p j i → ⊥
+    none_above p low i less place = let le = low j i place in omega (arith, le, less)
+
+    -- what is left in the scratch column from row j on is zero
+    emptied : (i : ℕ) → j ≤ i → i < n → f (get_or last i z) ≡ R.zero
+    emptied i le within = elim (true_or_false ((plain_of_cols R f next_l).has i j)) [
       | inl hit ↦
           let place = has_place R f next_l next_sound i j hit in
           ap (λ i. f (get_or last i z)) (sym place.index)
           ∙ ap f (moved.cleared place.at place.in_lane) ∙ zero
-      | inr miss ↦ ap f (moved.kept i (none_stored i miss)) ∙ elim (lt_or_ge i j) [
-        | inl less ↦ above i less ∙ is_added i within ∙ no_place_zero R f lower lower_sound i j
-            (λ place.
-            let le = filled.lower j i (included.places i j place) in omega (arith, le, less))
-        | inr le ↦ left_nothing R f n j a (plain_of_cols R f l).value
-            (plain_of_cols R f next_l).value (elements R f z d)
-            (elements R f z (set d j (get_or left j z))) (elements R f z left) e lt done.factors
-            is_left inverts kept kept_pivots new_pivot (plain_of_cols R f next_l).has closed_set
-            zeros (λ i less. set-low R f next_l next_sound filled i j less) stored out i le within
-            miss
-      ]
+      | inr miss ↦ ap f (moved.kept i (none_stored i miss))
+          ∙ left_nothing R f n j a (plain_of_cols R f l).value
+          (plain_of_cols R f next_l).value (elements R f z d)
+          (elements R f z (set d j (get_or left j z))) (elements R f z left) e lt done.factors
+          is_left inverts kept kept_pivots new_pivot (plain_of_cols R f next_l).has closed_set
+          zeros (λ i less. set-low R f next_l next_sound filled i j less) stored out i le within
+          miss
     ]
 
-    pub step_done : (cursors' : List ℕ) → length left ≡ length column
-        → AreCursors l.pattern (j + 1) cursors'
-        → AreColumnsDone R f z lower next_l (set d j (get_or left j z)) cursors' last (j + 1)
-    step_done cursors' same cursors_are = record {
-      sound = next_sound;
-      factors = next;
-      placed = cursors_are;
-      empty = λ i within. emptied i (omega (arith, within, moved.same, same, rows));
-    }
+    -- above row j the scratch column is as it was
+    untouched : (i : ℕ) → i < j → f (get_or last i z) ≡ f (get_or column i z)
+    untouched i less =
+        ap f (moved.kept i (none_above l.pattern filled.lower i less)) ∙ above i less
+        ∙ adds i (omega (arith, less, lt, rows))
+        ∙ add_off R _ (a i j) (no_place_zero R f lower lower_sound i j
+        (λ place. none_above l.pattern filled.lower i less (included.places i j place)))
+
+    module _ (same : length left ≡ length column) where
+      j_in : j < length last
+      j_in = omega (arith, lt, moved.same, same, rows)
+
+      inverted : (i : ℕ) → i < j + 1
+          → R.mul (elements R f z (set d j (get_or left j z)) i) (elements R f z (set last j e) i)
+          ≡ R.one
+      inverted i less = elim (lt_add_one_cases i j less) [
+        | inl under ↦
+            let ne : i ≢ j = λ same. omega (arith, same, under) in
+            ap (λ c. R.mul c (elements R f z (set last j e) i)) (kept_pivots i ne)
+            ∙ ap (R.mul (elements R f z d i)) (ap f (get_or-set_other last j i e z ne)
+            ∙ untouched i under) ∙ done.inverses i under
+        | inr at ↦
+            ap (λ i. R.mul (elements R f z (set d j (get_or left j z)) i)
+            (elements R f z (set last j e) i)) at
+            ∙ ap (λ c. R.mul c (elements R f z (set last j e) j)) new_pivot
+            ∙ ap (λ v. R.mul (f (get_or left j z)) (f v)) (get_or-set_same last j e z j_in)
+            ∙ inverts
+      ]
+
+      pub step_done : (cursors' : List ℕ) → AreCursors l.pattern (j + 1) cursors'
+          → AreColumnsDone R f z lower next_l (set d j (get_or left j z)) cursors' (set last j e)
+          (j + 1)
+      step_done cursors' cursors_are = record {
+        sound = next_sound;
+        factors = next;
+        placed = cursors_are;
+        empty = λ i le within.
+            let ne : i ≢ j = λ same. omega (arith, same, le) in
+            let long = length-set last j e in
+            ap f (get_or-set_other last j i e z ne)
+            ∙ emptied i (omega arith) (omega (arith, within, long, moved.same, same, rows));
+        inverses = inverted;
+      }

@@ -4,7 +4,7 @@ use Rattle.sparse_algebra.specs.Algebra.{CommRing}
 use Rattle.sparse_cs.specs.Compressed.{Compressed, IsSound}
 use Rattle.sparse_cs.specs.PlainOfLanes.{plain_of_cols}
 use Rattle.sparse_factor.specs.Fill.{InFill, UpperBase, StoresByColumns}
-use Rattle.sparse_solve.specs.InnerColumns.{elements}
+use Rattle.sparse_kernels.specs.SparseVectors.{elements}
 use Rattle.sparse_solve.specs.Solutions.{HasSameValues}
 use Rattle.sparse_ldl.specs.Factorisations.{IsFactorisation, plain_upper}
 use Rattle.sparse_ldl.specs.Factors.{AreFactorsOf, AreOnlyFactorsOf, HasNoFactors}

@@ -10,10 +10,9 @@ use Rattle.sparse_pattern.specs.Raw.{start_of, end_of, lane_of}
 use Rattle.sparse_pattern.proofs.PatternLanes.{length-lane, get_or-lane}
 use Rattle.sparse_cs.specs.Compressed.{Compressed, IsSound}
 use Rattle.sparse_cs.specs.PlainOfLanes.{plain_of_cols}
-use Rattle.sparse_cs.specs.InnerRows.{lane_value}
 use Rattle.sparse_cs.proofs.LaneValues.{values_of, lane_value_is}
-use Rattle.sparse_kernels.specs.InnerKernels.{AddsMultiple}
-use Rattle.sparse_solve.proofs.BelowDiagonal.{lane_value-drop, lane_value-none, drop_range}
+use Rattle.sparse_kernels.specs.SparseVectors.{AddsMultiple, sparse_elements}
+use Rattle.sparse_kernels.proofs.SparseVectors.{sparse_elements-drop, sparse_elements-none, drop_range}
 use Rattle.sparse_solve.proofs.RingSteps.{add_off}
 use Rattle.sparse_ldl.specs.InnerColumns.{IsCursor, term}
 
@@ -37,12 +36,12 @@ module _ (R : CommRing) {T : Type 0} (f : T → R.Carrier) (z : T) (m : Compress
       (omega (arith, place, cursor.to))
       ∙ ap (λ b. slice_range m.values b (end_of m.pattern k)) place
 
-  cut_is : (i : ℕ) → lane_value R f (slice_range m.pattern.indices c (end_of m.pattern k))
+  cut_is : (i : ℕ) → sparse_elements R f (slice_range m.pattern.indices c (end_of m.pattern k))
       (slice_range m.values c (end_of m.pattern k)) i
-      ≡ lane_value R f (drop skipped (lane_of m.pattern k)) (drop skipped (values_of m k)) i
-  cut_is i = ap (λ ks. lane_value R f ks (slice_range m.values c (end_of m.pattern k)) i)
+      ≡ sparse_elements R f (drop skipped (lane_of m.pattern k)) (drop skipped (values_of m k)) i
+  cut_is i = ap (λ ks. sparse_elements R f ks (slice_range m.values c (end_of m.pattern k)) i)
       (sym rows_cut)
-      ∙ ap (λ vs. lane_value R f (drop skipped (lane_of m.pattern k)) vs i) (sym values_cut)
+      ∙ ap (λ vs. sparse_elements R f (drop skipped (lane_of m.pattern k)) vs i) (sym values_cut)
 
   index_at : (q : ℕ) → q < length (lane_of m.pattern k)
       → get_or (lane_of m.pattern k) q 0 ≡ slice_index m.pattern.indices (start_of m.pattern k + q)
@@ -50,20 +49,20 @@ module _ (R : CommRing) {T : Type 0} (f : T → R.Carrier) (z : T) (m : Compress
 
   -- from row j on the cut column has the values of the column
   cut_below : (i : ℕ) → j ≤ i
-      → lane_value R f (slice_range m.pattern.indices c (end_of m.pattern k))
+      → sparse_elements R f (slice_range m.pattern.indices c (end_of m.pattern k))
       (slice_range m.values c (end_of m.pattern k)) i ≡ (plain_of_cols R f m).value i k
   cut_below i le = cut_is i
-      ∙ lane_value-drop R f i skipped (lane_of m.pattern k) (values_of m k) (λ q less lt e.
+      ∙ sparse_elements-drop R f i skipped (lane_of m.pattern k) (values_of m k) (λ q less lt e.
       let above = cursor.before (start_of m.pattern k + q) (omega arith)
       (omega (arith, less, place)) in omega (arith, above, e, index_at q lt, le))
       ∙ lane_value_is R f z m sound k lane i
 
   -- and above row j nothing
   cut_above : (i : ℕ) → i < j
-      → lane_value R f (slice_range m.pattern.indices c (end_of m.pattern k))
+      → sparse_elements R f (slice_range m.pattern.indices c (end_of m.pattern k))
       (slice_range m.values c (end_of m.pattern k)) i ≡ R.zero
   cut_above i less = cut_is i
-      ∙ lane_value-none R f i (drop skipped (lane_of m.pattern k)) (drop skipped (values_of m k))
+      ∙ sparse_elements-none R f i (drop skipped (lane_of m.pattern k)) (drop skipped (values_of m k))
       (λ q lt e.
       let long = length-lane m.pattern k (sound.valid.lanes k lane) in
       let inside : skipped + q < length (lane_of m.pattern k) =
@@ -88,8 +87,8 @@ module _ (R : CommRing) {T : Type 0} (f : T → R.Carrier) (z : T) (m : Compress
 
   module _ (scale : T) (x y : List T)
       (taken : AddsMultiple R f z (R.neg (f scale))
-      (slice_range m.pattern.indices c (end_of m.pattern k))
-      (slice_range m.values c (end_of m.pattern k)) x y) where
+      (sparse_elements R f (slice_range m.pattern.indices c (end_of m.pattern k))
+      (slice_range m.values c (end_of m.pattern k))) x y) where
     pub taken-above : (i : ℕ) → i < j → i < length x → f (get_or y i z) ≡ f (get_or x i z)
     taken-above i less lt = taken i lt ∙ add_off R _ _
         (ap (R.mul (R.neg (f scale))) (cut_above i less) ∙ mul_zero R _)

@@ -9,6 +9,7 @@ pub mod LaneCuts
 pub mod FilledSets
 pub mod FillPatterns
 pub mod SolvedFactors
+pub mod ScaledRows
 pub mod TransposedRows
 pub mod RowEntries
 pub mod UpperTriangles

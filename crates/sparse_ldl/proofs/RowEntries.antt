@@ -6,8 +6,8 @@ use Rattle.sparse_pattern.specs.Raw.{end_of}
 use Rattle.sparse_cs.specs.Compressed.{Compressed, IsSound}
 use Rattle.sparse_cs.specs.PlainOfLanes.{plain_of_cols}
 use Rattle.sparse_cs.proofs.Arrays.{value_at_position}
-use Rattle.sparse_kernels.specs.InnerKernels.{AddsMultiple}
-use Rattle.sparse_solve.specs.InnerColumns.{elements}
+use Rattle.sparse_kernels.specs.SparseVectors.{AddsMultiple, sparse_elements}
+use Rattle.sparse_kernels.specs.SparseVectors.{elements}
 use Rattle.sparse_ldl.specs.InnerColumns.{IsCursor, IsRowOf}
 use Rattle.sparse_ldl.proofs.Cursors.{AreCursorsAt, at_cursor, here}
 use Rattle.sparse_ldl.proofs.FilledSets.{no_place_zero}
@@ -64,11 +64,11 @@ module _ (R : CommRing) {T : Type 0} (f : T → R.Carrier) (z : T) (m : Compress
     module _ (d : ℕ → R.Carrier) (scale : T) (x y b : List T)
         (product : f scale ≡ R.mul (d (slice_index row q))
         (f (get_or m.values (slice_index cursors (slice_index row q)) z)))
-        (taken : AddsMultiple R f z (R.neg (f scale))
+        (taken : AddsMultiple R f z (R.neg (f scale)) (sparse_elements R f
         (slice_range m.pattern.indices (slice_index cursors (slice_index row q))
         (end_of m.pattern (slice_index row q)))
         (slice_range m.values (slice_index cursors (slice_index row q))
-        (end_of m.pattern (slice_index row q))) x y) where
+        (end_of m.pattern (slice_index row q)))) x y) where
       pub entry_above : (i : ℕ) → i < j → i < length x → f (get_or y i z) ≡ f (get_or x i z)
       entry_above i less within =
           taken-above R f z m sound k lane j c cursor scale x y taken i less within

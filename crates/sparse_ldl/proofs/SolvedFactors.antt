@@ -8,7 +8,6 @@ use Rattle.sparse_algebra.specs.Algebra.{CommRing}
 use Rattle.sparse_algebra.specs.Sums.{sum_below}
 use Rattle.sparse_algebra.specs.Plain.{Plain, plain_product, plain_transpose}
 use Rattle.sparse_algebra.proofs.SumLemmas.{sum_below-same, product_assoc}
-use Rattle.sparse_algebra.proofs.RingLemmas.{mul_zero}
 use Rattle.sparse_algebra.proofs.PlainLemmas.{same_plain}
 use Rattle.sparse_base.specs.Dense.{Dense}
 use Rattle.sparse_base.specs.DensePlain.{plain_of_dense}
@@ -16,11 +15,8 @@ use Rattle.sparse_cs.specs.Compressed.{Compressed, IsSound}
 use Rattle.sparse_cs.specs.PlainOfLanes.{plain_of_cols}
 use Rattle.sparse_cs.proofs.Arrays.{proper_rows, value_at_position}
 use Rattle.sparse_solve.specs.Solutions.{IsSolution, IsSingular, plain_lower}
-use Rattle.sparse_solve.specs.InnerColumns.{ChangesBlock}
 use Rattle.sparse_solve.proofs.ColumnSteps.{lower_is, lower_zero}
-use Rattle.sparse_solve.proofs.PlainSolutions.{dense_inside, dense_past_cols}
 use Rattle.sparse_ldl.specs.Factorisations.{IsUnitLower, plain_ldl}
-use Rattle.sparse_ldl.specs.InnerColumns.{IsDivided}
 use Rattle.sparse_ldl.proofs.FilledSets.{has_place}
 use Rattle.sparse_ldl.proofs.PlainProducts.{ldl-value}
 use Rattle.sparse_ldl.proofs.RingFacts.{trivial}
@@ -109,16 +105,3 @@ module _ (R : CommRing) {T : Type 0} (f : T → R.Carrier) (z : T) (m : Compress
   plain_solved d x b rows cols values = same_plain _ (plain_of_dense R f b) (sym rows) cols
       (λ i j. ap (λ n. nat_lt i n && nat_lt j x.ncols) (sym rows)
       ∙ ap (λ n. nat_lt i b.nrows && nat_lt j n) cols) values
-
--- a division of dense columns, as plain matrices
-pub plain_divided : (R : CommRing) {T : Type 0} (f : T → R.Carrier) (z : T) → f z ≡ R.zero
-    → (d : ℕ → R.Carrier) (y w : Dense T)
-    → ChangesBlock R f z 0 y.ncols (IsDivided R y.nrows d) y w → (c j : ℕ) → c < y.nrows
-    → R.mul (d c) ((plain_of_dense R f w).value c j) ≡ (plain_of_dense R f y).value c j
-plain_divided R f z zero d y w h c j lt = elim (lt_or_ge j y.ncols) [
-  | inl inside ↦ ap (R.mul (d c)) (dense_inside R f z zero w c j (omega (arith, lt, h.rows))
-      (omega (arith, inside, h.cols))) ∙ h.inside j (omega arith) inside c lt
-      ∙ sym (dense_inside R f z zero y c j lt inside)
-  | inr past ↦ ap (R.mul (d c)) (dense_past_cols R f z zero w c j (omega (arith, past, h.cols)))
-      ∙ mul_zero R (d c) ∙ sym (dense_past_cols R f z zero y c j past)
-]

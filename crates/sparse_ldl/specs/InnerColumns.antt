@@ -6,7 +6,8 @@ use Rattle.sparse_pattern.specs.Raw.{Raw, start_of, end_of, IsInLane, IsPlace}
 use Rattle.sparse_cs.specs.Compressed.{Compressed, IsSound}
 use Rattle.sparse_cs.specs.PlainOfLanes.{plain_of_cols}
 use Rattle.sparse_algebra.specs.Inverses.{HasInverse}
-use Rattle.sparse_solve.specs.InnerColumns.{elements}
+use Rattle.sparse_base.specs.Dense.{Dense, value_at}
+use Rattle.sparse_kernels.specs.SparseVectors.{elements}
 
 module _ (R : CommRing) where
   -- column k's part of L D Lᵀ at (i, j)
@@ -50,6 +51,11 @@ pub record IsRowOf (p : Raw) (j : ℕ) (row : List ℕ) : Type 0 where
   pub all : (k : ℕ) → IsPlace p k j → (q : ℕ) × (q < length row) × (slice_index row q ≡ k)
 
 module _ (R : CommRing) {T : Type 0} (f : T → R.Carrier) (z : T) where
+  -- e has the inverse of each entry of d
+  pub record AreInverses (d e : List T) : Type 0 where
+    pub count : length e ≡ length d
+    pub inverts : (j : ℕ) → j < length d → R.mul (elements R f z d j) (elements R f z e j) ≡ R.one
+
   -- the places of column j are moved out of a scratch column, times e
   pub record IsColumnMoved (p : Raw) (j : ℕ) (e : R.Carrier) (old new x y : List T) : Type 0 where
     pub count : length new ≡ length old
@@ -64,14 +70,16 @@ module _ (R : CommRing) {T : Type 0} (f : T → R.Carrier) (z : T) where
     pub kept : (i : ℕ) → (IsPlace p j i → ⊥) → slice_index_or y i z ≡ slice_index_or x i z
 
   -- the columns of L and the pivots before j are those of a factorisation of the matrix whose lower
-  -- triangle `lower` stores by columns; the cursors are at row j, and the scratch column is zero
+  -- triangle `lower` stores by columns; the cursors are at row j, and the scratch column is zero from
+  -- there on and has the inverses of the pivots before
   pub record AreColumnsDone (lower l : Compressed T) (d : List T) (cursors : List ℕ)
       (column : List T) (j : ℕ) : Type 0 where
     pub sound : IsSound l
     pub factors : ArePartFactors R f l.pattern.major_dim j (plain_of_cols R f lower).value
         (plain_of_cols R f l).value (elements R f z d)
     pub placed : AreCursors l.pattern j cursors
-    pub empty : (i : ℕ) → i < length column → elements R f z column i ≡ R.zero
+    pub empty : (i : ℕ) → j ≤ i → i < length column → elements R f z column i ≡ R.zero
+    pub inverses : (i : ℕ) → i < j → R.mul (elements R f z d i) (elements R f z column i) ≡ R.one
 
 -- the pattern of L: no row is above its column, and it is closed under fill
 pub record IsFilledPattern (p : Raw) : Type 0 where
@@ -85,7 +93,16 @@ pub record IsIncluded (q p : Raw) : Type 0 where
   pub columns : q.major_dim ≡ p.major_dim
   pub places : (i j : ℕ) → IsPlace q j i → IsPlace p j i
 
--- x is y, each entry times its entry of d
-abbrev pub IsDivided : (R : CommRing) → ℕ → (ℕ → R.Carrier) → (ℕ → R.Carrier) → (ℕ → R.Carrier)
-    → Type 0
-IsDivided R n d x y = (i : ℕ) → i < n → R.mul (d i) (y i) ≡ x i
+module _ (R : CommRing) {T : Type 0} (f : T → R.Carrier) (z : T) where
+  -- each entry of y is that of x, times its factor
+  abbrev pub IsScaled : List T → List T → List T → Type 0
+  IsScaled factors x y = (i : ℕ) → i < length x
+      → elements R f z y i ≡ R.mul (elements R f z x i) (elements R f z factors i)
+
+  -- each row of the first n columns is multiplied by its factor, and the other columns are the same
+  pub record AreScaledBelow (n : ℕ) (factors : List T) (old new : Dense T) : Type 0 where
+    pub rows : new.nrows ≡ old.nrows
+    pub cols : new.ncols ≡ old.ncols
+    pub scaled : (i j : ℕ) → i < old.nrows → j < n → f (value_at new i j z)
+        ≡ R.mul (f (value_at old i j z)) (elements R f z factors i)
+    pub behind : (i j : ℕ) → i < old.nrows → n ≤ j → value_at new i j z ≡ value_at old i j z

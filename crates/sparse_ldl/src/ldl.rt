@@ -17,7 +17,7 @@ mod numeric;
 mod solve;
 
 use numeric::factor_on_fill;
-use solve::divide_columns;
+use solve::scale_rows;
 use sparse_algebra::error::OperationError;
 use sparse_algebra::learn;
 use sparse_algebra::operand::Op;
@@ -51,10 +51,13 @@ use std::marker::Model;
 pub struct Ldl<T: Units> {
     l: CscMatrix<T>,
     d: Vec<T>,
+    // The inverses of the entries of d.
+    inverses: Vec<T>,
 }
 
 impl<T: Units> Model for Ldl<T> {
     ghost use Rattle.sparse_ldl.specs.Factors.{AreFactors, Factors, factors_code, factors_of};
+    ghost use Rattle.sparse_ldl.specs.InnerColumns.{AreInverses};
 
     ghost Value = { Factors T };
 
@@ -62,7 +65,8 @@ impl<T: Units> Model for Ldl<T> {
 
     ghost view = { λ s. factors_of s.l s.d.items };
 
-    ghost invariant = { λ s. AreFactors T.ring T.value T.zero_value (factors_of s.l s.d.items) };
+    ghost invariant = { λ s. AreFactors T.ring T.value T.zero_value (factors_of s.l s.d.items)
+        × AreInverses T.ring T.value T.zero_value s.d.items s.inverses.items };
 }
 
 impl<T: Units> Ldl<T> {
@@ -73,8 +77,9 @@ impl<T: Units> Ldl<T> {
     /// satisfy the equation.
     ///
     /// A left-looking factorisation on the pattern of the fill (Davis 2006, chapter 4): one multiplication for each
-    /// place of column k of L from row j on, for each place (j, k) of L. Beside the factors it allocates the transposed
-    /// pattern of L, the transposed upper triangle of `a`, and two numbers for each row.
+    /// place of column k of L from row j on, for each place (j, k) of L. At the peak it holds the factors, the inverses
+    /// of the diagonal of D, the transposed pattern of L, the transposed upper triangle of `a`, and one number for each
+    /// row. The symbolic factorisation before it holds a copy of the pattern of `a`, beside its own memory.
     ///
     /// # Errors
     ///
@@ -102,8 +107,8 @@ impl<T: Units> Ldl<T> {
             × IfErr result (λ e. e ≡ Singular → HasNoFactors T.ring T.value b) }
     {
         let symbolic = CscSymbolicCholesky::factor(alloc, a.pattern().clone(alloc)?)?;
-        let (l, d) = factor_on_fill(alloc, a, symbolic.l_pattern())?;
-        Ok(Ldl { l, d })
+        let (l, d, inverses) = factor_on_fill(alloc, a, symbolic.into_l_pattern())?;
+        Ok(Ldl { l, d, inverses })
     }
 
     /// Returns the unit lower triangular factor L.
@@ -125,8 +130,8 @@ impl<T: Units> Ldl<T> {
 
     /// Solves `L D L^T X = B` in place. `b` holds B on entry and X on return.
     ///
-    /// `b` must have as many rows as L. A solve with L, a division of each row by its entry of D, and a solve with the
-    /// transpose of L. Allocates nothing.
+    /// `b` must have as many rows as L. A solve with L, a multiplication of each row by the inverse of its entry of D,
+    /// and a solve with the transpose of L. Allocates nothing.
     pub fn solve_mut(&self, b: &mut DMatrix<T>)
         requires { b.old.nrows ≡ self.now.l.pattern.minor_dim }
         ensures rows { b.new.nrows ≡ b.old.nrows }
@@ -138,7 +143,7 @@ impl<T: Units> Ldl<T> {
         learn(self.l.values());
         // The solves refuse only over the ring in which one is zero, where any X is a solution.
         let _ = spsolve_csc_lower_triangular(Op::NoOp(&self.l), b);
-        divide_columns(&self.d, b);
+        scale_rows(&self.inverses, b);
         let _ = spsolve_csc_lower_triangular(Op::Transpose(&self.l), b);
     }
 
@@ -149,6 +154,7 @@ impl<T: Units> Ldl<T> {
         Ok(Ldl {
             l: self.l.clone(alloc)?,
             d: Vec::from_slice(alloc, &self.d)?,
+            inverses: Vec::from_slice(alloc, &self.inverses)?,
         })
     }
 }

@@ -1,51 +1,23 @@
 -- The entries of a column below the diagonal.
-use Rattle.std.proofs.Common.{◌≡◌, ◌≢◌, ℕ, zero, suc, ◌+◌, ◌-◌, ◌<◌, ◌≤◌, inl, inr, true, List}
-use Rattle.std.proofs.Common.{[], ◌∷◌}
+use Rattle.std.proofs.Common.{◌≡◌, ℕ, ◌+◌, ◌-◌, ◌<◌, ◌≤◌, inl, inr, true, List}
 use Rattle.std.proofs.Common.{take}
-use Rattle.std.proofs.Common.{length, get_or, drop, All, Contains, slice_range, ap}
-use Rattle.std.proofs.Common.{sym, ◌∙◌, refl, arith}
-use Rattle.std.specs.Prelude.{nat_eq}
-use Rattle.std.proofs.lemmas.List.{get_or-drop, get_or_default, length-drop, drop_all, drop-take}
-use Rattle.std.proofs.lemmas.List.{drop-drop, take_rest}
+use Rattle.std.proofs.Common.{length, get_or, drop, All, Contains, ap}
+use Rattle.std.proofs.Common.{sym, ◌∙◌, arith}
+use Rattle.std.proofs.lemmas.List.{get_or-drop, get_or_default, length-drop}
+use Rattle.std.proofs.lemmas.List.{take_rest}
 use Rattle.std.proofs.lemmas.List.Edits.{get_or-between}
 use Rattle.std.proofs.lemmas.List.Elements.{All-drop}
-use Rattle.sparse_algebra.proofs.Cases.{le_cases, nat_eq_no}
+use Rattle.sparse_algebra.proofs.Cases.{le_cases}
 use Rattle.sparse_algebra.specs.Algebra.{CommRing}
-use Rattle.sparse_algebra.proofs.RingLemmas.{zero_add}
 use Rattle.sparse_pattern.specs.Raw.{start_of, end_of, lane_of}
 use Rattle.sparse_pattern.proofs.PatternLanes.{length-lane, get_or-lane, lane_rises}
 use Rattle.sparse_pattern.proofs.LaneLists.{lane_has}
 use Rattle.sparse_cs.specs.Compressed.{Compressed, IsSound, IsPosition}
 use Rattle.sparse_cs.specs.PlainOfLanes.{plain_of_rows, plain_of_cols}
-use Rattle.sparse_cs.proofs.Arrays.{where_no, value_at_position, has_is_place}
-use Rattle.sparse_cs.specs.InnerRows.{lane_value}
+use Rattle.sparse_cs.proofs.Arrays.{value_at_position, has_is_place}
 use Rattle.sparse_cs.proofs.LaneValues.{values_of, length-values, lane_value_is}
+use Rattle.sparse_kernels.proofs.SparseVectors.{sparse_elements-drop, sparse_elements-none}
 use Rattle.sparse_solve.specs.InnerColumns.{IsColumnBelow}
-
-module _ (R : CommRing) {T : Type 0} (f : T → R.Carrier) (i : ℕ) where
-  no_values : (ks : List ℕ) → lane_value R f ks [] i ≡ R.zero
-  no_values [] = refl
-  no_values (k ∷ ks) = refl
-
-  -- dropping entries of other rows keeps the value in row i
-  pub lane_value-drop : (p : ℕ) (ks : List ℕ) (vs : List T)
-      → ((q : ℕ) → q < p → q < length ks → get_or ks q 0 ≢ i)
-      → lane_value R f (drop p ks) (drop p vs) i ≡ lane_value R f ks vs i
-  lane_value-drop zero ks vs others = refl
-  lane_value-drop (suc p) [] vs others = refl
-  lane_value-drop (suc p) (k ∷ ks) [] others = no_values (drop p ks)
-  lane_value-drop (suc p) (k ∷ ks) (v ∷ vs) others =
-      lane_value-drop p ks vs (λ q lt within. others (suc q) (omega arith) (omega arith))
-      ∙ sym (ap (λ c. R.add c (lane_value R f ks vs i))
-      (where_no R (λ (c : R.Carrier). c) (nat_eq k i) (f v)
-      (nat_eq_no k i (others 0 (omega arith) (omega arith)))) ∙ zero_add R _)
-
-  -- nothing stands in row i
-  pub lane_value-none : (ks : List ℕ) (vs : List T)
-      → ((q : ℕ) → q < length ks → get_or ks q 0 ≢ i) → lane_value R f ks vs i ≡ R.zero
-  lane_value-none ks vs none =
-      sym (lane_value-drop (length ks) ks vs (λ q _ lt. none q lt))
-      ∙ ap (λ l. lane_value R f l (drop (length ks) vs) i) (drop_all (length ks) ks (omega arith))
 
 module _ (R : CommRing) {T : Type 0} (f : T → R.Carrier) (z : T) (m : Compressed T)
     (sound : IsSound m) (k : ℕ) (lane : k < m.pattern.major_dim) where
@@ -104,10 +76,10 @@ module _ (R : CommRing) {T : Type 0} (f : T → R.Carrier) (z : T) (m : Compress
         stored = (has_is_place R f m.pattern sound.valid m.values sound.count k k).1
             (record { at = start_of m.pattern k + q; in_lane = position.0; index = position.1 });
         inverts = ap (λ c. R.mul c (f e)) (value_stored k q lt is) ∙ inverts;
-        below = λ i more. lane_value-drop R f i (q + 1) rows (values_of m k)
+        below = λ i more. sparse_elements-drop R f i (q + 1) rows (values_of m k)
             (λ r before within e. omega (arith, not_past r before, e))
             ∙ lane_value_is R f z m sound k lane i;
-        above = λ i le. lane_value-none R f i (drop (q + 1) rows) (drop (q + 1) (values_of m k))
+        above = λ i le. sparse_elements-none R f i (drop (q + 1) rows) (drop (q + 1) (values_of m k))
             (λ r within e.
             let inside : q + 1 + r < length rows = omega
             (arith, within, length-drop (q + 1) rows) in
@@ -146,12 +118,3 @@ module _ (R : CommRing) {T : Type 0} (f : T → R.Carrier) (z : T) (m : Compress
       rw (take_rest rows (q + 1), take_rest values (q + 1), rows_are, values_are)
       (column_is q e within (rw (← rows_are) is)
       (ap (λ v. R.mul (f v) (f e)) (sym (value_read values values_are q within v read)) ∙ inverts))
-
--- the rest of a range
-pub drop_range : {X : Type 0} (xs : List X) (begin end n : ℕ) → begin + n ≤ end
-    → drop n (slice_range xs begin end) ≡ slice_range xs (begin + n) end
-drop_range xs begin end n le =
-    let parts : end - begin ≡ n + (end - (begin + n)) = omega (arith, le) in
-    ap (λ m. drop n (take m (drop begin xs))) parts
-    ∙ drop-take n (end - (begin + n)) (drop begin xs)
-    ∙ ap (take (end - (begin + n))) (drop-drop n begin xs)

@@ -8,11 +8,12 @@ use Rattle.sparse_algebra.specs.Algebra.{CommRing}
 use Rattle.sparse_algebra.specs.Sums.{sum_below, where_true}
 use Rattle.sparse_algebra.specs.Plain.{Plain, IsProper}
 use Rattle.sparse_algebra.proofs.SumLemmas.{sum_by-same}
-use Rattle.sparse_cs.specs.InnerRows.{lane_value}
+use Rattle.sparse_kernels.specs.SparseVectors.{sparse_elements}
 use Rattle.sparse_cs.proofs.LaneValues.{product_by_lane}
 use Rattle.sparse_kernels.specs.InnerKernels.{strided}
 use Rattle.sparse_solve.specs.Solutions.{plain_lower}
-use Rattle.sparse_solve.specs.InnerColumns.{IsColumnBelow, elements}
+use Rattle.sparse_kernels.specs.SparseVectors.{elements}
+use Rattle.sparse_solve.specs.InnerColumns.{IsColumnBelow}
 use Rattle.sparse_algebra.specs.Sums.{dot_of}
 use Rattle.sparse_solve.proofs.Substitutions.{IsLower, IsBackward, backward_step}
 
@@ -54,11 +55,11 @@ module _ (R : CommRing) {T : Type 0} (f : T → R.Carrier) (z : T) (a : Plain R)
       → IsBackward R n (k + 1) (plain_lower R a).value (elements R f z x) b
       → IsBackward R n k (plain_lower R a).value (elements R f z (set x k new)) b
   backward_column new known square known_is is h =
-      let whole : f known ≡ sum_below R n (λ c. R.mul (lane_value R f rows values c)
+      let whole : f known ≡ sum_below R n (λ c. R.mul (sparse_elements R f rows values c)
       (f (get_or x c z))) = known_is ∙ sym (product_by_lane R f n (elements R f z x) rows values
       (rw (← square) column.inside)) in
       backward_step R n k (plain_lower R a).value (elements R f z x)
-      (elements R f z (set x k new)) b (f e) lt (lower_zero R a) inverts (lane_value R f rows values)
+      (elements R f z (set x k new)) b (f e) lt (lower_zero R a) inverts (sparse_elements R f rows values)
       (λ i more. column.below i more ∙ sym (lower_is R a proper i k (omega arith)))
       column.above
       (rw (← add-one) h)

@@ -4,7 +4,8 @@ use Rattle.std.proofs.Common.{subst, ◌∙◌, arith}
 use Rattle.std.proofs.lemmas.List.{get_or_append_left, get_or-append-add}
 use Rattle.sparse_algebra.proofs.Cases.{lt_add_one_cases}
 use Rattle.sparse_algebra.specs.Algebra.{CommRing}
-use Rattle.sparse_solve.specs.InnerColumns.{SolvesColumn, SolvesList, elements}
+use Rattle.sparse_kernels.specs.SparseVectors.{elements}
+use Rattle.sparse_solve.specs.InnerColumns.{SolvesColumn, SolvesList}
 use Rattle.sparse_solve.proofs.SolvedColumns.{solves_same}
 
 four_cases : (P : ℕ → Type 0) → P 0 → P 1 → P 2 → P 3 → (j : ℕ) → j < 4 → P j

@@ -9,14 +9,15 @@ use Rattle.sparse_algebra.proofs.RingLemmas.{mul_zero}
 use Rattle.sparse_algebra.proofs.Products.{mul_neg}
 use Rattle.sparse_base.specs.Dense.{Dense, value_at, column_of, with_column}
 use Rattle.sparse_cs.specs.Compressed.{Compressed}
-use Rattle.sparse_cs.specs.InnerRows.{lane_value}
+use Rattle.sparse_kernels.specs.SparseVectors.{sparse_elements}
 use Rattle.sparse_cs.specs.PlainOfLanes.{plain_of_cols}
 use Rattle.sparse_cs.proofs.Arrays.{proper_rows}
 use Rattle.sparse_solve.specs.Solutions.{plain_lower}
 use Rattle.sparse_solve.specs.InnerColumns.{ChangesBlock, IsColumnBelow, IsTaken, SolvesColumn}
 use Rattle.sparse_solve.specs.InnerColumns.{SolvesList, TakesAnswer, column_elements}
 use Rattle.sparse_algebra.specs.Sums.{dot_of}
-use Rattle.sparse_solve.specs.InnerColumns.{elements, lower}
+use Rattle.sparse_kernels.specs.SparseVectors.{elements}
+use Rattle.sparse_solve.specs.InnerColumns.{lower}
 use Rattle.sparse_solve.proofs.RingSteps.{add_off}
 use Rattle.sparse_solve.proofs.ColumnSteps.{lower_is, lower_zero, backward_column}
 use Rattle.sparse_solve.proofs.SolvedColumns.{IsSolvedBelow, solves_same, with_column-here}
@@ -28,11 +29,11 @@ use Rattle.sparse_solve.proofs.Substitutions.{backward_start, backward_end}
 module _ (R : CommRing) {T : Type 0} (f : T → R.Carrier) (z : T) where
   -- the answer is written, and its multiple added
   pub taken : (k : ℕ) (rows : List ℕ) (values x y : List T) (answer e : T) (minus : R.Carrier)
-      → k < length x → lane_value R f rows values k ≡ R.zero
+      → k < length x → sparse_elements R f rows values k ≡ R.zero
       → f answer ≡ R.mul (f (get_or x k z)) (f e) → minus ≡ R.neg (f answer)
       → ((i : ℕ) → i < length (set x k answer)
       → f (get_or y i z) ≡ R.add (f (get_or (set x k answer) i z))
-      (R.mul minus (lane_value R f rows values i)))
+      (R.mul minus (sparse_elements R f rows values i)))
       → IsTaken R f (length x) k rows values (f e) (elements R f z x) (elements R f z y)
   taken k rows values x y answer e minus lt above is negative added =
       let within : (i : ℕ) → i < length x → i < length (set x k answer) =
@@ -43,9 +44,9 @@ module _ (R : CommRing) {T : Type 0} (f : T → R.Carrier) (z : T) where
       record {
         answer = here ∙ is;
         others = λ i l ne. added i (within i l) ∙ ap
-            (λ v. R.add (f v) (R.mul minus (lane_value R f rows values i)))
+            (λ v. R.add (f v) (R.mul minus (sparse_elements R f rows values i)))
             (get_or-set_other x k i answer z ne)
-            ∙ ap (λ c. R.add (f (get_or x i z)) (R.mul c (lane_value R f rows values i)))
+            ∙ ap (λ c. R.add (f (get_or x i z)) (R.mul c (sparse_elements R f rows values i)))
             (negative ∙ ap R.neg (sym here));
       }
 

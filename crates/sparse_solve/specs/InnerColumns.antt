@@ -1,15 +1,14 @@
 -- A column of a lower triangle, and a column of a solution.
 use Rattle.std.specs.Prelude.{◌≡◌, ◌≢◌, ℕ, ◌<◌, ◌≤◌, true, List, All, length}
-use Rattle.std.specs.Prelude.{slice_index_or}
 use Rattle.sparse_algebra.specs.Algebra.{CommRing}
 use Rattle.sparse_algebra.specs.Sums.{sum_below}
 use Rattle.sparse_algebra.specs.Plain.{Plain}
 use Rattle.sparse_base.specs.Dense.{Dense, value_at}
-use Rattle.sparse_cs.specs.InnerRows.{lane_value}
 use Rattle.sparse_cs.specs.Compressed.{Compressed}
 use Rattle.sparse_cs.specs.PlainOfLanes.{plain_of_cols}
 use Rattle.sparse_algebra.specs.declared.operand.Op.{Op}
 use Rattle.sparse_algebra.specs.Operands.{plain_op}
+use Rattle.sparse_kernels.specs.SparseVectors.{elements, sparse_elements}
 use Rattle.sparse_solve.specs.Solutions.{HasPivot, plain_lower}
 
 module _ (R : CommRing) {T : Type 0} (f : T → R.Carrier) where
@@ -20,16 +19,12 @@ module _ (R : CommRing) {T : Type 0} (f : T → R.Carrier) where
     pub inside : All (λ i. i < a.rows) rows
     pub stored : a.has k k ≡ true
     pub inverts : R.mul (a.value k k) (f inverse) ≡ R.one
-    pub below : (i : ℕ) → k < i → lane_value R f rows values i ≡ a.value i k
-    pub above : (i : ℕ) → i ≤ k → lane_value R f rows values i ≡ R.zero
+    pub below : (i : ℕ) → k < i → sparse_elements R f rows values i ≡ a.value i k
+    pub above : (i : ℕ) → i ≤ k → sparse_elements R f rows values i ≡ R.zero
 
   -- each diagonal entry is stored and has an inverse
   abbrev pub HasPivots : Plain R → Type 0
   HasPivots a = (k : ℕ) → k < a.rows → HasPivot R f a k
-
-  -- what each scalar of a list means, and past its end what z means
-  abbrev pub elements : T → List T → ℕ → R.Carrier
-  elements z xs i = f (slice_index_or xs i z)
 
 -- x solves the n equations with these coefficients and right sides
 abbrev pub SolvesColumn : (R : CommRing) → ℕ → (ℕ → ℕ → R.Carrier) → (ℕ → R.Carrier)
@@ -64,7 +59,7 @@ module _ (R : CommRing) where
       (e : R.Carrier) (x y : ℕ → R.Carrier) : Type 0 where
     pub answer : y k ≡ R.mul (x k) e
     pub others : (i : ℕ) → i < n → i ≢ k → y i ≡ R.add (x i)
-        (R.mul (R.neg (y k)) (lane_value R f rows values i))
+        (R.mul (R.neg (y k)) (sparse_elements R f rows values i))
 
 module _ (R : CommRing) {T : Type 0} (f : T → R.Carrier) (z : T) where
   -- the answer of row k is taken in a list

@@ -8,7 +8,7 @@ ghost use Rattle.sparse_solve.specs.InnerColumns.{HasPivots, SolvesList, lower};
 use crate::column::column_below;
 use sparse_algebra::scalar::{Ring, Units};
 use sparse_forms::csc::CscMatrix;
-use sparse_kernels::{dot, dot_four};
+use sparse_kernels::{dot_four, usdot};
 
 // Solves `T^t x = b` over b, from the last row to the first.
 pub fn solve_backward<T: Units>(l: &CscMatrix<T>, x: &mut [T])
@@ -24,7 +24,7 @@ pub fn solve_backward<T: Units>(l: &CscMatrix<T>, x: &mut [T])
         let Some(column) = column_below(l, k) else {
             return;
         };
-        let known = dot(column.rows, column.values, x, 1);
+        let known = usdot(column.values, column.rows, x);
         solve_row(x, k, known, column.inverse);
     }
 }

@@ -2,14 +2,13 @@
 
 ghost use Rattle.std.specs.Prelude.{◌≡◌, ◌<◌, All, length, slice_index_or, slice_set};
 ghost use Rattle.sparse_cs.specs.PlainOfLanes.{plain_of_cols};
-ghost use Rattle.sparse_cs.specs.InnerRows.{lane_value};
+ghost use Rattle.sparse_kernels.specs.SparseVectors.{sparse_elements};
 ghost use Rattle.sparse_solve.specs.InnerColumns.{HasPivots, SolvesList, TakesAnswer, lower};
 
 use crate::column::{Column, column_below};
 use sparse_algebra::scalar::{Ring, Units};
-use sparse_base::steps::Steps;
 use sparse_forms::csc::CscMatrix;
-use sparse_kernels::{add_multiple, add_multiple_four};
+use sparse_kernels::{add_multiple_four, usaxpy};
 
 // Solves `T x = b` over b, from the first row to the last.
 pub fn solve_forward<T: Units>(l: &CscMatrix<T>, x: &mut [T])
@@ -63,12 +62,12 @@ fn take_answer<T: Ring>(column: Column<'_, T>, k: usize, x: &mut [T])
     requires row { k < length x.old }
     requires fits { length column.values.now ≡ length column.rows.now }
     requires inside { All (λ i. i < length x.old) column.rows.now }
-    requires above { lane_value T.ring T.value column.rows.now column.values.now k ≡ T.ring.zero }
+    requires above { sparse_elements T.ring T.value column.rows.now column.values.now k ≡ T.ring.zero }
     ensures { TakesAnswer T.ring T.value T.zero_value k column.entry.rows.now
         column.entry.values.now column.entry.inverse x.old x.new }
 {
     let scale = divide_entry(k, column.inverse, x).neg();
-    add_multiple(scale, column.rows, column.values, x, &mut Steps::new());
+    usaxpy(scale, column.values, column.rows, x);
 }
 
 // The same in each of four columns.
@@ -84,7 +83,7 @@ fn take_answer_four<T: Ring>(
     requires row { k < length first.old }
     requires fits { length column.values.now ≡ length column.rows.now }
     requires inside { All (λ i. i < length first.old) column.rows.now }
-    requires above { lane_value T.ring T.value column.rows.now column.values.now k ≡ T.ring.zero }
+    requires above { sparse_elements T.ring T.value column.rows.now column.values.now k ≡ T.ring.zero }
     requires rows_2 { length second.old ≡ length first.old }
     requires rows_3 { length third.old ≡ length first.old }
     requires rows_4 { length fourth.old ≡ length first.old }

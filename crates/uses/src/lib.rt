@@ -44,3 +44,5 @@ mod symmetric;
 mod tutorial;
 #[cfg(test)]
 mod units;
+#[cfg(test)]
+mod vectors;

@@ -4,26 +4,27 @@ ghost use Rattle.std.specs.Prelude.{◌≡◌, ℕ, ◌+◌, ◌<◌, ◌≤◌,
 ghost use Rattle.std.specs.Prelude.{OnOk};
 ghost use Rattle.sparse_cs.specs.Compressed.{IsSound};
 ghost use Rattle.sparse_cs.specs.PlainOfLanes.{plain_of_cols};
-ghost use Rattle.sparse_ldl.specs.InnerColumns.{AreCursors, ArePartFactors, IsColumnMoved};
+ghost use Rattle.sparse_ldl.specs.InnerColumns.{AreCursors, AreInverses, ArePartFactors};
+ghost use Rattle.sparse_ldl.specs.InnerColumns.{IsColumnMoved};
 ghost use Rattle.sparse_ldl.specs.InnerColumns.{IsFilledPattern, IsIncluded, IsLeft};
 ghost use Rattle.sparse_ldl.specs.InnerColumns.{IsLowerPattern, IsRowOf};
 ghost use Rattle.sparse_algebra.specs.declared.error.OperationErrorKind.TheVariants.{Singular};
 ghost use Rattle.sparse_pattern.specs.TransposedPattern.{IsTransposedPattern};
-ghost use Rattle.sparse_solve.specs.InnerColumns.{elements};
+ghost use Rattle.sparse_kernels.specs.SparseVectors.{elements};
 
 use sparse_algebra::error::OperationError;
 use sparse_algebra::learn;
 use sparse_algebra::scalar::{Ring, Units};
-use sparse_base::steps::Steps;
 use sparse_forms::csc::CscMatrix;
-use sparse_kernels::{add_multiple, lane_slices};
+use sparse_kernels::{axpy_csc_col, usaxpy};
 use sparse_pattern::pattern::SparsityPattern;
 
 // Computes the columns of L, and the diagonal of D, for the symmetric matrix with this lower triangle.
 //
 // Left-looking: column j of the matrix, less the multiples of the columns of L before it that have row j, divided by
 // the pivot (Davis 2006, chapter 4). `rows` is the transposed pattern of L. `cursors` has for each column of L the
-// position of its first row from j on, and `column` is zero between two steps.
+// position of its first row from j on. `column` is zero from row j on between two steps, and has the inverses of the
+// pivots before it; on return it has those of all.
 pub fn factor_columns<T: Units>(
     lower: &CscMatrix<T>,
     rows: &SparsityPattern,
@@ -47,6 +48,7 @@ pub fn factor_columns<T: Units>(
     ensures factors { OnOk result (ArePartFactors T.ring T.value (length d.old) (length d.old)
         (plain_of_cols T.ring T.value lower.now).value (plain_of_cols T.ring T.value l.new).value
         (elements T.ring T.value T.zero_value d.new)) }
+    ensures inverses { OnOk result (AreInverses T.ring T.value T.zero_value d.new column.new) }
     ensures singular { OnErr result ((m : ℕ → ℕ → T.ring.Carrier) (c : ℕ → T.ring.Carrier)
         → ArePartFactors T.ring T.value (length d.old) (length d.old)
         (plain_of_cols T.ring T.value lower.now).value m c → ⊥) }
@@ -63,6 +65,8 @@ pub fn factor_columns<T: Units>(
         };
         d[j] = pivot;
         move_column(l, j, inverse, column);
+        // Later steps leave row j alone.
+        column[j] = inverse;
     }
     Ok(())
 }
@@ -78,8 +82,7 @@ fn add_lane<T: Ring>(a: &CscMatrix<T>, j: usize, column: &mut [T])
         ((plain_of_cols T.ring T.value a.now).value i j) }
     ensures sound { IsSound a.now }
 {
-    let (rows, values) = lane_slices(a.cs(), j);
-    add_multiple(T::one(), rows, values, column, &mut Steps::new());
+    axpy_csc_col(T::one(), a, j, column);
 }
 
 // Subtracts the columns before j from row j on, each times its pivot and its entry in row j, and moves the cursors past
@@ -117,13 +120,7 @@ fn subtract_columns<T: Ring>(
         if k < j {
             let end = offsets[k + 1];
             let scale = d[k].mul(values[at]).neg();
-            add_multiple(
-                scale,
-                &rows[at..end],
-                &values[at..end],
-                column,
-                &mut Steps::new(),
-            );
+            usaxpy(scale, &values[at..end], &rows[at..end], column);
         }
     }
 }

@@ -6,12 +6,13 @@ ghost use Rattle.sparse_cs.specs.PlainOfLanes.{plain_of_cols};
 ghost use Rattle.sparse_factor.specs.Fill.{InFill, UpperBase, StoresByColumns};
 ghost use Rattle.sparse_ldl.specs.Factorisations.{IsFactorisation, plain_upper};
 ghost use Rattle.sparse_ldl.specs.Factors.{HasNoFactors, symmetric_of};
-ghost use Rattle.sparse_ldl.specs.InnerColumns.{ArePartFactors, IsFilledPattern, IsIncluded};
+ghost use Rattle.sparse_ldl.specs.InnerColumns.{AreInverses, ArePartFactors, IsFilledPattern};
+ghost use Rattle.sparse_ldl.specs.InnerColumns.{IsIncluded};
 ghost use Rattle.sparse_algebra.specs.declared.error.OperationErrorKind.TheVariants.{OutOfMemory};
 ghost use Rattle.sparse_algebra.specs.declared.error.OperationErrorKind.TheVariants.{Singular};
 ghost use Rattle.sparse_pattern.specs.Raw.{IsPlace};
 ghost use Rattle.sparse_pattern.specs.TransposedPattern.{IsTransposedPattern};
-ghost use Rattle.sparse_solve.specs.InnerColumns.{elements};
+ghost use Rattle.sparse_kernels.specs.SparseVectors.{elements};
 
 use super::columns::factor_columns;
 use sparse_algebra::error::OperationError;
@@ -22,18 +23,20 @@ use sparse_forms::csc::CscMatrix;
 use sparse_pattern::pattern::SparsityPattern;
 use std::alloc::{AllocError, Global};
 
-// Returns L and the diagonal of D, given the pattern of L.
+// Returns L, the diagonal of D, and the inverses of its entries, given the pattern of L.
 pub fn factor_on_fill<T: Units>(
     alloc: Global,
     a: &CscMatrix<T>,
-    pattern: &SparsityPattern,
-) -> Result<(CscMatrix<T>, Vec<T>), OperationError>
+    pattern: SparsityPattern,
+) -> Result<(CscMatrix<T>, Vec<T>, Vec<T>), OperationError>
     requires square { a.now.pattern.minor_dim ≡ a.now.pattern.major_dim }
-    requires rows { pattern.now.minor_dim ≡ a.now.pattern.minor_dim }
-    requires columns { pattern.now.major_dim ≡ a.now.pattern.major_dim }
-    requires fill { StoresByColumns (InFill (UpperBase a.now.pattern)) pattern.now }
-    ensures pattern { IfOk result (λ r. r.0.pattern ≡ pattern.now) }
-    ensures count { IfOk result (λ r. length r.1.items ≡ pattern.now.minor_dim) }
+    requires rows { pattern.minor_dim ≡ a.now.pattern.minor_dim }
+    requires columns { pattern.major_dim ≡ a.now.pattern.major_dim }
+    requires fill { StoresByColumns (InFill (UpperBase a.now.pattern)) pattern }
+    ensures pattern { IfOk result (λ r. r.0.pattern ≡ pattern) }
+    ensures count { IfOk result (λ r. length r.1.items ≡ pattern.minor_dim) }
+    ensures inverses { IfOk result
+        (λ r. AreInverses T.ring T.value T.zero_value r.1.items r.2.items) }
     ensures factors { IfOk result (λ r. IsFactorisation T.ring T.value
         (symmetric_of T.ring T.value a.now) (plain_of_cols T.ring T.value r.0)
         (elements T.ring T.value T.zero_value r.1.items)) }
@@ -63,15 +66,12 @@ fn lower_triangle<T: Ring>(alloc: Global, a: &CscMatrix<T>) -> Result<CscMatrix<
 // Returns the matrix of zeros at the places of a pattern.
 fn matrix_of_zeros<T: Zero + Copy>(
     alloc: Global,
-    pattern: &SparsityPattern,
+    pattern: SparsityPattern,
 ) -> Result<CscMatrix<T>, AllocError>
-    ensures pattern { IfOk result (λ m. m.pattern ≡ pattern.now) }
+    ensures pattern { IfOk result (λ m. m.pattern ≡ pattern) }
 {
     let values = zeros(alloc, pattern.nnz())?;
-    match CscMatrix::try_from_pattern_and_values(pattern.clone(alloc)?, values) {
-        Ok(matrix) => Ok(matrix),
-        Err(_) => unreachable!(),
-    }
+    Ok(CscMatrix::from_pattern_and_values_unchecked(pattern, values))
 }
 
 // Returns `count` zeros.
@@ -85,14 +85,14 @@ fn zeros<T: Zero + Copy>(alloc: Global, count: usize) -> Result<Vec<T>, AllocErr
     Ok(zeros)
 }
 
-// Returns L and the diagonal of D for the symmetric matrix with this lower triangle. `l` has the pattern of L, and
-// `rows` is its transpose.
+// Returns L, the diagonal of D, and the inverses of its entries for the symmetric matrix with this lower triangle. `l`
+// has the pattern of L, and `rows` is its transpose.
 fn factor_lower<T: Units>(
     alloc: Global,
     lower: &CscMatrix<T>,
     rows: &SparsityPattern,
     mut l: CscMatrix<T>,
-) -> Result<(CscMatrix<T>, Vec<T>), OperationError>
+) -> Result<(CscMatrix<T>, Vec<T>, Vec<T>), OperationError>
     requires filled { IsFilledPattern l.pattern }
     requires included { IsIncluded lower.now.pattern l.pattern }
     requires transposed { IsTransposedPattern l.pattern rows.now }
@@ -102,6 +102,8 @@ fn factor_lower<T: Units>(
         l.pattern.major_dim (plain_of_cols T.ring T.value lower.now).value
         (plain_of_cols T.ring T.value r.0).value
         (elements T.ring T.value T.zero_value r.1.items)) }
+    ensures inverses { IfOk result
+        (λ r. AreInverses T.ring T.value T.zero_value r.1.items r.2.items) }
     ensures singular { IfErr result (λ e. e ≡ Singular → (m : ℕ → ℕ → T.ring.Carrier)
         (c : ℕ → T.ring.Carrier) → ArePartFactors T.ring T.value l.pattern.major_dim
         l.pattern.major_dim (plain_of_cols T.ring T.value lower.now).value m c → ⊥) }
@@ -112,5 +114,5 @@ fn factor_lower<T: Units>(
     let mut column = zeros(alloc, n)?;
     let mut cursors = Vec::from_slice(alloc, l.col_offsets())?;
     factor_columns(lower, rows, &mut l, &mut d, &mut cursors, &mut column)?;
-    Ok((l, d))
+    Ok((l, d, column))
 }

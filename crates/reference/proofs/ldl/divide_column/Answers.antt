@@ -1,7 +1,7 @@
 use Rattle.std.proofs.Common.{◌≡◌, ◌<◌, ℕ, inl, inr, ap, sym, ◌∙◌, arith}
 use Rattle.sparse_algebra.proofs.Cases.{lt_add_one_cases}
 use Rattle.sparse_base.specs.DensePlain.{plain_of_dense}
-use Rattle.sparse_solve.specs.InnerColumns.{elements}
+use Rattle.sparse_kernels.specs.SparseVectors.{elements}
 use Rattle.reference.specs.DenseFactors.{dense_symmetric}
 use Rattle.reference.specs.InnerEquations.{left_at}
 use Rattle.reference.proofs.Equations.{entry_unwritten, entry_written, left_of-same}

@@ -3,7 +3,7 @@ use Rattle.std.proofs.lemmas.List.{get_or_default}
 use Rattle.sparse_algebra.specs.Sums.{sum_below}
 use Rattle.sparse_base.specs.DensePlain.{plain_of_dense}
 use Rattle.sparse_ldl.specs.InnerColumns.{term}
-use Rattle.sparse_solve.specs.InnerColumns.{elements}
+use Rattle.sparse_kernels.specs.SparseVectors.{elements}
 use Rattle.reference.specs.DenseFactors.{dense_symmetric}
 use Rattle.reference.proofs.Equations.{is_left_of, read, term_off}
 use Rattle.reference.proofs.ldl.find_left.Goals as goal

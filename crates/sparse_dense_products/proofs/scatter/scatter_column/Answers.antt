@@ -3,7 +3,7 @@ use Rattle.std.proofs.Common.{◌≡◌, ◌*◌, ◌<◌, ℕ, length, get_or, 
 use Rattle.std.proofs.lemmas.List.{get_or_default}
 use Rattle.sparse_algebra.proofs.RingLemmas.{mul_zero}
 use Rattle.sparse_pattern.specs.Raw.{Raw, lane_of}
-use Rattle.sparse_cs.specs.InnerRows.{lane_value}
+use Rattle.sparse_kernels.specs.SparseVectors.{sparse_elements}
 use Rattle.sparse_cs.specs.PlainOfLanes.{plain_of_rows}
 use Rattle.sparse_cs.proofs.LaneValues.{values_of, lane_value_is}
 use Rattle.sparse_dense_products.specs.DenseOperands.{op_dense}
@@ -20,8 +20,8 @@ loop-k-init g c = λ i lt.
     c.scale_values.ensures.each i (omega (arith, lt, c.scale_values.ensures.count))
     ∙ sym (ap (R.add scaled) (mul_zero R (f c.args.change.now.alpha)) ∙ R.laws.add_zero scaled)
 
-pub add_multiple-requires-clause-inside : goal.add_multiple-requires-clause-inside
-add_multiple-requires-clause-inside g c = λ q d lt.
+pub usaxpy-requires-clause-inside : goal.usaxpy-requires-clause-inside
+usaxpy-requires-clause-inside g c = λ q d lt.
     omega (
       arith,
       c.lane_slices.ensures.inside q d lt,
@@ -55,16 +55,16 @@ loop-k-preserved g c =
     let entry = strided_entry R f z xs step.result (op_step change.b) b.rows
     (λ k. b.value k c.args.j) step.ensures c.column_of-x.ensures.entries k
     (omega (arith, lane, c.requires.inner)) in
-    let added : (i : ℕ) → i < length c.loop-k.c → f (get_or c.add_multiple.new.row i z) ≡ R.add
+    let added : (i : ℕ) → i < length c.loop-k.c → f (get_or c.usaxpy.new.y i z) ≡ R.add
     (f (get_or c.loop-k.c i z)) (R.mul (f c.mul-scale.result)
-    (lane_value R f (lane_of a.pattern k) (values_of a k) i)) =
+    (sparse_elements R f (lane_of a.pattern k) (values_of a k) i)) =
     rw (c.lane_slices.ensures.indices, c.lane_slices.ensures.values) at
-    c.add_multiple.ensures.added in
+    c.usaxpy.ensures in
     λ i lt.
-    let inside : i < length c.loop-k.c = omega (arith, lt, c.add_multiple.auto.row) in
+    let inside : i < length c.loop-k.c = omega (arith, lt, c.usaxpy.auto.y) in
     term_more R k (λ k. (plain_of_rows R f a).value k i) (λ k. b.value k c.args.j)
     (f change.alpha) (R.mul (f change.beta) (f (get_or c.args.c.now i z)))
-    (f (get_or c.loop-k.c i z)) (f (get_or c.add_multiple.new.row i z)) (f c.mul-scale.result)
+    (f (get_or c.loop-k.c i z)) (f (get_or c.usaxpy.new.y i z)) (f c.mul-scale.result)
     (c.loop-k.invariant i inside)
     (added i inside ∙ ap (λ v. R.add (f (get_or c.loop-k.c i z)) (R.mul (f c.mul-scale.result) v))
     (lane_value_is R f z a c.lane_slices.ensures.sound k lane i))

@@ -1,5 +1,5 @@
 use Rattle.std.proofs.Common.{length, take}
-use Rattle.sparse_kernels.specs.InnerKernels.{AddsMultiple}
+use Rattle.sparse_kernels.specs.SparseVectors.{AddsMultiple, sparse_elements}
 use Rattle.sparse_kernels.proofs.scatter.add_multiple_four.Given as goal
 
 abbrev pub invariant-loop-index : goal.invariant-loop-index
@@ -9,9 +9,10 @@ invariant-loop-index g l =
     let z = g.T.Zero.zero_value in
     let ks = take (length l.yielded) l.lane.0.now in
     let vs = take (length l.yielded) l.lane.1.now in
+    let v = sparse_elements R f ks vs in
     record {
-      first : AddsMultiple R f z (f l.a) ks vs l.initial.first l.first;
-      second : AddsMultiple R f z (f l.b) ks vs l.initial.second l.second;
-      third : AddsMultiple R f z (f l.c) ks vs l.initial.third l.third;
-      fourth : AddsMultiple R f z (f l.d) ks vs l.initial.fourth l.fourth;
+      first : AddsMultiple R f z (f l.a) v l.initial.first l.first;
+      second : AddsMultiple R f z (f l.b) v l.initial.second l.second;
+      third : AddsMultiple R f z (f l.c) v l.initial.third l.third;
+      fourth : AddsMultiple R f z (f l.d) v l.initial.fourth l.fourth;
     }

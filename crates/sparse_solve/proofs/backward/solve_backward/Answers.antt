@@ -1,6 +1,5 @@
 use Rattle.std.proofs.Common.{◌-◌, length, arith}
 use Rattle.sparse_solve.specs.InnerColumns.{lower}
-use Rattle.sparse_solve.proofs.ColumnSteps.{dot_unit}
 use Rattle.sparse_solve.proofs.Taking.{backward_begun, backward_list, backward_solved}
 use Rattle.sparse_solve.proofs.backward.solve_backward.Goals as goal
 
@@ -8,8 +7,8 @@ pub loop-step-init : goal.loop-step-init
 loop-step-init g c = backward_begun g.T.Ring.ring g.T.Ring.value g.T.Zero.zero_value
     (lower g.T.Ring.ring g.T.Ring.value c.args.l.now) c.args.x.now
 
-pub dot-known-requires-clause-inside : goal.dot-known-requires-clause-inside
-dot-known-requires-clause-inside g c = λ q d lt.
+pub usdot-known-requires-clause-inside : goal.usdot-known-requires-clause-inside
+usdot-known-requires-clause-inside g c = λ q d lt.
     omega (
       arith,
       c.in-Some.ensures.some.inside q d lt,
@@ -29,10 +28,9 @@ loop-step-preserved g c =
     backward_list R f z m k column.rows.now
     column.values.now column.inverse c.in-Some.ensures.some
     c.args.x.now c.loop-step.x (omega arith) c.loop-step.auto.x c.loop-step.step
-    c.dot-known.result c.solve_row.new.x (omega (arith, c.requires.square, c.requires.rows))
+    c.usdot-known.result c.solve_row.new.x (omega (arith, c.requires.square, c.requires.rows))
     (omega arith)
-    (dot_unit R f z column.rows.now column.values.now c.loop-step.x c.dot-known.result
-    c.dot-known.ensures) c.solve_row.ensures.written c.solve_row.ensures.value
+    c.usdot-known.ensures c.solve_row.ensures.written c.solve_row.ensures.value
     c.loop-step.invariant
 
 pub returns : goal.returns

@@ -1,5 +1,6 @@
 use Rattle.std.proofs.Common.{length}
-use Rattle.sparse_solve.specs.InnerColumns.{elements, lower}
+use Rattle.sparse_kernels.specs.SparseVectors.{elements}
+use Rattle.sparse_solve.specs.InnerColumns.{lower}
 use Rattle.sparse_solve.proofs.Substitutions.{IsForward}
 use Rattle.sparse_solve.proofs.forward.solve_forward_four.Given as goal
 

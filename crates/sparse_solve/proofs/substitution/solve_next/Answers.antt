@@ -1,5 +1,6 @@
 use Rattle.std.proofs.Common.{subst, arith}
-use Rattle.sparse_solve.specs.InnerColumns.{SolvesColumn, elements, op_lower}
+use Rattle.sparse_kernels.specs.SparseVectors.{elements}
+use Rattle.sparse_solve.specs.InnerColumns.{SolvesColumn, op_lower}
 use Rattle.sparse_solve.proofs.Taking.{changes_columns, changes_more, changes_none, solves_on_rows}
 use Rattle.sparse_solve.proofs.substitution.solve_next.Goals as goal
 

@@ -10,7 +10,7 @@ factor_on_fill-requires-clause-fill g c =
     let copied = c.in_ok-clone.ensures ∙ c.pattern.ensures.pattern in
     let stores = subst (λ p. StoresByColumns (InFill (UpperBase p)) c.in_ok-symbolic.symbolic.factor)
     copied c.in_ok-symbolic.ensures.fill in
-    rw c.l_pattern.ensures stores
+    rw c.into_l_pattern.ensures stores
 
 pub returns-clause-places : goal.returns-clause-places
 returns-clause-places g c =
@@ -18,7 +18,7 @@ returns-clause-places g c =
     let stores = subst (λ p. StoresByColumns (InFill (UpperBase p)) c.in_ok-symbolic.symbolic.factor)
     copied c.in_ok-symbolic.ensures.fill in
     subst (StoresByColumns (InFill (UpperBase c.args.a.now.pattern)))
-    (sym (c.in_ok-l.ensures.pattern ∙ c.l_pattern.ensures)) stores
+    (sym (c.in_ok-l.ensures.pattern ∙ c.into_l_pattern.ensures)) stores
 
 pub returns-clause-unit_diagonal : goal.returns-clause-unit_diagonal
 returns-clause-unit_diagonal g c = c.in_ok-l.ensures.factors.lower
@@ -26,7 +26,7 @@ returns-clause-unit_diagonal g c = c.in_ok-l.ensures.factors.lower
 pub returns-clause-pivots : goal.returns-clause-pivots
 returns-clause-pivots g c =
     let copied = c.in_ok-clone.ensures ∙ c.pattern.ensures.pattern in
-    let size = c.in_ok-l.ensures.count ∙ ap (λ p. p.minor_dim) c.l_pattern.ensures
+    let size = c.in_ok-l.ensures.count ∙ ap (λ p. p.minor_dim) c.into_l_pattern.ensures
     ∙ c.in_ok-symbolic.ensures.rows ∙ ap (λ p. p.minor_dim) copied in
     kept_pivots g.T.Ring.ring g.T.Ring.value g.T.Zero.zero_value c.args.a.now c.in_ok-l.l
     c.in_ok-l.d.items size c.in_ok-l.ensures.factors
@@ -34,7 +34,7 @@ returns-clause-pivots g c =
 pub returns-clause-equation : goal.returns-clause-equation
 returns-clause-equation g c =
     let copied = c.in_ok-clone.ensures ∙ c.pattern.ensures.pattern in
-    let size = c.in_ok-l.ensures.count ∙ ap (λ p. p.minor_dim) c.l_pattern.ensures
+    let size = c.in_ok-l.ensures.count ∙ ap (λ p. p.minor_dim) c.into_l_pattern.ensures
     ∙ c.in_ok-symbolic.ensures.rows ∙ ap (λ p. p.minor_dim) copied in
     kept_equation g.T.Ring.ring g.T.Ring.value g.T.Zero.zero_value c.args.a.now c.in_ok-l.l
     c.in_ok-l.d.items size c.in_ok-l.ensures.factors
@@ -42,7 +42,7 @@ returns-clause-equation g c =
 pub returns-clause-unique : goal.returns-clause-unique
 returns-clause-unique g c =
     let copied = c.in_ok-clone.ensures ∙ c.pattern.ensures.pattern in
-    let size = c.in_ok-l.ensures.count ∙ ap (λ p. p.minor_dim) c.l_pattern.ensures
+    let size = c.in_ok-l.ensures.count ∙ ap (λ p. p.minor_dim) c.into_l_pattern.ensures
     ∙ c.in_ok-symbolic.ensures.rows ∙ ap (λ p. p.minor_dim) copied in
     only_factors g.T.Ring.ring g.T.Ring.value g.T.Zero.zero_value c.args.a.now c.in_ok-l.l
     c.in_ok-l.d.items size c.in_ok-l.ensures.factors
@@ -50,7 +50,7 @@ returns-clause-unique g c =
 pub returns-clause-upper_only : goal.returns-clause-upper_only
 returns-clause-upper_only g c = λ b sound same.
     let copied = c.in_ok-clone.ensures ∙ c.pattern.ensures.pattern in
-    let size = c.in_ok-l.ensures.count ∙ ap (λ p. p.minor_dim) c.l_pattern.ensures
+    let size = c.in_ok-l.ensures.count ∙ ap (λ p. p.minor_dim) c.into_l_pattern.ensures
     ∙ c.in_ok-symbolic.ensures.rows ∙ ap (λ p. p.minor_dim) copied in (
       factors_same g.T.Ring.ring g.T.Ring.value g.T.Zero.zero_value c.args.a.now c.in_ok-l.l
           c.in_ok-l.d.items size c.in_ok-l.ensures.factors b c.pattern.ensures.sound sound same

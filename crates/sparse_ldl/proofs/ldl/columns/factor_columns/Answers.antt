@@ -3,7 +3,7 @@ use Rattle.std.proofs.lemmas.List.{get_or_default}
 use Rattle.sparse_cs.specs.Compressed.{compressed_of}
 use Rattle.sparse_cs.specs.PlainOfLanes.{plain_of_cols}
 use Rattle.sparse_pattern.specs.Raw.{IsPlace}
-use Rattle.sparse_solve.specs.InnerColumns.{elements}
+use Rattle.sparse_kernels.specs.SparseVectors.{elements}
 use Rattle.sparse_algebra.specs.Inverses.{HasInverse}
 use Rattle.sparse_ldl.specs.InnerColumns.{AreColumnsDone, ArePartFactors, IsFilledPattern, IsLeft}
 use Rattle.sparse_ldl.specs.InnerColumns.{IsIncluded, IsRowOf}
@@ -105,14 +105,14 @@ loop-j-preserved g c =
     let done = step_done R f z g.met.T.Ring.zero_law a l d c.loop-j.cursors column j filled included
     c.add_lane.ensures.sound lt long inv.done added left c.add_lane.ensures.added leaves e inverts
     (omega (arith, lt, size, inv.pivots)) c.subtract_columns.ensures.above values last
-    c.move_column.ensures.moved cursors same c.subtract_columns.ensures.cursors in
+    c.move_column.ensures.moved same cursors c.subtract_columns.ensures.cursors in
     record {
       pattern = c.move_column.ensures.pattern ∙ inv.pattern;
       pivots = length-set d j c.index-column-j.result ∙ inv.pivots;
       count = c.subtract_columns.ensures.count ∙ inv.count;
-      rows = c.move_column.ensures.moved.same ∙ same ∙ inv.rows;
-      done = subst (λ m. AreColumnsDone R f z a m (set d j c.index-column-j.result) cursors last
-          (j + 1)) (ap (λ p. compressed_of p values) (sym c.move_column.ensures.pattern))
+      rows = length-set last j e ∙ c.move_column.ensures.moved.same ∙ same ∙ inv.rows;
+      done = subst (λ m. AreColumnsDone R f z a m (set d j c.index-column-j.result) cursors
+          (set last j e) (j + 1)) (ap (λ p. compressed_of p values) (sym c.move_column.ensures.pattern))
           (subst (λ v. AreColumnsDone R f z a (compressed_of l.pattern values) (set d j v) cursors
-          last (j + 1)) (sym read) done);
+          (set last j e) (j + 1)) (sym read) done);
     }

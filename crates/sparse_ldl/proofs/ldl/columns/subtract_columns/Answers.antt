@@ -3,9 +3,9 @@ use Rattle.std.proofs.Common.{subst}
 use Rattle.std.proofs.Common.{◌∙◌, refl, arith, length-set}
 use Rattle.std.proofs.lemmas.List.{get_or_default}
 use Rattle.sparse_cs.specs.PlainOfLanes.{plain_of_cols}
-use Rattle.sparse_kernels.specs.InnerKernels.{AddsMultiple}
+use Rattle.sparse_kernels.specs.SparseVectors.{AddsMultiple, sparse_elements}
 use Rattle.sparse_pattern.specs.Raw.{end_of}
-use Rattle.sparse_solve.specs.InnerColumns.{elements}
+use Rattle.sparse_kernels.specs.SparseVectors.{elements}
 use Rattle.sparse_ldl.proofs.Cursors.{cursors_start, cursors_more}
 use Rattle.sparse_ldl.proofs.Left.{IsLeftAt, left_start, left_diagonal, left_end}
 use Rattle.sparse_ldl.proofs.RowEntries.{others_zero, entry_within, row_within, cut_rows, entry_above}
@@ -41,8 +41,8 @@ bounds-values-at g c =
     given.sound c.args.j c.args.row.now c.requires.row c.loop-q.q c.loop-q-test.true
     c.loop-q.cursors c.loop-q.invariant.cursors)
 
-pub add_multiple-requires-clause-inside : goal.add_multiple-requires-clause-inside
-add_multiple-requires-clause-inside g c =
+pub usaxpy-requires-clause-inside : goal.usaxpy-requires-clause-inside
+usaxpy-requires-clause-inside g c =
     let given = c.csc_data.ensures in
     rw (given.indices, given.offsets) (cut_rows g.T.Ring.ring g.T.Ring.value
     g.T.Zero.zero_value c.args.l.now given.sound c.args.j c.args.row.now c.requires.row c.loop-q.q
@@ -77,11 +77,11 @@ loop-q-preserved g c =
     inside in
     elim c.if-k-j.branch [
       | then-k-j w ↦
-          let taken = subst (λ s. AddsMultiple R f z s
+          let taken = subst (λ s. AddsMultiple R f z s (sparse_elements R f
           (slice_range m.pattern.indices at (end_of m.pattern k))
-          (slice_range m.values at (end_of m.pattern k)) x w.add_multiple.new.row)
+          (slice_range m.values at (end_of m.pattern k))) x w.usaxpy.new.y)
           w.neg-scale.ensures
-          (rw (given.offsets, given.indices, given.values) at w.add_multiple.ensures.added) in
+          (rw (given.offsets, given.indices, given.values) at w.usaxpy.ensures) in
           let d_in : k < length c.args.d.now = omega (arith, lane, c.requires.pivots) in
           let pivot = w.index-d-k.is
           ∙ get_or_default c.args.d.now k w.index-d-k.result z d_in in
@@ -98,13 +98,13 @@ loop-q-preserved g c =
             cursors = cursors;
             above = λ i less. ap (λ y. f (get_or y i z)) w.column-is
                 ∙ entry_above R f z m sound j row is q lt c.loop-q.cursors inv.cursors d
-                w.mul.result x w.add_multiple.new.row b product taken i less
+                w.mul.result x w.usaxpy.new.y b product taken i less
                 (omega (arith, less, low, inv.rows, c.requires.rows, c.requires.square))
                 ∙ inv.above i less;
             left = subst (λ y. IsLeftAt R long j L d row (q + 1) (elements R f z y)
                 (elements R f z b)) (sym w.column-is)
                 (entry_left R f z m sound j row is q lt c.loop-q.cursors inv.cursors d
-                w.mul.result x w.add_multiple.new.row b product taken w.if-k-j.true inv.rows inv.left);
+                w.mul.result x w.usaxpy.new.y b product taken w.if-k-j.true inv.rows inv.left);
           }
       | else-k-j w ↦
           let most = c.requires.lower k j (is.stored q lt) in

@@ -1,6 +1,6 @@
 use Rattle.std.proofs.Common.{◌≡◌, ◌<◌, ℕ, get_or, length}
 use Rattle.sparse_cs.specs.PlainOfLanes.{plain_of_cols}
-use Rattle.sparse_solve.specs.InnerColumns.{elements}
+use Rattle.sparse_kernels.specs.SparseVectors.{elements}
 use Rattle.sparse_ldl.proofs.Cursors.{AreCursorsAt}
 use Rattle.sparse_ldl.proofs.Left.{IsLeftAt}
 use Rattle.sparse_ldl.proofs.ldl.columns.subtract_columns.Given as goal

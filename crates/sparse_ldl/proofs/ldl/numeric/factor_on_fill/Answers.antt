@@ -2,7 +2,7 @@ use Rattle.std.proofs.Common.{◌≡◌, ℕ, ap, sym, subst, ◌∙◌}
 use Rattle.sparse_cs.specs.PlainOfLanes.{plain_of_cols}
 use Rattle.sparse_algebra.specs.declared.error.OperationErrorKind.TheVariants.{Singular}
 use Rattle.sparse_pattern.specs.TransposedPattern.{IsTransposedPattern}
-use Rattle.sparse_solve.specs.InnerColumns.{elements}
+use Rattle.sparse_kernels.specs.SparseVectors.{elements}
 use Rattle.sparse_ldl.specs.Factorisations.{IsFactorisation}
 use Rattle.sparse_ldl.specs.Factors.{HasNoFactors, symmetric_of}
 use Rattle.sparse_ldl.specs.InnerColumns.{ArePartFactors, IsFilledPattern, IsIncluded}
@@ -15,7 +15,7 @@ pub factor_lower-requires-clause-filled : goal.factor_lower-requires-clause-fill
 factor_lower-requires-clause-filled g c =
     let need = c.requires in
     subst IsFilledPattern (sym c.in_ok-l.ensures.pattern)
-    (fill_pattern c.args.a.now.pattern c.args.pattern.now need.fill
+    (fill_pattern c.args.a.now.pattern c.args.pattern need.fill
     (need.rows ∙ need.square ∙ sym need.columns))
 
 pub factor_lower-requires-clause-included : goal.factor_lower-requires-clause-included
@@ -23,7 +23,7 @@ factor_lower-requires-clause-included g c =
     let need = c.requires in
     let lower = c.in_ok-lower.ensures in
     subst (IsIncluded c.in_ok-lower.lower.pattern) (sym c.in_ok-l.ensures.pattern)
-    (lower_included c.args.a.now.pattern c.args.pattern.now c.in_ok-lower.lower.pattern need.fill
+    (lower_included c.args.a.now.pattern c.args.pattern c.in_ok-lower.lower.pattern need.fill
     (lower.rows ∙ sym need.square ∙ sym need.rows)
     (lower.columns ∙ need.square ∙ sym need.columns) lower.places)
 
@@ -43,8 +43,8 @@ returns-clause-factors g c =
     let start = c.in_ok-l.l.pattern in
     let n = start.major_dim in
     let is = c.in_ok-l.ensures.pattern in
-    let major : n ≡ c.args.pattern.now.major_dim = ap (λ p. p.major_dim) is in
-    let minor : start.minor_dim ≡ c.args.pattern.now.minor_dim = ap (λ p. p.minor_dim) is in
+    let major : n ≡ c.args.pattern.major_dim = ap (λ p. p.major_dim) is in
+    let minor : start.minor_dim ≡ c.args.pattern.minor_dim = ap (λ p. p.minor_dim) is in
     ok_both (λ r. r.0.pattern ≡ start)
     (λ r. ArePartFactors R f n n (plain_of_cols R f t).value (plain_of_cols R f r.0).value
     (elements R f z r.1.items))
@@ -66,7 +66,7 @@ returns-clause-singular g c =
     let a = c.args.a.now in
     let t = c.in_ok-lower.lower in
     let n = c.in_ok-l.l.pattern.major_dim in
-    let major : n ≡ c.args.pattern.now.major_dim =
+    let major : n ≡ c.args.pattern.major_dim =
     ap (λ p. p.major_dim) c.in_ok-l.ensures.pattern in
     err_map (λ e. e ≡ Singular → (m : ℕ → ℕ → R.Carrier) (k : ℕ → R.Carrier)
     → ArePartFactors R f n n (plain_of_cols R f t).value m k → ⊥)

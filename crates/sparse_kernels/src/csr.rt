@@ -1,0 +1,71 @@
+//! A row of a CSR matrix and a dense vector.
+
+ghost use Rattle.std.specs.Prelude.{◌≡◌, ◌<◌, length};
+ghost use Rattle.sparse_algebra.specs.Sums.{sum_below};
+ghost use Rattle.sparse_cs.specs.Compressed.{IsSound};
+ghost use Rattle.sparse_cs.specs.PlainOfLanes.{plain_of_rows};
+ghost use Rattle.sparse_kernels.specs.SparseVectors.{AddsMultiple, elements};
+
+use crate::lane::{axpy_lane, dot_lane};
+use sparse_algebra::scalar::Ring;
+use sparse_forms::csr::CsrMatrix;
+
+/// Adds `alpha` times a row of a matrix to a dense vector.
+///
+/// `row_index` must be less than `a.nrows()`, and `y` must have `a.ncols()` elements.
+///
+/// One multiplication for each place of the row. Allocates nothing.
+///
+/// # Examples
+///
+/// ```rust
+/// fn a_row_is_added(alloc: Global) -> Result<bool, Fail> {
+///     let offsets = vec![in alloc; 0, 2]?;
+///     let columns = vec![in alloc; 0, 2]?;
+///     let values = vec![in alloc; W64::new(4), W64::new(5)]?;
+///     let matrix = CsrMatrix::try_from_csr_data(1, 3, offsets, columns, values)?;
+///     let mut y = [W64::new(1), W64::new(2), W64::new(3)];
+///     axpy_csr_row(W64::new(10), &matrix, 0, &mut y);
+///     Ok(y == [W64::new(41), W64::new(2), W64::new(53)])
+/// }
+/// ```
+#[inline(always)]
+pub fn axpy_csr_row<T: Ring>(alpha: T, a: &CsrMatrix<T>, row_index: usize, y: &mut [T])
+    requires row { row_index < a.now.pattern.major_dim }
+    requires fits { length y.old ≡ a.now.pattern.minor_dim }
+    ensures added { AddsMultiple T.ring T.value T.zero_value (T.value alpha)
+        (λ j. (plain_of_rows T.ring T.value a.now).value row_index j) y.old y.new }
+    ensures sound { IsSound a.now }
+{
+    axpy_lane(alpha, a.cs(), row_index, y);
+}
+
+/// Returns the dot product of a row of a matrix and a dense vector.
+///
+/// `row_index` must be less than `a.nrows()`, and `x` must have `a.ncols()` elements.
+///
+/// One multiplication for each place of the row. Allocates nothing.
+///
+/// # Examples
+///
+/// ```rust
+/// fn a_row_is_multiplied(alloc: Global) -> Result<bool, Fail> {
+///     let offsets = vec![in alloc; 0, 2]?;
+///     let columns = vec![in alloc; 0, 2]?;
+///     let values = vec![in alloc; W64::new(4), W64::new(5)]?;
+///     let matrix = CsrMatrix::try_from_csr_data(1, 3, offsets, columns, values)?;
+///     let x = [W64::new(1), W64::new(2), W64::new(3)];
+///     Ok(dot_csr_row(&matrix, 0, &x) == W64::new(19))
+/// }
+/// ```
+#[inline(always)]
+pub fn dot_csr_row<T: Ring>(a: &CsrMatrix<T>, row_index: usize, x: &[T]) -> T
+    requires row { row_index < a.now.pattern.major_dim }
+    requires fits { length x.now ≡ a.now.pattern.minor_dim }
+    ensures product { T.value result ≡ sum_below T.ring a.now.pattern.minor_dim
+        (λ j. T.ring.mul ((plain_of_rows T.ring T.value a.now).value row_index j)
+        (elements T.ring T.value T.zero_value x.now j)) }
+    ensures sound { IsSound a.now }
+{
+    dot_lane(a.cs(), row_index, x)
+}
