@@ -18,6 +18,7 @@ use Rattle.sparse_c.specs.Factors.{IsFaultOfFactors, WritesFactors}
 use Rattle.sparse_c_views.specs.Arrays.{plain_by_cols, Room}
 use Rattle.sparse_c_views.specs.Reduced.{FirstAre}
 use Rattle.sparse_c_views.specs.Refused.{IsMemoryOr, IsRefusedFor, IsTooSmall}
+use Rattle.sparse_c_views.specs.Rests.{KeepsBehind, KeepsRest}
 use Rattle.sparse_c_views.specs.Statuses.{number_of}
 use Rattle.sparse_c_views.specs.declared.refusal.Refusal.{Refusal}
 use Rattle.sparse_c_views.specs.declared.refusal.Refusal.TheVariants.{TooSmall}
@@ -98,6 +99,20 @@ module _ (R : CommRing) {T : Type 0} (f : T → R.Carrier) (z : T) (zero_is : f 
     factors_shown S pivots written =
         let p = found answer known written in
         subst (λ n. FirstAre S n pivots) p.1.0.1 p.1.1
+
+    pub factors_rest : (old new : Room)
+        → MatchResult answer (λ s. KeepsRest s.0.pattern.major_dim old new) (λ _. ⊥)
+        → KeepsRest a.pattern.minor_dim old new
+    factors_rest old new kept =
+        let p = found answer known kept in
+        subst (λ (n : ℕ). KeepsRest n old new) (p.1.0.0.0.factors.lower.square ∙ p.1.0.0.1) p.1.1
+
+    pub pivots_rest : (old new : List ℤ)
+        → MatchResult answer (λ s. KeepsBehind (length (items s.1)) old new) (λ _. ⊥)
+        → KeepsBehind a.pattern.minor_dim old new
+    pivots_rest old new kept =
+        let p = found answer known kept in
+        subst (λ (n : ℕ). KeepsBehind n old new) p.1.0.1 p.1.1
 
     pub factors_refused : {Fault : Refusal → Type 0} (room : Room) (pivots : List ℤ)
         (status seen : ℤ) → seen ≡ status → IfErr answer (IsMemoryOr (IsFaultOfFactors R f a))

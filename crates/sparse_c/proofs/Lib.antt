@@ -1,3 +1,4 @@
+mod Accepting
 mod Factoring
 mod Listed
 mod Solving

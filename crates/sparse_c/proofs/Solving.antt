@@ -8,10 +8,11 @@ use Rattle.sparse_algebra.specs.Sums.{sum_below}
 use Rattle.sparse_base.specs.Dense.{Dense}
 use Rattle.sparse_base.specs.DensePlain.{plain_of_dense}
 use Rattle.sparse_solve.specs.Solutions.{HasSameValues, IsSolution}
-use Rattle.sparse_c.specs.Solved.{HoldsMatrix}
+use Rattle.sparse_c.specs.Solved.{HoldsMatrix, IsMatrixTooLong}
 use Rattle.sparse_c_views.specs.Arrays.{plain_by_values, HoldsDense}
 use Rattle.sparse_c_views.specs.Reduced.{FirstAre}
-use Rattle.sparse_c_views.specs.Refused.{IsDenseRefused, IsMemoryOr}
+use Rattle.sparse_c_views.specs.Refused.{IsMemoryOr, IsRefusedFor}
+use Rattle.sparse_c_views.specs.Rests.{KeepsBehind}
 use Rattle.sparse_c_views.specs.Statuses.{number_of}
 use Rattle.sparse_c_views.specs.declared.refusal.Refusal.{Refusal}
 use Rattle.sparse_c_views.specs.declared.refusal.Refusal.TheVariants.{TooSmall}
@@ -45,15 +46,28 @@ module _ {T : Type 0} (answer : Result (Dense T) Refusal) (n m : ℕ)
       let p = found answer shape written in
       subst (λ (s : ℕ × ℕ). FirstAre S (s.0 * s.1) values) (λ k. (p.1.0.0 k, p.1.0.1 k)) p.1.1
 
-  pub solution_refused : {Fault : Refusal → Type 0} (values : List ℤ) (status seen : ℤ)
-      → seen ≡ status → IfErr answer (IsMemoryOr Fault)
+  pub solution_rest : (old new : List ℤ)
+      → MatchResult answer (λ x. KeepsBehind (x.nrows * x.ncols) old new) (λ _. ⊥)
+      → KeepsBehind (n * m) old new
+  solution_rest old new kept =
+      let p = found answer shape kept in
+      subst (λ (s : ℕ × ℕ). KeepsBehind (s.0 * s.1) old new) (λ k. (p.1.0.0 k, p.1.0.1 k)) p.1.1
+
+  pub solution_refused : {Fault : Refusal → Type 0} (R : CommRing) (f : T → R.Carrier)
+      (P : Plain R → Type 0) (values : List ℤ) (status seen : ℤ) → seen ≡ status
+      → IfOk answer (λ x. P (plain_of_dense R f x)) → IfErr answer (IsMemoryOr Fault)
       → MatchResult answer
       (λ x. (status ≡ number_of TooSmall) × (length values < x.nrows * x.ncols))
       (λ e. status ≡ number_of e)
-      → IsDenseRefused Fault n m values seen
-  solution_refused values status seen same fault how = refused answer shape status seen same fault
-      (λ e given. given) (λ x p small. subst (λ (s : ℕ × ℕ). length values < s.0 * s.1)
-      (λ k. (p.0 k, p.1 k)) small) how
+      → IsRefusedFor Fault (IsMatrixTooLong R P n m values) seen
+  solution_refused R f P values status seen same is fault how = refused answer
+      (both (λ (x : Dense T). (x.nrows ≡ n) × (x.ncols ≡ m))
+      (λ (x : Dense T). P (plain_of_dense R f x)) answer shape is) status seen same fault
+      (λ e given. given) (λ x p small. (
+        plain_of_dense R f x,
+        p.1,
+        subst (λ (s : ℕ × ℕ). length values < s.0 * s.1) (λ k. (p.0.0 k, p.0.1 k)) small,
+      )) how
 
 module _ (R : CommRing) where
   same_sum : (n : ℕ) (f g : ℕ → R.Carrier) → ((k : ℕ) → k < n → f k ≡ g k)

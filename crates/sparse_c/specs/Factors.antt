@@ -2,7 +2,7 @@
 use Rattle.std.specs.Prelude.{◌≡◌, ◌≤◌, ◌<◌, ◌↔◌, ◌⊎◌, ℕ, ℤ, pos, true, List, length, map, slice_index_or, take}
 use Rattle.sparse_algebra.specs.Algebra.{CommRing}
 use Rattle.sparse_algebra.specs.Plain.{Plain, plain_transpose}
-use Rattle.sparse_cs.specs.Compressed.{Compressed}
+use Rattle.sparse_cs.specs.Compressed.{Compressed, IsSound}
 use Rattle.sparse_cs.specs.PlainOfLanes.{plain_of_rows}
 use Rattle.sparse_factor.specs.Fill.{InFill, UpperBase}
 use Rattle.sparse_ldl.specs.Factorisations.{IsFactorisation}
@@ -38,7 +38,7 @@ module _ (R : CommRing) {T : Type 0} (f : T → R.Carrier) where
   AreFactorsTooLong a room diagonal = (l : Plain R) × (d : ℕ → R.Carrier) × AreFactors a l d
       × (IsTooSmall (plain_transpose R l) room ⊎ (length diagonal < l.rows))
 
-  -- the matrix by columns has a fault, or there is no factorisation
+  -- the matrix by columns has a fault, or it has none and there is no factorisation
   abbrev pub IsFaultOfFactors : Compressed ℤ → Refusal → Type 0
   IsFaultOfFactors a refusal =
-      IsFaultOf a refusal ⊎ ((refusal ≡ Singular) × HasNoFactors R f a)
+      IsFaultOf a refusal ⊎ (IsSound a × (refusal ≡ Singular) × HasNoFactors R f a)

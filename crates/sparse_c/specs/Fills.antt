@@ -15,9 +15,12 @@ triangle_number Lower = pos 1
 triangle_number Both = pos 2
 
 -- no triangle has this number
+abbrev pub NamesNoTriangle : ℤ → Type 0
+NamesNoTriangle number = (triangle : Triangle) → number ≢ triangle_number triangle
+
+-- the choice is refused, since no triangle has this number
 abbrev pub IsNoTriangle : ℤ → Refusal → Type 0
-IsNoTriangle number refusal = (refusal ≡ UnknownChoice)
-    × ((triangle : Triangle) → number ≢ triangle_number triangle)
+IsNoTriangle number refusal = (refusal ≡ UnknownChoice) × NamesNoTriangle number
 
 -- l, read by columns, is the fill of the triangle with this number
 pub record IsFillOf (number : ℤ) (pattern l : Raw) : Type 0 where

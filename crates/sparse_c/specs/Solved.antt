@@ -8,7 +8,7 @@ use Rattle.sparse_solve.specs.Solutions.{plain_lower, IsSingular, IsSolution}
 use Rattle.sparse_c_views.specs.Arrays.{plain_by_cols, plain_by_rows, plain_by_values}
 use Rattle.sparse_c_views.specs.Arrays.{Room, HoldsRows}
 use Rattle.sparse_algebra.specs.Integers.{element_of}
-use Rattle.sparse_c_views.specs.Refused.{IsFaultOf, IsFaultOfSystem, IsTooSmall}
+use Rattle.sparse_c_views.specs.Refused.{IsFaultOf, IsFaultOfSystem, IsSystemSound, IsTooSmall}
 use Rattle.sparse_c_views.specs.declared.refusal.Refusal.{Refusal}
 use Rattle.sparse_c_views.specs.declared.refusal.Refusal.TheVariants.{Singular}
 
@@ -31,6 +31,14 @@ module _ (R : CommRing) where
   abbrev pub HoldsSolution : Plain R → Plain R → ℕ → ℕ → List ℤ → Type 0
   HoldsSolution t b = HoldsMatrix (λ x. IsSolution R t x b)
 
+  -- P holds of some matrix with n rows and m columns, for which the array has no room
+  abbrev pub IsMatrixTooLong : (Plain R → Type 0) → ℕ → ℕ → List ℤ → Type 0
+  IsMatrixTooLong P n m values = (x : Plain R) × P x × (length values < n * m)
+
+  -- some X with n rows and m columns satisfies t X = b, and the array has no room for it
+  abbrev pub IsSolutionTooLong : Plain R → Plain R → ℕ → ℕ → List ℤ → Type 0
+  IsSolutionTooLong t b = IsMatrixTooLong (λ x. IsSolution R t x b)
+
   -- q is a, times the inverse of s
   abbrev pub IsQuotientBy : R.Carrier → Plain R → Plain R → Type 0
   IsQuotientBy s q a = (y : R.Carrier) × (R.mul s y ≡ R.one) × (q ≡ plain_scaled R y a)
@@ -46,11 +54,12 @@ module _ (R : CommRing) where
       × IsQuotientBy (element_of R divisor) q (plain_by_rows R a) × IsTooSmall q room
 
 module _ (R : CommRing) {T : Type 0} (f : T → R.Carrier) where
-  -- the matrix by columns has a fault, or the right side has one, or there is a right side, and
-  -- some entry of the diagonal is not stored or has no inverse
+  -- the matrix by columns has a fault, or the right side has one, or neither has, there is a column
+  -- to solve for, and some entry of the diagonal is not stored or has no inverse
   abbrev pub IsFaultOfLower : Compressed ℤ → ℕ → ℕ → List ℤ → Refusal → Type 0
   IsFaultOfLower m size cols b refusal = IsFaultOfSystem m size cols b refusal
-      ⊎ ((refusal ≡ Singular) × (0 < cols) × IsSingular R f (plain_lower R (plain_by_cols R m)))
+      ⊎ (IsSystemSound m size cols b × (refusal ≡ Singular) × (0 < cols)
+      × IsSingular R f (plain_lower R (plain_by_cols R m)))
 
   -- the matrix has a fault, or it has none and the divisor has no inverse
   abbrev pub IsFaultOfQuotient : Compressed ℤ → ℤ → Refusal → Type 0

@@ -5,9 +5,9 @@ use Rattle.sparse_algebra.specs.Plain.{Plain, plain_product}
 use Rattle.sparse_cs.specs.Compressed.{Compressed}
 use Rattle.sparse_ldl.specs.Factorisations.{plain_symmetric, IsFactorisation}
 use Rattle.sparse_solve.specs.Solutions.{HasSameValues}
-use Rattle.sparse_c.specs.Solved.{HoldsMatrix}
+use Rattle.sparse_c.specs.Solved.{HoldsMatrix, IsMatrixTooLong}
 use Rattle.sparse_c_views.specs.Arrays.{plain_by_cols}
-use Rattle.sparse_c_views.specs.Refused.{IsFaultOfSystem}
+use Rattle.sparse_c_views.specs.Refused.{IsFaultOfSystem, IsSystemSound}
 use Rattle.sparse_c_views.specs.declared.refusal.Refusal.{Refusal}
 use Rattle.sparse_c_views.specs.declared.refusal.Refusal.TheVariants.{Singular}
 
@@ -24,13 +24,19 @@ module _ (R : CommRing) where
   abbrev pub HoldsSymmetricSolution : Compressed ℤ → Plain R → ℕ → ℕ → List ℤ → Type 0
   HoldsSymmetricSolution a b n m = HoldsMatrix R (λ x. SolvesSymmetric a x b n m) n m
 
+  -- some X with n rows and m columns satisfies A X = b, and the array has no room for it
+  abbrev pub IsSymmetricSolutionTooLong : Compressed ℤ → Plain R → ℕ → ℕ → List ℤ → Type 0
+  IsSymmetricSolutionTooLong a b n m = IsMatrixTooLong R (λ x. SolvesSymmetric a x b n m) n m
+
 module _ (R : CommRing) {T : Type 0} (f : T → R.Carrier) where
   -- no L and D are a factorisation L D Lᵀ of the symmetric matrix
   abbrev pub HasNoFactors : Compressed ℤ → Type 0
   HasNoFactors a = (l : Plain R) (d : ℕ → R.Carrier)
       → IsFactorisation R f (symmetric_by_cols R a) l d → ⊥
 
-  -- the matrix by columns has a fault, or the right side has one, or there is no factorisation
+  -- the matrix by columns has a fault, or the right side has one, or neither has, and there is no
+  -- factorisation
   abbrev pub IsFaultOfSymmetric : Compressed ℤ → ℕ → ℕ → List ℤ → Refusal → Type 0
   IsFaultOfSymmetric a size cols b refusal =
-      IsFaultOfSystem a size cols b refusal ⊎ ((refusal ≡ Singular) × HasNoFactors a)
+      IsFaultOfSystem a size cols b refusal
+      ⊎ (IsSystemSound a size cols b × (refusal ≡ Singular) × HasNoFactors a)

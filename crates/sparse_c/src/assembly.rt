@@ -1,12 +1,15 @@
 //! Assembly of matrices from triplets.
 
-ghost use Rattle.std.specs.Prelude.{◌≡◌, ◌≢◌, pos, IfOk, IfErr};
+ghost use Rattle.std.specs.Prelude.{◌≡◌, ◌≢◌, pos, IfOk, IfErr, OnOk};
 ghost use Rattle.sparse_algebra.specs.Plain.{plain_transpose};
+ghost use Rattle.sparse_base.specs.Coo.{AreParts};
 ghost use Rattle.sparse_cs.specs.PlainOfLanes.{plain_of_rows};
 ghost use Rattle.sparse_algebra.specs.WrappingValues.{w64_value};
 ghost use Rattle.sparse_c.specs.Orders.{in_order};
 ghost use Rattle.sparse_c_views.specs.Arrays.{plain_of_lists, ring64, room_of, HoldsRows, HoldsCols};
 ghost use Rattle.sparse_c_views.specs.Refused.{IsFaultOfList, IsMemoryOr, IsRefused};
+ghost use Rattle.sparse_c_views.specs.Rests.{KeepsRest};
+ghost use Rattle.sparse_c_views.specs.Statuses.{FindsNoFault};
 
 use sparse_algebra::scalar::W64;
 use sparse_c_views::refusal::Refusal;
@@ -33,6 +36,11 @@ pub extern "C" fn nalgebra_sparse_assemble_csr(
     ensures written { result ≡ pos 0 → HoldsRows
         (plain_of_lists ring64 rows cols row_indices.now col_indices.now values.now)
         (room_of out_offsets.new out_indices.new out_values.new out_places.new) }
+    ensures rest { result ≡ pos 0 → KeepsRest rows
+        (room_of out_offsets.old out_indices.old out_values.old out_places.old)
+        (room_of out_offsets.new out_indices.new out_values.new out_places.new) }
+    ensures sound { FindsNoFault result
+        → AreParts rows cols row_indices.now col_indices.now values.now }
     ensures untouched { result ≢ pos 0
         → room_of out_offsets.new out_indices.new out_values.new out_places.new
         ≡ room_of out_offsets.old out_indices.old out_values.old out_places.old }
@@ -63,6 +71,11 @@ pub extern "C" fn nalgebra_sparse_assemble_csc(
     ensures written { result ≡ pos 0 → HoldsCols
         (plain_of_lists ring64 rows cols row_indices.now col_indices.now values.now)
         (room_of out_offsets.new out_indices.new out_values.new out_places.new) }
+    ensures rest { result ≡ pos 0 → KeepsRest cols
+        (room_of out_offsets.old out_indices.old out_values.old out_places.old)
+        (room_of out_offsets.new out_indices.new out_values.new out_places.new) }
+    ensures sound { FindsNoFault result
+        → AreParts rows cols row_indices.now col_indices.now values.now }
     ensures untouched { result ≢ pos 0
         → room_of out_offsets.new out_indices.new out_values.new out_places.new
         ≡ room_of out_offsets.old out_indices.old out_values.old out_places.old }
@@ -102,6 +115,8 @@ fn assembled(
 ) -> Result<CsrMatrix<W64>, Refusal>
     ensures plain { IfOk result (λ m. plain_of_rows ring64 w64_value m ≡ in_order order
         (plain_of_lists ring64 shape.0 shape.1 row_indices.now col_indices.now values.now)) }
+    ensures sound { OnOk result
+        (AreParts shape.0 shape.1 row_indices.now col_indices.now values.now) }
     ensures fault { IfErr result (IsMemoryOr
         (IsFaultOfList shape.0 shape.1 row_indices.now col_indices.now values.now)) }
 {

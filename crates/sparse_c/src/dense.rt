@@ -1,12 +1,15 @@
 //! Products with a dense matrix.
 
-ghost use Rattle.std.specs.Prelude.{◌≡◌, ◌≢◌, pos, IfOk, IfErr};
+ghost use Rattle.std.specs.Prelude.{◌≡◌, ◌≢◌, ◌*◌, pos, IfOk, IfErr, OnOk};
 ghost use Rattle.sparse_algebra.specs.Plain.{plain_product};
 ghost use Rattle.sparse_algebra.specs.WrappingValues.{w64_value};
 ghost use Rattle.sparse_base.specs.DensePlain.{plain_full, plain_of_dense};
 ghost use Rattle.sparse_cs.specs.Compressed.{arrays_of};
 ghost use Rattle.sparse_c_views.specs.Arrays.{plain_by_rows, plain_by_values, ring64, HoldsDense};
 ghost use Rattle.sparse_c_views.specs.Refused.{IsDenseRefused, IsFaultOfSystem, IsMemoryOr};
+ghost use Rattle.sparse_c_views.specs.Refused.{IsSystemSound};
+ghost use Rattle.sparse_c_views.specs.Rests.{KeepsBehind};
+ghost use Rattle.sparse_c_views.specs.Statuses.{FindsNoFault};
 
 use crate::arguments::lanes;
 use sparse_algebra::scalar::W64;
@@ -36,6 +39,9 @@ pub extern "C" fn nalgebra_sparse_multiply_dense(
         result ≡ pos 0 → HoldsDense (plain_full ring64 (plain_product ring64
         (plain_by_rows ring64 a) (plain_by_values ring64 inner cols b_values.now)))
         out_values.new }
+    ensures rest { result ≡ pos 0 → KeepsBehind (rows * cols) out_values.old out_values.new }
+    ensures sound { let a = arrays_of rows inner a_offsets.now a_indices.now a_values.now in
+        FindsNoFault result → IsSystemSound a inner cols b_values.now }
     ensures untouched { result ≢ pos 0 → out_values.new ≡ out_values.old }
     ensures refused { let a = arrays_of rows inner a_offsets.now a_indices.now a_values.now in
         result ≢ pos 0 → IsDenseRefused (IsFaultOfSystem a inner cols b_values.now)
@@ -58,6 +64,7 @@ fn dense_product(
     ensures plain { IfOk result (λ d. plain_of_dense ring64 w64_value d ≡ plain_full ring64
         (plain_product ring64 (plain_by_rows ring64 a.entry)
         (plain_by_values ring64 inner cols b.now))) }
+    ensures sound { OnOk result (IsSystemSound a.entry inner cols b.now) }
     ensures fault { IfErr result (IsMemoryOr
         (IsFaultOfSystem a.entry inner cols b.now)) }
 {

@@ -1,12 +1,12 @@
 //! Division by an integer.
 
-ghost use Rattle.std.specs.Prelude.{◌≡◌, ◌≢◌, ◌≤◌, pos, IfOk, IfErr};
+ghost use Rattle.std.specs.Prelude.{◌≡◌, ◌≢◌, ◌≤◌, pos, IfOk, IfErr, OnOk};
 ghost use Rattle.std.specs.Int.{w64};
 ghost use Rattle.std.specs.Int.RustNames.{FitsSigned};
 ghost use Rattle.sparse_algebra.specs.ModNumbers.{mod_value};
 ghost use Rattle.sparse_algebra.specs.Moduli.{mod_ring};
 ghost use Rattle.sparse_algebra.specs.WrappingValues.{w64_value};
-ghost use Rattle.sparse_cs.specs.Compressed.{arrays_of};
+ghost use Rattle.sparse_cs.specs.Compressed.{arrays_of, IsSound};
 ghost use Rattle.sparse_cs.specs.PlainOfLanes.{plain_of_rows};
 ghost use Rattle.sparse_c.specs.Moduli.{moduli, IsFaultModulo, IsNoneOf};
 ghost use Rattle.sparse_c.specs.Solved.{IsFaultOfQuotient, IsQuotientBy, IsQuotientTooSmall};
@@ -15,7 +15,8 @@ ghost use Rattle.sparse_c_views.specs.Arrays.{plain_by_rows, ring64, room_of};
 ghost use Rattle.sparse_algebra.specs.Integers.{element_of};
 ghost use Rattle.sparse_c_views.specs.Reduced.{AreReduced};
 ghost use Rattle.sparse_c_views.specs.Refused.{IsMemoryOr, IsRefusedFor};
-ghost use Rattle.sparse_c_views.specs.Statuses.{number_of};
+ghost use Rattle.sparse_c_views.specs.Rests.{KeepsRest};
+ghost use Rattle.sparse_c_views.specs.Statuses.{number_of, FindsNoFault};
 ghost use Rattle.sparse_c_views.specs.declared.refusal.Refusal.TheVariants.{UnknownChoice};
 
 use crate::arguments::lanes;
@@ -48,6 +49,11 @@ pub extern "C" fn nalgebra_sparse_divide(
     ensures written { let a = arrays_of rows cols offsets.now indices.now values.now in
         result ≡ pos 0 → WritesQuotient ring64 a divisor
         (room_of out_offsets.new out_indices.new out_values.new out_places.new) }
+    ensures rest { result ≡ pos 0 → KeepsRest rows
+        (room_of out_offsets.old out_indices.old out_values.old out_places.old)
+        (room_of out_offsets.new out_indices.new out_values.new out_places.new) }
+    ensures sound { FindsNoFault result
+        → IsSound (arrays_of rows cols offsets.now indices.now values.now) }
     ensures untouched { result ≢ pos 0
         → room_of out_offsets.new out_indices.new out_values.new out_places.new
         ≡ room_of out_offsets.old out_indices.old out_values.old out_places.old }
@@ -82,6 +88,11 @@ pub extern "C" fn nalgebra_sparse_divide_mod(
         (room_of out_offsets.new out_indices.new out_values.new out_places.new) }
     ensures reduced { result ≡ pos 0 → AreReduced modulus out_places.new out_values.new }
     ensures unlisted { IsNoneOf moduli modulus → result ≡ number_of UnknownChoice }
+    ensures rest { result ≡ pos 0 → KeepsRest rows
+        (room_of out_offsets.old out_indices.old out_values.old out_places.old)
+        (room_of out_offsets.new out_indices.new out_values.new out_places.new) }
+    ensures sound { FindsNoFault result
+        → IsSound (arrays_of rows cols offsets.now indices.now values.now) }
     ensures untouched { result ≢ pos 0
         → room_of out_offsets.new out_indices.new out_values.new out_places.new
         ≡ room_of out_offsets.old out_indices.old out_values.old out_places.old }
@@ -130,6 +141,10 @@ fn write_by_modulus(
     ensures reduced { result ≡ pos 0
         → AreReduced quotient.entry.modulus out_places.new out_values.new }
     ensures unlisted { IsNoneOf moduli quotient.entry.modulus → result ≡ number_of UnknownChoice }
+    ensures rest { result ≡ pos 0 → KeepsRest quotient.entry.a.pattern.major_dim
+        (room_of out_offsets.old out_indices.old out_values.old out_places.old)
+        (room_of out_offsets.new out_indices.new out_values.new out_places.new) }
+    ensures sound { FindsNoFault result → IsSound quotient.entry.a }
     ensures untouched { result ≢ pos 0
         → room_of out_offsets.new out_indices.new out_values.new out_places.new
         ≡ room_of out_offsets.old out_indices.old out_values.old out_places.old }
@@ -168,6 +183,10 @@ fn write_modulo<const M: u64>(
         (room_of out_offsets.new out_indices.new out_values.new out_places.new) }
     ensures reduced { result ≡ pos 0
         → AreReduced quotient.entry.modulus out_places.new out_values.new }
+    ensures rest { result ≡ pos 0 → KeepsRest quotient.entry.a.pattern.major_dim
+        (room_of out_offsets.old out_indices.old out_values.old out_places.old)
+        (room_of out_offsets.new out_indices.new out_values.new out_places.new) }
+    ensures sound { FindsNoFault result → IsSound quotient.entry.a }
     ensures untouched { result ≢ pos 0
         → room_of out_offsets.new out_indices.new out_values.new out_places.new
         ≡ room_of out_offsets.old out_indices.old out_values.old out_places.old }
@@ -190,6 +209,7 @@ fn quotient_of<T: Number>(
 ) -> Result<CsrMatrix<T>, Refusal>
     ensures quotient { IfOk result (λ m. IsQuotientBy T.ring (element_of T.ring divisor)
         (plain_of_rows T.ring T.value m) (plain_by_rows T.ring a.entry)) }
+    ensures sound { OnOk result (IsSound a.entry) }
     ensures fault { IfErr result (IsMemoryOr
         (IsFaultOfQuotient T.ring T.value a.entry divisor)) }
 {

@@ -1,10 +1,10 @@
 //! The exact factors L D Lᵀ of symmetric matrices.
 
-ghost use Rattle.std.specs.Prelude.{◌≡◌, ◌≢◌, ◌≤◌, ◌⊎◌, ◌<◌, pos, length, IfOk, IfErr, MatchResult};
+ghost use Rattle.std.specs.Prelude.{◌≡◌, ◌≢◌, ◌≤◌, ◌⊎◌, ◌<◌, pos, length, IfOk, IfErr, MatchResult, OnOk};
 ghost use Rattle.sparse_algebra.specs.ModNumbers.{mod_value};
 ghost use Rattle.sparse_algebra.specs.Moduli.{mod_ring};
 ghost use Rattle.sparse_algebra.specs.WrappingValues.{w64_value};
-ghost use Rattle.sparse_cs.specs.Compressed.{arrays_of};
+ghost use Rattle.sparse_cs.specs.Compressed.{arrays_of, IsSound};
 ghost use Rattle.sparse_cs.specs.PlainOfLanes.{plain_of_cols, plain_of_rows};
 ghost use Rattle.sparse_ldl.specs.Factors.{diagonal};
 ghost use Rattle.sparse_c.specs.Factors.{AreFactors, AreFactorsTooLong, IsFaultOfFactors};
@@ -14,7 +14,8 @@ ghost use Rattle.sparse_c.specs.Rooms.{room_after, room_before};
 ghost use Rattle.sparse_c_views.specs.Arrays.{ring64, room_of};
 ghost use Rattle.sparse_c_views.specs.Reduced.{AreReduced, FirstAre};
 ghost use Rattle.sparse_c_views.specs.Refused.{IsMemoryOr, IsRefusedFor, IsTooSmall};
-ghost use Rattle.sparse_c_views.specs.Statuses.{number_of};
+ghost use Rattle.sparse_c_views.specs.Rests.{KeepsBehind, KeepsRest};
+ghost use Rattle.sparse_c_views.specs.Statuses.{number_of, FindsNoFault};
 ghost use Rattle.sparse_c_views.specs.declared.refusal.Refusal.TheVariants.{TooSmall, UnknownChoice};
 
 use crate::arguments::{Room, lanes, room};
@@ -50,6 +51,12 @@ pub extern "C" fn nalgebra_sparse_factor_symmetric(
     ensures written { let a = arrays_of size size offsets.now indices.now values.now in
         result ≡ pos 0 → WritesFactors ring64 w64_value a
         (room_of out_offsets.new out_indices.new out_values.new out_places.new) out_diagonal.new }
+    ensures rest { result ≡ pos 0 → KeepsRest size
+        (room_of out_offsets.old out_indices.old out_values.old out_places.old)
+        (room_of out_offsets.new out_indices.new out_values.new out_places.new) }
+    ensures rest_diagonal { result ≡ pos 0 → KeepsBehind size out_diagonal.old out_diagonal.new }
+    ensures sound { FindsNoFault result
+        → IsSound (arrays_of size size offsets.now indices.now values.now) }
     ensures untouched { result ≢ pos 0
         → room_of out_offsets.new out_indices.new out_values.new out_places.new
         ≡ room_of out_offsets.old out_indices.old out_values.old out_places.old }
@@ -93,6 +100,12 @@ pub extern "C" fn nalgebra_sparse_factor_symmetric_mod(
     ensures reduced { result ≡ pos 0 → AreReduced modulus out_places.new out_values.new }
     ensures reduced_diagonal { result ≡ pos 0 → AreReduced modulus size out_diagonal.new }
     ensures unlisted { IsNoneOf moduli modulus → result ≡ number_of UnknownChoice }
+    ensures rest { result ≡ pos 0 → KeepsRest size
+        (room_of out_offsets.old out_indices.old out_values.old out_places.old)
+        (room_of out_offsets.new out_indices.new out_values.new out_places.new) }
+    ensures rest_diagonal { result ≡ pos 0 → KeepsBehind size out_diagonal.old out_diagonal.new }
+    ensures sound { FindsNoFault result
+        → IsSound (arrays_of size size offsets.now indices.now values.now) }
     ensures untouched { result ≢ pos 0
         → room_of out_offsets.new out_indices.new out_values.new out_places.new
         ≡ room_of out_offsets.old out_indices.old out_values.old out_places.old }
@@ -129,6 +142,11 @@ fn factor_symmetric_mod<const M: u64>(
         result ≡ pos 0 → AreReduced modulus after.places after.values }
     ensures reduced_diagonal { result ≡ pos 0
         → AreReduced modulus a.entry.pattern.minor_dim pivots.new }
+    ensures rest { result ≡ pos 0 → KeepsRest a.entry.pattern.minor_dim (room_before room.entry)
+        (room_after room.exit) }
+    ensures rest_diagonal { result ≡ pos 0
+        → KeepsBehind a.entry.pattern.minor_dim pivots.old pivots.new }
+    ensures sound { FindsNoFault result → IsSound a.entry }
     ensures untouched { result ≢ pos 0 → room_after room.exit ≡ room_before room.entry }
     ensures untouched_diagonal { result ≢ pos 0 → pivots.new ≡ pivots.old }
     ensures refused { result ≢ pos 0 → IsRefusedFor (IsFaultModulo modulus
@@ -154,6 +172,7 @@ fn factors_of<T: Number>(alloc: Global, a: Lanes<'_>) -> Result<(CsrMatrix<T>, V
         (diagonal T.ring T.value T.zero_value s.1.items)) }
     ensures rows { IfOk result (λ s. s.0.pattern.minor_dim ≡ a.entry.pattern.minor_dim) }
     ensures count { IfOk result (λ s. length s.1.items ≡ a.entry.pattern.minor_dim) }
+    ensures sound { OnOk result (IsSound a.entry) }
     ensures fault { IfErr result (IsMemoryOr (IsFaultOfFactors T.ring T.value a.entry)) }
 {
     let a = a.columns::<T>(alloc)?;
@@ -180,6 +199,11 @@ fn finish_factors<T: Number>(
     ensures shown { result ≡ pos 0 → FirstAre T.is_shown places.new values.new }
     ensures shown_pivots { result ≡ pos 0 → MatchResult answer
         (λ s. FirstAre T.is_shown (length s.1.items) pivots.new) (λ _. ⊥) }
+    ensures rest { result ≡ pos 0 → MatchResult answer (λ s. KeepsRest s.0.pattern.major_dim
+        (room_of offsets.old indices.old values.old places.old)
+        (room_of offsets.new indices.new values.new places.new)) (λ _. ⊥) }
+    ensures rest_pivots { result ≡ pos 0 → MatchResult answer
+        (λ s. KeepsBehind (length s.1.items) pivots.old pivots.new) (λ _. ⊥) }
     ensures untouched { result ≢ pos 0 → room_of offsets.new indices.new values.new places.new
         ≡ room_of offsets.old indices.old values.old places.old }
     ensures untouched_pivots { result ≢ pos 0 → pivots.new ≡ pivots.old }

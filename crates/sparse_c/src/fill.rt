@@ -1,11 +1,14 @@
 //! Fill: the places of the factor of a symmetric matrix.
 
-ghost use Rattle.std.specs.Prelude.{◌≡◌, ◌≢◌, pos, IfOk, IfErr};
-ghost use Rattle.sparse_pattern.specs.Raw.{raw_of};
+ghost use Rattle.std.specs.Prelude.{◌≡◌, ◌≢◌, pos, Err, IfOk, IfErr, OnOk};
+ghost use Rattle.sparse_pattern.specs.Raw.{raw_of, IsValid};
 ghost use Rattle.sparse_c.specs.Fills.{triangle_number, CountsFill, IsFaultOfFill, IsFillOf};
-ghost use Rattle.sparse_c.specs.Fills.{IsFillTooSmall, IsNoTriangle, WritesFill};
+ghost use Rattle.sparse_c.specs.Fills.{IsFillTooSmall, IsNoTriangle, NamesNoTriangle, WritesFill};
 ghost use Rattle.sparse_c_views.specs.Arrays.{pattern_room_of};
 ghost use Rattle.sparse_c_views.specs.Refused.{IsMemoryOr, IsRefusedFor};
+ghost use Rattle.sparse_c_views.specs.Rests.{KeepsPatternRest};
+ghost use Rattle.sparse_c_views.specs.Statuses.{number_of, FindsNoFault};
+ghost use Rattle.sparse_c_views.specs.declared.refusal.Refusal.TheVariants.{UnknownChoice};
 
 use sparse_c_views::lanes::pattern_of;
 use sparse_c_views::patterns::finish_pattern;
@@ -27,6 +30,8 @@ pub extern "C" fn nalgebra_sparse_fill_places(
 ) -> i32
     ensures counted { let pattern = raw_of size size offsets.now indices.now in
         result ≡ pos 0 → CountsFill triangle pattern out_places.new }
+    ensures sound { FindsNoFault result → IsValid (raw_of size size offsets.now indices.now) }
+    ensures unknown { NamesNoTriangle triangle → result ≡ number_of UnknownChoice }
     ensures untouched { result ≢ pos 0 → out_places.new ≡ out_places.old }
     ensures refused { let pattern = raw_of size size offsets.now indices.now in
         result ≢ pos 0 → IsRefusedFor (IsFaultOfFill triangle pattern) ⊥ result }
@@ -55,6 +60,11 @@ pub extern "C" fn nalgebra_sparse_fill(
     ensures written { let pattern = raw_of size size offsets.now indices.now in
         result ≡ pos 0 → WritesFill triangle pattern
         (pattern_room_of out_offsets.new out_indices.new out_places.new) }
+    ensures rest { result ≡ pos 0 → KeepsPatternRest size
+        (pattern_room_of out_offsets.old out_indices.old out_places.old)
+        (pattern_room_of out_offsets.new out_indices.new out_places.new) }
+    ensures sound { FindsNoFault result → IsValid (raw_of size size offsets.now indices.now) }
+    ensures unknown { NamesNoTriangle triangle → result ≡ number_of UnknownChoice }
     ensures untouched { result ≢ pos 0
         → pattern_room_of out_offsets.new out_indices.new out_places.new
         ≡ pattern_room_of out_offsets.old out_indices.old out_places.old }
@@ -76,6 +86,8 @@ fn fill_of(
     indices: &[usize],
 ) -> Result<SparsityPattern, Refusal>
     ensures fill { IfOk result (IsFillOf triangle (raw_of size size offsets.now indices.now)) }
+    ensures sound { OnOk result (IsValid (raw_of size size offsets.now indices.now)) }
+    ensures unknown { NamesNoTriangle triangle → result ≡ Err UnknownChoice }
     ensures fault { IfErr result (IsMemoryOr
         (IsFaultOfFill triangle (raw_of size size offsets.now indices.now))) }
 {

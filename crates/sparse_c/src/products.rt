@@ -1,12 +1,14 @@
 //! Products.
 
 ghost use Rattle.std.specs.Prelude.{◌≡◌, ◌≢◌, pos};
-ghost use Rattle.sparse_cs.specs.Compressed.{arrays_of};
+ghost use Rattle.sparse_cs.specs.Compressed.{arrays_of, IsSound};
 ghost use Rattle.sparse_algebra.specs.Plain.{plain_product};
-ghost use Rattle.sparse_pattern.specs.Raw.{raw_of};
+ghost use Rattle.sparse_pattern.specs.Raw.{raw_of, IsValid};
 ghost use Rattle.sparse_c.specs.Patterns.{CountsProduct, IsPatternPairRefused};
 ghost use Rattle.sparse_c_views.specs.Arrays.{plain_by_rows, ring64, room_of, HoldsRows};
 ghost use Rattle.sparse_c_views.specs.Refused.{IsFaultOfPair, IsRefused};
+ghost use Rattle.sparse_c_views.specs.Rests.{KeepsRest};
+ghost use Rattle.sparse_c_views.specs.Statuses.{FindsNoFault};
 
 use crate::arguments::{lanes, room};
 use crate::combining::{Combination, write_combination};
@@ -30,6 +32,8 @@ pub extern "C" fn nalgebra_sparse_multiply_places(
 ) -> i32
     ensures counted { result ≡ pos 0 → CountsProduct (raw_of rows inner a_offsets.now a_indices.now)
         (raw_of inner cols b_offsets.now b_indices.now) out_places.new }
+    ensures sound { FindsNoFault result → IsValid (raw_of rows inner a_offsets.now a_indices.now)
+        × IsValid (raw_of inner cols b_offsets.now b_indices.now) }
     ensures untouched { result ≢ pos 0 → out_places.new ≡ out_places.old }
     ensures refused { result ≢ pos 0 → IsPatternPairRefused
         (raw_of rows inner a_offsets.now a_indices.now)
@@ -75,6 +79,12 @@ pub extern "C" fn nalgebra_sparse_multiply(
         let b = arrays_of inner cols b_offsets.now b_indices.now b_values.now in
         result ≡ pos 0 → HoldsRows (plain_product ring64 (plain_by_rows ring64 a) (plain_by_rows ring64 b))
         (room_of out_offsets.new out_indices.new out_values.new out_places.new) }
+    ensures rest { result ≡ pos 0 → KeepsRest rows
+        (room_of out_offsets.old out_indices.old out_values.old out_places.old)
+        (room_of out_offsets.new out_indices.new out_values.new out_places.new) }
+    ensures sound { FindsNoFault result
+        → IsSound (arrays_of rows inner a_offsets.now a_indices.now a_values.now)
+        × IsSound (arrays_of inner cols b_offsets.now b_indices.now b_values.now) }
     ensures untouched { result ≢ pos 0
         → room_of out_offsets.new out_indices.new out_values.new out_places.new
         ≡ room_of out_offsets.old out_indices.old out_values.old out_places.old }

@@ -7,6 +7,7 @@ ghost use Rattle.sparse_c.specs.Texts.{IsErrorOfText, IsFaultOfText, IsTextOf, I
 ghost use Rattle.sparse_c.specs.Texts.{SizesText, WritesTriplets};
 ghost use Rattle.sparse_c_views.specs.Lists.{list_room_of};
 ghost use Rattle.sparse_c_views.specs.Refused.{IsMemoryOr, IsRefusedFor};
+ghost use Rattle.sparse_c_views.specs.Rests.{KeepsListRest};
 
 use sparse_algebra::scalar::W64;
 use sparse_base::coo::CooMatrix;
@@ -53,6 +54,9 @@ pub extern "C" fn nalgebra_sparse_read(
     out_triplets: &mut usize,
 ) -> i32
     ensures written { result ≡ pos 0 → WritesTriplets text.now (list_room_of
+        out_row_indices.new out_col_indices.new out_values.new out_triplets.new) }
+    ensures rest { result ≡ pos 0 → KeepsListRest (list_room_of
+        out_row_indices.old out_col_indices.old out_values.old out_triplets.old) (list_room_of
         out_row_indices.new out_col_indices.new out_values.new out_triplets.new) }
     ensures untouched { result ≢ pos 0
         → list_room_of out_row_indices.new out_col_indices.new out_values.new out_triplets.new

@@ -1,10 +1,12 @@
 //! Sums and differences.
 
 ghost use Rattle.std.specs.Prelude.{◌≡◌, ◌≢◌, pos};
-ghost use Rattle.sparse_cs.specs.Compressed.{arrays_of};
+ghost use Rattle.sparse_cs.specs.Compressed.{arrays_of, IsSound};
 ghost use Rattle.sparse_algebra.specs.Plain.{plain_sum, plain_difference};
 ghost use Rattle.sparse_c_views.specs.Arrays.{plain_by_rows, ring64, room_of, HoldsRows};
 ghost use Rattle.sparse_c_views.specs.Refused.{IsFaultOfPair, IsRefused};
+ghost use Rattle.sparse_c_views.specs.Rests.{KeepsRest};
+ghost use Rattle.sparse_c_views.specs.Statuses.{FindsNoFault};
 
 use crate::arguments::{lanes, room};
 use crate::combining::{Combination, write_combination};
@@ -31,6 +33,12 @@ pub extern "C" fn nalgebra_sparse_add(
         let b = arrays_of rows cols b_offsets.now b_indices.now b_values.now in
         result ≡ pos 0 → HoldsRows (plain_sum ring64 (plain_by_rows ring64 a)
         (plain_by_rows ring64 b)) (room_of out_offsets.new out_indices.new out_values.new out_places.new) }
+    ensures rest { result ≡ pos 0 → KeepsRest rows
+        (room_of out_offsets.old out_indices.old out_values.old out_places.old)
+        (room_of out_offsets.new out_indices.new out_values.new out_places.new) }
+    ensures sound { FindsNoFault result
+        → IsSound (arrays_of rows cols a_offsets.now a_indices.now a_values.now)
+        × IsSound (arrays_of rows cols b_offsets.now b_indices.now b_values.now) }
     ensures untouched { result ≢ pos 0
         → room_of out_offsets.new out_indices.new out_values.new out_places.new
         ≡ room_of out_offsets.old out_indices.old out_values.old out_places.old }
@@ -67,6 +75,12 @@ pub extern "C" fn nalgebra_sparse_subtract(
         let b = arrays_of rows cols b_offsets.now b_indices.now b_values.now in
         result ≡ pos 0 → HoldsRows (plain_difference ring64 (plain_by_rows ring64 a) (plain_by_rows ring64 b))
         (room_of out_offsets.new out_indices.new out_values.new out_places.new) }
+    ensures rest { result ≡ pos 0 → KeepsRest rows
+        (room_of out_offsets.old out_indices.old out_values.old out_places.old)
+        (room_of out_offsets.new out_indices.new out_values.new out_places.new) }
+    ensures sound { FindsNoFault result
+        → IsSound (arrays_of rows cols a_offsets.now a_indices.now a_values.now)
+        × IsSound (arrays_of rows cols b_offsets.now b_indices.now b_values.now) }
     ensures untouched { result ≢ pos 0
         → room_of out_offsets.new out_indices.new out_values.new out_places.new
         ≡ room_of out_offsets.old out_indices.old out_values.old out_places.old }

@@ -7,10 +7,12 @@ ghost use Rattle.sparse_algebra.specs.WrappingValues.{w64_value};
 ghost use Rattle.sparse_cs.specs.Compressed.{arrays_of};
 ghost use Rattle.sparse_c.specs.Moduli.{moduli, IsFaultModulo, IsNoneOf};
 ghost use Rattle.sparse_c.specs.Symmetric.{HoldsSymmetricSolution, IsFaultOfSymmetric};
+ghost use Rattle.sparse_c.specs.Symmetric.{IsSymmetricSolutionTooLong};
 ghost use Rattle.sparse_c_views.specs.Arrays.{plain_by_values, ring64};
 ghost use Rattle.sparse_c_views.specs.Reduced.{AreReduced};
-ghost use Rattle.sparse_c_views.specs.Refused.{IsDenseRefused};
-ghost use Rattle.sparse_c_views.specs.Statuses.{number_of};
+ghost use Rattle.sparse_c_views.specs.Refused.{IsRefusedFor, IsSystemSound};
+ghost use Rattle.sparse_c_views.specs.Rests.{KeepsBehind};
+ghost use Rattle.sparse_c_views.specs.Statuses.{number_of, FindsNoFault};
 ghost use Rattle.sparse_c_views.specs.declared.refusal.Refusal.TheVariants.{UnknownChoice};
 
 use crate::arguments::lanes;
@@ -37,10 +39,14 @@ pub extern "C" fn nalgebra_sparse_solve_symmetric(
     ensures written { let a = arrays_of size size offsets.now indices.now values.now in
         result ≡ pos 0 → HoldsSymmetricSolution ring64 a
         (plain_by_values ring64 size cols b_values.now) size cols out_values.new }
+    ensures rest { result ≡ pos 0 → KeepsBehind (size * cols) out_values.old out_values.new }
+    ensures sound { let a = arrays_of size size offsets.now indices.now values.now in
+        FindsNoFault result → IsSystemSound a size cols b_values.now }
     ensures untouched { result ≢ pos 0 → out_values.new ≡ out_values.old }
     ensures refused { let a = arrays_of size size offsets.now indices.now values.now in
-        result ≢ pos 0 → IsDenseRefused (IsFaultOfSymmetric ring64 w64_value a size cols
-        b_values.now) size cols out_values.old result }
+        result ≢ pos 0 → IsRefusedFor (IsFaultOfSymmetric ring64 w64_value a size cols
+        b_values.now) (IsSymmetricSolutionTooLong ring64 a
+        (plain_by_values ring64 size cols b_values.now) size cols out_values.old) result }
 {
     let system = System {
         equation: Equation::Symmetric,
@@ -71,11 +77,16 @@ pub extern "C" fn nalgebra_sparse_solve_symmetric_mod(
         (plain_by_values ring size cols b_values.now) size cols out_values.new }
     ensures reduced { result ≡ pos 0 → AreReduced modulus (size * cols) out_values.new }
     ensures unlisted { IsNoneOf moduli modulus → result ≡ number_of UnknownChoice }
+    ensures rest { result ≡ pos 0 → KeepsBehind (size * cols) out_values.old out_values.new }
+    ensures sound { let a = arrays_of size size offsets.now indices.now values.now in
+        FindsNoFault result → IsSystemSound a size cols b_values.now }
     ensures untouched { result ≢ pos 0 → out_values.new ≡ out_values.old }
     ensures refused { let a = arrays_of size size offsets.now indices.now values.now in
-        result ≢ pos 0 → IsDenseRefused (IsFaultModulo modulus (IsFaultOfSymmetric
-        (mod_ring modulus) (mod_value {m = modulus}) a size cols b_values.now))
-        size cols out_values.old result }
+        let ring = mod_ring modulus in
+        result ≢ pos 0 → IsRefusedFor (IsFaultModulo modulus
+        (IsFaultOfSymmetric ring (mod_value {m = modulus}) a size cols b_values.now))
+        (IsSymmetricSolutionTooLong ring a (plain_by_values ring size cols b_values.now)
+        size cols out_values.old) result }
 {
     let system = System {
         equation: Equation::Symmetric,

@@ -9,11 +9,14 @@ ghost use Rattle.sparse_cs.specs.PlainOfLanes.{plain_of_cols};
 ghost use Rattle.sparse_solve.specs.Solutions.{plain_lower, IsSingular, IsSolution};
 ghost use Rattle.sparse_c.specs.Moduli.{IsFaultModulo};
 ghost use Rattle.sparse_c.specs.Solved.{lower_of, transposed_if, HoldsMatrix, IsFaultOfLower};
+ghost use Rattle.sparse_c.specs.Solved.{IsMatrixTooLong};
 ghost use Rattle.sparse_c.specs.Symmetric.{IsFaultOfSymmetric, SolvesSymmetric};
 ghost use Rattle.sparse_c.specs.Systems.{IsFaultOfEquation, Solves};
 ghost use Rattle.sparse_c_views.specs.Arrays.{plain_by_values};
 ghost use Rattle.sparse_c_views.specs.Reduced.{AreReduced, FirstAre};
-ghost use Rattle.sparse_c_views.specs.Refused.{IsDenseRefused, IsMemoryOr};
+ghost use Rattle.sparse_c_views.specs.Refused.{IsMemoryOr, IsRefusedFor, IsSystemSound};
+ghost use Rattle.sparse_c_views.specs.Rests.{KeepsBehind};
+ghost use Rattle.sparse_c_views.specs.Statuses.{FindsNoFault};
 
 use sparse_algebra::error::OperationError;
 use sparse_algebra::operand::Op;
@@ -65,11 +68,17 @@ pub(crate) fn write_solution_mod<const M: u64>(
         (plain_by_values ring s.size s.cols s.b.now) s.size s.cols) s.size s.cols out.new }
     ensures reduced { let s = system.entry in
         result ≡ pos 0 → AreReduced modulus (s.size * s.cols) out.new }
+    ensures rest { let s = system.entry in
+        result ≡ pos 0 → KeepsBehind (s.size * s.cols) out.old out.new }
+    ensures sound { let s = system.entry in
+        FindsNoFault result → IsSystemSound s.matrix s.size s.cols s.b.now }
     ensures untouched { result ≢ pos 0 → out.new ≡ out.old }
     ensures refused { let s = system.entry in
-        result ≢ pos 0 → IsDenseRefused (IsFaultModulo modulus (IsFaultOfEquation
-        (mod_ring modulus) (mod_value {m = modulus}) s.equation s.matrix s.size s.cols s.b.now))
-        s.size s.cols out.old result }
+        let ring = mod_ring modulus in
+        result ≢ pos 0 → IsRefusedFor (IsFaultModulo modulus (IsFaultOfEquation
+        ring (mod_value {m = modulus}) s.equation s.matrix s.size s.cols s.b.now))
+        (IsMatrixTooLong ring (λ x. Solves ring s.equation s.matrix x
+        (plain_by_values ring s.size s.cols s.b.now) s.size s.cols) s.size s.cols out.old) result }
 {
     write_solution::<Mod<M>>(alloc, system, out)
 }
@@ -83,10 +92,15 @@ pub(crate) fn write_solution<T: Number>(alloc: Global, system: System<'_>, out: 
         (plain_by_values T.ring s.size s.cols s.b.now) s.size s.cols) s.size s.cols out.new }
     ensures shown { let s = system.entry in
         result ≡ pos 0 → FirstAre T.is_shown (s.size * s.cols) out.new }
+    ensures rest { let s = system.entry in
+        result ≡ pos 0 → KeepsBehind (s.size * s.cols) out.old out.new }
+    ensures sound { let s = system.entry in
+        FindsNoFault result → IsSystemSound s.matrix s.size s.cols s.b.now }
     ensures untouched { result ≢ pos 0 → out.new ≡ out.old }
     ensures refused { let s = system.entry in
-        result ≢ pos 0 → IsDenseRefused (IsFaultOfEquation T.ring T.value s.equation s.matrix
-        s.size s.cols s.b.now) s.size s.cols out.old result }
+        result ≢ pos 0 → IsRefusedFor (IsFaultOfEquation T.ring T.value s.equation s.matrix
+        s.size s.cols s.b.now) (IsMatrixTooLong T.ring (λ x. Solves T.ring s.equation s.matrix x
+        (plain_by_values T.ring s.size s.cols s.b.now) s.size s.cols) s.size s.cols out.old) result }
 {
     finish_dense(solution::<T>(alloc, system), out)
 }
@@ -100,6 +114,8 @@ fn solution<T: Number>(alloc: Global, system: System<'_>) -> Result<DMatrix<T>, 
     ensures solved { let s = system.entry in IfOk result (λ x. Solves T.ring s.equation s.matrix
         (plain_of_dense T.ring T.value x) (plain_by_values T.ring s.size s.cols s.b.now)
         s.size s.cols) }
+    ensures sound { let s = system.entry in
+        OnOk result (IsSystemSound s.matrix s.size s.cols s.b.now) }
     ensures fault { let s = system.entry in IfErr result (IsMemoryOr (IsFaultOfEquation T.ring
         T.value s.equation s.matrix s.size s.cols s.b.now)) }
 {
@@ -131,6 +147,7 @@ fn lower_solution<T: Number>(
     ensures solved { IfOk result (λ x. IsSolution T.ring (lower_of T.ring transposed l.entry)
         (plain_of_dense T.ring T.value x)
         (plain_by_values T.ring shape.0 shape.1 b.now)) }
+    ensures sound { OnOk result (IsSystemSound l.entry shape.0 shape.1 b.now) }
     ensures fault { IfErr result (IsMemoryOr
         (IsFaultOfLower T.ring T.value l.entry shape.0 shape.1 b.now)) }
 {
@@ -180,6 +197,7 @@ fn symmetric_solution<T: Number>(
     ensures solved { IfOk result (λ x. SolvesSymmetric T.ring a.entry
         (plain_of_dense T.ring T.value x)
         (plain_by_values T.ring shape.0 shape.1 b.now) shape.0 shape.1) }
+    ensures sound { OnOk result (IsSystemSound a.entry shape.0 shape.1 b.now) }
     ensures fault { IfErr result (IsMemoryOr
         (IsFaultOfSymmetric T.ring T.value a.entry shape.0 shape.1 b.now)) }
 {

@@ -1,12 +1,14 @@
 //! Transposes.
 
-ghost use Rattle.std.specs.Prelude.{◌≡◌, ◌≢◌, pos, IfOk, IfErr};
-ghost use Rattle.sparse_cs.specs.Compressed.{arrays_of};
+ghost use Rattle.std.specs.Prelude.{◌≡◌, ◌≢◌, pos, IfOk, IfErr, OnOk};
+ghost use Rattle.sparse_cs.specs.Compressed.{arrays_of, IsSound};
 ghost use Rattle.sparse_cs.specs.PlainOfLanes.{plain_of_rows};
 ghost use Rattle.sparse_algebra.specs.Plain.{plain_transpose};
 ghost use Rattle.sparse_algebra.specs.WrappingValues.{w64_value};
 ghost use Rattle.sparse_c_views.specs.Arrays.{plain_by_rows, ring64, room_of, HoldsRows};
 ghost use Rattle.sparse_c_views.specs.Refused.{IsFaultOf, IsMemoryOr, IsRefused};
+ghost use Rattle.sparse_c_views.specs.Rests.{KeepsRest};
+ghost use Rattle.sparse_c_views.specs.Statuses.{FindsNoFault};
 
 use crate::arguments::lanes;
 use sparse_algebra::scalar::W64;
@@ -34,6 +36,11 @@ pub extern "C" fn nalgebra_sparse_transpose(
     ensures written { result ≡ pos 0 → HoldsRows (plain_transpose ring64
         (plain_by_rows ring64 (arrays_of rows cols offsets.now indices.now values.now)))
         (room_of out_offsets.new out_indices.new out_values.new out_places.new) }
+    ensures rest { result ≡ pos 0 → KeepsRest cols
+        (room_of out_offsets.old out_indices.old out_values.old out_places.old)
+        (room_of out_offsets.new out_indices.new out_values.new out_places.new) }
+    ensures sound { FindsNoFault result
+        → IsSound (arrays_of rows cols offsets.now indices.now values.now) }
     ensures untouched { result ≢ pos 0
         → room_of out_offsets.new out_indices.new out_values.new out_places.new
         ≡ room_of out_offsets.old out_indices.old out_values.old out_places.old }
@@ -52,6 +59,7 @@ pub extern "C" fn nalgebra_sparse_transpose(
 fn transposed(alloc: Global, a: Lanes<'_>) -> Result<CsrMatrix<W64>, Refusal>
     ensures plain { IfOk result (λ m. plain_of_rows ring64 w64_value m
         ≡ plain_transpose ring64 (plain_by_rows ring64 a.entry)) }
+    ensures sound { OnOk result (IsSound a.entry) }
     ensures fault { IfErr result (IsMemoryOr (IsFaultOf a.entry)) }
 {
     let a = a.rows(alloc)?;

@@ -1,9 +1,12 @@
 //! Matrix Market texts out of coordinate lists.
 
-ghost use Rattle.std.specs.Prelude.{◌≡◌, ◌≢◌, ◌<◌, length, pos, string_bytes, IfOk, IfErr};
+ghost use Rattle.std.specs.Prelude.{◌≡◌, ◌≢◌, ◌<◌, length, pos, string_bytes, IfOk, IfErr, OnOk};
+ghost use Rattle.sparse_base.specs.Coo.{AreParts};
 ghost use Rattle.sparse_c.specs.Texts.{text_of_lists};
 ghost use Rattle.sparse_c_views.specs.Lists.{HoldsText};
 ghost use Rattle.sparse_c_views.specs.Refused.{IsFaultOfList, IsMemoryOr, IsRefusedFor};
+ghost use Rattle.sparse_c_views.specs.Rests.{KeepsBehind};
+ghost use Rattle.sparse_c_views.specs.Statuses.{FindsNoFault};
 
 use sparse_base::coo::CooMatrix;
 use sparse_c_views::refusal::Refusal;
@@ -24,6 +27,8 @@ pub extern "C" fn nalgebra_sparse_write_length(
 ) -> i32
     ensures counted { result ≡ pos 0 → out_length.new
         ≡ length (text_of_lists rows cols row_indices.now col_indices.now values.now) }
+    ensures sound { FindsNoFault result
+        → AreParts rows cols row_indices.now col_indices.now values.now }
     ensures untouched { result ≢ pos 0 → out_length.new ≡ out_length.old }
     ensures refused { result ≢ pos 0 → IsRefusedFor
         (IsFaultOfList rows cols row_indices.now col_indices.now values.now) ⊥ result }
@@ -52,6 +57,9 @@ pub extern "C" fn nalgebra_sparse_write(
     ensures written { result ≡ pos 0 → HoldsText
         (text_of_lists rows cols row_indices.now col_indices.now values.now)
         out_text.new out_length.new }
+    ensures rest { result ≡ pos 0 → KeepsBehind out_length.new out_text.old out_text.new }
+    ensures sound { FindsNoFault result
+        → AreParts rows cols row_indices.now col_indices.now values.now }
     ensures untouched { result ≢ pos 0
         → (out_text.new ≡ out_text.old) × (out_length.new ≡ out_length.old) }
     ensures refused { result ≢ pos 0 → IsRefusedFor
@@ -73,6 +81,8 @@ fn text_of_list(
 ) -> Result<String, Refusal>
     ensures text { IfOk result (λ text. string_bytes text
         ≡ text_of_lists shape.0 shape.1 row_indices.now col_indices.now values.now) }
+    ensures sound { OnOk result
+        (AreParts shape.0 shape.1 row_indices.now col_indices.now values.now) }
     ensures fault { IfErr result (IsMemoryOr
         (IsFaultOfList shape.0 shape.1 row_indices.now col_indices.now values.now)) }
 {

@@ -4,7 +4,10 @@ use Rattle.sparse_algebra.specs.ModNumbers.{mod_value}
 use Rattle.sparse_algebra.specs.Moduli.{mod_ring}
 use Rattle.sparse_c.specs.Factors.{AreFactorsTooLong, IsFaultOfFactors, WritesFactors}
 use Rattle.sparse_c.specs.Rooms.{room_before}
+use Rattle.sparse_c.proofs.Accepting.{factors_told}
 use Rattle.sparse_c.proofs.Factoring.{factors_written, factors_shown, factors_refused}
+use Rattle.sparse_c.proofs.Factoring.{factors_rest, pivots_rest}
+use Rattle.sparse_c_views.proofs.Faultless.{accepted}
 use Rattle.sparse_c.proofs.Listed.{reduced_modulo, widened}
 use Rattle.sparse_c_views.specs.Arrays.{room_of}
 use Rattle.sparse_c_views.specs.Reduced.{IsReduced}
@@ -41,6 +44,35 @@ returns-clause-reduced_diagonal g c = λ h.
     c.factors_of-answer.result facts.factors facts.rows facts.count
     (λ x. M ≤ 9223372036854775808 → IsReduced M x) pivots
     (c.finish_factors.ensures.shown_pivots (sym same ∙ h)))
+
+pub returns-clause-rest : goal.returns-clause-rest
+returns-clause-rest g c = λ h.
+    let same : to_z w32 (of_z w32 c.finish_factors.result) ≡ c.finish_factors.result =
+    search rules in
+    let facts = c.factors_of-answer.ensures in
+    let new = c.finish_factors.new in
+    factors_rest (mod_ring g.row.M) (mod_value {m = g.row.M}) _ refl (λ d. d.items) c.args.a
+    c.factors_of-answer.result facts.factors facts.rows facts.count (room_before c.args.room)
+    (room_of new.offsets new.indices new.values new.places)
+    (c.finish_factors.ensures.rest (sym same ∙ h))
+
+pub returns-clause-rest_diagonal : goal.returns-clause-rest_diagonal
+returns-clause-rest_diagonal g c = λ h.
+    let same : to_z w32 (of_z w32 c.finish_factors.result) ≡ c.finish_factors.result =
+    search rules in
+    let facts = c.factors_of-answer.ensures in
+    pivots_rest (mod_ring g.row.M) (mod_value {m = g.row.M}) _ refl (λ d. d.items) c.args.a
+    c.factors_of-answer.result facts.factors facts.rows facts.count c.args.pivots.now
+    c.finish_factors.new.pivots (c.finish_factors.ensures.rest_pivots (sym same ∙ h))
+
+pub returns-clause-sound : goal.returns-clause-sound
+returns-clause-sound g c =
+    let same : to_z w32 (of_z w32 c.finish_factors.result) ≡ c.finish_factors.result =
+    search rules in
+    accepted _ _ c.factors_of-answer.result c.finish_factors.result _ same
+    c.factors_of-answer.ensures.sound c.factors_of-answer.ensures.fault
+    (factors_told (mod_ring g.row.M) (mod_value {m = g.row.M}) c.args.a)
+    c.finish_factors.ensures.written c.finish_factors.ensures.refused
 
 pub returns-clause-refused : goal.returns-clause-refused
 returns-clause-refused g c = λ h.

@@ -37,6 +37,7 @@ returns-in_err-factors-clause-fault g c =
     → IsFactorisation R f (plain_symmetric R a) l d → ⊥ in
     rw p.1 (elim e.kinds [
       | inl singular ↦ inr (inr (
+        c.in_ok-a.ensures.sound,
         p.2 ∙ ap refusal_of_operation singular,
         subst none c.in_ok-a.ensures.plain (e.singular singular),
       ))

@@ -23,6 +23,7 @@ returns-in_err-solve_triangle-clause-fault g c =
     c.from_residual-in_err-solve_triangle.ensures.1 in
     let e = c.in_err-solve_triangle.ensures in
     rw p.1 (inr (inr (
+      (c.in_ok-l.ensures.sound, c.in_ok-x.ensures.sized),
       p.2 ∙ ap refusal_of_operation e.kind,
       subst (λ n. 0 < n) c.in_ok-x.ensures.cols e.some,
       subst (λ (p : Plain R). IsSingular R g.T.Ring.value (plain_lower R p)) c.in_ok-l.ensures.plain

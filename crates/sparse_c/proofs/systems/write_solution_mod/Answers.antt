@@ -3,7 +3,7 @@ use Rattle.std.specs.Int.{w32}
 use Rattle.sparse_algebra.specs.ModNumbers.{mod_value}
 use Rattle.sparse_algebra.specs.Moduli.{mod_ring}
 use Rattle.sparse_algebra.specs.Plain.{Plain}
-use Rattle.sparse_c.specs.Solved.{HoldsMatrix}
+use Rattle.sparse_c.specs.Solved.{HoldsMatrix, IsMatrixTooLong}
 use Rattle.sparse_c.specs.Systems.{IsFaultOfEquation, Solves}
 use Rattle.sparse_c.proofs.Listed.{reduced_modulo, widened}
 use Rattle.sparse_c_views.specs.Arrays.{plain_by_values}
@@ -34,5 +34,8 @@ returns-clause-refused g c = λ h.
     let s = c.args.system in
     widened c.write_solution.result _ same
     (λ e fault. inr (subst (λ (m : ℕ). IsFaultOfEquation (mod_ring m) (mod_value {m = m}) s.equation
-    s.matrix s.size s.cols s.b.now e) (sym c.requires.is) fault)) (λ small. small)
+    s.matrix s.size s.cols s.b.now e) (sym c.requires.is) fault))
+    (subst (λ (m : ℕ). IsMatrixTooLong (mod_ring m) (λ (x : Plain (mod_ring m)). Solves (mod_ring m)
+    s.equation s.matrix x (plain_by_values (mod_ring m) s.size s.cols s.b.now) s.size s.cols)
+    s.size s.cols c.args.out.now) (sym c.requires.is))
     (c.write_solution.ensures.refused (λ e. h (same ∙ e)))

@@ -1,6 +1,7 @@
 use Rattle.std.proofs.Common.{◌≡◌, ℕ, ◌<◌, List, length, sym, subst, ◌∙◌, rules, to_z, of_z}
 use Rattle.std.specs.Int.{w32}
 use Rattle.sparse_c_views.specs.Lists.{HoldsText}
+use Rattle.sparse_c_views.proofs.Faultless.{accepted, list_told}
 use Rattle.sparse_c_views.proofs.Joining.{found, refused}
 use Rattle.sparse_c.proofs.writing.nalgebra_sparse_write.Goals as goal
 
@@ -11,6 +12,15 @@ returns-clause-written c = λ h.
     (c.finish_text.ensures.written (sym same ∙ h)) in
     subst (λ (text : List ℕ). HoldsText text c.finish_text.new.buffer c.finish_text.new.size) p.1.0
     p.1.1
+
+pub returns-clause-sound : goal.returns-clause-sound
+returns-clause-sound c =
+    let same : to_z w32 (of_z w32 c.finish_text.result) ≡ c.finish_text.result = search rules in
+    accepted _ _ c.text_of_list-answer.result c.finish_text.result _ same
+    c.text_of_list-answer.ensures.sound c.text_of_list-answer.ensures.fault
+    (λ e fault told. absurd (list_told c.args.rows c.args.cols c.args.row_indices.now
+    c.args.col_indices.now c.args.values.now e fault told))
+    c.finish_text.ensures.written c.finish_text.ensures.refused
 
 pub returns-clause-refused : goal.returns-clause-refused
 returns-clause-refused c = λ h.
