@@ -6,6 +6,11 @@
  * matrix by columns (CSC) are those of its transpose by rows. A dense matrix is an array of its values, column by
  * column.
  *
+ * Arrays of a matrix are sound if there are rows + 1 offsets, which begin with 0, do not fall and end with the number
+ * of indices, if the indices are below the number of columns and rise strictly in each row, and if there are as many
+ * values as indices. The values of a dense matrix are sound if their number is rows * cols, and lists of triplets if
+ * they have one length and their indices are within the shape.
+ *
  * The calls whose names end in _mod compute modulo `modulus` instead, which is one of 2, 3, 5, 7, 11, 13, 101, 65537,
  * 998244353, 1000000007 and 2305843009213693951 (2^61 - 1); any other modulus has the status UNKNOWN_CHOICE. An int64_t
  * of an operand means its residue, also where it is negative or larger than the modulus, and the values of a result are
@@ -15,18 +20,24 @@
  * crates/sparse_c/src, which holds for all arrays, sound or not. At status 0 the arrays for the result begin with the
  * arrays of a sound matrix, and the plain matrix of these is the one that the call names: the transpose, the sum, the
  * product of the plain matrices of the operands; or they begin with an X that solves the equation, with the factors of
- * the matrix, with the triplets that a text means, or with the text of triplets. At any other status nothing has been
- * written, and the status tells why. Equations hold in the ring of the call: the integers modulo 2^64, or modulo
- * `modulus`.
+ * the matrix, with the triplets that a text means, or with the text of triplets. Longer arrays are left as they are
+ * behind the result. At any other status nothing has been written, and the status tells why. Equations hold in the ring
+ * of the call: the integers modulo 2^64, or modulo `modulus`.
  *
- * What is not proved. This header and the programs around the library are checked by tests alone (bindings/test). The
- * caller must see to it that
+ * Each call lists its statuses in the order in which it looks for their causes, and has the first that applies: first
+ * a number that chooses among cases, then the faults of the operands in their order, then SINGULAR, and last TOO_SMALL.
+ * So at status 0, SINGULAR and TOO_SMALL all operands are sound, and at TOO_SMALL there is a result, and some array is
+ * smaller than its part of it. OUT_OF_MEMORY may come in place of any status but UNKNOWN_CHOICE.
+ *
+ * What is not proved. No contract says that OUT_OF_MEMORY comes only where an allocation failed: by the contracts it
+ * may come at any time. A test refuses each request for memory of small calls in turn (bindings/c/test_refusals.c).
+ * This header and the programs around the library are checked by tests alone (bindings/test). The caller must see to it
+ * that
  *   - each pointer is not null, even where the length is 0, is aligned, and has at least as many elements as the length
  *     says;
  *   - no array for a result overlaps another array;
  *   - malloc, realloc and free come from one allocator, which aligns blocks as the C standard demands;
  *   - no call is made from a signal handler, or in the child of a fork of a process with threads.
- * size_t has 64 bits.
  *
  * Each call takes time and memory as the call of the library does, and copies of the operands' arrays beside it.
  */
@@ -38,6 +49,10 @@
 #endif
 #include <stddef.h>
 #include <stdint.h>
+
+#if !defined SIZE_MAX || SIZE_MAX != UINT64_MAX
+#error "the library is built for a size_t of 64 bits"
+#endif
 
 #ifdef __cplusplus
 extern "C" {
@@ -86,8 +101,7 @@ enum { NALGEBRA_SPARSE_UPPER = 0, NALGEBRA_SPARSE_LOWER = 1, NALGEBRA_SPARSE_BOT
 /* Writes the matrix of triplets by rows: each place that occurs in the lists, with the sum of its values.
  *
  * The three lists have the same length. out_offsets needs rows + 1 numbers, and out_indices and out_values one for each
- * place: `values_len` is always enough. Longer arrays are left as they are behind the result. *out_places becomes the
- * number of places.
+ * place: `values_len` is always enough. *out_places becomes the number of places.
  *
  * Statuses: OUT_OF_MEMORY; INVALID_STRUCTURE if the lists have different lengths; INDEX_OUT_OF_BOUNDS; TOO_SMALL.
  */
@@ -118,7 +132,9 @@ int32_t nalgebra_sparse_assemble_csc(
  * out_values `values_len` each.
  *
  * Statuses: OUT_OF_MEMORY; INVALID_STRUCTURE, INDEX_OUT_OF_BOUNDS or DUPLICATE_ENTRY for the first fault of the arrays;
- * TOO_SMALL.
+ * TOO_SMALL. Faults are looked for in this order: the number of offsets; the first and the last offset; row by row the
+ * end of the row and then its indices, each compared with the number of columns and then with the index before it; the
+ * number of values.
  */
 int32_t nalgebra_sparse_transpose(
     size_t rows, size_t cols,
@@ -283,7 +299,7 @@ int32_t nalgebra_sparse_divide_mod(
  * NALGEBRA_SPARSE_UPPER, those on and above the diagonal; NALGEBRA_SPARSE_LOWER, those on and below it;
  * NALGEBRA_SPARSE_BOTH, all.
  *
- * Statuses: OUT_OF_MEMORY; UNKNOWN_CHOICE if `triangle` is another number; the first fault of the arrays, as for
+ * Statuses: UNKNOWN_CHOICE if `triangle` is another number; OUT_OF_MEMORY; the first fault of the arrays, as for
  * nalgebra_sparse_transpose.
  */
 int32_t nalgebra_sparse_fill_places(
