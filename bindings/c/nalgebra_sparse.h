@@ -40,6 +40,13 @@
  *   - no call is made from a signal handler, or in the child of a fork of a process with threads.
  *
  * Each call takes time and memory as the call of the library does, and copies of the operands' arrays beside it.
+ *
+ * Threads. The library keeps nothing from one call to the next, so any number of threads may call at once. They may share
+ * the arrays of operands. While a call runs, no other thread may write an array that it reads, or read or write an array
+ * for its result.
+ *
+ * The functions at the end (nalgebra_sparse_inline.h) take matrices as structs and null pointers as empty arrays, and
+ * nalgebra_sparse_status_text says what a status means.
  */
 #ifndef NALGEBRA_SPARSE_H
 #define NALGEBRA_SPARSE_H
@@ -53,6 +60,12 @@
 #if !defined SIZE_MAX || SIZE_MAX != UINT64_MAX
 #error "the library is built for a size_t of 64 bits"
 #endif
+
+/* The version of the library. */
+#define NALGEBRA_SPARSE_VERSION_MAJOR 0
+#define NALGEBRA_SPARSE_VERSION_MINOR 1
+#define NALGEBRA_SPARSE_VERSION_PATCH 0
+#define NALGEBRA_SPARSE_VERSION "0.1.0"
 
 #ifdef __cplusplus
 extern "C" {
@@ -438,6 +451,8 @@ int32_t nalgebra_sparse_write(
     const int64_t *values, size_t values_len,
     uint8_t *out_text, size_t out_text_len,
     size_t *out_length);
+
+#include "nalgebra_sparse_inline.h"
 
 #ifdef __cplusplus
 }

@@ -8,25 +8,20 @@ int main(void) {
     /* The place (1, 1) is given twice; its values are added. */
     const size_t rows[] = {0, 0, 1, 1}, cols[] = {0, 1, 1, 1};
     const int64_t values[] = {1, 2, 2, 1};
-    size_t offsets[3], indices[4], places, room;
-    int64_t entries[4];
-    int32_t status = nalgebra_sparse_assemble_csr(
-        2, 2, rows, 4, cols, 4, values, 4, offsets, 3, indices, 4, entries, 4, &places);
-    if (status != NALGEBRA_SPARSE_DONE)
-        return status;
-    status = nalgebra_sparse_multiply_places(
-        2, 2, 2, offsets, 3, indices, places, offsets, 3, indices, places, &room);
-    if (status != NALGEBRA_SPARSE_DONE || room > 4)
+    const nalgebra_sparse_lists triplets = {2, 2, rows, cols, values, 4};
+    size_t a_offsets[3], a_indices[4], c_offsets[3], c_indices[4];
+    int64_t a_values[4], c_values[4];
+    nalgebra_sparse_result a = {a_offsets, 3, a_indices, a_values, 4, 0, 0, 0};
+    nalgebra_sparse_result c = {c_offsets, 3, c_indices, c_values, 4, 0, 0, 0};
+    int32_t status = nalgebra_sparse_assemble_csr_lists(triplets, &a);
+    if (status == NALGEBRA_SPARSE_DONE)
+        status = nalgebra_sparse_multiply_rows(nalgebra_sparse_rows_of(&a), nalgebra_sparse_rows_of(&a), &c);
+    if (status != NALGEBRA_SPARSE_DONE) {
+        fprintf(stderr, "square: %s\n", nalgebra_sparse_status_text(status));
         return 1;
-    size_t square_offsets[3], square_indices[4];
-    int64_t square[4];
-    status = nalgebra_sparse_multiply(
-        2, 2, 2, offsets, 3, indices, places, entries, places, offsets, 3, indices, places, entries, places,
-        square_offsets, 3, square_indices, 4, square, 4, &places);
-    if (status != NALGEBRA_SPARSE_DONE)
-        return status;
-    for (size_t i = 0; i < 2; i++)
-        for (size_t p = square_offsets[i]; p < square_offsets[i + 1]; p++)
-            printf("%zu %zu %" PRId64 "\n", i, square_indices[p], square[p]);
+    }
+    for (size_t i = 0; i < c.rows; i++)
+        for (size_t p = c.offsets[i]; p < c.offsets[i + 1]; p++)
+            printf("%zu %zu %" PRId64 "\n", i, c.indices[p], c.values[p]);
     return 0;
 }

@@ -41,17 +41,19 @@ static int64_t random_value(void) {
 
 /* ---- numbers modulo m, where 0 means 2^64 */
 
+__extension__ typedef unsigned __int128 wide;
+
 static uint64_t residue(uint64_t m, int64_t z) {
     if (m == 0) return (uint64_t)z;
     return z < 0 ? (m - (0 - (uint64_t)z) % m) % m : (uint64_t)z % m;
 }
 
 static uint64_t sum(uint64_t m, uint64_t x, uint64_t y) {
-    return m == 0 ? x + y : (uint64_t)(((unsigned __int128)x + y) % m);
+    return m == 0 ? x + y : (uint64_t)(((wide)x + y) % m);
 }
 
 static uint64_t times(uint64_t m, uint64_t x, uint64_t y) {
-    return m == 0 ? x * y : (uint64_t)((unsigned __int128)x * y % m);
+    return m == 0 ? x * y : (uint64_t)((wide)x * y % m);
 }
 
 static uint64_t minus(uint64_t m, uint64_t x) { return m == 0 ? 0 - x : (m - x) % m; }
