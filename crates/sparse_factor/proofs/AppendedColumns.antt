@@ -1,14 +1,17 @@
 -- A column that is appended: its rows are those of the fill, and it is handed on to its parent.
 use Rattle.std.proofs.Common.{◌≡◌, ◌≢◌, ℕ, ◌+◌, ◌<◌, ◌≤◌, ◌⊎◌, inl, inr, ◌↔◌}
 use Rattle.std.proofs.Common.{List, [], ◌∷◌, ◌++◌, length, slice_index, Contains, set}
-use Rattle.std.proofs.Common.{slice_range, length-append, sym, ap, ◌∙◌, subst, arith}
+use Rattle.std.proofs.Common.{slice_range, length-append, sym, ap, ◌∙◌, subst, arith, refl, ◌-◌}
 use Rattle.std.specs.List.Sorted.{IsStrictlyIncreasing}
 use Rattle.std.proofs.lemmas.Bool.{cases_eq}
 use Rattle.std.proofs.lemmas.Grind.{common_steps}
+use Rattle.std.proofs.lemmas.List.{get_or_append_left, get_or-append_right}
+use Rattle.std.proofs.lemmas.List.Elements.{Contains-get_or}
+use Rattle.sparse_algebra.proofs.Cases.{lt_or_ge}
 use Rattle.sparse_pattern.specs.InnerGainedLanes.{GainsLane}
 use Rattle.sparse_pattern.proofs.BuiltLanes.{IsBuilt, lane_gained}
 use Rattle.sparse_factor.specs.InnerFilled.{Filled}
-use Rattle.sparse_factor.specs.InnerColumns.{IsFirstBelow}
+use Rattle.sparse_factor.specs.InnerColumns.{IsFirstBelow, AreRowsBelow}
 use Rattle.sparse_factor.specs.InnerChildren.{IsInTails}
 use Rattle.sparse_factor.proofs.FillLaws.{IsParent}
 use Rattle.sparse_factor.proofs.FillLaws.{low_filled, row_base}
@@ -47,6 +50,33 @@ module _ (base : ℕ → ℕ → Type 0) (low : (i j : ℕ) → base i j → j �
         lane_gained n (λ k i. Filled base i k) j offsets offsets' rows rows' are.built
         filled_within fill_gained grown
 
+    rows_below : AreRowsBelow n rows'
+    unfolding fill_gained
+    rows_below p before =
+        let long = length-append rows gains.lane in
+        let size : length rows' ≡ length (rows ++ gains.lane) = ap length gains.pushed in
+        let read : slice_index rows' p ≡ slice_index (rows ++ gains.lane) p =
+        ap (λ l. slice_index l p) gains.pushed in
+        elim (lt_or_ge p (length rows)) [
+          | inl early ↦ omega (
+            arith,
+            read,
+            get_or_append_left rows gains.lane 0 p early,
+            are.inside p early,
+          )
+          | inr late ↦
+              let k = p - length rows in
+              let in_lane : k < length gains.lane = omega (arith, long, size, late, before) in
+              omega (
+                arith,
+                read,
+                get_or-append_right rows gains.lane (length rows) p 0 refl late,
+                filled_within (slice_index gains.lane k)
+                    ((fill_gained.holds (slice_index gains.lane k)).0
+                    (Contains-get_or gains.lane k 0 in_lane)),
+              )
+        ]
+
     -- the lane, as it is read behind the rows before it
     module _ (lane : List ℕ) (read : lane ≡ slice_range rows' (length rows) (length rows')) where
       lane_is : lane ≡ gains.lane
@@ -84,11 +114,11 @@ module _ (base : ℕ → ℕ → Type 0) (low : (i j : ℕ) → base i j → j �
         | inl e ↦
             let same = kept e in
             rw (same.0, same.1) (merged_last base n offsets rows firsts nexts j are offsets'
-            rows' lt column_built
+            rows' lt column_built rows_below
             (λ i g. none e i ((lane_has i).1 g)))
         | inr ne ↦
             let is = some ne in
             rw (first ne, link ne) (merged_more base n offsets rows firsts nexts j are
-            offsets' rows' lt column_built p
+            offsets' rows' lt column_built rows_below p
             (first_parent p is) (lane_within p is.stored))
       ]

@@ -1,14 +1,11 @@
 -- The tails of the columns on a list, gathered one column after another.
-use Rattle.std.proofs.Common.{◌≡◌, ◌≢◌, ℕ, suc, ◌+◌, ◌-◌, ◌<◌, ◌≤◌, ◌⊎◌, inl, inr, ◌↔◌, List, ◌++◌}
-use Rattle.std.proofs.Common.{length, slice_index, slice_range, Contains, sym, subst, arith}
-use Rattle.std.proofs.lemmas.List.Elements.{Contains-append_left, Contains-append_right}
-use Rattle.std.proofs.lemmas.List.Elements.{Contains-append_cases}
-use Rattle.sparse_factor.specs.InnerColumns.{IsRun, IsInRun, IsInColumn, IsInTail}
+use Rattle.std.proofs.Common.{◌≡◌, ◌≢◌, ℕ, suc, ◌-◌, ◌<◌, ◌≤◌, ◌⊎◌, inl, inr, ◌↔◌, List, length}
+use Rattle.std.proofs.Common.{slice_index, Contains, sym, subst, arith}
+use Rattle.sparse_factor.specs.InnerColumns.{IsInColumn, IsInTail}
 use Rattle.sparse_factor.specs.InnerChildren.{Reaches, here, next, AreFalling, IsInTailOf, IsInTails}
 use Rattle.sparse_factor.specs.InnerTaken.{HasTaken}
 use Rattle.sparse_factor.proofs.Children.{reach_cases}
-use Rattle.sparse_factor.proofs.Runs.{run_has}
-use Rattle.sparse_factor.proofs.Taken.{none_taken, taken_into, taken_both, run_taken}
+use Rattle.sparse_factor.proofs.Taken.{none_taken, taken_into, taken_both}
 
 -- the list from `first` to `head` was gone through: `now` has the rows of `old` and of the tails of
 -- its columns but the longest
@@ -78,60 +75,47 @@ module _ (offsets rows nexts : List ℕ) (first longest : ℕ) (old : List ℕ) 
       }
 
       -- another one
-      module _ (ne : head ≢ longest) (from to : ℕ) (run : IsRun rows from to)
-          (is : (i : ℕ) → IsInRun rows from to i ↔ IsInTailOf offsets rows head i) where
-        tail_of_head : (i : ℕ) → IsInRun rows from to i → IsInTail offsets rows (head - 1) i
-        tail_of_head i h =
-            let (k, e, tail) = (is i).0 h in
-            let same : k ≡ head - 1 = omega (arith, e) in
-            subst (λ x. IsInTail offsets rows x i) same tail
+      module _ (ne : head ≢ longest) (now_steps : ℕ)
+          (tail : HasTaken (λ i k. (head ≡ suc k) × IsInColumn offsets rows k i) steps now_steps)
+        where
+          pub tail_taken : HasTaken (λ i k. (Reaches nexts first k × (longest ≢ suc k)
+              × IsInColumn offsets rows k i) × (after ≤ k)) before now_steps
+          tail_taken =
+              taken_into (λ i k h. elim h [
+                | inl was ↦ (was.0, omega (arith, was.1, lower, some))
+                | inr new ↦
+                    let same : head - 1 ≡ k = omega (arith, new.0) in (
+                      (
+                        subst (Reaches nexts first) same head_reached,
+                        λ e. ne (omega (arith, e, new.0)),
+                        new.1,
+                      ),
+                      omega (arith, lower, same),
+                    )
+              ]) (taken_both are.taken tail (λ i k was new. omega (arith, was.1, new.0)))
 
-        pub tail_taken : (now_steps : ℕ) → now_steps ≡ steps + (to - from)
-            → HasTaken (λ i k. (Reaches nexts first k × (longest ≢ suc k)
-            × IsInColumn offsets rows k i) × (after ≤ k)) before now_steps
-        tail_taken now_steps size =
-            taken_into (λ i k h. elim h [
-              | inl was ↦ (was.0, omega (arith, was.1, lower, some))
+          pub tail_gathered : (more : List ℕ)
+              → ((i : ℕ) → Contains more i ↔ (Contains now i ⊎ IsInTailOf offsets rows head i))
+              → IsGathered offsets rows nexts first longest old more before now_steps after
+          tail_gathered more grown = record {
+            within = omega (arith, are.within, lower);
+            rest = rest_after;
+            kept = λ i h. (grown i).1 (inl (are.kept i h));
+            sound = λ i h. elim ((grown i).0 h) [
+              | inl was ↦ are.sound i was
               | inr new ↦
-                  let same : head - 1 ≡ k = omega (arith, new.0) in (
-                    (
-                      subst (Reaches nexts first) same head_reached,
-                      λ e. ne (omega (arith, e, head_is, same)),
-                      subst (λ x. IsInColumn offsets rows x i) same (tail_of_head i new.1).0,
-                    ),
-                    omega (arith, lower, same),
-                  )
-            ]) (taken_both are.taken (run_taken rows from to run (head - 1) steps now_steps size)
-            (λ i k was new. omega (arith, was.1, new.0, some)))
-
-        pub tail_gathered : (more : List ℕ) (now_steps : ℕ) → more ≡ now ++ slice_range rows from to
-            → now_steps ≡ steps + (to - from)
-            → IsGathered offsets rows nexts first longest old more before now_steps after
-        tail_gathered more now_steps grown size = record {
-          within = omega (arith, are.within, lower);
-          rest = rest_after;
-          kept = λ i h. subst (λ l. Contains l i) (sym grown)
-              (Contains-append_left now (slice_range rows from to) i (are.kept i h));
-          sound = λ i h. elim (Contains-append_cases now (slice_range rows from to) i
-              (subst (λ l. Contains l i) grown h)) [
-                | inl was ↦ are.sound i was
-                | inr new ↦ inr (
-                  head - 1,
-                  head_reached,
-                  tail_of_head i ((run_has rows from to run i).0 new),
-                )
-              ];
-          whole = λ i k r other tail. elim (are.whole i k r other tail) [
-            | inl has ↦ inl (subst (λ l. Contains l i) (sym grown)
-                (Contains-append_left now (slice_range rows from to) i has))
-            | inr later ↦ elim (reached_after k later) [
-              | inl same ↦
-                  let e : head ≡ suc k = omega (arith, same, head_is) in
-                  inl (subst (λ l. Contains l i) (sym grown)
-                  (Contains-append_right now (slice_range rows from to) i
-                  ((run_has rows from to run i).1 ((is i).1 (k, e, tail)))))
-              | inr after ↦ inr after
-            ]
-          ];
-          taken = tail_taken now_steps size;
-        }
+                  let (k, e, is_in) = new in
+                  let same : head - 1 ≡ k = omega (arith, e) in
+                  inr (k, subst (Reaches nexts first) same head_reached, is_in)
+            ];
+            whole = λ i k r other is_in. elim (are.whole i k r other is_in) [
+              | inl has ↦ inl ((grown i).1 (inl has))
+              | inr later ↦ elim (reached_after k later) [
+                | inl same ↦
+                    let e : head ≡ suc k = omega (arith, same, head_is) in
+                    inl ((grown i).1 (inr (k, e, is_in)))
+                | inr after ↦ inr after
+              ]
+            ];
+            taken = tail_taken;
+          }

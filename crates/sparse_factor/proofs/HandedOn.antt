@@ -8,6 +8,7 @@ use Rattle.std.proofs.lemmas.List.{length-set}
 use Rattle.sparse_algebra.proofs.Cases.{lt_add_one_cases}
 use Rattle.sparse_pattern.proofs.BuiltLanes.{IsBuilt}
 use Rattle.sparse_factor.specs.InnerFilled.{Filled}
+use Rattle.sparse_factor.specs.InnerColumns.{AreRowsBelow}
 use Rattle.sparse_factor.specs.InnerChildren.{Reaches, here, next, AreFalling}
 use Rattle.sparse_factor.proofs.FillLaws.{IsParent}
 use Rattle.sparse_factor.proofs.Children.{reach_cases, reach_kept}
@@ -23,12 +24,14 @@ module _ (base : ℕ → ℕ → Type 0) (n : ℕ) (offsets rows firsts nexts : 
     (are : AreMerged base n offsets rows firsts nexts j) where
   -- column j is finished
   module _ (offsets' rows' : List ℕ) (lt : j < n)
-      (built : IsBuilt n (λ k i. Filled base i k) (j + 1) offsets' rows') where
+      (built : IsBuilt n (λ k i. Filled base i k) (j + 1) offsets' rows')
+      (under : AreRowsBelow n rows') where
     -- and has no row below the diagonal
     pub merged_last : ((i : ℕ) → Filled base i j → i ≤ j)
         → AreMerged base n offsets' rows' firsts nexts (j + 1)
     merged_last last = record {
       built = built;
+      inside = under;
       first_count = are.first_count;
       next_count = are.next_count;
       falling = are.falling;
@@ -142,6 +145,7 @@ module _ (base : ℕ → ℕ → Type 0) (n : ℕ) (offsets rows firsts nexts : 
       pub merged_more : AreMerged base n offsets' rows' firsts' nexts' (j + 1)
       merged_more = record {
         built = built;
+        inside = under;
         first_count = length-set firsts p (j + 1) ∙ are.first_count;
         next_count = length-set nexts j head ∙ are.next_count;
         falling = falling';

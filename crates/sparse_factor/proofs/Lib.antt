@@ -7,6 +7,7 @@ mod JoinedRuns
 pub mod Pairs
 mod Taken
 mod TransposedCounts
+mod Marks
 mod Tails
 mod Gathered
 mod Children

@@ -8,7 +8,7 @@ use Rattle.sparse_pattern.specs.Raw.{Raw, raw_of}
 use Rattle.sparse_pattern.proofs.BuiltLanes.{IsBuilt}
 use Rattle.sparse_pattern.proofs.PatternLanes.{rises_at}
 use Rattle.sparse_factor.specs.InnerFilled.{Filled, given}
-use Rattle.sparse_factor.specs.InnerColumns.{IsInColumn, AreColumns}
+use Rattle.sparse_factor.specs.InnerColumns.{IsInColumn, AreColumns, AreRowsBelow}
 use Rattle.sparse_factor.specs.InnerChildren.{Reaches, AreFalling, IsInTails}
 use Rattle.sparse_factor.proofs.FillLaws.{IsParent, HaveParents, column_fill, child_filled}
 use Rattle.sparse_factor.proofs.FillLaws.{low_filled}
@@ -18,6 +18,7 @@ use Rattle.sparse_factor.proofs.Children.{reach_none}
 pub record AreMerged (base : ℕ → ℕ → Type 0) (n : ℕ) (offsets rows firsts nexts : List ℕ) (j : ℕ) :
     Type 0 where
   pub built : IsBuilt n (λ k i. Filled base i k) j offsets rows
+  pub inside : AreRowsBelow n rows
   pub first_count : length firsts ≡ n
   pub next_count : length nexts ≡ n
   pub falling : AreFalling nexts
@@ -25,7 +26,7 @@ pub record AreMerged (base : ℕ → ℕ → Type 0) (n : ℕ) (offsets rows fir
   pub parents : HaveParents base j
   pub listed : (k p : ℕ) → Reaches nexts (slice_index firsts p) k ↔ ((k < j) × IsParent base k p)
 
-zero_at : (n k : ℕ) → slice_index (replicate n 0) k ≡ 0
+pub zero_at : (n k : ℕ) → slice_index (replicate n 0) k ≡ 0
 zero_at n k = elim (lt_or_ge k n) [
   | inl inside ↦ get_or-replicate n k 0 0 inside
   | inr past ↦ get_or_past (replicate n 0) k 0 (omega (arith, length-replicate {A = ℕ} n 0))
@@ -48,6 +49,7 @@ none_merged base n firsts nexts f l =
         };
         places = λ i j lt. absurd (omega arith);
       };
+      inside = λ p lt. absurd (omega arith);
       first_count = ap length f ∙ length-replicate {A = ℕ} n 0;
       next_count = ap length l ∙ length-replicate {A = ℕ} n 0;
       falling = λ k. omega (arith, link k);

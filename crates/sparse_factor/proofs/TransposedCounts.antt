@@ -1,5 +1,5 @@
 -- A pattern and its transpose have the same number of places.
-use Rattle.std.proofs.Common.{◌≡◌, ℕ, zero, suc, ◌+◌, ◌-◌, ◌<◌, ◌≤◌, inl, inr, length, subst, sym}
+use Rattle.std.proofs.Common.{◌≡◌, ℕ, zero, suc, ◌+◌, ◌<◌, ◌≤◌, inl, inr, subst, sym}
 use Rattle.std.proofs.Common.{arith}
 use Rattle.sparse_pattern.specs.Raw.{Raw, start_of, end_of, IsValid, IsPlace, nnz_of, entries_of}
 use Rattle.sparse_pattern.specs.TransposedPattern.{IsTransposedPattern}

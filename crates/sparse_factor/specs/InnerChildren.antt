@@ -1,5 +1,5 @@
 -- Lists of columns that are linked by their numbers. A head is one more than a column, or 0.
-use Rattle.std.specs.Prelude.{◌≡◌, ℕ, suc, ◌≤◌, List, slice_index}
+use Rattle.std.specs.Prelude.{◌≡◌, ◌≢◌, ℕ, suc, ◌≤◌, ◌⊎◌, List, slice_index, Contains}
 use Rattle.sparse_factor.specs.InnerColumns.{IsInTail}
 
 -- the list that begins at a head reaches a column
@@ -19,3 +19,11 @@ IsInTailOf offsets rows head i = (k : ℕ) × (head ≡ suc k) × IsInTail offse
 abbrev pub IsInTails : List ℕ → List ℕ → List ℕ → ℕ → ℕ → Type 0
 IsInTails offsets rows nexts head i =
     (k : ℕ) × Reaches nexts head k × IsInTail offsets rows k i
+
+-- `new` has the rows of `old`, and those of the tails of the columns of the list but the longest
+pub record HasOthers (offsets rows nexts : List ℕ) (first longest : ℕ) (old new : List ℕ) : Type 0
+  where
+    pub kept : (i : ℕ) → Contains old i → Contains new i
+    pub sound : (i : ℕ) → Contains new i → Contains old i ⊎ IsInTails offsets rows nexts first i
+    pub whole : (i k : ℕ) → Reaches nexts first k → longest ≢ suc k → IsInTail offsets rows k i
+        → Contains new i

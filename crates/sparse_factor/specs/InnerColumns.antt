@@ -33,3 +33,7 @@ pub record IsFirstBelow (lane : List ℕ) (column p : ℕ) : Type 0 where
   pub below : column < p
   pub stored : Contains lane p
   pub least : (q : ℕ) → column < q → Contains lane q → p ≤ q
+
+-- the rows are less than n
+abbrev pub AreRowsBelow : ℕ → List ℕ → Type 0
+AreRowsBelow n rows = (p : ℕ) → p < length rows → slice_index rows p < n

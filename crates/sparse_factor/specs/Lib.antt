@@ -4,4 +4,5 @@ pub mod Symbolic
 pub mod InnerFilled
 pub mod InnerColumns
 pub mod InnerChildren
+pub mod InnerMarks
 pub mod InnerTaken

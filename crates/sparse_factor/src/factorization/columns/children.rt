@@ -2,14 +2,17 @@
 //! ends.
 
 ghost use Rattle.std.specs.Prelude.{◌≡◌, ◌≢◌, ℕ, suc, ◌+◌, ◌<◌, ◌≤◌, ◌↔◌, ◌⊎◌, length, map};
-ghost use Rattle.std.specs.Prelude.{slice_index, slice_set, Contains, IfOk, IsTrue};
-ghost use Rattle.sparse_factor.specs.InnerColumns.{IsRun, IsInRun, IsInColumn, IsInTail};
-ghost use Rattle.sparse_factor.specs.InnerColumns.{AreColumns};
-ghost use Rattle.sparse_factor.specs.InnerChildren.{Reaches, AreFalling, IsInTailOf, IsInTails};
+ghost use Rattle.std.specs.Prelude.{slice_index, slice_set, Contains, OnOk, IsTrue};
+ghost use Rattle.std.specs.List.Sorted.{IsStrictlyIncreasing};
+ghost use Rattle.sparse_factor.specs.InnerColumns.{IsRun, IsInRun, IsInColumn};
+ghost use Rattle.sparse_factor.specs.InnerColumns.{AreColumns, AreRowsBelow};
+ghost use Rattle.sparse_factor.specs.InnerChildren.{Reaches, AreFalling, IsInTailOf, HasOthers};
+ghost use Rattle.sparse_factor.specs.InnerMarks.{AreMarked, AreAtMost};
 ghost use Rattle.sparse_factor.specs.InnerTaken.{HasTaken};
 
+use super::Columns;
 use super::runs::skip_row;
-use super::{Columns, count_steps};
+use super::taken::{Taken, sort_rows, take_tail};
 use sparse_base::steps::Steps;
 use sparse_pattern::counting::Count;
 use std::alloc::AllocError;
@@ -60,39 +63,113 @@ pub(super) fn is_single<C: Count>(nexts: &[C], first: usize) -> bool
     first == 0 || nexts[first - 1].get() == 0
 }
 
-// Appends the tails of all columns on a list but the longest, in any order. Counts a step for each row.
-pub(super) fn gather_tails<C: Count>(
+// Takes up the tails of all children but the longest, and sorts the rows that are taken up. The children are on the list
+// that begins at `children.0`, and the longest has the head `children.1`. Counts a step for each row of a tail.
+#[inline(always)]
+pub(super) fn take_others<C: Count>(
     columns: &Columns,
     nexts: &[C],
-    first: usize,
-    longest: usize,
-    gathered: &mut Vec<usize>,
+    children: (usize, usize),
+    mark: usize,
+    taken: &mut Taken<C>,
     steps: &mut Steps,
 ) -> Result<(), AllocError>
     requires columns { AreColumns columns.now.offsets.items columns.now.rows.items }
     requires falling { AreFalling (map C.number nexts.now) }
     requires linked { length columns.now.offsets.items ≤ length nexts.now + 1 }
-    requires first { first < length columns.now.offsets.items }
-    ensures kept { IfOk result (λ _. (i : ℕ) → Contains gathered.old.items i
-        → Contains gathered.new.items i) }
-    ensures sound { IfOk result (λ _. (i : ℕ) → Contains gathered.new.items i
-        → Contains gathered.old.items i ⊎ IsInTails columns.now.offsets.items
-        columns.now.rows.items (map C.number nexts.now) first i) }
-    ensures whole { IfOk result (λ _. (i k : ℕ) → Reaches (map C.number nexts.now) first k
-        → longest ≢ suc k → IsInTail columns.now.offsets.items columns.now.rows.items k i
-        → Contains gathered.new.items i) }
-    ensures taken { HasTaken (λ i k. Reaches (map C.number nexts.now) first k × (longest ≢ suc k)
-        × IsInColumn columns.now.offsets.items columns.now.rows.items k i) steps.old steps.new }
+    requires first { children.0 < length columns.now.offsets.items }
+    requires some { children.0 ≢ 0 → children.1 ≢ 0 }
+    requires reached { (k : ℕ) → children.1 ≡ suc k
+        → Reaches (map C.number nexts.now) children.0 k }
+    requires width { mark < C.limit }
+    requires inside { AreRowsBelow (length taken.old.marks.items) columns.now.rows.items }
+    requires marked { AreMarked mark (map C.number taken.old.marks.items) taken.old.rows.items }
+    requires rising { IsStrictlyIncreasing taken.old.rows.items }
+    ensures count { length taken.new.marks.items ≡ length taken.old.marks.items }
+    ensures marks { AreAtMost mark (map C.number taken.new.marks.items) }
+    ensures rising { OnOk result (IsStrictlyIncreasing taken.new.rows.items) }
+    ensures rows { OnOk result (HasOthers columns.now.offsets.items columns.now.rows.items
+        (map C.number nexts.now) children.0 children.1 taken.old.rows.items taken.new.rows.items) }
+    ensures taken { HasTaken (λ i k. Reaches (map C.number nexts.now) children.0 k
+        × (children.1 ≢ suc k) × IsInColumn columns.now.offsets.items columns.now.rows.items k i)
+        steps.old steps.new }
 {
+    // With at most one child there is nothing to take up or sort.
+    if is_single(nexts, children.0) {
+        return Ok(());
+    }
+    take_tails(columns, nexts, children, mark, taken, steps)?;
+    sort_rows(&mut taken.rows);
+    Ok(())
+}
+
+// Takes up the tails of all children but the longest, in any order. Counts a step for each row.
+#[inline(always)]
+fn take_tails<C: Count>(
+    columns: &Columns,
+    nexts: &[C],
+    children: (usize, usize),
+    mark: usize,
+    taken: &mut Taken<C>,
+    steps: &mut Steps,
+) -> Result<(), AllocError>
+    requires columns { AreColumns columns.now.offsets.items columns.now.rows.items }
+    requires falling { AreFalling (map C.number nexts.now) }
+    requires linked { length columns.now.offsets.items ≤ length nexts.now + 1 }
+    requires first { children.0 < length columns.now.offsets.items }
+    requires width { mark < C.limit }
+    requires inside { AreRowsBelow (length taken.old.marks.items) columns.now.rows.items }
+    requires marked { AreMarked mark (map C.number taken.old.marks.items) taken.old.rows.items }
+    ensures count { length taken.new.marks.items ≡ length taken.old.marks.items }
+    ensures marked { AreMarked mark (map C.number taken.new.marks.items) taken.new.rows.items }
+    ensures rows { OnOk result (HasOthers columns.now.offsets.items columns.now.rows.items
+        (map C.number nexts.now) children.0 children.1 taken.old.rows.items taken.new.rows.items) }
+    ensures taken { HasTaken (λ i k. Reaches (map C.number nexts.now) children.0 k
+        × (children.1 ≢ suc k) × IsInColumn columns.now.offsets.items columns.now.rows.items k i)
+        steps.old steps.new }
+{
+    let (first, longest) = children;
     let mut head = first;
     while head != 0 {
         if head != longest {
-            let (from, to) = tail_of(columns, head);
-            count_steps(to - from, steps);
-            gathered.extend_from_slice(&columns.rows[from..to])?;
+            take_tail_of(columns, head, mark, taken, steps)?;
         }
         head = nexts[head - 1].get();
     }
+    Ok(())
+}
+
+// Takes up the tail of the column of `head`. Counts a step for each row.
+#[inline(always)]
+fn take_tail_of<C: Count>(
+    columns: &Columns,
+    head: usize,
+    mark: usize,
+    taken: &mut Taken<C>,
+    steps: &mut Steps,
+) -> Result<(), AllocError>
+    requires columns { AreColumns columns.now.offsets.items columns.now.rows.items }
+    requires head { head < length columns.now.offsets.items }
+    requires width { mark < C.limit }
+    requires inside { AreRowsBelow (length taken.old.marks.items) columns.now.rows.items }
+    requires marked { AreMarked mark (map C.number taken.old.marks.items) taken.old.rows.items }
+    ensures count { length taken.new.marks.items ≡ length taken.old.marks.items }
+    ensures marked { AreMarked mark (map C.number taken.new.marks.items) taken.new.rows.items }
+    ensures rows { OnOk result ((i : ℕ) → Contains taken.new.rows.items i
+        ↔ (Contains taken.old.rows.items i ⊎ IsInTailOf columns.now.offsets.items
+        columns.now.rows.items head i)) }
+    ensures counted { HasTaken (λ i k. (head ≡ suc k)
+        × IsInColumn columns.now.offsets.items columns.now.rows.items k i) steps.old steps.new }
+{
+    let (from, to) = tail_of(columns, head);
+    taken.rows.reserve(to - from)?;
+    take_tail(
+        &columns.rows[from..to],
+        mark,
+        &mut taken.marks,
+        &mut taken.rows,
+        steps,
+    );
     Ok(())
 }
 

@@ -3,16 +3,17 @@ use Rattle.std.proofs.Common.{◌≡◌, ℕ, ◌+◌, ◌<◌, ◌≤◌, ◌++
 use Rattle.std.proofs.Common.{inl, inr, set, slice_range, subst, sym, ap, ◌∙◌, refl, rules, arith}
 use Rattle.std.proofs.lemmas.Bool.{cases_eq}
 use Rattle.std.proofs.lemmas.Grind.{common_steps}
-use Rattle.std.proofs.lemmas.List.{length-map}
+use Rattle.std.proofs.lemmas.List.{length-map, length-replicate}
 use Rattle.std.proofs.lemmas.Result.{IfOk-from_err}
 use Rattle.sparse_pattern.specs.Raw.{Raw, raw_of, start_of, IsValid}
 use Rattle.sparse_pattern.proofs.BuiltLanes.{all_built}
 use Rattle.sparse_factor.specs.Fill.{LowerBase, ListsFill}
 use Rattle.sparse_factor.specs.InnerFilled.{Filled}
+use Rattle.sparse_factor.specs.InnerColumns.{AreRowsBelow}
 use Rattle.sparse_factor.specs.InnerChildren.{AreFalling}
 use Rattle.sparse_factor.proofs.FillLaws.{low_filled, row_base}
 use Rattle.sparse_factor.proofs.AppendedColumns.{merged_next, column_rising, lane_low, lane_within}
-use Rattle.sparse_factor.proofs.Merged.{none_merged, are_columns}
+use Rattle.sparse_factor.proofs.Merged.{none_merged, are_columns, zero_at}
 use Rattle.sparse_factor.proofs.MergedSteps.{taken_more, taken_within}
 use Rattle.sparse_factor.proofs.Taken.{none_taken, taken_later}
 use Rattle.sparse_factor.proofs.factorization.columns.merged_columns.Goals as goal
@@ -31,6 +32,17 @@ loop-column-init g c =
       merged = rw (c.in_ok-columns.ensures.offsets, c.in_ok-columns.ensures.rows)
           (none_merged (LowerBase c.args.base.now) n (map f c.in_ok-firsts.firsts.items)
           (map f c.in_ok-nexts.nexts.items) c.in_ok-firsts.ensures c.in_ok-nexts.ensures);
+      count = omega (
+        arith,
+        length-map c.in_ok-zeros.field-0.items f,
+        ap length c.in_ok-zeros.ensures,
+        length-replicate {A = ℕ} n 0,
+      );
+      marks = λ i. omega (
+        arith,
+        ap (λ xs. slice_index xs i) c.in_ok-zeros.ensures,
+        zero_at n i,
+      );
       taken = taken_later 0 _ _ (none_taken _ c.args.steps.now)
           (omega (arith, c.major_offsets.ensures.valid.first)) (omega arith);
     }
@@ -64,7 +76,11 @@ append_column-requires g c =
         c.loop-column-test.true,
       );
       first = omega (arith, read, are.heads l.column, are.built.valid.count);
-      own = c.own_rows-own.ensures.rising;
+      width = omega (arith, c.requires.width, c.major_dim-size.ensures, c.loop-column-test.true);
+      inside = subst (λ m. AreRowsBelow m l.columns.rows.items)
+          (sym (c.take_base.ensures.count ∙ l.invariant.count)) are.inside;
+      marked = c.in_ok-take_base.ensures.marked;
+      rising = c.in_ok-take_base.ensures.rising;
     }
 
 pub loop-column-preserved : goal.loop-column-preserved
@@ -92,8 +108,8 @@ loop-column-preserved g c =
     let taken = rw (c.deref.ensures.value, read) at c.in_ok-append_column.ensures.taken in
     rw (firsts, nexts) record {
       merged = merged_next base (λ i j b. b.1) n offsets rows (map f l.firsts.items)
-          (map f l.nexts.items) j are c.loop-column-test.true c.own_rows-own.result.now
-          (own_base g at.After-own_rows-own) (base_within g at.At-loop-column)
+          (map f l.nexts.items) j are c.loop-column-test.true c.take_base.new.taken.rows.items
+          (own_base g at.After-get-first) (base_within g at.At-loop-column)
           c.push.new.self.items c.append_column.new.columns.rows.items
           (column_gained g here read) (offsets_grown g here) _ (lane_read g here)
           c.first_below-parent.result (map f on.firsts) (map f on.nexts)
@@ -109,8 +125,10 @@ loop-column-preserved g c =
           c.first_below-parent.result)) old-nexts
           ∙ ap (λ xs. set (map f l.nexts.items) j (slice_index (map f xs)
           c.first_below-parent.result)) old-firsts);
+      count = c.append_column.ensures.count ∙ c.take_base.ensures.count ∙ l.invariant.count;
+      marks = c.append_column.ensures.marks;
       taken = taken_more base (λ i j b. b.1) n offsets rows (map f l.firsts.items)
-          (map f l.nexts.items) j are (taken_before g at.After-own_rows-own) taken;
+          (map f l.nexts.items) j are (taken_before g at.After-get-first) taken;
     }
 
 pub first_below-parent-requires : goal.first_below-parent-requires
@@ -121,19 +139,19 @@ first_below-parent-requires g c =
     let at = goal.at.first_below-parent-requires g c in
     let here = at.After-deref-in-loop-column in
     let read = first_read g at.After-get-first in
-    let own = own_base g at.After-own_rows-own in
+    let own = own_base g at.After-get-first in
     let within = base_within g at.At-loop-column in
     let gained = column_gained g here read in
     let grown = offsets_grown g here in
     record {
       rising = column_rising base (λ i j b. b.1) c.major_dim-size.result l.columns.offsets.items
           l.columns.rows.items (map f l.firsts.items) (map f l.nexts.items) l.column
-          l.invariant.merged c.loop-column-test.true c.own_rows-own.result.now own within
+          l.invariant.merged c.loop-column-test.true c.take_base.new.taken.rows.items own within
           c.push.new.self.items c.append_column.new.columns.rows.items gained grown _
           (lane_read g here);
       low = lane_low base (λ i j b. b.1) c.major_dim-size.result l.columns.offsets.items
           l.columns.rows.items (map f l.firsts.items) (map f l.nexts.items) l.column
-          l.invariant.merged c.loop-column-test.true c.own_rows-own.result.now own within
+          l.invariant.merged c.loop-column-test.true c.take_base.new.taken.rows.items own within
           c.push.new.self.items c.append_column.new.columns.rows.items gained grown _
           (lane_read g here);
     }
@@ -151,7 +169,7 @@ hand_on-requires g c =
     let read = first_read g at.After-get-first in
     let within = lane_within base (λ i j b. b.1) n l.columns.offsets.items
     l.columns.rows.items (map f l.firsts.items) (map f l.nexts.items) l.column are
-    c.loop-column-test.true c.own_rows-own.result.now (own_base g at.After-own_rows-own)
+    c.loop-column-test.true c.take_base.new.taken.rows.items (own_base g at.After-get-first)
     (base_within g at.At-loop-column) c.push.new.self.items
     c.append_column.new.columns.rows.items (column_gained g here read) (offsets_grown g here) _
     (lane_read g here) in
@@ -182,6 +200,27 @@ hand_on-requires g c =
       );
     }
 
+pub returns-in_err-take_base : goal.returns-in_err-take_base
+returns-in_err-take_base g c =
+    let l = c.loop-column in
+    let lane = c.major_offsets.ensures.valid.lanes l.column
+    (omega (arith, c.loop-column-test.true, c.major_dim-size.ensures)) in
+    let err = c.from_residual-in_err-take_base.ensures.0 in
+    record {
+      rows = IfOk-from_err _ _ err;
+      columns = IfOk-from_err _ _ err;
+      places = IfOk-from_err _ _ err;
+      valid = IfOk-from_err _ _ err;
+      all_read = search rules;
+      no_more = λ fill all. omega (
+        arith,
+        c.in_err-take_base.ensures.none,
+        taken_within (LowerBase c.args.base.now) l.column l.invariant.taken fill all,
+        lane.ordered,
+        lane.inside,
+      );
+    }
+
 pub returns-in_err-append_column : goal.returns-in_err-append_column
 returns-in_err-append_column g c =
     let f = g.C.Count.number in
@@ -192,7 +231,7 @@ returns-in_err-append_column g c =
     let now = rw (c.deref.ensures.value, read) at c.in_err-append_column.ensures.taken in
     let taken = taken_more base (λ i j b. b.1) c.major_dim-size.result l.columns.offsets.items
     l.columns.rows.items (map f l.firsts.items) (map f l.nexts.items) l.column
-    l.invariant.merged (taken_before g at.After-own_rows-own) now in
+    l.invariant.merged (taken_before g at.After-get-first) now in
     let lane = c.major_offsets.ensures.valid.lanes l.column
     (omega (arith, c.loop-column-test.true, c.major_dim-size.ensures)) in
     let err = c.from_residual-in_err-append_column.ensures.0 in
@@ -216,7 +255,7 @@ returns-in_err-push g c =
     let now = rw (c.deref.ensures.value, read) at c.in_ok-append_column.ensures.taken in
     let taken = taken_more base (λ i j b. b.1) c.major_dim-size.result l.columns.offsets.items
     l.columns.rows.items (map f l.firsts.items) (map f l.nexts.items) l.column
-    l.invariant.merged (taken_before g at.After-own_rows-own) now in
+    l.invariant.merged (taken_before g at.After-get-first) now in
     let lane = c.major_offsets.ensures.valid.lanes l.column
     (omega (arith, c.loop-column-test.true, c.major_dim-size.ensures)) in
     let err = c.from_residual-in_err-push.ensures.0 in

@@ -1,6 +1,7 @@
-use Rattle.std.proofs.Common.{◌+◌, map}
+use Rattle.std.proofs.Common.{◌≡◌, ◌+◌, length, map}
 use Rattle.sparse_pattern.specs.Raw.{start_of}
 use Rattle.sparse_factor.specs.Fill.{LowerBase}
+use Rattle.sparse_factor.specs.InnerMarks.{AreAtMost}
 use Rattle.sparse_factor.specs.InnerTaken.{HasTaken}
 use Rattle.sparse_factor.proofs.Merged.{AreMerged}
 use Rattle.sparse_factor.proofs.MergedSteps.{IsTakenBefore}
@@ -13,6 +14,8 @@ invariant-loop-column g l =
     record {
       merged : AreMerged base l.size l.columns.offsets.items l.columns.rows.items
           (map f l.firsts.items) (map f l.nexts.items) l.column;
+      count : length l.taken.marks.items ≡ l.size;
+      marks : AreAtMost l.column (map f l.taken.marks.items);
       taken : HasTaken (IsTakenBefore base l.column)
           (l.initial.steps + start_of l.base l.column) l.steps;
     }

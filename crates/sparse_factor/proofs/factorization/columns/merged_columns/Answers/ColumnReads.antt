@@ -1,7 +1,6 @@
 -- What an iteration of `merged_columns` reads and appends.
 use Rattle.std.proofs.Common.{◌≡◌, ℕ, ◌+◌, ◌-◌, ◌<◌, ◌⊎◌, ◌↔◌, ◌++◌, ◌∷◌, [], length, map}
-use Rattle.std.proofs.Common.{slice_index, slice_range, Contains, sym, ap, ◌∙◌, subst, arith}
-use Rattle.std.specs.List.Sorted.{IsStrictlyIncreasing}
+use Rattle.std.proofs.Common.{slice_index, slice_range, Contains, ap, ◌∙◌, arith}
 use Rattle.std.proofs.lemmas.List.{length-map}
 use Rattle.sparse_pattern.specs.Raw.{start_of, end_of}
 use Rattle.sparse_pattern.specs.InnerGainedLanes.{GainsLane}
@@ -14,7 +13,6 @@ use Rattle.sparse_factor.proofs.MergedSteps.{IsTakenBefore}
 use Rattle.sparse_factor.proofs.Taken.{taken_later}
 use Rattle.sparse_factor.proofs.factorization.columns.merged_columns.Given.{Over}
 use Rattle.sparse_factor.proofs.factorization.columns.merged_columns.Goals.{At-loop-column}
-use Rattle.sparse_factor.proofs.factorization.columns.merged_columns.Goals.{After-own_rows-own}
 use Rattle.sparse_factor.proofs.factorization.columns.merged_columns.Goals.{After-get-first}
 use Rattle.sparse_factor.proofs.factorization.columns.merged_columns.Goals.{After-deref-in-loop-column}
 
@@ -29,24 +27,24 @@ base_within g c i k b = omega (
 )
 
 -- the column's own rows are its base
-pub own_base : (g : Over) (c : After-own_rows-own g) (i : ℕ)
-    → Contains c.own_rows-own.result.now i ↔ LowerBase c.args.base.now i c.loop-column.column
-own_base g c i = c.own_rows-own.ensures.rows i
+pub own_base : (g : Over) (c : After-get-first g) (i : ℕ)
+    → Contains c.take_base.new.taken.rows.items i ↔ LowerBase c.args.base.now i c.loop-column.column
+own_base g c i = c.in_ok-take_base.ensures.rows i
 
 -- the steps before the column, and those for its base
-pub taken_before : (g : Over) (c : After-own_rows-own g)
+pub taken_before : (g : Over) (c : After-get-first g)
     → HasTaken (IsTakenBefore (LowerBase c.args.base.now) c.loop-column.column)
     (c.args.steps.now + start_of c.args.base.now (c.loop-column.column + 1))
-    c.own_rows-own.new.steps
+    c.take_base.new.steps
 taken_before g c =
     let d = c.args.base.now in
     let j = c.loop-column.column in
     let lane = c.major_offsets.ensures.valid.lanes j
     (omega (arith, c.loop-column-test.true, c.major_dim-size.ensures)) in
     taken_later (end_of d j - start_of d j) (c.args.steps.now + start_of d (j + 1))
-    c.own_rows-own.new.steps c.loop-column.invariant.taken
+    c.take_base.new.steps c.loop-column.invariant.taken
     (omega (arith, lane.ordered))
-    (omega (arith, lane.ordered, c.own_rows-own.ensures.counted))
+    (omega (arith, lane.ordered, c.in_ok-take_base.ensures.counted))
 
 -- the head of the list of children, as it is read
 pub first_read : (g : Over) (c : After-get-first g) → c.get-first.result
@@ -67,7 +65,7 @@ pub column_gained : (g : Over) (c : After-deref-in-loop-column g)
     (λ i. IsInTails c.loop-column.columns.offsets.items c.loop-column.columns.rows.items
     (map g.C.Count.number c.loop-column.nexts.items)
     (slice_index (map g.C.Count.number c.loop-column.firsts.items) c.loop-column.column) i
-    ⊎ Contains c.own_rows-own.result.now i)
+    ⊎ Contains c.take_base.new.taken.rows.items i)
 column_gained g c read =
     rw (c.deref.ensures.value, read) at c.in_ok-append_column.ensures.gains
 

@@ -1,0 +1,100 @@
+use Rattle.std.proofs.Common.{◌≡◌, ◌-◌, ◌<◌, length, map, slice_index, refl, ◌∙◌, inl, inr, arith}
+use Rattle.sparse_factor.proofs.Children.{number_at, reach_none}
+use Rattle.sparse_factor.proofs.Gathered.{none_gathered, longest_past, tail_taken, tail_gathered}
+use Rattle.sparse_factor.proofs.Taken.{taken_into}
+use Rattle.sparse_factor.proofs.factorization.columns.children.take_tails.Goals as goal
+use Rattle.sparse_factor.proofs.factorization.columns.children.take_tails.Goals.{then-head-longest+in_ok-take_tail_of, else-head-longest}
+
+pub loop-head-init : goal.loop-head-init
+loop-head-init g c = record {
+  gathered = none_gathered c.args.columns.now.offsets.items c.args.columns.now.rows.items
+      (map g.C.Count.number c.args.nexts.now) c.args.children.0 c.args.children.1
+      c.args.taken.now.rows.items c.args.steps.now c.requires.first;
+  count = refl;
+  marked = c.requires.marked;
+}
+
+pub loop-head-preserved : goal.loop-head-preserved
+loop-head-preserved g c =
+    let f = g.C.Count.number in
+    let offsets = c.args.columns.now.offsets.items in
+    let rows = c.args.columns.now.rows.items in
+    let nexts = map f c.args.nexts.now in
+    let first = c.args.children.0 in
+    let longest = c.args.children.1 in
+    let old = c.args.taken.now.rows.items in
+    let l = c.loop-head in
+    let inv = l.invariant in
+    let inside : l.head - 1 < length c.args.nexts.now = omega (
+      arith,
+      inv.gathered.within,
+      c.requires.linked,
+      c.loop-head-test.true,
+    ) in
+    let link : c.get-head.result ≡ slice_index nexts (l.head - 1) =
+    number_at f c.args.nexts.now (l.head - 1) c.get-head.result c.index-nexts-head.result inside
+    c.index-nexts-head.is c.get-head.ensures in
+    elim c.if-head-longest.branch [
+      | then-head-longest+in_ok-take_tail_of w ↦
+          let took = w.take_tail_of.ensures in
+          rw (w.taken-is, w.steps-is) record {
+            gathered = tail_gathered offsets rows nexts first longest old c.args.steps.now
+                l.taken.rows.items l.steps l.head c.get-head.result inv.gathered
+                c.requires.falling c.loop-head-test.true link w.if-head-longest.true
+                w.take_tail_of.new.steps took.counted w.take_tail_of.new.taken.rows.items
+                w.in_ok-take_tail_of.ensures.rows;
+            count = took.count ∙ inv.count;
+            marked = took.marked;
+          }
+      | else-head-longest w ↦ rw (w.taken-is, w.steps-is) record {
+        gathered = longest_past offsets rows nexts first longest old c.args.steps.now
+            l.taken.rows.items l.steps l.head c.get-head.result inv.gathered
+            c.requires.falling c.loop-head-test.true link w.if-head-longest.false;
+        count = inv.count;
+        marked = inv.marked;
+      }
+    ]
+
+pub loop-head-smaller : goal.loop-head-smaller
+loop-head-smaller g c =
+    let f = g.C.Count.number in
+    let l = c.loop-head in
+    let inside : l.head - 1 < length c.args.nexts.now = omega (
+      arith,
+      l.invariant.gathered.within,
+      c.requires.linked,
+      c.loop-head-test.true,
+    ) in
+    omega (
+      arith,
+      number_at f c.args.nexts.now (l.head - 1) c.get-head.result c.index-nexts-head.result inside
+          c.index-nexts-head.is c.get-head.ensures,
+      c.requires.falling (l.head - 1),
+      c.loop-head-test.true,
+    )
+
+pub returns-in_err-take_tail_of-clause-taken : goal.returns-in_err-take_tail_of-clause-taken
+returns-in_err-take_tail_of-clause-taken g c =
+    let nexts = map g.C.Count.number c.args.nexts.now in
+    let l = c.loop-head in
+    taken_into (λ i k h. h.0) (tail_taken c.args.columns.now.offsets.items
+    c.args.columns.now.rows.items nexts c.args.children.0 c.args.children.1
+    c.args.taken.now.rows.items c.args.steps.now l.taken.rows.items l.steps l.head
+    (slice_index nexts (l.head - 1)) l.invariant.gathered c.requires.falling
+    c.loop-head-test.true refl c.if-head-longest.true c.take_tail_of.new.steps
+    c.take_tail_of.ensures.counted)
+
+pub returns-clause-rows : goal.returns-clause-rows
+returns-clause-rows g c =
+    let are = c.loop-head.invariant.gathered in
+    record {
+      kept = are.kept;
+      sound = are.sound;
+      whole = λ i k r ne tail. elim (are.whole i k r ne tail) [
+        | inl has ↦ has
+        | inr more ↦ absurd (reach_none more c.loop-head-test.false)
+      ];
+    }
+
+pub returns-clause-taken : goal.returns-clause-taken
+returns-clause-taken g c = taken_into (λ i k h. h.0) c.loop-head.invariant.gathered.taken
