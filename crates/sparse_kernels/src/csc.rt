@@ -34,7 +34,7 @@ pub fn axpy_csc_col<T: Ring>(alpha: T, a: &CscMatrix<T>, col_index: usize, y: &m
     requires col { col_index < a.now.pattern.major_dim }
     requires fits { length y.old ≡ a.now.pattern.minor_dim }
     ensures added { AddsMultiple T.ring T.value T.zero_value (T.value alpha)
-        (λ i. (plain_of_cols T.ring T.value a.now).value i col_index) y.old y.new }
+        (λ k. (plain_of_cols T.ring T.value a.now).value k col_index) y.old y.new }
     ensures sound { IsSound a.now }
 {
     axpy_lane(alpha, a.cs(), col_index, y);
@@ -63,8 +63,8 @@ pub fn dot_csc_col<T: Ring>(a: &CscMatrix<T>, col_index: usize, x: &[T]) -> T
     requires col { col_index < a.now.pattern.major_dim }
     requires fits { length x.now ≡ a.now.pattern.minor_dim }
     ensures product { T.value result ≡ sum_below T.ring a.now.pattern.minor_dim
-        (λ i. T.ring.mul ((plain_of_cols T.ring T.value a.now).value i col_index)
-        (elements T.ring T.value T.zero_value x.now i)) }
+        (λ k. T.ring.mul ((plain_of_cols T.ring T.value a.now).value k col_index)
+        (elements T.ring T.value T.zero_value x.now k)) }
     ensures sound { IsSound a.now }
 {
     dot_lane(a.cs(), col_index, x)

@@ -34,7 +34,7 @@ pub fn axpy_csr_row<T: Ring>(alpha: T, a: &CsrMatrix<T>, row_index: usize, y: &m
     requires row { row_index < a.now.pattern.major_dim }
     requires fits { length y.old ≡ a.now.pattern.minor_dim }
     ensures added { AddsMultiple T.ring T.value T.zero_value (T.value alpha)
-        (λ j. (plain_of_rows T.ring T.value a.now).value row_index j) y.old y.new }
+        (λ k. (plain_of_rows T.ring T.value a.now).value row_index k) y.old y.new }
     ensures sound { IsSound a.now }
 {
     axpy_lane(alpha, a.cs(), row_index, y);
@@ -63,8 +63,8 @@ pub fn dot_csr_row<T: Ring>(a: &CsrMatrix<T>, row_index: usize, x: &[T]) -> T
     requires row { row_index < a.now.pattern.major_dim }
     requires fits { length x.now ≡ a.now.pattern.minor_dim }
     ensures product { T.value result ≡ sum_below T.ring a.now.pattern.minor_dim
-        (λ j. T.ring.mul ((plain_of_rows T.ring T.value a.now).value row_index j)
-        (elements T.ring T.value T.zero_value x.now j)) }
+        (λ k. T.ring.mul ((plain_of_rows T.ring T.value a.now).value row_index k)
+        (elements T.ring T.value T.zero_value x.now k)) }
     ensures sound { IsSound a.now }
 {
     dot_lane(a.cs(), row_index, x)

@@ -2,7 +2,7 @@
 
 use crate::matrices::{Arrays, Scalar, are, csc, dense};
 use sparse_algebra::error::OperationErrorKind;
-use sparse_algebra::scalar::{Mod, W32, W64};
+use sparse_algebra::scalar::{Mod, W32, W64, W128};
 use sparse_ldl::ldl::Ldl;
 use std::alloc::Global;
 
@@ -30,6 +30,31 @@ const EXCHANGE: Arrays<'static> = (2, &[0, 1, 2], &[1, 0], &[1, 1]);
 
 // Rows `1 2` and `9 7`.
 const LOPSIDED: Arrays<'static> = (2, &[0, 2, 4], &[0, 1, 0, 1], &[1, 9, 2, 7]);
+
+// Rows `3 2 .`, `2 5 4` and `. 4 7`.
+const BAND: Arrays<'static> = (
+    3,
+    &[0, 2, 5, 7],
+    &[0, 1, 0, 1, 2, 1, 2],
+    &[3, 2, 2, 5, 4, 4, 7],
+);
+
+// The factors of the band modulo 2^32.
+const BAND_FACTORS: Factors = (
+    &[0, 2, 4, 5],
+    &[0, 1, 1, 2, 2],
+    &[1, 1431655766, 1, -1171354716, 1],
+    &[3, 1431655769, 390451575],
+);
+
+// Five columns, and the products of the band with them.
+const COLUMNS: &[i32] = &[
+    1, -2, 3, 0, 0, 1, -5, 4, -3, 100000, -1, 2147483647, 7, 8, 9,
+];
+
+const PRODUCTS: &[i32] = &[
+    -1, 4, 13, 0, 4, 7, -7, -2, -5, 299998, 199991, 2147483637, 37, 90, 95,
+];
 
 const ONE_ZERO: Arrays<'static> = (1, &[0, 0], &[], &[]);
 
@@ -121,6 +146,7 @@ fn factors_of_small_matrices(rt: HostRuntime) {
     for (matrix, want) in WRAPPING {
         assert!(rt; has_factors::<W32>(rt.alloc(), *matrix, *want));
         assert!(rt; has_factors::<W64>(rt.alloc(), *matrix, *want));
+        assert!(rt; has_factors::<W128>(rt.alloc(), *matrix, *want));
     }
     assert!(rt; has_factors::<Mod<0>>(rt.alloc(), ONE_ZERO, (&[0, 0], &[], &[], &[0])));
 }
@@ -138,4 +164,10 @@ fn solutions_of_small_systems(rt: HostRuntime) {
     assert!(rt; is_solved::<Mod<7>>(rt.alloc(), TWO, 1, &[3, 2], &[1, 1]));
     assert!(rt; is_solved::<Mod<7>>(rt.alloc(), TWO, 0, &[], &[]));
     assert!(rt; is_solved::<Mod<0>>(rt.alloc(), ONE_ZERO, 1, &[5], &[0]));
+}
+
+#[test]
+fn solutions_of_several_columns(rt: HostRuntime) {
+    assert!(rt; has_factors::<W32>(rt.alloc(), BAND, BAND_FACTORS));
+    assert!(rt; is_solved::<W32>(rt.alloc(), BAND, 5, PRODUCTS, COLUMNS));
 }

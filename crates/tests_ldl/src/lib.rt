@@ -15,3 +15,5 @@ mod random;
 mod symmetric;
 #[cfg(test)]
 mod values;
+#[cfg(test)]
+mod wide;

@@ -1,6 +1,6 @@
 //! Matrices that the tables write as integers.
 
-use sparse_algebra::scalar::{Mod, Ring, Units, W32, W64};
+use sparse_algebra::scalar::{Mod, Ring, Units, W32, W64, W128};
 use sparse_base::dense::DMatrix;
 use sparse_forms::csc::CscMatrix;
 use std::alloc::{AllocError, Global};
@@ -19,6 +19,12 @@ impl Scalar for W32 {
 impl Scalar for W64 {
     fn of(number: i32) -> W64 {
         W64::new(i64::from(number))
+    }
+}
+
+impl Scalar for W128 {
+    fn of(number: i32) -> W128 {
+        W128::new(i128::from(number))
     }
 }
 

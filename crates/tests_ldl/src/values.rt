@@ -112,7 +112,7 @@ fn copies_and_comparisons(rt: HostRuntime) {
 fn text_of_factors(rt: HostRuntime) {
     let want =
         "Ldl { l: CscMatrix { cs: CsMatrix { sparsity_pattern: SparsityPattern { major_offsets: [0, 1], minor_indices: [0], \
-        minor_dim: 1 }, values: [Mod { number: 1 }] } }, d: [Mod { number: 3 }] }";
+        minor_dim: 1 }, values: [Mod { number: 1 }] } }, d: [Mod { number: 3 }], inverses: [Mod { number: 5 }] }";
     let shown = match factors::<Mod<7>>(rt.alloc(), THREE) {
         Some(ldl) => is_shown(rt.alloc(), &ldl, want),
         None => false,
