@@ -50,7 +50,7 @@ fn a_pattern_by_columns_takes_its_values_back(alloc: Global) -> Result<bool, Fai
     let identity = CscMatrix::<W64>::identity(alloc, 2)?;
     let (pattern, values) = identity.into_pattern_and_values();
     let matrix = CscMatrix::from_pattern_and_values_unchecked(pattern, values);
-    Ok(matrix.nnz() == 2 && matrix.get_entry(1, 1) == Some(SparseEntry::NonZero(&W64::new(1))))
+    Ok(matrix.values() == [W64::new(1), W64::new(1)].as_slice())
 }
 
 #[test]
