@@ -7,23 +7,41 @@ ghost use Rattle.sparse_pattern.specs.InnerPatternFaults.{IsRisingBelow, IsFirst
 
 use crate::error::SparseFormatErrorKind;
 use std::cmp::Ordering;
-use std::fmt;
 use thiserror::Error;
+
+// The texts of the faults, which a fault and the error of a matrix with this fault both show.
+const OFFSET_COUNT: &str = "Length of offset array is not equal to (major_dim + 1).";
+
+const FIRST_LAST: &str = "First or last offset is incompatible with format.";
+
+const OFFSETS_FALL: &str = "Offsets are not monotonically increasing.";
+
+const OUT_OF_BOUNDS: &str = "A minor index is out of bounds.";
+
+const DUPLICATE: &str = "Input data contains duplicate entries.";
+
+const INDICES_FALL: &str = "Minor indices are not monotonically increasing within each lane.";
 
 /// The error returned when offsets and indices do not describe a pattern.
 #[derive(Debug, Clone, Copy, PartialEq, Eq, Error)]
 pub enum SparsityPatternFormatError {
     /// The number of offsets is not one more than the number of lanes.
+    #[error("{}", OFFSET_COUNT)]
     InvalidOffsetArrayLength,
     /// The first offset is not zero, or the last is not the number of indices.
+    #[error("{}", FIRST_LAST)]
     InvalidOffsetFirstLast,
     /// A lane ends before it begins, or past the indices.
+    #[error("{}", OFFSETS_FALL)]
     NonmonotonicOffsets,
     /// A minor index is out of bounds.
+    #[error("{}", OUT_OF_BOUNDS)]
     MinorIndexOutOfBounds,
     /// A minor index occurs twice in a lane.
+    #[error("{}", DUPLICATE)]
     DuplicateEntry,
     /// A minor index is less than the one before it in its lane.
+    #[error("{}", INDICES_FALL)]
     NonmonotonicMinorIndices,
 }
 
@@ -47,24 +65,13 @@ impl SparsityPatternFormatError {
     // Returns the message of the error.
     pub(crate) fn message(self) -> &'static str {
         match self {
-            SparsityPatternFormatError::InvalidOffsetArrayLength =>
-                "Length of offset array is not equal to (major_dim + 1).",
-            SparsityPatternFormatError::InvalidOffsetFirstLast =>
-                "First or last offset is incompatible with format.",
-            SparsityPatternFormatError::NonmonotonicOffsets =>
-                "Offsets are not monotonically increasing.",
-            SparsityPatternFormatError::MinorIndexOutOfBounds => "A minor index is out of bounds.",
-            SparsityPatternFormatError::DuplicateEntry => "Input data contains duplicate entries.",
-            SparsityPatternFormatError::NonmonotonicMinorIndices =>
-                "Minor indices are not monotonically increasing within each lane.",
+            SparsityPatternFormatError::InvalidOffsetArrayLength => OFFSET_COUNT,
+            SparsityPatternFormatError::InvalidOffsetFirstLast => FIRST_LAST,
+            SparsityPatternFormatError::NonmonotonicOffsets => OFFSETS_FALL,
+            SparsityPatternFormatError::MinorIndexOutOfBounds => OUT_OF_BOUNDS,
+            SparsityPatternFormatError::DuplicateEntry => DUPLICATE,
+            SparsityPatternFormatError::NonmonotonicMinorIndices => INDICES_FALL,
         }
-    }
-}
-
-// Displays the message. Written by hand: the derive would write one call for each variant.
-impl fmt::Display for SparsityPatternFormatError {
-    fn fmt<W: fmt::Write>(&self, f: &mut fmt::Formatter<W>) -> fmt::Result {
-        f.write_str(self.message())
     }
 }
 
