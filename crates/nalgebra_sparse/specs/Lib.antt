@@ -34,6 +34,7 @@ pub use Rattle.sparse_algebra.specs.Prealloc
 pub use Rattle.sparse_pattern.specs.Counting
 -- patterns, format errors and entries
 pub use Rattle.sparse_pattern.specs.FirstFault
+pub use Rattle.sparse_pattern.specs.PatternData
 pub use Rattle.sparse_pattern.specs.PatternFaults
 pub use Rattle.sparse_pattern.specs.Raw
 pub use Rattle.sparse_pattern.specs.Refill
@@ -43,6 +44,7 @@ pub use Rattle.sparse_pattern.specs.TransposedPattern
 -- coordinate lists and dense matrices
 pub use Rattle.sparse_base.specs.Blocks
 pub use Rattle.sparse_base.specs.Coo
+pub use Rattle.sparse_base.specs.CooData
 pub use Rattle.sparse_base.specs.CooEquality
 pub use Rattle.sparse_base.specs.CooLending
 pub use Rattle.sparse_base.specs.CooPlain
@@ -71,7 +73,9 @@ pub use Rattle.sparse_cs.specs.Writing
 pub use Rattle.sparse_lanes.specs.ColWriting
 pub use Rattle.sparse_lanes.specs.RowWriting
 -- CSR and CSC
+pub use Rattle.sparse_forms.specs.CscData
 pub use Rattle.sparse_forms.specs.CscWriting
+pub use Rattle.sparse_forms.specs.CsrData
 pub use Rattle.sparse_forms.specs.CsrWriting
 -- sparse vectors and dense ones
 pub use Rattle.sparse_kernels.specs.SparseVectors
@@ -79,8 +83,6 @@ pub use Rattle.sparse_kernels.specs.SparseVectors
 pub use Rattle.sparse_convert.specs.FromDense
 pub use Rattle.sparse_convert.specs.OneMatrix
 pub use Rattle.sparse_convert.specs.ToDense
--- data structs
-pub use Rattle.sparse_data.specs.DataStructs
 -- sums and differences
 pub use Rattle.sparse_sums.specs.PatternSums
 -- products

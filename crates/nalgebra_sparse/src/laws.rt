@@ -38,10 +38,10 @@ pub mod wrapping {
 
 /// Compressed matrices: `==`, places, transposes, kept places, row order.
 pub use sparse_cs::laws as compressed;
-/// Data structs: what is copied out is taken back as an equal value.
-pub use sparse_data::laws as data;
 /// Expressions: words say one tree.
 pub use sparse_expr::laws as expressions;
+/// Data structs: what is copied out is taken back as an equal value.
+pub use sparse_laws::data;
 /// Operations: the product distributes over sums, its transpose is the product of the transposes, the identity is
 /// neutral.
 pub use sparse_laws::operations;

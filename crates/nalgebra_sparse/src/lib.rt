@@ -11,7 +11,7 @@ pub mod scalar;
 pub use sparse_base::coo::CooMatrix;
 pub use sparse_base::{coo, dense};
 pub use sparse_convert as convert;
-pub use sparse_data as data;
+pub use sparse_data_structs as data;
 pub use sparse_expr as expr;
 pub use sparse_factor::factorization;
 pub use sparse_forms::csc::CscMatrix;

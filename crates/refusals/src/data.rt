@@ -1,24 +1,60 @@
 //! Data structs and their JSON.
 
-use nalgebra_sparse::data::ToData;
 use nalgebra_sparse::{CooMatrix, CsrMatrix};
 use refused_calls::operands::{SMALL, pattern};
 use refused_calls::outcome::{Outcome, of_error, outcome_of};
 use refused_calls::turn::Turn;
 use serde::Serialize;
-use std::alloc::Global;
+use std::alloc::{AllocError, Global};
 
-pub fn run(turn: &mut Turn, case: &str) -> Outcome {
-    let alloc = turn.alloc();
-    match case {
-        "pattern" => of_value(turn, pattern(alloc, SMALL)),
-        "list" => of_value(turn, list(alloc)),
-        "rows" => of_value(turn, rows(alloc)),
-        "columns" => match rows(alloc) {
-            Some(rows) => of_value(turn, Some(rows.transpose_as_csc())),
-            None => Outcome::Unready,
-        },
+pub fn run(turn: &mut Turn, call: &str) -> Outcome {
+    match call {
+        "SparsityPattern::to_data" => of_pattern(turn),
+        "CooMatrix::to_data" => of_list(turn),
+        "CsrMatrix::to_data" => of_rows(turn),
+        "CscMatrix::to_data" => of_columns(turn),
         _ => Outcome::Unknown,
+    }
+}
+
+fn of_pattern(turn: &mut Turn) -> Outcome {
+    match pattern(turn.alloc(), SMALL) {
+        Some(pattern) => {
+            turn.begin();
+            json(turn.alloc(), pattern.to_data(turn.alloc()))
+        }
+        None => Outcome::Unready,
+    }
+}
+
+fn of_list(turn: &mut Turn) -> Outcome {
+    match list(turn.alloc()) {
+        Some(list) => {
+            turn.begin();
+            json(turn.alloc(), list.to_data(turn.alloc()))
+        }
+        None => Outcome::Unready,
+    }
+}
+
+fn of_rows(turn: &mut Turn) -> Outcome {
+    match rows(turn.alloc()) {
+        Some(rows) => {
+            turn.begin();
+            json(turn.alloc(), rows.to_data(turn.alloc()))
+        }
+        None => Outcome::Unready,
+    }
+}
+
+fn of_columns(turn: &mut Turn) -> Outcome {
+    match rows(turn.alloc()) {
+        Some(rows) => {
+            let columns = rows.transpose_as_csc();
+            turn.begin();
+            json(turn.alloc(), columns.to_data(turn.alloc()))
+        }
+        None => Outcome::Unready,
     }
 }
 
@@ -36,24 +72,8 @@ fn list(alloc: Global) -> Option<CooMatrix<i32>> {
 }
 
 // The JSON of a copy.
-fn of_value<M: ToData + Drop>(turn: &mut Turn, value: Option<M>) -> Outcome
-where
-    M::Copied: Serialize + Drop,
-{
-    match value {
-        Some(value) => {
-            turn.begin();
-            json(turn.alloc(), &value)
-        }
-        None => Outcome::Unready,
-    }
-}
-
-fn json<M: ToData>(alloc: Global, value: &M) -> Outcome
-where
-    M::Copied: Serialize + Drop,
-{
-    match value.to_data(alloc) {
+fn json<D: Serialize + Drop>(alloc: Global, copied: Result<D, AllocError>) -> Outcome {
+    match copied {
         Ok(copied) => outcome_of(serde_json::to_string(alloc, &copied)),
         Err(error) => of_error(&error),
     }

@@ -117,7 +117,7 @@ fn of_memory(turn: &mut Turn, group: &str, call: &str, case: &str) -> Outcome {
         "systems" => systems::run(turn, call),
         "updates" => updates::run(turn, call, case),
         "texts" => texts::run(turn, call, case),
-        "data" => data::run(turn, case),
+        "data" => data::run(turn, call),
         "expressions" => expressions::run(turn, call, case),
         _ => Outcome::Unknown,
     }

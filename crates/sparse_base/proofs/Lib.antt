@@ -3,3 +3,4 @@ pub mod TripletRuns
 pub mod DenseLemmas
 pub mod BlockLemmas
 pub mod Meanings
+pub mod CooParts

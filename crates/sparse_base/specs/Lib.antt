@@ -11,3 +11,4 @@ pub mod DenseEquality
 pub mod DenseLending
 pub mod DensePlain
 pub mod Blocks
+pub mod CooData

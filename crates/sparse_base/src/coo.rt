@@ -11,6 +11,7 @@ use std::marker::Model;
 use triplet_fault::first_fault;
 
 pub(crate) mod append;
+mod data;
 mod equality;
 mod from_iter;
 mod iter;

@@ -21,7 +21,7 @@ use base.Logic.{SProp, ent, sep, id⊢}
 use contract.Running.{Running, MachineTables}
 use Prim.Native.Nat.{ℕ}
 use denote.Triple.Call.{calls_from}
-use mir.Syntax.{Callee, Lifetime, Sym, Ty, ty_int, ty_ref, ty_enum, tnil, tcons, ttnil, ttcons, mut}
+use mir.Syntax.{Callee, Sym, Ty, ty_int, ty_ref, ty_enum, tnil, tcons, ttnil, ttcons, mut}
 use mir.Syntax.{erased, value_local, local, seq, assign, call, switch, return, arm, no_default, place}
 use mir.Syntax.{copy, deref, variant, field, addr_of, rv_opd, aggregate, int, w8}
 use mir.Val.{vptr, vint, has_ty, WT}

@@ -2,3 +2,5 @@ pub mod CsrWriting
 pub mod CscWriting
 pub mod InnerCsrWriting
 pub mod InnerCscWriting
+pub mod CsrData
+pub mod CscData

@@ -5,6 +5,7 @@ ghost use Rattle.sparse_pattern.specs.Raw.{empty_raw};
 ghost use Rattle.sparse_cs.specs.Compressed.{compressed_of, IsSound};
 
 mod constructors;
+mod data;
 mod filter;
 mod operators;
 mod reading;

@@ -9,3 +9,4 @@ pub mod InnerTransposes
 pub mod Refill
 pub mod InnerGainedLanes
 pub mod Counting
+pub mod PatternData

@@ -9,6 +9,7 @@ ghost use Rattle.sparse_pattern.specs.PatternFaults.{IsFirstFault};
 use std::alloc::{AllocError, Global};
 use std::marker::Model;
 
+mod data;
 mod faults;
 mod iter;
 mod transpose;

@@ -1,13 +1,13 @@
 //! Matrices written as JSON and taken back.
 
-use serde::{Deserialize, Serialize};
+use serde::Serialize;
 use sparse_base::coo::CooMatrix;
-use sparse_data::laws::{coo_returns, csc_returns, csr_returns, pattern_returns};
-use sparse_data::{ToData, TryFromData};
+use sparse_data_structs::{CooData, CscData, CsrData, PatternData};
 use sparse_forms::csc::CscMatrix;
 use sparse_forms::csr::CsrMatrix;
+use sparse_laws::data::{coo_returns, csc_returns, csr_returns, pattern_returns};
 use sparse_pattern::pattern::SparsityPattern;
-use std::alloc::Global;
+use std::alloc::{AllocError, Global};
 use test_matrices::fixtures::{csc_made_equals, csr_made_equals};
 
 // What a text describes.
@@ -55,16 +55,6 @@ const TEXTS: &[(Kind, &str)] = &[
     ),
 ];
 
-// The matrix or the pattern of a text. `None` for a refusal.
-fn taken<'a, M: TryFromData>(alloc: Global, text: &'a str) -> Option<M>
-where
-    M::Data: Deserialize<'a>,
-    M::Refusal: Drop,
-{
-    let source = serde_json::from_str::<M::Data>(alloc, text).ok()?;
-    M::try_from_data(source).ok()
-}
-
 // Whether a text was written that is the other one.
 fn written_equals<E: Drop>(written: Result<String, E>, text: &str) -> bool {
     match written {
@@ -73,12 +63,13 @@ fn written_equals<E: Drop>(written: Result<String, E>, text: &str) -> bool {
     }
 }
 
-// Whether a matrix or a pattern is written as this text.
-fn is_written<M: ToData>(alloc: Global, matrix: &M, text: &str) -> bool
-where
-    M::Copied: Serialize + Drop,
-{
-    match matrix.to_data(alloc) {
+// Whether data was copied out that is written as this text.
+fn is_written<D: Serialize + Drop>(
+    alloc: Global,
+    copied: Result<D, AllocError>,
+    text: &str,
+) -> bool {
+    match copied {
         Ok(data) => written_equals(serde_json::to_string(alloc, &data), text),
         Err(_error) => false,
     }
@@ -92,10 +83,17 @@ fn coo_comes_back(alloc: Global, matrix: &CooMatrix<i32>) -> bool {
     }
 }
 
+// The matrix of a text. `None` for a refusal.
+fn coo_of(alloc: Global, text: &str) -> Option<CooMatrix<i32>> {
+    let source = serde_json::from_str::<CooData<i32>>(alloc, text).ok()?;
+    CooMatrix::try_from_data(source).ok()
+}
+
 // Whether the matrix of a text is written as that text, and taken back as an equal matrix.
 fn coo_returns_text(alloc: Global, text: &str) -> bool {
-    match taken::<CooMatrix<i32>>(alloc, text) {
-        Some(matrix) => is_written(alloc, &matrix, text) && coo_comes_back(alloc, &matrix),
+    match coo_of(alloc, text) {
+        Some(matrix) => is_written(alloc, matrix.to_data(alloc), text)
+            && coo_comes_back(alloc, &matrix),
         None => false,
     }
 }
@@ -105,9 +103,15 @@ fn csr_comes_back(alloc: Global, matrix: &CsrMatrix<i32>) -> bool {
     csr_made_equals(csr_returns(alloc, matrix), matrix)
 }
 
+fn csr_of(alloc: Global, text: &str) -> Option<CsrMatrix<i32>> {
+    let source = serde_json::from_str::<CsrData<i32>>(alloc, text).ok()?;
+    CsrMatrix::try_from_data(source).ok()
+}
+
 fn csr_returns_text(alloc: Global, text: &str) -> bool {
-    match taken::<CsrMatrix<i32>>(alloc, text) {
-        Some(matrix) => is_written(alloc, &matrix, text) && csr_comes_back(alloc, &matrix),
+    match csr_of(alloc, text) {
+        Some(matrix) => is_written(alloc, matrix.to_data(alloc), text)
+            && csr_comes_back(alloc, &matrix),
         None => false,
     }
 }
@@ -117,9 +121,15 @@ fn csc_comes_back(alloc: Global, matrix: &CscMatrix<i32>) -> bool {
     csc_made_equals(csc_returns(alloc, matrix), matrix)
 }
 
+fn csc_of(alloc: Global, text: &str) -> Option<CscMatrix<i32>> {
+    let source = serde_json::from_str::<CscData<i32>>(alloc, text).ok()?;
+    CscMatrix::try_from_data(source).ok()
+}
+
 fn csc_returns_text(alloc: Global, text: &str) -> bool {
-    match taken::<CscMatrix<i32>>(alloc, text) {
-        Some(matrix) => is_written(alloc, &matrix, text) && csc_comes_back(alloc, &matrix),
+    match csc_of(alloc, text) {
+        Some(matrix) => is_written(alloc, matrix.to_data(alloc), text)
+            && csc_comes_back(alloc, &matrix),
         None => false,
     }
 }
@@ -132,9 +142,15 @@ fn pattern_comes_back(alloc: Global, pattern: &SparsityPattern) -> bool {
     }
 }
 
+fn pattern_of(alloc: Global, text: &str) -> Option<SparsityPattern> {
+    let source = serde_json::from_str::<PatternData>(alloc, text).ok()?;
+    SparsityPattern::try_from_data(source).ok()
+}
+
 fn pattern_returns_text(alloc: Global, text: &str) -> bool {
-    match taken::<SparsityPattern>(alloc, text) {
-        Some(pattern) => is_written(alloc, &pattern, text) && pattern_comes_back(alloc, &pattern),
+    match pattern_of(alloc, text) {
+        Some(pattern) => is_written(alloc, pattern.to_data(alloc), text)
+            && pattern_comes_back(alloc, &pattern),
         None => false,
     }
 }

@@ -3,7 +3,7 @@
 
 use crate::outcome::Outcome::Unread;
 use crate::outcome::read_coo;
-use sparse_data::CsrData;
+use sparse_data_structs::CsrData;
 use std::alloc::{AllocError, Global};
 
 const UNREAD: &[&str] = &[

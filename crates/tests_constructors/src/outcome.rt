@@ -1,7 +1,7 @@
 //! What becomes of a JSON text.
 
 use sparse_base::coo::CooMatrix;
-use sparse_data::{CooData, CscData, CsrData, PatternData, TryFromData};
+use sparse_data_structs::{CooData, CscData, CsrData, PatternData};
 use sparse_forms::csc::CscMatrix;
 use sparse_forms::csr::CsrMatrix;
 use sparse_pattern::error::{SparseFormatError, SparseFormatErrorKind};

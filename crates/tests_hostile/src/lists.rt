@@ -2,7 +2,6 @@
 
 use crate::made::{MOST, is_empty_or_large, is_made};
 use nalgebra_sparse::convert::serial::{convert_coo_csc, convert_coo_csr, convert_coo_dense};
-use nalgebra_sparse::data::{ToData, TryFromData};
 use nalgebra_sparse::dense::DMatrix;
 use nalgebra_sparse::scalar::W64;
 use nalgebra_sparse::{CooMatrix, SparseFormatErrorKind};

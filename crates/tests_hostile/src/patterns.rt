@@ -1,7 +1,6 @@
 //! Patterns at the ends of their sizes.
 
 use crate::made::{MOST, is_empty_or_large, is_made};
-use nalgebra_sparse::data::{ToData, TryFromData};
 use nalgebra_sparse::factorization::CscSymbolicCholesky;
 use nalgebra_sparse::ops::serial::{spadd_pattern, spmm_csc_pattern, spmm_csr_pattern};
 use nalgebra_sparse::pattern::SparsityPattern;

@@ -2,7 +2,6 @@
 
 use crate::made::{MOST, is_empty_or_large, is_made};
 use nalgebra_sparse::convert::serial::{convert_csr_coo, convert_csr_csc, convert_csr_dense};
-use nalgebra_sparse::data::{ToData, TryFromData};
 use nalgebra_sparse::scalar::W64;
 use nalgebra_sparse::{CsrMatrix, SparseEntry, SparseFormatErrorKind};
 use std::alloc::Global;

@@ -1,12 +1,12 @@
 -- `get_col_mut` lends a column of the core that `cs_with_col` lends, where it lends it.
-use Rattle.sparse_lanes.proofs.Walking.{refl, List, [], ◌∷◌, w64, named, a_type, Fn, Val, inst_fn}
-use Rattle.sparse_lanes.proofs.Walking.{‵, raw, ◌$◌, ◌∵◌, !, qed, done, move, join, fjoin, prop, Sq}
-use Rattle.sparse_lanes.proofs.Walking.{suffices, frame, usize, yes, no, Is, param, layouts, ◌↔◌}
+use Rattle.sparse_lanes.proofs.Walking.{refl, List, [], ◌∷◌, w64, named, a_type, Val, inst_fn}
+use Rattle.sparse_lanes.proofs.Walking.{◌$◌, !, done, move, join, fjoin}
+use Rattle.sparse_lanes.proofs.Walking.{suffices, frame, usize, yes, no, param, layouts}
 use Rattle.sparse_lanes.proofs.Walking.{param_laws, uint_vals, uint_Tells, mut_vals, mut_Tells}
 use Rattle.sparse_lanes.proofs.Walking.{plain, named_lft, nothing, alive, on_entry, triple_of, Lasts}
 use Rattle.sparse_lanes.proofs.Walking.{Stays, walk_of, stay_dropped, Goes-dropped, Goes-spent_ref}
-use Rattle.sparse_lanes.proofs.Walking.{ends_at, proved, says_three, option_laws, IsSome, IfSome}
-use Rattle.sparse_lanes.proofs.Walking.{RattleType, ◌≡◌, ◌<◌, ◌⊑◌, option_row, lasts, MutBor}
+use Rattle.sparse_lanes.proofs.Walking.{ends_at, proved, says_three, option_laws}
+use Rattle.sparse_lanes.proofs.Walking.{RattleType, ◌≡◌, ◌<◌, ◌⊑◌, lasts}
 use base.Logic.{via}
 use Rattle.sparse_cs.specs.Compressed.{IsSound}
 use Rattle.sparse_cs.specs.Lanes.{lane_at}

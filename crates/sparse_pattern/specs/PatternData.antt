@@ -1,0 +1,7 @@
+-- What the data struct of a pattern describes.
+use Rattle.sparse_pattern.specs.Raw.{Raw, raw_of}
+use Rattle.sparse_data_structs.specs.declared.pattern.PatternData.{PatternData}
+
+-- the raw data of a pattern
+abbrev pub pattern_in : PatternData → Raw
+pattern_in d = raw_of d.major_dim d.minor_dim d.major_offsets.items d.minor_indices.items
