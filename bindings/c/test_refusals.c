@@ -1,0 +1,134 @@
+/* Refuses each request for memory of each call in turn, one in each run: the call must end in its answer, or in
+ * OUT_OF_MEMORY with nothing written, and must free all that it took. Run by bindings/test, which links it with
+ * -Wl,--wrap so that the library's requests come here. Every call has a line in CALLS: .ci/refusals compares them with
+ * the sources. */
+#include "nalgebra_sparse.h"
+
+#include <stdio.h>
+#include <stdlib.h>
+#include <string.h>
+
+enum { ROOM = 32, TEXT = 256 };
+
+/* All that a call may write to. */
+typedef struct {
+    size_t offsets[ROOM], indices[ROOM], rows, cols, count;
+    int64_t values[ROOM], diagonal[ROOM];
+    uint8_t text[TEXT];
+} target;
+
+/* The number of the request that is refused, the requests of the call so far, and the blocks that it has not freed. */
+static size_t refused, requests, blocks;
+
+void *__real_malloc(size_t size);
+void *__real_realloc(void *old, size_t size);
+void __real_free(void *block);
+void *__wrap_malloc(size_t size);
+void *__wrap_realloc(void *old, size_t size);
+void __wrap_free(void *block);
+
+void *__wrap_malloc(size_t size) {
+    void *block = requests++ == refused ? NULL : __real_malloc(size);
+    blocks += block != NULL;
+    return block;
+}
+
+void *__wrap_realloc(void *old, size_t size) {
+    void *block = requests++ == refused ? NULL : __real_realloc(old, size);
+    blocks += block != NULL && old == NULL;
+    return block;
+}
+
+void __wrap_free(void *block) {
+    blocks -= block != NULL;
+    __real_free(block);
+}
+
+/* The matrix 1 0 2 / 0 3 0 / 4 0 5 by rows, or its transpose by columns; triplets, two of them at one place; a right
+ * side with two columns; and a text. */
+static const size_t OFFSETS[] = {0, 2, 3, 5}, INDICES[] = {0, 2, 1, 0, 2}, ROWS[] = {2, 0, 2, 1}, COLS[] = {1, 2, 1, 0};
+static const int64_t VALUES[] = {1, 2, 3, 4, 5}, SIDES[] = {1, -2, 3, 4, 5, 6};
+static const char LINES[] = "%%MatrixMarket matrix coordinate integer symmetric\n3 3 2\n1 1 5\n3 1 -7\n";
+
+#define PATTERN OFFSETS, 4, INDICES, 5
+#define MATRIX PATTERN, VALUES, 5
+#define LISTS ROWS, 4, COLS, 4, VALUES, 4
+#define BYTES (const uint8_t *)LINES, sizeof LINES - 1
+#define TO_PATTERN t->offsets, ROOM, t->indices, ROOM
+#define TO_VALUES t->values, ROOM
+#define TO_MATRIX TO_PATTERN, TO_VALUES, &t->count
+#define TO_FACTORS TO_PATTERN, TO_VALUES, t->diagonal, ROOM, &t->count
+
+/* Each call, with small operands. */
+#define CALLS(CALL)                                                     \
+    CALL(assemble_csr, 3, 3, LISTS, TO_MATRIX)                          \
+    CALL(assemble_csc, 3, 3, LISTS, TO_MATRIX)                          \
+    CALL(transpose, 3, 3, MATRIX, TO_MATRIX)                            \
+    CALL(add, 3, 3, MATRIX, MATRIX, TO_MATRIX)                          \
+    CALL(subtract, 3, 3, MATRIX, MATRIX, TO_MATRIX)                     \
+    CALL(multiply_places, 3, 3, 3, PATTERN, PATTERN, &t->count)         \
+    CALL(multiply, 3, 3, 3, MATRIX, MATRIX, TO_MATRIX)                  \
+    CALL(multiply_dense, 3, 3, 2, MATRIX, SIDES, 6, TO_VALUES)          \
+    CALL(solve_lower, 3, 2, MATRIX, true, SIDES, 6, TO_VALUES)          \
+    CALL(solve_lower_mod, 7, 3, 2, MATRIX, false, SIDES, 6, TO_VALUES)  \
+    CALL(divide, 3, 3, MATRIX, 5, TO_MATRIX)                            \
+    CALL(divide_mod, 101, 3, 3, MATRIX, 5, TO_MATRIX)                   \
+    CALL(fill_places, 3, NALGEBRA_SPARSE_BOTH, PATTERN, &t->count)      \
+    CALL(fill, 3, NALGEBRA_SPARSE_UPPER, PATTERN, TO_PATTERN, &t->count) \
+    CALL(solve_symmetric, 3, 2, MATRIX, SIDES, 6, TO_VALUES)            \
+    CALL(solve_symmetric_mod, 7, 3, 2, MATRIX, SIDES, 6, TO_VALUES)     \
+    CALL(factor_symmetric, 3, MATRIX, TO_FACTORS)                       \
+    CALL(factor_symmetric_mod, 7, 3, MATRIX, TO_FACTORS)                \
+    CALL(read_sizes, BYTES, &t->rows, &t->cols, &t->count)              \
+    CALL(read, BYTES, TO_PATTERN, TO_VALUES, &t->count)                 \
+    CALL(write_length, 3, 3, LISTS, &t->count)                          \
+    CALL(write, 3, 3, LISTS, t->text, TEXT, &t->count)
+
+#define DEFINE(name, ...) \
+    static int32_t name##_call(target *t) { return nalgebra_sparse_##name(__VA_ARGS__); }
+CALLS(DEFINE)
+
+#define ROW(name, ...) {#name, name##_call},
+static const struct {
+    const char *name;
+    int32_t (*run)(target *);
+} TABLE[] = {CALLS(ROW)};
+enum { COUNT = sizeof TABLE / sizeof *TABLE };
+
+/* Runs a call with a request refused, on arrays full of marks. Ends the program if it loses memory. */
+static int32_t run(size_t call, size_t request, target *t) {
+    memset(t, 77, sizeof *t);
+    refused = request, requests = 0, blocks = 0;
+    int32_t status = TABLE[call].run(t);
+    if (blocks != 0) {
+        fprintf(stderr, "%s: %zu blocks are not freed\n", TABLE[call].name, blocks);
+        exit(1);
+    }
+    return status;
+}
+
+int main(void) {
+    size_t all = 0, failures = 0;
+    target blank, answer, t;
+    memset(&blank, 77, sizeof blank);
+    for (size_t call = 0; call < COUNT; call++) {
+        int32_t status = run(call, SIZE_MAX, &answer);
+        size_t count = requests;
+        if (status != 0 || count == 0 || memcmp(&answer, &blank, sizeof blank) == 0) {
+            fprintf(stderr, "%s: status %d after %zu requests\n", TABLE[call].name, (int)status, count);
+            return 1;
+        }
+        for (size_t request = 0; request < count; request++) {
+            int32_t seen = run(call, request, &t);
+            const target *want = seen == NALGEBRA_SPARSE_OUT_OF_MEMORY ? &blank : &answer;
+            if ((seen != 0 && want == &answer) || memcmp(&t, want, sizeof t) != 0) {
+                fprintf(stderr, "%s: status %d with request %zu refused\n", TABLE[call].name, (int)seen, request + 1);
+                return 1;
+            }
+            failures += seen != 0;
+        }
+        all += count;
+    }
+    printf("c: %d calls, %zu refused requests: %zu out of memory, with nothing written\n", (int)COUNT, all, failures);
+    return 0;
+}
