@@ -4,6 +4,7 @@ use std::fmt;
 
 /// Why a call is refused.
 #[derive(Clone, Copy, Debug, PartialEq, Eq)]
+#[non_exhaustive]
 pub enum Error {
     /// An allocation failed.
     OutOfMemory,
@@ -37,11 +38,14 @@ pub enum Error {
     Unreadable,
     /// The shapes of the operands do not fit.
     ShapeMismatch,
+    /// The library answers with a status that this version of the crate does not know.
+    UnknownStatus(i32),
 }
 
 impl fmt::Display for Error {
     fn fmt(&self, f: &mut fmt::Formatter<'_>) -> fmt::Result {
         f.write_str(match self {
+            Error::UnknownStatus(status) => return write!(f, "the library answered with the unknown status {status}"),
             Error::OutOfMemory => "an allocation failed",
             Error::InvalidStructure => "the arrays have lengths, offsets or an order that the format does not allow",
             Error::IndexOutOfBounds => "a row or a column index is out of bounds",
@@ -84,7 +88,7 @@ pub(crate) fn answer(status: i32) -> Result<(), Error> {
         14 => Err(Error::NotLowerTriangle),
         15 => Err(Error::NonSquare),
         16 => Err(Error::Unreadable),
-        // The arrays for a result are as long as the header asks.
-        _ => unreachable!("status {status}"),
+        // The arrays for a result are as long as the header asks, so 5 is not among them.
+        _ => Err(Error::UnknownStatus(status)),
     }
 }

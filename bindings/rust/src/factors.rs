@@ -1,20 +1,42 @@
 //! The exact factorisation of a symmetric matrix.
 
-use crate::{calls, fill_places, into_arrays, square, zeros, Arrays, Error, Rows, Triangle};
+use crate::room::{into_parts, zeros};
+use crate::systems::{check_square, fill_places};
+use crate::{calls, ColumnArrays, Columns, Error, Triangle};
 
 /// The factors of a symmetric matrix, `A = L D L^T`.
 #[derive(Clone, Debug, Default, PartialEq, Eq)]
+#[non_exhaustive]
 pub struct Factors {
-    /// The arrays of L by columns. It has ones on its diagonal and zeros above it.
-    pub l: Arrays,
+    /// L, by columns. It has ones on its diagonal and zeros above it.
+    pub l: ColumnArrays,
     /// The diagonal of D. Each value has an inverse.
     pub d: Vec<i64>,
 }
 
-/// Returns the factors of the symmetric matrix whose entries on and above the diagonal are those of a square matrix, whose
-/// arrays by columns `columns` has. L has exactly the places of [`fill`](crate::fill) with the upper triangle.
-pub fn factor_symmetric(columns: Rows<'_>) -> Result<Factors, Error> {
-    let a = square(columns)?;
+/// Returns the factors of the symmetric matrix whose entries on and above the diagonal are those of a square matrix. L has
+/// exactly the places of [`fill`](crate::fill) with the upper triangle.
+///
+/// # Errors
+///
+/// [`Error::OutOfMemory`]; [`Error::InvalidStructure`], [`Error::IndexOutOfBounds`] or [`Error::DuplicateEntry`] for the
+/// first fault of the arrays; [`Error::ShapeMismatch`] if the matrix is not square;
+/// [`Error::Singular`] if no factorisation exists.
+///
+/// # Examples
+///
+/// ```
+/// use nalgebra_sparse_exact::{assemble_csc, factor_symmetric};
+///
+/// // 1 2 / 2 7 is L D L^T with L = 1 . / 2 1 and D = 1, 3.
+/// let a = assemble_csc(2, 2, &[0, 0, 1], &[0, 1, 1], &[1, 2, 7])?;
+/// let factors = factor_symmetric(a.as_columns())?;
+/// assert_eq!(factors.l.values, [1, 2, 1]);
+/// assert_eq!(factors.d, [1, 3]);
+/// # Ok::<(), nalgebra_sparse_exact::Error>(())
+/// ```
+pub fn factor_symmetric(a: Columns<'_>) -> Result<Factors, Error> {
+    // SAFETY: each pointer is that of a slice, with the slice's length behind it.
     into_factors(a, |o, x, v, d, places| unsafe {
         calls::nalgebra_sparse_factor_symmetric(
             a.rows,
@@ -25,8 +47,12 @@ pub fn factor_symmetric(columns: Rows<'_>) -> Result<Factors, Error> {
 }
 
 /// Returns those factors modulo one of [`MODULI`](crate::MODULI).
-pub fn factor_symmetric_mod(modulus: u64, columns: Rows<'_>) -> Result<Factors, Error> {
-    let a = square(columns)?;
+///
+/// # Errors
+///
+/// [`Error::UnknownModulus`]; otherwise as [`factor_symmetric`].
+pub fn factor_symmetric_mod(modulus: u64, a: Columns<'_>) -> Result<Factors, Error> {
+    // SAFETY: each pointer is that of a slice, with the slice's length behind it.
     into_factors(a, |o, x, v, d, places| unsafe {
         calls::nalgebra_sparse_factor_symmetric_mod(
             modulus, a.rows,
@@ -38,11 +64,12 @@ pub fn factor_symmetric_mod(modulus: u64, columns: Rows<'_>) -> Result<Factors, 
 
 /// Calls with arrays for the factors of a square matrix by columns.
 fn into_factors(
-    a: Rows<'_>,
+    a: Columns<'_>,
     call: impl FnOnce(&mut [usize], &mut [usize], &mut [i64], &mut [i64], &mut usize) -> i32,
 ) -> Result<Factors, Error> {
+    check_square(a)?;
     let room = fill_places(a.rows, Triangle::Upper, a.offsets, a.indices)?;
-    let mut d = zeros(a.rows, 0)?;
-    let l = into_arrays(a.rows, room, |o, x, v, places| call(o, x, v, &mut d, places))?;
-    Ok(Factors { l, d })
+    let mut d = zeros(a.rows)?;
+    let parts = into_parts(a.rows, room, |o, x, v, places| call(o, x, v, &mut d, places))?;
+    Ok(Factors { l: ColumnArrays::new((a.rows, a.cols), parts), d })
 }

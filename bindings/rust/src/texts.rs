@@ -1,7 +1,8 @@
 //! Texts in Matrix Market format.
 
 use crate::error::answer;
-use crate::{calls, zeros, Error};
+use crate::room::zeros;
+use crate::{calls, Error};
 
 /// A shape and triplets, in their order.
 #[derive(Clone, Debug, Default, PartialEq, Eq)]
@@ -19,10 +20,29 @@ pub struct Triplets {
 }
 
 /// Returns the triplets of a text with integers. A mirrored entry directly follows its own.
+///
+/// # Errors
+///
+/// [`Error::OutOfMemory`]; [`Error::Unreadable`]; the first error of the text: [`Error::InvalidText`],
+/// [`Error::InvalidHeader`], [`Error::NonSquare`], [`Error::EntryMismatch`], [`Error::ZeroIndex`], [`Error::TypeMismatch`],
+/// [`Error::NotLowerTriangle`], [`Error::DiagonalEntry`] or [`Error::IndexOutOfBounds`].
+///
+/// # Examples
+///
+/// ```
+/// use nalgebra_sparse_exact::{read, write};
+///
+/// let list = read(b"%%MatrixMarket matrix coordinate integer symmetric\n2 2 1\n2 1 -3\n")?;
+/// assert_eq!((&list.row_indices[..], &list.col_indices[..], &list.values[..]), (&[1, 0][..], &[0, 1][..], &[-3, -3][..]));
+/// assert!(write(&list)?.ends_with(b"2 2 2\n2 1 -3\n1 2 -3\n"));
+/// # Ok::<(), nalgebra_sparse_exact::Error>(())
+/// ```
 pub fn read(text: &[u8]) -> Result<Triplets, Error> {
     let (mut rows, mut cols, mut count) = (0, 0, 0);
+    // SAFETY: the pointers are those of a slice, with its length behind it, and of three numbers.
     answer(unsafe { calls::nalgebra_sparse_read_sizes(text.as_ptr(), text.len(), &mut rows, &mut cols, &mut count) })?;
-    let (mut i, mut j, mut values) = (zeros(count, 0)?, zeros(count, 0)?, zeros(count, 0)?);
+    let (mut i, mut j, mut values) = (zeros(count)?, zeros(count)?, zeros(count)?);
+    // SAFETY: each pointer is that of a slice, with the slice's length behind it, or of a number.
     answer(unsafe {
         calls::nalgebra_sparse_read(
             text.as_ptr(), text.len(),
@@ -33,16 +53,22 @@ pub fn read(text: &[u8]) -> Result<Triplets, Error> {
 }
 
 /// Returns the text of triplets, which is ASCII.
+///
+/// # Errors
+///
+/// [`Error::OutOfMemory`]; [`Error::InvalidStructure`] if the lists have different lengths; [`Error::IndexOutOfBounds`].
 pub fn write(list: &Triplets) -> Result<Vec<u8>, Error> {
     let (i, j, values) = (&list.row_indices, &list.col_indices, &list.values);
     let mut length = 0;
+    // SAFETY: each pointer is that of a slice, with the slice's length behind it, or of a number.
     answer(unsafe {
         calls::nalgebra_sparse_write_length(
             list.rows, list.cols,
             i.as_ptr(), i.len(), j.as_ptr(), j.len(), values.as_ptr(), values.len(), &mut length,
         )
     })?;
-    let mut text = zeros(length, 0)?;
+    let mut text = zeros(length)?;
+    // SAFETY: each pointer is that of a slice, with the slice's length behind it, or of a number.
     answer(unsafe {
         calls::nalgebra_sparse_write(
             list.rows, list.cols,

@@ -1,8 +1,12 @@
 //! Compares the calls with plain dense matrices in random cases, and tries each error.
 
+// The names of matrices and indices, and small numbers that fit in any type.
+#![allow(clippy::many_single_char_names, clippy::needless_range_loop)]
+#![allow(clippy::cast_possible_truncation, clippy::cast_possible_wrap, clippy::cast_sign_loss)]
+
 use nalgebra_sparse_exact::{
-    add, assemble_csc, assemble_csr, divide, fill, multiply, multiply_dense, solve_lower, solve_symmetric, subtract, transpose, Arrays, Error, Rows,
-    System, Triangle,
+    add, assemble_csc, assemble_csr, divide, fill, multiply, multiply_dense, solve_lower, solve_symmetric, subtract, transpose, Arrays,
+    ColumnArrays, Columns, Error, Rows, System, Triangle,
 };
 
 /// A generator of random numbers (xorshift).
@@ -53,7 +57,7 @@ impl Plain {
     }
 
     fn arrays(&self) -> Arrays {
-        let mut arrays = Arrays { offsets: vec![0], ..Arrays::default() };
+        let mut arrays = Arrays::new((self.rows, self.cols), (vec![0], vec![], vec![]));
         for i in 0..self.rows {
             for j in 0..self.cols {
                 if let Some(value) = self.at(i, j) {
@@ -64,6 +68,10 @@ impl Plain {
             arrays.offsets.push(arrays.indices.len());
         }
         arrays
+    }
+
+    fn column_arrays(&self) -> ColumnArrays {
+        ColumnArrays::new((self.rows, self.cols), self.transposed().arrays().into_parts())
     }
 
     fn transposed(&self) -> Plain {
@@ -103,10 +111,6 @@ impl Plain {
     }
 }
 
-fn view<'a>(plain: &Plain, arrays: &'a Arrays) -> Rows<'a> {
-    Rows { rows: plain.rows, cols: plain.cols, offsets: &arrays.offsets, indices: &arrays.indices, values: &arrays.values }
-}
-
 /// Random triplets, and the plain matrix that they mean.
 fn triplets(random: &mut Random, rows: usize, cols: usize) -> (Vec<usize>, Vec<usize>, Vec<i64>, Plain) {
     let (mut i, mut j, mut values, mut plain) = (vec![], vec![], vec![], Plain::empty(rows, cols));
@@ -130,11 +134,13 @@ fn random_cases_equal_plain_matrices() {
         let (_, _, _, c) = triplets(&mut random, m, k);
         let (x, y, z) = (a.arrays(), b.arrays(), c.arrays());
         assert_eq!(assemble_csr(n, m, &i, &j, &values), Ok(x.clone()));
-        assert_eq!(assemble_csc(n, m, &i, &j, &values), Ok(a.transposed().arrays()));
-        assert_eq!(transpose(view(&a, &x)), Ok(a.transposed().arrays()));
-        assert_eq!(add(view(&a, &x), view(&b, &y)), Ok(a.sum(&b, 1).arrays()));
-        assert_eq!(subtract(view(&a, &x), view(&b, &y)), Ok(a.sum(&b, -1).arrays()));
-        assert_eq!(multiply(view(&a, &x), view(&c, &z)), Ok(a.product(&c).arrays()));
+        assert_eq!(assemble_csc(n, m, &i, &j, &values), Ok(a.column_arrays()));
+        assert_eq!(transpose(x.as_rows()), Ok(a.transposed().arrays()));
+        assert_eq!(a.column_arrays().as_columns().transposed(), a.transposed().arrays().as_rows());
+        assert_eq!(x.as_rows().transposed(), a.transposed().column_arrays().as_columns());
+        assert_eq!(add(x.as_rows(), y.as_rows()), Ok(a.sum(&b, 1).arrays()));
+        assert_eq!(subtract(x.as_rows(), y.as_rows()), Ok(a.sum(&b, -1).arrays()));
+        assert_eq!(multiply(x.as_rows(), z.as_rows()), Ok(a.product(&c).arrays()));
     }
 }
 
@@ -208,25 +214,25 @@ fn dense_products_quotients_and_solves_equal_plain_ones() {
         let (_, _, _, a) = triplets(&mut random, n, m);
         let x = a.arrays();
         let b: Vec<i64> = (0..m * cols).map(|_| random.value()).collect();
-        assert_eq!(multiply_dense(view(&a, &x), cols, &b), Ok(times_dense(&a, cols, &b)));
+        assert_eq!(multiply_dense(x.as_rows(), cols, &b), Ok(times_dense(&a, cols, &b)));
         let divisor = random.value() | 1;
         let values = x.values.iter().map(|value| value.wrapping_mul(inverse(divisor))).collect();
-        assert_eq!(divide(view(&a, &x), divisor), Ok(Arrays { values, ..x.clone() }));
+        assert_eq!(divide(x.as_rows(), divisor), Ok(Arrays::new(x.shape(), (x.offsets.clone(), x.indices.clone(), values))));
 
         let a = square(&mut random);
-        let columns = a.transposed().arrays();
+        let columns = a.column_arrays();
         let b: Vec<i64> = (0..a.rows * cols).map(|_| random.value()).collect();
         let lower = kept(&a, |i, j| j <= i);
         let pivots = (0..a.rows).all(|k| a.at(k, k).is_some_and(|value| value % 2 != 0));
         for (system, part) in [(System::Lower, lower.clone()), (System::Transposed, lower.transposed())] {
-            match solve_lower(view(&a, &columns), system, cols, &b) {
+            match solve_lower(columns.as_columns(), system, cols, &b) {
                 Ok(solution) => assert_eq!(times_dense(&part, cols, &solution), b),
                 Err(error) => assert!(error == Error::Singular && cols > 0 && !pivots),
             }
         }
         let upper = kept(&a, |i, j| i <= j);
         let symmetric = upper.sum(&kept(&upper, |i, j| i < j).transposed(), 1);
-        match solve_symmetric(view(&a, &columns), cols, &b) {
+        match solve_symmetric(columns.as_columns(), cols, &b) {
             Ok(solution) => assert_eq!(times_dense(&symmetric, cols, &solution), b),
             Err(error) => assert!(error == Error::Singular && !has_factors(&symmetric)),
         }
@@ -238,7 +244,7 @@ fn fills_equal_those_of_the_definition() {
     let mut random = Random(0x1234_5678_9abc_def1);
     for _ in 0..1000 {
         let a = square(&mut random);
-        let columns = a.transposed().arrays();
+        let columns = a.column_arrays();
         for triangle in [Triangle::Upper, Triangle::Lower, Triangle::Both] {
             let mut base = Plain::empty(a.rows, a.rows);
             for i in 0..a.rows {
@@ -285,20 +291,21 @@ fn each_fault_is_an_error() {
         // The product reads the patterns first, and the number of values after them.
         assert_eq!(multiply(faulty, Rows { rows: 3, cols: 1, offsets: &[0, 0, 0, 0], indices: &[], values: &[] }), Err(error));
     }
-    let square = |indices, values| Rows { rows: 2, cols: 2, offsets: &[0, 1, 2], indices, values };
+    let square = |indices, values| Columns { rows: 2, cols: 2, offsets: &[0, 1, 2], indices, values };
+    let wide = Columns { cols: 3, ..square(&[0, 1], &[5, 7]) };
     let (odd, even, out) = (square(&[0, 1], &[5, 7]), square(&[0, 1], &[5, 6]), square(&[0, 2], &[5, 7]));
     assert_eq!(multiply_dense(sound, 1, &[1, 2]), Err(Error::InvalidStructure));
-    assert_eq!(multiply_dense(out, 1, &[1, 2]), Err(Error::IndexOutOfBounds));
-    assert_eq!(divide(odd, 2), Err(Error::Singular));
-    assert_eq!(divide(out, 3), Err(Error::IndexOutOfBounds));
+    assert_eq!(multiply_dense(out.transposed(), 1, &[1, 2]), Err(Error::IndexOutOfBounds));
+    assert_eq!(divide(odd.transposed(), 2), Err(Error::Singular));
+    assert_eq!(divide(out.transposed(), 3), Err(Error::IndexOutOfBounds));
     assert_eq!(solve_lower(even, System::Lower, 1, &[1, 2]), Err(Error::Singular));
     assert_eq!(solve_lower(out, System::Lower, 1, &[1, 2]), Err(Error::IndexOutOfBounds));
     assert_eq!(solve_lower(odd, System::Transposed, 2, &[1, 2]), Err(Error::InvalidStructure));
-    assert_eq!(solve_lower(sound, System::Lower, 1, &[1, 2]), Err(Error::ShapeMismatch));
+    assert_eq!(solve_lower(wide, System::Lower, 1, &[1, 2]), Err(Error::ShapeMismatch));
     assert_eq!(solve_symmetric(even, 1, &[1, 2]), Err(Error::Singular));
     assert_eq!(solve_symmetric(out, 1, &[1, 2]), Err(Error::IndexOutOfBounds));
     assert_eq!(solve_symmetric(odd, 2, &[1, 2]), Err(Error::InvalidStructure));
-    assert_eq!(solve_symmetric(sound, 1, &[1, 2]), Err(Error::ShapeMismatch));
+    assert_eq!(solve_symmetric(wide, 1, &[1, 2]), Err(Error::ShapeMismatch));
     assert_eq!(fill(2, Triangle::Both, &[0, 1, 2], &[0, 2]), Err(Error::IndexOutOfBounds));
     assert_eq!(multiply(sound, sound), Err(Error::ShapeMismatch));
     assert_eq!(add(sound, Rows { cols: 4, ..sound }), Err(Error::ShapeMismatch));

@@ -1,9 +1,13 @@
 //! Compares the calls with a modulus, and the factors of symmetric matrices, with plain equations in random cases, and tries
 //! each error.
 
+// The names of matrices and indices, and small numbers that fit in any type.
+#![allow(clippy::many_single_char_names, clippy::needless_range_loop)]
+#![allow(clippy::cast_possible_truncation, clippy::cast_possible_wrap, clippy::cast_sign_loss)]
+
 use nalgebra_sparse_exact::{
-    divide_mod, factor_symmetric, factor_symmetric_mod, fill, solve_lower_mod, solve_symmetric_mod, Arrays, Error, Rows, System, Triangle,
-    MODULI,
+    divide_mod, factor_symmetric, factor_symmetric_mod, fill, solve_lower_mod, solve_symmetric_mod, ColumnArrays, Columns, Error, System,
+    Triangle, MODULI,
 };
 
 /// A generator of random numbers (xorshift).
@@ -75,9 +79,9 @@ fn has_factors(m: u64, n: usize, entry: impl Fn(usize, usize) -> i64) -> bool {
 }
 
 /// A square matrix, as its arrays by columns and as the value at each row and column.
-fn square(random: &mut Random, m: u64) -> (Arrays, Vec<Vec<i64>>) {
+fn square(random: &mut Random, m: u64) -> (ColumnArrays, Vec<Vec<i64>>) {
     let n = random.below(6);
-    let (mut columns, mut dense) = (Arrays { offsets: vec![0], ..Arrays::default() }, vec![vec![0; n]; n]);
+    let (mut columns, mut dense) = (ColumnArrays::new((n, n), (vec![0], vec![], vec![])), vec![vec![0; n]; n]);
     for j in 0..n {
         for i in 0..n {
             if random.below(3) == 0 || i == j {
@@ -90,11 +94,6 @@ fn square(random: &mut Random, m: u64) -> (Arrays, Vec<Vec<i64>>) {
         columns.offsets.push(columns.indices.len());
     }
     (columns, dense)
-}
-
-fn view(a: &Arrays) -> Rows<'_> {
-    let size = a.offsets.len() - 1;
-    Rows { rows: size, cols: size, offsets: &a.offsets, indices: &a.indices, values: &a.values }
 }
 
 /// Whether each value is from 0 to m - 1.
@@ -117,7 +116,7 @@ fn quotients_and_solves_satisfy_their_equations() {
     for case in 0..2200 {
         let m = MODULI[case % MODULI.len()];
         let (columns, dense) = square(&mut random, m);
-        let (n, cols, a) = (dense.len(), random.below(4), view(&columns));
+        let (n, cols, a) = (dense.len(), random.below(4), columns.as_columns());
         let b: Vec<i64> = (0..n * cols).map(|_| random.value()).collect();
         let pivots = (0..n).all(|k| has_inverse(m, dense[k][k].into()));
         let lower = |i: usize, k: usize| if k <= i { dense[i][k] } else { 0 };
@@ -134,7 +133,7 @@ fn quotients_and_solves_satisfy_their_equations() {
             Err(error) => assert!(error == Error::Singular && !has_factors(m, n, symmetric)),
         }
         let divisor = random.value();
-        match divide_mod(m, a, divisor) {
+        match divide_mod(m, a.transposed(), divisor) {
             Ok(quotient) => {
                 assert!(are_reduced(m, &quotient.values));
                 let back = quotient.values.iter().map(|value| times(m, (*value).into(), divisor.into()));
@@ -152,7 +151,7 @@ fn factors_multiply_to_their_matrix() {
     for case in 0..2400 {
         let m = [0].iter().chain(&MODULI).copied().nth(case % 12).unwrap();
         let (columns, dense) = square(&mut random, m);
-        let (n, a) = (dense.len(), view(&columns));
+        let (n, a) = (dense.len(), columns.as_columns());
         let symmetric = |i: usize, k: usize| dense[i.min(k)][i.max(k)];
         let answer = if m == 0 { factor_symmetric(a) } else { factor_symmetric_mod(m, a) };
         assert_eq!(answer.clone().err(), if has_factors(m, n, symmetric) { None } else { Some(Error::Singular) });
@@ -179,20 +178,20 @@ fn factors_multiply_to_their_matrix() {
 
 #[test]
 fn each_fault_is_an_error() {
-    let square = |indices, values| Rows { rows: 2, cols: 2, offsets: &[0, 1, 2], indices, values };
-    let (sound, out, wide) = (square(&[0, 1], &[5, 8]), square(&[0, 2], &[5, 8]), Rows { cols: 3, ..square(&[0, 1], &[5, 8]) });
+    let square = |indices, values| Columns { rows: 2, cols: 2, offsets: &[0, 1, 2], indices, values };
+    let (sound, out, wide) = (square(&[0, 1], &[5, 8]), square(&[0, 2], &[5, 8]), Columns { cols: 3, ..square(&[0, 1], &[5, 8]) });
     for m in [0, 1, 4, 65536, u64::MAX] {
-        assert_eq!(divide_mod(m, sound, 3), Err(Error::UnknownModulus));
+        assert_eq!(divide_mod(m, sound.transposed(), 3), Err(Error::UnknownModulus));
         assert_eq!(solve_lower_mod(m, sound, System::Lower, 1, &[1, 2]), Err(Error::UnknownModulus));
         assert_eq!(solve_symmetric_mod(m, sound, 1, &[1, 2]), Err(Error::UnknownModulus));
         assert_eq!(factor_symmetric_mod(m, sound), Err(Error::UnknownModulus));
     }
-    assert_eq!(divide_mod(7, sound, 14), Err(Error::Singular));
+    assert_eq!(divide_mod(7, sound.transposed(), 14), Err(Error::Singular));
     assert_eq!(solve_lower_mod(2, sound, System::Transposed, 1, &[1, 2]), Err(Error::Singular));
     assert_eq!(solve_symmetric_mod(5, sound, 1, &[1, 2]), Err(Error::Singular));
     assert_eq!(factor_symmetric_mod(2, sound), Err(Error::Singular));
     assert_eq!(factor_symmetric(sound), Err(Error::Singular));
-    assert_eq!(divide_mod(7, out, 3), Err(Error::IndexOutOfBounds));
+    assert_eq!(divide_mod(7, out.transposed(), 3), Err(Error::IndexOutOfBounds));
     assert_eq!(solve_lower_mod(7, out, System::Lower, 1, &[1, 2]), Err(Error::IndexOutOfBounds));
     assert_eq!(solve_symmetric_mod(7, out, 1, &[1, 2]), Err(Error::IndexOutOfBounds));
     assert_eq!(factor_symmetric_mod(7, out), Err(Error::IndexOutOfBounds));

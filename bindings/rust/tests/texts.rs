@@ -1,5 +1,9 @@
 //! Compares texts that are read and written with plain ones in random cases, and tries each error.
 
+// The names of matrices and indices, and small numbers that fit in any type.
+#![allow(clippy::many_single_char_names, clippy::needless_range_loop, clippy::format_push_string)]
+#![allow(clippy::cast_possible_truncation, clippy::cast_possible_wrap, clippy::cast_sign_loss)]
+
 use nalgebra_sparse_exact::{read, write, Error, Triplets};
 
 /// The next random number (xorshift).

@@ -1,0 +1,218 @@
+//! Assembly, transposes, sums, products and division.
+
+use crate::error::answer;
+use crate::room::{into_parts, into_values};
+use crate::{calls, Arrays, ColumnArrays, Error, Rows};
+
+/// Returns the matrix of triplets by rows. Values at the same place are added, and a place is kept where its sum is 0.
+///
+/// The lists have the row, the column and the value of each triplet.
+///
+/// # Errors
+///
+/// [`Error::OutOfMemory`]; [`Error::InvalidStructure`] if the lists have different lengths; [`Error::IndexOutOfBounds`].
+///
+/// # Examples
+///
+/// ```
+/// let a = nalgebra_sparse_exact::assemble_csr(2, 3, &[0, 1, 0], &[1, 2, 1], &[4, 7, -1])?;
+/// assert_eq!(a.into_parts(), (vec![0, 1, 2], vec![1, 2], vec![3, 7]));
+/// # Ok::<(), nalgebra_sparse_exact::Error>(())
+/// ```
+pub fn assemble_csr(rows: usize, cols: usize, i: &[usize], j: &[usize], values: &[i64]) -> Result<Arrays, Error> {
+    // SAFETY: each pointer is that of a slice, with the slice's length behind it.
+    let parts = into_parts(rows, values.len(), |o, x, v, places| unsafe {
+        calls::nalgebra_sparse_assemble_csr(
+            rows, cols, i.as_ptr(), i.len(), j.as_ptr(), j.len(), values.as_ptr(), values.len(),
+            o.as_mut_ptr(), o.len(), x.as_mut_ptr(), x.len(), v.as_mut_ptr(), v.len(), places,
+        )
+    })?;
+    Ok(Arrays::new((rows, cols), parts))
+}
+
+/// Returns the matrix of triplets by columns. Values at the same place are added, and a place is kept where its sum is 0.
+///
+/// The lists have the row, the column and the value of each triplet.
+///
+/// # Errors
+///
+/// [`Error::OutOfMemory`]; [`Error::InvalidStructure`] if the lists have different lengths; [`Error::IndexOutOfBounds`].
+pub fn assemble_csc(rows: usize, cols: usize, i: &[usize], j: &[usize], values: &[i64]) -> Result<ColumnArrays, Error> {
+    // SAFETY: each pointer is that of a slice, with the slice's length behind it.
+    let parts = into_parts(cols, values.len(), |o, x, v, places| unsafe {
+        calls::nalgebra_sparse_assemble_csc(
+            rows, cols, i.as_ptr(), i.len(), j.as_ptr(), j.len(), values.as_ptr(), values.len(),
+            o.as_mut_ptr(), o.len(), x.as_mut_ptr(), x.len(), v.as_mut_ptr(), v.len(), places,
+        )
+    })?;
+    Ok(ColumnArrays::new((rows, cols), parts))
+}
+
+/// Returns the transpose of a matrix by rows, by rows too. [`Rows::transposed`] is the transpose by columns, which takes no time.
+///
+/// # Errors
+///
+/// [`Error::OutOfMemory`]; [`Error::InvalidStructure`], [`Error::IndexOutOfBounds`] or [`Error::DuplicateEntry`] for the
+/// first fault of the arrays.
+pub fn transpose(a: Rows<'_>) -> Result<Arrays, Error> {
+    // SAFETY: each pointer is that of a slice, with the slice's length behind it.
+    let parts = into_parts(a.cols, a.values.len(), |o, x, v, places| unsafe {
+        calls::nalgebra_sparse_transpose(
+            a.rows, a.cols,
+            a.offsets.as_ptr(), a.offsets.len(), a.indices.as_ptr(), a.indices.len(), a.values.as_ptr(), a.values.len(),
+            o.as_mut_ptr(), o.len(), x.as_mut_ptr(), x.len(), v.as_mut_ptr(), v.len(), places,
+        )
+    })?;
+    Ok(Arrays::new((a.cols, a.rows), parts))
+}
+
+/// Returns the sum of two matrices by rows with one shape, on the union of their places.
+///
+/// # Errors
+///
+/// [`Error::OutOfMemory`]; [`Error::InvalidStructure`], [`Error::IndexOutOfBounds`] or [`Error::DuplicateEntry`] for the
+/// first fault of `a`, and otherwise of `b`; [`Error::ShapeMismatch`].
+pub fn add(a: Rows<'_>, b: Rows<'_>) -> Result<Arrays, Error> {
+    if (a.rows, a.cols) != (b.rows, b.cols) {
+        return Err(Error::ShapeMismatch);
+    }
+    // SAFETY: each pointer is that of a slice, with the slice's length behind it.
+    let parts = into_parts(a.rows, a.values.len().saturating_add(b.values.len()), |o, x, v, places| unsafe {
+        calls::nalgebra_sparse_add(
+            a.rows, a.cols,
+            a.offsets.as_ptr(), a.offsets.len(), a.indices.as_ptr(), a.indices.len(), a.values.as_ptr(), a.values.len(),
+            b.offsets.as_ptr(), b.offsets.len(), b.indices.as_ptr(), b.indices.len(), b.values.as_ptr(), b.values.len(),
+            o.as_mut_ptr(), o.len(), x.as_mut_ptr(), x.len(), v.as_mut_ptr(), v.len(), places,
+        )
+    })?;
+    Ok(Arrays::new((a.rows, a.cols), parts))
+}
+
+/// Returns the difference `a - b` of two matrices by rows with one shape, on the union of their places.
+///
+/// # Errors
+///
+/// [`Error::OutOfMemory`]; [`Error::InvalidStructure`], [`Error::IndexOutOfBounds`] or [`Error::DuplicateEntry`] for the
+/// first fault of `a`, and otherwise of `b`; [`Error::ShapeMismatch`].
+pub fn subtract(a: Rows<'_>, b: Rows<'_>) -> Result<Arrays, Error> {
+    if (a.rows, a.cols) != (b.rows, b.cols) {
+        return Err(Error::ShapeMismatch);
+    }
+    // SAFETY: each pointer is that of a slice, with the slice's length behind it.
+    let parts = into_parts(a.rows, a.values.len().saturating_add(b.values.len()), |o, x, v, places| unsafe {
+        calls::nalgebra_sparse_subtract(
+            a.rows, a.cols,
+            a.offsets.as_ptr(), a.offsets.len(), a.indices.as_ptr(), a.indices.len(), a.values.as_ptr(), a.values.len(),
+            b.offsets.as_ptr(), b.offsets.len(), b.indices.as_ptr(), b.indices.len(), b.values.as_ptr(), b.values.len(),
+            o.as_mut_ptr(), o.len(), x.as_mut_ptr(), x.len(), v.as_mut_ptr(), v.len(), places,
+        )
+    })?;
+    Ok(Arrays::new((a.rows, a.cols), parts))
+}
+
+/// Returns the product of two matrices by rows, the first with as many columns as the second has rows. It has a place
+/// wherever they share a middle index.
+///
+/// # Errors
+///
+/// [`Error::OutOfMemory`]; [`Error::InvalidStructure`], [`Error::IndexOutOfBounds`] or [`Error::DuplicateEntry`] for the
+/// first fault of `a`, and otherwise of `b`; [`Error::ShapeMismatch`].
+///
+/// # Examples
+///
+/// ```
+/// use nalgebra_sparse_exact::{assemble_csr, multiply};
+///
+/// let a = assemble_csr(1, 2, &[0, 0], &[0, 1], &[2, 3])?;
+/// let b = assemble_csr(2, 1, &[0, 1], &[0, 0], &[5, 7])?;
+/// assert_eq!(multiply(a.as_rows(), b.as_rows())?.values, [31]);
+/// # Ok::<(), nalgebra_sparse_exact::Error>(())
+/// ```
+pub fn multiply(a: Rows<'_>, b: Rows<'_>) -> Result<Arrays, Error> {
+    if a.cols != b.rows {
+        return Err(Error::ShapeMismatch);
+    }
+    // SAFETY: each pointer is that of a slice, with the slice's length behind it.
+    let parts = into_parts(a.rows, product_room(a, b)?, |o, x, v, places| unsafe {
+        calls::nalgebra_sparse_multiply(
+            a.rows, a.cols, b.cols,
+            a.offsets.as_ptr(), a.offsets.len(), a.indices.as_ptr(), a.indices.len(), a.values.as_ptr(), a.values.len(),
+            b.offsets.as_ptr(), b.offsets.len(), b.indices.as_ptr(), b.indices.len(), b.values.as_ptr(), b.values.len(),
+            o.as_mut_ptr(), o.len(), x.as_mut_ptr(), x.len(), v.as_mut_ptr(), v.len(), places,
+        )
+    })?;
+    Ok(Arrays::new((a.rows, b.cols), parts))
+}
+
+// Up to this many places, a product is computed into room for one place for each multiplication. What is left
+// of the room is never touched, and is given back.
+const MOST_UNCOUNTED: usize = 1 << 24;
+
+// Returns a number of places that is enough for a product: that of its multiplications, or, where that is large or an
+// index names no row, the exact one, which takes about as long to count as the product to compute.
+fn product_room(a: Rows<'_>, b: Rows<'_>) -> Result<usize, Error> {
+    match multiplications(a, b) {
+        Some(room) if room <= MOST_UNCOUNTED => Ok(room),
+        _ => product_places(a, b),
+    }
+}
+
+// Returns the number of multiplications of a product: the lengths of the rows of `b` that the indices of `a` name.
+fn multiplications(a: Rows<'_>, b: Rows<'_>) -> Option<usize> {
+    a.indices.iter().try_fold(0_usize, |sum, &k| {
+        let begin = b.offsets.get(k)?;
+        let end = b.offsets.get(k.checked_add(1)?)?;
+        sum.checked_add(end.checked_sub(*begin)?)
+    })
+}
+
+// Returns the number of places of a product.
+fn product_places(a: Rows<'_>, b: Rows<'_>) -> Result<usize, Error> {
+    let mut places = 0;
+    // SAFETY: each pointer is that of a slice, with the slice's length behind it, or of `places`.
+    answer(unsafe {
+        calls::nalgebra_sparse_multiply_places(
+            a.rows, a.cols, b.cols,
+            a.offsets.as_ptr(), a.offsets.len(), a.indices.as_ptr(), a.indices.len(),
+            b.offsets.as_ptr(), b.offsets.len(), b.indices.as_ptr(), b.indices.len(), &mut places,
+        )
+    })?;
+    Ok(places)
+}
+
+/// Returns the dense product of a matrix by rows and a dense matrix with `cols` columns, both dense matrices column by
+/// column.
+///
+/// # Errors
+///
+/// [`Error::OutOfMemory`]; [`Error::InvalidStructure`], [`Error::IndexOutOfBounds`] or [`Error::DuplicateEntry`] for the
+/// first fault of the arrays; [`Error::InvalidStructure`] if `b` has another number of values than `a.cols * cols`.
+pub fn multiply_dense(a: Rows<'_>, cols: usize, b: &[i64]) -> Result<Vec<i64>, Error> {
+    // SAFETY: each pointer is that of a slice, with the slice's length behind it.
+    into_values(a.rows, cols, |v| unsafe {
+        calls::nalgebra_sparse_multiply_dense(
+            a.rows, a.cols, cols,
+            a.offsets.as_ptr(), a.offsets.len(), a.indices.as_ptr(), a.indices.len(), a.values.as_ptr(), a.values.len(),
+            b.as_ptr(), b.len(), v.as_mut_ptr(), v.len(),
+        )
+    })
+}
+
+/// Returns a matrix by rows with each value times the inverse of the divisor.
+///
+/// # Errors
+///
+/// [`Error::OutOfMemory`]; [`Error::InvalidStructure`], [`Error::IndexOutOfBounds`] or [`Error::DuplicateEntry`] for the
+/// first fault of the arrays; [`Error::Singular`] if the divisor is even, since it has no
+/// inverse modulo 2^64.
+pub fn divide(a: Rows<'_>, divisor: i64) -> Result<Arrays, Error> {
+    // SAFETY: each pointer is that of a slice, with the slice's length behind it.
+    let parts = into_parts(a.rows, a.values.len(), |o, x, v, places| unsafe {
+        calls::nalgebra_sparse_divide(
+            a.rows, a.cols,
+            a.offsets.as_ptr(), a.offsets.len(), a.indices.as_ptr(), a.indices.len(), a.values.as_ptr(), a.values.len(),
+            divisor, o.as_mut_ptr(), o.len(), x.as_mut_ptr(), x.len(), v.as_mut_ptr(), v.len(), places,
+        )
+    })?;
+    Ok(Arrays::new((a.rows, a.cols), parts))
+}
