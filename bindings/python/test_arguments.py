@@ -18,6 +18,9 @@ from nalgebra_sparse import _calls, _matrices, _systems, _texts  # noqa: E402
 NONE = np.empty(0, np.int64)
 ONE = np.array([0])
 PLAIN = np.array([[5, 2, 0], [0, 7, 1]])
+NUMBERS = {"size": 0, "modulus": 7, "value": 1, "choice": 0, "flag": False, "text": b"", "out_size": ctypes.c_size_t()}
+ARRAYS = {"indices": NONE, "values": NONE, "out_indices": NONE, "out_values": NONE, "out_text": np.empty(0, np.uint8)}
+SAMPLES = {**NUMBERS, **ARRAYS}
 CLASSES = (sp.csr_matrix, sp.csc_matrix, sp.csr_array, sp.csc_array)
 
 
@@ -108,8 +111,9 @@ def check_table():
         kinds = _calls._TABLE[name].split()
         for wrong in (None, 1.5, object(), PLAIN):
             refused(TypeError, _calls.call, name, *[wrong] * len(kinds))
-        refused(TypeError, _calls.call, name, *[0] * (len(kinds) - 1))
-        refused(TypeError, _calls.call, name, *[0] * (len(kinds) + 1))
+        right = [SAMPLES[kind] for kind in kinds]
+        refused(TypeError, _calls.call, name, *right[:-1])
+        refused(TypeError, _calls.call, name, *right, 0)
 
 
 def check_exceptions():
