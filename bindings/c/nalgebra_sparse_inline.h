@@ -121,10 +121,15 @@ static inline int64_t *nalgebra_sparse_no_values(void) {
     return &nothing;
 }
 
+static inline const uint8_t *nalgebra_sparse_no_text(void) {
+    static const uint8_t nothing = 0;
+    return &nothing;
+}
+
 /* An array of sizes, of values, or of bytes, and its length. */
 #define NALGEBRA_SPARSE_SIZES(p, length) (p) ? (p) : nalgebra_sparse_no_sizes(), (p) ? (length) : 0
 #define NALGEBRA_SPARSE_VALUES(p, length) (p) ? (p) : nalgebra_sparse_no_values(), (p) ? (length) : 0
-#define NALGEBRA_SPARSE_TEXT(p, length) (p) ? (p) : (const uint8_t *)nalgebra_sparse_no_sizes(), (p) ? (length) : 0
+#define NALGEBRA_SPARSE_TEXT(p, length) (p) ? (p) : nalgebra_sparse_no_text(), (p) ? (length) : 0
 /* The arrays of a matrix with this number of lanes, of its pattern, of triplets, of a dense matrix, and of a result. */
 #define NALGEBRA_SPARSE_PATTERN(a, lanes) NALGEBRA_SPARSE_SIZES((a).offsets, (lanes) + 1), NALGEBRA_SPARSE_SIZES((a).indices, (a).places)
 #define NALGEBRA_SPARSE_LANES(a, lanes) NALGEBRA_SPARSE_PATTERN(a, lanes), NALGEBRA_SPARSE_VALUES((a).values, (a).places)

@@ -4,6 +4,7 @@ import ctypes
 import doctest
 import os
 import re
+import subprocess
 import sys
 import traceback
 
@@ -171,6 +172,14 @@ def check_forms():
         assert ns.assemble_csr((1, 1), empty, empty, empty).nnz == 0
 
 
+def check_import():
+    """A library that is not there is an error that says how to make it."""
+    settings = {**os.environ, "NALGEBRA_SPARSE_LIBRARY": os.path.join(here, "none.so")}
+    words = [sys.executable, "-B", "-c", "import nalgebra_sparse"]
+    ran = subprocess.run(words, cwd=here, env=settings, stderr=subprocess.PIPE, text=True, check=False)
+    assert ran.returncode and "ImportError" in ran.stderr and "run bindings/python/build" in ran.stderr
+
+
 def check_package():
     """The version is that of the file VERSION, each name of `__all__` is there, and the examples run."""
     assert ns.__version__ == open(os.path.join(here, "..", "..", "VERSION"), encoding="ascii").read().strip()
@@ -193,5 +202,6 @@ check_table()
 check_exceptions()
 check_dtypes()
 check_forms()
+check_import()
 count = check_package()
 print(f"python: each argument is checked before a call, each form and dtype is taken, and {count} lines of examples run")
