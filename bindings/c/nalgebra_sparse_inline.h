@@ -9,10 +9,6 @@
 #ifndef NALGEBRA_SPARSE_INLINE_H
 #define NALGEBRA_SPARSE_INLINE_H
 
-#if SIZE_MAX != UINT64_MAX
-#error "nalgebra_sparse needs a size_t of 64 bits"
-#endif
-
 /* A status of the functions of this file alone: the shapes of the operands do not fit. */
 enum { NALGEBRA_SPARSE_SHAPE_MISMATCH = -1 };
 
