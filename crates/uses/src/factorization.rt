@@ -24,12 +24,8 @@ fn a_lower_triangle_fills_in(alloc: Global) -> Result<bool, Fail> {
 
 fn a_factor_is_taken_out(alloc: Global) -> Result<bool, Fail> {
     let offsets = vec![in alloc; 0, 1, 3]?;
-    let pattern = SparsityPattern::try_from_offsets_and_indices(
-        2,
-        2,
-        offsets,
-        vec![in alloc; 0, 0, 1]?,
-    )?;
+    let indices = vec![in alloc; 0, 0, 1]?;
+    let pattern = SparsityPattern::try_from_offsets_and_indices(2, 2, offsets, indices)?;
     let l_pattern = CscSymbolicCholesky::factor(alloc, pattern)?.into_l_pattern();
     Ok(l_pattern.major_offsets() == [0, 2, 3].as_slice())
 }
