@@ -5,9 +5,7 @@ pub use sparse_products::{Op, Steps};
 /// Operations in one thread.
 pub mod serial {
     pub use sparse_dense_products::{mul_csc_dense, mul_csr_dense, spmm_csc_dense, spmm_csr_dense};
-    pub use sparse_kernels::{
-        axpy_csc_col, axpy_csr_row, dot_csc_col, dot_csr_row, usaxpy, usdot,
-    };
+    pub use sparse_kernels::{axpy_csc_col, axpy_csr_row, dot_csc_col, dot_csr_row, usaxpy, usdot};
     pub use sparse_products::serial::{
         OperationError, OperationErrorKind, add_csc, add_csr, mul_csc, mul_csr, neg_csc, neg_csr,
         scale_csc, scale_csr, spadd_csc_prealloc, spadd_csr_prealloc, spadd_pattern,
