@@ -1,13 +1,13 @@
 //! The command `mtx fill`.
 
-ghost use Rattle.std.specs.Prelude.{◌≡◌, ℕ, ◌<◌, ◌↔◌, ◌⊎◌, All, IfOk, IfErr, length};
+ghost use Rattle.std.specs.Prelude.{◌≡◌, ◌≢◌, ℕ, ◌<◌, ◌↔◌, ◌⊎◌, All, Err, IfOk, IfErr, length};
 ghost use Rattle.nalgebra_sparse.specs.Raw.{IsValid, IsPlace};
 ghost use Rattle.nalgebra_sparse.specs.Fill.{InFill, TriangleBase, StoresByColumns};
 ghost use Rattle.mtx_commands.specs.Places.{HasTriplet, IsOneALane, AreNumbersTo};
 ghost use Rattle.sparse_expr.specs.declared.error.ExprError.TheVariants.{OutOfMemory};
 ghost use Rattle.mtx_commands.specs.Inputs.{IsMisread};
 ghost use Rattle.mtx_commands.specs.Writes.{write_fault, IsUnwritten};
-ghost use Rattle.mtx_commands.specs.declared.cli.Failure.TheVariants.{Usage, Refused};
+ghost use Rattle.mtx_commands.specs.declared.cli.Failure.TheVariants.{Usage, NotSquare, Refused};
 
 use crate::cli::Failure;
 use crate::inputs::read_places;
@@ -32,13 +32,28 @@ where
     write_pattern(rt.alloc(), factor.l_pattern(), out)
 }
 
-// Reads the places in a file as a pattern by columns.
+// Reads the places in a file as a square pattern by columns.
 fn read_pattern<R: Files + AllocGlobal>(rt: &R, path: &str) -> Result<SparsityPattern, Failure>
+    ensures square { IfOk result (λ p. p.major_dim ≡ p.minor_dim) }
     ensures refused { IfErr result (λ e. e ≡ Usage → ⊥) }
-    ensures unread { IfErr result (λ e. (e ≡ Refused OutOfMemory) ⊎ IsMisread e) }
+    ensures unread { IfErr result
+        (λ e. (e ≡ Refused OutOfMemory) ⊎ ((e ≡ NotSquare) ⊎ IsMisread e)) }
 {
     let places = read_places(rt, path)?;
-    Ok(pattern_of(rt.alloc(), &places)?)
+    square_pattern_of(rt.alloc(), &places)
+}
+
+// Returns the pattern by columns of the places of a square list. Of a list that is not square it asks for no memory.
+fn square_pattern_of(alloc: Global, places: &CooMatrix<()>) -> Result<SparsityPattern, Failure>
+    ensures square { IfOk result (λ p. p.major_dim ≡ p.minor_dim) }
+    ensures places { IfOk result (λ p. (i j : ℕ) → IsPlace p j i ↔ HasTriplet places.now i j) }
+    ensures not_square { places.now.nrows ≢ places.now.ncols → result ≡ Err NotSquare }
+    ensures refused { IfErr result (λ e. (e ≡ Refused OutOfMemory) ⊎ (e ≡ NotSquare)) }
+{
+    if places.nrows() != places.ncols() {
+        return Err(Failure::NotSquare);
+    }
+    Ok(pattern_of(alloc, places)?)
 }
 
 // Writes a pattern by columns.
@@ -116,13 +131,11 @@ fn factor_of(
     pattern: SparsityPattern,
     triangle: Triangle,
 ) -> Result<CscSymbolicCholesky, Failure>
+    requires { pattern.major_dim ≡ pattern.minor_dim }
     ensures fill { IfOk result
         (λ s. StoresByColumns (InFill (TriangleBase triangle pattern)) s.factor) }
     ensures refused { IfErr result (λ e. e ≡ Usage → ⊥) }
 {
-    if pattern.major_dim() != pattern.minor_dim() {
-        return Err(Failure::NotSquare);
-    }
     Ok(CscSymbolicCholesky::factor_triangle(alloc, pattern, triangle)?)
 }
 

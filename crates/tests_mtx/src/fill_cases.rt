@@ -10,6 +10,11 @@ pub type FillCase = (
 // A place on each side of the diagonal.
 const TWO_SIDES: &str = "%%MatrixMarket matrix coordinate pattern general\n3 3 2\n2 1\n1 3\n";
 
+// One row and as many columns as can be, and the transpose.
+const WIDE: &str = "%%MatrixMarket matrix coordinate pattern general\n1 18446744073709551615 0\n";
+
+const TALL: &str = "%%MatrixMarket matrix coordinate pattern general\n18446744073709551615 1 0\n";
+
 /// Words, a text, and what `mtx fill` answers.
 pub const FILL_CASES: &[FillCase] = &[
     (
@@ -43,15 +48,18 @@ pub const FILL_CASES: &[FillCase] = &[
         TWO_SIDES,
         Ok("3 3 5\n2 1 \n3 1 \n2 2 \n3 2 \n3 3 \n"),
     ),
+    // Matrices that are not square, for whose columns or rows there is no memory.
+    (&["fill"], WIDE, Err("mtx: not square\n")),
+    (&["fill", "lower"], WIDE, Err("mtx: not square\n")),
+    (&["fill", "both"], WIDE, Err("mtx: not square\n")),
+    (&["fill"], TALL, Err("mtx: not square\n")),
+    (&["fill", "lower"], TALL, Err("mtx: not square\n")),
+    (&["fill", "both"], TALL, Err("mtx: not square\n")),
+    // The text is read to its end first.
     (
         &["fill"],
-        "%%MatrixMarket matrix coordinate pattern general\n2 3 1\n1 2\n",
-        Err("mtx: not square\n"),
-    ),
-    (
-        &["fill", "lower"],
-        "%%MatrixMarket matrix coordinate pattern general\n2 3 1\n1 2\n",
-        Err("mtx: not square\n"),
+        "%%MatrixMarket matrix coordinate pattern general\n2 3 1\n1 4\n",
+        Err("mtx: input 1: SparseFormatError\n"),
     ),
     (
         &["fill"],
