@@ -5,9 +5,11 @@ pub mod conversions {
     pub use sparse_convert::serial::{from_dense_law, one_matrix_law, order_law, to_dense_law};
 }
 
-/// The symbolic factor: two factorisations of one pattern whose factors store the fill of one base are `==`.
+/// The symbolic factor: two factorisations of one pattern whose factors store the fill of one base are `==`, and the
+/// fill is the least of all closed sets that have the base.
 pub mod factors {
     pub use sparse_factor::factorization::one_factor;
+    pub use sparse_factor::laws::least_fill_law;
 }
 
 /// Patterns: the first fault of raw data is unique.

@@ -10,7 +10,7 @@ use Rattle.std.proofs.lemmas.List.Elements.{Contains-get_or}
 use Rattle.sparse_algebra.proofs.Cases.{lt_or_ge}
 use Rattle.sparse_pattern.specs.InnerGainedLanes.{GainsLane}
 use Rattle.sparse_pattern.proofs.BuiltLanes.{IsBuilt, lane_gained}
-use Rattle.sparse_factor.specs.InnerFilled.{Filled}
+use Rattle.sparse_factor.specs.Fill.{Filled}
 use Rattle.sparse_factor.specs.InnerColumns.{IsFirstBelow, AreRowsBelow}
 use Rattle.sparse_factor.specs.InnerChildren.{IsInTails}
 use Rattle.sparse_factor.proofs.FillLaws.{IsParent}

@@ -19,40 +19,23 @@ use Rattle.sparse_factor.specs.declared.factorization.Triangle.TheVariants.{Uppe
 use Rattle.sparse_factor.specs.Fill.{InFill, LowerBase, TriangleBase, StoresByColumns, ListsFill}
 use Rattle.sparse_factor.specs.Symbolic.{Symbolic, symbolic_eq, IsFactorOf}
 use Rattle.sparse_factor.specs.Walks.{StoresWalks, StoresDiagonal}
-use Rattle.sparse_factor.specs.InnerFilled.{Filled}
+use Rattle.sparse_factor.specs.Fill.{Filled}
 use Rattle.sparse_factor.proofs.FillLaws.{in_fill, filled_in, filled_diagonal, filled_into}
+use Rattle.sparse_factor.proofs.LeastFill.{place_test, place_is}
 use Rattle.sparse_factor.proofs.WalkLaws.{filled_walk}
-
-below_true : (a b : ℕ) → a < b → ltb a b ≡ true
-below_true a b lt = grind (arith, nat_tests)
-
-true_below : (a b : ℕ) → ltb a b ≡ true → a < b
-true_below a b is = grind (arith, nat_tests)
 
 module _ (base : ℕ → ℕ → Type 0) (low : (i j : ℕ) → base i j → j ≤ i) (t : Raw)
     (filled : (i j : ℕ) → IsPlace t j i ↔ Filled base i j) (valid : IsValid t) where
-  -- a test for the places of the factor
-  stored : ℕ → ℕ → Bool
-  stored i j = ltb j t.major_dim && is_member eqb (lane_of t j) i
-
-  stored_is : (i j : ℕ) → IsTrue (stored i j) ↔ Filled base i j
-  unfolding stored
+  stored_is : (i j : ℕ) → IsTrue (place_test t j i) ↔ Filled base i j
   stored_is i j =
-      let d = is_member-Decides Decides-eqb (lane_of t j) i in (
-        λ yes.
-            let (lane, has) = and_parts (ltb j t.major_dim) (is_member eqb (lane_of t j) i) yes in
-            (filled i j).0 ((lane_has t valid j i (true_below j t.major_dim lane)).0 (d.0 has)),
-        λ f.
-            let place = (filled i j).1 f in
-            let lane = place.in_lane.lane in
-            and_both (ltb j t.major_dim) (is_member eqb (lane_of t j) i)
-            (below_true j t.major_dim lane) (d.1 ((lane_has t valid j i lane).1 place)),
-      )
+      let is = place_is t valid j i in
+      let has = filled i j in
+      (λ yes. has.0 (is.0 yes), λ f. is.1 (has.1 f))
 
   pub stores_fill : StoresByColumns (InFill base) t
   stores_fill i j = (
     λ h. in_fill ((filled i j).0 h),
-    λ f. (filled i j).1 (filled_in base stored stored_is i j f),
+    λ f. (filled i j).1 (filled_in base (λ i j. place_test t j i) stored_is i j f),
   )
 
   pub stores_walks : StoresWalks base t

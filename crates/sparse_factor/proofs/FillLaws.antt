@@ -3,7 +3,7 @@ use Rattle.std.proofs.Common.{ℕ, zero, suc, ◌+◌, ◌<◌, ◌≤◌, ◌�
 use Rattle.std.proofs.Common.{arith}
 use Rattle.std.proofs.Math.Nat.{eq-or-lt_of_le}
 use Rattle.sparse_factor.specs.Fill.{InFill}
-use Rattle.sparse_factor.specs.InnerFilled.{Filled, given, fill}
+use Rattle.sparse_factor.specs.Fill.{Filled, given, fill}
 
 -- Filled is inside each closed set
 pub in_fill : {base : ℕ → ℕ → Type 0} {i j : ℕ} → Filled base i j → InFill base i j

@@ -7,7 +7,7 @@ use Rattle.std.proofs.lemmas.Grind.{common_steps}
 use Rattle.std.proofs.lemmas.List.{length-set}
 use Rattle.sparse_algebra.proofs.Cases.{lt_add_one_cases}
 use Rattle.sparse_pattern.proofs.BuiltLanes.{IsBuilt}
-use Rattle.sparse_factor.specs.InnerFilled.{Filled}
+use Rattle.sparse_factor.specs.Fill.{Filled}
 use Rattle.sparse_factor.specs.InnerColumns.{AreRowsBelow}
 use Rattle.sparse_factor.specs.InnerChildren.{Reaches, here, next, AreFalling}
 use Rattle.sparse_factor.proofs.FillLaws.{IsParent}

@@ -1,4 +1,5 @@
 mod FillLaws
+mod LeastFill
 mod WalkLaws
 mod DistinctLists
 mod FactorLaws

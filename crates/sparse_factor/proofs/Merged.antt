@@ -7,7 +7,7 @@ use Rattle.sparse_algebra.proofs.Cases.{lt_or_ge}
 use Rattle.sparse_pattern.specs.Raw.{Raw, raw_of}
 use Rattle.sparse_pattern.proofs.BuiltLanes.{IsBuilt}
 use Rattle.sparse_pattern.proofs.PatternLanes.{rises_at}
-use Rattle.sparse_factor.specs.InnerFilled.{Filled, given}
+use Rattle.sparse_factor.specs.Fill.{Filled, given}
 use Rattle.sparse_factor.specs.InnerColumns.{IsInColumn, AreColumns, AreRowsBelow}
 use Rattle.sparse_factor.specs.InnerChildren.{Reaches, AreFalling, IsInTails}
 use Rattle.sparse_factor.proofs.FillLaws.{IsParent, HaveParents, column_fill, child_filled}

@@ -1,7 +1,7 @@
 -- The places that are taken up from finished columns: each at most once, by the column's parent.
 use Rattle.std.proofs.Common.{ℕ, ◌+◌, ◌<◌, ◌≤◌, inl, inr, List, length, slice_index, arith}
 use Rattle.sparse_factor.specs.Fill.{ListsFill}
-use Rattle.sparse_factor.specs.InnerFilled.{Filled}
+use Rattle.sparse_factor.specs.Fill.{Filled}
 use Rattle.sparse_factor.specs.InnerColumns.{IsInColumn}
 use Rattle.sparse_factor.specs.InnerChildren.{Reaches}
 use Rattle.sparse_factor.specs.InnerTaken.{HasTaken}

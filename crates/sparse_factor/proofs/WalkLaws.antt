@@ -3,7 +3,7 @@ use Rattle.std.proofs.Common.{◌≡◌, ℕ, zero, suc, ◌<◌, ◌≤◌, ◌
 use Rattle.std.proofs.Common.{arith}
 use Rattle.std.proofs.Math.Nat.{eq-or-lt_of_le}
 use Rattle.sparse_factor.specs.Walks.{Joined, Walk, edge, step}
-use Rattle.sparse_factor.specs.InnerFilled.{Filled, given, fill}
+use Rattle.sparse_factor.specs.Fill.{Filled, given, fill}
 
 joined_back : (base : ℕ → ℕ → Type 0) (i j : ℕ) → Joined base i j → Joined base j i
 joined_back base i j (inl b) = inr b

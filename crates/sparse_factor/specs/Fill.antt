@@ -14,9 +14,14 @@ IsFillClosed set = (i j k : ℕ) → IsTrue (set i k) → IsTrue (set j k) → k
 abbrev pub HoldsBase : (ℕ → ℕ → Type 0) → (ℕ → ℕ → Bool) → Type 0
 HoldsBase base set = (i j : ℕ) → base i j → IsTrue (set i j)
 
--- (i, j) is in every set that is closed under fill and contains the base
+-- (i, j) is in every set, given by a test, that is closed under fill and contains the base
 abbrev pub InFill : (ℕ → ℕ → Type 0) → ℕ → ℕ → Type 0
 InFill base i j = (set : ℕ → ℕ → Bool) → IsFillClosed set → HoldsBase base set → IsTrue (set i j)
+
+-- the least of all sets of pairs that have the base and are closed under fill
+pub data Filled (base : ℕ → ℕ → Type 0) : ℕ → ℕ → Type 0 where
+  given : {i j : ℕ} → base i j → Filled base i j
+  fill : {i j k : ℕ} → Filled base i k → Filled base j k → k < j → j ≤ i → Filled base i j
 
 -- the base of a pattern stored by columns: (c, r) for each stored row r ≤ c of column c, which is
 -- the upper triangle transposed

@@ -1,7 +1,6 @@
 pub mod Fill
 pub mod Walks
 pub mod Symbolic
-pub mod InnerFilled
 pub mod InnerColumns
 pub mod InnerChildren
 pub mod InnerMarks

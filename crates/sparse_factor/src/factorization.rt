@@ -7,7 +7,7 @@ ghost use Rattle.sparse_factor.specs.Fill.{StoresByColumns, ListsFill};
 ghost use Rattle.sparse_factor.specs.Symbolic.{Symbolic, symbolic_eq, IsFactorOf};
 ghost use Rattle.sparse_factor.specs.declared.factorization.Triangle.{Triangle};
 ghost use Rattle.sparse_factor.specs.Walks.{StoresWalks, StoresDiagonal};
-ghost use Rattle.sparse_factor.specs.InnerFilled.{Filled};
+ghost use Rattle.sparse_factor.specs.Fill.{Filled};
 
 use sparse_algebra::learn;
 use sparse_base::steps::Steps;
@@ -66,16 +66,16 @@ impl Model for CscSymbolicCholesky {
 impl CscSymbolicCholesky {
     /// Returns the symbolic factorisation of a square pattern, read by columns.
     ///
-    /// `pattern.major_dim()` must equal `pattern.minor_dim()`. Only the places on and above the diagonal are read, so
-    /// the pattern need not be symmetric, and its diagonal need not be stored. The pattern of the factor is the
-    /// smallest set of pairs (row, column) that has (c, r) for each stored row `r <= c` of each column c, and that has
-    /// (i, j) whenever it has (i, k) and (j, k) with `k < j <= i`.
+    /// `pattern.major_dim()` must equal `pattern.minor_dim()`. All places are read, but only those on and above the
+    /// diagonal have an effect, so the pattern need not be symmetric, and its diagonal need not be stored. The pattern
+    /// of the factor is the smallest set of pairs (row, column) that has (c, r) for each stored row `r <= c` of each
+    /// column c, and that has (i, j) whenever it has (i, k) and (j, k) with `k < j <= i`.
     ///
     /// Each column is merged from its own entries and the finished columns whose parent in the elimination tree it is
-    /// (left-looking; Gilbert, Ng and Peyton 1994, Davis 2006). Time is linear in the number of columns and of the
-    /// places of pattern and factor, but for a sort of the rows that come to a column from its base and all children
-    /// but the longest. Scratch memory is one transpose of the pattern, two counters for each column, and one column.
-    /// Fails only if an allocation fails.
+    /// (left-looking; Rose, Tarjan and Lueker 1976, George and Liu 1981, Davis 2006). Time is linear in the number of
+    /// columns and of the places of pattern and factor, but for a sort of the rows of a column that come from its base
+    /// and all children but the longest, each once. Scratch memory is one transpose of the pattern, three counters for
+    /// each column, and one column. Fails only if an allocation fails.
     pub fn factor(alloc: Global, pattern: SparsityPattern) -> Result<Self, AllocError>
         requires square { pattern.major_dim ≡ pattern.minor_dim }
         ensures input { IfOk result (λ s. s.input ≡ pattern) }

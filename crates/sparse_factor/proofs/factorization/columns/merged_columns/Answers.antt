@@ -8,7 +8,7 @@ use Rattle.std.proofs.lemmas.Result.{IfOk-from_err}
 use Rattle.sparse_pattern.specs.Raw.{Raw, raw_of, start_of, IsValid}
 use Rattle.sparse_pattern.proofs.BuiltLanes.{all_built}
 use Rattle.sparse_factor.specs.Fill.{LowerBase, ListsFill}
-use Rattle.sparse_factor.specs.InnerFilled.{Filled}
+use Rattle.sparse_factor.specs.Fill.{Filled}
 use Rattle.sparse_factor.specs.InnerColumns.{AreRowsBelow}
 use Rattle.sparse_factor.specs.InnerChildren.{AreFalling}
 use Rattle.sparse_factor.proofs.FillLaws.{low_filled, row_base}

@@ -1,0 +1,124 @@
+-- The fill of a base that a test decides: it is decided by a test too, and so is the least set.
+use Rattle.std.proofs.Common.{◌≡◌, ℕ, zero, suc, ◌+◌, ◌<◌, ◌≤◌, ◌↔◌, ◌⊎◌, inl, inr, Bool, true, false}
+use Rattle.std.proofs.Common.{IsTrue, ◌&&◌, ◌||◌, ltb, arith}
+use Rattle.std.proofs.Math.Dec.{eqb}
+use Rattle.std.specs.Set.{is_member}
+use Rattle.std.proofs.lemmas.Bool.{ltb-true, lt-ltb}
+use Rattle.std.proofs.lemmas.Bool.Decides.{Decides-eqb}
+use Rattle.std.proofs.lemmas.Map.Made.{is_member-Decides}
+use Rattle.sparse_algebra.specs.Plain.{any_below}
+use Rattle.sparse_algebra.proofs.Cases.{and_parts, and_both, or_cases, or_left, or_right}
+use Rattle.sparse_algebra.proofs.PlainLemmas.{any_is}
+use Rattle.sparse_pattern.specs.Raw.{Raw, lane_of, IsValid, IsPlace}
+use Rattle.sparse_pattern.proofs.LaneLists.{lane_has}
+use Rattle.sparse_factor.specs.declared.factorization.Triangle.{Triangle}
+use Rattle.sparse_factor.specs.declared.factorization.Triangle.TheVariants.{Upper, Lower, Both}
+use Rattle.sparse_factor.specs.Fill.{Filled, given, fill, InFill, TriangleBase}
+use Rattle.sparse_factor.proofs.FillLaws.{in_fill, filled_in}
+
+module _ (base : ℕ → ℕ → Type 0) (has : ℕ → ℕ → Bool)
+    (tied : (i j : ℕ) → IsTrue (has i j) ↔ base i j) where
+  -- a test of the pairs (i, j) with j < n
+  fill_test : ℕ → ℕ → ℕ → Bool
+  fill_test zero i j = false
+  fill_test (suc n) i j =
+      has i j || (ltb j (i + 1) && any_below j (λ k. fill_test n i k && fill_test n j k))
+
+  test_filled : (n i j : ℕ) → IsTrue (fill_test n i j) → Filled base i j
+  unfolding fill_test
+  test_filled zero i j h = cc
+  test_filled (suc n) i j h =
+      let both = λ (k : ℕ). fill_test n i k && fill_test n j k in
+      elim (or_cases (has i j) (ltb j (i + 1) && any_below j both) h) [
+        | inl b ↦ given ((tied i j).0 b)
+        | inr m ↦
+            let (low, some) = and_parts (ltb j (i + 1)) (any_below j both) m in
+            let (k, lt, pair) = (any_is j both).0 some in
+            let (p, q) = and_parts (fill_test n i k) (fill_test n j k) pair in
+            fill (test_filled n i k p) (test_filled n j k q) lt
+            (omega (arith, ltb-true j (i + 1) low))
+      ]
+
+  filled_test : (n i j : ℕ) → j < n → Filled base i j → IsTrue (fill_test n i j)
+  unfolding fill_test
+  filled_test zero i j lt f = absurd (omega arith)
+  filled_test (suc n) i j lt (given b) = or_left (has i j) _ ((tied i j).1 b)
+  filled_test (suc n) i j lt (fill {k = k} p q below le) =
+      let both = λ (k : ℕ). fill_test n i k && fill_test n j k in
+      or_right (has i j) (ltb j (i + 1) && any_below j both)
+      (and_both (ltb j (i + 1)) (any_below j both) (lt-ltb j (i + 1) (omega arith))
+      ((any_is j both).1 (
+        k,
+        below,
+        and_both (fill_test n i k) (fill_test n j k)
+            (filled_test n i k (omega arith) p) (filled_test n j k (omega arith) q),
+      )))
+
+  pub filled_same : (i j : ℕ) → Filled base i j ↔ InFill base i j
+  filled_same i j = (
+    λ f. in_fill f,
+    λ h. filled_in base (λ i j. fill_test (j + 1) i j)
+        (λ i j. (test_filled (j + 1) i j, filled_test (j + 1) i j (omega arith))) i j h,
+  )
+
+-- ---- the bases of valid patterns
+
+-- a test for the places of a pattern
+pub place_test : Raw → ℕ → ℕ → Bool
+place_test p i j = ltb i p.major_dim && is_member eqb (lane_of p i) j
+
+pub place_is : (p : Raw) → IsValid p → (i j : ℕ) → IsTrue (place_test p i j) ↔ IsPlace p i j
+unfolding place_test
+place_is p valid i j =
+    let d = is_member-Decides Decides-eqb (lane_of p i) j in (
+      λ yes.
+          let (lane, has) = and_parts (ltb i p.major_dim) (is_member eqb (lane_of p i) j) yes in
+          (lane_has p valid i j (ltb-true i p.major_dim lane)).0 (d.0 has),
+      λ place.
+          let lane = place.in_lane.lane in
+          and_both (ltb i p.major_dim) (is_member eqb (lane_of p i) j)
+          (lt-ltb i p.major_dim lane) (d.1 ((lane_has p valid i j lane).1 place)),
+    )
+
+-- and for a place and a number that is not greater than another
+low_test : Raw → ℕ → ℕ → ℕ → ℕ → Bool
+low_test p a b i j = place_test p a b && ltb j (i + 1)
+
+low_is : (p : Raw) → IsValid p → (a b i j : ℕ)
+    → IsTrue (low_test p a b i j) ↔ (IsPlace p a b × (j ≤ i))
+unfolding low_test
+low_is p valid a b i j =
+    let is = place_is p valid a b in (
+      λ yes.
+          let (place, low) = and_parts (place_test p a b) (ltb j (i + 1)) yes in
+          (is.0 place, omega (arith, ltb-true j (i + 1) low)),
+      λ h. and_both (place_test p a b) (ltb j (i + 1)) (is.1 h.0)
+          (lt-ltb j (i + 1) (omega (arith, h.1))),
+    )
+
+abbrev triangle_test : Triangle → Raw → ℕ → ℕ → Bool
+triangle_test Upper p i j = low_test p i j i j
+triangle_test Lower p i j = low_test p j i i j
+triangle_test Both p i j = low_test p i j i j || low_test p j i i j
+
+triangle_is : (triangle : Triangle) (p : Raw) → IsValid p → (i j : ℕ)
+    → IsTrue (triangle_test triangle p i j) ↔ TriangleBase triangle p i j
+triangle_is Upper p valid i j = low_is p valid i j i j
+triangle_is Lower p valid i j = low_is p valid j i i j
+triangle_is Both p valid i j =
+    let upper = low_test p i j i j in
+    let lower = low_test p j i i j in (
+      λ yes. elim (or_cases upper lower yes) [
+        | inl u ↦ inl ((low_is p valid i j i j).0 u)
+        | inr l ↦ inr ((low_is p valid j i i j).0 l)
+      ],
+      λ b. elim b [
+        | inl u ↦ or_left upper lower ((low_is p valid i j i j).1 u)
+        | inr l ↦ or_right upper lower ((low_is p valid j i i j).1 l)
+      ],
+    )
+
+pub triangle_same : (triangle : Triangle) (p : Raw) → IsValid p → (i j : ℕ)
+    → Filled (TriangleBase triangle p) i j ↔ InFill (TriangleBase triangle p) i j
+triangle_same triangle p valid =
+    filled_same (TriangleBase triangle p) (triangle_test triangle p) (triangle_is triangle p valid)
