@@ -6,7 +6,8 @@ which places plus multiplications grow. Times grow faster where an input leaves 
 C++ by hand, built by `run` in BENCH_DIR, is timed beside ours where it is there. The inputs are made in FOLDER
 (/tmp/nalgebra_sparse_growth): a square grid with a place for each node and each pair of neighbours, row by row or
 shuffled, and ten places of each row drawn at random. The factor (`fill`) is measured on patterns of its own, in places
-of the input and of the factor: the grid row by row, a cycle, and an arrow whose first row is full.
+of the input and of the factor: the grid row by row, a cycle, an arrow whose first row is full, and leaves: columns
+whose first half share all rows of the second half.
 """
 
 import math
@@ -57,6 +58,13 @@ def cycle(size):
 def arrow(size):
     pairs = [(node, node) for node in range(size)]
     return size, pairs + [(0, node) for node in range(1, size)] + [(node, 0) for node in range(1, size)]
+
+
+def leaves(size):
+    half = size // 2
+    pairs = [(node, node) for node in range(size)]
+    shared = [(leaf, row) for leaf in range(half) for row in range(half, size)]
+    return size, pairs + shared + [(row, leaf) for leaf, row in shared]
 
 
 def multiplications(size, pairs):
@@ -145,7 +153,12 @@ def products(tasks, folder):
 
 
 def factors(folder):
-    for name, make, sizes in (("grid", grid, SIZES), ("cycle", cycle, SIZES), ("arrow", arrow, ARROW_SIZES)):
+    for name, make, sizes in (
+        ("grid", grid, SIZES),
+        ("cycle", cycle, SIZES),
+        ("arrow", arrow, ARROW_SIZES),
+        ("leaves", leaves, ARROW_SIZES),
+    ):
         inputs = []
         for size in sizes:
             count, pairs = make(size)
