@@ -1,7 +1,7 @@
-use Rattle.std.proofs.Common.{◌≡◌, ◌+◌, ◌<◌, ◌≤◌, length, get_or, slice_index, ap, subst, ◌∙◌}
-use Rattle.std.proofs.Common.{arith}
+use Rattle.std.proofs.Common.{◌≡◌, ◌+◌, ◌<◌, ◌≤◌, length, get_or, set, slice_index, ap, sym}
+use Rattle.std.proofs.Common.{subst, ◌∙◌, arith}
 use Rattle.std.proofs.lemmas.List.{get_or_default}
-use Rattle.sparse_ldl.proofs.ColumnMoves.{moved_more}
+use Rattle.sparse_ldl.proofs.ColumnMoves.{AreMoved, moved_more}
 use Rattle.sparse_ldl.proofs.ldl.columns.move_lane.Goals as goal
 
 pub loop-at-preserved : goal.loop-at-preserved
@@ -33,4 +33,7 @@ loop-at-preserved g c =
     let product = c.mul.ensures ∙ ap (λ v. R.mul (f v) (f c.args.inverse)) read in
     let more = moved_more R f z p j (f c.args.inverse) valid c.requires.lane at from to
     c.args.values.now values c.args.column.now column h c.mul.result at_in row_in product in
-    rw (rows, c.zero.ensures) more
+    let cleared = subst (λ v. AreMoved R f z p j (f c.args.inverse) (at + 1) c.args.values.now
+    (set values at c.mul.result) c.args.column.now (set column (slice_index p.indices at) v))
+    (sym c.zero.ensures) more in
+    rw rows cleared
