@@ -5,30 +5,41 @@ ghost use Rattle.mtxkit_texts.specs.Statuses.{status_of};
 
 use sparse_parser::error::MatrixMarketErrorKind;
 use std::alloc::{AllocError, AllocFailed};
-use std::{fmt, io};
+use std::io;
+use thiserror::Error;
 
 /// Why a command fails.
-#[derive(Clone, Copy, Debug)]
+#[derive(Clone, Copy, Debug, Error)]
 pub enum Failure {
     /// The text with this number, counted from 1, has an error, or its file cannot be read.
+    #[error("input {}: {}", .0, .1.name())]
     Input(usize, MatrixMarketErrorKind),
     /// The values of the text with this number are real or complex.
+    #[error("input {0}: real and complex values are not carried, nor is their pattern")]
     NotCarried(usize),
     /// The matrix is not symmetric.
+    #[error("not symmetric")]
     NotSymmetric,
     /// The shapes of the matrices do not fit.
+    #[error("shapes do not fit")]
     Shapes,
     /// The matrix has no factorisation.
+    #[error("no factorisation L D L^T exists")]
     NoFactors,
     /// The product is another matrix.
+    #[error("A X is not B")]
     NotSolution,
     /// The modulus is none of those that the program is built for.
+    #[error("no such modulus; see mtxkit solve --help")]
     Modulus,
     /// The words of the command line are no command.
+    #[error("no command; see mtxkit --help")]
     Usage,
     /// A write failed.
+    #[error("write failed")]
     Write(io::ErrorKind),
     /// An allocation failed.
+    #[error("out of memory")]
     OutOfMemory,
 }
 
@@ -41,33 +52,6 @@ impl Failure {
             Failure::Usage => 2,
             _ => 1,
         }
-    }
-
-    // Returns the message; for an input, that of its text.
-    fn message(&self) -> &'static str {
-        match self {
-            Failure::Input(_, kind) => kind.name(),
-            Failure::NotCarried(_) =>
-                "real and complex values are not carried, nor is their pattern",
-            Failure::NotSymmetric => "not symmetric",
-            Failure::Shapes => "shapes do not fit",
-            Failure::NoFactors => "no factorisation L D L^T exists",
-            Failure::NotSolution => "A X is not B",
-            Failure::Modulus => "no such modulus; see mtxkit solve --help",
-            Failure::Usage => "no command; see mtxkit --help",
-            Failure::Write(_) => "write failed",
-            Failure::OutOfMemory => "out of memory",
-        }
-    }
-}
-
-// Displays the message, for an input after its number.
-impl fmt::Display for Failure {
-    fn fmt<W: fmt::Write>(&self, f: &mut fmt::Formatter<W>) -> fmt::Result {
-        if let Failure::Input(number, _) | Failure::NotCarried(number) = self {
-            write!(f, "input {number}: ")?;
-        }
-        f.write_str(self.message())
     }
 }
 
