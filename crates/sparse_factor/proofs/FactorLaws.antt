@@ -1,17 +1,12 @@
 -- The columns of a factor, from its rows.
-use Rattle.std.proofs.Common.{◌≡◌, ℕ, ◌<◌, ◌≤◌, inl, inr, ◌↔◌, Bool, true, IsTrue, ◌&&◌, ltb}
-use Rattle.std.proofs.Common.{List, Result, Ok, Err, IfOk, refl, sym, ap, ◌∙◌, subst, arith}
-use Rattle.std.proofs.Math.Dec.{eqb}
-use Rattle.std.specs.Set.{is_member}
+use Rattle.std.proofs.Common.{◌≡◌, ℕ, ◌≤◌, inl, inr, ◌↔◌, true, IsTrue}
+use Rattle.std.proofs.Common.{List, Result, Ok, Err, IfOk, refl, sym, ap, ◌∙◌, subst}
 use Rattle.std.proofs.Common.{rules}
 use Rattle.std.specs.Cmp.{IsEquivalence}
 use Rattle.std.specs.Cmp.Rules.{comparing}
-use Rattle.std.proofs.lemmas.Bool.Decides.{nat_tests, Decides-eqb}
-use Rattle.std.proofs.lemmas.Map.Made.{is_member-Decides}
-use Rattle.sparse_algebra.proofs.Cases.{and_parts, and_both}
-use Rattle.sparse_pattern.specs.Raw.{Raw, lane_of, IsValid, IsPlace, raw_eq, HasSamePlaces}
+use Rattle.sparse_algebra.proofs.Cases.{and_both}
+use Rattle.sparse_pattern.specs.Raw.{Raw, IsValid, IsPlace, raw_eq, HasSamePlaces}
 use Rattle.sparse_pattern.specs.TransposedPattern.{IsTransposedPattern}
-use Rattle.sparse_pattern.proofs.LaneLists.{lane_has}
 use Rattle.sparse_pattern.proofs.SamePlaces.{places_decide}
 use Rattle.sparse_sums.specs.PatternSums.{IsUnionOf}
 use Rattle.sparse_factor.specs.declared.factorization.Triangle.{Triangle}

@@ -1,5 +1,5 @@
 -- The fill of a base that a test decides: it is decided by a test too, and so is the least set.
-use Rattle.std.proofs.Common.{◌≡◌, ℕ, zero, suc, ◌+◌, ◌<◌, ◌≤◌, ◌↔◌, ◌⊎◌, inl, inr, Bool, true, false}
+use Rattle.std.proofs.Common.{ℕ, zero, suc, ◌+◌, ◌<◌, ◌≤◌, ◌↔◌, inl, inr, Bool, false}
 use Rattle.std.proofs.Common.{IsTrue, ◌&&◌, ◌||◌, ltb, arith}
 use Rattle.std.proofs.Math.Dec.{eqb}
 use Rattle.std.specs.Set.{is_member}

@@ -6,7 +6,7 @@ use Rattle.std.proofs.Common.{arith}
 use Rattle.std.specs.List.Sorted.{IsStrictlyIncreasing}
 use Rattle.std.proofs.lemmas.Grind.{common_steps}
 use Rattle.std.proofs.lemmas.List.{get_or_append_left, get_or-append_right, take-append-le}
-use Rattle.std.proofs.lemmas.List.{append-nil, drop-append-le, length-drop}
+use Rattle.std.proofs.lemmas.List.{drop-append-le, length-drop}
 use Rattle.std.proofs.lemmas.List.Edits.{length-between, between_more}
 use Rattle.std.proofs.lemmas.List.Elements.{Contains-get_or}
 use Rattle.sparse_algebra.proofs.Cases.{lt_or_ge}
@@ -148,18 +148,14 @@ run_whole xs rising = record {
 
 -- ---- a run that is copied behind its list
 
-pub none_copied : (xs : List ℕ) (from : ℕ) → xs ≡ xs ++ slice_range xs from from
-none_copied xs from =
-    let none : from - from ≡ 0 = omega arith in
-    sym (append-nil xs) ∙ ap (λ n. xs ++ take n (drop from xs)) (sym none)
-
 module _ (xs now : List ℕ) (from at : ℕ) (inside : at < length xs)
     (is : now ≡ xs ++ slice_range xs from at) where
   pub copied_within : at < length now
   copied_within = omega (arith, ap length is, length-append xs (slice_range xs from at), inside)
 
   pub copied_number : get_or now at 0 ≡ get_or xs at 0
-  copied_number = ap (λ l. get_or l at 0) is ∙ get_or_append_left xs (slice_range xs from at) 0 at inside
+  copied_number = ap (λ l. get_or l at 0) is
+      ∙ get_or_append_left xs (slice_range xs from at) 0 at inside
 
   pub copied_more : (row : ℕ) → from ≤ at → row ≡ get_or now at 0
       → now ++ row ∷ [] ≡ xs ++ slice_range xs from (at + 1)

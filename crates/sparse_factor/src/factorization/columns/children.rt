@@ -63,8 +63,8 @@ pub(super) fn is_single<C: Count>(nexts: &[C], first: usize) -> bool
     first == 0 || nexts[first - 1].get() == 0
 }
 
-// Takes up the tails of all children but the longest, and sorts the rows that are taken up. The children are on the list
-// that begins at `children.0`, and the longest has the head `children.1`. Counts a step for each row of a tail.
+// Takes up the tails of all children but the longest, and sorts the rows that are taken up. The children are on the
+// list that begins at `children.0`, and the longest has the head `children.1`. Counts a step for each row of a tail.
 #[inline(always)]
 pub(super) fn take_others<C: Count>(
     columns: &Columns,
