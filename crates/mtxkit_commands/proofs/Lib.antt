@@ -1,3 +1,3 @@
-mod Revalued
+mod Listed
 mod Remainders
 mod Solving

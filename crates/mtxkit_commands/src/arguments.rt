@@ -1,5 +1,7 @@
 //! From the program's arguments to its exit status.
 
+ghost use Rattle.clap.specs.Values.{kind_of};
+ghost use Rattle.clap.specs.declared.error.kind.ErrorKind.TheVariants as words;
 ghost use Rattle.std.specs.Prelude.{◌≡◌, ◌≤◌, IfOk, IfErr, IsTrue, Err};
 ghost use Rattle.std.specs.IoError.{error_kind};
 ghost use Rattle.std.specs.Process.{exit_status};
@@ -103,7 +105,8 @@ where
 
 // Writes what `clap` answers: help to `out`, with status 0, and a mistake to `err`.
 fn explain<W: Sink, E: Sink>(alloc: Global, error: &clap::Error, out: &mut W, err: &mut E) -> u8
-    ensures { result ≤ 2 }
+    ensures status { result ≤ 2 }
+    ensures memory { kind_of error.now ≡ words.OutOfMemory → result ≡ 1 }
 {
     let Ok(text) = format!(in alloc; "{error}") else {
         return report(alloc, Failure::OutOfMemory, err);

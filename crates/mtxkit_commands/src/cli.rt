@@ -5,7 +5,10 @@ ghost use Rattle.std.specs.Prelude.{is_some, string_bytes};
 ghost use Rattle.std.specs.Io.KnownBytes.{Appends};
 ghost use Rattle.mtxkit_texts.specs.Statuses.{status_of};
 ghost use Rattle.mtxkit_commands.specs.Commands.{IsAnswer, IsAnswered, IsSized, ShowsPicture};
-ghost use Rattle.mtxkit_commands.specs.Commands.{WritesValues};
+ghost use Rattle.mtxkit_commands.specs.Commands.{WritesValues, IsFieldFailureOf, IsFailure};
+ghost use Rattle.mtxkit_commands.specs.Commands.{IsUnwritten, CanFail};
+ghost use Rattle.mtxkit_texts.specs.Loaded.{IsLoadFailure};
+ghost use Rattle.mtxkit_texts.specs.declared.failure.Failure.{Failure};
 
 use crate::commands::{Command, Target, Values};
 use crate::inputs::read_text;
@@ -34,6 +37,8 @@ where
     ensures status { result ≤ 2 }
     ensures answered { result ≡ 0 → IsAnswered command.entry (W.taken out.old) (W.taken out.new) }
     ensures silent { result ≡ 0 → E.taken err.new ≡ E.taken err.old }
+    ensures failed { result ≢ 0
+        → (failure : Failure) × (CanFail command.entry failure × (result ≡ status_of failure)) }
     ensures unanswered { result ≢ 0 → W.failures out.new ≡ W.failures out.old
         → W.taken out.new ≡ W.taken out.old }
 {
@@ -50,6 +55,7 @@ where
     I: io::Read,
     W: Sink,
     requires { IsSized command }
+    ensures failed { IfErr result (CanFail command.entry) }
     ensures answered { OnOk result (IsAnswered command.entry (W.taken out.old) (W.taken out.new)) }
     ensures unanswered { OnErr result (W.failures out.new ≡ W.failures out.old
         → W.taken out.new ≡ W.taken out.old) }
@@ -67,7 +73,8 @@ where
     R: Files + AllocGlobal,
     I: io::Read,
     requires { IsSized command }
-    ensures { IfOk result (λ answer. IsAnswer command.entry (string_bytes answer)) }
+    ensures answer { IfOk result (λ answer. IsAnswer command.entry (string_bytes answer)) }
+    ensures failed { IfErr result (IsFailure command.entry) }
 {
     match command {
         Command::Info { file } => {
@@ -103,7 +110,9 @@ where
 // Returns the text of the picture of a text's pattern.
 fn picture(alloc: Global, size: usize, target: Target<'_>, text: &str) -> Result<String, Failure>
     requires { 0 < size }
-    ensures { IfOk result (λ shown. ShowsPicture target.entry text.now size (string_bytes shown)) }
+    ensures shown { IfOk result
+        (λ shown. ShowsPicture target.entry text.now size (string_bytes shown)) }
+    ensures refused { IfErr result (IsLoadFailure 1 text.now) }
 {
     match target {
         Target::Bitmap => spy_bitmap(alloc, text, size),
@@ -114,7 +123,9 @@ fn picture(alloc: Global, size: usize, target: Target<'_>, text: &str) -> Result
 
 // Returns the text of a text's matrix with these values.
 fn rewritten(alloc: Global, values: Values, text: &str) -> Result<String, Failure>
-    ensures { IfOk result (λ written. WritesValues values text.now (string_bytes written)) }
+    ensures written { IfOk result
+        (λ written. WritesValues values text.now (string_bytes written)) }
+    ensures refused { IfErr result (IsFieldFailureOf values text.now) }
 {
     match values {
         Values::Integers => integer_text(alloc, text),
@@ -123,7 +134,9 @@ fn rewritten(alloc: Global, values: Values, text: &str) -> Result<String, Failur
 }
 
 // Creates or truncates the file, and writes the text to it.
-fn save<R: Files>(rt: &R, path: &str, text: &str) -> Result<(), Failure> {
+fn save<R: Files>(rt: &R, path: &str, text: &str) -> Result<(), Failure>
+    ensures { IfErr result IsUnwritten }
+{
     match fs::write(rt, path, text) {
         Ok(()) => Ok(()),
         Err(error) => Err(Failure::Write(error.kind())),
@@ -134,6 +147,7 @@ fn save<R: Files>(rt: &R, path: &str, text: &str) -> Result<(), Failure> {
 fn write_text<W: Sink>(out: &mut W, text: &str) -> Result<(), Failure>
     ensures written { OnOk result (Appends (W.taken out.old) (W.taken out.new) text.now) }
     ensures failed { OnErr result (W.failures out.new ≢ W.failures out.old) }
+    ensures kind { IfErr result IsUnwritten }
 {
     match write_all_to(out, text.as_bytes()) {
         Ok(()) => Ok(()),

@@ -1,12 +1,13 @@
 //! Lists of integers, and of the elements that they mean in a ring.
 
-ghost use Rattle.std.specs.Prelude.{◌≡◌, All, IfOk, length, map};
-ghost use Rattle.sparse_base.specs.Coo.{coo_of, zip_triplets};
+ghost use Rattle.std.specs.Prelude.{◌≡◌, pos, All, IfOk, map};
 ghost use Rattle.sparse_base.specs.CooPlain.{plain_of_coo};
 ghost use Rattle.sparse_algebra.specs.Integers.{element_of};
 ghost use Rattle.mtxkit_commands.specs.Systems.{plain_of_integers};
+ghost use Rattle.mtxkit_systems.specs.Orders.{places_of};
 
 use crate::residues::Residues;
+use mtxkit_texts::with_values;
 use sparse_base::coo::CooMatrix;
 use std::alloc::{AllocError, Global};
 
@@ -29,6 +30,11 @@ pub fn integers_of<T: Residues>(
 ) -> Result<CooMatrix<i128>, AllocError>
     ensures plain { IfOk result (λ m. plain_of_integers T.ring m
         ≡ plain_of_coo T.ring T.value list.now) }
+    ensures places { IfOk result
+        (λ m. places_of m.triplets ≡ places_of list.now.triplets) }
+    ensures nonzero { IfOk result
+        (λ m. All (λ t. T.value t.2 ≡ T.ring.zero → ⊥) list.now.triplets
+        → All (λ z. z ≡ pos 0 → ⊥) (map (λ t. t.2) m.triplets)) }
     ensures reduced { IfOk result
         (λ m. All (λ z. T.reduced z ≡ z) (map (λ t. t.2) m.triplets)) }
 {
@@ -59,24 +65,4 @@ fn each_integer<T: Residues>(alloc: Global, elements: &[T]) -> Result<Vec<i128>,
         integers.push(element.integer())?;
     }
     Ok(integers)
-}
-
-// Returns a list with other values.
-fn with_values<S: Copy, T: Copy>(
-    alloc: Global,
-    list: &CooMatrix<S>,
-    values: Vec<T>,
-) -> Result<CooMatrix<T>, AllocError>
-    requires { length values.items ≡ length list.now.triplets }
-    ensures list { IfOk result (λ m. m ≡ coo_of list.now.nrows list.now.ncols
-        (zip_triplets (map (λ t. t.0) list.now.triplets) (map (λ t. t.1) list.now.triplets)
-        values.items)) }
-    ensures values { IfOk result (λ m. map (λ t. t.2) m.triplets ≡ values.items) }
-{
-    let rows = Vec::from_slice(alloc, list.row_indices())?;
-    let cols = Vec::from_slice(alloc, list.col_indices())?;
-    match CooMatrix::try_from_triplets(list.nrows(), list.ncols(), rows, cols, values) {
-        Ok(list) => Ok(list),
-        Err(_) => unreachable!(),
-    }
 }

@@ -1,24 +1,24 @@
 //! Systems of matrices that texts mean.
 
-ghost use Rattle.std.specs.Prelude.{◌≡◌, IfOk, IfErr, string_bytes};
+ghost use Rattle.std.specs.Prelude.{◌≡◌, ◌⊎◌, IfOk, IfErr, IsTrue, codes, string_bytes};
 ghost use Rattle.mtxkit_commands.specs.Systems.{IsSolved, IsTested, IsSolvedBy, IsTestedBy};
-ghost use Rattle.mtxkit_commands.specs.Systems.{MeansIntegers, WritesSolution, MeansUnsymmetric};
-ghost use Rattle.mtxkit_commands.specs.Systems.{MeansUnfactored, SaysProduct, MeansOther};
-ghost use Rattle.mtxkit_texts.specs.declared.failure.Failure.TheVariants.{NotSymmetric, NoFactors};
+ghost use Rattle.mtxkit_commands.specs.Systems.{WritesSolution, IsSolveFailure, SaysProduct};
+ghost use Rattle.mtxkit_commands.specs.Systems.{IsCheckFailure};
 ghost use Rattle.mtxkit_texts.specs.declared.failure.Failure.TheVariants.{NotSolution};
+ghost use Rattle.mtxkit_texts.specs.declared.failure.Failure.TheVariants.{OutOfMemory};
 ghost use Rattle.mtxkit_commands.specs.SystemErrors.{system_fault};
 
 use crate::lists::{elements_of, integers_of};
 use crate::residues::Residues;
 use mtxkit_systems::{SystemError, is_solution, solve_listed};
-use mtxkit_texts::{Failure, unread};
+use mtxkit_texts::{Failure, read_integers};
 use sparse_algebra::scalar::{Mod, W64};
 use sparse_base::coo::CooMatrix;
-use sparse_io::{load_coo_from_matrix_market_str, save_to_matrix_market_str};
+use sparse_io::save_to_matrix_market_str;
 use std::alloc::Global;
 
 /// Returns the text of the matrix X for which A X = B, where A and B are the matrices that two texts mean and A is
-/// symmetric. X is written column by column, without its zeros.
+/// symmetric. X is written column by column and each column from the top, without its zeros.
 ///
 /// The integers are taken modulo a number, or modulo 2^64 if none is given.
 ///
@@ -30,13 +30,14 @@ use std::alloc::Global;
 pub fn solve_text(alloc: Global, modulus: Option<u64>, a: &str, b: &str) -> Result<String, Failure>
     ensures written { IfOk result
         (λ written. WritesSolution modulus a.now b.now (string_bytes written)) }
-    ensures unsymmetric { IfErr result (λ e. e ≡ NotSymmetric → MeansUnsymmetric modulus a.now) }
-    ensures singular { IfErr result (λ e. e ≡ NoFactors → MeansUnfactored modulus a.now) }
+    ensures refused { IfErr result (IsSolveFailure modulus a.now b.now) }
 {
     let a = read_integers(alloc, 1, a)?;
     let b = read_integers(alloc, 2, b)?;
-    let x = solve_modulo(alloc, modulus, &a, &b)?;
-    Ok(save_to_matrix_market_str(alloc, &x)?)
+    match solve_modulo(alloc, modulus, &a, &b) {
+        Ok(x) => Ok(save_to_matrix_market_str(alloc, &x)?),
+        Err(failure) => Err(failure),
+    }
 }
 
 /// Returns a line that says that A X = B, where A, X and B are the matrices that three texts mean.
@@ -57,29 +58,28 @@ pub fn check_text(
 ) -> Result<String, Failure>
     ensures said { IfOk result
         (λ written. SaysProduct modulus a.now x.now b.now (string_bytes written)) }
-    ensures other { IfErr result
-        (λ e. e ≡ NotSolution → MeansOther modulus a.now x.now b.now) }
+    ensures refused { IfErr result (IsCheckFailure modulus a.now x.now b.now) }
 {
     let a = read_integers(alloc, 1, a)?;
     let x = read_integers(alloc, 2, x)?;
     let b = read_integers(alloc, 3, b)?;
-    if !is_solution_modulo(alloc, modulus, &a, &x, &b)? {
+    match is_solution_modulo(alloc, modulus, &a, &x, &b) {
+        Ok(yes) => said(alloc, yes),
+        Err(failure) => Err(failure),
+    }
+}
+
+// Returns the line that says that A X = B, if it is so.
+fn said(alloc: Global, yes: bool) -> Result<String, Failure>
+    ensures line { IfOk result
+        (λ line. IsTrue yes × (string_bytes line ≡ codes "A X = B\n")) }
+    ensures refused { IfErr result
+        (λ e. (e ≡ OutOfMemory) ⊎ ((e ≡ NotSolution) × (IsTrue yes → ⊥))) }
+{
+    if !yes {
         return Err(Failure::NotSolution);
     }
     Ok(String::from_str(alloc, "A X = B\n")?)
-}
-
-// Reads the integers of a text.
-fn read_integers(alloc: Global, number: usize, text: &str) -> Result<CooMatrix<i128>, Failure>
-    ensures meant { IfOk result (MeansIntegers text.now) }
-    ensures symmetric { IfErr result (λ e. e ≡ NotSymmetric → ⊥) }
-    ensures factored { IfErr result (λ e. e ≡ NoFactors → ⊥) }
-    ensures product { IfErr result (λ e. e ≡ NotSolution → ⊥) }
-{
-    match load_coo_from_matrix_market_str::<i128>(alloc, text) {
-        Ok(integers) => Ok(integers),
-        Err(error) => Err(unread(number, error.kind(), text)),
-    }
 }
 
 // Returns the matrix X for which A X = B, modulo 2^64 or one of the moduli that the program is built for.

@@ -1,6 +1,6 @@
 //! Symmetric systems, solved exactly, and the test of a solution.
 
-ghost use Rattle.std.specs.Prelude.{◌≡◌, ◌↔◌, ℕ, All, Err, IfOk, IfErr, IsTrue};
+ghost use Rattle.std.specs.Prelude.{◌≡◌, ◌⊎◌, ◌↔◌, ℕ, All, Err, IfOk, IfErr, IsTrue};
 ghost use Rattle.sparse_base.specs.CooPlain.{plain_of_coo};
 ghost use Rattle.sparse_base.specs.DensePlain.{plain_of_dense};
 ghost use Rattle.sparse_algebra.specs.Plain.{plain_product};
@@ -11,6 +11,7 @@ ghost use Rattle.mtxkit_systems.specs.Systems.{HasNoFactorisation, IsEquation, I
 ghost use Rattle.mtxkit_matrices.specs.Values.{IsSymmetricMatrix};
 ghost use Rattle.mtxkit_systems.specs.declared.system.SystemError.TheVariants.{NoFactors, NotSymmetric};
 ghost use Rattle.mtxkit_systems.specs.declared.system.SystemError.TheVariants.{Shapes};
+ghost use Rattle.mtxkit_systems.specs.declared.system.SystemError.TheVariants.{OutOfMemory};
 
 use mtxkit_matrices::{has_same_values, has_symmetric_values};
 use sparse_algebra::error::OperationErrorKind;
@@ -170,6 +171,7 @@ pub fn is_solution<T: Ring>(
     b: &CooMatrix<T>,
 ) -> Result<bool, SystemError>
     ensures shapes { (result ≡ Err Shapes) ↔ (IsEquation a.now x.now b.now → ⊥) }
+    ensures kinds { IfErr result (λ e. (e ≡ Shapes) ⊎ (e ≡ OutOfMemory)) }
     ensures answer { IfOk result (λ yes. IsTrue yes ↔ HasSameValues T.ring b.now.nrows b.now.ncols
         (plain_product T.ring (plain_of_coo T.ring T.value a.now)
         (plain_of_coo T.ring T.value x.now))

@@ -1,3 +1,5 @@
+mod ExactSums
 mod Heads
 mod ListedPlaces
-mod Misread
+pub mod Revalued
+mod WideLists

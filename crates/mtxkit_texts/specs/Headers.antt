@@ -33,3 +33,15 @@ is_carried_field Pattern = true
 abbrev pub is_carried : Option Header → Bool
 is_carried None = true
 is_carried (Some h) = is_carried_field h.field
+
+-- the field is that of a pattern
+abbrev pub is_pattern_field : Field → Bool
+is_pattern_field Real = false
+is_pattern_field Complex = false
+is_pattern_field Integer = false
+is_pattern_field Pattern = true
+
+-- the header, if there is one, names a pattern
+abbrev pub is_pattern : Option Header → Bool
+is_pattern None = false
+is_pattern (Some h) = is_pattern_field h.field

@@ -1,5 +1,6 @@
 pub mod FactLines
 pub mod Facts
+pub mod Faults
 pub mod Headers
 pub mod Loaded
 pub mod Lower

@@ -1,49 +1,131 @@
 -- Matrices read from texts.
-use Rattle.std.specs.Prelude.{◌≡◌, ◌⊎◌, ℕ, List, All, length, Ok, Err}
-use Rattle.std.specs.Int.{w64}
+use Rattle.std.specs.Prelude.{◌≡◌, ◌⊎◌, ℕ, ℤ, List, All, map, length, Ok, Err, Bool, true, false}
+use Rattle.std.specs.Prelude.{Option}
+use Rattle.std.specs.Int.{w64, w128}
+use Rattle.std.specs.Int.RustNames.{FitsSigned}
 use Rattle.sparse_algebra.specs.Algebra.{CommRing}
 use Rattle.sparse_algebra.specs.Numbers.{w64_number}
+use Rattle.sparse_algebra.specs.Whole.{whole_ring, Shows}
 use Rattle.sparse_algebra.specs.Wrapping.{wrapping_ring, class_of}
+use Rattle.sparse_algebra.specs.WrappingValues.{w128_number}
+use Rattle.sparse_algebra.specs.declared.scalar.wide.W128.{W128}
 use Rattle.sparse_algebra.specs.declared.scalar.wrapping.W64.{W64}
 use Rattle.sparse_base.specs.Coo.{Coo}
 use Rattle.sparse_base.specs.CooPlain.{plain_of_coo}
 use Rattle.sparse_cs.specs.Compressed.{Compressed}
 use Rattle.sparse_cs.specs.PlainOfLanes.{plain_of_rows}
+use Rattle.sparse_parser.specs.Meaning.{Means}
+use Rattle.sparse_parser.specs.Scalars.{Scalar}
 use Rattle.sparse_parser.specs.declared.error.MatrixMarketErrorKind.{MatrixMarketErrorKind}
-use Rattle.sparse_parser.specs.Meaning.{Means, values_of}
-use Rattle.sparse_market_scalar.specs.ScalarTypes.{pattern_scalar, wrapping_scalar}
+use Rattle.sparse_parser.specs.declared.header.Header.{Header}
+use Rattle.sparse_market_scalar.specs.ScalarTypes.{pattern_scalar, signed_scalar}
+use Rattle.mtxkit_texts.specs.Faults.{text_fault}
+use Rattle.mtxkit_texts.specs.Headers.{header_in, is_pattern}
 use Rattle.mtxkit_texts.specs.Places.{HasPlacesOf}
 use Rattle.mtxkit_texts.specs.declared.failure.Failure.{Failure}
-use Rattle.mtxkit_texts.specs.declared.failure.Failure.TheVariants.{Input, NotCarried}
+use Rattle.mtxkit_texts.specs.declared.failure.Failure.TheVariants.{OutOfMemory, Wide}
 
--- the integers modulo 2 ^ 64, and the one that a value means
+-- the integers modulo 2 ^ 64 and 2 ^ 128, and those that values mean
 abbrev pub ring64 : CommRing
 ring64 = wrapping_ring w64
 
 abbrev pub value64 : W64 → ring64.Carrier
 value64 x = class_of w64 (w64_number x)
 
+abbrev pub ring128 : CommRing
+ring128 = wrapping_ring w128
+
+abbrev pub value128 : W128 → ring128.Carrier
+value128 x = class_of w128 (w128_number x)
+
+-- ---- lists
+
+-- the text means this list of integers
+abbrev pub MeansIntegers : List ℕ → Coo ℤ → Type 0
+MeansIntegers text list = Means (signed_scalar w128) text (Ok list)
+
+-- the matrix by rows has the sums of the integers of each place: modulo 2 ^ 128, and exactly
+-- wherever a sum fits in 128 bits
+pub record HasSums (list : Coo ℤ) (m : Compressed W128) : Type 0 where
+  pub plain : plain_of_rows ring128 value128 m ≡ plain_of_coo ring128 (class_of w128) list
+  pub exact : Shows w128 (plain_of_coo ring128 (class_of w128) list)
+      (plain_of_coo whole_ring (λ z. z) list)
+
+-- the integers, and the sums of those of each place, fit in 64 bits
+pub record IsNarrow (list : Coo ℤ) : Type 0 where
+  pub entries : All (FitsSigned w64) (map (λ t. t.2) list.triplets)
+  pub sums : (i j : ℕ) → FitsSigned w64 ((plain_of_coo whole_ring (λ z. z) list).value i j)
+
+-- ---- matrices
+
 -- the text means a list of `entries` integers, and the matrix by rows has their sums
-pub record MeansSums (text : List ℕ) (entries : ℕ) (m : Compressed W64) : Type 0 where
-  pub list : Coo W64
+pub record MeansSums (text : List ℕ) (entries : ℕ) (m : Compressed W128) : Type 0 where
+  pub list : Coo ℤ
   pub counted : entries ≡ length list.triplets
-  pub means : Means (wrapping_scalar w64) text (Ok (values_of w64_number list))
-  pub sums : plain_of_rows ring64 value64 m ≡ plain_of_coo ring64 value64 list
+  pub means : MeansIntegers text list
+  pub sums : HasSums list m
 
 -- the text means a list of `entries` places, and the matrix by rows has one at each of them
-pub record MeansOnes (text : List ℕ) (entries : ℕ) (m : Compressed W64) : Type 0 where
+pub record MeansOnes {T : Type 0} (R : CommRing) (f : T → R.Carrier) (text : List ℕ) (entries : ℕ)
+    (m : Compressed T) : Type 0 where
   pub list : Coo (Unit {0})
   pub counted : entries ≡ length list.triplets
-  pub means : Means pattern_scalar text (Ok (values_of (λ x. x) list))
+  pub means : Means pattern_scalar text (Ok list)
   pub places : HasPlacesOf list m.pattern
-  pub ones : All (λ v. value64 v ≡ ring64.one) m.values
+  pub ones : All (λ v. f v ≡ R.one) m.values
 
--- one of both
-abbrev pub MeansMatrix : List ℕ → ℕ → Compressed W64 → Type 0
-MeansMatrix text entries m = MeansSums text entries m ⊎ MeansOnes text entries m
+-- one of both, by whether the header names a pattern
+abbrev pub MeansMatrixBy : Bool → List ℕ → ℕ → Compressed W128 → Type 0
+MeansMatrixBy true text entries m = MeansOnes ring128 value128 text entries m
+MeansMatrixBy false text entries m = MeansSums text entries m
 
--- the text with this number does not mean a matrix of integers, or not one of places
-pub record IsMisread (number : ℕ) (text : List ℕ) (failure : Failure) : Type 0 where
+abbrev pub MeansMatrix : List ℕ → ℕ → Compressed W128 → Type 0
+MeansMatrix text entries m = MeansMatrixBy (is_pattern (header_in text)) text entries m
+
+-- the text means a list of integers, and the matrix by rows, of 64 bits, has their exact sums
+pub record MeansExactSums (text : List ℕ) (m : Compressed W64) : Type 0 where
+  pub list : Coo ℤ
+  pub means : MeansIntegers text list
+  pub sums : plain_of_rows whole_ring w64_number m ≡ plain_of_coo whole_ring (λ z. z) list
+
+-- the same, or one at each place of a pattern
+abbrev pub MeansValuesBy : Bool → List ℕ → Compressed W64 → Type 0
+MeansValuesBy true text m = (entries : ℕ) × MeansOnes ring64 value64 text entries m
+MeansValuesBy false text m = MeansExactSums text m
+
+abbrev pub MeansValues : List ℕ → Compressed W64 → Type 0
+MeansValues text m = MeansValuesBy (is_pattern (header_in text)) text m
+
+-- ---- texts without a matrix
+
+-- what is read of a text, by whether its header names a pattern
+abbrev pub scalar_read : Bool → Scalar
+scalar_read true = pattern_scalar
+scalar_read false = signed_scalar w128
+
+-- the text with this number, read as these scalars, means the error that the failure names
+pub record IsRefused (S : Scalar) (number : ℕ) (text : List ℕ) (failure : Failure) : Type 0 where
   pub fault : MatrixMarketErrorKind
-  pub is : (failure ≡ Input number fault) ⊎ (failure ≡ NotCarried number)
-  pub why : Means (wrapping_scalar w64) text (Err fault) ⊎ Means pattern_scalar text (Err fault)
+  pub means : Means S text (Err fault)
+  pub is : failure ≡ text_fault number (header_in text) fault
+
+-- the same, read as the field that its header names
+abbrev pub IsMisread : ℕ → List ℕ → Failure → Type 0
+IsMisread number text failure =
+    IsRefused (scalar_read (is_pattern (header_in text))) number text failure
+
+-- an integer of the text with this number, or the sum of those of a place, leaves 64 bits
+pub record IsWide (number : ℕ) (text : List ℕ) (failure : Failure) : Type 0 where
+  pub list : Coo ℤ
+  pub means : MeansIntegers text list
+  pub wide : IsNarrow list → ⊥
+  pub is : failure ≡ Wide number
+
+-- why the text with this number is not loaded: an allocation failed, or the text means an error
+abbrev pub IsLoadFailure : ℕ → List ℕ → Failure → Type 0
+IsLoadFailure number text failure = (failure ≡ OutOfMemory) ⊎ IsMisread number text failure
+
+-- why its values are not: the same, or they leave 64 bits
+abbrev pub IsValuesFailure : ℕ → List ℕ → Failure → Type 0
+IsValuesFailure number text failure =
+    (failure ≡ OutOfMemory) ⊎ (IsMisread number text failure ⊎ IsWide number text failure)

@@ -1,17 +1,22 @@
 -- Lower triangles of symmetric matrices, written in symmetric form.
-use Rattle.std.specs.Prelude.{◌≡◌, ℕ, List, ◌++◌, ◌⊎◌, codes, Option, Some, None}
-use Rattle.std.specs.Prelude.{Bool, true, false}
+use Rattle.std.specs.Prelude.{◌≡◌, ◌⊎◌, ℕ, List, ◌++◌, codes, Option, Some, None, Bool, true, false}
 use Rattle.std.specs.List.{filter}
+use Rattle.sparse_algebra.specs.Algebra.{CommRing}
+use Rattle.sparse_algebra.specs.declared.scalar.wide.W128.{W128}
 use Rattle.sparse_algebra.specs.declared.scalar.wrapping.W64.{W64}
 use Rattle.sparse_cs.specs.Compressed.{Compressed, lane_triplets}
 use Rattle.sparse_cs.specs.Filter.{is_lower}
 use Rattle.sparse_cs.specs.PlainOfLanes.{plain_of_rows}
+use Rattle.sparse_pattern.specs.Raw.{Raw}
 use Rattle.mtxkit_matrices.specs.Values.{IsSymmetricMatrix}
-use Rattle.mtxkit_texts.specs.Loaded.{MeansMatrix, ring64, value64}
+use Rattle.mtxkit_texts.specs.Loaded.{MeansMatrix, MeansValues, ring64, value64, ring128, value128}
+use Rattle.mtxkit_texts.specs.Loaded.{IsValuesFailure}
+use Rattle.mtxkit_texts.specs.declared.failure.Failure.{Failure}
+use Rattle.mtxkit_texts.specs.declared.failure.Failure.TheVariants.{NotSymmetric}
 use Rattle.sparse_parser.specs.declared.header.Field.{Field}
 use Rattle.sparse_parser.specs.declared.header.Field.TheVariants.{Pattern}
 use Rattle.sparse_parser.specs.declared.header.Header.{Header}
-use Rattle.mtxkit_texts.specs.Headers.{is_mirrored}
+use Rattle.mtxkit_texts.specs.Headers.{header_in, is_mirrored}
 use Rattle.mtxkit_texts.specs.Rewritten.{IsIntegerText, IsPatternText}
 use Rattle.mtxkit_texts.specs.Rewritten.{WritesIntegers, WritesPattern}
 
@@ -31,26 +36,38 @@ IsSymmetricIntegers lower written = (general : List ℕ)
     × (IsIntegerText lower general × IsSymmetricForm (codes "integer") general written)
 
 -- the same without values
-abbrev pub IsSymmetricPattern : Compressed W64 → List ℕ → Type 0
+abbrev pub IsSymmetricPattern : Raw → List ℕ → Type 0
 IsSymmetricPattern lower written = (general : List ℕ)
     × (IsPatternText lower general × IsSymmetricForm (codes "pattern") general written)
 
--- the matrix that the text means is symmetric, and its lower triangle was written in symmetric form
-pub record WritesLower (text written : List ℕ) : Type 0 where
+-- the matrix is symmetric, and the other one has its places on and below the diagonal
+pub record IsLowerOf {T : Type 0} (R : CommRing) (f : T → R.Carrier) (matrix lower : Compressed T)
+    : Type 0 where
+  pub is : IsSymmetricMatrix R (plain_of_rows R f matrix)
+  pub kept : lane_triplets lower ≡ filter is_lower (lane_triplets matrix)
+
+-- the lower triangle of the symmetric pattern that the text means, in symmetric form
+pub record WritesLowerPattern (text written : List ℕ) : Type 0 where
   pub entries : ℕ
+  pub matrix : Compressed W128
+  pub lower : Compressed W128
+  pub meant : MeansMatrix text entries matrix
+  pub part : IsLowerOf ring128 value128 matrix lower
+  pub form : IsSymmetricPattern lower.pattern written
+
+-- the lower triangle of the symmetric matrix that the text means, with its values, in symmetric form
+pub record WritesLowerIntegers (text written : List ℕ) : Type 0 where
   pub matrix : Compressed W64
   pub lower : Compressed W64
-  pub meant : MeansMatrix text entries matrix
-  pub is : IsSymmetricMatrix ring64 (plain_of_rows ring64 value64 matrix)
-  pub kept : lane_triplets lower ≡ filter is_lower (lane_triplets matrix)
-  pub form : IsSymmetricIntegers lower written ⊎ IsSymmetricPattern lower written
+  pub meant : MeansValues text matrix
+  pub part : IsLowerOf ring64 value64 matrix lower
+  pub form : IsSymmetricIntegers lower written
 
--- the matrix that the text means is not symmetric
-abbrev pub MeansUnsymmetric : List ℕ → Type 0
-MeansUnsymmetric text = (entries : ℕ) × ((m : Compressed W64) × (MeansMatrix text entries m
-    × (¬ IsSymmetricMatrix ring64 (plain_of_rows ring64 value64 m))))
+-- a file of patterns stays one, and any other has integers
+abbrev pub WritesLower : Field → List ℕ → List ℕ → Type 0
+WritesLower Pattern text written = WritesLowerPattern text written
+WritesLower field text written = WritesLowerIntegers text written
 
--- the matrix that the text means, written as the field of its header names it
 abbrev pub WritesField : Field → List ℕ → List ℕ → Type 0
 WritesField Pattern text written = WritesPattern text written
 WritesField field text written = WritesIntegers text written
@@ -58,7 +75,7 @@ WritesField field text written = WritesIntegers text written
 -- all entries of a text, or the lower triangle
 abbrev pub WritesAll : Bool → Field → List ℕ → List ℕ → Type 0
 WritesAll true field text written = WritesField field text written
-WritesAll false field text written = WritesLower text written
+WritesAll false field text written = WritesLower field text written
 
 -- all entries of a text whose header names a symmetry, or the lower triangle
 abbrev pub SymmetrisedUnder : Header → List ℕ → List ℕ → Type 0
@@ -68,3 +85,35 @@ SymmetrisedUnder h text written = WritesAll (is_mirrored h.symmetry) h.field tex
 abbrev pub Symmetrised : Option Header → List ℕ → List ℕ → Type 0
 Symmetrised (Some h) text written = SymmetrisedUnder h text written
 Symmetrised None text written = WritesIntegers text written
+
+-- the pattern that the text means is not symmetric
+abbrev pub MeansUnsymmetricPattern : List ℕ → Type 0
+MeansUnsymmetricPattern text = (entries : ℕ) × ((m : Compressed W128)
+    × (MeansMatrix text entries m × (¬ IsSymmetricMatrix ring128 (plain_of_rows ring128 value128 m))))
+
+-- the matrix of integers that the text means is not symmetric
+abbrev pub MeansUnsymmetricIntegers : List ℕ → Type 0
+MeansUnsymmetricIntegers text = (m : Compressed W64)
+    × (MeansValues text m × (¬ IsSymmetricMatrix ring64 (plain_of_rows ring64 value64 m)))
+
+abbrev pub MeansUnsymmetricOf : Field → List ℕ → Type 0
+MeansUnsymmetricOf Pattern text = MeansUnsymmetricPattern text
+MeansUnsymmetricOf field text = MeansUnsymmetricIntegers text
+
+abbrev pub MeansUnsymmetricUnder : Option Header → List ℕ → Type 0
+MeansUnsymmetricUnder (Some h) text = MeansUnsymmetricOf h.field text
+MeansUnsymmetricUnder None text = ⊥
+
+-- the matrix that the text means is not symmetric
+abbrev pub MeansUnsymmetric : List ℕ → Type 0
+MeansUnsymmetric text = MeansUnsymmetricUnder (header_in text) text
+
+-- why a text whose header names this field is not expanded, nor written in symmetric form
+abbrev pub IsFieldFailure : Field → List ℕ → Failure → Type 0
+IsFieldFailure field text failure =
+    IsValuesFailure 1 text failure ⊎ ((failure ≡ NotSymmetric) × MeansUnsymmetricOf field text)
+
+-- the same, by the header of the text
+abbrev pub IsSymmetricFailure : List ℕ → Failure → Type 0
+IsSymmetricFailure text failure =
+    IsValuesFailure 1 text failure ⊎ ((failure ≡ NotSymmetric) × MeansUnsymmetric text)

@@ -2,12 +2,14 @@
 use Rattle.std.specs.Prelude.{◌≡◌, ℕ, List, codes}
 use Rattle.std.specs.Fmt.{signed_decimal}
 use Rattle.sparse_algebra.specs.Numbers.{w64_number}
+use Rattle.sparse_algebra.specs.declared.scalar.wide.W128.{W128}
 use Rattle.sparse_algebra.specs.declared.scalar.wrapping.W64.{W64}
 use Rattle.sparse_base.specs.Coo.{Coo, coo_of}
 use Rattle.sparse_cs.specs.Compressed.{Compressed, lane_triplets}
 use Rattle.sparse_io.specs.Written.{text_of}
 use Rattle.sparse_market_scalar.specs.ScalarTypes.{pattern_scalar}
-use Rattle.mtxkit_texts.specs.Loaded.{MeansMatrix}
+use Rattle.sparse_pattern.specs.Raw.{Raw}
+use Rattle.mtxkit_texts.specs.Loaded.{MeansMatrix, MeansValues}
 
 -- the triplets of a matrix by rows, row by row
 abbrev pub listed : {T : Type 0} → Compressed T → Coo T
@@ -18,17 +20,17 @@ abbrev pub IsIntegerText : Compressed W64 → List ℕ → Type 0
 IsIntegerText m written =
     written ≡ text_of (codes "integer") (λ v. signed_decimal (w64_number v)) (listed m)
 
--- the text of a matrix without values at the same places
-abbrev pub IsPatternText : Compressed W64 → List ℕ → Type 0
-IsPatternText m written = (places : Compressed (Unit {0})) × (places.pattern ≡ m.pattern)
+-- the text of a matrix without values at the places of a pattern
+abbrev pub IsPatternText : Raw → List ℕ → Type 0
+IsPatternText pattern written = (places : Compressed (Unit {0})) × (places.pattern ≡ pattern)
     × (written ≡ text_of (codes "pattern") pattern_scalar.text (listed places))
 
 -- the matrix that the text means, written with its values
 abbrev pub WritesIntegers : List ℕ → List ℕ → Type 0
-WritesIntegers text written = (entries : ℕ) × ((m : Compressed W64)
-    × (MeansMatrix text entries m × IsIntegerText m written))
+WritesIntegers text written =
+    (m : Compressed W64) × (MeansValues text m × IsIntegerText m written)
 
 -- the matrix that the text means, written without values
 abbrev pub WritesPattern : List ℕ → List ℕ → Type 0
-WritesPattern text written = (entries : ℕ) × ((m : Compressed W64)
-    × (MeansMatrix text entries m × IsPatternText m written))
+WritesPattern text written = (entries : ℕ) × ((m : Compressed W128)
+    × (MeansMatrix text entries m × IsPatternText m.pattern written))

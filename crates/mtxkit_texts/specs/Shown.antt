@@ -1,21 +1,22 @@
 -- Pictures of the patterns of texts.
 use Rattle.std.specs.Prelude.{◌≡◌, ℕ, ◌<◌, ◌≤◌, ◌↔◌, IsTrue, List}
-use Rattle.sparse_algebra.specs.declared.scalar.wrapping.W64.{W64}
+use Rattle.sparse_algebra.specs.declared.scalar.wide.W128.{W128}
 use Rattle.sparse_cs.specs.Compressed.{Compressed}
 use Rattle.mtxkit_patterns.specs.Pictures.{Bitmap, HasPlaceIn, is_black}
 use Rattle.mtxkit_patterns.specs.PictureTexts.{bitmap_text, block_text}
+use Rattle.mtxkit_patterns.specs.Sizes.{picture_sizes}
 use Rattle.mtxkit_texts.specs.Loaded.{MeansMatrix}
 
--- the sides of the picture have at most `size` cells, and as many as the text's matrix has rows and
--- columns if these are no more; a cell is black exactly where a place of the matrix lies in it
+-- the picture has the sizes of one of the text's matrix whose sides have at most `size` cells; a cell
+-- is black exactly where a place of the matrix lies in it
 pub record IsPictureOf (text : List ℕ) (size : ℕ) (picture : Bitmap) : Type 0 where
   pub entries : ℕ
-  pub matrix : Compressed W64
+  pub matrix : Compressed W128
   pub meant : MeansMatrix text entries matrix
+  pub sizes : (picture.height, picture.width)
+      ≡ picture_sizes matrix.pattern.major_dim matrix.pattern.minor_dim size
   pub high : picture.height ≤ size
   pub wide : picture.width ≤ size
-  pub whole : matrix.pattern.major_dim ≤ size → matrix.pattern.minor_dim ≤ size
-      → (picture.height ≡ matrix.pattern.major_dim) × (picture.width ≡ matrix.pattern.minor_dim)
   pub black : (r c : ℕ) → r < picture.height → c < picture.width
       → IsTrue (is_black picture r c)
       ↔ HasPlaceIn matrix.pattern picture.height picture.width r c

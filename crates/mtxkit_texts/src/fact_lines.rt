@@ -8,13 +8,13 @@ ghost use Rattle.mtxkit_texts.specs.FactLines.{symmetry_name, header_lines, size
 ghost use Rattle.mtxkit_texts.specs.FactLines.{count_lines, symmetry_lines, histogram_lines};
 ghost use Rattle.mtxkit_texts.specs.FactLines.{bar, bar_line, bar_lines, bar_title};
 ghost use Rattle.mtxkit_texts.specs.Facts.{AreFactsOf, WritesFacts};
-ghost use Rattle.mtxkit_texts.specs.declared.failure.Failure.TheVariants.{NotSymmetric};
+ghost use Rattle.mtxkit_texts.specs.Loaded.{IsLoadFailure};
 
 use crate::failure::Failure;
 use crate::loaded::{Loaded, header_of, load};
 use mtxkit_matrices::{Info, info_of};
 use mtxkit_patterns::Histogram;
-use sparse_algebra::scalar::W64;
+use sparse_algebra::scalar::W128;
 use sparse_forms::csr::CsrMatrix;
 use sparse_parser::header::{Field, Format, Header, Symmetry};
 use std::alloc::{AllocError, Global};
@@ -27,7 +27,7 @@ const BAR: u128 = 40;
 /// Fails as [`load`](crate::load) does, or if an allocation fails.
 pub fn info_text(alloc: Global, text: &str) -> Result<String, Failure>
     ensures written { IfOk result (λ written. WritesFacts text.now (string_bytes written)) }
-    ensures refused { IfErr result (λ e. e ≡ NotSymmetric → ⊥) }
+    ensures refused { IfErr result (IsLoadFailure 1 text.now) }
 {
     let loaded = load(alloc, 1, text)?;
     let facts = facts_of(alloc, &loaded.matrix)?;
@@ -39,7 +39,7 @@ pub fn info_text(alloc: Global, text: &str) -> Result<String, Failure>
 }
 
 // Returns the facts about a matrix.
-fn facts_of(alloc: Global, matrix: &CsrMatrix<W64>) -> Result<Info, AllocError>
+fn facts_of(alloc: Global, matrix: &CsrMatrix<W128>) -> Result<Info, AllocError>
     ensures { IfOk result (AreFactsOf matrix.now) }
 {
     info_of(alloc, matrix)

@@ -17,6 +17,9 @@ pub enum Failure {
     /// The values of the text with this number are real or complex.
     #[error("input {0}: real and complex values are not carried, nor is their pattern")]
     NotCarried(usize),
+    /// An integer of the text with this number, or the sum of those of one place, does not fit in 64 bits.
+    #[error("input {0}: a value or a sum of repeated entries does not fit in 64 bits")]
+    Wide(usize),
     /// The matrix is not symmetric.
     #[error("not symmetric")]
     NotSymmetric,

@@ -1,16 +1,18 @@
 //! Texts written again with another field.
 
-ghost use Rattle.std.specs.Prelude.{◌≡◌, IfErr, IfOk, string_bytes};
+ghost use Rattle.std.specs.Prelude.{IfErr, IfOk, string_bytes};
 ghost use Rattle.mtxkit_texts.specs.Rewritten.{IsIntegerText, IsPatternText, WritesIntegers};
 ghost use Rattle.mtxkit_texts.specs.Rewritten.{WritesPattern};
-ghost use Rattle.mtxkit_texts.specs.declared.failure.Failure.TheVariants.{NotSymmetric};
+ghost use Rattle.mtxkit_texts.specs.Loaded.{IsLoadFailure, IsValuesFailure};
 
 use crate::failure::Failure;
 use crate::loaded::load;
 use crate::places::matrix_of;
+use crate::values::load_values;
 use sparse_algebra::scalar::W64;
 use sparse_forms::csr::CsrMatrix;
 use sparse_io::save_to_matrix_market_str;
+use sparse_pattern::pattern::SparsityPattern;
 use std::alloc::{AllocError, Global};
 
 /// Returns the text of the pattern of a text's matrix, row by row. A place whose value is zero is kept.
@@ -18,28 +20,28 @@ use std::alloc::{AllocError, Global};
 /// Fails as [`load`](crate::load) does, or if an allocation fails.
 pub fn pattern_text(alloc: Global, text: &str) -> Result<String, Failure>
     ensures written { IfOk result (λ written. WritesPattern text.now (string_bytes written)) }
-    ensures refused { IfErr result (λ e. e ≡ NotSymmetric → ⊥) }
+    ensures refused { IfErr result (IsLoadFailure 1 text.now) }
 {
     let loaded = load(alloc, 1, text)?;
-    Ok(write_pattern(alloc, &loaded.matrix)?)
+    Ok(write_pattern(alloc, loaded.matrix.pattern())?)
 }
 
 /// Returns the text of a text's matrix with integers, row by row: a pattern has one at each place.
 ///
-/// Fails as [`load`](crate::load) does, or if an allocation fails.
+/// Fails as [`load_values`](crate::load_values) does, or if an allocation fails.
 pub fn integer_text(alloc: Global, text: &str) -> Result<String, Failure>
     ensures written { IfOk result (λ written. WritesIntegers text.now (string_bytes written)) }
-    ensures refused { IfErr result (λ e. e ≡ NotSymmetric → ⊥) }
+    ensures refused { IfErr result (IsValuesFailure 1 text.now) }
 {
-    let loaded = load(alloc, 1, text)?;
-    Ok(write_integers(alloc, &loaded.matrix)?)
+    let matrix = load_values(alloc, 1, text)?;
+    Ok(write_integers(alloc, &matrix)?)
 }
 
-/// Returns the text of the pattern of a matrix, row by row.
-pub fn write_pattern(alloc: Global, matrix: &CsrMatrix<W64>) -> Result<String, AllocError>
-    ensures { IfOk result (λ written. IsPatternText matrix.now (string_bytes written)) }
+/// Returns the text of a pattern, row by row.
+pub fn write_pattern(alloc: Global, pattern: &SparsityPattern) -> Result<String, AllocError>
+    ensures { IfOk result (λ written. IsPatternText pattern.now (string_bytes written)) }
 {
-    let places = matrix_of(alloc, matrix.pattern())?;
+    let places = matrix_of(alloc, pattern)?;
     save_to_matrix_market_str(alloc, &places)
 }
 

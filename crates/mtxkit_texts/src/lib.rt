@@ -4,15 +4,21 @@
 mod fact_lines;
 mod failure;
 mod field;
+mod lists;
 mod loaded;
 mod places;
 mod spy;
+mod sums;
 mod symmetric;
+mod values;
 
 pub use fact_lines::info_text;
 pub use failure::Failure;
 pub use field::{integer_text, pattern_text};
-pub use loaded::{Loaded, header_of, load, unread};
+pub use lists::with_values;
+pub use loaded::{Loaded, header_of, load, read_integers};
 pub use places::{matrix_of, ones_of};
 pub use spy::{spy_bitmap, spy_blocks};
+pub use sums::wide_sums;
 pub use symmetric::symmetric_text;
+pub use values::load_values;

@@ -1,21 +1,25 @@
 //! Matrices read from texts.
 
-ghost use Rattle.std.specs.Prelude.{◌≡◌, ◌⊎◌, false, Ok, Err, IfOk, IfErr, IsErrAnd};
+ghost use Rattle.std.specs.Prelude.{◌≡◌, ◌⊎◌, Ok, IfOk, IfErr, length};
 ghost use Rattle.sparse_cs.specs.Compressed.{IsSound};
-ghost use Rattle.sparse_parser.specs.Errors.{kind_of};
-ghost use Rattle.sparse_parser.specs.declared.error.MatrixMarketErrorKind.TheVariants as kinds;
-ghost use Rattle.mtxkit_texts.specs.Loaded.{MeansMatrix, MeansOnes, MeansSums, IsMisread};
+ghost use Rattle.sparse_market_scalar.specs.ScalarTypes.{pattern_scalar, signed_scalar};
+ghost use Rattle.sparse_parser.specs.Meaning.{Means};
+ghost use Rattle.std.specs.Int.{w128};
+ghost use Rattle.mtxkit_texts.specs.Faults.{text_fault};
 ghost use Rattle.mtxkit_texts.specs.Headers.{header_in, is_carried, is_carried_field};
-ghost use Rattle.mtxkit_texts.specs.declared.failure.Failure.TheVariants.{Input, NotCarried};
+ghost use Rattle.mtxkit_texts.specs.Headers.{is_pattern, is_pattern_field};
+ghost use Rattle.mtxkit_texts.specs.Loaded.{MeansMatrix, MeansOnes, MeansSums, MeansIntegers};
+ghost use Rattle.mtxkit_texts.specs.Loaded.{IsRefused, IsLoadFailure, ring128, value128};
 ghost use Rattle.mtxkit_texts.specs.declared.failure.Failure.TheVariants.{OutOfMemory};
 
 use crate::failure::Failure;
 use crate::places::ones_of;
-use sparse_algebra::scalar::W64;
-use sparse_convert::serial::convert_coo_csr;
+use crate::sums::wide_sums;
+use sparse_algebra::scalar::W128;
+use sparse_base::coo::CooMatrix;
 use sparse_forms::csr::CsrMatrix;
 use sparse_io::load_coo_from_matrix_market_str;
-use sparse_parser::error::{MatrixMarketError, MatrixMarketErrorKind};
+use sparse_parser::error::MatrixMarketErrorKind;
 use sparse_parser::header::{Field, Header};
 use sparse_parser::lines::{after_space, split_line};
 use std::alloc::Global;
@@ -26,30 +30,25 @@ pub struct Loaded {
     /// The number of entries that the text means; the mirrored ones of a symmetry are counted too.
     pub entries: usize,
     /// The matrix by rows.
-    pub matrix: CsrMatrix<W64>,
+    pub matrix: CsrMatrix<W128>,
 }
 
 /// Reads a matrix by rows from a text: a pattern has one at each place, and the values of repeated integer entries are
-/// added modulo 2^64.
+/// added. A sum that leaves 128 bits is taken modulo 2^128.
 ///
 /// # Errors
 ///
-/// Returns `Input` with this number and the kind of the text's error, or `NotCarried` if that is a real or complex
-/// value. Otherwise fails only if an allocation fails.
+/// Returns `Input` with this number and the kind of the error that the text means for the field that its header names,
+/// or `NotCarried` if that is a value of a real or complex field. Otherwise fails only if an allocation fails.
 pub fn load(alloc: Global, number: usize, text: &str) -> Result<Loaded, Failure>
     ensures meant { IfOk result (λ l. MeansMatrix text.now l.entries l.matrix) }
     ensures sound { IfOk result (λ l. IsSound l.matrix) }
-    ensures refused { IfErr result (λ e. (e ≡ OutOfMemory) ⊎ IsMisread number text.now e) }
+    ensures refused { IfErr result (IsLoadFailure number text.now) }
 {
-    match header_of(text) {
-        Some(
-            Header {
-                format: _,
-                field: Field::Pattern,
-                symmetry: _,
-            },
-        ) => load_places(alloc, number, text),
-        _ => load_integers(alloc, number, text),
+    if names_pattern(text) {
+        load_places(alloc, number, text)
+    } else {
+        load_integers(alloc, number, text)
     }
 }
 
@@ -61,45 +60,88 @@ pub fn header_of(text: &str) -> Option<Header>
     Header::from_line(line)
 }
 
+// Whether the header of a text names a pattern.
+pub(crate) fn names_pattern(text: &str) -> bool
+    ensures { result ≡ is_pattern (header_in text.now) }
+{
+    match header_of(text) {
+        Some(header) => is_pattern_field(header.field),
+        None => false,
+    }
+}
+
+// Whether the field is that of a pattern.
+fn is_pattern_field(field: Field) -> bool
+    ensures { result ≡ is_pattern_field field }
+{
+    match field {
+        Field::Pattern => true,
+        Field::Integer | Field::Real | Field::Complex => false,
+    }
+}
+
 // Reads the places of a text as a matrix of ones.
 fn load_places(alloc: Global, number: usize, text: &str) -> Result<Loaded, Failure>
-    ensures meant { IfOk result (λ l. MeansOnes text.now l.entries l.matrix) }
+    ensures meant { IfOk result (λ l. MeansOnes ring128 value128 text.now l.entries l.matrix) }
     ensures sound { IfOk result (λ l. IsSound l.matrix) }
-    ensures refused { IfErr result (λ e. (e ≡ OutOfMemory) ⊎ IsMisread number text.now e) }
+    ensures refused { IfErr result
+        (λ e. (e ≡ OutOfMemory) ⊎ IsRefused pattern_scalar number text.now e) }
 {
-    match load_coo_from_matrix_market_str::<()>(alloc, text) {
-        Ok(places) => {
-            let matrix = ones_of(alloc, &places)?;
-            let entries = places.nnz();
-            Ok(Loaded { entries, matrix })
-        }
-        Err(error) => Err(unread(number, error.kind(), text)),
-    }
+    let places = read_places(alloc, number, text)?;
+    let matrix = ones_of(alloc, &places)?;
+    let entries = places.nnz();
+    Ok(Loaded { entries, matrix })
 }
 
 // Reads the integers of a text and adds those of one place.
 fn load_integers(alloc: Global, number: usize, text: &str) -> Result<Loaded, Failure>
     ensures meant { IfOk result (λ l. MeansSums text.now l.entries l.matrix) }
     ensures sound { IfOk result (λ l. IsSound l.matrix) }
-    ensures refused { IfErr result (λ e. (e ≡ OutOfMemory) ⊎ IsMisread number text.now e) }
+    ensures refused { IfErr result
+        (λ e. (e ≡ OutOfMemory) ⊎ IsRefused (signed_scalar w128) number text.now e) }
 {
-    match load_coo_from_matrix_market_str::<W64>(alloc, text) {
-        Ok(integers) => {
-            let matrix = convert_coo_csr(alloc, &integers)?;
-            let entries = integers.nnz();
-            Ok(Loaded { entries, matrix })
-        }
+    let integers = read_integers(alloc, number, text)?;
+    let matrix = wide_sums(alloc, &integers)?;
+    let entries = integers.nnz();
+    Ok(Loaded { entries, matrix })
+}
+
+// Reads the places of a text.
+pub(crate) fn read_places(
+    alloc: Global,
+    number: usize,
+    text: &str,
+) -> Result<CooMatrix<()>, Failure>
+    ensures meant { IfOk result (λ list. Means pattern_scalar text.now (Ok list)) }
+    ensures refused { IfErr result
+        (λ e. (e ≡ OutOfMemory) ⊎ IsRefused pattern_scalar number text.now e) }
+{
+    match load_coo_from_matrix_market_str::<()>(alloc, text) {
+        Ok(places) => Ok(places),
         Err(error) => Err(unread(number, error.kind(), text)),
     }
 }
 
-/// Returns the failure of a text whose matrix cannot be read.
-pub fn unread(number: usize, kind: MatrixMarketErrorKind, text: &str) -> Failure
-    ensures memory { kind ≡ kinds.OutOfMemory → result ≡ OutOfMemory }
-    ensures carried { result ≡ NotCarried number
-        → (kind ≡ kinds.TypeMismatch) × (is_carried (header_in text.now) ≡ false) }
-    ensures named { (result ≡ OutOfMemory)
-        ⊎ (result ≡ Input number kind) ⊎ (result ≡ NotCarried number) }
+/// Reads the integers of a text, of 128 bits.
+///
+/// # Errors
+///
+/// Returns the errors of [`load`] on a text that does not name a pattern. One that names a pattern and has entries means
+/// `TypeMismatch`.
+pub fn read_integers(alloc: Global, number: usize, text: &str) -> Result<CooMatrix<i128>, Failure>
+    ensures meant { IfOk result (MeansIntegers text.now) }
+    ensures refused { IfErr result
+        (λ e. (e ≡ OutOfMemory) ⊎ IsRefused (signed_scalar w128) number text.now e) }
+{
+    match load_coo_from_matrix_market_str::<i128>(alloc, text) {
+        Ok(integers) => Ok(integers),
+        Err(error) => Err(unread(number, error.kind(), text)),
+    }
+}
+
+// Returns the failure of a text whose matrix cannot be read.
+fn unread(number: usize, kind: MatrixMarketErrorKind, text: &str) -> Failure
+    ensures { result ≡ text_fault number (header_in text.now) kind }
 {
     match kind {
         MatrixMarketErrorKind::OutOfMemory => Failure::OutOfMemory,

@@ -7,6 +7,7 @@ ghost use Rattle.sparse_cs.specs.Compressed.{IsSound};
 ghost use Rattle.sparse_pattern.specs.Raw.{IsPlace};
 ghost use Rattle.mtxkit_texts.specs.Places.{HasPlacesOf};
 
+use crate::lists::with_values;
 use sparse_algebra::scalar::Ring;
 use sparse_base::coo::CooMatrix;
 use sparse_convert::serial::convert_coo_csr;
@@ -51,8 +52,18 @@ fn filled<T: Copy>(
     ensures sound { IfOk result IsSound }
 {
     let values = copies_of(alloc, value, pattern.nnz())?;
+    Ok(joined(pattern, values))
+}
+
+// The matrix with these values at the places of a pattern, of which there are as many.
+pub(crate) fn joined<T: Copy>(pattern: SparsityPattern, values: Vec<T>) -> CsrMatrix<T>
+    requires { length values.items ≡ length pattern.indices }
+    ensures pattern { result.pattern ≡ pattern }
+    ensures values { result.values ≡ values.items }
+    ensures sound { IsSound result }
+{
     match CsrMatrix::try_from_pattern_and_values(pattern, values) {
-        Ok(matrix) => Ok(matrix),
+        Ok(matrix) => matrix,
         Err(_) => unreachable!(),
     }
 }
@@ -64,13 +75,8 @@ fn listed_ones<T: Ring>(alloc: Global, places: &CooMatrix<()>) -> Result<CooMatr
     ensures places { IfOk result (λ m. (i j : ℕ) → list_any (is_at i j) m.triplets
         ≡ list_any (is_at i j) places.now.triplets) }
 {
-    let rows = Vec::from_slice(alloc, places.row_indices())?;
-    let cols = Vec::from_slice(alloc, places.col_indices())?;
     let ones = copies_of(alloc, T::one(), places.nnz())?;
-    match CooMatrix::try_from_triplets(places.nrows(), places.ncols(), rows, cols, ones) {
-        Ok(listed) => Ok(listed),
-        Err(_) => unreachable!(),
-    }
+    with_values(alloc, places, ones)
 }
 
 // Returns `count` copies of a value.

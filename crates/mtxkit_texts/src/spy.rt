@@ -1,6 +1,7 @@
 //! Pictures of the patterns of texts.
 
-ghost use Rattle.std.specs.Prelude.{◌<◌, IfOk, string_bytes};
+ghost use Rattle.std.specs.Prelude.{◌<◌, IfErr, IfOk, string_bytes};
+ghost use Rattle.mtxkit_texts.specs.Loaded.{IsLoadFailure};
 ghost use Rattle.mtxkit_texts.specs.Shown.{IsPictureOf, ShowsBitmap, ShowsBlocks};
 
 use crate::failure::Failure;
@@ -14,7 +15,8 @@ use std::alloc::Global;
 /// Fails as [`load`](crate::load) does, or if an allocation fails.
 pub fn spy_bitmap(alloc: Global, text: &str, size: usize) -> Result<String, Failure>
     requires { 0 < size }
-    ensures { IfOk result (λ shown. ShowsBitmap text.now size (string_bytes shown)) }
+    ensures shown { IfOk result (λ shown. ShowsBitmap text.now size (string_bytes shown)) }
+    ensures refused { IfErr result (IsLoadFailure 1 text.now) }
 {
     let picture = spy(alloc, text, size)?;
     Ok(bitmap_text(alloc, &picture)?)
@@ -26,7 +28,8 @@ pub fn spy_bitmap(alloc: Global, text: &str, size: usize) -> Result<String, Fail
 /// Fails as [`load`](crate::load) does, or if an allocation fails.
 pub fn spy_blocks(alloc: Global, text: &str, size: usize) -> Result<String, Failure>
     requires { 0 < size }
-    ensures { IfOk result (λ shown. ShowsBlocks text.now size (string_bytes shown)) }
+    ensures shown { IfOk result (λ shown. ShowsBlocks text.now size (string_bytes shown)) }
+    ensures refused { IfErr result (IsLoadFailure 1 text.now) }
 {
     let picture = spy(alloc, text, size)?;
     Ok(block_text(alloc, &picture)?)
@@ -36,6 +39,7 @@ pub fn spy_blocks(alloc: Global, text: &str, size: usize) -> Result<String, Fail
 fn spy(alloc: Global, text: &str, size: usize) -> Result<Picture, Failure>
     requires { 0 < size }
     ensures picture { IfOk result (IsPictureOf text.now size) }
+    ensures refused { IfErr result (IsLoadFailure 1 text.now) }
 {
     let loaded = load(alloc, 1, text)?;
     let pattern = loaded.matrix.pattern();

@@ -1,30 +1,35 @@
 //! Symmetric texts expanded, and symmetric matrices written by their lower triangles.
 
-ghost use Rattle.std.specs.Prelude.{◌≡◌, ◌++◌, ℕ, List, IfOk, IfErr, string_bytes};
+ghost use Rattle.std.specs.Prelude.{◌≡◌, ◌⊎◌, ◌++◌, ℕ, List, IfOk, IfErr, string_bytes};
 ghost use Rattle.mtxkit_texts.specs.Headers.{header_in, is_mirrored};
 ghost use Rattle.mtxkit_texts.specs.Lower.{IsSymmetricIntegers, IsSymmetricPattern};
-ghost use Rattle.mtxkit_texts.specs.Lower.{MeansUnsymmetric, WritesLower, Symmetrised};
-ghost use Rattle.mtxkit_texts.specs.Lower.{SymmetrisedUnder};
+ghost use Rattle.mtxkit_texts.specs.Loaded.{IsLoadFailure, IsValuesFailure};
+ghost use Rattle.mtxkit_texts.specs.Lower.{MeansUnsymmetricPattern, MeansUnsymmetricIntegers};
+ghost use Rattle.mtxkit_texts.specs.Lower.{WritesField, WritesLower, WritesLowerPattern};
+ghost use Rattle.mtxkit_texts.specs.Lower.{WritesLowerIntegers, Symmetrised, SymmetrisedUnder};
+ghost use Rattle.mtxkit_texts.specs.Lower.{IsSymmetricFailure, IsFieldFailure};
 ghost use Rattle.mtxkit_texts.specs.declared.failure.Failure.TheVariants.{NotSymmetric};
 
 use crate::failure::Failure;
 use crate::field::{integer_text, pattern_text, write_integers, write_pattern};
 use crate::loaded::{header_of, load};
+use crate::values::load_values;
 use mtxkit_matrices::lower_of;
 use sparse_algebra::scalar::W64;
 use sparse_forms::csr::CsrMatrix;
 use sparse_parser::header::{Field, Header, Symmetry};
+use sparse_pattern::pattern::SparsityPattern;
 use std::alloc::{AllocError, Global};
 
 /// Returns the text of all entries where the header of a text names a symmetry, and otherwise the text of the lower
 /// triangle, with a header that says `symmetric`.
 ///
-/// Fails as [`load`](crate::load) does, with `NotSymmetric` if the lower triangle is wanted of a matrix that is not
-/// symmetric, or if an allocation fails.
+/// Fails as [`load_values`](crate::load_values) does, with `NotSymmetric` if the lower triangle is wanted of a matrix that
+/// is not symmetric, or if an allocation fails.
 pub fn symmetric_text(alloc: Global, text: &str) -> Result<String, Failure>
     ensures written { IfOk result
         (λ written. Symmetrised (header_in text.now) text.now (string_bytes written)) }
-    ensures unsymmetric { IfErr result (λ e. e ≡ NotSymmetric → MeansUnsymmetric text.now) }
+    ensures refused { IfErr result (IsSymmetricFailure text.now) }
 {
     match header_of(text) {
         Some(header) => symmetrised(alloc, text, header),
@@ -36,14 +41,23 @@ pub fn symmetric_text(alloc: Global, text: &str) -> Result<String, Failure>
 fn symmetrised(alloc: Global, text: &str, header: Header) -> Result<String, Failure>
     ensures written { IfOk result
         (λ written. SymmetrisedUnder header text.now (string_bytes written)) }
-    ensures unsymmetric { IfErr result (λ e. e ≡ NotSymmetric → MeansUnsymmetric text.now) }
+    ensures refused { IfErr result (IsFieldFailure header.field text.now) }
 {
-    if !is_mirrored(header.symmetry) {
-        return lower_text(alloc, text, header.field);
+    if is_mirrored(header.symmetry) {
+        field_text(alloc, text, header.field)
+    } else {
+        lower_text(alloc, text, header.field)
     }
-    match header.field {
+}
+
+// Returns the text of all entries, with the values of this field.
+fn field_text(alloc: Global, text: &str, field: Field) -> Result<String, Failure>
+    ensures written { IfOk result (λ written. WritesField field text.now (string_bytes written)) }
+    ensures refused { IfErr result (IsFieldFailure field text.now) }
+{
+    match field {
         Field::Pattern => pattern_text(alloc, text),
-        _ => integer_text(alloc, text),
+        Field::Integer | Field::Real | Field::Complex => integer_text(alloc, text),
     }
 }
 
@@ -57,23 +71,46 @@ fn is_mirrored(symmetry: Symmetry) -> bool
     }
 }
 
-// Returns the text of the lower triangle of a symmetric matrix.
+// Returns the text of the lower triangle of a symmetric matrix, with the values of this field.
 fn lower_text(alloc: Global, text: &str, field: Field) -> Result<String, Failure>
-    ensures written { IfOk result (λ written. WritesLower text.now (string_bytes written)) }
-    ensures unsymmetric { IfErr result (λ e. e ≡ NotSymmetric → MeansUnsymmetric text.now) }
+    ensures written { IfOk result (λ written. WritesLower field text.now (string_bytes written)) }
+    ensures refused { IfErr result (IsFieldFailure field text.now) }
 {
-    let loaded = load(alloc, 1, text)?;
-    let Some(lower) = lower_of(alloc, &loaded.matrix)? else {
-        return Err(Failure::NotSymmetric);
-    };
     match field {
-        Field::Pattern => Ok(symmetric_pattern(alloc, &lower)?),
-        _ => Ok(symmetric_integers(alloc, &lower)?),
+        Field::Pattern => lower_pattern(alloc, text),
+        Field::Integer | Field::Real | Field::Complex => lower_integers(alloc, text),
     }
 }
 
-// Returns the text of the lower triangle of a symmetric matrix without values, in symmetric form.
-fn symmetric_pattern(alloc: Global, lower: &CsrMatrix<W64>) -> Result<String, AllocError>
+// Returns the text of the lower triangle of a symmetric pattern.
+fn lower_pattern(alloc: Global, text: &str) -> Result<String, Failure>
+    ensures written { IfOk result (λ written. WritesLowerPattern text.now (string_bytes written)) }
+    ensures refused { IfErr result (λ e. IsLoadFailure 1 text.now e
+        ⊎ ((e ≡ NotSymmetric) × MeansUnsymmetricPattern text.now)) }
+{
+    let loaded = load(alloc, 1, text)?;
+    match lower_of(alloc, &loaded.matrix)? {
+        Some(lower) => Ok(symmetric_pattern(alloc, lower.pattern())?),
+        None => Err(Failure::NotSymmetric),
+    }
+}
+
+// Returns the text of the lower triangle of a symmetric matrix of integers.
+fn lower_integers(alloc: Global, text: &str) -> Result<String, Failure>
+    ensures written { IfOk result
+        (λ written. WritesLowerIntegers text.now (string_bytes written)) }
+    ensures refused { IfErr result (λ e. IsValuesFailure 1 text.now e
+        ⊎ ((e ≡ NotSymmetric) × MeansUnsymmetricIntegers text.now)) }
+{
+    let matrix = load_values(alloc, 1, text)?;
+    match lower_of(alloc, &matrix)? {
+        Some(lower) => Ok(symmetric_integers(alloc, &lower)?),
+        None => Err(Failure::NotSymmetric),
+    }
+}
+
+// Returns the text of the lower triangle of a symmetric pattern, in symmetric form.
+fn symmetric_pattern(alloc: Global, lower: &SparsityPattern) -> Result<String, AllocError>
     ensures { IfOk result (λ written. IsSymmetricPattern lower.now (string_bytes written)) }
 {
     let general = write_pattern(alloc, lower)?;

@@ -87,6 +87,48 @@ fn commands_of_one_file(rt: HostRuntime) -> Result<(), Fail> {
     Ok(())
 }
 
+// The words, the lines of an oblong matrix, and the heading, the number of lines between the first and the last, and
+// these three lines of its picture.
+const OBLONG: [(&[&str], &str, &str, usize, [&str; 3]); 2] = [
+    (
+        &["spy", "-"],
+        "2048 8 2\n1 1 5\n2048 8 5\n",
+        "P1\n2 512\n",
+        510,
+        ["10\n", "00\n", "01\n"],
+    ),
+    (
+        &["spy", "--text", "-"],
+        "256 8 2\n1 1 5\n256 8 5\n",
+        "",
+        30,
+        ["▀ \n", "  \n", " ▄\n"],
+    ),
+];
+
+// The lines of a picture of an oblong matrix: a heading, a first line, some in the middle, and a last one.
+fn oblong(alloc: Global, head: &str, count: usize, lines: [&str; 3]) -> Result<String, AllocError> {
+    let mut text = String::from_str(alloc, head)?;
+    text.push_str(lines[0])?;
+    for _ in 0..count {
+        text.push_str(lines[1])?;
+    }
+    text.push_str(lines[2])?;
+    Ok(text)
+}
+
+// Four rows and four columns lie in each cell where the longer side is four times the default size.
+#[test]
+fn oblong_matrices_are_scaled(rt: HostRuntime) -> Result<(), Fail> {
+    for (words, lines, head, count, picture) in OBLONG {
+        let text = format!(in rt.alloc(); "{FILE_HEADER}{lines}")?;
+        let want = oblong(rt.alloc(), head, count, picture)?;
+        let answer = answered(&rt, words, &[], text.as_bytes())?;
+        assert!(rt; has_written(&answer, want.as_str()), "{words:?}");
+    }
+    Ok(())
+}
+
 // A file whose text is the header and these lines.
 fn matrix(rt: &HostRuntime, number: usize, lines: &str) -> io::Result<String> {
     let folder = env::temp_dir(rt)?;

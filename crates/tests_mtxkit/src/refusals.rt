@@ -10,6 +10,29 @@ const REAL: &[u8] = b"%%MatrixMarket matrix coordinate real general\n1 1 1\n1 1 
 const NOT_CARRIED: &str =
     "mtxkit: input 1: real and complex values are not carried, nor is their pattern\n";
 
+const TOO_WIDE: &str =
+    "mtxkit: input 1: a value or a sum of repeated entries does not fit in 64 bits\n";
+
+// The integer 2^63.
+const LARGE: &[u8] =
+    b"%%MatrixMarket matrix coordinate integer general\n1 1 1\n1 1 9223372036854775808\n";
+
+// Two integers whose sum is 2^63.
+const LARGE_SUM: &[u8] = b"%%MatrixMarket matrix coordinate integer general
+1 1 2
+1 1 4611686018427387904
+1 1 4611686018427387904
+";
+
+// The mirror image of -2^63 is 2^63.
+const MIRRORED: &[u8] = b"%%MatrixMarket matrix coordinate integer skew-symmetric
+2 2 1
+2 1 -9223372036854775808
+";
+
+// An entry is missing, and none is real.
+const SHORT_REAL: &[u8] = b"%%MatrixMarket matrix coordinate real general\n1 1 1\n";
+
 /// What commands answer over an output that takes nothing.
 pub const REFUSALS: &[Refusal] = &[
     (&["info", "-"], ONE, 1, "mtxkit: write failed\n"),
@@ -17,6 +40,23 @@ pub const REFUSALS: &[Refusal] = &[
     (&["info", "-"], REAL, 1, NOT_CARRIED),
     (&["spy", "-"], REAL, 1, NOT_CARRIED),
     (&["solve", "-", "-"], REAL, 1, NOT_CARRIED),
+    (
+        &["info", "-"],
+        SHORT_REAL,
+        1,
+        "mtxkit: input 1: EntryMismatch\n",
+    ),
+    (&["field", "integer", "-"], LARGE, 1, TOO_WIDE),
+    (&["symmetric", "-"], LARGE, 1, TOO_WIDE),
+    (&["field", "integer", "-"], LARGE_SUM, 1, TOO_WIDE),
+    (&["symmetric", "-"], MIRRORED, 1, TOO_WIDE),
+    (&["info", "-"], LARGE, 1, "mtxkit: write failed\n"),
+    (
+        &["field", "pattern", "-"],
+        LARGE_SUM,
+        1,
+        "mtxkit: write failed\n",
+    ),
     (
         &["symmetric", "-"],
         b"%%MatrixMarket matrix coordinate integer general\n2 2 1\n1 2 1\n",
@@ -41,6 +81,24 @@ pub const REFUSALS: &[Refusal] = &[
         ONE,
         1,
         "mtxkit: input 1: IOError\n",
+    ),
+    (
+        &["symmetric", "/no/such/file"],
+        ONE,
+        1,
+        "mtxkit: input 1: IOError\n",
+    ),
+    (
+        &["field", "pattern", "/no/such/file"],
+        ONE,
+        1,
+        "mtxkit: input 1: IOError\n",
+    ),
+    (
+        &["check", "-", "/no/such/file", "/no/such/file"],
+        ONE,
+        1,
+        "mtxkit: input 2: IOError\n",
     ),
     (
         &["spy", "-", "-o", "/no/such/folder/picture.pbm"],

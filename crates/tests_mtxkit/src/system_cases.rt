@@ -62,6 +62,20 @@ pub const SOLVE_CASES: &[SystemCase] = &[
     ),
     (
         &["solve"],
+        &["2 3 2\n1 1 1\n2 2 1\n", "2 1 0\n"],
+        Err("mtxkit: shapes do not fit\n"),
+    ),
+    // Column by column, each from the top, without zeros.
+    (
+        &["solve"],
+        &[
+            "2 2 2\n1 1 1\n2 2 1\n",
+            "2 3 5\n2 3 6\n1 3 5\n2 1 4\n1 1 1\n1 1 -1\n",
+        ],
+        Ok("2 3 3\n2 1 4\n1 3 5\n2 3 6\n"),
+    ),
+    (
+        &["solve"],
         &[A, "2 1 1\n0 1 5\n"],
         Err("mtxkit: input 2: ZeroError\n"),
     ),
@@ -88,6 +102,11 @@ pub const CHECK_CASES: &[SystemCase] = &[
         &["check"],
         &[A, "2 1 0\n", "1 1 0\n"],
         Err("mtxkit: shapes do not fit\n"),
+    ),
+    (
+        &["check"],
+        &[A, "2 1 x\n", "2 1 0\n"],
+        Err("mtxkit: input 2: ParsingError\n"),
     ),
     (
         &["check"],

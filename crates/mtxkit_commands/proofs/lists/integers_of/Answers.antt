@@ -1,8 +1,11 @@
-use Rattle.std.proofs.Common.{◌≡◌, All, map, ap, sym, subst, ◌∙◌}
+use Rattle.std.proofs.Common.{◌≡◌, ℤ, pos, All, map, ap, sym, subst, ◌∙◌}
 use Rattle.std.proofs.lemmas.Result.{IfOk-weaker}
+use Rattle.sparse_base.specs.Coo.{Coo}
 use Rattle.sparse_base.specs.CooPlain.{plain_of_coo}
 use Rattle.sparse_algebra.specs.Integers.{element_of}
-use Rattle.mtxkit_commands.proofs.Revalued.{length-revalued, plain-revalued}
+use Rattle.mtxkit_texts.proofs.Revalued.{length-revalued, plain-revalued}
+use Rattle.mtxkit_systems.specs.Orders.{places_of}
+use Rattle.mtxkit_commands.proofs.Listed.{integers-nonzero, places-zipped}
 use Rattle.mtxkit_commands.proofs.lists.integers_of.Goals as goal
 
 pub with_values-requires : goal.with_values-requires
@@ -26,4 +29,25 @@ returns-clause-reduced g c =
     let reduced = g.T.Residues.reduced in
     IfOk-weaker c.with_values.result _ _
     (λ m is. subst (All (λ z. reduced z ≡ z)) (sym is) c.in_ok-integers.ensures.reduced)
+    c.with_values.ensures.values
+
+pub returns-clause-places : goal.returns-clause-places
+returns-clause-places g c =
+    let R = g.T.Ring.ring in
+    let value = g.T.Ring.value in
+    let long = length-revalued c.args.list.now c.in_ok-integers.integers.items R (element_of R) value
+    (c.in_ok-integers.ensures.meant ∙ ap (map value) c.values.ensures) in
+    IfOk-weaker c.with_values.result _ _
+    (λ m is. ap (λ (l : Coo ℤ). places_of l.triplets) is
+    ∙ places-zipped c.args.list.now.triplets c.in_ok-integers.integers.items long)
+    c.with_values.ensures.list
+
+pub returns-clause-nonzero : goal.returns-clause-nonzero
+returns-clause-nonzero g c =
+    let R = g.T.Ring.ring in
+    let value = g.T.Ring.value in
+    IfOk-weaker c.with_values.result _ _
+    (λ m is nonzero. subst (All (λ z. z ≡ pos 0 → ⊥)) (sym is)
+    (integers-nonzero R value c.args.list.now.triplets c.in_ok-integers.integers.items
+    (c.in_ok-integers.ensures.meant ∙ ap (map value) c.values.ensures) nonzero))
     c.with_values.ensures.values

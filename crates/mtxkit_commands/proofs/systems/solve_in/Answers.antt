@@ -1,8 +1,9 @@
 use Rattle.std.proofs.Common.{Err, ap, sym, subst, ◌∙◌}
 use Rattle.sparse_algebra.specs.Plain.{Plain}
 use Rattle.sparse_base.specs.CooPlain.{plain_of_coo}
+use Rattle.mtxkit_systems.specs.Orders.{IsByColumns}
 use Rattle.mtxkit_commands.specs.Systems.{plain_of_integers, IsSolved}
-use Rattle.mtxkit_commands.proofs.Solving.{product-same, refused}
+use Rattle.mtxkit_commands.proofs.Solving.{product-same, refused, system-same, system_at_ok}
 use Rattle.mtxkit_commands.proofs.systems.solve_in.Goals as goal
 
 pub returns-in-Ok : goal.returns-in-Ok
@@ -13,6 +14,8 @@ returns-in-Ok g c =
     let b = c.in_ok-b.ensures in
     let x = c.in_ok-integers_of-in-Ok.ensures.plain in
     record {
+      system = system-same R value c.in_ok-a.a c.in_ok-b.b c.args.a.now c.args.b.now a b
+          (system_at_ok c.in_ok-a.a c.in_ok-b.b c.in-Ok.x c.in-Ok.ensures.shapes);
       rows = ap (λ (p : Plain R). p.rows) x ∙ c.in-Ok.ensures.rows ∙ ap (λ (p : Plain R). p.cols) a;
       cols = ap (λ (p : Plain R). p.cols) x ∙ c.in-Ok.ensures.cols ∙ ap (λ (p : Plain R). p.cols) b;
       product = product-same R (plain_of_coo R value c.in_ok-a.a)
@@ -20,6 +23,9 @@ returns-in-Ok g c =
           (plain_of_integers R c.in_ok-integers_of-in-Ok.field-0)
           (plain_of_coo R value c.in_ok-b.b) (plain_of_integers R c.args.b.now) a (sym x) b
           c.in-Ok.ensures.solved;
+      order = subst IsByColumns (sym c.in_ok-integers_of-in-Ok.ensures.places)
+          c.in-Ok.ensures.order;
+      nonzero = c.in_ok-integers_of-in-Ok.ensures.nonzero c.in-Ok.ensures.nonzero;
       values = c.in_ok-integers_of-in-Ok.ensures.reduced;
     }
 
@@ -30,5 +36,6 @@ returns g c =
     let reduced = g.T.Residues.reduced in
     subst (λ f. IsSolved R value reduced c.args.a.now c.args.b.now (Err f))
     (sym c.system_fault.ensures)
-    (refused R value reduced c.args.a.now c.args.b.now (plain_of_coo R value c.in_ok-a.a)
-    c.in_ok-a.ensures c.in-Err.error c.in-Err.ensures.unsymmetric c.in-Err.ensures.singular)
+    (refused R value c.in_ok-a.a c.in_ok-b.b c.args.a.now c.args.b.now c.in_ok-a.ensures
+    c.in_ok-b.ensures c.in-Err.error c.in-Err.ensures.shapes c.in-Err.ensures.unsymmetric
+    c.in-Err.ensures.singular)

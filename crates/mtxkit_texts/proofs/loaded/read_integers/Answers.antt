@@ -3,7 +3,7 @@ use Rattle.std.specs.Int.{w128}
 use Rattle.sparse_base.specs.Coo.{Coo, coo_of}
 use Rattle.sparse_market_scalar.specs.ScalarTypes.{signed_scalar}
 use Rattle.sparse_parser.specs.Meaning.{Means}
-use Rattle.mtxkit_commands.proofs.systems.read_integers.Goals as goal
+use Rattle.mtxkit_texts.proofs.loaded.read_integers.Goals as goal
 
 pub returns-in-Ok-clause-meant : goal.returns-in-Ok-clause-meant
 returns-in-Ok-clause-meant c =

@@ -1,0 +1,37 @@
+//! Sums of the integers of each place.
+
+ghost use Rattle.std.specs.Prelude.{◌≡◌, ℤ, All, IfOk, map};
+ghost use Rattle.sparse_algebra.specs.WrappingValues.{w128_number};
+ghost use Rattle.sparse_cs.specs.Compressed.{IsSound};
+ghost use Rattle.mtxkit_texts.specs.Loaded.{HasSums};
+
+use crate::lists::with_values;
+use sparse_algebra::scalar::W128;
+use sparse_base::coo::CooMatrix;
+use sparse_convert::serial::convert_coo_csr;
+use sparse_forms::csr::CsrMatrix;
+use std::alloc::{AllocError, Global};
+
+/// Returns the matrix by rows with the sums of the integers of each place. A sum that leaves 128 bits is taken modulo
+/// 2^128.
+///
+/// Fails only if an allocation fails.
+pub fn wide_sums(alloc: Global, list: &CooMatrix<i128>) -> Result<CsrMatrix<W128>, AllocError>
+    ensures sums { IfOk result (HasSums list.now) }
+    ensures sound { IfOk result IsSound }
+{
+    let values = wide_values(alloc, list.values())?;
+    let wide = with_values(alloc, list, values)?;
+    Ok(convert_coo_csr(alloc, &wide)?)
+}
+
+// Returns the class of each integer.
+fn wide_values(alloc: Global, integers: &[i128]) -> Result<Vec<W128>, AllocError>
+    ensures { IfOk result (λ values. map w128_number values.items ≡ integers.now) }
+{
+    let mut values = Vec::with_capacity(alloc, integers.len())?;
+    for integer in integers {
+        values.push(W128::new(*integer))?;
+    }
+    Ok(values)
+}

@@ -1,0 +1,109 @@
+//! Matrices of 64-bit integers read from texts.
+
+ghost use Rattle.std.specs.Prelude.{◌≡◌, ◌⊎◌, ◌↔◌, ◌<◌, ◌^◌, ℤ, All, IfOk, IfErr, IsTrue, length, map};
+ghost use Rattle.std.specs.Int.{w64};
+ghost use Rattle.std.specs.Int.RustNames.{FitsSigned};
+ghost use Rattle.sparse_algebra.specs.Numbers.{w64_number};
+ghost use Rattle.sparse_algebra.specs.Whole.{whole_ring};
+ghost use Rattle.sparse_algebra.specs.WrappingValues.{w128_number};
+ghost use Rattle.sparse_base.specs.CooPlain.{plain_of_coo};
+ghost use Rattle.sparse_cs.specs.Compressed.{IsSound};
+ghost use Rattle.sparse_cs.specs.PlainOfLanes.{plain_of_rows};
+ghost use Rattle.mtxkit_texts.specs.Loaded.{IsNarrow, IsValuesFailure, MeansValues};
+ghost use Rattle.mtxkit_texts.specs.declared.failure.Failure.TheVariants.{OutOfMemory, Wide};
+
+use crate::failure::Failure;
+use crate::loaded::{names_pattern, read_integers, read_places};
+use crate::places::{joined, ones_of};
+use crate::sums::wide_sums;
+use sparse_algebra::scalar::{W64, W128};
+use sparse_base::coo::CooMatrix;
+use sparse_forms::csr::CsrMatrix;
+use std::alloc::{AllocError, Global};
+
+/// Reads a matrix of 64-bit integers by rows from a text: a pattern has one at each place, and the values of repeated
+/// entries are added.
+///
+/// # Errors
+///
+/// Returns the errors of [`load`](crate::load), and `Wide` if an integer, a mirrored one too, or the sum of those of one
+/// place does not fit in 64 bits.
+pub fn load_values(alloc: Global, number: usize, text: &str) -> Result<CsrMatrix<W64>, Failure>
+    ensures meant { IfOk result (MeansValues text.now) }
+    ensures sound { IfOk result IsSound }
+    ensures refused { IfErr result (IsValuesFailure number text.now) }
+{
+    if names_pattern(text) {
+        let places = read_places(alloc, number, text)?;
+        Ok(ones_of(alloc, &places)?)
+    } else {
+        let integers = read_integers(alloc, number, text)?;
+        narrow_sums(alloc, number, &integers)
+    }
+}
+
+// Returns the matrix by rows with the sums of the integers of each place, if all fit in 64 bits.
+fn narrow_sums(
+    alloc: Global,
+    number: usize,
+    list: &CooMatrix<i128>,
+) -> Result<CsrMatrix<W64>, Failure>
+    ensures sums { IfOk result (λ m. plain_of_rows whole_ring w64_number m
+        ≡ plain_of_coo whole_ring (λ z. z) list.now) }
+    ensures sound { IfOk result IsSound }
+    ensures refused { IfErr result
+        (λ e. (e ≡ OutOfMemory) ⊎ ((e ≡ Wide number) × (IsNarrow list.now → ⊥))) }
+{
+    if are_narrow(list.values()) {
+        narrowed(alloc, number, list)
+    } else {
+        Err(Failure::Wide(number))
+    }
+}
+
+// Returns the same for integers of 64 bits.
+fn narrowed(alloc: Global, number: usize, list: &CooMatrix<i128>) -> Result<CsrMatrix<W64>, Failure>
+    requires narrow { All (FitsSigned w64) (map (λ t. t.2) list.now.triplets) }
+    requires few { length list.now.triplets < 2 ^ 64 }
+    ensures sums { IfOk result (λ m. plain_of_rows whole_ring w64_number m
+        ≡ plain_of_coo whole_ring (λ z. z) list.now) }
+    ensures sound { IfOk result IsSound }
+    ensures refused { IfErr result
+        (λ e. (e ≡ OutOfMemory) ⊎ ((e ≡ Wide number) × (IsNarrow list.now → ⊥))) }
+{
+    let sums = wide_sums(alloc, list)?;
+    let values = narrow_values(alloc, number, sums.values())?;
+    let pattern = sums.pattern().clone(alloc)?;
+    Ok(joined(pattern, values))
+}
+
+// Whether each of the integers fits in 64 bits.
+fn are_narrow(integers: &[i128]) -> bool
+    ensures narrow { IsTrue result ↔ All (FitsSigned w64) integers.now }
+    ensures few { length integers.now < 2 ^ 64 }
+{
+    for integer in integers {
+        if i64::try_from(*integer).is_err() {
+            return false;
+        }
+    }
+    true
+}
+
+// Returns the numbers in 64 bits, if all fit.
+fn narrow_values(alloc: Global, number: usize, values: &[W128]) -> Result<Vec<W64>, Failure>
+    ensures same { IfOk result
+        (λ narrow. map w64_number narrow.items ≡ map w128_number values.now) }
+    ensures refused { IfErr result (λ e. (e ≡ OutOfMemory)
+        ⊎ ((e ≡ Wide number)
+        × (All (λ v. FitsSigned w64 (w128_number v)) values.now → ⊥))) }
+{
+    let mut narrow = Vec::with_capacity(alloc, values.len())?;
+    for value in values {
+        match i64::try_from(value.get()) {
+            Ok(integer) => narrow.push(W64::new(integer))?,
+            Err(_) => return Err(Failure::Wide(number)),
+        }
+    }
+    Ok(narrow)
+}
