@@ -8,6 +8,7 @@ use Rattle.sparse_c.specs.Moduli.{IsFaultModulo}
 use Rattle.sparse_c.specs.Solved.{IsFaultOfQuotient, IsQuotientTooSmall, WritesQuotient}
 use Rattle.sparse_c.proofs.Listed.{widened}
 use Rattle.sparse_c_views.specs.Arrays.{room_of}
+use Rattle.sparse_c_views.specs.Statuses.{FindsNoFault}
 use Rattle.sparse_c.proofs.division.nalgebra_sparse_divide_mod.Goals as goal
 
 pub returns-clause-written : goal.returns-clause-written
@@ -20,6 +21,12 @@ returns-clause-written c = λ h.
     subst (λ (s : ℤ). WritesQuotient (mod_ring c.args.modulus) a s
     (room_of new.out_offsets new.out_indices new.out_values new.out_places))
     (to_z-of_z w64 c.args.divisor c.ranges.divisor) (c.write_by_modulus.ensures.written (sym same ∙ h))
+
+pub returns-clause-sound : goal.returns-clause-sound
+returns-clause-sound c = λ told.
+    let same : to_z w32 (of_z w32 c.write_by_modulus.result) ≡ c.write_by_modulus.result =
+    search rules in
+    c.write_by_modulus.ensures.sound (subst FindsNoFault same told)
 
 pub returns-clause-refused : goal.returns-clause-refused
 returns-clause-refused c = λ h.

@@ -7,6 +7,7 @@ use Rattle.sparse_c.specs.Solved.{HoldsMatrix, IsMatrixTooLong}
 use Rattle.sparse_c.specs.Systems.{IsFaultOfEquation, Solves}
 use Rattle.sparse_c.proofs.Listed.{reduced_modulo, widened}
 use Rattle.sparse_c_views.specs.Arrays.{plain_by_values}
+use Rattle.sparse_c_views.specs.Statuses.{FindsNoFault}
 use Rattle.sparse_c.proofs.systems.write_solution_mod.Goals as goal
 
 pub returns-clause-written : goal.returns-clause-written
@@ -26,6 +27,12 @@ returns-clause-reduced g c = λ h.
     reduced_modulo c.args.modulus g.row.M (c.args.system.size * c.args.system.cols)
     c.write_solution.new.out c.requires.is c.requires.short
     (c.write_solution.ensures.shown (sym same ∙ h))
+
+pub returns-clause-sound : goal.returns-clause-sound
+returns-clause-sound g c = λ told.
+    let same : to_z w32 (of_z w32 c.write_solution.result) ≡ c.write_solution.result =
+    search rules in
+    c.write_solution.ensures.sound (subst FindsNoFault same told)
 
 pub returns-clause-refused : goal.returns-clause-refused
 returns-clause-refused g c = λ h.
