@@ -1,6 +1,7 @@
 //! What the program writes and answers.
 
 use crate::cases::CASES;
+use crate::info_cases::INFO_CASES;
 use crate::refusals::{REFUSALS, Refusal};
 use crate::system_cases::{CHECK_CASES, SOLVE_CASES, SystemCase};
 use mtxkit_commands::answer;
@@ -83,6 +84,10 @@ fn commands_of_one_file(rt: HostRuntime) -> Result<(), Fail> {
     for (words, stdin, text) in CASES {
         let answer = answered(&rt, words, &[], stdin.as_bytes())?;
         assert!(rt; has_written(&answer, text), "{words:?}");
+    }
+    for (words, stdin, text) in INFO_CASES {
+        let answer = answered(&rt, words, &[], stdin.as_bytes())?;
+        assert!(rt; has_written(&answer, text), "{stdin}");
     }
     Ok(())
 }

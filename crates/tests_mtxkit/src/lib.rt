@@ -6,6 +6,8 @@ mod cases;
 #[cfg(test)]
 mod commands;
 #[cfg(test)]
+mod info_cases;
+#[cfg(test)]
 mod refusals;
 #[cfg(test)]
 mod system_cases;
