@@ -10,6 +10,7 @@ use Rattle.sparse_expr.specs.declared.calculator.Form.TheVariants.{Rows, Cols}
 use Rattle.sparse_expr.specs.declared.error.ExprError.TheVariants.{OutOfMemory}
 use Rattle.sparse_factor.specs.declared.factorization.Triangle.{Triangle}
 use Rattle.sparse_factor.specs.declared.factorization.Triangle.TheVariants.{Upper, Lower, Both}
+use Rattle.mtx_commands.specs.Fills.{WritesFill}
 use Rattle.mtx_commands.specs.declared.cli.Failure.{Failure}
 use Rattle.mtx_commands.specs.declared.cli.Failure.TheVariants as failure
 
@@ -48,10 +49,18 @@ abbrev pub AsksFill : Triangle → List ℕ → List (List ℕ) → Type 0
 AsksFill triangle path words = (words ≡ codes "fill" ∷ (triangle_name triangle ∷ (path ∷ [])))
     ⊎ ((triangle ≡ Upper) × (words ≡ codes "fill" ∷ (path ∷ [])))
 
--- the words are the name of an order and what was calculated, or they ask for a fill
+-- the words ask for the fill of a triangle of a file, and it was written
+pub record IsFilled (words : List (List ℕ)) (old new : Option (List ℕ)) : Type 0 where
+  pub triangle : Triangle
+  pub path : List ℕ
+  pub asked : AsksFill triangle path words
+  pub filled : WritesFill triangle old new
+
+-- the words are the name of an order and what was calculated, or they ask for a fill, which was
+-- written
 abbrev pub IsAnswered : List (List ℕ) → Option (List ℕ) → Option (List ℕ) → Type 0
 IsAnswered words old new = ((form : Form) × IsCalculated form (name_of form) words old new)
-    ⊎ ((triangle : Triangle) × ((path : List ℕ) × AsksFill triangle path words))
+    ⊎ IsFilled words old new
 
 -- the exit status of a failure
 abbrev pub status_of : Failure → ℕ

@@ -2,3 +2,4 @@ pub mod Commands
 pub mod Places
 pub mod Inputs
 pub mod Writes
+pub mod Fills

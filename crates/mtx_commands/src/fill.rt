@@ -1,8 +1,9 @@
 //! The command `mtx fill`.
 
-ghost use Rattle.std.specs.Prelude.{◌≡◌, ◌≢◌, ℕ, ◌<◌, ◌↔◌, ◌⊎◌, All, Err, IfOk, IfErr, length};
+ghost use Rattle.std.specs.Prelude.{◌≡◌, ◌≢◌, ℕ, ◌<◌, ◌↔◌, ◌⊎◌, All, Err, IfOk, IfErr, OnOk, length};
 ghost use Rattle.nalgebra_sparse.specs.Raw.{IsValid, IsPlace};
-ghost use Rattle.nalgebra_sparse.specs.Fill.{InFill, TriangleBase, StoresByColumns};
+ghost use Rattle.nalgebra_sparse.specs.Symbolic.{IsFactorOf};
+ghost use Rattle.mtx_commands.specs.Fills.{IsRead, WritesPattern, WritesFill};
 ghost use Rattle.mtx_commands.specs.Places.{HasTriplet, IsOneALane, AreNumbersTo};
 ghost use Rattle.sparse_expr.specs.declared.error.ExprError.TheVariants.{OutOfMemory};
 ghost use Rattle.mtx_commands.specs.Inputs.{IsMisread};
@@ -25,6 +26,7 @@ pub fn fill<R, W>(rt: &R, triangle: Triangle, path: &str, out: &mut W) -> Result
 where
     R: Files + AllocGlobal,
     W: Sink,
+    ensures filled { OnOk result (WritesFill triangle (W.taken out.old) (W.taken out.new)) }
     ensures refused { IfErr result (λ e. e ≡ Usage → ⊥) }
 {
     let pattern = read_pattern(rt, path)?;
@@ -35,6 +37,7 @@ where
 // Reads the places in a file as a square pattern by columns.
 fn read_pattern<R: Files + AllocGlobal>(rt: &R, path: &str) -> Result<SparsityPattern, Failure>
     ensures square { IfOk result (λ p. p.major_dim ≡ p.minor_dim) }
+    ensures read { IfOk result IsRead }
     ensures refused { IfErr result (λ e. e ≡ Usage → ⊥) }
     ensures unread { IfErr result
         (λ e. (e ≡ Refused OutOfMemory) ⊎ ((e ≡ NotSquare) ⊎ IsMisread e)) }
@@ -45,6 +48,8 @@ fn read_pattern<R: Files + AllocGlobal>(rt: &R, path: &str) -> Result<SparsityPa
 
 // Returns the pattern by columns of the places of a square list. Of a list that is not square it asks for no memory.
 fn square_pattern_of(alloc: Global, places: &CooMatrix<()>) -> Result<SparsityPattern, Failure>
+    ensures columns { IfOk result (λ p. p.major_dim ≡ places.now.ncols) }
+    ensures rows { IfOk result (λ p. p.minor_dim ≡ places.now.nrows) }
     ensures square { IfOk result (λ p. p.major_dim ≡ p.minor_dim) }
     ensures places { IfOk result (λ p. (i j : ℕ) → IsPlace p j i ↔ HasTriplet places.now i j) }
     ensures not_square { places.now.nrows ≢ places.now.ncols → result ≡ Err NotSquare }
@@ -63,6 +68,8 @@ fn write_pattern<W: Sink>(
     pattern: &SparsityPattern,
     out: &mut W,
 ) -> Result<(), Failure>
+    ensures written { OnOk result
+        (WritesPattern pattern.now (W.taken out.old) (W.taken out.new)) }
     ensures refused { IfErr result (λ e. e ≡ Usage → ⊥) }
     ensures unwritten { IfErr result
         (IsUnwritten (W.failures out.old) (W.failures out.new) (W.last out.new)) }
@@ -132,17 +139,20 @@ fn factor_of(
     triangle: Triangle,
 ) -> Result<CscSymbolicCholesky, Failure>
     requires { pattern.major_dim ≡ pattern.minor_dim }
-    ensures fill { IfOk result
-        (λ s. StoresByColumns (InFill (TriangleBase triangle pattern)) s.factor) }
+    ensures input { IfOk result (λ s. s.input ≡ pattern) }
+    ensures factor { IfOk result (IsFactorOf triangle) }
     ensures refused { IfErr result (λ e. e ≡ Usage → ⊥) }
 {
     Ok(CscSymbolicCholesky::factor_triangle(alloc, pattern, triangle)?)
 }
 
 // Returns the matrix of a pattern by columns, without values.
-fn matrix_of(alloc: Global, pattern: &SparsityPattern) -> Result<CscMatrix<()>, AllocError> {
+fn matrix_of(alloc: Global, pattern: &SparsityPattern) -> Result<CscMatrix<()>, AllocError>
+    ensures { IfOk result (λ m. m.pattern ≡ pattern.now) }
+{
     let nothing = vec![in alloc; (); pattern.nnz()]?;
-    match CscMatrix::try_from_pattern_and_values(pattern.clone(alloc)?, nothing) {
+    let pattern = pattern.clone(alloc)?;
+    match CscMatrix::try_from_pattern_and_values(pattern, nothing) {
         Ok(matrix) => Ok(matrix),
         Err(_) => unreachable!(),
     }

@@ -1,9 +1,11 @@
 //! The files that a command reads.
 
-ghost use Rattle.std.specs.Prelude.{◌≡◌, Ok, IfOk, IfErr, IsErrAnd, length};
+ghost use Rattle.std.specs.Prelude.{◌≡◌, ℕ, List, Ok, IfOk, IfErr, IsErrAnd, length};
 ghost use Rattle.std.specs.IoError.{error_kind};
 ghost use Rattle.nalgebra_sparse.specs.Files.{file_fault};
 ghost use Rattle.nalgebra_sparse.specs.Errors.{kind_of};
+ghost use Rattle.nalgebra_sparse.specs.Meaning.{Means, values_of};
+ghost use Rattle.nalgebra_sparse.specs.ScalarTypes.{pattern_scalar};
 ghost use Rattle.mtx_commands.specs.Inputs.{input_fault, IsUnread, IsMisread};
 ghost use Rattle.mtx_commands.specs.declared.cli.Failure.TheVariants.{Usage, Refused};
 
@@ -53,6 +55,8 @@ fn unreadable(number: usize, kind: io::ErrorKind) -> ExprError
 
 /// Reads the places in the only file.
 pub fn read_places<R: Files + AllocGlobal>(rt: &R, path: &str) -> Result<CooMatrix<()>, Failure>
+    ensures read { IfOk result
+        (λ m. (text : List ℕ) × Means pattern_scalar text (Ok (values_of (λ x. x) m))) }
     ensures unread { IfErr result IsMisread }
 {
     places_of(load_coo_from_matrix_market_file(rt, path))

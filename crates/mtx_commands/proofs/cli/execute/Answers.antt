@@ -1,8 +1,11 @@
 use Rattle.std.proofs.Common.{◌≡◌, ◌<◌, ◌≤◌, List, [], ◌∷◌, ℕ, inl, inr, refl, ap, ◌∙◌, length, get_or, arith}
-use Rattle.std.proofs.Common.{Result, Ok, Err, OnOk}
+use Rattle.std.proofs.Common.{Result, Ok, Err, OnOk, Option}
 use denote.Ref.{Bor}
 use Rattle.nalgebra_sparse.specs.PostfixWords.{texts}
+use Rattle.sparse_factor.specs.declared.factorization.Triangle.{Triangle}
 use Rattle.sparse_factor.specs.declared.factorization.Triangle.TheVariants.{Upper}
+use Rattle.mtx_commands.specs.Commands.{AsksFill, IsAnswered}
+use Rattle.mtx_commands.specs.Fills.{WritesFill}
 use Rattle.mtx_commands.proofs.cli.execute.Goals as goal
 
 -- two words, the first of which is known
@@ -30,18 +33,23 @@ three_words (a ∷ (b ∷ (c ∷ []))) d e first second least below is at = (
 )
 three_words (a ∷ (b ∷ (c ∷ (o ∷ rest)))) d e first second least below is at = absurd (omega arith)
 
-in_any_case : {T E P : Type 0} (r : Result T E) → P → OnOk r P
-in_any_case (Ok x) p = p
-in_any_case (Err e) p = tt
+-- a fill that the words ask for is an answer to them
+filled_is : {T E : Type 0} (r : Result T E) (words : List (List ℕ)) (old new : Option (List ℕ))
+    (triangle : Triangle) (path : List ℕ) → AsksFill triangle path words
+    → OnOk r (WritesFill triangle old new) → OnOk r (IsAnswered words old new)
+filled_is (Ok x) words old new triangle path asked filled =
+    inr (record { triangle = triangle; path = path; asked = asked; filled = filled })
+filled_is (Err e) words old new triangle path asked filled = tt
 
 pub returns-in-fill-clause-answered : goal.returns-in-fill-clause-answered
 returns-in-fill-clause-answered g c =
     let (path, words) = two_words c.args.words.now _ _ c.in-fill.len_at_least c.in-fill.len_below
     c.in-fill.is-fill in
-    in_any_case c.fill.result (inr (Upper, (path, inr (refl, words))))
+    filled_is c.fill.result _ _ _ Upper path (inr (refl, words)) c.fill.ensures.filled
 
 pub returns-in-Some-clause-answered : goal.returns-in-Some-clause-answered
 returns-in-Some-clause-answered g c =
     let (path, words) = three_words c.args.words.now _ _ _ _ c.in-fill-2.len_at_least
     c.in-fill-2.len_below c.in-fill-2.is-fill c.in-Some.ensures.named in
-    in_any_case c.fill-in-Some.result (inr (c.in-Some.triangle, (path, inl words)))
+    filled_is c.fill-in-Some.result _ _ _ c.in-Some.triangle path (inl words)
+    c.fill-in-Some.ensures.filled

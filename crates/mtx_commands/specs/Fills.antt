@@ -1,0 +1,35 @@
+-- What `mtx fill` writes.
+use Rattle.std.specs.Prelude.{◌≡◌, ℕ, ◌↔◌, List, [], codes, Option, Ok}
+use Rattle.std.specs.Io.KnownBytes.{Appends}
+use Rattle.nalgebra_sparse.specs.Coo.{Coo}
+use Rattle.nalgebra_sparse.specs.Compressed.{Compressed}
+use Rattle.nalgebra_sparse.specs.Meaning.{Means}
+use Rattle.nalgebra_sparse.specs.OneMatrix.{coo_of_cols}
+use Rattle.nalgebra_sparse.specs.Raw.{Raw, IsPlace}
+use Rattle.nalgebra_sparse.specs.ScalarTypes.{pattern_scalar}
+use Rattle.nalgebra_sparse.specs.Symbolic.{Symbolic, IsFactorOf}
+use Rattle.nalgebra_sparse.specs.Written.{text_of}
+use Rattle.sparse_factor.specs.declared.factorization.Triangle.{Triangle}
+use Rattle.mtx_commands.specs.Places.{HasTriplet}
+
+-- the pattern, stored by columns, has the shape that some text means, and exactly its places
+pub record IsRead (pattern : Raw) : Type 0 where
+  pub text : List ℕ
+  pub list : Coo (Unit {0})
+  pub meant : Means pattern_scalar text (Ok list)
+  pub rows : pattern.minor_dim ≡ list.nrows
+  pub columns : pattern.major_dim ≡ list.ncols
+  pub places : (i j : ℕ) → IsPlace pattern j i ↔ HasTriplet list i j
+
+-- the text of a matrix with this pattern and no values was appended, column by column
+pub record WritesPattern (pattern : Raw) (old new : Option (List ℕ)) : Type 0 where
+  pub matrix : Compressed (Unit {0})
+  pub has : matrix.pattern ≡ pattern
+  pub appended : Appends old new (text_of (codes "pattern") (λ x. []) (coo_of_cols matrix))
+
+-- the factor of this triangle of a pattern that was read was written
+pub record WritesFill (triangle : Triangle) (old new : Option (List ℕ)) : Type 0 where
+  pub symbolic : Symbolic
+  pub read : IsRead symbolic.input
+  pub factor : IsFactorOf triangle symbolic
+  pub written : WritesPattern symbolic.factor old new
