@@ -1,11 +1,11 @@
 //! Large patterns: work that is not counted, or counted twice, would not come to an end.
 
-ghost use Rattle.std.specs.Prelude.{◌≡◌, ◌+◌, ◌<◌, ◌≤◌, IfOk};
+ghost use Rattle.std.specs.Prelude.{◌+◌, ◌<◌, ◌≤◌, IfOk, IsTrue};
 
+use crate::counted_factors::has_places;
 use crate::square_patterns::Columns;
 use sparse_base::steps::Steps;
 use sparse_factor::factorization::CscSymbolicCholesky;
-use sparse_pattern::pattern::SparsityPattern;
 use std::alloc::{AllocError, Global};
 use std::test::Fail;
 
@@ -78,45 +78,35 @@ fn an_arrow_comes_to_its_end(rt: HostRuntime) -> Result<(), Fail> {
     Ok(())
 }
 
-// The places of a square pattern and of its factor. The steps are counted: they are at most as many as both have
-// places.
-fn counted_places(
-    alloc: Global,
-    pattern: SparsityPattern,
-    steps: &mut Steps,
-) -> Result<(usize, usize), AllocError>
-    requires { pattern.major_dim ≡ pattern.minor_dim }
-    ensures { IfOk result (λ places. steps.new ≤ steps.old + (places.0 + places.1)) }
+// The cycle.
+fn is_bounded_by_999_997_steps(alloc: Global, steps: &mut Steps) -> Result<bool, AllocError>
+    ensures { IfOk result (λ same. IsTrue same → steps.new ≤ steps.old + 999_997) }
 {
-    let nnz = pattern.nnz();
-    let factor = CscSymbolicCholesky::factor_counted(alloc, pattern, steps)?;
-    Ok((nnz, factor.l_pattern().nnz()))
+    has_places(
+        alloc,
+        cycle(alloc, 200_000)?,
+        200_000,
+        (400_000, 599_997),
+        steps,
+    )
 }
 
-// Whether the columns are those of a square pattern with so many places whose factor has so many, so that the steps are
-// at most the sum.
-fn has_places(
-    alloc: Global,
-    columns: Columns,
-    size: usize,
-    places: (usize, usize),
-) -> Result<bool, AllocError> {
-    let Ok(pattern) = columns.square(size) else {
-        return Ok(false);
-    };
-    Ok(counted_places(alloc, pattern, &mut Steps::new())? == places)
-}
-
-#[test]
-fn a_counted_cycle_takes_at_most_999_997_steps(rt: HostRuntime) -> Result<(), Fail> {
-    let columns = cycle(rt.alloc(), 200_000)?;
-    assert!(rt; has_places(rt.alloc(), columns, 200_000, (400_000, 599_997))?);
-    Ok(())
+// The arrow.
+fn is_bounded_by_4_507_499_steps(alloc: Global, steps: &mut Steps) -> Result<bool, AllocError>
+    ensures { IfOk result (λ same. IsTrue same → steps.new ≤ steps.old + 4_507_499) }
+{
+    has_places(
+        alloc,
+        arrow(alloc, 3_000)?,
+        3_000,
+        (5_999, 4_501_500),
+        steps,
+    )
 }
 
 #[test]
-fn a_counted_arrow_takes_at_most_4_507_499_steps(rt: HostRuntime) -> Result<(), Fail> {
-    let columns = arrow(rt.alloc(), 3_000)?;
-    assert!(rt; has_places(rt.alloc(), columns, 3_000, (5_999, 4_501_500))?);
+fn steps_are_bounded(rt: HostRuntime) -> Result<(), Fail> {
+    assert!(rt; is_bounded_by_999_997_steps(rt.alloc(), &mut Steps::new())?);
+    assert!(rt; is_bounded_by_4_507_499_steps(rt.alloc(), &mut Steps::new())?);
     Ok(())
 }

@@ -7,6 +7,8 @@ mod compared_factors;
 #[cfg(test)]
 mod compared_triangles;
 #[cfg(test)]
+mod counted_factors;
+#[cfg(test)]
 mod generated;
 #[cfg(test)]
 mod large_factors;

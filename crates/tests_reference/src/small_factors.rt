@@ -82,7 +82,7 @@ const CASES: &[Case] = &[
         l_offsets: &[0, 2, 4, 6, 7],
         l_indices: &[0, 3, 1, 3, 2, 3, 3],
     },
-    // A row that climbs past columns which it has no entry in.
+    // The fill of a row in columns that it has no entry in.
     Case {
         size: 4,
         offsets: &[0, 1, 2, 3, 5],
@@ -90,8 +90,8 @@ const CASES: &[Case] = &[
         l_offsets: &[0, 3, 6, 8, 9],
         l_indices: &[0, 1, 3, 1, 2, 3, 2, 3, 3],
     },
-    // Two columns with the same first row below the diagonal, whose later rows climb past it: the fill is (3, 2), (4,
-    // 2) and (4, 3).
+    // Two columns with the same first row below the diagonal, whose later rows are merged there: the fill is (3, 2),
+    // (4, 2) and (4, 3).
     Case {
         size: 5,
         offsets: &[0, 1, 2, 5, 7, 9],

@@ -2,7 +2,7 @@ use Rattle.std.proofs.Common.{ap, arith}
 use Rattle.sparse_pattern.specs.Raw.{nnz_of}
 use Rattle.sparse_factor.specs.Fill.{UpperBase}
 use Rattle.tests_reference.proofs.FillPairs.{fill_pairs, length-fill_pairs, fill_pairs_list}
-use Rattle.tests_reference.proofs.large_factors.counted_places.Goals as goal
+use Rattle.tests_reference.proofs.counted_factors.counted_places.Goals as goal
 
 pub returns : goal.returns
 returns c =
