@@ -6,6 +6,8 @@ mod cases;
 #[cfg(test)]
 mod commands;
 #[cfg(test)]
+mod failures;
+#[cfg(test)]
 mod info_cases;
 #[cfg(test)]
 mod refusals;
