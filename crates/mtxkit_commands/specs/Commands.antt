@@ -4,7 +4,7 @@ use Rattle.std.specs.declared.io.ErrorKind.{ErrorKind}
 use Rattle.std.specs.Io.KnownBytes.{Appends}
 use Rattle.mtxkit_texts.specs.Facts.{WritesFacts}
 use Rattle.mtxkit_texts.specs.Headers.{header_in}
-use Rattle.mtxkit_texts.specs.Loaded.{IsLoadFailure, IsValuesFailure}
+use Rattle.mtxkit_texts.specs.Loaded.{IsLoadFailure, IsValuesFailure, IsWholeFailure}
 use Rattle.mtxkit_texts.specs.Lower.{IsSymmetricFailure, Symmetrised}
 use Rattle.mtxkit_texts.specs.Rewritten.{WritesIntegers, WritesPattern}
 use Rattle.mtxkit_texts.specs.Shown.{ShowsBitmap, ShowsBlocks}
@@ -51,7 +51,7 @@ IsFieldFailureOf Pattern text failure = IsLoadFailure 1 text failure
 -- is at fault
 abbrev pub IsFailure : Command → Failure → Type 0
 IsFailure (Info file) failure =
-    IsUnread 1 failure ⊎ ((text : List ℕ) × IsLoadFailure 1 text failure)
+    IsUnread 1 failure ⊎ ((text : List ℕ) × IsWholeFailure 1 text failure)
 IsFailure (Spy file size target) failure =
     IsUnread 1 failure ⊎ ((text : List ℕ) × IsLoadFailure 1 text failure)
 IsFailure (Field file values) failure =

@@ -92,26 +92,25 @@ module _ (list : Coo ℤ) (m : Compressed W128) (sound : IsSound m) (sums : HasS
       let j = slice_index_or m.pattern.indices k 0 in
       subst (FitsSigned w64) (sym (number-at found.0 j k d (found.1, refl))) (narrow.sums found.0 j)
 
-  module _ (n : Compressed W64) (sound_n : IsSound n) (pattern : n.pattern ≡ m.pattern)
-      (same : map w64_number n.values ≡ map w128_number m.values) where
-    number-same : (p : ℕ) (z : W64) (y : W128) → p < length n.values
-        → w64_number (slice_index_or n.values p z) ≡ w128_number (slice_index_or m.values p y)
-    number-same p z y lt =
-        let long : length n.values ≡ length m.values = sym (length-map n.values w64_number)
+  -- the same numbers at the same places, in another type, are the exact sums
+  module _ {T : Type 0} (number : T → ℤ) (z : T) (n : Compressed T) (sound_n : IsSound n)
+      (pattern : n.pattern ≡ m.pattern) (same : map number n.values ≡ map w128_number m.values) where
+    number-same : (p : ℕ) (t : T) (y : W128) → p < length n.values
+        → number (slice_index_or n.values p t) ≡ w128_number (slice_index_or m.values p y)
+    number-same p t y lt =
+        let long : length n.values ≡ length m.values = sym (length-map n.values number)
         ∙ ap length same ∙ length-map m.values w128_number in
-        sym (get_or-map w64_number n.values p z (pos 0) lt)
+        sym (get_or-map number n.values p t (pos 0) lt)
         ∙ ap (λ zs. slice_index_or zs p (pos 0)) same
         ∙ get_or-map w128_number m.values p y (pos 0) (omega (arith, lt, long))
 
-    -- the same numbers in 64 bits are the exact sums
-    pub exact-sums : plain_of_rows whole_ring w64_number n ≡ plain_of_coo whole_ring (λ z. z) list
-    exact-sums =
+    number-sums : plain_of_rows whole_ring number n ≡ plain_of_coo whole_ring (λ z. z) list
+    number-sums =
         let have = rows_have ring128 value128 m sound in
         let rows = ap (λ (a : Plain ring128). a.rows) sums.plain in
         let cols = ap (λ (a : Plain ring128). a.cols) sums.plain in
-        let zero64 : W64 = record { number = pos 0; in_range = fits_zero w64 } in
         let zero128 : W128 = record { number = pos 0; in_range = fits_zero w128 } in
-        rows_are whole_ring w64_number n sound_n zero64 (plain_of_coo whole_ring (λ z. z) list)
+        rows_are whole_ring number n sound_n z (plain_of_coo whole_ring (λ z. z) list)
         (record {
           rows = ap (λ p. p.major_dim) pattern ∙ rows;
           cols = ap (λ p. p.minor_dim) pattern ∙ cols;
@@ -121,9 +120,9 @@ module _ (list : Coo ℤ) (m : Compressed W128) (sound : IsSound m) (sums : HasS
                 λ place. sym has ∙ h.0 (subst (λ d. IsPlace d i j) pattern place),
                 λ e. subst (λ d. IsPlace d i j) (sym pattern) (h.1 (has ∙ e)),
               );
-          values = λ i j p z at.
+          values = λ i j p t at.
               let within = position_within n.pattern sound_n.valid i j p at in
-              number-same p z zero128 (omega (arith, within, sound_n.count))
+              number-same p t zero128 (omega (arith, within, sound_n.count))
               ∙ number-at i j p zero128 (subst (λ d. IsPosition d i j p) pattern at);
           within = λ i j e.
               let has = ap (λ (a : Plain ring128). a.has i j) sums.plain in
@@ -131,3 +130,15 @@ module _ (list : Coo ℤ) (m : Compressed W128) (sound : IsSound m) (sums : HasS
               (omega (arith, in_rows.0, rows), omega (arith, in_rows.1, cols));
           proper = proper_plain_of_triplets whole_ring (λ z. z) list.nrows list.ncols list.triplets;
         })
+
+  pub exact-sums : (n : Compressed W64) → IsSound n → n.pattern ≡ m.pattern
+      → map w64_number n.values ≡ map w128_number m.values
+      → plain_of_rows whole_ring w64_number n ≡ plain_of_coo whole_ring (λ z. z) list
+  exact-sums n sound_n pattern same =
+      let zero64 : W64 = record { number = pos 0; in_range = fits_zero w64 } in
+      number-sums w64_number zero64 n sound_n pattern same
+
+  pub exact-wide : plain_of_rows whole_ring w128_number m ≡ plain_of_coo whole_ring (λ z. z) list
+  exact-wide =
+      let zero128 : W128 = record { number = pos 0; in_range = fits_zero w128 } in
+      number-sums w128_number zero128 m sound refl refl

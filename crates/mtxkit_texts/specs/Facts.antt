@@ -12,7 +12,7 @@ use Rattle.mtxkit_matrices.specs.declared.info.Info.{Info}
 use Rattle.mtxkit_texts.specs.FactLines.{header_lines, size_lines, count_lines, symmetry_lines}
 use Rattle.mtxkit_texts.specs.FactLines.{histogram_lines}
 use Rattle.mtxkit_texts.specs.Headers.{header_in}
-use Rattle.mtxkit_texts.specs.Loaded.{MeansMatrix, ring128, value128}
+use Rattle.mtxkit_texts.specs.Loaded.{MeansWhole, ring128, value128}
 
 -- the facts are those of the matrix
 pub record AreFactsOf (m : Compressed W128) (s : Info) : Type 0 where
@@ -31,7 +31,7 @@ pub record WritesFacts (text written : List ℕ) : Type 0 where
   pub entries : ℕ
   pub matrix : Compressed W128
   pub facts : Info
-  pub meant : MeansMatrix text entries matrix
+  pub meant : MeansWhole text entries matrix
   pub are : AreFactsOf matrix facts
   pub is : written ≡ header_lines (header_in text)
       ++ (size_lines matrix.pattern.major_dim matrix.pattern.minor_dim entries

@@ -51,6 +51,19 @@ pub record HasSums (list : Coo ℤ) (m : Compressed W128) : Type 0 where
   pub exact : Shows w128 (plain_of_coo ring128 (class_of w128) list)
       (plain_of_coo whole_ring (λ z. z) list)
 
+-- the matrix by rows has the sums over the integers, or has as many places as the list has integers
+abbrev pub IsExact : Coo ℤ → Compressed W128 → Type 0
+IsExact list m =
+    (plain_of_rows whole_ring w128_number m ≡ plain_of_coo whole_ring (λ z. z) list)
+    ⊎ (length list.triplets ≡ length m.pattern.indices)
+
+-- an integer does not fit in 64 bits, and some place is named twice
+pub record IsRepeatedWide (list : Coo ℤ) : Type 0 where
+  pub m : Compressed W128
+  pub sums : HasSums list m
+  pub repeated : length list.triplets ≡ length m.pattern.indices → ⊥
+  pub wide : All (FitsSigned w64) (map (λ t. t.2) list.triplets) → ⊥
+
 -- the integers, and the sums of those of each place, fit in 64 bits
 pub record IsNarrow (list : Coo ℤ) : Type 0 where
   pub entries : All (FitsSigned w64) (map (λ t. t.2) list.triplets)
@@ -64,6 +77,14 @@ pub record MeansSums (text : List ℕ) (entries : ℕ) (m : Compressed W128) : T
   pub counted : entries ≡ length list.triplets
   pub means : MeansIntegers text list
   pub sums : HasSums list m
+
+-- the same with exact sums: those over the integers, or no place is named twice
+pub record MeansWholeSums (text : List ℕ) (entries : ℕ) (m : Compressed W128) : Type 0 where
+  pub list : Coo ℤ
+  pub counted : entries ≡ length list.triplets
+  pub means : MeansIntegers text list
+  pub sums : HasSums list m
+  pub exact : IsExact list m
 
 -- the text means a list of `entries` places, and the matrix by rows has one at each of them
 pub record MeansOnes {T : Type 0} (R : CommRing) (f : T → R.Carrier) (text : List ℕ) (entries : ℕ)
@@ -81,6 +102,14 @@ MeansMatrixBy false text entries m = MeansSums text entries m
 
 abbrev pub MeansMatrix : List ℕ → ℕ → Compressed W128 → Type 0
 MeansMatrix text entries m = MeansMatrixBy (is_pattern (header_in text)) text entries m
+
+-- the same with exact sums
+abbrev pub MeansWholeBy : Bool → List ℕ → ℕ → Compressed W128 → Type 0
+MeansWholeBy true text entries m = MeansOnes ring128 value128 text entries m
+MeansWholeBy false text entries m = MeansWholeSums text entries m
+
+abbrev pub MeansWhole : List ℕ → ℕ → Compressed W128 → Type 0
+MeansWhole text entries m = MeansWholeBy (is_pattern (header_in text)) text entries m
 
 -- the text means a list of integers, and the matrix by rows, of 64 bits, has their exact sums
 pub record MeansExactSums (text : List ℕ) (m : Compressed W64) : Type 0 where
@@ -121,6 +150,13 @@ pub record IsWide (number : ℕ) (text : List ℕ) (failure : Failure) : Type 0 
   pub wide : IsNarrow list → ⊥
   pub is : failure ≡ Wide number
 
+-- a sum of the text with this number may leave 128 bits
+pub record IsOverflow (number : ℕ) (text : List ℕ) (failure : Failure) : Type 0 where
+  pub list : Coo ℤ
+  pub means : MeansIntegers text list
+  pub repeated : IsRepeatedWide list
+  pub is : failure ≡ Wide number
+
 -- why the text with this number is not loaded: an allocation failed, or the text means an error
 abbrev pub IsLoadFailure : ℕ → List ℕ → Failure → Type 0
 IsLoadFailure number text failure = (failure ≡ OutOfMemory) ⊎ IsMisread number text failure
@@ -129,3 +165,8 @@ IsLoadFailure number text failure = (failure ≡ OutOfMemory) ⊎ IsMisread numb
 abbrev pub IsValuesFailure : ℕ → List ℕ → Failure → Type 0
 IsValuesFailure number text failure =
     (failure ≡ OutOfMemory) ⊎ (IsMisread number text failure ⊎ IsWide number text failure)
+
+-- why its exact sums are not: the same as for a text, or one may leave 128 bits
+abbrev pub IsWholeFailure : ℕ → List ℕ → Failure → Type 0
+IsWholeFailure number text failure =
+    (failure ≡ OutOfMemory) ⊎ (IsMisread number text failure ⊎ IsOverflow number text failure)

@@ -8,10 +8,11 @@ ghost use Rattle.mtxkit_texts.specs.FactLines.{symmetry_name, header_lines, size
 ghost use Rattle.mtxkit_texts.specs.FactLines.{count_lines, symmetry_lines, histogram_lines};
 ghost use Rattle.mtxkit_texts.specs.FactLines.{bar, bar_line, bar_lines, bar_title};
 ghost use Rattle.mtxkit_texts.specs.Facts.{AreFactsOf, WritesFacts};
-ghost use Rattle.mtxkit_texts.specs.Loaded.{IsLoadFailure};
+ghost use Rattle.mtxkit_texts.specs.Loaded.{IsWholeFailure};
 
 use crate::failure::Failure;
-use crate::loaded::{Loaded, header_of, load};
+use crate::loaded::{Loaded, header_of};
+use crate::whole::load_whole;
 use mtxkit_matrices::{Info, info_of};
 use mtxkit_patterns::Histogram;
 use sparse_algebra::scalar::W128;
@@ -24,12 +25,12 @@ const BAR: u128 = 40;
 
 /// Returns the lines that `mtxkit info` writes of a text: what its header says, and the facts about its matrix.
 ///
-/// Fails as [`load`](crate::load) does, or if an allocation fails.
+/// Fails as [`load_whole`](crate::load_whole) does, or if an allocation fails.
 pub fn info_text(alloc: Global, text: &str) -> Result<String, Failure>
     ensures written { IfOk result (λ written. WritesFacts text.now (string_bytes written)) }
-    ensures refused { IfErr result (IsLoadFailure 1 text.now) }
+    ensures refused { IfErr result (IsWholeFailure 1 text.now) }
 {
-    let loaded = load(alloc, 1, text)?;
+    let loaded = load_whole(alloc, 1, text)?;
     let facts = facts_of(alloc, &loaded.matrix)?;
     let mut lines = String::new(alloc);
     push_header(&mut lines, header_of(text))?;

@@ -11,6 +11,7 @@ mod spy;
 mod sums;
 mod symmetric;
 mod values;
+mod whole;
 
 pub use fact_lines::info_text;
 pub use failure::Failure;
@@ -22,3 +23,4 @@ pub use spy::{spy_bitmap, spy_blocks};
 pub use sums::wide_sums;
 pub use symmetric::symmetric_text;
 pub use values::load_values;
+pub use whole::load_whole;

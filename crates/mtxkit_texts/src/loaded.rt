@@ -81,7 +81,7 @@ fn is_pattern_field(field: Field) -> bool
 }
 
 // Reads the places of a text as a matrix of ones.
-fn load_places(alloc: Global, number: usize, text: &str) -> Result<Loaded, Failure>
+pub(crate) fn load_places(alloc: Global, number: usize, text: &str) -> Result<Loaded, Failure>
     ensures meant { IfOk result (λ l. MeansOnes ring128 value128 text.now l.entries l.matrix) }
     ensures sound { IfOk result (λ l. IsSound l.matrix) }
     ensures refused { IfErr result

@@ -1,6 +1,8 @@
 //! Sums of the integers of each place.
 
-ghost use Rattle.std.specs.Prelude.{◌≡◌, ℤ, All, IfOk, map};
+ghost use Rattle.std.specs.Prelude.{◌≡◌, ◌↔◌, ◌<◌, ◌^◌, All, IfOk, IsTrue, length, map};
+ghost use Rattle.std.specs.Int.{w64};
+ghost use Rattle.std.specs.Int.RustNames.{FitsSigned};
 ghost use Rattle.sparse_algebra.specs.WrappingValues.{w128_number};
 ghost use Rattle.sparse_cs.specs.Compressed.{IsSound};
 ghost use Rattle.mtxkit_texts.specs.Loaded.{HasSums};
@@ -34,4 +36,17 @@ fn wide_values(alloc: Global, integers: &[i128]) -> Result<Vec<W128>, AllocError
         values.push(W128::new(*integer))?;
     }
     Ok(values)
+}
+
+// Whether each of the integers fits in 64 bits.
+pub(crate) fn are_narrow(integers: &[i128]) -> bool
+    ensures narrow { IsTrue result ↔ All (FitsSigned w64) integers.now }
+    ensures few { length integers.now < 2 ^ 64 }
+{
+    for integer in integers {
+        if i64::try_from(*integer).is_err() {
+            return false;
+        }
+    }
+    true
 }

@@ -1,6 +1,6 @@
 //! Matrices of 64-bit integers read from texts.
 
-ghost use Rattle.std.specs.Prelude.{◌≡◌, ◌⊎◌, ◌↔◌, ◌<◌, ◌^◌, ℤ, All, IfOk, IfErr, IsTrue, length, map};
+ghost use Rattle.std.specs.Prelude.{◌≡◌, ◌⊎◌, ◌<◌, ◌^◌, ℤ, All, IfOk, IfErr, length, map};
 ghost use Rattle.std.specs.Int.{w64};
 ghost use Rattle.std.specs.Int.RustNames.{FitsSigned};
 ghost use Rattle.sparse_algebra.specs.Numbers.{w64_number};
@@ -15,7 +15,7 @@ ghost use Rattle.mtxkit_texts.specs.declared.failure.Failure.TheVariants.{OutOfM
 use crate::failure::Failure;
 use crate::loaded::{names_pattern, read_integers, read_places};
 use crate::places::{joined, ones_of};
-use crate::sums::wide_sums;
+use crate::sums::{are_narrow, wide_sums};
 use sparse_algebra::scalar::{W64, W128};
 use sparse_base::coo::CooMatrix;
 use sparse_forms::csr::CsrMatrix;
@@ -75,19 +75,6 @@ fn narrowed(alloc: Global, number: usize, list: &CooMatrix<i128>) -> Result<CsrM
     let values = narrow_values(alloc, number, sums.values())?;
     let pattern = sums.pattern().clone(alloc)?;
     Ok(joined(pattern, values))
-}
-
-// Whether each of the integers fits in 64 bits.
-fn are_narrow(integers: &[i128]) -> bool
-    ensures narrow { IsTrue result ↔ All (FitsSigned w64) integers.now }
-    ensures few { length integers.now < 2 ^ 64 }
-{
-    for integer in integers {
-        if i64::try_from(*integer).is_err() {
-            return false;
-        }
-    }
-    true
 }
 
 // Returns the numbers in 64 bits, if all fit.

@@ -30,6 +30,13 @@ const MIRRORED: &[u8] = b"%%MatrixMarket matrix coordinate integer skew-symmetri
 2 1 -9223372036854775808
 ";
 
+// An integer of 65 bits at a place that is named twice.
+const REPEATED: &[u8] = b"%%MatrixMarket matrix coordinate integer general
+1 1 2
+1 1 9223372036854775808
+1 1 1
+";
+
 // An entry is missing, and none is real.
 const SHORT_REAL: &[u8] = b"%%MatrixMarket matrix coordinate real general\n1 1 1\n";
 
@@ -50,7 +57,10 @@ pub const REFUSALS: &[Refusal] = &[
     (&["symmetric", "-"], LARGE, 1, TOO_WIDE),
     (&["field", "integer", "-"], LARGE_SUM, 1, TOO_WIDE),
     (&["symmetric", "-"], MIRRORED, 1, TOO_WIDE),
+    (&["info", "-"], REPEATED, 1, TOO_WIDE),
+    (&["spy", "-"], REPEATED, 1, "mtxkit: write failed\n"),
     (&["info", "-"], LARGE, 1, "mtxkit: write failed\n"),
+    (&["info", "-"], LARGE_SUM, 1, "mtxkit: write failed\n"),
     (
         &["field", "pattern", "-"],
         LARGE_SUM,

@@ -1,0 +1,53 @@
+//! Matrices read from texts, whose sums are exact.
+
+ghost use Rattle.std.specs.Prelude.{◌≡◌, ◌⊎◌, IfOk, IfErr, length};
+ghost use Rattle.sparse_cs.specs.Compressed.{IsSound};
+ghost use Rattle.mtxkit_texts.specs.Loaded.{HasSums, IsExact, IsRepeatedWide, IsWholeFailure};
+ghost use Rattle.mtxkit_texts.specs.Loaded.{MeansWhole};
+ghost use Rattle.mtxkit_texts.specs.declared.failure.Failure.TheVariants.{OutOfMemory, Wide};
+
+use crate::failure::Failure;
+use crate::loaded::{Loaded, load_places, names_pattern, read_integers};
+use crate::sums::{are_narrow, wide_sums};
+use sparse_base::coo::CooMatrix;
+use std::alloc::Global;
+
+/// Reads a matrix by rows from a text, as [`load`](crate::load) does, with exact sums.
+///
+/// # Errors
+///
+/// Returns the errors of [`load`](crate::load), and `Wide` if an integer does not fit in 64 bits and some place is named
+/// twice: a sum may leave 128 bits.
+pub fn load_whole(alloc: Global, number: usize, text: &str) -> Result<Loaded, Failure>
+    ensures meant { IfOk result (λ l. MeansWhole text.now l.entries l.matrix) }
+    ensures sound { IfOk result (λ l. IsSound l.matrix) }
+    ensures refused { IfErr result (IsWholeFailure number text.now) }
+{
+    if names_pattern(text) {
+        load_places(alloc, number, text)
+    } else {
+        let integers = read_integers(alloc, number, text)?;
+        whole_sums(alloc, number, &integers)
+    }
+}
+
+// Adds the integers of each place, if no sum can leave 128 bits.
+fn whole_sums(alloc: Global, number: usize, list: &CooMatrix<i128>) -> Result<Loaded, Failure>
+    ensures counted { IfOk result (λ l. l.entries ≡ length list.now.triplets) }
+    ensures sums { IfOk result (λ l. HasSums list.now l.matrix) }
+    ensures exact { IfOk result (λ l. IsExact list.now l.matrix) }
+    ensures sound { IfOk result (λ l. IsSound l.matrix) }
+    ensures refused { IfErr result
+        (λ e. (e ≡ OutOfMemory) ⊎ ((e ≡ Wide number) × IsRepeatedWide list.now)) }
+{
+    let matrix = wide_sums(alloc, list)?;
+    let entries = list.nnz();
+    if entries == matrix.nnz() {
+        return Ok(Loaded { entries, matrix });
+    }
+    if are_narrow(list.values()) {
+        Ok(Loaded { entries, matrix })
+    } else {
+        Err(Failure::Wide(number))
+    }
+}
