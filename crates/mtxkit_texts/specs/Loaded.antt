@@ -1,6 +1,5 @@
 -- Matrices read from texts.
 use Rattle.std.specs.Prelude.{◌≡◌, ◌⊎◌, ℕ, ℤ, List, All, map, length, Ok, Err, Bool, true, false}
-use Rattle.std.specs.Prelude.{Option}
 use Rattle.std.specs.Int.{w64, w128}
 use Rattle.std.specs.Int.RustNames.{FitsSigned}
 use Rattle.sparse_algebra.specs.Algebra.{CommRing}
@@ -17,7 +16,6 @@ use Rattle.sparse_cs.specs.PlainOfLanes.{plain_of_rows}
 use Rattle.sparse_parser.specs.Meaning.{Means}
 use Rattle.sparse_parser.specs.Scalars.{Scalar}
 use Rattle.sparse_parser.specs.declared.error.MatrixMarketErrorKind.{MatrixMarketErrorKind}
-use Rattle.sparse_parser.specs.declared.header.Header.{Header}
 use Rattle.sparse_market_scalar.specs.ScalarTypes.{pattern_scalar, signed_scalar}
 use Rattle.mtxkit_texts.specs.Faults.{text_fault}
 use Rattle.mtxkit_texts.specs.Headers.{header_in, is_pattern}

@@ -1,4 +1,4 @@
-use Rattle.std.proofs.Common.{◌≡◌, ◌^◌, ◌<◌, All, inl, length, map, ap, subst, arith, rules, true}
+use Rattle.std.proofs.Common.{◌≡◌, ◌^◌, ◌<◌, All, inl, length, ap, subst, arith, rules, true}
 use Rattle.std.proofs.lemmas.List.{length-map}
 use Rattle.std.specs.Int.{w64}
 use Rattle.std.specs.Int.RustNames.{FitsSigned}
