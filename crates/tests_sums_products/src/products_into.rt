@@ -140,10 +140,8 @@ const WIDE: Arrays<'static> = (1, WIDTH, &[0, 2], &[0, LAST], &[1, 2]);
 /// One row with 7 in its last place.
 const WIDE_FACTOR: Arrays<'static> = (1, WIDTH, &[0, 1], &[LAST], &[7]);
 
-/// The same as columns.
-const LONG: Arrays<'static> = (WIDTH, 1, WIDE.2, WIDE.3, WIDE.4);
-
-const LONG_FACTOR: Arrays<'static> = (WIDTH, 1, WIDE_FACTOR.2, WIDE_FACTOR.3, WIDE_FACTOR.4);
+/// One column with 1 in its first place and 2 in its last.
+const LONG: Arrays<'static> = (WIDTH, 1, &[0, 2], &[0, LAST], &[1, 2]);
 
 const FIVE: Arrays<'static> = (1, 1, &[0, 1], &[0], &[5]);
 
@@ -165,7 +163,7 @@ fn updates_a_long_column(alloc: Global) -> bool {
     let Some(mut c) = csc(alloc, LONG) else {
         return false;
     };
-    let Some(factors) = pair_by_columns(alloc, FIVE, LONG_FACTOR) else {
+    let Some(factors) = pair_by_columns(alloc, FIVE, WIDE_FACTOR) else {
         return false;
     };
     let (a, b) = (Op::NoOp(&factors.0), Op::NoOp(&factors.1));
