@@ -24,8 +24,8 @@ fn counted_places(
     Ok((nnz, factor.l_pattern().nnz()))
 }
 
-/// Returns whether the columns are those of a square pattern with so many places whose factor has so many, so that the
-/// steps are at most the sum.
+/// Returns whether the columns are those of a square pattern with `places.0` places whose factor has `places.1`. The
+/// steps are then at most the sum.
 pub fn has_places(
     alloc: Global,
     columns: Columns,

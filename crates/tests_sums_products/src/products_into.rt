@@ -129,7 +129,7 @@ fn unchecked_products_into_a_matrix(rt: HostRuntime) {
     }
 }
 
-/// So many columns that no scratch row of them could be allocated.
+/// A number of columns for which no scratch row can be allocated.
 const WIDTH: usize = 1 << 63;
 
 const LAST: usize = WIDTH - 1;
