@@ -7,11 +7,11 @@ pub mod serial {
     pub use sparse_dense_products::{mul_csc_dense, mul_csr_dense, spmm_csc_dense, spmm_csr_dense};
     pub use sparse_kernels::{axpy_csc_col, axpy_csr_row, dot_csc_col, dot_csr_row, usaxpy, usdot};
     pub use sparse_products::serial::{
-        OperationError, OperationErrorKind, add_csc, add_csr, mul_csc, mul_csr, neg_csc, neg_csr,
-        scale_csc, scale_csr, spadd_csc_prealloc, spadd_csr_prealloc, spadd_pattern,
-        spmm_csc_pattern, spmm_csc_prealloc, spmm_csc_prealloc_unchecked, spmm_csr_pattern,
-        spmm_csr_prealloc, spmm_csr_prealloc_unchecked, spmm_csr_prealloc_unchecked_counted,
-        sub_csc, sub_csr,
+        OperationError, OperationErrorKind, add_csc, add_csr, add_scaled_csc, add_scaled_csr,
+        mul_csc, mul_csr, neg_csc, neg_csr, scale_csc, scale_csr, spadd_csc_prealloc,
+        spadd_csr_prealloc, spadd_pattern, spmm_csc_pattern, spmm_csc_prealloc,
+        spmm_csc_prealloc_unchecked, spmm_csr_pattern, spmm_csr_prealloc,
+        spmm_csr_prealloc_unchecked, spmm_csr_prealloc_unchecked_counted, sub_csc, sub_csr,
     };
     pub use sparse_solve::{
         div_scalar_csc, div_scalar_csr, div_scalar_mut_csc, div_scalar_mut_csr,

@@ -1,8 +1,8 @@
 //! Sums, differences, multiples and quotients.
 
 use nalgebra_sparse::ops::serial::{
-    add_csc, add_csr, div_scalar_csc, div_scalar_csr, neg_csc, neg_csr, scale_csc, scale_csr,
-    sub_csc, sub_csr,
+    add_csc, add_csr, add_scaled_csc, add_scaled_csr, div_scalar_csc, div_scalar_csr, neg_csc,
+    neg_csr, scale_csc, scale_csr, sub_csc, sub_csr,
 };
 use nalgebra_sparse::scalar::W64;
 use nalgebra_sparse::{CscMatrix, CsrMatrix};
@@ -28,7 +28,7 @@ fn operands(alloc: Global, case: &str) -> Option<(CsrMatrix<W64>, CsrMatrix<W64>
 
 fn of_rows(turn: &mut Turn, call: &str, a: CsrMatrix<W64>, b: CsrMatrix<W64>) -> Outcome {
     match call {
-        "add_csr" | "sub_csr" => {
+        "add_csr" | "sub_csr" | "add_scaled_csr" => {
             turn.begin();
             sum_of_rows(turn.alloc(), call, &a, &b)
         }
@@ -46,6 +46,7 @@ fn sum_of_rows(alloc: Global, call: &str, a: &CsrMatrix<W64>, b: &CsrMatrix<W64>
     }
     match call {
         "add_csr" => outcome_of(add_csr(alloc, a, b)),
+        "add_scaled_csr" => outcome_of(add_scaled_csr(alloc, W64::new(2), a, W64::new(3), b)),
         _ => outcome_of(sub_csr(alloc, a, b)),
     }
 }
@@ -61,7 +62,7 @@ fn multiple_of_rows(alloc: Global, call: &str, a: &CsrMatrix<W64>) -> Outcome {
 fn of_cols(turn: &mut Turn, call: &str, a: &CscMatrix<W64>, b: &CscMatrix<W64>) -> Outcome {
     turn.begin();
     match call {
-        "add_csc" | "sub_csc" => sum_of_cols(turn.alloc(), call, a, b),
+        "add_csc" | "sub_csc" | "add_scaled_csc" => sum_of_cols(turn.alloc(), call, a, b),
         _ => multiple_of_cols(turn.alloc(), call, a),
     }
 }
@@ -72,6 +73,7 @@ fn sum_of_cols(alloc: Global, call: &str, a: &CscMatrix<W64>, b: &CscMatrix<W64>
     }
     match call {
         "add_csc" => outcome_of(add_csc(alloc, a, b)),
+        "add_scaled_csc" => outcome_of(add_scaled_csc(alloc, W64::new(2), a, W64::new(3), b)),
         _ => outcome_of(sub_csc(alloc, a, b)),
     }
 }

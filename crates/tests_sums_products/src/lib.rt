@@ -4,6 +4,8 @@
 #[cfg(test)]
 mod laws;
 #[cfg(test)]
+mod multiples_added;
+#[cfg(test)]
 mod operands;
 #[cfg(test)]
 mod products;

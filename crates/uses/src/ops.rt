@@ -3,9 +3,9 @@
 use crate::example::holds;
 use nalgebra_sparse::dense::DMatrix;
 use nalgebra_sparse::ops::serial::{
-    OperationErrorKind, add_csr, div_scalar_csr, mul_csc_dense, mul_csr, mul_csr_dense, scale_csr,
-    spmm_csc_dense, spmm_csr_dense, spmm_csr_pattern, spmm_csr_prealloc_unchecked_counted,
-    spsolve_csc_lower_triangular, sub_csr,
+    OperationErrorKind, add_csr, add_scaled_csr, div_scalar_csr, mul_csc_dense, mul_csr,
+    mul_csr_dense, scale_csr, spmm_csc_dense, spmm_csr_dense, spmm_csr_pattern,
+    spmm_csr_prealloc_unchecked_counted, spsolve_csc_lower_triangular, sub_csr,
 };
 use nalgebra_sparse::ops::{Op, Steps};
 use nalgebra_sparse::pattern::SparsityPattern;
@@ -59,6 +59,13 @@ fn a_difference_stores_zeros(alloc: Global) -> Result<bool, Fail> {
     let identity = CsrMatrix::<W64>::identity(alloc, 2)?;
     let zeros = sub_csr(alloc, &identity, &identity)?;
     Ok(zeros.values() == [W64::new(0), W64::new(0)].as_slice())
+}
+
+fn multiples_are_added(alloc: Global) -> Result<bool, Fail> {
+    let identity = CsrMatrix::<W64>::identity(alloc, 2)?;
+    let (two, minus_three) = (W64::new(2), W64::new(-3));
+    let sum = add_scaled_csr(alloc, two, &identity, minus_three, &identity)?;
+    Ok(sum.values() == [W64::new(-1), W64::new(-1)].as_slice())
 }
 
 fn two_has_no_inverse(alloc: Global) -> Result<bool, Fail> {
@@ -134,6 +141,7 @@ fn sums_and_multiples(rt: HostRuntime) {
     let alloc = rt.alloc();
     assert!(rt; holds(&rt, a_matrix_is_doubled(alloc)));
     assert!(rt; holds(&rt, a_difference_stores_zeros(alloc)));
+    assert!(rt; holds(&rt, multiples_are_added(alloc)));
     assert!(rt; holds(&rt, two_has_no_inverse(alloc)));
 }
 
