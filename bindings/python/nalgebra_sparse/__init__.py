@@ -29,6 +29,7 @@ import os
 from ._errors import DuplicateEntry, Error, IndexOutOfBounds, InvalidStructure, InvalidText, Singular, UnknownModulus
 from ._matrices import add, assemble_csc, assemble_csr, divide, multiply, multiply_dense, subtract, transpose
 from ._operands import integer as _integer
+from ._rational import solve_rational
 from ._systems import factor_symmetric, fill, solve_lower, solve_symmetric
 from ._texts import read, write
 
@@ -52,6 +53,7 @@ __all__ = [
     "read",
     "reuse_memory",
     "solve_lower",
+    "solve_rational",
     "solve_symmetric",
     "subtract",
     "transpose",

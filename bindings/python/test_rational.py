@@ -1,0 +1,125 @@
+"""Tests `solve_rational` beside elimination with fractions, and that no wrong solution is returned. Run by bindings/test."""
+import doctest
+import os
+import sys
+from fractions import Fraction
+
+import numpy as np
+import scipy.sparse as sp
+
+sys.path.insert(0, os.path.dirname(os.path.abspath(__file__)))
+import nalgebra_sparse as ns  # noqa: E402
+from nalgebra_sparse import _rational  # noqa: E402
+
+random = np.random.default_rng(66)
+PRIME = ns.MODULI[-1]
+
+
+def eliminated(plain, b):
+    """Returns the solution by elimination with fractions, or None where a pivot on the diagonal is 0."""
+    a = [[Fraction(int(value)) for value in [*row, *right]] for row, right in zip(plain, b)]
+    n = len(a)
+    for k in range(n):
+        if a[k][k] == 0:
+            return None
+        a[k] = [value / a[k][k] for value in a[k]]
+        for i in range(n):
+            if i != k:
+                factor = a[i][k]
+                a[i] = [value - factor * pivot for value, pivot in zip(a[i], a[k])]
+    return [row[n:] for row in a]
+
+
+def values(shape):
+    """Returns small integers, or integers of up to 58 bits."""
+    return random.integers(-(2**58), 2**58, shape) if random.random() < 0.3 else random.integers(-9, 10, shape)
+
+
+def check_random_systems():
+    """500 systems are solved as elimination solves them."""
+    solved = 0
+    while solved < 500:
+        n, cols = (int(size) for size in random.integers(1, 7, 2))
+        upper = np.triu(values((n, n)) * (random.random((n, n)) < 0.7))
+        plain = upper + np.triu(upper, 1).T
+        below = np.tril(random.integers(-9, 10, (n, n)), -1)
+        b = values((n, cols))
+        want = eliminated(plain, b)
+        try:
+            # What is stored below the diagonal has no effect.
+            found = ns.solve_rational(sp.csc_matrix(upper + below), b)
+        except ns.Singular as error:
+            assert want is None and str(PRIME) in str(error)
+            continue
+        assert want is not None and found.shape == b.shape and found.tolist() == want
+        assert ns.solve_rational(sp.csc_array(plain), b[:, 0]).tolist() == [row[0] for row in want]
+        solved += 1
+
+
+def check_large_systems():
+    """A path of 400 unknowns has a known solution, and a grid of 20 by 20 has one that solves it."""
+    path = sp.diags([2, -1, -1], [0, 1, -1], (400, 400), dtype=np.int64).tocsc()
+    first = np.zeros(400, np.int64)
+    first[0] = 1
+    assert ns.solve_rational(path, first).tolist() == [Fraction(400 - i, 401) for i in range(400)]
+    line = sp.diags([2, -1, -1], [0, 1, -1], (20, 20), dtype=np.int64)
+    one = sp.identity(20, np.int64)
+    grid = (sp.kron(line, one) + sp.kron(one, line)).tocsc()
+    x = ns.solve_rational(grid, first)
+    rows = grid.tocsr()
+    for i in range(400):
+        entries = zip(rows.indices[rows.indptr[i] : rows.indptr[i + 1]], rows.data[rows.indptr[i] : rows.indptr[i + 1]])
+        assert sum(int(value) * x[j] for j, value in entries) == first[i]
+    # The smallest prime takes the most steps.
+    threes = sp.diags([1, 3, 3], [0, 2, -2], (30, 30), dtype=np.int64).tocsc()
+    want = eliminated(threes.toarray(), first[:30, None])
+    assert ns.solve_rational(threes, first[:30], 3).tolist() == [row[0] for row in want]
+
+
+def refused(error, *arguments):
+    try:
+        ns.solve_rational(*arguments)
+    except error as found:
+        return str(found)
+    raise AssertionError(f"solve_rational did not raise {error.__name__}")
+
+
+def check_refusals():
+    one, b = sp.csc_matrix(np.array([[1]])), np.array([1])
+    for plain, modulus in [([[0, 1], [1, 0]], PRIME), ([[7, 1], [1, 1]], 7), ([[1, 1], [1, 1]], 11), ([[0]], 101)]:
+        message = refused(ns.Singular, sp.csc_matrix(np.array(plain)), np.ones(len(plain), np.int64), modulus)
+        assert message == f"the matrix has no factorisation L D L^T modulo {modulus}", message
+    assert "odd" in refused(ns.Error, one, b, 2)
+    for modulus in (0, 1, 4, -1, 2**64):
+        refused(ns.UnknownModulus, one, b, modulus)
+    refused(TypeError, one, b, 7.0)
+    refused(TypeError, one.tocsr(), b)
+    refused(TypeError, one, np.array([0.5]))
+    refused(ns.Error, one, np.array([1, 2]))
+    refused(ns.Error, sp.csc_matrix((1, 2), dtype=np.int64), b)
+    for value in (2**62, -(2**62), -(2**63)):
+        assert "row 0" in refused(ns.Error, sp.csc_matrix(np.array([[value]])), b)
+    least, most = np.iinfo(np.int64).min, 2**62 - 3
+    assert ns.solve_rational(sp.csc_matrix(np.array([[most]])), np.array([least])).tolist() == [Fraction(least, most)]
+    assert ns.solve_rational(sp.csc_matrix(np.array([[most]])), np.array([least]), 3).tolist() == [Fraction(least, most)]
+    assert ns.solve_rational(one, np.empty((1, 0), np.int64)).shape == (1, 0)
+
+
+def check_wrong_digits():
+    """Where a call answered wrongly, nothing is returned."""
+    right = _rational.solve_lower
+    system = sp.csc_matrix(np.array([[2, 1], [1, 3]])), np.array([8, 19])
+    try:
+        _rational.solve_lower = lambda *arguments, **words: right(*arguments, **words) ^ 1
+        assert "at fault" in refused(ns.Error, *system)
+    finally:
+        _rational.solve_lower = right
+    assert ns.solve_rational(*system).tolist() == [1, 6]
+
+
+assert doctest.testmod(_rational) == (0, 3)
+check_random_systems()
+check_large_systems()
+check_refusals()
+check_wrong_digits()
+print("python: 500 rational systems are solved as fractions solve them, and a grid of 400 unknowns")
