@@ -15,7 +15,7 @@ fn print_square(rt: &HostRuntime) -> Result<(), Fail> {
     let matrix = convert_coo_csr(rt.alloc(), &list)?;
     let square = mul_csr(rt.alloc(), &matrix, &matrix)?;
     let text = save_to_matrix_market_str(rt.alloc(), &square)?;
-    println!(rt; "{text}")?;
+    print!(rt; "{text}")?;
     Ok(())
 }
 
