@@ -1,6 +1,7 @@
 //! A field as a user of the library may write one: its elements have inverses, and are read from texts.
 
-ghost use Rattle.acceptance.specs.Bit.{bit_ring, bit_scalar};
+ghost use Rattle.acceptance.specs.Bit.{bit_ring};
+ghost use Rattle.acceptance.specs.BitTexts.{bit_scalar};
 
 use nalgebra_sparse::io::{Cause, MatrixMarketError, MatrixMarketScalar};
 use nalgebra_sparse::scalar::{Ring, Units, Zero};
@@ -95,4 +96,10 @@ impl MatrixMarketScalar for Bit {
     }
 
     fn in_range(self) {}
+}
+
+#[test]
+fn zero_is_neutral(rt: HostRuntime) {
+    let one = Bit { set: true };
+    assert!(rt; one.add(Bit { set: false }) == one);
 }

@@ -27,6 +27,8 @@ mod factorization;
 #[cfg(test)]
 mod first_steps;
 #[cfg(test)]
+mod gram;
+#[cfg(test)]
 mod io;
 #[cfg(test)]
 mod ldl;
