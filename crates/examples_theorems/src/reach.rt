@@ -1,0 +1,114 @@
+//! Reachability: the pairs that a walk of at most k steps joins, by powers of a pattern.
+
+ghost use Rattle.std.specs.Prelude.{◌≡◌, IfOk};
+ghost use Rattle.examples_theorems.specs.Walking.{IsDiagonal, HoldsReachable, HoldsWalks, TakesSteps};
+
+#[cfg(test)]
+use crate::example::holds;
+use nalgebra_sparse::csr::CsrMatrix;
+use nalgebra_sparse::laws::compressed::stands_law;
+use nalgebra_sparse::ops::serial::{spadd_pattern, spmm_csr_pattern};
+use nalgebra_sparse::pattern::SparsityPattern;
+use nalgebra_sparse::scalar::W64;
+use std::alloc::{AllocError, Global};
+#[cfg(test)]
+use std::test::Fail;
+
+// Returns the diagonal of order n.
+fn diagonal(alloc: Global, n: usize) -> Result<SparsityPattern, AllocError>
+    ensures major { IfOk result (λ p. p.major_dim ≡ n) }
+    ensures minor { IfOk result (λ p. p.minor_dim ≡ n) }
+    ensures places { IfOk result (λ p. IsDiagonal p n) }
+{
+    stands_law::<W64>();
+    let identity = CsrMatrix::<W64>::identity(alloc, n)?;
+    let copy = identity.pattern().clone(alloc)?;
+    Ok(copy)
+}
+
+// Multiplies by `step` from the left, `steps` times.
+fn take_steps(
+    alloc: Global,
+    step: &SparsityPattern,
+    start: SparsityPattern,
+    steps: usize,
+) -> Result<SparsityPattern, AllocError>
+    requires square { step.now.minor_dim ≡ step.now.major_dim }
+    requires lanes { start.major_dim ≡ step.now.major_dim }
+    ensures major { IfOk result (λ p. p.major_dim ≡ start.major_dim) }
+    ensures minor { IfOk result (λ p. p.minor_dim ≡ start.minor_dim) }
+    ensures steps { IfOk result (TakesSteps step.now start steps) }
+{
+    let mut reached = start;
+    for length in 0..steps {
+        reached = spmm_csr_pattern(alloc, step, &reached)?;
+    }
+    Ok(reached)
+}
+
+// Returns the pairs (i, j) for which a walk of at most `steps` steps along places of the pattern leads from i to j.
+fn reach(
+    alloc: Global,
+    pattern: &SparsityPattern,
+    steps: usize,
+) -> Result<SparsityPattern, AllocError>
+    requires { pattern.now.major_dim ≡ pattern.now.minor_dim }
+    ensures major { IfOk result (λ p. p.major_dim ≡ pattern.now.major_dim) }
+    ensures minor { IfOk result (λ p. p.minor_dim ≡ pattern.now.major_dim) }
+    ensures walks { IfOk result (HoldsWalks pattern.now steps) }
+{
+    let start = diagonal(alloc, pattern.major_dim())?;
+    let step = spadd_pattern(alloc, &start, pattern)?;
+    let reached = take_steps(alloc, &step, start, steps)?;
+    Ok(reached)
+}
+
+// Returns the pairs (i, j) for which some walk along places of the pattern leads from i to j, however long. A shortest
+// walk repeats no index, so its steps are fewer than the lanes.
+fn closure(alloc: Global, pattern: &SparsityPattern) -> Result<SparsityPattern, AllocError>
+    requires { pattern.now.major_dim ≡ pattern.now.minor_dim }
+    ensures major { IfOk result (λ p. p.major_dim ≡ pattern.now.major_dim) }
+    ensures minor { IfOk result (λ p. p.minor_dim ≡ pattern.now.major_dim) }
+    ensures walks { IfOk result (HoldsReachable pattern.now) }
+{
+    let reached = reach(alloc, pattern, pattern.major_dim())?;
+    Ok(reached)
+}
+
+// Whether walks of at most `steps` steps on the cycle 0 -> 1 -> 2 -> 0 join the pairs with these indices.
+#[cfg(test)]
+fn joins(alloc: Global, steps: usize, indices: &[usize]) -> Result<bool, Fail> {
+    let offsets = vec![in alloc; 0, 1, 2, 3]?;
+    let next = vec![in alloc; 1, 2, 0]?;
+    let cycle = SparsityPattern::try_from_offsets_and_indices(3, 3, offsets, next)?;
+    if cycle.major_dim() != cycle.minor_dim() {
+        return Ok(false);
+    }
+    Ok(reach(alloc, &cycle, steps)?.minor_indices() == indices)
+}
+
+// Whether the closure of the path 0 -> 1 -> 2 -> 3 joins each index with those from it on.
+#[cfg(test)]
+fn joins_all(alloc: Global) -> Result<bool, Fail> {
+    let offsets = vec![in alloc; 0, 1, 2, 3, 3]?;
+    let next = vec![in alloc; 1, 2, 3]?;
+    let path = SparsityPattern::try_from_offsets_and_indices(4, 4, offsets, next)?;
+    if path.major_dim() != path.minor_dim() {
+        return Ok(false);
+    }
+    let reached = closure(alloc, &path)?;
+    Ok(reached.minor_indices() == [0, 1, 2, 3, 1, 2, 3, 2, 3, 3].as_slice())
+}
+
+#[test]
+fn walks_on_a_path(rt: HostRuntime) {
+    assert!(rt; holds(&rt, joins_all(rt.alloc())));
+}
+
+#[test]
+fn walks_on_a_cycle(rt: HostRuntime) {
+    let alloc = rt.alloc();
+    assert!(rt; holds(&rt, joins(alloc, 0, &[0, 1, 2])));
+    assert!(rt; holds(&rt, joins(alloc, 1, &[0, 1, 1, 2, 0, 2])));
+    assert!(rt; holds(&rt, joins(alloc, 2, &[0, 1, 2, 0, 1, 2, 0, 1, 2])));
+}
