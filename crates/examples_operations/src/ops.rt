@@ -1,6 +1,7 @@
 //! Examples of the module `ops`.
 
 use crate::example::holds;
+use nalgebra_sparse::convert::serial::{convert_dense_csc, convert_dense_csr};
 use nalgebra_sparse::dense::DMatrix;
 use nalgebra_sparse::ops::serial::{
     OperationErrorKind, add_csr, add_scaled_csr, div_scalar_csr, mul_csc_dense, mul_csr,
@@ -15,12 +16,10 @@ use std::alloc::Global;
 use std::test::Fail;
 
 fn a_matrix_is_squared(alloc: Global) -> Result<bool, Fail> {
-    let offsets = vec![in alloc; 0, 2, 3]?;
-    let columns = vec![in alloc; 0, 1, 1]?;
-    let values = vec![in alloc; W64::new(1), W64::new(2), W64::new(3)]?;
-    let matrix = CsrMatrix::try_from_csr_data(2, 2, offsets, columns, values)?;
+    let dense = DMatrix::from_row_slice(alloc, 2, 2, &[1, 2, 0, 3].map(W64::new))?;
+    let matrix = convert_dense_csr(alloc, &dense)?;
     let square = mul_csr(alloc, &matrix, &matrix)?;
-    Ok(square.values() == [W64::new(1), W64::new(8), W64::new(9)].as_slice())
+    Ok(square.values() == [1, 8, 9].map(W64::new).as_slice())
 }
 
 fn steps_of_a_square(alloc: Global) -> Result<bool, Fail> {
@@ -42,8 +41,8 @@ fn steps_of_a_square(alloc: Global) -> Result<bool, Fail> {
 }
 
 fn places_of_a_square(alloc: Global) -> Result<bool, Fail> {
-    let offsets = vec![in alloc; 0, 1, 2]?;
-    let indices = vec![in alloc; 1, 0]?;
+    let offsets = Vec::from_slice(alloc, &[0, 1, 2])?;
+    let indices = Vec::from_slice(alloc, &[1, 0])?;
     let pattern = SparsityPattern::try_from_offsets_and_indices(2, 2, offsets, indices)?;
     let square = spmm_csr_pattern(alloc, &pattern, &pattern)?;
     Ok(square.minor_indices() == [0, 1].as_slice())
@@ -56,9 +55,9 @@ fn a_matrix_is_doubled(alloc: Global) -> Result<bool, Fail> {
 }
 
 fn a_difference_stores_zeros(alloc: Global) -> Result<bool, Fail> {
-    let identity = CsrMatrix::<W64>::identity(alloc, 2)?;
+    let identity = CsrMatrix::<W64>::identity(alloc, 1)?;
     let zeros = sub_csr(alloc, &identity, &identity)?;
-    Ok(zeros.values() == [W64::new(0), W64::new(0)].as_slice())
+    Ok(zeros.values() == [W64::new(0)].as_slice())
 }
 
 fn multiples_are_added(alloc: Global) -> Result<bool, Fail> {
@@ -70,61 +69,48 @@ fn multiples_are_added(alloc: Global) -> Result<bool, Fail> {
 
 fn two_has_no_inverse(alloc: Global) -> Result<bool, Fail> {
     let identity = CsrMatrix::<W64>::identity(alloc, 2)?;
-    let refused = div_scalar_csr(alloc, &identity, W64::new(2)).err();
-    let error = refused.ok_or("no error")?;
-    Ok(*error.kind() == OperationErrorKind::Singular)
+    match div_scalar_csr(alloc, &identity, W64::new(2)) {
+        Ok(_) => Ok(false),
+        Err(error) => Ok(*error.kind() == OperationErrorKind::Singular),
+    }
 }
 
 fn a_triangular_system_is_solved(alloc: Global) -> Result<bool, Fail> {
-    let offsets = vec![in alloc; 0, 2, 3]?;
-    let rows = vec![in alloc; 0, 1, 1]?;
-    let values = vec![in alloc; W64::new(1), W64::new(2), W64::new(1)]?;
-    let l = CscMatrix::try_from_csc_data(2, 2, offsets, rows, values)?;
-    let mut b = DMatrix::from_column_slice(alloc, 2, 1, &[W64::new(3), W64::new(8)])?;
+    let dense = DMatrix::from_row_slice(alloc, 2, 2, &[1, 0, 2, 1].map(W64::new))?;
+    let l = convert_dense_csc(alloc, &dense)?;
+    let mut b = DMatrix::from_column_slice(alloc, 2, 1, &[3, 8].map(W64::new))?;
     spsolve_csc_lower_triangular(Op::NoOp(&l), &mut b)?;
-    Ok(b.as_slice() == [W64::new(3), W64::new(2)].as_slice())
+    Ok(b.as_slice() == [3, 2].map(W64::new).as_slice())
 }
 
 fn a_product_is_added_to_a_dense_matrix(alloc: Global) -> Result<bool, Fail> {
-    let offsets = vec![in alloc; 0, 2, 3]?;
-    let columns = vec![in alloc; 0, 1, 1]?;
-    let values = vec![in alloc; W64::new(1), W64::new(2), W64::new(3)]?;
-    let a = CsrMatrix::try_from_csr_data(2, 2, offsets, columns, values)?;
-    let b = DMatrix::repeat(alloc, 2, 1, W64::new(1))?;
+    let a = CsrMatrix::<W64>::identity(alloc, 2)?;
+    let b = DMatrix::repeat(alloc, 2, 1, W64::new(3))?;
     let mut c = DMatrix::repeat(alloc, 2, 1, W64::new(1))?;
     spmm_csr_dense(W64::new(1), &mut c, W64::new(2), Op::NoOp(&a), Op::NoOp(&b));
-    Ok(c.as_slice() == [W64::new(7), W64::new(7)].as_slice())
+    Ok(c == DMatrix::repeat(alloc, 2, 1, W64::new(7))?)
 }
 
 fn a_product_by_columns_replaces_a_dense_matrix(alloc: Global) -> Result<bool, Fail> {
-    let offsets = vec![in alloc; 0, 1, 3]?;
-    let rows = vec![in alloc; 0, 0, 1]?;
-    let values = vec![in alloc; W64::new(1), W64::new(2), W64::new(3)]?;
-    let a = CscMatrix::try_from_csc_data(2, 2, offsets, rows, values)?;
-    let b = DMatrix::repeat(alloc, 2, 1, W64::new(1))?;
+    let a = CscMatrix::<W64>::identity(alloc, 2)?;
+    let b = DMatrix::repeat(alloc, 2, 1, W64::new(3))?;
     let mut c = DMatrix::repeat(alloc, 2, 1, W64::new(9))?;
     spmm_csc_dense(W64::new(0), &mut c, W64::new(1), Op::NoOp(&a), Op::NoOp(&b));
-    Ok(c.as_slice() == [W64::new(3), W64::new(3)].as_slice())
+    Ok(c == b)
 }
 
 fn a_matrix_times_a_dense_matrix(alloc: Global) -> Result<bool, Fail> {
-    let offsets = vec![in alloc; 0, 2, 3]?;
-    let columns = vec![in alloc; 0, 1, 1]?;
-    let values = vec![in alloc; W64::new(1), W64::new(2), W64::new(3)]?;
-    let a = CsrMatrix::try_from_csr_data(2, 2, offsets, columns, values)?;
-    let b = DMatrix::from_column_slice(alloc, 2, 1, &[W64::new(1), W64::new(5)])?;
-    let product = mul_csr_dense(alloc, &a, &b)?;
-    Ok(product.as_slice() == [W64::new(11), W64::new(15)].as_slice())
+    let dense = DMatrix::from_row_slice(alloc, 2, 2, &[1, 2, 0, 3].map(W64::new))?;
+    let a = convert_dense_csr(alloc, &dense)?;
+    let square = mul_csr_dense(alloc, &a, &dense)?;
+    Ok(square.as_slice() == [1, 0, 8, 9].map(W64::new).as_slice())
 }
 
 fn a_matrix_by_columns_times_a_dense_matrix(alloc: Global) -> Result<bool, Fail> {
-    let offsets = vec![in alloc; 0, 1, 3]?;
-    let rows = vec![in alloc; 0, 0, 1]?;
-    let values = vec![in alloc; W64::new(1), W64::new(2), W64::new(3)]?;
-    let a = CscMatrix::try_from_csc_data(2, 2, offsets, rows, values)?;
-    let b = DMatrix::from_column_slice(alloc, 2, 1, &[W64::new(1), W64::new(5)])?;
-    let product = mul_csc_dense(alloc, &a, &b)?;
-    Ok(product.as_slice() == [W64::new(11), W64::new(15)].as_slice())
+    let dense = DMatrix::from_row_slice(alloc, 2, 2, &[1, 2, 0, 3].map(W64::new))?;
+    let a = convert_dense_csc(alloc, &dense)?;
+    let square = mul_csc_dense(alloc, &a, &dense)?;
+    Ok(square.as_slice() == [1, 0, 8, 9].map(W64::new).as_slice())
 }
 
 #[test]

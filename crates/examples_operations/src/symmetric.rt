@@ -12,6 +12,7 @@ ghost use Rattle.nalgebra_sparse.specs.Solutions.{HasSameValues};
 
 use crate::example::holds;
 use nalgebra_sparse::CscMatrix;
+use nalgebra_sparse::convert::serial::convert_dense_csc;
 use nalgebra_sparse::dense::DMatrix;
 use nalgebra_sparse::laws::compressed::{equal_law, transpose_law};
 use nalgebra_sparse::ldl::Ldl;
@@ -74,29 +75,27 @@ fn has_factors<const P: u64>(alloc: Global, a: &CscMatrix<Mod<P>>) -> Result<boo
     }
 }
 
-// The matrix with rows `a b` and `b c`.
-fn two_rows(alloc: Global, [a, b, c]: [u64; 3]) -> Result<CscMatrix<Mod<7>>, Fail> {
-    let offsets = vec![in alloc; 0, 2, 4]?;
-    let rows = vec![in alloc; 0, 1, 0, 1]?;
-    let values = vec![in alloc; Mod::new(a), Mod::new(b), Mod::new(b), Mod::new(c)]?;
-    Ok(CscMatrix::try_from_csc_data(2, 2, offsets, rows, values)?)
+// The matrix with these two rows.
+fn two_rows(alloc: Global, rows: &[u64; 4]) -> Result<CscMatrix<Mod<7>>, AllocError>
+    ensures rows { IfOk result (λ m. m.pattern.minor_dim ≡ 2) }
+    ensures cols { IfOk result (λ m. m.pattern.major_dim ≡ 2) }
+{
+    let dense = DMatrix::from_row_slice(alloc, 2, 2, &rows.map(Mod::new))?;
+    convert_dense_csc(alloc, &dense)
 }
 
 fn the_matrix_times_the_solution_is_the_right_side(alloc: Global) -> Result<bool, Fail> {
-    let a = two_rows(alloc, [2, 1, 1])?;
-    let b = DMatrix::from_column_slice(alloc, 2, 1, &[Mod::new(3), Mod::new(2)])?;
-    if !is_symmetric(alloc, &a)? || b.nrows() != a.nrows() {
+    let a = two_rows(alloc, &[2, 1, 1, 1])?;
+    let b = DMatrix::from_column_slice(alloc, 2, 1, &[3, 2].map(Mod::new))?;
+    if !is_symmetric(alloc, &a)? {
         return Ok(false);
     }
     Ok(product_with_solution(alloc, &a, &b)? == b)
 }
 
 fn a_matrix_has_factors_or_none(alloc: Global) -> Result<bool, Fail> {
-    let factored = two_rows(alloc, [2, 1, 1])?;
-    let exchange = two_rows(alloc, [0, 1, 0])?;
-    if factored.nrows() != factored.ncols() || exchange.nrows() != exchange.ncols() {
-        return Ok(false);
-    }
+    let factored = two_rows(alloc, &[2, 1, 1, 1])?;
+    let exchange = two_rows(alloc, &[0, 1, 1, 0])?;
     Ok(has_factors(alloc, &factored)? && !has_factors(alloc, &exchange)?)
 }
 

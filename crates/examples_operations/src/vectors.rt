@@ -1,61 +1,52 @@
 //! Examples of sparse and dense vectors.
 
 use crate::example::holds;
+use nalgebra_sparse::convert::serial::{convert_dense_csc, convert_dense_csr};
+use nalgebra_sparse::dense::DMatrix;
 use nalgebra_sparse::ops::serial::{
     axpy_csc_col, axpy_csr_row, dot_csc_col, dot_csr_row, usaxpy, usdot,
 };
 use nalgebra_sparse::scalar::W64;
-use nalgebra_sparse::{CscMatrix, CsrMatrix};
 use std::alloc::Global;
 use std::test::Fail;
 
 fn a_sparse_vector_is_added() -> Result<bool, Fail> {
-    let mut y = [W64::new(1), W64::new(2), W64::new(3)];
-    usaxpy(W64::new(10), &[W64::new(4), W64::new(5)], &[0, 2], &mut y);
-    Ok(y == [W64::new(41), W64::new(2), W64::new(53)])
+    let mut y = [1, 2, 3].map(W64::new);
+    usaxpy(W64::new(10), &[4, 5].map(W64::new), &[0, 2], &mut y);
+    Ok(y == [41, 2, 53].map(W64::new))
 }
 
 fn a_sparse_vector_is_multiplied() -> Result<bool, Fail> {
-    let y = [W64::new(1), W64::new(2), W64::new(3)];
-    Ok(usdot(&[W64::new(4), W64::new(5)], &[0, 2], &y) == W64::new(19))
+    let y = [1, 2, 3].map(W64::new);
+    Ok(usdot(&[4, 5].map(W64::new), &[0, 2], &y) == W64::new(19))
 }
 
 fn a_row_is_added(alloc: Global) -> Result<bool, Fail> {
-    let offsets = vec![in alloc; 0, 2]?;
-    let columns = vec![in alloc; 0, 2]?;
-    let values = vec![in alloc; W64::new(4), W64::new(5)]?;
-    let matrix = CsrMatrix::try_from_csr_data(1, 3, offsets, columns, values)?;
-    let mut y = [W64::new(1), W64::new(2), W64::new(3)];
+    let dense = DMatrix::from_row_slice(alloc, 1, 3, &[4, 0, 5].map(W64::new))?;
+    let matrix = convert_dense_csr(alloc, &dense)?;
+    let mut y = [1, 2, 3].map(W64::new);
     axpy_csr_row(W64::new(10), &matrix, 0, &mut y);
-    Ok(y == [W64::new(41), W64::new(2), W64::new(53)])
+    Ok(y == [41, 2, 53].map(W64::new))
 }
 
 fn a_row_is_multiplied(alloc: Global) -> Result<bool, Fail> {
-    let offsets = vec![in alloc; 0, 2]?;
-    let columns = vec![in alloc; 0, 2]?;
-    let values = vec![in alloc; W64::new(4), W64::new(5)]?;
-    let matrix = CsrMatrix::try_from_csr_data(1, 3, offsets, columns, values)?;
-    let x = [W64::new(1), W64::new(2), W64::new(3)];
-    Ok(dot_csr_row(&matrix, 0, &x) == W64::new(19))
+    let dense = DMatrix::from_row_slice(alloc, 1, 3, &[4, 0, 5].map(W64::new))?;
+    let matrix = convert_dense_csr(alloc, &dense)?;
+    Ok(dot_csr_row(&matrix, 0, &[1, 2, 3].map(W64::new)) == W64::new(19))
 }
 
 fn a_column_is_added(alloc: Global) -> Result<bool, Fail> {
-    let offsets = vec![in alloc; 0, 2]?;
-    let rows = vec![in alloc; 0, 2]?;
-    let values = vec![in alloc; W64::new(4), W64::new(5)]?;
-    let matrix = CscMatrix::try_from_csc_data(3, 1, offsets, rows, values)?;
-    let mut y = [W64::new(1), W64::new(2), W64::new(3)];
+    let dense = DMatrix::from_column_slice(alloc, 3, 1, &[4, 0, 5].map(W64::new))?;
+    let matrix = convert_dense_csc(alloc, &dense)?;
+    let mut y = [1, 2, 3].map(W64::new);
     axpy_csc_col(W64::new(10), &matrix, 0, &mut y);
-    Ok(y == [W64::new(41), W64::new(2), W64::new(53)])
+    Ok(y == [41, 2, 53].map(W64::new))
 }
 
 fn a_column_is_multiplied(alloc: Global) -> Result<bool, Fail> {
-    let offsets = vec![in alloc; 0, 2]?;
-    let rows = vec![in alloc; 0, 2]?;
-    let values = vec![in alloc; W64::new(4), W64::new(5)]?;
-    let matrix = CscMatrix::try_from_csc_data(3, 1, offsets, rows, values)?;
-    let x = [W64::new(1), W64::new(2), W64::new(3)];
-    Ok(dot_csc_col(&matrix, 0, &x) == W64::new(19))
+    let dense = DMatrix::from_column_slice(alloc, 3, 1, &[4, 0, 5].map(W64::new))?;
+    let matrix = convert_dense_csc(alloc, &dense)?;
+    Ok(dot_csc_col(&matrix, 0, &[1, 2, 3].map(W64::new)) == W64::new(19))
 }
 
 #[test]

@@ -5,17 +5,19 @@ ghost use Rattle.nalgebra_sparse.specs.Plain.{plain_identity, plain_product};
 ghost use Rattle.nalgebra_sparse.specs.PlainOfLanes.{plain_of_rows};
 
 use crate::example::holds;
-use nalgebra_sparse::convert::serial::{convert_coo_csc, convert_coo_csr};
+use nalgebra_sparse::convert::serial::{
+    convert_coo_csc, convert_coo_csr, convert_dense_csc, convert_dense_csr,
+};
 use nalgebra_sparse::dense::DMatrix;
 use nalgebra_sparse::factorization::CscSymbolicCholesky;
 use nalgebra_sparse::io::load_coo_from_matrix_market_str;
 use nalgebra_sparse::laws::compressed::{equal_law, stands_law};
 use nalgebra_sparse::laws::plain::identity_product_law;
 use nalgebra_sparse::ops::Op;
-use nalgebra_sparse::ops::serial::{mul_csr, spsolve_csc_lower_triangular};
+use nalgebra_sparse::ops::serial::{mul_csr, mul_csr_dense, spsolve_csc_lower_triangular};
 use nalgebra_sparse::rings::{Dual, Gaussian, Pair};
 use nalgebra_sparse::scalar::{Mod, Ring, W64, Zero};
-use nalgebra_sparse::{CooMatrix, CscMatrix, CsrMatrix};
+use nalgebra_sparse::{CooMatrix, CsrMatrix};
 use std::alloc::{AllocError, Global};
 use std::test::Fail;
 
@@ -31,7 +33,7 @@ fn repeated_triplets_are_summed(alloc: Global) -> Result<bool, Fail> {
         return Ok(false);
     }
     let square = mul_csr(alloc, &matrix, &matrix)?;
-    Ok(square.values() == [W64::new(1), W64::new(2), W64::new(0)].as_slice())
+    Ok(square.values() == [1, 2, 0].map(W64::new).as_slice())
 }
 
 const SYMMETRIC: &str = "%%MatrixMarket matrix coordinate integer symmetric
@@ -55,61 +57,43 @@ fn a_symmetric_file_fills_in(alloc: Global) -> Result<bool, Fail> {
 }
 
 fn a_system_is_solved_modulo_seven(alloc: Global) -> Result<bool, Fail> {
-    let offsets = vec![in alloc; 0, 2, 3]?;
-    let rows = vec![in alloc; 0, 1, 1]?;
-    let values = vec![in alloc; Mod::<7>::new(2), Mod::new(1), Mod::new(3)]?;
-    let l = CscMatrix::try_from_csc_data(2, 2, offsets, rows, values)?;
-    let mut b = DMatrix::from_column_slice(alloc, 2, 1, &[Mod::new(1), Mod::new(5)])?;
-    if l.nrows() != l.ncols() || b.nrows() != l.nrows() {
-        return Ok(false);
-    }
+    let dense = DMatrix::from_row_slice(alloc, 2, 2, &[2, 0, 1, 3].map(Mod::<7>::new))?;
+    let l = convert_dense_csc(alloc, &dense)?;
+    let mut b = DMatrix::from_column_slice(alloc, 2, 1, &[1, 5].map(Mod::new))?;
     spsolve_csc_lower_triangular(Op::NoOp(&l), &mut b)?;
-    Ok(b.as_slice() == [Mod::new(4), Mod::new(5)].as_slice())
+    Ok(b.as_slice() == [4, 5].map(Mod::new).as_slice())
 }
 
 // The matrix with this one entry.
-fn one_entry<T: Zero + Copy>(alloc: Global, entry: T) -> Result<CsrMatrix<T>, Fail> {
-    let offsets = vec![in alloc; 0, 1]?;
-    let columns = vec![in alloc; 0]?;
-    let mut values = Vec::new(alloc);
-    values.push(entry)?;
-    Ok(CsrMatrix::try_from_csr_data(1, 1, offsets, columns, values)?)
+fn one_entry<T: Zero + Copy>(alloc: Global, entry: T) -> Result<CsrMatrix<T>, AllocError>
+    ensures rows { IfOk result (λ m. m.pattern.major_dim ≡ 1) }
+    ensures cols { IfOk result (λ m. m.pattern.minor_dim ≡ 1) }
+{
+    convert_dense_csr(alloc, &DMatrix::repeat(alloc, 1, 1, entry)?)
 }
 
 fn the_derivative_of_a_square_is_twice_the_number(alloc: Global) -> Result<bool, Fail> {
     let x = one_entry(alloc, Dual::variable(W64::new(5)))?;
-    if x.ncols() != x.nrows() {
-        return Ok(false);
-    }
     let square = mul_csr(alloc, &x, &x)?;
     Ok(square.values() == [Dual::new(W64::new(25), W64::new(10))].as_slice())
 }
 
 fn a_solve_differentiates_itself(alloc: Global) -> Result<bool, Fail> {
-    let offsets = vec![in alloc; 0, 2, 3]?;
-    let rows = vec![in alloc; 0, 1, 1]?;
-    let parameter = Dual::variable(Mod::<7>::new(1));
-    let pivots = [Dual::constant(Mod::new(2)), Dual::constant(Mod::new(3))];
-    let values = vec![in alloc; pivots[0], parameter, pivots[1]]?;
-    let l = CscMatrix::try_from_csc_data(2, 2, offsets, rows, values)?;
-    let right = [Dual::constant(Mod::new(1)), Dual::constant(Mod::new(5))];
+    let [two, zero, three] = [2, 0, 3].map(|number| Dual::constant(Mod::<7>::new(number)));
+    let parameter = Dual::variable(Mod::new(1));
+    let dense = DMatrix::from_row_slice(alloc, 2, 2, &[two, zero, parameter, three])?;
+    let l = convert_dense_csc(alloc, &dense)?;
+    let right = [1, 5].map(|number| Dual::constant(Mod::new(number)));
     let mut b = DMatrix::from_column_slice(alloc, 2, 1, &right)?;
-    if l.nrows() != l.ncols() || b.nrows() != l.nrows() {
-        return Ok(false);
-    }
     spsolve_csc_lower_triangular(Op::NoOp(&l), &mut b)?;
-    let want = [
-        Dual::constant(Mod::new(4)),
-        Dual::new(Mod::new(5), Mod::new(1)),
-    ];
-    Ok(b.as_slice() == want.as_slice())
+    Ok(
+        b.get(0, 0) == Dual::constant(Mod::new(4))
+            && b.get(1, 0) == Dual::new(Mod::new(5), Mod::new(1)),
+    )
 }
 
 fn a_quarter_turn_taken_twice_is_a_half_turn(alloc: Global) -> Result<bool, Fail> {
     let quarter = one_entry(alloc, Gaussian::new(W64::zero(), W64::one()))?;
-    if quarter.ncols() != quarter.nrows() {
-        return Ok(false);
-    }
     let half = mul_csr(alloc, &quarter, &quarter)?;
     Ok(half.values() == [Gaussian::new(W64::new(-1), W64::zero())].as_slice())
 }
@@ -120,19 +104,13 @@ fn residues(number: u64) -> Pair<Mod<2305843009213693951>, Mod<18446744073709551
 }
 
 fn a_product_past_64_bits_is_recovered(alloc: Global) -> Result<bool, Fail> {
-    let offsets = vec![in alloc; 0, 2]?;
-    let columns = vec![in alloc; 0, 1]?;
-    let values = vec![in alloc; residues(1 << 61), residues(1 << 62)]?;
-    let row = CsrMatrix::try_from_csr_data(1, 2, offsets, columns, values)?;
-    let column = row.transpose(alloc)?;
-    if row.ncols() != column.nrows() {
-        return Ok(false);
+    let entries = [1 << 61, 1 << 62].map(residues);
+    let row = convert_dense_csr(alloc, &DMatrix::from_row_slice(alloc, 1, 2, &entries)?)?;
+    let column = DMatrix::from_column_slice(alloc, 2, 1, &entries)?;
+    match mul_csr_dense(alloc, &row, &column)?.as_slice() {
+        [entry] => Ok(entry.combine() == Some(5 << 122)),
+        _ => Ok(false),
     }
-    let product = mul_csr(alloc, &row, &column)?;
-    Ok(match product.values() {
-        [entry] => entry.combine() == Some(5 << 122),
-        _ => false,
-    })
 }
 
 // A law: the identity times a matrix is that matrix.

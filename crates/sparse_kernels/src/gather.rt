@@ -20,8 +20,8 @@ use sparse_algebra::scalar::Ring;
 ///
 /// ```rust
 /// fn a_sparse_vector_is_multiplied() -> Result<bool, Fail> {
-///     let y = [W64::new(1), W64::new(2), W64::new(3)];
-///     Ok(usdot(&[W64::new(4), W64::new(5)], &[0, 2], &y) == W64::new(19))
+///     let y = [1, 2, 3].map(W64::new);
+///     Ok(usdot(&[4, 5].map(W64::new), &[0, 2], &y) == W64::new(19))
 /// }
 /// ```
 #[inline(always)]

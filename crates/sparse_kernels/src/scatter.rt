@@ -17,9 +17,9 @@ use sparse_algebra::scalar::Ring;
 ///
 /// ```rust
 /// fn a_sparse_vector_is_added() -> Result<bool, Fail> {
-///     let mut y = [W64::new(1), W64::new(2), W64::new(3)];
-///     usaxpy(W64::new(10), &[W64::new(4), W64::new(5)], &[0, 2], &mut y);
-///     Ok(y == [W64::new(41), W64::new(2), W64::new(53)])
+///     let mut y = [1, 2, 3].map(W64::new);
+///     usaxpy(W64::new(10), &[4, 5].map(W64::new), &[0, 2], &mut y);
+///     Ok(y == [41, 2, 53].map(W64::new))
 /// }
 /// ```
 #[inline(always)]

@@ -37,13 +37,11 @@ use sparse_forms::csc::CscMatrix;
 ///
 /// ```rust
 /// fn a_triangular_system_is_solved(alloc: Global) -> Result<bool, Fail> {
-///     let offsets = vec![in alloc; 0, 2, 3]?;
-///     let rows = vec![in alloc; 0, 1, 1]?;
-///     let values = vec![in alloc; W64::new(1), W64::new(2), W64::new(1)]?;
-///     let l = CscMatrix::try_from_csc_data(2, 2, offsets, rows, values)?;
-///     let mut b = DMatrix::from_column_slice(alloc, 2, 1, &[W64::new(3), W64::new(8)])?;
+///     let dense = DMatrix::from_row_slice(alloc, 2, 2, &[1, 0, 2, 1].map(W64::new))?;
+///     let l = convert_dense_csc(alloc, &dense)?;
+///     let mut b = DMatrix::from_column_slice(alloc, 2, 1, &[3, 8].map(W64::new))?;
 ///     spsolve_csc_lower_triangular(Op::NoOp(&l), &mut b)?;
-///     Ok(b.as_slice() == [W64::new(3), W64::new(2)].as_slice())
+///     Ok(b.as_slice() == [3, 2].map(W64::new).as_slice())
 /// }
 /// ```
 pub fn spsolve_csc_lower_triangular<T: Units>(

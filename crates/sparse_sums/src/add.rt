@@ -60,9 +60,9 @@ pub fn add_csr<T: Ring>(
 ///
 /// ```rust
 /// fn a_difference_stores_zeros(alloc: Global) -> Result<bool, Fail> {
-///     let identity = CsrMatrix::<W64>::identity(alloc, 2)?;
+///     let identity = CsrMatrix::<W64>::identity(alloc, 1)?;
 ///     let zeros = sub_csr(alloc, &identity, &identity)?;
-///     Ok(zeros.values() == [W64::new(0), W64::new(0)].as_slice())
+///     Ok(zeros.values() == [W64::new(0)].as_slice())
 /// }
 /// ```
 pub fn sub_csr<T: Ring>(

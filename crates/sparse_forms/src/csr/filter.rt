@@ -49,11 +49,9 @@ impl<T: Copy> CsrMatrix<T> {
     ///
     /// ```rust
     /// fn the_upper_triangle_is_kept(alloc: Global) -> Result<bool, Fail> {
-    ///     let offsets = vec![in alloc; 0, 2, 4]?;
-    ///     let columns = vec![in alloc; 0, 1, 0, 1]?;
-    ///     let values = vec![in alloc; 1, 2, 3, 4]?;
-    ///     let matrix = CsrMatrix::try_from_csr_data(2, 2, offsets, columns, values)?;
-    ///     Ok(matrix.upper_triangle(alloc)?.values() == [1, 2, 4].as_slice())
+    ///     let dense = DMatrix::from_row_slice(alloc, 2, 2, &[1, 2, 3, 4])?;
+    ///     let upper = convert_dense_csr(alloc, &dense)?.upper_triangle(alloc)?;
+    ///     Ok(upper.values() == [1, 2, 4].as_slice())
     /// }
     /// ```
     pub fn upper_triangle(&self, alloc: Global) -> Result<Self, AllocError>

@@ -72,7 +72,7 @@ impl<T> CsrMatrix<T> {
     /// fn one_row_is_read(alloc: Global) -> Result<bool, Fail> {
     ///     let identity = CsrMatrix::<W64>::identity(alloc, 2)?;
     ///     let row = identity.get_row(1).ok_or("out of bounds")?;
-    ///     Ok(row.ncols() == 2 && row.col_indices() == [1].as_slice())
+    ///     Ok(row.col_indices() == [1].as_slice())
     /// }
     /// ```
     pub fn get_row(&self, row_index: usize) -> Option<CsrRow<'_, T>>

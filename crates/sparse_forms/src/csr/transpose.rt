@@ -18,11 +18,9 @@ impl<T: Copy> CsrMatrix<T> {
     ///
     /// ```rust
     /// fn rows_become_columns(alloc: Global) -> Result<bool, Fail> {
-    ///     let offsets = vec![in alloc; 0, 2]?;
-    ///     let columns = vec![in alloc; 0, 2]?;
-    ///     let values = vec![in alloc; 4, 5]?;
-    ///     let matrix = CsrMatrix::try_from_csr_data(1, 3, offsets, columns, values)?;
-    ///     Ok(matrix.transpose(alloc)?.row_offsets() == [0, 1, 1, 2].as_slice())
+    ///     let dense = DMatrix::from_row_slice(alloc, 1, 3, &[4, 0, 5])?;
+    ///     let transpose = convert_dense_csr(alloc, &dense)?.transpose(alloc)?;
+    ///     Ok(transpose.row_offsets() == [0, 1, 1, 2].as_slice())
     /// }
     /// ```
     pub fn transpose(&self, alloc: Global) -> Result<Self, AllocError>

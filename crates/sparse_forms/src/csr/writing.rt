@@ -116,11 +116,11 @@ impl<T> CsrMatrix<T> {
     ///
     /// ```rust
     /// fn values_are_replaced(alloc: Global) -> Result<bool, Fail> {
-    ///     let mut matrix = CsrMatrix::<W64>::identity(alloc, 2)?;
-    ///     for (row, _, value) in matrix.triplet_iter_mut() {
-    ///         *value = W64::new(if row == 0 { 4 } else { 5 });
+    ///     let mut matrix = CsrMatrix::<W64>::identity(alloc, 1)?;
+    ///     for (_, _, value) in matrix.triplet_iter_mut() {
+    ///         *value = W64::new(4);
     ///     }
-    ///     Ok(matrix.values() == [W64::new(4), W64::new(5)].as_slice())
+    ///     Ok(matrix.values() == [W64::new(4)].as_slice())
     /// }
     /// ```
     pub fn triplet_iter_mut(&mut self) -> CsrTripletIterMut<'_, T>

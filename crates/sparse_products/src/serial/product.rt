@@ -35,12 +35,10 @@ use std::alloc::{AllocError, Global};
 ///
 /// ```rust
 /// fn a_matrix_is_squared(alloc: Global) -> Result<bool, Fail> {
-///     let offsets = vec![in alloc; 0, 2, 3]?;
-///     let columns = vec![in alloc; 0, 1, 1]?;
-///     let values = vec![in alloc; W64::new(1), W64::new(2), W64::new(3)]?;
-///     let matrix = CsrMatrix::try_from_csr_data(2, 2, offsets, columns, values)?;
+///     let dense = DMatrix::from_row_slice(alloc, 2, 2, &[1, 2, 0, 3].map(W64::new))?;
+///     let matrix = convert_dense_csr(alloc, &dense)?;
 ///     let square = mul_csr(alloc, &matrix, &matrix)?;
-///     Ok(square.values() == [W64::new(1), W64::new(8), W64::new(9)].as_slice())
+///     Ok(square.values() == [1, 8, 9].map(W64::new).as_slice())
 /// }
 /// ```
 pub fn mul_csr<T: Ring>(

@@ -22,9 +22,10 @@ use std::alloc::Global;
 /// ```rust
 /// fn two_has_no_inverse(alloc: Global) -> Result<bool, Fail> {
 ///     let identity = CsrMatrix::<W64>::identity(alloc, 2)?;
-///     let refused = div_scalar_csr(alloc, &identity, W64::new(2)).err();
-///     let error = refused.ok_or("no error")?;
-///     Ok(*error.kind() == OperationErrorKind::Singular)
+///     match div_scalar_csr(alloc, &identity, W64::new(2)) {
+///         Ok(_) => Ok(false),
+///         Err(error) => Ok(*error.kind() == OperationErrorKind::Singular),
+///     }
 /// }
 /// ```
 pub fn div_scalar_csr<T: Units>(
