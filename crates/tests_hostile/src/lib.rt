@@ -1,4 +1,4 @@
-//! Tests of sizes at their ends.
+//! Tests of sizes at their ends, of hostile texts, and of failing writers.
 #![tactic(auto)]
 
 #[cfg(test)]
@@ -17,3 +17,7 @@ mod patterns;
 mod residues;
 #[cfg(test)]
 mod rows;
+#[cfg(test)]
+mod sinks;
+#[cfg(test)]
+mod texts;

@@ -1,6 +1,6 @@
 //! A scalar type of a user, whose values have no negatives.
 
-ghost use Rattle.tests_reading.specs.Label.{label_scalar};
+ghost use Rattle.tests_texts.specs.Label.{label_scalar};
 
 use sparse_io::{MatrixMarketError, MatrixMarketScalar};
 use std::alloc::AllocError;

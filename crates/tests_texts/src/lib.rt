@@ -1,4 +1,4 @@
-//! Tests of Matrix Market texts and files that are read, and of the scalar types of texts.
+//! Tests of Matrix Market texts and files that are read and written, of the scalar types of texts, and of byte sinks.
 #![tactic(auto)]
 
 #[cfg(test)]
@@ -7,6 +7,8 @@ mod errors;
 mod fields;
 #[cfg(test)]
 mod files;
+#[cfg(test)]
+mod forms;
 #[cfg(test)]
 mod hostile;
 #[cfg(test)]
@@ -19,3 +21,7 @@ mod reading;
 mod refusals;
 #[cfg(test)]
 mod scalars;
+#[cfg(test)]
+mod sinks;
+#[cfg(test)]
+mod writing;
