@@ -3,16 +3,11 @@
 use crate::made::{MOST, is_empty_or_large, is_made};
 use nalgebra_sparse::convert::serial::{convert_csc_coo, convert_csc_csr, convert_csc_dense};
 use nalgebra_sparse::scalar::W64;
-use nalgebra_sparse::{CscMatrix, SparseEntry, SparseFormatErrorKind};
+use nalgebra_sparse::{CscMatrix, SparseEntry, SparseFormatError, SparseFormatErrorKind};
 use std::alloc::Global;
 
 /// Numbers of columns and of rows of matrices without places.
 const EMPTY: [(usize, usize); 5] = [(0, 0), (0, MOST), (2, 0), (2, MOST), (0, 2)];
-
-// The zeros with this number of columns and of rows.
-fn zeros(alloc: Global, ncols: usize, nrows: usize) -> Option<CscMatrix<W64>> {
-    CscMatrix::zeros(alloc, nrows, ncols).ok()
-}
 
 // Whether the readers of a matrix without places find none.
 fn is_read(matrix: &CscMatrix<W64>) -> bool {
@@ -85,29 +80,41 @@ fn is_whole(alloc: Global, matrix: CscMatrix<W64>) -> bool {
         && is_moved(matrix, nrows, ncols)
 }
 
+// Whether all of these hold of the zeros with this number of columns and of rows.
+fn are_whole(alloc: Global, ncols: usize, nrows: usize) -> bool {
+    match CscMatrix::zeros(alloc, nrows, ncols) {
+        Ok(matrix) => is_whole(alloc, matrix),
+        Err(_) => false,
+    }
+}
+
 #[test]
 fn columns_without_places(rt: HostRuntime) {
     for &(ncols, nrows) in &EMPTY {
-        let made = zeros(rt.alloc(), ncols, nrows);
-        assert!(rt; made.is_some_and(|matrix| is_whole(rt.alloc(), matrix)));
+        assert!(rt; are_whole(rt.alloc(), ncols, nrows), "{ncols} by {nrows}");
     }
-    assert!(rt; zeros(rt.alloc(), MOST, 0).is_none());
+    assert!(rt; CscMatrix::<W64>::zeros(rt.alloc(), 0, MOST).is_err());
     assert!(rt; is_made(CscMatrix::<W64>::identity(rt.alloc(), 0), 0, 0, 0));
     assert!(rt; CscMatrix::<W64>::identity(rt.alloc(), MOST).is_err());
 }
 
-// The lane with places at both ends of its indices, from arrays that are sorted or not.
-fn both_ends(alloc: Global, is_sorted: bool) -> Option<CscMatrix<i32>> {
-    let offsets = vec![in alloc; 0, 2].ok()?;
-    let values = vec![in alloc; 7, 8].ok()?;
-    let (ncols, nrows) = (1, MOST);
-    if is_sorted {
-        let places = vec![in alloc; 0, MOST - 1].ok()?;
-        CscMatrix::try_from_csc_data(nrows, ncols, offsets, places, values).ok()
+// The matrix of these arrays, whose columns are sorted or need not be, or `None` where memory is refused.
+fn of_arrays(
+    alloc: Global,
+    (ncols, nrows): (usize, usize),
+    offsets: &[usize],
+    places: &[usize],
+    values: &[i32],
+    is_sorted: bool,
+) -> Option<Result<CscMatrix<i32>, SparseFormatError>> {
+    let offsets = Vec::from_slice(alloc, offsets).ok()?;
+    let places = Vec::from_slice(alloc, places).ok()?;
+    let values = Vec::from_slice(alloc, values).ok()?;
+    Some(if is_sorted {
+        CscMatrix::try_from_csc_data(nrows, ncols, offsets, places, values)
     } else {
-        let places = vec![in alloc; MOST - 1, 0].ok()?;
-        CscMatrix::try_from_unsorted_csc_data(alloc, nrows, ncols, offsets, places, values).ok()
-    }
+        CscMatrix::try_from_unsorted_csc_data(alloc, nrows, ncols, offsets, places, values)
+    })
 }
 
 // Whether the lane has these values, is copied and taken back from its data struct.
@@ -122,45 +129,58 @@ fn is_copied(alloc: Global, matrix: &CscMatrix<i32>, values: &[i32; 2]) -> bool 
         && matrix.transpose(alloc).is_err()
 }
 
-fn has_both_ends(alloc: Global, is_sorted: bool, values: &[i32; 2]) -> bool {
-    match both_ends(alloc, is_sorted) {
-        Some(matrix) => is_copied(alloc, &matrix, values),
-        None => false,
+// Whether the lane of these places, at both ends of its indices, has these values.
+fn has_both_ends(alloc: Global, places: &[usize; 2], is_sorted: bool, values: &[i32; 2]) -> bool {
+    match of_arrays(alloc, (1, MOST), &[0, 2], places, &[7, 8], is_sorted) {
+        Some(Ok(matrix)) => is_copied(alloc, &matrix, values),
+        _ => false,
     }
 }
 
 #[test]
 fn the_last_place_of_columns(rt: HostRuntime) {
-    assert!(rt; has_both_ends(rt.alloc(), true, &[7, 8]));
-    assert!(rt; has_both_ends(rt.alloc(), false, &[8, 7]));
+    assert!(rt; has_both_ends(rt.alloc(), &[0, MOST - 1], true, &[7, 8]));
+    assert!(rt; has_both_ends(rt.alloc(), &[MOST - 1, 0], false, &[8, 7]));
 }
 
 // The kind of the refusal of arrays without places.
 fn refusal(
     alloc: Global,
-    ncols: usize,
-    nrows: usize,
+    sizes: (usize, usize),
     offsets: &[usize],
     is_sorted: bool,
 ) -> Option<SparseFormatErrorKind> {
-    let offsets = Vec::from_slice(alloc, offsets).ok()?;
-    let (places, values): (Vec<usize>, Vec<i32>) = (Vec::new(alloc), Vec::new(alloc));
-    let made = if is_sorted {
-        CscMatrix::try_from_csc_data(nrows, ncols, offsets, places, values)
+    match of_arrays(alloc, sizes, offsets, &[], &[], is_sorted) {
+        Some(Err(error)) => Some(*error.kind()),
+        _ => None,
+    }
+}
+
+/// Numbers of columns and of rows, offsets, and whether they are refused.
+const OFFSETS: [(usize, usize, &[usize], bool); 4] = [
+    (MOST, 0, &[], true),
+    (MOST, 0, &[0], true),
+    (0, MOST, &[], true),
+    (0, MOST, &[0], false),
+];
+
+// Whether offsets are refused, or are not, by both constructors.
+fn are_answered(alloc: Global, sizes: (usize, usize), offsets: &[usize], refused: bool) -> bool {
+    let wanted = if refused {
+        Some(SparseFormatErrorKind::InvalidStructure)
     } else {
-        CscMatrix::try_from_unsorted_csc_data(alloc, nrows, ncols, offsets, places, values)
+        None
     };
-    let error = made.err()?;
-    Some(*error.kind())
+    refusal(alloc, sizes, offsets, true) == wanted
+        && refusal(alloc, sizes, offsets, false) == wanted
 }
 
 #[test]
 fn offsets_of_the_most_columns(rt: HostRuntime) {
-    let wrong = Some(SparseFormatErrorKind::InvalidStructure);
-    for &is_sorted in &[true, false] {
-        assert!(rt; refusal(rt.alloc(), MOST, 0, &[], is_sorted) == wrong);
-        assert!(rt; refusal(rt.alloc(), MOST, 0, &[0], is_sorted) == wrong);
-        assert!(rt; refusal(rt.alloc(), 0, MOST, &[], is_sorted) == wrong);
-        assert!(rt; refusal(rt.alloc(), 0, MOST, &[0], is_sorted).is_none());
+    for &(ncols, nrows, offsets, refused) in &OFFSETS {
+        assert!(rt;
+            are_answered(rt.alloc(), (ncols, nrows), offsets, refused),
+            "{ncols} {nrows} {offsets:?}"
+        );
     }
 }

@@ -121,26 +121,41 @@ fn the_last_place_of_a_list(rt: HostRuntime) {
 // The kind of the refusal of one triplet.
 fn refusal(
     alloc: Global,
-    nrows: usize,
-    ncols: usize,
+    (nrows, ncols): (usize, usize),
     row: usize,
     col: usize,
 ) -> Option<SparseFormatErrorKind> {
-    let rows = vec![in alloc; row].ok()?;
-    let cols = vec![in alloc; col].ok()?;
-    let values = vec![in alloc; 5].ok()?;
-    let error = CooMatrix::try_from_triplets(nrows, ncols, rows, cols, values).err()?;
-    Some(*error.kind())
+    let rows = Vec::from_slice(alloc, &[row]).ok()?;
+    let cols = Vec::from_slice(alloc, &[col]).ok()?;
+    let values = Vec::from_slice(alloc, &[5]).ok()?;
+    match CooMatrix::try_from_triplets(nrows, ncols, rows, cols, values) {
+        Ok(_) => None,
+        Err(error) => Some(*error.kind()),
+    }
+}
+
+/// Shapes, and places outside them.
+const OUTSIDE: [((usize, usize), usize, usize); 4] = [
+    ((MOST, MOST), MOST, 0),
+    ((MOST, MOST), 0, MOST),
+    ((0, MOST), 0, 0),
+    ((MOST, 0), MOST - 1, 0),
+];
+
+// Whether a triplet outside the shape is refused so.
+fn is_outside(alloc: Global, sizes: (usize, usize), row: usize, col: usize) -> bool {
+    refusal(alloc, sizes, row, col) == Some(SparseFormatErrorKind::IndexOutOfBounds)
 }
 
 #[test]
 fn triplets_past_the_greatest_sizes(rt: HostRuntime) {
-    let outside = Some(SparseFormatErrorKind::IndexOutOfBounds);
-    assert!(rt; refusal(rt.alloc(), MOST, MOST, MOST, 0) == outside);
-    assert!(rt; refusal(rt.alloc(), MOST, MOST, 0, MOST) == outside);
-    assert!(rt; refusal(rt.alloc(), 0, MOST, 0, 0) == outside);
-    assert!(rt; refusal(rt.alloc(), MOST, 0, MOST - 1, 0) == outside);
-    assert!(rt; refusal(rt.alloc(), MOST, MOST, MOST - 1, MOST - 1).is_none());
+    for &(sizes, row, col) in &OUTSIDE {
+        assert!(rt;
+            is_outside(rt.alloc(), sizes, row, col),
+            "{row} {col} in {sizes:?}"
+        );
+    }
+    assert!(rt; refusal(rt.alloc(), (MOST, MOST), MOST - 1, MOST - 1).is_none());
 }
 
 // Whether the list with a triplet in its last row is refused by rows alone.

@@ -67,7 +67,10 @@ fn patterns_without_places(rt: HostRuntime) {
 
 // Whether the pattern with its only place at the greatest index is taken and read.
 fn has_last_place(alloc: Global) -> bool {
-    match (vec![in alloc; 0, 1], vec![in alloc; MOST - 1]) {
+    match (
+        Vec::from_slice(alloc, &[0, 1]),
+        Vec::from_slice(alloc, &[MOST - 1]),
+    ) {
         (Ok(offsets), Ok(indices)) => is_last_place_of(
             SparsityPattern::try_from_offsets_and_indices(1, MOST, offsets, indices).ok(),
         ),

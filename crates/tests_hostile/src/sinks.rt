@@ -3,7 +3,7 @@
 use nalgebra_sparse::CooMatrix;
 use nalgebra_sparse::expr::{Expr, ExprError, Form, run};
 use nalgebra_sparse::io::MatrixMarketErrorKind::IOError;
-use nalgebra_sparse::io::{MatrixMarketErrorKind, Out, Sink, save_to_matrix_market};
+use nalgebra_sparse::io::{MatrixMarketErrorKind, Out, save_to_matrix_market};
 use nalgebra_sparse::scalar::W64;
 use std::alloc::{AllocError, Global};
 use std::io::ErrorKind::{
@@ -237,15 +237,6 @@ fn ends_everywhere(alloc: Global, it: &Written, fault: Option<ErrorKind>, kind: 
         }
     }
     true
-}
-
-// Whether one write of this many bytes answers the kind that the writer below fails with.
-fn write_fails(alloc: Global, kind: ErrorKind, count: usize) -> bool {
-    let mut out = Out::new(Failing::new(usize::MAX, 0, (Some(kind), None)));
-    match vec![in alloc; b'x'; count] {
-        Ok(bytes) => out.write(&bytes) == Err(kind),
-        Err(_) => false,
-    }
 }
 
 #[test]

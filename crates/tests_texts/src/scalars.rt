@@ -6,7 +6,9 @@ use crate::reading::refusal;
 use sparse_algebra::scalar::{W32, W64, W128};
 use sparse_base::coo::CooMatrix;
 use sparse_io::MatrixMarketErrorKind::{DiagonalError, InvalidHeader, ParsingError, TypeMismatch};
-use sparse_io::{MatrixMarketError, MatrixMarketScalar, save_to_matrix_market_str};
+use sparse_io::{
+    MatrixMarketError, MatrixMarketErrorKind, MatrixMarketScalar, save_to_matrix_market_str,
+};
 use std::alloc::{AllocError, Global};
 
 const START: &str = "%%MatrixMarket matrix ";
@@ -31,6 +33,15 @@ fn takes_the_values_of_each_type(rt: HostRuntime) {
     assert!(rt; values_are_taken(rt.alloc()));
 }
 
+// Whether a text is refused with this kind as values of a type, or is not.
+fn answers<T: MatrixMarketScalar>(
+    alloc: Global,
+    below: &str,
+    kind: Option<MatrixMarketErrorKind>,
+) -> bool {
+    refusal::<T>(alloc, START, below) == kind
+}
+
 // Whether each type refuses the values of others.
 fn values_are_refused(alloc: Global) -> bool {
     let wide = "coordinate integer general\n1 1 1\n1 1 170141183460469231731687303715884105727";
@@ -39,14 +50,14 @@ fn values_are_refused(alloc: Global) -> bool {
     let five = "coordinate integer general\n1 1 1\n1 1 5";
     let least = "coordinate integer skew-symmetric\n2 2 1\n2 1 -128";
     let dense = "array pattern general\n1 1\n1";
-    refusal::<W64>(alloc, START, wide) == Some(TypeMismatch)
-        && refusal::<i128>(alloc, START, wider) == Some(ParsingError)
-        && refusal::<i8>(alloc, START, small) == Some(TypeMismatch)
-        && refusal::<i16>(alloc, START, small) == None
-        && refusal::<i8>(alloc, START, least) == Some(TypeMismatch)
-        && refusal::<()>(alloc, START, small) == Some(TypeMismatch)
-        && refusal::<()>(alloc, START, five) == Some(TypeMismatch)
-        && refusal::<()>(alloc, START, dense) == Some(InvalidHeader)
+    answers::<W64>(alloc, wide, Some(TypeMismatch))
+        && answers::<i128>(alloc, wider, Some(ParsingError))
+        && answers::<i8>(alloc, small, Some(TypeMismatch))
+        && answers::<i16>(alloc, small, None)
+        && answers::<i8>(alloc, least, Some(TypeMismatch))
+        && answers::<()>(alloc, small, Some(TypeMismatch))
+        && answers::<()>(alloc, five, Some(TypeMismatch))
+        && answers::<()>(alloc, dense, Some(InvalidHeader))
 }
 
 #[test]
@@ -59,10 +70,10 @@ fn the_diagonal_comes_before_the_negative(alloc: Global) -> bool {
     let diagonal = "coordinate integer skew-symmetric\n1 1 1\n1 1 5";
     let least = "coordinate integer skew-symmetric\n1 1 1\n1 1 -128";
     let below = "coordinate integer skew-symmetric\n2 2 1\n2 1 5";
-    refusal::<Label>(alloc, START, diagonal) == Some(DiagonalError)
-        && refusal::<i8>(alloc, START, least) == Some(DiagonalError)
-        && refusal::<()>(alloc, START, diagonal) == Some(TypeMismatch)
-        && refusal::<Label>(alloc, START, below) == Some(TypeMismatch)
+    answers::<Label>(alloc, diagonal, Some(DiagonalError))
+        && answers::<i8>(alloc, least, Some(DiagonalError))
+        && answers::<()>(alloc, diagonal, Some(TypeMismatch))
+        && answers::<Label>(alloc, below, Some(TypeMismatch))
 }
 
 #[test]
@@ -70,37 +81,32 @@ fn refuses_skew_entries_without_a_negative(rt: HostRuntime) {
     assert!(rt; the_diagonal_comes_before_the_negative(rt.alloc()));
 }
 
-/// The text of an error, or that there is none.
-fn message<T>(answer: Result<T, MatrixMarketError>) -> &'static str
-where
-    T: Copy,
-{
+const NO_CONJUGATE: &str = "Int type has no conjugate";
+
+const TOO_LARGE: &str = "Please consider using a larger integer type.";
+
+/// Whether a value is refused by an error of this text.
+fn says<T: Copy>(answer: Result<T, MatrixMarketError>, text: &str) -> bool {
     match answer {
-        Ok(_) => "no refusal",
-        Err(error) => match error.message() {
-            "Pattern type can't be parsed from i128" => "integer",
-            "Pattern type has no negative" => "negative",
-            "Pattern type has no conjugate" => "conjugate of a pattern",
-            "Int type has no conjugate" => "conjugate",
-            "Int type can't be parsed from ()" => "pattern",
-            "Please consider using a larger integer type." => "range",
-            _ => "another text",
-        },
+        Ok(_) => false,
+        Err(error) => error.message() == text,
     }
 }
 
 // Whether each refused value has its reason.
 fn reasons_are_told() -> bool {
-    message(<() as MatrixMarketScalar>::from_i128(1)) == "integer"
-        && message(().negative()) == "negative"
-        && message(().conjugate()) == "conjugate of a pattern"
-        && message(1i32.conjugate()) == "conjugate"
-        && message(i64::MIN.negative()) == "range"
+    let number = <() as MatrixMarketScalar>::from_i128(1);
+    says(number, "Pattern type can't be parsed from i128")
+        && says(().negative(), "Pattern type has no negative")
+        && says(().conjugate(), "Pattern type has no conjugate")
+        && says(1i32.conjugate(), NO_CONJUGATE)
+        && says(i64::MIN.negative(), TOO_LARGE)
 }
 
 // Whether the type of an integer says why it refuses pattern entries and conjugates.
 fn is_integer<T: MatrixMarketScalar>(value: T) -> bool {
-    message(T::from_pattern(())) == "pattern" && message(value.conjugate()) == "conjugate"
+    says(T::from_pattern(()), "Int type can't be parsed from ()")
+        && says(value.conjugate(), NO_CONJUGATE)
 }
 
 // Whether each integer type says so.
@@ -117,15 +123,10 @@ fn integers_tell_reasons() -> bool {
 
 // Whether a type of fewer than 128 bits says why it refuses a number beyond its own.
 fn is_narrow<T: MatrixMarketScalar>() -> bool {
-    message(T::from_i128(i128::MAX)) == "range" && message(T::from_i128(i128::MIN)) == "range"
+    says(T::from_i128(i128::MAX), TOO_LARGE) && says(T::from_i128(i128::MIN), TOO_LARGE)
 }
 
-// Whether a value says that it has no negative.
-fn has_no_negative<T: MatrixMarketScalar>(least: T) -> bool {
-    message(least.negative()) == "range"
-}
-
-// Whether each type says so of the values that it does not have.
+// Whether each type says so of the numbers that it does not have.
 fn ranges_are_told() -> bool {
     is_narrow::<i8>()
         && is_narrow::<i16>()
@@ -133,17 +134,20 @@ fn ranges_are_told() -> bool {
         && is_narrow::<i64>()
         && is_narrow::<W32>()
         && is_narrow::<W64>()
-        && has_no_negative(i8::MIN)
-        && has_no_negative(i16::MIN)
-        && has_no_negative(i32::MIN)
-        && has_no_negative(i128::MIN)
+}
+
+// Whether the least value of each type says that it has no negative.
+fn negatives_are_told() -> bool {
+    says(i8::MIN.negative(), TOO_LARGE)
+        && says(i16::MIN.negative(), TOO_LARGE)
+        && says(i32::MIN.negative(), TOO_LARGE)
+        && says(i128::MIN.negative(), TOO_LARGE)
 }
 
 #[test]
 fn tells_why_a_value_is_refused(rt: HostRuntime) {
-    assert!(rt; reasons_are_told());
-    assert!(rt; integers_tell_reasons());
-    assert!(rt; ranges_are_told());
+    assert!(rt; reasons_are_told() && integers_tell_reasons());
+    assert!(rt; ranges_are_told() && negatives_are_told());
 }
 
 /// The text of the list of one triplet.
