@@ -1,6 +1,6 @@
 //! What `mtxkit info` answers.
 
-use crate::cases::{Case, EMPTY_REAL, LONG_ROW, PATTERN, SYMMETRIC, WIDE};
+use crate::mtxkit::cases::{Case, EMPTY_REAL, LONG_ROW, PATTERN, SYMMETRIC, WIDE};
 
 /// What `mtxkit info` answers to a text on standard input.
 pub const INFO_CASES: &[Case] = &[

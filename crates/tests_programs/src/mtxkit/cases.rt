@@ -141,3 +141,31 @@ pub const CASES: &[Case] = &[
 2 1 \n",
     ),
 ];
+
+/// The words, the lines of an oblong matrix, and the heading, the number of lines between the first and the last, and
+/// these three lines of its picture.
+pub type Oblong = (
+    &'static [&'static str],
+    &'static str,
+    &'static str,
+    usize,
+    [&'static str; 3],
+);
+
+/// Pictures of oblong matrices.
+pub const OBLONG: &[Oblong] = &[
+    (
+        &["spy", "-"],
+        "2048 8 2\n1 1 5\n2048 8 5\n",
+        "P1\n2 512\n",
+        510,
+        ["10\n", "00\n", "01\n"],
+    ),
+    (
+        &["spy", "--text", "-"],
+        "256 8 2\n1 1 5\n256 8 5\n",
+        "",
+        30,
+        ["▀ \n", "  \n", " ▄\n"],
+    ),
+];

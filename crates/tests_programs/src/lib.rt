@@ -1,0 +1,9 @@
+//! Tests of the commands of `mtx` and of `mtxkit`: what they write, and the status that they answer.
+#![tactic(auto)]
+
+#[cfg(test)]
+mod files;
+#[cfg(test)]
+mod mtx;
+#[cfg(test)]
+mod mtxkit;
