@@ -10,22 +10,22 @@ use Rattle.std.proofs.lemmas.List.Elements.{All-head, All-tail}
 use Rattle.sparse_algebra.specs.Numbers.{w64_number}
 use Rattle.sparse_algebra.specs.Plain.{Plain, is_at}
 use Rattle.sparse_algebra.specs.Sums.{sum_by, where_true}
-use Rattle.sparse_algebra.specs.Whole.{whole_ring, number_of}
+use Rattle.sparse_algebra.specs.Whole.{whole_ring, number_of, wrapped}
 use Rattle.sparse_algebra.specs.Wrapping.{fits_zero}
 use Rattle.sparse_algebra.specs.WrappingValues.{w128_number}
 use Rattle.sparse_algebra.specs.declared.scalar.wide.W128.{W128}
 use Rattle.sparse_algebra.specs.declared.scalar.wrapping.W64.{W64}
 use Rattle.sparse_algebra.proofs.PlainLaws.{proper_plain_of_triplets}
-use Rattle.sparse_algebra.proofs.WholeNumbers.{number_of-class}
+use Rattle.sparse_algebra.proofs.WholeNumbers.{number_of-class, number_of-wrapped}
 use Rattle.sparse_base.specs.Coo.{Coo}
-use Rattle.sparse_base.specs.CooPlain.{plain_of_coo}
 use Rattle.sparse_cs.specs.Compressed.{Compressed, IsSound, IsPosition}
 use Rattle.sparse_cs.specs.PlainOfLanes.{plain_of_rows}
 use Rattle.sparse_cs.proofs.Arrays.{position_within}
 use Rattle.sparse_cs.proofs.Standing.{rows_have, rows_are}
 use Rattle.sparse_pattern.proofs.Positions.{lane_of_position}
 use Rattle.sparse_pattern.specs.Raw.{IsPlace}
-use Rattle.mtxkit_texts.specs.Loaded.{HasSums, IsNarrow, ring128, value128}
+use Rattle.mtxkit_texts.specs.Loaded.{HasSums, HasFittingSums, IsNarrow, ring128, value128}
+use Rattle.mtxkit_texts.specs.Loaded.{sums_of}
 
 -- ---- the sum of n integers of 64 bits
 
@@ -65,25 +65,33 @@ between-sums i j (t ∷ ts) fit =
 
 pub narrow-fits : (list : Coo ℤ) → length list.triplets < 2 ^ 64
     → All (FitsSigned w64) (map (λ t. t.2) list.triplets) → (i j : ℕ)
-    → FitsSigned w128 ((plain_of_coo whole_ring (λ z. z) list).value i j)
+    → FitsSigned w128 ((sums_of list).value i j)
 narrow-fits list few fit i j =
     fits-between (length list.triplets * 2 ^ 63) (omega (arith, few)) _
     (between-sums i j list.triplets fit)
 
--- ---- a matrix of sums that fit
+-- ---- a matrix of sums
+
+-- the number at a position is that of the class of the sum of the integers of its place
+pub class-at : (list : Coo ℤ) (m : Compressed W128) → IsSound m → HasSums list m → (i j p : ℕ)
+    (z : W128) → IsPosition m.pattern i j p
+    → w128_number (slice_index_or m.values p z)
+    ≡ number_of w128 (wrapped w128 ((sums_of list).value i j))
+class-at list m sound sums i j p z at =
+    let v : W128 = slice_index_or m.values p z in
+    sym (number_of-class w128 (w128_number v) v.in_range)
+    ∙ ap (number_of w128) ((rows_have ring128 value128 m sound).values i j p z at)
+    ∙ ap (λ (a : Plain ring128). number_of w128 (a.value i j)) sums
+
+-- ---- sums that fit
 
 module _ (list : Coo ℤ) (m : Compressed W128) (sound : IsSound m) (sums : HasSums list m)
-    (fits : (i j : ℕ) → FitsSigned w128 ((plain_of_coo whole_ring (λ z. z) list).value i j)) where
+    (fits : HasFittingSums list) where
   -- the number at a position is the sum of the integers of its place
-  number-at : (i j p : ℕ) (z : W128) → IsPosition m.pattern i j p
-      → w128_number (slice_index_or m.values p z)
-      ≡ (plain_of_coo whole_ring (λ z. z) list).value i j
+  pub number-at : (i j p : ℕ) (z : W128) → IsPosition m.pattern i j p
+      → w128_number (slice_index_or m.values p z) ≡ (sums_of list).value i j
   number-at i j p z at =
-      let v : W128 = slice_index_or m.values p z in
-      sym (number_of-class w128 (w128_number v) v.in_range)
-      ∙ ap (number_of w128) ((rows_have ring128 value128 m sound).values i j p z at)
-      ∙ ap (λ (a : Plain ring128). number_of w128 (a.value i j)) sums.plain
-      ∙ sums.exact i j (fits i j)
+      class-at list m sound sums i j p z at ∙ number_of-wrapped w128 _ (fits i j)
 
   -- where the sums fit in 64 bits, so do all values
   pub values-narrow : IsNarrow list → All (λ v. FitsSigned w64 (w128_number v)) m.values
@@ -104,19 +112,19 @@ module _ (list : Coo ℤ) (m : Compressed W128) (sound : IsSound m) (sums : HasS
         ∙ ap (λ zs. slice_index_or zs p (pos 0)) same
         ∙ get_or-map w128_number m.values p y (pos 0) (omega (arith, lt, long))
 
-    number-sums : plain_of_rows whole_ring number n ≡ plain_of_coo whole_ring (λ z. z) list
+    number-sums : plain_of_rows whole_ring number n ≡ sums_of list
     number-sums =
         let have = rows_have ring128 value128 m sound in
-        let rows = ap (λ (a : Plain ring128). a.rows) sums.plain in
-        let cols = ap (λ (a : Plain ring128). a.cols) sums.plain in
+        let rows = ap (λ (a : Plain ring128). a.rows) sums in
+        let cols = ap (λ (a : Plain ring128). a.cols) sums in
         let zero128 : W128 = record { number = pos 0; in_range = fits_zero w128 } in
-        rows_are whole_ring number n sound_n z (plain_of_coo whole_ring (λ z. z) list)
+        rows_are whole_ring number n sound_n z (sums_of list)
         (record {
           rows = ap (λ p. p.major_dim) pattern ∙ rows;
           cols = ap (λ p. p.minor_dim) pattern ∙ cols;
           places = λ i j.
               let h = have.places i j in
-              let has = ap (λ (a : Plain ring128). a.has i j) sums.plain in (
+              let has = ap (λ (a : Plain ring128). a.has i j) sums in (
                 λ place. sym has ∙ h.0 (subst (λ d. IsPlace d i j) pattern place),
                 λ e. subst (λ d. IsPlace d i j) (sym pattern) (h.1 (has ∙ e)),
               );
@@ -125,7 +133,7 @@ module _ (list : Coo ℤ) (m : Compressed W128) (sound : IsSound m) (sums : HasS
               number-same p t zero128 (omega (arith, within, sound_n.count))
               ∙ number-at i j p zero128 (subst (λ d. IsPosition d i j p) pattern at);
           within = λ i j e.
-              let has = ap (λ (a : Plain ring128). a.has i j) sums.plain in
+              let has = ap (λ (a : Plain ring128). a.has i j) sums in
               let in_rows = have.within i j (has ∙ e) in
               (omega (arith, in_rows.0, rows), omega (arith, in_rows.1, cols));
           proper = proper_plain_of_triplets whole_ring (λ z. z) list.nrows list.ncols list.triplets;
@@ -133,12 +141,12 @@ module _ (list : Coo ℤ) (m : Compressed W128) (sound : IsSound m) (sums : HasS
 
   pub exact-sums : (n : Compressed W64) → IsSound n → n.pattern ≡ m.pattern
       → map w64_number n.values ≡ map w128_number m.values
-      → plain_of_rows whole_ring w64_number n ≡ plain_of_coo whole_ring (λ z. z) list
+      → plain_of_rows whole_ring w64_number n ≡ sums_of list
   exact-sums n sound_n pattern same =
       let zero64 : W64 = record { number = pos 0; in_range = fits_zero w64 } in
       number-sums w64_number zero64 n sound_n pattern same
 
-  pub exact-wide : plain_of_rows whole_ring w128_number m ≡ plain_of_coo whole_ring (λ z. z) list
+  pub exact-wide : plain_of_rows whole_ring w128_number m ≡ sums_of list
   exact-wide =
       let zero128 : W128 = record { number = pos 0; in_range = fits_zero w128 } in
       number-sums w128_number zero128 m sound refl refl

@@ -1,5 +1,7 @@
 mod ExactSums
 mod Heads
+mod HighSums
 mod ListedPlaces
 pub mod Revalued
+mod SumRoom
 mod WideLists

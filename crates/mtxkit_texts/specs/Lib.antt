@@ -2,6 +2,7 @@ pub mod FactLines
 pub mod Facts
 pub mod Faults
 pub mod Headers
+pub mod HighParts
 pub mod Loaded
 pub mod Lower
 pub mod Places

@@ -4,7 +4,8 @@ use Rattle.std.specs.Int.{w64, w128}
 use Rattle.std.specs.Int.RustNames.{FitsSigned}
 use Rattle.sparse_algebra.specs.Algebra.{CommRing}
 use Rattle.sparse_algebra.specs.Numbers.{w64_number}
-use Rattle.sparse_algebra.specs.Whole.{whole_ring, Shows}
+use Rattle.sparse_algebra.specs.Plain.{Plain}
+use Rattle.sparse_algebra.specs.Whole.{whole_ring, plain_wrapped}
 use Rattle.sparse_algebra.specs.Wrapping.{wrapping_ring, class_of}
 use Rattle.sparse_algebra.specs.WrappingValues.{w128_number}
 use Rattle.sparse_algebra.specs.declared.scalar.wide.W128.{W128}
@@ -42,47 +43,42 @@ value128 x = class_of w128 (w128_number x)
 abbrev pub MeansIntegers : List ℕ → Coo ℤ → Type 0
 MeansIntegers text list = Means (signed_scalar w128) text (Ok list)
 
--- the matrix by rows has the sums of the integers of each place: modulo 2 ^ 128, and exactly
--- wherever a sum fits in 128 bits
-pub record HasSums (list : Coo ℤ) (m : Compressed W128) : Type 0 where
-  pub plain : plain_of_rows ring128 value128 m ≡ plain_of_coo ring128 (class_of w128) list
-  pub exact : Shows w128 (plain_of_coo ring128 (class_of w128) list)
-      (plain_of_coo whole_ring (λ z. z) list)
+-- the sums of the integers of each place
+abbrev pub sums_of : Coo ℤ → Plain whole_ring
+sums_of list = plain_of_coo whole_ring (λ z. z) list
 
--- the matrix by rows has the sums over the integers, or has as many places as the list has integers
-abbrev pub IsExact : Coo ℤ → Compressed W128 → Type 0
-IsExact list m =
-    (plain_of_rows whole_ring w128_number m ≡ plain_of_coo whole_ring (λ z. z) list)
-    ⊎ (length list.triplets ≡ length m.pattern.indices)
+-- the matrix by rows has these sums, modulo 2 ^ 128
+abbrev pub HasSums : Coo ℤ → Compressed W128 → Type 0
+HasSums list m = plain_of_rows ring128 value128 m ≡ plain_wrapped w128 (sums_of list)
 
--- an integer does not fit in 64 bits, and some place is named twice
-pub record IsRepeatedWide (list : Coo ℤ) : Type 0 where
-  pub m : Compressed W128
-  pub sums : HasSums list m
-  pub repeated : length list.triplets ≡ length m.pattern.indices → ⊥
-  pub wide : All (FitsSigned w64) (map (λ t. t.2) list.triplets) → ⊥
+-- the matrix by rows has these sums
+abbrev pub HasExactSums : Coo ℤ → Compressed W128 → Type 0
+HasExactSums list m = plain_of_rows whole_ring w128_number m ≡ sums_of list
+
+-- each of these sums fits in 128 bits
+abbrev pub HasFittingSums : Coo ℤ → Type 0
+HasFittingSums list = (i j : ℕ) → FitsSigned w128 ((sums_of list).value i j)
 
 -- the integers, and the sums of those of each place, fit in 64 bits
 pub record IsNarrow (list : Coo ℤ) : Type 0 where
   pub entries : All (FitsSigned w64) (map (λ t. t.2) list.triplets)
-  pub sums : (i j : ℕ) → FitsSigned w64 ((plain_of_coo whole_ring (λ z. z) list).value i j)
+  pub sums : (i j : ℕ) → FitsSigned w64 ((sums_of list).value i j)
 
 -- ---- matrices
 
--- the text means a list of `entries` integers, and the matrix by rows has their sums
+-- the text means a list of `entries` integers, and the matrix by rows has their sums modulo 2 ^ 128
 pub record MeansSums (text : List ℕ) (entries : ℕ) (m : Compressed W128) : Type 0 where
   pub list : Coo ℤ
   pub counted : entries ≡ length list.triplets
   pub means : MeansIntegers text list
   pub sums : HasSums list m
 
--- the same with exact sums: those over the integers, or no place is named twice
+-- the same with the sums themselves
 pub record MeansWholeSums (text : List ℕ) (entries : ℕ) (m : Compressed W128) : Type 0 where
   pub list : Coo ℤ
   pub counted : entries ≡ length list.triplets
   pub means : MeansIntegers text list
-  pub sums : HasSums list m
-  pub exact : IsExact list m
+  pub sums : HasExactSums list m
 
 -- the text means a list of `entries` places, and the matrix by rows has one at each of them
 pub record MeansOnes {T : Type 0} (R : CommRing) (f : T → R.Carrier) (text : List ℕ) (entries : ℕ)
@@ -113,7 +109,7 @@ MeansWhole text entries m = MeansWholeBy (is_pattern (header_in text)) text entr
 pub record MeansExactSums (text : List ℕ) (m : Compressed W64) : Type 0 where
   pub list : Coo ℤ
   pub means : MeansIntegers text list
-  pub sums : plain_of_rows whole_ring w64_number m ≡ plain_of_coo whole_ring (λ z. z) list
+  pub sums : plain_of_rows whole_ring w64_number m ≡ sums_of list
 
 -- the same, or one at each place of a pattern
 abbrev pub MeansValuesBy : Bool → List ℕ → Compressed W64 → Type 0
@@ -148,11 +144,11 @@ pub record IsWide (number : ℕ) (text : List ℕ) (failure : Failure) : Type 0 
   pub wide : IsNarrow list → ⊥
   pub is : failure ≡ Wide number
 
--- a sum of the text with this number may leave 128 bits
+-- the sum of the integers of some place of the text with this number does not fit in 128 bits
 pub record IsOverflow (number : ℕ) (text : List ℕ) (failure : Failure) : Type 0 where
   pub list : Coo ℤ
   pub means : MeansIntegers text list
-  pub repeated : IsRepeatedWide list
+  pub left : HasFittingSums list → ⊥
   pub is : failure ≡ Wide number
 
 -- why the text with this number is not loaded: an allocation failed, or the text means an error
@@ -164,7 +160,7 @@ abbrev pub IsValuesFailure : ℕ → List ℕ → Failure → Type 0
 IsValuesFailure number text failure =
     (failure ≡ OutOfMemory) ⊎ (IsMisread number text failure ⊎ IsWide number text failure)
 
--- why its exact sums are not: the same as for a text, or one may leave 128 bits
+-- why its exact sums are not: the same as for a text, or one does not fit in 128 bits
 abbrev pub IsWholeFailure : ℕ → List ℕ → Failure → Type 0
 IsWholeFailure number text failure =
     (failure ≡ OutOfMemory) ⊎ (IsMisread number text failure ⊎ IsOverflow number text failure)

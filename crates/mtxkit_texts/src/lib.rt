@@ -1,6 +1,7 @@
 //! Matrices of texts: read, described, shown as pictures, and written again, for the program `mtxkit`.
 #![tactic(auto)]
 
+mod exact;
 mod fact_lines;
 mod failure;
 mod field;

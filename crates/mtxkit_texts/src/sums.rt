@@ -28,7 +28,7 @@ pub fn wide_sums(alloc: Global, list: &CooMatrix<i128>) -> Result<CsrMatrix<W128
 }
 
 // Returns the class of each integer.
-fn wide_values(alloc: Global, integers: &[i128]) -> Result<Vec<W128>, AllocError>
+pub(crate) fn wide_values(alloc: Global, integers: &[i128]) -> Result<Vec<W128>, AllocError>
     ensures { IfOk result (λ values. map w128_number values.items ≡ integers.now) }
 {
     let mut values = Vec::with_capacity(alloc, integers.len())?;

@@ -6,10 +6,9 @@ ghost use Rattle.std.specs.Int.RustNames.{FitsSigned};
 ghost use Rattle.sparse_algebra.specs.Numbers.{w64_number};
 ghost use Rattle.sparse_algebra.specs.Whole.{whole_ring};
 ghost use Rattle.sparse_algebra.specs.WrappingValues.{w128_number};
-ghost use Rattle.sparse_base.specs.CooPlain.{plain_of_coo};
 ghost use Rattle.sparse_cs.specs.Compressed.{IsSound};
 ghost use Rattle.sparse_cs.specs.PlainOfLanes.{plain_of_rows};
-ghost use Rattle.mtxkit_texts.specs.Loaded.{IsNarrow, IsValuesFailure, MeansValues};
+ghost use Rattle.mtxkit_texts.specs.Loaded.{IsNarrow, IsValuesFailure, MeansValues, sums_of};
 ghost use Rattle.mtxkit_texts.specs.declared.failure.Failure.TheVariants.{OutOfMemory, Wide};
 
 use crate::failure::Failure;
@@ -49,7 +48,7 @@ fn narrow_sums(
     list: &CooMatrix<i128>,
 ) -> Result<CsrMatrix<W64>, Failure>
     ensures sums { IfOk result (λ m. plain_of_rows whole_ring w64_number m
-        ≡ plain_of_coo whole_ring (λ z. z) list.now) }
+        ≡ sums_of list.now) }
     ensures sound { IfOk result IsSound }
     ensures refused { IfErr result
         (λ e. (e ≡ OutOfMemory) ⊎ ((e ≡ Wide number) × (IsNarrow list.now → ⊥))) }
@@ -66,7 +65,7 @@ fn narrowed(alloc: Global, number: usize, list: &CooMatrix<i128>) -> Result<CsrM
     requires narrow { All (FitsSigned w64) (map (λ t. t.2) list.now.triplets) }
     requires few { length list.now.triplets < 2 ^ 64 }
     ensures sums { IfOk result (λ m. plain_of_rows whole_ring w64_number m
-        ≡ plain_of_coo whole_ring (λ z. z) list.now) }
+        ≡ sums_of list.now) }
     ensures sound { IfOk result IsSound }
     ensures refused { IfErr result
         (λ e. (e ≡ OutOfMemory) ⊎ ((e ≡ Wide number) × (IsNarrow list.now → ⊥))) }

@@ -2,13 +2,14 @@
 
 ghost use Rattle.std.specs.Prelude.{◌≡◌, ◌⊎◌, IfOk, IfErr, length};
 ghost use Rattle.sparse_cs.specs.Compressed.{IsSound};
-ghost use Rattle.mtxkit_texts.specs.Loaded.{HasSums, IsExact, IsRepeatedWide, IsWholeFailure};
+ghost use Rattle.mtxkit_texts.specs.Loaded.{HasExactSums, HasFittingSums, IsWholeFailure};
 ghost use Rattle.mtxkit_texts.specs.Loaded.{MeansWhole};
 ghost use Rattle.mtxkit_texts.specs.declared.failure.Failure.TheVariants.{OutOfMemory, Wide};
 
+use crate::exact::sums_fit;
 use crate::failure::Failure;
 use crate::loaded::{Loaded, load_places, names_pattern, read_integers};
-use crate::sums::{are_narrow, wide_sums};
+use crate::sums::wide_sums;
 use sparse_base::coo::CooMatrix;
 use std::alloc::Global;
 
@@ -16,8 +17,8 @@ use std::alloc::Global;
 ///
 /// # Errors
 ///
-/// Returns the errors of [`load`](crate::load), and `Wide` if an integer does not fit in 64 bits and some place is named
-/// twice: a sum may leave 128 bits.
+/// Returns the errors of [`load`](crate::load), and `Wide` if the sum of the integers of some place does not fit in 128
+/// bits.
 pub fn load_whole(alloc: Global, number: usize, text: &str) -> Result<Loaded, Failure>
     ensures meant { IfOk result (λ l. MeansWhole text.now l.entries l.matrix) }
     ensures sound { IfOk result (λ l. IsSound l.matrix) }
@@ -31,21 +32,17 @@ pub fn load_whole(alloc: Global, number: usize, text: &str) -> Result<Loaded, Fa
     }
 }
 
-// Adds the integers of each place, if no sum can leave 128 bits.
+// Adds the integers of each place.
 fn whole_sums(alloc: Global, number: usize, list: &CooMatrix<i128>) -> Result<Loaded, Failure>
     ensures counted { IfOk result (λ l. l.entries ≡ length list.now.triplets) }
-    ensures sums { IfOk result (λ l. HasSums list.now l.matrix) }
-    ensures exact { IfOk result (λ l. IsExact list.now l.matrix) }
+    ensures sums { IfOk result (λ l. HasExactSums list.now l.matrix) }
     ensures sound { IfOk result (λ l. IsSound l.matrix) }
     ensures refused { IfErr result
-        (λ e. (e ≡ OutOfMemory) ⊎ ((e ≡ Wide number) × IsRepeatedWide list.now)) }
+        (λ e. (e ≡ OutOfMemory) ⊎ ((e ≡ Wide number) × (HasFittingSums list.now → ⊥))) }
 {
     let matrix = wide_sums(alloc, list)?;
-    let entries = list.nnz();
-    if entries == matrix.nnz() {
-        return Ok(Loaded { entries, matrix });
-    }
-    if are_narrow(list.values()) {
+    if sums_fit(alloc, list, &matrix)? {
+        let entries = list.nnz();
         Ok(Loaded { entries, matrix })
     } else {
         Err(Failure::Wide(number))

@@ -2,6 +2,15 @@
 
 use crate::mtxkit::cases::{Case, EMPTY_REAL, LONG_ROW, PATTERN, SYMMETRIC, WIDE};
 
+// The greatest integer of 128 bits twice, and its negation twice: their sum is zero.
+const CANCELLED: &str = "%%MatrixMarket matrix coordinate integer general
+1 1 4
+1 1 170141183460469231731687303715884105727
+1 1 170141183460469231731687303715884105727
+1 1 -170141183460469231731687303715884105727
+1 1 -170141183460469231731687303715884105727
+";
+
 /// What `mtxkit info` answers to a text on standard input.
 pub const INFO_CASES: &[Case] = &[
     (
@@ -25,6 +34,35 @@ rows by their places:
   1 to 1: 1 #############
   2 to 2: 1 #############
   3 to 3: 1 #############
+  4 to 4: 0
+  5 to 5: 0
+  6 to 6: 0
+  7 to 7: 0
+  8 to 8: 0
+  9 to 9: 0
+",
+    ),
+    (
+        &["info", "-"],
+        CANCELLED,
+        "format: coordinate
+field: integer
+symmetry: general
+rows: 1
+columns: 1
+entries: 4
+places: 1
+stored zeros: 1
+empty rows: 0
+empty columns: 0
+bandwidth: 0
+symmetric pattern: yes
+symmetric values: yes
+rows by their places:
+  0 to 0: 0
+  1 to 1: 1 ########################################
+  2 to 2: 0
+  3 to 3: 0
   4 to 4: 0
   5 to 5: 0
   6 to 6: 0

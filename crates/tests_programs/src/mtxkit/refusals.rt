@@ -30,6 +30,20 @@ const MIRRORED: &[u8] = b"%%MatrixMarket matrix coordinate integer skew-symmetri
 2 1 -9223372036854775808
 ";
 
+// Their sum is 2^127.
+const BEYOND: &[u8] = b"%%MatrixMarket matrix coordinate integer general
+1 1 2
+1 1 85070591730234615865843651857942052864
+1 1 85070591730234615865843651857942052864
+";
+
+// Their sum is -2^127.
+const LEAST: &[u8] = b"%%MatrixMarket matrix coordinate integer general
+1 1 2
+1 1 -85070591730234615865843651857942052864
+1 1 -85070591730234615865843651857942052864
+";
+
 // An integer of 65 bits at a place that is named twice.
 const REPEATED: &[u8] = b"%%MatrixMarket matrix coordinate integer general
 1 1 2
@@ -57,7 +71,9 @@ pub const REFUSALS: &[Refusal] = &[
     (&["symmetric", "-"], LARGE, 1, TOO_WIDE),
     (&["field", "integer", "-"], LARGE_SUM, 1, TOO_WIDE),
     (&["symmetric", "-"], MIRRORED, 1, TOO_WIDE),
-    (&["info", "-"], REPEATED, 1, TOO_WIDE),
+    (&["info", "-"], REPEATED, 1, "mtxkit: write failed\n"),
+    (&["info", "-"], BEYOND, 1, TOO_WIDE),
+    (&["info", "-"], LEAST, 1, "mtxkit: write failed\n"),
     (&["spy", "-"], REPEATED, 1, "mtxkit: write failed\n"),
     (&["info", "-"], LARGE, 1, "mtxkit: write failed\n"),
     (&["info", "-"], LARGE_SUM, 1, "mtxkit: write failed\n"),

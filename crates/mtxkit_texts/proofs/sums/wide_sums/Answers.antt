@@ -3,7 +3,7 @@ use Rattle.std.proofs.lemmas.List.{length-map}
 use Rattle.sparse_algebra.specs.WrappingValues.{w128_number}
 use Rattle.sparse_base.specs.CooPlain.{plain_of_coo}
 use Rattle.mtxkit_texts.specs.Loaded.{ring128, value128}
-use Rattle.mtxkit_texts.proofs.WideLists.{wide-plain, wide-shows}
+use Rattle.mtxkit_texts.proofs.WideLists.{wide-wrapped}
 use Rattle.mtxkit_texts.proofs.sums.wide_sums.Goals as goal
 
 pub with_values-requires : goal.with_values-requires
@@ -14,12 +14,7 @@ with_values-requires c =
 
 pub returns-clause-sums : goal.returns-clause-sums
 returns-clause-sums c =
-    let list = c.args.list.now in
-    let vs = c.in_ok-values.values.items in
-    let same = c.in_ok-values.ensures ∙ c.values.ensures in
-    record {
-      plain = c.in_ok-convert_coo_csr.ensures.plain
-          ∙ ap (plain_of_coo ring128 value128) c.in_ok-wide.ensures.list
-          ∙ wide-plain list vs same;
-      exact = wide-shows list vs same;
-    }
+    c.in_ok-convert_coo_csr.ensures.plain
+    ∙ ap (plain_of_coo ring128 value128) c.in_ok-wide.ensures.list
+    ∙ wide-wrapped c.args.list.now c.in_ok-values.values.items
+    (c.in_ok-values.ensures ∙ c.values.ensures)
