@@ -69,7 +69,7 @@ pub fn add_multiple_four<T: Ring>(
     let (a, b, c, d) = scales;
     let (indices, values) = lane;
     for (index, value) in indices.iter().zip(values) {
-        // Read once, since a write to a row may change what is behind the references, for all that LLVM knows.
+        // Read once: the compiler cannot tell that a write to a row leaves what is behind the references.
         let (index, value) = (*index, *value);
         add_product(first, index, a, value);
         add_product(second, index, b, value);
