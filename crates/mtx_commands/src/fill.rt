@@ -152,10 +152,7 @@ fn matrix_of(alloc: Global, pattern: &SparsityPattern) -> Result<CscMatrix<()>, 
 {
     let nothing = vec![in alloc; (); pattern.nnz()]?;
     let pattern = pattern.clone(alloc)?;
-    match CscMatrix::try_from_pattern_and_values(pattern, nothing) {
-        Ok(matrix) => Ok(matrix),
-        Err(_) => unreachable!(),
-    }
+    Ok(CscMatrix::from_pattern_and_values_unchecked(pattern, nothing))
 }
 
 // The error of a write that failed.
