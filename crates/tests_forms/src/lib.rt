@@ -1,13 +1,12 @@
-//! Tests of what CSR and CSC matrices hold, read and written through the public calls.
+//! Tests of the crates below sums and products: scalars, counting by keys, patterns, triplet lists, dense matrices, and
+//! the compressed forms: how they are made, read and written.
 #![tactic(auto)]
 
 #[cfg(test)]
-mod csc_writing;
+mod base;
 #[cfg(test)]
-mod csr_writing;
+mod compressed;
 #[cfg(test)]
-mod entries;
+mod constructors;
 #[cfg(test)]
-mod lanes;
-#[cfg(test)]
-mod triplets;
+mod fixtures;

@@ -1,5 +1,0 @@
-use Rattle.std.proofs.Common.{◌≡◌}
-use Rattle.tests_base.proofs.triplets.capacities.Given as goal
-
-abbrev pub invariant-loop : goal.invariant-loop
-invariant-loop l = (l.matrix.nrows ≡ 1) × (l.matrix.ncols ≡ 1)

@@ -1,0 +1,214 @@
+//! Sizes at which a call could take too much memory or time, or answer an allocation failure that there was none.
+
+use crate::matrices::{Arrays, csr, is_empty_list, list};
+use crate::pairs::{holds, holds_by_columns};
+use crate::scalars::are;
+use sparse_algebra::operand::Op;
+use sparse_algebra::scalar::W64;
+use sparse_base::coo::CooMatrix;
+use sparse_base::dense::DMatrix;
+use sparse_base::steps::Steps;
+use sparse_convert::serial::{
+    convert_coo_csc, convert_coo_csr, convert_dense_coo, convert_dense_csc, convert_dense_csr,
+};
+use sparse_forms::csc::CscMatrix;
+use sparse_forms::csr::CsrMatrix;
+use sparse_products::serial::{mul_csr, spmm_csr_prealloc_unchecked_counted};
+use std::alloc::{AllocError, Global};
+
+// Whether the product of matrices whose shapes fit has this shape and no places.
+fn has_empty_product(
+    alloc: Global,
+    a: &CsrMatrix<W64>,
+    b: &CsrMatrix<W64>,
+    size: (usize, usize),
+) -> bool {
+    if a.ncols() != b.nrows() {
+        return false;
+    }
+    match mul_csr(alloc, a, b) {
+        Ok(product) => {
+            product.nrows() == size.0 && product.ncols() == size.1 && product.nnz() == 0
+        }
+        Err(_) => false,
+    }
+}
+
+// Whether the product of matrices without places, of these shapes, has its shape and no places.
+fn is_empty_product(alloc: Global, (nrows, inner, ncols): (usize, usize, usize)) -> bool {
+    let Ok(a) = CsrMatrix::zeros(alloc, nrows, inner) else {
+        return false;
+    };
+    match CsrMatrix::zeros(alloc, inner, ncols) {
+        Ok(b) => has_empty_product(alloc, &a, &b, (nrows, ncols)),
+        Err(_) => false,
+    }
+}
+
+#[test]
+fn products_without_places(rt: HostRuntime) {
+    let most = usize::MAX;
+    for sizes in [
+        (2, 2, 0),
+        (0, 2, 2),
+        (2, 0, 2),
+        (0, 0, 0),
+        (0, 1, most),
+        (1, 1, most),
+    ] {
+        assert!(rt;
+            is_empty_product(rt.alloc(), sizes),
+            "{} {} {}",
+            sizes.0,
+            sizes.1,
+            sizes.2
+        );
+    }
+}
+
+// Whether the square of an identity, computed again in counted steps, is the identity.
+fn is_squared_in_steps(alloc: Global, size: usize) -> Result<bool, AllocError> {
+    let identity = CsrMatrix::<W64>::identity(alloc, size)?;
+    let mut square = mul_csr(alloc, &identity, &identity)?;
+    let operand = Op::NoOp(&identity);
+    let computed = spmm_csr_prealloc_unchecked_counted(
+        alloc,
+        W64::new(0),
+        &mut square,
+        W64::new(1),
+        operand,
+        operand,
+        &mut Steps::new(),
+    );
+    Ok(computed.is_ok() && square == identity)
+}
+
+#[test]
+fn a_large_identity_is_squared_in_steps(rt: HostRuntime) {
+    assert!(rt; matches!(is_squared_in_steps(rt.alloc(), 200_000), Ok(true)));
+}
+
+// The rows `1 2` and `0 3`.
+const TRIANGLE: Arrays<'static> = (2, 2, &[0, 2, 3], &[0, 1, 1], &[1, 2, 3]);
+
+// Two long rows: 4 and 5 in columns 7 and 999, and 6 in column 7.
+const WIDE: Arrays<'static> = (2, 1000, &[0, 2, 3], &[7, 999, 7], &[4, 5, 6]);
+
+// Whether C = A B, computed by 2 C + 3 A B in counted steps, has the values of 5 A B.
+//
+// The rows of C are longer than it has places, so each triple is added by a binary search.
+fn is_updated_in_steps(
+    alloc: Global,
+    a: &CsrMatrix<W64>,
+    b: &CsrMatrix<W64>,
+) -> Result<bool, AllocError> {
+    if a.ncols() != b.nrows() {
+        return Ok(false);
+    }
+    let mut product = mul_csr(alloc, a, b)?;
+    let computed = spmm_csr_prealloc_unchecked_counted(
+        alloc,
+        W64::new(2),
+        &mut product,
+        W64::new(3),
+        Op::NoOp(a),
+        Op::NoOp(b),
+        &mut Steps::new(),
+    );
+    Ok(computed.is_ok() && are(product.values(), &[80, 25, 90]))
+}
+
+fn wide_rows_are_updated_in_steps(alloc: Global) -> bool {
+    let Some(a) = csr(alloc, TRIANGLE) else {
+        return false;
+    };
+    match csr(alloc, WIDE) {
+        Some(b) => matches!(is_updated_in_steps(alloc, &a, &b), Ok(true)),
+        None => false,
+    }
+}
+
+#[test]
+fn wide_rows_are_searched_in_steps(rt: HostRuntime) {
+    assert!(rt; wide_rows_are_updated_in_steps(rt.alloc()));
+}
+
+// An identity of an order whose arrays no memory can hold is refused.
+#[test]
+fn identities_past_any_memory_are_refused(rt: HostRuntime) {
+    for order in [1 << 63, usize::MAX] {
+        assert!(rt;
+            CsrMatrix::<W64>::identity(rt.alloc(), order).is_err(),
+            "{order}"
+        );
+        assert!(rt;
+            CscMatrix::<W64>::identity(rt.alloc(), order).is_err(),
+            "{order}"
+        );
+    }
+}
+
+// A list of triplets that go round the places of a 3 by 5 matrix.
+fn long_list(alloc: Global, count: usize) -> Result<CooMatrix<W64>, AllocError> {
+    let mut coo = CooMatrix::new(alloc, 3, 5);
+    for number in 0..count {
+        coo.push(number % 3, number % 5, W64::new(1))?;
+    }
+    Ok(coo)
+}
+
+// The columns of all places of a 3 by 5 matrix, row by row.
+const COLUMNS: [usize; 15] = [0, 1, 2, 3, 4, 0, 1, 2, 3, 4, 0, 1, 2, 3, 4];
+
+// The rows of all its places, column by column.
+const ROWS: [usize; 15] = [0, 1, 2, 0, 1, 2, 0, 1, 2, 0, 1, 2, 0, 1, 2];
+
+// Whether the list of 3000 triplets is converted: each place is met once in 15 triplets.
+fn long_list_is_converted(alloc: Global) -> bool {
+    match long_list(alloc, 3000) {
+        Ok(coo) => {
+            holds(convert_coo_csr(alloc, &coo).ok(), &COLUMNS, &[200; 15])
+                && holds_by_columns(convert_coo_csc(alloc, &coo).ok(), &ROWS, &[200; 15])
+        }
+        Err(_) => false,
+    }
+}
+
+#[test]
+fn a_long_list_is_converted(rt: HostRuntime) {
+    assert!(rt; long_list_is_converted(rt.alloc()));
+}
+
+// Whether a dense matrix of this size, without values, is converted to a list, and to rows and columns just where
+// their offsets can be had.
+fn converts_at_once(alloc: Global, nrows: usize, ncols: usize) -> bool {
+    match DMatrix::<i32>::zeros(alloc, nrows, ncols) {
+        Ok(dense) => {
+            is_empty_list(convert_dense_coo(alloc, &dense), (nrows, ncols))
+                && convert_dense_csr(alloc, &dense).is_ok() == (nrows < 1000)
+                && convert_dense_csc(alloc, &dense).is_ok() == (ncols < 1000)
+        }
+        Err(_) => false,
+    }
+}
+
+// Whether a list of as many rows as there can be, without columns, is refused by rows and not by columns.
+fn is_converted_by_columns_alone(alloc: Global) -> bool {
+    match list::<W64>(alloc, (usize::MAX, 0), &[]) {
+        Some(tall) => {
+            convert_coo_csr(alloc, &tall).is_err() && convert_coo_csc(alloc, &tall).is_ok()
+        }
+        None => false,
+    }
+}
+
+#[test]
+fn dense_matrices_without_values_end_at_once(rt: HostRuntime) {
+    for (nrows, ncols) in [(0, usize::MAX), (usize::MAX, 0), (0, 5), (5, 0)] {
+        assert!(rt;
+            converts_at_once(rt.alloc(), nrows, ncols),
+            "{nrows} by {ncols}"
+        );
+    }
+    assert!(rt; is_converted_by_columns_alone(rt.alloc()));
+}

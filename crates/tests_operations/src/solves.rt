@@ -1,0 +1,8 @@
+//! Tests of products with dense matrices, the triangular solve, division by a scalar, and inverses of scalars.
+
+mod callers;
+mod dense_products;
+mod dense_updates;
+mod division;
+mod inverses;
+mod solve;
