@@ -28,8 +28,9 @@ use std::alloc::{AllocError, Global};
 /// and a bit for each column. If a row is longer than both factors have places, the pattern is made first and
 /// each triple added by a binary search, in scratch memory for the triples of a row. Fails only if an allocation fails.
 ///
-/// The room for the result is guessed: an eighth more places than if each row had as many for a triple as the first 64
-/// rows, but at most twice as many as both factors have. Where it does not suffice, it grows by doubling.
+/// The room for the result is guessed: an eighth more places than if each row had as many for a triple as some 64 rows
+/// that stand equally far apart, but at most one for each pair (i, j). It grows by doubling where it does not suffice
+/// or can't be had. What is over at the end is given back.
 ///
 /// # Examples
 ///

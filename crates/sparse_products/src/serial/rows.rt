@@ -23,8 +23,10 @@ use sparse_cs::CsMatrix;
 use sparse_pattern::pattern::SparsityPattern;
 use std::alloc::{AllocError, Global};
 
-// How many first rows are looked at, to guess the places of all.
-const FIRST_ROWS: usize = 64;
+// The rows that are looked at to guess the places of all: some 64, and at most one of 16.
+const SAMPLED_ROWS: usize = 64;
+
+const ROWS_FOR_A_SAMPLE: usize = 16;
 
 // The rows of a product that are made so far.
 #[derive(Drop)]
@@ -55,7 +57,7 @@ pub(super) fn multiply_rows<T: Ring>(
     Ok(into_matrix(rows, first.major_dim(), second.minor_dim()))
 }
 
-// No rows yet, with room for a number of places.
+// No rows yet, with room for a number of places, or for none if so much memory can't be had.
 #[tactic(auto, using(crate::proofs::Refusals::refused))]
 fn no_rows<T: Ring>(alloc: Global, major_dim: usize, room: usize) -> Result<Rows<T>, AllocError>
     ensures offsets { IfOk result (λ rows. rows.offsets.items ≡ 0 ∷ []) }
@@ -66,14 +68,22 @@ fn no_rows<T: Ring>(alloc: Global, major_dim: usize, room: usize) -> Result<Rows
     offsets.push(0)?;
     Ok(Rows {
         offsets,
-        indices: Vec::with_capacity(alloc, room)?,
-        values: Vec::with_capacity(alloc, room)?,
+        indices: with_room(alloc, room),
+        values: with_room(alloc, room),
     })
 }
 
+// An empty vector with this room, or without room if so much memory can't be had.
+fn with_room<T>(alloc: Global, room: usize) -> Vec<T>
+    ensures { result.items ≡ [] }
+{
+    let mut vector = Vec::new(alloc);
+    let _ = vector.reserve_exact(room);
+    vector
+}
+
 // How many places the product may have: an eighth more than if each row had as many for a triple (i, k, j) as a few
-// first rows, but at most twice as many as both factors. A block that is larger than it need be may be new memory from
-// the system, which costs more than the product of short rows.
+// rows that stand equally far apart, but at most one for each pair (i, j).
 fn guess_places(
     alloc: Global,
     a: &SparsityPattern,
@@ -85,15 +95,18 @@ fn guess_places(
     ensures { OnOk result (IsEmptyLaneSet b.now.minor_dim set.new) }
 {
     let all = count_indices(a.minor_indices(), b);
+    let step = (a.major_dim() / SAMPLED_ROWS).max(ROWS_FOR_A_SAMPLE);
     let mut places = Vec::new(alloc);
     let mut triples = 0usize;
-    for i in 0..FIRST_ROWS.min(a.major_dim() / 16) {
+    let mut i = step / 2;
+    while i < a.major_dim() {
         triples = triples.saturating_add(count_indices(a.lane(i), b));
         push_lane(a.lane(i), b, set, &mut places)?;
+        i = i.saturating_add(step);
     }
     let times = all / triples.max(1);
     let guess = times.saturating_add(times / 8).saturating_mul(places.len());
-    Ok(guess.min(a.nnz().saturating_add(b.nnz()).saturating_mul(2)))
+    Ok(guess.min(a.major_dim().saturating_mul(b.minor_dim())))
 }
 
 // How many indices the lanes of `b` that `lane` lists have, repeated ones too.
@@ -181,7 +194,7 @@ fn push_taken<T: Ring>(indices: &[usize], row: &mut [T], values: &mut Vec<T>)
     }
 }
 
-// Returns the matrix of the rows.
+// Returns the matrix of the rows, and gives back the memory that they do not take.
 fn into_matrix<T: Ring>(rows: Rows<T>, major_dim: usize, minor_dim: usize) -> CsMatrix<T>
     requires { IsSound (arrays_of major_dim minor_dim rows.offsets.items rows.indices.items
         rows.values.items) }
@@ -190,9 +203,11 @@ fn into_matrix<T: Ring>(rows: Rows<T>, major_dim: usize, minor_dim: usize) -> Cs
 {
     let Rows {
         offsets,
-        indices,
-        values,
+        mut indices,
+        mut values,
     } = rows;
+    indices.shrink_to_fit();
+    values.shrink_to_fit();
     let pattern = SparsityPattern::from_offset_and_indices_unchecked(
         major_dim, minor_dim, offsets, indices,
     );
