@@ -38,7 +38,7 @@ impl From<AllocError> for Failure {
 }
 
 /// The best run of a task: its time, and the checksum and the number of places of the answer.
-#[derive(Debug, Clone, Copy)]
+#[derive(Clone, Copy)]
 pub struct Best {
     pub nanoseconds: u128,
     pub checksum: u64,

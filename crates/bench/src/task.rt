@@ -23,7 +23,7 @@ const SOLVED_COLUMNS: usize = 4;
 const FACTOR_COLUMNS: usize = 8;
 
 /// A kernel of the library.
-#[derive(Clone, Copy, Debug, PartialEq, Eq)]
+#[derive(Clone, Copy, PartialEq, Eq)]
 pub enum Task {
     /// A list of triplets to rows.
     CooToCsr,

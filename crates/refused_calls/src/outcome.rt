@@ -8,7 +8,7 @@ use nalgebra_sparse::{SparseFormatError, SparseFormatErrorKind};
 use std::alloc::AllocError;
 
 /// What came of a scenario.
-#[derive(Clone, Copy, Debug)]
+#[derive(Clone, Copy)]
 pub enum Outcome {
     /// An answer with this checksum.
     Answered(u64),
