@@ -43,7 +43,7 @@ module _ {T : Type 0} where
       (All-filter (λ t. eqb t.0 i) (λ t. t.1 < m) ts below)
 
   -- the indices of a lane are the places of its row
-  lane_has : (i j : ℕ) (ts : List (ℕ × ℕ × T))
+  pub lane_has : (i j : ℕ) (ts : List (ℕ × ℕ × T))
       → has_index j (triplets_of_lane ts i) ≡ list_any (is_at i j) ts
   lane_has i j [] = refl
   lane_has i j (t ∷ ts) = elim (true_or_false (eqb t.0 i)) [
@@ -60,7 +60,8 @@ module _ {T : Type 0} where
   ]
 
 module _ (R : CommRing) {T : Type 0} (f : T → R.Carrier) where
-  lane_sum : (i j : ℕ) (ts : List (ℕ × ℕ × T))
+  -- the values of a lane are summed as those of its row
+  pub lane_sum : (i j : ℕ) (ts : List (ℕ × ℕ × T))
       → index_sum R f (triplets_of_lane ts i) j ≡ value_at R f ts i j
   lane_sum i j [] = refl
   lane_sum i j (t ∷ ts) = elim (true_or_false (eqb t.0 i)) [

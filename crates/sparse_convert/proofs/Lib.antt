@@ -10,6 +10,8 @@ pub mod IndexSums
 pub mod Merging
 pub mod MergedLanes
 pub mod Compressing
+pub mod InOrder
+pub mod ReadLists
 pub mod Refusals
 mod TransposedTriplets
 mod StoredTriplets

@@ -48,6 +48,113 @@ module _ (R : CommRing) {T : Type 0} (f : T → R.Carrier) (z : T) where
         ∙ ap (index_sum R f lane) (sym (keeps_is p to));
   }
 
+  module _ (lane : List (ℕ × T)) (start k : ℕ) (is : List ℕ) (vs : List T) (e : ℕ × T)
+      (lt : k < length lane) (at : e ≡ get_or lane k e) (sizes : length vs ≡ length is)
+      (m : AreMerged R f z (take k lane) is vs start (length is)) where
+    -- one more entry with the last index
+    pub same_place : (q : ℕ) (w : T) → start < length is → q ≡ length is - 1
+        → slice_index is q ≡ e.0 → f w ≡ R.add (f (get_or vs q z)) (f e.1)
+        → AreMerged R f z (take (k + 1) lane) is (set vs q w) start (length is)
+    same_place q w some end last sum_at = record {
+      rising = m.rising;
+      named = λ p from to. elim (same_or_not e.0 (slice_index is p)) [
+        | inl here ↦ has_index-here lane k (slice_index is p) e lt at here
+        | inr other ↦ has_index-other lane k (slice_index is p) e lt at other
+            ∙ m.named p from to
+      ];
+      found = λ j has. elim (same_or_not e.0 j) [
+        | inl here ↦ (q, omega arith, omega arith, last ∙ here)
+        | inr other ↦ m.found j (sym (has_index-other lane k j e lt at other) ∙ has)
+      ];
+      sums = λ p from to. elim (same_or_not p q) [
+        | inl here ↦
+            let there : get_or (set vs q w) q z ≡ w =
+            get_or-set_same vs q w z (omega (arith, sizes)) in
+            let whole : f (get_or (set vs q w) q z) ≡ index_sum R f (take (k + 1) lane)
+            (slice_index is q) =
+            ap f there ∙ sum_at ∙ ap (λ c. R.add c (f e.1))
+            (m.sums q (omega arith) (omega arith)) ∙ sym
+            (index_sum-here R f lane k (slice_index is q) e lt at (sym last))
+            in
+            subst (λ r. f (get_or (set vs q w) r z) ≡ index_sum R f (take (k + 1) lane)
+            (slice_index is r)) (sym here) whole
+        | inr other ↦
+            let below : slice_index is p < slice_index is q =
+            merged_rises (take k lane) is vs start (length is) m p q from (omega arith)
+            (omega arith) in
+            let differ : e.0 ≢ slice_index is p = λ x. omega arith in
+            ap f (get_or-set_other vs q p w z other) ∙ m.sums p from to
+            ∙ sym (index_sum-other R f lane k (slice_index is p) e lt at differ)
+      ];
+    }
+
+    -- an entry with a new index
+    pub new_place : start ≤ length is
+        → ((p : ℕ) → start ≤ p → p < length is → slice_index is p < e.0)
+        → AreMerged R f z (take (k + 1) lane) (is ++ e.0 ∷ []) (vs ++ e.1 ∷ []) start
+        (length (is ++ e.0 ∷ []))
+    new_place from_start before =
+        let js = is ++ e.0 ∷ [] in
+        let ws = vs ++ e.1 ∷ [] in
+        let n = length is in
+        let long : length js ≡ n + 1 = omega (arith, length-append is (e.0 ∷ [])) in
+        let seam : slice_index js n ≡ e.0 = get_or_push is e.0 0 n refl in
+        let seam_value : get_or ws n z ≡ e.1 = get_or_push vs e.1 z n sizes in
+        let front : (p : ℕ) → p < n → slice_index js p ≡ slice_index is p =
+        λ p to. get_or_append_left is (e.0 ∷ []) 0 p to in
+        let front_value : (p : ℕ) → p < n → get_or ws p z ≡ get_or vs p z =
+        λ p to. get_or_append_left vs (e.1 ∷ []) z p (omega (arith, sizes)) in
+        let none : has_index e.0 (take k lane) ≡ false =
+        elim (true_or_false (has_index e.0 (take k lane))) [
+          | inl has ↦ let p = m.found e.0 has in absurd (omega (arith, before p.0 p.1 p.2, p.3))
+          | inr miss ↦ miss
+        ] in
+        record {
+          rising = λ p from to. elim (lt_or_ge p n) [
+            | inl less ↦ rw (front p less, front (p - 1) (omega arith)) (m.rising p from less)
+            | inr most ↦
+                let here : n ≡ p = omega arith in
+                rw (front (p - 1) (omega arith))
+                (subst (λ r. slice_index is (p - 1) < slice_index js r) here
+                (rw seam (before (p - 1) (omega arith) (omega arith))))
+          ];
+          named = λ p from to. elim (lt_or_ge p n) [
+            | inl less ↦
+                let low = before p from less in
+                let differ : e.0 ≢ slice_index is p = λ x. omega arith in
+                ap (λ j. has_index j (take (k + 1) lane)) (front p less)
+                ∙ has_index-other lane k (slice_index is p) e lt at differ ∙ m.named p from less
+            | inr most ↦
+                let here : n ≡ p = omega arith in
+                subst (λ r. has_index (slice_index js r) (take (k + 1) lane) ≡ true) here
+                (has_index-here lane k (slice_index js n) e lt at (sym seam))
+          ];
+          found = λ j has. elim (same_or_not e.0 j) [
+            | inl here ↦ (n, from_start, omega arith, seam ∙ here)
+            | inr other ↦ let p = m.found j (sym (has_index-other lane k j e lt at other)
+                ∙ has) in (p.0, p.1, omega (arith, p.2), front p.0 p.2 ∙ p.3)
+          ];
+          sums = λ p from to. elim (lt_or_ge p n) [
+            | inl less ↦
+                let low = before p from less in
+                let differ : e.0 ≢ slice_index is p = λ x. omega arith in
+                ap f (front_value p less) ∙ m.sums p from less
+                ∙ sym (index_sum-other R f lane k (slice_index is p) e lt at differ)
+                ∙ ap (index_sum R f (take (k + 1) lane)) (sym (front p less))
+            | inr most ↦
+                let here : n ≡ p = omega arith in
+                let whole : f (get_or ws n z) ≡ index_sum R f (take (k + 1) lane)
+                (slice_index js n) =
+                ap f seam_value ∙ sym (zero_add R (f e.1))
+                ∙ ap (λ c. R.add c (f e.1)) (sym (index_sum-none R f (take k lane) e.0 none))
+                ∙ sym (index_sum-here R f lane k e.0 e lt at refl)
+                ∙ ap (index_sum R f (take (k + 1) lane)) (sym seam)
+                in
+                subst (λ r. f (get_or ws r z) ≡ index_sum R f (take (k + 1) lane)
+                (slice_index js r)) here whole
+          ];
+        }
+
   module _ (lane : List (ℕ × T)) (start : ℕ) (is₀ : List ℕ) (vs₀ : List T) where
     -- the arrays after the first k entries of the lane
     pub record IsMergedTo (k : ℕ) (is : List ℕ) (vs : List T) : Type 0 where
@@ -83,40 +190,8 @@ module _ (R : CommRing) {T : Type 0} (f : T → R.Carrier) (z : T) where
         → f w ≡ R.add (f (get_or vs q z)) (f e.1) → IsMergedTo k is vs
         → IsMergedTo (k + 1) is (set vs q w)
     merged_same k q is vs e w lt at some end last sum_at h =
-        let m = h.merged in
         record {
-          merged = record {
-            rising = m.rising;
-            named = λ p from to. elim (same_or_not e.0 (slice_index is p)) [
-              | inl here ↦ has_index-here lane k (slice_index is p) e lt at here
-              | inr other ↦ has_index-other lane k (slice_index is p) e lt at other
-                  ∙ m.named p from to
-            ];
-            found = λ j has. elim (same_or_not e.0 j) [
-              | inl here ↦ (q, omega arith, omega arith, last ∙ here)
-              | inr other ↦ m.found j (sym (has_index-other lane k j e lt at other) ∙ has)
-            ];
-            sums = λ p from to. elim (same_or_not p q) [
-              | inl here ↦
-                  let there : get_or (set vs q w) q z ≡ w =
-                  get_or-set_same vs q w z (omega (arith, h.sizes)) in
-                  let whole : f (get_or (set vs q w) q z) ≡ index_sum R f (take (k + 1) lane)
-                  (slice_index is q) =
-                  ap f there ∙ sum_at ∙ ap (λ c. R.add c (f e.1))
-                  (m.sums q (omega arith) (omega arith)) ∙ sym
-                  (index_sum-here R f lane k (slice_index is q) e lt at (sym last))
-                  in
-                  subst (λ r. f (get_or (set vs q w) r z) ≡ index_sum R f (take (k + 1) lane)
-                  (slice_index is r)) (sym here) whole
-              | inr other ↦
-                  let below : slice_index is p < slice_index is q =
-                  merged_rises (take k lane) is vs start (length is) m p q from (omega arith)
-                  (omega arith) in
-                  let differ : e.0 ≢ slice_index is p = λ x. omega arith in
-                  ap f (get_or-set_other vs q p w z other) ∙ m.sums p from to
-                  ∙ sym (index_sum-other R f lane k (slice_index is p) e lt at differ)
-            ];
-          };
+          merged = same_place lane start k is vs e lt at h.sizes h.merged q w some end last sum_at;
           from = h.from;
           to = omega (arith, h.to);
           sizes = rw (length-set {A = T}) h.sizes;
@@ -164,70 +239,18 @@ module _ (R : CommRing) {T : Type 0} (f : T → R.Carrier) (z : T) where
         → (start < length is → slice_index is (length is - 1) ≢ e.0) → IsMergedTo k is vs
         → IsMergedTo (k + 1) (is ++ e.0 ∷ []) (vs ++ e.1 ∷ [])
     merged_new k is vs e up lt at new h =
-        let m = h.merged in
         let js = is ++ e.0 ∷ [] in
         let ws = vs ++ e.1 ∷ [] in
         let n = length is in
         let long : length js ≡ n + 1 = omega (arith, length-append is (e.0 ∷ [])) in
         let seam : slice_index js n ≡ e.0 = get_or_push is e.0 0 n refl in
-        let seam_value : get_or ws n z ≡ e.1 = get_or_push vs e.1 z n h.sizes in
         let front : (p : ℕ) → p < n → slice_index js p ≡ slice_index is p =
         λ p to. get_or_append_left is (e.0 ∷ []) 0 p to in
         let front_value : (p : ℕ) → p < n → get_or ws p z ≡ get_or vs p z =
         λ p to. get_or_append_left vs (e.1 ∷ []) z p (omega (arith, h.sizes)) in
-        let before : (p : ℕ) → start ≤ p → p < n → slice_index is p < e.0 =
-        before_new k is vs e up lt at new h in
-        let none : has_index e.0 (take k lane) ≡ false =
-        elim (true_or_false (has_index e.0 (take k lane))) [
-          | inl has ↦ let p = m.found e.0 has in absurd (omega (arith, before p.0 p.1 p.2, p.3))
-          | inr miss ↦ miss
-        ] in
         record {
-          merged = record {
-            rising = λ p from to. elim (lt_or_ge p n) [
-              | inl less ↦ rw (front p less, front (p - 1) (omega arith)) (m.rising p from less)
-              | inr most ↦
-                  let here : n ≡ p = omega arith in
-                  rw (front (p - 1) (omega arith))
-                  (subst (λ r. slice_index is (p - 1) < slice_index js r) here
-                  (rw seam (before (p - 1) (omega arith) (omega arith))))
-            ];
-            named = λ p from to. elim (lt_or_ge p n) [
-              | inl less ↦
-                  let low = before p from less in
-                  let differ : e.0 ≢ slice_index is p = λ x. omega arith in
-                  ap (λ j. has_index j (take (k + 1) lane)) (front p less)
-                  ∙ has_index-other lane k (slice_index is p) e lt at differ ∙ m.named p from less
-              | inr most ↦
-                  let here : n ≡ p = omega arith in
-                  subst (λ r. has_index (slice_index js r) (take (k + 1) lane) ≡ true) here
-                  (has_index-here lane k (slice_index js n) e lt at (sym seam))
-            ];
-            found = λ j has. elim (same_or_not e.0 j) [
-              | inl here ↦ (n, h.from, omega arith, seam ∙ here)
-              | inr other ↦ let p = m.found j (sym (has_index-other lane k j e lt at other)
-                  ∙ has) in (p.0, p.1, omega (arith, p.2), front p.0 p.2 ∙ p.3)
-            ];
-            sums = λ p from to. elim (lt_or_ge p n) [
-              | inl less ↦
-                  let low = before p from less in
-                  let differ : e.0 ≢ slice_index is p = λ x. omega arith in
-                  ap f (front_value p less) ∙ m.sums p from less
-                  ∙ sym (index_sum-other R f lane k (slice_index is p) e lt at differ)
-                  ∙ ap (index_sum R f (take (k + 1) lane)) (sym (front p less))
-              | inr most ↦
-                  let here : n ≡ p = omega arith in
-                  let whole : f (get_or ws n z) ≡ index_sum R f (take (k + 1) lane)
-                  (slice_index js n) =
-                  ap f seam_value ∙ sym (zero_add R (f e.1))
-                  ∙ ap (λ c. R.add c (f e.1)) (sym (index_sum-none R f (take k lane) e.0 none))
-                  ∙ sym (index_sum-here R f lane k e.0 e lt at refl)
-                  ∙ ap (index_sum R f (take (k + 1) lane)) (sym seam)
-                  in
-                  subst (λ r. f (get_or ws r z) ≡ index_sum R f (take (k + 1) lane)
-                  (slice_index js r)) here whole
-            ];
-          };
+          merged = new_place lane start k is vs e lt at h.sizes h.merged h.from
+              (before_new k is vs e up lt at new h);
           from = omega (arith, h.from);
           to = omega (arith, h.to);
           sizes = omega (arith, length-append vs (e.1 ∷ []), h.sizes);

@@ -1,5 +1,6 @@
 pub mod InnerTripletLanes
 pub mod InnerMerged
+pub mod InnerInOrder
 pub mod OneMatrix
 pub mod FromDense
 pub mod ToDense

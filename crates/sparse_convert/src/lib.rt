@@ -2,9 +2,9 @@
 #![tactic(auto)]
 
 mod counted;
+mod in_order;
 mod lanes;
 mod merge;
 mod nearness;
-mod order;
 mod passes;
 pub mod serial;

@@ -5,7 +5,7 @@ use Rattle.sparse_cs.specs.Compressed.{IsSound, compressed_of}
 use Rattle.sparse_convert.specs.InnerTripletLanes.{entries_of_lane}
 use Rattle.sparse_convert.specs.InnerMerged.{AreMerged}
 use Rattle.sparse_cs.specs.PlainOfLanes.{plain_of_rows}
-use Rattle.sparse_convert.proofs.SortedTriplets.{offsets_within}
+use Rattle.sparse_convert.proofs.SortedTriplets.{no_lane, offsets_within}
 use Rattle.sparse_convert.proofs.MergedLanes.{AreLanesMerged, no_lanes_merged, lanes_merged_more}
 use Rattle.sparse_convert.proofs.MergedLanes.{merged_valid, merged_stand}
 use Rattle.sparse_convert.proofs.merge.merge_lanes.Goals as goal
@@ -27,8 +27,9 @@ loop-lane-init g c =
     ∙ ap (λ l. l ++ 0 ∷ []) c.in_ok-starts.ensures.items in
     record {
       merged = rw (starts_is, c.in_ok-indices.ensures.items, c.in_ok-values.ensures.items)
-          (no_lanes_merged g.T.Ring.ring g.T.Ring.value g.T.Zero.zero_value c.args.offsets.now
-          c.args.entries.now);
+          (no_lanes_merged g.T.Ring.ring g.T.Ring.value g.T.Zero.zero_value
+          (entries_of_lane c.args.offsets.now c.args.entries.now));
+      room = omega (arith, ap length c.in_ok-indices.ensures.items);
       start_capacity = c.push_reserved.ensures.capacity ∙ c.in_ok-starts.ensures.exact;
       index_capacity = c.in_ok-indices.ensures.exact;
       value_capacity = c.in_ok-values.ensures.exact;
@@ -121,14 +122,17 @@ loop-lane-preserved g c =
     let starts_is : c.push_reserved-in-loop-lane.new.self.items ≡ starts ++ length js ∷ [] =
     c.push_reserved-in-loop-lane.ensures.items ∙ ap (λ x. starts ++ x ∷ []) end in
     let within = offsets_within _ _ offsets c.requires.offsets (n + 1) (omega arith) in
+    let ordered = c.requires.offsets.ordered n (omega arith) in
+    let long = length-between entries (slice_index offsets n) (slice_index offsets (n + 1))
+    within in
     record {
-      merged = rw starts_is (lanes_merged_more R f z offsets entries n starts is js vs ws
-          (c.requires.offsets.ordered n (omega arith)) within inv.merged
-          (omega (arith, made.grown.0)) (omega (arith, made.grown.1)) (omega (arith, made.sizes))
+      merged = rw starts_is (lanes_merged_more R f z (entries_of_lane offsets entries) n starts is
+          js vs ws inv.merged (omega (arith, made.grown.0)) (omega (arith, made.sizes))
           (λ p lt. made.kept_indices p (omega arith)) (λ p lt. made.kept_values p (omega arith))
           (subst (λ a. AreMerged R f z (entries_of_lane offsets entries n) js ws a (length js))
           is_count (subst (λ b. AreMerged R f z (entries_of_lane offsets entries n) js ws
           c.loop-lane.indices.len b) js_count made.merged)));
+      room = omega (arith, made.grown.1, inv.room, long, within, ordered);
       start_capacity = c.push_reserved-in-loop-lane.ensures.capacity ∙ inv.start_capacity;
       index_capacity = made.capacities.0 ∙ inv.index_capacity;
       value_capacity = made.capacities.1 ∙ inv.value_capacity;
@@ -137,13 +141,14 @@ loop-lane-preserved g c =
 pub from_offset_and_indices_unchecked-pattern-requires :
     goal.from_offset_and_indices_unchecked-pattern-requires
 from_offset_and_indices_unchecked-pattern-requires g c =
-    let lanes = subst (λ n. AreLanesMerged g.T.Ring.ring g.T.Ring.value g.T.Zero.zero_value
-    c.args.offsets.now c.args.entries.now n c.loop-lane.starts.items c.loop-lane.indices.items
-    c.loop-lane.values.items) (omega arith) c.loop-lane.invariant.merged in
-    merged_valid g.T.Ring.ring g.T.Ring.value g.T.Zero.zero_value c.args.offsets.now
-    c.args.entries.now c.args.minor_dim c.requires.below (length c.args.offsets.now - 1) refl
-    c.requires.offsets c.loop-lane.starts.items c.loop-lane.indices.items c.loop-lane.values.items
-    lanes
+    let entries = entries_of_lane c.args.offsets.now c.args.entries.now in
+    let lanes = subst (λ n. AreLanesMerged g.T.Ring.ring g.T.Ring.value g.T.Zero.zero_value entries
+    n c.loop-lane.starts.items c.loop-lane.indices.items c.loop-lane.values.items) (omega arith)
+    c.loop-lane.invariant.merged in
+    merged_valid g.T.Ring.ring g.T.Ring.value g.T.Zero.zero_value entries c.args.minor_dim
+    c.requires.below (length c.args.offsets.now - 1) (λ i past. no_lane c.args.offsets.now
+    c.args.entries.now i (omega (arith, c.requires.offsets.count))) c.loop-lane.starts.items
+    c.loop-lane.indices.items c.loop-lane.values.items lanes
 
 pub from_pattern_and_values-requires : goal.from_pattern_and_values-requires
 from_pattern_and_values-requires g c =
@@ -159,14 +164,15 @@ returns-clause-plain g c =
     let z = g.T.Zero.zero_value in
     let n = length c.args.offsets.now - 1 in
     let values = c.loop-lane.values.items in
-    let lanes : AreLanesMerged R f z c.args.offsets.now c.args.entries.now n
-    c.loop-lane.starts.items c.loop-lane.indices.items values =
-    subst (λ n. AreLanesMerged R f z c.args.offsets.now c.args.entries.now n
-    c.loop-lane.starts.items c.loop-lane.indices.items values) (omega arith)
-    c.loop-lane.invariant.merged in
+    let entries = entries_of_lane c.args.offsets.now c.args.entries.now in
+    let lanes : AreLanesMerged R f z entries n c.loop-lane.starts.items c.loop-lane.indices.items
+    values =
+    subst (λ n. AreLanesMerged R f z entries n c.loop-lane.starts.items c.loop-lane.indices.items
+    values) (omega arith) c.loop-lane.invariant.merged in
     let made = c.from_pattern_and_values.ensures in
     let is = made.is ∙ ap (λ d. compressed_of d values)
     c.from_offset_and_indices_unchecked-pattern.ensures in
-    ap (plain_of_rows R f) is ∙ merged_stand R f z c.args.offsets.now c.args.entries.now
-    c.args.minor_dim c.requires.below n refl c.requires.offsets c.loop-lane.starts.items
-    c.loop-lane.indices.items values lanes (subst IsSound is made.sound)
+    ap (plain_of_rows R f) is ∙ merged_stand R f z entries c.args.minor_dim c.requires.below n
+    (λ i past. no_lane c.args.offsets.now c.args.entries.now i
+    (omega (arith, c.requires.offsets.count))) c.loop-lane.starts.items c.loop-lane.indices.items
+    values lanes (subst IsSound is made.sound)

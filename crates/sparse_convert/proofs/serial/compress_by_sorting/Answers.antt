@@ -7,7 +7,7 @@ use Rattle.sparse_algebra.specs.Plain.{plain_of_triplets}
 use Rattle.sparse_convert.specs.InnerTripletLanes.{entries_of_lane, triplets_of_lane}
 use Rattle.sparse_convert.specs.InnerTripletLanes.{plain_of_lanes}
 use Rattle.sparse_convert.proofs.Compressing.{lane_below, lanes_stand}
-use Rattle.sparse_convert.proofs.serial.compress.Goals as goal
+use Rattle.sparse_convert.proofs.serial.compress_by_sorting.Goals as goal
 
 pub merge_lanes-requires-clause-offsets : goal.merge_lanes-requires-clause-offsets
 merge_lanes-requires-clause-offsets g c =
