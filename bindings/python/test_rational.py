@@ -1,6 +1,7 @@
 """Tests `solve_rational` beside elimination with fractions, and that no wrong solution is returned. Run by bindings/test."""
 import doctest
 import os
+import re
 import sys
 from fractions import Fraction
 
@@ -117,7 +118,15 @@ def check_wrong_digits():
     assert ns.solve_rational(*system).tolist() == [1, 6]
 
 
-assert doctest.testmod(_rational) == (0, 3)
+def check_examples():
+    """The examples of the documentation run."""
+    assert doctest.testmod(_rational) == (0, 3)
+    readme = open(os.path.join(os.path.dirname(os.path.abspath(__file__)), "README.md"), encoding="utf-8").read()
+    (example,) = (block for block in re.findall(r"```python\n(.*?)```", readme, re.S) if "solve_rational" in block)
+    exec(compile(example, "README.md", "exec"), {})
+
+
+check_examples()
 check_random_systems()
 check_large_systems()
 check_refusals()

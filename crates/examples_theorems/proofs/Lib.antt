@@ -7,3 +7,6 @@ pub mod AssembledBlocks
 pub mod NumberedElements
 pub mod ShortWalks
 pub mod OneSolution
+pub mod PlainBlocks
+pub mod RowTriplets
+pub mod BlockLists

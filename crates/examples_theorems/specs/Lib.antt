@@ -5,3 +5,5 @@ pub mod ConvertedTexts
 pub mod Assembly
 pub mod Elements
 pub mod InnerElements
+pub mod RowBlocks
+pub mod InnerRowBlocks

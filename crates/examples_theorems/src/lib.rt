@@ -2,6 +2,7 @@
 #![tactic(auto)]
 
 mod assembly;
+mod blocks;
 mod converter;
 mod determinant;
 mod elements;
