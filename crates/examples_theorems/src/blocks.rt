@@ -125,10 +125,12 @@ fn two_rows_of_a_square(alloc: Global) -> Result<bool, Fail> {
     }
     let rows = multiply_rows(alloc, &a, &a, 1, 2)?;
     let want = [20, 9, 36, 35, 10, 36].map(|number| W64::new(number));
-    Ok(rows.nrows() == 2
-        && rows.row_offsets() == [0, 3, 6].as_slice()
-        && rows.col_indices() == [0, 1, 2, 0, 1, 2].as_slice()
-        && rows.values() == want.as_slice())
+    Ok(
+        rows.nrows() == 2
+            && rows.row_offsets() == [0, 3, 6].as_slice()
+            && rows.col_indices() == [0, 1, 2, 0, 1, 2].as_slice()
+            && rows.values() == want.as_slice(),
+    )
 }
 
 #[test]
