@@ -1,5 +1,5 @@
 -- The merging pass over all lanes, and the plain matrix that it leaves.
-use Rattle.std.proofs.Common.{◌≡◌, ℕ, ◌+◌, ◌-◌, ◌<◌, ◌≤◌, inl, inr, ◌↔◌, Bool, true, false, eqb}
+use Rattle.std.proofs.Common.{◌≡◌, ℕ, ◌+◌, ◌<◌, ◌≤◌, inl, inr, ◌↔◌, Bool, true, false, eqb}
 use Rattle.std.proofs.Common.{List, [], ◌∷◌, ◌++◌, length, All, slice_index, refl, ap, ◌∙◌, subst}
 use Rattle.std.proofs.Common.{arith, length-append}
 use Rattle.std.specs.Prelude.{◌||◌}

@@ -1,4 +1,4 @@
-use Rattle.std.proofs.Common.{◌≡◌, ℕ, ◌+◌, ◌≤◌, length, slice_index, vec_len, vec_capacity}
+use Rattle.std.proofs.Common.{◌≡◌, ℕ, ◌+◌, ◌≤◌, slice_index, vec_len, vec_capacity}
 use Rattle.sparse_convert.specs.InnerMerged.{KeepsFirst}
 use Rattle.sparse_convert.proofs.in_order.end_lanes.Given as goal
 

@@ -1,4 +1,4 @@
-use Rattle.std.proofs.Common.{◌≡◌, [], ◌∷◌, ◌++◌, ◌+◌, ◌-◌, length, ap, sym, ◌∙◌, subst, refl}
+use Rattle.std.proofs.Common.{◌≡◌, [], ◌∷◌, ◌++◌, ◌+◌, ◌-◌, length, ap, sym, ◌∙◌, subst}
 use Rattle.std.proofs.Common.{slice_index, arith}
 use Rattle.std.proofs.lemmas.List.Edits.{length-between}
 use Rattle.sparse_cs.specs.Compressed.{IsSound, compressed_of}
