@@ -2,6 +2,7 @@
 
 mod compressed;
 mod dense;
+mod in_order;
 mod sizes;
 mod triplets;
 mod ways;
