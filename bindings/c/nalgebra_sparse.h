@@ -141,8 +141,38 @@ int32_t nalgebra_sparse_assemble_csc(
     int64_t *out_values, size_t out_values_len,
     size_t *out_places);
 
+/* Writes the matrix of triplets by rows modulo `modulus`: the list of moduli and the meaning of values are at the head of
+ * this file. The arrays for the result are as for nalgebra_sparse_assemble_csr.
+ *
+ * Statuses: UNKNOWN_CHOICE if the modulus is not listed; otherwise as for nalgebra_sparse_assemble_csr.
+ */
+int32_t nalgebra_sparse_assemble_csr_mod(
+    uint64_t modulus,
+    size_t rows, size_t cols,
+    const size_t *row_indices, size_t row_indices_len,
+    const size_t *col_indices, size_t col_indices_len,
+    const int64_t *values, size_t values_len,
+    size_t *out_offsets, size_t out_offsets_len,
+    size_t *out_indices, size_t out_indices_len,
+    int64_t *out_values, size_t out_values_len,
+    size_t *out_places);
+
+/* Writes the matrix of triplets by columns modulo `modulus`. The arrays for the result are as for
+ * nalgebra_sparse_assemble_csc, and the statuses as for nalgebra_sparse_assemble_csr_mod.
+ */
+int32_t nalgebra_sparse_assemble_csc_mod(
+    uint64_t modulus,
+    size_t rows, size_t cols,
+    const size_t *row_indices, size_t row_indices_len,
+    const size_t *col_indices, size_t col_indices_len,
+    const int64_t *values, size_t values_len,
+    size_t *out_offsets, size_t out_offsets_len,
+    size_t *out_indices, size_t out_indices_len,
+    int64_t *out_values, size_t out_values_len,
+    size_t *out_places);
+
 /* Writes the transpose of a matrix by rows, by rows too: out_offsets needs cols + 1 numbers, and out_indices and
- * out_values `values_len` each.
+ * out_values `values_len` each. It computes nothing, so it serves every modulus: each value is that of the operand.
  *
  * Statuses: OUT_OF_MEMORY; INVALID_STRUCTURE, INDEX_OUT_OF_BOUNDS or DUPLICATE_ENTRY for the first fault of the arrays;
  * TOO_SMALL. Faults are looked for in this order: the number of offsets; the first and the last offset; row by row the
@@ -191,6 +221,78 @@ int32_t nalgebra_sparse_subtract(
     int64_t *out_values, size_t out_values_len,
     size_t *out_places);
 
+/* Writes the sum alpha a + beta b of multiples of two matrices by rows with one shape, on the union of their places, also
+ * where a factor or a value is 0. Otherwise as nalgebra_sparse_add. Beside the result it takes memory for a multiple of
+ * each matrix.
+ */
+int32_t nalgebra_sparse_add_scaled(
+    size_t rows, size_t cols,
+    int64_t alpha,
+    const size_t *a_offsets, size_t a_offsets_len,
+    const size_t *a_indices, size_t a_indices_len,
+    const int64_t *a_values, size_t a_values_len,
+    int64_t beta,
+    const size_t *b_offsets, size_t b_offsets_len,
+    const size_t *b_indices, size_t b_indices_len,
+    const int64_t *b_values, size_t b_values_len,
+    size_t *out_offsets, size_t out_offsets_len,
+    size_t *out_indices, size_t out_indices_len,
+    int64_t *out_values, size_t out_values_len,
+    size_t *out_places);
+
+/* Writes the sum a + b modulo `modulus`: the list of moduli and the meaning of values are at the head of this file. The
+ * arrays for the result are as for nalgebra_sparse_add.
+ *
+ * Statuses: UNKNOWN_CHOICE if the modulus is not listed; otherwise as for nalgebra_sparse_add.
+ */
+int32_t nalgebra_sparse_add_mod(
+    uint64_t modulus,
+    size_t rows, size_t cols,
+    const size_t *a_offsets, size_t a_offsets_len,
+    const size_t *a_indices, size_t a_indices_len,
+    const int64_t *a_values, size_t a_values_len,
+    const size_t *b_offsets, size_t b_offsets_len,
+    const size_t *b_indices, size_t b_indices_len,
+    const int64_t *b_values, size_t b_values_len,
+    size_t *out_offsets, size_t out_offsets_len,
+    size_t *out_indices, size_t out_indices_len,
+    int64_t *out_values, size_t out_values_len,
+    size_t *out_places);
+
+/* Writes the difference a - b modulo `modulus`. Otherwise as nalgebra_sparse_add_mod. */
+int32_t nalgebra_sparse_subtract_mod(
+    uint64_t modulus,
+    size_t rows, size_t cols,
+    const size_t *a_offsets, size_t a_offsets_len,
+    const size_t *a_indices, size_t a_indices_len,
+    const int64_t *a_values, size_t a_values_len,
+    const size_t *b_offsets, size_t b_offsets_len,
+    const size_t *b_indices, size_t b_indices_len,
+    const int64_t *b_values, size_t b_values_len,
+    size_t *out_offsets, size_t out_offsets_len,
+    size_t *out_indices, size_t out_indices_len,
+    int64_t *out_values, size_t out_values_len,
+    size_t *out_places);
+
+/* Writes the sum alpha a + beta b modulo `modulus`; alpha and beta mean their residues. Otherwise as
+ * nalgebra_sparse_add_mod. Beside the result it takes memory for a multiple of each matrix.
+ */
+int32_t nalgebra_sparse_add_scaled_mod(
+    uint64_t modulus,
+    size_t rows, size_t cols,
+    int64_t alpha,
+    const size_t *a_offsets, size_t a_offsets_len,
+    const size_t *a_indices, size_t a_indices_len,
+    const int64_t *a_values, size_t a_values_len,
+    int64_t beta,
+    const size_t *b_offsets, size_t b_offsets_len,
+    const size_t *b_indices, size_t b_indices_len,
+    const int64_t *b_values, size_t b_values_len,
+    size_t *out_offsets, size_t out_offsets_len,
+    size_t *out_indices, size_t out_indices_len,
+    int64_t *out_values, size_t out_values_len,
+    size_t *out_places);
+
 /* Writes to *out_places how many places the product of two patterns by rows has: the size for nalgebra_sparse_multiply.
  * `a` has `rows` rows and `inner` columns, `b` has `inner` rows and `cols` columns.
  *
@@ -224,6 +326,26 @@ int32_t nalgebra_sparse_multiply(
     int64_t *out_values, size_t out_values_len,
     size_t *out_places);
 
+/* Writes the product a b modulo `modulus`, on the same places, also where the sum is a multiple of the modulus: the list
+ * of moduli and the meaning of values are at the head of this file. The arrays for the result are as for
+ * nalgebra_sparse_multiply.
+ *
+ * Statuses: UNKNOWN_CHOICE if the modulus is not listed; otherwise as for nalgebra_sparse_multiply.
+ */
+int32_t nalgebra_sparse_multiply_mod(
+    uint64_t modulus,
+    size_t rows, size_t inner, size_t cols,
+    const size_t *a_offsets, size_t a_offsets_len,
+    const size_t *a_indices, size_t a_indices_len,
+    const int64_t *a_values, size_t a_values_len,
+    const size_t *b_offsets, size_t b_offsets_len,
+    const size_t *b_indices, size_t b_indices_len,
+    const int64_t *b_values, size_t b_values_len,
+    size_t *out_offsets, size_t out_offsets_len,
+    size_t *out_indices, size_t out_indices_len,
+    int64_t *out_values, size_t out_values_len,
+    size_t *out_places);
+
 /* Writes the dense product a b: `a` has `rows` rows and `inner` columns, by rows; `b` has `inner` rows and `cols`
  * columns, and b_values_len is inner * cols. out_values needs rows * cols numbers.
  *
@@ -231,6 +353,19 @@ int32_t nalgebra_sparse_multiply(
  * number of values; TOO_SMALL.
  */
 int32_t nalgebra_sparse_multiply_dense(
+    size_t rows, size_t inner, size_t cols,
+    const size_t *a_offsets, size_t a_offsets_len,
+    const size_t *a_indices, size_t a_indices_len,
+    const int64_t *a_values, size_t a_values_len,
+    const int64_t *b_values, size_t b_values_len,
+    int64_t *out_values, size_t out_values_len);
+
+/* Writes that product modulo `modulus`: the list of moduli and the meaning of values are at the head of this file.
+ *
+ * Statuses: UNKNOWN_CHOICE if the modulus is not listed; otherwise as for nalgebra_sparse_multiply_dense.
+ */
+int32_t nalgebra_sparse_multiply_dense_mod(
+    uint64_t modulus,
     size_t rows, size_t inner, size_t cols,
     const size_t *a_offsets, size_t a_offsets_len,
     const size_t *a_indices, size_t a_indices_len,

@@ -161,6 +161,20 @@ static inline int32_t nalgebra_sparse_assemble_csc_lists(nalgebra_sparse_lists t
     return nalgebra_sparse_written(status, out, t.rows, t.cols, places);
 }
 
+static inline int32_t nalgebra_sparse_assemble_csr_mod_lists(uint64_t modulus, nalgebra_sparse_lists t, nalgebra_sparse_result *out) {
+    size_t places = 0;
+    int32_t status = nalgebra_sparse_assemble_csr_mod(
+        modulus, t.rows, t.cols, NALGEBRA_SPARSE_LISTS(t), NALGEBRA_SPARSE_OUT(out), &places);
+    return nalgebra_sparse_written(status, out, t.rows, t.cols, places);
+}
+
+static inline int32_t nalgebra_sparse_assemble_csc_mod_lists(uint64_t modulus, nalgebra_sparse_lists t, nalgebra_sparse_result *out) {
+    size_t places = 0;
+    int32_t status = nalgebra_sparse_assemble_csc_mod(
+        modulus, t.rows, t.cols, NALGEBRA_SPARSE_LISTS(t), NALGEBRA_SPARSE_OUT(out), &places);
+    return nalgebra_sparse_written(status, out, t.rows, t.cols, places);
+}
+
 static inline int32_t nalgebra_sparse_read_sizes_lists(const uint8_t *text, size_t text_len, nalgebra_sparse_triplets *out) {
     return nalgebra_sparse_read_sizes(NALGEBRA_SPARSE_TEXT(text, text_len), &out->rows, &out->cols, &out->count);
 }
@@ -205,6 +219,46 @@ static inline int32_t nalgebra_sparse_subtract_rows(nalgebra_sparse_rows a, nalg
     return nalgebra_sparse_written(status, out, a.rows, a.cols, places);
 }
 
+static inline int32_t nalgebra_sparse_add_scaled_rows(
+    int64_t alpha, nalgebra_sparse_rows a, int64_t beta, nalgebra_sparse_rows b, nalgebra_sparse_result *out) {
+    size_t places = 0;
+    if (a.rows != b.rows || a.cols != b.cols) return NALGEBRA_SPARSE_SHAPE_MISMATCH;
+    int32_t status = nalgebra_sparse_add_scaled(
+        a.rows, a.cols, alpha, NALGEBRA_SPARSE_LANES(a, a.rows), beta, NALGEBRA_SPARSE_LANES(b, b.rows),
+        NALGEBRA_SPARSE_OUT(out), &places);
+    return nalgebra_sparse_written(status, out, a.rows, a.cols, places);
+}
+
+static inline int32_t nalgebra_sparse_add_mod_rows(
+    uint64_t modulus, nalgebra_sparse_rows a, nalgebra_sparse_rows b, nalgebra_sparse_result *out) {
+    size_t places = 0;
+    if (a.rows != b.rows || a.cols != b.cols) return NALGEBRA_SPARSE_SHAPE_MISMATCH;
+    int32_t status = nalgebra_sparse_add_mod(
+        modulus, a.rows, a.cols, NALGEBRA_SPARSE_LANES(a, a.rows), NALGEBRA_SPARSE_LANES(b, b.rows),
+        NALGEBRA_SPARSE_OUT(out), &places);
+    return nalgebra_sparse_written(status, out, a.rows, a.cols, places);
+}
+
+static inline int32_t nalgebra_sparse_subtract_mod_rows(
+    uint64_t modulus, nalgebra_sparse_rows a, nalgebra_sparse_rows b, nalgebra_sparse_result *out) {
+    size_t places = 0;
+    if (a.rows != b.rows || a.cols != b.cols) return NALGEBRA_SPARSE_SHAPE_MISMATCH;
+    int32_t status = nalgebra_sparse_subtract_mod(
+        modulus, a.rows, a.cols, NALGEBRA_SPARSE_LANES(a, a.rows), NALGEBRA_SPARSE_LANES(b, b.rows),
+        NALGEBRA_SPARSE_OUT(out), &places);
+    return nalgebra_sparse_written(status, out, a.rows, a.cols, places);
+}
+
+static inline int32_t nalgebra_sparse_add_scaled_mod_rows(
+    uint64_t modulus, int64_t alpha, nalgebra_sparse_rows a, int64_t beta, nalgebra_sparse_rows b, nalgebra_sparse_result *out) {
+    size_t places = 0;
+    if (a.rows != b.rows || a.cols != b.cols) return NALGEBRA_SPARSE_SHAPE_MISMATCH;
+    int32_t status = nalgebra_sparse_add_scaled_mod(
+        modulus, a.rows, a.cols, alpha, NALGEBRA_SPARSE_LANES(a, a.rows), beta, NALGEBRA_SPARSE_LANES(b, b.rows),
+        NALGEBRA_SPARSE_OUT(out), &places);
+    return nalgebra_sparse_written(status, out, a.rows, a.cols, places);
+}
+
 static inline int32_t nalgebra_sparse_multiply_places_rows(nalgebra_sparse_rows a, nalgebra_sparse_rows b, size_t *out_places) {
     if (a.cols != b.rows) return NALGEBRA_SPARSE_SHAPE_MISMATCH;
     return nalgebra_sparse_multiply_places(
@@ -220,10 +274,27 @@ static inline int32_t nalgebra_sparse_multiply_rows(nalgebra_sparse_rows a, nalg
     return nalgebra_sparse_written(status, out, a.rows, b.cols, places);
 }
 
+static inline int32_t nalgebra_sparse_multiply_mod_rows(
+    uint64_t modulus, nalgebra_sparse_rows a, nalgebra_sparse_rows b, nalgebra_sparse_result *out) {
+    size_t places = 0;
+    if (a.cols != b.rows) return NALGEBRA_SPARSE_SHAPE_MISMATCH;
+    int32_t status = nalgebra_sparse_multiply_mod(
+        modulus, a.rows, a.cols, b.cols, NALGEBRA_SPARSE_LANES(a, a.rows), NALGEBRA_SPARSE_LANES(b, b.rows),
+        NALGEBRA_SPARSE_OUT(out), &places);
+    return nalgebra_sparse_written(status, out, a.rows, b.cols, places);
+}
+
 static inline int32_t nalgebra_sparse_multiply_dense_rows(
     nalgebra_sparse_rows a, nalgebra_sparse_dense b, int64_t *out_values, size_t out_values_len) {
     return nalgebra_sparse_multiply_dense(
         a.rows, a.cols, b.cols, NALGEBRA_SPARSE_LANES(a, a.rows), NALGEBRA_SPARSE_DENSE(b),
+        NALGEBRA_SPARSE_VALUES(out_values, out_values_len));
+}
+
+static inline int32_t nalgebra_sparse_multiply_dense_mod_rows(
+    uint64_t modulus, nalgebra_sparse_rows a, nalgebra_sparse_dense b, int64_t *out_values, size_t out_values_len) {
+    return nalgebra_sparse_multiply_dense_mod(
+        modulus, a.rows, a.cols, b.cols, NALGEBRA_SPARSE_LANES(a, a.rows), NALGEBRA_SPARSE_DENSE(b),
         NALGEBRA_SPARSE_VALUES(out_values, out_values_len));
 }
 

@@ -86,6 +86,31 @@ static void check_rows(void) {
     CHECK(nalgebra_sparse_multiply_rows(empty, nalgebra_sparse_rows_of(&back), &r) == DONE && r.rows == 0 && r.cols == 2 && r.places == 0);
 }
 
+/* The same modulo 5. */
+static void check_rows_modulo(void) {
+    const int64_t a[] = {1, 2, 99, 99, 99, 2}, twice[] = {2, 4, 99, 99, 99, 4}, none[] = {0, 0, 99, 99, 99, 0}, five[] = {5, 10, 99, 99, 99, 35};
+    const int64_t square[] = {0, 99, 99, 4}, dense[] = {1, 2, 3}, want[] = {0, 1};
+    arrays x, y;
+    nalgebra_sparse_result r = result_in(&x), back = result_in(&y);
+    int64_t product[2];
+    nalgebra_sparse_dense b = {1, dense, 3};
+    nalgebra_sparse_rows wide = {2, 4, OFFSETS, INDICES, ENTRIES, 3}, turned;
+    CHECK(nalgebra_sparse_assemble_csr_mod_lists(5, LIST, &r) == DONE && holds(r, 0, 2, 3, a));
+    CHECK(nalgebra_sparse_assemble_csc_mod_lists(5, LIST, &r) == DONE && holds(r, 1, 2, 3, a));
+    CHECK(nalgebra_sparse_transpose_rows(A, &back) == DONE);
+    turned = nalgebra_sparse_rows_of(&back);
+    CHECK(nalgebra_sparse_add_mod_rows(5, A, A, &r) == DONE && holds(r, 0, 2, 3, twice));
+    CHECK(nalgebra_sparse_subtract_mod_rows(5, A, A, &r) == DONE && holds(r, 0, 2, 3, none));
+    CHECK(nalgebra_sparse_add_scaled_rows(7, A, -2, A, &r) == DONE && holds(r, 0, 2, 3, five));
+    CHECK(nalgebra_sparse_add_scaled_mod_rows(5, 7, A, -2, A, &r) == DONE && holds(r, 0, 2, 3, none));
+    CHECK(nalgebra_sparse_multiply_mod_rows(5, A, turned, &r) == DONE && holds(r, 0, 2, 2, square));
+    CHECK(nalgebra_sparse_multiply_dense_mod_rows(5, A, b, product, 2) == DONE && memcmp(product, want, sizeof want) == 0);
+    r = result_in(&x);
+    CHECK(nalgebra_sparse_add_mod_rows(5, A, wide, &r) == SHAPE && nalgebra_sparse_subtract_mod_rows(5, A, wide, &r) == SHAPE);
+    CHECK(nalgebra_sparse_add_scaled_rows(7, A, 1, wide, &r) == SHAPE && nalgebra_sparse_add_scaled_mod_rows(5, 7, A, 1, wide, &r) == SHAPE);
+    CHECK(nalgebra_sparse_multiply_mod_rows(5, A, A, &r) == SHAPE && r.rows == 77 && r.cols == 77 && r.places == 77);
+}
+
 static void check_cols(void) {
     const int64_t lower[] = {5, 7}, upper[] = {9, 7}, even[] = {1, 2}, values[] = {2, 2}, l[] = {1, 99, 3, 1}, u[] = {1, 99, 2, 1};
     arrays x;
@@ -167,6 +192,7 @@ static void check_texts_of_statuses(void) {
 
 int main(void) {
     check_rows();
+    check_rows_modulo();
     check_cols();
     check_texts();
     check_nulls();

@@ -63,12 +63,20 @@ static const char LINES[] = "%%MatrixMarket matrix coordinate integer symmetric\
 #define CALLS(CALL)                                                     \
     CALL(assemble_csr, 3, 3, LISTS, TO_MATRIX)                          \
     CALL(assemble_csc, 3, 3, LISTS, TO_MATRIX)                          \
+    CALL(assemble_csr_mod, 7, 3, 3, LISTS, TO_MATRIX)                   \
+    CALL(assemble_csc_mod, 7, 3, 3, LISTS, TO_MATRIX)                   \
     CALL(transpose, 3, 3, MATRIX, TO_MATRIX)                            \
     CALL(add, 3, 3, MATRIX, MATRIX, TO_MATRIX)                          \
     CALL(subtract, 3, 3, MATRIX, MATRIX, TO_MATRIX)                     \
+    CALL(add_scaled, 3, 3, 2, MATRIX, -3, MATRIX, TO_MATRIX)            \
+    CALL(add_mod, 7, 3, 3, MATRIX, MATRIX, TO_MATRIX)                   \
+    CALL(subtract_mod, 7, 3, 3, MATRIX, MATRIX, TO_MATRIX)              \
+    CALL(add_scaled_mod, 7, 3, 3, 2, MATRIX, -3, MATRIX, TO_MATRIX)     \
     CALL(multiply_places, 3, 3, 3, PATTERN, PATTERN, &t->count)         \
     CALL(multiply, 3, 3, 3, MATRIX, MATRIX, TO_MATRIX)                  \
+    CALL(multiply_mod, 7, 3, 3, 3, MATRIX, MATRIX, TO_MATRIX)           \
     CALL(multiply_dense, 3, 3, 2, MATRIX, SIDES, 6, TO_VALUES)          \
+    CALL(multiply_dense_mod, 7, 3, 3, 2, MATRIX, SIDES, 6, TO_VALUES)   \
     CALL(solve_lower, 3, 2, MATRIX, true, SIDES, 6, TO_VALUES)          \
     CALL(solve_lower_mod, 7, 3, 2, MATRIX, false, SIDES, 6, TO_VALUES)  \
     CALL(divide, 3, 3, MATRIX, 5, TO_MATRIX)                            \

@@ -76,6 +76,7 @@ def check_random_cases():
         check_dense_case()
         check_solves()
         check_modulus()
+        check_ring()
         check_text()
 
 
@@ -161,6 +162,39 @@ def check_solves():
 def whole(array):
     """Returns the array with Python's integers, which don't wrap."""
     return array.astype(object)
+
+
+def check_ring():
+    """Checks assembly, sums and products modulo a prime, and sums of multiples modulo 2^64."""
+    modulus = ns.MODULI[random.integers(len(ns.MODULI))]
+    n, m, k = (int(size) for size in random.integers(1, 6, 3))
+    alpha, beta = (int(number) for number in below(2))
+    (i, j, values), a, b, c = triplets(n, m), matrix(n, m), matrix(n, m), matrix(m, k)
+    x, y, z = whole(a.toarray()), whole(b.toarray()), whole(c.toarray())
+    listed = np.zeros((n, m), object)
+    np.add.at(listed, (i, j), whole(values))
+    dense = below(m * k).reshape(m, k)
+    for found, plain in [
+        (ns.assemble_csr((n, m), i, j, values, modulus), listed),
+        (ns.assemble_csc((n, m), i, j, values, modulus), listed),
+        (ns.add(a, b, modulus), x + y),
+        (ns.subtract(a, b, modulus), x - y),
+        (ns.add_scaled(alpha, a, beta, b, modulus), alpha * x + beta * y),
+        (ns.multiply(a, c, modulus), x.dot(z)),
+    ]:
+        assert not found.nnz or (found.data.min() >= 0 and found.data.max() < modulus)
+        assert np.all((whole(found.toarray()) - plain) % modulus == 0)
+    assert np.all((whole(ns.multiply_dense(a, dense, modulus)) - x.dot(whole(dense))) % modulus == 0)
+    multiples = ns.add_scaled(alpha, a, beta, b)
+    assert np.all((whole(multiples.toarray()) - alpha * x - beta * y) % 2**64 == 0)
+    for added in (multiples, ns.add_scaled(alpha, a, beta, b, modulus), ns.add(a, b, modulus), ns.subtract(a, b, modulus)):
+        assert same_places(added, ns.add(a, b))
+    assert same_places(ns.multiply(a, c, modulus), ns.multiply(a, c))
+
+
+def same_places(a, b):
+    """Says whether two matrices by rows have the same places."""
+    return np.array_equal(a.indptr, b.indptr) and np.array_equal(a.indices, b.indices)
 
 
 def check_modulus():
@@ -256,6 +290,10 @@ def check_errors():
         refused(ns.UnknownModulus, ns.solve_lower, odd, b, False, modulus)
         refused(ns.UnknownModulus, ns.solve_symmetric, odd, b, modulus)
         refused(ns.UnknownModulus, ns.divide, fine, 3, modulus)
+        refused(ns.UnknownModulus, ns.add, fine, fine, modulus)
+        refused(ns.UnknownModulus, ns.add_scaled, 2, fine, 3, fine, modulus)
+        refused(ns.UnknownModulus, ns.multiply_dense, sp.csr_matrix(odd), b, modulus)
+        refused(ns.UnknownModulus, ns.multiply, odd, odd, modulus)
         refused(ns.UnknownModulus, ns.factor_symmetric, odd, modulus)
     refused(ns.Singular, ns.solve_lower, odd, b, False, 7)
     refused(ns.Singular, ns.solve_symmetric, odd, b, 5)

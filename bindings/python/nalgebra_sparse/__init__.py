@@ -7,8 +7,8 @@ the class of the first operand, and values are `int64`. Sums and products wrap. 
 Operands with other dtypes of integers that fit in `int64`, or that are not contiguous, are copied once. No other thread
 may change an operand during a call. Otherwise several threads may call at once, and a call does not hold Python's lock.
 
-Division, solves and factors are also computed modulo a prime: `modulus` is one of `MODULI`. An integer then means its
-residue, also where it is negative, and the values of a result are from 0 to modulus - 1.
+Assembly, sums, products, division, solves and factors are also computed modulo a prime: `modulus` is one of `MODULI`. An
+integer then means its residue, also where it is negative, and the values of a result are from 0 to modulus - 1.
 
 A refusal is an `Error` or a `MemoryError`, and an argument of the wrong type is a `TypeError`.
 
@@ -27,7 +27,7 @@ import ctypes
 import os
 
 from ._errors import DuplicateEntry, Error, IndexOutOfBounds, InvalidStructure, InvalidText, Singular, UnknownModulus
-from ._matrices import add, assemble_csc, assemble_csr, divide, multiply, multiply_dense, subtract, transpose
+from ._matrices import add, add_scaled, assemble_csc, assemble_csr, divide, multiply, multiply_dense, subtract, transpose
 from ._operands import integer as _integer
 from ._rational import solve_rational
 from ._systems import factor_symmetric, fill, solve_lower, solve_symmetric
@@ -43,6 +43,7 @@ __all__ = [
     "Singular",
     "UnknownModulus",
     "add",
+    "add_scaled",
     "assemble_csc",
     "assemble_csr",
     "divide",

@@ -13,20 +13,26 @@ from ._operands import Integers, Lanes, Matrix, dense_of, integer, lanes_of, mod
 from ._results import empty, filled, matrix_of
 
 
-def assemble_csr(shape: tuple[int, int], row_indices: Integers, col_indices: Integers, values: Integers) -> sp.csr_matrix:
+def assemble_csr(
+    shape: tuple[int, int], row_indices: Integers, col_indices: Integers, values: Integers, modulus: Optional[int] = None
+) -> sp.csr_matrix:
     """Returns the matrix of triplets by rows, in which the values at one place are added. A place is kept where its sum is 0.
 
     >>> import numpy as np
     >>> a = assemble_csr((2, 2), np.array([0, 0, 1, 1]), np.array([0, 1, 1, 1]), np.array([1, 2, 2, 1]))
     >>> a.toarray().tolist()
     [[1, 2], [0, 3]]
+    >>> assemble_csr((1, 1), np.array([0, 0]), np.array([0, 0]), np.array([5, 4]), modulus=7).toarray().tolist()
+    [[2]]
     """
     rows, cols = shape_of("shape", shape)
     triplets = triplets_of(row_indices, col_indices, values)
-    return matrix_of(sp.csr_matrix, filled(rows, triplets[2].size, "assemble_csr", rows, cols, *triplets), (rows, cols))
+    return matrix_of(sp.csr_matrix, filled(rows, triplets[2].size, *modular("assemble_csr", modulus), rows, cols, *triplets), (rows, cols))
 
 
-def assemble_csc(shape: tuple[int, int], row_indices: Integers, col_indices: Integers, values: Integers) -> sp.csc_matrix:
+def assemble_csc(
+    shape: tuple[int, int], row_indices: Integers, col_indices: Integers, values: Integers, modulus: Optional[int] = None
+) -> sp.csc_matrix:
     """Returns the matrix of triplets by columns, in which the values at one place are added. A place is kept where its sum is 0.
 
     >>> import numpy as np
@@ -36,7 +42,7 @@ def assemble_csc(shape: tuple[int, int], row_indices: Integers, col_indices: Int
     """
     rows, cols = shape_of("shape", shape)
     triplets = triplets_of(row_indices, col_indices, values)
-    return matrix_of(sp.csc_matrix, filled(cols, triplets[2].size, "assemble_csc", rows, cols, *triplets), (rows, cols))
+    return matrix_of(sp.csc_matrix, filled(cols, triplets[2].size, *modular("assemble_csc", modulus), rows, cols, *triplets), (rows, cols))
 
 
 def transpose(matrix: Matrix) -> Matrix:
@@ -51,15 +57,25 @@ def transpose(matrix: Matrix) -> Matrix:
     return matrix_of(a.kind, filled(inner, a.values.size, "transpose", lanes, inner, *a.arrays), a.shape[::-1])
 
 
-def _merged(name: str, a: Any, b: Any) -> Any:
+def _merged(name: str, modulus: Any, a: Any, b: Any, *factors: int) -> Any:
+    """Calls a sum, and returns it in the form of the operands. The factors of a sum of multiples stand before its operands."""
     x, y = pair_of(a, b)
     if x.shape != y.shape:
         raise Error(f"the shapes {x.shape} and {y.shape} differ")
-    parts = filled(x.sizes[0], x.values.size + y.values.size, name, *x.sizes, *x.arrays, *y.arrays)
+    operands = (*factors[:1], *x.arrays, *factors[1:], *y.arrays)
+    parts = filled(x.sizes[0], x.values.size + y.values.size, *modular(name, modulus), *x.sizes, *operands)
     return matrix_of(x.kind, parts, x.shape)
 
 
-def add(a: Matrix, b: Matrix) -> Matrix:
+def _value(name: str, number: Any) -> int:
+    """Returns an integer of 64 bits."""
+    value = integer(name, number)
+    if not -(2**63) <= value < 2**63:
+        raise Error(f"{name} must be an integer of 64 bits, not {value}")
+    return value
+
+
+def add(a: Matrix, b: Matrix, modulus: Optional[int] = None) -> Matrix:
     """Returns the sum of two matrices in one form, on the union of their places.
 
     >>> import numpy as np, scipy.sparse as sp
@@ -68,10 +84,10 @@ def add(a: Matrix, b: Matrix) -> Matrix:
     >>> c.nnz, c.toarray().tolist()
     (3, [[0, 4], [0, 2]])
     """
-    return _merged("add", a, b)
+    return _merged("add", modulus, a, b)
 
 
-def subtract(a: Matrix, b: Matrix) -> Matrix:
+def subtract(a: Matrix, b: Matrix, modulus: Optional[int] = None) -> Matrix:
     """Returns the difference of two matrices in one form, on the union of their places.
 
     >>> import numpy as np, scipy.sparse as sp
@@ -79,17 +95,33 @@ def subtract(a: Matrix, b: Matrix) -> Matrix:
     >>> subtract(a, b).toarray().tolist()
     [[1, -4], [0, -3]]
     """
-    return _merged("subtract", a, b)
+    return _merged("subtract", modulus, a, b)
 
 
-def multiply(a: Matrix, b: Matrix) -> Matrix:
+def add_scaled(alpha: int, a: Matrix, beta: int, b: Matrix, modulus: Optional[int] = None) -> Matrix:
+    """Returns the sum alpha a + beta b of multiples of two matrices in one form, on the union of their places.
+
+    >>> import numpy as np, scipy.sparse as sp
+    >>> a, b = sp.csr_array(np.array([[1, 0], [0, 2]])), sp.csr_array(np.array([[3, 4], [0, 0]]))
+    >>> add_scaled(2, a, -1, b).toarray().tolist()
+    [[-1, -4], [0, 4]]
+    >>> add_scaled(2, a, -1, b, modulus=5).toarray().tolist()
+    [[4, 1], [0, 4]]
+    """
+    return _merged("add_scaled", modulus, a, b, _value("alpha", alpha), _value("beta", beta))
+
+
+def multiply(a: Matrix, b: Matrix, modulus: Optional[int] = None) -> Matrix:
     """Returns the product of two matrices in one form, with a place wherever they share a middle index.
 
     >>> import numpy as np, scipy.sparse as sp
     >>> a = sp.csr_matrix(np.array([[1, 2], [0, 3]]))
     >>> multiply(a, a).toarray().tolist()
     [[1, 8], [0, 9]]
+    >>> multiply(a, a, modulus=7).toarray().tolist()
+    [[1, 1], [0, 2]]
     """
+    name = modular("multiply", modulus)
     x, y = pair_of(a, b)
     (rows, inner), (other, cols) = x.shape, y.shape
     if inner != other:
@@ -97,7 +129,7 @@ def multiply(a: Matrix, b: Matrix) -> Matrix:
     # By columns, the product of the transposes in the other order is the transpose of the product by rows.
     first, second = (x, y) if x.sizes == x.shape else (y, x)
     sizes = (first.sizes[0], inner, second.sizes[1])
-    parts = filled(sizes[0], _product_room(sizes, first, second), "multiply", *sizes, *first.arrays, *second.arrays)
+    parts = filled(sizes[0], _product_room(sizes, first, second), *name, *sizes, *first.arrays, *second.arrays)
     return matrix_of(x.kind, parts, (rows, cols))
 
 
@@ -122,18 +154,20 @@ def _product_room(sizes: tuple[int, int, int], a: Lanes, b: Lanes) -> int:
     return places.value
 
 
-def multiply_dense(a: Matrix, b: Integers) -> Integers:
+def multiply_dense(a: Matrix, b: Integers, modulus: Optional[int] = None) -> Integers:
     """Returns the dense product of a matrix by rows and a NumPy array, a vector or a matrix. The result is stored column by column.
 
     >>> import numpy as np, scipy.sparse as sp
     >>> multiply_dense(sp.csr_matrix(np.array([[1, 2], [0, 3]])), np.array([5, 7])).tolist()
     [19, 21]
+    >>> multiply_dense(sp.csr_matrix(np.array([[1, 2], [0, 3]])), np.array([5, 7]), modulus=11).tolist()
+    [8, 10]
     """
     lanes = lanes_of("a", a, "csr")
     rows, inner = lanes.shape
     values, cols = dense_of("b", b, inner)
     product = empty(rows * cols)
-    call("multiply_dense", rows, inner, cols, *lanes.arrays, values, product)
+    call(*modular("multiply_dense", modulus), rows, inner, cols, *lanes.arrays, values, product)
     return product.reshape((rows, *b.shape[1:]), order="F")
 
 
@@ -148,8 +182,6 @@ def divide(matrix: Matrix, divisor: int, modulus: Optional[int] = None) -> Matri
     [[3, 1]]
     """
     a = lanes_of("matrix", matrix, "csr", "csc")
-    number = integer("divisor", divisor)
-    if not -(2**63) <= number < 2**63:
-        raise Error(f"divisor must be an integer of 64 bits, not {number}")
+    number = _value("divisor", divisor)
     parts = filled(a.sizes[0], a.values.size, *modular("divide", modulus), *a.sizes, *a.arrays, number)
     return matrix_of(a.kind, parts, a.shape)

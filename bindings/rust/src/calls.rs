@@ -30,6 +30,28 @@ extern "C" {
         out_places: *mut usize,
     ) -> i32;
 
+    pub fn nalgebra_sparse_assemble_csr_mod(
+        modulus: u64, rows: usize, cols: usize,
+        row_indices: *const usize, row_indices_len: usize,
+        col_indices: *const usize, col_indices_len: usize,
+        values: *const i64, values_len: usize,
+        out_offsets: *mut usize, out_offsets_len: usize,
+        out_indices: *mut usize, out_indices_len: usize,
+        out_values: *mut i64, out_values_len: usize,
+        out_places: *mut usize,
+    ) -> i32;
+
+    pub fn nalgebra_sparse_assemble_csc_mod(
+        modulus: u64, rows: usize, cols: usize,
+        row_indices: *const usize, row_indices_len: usize,
+        col_indices: *const usize, col_indices_len: usize,
+        values: *const i64, values_len: usize,
+        out_offsets: *mut usize, out_offsets_len: usize,
+        out_indices: *mut usize, out_indices_len: usize,
+        out_values: *mut i64, out_values_len: usize,
+        out_places: *mut usize,
+    ) -> i32;
+
     pub fn nalgebra_sparse_transpose(
         rows: usize, cols: usize,
         offsets: *const usize, offsets_len: usize,
@@ -69,6 +91,66 @@ extern "C" {
         out_places: *mut usize,
     ) -> i32;
 
+    pub fn nalgebra_sparse_add_scaled(
+        rows: usize, cols: usize,
+        alpha: i64,
+        a_offsets: *const usize, a_offsets_len: usize,
+        a_indices: *const usize, a_indices_len: usize,
+        a_values: *const i64, a_values_len: usize,
+        beta: i64,
+        b_offsets: *const usize, b_offsets_len: usize,
+        b_indices: *const usize, b_indices_len: usize,
+        b_values: *const i64, b_values_len: usize,
+        out_offsets: *mut usize, out_offsets_len: usize,
+        out_indices: *mut usize, out_indices_len: usize,
+        out_values: *mut i64, out_values_len: usize,
+        out_places: *mut usize,
+    ) -> i32;
+
+    pub fn nalgebra_sparse_add_mod(
+        modulus: u64, rows: usize, cols: usize,
+        a_offsets: *const usize, a_offsets_len: usize,
+        a_indices: *const usize, a_indices_len: usize,
+        a_values: *const i64, a_values_len: usize,
+        b_offsets: *const usize, b_offsets_len: usize,
+        b_indices: *const usize, b_indices_len: usize,
+        b_values: *const i64, b_values_len: usize,
+        out_offsets: *mut usize, out_offsets_len: usize,
+        out_indices: *mut usize, out_indices_len: usize,
+        out_values: *mut i64, out_values_len: usize,
+        out_places: *mut usize,
+    ) -> i32;
+
+    pub fn nalgebra_sparse_subtract_mod(
+        modulus: u64, rows: usize, cols: usize,
+        a_offsets: *const usize, a_offsets_len: usize,
+        a_indices: *const usize, a_indices_len: usize,
+        a_values: *const i64, a_values_len: usize,
+        b_offsets: *const usize, b_offsets_len: usize,
+        b_indices: *const usize, b_indices_len: usize,
+        b_values: *const i64, b_values_len: usize,
+        out_offsets: *mut usize, out_offsets_len: usize,
+        out_indices: *mut usize, out_indices_len: usize,
+        out_values: *mut i64, out_values_len: usize,
+        out_places: *mut usize,
+    ) -> i32;
+
+    pub fn nalgebra_sparse_add_scaled_mod(
+        modulus: u64, rows: usize, cols: usize,
+        alpha: i64,
+        a_offsets: *const usize, a_offsets_len: usize,
+        a_indices: *const usize, a_indices_len: usize,
+        a_values: *const i64, a_values_len: usize,
+        beta: i64,
+        b_offsets: *const usize, b_offsets_len: usize,
+        b_indices: *const usize, b_indices_len: usize,
+        b_values: *const i64, b_values_len: usize,
+        out_offsets: *mut usize, out_offsets_len: usize,
+        out_indices: *mut usize, out_indices_len: usize,
+        out_values: *mut i64, out_values_len: usize,
+        out_places: *mut usize,
+    ) -> i32;
+
     pub fn nalgebra_sparse_multiply_places(
         rows: usize, inner: usize, cols: usize,
         a_offsets: *const usize, a_offsets_len: usize,
@@ -92,8 +174,31 @@ extern "C" {
         out_places: *mut usize,
     ) -> i32;
 
+    pub fn nalgebra_sparse_multiply_mod(
+        modulus: u64, rows: usize, inner: usize, cols: usize,
+        a_offsets: *const usize, a_offsets_len: usize,
+        a_indices: *const usize, a_indices_len: usize,
+        a_values: *const i64, a_values_len: usize,
+        b_offsets: *const usize, b_offsets_len: usize,
+        b_indices: *const usize, b_indices_len: usize,
+        b_values: *const i64, b_values_len: usize,
+        out_offsets: *mut usize, out_offsets_len: usize,
+        out_indices: *mut usize, out_indices_len: usize,
+        out_values: *mut i64, out_values_len: usize,
+        out_places: *mut usize,
+    ) -> i32;
+
     pub fn nalgebra_sparse_multiply_dense(
         rows: usize, inner: usize, cols: usize,
+        a_offsets: *const usize, a_offsets_len: usize,
+        a_indices: *const usize, a_indices_len: usize,
+        a_values: *const i64, a_values_len: usize,
+        b_values: *const i64, b_values_len: usize,
+        out_values: *mut i64, out_values_len: usize,
+    ) -> i32;
+
+    pub fn nalgebra_sparse_multiply_dense_mod(
+        modulus: u64, rows: usize, inner: usize, cols: usize,
         a_offsets: *const usize, a_offsets_len: usize,
         a_indices: *const usize, a_indices_len: usize,
         a_values: *const i64, a_values_len: usize,

@@ -13,7 +13,10 @@ mod texts;
 pub use error::Error;
 pub use factors::{factor_symmetric, factor_symmetric_mod, Factors};
 pub use matrices::{Arrays, ColumnArrays, Columns, Rows};
-pub use moduli::{divide_mod, solve_lower_mod, solve_symmetric_mod, MODULI};
-pub use operations::{add, assemble_csc, assemble_csr, divide, multiply, multiply_dense, subtract, transpose};
+pub use moduli::{
+    add_mod, add_scaled_mod, assemble_csc_mod, assemble_csr_mod, divide_mod, multiply_dense_mod, multiply_mod, solve_lower_mod,
+    solve_symmetric_mod, subtract_mod, MODULI,
+};
+pub use operations::{add, add_scaled, assemble_csc, assemble_csr, divide, multiply, multiply_dense, subtract, transpose};
 pub use systems::{fill, solve_lower, solve_symmetric, System, Triangle};
 pub use texts::{read, write, Triplets};

@@ -110,6 +110,42 @@ pub fn subtract(a: Rows<'_>, b: Rows<'_>) -> Result<Arrays, Error> {
     Ok(Arrays::new((a.rows, a.cols), parts))
 }
 
+/// Returns the sum `alpha * a + beta * b` of multiples of two matrices by rows with one shape, on the union of their places,
+/// also where a factor or a value is 0.
+///
+/// # Errors
+///
+/// [`Error::OutOfMemory`]; [`Error::InvalidStructure`], [`Error::IndexOutOfBounds`] or [`Error::DuplicateEntry`] for the
+/// first fault of `a`, and otherwise of `b`; [`Error::ShapeMismatch`].
+///
+/// # Examples
+///
+/// ```
+/// use nalgebra_sparse_exact::{add_scaled, assemble_csr};
+///
+/// let a = assemble_csr(1, 2, &[0], &[0], &[5])?;
+/// let b = assemble_csr(1, 2, &[0, 0], &[0, 1], &[3, 7])?;
+/// assert_eq!(add_scaled(2, a.as_rows(), -1, b.as_rows())?.values, [7, -7]);
+/// # Ok::<(), nalgebra_sparse_exact::Error>(())
+/// ```
+pub fn add_scaled(alpha: i64, a: Rows<'_>, beta: i64, b: Rows<'_>) -> Result<Arrays, Error> {
+    if (a.rows, a.cols) != (b.rows, b.cols) {
+        return Err(Error::ShapeMismatch);
+    }
+    // SAFETY: each pointer is that of a slice, with the slice's length behind it.
+    let parts = into_parts(a.rows, a.values.len().saturating_add(b.values.len()), |o, x, v, places| unsafe {
+        calls::nalgebra_sparse_add_scaled(
+            a.rows, a.cols,
+            alpha,
+            a.offsets.as_ptr(), a.offsets.len(), a.indices.as_ptr(), a.indices.len(), a.values.as_ptr(), a.values.len(),
+            beta,
+            b.offsets.as_ptr(), b.offsets.len(), b.indices.as_ptr(), b.indices.len(), b.values.as_ptr(), b.values.len(),
+            o.as_mut_ptr(), o.len(), x.as_mut_ptr(), x.len(), v.as_mut_ptr(), v.len(), places,
+        )
+    })?;
+    Ok(Arrays::new((a.rows, a.cols), parts))
+}
+
 /// Returns the product of two matrices by rows, the first with as many columns as the second has rows. It has a place
 /// wherever they share a middle index.
 ///
@@ -150,7 +186,7 @@ const MOST_UNCOUNTED: usize = 1 << 24;
 
 // Returns a number of places that is enough for a product: that of its multiplications, or, where that is large or an
 // index names no row, the exact one, which takes about as long to count as the product to compute.
-fn product_room(a: Rows<'_>, b: Rows<'_>) -> Result<usize, Error> {
+pub(crate) fn product_room(a: Rows<'_>, b: Rows<'_>) -> Result<usize, Error> {
     match multiplications(a, b) {
         Some(room) if room <= MOST_UNCOUNTED => Ok(room),
         _ => product_places(a, b),

@@ -1,4 +1,5 @@
 mod Accepting
+mod Combined
 mod Factoring
 mod Listed
 mod Solving

@@ -1,10 +1,13 @@
 -- Combinations of two matrices.
 use Rattle.std.specs.Prelude.{◌≡◌, ℤ}
-use Rattle.sparse_algebra.specs.Plain.{Plain, plain_sum, plain_difference, plain_product}
+use Rattle.sparse_algebra.specs.Algebra.{CommRing}
+use Rattle.sparse_algebra.specs.Integers.{element_of}
+use Rattle.sparse_algebra.specs.Plain.{Plain, plain_sum, plain_difference, plain_product, plain_scaled}
 use Rattle.sparse_cs.specs.Compressed.{Compressed}
-use Rattle.sparse_c.specs.declared.combining.Combination.{Combination}
-use Rattle.sparse_c.specs.declared.combining.Combination.TheVariants.{Sum, Difference, Product}
-use Rattle.sparse_c_views.specs.Arrays.{ring64}
+use Rattle.sparse_c.specs.declared.arguments.Combination.{Combination}
+use Rattle.sparse_c.specs.declared.arguments.Combination.TheVariants.{Sum, Difference, Multiples, Product}
+use Rattle.sparse_c.specs.declared.arguments.Pair.{Pair}
+use Rattle.sparse_c_views.specs.Arrays.{plain_by_rows}
 
 -- the matrices have one shape
 abbrev pub HaveOneShape : Compressed ℤ → Compressed ℤ → Type 0
@@ -12,12 +15,23 @@ HaveOneShape a b = (a.pattern.major_dim ≡ b.pattern.major_dim)
     × (a.pattern.minor_dim ≡ b.pattern.minor_dim)
 
 -- the shapes fit
-abbrev pub CanCombine : Combination → Compressed ℤ → Compressed ℤ → Type 0
-CanCombine Sum a b = HaveOneShape a b
-CanCombine Difference a b = HaveOneShape a b
-CanCombine Product a b = a.pattern.minor_dim ≡ b.pattern.major_dim
+abbrev pub HaveShapesFor : Combination → Compressed ℤ → Compressed ℤ → Type 0
+HaveShapesFor Sum a b = HaveOneShape a b
+HaveShapesFor Difference a b = HaveOneShape a b
+HaveShapesFor Multiples a b = HaveOneShape a b
+HaveShapesFor Product a b = a.pattern.minor_dim ≡ b.pattern.major_dim
 
-abbrev pub combination_of : Combination → Plain ring64 → Plain ring64 → Plain ring64
-combination_of Sum a b = plain_sum ring64 a b
-combination_of Difference a b = plain_difference ring64 a b
-combination_of Product a b = plain_product ring64 a b
+abbrev pub CanCombine : Pair → Type 0
+CanCombine p = HaveShapesFor p.how p.a p.b
+
+module _ (R : CommRing) where
+  -- the combination of two matrices; s and t are the factors of their multiples
+  abbrev pub combined_by : Combination → R.Carrier → Plain R → R.Carrier → Plain R → Plain R
+  combined_by Sum s a t b = plain_sum R a b
+  combined_by Difference s a t b = plain_difference R a b
+  combined_by Multiples s a t b = plain_sum R (plain_scaled R s a) (plain_scaled R t b)
+  combined_by Product s a t b = plain_product R a b
+
+  abbrev pub combination_of : Pair → Plain R
+  combination_of p = combined_by p.how (element_of R p.alpha) (plain_by_rows R p.a)
+      (element_of R p.beta) (plain_by_rows R p.b)

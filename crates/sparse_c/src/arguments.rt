@@ -2,6 +2,11 @@
 //!
 //! The macros write struct literals, of which a proof sees the fields: of a function's result it knows only the contract.
 
+ghost use Rattle.std.specs.Int.{w64};
+ghost use Rattle.std.specs.Int.RustNames.{FitsSigned};
+
+use sparse_c_views::lanes::Lanes;
+
 /// The arrays that C lends for a matrix by rows, and the variable for its number of places.
 #[derive(Drop)]
 pub(crate) struct Room<'a> {
@@ -9,6 +14,46 @@ pub(crate) struct Room<'a> {
     pub(crate) indices: &'a mut [usize],
     pub(crate) values: &'a mut [i64],
     pub(crate) places: &'a mut usize,
+}
+
+/// How two matrices are combined.
+#[derive(Clone, Copy)]
+pub(crate) enum Combination {
+    Sum,
+    Difference,
+    /// The sum of a multiple of each.
+    Multiples,
+    Product,
+}
+
+/// Two matrices by rows, and how they are combined. The numbers are the factors of `Multiples`.
+#[derive(Drop)]
+pub(crate) struct Pair<'a> {
+    pub(crate) how: Combination,
+    pub(crate) alpha: i64,
+    pub(crate) a: Lanes<'a>,
+    pub(crate) beta: i64,
+    pub(crate) b: Lanes<'a>,
+    ghost alpha_fits: { FitsSigned w64 alpha },
+    ghost beta_fits: { FitsSigned w64 beta },
+}
+
+/// Whether the lanes of a matrix are its rows or its columns.
+#[derive(Clone, Copy)]
+pub(crate) enum Order {
+    Rows,
+    Columns,
+}
+
+/// Triplets of a matrix, and whether it is wanted by rows or by columns.
+#[derive(Drop)]
+pub(crate) struct Triplets<'a> {
+    pub(crate) order: Order,
+    pub(crate) rows: usize,
+    pub(crate) cols: usize,
+    pub(crate) row_indices: &'a [usize],
+    pub(crate) col_indices: &'a [usize],
+    pub(crate) values: &'a [i64],
 }
 
 // The room for a matrix by rows.
@@ -36,5 +81,43 @@ macro_rules! lanes {
     };
 }
 
+// Two matrices, and how they are combined.
+macro_rules! pair {
+    ($how:ident, $a:expr, $b:expr) => {
+        crate::arguments::Pair {
+            how: crate::arguments::Combination::$how,
+            alpha: 1,
+            a: $a,
+            beta: 1,
+            b: $b,
+        }
+    };
+    ($how:ident, $alpha:expr, $a:expr, $beta:expr, $b:expr) => {
+        crate::arguments::Pair {
+            how: crate::arguments::Combination::$how,
+            alpha: $alpha,
+            a: $a,
+            beta: $beta,
+            b: $b,
+        }
+    };
+}
+
+// The triplets of a matrix that is wanted by rows or by columns.
+macro_rules! triplets {
+    ($order:ident, $rows:expr, $cols:expr, $row_indices:expr, $col_indices:expr, $values:expr) => {
+        crate::arguments::Triplets {
+            order: crate::arguments::Order::$order,
+            rows: $rows,
+            cols: $cols,
+            row_indices: $row_indices,
+            col_indices: $col_indices,
+            values: $values,
+        }
+    };
+}
+
 pub(crate) use lanes;
+pub(crate) use pair;
 pub(crate) use room;
+pub(crate) use triplets;

@@ -1,52 +1,79 @@
 //! Sums, differences and products of matrices from outside.
 
-ghost use Rattle.std.specs.Prelude.{◌≡◌, ◌≢◌, pos, IfOk, IfErr, OnOk};
+ghost use Rattle.std.specs.Prelude.{◌≡◌, ◌≢◌, ◌≤◌, pos, IfOk, IfErr, OnOk};
+ghost use Rattle.sparse_algebra.specs.Moduli.{mod_ring};
 ghost use Rattle.sparse_cs.specs.Compressed.{IsSound};
 ghost use Rattle.sparse_cs.specs.PlainOfLanes.{plain_of_rows};
-ghost use Rattle.sparse_algebra.specs.WrappingValues.{w64_value};
 ghost use Rattle.sparse_c.specs.Combinations.{combination_of, CanCombine};
+ghost use Rattle.sparse_c.specs.Moduli.{moduli, IsFaultModulo, IsNoneOf};
 ghost use Rattle.sparse_c.specs.Rooms.{room_after, room_before};
-ghost use Rattle.sparse_c_views.specs.Arrays.{plain_by_rows, ring64, HoldsRows};
+ghost use Rattle.sparse_c_views.specs.Arrays.{room_of, HoldsRows};
+ghost use Rattle.sparse_c_views.specs.Reduced.{AreReduced, FirstAre};
 ghost use Rattle.sparse_c_views.specs.Refused.{IsFaultOfPair, IsMemoryOr, IsRefused};
 ghost use Rattle.sparse_c_views.specs.Rests.{KeepsRest};
-ghost use Rattle.sparse_c_views.specs.Statuses.{FindsNoFault};
+ghost use Rattle.sparse_c_views.specs.Statuses.{number_of, FindsNoFault};
+ghost use Rattle.sparse_c_views.specs.declared.refusal.Refusal.TheVariants.{UnknownChoice};
 
-use crate::arguments::Room;
-use sparse_algebra::scalar::W64;
-use sparse_c_views::lanes::Lanes;
+use crate::arguments::{Combination, Pair, Room, room};
+use crate::moduli::by_modulus;
+use sparse_algebra::scalar::Mod;
+use sparse_c_views::number::Number;
 use sparse_c_views::refusal::Refusal;
 use sparse_c_views::writing::finish_rows;
 use sparse_forms::csr::CsrMatrix;
 use sparse_products::serial::mul_csr;
-use sparse_sums::{add_csr, sub_csr};
+use sparse_sums::{add_csr, add_scaled_csr, sub_csr};
 use std::alloc::Global;
 
-/// How two matrices are combined.
-#[derive(Clone, Copy)]
-pub(crate) enum Combination {
-    Sum,
-    Difference,
-    Product,
+/// Writes the combination of two matrices by rows over the residues modulo a listed number.
+pub(crate) fn write_combination_by_modulus(
+    alloc: Global,
+    modulus: u64,
+    pair: Pair<'_>,
+    offsets: &mut [usize],
+    indices: &mut [usize],
+    values: &mut [i64],
+    places: &mut usize,
+) -> i32
+    requires { CanCombine pair }
+    ensures written { result ≡ pos 0
+        → HoldsRows (combination_of (mod_ring modulus) pair.entry) (room_of offsets.new indices.new values.new places.new) }
+    ensures reduced { result ≡ pos 0 → AreReduced modulus places.new values.new }
+    ensures unlisted { IsNoneOf moduli modulus → result ≡ number_of UnknownChoice }
+    ensures rest { result ≡ pos 0 → KeepsRest pair.entry.a.pattern.major_dim
+        (room_of offsets.old indices.old values.old places.old) (room_of offsets.new indices.new values.new places.new) }
+    ensures sound { FindsNoFault result → IsSound pair.entry.a × IsSound pair.entry.b }
+    ensures untouched { result ≢ pos 0 → room_of offsets.new indices.new values.new places.new
+        ≡ room_of offsets.old indices.old values.old places.old }
+    ensures refused { result ≢ pos 0 → IsRefused
+        (IsFaultModulo modulus (IsFaultOfPair pair.entry.a pair.entry.b))
+        (combination_of (mod_ring modulus) pair.entry) (room_of offsets.old indices.old values.old places.old) result }
+{
+    let room = room!(offsets, indices, values, places);
+    by_modulus!(modulus, write_combination_mod(alloc, modulus, pair, room))
 }
 
-/// Writes the combination of two matrices by rows.
-pub(crate) fn write_combination(
+// Writes the combination over the residues modulo `M`, which is the modulus.
+fn write_combination_mod<const M: u64>(
     alloc: Global,
-    how: Combination,
-    a: Lanes<'_>,
-    b: Lanes<'_>,
+    modulus: u64,
+    pair: Pair<'_>,
     room: Room<'_>,
 ) -> i32
-    requires { CanCombine how a b }
-    ensures written { result ≡ pos 0 → HoldsRows (combination_of how (plain_by_rows ring64 a.entry)
-        (plain_by_rows ring64 b.entry)) (room_after room.exit) }
-    ensures rest { result ≡ pos 0 → KeepsRest a.entry.pattern.major_dim (room_before room.entry)
-        (room_after room.exit) }
-    ensures sound { FindsNoFault result → IsSound a.entry × IsSound b.entry }
+    requires is { modulus ≡ M }
+    requires short { M ≤ 9223372036854775808 }
+    requires fit { CanCombine pair }
+    ensures written { result ≡ pos 0
+        → HoldsRows (combination_of (mod_ring modulus) pair.entry) (room_after room.exit) }
+    ensures reduced { let after = room_after room.exit in
+        result ≡ pos 0 → AreReduced modulus after.places after.values }
+    ensures rest { result ≡ pos 0 → KeepsRest pair.entry.a.pattern.major_dim
+        (room_before room.entry) (room_after room.exit) }
+    ensures sound { FindsNoFault result → IsSound pair.entry.a × IsSound pair.entry.b }
     ensures untouched { result ≢ pos 0 → room_after room.exit ≡ room_before room.entry }
-    ensures refused { result ≢ pos 0 → IsRefused (IsFaultOfPair a.entry b.entry)
-        (combination_of how (plain_by_rows ring64 a.entry) (plain_by_rows ring64 b.entry))
-        (room_before room.entry) result }
+    ensures refused { result ≢ pos 0 → IsRefused
+        (IsFaultModulo modulus (IsFaultOfPair pair.entry.a pair.entry.b))
+        (combination_of (mod_ring modulus) pair.entry) (room_before room.entry) result }
 {
     let Room {
         offsets,
@@ -54,28 +81,59 @@ pub(crate) fn write_combination(
         values,
         places,
     } = room;
-    let answer = combined(alloc, how, a, b);
+    let answer = combined::<Mod<M>>(alloc, pair);
+    finish_rows(answer, offsets, indices, values, places)
+}
+
+/// Writes the combination of two matrices by rows over the ring of a scalar.
+pub(crate) fn write_combination<T: Number>(alloc: Global, pair: Pair<'_>, room: Room<'_>) -> i32
+    requires { CanCombine pair }
+    ensures written { result ≡ pos 0
+        → HoldsRows (combination_of T.ring pair.entry) (room_after room.exit) }
+    ensures shown { let after = room_after room.exit in
+        result ≡ pos 0 → FirstAre T.is_shown after.places after.values }
+    ensures rest { result ≡ pos 0 → KeepsRest pair.entry.a.pattern.major_dim
+        (room_before room.entry) (room_after room.exit) }
+    ensures sound { FindsNoFault result → IsSound pair.entry.a × IsSound pair.entry.b }
+    ensures untouched { result ≢ pos 0 → room_after room.exit ≡ room_before room.entry }
+    ensures refused { result ≢ pos 0 → IsRefused (IsFaultOfPair pair.entry.a pair.entry.b)
+        (combination_of T.ring pair.entry) (room_before room.entry) result }
+{
+    let Room {
+        offsets,
+        indices,
+        values,
+        places,
+    } = room;
+    let answer = combined::<T>(alloc, pair);
     finish_rows(answer, offsets, indices, values, places)
 }
 
 // The combination of two matrices by rows.
-fn combined(
-    alloc: Global,
-    how: Combination,
-    a: Lanes<'_>,
-    b: Lanes<'_>,
-) -> Result<CsrMatrix<W64>, Refusal>
-    requires { CanCombine how a b }
-    ensures plain { IfOk result (λ m. plain_of_rows ring64 w64_value m ≡ combination_of how
-        (plain_by_rows ring64 a.entry) (plain_by_rows ring64 b.entry)) }
-    ensures sound { OnOk result (IsSound a.entry × IsSound b.entry) }
-    ensures fault { IfErr result (IsMemoryOr (IsFaultOfPair a.entry b.entry)) }
+fn combined<T: Number>(alloc: Global, pair: Pair<'_>) -> Result<CsrMatrix<T>, Refusal>
+    requires { CanCombine pair }
+    ensures plain { IfOk result
+        (λ m. plain_of_rows T.ring T.value m ≡ combination_of T.ring pair.entry) }
+    ensures sound { OnOk result (IsSound pair.entry.a × IsSound pair.entry.b) }
+    ensures fault { IfErr result (IsMemoryOr (IsFaultOfPair pair.entry.a pair.entry.b)) }
 {
+    let Pair {
+        how,
+        alpha,
+        a,
+        beta,
+        b,
+        ..
+    } = pair;
     let a = a.rows(alloc)?;
     let b = b.rows(alloc)?;
     match how {
         Combination::Sum => Ok(add_csr(alloc, &a, &b)?),
         Combination::Difference => Ok(sub_csr(alloc, &a, &b)?),
+        Combination::Multiples => {
+            let (alpha, beta) = (T::from_number(alpha), T::from_number(beta));
+            Ok(add_scaled_csr(alloc, alpha, &a, beta, &b)?)
+        }
         Combination::Product => Ok(mul_csr(alloc, &a, &b)?),
     }
 }

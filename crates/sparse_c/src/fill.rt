@@ -94,7 +94,7 @@ fn fill_of(
     let triangle = triangle_of(triangle)?;
     let pattern = pattern_of(alloc, size, size, offsets, indices)?;
     let factor = CscSymbolicCholesky::factor_triangle(alloc, pattern, triangle)?;
-    Ok(factor.l_pattern().clone(alloc)?)
+    Ok(factor.into_l_pattern())
 }
 
 // The triangle with this number.

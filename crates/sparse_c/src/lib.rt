@@ -2,7 +2,9 @@
 #![tactic(auto)]
 
 mod arguments;
+mod assembling;
 mod assembly;
+mod assembly_modulo;
 mod combining;
 mod dense;
 mod division;
@@ -13,6 +15,7 @@ mod products;
 mod reading;
 mod solve;
 mod sums;
+mod sums_modulo;
 mod symmetric;
 mod systems;
 mod transpose;

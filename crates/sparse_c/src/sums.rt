@@ -1,15 +1,17 @@
 //! Sums and differences.
 
 ghost use Rattle.std.specs.Prelude.{◌≡◌, ◌≢◌, pos};
+ghost use Rattle.sparse_algebra.specs.Integers.{element_of};
+ghost use Rattle.sparse_algebra.specs.Plain.{plain_sum, plain_difference, plain_scaled};
 ghost use Rattle.sparse_cs.specs.Compressed.{arrays_of, IsSound};
-ghost use Rattle.sparse_algebra.specs.Plain.{plain_sum, plain_difference};
 ghost use Rattle.sparse_c_views.specs.Arrays.{plain_by_rows, ring64, room_of, HoldsRows};
 ghost use Rattle.sparse_c_views.specs.Refused.{IsFaultOfPair, IsRefused};
 ghost use Rattle.sparse_c_views.specs.Rests.{KeepsRest};
 ghost use Rattle.sparse_c_views.specs.Statuses.{FindsNoFault};
 
-use crate::arguments::{lanes, room};
-use crate::combining::{Combination, write_combination};
+use crate::arguments::{lanes, pair, room};
+use crate::combining::write_combination;
+use sparse_algebra::scalar::W64;
 use std::alloc::Global;
 
 /// Writes the sum of two matrices by rows, on the union of their places.
@@ -31,8 +33,9 @@ pub extern "C" fn nalgebra_sparse_add(
 ) -> i32
     ensures written { let a = arrays_of rows cols a_offsets.now a_indices.now a_values.now in
         let b = arrays_of rows cols b_offsets.now b_indices.now b_values.now in
-        result ≡ pos 0 → HoldsRows (plain_sum ring64 (plain_by_rows ring64 a)
-        (plain_by_rows ring64 b)) (room_of out_offsets.new out_indices.new out_values.new out_places.new) }
+        result ≡ pos 0 → HoldsRows
+        (plain_sum ring64 (plain_by_rows ring64 a) (plain_by_rows ring64 b))
+        (room_of out_offsets.new out_indices.new out_values.new out_places.new) }
     ensures rest { result ≡ pos 0 → KeepsRest rows
         (room_of out_offsets.old out_indices.old out_values.old out_places.old)
         (room_of out_offsets.new out_indices.new out_values.new out_places.new) }
@@ -51,7 +54,7 @@ pub extern "C" fn nalgebra_sparse_add(
     let a = lanes!(rows, cols, a_offsets, a_indices, a_values);
     let b = lanes!(rows, cols, b_offsets, b_indices, b_values);
     let room = room!(out_offsets, out_indices, out_values, out_places);
-    write_combination(alloc, Combination::Sum, a, b, room)
+    write_combination::<W64>(alloc, pair!(Sum, a, b), room)
 }
 
 /// Writes the difference of two matrices by rows, on the union of their places.
@@ -73,7 +76,8 @@ pub extern "C" fn nalgebra_sparse_subtract(
 ) -> i32
     ensures written { let a = arrays_of rows cols a_offsets.now a_indices.now a_values.now in
         let b = arrays_of rows cols b_offsets.now b_indices.now b_values.now in
-        result ≡ pos 0 → HoldsRows (plain_difference ring64 (plain_by_rows ring64 a) (plain_by_rows ring64 b))
+        result ≡ pos 0 → HoldsRows
+        (plain_difference ring64 (plain_by_rows ring64 a) (plain_by_rows ring64 b))
         (room_of out_offsets.new out_indices.new out_values.new out_places.new) }
     ensures rest { result ≡ pos 0 → KeepsRest rows
         (room_of out_offsets.old out_indices.old out_values.old out_places.old)
@@ -93,5 +97,52 @@ pub extern "C" fn nalgebra_sparse_subtract(
     let a = lanes!(rows, cols, a_offsets, a_indices, a_values);
     let b = lanes!(rows, cols, b_offsets, b_indices, b_values);
     let room = room!(out_offsets, out_indices, out_values, out_places);
-    write_combination(alloc, Combination::Difference, a, b, room)
+    write_combination::<W64>(alloc, pair!(Difference, a, b), room)
+}
+
+/// Writes the sum of `alpha` times a matrix by rows and `beta` times another, on the union of their places.
+#[unsafe(no_mangle)]
+pub extern "C" fn nalgebra_sparse_add_scaled(
+    alloc: Global,
+    rows: usize,
+    cols: usize,
+    alpha: i64,
+    a_offsets: &[usize],
+    a_indices: &[usize],
+    a_values: &[i64],
+    beta: i64,
+    b_offsets: &[usize],
+    b_indices: &[usize],
+    b_values: &[i64],
+    out_offsets: &mut [usize],
+    out_indices: &mut [usize],
+    out_values: &mut [i64],
+    out_places: &mut usize,
+) -> i32
+    ensures written { let a = arrays_of rows cols a_offsets.now a_indices.now a_values.now in
+        let b = arrays_of rows cols b_offsets.now b_indices.now b_values.now in
+        result ≡ pos 0 → HoldsRows
+        (plain_sum ring64 (plain_scaled ring64 (element_of ring64 alpha) (plain_by_rows ring64 a))
+        (plain_scaled ring64 (element_of ring64 beta) (plain_by_rows ring64 b)))
+        (room_of out_offsets.new out_indices.new out_values.new out_places.new) }
+    ensures rest { result ≡ pos 0 → KeepsRest rows
+        (room_of out_offsets.old out_indices.old out_values.old out_places.old)
+        (room_of out_offsets.new out_indices.new out_values.new out_places.new) }
+    ensures sound { FindsNoFault result
+        → IsSound (arrays_of rows cols a_offsets.now a_indices.now a_values.now)
+        × IsSound (arrays_of rows cols b_offsets.now b_indices.now b_values.now) }
+    ensures untouched { result ≢ pos 0
+        → room_of out_offsets.new out_indices.new out_values.new out_places.new
+        ≡ room_of out_offsets.old out_indices.old out_values.old out_places.old }
+    ensures refused { let a = arrays_of rows cols a_offsets.now a_indices.now a_values.now in
+        let b = arrays_of rows cols b_offsets.now b_indices.now b_values.now in
+        result ≢ pos 0 → IsRefused (IsFaultOfPair a b)
+        (plain_sum ring64 (plain_scaled ring64 (element_of ring64 alpha) (plain_by_rows ring64 a))
+        (plain_scaled ring64 (element_of ring64 beta) (plain_by_rows ring64 b)))
+        (room_of out_offsets.old out_indices.old out_values.old out_places.old) result }
+{
+    let a = lanes!(rows, cols, a_offsets, a_indices, a_values);
+    let b = lanes!(rows, cols, b_offsets, b_indices, b_values);
+    let room = room!(out_offsets, out_indices, out_values, out_places);
+    write_combination::<W64>(alloc, pair!(Multiples, alpha, a, beta, b), room)
 }

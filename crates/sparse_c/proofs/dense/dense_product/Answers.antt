@@ -1,9 +1,10 @@
 use Rattle.std.proofs.Common.{◌∙◌}
 use Rattle.sparse_algebra.specs.Plain.{plain_product}
 use Rattle.sparse_base.specs.DensePlain.{plain_full}
-use Rattle.sparse_c_views.specs.Arrays.{ring64}
 use Rattle.sparse_c.proofs.dense.dense_product.Goals as goal
 
 pub returns-clause-plain : goal.returns-clause-plain
-returns-clause-plain c = c.in_ok-mul_csr_dense.ensures ∙ (λ k. plain_full ring64
-    (plain_product ring64 (c.in_ok-a.ensures.plain k) (c.in_ok-b.ensures.plain k)))
+returns-clause-plain g c =
+    let R = g.T.Ring.ring in
+    c.in_ok-mul_csr_dense.ensures ∙ (λ k. plain_full R
+    (plain_product R (c.in_ok-a.ensures.plain k) (c.in_ok-b.ensures.plain k)))

@@ -18,6 +18,6 @@ returns-clause-fill c =
       valid = facts.valid;
       fill = facts.fill;
     } in
-    subst (λ (l : Raw). IsFillOf number pattern l) (sym (c.in_ok-clone.ensures ∙ c.l_pattern.ensures))
+    subst (λ (l : Raw). IsFillOf number pattern l) (sym c.into_l_pattern.ensures)
     (subst (λ (d : Raw). IsFillOf number d c.in_ok-factor.factor.factor) c.in_ok-pattern.ensures.is
     filled)

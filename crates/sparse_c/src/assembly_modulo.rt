@@ -1,0 +1,108 @@
+//! Assembly of matrices from triplets modulo a listed number.
+
+ghost use Rattle.std.specs.Prelude.{◌≡◌, ◌≢◌, pos};
+ghost use Rattle.sparse_algebra.specs.Moduli.{mod_ring};
+ghost use Rattle.sparse_algebra.specs.Plain.{plain_transpose};
+ghost use Rattle.sparse_base.specs.Coo.{AreParts};
+ghost use Rattle.sparse_c.specs.Moduli.{moduli, IsFaultModulo, IsNoneOf};
+ghost use Rattle.sparse_c_views.specs.Arrays.{plain_of_lists, room_of, HoldsRows, HoldsCols};
+ghost use Rattle.sparse_c_views.specs.Reduced.{AreReduced};
+ghost use Rattle.sparse_c_views.specs.Refused.{IsFaultOfList, IsRefused};
+ghost use Rattle.sparse_c_views.specs.Rests.{KeepsRest};
+ghost use Rattle.sparse_c_views.specs.Statuses.{number_of, FindsNoFault};
+ghost use Rattle.sparse_c_views.specs.declared.refusal.Refusal.TheVariants.{UnknownChoice};
+
+use crate::arguments::triplets;
+use crate::assembling::write_assembly_by_modulus;
+use std::alloc::Global;
+
+/// Writes the matrix of triplets by rows over the ring of residues modulo a listed number.
+#[unsafe(no_mangle)]
+pub extern "C" fn nalgebra_sparse_assemble_csr_mod(
+    alloc: Global,
+    modulus: u64,
+    rows: usize,
+    cols: usize,
+    row_indices: &[usize],
+    col_indices: &[usize],
+    values: &[i64],
+    out_offsets: &mut [usize],
+    out_indices: &mut [usize],
+    out_values: &mut [i64],
+    out_places: &mut usize,
+) -> i32
+    ensures written { result ≡ pos 0 → HoldsRows
+        (plain_of_lists (mod_ring modulus) rows cols row_indices.now col_indices.now values.now)
+        (room_of out_offsets.new out_indices.new out_values.new out_places.new) }
+    ensures reduced { result ≡ pos 0 → AreReduced modulus out_places.new out_values.new }
+    ensures unlisted { IsNoneOf moduli modulus → result ≡ number_of UnknownChoice }
+    ensures rest { result ≡ pos 0 → KeepsRest rows
+        (room_of out_offsets.old out_indices.old out_values.old out_places.old)
+        (room_of out_offsets.new out_indices.new out_values.new out_places.new) }
+    ensures sound { FindsNoFault result
+        → AreParts rows cols row_indices.now col_indices.now values.now }
+    ensures untouched { result ≢ pos 0
+        → room_of out_offsets.new out_indices.new out_values.new out_places.new
+        ≡ room_of out_offsets.old out_indices.old out_values.old out_places.old }
+    ensures refused { result ≢ pos 0 → IsRefused (IsFaultModulo modulus
+        (IsFaultOfList rows cols row_indices.now col_indices.now values.now))
+        (plain_of_lists (mod_ring modulus) rows cols row_indices.now col_indices.now values.now)
+        (room_of out_offsets.old out_indices.old out_values.old out_places.old) result }
+{
+    let triplets = triplets!(Rows, rows, cols, row_indices, col_indices, values);
+    write_assembly_by_modulus(
+        alloc,
+        modulus,
+        triplets,
+        out_offsets,
+        out_indices,
+        out_values,
+        out_places,
+    )
+}
+
+/// Writes the matrix of triplets by columns over the ring of residues modulo a listed number.
+#[unsafe(no_mangle)]
+pub extern "C" fn nalgebra_sparse_assemble_csc_mod(
+    alloc: Global,
+    modulus: u64,
+    rows: usize,
+    cols: usize,
+    row_indices: &[usize],
+    col_indices: &[usize],
+    values: &[i64],
+    out_offsets: &mut [usize],
+    out_indices: &mut [usize],
+    out_values: &mut [i64],
+    out_places: &mut usize,
+) -> i32
+    ensures written { result ≡ pos 0 → HoldsCols
+        (plain_of_lists (mod_ring modulus) rows cols row_indices.now col_indices.now values.now)
+        (room_of out_offsets.new out_indices.new out_values.new out_places.new) }
+    ensures reduced { result ≡ pos 0 → AreReduced modulus out_places.new out_values.new }
+    ensures unlisted { IsNoneOf moduli modulus → result ≡ number_of UnknownChoice }
+    ensures rest { result ≡ pos 0 → KeepsRest cols
+        (room_of out_offsets.old out_indices.old out_values.old out_places.old)
+        (room_of out_offsets.new out_indices.new out_values.new out_places.new) }
+    ensures sound { FindsNoFault result
+        → AreParts rows cols row_indices.now col_indices.now values.now }
+    ensures untouched { result ≢ pos 0
+        → room_of out_offsets.new out_indices.new out_values.new out_places.new
+        ≡ room_of out_offsets.old out_indices.old out_values.old out_places.old }
+    ensures refused { result ≢ pos 0 → IsRefused (IsFaultModulo modulus
+        (IsFaultOfList rows cols row_indices.now col_indices.now values.now))
+        (plain_transpose (mod_ring modulus)
+        (plain_of_lists (mod_ring modulus) rows cols row_indices.now col_indices.now values.now))
+        (room_of out_offsets.old out_indices.old out_values.old out_places.old) result }
+{
+    let triplets = triplets!(Columns, rows, cols, row_indices, col_indices, values);
+    write_assembly_by_modulus(
+        alloc,
+        modulus,
+        triplets,
+        out_offsets,
+        out_indices,
+        out_values,
+        out_places,
+    )
+}
