@@ -4,6 +4,7 @@ use nalgebra_sparse::convert::serial::convert_coo_csr;
 use nalgebra_sparse::io::{load_coo_from_matrix_market_file, save_to_matrix_market_str};
 use nalgebra_sparse::ops::serial::mul_csr;
 use nalgebra_sparse::scalar::W64;
+use std::fs;
 use std::test::Fail;
 
 fn print_gram_matrix(rt: &HostRuntime, path: &str) -> Result<(), Fail> {
@@ -17,6 +18,8 @@ fn print_gram_matrix(rt: &HostRuntime, path: &str) -> Result<(), Fail> {
 }
 
 #[test]
-fn a_file_that_is_not_there_is_an_error(rt: HostRuntime) {
-    assert!(rt; print_gram_matrix(&rt, "no.mtx").is_err());
+fn a_file_is_multiplied_by_its_transpose(rt: HostRuntime) -> Result<(), Fail> {
+    let text = b"%%MatrixMarket matrix coordinate integer general\n1 2 1\n1 2 3\n";
+    fs::write(&rt, "gram.mtx", text)?;
+    print_gram_matrix(&rt, "gram.mtx")
 }
