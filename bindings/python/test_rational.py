@@ -59,20 +59,21 @@ def check_random_systems():
 
 def check_large_systems():
     """A path of 400 unknowns has a known solution, and a grid of 20 by 20 has one that solves it."""
-    path = sp.diags([2, -1, -1], [0, 1, -1], (400, 400), dtype=np.int64).tocsc()
+    # A conversion from rows sorts the columns.
+    path = sp.diags([2, -1, -1], [0, 1, -1], (400, 400), dtype=np.int64).tocsr().tocsc()
     first = np.zeros(400, np.int64)
     first[0] = 1
     assert ns.solve_rational(path, first).tolist() == [Fraction(400 - i, 401) for i in range(400)]
     line = sp.diags([2, -1, -1], [0, 1, -1], (20, 20), dtype=np.int64)
     one = sp.identity(20, np.int64)
-    grid = (sp.kron(line, one) + sp.kron(one, line)).tocsc()
+    grid = (sp.kron(line, one) + sp.kron(one, line)).tocsr().tocsc()
     x = ns.solve_rational(grid, first)
     rows = grid.tocsr()
     for i in range(400):
         entries = zip(rows.indices[rows.indptr[i] : rows.indptr[i + 1]], rows.data[rows.indptr[i] : rows.indptr[i + 1]])
         assert sum(int(value) * x[j] for j, value in entries) == first[i]
     # The smallest prime takes the most steps.
-    threes = sp.diags([1, 3, 3], [0, 2, -2], (30, 30), dtype=np.int64).tocsc()
+    threes = sp.diags([1, 3, 3], [0, 2, -2], (30, 30), dtype=np.int64).tocsr().tocsc()
     want = eliminated(threes.toarray(), first[:30, None])
     assert ns.solve_rational(threes, first[:30], 3).tolist() == [row[0] for row in want]
 
