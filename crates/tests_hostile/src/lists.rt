@@ -128,10 +128,8 @@ fn refusal(
     let rows = Vec::from_slice(alloc, &[row]).ok()?;
     let cols = Vec::from_slice(alloc, &[col]).ok()?;
     let values = Vec::from_slice(alloc, &[5]).ok()?;
-    match CooMatrix::try_from_triplets(nrows, ncols, rows, cols, values) {
-        Ok(_) => None,
-        Err(error) => Some(*error.kind()),
-    }
+    let error = CooMatrix::try_from_triplets(nrows, ncols, rows, cols, values).err()?;
+    Some(*error.kind())
 }
 
 /// Shapes, and places outside them.

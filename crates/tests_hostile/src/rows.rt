@@ -150,10 +150,8 @@ fn refusal(
     offsets: &[usize],
     is_sorted: bool,
 ) -> Option<SparseFormatErrorKind> {
-    match of_arrays(alloc, sizes, offsets, &[], &[], is_sorted) {
-        Some(Err(error)) => Some(*error.kind()),
-        _ => None,
-    }
+    let error = of_arrays(alloc, sizes, offsets, &[], &[], is_sorted)?.err()?;
+    Some(*error.kind())
 }
 
 /// Numbers of rows and of columns, offsets, and whether they are refused.
