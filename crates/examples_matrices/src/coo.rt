@@ -27,7 +27,7 @@ fn a_row_is_out_of_bounds(alloc: Global) -> Result<bool, Fail> {
     let cols = Vec::from_slice(alloc, &[0])?;
     let values = Vec::from_slice(alloc, &[5])?;
     match CooMatrix::try_from_triplets(2, 3, rows, cols, values) {
-        Ok(_) => Ok(false),
+        Ok(_list) => Ok(false),
         Err(error) => Ok(*error.kind() == SparseFormatErrorKind::IndexOutOfBounds),
     }
 }
