@@ -1,7 +1,7 @@
 -- Texts loaded one after the other, and matrices whose values are read as numbers.
 use Rattle.std.proofs.Common.{◌≡◌, ℕ, ℤ, ◌+◌, ◌<◌, ◌≤◌, List, [], ◌∷◌, ◌++◌, length, take, drop}
 use Rattle.std.proofs.Common.{get_or, Ok, Err, Option, refl, sym, ap, subst, ◌∙◌, append_assoc}
-use Rattle.std.proofs.Common.{take-append-drop, arith}
+use Rattle.std.proofs.Common.{take-append-drop, append-nil, suc, arith}
 use Rattle.std.proofs.lemmas.List.{take_more, take_all, length-map, length-take-le}
 use Rattle.std.proofs.Math.ListN.{get_or-map}
 use denote.Ref.{Bor}
@@ -12,6 +12,7 @@ use Rattle.sparse_io.specs.Written.{IsRefusedWrite}
 use Rattle.sparse_parser.specs.declared.error.MatrixMarketErrorKind.{MatrixMarketErrorKind}
 use Rattle.sparse_parser.specs.declared.error.MatrixMarketErrorKind.TheVariants as kinds
 use Rattle.sparse_expr.specs.PostfixWords.{texts}
+use Rattle.sparse_expr.specs.InnerRun.{IsLoadedBefore}
 use Rattle.sparse_expr.specs.Run.{AllMean, IsFirstRefused, scalar64}
 
 AllMean-push : (ts : List (List ℕ)) (ms : List (Coo ℤ)) (t : List ℕ) (m : Coo ℤ) → AllMean ts ms
@@ -52,6 +53,46 @@ pub AllMean-all : (items : List (Bor (List ℕ))) (k : ℕ) (ms : List (Coo ℤ)
     → AllMean (take k (texts items)) ms → AllMean (texts items) ms
 AllMean-all items k ms all taken = subst (λ l. AllMean l ms)
     (take_all k (texts items) (rw length-map all)) taken
+
+length-meant : (ts : List (List ℕ)) (ms : List (Coo ℤ)) → AllMean ts ms → length ts ≡ length ms
+length-meant [] [] all = refl
+length-meant [] (m ∷ ms) all = absurd all
+length-meant (t ∷ ts) [] all = absurd all
+length-meant (t ∷ ts) (m ∷ ms) all = ap suc (length-meant ts ms all.1)
+
+-- ---- texts that are dropped as they are loaded
+
+module _ (texts : List (List ℕ)) where
+  pub none-loaded : IsLoadedBefore texts texts []
+  none-loaded = record { before = []; split = refl; meant = tt }
+
+  pub all-loaded : (ms : List (Coo ℤ)) → IsLoadedBefore texts [] ms → AllMean texts ms
+  all-loaded ms loaded =
+      subst (λ l. AllMean l ms) (sym (loaded.split ∙ append-nil loaded.before)) loaded.meant
+
+  module _ (rest rest' : List (List ℕ)) (text : List ℕ) (next : rest ≡ text ∷ rest')
+      (ms : List (Coo ℤ)) (loaded : IsLoadedBefore texts rest ms) where
+    pub one-more-loaded : (m : Coo ℤ) → Means scalar64 text (Ok m)
+        → IsLoadedBefore texts rest' (ms ++ m ∷ [])
+    one-more-loaded m here = record {
+      before = loaded.before ++ text ∷ [];
+      split = loaded.split ∙ ap (λ l. loaded.before ++ l) next
+          ∙ sym (append_assoc loaded.before (text ∷ []) rest');
+      meant = AllMean-push loaded.before ms text m loaded.meant here;
+    }
+
+    pub next-refused : (number : ℕ) (kind : MatrixMarketErrorKind) → number ≡ length ms + 1
+        → Means scalar64 text (Err kind) → IsFirstRefused texts number kind
+    next-refused number kind counted refused = record {
+      before = loaded.before;
+      text = text;
+      after = rest';
+      ms = ms;
+      split = loaded.split ∙ ap (λ l. loaded.before ++ l) next;
+      counted = counted ∙ ap (λ n. n + 1) (sym (length-meant loaded.before ms loaded.meant));
+      taken = loaded.meant;
+      refused = refused;
+    }
 
 -- a refused write that is not the sink's is an allocation failure
 pub memory-refused : (kind : MatrixMarketErrorKind) (before after : ℕ) (last : Option ErrorKind)

@@ -1,5 +1,5 @@
 -- When the steps of a run are refused, and what they write.
-use Rattle.std.specs.Prelude.{◌≡◌, ℕ, ℤ, ◌+◌, List, codes, Some}
+use Rattle.std.specs.Prelude.{◌≡◌, ℕ, ℤ, ◌+◌, ◌++◌, List, codes, Some}
 use Rattle.std.specs.Fmt.{signed_decimal}
 use Rattle.sparse_algebra.specs.Numbers.{w64_number}
 use Rattle.sparse_algebra.specs.declared.scalar.wrapping.W64.{W64}
@@ -8,13 +8,19 @@ use Rattle.sparse_parser.specs.Meaning.{values_of}
 use Rattle.sparse_io.specs.Written.{text_of}
 use Rattle.sparse_expr.specs.declared.error.ExprError.{ExprError}
 use Rattle.sparse_expr.specs.declared.error.ExprError.TheVariants as refusal
-use Rattle.sparse_expr.specs.Run.{Effect, IsFirstRefused}
+use Rattle.sparse_expr.specs.Run.{AllMean, Effect, IsFirstRefused}
 
 -- why texts were not loaded
 abbrev pub RefusesLoad : List (List ℕ) → ExprError → Type 0
 RefusesLoad texts (refusal.Input number kind) = IsFirstRefused texts number kind
 RefusesLoad texts refusal.OutOfMemory = Unit {0}
 RefusesLoad texts _ = ⊥
+
+-- all texts before the last ones, in order, mean these lists
+pub record IsLoadedBefore (texts rest : List (List ℕ)) (ms : List (Coo ℤ)) : Type 0 where
+  pub before : List (List ℕ)
+  pub split : texts ≡ before ++ rest
+  pub meant : AllMean before ms
 
 -- why a matrix was not written
 abbrev pub RefusesSave : Effect → ExprError → Type 0

@@ -1,6 +1,7 @@
 //! Runs of an expression over texts.
 
-ghost use Rattle.std.specs.Prelude.{◌≡◌, ◌⊎◌, ◌+◌, Ok, Err, map, OnOk, IfOk, OnErr, IfErr};
+ghost use Rattle.std.specs.Prelude.{◌≡◌, ◌⊎◌, ◌+◌, ℕ, List, Ok, Err, map, OnOk, IfOk, OnErr, IfErr};
+ghost use Rattle.std.specs.Prelude.{string_bytes};
 ghost use Rattle.std.specs.Io.KnownBytes.{Appends};
 ghost use Rattle.sparse_parser.specs.Meaning.{Means};
 ghost use Rattle.sparse_io.specs.Sink.{AppendsSome};
@@ -67,14 +68,68 @@ pub fn run<W: Sink>(
         (W.failures out.old) (W.failures out.new) (W.last out.new))) }
 {
     let inputs = load_all(alloc, sources)?;
+    write_value(alloc, form, expr, &inputs, out)
+}
+
+/// As [`run`], but takes the texts by value, and drops each before the next one is loaded.
+///
+/// So it takes less memory than [`run`] where the texts are needed no more.
+///
+/// # Examples
+///
+/// ```rust
+/// fn a_double_is_written(alloc: Global) -> Result<bool, Fail> {
+///     let text = "%%MatrixMarket matrix coordinate integer general\n1 1 1\n1 1 3\n";
+///     let texts = vec![in alloc; String::from_str(alloc, text)?]?;
+///     let double = Expr::from_words(alloc, "1 1 +")?;
+///     let mut out = Out::new(Vec::new(alloc));
+///     run_owned(alloc, Form::Rows, &double, texts, &mut out)?;
+///     Ok(out.into_inner().ends_with(b"1 1 1\n1 1 6\n"))
+/// }
+/// ```
+pub fn run_owned<W: Sink>(
+    alloc: Global,
+    form: Form,
+    expr: &Expr,
+    sources: Vec<String>,
+    out: &mut W,
+) -> Result<(), ExprError>
+    ensures written { OnOk result (Writes form (map string_bytes sources.items) expr.now
+        (W.taken out.old) (W.taken out.new)) }
+    ensures none_failed { OnOk result (W.failures out.new ≡ W.failures out.old) }
+    ensures refused { IfErr result (RefusesRun form (map string_bytes sources.items) expr.now
+        (effect (W.taken out.old) (W.taken out.new)
+        (W.failures out.old) (W.failures out.new) (W.last out.new))) }
+{
+    let inputs = load_owned(alloc, sources)?;
+    write_value(alloc, form, expr, &inputs, out)
+}
+
+// Evaluates the expression over the lists that the texts mean, and writes its value.
+fn write_value<W: Sink>(
+    alloc: Global,
+    form: Form,
+    expr: &Expr,
+    inputs: &[CooMatrix<W64>],
+    out: &mut W,
+) -> Result<(), ExprError>
+    ensures written { OnOk result ((texts : List (List ℕ))
+        → AllMean texts (map numbers_of inputs.now)
+        → Writes form texts expr.now (W.taken out.old) (W.taken out.new)) }
+    ensures none_failed { OnOk result (W.failures out.new ≡ W.failures out.old) }
+    ensures refused { IfErr result (λ e. (texts : List (List ℕ))
+        → AllMean texts (map numbers_of inputs.now)
+        → RefusesRun form texts expr.now (effect (W.taken out.old) (W.taken out.new)
+        (W.failures out.old) (W.failures out.new) (W.last out.new)) e) }
+{
     match form {
         Form::Rows => {
-            let value = evaluate_rows(alloc, expr, &inputs)?;
+            let value = evaluate_rows(alloc, expr, inputs)?;
             learn(value.values());
             save(alloc, &value, out)
         }
         Form::Cols => {
-            let value = evaluate_cols(alloc, expr, &inputs)?;
+            let value = evaluate_cols(alloc, expr, inputs)?;
             learn(value.values());
             save(alloc, &value, out)
         }
@@ -89,6 +144,19 @@ fn load_all(alloc: Global, sources: &[&str]) -> Result<Vec<CooMatrix<W64>>, Expr
     let mut inputs = Vec::new(alloc);
     for (index, text) in sources.iter().enumerate() {
         inputs.push(load(alloc, index + 1, text)?)?;
+    }
+    Ok(inputs)
+}
+
+// Loads the texts in order, and drops each before the next one is loaded.
+fn load_owned(alloc: Global, sources: Vec<String>) -> Result<Vec<CooMatrix<W64>>, ExprError>
+    ensures meant { IfOk result
+        (λ v. AllMean (map string_bytes sources.items) (map numbers_of v.items)) }
+    ensures refused { IfErr result (RefusesLoad (map string_bytes sources.items)) }
+{
+    let mut inputs = Vec::new(alloc);
+    for text in sources {
+        inputs.push(load(alloc, inputs.len() + 1, text.as_str())?)?;
     }
     Ok(inputs)
 }
