@@ -17,3 +17,4 @@ pub mod PlacedValues
 pub mod LaneLists
 pub mod PushedLanes
 pub mod BuiltLanes
+mod MirroredPlaces
