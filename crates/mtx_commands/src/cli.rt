@@ -13,7 +13,7 @@ ghost use Rattle.mtx_commands.specs.declared.cli.Failure.TheVariants.{Usage, Ref
 
 use crate::fill::fill;
 use crate::inputs::read_all;
-use nalgebra_sparse::expr::{Expr, ExprError, Form, run};
+use nalgebra_sparse::expr::{Expr, ExprError, Form, run_owned};
 use nalgebra_sparse::factorization::Triangle;
 use nalgebra_sparse::io::{Out, Sink, write_all_to};
 use std::alloc::{AllocError, AllocFailed, Global};
@@ -160,23 +160,22 @@ where
 {
     let expr = Expr::from_words(rt.alloc(), expression)?;
     let texts = read_all(rt, paths)?;
-    write_value(rt.alloc(), form, &expr, &texts, out)
+    write_value(rt.alloc(), form, &expr, texts, out)
 }
 
-// Writes the value of an expression over the texts of the files.
+// Writes the value of an expression over the texts of the files, and drops each text once it is loaded.
 fn write_value<W: Sink>(
     alloc: Global,
     form: Form,
     expr: &Expr,
-    sources: &[String],
+    sources: Vec<String>,
     out: &mut W,
 ) -> Result<(), Failure>
-    ensures written { OnOk result ((read : List (List ℕ)) × (length read ≡ length sources.now)
+    ensures written { OnOk result ((read : List (List ℕ)) × (length read ≡ length sources.items)
         × Writes form read expr.now (W.taken out.old) (W.taken out.new)) }
     ensures refused { IfErr result (λ e. e ≡ Usage → ⊥) }
 {
-    let views = views_of(alloc, sources)?;
-    run(alloc, form, expr, &views, out)?;
+    run_owned(alloc, form, expr, sources, out)?;
     Ok(())
 }
 

@@ -2,13 +2,13 @@
 
 use crate::sink::{Page, written};
 use nalgebra_sparse::CooMatrix;
-use nalgebra_sparse::expr::{Expr, Form, evaluate_cols, evaluate_rows, run as run_over};
+use nalgebra_sparse::expr::{Expr, Form, evaluate_cols, evaluate_rows, run as run_over, run_owned};
 use nalgebra_sparse::io::Out;
 use nalgebra_sparse::scalar::W64;
 use refused_calls::operands::list;
 use refused_calls::outcome::{Outcome, outcome_of};
 use refused_calls::turn::Turn;
-use std::alloc::Global;
+use std::alloc::{AllocError, Global};
 
 /// The texts that are run over.
 const TEXTS: [&str; 2] = [
@@ -26,6 +26,10 @@ pub fn run(turn: &mut Turn, call: &str, case: &str) -> Outcome {
             Some(("rows", words)) => run_words(turn, Form::Rows, words),
             Some(("cols", words)) => run_words(turn, Form::Cols, words),
             _ => Outcome::Unknown,
+        },
+        "run_owned" => match Expr::from_words(turn.alloc(), case) {
+            Ok(expr) => run_owned_expr(turn, &expr),
+            Err(_) => Outcome::Unready,
         },
         _ => evaluate(turn, call, case),
     }
@@ -71,4 +75,31 @@ fn run_expr(turn: &mut Turn, form: Form, expr: &Expr) -> Outcome {
     turn.begin();
     let answer = run_over(turn.alloc(), form, expr, &TEXTS, &mut out);
     written(answer, out, &whole.into_inner())
+}
+
+// A run over texts of its own, with what a run over borrowed texts writes.
+fn run_owned_expr(turn: &mut Turn, expr: &Expr) -> Outcome {
+    let mut whole = Out::new(Page::new());
+    if run_over(turn.alloc(), Form::Rows, expr, &TEXTS, &mut whole).is_err() {
+        return Outcome::Unready;
+    }
+    match texts(turn.alloc()) {
+        Ok(texts) => run_over_owned(turn, expr, texts, whole),
+        Err(_) => Outcome::Unready,
+    }
+}
+
+fn run_over_owned(turn: &mut Turn, expr: &Expr, texts: Vec<String>, whole: Out<Page>) -> Outcome {
+    let mut out = Out::new(Page::new());
+    turn.begin();
+    let answer = run_owned(turn.alloc(), Form::Rows, expr, texts, &mut out);
+    written(answer, out, &whole.into_inner())
+}
+
+fn texts(alloc: Global) -> Result<Vec<String>, AllocError> {
+    let mut texts = Vec::with_capacity(alloc, TEXTS.len())?;
+    for text in TEXTS {
+        texts.push(String::from_str(alloc, text)?)?;
+    }
+    Ok(texts)
 }

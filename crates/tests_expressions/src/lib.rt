@@ -8,4 +8,6 @@ mod long_expressions;
 #[cfg(test)]
 mod matrices;
 #[cfg(test)]
+mod runs;
+#[cfg(test)]
 mod slow_expressions;
