@@ -39,7 +39,8 @@
  *   - malloc, realloc and free come from one allocator, which aligns blocks as the C standard demands;
  *   - no call is made from a signal handler, or in the child of a fork of a process with threads.
  *
- * Each call takes time and memory as the call of the library does, and copies of the operands' arrays beside it.
+ * Each call takes time and memory as the call of the library does, and copies of the operands' arrays beside it. Sums
+ * modulo 2^64 read the operands where they are.
  *
  * Threads. The library keeps nothing from one call to the next, so any number of threads may call at once. They may share
  * the arrays of operands. While a call runs, no other thread may write an array that it reads, or read or write an array
@@ -191,6 +192,7 @@ int32_t nalgebra_sparse_transpose(
 
 /* Writes the sum a + b of two matrices by rows with one shape, on the union of their places, also where a sum is 0:
  * out_offsets needs rows + 1 numbers, and for out_indices and out_values a_values_len + b_values_len is always enough.
+ * With that much room the call takes no memory; with less it makes the sum in memory first, and copies it.
  *
  * Statuses: OUT_OF_MEMORY; the first fault of a, and otherwise that of b, as for nalgebra_sparse_transpose; TOO_SMALL.
  */
@@ -222,8 +224,7 @@ int32_t nalgebra_sparse_subtract(
     size_t *out_places);
 
 /* Writes the sum alpha a + beta b of multiples of two matrices by rows with one shape, on the union of their places, also
- * where a factor or a value is 0. Otherwise as nalgebra_sparse_add. Beside the result it takes memory for a multiple of
- * each matrix.
+ * where a factor or a value is 0. Otherwise as nalgebra_sparse_add.
  */
 int32_t nalgebra_sparse_add_scaled(
     size_t rows, size_t cols,

@@ -278,6 +278,15 @@ static void check_random_case(void) {
     r = blank();
     CHECK(nalgebra_sparse_subtract(a.rows, a.cols, IN(x, &a), IN(y, &b), OUT(r)) == 0);
     check_result(&difference, &r);
+    /* Arrays with room for the result alone, and operands that are the same arrays. */
+    size_t most = arrays_of(&sum).places;
+    r = blank();
+    CHECK(nalgebra_sparse_add(a.rows, a.cols, IN(x, &a), IN(y, &b), r.offsets, a.rows + 1, r.indices, most, r.values, most, &r.places) == 0);
+    check_result(&sum, &r);
+    plain twice = merged(&a, &a, 1);
+    r = blank();
+    CHECK(nalgebra_sparse_add(a.rows, a.cols, IN(x, &a), IN(x, &a), OUT(r)) == 0);
+    check_result(&twice, &r);
     r = blank();
     CHECK(nalgebra_sparse_multiply_places(a.rows, a.cols, c.cols, PATTERN(x, &a), PATTERN(z, &c), &places) == 0);
     CHECK(nalgebra_sparse_multiply(a.rows, a.cols, c.cols, IN(x, &a), IN(z, &c), OUT(r)) == 0);
@@ -328,6 +337,8 @@ static void check_faults(void) {
     CHECK(nalgebra_sparse_transpose(2, 3, sound_offsets, 3, sound_indices, 2, values, 2, r.offsets, 3, r.indices, 2, r.values, 2, &r.places) == small);
     CHECK(nalgebra_sparse_transpose(2, 3, sound_offsets, 3, sound_indices, 2, values, 2, r.offsets, 4, r.indices, 1, r.values, 2, &r.places) == small);
     CHECK(nalgebra_sparse_transpose(2, 3, sound_offsets, 3, sound_indices, 2, values, 2, r.offsets, 4, r.indices, 2, r.values, 1, &r.places) == small);
+    CHECK(nalgebra_sparse_add(2, 3, sound_offsets, 3, sound_indices, 2, values, 2, sound_offsets, 3, sound_indices, 2, values, 2, r.offsets, 3, r.indices, 1, r.values, ROOM, &r.places) == small);
+    CHECK(nalgebra_sparse_add(2, 3, sound_offsets, 3, sound_indices, 2, values, 2, sound_offsets, 3, sound_indices, 2, values, 2, r.offsets, 2, r.indices, 4, r.values, 4, &r.places) == small);
     check_untouched(&r);
 }
 

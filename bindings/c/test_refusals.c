@@ -57,6 +57,8 @@ static const char LINES[] = "%%MatrixMarket matrix coordinate integer symmetric\
 #define TO_PATTERN t->offsets, ROOM, t->indices, ROOM
 #define TO_VALUES t->values, ROOM
 #define TO_MATRIX TO_PATTERN, TO_VALUES, &t->count
+/* Room for the sum of MATRIX and itself, but not for the places of both: the sum is then made in memory first. */
+#define TO_SUM t->offsets, ROOM, t->indices, 5, t->values, 5, &t->count
 #define TO_FACTORS TO_PATTERN, TO_VALUES, t->diagonal, ROOM, &t->count
 
 /* Each call, with small operands. */
@@ -66,9 +68,9 @@ static const char LINES[] = "%%MatrixMarket matrix coordinate integer symmetric\
     CALL(assemble_csr_mod, 7, 3, 3, LISTS, TO_MATRIX)                   \
     CALL(assemble_csc_mod, 7, 3, 3, LISTS, TO_MATRIX)                   \
     CALL(transpose, 3, 3, MATRIX, TO_MATRIX)                            \
-    CALL(add, 3, 3, MATRIX, MATRIX, TO_MATRIX)                          \
-    CALL(subtract, 3, 3, MATRIX, MATRIX, TO_MATRIX)                     \
-    CALL(add_scaled, 3, 3, 2, MATRIX, -3, MATRIX, TO_MATRIX)            \
+    CALL(add, 3, 3, MATRIX, MATRIX, TO_SUM)                             \
+    CALL(subtract, 3, 3, MATRIX, MATRIX, TO_SUM)                        \
+    CALL(add_scaled, 3, 3, 2, MATRIX, -3, MATRIX, TO_SUM)               \
     CALL(add_mod, 7, 3, 3, MATRIX, MATRIX, TO_MATRIX)                   \
     CALL(subtract_mod, 7, 3, 3, MATRIX, MATRIX, TO_MATRIX)              \
     CALL(add_scaled_mod, 7, 3, 3, 2, MATRIX, -3, MATRIX, TO_MATRIX)     \

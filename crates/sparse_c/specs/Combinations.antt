@@ -21,6 +21,10 @@ HaveShapesFor Difference a b = HaveOneShape a b
 HaveShapesFor Multiples a b = HaveOneShape a b
 HaveShapesFor Product a b = a.pattern.minor_dim ≡ b.pattern.major_dim
 
+-- matrices whose shapes fit have one shape
+abbrev pub IsOfOneShape : Combination → Type 0
+IsOfOneShape how = (a b : Compressed ℤ) → HaveShapesFor how a b → HaveOneShape a b
+
 abbrev pub CanCombine : Pair → Type 0
 CanCombine p = HaveShapesFor p.how p.a p.b
 
@@ -35,3 +39,8 @@ module _ (R : CommRing) where
   abbrev pub combination_of : Pair → Plain R
   combination_of p = combined_by p.how (element_of R p.alpha) (plain_by_rows R p.a)
       (element_of R p.beta) (plain_by_rows R p.b)
+
+  -- with the factors s and t the combination is the sum of these multiples
+  abbrev pub IsSumOf : Combination → R.Carrier → R.Carrier → R.Carrier → R.Carrier → Type 0
+  IsSumOf how s t alpha beta = (a b : Plain R)
+      → combined_by how s a t b ≡ plain_sum R (plain_scaled R alpha a) (plain_scaled R beta b)

@@ -1,10 +1,11 @@
 //! Sums, differences and products of matrices from outside.
 
-ghost use Rattle.std.specs.Prelude.{◌≡◌, ◌≢◌, ◌≤◌, pos, IfOk, IfErr, OnOk};
+ghost use Rattle.std.specs.Prelude.{◌≡◌, ◌≢◌, ◌≤◌, pos, IfOk, IfErr, IfSome, OnOk};
+ghost use Rattle.sparse_algebra.specs.Integers.{element_of};
 ghost use Rattle.sparse_algebra.specs.Moduli.{mod_ring};
 ghost use Rattle.sparse_cs.specs.Compressed.{IsSound};
 ghost use Rattle.sparse_cs.specs.PlainOfLanes.{plain_of_rows};
-ghost use Rattle.sparse_c.specs.Combinations.{combination_of, CanCombine};
+ghost use Rattle.sparse_c.specs.Combinations.{combination_of, CanCombine, IsOfOneShape, IsSumOf};
 ghost use Rattle.sparse_c.specs.Moduli.{moduli, IsFaultModulo, IsNoneOf};
 ghost use Rattle.sparse_c.specs.Rooms.{room_after, room_before};
 ghost use Rattle.sparse_c_views.specs.Arrays.{room_of, HoldsRows};
@@ -17,6 +18,7 @@ ghost use Rattle.sparse_c_views.specs.declared.refusal.Refusal.TheVariants.{Unkn
 use crate::arguments::{Combination, Pair, Room, room};
 use crate::moduli::by_modulus;
 use sparse_algebra::scalar::Mod;
+use sparse_c_sums::{Multiples, write_sum};
 use sparse_c_views::number::Number;
 use sparse_c_views::refusal::Refusal;
 use sparse_c_views::writing::finish_rows;
@@ -85,7 +87,8 @@ fn write_combination_mod<const M: u64>(
     finish_rows(answer, offsets, indices, values, places)
 }
 
-/// Writes the combination of two matrices by rows over the ring of a scalar.
+/// Writes the combination of two matrices by rows over the ring of a scalar. A sum is merged in the arrays if they have
+/// room for the places of both matrices, which takes no memory.
 pub(crate) fn write_combination<T: Number>(alloc: Global, pair: Pair<'_>, room: Room<'_>) -> i32
     requires { CanCombine pair }
     ensures written { result ≡ pos 0
@@ -105,8 +108,31 @@ pub(crate) fn write_combination<T: Number>(alloc: Global, pair: Pair<'_>, room: 
         values,
         places,
     } = room;
+    let lanes = pair.a.major_dim;
+    let most = pair.a.indices.len() + pair.b.indices.len();
+    if let Some((alpha, beta)) = factors::<T>(pair.how, pair.alpha, pair.beta) {
+        if lanes < offsets.len() && most <= indices.len() && most <= values.len() {
+            let Pair { a, b, .. } = pair;
+            let multiples = Multiples { alpha, a, beta, b };
+            return write_sum(multiples, offsets, indices, values, places);
+        }
+    }
     let answer = combined::<T>(alloc, pair);
     finish_rows(answer, offsets, indices, values, places)
+}
+
+// Returns the factors of a sum of two matrices, or `None` of a product.
+fn factors<T: Number>(how: Combination, alpha: i64, beta: i64) -> Option<(T, T)>
+    ensures shapes { IfSome result (λ _. IsOfOneShape how) }
+    ensures sum { IfSome result (λ f. IsSumOf T.ring how (element_of T.ring alpha)
+        (element_of T.ring beta) (T.value f.0) (T.value f.1)) }
+{
+    match how {
+        Combination::Sum => Some((T::one(), T::one())),
+        Combination::Difference => Some((T::one(), T::one().neg())),
+        Combination::Multiples => Some((T::from_number(alpha), T::from_number(beta))),
+        Combination::Product => None,
+    }
 }
 
 // The combination of two matrices by rows.

@@ -1,7 +1,7 @@
 pub mod Arrays
 pub mod Inside
 pub mod Standing
-mod ChangedPlain
+pub mod ChangedPlain
 pub mod RowSums
 pub mod LaneValues
 pub mod BuiltMatrices

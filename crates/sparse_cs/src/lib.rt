@@ -17,6 +17,7 @@ mod transpose;
 mod triplet_iter_mut;
 mod triplets;
 mod unsorted;
+mod view;
 pub mod writing;
 mod zeros_identity;
 
@@ -30,6 +31,7 @@ use std::alloc::{AllocError, Global};
 use std::marker::Model;
 pub use triplet_iter_mut::CsTripletIterMut;
 pub use triplets::CsTripletValues;
+pub use view::CsView;
 
 /// A sparsity pattern with a value for each of its places. The lanes are the rows of a CSR matrix or the columns of a
 /// CSC matrix.

@@ -14,7 +14,7 @@ mod faults;
 mod iter;
 mod transpose;
 
-pub use faults::{SparsityPatternFormatError, one_first_fault};
+pub use faults::{SparsityPatternFormatError, check, one_first_fault};
 pub use iter::SparsityPatternIter;
 
 /// The stored places of a compressed matrix, lane by lane. The lanes are the rows of a CSR matrix or the columns of a

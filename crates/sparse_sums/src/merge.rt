@@ -72,9 +72,10 @@ pub(crate) fn add_lanes<T: Ring, const NEGATE: bool>(
     Ok(())
 }
 
-// Returns the value at the smaller of two indices, or the sum of both values where these are equal.
-// The sum is computed first, so that the result is selected without a branch.
-fn front_value<T: Ring>(j: usize, first: T, k: usize, second: T) -> T
+/// Returns the value at the smaller of two indices, or the sum of both values where these are equal.
+///
+/// The sum is computed first, so that the result is selected without a branch.
+pub fn front_value<T: Ring>(j: usize, first: T, k: usize, second: T) -> T
     ensures first { j < k → result ≡ first }
     ensures second { k < j → result ≡ second }
     ensures sum { j ≡ k → T.value result ≡ T.ring.add (T.value first) (T.value second) }

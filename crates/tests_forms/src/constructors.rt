@@ -8,3 +8,4 @@ mod made;
 mod outcome;
 mod refusals;
 mod transpose;
+mod views;

@@ -81,8 +81,16 @@ pub fn one_first_fault()
         → e ≡ f }
 {}
 
-// Returns the first fault of the data. One pass over the offsets and the indices; allocates nothing.
-pub(super) fn check(
+/// Checks that offsets and indices describe a pattern, where they are.
+///
+/// Linear in the number of lanes and indices. Allocates nothing.
+///
+/// # Errors
+///
+/// Returns the first fault, in the order of [`SparsityPattern::try_from_offsets_and_indices`].
+///
+/// [`SparsityPattern::try_from_offsets_and_indices`]: super::SparsityPattern::try_from_offsets_and_indices
+pub fn check(
     major_dim: usize,
     minor_dim: usize,
     offsets: &[usize],

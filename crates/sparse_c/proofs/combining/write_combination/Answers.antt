@@ -1,10 +1,11 @@
-use Rattle.std.proofs.Common.{◌≡◌, ℕ, sym, subst, ◌∙◌, refl, rules, to_z, of_z}
+use Rattle.std.proofs.Common.{◌≡◌, ℕ, inl, inr, sym, subst, ◌∙◌, refl, rules, to_z, of_z}
 use Rattle.std.specs.Int.{w32}
 use Rattle.sparse_algebra.specs.Integers.{element_of}
-use Rattle.sparse_c.proofs.Combined.{rows-combined}
+use Rattle.sparse_c.proofs.Combined.{pair_sound, rows-combined}
 use Rattle.sparse_c.specs.Rooms.{room_before}
 use Rattle.sparse_c_views.specs.Arrays.{plain_by_rows, room_of}
 use Rattle.sparse_c_views.specs.Rests.{KeepsRest}
+use Rattle.sparse_c_views.specs.Statuses.{FindsNoFault}
 use Rattle.sparse_c_views.proofs.Faultless.{accepted, pair_told}
 use Rattle.sparse_c_views.proofs.Joining.{rows_written, rows_refused, rows_rest}
 use Rattle.sparse_c.proofs.combining.write_combination.Goals as goal
@@ -46,3 +47,18 @@ returns-clause-refused g c = λ h.
     c.combined-answer.ensures.plain (room_before c.args.room) c.finish_rows.result _ same
     c.combined-answer.ensures.fault (λ e given. given)
     (c.finish_rows.ensures.refused (λ e. h (same ∙ e)))
+
+-- ---- a sum that is merged in the arrays
+
+pub returns-then-most-values-clause-sound : goal.returns-then-most-values-clause-sound
+returns-then-most-values-clause-sound g c = λ told.
+    let same : to_z w32 (of_z w32 c.write_sum.result) ≡ c.write_sum.result = search rules in
+    let p = c.args.pair in
+    pair_sound p.a p.b c.write_sum.result c.write_sum.ensures.sound c.write_sum.ensures.fault
+    (subst FindsNoFault same told)
+
+pub returns-then-most-values-clause-refused : goal.returns-then-most-values-clause-refused
+returns-then-most-values-clause-refused g c = λ h.
+    let same : to_z w32 (of_z w32 c.write_sum.result) ≡ c.write_sum.result = search rules in
+    let found = c.write_sum.ensures.fault (λ e. h (same ∙ e)) in
+    (found.0, same ∙ found.1, inl (inr found.2))

@@ -1,0 +1,9 @@
+//! Sums of matrices from outside, merged straight into the arrays of their result.
+#![tactic(auto)]
+
+mod merge;
+mod parts;
+mod rows;
+mod sum;
+
+pub use sum::{Multiples, write_sum};
