@@ -1,15 +1,22 @@
 -- Exact factors L D Lᵀ of symmetric matrices, as C has them.
-use Rattle.std.specs.Prelude.{◌≡◌, ◌≤◌, ◌<◌, ◌↔◌, ◌⊎◌, ℕ, ℤ, pos, true, List, length, map, slice_index_or, take}
+use Rattle.std.specs.Prelude.{◌≡◌, ◌≢◌, ◌≤◌, ◌<◌, ◌↔◌, ◌⊎◌, ℕ, ℤ, pos, true, List, length, map}
+use Rattle.std.specs.Prelude.{slice_index_or, take}
 use Rattle.sparse_algebra.specs.Algebra.{CommRing}
+use Rattle.sparse_algebra.specs.ModNumbers.{mod_value}
+use Rattle.sparse_algebra.specs.Moduli.{mod_ring}
 use Rattle.sparse_algebra.specs.Plain.{Plain, plain_transpose}
 use Rattle.sparse_cs.specs.Compressed.{Compressed, IsSound}
 use Rattle.sparse_cs.specs.PlainOfLanes.{plain_of_rows}
 use Rattle.sparse_factor.specs.Fill.{InFill, UpperBase}
 use Rattle.sparse_ldl.specs.Factorisations.{IsFactorisation}
+use Rattle.sparse_c.specs.Moduli.{IsFaultModulo}
 use Rattle.sparse_c.specs.Symmetric.{symmetric_by_cols, HasNoFactors}
 use Rattle.sparse_c_views.specs.Arrays.{Room, HoldsCols, HoldsRows}
 use Rattle.sparse_algebra.specs.Integers.{element_of}
-use Rattle.sparse_c_views.specs.Refused.{IsFaultOf, IsTooSmall}
+use Rattle.sparse_c_views.specs.Reduced.{AreReduced}
+use Rattle.sparse_c_views.specs.Refused.{IsFaultOf, IsRefusedFor, IsTooSmall}
+use Rattle.sparse_c_views.specs.Rests.{KeepsBehind, KeepsRest}
+use Rattle.sparse_c_views.specs.Statuses.{FindsNoFault}
 use Rattle.sparse_c_views.specs.declared.refusal.Refusal.{Refusal}
 use Rattle.sparse_c_views.specs.declared.refusal.Refusal.TheVariants.{Singular}
 
@@ -42,3 +49,18 @@ module _ (R : CommRing) {T : Type 0} (f : T → R.Carrier) where
   abbrev pub IsFaultOfFactors : Compressed ℤ → Refusal → Type 0
   IsFaultOfFactors a refusal =
       IsFaultOf a refusal ⊎ (IsSound a × (refusal ≡ Singular) × HasNoFactors R f a)
+
+-- the status of a call that factors a modulo m, with its room and its diagonal before and after it
+pub record FactorsModulo (m : ℕ) (a : Compressed ℤ) (before after : Room) (old new : List ℤ)
+    (status : ℤ) : Type 0 where
+  pub written : status ≡ pos 0 → WritesFactors (mod_ring m) (mod_value {m = m}) a after new
+  pub reduced : status ≡ pos 0 → AreReduced m after.places after.values
+  pub reduced_diagonal : status ≡ pos 0 → AreReduced m a.pattern.minor_dim new
+  pub rest : status ≡ pos 0 → KeepsRest a.pattern.minor_dim before after
+  pub rest_diagonal : status ≡ pos 0 → KeepsBehind a.pattern.minor_dim old new
+  pub sound : FindsNoFault status → IsSound a
+  pub untouched : status ≢ pos 0 → after ≡ before
+  pub untouched_diagonal : status ≢ pos 0 → new ≡ old
+  pub refused : status ≢ pos 0 → IsRefusedFor (IsFaultModulo m
+      (IsFaultOfFactors (mod_ring m) (mod_value {m = m}) a))
+      (AreFactorsTooLong (mod_ring m) (mod_value {m = m}) a before old) status

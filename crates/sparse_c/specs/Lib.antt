@@ -1,4 +1,5 @@
 pub mod Combinations
+pub mod Dense
 pub mod Factors
 pub mod Fills
 pub mod Moduli

@@ -1,14 +1,22 @@
 -- Systems of equations and quotients, as C has them.
-use Rattle.std.specs.Prelude.{◌≡◌, ◌≤◌, ◌⊎◌, ℕ, ℤ, ◌*◌, ◌<◌, Bool, true, false, List, length, take}
+use Rattle.std.specs.Prelude.{◌≡◌, ◌≢◌, ◌≤◌, ◌⊎◌, ℕ, ℤ, ◌*◌, ◌<◌, Bool, true, false, List, length}
+use Rattle.std.specs.Prelude.{pos, take}
 use Rattle.sparse_algebra.specs.Algebra.{CommRing}
 use Rattle.sparse_algebra.specs.Inverses.{HasInverse}
+use Rattle.sparse_algebra.specs.ModNumbers.{mod_value}
+use Rattle.sparse_algebra.specs.Moduli.{mod_ring}
 use Rattle.sparse_algebra.specs.Plain.{Plain, plain_scaled, plain_transpose}
 use Rattle.sparse_cs.specs.Compressed.{Compressed, IsSound}
 use Rattle.sparse_solve.specs.Solutions.{plain_lower, IsSingular, IsSolution}
+use Rattle.sparse_c.specs.Moduli.{IsFaultModulo}
 use Rattle.sparse_c_views.specs.Arrays.{plain_by_cols, plain_by_rows, plain_by_values}
 use Rattle.sparse_c_views.specs.Arrays.{Room, HoldsRows}
 use Rattle.sparse_algebra.specs.Integers.{element_of}
-use Rattle.sparse_c_views.specs.Refused.{IsFaultOf, IsFaultOfSystem, IsSystemSound, IsTooSmall}
+use Rattle.sparse_c_views.specs.Reduced.{AreReduced}
+use Rattle.sparse_c_views.specs.Refused.{IsFaultOf, IsFaultOfSystem, IsRefusedFor, IsSystemSound}
+use Rattle.sparse_c_views.specs.Refused.{IsTooSmall}
+use Rattle.sparse_c_views.specs.Rests.{KeepsRest}
+use Rattle.sparse_c_views.specs.Statuses.{FindsNoFault}
 use Rattle.sparse_c_views.specs.declared.refusal.Refusal.{Refusal}
 use Rattle.sparse_c_views.specs.declared.refusal.Refusal.TheVariants.{Singular}
 
@@ -65,3 +73,15 @@ module _ (R : CommRing) {T : Type 0} (f : T → R.Carrier) where
   abbrev pub IsFaultOfQuotient : Compressed ℤ → ℤ → Refusal → Type 0
   IsFaultOfQuotient m divisor refusal = IsFaultOf m refusal
       ⊎ (IsSound m × (refusal ≡ Singular) × (HasInverse R f (element_of R divisor) → ⊥))
+
+-- the status of a call that divides a modulo m, and the arrays before it and after it
+pub record DividesModulo (m : ℕ) (a : Compressed ℤ) (divisor : ℤ) (before after : Room) (status : ℤ)
+    : Type 0 where
+  pub written : status ≡ pos 0 → WritesQuotient (mod_ring m) a divisor after
+  pub reduced : status ≡ pos 0 → AreReduced m after.places after.values
+  pub rest : status ≡ pos 0 → KeepsRest a.pattern.major_dim before after
+  pub sound : FindsNoFault status → IsSound a
+  pub untouched : status ≢ pos 0 → after ≡ before
+  pub refused : status ≢ pos 0 → IsRefusedFor
+      (IsFaultModulo m (IsFaultOfQuotient (mod_ring m) (mod_value {m = m}) a divisor))
+      (IsQuotientTooSmall (mod_ring m) a divisor before) status

@@ -1,13 +1,22 @@
 -- Equations with a square matrix, as C has them.
-use Rattle.std.specs.Prelude.{ℕ, ℤ, List}
+use Rattle.std.specs.Prelude.{◌≡◌, ◌≢◌, ◌*◌, ℕ, ℤ, List, pos}
 use Rattle.sparse_algebra.specs.Algebra.{CommRing}
+use Rattle.sparse_algebra.specs.ModNumbers.{mod_value}
+use Rattle.sparse_algebra.specs.Moduli.{mod_ring}
 use Rattle.sparse_algebra.specs.Plain.{Plain}
 use Rattle.sparse_cs.specs.Compressed.{Compressed}
 use Rattle.sparse_solve.specs.Solutions.{IsSolution}
-use Rattle.sparse_c.specs.Solved.{lower_of, IsFaultOfLower}
+use Rattle.sparse_c.specs.Moduli.{IsFaultModulo}
+use Rattle.sparse_c.specs.Solved.{lower_of, HoldsMatrix, IsFaultOfLower, IsMatrixTooLong}
 use Rattle.sparse_c.specs.Symmetric.{IsFaultOfSymmetric, SolvesSymmetric}
 use Rattle.sparse_c.specs.declared.systems.Equation.{Equation}
 use Rattle.sparse_c.specs.declared.systems.Equation.TheVariants.{Lower, Symmetric}
+use Rattle.sparse_c.specs.declared.systems.System.{System}
+use Rattle.sparse_c_views.specs.Arrays.{plain_by_values}
+use Rattle.sparse_c_views.specs.Reduced.{AreReduced}
+use Rattle.sparse_c_views.specs.Refused.{IsRefusedFor, IsSystemSound}
+use Rattle.sparse_c_views.specs.Rests.{KeepsBehind}
+use Rattle.sparse_c_views.specs.Statuses.{FindsNoFault}
 use Rattle.sparse_c_views.specs.declared.refusal.Refusal.{Refusal}
 
 -- x solves the equation with the matrix by columns and b, which has n rows and m columns
@@ -20,3 +29,18 @@ module _ (R : CommRing) {T : Type 0} (f : T → R.Carrier) where
   abbrev pub IsFaultOfEquation : Equation → Compressed ℤ → ℕ → ℕ → List ℤ → Refusal → Type 0
   IsFaultOfEquation (Lower transposed) = IsFaultOfLower R f
   IsFaultOfEquation Symmetric = IsFaultOfSymmetric R f
+
+-- x solves the system over a ring
+abbrev pub IsSolved : (R : CommRing) → System → Plain R → Type 0
+IsSolved R s x = Solves R s.equation s.matrix x (plain_by_values R s.size s.cols s.b.now) s.size s.cols
+
+-- the status of a call that solves the system modulo m, and the numbers before it and after it
+pub record SolvesModulo (m : ℕ) (s : System) (before after : List ℤ) (status : ℤ) : Type 0 where
+  pub written : status ≡ pos 0 → HoldsMatrix (mod_ring m) (IsSolved (mod_ring m) s) s.size s.cols after
+  pub reduced : status ≡ pos 0 → AreReduced m (s.size * s.cols) after
+  pub rest : status ≡ pos 0 → KeepsBehind (s.size * s.cols) before after
+  pub sound : FindsNoFault status → IsSystemSound s.matrix s.size s.cols s.b.now
+  pub untouched : status ≢ pos 0 → after ≡ before
+  pub refused : status ≢ pos 0 → IsRefusedFor (IsFaultModulo m (IsFaultOfEquation (mod_ring m)
+      (mod_value {m = m}) s.equation s.matrix s.size s.cols s.b.now))
+      (IsMatrixTooLong (mod_ring m) (IsSolved (mod_ring m) s) s.size s.cols before) status

@@ -1,14 +1,13 @@
 //! Triplets from outside, assembled to a matrix by rows or by columns.
 
 ghost use Rattle.std.specs.Prelude.{◌≡◌, ◌≢◌, ◌≤◌, pos, IfOk, IfErr, OnOk};
-ghost use Rattle.sparse_algebra.specs.Moduli.{mod_ring};
 ghost use Rattle.sparse_base.specs.Coo.{AreParts};
 ghost use Rattle.sparse_cs.specs.PlainOfLanes.{plain_of_rows};
-ghost use Rattle.sparse_c.specs.Moduli.{moduli, IsFaultModulo, IsNoneOf};
-ghost use Rattle.sparse_c.specs.Orders.{assembly_of, lanes_in};
+ghost use Rattle.sparse_c.specs.Moduli.{moduli, IsNoneOf};
+ghost use Rattle.sparse_c.specs.Orders.{assembly_of, lanes_in, AssemblesModulo};
 ghost use Rattle.sparse_c.specs.Rooms.{room_after, room_before};
 ghost use Rattle.sparse_c_views.specs.Arrays.{room_of, HoldsRows};
-ghost use Rattle.sparse_c_views.specs.Reduced.{AreReduced, FirstAre};
+ghost use Rattle.sparse_c_views.specs.Reduced.{FirstAre};
 ghost use Rattle.sparse_c_views.specs.Refused.{IsFaultOfList, IsMemoryOr, IsRefused};
 ghost use Rattle.sparse_c_views.specs.Rests.{KeepsRest};
 ghost use Rattle.sparse_c_views.specs.Statuses.{number_of, FindsNoFault};
@@ -35,19 +34,10 @@ pub(crate) fn write_assembly_by_modulus(
     values: &mut [i64],
     places: &mut usize,
 ) -> i32
-    ensures written { result ≡ pos 0
-        → HoldsRows (assembly_of (mod_ring modulus) triplets.entry) (room_of offsets.new indices.new values.new places.new) }
-    ensures reduced { result ≡ pos 0 → AreReduced modulus places.new values.new }
+    ensures answered { AssemblesModulo modulus triplets.entry
+        (room_of offsets.old indices.old values.old places.old)
+        (room_of offsets.new indices.new values.new places.new) result }
     ensures unlisted { IsNoneOf moduli modulus → result ≡ number_of UnknownChoice }
-    ensures rest { let t = triplets.entry in result ≡ pos 0 → KeepsRest
-        (lanes_in t.order t.rows t.cols) (room_of offsets.old indices.old values.old places.old) (room_of offsets.new indices.new values.new places.new) }
-    ensures sound { let t = triplets.entry in FindsNoFault result
-        → AreParts t.rows t.cols t.row_indices.now t.col_indices.now t.values.now }
-    ensures untouched { result ≢ pos 0 → room_of offsets.new indices.new values.new places.new
-        ≡ room_of offsets.old indices.old values.old places.old }
-    ensures refused { let t = triplets.entry in result ≢ pos 0 → IsRefused (IsFaultModulo modulus
-        (IsFaultOfList t.rows t.cols t.row_indices.now t.col_indices.now t.values.now))
-        (assembly_of (mod_ring modulus) t) (room_of offsets.old indices.old values.old places.old) result }
 {
     let room = room!(offsets, indices, values, places);
     by_modulus!(modulus, write_assembly_mod(alloc, modulus, triplets, room))
@@ -62,18 +52,8 @@ fn write_assembly_mod<const M: u64>(
 ) -> i32
     requires is { modulus ≡ M }
     requires short { M ≤ 9223372036854775808 }
-    ensures written { result ≡ pos 0
-        → HoldsRows (assembly_of (mod_ring modulus) triplets.entry) (room_after room.exit) }
-    ensures reduced { let after = room_after room.exit in
-        result ≡ pos 0 → AreReduced modulus after.places after.values }
-    ensures rest { let t = triplets.entry in result ≡ pos 0 → KeepsRest
-        (lanes_in t.order t.rows t.cols) (room_before room.entry) (room_after room.exit) }
-    ensures sound { let t = triplets.entry in FindsNoFault result
-        → AreParts t.rows t.cols t.row_indices.now t.col_indices.now t.values.now }
-    ensures untouched { result ≢ pos 0 → room_after room.exit ≡ room_before room.entry }
-    ensures refused { let t = triplets.entry in result ≢ pos 0 → IsRefused (IsFaultModulo modulus
-        (IsFaultOfList t.rows t.cols t.row_indices.now t.col_indices.now t.values.now))
-        (assembly_of (mod_ring modulus) t) (room_before room.entry) result }
+    ensures { AssemblesModulo modulus triplets.entry (room_before room.entry)
+        (room_after room.exit) result }
 {
     let Room {
         offsets,

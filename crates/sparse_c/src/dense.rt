@@ -5,6 +5,7 @@ ghost use Rattle.sparse_algebra.specs.Moduli.{mod_ring};
 ghost use Rattle.sparse_algebra.specs.Plain.{plain_product};
 ghost use Rattle.sparse_base.specs.DensePlain.{plain_full, plain_of_dense};
 ghost use Rattle.sparse_cs.specs.Compressed.{arrays_of};
+ghost use Rattle.sparse_c.specs.Dense.{MultipliesModulo};
 ghost use Rattle.sparse_c.specs.Moduli.{moduli, IsFaultModulo, IsNoneOf};
 ghost use Rattle.sparse_c_views.specs.Arrays.{plain_by_rows, plain_by_values, ring64, HoldsDense};
 ghost use Rattle.sparse_c_views.specs.Reduced.{AreReduced, FirstAre};
@@ -95,10 +96,7 @@ pub extern "C" fn nalgebra_sparse_multiply_dense_mod(
         cols,
         b: b_values,
     };
-    by_modulus!(
-        modulus,
-        write_product_mod(alloc, modulus, factors, out_values)
-    )
+    write_product_by_modulus(alloc, modulus, factors, out_values)
 }
 
 /// A matrix by rows, and the values of a dense matrix with `inner` rows and `cols` columns.
@@ -108,6 +106,20 @@ struct Factors<'a> {
     inner: usize,
     cols: usize,
     b: &'a [i64],
+}
+
+// Writes the product over the residues modulo a listed number.
+fn write_product_by_modulus(
+    alloc: Global,
+    modulus: u64,
+    factors: Factors<'_>,
+    out: &mut [i64],
+) -> i32
+    requires { factors.a.pattern.minor_dim ≡ factors.inner }
+    ensures answered { MultipliesModulo modulus factors.entry out.old out.new result }
+    ensures unlisted { IsNoneOf moduli modulus → result ≡ number_of UnknownChoice }
+{
+    by_modulus!(modulus, write_product_mod(alloc, modulus, factors, out))
 }
 
 // Writes the product over the residues modulo `M`, which is the modulus.
@@ -120,20 +132,7 @@ fn write_product_mod<const M: u64>(
     requires is { modulus ≡ M }
     requires short { M ≤ 9223372036854775808 }
     requires inner { factors.a.pattern.minor_dim ≡ factors.inner }
-    ensures written { let f = factors.entry in
-        let ring = mod_ring modulus in
-        result ≡ pos 0 → HoldsDense (plain_full ring (plain_product ring (plain_by_rows ring f.a)
-        (plain_by_values ring f.inner f.cols f.b.now))) out.new }
-    ensures reduced { let f = factors.entry in
-        result ≡ pos 0 → AreReduced modulus (f.a.pattern.major_dim * f.cols) out.new }
-    ensures rest { let f = factors.entry in
-        result ≡ pos 0 → KeepsBehind (f.a.pattern.major_dim * f.cols) out.old out.new }
-    ensures sound { let f = factors.entry in
-        FindsNoFault result → IsSystemSound f.a f.inner f.cols f.b.now }
-    ensures untouched { result ≢ pos 0 → out.new ≡ out.old }
-    ensures refused { let f = factors.entry in
-        result ≢ pos 0 → IsDenseRefused (IsFaultModulo modulus
-        (IsFaultOfSystem f.a f.inner f.cols f.b.now)) f.a.pattern.major_dim f.cols out.old result }
+    ensures { MultipliesModulo modulus factors.entry out.old out.new result }
 {
     write_product::<Mod<M>>(alloc, factors, out)
 }

@@ -9,8 +9,8 @@ ghost use Rattle.sparse_algebra.specs.WrappingValues.{w64_value};
 ghost use Rattle.sparse_cs.specs.Compressed.{arrays_of, IsSound};
 ghost use Rattle.sparse_cs.specs.PlainOfLanes.{plain_of_rows};
 ghost use Rattle.sparse_c.specs.Moduli.{moduli, IsFaultModulo, IsNoneOf};
-ghost use Rattle.sparse_c.specs.Solved.{IsFaultOfQuotient, IsQuotientBy, IsQuotientTooSmall};
-ghost use Rattle.sparse_c.specs.Solved.{WritesQuotient};
+ghost use Rattle.sparse_c.specs.Solved.{DividesModulo, IsFaultOfQuotient, IsQuotientBy};
+ghost use Rattle.sparse_c.specs.Solved.{IsQuotientTooSmall, WritesQuotient};
 ghost use Rattle.sparse_c_views.specs.Arrays.{plain_by_rows, ring64, room_of};
 ghost use Rattle.sparse_algebra.specs.Integers.{element_of};
 ghost use Rattle.sparse_c_views.specs.Reduced.{AreReduced};
@@ -135,24 +135,10 @@ fn write_by_modulus(
     out_values: &mut [i64],
     out_places: &mut usize,
 ) -> i32
-    ensures written { let q = quotient.entry in
-        result ≡ pos 0 → WritesQuotient (mod_ring q.modulus) q.a q.divisor
-        (room_of out_offsets.new out_indices.new out_values.new out_places.new) }
-    ensures reduced { result ≡ pos 0
-        → AreReduced quotient.entry.modulus out_places.new out_values.new }
-    ensures unlisted { IsNoneOf moduli quotient.entry.modulus → result ≡ number_of UnknownChoice }
-    ensures rest { result ≡ pos 0 → KeepsRest quotient.entry.a.pattern.major_dim
+    ensures answered { let q = quotient.entry in DividesModulo q.modulus q.a q.divisor
         (room_of out_offsets.old out_indices.old out_values.old out_places.old)
-        (room_of out_offsets.new out_indices.new out_values.new out_places.new) }
-    ensures sound { FindsNoFault result → IsSound quotient.entry.a }
-    ensures untouched { result ≢ pos 0
-        → room_of out_offsets.new out_indices.new out_values.new out_places.new
-        ≡ room_of out_offsets.old out_indices.old out_values.old out_places.old }
-    ensures refused { let q = quotient.entry in
-        result ≢ pos 0 → IsRefusedFor (IsFaultModulo q.modulus
-        (IsFaultOfQuotient (mod_ring q.modulus) (mod_value {m = q.modulus}) q.a q.divisor))
-        (IsQuotientTooSmall (mod_ring q.modulus) q.a q.divisor
-        (room_of out_offsets.old out_indices.old out_values.old out_places.old)) result }
+        (room_of out_offsets.new out_indices.new out_values.new out_places.new) result }
+    ensures unlisted { IsNoneOf moduli quotient.entry.modulus → result ≡ number_of UnknownChoice }
 {
     by_modulus!(
         quotient.modulus,
@@ -178,23 +164,9 @@ fn write_modulo<const M: u64>(
 ) -> i32
     requires is { quotient.modulus ≡ M }
     requires short { M ≤ 9223372036854775808 }
-    ensures written { let q = quotient.entry in
-        result ≡ pos 0 → WritesQuotient (mod_ring q.modulus) q.a q.divisor
-        (room_of out_offsets.new out_indices.new out_values.new out_places.new) }
-    ensures reduced { result ≡ pos 0
-        → AreReduced quotient.entry.modulus out_places.new out_values.new }
-    ensures rest { result ≡ pos 0 → KeepsRest quotient.entry.a.pattern.major_dim
+    ensures { let q = quotient.entry in DividesModulo q.modulus q.a q.divisor
         (room_of out_offsets.old out_indices.old out_values.old out_places.old)
-        (room_of out_offsets.new out_indices.new out_values.new out_places.new) }
-    ensures sound { FindsNoFault result → IsSound quotient.entry.a }
-    ensures untouched { result ≢ pos 0
-        → room_of out_offsets.new out_indices.new out_values.new out_places.new
-        ≡ room_of out_offsets.old out_indices.old out_values.old out_places.old }
-    ensures refused { let q = quotient.entry in
-        result ≢ pos 0 → IsRefusedFor (IsFaultModulo q.modulus
-        (IsFaultOfQuotient (mod_ring q.modulus) (mod_value {m = q.modulus}) q.a q.divisor))
-        (IsQuotientTooSmall (mod_ring q.modulus) q.a q.divisor
-        (room_of out_offsets.old out_indices.old out_values.old out_places.old)) result }
+        (room_of out_offsets.new out_indices.new out_values.new out_places.new) result }
 {
     let Quotient { a, divisor, .. } = quotient;
     let answer = quotient_of::<Mod<M>>(alloc, a, divisor);

@@ -8,7 +8,7 @@ ghost use Rattle.sparse_cs.specs.Compressed.{arrays_of, IsSound};
 ghost use Rattle.sparse_cs.specs.PlainOfLanes.{plain_of_cols, plain_of_rows};
 ghost use Rattle.sparse_ldl.specs.Factors.{diagonal};
 ghost use Rattle.sparse_c.specs.Factors.{AreFactors, AreFactorsTooLong, IsFaultOfFactors};
-ghost use Rattle.sparse_c.specs.Factors.{HoldsFactors, WritesFactors};
+ghost use Rattle.sparse_c.specs.Factors.{FactorsModulo, HoldsFactors, WritesFactors};
 ghost use Rattle.sparse_c.specs.Moduli.{moduli, IsFaultModulo, IsNoneOf};
 ghost use Rattle.sparse_c.specs.Rooms.{room_after, room_before};
 ghost use Rattle.sparse_c_views.specs.Arrays.{ring64, room_of};
@@ -118,10 +118,39 @@ pub extern "C" fn nalgebra_sparse_factor_symmetric_mod(
         out_diagonal.old) result }
 {
     let a = lanes!(size, size, offsets, indices, values);
-    let room = room!(out_offsets, out_indices, out_values, out_places);
+    factor_by_modulus(
+        alloc,
+        modulus,
+        a,
+        out_offsets,
+        out_indices,
+        out_values,
+        out_diagonal,
+        out_places,
+    )
+}
+
+// Writes these factors over the residues modulo a listed number.
+fn factor_by_modulus(
+    alloc: Global,
+    modulus: u64,
+    a: Lanes<'_>,
+    offsets: &mut [usize],
+    indices: &mut [usize],
+    values: &mut [i64],
+    pivots: &mut [i64],
+    places: &mut usize,
+) -> i32
+    requires { a.pattern.minor_dim ≡ a.pattern.major_dim }
+    ensures answered { FactorsModulo modulus a.entry
+        (room_of offsets.old indices.old values.old places.old)
+        (room_of offsets.new indices.new values.new places.new) pivots.old pivots.new result }
+    ensures unlisted { IsNoneOf moduli modulus → result ≡ number_of UnknownChoice }
+{
+    let room = room!(offsets, indices, values, places);
     by_modulus!(
         modulus,
-        factor_symmetric_mod(alloc, modulus, a, room, out_diagonal)
+        factor_symmetric_mod(alloc, modulus, a, room, pivots)
     )
 }
 
@@ -136,23 +165,8 @@ fn factor_symmetric_mod<const M: u64>(
     requires is { modulus ≡ M }
     requires short { M ≤ 9223372036854775808 }
     requires square { a.pattern.minor_dim ≡ a.pattern.major_dim }
-    ensures written { result ≡ pos 0 → WritesFactors (mod_ring modulus) (mod_value {m = modulus})
-        a.entry (room_after room.exit) pivots.new }
-    ensures reduced { let after = room_after room.exit in
-        result ≡ pos 0 → AreReduced modulus after.places after.values }
-    ensures reduced_diagonal { result ≡ pos 0
-        → AreReduced modulus a.entry.pattern.minor_dim pivots.new }
-    ensures rest { result ≡ pos 0 → KeepsRest a.entry.pattern.minor_dim (room_before room.entry)
-        (room_after room.exit) }
-    ensures rest_diagonal { result ≡ pos 0
-        → KeepsBehind a.entry.pattern.minor_dim pivots.old pivots.new }
-    ensures sound { FindsNoFault result → IsSound a.entry }
-    ensures untouched { result ≢ pos 0 → room_after room.exit ≡ room_before room.entry }
-    ensures untouched_diagonal { result ≢ pos 0 → pivots.new ≡ pivots.old }
-    ensures refused { result ≢ pos 0 → IsRefusedFor (IsFaultModulo modulus
-        (IsFaultOfFactors (mod_ring modulus) (mod_value {m = modulus}) a.entry))
-        (AreFactorsTooLong (mod_ring modulus) (mod_value {m = modulus}) a.entry
-        (room_before room.entry) pivots.old) result }
+    ensures { FactorsModulo modulus a.entry (room_before room.entry) (room_after room.exit)
+        pivots.old pivots.new result }
 {
     let Room {
         offsets,

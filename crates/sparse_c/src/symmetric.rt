@@ -16,8 +16,7 @@ ghost use Rattle.sparse_c_views.specs.Statuses.{number_of, FindsNoFault};
 ghost use Rattle.sparse_c_views.specs.declared.refusal.Refusal.TheVariants.{UnknownChoice};
 
 use crate::arguments::lanes;
-use crate::moduli::by_modulus;
-use crate::systems::{Equation, System, write_solution, write_solution_mod};
+use crate::systems::{Equation, System, write_solution, write_solution_by_modulus};
 use sparse_algebra::scalar::W64;
 use std::alloc::Global;
 
@@ -95,8 +94,5 @@ pub extern "C" fn nalgebra_sparse_solve_symmetric_mod(
         cols,
         b: b_values,
     };
-    by_modulus!(
-        modulus,
-        write_solution_mod(alloc, modulus, system, out_values)
-    )
+    write_solution_by_modulus(alloc, modulus, system, out_values)
 }

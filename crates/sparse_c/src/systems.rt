@@ -1,23 +1,23 @@
 //! Systems of equations from outside.
 
 ghost use Rattle.std.specs.Prelude.{◌≡◌, ◌≢◌, ◌<◌, ◌≤◌, ◌*◌, pos, IfOk, IfErr, OnOk, OnErr};
-ghost use Rattle.sparse_algebra.specs.ModNumbers.{mod_value};
-ghost use Rattle.sparse_algebra.specs.Moduli.{mod_ring};
 ghost use Rattle.sparse_algebra.specs.declared.error.OperationErrorKind.TheVariants.{Singular};
 ghost use Rattle.sparse_base.specs.DensePlain.{plain_of_dense};
 ghost use Rattle.sparse_cs.specs.PlainOfLanes.{plain_of_cols};
 ghost use Rattle.sparse_solve.specs.Solutions.{plain_lower, IsSingular, IsSolution};
-ghost use Rattle.sparse_c.specs.Moduli.{IsFaultModulo};
+ghost use Rattle.sparse_c.specs.Moduli.{moduli, IsNoneOf};
 ghost use Rattle.sparse_c.specs.Solved.{lower_of, transposed_if, HoldsMatrix, IsFaultOfLower};
 ghost use Rattle.sparse_c.specs.Solved.{IsMatrixTooLong};
 ghost use Rattle.sparse_c.specs.Symmetric.{IsFaultOfSymmetric, SolvesSymmetric};
-ghost use Rattle.sparse_c.specs.Systems.{IsFaultOfEquation, Solves};
+ghost use Rattle.sparse_c.specs.Systems.{IsFaultOfEquation, Solves, SolvesModulo};
 ghost use Rattle.sparse_c_views.specs.Arrays.{plain_by_values};
-ghost use Rattle.sparse_c_views.specs.Reduced.{AreReduced, FirstAre};
+ghost use Rattle.sparse_c_views.specs.Reduced.{FirstAre};
 ghost use Rattle.sparse_c_views.specs.Refused.{IsMemoryOr, IsRefusedFor, IsSystemSound};
 ghost use Rattle.sparse_c_views.specs.Rests.{KeepsBehind};
-ghost use Rattle.sparse_c_views.specs.Statuses.{FindsNoFault};
+ghost use Rattle.sparse_c_views.specs.Statuses.{number_of, FindsNoFault};
+ghost use Rattle.sparse_c_views.specs.declared.refusal.Refusal.TheVariants.{UnknownChoice};
 
+use crate::moduli::by_modulus;
 use sparse_algebra::error::OperationError;
 use sparse_algebra::operand::Op;
 use sparse_algebra::scalar::Mod;
@@ -51,8 +51,23 @@ pub(crate) struct System<'a> {
     pub(crate) b: &'a [i64],
 }
 
-/// Writes the solution over the residues modulo `M`, which is the modulus.
-pub(crate) fn write_solution_mod<const M: u64>(
+/// Writes the solution over the residues modulo a listed number.
+pub(crate) fn write_solution_by_modulus(
+    alloc: Global,
+    modulus: u64,
+    system: System<'_>,
+    out: &mut [i64],
+) -> i32
+    requires rows { system.matrix.pattern.minor_dim ≡ system.size }
+    requires cols { system.matrix.pattern.major_dim ≡ system.size }
+    ensures answered { SolvesModulo modulus system.entry out.old out.new result }
+    ensures unlisted { IsNoneOf moduli modulus → result ≡ number_of UnknownChoice }
+{
+    by_modulus!(modulus, write_solution_mod(alloc, modulus, system, out))
+}
+
+// Writes the solution over the residues modulo `M`, which is the modulus.
+fn write_solution_mod<const M: u64>(
     alloc: Global,
     modulus: u64,
     system: System<'_>,
@@ -62,23 +77,7 @@ pub(crate) fn write_solution_mod<const M: u64>(
     requires short { M ≤ 9223372036854775808 }
     requires rows { system.matrix.pattern.minor_dim ≡ system.size }
     requires cols { system.matrix.pattern.major_dim ≡ system.size }
-    ensures written { let s = system.entry in
-        let ring = mod_ring modulus in
-        result ≡ pos 0 → HoldsMatrix ring (λ x. Solves ring s.equation s.matrix x
-        (plain_by_values ring s.size s.cols s.b.now) s.size s.cols) s.size s.cols out.new }
-    ensures reduced { let s = system.entry in
-        result ≡ pos 0 → AreReduced modulus (s.size * s.cols) out.new }
-    ensures rest { let s = system.entry in
-        result ≡ pos 0 → KeepsBehind (s.size * s.cols) out.old out.new }
-    ensures sound { let s = system.entry in
-        FindsNoFault result → IsSystemSound s.matrix s.size s.cols s.b.now }
-    ensures untouched { result ≢ pos 0 → out.new ≡ out.old }
-    ensures refused { let s = system.entry in
-        let ring = mod_ring modulus in
-        result ≢ pos 0 → IsRefusedFor (IsFaultModulo modulus (IsFaultOfEquation
-        ring (mod_value {m = modulus}) s.equation s.matrix s.size s.cols s.b.now))
-        (IsMatrixTooLong ring (λ x. Solves ring s.equation s.matrix x
-        (plain_by_values ring s.size s.cols s.b.now) s.size s.cols) s.size s.cols out.old) result }
+    ensures { SolvesModulo modulus system.entry out.old out.new result }
 {
     write_solution::<Mod<M>>(alloc, system, out)
 }

@@ -20,13 +20,13 @@ returns-clause-written c = λ h.
     c.args.values.now in
     subst (λ (s : ℤ). WritesQuotient (mod_ring c.args.modulus) a s
     (room_of new.out_offsets new.out_indices new.out_values new.out_places))
-    (to_z-of_z w64 c.args.divisor c.ranges.divisor) (c.write_by_modulus.ensures.written (sym same ∙ h))
+    (to_z-of_z w64 c.args.divisor c.ranges.divisor) (c.write_by_modulus.ensures.answered.written (sym same ∙ h))
 
 pub returns-clause-sound : goal.returns-clause-sound
 returns-clause-sound c = λ told.
     let same : to_z w32 (of_z w32 c.write_by_modulus.result) ≡ c.write_by_modulus.result =
     search rules in
-    c.write_by_modulus.ensures.sound (subst FindsNoFault same told)
+    c.write_by_modulus.ensures.answered.sound (subst FindsNoFault same told)
 
 pub returns-clause-refused : goal.returns-clause-refused
 returns-clause-refused c = λ h.
@@ -41,4 +41,4 @@ returns-clause-refused c = λ h.
     widened c.write_by_modulus.result _ same
     (λ e. subst (λ (s : ℤ). IsFaultModulo m (IsFaultOfQuotient (mod_ring m) (mod_value {m = m}) a s) e)
     divisor) (subst (λ (s : ℤ). IsQuotientTooSmall (mod_ring m) a s room) divisor)
-    (c.write_by_modulus.ensures.refused (λ e. h (same ∙ e)))
+    (c.write_by_modulus.ensures.answered.refused (λ e. h (same ∙ e)))

@@ -13,79 +13,46 @@ use Rattle.sparse_c_views.specs.Arrays.{room_of}
 use Rattle.sparse_c_views.specs.Reduced.{IsReduced}
 use Rattle.sparse_c.proofs.factors.factor_symmetric_mod.Goals as goal
 
-pub returns-clause-written : goal.returns-clause-written
-returns-clause-written g c = λ h.
-    let same : to_z w32 (of_z w32 c.finish_factors.result) ≡ c.finish_factors.result =
-    search rules in
-    let facts = c.factors_of-answer.ensures in
-    let new = c.finish_factors.new in
-    let room = room_of new.offsets new.indices new.values new.places in
-    subst (λ (m : ℕ). WritesFactors (mod_ring m) (mod_value {m = m}) c.args.a room new.pivots)
-    (sym c.requires.is) (factors_written (mod_ring g.row.M) (mod_value {m = g.row.M}) _ refl
-    (λ d. d.items) c.args.a c.factors_of-answer.result facts.factors facts.rows facts.count room
-    new.pivots (c.finish_factors.ensures.written (sym same ∙ h)))
-
-pub returns-clause-reduced : goal.returns-clause-reduced
-returns-clause-reduced g c = λ h.
-    let same : to_z w32 (of_z w32 c.finish_factors.result) ≡ c.finish_factors.result =
-    search rules in
-    reduced_modulo c.args.modulus g.row.M c.finish_factors.new.places c.finish_factors.new.values
-    c.requires.is c.requires.short (c.finish_factors.ensures.shown (sym same ∙ h))
-
-pub returns-clause-reduced_diagonal : goal.returns-clause-reduced_diagonal
-returns-clause-reduced_diagonal g c = λ h.
+pub returns : goal.returns
+returns g c =
     let same : to_z w32 (of_z w32 c.finish_factors.result) ≡ c.finish_factors.result =
     search rules in
     let M = g.row.M in
+    let R = mod_ring M in
+    let f = mod_value {m = M} in
+    let is = sym c.requires.is in
+    let a = c.args.a in
+    let answer = c.factors_of-answer.result in
     let facts = c.factors_of-answer.ensures in
-    let pivots = c.finish_factors.new.pivots in
-    reduced_modulo c.args.modulus M c.args.a.pattern.minor_dim pivots c.requires.is c.requires.short
-    (factors_shown (mod_ring M) (mod_value {m = M}) _ refl (λ d. d.items) c.args.a
-    c.factors_of-answer.result facts.factors facts.rows facts.count
-    (λ x. M ≤ 9223372036854775808 → IsReduced M x) pivots
-    (c.finish_factors.ensures.shown_pivots (sym same ∙ h)))
-
-pub returns-clause-rest : goal.returns-clause-rest
-returns-clause-rest g c = λ h.
-    let same : to_z w32 (of_z w32 c.finish_factors.result) ≡ c.finish_factors.result =
-    search rules in
-    let facts = c.factors_of-answer.ensures in
+    let ended = c.finish_factors.ensures in
     let new = c.finish_factors.new in
-    factors_rest (mod_ring g.row.M) (mod_value {m = g.row.M}) _ refl (λ d. d.items) c.args.a
-    c.factors_of-answer.result facts.factors facts.rows facts.count (room_before c.args.room)
-    (room_of new.offsets new.indices new.values new.places)
-    (c.finish_factors.ensures.rest (sym same ∙ h))
-
-pub returns-clause-rest_diagonal : goal.returns-clause-rest_diagonal
-returns-clause-rest_diagonal g c = λ h.
-    let same : to_z w32 (of_z w32 c.finish_factors.result) ≡ c.finish_factors.result =
-    search rules in
-    let facts = c.factors_of-answer.ensures in
-    pivots_rest (mod_ring g.row.M) (mod_value {m = g.row.M}) _ refl (λ d. d.items) c.args.a
-    c.factors_of-answer.result facts.factors facts.rows facts.count c.args.pivots.now
-    c.finish_factors.new.pivots (c.finish_factors.ensures.rest_pivots (sym same ∙ h))
-
-pub returns-clause-sound : goal.returns-clause-sound
-returns-clause-sound g c =
-    let same : to_z w32 (of_z w32 c.finish_factors.result) ≡ c.finish_factors.result =
-    search rules in
-    accepted _ _ c.factors_of-answer.result c.finish_factors.result _ same
-    c.factors_of-answer.ensures.sound c.factors_of-answer.ensures.fault
-    (factors_told (mod_ring g.row.M) (mod_value {m = g.row.M}) c.args.a)
-    c.finish_factors.ensures.written c.finish_factors.ensures.refused
-
-pub returns-clause-refused : goal.returns-clause-refused
-returns-clause-refused g c = λ h.
-    let same : to_z w32 (of_z w32 c.finish_factors.result) ≡ c.finish_factors.result =
-    search rules in
-    let facts = c.factors_of-answer.ensures in
-    let room = room_before c.args.room in
-    let pivots = c.args.pivots.now in
-    widened c.finish_factors.result _ same
-    (λ e fault. inr (subst (λ (m : ℕ). IsFaultOfFactors (mod_ring m) (mod_value {m = m}) c.args.a e)
-    (sym c.requires.is) fault))
-    (subst (λ (m : ℕ). AreFactorsTooLong (mod_ring m) (mod_value {m = m}) c.args.a room pivots)
-    (sym c.requires.is)) (factors_refused (mod_ring g.row.M) (mod_value {m = g.row.M}) _ refl
-    (λ d. d.items) c.args.a c.factors_of-answer.result facts.factors facts.rows facts.count room
-    pivots _ _ refl facts.fault (λ e fault. fault)
-    (c.finish_factors.ensures.refused (λ e. h (same ∙ e))))
+    let before = room_before c.args.room in
+    let after = room_of new.offsets new.indices new.values new.places in
+    let old = c.args.pivots.now in
+    record {
+      written = λ h. subst
+          (λ (m : ℕ). WritesFactors (mod_ring m) (mod_value {m = m}) a after new.pivots) is
+          (factors_written R f _ refl (λ d. d.items) a answer facts.factors facts.rows facts.count
+          after new.pivots (ended.written (sym same ∙ h)));
+      reduced = λ h. reduced_modulo c.args.modulus M new.places new.values c.requires.is
+          c.requires.short (ended.shown (sym same ∙ h));
+      reduced_diagonal = λ h. reduced_modulo c.args.modulus M a.pattern.minor_dim new.pivots
+          c.requires.is c.requires.short (factors_shown R f _ refl (λ d. d.items) a answer
+          facts.factors facts.rows facts.count (λ x. M ≤ 9223372036854775808 → IsReduced M x)
+          new.pivots (ended.shown_pivots (sym same ∙ h)));
+      rest = λ h. factors_rest R f _ refl (λ d. d.items) a answer facts.factors facts.rows
+          facts.count before after (ended.rest (sym same ∙ h));
+      rest_diagonal = λ h. pivots_rest R f _ refl (λ d. d.items) a answer facts.factors facts.rows
+          facts.count old new.pivots (ended.rest_pivots (sym same ∙ h));
+      sound = accepted _ _ answer c.finish_factors.result _ same facts.sound facts.fault
+          (factors_told R f a) ended.written ended.refused;
+      untouched = λ h. ended.untouched (λ e. h (same ∙ e));
+      untouched_diagonal = λ h. ended.untouched_pivots (λ e. h (same ∙ e));
+      refused = λ h. widened c.finish_factors.result _ same
+          (λ e fault. inr (subst (λ (m : ℕ). IsFaultOfFactors (mod_ring m) (mod_value {m = m}) a e)
+          is fault))
+          (subst (λ (m : ℕ). AreFactorsTooLong (mod_ring m) (mod_value {m = m}) a before old) is)
+          (factors_refused R f _ refl (λ d. d.items) a answer facts.factors facts.rows facts.count
+          before old _ _ refl facts.fault (λ e fault. fault)
+          (ended.refused (λ e. h (same ∙ e))));
+    }
