@@ -3,6 +3,7 @@
 ghost use Rattle.std.specs.Prelude.{◌≡◌, ◌⊎◌, ◌↔◌, ℕ, All, Err, IfOk, IfErr, IsTrue};
 ghost use Rattle.sparse_base.specs.CooPlain.{plain_of_coo};
 ghost use Rattle.sparse_base.specs.DensePlain.{plain_of_dense};
+ghost use Rattle.sparse_cs.specs.PlainOfLanes.{plain_of_rows};
 ghost use Rattle.sparse_algebra.specs.Plain.{plain_product};
 ghost use Rattle.sparse_solve.specs.Solutions.{HasSameValues};
 ghost use Rattle.sparse_algebra.specs.declared.error.OperationErrorKind.TheVariants.{Singular};
@@ -21,6 +22,7 @@ use sparse_base::dense::DMatrix;
 use sparse_convert::serial::{
     convert_coo_csc, convert_coo_csr, convert_coo_dense, convert_dense_coo, from_dense_law,
 };
+use sparse_forms::csr::CsrMatrix;
 use sparse_ldl::ldl::Ldl;
 use sparse_products::serial::mul_csr;
 use std::alloc::{AllocError, Global};
@@ -86,8 +88,7 @@ fn solve_fitting<T: Units>(
     ensures singular { IfErr result (λ e. e ≡ NoFactors
         → HasNoFactorisation T.ring T.value (plain_of_coo T.ring T.value a.now)) }
 {
-    let rows = convert_coo_csr(alloc, a)?;
-    if !has_symmetric_values(alloc, &rows)? {
+    if !is_symmetric(alloc, a)? {
         return Err(SystemError::NotSymmetric);
     }
     let columns = convert_coo_csc(alloc, a)?;
@@ -99,6 +100,15 @@ fn solve_fitting<T: Units>(
         }
         Err(error) => Err(refusal(*error.kind())),
     }
+}
+
+// Returns whether the matrix is symmetric.
+fn is_symmetric<T: Ring>(alloc: Global, a: &CooMatrix<T>) -> Result<bool, AllocError>
+    ensures { IfOk result (λ yes. IsTrue yes
+        ↔ IsSymmetricMatrix T.ring (plain_of_coo T.ring T.value a.now)) }
+{
+    let rows = convert_coo_csr(alloc, a)?;
+    has_symmetric_values(alloc, &rows)
 }
 
 /// Returns the matrix X for which A X = B, as [`solve`] does, as a list of its values that are not zero, column by
@@ -196,11 +206,25 @@ fn has_product<T: Ring>(
         (plain_of_coo T.ring T.value x.now))
         (plain_of_coo T.ring T.value b.now)) }
 {
+    let product = product(alloc, a, x)?;
+    let right = convert_coo_csr(alloc, b)?;
+    Ok(has_same_values(alloc, &product, &right)?)
+}
+
+// Returns A X by rows, where the shapes fit.
+fn product<T: Ring>(
+    alloc: Global,
+    a: &CooMatrix<T>,
+    x: &CooMatrix<T>,
+) -> Result<CsrMatrix<T>, AllocError>
+    requires { a.now.ncols ≡ x.now.nrows }
+    ensures { IfOk result (λ m. plain_of_rows T.ring T.value m
+        ≡ plain_product T.ring (plain_of_coo T.ring T.value a.now)
+        (plain_of_coo T.ring T.value x.now)) }
+{
     let rows = convert_coo_csr(alloc, a)?;
     let solution = convert_coo_csr(alloc, x)?;
-    let right = convert_coo_csr(alloc, b)?;
-    let product = mul_csr(alloc, &rows, &solution)?;
-    Ok(has_same_values(alloc, &product, &right)?)
+    mul_csr(alloc, &rows, &solution)
 }
 
 impl From<AllocError> for SystemError {

@@ -13,10 +13,7 @@ returns g c =
     let b = plain_of_coo R f c.args.b.now in
     let made = plain_of_rows R f c.in_ok-product.product in
     let right = plain_of_rows R f c.in_ok-right.right in
-    let is : made ≡ plain_product R a x = c.in_ok-product.ensures
-    ∙ ap (λ (p : Plain R). plain_product R p (plain_of_rows R f c.in_ok-solution.solution))
-    c.in_ok-rows.ensures.plain
-    ∙ ap (plain_product R a) c.in_ok-solution.ensures.plain in
+    let is : made ≡ plain_product R a x = c.in_ok-product.ensures in
     let given : right ≡ b = c.in_ok-right.ensures.plain in
     let rows : c.in_ok-product.product.pattern.major_dim ≡ c.args.b.now.nrows =
     ap (λ (p : Plain R). p.rows) is

@@ -6,7 +6,6 @@ use Rattle.sparse_cs.specs.PlainOfLanes.{plain_of_cols}
 use Rattle.sparse_ldl.specs.Factorisations.{IsFactorisation, plain_symmetric}
 use Rattle.sparse_ldl.specs.Factors.{plain_of_factors}
 use Rattle.sparse_solve.specs.Solutions.{HasSameValues}
-use Rattle.mtxkit_matrices.specs.Values.{IsSymmetricMatrix}
 use Rattle.mtxkit_systems.proofs.SymmetricSystems.{solved_is, no_factors}
 use Rattle.mtxkit_systems.proofs.system.solve_fitting.Goals as goal
 
@@ -31,9 +30,8 @@ returns-in-Ok-clause-solved g c =
     let equation = subst (λ (p : Plain R). HasSameValues R n n factors (plain_symmetric R p)) is
     (subst (λ k. HasSameValues R k k factors (plain_symmetric R (plain_of_cols R f columns)))
     (c.in-Ok.ensures.count ∙ size) c.in-Ok.ensures.equation) in
-    let yes : c.in_ok-has_symmetric_values.field-0 ≡ true = search rules in
-    let h = subst (λ (p : Plain R). IsSymmetricMatrix R p) c.in_ok-rows.ensures.plain
-    (c.in_ok-has_symmetric_values.ensures.0 yes) in
+    let yes : c.in_ok-is_symmetric.field-0 ≡ true = search rules in
+    let h = c.in_ok-is_symmetric.ensures.0 yes in
     solved_is R a factors x b n c.args.b.now.ncols (sym square ∙ tall)
     (c.in-Ok.ensures.rows ∙ size)
     (λ i j row col. h.values i j (omega (arith, row, tall)) (omega (arith, col, tall)))
@@ -44,9 +42,8 @@ returns-clause-singular g c =
     let R = g.T.Ring.ring in
     let f = g.T.Ring.value in
     let a = plain_of_coo R f c.args.a.now in
-    let yes : c.in_ok-has_symmetric_values.field-0 ≡ true = search rules in
-    let h = subst (λ (p : Plain R). IsSymmetricMatrix R p) c.in_ok-rows.ensures.plain
-    (c.in_ok-has_symmetric_values.ensures.0 yes) in
+    let yes : c.in_ok-is_symmetric.field-0 ≡ true = search rules in
+    let h = c.in_ok-is_symmetric.ensures.0 yes in
     λ is.
     let kind = c.refusal.ensures.singular is in
     let none = c.in-Err.ensures.singular (let k = c.kind.ensures in cc) in
