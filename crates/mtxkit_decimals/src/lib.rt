@@ -1,0 +1,13 @@
+//! Decimal numbers read exactly: Matrix Market texts whose values are multiplied by a power of ten and become integers,
+//! for the program `mtxkit`.
+#![tactic(auto)]
+
+mod error;
+mod magnitude;
+mod mantissa;
+mod number;
+mod stage;
+mod text;
+
+pub use error::ScaleError;
+pub use text::scaled_text;
