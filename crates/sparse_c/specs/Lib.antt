@@ -1,4 +1,5 @@
 pub mod Combinations
+pub mod CombinationsModulo
 pub mod Dense
 pub mod Factors
 pub mod Fills

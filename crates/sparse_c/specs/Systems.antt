@@ -32,11 +32,13 @@ module _ (R : CommRing) {T : Type 0} (f : T → R.Carrier) where
 
 -- x solves the system over a ring
 abbrev pub IsSolved : (R : CommRing) → System → Plain R → Type 0
-IsSolved R s x = Solves R s.equation s.matrix x (plain_by_values R s.size s.cols s.b.now) s.size s.cols
+IsSolved R s x =
+    Solves R s.equation s.matrix x (plain_by_values R s.size s.cols s.b.now) s.size s.cols
 
 -- the status of a call that solves the system modulo m, and the numbers before it and after it
 pub record SolvesModulo (m : ℕ) (s : System) (before after : List ℤ) (status : ℤ) : Type 0 where
-  pub written : status ≡ pos 0 → HoldsMatrix (mod_ring m) (IsSolved (mod_ring m) s) s.size s.cols after
+  pub written : status ≡ pos 0
+      → HoldsMatrix (mod_ring m) (IsSolved (mod_ring m) s) s.size s.cols after
   pub reduced : status ≡ pos 0 → AreReduced m (s.size * s.cols) after
   pub rest : status ≡ pos 0 → KeepsBehind (s.size * s.cols) before after
   pub sound : FindsNoFault status → IsSystemSound s.matrix s.size s.cols s.b.now

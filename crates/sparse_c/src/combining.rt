@@ -9,7 +9,8 @@ ghost use Rattle.sparse_c.specs.Combinations.{combination_of, CanCombine, IsOfOn
 ghost use Rattle.sparse_c.specs.Moduli.{moduli, IsFaultModulo, IsNoneOf};
 ghost use Rattle.sparse_c.specs.Rooms.{room_after, room_before};
 ghost use Rattle.sparse_c_views.specs.Arrays.{room_of, HoldsRows};
-ghost use Rattle.sparse_c_views.specs.Reduced.{AreReduced, FirstAre};
+ghost use Rattle.sparse_c.specs.CombinationsModulo.{CombinesModulo};
+ghost use Rattle.sparse_c_views.specs.Reduced.{FirstAre};
 ghost use Rattle.sparse_c_views.specs.Refused.{IsFaultOfPair, IsMemoryOr, IsRefused};
 ghost use Rattle.sparse_c_views.specs.Rests.{KeepsRest};
 ghost use Rattle.sparse_c_views.specs.Statuses.{number_of, FindsNoFault};
@@ -38,18 +39,10 @@ pub(crate) fn write_combination_by_modulus(
     places: &mut usize,
 ) -> i32
     requires { CanCombine pair }
-    ensures written { result ≡ pos 0
-        → HoldsRows (combination_of (mod_ring modulus) pair.entry) (room_of offsets.new indices.new values.new places.new) }
-    ensures reduced { result ≡ pos 0 → AreReduced modulus places.new values.new }
+    ensures answered { CombinesModulo modulus pair.entry
+        (room_of offsets.old indices.old values.old places.old)
+        (room_of offsets.new indices.new values.new places.new) result }
     ensures unlisted { IsNoneOf moduli modulus → result ≡ number_of UnknownChoice }
-    ensures rest { result ≡ pos 0 → KeepsRest pair.entry.a.pattern.major_dim
-        (room_of offsets.old indices.old values.old places.old) (room_of offsets.new indices.new values.new places.new) }
-    ensures sound { FindsNoFault result → IsSound pair.entry.a × IsSound pair.entry.b }
-    ensures untouched { result ≢ pos 0 → room_of offsets.new indices.new values.new places.new
-        ≡ room_of offsets.old indices.old values.old places.old }
-    ensures refused { result ≢ pos 0 → IsRefused
-        (IsFaultModulo modulus (IsFaultOfPair pair.entry.a pair.entry.b))
-        (combination_of (mod_ring modulus) pair.entry) (room_of offsets.old indices.old values.old places.old) result }
 {
     let room = room!(offsets, indices, values, places);
     by_modulus!(modulus, write_combination_mod(alloc, modulus, pair, room))
@@ -65,17 +58,8 @@ fn write_combination_mod<const M: u64>(
     requires is { modulus ≡ M }
     requires short { M ≤ 9223372036854775808 }
     requires fit { CanCombine pair }
-    ensures written { result ≡ pos 0
-        → HoldsRows (combination_of (mod_ring modulus) pair.entry) (room_after room.exit) }
-    ensures reduced { let after = room_after room.exit in
-        result ≡ pos 0 → AreReduced modulus after.places after.values }
-    ensures rest { result ≡ pos 0 → KeepsRest pair.entry.a.pattern.major_dim
-        (room_before room.entry) (room_after room.exit) }
-    ensures sound { FindsNoFault result → IsSound pair.entry.a × IsSound pair.entry.b }
-    ensures untouched { result ≢ pos 0 → room_after room.exit ≡ room_before room.entry }
-    ensures refused { result ≢ pos 0 → IsRefused
-        (IsFaultModulo modulus (IsFaultOfPair pair.entry.a pair.entry.b))
-        (combination_of (mod_ring modulus) pair.entry) (room_before room.entry) result }
+    ensures { CombinesModulo modulus pair.entry (room_before room.entry)
+        (room_after room.exit) result }
 {
     let Room {
         offsets,

@@ -15,49 +15,32 @@ use Rattle.sparse_c_views.specs.Refused.{IsTooSmall}
 use Rattle.sparse_c_views.proofs.Joining.{rows_written, rows_refused, rows_rest}
 use Rattle.sparse_c.proofs.combining.write_combination_mod.Goals as goal
 
-pub returns-clause-written : goal.returns-clause-written
-returns-clause-written g c = λ h.
-    let same : to_z w32 (of_z w32 c.finish_rows.result) ≡ c.finish_rows.result = search rules in
-    let new = c.finish_rows.new in
-    let room = room_of new.offsets new.indices new.values new.places in
-    subst (λ (m : ℕ). HoldsRows (combination_of (mod_ring m) c.args.pair) room) (sym c.requires.is)
-    (rows_written (mod_ring g.row.M) (mod_value {m = g.row.M}) _ _ refl c.combined-answer.result
-    c.combined-answer.ensures.plain room (c.finish_rows.ensures.written (sym same ∙ h)))
-
-pub returns-clause-reduced : goal.returns-clause-reduced
-returns-clause-reduced g c = λ h.
-    let same : to_z w32 (of_z w32 c.finish_rows.result) ≡ c.finish_rows.result = search rules in
-    reduced_modulo c.args.modulus g.row.M c.finish_rows.new.places c.finish_rows.new.values
-    c.requires.is c.requires.short (c.finish_rows.ensures.shown (sym same ∙ h))
-
-pub returns-clause-rest : goal.returns-clause-rest
-returns-clause-rest g c = λ h.
+pub returns : goal.returns
+returns g c =
     let same : to_z w32 (of_z w32 c.finish_rows.result) ≡ c.finish_rows.result = search rules in
     let R = mod_ring g.row.M in
+    let f = mod_value {m = g.row.M} in
+    let is = sym c.requires.is in
+    let p = c.args.pair in
+    let answer = c.combined-answer.result in
+    let made = c.combined-answer.ensures in
+    let ended = c.finish_rows.ensures in
     let new = c.finish_rows.new in
     let old = room_before c.args.room in
     let left = room_of new.offsets new.indices new.values new.places in
-    let p = c.args.pair in
-    subst (λ (n : ℕ). KeepsRest n old left) (rows-combined R p.how (element_of R p.alpha)
-    (plain_by_rows R p.a) (element_of R p.beta) (plain_by_rows R p.b))
-    (rows_rest R (mod_value {m = g.row.M}) _ _ refl c.combined-answer.result
-    c.combined-answer.ensures.plain old left (c.finish_rows.ensures.rest (sym same ∙ h)))
-
-pub returns-clause-sound : goal.returns-clause-sound
-returns-clause-sound g c =
-    let same : to_z w32 (of_z w32 c.finish_rows.result) ≡ c.finish_rows.result = search rules in
-    let p = c.args.pair in
-    accepted _ _ c.combined-answer.result c.finish_rows.result _ same
-    c.combined-answer.ensures.sound c.combined-answer.ensures.fault
-    (λ e fault told. absurd (pair_told p.a p.b e fault told))
-    c.finish_rows.ensures.written c.finish_rows.ensures.refused
-
-pub returns-clause-refused : goal.returns-clause-refused
-returns-clause-refused g c = λ h.
-    let same : to_z w32 (of_z w32 c.finish_rows.result) ≡ c.finish_rows.result = search rules in
-    let room = room_before c.args.room in
-    widened c.finish_rows.result _ same (λ e fault. inr fault)
-    (subst (λ (m : ℕ). IsTooSmall (combination_of (mod_ring m) c.args.pair) room) (sym c.requires.is))
-    (rows_refused (mod_ring g.row.M) (mod_value {m = g.row.M}) _ _ refl c.combined-answer.result
-    c.combined-answer.ensures.plain room c.finish_rows.result _ refl c.combined-answer.ensures.fault
-    (λ e given. given) (c.finish_rows.ensures.refused (λ e. h (same ∙ e))))
+    record {
+      written = λ h. subst (λ (m : ℕ). HoldsRows (combination_of (mod_ring m) p) left) is
+          (rows_written R f _ _ refl answer made.plain left (ended.written (sym same ∙ h)));
+      reduced = λ h. reduced_modulo c.args.modulus g.row.M new.places new.values c.requires.is
+          c.requires.short (ended.shown (sym same ∙ h));
+      rest = λ h. subst (λ (n : ℕ). KeepsRest n old left) (rows-combined R p.how
+          (element_of R p.alpha) (plain_by_rows R p.a) (element_of R p.beta) (plain_by_rows R p.b))
+          (rows_rest R f _ _ refl answer made.plain old left (ended.rest (sym same ∙ h)));
+      sound = accepted _ _ answer c.finish_rows.result _ same made.sound made.fault
+          (λ e fault told. absurd (pair_told p.a p.b e fault told)) ended.written ended.refused;
+      untouched = λ h. ended.untouched (λ e. h (same ∙ e));
+      refused = λ h. widened c.finish_rows.result _ same (λ e fault. inr fault)
+          (subst (λ (m : ℕ). IsTooSmall (combination_of (mod_ring m) p) old) is)
+          (rows_refused R f _ _ refl answer made.plain old c.finish_rows.result _ refl made.fault
+          (λ e given. given) (ended.refused (λ e. h (same ∙ e))));
+    }

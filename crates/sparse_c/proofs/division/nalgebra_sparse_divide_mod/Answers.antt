@@ -20,7 +20,8 @@ returns-clause-written c = λ h.
     c.args.values.now in
     subst (λ (s : ℤ). WritesQuotient (mod_ring c.args.modulus) a s
     (room_of new.out_offsets new.out_indices new.out_values new.out_places))
-    (to_z-of_z w64 c.args.divisor c.ranges.divisor) (c.write_by_modulus.ensures.answered.written (sym same ∙ h))
+    (to_z-of_z w64 c.args.divisor c.ranges.divisor)
+    (c.write_by_modulus.ensures.answered.written (sym same ∙ h))
 
 pub returns-clause-sound : goal.returns-clause-sound
 returns-clause-sound c = λ told.

@@ -15,7 +15,7 @@ pub returns-clause-sound : goal.returns-clause-sound
 returns-clause-sound c = λ told.
     let same : to_z w32 (of_z w32 c.write_combination_by_modulus.result)
     ≡ c.write_combination_by_modulus.result = search rules in
-    c.write_combination_by_modulus.ensures.sound (subst FindsNoFault same told)
+    c.write_combination_by_modulus.ensures.answered.sound (subst FindsNoFault same told)
 
 pub returns-clause-refused : goal.returns-clause-refused
 returns-clause-refused c = λ h.
@@ -30,4 +30,4 @@ returns-clause-refused c = λ h.
     (plain_scaled R (element_of R s.0) (plain_by_rows R a))
     (plain_scaled R (element_of R s.1) (plain_by_rows R b))) room)
     (λ k. (to_z-of_z w64 x.alpha c.ranges.alpha k, to_z-of_z w64 x.beta c.ranges.beta k)))
-    (c.write_combination_by_modulus.ensures.refused (λ e. h (same ∙ e)))
+    (c.write_combination_by_modulus.ensures.answered.refused (λ e. h (same ∙ e)))
