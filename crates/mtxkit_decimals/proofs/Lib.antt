@@ -1,3 +1,4 @@
+pub mod Counted
 pub mod Heads
 pub mod LineEnds
 pub mod Magnitudes

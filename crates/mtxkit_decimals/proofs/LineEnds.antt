@@ -1,23 +1,12 @@
 -- Lines and their ends, as they are split.
-use Rattle.std.proofs.Common.{◌≡◌, ℕ, ◌≤◌, ◌<◌, ◌-◌, Bool, true, false, not, List, [], ◌∷◌, length, get_or, drop, refl, sym, ap}
+use Rattle.std.proofs.Common.{◌≡◌, ℕ, ◌≤◌, ◌<◌, ◌-◌, Bool, true, false, not, List, [], ◌∷◌, length, refl, sym, ap}
 use Rattle.std.proofs.Common.{subst, ◌∙◌, arith}
 use Rattle.sparse_parser.specs.Bytes.{is_line_end, front, after}
 use Rattle.sparse_parser.specs.InnerBytes.{is_within_line}
-use Rattle.sparse_parser.specs.InnerReading.{ends_line, written_of}
+use Rattle.sparse_parser.specs.InnerReading.{ends_line}
 use Rattle.sparse_parser.proofs.Fronts.{Passes, IsStopped, Passes-front, IsStopped-after, length-after}
 use Rattle.sparse_parser.proofs.FrontLines.{end-from}
-use Rattle.sparse_parser.proofs.LineLaws.{written_of-end}
 use Rattle.mtxkit_decimals.specs.InnerRewriting.{IsPlain}
-
--- a line end of one byte adds no line
-pub after_one : (text rest : List ℕ) → ends_line text ≡ true → rest ≡ drop 1 text
-    → written_of rest ≡ written_of text
-after_one [] rest e r = ap written_of r
-after_one (b ∷ text) rest e r = ap written_of r ∙ sym (written_of-end b text e)
-
-pub ends_lf : (text : List ℕ) → get_or text 0 0 ≡ 10 → ends_line text ≡ true
-ends_lf [] e = refl
-ends_lf (b ∷ text) e = ap is_line_end e
 
 pub plain_front : (line rest : List ℕ) → line ≡ front is_within_line rest → IsPlain line
 plain_front line rest e =

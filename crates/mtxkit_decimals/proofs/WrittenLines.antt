@@ -1,8 +1,8 @@
 -- The words of the lines that are written.
 use Rattle.std.proofs.Common.{◌≡◌, ◌≢◌, ℕ, ℤ, pos, negsuc, suc, ◌<◌, Bool, true, false, eqb}
-use Rattle.std.proofs.Common.{List, [], ◌∷◌, ◌++◌, length, get_or, Option, Some, None, Result, Ok, refl, sym, ap}
+use Rattle.std.proofs.Common.{List, [], ◌∷◌, ◌++◌, length, get_or, Option, Some, None, Result, Ok, Err, refl, sym, ap}
 use Rattle.std.proofs.Common.{subst, ◌∙◌, arith, inl, inr, append_assoc}
-use Rattle.std.specs.Prelude.{FitsSigned}
+use Rattle.std.specs.Prelude.{◌⊎◌, IfOk, FitsSigned}
 use Rattle.std.specs.Int.{w128}
 use Rattle.std.specs.List.{AllByRecursion}
 use Rattle.std.specs.Char.{is_ascii_digit}
@@ -28,6 +28,7 @@ use Rattle.sparse_parser.proofs.ContentLaws.{content_line, is_content-comment}
 use Rattle.sparse_parser.proofs.LineShapes.{entry_1, entry_3}
 use Rattle.sparse_parser.proofs.WordLaws.{words_of-nil, words_of-blank, words_of-word}
 use Rattle.sparse_market_scalar.specs.IntegerTexts.{decimal-index, number_text}
+use Rattle.mtxkit_decimals.specs.declared.error.ScaleError.{ScaleError}
 use Rattle.mtxkit_decimals.specs.declared.stage.Stage.{Stage}
 use Rattle.mtxkit_decimals.specs.declared.stage.Stage.TheVariants.{Sizes, Entries}
 use Rattle.mtxkit_decimals.specs.Decimals.{IsScaled}
@@ -243,3 +244,45 @@ sized_from h words o r e s = by (is_size words) refl
         let some : option_map (λ x. size_numbers x) o ≡ Some (size_numbers r) =
         ap (option_map (λ x. size_numbers x)) e in
         absurd (let both : Some (size_numbers r) ≡ None = sym some ∙ s ∙ none in cc)
+
+-- ---- what is copied, as a result tells
+
+pub at_ok : {T E : Type 0} (r : Result T E) (x : T) (P : Type 0) → r ≡ Ok x → IfOk r (λ _. P) → P
+at_ok r x P e h = subst (λ (q : Result _ _). IfOk q (λ _. P)) e h
+
+module _ (line old new : List ℕ) (plain : IsPlain line) (h : Header) (r : Result Stage ScaleError)
+  where
+    pub copied_sizes : IfOk r (λ s. s ≡ Entries h) → IfOk r (λ s. new ≡ old ++ line)
+        → is_content (words_of line) ≡ true → is_size (words_of line) ≡ true
+        → IfOk r (λ next. (scale : ℕ) → IsLineWritten scale (Sizes h) line next old new)
+    copied_sizes = by r
+      where
+        by : (r : Result Stage ScaleError) → IfOk r (λ s. s ≡ Entries h)
+            → IfOk r (λ s. new ≡ old ++ line) → is_content (words_of line) ≡ true
+            → is_size (words_of line) ≡ true
+            → IfOk r (λ next. (scale : ℕ) → IsLineWritten scale (Sizes h) line next old new)
+        by (Ok s) e a c z = λ scale.
+            subst (λ (n : Stage). IsLineWritten scale (Sizes h) line n old new) (sym e)
+            (sizes_line scale (Sizes h) h line old new plain a c z)
+        by (Err e) f a c z = tt
+
+    pub copied_comment : (scale : ℕ) (stage at : Stage)
+        → (stage ≡ Sizes h) ⊎ (stage ≡ Entries h) → at ≡ stage → IfOk r (λ s. s ≡ at)
+        → IfOk r (λ s. new ≡ old ++ line) → is_content (words_of line) ≡ false
+        → IfOk r (λ next. IsLineWritten scale stage line next old new)
+    copied_comment scale stage at = by r
+      where
+        below : (stage ≡ Sizes h) ⊎ (stage ≡ Entries h) → new ≡ old ++ line
+            → is_content (words_of line) ≡ false → IsLineWritten scale stage line stage old new
+        below (inl s) a c = subst (λ (n : Stage). IsLineWritten scale stage line n old new) (sym s)
+            (sizes_comment scale stage h line old new plain a s c)
+        below (inr s) a c = subst (λ (n : Stage). IsLineWritten scale stage line n old new) (sym s)
+            (entries_comment scale stage h line old new plain a s c)
+
+        by : (r : Result Stage ScaleError) → (stage ≡ Sizes h) ⊎ (stage ≡ Entries h) → at ≡ stage
+            → IfOk r (λ s. s ≡ at) → IfOk r (λ s. new ≡ old ++ line)
+            → is_content (words_of line) ≡ false
+            → IfOk r (λ next. IsLineWritten scale stage line next old new)
+        by (Ok s) k f e a c = subst (λ (n : Stage). IsLineWritten scale stage line n old new)
+            (sym (e ∙ f)) (below k a c)
+        by (Err e) k f g a c = tt

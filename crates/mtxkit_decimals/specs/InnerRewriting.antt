@@ -90,6 +90,10 @@ pub record IsLineWritten (scale : ℕ) (stage : Stage) (line : List ℕ) (next :
   pub plain : IsPlain written
   pub step : IsStep scale stage (words_of line) next (words_of written)
 
+-- two indices and an integer
+abbrev pub coordinate_text : List ℕ → List ℕ → ℤ → List ℕ
+coordinate_text row col number = row ++ (32 ∷ (col ++ (32 ∷ signed_decimal number)))
+
 -- for these words of a data line two indices and a scaled value were appended
 pub record IsCoordinateLine (scale : ℕ) (words : List (List ℕ)) (old new : List ℕ) : Type 0 where
   pub row : List ℕ
@@ -102,7 +106,7 @@ pub record IsCoordinateLine (scale : ℕ) (words : List (List ℕ)) (old new : L
   pub value_is : is_number value ≡ true
   pub scaled : IsScaled scale value number
   pub fits : FitsSigned w128 number
-  pub appended : new ≡ old ++ (row ++ (32 ∷ (col ++ (32 ∷ signed_decimal number))))
+  pub appended : new ≡ old ++ coordinate_text row col number
 
 -- the same of a line of a value
 pub record IsArrayLine (scale : ℕ) (words : List (List ℕ)) (old new : List ℕ) : Type 0 where

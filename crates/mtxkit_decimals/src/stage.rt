@@ -1,6 +1,6 @@
 //! How a line of a text is written, by the lines that were read before it.
 
-ghost use Rattle.std.specs.Prelude.{◌≡◌, ◌++◌, ◌∷◌, [], IsTrue, MatchOption, IfOk, OnOk};
+ghost use Rattle.std.specs.Prelude.{◌≡◌, ◌++◌, ◌∷◌, [], IsTrue, MatchOption, IfOk, IfErr, OnOk};
 ghost use Rattle.std.specs.Prelude.{ℕ, true, nat_eq, slice_index};
 ghost use Rattle.std.specs.Fmt.{signed_decimal};
 ghost use Rattle.std.specs.Int.{w128};
@@ -13,6 +13,9 @@ ghost use Rattle.mtxkit_decimals.specs.Decimals.{IsScaled};
 ghost use Rattle.mtxkit_decimals.specs.Rewritten.{is_decimal};
 ghost use Rattle.mtxkit_decimals.specs.InnerRewriting.{IsPlain, IsHead, IsLineWritten};
 ghost use Rattle.mtxkit_decimals.specs.InnerRewriting.{IsCoordinateLine, IsArrayLine};
+ghost use Rattle.mtxkit_decimals.specs.InnerRewriting.{coordinate_text};
+ghost use Rattle.mtxkit_decimals.specs.InnerFailures.{IsLineFailure, IsValueFailure};
+ghost use Rattle.mtxkit_decimals.specs.declared.error.ScaleError.TheVariants.{OutOfMemory};
 
 use crate::error::ScaleError;
 use crate::number::{Misfit, scaled};
@@ -21,7 +24,6 @@ use sparse_parser::header::{Field, Format, Header, Symmetry};
 use sparse_parser::lines::next_word;
 use sparse_parser::numbers::{is_index, is_number};
 use sparse_parser::size::Size;
-use std::alloc::AllocError;
 
 /// What was read of a text.
 #[derive(Clone, Copy)]
@@ -51,29 +53,44 @@ pub(crate) fn push_line(
     line: &[u8],
 ) -> Result<Stage, ScaleError>
     requires { IsPlain line.now }
-    ensures { IfOk result
+    ensures written { IfOk result
         (λ next. IsLineWritten scale stage line.now next written.old.items written.new.items) }
+    ensures refused { IfErr result (IsLineFailure scale number (words_of line.now)) }
 {
     let Some((word, _)) = next_word(line) else {
-        written.extend_from_slice(line)?;
-        return Ok(stage);
+        return push_bytes(written, stage, line);
     };
     match stage {
         Stage::Head => push_header(written, number, line),
         Stage::Sizes(header) => {
             if is_comment(word) {
-                written.extend_from_slice(line)?;
-                return Ok(stage);
+                return push_bytes(written, stage, line);
             }
             push_sizes(written, header, number, line)
         }
         Stage::Entries(header) => {
             if is_comment(word) {
-                written.extend_from_slice(line)?;
-                return Ok(stage);
+                return push_bytes(written, stage, line);
             }
             push_entry(written, scale, header, number, line)
         }
+    }
+}
+
+/// Appends bytes. Returns what was read then.
+pub(crate) fn push_bytes(
+    written: &mut Vec<u8>,
+    next: Stage,
+    bytes: &[u8],
+) -> Result<Stage, ScaleError>
+    ensures next { IfOk result (λ stage. stage ≡ next) }
+    ensures appended { IfOk result
+        (λ stage. written.new.items ≡ written.old.items ++ bytes.now) }
+    ensures refused { IfErr result (λ e. e ≡ OutOfMemory) }
+{
+    match written.extend_from_slice(bytes) {
+        Ok(()) => Ok(next),
+        Err(_) => Err(ScaleError::OutOfMemory),
     }
 }
 
@@ -89,9 +106,11 @@ fn is_comment(word: &[u8]) -> bool
 
 // Appends the header with the field of integers.
 fn push_header(written: &mut Vec<u8>, number: usize, line: &[u8]) -> Result<Stage, ScaleError>
-    ensures { IfOk result
+    ensures written { IfOk result
         (λ next. (scale : ℕ) → IsLineWritten scale Head line.now next written.old.items
         written.new.items) }
+    ensures refused { (scale : ℕ) → IfErr result
+        (IsLineFailure scale number (words_of line.now)) }
 {
     let Some(header) = Header::from_line(line) else {
         return Err(ScaleError::Header(number));
@@ -102,8 +121,7 @@ fn push_header(written: &mut Vec<u8>, number: usize, line: &[u8]) -> Result<Stag
     let Some(head) = head(header.format, header.symmetry) else {
         return Err(ScaleError::Header(number));
     };
-    written.extend_from_slice(head.as_bytes())?;
-    Ok(Stage::Sizes(header))
+    push_bytes(written, Stage::Sizes(header), head.as_bytes())
 }
 
 // Whether the values of a field are decimal numbers.
@@ -150,15 +168,14 @@ fn push_sizes(
 ) -> Result<Stage, ScaleError>
     requires plain { IsPlain line.now }
     requires content { is_content (words_of line.now) ≡ true }
-    ensures { IfOk result
+    ensures written { IfOk result
         (λ next. (scale : ℕ) → IsLineWritten scale (Sizes header) line.now next
         written.old.items written.new.items) }
+    ensures refused { (scale : ℕ) → IfErr result
+        (IsLineFailure scale number (words_of line.now)) }
 {
     match Size::from_line(header, line) {
-        Some(Ok(_)) => {
-            written.extend_from_slice(line)?;
-            Ok(Stage::Entries(header))
-        }
+        Some(Ok(_)) => push_bytes(written, Stage::Entries(header), line),
         Some(Err(_)) | None => Err(ScaleError::Sizes(number)),
     }
 }
@@ -172,15 +189,19 @@ fn push_entry(
     line: &[u8],
 ) -> Result<Stage, ScaleError>
     requires { is_content (words_of line.now) ≡ true }
-    ensures { IfOk result
+    ensures written { IfOk result
         (λ next. IsLineWritten scale (Entries header) line.now next written.old.items
         written.new.items) }
+    ensures refused { IfErr result (IsLineFailure scale number (words_of line.now)) }
 {
-    match header.format {
-        Format::Coordinate => push_coordinate(written, scale, number, line)?,
-        Format::Array => push_value(written, scale, number, line)?,
+    let pushed = match header.format {
+        Format::Coordinate => push_coordinate(written, scale, number, line),
+        Format::Array => push_value(written, scale, number, line),
+    };
+    match pushed {
+        Ok(()) => Ok(Stage::Entries(header)),
+        Err(why) => Err(why),
     }
-    Ok(Stage::Entries(header))
 }
 
 // Appends a data line of two indices and a value.
@@ -190,19 +211,17 @@ fn push_coordinate(
     number: usize,
     line: &[u8],
 ) -> Result<(), ScaleError>
-    ensures { OnOk result
+    ensures written { OnOk result
         (IsCoordinateLine scale (words_of line.now) written.old.items written.new.items) }
+    ensures refused { IfErr result (IsLineFailure scale number (words_of line.now)) }
 {
     let Some(words) = coordinate_words(line) else {
         return Err(ScaleError::Entry(number));
     };
-    let integer = scaled_at(words.value, scale, number)?;
-    written.extend_from_slice(words.row)?;
-    written.push(b' ')?;
-    written.extend_from_slice(words.col)?;
-    written.push(b' ')?;
-    push_integer(written, integer)?;
-    Ok(())
+    match scaled_at(words.value, scale, number) {
+        Ok(integer) => push_words(written, words, integer),
+        Err(why) => Err(why),
+    }
 }
 
 // Appends a data line of a value.
@@ -212,15 +231,34 @@ fn push_value(
     number: usize,
     line: &[u8],
 ) -> Result<(), ScaleError>
-    ensures { OnOk result
+    ensures written { OnOk result
         (IsArrayLine scale (words_of line.now) written.old.items written.new.items) }
+    ensures refused { IfErr result (IsLineFailure scale number (words_of line.now)) }
 {
     let Some(value) = value_word(line) else {
         return Err(ScaleError::Entry(number));
     };
-    let integer = scaled_at(value, scale, number)?;
-    push_integer(written, integer)?;
-    Ok(())
+    match scaled_at(value, scale, number) {
+        Ok(integer) => push_integer(written, integer),
+        Err(why) => Err(why),
+    }
+}
+
+// Appends two indices and an integer.
+fn push_words(
+    written: &mut Vec<u8>,
+    words: CoordinateWords<'_>,
+    integer: i128,
+) -> Result<(), ScaleError>
+    ensures appended { OnOk result (written.new.items ≡ written.old.items
+        ++ coordinate_text words.entry.row.now words.entry.col.now integer) }
+    ensures refused { IfErr result (λ e. e ≡ OutOfMemory) }
+{
+    written.extend_from_slice(words.row)?;
+    written.push(b' ')?;
+    written.extend_from_slice(words.col)?;
+    written.push(b' ')?;
+    push_integer(written, integer)
 }
 
 // Splits a line into two indices and a number.
@@ -256,6 +294,7 @@ fn scaled_at(word: &[u8], scale: u32, number: usize) -> Result<i128, ScaleError>
     requires { IsTrue (is_number word.now) }
     ensures value { IfOk result (IsScaled scale word.now) }
     ensures fits { IfOk result (FitsSigned w128) }
+    ensures refused { IfErr result (IsValueFailure scale number word.now) }
 {
     match scaled(word, scale) {
         Ok(integer) => Ok(integer),
@@ -265,9 +304,14 @@ fn scaled_at(word: &[u8], scale: u32, number: usize) -> Result<i128, ScaleError>
 }
 
 // Appends the text of an integer.
-fn push_integer(written: &mut Vec<u8>, integer: i128) -> Result<(), AllocError>
-    ensures { OnOk result (written.new.items ≡ written.old.items ++ signed_decimal integer) }
+fn push_integer(written: &mut Vec<u8>, integer: i128) -> Result<(), ScaleError>
+    ensures appended { OnOk result
+        (written.new.items ≡ written.old.items ++ signed_decimal integer) }
+    ensures refused { IfErr result (λ e. e ≡ OutOfMemory) }
 {
     let mut digits = Buffer::new();
-    written.extend_from_slice(digits.format(integer).as_bytes())
+    match written.extend_from_slice(digits.format(integer).as_bytes()) {
+        Ok(()) => Ok(()),
+        Err(_) => Err(ScaleError::OutOfMemory),
+    }
 }

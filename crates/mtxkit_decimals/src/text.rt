@@ -1,12 +1,13 @@
 //! Texts of decimal numbers written again with integers.
 
-ghost use Rattle.std.specs.Prelude.{◌≡◌, ◌<◌, ◌≤◌, ◌-◌, IfOk, length, true};
-ghost use Rattle.sparse_parser.specs.InnerReading.{ends_line, written_of};
+ghost use Rattle.std.specs.Prelude.{◌≡◌, IfOk, IfErr, true, nat_eq, slice_index};
+ghost use Rattle.sparse_parser.specs.InnerReading.{ends_line};
+ghost use Rattle.mtxkit_decimals.specs.Failures.{IsScaleFailure};
 ghost use Rattle.mtxkit_decimals.specs.Rewritten.{IsScaledText};
-ghost use Rattle.mtxkit_decimals.specs.InnerRewriting.{IsTextWritten};
+ghost use Rattle.mtxkit_decimals.specs.InnerFailures.{IsEnded};
 
 use crate::error::ScaleError;
-use crate::stage::{Stage, push_line};
+use crate::stage::{Stage, push_bytes, push_line};
 use sparse_parser::lines::{split_line, text_from};
 use std::alloc::Global;
 
@@ -25,7 +26,8 @@ use std::alloc::Global;
 /// integer then, or not one of 128 bits; `Ended` if there is no size line; `OutOfMemory` only if an allocation fails.
 /// Entries are not counted, nor compared with the sizes: reading the result does that.
 pub fn scaled_text(alloc: Global, scale: u32, text: &[u8]) -> Result<Vec<u8>, ScaleError>
-    ensures { IfOk result (λ written. IsScaledText scale text.now written.items) }
+    ensures written { IfOk result (λ written. IsScaledText scale text.now written.items) }
+    ensures refused { IfErr result (IsScaleFailure scale text.now) }
 {
     let mut written = Vec::new(alloc);
     let mut stage = Stage::Head;
@@ -33,8 +35,14 @@ pub fn scaled_text(alloc: Global, scale: u32, text: &[u8]) -> Result<Vec<u8>, Sc
     let mut number = 1;
     while !rest.is_empty() {
         let (line, others) = split_line(rest);
-        stage = push_line(&mut written, scale, stage, number, line)?;
-        written.push(b'\n')?;
+        let next = match push_line(&mut written, scale, stage, number, line) {
+            Ok(next) => next,
+            Err(why) => return Err(why),
+        };
+        stage = match push_bytes(&mut written, next, b"\n") {
+            Ok(next) => next,
+            Err(why) => return Err(why),
+        };
         rest = after_end(others);
         number += 1;
     }
@@ -47,15 +55,28 @@ pub fn scaled_text(alloc: Global, scale: u32, text: &[u8]) -> Result<Vec<u8>, Sc
 // Returns the text after a line end.
 fn after_end(text: &[u8]) -> &[u8]
     requires { ends_line text.now ≡ true }
-    ensures same { written_of result.now ≡ written_of text.now }
-    ensures shorter { length result.now ≤ length text.now - 1 }
+    ensures { IsEnded text.now result.now }
 {
     if text.is_empty() {
         return text;
     }
     let rest = text_from(text, 1);
-    if text[0] == b'\r' && !rest.is_empty() && rest[0] == b'\n' {
-        return text_from(rest, 1);
+    if text[0] != b'\r' {
+        return rest;
     }
-    rest
+    if begins_with_lf(rest) {
+        text_from(rest, 1)
+    } else {
+        rest
+    }
+}
+
+// Whether a text begins with LF.
+fn begins_with_lf(text: &[u8]) -> bool
+    ensures { result ≡ nat_eq (slice_index text.now 0) 10 }
+{
+    match text {
+        [first, ..] => *first == b'\n',
+        [] => false,
+    }
 }

@@ -1,10 +1,12 @@
 use Rattle.std.proofs.Common.{◌≤◌, ◌+◌, length}
+use Rattle.mtxkit_decimals.specs.InnerFailures.{IsCounted}
 use Rattle.mtxkit_decimals.specs.InnerRewriting.{IsTextWritten}
 use Rattle.mtxkit_decimals.proofs.text.scaled_text.Given as goal
 
 abbrev pub invariant-loop-rest : goal.invariant-loop-rest
 invariant-loop-rest l = record {
   written : IsTextWritten l.scale l.text l.stage l.rest l.written.items;
+  counted : IsCounted l.text l.rest l.number;
   number : l.number + length l.rest ≤ length l.text + 1;
 }
 
