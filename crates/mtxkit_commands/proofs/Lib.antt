@@ -1,3 +1,4 @@
 mod Listed
 mod Remainders
 mod Solving
+mod Readings

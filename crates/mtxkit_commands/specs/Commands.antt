@@ -1,5 +1,5 @@
 -- What commands write.
-use Rattle.std.specs.Prelude.{◌≡◌, ◌⊎◌, ◌<◌, ℕ, List, Option, Bool, true, false}
+use Rattle.std.specs.Prelude.{◌≡◌, ◌⊎◌, ◌<◌, ℕ, List, ◌∷◌, Option, Ok, Bool, true, false}
 use Rattle.std.specs.declared.io.ErrorKind.{ErrorKind}
 use Rattle.std.specs.Io.KnownBytes.{Appends}
 use Rattle.mtxkit_texts.specs.Facts.{WritesFacts}
@@ -10,7 +10,7 @@ use Rattle.mtxkit_texts.specs.Rewritten.{WritesIntegers, WritesPattern}
 use Rattle.mtxkit_texts.specs.Shown.{ShowsBitmap, ShowsBlocks}
 use Rattle.mtxkit_texts.specs.declared.failure.Failure.{Failure}
 use Rattle.mtxkit_texts.specs.declared.failure.Failure.TheVariants.{Write}
-use Rattle.mtxkit_commands.specs.Inputs.{IsUnread}
+use Rattle.mtxkit_commands.specs.Inputs.{Reading, IsUnread}
 use Rattle.mtxkit_commands.specs.Systems.{WritesSolution, SaysProduct}
 use Rattle.mtxkit_commands.specs.Systems.{IsSolveFailure, IsCheckFailure}
 use Rattle.mtxkit_commands.specs.declared.commands.Command.{Command}
@@ -31,46 +31,104 @@ abbrev pub WritesValues : Values → List ℕ → List ℕ → Type 0
 WritesValues Integers text written = WritesIntegers text written
 WritesValues Pattern text written = WritesPattern text written
 
--- the answer of a command over some texts, one for each of its files
-abbrev pub IsAnswer : Command → List ℕ → Type 0
-IsAnswer (Info file) written = (text : List ℕ) × WritesFacts text written
-IsAnswer (Spy file size target) written = (text : List ℕ) × ShowsPicture target text size written
-IsAnswer (Field file values) written = (text : List ℕ) × WritesValues values text written
-IsAnswer (Symmetric file) written = (text : List ℕ) × Symmetrised (header_in text) text written
-IsAnswer (Solve modulus a b) written =
-    (first second : List ℕ) × WritesSolution modulus first second written
-IsAnswer (Check modulus a x b) written =
-    (first second third : List ℕ) × SaysProduct modulus first second third written
+-- the only file has this path and some text, of which this holds
+abbrev pub ReadsOne : List ℕ → (List ℕ → Type 0) → List Reading → List Reading → Type 0
+ReadsOne file Holds old new = (text : List ℕ) × (new ≡ (file, Ok text) ∷ old) × Holds text
+
+-- the same for two files, in this order
+abbrev pub ReadsTwo : List ℕ → List ℕ → (List ℕ → List ℕ → Type 0) → List Reading → List Reading
+    → Type 0
+ReadsTwo a b Holds old new = (first second : List ℕ)
+    × (new ≡ (b, Ok second) ∷ (a, Ok first) ∷ old) × Holds first second
+
+-- the same for three
+abbrev pub ReadsThree : List ℕ → List ℕ → List ℕ → (List ℕ → List ℕ → List ℕ → Type 0)
+    → List Reading → List Reading → Type 0
+ReadsThree a x b Holds old new = (first second third : List ℕ)
+    × (new ≡ (b, Ok third) ∷ (x, Ok second) ∷ (a, Ok first) ∷ old) × Holds first second third
+
+-- the text of X, of the texts of A and B
+abbrev pub IsSolveAnswer : Option ℕ → List ℕ → List ℕ → List Reading → List Reading → List ℕ
+    → Type 0
+IsSolveAnswer modulus a b old new written =
+    ReadsTwo a b (λ first second. WritesSolution modulus first second written) old new
+
+-- the line that A X = B, of the texts of A, X and B
+abbrev pub IsCheckAnswer : Option ℕ → List ℕ → List ℕ → List ℕ → List Reading → List Reading
+    → List ℕ → Type 0
+IsCheckAnswer modulus a x b old new written =
+    ReadsThree a x b (λ first second third. SaysProduct modulus first second third written) old new
+
+-- the answer of a command, which read its files in order and nothing else
+abbrev pub IsAnswer : Command → List Reading → List Reading → List ℕ → Type 0
+IsAnswer (Info file) old new written =
+    ReadsOne file.now (λ text. WritesFacts text written) old new
+IsAnswer (Spy file size target) old new written =
+    ReadsOne file.now (λ text. ShowsPicture target text size written) old new
+IsAnswer (Field file values) old new written =
+    ReadsOne file.now (λ text. WritesValues values text written) old new
+IsAnswer (Symmetric file) old new written =
+    ReadsOne file.now (λ text. Symmetrised (header_in text) text written) old new
+IsAnswer (Solve modulus a b) old new written = IsSolveAnswer modulus a.now b.now old new written
+IsAnswer (Check modulus a x b) old new written =
+    IsCheckAnswer modulus a.now x.now b.now old new written
 
 -- why a text's matrix is not written with these values
 abbrev pub IsFieldFailureOf : Values → List ℕ → Failure → Type 0
 IsFieldFailureOf Integers text failure = IsValuesFailure 1 text failure
 IsFieldFailureOf Pattern text failure = IsLoadFailure 1 text failure
 
--- why a command has no answer: one of its files, counted from 1, is not read, or one of their texts
--- is at fault
-abbrev pub IsFailure : Command → Failure → Type 0
-IsFailure (Info file) failure =
-    IsUnread 1 failure ⊎ ((text : List ℕ) × IsWholeFailure 1 text failure)
-IsFailure (Spy file size target) failure =
-    IsUnread 1 failure ⊎ ((text : List ℕ) × IsLoadFailure 1 text failure)
-IsFailure (Field file values) failure =
-    IsUnread 1 failure ⊎ ((text : List ℕ) × IsFieldFailureOf values text failure)
-IsFailure (Symmetric file) failure =
-    IsUnread 1 failure ⊎ ((text : List ℕ) × IsSymmetricFailure text failure)
-IsFailure (Solve modulus a b) failure = IsUnread 1 failure ⊎ (IsUnread 2 failure
-    ⊎ ((first second : List ℕ) × IsSolveFailure modulus first second failure))
-IsFailure (Check modulus a x b) failure =
-    IsUnread 1 failure ⊎ (IsUnread 2 failure ⊎ (IsUnread 3 failure
-    ⊎ ((first second third : List ℕ) × IsCheckFailure modulus first second third failure)))
+-- the only file cannot be read, or its text is at fault
+abbrev pub FailsOne : List ℕ → (List ℕ → Failure → Type 0) → List Reading → List Reading → Failure
+    → Type 0
+FailsOne file IsFault old new failure =
+    IsUnread 1 file old new failure ⊎ ReadsOne file (λ text. IsFault text failure) old new
+
+-- the second file cannot be read, and the first one was
+abbrev pub IsSecondUnread : List ℕ → List ℕ → List Reading → List Reading → Failure → Type 0
+IsSecondUnread a b old new failure =
+    (first : List ℕ) × IsUnread 2 b ((a, Ok first) ∷ old) new failure
+
+-- the third file cannot be read, and the first two were
+abbrev pub IsThirdUnread : List ℕ → List ℕ → List ℕ → List Reading → List Reading → Failure
+    → Type 0
+IsThirdUnread a x b old new failure = (first second : List ℕ)
+    × IsUnread 3 b ((x, Ok second) ∷ (a, Ok first) ∷ old) new failure
+
+-- one of the files of A and B cannot be read, or their texts are at fault
+abbrev pub IsUnsolved : Option ℕ → List ℕ → List ℕ → List Reading → List Reading → Failure → Type 0
+IsUnsolved modulus a b old new failure = IsUnread 1 a old new failure
+    ⊎ (IsSecondUnread a b old new failure
+    ⊎ ReadsTwo a b (λ first second. IsSolveFailure modulus first second failure) old new)
+
+-- one of the files of A, X and B cannot be read, or their texts are at fault
+abbrev pub IsUnchecked : Option ℕ → List ℕ → List ℕ → List ℕ → List Reading → List Reading → Failure
+    → Type 0
+IsUnchecked modulus a x b old new failure = IsUnread 1 a old new failure
+    ⊎ (IsSecondUnread a x old new failure ⊎ (IsThirdUnread a x b old new failure
+    ⊎ ReadsThree a x b (λ first second third. IsCheckFailure modulus first second third failure)
+    old new))
+
+-- why a command has no answer: one of its files, counted from 1, is not read, and those before it
+-- were; or the texts of its files are at fault
+abbrev pub IsFailure : Command → List Reading → List Reading → Failure → Type 0
+IsFailure (Info file) old new failure = FailsOne file.now (IsWholeFailure 1) old new failure
+IsFailure (Spy file size target) old new failure =
+    FailsOne file.now (IsLoadFailure 1) old new failure
+IsFailure (Field file values) old new failure =
+    FailsOne file.now (IsFieldFailureOf values) old new failure
+IsFailure (Symmetric file) old new failure = FailsOne file.now IsSymmetricFailure old new failure
+IsFailure (Solve modulus a b) old new failure = IsUnsolved modulus a.now b.now old new failure
+IsFailure (Check modulus a x b) old new failure =
+    IsUnchecked modulus a.now x.now b.now old new failure
 
 -- a write failed
 abbrev pub IsUnwritten : Failure → Type 0
 IsUnwritten failure = (kind : ErrorKind) × (failure ≡ Write kind)
 
 -- why a command fails: it has no answer, or the answer is not written
-abbrev pub CanFail : Command → Failure → Type 0
-CanFail command failure = IsFailure command failure ⊎ IsUnwritten failure
+abbrev pub CanFail : Command → List Reading → List Reading → Failure → Type 0
+CanFail command before after failure = IsFailure command before after failure ⊎ IsUnwritten failure
 
 -- the picture has at least one cell
 abbrev pub IsSized : Command → Type 0
@@ -89,10 +147,13 @@ is_saved (Spy file size target) = is_file target
 is_saved command = false
 
 -- nothing was appended where the answer went to a file, and otherwise the answer
-abbrev pub IsDelivered : Bool → Command → Option (List ℕ) → Option (List ℕ) → Type 0
-IsDelivered true command old new = new ≡ old
-IsDelivered false command old new =
-    (written : List ℕ) × IsAnswer command written × Appends old new written
+abbrev pub IsDelivered : Bool → Command → List Reading → List Reading → Option (List ℕ)
+    → Option (List ℕ) → Type 0
+IsDelivered true command before after old new = new ≡ old
+IsDelivered false command before after old new =
+    (written : List ℕ) × IsAnswer command before after written × Appends old new written
 
-abbrev pub IsAnswered : Command → Option (List ℕ) → Option (List ℕ) → Type 0
-IsAnswered command old new = IsDelivered (is_saved command) command old new
+abbrev pub IsAnswered : Command → List Reading → List Reading → Option (List ℕ) → Option (List ℕ)
+    → Type 0
+IsAnswered command before after old new =
+    IsDelivered (is_saved command) command before after old new

@@ -1,10 +1,16 @@
--- The errors of the files that a command reads.
-use Rattle.std.specs.Prelude.{◌≡◌, ℕ}
+-- The files that a command reads, and the failures of those that cannot be read.
+use Rattle.std.specs.Prelude.{◌≡◌, ℕ, List, ◌∷◌, Result, Ok, Err}
+use Rattle.std.specs.IoError.{error_kind}
+use Rattle.std.specs.declared.io.Error.{Error}
 use Rattle.std.specs.declared.io.ErrorKind.{ErrorKind}
 use Rattle.std.specs.declared.io.ErrorKind.TheVariants as io
 use Rattle.sparse_parser.specs.declared.error.MatrixMarketErrorKind.TheVariants.{IOError}
 use Rattle.mtxkit_texts.specs.declared.failure.Failure.{Failure}
 use Rattle.mtxkit_texts.specs.declared.failure.Failure.TheVariants.{Input, OutOfMemory, Usage}
+
+-- the path of a file, and its text, or the error of opening or reading it
+abbrev pub Reading : Type 0
+Reading = List ℕ × Result (List ℕ) Error
 
 -- the failure of the file with this number, which cannot be opened or read
 abbrev pub input_fault : ℕ → ErrorKind → Failure
@@ -16,6 +22,12 @@ abbrev pub argument_fault : ErrorKind → Failure
 argument_fault io.OutOfMemory = OutOfMemory
 argument_fault kind = Usage
 
--- an allocation failed, or the file with this number could not be opened or read
-abbrev pub IsUnread : ℕ → Failure → Type 0
-IsUnread number failure = (kind : ErrorKind) × (failure ≡ input_fault number kind)
+-- the next file that was read has this path and this text
+abbrev pub IsRead : List ℕ → List Reading → List Reading → List ℕ → Type 0
+IsRead path old new text = new ≡ (path, Ok text) ∷ old
+
+-- the next file that was read has this path, it could not be opened or read, and the failure names
+-- its number unless an allocation failed
+abbrev pub IsUnread : ℕ → List ℕ → List Reading → List Reading → Failure → Type 0
+IsUnread number path old new failure = (error : Error)
+    × (new ≡ (path, Err error) ∷ old) × (failure ≡ input_fault number (error_kind error))

@@ -10,6 +10,7 @@ ghost use Rattle.mtxkit_texts.specs.declared.failure.Failure.TheVariants.{OutOfM
 ghost use Rattle.mtxkit_commands.specs.Inputs.{argument_fault};
 
 use crate::cli::{finish, report, run};
+use crate::inputs::Inputs;
 use crate::words::parse;
 use mtxkit_texts::Failure;
 use sparse_io::{Out, Sink, write_all_to};
@@ -93,7 +94,7 @@ where
     ensures flushed { result ≡ 0 → IsTrue out.new.flushed }
 {
     let status = match parse(rt.alloc(), words) {
-        Ok(Some(command)) => run(rt, command, stdin, out, err),
+        Ok(Some(command)) => run(rt, command, &mut Inputs::new(rt, stdin), out, err),
         Ok(None) => report(rt.alloc(), Failure::Usage, err),
         Err(error) => explain(rt.alloc(), &error, out, err),
     };

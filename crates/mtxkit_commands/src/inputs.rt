@@ -1,53 +1,99 @@
 //! The texts that a command reads.
 
-ghost use Rattle.std.specs.Prelude.{◌≡◌, Ok, IfOk, IfErr, IsErrAnd};
+ghost use Rattle.std.specs.Prelude.{◌≡◌, [], ◌∷◌, List, Ok, Err, IfOk, IfErr, string_bytes};
 ghost use Rattle.std.specs.IoError.{error_kind};
-ghost use Rattle.mtxkit_commands.specs.Inputs.{input_fault, IsUnread};
+ghost use Rattle.mtxkit_commands.specs.Inputs.{input_fault, IsRead, IsUnread};
 
+use crate::record::Record;
 use mtxkit_texts::Failure;
 use sparse_parser::error::MatrixMarketErrorKind;
 use std::rt::Files;
 use std::{fs, io};
 
-/// Reads the file with this path, or standard input if the path is `-`. `number` is that of the file in the command,
-/// counted from 1.
+/// What reads texts. Contracts see which files were read, in which order, and what each gave.
+pub trait Texts {
+    ghost use Rattle.mtxkit_commands.specs.Inputs.{Reading};
+
+    // The files that were read so far, the last one first.
+    ghost readings: { Self → List Reading };
+
+    /// Reads the file with this path.
+    fn read(&mut self, path: &str) -> io::Result<String>
+        ensures text { IfOk result (λ text. readings self.new
+            ≡ (path.now, Ok (string_bytes text)) ∷ readings self.old) }
+        ensures failed { IfErr result (λ error. readings self.new
+            ≡ (path.now, Err error) ∷ readings self.old) };
+}
+
+/// Files, and standard input under the path `-`. The record of what was read has no bytes.
+#[derive(Drop)]
+pub struct Inputs<'a, R, I> {
+    rt: &'a R,
+    stdin: &'a mut I,
+    log: Record,
+}
+
+impl<'a, R, I> Inputs<'a, R, I> {
+    /// Returns the files of `rt`, none of which was read.
+    pub fn new(rt: &'a R, stdin: &'a mut I) -> Inputs<'a, R, I> {
+        Inputs {
+            rt,
+            stdin,
+            log: Record::new(),
+        }
+    }
+}
+
+impl<'a, R: Files + AllocGlobal, I: io::Read> Texts for Inputs<'a, R, I> {
+    ghost readings = { λ inputs. inputs.log.readings };
+
+    /// Returns `InvalidData` if the file is not UTF-8.
+    fn read(&mut self, path: &str) -> io::Result<String> {
+        let read = content_of(self.rt, self.stdin, path);
+        match &read {
+            Ok(text) => self.log = self.log.with_text(path.as_bytes(), text.as_bytes()),
+            Err(error) => self.log = self.log.with_error(path.as_bytes(), error),
+        }
+        read
+    }
+}
+
+// Returns the text of the file with this path, or of standard input. No contract says what a file holds.
+fn content_of<R, I>(rt: &R, stdin: &mut I, path: &str) -> io::Result<String>
+where
+    R: Files + AllocGlobal,
+    I: io::Read,
+{
+    if path == "-" {
+        io::read_to_string(rt.alloc(), stdin)
+    } else {
+        fs::read_to_string(rt, path)
+    }
+}
+
+/// Reads the file with this path. `number` is that of the file in the command, counted from 1.
 ///
 /// # Errors
 ///
 /// Returns `Input` with this number and the kind of the error if the file cannot be opened or read, or is not UTF-8.
 /// Otherwise fails only if an allocation fails.
-pub fn read_text<R, I>(rt: &R, stdin: &mut I, number: usize, path: &str) -> Result<String, Failure>
-where
-    R: Files + AllocGlobal,
-    I: io::Read,
-    ensures { IfErr result (IsUnread number) }
+pub fn read_text<T: Texts>(texts: &mut T, number: usize, path: &str) -> Result<String, Failure>
+    ensures read { IfOk result (λ text. IsRead path.now (T.readings texts.old)
+        (T.readings texts.new) (string_bytes text)) }
+    ensures unread { IfErr result
+        (IsUnread number path.now (T.readings texts.old) (T.readings texts.new)) }
 {
-    if path == "-" {
-        text_of(number, io::read_to_string(rt.alloc(), stdin))
-    } else {
-        text_of(number, fs::read_to_string(rt, path))
-    }
-}
-
-// The text of the file with this number, if the file was read.
-fn text_of(number: usize, read: io::Result<String>) -> Result<String, Failure>
-    ensures text { IfOk result (λ text. read ≡ Ok text) }
-    ensures unread { IfErr result (λ failure. IsErrAnd read
-        (λ e. failure ≡ input_fault number (error_kind e))) }
-    ensures fault { IfErr result (IsUnread number) }
-{
-    match read {
+    match texts.read(path) {
         Ok(text) => Ok(text),
-        Err(error) => Err(unreadable(number, error.kind())),
+        Err(error) => Err(unreadable(number, error)),
     }
 }
 
 // The failure of a file that cannot be opened or read.
-fn unreadable(number: usize, kind: io::ErrorKind) -> Failure
-    ensures fault { result ≡ input_fault number kind }
-    ensures unread { IsUnread number result }
+fn unreadable(number: usize, error: io::Error) -> Failure
+    ensures { result ≡ input_fault number (error_kind error) }
 {
-    match kind {
+    match error.kind() {
         io::ErrorKind::OutOfMemory => Failure::OutOfMemory,
         kind => Failure::Input(number, MatrixMarketErrorKind::IOError(kind)),
     }

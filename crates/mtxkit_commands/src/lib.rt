@@ -1,19 +1,23 @@
 //! The commands of the program `mtxkit`, from its arguments to its exit status.
 #![tactic(auto)]
 
+mod answers;
 mod arguments;
 mod cli;
 mod commands;
 mod inputs;
 mod lists;
+mod record;
 mod residues;
 mod systems;
 mod words;
 
+pub use answers::answer_of;
 pub use arguments::answer;
 pub use cli::{finish, report, run};
 pub use commands::{Command, Target, Values};
-pub use inputs::read_text;
+pub use inputs::{Inputs, Texts, read_text};
+pub use record::Record;
 pub use residues::Residues;
 pub use systems::{check_text, solve_text};
 pub use words::parse;

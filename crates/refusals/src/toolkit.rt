@@ -3,7 +3,7 @@
 ghost use Rattle.mtxkit_commands.specs.Commands.{IsSized};
 
 use crate::sink::Page;
-use mtxkit_commands::{Command, Target, Values, run as execute};
+use mtxkit_commands::{Command, Inputs, Target, Values, run as execute};
 use nalgebra_sparse::io::Out;
 use refused_calls::answer::of_bytes;
 use refused_calls::outcome::Outcome;
@@ -93,14 +93,15 @@ fn obey(rt: &HostRuntime, turn: &mut Turn, command: Command<'static>) -> Outcome
         }
     }
     let mut stdin: &[u8] = &[];
+    let mut inputs = Inputs::new(rt, &mut stdin);
     let mut whole = Out::new(Page::new());
     let mut errors = Out::new(Page::new());
-    if execute(rt, command, &mut stdin, &mut whole, &mut errors) != 0 {
+    if execute(rt, command, &mut inputs, &mut whole, &mut errors) != 0 {
         return Outcome::Unready;
     }
     let (mut out, mut err) = (Out::new(Page::new()), Out::new(Page::new()));
     turn.begin();
-    let status = execute(rt, command, &mut stdin, &mut out, &mut err);
+    let status = execute(rt, command, &mut inputs, &mut out, &mut err);
     answered(status, &out.into_inner(), &err.into_inner())
 }
 

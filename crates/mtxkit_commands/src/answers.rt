@@ -1,0 +1,121 @@
+//! The answers of commands over the texts of their files.
+
+ghost use Rattle.std.specs.Prelude.{◌<◌, ℕ, Option, IfOk, IfErr, string_bytes};
+ghost use Rattle.mtxkit_texts.specs.Loaded.{IsLoadFailure};
+ghost use Rattle.mtxkit_commands.specs.Commands.{IsAnswer, IsSized, ShowsPicture, WritesValues};
+ghost use Rattle.mtxkit_commands.specs.Commands.{IsFieldFailureOf, IsFailure, IsSolveAnswer};
+ghost use Rattle.mtxkit_commands.specs.Commands.{IsUnsolved, IsCheckAnswer, IsUnchecked};
+
+use crate::commands::{Command, Target, Values};
+use crate::inputs::{Texts, read_text};
+use crate::systems::{check_text, solve_text};
+use mtxkit_texts::{
+    Failure, info_text, integer_text, pattern_text, spy_bitmap, spy_blocks, symmetric_text,
+};
+use std::alloc::Global;
+
+/// Reads the files of a command in order, up to one that cannot be read, and returns the answer.
+///
+/// The size of a picture must not be 0.
+pub fn answer_of<T: Texts>(
+    alloc: Global,
+    command: Command<'_>,
+    texts: &mut T,
+) -> Result<String, Failure>
+    requires { IsSized command }
+    ensures answer { IfOk result (λ answer. IsAnswer command.entry (T.readings texts.old)
+        (T.readings texts.new) (string_bytes answer)) }
+    ensures failed { IfErr result
+        (IsFailure command.entry (T.readings texts.old) (T.readings texts.new)) }
+{
+    match command {
+        Command::Info { file } => {
+            let text = read_text(texts, 1, file)?;
+            info_text(alloc, text.as_str())
+        }
+        Command::Spy { file, size, target } => {
+            let text = read_text(texts, 1, file)?;
+            picture(alloc, size, target, text.as_str())
+        }
+        Command::Field { file, values } => {
+            let text = read_text(texts, 1, file)?;
+            rewritten(alloc, values, text.as_str())
+        }
+        Command::Symmetric { file } => {
+            let text = read_text(texts, 1, file)?;
+            symmetric_text(alloc, text.as_str())
+        }
+        Command::Solve { modulus, a, b } => solution_of(alloc, texts, modulus, a, b),
+        Command::Check { modulus, a, x, b } => check_of(alloc, texts, modulus, a, x, b),
+    }
+}
+
+// Reads the files of A and B, and returns the text of the matrix X for which A X = B.
+fn solution_of<T: Texts>(
+    alloc: Global,
+    texts: &mut T,
+    modulus: Option<u64>,
+    a: &str,
+    b: &str,
+) -> Result<String, Failure>
+    ensures answer { IfOk result (λ answer. IsSolveAnswer modulus a.now b.now
+        (T.readings texts.old) (T.readings texts.new) (string_bytes answer)) }
+    ensures failed { IfErr result
+        (IsUnsolved modulus a.now b.now (T.readings texts.old) (T.readings texts.new)) }
+{
+    let first = read_text(texts, 1, a)?;
+    let second = read_text(texts, 2, b)?;
+    solve_text(alloc, modulus, first.as_str(), second.as_str())
+}
+
+// Reads the files of A, X and B, and returns the line that says that A X = B.
+fn check_of<T: Texts>(
+    alloc: Global,
+    texts: &mut T,
+    modulus: Option<u64>,
+    a: &str,
+    x: &str,
+    b: &str,
+) -> Result<String, Failure>
+    ensures answer { IfOk result (λ answer. IsCheckAnswer modulus a.now x.now b.now
+        (T.readings texts.old) (T.readings texts.new) (string_bytes answer)) }
+    ensures failed { IfErr result
+        (IsUnchecked modulus a.now x.now b.now (T.readings texts.old) (T.readings texts.new)) }
+{
+    let first = read_text(texts, 1, a)?;
+    let second = read_text(texts, 2, x)?;
+    let third = read_text(texts, 3, b)?;
+    check_text(
+        alloc,
+        modulus,
+        first.as_str(),
+        second.as_str(),
+        third.as_str(),
+    )
+}
+
+// Returns the text of the picture of a text's pattern.
+fn picture(alloc: Global, size: usize, target: Target<'_>, text: &str) -> Result<String, Failure>
+    requires { 0 < size }
+    ensures shown { IfOk result
+        (λ shown. ShowsPicture target.entry text.now size (string_bytes shown)) }
+    ensures refused { IfErr result (IsLoadFailure 1 text.now) }
+{
+    match target {
+        Target::Bitmap => spy_bitmap(alloc, text, size),
+        Target::Blocks => spy_blocks(alloc, text, size),
+        Target::File(_) => spy_bitmap(alloc, text, size),
+    }
+}
+
+// Returns the text of a text's matrix with these values.
+fn rewritten(alloc: Global, values: Values, text: &str) -> Result<String, Failure>
+    ensures written { IfOk result
+        (λ written. WritesValues values text.now (string_bytes written)) }
+    ensures refused { IfErr result (IsFieldFailureOf values text.now) }
+{
+    match values {
+        Values::Integers => integer_text(alloc, text),
+        Values::Pattern => pattern_text(alloc, text),
+    }
+}
