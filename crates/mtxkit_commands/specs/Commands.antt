@@ -1,15 +1,17 @@
 -- What commands write.
-use Rattle.std.specs.Prelude.{◌≡◌, ◌⊎◌, ◌<◌, ℕ, List, ◌∷◌, Option, Ok, Bool, true, false}
+use Rattle.std.specs.Prelude.{◌≡◌, ◌⊎◌, ◌<◌, ℕ, List, ◌∷◌, Option, Ok}
+use Rattle.std.specs.Prelude.{Bool, true, false}
+use Rattle.std.specs.declared.io.Error.{Error}
 use Rattle.std.specs.declared.io.ErrorKind.{ErrorKind}
 use Rattle.std.specs.Io.KnownBytes.{Appends}
-use Rattle.mtxkit_texts.specs.Facts.{WritesFacts}
+use Rattle.mtxkit_texts.specs.Facts.{WritesInfo}
 use Rattle.mtxkit_texts.specs.Headers.{header_in}
 use Rattle.mtxkit_texts.specs.Loaded.{IsLoadFailure, IsValuesFailure, IsWholeFailure}
 use Rattle.mtxkit_texts.specs.Lower.{IsSymmetricFailure, Symmetrised}
 use Rattle.mtxkit_texts.specs.Rewritten.{WritesIntegers, WritesPattern}
 use Rattle.mtxkit_texts.specs.Shown.{ShowsBitmap, ShowsBlocks}
 use Rattle.mtxkit_texts.specs.declared.failure.Failure.{Failure}
-use Rattle.mtxkit_texts.specs.declared.failure.Failure.TheVariants.{Write}
+use Rattle.mtxkit_texts.specs.declared.failure.Failure.TheVariants.{Unsaved, Write}
 use Rattle.mtxkit_commands.specs.Inputs.{Reading, IsUnread}
 use Rattle.mtxkit_commands.specs.Systems.{WritesSolution, SaysProduct}
 use Rattle.mtxkit_commands.specs.Systems.{IsSolveFailure, IsCheckFailure}
@@ -62,7 +64,7 @@ IsCheckAnswer modulus a x b old new written =
 -- the answer of a command, which read its files in order and nothing else
 abbrev pub IsAnswer : Command → List Reading → List Reading → List ℕ → Type 0
 IsAnswer (Info file) old new written =
-    ReadsOne file.now (λ text. WritesFacts text written) old new
+    ReadsOne file.now (λ text. WritesInfo text written) old new
 IsAnswer (Spy file size target) old new written =
     ReadsOne file.now (λ text. ShowsPicture target text size written) old new
 IsAnswer (Field file values) old new written =
@@ -122,13 +124,18 @@ IsFailure (Solve modulus a b) old new failure = IsUnsolved modulus a.now b.now o
 IsFailure (Check modulus a x b) old new failure =
     IsUnchecked modulus a.now x.now b.now old new failure
 
--- a write failed
+-- a write to the output failed
 abbrev pub IsUnwritten : Failure → Type 0
 IsUnwritten failure = (kind : ErrorKind) × (failure ≡ Write kind)
 
+-- the file of the answer was not made or written
+abbrev pub IsUnsaved : Failure → Type 0
+IsUnsaved failure = (error : Error) × (failure ≡ Unsaved error)
+
 -- why a command fails: it has no answer, or the answer is not written
 abbrev pub CanFail : Command → List Reading → List Reading → Failure → Type 0
-CanFail command before after failure = IsFailure command before after failure ⊎ IsUnwritten failure
+CanFail command before after failure =
+    IsFailure command before after failure ⊎ (IsUnsaved failure ⊎ IsUnwritten failure)
 
 -- the picture has at least one cell
 abbrev pub IsSized : Command → Type 0

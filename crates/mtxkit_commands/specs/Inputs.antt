@@ -4,18 +4,21 @@ use Rattle.std.specs.IoError.{error_kind}
 use Rattle.std.specs.declared.io.Error.{Error}
 use Rattle.std.specs.declared.io.ErrorKind.{ErrorKind}
 use Rattle.std.specs.declared.io.ErrorKind.TheVariants as io
-use Rattle.sparse_parser.specs.declared.error.MatrixMarketErrorKind.TheVariants.{IOError}
 use Rattle.mtxkit_texts.specs.declared.failure.Failure.{Failure}
-use Rattle.mtxkit_texts.specs.declared.failure.Failure.TheVariants.{Input, OutOfMemory, Usage}
+use Rattle.mtxkit_texts.specs.declared.failure.Failure.TheVariants.{Unread, OutOfMemory, Usage}
 
 -- the path of a file, and its text, or the error of opening or reading it
 abbrev pub Reading : Type 0
 Reading = List ℕ × Result (List ℕ) Error
 
+-- the failure of the file with this number for an error of this kind
+abbrev pub unread_fault : ErrorKind → ℕ → Error → Failure
+unread_fault io.OutOfMemory number error = OutOfMemory
+unread_fault kind number error = Unread number error
+
 -- the failure of the file with this number, which cannot be opened or read
-abbrev pub input_fault : ℕ → ErrorKind → Failure
-input_fault number io.OutOfMemory = OutOfMemory
-input_fault number kind = Input number (IOError kind)
+abbrev pub input_fault : ℕ → Error → Failure
+input_fault number error = unread_fault (error_kind error) number error
 
 -- the failure of arguments that cannot be read
 abbrev pub argument_fault : ErrorKind → Failure
@@ -30,4 +33,4 @@ IsRead path old new text = new ≡ (path, Ok text) ∷ old
 -- its number unless an allocation failed
 abbrev pub IsUnread : ℕ → List ℕ → List Reading → List Reading → Failure → Type 0
 IsUnread number path old new failure = (error : Error)
-    × (new ≡ (path, Err error) ∷ old) × (failure ≡ input_fault number (error_kind error))
+    × (new ≡ (path, Err error) ∷ old) × (failure ≡ input_fault number error)

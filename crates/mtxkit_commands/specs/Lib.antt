@@ -3,3 +3,4 @@ pub mod Systems
 pub mod Commands
 pub mod Inputs
 pub mod SystemErrors
+pub mod Names

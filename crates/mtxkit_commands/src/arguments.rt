@@ -9,7 +9,8 @@ ghost use Rattle.mtxkit_texts.specs.Statuses.{status_of};
 ghost use Rattle.mtxkit_texts.specs.declared.failure.Failure.TheVariants.{OutOfMemory};
 ghost use Rattle.mtxkit_commands.specs.Inputs.{argument_fault};
 
-use crate::cli::{finish, report, run};
+use crate::cli::{finish, run};
+use crate::failure_lines::report;
 use crate::inputs::Inputs;
 use crate::words::parse;
 use mtxkit_texts::Failure;
@@ -73,7 +74,7 @@ where
 {
     match given_words(rt.alloc(), arguments) {
         Ok(words) => obey_words(rt, &words, stdin, out, err),
-        Err(failure) => report(rt.alloc(), failure, err),
+        Err(failure) => report(rt.alloc(), None, failure, err),
     }
 }
 
@@ -95,7 +96,7 @@ where
 {
     let status = match parse(rt.alloc(), words) {
         Ok(Some(command)) => run(rt, command, &mut Inputs::new(rt, stdin), out, err),
-        Ok(None) => report(rt.alloc(), Failure::Usage, err),
+        Ok(None) => report(rt.alloc(), None, Failure::Usage, err),
         Err(error) => explain(rt.alloc(), &error, out, err),
     };
     match status {
@@ -110,10 +111,10 @@ fn explain<W: Sink, E: Sink>(alloc: Global, error: &clap::Error, out: &mut W, er
     ensures memory { kind_of error.now ≡ words.OutOfMemory → result ≡ 1 }
 {
     let Ok(text) = format!(in alloc; "{error}") else {
-        return report(alloc, Failure::OutOfMemory, err);
+        return report(alloc, None, Failure::OutOfMemory, err);
     };
     if error.kind() == clap::error::ErrorKind::OutOfMemory {
-        return report(alloc, Failure::OutOfMemory, err);
+        return report(alloc, None, Failure::OutOfMemory, err);
     }
     if error.use_stderr() {
         // An error in writing the text is ignored.
@@ -122,7 +123,7 @@ fn explain<W: Sink, E: Sink>(alloc: Global, error: &clap::Error, out: &mut W, er
     }
     match write_all_to(out, text.as_bytes()) {
         Ok(()) => 0,
-        Err(kind) => report(alloc, Failure::Write(kind), err),
+        Err(kind) => report(alloc, None, Failure::Write(kind), err),
     }
 }
 

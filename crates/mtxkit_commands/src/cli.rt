@@ -3,19 +3,19 @@
 ghost use Rattle.std.specs.Prelude.{◌≡◌, ◌≢◌, ◌≤◌, OnOk, OnErr, IfErr, IsTrue};
 ghost use Rattle.std.specs.Io.KnownBytes.{Appends};
 ghost use Rattle.mtxkit_texts.specs.Statuses.{status_of};
-ghost use Rattle.mtxkit_commands.specs.Commands.{IsAnswered, IsSized, IsUnwritten, CanFail};
+ghost use Rattle.mtxkit_commands.specs.Commands.{IsAnswered, IsSized, IsUnsaved};
+ghost use Rattle.mtxkit_commands.specs.Commands.{IsUnwritten, CanFail};
 ghost use Rattle.mtxkit_texts.specs.declared.failure.Failure.{Failure};
 
 use crate::answers::answer_of;
 use crate::commands::Command;
+use crate::failure_lines::report;
 use crate::inputs::Texts;
 use mtxkit_texts::Failure;
 use sparse_io::{Out, Sink, write_all_to};
 use std::alloc::Global;
 use std::rt::Files;
 use std::{fs, io};
-
-const OUT_OF_MEMORY: &str = "mtxkit: out of memory\n";
 
 /// Runs a command and returns its exit status. The size of a picture must not be 0.
 ///
@@ -40,7 +40,7 @@ where
 {
     match execute(rt, command, texts, out) {
         Ok(()) => 0,
-        Err(failure) => report(rt.alloc(), failure, err),
+        Err(failure) => report(rt.alloc(), command.file_at_fault(failure), failure, err),
     }
 }
 
@@ -67,11 +67,11 @@ where
 
 // Creates or truncates the file, and writes the text to it.
 fn save<R: Files>(rt: &R, path: &str, text: &str) -> Result<(), Failure>
-    ensures { IfErr result IsUnwritten }
+    ensures { IfErr result IsUnsaved }
 {
     match fs::write(rt, path, text) {
         Ok(()) => Ok(()),
-        Err(error) => Err(Failure::Write(error.kind())),
+        Err(error) => Err(Failure::Unsaved(error)),
     }
 }
 
@@ -98,18 +98,6 @@ where
 {
     match out.flush() {
         Ok(()) => 0,
-        Err(kind) => report(alloc, Failure::Write(kind), err),
+        Err(kind) => report(alloc, None, Failure::Write(kind), err),
     }
-}
-
-/// Writes the line of a failure, and returns its status.
-pub fn report<E: Sink>(alloc: Global, failure: Failure, err: &mut E) -> u8
-    ensures { result ≡ status_of failure }
-{
-    // An error in writing the line is ignored.
-    let _ = match format!(in alloc; "mtxkit: {failure}\n") {
-        Ok(line) => write_all_to(err, line.as_bytes()),
-        Err(_) => write_all_to(err, OUT_OF_MEMORY.as_bytes()),
-    };
-    failure.status()
 }

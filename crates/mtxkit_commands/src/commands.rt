@@ -1,7 +1,12 @@
 //! The commands, as the words of a command line give them.
 
 ghost use Rattle.std.specs.Prelude.{◌≡◌, is_some};
+ghost use Rattle.std.specs.Option.{option_map};
 ghost use Rattle.mtxkit_commands.specs.Commands.{is_file, is_saved};
+ghost use Rattle.mtxkit_commands.specs.Names.{first_file, second_file, third_file, file_of};
+ghost use Rattle.mtxkit_commands.specs.Names.{target_file, saved_file, fault_file};
+
+use mtxkit_texts::Failure;
 
 /// A command. Its files are named by paths, and `-` is standard input.
 #[derive(Clone, Copy, Debug)]
@@ -57,7 +62,8 @@ pub enum Command<'a> {
 impl<'a> Command<'a> {
     // Returns the path of the file that the answer is written to, if the command names one.
     pub(crate) fn path(self) -> Option<&'a str>
-        ensures { is_some result ≡ is_saved self.entry }
+        ensures saved { is_some result ≡ is_saved self.entry }
+        ensures path { option_map (λ path. path.now) result ≡ saved_file self.entry }
     {
         match self {
             Command::Spy {
@@ -65,6 +71,63 @@ impl<'a> Command<'a> {
                 size: _,
                 target,
             } => target.path(),
+            _ => None,
+        }
+    }
+
+    /// Returns the path of the file with this number, counted from 1, if the command has one.
+    pub fn file(self, number: usize) -> Option<&'a str>
+        ensures { option_map (λ path. path.now) result ≡ file_of self.entry number }
+    {
+        match number {
+            1 => Some(self.first_file()),
+            2 => self.second_file(),
+            3 => self.third_file(),
+            _ => None,
+        }
+    }
+
+    fn first_file(self) -> &'a str
+        ensures { result.now ≡ first_file self.entry }
+    {
+        match self {
+            Command::Info { file }
+            | Command::Spy { file, .. }
+            | Command::Field { file, .. }
+            | Command::Symmetric { file } => file,
+            Command::Solve { a, .. } | Command::Check { a, .. } => a,
+        }
+    }
+
+    fn second_file(self) -> Option<&'a str>
+        ensures { option_map (λ path. path.now) result ≡ second_file self.entry }
+    {
+        match self {
+            Command::Solve { b, .. } => Some(b),
+            Command::Check { x, .. } => Some(x),
+            _ => None,
+        }
+    }
+
+    fn third_file(self) -> Option<&'a str>
+        ensures { option_map (λ path. path.now) result ≡ third_file self.entry }
+    {
+        match self {
+            Command::Check { b, .. } => Some(b),
+            _ => None,
+        }
+    }
+
+    /// Returns the path of the file that a failure of the command is about, if it is about one.
+    pub fn file_at_fault(self, failure: Failure) -> Option<&'a str>
+        ensures { option_map (λ path. path.now) result ≡ fault_file self.entry failure }
+    {
+        match failure {
+            Failure::Unread(number, _)
+            | Failure::Input(number, _, _)
+            | Failure::NotCarried(number)
+            | Failure::Wide(number) => self.file(number),
+            Failure::Unsaved(_) => self.path(),
             _ => None,
         }
     }
@@ -84,7 +147,8 @@ pub enum Target<'a> {
 impl<'a> Target<'a> {
     // Returns the path of the file, if the picture is written to one.
     fn path(self) -> Option<&'a str>
-        ensures { is_some result ≡ is_file self.entry }
+        ensures saved { is_some result ≡ is_file self.entry }
+        ensures path { option_map (λ path. path.now) result ≡ target_file self.entry }
     {
         match self {
             Target::Bitmap | Target::Blocks => None,

@@ -1,12 +1,10 @@
 //! The texts that a command reads.
 
-ghost use Rattle.std.specs.Prelude.{◌≡◌, [], ◌∷◌, List, Ok, Err, IfOk, IfErr, string_bytes};
-ghost use Rattle.std.specs.IoError.{error_kind};
+ghost use Rattle.std.specs.Prelude.{◌≡◌, ◌∷◌, List, Ok, Err, IfOk, IfErr, string_bytes};
 ghost use Rattle.mtxkit_commands.specs.Inputs.{input_fault, IsRead, IsUnread};
 
 use crate::record::Record;
 use mtxkit_texts::Failure;
-use sparse_parser::error::MatrixMarketErrorKind;
 use std::rt::Files;
 use std::{fs, io};
 
@@ -75,7 +73,7 @@ where
 ///
 /// # Errors
 ///
-/// Returns `Input` with this number and the kind of the error if the file cannot be opened or read, or is not UTF-8.
+/// Returns `Unread` with this number and the error if the file cannot be opened or read, or is not UTF-8.
 /// Otherwise fails only if an allocation fails.
 pub fn read_text<T: Texts>(texts: &mut T, number: usize, path: &str) -> Result<String, Failure>
     ensures read { IfOk result (λ text. IsRead path.now (T.readings texts.old)
@@ -91,10 +89,10 @@ pub fn read_text<T: Texts>(texts: &mut T, number: usize, path: &str) -> Result<S
 
 // The failure of a file that cannot be opened or read.
 fn unreadable(number: usize, error: io::Error) -> Failure
-    ensures { result ≡ input_fault number (error_kind error) }
+    ensures { result ≡ input_fault number error }
 {
     match error.kind() {
         io::ErrorKind::OutOfMemory => Failure::OutOfMemory,
-        kind => Failure::Input(number, MatrixMarketErrorKind::IOError(kind)),
+        _ => Failure::Unread(number, error),
     }
 }

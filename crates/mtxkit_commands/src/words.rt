@@ -7,6 +7,9 @@ use crate::commands::{Command, Target, Values};
 use clap::{Arg, ArgAction, ArgMatches, Error, value_parser};
 use std::alloc::{AllocError, Global};
 
+// The text of the file VERSION, as .ci/check_copies tests.
+const VERSION: &str = "0.1.0";
+
 // The moduli that a system is solved for.
 const MODULI: [&str; 11] = [
     "2",
@@ -135,6 +138,7 @@ fn check_of<'a>(words: &ArgMatches<'a>) -> Option<Command<'a>>
 fn command_line<'a>(alloc: Global) -> Result<clap::Command<'a>, AllocError> {
     clap::Command::new(alloc, "mtxkit")
         .about("Describes, shows and rewrites Matrix Market files, and solves symmetric systems")
+        .version(VERSION)
         .subcommand_required(true)
         .arg_required_else_help(true)
         .disable_help_subcommand(true)

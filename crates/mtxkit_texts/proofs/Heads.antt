@@ -2,7 +2,9 @@
 use Rattle.std.proofs.Common.{◌≡◌, ℕ, List, ◌++◌, codes, refl}
 use Rattle.sparse_base.specs.Coo.{Coo}
 use Rattle.sparse_io.specs.Written.{heading, written_text, text_of}
+use Rattle.sparse_pattern.specs.Raw.{Raw}
 use Rattle.mtxkit_texts.specs.Lower.{head}
+use Rattle.mtxkit_texts.specs.PatternTexts.{pattern_text}
 
 -- the text begins with the header line of a name
 abbrev pub Begins : List ℕ → List ℕ → Type 0
@@ -13,6 +15,6 @@ module _ {V : Type 0} (text : V → List ℕ) (m : Coo V) where
   unfolding heading written_text
   begins-integer = (_, refl)
 
-  pub begins-pattern : Begins (codes "pattern") (text_of (codes "pattern") text m)
-  unfolding heading written_text
-  begins-pattern = (_, refl)
+pub begins-pattern : (d : Raw) → Begins (codes "pattern") (pattern_text d)
+unfolding heading
+begins-pattern d = (_, refl)

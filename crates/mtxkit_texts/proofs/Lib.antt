@@ -5,3 +5,5 @@ mod ListedPlaces
 pub mod Revalued
 mod SumRoom
 mod WideLists
+mod PlaceLines
+mod ShapeParts

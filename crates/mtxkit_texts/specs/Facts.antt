@@ -1,5 +1,5 @@
 -- Facts about the matrix of a text.
-use Rattle.std.specs.Prelude.{◌≡◌, ◌↔◌, ℕ, pos, List, ◌++◌, IsTrue, count_by, length}
+use Rattle.std.specs.Prelude.{◌≡◌, ◌⊎◌, ◌↔◌, ℕ, pos, List, ◌++◌, IsTrue, count_by, length}
 use Rattle.std.specs.Ordering.{int_eq}
 use Rattle.sparse_algebra.specs.WrappingValues.{w128_number}
 use Rattle.sparse_algebra.specs.declared.scalar.wide.W128.{W128}
@@ -13,6 +13,7 @@ use Rattle.mtxkit_texts.specs.FactLines.{header_lines, size_lines, count_lines, 
 use Rattle.mtxkit_texts.specs.FactLines.{histogram_lines}
 use Rattle.mtxkit_texts.specs.Headers.{header_in}
 use Rattle.mtxkit_texts.specs.Loaded.{MeansWhole, ring128, value128}
+use Rattle.mtxkit_texts.specs.Shapes.{WritesShape}
 
 -- the facts are those of the matrix
 pub record AreFactsOf (m : Compressed W128) (s : Info) : Type 0 where
@@ -37,3 +38,7 @@ pub record WritesFacts (text written : List ℕ) : Type 0 where
       ++ (size_lines matrix.pattern.major_dim matrix.pattern.minor_dim entries
       ++ (count_lines facts ++ (symmetry_lines facts
       ++ histogram_lines facts.rows.width facts.rows.counts.items matrix.pattern.major_dim)))
+
+-- those lines, or the lines of a shape where the values are not carried
+abbrev pub WritesInfo : List ℕ → List ℕ → Type 0
+WritesInfo text written = WritesFacts text written ⊎ WritesShape text written

@@ -9,3 +9,6 @@ pub mod Places
 pub mod Rewritten
 pub mod Shown
 pub mod Statuses
+pub mod PatternTexts
+pub mod Shapes
+pub mod InnerShapes

@@ -18,7 +18,7 @@ use Rattle.sparse_parser.specs.Meaning.{Means}
 use Rattle.sparse_parser.specs.Scalars.{Scalar}
 use Rattle.sparse_parser.specs.declared.error.MatrixMarketErrorKind.{MatrixMarketErrorKind}
 use Rattle.sparse_market_scalar.specs.ScalarTypes.{pattern_scalar, signed_scalar}
-use Rattle.mtxkit_texts.specs.Faults.{text_fault}
+use Rattle.mtxkit_texts.specs.Faults.{IsTextFault}
 use Rattle.mtxkit_texts.specs.Headers.{header_in, is_pattern}
 use Rattle.mtxkit_texts.specs.Places.{HasPlacesOf}
 use Rattle.mtxkit_texts.specs.declared.failure.Failure.{Failure}
@@ -130,7 +130,7 @@ scalar_read false = signed_scalar w128
 pub record IsRefused (S : Scalar) (number : ℕ) (text : List ℕ) (failure : Failure) : Type 0 where
   pub fault : MatrixMarketErrorKind
   pub means : Means S text (Err fault)
-  pub is : failure ≡ text_fault number (header_in text) fault
+  pub is : IsTextFault number (header_in text) fault failure
 
 -- the same, read as the field that its header names
 abbrev pub IsMisread : ℕ → List ℕ → Failure → Type 0

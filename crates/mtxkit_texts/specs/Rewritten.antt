@@ -7,9 +7,9 @@ use Rattle.sparse_algebra.specs.declared.scalar.wrapping.W64.{W64}
 use Rattle.sparse_base.specs.Coo.{Coo, coo_of}
 use Rattle.sparse_cs.specs.Compressed.{Compressed, lane_triplets}
 use Rattle.sparse_io.specs.Written.{text_of}
-use Rattle.sparse_market_scalar.specs.ScalarTypes.{pattern_scalar}
 use Rattle.sparse_pattern.specs.Raw.{Raw}
 use Rattle.mtxkit_texts.specs.Loaded.{MeansMatrix, MeansValues}
+use Rattle.mtxkit_texts.specs.PatternTexts.{pattern_text}
 
 -- the triplets of a matrix by rows, row by row
 abbrev pub listed : {T : Type 0} → Compressed T → Coo T
@@ -20,10 +20,9 @@ abbrev pub IsIntegerText : Compressed W64 → List ℕ → Type 0
 IsIntegerText m written =
     written ≡ text_of (codes "integer") (λ v. signed_decimal (w64_number v)) (listed m)
 
--- the text of a matrix without values at the places of a pattern
+-- the text of a pattern
 abbrev pub IsPatternText : Raw → List ℕ → Type 0
-IsPatternText pattern written = (places : Compressed (Unit {0})) × (places.pattern ≡ pattern)
-    × (written ≡ text_of (codes "pattern") pattern_scalar.text (listed places))
+IsPatternText pattern written = written ≡ pattern_text pattern
 
 -- the matrix that the text means, written with its values
 abbrev pub WritesIntegers : List ℕ → List ℕ → Type 0

@@ -1,17 +1,20 @@
 //! The lines of `mtxkit info`.
 
-ghost use Rattle.std.specs.Prelude.{◌≡◌, ◌++◌, ◌*◌, ◌≤◌, ◌<◌, ◌^◌, IfOk, IfErr, OnOk};
+ghost use Rattle.std.specs.Prelude.{◌≡◌, ◌⊎◌, ◌++◌, ◌*◌, ◌≤◌, ◌<◌, ◌^◌, IfOk, IfErr, OnOk};
 ghost use Rattle.std.specs.Prelude.{codes, string_bytes, replicate};
 ghost use Rattle.std.specs.Fmt.{decimal};
 ghost use Rattle.mtxkit_texts.specs.FactLines.{line, count_line, answer, format_name, field_name};
 ghost use Rattle.mtxkit_texts.specs.FactLines.{symmetry_name, header_lines, size_lines};
 ghost use Rattle.mtxkit_texts.specs.FactLines.{count_lines, symmetry_lines, histogram_lines};
 ghost use Rattle.mtxkit_texts.specs.FactLines.{bar, bar_line, bar_lines, bar_title};
-ghost use Rattle.mtxkit_texts.specs.Facts.{AreFactsOf, WritesFacts};
-ghost use Rattle.mtxkit_texts.specs.Loaded.{IsWholeFailure};
+ghost use Rattle.mtxkit_texts.specs.Facts.{AreFactsOf, WritesFacts, WritesInfo};
+ghost use Rattle.mtxkit_texts.specs.Loaded.{IsWholeFailure, MeansWhole};
+ghost use Rattle.mtxkit_texts.specs.Shapes.{WritesShape, shape_lines};
+ghost use Rattle.mtxkit_texts.specs.declared.failure.Failure.TheVariants.{OutOfMemory};
 
 use crate::failure::Failure;
-use crate::loaded::{Loaded, header_of};
+use crate::loaded::{Loaded, header_of, is_carried_field};
+use crate::shapes::{Shape, shape_of};
 use crate::whole::load_whole;
 use mtxkit_matrices::{Info, info_of};
 use mtxkit_patterns::Histogram;
@@ -23,18 +26,56 @@ use std::alloc::{AllocError, Global};
 // The length of the bar of all rows.
 const BAR: u128 = 40;
 
-/// Returns the lines that `mtxkit info` writes of a text: what its header says, and the facts about its matrix.
+/// Returns the lines that `mtxkit info` writes of a text: what its header says, and the facts about its matrix. Of a text
+/// with real or complex values they are what the header says, the shape, and the number of entries in the file.
 ///
-/// Fails as [`load_whole`](crate::load_whole) does, or if an allocation fails.
+/// Fails as [`load_whole`](crate::load_whole) does, but with real or complex values only if an allocation fails or the
+/// text means an error.
 pub fn info_text(alloc: Global, text: &str) -> Result<String, Failure>
-    ensures written { IfOk result (λ written. WritesFacts text.now (string_bytes written)) }
+    ensures written { IfOk result (λ written. WritesInfo text.now (string_bytes written)) }
     ensures refused { IfErr result (IsWholeFailure 1 text.now) }
 {
-    let loaded = load_whole(alloc, 1, text)?;
+    match load_whole(alloc, 1, text) {
+        Ok(loaded) => Ok(facts_text(alloc, text, &loaded)?),
+        Err(failure) => shape_text(alloc, text, failure),
+    }
+}
+
+// Returns the lines of the shape of a text whose values are not carried, for which it failed so.
+fn shape_text(alloc: Global, text: &str, failure: Failure) -> Result<String, Failure>
+    ensures written { IfOk result (λ written. WritesShape text.now (string_bytes written)) }
+    ensures refused { IfErr result (λ e. (e ≡ OutOfMemory) ⊎ (e ≡ failure)) }
+{
+    let Failure::NotCarried(_) = failure else {
+        return Err(failure);
+    };
+    match shape_of(text) {
+        Some(shape) if !is_carried_field(shape.header.field) => Ok(lines_of(alloc, shape)?),
+        _ => Err(failure),
+    }
+}
+
+// Returns the lines of a shape.
+fn lines_of(alloc: Global, shape: Shape) -> Result<String, AllocError>
+    ensures { IfOk result (λ lines. string_bytes lines ≡ shape_lines shape) }
+{
+    let mut lines = String::new(alloc);
+    push_header(&mut lines, Some(shape.header))?;
+    push_count(alloc, &mut lines, "rows", shape.rows)?;
+    push_count(alloc, &mut lines, "columns", shape.cols)?;
+    push_count(alloc, &mut lines, "entries in the file", shape.entries)?;
+    Ok(lines)
+}
+
+// Returns the lines of the facts about the matrix that was read from a text.
+fn facts_text(alloc: Global, text: &str, loaded: &Loaded) -> Result<String, AllocError>
+    requires { MeansWhole text.now loaded.now.entries loaded.now.matrix }
+    ensures { IfOk result (λ written. WritesFacts text.now (string_bytes written)) }
+{
     let facts = facts_of(alloc, &loaded.matrix)?;
     let mut lines = String::new(alloc);
     push_header(&mut lines, header_of(text))?;
-    push_sizes(alloc, &mut lines, &loaded)?;
+    push_sizes(alloc, &mut lines, loaded)?;
     push_facts(alloc, &mut lines, &facts, loaded.matrix.nrows())?;
     Ok(lines)
 }

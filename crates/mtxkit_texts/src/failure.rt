@@ -3,22 +3,26 @@
 ghost use Rattle.std.specs.Prelude.{◌≡◌};
 ghost use Rattle.mtxkit_texts.specs.Statuses.{status_of};
 
+use crate::spots::Spot;
 use sparse_parser::error::MatrixMarketErrorKind;
 use std::alloc::{AllocError, AllocFailed};
 use std::io;
 use thiserror::Error;
 
-/// Why a command fails.
+/// Why a command fails. Its text does not name the file, whose number some failures have.
 #[derive(Clone, Copy, Debug, Error)]
 pub enum Failure {
-    /// The text with this number, counted from 1, has an error, or its file cannot be read.
-    #[error("input {}: {}", .0, .1.name())]
-    Input(usize, MatrixMarketErrorKind),
+    /// The file with this number, counted from 1, cannot be opened or read, or is no text.
+    #[error("{1}")]
+    Unread(usize, io::Error),
+    /// The text with this number means this error, and this is its first line that is at fault.
+    #[error("{}", .2.fault)]
+    Input(usize, MatrixMarketErrorKind, Spot),
     /// The values of the text with this number are real or complex.
-    #[error("input {0}: real and complex values are not carried, nor is their pattern")]
+    #[error("real and complex values are not carried, nor is their pattern")]
     NotCarried(usize),
     /// An integer of the text with this number, or the sum of those of one place, does not fit in 64 bits.
-    #[error("input {0}: a value or a sum of repeated entries does not fit in 64 bits")]
+    #[error("a value or a sum of repeated entries does not fit in 64 bits")]
     Wide(usize),
     /// The matrix is not symmetric.
     #[error("not symmetric")]
@@ -38,8 +42,11 @@ pub enum Failure {
     /// The words of the command line are no command.
     #[error("no command; see mtxkit --help")]
     Usage,
-    /// A write failed.
-    #[error("write failed")]
+    /// The file of the answer cannot be made or written.
+    #[error("{0}")]
+    Unsaved(io::Error),
+    /// A write to the output failed.
+    #[error("write failed: {0}")]
     Write(io::ErrorKind),
     /// An allocation failed.
     #[error("out of memory")]

@@ -1,18 +1,17 @@
 //! Texts written again with another field.
 
 ghost use Rattle.std.specs.Prelude.{IfErr, IfOk, string_bytes};
-ghost use Rattle.mtxkit_texts.specs.Rewritten.{IsIntegerText, IsPatternText, WritesIntegers};
+ghost use Rattle.mtxkit_texts.specs.Rewritten.{IsIntegerText, WritesIntegers};
 ghost use Rattle.mtxkit_texts.specs.Rewritten.{WritesPattern};
 ghost use Rattle.mtxkit_texts.specs.Loaded.{IsLoadFailure, IsValuesFailure};
 
 use crate::failure::Failure;
 use crate::loaded::load;
-use crate::places::matrix_of;
+use crate::pattern_texts::write_pattern;
 use crate::values::load_values;
 use sparse_algebra::scalar::W64;
 use sparse_forms::csr::CsrMatrix;
 use sparse_io::save_to_matrix_market_str;
-use sparse_pattern::pattern::SparsityPattern;
 use std::alloc::{AllocError, Global};
 
 /// Returns the text of the pattern of a text's matrix, row by row. A place whose value is zero is kept.
@@ -35,14 +34,6 @@ pub fn integer_text(alloc: Global, text: &str) -> Result<String, Failure>
 {
     let matrix = load_values(alloc, 1, text)?;
     Ok(write_integers(alloc, &matrix)?)
-}
-
-/// Returns the text of a pattern, row by row.
-pub fn write_pattern(alloc: Global, pattern: &SparsityPattern) -> Result<String, AllocError>
-    ensures { IfOk result (λ written. IsPatternText pattern.now (string_bytes written)) }
-{
-    let places = matrix_of(alloc, pattern)?;
-    save_to_matrix_market_str(alloc, &places)
 }
 
 /// Returns the text of a matrix with its values, row by row.

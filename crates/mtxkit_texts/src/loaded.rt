@@ -5,7 +5,7 @@ ghost use Rattle.sparse_cs.specs.Compressed.{IsSound};
 ghost use Rattle.sparse_market_scalar.specs.ScalarTypes.{pattern_scalar, signed_scalar};
 ghost use Rattle.sparse_parser.specs.Meaning.{Means};
 ghost use Rattle.std.specs.Int.{w128};
-ghost use Rattle.mtxkit_texts.specs.Faults.{text_fault};
+ghost use Rattle.mtxkit_texts.specs.Faults.{IsTextFault};
 ghost use Rattle.mtxkit_texts.specs.Headers.{header_in, is_carried, is_carried_field};
 ghost use Rattle.mtxkit_texts.specs.Headers.{is_pattern, is_pattern_field};
 ghost use Rattle.mtxkit_texts.specs.Loaded.{MeansMatrix, MeansOnes, MeansSums, MeansIntegers};
@@ -14,6 +14,7 @@ ghost use Rattle.mtxkit_texts.specs.declared.failure.Failure.TheVariants.{OutOfM
 
 use crate::failure::Failure;
 use crate::places::ones_of;
+use crate::spots::spot_of;
 use crate::sums::wide_sums;
 use sparse_algebra::scalar::W128;
 use sparse_base::coo::CooMatrix;
@@ -118,7 +119,7 @@ pub(crate) fn read_places(
 {
     match load_coo_from_matrix_market_str::<()>(alloc, text) {
         Ok(places) => Ok(places),
-        Err(error) => Err(unread(number, error.kind(), text)),
+        Err(error) => Err(unread(number, error.kind(), text, false)),
     }
 }
 
@@ -135,18 +136,18 @@ pub fn read_integers(alloc: Global, number: usize, text: &str) -> Result<CooMatr
 {
     match load_coo_from_matrix_market_str::<i128>(alloc, text) {
         Ok(integers) => Ok(integers),
-        Err(error) => Err(unread(number, error.kind(), text)),
+        Err(error) => Err(unread(number, error.kind(), text, true)),
     }
 }
 
-// Returns the failure of a text whose matrix cannot be read.
-fn unread(number: usize, kind: MatrixMarketErrorKind, text: &str) -> Failure
-    ensures { result ≡ text_fault number (header_in text.now) kind }
+// Returns the failure of a text whose matrix cannot be read as integers or as the field of its header.
+fn unread(number: usize, kind: MatrixMarketErrorKind, text: &str, as_integers: bool) -> Failure
+    ensures { IsTextFault number (header_in text.now) kind result }
 {
     match kind {
         MatrixMarketErrorKind::OutOfMemory => Failure::OutOfMemory,
         MatrixMarketErrorKind::TypeMismatch if !is_carried(text) => Failure::NotCarried(number),
-        kind => Failure::Input(number, kind),
+        kind => Failure::Input(number, kind, spot_of(text, as_integers)),
     }
 }
 
@@ -161,7 +162,7 @@ fn is_carried(text: &str) -> bool
 }
 
 // Whether the values of a field are integers or patterns.
-fn is_carried_field(field: Field) -> bool
+pub(crate) fn is_carried_field(field: Field) -> bool
     ensures { result ≡ is_carried_field field }
 {
     match field {

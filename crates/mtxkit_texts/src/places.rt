@@ -1,4 +1,4 @@
-//! Matrices of places: lists of places as matrices of ones, and patterns as matrices without values.
+//! Lists of places as matrices of ones.
 
 ghost use Rattle.std.specs.Prelude.{◌≡◌, ℕ, ◌↔◌, All, IfOk, IsTrue, length, replicate};
 ghost use Rattle.std.specs.List.{list_any};
@@ -28,16 +28,6 @@ pub fn ones_of<T: Ring>(alloc: Global, places: &CooMatrix<()>) -> Result<CsrMatr
     let pattern = summed.pattern().clone(alloc)?;
     let matrix = filled(alloc, pattern, T::one())?;
     Ok(matrix)
-}
-
-/// Returns the matrix of a pattern, without values.
-///
-/// Fails only if an allocation fails.
-pub fn matrix_of(alloc: Global, pattern: &SparsityPattern) -> Result<CsrMatrix<()>, AllocError>
-    ensures pattern { IfOk result (λ m. m.pattern ≡ pattern.now) }
-    ensures sound { IfOk result IsSound }
-{
-    filled(alloc, pattern.clone(alloc)?, ())
 }
 
 // The matrix with this value at each place of a pattern.

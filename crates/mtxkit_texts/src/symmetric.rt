@@ -11,8 +11,9 @@ ghost use Rattle.mtxkit_texts.specs.Lower.{IsSymmetricFailure, IsFieldFailure};
 ghost use Rattle.mtxkit_texts.specs.declared.failure.Failure.TheVariants.{NotSymmetric};
 
 use crate::failure::Failure;
-use crate::field::{integer_text, pattern_text, write_integers, write_pattern};
+use crate::field::{integer_text, pattern_text, write_integers};
 use crate::loaded::{header_of, load};
+use crate::pattern_texts::write_pattern;
 use crate::values::load_values;
 use mtxkit_matrices::lower_of;
 use sparse_algebra::scalar::W64;

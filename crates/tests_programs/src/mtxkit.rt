@@ -3,12 +3,14 @@
 mod cases;
 mod failures;
 mod info_cases;
+mod line_cases;
 mod refusals;
 mod system_cases;
 
 use crate::files::{HEADER, matrices, matrix, remove_all};
 use crate::mtxkit::cases::{CASES, Case, OBLONG, Oblong};
 use crate::mtxkit::info_cases::INFO_CASES;
+use crate::mtxkit::line_cases::{LINE_CASES, LineCase};
 use crate::mtxkit::refusals::{REFUSALS, Refusal};
 use crate::mtxkit::system_cases::{CHECK_CASES, SOLVE_CASES, SystemCase};
 use mtxkit_commands::answer;
@@ -213,6 +215,21 @@ fn each_refusal_has_its_line(rt: HostRuntime) -> Result<(), Fail> {
     Ok(())
 }
 
+// Whether `info` says this of a text on standard input.
+fn is_located(rt: &HostRuntime, &(text, wanted): &LineCase) -> Result<bool, AllocError> {
+    let line = format!(in rt.alloc(); "mtxkit: -:{wanted}\n")?;
+    let answer = answered(rt, &["info", "-"], &[], text.as_bytes())?;
+    Ok(has_failed(answer, line.as_str()))
+}
+
+#[test]
+fn errors_name_the_first_line_at_fault(rt: HostRuntime) -> Result<(), Fail> {
+    for case in LINE_CASES {
+        assert!(rt; is_located(&rt, case)?, "{}", case.0);
+    }
+    Ok(())
+}
+
 // The status and the line of an error where the arguments cannot be read.
 const UNREAD: [(ErrorKind, u8, &str); 2] = [
     (
@@ -255,9 +272,10 @@ fn helps(rt: &HostRuntime, words: &[&str], text: &str) -> Result<bool, AllocErro
 }
 
 #[test]
-fn help_names_commands_and_moduli(rt: HostRuntime) -> Result<(), Fail> {
+fn help_names_commands_moduli_and_the_version(rt: HostRuntime) -> Result<(), Fail> {
     assert!(rt; helps(&rt, &["--help"], "\n  spy        Writes a picture")?);
     assert!(rt; helps(&rt, &["solve", "--help"], "998244353, 1000000007,")?);
+    assert!(rt; helps(&rt, &["--version"], "mtxkit 0.1.0\n")?);
     Ok(())
 }
 

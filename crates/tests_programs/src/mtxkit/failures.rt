@@ -1,22 +1,29 @@
 //! The texts of failures.
 
-use mtxkit_texts::Failure;
+use mtxkit_texts::{Failure, LineFault, Spot};
 use sparse_parser::error::MatrixMarketErrorKind;
 use std::alloc::Global;
 use std::io;
 
 const TEXTS: &[(Failure, &str)] = &[
     (
-        Failure::Input(2, MatrixMarketErrorKind::ZeroError),
-        "input 2: ZeroError",
+        Failure::Input(
+            2,
+            MatrixMarketErrorKind::EntryMismatch,
+            Spot {
+                line: 3,
+                fault: LineFault::Count(4, 5),
+            },
+        ),
+        "4 entries expected, 5 found",
     ),
     (
         Failure::NotCarried(1),
-        "input 1: real and complex values are not carried, nor is their pattern",
+        "real and complex values are not carried, nor is their pattern",
     ),
     (
         Failure::Wide(3),
-        "input 3: a value or a sum of repeated entries does not fit in 64 bits",
+        "a value or a sum of repeated entries does not fit in 64 bits",
     ),
     (Failure::NotSymmetric, "not symmetric"),
     (Failure::Shapes, "shapes do not fit"),
@@ -24,7 +31,10 @@ const TEXTS: &[(Failure, &str)] = &[
     (Failure::NotSolution, "A X is not B"),
     (Failure::Modulus, "no such modulus; see mtxkit solve --help"),
     (Failure::Usage, "no command; see mtxkit --help"),
-    (Failure::Write(io::ErrorKind::Other), "write failed"),
+    (
+        Failure::Write(io::ErrorKind::Other),
+        "write failed: other error",
+    ),
     (Failure::OutOfMemory, "out of memory"),
 ];
 

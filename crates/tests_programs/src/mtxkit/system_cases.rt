@@ -77,7 +77,7 @@ pub const SOLVE_CASES: &[SystemCase] = &[
     (
         &["solve"],
         &[A, "2 1 1\n0 1 5\n"],
-        Err("mtxkit: input 2: ZeroError\n"),
+        Err("mtxkit: 1.mtx:3: row index 0; indices count from 1\n"),
     ),
 ];
 
@@ -106,11 +106,15 @@ pub const CHECK_CASES: &[SystemCase] = &[
     (
         &["check"],
         &[A, "2 1 x\n", "2 1 0\n"],
-        Err("mtxkit: input 2: ParsingError\n"),
+        Err(
+            "mtxkit: 1.mtx:2: no size line; expected rows, columns and, in the format coordinate, entries\n",
+        ),
     ),
     (
         &["check"],
         &[A, "2 1 0\n", "2 1 x\n"],
-        Err("mtxkit: input 3: ParsingError\n"),
+        Err(
+            "mtxkit: 2.mtx:2: no size line; expected rows, columns and, in the format coordinate, entries\n",
+        ),
     ),
 ];

@@ -1,16 +1,16 @@
 use Rattle.std.proofs.Common.{◌≡◌, List, [], ◌++◌, ℕ, string_bytes, append_assoc, ap, ◌∙◌}
 use Rattle.mtxkit_texts.specs.FactLines.{header_lines, count_lines, symmetry_lines}
 use Rattle.mtxkit_texts.specs.FactLines.{histogram_lines}
-use Rattle.mtxkit_texts.proofs.fact_lines.info_text.Goals as goal
+use Rattle.mtxkit_texts.proofs.fact_lines.facts_text.Goals as goal
 
 -- three texts, one below the other
 joined : (a b c d first second third : List ℕ) → a ≡ [] → b ≡ a ++ first → c ≡ b ++ second
     → d ≡ c ++ third → d ≡ first ++ (second ++ third)
 joined a b c d first second third ea eb ec ed = rw (ed, ec, eb, ea) (append_assoc first second third)
 
-pub returns-clause-written : goal.returns-clause-written
-returns-clause-written c =
-    let loaded = c.in_ok-loaded.loaded in
+pub returns : goal.returns
+returns c =
+    let loaded = c.args.loaded.now in
     let facts = c.in_ok-facts.facts in
     let header = string_bytes c.new-lines.result in
     let sizes = string_bytes c.push_header.new.lines in
@@ -19,7 +19,7 @@ returns-clause-written c =
       entries = loaded.entries;
       matrix = loaded.matrix;
       facts = facts;
-      meant = c.in_ok-loaded.ensures.meant;
+      meant = c.requires;
       are = c.in_ok-facts.ensures;
       is = joined header sizes lines (string_bytes c.push_facts.new.lines) _ _ _
           c.new-lines.ensures.bytes

@@ -1,0 +1,63 @@
+-- The files that the lines of errors name.
+use Rattle.std.specs.Prelude.{◌≡◌, ℕ, ◌==◌, if◌then◌else◌, List, [], ◌++◌, codes, Option}
+use Rattle.std.specs.Prelude.{Some, None}
+use Rattle.mtxkit_texts.specs.declared.failure.Failure.{Failure}
+use Rattle.mtxkit_texts.specs.declared.failure.Failure.TheVariants.{Unread, Input, NotCarried}
+use Rattle.mtxkit_texts.specs.declared.failure.Failure.TheVariants.{Wide, Unsaved}
+use Rattle.mtxkit_commands.specs.declared.commands.Command.{Command}
+use Rattle.mtxkit_commands.specs.declared.commands.Command.TheVariants.{Info, Spy, Field}
+use Rattle.mtxkit_commands.specs.declared.commands.Command.TheVariants.{Symmetric, Solve, Check}
+use Rattle.mtxkit_commands.specs.declared.commands.Target.{Target}
+use Rattle.mtxkit_commands.specs.declared.commands.Target.TheVariants.{Bitmap, Blocks, File}
+
+abbrev pub first_file : Command → List ℕ
+first_file (Info file) = file.now
+first_file (Spy file size target) = file.now
+first_file (Field file values) = file.now
+first_file (Symmetric file) = file.now
+first_file (Solve modulus a b) = a.now
+first_file (Check modulus a x b) = a.now
+
+abbrev pub second_file : Command → Option (List ℕ)
+second_file (Solve modulus a b) = Some b.now
+second_file (Check modulus a x b) = Some x.now
+second_file command = None
+
+abbrev pub third_file : Command → Option (List ℕ)
+third_file (Check modulus a x b) = Some b.now
+third_file command = None
+
+-- the path of the file with this number, counted from 1, if the command has one
+abbrev pub file_of : Command → ℕ → Option (List ℕ)
+file_of command number = if number == 1 then Some (first_file command)
+    else if number == 2 then second_file command
+    else if number == 3 then third_file command else None
+
+-- the path of the file that a picture is written to
+abbrev pub target_file : Target → Option (List ℕ)
+target_file Bitmap = None
+target_file Blocks = None
+target_file (File path) = Some path.now
+
+abbrev pub saved_file : Command → Option (List ℕ)
+saved_file (Spy file size target) = target_file target
+saved_file command = None
+
+-- the path of the file that a failure of the command is about
+abbrev pub fault_file : Command → Failure → Option (List ℕ)
+fault_file command (Unread number error) = file_of command number
+fault_file command (Input number kind spot) = file_of command number
+fault_file command (NotCarried number) = file_of command number
+fault_file command (Wide number) = file_of command number
+fault_file command (Unsaved error) = saved_file command
+fault_file command failure = None
+
+-- the name of a file before what is said of it
+abbrev pub name_text : Option (List ℕ) → List ℕ
+name_text (Some path) = path
+name_text None = []
+
+-- the line begins with the program's name, and then with that of the file, if one is at fault
+abbrev pub IsLineOf : Option (List ℕ) → List ℕ → Type 0
+IsLineOf path line =
+    (rest : List ℕ) × (line ≡ (codes "mtxkit: " ++ name_text path) ++ rest)

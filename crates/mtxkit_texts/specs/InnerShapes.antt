@@ -1,0 +1,18 @@
+-- The shape that stands below a header.
+use Rattle.std.specs.Prelude.{◌≡◌, ℕ, List, ◌∷◌, length, Option, Ok, true}
+use Rattle.std.specs.List.{list_all}
+use Rattle.sparse_parser.specs.Grammar.{is_size, is_entry}
+use Rattle.sparse_parser.specs.Meaning.{sizes_of, is_count}
+use Rattle.mtxkit_texts.specs.declared.shapes.Shape.{Shape}
+
+-- these contents are a size line and as many entries as it says
+pub record IsShapeBelow (contents : List (List (List ℕ))) (s : Shape) : Type 0 where
+  pub size : List (List ℕ)
+  pub lines : List (List (List ℕ))
+  pub count : Option ℕ
+  pub are : contents ≡ size ∷ lines
+  pub sized : is_size size ≡ true
+  pub listed : list_all is_entry lines ≡ true
+  pub sizes : sizes_of s.header size ≡ Ok (s.rows, s.cols, count)
+  pub complete : is_count count s.entries ≡ true
+  pub entries : s.entries ≡ length lines

@@ -1,0 +1,91 @@
+//! The shapes of texts whose values are not carried.
+
+ghost use Rattle.std.specs.Prelude.{◌≡◌, IfSome, Some, true};
+ghost use Rattle.sparse_parser.specs.InnerReading.{contents_of, count_of};
+ghost use Rattle.sparse_parser.specs.Meaning.{is_count};
+ghost use Rattle.mtxkit_texts.specs.Shapes.{IsShapeOf};
+ghost use Rattle.mtxkit_texts.specs.InnerShapes.{IsShapeBelow};
+
+use sparse_parser::data_lines::data_line;
+use sparse_parser::header::Header;
+use sparse_parser::lines::{after_space, next_line, split_line};
+use sparse_parser::size::Size;
+
+/// What a text says without its values.
+#[derive(Clone, Copy)]
+pub struct Shape {
+    /// The contents of the header line.
+    pub header: Header,
+    /// The number of rows.
+    pub rows: usize,
+    /// The number of columns.
+    pub cols: usize,
+    /// The number of entries in the file.
+    pub entries: usize,
+}
+
+/// Returns the shape of a text, whatever its values are, or `None` if the text does not match the grammar, has an
+/// invalid header or sizes, or has another number of entries than it says.
+pub fn shape_of(text: &str) -> Option<Shape>
+    ensures { IfSome result (IsShapeOf text.now) }
+{
+    let (line, below) = split_line(after_space(text.as_bytes()));
+    match Header::from_line(line) {
+        Some(header) => shape_below(header, below),
+        None => None,
+    }
+}
+
+// Returns the shape of the text below a header.
+fn shape_below(header: Header, text: &[u8]) -> Option<Shape>
+    ensures header { IfSome result (λ s. s.header ≡ header) }
+    ensures below { IfSome result (IsShapeBelow (contents_of text.now)) }
+{
+    let (line, rest) = split_line(next_line(text));
+    match Size::from_line(header, line) {
+        Some(Ok(size)) => counted(header, size, rest),
+        _ => None,
+    }
+}
+
+// Returns the shape of these sizes, if there are as many entries.
+fn counted(header: Header, size: Size, text: &[u8]) -> Option<Shape>
+    ensures header { IfSome result (λ s. s.header ≡ header) }
+    ensures sizes { IfSome result (λ s. (s.rows ≡ size.rows) × (s.cols ≡ size.cols)) }
+    ensures complete { IfSome result (λ s. is_count size.count s.entries ≡ true) }
+    ensures counted { IfSome result (λ s. Some s.entries ≡ count_of (contents_of text.now)) }
+{
+    match count_entries(text) {
+        Some(entries) if is_count(size.count, entries) => Some(Shape {
+            header,
+            rows: size.rows,
+            cols: size.cols,
+            entries,
+        }),
+        _ => None,
+    }
+}
+
+// Whether the number of data lines is the one given.
+fn is_count(count: Option<usize>, lines: usize) -> bool
+    ensures { result ≡ is_count count lines }
+{
+    match count {
+        Some(count) => lines == count,
+        None => false,
+    }
+}
+
+// Counts the data lines of a text. Returns `None` if one of its lines is not a data line.
+pub(crate) fn count_entries(text: &[u8]) -> Option<usize>
+    ensures { result ≡ count_of (contents_of text.now) }
+{
+    let mut rest = next_line(text);
+    let mut count = 0;
+    while !rest.is_empty() {
+        let (_, after) = data_line(rest)?;
+        rest = next_line(after);
+        count += 1;
+    }
+    Some(count)
+}
