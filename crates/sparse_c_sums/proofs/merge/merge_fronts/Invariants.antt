@@ -1,4 +1,4 @@
-use Rattle.std.proofs.Common.{◌≡◌, ◌+◌, ◌-◌, ◌≤◌, length, take}
+use Rattle.std.proofs.Common.{◌+◌, ◌-◌, ◌≤◌, length, take}
 use Rattle.sparse_sums.specs.InnerAdding.{IsAdding}
 use Rattle.sparse_c_sums.specs.InnerFilling.{front_meant, times_meant, IsFilled}
 use Rattle.sparse_c_sums.proofs.merge.merge_fronts.Given as goal

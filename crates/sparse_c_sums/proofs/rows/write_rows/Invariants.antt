@@ -1,4 +1,4 @@
-use Rattle.std.proofs.Common.{◌≡◌, ◌+◌, ◌≤◌}
+use Rattle.std.proofs.Common.{◌+◌, ◌≤◌}
 use Rattle.sparse_pattern.specs.Raw.{start_of}
 use Rattle.sparse_c_views.specs.Rests.{KeepsBehind}
 use Rattle.sparse_c_sums.specs.InnerFilling.{IsFilled}
