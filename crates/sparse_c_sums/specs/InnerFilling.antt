@@ -20,7 +20,8 @@ pub record IsLane (indices : List ℕ) (numbers : List ℤ) : Type 0 where
   pub rising : IsStrictlyIncreasing indices
   pub count : length numbers ≡ length indices
 
--- the arrays are filled from one position to another: those numbers show, and what is behind is as it was
+-- the arrays are filled from one position to another: these numbers show residues, and what is
+-- behind them is as it was
 pub record IsFilled (P : ℤ → Type 0) (from to : ℕ) (is js : List ℕ) (us vs : List ℤ) : Type 0 where
   pub forward : from ≤ to
   pub shown : FirstAre P from us → FirstAre P to vs

@@ -9,8 +9,8 @@ use crate::parts::{Part, put_entry, put_part, times};
 use sparse_c_views::number::Number;
 use sparse_sums::front_value;
 
-// Writes the entries of both lanes from a position on, in increasing order of index, and returns the
-// position behind them. Two of one index are added.
+// Writes the entries of both lanes from a position on, in increasing order of index, and returns
+// the position behind them. Two of one index are added.
 #[inline(always)]
 pub(crate) fn merge_parts<T: Number>(
     a: &Part<'_, T>,
@@ -21,7 +21,8 @@ pub(crate) fn merge_parts<T: Number>(
 ) -> usize
     requires a_lane { IsLane a.now.indices.now a.now.values.now }
     requires b_lane { IsLane b.now.indices.now b.now.values.now }
-    requires room { from + (length a.now.indices.now + length b.now.indices.now) ≤ length indices.old }
+    requires room { from + (length a.now.indices.now + length b.now.indices.now)
+        ≤ length indices.old }
     requires values_room { from + (length a.now.indices.now + length b.now.indices.now)
         ≤ length values.old }
     ensures most { result ≤ from + (length a.now.indices.now + length b.now.indices.now) }
@@ -53,7 +54,8 @@ fn merge_fronts<T: Number>(
 ) -> (usize, usize, usize)
     requires a_lane { IsLane a.now.indices.now a.now.values.now }
     requires b_lane { IsLane b.now.indices.now b.now.values.now }
-    requires room { from + (length a.now.indices.now + length b.now.indices.now) ≤ length indices.old }
+    requires room { from + (length a.now.indices.now + length b.now.indices.now)
+        ≤ length indices.old }
     requires values_room { from + (length a.now.indices.now + length b.now.indices.now)
         ≤ length values.old }
     ensures first { result.0 ≤ length a.now.indices.now }
@@ -64,7 +66,8 @@ fn merge_fronts<T: Number>(
         (take result.2 indices.new) (front_meant T.ring from values.old)
         (front_meant T.ring result.2 values.new)
         a.now.indices.now (times_meant T.ring (T.value a.now.factor) a.now.values.now)
-        b.now.indices.now (times_meant T.ring (T.value b.now.factor) b.now.values.now) result.0 result.1 }
+        b.now.indices.now (times_meant T.ring (T.value b.now.factor) b.now.values.now)
+        result.0 result.1 }
     ensures filled { IsFilled T.is_shown from result.2 indices.old indices.new values.old
         values.new }
 {

@@ -39,7 +39,8 @@ fn row<'a, T: Number>(term: &Term<'a, T>, i: usize) -> Part<'a, T>
     }
 }
 
-// Writes the sum of two terms into arrays, on the union of their places. Returns its number of places.
+// Writes the sum of two terms into arrays, on the union of their places. Returns its number of
+// places.
 pub(crate) fn write_rows<T: Number>(
     a: &Term<'_, T>,
     b: &Term<'_, T>,

@@ -1,5 +1,5 @@
-use Rattle.std.proofs.Common.{◌≡◌, ℤ, pos, ◌+◌, [], ◌∷◌, ◌++◌, take, get_or, append_assoc, ap, sym, ◌∙◌}
-use Rattle.std.proofs.Common.{rules, arith, to_z, of_z}
+use Rattle.std.proofs.Common.{◌≡◌, ℤ, pos, ◌+◌, [], ◌∷◌, ◌++◌, take, get_or, append_assoc}
+use Rattle.std.proofs.Common.{ap, sym, ◌∙◌, rules, arith, to_z, of_z}
 use Rattle.std.proofs.lemmas.List.{map_more, take_more}
 use Rattle.std.specs.Int.{w64}
 use Rattle.sparse_algebra.specs.Integers.{element_of}
@@ -35,6 +35,7 @@ loop-k-preserved g c =
           ∙ ap (λ l. l ++ v ∷ []) inv.values
           ∙ append_assoc us (times_meant R s (take k numbers)) (v ∷ [])
           ∙ ap (λ l. us ++ l) (ap (λ x. times_meant R s (take k numbers) ++ x ∷ []) value
-          ∙ sym (map_more h numbers k (pos 0) (omega (arith, c.loop-k-test.true, c.requires.count))));
+          ∙ sym (map_more h numbers k (pos 0)
+          (omega (arith, c.loop-k-test.true, c.requires.count))));
       filled = rw next (filled_then inv.filled c.put_entry.ensures.filled);
     }
