@@ -12,6 +12,7 @@ pub mod MergedLanes
 pub mod Compressing
 pub mod InOrder
 pub mod ReadLists
+pub mod Apart
 pub mod Refusals
 mod TransposedTriplets
 mod StoredTriplets
