@@ -1,6 +1,7 @@
 pub mod Counted
 pub mod Heads
 pub mod LineEnds
+pub mod Lists
 pub mod Magnitudes
 pub mod Rewriting
 pub mod Trimmed

@@ -1,96 +1,27 @@
 -- How a text is written again, line by line.
-use Rattle.std.proofs.Common.{◌≡◌, ℕ, Bool, true, false, List, [], ◌∷◌, ◌++◌}
+use Rattle.std.proofs.Common.{◌≡◌, ℕ, true, List, [], ◌∷◌, ◌++◌}
 use Rattle.std.proofs.Common.{length, Some, refl, sym, ap, subst, ◌∙◌, inl, inr}
 use Rattle.std.proofs.Common.{append_assoc, append-nil}
 use Rattle.std.specs.Prelude.{filter}
-use Rattle.std.specs.List.{list_all}
 use Rattle.std.proofs.lemmas.List.{nil_from_length}
-use Rattle.sparse_algebra.proofs.Cases.{and_parts}
 use Rattle.sparse_parser.specs.declared.header.Header.{Header}
-use Rattle.sparse_parser.specs.declared.header.Format.{Format}
 use Rattle.sparse_parser.specs.Bytes.{front, after}
 use Rattle.sparse_parser.specs.InnerBytes.{is_within_line}
 use Rattle.sparse_parser.specs.Header.{header_of}
-use Rattle.sparse_parser.specs.Grammar.{IsHeaded, is_size, is_entry}
+use Rattle.sparse_parser.specs.Grammar.{IsHeaded, is_entry}
 use Rattle.sparse_parser.specs.InnerReading.{is_content, words_of, written_of}
 use Rattle.sparse_parser.proofs.LineLaws.{add, ended, last, add-blank, lines_only, some_lines}
 use Rattle.sparse_parser.proofs.FrontLines.{written_of-line}
 use Rattle.sparse_parser.proofs.ContentLaws.{headed_are}
-use Rattle.sparse_parser.proofs.LineShapes.{entry_nil}
 use Rattle.sparse_parser.proofs.WordLaws.{words_of-nil}
 use Rattle.mtxkit_decimals.specs.declared.stage.Stage.{Stage}
 use Rattle.mtxkit_decimals.specs.declared.stage.Stage.TheVariants.{Head, Sizes, Entries}
-use Rattle.mtxkit_decimals.specs.Rewritten.{IsScaledEntry, AreScaled, IsScaledText, with_integers}
+use Rattle.mtxkit_decimals.specs.Rewritten.{IsScaledText, with_integers}
 use Rattle.mtxkit_decimals.specs.InnerRewriting.{IsSkipped, IsStep, AreBelow}
 use Rattle.mtxkit_decimals.specs.InnerRewriting.{AreRewritten, IsLineWritten, IsTextWritten}
-
--- ---- lists of lines
-
--- the words of a line, unless it is blank
-abbrev ones : List (List ℕ) → List (List (List ℕ))
-ones [] = []
-ones (word ∷ words) = (word ∷ words) ∷ []
-
-add-ones : (line : List ℕ) (lines : List (List (List ℕ)))
-    → add line lines ≡ ones (words_of line) ++ lines
-add-ones line lines = by (words_of line) refl
-  where
-    by : (ws : List (List ℕ)) → words_of line ≡ ws → add line lines ≡ ones (words_of line) ++ lines
-    by [] e = rw e refl
-    by (word ∷ words) e = rw e refl
-
-ones-some : (words : List (List ℕ)) → ¬ (words ≡ []) → ones words ≡ words ∷ []
-ones-some [] n = absurd (n refl)
-ones-some (word ∷ words) n = refl
-
-contents-more : (xs ys : List (List (List ℕ)))
-    → filter is_content (xs ++ ys) ≡ filter is_content xs ++ filter is_content ys
-contents-more [] ys = refl
-contents-more (x ∷ xs) ys = by (is_content x) refl (contents-more xs ys)
-  where
-    by : (t : Bool) → is_content x ≡ t
-        → filter is_content (xs ++ ys) ≡ filter is_content xs ++ filter is_content ys
-        → filter is_content (x ∷ (xs ++ ys)) ≡ filter is_content (x ∷ xs) ++ filter is_content ys
-    by true e h = rw e (ap (λ (l : List (List (List ℕ))). x ∷ l) h)
-    by false e h = rw e h
-
-skipped-none : (words : List (List ℕ)) → IsSkipped words → filter is_content (ones words) ≡ []
-skipped-none [] h = refl
-skipped-none (word ∷ words) (inl e) = absurd cc
-skipped-none (word ∷ words) (inr e) = rw e refl
-
-content-one : (words : List (List ℕ)) → ¬ (words ≡ []) → is_content words ≡ true
-    → filter is_content (ones words) ≡ words ∷ []
-content-one [] n e = absurd (n refl)
-content-one (word ∷ words) n e = rw e refl
-
-all_more : (p : List (List ℕ) → Bool) (xs : List (List (List ℕ))) (x : List (List ℕ))
-    → list_all p xs ≡ true → p x ≡ true → list_all p (xs ++ (x ∷ [])) ≡ true
-all_more p [] x h e = rw e refl
-all_more p (y ∷ xs) x h e = let b = and_parts (p y) (list_all p xs) h in
-    rw (b.0, all_more p xs x b.1 e) refl
-
-scaled_more : (scale : ℕ) (format : Format) (xs ys : List (List (List ℕ))) (x y : List (List ℕ))
-    → AreScaled scale format xs ys → IsScaledEntry scale format x y
-    → AreScaled scale format (xs ++ (x ∷ [])) (ys ++ (y ∷ []))
-scaled_more scale format [] [] x y h e = (e, tt)
-scaled_more scale format [] (b ∷ ys) x y h e = absurd h
-scaled_more scale format (a ∷ xs) [] x y h e = absurd h
-scaled_more scale format (a ∷ xs) (b ∷ ys) x y h e =
-    (h.0, scaled_more scale format xs ys x y h.1 e)
-
-some_header : (words : List (List ℕ)) (h : Header) → header_of words ≡ Some h → ¬ (words ≡ [])
-unfolding header_of
-some_header [] h e n = absurd cc
-some_header (word ∷ words) h e n = absurd cc
-
-some_size : (words : List (List ℕ)) → is_size words ≡ true → ¬ (words ≡ [])
-unfolding is_size
-some_size [] e n = absurd cc
-some_size (word ∷ words) e n = absurd cc
-
-some_entry : (words : List (List ℕ)) → is_entry words ≡ true → ¬ (words ≡ [])
-some_entry words e n = let f = entry_nil words n in absurd cc
+use Rattle.mtxkit_decimals.proofs.Lists.{ones, add-ones, ones-some, contents-more, skipped-none}
+use Rattle.mtxkit_decimals.proofs.Lists.{content-one, all_more, scaled_more, some_header, some_size}
+use Rattle.mtxkit_decimals.proofs.Lists.{some_entry}
 
 -- ---- one line more
 

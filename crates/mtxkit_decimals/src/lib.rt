@@ -2,6 +2,7 @@
 //! for the program `mtxkit`.
 #![tactic(auto)]
 
+mod entry;
 mod error;
 mod magnitude;
 mod mantissa;

@@ -2,8 +2,8 @@ use Rattle.std.proofs.Common.{ℕ, Vec, Global, sym, subst, ◌∙◌}
 use Rattle.mtxkit_decimals.specs.declared.stage.Stage.TheVariants.{Entries}
 use Rattle.mtxkit_decimals.specs.InnerRewriting.{IsLineWritten}
 use Rattle.mtxkit_decimals.proofs.WrittenLines.{coordinate_line, array_line, at_ok}
-use Rattle.mtxkit_decimals.proofs.stage.push_entry.Goals as goal
-use Rattle.mtxkit_decimals.proofs.stage.push_entry.Goals.{in-Coordinate, in-Array}
+use Rattle.mtxkit_decimals.proofs.entry.push_entry.Goals as goal
+use Rattle.mtxkit_decimals.proofs.entry.push_entry.Goals.{in-Coordinate, in-Array}
 
 pub returns-in-Ok-clause-written : goal.returns-in-Ok-clause-written
 returns-in-Ok-clause-written c =
