@@ -34,7 +34,7 @@
  * This header and the programs around the library are checked by tests alone (bindings/test). The caller must see to it
  * that
  *   - each pointer is not null, even where the length is 0, is aligned, and has at least as many elements as the length
- *     says;
+ *     says (the inline functions over structs take the null pointer of an empty std::vector, and pass another one);
  *   - no array for a result overlaps another array;
  *   - malloc, realloc and free come from one allocator, which aligns blocks as the C standard demands;
  *   - no call is made from a signal handler, or in the child of a fork of a process with threads.
@@ -106,7 +106,11 @@ enum {
     /* A symmetric or skew-symmetric matrix is not square. */
     NALGEBRA_SPARSE_NON_SQUARE = 15,
     /* The bytes of a text are not UTF-8. */
-    NALGEBRA_SPARSE_UNREADABLE = 16
+    NALGEBRA_SPARSE_UNREADABLE = 16,
+    /* A handle has no matrix. */
+    NALGEBRA_SPARSE_EMPTY_HANDLE = 17,
+    /* The shapes of the operands do not fit. */
+    NALGEBRA_SPARSE_SHAPE_MISMATCH = 18
 };
 
 /* The triangles of nalgebra_sparse_fill. */
@@ -587,6 +591,103 @@ int32_t nalgebra_sparse_write(
     const int64_t *values, size_t values_len,
     uint8_t *out_text, size_t out_text_len,
     size_t *out_length);
+
+/* Handles.
+ *
+ * A handle stands for a matrix that the library owns, over the integers modulo 2^64, or for none: it is then
+ * {NULL}, as NALGEBRA_SPARSE_NO_MATRIX. The calls below take handles in place of arrays, so a chain of them copies no
+ * operand and tests no array twice, and no result is too small. Their contracts are equations between the plain matrices
+ * behind handles (crates/sparse_c/src/handles.rt and handle_operations.rt).
+ *
+ *     nalgebra_sparse_matrix a = NALGEBRA_SPARSE_NO_MATRIX, square = NALGEBRA_SPARSE_NO_MATRIX, copy = NALGEBRA_SPARSE_NO_MATRIX;
+ *     status = nalgebra_sparse_matrix_from_rows(2, 2, offsets, 3, indices, 2, values, 2, &a);
+ *     status = nalgebra_sparse_matrix_clone(&a, &copy);
+ *     status = nalgebra_sparse_matrix_multiply(&a, &copy, &square);
+ *     nalgebra_sparse_matrix_free(&a), nalgebra_sparse_matrix_free(&copy), nalgebra_sparse_matrix_free(&square);
+ *
+ * A result goes behind `out`, and the matrix that was there before is dropped. At any status but 0 `out` is unchanged.
+ * Each handle with a matrix must be freed once, and a handle that was freed is empty: it may be freed again and used
+ * again.
+ *
+ * The caller must see to it that
+ *   - a handle is either empty or as a call left it: it is not made of other bytes, and after its bytes were copied only
+ *     one of the copies is passed to calls;
+ *   - the handles of one call are different variables: for the square of a matrix, or to put a result in place of an
+ *     operand, clone it first, which copies no array;
+ *   - each handle is used by one call at a time. Between calls a handle may go to another thread, and handles that share a
+ *     matrix may be used by several threads at once.
+ *
+ * Statuses: OUT_OF_MEMORY; EMPTY_HANDLE if an operand has no matrix; SHAPE_MISMATCH if the shapes of two operands do not
+ * fit; and those that a call names.
+ */
+typedef struct {
+    void *matrix;
+} nalgebra_sparse_matrix;
+
+/* A handle with no matrix. */
+#define NALGEBRA_SPARSE_NO_MATRIX {NULL}
+
+/* Puts the matrix with these arrays by rows behind `out`. Statuses: the first fault of the arrays, as for
+ * nalgebra_sparse_transpose. The arrays are copied.
+ */
+int32_t nalgebra_sparse_matrix_from_rows(
+    size_t rows, size_t cols,
+    const size_t *offsets, size_t offsets_len,
+    const size_t *indices, size_t indices_len,
+    const int64_t *values, size_t values_len,
+    nalgebra_sparse_matrix *out);
+
+/* Puts the matrix of triplets behind `out`: each place that occurs in the lists, with the sum of its values. Statuses:
+ * INVALID_STRUCTURE if the lists have different lengths; INDEX_OUT_OF_BOUNDS.
+ */
+int32_t nalgebra_sparse_matrix_from_triplets(
+    size_t rows, size_t cols,
+    const size_t *row_indices, size_t row_indices_len,
+    const size_t *col_indices, size_t col_indices_len,
+    const int64_t *values, size_t values_len,
+    nalgebra_sparse_matrix *out);
+
+/* Writes the numbers of rows, columns and places of the matrix behind `a`. */
+int32_t nalgebra_sparse_matrix_sizes(nalgebra_sparse_matrix *a, size_t *out_rows, size_t *out_cols, size_t *out_places);
+
+/* Writes the matrix behind `a` by rows: out_offsets needs rows + 1 numbers, and out_indices and out_values one for each
+ * place, which nalgebra_sparse_matrix_sizes tells. *out_places becomes the number of places. Statuses: TOO_SMALL.
+ */
+int32_t nalgebra_sparse_matrix_read(
+    nalgebra_sparse_matrix *a,
+    size_t *out_offsets, size_t out_offsets_len,
+    size_t *out_indices, size_t out_indices_len,
+    int64_t *out_values, size_t out_values_len,
+    size_t *out_places);
+
+/* Puts the transpose of the matrix behind `a` behind `out`. */
+int32_t nalgebra_sparse_matrix_transpose(nalgebra_sparse_matrix *a, nalgebra_sparse_matrix *out);
+
+/* Puts the product of a number and the matrix behind `a` behind `out`, on its places. */
+int32_t nalgebra_sparse_matrix_scale(int64_t factor, nalgebra_sparse_matrix *a, nalgebra_sparse_matrix *out);
+
+/* Puts the sum a + b of two matrices with one shape behind `out`, on the union of their places. */
+int32_t nalgebra_sparse_matrix_add(nalgebra_sparse_matrix *a, nalgebra_sparse_matrix *b, nalgebra_sparse_matrix *out);
+
+/* Puts the difference a - b of two matrices with one shape behind `out`, on the union of their places. */
+int32_t nalgebra_sparse_matrix_subtract(nalgebra_sparse_matrix *a, nalgebra_sparse_matrix *b, nalgebra_sparse_matrix *out);
+
+/* Puts the sum alpha a + beta b of multiples of two matrices with one shape behind `out`, on the union of their places. */
+int32_t nalgebra_sparse_matrix_add_scaled(
+    int64_t alpha, nalgebra_sparse_matrix *a,
+    int64_t beta, nalgebra_sparse_matrix *b,
+    nalgebra_sparse_matrix *out);
+
+/* Puts the product a b behind `out`, with a place wherever the operands share a middle index. `a` has as many columns as
+ * `b` has rows.
+ */
+int32_t nalgebra_sparse_matrix_multiply(nalgebra_sparse_matrix *a, nalgebra_sparse_matrix *b, nalgebra_sparse_matrix *out);
+
+/* Makes `out` a second handle of the matrix behind `a`: both share it, and each is freed. It copies no array. */
+int32_t nalgebra_sparse_matrix_clone(nalgebra_sparse_matrix *a, nalgebra_sparse_matrix *out);
+
+/* Frees a handle, which is empty from then on. The matrix is dropped with the last handle that shares it. */
+void nalgebra_sparse_matrix_free(nalgebra_sparse_matrix *a);
 
 #include "nalgebra_sparse_inline.h"
 

@@ -9,9 +9,6 @@
 #ifndef NALGEBRA_SPARSE_INLINE_H
 #define NALGEBRA_SPARSE_INLINE_H
 
-/* A status of the functions of this file alone: the shapes of the operands do not fit. */
-enum { NALGEBRA_SPARSE_SHAPE_MISMATCH = -1 };
-
 /* Returns the text of a status, without a full stop, or "an unknown status". It is never freed. */
 static inline const char *nalgebra_sparse_status_text(int32_t status) {
     switch (status) {
@@ -32,6 +29,7 @@ static inline const char *nalgebra_sparse_status_text(int32_t status) {
     case NALGEBRA_SPARSE_NOT_LOWER_TRIANGLE: return "a symmetric or skew-symmetric matrix has an entry above the diagonal";
     case NALGEBRA_SPARSE_NON_SQUARE: return "a symmetric or skew-symmetric matrix is not square";
     case NALGEBRA_SPARSE_UNREADABLE: return "the bytes of a text are not UTF-8";
+    case NALGEBRA_SPARSE_EMPTY_HANDLE: return "a handle has no matrix";
     case NALGEBRA_SPARSE_SHAPE_MISMATCH: return "the shapes of the operands do not fit";
     default: return "an unknown status";
     }

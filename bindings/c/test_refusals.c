@@ -94,15 +94,46 @@ static const char LINES[] = "%%MatrixMarket matrix coordinate integer symmetric\
     CALL(write_length, 3, 3, LISTS, &t->count)                          \
     CALL(write, 3, 3, LISTS, t->text, TEXT, &t->count)
 
+/* Operands behind handles, which are made before the first call, and the handle of a result. */
+static nalgebra_sparse_matrix a = NALGEBRA_SPARSE_NO_MATRIX, b = NALGEBRA_SPARSE_NO_MATRIX, out = NALGEBRA_SPARSE_NO_MATRIX;
+
+/* Each call over handles, with a result behind `out` or in arrays. */
+#define HANDLE_CALLS(CALL)                                       \
+    CALL(matrix_from_rows, 3, 3, MATRIX, &out)                   \
+    CALL(matrix_from_triplets, 3, 3, LISTS, &out)                \
+    CALL(matrix_sizes, &a, &t->rows, &t->cols, &t->count)        \
+    CALL(matrix_read, &a, TO_MATRIX)                             \
+    CALL(matrix_transpose, &a, &out)                             \
+    CALL(matrix_scale, 5, &a, &out)                              \
+    CALL(matrix_add, &a, &b, &out)                               \
+    CALL(matrix_subtract, &a, &b, &out)                          \
+    CALL(matrix_add_scaled, 2, &a, -3, &b, &out)                 \
+    CALL(matrix_multiply, &a, &b, &out)                          \
+    CALL(matrix_clone, &a, &out)
+
+/* Reads what a call has put behind `out`, and frees it. These requests are not counted, and none is refused. */
+static int32_t shown(int32_t status, target *t) {
+    size_t made = requests;
+    refused = SIZE_MAX;
+    if (out.matrix != NULL && nalgebra_sparse_matrix_read(&out, TO_MATRIX) != 0) exit(1);
+    nalgebra_sparse_matrix_free(&out);
+    requests = made;
+    return status;
+}
+
 #define DEFINE(name, ...) \
     static int32_t name##_call(target *t) { return nalgebra_sparse_##name(__VA_ARGS__); }
 CALLS(DEFINE)
+
+#define DEFINE_SHOWN(name, ...) \
+    static int32_t name##_call(target *t) { return shown(nalgebra_sparse_##name(__VA_ARGS__), t); }
+HANDLE_CALLS(DEFINE_SHOWN)
 
 #define ROW(name, ...) {#name, name##_call},
 static const struct {
     const char *name;
     int32_t (*run)(target *);
-} TABLE[] = {CALLS(ROW)};
+} TABLE[] = {CALLS(ROW) HANDLE_CALLS(ROW)};
 enum { COUNT = sizeof TABLE / sizeof *TABLE };
 
 /* Runs a call with a request refused, on arrays full of marks. Ends the program if it loses memory. */
@@ -120,11 +151,14 @@ static int32_t run(size_t call, size_t request, target *t) {
 int main(void) {
     size_t all = 0, failures = 0;
     target blank, answer, t;
+    refused = SIZE_MAX;
+    if (nalgebra_sparse_matrix_from_rows(3, 3, MATRIX, &a) != 0 || nalgebra_sparse_matrix_transpose(&a, &b) != 0) return 1;
     memset(&blank, 77, sizeof blank);
     for (size_t call = 0; call < COUNT; call++) {
         int32_t status = run(call, SIZE_MAX, &answer);
         size_t count = requests;
-        if (status != 0 || count == 0 || memcmp(&answer, &blank, sizeof blank) == 0) {
+        int asks = TABLE[call].run != matrix_sizes_call && TABLE[call].run != matrix_read_call;
+        if (status != 0 || (count != 0) != asks || memcmp(&answer, &blank, sizeof blank) == 0) {
             fprintf(stderr, "%s: status %d after %zu requests\n", TABLE[call].name, (int)status, count);
             return 1;
         }
@@ -139,6 +173,8 @@ int main(void) {
         }
         all += count;
     }
+    refused = SIZE_MAX;
+    nalgebra_sparse_matrix_free(&a), nalgebra_sparse_matrix_free(&b);
     printf("c: %d calls, %zu refused requests: %zu out of memory, with nothing written\n", (int)COUNT, all, failures);
     return 0;
 }

@@ -10,6 +10,8 @@ may change an operand during a call. Otherwise several threads may call at once,
 Assembly, sums, products, division, solves and factors are also computed modulo a prime: `modulus` is one of `MODULI`. An
 integer then means its residue, also where it is negative, and the values of a result are from 0 to modulus - 1.
 
+`Exact` is a matrix that the library owns, with operators: a chain of them copies no operand and tests no array twice.
+
 A refusal is an `Error` or a `MemoryError`, and an argument of the wrong type is a `TypeError`.
 
 `bindings/python/build` makes the shared library that is loaded here. `NALGEBRA_SPARSE_LIBRARY` names another one.
@@ -27,6 +29,7 @@ import ctypes
 import os
 
 from ._errors import DuplicateEntry, Error, IndexOutOfBounds, InvalidStructure, InvalidText, Singular, UnknownModulus
+from ._exact import Exact
 from ._matrices import add, add_scaled, assemble_csc, assemble_csr, divide, multiply, multiply_dense, subtract, transpose
 from ._operands import integer as _integer
 from ._rational import solve_rational
@@ -37,6 +40,7 @@ __all__ = [
     "MODULI",
     "DuplicateEntry",
     "Error",
+    "Exact",
     "IndexOutOfBounds",
     "InvalidStructure",
     "InvalidText",

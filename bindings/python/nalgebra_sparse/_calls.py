@@ -21,6 +21,12 @@ if ctypes.sizeof(ctypes.c_size_t) != 8:
 _NOWHERE = ctypes.c_uint64()
 
 
+class Handle(ctypes.Structure):
+    """A handle of a matrix that the library owns: null stands for none."""
+
+    _fields_ = [("matrix", ctypes.c_void_p)]
+
+
 class Kind(NamedTuple):
     """A kind of argument: the types of the call's parameters for it, and what makes their values of an argument."""
 
@@ -73,6 +79,7 @@ _KINDS = {
     "out_indices": _array(True, np.int64),
     "out_values": _array(True, np.int64),
     "out_text": _array(True, np.uint8),
+    "handle": _instance(ctypes.POINTER(Handle), Handle, lambda handle: (ctypes.byref(handle),)),
     "out_size": _instance(ctypes.POINTER(ctypes.c_size_t), ctypes.c_size_t, lambda size: (ctypes.byref(size),)),
 }
 
@@ -114,6 +121,17 @@ _TABLE = {
     "read": "text out_indices out_indices out_values out_size",
     "write_length": f"size size {_TRIPLETS} out_size",
     "write": f"size size {_TRIPLETS} out_text out_size",
+    "matrix_from_rows": f"size size {_LANES} handle",
+    "matrix_from_triplets": f"size size {_TRIPLETS} handle",
+    "matrix_sizes": "handle out_size out_size out_size",
+    "matrix_read": f"handle {_RESULT}",
+    "matrix_transpose": "handle handle",
+    "matrix_scale": "value handle handle",
+    "matrix_add": "handle handle handle",
+    "matrix_subtract": "handle handle handle",
+    "matrix_add_scaled": "value handle value handle handle",
+    "matrix_multiply": "handle handle handle",
+    "matrix_clone": "handle handle",
 }
 
 
@@ -140,3 +158,13 @@ def call(name: str, *arguments: Any) -> None:
     status = _FUNCTIONS[name](*words)
     if status:
         raise error_of(status)
+
+
+_free = _library.nalgebra_sparse_matrix_free
+_free.argtypes = [ctypes.POINTER(Handle)]
+_free.restype = None
+
+
+def free(handle: Handle) -> None:
+    """Frees a handle, which is empty from then on."""
+    _free(ctypes.byref(handle))

@@ -341,4 +341,60 @@ extern "C" {
         out_text: *mut u8, out_text_len: usize,
         out_length: *mut usize,
     ) -> i32;
+
+    pub fn nalgebra_sparse_matrix_from_rows(
+        rows: usize, cols: usize,
+        offsets: *const usize, offsets_len: usize,
+        indices: *const usize, indices_len: usize,
+        values: *const i64, values_len: usize,
+        out: *mut Handle,
+    ) -> i32;
+
+    pub fn nalgebra_sparse_matrix_from_triplets(
+        rows: usize, cols: usize,
+        row_indices: *const usize, row_indices_len: usize,
+        col_indices: *const usize, col_indices_len: usize,
+        values: *const i64, values_len: usize,
+        out: *mut Handle,
+    ) -> i32;
+
+    pub fn nalgebra_sparse_matrix_sizes(
+        a: *mut Handle,
+        out_rows: *mut usize, out_cols: *mut usize, out_places: *mut usize,
+    ) -> i32;
+
+    pub fn nalgebra_sparse_matrix_read(
+        a: *mut Handle,
+        out_offsets: *mut usize, out_offsets_len: usize,
+        out_indices: *mut usize, out_indices_len: usize,
+        out_values: *mut i64, out_values_len: usize,
+        out_places: *mut usize,
+    ) -> i32;
+
+    pub fn nalgebra_sparse_matrix_transpose(a: *mut Handle, out: *mut Handle) -> i32;
+
+    pub fn nalgebra_sparse_matrix_scale(factor: i64, a: *mut Handle, out: *mut Handle) -> i32;
+
+    pub fn nalgebra_sparse_matrix_add(a: *mut Handle, b: *mut Handle, out: *mut Handle) -> i32;
+
+    pub fn nalgebra_sparse_matrix_subtract(a: *mut Handle, b: *mut Handle, out: *mut Handle) -> i32;
+
+    pub fn nalgebra_sparse_matrix_add_scaled(
+        alpha: i64, a: *mut Handle,
+        beta: i64, b: *mut Handle,
+        out: *mut Handle,
+    ) -> i32;
+
+    pub fn nalgebra_sparse_matrix_multiply(a: *mut Handle, b: *mut Handle, out: *mut Handle) -> i32;
+
+    pub fn nalgebra_sparse_matrix_clone(a: *mut Handle, out: *mut Handle) -> i32;
+
+    pub fn nalgebra_sparse_matrix_free(a: *mut Handle);
+}
+
+/// `nalgebra_sparse_matrix` of the header: null stands for no matrix.
+#[repr(C)]
+#[derive(Debug)]
+pub struct Handle {
+    pub matrix: *mut std::ffi::c_void,
 }

@@ -88,7 +88,8 @@ pub(crate) fn answer(status: i32) -> Result<(), Error> {
         14 => Err(Error::NotLowerTriangle),
         15 => Err(Error::NonSquare),
         16 => Err(Error::Unreadable),
-        // The arrays for a result are as long as the header asks, so 5 is not among them.
+        18 => Err(Error::ShapeMismatch),
+        // The arrays for a result are as long as the header asks, and a `Matrix` is never empty, so 5 and 17 are not among them.
         _ => Err(Error::UnknownStatus(status)),
     }
 }

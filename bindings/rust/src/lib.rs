@@ -3,6 +3,7 @@
 mod calls;
 mod error;
 mod factors;
+mod handles;
 mod matrices;
 mod moduli;
 mod operations;
@@ -12,6 +13,7 @@ mod texts;
 
 pub use error::Error;
 pub use factors::{factor_symmetric, factor_symmetric_mod, Factors};
+pub use handles::Matrix;
 pub use matrices::{Arrays, ColumnArrays, Columns, Rows};
 pub use moduli::{
     add_mod, add_scaled_mod, assemble_csc_mod, assemble_csr_mod, divide_mod, multiply_dense_mod, multiply_mod, solve_lower_mod,

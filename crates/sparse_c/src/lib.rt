@@ -10,6 +10,8 @@ mod dense;
 mod division;
 mod factors;
 mod fill;
+mod handle_operations;
+mod handles;
 mod moduli;
 mod products;
 mod reading;

@@ -29,6 +29,8 @@ number_of refusals.DiagonalEntry = pos 13
 number_of refusals.NotLowerTriangle = pos 14
 number_of refusals.NonSquare = pos 15
 number_of refusals.Unreadable = pos 16
+number_of refusals.EmptyHandle = pos 17
+number_of refusals.ShapeMismatch = pos 18
 
 -- the status of a call whose operands have no fault: 0, or that of TooSmall or of Singular
 abbrev pub FindsNoFault : ℤ → Type 0

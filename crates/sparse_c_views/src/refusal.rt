@@ -47,6 +47,10 @@ pub enum Refusal {
     NonSquare,
     /// The bytes of a text are not UTF-8.
     Unreadable,
+    /// A handle has no matrix.
+    EmptyHandle,
+    /// The shapes of the matrices behind handles do not fit.
+    ShapeMismatch,
 }
 
 impl Refusal {
@@ -71,6 +75,8 @@ impl Refusal {
             Refusal::NotLowerTriangle => 14,
             Refusal::NonSquare => 15,
             Refusal::Unreadable => 16,
+            Refusal::EmptyHandle => 17,
+            Refusal::ShapeMismatch => 18,
         }
     }
 

@@ -1,0 +1,187 @@
+"""Compares chains of operations over `Exact` with plain matrices, and tries its refusals. Run by bindings/test."""
+import gc
+import os
+import random
+import sys
+import threading
+import weakref
+
+import numpy as np
+import scipy.sparse as sp
+
+here = os.path.dirname(os.path.abspath(__file__))
+sys.path.insert(0, here)
+import nalgebra_sparse as ns  # noqa: E402
+from nalgebra_sparse import Exact, _exact  # noqa: E402
+
+CASES = 1000
+MASK = 2**64 - 1
+chance = random.Random(5)
+
+
+def wrapped(value):
+    """Returns the integer of 64 bits with a sign that a number means."""
+    value &= MASK
+    return value - 2**64 if value >= 2**63 else value
+
+
+class Plain:
+    """A matrix modulo 2^64 as a dictionary of places."""
+
+    def __init__(self, shape, entries):
+        self.shape, self.entries = shape, {at: wrapped(value) for at, value in entries.items()}
+
+    def multiple(self, factor):
+        return Plain(self.shape, {at: factor * value for at, value in self.entries.items()})
+
+    def plus(self, other):
+        entries = dict(self.entries)
+        for at, value in other.entries.items():
+            entries[at] = entries.get(at, 0) + value
+        return Plain(self.shape, entries)
+
+    def transposed(self):
+        return Plain(self.shape[::-1], {(j, i): value for (i, j), value in self.entries.items()})
+
+    def times(self, other):
+        entries = {}
+        for (i, k), x in self.entries.items():
+            for (l, j), y in other.entries.items():
+                if k == l:
+                    entries[i, j] = entries.get((i, j), 0) + x * y
+        return Plain((self.shape[0], other.shape[1]), entries)
+
+
+def read(matrix):
+    """Returns the plain matrix of an `Exact`."""
+    assert isinstance(matrix, Exact)
+    of = matrix.to_scipy()
+    assert type(of) is sp.csr_array and of.shape == matrix.shape and of.nnz == matrix.nnz
+    coo = of.tocoo()
+    return Plain(matrix.shape, {(int(i), int(j)): int(v) for i, j, v in zip(coo.row, coo.col, coo.data)})
+
+
+def a_value():
+    return chance.choice([chance.randrange(-4, 5), chance.randrange(-(2**63), 2**63)])
+
+
+def a_pair(size):
+    """Returns a random square matrix in both forms."""
+    count = chance.randrange(3 * size + 1) if size else 0
+    triplets = [(chance.randrange(size), chance.randrange(size), a_value()) for _ in range(count)]
+    i, j, values = (np.array([t[k] for t in triplets], np.int64) for k in range(3))
+    plain = Plain((size, size), {})
+    for row, col, value in triplets:
+        plain = plain.plus(Plain((size, size), {(row, col): value}))
+    if chance.randrange(2):
+        return Exact.from_triplets((size, size), i, j, values), plain
+    form = chance.choice([ns.assemble_csr, ns.assemble_csc])
+    return Exact.from_scipy(form((size, size), i, j, values)), plain
+
+
+def step(a, b):
+    """Returns the result of a random operation of two pairs."""
+    factor, other = a_value(), a_value()
+    return chance.choice(
+        [
+            lambda: (a[0] + b[0], a[1].plus(b[1])),
+            lambda: (a[0] - b[0], a[1].plus(b[1].multiple(-1))),
+            lambda: (a[0] @ b[0], a[1].times(b[1])),
+            lambda: (a[0].T, a[1].transposed()),
+            lambda: (factor * a[0], a[1].multiple(factor)),
+            lambda: (a[0] * np.int64(factor), a[1].multiple(factor)),
+            lambda: (-a[0], a[1].multiple(-1)),
+            lambda: (a[0].add_scaled(factor, b[0], other), a[1].multiple(factor).plus(b[1].multiple(other))),
+        ]
+    )()
+
+
+def check_chains():
+    for _ in range(CASES):
+        size = chance.randrange(6)
+        pairs = [a_pair(size) for _ in range(3)]
+        for _ in range(4):
+            # An operand may be both operands.
+            pairs.append(step(chance.choice(pairs), chance.choice(pairs)))
+        got, want = read(pairs[-1][0]), pairs[-1][1]
+        assert got.shape == want.shape and got.entries == want.entries
+
+
+def check_solve():
+    for _ in range(200):
+        size = chance.randrange(1, 5)
+        dense = np.array([[chance.randrange(-3, 4) for _ in range(size)] for _ in range(size)])
+        symmetric = np.triu(dense, 1) + np.triu(dense, 1).T + np.eye(size, dtype=np.int64)
+        matrix = Exact.from_scipy(sp.csr_array(symmetric))
+        b = np.array([a_value() for _ in range(size)])
+        try:
+            x = matrix.solve(b)
+        except ns.Singular:
+            continue
+        with np.errstate(over="ignore"):
+            assert np.array_equal(symmetric @ x, b)
+
+
+def refused(error, call):
+    try:
+        call()
+    except error:
+        return
+    raise AssertionError(f"no {error.__name__}")
+
+
+def check_refusals():
+    wide = Exact.from_scipy(sp.csr_matrix(np.array([[1, 2, 3]])))
+    for call in (lambda: wide + wide.T, lambda: wide - wide.T, lambda: wide @ wide, lambda: wide.add_scaled(1, wide.T, 1)):
+        refused(ns.Error, call)
+    for call in (lambda: wide + 1, lambda: wide * 1.5, lambda: wide * True, lambda: wide @ np.ones(3), lambda: wide - sp.eye(3), Exact):
+        refused(TypeError, call)
+    refused(ns.Error, lambda: wide * 2**63)
+    refused(TypeError, lambda: Exact.from_scipy(np.eye(2)))
+    refused(ns.IndexOutOfBounds, lambda: Exact.from_triplets((1, 1), np.array([1]), np.array([0]), np.array([5])))
+    broken = sp.csr_matrix((1, 2), dtype=np.int64)
+    broken.indptr = np.array([0, 1])
+    refused(ns.InvalidStructure, lambda: Exact.from_scipy(broken))
+    assert repr(wide.T) == "<Exact: 3 by 1 with 3 places>"
+
+
+def check_memory():
+    """A matrix is freed with its object, and what a refused call made is too."""
+    row = np.arange(10**6)
+    for _ in range(200):
+        # 24 MB each: the program would end if they were not freed.
+        matrix = Exact.from_triplets((1, 10**6), np.zeros(10**6, np.int64), row, row)
+    seen = weakref.ref(matrix)
+    del matrix
+    gc.collect()
+    assert seen() is None
+    peak = max(int(line.split()[1]) for line in open("/proc/self/status", encoding="ascii") if line.startswith("VmHWM"))
+    assert peak < 1_500_000, peak
+
+
+def check_threads():
+    """Threads may use one matrix at once."""
+    matrix = a_pair(5)[0]
+    want = read(matrix @ matrix.T).entries
+    wrong = []
+
+    def work():
+        for _ in range(300):
+            if read(matrix @ matrix.T).entries != want:
+                wrong.append(1)
+
+    threads = [threading.Thread(target=work) for _ in range(4)]
+    for thread in threads:
+        thread.start()
+    for thread in threads:
+        thread.join()
+    assert not wrong
+
+
+check_chains()
+check_solve()
+check_refusals()
+check_memory()
+check_threads()
+assert _exact.Exact is ns.Exact
+print(f"python: {CASES} chains over Exact equal plain matrices, each refusal is an exception, and matrices are freed")

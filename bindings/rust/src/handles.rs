@@ -1,0 +1,221 @@
+//! Matrices that the library owns.
+
+use std::cell::UnsafeCell;
+use std::fmt;
+use std::ptr;
+
+use crate::calls::Handle;
+use crate::error::answer;
+use crate::{calls, Arrays, Error, Rows};
+
+/// A matrix over the integers modulo 2^64 that the library owns.
+///
+/// Its arrays are tested once, when it is made, and no operation copies its operands. Clones share the arrays. It may go to
+/// another thread; threads that use a matrix at once have a clone each.
+///
+/// ```
+/// use nalgebra_sparse_exact::Matrix;
+///
+/// let a = Matrix::from_triplets((2, 2), &[0, 0, 1], &[0, 1, 1], &[1, 2, 3])?;
+/// let b = a.multiply(&a)?.add_scaled(2, -1, &a.transpose()?)?;
+/// assert_eq!(b.to_arrays()?.into_parts(), (vec![0, 2, 4], vec![0, 1, 0, 1], vec![1, 16, -2, 15]));
+/// # Ok::<(), nalgebra_sparse_exact::Error>(())
+/// ```
+pub struct Matrix {
+    // A call takes the pointer out while it runs, and puts it back. It is never null outside this file.
+    handle: UnsafeCell<Handle>,
+}
+
+// SAFETY: `Send` is proved of the handle (crates/sparse_handles). `Matrix` is not `Sync`, since a call writes its operand.
+unsafe impl Send for Matrix {}
+
+impl Matrix {
+    /// Makes a matrix by a call, which is given an empty handle to fill.
+    fn made(call: impl FnOnce(*mut Handle) -> i32) -> Result<Matrix, Error> {
+        let matrix = Matrix { handle: UnsafeCell::new(Handle { matrix: ptr::null_mut() }) };
+        answer(call(matrix.handle.get()))?;
+        Ok(matrix)
+    }
+
+    /// Makes a matrix by a call with two operands. A second operand that is the first one is cloned: a call takes different
+    /// handles.
+    fn combined(&self, other: &Matrix, call: impl FnOnce(*mut Handle, *mut Handle, *mut Handle) -> i32) -> Result<Matrix, Error> {
+        if ptr::eq(self, other) {
+            let other = other.try_clone()?;
+            return Matrix::made(|out| call(self.handle.get(), other.handle.get(), out));
+        }
+        Matrix::made(|out| call(self.handle.get(), other.handle.get(), out))
+    }
+
+    /// Returns the matrix with these arrays, which are copied.
+    ///
+    /// # Errors
+    ///
+    /// [`Error::OutOfMemory`]; [`Error::InvalidStructure`], [`Error::IndexOutOfBounds`] or [`Error::DuplicateEntry`] for the
+    /// first fault of the arrays.
+    pub fn from_rows(a: Rows<'_>) -> Result<Matrix, Error> {
+        // SAFETY: each pointer is that of a slice, with the slice's length behind it, and the handle is empty.
+        Matrix::made(|out| unsafe {
+            calls::nalgebra_sparse_matrix_from_rows(
+                a.rows, a.cols, a.offsets.as_ptr(), a.offsets.len(), a.indices.as_ptr(), a.indices.len(),
+                a.values.as_ptr(), a.values.len(), out,
+            )
+        })
+    }
+
+    /// Returns the matrix of triplets. Values at the same place are added, and a place is kept where its sum is 0.
+    ///
+    /// # Errors
+    ///
+    /// [`Error::OutOfMemory`]; [`Error::InvalidStructure`] if the lists have different lengths; [`Error::IndexOutOfBounds`].
+    pub fn from_triplets((rows, cols): (usize, usize), i: &[usize], j: &[usize], values: &[i64]) -> Result<Matrix, Error> {
+        // SAFETY: each pointer is that of a slice, with the slice's length behind it, and the handle is empty.
+        Matrix::made(|out| unsafe {
+            calls::nalgebra_sparse_matrix_from_triplets(
+                rows, cols, i.as_ptr(), i.len(), j.as_ptr(), j.len(), values.as_ptr(), values.len(), out,
+            )
+        })
+    }
+
+    /// Returns the numbers of rows, columns and places.
+    fn sizes(&self) -> Result<(usize, usize, usize), Error> {
+        let (mut rows, mut cols, mut places) = (0, 0, 0);
+        // SAFETY: the handle is as a call left it, and no other call uses it, since `Matrix` is not `Sync`.
+        answer(unsafe { calls::nalgebra_sparse_matrix_sizes(self.handle.get(), &mut rows, &mut cols, &mut places) })?;
+        Ok((rows, cols, places))
+    }
+
+    /// Returns the number of rows and the number of columns.
+    ///
+    /// # Errors
+    ///
+    /// [`Error::OutOfMemory`], where 2^63 clones share the matrix.
+    pub fn shape(&self) -> Result<(usize, usize), Error> {
+        let (rows, cols, _) = self.sizes()?;
+        Ok((rows, cols))
+    }
+
+    /// Returns the number of places, those with the value 0 too.
+    ///
+    /// # Errors
+    ///
+    /// [`Error::OutOfMemory`], where 2^63 clones share the matrix.
+    pub fn nnz(&self) -> Result<usize, Error> {
+        Ok(self.sizes()?.2)
+    }
+
+    /// Returns a copy of the arrays.
+    ///
+    /// # Errors
+    ///
+    /// [`Error::OutOfMemory`].
+    pub fn to_arrays(&self) -> Result<Arrays, Error> {
+        let (rows, cols, places) = self.sizes()?;
+        let parts = crate::room::into_parts(rows, places, |o, x, v, count| {
+            // SAFETY: each pointer is that of a slice, with the slice's length behind it. The handle is as a call left it.
+            unsafe {
+                calls::nalgebra_sparse_matrix_read(
+                    self.handle.get(), o.as_mut_ptr(), o.len(), x.as_mut_ptr(), x.len(), v.as_mut_ptr(), v.len(), count,
+                )
+            }
+        })?;
+        Ok(Arrays::new((rows, cols), parts))
+    }
+
+    /// Returns the transpose.
+    ///
+    /// # Errors
+    ///
+    /// [`Error::OutOfMemory`].
+    pub fn transpose(&self) -> Result<Matrix, Error> {
+        // SAFETY: the handles are different, and no other call uses them.
+        Matrix::made(|out| unsafe { calls::nalgebra_sparse_matrix_transpose(self.handle.get(), out) })
+    }
+
+    /// Returns the product of a number and the matrix, on its places.
+    ///
+    /// # Errors
+    ///
+    /// [`Error::OutOfMemory`].
+    pub fn scale(&self, factor: i64) -> Result<Matrix, Error> {
+        // SAFETY: the handles are different, and no other call uses them.
+        Matrix::made(|out| unsafe { calls::nalgebra_sparse_matrix_scale(factor, self.handle.get(), out) })
+    }
+
+    /// Returns the sum `self + b`, on the union of the places.
+    ///
+    /// # Errors
+    ///
+    /// [`Error::OutOfMemory`]; [`Error::ShapeMismatch`] if the shapes differ.
+    pub fn add(&self, b: &Matrix) -> Result<Matrix, Error> {
+        // SAFETY: the handles are different, and no other call uses them.
+        self.combined(b, |a, b, out| unsafe { calls::nalgebra_sparse_matrix_add(a, b, out) })
+    }
+
+    /// Returns the difference `self - b`, on the union of the places.
+    ///
+    /// # Errors
+    ///
+    /// [`Error::OutOfMemory`]; [`Error::ShapeMismatch`] if the shapes differ.
+    pub fn subtract(&self, b: &Matrix) -> Result<Matrix, Error> {
+        // SAFETY: the handles are different, and no other call uses them.
+        self.combined(b, |a, b, out| unsafe { calls::nalgebra_sparse_matrix_subtract(a, b, out) })
+    }
+
+    /// Returns the sum `alpha self + beta b`, on the union of the places.
+    ///
+    /// # Errors
+    ///
+    /// [`Error::OutOfMemory`]; [`Error::ShapeMismatch`] if the shapes differ.
+    pub fn add_scaled(&self, alpha: i64, beta: i64, b: &Matrix) -> Result<Matrix, Error> {
+        // SAFETY: the handles are different, and no other call uses them.
+        self.combined(b, |a, b, out| unsafe { calls::nalgebra_sparse_matrix_add_scaled(alpha, a, beta, b, out) })
+    }
+
+    /// Returns the product `self * b`, with a place wherever the operands share a middle index.
+    ///
+    /// # Errors
+    ///
+    /// [`Error::OutOfMemory`]; [`Error::ShapeMismatch`] if `self` has not as many columns as `b` has rows.
+    pub fn multiply(&self, b: &Matrix) -> Result<Matrix, Error> {
+        // SAFETY: the handles are different, and no other call uses them.
+        self.combined(b, |a, b, out| unsafe { calls::nalgebra_sparse_matrix_multiply(a, b, out) })
+    }
+
+    /// Returns a second handle of the matrix. No array is copied.
+    ///
+    /// # Errors
+    ///
+    /// [`Error::OutOfMemory`].
+    pub fn try_clone(&self) -> Result<Matrix, Error> {
+        // SAFETY: the handles are different, and no other call uses them.
+        Matrix::made(|out| unsafe { calls::nalgebra_sparse_matrix_clone(self.handle.get(), out) })
+    }
+}
+
+/// Makes a second handle of the matrix. No array is copied.
+///
+/// # Panics
+///
+/// Panics if an allocation fails, where [`Matrix::try_clone`] returns an error.
+impl Clone for Matrix {
+    fn clone(&self) -> Self {
+        self.try_clone().expect("an allocation failed")
+    }
+}
+
+impl Drop for Matrix {
+    fn drop(&mut self) {
+        // SAFETY: the handle is empty or as a call left it, and it is not used again.
+        unsafe { calls::nalgebra_sparse_matrix_free(self.handle.get()) }
+    }
+}
+
+impl fmt::Debug for Matrix {
+    fn fmt(&self, f: &mut fmt::Formatter<'_>) -> fmt::Result {
+        match self.sizes() {
+            Ok((rows, cols, places)) => write!(f, "Matrix {{ rows: {rows}, cols: {cols}, places: {places} }}"),
+            Err(error) => write!(f, "Matrix {{ {error} }}"),
+        }
+    }
+}

@@ -1,0 +1,128 @@
+//! Transposes, sums and products of matrices behind handles.
+
+ghost use Rattle.std.specs.Prelude.{◌≡◌};
+ghost use Rattle.sparse_algebra.specs.Integers.{element_of};
+ghost use Rattle.sparse_algebra.specs.Plain.{plain_difference, plain_product, plain_scaled, plain_sum};
+ghost use Rattle.sparse_algebra.specs.Plain.{plain_transpose};
+ghost use Rattle.sparse_c_views.specs.Arrays.{ring64};
+ghost use Rattle.sparse_handles.specs.Behind.{plain_behind, Answers, IsEmpty, IsUnlike, IsUnmatched};
+ghost use Rattle.sparse_handles.specs.Behind.{Holds};
+
+use sparse_handles::handle::MatrixHandle;
+use sparse_handles::operations;
+use std::alloc::Global;
+
+/// Puts the transpose of a matrix behind a handle.
+#[unsafe(no_mangle)]
+pub extern "C" fn nalgebra_sparse_matrix_transpose(
+    alloc: Global,
+    a: &mut MatrixHandle,
+    out: &mut MatrixHandle,
+) -> i32
+    ensures kept { a.new.value ≡ a.old.value }
+    ensures answer { Answers result (IsEmpty a.old.value) (out.new.value ≡ out.old.value)
+        (Holds out.new.value (plain_transpose ring64 (plain_behind a.old.value))) }
+{
+    match operations::transpose(alloc, a, out) {
+        Ok(()) => 0,
+        Err(refusal) => refusal.status(),
+    }
+}
+
+/// Puts the product of a number and a matrix behind a handle.
+#[unsafe(no_mangle)]
+pub extern "C" fn nalgebra_sparse_matrix_scale(
+    alloc: Global,
+    factor: i64,
+    a: &mut MatrixHandle,
+    out: &mut MatrixHandle,
+) -> i32
+    ensures kept { a.new.value ≡ a.old.value }
+    ensures answer { Answers result (IsEmpty a.old.value) (out.new.value ≡ out.old.value)
+        (Holds out.new.value
+        (plain_scaled ring64 (element_of ring64 factor) (plain_behind a.old.value))) }
+{
+    match operations::scale(alloc, factor, a, out) {
+        Ok(()) => 0,
+        Err(refusal) => refusal.status(),
+    }
+}
+
+/// Puts the sum of two matrices behind a handle.
+#[unsafe(no_mangle)]
+pub extern "C" fn nalgebra_sparse_matrix_add(
+    alloc: Global,
+    a: &mut MatrixHandle,
+    b: &mut MatrixHandle,
+    out: &mut MatrixHandle,
+) -> i32
+    ensures kept { (a.new.value ≡ a.old.value) × (b.new.value ≡ b.old.value) }
+    ensures answer { Answers result (IsUnlike a.old.value b.old.value)
+        (out.new.value ≡ out.old.value) (Holds out.new.value
+        (plain_sum ring64 (plain_behind a.old.value) (plain_behind b.old.value))) }
+{
+    match operations::add(alloc, a, b, out) {
+        Ok(()) => 0,
+        Err(refusal) => refusal.status(),
+    }
+}
+
+/// Puts the difference of two matrices behind a handle.
+#[unsafe(no_mangle)]
+pub extern "C" fn nalgebra_sparse_matrix_subtract(
+    alloc: Global,
+    a: &mut MatrixHandle,
+    b: &mut MatrixHandle,
+    out: &mut MatrixHandle,
+) -> i32
+    ensures kept { (a.new.value ≡ a.old.value) × (b.new.value ≡ b.old.value) }
+    ensures answer { Answers result (IsUnlike a.old.value b.old.value)
+        (out.new.value ≡ out.old.value) (Holds out.new.value
+        (plain_difference ring64 (plain_behind a.old.value) (plain_behind b.old.value))) }
+{
+    match operations::subtract(alloc, a, b, out) {
+        Ok(()) => 0,
+        Err(refusal) => refusal.status(),
+    }
+}
+
+/// Puts the sum of multiples of two matrices behind a handle.
+#[unsafe(no_mangle)]
+pub extern "C" fn nalgebra_sparse_matrix_add_scaled(
+    alloc: Global,
+    alpha: i64,
+    a: &mut MatrixHandle,
+    beta: i64,
+    b: &mut MatrixHandle,
+    out: &mut MatrixHandle,
+) -> i32
+    ensures kept { (a.new.value ≡ a.old.value) × (b.new.value ≡ b.old.value) }
+    ensures answer { Answers result (IsUnlike a.old.value b.old.value)
+        (out.new.value ≡ out.old.value) (Holds out.new.value
+        (plain_sum ring64 (plain_scaled ring64 (element_of ring64 alpha) (plain_behind a.old.value))
+        (plain_scaled ring64 (element_of ring64 beta) (plain_behind b.old.value)))) }
+{
+    match operations::add_scaled(alloc, alpha, a, beta, b, out) {
+        Ok(()) => 0,
+        Err(refusal) => refusal.status(),
+    }
+}
+
+/// Puts the product of two matrices behind a handle.
+#[unsafe(no_mangle)]
+pub extern "C" fn nalgebra_sparse_matrix_multiply(
+    alloc: Global,
+    a: &mut MatrixHandle,
+    b: &mut MatrixHandle,
+    out: &mut MatrixHandle,
+) -> i32
+    ensures kept { (a.new.value ≡ a.old.value) × (b.new.value ≡ b.old.value) }
+    ensures answer { Answers result (IsUnmatched a.old.value b.old.value)
+        (out.new.value ≡ out.old.value) (Holds out.new.value
+        (plain_product ring64 (plain_behind a.old.value) (plain_behind b.old.value))) }
+{
+    match operations::multiply(alloc, a, b, out) {
+        Ok(()) => 0,
+        Err(refusal) => refusal.status(),
+    }
+}

@@ -1,0 +1,137 @@
+//! Matrices behind handles: made, read, copied and freed.
+
+ghost use Rattle.std.specs.Prelude.{◌≡◌, None};
+ghost use Rattle.sparse_cs.specs.Compressed.{arrays_of};
+ghost use Rattle.sparse_c_views.specs.Arrays.{places_of, plain_by_rows, plain_of_lists};
+ghost use Rattle.sparse_c_views.specs.Arrays.{ring64, room_of, HoldsRows};
+ghost use Rattle.sparse_c_views.specs.Refused.{IsFaultOf, IsFaultOfList};
+ghost use Rattle.sparse_c_views.specs.Rests.{KeepsRest};
+ghost use Rattle.sparse_handles.specs.Behind.{plain_behind, Answers, Holds, IsEmpty, IsUnwritten};
+
+use crate::arguments::lanes;
+use sparse_c_views::lanes::Lanes;
+use sparse_handles::handle::MatrixHandle;
+use sparse_handles::making::{put_rows, put_triplets};
+use sparse_handles::operations::share;
+use sparse_handles::reading::{read, sizes};
+use sparse_handles::sharing::clear;
+use std::alloc::Global;
+
+/// Puts the matrix with these arrays by rows behind a handle.
+#[unsafe(no_mangle)]
+pub extern "C" fn nalgebra_sparse_matrix_from_rows(
+    alloc: Global,
+    rows: usize,
+    cols: usize,
+    offsets: &[usize],
+    indices: &[usize],
+    values: &[i64],
+    out: &mut MatrixHandle,
+) -> i32
+    ensures { let a = arrays_of rows cols offsets.now indices.now values.now in
+        Answers result (IsFaultOf a) (out.new.value ≡ out.old.value)
+        (Holds out.new.value (plain_by_rows ring64 a)) }
+{
+    match put_rows(alloc, lanes!(rows, cols, offsets, indices, values), out) {
+        Ok(()) => 0,
+        Err(refusal) => refusal.status(),
+    }
+}
+
+/// Puts the matrix of triplets behind a handle.
+#[unsafe(no_mangle)]
+pub extern "C" fn nalgebra_sparse_matrix_from_triplets(
+    alloc: Global,
+    rows: usize,
+    cols: usize,
+    row_indices: &[usize],
+    col_indices: &[usize],
+    values: &[i64],
+    out: &mut MatrixHandle,
+) -> i32
+    ensures { Answers result
+        (IsFaultOfList rows cols row_indices.now col_indices.now values.now)
+        (out.new.value ≡ out.old.value) (Holds out.new.value
+        (plain_of_lists ring64 rows cols row_indices.now col_indices.now values.now)) }
+{
+    match put_triplets(alloc, (rows, cols), row_indices, col_indices, values, out) {
+        Ok(()) => 0,
+        Err(refusal) => refusal.status(),
+    }
+}
+
+/// Writes the numbers of rows, columns and places of a matrix behind a handle.
+#[unsafe(no_mangle)]
+pub extern "C" fn nalgebra_sparse_matrix_sizes(
+    alloc: Global,
+    a: &mut MatrixHandle,
+    out_rows: &mut usize,
+    out_cols: &mut usize,
+    out_places: &mut usize,
+) -> i32
+    ensures kept { a.new.value ≡ a.old.value }
+    ensures answer { let m = plain_behind a.old.value in
+        Answers result (IsEmpty a.old.value)
+        ((out_rows.new ≡ out_rows.old) × (out_cols.new ≡ out_cols.old)
+        × (out_places.new ≡ out_places.old))
+        ((out_rows.new ≡ m.rows) × (out_cols.new ≡ m.cols) × (out_places.new ≡ places_of m)) }
+{
+    match sizes(alloc, a) {
+        Ok((rows, cols, places)) => {
+            *out_rows = rows;
+            *out_cols = cols;
+            *out_places = places;
+            0
+        }
+        Err(refusal) => refusal.status(),
+    }
+}
+
+/// Writes the matrix behind a handle into arrays by rows.
+#[unsafe(no_mangle)]
+pub extern "C" fn nalgebra_sparse_matrix_read(
+    alloc: Global,
+    a: &mut MatrixHandle,
+    out_offsets: &mut [usize],
+    out_indices: &mut [usize],
+    out_values: &mut [i64],
+    out_places: &mut usize,
+) -> i32
+    ensures kept { a.new.value ≡ a.old.value }
+    ensures answer { let before =
+        room_of out_offsets.old out_indices.old out_values.old out_places.old in
+        let after = room_of out_offsets.new out_indices.new out_values.new out_places.new in
+        Answers result (IsUnwritten a.old.value before) (after ≡ before)
+        (HoldsRows (plain_behind a.old.value) after
+        × KeepsRest (plain_behind a.old.value).rows before after) }
+{
+    match read(alloc, a, out_offsets, out_indices, out_values, out_places) {
+        Ok(()) => 0,
+        Err(refusal) => refusal.status(),
+    }
+}
+
+/// Makes a second handle of a matrix, which both share.
+#[unsafe(no_mangle)]
+pub extern "C" fn nalgebra_sparse_matrix_clone(
+    alloc: Global,
+    a: &mut MatrixHandle,
+    out: &mut MatrixHandle,
+) -> i32
+    ensures kept { a.new.value ≡ a.old.value }
+    ensures answer { Answers result (IsEmpty a.old.value) (out.new.value ≡ out.old.value)
+        (Holds out.new.value (plain_behind a.old.value)) }
+{
+    match share(alloc, a, out) {
+        Ok(()) => 0,
+        Err(refusal) => refusal.status(),
+    }
+}
+
+/// Drops the matrix behind a handle, which has none from then on.
+#[unsafe(no_mangle)]
+pub extern "C" fn nalgebra_sparse_matrix_free(alloc: Global, a: &mut MatrixHandle)
+    ensures { a.new.value ≡ None }
+{
+    clear(alloc, a);
+}

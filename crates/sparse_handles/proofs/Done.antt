@@ -1,0 +1,24 @@
+-- What was put behind a handle is there.
+--     put_done        a matrix that was put is behind the handle
+--     behind          a matrix that is shared with a handle has the plain matrix behind it
+use Rattle.std.proofs.Common.{◌≡◌, ap, sym, ◌∙◌}
+use Rattle.std.specs.Prelude.{Option, Some, Ok, Err, OnOk}
+use Rattle.core.specs.declared.result.Result.{Result}
+use Rattle.sparse_algebra.specs.Plain.{Plain}
+use Rattle.sparse_algebra.specs.WrappingValues.{w64_value}
+use Rattle.sparse_algebra.specs.declared.scalar.wrapping.W64.{W64}
+use Rattle.sparse_cs.specs.Compressed.{Compressed}
+use Rattle.sparse_cs.specs.PlainOfLanes.{plain_of_rows}
+use Rattle.sparse_c_views.specs.Arrays.{ring64}
+use Rattle.sparse_c_views.specs.declared.refusal.Refusal.{Refusal}
+use Rattle.sparse_handles.specs.Behind.{plain_behind, Holds}
+
+pub put_done : (answer : Result (Unit {0}) Refusal) (handle : Option (Compressed W64))
+    (m : Compressed W64) (a : Plain ring64) → OnOk answer (handle ≡ Some m)
+    → plain_of_rows ring64 w64_value m ≡ a → OnOk answer (Holds handle a)
+put_done (Ok u) handle m a put same = (m, put, same)
+put_done (Err e) handle m a put same = tt
+
+pub behind : (handle : Option (Compressed W64)) (m x : Compressed W64) → handle ≡ Some m → x ≡ m
+    → plain_of_rows ring64 w64_value x ≡ plain_behind handle
+behind handle m x is same = ap (plain_of_rows ring64 w64_value) same ∙ sym (ap plain_behind is)

@@ -1,0 +1,65 @@
+-- A box on the heap, at a call. Assumes `Logic`.
+--     passed_as               the row of a type as a call of a generic function has it
+--     heap_row, heap_laws     those of the allocator
+--     no_drop     the table of the drop of the allocator, which needs none
+--     drop_goes               that drop does nothing
+--     Boxed       the row of the box.        boxed     the same with its laws
+--     static      a lifetime is within that of the allocator, which has no references
+use mathlib.Core.List.{[], ◌∷◌, not-mem-nil}
+use mathlib.Core.Path.{refl}
+use mir.Raw.{raw}
+use mir.Syntax.{Dict, impl, tcons, tnil, dnil}
+use base.Fml.{Lft, ftrue}
+use seplogic.Ra.Ura.{Ura}
+use prog.Model.{Model}
+use prog.Wired.{Wired}
+use types.Logic.{Logic}
+use contract.BorrowLft.{◌⊑◌}
+use contract.Running.{Running}
+use denote.Param.Glue.{Met}
+use denote.Param.NoDrop.{glues}
+use Rattle.sparse_handles.proofs.Destruct++none.drop.Code.{code as drop_code}
+use denote.RattleType.{RattleType}
+use denote.Exit.{no}
+use denote.Param.{layout, arg}
+use denote.Param.Laws.{Laws, arg_laws}
+use Rattle.core.proofs.alloc.Calls.{Al}
+use Rattle.std_alloc.specs.contracts.boxed.Box as Box
+use Rattle.std_alloc.proofs.boxed.Box.TheLaws.{the_row_laws as box_laws}
+use Rattle.std_heap.proofs.Global.TheLaws.{the_row_laws as global_laws}
+use Rattle.std_heap.specs.contracts.Global.{the_row as global_row}
+use Rattle.std_heap.specs.contracts.GlobalAllocator.TheImpl.{ghosts, dict}
+
+abbrev pub passed_as : RattleType → RattleType
+passed_as R = arg (raw (layout R)) no R
+
+abbrev pub heap_row : RattleType
+heap_row = passed_as global_row
+
+abbrev pub heap_laws : Laws heap_row
+heap_laws = arg_laws (raw (layout global_row)) no global_row global_laws refl
+
+abbrev pub no_drop : Dict
+no_drop = impl ("sparse_handles::Destruct++none::drop" ∷ []) (tcons (layout heap_row) tnil) dnil
+
+pub drop_goes : {M : Type 1} (𝓤 : Ura M) (𝓛 : Logic 𝓤) (𝓜 : Model 𝓤 𝓛.H)
+    (𝓡 : Running 𝓤 𝓛.H 𝓜) → Wired 𝓡.env drop_code → Met 𝓛 𝓜 𝓡 𝓡.env heap_row no_drop
+unfolding Rattle.sparse_handles.proofs.Destruct++none.drop.Code.code
+drop_goes {M} 𝓤 𝓛 𝓜 𝓡 wired =
+    glues "sparse_handles::Destruct++none::drop" 𝓡.env wired heap_row heap_laws M 𝓤 𝓛 𝓜 𝓡
+
+pub static : (κ : Lft) → κ ⊑ heap_row.lives
+static κ a m = absurd (not-mem-nil m)
+
+module _ (R : RattleType) where
+  abbrev pub Boxed : RattleType
+  Boxed = Box.the_row R global_row ghosts
+
+  abbrev pub boxed : Laws R → Al
+  boxed L = record {
+    row = Boxed;
+    laws = box_laws R global_row ghosts L global_laws;
+    g = record { dealloc_token = λ a σ p. ftrue };
+    d = dict;
+    drops = no_drop;
+  }

@@ -1,0 +1,97 @@
+//! The handle, and the matrix behind it.
+
+ghost use Rattle.std.specs.Prelude.{◌≡◌, Option, None, Some};
+ghost use Rattle.sparse_algebra.specs.declared.scalar.wrapping.W64.{W64 as W64Value};
+ghost use Rattle.sparse_cs.specs.Compressed.{Compressed};
+ghost use Rattle.sparse_handles.specs.Owned.{held_code, in_block, owns_at, value_of};
+
+use sparse_algebra::scalar::W64;
+use sparse_forms::csr::CsrMatrix;
+use std::alloc::Global;
+use std::marker::{Model, Send};
+use std::ptr;
+use std::sync::Arc;
+
+/// A matrix by rows over the integers modulo 2^64, which other handles may share.
+#[derive(Drop)]
+pub struct SharedMatrix {
+    pub(crate) matrix: Arc<CsrMatrix<W64>>,
+}
+
+impl Model for SharedMatrix {
+    ghost use Rattle.sparse_algebra.specs.contracts.scalar.wrapping.W64.{the_row as w64_row};
+    ghost use Rattle.sparse_algebra.specs.declared.scalar.wrapping.W64.{W64 as W64Value};
+    ghost use Rattle.sparse_cs.specs.Compressed.{Compressed, compressed_code};
+    ghost use Rattle.std.specs.Arc.{arc_value};
+
+    ghost Value = { Compressed W64Value };
+
+    ghost coded = { compressed_code w64_row.coded };
+
+    ghost view = { λ s. arc_value s.matrix };
+}
+
+/// The address of a value in a block of the heap, with the right to free the block.
+pub(crate) struct Block<T> {
+    at: *mut T,
+    pub ghost value: { T },
+}
+
+impl<T> Model for Block<T> {
+    ghost also_owns = { λ b. in_block T.row b.at b.value };
+}
+
+impl<T: Drop> Block<T> {
+    /// Returns the block of a box.
+    pub(crate) fn of(boxed: Box<T>) -> Block<T>
+        ensures { result.value ≡ boxed.value }
+    {
+        let at = Box::into_raw(boxed);
+        Block { at }
+    }
+}
+
+/// A matrix that the library owns, or none: what C holds as one pointer, which is null if there is none.
+#[repr(C)]
+pub struct MatrixHandle {
+    at: *mut (),
+    pub ghost value: { Option (Compressed W64Value) } by { held_code },
+}
+
+impl Model for MatrixHandle {
+    ghost also_owns = { λ h. owns_at h.at h.value };
+}
+
+// A shared matrix may go to another thread, and so may its block.
+unsafe impl Send for MatrixHandle {}
+
+impl MatrixHandle {
+    /// Returns a handle with no matrix.
+    pub(crate) fn empty() -> MatrixHandle
+        ensures { result.value ≡ None }
+    {
+        MatrixHandle {
+            at: ptr::null_mut(),
+        }
+    }
+
+    /// Returns the handle of a matrix in a block.
+    pub(crate) fn of(block: Block<SharedMatrix>) -> MatrixHandle
+        ensures { result.value ≡ Some block.value }
+    {
+        let Block { at } = block;
+        MatrixHandle { at: at as *mut () }
+    }
+
+    /// Returns the box of the matrix, if there is one.
+    pub(crate) fn into_box(self, alloc: Global) -> Option<Box<SharedMatrix>>
+        ensures { value_of result ≡ self.value }
+    {
+        let MatrixHandle { at } = self;
+        if at.is_null() {
+            return None;
+        }
+        let boxed = unsafe { Box::from_raw(alloc, at as *mut SharedMatrix) };
+        Some(boxed)
+    }
+}

@@ -1,0 +1,57 @@
+//! Handles of matrices out of arrays from outside.
+
+ghost use Rattle.std.specs.Prelude.{◌≡◌, IfErr, OnOk, OnErr};
+ghost use Rattle.sparse_base.specs.Coo.{AreParts};
+ghost use Rattle.sparse_cs.specs.Compressed.{arrays_of, IsSound};
+ghost use Rattle.sparse_c_views.specs.Arrays.{plain_by_rows, plain_of_lists, ring64};
+ghost use Rattle.sparse_c_views.specs.Refused.{IsFaultOf, IsFaultOfList, IsMemoryOr};
+ghost use Rattle.sparse_handles.specs.Behind.{Holds};
+
+use crate::handle::MatrixHandle;
+use crate::sharing::put;
+use sparse_c_views::lanes::Lanes;
+use sparse_c_views::refusal::Refusal;
+use sparse_c_views::triplets::list_of;
+use sparse_convert::serial::convert_coo_csr;
+use std::alloc::Global;
+
+/// Puts the matrix with these arrays by rows behind `out`.
+///
+/// # Errors
+///
+/// Returns the first fault of the arrays. Otherwise fails only if an allocation fails. `out` is then unchanged.
+pub fn put_rows(alloc: Global, a: Lanes<'_>, out: &mut MatrixHandle) -> Result<(), Refusal>
+    ensures done { OnOk result (Holds out.new.value (plain_by_rows ring64 a.entry)) }
+    ensures sound { OnOk result (IsSound a.entry) }
+    ensures unchanged { OnErr result (out.new.value ≡ out.old.value) }
+    ensures fault { IfErr result (IsMemoryOr (IsFaultOf a.entry)) }
+{
+    let matrix = a.rows(alloc)?;
+    put(alloc, matrix, out)
+}
+
+/// Puts the matrix of triplets behind `out`. Values of triplets at the same place are added.
+///
+/// # Errors
+///
+/// Returns the first fault of the lists. Otherwise fails only if an allocation fails. `out` is then unchanged.
+pub fn put_triplets(
+    alloc: Global,
+    shape: (usize, usize),
+    row_indices: &[usize],
+    col_indices: &[usize],
+    values: &[i64],
+    out: &mut MatrixHandle,
+) -> Result<(), Refusal>
+    ensures done { OnOk result (Holds out.new.value (plain_of_lists ring64 shape.0 shape.1
+        row_indices.now col_indices.now values.now)) }
+    ensures sound { OnOk result
+        (AreParts shape.0 shape.1 row_indices.now col_indices.now values.now) }
+    ensures unchanged { OnErr result (out.new.value ≡ out.old.value) }
+    ensures fault { IfErr result (IsMemoryOr
+        (IsFaultOfList shape.0 shape.1 row_indices.now col_indices.now values.now)) }
+{
+    let list = list_of(alloc, shape.0, shape.1, row_indices, col_indices, values)?;
+    let matrix = convert_coo_csr(alloc, &list)?;
+    put(alloc, matrix, out)
+}

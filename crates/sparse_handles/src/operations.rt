@@ -1,0 +1,193 @@
+//! Transposes, sums and products of matrices behind handles.
+
+ghost use Rattle.std.specs.Prelude.{◌≡◌, IfErr, OnOk, OnErr};
+ghost use Rattle.sparse_algebra.specs.Integers.{element_of};
+ghost use Rattle.sparse_algebra.specs.Plain.{plain_difference, plain_product, plain_scaled, plain_sum, plain_transpose};
+ghost use Rattle.sparse_c_views.specs.Arrays.{ring64};
+ghost use Rattle.sparse_c_views.specs.Refused.{IsMemoryOr};
+ghost use Rattle.sparse_handles.specs.Behind.{plain_behind, Holds, IsEmpty, IsUnlike, IsUnmatched};
+
+use crate::handle::MatrixHandle;
+use crate::sharing::{put, put_shared, shared};
+use sparse_algebra::scalar::W64;
+use sparse_c_views::number::Number;
+use sparse_c_views::refusal::Refusal;
+use sparse_products::serial::mul_csr;
+use sparse_products::transposes::transposed_csr;
+use sparse_sums::{add_csr, add_scaled_csr, scale_csr, sub_csr};
+use std::alloc::Global;
+
+/// Puts the matrix behind `a` behind `out` too: both share it.
+///
+/// # Errors
+///
+/// Returns `EmptyHandle` if there is none. Otherwise fails only if an allocation fails. `out` is then unchanged.
+pub fn share(alloc: Global, a: &mut MatrixHandle, out: &mut MatrixHandle) -> Result<(), Refusal>
+    ensures kept { a.new.value ≡ a.old.value }
+    ensures done { OnOk result (Holds out.new.value (plain_behind a.old.value)) }
+    ensures unchanged { OnErr result (out.new.value ≡ out.old.value) }
+    ensures fault { IfErr result (IsMemoryOr (IsEmpty a.old.value)) }
+{
+    let matrix = shared(alloc, a)?;
+    put_shared(alloc, matrix, out)
+}
+
+/// Puts the transpose of the matrix behind `a` behind `out`.
+///
+/// # Errors
+///
+/// Returns `EmptyHandle` if there is none. Otherwise fails only if an allocation fails. `out` is then unchanged.
+pub fn transpose(alloc: Global, a: &mut MatrixHandle, out: &mut MatrixHandle) -> Result<(), Refusal>
+    ensures kept { a.new.value ≡ a.old.value }
+    ensures done { OnOk result
+        (Holds out.new.value (plain_transpose ring64 (plain_behind a.old.value))) }
+    ensures unchanged { OnErr result (out.new.value ≡ out.old.value) }
+    ensures fault { IfErr result (IsMemoryOr (IsEmpty a.old.value)) }
+{
+    let a = shared(alloc, a)?;
+    let transpose = transposed_csr(alloc, &a)?;
+    put(alloc, transpose, out)
+}
+
+/// Puts the product of a number and the matrix behind `a` behind `out`.
+///
+/// # Errors
+///
+/// Returns `EmptyHandle` if there is none. Otherwise fails only if an allocation fails. `out` is then unchanged.
+pub fn scale(
+    alloc: Global,
+    factor: i64,
+    a: &mut MatrixHandle,
+    out: &mut MatrixHandle,
+) -> Result<(), Refusal>
+    ensures kept { a.new.value ≡ a.old.value }
+    ensures done { OnOk result (Holds out.new.value
+        (plain_scaled ring64 (element_of ring64 factor) (plain_behind a.old.value))) }
+    ensures unchanged { OnErr result (out.new.value ≡ out.old.value) }
+    ensures fault { IfErr result (IsMemoryOr (IsEmpty a.old.value)) }
+{
+    let a = shared(alloc, a)?;
+    let multiple = scale_csr(alloc, &a, W64::from_number(factor))?;
+    put(alloc, multiple, out)
+}
+
+/// Puts the sum of the matrices behind `a` and `b` behind `out`.
+///
+/// # Errors
+///
+/// Returns `EmptyHandle` if one of them is missing, and `ShapeMismatch` if their shapes differ. Otherwise fails only if
+/// an allocation fails. `out` is then unchanged.
+pub fn add(
+    alloc: Global,
+    a: &mut MatrixHandle,
+    b: &mut MatrixHandle,
+    out: &mut MatrixHandle,
+) -> Result<(), Refusal>
+    ensures kept { (a.new.value ≡ a.old.value) × (b.new.value ≡ b.old.value) }
+    ensures done { OnOk result (Holds out.new.value
+        (plain_sum ring64 (plain_behind a.old.value) (plain_behind b.old.value))) }
+    ensures unchanged { OnErr result (out.new.value ≡ out.old.value) }
+    ensures fault { IfErr result (IsMemoryOr (IsUnlike a.old.value b.old.value)) }
+{
+    let a = shared(alloc, a)?;
+    let b = shared(alloc, b)?;
+    if a.nrows() != b.nrows() {
+        return Err(Refusal::ShapeMismatch);
+    }
+    if a.ncols() != b.ncols() {
+        return Err(Refusal::ShapeMismatch);
+    }
+    let sum = add_csr(alloc, &a, &b)?;
+    put(alloc, sum, out)
+}
+
+/// Puts the difference of the matrices behind `a` and `b` behind `out`.
+///
+/// # Errors
+///
+/// Returns `EmptyHandle` if one of them is missing, and `ShapeMismatch` if their shapes differ. Otherwise fails only if
+/// an allocation fails. `out` is then unchanged.
+pub fn subtract(
+    alloc: Global,
+    a: &mut MatrixHandle,
+    b: &mut MatrixHandle,
+    out: &mut MatrixHandle,
+) -> Result<(), Refusal>
+    ensures kept { (a.new.value ≡ a.old.value) × (b.new.value ≡ b.old.value) }
+    ensures done { OnOk result (Holds out.new.value
+        (plain_difference ring64 (plain_behind a.old.value) (plain_behind b.old.value))) }
+    ensures unchanged { OnErr result (out.new.value ≡ out.old.value) }
+    ensures fault { IfErr result (IsMemoryOr (IsUnlike a.old.value b.old.value)) }
+{
+    let a = shared(alloc, a)?;
+    let b = shared(alloc, b)?;
+    if a.nrows() != b.nrows() {
+        return Err(Refusal::ShapeMismatch);
+    }
+    if a.ncols() != b.ncols() {
+        return Err(Refusal::ShapeMismatch);
+    }
+    let difference = sub_csr(alloc, &a, &b)?;
+    put(alloc, difference, out)
+}
+
+/// Puts the sum of multiples of the matrices behind `a` and `b` behind `out`.
+///
+/// # Errors
+///
+/// Returns `EmptyHandle` if one of them is missing, and `ShapeMismatch` if their shapes differ. Otherwise fails only if
+/// an allocation fails. `out` is then unchanged.
+pub fn add_scaled(
+    alloc: Global,
+    alpha: i64,
+    a: &mut MatrixHandle,
+    beta: i64,
+    b: &mut MatrixHandle,
+    out: &mut MatrixHandle,
+) -> Result<(), Refusal>
+    ensures kept { (a.new.value ≡ a.old.value) × (b.new.value ≡ b.old.value) }
+    ensures done { OnOk result (Holds out.new.value
+        (plain_sum ring64 (plain_scaled ring64 (element_of ring64 alpha) (plain_behind a.old.value))
+        (plain_scaled ring64 (element_of ring64 beta) (plain_behind b.old.value)))) }
+    ensures unchanged { OnErr result (out.new.value ≡ out.old.value) }
+    ensures fault { IfErr result (IsMemoryOr (IsUnlike a.old.value b.old.value)) }
+{
+    let a = shared(alloc, a)?;
+    let b = shared(alloc, b)?;
+    if a.nrows() != b.nrows() {
+        return Err(Refusal::ShapeMismatch);
+    }
+    if a.ncols() != b.ncols() {
+        return Err(Refusal::ShapeMismatch);
+    }
+    let (alpha, beta) = (W64::from_number(alpha), W64::from_number(beta));
+    let sum = add_scaled_csr(alloc, alpha, &a, beta, &b)?;
+    put(alloc, sum, out)
+}
+
+/// Puts the product of the matrices behind `a` and `b` behind `out`.
+///
+/// # Errors
+///
+/// Returns `EmptyHandle` if one of them is missing, and `ShapeMismatch` if the first has not as many columns as the
+/// second has rows. Otherwise fails only if an allocation fails. `out` is then unchanged.
+pub fn multiply(
+    alloc: Global,
+    a: &mut MatrixHandle,
+    b: &mut MatrixHandle,
+    out: &mut MatrixHandle,
+) -> Result<(), Refusal>
+    ensures kept { (a.new.value ≡ a.old.value) × (b.new.value ≡ b.old.value) }
+    ensures done { OnOk result (Holds out.new.value
+        (plain_product ring64 (plain_behind a.old.value) (plain_behind b.old.value))) }
+    ensures unchanged { OnErr result (out.new.value ≡ out.old.value) }
+    ensures fault { IfErr result (IsMemoryOr (IsUnmatched a.old.value b.old.value)) }
+{
+    let a = shared(alloc, a)?;
+    let b = shared(alloc, b)?;
+    if a.ncols() != b.nrows() {
+        return Err(Refusal::ShapeMismatch);
+    }
+    let product = mul_csr(alloc, &a, &b)?;
+    put(alloc, product, out)
+}

@@ -1,0 +1,61 @@
+//! The sizes and the arrays of matrices behind handles.
+
+ghost use Rattle.std.specs.Prelude.{◌≡◌, IfOk, IfErr, OnOk, OnErr};
+ghost use Rattle.sparse_c_views.specs.Arrays.{places_of, room_of, HoldsRows};
+ghost use Rattle.sparse_c_views.specs.Refused.{IsMemoryOr};
+ghost use Rattle.sparse_c_views.specs.Rests.{KeepsRest};
+ghost use Rattle.sparse_handles.specs.Behind.{plain_behind, IsEmpty, IsUnwritten};
+
+use crate::handle::MatrixHandle;
+use crate::sharing::shared;
+use sparse_c_views::refusal::Refusal;
+use sparse_c_views::writing::write_rows;
+use std::alloc::Global;
+
+/// Returns the numbers of rows, columns and places of the matrix behind `a`.
+///
+/// # Errors
+///
+/// Returns `EmptyHandle` if there is none.
+pub fn sizes(alloc: Global, a: &mut MatrixHandle) -> Result<(usize, usize, usize), Refusal>
+    ensures kept { a.new.value ≡ a.old.value }
+    ensures rows { IfOk result (λ sizes. sizes.0 ≡ (plain_behind a.old.value).rows) }
+    ensures cols { IfOk result (λ sizes. sizes.1 ≡ (plain_behind a.old.value).cols) }
+    ensures places { IfOk result (λ sizes. sizes.2 ≡ places_of (plain_behind a.old.value)) }
+    ensures fault { IfErr result (IsMemoryOr (IsEmpty a.old.value)) }
+{
+    let a = shared(alloc, a)?;
+    Ok((a.nrows(), a.ncols(), a.nnz()))
+}
+
+/// Writes the matrix behind `a` into arrays by rows, and its number of places.
+///
+/// # Errors
+///
+/// Returns `EmptyHandle` if there is none, and `TooSmall` if an array is too small. The arrays are then unchanged.
+pub fn read(
+    alloc: Global,
+    a: &mut MatrixHandle,
+    offsets: &mut [usize],
+    indices: &mut [usize],
+    values: &mut [i64],
+    places: &mut usize,
+) -> Result<(), Refusal>
+    ensures kept { a.new.value ≡ a.old.value }
+    ensures written { OnOk result (HoldsRows (plain_behind a.old.value)
+        (room_of offsets.new indices.new values.new places.new)) }
+    ensures rest { OnOk result (KeepsRest (plain_behind a.old.value).rows
+        (room_of offsets.old indices.old values.old places.old)
+        (room_of offsets.new indices.new values.new places.new)) }
+    ensures unchanged { OnErr result (room_of offsets.new indices.new values.new places.new
+        ≡ room_of offsets.old indices.old values.old places.old) }
+    ensures fault { IfErr result (IsMemoryOr (IsUnwritten a.old.value
+        (room_of offsets.old indices.old values.old places.old))) }
+{
+    let a = shared(alloc, a)?;
+    if write_rows(&a, offsets, indices, values, places) == 0 {
+        Ok(())
+    } else {
+        Err(Refusal::TooSmall)
+    }
+}

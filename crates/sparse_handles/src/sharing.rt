@@ -1,0 +1,100 @@
+//! The matrix behind a handle, shared and replaced.
+
+ghost use Rattle.std.specs.Prelude.{◌≡◌, None, Some, IfOk, IfErr, OnOk, OnErr};
+ghost use Rattle.std.specs.Arc.{arc_value};
+ghost use Rattle.sparse_c_views.specs.Refused.{IsMemoryOr};
+ghost use Rattle.sparse_c_views.specs.declared.refusal.Refusal.TheVariants.{OutOfMemory};
+ghost use Rattle.sparse_handles.specs.Behind.{IsEmpty};
+
+use crate::handle::{Block, MatrixHandle, SharedMatrix};
+use sparse_algebra::scalar::W64;
+use sparse_c_views::refusal::Refusal;
+use sparse_forms::csr::CsrMatrix;
+use std::alloc::Global;
+use std::mem;
+use std::sync::Arc;
+
+/// Returns the matrix behind a handle, which shares it.
+///
+/// # Errors
+///
+/// Returns `EmptyHandle` if the handle has no matrix. Otherwise fails only where the matrix has too many owners.
+pub fn shared(alloc: Global, handle: &mut MatrixHandle) -> Result<Arc<CsrMatrix<W64>>, Refusal>
+    ensures kept { handle.new.value ≡ handle.old.value }
+    ensures matrix { IfOk result (λ a. handle.old.value ≡ Some (arc_value a)) }
+    ensures fault { IfErr result (IsMemoryOr (IsEmpty handle.old.value)) }
+{
+    let old = mem::replace(handle, MatrixHandle::empty());
+    match old.into_box(alloc) {
+        None => Err(Refusal::EmptyHandle),
+        Some(held) => {
+            let matrix = Arc::try_clone(&held.matrix);
+            put_box(alloc, held, handle);
+            Ok(matrix?)
+        }
+    }
+}
+
+/// Replaces the matrix behind a handle by one that others may share.
+///
+/// Fails only if an allocation fails; the handle is then unchanged.
+pub fn put_shared(
+    alloc: Global,
+    matrix: Arc<CsrMatrix<W64>>,
+    handle: &mut MatrixHandle,
+) -> Result<(), Refusal>
+    ensures put { OnOk result (handle.new.value ≡ Some (arc_value matrix)) }
+    ensures unchanged { OnErr result (handle.new.value ≡ handle.old.value) }
+    ensures memory { IfErr result (λ refusal. refusal ≡ OutOfMemory) }
+{
+    match Box::new(alloc, SharedMatrix { matrix }) {
+        Ok(boxed) => {
+            put_box(alloc, boxed, handle);
+            Ok(())
+        }
+        Err(failed) => {
+            drop(failed);
+            Err(Refusal::OutOfMemory)
+        }
+    }
+}
+
+/// Replaces the matrix behind a handle.
+///
+/// Fails only if an allocation fails; the handle is then unchanged.
+pub fn put(alloc: Global, matrix: CsrMatrix<W64>, handle: &mut MatrixHandle) -> Result<(), Refusal>
+    ensures put { OnOk result (handle.new.value ≡ Some matrix) }
+    ensures unchanged { OnErr result (handle.new.value ≡ handle.old.value) }
+    ensures memory { IfErr result (λ refusal. refusal ≡ OutOfMemory) }
+{
+    match Arc::new(alloc, matrix) {
+        Ok(matrix) => put_shared(alloc, matrix, handle),
+        Err(failed) => {
+            drop(failed);
+            Err(Refusal::OutOfMemory)
+        }
+    }
+}
+
+/// Drops the matrix behind a handle, which has none from then on.
+pub fn clear(alloc: Global, handle: &mut MatrixHandle)
+    ensures { handle.new.value ≡ None }
+{
+    let old = mem::replace(handle, MatrixHandle::empty());
+    discard(alloc, old);
+}
+
+// Replaces the matrix behind a handle by the one in a box.
+fn put_box(alloc: Global, boxed: Box<SharedMatrix>, handle: &mut MatrixHandle)
+    ensures { handle.new.value ≡ Some boxed.value }
+{
+    let old = mem::replace(handle, MatrixHandle::of(Block::of(boxed)));
+    discard(alloc, old);
+}
+
+// Drops the matrix of a handle, if it has one.
+fn discard(alloc: Global, handle: MatrixHandle) {
+    if let Some(held) = handle.into_box(alloc) {
+        drop(held);
+    }
+}
