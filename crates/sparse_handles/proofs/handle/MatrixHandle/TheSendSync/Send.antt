@@ -20,7 +20,8 @@ use Rattle.sparse_handles.specs.contracts.handle.SharedMatrix.{the_row as shared
 
 owned : (p : Ptr) (x : Option (Compressed W64)) → Keyless (owns_at p x)
 owned p None = tt
-owned p (Some m) = (lies shared_row shared_send p m, the_frees.frees heap (raw (lone shared_row.mir)) p)
+owned p (Some m) =
+    (lies shared_row shared_send p m, the_frees.frees heap (raw (lone shared_row.mir)) p)
 
 pub send : IsSend the_row
 send = let ps : IsSend RawPtr = search sendable in

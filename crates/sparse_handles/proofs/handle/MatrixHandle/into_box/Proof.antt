@@ -193,7 +193,8 @@ module _ {M : Type 1} {𝓤 : Ura M} (𝓛 : Logic 𝓤) (𝓜 : Model 𝓤 𝓛
     token q = sem 𝓛 (ghosts.dealloc_token heap (bare (lone shared_row.mir)) q)
 
     -- nothing lies at null
-    at_block : (x : Compressed W64) (q : Ptr) → Testable q → ent 𝓤 (Had (Some x) q) (Runs (Some x) q h)
+    at_block : (x : Compressed W64) (q : Ptr) → Testable q
+        → ent 𝓤 (Had (Some x) q) (Runs (Some x) q h)
     at_block x (block_ptr b o) may = some_at x b o h fits may
     at_block x null_ptr may =
         via 𝓤 (never 𝓤) (via 𝓤 (sem 𝓛 (in_block shared_row null_ptr x))
@@ -228,7 +229,13 @@ into_box_spec 𝓤 𝓛 𝓜 𝓡 wired =
     ∷ raw ((c z.0.0 z.0.3).requires z.1) ∷ []) ∵
     split ! $ move ! (1 ∷ []) $ fsplit ! $ handle_out ! d us (λ eu.
     move ! (1 ∷ []) $ fsplit ! $
-    handle_tells (record { row = global_row; laws = global_laws; g = ghosts; d = dict; drops = no_drop })
+    handle_tells (record {
+      row = global_row;
+      laws = global_laws;
+      g = ghosts;
+      d = dict;
+      drops = no_drop;
+    })
     ! a vs (λ h eh fits.
     -- [the allocator; nothing; the block or null; ..]
     keep ! (2 ∷ 0 ∷ []) $
