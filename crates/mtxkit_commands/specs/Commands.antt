@@ -11,12 +11,20 @@ use Rattle.mtxkit_texts.specs.Lower.{IsSymmetricFailure, Symmetrised}
 use Rattle.mtxkit_texts.specs.Rewritten.{WritesIntegers, WritesPattern}
 use Rattle.mtxkit_texts.specs.Shown.{ShowsBitmap, ShowsBlocks}
 use Rattle.mtxkit_texts.specs.declared.failure.Failure.{Failure}
-use Rattle.mtxkit_texts.specs.declared.failure.Failure.TheVariants.{Unsaved, Write}
+use Rattle.mtxkit_texts.specs.declared.failure.Failure.TheVariants.{Unsaved, Write, OutOfMemory}
+use Rattle.mtxkit_texts.specs.Statuses.{status_of}
+use Rattle.mtxkit_decimals.specs.Failures.{IsScaleFailure}
+use Rattle.mtxkit_decimals.specs.Rewritten.{IsScaledText}
+use Rattle.mtxkit_decimals.specs.declared.error.ScaleError.{ScaleError}
 use Rattle.mtxkit_commands.specs.Inputs.{Reading, IsUnread}
 use Rattle.mtxkit_commands.specs.Systems.{WritesSolution, SaysProduct}
 use Rattle.mtxkit_commands.specs.Systems.{IsSolveFailure, IsCheckFailure}
+use Rattle.mtxkit_commands.specs.declared.command_error.CommandError.{CommandError}
+use Rattle.mtxkit_commands.specs.declared.command_error.CommandError.TheVariants.{Failed}
+use Rattle.mtxkit_commands.specs.declared.command_error.CommandError.TheVariants.{Unscaled}
 use Rattle.mtxkit_commands.specs.declared.commands.Command.{Command}
 use Rattle.mtxkit_commands.specs.declared.commands.Command.TheVariants.{Info, Spy, Field}
+use Rattle.mtxkit_commands.specs.declared.commands.Command.TheVariants.{Integer}
 use Rattle.mtxkit_commands.specs.declared.commands.Command.TheVariants.{Symmetric, Solve, Check}
 use Rattle.mtxkit_commands.specs.declared.commands.Target.{Target}
 use Rattle.mtxkit_commands.specs.declared.commands.Target.TheVariants.{Bitmap, Blocks, File}
@@ -49,6 +57,11 @@ abbrev pub ReadsThree : List ℕ → List ℕ → List ℕ → (List ℕ → Lis
 ReadsThree a x b Holds old new = (first second third : List ℕ)
     × (new ≡ (b, Ok third) ∷ (x, Ok second) ∷ (a, Ok first) ∷ old) × Holds first second third
 
+-- the text of integers that the text of the file becomes, each number times 10 ^ scale
+abbrev pub IsScaleAnswer : ℕ → List ℕ → List Reading → List Reading → List ℕ → Type 0
+IsScaleAnswer scale file old new written =
+    ReadsOne file (λ text. IsScaledText scale text written) old new
+
 -- the text of X, of the texts of A and B
 abbrev pub IsSolveAnswer : Option ℕ → List ℕ → List ℕ → List Reading → List Reading → List ℕ
     → Type 0
@@ -69,6 +82,7 @@ IsAnswer (Spy file size target) old new written =
     ReadsOne file.now (λ text. ShowsPicture target text size written) old new
 IsAnswer (Field file values) old new written =
     ReadsOne file.now (λ text. WritesValues values text written) old new
+IsAnswer (Integer file scale) old new written = IsScaleAnswer scale file.now old new written
 IsAnswer (Symmetric file) old new written =
     ReadsOne file.now (λ text. Symmetrised (header_in text) text written) old new
 IsAnswer (Solve modulus a b) old new written = IsSolveAnswer modulus a.now b.now old new written
@@ -119,10 +133,33 @@ IsFailure (Spy file size target) old new failure =
     FailsOne file.now (IsLoadFailure 1) old new failure
 IsFailure (Field file values) old new failure =
     FailsOne file.now (IsFieldFailureOf values) old new failure
+IsFailure (Integer file scale) old new failure =
+    FailsOne file.now (λ text f. f ≡ OutOfMemory) old new failure
 IsFailure (Symmetric file) old new failure = FailsOne file.now IsSymmetricFailure old new failure
 IsFailure (Solve modulus a b) old new failure = IsUnsolved modulus a.now b.now old new failure
 IsFailure (Check modulus a x b) old new failure =
     IsUnchecked modulus a.now x.now b.now old new failure
+
+-- the text of the file is not scaled, and this is why
+abbrev pub IsUnscaled : ℕ → List ℕ → List Reading → List Reading → ScaleError → Type 0
+IsUnscaled scale file old new error =
+    ReadsOne file (λ text. IsScaleFailure scale text error) old new
+
+-- the command scales numbers, and the text of its file is not scaled
+abbrev pub IsUnscaledBy : Command → List Reading → List Reading → ScaleError → Type 0
+IsUnscaledBy (Integer file scale) old new error = IsUnscaled scale file.now old new error
+IsUnscaledBy command old new error = ⊥
+
+-- why a command has no answer
+abbrev pub HasNoAnswer : Command → List Reading → List Reading → CommandError → Type 0
+HasNoAnswer command old new (Failed failure) = IsFailure command old new failure
+HasNoAnswer command old new (Unscaled error) = IsUnscaledBy command old new error
+
+-- the same of the command that scales numbers
+abbrev pub IsScaleError : ℕ → List ℕ → List Reading → List Reading → CommandError → Type 0
+IsScaleError scale file old new (Failed failure) =
+    FailsOne file (λ text f. f ≡ OutOfMemory) old new failure
+IsScaleError scale file old new (Unscaled error) = IsUnscaled scale file old new error
 
 -- a write to the output failed
 abbrev pub IsUnwritten : Failure → Type 0
@@ -133,9 +170,15 @@ abbrev pub IsUnsaved : Failure → Type 0
 IsUnsaved failure = (error : Error) × (failure ≡ Unsaved error)
 
 -- why a command fails: it has no answer, or the answer is not written
-abbrev pub CanFail : Command → List Reading → List Reading → Failure → Type 0
-CanFail command before after failure =
+abbrev pub CanFail : Command → List Reading → List Reading → CommandError → Type 0
+CanFail command before after (Failed failure) =
     IsFailure command before after failure ⊎ (IsUnsaved failure ⊎ IsUnwritten failure)
+CanFail command before after (Unscaled error) = IsUnscaledBy command before after error
+
+-- the exit status of an error
+abbrev pub error_status : CommandError → ℕ
+error_status (Failed failure) = status_of failure
+error_status (Unscaled error) = 1
 
 -- the picture has at least one cell
 abbrev pub IsSized : Command → Type 0

@@ -6,6 +6,7 @@ use Rattle.mtxkit_texts.specs.declared.failure.Failure.TheVariants.{Unread, Inpu
 use Rattle.mtxkit_texts.specs.declared.failure.Failure.TheVariants.{Wide, Unsaved}
 use Rattle.mtxkit_commands.specs.declared.commands.Command.{Command}
 use Rattle.mtxkit_commands.specs.declared.commands.Command.TheVariants.{Info, Spy, Field}
+use Rattle.mtxkit_commands.specs.declared.commands.Command.TheVariants.{Integer}
 use Rattle.mtxkit_commands.specs.declared.commands.Command.TheVariants.{Symmetric, Solve, Check}
 use Rattle.mtxkit_commands.specs.declared.commands.Target.{Target}
 use Rattle.mtxkit_commands.specs.declared.commands.Target.TheVariants.{Bitmap, Blocks, File}
@@ -14,6 +15,7 @@ abbrev pub first_file : Command → List ℕ
 first_file (Info file) = file.now
 first_file (Spy file size target) = file.now
 first_file (Field file values) = file.now
+first_file (Integer file scale) = file.now
 first_file (Symmetric file) = file.now
 first_file (Solve modulus a b) = a.now
 first_file (Check modulus a x b) = a.now

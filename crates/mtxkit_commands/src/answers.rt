@@ -3,11 +3,13 @@
 ghost use Rattle.std.specs.Prelude.{◌<◌, ℕ, Option, IfOk, IfErr, string_bytes};
 ghost use Rattle.mtxkit_texts.specs.Loaded.{IsLoadFailure};
 ghost use Rattle.mtxkit_commands.specs.Commands.{IsAnswer, IsSized, ShowsPicture, WritesValues};
-ghost use Rattle.mtxkit_commands.specs.Commands.{IsFieldFailureOf, IsFailure, IsSolveAnswer};
+ghost use Rattle.mtxkit_commands.specs.Commands.{IsFieldFailureOf, HasNoAnswer, IsSolveAnswer};
 ghost use Rattle.mtxkit_commands.specs.Commands.{IsUnsolved, IsCheckAnswer, IsUnchecked};
 
+use crate::command_error::CommandError;
 use crate::commands::{Command, Target, Values};
 use crate::inputs::{Texts, read_text};
+use crate::scaled::scaled_of;
 use crate::systems::{check_text, solve_text};
 use mtxkit_texts::{
     Failure, info_text, integer_text, pattern_text, spy_bitmap, spy_blocks, symmetric_text,
@@ -21,32 +23,37 @@ pub fn answer_of<T: Texts>(
     alloc: Global,
     command: Command<'_>,
     texts: &mut T,
-) -> Result<String, Failure>
+) -> Result<Vec<u8>, CommandError>
     requires { IsSized command }
     ensures answer { IfOk result (λ answer. IsAnswer command.entry (T.readings texts.old)
-        (T.readings texts.new) (string_bytes answer)) }
+        (T.readings texts.new) answer.items) }
     ensures failed { IfErr result
-        (IsFailure command.entry (T.readings texts.old) (T.readings texts.new)) }
+        (HasNoAnswer command.entry (T.readings texts.old) (T.readings texts.new)) }
 {
     match command {
         Command::Info { file } => {
             let text = read_text(texts, 1, file)?;
-            info_text(alloc, text.as_str())
+            Ok(info_text(alloc, text.as_str())?.into_bytes())
         }
         Command::Spy { file, size, target } => {
             let text = read_text(texts, 1, file)?;
-            picture(alloc, size, target, text.as_str())
+            Ok(picture(alloc, size, target, text.as_str())?.into_bytes())
         }
         Command::Field { file, values } => {
             let text = read_text(texts, 1, file)?;
-            rewritten(alloc, values, text.as_str())
+            Ok(rewritten(alloc, values, text.as_str())?.into_bytes())
         }
+        Command::Integer { file, scale } => scaled_of(alloc, texts, file, scale),
         Command::Symmetric { file } => {
             let text = read_text(texts, 1, file)?;
-            symmetric_text(alloc, text.as_str())
+            Ok(symmetric_text(alloc, text.as_str())?.into_bytes())
         }
-        Command::Solve { modulus, a, b } => solution_of(alloc, texts, modulus, a, b),
-        Command::Check { modulus, a, x, b } => check_of(alloc, texts, modulus, a, x, b),
+        Command::Solve { modulus, a, b } => {
+            Ok(solution_of(alloc, texts, modulus, a, b)?.into_bytes())
+        }
+        Command::Check { modulus, a, x, b } => {
+            Ok(check_of(alloc, texts, modulus, a, x, b)?.into_bytes())
+        }
     }
 }
 

@@ -2,15 +2,16 @@
 
 ghost use Rattle.std.specs.Prelude.{◌≡◌, ◌≢◌, ◌≤◌, OnOk, OnErr, IfErr, IsTrue};
 ghost use Rattle.std.specs.Io.KnownBytes.{Appends};
-ghost use Rattle.mtxkit_texts.specs.Statuses.{status_of};
 ghost use Rattle.mtxkit_commands.specs.Commands.{IsAnswered, IsSized, IsUnsaved};
-ghost use Rattle.mtxkit_commands.specs.Commands.{IsUnwritten, CanFail};
-ghost use Rattle.mtxkit_texts.specs.declared.failure.Failure.{Failure};
+ghost use Rattle.mtxkit_commands.specs.Commands.{IsUnwritten, CanFail, error_status};
+ghost use Rattle.mtxkit_commands.specs.declared.command_error.CommandError.{CommandError};
 
 use crate::answers::answer_of;
+use crate::command_error::CommandError;
 use crate::commands::Command;
 use crate::failure_lines::report;
 use crate::inputs::Texts;
+use crate::scaled::report_unscaled;
 use mtxkit_texts::Failure;
 use sparse_io::{Out, Sink, write_all_to};
 use std::alloc::Global;
@@ -32,20 +33,42 @@ where
     ensures answered { result ≡ 0 → IsAnswered command.entry (T.readings texts.old)
         (T.readings texts.new) (W.taken out.old) (W.taken out.new) }
     ensures silent { result ≡ 0 → E.taken err.new ≡ E.taken err.old }
-    ensures failed { result ≢ 0 → (failure : Failure)
-        × (CanFail command.entry (T.readings texts.old) (T.readings texts.new) failure
-        × (result ≡ status_of failure)) }
+    ensures failed { result ≢ 0 → (error : CommandError)
+        × (CanFail command.entry (T.readings texts.old) (T.readings texts.new) error
+        × (result ≡ error_status error)) }
     ensures unanswered { result ≢ 0 → W.failures out.new ≡ W.failures out.old
         → W.taken out.new ≡ W.taken out.old }
 {
     match execute(rt, command, texts, out) {
         Ok(()) => 0,
-        Err(failure) => report(rt.alloc(), command.file_at_fault(failure), failure, err),
+        Err(error) => report_error(rt.alloc(), command, error, err),
+    }
+}
+
+// Writes the line of the error of a command, and returns the error's status.
+fn report_error<E: Sink>(
+    alloc: Global,
+    command: Command<'_>,
+    error: CommandError,
+    err: &mut E,
+) -> u8
+    ensures { result ≡ error_status error }
+{
+    match error {
+        CommandError::Failed(failure) => {
+            report(alloc, command.file_at_fault(failure), failure, err)
+        }
+        CommandError::Unscaled(error) => report_unscaled(alloc, command.first_file(), error, err),
     }
 }
 
 // Runs a command.
-fn execute<R, T, W>(rt: &R, command: Command<'_>, texts: &mut T, out: &mut W) -> Result<(), Failure>
+fn execute<R, T, W>(
+    rt: &R,
+    command: Command<'_>,
+    texts: &mut T,
+    out: &mut W,
+) -> Result<(), CommandError>
 where
     R: Files + AllocGlobal,
     T: Texts,
@@ -60,13 +83,13 @@ where
 {
     let answer = answer_of(rt.alloc(), command, texts)?;
     match command.path() {
-        Some(path) => save(rt, path, answer.as_str()),
-        None => write_text(out, answer.as_str()),
+        Some(path) => Ok(save(rt, path, &answer)?),
+        None => Ok(write_text(out, &answer)?),
     }
 }
 
 // Creates or truncates the file, and writes the text to it.
-fn save<R: Files>(rt: &R, path: &str, text: &str) -> Result<(), Failure>
+fn save<R: Files>(rt: &R, path: &str, text: &[u8]) -> Result<(), Failure>
     ensures { IfErr result IsUnsaved }
 {
     match fs::write(rt, path, text) {
@@ -76,12 +99,12 @@ fn save<R: Files>(rt: &R, path: &str, text: &str) -> Result<(), Failure>
 }
 
 // Writes the text.
-fn write_text<W: Sink>(out: &mut W, text: &str) -> Result<(), Failure>
+fn write_text<W: Sink>(out: &mut W, text: &[u8]) -> Result<(), Failure>
     ensures written { OnOk result (Appends (W.taken out.old) (W.taken out.new) text.now) }
     ensures failed { OnErr result (W.failures out.new ≢ W.failures out.old) }
     ensures kind { IfErr result IsUnwritten }
 {
-    match write_all_to(out, text.as_bytes()) {
+    match write_all_to(out, text) {
         Ok(()) => Ok(()),
         Err(kind) => Err(Failure::Write(kind)),
     }

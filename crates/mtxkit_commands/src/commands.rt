@@ -32,6 +32,13 @@ pub enum Command<'a> {
         /// The values.
         values: Values,
     },
+    /// A text of decimal numbers as one of integers.
+    Integer {
+        /// The file.
+        file: &'a str,
+        /// The power of ten that the numbers are multiplied by.
+        scale: u32,
+    },
     /// A symmetric text expanded, or the lower triangle of a symmetric matrix.
     Symmetric {
         /// The file.
@@ -87,13 +94,15 @@ impl<'a> Command<'a> {
         }
     }
 
-    fn first_file(self) -> &'a str
+    // Returns the path of the first file.
+    pub(crate) fn first_file(self) -> &'a str
         ensures { result.now ≡ first_file self.entry }
     {
         match self {
             Command::Info { file }
             | Command::Spy { file, .. }
             | Command::Field { file, .. }
+            | Command::Integer { file, .. }
             | Command::Symmetric { file } => file,
             Command::Solve { a, .. } | Command::Check { a, .. } => a,
         }

@@ -15,12 +15,16 @@ const OUT_OF_MEMORY: &str = "mtxkit: out of memory\n";
 pub fn report<E: Sink>(alloc: Global, file: Option<&str>, failure: Failure, err: &mut E) -> u8
     ensures { result ≡ status_of failure }
 {
-    // An error in writing the line is ignored.
-    let _ = match failure_line(alloc, file, failure) {
+    write_line(failure_line(alloc, file, failure), err);
+    failure.status()
+}
+
+/// Writes this line, or, where no memory was left for it, the line that says so. An error in writing it is ignored.
+pub(crate) fn write_line<E: Sink>(line: Result<String, AllocError>, err: &mut E) {
+    let _ = match line {
         Ok(line) => write_all_to(err, line.as_bytes()),
         Err(_) => write_all_to(err, OUT_OF_MEMORY.as_bytes()),
     };
-    failure.status()
 }
 
 /// Returns the line of a failure: the program, the file and the number of its line, as far as they are known, and why.

@@ -4,18 +4,21 @@
 mod answers;
 mod arguments;
 mod cli;
+mod command_error;
 mod commands;
 mod failure_lines;
 mod inputs;
 mod lists;
 mod record;
 mod residues;
+mod scaled;
 mod systems;
 mod words;
 
 pub use answers::answer_of;
 pub use arguments::answer;
 pub use cli::{finish, run};
+pub use command_error::CommandError;
 pub use commands::{Command, Target, Values};
 pub use failure_lines::{failure_line, report};
 pub use inputs::{Inputs, Texts, read_text};

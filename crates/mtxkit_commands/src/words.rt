@@ -29,6 +29,8 @@ const FIELDS: [&str; 2] = ["integer", "pattern"];
 
 const MATRIX_FILE: &str = "A Matrix Market file, or - for standard input";
 
+const DECIMAL_FILE: &str = "A real or integer Matrix Market file, or - for standard input";
+
 /// Returns the command that the words of a command line ask for. The first word is the program's name. The size of a
 /// picture is not 0.
 ///
@@ -54,6 +56,7 @@ fn command_of<'a>(matches: &ArgMatches<'a>) -> Option<Command<'a>>
         "info" => info_of(words),
         "spy" => spy_of(words),
         "field" => field_of(words),
+        "integer" => integer_of(words),
         "symmetric" => symmetric_of(words),
         "solve" => solve_of(words),
         "check" => check_of(words),
@@ -108,6 +111,15 @@ fn field_of<'a>(words: &ArgMatches<'a>) -> Option<Command<'a>>
     Some(Command::Field { file, values })
 }
 
+// Without a scale the numbers have to be integers.
+fn integer_of<'a>(words: &ArgMatches<'a>) -> Option<Command<'a>>
+    ensures { IfSome result IsSized }
+{
+    let file = words.get_str("FILE")?;
+    let scale = words.get_one::<u32>("scale").unwrap_or(0);
+    Some(Command::Integer { file, scale })
+}
+
 fn symmetric_of<'a>(words: &ArgMatches<'a>) -> Option<Command<'a>>
     ensures { IfSome result IsSized }
 {
@@ -145,6 +157,7 @@ fn command_line<'a>(alloc: Global) -> Result<clap::Command<'a>, AllocError> {
         .subcommand(info_words(alloc)?)?
         .subcommand(spy_words(alloc)?)?
         .subcommand(field_words(alloc)?)?
+        .subcommand(integer_words(alloc)?)?
         .subcommand(symmetric_words(alloc)?)?
         .subcommand(solve_words(alloc)?)?
         .subcommand(check_words(alloc)?)
@@ -170,6 +183,13 @@ fn field_words<'a>(alloc: Global) -> Result<clap::Command<'a>, AllocError> {
         .about("Writes a matrix with integers, ones at the places of a pattern, or as a pattern")
         .arg(file_word(alloc, "FIELD", "The field to write").value_parser(FIELDS.as_slice()))?
         .arg(file_word(alloc, "FILE", MATRIX_FILE))
+}
+
+fn integer_words<'a>(alloc: Global) -> Result<clap::Command<'a>, AllocError> {
+    clap::Command::new(alloc, "integer")
+        .about("Writes a file of decimal numbers with integers: each number times 10^K, exactly")
+        .arg(scale_word(alloc))?
+        .arg(file_word(alloc, "FILE", DECIMAL_FILE))
 }
 
 fn symmetric_words<'a>(alloc: Global) -> Result<clap::Command<'a>, AllocError> {
@@ -209,6 +229,14 @@ fn size_word<'a>(alloc: Global) -> Arg<'a> {
         .value_name("N")
         .value_parser(value_parser!(usize).range(1..))
         .help("The most cells of a side; 512, and 64 with --text")
+}
+
+fn scale_word<'a>(alloc: Global) -> Arg<'a> {
+    Arg::new(alloc, "scale")
+        .long("scale")
+        .value_name("K")
+        .value_parser(value_parser!(u32))
+        .help("The power of ten; 0 unless given")
 }
 
 fn output_word<'a>(alloc: Global) -> Result<Arg<'a>, AllocError> {

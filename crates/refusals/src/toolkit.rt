@@ -42,6 +42,10 @@ pub fn run(rt: &HostRuntime, turn: &mut Turn, case: &str) -> Outcome {
             let values = Values::Pattern;
             obey(rt, turn, Command::Field { file: A, values })
         }
+        "integer" => {
+            let scale = 2;
+            obey(rt, turn, Command::Integer { file: A, scale })
+        }
         "symmetric" => obey(rt, turn, Command::Symmetric { file: A }),
         "solve" => {
             let modulus = None;

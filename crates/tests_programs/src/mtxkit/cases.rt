@@ -106,6 +106,26 @@ pub const CASES: &[Case] = &[
 ",
     ),
     (
+        &["integer", "--scale", "2", "-"],
+        "%%MatrixMarket matrix coordinate real symmetric\n% a comment\n2 2 2\n1 1  0.25\n2 1 -1e1\n",
+        "%%MatrixMarket matrix coordinate integer symmetric
+% a comment
+2 2 2
+1 1 25
+2 1 -1000
+",
+    ),
+    // Integers are decimals too, and 10^0 is 1.
+    (
+        &["integer", "-"],
+        "%%MatrixMarket matrix array integer general\n1 2\n-7\n170141183460469231731687303715884105727\n",
+        "%%MatrixMarket matrix array integer general
+1 2
+-7
+170141183460469231731687303715884105727
+",
+    ),
+    (
         &["symmetric", "-"],
         EMPTY_REAL,
         "%%matrixmarket matrix coordinate integer symmetric

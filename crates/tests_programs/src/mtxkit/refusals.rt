@@ -54,6 +54,8 @@ const REPEATED: &[u8] = b"%%MatrixMarket matrix coordinate integer general
 1 1 1
 ";
 
+const COMPLEX: &[u8] = b"%%MatrixMarket matrix coordinate complex general\n1 1 1\n1 1 5.5 0\n";
+
 // An entry is missing, and none is real.
 const SHORT_REAL: &[u8] = b"%%MatrixMarket matrix coordinate real general\n1 1 1\n";
 
@@ -70,6 +72,51 @@ pub const REFUSALS: &[Refusal] = &[
         1,
         "mtxkit: -:2: 1 entries expected, 0 found\n",
     ),
+    (&["integer", "--scale", "1", "-"], REAL, 1, UNWRITTEN),
+    (
+        &["integer", "-"],
+        REAL,
+        1,
+        "mtxkit: -:3: the value times 10^K is not an integer; K may be too small\n",
+    ),
+    (
+        &["integer", "--scale", "38", "-"],
+        REAL,
+        1,
+        "mtxkit: -:3: the value times 10^K does not fit in 128 bits\n",
+    ),
+    (
+        &["integer", "-"],
+        COMPLEX,
+        1,
+        "mtxkit: -:1: the values are not decimal numbers but complex ones or a pattern\n",
+    ),
+    (
+        &["integer", "-"],
+        b"1 1\n",
+        1,
+        "mtxkit: -:1: no Matrix Market header\n",
+    ),
+    (
+        &["integer", "-"],
+        b"%%MatrixMarket matrix array real general\n1\n",
+        1,
+        "mtxkit: -:2: no size line that fits the header\n",
+    ),
+    (
+        &["integer", "-"],
+        b"%%MatrixMarket matrix array real general\n1 1\n\n1 1\n",
+        1,
+        "mtxkit: -:4: no data line that fits the header\n",
+    ),
+    (
+        &["integer", "-"],
+        &[],
+        1,
+        "mtxkit: -: the text ends before its size line\n",
+    ),
+    (&["integer", "/no/such/file"], ONE, 1, NO_FILE),
+    (&["integer", "--scale", "-1", "-"], ONE, 2, "error: "),
     (&["field", "integer", "-"], LARGE, 1, TOO_WIDE),
     (&["symmetric", "-"], LARGE, 1, TOO_WIDE),
     (&["field", "integer", "-"], LARGE_SUM, 1, TOO_WIDE),

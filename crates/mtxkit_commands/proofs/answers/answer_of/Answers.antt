@@ -1,0 +1,12 @@
+use Rattle.std.proofs.Common.{subst, sym}
+use Rattle.mtxkit_commands.specs.Commands.{IsAnswer}
+use Rattle.mtxkit_commands.proofs.answers.answer_of.Goals as goal
+
+pub returns-in_ok-check_of-in-Check-clause-answer :
+    goal.returns-in_ok-check_of-in-Check-clause-answer
+returns-in_ok-check_of-in-Check-clause-answer g c =
+    let old = g.T.Texts.readings c.args.texts.now in
+    let new = g.T.Texts.readings c.check_of.new.texts in
+    subst (λ command. IsAnswer command old new c.into_bytes-in-Check.result.items)
+    (sym c.in-Check.is)
+    (rw (c.into_bytes-in-Check.ensures.value) c.in_ok-check_of-in-Check.ensures.answer)

@@ -1,0 +1,24 @@
+//! The errors of commands.
+
+use mtxkit_decimals::ScaleError;
+use mtxkit_texts::Failure;
+
+/// Why a command fails.
+#[derive(Clone, Copy, Debug)]
+pub enum CommandError {
+    /// For this reason.
+    Failed(Failure),
+    /// The numbers of its only file are not scaled.
+    Unscaled(ScaleError),
+}
+
+impl From<Failure> for CommandError {
+    ghost use Rattle.std.specs.Prelude.{◌≡◌};
+    ghost use Rattle.mtxkit_commands.specs.declared.command_error.CommandError.TheVariants.{Failed};
+
+    ghost from_gives = { λ failure e. e ≡ Failed failure };
+
+    fn from(failure: Failure) -> CommandError {
+        CommandError::Failed(failure)
+    }
+}

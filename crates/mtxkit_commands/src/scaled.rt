@@ -1,0 +1,88 @@
+//! The answer of the command that scales decimal numbers, and the lines of its errors.
+
+ghost use Rattle.std.specs.Prelude.{◌≡◌, IfOk, IfErr, Some, string_bytes};
+ghost use Rattle.mtxkit_commands.specs.Commands.{IsScaleAnswer, IsScaleError};
+ghost use Rattle.mtxkit_commands.specs.Names.{IsLineOf};
+
+use crate::command_error::CommandError;
+use crate::failure_lines::write_line;
+use crate::inputs::{Texts, read_text};
+use mtxkit_decimals::{ScaleError, scaled_text};
+use mtxkit_texts::Failure;
+use sparse_io::Sink;
+use std::alloc::{AllocError, Global};
+
+/// Reads the file, and returns the text of integers that its text of decimal numbers becomes, each times 10^scale.
+pub(crate) fn scaled_of<T: Texts>(
+    alloc: Global,
+    texts: &mut T,
+    file: &str,
+    scale: u32,
+) -> Result<Vec<u8>, CommandError>
+    ensures answer { IfOk result (λ answer. IsScaleAnswer scale file.now
+        (T.readings texts.old) (T.readings texts.new) answer.items) }
+    ensures failed { IfErr result
+        (IsScaleError scale file.now (T.readings texts.old) (T.readings texts.new)) }
+{
+    let text = read_text(texts, 1, file)?;
+    match scaled_text(alloc, scale, text.as_str().as_bytes()) {
+        Ok(written) => Ok(written),
+        Err(ScaleError::OutOfMemory) => Err(CommandError::Failed(Failure::OutOfMemory)),
+        Err(error) => Err(CommandError::Unscaled(error)),
+    }
+}
+
+/// Writes the line of a file whose numbers are not scaled, and returns the status.
+pub(crate) fn report_unscaled<E: Sink>(
+    alloc: Global,
+    file: &str,
+    error: ScaleError,
+    err: &mut E,
+) -> u8
+    ensures { result ≡ 1 }
+{
+    write_line(unscaled_line(alloc, file, error), err);
+    1
+}
+
+// Returns the line of such a file: the program, the file, the number of its line, if one is at fault, and why.
+fn unscaled_line(alloc: Global, file: &str, error: ScaleError) -> Result<String, AllocError>
+    ensures { IfOk result (λ line. IsLineOf (Some file.now) (string_bytes line)) }
+{
+    let mut line = String::new(alloc);
+    line.push_str("mtxkit: ")?;
+    line.push_str(file)?;
+    let why = reason(error);
+    let rest = match number_of(error) {
+        Some(number) => format!(in alloc; ":{number}: {why}\n")?,
+        None => format!(in alloc; ": {why}\n")?,
+    };
+    line.push_str(rest.as_str())?;
+    Ok(line)
+}
+
+// The number of the line that is at fault.
+fn number_of(error: ScaleError) -> Option<usize> {
+    match error {
+        ScaleError::Header(number)
+        | ScaleError::Field(number)
+        | ScaleError::Sizes(number)
+        | ScaleError::Entry(number)
+        | ScaleError::Fraction(number)
+        | ScaleError::Range(number) => Some(number),
+        ScaleError::Ended | ScaleError::OutOfMemory => None,
+    }
+}
+
+fn reason(error: ScaleError) -> &'static str {
+    match error {
+        ScaleError::Header(_) => "no Matrix Market header",
+        ScaleError::Field(_) => "the values are not decimal numbers but complex ones or a pattern",
+        ScaleError::Sizes(_) => "no size line that fits the header",
+        ScaleError::Entry(_) => "no data line that fits the header",
+        ScaleError::Fraction(_) => "the value times 10^K is not an integer; K may be too small",
+        ScaleError::Range(_) => "the value times 10^K does not fit in 128 bits",
+        ScaleError::Ended => "the text ends before its size line",
+        ScaleError::OutOfMemory => "out of memory",
+    }
+}
