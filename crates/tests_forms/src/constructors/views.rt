@@ -82,11 +82,11 @@ fn has_lanes(view: &CsView<'_, i32>, arrays: &Arrays<'static, i32>) -> bool {
     view.major_dim() == lanes && view.nnz() == indices.len()
 }
 
-// Whether the arrays are taken where they are, and lent by a matrix with these arrays.
+// Whether the arrays are taken where they are, and are those of the view of a matrix that has them.
 fn is_taken(alloc: Global, arrays: &Arrays<'static, i32>) -> bool {
     let (major_dim, minor_dim, offsets, indices, values) = *arrays;
-    let lent = CsView::try_from_slices(major_dim, minor_dim, offsets, indices, values);
-    match (lent, csr(alloc, *arrays)) {
+    let view = CsView::try_from_slices(major_dim, minor_dim, offsets, indices, values);
+    match (view, csr(alloc, *arrays)) {
         (Ok(view), Ok(matrix)) => {
             has_lanes(&view, arrays) && has_lanes(&matrix.cs().view(), arrays)
         }
