@@ -20,7 +20,7 @@ zeros_more : (v tail more total : ℕ) → v * 10 ^ tail ≡ total
 zeros_more v behind more total e = ap (λ (p : ℕ). v * p) (pow-add 10 behind more)
     ∙ sym (mul_assoc v (10 ^ behind) (10 ^ more)) ∙ ap (λ (t : ℕ). t * 10 ^ more) e
 
--- the number of d tail more than are taken away
+-- v * 10 ^ d is total times 10 ^ (gain - loss), without a division
 pub is_exact : (v tail gain loss d total : ℕ) → v * 10 ^ tail ≡ total → tail + gain ≡ d + loss
     → (v * 10 ^ d) * 10 ^ loss ≡ total * 10 ^ gain
 is_exact v behind gain loss d total e same =
