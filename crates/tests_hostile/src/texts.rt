@@ -7,8 +7,8 @@ use nalgebra_sparse::io::{
     save_to_matrix_market_str,
 };
 use nalgebra_sparse::scalar::W64;
-use reference::texts::entries::Listed;
-use reference::texts::meaning;
+use slow_programs::texts::entries::Listed;
+use slow_programs::texts::meaning;
 use std::alloc::{AllocError, Global};
 use std::test::Fail;
 

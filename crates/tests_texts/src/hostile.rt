@@ -3,8 +3,8 @@
 use crate::files;
 use crate::matrices::is_listed;
 use crate::reading::refusal;
-use reference::texts::entries::Listed;
-use reference::texts::meaning;
+use slow_programs::texts::entries::Listed;
+use slow_programs::texts::meaning;
 use sparse_base::coo::CooMatrix;
 use sparse_io::{
     MatrixMarketError, MatrixMarketErrorKind, MatrixMarketScalar, load_coo_from_matrix_market_str,

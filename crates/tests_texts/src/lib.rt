@@ -1,8 +1,11 @@
-//! Tests of Matrix Market texts and files that are read and written, of the scalar types of texts, and of byte sinks.
+//! Tests of Matrix Market texts and files that are read and written, of the scalar types of texts, of byte sinks, and
+//! of expressions over texts.
 #![tactic(auto)]
 
 #[cfg(test)]
 mod errors;
+#[cfg(test)]
+mod expressions;
 #[cfg(test)]
 mod fields;
 #[cfg(test)]

@@ -1,6 +1,0 @@
-use Rattle.std.proofs.Common.{arith}
-use Rattle.acceptance.specs.Residue7.{residue7_same}
-use Rattle.acceptance.proofs.residue7.Residue7Ring.neg.Goals as goal
-
-pub returns : goal.returns
-returns c = residue7_same _ _ (omega arith)

@@ -1,0 +1,12 @@
+use Rattle.sparse_algebra.proofs.PlainLaws.{within_product}
+use Rattle.sparse_base.specs.CooPlain.{plain_of_coo}
+use Rattle.slow_programs.proofs.expressions.product.Goals as goal
+
+pub tabulated-requires : goal.tabulated-requires
+tabulated-requires g c =
+    let R = g.T.Ring.ring in
+    let f = g.T.Ring.value in
+    record {
+      within = within_product R (plain_of_coo R f c.args.a.now) (plain_of_coo R f c.args.b.now)
+          c.size-a_size.ensures.within c.size-b_size.ensures.within;
+    }

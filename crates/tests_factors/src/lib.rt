@@ -1,0 +1,26 @@
+//! Tests of the symbolic factor and of exact factorisations, and tests that compare the libraries with the slow
+//! programs of `slow_programs` on generated inputs.
+#![tactic(auto)]
+
+#[cfg(test)]
+mod compared_factors;
+#[cfg(test)]
+mod compared_triangles;
+#[cfg(test)]
+mod counted_factors;
+#[cfg(test)]
+mod generated;
+#[cfg(test)]
+mod large_factors;
+#[cfg(test)]
+mod ldl;
+#[cfg(test)]
+mod patterns;
+#[cfg(test)]
+mod small_factors;
+#[cfg(test)]
+mod small_triangles;
+#[cfg(test)]
+mod square_patterns;
+#[cfg(test)]
+mod sums_and_products;
