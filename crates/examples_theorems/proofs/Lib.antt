@@ -10,3 +10,4 @@ pub mod OneSolution
 pub mod PlainBlocks
 pub mod RowTriplets
 pub mod BlockLists
+pub mod SymmetricSystems

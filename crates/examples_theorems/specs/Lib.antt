@@ -7,3 +7,4 @@ pub mod Elements
 pub mod InnerElements
 pub mod RowBlocks
 pub mod InnerRowBlocks
+pub mod DualNumbers

@@ -1,8 +1,10 @@
-//! Tests of products with dense matrices, the triangular solve, division by a scalar, and inverses of scalars.
+//! Tests of products with dense matrices and vectors, the triangular solve, division by a scalar, and inverses of
+//! scalars.
 
 mod callers;
 mod dense_products;
 mod dense_updates;
+mod dense_vectors;
 mod division;
 mod inverses;
 mod solve;

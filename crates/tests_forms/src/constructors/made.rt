@@ -83,6 +83,12 @@ fn reassembled_by_rows(
     csr(alloc, (nrows, ncols, &offsets, &columns, &values))
 }
 
+// The matrix by rows made again from its pattern and its values, which are not tested.
+fn rejoined_by_rows(alloc: Global, matrix: &CsrMatrix<i32>) -> Result<CsrMatrix<i32>, AllocError> {
+    let (pattern, values) = matrix.clone(alloc)?.into_pattern_and_values();
+    Ok(CsrMatrix::from_pattern_and_values_unchecked(pattern, values))
+}
+
 // Whether a matrix by rows is equal to the other, and its pattern to the pattern of the other.
 fn has_equal_pattern_by_rows(rebuilt: &CsrMatrix<i32>, matrix: &CsrMatrix<i32>) -> bool {
     *rebuilt == *matrix && rebuilt.pattern() == matrix.pattern()
@@ -93,6 +99,7 @@ fn is_made_again_by_rows(alloc: Global, matrix: &CsrMatrix<i32>) -> bool {
     match rebuilt_by_rows(alloc, matrix) {
         Ok(rebuilt) => {
             has_equal_pattern_by_rows(&rebuilt, matrix)
+                && made_equals(rejoined_by_rows(alloc, matrix), matrix)
                 && made_equals(reassembled_by_rows(alloc, matrix), matrix)
         }
         Err(_error) => false,

@@ -1,8 +1,8 @@
-//! The example of the README.
+//! What the programs of README.md and docs/TUTORIAL.md call. `.ci/examples` runs the programs.
 
 use nalgebra_sparse::CooMatrix;
 use nalgebra_sparse::convert::serial::convert_coo_csr;
-use nalgebra_sparse::io::save_to_matrix_market_str;
+use nalgebra_sparse::io::{load_coo_from_matrix_market_file, save_to_matrix_market_str};
 use nalgebra_sparse::ops::serial::mul_csr;
 use nalgebra_sparse::scalar::W64;
 use std::test::Fail;
@@ -19,7 +19,12 @@ fn print_square(rt: &HostRuntime) -> Result<(), Fail> {
     Ok(())
 }
 
-#[test]
-fn a_square_is_printed(rt: HostRuntime) -> Result<(), Fail> {
-    print_square(&rt)
+fn print_gram_matrix(rt: &HostRuntime, path: &str) -> Result<(), Fail> {
+    let list = load_coo_from_matrix_market_file::<W64>(rt, path)?;
+    let matrix = convert_coo_csr(rt.alloc(), &list)?;
+    let transposed = matrix.transpose(rt.alloc())?;
+    let product = mul_csr(rt.alloc(), &matrix, &transposed)?;
+    let text = save_to_matrix_market_str(rt.alloc(), &product)?;
+    print!(rt; "{text}")?;
+    Ok(())
 }

@@ -25,7 +25,7 @@ impl<T: Zero> Zero for Dual<T> {
 impl<T: Ring> Ring for Dual<T> {
     ghost use Rattle.std.proofs.Common.{ap};
     ghost use Rattle.std.proofs.lemmas.Bool.{and_from, and_parts};
-    ghost use Rattle.examples_texts.specs.DualNumbers.{dual_ring, pair_same};
+    ghost use Rattle.examples_theorems.specs.DualNumbers.{dual_ring, pair_same};
 
     ghost ring = { dual_ring T.ring };
 

@@ -1,7 +1,7 @@
 use Rattle.nalgebra_sparse.specs.ModNumbers.{mod_value}
 use Rattle.nalgebra_sparse.specs.Moduli.{mod_ring, modulus_pos}
-use Rattle.examples_operations.proofs.SymmetricSystems.{factors_exist}
-use Rattle.examples_operations.proofs.symmetric.has_factors.Goals as goal
+use Rattle.examples_theorems.proofs.SymmetricSystems.{factors_exist}
+use Rattle.examples_theorems.proofs.symmetric.has_factors.Goals as goal
 
 pub returns-in-Ok-clause-factors : goal.returns-in-Ok-clause-factors
 returns-in-Ok-clause-factors g c = λ _.

@@ -1,5 +1,5 @@
 use Rattle.std.proofs.Common.{sym, ◌∙◌}
-use Rattle.examples_operations.proofs.symmetric.is_symmetric.Goals as goal
+use Rattle.examples_theorems.proofs.symmetric.is_symmetric.Goals as goal
 
 pub returns : goal.returns
 returns g c = λ yes.

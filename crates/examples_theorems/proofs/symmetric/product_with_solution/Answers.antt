@@ -1,11 +1,11 @@
-use Rattle.std.proofs.Common.{◌≡◌, ap, sym, subst, ◌∙◌}
+use Rattle.std.proofs.Common.{ap, sym, subst, ◌∙◌}
 use Rattle.nalgebra_sparse.specs.DensePlain.{plain_of_dense}
 use Rattle.nalgebra_sparse.specs.Factors.{plain_of_factors, symmetric_of}
 use Rattle.nalgebra_sparse.specs.Plain.{Plain}
 use Rattle.nalgebra_sparse.specs.PlainOfLanes.{plain_of_cols}
 use Rattle.nalgebra_sparse.specs.Solutions.{HasSameValues}
-use Rattle.examples_operations.proofs.SymmetricSystems.{product_is}
-use Rattle.examples_operations.proofs.symmetric.product_with_solution.Goals as goal
+use Rattle.examples_theorems.proofs.SymmetricSystems.{product_is}
+use Rattle.examples_theorems.proofs.symmetric.product_with_solution.Goals as goal
 
 pub returns : goal.returns
 returns g c =

@@ -1,7 +1,6 @@
 -- Dual numbers over a commutative ring: pairs (a, b), read as a + b e with e e = 0.
-use Rattle.std.specs.Prelude.{◌≡◌, Bool, true, ◌↔◌}
-use Rattle.std.proofs.Common.{sym, ap, ◌∙◌, refl, ◌&&◌}
-use Rattle.std.proofs.lemmas.Bool.{and_from, and_parts}
+use Rattle.std.specs.Prelude.{◌≡◌}
+use Rattle.std.proofs.Common.{sym, ap, ◌∙◌}
 use Rattle.nalgebra_sparse.specs.Algebra.{RingLaws, CommRing}
 use Rattle.nalgebra_sparse.specs.RingLemmas
 
