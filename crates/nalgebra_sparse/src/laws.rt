@@ -51,3 +51,5 @@ pub use sparse_laws::operations;
 pub use sparse_rings::laws as rings;
 /// Triangular systems: a solution is unique.
 pub use sparse_solve::laws as systems;
+/// Views: the view of a matrix, copied, is the matrix.
+pub use sparse_views::laws as views;

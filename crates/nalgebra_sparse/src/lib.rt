@@ -7,6 +7,7 @@ pub mod io;
 pub mod laws;
 pub mod ops;
 pub mod scalar;
+pub mod views;
 
 pub use sparse_base::coo::CooMatrix;
 pub use sparse_base::{coo, dense};

@@ -5,6 +5,7 @@ use crate::outcome::{Outcome, outcome_of};
 use crate::turn::Turn;
 use nalgebra_sparse::CscMatrix;
 use nalgebra_sparse::scalar::W64;
+use nalgebra_sparse::views::CscView;
 use std::alloc::Global;
 
 pub fn run(turn: &mut Turn, call: &str, case: &str) -> Outcome {
@@ -37,6 +38,7 @@ fn of_one(alloc: Global, call: &str, matrix: &CscMatrix<W64>) -> Outcome {
         "CscMatrix::zeros" => outcome_of(CscMatrix::<W64>::zeros(alloc, 3, 2)),
         "CscMatrix::identity" => outcome_of(CscMatrix::<W64>::identity(alloc, 3)),
         "CscMatrix::clone" => outcome_of(matrix.clone(alloc)),
+        "CscView::to_csc" => outcome_of(CscView::of(matrix).to_csc(alloc)),
         "CscMatrix::transpose" => outcome_of(matrix.transpose(alloc)),
         "CscMatrix::filter" => outcome_of(matrix.filter(alloc, |row, col, _| row != col)),
         "CscMatrix::upper_triangle" => outcome_of(matrix.upper_triangle(alloc)),

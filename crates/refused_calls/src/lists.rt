@@ -8,24 +8,33 @@ use crate::turn::Turn;
 use nalgebra_sparse::CooMatrix;
 use nalgebra_sparse::dense::DMatrix;
 use nalgebra_sparse::scalar::W64;
+use nalgebra_sparse::views::CooView;
 use std::alloc::{AllocError, Global};
 use std::rc::Rc;
 
 pub fn run(turn: &mut Turn, call: &str, case: &str) -> Outcome {
     match call {
         "CooMatrix::try_from_triplets_iter" => from_iterator(turn),
-        "CooMatrix::clone" => clone(turn),
+        "CooMatrix::clone" | "CooView::to_coo" => copy(turn, call),
         _ => grow(turn, call, case),
     }
 }
 
-fn clone(turn: &mut Turn) -> Outcome {
+fn copy(turn: &mut Turn, call: &str) -> Outcome {
     match list(turn.alloc(), (3, 3), &[(2, 1), (0, 1), (2, 1)]) {
         Some(list) => {
             turn.begin();
-            outcome_of(list.clone(turn.alloc()))
+            copy_of(turn.alloc(), call, &list)
         }
         None => Outcome::Unready,
+    }
+}
+
+// A copy of a list, or of its view.
+fn copy_of(alloc: Global, call: &str, list: &CooMatrix<W64>) -> Outcome {
+    match call {
+        "CooView::to_coo" => outcome_of(CooView::of(list).to_coo(alloc)),
+        _ => outcome_of(list.clone(alloc)),
     }
 }
 

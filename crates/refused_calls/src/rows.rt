@@ -5,6 +5,7 @@ use crate::outcome::{Outcome, outcome_of};
 use crate::turn::Turn;
 use nalgebra_sparse::CsrMatrix;
 use nalgebra_sparse::scalar::W64;
+use nalgebra_sparse::views::CsrView;
 use std::alloc::Global;
 
 pub fn run(turn: &mut Turn, call: &str, case: &str) -> Outcome {
@@ -37,6 +38,7 @@ fn of_one(alloc: Global, call: &str, matrix: &CsrMatrix<W64>) -> Outcome {
         "CsrMatrix::zeros" => outcome_of(CsrMatrix::<W64>::zeros(alloc, 3, 2)),
         "CsrMatrix::identity" => outcome_of(CsrMatrix::<W64>::identity(alloc, 3)),
         "CsrMatrix::clone" => outcome_of(matrix.clone(alloc)),
+        "CsrView::to_csr" => outcome_of(CsrView::of(matrix).to_csr(alloc)),
         "CsrMatrix::transpose" => outcome_of(matrix.transpose(alloc)),
         "CsrMatrix::filter" => outcome_of(matrix.filter(alloc, |row, col, _| row != col)),
         "CsrMatrix::upper_triangle" => outcome_of(matrix.upper_triangle(alloc)),

@@ -5,6 +5,7 @@ use crate::fixtures::{copies, is_error};
 use SparseFormatErrorKind::{IndexOutOfBounds, InvalidStructure};
 use sparse_base::coo::CooMatrix;
 use sparse_pattern::error::SparseFormatErrorKind;
+use sparse_views::CooView;
 use std::alloc::{AllocError, Global};
 use std::rc::Rc;
 
@@ -94,10 +95,17 @@ fn is_refused(alloc: Global, fault: &Fault) -> bool {
     is_error(alloc, answer.err(), fault.6, fault.5)
 }
 
+// Whether a view of the triplets is refused with the error of an owned list.
+fn is_refused_where_it_is(alloc: Global, fault: &Fault) -> bool {
+    let answer = CooView::try_from_triplets(fault.0, fault.1, fault.2, fault.3, fault.4);
+    is_error(alloc, answer.err(), fault.6, fault.5)
+}
+
 #[test]
 fn the_first_fault_is_named(rt: HostRuntime) {
     for fault in &FAULTS {
         assert!(rt; is_refused(rt.alloc(), fault), "{}", fault.6);
+        assert!(rt; is_refused_where_it_is(rt.alloc(), fault), "{}", fault.6);
     }
 }
 

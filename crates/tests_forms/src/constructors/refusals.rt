@@ -6,6 +6,7 @@ use sparse_forms::csc::CscMatrix;
 use sparse_forms::csr::CsrMatrix;
 use sparse_pattern::error::{SparseFormatError, SparseFormatErrorKind};
 use sparse_pattern::pattern::SparsityPattern;
+use sparse_views::{CscView, CsrView};
 use std::alloc::{AllocError, Global};
 
 // Arrays, the kind of the error, and its text by rows and by columns.
@@ -211,10 +212,23 @@ fn refuses_sorted(alloc: Global, refusal: &SortedRefusal) -> bool {
         && is_error(alloc, csc(alloc, refusal.0).err(), refusal.3, refusal.1)
 }
 
+// Whether views of the arrays are refused with the errors of owned matrices.
+fn refuses_views(alloc: Global, refusal: &SortedRefusal) -> bool {
+    let (lanes, length, offsets, indices, values) = refusal.0;
+    let rows = CsrView::try_from_csr_data(lanes, length, offsets, indices, values);
+    let cols = CscView::try_from_csc_data(length, lanes, offsets, indices, values);
+    is_error(alloc, rows.err(), refusal.2, refusal.1)
+        && is_error(alloc, cols.err(), refusal.3, refusal.1)
+}
+
 #[test]
 fn sorted_arrays_are_refused(rt: HostRuntime) {
     for (row, refusal) in SORTED.iter().enumerate() {
         assert!(rt; refuses_sorted(rt.alloc(), refusal), "row {row}");
+        assert!(rt;
+            refuses_views(rt.alloc(), refusal),
+            "the views of row {row}"
+        );
     }
 }
 
