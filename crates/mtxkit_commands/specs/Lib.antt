@@ -4,3 +4,4 @@ pub mod Commands
 pub mod Inputs
 pub mod SystemErrors
 pub mod Names
+pub mod Progress

@@ -60,6 +60,6 @@ name_text (Some path) = path
 name_text None = []
 
 -- the line begins with the program's name, and then with that of the file, if one is at fault
-abbrev pub IsLineOf : Option (List ℕ) → List ℕ → Type 0
-IsLineOf path line =
+abbrev pub IsErrorLine : Option (List ℕ) → List ℕ → Type 0
+IsErrorLine path line =
     (rest : List ℕ) × (line ≡ (codes "mtxkit: " ++ name_text path) ++ rest)

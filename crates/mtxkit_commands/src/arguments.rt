@@ -11,7 +11,8 @@ ghost use Rattle.mtxkit_commands.specs.Inputs.{argument_fault};
 
 use crate::cli::{finish, run};
 use crate::failure_lines::report;
-use crate::inputs::Inputs;
+use crate::inputs::{Inputs, Texts};
+use crate::progress::Screen;
 use crate::words::parse;
 use mtxkit_texts::Failure;
 use sparse_io::{Out, Sink, write_all_to};
@@ -25,27 +26,30 @@ use std::rt::Files;
 ///
 /// The first argument is the program's name. An argument that is not UTF-8 is wrong usage; an allocation failure while
 /// the arguments are read is reported as one of the command. Help is written to `stdout`. At status 0 the output was
-/// flushed, and a failed flush is reported as a failed write.
-pub fn answer<R, I, W, E>(
+/// flushed, and a failed flush is reported as a failed write. The screen shows the progress of reading large files.
+pub fn answer<R, I, W, E, S>(
     rt: &R,
     arguments: io::Result<Args>,
     stdin: I,
     stdout: W,
     stderr: E,
+    screen: Screen<S>,
 ) -> ExitCode
 where
     R: Files + AllocGlobal,
     I: io::Read + Drop,
     W: io::Write + Drop,
     E: io::Write + Drop,
+    S: io::Write + Drop,
     ensures status { exit_status result ≤ 2 }
     ensures unread { IfErr arguments
         (λ e. exit_status result ≡ status_of (argument_fault (error_kind e))) }
 {
-    let mut stdin = stdin;
+    let (mut stdin, mut screen) = (stdin, screen);
+    let mut texts = Inputs::new(rt, &mut stdin, &mut screen);
     let mut out = Out::new(stdout);
     let mut err = Out::new(stderr);
-    exit_code(obey(rt, arguments, &mut stdin, &mut out, &mut err))
+    exit_code(obey(rt, arguments, &mut texts, &mut out, &mut err))
 }
 
 // The exit status as the runtime takes it.
@@ -56,16 +60,16 @@ fn exit_code(status: u8) -> ExitCode
 }
 
 // Runs the command that the arguments give, reports a failure, and returns the status.
-fn obey<R, I, W, E>(
+fn obey<R, T, W, E>(
     rt: &R,
     arguments: io::Result<Args>,
-    stdin: &mut I,
+    texts: &mut T,
     out: &mut Out<W>,
     err: &mut Out<E>,
 ) -> u8
 where
     R: Files + AllocGlobal,
-    I: io::Read,
+    T: Texts,
     W: io::Write,
     E: io::Write,
     ensures status { result ≤ 2 }
@@ -73,29 +77,29 @@ where
     ensures unread { IfErr arguments (λ e. result ≡ status_of (argument_fault (error_kind e))) }
 {
     match given_words(rt.alloc(), arguments) {
-        Ok(words) => obey_words(rt, &words, stdin, out, err),
+        Ok(words) => obey_words(rt, &words, texts, out, err),
         Err(failure) => report(rt.alloc(), None, failure, err),
     }
 }
 
 // Runs the command that these words give, and flushes its output at status 0.
-fn obey_words<R, I, W, E>(
+fn obey_words<R, T, W, E>(
     rt: &R,
     words: &[String],
-    stdin: &mut I,
+    texts: &mut T,
     out: &mut Out<W>,
     err: &mut Out<E>,
 ) -> u8
 where
     R: Files + AllocGlobal,
-    I: io::Read,
+    T: Texts,
     W: io::Write,
     E: io::Write,
     ensures status { result ≤ 2 }
     ensures flushed { result ≡ 0 → IsTrue out.new.flushed }
 {
     let status = match parse(rt.alloc(), words) {
-        Ok(Some(command)) => run(rt, command, &mut Inputs::new(rt, stdin), out, err),
+        Ok(Some(command)) => run(rt, command, texts, out, err),
         Ok(None) => report(rt.alloc(), None, Failure::Usage, err),
         Err(error) => explain(rt.alloc(), &error, out, err),
     };

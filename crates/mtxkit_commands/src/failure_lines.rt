@@ -3,7 +3,7 @@
 ghost use Rattle.std.specs.Prelude.{◌≡◌, ◌++◌, IfOk, OnOk, codes, string_bytes};
 ghost use Rattle.std.specs.Option.{option_map};
 ghost use Rattle.mtxkit_texts.specs.Statuses.{status_of};
-ghost use Rattle.mtxkit_commands.specs.Names.{name_text, IsLineOf};
+ghost use Rattle.mtxkit_commands.specs.Names.{name_text, IsErrorLine};
 
 use mtxkit_texts::Failure;
 use sparse_io::{Sink, write_all_to};
@@ -35,7 +35,7 @@ pub fn failure_line(
     file: Option<&str>,
     failure: Failure,
 ) -> Result<String, AllocError>
-    ensures { IfOk result (λ line. IsLineOf (option_map (λ path. path.now) file.entry)
+    ensures { IfOk result (λ line. IsErrorLine (option_map (λ path. path.now) file.entry)
         (string_bytes line)) }
 {
     let mut line = String::new(alloc);

@@ -3,10 +3,12 @@
 ghost use Rattle.std.specs.Prelude.{◌≡◌, ◌∷◌, List, Ok, Err, IfOk, IfErr, string_bytes};
 ghost use Rattle.mtxkit_commands.specs.Inputs.{input_fault, IsRead, IsUnread};
 
+use crate::progress::{Screen, read_shown};
 use crate::record::Record;
 use mtxkit_texts::Failure;
+use std::fs::{File, OpenFile};
+use std::io;
 use std::rt::Files;
-use std::{fs, io};
 
 /// What reads texts. Contracts see which files were read, in which order, and what each gave.
 pub trait Texts {
@@ -25,29 +27,36 @@ pub trait Texts {
 
 /// Files, and standard input under the path `-`. The record of what was read has no bytes.
 #[derive(Drop)]
-pub struct Inputs<'a, R, I> {
+pub struct Inputs<'a, R, I, W> {
     rt: &'a R,
     stdin: &'a mut I,
+    screen: &'a mut Screen<W>,
     log: Record,
 }
 
-impl<'a, R, I> Inputs<'a, R, I> {
-    /// Returns the files of `rt`, none of which was read.
-    pub fn new(rt: &'a R, stdin: &'a mut I) -> Inputs<'a, R, I> {
+impl<'a, R, I, W> Inputs<'a, R, I, W> {
+    /// Returns the files of `rt`, none of which was read. The screen shows the progress of reading them.
+    pub fn new(rt: &'a R, stdin: &'a mut I, screen: &'a mut Screen<W>) -> Inputs<'a, R, I, W> {
         Inputs {
             rt,
             stdin,
+            screen,
             log: Record::new(),
         }
     }
 }
 
-impl<'a, R: Files + AllocGlobal, I: io::Read> Texts for Inputs<'a, R, I> {
+impl<'a, R, I, W> Texts for Inputs<'a, R, I, W>
+where
+    R: Files + AllocGlobal,
+    I: io::Read,
+    W: io::Write,
+{
     ghost readings = { λ inputs. inputs.log.readings };
 
     /// Returns `InvalidData` if the file is not UTF-8.
     fn read(&mut self, path: &str) -> io::Result<String> {
-        let read = content_of(self.rt, self.stdin, path);
+        let read = content_of(self.rt, self.stdin, self.screen, path);
         match &read {
             Ok(text) => self.log = self.log.with_text(path.as_bytes(), text.as_bytes()),
             Err(error) => self.log = self.log.with_error(path.as_bytes(), error),
@@ -57,15 +66,30 @@ impl<'a, R: Files + AllocGlobal, I: io::Read> Texts for Inputs<'a, R, I> {
 }
 
 // Returns the text of the file with this path, or of standard input. No contract says what a file holds.
-fn content_of<R, I>(rt: &R, stdin: &mut I, path: &str) -> io::Result<String>
+fn content_of<R, I, W>(
+    rt: &R,
+    stdin: &mut I,
+    screen: &mut Screen<W>,
+    path: &str,
+) -> io::Result<String>
 where
     R: Files + AllocGlobal,
     I: io::Read,
+    W: io::Write,
 {
     if path == "-" {
-        io::read_to_string(rt.alloc(), stdin)
-    } else {
-        fs::read_to_string(rt, path)
+        return io::read_to_string(rt.alloc(), stdin);
+    }
+    let file = File::open(rt, path)?;
+    let size = file_size(&file);
+    read_shown(rt.alloc(), file, path, size, screen)
+}
+
+// Returns the number of bytes of an open file, or 0 if the system does not say it.
+fn file_size<F: OpenFile>(file: &F) -> u64 {
+    match file.metadata() {
+        Ok(metadata) => metadata.len(),
+        Err(_) => 0,
     }
 }
 

@@ -2,7 +2,7 @@
 
 ghost use Rattle.std.specs.Prelude.{◌≡◌, IfOk, IfErr, Some, string_bytes};
 ghost use Rattle.mtxkit_commands.specs.Commands.{IsScaleAnswer, IsScaleError};
-ghost use Rattle.mtxkit_commands.specs.Names.{IsLineOf};
+ghost use Rattle.mtxkit_commands.specs.Names.{IsErrorLine};
 
 use crate::command_error::CommandError;
 use crate::failure_lines::write_line;
@@ -47,7 +47,7 @@ pub(crate) fn report_unscaled<E: Sink>(
 
 // Returns the line of such a file: the program, the file, the number of its line, if one is at fault, and why.
 fn unscaled_line(alloc: Global, file: &str, error: ScaleError) -> Result<String, AllocError>
-    ensures { IfOk result (λ line. IsLineOf (Some file.now) (string_bytes line)) }
+    ensures { IfOk result (λ line. IsErrorLine (Some file.now) (string_bytes line)) }
 {
     let mut line = String::new(alloc);
     line.push_str("mtxkit: ")?;

@@ -3,7 +3,7 @@
 ghost use Rattle.mtxkit_commands.specs.Commands.{IsSized};
 
 use crate::sink::Page;
-use mtxkit_commands::{Command, Inputs, Target, Values, run as execute};
+use mtxkit_commands::{Command, Inputs, Screen, Target, Values, run as execute};
 use nalgebra_sparse::io::Out;
 use refused_calls::answer::of_bytes;
 use refused_calls::outcome::Outcome;
@@ -97,7 +97,8 @@ fn obey(rt: &HostRuntime, turn: &mut Turn, command: Command<'static>) -> Outcome
         }
     }
     let mut stdin: &[u8] = &[];
-    let mut inputs = Inputs::new(rt, &mut stdin);
+    let mut screen = Screen::none();
+    let mut inputs = Inputs::new(rt, &mut stdin, &mut screen);
     let mut whole = Out::new(Page::new());
     let mut errors = Out::new(Page::new());
     if execute(rt, command, &mut inputs, &mut whole, &mut errors) != 0 {

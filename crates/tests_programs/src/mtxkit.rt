@@ -4,6 +4,7 @@ mod cases;
 mod failures;
 mod info_cases;
 mod line_cases;
+mod progress;
 mod refusals;
 mod system_cases;
 
@@ -13,7 +14,7 @@ use crate::mtxkit::info_cases::INFO_CASES;
 use crate::mtxkit::line_cases::{LINE_CASES, LineCase};
 use crate::mtxkit::refusals::{REFUSALS, Refusal};
 use crate::mtxkit::system_cases::{CHECK_CASES, SOLVE_CASES, SystemCase};
-use mtxkit_commands::answer;
+use mtxkit_commands::{Screen, answer};
 use std::alloc::{AllocError, Global};
 use std::fs;
 use std::io::{self, ErrorKind, Write};
@@ -68,7 +69,8 @@ fn answered(
     let given = arguments(rt.alloc(), words, paths)?;
     let mut out = Vec::new(rt.alloc());
     let mut err = Vec::new(rt.alloc());
-    let status = answer(rt, Ok(given.into_iter()), stdin, &mut out, &mut err);
+    let given = Ok(given.into_iter());
+    let status = answer(rt, given, stdin, &mut out, &mut err, Screen::none());
     Ok(Answer { status, out, err })
 }
 
@@ -203,7 +205,8 @@ fn is_refused(
 ) -> Result<bool, AllocError> {
     let given = arguments(rt.alloc(), words, &[])?;
     let mut err = Vec::new(rt.alloc());
-    let status = answer(rt, Ok(given.into_iter()), stdin, Closed, &mut err);
+    let given = Ok(given.into_iter());
+    let status = answer(rt, given, stdin, Closed, &mut err, Screen::none());
     Ok(status == ExitCode::from(wanted) && is_line(&err, line, wanted))
 }
 
@@ -245,7 +248,8 @@ fn is_answered(rt: &HostRuntime, &(kind, status, line): &(ErrorKind, u8, &str)) 
     let mut err = Vec::new(rt.alloc());
     let stdin: &[u8] = &[];
     let given = Err(io::Error::from(kind));
-    let code = answer(rt, given, stdin, Vec::new(rt.alloc()), &mut err);
+    let out = Vec::new(rt.alloc());
+    let code = answer(rt, given, stdin, out, &mut err, Screen::none());
     code == ExitCode::from(status) && err.as_slice() == line.as_bytes()
 }
 

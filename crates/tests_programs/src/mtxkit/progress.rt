@@ -1,0 +1,141 @@
+//! What a screen shows while a file is read.
+
+use crate::files::matrix;
+use crate::mtxkit::{Closed, arguments};
+use mtxkit_commands::{Screen, answer, progress_line, read_shown};
+use std::io::{self, ErrorKind, Read};
+use std::process::ExitCode;
+use std::test::Fail;
+
+const MEGABYTE: u64 = 1_000_000;
+
+impl Read for Closed {
+    fn read(&mut self, _buf: &mut [u8]) -> io::Result<usize> {
+        Err(io::Error::from(ErrorKind::ConnectionReset))
+    }
+}
+
+// The bytes that were read, those of the file, and the line.
+const LINES: [(u64, u64, &str); 3] = [
+    (0, 64 * MEGABYTE, "\rmtxkit: a.mtx: 0 of 64 MB read"),
+    (999_999, 2_999_999, "\rmtxkit: a.mtx: 0 of 2 MB read"),
+    (
+        512 * MEGABYTE,
+        2048 * MEGABYTE,
+        "\rmtxkit: a.mtx: 512 of 2048 MB read",
+    ),
+];
+
+#[test]
+fn a_line_names_the_file_and_counts_megabytes(rt: HostRuntime) -> Result<(), Fail> {
+    for (done, whole, wanted) in &LINES {
+        let line = progress_line(rt.alloc(), "a.mtx", *done, *whole)?;
+        assert!(rt; line.as_str() == *wanted, "{line:?}");
+    }
+    Ok(())
+}
+
+const ALL_LINES: &str =
+    "\rmtxkit: a.mtx: 1 of 3 MB read\rmtxkit: a.mtx: 2 of 3 MB read\rmtxkit: a.mtx: 3 of 3 MB read\n";
+
+// Whether the stream is a terminal, the smallest size that is shown, and what is shown of a file of three megabytes.
+const SCREENS: [(bool, u64, &str); 3] = [
+    (true, 3 * MEGABYTE, ALL_LINES),
+    (true, 3 * MEGABYTE + 1, ""),
+    (false, 0, ""),
+];
+
+// Whether a file of three megabytes is read whole, and this is shown.
+fn is_shown(rt: &HostRuntime, &(is_terminal, least, wanted): &(bool, u64, &str)) -> bool {
+    let mut shown = Vec::new(rt.alloc());
+    let mut screen = Screen {
+        out: &mut shown,
+        is_terminal,
+        least,
+        step: MEGABYTE,
+    };
+    let file = io::repeat(b'1').take(3 * MEGABYTE);
+    let count = match read_shown(rt.alloc(), file, "a.mtx", 3 * MEGABYTE, &mut screen) {
+        Ok(text) => text.len(),
+        Err(_) => 0,
+    };
+    count == 3_000_000 && shown.as_slice() == wanted.as_bytes()
+}
+
+#[test]
+fn large_files_are_shown_on_terminals_alone(rt: HostRuntime) {
+    for case in &SCREENS {
+        assert!(rt; is_shown(&rt, case), "{case:?}");
+    }
+}
+
+// The error of a file whose second megabyte cannot be read, and what was shown.
+fn torn(rt: &HostRuntime) -> (Option<ErrorKind>, Vec<u8>) {
+    let mut shown = Vec::new(rt.alloc());
+    let mut screen = Screen {
+        out: &mut shown,
+        is_terminal: true,
+        least: 0,
+        step: MEGABYTE,
+    };
+    let file = io::repeat(b'1').take(MEGABYTE).chain(Closed);
+    let kind = match read_shown(rt.alloc(), file, "a.mtx", 2 * MEGABYTE, &mut screen) {
+        Ok(_) => None,
+        Err(error) => Some(error.kind()),
+    };
+    (kind, shown)
+}
+
+// The line of the error begins below the one of the progress.
+#[test]
+fn a_failed_read_ends_the_line(rt: HostRuntime) {
+    let (kind, shown) = torn(&rt);
+    let wanted = "\rmtxkit: a.mtx: 1 of 2 MB read\n";
+    assert!(rt; kind == Some(ErrorKind::ConnectionReset));
+    assert!(rt; shown.as_slice() == wanted.as_bytes());
+}
+
+// Whether a text is read although the screen takes nothing.
+fn is_read_unseen(rt: &HostRuntime) -> bool {
+    let mut screen = Screen {
+        out: Closed,
+        is_terminal: true,
+        least: 0,
+        step: 1,
+    };
+    let file: &[u8] = b"text";
+    match read_shown(rt.alloc(), file, "a.mtx", 4, &mut screen) {
+        Ok(text) => text.as_str() == "text",
+        Err(_) => false,
+    }
+}
+
+#[test]
+fn a_screen_that_fails_is_no_error(rt: HostRuntime) {
+    assert!(rt; is_read_unseen(&rt));
+}
+
+// What a command shows of its file.
+fn shown_of(rt: &HostRuntime, path: String) -> io::Result<(ExitCode, Vec<u8>)> {
+    let given = arguments(rt.alloc(), &["info"], &[path])?;
+    let mut shown = Vec::new(rt.alloc());
+    let screen = Screen {
+        out: &mut shown,
+        is_terminal: true,
+        least: 1,
+        step: 1000,
+    };
+    let (stdin, out, err): (&[u8], _, _) = (&[], io::sink(), io::sink());
+    let status = answer(rt, Ok(given.into_iter()), stdin, out, err, screen);
+    Ok((status, shown))
+}
+
+#[test]
+fn a_command_shows_the_path_of_its_file(rt: HostRuntime) -> Result<(), Fail> {
+    let path = matrix(&rt, 0, "1 1 0\n")?;
+    let (status, shown) = shown_of(&rt, path)?;
+    assert!(rt; status == ExitCode::SUCCESS);
+    let wanted = "\rmtxkit: 0.mtx: 0 of 0 MB read\n";
+    assert!(rt; shown.as_slice() == wanted.as_bytes());
+    Ok(())
+}
