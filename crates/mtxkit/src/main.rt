@@ -1,7 +1,8 @@
 //! The program `mtxkit`: facts about Matrix Market files, pictures of them, and symmetric systems.
 #![tactic(auto)]
 
-use mtxkit_commands::{Screen, answer};
+use mtxkit_commands::answer;
+use mtxkit_texts::Screen;
 use std::env;
 use std::process::ExitCode;
 

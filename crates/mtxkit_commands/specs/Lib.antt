@@ -4,4 +4,3 @@ pub mod Commands
 pub mod Inputs
 pub mod SystemErrors
 pub mod Names
-pub mod Progress

@@ -3,9 +3,8 @@
 ghost use Rattle.std.specs.Prelude.{◌≡◌, ◌∷◌, List, Ok, Err, IfOk, IfErr, string_bytes};
 ghost use Rattle.mtxkit_commands.specs.Inputs.{input_fault, IsRead, IsUnread};
 
-use crate::progress::{Screen, read_shown};
 use crate::record::Record;
-use mtxkit_texts::Failure;
+use mtxkit_texts::{Failure, Screen, read_shown};
 use std::fs::{File, OpenFile};
 use std::io;
 use std::rt::Files;

@@ -1,1 +1,7 @@
+mod ColumnOrders
+mod LaneCounts
+mod LongestLanes
+mod Marks
+mod PlacesLeft
+mod SymmetricSystems
 mod ZeroValues

@@ -2,13 +2,14 @@
 
 ghost use Rattle.std.specs.Prelude.{◌≡◌, ◌↔◌, IfOk, IsTrue, count_by, length};
 ghost use Rattle.sparse_cs.specs.PlainOfLanes.{plain_of_rows};
-ghost use Rattle.mtxkit_patterns.specs.Lanes.{count_below, has_size_in, HasEmptyColumns};
-ghost use Rattle.mtxkit_patterns.specs.Lanes.{IsHistogram};
-ghost use Rattle.mtxkit_patterns.specs.Shapes.{IsBandwidth, IsSymmetricPattern};
+ghost use Rattle.mtxkit_matrices.specs.Lanes.{count_below, has_size_in, HasEmptyColumns};
+ghost use Rattle.mtxkit_matrices.specs.Lanes.{IsHistogram};
+ghost use Rattle.mtxkit_matrices.specs.Shapes.{IsBandwidth, IsSymmetricPattern};
 ghost use Rattle.mtxkit_matrices.specs.Values.{IsSymmetricMatrix};
 
+use crate::lanes::{Histogram, count_lanes, counted_lanes};
+use crate::shape::{bandwidth, is_symmetric};
 use crate::values::{count_zeros, has_symmetric_values};
-use mtxkit_patterns::{Histogram, bandwidth, count_lanes, counted_lanes, is_symmetric};
 use sparse_algebra::scalar::Ring;
 use sparse_forms::csr::CsrMatrix;
 use std::alloc::{AllocError, Global};

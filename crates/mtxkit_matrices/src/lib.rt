@@ -1,10 +1,22 @@
-//! Facts about matrices, comparisons of their values, and lower triangles, for the program `mtxkit`.
+//! Facts about matrices, pictures of their patterns, and symmetric systems, for the program `mtxkit`.
 #![tactic(auto)]
 
 mod info;
+mod lanes;
+mod picture;
+mod picture_text;
+mod scale;
+mod shape;
+mod system;
 mod triangle;
 mod values;
 
 pub use info::{Info, info_of};
+pub use lanes::{Histogram, count_lanes, counted_lanes, longest_lane};
+pub use picture::{Picture, draw};
+pub use picture_text::{bitmap_text, block_text};
+pub use scale::scaled_sizes;
+pub use shape::{bandwidth, is_symmetric};
+pub use system::{SystemError, is_solution, solve, solve_listed};
 pub use triangle::lower_of;
 pub use values::{count_zeros, has_same_values, has_symmetric_values};

@@ -5,8 +5,8 @@ use Rattle.sparse_algebra.specs.WrappingValues.{w128_number}
 use Rattle.sparse_algebra.specs.declared.scalar.wide.W128.{W128}
 use Rattle.sparse_cs.specs.Compressed.{Compressed}
 use Rattle.sparse_cs.specs.PlainOfLanes.{plain_of_rows}
-use Rattle.mtxkit_patterns.specs.Lanes.{count_below, has_size_in, HasEmptyColumns, IsHistogram}
-use Rattle.mtxkit_patterns.specs.Shapes.{IsBandwidth, IsSymmetricPattern}
+use Rattle.mtxkit_matrices.specs.Lanes.{count_below, has_size_in, HasEmptyColumns, IsHistogram}
+use Rattle.mtxkit_matrices.specs.Shapes.{IsBandwidth, IsSymmetricPattern}
 use Rattle.mtxkit_matrices.specs.Values.{IsSymmetricMatrix}
 use Rattle.mtxkit_matrices.specs.declared.info.Info.{Info}
 use Rattle.mtxkit_texts.specs.FactLines.{header_lines, size_lines, count_lines, symmetry_lines}

@@ -12,3 +12,4 @@ pub mod Statuses
 pub mod PatternTexts
 pub mod Shapes
 pub mod InnerShapes
+pub mod Progress

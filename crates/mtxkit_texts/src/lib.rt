@@ -1,4 +1,5 @@
-//! Matrices of texts: read, described, shown as pictures, and written again, for the program `mtxkit`.
+//! Matrices of texts, for the program `mtxkit`: read, described, shown as pictures, and written again; and the progress
+//! of reading large files.
 #![tactic(auto)]
 
 mod exact;
@@ -10,6 +11,7 @@ mod lists;
 mod loaded;
 mod pattern_texts;
 mod places;
+mod progress;
 mod shapes;
 mod spots;
 mod spy;
@@ -26,6 +28,7 @@ pub use lists::with_values;
 pub use loaded::{Loaded, header_of, load, read_integers};
 pub use pattern_texts::write_pattern;
 pub use places::ones_of;
+pub use progress::{Screen, progress_line, read_shown};
 pub use shapes::{Shape, shape_of};
 pub use spots::Spot;
 pub use spy::{spy_bitmap, spy_blocks};

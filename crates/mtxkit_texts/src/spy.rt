@@ -6,7 +6,7 @@ ghost use Rattle.mtxkit_texts.specs.Shown.{IsPictureOf, ShowsBitmap, ShowsBlocks
 
 use crate::failure::Failure;
 use crate::loaded::load;
-use mtxkit_patterns::{Picture, bitmap_text, block_text, draw, scaled_sizes};
+use mtxkit_matrices::{Picture, bitmap_text, block_text, draw, scaled_sizes};
 use std::alloc::Global;
 
 /// Returns the picture of a text's pattern as a portable bitmap, whose sides have at most `size` cells. A cell is black

@@ -3,7 +3,8 @@
 ghost use Rattle.mtxkit_commands.specs.Commands.{IsSized};
 
 use crate::sink::Page;
-use mtxkit_commands::{Command, Inputs, Screen, Target, Values, run as execute};
+use mtxkit_commands::{Command, Inputs, Target, Values, run as execute};
+use mtxkit_texts::Screen;
 use nalgebra_sparse::io::Out;
 use refused_calls::answer::of_bytes;
 use refused_calls::outcome::Outcome;

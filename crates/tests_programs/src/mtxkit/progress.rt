@@ -2,7 +2,8 @@
 
 use crate::files::matrix;
 use crate::mtxkit::{Closed, arguments};
-use mtxkit_commands::{Screen, answer, progress_line, read_shown};
+use mtxkit_commands::answer;
+use mtxkit_texts::{Screen, progress_line, read_shown};
 use std::io::{self, ErrorKind, Read};
 use std::process::ExitCode;
 use std::test::Fail;

@@ -1,0 +1,33 @@
+//! The shape of a pattern: its bandwidth and its symmetry.
+
+ghost use Rattle.std.specs.Prelude.{◌≡◌, ℕ, ◌≤◌, ◌⊎◌, ◌↔◌, IfOk, IsTrue};
+ghost use Rattle.std.specs.Int.{abs_diff};
+ghost use Rattle.sparse_pattern.specs.Raw.{IsPlace};
+ghost use Rattle.mtxkit_matrices.specs.Shapes.{IsSymmetricPattern};
+
+use sparse_pattern::pattern::SparsityPattern;
+use std::alloc::{AllocError, Global};
+
+/// Returns the greatest distance of a place from the diagonal, or 0 if there are no places.
+pub fn bandwidth(pattern: &SparsityPattern) -> usize
+    ensures bound { (i j : ℕ) → IsPlace pattern.now i j → abs_diff i j ≤ result }
+    ensures reached { (result ≡ 0)
+        ⊎ ((i : ℕ) × (j : ℕ) × IsPlace pattern.now i j × (abs_diff i j ≡ result)) }
+{
+    let mut widest = 0;
+    for (row, col) in pattern.entries() {
+        let distance = row.abs_diff(col);
+        if widest < distance {
+            widest = distance;
+        }
+    }
+    widest
+}
+
+/// Returns whether the pattern is square and has the place (j, i) for each place (i, j).
+pub fn is_symmetric(alloc: Global, pattern: &SparsityPattern) -> Result<bool, AllocError>
+    ensures { IfOk result (λ answer. IsTrue answer ↔ IsSymmetricPattern pattern.now) }
+{
+    let transposed = pattern.transpose(alloc)?;
+    Ok(*pattern == transposed)
+}

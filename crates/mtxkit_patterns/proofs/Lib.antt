@@ -1,4 +1,0 @@
-mod LaneCounts
-mod LongestLanes
-mod Marks
-mod PlacesLeft
