@@ -596,8 +596,9 @@ int32_t nalgebra_sparse_write(
  *
  * A handle stands for a matrix that the library owns, over the integers modulo 2^64, or for none: it is then
  * {NULL}, as NALGEBRA_SPARSE_NO_MATRIX. The calls below take handles in place of arrays, so a chain of them copies no
- * operand and tests no array twice, and no result is too small. Their contracts are equations between the plain matrices
- * behind handles (crates/sparse_c/src/handles.rt and handle_operations.rt).
+ * operand and tests no array twice. Their contracts are equations between the plain matrices behind handles
+ * (crates/sparse_c/src/handles.rt, handle_operations.rt, handle_systems.rt and handle_texts.rt). No call over handles
+ * computes modulo another number.
  *
  *     nalgebra_sparse_matrix a = NALGEBRA_SPARSE_NO_MATRIX, square = NALGEBRA_SPARSE_NO_MATRIX, copy = NALGEBRA_SPARSE_NO_MATRIX;
  *     status = nalgebra_sparse_matrix_from_rows(2, 2, offsets, 3, indices, 2, values, 2, &a);
@@ -688,6 +689,70 @@ int32_t nalgebra_sparse_matrix_clone(nalgebra_sparse_matrix *a, nalgebra_sparse_
 
 /* Frees a handle, which is empty from then on. The matrix is dropped with the last handle that shares it. */
 void nalgebra_sparse_matrix_free(nalgebra_sparse_matrix *a);
+
+/* Puts the matrix of a text in Matrix Market format, with integers or as an array of integers, behind `out`: each place of
+ * the text, with the sum of its values. Statuses: as for nalgebra_sparse_read_sizes.
+ */
+int32_t nalgebra_sparse_matrix_from_text(const uint8_t *text, size_t text_len, nalgebra_sparse_matrix *out);
+
+/* Writes the text of the matrix behind `a` in Matrix Market format (coordinate, integer, general), with a line for each
+ * place, row by row. It is ASCII, and no zero byte ends it. *out_length becomes the number of its bytes, also at TOO_SMALL,
+ * where `out_text` is unchanged. Statuses: TOO_SMALL if out_text_len is less.
+ */
+int32_t nalgebra_sparse_matrix_to_text(nalgebra_sparse_matrix *a, uint8_t *out_text, size_t out_text_len, size_t *out_length);
+
+/* Solves L X = B, or L^T X = B where `transposed` is set: L is the part on and below the diagonal of the square matrix
+ * behind `a`. `values` has B, column by column, and then X: values_len is the number of rows times `cols`. Beside it the
+ * call takes memory for a copy of B and of the matrix.
+ *
+ * Statuses: SHAPE_MISMATCH if the matrix is not square; INVALID_STRUCTURE if B has another number of values; SINGULAR if
+ * there is a column to solve for, and some entry of the diagonal is not stored or is even. `values` is then unchanged.
+ */
+int32_t nalgebra_sparse_matrix_solve_lower(
+    nalgebra_sparse_matrix *a, bool transposed,
+    size_t cols, int64_t *values, size_t values_len);
+
+/* Solves U X = B, or U^T X = B, where U is the part on and above the diagonal. Otherwise as
+ * nalgebra_sparse_matrix_solve_lower.
+ */
+int32_t nalgebra_sparse_matrix_solve_upper(
+    nalgebra_sparse_matrix *a, bool transposed,
+    size_t cols, int64_t *values, size_t values_len);
+
+/* Handles of factors.
+ *
+ * They stand for the exact factors L D L^T of a symmetric matrix, as nalgebra_sparse_factor_symmetric writes them, or for
+ * none. What is said of handles of matrices holds of them.
+ *
+ *     nalgebra_sparse_factors f = NALGEBRA_SPARSE_NO_FACTORS;
+ *     status = nalgebra_sparse_matrix_factor(&a, &f);
+ *     status = nalgebra_sparse_factors_solve(&f, 1, values, 2);
+ *     nalgebra_sparse_factors_free(&f);
+ */
+typedef struct {
+    void *factors;
+} nalgebra_sparse_factors;
+
+/* A handle with no factors. */
+#define NALGEBRA_SPARSE_NO_FACTORS {NULL}
+
+/* Puts the factors of the symmetric matrix behind `out` whose entries on and above the diagonal are those of the matrix
+ * behind `a`. What is below the diagonal has no effect. Statuses: SHAPE_MISMATCH if the matrix is not square; SINGULAR if
+ * no factorisation exists.
+ */
+int32_t nalgebra_sparse_matrix_factor(nalgebra_sparse_matrix *a, nalgebra_sparse_factors *out);
+
+/* Solves L D L^T X = B with the factors behind `f`. `values` has B, column by column, and then X: values_len is the number
+ * of rows of L times `cols`. Beside it the call takes memory for a copy of B. Statuses: INVALID_STRUCTURE if B has another
+ * number of values; `values` is then unchanged.
+ */
+int32_t nalgebra_sparse_factors_solve(nalgebra_sparse_factors *f, size_t cols, int64_t *values, size_t values_len);
+
+/* Makes `out` a second handle of the factors behind `f`: both share them, and each is freed. It copies no array. */
+int32_t nalgebra_sparse_factors_clone(nalgebra_sparse_factors *f, nalgebra_sparse_factors *out);
+
+/* Frees a handle of factors, which is empty from then on. */
+void nalgebra_sparse_factors_free(nalgebra_sparse_factors *f);
 
 #include "nalgebra_sparse_inline.h"
 

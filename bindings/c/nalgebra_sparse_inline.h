@@ -4,7 +4,8 @@
  * Each function takes structs and calls the function of nalgebra_sparse.h whose name it has without its last word:
  * nalgebra_sparse_multiply_rows calls nalgebra_sparse_multiply. It has the statuses of that function, and SHAPE_MISMATCH
  * if the shapes of the operands do not fit. A null pointer stands for an array of length 0, whatever length goes with it,
- * so the data of an empty std::vector may be passed. These functions are tested, not proved.
+ * so the data of an empty std::vector may be passed. Those over handles take arrays as the functions of
+ * nalgebra_sparse.h do, and null ones too. These functions are tested, not proved.
  */
 #ifndef NALGEBRA_SPARSE_INLINE_H
 #define NALGEBRA_SPARSE_INLINE_H
@@ -377,6 +378,35 @@ static inline int32_t nalgebra_sparse_factor_symmetric_mod_cols(
         modulus, a.cols, NALGEBRA_SPARSE_LANES(a, a.cols), NALGEBRA_SPARSE_OUT(out),
         NALGEBRA_SPARSE_VALUES(out_diagonal, out_diagonal_len), &places);
     return nalgebra_sparse_written(status, out, a.rows, a.cols, places);
+}
+
+/* ---- handles */
+
+static inline int32_t nalgebra_sparse_matrix_from_text_bytes(const uint8_t *text, size_t text_len, nalgebra_sparse_matrix *out) {
+    return nalgebra_sparse_matrix_from_text(NALGEBRA_SPARSE_TEXT(text, text_len), out);
+}
+
+/* Writes the length of the text of the matrix behind `a` to *out_length: the room that nalgebra_sparse_matrix_to_text needs. */
+static inline int32_t nalgebra_sparse_matrix_text_length(nalgebra_sparse_matrix *a, size_t *out_length) {
+    uint8_t nothing = 0;
+    int32_t status = nalgebra_sparse_matrix_to_text(a, &nothing, 0, out_length);
+    /* No text is empty. */
+    return status == NALGEBRA_SPARSE_TOO_SMALL ? NALGEBRA_SPARSE_DONE : status;
+}
+
+static inline int32_t nalgebra_sparse_matrix_solve_lower_values(
+    nalgebra_sparse_matrix *a, bool transposed, size_t cols, int64_t *values, size_t values_len) {
+    return nalgebra_sparse_matrix_solve_lower(a, transposed, cols, NALGEBRA_SPARSE_VALUES(values, values_len));
+}
+
+static inline int32_t nalgebra_sparse_matrix_solve_upper_values(
+    nalgebra_sparse_matrix *a, bool transposed, size_t cols, int64_t *values, size_t values_len) {
+    return nalgebra_sparse_matrix_solve_upper(a, transposed, cols, NALGEBRA_SPARSE_VALUES(values, values_len));
+}
+
+static inline int32_t nalgebra_sparse_factors_solve_values(
+    nalgebra_sparse_factors *f, size_t cols, int64_t *values, size_t values_len) {
+    return nalgebra_sparse_factors_solve(f, cols, NALGEBRA_SPARSE_VALUES(values, values_len));
 }
 
 #undef NALGEBRA_SPARSE_SIZES

@@ -94,10 +94,11 @@ static const char LINES[] = "%%MatrixMarket matrix coordinate integer symmetric\
     CALL(write_length, 3, 3, LISTS, &t->count)                          \
     CALL(write, 3, 3, LISTS, t->text, TEXT, &t->count)
 
-/* Operands behind handles, which are made before the first call, and the handle of a result. */
+/* Operands behind handles, which are made before the first call, and the handles of results. */
 static nalgebra_sparse_matrix a = NALGEBRA_SPARSE_NO_MATRIX, b = NALGEBRA_SPARSE_NO_MATRIX, out = NALGEBRA_SPARSE_NO_MATRIX;
+static nalgebra_sparse_factors f = NALGEBRA_SPARSE_NO_FACTORS, g = NALGEBRA_SPARSE_NO_FACTORS;
 
-/* Each call over handles, with a result behind `out` or in arrays. */
+/* Each call over handles, with a result behind `out` or `g`, or in arrays. */
 #define HANDLE_CALLS(CALL)                                       \
     CALL(matrix_from_rows, 3, 3, MATRIX, &out)                   \
     CALL(matrix_from_triplets, 3, 3, LISTS, &out)                \
@@ -109,14 +110,24 @@ static nalgebra_sparse_matrix a = NALGEBRA_SPARSE_NO_MATRIX, b = NALGEBRA_SPARSE
     CALL(matrix_subtract, &a, &b, &out)                          \
     CALL(matrix_add_scaled, 2, &a, -3, &b, &out)                 \
     CALL(matrix_multiply, &a, &b, &out)                          \
-    CALL(matrix_clone, &a, &out)
+    CALL(matrix_clone, &a, &out)                                 \
+    CALL(matrix_from_text, BYTES, &out)                          \
+    CALL(matrix_to_text, &a, t->text, TEXT, &t->count)           \
+    CALL(matrix_solve_lower, &a, false, 2, t->values, 6)         \
+    CALL(matrix_solve_upper, &a, true, 2, t->values, 6)          \
+    CALL(matrix_factor, &a, &g)                                  \
+    CALL(factors_solve, &f, 2, t->values, 6)                     \
+    CALL(factors_clone, &f, &g)
 
-/* Reads what a call has put behind `out`, and frees it. These requests are not counted, and none is refused. */
+/* Reads what a call has put behind `out`, solves with what it has put behind `g`, and frees both. These requests are not
+ * counted, and none is refused. */
 static int32_t shown(int32_t status, target *t) {
     size_t made = requests;
     refused = SIZE_MAX;
     if (out.matrix != NULL && nalgebra_sparse_matrix_read(&out, TO_MATRIX) != 0) exit(1);
+    if (g.factors != NULL && nalgebra_sparse_factors_solve(&g, 1, t->diagonal, 3) != 0) exit(1);
     nalgebra_sparse_matrix_free(&out);
+    nalgebra_sparse_factors_free(&g);
     requests = made;
     return status;
 }
@@ -153,6 +164,7 @@ int main(void) {
     target blank, answer, t;
     refused = SIZE_MAX;
     if (nalgebra_sparse_matrix_from_rows(3, 3, MATRIX, &a) != 0 || nalgebra_sparse_matrix_transpose(&a, &b) != 0) return 1;
+    if (nalgebra_sparse_matrix_factor(&a, &f) != 0) return 1;
     memset(&blank, 77, sizeof blank);
     for (size_t call = 0; call < COUNT; call++) {
         int32_t status = run(call, SIZE_MAX, &answer);
@@ -174,7 +186,7 @@ int main(void) {
         all += count;
     }
     refused = SIZE_MAX;
-    nalgebra_sparse_matrix_free(&a), nalgebra_sparse_matrix_free(&b);
+    nalgebra_sparse_matrix_free(&a), nalgebra_sparse_matrix_free(&b), nalgebra_sparse_factors_free(&f);
     printf("c: %d calls, %zu refused requests: %zu out of memory, with nothing written\n", (int)COUNT, all, failures);
     return 0;
 }

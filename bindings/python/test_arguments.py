@@ -14,14 +14,15 @@ import scipy.sparse as sp
 here = os.path.dirname(os.path.abspath(__file__))
 sys.path.insert(0, here)
 import nalgebra_sparse as ns  # noqa: E402
-from nalgebra_sparse import _calls, _exact, _matrices, _systems, _texts  # noqa: E402
+from nalgebra_sparse import _calls, _exact, _factorisation, _matrices, _systems, _texts  # noqa: E402
 
 NONE = np.empty(0, np.int64)
 ONE = np.array([0])
 PLAIN = np.array([[5, 2, 0], [0, 7, 1]])
-NUMBERS = {"size": 0, "modulus": 7, "value": 1, "choice": 0, "flag": False, "text": b"", "out_size": ctypes.c_size_t(), "handle": _calls.Handle()}
+NUMBERS = {"size": 0, "modulus": 7, "value": 1, "choice": 0, "flag": False, "text": b"", "out_size": ctypes.c_size_t()}
+HANDLES = {"handle": _calls.Handle(), "factors": _calls.FactorHandle()}
 ARRAYS = {"indices": NONE, "values": NONE, "out_indices": NONE, "out_values": NONE, "out_text": np.empty(0, np.uint8)}
-SAMPLES = {**NUMBERS, **ARRAYS}
+SAMPLES = {**NUMBERS, **HANDLES, **ARRAYS}
 CLASSES = (sp.csr_matrix, sp.csc_matrix, sp.csr_array, sp.csc_array)
 
 
@@ -94,6 +95,7 @@ def check_table():
     header = open(os.path.join(here, "..", "c", "nalgebra_sparse.h"), encoding="utf-8").read()
     plain = {"size_t": ctypes.c_size_t, "bool": ctypes.c_bool, "int32_t": ctypes.c_int32}
     plain.update({"int64_t": ctypes.c_int64, "uint64_t": ctypes.c_uint64, "nalgebra_sparse_matrix": _calls.Handle})
+    plain["nalgebra_sparse_factors"] = _calls.FactorHandle
     declared = re.findall(r"^int32_t nalgebra_sparse_(\w+)\(([^)]*)\);", header, re.M)
     assert {name for name, _ in declared} == set(_calls._TABLE)
     for name, words in declared:
@@ -184,7 +186,7 @@ def check_package():
     """The version is that of the file VERSION, each name of `__all__` is there, and the examples run."""
     assert ns.__version__ == open(os.path.join(here, "..", "..", "VERSION"), encoding="ascii").read().strip()
     examples = 0
-    for module in (ns, _exact, _matrices, _systems, _texts):
+    for module in (ns, _exact, _factorisation, _matrices, _systems, _texts):
         failed, tried = doctest.testmod(module)
         assert not failed
         examples += tried

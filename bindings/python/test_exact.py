@@ -12,7 +12,7 @@ import scipy.sparse as sp
 here = os.path.dirname(os.path.abspath(__file__))
 sys.path.insert(0, here)
 import nalgebra_sparse as ns  # noqa: E402
-from nalgebra_sparse import Exact, _exact  # noqa: E402
+from nalgebra_sparse import Exact, Factorisation, _exact  # noqa: E402
 
 CASES = 1000
 MASK = 2**64 - 1
@@ -122,6 +122,40 @@ def check_solve():
             assert np.array_equal(symmetric @ x, b)
 
 
+def times(matrix, x):
+    """Returns the dense product of two arrays modulo 2^64."""
+    with np.errstate(over="ignore"):
+        return matrix @ x
+
+
+def check_systems():
+    for _ in range(200):
+        size, cols = chance.randrange(6), chance.randrange(3)
+        dense = np.array([[a_value() for _ in range(size)] for _ in range(size)], np.int64).reshape(size, size)
+        np.fill_diagonal(dense, np.diagonal(dense) | 1)
+        matrix = Exact.from_scipy(sp.csr_array(dense))
+        b = np.array([a_value() for _ in range(size * cols)], np.int64).reshape(size, cols)
+        for transposed in (False, True):
+            for solve, part in ((matrix.solve_lower, np.tril(dense)), (matrix.solve_upper, np.triu(dense))):
+                x = solve(b, transposed=transposed)
+                assert x.shape == b.shape and np.array_equal(times(part.T if transposed else part, x), b)
+        unit = np.tril(dense, -1) + np.eye(size, dtype=np.int64)
+        factors = Exact.from_scipy(sp.csr_array(times(unit, unit.T))).factor()
+        assert factors.shape == (size, size)
+        assert np.array_equal(times(times(unit, unit.T), factors.solve(b)), b)
+
+
+def check_texts():
+    for _ in range(200):
+        matrix, plain = a_pair(chance.randrange(6))
+        back = read(Exact.from_text(matrix.to_text()))
+        assert back.shape == plain.shape and back.entries == plain.entries
+    text = b"%%MatrixMarket matrix coordinate integer general\n1 18446744073709551615 0\n"
+    refused(ns.Error, lambda: Exact.from_text(text))
+    refused(ns.InvalidText, lambda: Exact.from_text(b""))
+    refused(TypeError, lambda: Exact.from_text("text"))
+
+
 def refused(error, call):
     try:
         call()
@@ -143,6 +177,16 @@ def check_refusals():
     broken.indptr = np.array([0, 1])
     refused(ns.InvalidStructure, lambda: Exact.from_scipy(broken))
     assert repr(wide.T) == "<Exact: 3 by 1 with 3 places>"
+    even = Exact.from_scipy(sp.csr_array(np.array([[2]])))
+    b = np.array([7])
+    for call in (lambda: wide.solve_lower(b), lambda: wide.solve_upper(b), wide.factor, lambda: wide.solve(b)):
+        refused(ns.Error, call)
+    for call in (lambda: even.solve_lower(b), lambda: even.solve_upper(b, True), even.factor, lambda: even.solve(b)):
+        refused(ns.Singular, call)
+    refused(ns.Error, lambda: even.solve_lower(np.array([7, 7])))
+    refused(TypeError, lambda: even.solve_lower([7]))
+    refused(TypeError, Factorisation)
+    assert b.tolist() == [7]
 
 
 def check_memory():
@@ -170,7 +214,14 @@ def check_threads():
             if read(matrix @ matrix.T).entries != want:
                 wrong.append(1)
 
-    threads = [threading.Thread(target=work) for _ in range(4)]
+    factors, b = Exact.from_scipy(sp.csr_array(np.array([[1, 2], [2, 5]]))).factor(), np.array([5, 12])
+
+    def solve():
+        for _ in range(300):
+            if factors.solve(b).tolist() != [1, 2]:
+                wrong.append(1)
+
+    threads = [threading.Thread(target=of) for of in 4 * [work, solve]]
     for thread in threads:
         thread.start()
     for thread in threads:
@@ -180,6 +231,8 @@ def check_threads():
 
 check_chains()
 check_solve()
+check_systems()
+check_texts()
 check_refusals()
 check_memory()
 check_threads()

@@ -10,7 +10,8 @@ may change an operand during a call. Otherwise several threads may call at once,
 Assembly, sums, products, division, solves and factors are also computed modulo a prime: `modulus` is one of `MODULI`. An
 integer then means its residue, also where it is negative, and the values of a result are from 0 to modulus - 1.
 
-`Exact` is a matrix that the library owns, with operators: a chain of them copies no operand and tests no array twice.
+`Exact` is a matrix that the library owns, with operators and solves: a chain of them copies no operand and tests no array
+twice. Its values are integers modulo 2^64.
 
 A refusal is an `Error` or a `MemoryError`, and an argument of the wrong type is a `TypeError`.
 
@@ -29,7 +30,7 @@ import ctypes
 import os
 
 from ._errors import DuplicateEntry, Error, IndexOutOfBounds, InvalidStructure, InvalidText, Singular, UnknownModulus
-from ._exact import Exact
+from ._exact import Exact, Factorisation
 from ._matrices import add, add_scaled, assemble_csc, assemble_csr, divide, multiply, multiply_dense, subtract, transpose
 from ._operands import integer as _integer
 from ._rational import solve_rational
@@ -41,6 +42,7 @@ __all__ = [
     "DuplicateEntry",
     "Error",
     "Exact",
+    "Factorisation",
     "IndexOutOfBounds",
     "InvalidStructure",
     "InvalidText",

@@ -27,6 +27,12 @@ class Handle(ctypes.Structure):
     _fields_ = [("matrix", ctypes.c_void_p)]
 
 
+class FactorHandle(ctypes.Structure):
+    """A handle of factors that the library owns: null stands for none."""
+
+    _fields_ = [("factors", ctypes.c_void_p)]
+
+
 class Kind(NamedTuple):
     """A kind of argument: the types of the call's parameters for it, and what makes their values of an argument."""
 
@@ -80,6 +86,7 @@ _KINDS = {
     "out_values": _array(True, np.int64),
     "out_text": _array(True, np.uint8),
     "handle": _instance(ctypes.POINTER(Handle), Handle, lambda handle: (ctypes.byref(handle),)),
+    "factors": _instance(ctypes.POINTER(FactorHandle), FactorHandle, lambda handle: (ctypes.byref(handle),)),
     "out_size": _instance(ctypes.POINTER(ctypes.c_size_t), ctypes.c_size_t, lambda size: (ctypes.byref(size),)),
 }
 
@@ -132,6 +139,13 @@ _TABLE = {
     "matrix_add_scaled": "value handle value handle handle",
     "matrix_multiply": "handle handle handle",
     "matrix_clone": "handle handle",
+    "matrix_from_text": "text handle",
+    "matrix_to_text": "handle out_text out_size",
+    "matrix_solve_lower": "handle flag size out_values",
+    "matrix_solve_upper": "handle flag size out_values",
+    "matrix_factor": "handle factors",
+    "factors_solve": "factors size out_values",
+    "factors_clone": "factors factors",
 }
 
 
@@ -160,11 +174,16 @@ def call(name: str, *arguments: Any) -> None:
         raise error_of(status)
 
 
-_free = _library.nalgebra_sparse_matrix_free
-_free.argtypes = [ctypes.POINTER(Handle)]
-_free.restype = None
+def _freeing(name: str, kind: Any) -> Any:
+    function = getattr(_library, f"nalgebra_sparse_{name}")
+    function.argtypes = [ctypes.POINTER(kind)]
+    function.restype = None
+    return function
 
 
-def free(handle: Handle) -> None:
+_FREE = {Handle: _freeing("matrix_free", Handle), FactorHandle: _freeing("factors_free", FactorHandle)}
+
+
+def free(handle: Any) -> None:
     """Frees a handle, which is empty from then on."""
-    _free(ctypes.byref(handle))
+    _FREE[type(handle)](ctypes.byref(handle))

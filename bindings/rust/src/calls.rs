@@ -390,6 +390,32 @@ extern "C" {
     pub fn nalgebra_sparse_matrix_clone(a: *mut Handle, out: *mut Handle) -> i32;
 
     pub fn nalgebra_sparse_matrix_free(a: *mut Handle);
+
+    pub fn nalgebra_sparse_matrix_from_text(text: *const u8, text_len: usize, out: *mut Handle) -> i32;
+
+    pub fn nalgebra_sparse_matrix_to_text(
+        a: *mut Handle,
+        out_text: *mut u8, out_text_len: usize,
+        out_length: *mut usize,
+    ) -> i32;
+
+    pub fn nalgebra_sparse_matrix_solve_lower(
+        a: *mut Handle, transposed: bool,
+        cols: usize, values: *mut i64, values_len: usize,
+    ) -> i32;
+
+    pub fn nalgebra_sparse_matrix_solve_upper(
+        a: *mut Handle, transposed: bool,
+        cols: usize, values: *mut i64, values_len: usize,
+    ) -> i32;
+
+    pub fn nalgebra_sparse_matrix_factor(a: *mut Handle, out: *mut FactorHandle) -> i32;
+
+    pub fn nalgebra_sparse_factors_solve(f: *mut FactorHandle, cols: usize, values: *mut i64, values_len: usize) -> i32;
+
+    pub fn nalgebra_sparse_factors_clone(f: *mut FactorHandle, out: *mut FactorHandle) -> i32;
+
+    pub fn nalgebra_sparse_factors_free(f: *mut FactorHandle);
 }
 
 /// `nalgebra_sparse_matrix` of the header: null stands for no matrix.
@@ -397,4 +423,11 @@ extern "C" {
 #[derive(Debug)]
 pub struct Handle {
     pub matrix: *mut std::ffi::c_void,
+}
+
+/// `nalgebra_sparse_factors` of the header: null stands for no factors.
+#[repr(C)]
+#[derive(Debug)]
+pub struct FactorHandle {
+    pub factors: *mut std::ffi::c_void,
 }

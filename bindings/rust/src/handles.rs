@@ -23,7 +23,7 @@ use crate::{calls, Arrays, Error, Rows};
 /// ```
 pub struct Matrix {
     // A call takes the pointer out while it runs, and puts it back. It is never null outside this file.
-    handle: UnsafeCell<Handle>,
+    pub(crate) handle: UnsafeCell<Handle>,
 }
 
 // SAFETY: `Send` is proved of the handle (crates/sparse_handles). `Matrix` is not `Sync`, since a call writes its operand.
@@ -75,6 +75,44 @@ impl Matrix {
                 rows, cols, i.as_ptr(), i.len(), j.as_ptr(), j.len(), values.as_ptr(), values.len(), out,
             )
         })
+    }
+
+    /// Returns the matrix of a text in Matrix Market format with integers. Values at the same place are added.
+    ///
+    /// # Errors
+    ///
+    /// Those of [`read`](crate::read).
+    ///
+    /// # Examples
+    ///
+    /// ```
+    /// use nalgebra_sparse_exact::Matrix;
+    ///
+    /// let a = Matrix::from_text(b"%%MatrixMarket matrix coordinate integer symmetric\n2 2 1\n2 1 -3\n")?;
+    /// assert!(a.to_text()?.ends_with(b"2 2 2\n1 2 -3\n2 1 -3\n"));
+    /// # Ok::<(), nalgebra_sparse_exact::Error>(())
+    /// ```
+    pub fn from_text(text: &[u8]) -> Result<Matrix, Error> {
+        // SAFETY: the pointer is that of a slice, with the slice's length behind it, and the handle is empty.
+        Matrix::made(|out| unsafe { calls::nalgebra_sparse_matrix_from_text(text.as_ptr(), text.len(), out) })
+    }
+
+    /// Returns the text of the matrix, with a line for each place, row by row. It is ASCII.
+    ///
+    /// # Errors
+    ///
+    /// [`Error::OutOfMemory`].
+    pub fn to_text(&self) -> Result<Vec<u8>, Error> {
+        // A line has at most 63 bytes, and what is before the places at most three lines more.
+        let room = self.nnz()?.checked_add(3).and_then(|lines| lines.checked_mul(64)).ok_or(Error::OutOfMemory)?;
+        let (mut text, mut length) = (crate::room::zeros(room)?, 0);
+        // SAFETY: each pointer is that of a slice, with the slice's length behind it. The handle is as a call left it.
+        answer(unsafe {
+            calls::nalgebra_sparse_matrix_to_text(self.handle.get(), text.as_mut_ptr(), text.len(), &mut length)
+        })?;
+        text.truncate(length);
+        text.shrink_to_fit();
+        Ok(text)
     }
 
     /// Returns the numbers of rows, columns and places.

@@ -2,6 +2,7 @@
 
 mod calls;
 mod error;
+mod factorisation;
 mod factors;
 mod handles;
 mod matrices;
@@ -12,6 +13,7 @@ mod systems;
 mod texts;
 
 pub use error::Error;
+pub use factorisation::Factorisation;
 pub use factors::{factor_symmetric, factor_symmetric_mod, Factors};
 pub use handles::Matrix;
 pub use matrices::{Arrays, ColumnArrays, Columns, Rows};

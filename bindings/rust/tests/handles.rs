@@ -2,7 +2,9 @@
 
 use std::thread;
 
-use nalgebra_sparse_exact::{add_scaled, assemble_csr, multiply, subtract, transpose, Arrays, Error, Matrix, Rows};
+use nalgebra_sparse_exact::{
+    add_scaled, assemble_csr, multiply, multiply_dense, subtract, transpose, Arrays, Error, Matrix, Rows, System,
+};
 
 /// Random numbers (xorshift).
 struct Random(u64);
@@ -70,4 +72,93 @@ fn clones_go_to_other_threads() {
     for thread in threads {
         assert_eq!(thread.join().unwrap().to_arrays().unwrap(), want);
     }
+}
+
+/// Returns a random matrix with ones on its diagonal, and its part on and below the diagonal.
+fn with_unit_diagonal(random: &mut Random, size: usize) -> (Matrix, Matrix) {
+    let (mut all, mut lower) = ((vec![], vec![], vec![]), (vec![], vec![], vec![]));
+    for i in 0..size {
+        for j in 0..size {
+            let value = if i == j { 1 } else { i64::try_from(random.below(1 << 40)).unwrap() - (1 << 39) };
+            if i != j && random.below(2) == 0 {
+                continue;
+            }
+            for list in [Some(&mut all), (i >= j).then_some(&mut lower)].into_iter().flatten() {
+                list.0.push(i);
+                list.1.push(j);
+                list.2.push(value);
+            }
+        }
+    }
+    let made = |(i, j, values): &(Vec<usize>, Vec<usize>, Vec<i64>)| Matrix::from_triplets((size, size), i, j, values).unwrap();
+    (made(&all), made(&lower))
+}
+
+fn times(a: &Matrix, x: &[i64]) -> Vec<i64> {
+    multiply_dense(a.to_arrays().unwrap().as_rows(), 2, x).unwrap()
+}
+
+#[test]
+fn solutions_solve() {
+    let mut random = Random(0x2545_f491_4f6c_dd1d);
+    for _ in 0..300 {
+        let size = usize::try_from(random.below(6)).unwrap();
+        let (a, l) = with_unit_diagonal(&mut random, size);
+        let b: Vec<i64> = (0..2 * size).map(|_| i64::try_from(random.below(1 << 50)).unwrap() - (1 << 49)).collect();
+        let turned = l.transpose().unwrap();
+        for (t, system) in [(&l, System::Lower), (&turned, System::Transposed)] {
+            let mut x = b.clone();
+            a.solve_lower_mut(system, 2, &mut x).unwrap();
+            assert_eq!(times(t, &x), b);
+        }
+        let flipped = a.transpose().unwrap();
+        for (t, system) in [(&turned, System::Lower), (&l, System::Transposed)] {
+            let mut x = b.clone();
+            flipped.solve_upper_mut(system, 2, &mut x).unwrap();
+            assert_eq!(times(t, &x), b);
+        }
+        // L Lᵀ is symmetric, and has the factors L and the identity.
+        let symmetric = l.multiply(&turned).unwrap();
+        let factors = symmetric.factor().unwrap();
+        let (clone, mut x) = (factors.clone(), b.clone());
+        drop(factors);
+        let solving = thread::spawn(move || {
+            clone.solve_mut(2, &mut x).unwrap();
+            x
+        });
+        assert_eq!(times(&symmetric, &solving.join().unwrap()), b);
+    }
+}
+
+#[test]
+fn systems_are_refused() {
+    let wide = Matrix::from_triplets((1, 2), &[0], &[1], &[5]).unwrap();
+    let even = Matrix::from_triplets((1, 1), &[0], &[0], &[2]).unwrap();
+    let mut x = [7];
+    assert_eq!(wide.solve_lower_mut(System::Lower, 1, &mut x), Err(Error::ShapeMismatch));
+    assert_eq!(wide.solve_upper_mut(System::Lower, 1, &mut x), Err(Error::ShapeMismatch));
+    assert_eq!(wide.factor().unwrap_err(), Error::ShapeMismatch);
+    assert_eq!(even.solve_lower_mut(System::Lower, 2, &mut x), Err(Error::InvalidStructure));
+    assert_eq!(even.solve_lower_mut(System::Lower, 1, &mut x), Err(Error::Singular));
+    assert_eq!(even.solve_upper_mut(System::Transposed, 1, &mut x), Err(Error::Singular));
+    assert_eq!(even.factor().unwrap_err(), Error::Singular);
+    let factors = even.add(&Matrix::from_triplets((1, 1), &[0], &[0], &[1]).unwrap()).unwrap().factor().unwrap();
+    assert_eq!(factors.solve_mut(2, &mut x), Err(Error::InvalidStructure));
+    assert_eq!(x, [7]);
+    assert_eq!(format!("{factors:?}"), "Factorisation { .. }");
+}
+
+#[test]
+fn matrices_are_those_of_their_texts() {
+    let mut random = Random(11);
+    for size in 1..40 {
+        let a = random.matrix(size);
+        let text = owned(&a).to_text().unwrap();
+        assert_eq!(Matrix::from_text(&text).unwrap().to_arrays().unwrap(), a);
+    }
+    let long = Matrix::from_rows(Rows::new((1, usize::MAX), (&[0, 2], &[usize::MAX - 2, usize::MAX - 1], &[i64::MIN, i64::MIN]))).unwrap();
+    let want = b"1 18446744073709551615 2\n1 18446744073709551614 -9223372036854775808\n1 18446744073709551615 -9223372036854775808\n";
+    assert!(long.to_text().unwrap().ends_with(want));
+    assert_eq!(Matrix::from_text(b"").unwrap_err(), Error::InvalidText);
+    assert_eq!(Matrix::from_text(b"\xff").unwrap_err(), Error::Unreadable);
 }

@@ -11,6 +11,8 @@ mod division;
 mod factors;
 mod fill;
 mod handle_operations;
+mod handle_systems;
+mod handle_texts;
 mod handles;
 mod moduli;
 mod products;

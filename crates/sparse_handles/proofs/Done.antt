@@ -1,6 +1,7 @@
 -- What was put behind a handle is there.
 --     put_done        a matrix that was put is behind the handle
 --     behind          a matrix that is shared with a handle has the plain matrix behind it
+--     held            it is the matrix of the handle
 use Rattle.std.proofs.Common.{◌≡◌, ap, sym, ◌∙◌}
 use Rattle.std.specs.Prelude.{Option, Some, Ok, Err, OnOk}
 use Rattle.core.specs.declared.result.Result.{Result}
@@ -22,3 +23,6 @@ put_done (Err e) handle m a put same = tt
 pub behind : (handle : Option (Compressed W64)) (m x : Compressed W64) → handle ≡ Some m → x ≡ m
     → plain_of_rows ring64 w64_value x ≡ plain_behind handle
 behind handle m x is same = ap (plain_of_rows ring64 w64_value) same ∙ sym (ap plain_behind is)
+
+pub held : {T : Type 0} (handle : Option T) (m x : T) → handle ≡ Some m → x ≡ m → Some x ≡ handle
+held handle m x is same = ap Some same ∙ sym is

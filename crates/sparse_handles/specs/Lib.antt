@@ -1,2 +1,6 @@
 pub mod Behind
+pub mod Factored
 pub mod Owned
+pub mod OwnedFactors
+pub mod Solved
+pub mod Texts

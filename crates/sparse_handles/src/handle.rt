@@ -1,12 +1,16 @@
-//! The handle, and the matrix behind it.
+//! The handles, and the matrix or the factors behind them.
 
 ghost use Rattle.std.specs.Prelude.{◌≡◌, Option, None, Some};
 ghost use Rattle.sparse_algebra.specs.declared.scalar.wrapping.W64.{W64 as W64Value};
 ghost use Rattle.sparse_cs.specs.Compressed.{Compressed};
 ghost use Rattle.sparse_handles.specs.Owned.{held_code, in_block, owns_at, value_of};
+ghost use Rattle.sparse_handles.specs.OwnedFactors.{factors_of, held_factors_code};
+ghost use Rattle.sparse_handles.specs.OwnedFactors.{owns_factors_at};
+ghost use Rattle.sparse_ldl.specs.Factors.{Factors};
 
 use sparse_algebra::scalar::W64;
 use sparse_forms::csr::CsrMatrix;
+use sparse_ldl::ldl::Ldl;
 use std::alloc::Global;
 use std::marker::{Model, Send};
 use std::ptr;
@@ -92,6 +96,70 @@ impl MatrixHandle {
             return None;
         }
         let boxed = unsafe { Box::from_raw(alloc, at as *mut SharedMatrix) };
+        Some(boxed)
+    }
+}
+
+/// Factors L and D over the integers modulo 2^64, which other handles may share.
+#[derive(Drop)]
+pub struct SharedFactors {
+    pub(crate) factors: Arc<Ldl<W64>>,
+}
+
+impl Model for SharedFactors {
+    ghost use Rattle.sparse_algebra.specs.contracts.scalar.wrapping.W64.{the_row as w64_row};
+    ghost use Rattle.sparse_algebra.specs.declared.scalar.wrapping.W64.{W64 as W64Value};
+    ghost use Rattle.sparse_ldl.specs.Factors.{Factors, factors_code};
+    ghost use Rattle.std.specs.Arc.{arc_value};
+
+    ghost Value = { Factors W64Value };
+
+    ghost coded = { factors_code w64_row.coded };
+
+    ghost view = { λ s. arc_value s.factors };
+}
+
+/// Factors that the library owns, or none: what C holds as one pointer, which is null if there are none.
+#[repr(C)]
+pub struct FactorHandle {
+    at: *mut (),
+    pub ghost value: { Option (Factors W64Value) } by { held_factors_code },
+}
+
+impl Model for FactorHandle {
+    ghost also_owns = { λ h. owns_factors_at h.at h.value };
+}
+
+// Shared factors may go to another thread, and so may their block.
+unsafe impl Send for FactorHandle {}
+
+impl FactorHandle {
+    /// Returns a handle with no factors.
+    pub(crate) fn empty() -> FactorHandle
+        ensures { result.value ≡ None }
+    {
+        FactorHandle {
+            at: ptr::null_mut(),
+        }
+    }
+
+    /// Returns the handle of factors in a block.
+    pub(crate) fn of(block: Block<SharedFactors>) -> FactorHandle
+        ensures { result.value ≡ Some block.value }
+    {
+        let Block { at } = block;
+        FactorHandle { at: at as *mut () }
+    }
+
+    /// Returns the box of the factors, if there are any.
+    pub(crate) fn into_box(self, alloc: Global) -> Option<Box<SharedFactors>>
+        ensures { factors_of result ≡ self.value }
+    {
+        let FactorHandle { at } = self;
+        if at.is_null() {
+            return None;
+        }
+        let boxed = unsafe { Box::from_raw(alloc, at as *mut SharedFactors) };
         Some(boxed)
     }
 }

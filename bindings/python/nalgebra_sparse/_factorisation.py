@@ -1,0 +1,84 @@
+"""Factors that the library owns, and what calls over handles share."""
+from __future__ import annotations
+
+import contextlib
+import threading
+import weakref
+from typing import Any, Iterator
+
+import numpy as np
+
+from ._calls import FactorHandle, Handle, call, free
+from ._operands import Integers, dense_of
+
+
+@contextlib.contextmanager
+def own(name: str, handle: Any, lock: Any) -> Iterator[Any]:
+    """Lends a second handle. A call takes different handles, and each handle is used by one call at a time."""
+    second = type(handle)()
+    with lock:
+        call(name, handle, second)
+    try:
+        yield second
+    finally:
+        free(second)
+
+
+def solved(name: str, b: Any, rows: int, *arguments: Any) -> Integers:
+    """Calls a solve in place over a copy of b, and returns X in the shape of b."""
+    values, cols = dense_of("b", b, rows)
+    values = np.array(values)
+    call(name, *arguments, cols, values)
+    return values.reshape(b.shape, order="F")
+
+
+class Factorisation:
+    """The exact factors L D L^T of a symmetric matrix of integers modulo 2^64, which the library owns: `Exact.factor` makes it.
+
+    It is freed with the object, and several threads may use it at once.
+
+    >>> import numpy as np, scipy.sparse as sp
+    >>> from nalgebra_sparse import Exact
+    >>> factors = Exact.from_scipy(sp.csr_array(np.array([[1, 2], [2, 7]]))).factor()
+    >>> factors
+    <Factorisation: 2 by 2>
+    >>> factors.solve(np.array([[3, 2], [9, 7]])).tolist()
+    [[1, 0], [1, 1]]
+    """
+
+    __slots__ = ("_handle", "_lock", "_size", "__weakref__")
+
+    _handle: FactorHandle
+    _lock: Any
+    _size: int
+
+    def __init__(self) -> None:
+        raise TypeError("call Exact.factor")
+
+    @classmethod
+    def _made(cls, matrix: Handle, size: int) -> Factorisation:
+        self = object.__new__(cls)
+        self._handle, self._lock, self._size = FactorHandle(), threading.Lock(), size
+        call("matrix_factor", matrix, self._handle)
+        weakref.finalize(self, free, self._handle)
+        return self
+
+    @property
+    def shape(self) -> tuple[int, int]:
+        """The number of rows and the number of columns of the matrix."""
+        return self._size, self._size
+
+    def __repr__(self) -> str:
+        return f"<Factorisation: {self._size} by {self._size}>"
+
+    def solve(self, b: Integers) -> Integers:
+        """Returns the X for which L D L^T X = b. A vector is one column.
+
+        >>> import numpy as np, scipy.sparse as sp
+        >>> from nalgebra_sparse import Exact
+        >>> factors = Exact.from_scipy(sp.csr_array(np.array([[1, 2], [2, 5]]))).factor()
+        >>> factors.solve(np.array([5, 12])).tolist()
+        [1, 2]
+        """
+        with own("factors_clone", self._handle, self._lock) as factors:
+            return solved("factors_solve", b, self._size, factors)

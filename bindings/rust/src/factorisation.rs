@@ -1,0 +1,141 @@
+//! Solves with matrices that the library owns, and their factors.
+
+use std::cell::UnsafeCell;
+use std::fmt;
+use std::ptr;
+
+use crate::calls::FactorHandle;
+use crate::error::answer;
+use crate::{calls, Error, Matrix, System};
+
+impl Matrix {
+    /// Replaces B by the X for which `L X = B` or `L^T X = B`, where L is the part of the matrix on and below its diagonal.
+    /// B and X have `cols` columns, one after the other.
+    ///
+    /// # Errors
+    ///
+    /// [`Error::OutOfMemory`]; [`Error::ShapeMismatch`] if the matrix is not square; [`Error::InvalidStructure`] if B has
+    /// another number of values; [`Error::Singular`] if there is a column to solve for, and some entry of the diagonal is
+    /// not stored or is even. `values` is then unchanged.
+    ///
+    /// # Examples
+    ///
+    /// ```
+    /// use nalgebra_sparse_exact::{Matrix, System};
+    ///
+    /// let l = Matrix::from_triplets((2, 2), &[0, 1, 1], &[0, 0, 1], &[1, 2, 3])?;
+    /// let mut x = [5, 16];
+    /// l.solve_lower_mut(System::Lower, 1, &mut x)?;
+    /// assert_eq!(x, [5, 2]);
+    /// # Ok::<(), nalgebra_sparse_exact::Error>(())
+    /// ```
+    pub fn solve_lower_mut(&self, system: System, cols: usize, values: &mut [i64]) -> Result<(), Error> {
+        let (transposed, count) = (system == System::Transposed, values.len());
+        // SAFETY: the pointer is that of a slice, with the slice's length behind it. The handle is as a call left it.
+        answer(unsafe {
+            calls::nalgebra_sparse_matrix_solve_lower(self.handle.get(), transposed, cols, values.as_mut_ptr(), count)
+        })
+    }
+
+    /// Replaces B by the X for which `U X = B` or `U^T X = B`, where U is the part of the matrix on and above its diagonal.
+    ///
+    /// # Errors
+    ///
+    /// Those of [`Matrix::solve_lower_mut`].
+    pub fn solve_upper_mut(&self, system: System, cols: usize, values: &mut [i64]) -> Result<(), Error> {
+        let (transposed, count) = (system == System::Transposed, values.len());
+        // SAFETY: the pointer is that of a slice, with the slice's length behind it. The handle is as a call left it.
+        answer(unsafe {
+            calls::nalgebra_sparse_matrix_solve_upper(self.handle.get(), transposed, cols, values.as_mut_ptr(), count)
+        })
+    }
+
+    /// Returns the exact factors `L D L^T` of the symmetric matrix whose entries on and above the diagonal are those of this
+    /// matrix.
+    ///
+    /// # Errors
+    ///
+    /// [`Error::OutOfMemory`]; [`Error::ShapeMismatch`] if the matrix is not square; [`Error::Singular`] if no factorisation
+    /// exists.
+    pub fn factor(&self) -> Result<Factorisation, Error> {
+        // SAFETY: the handles are different, and no other call uses them.
+        Factorisation::made(|out| unsafe { calls::nalgebra_sparse_matrix_factor(self.handle.get(), out) })
+    }
+}
+
+/// The exact factors `L D L^T` of a symmetric matrix over the integers modulo 2^64, which the library owns.
+///
+/// Clones share them. They may go to another thread; threads that solve at once have a clone each.
+///
+/// ```
+/// use nalgebra_sparse_exact::Matrix;
+///
+/// // 1 2 / 2 7 times (1, 1) is (3, 9), and times (0, 1) it is (2, 7).
+/// let factors = Matrix::from_triplets((2, 2), &[0, 0, 1], &[0, 1, 1], &[1, 2, 7])?.factor()?;
+/// let mut x = [3, 9, 2, 7];
+/// factors.solve_mut(2, &mut x)?;
+/// assert_eq!(x, [1, 1, 0, 1]);
+/// # Ok::<(), nalgebra_sparse_exact::Error>(())
+/// ```
+pub struct Factorisation {
+    // A call takes the pointer out while it runs, and puts it back. It is never null outside this file.
+    handle: UnsafeCell<FactorHandle>,
+}
+
+// SAFETY: `Send` is proved of the handle (crates/sparse_handles). It is not `Sync`, since a call writes its operand.
+unsafe impl Send for Factorisation {}
+
+impl Factorisation {
+    /// Makes factors by a call, which is given an empty handle to fill.
+    fn made(call: impl FnOnce(*mut FactorHandle) -> i32) -> Result<Factorisation, Error> {
+        let factors = Factorisation { handle: UnsafeCell::new(FactorHandle { factors: ptr::null_mut() }) };
+        answer(call(factors.handle.get()))?;
+        Ok(factors)
+    }
+
+    /// Replaces B by the X for which `L D L^T X = B`. B and X have `cols` columns, one after the other.
+    ///
+    /// # Errors
+    ///
+    /// [`Error::OutOfMemory`]; [`Error::InvalidStructure`] if B has another number of values. `values` is then unchanged.
+    pub fn solve_mut(&self, cols: usize, values: &mut [i64]) -> Result<(), Error> {
+        // SAFETY: the pointer is that of a slice, with the slice's length behind it. The handle is as a call left it.
+        answer(unsafe {
+            calls::nalgebra_sparse_factors_solve(self.handle.get(), cols, values.as_mut_ptr(), values.len())
+        })
+    }
+
+    /// Returns a second handle of the factors. No array is copied.
+    ///
+    /// # Errors
+    ///
+    /// [`Error::OutOfMemory`].
+    pub fn try_clone(&self) -> Result<Factorisation, Error> {
+        // SAFETY: the handles are different, and no other call uses them.
+        Factorisation::made(|out| unsafe { calls::nalgebra_sparse_factors_clone(self.handle.get(), out) })
+    }
+}
+
+/// Makes a second handle of the factors. No array is copied.
+///
+/// # Panics
+///
+/// Panics if an allocation fails, where [`Factorisation::try_clone`] returns an error.
+impl Clone for Factorisation {
+    fn clone(&self) -> Self {
+        self.try_clone().expect("an allocation failed")
+    }
+}
+
+impl Drop for Factorisation {
+    fn drop(&mut self) {
+        // SAFETY: the handle is empty or as a call left it, and it is not used again.
+        unsafe { calls::nalgebra_sparse_factors_free(self.handle.get()) }
+    }
+}
+
+impl fmt::Debug for Factorisation {
+    fn fmt(&self, f: &mut fmt::Formatter<'_>) -> fmt::Result {
+        f.debug_struct("Factorisation").finish_non_exhaustive()
+    }
+}

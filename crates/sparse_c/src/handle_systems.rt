@@ -1,0 +1,123 @@
+//! Systems of equations with matrices and with factors behind handles.
+
+ghost use Rattle.std.specs.Prelude.{◌≡◌, None};
+ghost use Rattle.sparse_handles.specs.Behind.{plain_behind, Answers};
+ghost use Rattle.sparse_handles.specs.Factored.{product_behind, HasNoFactors, HasNoSystem};
+ghost use Rattle.sparse_handles.specs.Factored.{HoldsFactors, IsUnfactored};
+ghost use Rattle.sparse_handles.specs.Solved.{triangle_of, IsUnsolved, SolvesInPlace};
+ghost use Rattle.sparse_handles.specs.declared.solving.Triangle.TheVariants.{Lower, Upper};
+
+use sparse_handles::factoring::{clear_factors, factor, share_factors, solve_factored};
+use sparse_handles::handle::{FactorHandle, MatrixHandle};
+use sparse_handles::solving::{Triangle, solve_triangle};
+use std::alloc::Global;
+
+/// Replaces B by the X for which `L X = B`, or `Lᵀ X = B` where `transposed` is set.
+///
+/// L is the part on and below the diagonal of a matrix behind a handle. B and X have `cols` columns, one after the
+/// other.
+#[unsafe(no_mangle)]
+pub extern "C" fn nalgebra_sparse_matrix_solve_lower(
+    alloc: Global,
+    a: &mut MatrixHandle,
+    transposed: bool,
+    cols: usize,
+    values: &mut [i64],
+) -> i32
+    ensures kept { a.new.value ≡ a.old.value }
+    ensures answer { let m = plain_behind a.old.value in
+        Answers result (IsUnsolved Lower a.old.value cols values.old) (values.new ≡ values.old)
+        (SolvesInPlace (triangle_of Lower transposed m) m.rows cols values.old values.new) }
+{
+    match solve_triangle(alloc, a, Triangle::Lower, transposed, cols, values) {
+        Ok(()) => 0,
+        Err(refusal) => refusal.status(),
+    }
+}
+
+/// Replaces B by the X for which `U X = B`, or `Uᵀ X = B` where `transposed` is set.
+///
+/// U is the part on and above the diagonal of a matrix behind a handle. B and X have `cols` columns, one after the
+/// other.
+#[unsafe(no_mangle)]
+pub extern "C" fn nalgebra_sparse_matrix_solve_upper(
+    alloc: Global,
+    a: &mut MatrixHandle,
+    transposed: bool,
+    cols: usize,
+    values: &mut [i64],
+) -> i32
+    ensures kept { a.new.value ≡ a.old.value }
+    ensures answer { let m = plain_behind a.old.value in
+        Answers result (IsUnsolved Upper a.old.value cols values.old) (values.new ≡ values.old)
+        (SolvesInPlace (triangle_of Upper transposed m) m.rows cols values.old values.new) }
+{
+    match solve_triangle(alloc, a, Triangle::Upper, transposed, cols, values) {
+        Ok(()) => 0,
+        Err(refusal) => refusal.status(),
+    }
+}
+
+/// Puts the exact factors L D Lᵀ of a symmetric matrix behind a handle of factors.
+///
+/// The entries on and above its diagonal are those of a matrix behind a handle.
+#[unsafe(no_mangle)]
+pub extern "C" fn nalgebra_sparse_matrix_factor(
+    alloc: Global,
+    a: &mut MatrixHandle,
+    out: &mut FactorHandle,
+) -> i32
+    ensures kept { a.new.value ≡ a.old.value }
+    ensures answer { Answers result (IsUnfactored a.old.value) (out.new.value ≡ out.old.value)
+        (HoldsFactors out.new.value (plain_behind a.old.value)) }
+{
+    match factor(alloc, a, out) {
+        Ok(()) => 0,
+        Err(refusal) => refusal.status(),
+    }
+}
+
+/// Replaces B by the X for which `L D Lᵀ X = B`, with the factors behind a handle. B and X have `cols` columns, one
+/// after the other.
+#[unsafe(no_mangle)]
+pub extern "C" fn nalgebra_sparse_factors_solve(
+    alloc: Global,
+    factors: &mut FactorHandle,
+    cols: usize,
+    values: &mut [i64],
+) -> i32
+    ensures kept { factors.new.value ≡ factors.old.value }
+    ensures answer { let m = product_behind factors.old.value in
+        Answers result (HasNoSystem factors.old.value cols values.old) (values.new ≡ values.old)
+        (SolvesInPlace m m.rows cols values.old values.new) }
+{
+    match solve_factored(alloc, factors, cols, values) {
+        Ok(()) => 0,
+        Err(refusal) => refusal.status(),
+    }
+}
+
+/// Makes a second handle of factors, which both share.
+#[unsafe(no_mangle)]
+pub extern "C" fn nalgebra_sparse_factors_clone(
+    alloc: Global,
+    factors: &mut FactorHandle,
+    out: &mut FactorHandle,
+) -> i32
+    ensures kept { factors.new.value ≡ factors.old.value }
+    ensures answer { Answers result (HasNoFactors factors.old.value)
+        (out.new.value ≡ out.old.value) (out.new.value ≡ factors.old.value) }
+{
+    match share_factors(alloc, factors, out) {
+        Ok(()) => 0,
+        Err(refusal) => refusal.status(),
+    }
+}
+
+/// Drops the factors behind a handle, which has none from then on.
+#[unsafe(no_mangle)]
+pub extern "C" fn nalgebra_sparse_factors_free(alloc: Global, factors: &mut FactorHandle)
+    ensures { factors.new.value ≡ None }
+{
+    clear_factors(alloc, factors);
+}

@@ -1,0 +1,43 @@
+//! Matrices behind handles out of Matrix Market texts, and their texts.
+
+ghost use Rattle.std.specs.Prelude.{◌≡◌};
+ghost use Rattle.sparse_handles.specs.Behind.{Answers};
+ghost use Rattle.sparse_handles.specs.Texts.{HoldsMeaning, IsTextFault, WritesText};
+
+use sparse_handles::handle::MatrixHandle;
+use sparse_handles::texts::{put_text, write_text};
+use std::alloc::Global;
+
+/// Puts the matrix of a text in Matrix Market format behind a handle.
+#[unsafe(no_mangle)]
+pub extern "C" fn nalgebra_sparse_matrix_from_text(
+    alloc: Global,
+    text: &[u8],
+    out: &mut MatrixHandle,
+) -> i32
+    ensures { Answers result (IsTextFault text.now) (out.new.value ≡ out.old.value)
+        (HoldsMeaning out.new.value text.now) }
+{
+    match put_text(alloc, text, out) {
+        Ok(()) => 0,
+        Err(refusal) => refusal.status(),
+    }
+}
+
+/// Writes the text of the matrix behind a handle in Matrix Market format, and its length.
+#[unsafe(no_mangle)]
+pub extern "C" fn nalgebra_sparse_matrix_to_text(
+    alloc: Global,
+    a: &mut MatrixHandle,
+    out_text: &mut [u8],
+    out_length: &mut usize,
+) -> i32
+    ensures kept { a.new.value ≡ a.old.value }
+    ensures answer { WritesText result a.old.value out_text.old out_text.new
+        out_length.old out_length.new }
+{
+    match write_text(alloc, a, out_text, out_length) {
+        Ok(()) => 0,
+        Err(refusal) => refusal.status(),
+    }
+}

@@ -1,0 +1,75 @@
+-- Factors of the matrix behind a handle.
+--     factorisation       the factors of a matrix by columns are those of its plain matrix
+--     factored            factors that were put are behind the handle
+--     solved_held         a solution with the factors behind a handle, over the array of its right side
+use Rattle.std.proofs.Common.{◌≡◌, ℕ, ℤ, ◌<◌, ◌*◌, List, length, sym, subst, ◌∙◌}
+use Rattle.std.specs.Prelude.{Option, Some, Ok, Err, OnOk}
+use Rattle.core.specs.declared.result.Result.{Result}
+use Rattle.sparse_algebra.specs.Plain.{Plain}
+use Rattle.sparse_algebra.specs.WrappingValues.{w64_value}
+use Rattle.sparse_algebra.specs.declared.scalar.wrapping.W64.{W64}
+use Rattle.sparse_base.specs.Dense.{Dense}
+use Rattle.sparse_base.specs.DensePlain.{plain_of_dense}
+use Rattle.sparse_c_views.specs.Arrays.{plain_by_values, ring64}
+use Rattle.sparse_c_views.specs.declared.refusal.Refusal.{Refusal}
+use Rattle.sparse_cs.specs.Compressed.{Compressed}
+use Rattle.sparse_cs.specs.PlainOfLanes.{plain_of_cols, plain_of_rows}
+use Rattle.sparse_handles.proofs.Done.{behind, held}
+use Rattle.sparse_handles.proofs.Triangles.{solved_over}
+use Rattle.sparse_handles.specs.Behind.{plain_behind}
+use Rattle.sparse_handles.specs.Factored.{product_behind, zero64, HoldsFactors}
+use Rattle.sparse_handles.specs.Solved.{SolvesInPlace}
+use Rattle.sparse_ldl.specs.Factorisations.{plain_symmetric, IsFactorisation, IsUnitLower}
+use Rattle.sparse_ldl.specs.Factors.{diagonal, plain_of_factors, symmetric_of, Factors, HavePivots}
+use Rattle.sparse_solve.specs.Solutions.{HasSameValues, IsSolution}
+
+pub factorisation : (a : Plain ring64) (m : Compressed W64) (s : Factors W64)
+    → plain_of_cols ring64 w64_value m ≡ a → s.l.pattern.minor_dim ≡ m.pattern.minor_dim
+    → length s.d ≡ m.pattern.minor_dim → IsUnitLower ring64 (plain_of_cols ring64 w64_value s.l)
+    → HavePivots ring64 w64_value zero64 s.d
+    → HasSameValues ring64 (length s.d) (length s.d) (plain_of_factors ring64 w64_value zero64 s)
+    (symmetric_of ring64 w64_value m)
+    → IsFactorisation ring64 w64_value (plain_symmetric ring64 a)
+    (plain_of_cols ring64 w64_value s.l) (diagonal ring64 w64_value zero64 s.d)
+factorisation a m s plain rows count lower pivots equation =
+    subst (λ (p : Plain ring64). IsFactorisation ring64 w64_value (plain_symmetric ring64 p)
+    (plain_of_cols ring64 w64_value s.l) (diagonal ring64 w64_value zero64 s.d)) plain (record {
+      rows = rows;
+      lower = lower;
+      pivots = λ j lt. pivots j (subst (λ n. j < n) (sym count) lt);
+      equation = subst (λ (n : ℕ). HasSameValues ring64 n n
+          (plain_of_factors ring64 w64_value zero64 s) (symmetric_of ring64 w64_value m)) count
+          equation;
+    })
+
+pub factored : (handle : Option (Compressed W64)) (m a : Compressed W64) → handle ≡ Some m → a ≡ m
+    → (answer : Result (Unit {0}) Refusal) (factors : Option (Factors W64)) (s : Factors W64)
+    → OnOk answer (factors ≡ Some s)
+    → IsFactorisation ring64 w64_value (plain_symmetric ring64 (plain_of_rows ring64 w64_value a))
+    (plain_of_cols ring64 w64_value s.l) (diagonal ring64 w64_value zero64 s.d)
+    → OnOk answer (HoldsFactors factors (plain_behind handle))
+factored handle m a is same (Ok u) factors s put equation = (
+  s,
+  put,
+  subst (λ (p : Plain ring64). IsFactorisation ring64 w64_value (plain_symmetric ring64 p)
+      (plain_of_cols ring64 w64_value s.l) (diagonal ring64 w64_value zero64 s.d))
+      (behind handle m a is same) equation,
+)
+factored handle m a is same (Err e) factors s put equation = tt
+
+pub solved_held : (handle : Option (Factors W64)) (f s : Factors W64) → handle ≡ Some f → s ≡ f
+    → (b x : Dense W64) (n cols : ℕ) (old new : List ℤ) → n ≡ s.l.pattern.minor_dim
+    → b.nrows ≡ n → b.ncols ≡ cols → length old ≡ n * cols
+    → plain_of_dense ring64 w64_value b ≡ plain_by_values ring64 n cols old
+    → x.nrows ≡ b.nrows → x.ncols ≡ b.ncols
+    → IsSolution ring64 (plain_of_factors ring64 w64_value zero64 s)
+    (plain_of_dense ring64 w64_value x) (plain_of_dense ring64 w64_value b)
+    → plain_by_values ring64 x.nrows x.ncols new ≡ plain_of_dense ring64 w64_value x
+    → SolvesInPlace (product_behind handle) (product_behind handle).rows cols old new
+solved_held handle f s is same b x n cols old new size rows columns sized side xrows xcolumns solved
+    written = subst (λ (h : Option (Factors W64)). SolvesInPlace (product_behind h)
+    (product_behind h).rows cols old new) (held handle f s is same)
+    (subst (λ (k : ℕ). SolvesInPlace (plain_of_factors ring64 w64_value zero64 s) k cols old new)
+    size (solved_over (plain_of_factors ring64 w64_value zero64 s)
+    (plain_of_dense ring64 w64_value b) x n cols old new (xrows ∙ rows) (xcolumns ∙ columns) sized
+    solved side written))

@@ -1,0 +1,72 @@
+-- Solves in an array, and the triangles that are solved with.
+--     dense_over          numbers over a whole array are the values of a dense matrix
+--     solved_over         a dense solution that is written over the array of its right side
+--     solved_behind       the same of a triangle of the matrix behind a handle
+--     upper_is_lower      a solve with the upper triangle is one with the lower triangle of the transpose
+--     singular_upper      an upper triangle is singular where the lower one of the transpose is
+use Rattle.std.proofs.Common.{◌≡◌, ℕ, ℤ, ◌<◌, ◌*◌, List, length, map, take, ap, sym}
+use Rattle.std.proofs.Common.{Bool, true, false, subst, ◌∙◌, refl, arith}
+use Rattle.std.specs.Prelude.{not, Option, Some}
+use Rattle.std.proofs.lemmas.List.{take_all}
+use Rattle.sparse_algebra.specs.Integers.{element_of}
+use Rattle.sparse_algebra.specs.Plain.{Plain, plain_transpose}
+use Rattle.sparse_algebra.specs.WrappingValues.{w64_value}
+use Rattle.sparse_algebra.specs.declared.scalar.wrapping.W64.{W64}
+use Rattle.sparse_base.specs.Dense.{Dense}
+use Rattle.sparse_base.specs.DensePlain.{plain_of_dense}
+use Rattle.sparse_base.proofs.Meanings.{dense-meant}
+use Rattle.sparse_c_views.specs.Arrays.{plain_by_values, ring64}
+use Rattle.sparse_cs.specs.Compressed.{Compressed}
+use Rattle.sparse_cs.specs.PlainOfLanes.{plain_of_rows}
+use Rattle.sparse_handles.specs.Behind.{plain_behind}
+use Rattle.sparse_handles.proofs.Done.{held}
+use Rattle.sparse_handles.specs.declared.solving.Triangle.{Triangle}
+use Rattle.sparse_handles.specs.Solved.{part_of, triangle_of, SolvesInPlace}
+use Rattle.sparse_handles.specs.declared.solving.Triangle.TheVariants.{Lower, Upper}
+use Rattle.sparse_solve.specs.Solutions.{IsSingular, IsSolution}
+
+pub dense_over : (x : Dense W64) (numbers : List ℤ) → length x.values ≡ length numbers
+    → map (element_of ring64) (take (length x.values) numbers) ≡ map w64_value x.values
+    → plain_by_values ring64 x.nrows x.ncols numbers ≡ plain_of_dense ring64 w64_value x
+dense_over x numbers full written =
+    dense-meant ring64 (element_of ring64) w64_value x.nrows x.ncols numbers x.values
+    (ap (map (element_of ring64)) (sym (take_all (length x.values) numbers (omega (arith, full))))
+    ∙ written)
+
+pub solved_over : (t b : Plain ring64) (x : Dense W64) (n m : ℕ) (old new : List ℤ) → x.nrows ≡ n
+    → x.ncols ≡ m → length old ≡ n * m
+    → IsSolution ring64 t (plain_of_dense ring64 w64_value x) b → b ≡ plain_by_values ring64 n m old
+    → plain_by_values ring64 x.nrows x.ncols new ≡ plain_of_dense ring64 w64_value x
+    → SolvesInPlace t n m old new
+solved_over t b x n m old new rows cols sized solved side written = record {
+  sized = sized;
+  solves = subst (λ (p : Plain ring64). IsSolution ring64 t p b)
+      (sym ((λ k. plain_by_values ring64 (sym rows k) (sym cols k) new) ∙ written)) solved ∙ side;
+}
+
+pub solved_behind : (handle : Option (Compressed W64)) (m a : Compressed W64) → handle ≡ Some m
+    → a ≡ m → (triangle : Triangle) (transposed : Bool) (x : Dense W64) (cols : ℕ)
+    (old new : List ℤ) → x.nrows ≡ a.pattern.major_dim → x.ncols ≡ cols
+    → length old ≡ a.pattern.major_dim * cols
+    → IsSolution ring64 (triangle_of triangle transposed (plain_of_rows ring64 w64_value a))
+    (plain_of_dense ring64 w64_value x) (plain_by_values ring64 a.pattern.major_dim cols old)
+    → plain_by_values ring64 x.nrows x.ncols new ≡ plain_of_dense ring64 w64_value x
+    → SolvesInPlace (triangle_of triangle transposed (plain_behind handle))
+    (plain_behind handle).rows cols old new
+solved_behind handle m a is same triangle transposed x cols old new rows columns sized solved
+    written = subst (λ (h : Option (Compressed W64)). SolvesInPlace
+    (triangle_of triangle transposed (plain_behind h)) (plain_behind h).rows cols old new)
+    (held handle m a is same) (solved_over
+    (triangle_of triangle transposed (plain_of_rows ring64 w64_value a))
+    (plain_by_values ring64 a.pattern.major_dim cols old) x a.pattern.major_dim cols old new rows
+    columns sized solved refl written)
+
+pub upper_is_lower : (transposed : Bool) (a : Plain ring64)
+    → triangle_of Lower (not transposed) (plain_transpose ring64 a) ≡ triangle_of Upper transposed a
+upper_is_lower false a = refl
+upper_is_lower true a = refl
+
+pub singular_upper : (a : Plain ring64) → a.cols ≡ a.rows
+    → IsSingular ring64 w64_value (part_of Lower (plain_transpose ring64 a))
+    → IsSingular ring64 w64_value (part_of Upper a)
+singular_upper a square h = (h.0, subst (λ n. h.0 < n) square h.1, h.2)

@@ -1,0 +1,40 @@
+use Rattle.std.proofs.Common.{inr, ap, subst, ◌∙◌}
+use Rattle.std.proofs.lemmas.Result.{err_from_is_err_and}
+use Rattle.std.specs.Prelude.{not}
+use Rattle.sparse_algebra.specs.Plain.{Plain}
+use Rattle.sparse_algebra.specs.WrappingValues.{w64_value}
+use Rattle.sparse_base.specs.DensePlain.{plain_of_dense}
+use Rattle.sparse_c_views.specs.Arrays.{ring64}
+use Rattle.sparse_c_views.specs.Statuses.{refusal_of_operation}
+use Rattle.sparse_cs.specs.PlainOfLanes.{plain_of_cols, plain_of_rows}
+use Rattle.sparse_handles.specs.Solved.{part_of, triangle_of}
+use Rattle.sparse_handles.specs.declared.solving.Triangle.TheVariants.{Lower}
+use Rattle.sparse_solve.specs.Solutions.{IsSingular, IsSolution}
+use Rattle.sparse_handles.proofs.Triangles.{singular_upper, upper_is_lower}
+use Rattle.sparse_handles.proofs.solving.solve_upper.Goals as goal
+
+pub returns-clause-solved : goal.returns-clause-solved
+returns-clause-solved c =
+    let plain = ap (plain_of_cols ring64 w64_value) (c.transpose_as_csc-columns.ensures
+    ∙ c.in_ok-copy.ensures) in
+    subst (λ (t : Plain ring64). IsSolution ring64 t
+    (plain_of_dense ring64 w64_value c.substitute.new.b)
+    (plain_of_dense ring64 w64_value c.args.b.now))
+    (ap (triangle_of Lower (not c.args.transposed)) plain
+    ∙ upper_is_lower c.args.transposed (plain_of_rows ring64 w64_value c.args.a.now))
+    c.in_ok-substitute.ensures.solved
+
+pub returns-in_err-substitute-clause-fault : goal.returns-in_err-substitute-clause-fault
+returns-in_err-substitute-clause-fault c =
+    let plain = ap (plain_of_cols ring64 w64_value) (c.transpose_as_csc-columns.ensures
+    ∙ c.in_ok-copy.ensures) in
+    let p = err_from_is_err_and c.from_residual-in_err-substitute.result
+    c.from_residual-in_err-substitute.ensures.1 in
+    let e = c.in_err-substitute.ensures in
+    rw p.1 (inr (
+      p.2 ∙ ap refusal_of_operation e.kind,
+      e.some,
+      singular_upper (plain_of_rows ring64 w64_value c.args.a.now) c.requires.square
+          (subst (λ (p : Plain ring64). IsSingular ring64 w64_value (part_of Lower p)) plain
+          e.singular),
+    ))

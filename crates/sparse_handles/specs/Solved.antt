@@ -1,0 +1,50 @@
+-- Equations with the matrix behind a handle, solved in the array of the right side.
+use Rattle.std.specs.Prelude.{◌≡◌, ◌≢◌, ◌⊎◌, ◌<◌, ◌*◌, ℕ, ℤ, Bool, true, false, List, Option, length}
+use Rattle.sparse_algebra.specs.Plain.{Plain, plain_transpose}
+use Rattle.sparse_algebra.specs.WrappingValues.{w64_value}
+use Rattle.sparse_algebra.specs.declared.scalar.wrapping.W64.{W64}
+use Rattle.sparse_c_views.specs.Arrays.{plain_by_values, ring64}
+use Rattle.sparse_c_views.specs.Refused.{IsMissized}
+use Rattle.sparse_c_views.specs.declared.refusal.Refusal.{Refusal}
+use Rattle.sparse_c_views.specs.declared.refusal.Refusal.TheVariants.{ShapeMismatch, Singular}
+use Rattle.sparse_cs.specs.Compressed.{Compressed}
+use Rattle.sparse_handles.specs.Behind.{plain_behind, IsEmpty}
+use Rattle.sparse_handles.specs.declared.solving.Triangle.{Triangle}
+use Rattle.sparse_handles.specs.declared.solving.Triangle.TheVariants.{Lower, Upper}
+use Rattle.sparse_ldl.specs.Factorisations.{plain_upper}
+use Rattle.sparse_solve.specs.Solutions.{plain_lower, IsSingular, IsSolution}
+
+-- the part of the matrix on and below its diagonal, or on and above it
+abbrev pub part_of : Triangle → Plain ring64 → Plain ring64
+part_of Lower a = plain_lower ring64 a
+part_of Upper a = plain_upper ring64 a
+
+-- this part, or its transpose
+abbrev pub triangle_of : Triangle → Bool → Plain ring64 → Plain ring64
+triangle_of triangle false a = part_of triangle a
+triangle_of triangle true a = plain_transpose ring64 (part_of triangle a)
+
+-- before, the array has the values of B, with n rows and m columns, and then those of X, where t X = B
+pub record SolvesInPlace (t : Plain ring64) (n m : ℕ) (before after : List ℤ) : Type 0 where
+  pub sized : length before ≡ n * m
+  pub solves : IsSolution ring64 t (plain_by_values ring64 n m after)
+      (plain_by_values ring64 n m before)
+
+-- the handle has no matrix, or one that is not square
+abbrev pub IsNoSquare : Option (Compressed W64) → Refusal → Type 0
+IsNoSquare a refusal = IsEmpty a refusal
+    ⊎ ((refusal ≡ ShapeMismatch) × ((plain_behind a).rows ≢ (plain_behind a).cols))
+
+-- the handle has no square matrix, or the right side with m columns has another number of values
+abbrev pub IsNoSystem : Option (Compressed W64) → ℕ → List ℤ → Refusal → Type 0
+IsNoSystem a m b refusal = IsNoSquare a refusal ⊎ IsMissized (plain_behind a).rows m b refusal
+
+-- there is a column to solve for, and some entry of the diagonal is not stored or has no inverse
+abbrev pub IsSingularPart : Triangle → Plain ring64 → ℕ → Refusal → Type 0
+IsSingularPart triangle a m refusal =
+    (refusal ≡ Singular) × (0 < m) × IsSingular ring64 w64_value (part_of triangle a)
+
+-- there is no system, or its triangle is singular
+abbrev pub IsUnsolved : Triangle → Option (Compressed W64) → ℕ → List ℤ → Refusal → Type 0
+IsUnsolved triangle a m b refusal =
+    IsNoSystem a m b refusal ⊎ IsSingularPart triangle (plain_behind a) m refusal

@@ -1,0 +1,64 @@
+-- Matrix Market texts, and the matrices behind handles.
+use Rattle.std.specs.Prelude.{◌≡◌, ◌⊎◌, ◌<◌, ℕ, ℤ, pos, Ok, Err, List, Option, codes, length, IsUtf8}
+use Rattle.std.specs.Fmt.{signed_decimal}
+use Rattle.std.specs.Int.{w64}
+use Rattle.sparse_algebra.specs.Plain.{Plain, row_order}
+use Rattle.sparse_algebra.specs.Whole.{number_of}
+use Rattle.sparse_algebra.specs.Wrapping.{class_of}
+use Rattle.sparse_algebra.specs.declared.scalar.wrapping.W64.{W64}
+use Rattle.sparse_base.specs.Coo.{Coo}
+use Rattle.sparse_base.specs.CooPlain.{plain_of_coo}
+use Rattle.sparse_c_views.specs.Arrays.{ring64}
+use Rattle.sparse_c_views.specs.Lists.{HoldsText}
+use Rattle.sparse_c_views.specs.Refused.{IsMemoryOr}
+use Rattle.sparse_c_views.specs.Rests.{KeepsBehind}
+use Rattle.sparse_c_views.specs.Statuses.{number_of as status_of, refusal_of_text}
+use Rattle.sparse_c_views.specs.declared.refusal.Refusal.{Refusal}
+use Rattle.sparse_c_views.specs.declared.refusal.Refusal.TheVariants.{TooSmall, Unreadable}
+use Rattle.sparse_cs.specs.Compressed.{Compressed}
+use Rattle.sparse_handles.specs.Behind.{plain_behind, Holds, IsEmpty}
+use Rattle.sparse_io.specs.Written.{written_text}
+use Rattle.sparse_market_scalar.specs.ScalarTypes.{wrapping_scalar}
+use Rattle.sparse_parser.specs.Meaning.{Means}
+use Rattle.sparse_parser.specs.declared.error.MatrixMarketErrorKind.{MatrixMarketErrorKind}
+
+-- the text means a list of integers, and the handle has its matrix
+abbrev pub HoldsMeaning : Option (Compressed W64) → List ℕ → Type 0
+HoldsMeaning handle text = (m : Coo ℤ) × Means (wrapping_scalar w64) text (Ok m)
+    × Holds handle (plain_of_coo ring64 (class_of w64) m)
+
+-- the text has an error of this kind
+abbrev pub IsTextError : List ℕ → Refusal → Type 0
+IsTextError text refusal = (kind : MatrixMarketErrorKind)
+    × Means (wrapping_scalar w64) text (Err kind) × (refusal ≡ refusal_of_text kind)
+
+-- the bytes are not UTF-8, or the text has an error
+abbrev pub IsTextFault : List ℕ → Refusal → Type 0
+IsTextFault text refusal = ((refusal ≡ Unreadable) × (IsUtf8 text → ⊥)) ⊎ IsTextError text refusal
+
+-- the text of a residue: the number from -2^63 to 2^63 - 1 that represents it
+abbrev pub residue_text : ring64.Carrier → List ℕ
+residue_text c = signed_decimal (number_of w64 c)
+
+-- the text of a plain matrix: a line for each place, row by row
+abbrev pub text_of_plain : Plain ring64 → List ℕ
+text_of_plain a = written_text (codes "integer") residue_text a.rows a.cols (row_order ring64 a)
+
+-- the handle has no matrix, or the buffer is shorter than the text of its matrix
+abbrev pub IsTextUnwritten : Option (Compressed W64) → List ℕ → Refusal → Type 0
+IsTextUnwritten a buffer refusal = IsEmpty a refusal ⊎ ((refusal ≡ TooSmall)
+    × (length buffer < length (text_of_plain (plain_behind a))))
+
+-- the length of the text is told where the buffer is too small for it, and otherwise not changed
+abbrev pub TellsLength : Refusal → ℕ → ℕ → ℕ → Type 0
+TellsLength TooSmall length old new = new ≡ length
+TellsLength _ length old new = new ≡ old
+
+-- the status of a call that writes the text of the matrix behind a handle, with the buffer and the
+-- length before it and after it
+abbrev pub WritesText : ℤ → Option (Compressed W64) → List ℕ → List ℕ → ℕ → ℕ → Type 0
+WritesText status a before after old new = let text = text_of_plain (plain_behind a) in
+    ((status ≡ pos 0) × HoldsText text after new × KeepsBehind new before after)
+    ⊎ ((refusal : Refusal) × (status ≡ status_of refusal)
+    × IsMemoryOr (IsTextUnwritten a before) refusal × (after ≡ before)
+    × TellsLength refusal (length text) old new)

@@ -1,0 +1,213 @@
+//! Solves with triangles of matrices behind handles, in the array of the right side.
+
+ghost use Rattle.std.specs.Prelude.{◌≡◌, ◌≢◌, ◌<◌, ◌*◌, length, Some, IfOk, IfErr, OnOk, OnErr};
+ghost use Rattle.sparse_algebra.specs.WrappingValues.{w64_value};
+ghost use Rattle.sparse_algebra.specs.declared.error.OperationErrorKind.TheVariants.{Singular};
+ghost use Rattle.sparse_base.specs.DensePlain.{plain_of_dense};
+ghost use Rattle.sparse_c_views.specs.Arrays.{plain_by_values, ring64};
+ghost use Rattle.sparse_c_views.specs.Refused.{IsMemoryOr};
+ghost use Rattle.sparse_c_views.specs.declared.refusal.Refusal.TheVariants.{ShapeMismatch};
+ghost use Rattle.sparse_cs.specs.PlainOfLanes.{plain_of_cols, plain_of_rows};
+ghost use Rattle.sparse_handles.specs.Behind.{plain_behind};
+ghost use Rattle.sparse_handles.specs.Solved.{triangle_of, IsSingularPart, IsUnsolved, SolvesInPlace};
+ghost use Rattle.sparse_handles.specs.declared.solving.Triangle.TheVariants.{Lower, Upper};
+ghost use Rattle.sparse_solve.specs.Solutions.{plain_lower, IsSingular, IsSolution};
+
+use crate::handle::MatrixHandle;
+use crate::sharing::shared;
+use sparse_algebra::error::OperationError;
+use sparse_algebra::operand::Op;
+use sparse_algebra::scalar::W64;
+use sparse_base::dense::DMatrix;
+use sparse_c_views::dense::dense_matrix_of;
+use sparse_c_views::refusal::Refusal;
+use sparse_c_views::scalars::put_scalars;
+use sparse_forms::csc::CscMatrix;
+use sparse_forms::csr::CsrMatrix;
+use sparse_products::transposes::transposed_csr;
+use sparse_solve::spsolve_csc_lower_triangular;
+use std::alloc::Global;
+
+/// The part of a matrix that a system of equations has.
+#[derive(Clone, Copy)]
+pub enum Triangle {
+    /// The part on and below the diagonal.
+    Lower,
+    /// The part on and above the diagonal.
+    Upper,
+}
+
+/// Replaces B in an array by the X for which `T X = B`, or `Tᵀ X = B` where `transposed` is set: T is a triangle of the
+/// matrix behind `a`. B and X have `cols` columns, one after the other.
+///
+/// # Errors
+///
+/// Returns `EmptyHandle` if there is no matrix, `ShapeMismatch` if it is not square, `InvalidStructure` if B has another
+/// number of values, and `Singular` if there is a column to solve for and some entry of the diagonal is not stored or
+/// has no inverse. Otherwise fails only if an allocation fails. The array is then unchanged.
+pub fn solve_triangle(
+    alloc: Global,
+    a: &mut MatrixHandle,
+    triangle: Triangle,
+    transposed: bool,
+    cols: usize,
+    values: &mut [i64],
+) -> Result<(), Refusal>
+    ensures kept { a.new.value ≡ a.old.value }
+    ensures solved { OnOk result (SolvesInPlace
+        (triangle_of triangle transposed (plain_behind a.old.value)) (plain_behind a.old.value).rows
+        cols values.old values.new) }
+    ensures unchanged { OnErr result (values.new ≡ values.old) }
+    ensures fault { IfErr result (IsMemoryOr (IsUnsolved triangle a.old.value cols values.old)) }
+{
+    let a = shared(alloc, a)?;
+    let x = solution(alloc, &a, triangle, transposed, cols, values)?;
+    put_dense(&x, values);
+    Ok(())
+}
+
+/// Returns the number of rows and columns of a square matrix.
+///
+/// # Errors
+///
+/// Returns `ShapeMismatch` if the matrix is not square.
+pub(crate) fn size_of(a: &CsrMatrix<W64>) -> Result<usize, Refusal>
+    ensures rows { IfOk result (λ n. n ≡ a.now.pattern.major_dim) }
+    ensures cols { IfOk result (λ n. n ≡ a.now.pattern.minor_dim) }
+    ensures kind { IfErr result (λ refusal. refusal ≡ ShapeMismatch) }
+    ensures fault { OnErr result (a.now.pattern.major_dim ≢ a.now.pattern.minor_dim) }
+{
+    if a.nrows() != a.ncols() {
+        return Err(Refusal::ShapeMismatch);
+    }
+    Ok(a.nrows())
+}
+
+/// Writes a dense matrix over an array with as many values.
+pub(crate) fn put_dense(x: &DMatrix<W64>, values: &mut [i64])
+    requires { length values.old ≡ x.now.nrows * x.now.ncols }
+    ensures { plain_by_values ring64 x.now.nrows x.now.ncols values.new
+        ≡ plain_of_dense ring64 w64_value x.now }
+{
+    put_scalars(values, x.as_slice());
+}
+
+// The X for which T X = B, or Tᵀ X = B: T is a triangle of the matrix.
+fn solution(
+    alloc: Global,
+    a: &CsrMatrix<W64>,
+    triangle: Triangle,
+    transposed: bool,
+    cols: usize,
+    b: &[i64],
+) -> Result<DMatrix<W64>, Refusal>
+    ensures rows { IfOk result (λ x. x.nrows ≡ a.now.pattern.major_dim) }
+    ensures cols { IfOk result (λ x. x.ncols ≡ cols) }
+    ensures sized { OnOk result (length b.now ≡ a.now.pattern.major_dim * cols) }
+    ensures solved { IfOk result (λ x. IsSolution ring64
+        (triangle_of triangle transposed (plain_of_rows ring64 w64_value a.now))
+        (plain_of_dense ring64 w64_value x)
+        (plain_by_values ring64 a.now.pattern.major_dim cols b.now)) }
+    ensures fault { IfErr result (IsMemoryOr (IsUnsolved triangle (Some a.now) cols b.now)) }
+{
+    let size = size_of(a)?;
+    let mut x = dense_matrix_of(alloc, size, cols, b)?;
+    solve_part(alloc, a, triangle, transposed, &mut x)?;
+    Ok(x)
+}
+
+// Replaces B by the solution with a triangle of a matrix, or with its transpose.
+fn solve_part(
+    alloc: Global,
+    a: &CsrMatrix<W64>,
+    triangle: Triangle,
+    transposed: bool,
+    b: &mut DMatrix<W64>,
+) -> Result<(), Refusal>
+    requires square { a.now.pattern.minor_dim ≡ a.now.pattern.major_dim }
+    requires fits { b.old.nrows ≡ a.now.pattern.major_dim }
+    ensures rows { b.new.nrows ≡ b.old.nrows }
+    ensures cols { b.new.ncols ≡ b.old.ncols }
+    ensures solved { OnOk result (IsSolution ring64
+        (triangle_of triangle transposed (plain_of_rows ring64 w64_value a.now))
+        (plain_of_dense ring64 w64_value b.new) (plain_of_dense ring64 w64_value b.old)) }
+    ensures fault { IfErr result (IsMemoryOr
+        (IsSingularPart triangle (plain_of_rows ring64 w64_value a.now) b.old.ncols)) }
+{
+    match triangle {
+        Triangle::Lower => solve_lower(alloc, a, transposed, b),
+        Triangle::Upper => solve_upper(alloc, a, transposed, b),
+    }
+}
+
+// Replaces B by the solution with the lower triangle of a matrix, which is copied by columns, or with its transpose.
+fn solve_lower(
+    alloc: Global,
+    a: &CsrMatrix<W64>,
+    transposed: bool,
+    b: &mut DMatrix<W64>,
+) -> Result<(), Refusal>
+    requires square { a.now.pattern.minor_dim ≡ a.now.pattern.major_dim }
+    requires fits { b.old.nrows ≡ a.now.pattern.major_dim }
+    ensures rows { b.new.nrows ≡ b.old.nrows }
+    ensures cols { b.new.ncols ≡ b.old.ncols }
+    ensures solved { OnOk result (IsSolution ring64
+        (triangle_of Lower transposed (plain_of_rows ring64 w64_value a.now))
+        (plain_of_dense ring64 w64_value b.new) (plain_of_dense ring64 w64_value b.old)) }
+    ensures fault { IfErr result (IsMemoryOr
+        (IsSingularPart Lower (plain_of_rows ring64 w64_value a.now) b.old.ncols)) }
+{
+    let copy = transposed_csr(alloc, a)?;
+    let columns = copy.transpose_as_csc();
+    substitute(&columns, transposed, b)?;
+    Ok(())
+}
+
+// Replaces B by the solution with the upper triangle of a matrix, or with its transpose, which is the lower triangle of
+// the transpose: its columns are the rows of the matrix.
+fn solve_upper(
+    alloc: Global,
+    a: &CsrMatrix<W64>,
+    transposed: bool,
+    b: &mut DMatrix<W64>,
+) -> Result<(), Refusal>
+    requires square { a.now.pattern.minor_dim ≡ a.now.pattern.major_dim }
+    requires fits { b.old.nrows ≡ a.now.pattern.major_dim }
+    ensures rows { b.new.nrows ≡ b.old.nrows }
+    ensures cols { b.new.ncols ≡ b.old.ncols }
+    ensures solved { OnOk result (IsSolution ring64
+        (triangle_of Upper transposed (plain_of_rows ring64 w64_value a.now))
+        (plain_of_dense ring64 w64_value b.new) (plain_of_dense ring64 w64_value b.old)) }
+    ensures fault { IfErr result (IsMemoryOr
+        (IsSingularPart Upper (plain_of_rows ring64 w64_value a.now) b.old.ncols)) }
+{
+    let copy = a.clone(alloc)?;
+    let columns = copy.transpose_as_csc();
+    substitute(&columns, !transposed, b)?;
+    Ok(())
+}
+
+// Replaces B by the solution with the lower triangle of a matrix, or with its transpose.
+fn substitute(
+    l: &CscMatrix<W64>,
+    transposed: bool,
+    b: &mut DMatrix<W64>,
+) -> Result<(), OperationError>
+    requires square { l.now.pattern.minor_dim ≡ l.now.pattern.major_dim }
+    requires fits { b.old.nrows ≡ l.now.pattern.major_dim }
+    ensures rows { b.new.nrows ≡ b.old.nrows }
+    ensures cols { b.new.ncols ≡ b.old.ncols }
+    ensures solved { OnOk result (IsSolution ring64
+        (triangle_of Lower transposed (plain_of_cols ring64 w64_value l.now))
+        (plain_of_dense ring64 w64_value b.new) (plain_of_dense ring64 w64_value b.old)) }
+    ensures kind { IfErr result (λ e. e ≡ Singular) }
+    ensures some { OnErr result (0 < b.old.ncols) }
+    ensures singular { OnErr result (IsSingular ring64 w64_value
+        (plain_lower ring64 (plain_of_cols ring64 w64_value l.now))) }
+{
+    if transposed {
+        spsolve_csc_lower_triangular(Op::Transpose(l), b)
+    } else {
+        spsolve_csc_lower_triangular(Op::NoOp(l), b)
+    }
+}

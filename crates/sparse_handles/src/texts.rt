@@ -1,0 +1,105 @@
+//! Handles of matrices out of Matrix Market texts, and texts of matrices behind handles.
+
+ghost use Rattle.std.specs.Prelude.{◌≡◌, IfErr, IfOk, OnOk, OnErr, length, string_bytes};
+ghost use Rattle.sparse_algebra.specs.WrappingValues.{w64_value};
+ghost use Rattle.sparse_c_views.specs.Arrays.{ring64};
+ghost use Rattle.sparse_c_views.specs.Lists.{HoldsText};
+ghost use Rattle.sparse_c_views.specs.Refused.{IsMemoryOr};
+ghost use Rattle.sparse_c_views.specs.Rests.{KeepsBehind};
+ghost use Rattle.sparse_cs.specs.PlainOfLanes.{plain_of_rows};
+ghost use Rattle.sparse_handles.specs.Behind.{plain_behind, IsEmpty};
+ghost use Rattle.sparse_handles.specs.Texts.{text_of_plain, HoldsMeaning, IsTextError, IsTextFault};
+ghost use Rattle.sparse_handles.specs.Texts.{IsTextUnwritten, TellsLength};
+
+use crate::handle::MatrixHandle;
+use crate::sharing::{put, shared};
+use sparse_algebra::learn;
+use sparse_algebra::scalar::W64;
+use sparse_base::coo::CooMatrix;
+use sparse_c_views::refusal::Refusal;
+use sparse_c_views::scalars::put_items;
+use sparse_convert::serial::convert_coo_csr;
+use sparse_forms::csr::CsrMatrix;
+use sparse_io::{load_coo_from_matrix_market_str, save_to_matrix_market_str};
+use std::alloc::{AllocError, Global};
+use std::str;
+
+/// Puts the matrix of a text in Matrix Market format behind `out`. Values at the same place are added.
+///
+/// # Errors
+///
+/// Returns `Unreadable` if the bytes are not UTF-8, and otherwise the first error of the text. Otherwise fails only if an
+/// allocation fails. `out` is then unchanged.
+pub fn put_text(alloc: Global, text: &[u8], out: &mut MatrixHandle) -> Result<(), Refusal>
+    ensures done { OnOk result (HoldsMeaning out.new.value text.now) }
+    ensures unchanged { OnErr result (out.new.value ≡ out.old.value) }
+    ensures fault { IfErr result (IsMemoryOr (IsTextFault text.now)) }
+{
+    match str::from_utf8(text) {
+        Ok(text) => put_lines(alloc, text, out),
+        Err(_fault) => Err(Refusal::Unreadable),
+    }
+}
+
+// Puts the matrix of a text behind `out`.
+fn put_lines(alloc: Global, text: &str, out: &mut MatrixHandle) -> Result<(), Refusal>
+    ensures done { OnOk result (HoldsMeaning out.new.value text.now) }
+    ensures unchanged { OnErr result (out.new.value ≡ out.old.value) }
+    ensures fault { IfErr result (IsMemoryOr (IsTextError text.now)) }
+{
+    let list: CooMatrix<W64> = load_coo_from_matrix_market_str(alloc, text)?;
+    let matrix = convert_coo_csr(alloc, &list)?;
+    put(alloc, matrix, out)
+}
+
+/// Writes the text of the matrix behind `a` in Matrix Market format into a buffer, and its length. It has a line for
+/// each place.
+///
+/// # Errors
+///
+/// Returns `EmptyHandle` if there is no matrix, and `TooSmall` if the buffer is shorter than the text: its length is
+/// then written all the same. Otherwise fails only if an allocation fails. The buffer is then unchanged.
+pub fn write_text(
+    alloc: Global,
+    a: &mut MatrixHandle,
+    buffer: &mut [u8],
+    size: &mut usize,
+) -> Result<(), Refusal>
+    ensures kept { a.new.value ≡ a.old.value }
+    ensures written { OnOk result
+        (HoldsText (text_of_plain (plain_behind a.old.value)) buffer.new size.new) }
+    ensures rest { OnOk result (KeepsBehind size.new buffer.old buffer.new) }
+    ensures unchanged { OnErr result (buffer.new ≡ buffer.old) }
+    ensures told { IfErr result (λ refusal. TellsLength refusal
+        (length (text_of_plain (plain_behind a.old.value))) size.old size.new) }
+    ensures fault { IfErr result (IsMemoryOr (IsTextUnwritten a.old.value buffer.old)) }
+{
+    let text = text_of(alloc, a)?;
+    let bytes = text.as_bytes();
+    *size = bytes.len();
+    if buffer.len() < bytes.len() {
+        return Err(Refusal::TooSmall);
+    }
+    put_items(buffer, bytes);
+    Ok(())
+}
+
+// The text of the matrix behind `a`.
+fn text_of(alloc: Global, a: &mut MatrixHandle) -> Result<String, Refusal>
+    ensures kept { a.new.value ≡ a.old.value }
+    ensures text { IfOk result
+        (λ text. string_bytes text ≡ text_of_plain (plain_behind a.old.value)) }
+    ensures empty { IfErr result (IsMemoryOr (IsEmpty a.old.value)) }
+{
+    let a = shared(alloc, a)?;
+    Ok(text_of_rows(alloc, &a)?)
+}
+
+// The text of a matrix.
+fn text_of_rows(alloc: Global, a: &CsrMatrix<W64>) -> Result<String, AllocError>
+    ensures { IfOk result
+        (λ text. string_bytes text ≡ text_of_plain (plain_of_rows ring64 w64_value a.now)) }
+{
+    learn(a.values());
+    Ok(save_to_matrix_market_str(alloc, a)?)
+}
