@@ -21,8 +21,13 @@
  * arrays of a sound matrix, and the plain matrix of these is the one that the call names: the transpose, the sum, the
  * product of the plain matrices of the operands; or they begin with an X that solves the equation, with the factors of
  * the matrix, with the triplets that a text means, or with the text of triplets. Longer arrays are left as they are
- * behind the result. At any other status nothing has been written, and the status tells why. Equations hold in the ring
- * of the call: the integers modulo 2^64, or modulo `modulus`.
+ * behind the result. At any other status the arrays are as they were, and the status tells why. Equations hold in the
+ * ring of the call: the integers modulo 2^64, or modulo `modulus`.
+ *
+ * At TOO_SMALL the call tells the size that is needed: the last argument, out_places, out_triplets or out_length, becomes
+ * the number that it would have at status 0. So a call with short arrays, or with none, may be made again with arrays of
+ * that size. The other sizes follow from the shape. At any other status than 0 and TOO_SMALL it is as it was. The calls
+ * that write a dense matrix have no such argument, and nalgebra_sparse_matrix_read leaves it as it was.
  *
  * Each call lists its statuses in the order in which it looks for their causes, and has the first that applies: first
  * a number that chooses among cases, then the faults of the operands in their order, then SINGULAR, and last TOO_SMALL.
@@ -40,7 +45,7 @@
  *   - no call is made from a signal handler, or in the child of a fork of a process with threads.
  *
  * Each call takes time and memory as the call of the library does, and copies of the operands' arrays beside it. Sums
- * modulo 2^64 read the operands where they are.
+ * read the operands where they are, if the arrays for the result have room for the places of both.
  *
  * Threads. The library keeps nothing from one call to the next, so any number of threads may call at once. They may share
  * the arrays of operands. While a call runs, no other thread may write an array that it reads, or read or write an array
@@ -83,7 +88,7 @@ enum {
     NALGEBRA_SPARSE_INDEX_OUT_OF_BOUNDS = 3,
     /* The same place is given more than once. */
     NALGEBRA_SPARSE_DUPLICATE_ENTRY = 4,
-    /* An array for the result is too small. */
+    /* An array for the result is too small. The call tells the size that is needed: see above. */
     NALGEBRA_SPARSE_TOO_SMALL = 5,
     /* A value that must have an inverse has none. */
     NALGEBRA_SPARSE_SINGULAR = 6,
@@ -119,7 +124,7 @@ enum { NALGEBRA_SPARSE_UPPER = 0, NALGEBRA_SPARSE_LOWER = 1, NALGEBRA_SPARSE_BOT
 /* Writes the matrix of triplets by rows: each place that occurs in the lists, with the sum of its values.
  *
  * The three lists have the same length. out_offsets needs rows + 1 numbers, and out_indices and out_values one for each
- * place: `values_len` is always enough. *out_places becomes the number of places.
+ * place: `values_len` is always enough. *out_places becomes the number of places, also at TOO_SMALL.
  *
  * Statuses: OUT_OF_MEMORY; INVALID_STRUCTURE if the lists have different lengths; INDEX_OUT_OF_BOUNDS; TOO_SMALL.
  */
@@ -280,7 +285,7 @@ int32_t nalgebra_sparse_subtract_mod(
     size_t *out_places);
 
 /* Writes the sum alpha a + beta b modulo `modulus`; alpha and beta mean their residues. Otherwise as
- * nalgebra_sparse_add_mod. Beside the result it takes memory for a multiple of each matrix.
+ * nalgebra_sparse_add_mod.
  */
 int32_t nalgebra_sparse_add_scaled_mod(
     uint64_t modulus,
@@ -312,9 +317,9 @@ int32_t nalgebra_sparse_multiply_places(
     size_t *out_places);
 
 /* Writes the product a b of two matrices by rows, with a place wherever the operands share a middle index, also where
- * the sum is 0: out_offsets needs rows + 1 numbers, and out_indices and out_values as many as
- * nalgebra_sparse_multiply_places says, which takes about as long as the product. One number for each multiplication is
- * always enough: the sum, over the places of a, of the lengths of the rows of b that their indices name.
+ * the sum is 0: out_offsets needs rows + 1 numbers, and out_indices and out_values as many as *out_places says at
+ * TOO_SMALL, or nalgebra_sparse_multiply_places, which takes about as long as the product. One number for each
+ * multiplication is always enough: the sum, over the places of a, of the lengths of the rows of b that their indices name.
  *
  * Statuses: OUT_OF_MEMORY; the first fault of a, and otherwise that of b, as for nalgebra_sparse_transpose; TOO_SMALL.
  */

@@ -68,7 +68,8 @@ typedef struct {
 } nalgebra_sparse_dense;
 
 /* Arrays for a matrix by rows or by columns: `offsets` with offsets_len numbers, `indices` and `values` with `room` each.
- * At status 0 the call sets `rows`, `cols` and `places`, and otherwise leaves all as it is.
+ * At status 0 the call sets `rows`, `cols` and `places`. At TOO_SMALL it sets `places` alone, to the `room` that is needed:
+ * the arrays, which may be null, hold no matrix then. Otherwise it leaves all as it is.
  */
 typedef struct {
     size_t *offsets;
@@ -79,7 +80,9 @@ typedef struct {
     size_t rows, cols, places;
 } nalgebra_sparse_result;
 
-/* Arrays for triplets, with `room` numbers each. nalgebra_sparse_read_sizes_lists sets `rows`, `cols` and `count`. */
+/* Arrays for triplets, with `room` numbers each. nalgebra_sparse_read_sizes_lists sets `rows`, `cols` and `count`, the `room`
+ * that is needed.
+ */
 typedef struct {
     size_t *row_indices, *col_indices;
     int64_t *values;
@@ -136,13 +139,13 @@ static inline const uint8_t *nalgebra_sparse_no_text(void) {
     NALGEBRA_SPARSE_SIZES((r)->offsets, (r)->offsets_len), NALGEBRA_SPARSE_SIZES((r)->indices, (r)->room), \
         NALGEBRA_SPARSE_VALUES((r)->values, (r)->room)
 
-/* Sets the shape and the places of a result, if the call wrote it, and returns the status. */
+/* Sets the shape and the places of a result, if the call wrote it, or the places that are needed, and returns the status. */
 static inline int32_t nalgebra_sparse_written(int32_t status, nalgebra_sparse_result *out, size_t rows, size_t cols, size_t places) {
     if (status == NALGEBRA_SPARSE_DONE) {
         out->rows = rows;
         out->cols = cols;
-        out->places = places;
     }
+    if (status == NALGEBRA_SPARSE_DONE || status == NALGEBRA_SPARSE_TOO_SMALL) out->places = places;
     return status;
 }
 

@@ -332,13 +332,16 @@ static void check_faults(void) {
     CHECK(nalgebra_sparse_assemble_csc(2, 2, empty, 2, sound_indices, 2, values, 2, OUT(r)) == NALGEBRA_SPARSE_INDEX_OUT_OF_BOUNDS);
     /* One row pointer more than there are addresses. */
     CHECK(nalgebra_sparse_assemble_csr(SIZE_MAX, 2, empty, 0, empty, 0, values, 0, OUT(r)) == NALGEBRA_SPARSE_OUT_OF_MEMORY);
-    /* Arrays for the result that are too short by one. */
+    check_untouched(&r);
+    /* Arrays for the result that are too short by one: the call tells how many places there are. */
     const int32_t small = NALGEBRA_SPARSE_TOO_SMALL;
     CHECK(nalgebra_sparse_transpose(2, 3, sound_offsets, 3, sound_indices, 2, values, 2, r.offsets, 3, r.indices, 2, r.values, 2, &r.places) == small);
     CHECK(nalgebra_sparse_transpose(2, 3, sound_offsets, 3, sound_indices, 2, values, 2, r.offsets, 4, r.indices, 1, r.values, 2, &r.places) == small);
     CHECK(nalgebra_sparse_transpose(2, 3, sound_offsets, 3, sound_indices, 2, values, 2, r.offsets, 4, r.indices, 2, r.values, 1, &r.places) == small);
     CHECK(nalgebra_sparse_add(2, 3, sound_offsets, 3, sound_indices, 2, values, 2, sound_offsets, 3, sound_indices, 2, values, 2, r.offsets, 3, r.indices, 1, r.values, ROOM, &r.places) == small);
     CHECK(nalgebra_sparse_add(2, 3, sound_offsets, 3, sound_indices, 2, values, 2, sound_offsets, 3, sound_indices, 2, values, 2, r.offsets, 2, r.indices, 4, r.values, 4, &r.places) == small);
+    CHECK(r.places == 2);
+    r.places = 77;
     check_untouched(&r);
 }
 
@@ -356,13 +359,15 @@ static void check_other_errors(void) {
     CHECK(nalgebra_sparse_solve_lower(2, 2, o, 3, x, 2, odd, 2, true, b, 4, r.values, 3) == small);
     CHECK(nalgebra_sparse_solve_lower(2, 2, o, 3, x, 2, even, 2, true, b, 4, r.values, ROOM) == singular);
     CHECK(nalgebra_sparse_divide(2, 2, o, 3, x, 2, odd, 2, 4, OUT(r)) == singular);
-    CHECK(nalgebra_sparse_divide(2, 2, o, 3, x, 2, odd, 2, 3, r.offsets, ROOM, r.indices, ROOM, r.values, 1, &r.places) == small);
+    CHECK(nalgebra_sparse_divide(2, 2, o, 3, x, 2, odd, 2, 3, r.offsets, ROOM, r.indices, ROOM, r.values, 1, &r.places) == small && r.places == 2);
+    r.places = 77;
     CHECK(nalgebra_sparse_fill(2, 3, o, 3, x, 2, r.offsets, ROOM, r.indices, ROOM, &r.places) == NALGEBRA_SPARSE_UNKNOWN_CHOICE);
     CHECK(nalgebra_sparse_fill_places(2, -1, o, 3, x, 2, &r.places) == NALGEBRA_SPARSE_UNKNOWN_CHOICE);
     CHECK(nalgebra_sparse_fill(2, 0, falling, 3, x, 2, r.offsets, ROOM, r.indices, ROOM, &r.places) == invalid);
     CHECK(nalgebra_sparse_fill_places(2, 1, falling, 3, x, 2, &r.places) == invalid);
     CHECK(nalgebra_sparse_fill(2, 2, o, 3, x, 2, r.offsets, 2, r.indices, ROOM, &r.places) == small);
-    CHECK(nalgebra_sparse_fill(2, 2, o, 3, x, 2, r.offsets, ROOM, r.indices, 1, &r.places) == small);
+    CHECK(nalgebra_sparse_fill(2, 2, o, 3, x, 2, r.offsets, ROOM, r.indices, 1, &r.places) == small && r.places == 2);
+    r.places = 77;
     CHECK(nalgebra_sparse_solve_symmetric(2, 2, falling, 3, x, 2, odd, 2, b, 4, r.values, ROOM) == invalid);
     CHECK(nalgebra_sparse_solve_symmetric(2, 2, o, 3, x, 2, odd, 2, b, 3, r.values, ROOM) == invalid);
     CHECK(nalgebra_sparse_solve_symmetric(2, 2, o, 3, x, 2, odd, 2, b, 4, r.values, 3) == small);

@@ -174,7 +174,7 @@ static void check_nulls(void) {
     CHECK(nalgebra_sparse_transpose_rows(no_indices, &r) == NALGEBRA_SPARSE_INVALID_STRUCTURE);
     CHECK(nalgebra_sparse_transpose_rows(no_values, &r) == NALGEBRA_SPARSE_INVALID_STRUCTURE);
     CHECK(nalgebra_sparse_multiply_places_rows(A, no_values, &places) == SHAPE);
-    CHECK(nalgebra_sparse_transpose_rows(A, &nowhere) == NALGEBRA_SPARSE_TOO_SMALL && nowhere.places == 77);
+    CHECK(nalgebra_sparse_transpose_rows(A, &nowhere) == NALGEBRA_SPARSE_TOO_SMALL && nowhere.places == 3 && nowhere.rows == 77);
     CHECK(nalgebra_sparse_multiply_dense_rows(A, nothing, NULL, 0) == DONE);
 }
 

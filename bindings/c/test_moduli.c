@@ -221,10 +221,11 @@ static void check_errors(void) {
     CHECK(LOWER(7, o, 3, 4) == invalid && SYMMETRIC(7, o, 3, 4) == invalid);
     CHECK(LOWER(2, o, 4, 4) == singular && SYMMETRIC(5, o, 4, 4) == singular && DIVIDE(7, o, -14, 4) == singular);
     CHECK(FACTOR(2, o, 4, 4) == singular && FACTOR64(o, 4, 4) == singular);
+    CHECK(places == 77);
     CHECK(LOWER(7, o, 4, 3) == small && SYMMETRIC(7, o, 4, 3) == small && DIVIDE(7, o, 3, 1) == small);
     CHECK(FACTOR(7, o, 1, 4) == small && FACTOR(7, o, 4, 1) == small);
     EACH(k, 4) CHECK(ro[k] == 77 && rx[k] == 77 && rv[k] == 77 && rd[k] == 77);
-    CHECK(places == 77);
+    CHECK(places == 2);
 }
 
 int main(void) {

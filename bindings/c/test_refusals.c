@@ -71,9 +71,9 @@ static const char LINES[] = "%%MatrixMarket matrix coordinate integer symmetric\
     CALL(add, 3, 3, MATRIX, MATRIX, TO_SUM)                             \
     CALL(subtract, 3, 3, MATRIX, MATRIX, TO_SUM)                        \
     CALL(add_scaled, 3, 3, 2, MATRIX, -3, MATRIX, TO_SUM)               \
-    CALL(add_mod, 7, 3, 3, MATRIX, MATRIX, TO_MATRIX)                   \
-    CALL(subtract_mod, 7, 3, 3, MATRIX, MATRIX, TO_MATRIX)              \
-    CALL(add_scaled_mod, 7, 3, 3, 2, MATRIX, -3, MATRIX, TO_MATRIX)     \
+    CALL(add_mod, 7, 3, 3, MATRIX, MATRIX, TO_SUM)                      \
+    CALL(subtract_mod, 7, 3, 3, MATRIX, MATRIX, TO_SUM)                 \
+    CALL(add_scaled_mod, 7, 3, 3, 2, MATRIX, -3, MATRIX, TO_SUM)        \
     CALL(multiply_places, 3, 3, 3, PATTERN, PATTERN, &t->count)         \
     CALL(multiply, 3, 3, 3, MATRIX, MATRIX, TO_MATRIX)                  \
     CALL(multiply_mod, 7, 3, 3, 3, MATRIX, MATRIX, TO_MATRIX)           \

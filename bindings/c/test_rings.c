@@ -215,10 +215,11 @@ static void check_errors(void) {
     clear();
     EACH(k, sizeof unlisted / sizeof *unlisted) { ALL(unlisted[k], falling, 1, 0, unknown); }
     ALL(7, falling, 1, 0, invalid);
+    CHECK(places == MARK);
     ALL(7, o, 2, 1, small);
     CHECK(nalgebra_sparse_multiply_dense_mod(7, 2, 2, 1, o, 3, x, 2, v, 2, d, 1, to_values, ROOM) == invalid);
     EACH(k, ROOM) CHECK(to_offsets[k] == MARK && to_indices[k] == MARK && to_values[k] == MARK);
-    CHECK(places == MARK);
+    CHECK(places == 2);
 }
 
 int main(void) {

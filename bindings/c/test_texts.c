@@ -79,7 +79,7 @@ static void check_written(const list *m, const char *want) {
     CHECK(nalgebra_sparse_write(m->rows, m->cols, LISTS(*m), text, TEXT, &written) == 0);
     CHECK(length == strlen(want) && written == length && memcmp(text, want, length) == 0);
     for (size_t k = length; k < TEXT; k++) CHECK(text[k] == 7);
-    if (length) CHECK(nalgebra_sparse_write(m->rows, m->cols, LISTS(*m), text, length - 1, &written) == NALGEBRA_SPARSE_TOO_SMALL);
+    if (length) CHECK(nalgebra_sparse_write(m->rows, m->cols, LISTS(*m), text, length - 1, &written) == NALGEBRA_SPARSE_TOO_SMALL && written == length);
 }
 
 static void check_general(void) {
@@ -153,7 +153,8 @@ static void check_errors(void) {
     size_t length = strlen(two);
     CHECK(nalgebra_sparse_read(text, length, r.row, 1, r.col, 2, r.value, 2, &r.count) == NALGEBRA_SPARSE_TOO_SMALL);
     CHECK(nalgebra_sparse_read(text, length, r.row, 2, r.col, 1, r.value, 2, &r.count) == NALGEBRA_SPARSE_TOO_SMALL);
-    CHECK(nalgebra_sparse_read(text, length, r.row, 2, r.col, 2, r.value, 1, &r.count) == NALGEBRA_SPARSE_TOO_SMALL);
+    CHECK(nalgebra_sparse_read(text, length, r.row, 2, r.col, 2, r.value, 1, &r.count) == NALGEBRA_SPARSE_TOO_SMALL && r.count == 2);
+    r.count = 77;
     CHECK(memcmp(&r, &want, sizeof r) == 0);
     const size_t inside[] = {0, 1}, outside[] = {0, 2};
     const int64_t values[] = {5, 6};

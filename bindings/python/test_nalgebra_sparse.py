@@ -1,4 +1,5 @@
 """Compares the module with SciPy in random cases, and tries each error of the library. Run by bindings/test."""
+import ctypes
 import io
 import math
 import os
@@ -11,6 +12,8 @@ import scipy.sparse as sp
 
 sys.path.insert(0, os.path.dirname(os.path.abspath(__file__)))
 import nalgebra_sparse as ns  # noqa: E402
+import nalgebra_sparse._calls as calls  # noqa: E402
+import nalgebra_sparse._errors as errors  # noqa: E402
 import nalgebra_sparse._matrices as matrices  # noqa: E402
 
 random = np.random.default_rng(20)
@@ -313,6 +316,25 @@ def check_errors():
     refused(ns.IndexOutOfBounds, ns.read, head + b"general\n1 1 1\n1 2 1\n")
 
 
+def check_sizes():
+    """A call with arrays that are too short by one tells the size that is needed, and the calls here are made again with it."""
+    a = sp.csr_matrix(np.array([[1, 2], [0, 3]]))
+    lanes = (a.indptr.astype(np.int64), a.indices.astype(np.int64), a.data)
+    offsets, indices, values, places = np.full(3, 77), np.full(2, 77), np.full(2, 77), ctypes.c_size_t()
+    refused(errors.TooSmall, calls.call, "multiply", 2, 2, 2, *lanes, *lanes, offsets, indices, values, places)
+    assert places.value == 3 and {*offsets, *indices, *values} == {77}
+    indices, values = np.full(places.value, 77), np.full(places.value, 77)
+    calls.call("multiply", 2, 2, 2, *lanes, *lanes, offsets, indices, values, places)
+    assert (offsets.tolist(), indices.tolist(), values.tolist()) == ([0, 2, 3], [0, 1, 1], [1, 8, 9])
+    # The elimination of an arrow fills all, and a text of long numbers is longer than is guessed.
+    arrow = sp.csc_matrix(np.array([[1, 1, 1, 1], [0, 1, 0, 0], [0, 0, 1, 0], [0, 0, 0, 1]]))
+    assert ns.fill(arrow)[1].tolist() == [0, 1, 2, 3, 1, 2, 3, 2, 3, 3]
+    far = np.full(50, 2**31 - 2)
+    long = sp.coo_matrix((np.full(50, -(2**63)), (far, far)), (2**31 - 1, 2**31 - 1))
+    text = ns.write(long)
+    assert len(text) > 256 + 27 * 50 and (ns.read(text).data == long.data).all() and (ns.read(text).row == far).all()
+
+
 def check_memory():
     """Checks that the pages of a call are those of the call before it, once memory is kept."""
     if not ns.reuse_memory():
@@ -328,5 +350,6 @@ def check_memory():
 
 check_random_cases()
 check_errors()
+check_sizes()
 check_memory()
 print("python: 1000 random cases equal SciPy, and each error of the library is raised")

@@ -26,6 +26,10 @@ class UnknownModulus(Error):
     """The modulus is none of `MODULI`."""
 
 
+class TooSmall(Error):
+    """An array for the result is too small. The call tells the size that is needed."""
+
+
 class InvalidText(Error):
     """A text in Matrix Market format has an error, which the message names."""
 
@@ -37,7 +41,7 @@ _REFUSALS: dict[int, tuple[type[Exception], str]] = {
     2: (InvalidStructure, "the arrays have lengths, offsets or an order that the format does not allow"),
     3: (IndexOutOfBounds, "a row or a column index is out of bounds"),
     4: (DuplicateEntry, "the same place is given more than once"),
-    5: (Error, "an array for the result is too small"),
+    5: (TooSmall, "an array for the result is too small"),
     6: (Singular, "a value that must have an inverse has none"),
     UNKNOWN_MODULUS: (UnknownModulus, "the modulus is none of MODULI"),
     8: (InvalidText, "a text does not match the grammar, or a number in it is out of range"),

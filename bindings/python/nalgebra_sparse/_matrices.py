@@ -1,7 +1,6 @@
 """Assembly, transposes, sums, products and division."""
 from __future__ import annotations
 
-import ctypes
 from typing import Any, Optional
 
 import numpy as np
@@ -129,7 +128,7 @@ def multiply(a: Matrix, b: Matrix, modulus: Optional[int] = None) -> Matrix:
     # By columns, the product of the transposes in the other order is the transpose of the product by rows.
     first, second = (x, y) if x.sizes == x.shape else (y, x)
     sizes = (first.sizes[0], inner, second.sizes[1])
-    parts = filled(sizes[0], _product_room(sizes, first, second), *name, *sizes, *first.arrays, *second.arrays)
+    parts = filled(sizes[0], _product_room(first, second), *name, *sizes, *first.arrays, *second.arrays)
     return matrix_of(x.kind, parts, (rows, cols))
 
 
@@ -138,20 +137,15 @@ def multiply(a: Matrix, b: Matrix, modulus: Optional[int] = None) -> Matrix:
 _MOST_UNCOUNTED = 1 << 24
 
 
-def _product_room(sizes: tuple[int, int, int], a: Lanes, b: Lanes) -> int:
-    """Returns a number of places that is enough for a product: that of its multiplications, or, where that is large, the exact one.
-
-    To count the exact number takes about as long as the product.
+def _product_room(a: Lanes, b: Lanes) -> int:
+    """Returns the number of places for which a product has room at first: that of its multiplications, where that is not large,
+    and none where an index names no row.
     """
     try:
         room = int(np.diff(b.offsets)[a.indices].sum())
     except IndexError:
-        room = -1
-    if 0 <= room <= _MOST_UNCOUNTED:
-        return room
-    places = ctypes.c_size_t()
-    call("multiply_places", *sizes, a.offsets, a.indices, b.offsets, b.indices, places)
-    return places.value
+        return 0
+    return min(max(room, 0), _MOST_UNCOUNTED)
 
 
 def multiply_dense(a: Matrix, b: Integers, modulus: Optional[int] = None) -> Integers:

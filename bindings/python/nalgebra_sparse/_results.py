@@ -7,6 +7,7 @@ from typing import Any
 import numpy as np
 
 from ._calls import call
+from ._errors import TooSmall
 from ._operands import Integers
 
 
@@ -18,12 +19,25 @@ def empty(count: int, dtype: Any = np.int64) -> Integers:
         raise MemoryError(f"no array has {count} elements") from error
 
 
+def with_room(room: int, dtypes: tuple[Any, ...], name: str, *arguments: Any) -> tuple[Integers, ...]:
+    """Calls with an array of `room` elements for each type, and cuts them to the result. Calls once more, with as many elements
+    as the call tells that it needs, if that is too little.
+    """
+    count = ctypes.c_size_t()
+    arrays = [empty(room, dtype) for dtype in dtypes]
+    try:
+        call(name, *arguments, *arrays, count)
+    except TooSmall:
+        arrays = [empty(count.value, dtype) for dtype in dtypes]
+        call(name, *arguments, *arrays, count)
+    return tuple(array[: count.value] for array in arrays)
+
+
 def filled(lanes: int, room: int, name: str, *arguments: Any) -> tuple[Integers, Integers, Integers]:
-    """Calls with arrays for `lanes` lanes and `room` places, and cuts them to the places of the result."""
-    offsets, indices, values = empty(lanes + 1), empty(room), empty(room)
-    places = ctypes.c_size_t()
-    call(name, *arguments, offsets, indices, values, places)
-    return values[: places.value], indices[: places.value], offsets
+    """Calls with arrays for `lanes` lanes and `room` places, or as many as are needed, and cuts them to the places of the result."""
+    offsets = empty(lanes + 1)
+    indices, values = with_room(room, (np.int64, np.int64), name, *arguments, offsets)
+    return values, indices, offsets
 
 
 def matrix_of(kind: Any, parts: Any, shape: tuple[int, int]) -> Any:

@@ -4,10 +4,12 @@ from __future__ import annotations
 import ctypes
 from typing import Any, Optional
 
+import numpy as np
+
 from ._calls import call
 from ._errors import Error
 from ._operands import Integers, Lanes, Matrix, dense_of, modular, square_of
-from ._results import empty, matrix_of
+from ._results import empty, matrix_of, with_room
 
 
 def _solved(name: str, modulus: Any, matrix: Any, b: Any, *flags: bool) -> Integers:
@@ -60,9 +62,10 @@ def fill(matrix: Matrix, triangle: str = "upper") -> tuple[Integers, Integers]:
     if triangle not in _TRIANGLES:
         raise Error(f"triangle must be one of {', '.join(_TRIANGLES)}, not {triangle!r}")
     size, lanes = square_of("matrix", matrix)
-    places = _fill_places(size, triangle, lanes)
-    offsets, indices = empty(size + 1), empty(places)
-    call("fill", size, _TRIANGLES[triangle], lanes.offsets, lanes.indices, offsets, indices, ctypes.c_size_t())
+    offsets = empty(size + 1)
+    # Enough where the elimination adds no place but those of the diagonal.
+    room = lanes.indices.size + size
+    (indices,) = with_room(room, (np.int64,), "fill", size, _TRIANGLES[triangle], lanes.offsets, lanes.indices, offsets)
     return offsets, indices
 
 

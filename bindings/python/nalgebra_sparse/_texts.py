@@ -9,7 +9,7 @@ import scipy.sparse as sp
 
 from ._calls import call
 from ._operands import shape_of, triplets_of
-from ._results import empty
+from ._results import empty, with_room
 
 
 def read(text: bytes) -> sp.coo_matrix:
@@ -45,8 +45,6 @@ def write(matrix: Any) -> bytes:
         raise TypeError("matrix must be a SciPy matrix in COO form: call tocoo()")
     rows, cols = shape_of("matrix.shape", matrix.shape)
     triplets = triplets_of(matrix.row, matrix.col, matrix.data, "matrix")
-    length = ctypes.c_size_t()
-    call("write_length", rows, cols, *triplets, length)
-    text = empty(length.value, np.uint8)
-    call("write", rows, cols, *triplets, text, length)
+    # Enough for a head and for triplets of 8 bytes a number: longer texts are written once more.
+    (text,) = with_room(256 + 27 * triplets[2].size, (np.uint8,), "write", rows, cols, *triplets)
     return text.tobytes()

@@ -151,15 +151,6 @@ extern "C" {
         out_places: *mut usize,
     ) -> i32;
 
-    pub fn nalgebra_sparse_multiply_places(
-        rows: usize, inner: usize, cols: usize,
-        a_offsets: *const usize, a_offsets_len: usize,
-        a_indices: *const usize, a_indices_len: usize,
-        b_offsets: *const usize, b_offsets_len: usize,
-        b_indices: *const usize, b_indices_len: usize,
-        out_places: *mut usize,
-    ) -> i32;
-
     pub fn nalgebra_sparse_multiply(
         rows: usize, inner: usize, cols: usize,
         a_offsets: *const usize, a_offsets_len: usize,
@@ -323,14 +314,6 @@ extern "C" {
         out_col_indices: *mut usize, out_col_indices_len: usize,
         out_values: *mut i64, out_values_len: usize,
         out_triplets: *mut usize,
-    ) -> i32;
-
-    pub fn nalgebra_sparse_write_length(
-        rows: usize, cols: usize,
-        row_indices: *const usize, row_indices_len: usize,
-        col_indices: *const usize, col_indices_len: usize,
-        values: *const i64, values_len: usize,
-        out_length: *mut usize,
     ) -> i32;
 
     pub fn nalgebra_sparse_write(

@@ -68,6 +68,9 @@ impl fmt::Display for Error {
 
 impl std::error::Error for Error {}
 
+/// The status of a call whose arrays for the result are too small. It tells the size that is needed.
+pub(crate) const TOO_SMALL: i32 = 5;
+
 /// Returns the error with this status.
 pub(crate) fn answer(status: i32) -> Result<(), Error> {
     match status {
@@ -89,7 +92,7 @@ pub(crate) fn answer(status: i32) -> Result<(), Error> {
         15 => Err(Error::NonSquare),
         16 => Err(Error::Unreadable),
         18 => Err(Error::ShapeMismatch),
-        // The arrays for a result are as long as the header asks, and a `Matrix` is never empty, so 5 and 17 are not among them.
+        // A call is made again with the size that it tells, and a `Matrix` is never empty, so 5 and 17 are not among them.
         _ => Err(Error::UnknownStatus(status)),
     }
 }

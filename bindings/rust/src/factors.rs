@@ -65,7 +65,7 @@ pub fn factor_symmetric_mod(modulus: u64, a: Columns<'_>) -> Result<Factors, Err
 /// Calls with arrays for the factors of a square matrix by columns.
 fn into_factors(
     a: Columns<'_>,
-    call: impl FnOnce(&mut [usize], &mut [usize], &mut [i64], &mut [i64], &mut usize) -> i32,
+    mut call: impl FnMut(&mut [usize], &mut [usize], &mut [i64], &mut [i64], &mut usize) -> i32,
 ) -> Result<Factors, Error> {
     check_square(a)?;
     let room = fill_places(a.rows, Triangle::Upper, a.offsets, a.indices)?;

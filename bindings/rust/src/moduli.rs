@@ -132,9 +132,8 @@ pub fn multiply_mod(modulus: u64, a: Rows<'_>, b: Rows<'_>) -> Result<Arrays, Er
     if a.cols != b.rows {
         return Err(Error::ShapeMismatch);
     }
-    check_modulus(modulus)?;
     // SAFETY: each pointer is that of a slice, with the slice's length behind it.
-    let parts = into_parts(a.rows, product_room(a, b)?, |o, x, v, places| unsafe {
+    let parts = into_parts(a.rows, product_room(a, b), |o, x, v, places| unsafe {
         calls::nalgebra_sparse_multiply_mod(
             modulus, a.rows, a.cols, b.cols,
             a.offsets.as_ptr(), a.offsets.len(), a.indices.as_ptr(), a.indices.len(), a.values.as_ptr(), a.values.len(),
@@ -143,15 +142,6 @@ pub fn multiply_mod(modulus: u64, a: Rows<'_>, b: Rows<'_>) -> Result<Arrays, Er
         )
     })?;
     Ok(Arrays::new((a.rows, b.cols), parts))
-}
-
-// The places of a product may have to be counted before the call that knows the moduli.
-fn check_modulus(modulus: u64) -> Result<(), Error> {
-    if MODULI.contains(&modulus) {
-        Ok(())
-    } else {
-        Err(Error::UnknownModulus)
-    }
 }
 
 /// Returns the dense product of [`multiply_dense`](crate::multiply_dense), modulo one of [`MODULI`].

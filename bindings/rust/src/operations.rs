@@ -1,6 +1,5 @@
 //! Assembly, transposes, sums, products and division.
 
-use crate::error::answer;
 use crate::room::{into_parts, into_values};
 use crate::{calls, Arrays, ColumnArrays, Error, Rows};
 
@@ -169,7 +168,7 @@ pub fn multiply(a: Rows<'_>, b: Rows<'_>) -> Result<Arrays, Error> {
         return Err(Error::ShapeMismatch);
     }
     // SAFETY: each pointer is that of a slice, with the slice's length behind it.
-    let parts = into_parts(a.rows, product_room(a, b)?, |o, x, v, places| unsafe {
+    let parts = into_parts(a.rows, product_room(a, b), |o, x, v, places| unsafe {
         calls::nalgebra_sparse_multiply(
             a.rows, a.cols, b.cols,
             a.offsets.as_ptr(), a.offsets.len(), a.indices.as_ptr(), a.indices.len(), a.values.as_ptr(), a.values.len(),
@@ -184,36 +183,20 @@ pub fn multiply(a: Rows<'_>, b: Rows<'_>) -> Result<Arrays, Error> {
 // of the room is never touched, and is given back.
 const MOST_UNCOUNTED: usize = 1 << 24;
 
-// Returns a number of places that is enough for a product: that of its multiplications, or, where that is large or an
-// index names no row, the exact one, which takes about as long to count as the product to compute.
-pub(crate) fn product_room(a: Rows<'_>, b: Rows<'_>) -> Result<usize, Error> {
-    match multiplications(a, b) {
-        Some(room) if room <= MOST_UNCOUNTED => Ok(room),
-        _ => product_places(a, b),
-    }
+// Returns the number of places for which a product has room at first: that of its multiplications, where that is not large,
+// and none where an index names no row.
+pub(crate) fn product_room(a: Rows<'_>, b: Rows<'_>) -> usize {
+    multiplications(a, b).unwrap_or(0).min(MOST_UNCOUNTED)
 }
 
-// Returns the number of multiplications of a product: the lengths of the rows of `b` that the indices of `a` name.
+// Returns the number of multiplications of a product: the lengths of the rows of `b` that the indices of `a` name. `None` if
+// one names no row.
 fn multiplications(a: Rows<'_>, b: Rows<'_>) -> Option<usize> {
     a.indices.iter().try_fold(0_usize, |sum, &k| {
         let begin = b.offsets.get(k)?;
         let end = b.offsets.get(k.checked_add(1)?)?;
         sum.checked_add(end.checked_sub(*begin)?)
     })
-}
-
-// Returns the number of places of a product.
-fn product_places(a: Rows<'_>, b: Rows<'_>) -> Result<usize, Error> {
-    let mut places = 0;
-    // SAFETY: each pointer is that of a slice, with the slice's length behind it, or of `places`.
-    answer(unsafe {
-        calls::nalgebra_sparse_multiply_places(
-            a.rows, a.cols, b.cols,
-            a.offsets.as_ptr(), a.offsets.len(), a.indices.as_ptr(), a.indices.len(),
-            b.offsets.as_ptr(), b.offsets.len(), b.indices.as_ptr(), b.indices.len(), &mut places,
-        )
-    })?;
-    Ok(places)
 }
 
 /// Returns the dense product of a matrix by rows and a dense matrix with `cols` columns, both dense matrices column by

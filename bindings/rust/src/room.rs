@@ -3,7 +3,7 @@
 use std::alloc::{alloc_zeroed, Layout};
 use std::ptr::slice_from_raw_parts_mut;
 
-use crate::error::answer;
+use crate::error::{answer, TOO_SMALL};
 use crate::matrices::Parts;
 use crate::Error;
 
@@ -37,22 +37,44 @@ pub(crate) fn zeros<T: Number>(count: usize) -> Result<Vec<T>, Error> {
     Ok(list.into_vec())
 }
 
-/// Calls with arrays for a result with this many lanes and at most this many places, and cuts them to the places that there
-/// are. Room that is left is given back.
+/// Calls with room for this many places, or triplets, or bytes. If that is too little, calls once more with room for as many
+/// as the call tells that it needs. Returns how many it wrote, and the arrays, which may be longer.
+pub(crate) fn with_room<A>(
+    room: usize,
+    arrays: impl Fn(usize) -> Result<A, Error>,
+    mut call: impl FnMut(&mut A, &mut usize) -> i32,
+) -> Result<(usize, A), Error> {
+    let (mut count, mut filled) = (0, arrays(room)?);
+    let mut status = call(&mut filled, &mut count);
+    if status == TOO_SMALL {
+        filled = arrays(count)?;
+        status = call(&mut filled, &mut count);
+    }
+    answer(status)?;
+    Ok((count, filled))
+}
+
+/// Cuts a list to its first items, and gives back the room that is left.
+pub(crate) fn cut<T>(mut list: Vec<T>, count: usize) -> Vec<T> {
+    list.truncate(count);
+    list.shrink_to_fit();
+    list
+}
+
+/// Calls with arrays for a result with this many lanes and room for this many places, once more if it needs more, and cuts
+/// them to the places that there are.
 pub(crate) fn into_parts(
     lanes: usize,
     room: usize,
-    call: impl FnOnce(&mut [usize], &mut [usize], &mut [i64], &mut usize) -> i32,
+    mut call: impl FnMut(&mut [usize], &mut [usize], &mut [i64], &mut usize) -> i32,
 ) -> Result<Parts, Error> {
-    let count = lanes.checked_add(1).ok_or(Error::OutOfMemory)?;
-    let (mut offsets, mut indices, mut values) = (zeros(count)?, zeros(room)?, zeros(room)?);
-    let mut places = 0;
-    answer(call(&mut offsets, &mut indices, &mut values, &mut places))?;
-    indices.truncate(places);
-    values.truncate(places);
-    indices.shrink_to_fit();
-    values.shrink_to_fit();
-    Ok((offsets, indices, values))
+    let mut offsets = zeros(lanes.checked_add(1).ok_or(Error::OutOfMemory)?)?;
+    let (places, (indices, values)) = with_room(
+        room,
+        |count| Ok((zeros(count)?, zeros(count)?)),
+        |(indices, values), places| call(&mut offsets, indices, values, places),
+    )?;
+    Ok((offsets, cut(indices, places), cut(values, places)))
 }
 
 /// Calls with an array for the values of a dense matrix.
@@ -60,4 +82,33 @@ pub(crate) fn into_values(rows: usize, cols: usize, call: impl FnOnce(&mut [i64]
     let mut values = zeros(rows.checked_mul(cols).ok_or(Error::OutOfMemory)?)?;
     answer(call(&mut values))?;
     Ok(values)
+}
+
+#[cfg(test)]
+mod tests {
+    use super::into_parts;
+    use crate::{calls, multiply, Rows};
+
+    /// With less room than a product needs, the call is made once more, and has the same result.
+    #[test]
+    fn a_call_is_made_again_with_the_size_that_it_tells() {
+        let a = Rows::new((2, 2), (&[0, 2, 3], &[0, 1, 1], &[1, 2, 3]));
+        let want = multiply(a, a).unwrap().into_parts();
+        for room in 0..=want.1.len() {
+            let mut told = Vec::new();
+            // SAFETY: each pointer is that of a slice, with the slice's length behind it.
+            let parts = into_parts(2, room, |o, x, v, places| unsafe {
+                let status = calls::nalgebra_sparse_multiply(
+                    2, 2, 2,
+                    a.offsets.as_ptr(), a.offsets.len(), a.indices.as_ptr(), a.indices.len(), a.values.as_ptr(), a.values.len(),
+                    a.offsets.as_ptr(), a.offsets.len(), a.indices.as_ptr(), a.indices.len(), a.values.as_ptr(), a.values.len(),
+                    o.as_mut_ptr(), o.len(), x.as_mut_ptr(), x.len(), v.as_mut_ptr(), v.len(), places,
+                );
+                told.push((status, *places));
+                status
+            });
+            assert_eq!(parts.unwrap(), want);
+            assert_eq!(told, if room < 3 { vec![(5, 3), (0, 3)] } else { vec![(0, 3)] });
+        }
+    }
 }

@@ -1,7 +1,7 @@
 //! Solves and fill. Matrices are square and by columns.
 
 use crate::error::answer;
-use crate::room::{into_values, zeros};
+use crate::room::{cut, into_values, with_room, zeros};
 use crate::{calls, Columns, Error};
 
 /// Which triangular system is solved.
@@ -74,17 +74,18 @@ pub enum Triangle {
 /// first fault of the arrays.
 pub fn fill(size: usize, triangle: Triangle, offsets: &[usize], indices: &[usize]) -> Result<(Vec<usize>, Vec<usize>), Error> {
     let (o, x) = (offsets, indices);
-    let mut places = fill_places(size, triangle, offsets, indices)?;
-    let count = size.checked_add(1).ok_or(Error::OutOfMemory)?;
-    let (mut to_offsets, mut to_indices) = (zeros(count)?, zeros(places)?);
-    // SAFETY: each pointer is that of a slice, with the slice's length behind it, or of `places`.
-    answer(unsafe {
-        calls::nalgebra_sparse_fill(
-            size, triangle as i32, o.as_ptr(), o.len(), x.as_ptr(), x.len(),
-            to_offsets.as_mut_ptr(), to_offsets.len(), to_indices.as_mut_ptr(), to_indices.len(), &mut places,
-        )
+    let mut to_offsets = zeros(size.checked_add(1).ok_or(Error::OutOfMemory)?)?;
+    // Enough where the elimination adds no place but those of the diagonal.
+    let (places, to_indices) = with_room(x.len().saturating_add(size), zeros, |to_indices, places| {
+        // SAFETY: each pointer is that of a slice, with the slice's length behind it, or of `places`.
+        unsafe {
+            calls::nalgebra_sparse_fill(
+                size, triangle as i32, o.as_ptr(), o.len(), x.as_ptr(), x.len(),
+                to_offsets.as_mut_ptr(), to_offsets.len(), to_indices.as_mut_ptr(), to_indices.len(), places,
+            )
+        }
     })?;
-    Ok((to_offsets, to_indices))
+    Ok((to_offsets, cut(to_indices, places)))
 }
 
 /// Returns how many places that factor has.

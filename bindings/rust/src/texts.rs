@@ -1,7 +1,7 @@
 //! Texts in Matrix Market format.
 
 use crate::error::answer;
-use crate::room::zeros;
+use crate::room::{cut, with_room, zeros};
 use crate::{calls, Error};
 
 /// A shape and triplets, in their order.
@@ -59,22 +59,17 @@ pub fn read(text: &[u8]) -> Result<Triplets, Error> {
 /// [`Error::OutOfMemory`]; [`Error::InvalidStructure`] if the lists have different lengths; [`Error::IndexOutOfBounds`].
 pub fn write(list: &Triplets) -> Result<Vec<u8>, Error> {
     let (i, j, values) = (&list.row_indices, &list.col_indices, &list.values);
-    let mut length = 0;
-    // SAFETY: each pointer is that of a slice, with the slice's length behind it, or of a number.
-    answer(unsafe {
-        calls::nalgebra_sparse_write_length(
-            list.rows, list.cols,
-            i.as_ptr(), i.len(), j.as_ptr(), j.len(), values.as_ptr(), values.len(), &mut length,
-        )
+    // Enough for a head and for triplets of 8 bytes a number: longer texts are written once more.
+    let room = values.len().saturating_mul(27).saturating_add(256);
+    let (length, text) = with_room(room, zeros, |text, length| {
+        // SAFETY: each pointer is that of a slice, with the slice's length behind it, or of a number.
+        unsafe {
+            calls::nalgebra_sparse_write(
+                list.rows, list.cols,
+                i.as_ptr(), i.len(), j.as_ptr(), j.len(), values.as_ptr(), values.len(),
+                text.as_mut_ptr(), text.len(), length,
+            )
+        }
     })?;
-    let mut text = zeros(length)?;
-    // SAFETY: each pointer is that of a slice, with the slice's length behind it, or of a number.
-    answer(unsafe {
-        calls::nalgebra_sparse_write(
-            list.rows, list.cols,
-            i.as_ptr(), i.len(), j.as_ptr(), j.len(), values.as_ptr(), values.len(),
-            text.as_mut_ptr(), text.len(), &mut length,
-        )
-    })?;
-    Ok(text)
+    Ok(cut(text, length))
 }

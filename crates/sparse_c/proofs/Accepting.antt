@@ -1,5 +1,6 @@
--- The operands have no fault where a call is refused as singular.
-use Rattle.std.proofs.Common.{◌≡◌, ℕ, ℤ, List, inl, inr, subst, arith}
+-- The operands have no fault where a call is refused as singular, which is not the status of small arrays.
+use Rattle.std.proofs.Common.{◌≡◌, ◌≢◌, ℕ, ℤ, List, inl, inr, ap, sym, subst, ◌∙◌, arith}
+use Rattle.std.specs.Prelude.{nat_abs}
 use Rattle.sparse_algebra.specs.Algebra.{CommRing}
 use Rattle.sparse_cs.specs.Compressed.{Compressed, IsSound}
 use Rattle.sparse_pattern.specs.Raw.{Raw}
@@ -14,6 +15,7 @@ use Rattle.sparse_c_views.proofs.Faultless.{matrix_told, other, pattern_told, sy
 use Rattle.sparse_c_views.specs.Refused.{IsSystemSound}
 use Rattle.sparse_c_views.specs.Statuses.{number_of, FindsNoFault}
 use Rattle.sparse_c_views.specs.declared.refusal.Refusal.{Refusal}
+use Rattle.sparse_c_views.specs.declared.refusal.Refusal.TheVariants.{Singular as RefusedSingular, TooSmall}
 use Rattle.sparse_c_views.specs.declared.refusal.Refusal.TheVariants.{UnknownChoice}
 
 -- the status of an unknown choice is that of a fault
@@ -29,7 +31,22 @@ pub fill_told : (number : ℤ) (d : Raw) (e : Refusal) → IsFaultOfFill number 
 fill_told number d e (inl none) = refused_choice e none.0
 fill_told number d e (inr fault) = pattern_told d e fault
 
+singular_large : (e : Refusal) → e ≡ RefusedSingular → number_of e ≢ number_of TooSmall
+singular_large e is small =
+    let apart : 6 ≢ 5 = omega arith in
+    apart (ap nat_abs (sym (ap number_of is) ∙ small))
+
 module _ (R : CommRing) {T : Type 0} (f : T → R.Carrier) where
+  pub quotient_large : (m : Compressed ℤ) (divisor : ℤ) (e : Refusal)
+      → IsFaultOfQuotient R f m divisor e → number_of e ≢ number_of TooSmall
+  quotient_large m divisor e (inl fault) small = matrix_told m e fault (inr (inl small))
+  quotient_large m divisor e (inr singular) small = singular_large e singular.1 small
+
+  pub factors_large : (a : Compressed ℤ) (e : Refusal) → IsFaultOfFactors R f a e
+      → number_of e ≢ number_of TooSmall
+  factors_large a e (inl fault) small = matrix_told a e fault (inr (inl small))
+  factors_large a e (inr singular) small = singular_large e singular.1 small
+
   pub quotient_told : (m : Compressed ℤ) (divisor : ℤ) (e : Refusal)
       → IsFaultOfQuotient R f m divisor e → FindsNoFault (number_of e) → IsSound m
   quotient_told m divisor e (inl fault) told = absurd (matrix_told m e fault told)

@@ -1,9 +1,11 @@
 -- Factors of symmetric matrices, and the arrays that hold them.
-use Rattle.std.proofs.Common.{◌≡◌, ◌≤◌, ◌<◌, ◌⊎◌, ℕ, ℤ, pos, List, length, map, take, ap, sym, subst, ◌∙◌}
-use Rattle.std.proofs.Common.{Result, inl, inr}
-use Rattle.std.specs.Prelude.{slice_index_or, IfOk, IfErr, MatchResult}
+use Rattle.std.proofs.Common.{◌≡◌, ◌≢◌, ◌≤◌, ◌<◌, ◌⊎◌, ℕ, ℤ, pos, List, length, map, take, ap, sym}
+use Rattle.std.proofs.Common.{Result, inl, inr, subst, ◌∙◌, refl}
+use Rattle.std.specs.Prelude.{slice_index_or, IfOk, IfErr, MatchResult, OnErr, OnOk}
 use Rattle.std.proofs.Math.ListN.{get_or, get_or-map}
 use Rattle.sparse_algebra.specs.Algebra.{CommRing}
+use Rattle.sparse_algebra.specs.ModNumbers.{mod_value}
+use Rattle.sparse_algebra.specs.Moduli.{mod_ring}
 use Rattle.sparse_algebra.specs.Plain.{Plain}
 use Rattle.sparse_cs.specs.Compressed.{Compressed, IsSound}
 use Rattle.sparse_cs.specs.PlainOfLanes.{plain_of_cols, plain_of_rows}
@@ -13,9 +15,14 @@ use Rattle.sparse_ldl.specs.Factors.{Factors, diagonal, plain_of_factors, symmet
 use Rattle.sparse_ldl.proofs.FilledSets.{has_place, place_has}
 use Rattle.sparse_pattern.specs.Raw.{Raw}
 use Rattle.sparse_solve.specs.Solutions.{HasSameValues}
-use Rattle.sparse_c.specs.Factors.{first_elements, AreFactors, AreFactorsTooLong, HoldsFactors}
-use Rattle.sparse_c.specs.Factors.{IsFaultOfFactors, WritesFactors}
-use Rattle.sparse_c_views.specs.Arrays.{plain_by_cols, Room}
+use Rattle.sparse_c.specs.Moduli.{IsFaultModulo}
+use Rattle.sparse_c.proofs.Accepting.{factors_large, factors_told}
+use Rattle.sparse_c.proofs.Listed.{widened}
+use Rattle.sparse_c.specs.Factors.{first_elements, AreFactors, AreFactorsTooLong, Factorises}
+use Rattle.sparse_c.specs.Factors.{HoldsFactors, IsFaultOfFactors, WritesFactors}
+use Rattle.sparse_c_views.proofs.Answering.{size_kept, size_told}
+use Rattle.sparse_c_views.proofs.Faultless.{accepted}
+use Rattle.sparse_c_views.specs.Arrays.{places_of, plain_by_cols, room_of, Room}
 use Rattle.sparse_c_views.specs.Reduced.{FirstAre}
 use Rattle.sparse_c_views.specs.Refused.{IsMemoryOr, IsRefusedFor, IsTooSmall}
 use Rattle.sparse_c_views.specs.Rests.{KeepsBehind, KeepsRest}
@@ -76,7 +83,7 @@ module _ (R : CommRing) {T : Type 0} (f : T → R.Carrier) (z : T) (zero_is : f 
         × (length (items s.1) ≡ a.pattern.minor_dim))
     known = both _ _ answer (both _ _ answer factors rows) count
 
-    pub factors_written : (room : Room) (pivots : List ℤ)
+    factors_written : (room : Room) (pivots : List ℤ)
         → MatchResult answer (λ s. HoldsFactors R f s.0 (items s.1) room pivots) (λ _. ⊥)
         → WritesFactors R f a room pivots
     unfolding WritesFactors
@@ -100,29 +107,28 @@ module _ (R : CommRing) {T : Type 0} (f : T → R.Carrier) (z : T) (zero_is : f 
         let p = found answer known written in
         subst (λ n. FirstAre S n pivots) p.1.0.1 p.1.1
 
-    pub factors_rest : (old new : Room)
+    factors_rest : (old new : Room)
         → MatchResult answer (λ s. KeepsRest s.0.pattern.major_dim old new) (λ _. ⊥)
         → KeepsRest a.pattern.minor_dim old new
     factors_rest old new kept =
         let p = found answer known kept in
         subst (λ (n : ℕ). KeepsRest n old new) (p.1.0.0.0.factors.lower.square ∙ p.1.0.0.1) p.1.1
 
-    pub pivots_rest : (old new : List ℤ)
+    pivots_rest : (old new : List ℤ)
         → MatchResult answer (λ s. KeepsBehind (length (items s.1)) old new) (λ _. ⊥)
         → KeepsBehind a.pattern.minor_dim old new
     pivots_rest old new kept =
         let p = found answer known kept in
         subst (λ (n : ℕ). KeepsBehind n old new) p.1.0.1 p.1.1
 
-    pub factors_refused : {Fault : Refusal → Type 0} (room : Room) (pivots : List ℤ)
-        (status seen : ℤ) → seen ≡ status → IfErr answer (IsMemoryOr (IsFaultOfFactors R f a))
-        → ((e : Refusal) → IsFaultOfFactors R f a e → Fault e)
+    factors_refused : (room : Room) (pivots : List ℤ) (status : ℤ)
+        → IfErr answer (IsMemoryOr (IsFaultOfFactors R f a))
         → MatchResult answer (λ s. (status ≡ number_of TooSmall)
         × (IsTooSmall (plain_of_rows R f s.0) room ⊎ (length pivots < length (items s.1))))
         (λ e. status ≡ number_of e)
-        → IsRefusedFor Fault (AreFactorsTooLong R f a room pivots) seen
-    factors_refused room pivots status seen same fault as_fault how = refused answer known status
-        seen same fault as_fault (λ s p small. (
+        → IsRefusedFor (IsFaultOfFactors R f a) (AreFactorsTooLong R f a room pivots) status
+    factors_refused room pivots status fault how = refused answer known status status refl fault
+        (λ e given. given) (λ s p small. (
           plain_of_cols R f s.0,
           diagonal R f z (items s.1),
           p.0.0,
@@ -131,3 +137,63 @@ module _ (R : CommRing) {T : Type 0} (f : T → R.Carrier) (z : T) (zero_is : f 
             | inr short ↦ inr (subst (λ n. length pivots < n) (p.1 ∙ sym p.0.1) short)
           ],
         )) how
+
+    -- what a call promises
+    pub factors_answered : (before after : Room) (old new : List ℤ) (status : ℤ)
+        → OnOk answer (IsSound a) → IfErr answer (IsMemoryOr (IsFaultOfFactors R f a))
+        → (status ≡ pos 0
+        → MatchResult answer (λ s. HoldsFactors R f s.0 (items s.1) after new) (λ _. ⊥))
+        → (status ≡ pos 0
+        → MatchResult answer (λ s. KeepsRest s.0.pattern.major_dim before after) (λ _. ⊥))
+        → (status ≡ pos 0
+        → MatchResult answer (λ s. KeepsBehind (length (items s.1)) old new) (λ _. ⊥))
+        → (status ≢ pos 0
+        → room_of after.offsets after.indices after.values before.places ≡ before)
+        → (status ≢ pos 0 → new ≡ old)
+        → (status ≢ pos 0 → IfOk answer (λ s. after.places ≡ places_of (plain_of_rows R f s.0)))
+        → OnErr answer (after.places ≡ before.places)
+        → (status ≢ pos 0 → MatchResult answer (λ s. (status ≡ number_of TooSmall)
+        × (IsTooSmall (plain_of_rows R f s.0) before ⊎ (length old < length (items s.1))))
+        (λ e. status ≡ number_of e))
+        → Factorises R f (IsFaultOfFactors R f a) a before after old new status
+    factors_answered before after old new status sound fault written rest rest_pivots untouched
+        untouched_pivots needed kept why = record {
+          written = λ h. factors_written after new (written h);
+          rest = λ h. factors_rest before after (rest h);
+          rest_diagonal = λ h. pivots_rest old new (rest_pivots h);
+          sound = accepted _ _ answer status status refl sound fault (factors_told R f a) written
+              why;
+          untouched = λ h. (
+            untouched h,
+            size_kept _ status answer before.places after.places kept why h,
+          );
+          untouched_diagonal = untouched_pivots;
+          needed = λ small.
+              let p = size_told _ status answer (factors_large R f a) known fault needed why small
+              in
+              (plain_of_cols R f p.0.0, diagonal R f z (items p.0.1), p.1.0.0.0, p.1.1);
+          refused = λ h. factors_refused before old status fault (why h);
+        }
+
+-- a modulus m that is listed as M
+pub listed_factors : (m M : ℕ) {a : Compressed ℤ} {before after : Room} {old new : List ℤ}
+    {status seen : ℤ} → m ≡ M → seen ≡ status
+    → Factorises (mod_ring M) (mod_value {m = M})
+    (IsFaultOfFactors (mod_ring M) (mod_value {m = M}) a) a before after old new status
+    → Factorises (mod_ring m) (mod_value {m = m})
+    (IsFaultModulo m (IsFaultOfFactors (mod_ring m) (mod_value {m = m}) a)) a before after old new
+    seen
+listed_factors m M {a} {before} {after} {old} {new} {status} {seen} is same made = subst
+    (λ (s : ℕ × ℤ). Factorises (mod_ring s.0) (mod_value {m = s.0}) (IsFaultModulo m
+    (IsFaultOfFactors (mod_ring s.0) (mod_value {m = s.0}) a)) a before after old new s.1)
+    (λ k. (sym is k, sym same k)) (record {
+      written = made.written;
+      rest = made.rest;
+      rest_diagonal = made.rest_diagonal;
+      sound = made.sound;
+      untouched = made.untouched;
+      untouched_diagonal = made.untouched_diagonal;
+      needed = made.needed;
+      refused = λ h. widened status status refl (λ e fault. inr fault) (λ small. small)
+          (made.refused h);
+    })

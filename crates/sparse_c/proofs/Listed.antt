@@ -1,10 +1,16 @@
 -- Calls with a modulus.
 use Rattle.std.proofs.Common.{◌≡◌, ◌≤◌, ℕ, ℤ, pos, List, inl, inr, sym, subst, ◌∙◌, refl}
 use Rattle.std.specs.Prelude.{slice_index_or}
+use Rattle.sparse_algebra.specs.Algebra.{CommRing}
+use Rattle.sparse_algebra.specs.Moduli.{mod_ring}
+use Rattle.sparse_algebra.specs.Plain.{Plain}
+use Rattle.sparse_c.proofs.Accepting.{choice_told}
 use Rattle.sparse_c.specs.Moduli.{moduli, IsFaultModulo, IsNoneOf}
+use Rattle.sparse_c_views.specs.Arrays.{Room}
 use Rattle.sparse_c_views.specs.Reduced.{AreReduced, FirstAre, IsReduced}
 use Rattle.sparse_c_views.specs.Refused.{IsRefusedFor}
 use Rattle.sparse_c_views.specs.Statuses.{number_of}
+use Rattle.sparse_c_views.specs.Written.{WritesRows}
 use Rattle.sparse_c_views.specs.declared.refusal.Refusal.{Refusal}
 use Rattle.sparse_c_views.specs.declared.refusal.Refusal.TheVariants.{UnknownChoice}
 
@@ -35,3 +41,35 @@ widened {Fault} {Wide} {Small} {Less} status seen same wide less refused = (
     | inr small ↦ inr (small.0, less small.1)
   ],
 )
+
+-- ---- calls that write a matrix by rows
+
+module _ {Sound : Type 0} {Fault : Refusal → Type 0} where
+  -- one whose modulus is not listed
+  pub unlisted_rows : {R : CommRing} (a : Plain R) (m : ℕ) (room : Room) (status : ℤ)
+      → status ≡ number_of UnknownChoice → IsNoneOf moduli m
+      → WritesRows Sound (IsFaultModulo m Fault) a room room status
+  unlisted_rows a m room status is none = record {
+    written = λ h. absurd (choice_told status is (inl h));
+    rest = λ h. absurd (choice_told status is (inl h));
+    sound = λ found. absurd (choice_told status is found);
+    untouched = λ _. (refl, λ _. refl);
+    needed = λ small. absurd (choice_told status is (inr (inl small)));
+    refused = λ _. unlisted_refused m status is none;
+  }
+
+  -- one whose modulus m is listed as M; the caller sees the status as `seen`
+  pub listed_rows : (a : (m : ℕ) → Plain (mod_ring m)) (m M : ℕ) {before after : Room}
+      {status seen : ℤ} → m ≡ M → seen ≡ status → WritesRows Sound Fault (a M) before after status
+      → WritesRows Sound (IsFaultModulo m Fault) (a m) before after seen
+  listed_rows a m M {before} {after} {status} {seen} is same made = subst
+      (λ (s : ℕ × ℤ). WritesRows Sound (IsFaultModulo m Fault) (a s.0) before after s.1)
+      (λ k. (sym is k, sym same k)) (record {
+        written = made.written;
+        rest = made.rest;
+        sound = made.sound;
+        untouched = made.untouched;
+        needed = made.needed;
+        refused = λ h. widened status status refl (λ e fault. inr fault) (λ small. small)
+            (made.refused h);
+      })

@@ -11,14 +11,15 @@ use Rattle.sparse_factor.specs.Fill.{InFill, UpperBase}
 use Rattle.sparse_ldl.specs.Factorisations.{IsFactorisation}
 use Rattle.sparse_c.specs.Moduli.{IsFaultModulo}
 use Rattle.sparse_c.specs.Symmetric.{symmetric_by_cols, HasNoFactors}
-use Rattle.sparse_c_views.specs.Arrays.{Room, HoldsCols, HoldsRows}
+use Rattle.sparse_c_views.specs.Arrays.{places_of, Room, HoldsCols, HoldsRows}
 use Rattle.sparse_algebra.specs.Integers.{element_of}
 use Rattle.sparse_c_views.specs.Reduced.{AreReduced}
 use Rattle.sparse_c_views.specs.Refused.{IsFaultOf, IsRefusedFor, IsTooSmall}
 use Rattle.sparse_c_views.specs.Rests.{KeepsBehind, KeepsRest}
-use Rattle.sparse_c_views.specs.Statuses.{FindsNoFault}
+use Rattle.sparse_c_views.specs.Statuses.{number_of, FindsNoFault}
+use Rattle.sparse_c_views.specs.Untouched.{IsUntouched}
 use Rattle.sparse_c_views.specs.declared.refusal.Refusal.{Refusal}
-use Rattle.sparse_c_views.specs.declared.refusal.Refusal.TheVariants.{Singular}
+use Rattle.sparse_c_views.specs.declared.refusal.Refusal.TheVariants.{Singular, TooSmall}
 
 -- the first n numbers, as ring elements, and then zeros
 abbrev pub first_elements : (R : CommRing) → ℕ → List ℤ → ℕ → R.Carrier
@@ -40,6 +41,11 @@ module _ (R : CommRing) {T : Type 0} (f : T → R.Carrier) where
   HoldsFactors l d room pivots = HoldsRows (plain_of_rows R f l) room × (length d ≤ length pivots)
       × (map (element_of R) (take (length d) pivots) ≡ map f d)
 
+  -- n is the number of places of L
+  abbrev pub CountsFactors : Compressed ℤ → ℕ → Type 0
+  CountsFactors a n = (l : Plain R) × (d : ℕ → R.Carrier) × AreFactors a l d
+      × (n ≡ places_of (plain_transpose R l))
+
   -- an array has no room for the factors
   abbrev pub AreFactorsTooLong : Compressed ℤ → Room → List ℤ → Type 0
   AreFactorsTooLong a room diagonal = (l : Plain R) × (d : ℕ → R.Carrier) × AreFactors a l d
@@ -50,17 +56,24 @@ module _ (R : CommRing) {T : Type 0} (f : T → R.Carrier) where
   IsFaultOfFactors a refusal =
       IsFaultOf a refusal ⊎ (IsSound a × (refusal ≡ Singular) × HasNoFactors R f a)
 
--- the status of a call that factors a modulo m, with its room and its diagonal before and after it
-pub record FactorsModulo (m : ℕ) (a : Compressed ℤ) (before after : Room) (old new : List ℤ)
-    (status : ℤ) : Type 0 where
-  pub written : status ≡ pos 0 → WritesFactors (mod_ring m) (mod_value {m = m}) a after new
-  pub reduced : status ≡ pos 0 → AreReduced m after.places after.values
-  pub reduced_diagonal : status ≡ pos 0 → AreReduced m a.pattern.minor_dim new
+-- the status of a call that factors a, where Fault is its first fault, with its room and its diagonal
+-- before and after it
+pub record Factorises (R : CommRing) {T : Type 0} (f : T → R.Carrier) (Fault : Refusal → Type 0)
+    (a : Compressed ℤ) (before after : Room) (old new : List ℤ) (status : ℤ) : Type 0 where
+  pub written : status ≡ pos 0 → WritesFactors R f a after new
   pub rest : status ≡ pos 0 → KeepsRest a.pattern.minor_dim before after
   pub rest_diagonal : status ≡ pos 0 → KeepsBehind a.pattern.minor_dim old new
   pub sound : FindsNoFault status → IsSound a
-  pub untouched : status ≢ pos 0 → after ≡ before
+  pub untouched : status ≢ pos 0 → IsUntouched status before after
   pub untouched_diagonal : status ≢ pos 0 → new ≡ old
-  pub refused : status ≢ pos 0 → IsRefusedFor (IsFaultModulo m
-      (IsFaultOfFactors (mod_ring m) (mod_value {m = m}) a))
-      (AreFactorsTooLong (mod_ring m) (mod_value {m = m}) a before old) status
+  pub needed : status ≡ number_of TooSmall → CountsFactors R f a after.places
+  pub refused : status ≢ pos 0 → IsRefusedFor Fault (AreFactorsTooLong R f a before old) status
+
+-- the same of a call that factors a modulo m
+pub record FactorsModulo (m : ℕ) (a : Compressed ℤ) (before after : Room) (old new : List ℤ)
+    (status : ℤ) : Type 0 where
+  pub answer : Factorises (mod_ring m) (mod_value {m = m})
+      (IsFaultModulo m (IsFaultOfFactors (mod_ring m) (mod_value {m = m}) a)) a before after old new
+      status
+  pub reduced : status ≡ pos 0 → AreReduced m after.places after.values
+  pub reduced_diagonal : status ≡ pos 0 → AreReduced m a.pattern.minor_dim new

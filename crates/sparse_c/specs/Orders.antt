@@ -1,5 +1,5 @@
 -- A matrix by rows or by columns.
-use Rattle.std.specs.Prelude.{◌≡◌, ◌≢◌, ℕ, ℤ, pos}
+use Rattle.std.specs.Prelude.{◌≡◌, ℕ, ℤ, pos}
 use Rattle.sparse_algebra.specs.Algebra.{CommRing}
 use Rattle.sparse_algebra.specs.Moduli.{mod_ring}
 use Rattle.sparse_algebra.specs.Plain.{Plain, plain_transpose}
@@ -8,16 +8,10 @@ use Rattle.sparse_c.specs.Moduli.{IsFaultModulo}
 use Rattle.sparse_c.specs.declared.arguments.Order.{Order}
 use Rattle.sparse_c.specs.declared.arguments.Order.TheVariants.{Rows, Columns}
 use Rattle.sparse_c.specs.declared.arguments.Triplets.{Triplets}
-use Rattle.sparse_c_views.specs.Arrays.{plain_of_lists, Room, HoldsRows}
+use Rattle.sparse_c_views.specs.Arrays.{plain_of_lists, Room}
 use Rattle.sparse_c_views.specs.Reduced.{AreReduced}
-use Rattle.sparse_c_views.specs.Refused.{IsFaultOfList, IsRefused}
-use Rattle.sparse_c_views.specs.Rests.{KeepsRest}
-use Rattle.sparse_c_views.specs.Statuses.{FindsNoFault}
-
--- the number of lanes of a matrix in this order
-abbrev pub lanes_in : Order → ℕ → ℕ → ℕ
-lanes_in Rows rows cols = rows
-lanes_in Columns rows cols = cols
+use Rattle.sparse_c_views.specs.Refused.{IsFaultOfList}
+use Rattle.sparse_c_views.specs.Written.{WritesRows}
 
 module _ (R : CommRing) where
   -- the plain matrix of the rows that have the arrays of the matrix in this order
@@ -32,12 +26,8 @@ module _ (R : CommRing) where
 
 -- the status of a call that assembles the triplets modulo m, and the arrays before it and after it
 pub record AssemblesModulo (m : ℕ) (t : Triplets) (before after : Room) (status : ℤ) : Type 0 where
-  pub written : status ≡ pos 0 → HoldsRows (assembly_of (mod_ring m) t) after
-  pub reduced : status ≡ pos 0 → AreReduced m after.places after.values
-  pub rest : status ≡ pos 0 → KeepsRest (lanes_in t.order t.rows t.cols) before after
-  pub sound : FindsNoFault status
-      → AreParts t.rows t.cols t.row_indices.now t.col_indices.now t.values.now
-  pub untouched : status ≢ pos 0 → after ≡ before
-  pub refused : status ≢ pos 0 → IsRefused (IsFaultModulo m
+  pub answer : WritesRows (AreParts t.rows t.cols t.row_indices.now t.col_indices.now t.values.now)
+      (IsFaultModulo m
       (IsFaultOfList t.rows t.cols t.row_indices.now t.col_indices.now t.values.now))
-      (assembly_of (mod_ring m) t) before status
+      (assembly_of (mod_ring m) t) before after status
+  pub reduced : status ≡ pos 0 → AreReduced m after.places after.values

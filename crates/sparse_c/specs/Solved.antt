@@ -10,15 +10,16 @@ use Rattle.sparse_cs.specs.Compressed.{Compressed, IsSound}
 use Rattle.sparse_solve.specs.Solutions.{plain_lower, IsSingular, IsSolution}
 use Rattle.sparse_c.specs.Moduli.{IsFaultModulo}
 use Rattle.sparse_c_views.specs.Arrays.{plain_by_cols, plain_by_rows, plain_by_values}
-use Rattle.sparse_c_views.specs.Arrays.{Room, HoldsRows}
+use Rattle.sparse_c_views.specs.Arrays.{places_of, Room, HoldsRows}
 use Rattle.sparse_algebra.specs.Integers.{element_of}
 use Rattle.sparse_c_views.specs.Reduced.{AreReduced}
 use Rattle.sparse_c_views.specs.Refused.{IsFaultOf, IsFaultOfSystem, IsRefusedFor, IsSystemSound}
 use Rattle.sparse_c_views.specs.Refused.{IsTooSmall}
 use Rattle.sparse_c_views.specs.Rests.{KeepsRest}
-use Rattle.sparse_c_views.specs.Statuses.{FindsNoFault}
+use Rattle.sparse_c_views.specs.Statuses.{number_of, FindsNoFault}
+use Rattle.sparse_c_views.specs.Untouched.{IsUntouched}
 use Rattle.sparse_c_views.specs.declared.refusal.Refusal.{Refusal}
-use Rattle.sparse_c_views.specs.declared.refusal.Refusal.TheVariants.{Singular}
+use Rattle.sparse_c_views.specs.declared.refusal.Refusal.TheVariants.{Singular, TooSmall}
 
 module _ (R : CommRing) where
   -- the matrix, or its transpose
@@ -56,6 +57,11 @@ module _ (R : CommRing) where
   WritesQuotient a divisor room = (q : Plain R)
       × IsQuotientBy (element_of R divisor) q (plain_by_rows R a) × HoldsRows q room
 
+  -- n is the number of places of the quotient
+  abbrev pub CountsQuotient : Compressed ℤ → ℤ → ℕ → Type 0
+  CountsQuotient a divisor n = (q : Plain R)
+      × IsQuotientBy (element_of R divisor) q (plain_by_rows R a) × (n ≡ places_of q)
+
   -- an array has no room for the quotient
   abbrev pub IsQuotientTooSmall : Compressed ℤ → ℤ → Room → Type 0
   IsQuotientTooSmall a divisor room = (q : Plain R)
@@ -74,14 +80,21 @@ module _ (R : CommRing) {T : Type 0} (f : T → R.Carrier) where
   IsFaultOfQuotient m divisor refusal = IsFaultOf m refusal
       ⊎ (IsSound m × (refusal ≡ Singular) × (HasInverse R f (element_of R divisor) → ⊥))
 
--- the status of a call that divides a modulo m, and the arrays before it and after it
-pub record DividesModulo (m : ℕ) (a : Compressed ℤ) (divisor : ℤ) (before after : Room) (status : ℤ)
-    : Type 0 where
-  pub written : status ≡ pos 0 → WritesQuotient (mod_ring m) a divisor after
-  pub reduced : status ≡ pos 0 → AreReduced m after.places after.values
+-- the status of a call that divides the matrix by rows by the integer, where Fault is the first fault, and
+-- the arrays before it and after it
+pub record Divides (R : CommRing) (Fault : Refusal → Type 0) (a : Compressed ℤ) (divisor : ℤ)
+    (before after : Room) (status : ℤ) : Type 0 where
+  pub written : status ≡ pos 0 → WritesQuotient R a divisor after
   pub rest : status ≡ pos 0 → KeepsRest a.pattern.major_dim before after
   pub sound : FindsNoFault status → IsSound a
-  pub untouched : status ≢ pos 0 → after ≡ before
-  pub refused : status ≢ pos 0 → IsRefusedFor
-      (IsFaultModulo m (IsFaultOfQuotient (mod_ring m) (mod_value {m = m}) a divisor))
-      (IsQuotientTooSmall (mod_ring m) a divisor before) status
+  pub untouched : status ≢ pos 0 → IsUntouched status before after
+  pub needed : status ≡ number_of TooSmall → CountsQuotient R a divisor after.places
+  pub refused : status ≢ pos 0 → IsRefusedFor Fault (IsQuotientTooSmall R a divisor before) status
+
+-- the same of a call that divides modulo m
+pub record DividesModulo (m : ℕ) (a : Compressed ℤ) (divisor : ℤ) (before after : Room) (status : ℤ)
+    : Type 0 where
+  pub answer : Divides (mod_ring m)
+      (IsFaultModulo m (IsFaultOfQuotient (mod_ring m) (mod_value {m = m}) a divisor)) a divisor
+      before after status
+  pub reduced : status ≡ pos 0 → AreReduced m after.places after.values

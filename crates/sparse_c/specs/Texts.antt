@@ -24,6 +24,10 @@ pub record SizesText (text : List ℕ) (rows cols count : ℕ) : Type 0 where
   pub cols_are : cols ≡ list.ncols
   pub count_is : count ≡ length list.triplets
 
+-- n is the number of the triplets that the text means
+abbrev pub CountsText : List ℕ → ℕ → Type 0
+CountsText text n = (m : Coo ℤ) × IsTextOf text m × (n ≡ length m.triplets)
+
 -- the arrays begin with the triplets that the text means
 abbrev pub WritesTriplets : List ℕ → ListRoom → Type 0
 WritesTriplets text room = (m : Coo ℤ) × IsTextOf text m × HoldsList m room

@@ -1,16 +1,16 @@
 //! Triplets from outside, assembled to a matrix by rows or by columns.
 
-ghost use Rattle.std.specs.Prelude.{◌≡◌, ◌≢◌, ◌≤◌, pos, IfOk, IfErr, OnOk};
+ghost use Rattle.std.specs.Prelude.{◌≡◌, ◌≤◌, pos, IfOk, IfErr, OnOk};
 ghost use Rattle.sparse_base.specs.Coo.{AreParts};
 ghost use Rattle.sparse_cs.specs.PlainOfLanes.{plain_of_rows};
 ghost use Rattle.sparse_c.specs.Moduli.{moduli, IsNoneOf};
-ghost use Rattle.sparse_c.specs.Orders.{assembly_of, lanes_in, AssemblesModulo};
+ghost use Rattle.sparse_c.specs.Orders.{assembly_of, AssemblesModulo};
 ghost use Rattle.sparse_c.specs.Rooms.{room_after, room_before};
-ghost use Rattle.sparse_c_views.specs.Arrays.{room_of, HoldsRows};
+ghost use Rattle.sparse_c_views.specs.Arrays.{room_of};
 ghost use Rattle.sparse_c_views.specs.Reduced.{FirstAre};
-ghost use Rattle.sparse_c_views.specs.Refused.{IsFaultOfList, IsMemoryOr, IsRefused};
-ghost use Rattle.sparse_c_views.specs.Rests.{KeepsRest};
-ghost use Rattle.sparse_c_views.specs.Statuses.{number_of, FindsNoFault};
+ghost use Rattle.sparse_c_views.specs.Refused.{IsFaultOfList, IsMemoryOr};
+ghost use Rattle.sparse_c_views.specs.Statuses.{number_of};
+ghost use Rattle.sparse_c_views.specs.Written.{WritesRows};
 ghost use Rattle.sparse_c_views.specs.declared.refusal.Refusal.TheVariants.{UnknownChoice};
 
 use crate::arguments::{Order, Room, Triplets, room};
@@ -61,35 +61,26 @@ fn write_assembly_mod<const M: u64>(
         values,
         places,
     } = room;
-    let answer = assembled::<Mod<M>>(alloc, triplets);
-    finish_rows(answer, offsets, indices, values, places)
+    write_assembly::<Mod<M>>(alloc, triplets, offsets, indices, values, places)
 }
 
 /// Writes the matrix of triplets over the ring of a scalar. Values of triplets at the same place are added.
 pub(crate) fn write_assembly<T: Number>(
     alloc: Global,
     triplets: Triplets<'_>,
-    room: Room<'_>,
+    offsets: &mut [usize],
+    indices: &mut [usize],
+    values: &mut [i64],
+    places: &mut usize,
 ) -> i32
-    ensures written { result ≡ pos 0
-        → HoldsRows (assembly_of T.ring triplets.entry) (room_after room.exit) }
-    ensures shown { let after = room_after room.exit in
-        result ≡ pos 0 → FirstAre T.is_shown after.places after.values }
-    ensures rest { let t = triplets.entry in result ≡ pos 0 → KeepsRest
-        (lanes_in t.order t.rows t.cols) (room_before room.entry) (room_after room.exit) }
-    ensures sound { let t = triplets.entry in FindsNoFault result
-        → AreParts t.rows t.cols t.row_indices.now t.col_indices.now t.values.now }
-    ensures untouched { result ≢ pos 0 → room_after room.exit ≡ room_before room.entry }
-    ensures refused { let t = triplets.entry in result ≢ pos 0 → IsRefused
+    ensures answered { let t = triplets.entry in WritesRows
+        (AreParts t.rows t.cols t.row_indices.now t.col_indices.now t.values.now)
         (IsFaultOfList t.rows t.cols t.row_indices.now t.col_indices.now t.values.now)
-        (assembly_of T.ring t) (room_before room.entry) result }
+        (assembly_of T.ring t)
+        (room_of offsets.old indices.old values.old places.old)
+        (room_of offsets.new indices.new values.new places.new) result }
+    ensures shown { result ≡ pos 0 → FirstAre T.is_shown places.new values.new }
 {
-    let Room {
-        offsets,
-        indices,
-        values,
-        places,
-    } = room;
     let answer = assembled::<T>(alloc, triplets);
     finish_rows(answer, offsets, indices, values, places)
 }

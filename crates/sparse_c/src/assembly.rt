@@ -1,14 +1,11 @@
 //! Assembly of matrices from triplets.
 
-ghost use Rattle.std.specs.Prelude.{◌≡◌, ◌≢◌, pos};
-ghost use Rattle.sparse_algebra.specs.Plain.{plain_transpose};
 ghost use Rattle.sparse_base.specs.Coo.{AreParts};
-ghost use Rattle.sparse_c_views.specs.Arrays.{plain_of_lists, ring64, room_of, HoldsRows, HoldsCols};
-ghost use Rattle.sparse_c_views.specs.Refused.{IsFaultOfList, IsRefused};
-ghost use Rattle.sparse_c_views.specs.Rests.{KeepsRest};
-ghost use Rattle.sparse_c_views.specs.Statuses.{FindsNoFault};
+ghost use Rattle.sparse_c_views.specs.Arrays.{plain_of_lists, ring64, room_of};
+ghost use Rattle.sparse_c_views.specs.Refused.{IsFaultOfList};
+ghost use Rattle.sparse_c_views.specs.Written.{WritesCols, WritesRows};
 
-use crate::arguments::{room, triplets};
+use crate::arguments::triplets;
 use crate::assembling::write_assembly;
 use sparse_algebra::scalar::W64;
 use std::alloc::Global;
@@ -27,25 +24,21 @@ pub extern "C" fn nalgebra_sparse_assemble_csr(
     out_values: &mut [i64],
     out_places: &mut usize,
 ) -> i32
-    ensures written { result ≡ pos 0 → HoldsRows
-        (plain_of_lists ring64 rows cols row_indices.now col_indices.now values.now)
-        (room_of out_offsets.new out_indices.new out_values.new out_places.new) }
-    ensures rest { result ≡ pos 0 → KeepsRest rows
-        (room_of out_offsets.old out_indices.old out_values.old out_places.old)
-        (room_of out_offsets.new out_indices.new out_values.new out_places.new) }
-    ensures sound { FindsNoFault result
-        → AreParts rows cols row_indices.now col_indices.now values.now }
-    ensures untouched { result ≢ pos 0
-        → room_of out_offsets.new out_indices.new out_values.new out_places.new
-        ≡ room_of out_offsets.old out_indices.old out_values.old out_places.old }
-    ensures refused { result ≢ pos 0 → IsRefused
+    ensures answered { WritesRows (AreParts rows cols row_indices.now col_indices.now values.now)
         (IsFaultOfList rows cols row_indices.now col_indices.now values.now)
         (plain_of_lists ring64 rows cols row_indices.now col_indices.now values.now)
-        (room_of out_offsets.old out_indices.old out_values.old out_places.old) result }
+        (room_of out_offsets.old out_indices.old out_values.old out_places.old)
+        (room_of out_offsets.new out_indices.new out_values.new out_places.new) result }
 {
     let triplets = triplets!(Rows, rows, cols, row_indices, col_indices, values);
-    let room = room!(out_offsets, out_indices, out_values, out_places);
-    write_assembly::<W64>(alloc, triplets, room)
+    write_assembly::<W64>(
+        alloc,
+        triplets,
+        out_offsets,
+        out_indices,
+        out_values,
+        out_places,
+    )
 }
 
 /// Writes the matrix of triplets by columns. Values of triplets at the same place are added.
@@ -62,24 +55,19 @@ pub extern "C" fn nalgebra_sparse_assemble_csc(
     out_values: &mut [i64],
     out_places: &mut usize,
 ) -> i32
-    ensures written { result ≡ pos 0 → HoldsCols
-        (plain_of_lists ring64 rows cols row_indices.now col_indices.now values.now)
-        (room_of out_offsets.new out_indices.new out_values.new out_places.new) }
-    ensures rest { result ≡ pos 0 → KeepsRest cols
-        (room_of out_offsets.old out_indices.old out_values.old out_places.old)
-        (room_of out_offsets.new out_indices.new out_values.new out_places.new) }
-    ensures sound { FindsNoFault result
-        → AreParts rows cols row_indices.now col_indices.now values.now }
-    ensures untouched { result ≢ pos 0
-        → room_of out_offsets.new out_indices.new out_values.new out_places.new
-        ≡ room_of out_offsets.old out_indices.old out_values.old out_places.old }
-    ensures refused { result ≢ pos 0 → IsRefused
+    ensures answered { WritesCols (AreParts rows cols row_indices.now col_indices.now values.now)
         (IsFaultOfList rows cols row_indices.now col_indices.now values.now)
-        (plain_transpose ring64
-        (plain_of_lists ring64 rows cols row_indices.now col_indices.now values.now))
-        (room_of out_offsets.old out_indices.old out_values.old out_places.old) result }
+        (plain_of_lists ring64 rows cols row_indices.now col_indices.now values.now)
+        (room_of out_offsets.old out_indices.old out_values.old out_places.old)
+        (room_of out_offsets.new out_indices.new out_values.new out_places.new) result }
 {
     let triplets = triplets!(Columns, rows, cols, row_indices, col_indices, values);
-    let room = room!(out_offsets, out_indices, out_values, out_places);
-    write_assembly::<W64>(alloc, triplets, room)
+    write_assembly::<W64>(
+        alloc,
+        triplets,
+        out_offsets,
+        out_indices,
+        out_values,
+        out_places,
+    )
 }

@@ -1,15 +1,14 @@
 //! Assembly of matrices from triplets modulo a listed number.
 
-ghost use Rattle.std.specs.Prelude.{◌≡◌, ◌≢◌, pos};
+ghost use Rattle.std.specs.Prelude.{◌≡◌, pos};
 ghost use Rattle.sparse_algebra.specs.Moduli.{mod_ring};
-ghost use Rattle.sparse_algebra.specs.Plain.{plain_transpose};
 ghost use Rattle.sparse_base.specs.Coo.{AreParts};
 ghost use Rattle.sparse_c.specs.Moduli.{moduli, IsFaultModulo, IsNoneOf};
-ghost use Rattle.sparse_c_views.specs.Arrays.{plain_of_lists, room_of, HoldsRows, HoldsCols};
+ghost use Rattle.sparse_c_views.specs.Arrays.{plain_of_lists, room_of};
 ghost use Rattle.sparse_c_views.specs.Reduced.{AreReduced};
-ghost use Rattle.sparse_c_views.specs.Refused.{IsFaultOfList, IsRefused};
-ghost use Rattle.sparse_c_views.specs.Rests.{KeepsRest};
-ghost use Rattle.sparse_c_views.specs.Statuses.{number_of, FindsNoFault};
+ghost use Rattle.sparse_c_views.specs.Refused.{IsFaultOfList};
+ghost use Rattle.sparse_c_views.specs.Statuses.{number_of};
+ghost use Rattle.sparse_c_views.specs.Written.{WritesCols, WritesRows};
 ghost use Rattle.sparse_c_views.specs.declared.refusal.Refusal.TheVariants.{UnknownChoice};
 
 use crate::arguments::triplets;
@@ -31,23 +30,14 @@ pub extern "C" fn nalgebra_sparse_assemble_csr_mod(
     out_values: &mut [i64],
     out_places: &mut usize,
 ) -> i32
-    ensures written { result ≡ pos 0 → HoldsRows
-        (plain_of_lists (mod_ring modulus) rows cols row_indices.now col_indices.now values.now)
-        (room_of out_offsets.new out_indices.new out_values.new out_places.new) }
-    ensures reduced { result ≡ pos 0 → AreReduced modulus out_places.new out_values.new }
-    ensures unlisted { IsNoneOf moduli modulus → result ≡ number_of UnknownChoice }
-    ensures rest { result ≡ pos 0 → KeepsRest rows
-        (room_of out_offsets.old out_indices.old out_values.old out_places.old)
-        (room_of out_offsets.new out_indices.new out_values.new out_places.new) }
-    ensures sound { FindsNoFault result
-        → AreParts rows cols row_indices.now col_indices.now values.now }
-    ensures untouched { result ≢ pos 0
-        → room_of out_offsets.new out_indices.new out_values.new out_places.new
-        ≡ room_of out_offsets.old out_indices.old out_values.old out_places.old }
-    ensures refused { result ≢ pos 0 → IsRefused (IsFaultModulo modulus
+    ensures answered { WritesRows (AreParts rows cols row_indices.now col_indices.now values.now)
+        (IsFaultModulo modulus
         (IsFaultOfList rows cols row_indices.now col_indices.now values.now))
         (plain_of_lists (mod_ring modulus) rows cols row_indices.now col_indices.now values.now)
-        (room_of out_offsets.old out_indices.old out_values.old out_places.old) result }
+        (room_of out_offsets.old out_indices.old out_values.old out_places.old)
+        (room_of out_offsets.new out_indices.new out_values.new out_places.new) result }
+    ensures reduced { result ≡ pos 0 → AreReduced modulus out_places.new out_values.new }
+    ensures unlisted { IsNoneOf moduli modulus → result ≡ number_of UnknownChoice }
 {
     let triplets = triplets!(Rows, rows, cols, row_indices, col_indices, values);
     write_assembly_by_modulus(
@@ -76,24 +66,14 @@ pub extern "C" fn nalgebra_sparse_assemble_csc_mod(
     out_values: &mut [i64],
     out_places: &mut usize,
 ) -> i32
-    ensures written { result ≡ pos 0 → HoldsCols
+    ensures answered { WritesCols (AreParts rows cols row_indices.now col_indices.now values.now)
+        (IsFaultModulo modulus
+        (IsFaultOfList rows cols row_indices.now col_indices.now values.now))
         (plain_of_lists (mod_ring modulus) rows cols row_indices.now col_indices.now values.now)
-        (room_of out_offsets.new out_indices.new out_values.new out_places.new) }
+        (room_of out_offsets.old out_indices.old out_values.old out_places.old)
+        (room_of out_offsets.new out_indices.new out_values.new out_places.new) result }
     ensures reduced { result ≡ pos 0 → AreReduced modulus out_places.new out_values.new }
     ensures unlisted { IsNoneOf moduli modulus → result ≡ number_of UnknownChoice }
-    ensures rest { result ≡ pos 0 → KeepsRest cols
-        (room_of out_offsets.old out_indices.old out_values.old out_places.old)
-        (room_of out_offsets.new out_indices.new out_values.new out_places.new) }
-    ensures sound { FindsNoFault result
-        → AreParts rows cols row_indices.now col_indices.now values.now }
-    ensures untouched { result ≢ pos 0
-        → room_of out_offsets.new out_indices.new out_values.new out_places.new
-        ≡ room_of out_offsets.old out_indices.old out_values.old out_places.old }
-    ensures refused { result ≢ pos 0 → IsRefused (IsFaultModulo modulus
-        (IsFaultOfList rows cols row_indices.now col_indices.now values.now))
-        (plain_transpose (mod_ring modulus)
-        (plain_of_lists (mod_ring modulus) rows cols row_indices.now col_indices.now values.now))
-        (room_of out_offsets.old out_indices.old out_values.old out_places.old) result }
 {
     let triplets = triplets!(Columns, rows, cols, row_indices, col_indices, values);
     write_assembly_by_modulus(

@@ -1,19 +1,18 @@
 //! Sums, differences and products of matrices from outside.
 
-ghost use Rattle.std.specs.Prelude.{◌≡◌, ◌≢◌, ◌≤◌, pos, IfOk, IfErr, IfSome, OnOk};
+ghost use Rattle.std.specs.Prelude.{◌≡◌, ◌≤◌, pos, IfOk, IfErr, IfSome, OnOk};
 ghost use Rattle.sparse_algebra.specs.Integers.{element_of};
-ghost use Rattle.sparse_algebra.specs.Moduli.{mod_ring};
 ghost use Rattle.sparse_cs.specs.Compressed.{IsSound};
 ghost use Rattle.sparse_cs.specs.PlainOfLanes.{plain_of_rows};
 ghost use Rattle.sparse_c.specs.Combinations.{combination_of, CanCombine, IsOfOneShape, IsSumOf};
-ghost use Rattle.sparse_c.specs.Moduli.{moduli, IsFaultModulo, IsNoneOf};
-ghost use Rattle.sparse_c.specs.Rooms.{room_after, room_before};
-ghost use Rattle.sparse_c_views.specs.Arrays.{room_of, HoldsRows};
 ghost use Rattle.sparse_c.specs.CombinationsModulo.{CombinesModulo};
+ghost use Rattle.sparse_c.specs.Moduli.{moduli, IsNoneOf};
+ghost use Rattle.sparse_c.specs.Rooms.{room_after, room_before};
+ghost use Rattle.sparse_c_views.specs.Arrays.{room_of};
 ghost use Rattle.sparse_c_views.specs.Reduced.{FirstAre};
-ghost use Rattle.sparse_c_views.specs.Refused.{IsFaultOfPair, IsMemoryOr, IsRefused};
-ghost use Rattle.sparse_c_views.specs.Rests.{KeepsRest};
-ghost use Rattle.sparse_c_views.specs.Statuses.{number_of, FindsNoFault};
+ghost use Rattle.sparse_c_views.specs.Refused.{IsFaultOfPair, IsMemoryOr};
+ghost use Rattle.sparse_c_views.specs.Statuses.{number_of};
+ghost use Rattle.sparse_c_views.specs.Written.{WritesRows};
 ghost use Rattle.sparse_c_views.specs.declared.refusal.Refusal.TheVariants.{UnknownChoice};
 
 use crate::arguments::{Combination, Pair, Room, room};
@@ -67,31 +66,26 @@ fn write_combination_mod<const M: u64>(
         values,
         places,
     } = room;
-    let answer = combined::<Mod<M>>(alloc, pair);
-    finish_rows(answer, offsets, indices, values, places)
+    write_combination::<Mod<M>>(alloc, pair, offsets, indices, values, places)
 }
 
 /// Writes the combination of two matrices by rows over the ring of a scalar. A sum is merged in the arrays if they have
 /// room for the places of both matrices, which takes no memory.
-pub(crate) fn write_combination<T: Number>(alloc: Global, pair: Pair<'_>, room: Room<'_>) -> i32
+pub(crate) fn write_combination<T: Number>(
+    alloc: Global,
+    pair: Pair<'_>,
+    offsets: &mut [usize],
+    indices: &mut [usize],
+    values: &mut [i64],
+    places: &mut usize,
+) -> i32
     requires { CanCombine pair }
-    ensures written { result ≡ pos 0
-        → HoldsRows (combination_of T.ring pair.entry) (room_after room.exit) }
-    ensures shown { let after = room_after room.exit in
-        result ≡ pos 0 → FirstAre T.is_shown after.places after.values }
-    ensures rest { result ≡ pos 0 → KeepsRest pair.entry.a.pattern.major_dim
-        (room_before room.entry) (room_after room.exit) }
-    ensures sound { FindsNoFault result → IsSound pair.entry.a × IsSound pair.entry.b }
-    ensures untouched { result ≢ pos 0 → room_after room.exit ≡ room_before room.entry }
-    ensures refused { result ≢ pos 0 → IsRefused (IsFaultOfPair pair.entry.a pair.entry.b)
-        (combination_of T.ring pair.entry) (room_before room.entry) result }
+    ensures answered { let p = pair.entry in WritesRows (IsSound p.a × IsSound p.b)
+        (IsFaultOfPair p.a p.b) (combination_of T.ring p)
+        (room_of offsets.old indices.old values.old places.old)
+        (room_of offsets.new indices.new values.new places.new) result }
+    ensures shown { result ≡ pos 0 → FirstAre T.is_shown places.new values.new }
 {
-    let Room {
-        offsets,
-        indices,
-        values,
-        places,
-    } = room;
     let lanes = pair.a.major_dim;
     let most = pair.a.indices.len() + pair.b.indices.len();
     if let Some((alpha, beta)) = factors::<T>(pair.how, pair.alpha, pair.beta) {

@@ -1,6 +1,6 @@
 //! Division by an integer.
 
-ghost use Rattle.std.specs.Prelude.{◌≡◌, ◌≢◌, ◌≤◌, pos, IfOk, IfErr, OnOk};
+ghost use Rattle.std.specs.Prelude.{◌≡◌, ◌≤◌, pos, IfOk, IfErr, OnOk};
 ghost use Rattle.std.specs.Int.{w64};
 ghost use Rattle.std.specs.Int.RustNames.{FitsSigned};
 ghost use Rattle.sparse_algebra.specs.ModNumbers.{mod_value};
@@ -9,17 +9,16 @@ ghost use Rattle.sparse_algebra.specs.WrappingValues.{w64_value};
 ghost use Rattle.sparse_cs.specs.Compressed.{arrays_of, IsSound};
 ghost use Rattle.sparse_cs.specs.PlainOfLanes.{plain_of_rows};
 ghost use Rattle.sparse_c.specs.Moduli.{moduli, IsFaultModulo, IsNoneOf};
-ghost use Rattle.sparse_c.specs.Solved.{DividesModulo, IsFaultOfQuotient, IsQuotientBy};
-ghost use Rattle.sparse_c.specs.Solved.{IsQuotientTooSmall, WritesQuotient};
+ghost use Rattle.sparse_c.specs.Rooms.{room_after, room_before};
+ghost use Rattle.sparse_c.specs.Solved.{Divides, DividesModulo, IsFaultOfQuotient, IsQuotientBy};
 ghost use Rattle.sparse_c_views.specs.Arrays.{plain_by_rows, ring64, room_of};
 ghost use Rattle.sparse_algebra.specs.Integers.{element_of};
-ghost use Rattle.sparse_c_views.specs.Reduced.{AreReduced};
-ghost use Rattle.sparse_c_views.specs.Refused.{IsMemoryOr, IsRefusedFor};
-ghost use Rattle.sparse_c_views.specs.Rests.{KeepsRest};
-ghost use Rattle.sparse_c_views.specs.Statuses.{number_of, FindsNoFault};
+ghost use Rattle.sparse_c_views.specs.Reduced.{AreReduced, FirstAre};
+ghost use Rattle.sparse_c_views.specs.Refused.{IsMemoryOr};
+ghost use Rattle.sparse_c_views.specs.Statuses.{number_of};
 ghost use Rattle.sparse_c_views.specs.declared.refusal.Refusal.TheVariants.{UnknownChoice};
 
-use crate::arguments::lanes;
+use crate::arguments::{Room, lanes, room};
 use crate::moduli::by_modulus;
 use sparse_algebra::scalar::{Mod, W64};
 use sparse_c_views::lanes::Lanes;
@@ -46,25 +45,21 @@ pub extern "C" fn nalgebra_sparse_divide(
     out_values: &mut [i64],
     out_places: &mut usize,
 ) -> i32
-    ensures written { let a = arrays_of rows cols offsets.now indices.now values.now in
-        result ≡ pos 0 → WritesQuotient ring64 a divisor
-        (room_of out_offsets.new out_indices.new out_values.new out_places.new) }
-    ensures rest { result ≡ pos 0 → KeepsRest rows
+    ensures answered { let a = arrays_of rows cols offsets.now indices.now values.now in
+        Divides ring64 (IsFaultOfQuotient ring64 w64_value a divisor) a divisor
         (room_of out_offsets.old out_indices.old out_values.old out_places.old)
-        (room_of out_offsets.new out_indices.new out_values.new out_places.new) }
-    ensures sound { FindsNoFault result
-        → IsSound (arrays_of rows cols offsets.now indices.now values.now) }
-    ensures untouched { result ≢ pos 0
-        → room_of out_offsets.new out_indices.new out_values.new out_places.new
-        ≡ room_of out_offsets.old out_indices.old out_values.old out_places.old }
-    ensures refused { let a = arrays_of rows cols offsets.now indices.now values.now in
-        result ≢ pos 0 → IsRefusedFor (IsFaultOfQuotient ring64 w64_value a divisor)
-        (IsQuotientTooSmall ring64 a divisor
-        (room_of out_offsets.old out_indices.old out_values.old out_places.old)) result }
+        (room_of out_offsets.new out_indices.new out_values.new out_places.new) result }
 {
     let a = lanes!(rows, cols, offsets, indices, values);
-    let answer = quotient_of::<W64>(alloc, a, divisor);
-    finish_rows(answer, out_offsets, out_indices, out_values, out_places)
+    write_quotient::<W64>(
+        alloc,
+        a,
+        divisor,
+        out_offsets,
+        out_indices,
+        out_values,
+        out_places,
+    )
 }
 
 /// Writes the quotient over the ring of residues modulo a listed number.
@@ -83,24 +78,14 @@ pub extern "C" fn nalgebra_sparse_divide_mod(
     out_values: &mut [i64],
     out_places: &mut usize,
 ) -> i32
-    ensures written { let a = arrays_of rows cols offsets.now indices.now values.now in
-        result ≡ pos 0 → WritesQuotient (mod_ring modulus) a divisor
-        (room_of out_offsets.new out_indices.new out_values.new out_places.new) }
+    ensures answered { let a = arrays_of rows cols offsets.now indices.now values.now in
+        let ring = mod_ring modulus in
+        Divides ring (IsFaultModulo modulus
+        (IsFaultOfQuotient ring (mod_value {m = modulus}) a divisor)) a divisor
+        (room_of out_offsets.old out_indices.old out_values.old out_places.old)
+        (room_of out_offsets.new out_indices.new out_values.new out_places.new) result }
     ensures reduced { result ≡ pos 0 → AreReduced modulus out_places.new out_values.new }
     ensures unlisted { IsNoneOf moduli modulus → result ≡ number_of UnknownChoice }
-    ensures rest { result ≡ pos 0 → KeepsRest rows
-        (room_of out_offsets.old out_indices.old out_values.old out_places.old)
-        (room_of out_offsets.new out_indices.new out_values.new out_places.new) }
-    ensures sound { FindsNoFault result
-        → IsSound (arrays_of rows cols offsets.now indices.now values.now) }
-    ensures untouched { result ≢ pos 0
-        → room_of out_offsets.new out_indices.new out_values.new out_places.new
-        ≡ room_of out_offsets.old out_indices.old out_values.old out_places.old }
-    ensures refused { let a = arrays_of rows cols offsets.now indices.now values.now in
-        result ≢ pos 0 → IsRefusedFor (IsFaultModulo modulus
-        (IsFaultOfQuotient (mod_ring modulus) (mod_value {m = modulus}) a divisor))
-        (IsQuotientTooSmall (mod_ring modulus) a divisor
-        (room_of out_offsets.old out_indices.old out_values.old out_places.old)) result }
 {
     let quotient = Quotient {
         modulus,
@@ -130,47 +115,55 @@ struct Quotient<'a> {
 fn write_by_modulus(
     alloc: Global,
     quotient: Quotient<'_>,
-    out_offsets: &mut [usize],
-    out_indices: &mut [usize],
-    out_values: &mut [i64],
-    out_places: &mut usize,
+    offsets: &mut [usize],
+    indices: &mut [usize],
+    values: &mut [i64],
+    places: &mut usize,
 ) -> i32
     ensures answered { let q = quotient.entry in DividesModulo q.modulus q.a q.divisor
-        (room_of out_offsets.old out_indices.old out_values.old out_places.old)
-        (room_of out_offsets.new out_indices.new out_values.new out_places.new) result }
+        (room_of offsets.old indices.old values.old places.old)
+        (room_of offsets.new indices.new values.new places.new) result }
     ensures unlisted { IsNoneOf moduli quotient.entry.modulus → result ≡ number_of UnknownChoice }
 {
-    by_modulus!(
-        quotient.modulus,
-        write_modulo(
-            alloc,
-            quotient,
-            out_offsets,
-            out_indices,
-            out_values,
-            out_places
-        )
-    )
+    let room = room!(offsets, indices, values, places);
+    by_modulus!(quotient.modulus, write_modulo(alloc, quotient, room))
 }
 
 // Writes a quotient over the residues modulo `M`, which is the modulus.
-fn write_modulo<const M: u64>(
-    alloc: Global,
-    quotient: Quotient<'_>,
-    out_offsets: &mut [usize],
-    out_indices: &mut [usize],
-    out_values: &mut [i64],
-    out_places: &mut usize,
-) -> i32
+fn write_modulo<const M: u64>(alloc: Global, quotient: Quotient<'_>, room: Room<'_>) -> i32
     requires is { quotient.modulus ≡ M }
     requires short { M ≤ 9223372036854775808 }
     ensures { let q = quotient.entry in DividesModulo q.modulus q.a q.divisor
-        (room_of out_offsets.old out_indices.old out_values.old out_places.old)
-        (room_of out_offsets.new out_indices.new out_values.new out_places.new) result }
+        (room_before room.entry) (room_after room.exit) result }
 {
     let Quotient { a, divisor, .. } = quotient;
-    let answer = quotient_of::<Mod<M>>(alloc, a, divisor);
-    finish_rows(answer, out_offsets, out_indices, out_values, out_places)
+    let Room {
+        offsets,
+        indices,
+        values,
+        places,
+    } = room;
+    write_quotient::<Mod<M>>(alloc, a, divisor, offsets, indices, values, places)
+}
+
+// Writes a quotient over the ring of a scalar.
+fn write_quotient<T: Number>(
+    alloc: Global,
+    a: Lanes<'_>,
+    divisor: i64,
+    offsets: &mut [usize],
+    indices: &mut [usize],
+    values: &mut [i64],
+    places: &mut usize,
+) -> i32
+    ensures answered { Divides T.ring (IsFaultOfQuotient T.ring T.value a.entry divisor)
+        a.entry divisor
+        (room_of offsets.old indices.old values.old places.old)
+        (room_of offsets.new indices.new values.new places.new) result }
+    ensures shown { result ≡ pos 0 → FirstAre T.is_shown places.new values.new }
+{
+    let answer = quotient_of::<T>(alloc, a, divisor);
+    finish_rows(answer, offsets, indices, values, places)
 }
 
 // The quotient of a matrix by rows and an integer.

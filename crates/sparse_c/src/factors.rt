@@ -1,21 +1,22 @@
 //! The exact factors L D Lᵀ of symmetric matrices.
 
-ghost use Rattle.std.specs.Prelude.{◌≡◌, ◌≢◌, ◌≤◌, ◌⊎◌, ◌<◌, pos, length, IfOk, IfErr, MatchResult, OnOk};
+ghost use Rattle.std.specs.Prelude.{◌≡◌, ◌≢◌, ◌≤◌, ◌⊎◌, ◌<◌, pos, length, IfOk, IfErr, MatchResult};
+ghost use Rattle.std.specs.Prelude.{OnErr, OnOk};
 ghost use Rattle.sparse_algebra.specs.ModNumbers.{mod_value};
 ghost use Rattle.sparse_algebra.specs.Moduli.{mod_ring};
 ghost use Rattle.sparse_algebra.specs.WrappingValues.{w64_value};
 ghost use Rattle.sparse_cs.specs.Compressed.{arrays_of, IsSound};
 ghost use Rattle.sparse_cs.specs.PlainOfLanes.{plain_of_cols, plain_of_rows};
 ghost use Rattle.sparse_ldl.specs.Factors.{diagonal};
-ghost use Rattle.sparse_c.specs.Factors.{AreFactors, AreFactorsTooLong, IsFaultOfFactors};
-ghost use Rattle.sparse_c.specs.Factors.{FactorsModulo, HoldsFactors, WritesFactors};
+ghost use Rattle.sparse_c.specs.Factors.{AreFactors, Factorises, FactorsModulo, HoldsFactors};
+ghost use Rattle.sparse_c.specs.Factors.{IsFaultOfFactors};
 ghost use Rattle.sparse_c.specs.Moduli.{moduli, IsFaultModulo, IsNoneOf};
 ghost use Rattle.sparse_c.specs.Rooms.{room_after, room_before};
-ghost use Rattle.sparse_c_views.specs.Arrays.{ring64, room_of};
+ghost use Rattle.sparse_c_views.specs.Arrays.{places_of, ring64, room_of};
 ghost use Rattle.sparse_c_views.specs.Reduced.{AreReduced, FirstAre};
-ghost use Rattle.sparse_c_views.specs.Refused.{IsMemoryOr, IsRefusedFor, IsTooSmall};
+ghost use Rattle.sparse_c_views.specs.Refused.{IsMemoryOr, IsTooSmall};
 ghost use Rattle.sparse_c_views.specs.Rests.{KeepsBehind, KeepsRest};
-ghost use Rattle.sparse_c_views.specs.Statuses.{number_of, FindsNoFault};
+ghost use Rattle.sparse_c_views.specs.Statuses.{number_of};
 ghost use Rattle.sparse_c_views.specs.declared.refusal.Refusal.TheVariants.{TooSmall, UnknownChoice};
 
 use crate::arguments::{Room, lanes, room};
@@ -26,7 +27,7 @@ use sparse_c_views::lanes::Lanes;
 use sparse_c_views::number::Number;
 use sparse_c_views::refusal::Refusal;
 use sparse_c_views::scalars::put_scalars;
-use sparse_c_views::writing::write_rows;
+use sparse_c_views::writing::write_rows_or_count;
 use sparse_forms::csr::CsrMatrix;
 use sparse_ldl::ldl::Ldl;
 use std::alloc::Global;
@@ -48,29 +49,16 @@ pub extern "C" fn nalgebra_sparse_factor_symmetric(
     out_diagonal: &mut [i64],
     out_places: &mut usize,
 ) -> i32
-    ensures written { let a = arrays_of size size offsets.now indices.now values.now in
-        result ≡ pos 0 → WritesFactors ring64 w64_value a
-        (room_of out_offsets.new out_indices.new out_values.new out_places.new) out_diagonal.new }
-    ensures rest { result ≡ pos 0 → KeepsRest size
+    ensures answered { let a = arrays_of size size offsets.now indices.now values.now in
+        Factorises ring64 w64_value (IsFaultOfFactors ring64 w64_value a) a
         (room_of out_offsets.old out_indices.old out_values.old out_places.old)
-        (room_of out_offsets.new out_indices.new out_values.new out_places.new) }
-    ensures rest_diagonal { result ≡ pos 0 → KeepsBehind size out_diagonal.old out_diagonal.new }
-    ensures sound { FindsNoFault result
-        → IsSound (arrays_of size size offsets.now indices.now values.now) }
-    ensures untouched { result ≢ pos 0
-        → room_of out_offsets.new out_indices.new out_values.new out_places.new
-        ≡ room_of out_offsets.old out_indices.old out_values.old out_places.old }
-    ensures untouched_diagonal { result ≢ pos 0 → out_diagonal.new ≡ out_diagonal.old }
-    ensures refused { let a = arrays_of size size offsets.now indices.now values.now in
-        result ≢ pos 0 → IsRefusedFor (IsFaultOfFactors ring64 w64_value a)
-        (AreFactorsTooLong ring64 w64_value a
-        (room_of out_offsets.old out_indices.old out_values.old out_places.old)
-        out_diagonal.old) result }
+        (room_of out_offsets.new out_indices.new out_values.new out_places.new)
+        out_diagonal.old out_diagonal.new result }
 {
     let a = lanes!(size, size, offsets, indices, values);
-    let answer = factors_of::<W64>(alloc, a);
-    finish_factors(
-        answer,
+    write_factors::<W64>(
+        alloc,
+        a,
         out_offsets,
         out_indices,
         out_values,
@@ -94,28 +82,16 @@ pub extern "C" fn nalgebra_sparse_factor_symmetric_mod(
     out_diagonal: &mut [i64],
     out_places: &mut usize,
 ) -> i32
-    ensures written { let a = arrays_of size size offsets.now indices.now values.now in
-        result ≡ pos 0 → WritesFactors (mod_ring modulus) (mod_value {m = modulus}) a
-        (room_of out_offsets.new out_indices.new out_values.new out_places.new) out_diagonal.new }
+    ensures answered { let a = arrays_of size size offsets.now indices.now values.now in
+        let ring = mod_ring modulus in
+        Factorises ring (mod_value {m = modulus}) (IsFaultModulo modulus
+        (IsFaultOfFactors ring (mod_value {m = modulus}) a)) a
+        (room_of out_offsets.old out_indices.old out_values.old out_places.old)
+        (room_of out_offsets.new out_indices.new out_values.new out_places.new)
+        out_diagonal.old out_diagonal.new result }
     ensures reduced { result ≡ pos 0 → AreReduced modulus out_places.new out_values.new }
     ensures reduced_diagonal { result ≡ pos 0 → AreReduced modulus size out_diagonal.new }
     ensures unlisted { IsNoneOf moduli modulus → result ≡ number_of UnknownChoice }
-    ensures rest { result ≡ pos 0 → KeepsRest size
-        (room_of out_offsets.old out_indices.old out_values.old out_places.old)
-        (room_of out_offsets.new out_indices.new out_values.new out_places.new) }
-    ensures rest_diagonal { result ≡ pos 0 → KeepsBehind size out_diagonal.old out_diagonal.new }
-    ensures sound { FindsNoFault result
-        → IsSound (arrays_of size size offsets.now indices.now values.now) }
-    ensures untouched { result ≢ pos 0
-        → room_of out_offsets.new out_indices.new out_values.new out_places.new
-        ≡ room_of out_offsets.old out_indices.old out_values.old out_places.old }
-    ensures untouched_diagonal { result ≢ pos 0 → out_diagonal.new ≡ out_diagonal.old }
-    ensures refused { let a = arrays_of size size offsets.now indices.now values.now in
-        result ≢ pos 0 → IsRefusedFor (IsFaultModulo modulus
-        (IsFaultOfFactors (mod_ring modulus) (mod_value {m = modulus}) a))
-        (AreFactorsTooLong (mod_ring modulus) (mod_value {m = modulus}) a
-        (room_of out_offsets.old out_indices.old out_values.old out_places.old)
-        out_diagonal.old) result }
 {
     let a = lanes!(size, size, offsets, indices, values);
     factor_by_modulus(
@@ -174,7 +150,29 @@ fn factor_symmetric_mod<const M: u64>(
         values,
         places,
     } = room;
-    let answer = factors_of::<Mod<M>>(alloc, a);
+    write_factors::<Mod<M>>(alloc, a, offsets, indices, values, pivots, places)
+}
+
+// Writes these factors over the ring of a scalar.
+fn write_factors<T: Number>(
+    alloc: Global,
+    a: Lanes<'_>,
+    offsets: &mut [usize],
+    indices: &mut [usize],
+    values: &mut [i64],
+    pivots: &mut [i64],
+    places: &mut usize,
+) -> i32
+    requires square { a.pattern.minor_dim ≡ a.pattern.major_dim }
+    ensures answered { Factorises T.ring T.value (IsFaultOfFactors T.ring T.value a.entry) a.entry
+        (room_of offsets.old indices.old values.old places.old)
+        (room_of offsets.new indices.new values.new places.new)
+        pivots.old pivots.new result }
+    ensures shown { result ≡ pos 0 → FirstAre T.is_shown places.new values.new }
+    ensures shown_pivots { result ≡ pos 0
+        → FirstAre T.is_shown a.entry.pattern.minor_dim pivots.new }
+{
+    let answer = factors_of::<T>(alloc, a);
     finish_factors(answer, offsets, indices, values, pivots, places)
 }
 
@@ -197,8 +195,8 @@ fn factors_of<T: Number>(alloc: Global, a: Lanes<'_>) -> Result<(CsrMatrix<T>, V
     Ok((l.transpose_as_csr(), d))
 }
 
-// Writes the columns of L, whose rows are given, and the diagonal of D. Returns the status of the call; at a refusal
-// nothing is written.
+// Writes the columns of L, whose rows are given, and the diagonal of D. Returns the status of the call. At a refusal
+// the arrays are unchanged; where one is too small, the number of places of L is written alone.
 fn finish_factors<T: Number>(
     answer: Result<(CsrMatrix<T>, Vec<T>), Refusal>,
     offsets: &mut [usize],
@@ -218,8 +216,11 @@ fn finish_factors<T: Number>(
         (room_of offsets.new indices.new values.new places.new)) (λ _. ⊥) }
     ensures rest_pivots { result ≡ pos 0 → MatchResult answer
         (λ s. KeepsBehind (length s.1.items) pivots.old pivots.new) (λ _. ⊥) }
-    ensures untouched { result ≢ pos 0 → room_of offsets.new indices.new values.new places.new
+    ensures untouched { result ≢ pos 0 → room_of offsets.new indices.new values.new places.old
         ≡ room_of offsets.old indices.old values.old places.old }
+    ensures needed { result ≢ pos 0
+        → IfOk answer (λ s. places.new ≡ places_of (plain_of_rows T.ring T.value s.0)) }
+    ensures kept { OnErr answer (places.new ≡ places.old) }
     ensures untouched_pivots { result ≢ pos 0 → pivots.new ≡ pivots.old }
     ensures refused { result ≢ pos 0 → MatchResult answer
         (λ s. (result ≡ number_of TooSmall) × (IsTooSmall (plain_of_rows T.ring T.value s.0)
@@ -230,9 +231,10 @@ fn finish_factors<T: Number>(
     match answer {
         Ok((l, d)) => {
             if pivots.len() < d.len() {
+                *places = l.nnz();
                 return Refusal::TooSmall.status();
             }
-            let status = write_rows(&l, offsets, indices, values, places);
+            let status = write_rows_or_count(&l, offsets, indices, values, places);
             if status == 0 {
                 put_scalars(pivots, &d);
             }

@@ -8,7 +8,8 @@ ghost use Rattle.sparse_c_views.specs.Arrays.{pattern_room_of};
 ghost use Rattle.sparse_c_views.specs.Refused.{IsMemoryOr, IsRefusedFor};
 ghost use Rattle.sparse_c_views.specs.Rests.{KeepsPatternRest};
 ghost use Rattle.sparse_c_views.specs.Statuses.{number_of, FindsNoFault};
-ghost use Rattle.sparse_c_views.specs.declared.refusal.Refusal.TheVariants.{UnknownChoice};
+ghost use Rattle.sparse_c_views.specs.Untouched.{IsPatternUntouched};
+ghost use Rattle.sparse_c_views.specs.declared.refusal.Refusal.TheVariants.{TooSmall, UnknownChoice};
 
 use sparse_c_views::lanes::pattern_of;
 use sparse_c_views::patterns::finish_pattern;
@@ -65,9 +66,11 @@ pub extern "C" fn nalgebra_sparse_fill(
         (pattern_room_of out_offsets.new out_indices.new out_places.new) }
     ensures sound { FindsNoFault result → IsValid (raw_of size size offsets.now indices.now) }
     ensures unknown { NamesNoTriangle triangle → result ≡ number_of UnknownChoice }
-    ensures untouched { result ≢ pos 0
-        → pattern_room_of out_offsets.new out_indices.new out_places.new
-        ≡ pattern_room_of out_offsets.old out_indices.old out_places.old }
+    ensures untouched { result ≢ pos 0 → IsPatternUntouched result
+        (pattern_room_of out_offsets.old out_indices.old out_places.old)
+        (pattern_room_of out_offsets.new out_indices.new out_places.new) }
+    ensures needed { let pattern = raw_of size size offsets.now indices.now in
+        result ≡ number_of TooSmall → CountsFill triangle pattern out_places.new }
     ensures refused { let pattern = raw_of size size offsets.now indices.now in
         result ≢ pos 0 → IsRefusedFor (IsFaultOfFill triangle pattern)
         (IsFillTooSmall triangle pattern

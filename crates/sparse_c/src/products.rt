@@ -7,14 +7,14 @@ ghost use Rattle.sparse_algebra.specs.Plain.{plain_product};
 ghost use Rattle.sparse_pattern.specs.Raw.{raw_of, IsValid};
 ghost use Rattle.sparse_c.specs.Moduli.{moduli, IsFaultModulo, IsNoneOf};
 ghost use Rattle.sparse_c.specs.Patterns.{CountsProduct, IsPatternPairRefused};
-ghost use Rattle.sparse_c_views.specs.Arrays.{plain_by_rows, ring64, room_of, HoldsRows};
+ghost use Rattle.sparse_c_views.specs.Arrays.{plain_by_rows, ring64, room_of};
 ghost use Rattle.sparse_c_views.specs.Reduced.{AreReduced};
-ghost use Rattle.sparse_c_views.specs.Refused.{IsFaultOfPair, IsRefused};
-ghost use Rattle.sparse_c_views.specs.Rests.{KeepsRest};
+ghost use Rattle.sparse_c_views.specs.Refused.{IsFaultOfPair};
 ghost use Rattle.sparse_c_views.specs.Statuses.{number_of, FindsNoFault};
+ghost use Rattle.sparse_c_views.specs.Written.{WritesRows};
 ghost use Rattle.sparse_c_views.specs.declared.refusal.Refusal.TheVariants.{UnknownChoice};
 
-use crate::arguments::{lanes, pair, room};
+use crate::arguments::{lanes, pair};
 use crate::combining::{write_combination, write_combination_by_modulus};
 use sparse_algebra::scalar::W64;
 use sparse_c_views::lanes::pattern_of;
@@ -80,30 +80,23 @@ pub extern "C" fn nalgebra_sparse_multiply(
     out_values: &mut [i64],
     out_places: &mut usize,
 ) -> i32
-    ensures written { let a = arrays_of rows inner a_offsets.now a_indices.now a_values.now in
+    ensures answered { let a = arrays_of rows inner a_offsets.now a_indices.now a_values.now in
         let b = arrays_of inner cols b_offsets.now b_indices.now b_values.now in
-        result ≡ pos 0 → HoldsRows
+        WritesRows (IsSound a × IsSound b) (IsFaultOfPair a b)
         (plain_product ring64 (plain_by_rows ring64 a) (plain_by_rows ring64 b))
-        (room_of out_offsets.new out_indices.new out_values.new out_places.new) }
-    ensures rest { result ≡ pos 0 → KeepsRest rows
         (room_of out_offsets.old out_indices.old out_values.old out_places.old)
-        (room_of out_offsets.new out_indices.new out_values.new out_places.new) }
-    ensures sound { FindsNoFault result
-        → IsSound (arrays_of rows inner a_offsets.now a_indices.now a_values.now)
-        × IsSound (arrays_of inner cols b_offsets.now b_indices.now b_values.now) }
-    ensures untouched { result ≢ pos 0
-        → room_of out_offsets.new out_indices.new out_values.new out_places.new
-        ≡ room_of out_offsets.old out_indices.old out_values.old out_places.old }
-    ensures refused { let a = arrays_of rows inner a_offsets.now a_indices.now a_values.now in
-        let b = arrays_of inner cols b_offsets.now b_indices.now b_values.now in
-        result ≢ pos 0 → IsRefused (IsFaultOfPair a b)
-        (plain_product ring64 (plain_by_rows ring64 a) (plain_by_rows ring64 b))
-        (room_of out_offsets.old out_indices.old out_values.old out_places.old) result }
+        (room_of out_offsets.new out_indices.new out_values.new out_places.new) result }
 {
     let a = lanes!(rows, inner, a_offsets, a_indices, a_values);
     let b = lanes!(inner, cols, b_offsets, b_indices, b_values);
-    let room = room!(out_offsets, out_indices, out_values, out_places);
-    write_combination::<W64>(alloc, pair!(Product, a, b), room)
+    write_combination::<W64>(
+        alloc,
+        pair!(Product, a, b),
+        out_offsets,
+        out_indices,
+        out_values,
+        out_places,
+    )
 }
 
 /// Writes the product over the ring of residues modulo a listed number.
@@ -125,29 +118,15 @@ pub extern "C" fn nalgebra_sparse_multiply_mod(
     out_values: &mut [i64],
     out_places: &mut usize,
 ) -> i32
-    ensures written { let a = arrays_of rows inner a_offsets.now a_indices.now a_values.now in
+    ensures answered { let a = arrays_of rows inner a_offsets.now a_indices.now a_values.now in
         let b = arrays_of inner cols b_offsets.now b_indices.now b_values.now in
         let ring = mod_ring modulus in
-        result ≡ pos 0 → HoldsRows
+        WritesRows (IsSound a × IsSound b) (IsFaultModulo modulus (IsFaultOfPair a b))
         (plain_product ring (plain_by_rows ring a) (plain_by_rows ring b))
-        (room_of out_offsets.new out_indices.new out_values.new out_places.new) }
+        (room_of out_offsets.old out_indices.old out_values.old out_places.old)
+        (room_of out_offsets.new out_indices.new out_values.new out_places.new) result }
     ensures reduced { result ≡ pos 0 → AreReduced modulus out_places.new out_values.new }
     ensures unlisted { IsNoneOf moduli modulus → result ≡ number_of UnknownChoice }
-    ensures rest { result ≡ pos 0 → KeepsRest rows
-        (room_of out_offsets.old out_indices.old out_values.old out_places.old)
-        (room_of out_offsets.new out_indices.new out_values.new out_places.new) }
-    ensures sound { FindsNoFault result
-        → IsSound (arrays_of rows inner a_offsets.now a_indices.now a_values.now)
-        × IsSound (arrays_of inner cols b_offsets.now b_indices.now b_values.now) }
-    ensures untouched { result ≢ pos 0
-        → room_of out_offsets.new out_indices.new out_values.new out_places.new
-        ≡ room_of out_offsets.old out_indices.old out_values.old out_places.old }
-    ensures refused { let a = arrays_of rows inner a_offsets.now a_indices.now a_values.now in
-        let b = arrays_of inner cols b_offsets.now b_indices.now b_values.now in
-        let ring = mod_ring modulus in
-        result ≢ pos 0 → IsRefused (IsFaultModulo modulus (IsFaultOfPair a b))
-        (plain_product ring (plain_by_rows ring a) (plain_by_rows ring b))
-        (room_of out_offsets.old out_indices.old out_values.old out_places.old) result }
 {
     let a = lanes!(rows, inner, a_offsets, a_indices, a_values);
     let b = lanes!(inner, cols, b_offsets, b_indices, b_values);

@@ -3,11 +3,14 @@
 ghost use Rattle.std.specs.Prelude.{◌≡◌, ◌≢◌, pos, IfOk, IfErr};
 ghost use Rattle.sparse_algebra.specs.Numbers.{w64_number};
 ghost use Rattle.sparse_parser.specs.Meaning.{values_of};
-ghost use Rattle.sparse_c.specs.Texts.{IsErrorOfText, IsFaultOfText, IsTextOf, IsTextTooLong};
+ghost use Rattle.sparse_c.specs.Texts.{CountsText, IsErrorOfText, IsFaultOfText, IsTextOf, IsTextTooLong};
 ghost use Rattle.sparse_c.specs.Texts.{SizesText, WritesTriplets};
 ghost use Rattle.sparse_c_views.specs.Lists.{list_room_of};
 ghost use Rattle.sparse_c_views.specs.Refused.{IsMemoryOr, IsRefusedFor};
 ghost use Rattle.sparse_c_views.specs.Rests.{KeepsListRest};
+ghost use Rattle.sparse_c_views.specs.Statuses.{number_of};
+ghost use Rattle.sparse_c_views.specs.Untouched.{IsListUntouched};
+ghost use Rattle.sparse_c_views.specs.declared.refusal.Refusal.TheVariants.{TooSmall};
 
 use sparse_algebra::scalar::W64;
 use sparse_base::coo::CooMatrix;
@@ -58,9 +61,10 @@ pub extern "C" fn nalgebra_sparse_read(
     ensures rest { result ≡ pos 0 → KeepsListRest (list_room_of
         out_row_indices.old out_col_indices.old out_values.old out_triplets.old) (list_room_of
         out_row_indices.new out_col_indices.new out_values.new out_triplets.new) }
-    ensures untouched { result ≢ pos 0
-        → list_room_of out_row_indices.new out_col_indices.new out_values.new out_triplets.new
-        ≡ list_room_of out_row_indices.old out_col_indices.old out_values.old out_triplets.old }
+    ensures untouched { result ≢ pos 0 → IsListUntouched result (list_room_of
+        out_row_indices.old out_col_indices.old out_values.old out_triplets.old) (list_room_of
+        out_row_indices.new out_col_indices.new out_values.new out_triplets.new) }
+    ensures needed { result ≡ number_of TooSmall → CountsText text.now out_triplets.new }
     ensures refused { result ≢ pos 0 → IsRefusedFor (IsFaultOfText text.now)
         (IsTextTooLong text.now (list_room_of
         out_row_indices.old out_col_indices.old out_values.old out_triplets.old)) result }

@@ -1,15 +1,13 @@
 //! Sums and differences.
 
-ghost use Rattle.std.specs.Prelude.{◌≡◌, ◌≢◌, pos};
 ghost use Rattle.sparse_algebra.specs.Integers.{element_of};
 ghost use Rattle.sparse_algebra.specs.Plain.{plain_sum, plain_difference, plain_scaled};
 ghost use Rattle.sparse_cs.specs.Compressed.{arrays_of, IsSound};
-ghost use Rattle.sparse_c_views.specs.Arrays.{plain_by_rows, ring64, room_of, HoldsRows};
-ghost use Rattle.sparse_c_views.specs.Refused.{IsFaultOfPair, IsRefused};
-ghost use Rattle.sparse_c_views.specs.Rests.{KeepsRest};
-ghost use Rattle.sparse_c_views.specs.Statuses.{FindsNoFault};
+ghost use Rattle.sparse_c_views.specs.Arrays.{plain_by_rows, ring64, room_of};
+ghost use Rattle.sparse_c_views.specs.Refused.{IsFaultOfPair};
+ghost use Rattle.sparse_c_views.specs.Written.{WritesRows};
 
-use crate::arguments::{lanes, pair, room};
+use crate::arguments::{lanes, pair};
 use crate::combining::write_combination;
 use sparse_algebra::scalar::W64;
 use std::alloc::Global;
@@ -31,30 +29,23 @@ pub extern "C" fn nalgebra_sparse_add(
     out_values: &mut [i64],
     out_places: &mut usize,
 ) -> i32
-    ensures written { let a = arrays_of rows cols a_offsets.now a_indices.now a_values.now in
+    ensures answered { let a = arrays_of rows cols a_offsets.now a_indices.now a_values.now in
         let b = arrays_of rows cols b_offsets.now b_indices.now b_values.now in
-        result ≡ pos 0 → HoldsRows
+        WritesRows (IsSound a × IsSound b) (IsFaultOfPair a b)
         (plain_sum ring64 (plain_by_rows ring64 a) (plain_by_rows ring64 b))
-        (room_of out_offsets.new out_indices.new out_values.new out_places.new) }
-    ensures rest { result ≡ pos 0 → KeepsRest rows
         (room_of out_offsets.old out_indices.old out_values.old out_places.old)
-        (room_of out_offsets.new out_indices.new out_values.new out_places.new) }
-    ensures sound { FindsNoFault result
-        → IsSound (arrays_of rows cols a_offsets.now a_indices.now a_values.now)
-        × IsSound (arrays_of rows cols b_offsets.now b_indices.now b_values.now) }
-    ensures untouched { result ≢ pos 0
-        → room_of out_offsets.new out_indices.new out_values.new out_places.new
-        ≡ room_of out_offsets.old out_indices.old out_values.old out_places.old }
-    ensures refused { let a = arrays_of rows cols a_offsets.now a_indices.now a_values.now in
-        let b = arrays_of rows cols b_offsets.now b_indices.now b_values.now in
-        result ≢ pos 0 → IsRefused (IsFaultOfPair a b)
-        (plain_sum ring64 (plain_by_rows ring64 a) (plain_by_rows ring64 b))
-        (room_of out_offsets.old out_indices.old out_values.old out_places.old) result }
+        (room_of out_offsets.new out_indices.new out_values.new out_places.new) result }
 {
     let a = lanes!(rows, cols, a_offsets, a_indices, a_values);
     let b = lanes!(rows, cols, b_offsets, b_indices, b_values);
-    let room = room!(out_offsets, out_indices, out_values, out_places);
-    write_combination::<W64>(alloc, pair!(Sum, a, b), room)
+    write_combination::<W64>(
+        alloc,
+        pair!(Sum, a, b),
+        out_offsets,
+        out_indices,
+        out_values,
+        out_places,
+    )
 }
 
 /// Writes the difference of two matrices by rows, on the union of their places.
@@ -74,30 +65,23 @@ pub extern "C" fn nalgebra_sparse_subtract(
     out_values: &mut [i64],
     out_places: &mut usize,
 ) -> i32
-    ensures written { let a = arrays_of rows cols a_offsets.now a_indices.now a_values.now in
+    ensures answered { let a = arrays_of rows cols a_offsets.now a_indices.now a_values.now in
         let b = arrays_of rows cols b_offsets.now b_indices.now b_values.now in
-        result ≡ pos 0 → HoldsRows
+        WritesRows (IsSound a × IsSound b) (IsFaultOfPair a b)
         (plain_difference ring64 (plain_by_rows ring64 a) (plain_by_rows ring64 b))
-        (room_of out_offsets.new out_indices.new out_values.new out_places.new) }
-    ensures rest { result ≡ pos 0 → KeepsRest rows
         (room_of out_offsets.old out_indices.old out_values.old out_places.old)
-        (room_of out_offsets.new out_indices.new out_values.new out_places.new) }
-    ensures sound { FindsNoFault result
-        → IsSound (arrays_of rows cols a_offsets.now a_indices.now a_values.now)
-        × IsSound (arrays_of rows cols b_offsets.now b_indices.now b_values.now) }
-    ensures untouched { result ≢ pos 0
-        → room_of out_offsets.new out_indices.new out_values.new out_places.new
-        ≡ room_of out_offsets.old out_indices.old out_values.old out_places.old }
-    ensures refused { let a = arrays_of rows cols a_offsets.now a_indices.now a_values.now in
-        let b = arrays_of rows cols b_offsets.now b_indices.now b_values.now in
-        result ≢ pos 0 → IsRefused (IsFaultOfPair a b)
-        (plain_difference ring64 (plain_by_rows ring64 a) (plain_by_rows ring64 b))
-        (room_of out_offsets.old out_indices.old out_values.old out_places.old) result }
+        (room_of out_offsets.new out_indices.new out_values.new out_places.new) result }
 {
     let a = lanes!(rows, cols, a_offsets, a_indices, a_values);
     let b = lanes!(rows, cols, b_offsets, b_indices, b_values);
-    let room = room!(out_offsets, out_indices, out_values, out_places);
-    write_combination::<W64>(alloc, pair!(Difference, a, b), room)
+    write_combination::<W64>(
+        alloc,
+        pair!(Difference, a, b),
+        out_offsets,
+        out_indices,
+        out_values,
+        out_places,
+    )
 }
 
 /// Writes the sum of `alpha` times a matrix by rows and `beta` times another, on the union of their places.
@@ -119,30 +103,22 @@ pub extern "C" fn nalgebra_sparse_add_scaled(
     out_values: &mut [i64],
     out_places: &mut usize,
 ) -> i32
-    ensures written { let a = arrays_of rows cols a_offsets.now a_indices.now a_values.now in
+    ensures answered { let a = arrays_of rows cols a_offsets.now a_indices.now a_values.now in
         let b = arrays_of rows cols b_offsets.now b_indices.now b_values.now in
-        result ≡ pos 0 → HoldsRows
+        WritesRows (IsSound a × IsSound b) (IsFaultOfPair a b)
         (plain_sum ring64 (plain_scaled ring64 (element_of ring64 alpha) (plain_by_rows ring64 a))
         (plain_scaled ring64 (element_of ring64 beta) (plain_by_rows ring64 b)))
-        (room_of out_offsets.new out_indices.new out_values.new out_places.new) }
-    ensures rest { result ≡ pos 0 → KeepsRest rows
         (room_of out_offsets.old out_indices.old out_values.old out_places.old)
-        (room_of out_offsets.new out_indices.new out_values.new out_places.new) }
-    ensures sound { FindsNoFault result
-        → IsSound (arrays_of rows cols a_offsets.now a_indices.now a_values.now)
-        × IsSound (arrays_of rows cols b_offsets.now b_indices.now b_values.now) }
-    ensures untouched { result ≢ pos 0
-        → room_of out_offsets.new out_indices.new out_values.new out_places.new
-        ≡ room_of out_offsets.old out_indices.old out_values.old out_places.old }
-    ensures refused { let a = arrays_of rows cols a_offsets.now a_indices.now a_values.now in
-        let b = arrays_of rows cols b_offsets.now b_indices.now b_values.now in
-        result ≢ pos 0 → IsRefused (IsFaultOfPair a b)
-        (plain_sum ring64 (plain_scaled ring64 (element_of ring64 alpha) (plain_by_rows ring64 a))
-        (plain_scaled ring64 (element_of ring64 beta) (plain_by_rows ring64 b)))
-        (room_of out_offsets.old out_indices.old out_values.old out_places.old) result }
+        (room_of out_offsets.new out_indices.new out_values.new out_places.new) result }
 {
     let a = lanes!(rows, cols, a_offsets, a_indices, a_values);
     let b = lanes!(rows, cols, b_offsets, b_indices, b_values);
-    let room = room!(out_offsets, out_indices, out_values, out_places);
-    write_combination::<W64>(alloc, pair!(Multiples, alpha, a, beta, b), room)
+    write_combination::<W64>(
+        alloc,
+        pair!(Multiples, alpha, a, beta, b),
+        out_offsets,
+        out_indices,
+        out_values,
+        out_places,
+    )
 }

@@ -1,16 +1,16 @@
 //! Sums and differences modulo a listed number.
 
-ghost use Rattle.std.specs.Prelude.{◌≡◌, ◌≢◌, pos};
+ghost use Rattle.std.specs.Prelude.{◌≡◌, pos};
 ghost use Rattle.sparse_algebra.specs.Integers.{element_of};
 ghost use Rattle.sparse_algebra.specs.Moduli.{mod_ring};
 ghost use Rattle.sparse_algebra.specs.Plain.{plain_sum, plain_difference, plain_scaled};
 ghost use Rattle.sparse_cs.specs.Compressed.{arrays_of, IsSound};
 ghost use Rattle.sparse_c.specs.Moduli.{moduli, IsFaultModulo, IsNoneOf};
-ghost use Rattle.sparse_c_views.specs.Arrays.{plain_by_rows, room_of, HoldsRows};
+ghost use Rattle.sparse_c_views.specs.Arrays.{plain_by_rows, room_of};
 ghost use Rattle.sparse_c_views.specs.Reduced.{AreReduced};
-ghost use Rattle.sparse_c_views.specs.Refused.{IsFaultOfPair, IsRefused};
-ghost use Rattle.sparse_c_views.specs.Rests.{KeepsRest};
-ghost use Rattle.sparse_c_views.specs.Statuses.{number_of, FindsNoFault};
+ghost use Rattle.sparse_c_views.specs.Refused.{IsFaultOfPair};
+ghost use Rattle.sparse_c_views.specs.Statuses.{number_of};
+ghost use Rattle.sparse_c_views.specs.Written.{WritesRows};
 ghost use Rattle.sparse_c_views.specs.declared.refusal.Refusal.TheVariants.{UnknownChoice};
 
 use crate::arguments::{lanes, pair};
@@ -35,29 +35,15 @@ pub extern "C" fn nalgebra_sparse_add_mod(
     out_values: &mut [i64],
     out_places: &mut usize,
 ) -> i32
-    ensures written { let a = arrays_of rows cols a_offsets.now a_indices.now a_values.now in
+    ensures answered { let a = arrays_of rows cols a_offsets.now a_indices.now a_values.now in
         let b = arrays_of rows cols b_offsets.now b_indices.now b_values.now in
         let ring = mod_ring modulus in
-        result ≡ pos 0 → HoldsRows
+        WritesRows (IsSound a × IsSound b) (IsFaultModulo modulus (IsFaultOfPair a b))
         (plain_sum ring (plain_by_rows ring a) (plain_by_rows ring b))
-        (room_of out_offsets.new out_indices.new out_values.new out_places.new) }
+        (room_of out_offsets.old out_indices.old out_values.old out_places.old)
+        (room_of out_offsets.new out_indices.new out_values.new out_places.new) result }
     ensures reduced { result ≡ pos 0 → AreReduced modulus out_places.new out_values.new }
     ensures unlisted { IsNoneOf moduli modulus → result ≡ number_of UnknownChoice }
-    ensures rest { result ≡ pos 0 → KeepsRest rows
-        (room_of out_offsets.old out_indices.old out_values.old out_places.old)
-        (room_of out_offsets.new out_indices.new out_values.new out_places.new) }
-    ensures sound { FindsNoFault result
-        → IsSound (arrays_of rows cols a_offsets.now a_indices.now a_values.now)
-        × IsSound (arrays_of rows cols b_offsets.now b_indices.now b_values.now) }
-    ensures untouched { result ≢ pos 0
-        → room_of out_offsets.new out_indices.new out_values.new out_places.new
-        ≡ room_of out_offsets.old out_indices.old out_values.old out_places.old }
-    ensures refused { let a = arrays_of rows cols a_offsets.now a_indices.now a_values.now in
-        let b = arrays_of rows cols b_offsets.now b_indices.now b_values.now in
-        let ring = mod_ring modulus in
-        result ≢ pos 0 → IsRefused (IsFaultModulo modulus (IsFaultOfPair a b))
-        (plain_sum ring (plain_by_rows ring a) (plain_by_rows ring b))
-        (room_of out_offsets.old out_indices.old out_values.old out_places.old) result }
 {
     let a = lanes!(rows, cols, a_offsets, a_indices, a_values);
     let b = lanes!(rows, cols, b_offsets, b_indices, b_values);
@@ -90,29 +76,15 @@ pub extern "C" fn nalgebra_sparse_subtract_mod(
     out_values: &mut [i64],
     out_places: &mut usize,
 ) -> i32
-    ensures written { let a = arrays_of rows cols a_offsets.now a_indices.now a_values.now in
+    ensures answered { let a = arrays_of rows cols a_offsets.now a_indices.now a_values.now in
         let b = arrays_of rows cols b_offsets.now b_indices.now b_values.now in
         let ring = mod_ring modulus in
-        result ≡ pos 0 → HoldsRows
+        WritesRows (IsSound a × IsSound b) (IsFaultModulo modulus (IsFaultOfPair a b))
         (plain_difference ring (plain_by_rows ring a) (plain_by_rows ring b))
-        (room_of out_offsets.new out_indices.new out_values.new out_places.new) }
+        (room_of out_offsets.old out_indices.old out_values.old out_places.old)
+        (room_of out_offsets.new out_indices.new out_values.new out_places.new) result }
     ensures reduced { result ≡ pos 0 → AreReduced modulus out_places.new out_values.new }
     ensures unlisted { IsNoneOf moduli modulus → result ≡ number_of UnknownChoice }
-    ensures rest { result ≡ pos 0 → KeepsRest rows
-        (room_of out_offsets.old out_indices.old out_values.old out_places.old)
-        (room_of out_offsets.new out_indices.new out_values.new out_places.new) }
-    ensures sound { FindsNoFault result
-        → IsSound (arrays_of rows cols a_offsets.now a_indices.now a_values.now)
-        × IsSound (arrays_of rows cols b_offsets.now b_indices.now b_values.now) }
-    ensures untouched { result ≢ pos 0
-        → room_of out_offsets.new out_indices.new out_values.new out_places.new
-        ≡ room_of out_offsets.old out_indices.old out_values.old out_places.old }
-    ensures refused { let a = arrays_of rows cols a_offsets.now a_indices.now a_values.now in
-        let b = arrays_of rows cols b_offsets.now b_indices.now b_values.now in
-        let ring = mod_ring modulus in
-        result ≢ pos 0 → IsRefused (IsFaultModulo modulus (IsFaultOfPair a b))
-        (plain_difference ring (plain_by_rows ring a) (plain_by_rows ring b))
-        (room_of out_offsets.old out_indices.old out_values.old out_places.old) result }
 {
     let a = lanes!(rows, cols, a_offsets, a_indices, a_values);
     let b = lanes!(rows, cols, b_offsets, b_indices, b_values);
@@ -147,31 +119,16 @@ pub extern "C" fn nalgebra_sparse_add_scaled_mod(
     out_values: &mut [i64],
     out_places: &mut usize,
 ) -> i32
-    ensures written { let a = arrays_of rows cols a_offsets.now a_indices.now a_values.now in
+    ensures answered { let a = arrays_of rows cols a_offsets.now a_indices.now a_values.now in
         let b = arrays_of rows cols b_offsets.now b_indices.now b_values.now in
         let ring = mod_ring modulus in
-        result ≡ pos 0 → HoldsRows
+        WritesRows (IsSound a × IsSound b) (IsFaultModulo modulus (IsFaultOfPair a b))
         (plain_sum ring (plain_scaled ring (element_of ring alpha) (plain_by_rows ring a))
         (plain_scaled ring (element_of ring beta) (plain_by_rows ring b)))
-        (room_of out_offsets.new out_indices.new out_values.new out_places.new) }
+        (room_of out_offsets.old out_indices.old out_values.old out_places.old)
+        (room_of out_offsets.new out_indices.new out_values.new out_places.new) result }
     ensures reduced { result ≡ pos 0 → AreReduced modulus out_places.new out_values.new }
     ensures unlisted { IsNoneOf moduli modulus → result ≡ number_of UnknownChoice }
-    ensures rest { result ≡ pos 0 → KeepsRest rows
-        (room_of out_offsets.old out_indices.old out_values.old out_places.old)
-        (room_of out_offsets.new out_indices.new out_values.new out_places.new) }
-    ensures sound { FindsNoFault result
-        → IsSound (arrays_of rows cols a_offsets.now a_indices.now a_values.now)
-        × IsSound (arrays_of rows cols b_offsets.now b_indices.now b_values.now) }
-    ensures untouched { result ≢ pos 0
-        → room_of out_offsets.new out_indices.new out_values.new out_places.new
-        ≡ room_of out_offsets.old out_indices.old out_values.old out_places.old }
-    ensures refused { let a = arrays_of rows cols a_offsets.now a_indices.now a_values.now in
-        let b = arrays_of rows cols b_offsets.now b_indices.now b_values.now in
-        let ring = mod_ring modulus in
-        result ≢ pos 0 → IsRefused (IsFaultModulo modulus (IsFaultOfPair a b))
-        (plain_sum ring (plain_scaled ring (element_of ring alpha) (plain_by_rows ring a))
-        (plain_scaled ring (element_of ring beta) (plain_by_rows ring b)))
-        (room_of out_offsets.old out_indices.old out_values.old out_places.old) result }
 {
     let a = lanes!(rows, cols, a_offsets, a_indices, a_values);
     let b = lanes!(rows, cols, b_offsets, b_indices, b_values);

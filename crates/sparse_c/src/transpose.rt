@@ -1,14 +1,13 @@
 //! Transposes.
 
-ghost use Rattle.std.specs.Prelude.{◌≡◌, ◌≢◌, pos, IfOk, IfErr, OnOk};
+ghost use Rattle.std.specs.Prelude.{◌≡◌, IfOk, IfErr, OnOk};
 ghost use Rattle.sparse_cs.specs.Compressed.{arrays_of, IsSound};
 ghost use Rattle.sparse_cs.specs.PlainOfLanes.{plain_of_rows};
 ghost use Rattle.sparse_algebra.specs.Plain.{plain_transpose};
 ghost use Rattle.sparse_algebra.specs.WrappingValues.{w64_value};
-ghost use Rattle.sparse_c_views.specs.Arrays.{plain_by_rows, ring64, room_of, HoldsRows};
-ghost use Rattle.sparse_c_views.specs.Refused.{IsFaultOf, IsMemoryOr, IsRefused};
-ghost use Rattle.sparse_c_views.specs.Rests.{KeepsRest};
-ghost use Rattle.sparse_c_views.specs.Statuses.{FindsNoFault};
+ghost use Rattle.sparse_c_views.specs.Arrays.{plain_by_rows, ring64, room_of};
+ghost use Rattle.sparse_c_views.specs.Refused.{IsFaultOf, IsMemoryOr};
+ghost use Rattle.sparse_c_views.specs.Written.{WritesRows};
 
 use crate::arguments::lanes;
 use sparse_algebra::scalar::W64;
@@ -33,22 +32,10 @@ pub extern "C" fn nalgebra_sparse_transpose(
     out_values: &mut [i64],
     out_places: &mut usize,
 ) -> i32
-    ensures written { result ≡ pos 0 → HoldsRows (plain_transpose ring64
-        (plain_by_rows ring64 (arrays_of rows cols offsets.now indices.now values.now)))
-        (room_of out_offsets.new out_indices.new out_values.new out_places.new) }
-    ensures rest { result ≡ pos 0 → KeepsRest cols
+    ensures answered { let a = arrays_of rows cols offsets.now indices.now values.now in
+        WritesRows (IsSound a) (IsFaultOf a) (plain_transpose ring64 (plain_by_rows ring64 a))
         (room_of out_offsets.old out_indices.old out_values.old out_places.old)
-        (room_of out_offsets.new out_indices.new out_values.new out_places.new) }
-    ensures sound { FindsNoFault result
-        → IsSound (arrays_of rows cols offsets.now indices.now values.now) }
-    ensures untouched { result ≢ pos 0
-        → room_of out_offsets.new out_indices.new out_values.new out_places.new
-        ≡ room_of out_offsets.old out_indices.old out_values.old out_places.old }
-    ensures refused { result ≢ pos 0 → IsRefused
-        (IsFaultOf (arrays_of rows cols offsets.now indices.now values.now))
-        (plain_transpose ring64
-        (plain_by_rows ring64 (arrays_of rows cols offsets.now indices.now values.now)))
-        (room_of out_offsets.old out_indices.old out_values.old out_places.old) result }
+        (room_of out_offsets.new out_indices.new out_values.new out_places.new) result }
 {
     let a = lanes!(rows, cols, offsets, indices, values);
     let answer = transposed(alloc, a);

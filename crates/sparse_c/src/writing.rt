@@ -6,7 +6,9 @@ ghost use Rattle.sparse_c.specs.Texts.{text_of_lists};
 ghost use Rattle.sparse_c_views.specs.Lists.{HoldsText};
 ghost use Rattle.sparse_c_views.specs.Refused.{IsFaultOfList, IsMemoryOr, IsRefusedFor};
 ghost use Rattle.sparse_c_views.specs.Rests.{KeepsBehind};
-ghost use Rattle.sparse_c_views.specs.Statuses.{FindsNoFault};
+ghost use Rattle.sparse_c_views.specs.Statuses.{number_of, FindsNoFault};
+ghost use Rattle.sparse_c_views.specs.Untouched.{KeepsSize};
+ghost use Rattle.sparse_c_views.specs.declared.refusal.Refusal.TheVariants.{TooSmall};
 
 use sparse_base::coo::CooMatrix;
 use sparse_c_views::refusal::Refusal;
@@ -61,7 +63,9 @@ pub extern "C" fn nalgebra_sparse_write(
     ensures sound { FindsNoFault result
         → AreParts rows cols row_indices.now col_indices.now values.now }
     ensures untouched { result ≢ pos 0
-        → (out_text.new ≡ out_text.old) × (out_length.new ≡ out_length.old) }
+        → (out_text.new ≡ out_text.old) × KeepsSize result out_length.old out_length.new }
+    ensures needed { result ≡ number_of TooSmall → out_length.new
+        ≡ length (text_of_lists rows cols row_indices.now col_indices.now values.now) }
     ensures refused { result ≢ pos 0 → IsRefusedFor
         (IsFaultOfList rows cols row_indices.now col_indices.now values.now)
         (length out_text.old

@@ -9,6 +9,7 @@ use Rattle.sparse_c_views.specs.Refused.{IsFaultOf, IsFaultOfList, IsFaultOfPair
 use Rattle.sparse_c_views.specs.Refused.{IsFaultOfSystem, IsMemoryOr}
 use Rattle.sparse_c_views.specs.Statuses.{number_of, refusal_of, FindsNoFault}
 use Rattle.sparse_c_views.specs.declared.refusal.Refusal.{Refusal}
+use Rattle.sparse_c_views.specs.declared.refusal.Refusal.TheVariants.{OutOfMemory}
 
 -- any other number is the status of a fault
 pub other : (n : ℕ) → n ≢ 0 → n ≢ 5 → n ≢ 6 → FindsNoFault (pos n) → ⊥
@@ -22,7 +23,7 @@ other n zero small singular told = elim told [
 
 -- ---- a refusal for a fault has such a status
 
-kind_told : (kind : SparseFormatErrorKind) → FindsNoFault (number_of (refusal_of kind)) → ⊥
+pub kind_told : (kind : SparseFormatErrorKind) → FindsNoFault (number_of (refusal_of kind)) → ⊥
 kind_told kinds.OutOfMemory = other 1 (omega arith) (omega arith) (omega arith)
 kind_told kinds.InvalidStructure = other 2 (omega arith) (omega arith) (omega arith)
 kind_told kinds.IndexOutOfBounds = other 3 (omega arith) (omega arith) (omega arith)
@@ -32,6 +33,9 @@ told_of : (kind : SparseFormatErrorKind) (e : Refusal) → e ≡ refusal_of kind
     → FindsNoFault (number_of e) → ⊥
 told_of kind e is told =
     kind_told kind (subst (λ (r : Refusal). FindsNoFault (number_of r)) is told)
+
+pub memory_told : (e : Refusal) → e ≡ OutOfMemory → FindsNoFault (number_of e) → ⊥
+memory_told e memory = told_of kinds.OutOfMemory e memory
 
 pub matrix_told : (m : Compressed ℤ) (e : Refusal) → IsFaultOf m e → FindsNoFault (number_of e) → ⊥
 matrix_told m e fault = told_of fault.kind e fault.is

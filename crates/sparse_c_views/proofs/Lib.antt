@@ -1,3 +1,4 @@
+pub mod Answering
 pub mod Faultless
 pub mod Holding
 pub mod Joining

@@ -4,3 +4,5 @@ pub mod Reduced
 pub mod Refused
 pub mod Rests
 pub mod Statuses
+pub mod Untouched
+pub mod Written

@@ -1,6 +1,6 @@
 //! Coordinate lists written into arrays that C lends.
 
-ghost use Rattle.std.specs.Prelude.{◌≡◌, ◌≢◌, pos, MatchResult};
+ghost use Rattle.std.specs.Prelude.{◌≡◌, ◌≢◌, length, pos, IfOk, MatchResult, OnErr};
 ghost use Rattle.sparse_algebra.specs.Numbers.{w64_number};
 ghost use Rattle.sparse_parser.specs.Meaning.{values_of};
 ghost use Rattle.sparse_c_views.specs.Lists.{list_room_of, HoldsList, IsListTooSmall};
@@ -14,7 +14,7 @@ use sparse_algebra::scalar::W64;
 use sparse_base::coo::CooMatrix;
 
 /// Writes the triplets of an answer into arrays, and their number. Returns the status of the call: 0, or that of the
-/// refusal; the arrays are then unchanged.
+/// refusal; the arrays are then unchanged. Where they are too small, the number of triplets is written alone.
 ///
 /// An array may be longer than the list needs.
 pub fn finish_list(
@@ -29,8 +29,10 @@ pub fn finish_list(
     ensures rest { result ≡ pos 0 → KeepsListRest
         (list_room_of rows.old cols.old values.old count.old)
         (list_room_of rows.new cols.new values.new count.new) }
-    ensures untouched { result ≢ pos 0 → list_room_of rows.new cols.new values.new count.new
+    ensures untouched { result ≢ pos 0 → list_room_of rows.new cols.new values.new count.old
         ≡ list_room_of rows.old cols.old values.old count.old }
+    ensures needed { result ≢ pos 0 → IfOk answer (λ m. count.new ≡ length (values_of w64_number m).triplets) }
+    ensures kept { OnErr answer (count.new ≡ count.old) }
     ensures refused { result ≢ pos 0 → MatchResult answer
         (λ m. (result ≡ number_of TooSmall) × IsListTooSmall (values_of w64_number m)
         (list_room_of rows.old cols.old values.old count.old))
@@ -42,7 +44,7 @@ pub fn finish_list(
     }
 }
 
-// Writes triplets into arrays, and their number.
+// Writes triplets into arrays that have room for them, and their number in any case.
 fn write_list(
     list: &CooMatrix<W64>,
     rows: &mut [usize],
@@ -55,13 +57,15 @@ fn write_list(
     ensures rest { result ≡ pos 0 → KeepsListRest
         (list_room_of rows.old cols.old values.old count.old)
         (list_room_of rows.new cols.new values.new count.new) }
-    ensures untouched { result ≢ pos 0 → list_room_of rows.new cols.new values.new count.new
+    ensures untouched { result ≢ pos 0 → list_room_of rows.new cols.new values.new count.old
         ≡ list_room_of rows.old cols.old values.old count.old }
+    ensures counted { count.new ≡ length (values_of w64_number list.now).triplets }
     ensures small { result ≢ pos 0 → IsListTooSmall (values_of w64_number list.now)
         (list_room_of rows.old cols.old values.old count.old) }
     ensures status { result ≢ pos 0 → result ≡ number_of TooSmall }
 {
     let triplets = list.nnz();
+    *count = triplets;
     if rows.len() < triplets {
         return Refusal::TooSmall.status();
     }
@@ -74,6 +78,5 @@ fn write_list(
     put_items(rows, list.row_indices());
     put_items(cols, list.col_indices());
     put_numbers(values, list.values());
-    *count = triplets;
     0
 }

@@ -1,6 +1,6 @@
 //! Patterns written into arrays that C lends.
 
-ghost use Rattle.std.specs.Prelude.{◌≡◌, ◌≢◌, pos, MatchResult};
+ghost use Rattle.std.specs.Prelude.{◌≡◌, ◌≢◌, length, pos, IfOk, MatchResult, OnErr};
 ghost use Rattle.sparse_c_views.specs.Arrays.{pattern_room_of, HoldsPattern};
 ghost use Rattle.sparse_c_views.specs.Refused.{IsPatternTooSmall};
 ghost use Rattle.sparse_c_views.specs.Rests.{KeepsPatternRest};
@@ -12,7 +12,7 @@ use crate::scalars::put_items;
 use sparse_pattern::pattern::SparsityPattern;
 
 /// Writes the pattern of an answer into arrays, and its number of places. Returns the status of the call: 0, or that of
-/// the refusal; the arrays are then unchanged.
+/// the refusal; the arrays are then unchanged. Where they are too small, the number of places is written alone.
 ///
 /// An array may be longer than the pattern needs.
 pub fn finish_pattern(
@@ -26,8 +26,10 @@ pub fn finish_pattern(
     ensures rest { result ≡ pos 0 → MatchResult answer (λ d. KeepsPatternRest d.major_dim
         (pattern_room_of offsets.old indices.old places.old)
         (pattern_room_of offsets.new indices.new places.new)) (λ _. ⊥) }
-    ensures untouched { result ≢ pos 0 → pattern_room_of offsets.new indices.new places.new
+    ensures untouched { result ≢ pos 0 → pattern_room_of offsets.new indices.new places.old
         ≡ pattern_room_of offsets.old indices.old places.old }
+    ensures needed { result ≢ pos 0 → IfOk answer (λ d. places.new ≡ length d.indices) }
+    ensures kept { OnErr answer (places.new ≡ places.old) }
     ensures refused { result ≢ pos 0 → MatchResult answer
         (λ d. (result ≡ number_of TooSmall)
         × IsPatternTooSmall d (pattern_room_of offsets.old indices.old places.old))
@@ -39,7 +41,7 @@ pub fn finish_pattern(
     }
 }
 
-// Writes a pattern into arrays, and its number of places.
+// Writes a pattern into arrays that have room for it, and its number of places in any case.
 fn write_pattern(
     pattern: &SparsityPattern,
     offsets: &mut [usize],
@@ -51,14 +53,16 @@ fn write_pattern(
     ensures rest { result ≡ pos 0 → KeepsPatternRest pattern.now.major_dim
         (pattern_room_of offsets.old indices.old places.old)
         (pattern_room_of offsets.new indices.new places.new) }
-    ensures untouched { result ≢ pos 0 → pattern_room_of offsets.new indices.new places.new
+    ensures untouched { result ≢ pos 0 → pattern_room_of offsets.new indices.new places.old
         ≡ pattern_room_of offsets.old indices.old places.old }
+    ensures counted { places.new ≡ length pattern.now.indices }
     ensures small { result ≢ pos 0 → IsPatternTooSmall pattern.now
         (pattern_room_of offsets.old indices.old places.old) }
     ensures status { result ≢ pos 0 → result ≡ number_of TooSmall }
 {
     let (from_offsets, from_indices) = (pattern.major_offsets(), pattern.minor_indices());
     let count = from_indices.len();
+    *places = count;
     if offsets.len() < from_offsets.len() {
         return Refusal::TooSmall.status();
     }
@@ -67,6 +71,5 @@ fn write_pattern(
     }
     put_items(offsets, from_offsets);
     put_items(indices, from_indices);
-    *places = count;
     0
 }

@@ -1,9 +1,9 @@
 //! Results written into arrays that C lends, with the status of the call.
 
-ghost use Rattle.std.specs.Prelude.{◌≡◌, ◌≢◌, ◌*◌, ◌<◌, length, pos, MatchResult};
+ghost use Rattle.std.specs.Prelude.{◌≡◌, ◌≢◌, ◌*◌, ◌<◌, length, pos, IfOk, MatchResult, OnErr};
 ghost use Rattle.sparse_cs.specs.PlainOfLanes.{plain_of_rows};
 ghost use Rattle.sparse_base.specs.DensePlain.{plain_of_dense};
-ghost use Rattle.sparse_c_views.specs.Arrays.{room_of, HoldsDense, HoldsRows};
+ghost use Rattle.sparse_c_views.specs.Arrays.{places_of, room_of, HoldsDense, HoldsRows};
 ghost use Rattle.sparse_c_views.specs.Reduced.{FirstAre};
 ghost use Rattle.sparse_c_views.specs.Refused.{IsTooSmall};
 ghost use Rattle.sparse_c_views.specs.Rests.{KeepsBehind, KeepsRest};
@@ -17,7 +17,7 @@ use sparse_base::dense::DMatrix;
 use sparse_forms::csr::CsrMatrix;
 
 /// Writes the matrix of an answer into arrays by rows, and its number of places. Returns the status of the call: 0, or
-/// that of the refusal; the arrays are then unchanged.
+/// that of the refusal; the arrays are then unchanged. Where they are too small, the number of places is written alone.
 ///
 /// An array may be longer than the matrix needs.
 pub fn finish_rows<T: Number>(
@@ -34,21 +34,24 @@ pub fn finish_rows<T: Number>(
         (room_of offsets.old indices.old values.old places.old)
         (room_of offsets.new indices.new values.new places.new)) (λ _. ⊥) }
     ensures shown { result ≡ pos 0 → FirstAre T.is_shown places.new values.new }
-    ensures untouched { result ≢ pos 0 → room_of offsets.new indices.new values.new places.new
+    ensures untouched { result ≢ pos 0 → room_of offsets.new indices.new values.new places.old
         ≡ room_of offsets.old indices.old values.old places.old }
+    ensures needed { result ≢ pos 0
+        → IfOk answer (λ m. places.new ≡ places_of (plain_of_rows T.ring T.value m)) }
+    ensures kept { OnErr answer (places.new ≡ places.old) }
     ensures refused { result ≢ pos 0 → MatchResult answer
         (λ m. (result ≡ number_of TooSmall) × IsTooSmall (plain_of_rows T.ring T.value m)
         (room_of offsets.old indices.old values.old places.old))
         (λ refusal. result ≡ number_of refusal) }
 {
     match answer {
-        Ok(matrix) => write_rows(&matrix, offsets, indices, values, places),
+        Ok(matrix) => write_rows_or_count(&matrix, offsets, indices, values, places),
         Err(refusal) => refusal.status(),
     }
 }
 
-/// Writes a matrix by rows into arrays, and its number of places. Returns 0, or the status of arrays that are too small;
-/// they are then unchanged.
+/// Writes a matrix by rows into arrays, and its number of places. Returns 0, or the status of arrays that are too
+/// small; they are then unchanged.
 pub fn write_rows<T: Number>(
     matrix: &CsrMatrix<T>,
     offsets: &mut [usize],
@@ -85,6 +88,37 @@ pub fn write_rows<T: Number>(
     put_scalars(values, from_values);
     *places = count;
     0
+}
+
+/// Writes a matrix by rows as [`write_rows`] does. Where an array is too small, writes the number of places alone, the
+/// size that is needed.
+pub fn write_rows_or_count<T: Number>(
+    matrix: &CsrMatrix<T>,
+    offsets: &mut [usize],
+    indices: &mut [usize],
+    values: &mut [i64],
+    places: &mut usize,
+) -> i32
+    ensures written { result ≡ pos 0
+        → HoldsRows (plain_of_rows T.ring T.value matrix.now)
+        (room_of offsets.new indices.new values.new places.new) }
+    ensures rest { result ≡ pos 0 → KeepsRest matrix.now.pattern.major_dim
+        (room_of offsets.old indices.old values.old places.old)
+        (room_of offsets.new indices.new values.new places.new) }
+    ensures shown { result ≡ pos 0 → FirstAre T.is_shown places.new values.new }
+    ensures untouched { result ≢ pos 0 → room_of offsets.new indices.new values.new places.old
+        ≡ room_of offsets.old indices.old values.old places.old }
+    ensures needed { result ≢ pos 0
+        → places.new ≡ places_of (plain_of_rows T.ring T.value matrix.now) }
+    ensures small { result ≢ pos 0 → IsTooSmall (plain_of_rows T.ring T.value matrix.now)
+        (room_of offsets.old indices.old values.old places.old) }
+    ensures status { result ≢ pos 0 → result ≡ number_of TooSmall }
+{
+    let status = write_rows(matrix, offsets, indices, values, places);
+    if status != 0 {
+        *places = matrix.nnz();
+    }
+    status
 }
 
 /// Writes the dense matrix of an answer into an array, column by column. Returns the status of the call: 0, or that of

@@ -1,6 +1,7 @@
-use Rattle.std.proofs.Common.{◌≡◌, ◌∙◌, refl, rules, to_z, of_z}
+use Rattle.std.proofs.Common.{◌≡◌, inl, inr, ◌∙◌, refl, rules, to_z, of_z}
 use Rattle.std.specs.Int.{w32}
 use Rattle.sparse_c.specs.Moduli.{moduli, IsNoneOf}
+use Rattle.sparse_c.proofs.Accepting.{choice_told}
 use Rattle.sparse_c.proofs.Listed.{unlisted_refused}
 use Rattle.sparse_c.proofs.division.write_by_modulus.Goals as goal
 
@@ -8,11 +9,15 @@ pub returns-in_default-clause-answered : goal.returns-in_default-clause-answered
 returns-in_default-clause-answered c =
     let same : to_z w32 (of_z w32 c.status.result) ≡ c.status.result = search rules in
     let none : IsNoneOf moduli c.args.quotient.modulus = search rules in
+    let never = choice_told _ (same ∙ c.status.ensures) in
     record {
-      written = search rules;
-      reduced = search rules;
-      rest = search rules;
-      sound = search rules;
-      untouched = λ _. refl;
-      refused = λ _. unlisted_refused c.args.quotient.modulus _ (same ∙ c.status.ensures) none;
+      answer = record {
+        written = λ h. absurd (never (inl h));
+        rest = λ h. absurd (never (inl h));
+        sound = λ found. absurd (never found);
+        untouched = λ _. (refl, λ _. refl);
+        needed = λ small. absurd (never (inr (inl small)));
+        refused = λ _. unlisted_refused c.args.quotient.modulus _ (same ∙ c.status.ensures) none;
+      };
+      reduced = λ h. absurd (never (inl h));
     }

@@ -1,41 +1,27 @@
-use Rattle.std.proofs.Common.{◌≡◌, sym, ◌∙◌, refl, rules, to_z, of_z}
+use Rattle.std.proofs.Common.{◌≡◌, rules, to_z, of_z}
 use Rattle.std.specs.Int.{w32}
+use Rattle.sparse_algebra.specs.Plain.{plain_transpose}
 use Rattle.sparse_algebra.specs.WrappingValues.{w64_value}
-use Rattle.sparse_c_views.specs.Arrays.{ring64, room_of}
-use Rattle.sparse_c_views.proofs.Faultless.{accepted, matrix_told}
-use Rattle.sparse_c_views.proofs.Joining.{rows_written, rows_refused, rows_rest}
+use Rattle.sparse_cs.specs.Compressed.{arrays_of}
+use Rattle.sparse_c_views.proofs.Answering.{rows_answered, seen_rows}
+use Rattle.sparse_c_views.proofs.Faultless.{matrix_told}
+use Rattle.sparse_c_views.specs.Arrays.{plain_by_rows, ring64, room_of}
 use Rattle.sparse_c.proofs.transpose.nalgebra_sparse_transpose.Goals as goal
 
-pub returns-clause-written : goal.returns-clause-written
-returns-clause-written c = λ h.
-    let same : to_z w32 (of_z w32 c.finish_rows.result) ≡ c.finish_rows.result = search rules in
+pub returns : goal.returns
+returns c =
+    let status = c.finish_rows.result in
+    let same : to_z w32 (of_z w32 status) ≡ status = search rules in
+    let x = c.args in
+    let a = arrays_of x.rows x.cols x.offsets.now x.indices.now x.values.now in
+    let p = plain_transpose ring64 (plain_by_rows ring64 a) in
+    let made = c.transposed-answer.ensures in
+    let ended = c.finish_rows.ensures in
     let new = c.finish_rows.new in
-    rows_written ring64 w64_value _ _ refl c.transposed-answer.result
-    c.transposed-answer.ensures.plain (room_of new.offsets new.indices new.values new.places)
-    (c.finish_rows.ensures.written (sym same ∙ h))
-
-pub returns-clause-rest : goal.returns-clause-rest
-returns-clause-rest c = λ h.
-    let same : to_z w32 (of_z w32 c.finish_rows.result) ≡ c.finish_rows.result = search rules in
-    let new = c.finish_rows.new in
-    rows_rest ring64 w64_value _ _ refl c.transposed-answer.result c.transposed-answer.ensures.plain
-    (room_of c.args.out_offsets.now c.args.out_indices.now c.args.out_values.now
-    c.args.out_places.now)
-    (room_of new.offsets new.indices new.values new.places)
-    (c.finish_rows.ensures.rest (sym same ∙ h))
-
-pub returns-clause-sound : goal.returns-clause-sound
-returns-clause-sound c =
-    let same : to_z w32 (of_z w32 c.finish_rows.result) ≡ c.finish_rows.result = search rules in
-    accepted _ _ c.transposed-answer.result c.finish_rows.result _ same c.transposed-answer.ensures.sound
-    c.transposed-answer.ensures.fault (λ e fault told. absurd (matrix_told _ e fault told))
-    c.finish_rows.ensures.written c.finish_rows.ensures.refused
-
-pub returns-clause-refused : goal.returns-clause-refused
-returns-clause-refused c = λ h.
-    let same : to_z w32 (of_z w32 c.finish_rows.result) ≡ c.finish_rows.result = search rules in
-    rows_refused ring64 w64_value _ _ refl c.transposed-answer.result
-    c.transposed-answer.ensures.plain (room_of c.args.out_offsets.now c.args.out_indices.now
-    c.args.out_values.now c.args.out_places.now) c.finish_rows.result _ same
-    c.transposed-answer.ensures.fault (λ e given. given)
-    (c.finish_rows.ensures.refused (λ e. h (same ∙ e)))
+    let old = room_of x.out_offsets.now x.out_indices.now x.out_values.now x.out_places.now in
+    let left = room_of new.offsets new.indices new.values new.places in
+    record {
+      answered = seen_rows same (rows_answered ring64 w64_value p (matrix_told a) old left status
+          c.transposed-answer.result made.plain made.sound made.fault ended.written ended.rest
+          ended.untouched ended.needed ended.kept ended.refused);
+    }

@@ -1,6 +1,7 @@
-use Rattle.std.proofs.Common.{◌≡◌, ℕ, ◌<◌, List, length, sym, subst, ◌∙◌, rules, to_z, of_z}
+use Rattle.std.proofs.Common.{◌≡◌, ℕ, ◌<◌, List, length, inl, inr, ap, sym, subst, ◌∙◌, rules, to_z, of_z}
 use Rattle.std.specs.Int.{w32}
 use Rattle.sparse_c_views.specs.Lists.{HoldsText}
+use Rattle.sparse_c_views.proofs.Answering.{size_kept, size_told}
 use Rattle.sparse_c_views.proofs.Faultless.{accepted, list_told}
 use Rattle.sparse_c_views.proofs.Joining.{found, refused}
 use Rattle.sparse_c.proofs.writing.nalgebra_sparse_write.Goals as goal
@@ -29,3 +30,24 @@ returns-clause-refused c = λ h.
     same c.text_of_list-answer.ensures.fault (λ e given. given)
     (λ text p small. subst (λ (t : List ℕ). length c.args.out_text.now < length t) p small)
     (c.finish_text.ensures.refused (λ e. h (same ∙ e)))
+
+pub returns-clause-untouched : goal.returns-clause-untouched
+returns-clause-untouched c = λ h.
+    let same : to_z w32 (of_z w32 c.finish_text.result) ≡ c.finish_text.result = search rules in
+    let ended = c.finish_text.ensures in (
+      ended.untouched (λ e. h (same ∙ e)),
+      λ other. size_kept _ c.finish_text.result c.text_of_list-answer.result c.args.out_length.now
+          c.finish_text.new.size ended.kept ended.refused (λ e. h (same ∙ e))
+          (λ small. other (same ∙ small)),
+    )
+
+pub returns-clause-needed : goal.returns-clause-needed
+returns-clause-needed c = λ small.
+    let same : to_z w32 (of_z w32 c.finish_text.result) ≡ c.finish_text.result = search rules in
+    let x = c.args in
+    let ended = c.finish_text.ensures in
+    let made = c.text_of_list-answer.ensures in
+    let p = size_told _ c.finish_text.result c.text_of_list-answer.result
+    (λ e fault is. list_told x.rows x.cols x.row_indices.now x.col_indices.now x.values.now e fault
+    (inr (inl is))) made.text made.fault ended.needed ended.refused (sym same ∙ small) in
+    p.1.1 ∙ ap length p.1.0

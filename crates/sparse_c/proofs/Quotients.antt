@@ -1,0 +1,106 @@
+-- Quotients by an integer, and the arrays that hold them.
+use Rattle.std.proofs.Common.{◌≡◌, ◌≢◌, ℕ, ℤ, pos, Result, inr, ap, sym, subst, refl}
+use Rattle.std.specs.Prelude.{IfOk, IfErr, MatchResult, OnErr, OnOk}
+use Rattle.sparse_algebra.specs.Algebra.{CommRing}
+use Rattle.sparse_algebra.specs.Integers.{element_of}
+use Rattle.sparse_algebra.specs.ModNumbers.{mod_value}
+use Rattle.sparse_algebra.specs.Moduli.{mod_ring}
+use Rattle.sparse_algebra.specs.Plain.{Plain}
+use Rattle.sparse_cs.specs.Compressed.{Compressed, IsSound}
+use Rattle.sparse_cs.specs.PlainOfLanes.{plain_of_rows}
+use Rattle.sparse_c.specs.Solved.{Divides, IsFaultOfQuotient, IsQuotientBy, WritesQuotient}
+use Rattle.sparse_c.specs.Moduli.{IsFaultModulo}
+use Rattle.sparse_c.proofs.Accepting.{quotient_large, quotient_told}
+use Rattle.sparse_c.proofs.Listed.{widened}
+use Rattle.sparse_c_views.specs.Arrays.{places_of, plain_by_rows, room_of, Room, HoldsRows}
+use Rattle.sparse_c_views.specs.Refused.{IsMemoryOr, IsTooSmall}
+use Rattle.sparse_c_views.specs.Rests.{KeepsRest}
+use Rattle.sparse_c_views.specs.Statuses.{number_of}
+use Rattle.sparse_c_views.specs.declared.refusal.Refusal.{Refusal}
+use Rattle.sparse_c_views.specs.declared.refusal.Refusal.TheVariants.{TooSmall}
+use Rattle.sparse_c_views.proofs.Answering.{size_kept, size_told}
+use Rattle.sparse_c_views.proofs.Faultless.{accepted}
+use Rattle.sparse_c_views.proofs.Joining.{found, refused as refused_for}
+
+module _ (R : CommRing) {T : Type 0} (f : T → R.Carrier) (a : Compressed ℤ) (divisor : ℤ)
+    (before after : Room) (status : ℤ) where
+  pub quotient_answered : (answer : Result (Compressed T) Refusal)
+      → IfOk answer
+      (λ m. IsQuotientBy R (element_of R divisor) (plain_of_rows R f m) (plain_by_rows R a))
+      → OnOk answer (IsSound a) → IfErr answer (IsMemoryOr (IsFaultOfQuotient R f a divisor))
+      → (status ≡ pos 0
+      → MatchResult answer (λ m. HoldsRows (plain_of_rows R f m) after) (λ _. ⊥))
+      → (status ≡ pos 0
+      → MatchResult answer (λ m. KeepsRest m.pattern.major_dim before after) (λ _. ⊥))
+      → (status ≢ pos 0
+      → room_of after.offsets after.indices after.values before.places ≡ before)
+      → (status ≢ pos 0 → IfOk answer (λ m. after.places ≡ places_of (plain_of_rows R f m)))
+      → OnErr answer (after.places ≡ before.places)
+      → (status ≢ pos 0 → MatchResult answer
+      (λ m. (status ≡ number_of TooSmall) × IsTooSmall (plain_of_rows R f m) before)
+      (λ e. status ≡ number_of e))
+      → Divides R (IsFaultOfQuotient R f a divisor) a divisor before after status
+  unfolding WritesQuotient
+  quotient_answered answer quotient sound fault written rest untouched needed kept why = record {
+    written = λ h.
+        let p = found answer quotient (written h) in
+        (plain_of_rows R f p.0, p.1.0, p.1.1);
+    rest = λ h.
+        let p = found answer quotient (rest h) in
+        subst (λ (n : ℕ). KeepsRest n before after) (ap (λ (x : Plain R). x.rows) p.1.0.2) p.1.1;
+    sound = accepted _ _ answer status status refl sound fault (quotient_told R f a divisor) written
+        why;
+    untouched = λ h. (
+      untouched h,
+      size_kept _ status answer before.places after.places kept why h,
+    );
+    needed = λ small.
+        let p = size_told _ status answer (quotient_large R f a divisor) quotient fault needed why
+        small in
+        (plain_of_rows R f p.0, p.1.0, p.1.1);
+    refused = λ h. refused_for answer quotient status status refl fault (λ e given. given)
+        (λ m p small. (plain_of_rows R f m, p, small)) (why h);
+  }
+
+-- the status as the caller sees it, and the divisor as it was passed
+pub seen_quotient : {R : CommRing} {T : Type 0} {f : T → R.Carrier} {a : Compressed ℤ}
+    {divisor passed : ℤ} {before after : Room} {status seen : ℤ} → divisor ≡ passed → seen ≡ status
+    → Divides R (IsFaultOfQuotient R f a passed) a passed before after status
+    → Divides R (IsFaultOfQuotient R f a divisor) a divisor before after seen
+seen_quotient {R} {T} {f} {a} {divisor} {passed} {before} {after} is same made = subst
+    (λ (s : ℤ × ℤ). Divides R (IsFaultOfQuotient R f a s.0) a s.0 before after s.1)
+    (λ k. (sym is k, sym same k)) made
+
+-- a modulus m that is listed as M
+pub listed_quotient : (m M : ℕ) {a : Compressed ℤ} {divisor passed : ℤ} {before after : Room}
+    {status seen : ℤ} → m ≡ M → divisor ≡ passed → seen ≡ status
+    → Divides (mod_ring M) (IsFaultOfQuotient (mod_ring M) (mod_value {m = M}) a passed) a passed
+    before after status
+    → Divides (mod_ring m)
+    (IsFaultModulo m (IsFaultOfQuotient (mod_ring m) (mod_value {m = m}) a divisor)) a divisor
+    before after seen
+listed_quotient m M {a} {divisor} {passed} {before} {after} {status} {seen} listed is same made =
+    subst (λ (s : ℕ × (ℤ × ℤ)). Divides (mod_ring s.0) (IsFaultModulo m
+    (IsFaultOfQuotient (mod_ring s.0) (mod_value {m = s.0}) a s.1.0)) a s.1.0 before after s.1.1)
+    (λ k. (sym listed k, (sym is k, sym same k))) (record {
+      written = made.written;
+      rest = made.rest;
+      sound = made.sound;
+      untouched = made.untouched;
+      needed = made.needed;
+      refused = λ h. widened status status refl (λ e fault. inr fault) (λ small. small)
+          (made.refused h);
+    })
+
+pub same_quotient : (m : ℕ) {a : Compressed ℤ} {divisor passed : ℤ} {before after : Room}
+    {status seen : ℤ} → divisor ≡ passed → seen ≡ status
+    → Divides (mod_ring m)
+    (IsFaultModulo m (IsFaultOfQuotient (mod_ring m) (mod_value {m = m}) a passed)) a passed before
+    after status
+    → Divides (mod_ring m)
+    (IsFaultModulo m (IsFaultOfQuotient (mod_ring m) (mod_value {m = m}) a divisor)) a divisor
+    before after seen
+same_quotient m {a} {divisor} {passed} {before} {after} is same made =
+    subst (λ (s : ℤ × ℤ). Divides (mod_ring m) (IsFaultModulo m
+    (IsFaultOfQuotient (mod_ring m) (mod_value {m = m}) a s.0)) a s.0 before after s.1)
+    (λ k. (sym is k, sym same k)) made
