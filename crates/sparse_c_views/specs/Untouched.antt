@@ -1,6 +1,6 @@
 -- What a refused call leaves of the arrays for its result: all but the size, which tells what is needed
 -- where an array is too small.
-use Rattle.std.specs.Prelude.{◌≡◌, ◌≢◌, ℕ, ℤ, List}
+use Rattle.std.specs.Prelude.{◌≡◌, ◌≢◌, ℕ, ℤ}
 use Rattle.sparse_c_views.specs.Arrays.{pattern_room_of, room_of, PatternRoom, Room}
 use Rattle.sparse_c_views.specs.Lists.{list_room_of, ListRoom}
 use Rattle.sparse_c_views.specs.Statuses.{number_of}
