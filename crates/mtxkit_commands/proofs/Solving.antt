@@ -7,9 +7,9 @@ use Rattle.sparse_base.specs.Coo.{Coo}
 use Rattle.sparse_base.specs.CooPlain.{plain_of_coo}
 use Rattle.sparse_solve.specs.Solutions.{HasSameValues}
 use Rattle.mtxkit_matrices.specs.Values.{IsSymmetricMatrix}
-use Rattle.mtxkit_matrices.specs.Systems.{HasNoFactorisation, IsEquation, IsSystem}
-use Rattle.mtxkit_matrices.specs.declared.system.SystemError.{SystemError}
-use Rattle.mtxkit_matrices.specs.declared.system.SystemError.TheVariants as system
+use Rattle.mtxkit_systems.specs.Systems.{HasNoFactorisation, IsEquation, IsSystem}
+use Rattle.mtxkit_systems.specs.declared.system.SystemError.{SystemError}
+use Rattle.mtxkit_systems.specs.declared.system.SystemError.TheVariants as system
 use Rattle.mtxkit_commands.specs.SystemErrors.{system_fault}
 use Rattle.mtxkit_commands.specs.Systems.{plain_of_integers, IsSolved, IsTested}
 

@@ -1,4 +1,4 @@
-//! Facts about matrices, pictures of their patterns, and symmetric systems, for the program `mtxkit`.
+//! Facts about matrices and pictures of their patterns, for the program `mtxkit`.
 #![tactic(auto)]
 
 mod info;
@@ -7,7 +7,6 @@ mod picture;
 mod picture_text;
 mod scale;
 mod shape;
-mod system;
 mod triangle;
 mod values;
 
@@ -17,6 +16,5 @@ pub use picture::{Picture, draw};
 pub use picture_text::{bitmap_text, block_text};
 pub use scale::scaled_sizes;
 pub use shape::{bandwidth, is_symmetric};
-pub use system::{SystemError, is_solution, solve, solve_listed};
 pub use triangle::lower_of;
 pub use values::{count_zeros, has_same_values, has_symmetric_values};

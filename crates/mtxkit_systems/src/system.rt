@@ -7,14 +7,14 @@ ghost use Rattle.sparse_cs.specs.PlainOfLanes.{plain_of_rows};
 ghost use Rattle.sparse_algebra.specs.Plain.{plain_product};
 ghost use Rattle.sparse_solve.specs.Solutions.{HasSameValues};
 ghost use Rattle.sparse_algebra.specs.declared.error.OperationErrorKind.TheVariants.{Singular};
-ghost use Rattle.mtxkit_matrices.specs.Orders.{IsByColumns, places_of};
-ghost use Rattle.mtxkit_matrices.specs.Systems.{HasNoFactorisation, IsEquation, IsSystem};
+ghost use Rattle.mtxkit_systems.specs.Orders.{IsByColumns, places_of};
+ghost use Rattle.mtxkit_systems.specs.Systems.{HasNoFactorisation, IsEquation, IsSystem};
 ghost use Rattle.mtxkit_matrices.specs.Values.{IsSymmetricMatrix};
-ghost use Rattle.mtxkit_matrices.specs.declared.system.SystemError.TheVariants.{NoFactors};
-ghost use Rattle.mtxkit_matrices.specs.declared.system.SystemError.TheVariants.{NotSymmetric};
-ghost use Rattle.mtxkit_matrices.specs.declared.system.SystemError.TheVariants.{Shapes, OutOfMemory};
+ghost use Rattle.mtxkit_systems.specs.declared.system.SystemError.TheVariants.{NoFactors, NotSymmetric};
+ghost use Rattle.mtxkit_systems.specs.declared.system.SystemError.TheVariants.{Shapes};
+ghost use Rattle.mtxkit_systems.specs.declared.system.SystemError.TheVariants.{OutOfMemory};
 
-use crate::values::{has_same_values, has_symmetric_values};
+use mtxkit_matrices::{has_same_values, has_symmetric_values};
 use sparse_algebra::error::OperationErrorKind;
 use sparse_algebra::scalar::{Ring, Units};
 use sparse_base::coo::CooMatrix;
@@ -228,7 +228,7 @@ fn product<T: Ring>(
 }
 
 impl From<AllocError> for SystemError {
-    ghost use Rattle.mtxkit_matrices.specs.declared.system.SystemError.TheVariants.{OutOfMemory};
+    ghost use Rattle.mtxkit_systems.specs.declared.system.SystemError.TheVariants.{OutOfMemory};
 
     ghost from_gives = { λ _ e. e ≡ OutOfMemory };
 

@@ -2,7 +2,7 @@ use Rattle.std.proofs.Common.{◌≡◌, subst}
 use Rattle.std.specs.Prelude.{IfOk}
 use Rattle.sparse_algebra.specs.Plain.{Plain, plain_product}
 use Rattle.sparse_cs.specs.PlainOfLanes.{plain_of_rows}
-use Rattle.mtxkit_matrices.proofs.system.product.Goals as goal
+use Rattle.mtxkit_systems.proofs.system.product.Goals as goal
 
 pub returns : goal.returns
 returns g c =

@@ -1,7 +1,7 @@
 use Rattle.sparse_base.specs.CooPlain.{plain_of_coo}
 use Rattle.sparse_base.specs.DensePlain.{plain_of_dense}
-use Rattle.mtxkit_matrices.proofs.SymmetricSystems.{solution_same}
-use Rattle.mtxkit_matrices.proofs.system.solve_listed.Goals as goal
+use Rattle.mtxkit_systems.proofs.SymmetricSystems.{solution_same}
+use Rattle.mtxkit_systems.proofs.system.solve_listed.Goals as goal
 
 pub returns-in_ok-listed-in-Ok-clause-solved : goal.returns-in_ok-listed-in-Ok-clause-solved
 returns-in_ok-listed-in-Ok-clause-solved g c =

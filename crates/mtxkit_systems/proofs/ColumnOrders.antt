@@ -7,7 +7,7 @@ use Rattle.std.proofs.lemmas.List.{append-nil}
 use Rattle.std.proofs.lemmas.List.Elements.{All-nil, All-cons, All-head, All-tail, All-append}
 use Rattle.std.proofs.lemmas.List.Elements.{All-push, All-map, All-weaker, filter_passes}
 use Rattle.sparse_algebra.specs.Plain.{below}
-use Rattle.mtxkit_matrices.specs.Orders.{places_of, IsBefore, IsByColumns}
+use Rattle.mtxkit_systems.specs.Orders.{places_of, IsBefore, IsByColumns}
 
 -- ---- triplets that are kept
 

@@ -6,8 +6,8 @@ use Rattle.sparse_cs.specs.PlainOfLanes.{plain_of_cols}
 use Rattle.sparse_ldl.specs.Factorisations.{IsFactorisation, plain_symmetric}
 use Rattle.sparse_ldl.specs.Factors.{plain_of_factors}
 use Rattle.sparse_solve.specs.Solutions.{HasSameValues}
-use Rattle.mtxkit_matrices.proofs.SymmetricSystems.{solved_is, no_factors}
-use Rattle.mtxkit_matrices.proofs.system.solve_fitting.Goals as goal
+use Rattle.mtxkit_systems.proofs.SymmetricSystems.{solved_is, no_factors}
+use Rattle.mtxkit_systems.proofs.system.solve_fitting.Goals as goal
 
 pub returns-in-Ok-clause-solved : goal.returns-in-Ok-clause-solved
 returns-in-Ok-clause-solved g c =

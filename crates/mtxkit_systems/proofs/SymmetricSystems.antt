@@ -8,7 +8,7 @@ use Rattle.sparse_algebra.specs.Sums.{sum_below}
 use Rattle.sparse_base.specs.DensePlain.{plain_full}
 use Rattle.sparse_ldl.specs.Factorisations.{IsFactorisation, plain_symmetric}
 use Rattle.sparse_solve.specs.Solutions.{HasSameValues}
-use Rattle.mtxkit_matrices.specs.Systems.{HasNoFactorisation}
+use Rattle.mtxkit_systems.specs.Systems.{HasNoFactorisation}
 
 order : (i j : ℕ) → (i ≤ j) ⊎ (j ≤ i)
 order i j = grind arith

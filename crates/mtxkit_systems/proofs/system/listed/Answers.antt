@@ -5,9 +5,9 @@ use Rattle.sparse_base.specs.CooPlain.{plain_of_coo}
 use Rattle.sparse_base.specs.Dense.{value_at}
 use Rattle.sparse_base.specs.DensePlain.{plain_of_dense}
 use Rattle.sparse_convert.specs.FromDense.{IsNonzeroPart, column_triplets, differs_from}
-use Rattle.mtxkit_matrices.specs.Orders.{IsByColumns, places_of}
-use Rattle.mtxkit_matrices.proofs.ColumnOrders.{kept-by_columns, columns-by_columns, kept-differ}
-use Rattle.mtxkit_matrices.proofs.system.listed.Goals as goal
+use Rattle.mtxkit_systems.specs.Orders.{IsByColumns, places_of}
+use Rattle.mtxkit_systems.proofs.ColumnOrders.{kept-by_columns, columns-by_columns, kept-differ}
+use Rattle.mtxkit_systems.proofs.system.listed.Goals as goal
 
 pub returns-clause-values : goal.returns-clause-values
 returns-clause-values g c =

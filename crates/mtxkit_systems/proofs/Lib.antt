@@ -1,0 +1,2 @@
+mod ColumnOrders
+mod SymmetricSystems
