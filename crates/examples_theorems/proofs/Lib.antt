@@ -1,13 +1,13 @@
-pub mod WalkSteps
-pub mod PivotProducts
-pub mod ReadValues
-pub mod PlainTotals
-pub mod FoldedBlocks
-pub mod AssembledBlocks
-pub mod NumberedElements
-pub mod ShortWalks
-pub mod OneSolution
-pub mod PlainBlocks
-pub mod RowTriplets
-pub mod BlockLists
-pub mod SymmetricSystems
+mod WalkSteps
+mod PivotProducts
+mod ReadValues
+mod PlainTotals
+mod FoldedBlocks
+mod AssembledBlocks
+mod NumberedElements
+mod ShortWalks
+mod OneSolution
+mod PlainBlocks
+mod RowTriplets
+mod BlockLists
+mod SymmetricSystems

@@ -1,6 +1,7 @@
 -- The triplets of an element, and the matrix that they mean.
 use Rattle.std.proofs.Common.{◌≡◌, ℕ, zero, suc, ◌+◌, ◌*◌, ◌<◌, Bool, true, List, []}
-use Rattle.std.proofs.Common.{◌∷◌, ◌++◌, length, get_or, map, append_assoc, add-one, ap, sym, ◌∙◌, refl, arith}
+use Rattle.std.proofs.Common.{◌∷◌, ◌++◌, length, get_or, map, append_assoc}
+use Rattle.std.proofs.Common.{add-one, ap, sym, ◌∙◌, refl, arith}
 use Rattle.std.specs.Prelude.{◌||◌, slice_index}
 use Rattle.std.specs.List.{list_any, flat_map}
 use Rattle.std.proofs.lemmas.Bool.Decides.{nat_tests}

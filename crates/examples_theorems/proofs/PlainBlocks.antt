@@ -1,16 +1,19 @@
 -- Blocks of rows and columns of sums and products, and blocks stacked again.
-use Rattle.std.proofs.Common.{◌≡◌, ℕ, zero, suc, ◌+◌, ◌-◌, ◌<◌, ◌≤◌, inl, inr, Bool, true, false, ◌&&◌}
+use Rattle.std.proofs.Common.{◌≡◌, ℕ, zero, suc, ◌+◌, ◌-◌, ◌<◌}
+use Rattle.std.proofs.Common.{◌≤◌, inl, inr, Bool, true, false, ◌&&◌}
 use Rattle.std.proofs.Common.{List, [], ◌∷◌, if◌then◌else◌, ap, sym, ◌∙◌, refl, arith}
 use Rattle.std.specs.Prelude.{◌||◌, nat_lt}
 use Rattle.std.proofs.lemmas.Bool.{cases_Bool}
 use Rattle.std.proofs.lemmas.Bool.Decides.{nat_tests}
 use Rattle.nalgebra_sparse.specs.Algebra.{CommRing}
-use Rattle.nalgebra_sparse.specs.Plain.{Plain, IsProper, IsWithin, any_below, plain_product, plain_sum}
+use Rattle.nalgebra_sparse.specs.Plain.{Plain, IsProper, IsWithin}
+use Rattle.nalgebra_sparse.specs.Plain.{any_below, plain_product, plain_sum}
 use Rattle.nalgebra_sparse.specs.RingLemmas.{mul_zero}
 use Rattle.nalgebra_sparse.specs.SumLemmas.{sum_below-same, sum_below-zero}
 use Rattle.nalgebra_sparse.specs.Sums.{sum_below, where_true}
 use Rattle.examples_theorems.specs.OnlySolutions.{Solves}
-use Rattle.examples_theorems.specs.RowBlocks.{total_size, row_block, col_block, row_blocks, above, stacked}
+use Rattle.examples_theorems.specs.RowBlocks.{total_size, row_block, col_block}
+use Rattle.examples_theorems.specs.RowBlocks.{row_blocks, above, stacked}
 
 -- ---- tests
 

@@ -1,7 +1,8 @@
 //! Reachability: the pairs that a walk of at most k steps joins, by powers of a pattern.
 
 ghost use Rattle.std.specs.Prelude.{◌≡◌, IfOk};
-ghost use Rattle.examples_theorems.specs.Walking.{IsDiagonal, HoldsReachable, HoldsWalks, TakesSteps};
+ghost use Rattle.examples_theorems.specs.Walking.{IsDiagonal, HoldsReachable};
+ghost use Rattle.examples_theorems.specs.Walking.{HoldsWalks, TakesSteps};
 
 #[cfg(test)]
 use crate::example::holds;

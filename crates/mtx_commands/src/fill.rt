@@ -1,6 +1,7 @@
 //! The command `mtx fill`.
 
-ghost use Rattle.std.specs.Prelude.{◌≡◌, ◌≢◌, ℕ, ◌<◌, ◌↔◌, ◌⊎◌, All, Err, IfOk, IfErr, OnOk, length};
+ghost use Rattle.std.specs.Prelude.{◌≡◌, ◌≢◌, ℕ, ◌<◌, ◌↔◌, ◌⊎◌};
+ghost use Rattle.std.specs.Prelude.{All, Err, IfOk, IfErr, OnOk, length};
 ghost use Rattle.nalgebra_sparse.specs.Raw.{IsValid, IsPlace};
 ghost use Rattle.nalgebra_sparse.specs.Symbolic.{IsFactorOf};
 ghost use Rattle.mtx_commands.specs.Fills.{IsRead, WritesPattern, WritesFill};

@@ -1,8 +1,9 @@
 -- Lists with other values: their places, and values that are not zero.
-use Rattle.std.proofs.Common.{◌≡◌, ℕ, zero, suc, ℤ, pos, All, List, [], ◌∷◌, length, map, refl, sym, ap, ◌∙◌, arith}
+use Rattle.std.proofs.Common.{◌≡◌, ℕ, zero, suc, ℤ, pos, All, List, []}
+use Rattle.std.proofs.Common.{◌∷◌, length, map, refl, sym, ap, ◌∙◌, arith}
 use Rattle.sparse_algebra.specs.Algebra.{CommRing}
 use Rattle.sparse_algebra.specs.Integers.{element_of, times_one}
-use Rattle.sparse_base.specs.Coo.{zip_triplets}
+use Rattle.sparse_coo_dense.specs.Coo.{zip_triplets}
 use Rattle.mtxkit_systems.specs.Orders.{places_of}
 
 pub places-zipped : {S T : Type 0} (ts : List (ℕ × ℕ × S)) (vs : List T) → length vs ≡ length ts

@@ -5,8 +5,8 @@ use Rattle.std.specs.Fmt.{signed_decimal}
 use Rattle.std.specs.Int.{w128}
 use Rattle.sparse_algebra.specs.Algebra.{CommRing}
 use Rattle.sparse_algebra.specs.Plain.{Plain, plain_product}
-use Rattle.sparse_base.specs.Coo.{Coo}
-use Rattle.sparse_base.specs.CooPlain.{plain_of_coo}
+use Rattle.sparse_coo_dense.specs.Coo.{Coo}
+use Rattle.sparse_coo_dense.specs.CooPlain.{plain_of_coo}
 use Rattle.sparse_algebra.specs.Integers.{element_of}
 use Rattle.sparse_io.specs.Written.{text_of}
 use Rattle.sparse_market_scalar.specs.ScalarTypes.{signed_scalar}

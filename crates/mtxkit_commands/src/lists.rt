@@ -1,14 +1,14 @@
 //! Lists of integers, and of the elements that they mean in a ring.
 
 ghost use Rattle.std.specs.Prelude.{◌≡◌, pos, All, IfOk, map};
-ghost use Rattle.sparse_base.specs.CooPlain.{plain_of_coo};
+ghost use Rattle.sparse_coo_dense.specs.CooPlain.{plain_of_coo};
 ghost use Rattle.sparse_algebra.specs.Integers.{element_of};
 ghost use Rattle.mtxkit_commands.specs.Systems.{plain_of_integers};
 ghost use Rattle.mtxkit_systems.specs.Orders.{places_of};
 
 use crate::residues::Residues;
 use mtxkit_texts::with_values;
-use sparse_base::coo::CooMatrix;
+use sparse_coo_dense::coo::CooMatrix;
 use std::alloc::{AllocError, Global};
 
 /// Returns the list of the elements that integers mean.

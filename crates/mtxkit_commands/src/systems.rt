@@ -13,7 +13,7 @@ use crate::residues::Residues;
 use mtxkit_systems::{SystemError, is_solution, solve_listed};
 use mtxkit_texts::{Failure, read_integers};
 use sparse_algebra::scalar::{Mod, W64};
-use sparse_base::coo::CooMatrix;
+use sparse_coo_dense::coo::CooMatrix;
 use sparse_io::save_to_matrix_market_str;
 use std::alloc::Global;
 

@@ -1,9 +1,9 @@
-pub mod Counted
-pub mod Heads
-pub mod LineEnds
-pub mod Lists
-pub mod Magnitudes
-pub mod Rewriting
-pub mod Trimmed
-pub mod Values
-pub mod WrittenLines
+mod Counted
+mod Heads
+mod LineEnds
+mod Lists
+mod Magnitudes
+mod Rewriting
+mod Trimmed
+mod Values
+mod WrittenLines

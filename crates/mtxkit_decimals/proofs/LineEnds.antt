@@ -1,10 +1,12 @@
 -- Lines and their ends, as they are split.
-use Rattle.std.proofs.Common.{◌≡◌, ℕ, ◌≤◌, ◌<◌, ◌-◌, Bool, true, false, not, List, [], ◌∷◌, length, refl, sym, ap}
+use Rattle.std.proofs.Common.{◌≡◌, ℕ, ◌≤◌, ◌<◌, ◌-◌, Bool, true, false}
+use Rattle.std.proofs.Common.{not, List, [], ◌∷◌, length, refl, sym, ap}
 use Rattle.std.proofs.Common.{subst, ◌∙◌, arith}
 use Rattle.sparse_parser.specs.Bytes.{is_line_end, front, after}
 use Rattle.sparse_parser.specs.InnerBytes.{is_within_line}
 use Rattle.sparse_parser.specs.InnerReading.{ends_line}
-use Rattle.sparse_parser.proofs.Fronts.{Passes, IsStopped, Passes-front, IsStopped-after, length-after}
+use Rattle.sparse_parser.proofs.Fronts.{Passes, IsStopped, Passes-front}
+use Rattle.sparse_parser.proofs.Fronts.{IsStopped-after, length-after}
 use Rattle.sparse_parser.proofs.FrontLines.{end-from}
 use Rattle.mtxkit_decimals.specs.InnerRewriting.{IsPlain}
 

@@ -1,7 +1,8 @@
 -- Values of numbers, by their magnitudes.
 use Rattle.std.proofs.Common.{◌≡◌, ℕ, ℤ, zero, suc, ◌+◌, ◌*◌, ◌^◌, ◌<◌, Bool, true}
 use Rattle.std.proofs.Common.{length, ◌≤◌, not, length-drop}
-use Rattle.std.proofs.Common.{false, Option, List, Result, Ok, Err, refl, sym, ap, subst, ◌∙◌, arith}
+use Rattle.std.proofs.Common.{false, Option, List, Result, Ok, Err}
+use Rattle.std.proofs.Common.{refl, sym, ap, subst, ◌∙◌, arith}
 use Rattle.std.specs.Prelude.{IfOk, IfErr, MatchResult, FitsSigned}
 use Rattle.std.specs.Int.{w128}
 use Rattle.std.specs.Option.{SomeIff}
@@ -15,7 +16,8 @@ use Rattle.mtxkit_decimals.specs.declared.number.Misfit.TheVariants.{Fraction, R
 use Rattle.mtxkit_decimals.specs.Decimals.{IsScaled, IsMisfit, mantissa_of, exponent_of, power_of}
 use Rattle.mtxkit_decimals.specs.Decimals.{number_of_digits, places_behind, above_zero, below_zero}
 use Rattle.mtxkit_decimals.specs.InnerDigits.{IsTrimmed}
-use Rattle.mtxkit_decimals.specs.InnerPowers.{HasPower, IsMagnitude, HasNoMagnitude, signed, up, down}
+use Rattle.mtxkit_decimals.specs.InnerPowers.{HasPower, IsMagnitude, HasNoMagnitude}
+use Rattle.mtxkit_decimals.specs.InnerPowers.{signed, up, down}
 
 pub places_few : (mantissa : List ℕ) → places_behind mantissa ≤ length mantissa
 places_few mantissa =

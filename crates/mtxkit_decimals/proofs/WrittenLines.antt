@@ -1,6 +1,7 @@
 -- The words of the lines that are written.
 use Rattle.std.proofs.Common.{◌≡◌, ◌≢◌, ℕ, ℤ, pos, negsuc, suc, ◌<◌, Bool, true, false, eqb}
-use Rattle.std.proofs.Common.{List, [], ◌∷◌, ◌++◌, length, get_or, Option, Some, None, Result, Ok, Err, refl, sym, ap}
+use Rattle.std.proofs.Common.{List, [], ◌∷◌, ◌++◌, length, get_or, Option, Some}
+use Rattle.std.proofs.Common.{None, Result, Ok, Err, refl, sym, ap}
 use Rattle.std.proofs.Common.{subst, ◌∙◌, arith, inl, inr, append_assoc}
 use Rattle.std.specs.Prelude.{◌⊎◌, IfOk, FitsSigned}
 use Rattle.std.specs.Int.{w128}
@@ -33,7 +34,8 @@ use Rattle.mtxkit_decimals.specs.declared.stage.Stage.{Stage}
 use Rattle.mtxkit_decimals.specs.declared.stage.Stage.TheVariants.{Sizes, Entries}
 use Rattle.mtxkit_decimals.specs.Decimals.{IsScaled}
 use Rattle.mtxkit_decimals.specs.Rewritten.{IsScaledWord, IsScaledEntry}
-use Rattle.mtxkit_decimals.specs.InnerRewriting.{IsPlain, IsLineWritten, IsCoordinateLine, IsArrayLine}
+use Rattle.mtxkit_decimals.specs.InnerRewriting.{IsPlain, IsLineWritten}
+use Rattle.mtxkit_decimals.specs.InnerRewriting.{IsCoordinateLine, IsArrayLine}
 
 -- ---- words
 

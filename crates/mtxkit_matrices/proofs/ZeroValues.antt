@@ -4,12 +4,12 @@ use Rattle.std.proofs.Common.{refl, sym, ap, ◌∙◌, arith}
 use Rattle.std.proofs.lemmas.Bool.{cases_Bool, cases_lt}
 use Rattle.sparse_algebra.proofs.RingLemmas.{cancel}
 use Rattle.sparse_pattern.proofs.Positions.{lane_of_position}
-use Rattle.sparse_cs.proofs.Arrays.{position_within}
-use Rattle.sparse_cs.proofs.Standing.{rows_have}
+use Rattle.sparse_compressed.proofs.Arrays.{position_within}
+use Rattle.sparse_compressed.proofs.Standing.{rows_have}
 use Rattle.sparse_algebra.specs.Algebra.{CommRing}
-use Rattle.sparse_cs.specs.Compressed.{Compressed, IsSound, IsPosition}
+use Rattle.sparse_compressed.specs.Compressed.{Compressed, IsSound, IsPosition}
 use Rattle.sparse_algebra.specs.Plain.{Plain, plain_difference}
-use Rattle.sparse_cs.specs.PlainOfLanes.{plain_of_rows}
+use Rattle.sparse_compressed.specs.PlainOfLanes.{plain_of_rows}
 use Rattle.sparse_solve.specs.Solutions.{HasSameValues}
 use Rattle.mtxkit_matrices.specs.Values.{AllZero}
 

@@ -1,7 +1,7 @@
 //! What `mtxkit info` says of a matrix.
 
 ghost use Rattle.std.specs.Prelude.{◌≡◌, ◌↔◌, IfOk, IsTrue, count_by, length};
-ghost use Rattle.sparse_cs.specs.PlainOfLanes.{plain_of_rows};
+ghost use Rattle.sparse_compressed.specs.PlainOfLanes.{plain_of_rows};
 ghost use Rattle.mtxkit_matrices.specs.Lanes.{count_below, has_size_in, HasEmptyColumns};
 ghost use Rattle.mtxkit_matrices.specs.Lanes.{IsHistogram};
 ghost use Rattle.mtxkit_matrices.specs.Shapes.{IsBandwidth, IsSymmetricPattern};
@@ -11,7 +11,7 @@ use crate::lanes::{Histogram, count_lanes, counted_lanes};
 use crate::shape::{bandwidth, is_symmetric};
 use crate::values::{count_zeros, has_symmetric_values};
 use sparse_algebra::scalar::Ring;
-use sparse_forms::csr::CsrMatrix;
+use sparse_csr_csc::csr::CsrMatrix;
 use std::alloc::{AllocError, Global};
 
 /// Facts about a matrix.

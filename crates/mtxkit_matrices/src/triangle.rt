@@ -1,15 +1,15 @@
 //! The lower triangle of a symmetric matrix.
 
 ghost use Rattle.std.specs.Prelude.{◌≡◌, IfOk, MatchOption};
-ghost use Rattle.sparse_cs.specs.PlainOfLanes.{plain_of_rows};
-ghost use Rattle.sparse_cs.specs.Compressed.{lane_triplets};
-ghost use Rattle.sparse_cs.specs.Filter.{is_lower};
+ghost use Rattle.sparse_compressed.specs.PlainOfLanes.{plain_of_rows};
+ghost use Rattle.sparse_compressed.specs.Compressed.{lane_triplets};
+ghost use Rattle.sparse_compressed.specs.Filter.{is_lower};
 ghost use Rattle.std.specs.List.{filter};
 ghost use Rattle.mtxkit_matrices.specs.Values.{IsSymmetricMatrix};
 
 use crate::values::has_symmetric_values;
 use sparse_algebra::scalar::Ring;
-use sparse_forms::csr::CsrMatrix;
+use sparse_csr_csc::csr::CsrMatrix;
 use std::alloc::{AllocError, Global};
 
 /// Returns the lower triangle of a symmetric matrix with its diagonal, or `None` exactly if the matrix is not

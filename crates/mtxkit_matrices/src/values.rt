@@ -2,15 +2,15 @@
 
 ghost use Rattle.std.specs.Prelude.{◌≡◌, ℕ, ◌<◌, ◌↔◌, IfOk, IsTrue, count_by, length};
 ghost use Rattle.std.specs.Prelude.{slice_index_or};
-ghost use Rattle.sparse_cs.specs.Compressed.{IsSound};
-ghost use Rattle.sparse_cs.specs.PlainOfLanes.{plain_of_rows};
+ghost use Rattle.sparse_compressed.specs.Compressed.{IsSound};
+ghost use Rattle.sparse_compressed.specs.PlainOfLanes.{plain_of_rows};
 ghost use Rattle.sparse_solve.specs.Solutions.{HasSameValues};
 ghost use Rattle.mtxkit_matrices.specs.Values.{AllZero, IsSymmetricMatrix};
 
 use sparse_algebra::learn;
 use sparse_algebra::scalar::Ring;
-use sparse_cs::laws::transpose_law;
-use sparse_forms::csr::CsrMatrix;
+use sparse_compressed::laws::transpose_law;
+use sparse_csr_csc::csr::CsrMatrix;
 use sparse_sums::sub_csr;
 use std::alloc::{AllocError, Global};
 

@@ -5,7 +5,7 @@ use Rattle.std.proofs.Math.Nat.{min-eq_left, min-eq_right, max-eq_left, max-eq_r
 use Rattle.sparse_algebra.specs.Algebra.{CommRing}
 use Rattle.sparse_algebra.specs.Plain.{Plain, plain_product}
 use Rattle.sparse_algebra.specs.Sums.{sum_below}
-use Rattle.sparse_base.specs.DensePlain.{plain_full}
+use Rattle.sparse_coo_dense.specs.DensePlain.{plain_full}
 use Rattle.sparse_ldl.specs.Factorisations.{IsFactorisation, plain_symmetric}
 use Rattle.sparse_solve.specs.Solutions.{HasSameValues}
 use Rattle.mtxkit_systems.specs.Systems.{HasNoFactorisation}

@@ -1,7 +1,7 @@
 -- The shapes of systems, and factorisations of their matrices.
 use Rattle.std.specs.Prelude.{◌≡◌, ℕ}
 use Rattle.sparse_algebra.specs.Algebra.{CommRing}
-use Rattle.sparse_base.specs.Coo.{Coo}
+use Rattle.sparse_coo_dense.specs.Coo.{Coo}
 use Rattle.sparse_ldl.specs.Factorisations.{IsFactorisation}
 use Rattle.sparse_algebra.specs.Plain.{Plain}
 

@@ -1,28 +1,29 @@
 //! Symmetric systems, solved exactly, and the test of a solution.
 
 ghost use Rattle.std.specs.Prelude.{◌≡◌, ◌⊎◌, ◌↔◌, ℕ, All, Err, IfOk, IfErr, IsTrue};
-ghost use Rattle.sparse_base.specs.CooPlain.{plain_of_coo};
-ghost use Rattle.sparse_base.specs.DensePlain.{plain_of_dense};
-ghost use Rattle.sparse_cs.specs.PlainOfLanes.{plain_of_rows};
+ghost use Rattle.sparse_coo_dense.specs.CooPlain.{plain_of_coo};
+ghost use Rattle.sparse_coo_dense.specs.DensePlain.{plain_of_dense};
+ghost use Rattle.sparse_compressed.specs.PlainOfLanes.{plain_of_rows};
 ghost use Rattle.sparse_algebra.specs.Plain.{plain_product};
 ghost use Rattle.sparse_solve.specs.Solutions.{HasSameValues};
 ghost use Rattle.sparse_algebra.specs.declared.error.OperationErrorKind.TheVariants.{Singular};
 ghost use Rattle.mtxkit_systems.specs.Orders.{IsByColumns, places_of};
 ghost use Rattle.mtxkit_systems.specs.Systems.{HasNoFactorisation, IsEquation, IsSystem};
 ghost use Rattle.mtxkit_matrices.specs.Values.{IsSymmetricMatrix};
-ghost use Rattle.mtxkit_systems.specs.declared.system.SystemError.TheVariants.{NoFactors, NotSymmetric};
+ghost use Rattle.mtxkit_systems.specs.declared.system.SystemError.TheVariants.{NoFactors};
+ghost use Rattle.mtxkit_systems.specs.declared.system.SystemError.TheVariants.{NotSymmetric};
 ghost use Rattle.mtxkit_systems.specs.declared.system.SystemError.TheVariants.{Shapes};
 ghost use Rattle.mtxkit_systems.specs.declared.system.SystemError.TheVariants.{OutOfMemory};
 
 use mtxkit_matrices::{has_same_values, has_symmetric_values};
 use sparse_algebra::error::OperationErrorKind;
 use sparse_algebra::scalar::{Ring, Units};
-use sparse_base::coo::CooMatrix;
-use sparse_base::dense::DMatrix;
 use sparse_convert::serial::{
     convert_coo_csc, convert_coo_csr, convert_coo_dense, convert_dense_coo, from_dense_law,
 };
-use sparse_forms::csr::CsrMatrix;
+use sparse_coo_dense::coo::CooMatrix;
+use sparse_coo_dense::dense::DMatrix;
+use sparse_csr_csc::csr::CsrMatrix;
 use sparse_ldl::ldl::Ldl;
 use sparse_products::serial::mul_csr;
 use std::alloc::{AllocError, Global};

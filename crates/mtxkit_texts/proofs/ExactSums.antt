@@ -17,11 +17,11 @@ use Rattle.sparse_algebra.specs.declared.scalar.wide.W128.{W128}
 use Rattle.sparse_algebra.specs.declared.scalar.wrapping.W64.{W64}
 use Rattle.sparse_algebra.proofs.PlainLaws.{proper_plain_of_triplets}
 use Rattle.sparse_algebra.proofs.WholeNumbers.{number_of-class, number_of-wrapped}
-use Rattle.sparse_base.specs.Coo.{Coo}
-use Rattle.sparse_cs.specs.Compressed.{Compressed, IsSound, IsPosition}
-use Rattle.sparse_cs.specs.PlainOfLanes.{plain_of_rows}
-use Rattle.sparse_cs.proofs.Arrays.{position_within}
-use Rattle.sparse_cs.proofs.Standing.{rows_have, rows_are}
+use Rattle.sparse_coo_dense.specs.Coo.{Coo}
+use Rattle.sparse_compressed.specs.Compressed.{Compressed, IsSound, IsPosition}
+use Rattle.sparse_compressed.specs.PlainOfLanes.{plain_of_rows}
+use Rattle.sparse_compressed.proofs.Arrays.{position_within}
+use Rattle.sparse_compressed.proofs.Standing.{rows_have, rows_are}
 use Rattle.sparse_pattern.proofs.Positions.{lane_of_position}
 use Rattle.sparse_pattern.specs.Raw.{IsPlace}
 use Rattle.mtxkit_texts.specs.Loaded.{HasSums, HasFittingSums, IsNarrow, ring128, value128}

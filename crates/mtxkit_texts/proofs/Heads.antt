@@ -1,6 +1,6 @@
 -- The texts of matrices begin with their header lines.
 use Rattle.std.proofs.Common.{◌≡◌, ℕ, List, ◌++◌, codes, refl}
-use Rattle.sparse_base.specs.Coo.{Coo}
+use Rattle.sparse_coo_dense.specs.Coo.{Coo}
 use Rattle.sparse_io.specs.Written.{heading, written_text, text_of}
 use Rattle.sparse_pattern.specs.Raw.{Raw}
 use Rattle.mtxkit_texts.specs.Lower.{head}

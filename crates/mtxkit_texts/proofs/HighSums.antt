@@ -1,7 +1,8 @@
 -- A sum of n integers lies between 2 ^ 64 times the sum of their high parts and n * 2 ^ 64 more, which
 -- is fewer than 2 ^ 128 numbers: so its class modulo 2 ^ 128 tells which of them it is.
 use Rattle.std.proofs.Common.{◌≡◌, ℕ, ℤ, pos, negsuc, ◌+◌, ◌-◌, ◌^◌, ◌<◌, ◌≤ℤ◌, ◌<ℤ◌, ◌+ℤ◌, ◌*ℤ◌}
-use Rattle.std.proofs.Common.{All, Bool, true, false, List, [], ◌∷◌, length, map, refl, sym, ap, subst, ◌∙◌}
+use Rattle.std.proofs.Common.{All, Bool, true, false, List, [], ◌∷◌}
+use Rattle.std.proofs.Common.{length, map, refl, sym, ap, subst, ◌∙◌}
 use Rattle.std.proofs.Common.{arith}
 use Rattle.std.specs.Prelude.{◌-ℤ◌, neg_ℤ}
 use Rattle.std.specs.Int.{w64, w128, int_wrap}

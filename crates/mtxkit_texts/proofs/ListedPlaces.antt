@@ -2,7 +2,7 @@
 use Rattle.std.proofs.Common.{◌≡◌, ℕ, ◌||◌, List, [], ◌∷◌, length, map, refl, ap, arith}
 use Rattle.std.specs.List.{list_any}
 use Rattle.sparse_algebra.specs.Plain.{is_at}
-use Rattle.sparse_base.specs.Coo.{zip_triplets}
+use Rattle.sparse_coo_dense.specs.Coo.{zip_triplets}
 
 module _ {S T : Type 0} where
   pub same_places : (i j : ℕ) (ts : List (ℕ × ℕ × S)) (vs : List T) → length vs ≡ length ts

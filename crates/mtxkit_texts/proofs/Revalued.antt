@@ -4,10 +4,10 @@ use Rattle.std.proofs.lemmas.List.{length-map}
 use Rattle.std.proofs.lemmas.List.Elements.{All-map}
 use Rattle.sparse_algebra.specs.Algebra.{CommRing}
 use Rattle.sparse_algebra.specs.Plain.{plain_of_triplets}
-use Rattle.sparse_base.specs.Coo.{Coo, IsInside, AreParts, coo_of, zip_triplets}
-use Rattle.sparse_base.specs.CooPlain.{plain_of_coo}
-use Rattle.sparse_base.proofs.TripletRuns.{zip-split}
-use Rattle.sparse_base.proofs.Meanings.{list-meant, same_length}
+use Rattle.sparse_coo_dense.specs.Coo.{Coo, IsInside, AreParts, coo_of, zip_triplets}
+use Rattle.sparse_coo_dense.specs.CooPlain.{plain_of_coo}
+use Rattle.sparse_coo_dense.proofs.TripletRuns.{zip-split}
+use Rattle.sparse_coo_dense.proofs.Meanings.{list-meant, same_length}
 
 module _ {X Y : Type 0} (list : Coo Y) (vs : List X) where
   -- the list with these values

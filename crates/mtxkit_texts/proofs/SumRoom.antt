@@ -14,11 +14,11 @@ use Rattle.sparse_algebra.specs.declared.scalar.wide.W128.{W128}
 use Rattle.sparse_algebra.proofs.Cases.{true_or_false}
 use Rattle.sparse_algebra.proofs.PlainLaws.{proper_plain_of_triplets}
 use Rattle.sparse_algebra.proofs.WholeNumbers.{number_of-class}
-use Rattle.sparse_base.specs.Coo.{Coo}
-use Rattle.sparse_base.specs.CooPlain.{plain_of_coo}
-use Rattle.sparse_cs.specs.Compressed.{Compressed, IsSound, IsPosition}
-use Rattle.sparse_cs.proofs.Arrays.{position_within}
-use Rattle.sparse_cs.proofs.Standing.{rows_have}
+use Rattle.sparse_coo_dense.specs.Coo.{Coo}
+use Rattle.sparse_coo_dense.specs.CooPlain.{plain_of_coo}
+use Rattle.sparse_compressed.specs.Compressed.{Compressed, IsSound, IsPosition}
+use Rattle.sparse_compressed.proofs.Arrays.{position_within}
+use Rattle.sparse_compressed.proofs.Standing.{rows_have}
 use Rattle.sparse_pattern.specs.Raw.{Raw}
 use Rattle.sparse_pattern.proofs.Positions.{lane_of_position}
 use Rattle.sparse_pattern.proofs.SamePlaces.{same_from_places}

@@ -5,8 +5,8 @@ use Rattle.sparse_algebra.specs.Whole.{whole_ring, plain_wrapped}
 use Rattle.sparse_algebra.specs.WrappingValues.{w128_number}
 use Rattle.sparse_algebra.specs.declared.scalar.wide.W128.{W128}
 use Rattle.sparse_algebra.proofs.WholeNumbers.{wrapped-triplets}
-use Rattle.sparse_base.specs.Coo.{Coo}
-use Rattle.sparse_base.specs.CooPlain.{plain_of_coo}
+use Rattle.sparse_coo_dense.specs.Coo.{Coo}
+use Rattle.sparse_coo_dense.specs.CooPlain.{plain_of_coo}
 use Rattle.mtxkit_texts.specs.Loaded.{ring128, value128, sums_of}
 use Rattle.mtxkit_texts.proofs.Revalued.{revalued, plain-revalued}
 

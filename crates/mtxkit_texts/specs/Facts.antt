@@ -3,8 +3,8 @@ use Rattle.std.specs.Prelude.{◌≡◌, ◌⊎◌, ◌↔◌, ℕ, pos, List, �
 use Rattle.std.specs.Ordering.{int_eq}
 use Rattle.sparse_algebra.specs.WrappingValues.{w128_number}
 use Rattle.sparse_algebra.specs.declared.scalar.wide.W128.{W128}
-use Rattle.sparse_cs.specs.Compressed.{Compressed}
-use Rattle.sparse_cs.specs.PlainOfLanes.{plain_of_rows}
+use Rattle.sparse_compressed.specs.Compressed.{Compressed}
+use Rattle.sparse_compressed.specs.PlainOfLanes.{plain_of_rows}
 use Rattle.mtxkit_matrices.specs.Lanes.{count_below, has_size_in, HasEmptyColumns, IsHistogram}
 use Rattle.mtxkit_matrices.specs.Shapes.{IsBandwidth, IsSymmetricPattern}
 use Rattle.mtxkit_matrices.specs.Values.{IsSymmetricMatrix}

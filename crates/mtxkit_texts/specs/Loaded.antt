@@ -10,10 +10,10 @@ use Rattle.sparse_algebra.specs.Wrapping.{wrapping_ring, class_of}
 use Rattle.sparse_algebra.specs.WrappingValues.{w128_number}
 use Rattle.sparse_algebra.specs.declared.scalar.wide.W128.{W128}
 use Rattle.sparse_algebra.specs.declared.scalar.wrapping.W64.{W64}
-use Rattle.sparse_base.specs.Coo.{Coo}
-use Rattle.sparse_base.specs.CooPlain.{plain_of_coo}
-use Rattle.sparse_cs.specs.Compressed.{Compressed}
-use Rattle.sparse_cs.specs.PlainOfLanes.{plain_of_rows}
+use Rattle.sparse_coo_dense.specs.Coo.{Coo}
+use Rattle.sparse_coo_dense.specs.CooPlain.{plain_of_coo}
+use Rattle.sparse_compressed.specs.Compressed.{Compressed}
+use Rattle.sparse_compressed.specs.PlainOfLanes.{plain_of_rows}
 use Rattle.sparse_parser.specs.Meaning.{Means}
 use Rattle.sparse_parser.specs.Scalars.{Scalar}
 use Rattle.sparse_parser.specs.declared.error.MatrixMarketErrorKind.{MatrixMarketErrorKind}

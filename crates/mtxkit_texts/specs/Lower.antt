@@ -4,9 +4,9 @@ use Rattle.std.specs.List.{filter}
 use Rattle.sparse_algebra.specs.Algebra.{CommRing}
 use Rattle.sparse_algebra.specs.declared.scalar.wide.W128.{W128}
 use Rattle.sparse_algebra.specs.declared.scalar.wrapping.W64.{W64}
-use Rattle.sparse_cs.specs.Compressed.{Compressed, lane_triplets}
-use Rattle.sparse_cs.specs.Filter.{is_lower}
-use Rattle.sparse_cs.specs.PlainOfLanes.{plain_of_rows}
+use Rattle.sparse_compressed.specs.Compressed.{Compressed, lane_triplets}
+use Rattle.sparse_compressed.specs.Filter.{is_lower}
+use Rattle.sparse_compressed.specs.PlainOfLanes.{plain_of_rows}
 use Rattle.sparse_pattern.specs.Raw.{Raw}
 use Rattle.mtxkit_matrices.specs.Values.{IsSymmetricMatrix}
 use Rattle.mtxkit_texts.specs.Loaded.{MeansMatrix, MeansValues, ring64, value64, ring128, value128}

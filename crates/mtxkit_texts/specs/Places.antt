@@ -2,7 +2,7 @@
 use Rattle.std.specs.Prelude.{◌≡◌, ℕ, ◌↔◌, IsTrue}
 use Rattle.std.specs.List.{list_any}
 use Rattle.sparse_algebra.specs.Plain.{is_at}
-use Rattle.sparse_base.specs.Coo.{Coo}
+use Rattle.sparse_coo_dense.specs.Coo.{Coo}
 use Rattle.sparse_pattern.specs.Raw.{Raw, IsPlace}
 
 -- the pattern by rows has the shape of the list, and exactly the places of its triplets

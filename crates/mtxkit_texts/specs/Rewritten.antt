@@ -4,8 +4,8 @@ use Rattle.std.specs.Fmt.{signed_decimal}
 use Rattle.sparse_algebra.specs.Numbers.{w64_number}
 use Rattle.sparse_algebra.specs.declared.scalar.wide.W128.{W128}
 use Rattle.sparse_algebra.specs.declared.scalar.wrapping.W64.{W64}
-use Rattle.sparse_base.specs.Coo.{Coo, coo_of}
-use Rattle.sparse_cs.specs.Compressed.{Compressed, lane_triplets}
+use Rattle.sparse_coo_dense.specs.Coo.{Coo, coo_of}
+use Rattle.sparse_compressed.specs.Compressed.{Compressed, lane_triplets}
 use Rattle.sparse_io.specs.Written.{text_of}
 use Rattle.sparse_pattern.specs.Raw.{Raw}
 use Rattle.mtxkit_texts.specs.Loaded.{MeansMatrix, MeansValues}

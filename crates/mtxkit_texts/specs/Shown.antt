@@ -1,7 +1,7 @@
 -- Pictures of the patterns of texts.
 use Rattle.std.specs.Prelude.{◌≡◌, ℕ, ◌<◌, ◌≤◌, ◌↔◌, IsTrue, List}
 use Rattle.sparse_algebra.specs.declared.scalar.wide.W128.{W128}
-use Rattle.sparse_cs.specs.Compressed.{Compressed}
+use Rattle.sparse_compressed.specs.Compressed.{Compressed}
 use Rattle.mtxkit_matrices.specs.Pictures.{Bitmap, HasPlaceIn, is_black}
 use Rattle.mtxkit_matrices.specs.PictureTexts.{bitmap_text, block_text}
 use Rattle.mtxkit_matrices.specs.Sizes.{picture_sizes}

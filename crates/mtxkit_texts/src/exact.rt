@@ -2,15 +2,15 @@
 
 ghost use Rattle.std.specs.Prelude.{◌≡◌, ◌↔◌, IfOk, IsTrue, length, map};
 ghost use Rattle.sparse_algebra.specs.WrappingValues.{w128_number};
-ghost use Rattle.sparse_cs.specs.Compressed.{IsSound};
+ghost use Rattle.sparse_compressed.specs.Compressed.{IsSound};
 ghost use Rattle.mtxkit_texts.specs.HighParts.{AreNear, IsNear, high_part};
 ghost use Rattle.mtxkit_texts.specs.Loaded.{HasSums, HasFittingSums};
 
 use crate::lists::with_values;
 use crate::sums::{are_narrow, wide_sums, wide_values};
 use sparse_algebra::scalar::W128;
-use sparse_base::coo::CooMatrix;
-use sparse_forms::csr::CsrMatrix;
+use sparse_coo_dense::coo::CooMatrix;
+use sparse_csr_csc::csr::CsrMatrix;
 use std::alloc::{AllocError, Global};
 
 // Whether the sum of the integers of each place fits in 128 bits. `sums` are those modulo 2^128.

@@ -18,7 +18,7 @@ use crate::shapes::{Shape, shape_of};
 use crate::whole::load_whole;
 use mtxkit_matrices::{Histogram, Info, info_of};
 use sparse_algebra::scalar::W128;
-use sparse_forms::csr::CsrMatrix;
+use sparse_csr_csc::csr::CsrMatrix;
 use sparse_parser::header::{Field, Format, Header, Symmetry};
 use std::alloc::{AllocError, Global};
 

@@ -10,7 +10,7 @@ use crate::loaded::load;
 use crate::pattern_texts::write_pattern;
 use crate::values::load_values;
 use sparse_algebra::scalar::W64;
-use sparse_forms::csr::CsrMatrix;
+use sparse_csr_csc::csr::CsrMatrix;
 use sparse_io::save_to_matrix_market_str;
 use std::alloc::{AllocError, Global};
 

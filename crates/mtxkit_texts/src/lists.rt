@@ -1,9 +1,9 @@
 //! Lists with other values.
 
 ghost use Rattle.std.specs.Prelude.{◌≡◌, IfOk, length, map};
-ghost use Rattle.sparse_base.specs.Coo.{coo_of, zip_triplets};
+ghost use Rattle.sparse_coo_dense.specs.Coo.{coo_of, zip_triplets};
 
-use sparse_base::coo::CooMatrix;
+use sparse_coo_dense::coo::CooMatrix;
 use std::alloc::{AllocError, Global};
 
 /// Returns a list with other values, of which there must be as many as triplets.

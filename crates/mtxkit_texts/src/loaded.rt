@@ -1,7 +1,7 @@
 //! Matrices read from texts.
 
 ghost use Rattle.std.specs.Prelude.{◌≡◌, ◌⊎◌, Ok, IfOk, IfErr, length};
-ghost use Rattle.sparse_cs.specs.Compressed.{IsSound};
+ghost use Rattle.sparse_compressed.specs.Compressed.{IsSound};
 ghost use Rattle.sparse_market_scalar.specs.ScalarTypes.{pattern_scalar, signed_scalar};
 ghost use Rattle.sparse_parser.specs.Meaning.{Means};
 ghost use Rattle.std.specs.Int.{w128};
@@ -17,8 +17,8 @@ use crate::places::ones_of;
 use crate::spots::spot_of;
 use crate::sums::wide_sums;
 use sparse_algebra::scalar::W128;
-use sparse_base::coo::CooMatrix;
-use sparse_forms::csr::CsrMatrix;
+use sparse_coo_dense::coo::CooMatrix;
+use sparse_csr_csc::csr::CsrMatrix;
 use sparse_io::load_coo_from_matrix_market_str;
 use sparse_parser::error::MatrixMarketErrorKind;
 use sparse_parser::header::{Field, Header};

@@ -3,15 +3,15 @@
 ghost use Rattle.std.specs.Prelude.{◌≡◌, ℕ, ◌↔◌, All, IfOk, IsTrue, length, replicate};
 ghost use Rattle.std.specs.List.{list_any};
 ghost use Rattle.sparse_algebra.specs.Plain.{is_at};
-ghost use Rattle.sparse_cs.specs.Compressed.{IsSound};
+ghost use Rattle.sparse_compressed.specs.Compressed.{IsSound};
 ghost use Rattle.sparse_pattern.specs.Raw.{IsPlace};
 ghost use Rattle.mtxkit_texts.specs.Places.{HasPlacesOf};
 
 use crate::lists::with_values;
 use sparse_algebra::scalar::Ring;
-use sparse_base::coo::CooMatrix;
 use sparse_convert::serial::convert_coo_csr;
-use sparse_forms::csr::CsrMatrix;
+use sparse_coo_dense::coo::CooMatrix;
+use sparse_csr_csc::csr::CsrMatrix;
 use sparse_pattern::pattern::SparsityPattern;
 use std::alloc::{AllocError, Global};
 

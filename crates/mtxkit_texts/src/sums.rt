@@ -4,14 +4,14 @@ ghost use Rattle.std.specs.Prelude.{◌≡◌, ◌↔◌, ◌<◌, ◌^◌, All,
 ghost use Rattle.std.specs.Int.{w64};
 ghost use Rattle.std.specs.Int.RustNames.{FitsSigned};
 ghost use Rattle.sparse_algebra.specs.WrappingValues.{w128_number};
-ghost use Rattle.sparse_cs.specs.Compressed.{IsSound};
+ghost use Rattle.sparse_compressed.specs.Compressed.{IsSound};
 ghost use Rattle.mtxkit_texts.specs.Loaded.{HasSums};
 
 use crate::lists::with_values;
 use sparse_algebra::scalar::W128;
-use sparse_base::coo::CooMatrix;
 use sparse_convert::serial::convert_coo_csr;
-use sparse_forms::csr::CsrMatrix;
+use sparse_coo_dense::coo::CooMatrix;
+use sparse_csr_csc::csr::CsrMatrix;
 use std::alloc::{AllocError, Global};
 
 /// Returns the matrix by rows with the sums of the integers of each place. A sum that leaves 128 bits is taken modulo

@@ -17,7 +17,7 @@ use crate::pattern_texts::write_pattern;
 use crate::values::load_values;
 use mtxkit_matrices::lower_of;
 use sparse_algebra::scalar::W64;
-use sparse_forms::csr::CsrMatrix;
+use sparse_csr_csc::csr::CsrMatrix;
 use sparse_parser::header::{Field, Header, Symmetry};
 use sparse_pattern::pattern::SparsityPattern;
 use std::alloc::{AllocError, Global};

@@ -6,8 +6,8 @@ ghost use Rattle.std.specs.Int.RustNames.{FitsSigned};
 ghost use Rattle.sparse_algebra.specs.Numbers.{w64_number};
 ghost use Rattle.sparse_algebra.specs.Whole.{whole_ring};
 ghost use Rattle.sparse_algebra.specs.WrappingValues.{w128_number};
-ghost use Rattle.sparse_cs.specs.Compressed.{IsSound};
-ghost use Rattle.sparse_cs.specs.PlainOfLanes.{plain_of_rows};
+ghost use Rattle.sparse_compressed.specs.Compressed.{IsSound};
+ghost use Rattle.sparse_compressed.specs.PlainOfLanes.{plain_of_rows};
 ghost use Rattle.mtxkit_texts.specs.Loaded.{IsNarrow, IsValuesFailure, MeansValues, sums_of};
 ghost use Rattle.mtxkit_texts.specs.declared.failure.Failure.TheVariants.{OutOfMemory, Wide};
 
@@ -16,8 +16,8 @@ use crate::loaded::{names_pattern, read_integers, read_places};
 use crate::places::{joined, ones_of};
 use crate::sums::{are_narrow, wide_sums};
 use sparse_algebra::scalar::{W64, W128};
-use sparse_base::coo::CooMatrix;
-use sparse_forms::csr::CsrMatrix;
+use sparse_coo_dense::coo::CooMatrix;
+use sparse_csr_csc::csr::CsrMatrix;
 use std::alloc::{AllocError, Global};
 
 /// Reads a matrix of 64-bit integers by rows from a text: a pattern has one at each place, and the values of repeated

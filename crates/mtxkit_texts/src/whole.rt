@@ -1,7 +1,7 @@
 //! Matrices read from texts, whose sums are exact.
 
 ghost use Rattle.std.specs.Prelude.{◌≡◌, ◌⊎◌, IfOk, IfErr, length};
-ghost use Rattle.sparse_cs.specs.Compressed.{IsSound};
+ghost use Rattle.sparse_compressed.specs.Compressed.{IsSound};
 ghost use Rattle.mtxkit_texts.specs.Loaded.{HasExactSums, HasFittingSums, IsWholeFailure};
 ghost use Rattle.mtxkit_texts.specs.Loaded.{MeansWhole};
 ghost use Rattle.mtxkit_texts.specs.declared.failure.Failure.TheVariants.{OutOfMemory, Wide};
@@ -10,7 +10,7 @@ use crate::exact::sums_fit;
 use crate::failure::Failure;
 use crate::loaded::{Loaded, load_places, names_pattern, read_integers};
 use crate::sums::wide_sums;
-use sparse_base::coo::CooMatrix;
+use sparse_coo_dense::coo::CooMatrix;
 use std::alloc::Global;
 
 /// Reads a matrix by rows from a text, as [`load`](crate::load) does, with exact sums.

@@ -42,41 +42,41 @@ pub use Rattle.sparse_pattern.specs.Rest
 pub use Rattle.sparse_pattern.specs.SparseEntries
 pub use Rattle.sparse_pattern.specs.TransposedPattern
 -- coordinate lists and dense matrices
-pub use Rattle.sparse_base.specs.Blocks
-pub use Rattle.sparse_base.specs.Coo
-pub use Rattle.sparse_base.specs.CooData
-pub use Rattle.sparse_base.specs.CooEquality
-pub use Rattle.sparse_base.specs.CooLending
-pub use Rattle.sparse_base.specs.CooPlain
-pub use Rattle.sparse_base.specs.Dense
-pub use Rattle.sparse_base.specs.DenseEquality
-pub use Rattle.sparse_base.specs.DenseLending
-pub use Rattle.sparse_base.specs.DensePlain
-pub use Rattle.sparse_base.specs.TripletFaults
+pub use Rattle.sparse_coo_dense.specs.Blocks
+pub use Rattle.sparse_coo_dense.specs.Coo
+pub use Rattle.sparse_coo_dense.specs.CooData
+pub use Rattle.sparse_coo_dense.specs.CooEquality
+pub use Rattle.sparse_coo_dense.specs.CooLending
+pub use Rattle.sparse_coo_dense.specs.CooPlain
+pub use Rattle.sparse_coo_dense.specs.Dense
+pub use Rattle.sparse_coo_dense.specs.DenseEquality
+pub use Rattle.sparse_coo_dense.specs.DenseLending
+pub use Rattle.sparse_coo_dense.specs.DensePlain
+pub use Rattle.sparse_coo_dense.specs.TripletFaults
 -- the core of CSR and CSC
-pub use Rattle.sparse_cs.specs.ChangedValues
-pub use Rattle.sparse_cs.specs.ColumnOrder
-pub use Rattle.sparse_cs.specs.Compressed
-pub use Rattle.sparse_cs.specs.Filter
-pub use Rattle.sparse_cs.specs.LaneEquality
-pub use Rattle.sparse_cs.specs.Lanes
-pub use Rattle.sparse_cs.specs.Laws
-pub use Rattle.sparse_cs.specs.Left
-pub use Rattle.sparse_cs.specs.PlainOfLanes
-pub use Rattle.sparse_cs.specs.SortedFaults
-pub use Rattle.sparse_cs.specs.Standing
-pub use Rattle.sparse_cs.specs.StoredEntries
-pub use Rattle.sparse_cs.specs.TransposedMatrix
-pub use Rattle.sparse_cs.specs.UnsortedFaults
-pub use Rattle.sparse_cs.specs.Writing
+pub use Rattle.sparse_compressed.specs.ChangedValues
+pub use Rattle.sparse_compressed.specs.ColumnOrder
+pub use Rattle.sparse_compressed.specs.Compressed
+pub use Rattle.sparse_compressed.specs.Filter
+pub use Rattle.sparse_compressed.specs.LaneEquality
+pub use Rattle.sparse_compressed.specs.Lanes
+pub use Rattle.sparse_compressed.specs.Laws
+pub use Rattle.sparse_compressed.specs.Left
+pub use Rattle.sparse_compressed.specs.PlainOfLanes
+pub use Rattle.sparse_compressed.specs.SortedFaults
+pub use Rattle.sparse_compressed.specs.Standing
+pub use Rattle.sparse_compressed.specs.StoredEntries
+pub use Rattle.sparse_compressed.specs.TransposedMatrix
+pub use Rattle.sparse_compressed.specs.UnsortedFaults
+pub use Rattle.sparse_compressed.specs.Writing
 -- rows, columns and their iterators
-pub use Rattle.sparse_lanes.specs.ColWriting
-pub use Rattle.sparse_lanes.specs.RowWriting
+pub use Rattle.sparse_rows_cols.specs.ColWriting
+pub use Rattle.sparse_rows_cols.specs.RowWriting
 -- CSR and CSC
-pub use Rattle.sparse_forms.specs.CscData
-pub use Rattle.sparse_forms.specs.CscWriting
-pub use Rattle.sparse_forms.specs.CsrData
-pub use Rattle.sparse_forms.specs.CsrWriting
+pub use Rattle.sparse_csr_csc.specs.CscData
+pub use Rattle.sparse_csr_csc.specs.CscWriting
+pub use Rattle.sparse_csr_csc.specs.CsrData
+pub use Rattle.sparse_csr_csc.specs.CsrWriting
 -- sparse vectors and dense ones
 pub use Rattle.sparse_kernels.specs.SparseVectors
 -- conversions

@@ -39,7 +39,7 @@ pub mod wrapping {
 }
 
 /// Compressed matrices: `==`, places, transposes, kept places, row order.
-pub use sparse_cs::laws as compressed;
+pub use sparse_compressed::laws as compressed;
 /// Expressions: words say one tree.
 pub use sparse_expr::laws as expressions;
 /// Data structs: what is copied out is taken back as an equal value.

@@ -7,9 +7,9 @@ use Rattle.std.proofs.lemmas.Nat.{mul-add-lt}
 use Rattle.sparse_algebra.specs.Algebra.{CommRing}
 use Rattle.sparse_algebra.specs.Sums.{sum_below}
 use Rattle.sparse_algebra.proofs.SumLemmas.{sum_below-same}
-use Rattle.sparse_base.specs.Dense.{Dense, HasValues, value_at, with_value_at}
-use Rattle.sparse_base.specs.DensePlain.{plain_of_dense}
-use Rattle.sparse_base.proofs.DenseLemmas.{set_values}
+use Rattle.sparse_coo_dense.specs.Dense.{Dense, HasValues, value_at, with_value_at}
+use Rattle.sparse_coo_dense.specs.DensePlain.{plain_of_dense}
+use Rattle.sparse_coo_dense.proofs.DenseLemmas.{set_values}
 use Rattle.sparse_algebra.specs.Inverses.{HasInverse}
 use Rattle.sparse_kernels.specs.SparseVectors.{elements}
 use Rattle.sparse_solve.proofs.RingSteps.{back, moved_over}

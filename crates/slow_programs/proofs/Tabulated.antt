@@ -13,8 +13,8 @@ use Rattle.sparse_algebra.proofs.PlainLaws.{proper_difference, proper_transpose}
 use Rattle.sparse_algebra.proofs.PlainLemmas.{same_plain, proper_product}
 use Rattle.sparse_algebra.proofs.RingLemmas.{zero_add}
 use Rattle.sparse_algebra.proofs.SumLemmas.{sum_by-append}
-use Rattle.sparse_base.specs.Coo.{Coo, appended}
-use Rattle.sparse_base.specs.CooPlain.{plain_of_coo}
+use Rattle.sparse_coo_dense.specs.Coo.{Coo, appended}
+use Rattle.sparse_coo_dense.specs.CooPlain.{plain_of_coo}
 use Rattle.sparse_algebra.proofs.Cases.{true_or_false, and_parts, and_both, or_right, or_false}
 use Rattle.slow_programs.specs.InnerOperation.{is_before, plain_of_operation, Lists}
 use Rattle.slow_programs.specs.declared.expressions.operation.Operation.{Operation}

@@ -2,8 +2,8 @@
 use Rattle.std.specs.Prelude.{◌≡◌, ℕ, ◌*◌, ◌<◌, List, length}
 use Rattle.sparse_algebra.specs.Algebra.{CommRing}
 use Rattle.sparse_algebra.specs.Sums.{sum_below}
-use Rattle.sparse_base.specs.Dense.{Dense}
-use Rattle.sparse_base.specs.DensePlain.{plain_of_dense}
+use Rattle.sparse_coo_dense.specs.Dense.{Dense}
+use Rattle.sparse_coo_dense.specs.DensePlain.{plain_of_dense}
 use Rattle.sparse_ldl.specs.InnerColumns.{ArePartFactors, term}
 use Rattle.sparse_kernels.specs.SparseVectors.{elements}
 use Rattle.slow_programs.specs.DenseFactors.{dense_symmetric}

@@ -3,8 +3,8 @@ use Rattle.std.specs.Prelude.{◌≡◌, ℕ, nat_eq, nat_lt, ◌&&◌, ◌||◌
 use Rattle.sparse_algebra.specs.Algebra.{CommRing}
 use Rattle.sparse_algebra.specs.Plain.{Plain, plain_sum, plain_difference, plain_product}
 use Rattle.sparse_algebra.specs.Plain.{plain_transpose, plain_negation, plain_kept}
-use Rattle.sparse_base.specs.Coo.{Coo}
-use Rattle.sparse_base.specs.CooPlain.{plain_of_coo}
+use Rattle.sparse_coo_dense.specs.Coo.{Coo}
+use Rattle.sparse_coo_dense.specs.CooPlain.{plain_of_coo}
 use Rattle.slow_programs.specs.declared.expressions.operation.Operation.{Operation}
 use Rattle.slow_programs.specs.declared.expressions.operation.Operation.TheVariants as operation
 

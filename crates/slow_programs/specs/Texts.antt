@@ -1,6 +1,6 @@
 -- The answers of the slow reader, as contracts see them.
 use Rattle.std.specs.Prelude.{map, Result, Ok, Err}
-use Rattle.sparse_base.specs.Coo.{Coo, coo_of}
+use Rattle.sparse_coo_dense.specs.Coo.{Coo, coo_of}
 use Rattle.sparse_parser.specs.declared.error.MatrixMarketErrorKind.{MatrixMarketErrorKind}
 use Rattle.sparse_parser.specs.Reads.{Read}
 use Rattle.sparse_parser.specs.Meaning.{value_triplet}

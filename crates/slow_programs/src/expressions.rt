@@ -2,14 +2,14 @@
 
 ghost use Rattle.std.specs.Prelude.{◌≡◌, Ok, map};
 ghost use Rattle.sparse_algebra.specs.Plain.{plain_transpose, plain_negation, IsWithin};
-ghost use Rattle.sparse_base.specs.CooPlain.{plain_of_coo};
+ghost use Rattle.sparse_coo_dense.specs.CooPlain.{plain_of_coo};
 ghost use Rattle.sparse_expr.specs.Value.{value_of, input_at, Meets, sum_of, difference_of};
 ghost use Rattle.sparse_expr.specs.Value.{product_of};
 
 use crate::expressions::operation::{Operation, tabulated};
 use sparse_algebra::learn;
 use sparse_algebra::scalar::Ring;
-use sparse_base::coo::CooMatrix;
+use sparse_coo_dense::coo::CooMatrix;
 use sparse_expr::{Expr, ExprError};
 use std::alloc::Global;
 

@@ -6,7 +6,8 @@ ghost use Rattle.sparse_pattern.specs.Raw.{IsValid};
 ghost use Rattle.sparse_factor.specs.Fill.{InFill, TriangleBase};
 ghost use Rattle.slow_programs.specs.Pairs.{pair};
 ghost use Rattle.slow_programs.specs.InnerClosure.{IsOfTriangle, base_pair, HasPlacesOf, HasFillOf};
-ghost use Rattle.slow_programs.specs.InnerClosure.{IsWhole, IsLacking, IsLackingPlace, IsLackingFill};
+ghost use Rattle.slow_programs.specs.InnerClosure.{IsWhole, IsLacking};
+ghost use Rattle.slow_programs.specs.InnerClosure.{IsLackingPlace, IsLackingFill};
 
 use sparse_algebra::learn;
 use sparse_factor::factorization::Triangle;

@@ -6,7 +6,7 @@ ghost use Rattle.slow_programs.specs.InnerEquations.{AreFirstFactors, HasNoColum
 ghost use Rattle.slow_programs.specs.InnerEquations.{IsColumnDivided, left_at};
 
 use sparse_algebra::scalar::{Ring, Units};
-use sparse_base::dense::DMatrix;
+use sparse_coo_dense::dense::DMatrix;
 use std::alloc::{AllocError, Global};
 
 /// The unit lower triangle L and the diagonal of D.

@@ -2,11 +2,11 @@
 
 ghost use Rattle.std.specs.Prelude.{◌≡◌};
 ghost use Rattle.sparse_algebra.specs.Plain.{plain_product};
-ghost use Rattle.sparse_base.specs.CooPlain.{plain_of_coo};
+ghost use Rattle.sparse_coo_dense.specs.CooPlain.{plain_of_coo};
 
 use crate::sums::{has_triplet, sum_at};
 use sparse_algebra::scalar::Ring;
-use sparse_base::coo::CooMatrix;
+use sparse_coo_dense::coo::CooMatrix;
 
 /// Returns whether (i, j) is a place of the product: some k has (i, k) in `a` and (k, j) in `b`. Tries all k.
 pub fn product_has<T: Ring>(a: &CooMatrix<T>, b: &CooMatrix<T>, i: usize, j: usize) -> bool

@@ -3,10 +3,10 @@
 ghost use Rattle.std.specs.Prelude.{◌≡◌};
 ghost use Rattle.std.specs.List.{list_any};
 ghost use Rattle.sparse_algebra.specs.Plain.{is_at};
-ghost use Rattle.sparse_base.specs.CooPlain.{plain_of_coo};
+ghost use Rattle.sparse_coo_dense.specs.CooPlain.{plain_of_coo};
 
 use sparse_algebra::scalar::Ring;
-use sparse_base::coo::CooMatrix;
+use sparse_coo_dense::coo::CooMatrix;
 
 /// Returns whether a triplet is at (i, j). Reads all triplets.
 pub fn has_triplet<T>(coo: &CooMatrix<T>, i: usize, j: usize) -> bool

@@ -1,5 +1,6 @@
 -- Integers in the rings of residues.
-use Rattle.std.proofs.Common.{◌≡◌, ℕ, zero, suc, pred, ℤ, pos, negsuc, ◌+◌, ◌-◌, ◌<◌, ◌%◌, ◌^◌, ap, sym}
+use Rattle.std.proofs.Common.{◌≡◌, ℕ, zero, suc, pred, ℤ, pos, negsuc}
+use Rattle.std.proofs.Common.{◌+◌, ◌-◌, ◌<◌, ◌%◌, ◌^◌, ap, sym}
 use Rattle.std.proofs.Common.{◌∙◌, ◌≤◌, ◌-ℤ◌, unsigned_abs, to_z, of_z, true, false, refl, arith}
 use Rattle.std.proofs.Math.Nat.{add-mod, mod-eq_of_lt}
 use Rattle.std.proofs.Math.Pow.{pow_pos}

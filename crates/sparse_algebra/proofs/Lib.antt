@@ -3,10 +3,10 @@ pub mod RingLemmas
 pub mod SumLemmas
 pub mod PlainLemmas
 pub mod PlainLaws
-pub mod RingMapLemmas
+mod RingMapLemmas
 pub mod WholeNumbers
 pub mod Products
-pub mod NewtonSteps
+mod NewtonSteps
 mod OddNumbers
 pub mod ModClasses
 mod Euclid

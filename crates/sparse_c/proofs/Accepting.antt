@@ -2,7 +2,7 @@
 use Rattle.std.proofs.Common.{◌≡◌, ◌≢◌, ℕ, ℤ, List, inl, inr, ap, sym, subst, ◌∙◌, arith}
 use Rattle.std.specs.Prelude.{nat_abs}
 use Rattle.sparse_algebra.specs.Algebra.{CommRing}
-use Rattle.sparse_cs.specs.Compressed.{Compressed, IsSound}
+use Rattle.sparse_compressed.specs.Compressed.{Compressed, IsSound}
 use Rattle.sparse_pattern.specs.Raw.{Raw}
 use Rattle.sparse_c.specs.Factors.{IsFaultOfFactors}
 use Rattle.sparse_c.specs.Fills.{IsFaultOfFill}
@@ -15,7 +15,8 @@ use Rattle.sparse_c_views.proofs.Faultless.{matrix_told, other, pattern_told, sy
 use Rattle.sparse_c_views.specs.Refused.{IsSystemSound}
 use Rattle.sparse_c_views.specs.Statuses.{number_of, FindsNoFault}
 use Rattle.sparse_c_views.specs.declared.refusal.Refusal.{Refusal}
-use Rattle.sparse_c_views.specs.declared.refusal.Refusal.TheVariants.{Singular as RefusedSingular, TooSmall}
+use Rattle.sparse_c_views.specs.declared.refusal.Refusal.TheVariants.{Singular as RefusedSingular}
+use Rattle.sparse_c_views.specs.declared.refusal.Refusal.TheVariants.{TooSmall}
 use Rattle.sparse_c_views.specs.declared.refusal.Refusal.TheVariants.{UnknownChoice}
 
 -- the status of an unknown choice is that of a fault

@@ -5,7 +5,7 @@ use Rattle.sparse_algebra.proofs.PlainLemmas.{same_plain}
 use Rattle.sparse_algebra.proofs.Products.{mul_neg}
 use Rattle.sparse_algebra.specs.Algebra.{CommRing}
 use Rattle.sparse_algebra.specs.Plain.{Plain, plain_negation, plain_scaled, plain_sum}
-use Rattle.sparse_cs.specs.Compressed.{Compressed, IsSound}
+use Rattle.sparse_compressed.specs.Compressed.{Compressed, IsSound}
 use Rattle.sparse_c_views.proofs.Answering.{small_not_zero}
 use Rattle.sparse_c_views.proofs.Faultless.{pair_told}
 use Rattle.sparse_c_views.specs.Arrays.{room_of, Room, HoldsRows}
@@ -16,7 +16,8 @@ use Rattle.sparse_c_views.specs.Written.{WritesRows}
 use Rattle.sparse_c_views.specs.declared.refusal.Refusal.{Refusal}
 use Rattle.sparse_c.specs.Combinations.{combined_by, IsSumOf}
 use Rattle.sparse_c.specs.declared.arguments.Combination.{Combination}
-use Rattle.sparse_c.specs.declared.arguments.Combination.TheVariants.{Sum, Difference, Multiples, Product}
+use Rattle.sparse_c.specs.declared.arguments.Combination.TheVariants.{Sum, Difference}
+use Rattle.sparse_c.specs.declared.arguments.Combination.TheVariants.{Multiples, Product}
 
 -- a combination has the rows of the first matrix
 pub rows-combined : (R : CommRing) (how : Combination) (s : R.Carrier) (a : Plain R)

@@ -7,8 +7,8 @@ use Rattle.sparse_algebra.specs.Algebra.{CommRing}
 use Rattle.sparse_algebra.specs.ModNumbers.{mod_value}
 use Rattle.sparse_algebra.specs.Moduli.{mod_ring}
 use Rattle.sparse_algebra.specs.Plain.{Plain}
-use Rattle.sparse_cs.specs.Compressed.{Compressed, IsSound}
-use Rattle.sparse_cs.specs.PlainOfLanes.{plain_of_cols, plain_of_rows}
+use Rattle.sparse_compressed.specs.Compressed.{Compressed, IsSound}
+use Rattle.sparse_compressed.specs.PlainOfLanes.{plain_of_cols, plain_of_rows}
 use Rattle.sparse_factor.specs.Fill.{InFill, UpperBase, StoresByColumns}
 use Rattle.sparse_ldl.specs.Factorisations.{plain_symmetric, IsUnitLower}
 use Rattle.sparse_ldl.specs.Factors.{Factors, diagonal, plain_of_factors, symmetric_of, HavePivots}

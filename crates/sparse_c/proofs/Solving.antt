@@ -5,8 +5,8 @@ use Rattle.std.specs.Prelude.{IfOk, IfErr, MatchResult}
 use Rattle.sparse_algebra.specs.Algebra.{CommRing}
 use Rattle.sparse_algebra.specs.Plain.{Plain, plain_product}
 use Rattle.sparse_algebra.specs.Sums.{sum_below}
-use Rattle.sparse_base.specs.Dense.{Dense}
-use Rattle.sparse_base.specs.DensePlain.{plain_of_dense}
+use Rattle.sparse_coo_dense.specs.Dense.{Dense}
+use Rattle.sparse_coo_dense.specs.DensePlain.{plain_of_dense}
 use Rattle.sparse_solve.specs.Solutions.{HasSameValues, IsSolution}
 use Rattle.sparse_c.specs.Solved.{HoldsMatrix, IsMatrixTooLong}
 use Rattle.sparse_c_views.specs.Arrays.{plain_by_values, HoldsDense}

@@ -2,10 +2,12 @@
 use Rattle.std.specs.Prelude.{◌≡◌, ℤ}
 use Rattle.sparse_algebra.specs.Algebra.{CommRing}
 use Rattle.sparse_algebra.specs.Integers.{element_of}
-use Rattle.sparse_algebra.specs.Plain.{Plain, plain_sum, plain_difference, plain_product, plain_scaled}
-use Rattle.sparse_cs.specs.Compressed.{Compressed}
+use Rattle.sparse_algebra.specs.Plain.{Plain, plain_sum, plain_difference}
+use Rattle.sparse_algebra.specs.Plain.{plain_product, plain_scaled}
+use Rattle.sparse_compressed.specs.Compressed.{Compressed}
 use Rattle.sparse_c.specs.declared.arguments.Combination.{Combination}
-use Rattle.sparse_c.specs.declared.arguments.Combination.TheVariants.{Sum, Difference, Multiples, Product}
+use Rattle.sparse_c.specs.declared.arguments.Combination.TheVariants.{Sum, Difference}
+use Rattle.sparse_c.specs.declared.arguments.Combination.TheVariants.{Multiples, Product}
 use Rattle.sparse_c.specs.declared.arguments.Pair.{Pair}
 use Rattle.sparse_c_views.specs.Arrays.{plain_by_rows}
 

@@ -1,7 +1,7 @@
 -- Combinations of two matrices modulo a number.
 use Rattle.std.specs.Prelude.{◌≡◌, ℕ, ℤ, pos}
 use Rattle.sparse_algebra.specs.Moduli.{mod_ring}
-use Rattle.sparse_cs.specs.Compressed.{IsSound}
+use Rattle.sparse_compressed.specs.Compressed.{IsSound}
 use Rattle.sparse_c.specs.Combinations.{combination_of}
 use Rattle.sparse_c.specs.Moduli.{IsFaultModulo}
 use Rattle.sparse_c.specs.declared.arguments.Pair.{Pair}

@@ -3,7 +3,7 @@ use Rattle.std.specs.Prelude.{◌≡◌, ◌≢◌, ◌*◌, ℤ, List, ℕ, pos
 use Rattle.sparse_algebra.specs.Algebra.{CommRing}
 use Rattle.sparse_algebra.specs.Moduli.{mod_ring}
 use Rattle.sparse_algebra.specs.Plain.{Plain, plain_product}
-use Rattle.sparse_base.specs.DensePlain.{plain_full}
+use Rattle.sparse_coo_dense.specs.DensePlain.{plain_full}
 use Rattle.sparse_c.specs.Moduli.{IsFaultModulo}
 use Rattle.sparse_c.specs.declared.dense.Factors.{Factors}
 use Rattle.sparse_c_views.specs.Arrays.{plain_by_rows, plain_by_values, HoldsDense}

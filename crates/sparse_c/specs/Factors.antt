@@ -5,8 +5,8 @@ use Rattle.sparse_algebra.specs.Algebra.{CommRing}
 use Rattle.sparse_algebra.specs.ModNumbers.{mod_value}
 use Rattle.sparse_algebra.specs.Moduli.{mod_ring}
 use Rattle.sparse_algebra.specs.Plain.{Plain, plain_transpose}
-use Rattle.sparse_cs.specs.Compressed.{Compressed, IsSound}
-use Rattle.sparse_cs.specs.PlainOfLanes.{plain_of_rows}
+use Rattle.sparse_compressed.specs.Compressed.{Compressed, IsSound}
+use Rattle.sparse_compressed.specs.PlainOfLanes.{plain_of_rows}
 use Rattle.sparse_factor.specs.Fill.{InFill, UpperBase}
 use Rattle.sparse_ldl.specs.Factorisations.{IsFactorisation}
 use Rattle.sparse_c.specs.Moduli.{IsFaultModulo}

@@ -3,7 +3,7 @@ use Rattle.std.specs.Prelude.{◌≡◌, ℕ, ℤ, pos}
 use Rattle.sparse_algebra.specs.Algebra.{CommRing}
 use Rattle.sparse_algebra.specs.Moduli.{mod_ring}
 use Rattle.sparse_algebra.specs.Plain.{Plain, plain_transpose}
-use Rattle.sparse_base.specs.Coo.{AreParts}
+use Rattle.sparse_coo_dense.specs.Coo.{AreParts}
 use Rattle.sparse_c.specs.Moduli.{IsFaultModulo}
 use Rattle.sparse_c.specs.declared.arguments.Order.{Order}
 use Rattle.sparse_c.specs.declared.arguments.Order.TheVariants.{Rows, Columns}

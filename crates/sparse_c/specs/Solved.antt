@@ -6,7 +6,7 @@ use Rattle.sparse_algebra.specs.Inverses.{HasInverse}
 use Rattle.sparse_algebra.specs.ModNumbers.{mod_value}
 use Rattle.sparse_algebra.specs.Moduli.{mod_ring}
 use Rattle.sparse_algebra.specs.Plain.{Plain, plain_scaled, plain_transpose}
-use Rattle.sparse_cs.specs.Compressed.{Compressed, IsSound}
+use Rattle.sparse_compressed.specs.Compressed.{Compressed, IsSound}
 use Rattle.sparse_solve.specs.Solutions.{plain_lower, IsSingular, IsSolution}
 use Rattle.sparse_c.specs.Moduli.{IsFaultModulo}
 use Rattle.sparse_c_views.specs.Arrays.{plain_by_cols, plain_by_rows, plain_by_values}

@@ -2,7 +2,7 @@
 use Rattle.std.specs.Prelude.{◌≡◌, ◌⊎◌, ℕ, ℤ, List}
 use Rattle.sparse_algebra.specs.Algebra.{CommRing}
 use Rattle.sparse_algebra.specs.Plain.{Plain, plain_product}
-use Rattle.sparse_cs.specs.Compressed.{Compressed}
+use Rattle.sparse_compressed.specs.Compressed.{Compressed}
 use Rattle.sparse_ldl.specs.Factorisations.{plain_symmetric, IsFactorisation}
 use Rattle.sparse_solve.specs.Solutions.{HasSameValues}
 use Rattle.sparse_c.specs.Solved.{HoldsMatrix, IsMatrixTooLong}

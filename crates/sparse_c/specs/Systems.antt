@@ -4,7 +4,7 @@ use Rattle.sparse_algebra.specs.Algebra.{CommRing}
 use Rattle.sparse_algebra.specs.ModNumbers.{mod_value}
 use Rattle.sparse_algebra.specs.Moduli.{mod_ring}
 use Rattle.sparse_algebra.specs.Plain.{Plain}
-use Rattle.sparse_cs.specs.Compressed.{Compressed}
+use Rattle.sparse_compressed.specs.Compressed.{Compressed}
 use Rattle.sparse_solve.specs.Solutions.{IsSolution}
 use Rattle.sparse_c.specs.Moduli.{IsFaultModulo}
 use Rattle.sparse_c.specs.Solved.{lower_of, HoldsMatrix, IsFaultOfLower, IsMatrixTooLong}

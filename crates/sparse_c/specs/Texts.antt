@@ -2,7 +2,7 @@
 use Rattle.std.specs.Prelude.{◌≡◌, ◌⊎◌, ℕ, ℤ, Ok, Err, List, codes, length, IsUtf8}
 use Rattle.std.specs.Fmt.{signed_decimal}
 use Rattle.std.specs.Int.{w64}
-use Rattle.sparse_base.specs.Coo.{Coo, coo_of, zip_triplets}
+use Rattle.sparse_coo_dense.specs.Coo.{Coo, coo_of, zip_triplets}
 use Rattle.sparse_io.specs.Written.{text_of}
 use Rattle.sparse_market_scalar.specs.ScalarTypes.{wrapping_scalar}
 use Rattle.sparse_parser.specs.Meaning.{Means}

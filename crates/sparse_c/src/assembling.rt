@@ -1,8 +1,8 @@
 //! Triplets from outside, assembled to a matrix by rows or by columns.
 
 ghost use Rattle.std.specs.Prelude.{◌≡◌, ◌≤◌, pos, IfOk, IfErr, OnOk};
-ghost use Rattle.sparse_base.specs.Coo.{AreParts};
-ghost use Rattle.sparse_cs.specs.PlainOfLanes.{plain_of_rows};
+ghost use Rattle.sparse_coo_dense.specs.Coo.{AreParts};
+ghost use Rattle.sparse_compressed.specs.PlainOfLanes.{plain_of_rows};
 ghost use Rattle.sparse_c.specs.Moduli.{moduli, IsNoneOf};
 ghost use Rattle.sparse_c.specs.Orders.{assembly_of, AssemblesModulo};
 ghost use Rattle.sparse_c.specs.Rooms.{room_after, room_before};
@@ -21,7 +21,7 @@ use sparse_c_views::refusal::Refusal;
 use sparse_c_views::triplets::list_of;
 use sparse_c_views::writing::finish_rows;
 use sparse_convert::serial::{convert_coo_csc, convert_coo_csr};
-use sparse_forms::csr::CsrMatrix;
+use sparse_csr_csc::csr::CsrMatrix;
 use std::alloc::Global;
 
 /// Writes the matrix of triplets over the residues modulo a listed number.

@@ -1,6 +1,6 @@
 //! Assembly of matrices from triplets.
 
-ghost use Rattle.sparse_base.specs.Coo.{AreParts};
+ghost use Rattle.sparse_coo_dense.specs.Coo.{AreParts};
 ghost use Rattle.sparse_c_views.specs.Arrays.{plain_of_lists, ring64, room_of};
 ghost use Rattle.sparse_c_views.specs.Refused.{IsFaultOfList};
 ghost use Rattle.sparse_c_views.specs.Written.{WritesCols, WritesRows};

@@ -2,7 +2,7 @@
 
 ghost use Rattle.std.specs.Prelude.{◌≡◌, pos};
 ghost use Rattle.sparse_algebra.specs.Moduli.{mod_ring};
-ghost use Rattle.sparse_base.specs.Coo.{AreParts};
+ghost use Rattle.sparse_coo_dense.specs.Coo.{AreParts};
 ghost use Rattle.sparse_c.specs.Moduli.{moduli, IsFaultModulo, IsNoneOf};
 ghost use Rattle.sparse_c_views.specs.Arrays.{plain_of_lists, room_of};
 ghost use Rattle.sparse_c_views.specs.Reduced.{AreReduced};

@@ -2,8 +2,8 @@
 
 ghost use Rattle.std.specs.Prelude.{◌≡◌, ◌≤◌, pos, IfOk, IfErr, IfSome, OnOk};
 ghost use Rattle.sparse_algebra.specs.Integers.{element_of};
-ghost use Rattle.sparse_cs.specs.Compressed.{IsSound};
-ghost use Rattle.sparse_cs.specs.PlainOfLanes.{plain_of_rows};
+ghost use Rattle.sparse_compressed.specs.Compressed.{IsSound};
+ghost use Rattle.sparse_compressed.specs.PlainOfLanes.{plain_of_rows};
 ghost use Rattle.sparse_c.specs.Combinations.{combination_of, CanCombine, IsOfOneShape, IsSumOf};
 ghost use Rattle.sparse_c.specs.CombinationsModulo.{CombinesModulo};
 ghost use Rattle.sparse_c.specs.Moduli.{moduli, IsNoneOf};
@@ -22,7 +22,7 @@ use sparse_c_sums::{Multiples, write_sum};
 use sparse_c_views::number::Number;
 use sparse_c_views::refusal::Refusal;
 use sparse_c_views::writing::finish_rows;
-use sparse_forms::csr::CsrMatrix;
+use sparse_csr_csc::csr::CsrMatrix;
 use sparse_products::serial::mul_csr;
 use sparse_sums::{add_csr, add_scaled_csr, sub_csr};
 use std::alloc::Global;

@@ -3,8 +3,8 @@
 ghost use Rattle.std.specs.Prelude.{◌≡◌, ◌≢◌, ◌≤◌, ◌*◌, pos, IfOk, IfErr, OnOk};
 ghost use Rattle.sparse_algebra.specs.Moduli.{mod_ring};
 ghost use Rattle.sparse_algebra.specs.Plain.{plain_product};
-ghost use Rattle.sparse_base.specs.DensePlain.{plain_full, plain_of_dense};
-ghost use Rattle.sparse_cs.specs.Compressed.{arrays_of};
+ghost use Rattle.sparse_coo_dense.specs.DensePlain.{plain_full, plain_of_dense};
+ghost use Rattle.sparse_compressed.specs.Compressed.{arrays_of};
 ghost use Rattle.sparse_c.specs.Dense.{MultipliesModulo};
 ghost use Rattle.sparse_c.specs.Moduli.{moduli, IsFaultModulo, IsNoneOf};
 ghost use Rattle.sparse_c_views.specs.Arrays.{plain_by_rows, plain_by_values, ring64, HoldsDense};
@@ -18,12 +18,12 @@ ghost use Rattle.sparse_c_views.specs.declared.refusal.Refusal.TheVariants.{Unkn
 use crate::arguments::lanes;
 use crate::moduli::by_modulus;
 use sparse_algebra::scalar::{Mod, W64};
-use sparse_base::dense::DMatrix;
 use sparse_c_views::dense::dense_matrix_of;
 use sparse_c_views::lanes::Lanes;
 use sparse_c_views::number::Number;
 use sparse_c_views::refusal::Refusal;
 use sparse_c_views::writing::finish_dense;
+use sparse_coo_dense::dense::DMatrix;
 use sparse_dense_products::mul_csr_dense;
 use std::alloc::Global;
 

@@ -9,7 +9,8 @@ ghost use Rattle.sparse_c_views.specs.Refused.{IsMemoryOr, IsRefusedFor};
 ghost use Rattle.sparse_c_views.specs.Rests.{KeepsPatternRest};
 ghost use Rattle.sparse_c_views.specs.Statuses.{number_of, FindsNoFault};
 ghost use Rattle.sparse_c_views.specs.Untouched.{IsPatternUntouched};
-ghost use Rattle.sparse_c_views.specs.declared.refusal.Refusal.TheVariants.{TooSmall, UnknownChoice};
+ghost use Rattle.sparse_c_views.specs.declared.refusal.Refusal.TheVariants.{TooSmall};
+ghost use Rattle.sparse_c_views.specs.declared.refusal.Refusal.TheVariants.{UnknownChoice};
 
 use sparse_c_views::lanes::pattern_of;
 use sparse_c_views::patterns::finish_pattern;

@@ -1,7 +1,7 @@
 //! Matrices behind handles: made, read, copied and freed.
 
 ghost use Rattle.std.specs.Prelude.{◌≡◌, None};
-ghost use Rattle.sparse_cs.specs.Compressed.{arrays_of};
+ghost use Rattle.sparse_compressed.specs.Compressed.{arrays_of};
 ghost use Rattle.sparse_c_views.specs.Arrays.{places_of, plain_by_rows, plain_of_lists};
 ghost use Rattle.sparse_c_views.specs.Arrays.{ring64, room_of, HoldsRows};
 ghost use Rattle.sparse_c_views.specs.Refused.{IsFaultOf, IsFaultOfList};

@@ -1,7 +1,7 @@
 //! Products.
 
 ghost use Rattle.std.specs.Prelude.{◌≡◌, ◌≢◌, pos};
-ghost use Rattle.sparse_cs.specs.Compressed.{arrays_of, IsSound};
+ghost use Rattle.sparse_compressed.specs.Compressed.{arrays_of, IsSound};
 ghost use Rattle.sparse_algebra.specs.Moduli.{mod_ring};
 ghost use Rattle.sparse_algebra.specs.Plain.{plain_product};
 ghost use Rattle.sparse_pattern.specs.Raw.{raw_of, IsValid};

@@ -3,7 +3,8 @@
 ghost use Rattle.std.specs.Prelude.{◌≡◌, ◌≢◌, pos, IfOk, IfErr};
 ghost use Rattle.sparse_algebra.specs.Numbers.{w64_number};
 ghost use Rattle.sparse_parser.specs.Meaning.{values_of};
-ghost use Rattle.sparse_c.specs.Texts.{CountsText, IsErrorOfText, IsFaultOfText, IsTextOf, IsTextTooLong};
+ghost use Rattle.sparse_c.specs.Texts.{CountsText, IsErrorOfText, IsFaultOfText};
+ghost use Rattle.sparse_c.specs.Texts.{IsTextOf, IsTextTooLong};
 ghost use Rattle.sparse_c.specs.Texts.{SizesText, WritesTriplets};
 ghost use Rattle.sparse_c_views.specs.Lists.{list_room_of};
 ghost use Rattle.sparse_c_views.specs.Refused.{IsMemoryOr, IsRefusedFor};
@@ -13,9 +14,9 @@ ghost use Rattle.sparse_c_views.specs.Untouched.{IsListUntouched};
 ghost use Rattle.sparse_c_views.specs.declared.refusal.Refusal.TheVariants.{TooSmall};
 
 use sparse_algebra::scalar::W64;
-use sparse_base::coo::CooMatrix;
 use sparse_c_views::lists::finish_list;
 use sparse_c_views::refusal::Refusal;
+use sparse_coo_dense::coo::CooMatrix;
 use sparse_io::load_coo_from_matrix_market_str;
 use std::alloc::Global;
 use std::str;

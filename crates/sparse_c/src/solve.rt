@@ -4,7 +4,7 @@ ghost use Rattle.std.specs.Prelude.{◌≡◌, ◌≢◌, ◌*◌, pos};
 ghost use Rattle.sparse_algebra.specs.ModNumbers.{mod_value};
 ghost use Rattle.sparse_algebra.specs.Moduli.{mod_ring};
 ghost use Rattle.sparse_algebra.specs.WrappingValues.{w64_value};
-ghost use Rattle.sparse_cs.specs.Compressed.{arrays_of};
+ghost use Rattle.sparse_compressed.specs.Compressed.{arrays_of};
 ghost use Rattle.sparse_c.specs.Moduli.{moduli, IsFaultModulo, IsNoneOf};
 ghost use Rattle.sparse_c.specs.Solved.{lower_of, HoldsSolution, IsFaultOfLower, IsSolutionTooLong};
 ghost use Rattle.sparse_c_views.specs.Arrays.{plain_by_values, ring64};

@@ -4,7 +4,7 @@ ghost use Rattle.std.specs.Prelude.{◌≡◌, pos};
 ghost use Rattle.sparse_algebra.specs.Integers.{element_of};
 ghost use Rattle.sparse_algebra.specs.Moduli.{mod_ring};
 ghost use Rattle.sparse_algebra.specs.Plain.{plain_sum, plain_difference, plain_scaled};
-ghost use Rattle.sparse_cs.specs.Compressed.{arrays_of, IsSound};
+ghost use Rattle.sparse_compressed.specs.Compressed.{arrays_of, IsSound};
 ghost use Rattle.sparse_c.specs.Moduli.{moduli, IsFaultModulo, IsNoneOf};
 ghost use Rattle.sparse_c_views.specs.Arrays.{plain_by_rows, room_of};
 ghost use Rattle.sparse_c_views.specs.Reduced.{AreReduced};

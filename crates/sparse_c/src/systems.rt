@@ -2,8 +2,8 @@
 
 ghost use Rattle.std.specs.Prelude.{◌≡◌, ◌≢◌, ◌<◌, ◌≤◌, ◌*◌, pos, IfOk, IfErr, OnOk, OnErr};
 ghost use Rattle.sparse_algebra.specs.declared.error.OperationErrorKind.TheVariants.{Singular};
-ghost use Rattle.sparse_base.specs.DensePlain.{plain_of_dense};
-ghost use Rattle.sparse_cs.specs.PlainOfLanes.{plain_of_cols};
+ghost use Rattle.sparse_coo_dense.specs.DensePlain.{plain_of_dense};
+ghost use Rattle.sparse_compressed.specs.PlainOfLanes.{plain_of_cols};
 ghost use Rattle.sparse_solve.specs.Solutions.{plain_lower, IsSingular, IsSolution};
 ghost use Rattle.sparse_c.specs.Moduli.{moduli, IsNoneOf};
 ghost use Rattle.sparse_c.specs.Solved.{lower_of, transposed_if, HoldsMatrix, IsFaultOfLower};
@@ -21,13 +21,13 @@ use crate::moduli::by_modulus;
 use sparse_algebra::error::OperationError;
 use sparse_algebra::operand::Op;
 use sparse_algebra::scalar::Mod;
-use sparse_base::dense::DMatrix;
 use sparse_c_views::dense::dense_matrix_of;
 use sparse_c_views::lanes::Lanes;
 use sparse_c_views::number::Number;
 use sparse_c_views::refusal::Refusal;
 use sparse_c_views::writing::finish_dense;
-use sparse_forms::csc::CscMatrix;
+use sparse_coo_dense::dense::DMatrix;
+use sparse_csr_csc::csc::CscMatrix;
 use sparse_ldl::ldl::Ldl;
 use sparse_solve::spsolve_csc_lower_triangular;
 use std::alloc::Global;

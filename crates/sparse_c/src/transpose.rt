@@ -1,8 +1,8 @@
 //! Transposes.
 
 ghost use Rattle.std.specs.Prelude.{◌≡◌, IfOk, IfErr, OnOk};
-ghost use Rattle.sparse_cs.specs.Compressed.{arrays_of, IsSound};
-ghost use Rattle.sparse_cs.specs.PlainOfLanes.{plain_of_rows};
+ghost use Rattle.sparse_compressed.specs.Compressed.{arrays_of, IsSound};
+ghost use Rattle.sparse_compressed.specs.PlainOfLanes.{plain_of_rows};
 ghost use Rattle.sparse_algebra.specs.Plain.{plain_transpose};
 ghost use Rattle.sparse_algebra.specs.WrappingValues.{w64_value};
 ghost use Rattle.sparse_c_views.specs.Arrays.{plain_by_rows, ring64, room_of};
@@ -14,7 +14,7 @@ use sparse_algebra::scalar::W64;
 use sparse_c_views::lanes::Lanes;
 use sparse_c_views::refusal::Refusal;
 use sparse_c_views::writing::finish_rows;
-use sparse_forms::csr::CsrMatrix;
+use sparse_csr_csc::csr::CsrMatrix;
 use sparse_products::transposes::transposed_csr;
 use std::alloc::Global;
 

@@ -1,7 +1,7 @@
 //! Matrix Market texts out of coordinate lists.
 
 ghost use Rattle.std.specs.Prelude.{◌≡◌, ◌≢◌, ◌<◌, length, pos, string_bytes, IfOk, IfErr, OnOk};
-ghost use Rattle.sparse_base.specs.Coo.{AreParts};
+ghost use Rattle.sparse_coo_dense.specs.Coo.{AreParts};
 ghost use Rattle.sparse_c.specs.Texts.{text_of_lists};
 ghost use Rattle.sparse_c_views.specs.Lists.{HoldsText};
 ghost use Rattle.sparse_c_views.specs.Refused.{IsFaultOfList, IsMemoryOr, IsRefusedFor};
@@ -10,9 +10,9 @@ ghost use Rattle.sparse_c_views.specs.Statuses.{number_of, FindsNoFault};
 ghost use Rattle.sparse_c_views.specs.Untouched.{KeepsSize};
 ghost use Rattle.sparse_c_views.specs.declared.refusal.Refusal.TheVariants.{TooSmall};
 
-use sparse_base::coo::CooMatrix;
 use sparse_c_views::refusal::Refusal;
 use sparse_c_views::texts::finish_text;
+use sparse_coo_dense::coo::CooMatrix;
 use sparse_io::save_to_matrix_market_str;
 use std::alloc::Global;
 

@@ -1,2 +1,2 @@
-pub mod Filling
-pub mod Terms
+mod Filling
+mod Terms

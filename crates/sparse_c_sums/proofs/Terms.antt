@@ -8,11 +8,11 @@ use Rattle.sparse_algebra.specs.Algebra.{CommRing}
 use Rattle.sparse_algebra.specs.Integers.{element_of}
 use Rattle.sparse_algebra.specs.Plain.{Plain, plain_scaled, plain_sum}
 use Rattle.sparse_pattern.specs.Raw.{start_of, end_of, lane_of}
-use Rattle.sparse_cs.specs.Compressed.{Compressed, arrays_of, compressed_of, IsSound}
-use Rattle.sparse_cs.specs.InnerRows.{lane_value}
-use Rattle.sparse_cs.specs.PlainOfLanes.{plain_of_rows}
-use Rattle.sparse_cs.proofs.ChangedPlain.{scaled}
-use Rattle.sparse_cs.proofs.LaneValues.{values_of}
+use Rattle.sparse_compressed.specs.Compressed.{Compressed, arrays_of, compressed_of, IsSound}
+use Rattle.sparse_compressed.specs.InnerRows.{lane_value}
+use Rattle.sparse_compressed.specs.PlainOfLanes.{plain_of_rows}
+use Rattle.sparse_compressed.proofs.ChangedPlain.{scaled}
+use Rattle.sparse_compressed.proofs.LaneValues.{values_of}
 use Rattle.sparse_sums.specs.InnerAdding.{GainsEntries}
 use Rattle.sparse_sums.proofs.SumLanes.{IsSumBelow, none_summed, sum_more, sum_is}
 use Rattle.sparse_sums.proofs.SumLanes.{sum_sound}

@@ -1,7 +1,7 @@
 //! Two lanes, merged at a position of the arrays of the result.
 
 ghost use Rattle.std.specs.Prelude.{◌≡◌, ◌+◌, ◌≤◌, ◌⊎◌, length, take, Contains};
-ghost use Rattle.sparse_cs.specs.InnerRows.{lane_value};
+ghost use Rattle.sparse_compressed.specs.InnerRows.{lane_value};
 ghost use Rattle.sparse_sums.specs.InnerAdding.{GainsEntries, IsAdding};
 ghost use Rattle.sparse_c_sums.specs.InnerFilling.{front_meant, times_meant, IsFilled, IsLane};
 

@@ -3,7 +3,7 @@
 ghost use Rattle.std.specs.Prelude.{◌≡◌, ◌+◌, ◌<◌, ◌≤◌, length, slice_range};
 ghost use Rattle.sparse_algebra.specs.Plain.{plain_sum, plain_scaled};
 ghost use Rattle.sparse_pattern.specs.Raw.{start_of, end_of, lane_of};
-ghost use Rattle.sparse_cs.specs.Compressed.{IsSound};
+ghost use Rattle.sparse_compressed.specs.Compressed.{IsSound};
 ghost use Rattle.sparse_c_views.specs.Arrays.{plain_by_rows, room_of, HoldsRows};
 ghost use Rattle.sparse_c_views.specs.Reduced.{FirstAre};
 ghost use Rattle.sparse_c_views.specs.Rests.{KeepsRest};
@@ -12,7 +12,7 @@ ghost use Rattle.sparse_c_sums.specs.InnerFilling.{IsLane};
 use crate::merge::merge_parts;
 use crate::parts::Part;
 use sparse_c_views::number::Number;
-use sparse_cs::CsView;
+use sparse_compressed::CsView;
 
 // A matrix by rows, and a factor of its values.
 #[derive(Drop)]

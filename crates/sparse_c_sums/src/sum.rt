@@ -2,7 +2,7 @@
 
 ghost use Rattle.std.specs.Prelude.{◌≡◌, ◌≢◌, ◌+◌, ◌<◌, ◌≤◌, length, pos, IfOk, IfErr, OnOk};
 ghost use Rattle.sparse_algebra.specs.Plain.{plain_sum, plain_scaled};
-ghost use Rattle.sparse_cs.specs.Compressed.{IsSound};
+ghost use Rattle.sparse_compressed.specs.Compressed.{IsSound};
 ghost use Rattle.sparse_c_views.specs.Arrays.{plain_by_rows, room_of, HoldsRows};
 ghost use Rattle.sparse_c_views.specs.Reduced.{FirstAre};
 ghost use Rattle.sparse_c_views.specs.Refused.{IsFaultOf, IsFaultOfPair};
@@ -14,7 +14,7 @@ use crate::rows::{Term, write_rows};
 use sparse_c_views::lanes::Lanes;
 use sparse_c_views::number::Number;
 use sparse_c_views::refusal::Refusal;
-use sparse_cs::CsView;
+use sparse_compressed::CsView;
 
 /// Two matrices by rows, and the factors of their values.
 #[derive(Drop)]

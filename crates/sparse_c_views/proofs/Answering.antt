@@ -4,8 +4,8 @@ use Rattle.std.proofs.Common.{◌∙◌, refl, arith}
 use Rattle.std.specs.Prelude.{nat_abs, IfOk, IfErr, MatchResult, OnErr, OnOk}
 use Rattle.sparse_algebra.specs.Algebra.{CommRing}
 use Rattle.sparse_algebra.specs.Plain.{Plain}
-use Rattle.sparse_cs.specs.Compressed.{Compressed}
-use Rattle.sparse_cs.specs.PlainOfLanes.{plain_of_rows}
+use Rattle.sparse_compressed.specs.Compressed.{Compressed}
+use Rattle.sparse_compressed.specs.PlainOfLanes.{plain_of_rows}
 use Rattle.sparse_c_views.proofs.Faultless.{memory_told}
 use Rattle.sparse_c_views.specs.Arrays.{places_of, room_of, Room, HoldsRows}
 use Rattle.sparse_c_views.specs.Refused.{IsMemoryOr, IsTooSmall}

@@ -1,7 +1,7 @@
 -- Where the operands of a call have no fault: where its status says so.
 use Rattle.std.proofs.Common.{◌≡◌, ◌≢◌, ℕ, ℤ, pos, Result, Ok, Err, inl, inr, ap, subst, ◌∙◌, arith}
 use Rattle.std.specs.Prelude.{IfErr, MatchResult, OnOk, nat_abs, List}
-use Rattle.sparse_cs.specs.Compressed.{Compressed}
+use Rattle.sparse_compressed.specs.Compressed.{Compressed}
 use Rattle.sparse_pattern.specs.Raw.{Raw}
 use Rattle.sparse_pattern.specs.declared.error.SparseFormatErrorKind.{SparseFormatErrorKind}
 use Rattle.sparse_pattern.specs.declared.error.SparseFormatErrorKind.TheVariants as kinds

@@ -2,14 +2,14 @@
 use Rattle.std.proofs.Common.{◌≡◌, ℕ, ℤ, ◌*◌, ◌≤◌, List, length, map, take, ap, sym}
 use Rattle.std.proofs.Common.{subst, ◌∙◌, arith}
 use Rattle.sparse_algebra.specs.Algebra.{CommRing}
-use Rattle.sparse_base.specs.Dense.{Dense}
-use Rattle.sparse_base.specs.DensePlain.{plain_of_dense}
-use Rattle.sparse_cs.specs.Compressed.{Compressed, compressed_of, arrays_of, IsSound}
-use Rattle.sparse_cs.specs.PlainOfLanes.{plain_of_rows}
+use Rattle.sparse_coo_dense.specs.Dense.{Dense}
+use Rattle.sparse_coo_dense.specs.DensePlain.{plain_of_dense}
+use Rattle.sparse_compressed.specs.Compressed.{Compressed, compressed_of, arrays_of, IsSound}
+use Rattle.sparse_compressed.specs.PlainOfLanes.{plain_of_rows}
 use Rattle.sparse_c_views.specs.Arrays.{plain_by_rows, plain_by_values, room_of, written_in}
 use Rattle.sparse_c_views.specs.Arrays.{HoldsDense, HoldsRows}
 use Rattle.sparse_algebra.specs.Integers.{element_of}
-use Rattle.sparse_base.proofs.Meanings.{dense-meant, same_length}
+use Rattle.sparse_coo_dense.proofs.Meanings.{dense-meant, same_length}
 use Rattle.sparse_c_views.proofs.Meanings.{places_of-rows, rows-meant}
 
 module _ (R : CommRing) {T : Type 0} (f : T → R.Carrier) where

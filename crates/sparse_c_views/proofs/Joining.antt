@@ -3,8 +3,8 @@ use Rattle.std.proofs.Common.{◌≡◌, ℕ, ℤ, Result, Ok, Err, inl, inr, ap
 use Rattle.std.specs.Prelude.{IfOk, IfErr, MatchResult}
 use Rattle.sparse_algebra.specs.Algebra.{CommRing}
 use Rattle.sparse_algebra.specs.Plain.{Plain}
-use Rattle.sparse_cs.specs.Compressed.{Compressed}
-use Rattle.sparse_cs.specs.PlainOfLanes.{plain_of_rows}
+use Rattle.sparse_compressed.specs.Compressed.{Compressed}
+use Rattle.sparse_compressed.specs.PlainOfLanes.{plain_of_rows}
 use Rattle.sparse_c_views.specs.Arrays.{Room, HoldsRows}
 use Rattle.sparse_c_views.specs.Refused.{IsMemoryOr, IsRefused, IsRefusedFor, IsTooSmall}
 use Rattle.sparse_c_views.specs.Rests.{KeepsRest}

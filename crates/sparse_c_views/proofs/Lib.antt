@@ -1,6 +1,6 @@
 pub mod Answering
 pub mod Faultless
-pub mod Holding
+mod Holding
 pub mod Joining
 mod Listing
 pub mod Meanings

@@ -1,7 +1,7 @@
 -- Arrays that hold a coordinate list.
 use Rattle.std.proofs.Common.{◌≡◌, ℕ, ℤ, List, [], ◌∷◌, length, map, take, ap, sym, ◌∙◌, refl}
 use Rattle.std.proofs.lemmas.List.{length-map}
-use Rattle.sparse_base.specs.Coo.{Coo}
+use Rattle.sparse_coo_dense.specs.Coo.{Coo}
 use Rattle.sparse_parser.specs.Meaning.{value_triplet, values_of}
 use Rattle.sparse_c_views.specs.Lists.{list_room_of, HoldsList}
 

@@ -7,13 +7,13 @@ use Rattle.std.proofs.lemmas.List.{length-map}
 use Rattle.sparse_algebra.specs.Algebra.{CommRing}
 use Rattle.sparse_algebra.specs.Sums.{sum_by, where_true}
 use Rattle.sparse_algebra.specs.Plain.{is_at, plain_of_triplets}
-use Rattle.sparse_cs.specs.Compressed.{Compressed, compressed_of, IsSound, zip_values}
-use Rattle.sparse_cs.specs.Compressed.{lane_triplets}
-use Rattle.sparse_cs.specs.PlainOfLanes.{plain_of_rows}
+use Rattle.sparse_compressed.specs.Compressed.{Compressed, compressed_of, IsSound, zip_values}
+use Rattle.sparse_compressed.specs.Compressed.{lane_triplets}
+use Rattle.sparse_compressed.specs.PlainOfLanes.{plain_of_rows}
 use Rattle.sparse_pattern.specs.Raw.{Raw, entries_of}
 use Rattle.sparse_algebra.proofs.PlainLemmas.{same_plain}
 use Rattle.sparse_pattern.proofs.LaneOrder.{length-entries}
-use Rattle.sparse_cs.proofs.RowOrder.{row_order-rows}
+use Rattle.sparse_compressed.proofs.RowOrder.{row_order-rows}
 use Rattle.sparse_c_views.specs.Arrays.{places_of}
 
 module _ {X Y : Type 0} (h : X → Y) where

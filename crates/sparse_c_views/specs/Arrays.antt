@@ -5,11 +5,11 @@ use Rattle.sparse_algebra.specs.Algebra.{CommRing}
 use Rattle.sparse_algebra.specs.Wrapping.{wrapping_ring}
 use Rattle.sparse_algebra.specs.Plain.{Plain, plain_of_triplets, plain_transpose, row_order}
 use Rattle.sparse_pattern.specs.Raw.{Raw}
-use Rattle.sparse_base.specs.Coo.{zip_triplets}
-use Rattle.sparse_base.specs.Dense.{dense_of}
-use Rattle.sparse_base.specs.DensePlain.{plain_of_dense}
-use Rattle.sparse_cs.specs.Compressed.{Compressed, arrays_of, IsSound}
-use Rattle.sparse_cs.specs.PlainOfLanes.{plain_of_rows, plain_of_cols}
+use Rattle.sparse_coo_dense.specs.Coo.{zip_triplets}
+use Rattle.sparse_coo_dense.specs.Dense.{dense_of}
+use Rattle.sparse_coo_dense.specs.DensePlain.{plain_of_dense}
+use Rattle.sparse_compressed.specs.Compressed.{Compressed, arrays_of, IsSound}
+use Rattle.sparse_compressed.specs.PlainOfLanes.{plain_of_rows, plain_of_cols}
 use Rattle.sparse_algebra.specs.Integers.{element_of}
 
 -- the arrays that C lends for a matrix, and the variable for its number of places

@@ -1,6 +1,6 @@
 -- Coordinate lists and texts as arrays, as C has them.
 use Rattle.std.specs.Prelude.{◌≡◌, ◌⊎◌, ℕ, ℤ, ◌<◌, List, length, map, take}
-use Rattle.sparse_base.specs.Coo.{Coo}
+use Rattle.sparse_coo_dense.specs.Coo.{Coo}
 
 -- the arrays that C lends for a coordinate list, and the variable for its number of triplets
 pub record ListRoom : Type 0 where

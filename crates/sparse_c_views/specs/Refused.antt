@@ -2,9 +2,9 @@
 use Rattle.std.specs.Prelude.{◌≡◌, ◌≢◌, ◌⊎◌, ℕ, ℤ, ◌+◌, ◌*◌, ◌<◌, List, length}
 use Rattle.sparse_algebra.specs.Algebra.{CommRing}
 use Rattle.sparse_algebra.specs.Plain.{Plain}
-use Rattle.sparse_cs.specs.Compressed.{Compressed, IsSound}
-use Rattle.sparse_cs.specs.SortedFaults.{IsSortedRefusal}
-use Rattle.sparse_base.specs.TripletFaults.{IsFirstTripletFault}
+use Rattle.sparse_compressed.specs.Compressed.{Compressed, IsSound}
+use Rattle.sparse_compressed.specs.SortedFaults.{IsSortedRefusal}
+use Rattle.sparse_coo_dense.specs.TripletFaults.{IsFirstTripletFault}
 use Rattle.sparse_pattern.specs.Raw.{Raw}
 use Rattle.sparse_pattern.specs.PatternFaults.{IsFirstFault, kind_of}
 use Rattle.sparse_pattern.specs.declared.error.SparseFormatErrorKind.{SparseFormatErrorKind}

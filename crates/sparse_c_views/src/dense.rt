@@ -1,14 +1,14 @@
 //! Dense matrices out of arrays from outside.
 
 ghost use Rattle.std.specs.Prelude.{◌≡◌, ◌*◌, length, IfOk, IfErr, OnOk};
-ghost use Rattle.sparse_base.specs.DensePlain.{plain_of_dense};
+ghost use Rattle.sparse_coo_dense.specs.DensePlain.{plain_of_dense};
 ghost use Rattle.sparse_c_views.specs.Arrays.{plain_by_values};
 ghost use Rattle.sparse_c_views.specs.Refused.{IsMemoryOr, IsMissized};
 
 use crate::number::Number;
 use crate::refusal::Refusal;
 use crate::scalars::scalars_of;
-use sparse_base::dense::DMatrix;
+use sparse_coo_dense::dense::DMatrix;
 use std::alloc::Global;
 
 /// Returns the dense matrix with these values, column by column.

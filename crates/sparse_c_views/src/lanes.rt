@@ -2,16 +2,16 @@
 
 ghost use Rattle.std.specs.Prelude.{◌≡◌, IfOk, IfErr, OnOk};
 ghost use Rattle.sparse_pattern.specs.Raw.{IsValid, raw_of};
-ghost use Rattle.sparse_cs.specs.Compressed.{arrays_of, IsSound};
-ghost use Rattle.sparse_cs.specs.PlainOfLanes.{plain_of_rows, plain_of_cols};
+ghost use Rattle.sparse_compressed.specs.Compressed.{arrays_of, IsSound};
+ghost use Rattle.sparse_compressed.specs.PlainOfLanes.{plain_of_rows, plain_of_cols};
 ghost use Rattle.sparse_c_views.specs.Arrays.{plain_by_rows, plain_by_cols};
 ghost use Rattle.sparse_c_views.specs.Refused.{IsFaultOf, IsFaultOfPattern, IsMemoryOr};
 
 use crate::number::Number;
 use crate::refusal::Refusal;
 use crate::scalars::scalars_of;
-use sparse_forms::csc::CscMatrix;
-use sparse_forms::csr::CsrMatrix;
+use sparse_csr_csc::csc::CscMatrix;
+use sparse_csr_csc::csr::CsrMatrix;
 use sparse_pattern::pattern::SparsityPattern;
 use std::alloc::Global;
 use std::marker::Model;
@@ -33,7 +33,7 @@ pub struct Lanes<'a> {
 
 impl<'a> Model for Lanes<'a> {
     ghost use Rattle.std.specs.Prelude.{ℤ};
-    ghost use Rattle.sparse_cs.specs.Compressed.{Compressed, arrays_of};
+    ghost use Rattle.sparse_compressed.specs.Compressed.{Compressed, arrays_of};
 
     ghost Value = { Compressed ℤ };
 

@@ -11,7 +11,7 @@ ghost use Rattle.sparse_c_views.specs.declared.refusal.Refusal.TheVariants.{TooS
 use crate::refusal::Refusal;
 use crate::scalars::{put_items, put_numbers};
 use sparse_algebra::scalar::W64;
-use sparse_base::coo::CooMatrix;
+use sparse_coo_dense::coo::CooMatrix;
 
 /// Writes the triplets of an answer into arrays, and their number. Returns the status of the call: 0, or that of the
 /// refusal; the arrays are then unchanged. Where they are too small, the number of triplets is written alone.

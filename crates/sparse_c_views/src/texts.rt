@@ -1,6 +1,7 @@
 //! Texts written into buffers that C lends.
 
-ghost use Rattle.std.specs.Prelude.{◌≡◌, ◌≢◌, ◌<◌, length, pos, string_bytes, IfOk, MatchResult, OnErr};
+ghost use Rattle.std.specs.Prelude.{◌≡◌, ◌≢◌, ◌<◌, length, pos};
+ghost use Rattle.std.specs.Prelude.{string_bytes, IfOk, MatchResult, OnErr};
 ghost use Rattle.sparse_c_views.specs.Lists.{HoldsText};
 ghost use Rattle.sparse_c_views.specs.Rests.{KeepsBehind};
 ghost use Rattle.sparse_c_views.specs.Statuses.{number_of};

@@ -1,15 +1,15 @@
 //! Coordinate lists out of arrays from outside.
 
 ghost use Rattle.std.specs.Prelude.{◌≡◌, IfOk, IfErr, OnOk};
-ghost use Rattle.sparse_base.specs.Coo.{AreParts};
-ghost use Rattle.sparse_base.specs.CooPlain.{plain_of_coo};
+ghost use Rattle.sparse_coo_dense.specs.Coo.{AreParts};
+ghost use Rattle.sparse_coo_dense.specs.CooPlain.{plain_of_coo};
 ghost use Rattle.sparse_c_views.specs.Arrays.{plain_of_lists};
 ghost use Rattle.sparse_c_views.specs.Refused.{IsFaultOfList, IsMemoryOr};
 
 use crate::number::Number;
 use crate::refusal::Refusal;
 use crate::scalars::scalars_of;
-use sparse_base::coo::CooMatrix;
+use sparse_coo_dense::coo::CooMatrix;
 use std::alloc::Global;
 
 /// Returns the coordinate list of rows, columns and values.

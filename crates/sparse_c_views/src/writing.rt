@@ -1,8 +1,8 @@
 //! Results written into arrays that C lends, with the status of the call.
 
 ghost use Rattle.std.specs.Prelude.{◌≡◌, ◌≢◌, ◌*◌, ◌<◌, length, pos, IfOk, MatchResult, OnErr};
-ghost use Rattle.sparse_cs.specs.PlainOfLanes.{plain_of_rows};
-ghost use Rattle.sparse_base.specs.DensePlain.{plain_of_dense};
+ghost use Rattle.sparse_compressed.specs.PlainOfLanes.{plain_of_rows};
+ghost use Rattle.sparse_coo_dense.specs.DensePlain.{plain_of_dense};
 ghost use Rattle.sparse_c_views.specs.Arrays.{places_of, room_of, HoldsDense, HoldsRows};
 ghost use Rattle.sparse_c_views.specs.Reduced.{FirstAre};
 ghost use Rattle.sparse_c_views.specs.Refused.{IsTooSmall};
@@ -13,8 +13,8 @@ ghost use Rattle.sparse_c_views.specs.declared.refusal.Refusal.TheVariants.{TooS
 use crate::number::Number;
 use crate::refusal::Refusal;
 use crate::scalars::{put_items, put_scalars};
-use sparse_base::dense::DMatrix;
-use sparse_forms::csr::CsrMatrix;
+use sparse_coo_dense::dense::DMatrix;
+use sparse_csr_csc::csr::CsrMatrix;
 
 /// Writes the matrix of an answer into arrays by rows, and its number of places. Returns the status of the call: 0, or
 /// that of the refusal; the arrays are then unchanged. Where they are too small, the number of places is written alone.

@@ -9,13 +9,13 @@ use Rattle.std.proofs.lemmas.List.Sorted.{list_any-IsPermutation}
 use Rattle.sparse_algebra.proofs.Cases.{true_or_false}
 use Rattle.sparse_algebra.specs.Algebra.{CommRing}
 use Rattle.sparse_algebra.specs.Sums.{where_true}
-use Rattle.sparse_base.specs.Coo.{Coo, IsInside, zip_triplets}
-use Rattle.sparse_base.specs.CooPlain.{plain_of_coo}
+use Rattle.sparse_coo_dense.specs.Coo.{Coo, IsInside, zip_triplets}
+use Rattle.sparse_coo_dense.specs.CooPlain.{plain_of_coo}
 use Rattle.sparse_algebra.specs.Plain.{is_at, plain_of_triplets}
 use Rattle.sparse_algebra.proofs.RingLemmas.{zero_add}
 use Rattle.sparse_algebra.proofs.SumLemmas.{sum_by-permutation}
 use Rattle.sparse_algebra.proofs.PlainLemmas.{same_plain}
-use Rattle.sparse_cs.proofs.Arrays.{value_at}
+use Rattle.sparse_compressed.proofs.Arrays.{value_at}
 use Rattle.sparse_convert.specs.InnerTripletLanes.{entries_of_lane, triplets_of_lane, index_sum}
 use Rattle.sparse_convert.specs.InnerTripletLanes.{plain_of_lanes}
 use Rattle.sparse_convert.proofs.IndexSums.{has_index}

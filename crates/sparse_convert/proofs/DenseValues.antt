@@ -14,27 +14,30 @@ use Rattle.sparse_algebra.specs.Algebra.{CommRing}
 use Rattle.sparse_algebra.specs.Sums.{where_true}
 use Rattle.sparse_pattern.specs.Raw.{entries_of}
 use Rattle.sparse_algebra.specs.Plain.{Plain, IsProper, IsWithin, is_at}
-use Rattle.sparse_base.specs.Coo.{Coo}
-use Rattle.sparse_base.specs.Dense.{Dense, value_at}
-use Rattle.sparse_base.specs.DensePlain.{is_inside, plain_of_dense, plain_full}
+use Rattle.sparse_coo_dense.specs.Coo.{Coo}
+use Rattle.sparse_coo_dense.specs.Dense.{Dense, value_at}
+use Rattle.sparse_coo_dense.specs.DensePlain.{is_inside, plain_of_dense, plain_full}
 use Rattle.sparse_pattern.proofs.LaneOrder.{length-entries, entries_are_places}
 use Rattle.sparse_algebra.proofs.PlainLaws.{proper_transpose, within_plain_of_triplets}
 use Rattle.sparse_algebra.proofs.PlainLaws.{within_transpose}
 use Rattle.sparse_algebra.proofs.PlainLemmas.{same_plain}
 use Rattle.sparse_algebra.proofs.RingLemmas.{zero_add}
-use Rattle.sparse_cs.specs.Compressed.{Compressed, IsSound, zip_values, lane_triplets, transposed}
-use Rattle.sparse_cs.specs.StoredEntries.{place_of}
-use Rattle.sparse_base.specs.CooPlain.{plain_of_coo}
-use Rattle.sparse_cs.specs.PlainOfLanes.{plain_of_rows, plain_of_cols}
+use Rattle.sparse_compressed.specs.Compressed.{Compressed, IsSound, zip_values}
+use Rattle.sparse_compressed.specs.Compressed.{lane_triplets, transposed}
+use Rattle.sparse_compressed.specs.StoredEntries.{place_of}
+use Rattle.sparse_coo_dense.specs.CooPlain.{plain_of_coo}
+use Rattle.sparse_compressed.specs.PlainOfLanes.{plain_of_rows, plain_of_cols}
 use Rattle.sparse_pattern.proofs.Positions.{one_position}
-use Rattle.sparse_cs.proofs.Arrays.{where_yes, where_no, unnamed, named, pairs_of-triplets, pair_is}
-use Rattle.sparse_cs.proofs.Arrays.{test_yes, position_within, entry_at, position_of_entry}
-use Rattle.sparse_cs.proofs.Arrays.{value_at_position, proper_rows, proper_triplets}
-use Rattle.sparse_cs.proofs.Arrays.{value_at as sum_at}
-use Rattle.sparse_cs.proofs.Inside.{lane_triplets-inside}
-use Rattle.sparse_cs.proofs.LaneSearch.{place_of_is_position}
+use Rattle.sparse_compressed.proofs.Arrays.{where_yes, where_no, unnamed}
+use Rattle.sparse_compressed.proofs.Arrays.{named, pairs_of-triplets, pair_is}
+use Rattle.sparse_compressed.proofs.Arrays.{test_yes, position_within, entry_at, position_of_entry}
+use Rattle.sparse_compressed.proofs.Arrays.{value_at_position, proper_rows, proper_triplets}
+use Rattle.sparse_compressed.proofs.Arrays.{value_at as sum_at}
+use Rattle.sparse_compressed.proofs.Inside.{lane_triplets-inside}
+use Rattle.sparse_compressed.proofs.LaneSearch.{place_of_is_position}
 use Rattle.sparse_convert.specs.ToDense.{stored_or_zero, IsDenseOfRows, IsDenseOfCols}
-use Rattle.sparse_convert.proofs.DenseWriting.{written, written-nowhere, written-transposed, IsWritten}
+use Rattle.sparse_convert.proofs.DenseWriting.{written, written-nowhere}
+use Rattle.sparse_convert.proofs.DenseWriting.{written-transposed, IsWritten}
 
 -- the step that replaces a value
 abbrev pub replaced : {T : Type 0} → T → T → T

@@ -8,11 +8,11 @@ use Rattle.std.specs.Cmp.{nat_eq_equiv}
 use Rattle.std.specs.Prelude.{nat_eq, ◌||◌}
 use Rattle.std.specs.List.{list_any}
 use Rattle.sparse_algebra.proofs.Cases.{true_or_false}
-use Rattle.sparse_base.specs.Dense.{Dense, value_at, HasValues}
+use Rattle.sparse_coo_dense.specs.Dense.{Dense, value_at, HasValues}
 use Rattle.sparse_algebra.specs.Plain.{is_at}
 use Rattle.sparse_algebra.proofs.PlainLemmas.{and_comm}
-use Rattle.sparse_cs.specs.Compressed.{transposed}
-use Rattle.sparse_cs.proofs.Arrays.{pair_is}
+use Rattle.sparse_compressed.specs.Compressed.{transposed}
+use Rattle.sparse_compressed.proofs.Arrays.{pair_is}
 
 -- the test of a written place
 same_test : (a b i j : ℕ) → (i == a && j == b) ≡ (nat_eq a i && nat_eq b j)

@@ -11,8 +11,8 @@ use Rattle.std.proofs.lemmas.List.Elements.{filter-append, All-filter}
 use Rattle.std.proofs.lemmas.List.Kept.{IsStrictlyIncreasing-filter}
 use Rattle.sparse_algebra.proofs.Cases.{lt_suc_cases}
 use Rattle.sparse_algebra.specs.Plain.{below}
-use Rattle.sparse_base.specs.Dense.{Dense, value_at}
-use Rattle.sparse_cs.specs.Compressed.{transposed}
+use Rattle.sparse_coo_dense.specs.Dense.{Dense, value_at}
+use Rattle.sparse_compressed.specs.Compressed.{transposed}
 use Rattle.sparse_convert.specs.FromDense.{full_lanes, row_triplets, column_triplets}
 use Rattle.sparse_convert.specs.FromDense.{differs_from}
 

@@ -1,5 +1,6 @@
 -- A list in order is compressed as it is read: each triplet goes to the end of the open lane.
-use Rattle.std.proofs.Common.{◌≡◌, ◌≢◌, ℕ, ◌+◌, ◌-◌, ◌<◌, ◌≤◌, inl, inr, Bool, true, false, cond, eqb}
+use Rattle.std.proofs.Common.{◌≡◌, ◌≢◌, ℕ, ◌+◌, ◌-◌, ◌<◌, ◌≤◌}
+use Rattle.std.proofs.Common.{inl, inr, Bool, true, false, cond, eqb}
 use Rattle.std.proofs.Common.{List, [], ◌∷◌, ◌++◌, length, take, map, filter, get_or, set}
 use Rattle.std.proofs.Common.{slice_index, refl, ap, sym, ◌∙◌, subst, arith, length-append}
 use Rattle.std.proofs.Common.{take_all, take_at, append-nil}

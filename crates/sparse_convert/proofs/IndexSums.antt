@@ -10,7 +10,7 @@ use Rattle.sparse_algebra.specs.Algebra.{CommRing}
 use Rattle.sparse_algebra.specs.Sums.{where_true}
 use Rattle.sparse_algebra.proofs.RingLemmas.{zero_add}
 use Rattle.sparse_algebra.proofs.SumLemmas.{sum_by-append}
-use Rattle.sparse_cs.proofs.Arrays.{where_no, where_yes}
+use Rattle.sparse_compressed.proofs.Arrays.{where_no, where_yes}
 use Rattle.sparse_convert.specs.InnerTripletLanes.{index_sum}
 
 module _ {T : Type 0} where

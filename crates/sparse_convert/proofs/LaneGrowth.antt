@@ -7,7 +7,8 @@ use Rattle.std.proofs.lemmas.List.{append-nil, take-append-le, drop-append-le, l
 use Rattle.std.proofs.lemmas.List.{length-map}
 use Rattle.sparse_pattern.specs.Raw.{raw_of, paired, entries_from, entries_of}
 use Rattle.sparse_pattern.proofs.LaneOrder.{length-entries}
-use Rattle.sparse_cs.specs.Compressed.{Compressed, arrays_of, IsSound, zip_values, lane_triplets}
+use Rattle.sparse_compressed.specs.Compressed.{Compressed, arrays_of, IsSound}
+use Rattle.sparse_compressed.specs.Compressed.{zip_values, lane_triplets}
 use Rattle.sparse_pattern.proofs.PushedLanes.{valid_pushed, offset_kept, lane_is}
 
 -- a part of the prefix

@@ -1,19 +1,19 @@
-pub mod LentLists
-pub mod PlacedTriplets
-pub mod SortedTriplets
-pub mod ByKey
-pub mod PlacedByKey
-pub mod CountedLanes
-pub mod Rising
-pub mod Both
-pub mod IndexSums
-pub mod Merging
-pub mod MergedLanes
-pub mod Compressing
-pub mod InOrder
-pub mod ReadLists
-pub mod Apart
-pub mod Refusals
+mod LentLists
+mod PlacedTriplets
+mod SortedTriplets
+mod ByKey
+mod PlacedByKey
+mod CountedLanes
+mod Rising
+mod Both
+mod IndexSums
+mod Merging
+mod MergedLanes
+mod Compressing
+mod InOrder
+mod ReadLists
+mod Apart
+mod Refusals
 mod TransposedTriplets
 mod StoredTriplets
 mod Reaching

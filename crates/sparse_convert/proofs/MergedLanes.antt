@@ -10,9 +10,9 @@ use Rattle.sparse_algebra.proofs.Cases.{lt_or_ge, true_or_false}
 use Rattle.sparse_algebra.specs.Algebra.{CommRing}
 use Rattle.sparse_pattern.specs.Raw.{raw_of, IsValid, IsPlace}
 use Rattle.sparse_algebra.specs.Plain.{Plain, IsProper}
-use Rattle.sparse_cs.specs.Compressed.{compressed_of, IsSound}
-use Rattle.sparse_cs.specs.PlainOfLanes.{plain_of_rows}
-use Rattle.sparse_cs.proofs.Arrays.{stands}
+use Rattle.sparse_compressed.specs.Compressed.{compressed_of, IsSound}
+use Rattle.sparse_compressed.specs.PlainOfLanes.{plain_of_rows}
+use Rattle.sparse_compressed.proofs.Arrays.{stands}
 use Rattle.sparse_convert.specs.InnerTripletLanes.{index_sum}
 use Rattle.sparse_convert.specs.InnerMerged.{AreMerged, KeepsFirst}
 use Rattle.sparse_convert.proofs.IndexSums.{has_index, index_sum-none}

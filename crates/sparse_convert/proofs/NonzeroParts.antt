@@ -11,12 +11,12 @@ use Rattle.sparse_algebra.specs.Algebra.{CommRing}
 use Rattle.sparse_algebra.specs.Sums.{sum_by, where_true}
 use Rattle.sparse_algebra.specs.Plain.{Plain, any_below, below, is_at, plain_of_triplets}
 use Rattle.sparse_algebra.specs.Plain.{plain_transpose}
-use Rattle.sparse_base.specs.Dense.{Dense, value_at}
-use Rattle.sparse_base.specs.DensePlain.{plain_of_dense}
+use Rattle.sparse_coo_dense.specs.Dense.{Dense, value_at}
+use Rattle.sparse_coo_dense.specs.DensePlain.{plain_of_dense}
 use Rattle.sparse_algebra.proofs.RingLemmas.{zero_add}
 use Rattle.sparse_algebra.proofs.SumLemmas.{sum_by-append, sum_by-same, sum_by-zero}
 use Rattle.sparse_algebra.proofs.PlainLemmas.{any_is, any_below-same, and_comm, same_plain}
-use Rattle.sparse_cs.specs.Compressed.{transposed}
+use Rattle.sparse_compressed.specs.Compressed.{transposed}
 use Rattle.sparse_convert.specs.FromDense.{full_lanes, row_triplets, column_triplets, differs_from}
 use Rattle.sparse_convert.specs.FromDense.{IsNonzeroPart}
 use Rattle.sparse_convert.proofs.FullLanes.{column_lanes, kept_columns}

@@ -2,9 +2,9 @@
 use Rattle.std.proofs.Common.{◌≡◌, List, [], ◌∷◌, ap, sym, subst, ◌∙◌}
 use Rattle.sparse_algebra.specs.Algebra.{CommRing}
 use Rattle.sparse_algebra.specs.Plain.{plain_transpose}
-use Rattle.sparse_cs.specs.Compressed.{lane_triplets}
-use Rattle.sparse_base.specs.CooPlain.{plain_of_coo}
-use Rattle.sparse_cs.proofs.MatrixTransposes.{plain_transposed}
+use Rattle.sparse_compressed.specs.Compressed.{lane_triplets}
+use Rattle.sparse_coo_dense.specs.CooPlain.{plain_of_coo}
+use Rattle.sparse_compressed.proofs.MatrixTransposes.{plain_transposed}
 use Rattle.sparse_convert.specs.OneMatrix.{Representation, Triplets, Rows, Cols}
 use Rattle.sparse_convert.specs.OneMatrix.{IsSoundRepresentation, plain_of_representation}
 use Rattle.sparse_convert.specs.OneMatrix.{IsConverted, Leads, IsReached}

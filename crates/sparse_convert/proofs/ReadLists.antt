@@ -3,11 +3,11 @@ use Rattle.std.proofs.Common.{◌≡◌, ℕ, ◌<◌, ◌≤◌, List, [], All,
 use Rattle.std.proofs.Common.{take_all}
 use Rattle.sparse_algebra.specs.Algebra.{CommRing}
 use Rattle.sparse_algebra.specs.Plain.{plain_of_triplets}
-use Rattle.sparse_base.specs.Coo.{zip_triplets}
-use Rattle.sparse_base.proofs.TripletLists.{length-triplets, bounded}
+use Rattle.sparse_coo_dense.specs.Coo.{zip_triplets}
+use Rattle.sparse_coo_dense.proofs.TripletLists.{length-triplets, bounded}
 use Rattle.sparse_pattern.specs.Raw.{raw_of, IsValid}
-use Rattle.sparse_cs.specs.Compressed.{compressed_of, IsSound}
-use Rattle.sparse_cs.specs.PlainOfLanes.{plain_of_rows}
+use Rattle.sparse_compressed.specs.Compressed.{compressed_of, IsSound}
+use Rattle.sparse_compressed.specs.PlainOfLanes.{plain_of_rows}
 use Rattle.sparse_convert.specs.InnerTripletLanes.{triplets_of_lane}
 use Rattle.sparse_convert.specs.InnerInOrder.{AreInOrder}
 use Rattle.sparse_convert.proofs.Compressing.{lane_past, lane_below}

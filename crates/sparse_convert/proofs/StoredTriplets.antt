@@ -4,14 +4,15 @@ use Rattle.std.proofs.Common.{sym, ◌∙◌, refl, arith}
 use Rattle.std.proofs.lemmas.List.{length-map, same_lists, get_or-map}
 use Rattle.std.proofs.lemmas.List.Elements.{All-map}
 use Rattle.sparse_algebra.specs.Algebra.{CommRing}
-use Rattle.sparse_base.specs.Coo.{zip_triplets, AreParts}
+use Rattle.sparse_coo_dense.specs.Coo.{zip_triplets, AreParts}
 use Rattle.sparse_algebra.specs.Plain.{plain_of_triplets, plain_transpose}
 use Rattle.sparse_pattern.specs.Raw.{Raw, IsValid, entries_of}
 use Rattle.sparse_pattern.proofs.LaneOrder.{length-entries}
-use Rattle.sparse_cs.specs.Compressed.{Compressed, IsSound, zip_values, lane_triplets, transposed}
+use Rattle.sparse_compressed.specs.Compressed.{Compressed, IsSound, zip_values}
+use Rattle.sparse_compressed.specs.Compressed.{lane_triplets, transposed}
 use Rattle.sparse_pattern.proofs.Positions.{lane_of_position}
-use Rattle.sparse_cs.proofs.Arrays.{entry_at}
-use Rattle.sparse_cs.proofs.Inside.{lane_triplets-inside}
+use Rattle.sparse_compressed.proofs.Arrays.{entry_at}
+use Rattle.sparse_compressed.proofs.Inside.{lane_triplets-inside}
 use Rattle.sparse_convert.proofs.Compressing.{zip_of_parts}
 use Rattle.sparse_convert.proofs.TransposedTriplets.{plain_of_transposed}
 

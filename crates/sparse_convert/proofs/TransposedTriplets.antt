@@ -3,7 +3,7 @@ use Rattle.std.proofs.Common.{◌≡◌, ℕ, nat_eq, ◌&&◌, ◌||◌, List, 
 use Rattle.std.specs.List.{list_any}
 use Rattle.sparse_algebra.specs.Algebra.{CommRing}
 use Rattle.sparse_algebra.specs.Sums.{sum_by, where_true}
-use Rattle.sparse_base.specs.Coo.{zip_triplets}
+use Rattle.sparse_coo_dense.specs.Coo.{zip_triplets}
 use Rattle.sparse_algebra.specs.Plain.{plain_of_triplets, plain_transpose, is_at}
 use Rattle.sparse_algebra.proofs.PlainLemmas.{same_plain, and_comm}
 

@@ -3,7 +3,7 @@ use Rattle.std.specs.Prelude.{◌≡◌, ◌≢◌, ◌↔◌, ℕ, Bool, true, 
 use Rattle.std.specs.List.{flat_map}
 use Rattle.sparse_algebra.specs.Algebra.{CommRing}
 use Rattle.sparse_algebra.specs.Plain.{Plain, below}
-use Rattle.sparse_base.specs.Dense.{Dense, value_at}
+use Rattle.sparse_coo_dense.specs.Dense.{Dense, value_at}
 
 module _ {T : Type 0} where
   -- the triplets (i, k, value i k) of n lanes of m values, lane by lane

@@ -1,12 +1,12 @@
 -- The representations of a matrix, and the conversions between them.
 use Rattle.std.specs.Prelude.{◌≡◌, ⊤, List, [], ◌∷◌, map}
 use Rattle.sparse_algebra.specs.Algebra.{CommRing}
-use Rattle.sparse_base.specs.Coo.{Coo, coo_of}
+use Rattle.sparse_coo_dense.specs.Coo.{Coo, coo_of}
 use Rattle.sparse_algebra.specs.Plain.{Plain}
-use Rattle.sparse_cs.specs.Compressed.{Compressed, IsSound, lane_triplets, transposed}
-use Rattle.sparse_base.specs.CooPlain.{plain_of_coo}
-use Rattle.sparse_cs.specs.PlainOfLanes.{plain_of_rows, plain_of_cols}
-use Rattle.sparse_cs.specs.TransposedMatrix.{IsTranspose}
+use Rattle.sparse_compressed.specs.Compressed.{Compressed, IsSound, lane_triplets, transposed}
+use Rattle.sparse_coo_dense.specs.CooPlain.{plain_of_coo}
+use Rattle.sparse_compressed.specs.PlainOfLanes.{plain_of_rows, plain_of_cols}
+use Rattle.sparse_compressed.specs.TransposedMatrix.{IsTranspose}
 
 -- a matrix as a list of triplets, compressed by rows, or compressed by columns
 pub data Representation (T : Type 0) : Type 0 where

@@ -1,9 +1,9 @@
 -- The dense matrix of a compressed matrix.
 use Rattle.std.specs.Prelude.{ℕ, slice_index_or}
 use Rattle.std.specs.Option.{option_map, unwrap_or}
-use Rattle.sparse_base.specs.Dense.{Dense, HasValues}
-use Rattle.sparse_cs.specs.Compressed.{Compressed}
-use Rattle.sparse_cs.specs.StoredEntries.{place_of}
+use Rattle.sparse_coo_dense.specs.Dense.{Dense, HasValues}
+use Rattle.sparse_compressed.specs.Compressed.{Compressed}
+use Rattle.sparse_compressed.specs.StoredEntries.{place_of}
 
 module _ {T : Type 0} (zero : T) where
   -- the value at the place (i, j), or zero if it is not stored

@@ -3,14 +3,14 @@
 ghost use Rattle.std.specs.Prelude.{◌≡◌, ℕ, ◌+◌, ◌-◌, ◌<◌, ◌≤◌, All, IfOk, length, vec_len};
 ghost use Rattle.std.specs.Prelude.{vec_capacity};
 ghost use Rattle.std.specs.List.Sorted.{IsNonDecreasingBy};
-ghost use Rattle.sparse_cs.specs.Compressed.{IsSound};
-ghost use Rattle.sparse_cs.specs.PlainOfLanes.{plain_of_rows};
+ghost use Rattle.sparse_compressed.specs.Compressed.{IsSound};
+ghost use Rattle.sparse_compressed.specs.PlainOfLanes.{plain_of_rows};
 ghost use Rattle.sparse_convert.specs.InnerTripletLanes.{AreOffsets, entries_of_lane};
 ghost use Rattle.sparse_convert.specs.InnerTripletLanes.{plain_of_lanes};
 ghost use Rattle.sparse_convert.specs.InnerMerged.{AreMerged, KeepsFirst};
 
 use sparse_algebra::scalar::Ring;
-use sparse_cs::CsMatrix;
+use sparse_compressed::CsMatrix;
 use sparse_pattern::pattern::SparsityPattern;
 use std::alloc::{AllocError, Global};
 

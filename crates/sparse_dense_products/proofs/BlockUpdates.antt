@@ -12,7 +12,8 @@ use Rattle.sparse_algebra.proofs.Cases.{lt_or_ge}
 use lib.Seq.{length-take-le}
 use borrow.Rule.Slice.PartMut.{put_mid, post_of, mid_len, same_len_mid}
 use Rattle.sparse_algebra.specs.Algebra.{CommRing}
-use Rattle.sparse_dense_products.specs.InnerUpdates.{AreUpdated, AreUpdatedBelow, IsUpdatedColumn, updated}
+use Rattle.sparse_dense_products.specs.InnerUpdates.{AreUpdated, AreUpdatedBelow}
+use Rattle.sparse_dense_products.specs.InnerUpdates.{IsUpdatedColumn, updated}
 
 module _ (R : CommRing) {T : Type 0} (f : T → R.Carrier) (z : T) (beta alpha : R.Carrier) where
   -- one column alone

@@ -6,9 +6,9 @@ use Rattle.sparse_algebra.specs.Sums.{sum_below}
 use Rattle.sparse_algebra.specs.Plain.{Plain, plain_product}
 use Rattle.sparse_algebra.proofs.SumLemmas.{sum_below-same}
 use Rattle.sparse_pattern.specs.Raw.{lane_of}
-use Rattle.sparse_cs.specs.Compressed.{Compressed, IsSound}
-use Rattle.sparse_cs.specs.PlainOfLanes.{plain_of_rows}
-use Rattle.sparse_cs.proofs.LaneValues.{values_of, row_sum}
+use Rattle.sparse_compressed.specs.Compressed.{Compressed, IsSound}
+use Rattle.sparse_compressed.specs.PlainOfLanes.{plain_of_rows}
+use Rattle.sparse_compressed.proofs.LaneValues.{values_of, row_sum}
 use Rattle.sparse_dense_products.specs.InnerUpdates.{times_vector}
 use Rattle.sparse_algebra.specs.Sums.{dot_of}
 

@@ -1,5 +1,5 @@
-pub mod Operands
-pub mod DotSteps
-pub mod ColumnUpdates
-pub mod BlockUpdates
-pub mod PlainUpdates
+mod Operands
+mod DotSteps
+mod ColumnUpdates
+mod BlockUpdates
+mod PlainUpdates

@@ -18,12 +18,12 @@ use Rattle.sparse_pattern.specs.Refill.{refill}
 use Rattle.sparse_algebra.specs.declared.operand.Op.{Op}
 use Rattle.sparse_algebra.specs.declared.operand.Op.TheVariants.{NoOp, Transpose}
 use Rattle.sparse_algebra.specs.Prealloc.{plain_update}
-use Rattle.sparse_base.specs.Dense.{Dense, value_at, with_values}
-use Rattle.sparse_base.specs.DensePlain.{is_inside, plain_full, plain_of_dense}
-use Rattle.sparse_cs.specs.Compressed.{Compressed, IsSound, lane_triplets}
-use Rattle.sparse_cs.specs.PlainOfLanes.{plain_of_rows}
-use Rattle.sparse_cs.proofs.Arrays.{where_yes, where_no, proper_rows}
-use Rattle.sparse_cs.proofs.Inside.{lane_triplets-inside}
+use Rattle.sparse_coo_dense.specs.Dense.{Dense, value_at, with_values}
+use Rattle.sparse_coo_dense.specs.DensePlain.{is_inside, plain_full, plain_of_dense}
+use Rattle.sparse_compressed.specs.Compressed.{Compressed, IsSound, lane_triplets}
+use Rattle.sparse_compressed.specs.PlainOfLanes.{plain_of_rows}
+use Rattle.sparse_compressed.proofs.Arrays.{where_yes, where_no, proper_rows}
+use Rattle.sparse_compressed.proofs.Inside.{lane_triplets-inside}
 use Rattle.sparse_dense_products.specs.DenseOperands.{op_dense}
 use Rattle.sparse_dense_products.specs.InnerUpdates.{AreUpdated}
 use Rattle.sparse_algebra.specs.Prealloc.{plain_transpose_if}

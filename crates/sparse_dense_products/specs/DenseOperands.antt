@@ -4,10 +4,10 @@ use Rattle.sparse_algebra.specs.Algebra.{CommRing}
 use Rattle.sparse_algebra.specs.Plain.{Plain}
 use Rattle.sparse_algebra.specs.Operands.{plain_op}
 use Rattle.sparse_algebra.specs.declared.operand.Op.{Op}
-use Rattle.sparse_base.specs.Dense.{Dense}
-use Rattle.sparse_base.specs.DensePlain.{plain_of_dense}
-use Rattle.sparse_cs.specs.Compressed.{Compressed}
-use Rattle.sparse_cs.specs.PlainOfLanes.{plain_of_rows, plain_of_cols}
+use Rattle.sparse_coo_dense.specs.Dense.{Dense}
+use Rattle.sparse_coo_dense.specs.DensePlain.{plain_of_dense}
+use Rattle.sparse_compressed.specs.Compressed.{Compressed}
+use Rattle.sparse_compressed.specs.PlainOfLanes.{plain_of_rows, plain_of_cols}
 
 module _ (R : CommRing) {T : Type 0} (f : T → R.Carrier) where
   -- op(A) of a CSR matrix

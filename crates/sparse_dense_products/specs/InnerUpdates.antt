@@ -7,7 +7,7 @@ use Rattle.sparse_algebra.specs.Sums.{sum_below}
 use Rattle.sparse_algebra.specs.Plain.{Plain}
 use Rattle.sparse_algebra.specs.declared.operand.Op.{Op}
 use Rattle.sparse_algebra.specs.declared.operand.Op.TheVariants.{NoOp, Transpose}
-use Rattle.sparse_base.specs.Dense.{Dense}
+use Rattle.sparse_coo_dense.specs.Dense.{Dense}
 
 -- how far apart the entries of a column of op(B) stand
 abbrev pub op_step : {T : Type 0} → Op (Bor (Dense T)) → ℕ

@@ -2,16 +2,17 @@
 
 ghost use Rattle.std.specs.Prelude.{◌≡◌, ◌+◌, ◌<◌, ◌≤◌, ◌^◌, length};
 ghost use Rattle.sparse_algebra.specs.Plain.{plain_product};
-ghost use Rattle.sparse_cs.specs.PlainOfLanes.{plain_of_rows};
+ghost use Rattle.sparse_compressed.specs.PlainOfLanes.{plain_of_rows};
 ghost use Rattle.sparse_dense_products.specs.DenseOperands.{op_dense};
-ghost use Rattle.sparse_dense_products.specs.InnerUpdates.{HasStrided, IsUpdatedAt, IsUpdatedColumn};
+ghost use Rattle.sparse_dense_products.specs.InnerUpdates.{HasStrided, IsUpdatedAt};
+ghost use Rattle.sparse_dense_products.specs.InnerUpdates.{IsUpdatedColumn};
 ghost use Rattle.sparse_dense_products.specs.InnerUpdates.{times_vector};
 ghost use Rattle.sparse_kernels.specs.InnerKernels.{strided};
 
 use crate::operand::{column_of, step_of};
 use crate::update::Change;
 use sparse_algebra::scalar::Ring;
-use sparse_cs::CsMatrix;
+use sparse_compressed::CsMatrix;
 use sparse_kernels::{dot, dot_four, lane_slices};
 
 // Updates column j of C by A times column j of op(B).

@@ -7,7 +7,7 @@ ghost use Rattle.sparse_kernels.specs.InnerKernels.{strided};
 
 use sparse_algebra::operand::Op;
 use sparse_algebra::scalar::Ring;
-use sparse_base::dense::DMatrix;
+use sparse_coo_dense::dense::DMatrix;
 
 // Returns how far apart the entries of a column of op(B) stand.
 pub fn step_of<T>(b: Op<&DMatrix<T>>) -> usize

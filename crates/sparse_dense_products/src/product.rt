@@ -3,16 +3,16 @@
 ghost use Rattle.std.specs.Prelude.{◌≡◌, IfOk};
 ghost use Rattle.sparse_algebra.specs.Plain.{plain_product};
 ghost use Rattle.sparse_algebra.specs.Prealloc.{plain_update};
-ghost use Rattle.sparse_base.specs.DensePlain.{plain_of_dense, plain_full};
-ghost use Rattle.sparse_cs.specs.PlainOfLanes.{plain_of_rows, plain_of_cols};
+ghost use Rattle.sparse_coo_dense.specs.DensePlain.{plain_of_dense, plain_full};
+ghost use Rattle.sparse_compressed.specs.PlainOfLanes.{plain_of_rows, plain_of_cols};
 ghost use Rattle.sparse_dense_products.specs.DenseOperands.{op_cols, op_dense, op_rows};
 
 use crate::update::update;
 use sparse_algebra::operand::Op;
 use sparse_algebra::scalar::Ring;
-use sparse_base::dense::DMatrix;
-use sparse_forms::csc::CscMatrix;
-use sparse_forms::csr::CsrMatrix;
+use sparse_coo_dense::dense::DMatrix;
+use sparse_csr_csc::csc::CscMatrix;
+use sparse_csr_csc::csr::CsrMatrix;
 use std::alloc::{AllocError, Global};
 
 /// Replaces `c` by `beta * c + alpha * op(a) * op(b)`.

@@ -2,14 +2,14 @@
 
 ghost use Rattle.std.specs.Prelude.{◌≡◌, ◌<◌, length};
 ghost use Rattle.sparse_algebra.specs.Plain.{plain_product};
-ghost use Rattle.sparse_cs.specs.PlainOfLanes.{plain_of_cols};
+ghost use Rattle.sparse_compressed.specs.PlainOfLanes.{plain_of_cols};
 ghost use Rattle.sparse_dense_products.specs.DenseOperands.{op_dense};
 ghost use Rattle.sparse_dense_products.specs.InnerUpdates.{IsUpdatedColumn};
 
 use crate::operand::{column_of, step_of};
 use crate::update::Change;
 use sparse_algebra::scalar::Ring;
-use sparse_cs::scaling::scale_values;
+use sparse_compressed::scaling::scale_values;
 use sparse_kernels::{lane_slices, usaxpy};
 
 // Updates column j of C by the transpose of A times column j of op(B).

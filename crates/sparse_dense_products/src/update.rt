@@ -3,8 +3,8 @@
 ghost use Rattle.std.specs.Prelude.{◌≡◌, ◌<◌, ◌≤◌, ◌+◌, ◌*◌, ◌⊎◌, ◌^◌, false, length};
 ghost use Rattle.sparse_algebra.specs.Plain.{plain_product};
 ghost use Rattle.sparse_algebra.specs.Prealloc.{plain_update};
-ghost use Rattle.sparse_base.specs.DensePlain.{plain_of_dense};
-ghost use Rattle.sparse_cs.specs.PlainOfLanes.{plain_of_rows};
+ghost use Rattle.sparse_coo_dense.specs.DensePlain.{plain_of_dense};
+ghost use Rattle.sparse_compressed.specs.PlainOfLanes.{plain_of_rows};
 ghost use Rattle.sparse_dense_products.specs.DenseOperands.{op_dense};
 ghost use Rattle.sparse_dense_products.specs.InnerUpdates.{AreUpdated};
 ghost use Rattle.sparse_algebra.specs.Prealloc.{plain_transpose_if};
@@ -14,8 +14,8 @@ use crate::scatter::scatter_column;
 use sparse_algebra::learn;
 use sparse_algebra::operand::Op;
 use sparse_algebra::scalar::Ring;
-use sparse_base::dense::DMatrix;
-use sparse_cs::CsMatrix;
+use sparse_compressed::CsMatrix;
+use sparse_coo_dense::dense::DMatrix;
 
 // How many columns are updated at once.
 const BLOCK: usize = 4;

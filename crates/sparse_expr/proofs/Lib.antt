@@ -1,6 +1,6 @@
 pub mod Values
-pub mod Joined
-pub mod Postfix
-pub mod Trees
-pub mod Loading
-pub mod Outcome
+mod Joined
+mod Postfix
+mod Trees
+mod Loading
+mod Outcome

@@ -6,7 +6,7 @@ use Rattle.std.proofs.lemmas.List.{take_more, take_all, length-map, length-take-
 use Rattle.std.proofs.Math.ListN.{get_or-map}
 use denote.Ref.{Bor}
 use Rattle.std.specs.declared.io.ErrorKind.{ErrorKind}
-use Rattle.sparse_base.specs.Coo.{Coo}
+use Rattle.sparse_coo_dense.specs.Coo.{Coo}
 use Rattle.sparse_parser.specs.Meaning.{Means}
 use Rattle.sparse_io.specs.Written.{IsRefusedWrite}
 use Rattle.sparse_parser.specs.declared.error.MatrixMarketErrorKind.{MatrixMarketErrorKind}

@@ -9,7 +9,7 @@ use Rattle.std.specs.Fmt.{signed_decimal, decimal}
 use Rattle.std.proofs.lemmas.List.{length-map}
 use Rattle.sparse_algebra.specs.Algebra.{CommRing}
 use Rattle.sparse_algebra.specs.Sums.{sum_by, where_true}
-use Rattle.sparse_base.specs.Coo.{Coo, coo_of}
+use Rattle.sparse_coo_dense.specs.Coo.{Coo, coo_of}
 use Rattle.sparse_algebra.specs.Plain.{Plain, is_at, plain_of_triplets, plain_sum, plain_difference}
 use Rattle.sparse_algebra.specs.Plain.{plain_product, plain_transpose, plain_negation}
 use Rattle.sparse_algebra.specs.Wrapping.{class_of}
@@ -17,11 +17,11 @@ use Rattle.sparse_algebra.specs.Numbers.{w64_number}
 use Rattle.sparse_algebra.specs.declared.scalar.wrapping.W64.{W64}
 use Rattle.sparse_algebra.proofs.PlainLemmas.{same_plain}
 use Rattle.sparse_algebra.proofs.WholeNumbers.{number_of-class}
-use Rattle.sparse_cs.specs.Compressed.{Compressed, IsSound, lane_triplets, transposed}
-use Rattle.sparse_base.specs.CooPlain.{plain_of_coo}
-use Rattle.sparse_cs.specs.PlainOfLanes.{plain_of_rows, plain_of_cols, meant}
-use Rattle.sparse_cs.proofs.RowOrder.{row_order-rows}
-use Rattle.sparse_cs.proofs.ColOrder.{col_order-cols}
+use Rattle.sparse_compressed.specs.Compressed.{Compressed, IsSound, lane_triplets, transposed}
+use Rattle.sparse_coo_dense.specs.CooPlain.{plain_of_coo}
+use Rattle.sparse_compressed.specs.PlainOfLanes.{plain_of_rows, plain_of_cols, meant}
+use Rattle.sparse_compressed.proofs.RowOrder.{row_order-rows}
+use Rattle.sparse_compressed.proofs.ColOrder.{col_order-cols}
 use Rattle.std.specs.Io.KnownBytes.{Appends}
 use Rattle.sparse_io.specs.Sink.{AppendsSome}
 use Rattle.sparse_io.specs.Written.{written_text, heading, size_line, triplet_line}

@@ -8,8 +8,8 @@ use Rattle.sparse_algebra.specs.Algebra.{CommRing}
 use Rattle.sparse_algebra.specs.Plain.{Plain, plain_sum, plain_difference, plain_negation}
 use Rattle.sparse_algebra.specs.Plain.{plain_product, plain_transpose}
 use Rattle.sparse_algebra.proofs.PlainLemmas.{transpose_product}
-use Rattle.sparse_cs.specs.Compressed.{Compressed}
-use Rattle.sparse_cs.specs.PlainOfLanes.{plain_of_rows}
+use Rattle.sparse_compressed.specs.Compressed.{Compressed}
+use Rattle.sparse_compressed.specs.PlainOfLanes.{plain_of_rows}
 use Rattle.sparse_expr.specs.InnerTransposed.{rows_or_transposed}
 use Rattle.sparse_expr.specs.Value.{both, one, Meets, same_sizes, sum_of, difference_of, product_of}
 use Rattle.sparse_expr.specs.Value.{input_at, found}

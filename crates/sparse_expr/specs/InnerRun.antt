@@ -3,7 +3,7 @@ use Rattle.std.specs.Prelude.{◌≡◌, ℕ, ℤ, ◌+◌, ◌++◌, List, code
 use Rattle.std.specs.Fmt.{signed_decimal}
 use Rattle.sparse_algebra.specs.Numbers.{w64_number}
 use Rattle.sparse_algebra.specs.declared.scalar.wrapping.W64.{W64}
-use Rattle.sparse_base.specs.Coo.{Coo}
+use Rattle.sparse_coo_dense.specs.Coo.{Coo}
 use Rattle.sparse_parser.specs.Meaning.{values_of}
 use Rattle.sparse_io.specs.Written.{text_of}
 use Rattle.sparse_expr.specs.declared.error.ExprError.{ExprError}

@@ -1,8 +1,8 @@
 -- The matrices that are kept for the inputs of an expression.
 use Rattle.std.specs.Prelude.{◌≡◌, Bool, true, false, IfSome}
 use Rattle.sparse_algebra.specs.Algebra.{CommRing}
-use Rattle.sparse_base.specs.Coo.{Coo}
-use Rattle.sparse_base.specs.CooPlain.{plain_of_coo}
+use Rattle.sparse_coo_dense.specs.Coo.{Coo}
+use Rattle.sparse_coo_dense.specs.CooPlain.{plain_of_coo}
 use Rattle.sparse_expr.specs.InnerTransposed.{rows_or_transposed}
 use Rattle.sparse_expr.specs.declared.sources.Slot.{Slot}
 use Rattle.sparse_expr.specs.declared.sources.Source.{Source}

@@ -17,7 +17,7 @@ use crate::evaluate::{evaluate_cols, evaluate_rows};
 use crate::expr::Expr;
 use sparse_algebra::learn;
 use sparse_algebra::scalar::W64;
-use sparse_base::coo::CooMatrix;
+use sparse_coo_dense::coo::CooMatrix;
 use sparse_io::{
     MatrixMarketErrorKind, MatrixMarketExport, Sink, load_coo_from_matrix_market_str,
     save_to_matrix_market,

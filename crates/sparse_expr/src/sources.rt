@@ -2,8 +2,8 @@
 
 ghost use Rattle.std.specs.Prelude.{◌≡◌, List, IfOk, OnOk, map};
 ghost use Rattle.std.specs.List.{AllZip};
-ghost use Rattle.sparse_base.specs.Coo.{Coo};
-ghost use Rattle.sparse_base.specs.CooPlain.{plain_of_coo};
+ghost use Rattle.sparse_coo_dense.specs.Coo.{Coo};
+ghost use Rattle.sparse_coo_dense.specs.CooPlain.{plain_of_coo};
 ghost use Rattle.sparse_expr.specs.Value.{Meets, input_at};
 ghost use Rattle.sparse_expr.specs.InnerTransposed.{rows_or_transposed};
 ghost use Rattle.sparse_expr.specs.InnerSources.{Keeps, Provides};
@@ -11,9 +11,9 @@ ghost use Rattle.sparse_expr.specs.InnerSources.{Keeps, Provides};
 use crate::error::ExprError;
 use crate::expr::Expr;
 use sparse_algebra::scalar::Ring;
-use sparse_base::coo::CooMatrix;
 use sparse_convert::serial::{convert_coo_csc, convert_coo_csr};
-use sparse_forms::csr::CsrMatrix;
+use sparse_coo_dense::coo::CooMatrix;
+use sparse_csr_csc::csr::CsrMatrix;
 use std::alloc::{AllocError, Global};
 use std::rc::Rc;
 

@@ -2,7 +2,8 @@
 use Rattle.std.proofs.Common.{◌≡◌, ◌≢◌, ℕ, suc, ◌-◌, ◌<◌, ◌≤◌, ◌⊎◌, inl, inr, ◌↔◌, List, length}
 use Rattle.std.proofs.Common.{slice_index, Contains, sym, subst, arith}
 use Rattle.sparse_factor.specs.InnerColumns.{IsInColumn, IsInTail}
-use Rattle.sparse_factor.specs.InnerChildren.{Reaches, here, next, AreFalling, IsInTailOf, IsInTails}
+use Rattle.sparse_factor.specs.InnerChildren.{Reaches, here, next}
+use Rattle.sparse_factor.specs.InnerChildren.{AreFalling, IsInTailOf, IsInTails}
 use Rattle.sparse_factor.specs.InnerTaken.{HasTaken}
 use Rattle.sparse_factor.proofs.Children.{reach_cases}
 use Rattle.sparse_factor.proofs.Taken.{none_taken, taken_into, taken_both}

@@ -1,5 +1,6 @@
 -- Runs of a list: their numbers, and the same runs after the list has grown.
-use Rattle.std.proofs.Common.{◌≡◌, ℕ, zero, suc, ◌+◌, ◌-◌, ◌<◌, ◌≤◌, inl, inr, ◌↔◌, List, [], ◌∷◌, ◌++◌}
+use Rattle.std.proofs.Common.{◌≡◌, ℕ, zero, suc, ◌+◌, ◌-◌, ◌<◌, ◌≤◌}
+use Rattle.std.proofs.Common.{inl, inr, ◌↔◌, List, [], ◌∷◌, ◌++◌}
 use Rattle.std.proofs.Common.{length, get_or, append_assoc}
 use Rattle.std.proofs.Common.{take, drop, slice_range, Contains, length-append, ap, sym, ◌∙◌, refl}
 use Rattle.std.proofs.Common.{arith}

@@ -1,5 +1,6 @@
 -- Steps that are counted for pairs (row, column), each pair once.
-use Rattle.std.proofs.Common.{◌≡◌, ◌≢◌, ℕ, ◌+◌, ◌-◌, ◌<◌, ◌≤◌, inl, inr, List, [], ◌++◌, map, length}
+use Rattle.std.proofs.Common.{◌≡◌, ◌≢◌, ℕ, ◌+◌, ◌-◌, ◌<◌, ◌≤◌}
+use Rattle.std.proofs.Common.{inl, inr, List, [], ◌++◌, map, length}
 use Rattle.std.proofs.Common.{get_or, slice_range, length-append, sym, ap, ◌∙◌, subst, arith, ◌⊎◌}
 use Rattle.std.specs.List.{Contains, AllPairs}
 use Rattle.std.proofs.lemmas.List.{get_or-map, length-map}

@@ -10,7 +10,7 @@ ghost use Rattle.sparse_factor.specs.Walks.{StoresWalks, StoresDiagonal};
 ghost use Rattle.sparse_factor.specs.Fill.{Filled};
 
 use sparse_algebra::learn;
-use sparse_base::steps::Steps;
+use sparse_coo_dense::steps::Steps;
 use sparse_pattern::counting::Count;
 use sparse_pattern::pattern::SparsityPattern;
 use sparse_sums::spadd_pattern;

@@ -1,7 +1,7 @@
-pub mod Done
-pub mod FactorSteps
-pub mod HandleSteps
-pub mod HeapBox
-pub mod HeldFactors
-pub mod PlainTexts
-pub mod Triangles
+mod Done
+mod FactorSteps
+mod HandleSteps
+mod HeapBox
+mod HeldFactors
+mod PlainTexts
+mod Triangles

@@ -17,13 +17,13 @@ use Rattle.sparse_algebra.specs.Wrapping.{class_of}
 use Rattle.sparse_algebra.specs.WrappingValues.{w64_value}
 use Rattle.sparse_algebra.specs.declared.scalar.wrapping.W64.{W64}
 use Rattle.sparse_algebra.proofs.WholeNumbers.{number_of-class}
-use Rattle.sparse_base.specs.Coo.{Coo, coo_of}
-use Rattle.sparse_base.specs.CooPlain.{plain_of_coo}
+use Rattle.sparse_coo_dense.specs.Coo.{Coo, coo_of}
+use Rattle.sparse_coo_dense.specs.CooPlain.{plain_of_coo}
 use Rattle.sparse_c_views.specs.Arrays.{ring64}
 use Rattle.sparse_c_views.specs.declared.refusal.Refusal.{Refusal}
-use Rattle.sparse_cs.specs.Compressed.{Compressed, IsSound, lane_triplets}
-use Rattle.sparse_cs.specs.PlainOfLanes.{plain_of_rows}
-use Rattle.sparse_cs.proofs.RowOrder.{row_order-rows}
+use Rattle.sparse_compressed.specs.Compressed.{Compressed, IsSound, lane_triplets}
+use Rattle.sparse_compressed.specs.PlainOfLanes.{plain_of_rows}
+use Rattle.sparse_compressed.proofs.RowOrder.{row_order-rows}
 use Rattle.sparse_io.specs.Written.{text_of, written_text, heading, size_line, triplet_line}
 use Rattle.sparse_market_scalar.specs.ScalarTypes.{wrapping_scalar}
 use Rattle.sparse_parser.specs.Meaning.{value_triplet, values_of, Means}

@@ -12,12 +12,12 @@ use Rattle.sparse_algebra.specs.Integers.{element_of}
 use Rattle.sparse_algebra.specs.Plain.{Plain, plain_transpose}
 use Rattle.sparse_algebra.specs.WrappingValues.{w64_value}
 use Rattle.sparse_algebra.specs.declared.scalar.wrapping.W64.{W64}
-use Rattle.sparse_base.specs.Dense.{Dense}
-use Rattle.sparse_base.specs.DensePlain.{plain_of_dense}
-use Rattle.sparse_base.proofs.Meanings.{dense-meant}
+use Rattle.sparse_coo_dense.specs.Dense.{Dense}
+use Rattle.sparse_coo_dense.specs.DensePlain.{plain_of_dense}
+use Rattle.sparse_coo_dense.proofs.Meanings.{dense-meant}
 use Rattle.sparse_c_views.specs.Arrays.{plain_by_values, ring64}
-use Rattle.sparse_cs.specs.Compressed.{Compressed}
-use Rattle.sparse_cs.specs.PlainOfLanes.{plain_of_rows}
+use Rattle.sparse_compressed.specs.Compressed.{Compressed}
+use Rattle.sparse_compressed.specs.PlainOfLanes.{plain_of_rows}
 use Rattle.sparse_handles.specs.Behind.{plain_behind}
 use Rattle.sparse_handles.proofs.Done.{held}
 use Rattle.sparse_handles.specs.declared.solving.Triangle.{Triangle}

@@ -3,13 +3,14 @@ use Rattle.std.specs.Prelude.{◌≡◌, ◌≢◌, ◌⊎◌, ℤ, pos, [], Opt
 use Rattle.sparse_algebra.specs.Plain.{Plain, plain_of_triplets}
 use Rattle.sparse_algebra.specs.WrappingValues.{w64_value}
 use Rattle.sparse_algebra.specs.declared.scalar.wrapping.W64.{W64}
-use Rattle.sparse_cs.specs.Compressed.{Compressed}
-use Rattle.sparse_cs.specs.PlainOfLanes.{plain_of_rows}
+use Rattle.sparse_compressed.specs.Compressed.{Compressed}
+use Rattle.sparse_compressed.specs.PlainOfLanes.{plain_of_rows}
 use Rattle.sparse_c_views.specs.Arrays.{ring64, Room}
 use Rattle.sparse_c_views.specs.Refused.{IsMemoryOr, IsTooSmall}
 use Rattle.sparse_c_views.specs.Statuses.{number_of}
 use Rattle.sparse_c_views.specs.declared.refusal.Refusal.{Refusal}
-use Rattle.sparse_c_views.specs.declared.refusal.Refusal.TheVariants.{EmptyHandle, ShapeMismatch, TooSmall}
+use Rattle.sparse_c_views.specs.declared.refusal.Refusal.TheVariants.{EmptyHandle, ShapeMismatch}
+use Rattle.sparse_c_views.specs.declared.refusal.Refusal.TheVariants.{TooSmall}
 
 -- the plain matrix behind a handle; with no matrix, the one with no rows and no columns
 abbrev pub plain_behind : Option (Compressed W64) → Plain ring64

@@ -9,8 +9,8 @@ use Rattle.sparse_c_views.specs.Arrays.{ring64}
 use Rattle.sparse_c_views.specs.Refused.{IsMissized}
 use Rattle.sparse_c_views.specs.declared.refusal.Refusal.{Refusal}
 use Rattle.sparse_c_views.specs.declared.refusal.Refusal.TheVariants.{EmptyHandle, Singular}
-use Rattle.sparse_cs.specs.Compressed.{Compressed}
-use Rattle.sparse_cs.specs.PlainOfLanes.{plain_of_cols}
+use Rattle.sparse_compressed.specs.Compressed.{Compressed}
+use Rattle.sparse_compressed.specs.PlainOfLanes.{plain_of_cols}
 use Rattle.sparse_handles.specs.Behind.{plain_behind}
 use Rattle.sparse_handles.specs.Solved.{IsNoSquare}
 use Rattle.sparse_ldl.specs.Factorisations.{plain_symmetric, IsFactorisation}

@@ -1,5 +1,6 @@
 -- Equations with the matrix behind a handle, solved in the array of the right side.
-use Rattle.std.specs.Prelude.{◌≡◌, ◌≢◌, ◌⊎◌, ◌<◌, ◌*◌, ℕ, ℤ, Bool, true, false, List, Option, length}
+use Rattle.std.specs.Prelude.{◌≡◌, ◌≢◌, ◌⊎◌, ◌<◌, ◌*◌, ℕ, ℤ}
+use Rattle.std.specs.Prelude.{Bool, true, false, List, Option, length}
 use Rattle.sparse_algebra.specs.Plain.{Plain, plain_transpose}
 use Rattle.sparse_algebra.specs.WrappingValues.{w64_value}
 use Rattle.sparse_algebra.specs.declared.scalar.wrapping.W64.{W64}
@@ -7,7 +8,7 @@ use Rattle.sparse_c_views.specs.Arrays.{plain_by_values, ring64}
 use Rattle.sparse_c_views.specs.Refused.{IsMissized}
 use Rattle.sparse_c_views.specs.declared.refusal.Refusal.{Refusal}
 use Rattle.sparse_c_views.specs.declared.refusal.Refusal.TheVariants.{ShapeMismatch, Singular}
-use Rattle.sparse_cs.specs.Compressed.{Compressed}
+use Rattle.sparse_compressed.specs.Compressed.{Compressed}
 use Rattle.sparse_handles.specs.Behind.{plain_behind, IsEmpty}
 use Rattle.sparse_handles.specs.declared.solving.Triangle.{Triangle}
 use Rattle.sparse_handles.specs.declared.solving.Triangle.TheVariants.{Lower, Upper}

@@ -1,13 +1,14 @@
 -- Matrix Market texts, and the matrices behind handles.
-use Rattle.std.specs.Prelude.{◌≡◌, ◌⊎◌, ◌<◌, ℕ, ℤ, pos, Ok, Err, List, Option, codes, length, IsUtf8}
+use Rattle.std.specs.Prelude.{◌≡◌, ◌⊎◌, ◌<◌, ℕ, ℤ, pos, Ok}
+use Rattle.std.specs.Prelude.{Err, List, Option, codes, length, IsUtf8}
 use Rattle.std.specs.Fmt.{signed_decimal}
 use Rattle.std.specs.Int.{w64}
 use Rattle.sparse_algebra.specs.Plain.{Plain, row_order}
 use Rattle.sparse_algebra.specs.Whole.{number_of}
 use Rattle.sparse_algebra.specs.Wrapping.{class_of}
 use Rattle.sparse_algebra.specs.declared.scalar.wrapping.W64.{W64}
-use Rattle.sparse_base.specs.Coo.{Coo}
-use Rattle.sparse_base.specs.CooPlain.{plain_of_coo}
+use Rattle.sparse_coo_dense.specs.Coo.{Coo}
+use Rattle.sparse_coo_dense.specs.CooPlain.{plain_of_coo}
 use Rattle.sparse_c_views.specs.Arrays.{ring64}
 use Rattle.sparse_c_views.specs.Lists.{HoldsText}
 use Rattle.sparse_c_views.specs.Refused.{IsMemoryOr}
@@ -15,7 +16,7 @@ use Rattle.sparse_c_views.specs.Rests.{KeepsBehind}
 use Rattle.sparse_c_views.specs.Statuses.{number_of as status_of, refusal_of_text}
 use Rattle.sparse_c_views.specs.declared.refusal.Refusal.{Refusal}
 use Rattle.sparse_c_views.specs.declared.refusal.Refusal.TheVariants.{TooSmall, Unreadable}
-use Rattle.sparse_cs.specs.Compressed.{Compressed}
+use Rattle.sparse_compressed.specs.Compressed.{Compressed}
 use Rattle.sparse_handles.specs.Behind.{plain_behind, Holds, IsEmpty}
 use Rattle.sparse_io.specs.Written.{written_text}
 use Rattle.sparse_market_scalar.specs.ScalarTypes.{wrapping_scalar}

@@ -1,8 +1,8 @@
 //! Handles of matrices out of arrays from outside.
 
 ghost use Rattle.std.specs.Prelude.{◌≡◌, IfErr, OnOk, OnErr};
-ghost use Rattle.sparse_base.specs.Coo.{AreParts};
-ghost use Rattle.sparse_cs.specs.Compressed.{arrays_of, IsSound};
+ghost use Rattle.sparse_coo_dense.specs.Coo.{AreParts};
+ghost use Rattle.sparse_compressed.specs.Compressed.{arrays_of, IsSound};
 ghost use Rattle.sparse_c_views.specs.Arrays.{plain_by_rows, plain_of_lists, ring64};
 ghost use Rattle.sparse_c_views.specs.Refused.{IsFaultOf, IsFaultOfList, IsMemoryOr};
 ghost use Rattle.sparse_handles.specs.Behind.{Holds};

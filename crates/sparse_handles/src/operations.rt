@@ -2,7 +2,8 @@
 
 ghost use Rattle.std.specs.Prelude.{◌≡◌, IfErr, OnOk, OnErr};
 ghost use Rattle.sparse_algebra.specs.Integers.{element_of};
-ghost use Rattle.sparse_algebra.specs.Plain.{plain_difference, plain_product, plain_scaled, plain_sum, plain_transpose};
+ghost use Rattle.sparse_algebra.specs.Plain.{plain_difference, plain_product, plain_scaled};
+ghost use Rattle.sparse_algebra.specs.Plain.{plain_sum, plain_transpose};
 ghost use Rattle.sparse_c_views.specs.Arrays.{ring64};
 ghost use Rattle.sparse_c_views.specs.Refused.{IsMemoryOr};
 ghost use Rattle.sparse_handles.specs.Behind.{plain_behind, Holds, IsEmpty, IsUnlike, IsUnmatched};

@@ -9,7 +9,7 @@ ghost use Rattle.sparse_handles.specs.Behind.{IsEmpty};
 use crate::handle::{Block, MatrixHandle, SharedMatrix};
 use sparse_algebra::scalar::W64;
 use sparse_c_views::refusal::Refusal;
-use sparse_forms::csr::CsrMatrix;
+use sparse_csr_csc::csr::CsrMatrix;
 use std::alloc::Global;
 use std::mem;
 use std::sync::Arc;

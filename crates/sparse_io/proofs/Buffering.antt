@@ -6,7 +6,7 @@ use Rattle.std.specs.List.{flat_map}
 use Rattle.std.specs.Io.KnownBytes.{Appends}
 use Rattle.std.proofs.KnownBytes.{Appends-nil, Appends-trans}
 use Rattle.std.proofs.lemmas.List.Concat.{flat_map-append}
-use Rattle.sparse_base.specs.Coo.{Coo}
+use Rattle.sparse_coo_dense.specs.Coo.{Coo}
 use Rattle.sparse_io.specs.Sink.{AppendsSome}
 use Rattle.sparse_io.specs.Written.{heading, size_line, triplet_line, written_text, text_of}
 use Rattle.sparse_io.specs.InnerWriting.{head_of, IsBuffered}

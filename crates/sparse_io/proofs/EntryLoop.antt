@@ -7,7 +7,7 @@ use Rattle.std.specs.Prelude.{IsTrue}
 use Rattle.std.specs.List.{list_all}
 use Rattle.std.proofs.lemmas.List.{append-nil}
 use Rattle.std.proofs.lemmas.List.Folds.{list_all-append}
-use Rattle.sparse_base.specs.Coo.{Coo, coo_of, appended}
+use Rattle.sparse_coo_dense.specs.Coo.{Coo, coo_of, appended}
 use Rattle.sparse_parser.specs.declared.data_lines.Line.{Line}
 use Rattle.sparse_parser.specs.declared.header.Header.{Header}
 use Rattle.sparse_pattern.specs.declared.error.SparseFormatErrorKind.TheVariants.{IndexOutOfBounds}

@@ -1,13 +1,13 @@
-pub mod Buffering
+mod Buffering
 pub mod EntryLoop
-pub mod FileFaults
-pub mod IntegerEntries
-pub mod LineRuns
+mod FileFaults
+mod IntegerEntries
+mod LineRuns
 pub mod OneMeaning
-pub mod Parts
-pub mod PlaceLaws
-pub mod RoundTrip
-pub mod WrittenFields
-pub mod WrittenLines
-pub mod Transposed
-pub mod Refusals
+mod Parts
+mod PlaceLaws
+mod RoundTrip
+mod WrittenFields
+mod WrittenLines
+mod Transposed
+mod Refusals

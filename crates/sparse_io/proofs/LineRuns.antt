@@ -3,7 +3,7 @@ use Rattle.std.proofs.Common.{◌≡◌, ◌≢◌, ℕ, ◌+◌, ◌≤◌, Boo
 use Rattle.std.proofs.Common.{slice_get, Option, Ok, refl, sym, ap, ◌∙◌, arith}
 use Rattle.std.specs.Prelude.{IsTrue}
 use Rattle.std.specs.List.{list_all}
-use Rattle.sparse_base.specs.Coo.{Coo, appended}
+use Rattle.sparse_coo_dense.specs.Coo.{Coo, appended}
 use Rattle.sparse_parser.specs.declared.header.Header.{Header}
 use Rattle.sparse_parser.specs.Bytes.{after}
 use Rattle.sparse_parser.specs.InnerBytes.{is_within_line, BeginsLine}

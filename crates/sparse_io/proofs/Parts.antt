@@ -3,7 +3,7 @@ use Rattle.std.proofs.Common.{◌≡◌, ℕ, Bool, true, false, cond, List, [],
 use Rattle.std.proofs.Common.{Result, Ok, Err, refl, sym, ap, subst, ◌∙◌, inl, inr}
 use Rattle.std.specs.Prelude.{IfOk, IfErr, ◌⊎◌}
 use Rattle.std.specs.List.{list_all}
-use Rattle.sparse_base.specs.Coo.{Coo}
+use Rattle.sparse_coo_dense.specs.Coo.{Coo}
 use Rattle.sparse_parser.specs.declared.error.Cause.{Cause}
 use Rattle.sparse_parser.specs.declared.error.MatrixMarketErrorKind.TheVariants.{ParsingError}
 use Rattle.sparse_parser.specs.declared.error.MatrixMarketErrorKind.TheVariants.{OutOfMemory}

@@ -10,7 +10,7 @@ use Rattle.std.proofs.lemmas.Bool.{lt-ltb}
 use Rattle.std.proofs.lemmas.List.{length-map}
 use Rattle.std.proofs.lemmas.List.Concat.{flat_map-cons}
 use Rattle.std.proofs.lemmas.List.Elements.{recursion_from_All}
-use Rattle.sparse_base.specs.Coo.{Coo, IsInside}
+use Rattle.sparse_coo_dense.specs.Coo.{Coo, IsInside}
 use Rattle.sparse_parser.specs.declared.header.Field.{Field}
 use Rattle.sparse_parser.specs.declared.header.Field.TheVariants.{Integer, Pattern}
 use Rattle.sparse_parser.specs.declared.header.Header.{Header}

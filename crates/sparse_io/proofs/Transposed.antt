@@ -3,7 +3,7 @@ use Rattle.std.proofs.Common.{ℕ, ◌<◌, List, [], ◌∷◌, map}
 use Rattle.std.specs.Prelude.{All}
 use Rattle.std.specs.List.{AllByRecursion}
 use Rattle.std.proofs.lemmas.List.Elements.{All-from_recursion, recursion_from_All}
-use Rattle.sparse_cs.specs.Compressed.{transposed}
+use Rattle.sparse_compressed.specs.Compressed.{transposed}
 
 module _ {T : Type 0} (lanes minor : ℕ) where
   by_parts : (ts : List (ℕ × ℕ × T)) → AllByRecursion (λ t. (t.0 < lanes) × (t.1 < minor)) ts

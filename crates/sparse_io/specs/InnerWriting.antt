@@ -1,7 +1,7 @@
 -- The state of the writer between two lines.
 use Rattle.std.specs.Prelude.{◌≡◌, ℕ, List, ◌++◌, length, Option}
 use Rattle.std.specs.Io.KnownBytes.{Appends}
-use Rattle.sparse_base.specs.Coo.{Coo}
+use Rattle.sparse_coo_dense.specs.Coo.{Coo}
 use Rattle.sparse_io.specs.Written.{heading, size_line}
 
 -- the text before the lines of the triplets

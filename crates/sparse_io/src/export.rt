@@ -3,13 +3,13 @@
 ghost use Rattle.std.specs.Prelude.{◌≡◌, length};
 ghost use Rattle.std.specs.Iterator.{YieldsFirstBy, item_count};
 
-use sparse_base::coo::{CooMatrix, CooTripletIter};
-use sparse_forms::csc::{CscMatrix, CscTripletIter};
-use sparse_forms::csr::{CsrMatrix, CsrTripletIter};
+use sparse_coo_dense::coo::{CooMatrix, CooTripletIter};
+use sparse_csr_csc::csc::{CscMatrix, CscTripletIter};
+use sparse_csr_csc::csr::{CsrMatrix, CsrTripletIter};
 
 /// A matrix that can be written in Matrix Market format.
 pub trait MatrixMarketExport<T> {
-    ghost use Rattle.sparse_base.specs.Coo.{Coo, IsInside};
+    ghost use Rattle.sparse_coo_dense.specs.Coo.{Coo, IsInside};
     ghost use Rattle.sparse_io.specs.Export.{triplets_left};
 
     // The shape, and the triplets in the order in which they are written.
@@ -84,8 +84,8 @@ impl<T> MatrixMarketExport<T> for CooMatrix<T> {
 }
 
 impl<T> MatrixMarketExport<T> for CsrMatrix<T> {
-    ghost use Rattle.sparse_base.specs.Coo.{coo_of};
-    ghost use Rattle.sparse_cs.specs.Compressed.{lane_triplets};
+    ghost use Rattle.sparse_coo_dense.specs.Coo.{coo_of};
+    ghost use Rattle.sparse_compressed.specs.Compressed.{lane_triplets};
 
     ghost exported = { λ m. coo_of m.pattern.major_dim m.pattern.minor_dim (lane_triplets m) };
 
@@ -108,8 +108,8 @@ impl<T> MatrixMarketExport<T> for CsrMatrix<T> {
 
 impl<T> MatrixMarketExport<T> for CscMatrix<T> {
     ghost use Rattle.std.specs.Prelude.{map};
-    ghost use Rattle.sparse_base.specs.Coo.{coo_of};
-    ghost use Rattle.sparse_cs.specs.Compressed.{lane_triplets, transposed};
+    ghost use Rattle.sparse_coo_dense.specs.Coo.{coo_of};
+    ghost use Rattle.sparse_compressed.specs.Compressed.{lane_triplets, transposed};
 
     ghost exported = { λ m. coo_of m.pattern.minor_dim m.pattern.major_dim
         (map transposed (lane_triplets m)) };

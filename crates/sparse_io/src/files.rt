@@ -14,7 +14,7 @@ use crate::export::MatrixMarketExport;
 use crate::out::Out;
 use crate::reader::load_coo_from_matrix_market_str;
 use crate::writer::save_to_matrix_market;
-use sparse_base::coo::CooMatrix;
+use sparse_coo_dense::coo::CooMatrix;
 use sparse_market_scalar::MatrixMarketScalar;
 use sparse_parser::error::MatrixMarketError;
 use std::alloc::{AllocError, Global};

@@ -1,7 +1,7 @@
 //! Laws of the meaning of texts. Each law is the postcondition of an empty function.
 
 ghost use Rattle.std.specs.Prelude.{◌≡◌, ◌<◌, ◌^◌, ℕ, List, All, length, Ok};
-ghost use Rattle.sparse_base.specs.Coo.{Coo, IsInside};
+ghost use Rattle.sparse_coo_dense.specs.Coo.{Coo, IsInside};
 ghost use Rattle.sparse_parser.specs.declared.header.Header.{Header};
 ghost use Rattle.sparse_parser.specs.Grammar.{IsDocument};
 ghost use Rattle.sparse_parser.specs.Reads.{Read};

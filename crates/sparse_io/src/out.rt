@@ -1,6 +1,7 @@
 //! A sink over a writer.
 
-ghost use Rattle.std.specs.Prelude.{◌≡◌, ◌+◌, None, Some, false, is_ok, IfErr, IsErrAnd, IfOk, IsOk};
+ghost use Rattle.std.specs.Prelude.{◌≡◌, ◌+◌, None, Some, false};
+ghost use Rattle.std.specs.Prelude.{is_ok, IfErr, IsErrAnd, IfOk, IsOk};
 ghost use Rattle.std.specs.Io.{WritesAtMost};
 ghost use Rattle.std.specs.Io.KnownBytes.{Keeps, WriteAppends};
 ghost use Rattle.std.specs.IoError.{error_kind};
@@ -8,7 +9,7 @@ ghost use Rattle.sparse_io.specs.Out.{out_state};
 ghost use Rattle.sparse_io.specs.Sink.{failure_of, CountsFailure};
 
 use crate::sinks::Sink;
-use sparse_base::steps::Steps;
+use sparse_coo_dense::steps::Steps;
 use std::io::{self, ErrorKind, Write};
 use std::marker::Model;
 

@@ -8,7 +8,7 @@ ghost use Rattle.sparse_parser.specs.InnerReading.{Gives, contents_of, grammar_k
 ghost use Rattle.sparse_parser.specs.InnerReading.{settled_of, body_of, read};
 
 use entries::read_entries;
-use sparse_base::coo::CooMatrix;
+use sparse_coo_dense::coo::CooMatrix;
 use sparse_market_scalar::MatrixMarketScalar;
 use sparse_parser::data_lines::data_line;
 use sparse_parser::error::{Cause, MatrixMarketError};

@@ -1,2 +1,2 @@
-pub mod Terms
+mod Terms
 pub mod SparseVectors

@@ -6,7 +6,7 @@ use Rattle.std.proofs.lemmas.List.{drop_all, drop-take, drop-drop}
 use Rattle.sparse_algebra.proofs.Cases.{nat_eq_no}
 use Rattle.sparse_algebra.specs.Algebra.{CommRing}
 use Rattle.sparse_algebra.proofs.RingLemmas.{zero_add}
-use Rattle.sparse_cs.proofs.Arrays.{where_no}
+use Rattle.sparse_compressed.proofs.Arrays.{where_no}
 use Rattle.sparse_kernels.specs.SparseVectors.{sparse_elements}
 
 module _ (R : CommRing) {T : Type 0} (f : T → R.Carrier) (i : ℕ) where

@@ -5,7 +5,7 @@ use Rattle.std.proofs.lemmas.List.{get_or_default, take_all}
 use Rattle.sparse_algebra.specs.Algebra.{CommRing}
 use Rattle.sparse_algebra.specs.Sums.{dot_of}
 use Rattle.sparse_algebra.proofs.RingLemmas.{mul_zero}
-use Rattle.sparse_cs.proofs.RowSums.{lane_step, sum_zip_more}
+use Rattle.sparse_compressed.proofs.RowSums.{lane_step, sum_zip_more}
 use Rattle.sparse_kernels.specs.SparseVectors.{AddsMultiple, sparse_elements}
 
 module _ {T : Type 0} (ks : List ℕ) (vs : List T) (n k : ℕ) (v : T) where

@@ -2,13 +2,13 @@
 
 ghost use Rattle.std.specs.Prelude.{◌≡◌, ◌<◌, length};
 ghost use Rattle.sparse_algebra.specs.Sums.{sum_below};
-ghost use Rattle.sparse_cs.specs.Compressed.{IsSound};
-ghost use Rattle.sparse_cs.specs.PlainOfLanes.{plain_of_cols};
+ghost use Rattle.sparse_compressed.specs.Compressed.{IsSound};
+ghost use Rattle.sparse_compressed.specs.PlainOfLanes.{plain_of_cols};
 ghost use Rattle.sparse_kernels.specs.SparseVectors.{AddsMultiple, elements};
 
 use crate::lane::{axpy_lane, dot_lane};
 use sparse_algebra::scalar::Ring;
-use sparse_forms::csc::CscMatrix;
+use sparse_csr_csc::csc::CscMatrix;
 
 /// Adds `alpha` times a column of a matrix to a dense vector.
 ///

@@ -2,13 +2,13 @@
 
 ghost use Rattle.std.specs.Prelude.{◌≡◌, ◌<◌, length};
 ghost use Rattle.sparse_algebra.specs.Sums.{sum_below};
-ghost use Rattle.sparse_cs.specs.Compressed.{IsSound};
-ghost use Rattle.sparse_cs.specs.PlainOfLanes.{plain_of_rows};
+ghost use Rattle.sparse_compressed.specs.Compressed.{IsSound};
+ghost use Rattle.sparse_compressed.specs.PlainOfLanes.{plain_of_rows};
 ghost use Rattle.sparse_kernels.specs.SparseVectors.{AddsMultiple, elements};
 
 use crate::lane::{axpy_lane, dot_lane};
 use sparse_algebra::scalar::Ring;
-use sparse_forms::csr::CsrMatrix;
+use sparse_csr_csc::csr::CsrMatrix;
 
 /// Adds `alpha` times a row of a matrix to a dense vector.
 ///

@@ -3,15 +3,15 @@
 ghost use Rattle.std.specs.Prelude.{◌≡◌, ◌<◌, All, length};
 ghost use Rattle.std.specs.List.Sorted.{IsStrictlyIncreasing};
 ghost use Rattle.sparse_algebra.specs.Sums.{sum_below};
-ghost use Rattle.sparse_cs.specs.Compressed.{IsSound};
-ghost use Rattle.sparse_cs.specs.Lanes.{lane_at};
-ghost use Rattle.sparse_cs.specs.PlainOfLanes.{plain_of_rows};
+ghost use Rattle.sparse_compressed.specs.Compressed.{IsSound};
+ghost use Rattle.sparse_compressed.specs.Lanes.{lane_at};
+ghost use Rattle.sparse_compressed.specs.PlainOfLanes.{plain_of_rows};
 ghost use Rattle.sparse_kernels.specs.SparseVectors.{AddsMultiple, elements};
 
 use crate::gather::usdot;
 use crate::scatter::usaxpy;
 use sparse_algebra::scalar::Ring;
-use sparse_cs::CsMatrix;
+use sparse_compressed::CsMatrix;
 
 /// Returns the indices and the values of lane i.
 ///

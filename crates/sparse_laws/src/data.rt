@@ -2,12 +2,12 @@
 
 ghost use Rattle.std.specs.Prelude.{◌≡◌, true, IfOk};
 ghost use Rattle.sparse_pattern.specs.Raw.{raw_eq};
-ghost use Rattle.sparse_base.specs.CooEquality.{coo_eq};
-ghost use Rattle.sparse_cs.specs.Compressed.{compressed_eq};
+ghost use Rattle.sparse_coo_dense.specs.CooEquality.{coo_eq};
+ghost use Rattle.sparse_compressed.specs.Compressed.{compressed_eq};
 
-use sparse_base::coo::CooMatrix;
-use sparse_forms::csc::CscMatrix;
-use sparse_forms::csr::CsrMatrix;
+use sparse_coo_dense::coo::CooMatrix;
+use sparse_csr_csc::csc::CscMatrix;
+use sparse_csr_csc::csr::CsrMatrix;
 use sparse_pattern::pattern::SparsityPattern;
 use std::alloc::{AllocError, Global};
 

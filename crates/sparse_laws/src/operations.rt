@@ -7,8 +7,8 @@
 ghost use Rattle.std.specs.Prelude.{◌≡◌, ◌↔◌, ℕ, true, IfOk};
 ghost use Rattle.sparse_algebra.specs.Plain.{plain_product, plain_sum, plain_transpose};
 ghost use Rattle.sparse_pattern.specs.Raw.{Raw, IsPlace};
-ghost use Rattle.sparse_cs.specs.Compressed.{Compressed, IsSound};
-ghost use Rattle.sparse_cs.specs.PlainOfLanes.{plain_of_rows};
+ghost use Rattle.sparse_compressed.specs.Compressed.{Compressed, IsSound};
+ghost use Rattle.sparse_compressed.specs.PlainOfLanes.{plain_of_rows};
 ghost use Rattle.sparse_sums.specs.PatternSums.{IsUnionOf};
 ghost use Rattle.sparse_products.specs.Products.{IsProductOf};
 
@@ -16,8 +16,8 @@ pub mod columns;
 
 use sparse_algebra::learn;
 use sparse_algebra::scalar::Ring;
-use sparse_cs::laws::stands_law;
-use sparse_forms::csr::CsrMatrix;
+use sparse_compressed::laws::stands_law;
+use sparse_csr_csc::csr::CsrMatrix;
 use sparse_products::serial::{add_csr, mul_csr, neg_csr, sub_csr};
 use sparse_products::transposes::transposed_csr;
 use std::alloc::{AllocError, Global};

@@ -7,9 +7,9 @@ use Rattle.sparse_algebra.specs.Algebra.{CommRing}
 use Rattle.sparse_algebra.proofs.RingLemmas.{zero_add}
 use Rattle.sparse_pattern.specs.Raw.{Raw, IsPlace, IsValid}
 use Rattle.sparse_pattern.proofs.Positions.{one_lane}
-use Rattle.sparse_cs.specs.Compressed.{Compressed, compressed_of, IsSound, IsPosition}
-use Rattle.sparse_cs.specs.PlainOfLanes.{plain_of_cols}
-use Rattle.sparse_cs.proofs.Arrays.{value_at_position}
+use Rattle.sparse_compressed.specs.Compressed.{Compressed, compressed_of, IsSound, IsPosition}
+use Rattle.sparse_compressed.specs.PlainOfLanes.{plain_of_cols}
+use Rattle.sparse_compressed.proofs.Arrays.{value_at_position}
 use Rattle.sparse_kernels.specs.SparseVectors.{elements}
 use Rattle.sparse_solve.proofs.RingSteps.{add_off}
 use Rattle.sparse_algebra.specs.Inverses.{HasInverse}

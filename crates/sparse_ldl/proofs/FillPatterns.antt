@@ -7,8 +7,8 @@ use Rattle.sparse_algebra.specs.Algebra.{CommRing}
 use Rattle.sparse_algebra.specs.Plain.{Plain}
 use Rattle.sparse_pattern.specs.Raw.{Raw, IsPlace}
 use Rattle.sparse_pattern.specs.TransposedPattern.{IsTransposedPattern}
-use Rattle.sparse_cs.specs.Compressed.{Compressed, IsSound}
-use Rattle.sparse_cs.specs.PlainOfLanes.{plain_of_cols}
+use Rattle.sparse_compressed.specs.Compressed.{Compressed, IsSound}
+use Rattle.sparse_compressed.specs.PlainOfLanes.{plain_of_cols}
 use Rattle.sparse_factor.specs.Fill.{InFill, UpperBase, StoresByColumns}
 use Rattle.sparse_ldl.specs.Factorisations.{plain_upper}
 use Rattle.sparse_ldl.specs.InnerColumns.{IsFilledPattern, IsIncluded}

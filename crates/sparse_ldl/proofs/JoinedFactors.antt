@@ -1,8 +1,8 @@
 -- What a factorisation on the fill says of the factors that are kept.
 use Rattle.std.proofs.Common.{◌≡◌, List, length, sym, arith}
 use Rattle.sparse_algebra.specs.Algebra.{CommRing}
-use Rattle.sparse_cs.specs.Compressed.{Compressed, IsSound}
-use Rattle.sparse_cs.specs.PlainOfLanes.{plain_of_cols}
+use Rattle.sparse_compressed.specs.Compressed.{Compressed, IsSound}
+use Rattle.sparse_compressed.specs.PlainOfLanes.{plain_of_cols}
 use Rattle.sparse_factor.specs.Fill.{InFill, UpperBase, StoresByColumns}
 use Rattle.sparse_kernels.specs.SparseVectors.{elements}
 use Rattle.sparse_solve.specs.Solutions.{HasSameValues}

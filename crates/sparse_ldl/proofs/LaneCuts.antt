@@ -8,11 +8,12 @@ use Rattle.sparse_algebra.proofs.RingLemmas.{mul_zero}
 use Rattle.sparse_algebra.proofs.Products.{mul_neg}
 use Rattle.sparse_pattern.specs.Raw.{start_of, end_of, lane_of}
 use Rattle.sparse_pattern.proofs.PatternLanes.{length-lane, get_or-lane}
-use Rattle.sparse_cs.specs.Compressed.{Compressed, IsSound}
-use Rattle.sparse_cs.specs.PlainOfLanes.{plain_of_cols}
-use Rattle.sparse_cs.proofs.LaneValues.{values_of, lane_value_is}
+use Rattle.sparse_compressed.specs.Compressed.{Compressed, IsSound}
+use Rattle.sparse_compressed.specs.PlainOfLanes.{plain_of_cols}
+use Rattle.sparse_compressed.proofs.LaneValues.{values_of, lane_value_is}
 use Rattle.sparse_kernels.specs.SparseVectors.{AddsMultiple, sparse_elements}
-use Rattle.sparse_kernels.proofs.SparseVectors.{sparse_elements-drop, sparse_elements-none, drop_range}
+use Rattle.sparse_kernels.proofs.SparseVectors.{sparse_elements-drop, sparse_elements-none}
+use Rattle.sparse_kernels.proofs.SparseVectors.{drop_range}
 use Rattle.sparse_solve.proofs.RingSteps.{add_off}
 use Rattle.sparse_ldl.specs.InnerColumns.{IsCursor, term}
 

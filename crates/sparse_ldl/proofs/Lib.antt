@@ -1,20 +1,20 @@
 pub mod RingFacts
 pub mod Columns
-pub mod ClosedSets
-pub mod Left
+mod ClosedSets
+mod Left
 pub mod NextColumn
 pub mod PlainProducts
-pub mod Cursors
-pub mod LaneCuts
+mod Cursors
+mod LaneCuts
 pub mod FilledSets
-pub mod FillPatterns
-pub mod SolvedFactors
-pub mod ScaledRows
-pub mod TransposedRows
-pub mod RowEntries
-pub mod UpperTriangles
-pub mod FactorsOfFill
-pub mod Results
-pub mod JoinedFactors
-pub mod ColumnMoves
-pub mod ColumnSteps
+mod FillPatterns
+mod SolvedFactors
+mod ScaledRows
+mod TransposedRows
+mod RowEntries
+mod UpperTriangles
+mod FactorsOfFill
+mod Results
+mod JoinedFactors
+mod ColumnMoves
+mod ColumnSteps

@@ -3,9 +3,9 @@ use Rattle.std.proofs.Common.{◌≡◌, ◌≢◌, ℕ, ◌+◌, ◌<◌, List,
 use Rattle.std.proofs.Common.{slice_range, ap, sym, ◌∙◌, arith, All, subst}
 use Rattle.sparse_algebra.specs.Algebra.{CommRing}
 use Rattle.sparse_pattern.specs.Raw.{end_of}
-use Rattle.sparse_cs.specs.Compressed.{Compressed, IsSound}
-use Rattle.sparse_cs.specs.PlainOfLanes.{plain_of_cols}
-use Rattle.sparse_cs.proofs.Arrays.{value_at_position}
+use Rattle.sparse_compressed.specs.Compressed.{Compressed, IsSound}
+use Rattle.sparse_compressed.specs.PlainOfLanes.{plain_of_cols}
+use Rattle.sparse_compressed.proofs.Arrays.{value_at_position}
 use Rattle.sparse_kernels.specs.SparseVectors.{AddsMultiple, sparse_elements}
 use Rattle.sparse_kernels.specs.SparseVectors.{elements}
 use Rattle.sparse_ldl.specs.InnerColumns.{IsCursor, IsRowOf}

@@ -4,8 +4,8 @@ use Rattle.std.proofs.Common.{refl, arith}
 use Rattle.sparse_algebra.proofs.Cases.{lt_add_one_cases, lt_or_ge}
 use Rattle.sparse_algebra.proofs.RingLemmas.{mul_zero}
 use Rattle.sparse_algebra.specs.Algebra.{CommRing}
-use Rattle.sparse_base.specs.Dense.{Dense, value_at, column_of, with_column}
-use Rattle.sparse_base.specs.DensePlain.{plain_of_dense}
+use Rattle.sparse_coo_dense.specs.Dense.{Dense, value_at, column_of, with_column}
+use Rattle.sparse_coo_dense.specs.DensePlain.{plain_of_dense}
 use Rattle.sparse_kernels.specs.SparseVectors.{elements}
 use Rattle.sparse_solve.proofs.PlainSolutions.{dense_inside, dense_past_cols}
 use Rattle.sparse_solve.proofs.RingSteps.{divided}

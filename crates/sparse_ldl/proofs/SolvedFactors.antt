@@ -9,11 +9,11 @@ use Rattle.sparse_algebra.specs.Sums.{sum_below}
 use Rattle.sparse_algebra.specs.Plain.{Plain, plain_product, plain_transpose}
 use Rattle.sparse_algebra.proofs.SumLemmas.{sum_below-same, product_assoc}
 use Rattle.sparse_algebra.proofs.PlainLemmas.{same_plain}
-use Rattle.sparse_base.specs.Dense.{Dense}
-use Rattle.sparse_base.specs.DensePlain.{plain_of_dense}
-use Rattle.sparse_cs.specs.Compressed.{Compressed, IsSound}
-use Rattle.sparse_cs.specs.PlainOfLanes.{plain_of_cols}
-use Rattle.sparse_cs.proofs.Arrays.{proper_rows, value_at_position}
+use Rattle.sparse_coo_dense.specs.Dense.{Dense}
+use Rattle.sparse_coo_dense.specs.DensePlain.{plain_of_dense}
+use Rattle.sparse_compressed.specs.Compressed.{Compressed, IsSound}
+use Rattle.sparse_compressed.specs.PlainOfLanes.{plain_of_cols}
+use Rattle.sparse_compressed.proofs.Arrays.{proper_rows, value_at_position}
 use Rattle.sparse_solve.specs.Solutions.{IsSolution, IsSingular, plain_lower}
 use Rattle.sparse_solve.proofs.ColumnSteps.{lower_is, lower_zero}
 use Rattle.sparse_ldl.specs.Factorisations.{IsUnitLower, plain_ldl}

@@ -8,9 +8,9 @@ use Rattle.sparse_algebra.specs.Algebra.{CommRing}
 use Rattle.sparse_algebra.specs.Sums.{where_true}
 use Rattle.sparse_algebra.specs.Plain.{Plain, IsProper, plain_transpose}
 use Rattle.sparse_pattern.specs.Raw.{Raw}
-use Rattle.sparse_cs.specs.Compressed.{Compressed, IsSound}
-use Rattle.sparse_cs.specs.PlainOfLanes.{plain_of_cols}
-use Rattle.sparse_cs.proofs.Arrays.{proper_rows}
+use Rattle.sparse_compressed.specs.Compressed.{Compressed, IsSound}
+use Rattle.sparse_compressed.specs.PlainOfLanes.{plain_of_cols}
+use Rattle.sparse_compressed.proofs.Arrays.{proper_rows}
 use Rattle.sparse_factor.specs.Fill.{InFill, UpperBase, StoresByColumns}
 use Rattle.sparse_ldl.specs.Factorisations.{IsFactorisation, plain_symmetric, plain_upper}
 use Rattle.sparse_ldl.specs.Factors.{symmetric_of}

@@ -6,9 +6,9 @@ use Rattle.std.specs.Cmp.Lexicographic.{pointwise, lists_per, lists_equiv}
 use Rattle.std.specs.Ordering.{on, eq_of_both}
 use Rattle.sparse_algebra.specs.Algebra.{CommRing}
 use Rattle.sparse_algebra.specs.Plain.{Plain}
-use Rattle.sparse_cs.specs.Compressed.{Compressed, compressed_code, compressed_eq}
-use Rattle.sparse_cs.specs.Laws.{compressed_eq-laws, compressed_eq-equiv}
-use Rattle.sparse_cs.specs.PlainOfLanes.{plain_of_cols}
+use Rattle.sparse_compressed.specs.Compressed.{Compressed, compressed_code, compressed_eq}
+use Rattle.sparse_compressed.specs.Laws.{compressed_eq-laws, compressed_eq-equiv}
+use Rattle.sparse_compressed.specs.PlainOfLanes.{plain_of_cols}
 use Rattle.sparse_factor.specs.Fill.{InFill, UpperBase, StoresByColumns}
 use Rattle.sparse_algebra.specs.Inverses.{HasInverse}
 use Rattle.sparse_solve.specs.Solutions.{HasSameValues}

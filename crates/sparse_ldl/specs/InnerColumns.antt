@@ -3,10 +3,10 @@ use Rattle.std.specs.Prelude.{◌≡◌, ℕ, ◌<◌, ◌≤◌, List, length, 
 use Rattle.sparse_algebra.specs.Algebra.{CommRing}
 use Rattle.sparse_algebra.specs.Sums.{sum_below}
 use Rattle.sparse_pattern.specs.Raw.{Raw, start_of, end_of, IsInLane, IsPlace}
-use Rattle.sparse_cs.specs.Compressed.{Compressed, IsSound}
-use Rattle.sparse_cs.specs.PlainOfLanes.{plain_of_cols}
+use Rattle.sparse_compressed.specs.Compressed.{Compressed, IsSound}
+use Rattle.sparse_compressed.specs.PlainOfLanes.{plain_of_cols}
 use Rattle.sparse_algebra.specs.Inverses.{HasInverse}
-use Rattle.sparse_base.specs.Dense.{Dense, value_at}
+use Rattle.sparse_coo_dense.specs.Dense.{Dense, value_at}
 use Rattle.sparse_kernels.specs.SparseVectors.{elements}
 
 module _ (R : CommRing) where

@@ -1,9 +1,9 @@
 //! Exact factorisations `L D L^T`.
 
 ghost use Rattle.std.specs.Prelude.{◌≡◌, ◌⊎◌, length, IfOk, IfErr};
-ghost use Rattle.sparse_base.specs.DensePlain.{plain_of_dense};
-ghost use Rattle.sparse_cs.specs.Compressed.{Compressed, IsSound};
-ghost use Rattle.sparse_cs.specs.PlainOfLanes.{plain_of_cols};
+ghost use Rattle.sparse_coo_dense.specs.DensePlain.{plain_of_dense};
+ghost use Rattle.sparse_compressed.specs.Compressed.{Compressed, IsSound};
+ghost use Rattle.sparse_compressed.specs.PlainOfLanes.{plain_of_cols};
 ghost use Rattle.sparse_factor.specs.Fill.{InFill, UpperBase, StoresByColumns};
 ghost use Rattle.sparse_ldl.specs.Factorisations.{IsUnitLower, plain_upper};
 ghost use Rattle.sparse_ldl.specs.Factors.{AreFactorsOf, AreOnlyFactorsOf, HasNoFactors};
@@ -22,9 +22,9 @@ use sparse_algebra::error::OperationError;
 use sparse_algebra::learn;
 use sparse_algebra::operand::Op;
 use sparse_algebra::scalar::Units;
-use sparse_base::dense::DMatrix;
+use sparse_coo_dense::dense::DMatrix;
+use sparse_csr_csc::csc::CscMatrix;
 use sparse_factor::factorization::CscSymbolicCholesky;
-use sparse_forms::csc::CscMatrix;
 use sparse_solve::spsolve_csc_lower_triangular;
 use std::alloc::{AllocError, Global};
 use std::marker::Model;

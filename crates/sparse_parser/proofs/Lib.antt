@@ -1,10 +1,10 @@
 pub mod ByteClasses
 pub mod Digits
-pub mod Positions
-pub mod Runs
-pub mod EntryLaws
-pub mod FirstWord
-pub mod IntegerLaws
+mod Positions
+mod Runs
+mod EntryLaws
+mod FirstWord
+mod IntegerLaws
 pub mod Fronts
 pub mod ContentLaws
 pub mod FrontLines

@@ -7,7 +7,8 @@ ghost use Rattle.sparse_parser.specs.InnerBytes.{is_solid};
 ghost use Rattle.sparse_parser.specs.Grammar.{is_integer, is_number, is_entry};
 ghost use Rattle.sparse_parser.specs.Meaning.{integer_of, number_of};
 ghost use Rattle.sparse_parser.specs.InnerReading.{found as found_read, line_words};
-ghost use Rattle.sparse_parser.specs.InnerLines.{is_plain, is_whole, IsNumber, IsFound, IsLine, StartsWord};
+ghost use Rattle.sparse_parser.specs.InnerLines.{is_plain, is_whole, IsNumber};
+ghost use Rattle.sparse_parser.specs.InnerLines.{IsFound, IsLine, StartsWord};
 
 use crate::error::Cause;
 use crate::lines::{after_blanks, ends_line, ends_word, split_solid};

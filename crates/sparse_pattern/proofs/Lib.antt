@@ -1,19 +1,19 @@
 pub mod KeyCounts
-pub mod StableOrders
+mod StableOrders
 pub mod CountLemmas
 pub mod Cursors
 pub mod PatternLanes
-pub mod LanePositions
+mod LanePositions
 pub mod Positions
 mod EntryOrder
 pub mod LaneOrder
 pub mod SamePlaces
-pub mod NextEntry
-pub mod PackedWords
+mod NextEntry
+mod PackedWords
 pub mod FirstFaults
-pub mod ListedTransposes
-pub mod PatternTransposes
-pub mod PlacedValues
+mod ListedTransposes
+mod PatternTransposes
+mod PlacedValues
 pub mod LaneLists
 pub mod PushedLanes
 pub mod BuiltLanes

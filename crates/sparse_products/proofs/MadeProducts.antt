@@ -5,9 +5,9 @@ use Rattle.sparse_algebra.specs.Prealloc.{plain_update}
 use Rattle.sparse_algebra.proofs.PlainLemmas.{same_plain, same_bool}
 use Rattle.sparse_algebra.proofs.RingLemmas.{zero_add, mul_zero}
 use Rattle.sparse_pattern.specs.Raw.{Raw}
-use Rattle.sparse_cs.specs.Compressed.{Compressed, IsSound}
-use Rattle.sparse_cs.specs.PlainOfLanes.{plain_of_rows}
-use Rattle.sparse_cs.proofs.Standing.{rows_have}
+use Rattle.sparse_compressed.specs.Compressed.{Compressed, IsSound}
+use Rattle.sparse_compressed.specs.PlainOfLanes.{plain_of_rows}
+use Rattle.sparse_compressed.proofs.Standing.{rows_have}
 use Rattle.sparse_products.specs.Products.{IsProductOf}
 use Rattle.sparse_products.specs.InnerUpdates.{HasProductPlaces}
 use Rattle.sparse_products.proofs.ProductPlaces.{product, joined_places}

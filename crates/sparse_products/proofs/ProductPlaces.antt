@@ -5,10 +5,10 @@ use Rattle.sparse_algebra.specs.Algebra.{CommRing}
 use Rattle.sparse_algebra.specs.Plain.{Plain, IsProper, plain_product}
 use Rattle.sparse_algebra.proofs.PlainLemmas.{any_is, proper_product}
 use Rattle.sparse_pattern.specs.Raw.{Raw, IsPlace}
-use Rattle.sparse_cs.specs.Compressed.{Compressed, IsSound}
-use Rattle.sparse_cs.specs.PlainOfLanes.{plain_of_rows}
-use Rattle.sparse_cs.proofs.Arrays.{proper_rows}
-use Rattle.sparse_cs.proofs.Standing.{rows_have}
+use Rattle.sparse_compressed.specs.Compressed.{Compressed, IsSound}
+use Rattle.sparse_compressed.specs.PlainOfLanes.{plain_of_rows}
+use Rattle.sparse_compressed.proofs.Arrays.{proper_rows}
+use Rattle.sparse_compressed.proofs.Standing.{rows_have}
 use Rattle.sparse_products.specs.InnerUpdates.{HasProductPlaces}
 use Rattle.sparse_products.proofs.ProductLanes.{IsJoined}
 

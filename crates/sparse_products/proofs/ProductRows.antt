@@ -11,11 +11,11 @@ use Rattle.sparse_algebra.specs.Plain.{Plain, plain_product}
 use Rattle.sparse_pattern.specs.Raw.{lane_of}
 use Rattle.sparse_pattern.specs.InnerGainedLanes.{GainsLane}
 use Rattle.sparse_pattern.proofs.BuiltLanes.{place_within}
-use Rattle.sparse_cs.specs.Compressed.{Compressed, arrays_of, IsSound}
-use Rattle.sparse_cs.specs.PlainOfLanes.{plain_of_rows}
-use Rattle.sparse_cs.specs.InnerRows.{lane_value}
-use Rattle.sparse_cs.proofs.LaneValues.{lane_value_none, lane_value_at}
-use Rattle.sparse_cs.proofs.BuiltMatrices.{IsBuiltMatrix, matrix_lane_built, built_is}
+use Rattle.sparse_compressed.specs.Compressed.{Compressed, arrays_of, IsSound}
+use Rattle.sparse_compressed.specs.PlainOfLanes.{plain_of_rows}
+use Rattle.sparse_compressed.specs.InnerRows.{lane_value}
+use Rattle.sparse_compressed.proofs.LaneValues.{lane_value_none, lane_value_at}
+use Rattle.sparse_compressed.proofs.BuiltMatrices.{IsBuiltMatrix, matrix_lane_built, built_is}
 use Rattle.sparse_products.specs.InnerProducts.{IsInLanes, GainsTaken}
 use Rattle.sparse_products.proofs.ProductLanes.{IsJoined, in_lanes_is}
 use Rattle.sparse_products.proofs.ProductPlaces.{product, joined_places, product_is_proper}

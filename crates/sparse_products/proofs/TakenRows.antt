@@ -1,5 +1,6 @@
 -- The values of a scratch row, taken at the indices of a rising lane.
-use Rattle.std.proofs.Common.{◌≡◌, ℕ, ◌+◌, ◌<◌, inl, inr, List, ◌++◌, length, take, get_or, map, set}
+use Rattle.std.proofs.Common.{◌≡◌, ℕ, ◌+◌, ◌<◌, inl, inr, List}
+use Rattle.std.proofs.Common.{◌++◌, length, take, get_or, map, set}
 use Rattle.std.proofs.Common.{Contains, ap, sym, ◌∙◌, refl, arith}
 use Rattle.std.specs.List.Sorted.{IsStrictlyIncreasing}
 use Rattle.std.proofs.lemmas.Bool.{cases_eq}

@@ -5,7 +5,7 @@ use Rattle.sparse_algebra.proofs.Cases.{lt_add_one_cases}
 use Rattle.sparse_algebra.specs.Algebra.{CommRing}
 use Rattle.sparse_pattern.specs.Raw.{Raw, start_of, IsInLane, IsValid}
 use Rattle.sparse_pattern.proofs.Positions.{one_lane}
-use Rattle.sparse_cs.specs.Compressed.{IsPosition}
+use Rattle.sparse_compressed.specs.Compressed.{IsPosition}
 
 -- the rows below n have their new values, base c + alpha * x where c was before, and those from n
 -- on are as they were

@@ -11,12 +11,12 @@ use Rattle.sparse_algebra.specs.declared.operand.Op.TheVariants.{NoOp, Transpose
 use Rattle.sparse_algebra.specs.Operands.{MatchOp}
 use Rattle.sparse_algebra.specs.Prealloc.{plain_update, plain_transpose_if, IsCovered}
 use Rattle.sparse_pattern.specs.Raw.{Raw, IsValid, nnz_of}
-use Rattle.sparse_cs.specs.Compressed.{Compressed, compressed_of, IsSound}
-use Rattle.sparse_cs.specs.PlainOfLanes.{plain_of_rows}
-use Rattle.sparse_cs.specs.Writing.{with_values}
-use Rattle.sparse_cs.specs.InnerUpdates.{AreUpdated}
-use Rattle.sparse_cs.proofs.Standing.{rows_have}
-use Rattle.sparse_cs.proofs.Updates.{updated}
+use Rattle.sparse_compressed.specs.Compressed.{Compressed, compressed_of, IsSound}
+use Rattle.sparse_compressed.specs.PlainOfLanes.{plain_of_rows}
+use Rattle.sparse_compressed.specs.Writing.{with_values}
+use Rattle.sparse_compressed.specs.InnerUpdates.{AreUpdated}
+use Rattle.sparse_compressed.proofs.Standing.{rows_have}
+use Rattle.sparse_compressed.proofs.Updates.{updated}
 use Rattle.sparse_sums.proofs.Updating.{written_back}
 use Rattle.sparse_products.specs.declared.serial.factor.Factors.{Factors}
 use Rattle.sparse_products.specs.declared.serial.factor.Operands.{Operands}

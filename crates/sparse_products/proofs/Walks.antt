@@ -8,8 +8,8 @@ use Rattle.sparse_algebra.proofs.Cases.{nat_eq_no}
 use Rattle.sparse_algebra.specs.Algebra.{CommRing}
 use Rattle.sparse_algebra.specs.Sums.{where_true}
 use Rattle.sparse_algebra.proofs.RingLemmas.{mul_zero}
-use Rattle.sparse_cs.proofs.Arrays.{where_yes, where_no}
-use Rattle.sparse_cs.proofs.RowSums.{eq_refl}
+use Rattle.sparse_compressed.proofs.Arrays.{where_yes, where_no}
+use Rattle.sparse_compressed.proofs.RowSums.{eq_refl}
 use Rattle.sparse_sums.proofs.Merging.{more}
 use Rattle.sparse_products.specs.InnerWalks.{AreAdded, AreNoted}
 

@@ -4,8 +4,8 @@ use Rattle.std.specs.List.{sum_by}
 use Rattle.sparse_algebra.specs.Algebra.{CommRing}
 use Rattle.sparse_algebra.specs.Prealloc.{plain_update}
 use Rattle.sparse_pattern.specs.Raw.{Raw, IsPlace, lane_of, nnz_of, start_of}
-use Rattle.sparse_cs.specs.Compressed.{compressed_of}
-use Rattle.sparse_cs.specs.PlainOfLanes.{plain_of_rows}
+use Rattle.sparse_compressed.specs.Compressed.{compressed_of}
+use Rattle.sparse_compressed.specs.PlainOfLanes.{plain_of_rows}
 use Rattle.sparse_products.specs.InnerFactors.{product_of}
 use Rattle.sparse_products.specs.ScalarProducts.{triples_of}
 use Rattle.sparse_products.specs.declared.serial.factor.Factors.{Factors}

@@ -2,7 +2,7 @@
 use Rattle.std.specs.Prelude.{◌≡◌, ℕ, ◌<◌, ◌↔◌, ◌⊎◌, List, length, slice_index_or}
 use Rattle.sparse_algebra.specs.Algebra.{CommRing}
 use Rattle.sparse_pattern.specs.Raw.{Raw, IsValid}
-use Rattle.sparse_cs.specs.Compressed.{IsPosition}
+use Rattle.sparse_compressed.specs.Compressed.{IsPosition}
 
 -- at the slot p of each column j, the target gains scale * x j; elsewhere it stays
 pub record AreAdded (R : CommRing) {T : Type 0} (f : T → R.Carrier) (z : T)

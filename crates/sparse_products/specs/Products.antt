@@ -6,8 +6,8 @@ use Rattle.sparse_algebra.specs.Plain.{Plain, plain_product}
 use Rattle.sparse_algebra.specs.Operands.{plain_op}
 use Rattle.sparse_algebra.specs.declared.operand.Op.{Op}
 use Rattle.sparse_pattern.specs.Raw.{Raw, IsPlace}
-use Rattle.sparse_cs.specs.Compressed.{Compressed}
-use Rattle.sparse_cs.specs.PlainOfLanes.{plain_of_rows, plain_of_cols}
+use Rattle.sparse_compressed.specs.Compressed.{Compressed}
+use Rattle.sparse_compressed.specs.PlainOfLanes.{plain_of_rows, plain_of_cols}
 
 -- (i, j) is a place exactly where some k has (i, k) in a and (k, j) in b
 abbrev pub IsProductOf : Raw → Raw → Raw → Type 0

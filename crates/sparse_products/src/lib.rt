@@ -4,7 +4,7 @@
 pub mod serial;
 
 pub use sparse_algebra::operand::Op;
-pub use sparse_base::steps::Steps;
+pub use sparse_coo_dense::steps::Steps;
 
 /// Transposes whose contracts are equations of plain matrices, for the laws.
 pub mod transposes {

@@ -1,4 +1,4 @@
-pub mod Inverses
-pub mod Norms
-pub mod Chinese
-pub mod RingMaps
+mod Inverses
+mod Norms
+mod Chinese
+mod RingMaps

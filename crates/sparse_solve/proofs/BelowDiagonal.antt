@@ -12,10 +12,10 @@ use Rattle.sparse_algebra.specs.Algebra.{CommRing}
 use Rattle.sparse_pattern.specs.Raw.{start_of, end_of, lane_of}
 use Rattle.sparse_pattern.proofs.PatternLanes.{length-lane, get_or-lane, lane_rises}
 use Rattle.sparse_pattern.proofs.LaneLists.{lane_has}
-use Rattle.sparse_cs.specs.Compressed.{Compressed, IsSound, IsPosition}
-use Rattle.sparse_cs.specs.PlainOfLanes.{plain_of_rows, plain_of_cols}
-use Rattle.sparse_cs.proofs.Arrays.{value_at_position, has_is_place}
-use Rattle.sparse_cs.proofs.LaneValues.{values_of, length-values, lane_value_is}
+use Rattle.sparse_compressed.specs.Compressed.{Compressed, IsSound, IsPosition}
+use Rattle.sparse_compressed.specs.PlainOfLanes.{plain_of_rows, plain_of_cols}
+use Rattle.sparse_compressed.proofs.Arrays.{value_at_position, has_is_place}
+use Rattle.sparse_compressed.proofs.LaneValues.{values_of, length-values, lane_value_is}
 use Rattle.sparse_kernels.proofs.SparseVectors.{sparse_elements-drop, sparse_elements-none}
 use Rattle.sparse_solve.specs.InnerColumns.{IsColumnBelow}
 

@@ -1,5 +1,6 @@
 -- One column of a substitution over lists.
-use Rattle.std.proofs.Common.{◌≡◌, ℕ, ◌+◌, ◌*◌, ◌<◌, ◌≤◌, Bool, true, false, ◌&&◌, List, length, get_or}
+use Rattle.std.proofs.Common.{◌≡◌, ℕ, ◌+◌, ◌*◌, ◌<◌, ◌≤◌, Bool}
+use Rattle.std.proofs.Common.{true, false, ◌&&◌, List, length, get_or}
 use Rattle.std.proofs.Common.{set, ap, sym, ◌∙◌, refl, arith, add-one, get_or-set_same}
 use Rattle.std.proofs.Common.{get_or-set_other}
 use Rattle.std.specs.Prelude.{nat_le, zip}
@@ -9,7 +10,7 @@ use Rattle.sparse_algebra.specs.Sums.{sum_below, where_true}
 use Rattle.sparse_algebra.specs.Plain.{Plain, IsProper}
 use Rattle.sparse_algebra.proofs.SumLemmas.{sum_by-same}
 use Rattle.sparse_kernels.specs.SparseVectors.{sparse_elements}
-use Rattle.sparse_cs.proofs.LaneValues.{product_by_lane}
+use Rattle.sparse_compressed.proofs.LaneValues.{product_by_lane}
 use Rattle.sparse_kernels.specs.InnerKernels.{strided}
 use Rattle.sparse_solve.specs.Solutions.{plain_lower}
 use Rattle.sparse_kernels.specs.SparseVectors.{elements}

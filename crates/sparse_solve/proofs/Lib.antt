@@ -1,12 +1,12 @@
 pub mod RingSteps
-pub mod Substitutions
-pub mod BelowDiagonal
-pub mod Pivots
+mod Substitutions
+mod BelowDiagonal
+mod Pivots
 pub mod ColumnSteps
-pub mod Refills
+mod Refills
 pub mod SolvedColumns
-pub mod Taking
-pub mod FourColumns
+mod Taking
+mod FourColumns
 pub mod PlainSolutions
-pub mod Uniqueness
-pub mod UniqueSolutions
+mod Uniqueness
+mod UniqueSolutions

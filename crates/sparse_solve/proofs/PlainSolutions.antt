@@ -13,14 +13,14 @@ use Rattle.sparse_algebra.proofs.SumLemmas.{sum_below-same, sum_below-zero}
 use Rattle.sparse_algebra.proofs.PlainLemmas.{same_plain}
 use Rattle.sparse_algebra.proofs.PlainLaws.{proper_kept, proper_transpose, within_kept}
 use Rattle.sparse_algebra.proofs.PlainLaws.{within_transpose, within_plain_of_triplets}
-use Rattle.sparse_cs.specs.Compressed.{Compressed, IsSound, lane_triplets}
-use Rattle.sparse_cs.specs.PlainOfLanes.{plain_of_rows, plain_of_cols}
-use Rattle.sparse_cs.proofs.Inside.{lane_triplets-inside}
+use Rattle.sparse_compressed.specs.Compressed.{Compressed, IsSound, lane_triplets}
+use Rattle.sparse_compressed.specs.PlainOfLanes.{plain_of_rows, plain_of_cols}
+use Rattle.sparse_compressed.proofs.Inside.{lane_triplets-inside}
 use Rattle.sparse_algebra.specs.declared.operand.Op.{Op}
 use Rattle.sparse_algebra.specs.declared.operand.Op.TheVariants.{NoOp, Transpose}
 use Rattle.sparse_algebra.specs.Operands.{inner_of, plain_op}
-use Rattle.sparse_base.specs.Dense.{Dense, value_at}
-use Rattle.sparse_base.specs.DensePlain.{plain_of_dense}
+use Rattle.sparse_coo_dense.specs.Dense.{Dense, value_at}
+use Rattle.sparse_coo_dense.specs.DensePlain.{plain_of_dense}
 use Rattle.sparse_solve.specs.Solutions.{IsSolution, plain_lower}
 use Rattle.sparse_solve.specs.InnerColumns.{SolvesColumns, op_lower}
 use Rattle.sparse_solve.proofs.RingSteps.{mul_off}

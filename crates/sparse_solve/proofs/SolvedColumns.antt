@@ -8,7 +8,7 @@ use Rattle.sparse_algebra.proofs.Cases.{lt_or_gt}
 use Rattle.sparse_algebra.specs.Algebra.{CommRing}
 use Rattle.sparse_algebra.proofs.SumLemmas.{sum_below-same}
 use Rattle.sparse_pattern.specs.Refill.{refill_from}
-use Rattle.sparse_base.specs.Dense.{Dense, value_at, column_of, with_column}
+use Rattle.sparse_coo_dense.specs.Dense.{Dense, value_at, column_of, with_column}
 use Rattle.sparse_solve.specs.InnerColumns.{SolvesColumn, SolvesColumns}
 use Rattle.sparse_solve.proofs.Refills.{refill_from-inside, refill_from-before, refill_from-after}
 

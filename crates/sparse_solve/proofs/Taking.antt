@@ -7,11 +7,11 @@ use Rattle.sparse_algebra.specs.Algebra.{CommRing}
 use Rattle.sparse_algebra.specs.Plain.{Plain, IsProper}
 use Rattle.sparse_algebra.proofs.RingLemmas.{mul_zero}
 use Rattle.sparse_algebra.proofs.Products.{mul_neg}
-use Rattle.sparse_base.specs.Dense.{Dense, value_at, column_of, with_column}
-use Rattle.sparse_cs.specs.Compressed.{Compressed}
+use Rattle.sparse_coo_dense.specs.Dense.{Dense, value_at, column_of, with_column}
+use Rattle.sparse_compressed.specs.Compressed.{Compressed}
 use Rattle.sparse_kernels.specs.SparseVectors.{sparse_elements}
-use Rattle.sparse_cs.specs.PlainOfLanes.{plain_of_cols}
-use Rattle.sparse_cs.proofs.Arrays.{proper_rows}
+use Rattle.sparse_compressed.specs.PlainOfLanes.{plain_of_cols}
+use Rattle.sparse_compressed.proofs.Arrays.{proper_rows}
 use Rattle.sparse_solve.specs.Solutions.{plain_lower}
 use Rattle.sparse_solve.specs.InnerColumns.{ChangesBlock, IsColumnBelow, IsTaken, SolvesColumn}
 use Rattle.sparse_solve.specs.InnerColumns.{SolvesList, TakesAnswer, column_elements}

@@ -3,9 +3,9 @@ use Rattle.std.specs.Prelude.{◌≡◌, ◌≢◌, ℕ, ◌<◌, ◌≤◌, tru
 use Rattle.sparse_algebra.specs.Algebra.{CommRing}
 use Rattle.sparse_algebra.specs.Sums.{sum_below}
 use Rattle.sparse_algebra.specs.Plain.{Plain}
-use Rattle.sparse_base.specs.Dense.{Dense, value_at}
-use Rattle.sparse_cs.specs.Compressed.{Compressed}
-use Rattle.sparse_cs.specs.PlainOfLanes.{plain_of_cols}
+use Rattle.sparse_coo_dense.specs.Dense.{Dense, value_at}
+use Rattle.sparse_compressed.specs.Compressed.{Compressed}
+use Rattle.sparse_compressed.specs.PlainOfLanes.{plain_of_cols}
 use Rattle.sparse_algebra.specs.declared.operand.Op.{Op}
 use Rattle.sparse_algebra.specs.Operands.{plain_op}
 use Rattle.sparse_kernels.specs.SparseVectors.{elements, sparse_elements}

@@ -3,7 +3,8 @@ use Rattle.std.specs.Prelude.{◌≡◌, ◌⊎◌}
 use Rattle.sparse_algebra.specs.Algebra.{CommRing}
 use Rattle.sparse_algebra.specs.Plain.{Plain, plain_scaled}
 use Rattle.sparse_algebra.specs.declared.error.OperationErrorKind.{OperationErrorKind}
-use Rattle.sparse_algebra.specs.declared.error.OperationErrorKind.TheVariants.{Singular, OutOfMemory}
+use Rattle.sparse_algebra.specs.declared.error.OperationErrorKind.TheVariants.{Singular}
+use Rattle.sparse_algebra.specs.declared.error.OperationErrorKind.TheVariants.{OutOfMemory}
 use Rattle.sparse_algebra.specs.Inverses.{HasInverse}
 
 module _ (R : CommRing) {T : Type 0} (f : T → R.Carrier) (s : T) where

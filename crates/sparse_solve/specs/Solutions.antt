@@ -2,7 +2,7 @@
 use Rattle.std.specs.Prelude.{◌≡◌, ℕ, ◌<◌, true, nat_le}
 use Rattle.sparse_algebra.specs.Algebra.{CommRing}
 use Rattle.sparse_algebra.specs.Plain.{Plain, plain_kept, plain_product}
-use Rattle.sparse_base.specs.DensePlain.{plain_full}
+use Rattle.sparse_coo_dense.specs.DensePlain.{plain_full}
 use Rattle.sparse_algebra.specs.Inverses.{HasInverse}
 
 module _ (R : CommRing) where

@@ -2,12 +2,12 @@
 //! transpose after it.
 
 ghost use Rattle.std.specs.Prelude.{◌≡◌, ◌<◌, length, slice_index_or, slice_set};
-ghost use Rattle.sparse_cs.specs.PlainOfLanes.{plain_of_cols};
+ghost use Rattle.sparse_compressed.specs.PlainOfLanes.{plain_of_cols};
 ghost use Rattle.sparse_solve.specs.InnerColumns.{HasPivots, SolvesList, lower};
 
 use crate::column::column_below;
 use sparse_algebra::scalar::{Ring, Units};
-use sparse_forms::csc::CscMatrix;
+use sparse_csr_csc::csc::CscMatrix;
 use sparse_kernels::{dot_four, usdot};
 
 // Solves `T^t x = b` over b, from the last row to the first.

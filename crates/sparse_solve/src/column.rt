@@ -2,12 +2,12 @@
 
 ghost use Rattle.std.specs.Prelude.{◌≡◌, ◌<◌, Contains, IfNone, IfSome, MatchOption};
 ghost use Rattle.std.specs.Prelude.{length, slice_index};
-ghost use Rattle.sparse_cs.specs.PlainOfLanes.{plain_of_cols};
+ghost use Rattle.sparse_compressed.specs.PlainOfLanes.{plain_of_cols};
 ghost use Rattle.sparse_solve.specs.Solutions.{HasPivot};
 ghost use Rattle.sparse_solve.specs.InnerColumns.{IsColumnBelow};
 
 use sparse_algebra::scalar::Units;
-use sparse_forms::csc::CscMatrix;
+use sparse_csr_csc::csc::CscMatrix;
 use sparse_kernels::lane_slices;
 
 // A column's entries below its diagonal, and the inverse of its diagonal entry.

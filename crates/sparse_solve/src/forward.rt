@@ -1,13 +1,13 @@
 //! Forward substitution, column by column of a lower triangle.
 
 ghost use Rattle.std.specs.Prelude.{◌≡◌, ◌<◌, All, length, slice_index_or, slice_set};
-ghost use Rattle.sparse_cs.specs.PlainOfLanes.{plain_of_cols};
+ghost use Rattle.sparse_compressed.specs.PlainOfLanes.{plain_of_cols};
 ghost use Rattle.sparse_kernels.specs.SparseVectors.{sparse_elements};
 ghost use Rattle.sparse_solve.specs.InnerColumns.{HasPivots, SolvesList, TakesAnswer, lower};
 
 use crate::column::{Column, column_below};
 use sparse_algebra::scalar::{Ring, Units};
-use sparse_forms::csc::CscMatrix;
+use sparse_csr_csc::csc::CscMatrix;
 use sparse_kernels::{add_multiple_four, usaxpy};
 
 // Solves `T x = b` over b, from the first row to the last.

@@ -2,7 +2,7 @@
 
 ghost use Rattle.std.specs.Prelude.{◌≡◌, ℕ, ◌+◌, ◌*◌, ◌<◌, ◌≤◌, length, slice_index_or};
 ghost use Rattle.sparse_algebra.specs.Operands.{inner_of};
-ghost use Rattle.sparse_cs.specs.PlainOfLanes.{plain_of_cols};
+ghost use Rattle.sparse_compressed.specs.PlainOfLanes.{plain_of_cols};
 ghost use Rattle.sparse_solve.specs.InnerColumns.{ChangesBlock, HasPivots, SolvesColumn};
 ghost use Rattle.sparse_solve.specs.InnerColumns.{SolvesColumns, SolvesList, op_lower};
 
@@ -10,8 +10,8 @@ use crate::backward::{solve_backward, solve_backward_four};
 use crate::forward::{solve_forward, solve_forward_four};
 use sparse_algebra::operand::Op;
 use sparse_algebra::scalar::Units;
-use sparse_base::dense::DMatrix;
-use sparse_forms::csc::CscMatrix;
+use sparse_coo_dense::dense::DMatrix;
+use sparse_csr_csc::csc::CscMatrix;
 
 // Solves `op(T) X = B` over B, some columns at a time.
 pub fn solve_columns<T: Units>(l: Op<&CscMatrix<T>>, b: &mut DMatrix<T>)

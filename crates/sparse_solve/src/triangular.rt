@@ -4,10 +4,10 @@ ghost use Rattle.std.specs.Prelude.{◌≡◌, ◌<◌, ◌↔◌, IsErr, OnOk, 
 ghost use Rattle.std.specs.Bool.{MatchBool};
 ghost use Rattle.sparse_algebra.specs.declared.error.OperationErrorKind.TheVariants.{Singular};
 ghost use Rattle.sparse_algebra.specs.Operands.{inner_of, plain_op};
-ghost use Rattle.sparse_base.specs.DensePlain.{plain_of_dense};
+ghost use Rattle.sparse_coo_dense.specs.DensePlain.{plain_of_dense};
 ghost use Rattle.sparse_algebra.specs.Plain.{Plain};
-ghost use Rattle.sparse_cs.specs.Compressed.{Compressed, IsSound};
-ghost use Rattle.sparse_cs.specs.PlainOfLanes.{plain_of_cols};
+ghost use Rattle.sparse_compressed.specs.Compressed.{Compressed, IsSound};
+ghost use Rattle.sparse_compressed.specs.PlainOfLanes.{plain_of_cols};
 ghost use Rattle.sparse_solve.specs.Solutions.{plain_lower, IsSolution, IsSingular, HasSameValues};
 ghost use Rattle.sparse_solve.specs.InnerColumns.{HasPivots};
 
@@ -16,8 +16,8 @@ use crate::substitution::solve_columns;
 use sparse_algebra::error::OperationError;
 use sparse_algebra::operand::Op;
 use sparse_algebra::scalar::Units;
-use sparse_base::dense::DMatrix;
-use sparse_forms::csc::CscMatrix;
+use sparse_coo_dense::dense::DMatrix;
+use sparse_csr_csc::csc::CscMatrix;
 
 /// Solves `op(T) X = B` in place, where `T` is the part of `l` on and below its diagonal. `b` holds B on entry and X on
 /// return.

@@ -16,12 +16,12 @@ use Rattle.sparse_pattern.specs.Raw.{Raw, IsValid, IsPlace, start_of, lane_of}
 use Rattle.sparse_pattern.proofs.LaneLists.{lane_has}
 use Rattle.sparse_pattern.proofs.PatternLanes.{length-lane, get_or-lane}
 use Rattle.sparse_pattern.proofs.Positions.{starts_ordered}
-use Rattle.sparse_cs.specs.Compressed.{Compressed, IsPosition, IsSound}
-use Rattle.sparse_cs.specs.InnerRows.{lane_value}
-use Rattle.sparse_cs.specs.PlainOfLanes.{plain_of_rows}
-use Rattle.sparse_cs.proofs.Arrays.{where_no}
-use Rattle.sparse_cs.proofs.LaneValues.{values_of, lane_value_is}
-use Rattle.sparse_cs.proofs.RowSums.{eq_refl}
+use Rattle.sparse_compressed.specs.Compressed.{Compressed, IsPosition, IsSound}
+use Rattle.sparse_compressed.specs.InnerRows.{lane_value}
+use Rattle.sparse_compressed.specs.PlainOfLanes.{plain_of_rows}
+use Rattle.sparse_compressed.proofs.Arrays.{where_no}
+use Rattle.sparse_compressed.proofs.LaneValues.{values_of, lane_value_is}
+use Rattle.sparse_compressed.proofs.RowSums.{eq_refl}
 use Rattle.sparse_sums.specs.InnerPlacing.{HasIndicesOf}
 use Rattle.sparse_sums.proofs.Adding.{lane_value_more}
 use Rattle.sparse_sums.proofs.Merging.{more}

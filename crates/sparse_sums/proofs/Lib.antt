@@ -1,9 +1,9 @@
 pub mod Merging
-pub mod UnionLanes
+mod UnionLanes
 pub mod Adding
 pub mod SumLanes
 pub mod Placing
-pub mod InOrder
+mod InOrder
 pub mod Updating
-pub mod Sampling
-pub mod Refusals
+mod Sampling
+mod Refusals

@@ -15,12 +15,12 @@ use Rattle.sparse_pattern.specs.Raw.{Raw, IsValid, IsPlace, entries_of}
 use Rattle.sparse_pattern.proofs.BuiltLanes.{place_within}
 use Rattle.sparse_pattern.proofs.LaneOrder.{entries_are_places}
 use Rattle.sparse_pattern.proofs.Positions.{one_lane, one_position}
-use Rattle.sparse_cs.specs.Compressed.{Compressed, IsPosition, lane_triplets}
-use Rattle.sparse_cs.specs.PlainOfLanes.{plain_of_rows}
-use Rattle.sparse_cs.specs.StoredEntries.{place_of}
-use Rattle.sparse_cs.proofs.Arrays.{value_at, where_yes, where_no, pair_is, test_yes}
-use Rattle.sparse_cs.proofs.Arrays.{position_within}
-use Rattle.sparse_cs.proofs.LaneSearch.{place_of_is_position}
+use Rattle.sparse_compressed.specs.Compressed.{Compressed, IsPosition, lane_triplets}
+use Rattle.sparse_compressed.specs.PlainOfLanes.{plain_of_rows}
+use Rattle.sparse_compressed.specs.StoredEntries.{place_of}
+use Rattle.sparse_compressed.proofs.Arrays.{value_at, where_yes, where_no, pair_is, test_yes}
+use Rattle.sparse_compressed.proofs.Arrays.{position_within}
+use Rattle.sparse_compressed.proofs.LaneSearch.{place_of_is_position}
 use Rattle.sparse_sums.specs.InnerPlacing.{lane_in, index_in, lanes_of_op}
 use Rattle.sparse_algebra.specs.Prealloc.{plain_transpose_if}
 use Rattle.sparse_sums.specs.InnerPlacing.{HasPlacesOf}

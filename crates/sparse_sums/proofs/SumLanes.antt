@@ -10,12 +10,12 @@ use Rattle.sparse_algebra.specs.Plain.{Plain, IsProper, plain_sum}
 use Rattle.sparse_algebra.proofs.RingLemmas.{add_cross, neg_unique}
 use Rattle.sparse_algebra.proofs.PlainLaws.{proper_sum}
 use Rattle.sparse_pattern.specs.Raw.{lane_of}
-use Rattle.sparse_cs.specs.Compressed.{Compressed, arrays_of, IsSound}
-use Rattle.sparse_cs.specs.PlainOfLanes.{plain_of_rows}
-use Rattle.sparse_cs.specs.InnerRows.{lane_value}
-use Rattle.sparse_cs.proofs.Arrays.{proper_rows, has_is_place}
-use Rattle.sparse_cs.proofs.LaneValues.{values_of, lane_value_is}
-use Rattle.sparse_cs.proofs.BuiltMatrices.{IsBuiltMatrix, matrix_lane_built, built_is}
+use Rattle.sparse_compressed.specs.Compressed.{Compressed, arrays_of, IsSound}
+use Rattle.sparse_compressed.specs.PlainOfLanes.{plain_of_rows}
+use Rattle.sparse_compressed.specs.InnerRows.{lane_value}
+use Rattle.sparse_compressed.proofs.Arrays.{proper_rows, has_is_place}
+use Rattle.sparse_compressed.proofs.LaneValues.{values_of, lane_value_is}
+use Rattle.sparse_compressed.proofs.BuiltMatrices.{IsBuiltMatrix, matrix_lane_built, built_is}
 use Rattle.sparse_sums.specs.InnerSigns.{signed, plain_signed}
 use Rattle.sparse_sums.specs.InnerAdding.{GainsEntries}
 use Rattle.sparse_sums.proofs.UnionLanes.{IsEither, lanes_have, either_within}

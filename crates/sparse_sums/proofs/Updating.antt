@@ -10,13 +10,13 @@ use Rattle.sparse_algebra.proofs.RingLemmas.{mul_zero}
 use Rattle.sparse_algebra.proofs.PlainLaws.{proper_transpose}
 use Rattle.sparse_pattern.specs.Raw.{Raw, IsPlace}
 use Rattle.sparse_algebra.specs.Prealloc.{plain_update, IsCovered}
-use Rattle.sparse_cs.specs.Compressed.{Compressed, compressed_of, IsSound}
-use Rattle.sparse_cs.specs.PlainOfLanes.{plain_of_rows, plain_of_cols}
-use Rattle.sparse_cs.specs.Writing.{with_values}
-use Rattle.sparse_cs.proofs.Arrays.{has_is_place, proper_rows, value_at_position}
-use Rattle.sparse_cs.proofs.Updates.{updated}
+use Rattle.sparse_compressed.specs.Compressed.{Compressed, compressed_of, IsSound}
+use Rattle.sparse_compressed.specs.PlainOfLanes.{plain_of_rows, plain_of_cols}
+use Rattle.sparse_compressed.specs.Writing.{with_values}
+use Rattle.sparse_compressed.proofs.Arrays.{has_is_place, proper_rows, value_at_position}
+use Rattle.sparse_compressed.proofs.Updates.{updated}
 use Rattle.sparse_sums.specs.InnerPlacing.{HasPlacesOf}
-use Rattle.sparse_cs.specs.InnerUpdates.{AreUpdated}
+use Rattle.sparse_compressed.specs.InnerUpdates.{AreUpdated}
 use Rattle.sparse_algebra.specs.Prealloc.{plain_transpose_if}
 
 module _ (R : CommRing) {T : Type 0} (f : T → R.Carrier) (m a : Compressed T) (sm : IsSound m)

@@ -2,18 +2,18 @@
 
 ghost use Rattle.std.specs.Prelude.{◌≡◌, ◌<◌, [], vec_len, IfOk, OnOk};
 ghost use Rattle.sparse_algebra.specs.Plain.{plain_sum, plain_difference};
-ghost use Rattle.sparse_cs.specs.Compressed.{IsSound};
-ghost use Rattle.sparse_cs.specs.Lanes.{lane_at};
-ghost use Rattle.sparse_cs.specs.PlainOfLanes.{plain_of_rows, plain_of_cols};
+ghost use Rattle.sparse_compressed.specs.Compressed.{IsSound};
+ghost use Rattle.sparse_compressed.specs.Lanes.{lane_at};
+ghost use Rattle.sparse_compressed.specs.PlainOfLanes.{plain_of_rows, plain_of_cols};
 ghost use Rattle.sparse_sums.specs.InnerAdding.{GainsLanes, with_arrays};
 ghost use Rattle.sparse_sums.specs.InnerSigns.{plain_signed};
 
 use crate::merge::add_lanes;
 use crate::room::union_room;
 use sparse_algebra::scalar::Ring;
-use sparse_cs::CsMatrix;
-use sparse_forms::csc::CscMatrix;
-use sparse_forms::csr::CsrMatrix;
+use sparse_compressed::CsMatrix;
+use sparse_csr_csc::csc::CscMatrix;
+use sparse_csr_csc::csr::CsrMatrix;
 use sparse_pattern::pattern::SparsityPattern;
 use std::alloc::{AllocError, Global};
 

@@ -4,14 +4,14 @@
 ghost use Rattle.std.specs.Prelude.{◌≡◌, ℕ, ◌+◌, ◌<◌, ◌≤◌, ◌⊎◌, ◌↔◌, false, IsTrue, length};
 ghost use Rattle.std.specs.Prelude.{slice_index, slice_index_or};
 ghost use Rattle.std.specs.List.Sorted.{IsStrictlyIncreasing};
-ghost use Rattle.sparse_cs.specs.Compressed.{IsPosition};
-ghost use Rattle.sparse_cs.specs.InnerRows.{lane_value};
-ghost use Rattle.sparse_cs.specs.PlainOfLanes.{plain_of_rows};
+ghost use Rattle.sparse_compressed.specs.Compressed.{IsPosition};
+ghost use Rattle.sparse_compressed.specs.InnerRows.{lane_value};
+ghost use Rattle.sparse_compressed.specs.PlainOfLanes.{plain_of_rows};
 ghost use Rattle.sparse_sums.specs.InnerPlacing.{HasIndicesOf, HasPlacesOf};
 
 use sparse_algebra::learn;
 use sparse_algebra::scalar::Ring;
-use sparse_cs::CsMatrix;
+use sparse_compressed::CsMatrix;
 use sparse_pattern::pattern::SparsityPattern;
 
 // Whether the target has each place of the operand.

@@ -3,7 +3,7 @@
 ghost use Rattle.std.specs.Prelude.{◌≡◌, ◌+◌, ◌-◌, ◌<◌, ◌≤◌, ◌⊎◌, ◌++◌, length, vec_len};
 ghost use Rattle.std.specs.Prelude.{vec_capacity, Contains, OnOk};
 ghost use Rattle.std.specs.List.Sorted.{IsStrictlyIncreasing};
-ghost use Rattle.sparse_cs.specs.InnerRows.{lane_value};
+ghost use Rattle.sparse_compressed.specs.InnerRows.{lane_value};
 ghost use Rattle.sparse_sums.specs.InnerSigns.{signed};
 ghost use Rattle.sparse_sums.specs.InnerAdding.{GainsValues, GainsEntries, IsAdding};
 

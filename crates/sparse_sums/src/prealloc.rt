@@ -3,12 +3,12 @@
 ghost use Rattle.std.specs.Prelude.{◌≡◌, ℕ, ◌↔◌, true, false, IsTrue, IsOk, IfErr, OnOk};
 ghost use Rattle.std.specs.Prelude.{OnErr, length, slice_index_or};
 ghost use Rattle.sparse_algebra.specs.declared.error.OperationErrorKind.TheVariants.{InvalidPattern};
-ghost use Rattle.sparse_cs.specs.Compressed.{IsPosition, IsSound};
-ghost use Rattle.sparse_cs.specs.PlainOfLanes.{plain_of_rows, plain_of_cols};
+ghost use Rattle.sparse_compressed.specs.Compressed.{IsPosition, IsSound};
+ghost use Rattle.sparse_compressed.specs.PlainOfLanes.{plain_of_rows, plain_of_cols};
 ghost use Rattle.sparse_algebra.specs.Operands.{plain_op};
 ghost use Rattle.sparse_algebra.specs.Prealloc.{plain_update, IsCovered};
 ghost use Rattle.sparse_sums.specs.InnerPlacing.{lanes_of_op, HasPlacesOf};
-ghost use Rattle.sparse_cs.specs.InnerUpdates.{AreUpdated};
+ghost use Rattle.sparse_compressed.specs.InnerUpdates.{AreUpdated};
 ghost use Rattle.sparse_algebra.specs.Prealloc.{plain_transpose_if};
 
 use crate::in_order::{add_in_order, covers_lanes};
@@ -16,10 +16,10 @@ use sparse_algebra::error::OperationError;
 use sparse_algebra::learn;
 use sparse_algebra::operand::Op;
 use sparse_algebra::scalar::Ring;
-use sparse_cs::scaling::scale_values;
-use sparse_cs::{CsMatrix, position_of};
-use sparse_forms::csc::CscMatrix;
-use sparse_forms::csr::CsrMatrix;
+use sparse_compressed::scaling::scale_values;
+use sparse_compressed::{CsMatrix, position_of};
+use sparse_csr_csc::csc::CscMatrix;
+use sparse_csr_csc::csr::CsrMatrix;
 use sparse_pattern::pattern::SparsityPattern;
 
 /// Replaces `c` by `beta * c + alpha * op(a)` on the places of `c`.

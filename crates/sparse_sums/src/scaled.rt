@@ -2,13 +2,13 @@
 
 ghost use Rattle.std.specs.Prelude.{◌≡◌, IfOk};
 ghost use Rattle.sparse_algebra.specs.Plain.{plain_scaled, plain_sum};
-ghost use Rattle.sparse_cs.specs.PlainOfLanes.{plain_of_rows, plain_of_cols};
+ghost use Rattle.sparse_compressed.specs.PlainOfLanes.{plain_of_rows, plain_of_cols};
 
 use crate::add::{add_csc, add_csr};
 use crate::scale::{scale_csc, scale_csr};
 use sparse_algebra::scalar::Ring;
-use sparse_forms::csc::CscMatrix;
-use sparse_forms::csr::CsrMatrix;
+use sparse_csr_csc::csc::CscMatrix;
+use sparse_csr_csc::csr::CsrMatrix;
 use std::alloc::{AllocError, Global};
 
 /// Returns the sum `alpha * a + beta * b`.

@@ -2,15 +2,15 @@
 
 ghost use Rattle.std.specs.Prelude.{◌≡◌, ◌<◌, ◌↔◌, ⊤, length, IfOk, IfErr, IfSome, IsOk, IsSome};
 ghost use Rattle.sparse_algebra.specs.Sums.{sum_below};
-ghost use Rattle.sparse_cs.specs.Compressed.{arrays_of, IsSound};
-ghost use Rattle.sparse_cs.specs.Lanes.{lane_at};
-ghost use Rattle.sparse_cs.specs.PlainOfLanes.{plain_of_rows};
-ghost use Rattle.sparse_cs.specs.SortedFaults.{IsFirstSortedFault};
-ghost use Rattle.sparse_cs.specs.StoredEntries.{IsEntryAt, IsEntryOf, IsInBounds};
+ghost use Rattle.sparse_compressed.specs.Compressed.{arrays_of, IsSound};
+ghost use Rattle.sparse_compressed.specs.Lanes.{lane_at};
+ghost use Rattle.sparse_compressed.specs.PlainOfLanes.{plain_of_rows};
+ghost use Rattle.sparse_compressed.specs.SortedFaults.{IsFirstSortedFault};
+ghost use Rattle.sparse_compressed.specs.StoredEntries.{IsEntryAt, IsEntryOf, IsInBounds};
 ghost use Rattle.sparse_kernels.specs.SparseVectors.{elements};
 
 use sparse_algebra::scalar::Ring;
-use sparse_cs::{CsLane, CsMatrix, CsView, LaneIndices, SortedFault};
+use sparse_compressed::{CsLane, CsMatrix, CsView, LaneIndices, SortedFault};
 use sparse_kernels::usdot;
 use sparse_pattern::entry::SparseEntry;
 use sparse_pattern::pattern::SparsityPattern;
@@ -28,7 +28,8 @@ pub(crate) struct CsArrays<'a, T> {
 }
 
 impl<'a, T> Model for CsArrays<'a, T> {
-    ghost use Rattle.sparse_cs.specs.Compressed.{Compressed, compressed_code, arrays_of, IsSound};
+    ghost use Rattle.sparse_compressed.specs.Compressed.{Compressed, compressed_code};
+    ghost use Rattle.sparse_compressed.specs.Compressed.{arrays_of, IsSound};
 
     ghost Value = { Compressed T };
 

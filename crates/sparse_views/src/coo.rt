@@ -2,10 +2,10 @@
 
 ghost use Rattle.std.specs.Prelude.{◌≡◌, ◌<◌, ◌≤◌, ⊤, length, map, All, Any, MatchBool};
 ghost use Rattle.std.specs.Prelude.{IfOk, IfErr, IsOk, OnOk};
-ghost use Rattle.sparse_base.specs.Coo.{coo_of, zip_triplets, AreParts, IsInside};
-ghost use Rattle.sparse_base.specs.TripletFaults.{IsFirstTripletFault};
+ghost use Rattle.sparse_coo_dense.specs.Coo.{coo_of, zip_triplets, AreParts, IsInside};
+ghost use Rattle.sparse_coo_dense.specs.TripletFaults.{IsFirstTripletFault};
 
-use sparse_base::coo::CooMatrix;
+use sparse_coo_dense::coo::CooMatrix;
 use sparse_pattern::error::{SparseFormatError, SparseFormatErrorKind};
 use std::alloc::{AllocError, Global};
 use std::marker::Model;
@@ -35,7 +35,7 @@ pub struct CooView<'a, T> {
 }
 
 impl<'a, T> Model for CooView<'a, T> {
-    ghost use Rattle.sparse_base.specs.Coo.{Coo, coo_code, coo_of, zip_triplets, AreParts};
+    ghost use Rattle.sparse_coo_dense.specs.Coo.{Coo, coo_code, coo_of, zip_triplets, AreParts};
 
     ghost Value = { Coo T };
 

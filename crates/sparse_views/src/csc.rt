@@ -2,17 +2,17 @@
 
 ghost use Rattle.std.specs.Prelude.{◌≡◌, ◌<◌, ◌↔◌, ⊤, length, IfOk, IfErr, IfSome, IsOk, IsSome};
 ghost use Rattle.sparse_algebra.specs.Sums.{sum_below};
-ghost use Rattle.sparse_cs.specs.Compressed.{arrays_of, IsSound};
-ghost use Rattle.sparse_cs.specs.Lanes.{lane_at};
-ghost use Rattle.sparse_cs.specs.PlainOfLanes.{plain_of_cols};
-ghost use Rattle.sparse_cs.specs.SortedFaults.{IsSortedRefusal, sorted_kind};
-ghost use Rattle.sparse_cs.specs.StoredEntries.{IsEntryAt, IsEntryOf, IsInBounds};
+ghost use Rattle.sparse_compressed.specs.Compressed.{arrays_of, IsSound};
+ghost use Rattle.sparse_compressed.specs.Lanes.{lane_at};
+ghost use Rattle.sparse_compressed.specs.PlainOfLanes.{plain_of_cols};
+ghost use Rattle.sparse_compressed.specs.SortedFaults.{IsSortedRefusal, sorted_kind};
+ghost use Rattle.sparse_compressed.specs.StoredEntries.{IsEntryAt, IsEntryOf, IsInBounds};
 ghost use Rattle.sparse_kernels.specs.SparseVectors.{elements};
 
 use crate::arrays::CsArrays;
 use sparse_algebra::scalar::Ring;
-use sparse_cs::SortedFault;
-use sparse_forms::csc::{CscCol, CscMatrix};
+use sparse_compressed::SortedFault;
+use sparse_csr_csc::csc::{CscCol, CscMatrix};
 use sparse_pattern::entry::SparseEntry;
 use sparse_pattern::error::SparseFormatError;
 use sparse_pattern::pattern::SparsityPatternFormatError;
@@ -40,7 +40,7 @@ pub struct CscView<'a, T> {
 }
 
 impl<'a, T> Model for CscView<'a, T> {
-    ghost use Rattle.sparse_cs.specs.Compressed.{Compressed, compressed_code};
+    ghost use Rattle.sparse_compressed.specs.Compressed.{Compressed, compressed_code};
 
     ghost Value = { Compressed T };
 

@@ -3,7 +3,7 @@
 ghost use Rattle.std.specs.Prelude.{◌≡◌, ◌+◌, ◌≤◌, IfOk, IsTrue};
 
 use crate::square_patterns::Columns;
-use sparse_base::steps::Steps;
+use sparse_coo_dense::steps::Steps;
 use sparse_factor::factorization::CscSymbolicCholesky;
 use sparse_pattern::pattern::SparsityPattern;
 use std::alloc::{AllocError, Global};

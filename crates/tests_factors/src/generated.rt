@@ -1,7 +1,7 @@
 //! Inputs from a linear congruential generator (Knuth's MMIX).
 
 use sparse_algebra::scalar::W64;
-use sparse_base::coo::CooMatrix;
+use sparse_coo_dense::coo::CooMatrix;
 use std::alloc::{AllocError, Global};
 
 /// A generator of numbers.

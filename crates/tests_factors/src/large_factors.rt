@@ -4,7 +4,7 @@ ghost use Rattle.std.specs.Prelude.{◌+◌, ◌<◌, ◌≤◌, IfOk, IsTrue};
 
 use crate::counted_factors::has_places;
 use crate::square_patterns::Columns;
-use sparse_base::steps::Steps;
+use sparse_coo_dense::steps::Steps;
 use sparse_factor::factorization::CscSymbolicCholesky;
 use std::alloc::{AllocError, Global};
 use std::test::Fail;

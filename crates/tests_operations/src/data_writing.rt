@@ -1,10 +1,10 @@
 //! Matrices written as JSON and taken back.
 
 use serde::Serialize;
-use sparse_base::coo::CooMatrix;
+use sparse_coo_dense::coo::CooMatrix;
+use sparse_csr_csc::csc::CscMatrix;
+use sparse_csr_csc::csr::CsrMatrix;
 use sparse_data_structs::{CooData, CscData, CsrData, PatternData};
-use sparse_forms::csc::CscMatrix;
-use sparse_forms::csr::CsrMatrix;
 use sparse_laws::data::{coo_returns, csc_returns, csr_returns, pattern_returns};
 use sparse_pattern::pattern::SparsityPattern;
 use std::alloc::{AllocError, Global};

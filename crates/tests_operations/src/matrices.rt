@@ -1,10 +1,10 @@
 //! Lists and matrices that the tests begin with, and their arrays.
 
 use crate::scalars::{Scalar, scalars};
-use sparse_base::coo::CooMatrix;
-use sparse_base::dense::DMatrix;
-use sparse_forms::csc::CscMatrix;
-use sparse_forms::csr::CsrMatrix;
+use sparse_coo_dense::coo::CooMatrix;
+use sparse_coo_dense::dense::DMatrix;
+use sparse_csr_csc::csc::CscMatrix;
+use sparse_csr_csc::csr::CsrMatrix;
 use std::alloc::{AllocError, Global};
 
 /// The list of these triplets, in this order.

@@ -1,13 +1,13 @@
 //! The shapes of operands.
 
 ghost use Rattle.std.specs.Prelude.{◌≡◌};
-ghost use Rattle.sparse_cs.specs.PlainOfLanes.{plain_of_rows, plain_of_cols};
+ghost use Rattle.sparse_compressed.specs.PlainOfLanes.{plain_of_rows, plain_of_cols};
 ghost use Rattle.sparse_algebra.specs.Operands.{plain_op};
 
 use sparse_algebra::operand::Op;
 use sparse_algebra::scalar::Ring;
-use sparse_forms::csc::CscMatrix;
-use sparse_forms::csr::CsrMatrix;
+use sparse_csr_csc::csc::CscMatrix;
+use sparse_csr_csc::csr::CsrMatrix;
 
 /// The matrix, transposed or not.
 pub fn op_of<M>(is_transposed: bool, matrix: M) -> Op<M> {

@@ -4,8 +4,8 @@ use crate::matrices::{Arrays, are_equal, csr};
 use crate::scalars::are;
 use sparse_algebra::error::{OperationError, OperationErrorKind};
 use sparse_algebra::scalar::W64;
-use sparse_forms::csc::CscMatrix;
-use sparse_forms::csr::CsrMatrix;
+use sparse_csr_csc::csc::CscMatrix;
+use sparse_csr_csc::csr::CsrMatrix;
 use std::alloc::Global;
 
 /// Two matrices.

@@ -2,7 +2,7 @@
 //!
 //! A test runs in a folder of its own that it may write to, so a file is named without a folder.
 
-use sparse_base::coo::CooMatrix;
+use sparse_coo_dense::coo::CooMatrix;
 use sparse_io::{
     MatrixMarketErrorKind, load_coo_from_matrix_market_file, save_to_matrix_market_file,
 };

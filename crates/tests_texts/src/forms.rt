@@ -2,8 +2,8 @@
 
 use crate::matrices::list;
 use sparse_algebra::scalar::W64;
-use sparse_forms::csc::CscMatrix;
-use sparse_forms::csr::CsrMatrix;
+use sparse_csr_csc::csc::CscMatrix;
+use sparse_csr_csc::csr::CsrMatrix;
 use sparse_io::{MatrixMarketExport, MatrixMarketScalar, save_to_matrix_market_str};
 use sparse_pattern::pattern::SparsityPattern;
 use std::alloc::Global;

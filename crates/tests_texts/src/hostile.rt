@@ -5,7 +5,7 @@ use crate::matrices::is_listed;
 use crate::reading::refusal;
 use slow_programs::texts::entries::Listed;
 use slow_programs::texts::meaning;
-use sparse_base::coo::CooMatrix;
+use sparse_coo_dense::coo::CooMatrix;
 use sparse_io::{
     MatrixMarketError, MatrixMarketErrorKind, MatrixMarketScalar, load_coo_from_matrix_market_str,
 };

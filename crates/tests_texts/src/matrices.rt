@@ -1,7 +1,7 @@
 //! Lists of triplets for tests.
 
 use sparse_algebra::scalar::W64;
-use sparse_base::coo::CooMatrix;
+use sparse_coo_dense::coo::CooMatrix;
 use sparse_io::MatrixMarketScalar;
 use std::alloc::{AllocError, Global};
 

@@ -2,7 +2,7 @@
 
 use crate::matrices::are;
 use sparse_algebra::scalar::W64;
-use sparse_base::coo::CooMatrix;
+use sparse_coo_dense::coo::CooMatrix;
 use sparse_io::{
     MatrixMarketError, MatrixMarketErrorKind, MatrixMarketScalar, load_coo_from_matrix_market_str,
 };

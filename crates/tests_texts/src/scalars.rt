@@ -4,7 +4,7 @@ use crate::fields::means;
 use crate::label::Label;
 use crate::reading::refusal;
 use sparse_algebra::scalar::{W32, W64, W128};
-use sparse_base::coo::CooMatrix;
+use sparse_coo_dense::coo::CooMatrix;
 use sparse_io::MatrixMarketErrorKind::{DiagonalError, InvalidHeader, ParsingError, TypeMismatch};
 use sparse_io::{
     MatrixMarketError, MatrixMarketErrorKind, MatrixMarketScalar, save_to_matrix_market_str,

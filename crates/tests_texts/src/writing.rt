@@ -2,7 +2,7 @@
 
 use crate::matrices::{antidiagonal, list};
 use sparse_algebra::scalar::W64;
-use sparse_base::coo::CooMatrix;
+use sparse_coo_dense::coo::CooMatrix;
 use sparse_io::MatrixMarketErrorKind::IOError;
 use sparse_io::{
     MatrixMarketErrorKind, Out, load_coo_from_matrix_market_str, save_to_matrix_market,

@@ -2,13 +2,13 @@
 
 ghost use Rattle.std.specs.Prelude.{◌≡◌, ◌+◌, ◌<◌, IfOk, OnOk};
 ghost use Rattle.sparse_algebra.specs.Plain.{IsWithin};
-ghost use Rattle.sparse_base.specs.CooPlain.{plain_of_coo};
+ghost use Rattle.sparse_coo_dense.specs.CooPlain.{plain_of_coo};
 ghost use Rattle.slow_programs.specs.InnerOperation.{plain_of_operation, Lists};
 
 use crate::products::{product_at, product_has};
 use crate::sums::{has_triplet, sum_at};
 use sparse_algebra::scalar::Ring;
-use sparse_base::coo::CooMatrix;
+use sparse_coo_dense::coo::CooMatrix;
 use std::alloc::{AllocError, Global};
 
 /// An operation on lists of triplets.

@@ -5,7 +5,8 @@ ghost use Rattle.std.specs.Int.{w32, w64, w128};
 ghost use Rattle.sparse_algebra.specs.Numbers.{w32_number, w64_number};
 ghost use Rattle.sparse_algebra.specs.Wrapping.{wrapping_ring};
 ghost use Rattle.sparse_algebra.specs.Inverses.{HasInverse};
-ghost use Rattle.sparse_algebra.specs.WrappingValues.{w128_number, w32_value, w64_value, w128_value};
+ghost use Rattle.sparse_algebra.specs.WrappingValues.{w128_number, w32_value};
+ghost use Rattle.sparse_algebra.specs.WrappingValues.{w64_value, w128_value};
 ghost use Rattle.sparse_algebra.specs.WrappingValues.{IsOdd};
 
 use crate::scalar::inverses::Units;

@@ -1,7 +1,8 @@
 //! The integers modulo a constant.
 
 ghost use Rattle.std.specs.Prelude.{◌≡◌, ◌<◌, ◌%◌, refl};
-ghost use Rattle.sparse_algebra.specs.Moduli.{modulus, modulus_pos, mod_ring, mod_class, mod_decides};
+ghost use Rattle.sparse_algebra.specs.Moduli.{modulus, modulus_pos, mod_ring};
+ghost use Rattle.sparse_algebra.specs.Moduli.{mod_class, mod_decides};
 
 use crate::scalar::inverses::Units;
 use crate::scalar::{Ring, Zero};

@@ -3,22 +3,23 @@
 ghost use Rattle.std.specs.Prelude.{◌≡◌, ◌+◌, ◌*◌, ◌<◌, ◌^◌, ◌++◌, ℕ, IfOk, OnOk, length, map, not};
 ghost use Rattle.std.specs.Prelude.{slice_index_or};
 ghost use Rattle.std.specs.List.{filter};
-ghost use Rattle.sparse_base.specs.Coo.{coo_of, appended};
-ghost use Rattle.sparse_base.specs.Dense.{Dense};
-ghost use Rattle.sparse_base.specs.DensePlain.{plain_of_dense};
+ghost use Rattle.sparse_coo_dense.specs.Coo.{coo_of, appended};
+ghost use Rattle.sparse_coo_dense.specs.Dense.{Dense};
+ghost use Rattle.sparse_coo_dense.specs.DensePlain.{plain_of_dense};
 ghost use Rattle.sparse_algebra.specs.Plain.{below};
-ghost use Rattle.sparse_cs.specs.Compressed.{Compressed, IsSound, lane_triplets, transposed};
-ghost use Rattle.sparse_base.specs.CooPlain.{plain_of_coo};
-ghost use Rattle.sparse_cs.specs.PlainOfLanes.{plain_of_rows, plain_of_cols};
+ghost use Rattle.sparse_compressed.specs.Compressed.{Compressed, IsSound};
+ghost use Rattle.sparse_compressed.specs.Compressed.{lane_triplets, transposed};
+ghost use Rattle.sparse_coo_dense.specs.CooPlain.{plain_of_coo};
+ghost use Rattle.sparse_compressed.specs.PlainOfLanes.{plain_of_rows, plain_of_cols};
 ghost use Rattle.sparse_convert.specs.FromDense.{full_lanes, row_triplets, column_triplets};
 ghost use Rattle.sparse_convert.specs.FromDense.{differs_from, IsNonzeroPart};
 
 use sparse_algebra::scalar::{Ring, Zero};
-use sparse_base::coo::CooMatrix;
-use sparse_base::dense::DMatrix;
-use sparse_cs::CsMatrix;
-use sparse_forms::csc::CscMatrix;
-use sparse_forms::csr::CsrMatrix;
+use sparse_compressed::CsMatrix;
+use sparse_coo_dense::coo::CooMatrix;
+use sparse_coo_dense::dense::DMatrix;
+use sparse_csr_csc::csc::CscMatrix;
+use sparse_csr_csc::csr::CsrMatrix;
 use sparse_pattern::pattern::SparsityPattern;
 use std::alloc::{AllocError, Global};
 

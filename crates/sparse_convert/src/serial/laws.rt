@@ -1,10 +1,10 @@
 //! The three representations of a matrix: a list of triplets, CSR and CSC.
 
 ghost use Rattle.std.specs.Prelude.{◌≡◌, true};
-ghost use Rattle.sparse_base.specs.Coo.{Coo};
-ghost use Rattle.sparse_cs.specs.Compressed.{Compressed, IsSound, compressed_eq};
-ghost use Rattle.sparse_base.specs.CooPlain.{plain_of_coo};
-ghost use Rattle.sparse_cs.specs.PlainOfLanes.{plain_of_rows, plain_of_cols};
+ghost use Rattle.sparse_coo_dense.specs.Coo.{Coo};
+ghost use Rattle.sparse_compressed.specs.Compressed.{Compressed, IsSound, compressed_eq};
+ghost use Rattle.sparse_coo_dense.specs.CooPlain.{plain_of_coo};
+ghost use Rattle.sparse_compressed.specs.PlainOfLanes.{plain_of_rows, plain_of_cols};
 ghost use Rattle.sparse_convert.specs.OneMatrix.{Representation, Triplets, Rows, Cols, coo_of_rows};
 ghost use Rattle.sparse_convert.specs.OneMatrix.{coo_of_cols, IsSoundRepresentation, IsReached};
 ghost use Rattle.sparse_convert.specs.OneMatrix.{MeanOneMatrix};

@@ -1,18 +1,18 @@
 //! Conversions to dense matrices.
 
 ghost use Rattle.std.specs.Prelude.{◌≡◌, IfOk};
-ghost use Rattle.sparse_base.specs.Dense.{Dense};
-ghost use Rattle.sparse_base.specs.DensePlain.{plain_of_dense, plain_full};
-ghost use Rattle.sparse_cs.specs.Compressed.{Compressed, IsSound};
-ghost use Rattle.sparse_base.specs.CooPlain.{plain_of_coo};
-ghost use Rattle.sparse_cs.specs.PlainOfLanes.{plain_of_rows, plain_of_cols};
+ghost use Rattle.sparse_coo_dense.specs.Dense.{Dense};
+ghost use Rattle.sparse_coo_dense.specs.DensePlain.{plain_of_dense, plain_full};
+ghost use Rattle.sparse_compressed.specs.Compressed.{Compressed, IsSound};
+ghost use Rattle.sparse_coo_dense.specs.CooPlain.{plain_of_coo};
+ghost use Rattle.sparse_compressed.specs.PlainOfLanes.{plain_of_rows, plain_of_cols};
 ghost use Rattle.sparse_convert.specs.ToDense.{IsDenseOfRows, IsDenseOfCols};
 
 use sparse_algebra::scalar::{Ring, Zero};
-use sparse_base::coo::CooMatrix;
-use sparse_base::dense::DMatrix;
-use sparse_forms::csc::CscMatrix;
-use sparse_forms::csr::CsrMatrix;
+use sparse_coo_dense::coo::CooMatrix;
+use sparse_coo_dense::dense::DMatrix;
+use sparse_csr_csc::csc::CscMatrix;
+use sparse_csr_csc::csr::CsrMatrix;
 use std::alloc::{AllocError, Global};
 
 /// Returns the dense matrix of a list of triplets. Values of triplets at the same place are added; all other places are

@@ -1,15 +1,15 @@
 //! Conversions from compressed matrices to lists of triplets.
 
 ghost use Rattle.std.specs.Prelude.{◌≡◌, IfOk, map};
-ghost use Rattle.sparse_base.specs.Coo.{AreParts, coo_of, zip_triplets};
+ghost use Rattle.sparse_coo_dense.specs.Coo.{AreParts, coo_of, zip_triplets};
 ghost use Rattle.sparse_pattern.specs.Raw.{entries_of};
-ghost use Rattle.sparse_cs.specs.Compressed.{IsSound, lane_triplets};
+ghost use Rattle.sparse_compressed.specs.Compressed.{IsSound, lane_triplets};
 ghost use Rattle.sparse_convert.specs.OneMatrix.{coo_of_rows, coo_of_cols};
 
-use sparse_base::coo::CooMatrix;
-use sparse_cs::CsMatrix;
-use sparse_forms::csc::CscMatrix;
-use sparse_forms::csr::CsrMatrix;
+use sparse_compressed::CsMatrix;
+use sparse_coo_dense::coo::CooMatrix;
+use sparse_csr_csc::csc::CscMatrix;
+use sparse_csr_csc::csr::CsrMatrix;
 use sparse_pattern::pattern::SparsityPattern;
 use std::alloc::{AllocError, Global};
 

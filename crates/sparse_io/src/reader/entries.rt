@@ -12,7 +12,7 @@ use crate::reader::places::Places;
 use crate::reader::pushes::{Bounds, add_all};
 use crate::reader::runs::common_lines;
 use crate::reader::settled;
-use sparse_base::coo::CooMatrix;
+use sparse_coo_dense::coo::CooMatrix;
 use sparse_market_scalar::MatrixMarketScalar;
 use sparse_parser::data_lines::data_line;
 use sparse_parser::error::{Cause, MatrixMarketError};

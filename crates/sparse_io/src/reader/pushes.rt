@@ -2,13 +2,13 @@
 
 ghost use Rattle.std.specs.Prelude.{◌≡◌, ◌<◌, ◌&&◌, IsTrue, IfOk, OnOk, map};
 ghost use Rattle.std.specs.List.{list_all};
-ghost use Rattle.sparse_base.specs.Coo.{appended};
+ghost use Rattle.sparse_coo_dense.specs.Coo.{appended};
 ghost use Rattle.sparse_parser.specs.Meaning.{is_inside, values_of, value_triplet};
 ghost use Rattle.sparse_io.specs.InnerEntries.{both_of};
 
 use crate::reader::entry::Triplets;
-use sparse_base::CooAppender;
-use sparse_base::coo::CooMatrix;
+use sparse_coo_dense::CooAppender;
+use sparse_coo_dense::coo::CooMatrix;
 use sparse_market_scalar::MatrixMarketScalar;
 use std::alloc::AllocError;
 

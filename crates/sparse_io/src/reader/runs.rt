@@ -11,8 +11,8 @@ ghost use Rattle.sparse_io.specs.InnerPlaces.{places_left};
 use crate::reader::kinds::{IntegerLines, LineKind, PlaceLines, ValueLines};
 use crate::reader::places::Places;
 use crate::reader::pushes::{append_all, are_inside};
-use sparse_base::CooAppender;
-use sparse_base::coo::CooMatrix;
+use sparse_coo_dense::CooAppender;
+use sparse_coo_dense::coo::CooMatrix;
 use sparse_market_scalar::MatrixMarketScalar;
 use sparse_parser::header::{Field, Format, Header, Symmetry};
 

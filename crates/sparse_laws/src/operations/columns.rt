@@ -2,12 +2,12 @@
 
 ghost use Rattle.std.specs.Prelude.{◌≡◌, IfOk};
 ghost use Rattle.sparse_algebra.specs.Plain.{plain_product, plain_sum, plain_transpose};
-ghost use Rattle.sparse_cs.specs.PlainOfLanes.{plain_of_cols};
+ghost use Rattle.sparse_compressed.specs.PlainOfLanes.{plain_of_cols};
 
 use sparse_algebra::learn;
 use sparse_algebra::scalar::Ring;
-use sparse_cs::laws::stands_law;
-use sparse_forms::csc::CscMatrix;
+use sparse_compressed::laws::stands_law;
+use sparse_csr_csc::csc::CscMatrix;
 use sparse_products::serial::{add_csc, mul_csc, neg_csc, sub_csc};
 use sparse_products::transposes::transposed_csc;
 use std::alloc::{AllocError, Global};

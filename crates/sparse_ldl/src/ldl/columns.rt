@@ -2,8 +2,8 @@
 
 ghost use Rattle.std.specs.Prelude.{◌≡◌, ℕ, ◌+◌, ◌<◌, ◌≤◌, length, slice_index_or, IfErr, OnErr};
 ghost use Rattle.std.specs.Prelude.{OnOk};
-ghost use Rattle.sparse_cs.specs.Compressed.{IsSound};
-ghost use Rattle.sparse_cs.specs.PlainOfLanes.{plain_of_cols};
+ghost use Rattle.sparse_compressed.specs.Compressed.{IsSound};
+ghost use Rattle.sparse_compressed.specs.PlainOfLanes.{plain_of_cols};
 ghost use Rattle.sparse_ldl.specs.InnerColumns.{AreCursors, AreInverses, ArePartFactors};
 ghost use Rattle.sparse_ldl.specs.InnerColumns.{IsColumnMoved};
 ghost use Rattle.sparse_ldl.specs.InnerColumns.{IsFilledPattern, IsIncluded, IsLeft};
@@ -15,7 +15,7 @@ ghost use Rattle.sparse_kernels.specs.SparseVectors.{elements};
 use sparse_algebra::error::OperationError;
 use sparse_algebra::learn;
 use sparse_algebra::scalar::{Ring, Units};
-use sparse_forms::csc::CscMatrix;
+use sparse_csr_csc::csc::CscMatrix;
 use sparse_kernels::{axpy_csc_col, usaxpy};
 use sparse_pattern::pattern::SparsityPattern;
 

@@ -2,7 +2,7 @@
 
 ghost use Rattle.std.specs.Prelude.{◌≡◌, ℕ, ◌⊎◌, length, replicate, IfErr, IfOk};
 ghost use Rattle.sparse_algebra.specs.Plain.{plain_transpose};
-ghost use Rattle.sparse_cs.specs.PlainOfLanes.{plain_of_cols};
+ghost use Rattle.sparse_compressed.specs.PlainOfLanes.{plain_of_cols};
 ghost use Rattle.sparse_factor.specs.Fill.{InFill, UpperBase, StoresByColumns};
 ghost use Rattle.sparse_ldl.specs.Factorisations.{IsFactorisation, plain_upper};
 ghost use Rattle.sparse_ldl.specs.Factors.{HasNoFactors, symmetric_of};
@@ -18,8 +18,8 @@ use super::columns::factor_columns;
 use sparse_algebra::error::OperationError;
 use sparse_algebra::learn;
 use sparse_algebra::scalar::{Ring, Units, Zero};
-use sparse_cs::laws::kept_cols_law;
-use sparse_forms::csc::CscMatrix;
+use sparse_compressed::laws::kept_cols_law;
+use sparse_csr_csc::csc::CscMatrix;
 use sparse_pattern::pattern::SparsityPattern;
 use std::alloc::{AllocError, Global};
 

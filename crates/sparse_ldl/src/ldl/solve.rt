@@ -4,7 +4,7 @@ ghost use Rattle.std.specs.Prelude.{◌≡◌, length};
 ghost use Rattle.sparse_ldl.specs.InnerColumns.{AreScaledBelow, IsScaled};
 
 use sparse_algebra::scalar::Ring;
-use sparse_base::dense::DMatrix;
+use sparse_coo_dense::dense::DMatrix;
 
 // Multiplies each row of b by its factor.
 pub fn scale_rows<T: Ring>(factors: &[T], b: &mut DMatrix<T>)

@@ -3,7 +3,7 @@
 ghost use Rattle.std.specs.Prelude.{◌≡◌, IsOk, IfOk, ⊤, true, false};
 ghost use Rattle.sparse_algebra.specs.Plain.{plain_transpose};
 ghost use Rattle.sparse_algebra.specs.Operands.{plain_op, MatchOp};
-ghost use Rattle.sparse_cs.specs.PlainOfLanes.{plain_of_rows, plain_of_cols};
+ghost use Rattle.sparse_compressed.specs.PlainOfLanes.{plain_of_rows, plain_of_cols};
 ghost use Rattle.sparse_products.specs.InnerFactors.{matrix_of, AreFactors, AreMatricesOf};
 ghost use Rattle.sparse_products.specs.Products.{product_by_rows, product_by_cols};
 ghost use Rattle.sparse_products.specs.ScalarProducts.{IfNotTransposed};
@@ -11,9 +11,9 @@ ghost use Rattle.sparse_products.specs.ScalarProducts.{IfNotTransposed};
 use sparse_algebra::learn;
 use sparse_algebra::operand::Op;
 use sparse_algebra::scalar::Ring;
-use sparse_cs::CsMatrix;
-use sparse_forms::csc::CscMatrix;
-use sparse_forms::csr::CsrMatrix;
+use sparse_compressed::CsMatrix;
+use sparse_csr_csc::csc::CscMatrix;
+use sparse_csr_csc::csr::CsrMatrix;
 use std::alloc::{AllocError, Global};
 
 // The factors of a product `a * b` of two matrices whose lanes are rows.

@@ -5,7 +5,7 @@ ghost use Rattle.sparse_algebra.specs.declared.error.OperationErrorKind.TheVaria
 ghost use Rattle.sparse_algebra.specs.declared.error.OperationErrorKind.TheVariants.{OutOfMemory};
 ghost use Rattle.sparse_algebra.specs.Operands.{plain_op};
 ghost use Rattle.sparse_algebra.specs.Prealloc.{plain_update, IsCovered};
-ghost use Rattle.sparse_cs.specs.PlainOfLanes.{plain_of_rows, plain_of_cols};
+ghost use Rattle.sparse_compressed.specs.PlainOfLanes.{plain_of_rows, plain_of_cols};
 ghost use Rattle.sparse_products.specs.Products.{product_by_rows, product_by_cols};
 ghost use Rattle.sparse_products.specs.ScalarProducts.{IfNotTransposed};
 
@@ -15,8 +15,8 @@ use sparse_algebra::error::OperationError;
 use sparse_algebra::learn;
 use sparse_algebra::operand::Op;
 use sparse_algebra::scalar::Ring;
-use sparse_forms::csc::CscMatrix;
-use sparse_forms::csr::CsrMatrix;
+use sparse_csr_csc::csc::CscMatrix;
+use sparse_csr_csc::csr::CsrMatrix;
 use std::alloc::Global;
 
 /// Replaces `c` by `beta * c + alpha * op(a) * op(b)` on the places of `c`.

@@ -2,7 +2,7 @@
 
 ghost use Rattle.std.specs.Prelude.{◌≡◌, IfOk};
 ghost use Rattle.sparse_algebra.specs.Plain.{plain_product};
-ghost use Rattle.sparse_cs.specs.PlainOfLanes.{plain_of_rows, plain_of_cols};
+ghost use Rattle.sparse_compressed.specs.PlainOfLanes.{plain_of_rows, plain_of_cols};
 ghost use Rattle.sparse_products.specs.InnerFactors.{CanMultiply, product_of};
 
 use super::factor::Factors;
@@ -10,10 +10,10 @@ use super::pattern::{is_wide, spmm_csr_pattern};
 use super::rows::multiply_rows;
 use super::update::{Update, update_covered};
 use sparse_algebra::scalar::Ring;
-use sparse_base::steps::Steps;
-use sparse_cs::CsMatrix;
-use sparse_forms::csc::CscMatrix;
-use sparse_forms::csr::CsrMatrix;
+use sparse_compressed::CsMatrix;
+use sparse_coo_dense::steps::Steps;
+use sparse_csr_csc::csc::CscMatrix;
+use sparse_csr_csc::csr::CsrMatrix;
 use std::alloc::{AllocError, Global};
 
 /// Returns the product `a * b`.

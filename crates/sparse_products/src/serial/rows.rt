@@ -5,8 +5,8 @@ ghost use Rattle.std.specs.Prelude.{◌≡◌, ℕ, ◌<◌, ◌≤◌, ◌+◌,
 ghost use Rattle.std.specs.Prelude.{All, IfOk, OnOk, slice_index_or, vec_len, vec_capacity};
 ghost use Rattle.std.specs.List.Sorted.{IsStrictlyIncreasing};
 ghost use Rattle.sparse_pattern.specs.InnerGainedLanes.{GainsLane};
-ghost use Rattle.sparse_cs.specs.Compressed.{IsSound, arrays_of};
-ghost use Rattle.sparse_cs.specs.PlainOfLanes.{plain_of_rows};
+ghost use Rattle.sparse_compressed.specs.Compressed.{IsSound, arrays_of};
+ghost use Rattle.sparse_compressed.specs.PlainOfLanes.{plain_of_rows};
 ghost use Rattle.sparse_products.specs.InnerLaneSets.{HasRoom, IsEmptyLaneSet};
 ghost use Rattle.sparse_products.specs.InnerBits.{HasBit};
 ghost use Rattle.sparse_products.specs.InnerFactors.{CanMultiply, product_of};
@@ -18,8 +18,8 @@ use super::scatter::zero_row;
 use super::walk::add_product_row;
 use sparse_algebra::learn;
 use sparse_algebra::scalar::Ring;
-use sparse_base::steps::Steps;
-use sparse_cs::CsMatrix;
+use sparse_compressed::CsMatrix;
+use sparse_coo_dense::steps::Steps;
 use sparse_pattern::pattern::SparsityPattern;
 use std::alloc::{AllocError, Global};
 

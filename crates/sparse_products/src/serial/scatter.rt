@@ -4,7 +4,7 @@ ghost use Rattle.std.specs.Prelude.{◌≡◌, ℕ, ◌<◌, ◌+◌, length, sl
 ghost use Rattle.std.specs.Prelude.{All, IfOk, OnErr, OnOk, vec_len};
 ghost use Rattle.std.specs.List.Sorted.{IsStrictlyIncreasing};
 ghost use Rattle.sparse_pattern.specs.Raw.{IsInLane, IsPlace, start_of, end_of};
-ghost use Rattle.sparse_cs.specs.Compressed.{IsPosition};
+ghost use Rattle.sparse_compressed.specs.Compressed.{IsPosition};
 ghost use Rattle.sparse_products.specs.InnerFactors.{product_of};
 ghost use Rattle.sparse_products.specs.InnerProducts.{IsInRow, IsTaken, IsZeroRow};
 ghost use Rattle.sparse_products.specs.InnerUpdates.{CanUpdate, HasProductPlaces, IsUpdated};
@@ -14,7 +14,7 @@ use super::update::Update;
 use super::walk::{EachColumn, add_product_row};
 use sparse_algebra::learn;
 use sparse_algebra::scalar::Ring;
-use sparse_base::steps::Steps;
+use sparse_coo_dense::steps::Steps;
 use sparse_pattern::pattern::SparsityPattern;
 use std::alloc::{AllocError, Global};
 

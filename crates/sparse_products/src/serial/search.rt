@@ -2,7 +2,7 @@
 
 ghost use Rattle.std.specs.Prelude.{◌≡◌, ℕ, ◌+◌, ◌<◌, ◌↔◌, length, All, IsTrue};
 ghost use Rattle.sparse_pattern.specs.Raw.{IsPlace};
-ghost use Rattle.sparse_cs.specs.ChangedValues.{AreChanged};
+ghost use Rattle.sparse_compressed.specs.ChangedValues.{AreChanged};
 ghost use Rattle.sparse_products.specs.InnerProducts.{IsInLanes};
 ghost use Rattle.sparse_products.specs.InnerUpdates.{CanUpdate, HasProductPlaces, IsUpdated};
 ghost use Rattle.sparse_products.specs.InnerUpdates.{steps_of};
@@ -11,8 +11,8 @@ use super::update::Update;
 use super::walk::{Slots, add_product_row};
 use sparse_algebra::learn;
 use sparse_algebra::scalar::Ring;
-use sparse_base::steps::Steps;
-use sparse_cs::position_of;
+use sparse_compressed::position_of;
+use sparse_coo_dense::steps::Steps;
 use sparse_pattern::pattern::SparsityPattern;
 
 // Whether the pattern has each place of the product of `a` and `b`.

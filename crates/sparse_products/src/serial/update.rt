@@ -3,8 +3,8 @@
 ghost use Rattle.std.specs.Prelude.{◌≡◌, ◌+◌, ◌≤◌, ◌↔◌, IsOk, IfErr, OnErr, OnOk};
 ghost use Rattle.sparse_algebra.specs.declared.error.OperationErrorKind.TheVariants.{InvalidPattern};
 ghost use Rattle.sparse_algebra.specs.Prealloc.{IsCovered};
-ghost use Rattle.sparse_cs.specs.Compressed.{compressed_of};
-ghost use Rattle.sparse_cs.specs.PlainOfLanes.{plain_of_rows};
+ghost use Rattle.sparse_compressed.specs.Compressed.{compressed_of};
+ghost use Rattle.sparse_compressed.specs.PlainOfLanes.{plain_of_rows};
 ghost use Rattle.sparse_products.specs.InnerFactors.{product_of};
 ghost use Rattle.sparse_products.specs.InnerUpdates.{CanUpdate, IsUpdated, steps_of};
 ghost use Rattle.sparse_products.specs.ScalarProducts.{triples_of};
@@ -15,7 +15,7 @@ use super::search::{covers_product, search_rows};
 use sparse_algebra::error::OperationError;
 use sparse_algebra::learn;
 use sparse_algebra::scalar::Ring;
-use sparse_base::steps::Steps;
+use sparse_coo_dense::steps::Steps;
 use sparse_pattern::pattern::SparsityPattern;
 use std::alloc::{AllocError, Global};
 

@@ -2,8 +2,8 @@
 
 ghost use Rattle.std.specs.Prelude.{◌≡◌, ℕ, ◌+◌, ◌<◌, length, slice_range};
 ghost use Rattle.sparse_pattern.specs.Raw.{IsPlace, start_of, end_of, lane_of};
-ghost use Rattle.sparse_cs.specs.Compressed.{IsSound};
-ghost use Rattle.sparse_cs.specs.PlainOfLanes.{plain_of_rows};
+ghost use Rattle.sparse_compressed.specs.Compressed.{IsSound};
+ghost use Rattle.sparse_compressed.specs.PlainOfLanes.{plain_of_rows};
 ghost use Rattle.sparse_products.specs.InnerFactors.{CanMultiply, product_of};
 ghost use Rattle.sparse_products.specs.InnerProducts.{IsInRow};
 ghost use Rattle.sparse_products.specs.InnerUpdates.{steps_below};
@@ -12,8 +12,8 @@ ghost use Rattle.sparse_products.specs.InnerWalks.{AreAdded, AreNoted};
 use super::factor::Factors;
 use sparse_algebra::learn;
 use sparse_algebra::scalar::Ring;
-use sparse_base::steps::Steps;
-use sparse_cs::CsMatrix;
+use sparse_compressed::CsMatrix;
+use sparse_coo_dense::steps::Steps;
 
 // Where the terms of a row are added: a slot for each column, at which each has its own.
 pub(super) trait Slots {

@@ -1,7 +1,7 @@
 //! Division of CSR matrices by a scalar.
 
 ghost use Rattle.std.specs.Prelude.{◌≡◌, ◌↔◌, IfOk, IfErr, IsErr, OnErr, OnOk};
-ghost use Rattle.sparse_cs.specs.PlainOfLanes.{plain_of_rows};
+ghost use Rattle.sparse_compressed.specs.PlainOfLanes.{plain_of_rows};
 ghost use Rattle.sparse_algebra.specs.declared.error.OperationErrorKind.TheVariants.{Singular};
 ghost use Rattle.sparse_solve.specs.Quotients.{IsDivisionRefusal, IsQuotient};
 ghost use Rattle.sparse_algebra.specs.Inverses.{HasInverse};
@@ -9,7 +9,7 @@ ghost use Rattle.sparse_algebra.specs.Inverses.{HasInverse};
 use super::inverse_of;
 use sparse_algebra::error::OperationError;
 use sparse_algebra::scalar::Units;
-use sparse_forms::csr::CsrMatrix;
+use sparse_csr_csc::csr::CsrMatrix;
 use std::alloc::Global;
 
 /// Returns `a` divided by `s`: each stored value is multiplied by the inverse of `s`. The pattern is that of `a`.

@@ -3,9 +3,9 @@
 use slow_programs::ldl::{DenseFactors, factors_by_columns};
 use sparse_algebra::error::{OperationError, OperationErrorKind};
 use sparse_algebra::scalar::Units;
-use sparse_base::dense::DMatrix;
 use sparse_convert::serial::{convert_csc_dense, convert_dense_csc};
-use sparse_forms::csc::CscMatrix;
+use sparse_coo_dense::dense::DMatrix;
+use sparse_csr_csc::csc::CscMatrix;
 use sparse_ldl::ldl::Ldl;
 use std::alloc::{AllocError, Global};
 

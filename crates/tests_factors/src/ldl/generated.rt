@@ -1,7 +1,7 @@
 //! Matrices from a linear congruential generator (Knuth's MMIX).
 
 use crate::ldl::matrices::Scalar;
-use sparse_base::dense::DMatrix;
+use sparse_coo_dense::dense::DMatrix;
 use std::alloc::{AllocError, Global};
 
 /// A generator of numbers.

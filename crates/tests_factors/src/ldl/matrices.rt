@@ -1,8 +1,8 @@
 //! Matrices that the tables write as integers.
 
 use sparse_algebra::scalar::{Mod, Ring, Units, W32, W64, W128};
-use sparse_base::dense::DMatrix;
-use sparse_forms::csc::CscMatrix;
+use sparse_coo_dense::dense::DMatrix;
+use sparse_csr_csc::csc::CscMatrix;
 use std::alloc::{AllocError, Global};
 
 /// A scalar that the tables write as an integer.

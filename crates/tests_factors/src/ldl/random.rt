@@ -4,10 +4,10 @@ use crate::ldl::compared::{agree, factored, has_factors};
 use crate::ldl::generated::{Generator, entries, of_values, unit_lower, units};
 use crate::ldl::matrices::Scalar;
 use sparse_algebra::scalar::{Mod, W64};
-use sparse_base::dense::DMatrix;
 use sparse_convert::serial::convert_dense_csc;
+use sparse_coo_dense::dense::DMatrix;
+use sparse_csr_csc::csc::CscMatrix;
 use sparse_dense_products::mul_csc_dense;
-use sparse_forms::csc::CscMatrix;
 use sparse_ldl::ldl::Ldl;
 use std::alloc::{AllocError, Global};
 

@@ -2,7 +2,7 @@
 
 use crate::ldl::compared::agree;
 use sparse_algebra::scalar::Mod;
-use sparse_base::dense::DMatrix;
+use sparse_coo_dense::dense::DMatrix;
 use std::alloc::{AllocError, Global};
 
 // The last digit of a number in base M, and the digits before it.

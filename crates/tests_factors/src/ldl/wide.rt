@@ -3,7 +3,7 @@
 use crate::ldl::compared::factored;
 use crate::ldl::matrices::{Arrays, csc};
 use sparse_algebra::scalar::W128;
-use sparse_base::dense::DMatrix;
+use sparse_coo_dense::dense::DMatrix;
 use sparse_ldl::ldl::Ldl;
 use std::alloc::Global;
 

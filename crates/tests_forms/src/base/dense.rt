@@ -2,7 +2,7 @@
 
 use crate::fixtures::{are_equal, made_differs, made_equals};
 use sparse_algebra::scalar::W64;
-use sparse_base::dense::DMatrix;
+use sparse_coo_dense::dense::DMatrix;
 use std::alloc::{AllocError, Global};
 
 fn rows_and_columns_give_one_matrix(alloc: Global) -> bool {

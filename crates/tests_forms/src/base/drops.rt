@@ -1,6 +1,6 @@
 //! Values of triplets that a constructor refuses are dropped. No clause sees a value that is neither kept nor dropped.
 
-use sparse_base::coo::CooMatrix;
+use sparse_coo_dense::coo::CooMatrix;
 use std::alloc::{AllocError, Global};
 use std::rc::Rc;
 

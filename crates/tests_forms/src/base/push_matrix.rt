@@ -4,8 +4,8 @@ ghost use Rattle.std.specs.Prelude.{◌≡◌, IfOk};
 
 use crate::fixtures::{are_equal, is_triplet};
 use sparse_algebra::scalar::W64;
-use sparse_base::coo::CooMatrix;
-use sparse_base::dense::DMatrix;
+use sparse_coo_dense::coo::CooMatrix;
+use sparse_coo_dense::dense::DMatrix;
 use std::alloc::{AllocError, Global};
 
 // A list of 3 rows and 2 columns to which an empty block was pushed, past its shape.

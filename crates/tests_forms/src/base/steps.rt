@@ -2,7 +2,7 @@
 
 ghost use Rattle.std.specs.Prelude.{◌≡◌};
 
-use sparse_base::steps::Steps;
+use sparse_coo_dense::steps::Steps;
 
 fn two_steps() -> Steps
     ensures { result ≡ 2 }

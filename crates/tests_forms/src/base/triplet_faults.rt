@@ -3,7 +3,7 @@
 use crate::base::triplets::coo_of;
 use crate::fixtures::{copies, is_error};
 use SparseFormatErrorKind::{IndexOutOfBounds, InvalidStructure};
-use sparse_base::coo::CooMatrix;
+use sparse_coo_dense::coo::CooMatrix;
 use sparse_pattern::error::SparseFormatErrorKind;
 use sparse_views::CooView;
 use std::alloc::{AllocError, Global};

@@ -4,7 +4,7 @@ use crate::base::triplets::push_all;
 use crate::fixtures::{are_equal, is_error, is_triplet};
 use SparseFormatErrorKind::IndexOutOfBounds;
 use sparse_algebra::scalar::{Ring, W64};
-use sparse_base::coo::{CooMatrix, CooTripletIter};
+use sparse_coo_dense::coo::{CooMatrix, CooTripletIter};
 use sparse_pattern::error::{SparseFormatError, SparseFormatErrorKind};
 use std::alloc::{AllocError, Global};
 

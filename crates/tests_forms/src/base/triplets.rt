@@ -1,8 +1,8 @@
 //! Triplet lists: pushing, equality, and copies.
 
 use crate::fixtures::{are_equal, made_differs, made_equals};
-use sparse_base::CooAppender;
-use sparse_base::coo::CooMatrix;
+use sparse_coo_dense::CooAppender;
+use sparse_coo_dense::coo::CooMatrix;
 use sparse_pattern::error::SparseFormatError;
 use std::alloc::{AllocError, Global};
 

@@ -1,11 +1,11 @@
 //! Writing into a CSC matrix: through entries, columns, slices and iterators.
 
 ghost use Rattle.std.specs.Prelude.{◌≡◌, ◌<◌, length, slice_set};
-ghost use Rattle.sparse_cs.specs.Lanes.{lane_at};
-ghost use Rattle.sparse_cs.specs.Writing.{with_lane};
+ghost use Rattle.sparse_compressed.specs.Lanes.{lane_at};
+ghost use Rattle.sparse_compressed.specs.Writing.{with_lane};
 
 use crate::fixtures::{BY_COLUMNS, are_equal, csc, entry_is, fill, is_at};
-use sparse_forms::csc::{CscColMut, CscMatrix};
+use sparse_csr_csc::csc::{CscColMut, CscMatrix};
 use sparse_pattern::entry::{SparseEntry, SparseEntryMut};
 use std::alloc::Global;
 

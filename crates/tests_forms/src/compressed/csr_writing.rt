@@ -1,13 +1,13 @@
 //! Writing into a CSR matrix: through entries, rows, slices and iterators.
 
 ghost use Rattle.std.specs.Prelude.{◌≡◌, ℕ, ◌<◌, Some, None, length, slice_set};
-ghost use Rattle.sparse_cs.specs.Lanes.{lane_at};
-ghost use Rattle.sparse_cs.specs.StoredEntries.{IsInBounds, place_of};
-ghost use Rattle.sparse_cs.specs.Writing.{with_value, with_lane};
+ghost use Rattle.sparse_compressed.specs.Lanes.{lane_at};
+ghost use Rattle.sparse_compressed.specs.StoredEntries.{IsInBounds, place_of};
+ghost use Rattle.sparse_compressed.specs.Writing.{with_value, with_lane};
 
 use crate::fixtures::{BY_ROWS, are_equal, csr, entry_is, fill, is_at, wrapping_csr};
 use sparse_algebra::scalar::{Ring, W64};
-use sparse_forms::csr::{CsrMatrix, CsrRowMut};
+use sparse_csr_csc::csr::{CsrMatrix, CsrRowMut};
 use sparse_pattern::entry::{SparseEntry, SparseEntryMut};
 use std::alloc::Global;
 

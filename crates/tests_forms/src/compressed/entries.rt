@@ -4,8 +4,8 @@ use crate::fixtures::{
     Arrays, BY_COLUMNS, BY_ROWS, are_equal, csc, csr, wrapping_csc, wrapping_csr,
 };
 use sparse_algebra::scalar::{W64, Zero};
-use sparse_forms::csc::CscMatrix;
-use sparse_forms::csr::CsrMatrix;
+use sparse_csr_csc::csc::CscMatrix;
+use sparse_csr_csc::csr::CsrMatrix;
 use sparse_pattern::entry::{SparseEntry, SparseEntryMut};
 
 // A row and a column, with the value there, zero where it isn't stored, and whether it is: `None` out of bounds.

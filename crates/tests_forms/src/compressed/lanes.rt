@@ -2,8 +2,8 @@
 
 use crate::fixtures::{Arrays, are_equal, csc, csr, entry_is, wrapping_csc, wrapping_csr};
 use sparse_algebra::scalar::W64;
-use sparse_forms::csc::{CscCol, CscColIter, CscMatrix};
-use sparse_forms::csr::{CsrMatrix, CsrRow, CsrRowIter};
+use sparse_csr_csc::csc::{CscCol, CscColIter, CscMatrix};
+use sparse_csr_csc::csr::{CsrMatrix, CsrRow, CsrRowIter};
 use sparse_pattern::entry::SparseEntry;
 use std::alloc::AllocError;
 

@@ -4,8 +4,8 @@ use crate::fixtures::{
     Arrays, BY_COLUMNS, BY_ROWS, csc, csr, is_triplet, wrapping_csc, wrapping_csr,
 };
 use sparse_algebra::scalar::W64;
-use sparse_forms::csc::{CscMatrix, CscTripletIter, CscTripletValues};
-use sparse_forms::csr::{CsrMatrix, CsrTripletIter, CsrTripletValues};
+use sparse_csr_csc::csc::{CscMatrix, CscTripletIter, CscTripletValues};
+use sparse_csr_csc::csr::{CsrMatrix, CsrTripletIter, CsrTripletValues};
 use std::alloc::{AllocError, Global};
 
 type Triplet = (usize, usize, i32);

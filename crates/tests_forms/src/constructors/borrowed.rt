@@ -4,7 +4,7 @@ use crate::fixtures::{
     Arrays, BY_COLUMNS, BY_ROWS, are_equal, csc, csc_made_is, csr, csr_made_is, entry_is,
     made_equals,
 };
-use sparse_base::coo::CooMatrix;
+use sparse_coo_dense::coo::CooMatrix;
 use sparse_pattern::entry::SparseEntry;
 use sparse_views::{CooView, CscView, CsrView};
 use std::alloc::{AllocError, Global};

@@ -1,8 +1,8 @@
 //! Values that a refused constructor is given are dropped. No clause sees a value that is neither kept nor dropped.
 
 use crate::fixtures::copies;
-use sparse_forms::csc::CscMatrix;
-use sparse_forms::csr::CsrMatrix;
+use sparse_csr_csc::csc::CscMatrix;
+use sparse_csr_csc::csr::CsrMatrix;
 use sparse_pattern::pattern::SparsityPattern;
 use std::alloc::{AllocError, Global};
 use std::rc::Rc;

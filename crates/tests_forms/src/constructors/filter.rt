@@ -5,8 +5,8 @@ use crate::fixtures::{
     wrapping_csr,
 };
 use sparse_algebra::scalar::W64;
-use sparse_forms::csc::CscMatrix;
-use sparse_forms::csr::CsrMatrix;
+use sparse_csr_csc::csc::CscMatrix;
+use sparse_csr_csc::csr::CsrMatrix;
 use std::alloc::{AllocError, Global};
 use std::cell::Cell;
 

@@ -6,8 +6,8 @@ use crate::fixtures::{
 };
 use SparseFormatErrorKind::InvalidStructure;
 use sparse_algebra::scalar::W64;
-use sparse_forms::csc::CscMatrix;
-use sparse_forms::csr::CsrMatrix;
+use sparse_csr_csc::csc::CscMatrix;
+use sparse_csr_csc::csr::CsrMatrix;
 use sparse_pattern::error::{SparseFormatError, SparseFormatErrorKind};
 use sparse_pattern::pattern::SparsityPattern;
 use std::alloc::{AllocError, Global};

@@ -1,9 +1,9 @@
 //! What becomes of a JSON text.
 
-use sparse_base::coo::CooMatrix;
+use sparse_coo_dense::coo::CooMatrix;
+use sparse_csr_csc::csc::CscMatrix;
+use sparse_csr_csc::csr::CsrMatrix;
 use sparse_data_structs::{CooData, CscData, CsrData, PatternData};
-use sparse_forms::csc::CscMatrix;
-use sparse_forms::csr::CsrMatrix;
 use sparse_pattern::error::{SparseFormatError, SparseFormatErrorKind};
 use sparse_pattern::pattern::{SparsityPattern, SparsityPatternFormatError};
 use std::alloc::Global;

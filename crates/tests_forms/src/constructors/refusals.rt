@@ -2,8 +2,8 @@
 
 use crate::fixtures::{Arrays, csc, csr, is_error, unsorted_csc, unsorted_csr};
 use SparseFormatErrorKind::{DuplicateEntry, IndexOutOfBounds, InvalidStructure};
-use sparse_forms::csc::CscMatrix;
-use sparse_forms::csr::CsrMatrix;
+use sparse_csr_csc::csc::CscMatrix;
+use sparse_csr_csc::csr::CsrMatrix;
 use sparse_pattern::error::{SparseFormatError, SparseFormatErrorKind};
 use sparse_pattern::pattern::SparsityPattern;
 use sparse_views::{CscView, CsrView};

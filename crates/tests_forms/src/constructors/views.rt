@@ -6,7 +6,7 @@ use SparsityPatternFormatError::{
     DuplicateEntry, InvalidOffsetArrayLength, InvalidOffsetFirstLast, MinorIndexOutOfBounds,
     NonmonotonicMinorIndices, NonmonotonicOffsets,
 };
-use sparse_cs::{CsView, SortedFault};
+use sparse_compressed::{CsView, SortedFault};
 use sparse_pattern::pattern::SparsityPatternFormatError;
 use std::alloc::Global;
 

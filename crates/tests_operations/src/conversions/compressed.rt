@@ -3,15 +3,15 @@
 use crate::matrices::{are_equal, columns_are, csc, csr, csr_of, equals, is_empty_list, rows_are};
 use crate::scalars::are;
 use sparse_algebra::scalar::{W32, W64};
-use sparse_base::coo::CooMatrix;
-use sparse_base::dense::DMatrix;
 use sparse_convert::serial::{
     convert_coo_csc, convert_coo_csr, convert_csc_coo, convert_csc_csr, convert_csc_dense,
     convert_csr_coo, convert_csr_csc, convert_csr_dense, convert_dense_csr, one_matrix_law,
     to_dense_law,
 };
-use sparse_forms::csc::CscMatrix;
-use sparse_forms::csr::CsrMatrix;
+use sparse_coo_dense::coo::CooMatrix;
+use sparse_coo_dense::dense::DMatrix;
+use sparse_csr_csc::csc::CscMatrix;
+use sparse_csr_csc::csr::CsrMatrix;
 use std::alloc::{AllocError, Global};
 
 // The matrix 1 0 0, 0 4 0 by rows; the zero at the end of the first row is stored.

@@ -2,11 +2,11 @@
 
 use crate::matrices::{Lanes, are_lanes, columns_are, rows_are};
 use sparse_algebra::scalar::W64;
-use sparse_base::coo::CooMatrix;
-use sparse_base::dense::DMatrix;
 use sparse_convert::serial::{
     convert_dense_coo, convert_dense_csc, convert_dense_csr, from_dense_law,
 };
+use sparse_coo_dense::coo::CooMatrix;
+use sparse_coo_dense::dense::DMatrix;
 use std::alloc::{AllocError, Global};
 
 // Whether a list was made, of this size and with these rows, columns and values.

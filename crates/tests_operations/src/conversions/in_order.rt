@@ -4,8 +4,8 @@ use crate::conversions::triplets::Case;
 use crate::matrices::list;
 use crate::scalars::are;
 use sparse_algebra::scalar::W64;
-use sparse_base::coo::CooMatrix;
 use sparse_convert::serial::{convert_coo_csc, convert_coo_csr};
+use sparse_coo_dense::coo::CooMatrix;
 use std::alloc::Global;
 
 // Lists, and their matrices by rows.

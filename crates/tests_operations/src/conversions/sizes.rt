@@ -5,14 +5,14 @@ use crate::pairs::{holds, holds_by_columns};
 use crate::scalars::are;
 use sparse_algebra::operand::Op;
 use sparse_algebra::scalar::W64;
-use sparse_base::coo::CooMatrix;
-use sparse_base::dense::DMatrix;
-use sparse_base::steps::Steps;
 use sparse_convert::serial::{
     convert_coo_csc, convert_coo_csr, convert_dense_coo, convert_dense_csc, convert_dense_csr,
 };
-use sparse_forms::csc::CscMatrix;
-use sparse_forms::csr::CsrMatrix;
+use sparse_coo_dense::coo::CooMatrix;
+use sparse_coo_dense::dense::DMatrix;
+use sparse_coo_dense::steps::Steps;
+use sparse_csr_csc::csc::CscMatrix;
+use sparse_csr_csc::csr::CsrMatrix;
 use sparse_products::serial::{mul_csr, spmm_csr_prealloc_unchecked_counted};
 use std::alloc::{AllocError, Global};
 

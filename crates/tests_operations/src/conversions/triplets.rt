@@ -3,10 +3,10 @@
 use crate::matrices::{are_equal, equals, list};
 use crate::scalars::{Scalar, are};
 use sparse_algebra::scalar::{W32, W64};
-use sparse_base::coo::CooMatrix;
 use sparse_convert::serial::{convert_coo_csc, convert_coo_csr, convert_coo_dense, order_law};
-use sparse_forms::csc::CscMatrix;
-use sparse_forms::csr::CsrMatrix;
+use sparse_coo_dense::coo::CooMatrix;
+use sparse_csr_csc::csc::CscMatrix;
+use sparse_csr_csc::csr::CsrMatrix;
 use sparse_pattern::counting::{key_offsets, next_slot};
 use std::alloc::{AllocError, Global};
 

@@ -5,8 +5,8 @@ use crate::conversions::triplets::{Case, columns_are_of, rows_are_of};
 use crate::matrices::list;
 use crate::scalars::Scalar;
 use sparse_algebra::scalar::{W32, W64};
-use sparse_base::coo::CooMatrix;
 use sparse_convert::serial::{convert_coo_csc, convert_coo_csr};
+use sparse_coo_dense::coo::CooMatrix;
 use std::alloc::{AllocError, Global};
 
 const LISTS: &[Case<'static>] = &[

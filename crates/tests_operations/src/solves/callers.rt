@@ -1,15 +1,15 @@
 //! Callers whose contracts follow from the public clauses of the library.
 
 ghost use Rattle.std.specs.Prelude.{◌≡◌, OnOk};
-ghost use Rattle.sparse_base.specs.DensePlain.{plain_of_dense};
-ghost use Rattle.sparse_cs.specs.PlainOfLanes.{plain_of_cols};
+ghost use Rattle.sparse_coo_dense.specs.DensePlain.{plain_of_dense};
+ghost use Rattle.sparse_compressed.specs.PlainOfLanes.{plain_of_cols};
 ghost use Rattle.sparse_solve.specs.Solutions.{plain_lower, IsSolution, HasSameValues};
 
 use sparse_algebra::error::OperationError;
 use sparse_algebra::operand::Op;
 use sparse_algebra::scalar::Units;
-use sparse_base::dense::DMatrix;
-use sparse_forms::csc::CscMatrix;
+use sparse_coo_dense::dense::DMatrix;
+use sparse_csr_csc::csc::CscMatrix;
 use sparse_solve::spsolve_csc_lower_triangular;
 
 /// Solves a system, and has the values of a solution that was known before: there is no other one.

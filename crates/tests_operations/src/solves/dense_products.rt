@@ -4,10 +4,10 @@ use crate::matrices::{Arrays, csr, dense};
 use crate::scalars::{Scalar, are};
 use crate::solves::dense_updates::{A, F};
 use sparse_algebra::scalar::{Mod, W32, W64};
-use sparse_base::dense::DMatrix;
+use sparse_coo_dense::dense::DMatrix;
+use sparse_csr_csc::csc::CscMatrix;
+use sparse_csr_csc::csr::CsrMatrix;
 use sparse_dense_products::{mul_csc_dense, mul_csr_dense};
-use sparse_forms::csc::CscMatrix;
-use sparse_forms::csr::CsrMatrix;
 use std::alloc::{AllocError, Global};
 
 // Whether a product was made, with these values.

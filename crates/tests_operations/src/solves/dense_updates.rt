@@ -8,10 +8,10 @@ use crate::operand_sizes::{op_of, sizes_of_columns, sizes_of_rows};
 use crate::scalars::{Scalar, are};
 use sparse_algebra::operand::Op;
 use sparse_algebra::scalar::{Ring, W64};
-use sparse_base::dense::DMatrix;
+use sparse_coo_dense::dense::DMatrix;
+use sparse_csr_csc::csc::CscMatrix;
+use sparse_csr_csc::csr::CsrMatrix;
 use sparse_dense_products::{spmm_csc_dense, spmm_csr_dense};
-use sparse_forms::csc::CscMatrix;
-use sparse_forms::csr::CsrMatrix;
 use std::alloc::Global;
 
 /// The rows `1 0 2` and `0 3 0`; the last zero is stored.

@@ -2,8 +2,8 @@
 
 use crate::matrices::{csc, csr};
 use sparse_algebra::scalar::W64;
-use sparse_forms::csc::CscMatrix;
-use sparse_forms::csr::CsrMatrix;
+use sparse_csr_csc::csc::CscMatrix;
+use sparse_csr_csc::csr::CsrMatrix;
 use sparse_kernels::{axpy_csc_col, axpy_csr_row, dot_csc_col, dot_csr_row};
 use std::alloc::Global;
 

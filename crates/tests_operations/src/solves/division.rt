@@ -4,8 +4,8 @@ use crate::matrices::{Arrays, are_equal, csc, csr, equals};
 use crate::scalars::Scalar;
 use sparse_algebra::error::{OperationError, OperationErrorKind};
 use sparse_algebra::scalar::{Mod, Units, W32};
-use sparse_forms::csc::CscMatrix;
-use sparse_forms::csr::CsrMatrix;
+use sparse_csr_csc::csc::CscMatrix;
+use sparse_csr_csc::csr::CsrMatrix;
 use sparse_solve::{div_scalar_csc, div_scalar_csr, div_scalar_mut_csc, div_scalar_mut_csr};
 use std::alloc::Global;
 

@@ -6,8 +6,8 @@ use crate::scalars::Scalar;
 use sparse_algebra::error::OperationErrorKind;
 use sparse_algebra::operand::Op;
 use sparse_algebra::scalar::{Mod, Units, W32};
-use sparse_base::dense::DMatrix;
-use sparse_forms::csc::CscMatrix;
+use sparse_coo_dense::dense::DMatrix;
+use sparse_csr_csc::csc::CscMatrix;
 use sparse_solve::spsolve_csc_lower_triangular;
 use std::alloc::Global;
 

@@ -2,8 +2,8 @@
 
 use crate::matrices::{Arrays, csc, csr, equals};
 use sparse_algebra::scalar::W64;
-use sparse_forms::csc::CscMatrix;
-use sparse_forms::csr::CsrMatrix;
+use sparse_csr_csc::csc::CscMatrix;
+use sparse_csr_csc::csr::CsrMatrix;
 use sparse_laws::operations::{
     columns, difference_as_sum, identity_times, negative_twice, product_distributes,
     product_distributes_right, times_identity, transpose_of_product,

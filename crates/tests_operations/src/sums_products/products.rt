@@ -3,7 +3,7 @@
 use crate::matrices::{Arrays, are_equal, csr, csr_of, first_multiples};
 use crate::scalars::{Scalar, are};
 use sparse_algebra::scalar::{Ring, W32, W64};
-use sparse_forms::csr::CsrMatrix;
+use sparse_csr_csc::csr::CsrMatrix;
 use sparse_products::serial::{mul_csr, spmm_csr_pattern};
 use std::alloc::{AllocError, Global};
 

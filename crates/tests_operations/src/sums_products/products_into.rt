@@ -7,8 +7,8 @@ use crate::scalars::are;
 use crate::sums_products::unchecked;
 use sparse_algebra::operand::Op;
 use sparse_algebra::scalar::{Ring, W64};
-use sparse_forms::csc::CscMatrix;
-use sparse_forms::csr::CsrMatrix;
+use sparse_csr_csc::csc::CscMatrix;
+use sparse_csr_csc::csr::CsrMatrix;
 use sparse_products::serial::{mul_csc, spmm_csc_pattern, spmm_csc_prealloc, spmm_csr_prealloc};
 use std::alloc::Global;
 

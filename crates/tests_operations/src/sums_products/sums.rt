@@ -4,8 +4,8 @@ use crate::matrices::{Arrays, are_equal, csc, csr, first_multiples};
 use crate::pairs::{Pair, PairByColumns, holds, holds_by_columns, pair, pair_by_columns};
 use crate::scalars::are;
 use sparse_algebra::scalar::W64;
-use sparse_forms::csc::CscMatrix;
-use sparse_forms::csr::CsrMatrix;
+use sparse_csr_csc::csc::CscMatrix;
+use sparse_csr_csc::csr::CsrMatrix;
 use sparse_products::serial::{
     add_csc, add_csr, neg_csc, neg_csr, scale_csc, scale_csr, spadd_pattern, sub_csc, sub_csr,
 };

@@ -5,8 +5,8 @@ use crate::operand_sizes::{op_of, sizes_of_columns, sizes_of_rows};
 use crate::pairs::{Answer, holds, holds_by_columns, is_done, is_refused, pair, pair_by_columns};
 use sparse_algebra::operand::Op;
 use sparse_algebra::scalar::{Ring, W64};
-use sparse_forms::csc::CscMatrix;
-use sparse_forms::csr::CsrMatrix;
+use sparse_csr_csc::csc::CscMatrix;
+use sparse_csr_csc::csr::CsrMatrix;
 use sparse_products::serial::{spadd_csc_prealloc, spadd_csr_prealloc};
 use std::alloc::Global;
 

@@ -4,8 +4,8 @@ use crate::operand_sizes::{sizes_of_columns, sizes_of_rows};
 use crate::pairs::Answer;
 use sparse_algebra::operand::Op;
 use sparse_algebra::scalar::Ring;
-use sparse_forms::csc::CscMatrix;
-use sparse_forms::csr::CsrMatrix;
+use sparse_csr_csc::csc::CscMatrix;
+use sparse_csr_csc::csr::CsrMatrix;
 use sparse_products::serial::{
     spmm_csc_prealloc, spmm_csc_prealloc_unchecked, spmm_csr_prealloc, spmm_csr_prealloc_unchecked,
 };

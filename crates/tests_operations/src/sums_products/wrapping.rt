@@ -2,7 +2,7 @@
 
 use crate::matrices::{csr_of, equals};
 use sparse_algebra::scalar::{Mod, Ring, W32};
-use sparse_forms::csr::CsrMatrix;
+use sparse_csr_csc::csr::CsrMatrix;
 use sparse_products::serial::{add_csr, mul_csr};
 use std::alloc::Global;
 

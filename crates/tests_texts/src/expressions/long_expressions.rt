@@ -2,7 +2,7 @@
 
 use crate::expressions::matrices::{are, list};
 use sparse_algebra::scalar::W64;
-use sparse_base::coo::CooMatrix;
+use sparse_coo_dense::coo::CooMatrix;
 use sparse_expr::{Expr, ExprError, evaluate_cols, evaluate_rows};
 use std::alloc::{AllocError, Global};
 use std::slice::from_ref;

@@ -1,7 +1,7 @@
 //! Lists of triplets for tests.
 
 use sparse_algebra::scalar::W64;
-use sparse_base::coo::CooMatrix;
+use sparse_coo_dense::coo::CooMatrix;
 use std::alloc::{AllocError, Global};
 
 /// The list of these triplets; those outside the shape are left out.

@@ -3,9 +3,9 @@
 use crate::expressions::matrices::list;
 use slow_programs::expressions::expression_value;
 use sparse_algebra::scalar::W64;
-use sparse_base::coo::CooMatrix;
+use sparse_coo_dense::coo::CooMatrix;
+use sparse_csr_csc::csr::CsrMatrix;
 use sparse_expr::{Expr, ExprError, evaluate_cols, evaluate_rows};
-use sparse_forms::csr::CsrMatrix;
 use std::alloc::{AllocError, Global};
 use std::test::Fail;
 

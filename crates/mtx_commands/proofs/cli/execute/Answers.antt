@@ -1,4 +1,5 @@
-use Rattle.std.proofs.Common.{◌≡◌, ◌<◌, ◌≤◌, List, [], ◌∷◌, ℕ, inl, inr, refl, ap, ◌∙◌, length, get_or, arith}
+use Rattle.std.proofs.Common.{◌≡◌, ◌<◌, ◌≤◌, List, [], ◌∷◌, ℕ, inl}
+use Rattle.std.proofs.Common.{inr, refl, ap, ◌∙◌, length, get_or, arith}
 use Rattle.std.proofs.Common.{Result, Ok, Err, OnOk, Option}
 use denote.Ref.{Bor}
 use Rattle.nalgebra_sparse.specs.PostfixWords.{texts}

@@ -1,5 +1,5 @@
 use Rattle.std.proofs.Common.{Err, sym, subst}
-use Rattle.sparse_base.specs.CooPlain.{plain_of_coo}
+use Rattle.sparse_coo_dense.specs.CooPlain.{plain_of_coo}
 use Rattle.mtxkit_commands.specs.Systems.{plain_of_integers, IsTested}
 use Rattle.mtxkit_commands.proofs.Solving.{product-same, untested, equation-same, equation_at_ok}
 use Rattle.mtxkit_commands.proofs.systems.is_solution_in.Goals as goal

@@ -1,5 +1,5 @@
 use Rattle.std.proofs.Common.{sym, subst}
-use Rattle.sparse_cs.specs.PlainOfLanes.{plain_of_rows}
+use Rattle.sparse_compressed.specs.PlainOfLanes.{plain_of_rows}
 use Rattle.mtxkit_matrices.proofs.ZeroValues.{IsZeroOutside, zero_outside, same_of_zero}
 use Rattle.mtxkit_matrices.proofs.ZeroValues.{zero_of_same}
 use Rattle.mtxkit_matrices.proofs.values.has_same_values.Goals as goal

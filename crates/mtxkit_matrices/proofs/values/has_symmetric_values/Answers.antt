@@ -1,6 +1,6 @@
 use Rattle.std.proofs.Common.{◌≡◌, sym, ap, ◌∙◌, arith, rules}
 use Rattle.sparse_algebra.specs.Plain.{Plain}
-use Rattle.sparse_cs.specs.PlainOfLanes.{plain_of_rows}
+use Rattle.sparse_compressed.specs.PlainOfLanes.{plain_of_rows}
 use Rattle.mtxkit_matrices.proofs.values.has_symmetric_values.Goals as goal
 
 pub returns : goal.returns

@@ -1,7 +1,7 @@
 use Rattle.std.proofs.Common.{◌≡◌, ap, sym, ◌∙◌, arith}
 use Rattle.sparse_algebra.specs.Plain.{Plain, plain_product}
-use Rattle.sparse_base.specs.CooPlain.{plain_of_coo}
-use Rattle.sparse_cs.specs.PlainOfLanes.{plain_of_rows}
+use Rattle.sparse_coo_dense.specs.CooPlain.{plain_of_coo}
+use Rattle.sparse_compressed.specs.PlainOfLanes.{plain_of_rows}
 use Rattle.mtxkit_systems.proofs.system.has_product.Goals as goal
 
 pub returns : goal.returns

@@ -1,9 +1,9 @@
 use Rattle.std.proofs.Common.{◌≡◌, All, sym, subst, ◌∙◌}
 use Rattle.std.proofs.lemmas.Result.{IfOk-weaker}
-use Rattle.sparse_base.specs.Coo.{Coo}
-use Rattle.sparse_base.specs.CooPlain.{plain_of_coo}
-use Rattle.sparse_base.specs.Dense.{value_at}
-use Rattle.sparse_base.specs.DensePlain.{plain_of_dense}
+use Rattle.sparse_coo_dense.specs.Coo.{Coo}
+use Rattle.sparse_coo_dense.specs.CooPlain.{plain_of_coo}
+use Rattle.sparse_coo_dense.specs.Dense.{value_at}
+use Rattle.sparse_coo_dense.specs.DensePlain.{plain_of_dense}
 use Rattle.sparse_convert.specs.FromDense.{IsNonzeroPart, column_triplets, differs_from}
 use Rattle.mtxkit_systems.specs.Orders.{IsByColumns, places_of}
 use Rattle.mtxkit_systems.proofs.ColumnOrders.{kept-by_columns, columns-by_columns, kept-differ}

@@ -1,8 +1,8 @@
 use Rattle.std.proofs.Common.{◌≡◌, ℕ, true, ap, sym, subst, ◌∙◌, arith, rules}
 use Rattle.sparse_algebra.specs.Plain.{Plain}
-use Rattle.sparse_base.specs.CooPlain.{plain_of_coo}
-use Rattle.sparse_base.specs.DensePlain.{plain_of_dense}
-use Rattle.sparse_cs.specs.PlainOfLanes.{plain_of_cols}
+use Rattle.sparse_coo_dense.specs.CooPlain.{plain_of_coo}
+use Rattle.sparse_coo_dense.specs.DensePlain.{plain_of_dense}
+use Rattle.sparse_compressed.specs.PlainOfLanes.{plain_of_cols}
 use Rattle.sparse_ldl.specs.Factorisations.{IsFactorisation, plain_symmetric}
 use Rattle.sparse_ldl.specs.Factors.{plain_of_factors}
 use Rattle.sparse_solve.specs.Solutions.{HasSameValues}

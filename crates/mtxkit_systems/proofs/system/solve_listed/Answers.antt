@@ -1,5 +1,5 @@
-use Rattle.sparse_base.specs.CooPlain.{plain_of_coo}
-use Rattle.sparse_base.specs.DensePlain.{plain_of_dense}
+use Rattle.sparse_coo_dense.specs.CooPlain.{plain_of_coo}
+use Rattle.sparse_coo_dense.specs.DensePlain.{plain_of_dense}
 use Rattle.mtxkit_systems.proofs.SymmetricSystems.{solution_same}
 use Rattle.mtxkit_systems.proofs.system.solve_listed.Goals as goal
 

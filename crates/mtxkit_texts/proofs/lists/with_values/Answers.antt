@@ -1,7 +1,7 @@
 use Rattle.std.proofs.Common.{map, ap, sym, ◌∙◌}
 use Rattle.std.proofs.lemmas.Bool.{false≢true}
-use Rattle.sparse_base.specs.Coo.{Coo}
-use Rattle.sparse_base.proofs.TripletLists.{values_back}
+use Rattle.sparse_coo_dense.specs.Coo.{Coo}
+use Rattle.sparse_coo_dense.proofs.TripletLists.{values_back}
 use Rattle.mtxkit_texts.proofs.Revalued.{parts-revalued}
 use Rattle.mtxkit_texts.proofs.lists.with_values.Goals as goal
 

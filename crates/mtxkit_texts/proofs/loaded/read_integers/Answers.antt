@@ -1,6 +1,6 @@
 use Rattle.std.proofs.Common.{ℤ, Ok, ap, subst, map-id}
 use Rattle.std.specs.Int.{w128}
-use Rattle.sparse_base.specs.Coo.{Coo, coo_of}
+use Rattle.sparse_coo_dense.specs.Coo.{Coo, coo_of}
 use Rattle.sparse_market_scalar.specs.ScalarTypes.{signed_scalar}
 use Rattle.sparse_parser.specs.Meaning.{Means}
 use Rattle.mtxkit_texts.proofs.loaded.read_integers.Goals as goal

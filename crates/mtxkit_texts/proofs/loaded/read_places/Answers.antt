@@ -1,5 +1,5 @@
 use Rattle.std.proofs.Common.{Ok, ap, subst, map-id}
-use Rattle.sparse_base.specs.Coo.{Coo, coo_of}
+use Rattle.sparse_coo_dense.specs.Coo.{Coo, coo_of}
 use Rattle.sparse_market_scalar.specs.ScalarTypes.{pattern_scalar}
 use Rattle.sparse_parser.specs.Meaning.{Means}
 use Rattle.mtxkit_texts.proofs.loaded.read_places.Goals as goal

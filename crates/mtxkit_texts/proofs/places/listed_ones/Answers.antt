@@ -3,7 +3,7 @@ use Rattle.std.proofs.lemmas.List.{length-replicate}
 use Rattle.std.proofs.lemmas.Result.{IfOk-weaker}
 use Rattle.std.specs.List.{list_any}
 use Rattle.sparse_algebra.specs.Plain.{is_at}
-use Rattle.sparse_base.specs.Coo.{Coo}
+use Rattle.sparse_coo_dense.specs.Coo.{Coo}
 use Rattle.mtxkit_texts.proofs.ListedPlaces.{same_places}
 use Rattle.mtxkit_texts.proofs.places.listed_ones.Goals as goal
 

@@ -1,7 +1,7 @@
 use Rattle.std.proofs.Common.{◌≡◌, All, ap, ◌∙◌, sym, subst, rules}
 use Rattle.std.proofs.lemmas.List.Elements.{All-replicate}
 use Rattle.sparse_algebra.specs.Plain.{Plain}
-use Rattle.sparse_cs.proofs.Standing.{rows_have}
+use Rattle.sparse_compressed.proofs.Standing.{rows_have}
 use Rattle.sparse_pattern.specs.Raw.{IsPlace}
 use Rattle.mtxkit_texts.proofs.places.ones_of.Goals as goal
 

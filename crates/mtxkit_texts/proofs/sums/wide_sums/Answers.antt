@@ -1,7 +1,7 @@
 use Rattle.std.proofs.Common.{length, ap, sym, ◌∙◌}
 use Rattle.std.proofs.lemmas.List.{length-map}
 use Rattle.sparse_algebra.specs.WrappingValues.{w128_number}
-use Rattle.sparse_base.specs.CooPlain.{plain_of_coo}
+use Rattle.sparse_coo_dense.specs.CooPlain.{plain_of_coo}
 use Rattle.mtxkit_texts.specs.Loaded.{ring128, value128}
 use Rattle.mtxkit_texts.proofs.WideLists.{wide-wrapped}
 use Rattle.mtxkit_texts.proofs.sums.wide_sums.Goals as goal

@@ -1,4 +1,4 @@
-use Rattle.sparse_base.specs.CooPlain.{plain_of_coo}
+use Rattle.sparse_coo_dense.specs.CooPlain.{plain_of_coo}
 use Rattle.sparse_expr.proofs.Values.{input_met}
 use Rattle.slow_programs.proofs.expressions.input.Goals as goal
 

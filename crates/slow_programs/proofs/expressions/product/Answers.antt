@@ -1,5 +1,5 @@
 use Rattle.sparse_algebra.proofs.PlainLaws.{within_product}
-use Rattle.sparse_base.specs.CooPlain.{plain_of_coo}
+use Rattle.sparse_coo_dense.specs.CooPlain.{plain_of_coo}
 use Rattle.slow_programs.proofs.expressions.product.Goals as goal
 
 pub tabulated-requires : goal.tabulated-requires

@@ -1,5 +1,5 @@
 use Rattle.std.proofs.Common.{◌≡◌, ℕ, ◌*◌, ◌<◌, length}
-use Rattle.sparse_base.specs.DensePlain.{plain_of_dense}
+use Rattle.sparse_coo_dense.specs.DensePlain.{plain_of_dense}
 use Rattle.slow_programs.specs.InnerEquations.{left_at}
 use Rattle.slow_programs.proofs.ldl.divide_column.Given as goal
 

@@ -1,6 +1,6 @@
 use Rattle.std.proofs.Common.{◌≡◌, ◌++◌, take, drop, length, ap, sym, subst, ◌∙◌, arith}
 use Rattle.std.proofs.Math.Seq.{take-append_seam}
-use Rattle.sparse_base.specs.Dense.{HasValues}
+use Rattle.sparse_coo_dense.specs.Dense.{HasValues}
 use Rattle.slow_programs.specs.DenseFactors.{AreDenseFactorsOf}
 use Rattle.slow_programs.proofs.Equations.{all_factors, no_factors_yet, none_at_all}
 use Rattle.slow_programs.proofs.ldl.factors_by_columns.Goals as goal

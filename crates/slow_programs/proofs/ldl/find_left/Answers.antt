@@ -1,7 +1,7 @@
 use Rattle.std.proofs.Common.{◌≡◌, ◌<◌, length, ap, subst, ◌∙◌, arith}
 use Rattle.std.proofs.lemmas.List.{get_or_default}
 use Rattle.sparse_algebra.specs.Sums.{sum_below}
-use Rattle.sparse_base.specs.DensePlain.{plain_of_dense}
+use Rattle.sparse_coo_dense.specs.DensePlain.{plain_of_dense}
 use Rattle.sparse_ldl.specs.InnerColumns.{term}
 use Rattle.sparse_kernels.specs.SparseVectors.{elements}
 use Rattle.slow_programs.specs.DenseFactors.{dense_symmetric}

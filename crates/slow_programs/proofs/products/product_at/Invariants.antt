@@ -1,6 +1,6 @@
 use Rattle.std.proofs.Common.{◌≡◌}
 use Rattle.sparse_algebra.specs.Sums.{sum_below}
-use Rattle.sparse_base.specs.CooPlain.{plain_of_coo}
+use Rattle.sparse_coo_dense.specs.CooPlain.{plain_of_coo}
 use Rattle.slow_programs.proofs.products.product_at.Given as goal
 
 abbrev pub invariant-loop-k : goal.invariant-loop-k

@@ -1,7 +1,7 @@
 use Rattle.std.proofs.Common.{◌≡◌, false}
 use Rattle.std.specs.Prelude.{◌&&◌}
 use Rattle.sparse_algebra.specs.Plain.{any_below}
-use Rattle.sparse_base.specs.CooPlain.{plain_of_coo}
+use Rattle.sparse_coo_dense.specs.CooPlain.{plain_of_coo}
 use Rattle.slow_programs.proofs.products.product_has.Given as goal
 
 abbrev pub invariant-loop-k : goal.invariant-loop-k

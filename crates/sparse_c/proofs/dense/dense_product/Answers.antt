@@ -1,6 +1,6 @@
 use Rattle.std.proofs.Common.{◌∙◌}
 use Rattle.sparse_algebra.specs.Plain.{plain_product}
-use Rattle.sparse_base.specs.DensePlain.{plain_full}
+use Rattle.sparse_coo_dense.specs.DensePlain.{plain_full}
 use Rattle.sparse_c.proofs.dense.dense_product.Goals as goal
 
 pub returns-clause-plain : goal.returns-clause-plain

@@ -1,8 +1,8 @@
 use Rattle.std.proofs.Common.{◌≡◌, ℕ, inl, inr, ap, subst, ◌∙◌}
 use Rattle.std.proofs.lemmas.Result.{err_from_is_err_and}
 use Rattle.sparse_algebra.specs.Plain.{Plain}
-use Rattle.sparse_base.specs.DensePlain.{plain_of_dense}
-use Rattle.sparse_cs.specs.PlainOfLanes.{plain_of_cols}
+use Rattle.sparse_coo_dense.specs.DensePlain.{plain_of_dense}
+use Rattle.sparse_compressed.specs.PlainOfLanes.{plain_of_cols}
 use Rattle.sparse_ldl.specs.Factorisations.{plain_symmetric, IsFactorisation}
 use Rattle.sparse_ldl.specs.Factors.{plain_of_factors}
 use Rattle.sparse_solve.specs.Solutions.{HasSameValues}

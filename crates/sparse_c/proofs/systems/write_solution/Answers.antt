@@ -3,7 +3,8 @@ use Rattle.std.specs.Int.{w32}
 use Rattle.sparse_algebra.specs.Plain.{Plain}
 use Rattle.sparse_c.specs.Systems.{Solves}
 use Rattle.sparse_c.proofs.Accepting.{equation_told}
-use Rattle.sparse_c.proofs.Solving.{solution_written, solution_shown, solution_refused, solution_rest}
+use Rattle.sparse_c.proofs.Solving.{solution_written, solution_shown}
+use Rattle.sparse_c.proofs.Solving.{solution_refused, solution_rest}
 use Rattle.sparse_c_views.proofs.Faultless.{accepted}
 use Rattle.sparse_c_views.specs.Arrays.{plain_by_values}
 use Rattle.sparse_c.proofs.systems.write_solution.Goals as goal

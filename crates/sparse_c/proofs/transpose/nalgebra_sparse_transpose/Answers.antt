@@ -2,7 +2,7 @@ use Rattle.std.proofs.Common.{◌≡◌, rules, to_z, of_z}
 use Rattle.std.specs.Int.{w32}
 use Rattle.sparse_algebra.specs.Plain.{plain_transpose}
 use Rattle.sparse_algebra.specs.WrappingValues.{w64_value}
-use Rattle.sparse_cs.specs.Compressed.{arrays_of}
+use Rattle.sparse_compressed.specs.Compressed.{arrays_of}
 use Rattle.sparse_c_views.proofs.Answering.{rows_answered, seen_rows}
 use Rattle.sparse_c_views.proofs.Faultless.{matrix_told}
 use Rattle.sparse_c_views.specs.Arrays.{plain_by_rows, ring64, room_of}

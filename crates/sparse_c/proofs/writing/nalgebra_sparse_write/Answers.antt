@@ -1,4 +1,5 @@
-use Rattle.std.proofs.Common.{◌≡◌, ℕ, ◌<◌, List, length, inl, inr, ap, sym, subst, ◌∙◌, rules, to_z, of_z}
+use Rattle.std.proofs.Common.{◌≡◌, ℕ, ◌<◌, List, length, inl, inr}
+use Rattle.std.proofs.Common.{ap, sym, subst, ◌∙◌, rules, to_z, of_z}
 use Rattle.std.specs.Int.{w32}
 use Rattle.sparse_c_views.specs.Lists.{HoldsText}
 use Rattle.sparse_c_views.proofs.Answering.{size_kept, size_told}

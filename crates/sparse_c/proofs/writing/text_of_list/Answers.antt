@@ -1,8 +1,8 @@
 use Rattle.std.proofs.Common.{ℕ, List, codes, length, inr, ap, subst, ◌∙◌}
 use Rattle.std.proofs.lemmas.Result.{err_from_is_err_and}
 use Rattle.std.specs.Fmt.{signed_decimal}
-use Rattle.sparse_base.specs.Coo.{coo_of, zip_triplets}
-use Rattle.sparse_base.specs.TripletFaults.{IsFirstTripletFault}
+use Rattle.sparse_coo_dense.specs.Coo.{coo_of, zip_triplets}
+use Rattle.sparse_coo_dense.specs.TripletFaults.{IsFirstTripletFault}
 use Rattle.sparse_io.specs.Written.{text_of}
 use Rattle.sparse_c.proofs.writing.text_of_list.Goals as goal
 

@@ -2,7 +2,7 @@ use Rattle.std.proofs.Common.{◌≡◌, ◌⊎◌, ℕ, ℤ, List, ◌++◌, ta
 use Rattle.std.proofs.Common.{subst, ◌∙◌}
 use Rattle.std.proofs.lemmas.List.{drop-map, length-map}
 use Rattle.sparse_algebra.specs.Integers.{element_of}
-use Rattle.sparse_cs.specs.InnerRows.{lane_value}
+use Rattle.sparse_compressed.specs.InnerRows.{lane_value}
 use Rattle.sparse_sums.specs.InnerAdding.{GainsEntries, GainsValues}
 use Rattle.sparse_sums.proofs.Adding.{rest_added}
 use Rattle.sparse_c_sums.specs.InnerFilling.{front_meant, times_meant}

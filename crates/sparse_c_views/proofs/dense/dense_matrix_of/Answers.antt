@@ -1,8 +1,8 @@
 use Rattle.std.proofs.Common.{ap, ◌∙◌}
-use Rattle.sparse_base.specs.Dense.{dense_of}
-use Rattle.sparse_base.specs.DensePlain.{plain_of_dense}
+use Rattle.sparse_coo_dense.specs.Dense.{dense_of}
+use Rattle.sparse_coo_dense.specs.DensePlain.{plain_of_dense}
 use Rattle.sparse_algebra.specs.Integers.{element_of}
-use Rattle.sparse_base.proofs.Meanings.{dense-meant}
+use Rattle.sparse_coo_dense.proofs.Meanings.{dense-meant}
 use Rattle.sparse_c_views.proofs.dense.dense_matrix_of.Goals as goal
 
 pub returns-clause-plain : goal.returns-clause-plain

@@ -1,6 +1,6 @@
 use Rattle.std.proofs.Common.{ap, ◌∙◌}
-use Rattle.sparse_cs.specs.Compressed.{arrays_of}
-use Rattle.sparse_cs.specs.PlainOfLanes.{plain_of_rows}
+use Rattle.sparse_compressed.specs.Compressed.{arrays_of}
+use Rattle.sparse_compressed.specs.PlainOfLanes.{plain_of_rows}
 use Rattle.sparse_pattern.specs.Raw.{raw_of}
 use Rattle.sparse_algebra.specs.Integers.{element_of}
 use Rattle.sparse_c_views.proofs.Meanings.{rows-meant}

@@ -1,10 +1,10 @@
 use Rattle.std.proofs.Common.{ℕ, List, inr, ap, subst, ◌∙◌}
 use Rattle.std.proofs.lemmas.Result.{err_from_is_err_and}
-use Rattle.sparse_base.specs.Coo.{coo_of, zip_triplets}
-use Rattle.sparse_base.specs.CooPlain.{plain_of_coo}
-use Rattle.sparse_base.specs.TripletFaults.{IsFirstTripletFault}
+use Rattle.sparse_coo_dense.specs.Coo.{coo_of, zip_triplets}
+use Rattle.sparse_coo_dense.specs.CooPlain.{plain_of_coo}
+use Rattle.sparse_coo_dense.specs.TripletFaults.{IsFirstTripletFault}
 use Rattle.sparse_algebra.specs.Integers.{element_of}
-use Rattle.sparse_base.proofs.Meanings.{list-meant, same_length}
+use Rattle.sparse_coo_dense.proofs.Meanings.{list-meant, same_length}
 use Rattle.sparse_c_views.proofs.triplets.list_of.Goals as goal
 
 pub returns-clause-plain : goal.returns-clause-plain

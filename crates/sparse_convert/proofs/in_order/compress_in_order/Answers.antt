@@ -1,10 +1,10 @@
 use Rattle.std.proofs.Common.{◌≡◌, ◌+◌, ◌-◌, ◌<◌, ◌++◌, [], ◌∷◌, length, take, slice_index, vec_len}
 use Rattle.std.proofs.Common.{ap, sym, ◌∙◌, subst, arith}
 use Rattle.std.proofs.lemmas.List.{get_or_default}
-use Rattle.sparse_base.specs.Coo.{zip_triplets}
-use Rattle.sparse_base.proofs.TripletLists.{triplet_at}
-use Rattle.sparse_cs.specs.Compressed.{IsSound, compressed_of}
-use Rattle.sparse_cs.specs.PlainOfLanes.{plain_of_rows}
+use Rattle.sparse_coo_dense.specs.Coo.{zip_triplets}
+use Rattle.sparse_coo_dense.proofs.TripletLists.{triplet_at}
+use Rattle.sparse_compressed.specs.Compressed.{IsSound, compressed_of}
+use Rattle.sparse_compressed.specs.PlainOfLanes.{plain_of_rows}
 use Rattle.sparse_convert.specs.InnerInOrder.{AreInOrder}
 use Rattle.sparse_convert.proofs.InOrder.{lanes_ended}
 use Rattle.sparse_convert.proofs.ReadLists.{read_valid, read_stands}

@@ -1,5 +1,5 @@
 use Rattle.std.proofs.Common.{◌≡◌, ◌+◌, ◌-◌, ◌<◌, ◌≤◌, length, take, vec_len, vec_capacity}
-use Rattle.sparse_base.specs.Coo.{zip_triplets}
+use Rattle.sparse_coo_dense.specs.Coo.{zip_triplets}
 use Rattle.sparse_convert.specs.InnerInOrder.{AreInOrder}
 use Rattle.sparse_convert.proofs.in_order.compress_in_order.Given as goal
 

@@ -1,10 +1,10 @@
 use Rattle.std.proofs.Common.{◌≡◌, [], ◌∷◌, ◌++◌, ◌+◌, ◌-◌, length, ap, sym, ◌∙◌, subst}
 use Rattle.std.proofs.Common.{slice_index, arith}
 use Rattle.std.proofs.lemmas.List.Edits.{length-between}
-use Rattle.sparse_cs.specs.Compressed.{IsSound, compressed_of}
+use Rattle.sparse_compressed.specs.Compressed.{IsSound, compressed_of}
 use Rattle.sparse_convert.specs.InnerTripletLanes.{entries_of_lane}
 use Rattle.sparse_convert.specs.InnerMerged.{AreMerged}
-use Rattle.sparse_cs.specs.PlainOfLanes.{plain_of_rows}
+use Rattle.sparse_compressed.specs.PlainOfLanes.{plain_of_rows}
 use Rattle.sparse_convert.proofs.SortedTriplets.{no_lane, offsets_within}
 use Rattle.sparse_convert.proofs.MergedLanes.{AreLanesMerged, no_lanes_merged, lanes_merged_more}
 use Rattle.sparse_convert.proofs.MergedLanes.{merged_valid, merged_stand}

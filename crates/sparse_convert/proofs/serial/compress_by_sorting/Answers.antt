@@ -1,8 +1,8 @@
 use Rattle.std.proofs.Common.{◌≡◌, ◌<◌, ◌-◌, ℕ, All, length, ap, sym, ◌∙◌, arith}
 use Rattle.std.proofs.lemmas.List.Sorted.{All-permutation}
 use Rattle.std.proofs.lemmas.Result.{IfOk-weaker}
-use Rattle.sparse_base.specs.Coo.{zip_triplets}
-use Rattle.sparse_base.proofs.TripletLists.{bounded}
+use Rattle.sparse_coo_dense.specs.Coo.{zip_triplets}
+use Rattle.sparse_coo_dense.proofs.TripletLists.{bounded}
 use Rattle.sparse_algebra.specs.Plain.{plain_of_triplets}
 use Rattle.sparse_convert.specs.InnerTripletLanes.{entries_of_lane, triplets_of_lane}
 use Rattle.sparse_convert.specs.InnerTripletLanes.{plain_of_lanes}

@@ -1,7 +1,7 @@
 use Rattle.std.proofs.lemmas.Grind.{common_steps}
 use Rattle.std.proofs.Common.{ap, ◌∙◌, arith}
 use Rattle.sparse_algebra.specs.Plain.{plain_transpose}
-use Rattle.sparse_cs.specs.PlainOfLanes.{plain_of_cols}
+use Rattle.sparse_compressed.specs.PlainOfLanes.{plain_of_cols}
 use Rattle.sparse_convert.proofs.Compressing.{rows_below, cols_below, plain_of_lists}
 use Rattle.sparse_convert.proofs.TransposedTriplets.{plain_of_transposed}
 use Rattle.sparse_convert.proofs.serial.convert_coo_csc.Goals as goal

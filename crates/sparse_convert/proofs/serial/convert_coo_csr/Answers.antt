@@ -1,6 +1,6 @@
 use Rattle.std.proofs.lemmas.Grind.{common_steps}
 use Rattle.std.proofs.Common.{ap, ◌∙◌, arith}
-use Rattle.sparse_cs.specs.PlainOfLanes.{plain_of_rows}
+use Rattle.sparse_compressed.specs.PlainOfLanes.{plain_of_rows}
 use Rattle.sparse_convert.proofs.Compressing.{rows_below, cols_below, plain_of_lists}
 use Rattle.sparse_convert.proofs.serial.convert_coo_csr.Goals as goal
 

@@ -2,9 +2,9 @@ use Rattle.std.proofs.Common.{◌≡◌, ap, sym, ◌∙◌}
 use Rattle.sparse_algebra.specs.Algebra.{CommRing}
 use Rattle.sparse_algebra.specs.Plain.{plain_of_triplets, plain_transpose}
 use Rattle.sparse_algebra.proofs.PlainLemmas.{order_free}
-use Rattle.sparse_base.specs.Coo.{Coo}
-use Rattle.sparse_base.specs.CooPlain.{plain_of_coo}
-use Rattle.sparse_cs.proofs.Arrays.{equal_decides}
+use Rattle.sparse_coo_dense.specs.Coo.{Coo}
+use Rattle.sparse_coo_dense.specs.CooPlain.{plain_of_coo}
+use Rattle.sparse_compressed.proofs.Arrays.{equal_decides}
 use Rattle.std.specs.List.Sorted.{IsPermutation}
 use Rattle.sparse_convert.proofs.serial.order_law.Goals as goal
 

@@ -1,5 +1,5 @@
 use Rattle.sparse_algebra.specs.Plain.{plain_product}
-use Rattle.sparse_cs.specs.PlainOfLanes.{plain_of_rows}
+use Rattle.sparse_compressed.specs.PlainOfLanes.{plain_of_rows}
 use Rattle.sparse_dense_products.specs.DenseOperands.{op_dense}
 use Rattle.sparse_dense_products.specs.InnerUpdates.{IsUpdatedBelow}
 use Rattle.sparse_dense_products.proofs.gather.gather_column.Given as goal

@@ -4,8 +4,8 @@ use Rattle.std.proofs.lemmas.List.{get_or_default}
 use Rattle.sparse_algebra.proofs.RingLemmas.{mul_zero}
 use Rattle.sparse_pattern.specs.Raw.{Raw, lane_of}
 use Rattle.sparse_kernels.specs.SparseVectors.{sparse_elements}
-use Rattle.sparse_cs.specs.PlainOfLanes.{plain_of_rows}
-use Rattle.sparse_cs.proofs.LaneValues.{values_of, lane_value_is}
+use Rattle.sparse_compressed.specs.PlainOfLanes.{plain_of_rows}
+use Rattle.sparse_compressed.proofs.LaneValues.{values_of, lane_value_is}
 use Rattle.sparse_dense_products.specs.DenseOperands.{op_dense}
 use Rattle.sparse_dense_products.specs.InnerUpdates.{op_step}
 use Rattle.sparse_dense_products.proofs.DotSteps.{term_more}

@@ -1,6 +1,6 @@
 use Rattle.std.proofs.Common.{◌≡◌, ◌<◌, ℕ, length, get_or}
 use Rattle.sparse_algebra.specs.Sums.{sum_below}
-use Rattle.sparse_cs.specs.PlainOfLanes.{plain_of_rows}
+use Rattle.sparse_compressed.specs.PlainOfLanes.{plain_of_rows}
 use Rattle.sparse_dense_products.specs.DenseOperands.{op_dense}
 use Rattle.sparse_dense_products.proofs.scatter.scatter_column.Given as goal
 

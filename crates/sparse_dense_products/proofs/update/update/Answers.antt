@@ -2,10 +2,11 @@ use Rattle.std.proofs.Common.{arith}
 use Rattle.sparse_algebra.specs.Plain.{plain_product}
 use Rattle.sparse_algebra.proofs.PlainLaws.{within_product}
 use Rattle.sparse_algebra.proofs.PlainLemmas.{proper_product}
-use Rattle.sparse_cs.specs.PlainOfLanes.{plain_of_rows}
+use Rattle.sparse_compressed.specs.PlainOfLanes.{plain_of_rows}
 use Rattle.sparse_dense_products.specs.DenseOperands.{op_dense}
 use Rattle.sparse_algebra.specs.Prealloc.{plain_transpose_if}
-use Rattle.sparse_dense_products.proofs.PlainUpdates.{no_rows, op_proper, op_within, transposed_proper}
+use Rattle.sparse_dense_products.proofs.PlainUpdates.{no_rows, op_proper}
+use Rattle.sparse_dense_products.proofs.PlainUpdates.{op_within, transposed_proper}
 use Rattle.sparse_dense_products.proofs.PlainUpdates.{transposed_within, updated_plain}
 use Rattle.sparse_dense_products.proofs.update.update.Goals as goal
 

@@ -1,7 +1,7 @@
 use Rattle.std.proofs.Common.{◌≡◌, ◌+◌, ◌⊎◌, Bool, ℕ, false, inl, inr, length, ap, sym, ◌∙◌}
 use Rattle.std.proofs.Common.{arith}
 use Rattle.sparse_algebra.specs.Plain.{Plain, plain_product, plain_transpose}
-use Rattle.sparse_cs.specs.PlainOfLanes.{plain_of_rows}
+use Rattle.sparse_compressed.specs.PlainOfLanes.{plain_of_rows}
 use Rattle.sparse_dense_products.specs.DenseOperands.{op_dense}
 use Rattle.sparse_dense_products.proofs.BlockUpdates.{one_column}
 use Rattle.sparse_dense_products.proofs.Operands.{not_transposed, transposed_is}

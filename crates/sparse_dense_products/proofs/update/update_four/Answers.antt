@@ -1,6 +1,6 @@
 use Rattle.std.proofs.Common.{◌≡◌, ◌+◌, ◌++◌, suc, length, ap, refl, arith}
 use Rattle.sparse_algebra.specs.Plain.{plain_product}
-use Rattle.sparse_cs.specs.PlainOfLanes.{plain_of_rows}
+use Rattle.sparse_compressed.specs.PlainOfLanes.{plain_of_rows}
 use Rattle.sparse_dense_products.specs.DenseOperands.{op_dense}
 use Rattle.sparse_dense_products.proofs.BlockUpdates.{one_column, one_more_column}
 use Rattle.sparse_dense_products.proofs.update.update_four.Goals as goal

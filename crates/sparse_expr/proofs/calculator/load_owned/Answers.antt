@@ -1,5 +1,6 @@
 use Rattle.std.proofs.lemmas.Grind.{common_steps}
-use Rattle.std.proofs.Common.{◌≡◌, ◌+◌, Ok, Err, inl, inr, length, map, ap, subst, ◌∙◌, string_bytes, arith}
+use Rattle.std.proofs.Common.{◌≡◌, ◌+◌, Ok, Err, inl, inr, length}
+use Rattle.std.proofs.Common.{map, ap, subst, ◌∙◌, string_bytes, arith}
 use Rattle.std.proofs.lemmas.List.{map_push, length-map}
 use Rattle.std.proofs.lemmas.Result.{err_from_is_err_and}
 use Rattle.sparse_parser.specs.Meaning.{Means}

@@ -3,7 +3,7 @@ use Rattle.std.specs.Int.{w64}
 use Rattle.std.proofs.lemmas.Result.{err_from_is_err_and, on_ok_weaker}
 use Rattle.sparse_algebra.specs.Wrapping.{class_of}
 use Rattle.sparse_algebra.specs.Numbers.{w64_number}
-use Rattle.sparse_cs.specs.PlainOfLanes.{plain_of_rows, plain_of_cols}
+use Rattle.sparse_compressed.specs.PlainOfLanes.{plain_of_rows, plain_of_cols}
 use Rattle.sparse_expr.specs.Run.{ring64, text_in}
 use Rattle.sparse_expr.proofs.Outcome.{has_outcome, refuses-value, writes, refuses-write}
 use Rattle.sparse_expr.proofs.Outcome.{text_in-rows, text_in-cols, both_of_err}

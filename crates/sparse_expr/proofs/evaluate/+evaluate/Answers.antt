@@ -1,6 +1,6 @@
 use Rattle.std.proofs.Common.{ap, sym, ◌∙◌, map, subst, rules}
 use Rattle.sparse_algebra.specs.Plain.{plain_negation}
-use Rattle.sparse_base.specs.CooPlain.{plain_of_coo}
+use Rattle.sparse_coo_dense.specs.CooPlain.{plain_of_coo}
 use Rattle.sparse_expr.specs.InnerTransposed.{rows_or_transposed}
 use Rattle.sparse_expr.specs.Value.{value_of, Meets, one, sum_of, difference_of}
 use Rattle.sparse_expr.proofs.Values.{both_made}

@@ -1,6 +1,6 @@
 use Rattle.std.proofs.Common.{arith, ap, ◌∙◌}
 use Rattle.sparse_algebra.specs.Plain.{plain_product}
-use Rattle.sparse_cs.specs.PlainOfLanes.{plain_of_rows}
+use Rattle.sparse_compressed.specs.PlainOfLanes.{plain_of_rows}
 use Rattle.sparse_expr.proofs.Values.{product_met}
 use Rattle.sparse_expr.proofs.evaluate.multiply.Goals as goal
 

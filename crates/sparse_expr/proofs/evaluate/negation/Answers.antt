@@ -1,6 +1,6 @@
 use Rattle.std.proofs.Common.{ap, ◌∙◌, Ok}
 use Rattle.sparse_algebra.specs.Plain.{plain_negation}
-use Rattle.sparse_cs.specs.PlainOfLanes.{plain_of_rows}
+use Rattle.sparse_compressed.specs.PlainOfLanes.{plain_of_rows}
 use Rattle.sparse_expr.proofs.Values.{negation_met}
 use Rattle.sparse_expr.proofs.evaluate.negation.Goals as goal
 

@@ -1,6 +1,6 @@
 use Rattle.std.proofs.Common.{arith, ap, ◌∙◌}
 use Rattle.sparse_algebra.specs.Plain.{plain_sum}
-use Rattle.sparse_cs.specs.PlainOfLanes.{plain_of_rows}
+use Rattle.sparse_compressed.specs.PlainOfLanes.{plain_of_rows}
 use Rattle.sparse_expr.proofs.Values.{sum_met}
 use Rattle.sparse_expr.proofs.evaluate.sum.Goals as goal
 

@@ -1,7 +1,7 @@
 use Rattle.std.proofs.lemmas.Grind.{elements}
 use Rattle.std.proofs.Common.{◌-◌, subst, sym, get_or, arith}
 use Rattle.std.proofs.lemmas.Slice.Zip.{AllZip-long}
-use Rattle.sparse_base.specs.CooPlain.{plain_of_coo}
+use Rattle.sparse_coo_dense.specs.CooPlain.{plain_of_coo}
 use Rattle.sparse_expr.specs.InnerSources.{Provides}
 use Rattle.sparse_expr.proofs.Values.{input_met}
 use Rattle.sparse_expr.proofs.Joined.{AllZip-get, AllZip-set, index-below}

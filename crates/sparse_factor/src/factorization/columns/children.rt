@@ -13,7 +13,7 @@ ghost use Rattle.sparse_factor.specs.InnerTaken.{HasTaken};
 use super::Columns;
 use super::runs::skip_row;
 use super::taken::{Taken, sort_rows, take_tail};
-use sparse_base::steps::Steps;
+use sparse_coo_dense::steps::Steps;
 use sparse_pattern::counting::Count;
 use std::alloc::AllocError;
 

@@ -2,10 +2,10 @@ use Rattle.std.proofs.Common.{inr, ap, subst, ◌∙◌}
 use Rattle.std.proofs.lemmas.Result.{err_from_is_err_and}
 use Rattle.sparse_algebra.specs.Plain.{Plain, plain_transpose}
 use Rattle.sparse_algebra.specs.WrappingValues.{w64_value}
-use Rattle.sparse_base.specs.DensePlain.{plain_of_dense}
+use Rattle.sparse_coo_dense.specs.DensePlain.{plain_of_dense}
 use Rattle.sparse_c_views.specs.Arrays.{ring64}
 use Rattle.sparse_c_views.specs.Statuses.{refusal_of_operation}
-use Rattle.sparse_cs.specs.PlainOfLanes.{plain_of_cols}
+use Rattle.sparse_compressed.specs.PlainOfLanes.{plain_of_cols}
 use Rattle.sparse_handles.specs.Solved.{part_of, triangle_of}
 use Rattle.sparse_handles.specs.declared.solving.Triangle.TheVariants.{Lower}
 use Rattle.sparse_solve.specs.Solutions.{IsSingular, IsSolution}

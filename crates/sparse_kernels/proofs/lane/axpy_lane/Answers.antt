@@ -1,5 +1,5 @@
 use Rattle.std.proofs.Common.{get_or, ap, ◌∙◌}
-use Rattle.sparse_cs.proofs.LaneValues.{lane_value_is}
+use Rattle.sparse_compressed.proofs.LaneValues.{lane_value_is}
 use Rattle.sparse_kernels.proofs.lane.axpy_lane.Goals as goal
 
 pub returns-clause-added : goal.returns-clause-added

@@ -1,5 +1,5 @@
 use Rattle.std.proofs.Common.{◌∙◌}
-use Rattle.sparse_base.specs.CooEquality.{coo_eq-equiv}
+use Rattle.sparse_coo_dense.specs.CooEquality.{coo_eq-equiv}
 use Rattle.sparse_laws.proofs.data.coo_returns.Goals as goal
 
 pub returns-clause-equal : goal.returns-clause-equal

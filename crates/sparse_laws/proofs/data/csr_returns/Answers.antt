@@ -1,5 +1,5 @@
 use Rattle.std.proofs.Common.{◌∙◌}
-use Rattle.sparse_cs.specs.Laws.{compressed_eq-equiv}
+use Rattle.sparse_compressed.specs.Laws.{compressed_eq-equiv}
 use Rattle.sparse_laws.proofs.data.csr_returns.Goals as goal
 
 pub returns-clause-equal : goal.returns-clause-equal

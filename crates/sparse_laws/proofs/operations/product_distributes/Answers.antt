@@ -1,6 +1,6 @@
 use Rattle.std.proofs.Common.{sym, ◌∙◌}
 use Rattle.sparse_algebra.proofs.PlainLaws.{product-sum}
-use Rattle.sparse_cs.specs.PlainOfLanes.{plain_of_rows}
+use Rattle.sparse_compressed.specs.PlainOfLanes.{plain_of_rows}
 use Rattle.sparse_laws.proofs.operations.product_distributes.Goals as goal
 
 pub returns : goal.returns

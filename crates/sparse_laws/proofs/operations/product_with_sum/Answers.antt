@@ -1,6 +1,6 @@
 use Rattle.std.proofs.Common.{refl}
 use Rattle.sparse_algebra.specs.Plain.{plain_product}
-use Rattle.sparse_cs.specs.PlainOfLanes.{plain_of_rows}
+use Rattle.sparse_compressed.specs.PlainOfLanes.{plain_of_rows}
 use Rattle.sparse_laws.proofs.OkEquations.{ok_of_equals}
 use Rattle.sparse_laws.proofs.operations.product_with_sum.Goals as goal
 

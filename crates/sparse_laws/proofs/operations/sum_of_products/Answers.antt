@@ -1,5 +1,5 @@
 use Rattle.sparse_algebra.specs.Plain.{plain_sum}
-use Rattle.sparse_cs.specs.PlainOfLanes.{plain_of_rows}
+use Rattle.sparse_compressed.specs.PlainOfLanes.{plain_of_rows}
 use Rattle.sparse_laws.proofs.OkEquations.{ok_of_equals}
 use Rattle.sparse_laws.proofs.operations.sum_of_products.Goals as goal
 

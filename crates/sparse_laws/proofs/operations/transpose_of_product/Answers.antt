@@ -1,6 +1,6 @@
 use Rattle.std.proofs.Common.{sym, ◌∙◌}
 use Rattle.sparse_algebra.proofs.PlainLemmas.{transpose_product}
-use Rattle.sparse_cs.specs.PlainOfLanes.{plain_of_rows}
+use Rattle.sparse_compressed.specs.PlainOfLanes.{plain_of_rows}
 use Rattle.sparse_laws.proofs.operations.transpose_of_product.Goals as goal
 
 pub returns : goal.returns

@@ -2,7 +2,7 @@ use Rattle.std.proofs.Common.{inl, inr, ap, sym, subst, ◌∙◌, arith}
 use Rattle.std.specs.Prelude.{not}
 use Rattle.sparse_algebra.proofs.Cases.{lt_add_one_cases}
 use Rattle.sparse_pattern.specs.Raw.{Raw}
-use Rattle.sparse_cs.specs.PlainOfLanes.{plain_of_cols}
+use Rattle.sparse_compressed.specs.PlainOfLanes.{plain_of_cols}
 use Rattle.sparse_solve.specs.Solutions.{HasPivot}
 use Rattle.sparse_solve.specs.InnerColumns.{IsColumnBelow}
 use Rattle.sparse_solve.proofs.Pivots.{some_gives, none_gives, pivot_of}

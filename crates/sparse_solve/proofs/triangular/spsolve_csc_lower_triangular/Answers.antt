@@ -1,10 +1,10 @@
 use Rattle.std.proofs.Common.{◌<◌, ℕ, sym, refl, arith}
 use Rattle.sparse_algebra.specs.Operands.{inner_of}
-use Rattle.sparse_base.specs.DensePlain.{plain_of_dense}
-use Rattle.sparse_cs.specs.PlainOfLanes.{plain_of_cols}
+use Rattle.sparse_coo_dense.specs.DensePlain.{plain_of_dense}
+use Rattle.sparse_compressed.specs.PlainOfLanes.{plain_of_cols}
 use Rattle.sparse_solve.specs.Solutions.{plain_lower}
 use Rattle.sparse_solve.proofs.PlainSolutions.{op_solution}
-use Rattle.sparse_cs.proofs.Arrays.{proper_rows}
+use Rattle.sparse_compressed.proofs.Arrays.{proper_rows}
 use Rattle.sparse_solve.proofs.UniqueSolutions.{pivot_of_lower, lower_has_pivot, op_one_solution}
 use Rattle.sparse_solve.proofs.triangular.spsolve_csc_lower_triangular.Goals as goal
 

@@ -1,7 +1,7 @@
 use Rattle.std.proofs.Common.{◌≡◌, ap, ◌∙◌}
 use Rattle.sparse_pattern.specs.Raw.{Raw, raw_of}
-use Rattle.sparse_cs.specs.Compressed.{compressed_of}
-use Rattle.sparse_cs.specs.PlainOfLanes.{plain_of_rows}
+use Rattle.sparse_compressed.specs.Compressed.{compressed_of}
+use Rattle.sparse_compressed.specs.PlainOfLanes.{plain_of_rows}
 use Rattle.sparse_sums.proofs.add.merge.Goals as goal
 
 pub from_offset_and_indices_unchecked-pattern-requires :

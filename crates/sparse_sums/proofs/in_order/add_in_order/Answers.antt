@@ -1,7 +1,7 @@
 use Rattle.std.proofs.Common.{◌<◌, ap, arith}
 use Rattle.sparse_pattern.specs.Raw.{Raw}
 use Rattle.sparse_pattern.proofs.PatternLanes.{length-lane}
-use Rattle.sparse_cs.proofs.LaneSearch.{rising_lane}
+use Rattle.sparse_compressed.proofs.LaneSearch.{rising_lane}
 use Rattle.sparse_sums.proofs.InOrder.{added_more, lane_covered}
 use Rattle.sparse_sums.proofs.in_order.add_in_order.Goals as goal
 

@@ -1,7 +1,7 @@
 use Rattle.std.proofs.Common.{inl, inr, sym, subst, arith}
 use Rattle.sparse_algebra.proofs.Cases.{lt_add_one_cases}
 use Rattle.sparse_pattern.specs.Raw.{IsPlace}
-use Rattle.sparse_cs.proofs.LaneSearch.{rising_lane}
+use Rattle.sparse_compressed.proofs.LaneSearch.{rising_lane}
 use Rattle.sparse_sums.proofs.InOrder.{lane_covered}
 use Rattle.sparse_sums.proofs.in_order.covers_lanes.Goals as goal
 

@@ -2,7 +2,7 @@ use Rattle.std.proofs.Common.{not, eqb, ◌++◌, length, drop, Contains, ◌⊎
 use Rattle.std.proofs.Common.{arith}
 use borrow.Author.Rules.{scaled_fits≤}
 use Rattle.std.proofs.lemmas.List.{take_rest, length-drop}
-use Rattle.sparse_cs.specs.InnerRows.{lane_value}
+use Rattle.sparse_compressed.specs.InnerRows.{lane_value}
 use Rattle.sparse_sums.specs.InnerSigns.{signed}
 use Rattle.sparse_sums.specs.InnerAdding.{GainsValues, GainsEntries}
 use Rattle.sparse_sums.proofs.Adding.{rest_added}

@@ -1,6 +1,6 @@
 use Rattle.std.proofs.Common.{◌<◌, length, ap, ◌∙◌, refl, arith}
-use Rattle.sparse_cs.proofs.Arrays.{position_within}
-use Rattle.sparse_cs.specs.PlainOfLanes.{plain_of_rows}
+use Rattle.sparse_compressed.proofs.Arrays.{position_within}
+use Rattle.sparse_compressed.specs.PlainOfLanes.{plain_of_rows}
 use Rattle.sparse_algebra.specs.Prealloc.{plain_transpose_if}
 use Rattle.sparse_sums.proofs.prealloc.add_into.Goals as goal
 

@@ -2,9 +2,9 @@ use Rattle.std.proofs.lemmas.Grind.{common_steps}
 use Rattle.std.proofs.Common.{◌≡◌, ◌<◌, length, get_or, true, ap, refl, sym, ◌∙◌, None, Some, rules}
 use Rattle.std.proofs.Common.{arith}
 use Rattle.std.proofs.lemmas.List.{get_or_default}
-use Rattle.sparse_cs.specs.Compressed.{lane_triplets}
-use Rattle.sparse_cs.specs.StoredEntries.{place_of}
-use Rattle.sparse_cs.proofs.Inside.{lane_triplets-places}
+use Rattle.sparse_compressed.specs.Compressed.{lane_triplets}
+use Rattle.sparse_compressed.specs.StoredEntries.{place_of}
+use Rattle.sparse_compressed.proofs.Inside.{lane_triplets-places}
 use Rattle.sparse_sums.proofs.Placing.{missed, next_place, adding_more, all_added}
 use Rattle.sparse_sums.proofs.prealloc.add_transposed.Goals as goal
 

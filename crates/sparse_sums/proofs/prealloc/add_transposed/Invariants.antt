@@ -1,5 +1,5 @@
 use Rattle.std.proofs.Common.{true}
-use Rattle.sparse_cs.specs.Compressed.{lane_triplets}
+use Rattle.sparse_compressed.specs.Compressed.{lane_triplets}
 use Rattle.sparse_sums.proofs.Placing.{AreAdding}
 use Rattle.sparse_sums.proofs.prealloc.add_transposed.Given as goal
 

@@ -1,7 +1,7 @@
 use Rattle.std.proofs.Common.{◌≡◌, inl, true, sym, refl, ◌∙◌, None, Some, rules, arith}
 use Rattle.sparse_pattern.specs.Raw.{entries_of}
 use Rattle.sparse_pattern.proofs.LaneOrder.{entries_are_places}
-use Rattle.sparse_cs.specs.StoredEntries.{place_of}
+use Rattle.sparse_compressed.specs.StoredEntries.{place_of}
 use Rattle.sparse_sums.proofs.Placing.{missed, found_place, covered_more, all_covered}
 use Rattle.sparse_sums.proofs.Placing.{next_is_place, lane_of_place, later_places}
 use Rattle.sparse_sums.proofs.prealloc.covers_transposed.Goals as goal

@@ -1,5 +1,5 @@
 use Rattle.std.proofs.Common.{sym, ap, ◌∙◌}
-use Rattle.sparse_base.specs.CooPlain.{plain_of_coo}
+use Rattle.sparse_coo_dense.specs.CooPlain.{plain_of_coo}
 use Rattle.slow_programs.specs.InnerOperation.{plain_of_operation}
 use Rattle.slow_programs.proofs.Tabulated.{lists_more, lists_skipped}
 use Rattle.slow_programs.proofs.expressions.operation.push_row.Goals as goal

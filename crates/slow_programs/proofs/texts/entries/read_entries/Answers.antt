@@ -3,7 +3,8 @@ use Rattle.std.proofs.Common.{get_or}
 use Rattle.std.proofs.lemmas.List.{map-append}
 use Rattle.sparse_parser.specs.Meaning.{value_triplet, triplets_of}
 use Rattle.slow_programs.specs.InnerTexts.{texts, lines_in, both_of}
-use Rattle.slow_programs.proofs.TextEntries.{prefixed, line_read, line_refused, words_at, lines_long}
+use Rattle.slow_programs.proofs.TextEntries.{prefixed, line_read, line_refused}
+use Rattle.slow_programs.proofs.TextEntries.{words_at, lines_long}
 use Rattle.slow_programs.proofs.TextEntries.{none_left, left_from}
 use Rattle.slow_programs.proofs.texts.entries.read_entries.Goals as goal
 

@@ -2,7 +2,7 @@ use Rattle.std.proofs.Common.{◌≡◌, ℕ, ◌+◌, ◌*◌, ◌++◌, [], �
 use Rattle.std.proofs.Common.{◌∙◌, refl, arith}
 use Rattle.std.specs.List.{filter}
 use Rattle.sparse_pattern.specs.Raw.{raw_of, IsValid}
-use Rattle.sparse_cs.specs.Compressed.{compressed_of, arrays_of, lane_triplets}
+use Rattle.sparse_compressed.specs.Compressed.{compressed_of, arrays_of, lane_triplets}
 use Rattle.sparse_convert.specs.FromDense.{full_lanes, differs_from}
 use Rattle.sparse_convert.proofs.FullLanes.{kept_indices, kept_lane, rising_kept, bounded_kept}
 use Rattle.sparse_convert.proofs.LaneGrowth.{sound_grown, triplets_grown}

@@ -1,6 +1,6 @@
 use Rattle.std.proofs.Common.{◌≡◌, ◌+◌, ◌*◌, get_or}
 use Rattle.std.specs.List.{filter}
-use Rattle.sparse_cs.specs.Compressed.{arrays_of, IsSound, lane_triplets}
+use Rattle.sparse_compressed.specs.Compressed.{arrays_of, IsSound, lane_triplets}
 use Rattle.sparse_convert.specs.FromDense.{full_lanes, differs_from}
 use Rattle.sparse_convert.proofs.serial.from_dense.compress_lanes.Given as goal
 

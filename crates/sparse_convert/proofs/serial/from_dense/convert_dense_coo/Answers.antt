@@ -1,6 +1,6 @@
 use Rattle.std.proofs.Common.{◌≡◌, sym, map, get_or, length, ap, ◌∙◌}
 use Rattle.std.specs.List.{filter}
-use Rattle.sparse_base.specs.Coo.{coo_of, appended}
+use Rattle.sparse_coo_dense.specs.Coo.{coo_of, appended}
 use Rattle.sparse_algebra.specs.Plain.{below}
 use Rattle.sparse_convert.specs.FromDense.{differs_from}
 use Rattle.sparse_convert.proofs.FullLanes.{column_more, no_values}

@@ -1,7 +1,7 @@
 use Rattle.std.proofs.Common.{◌≡◌, map}
 use Rattle.std.specs.List.{filter, flat_map}
-use Rattle.sparse_base.specs.Coo.{coo_of}
-use Rattle.sparse_base.specs.Dense.{value_at}
+use Rattle.sparse_coo_dense.specs.Coo.{coo_of}
+use Rattle.sparse_coo_dense.specs.Dense.{value_at}
 use Rattle.sparse_algebra.specs.Plain.{below}
 use Rattle.sparse_convert.specs.FromDense.{differs_from}
 use Rattle.sparse_convert.proofs.serial.from_dense.convert_dense_coo.Given as goal

@@ -1,7 +1,7 @@
 use Rattle.std.proofs.Common.{ap, sym, ◌∙◌, subst}
-use Rattle.sparse_base.specs.DensePlain.{plain_of_dense}
+use Rattle.sparse_coo_dense.specs.DensePlain.{plain_of_dense}
 use Rattle.sparse_algebra.specs.Plain.{plain_of_triplets, plain_transpose}
-use Rattle.sparse_cs.specs.Compressed.{lane_triplets}
+use Rattle.sparse_compressed.specs.Compressed.{lane_triplets}
 use Rattle.sparse_convert.specs.FromDense.{IsNonzeroPart}
 use Rattle.sparse_convert.proofs.NonzeroParts.{triplets_part, rows_part, cols_part}
 use Rattle.sparse_convert.proofs.serial.from_dense.from_dense_law.Goals as goal

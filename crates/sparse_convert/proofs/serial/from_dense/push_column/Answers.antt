@@ -2,7 +2,7 @@ use Rattle.std.proofs.Common.{◌≡◌, ℕ, [], ◌∷◌, true, false, not, m
 use Rattle.std.proofs.Common.{◌∙◌, arith}
 use Rattle.std.specs.List.{filter}
 use Rattle.std.proofs.lemmas.List.{append-nil, get_or_default}
-use Rattle.sparse_base.specs.Coo.{appended}
+use Rattle.sparse_coo_dense.specs.Coo.{appended}
 use Rattle.sparse_algebra.specs.Plain.{below}
 use Rattle.sparse_convert.specs.FromDense.{differs_from}
 use Rattle.sparse_convert.proofs.FullLanes.{filter_map_next}

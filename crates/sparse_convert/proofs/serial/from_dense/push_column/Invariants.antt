@@ -1,6 +1,6 @@
 use Rattle.std.proofs.Common.{◌≡◌, map, get_or}
 use Rattle.std.specs.List.{filter}
-use Rattle.sparse_base.specs.Coo.{appended}
+use Rattle.sparse_coo_dense.specs.Coo.{appended}
 use Rattle.sparse_algebra.specs.Plain.{below}
 use Rattle.sparse_convert.specs.FromDense.{differs_from}
 use Rattle.sparse_convert.proofs.serial.from_dense.push_column.Given as goal

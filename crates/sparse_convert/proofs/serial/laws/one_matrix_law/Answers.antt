@@ -1,7 +1,7 @@
 use Rattle.std.proofs.Common.{ap, sym, ◌∙◌}
 use Rattle.sparse_algebra.specs.Plain.{plain_transpose}
-use Rattle.sparse_cs.proofs.Arrays.{equal_decides}
-use Rattle.sparse_cs.specs.Compressed.{lane_triplets}
+use Rattle.sparse_compressed.proofs.Arrays.{equal_decides}
+use Rattle.sparse_compressed.specs.Compressed.{lane_triplets}
 use Rattle.sparse_convert.specs.OneMatrix.{Triplets, Rows, Cols}
 use Rattle.sparse_convert.proofs.Reaching.{reached_same, reached_sound}
 use Rattle.sparse_convert.proofs.StoredTriplets.{plain_of_transposed_list}

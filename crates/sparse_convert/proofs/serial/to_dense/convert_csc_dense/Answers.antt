@@ -1,5 +1,5 @@
 use Rattle.std.proofs.Common.{◌≡◌, map, refl, rules}
-use Rattle.sparse_cs.specs.Compressed.{lane_triplets, transposed}
+use Rattle.sparse_compressed.specs.Compressed.{lane_triplets, transposed}
 use Rattle.sparse_convert.proofs.DenseWriting.{none_written, next_inside, one_written}
 use Rattle.sparse_convert.proofs.DenseValues.{replaced, cols_written, transposed_inside}
 use Rattle.sparse_convert.proofs.serial.to_dense.convert_csc_dense.Goals as goal

@@ -1,5 +1,5 @@
 use Rattle.std.proofs.Common.{map}
-use Rattle.sparse_cs.specs.Compressed.{lane_triplets, transposed}
+use Rattle.sparse_compressed.specs.Compressed.{lane_triplets, transposed}
 use Rattle.sparse_convert.proofs.DenseWriting.{IsWritten}
 use Rattle.sparse_convert.proofs.DenseValues.{replaced}
 use Rattle.sparse_convert.proofs.serial.to_dense.convert_csc_dense.Given as goal

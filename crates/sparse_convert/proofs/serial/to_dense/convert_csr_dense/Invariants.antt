@@ -1,4 +1,4 @@
-use Rattle.sparse_cs.specs.Compressed.{lane_triplets}
+use Rattle.sparse_compressed.specs.Compressed.{lane_triplets}
 use Rattle.sparse_convert.proofs.DenseWriting.{IsWritten}
 use Rattle.sparse_convert.proofs.DenseValues.{replaced}
 use Rattle.sparse_convert.proofs.serial.to_dense.convert_csr_dense.Given as goal

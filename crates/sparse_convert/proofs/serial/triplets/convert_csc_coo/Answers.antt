@@ -1,7 +1,7 @@
 use Rattle.std.proofs.Common.{ap}
-use Rattle.sparse_base.specs.Coo.{coo_of}
+use Rattle.sparse_coo_dense.specs.Coo.{coo_of}
 use Rattle.sparse_convert.proofs.StoredTriplets.{parts_by_cols, zip_of_transposed}
-use Rattle.sparse_cs.specs.Compressed.{lane_triplets}
+use Rattle.sparse_compressed.specs.Compressed.{lane_triplets}
 use Rattle.sparse_convert.proofs.serial.triplets.convert_csc_coo.Goals as goal
 
 pub coo_from_lists-requires : goal.coo_from_lists-requires

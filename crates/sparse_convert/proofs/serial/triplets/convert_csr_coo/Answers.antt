@@ -1,8 +1,8 @@
 use Rattle.std.proofs.Common.{ap}
-use Rattle.sparse_base.specs.Coo.{coo_of}
+use Rattle.sparse_coo_dense.specs.Coo.{coo_of}
 use Rattle.sparse_convert.proofs.Compressing.{zip_of_parts}
 use Rattle.sparse_convert.proofs.StoredTriplets.{parts_by_rows}
-use Rattle.sparse_cs.specs.Compressed.{lane_triplets}
+use Rattle.sparse_compressed.specs.Compressed.{lane_triplets}
 use Rattle.sparse_convert.proofs.serial.triplets.convert_csr_coo.Goals as goal
 
 pub coo_from_lists-requires : goal.coo_from_lists-requires

@@ -1,5 +1,6 @@
 mod ColumnReads
-use Rattle.std.proofs.Common.{◌≡◌, ℕ, ◌+◌, ◌<◌, ◌≤◌, ◌++◌, List, length, map, take, drop, slice_index}
+use Rattle.std.proofs.Common.{◌≡◌, ℕ, ◌+◌, ◌<◌, ◌≤◌, ◌++◌}
+use Rattle.std.proofs.Common.{List, length, map, take, drop, slice_index}
 use Rattle.std.proofs.Common.{inl, inr, set, slice_range, subst, sym, ap, ◌∙◌, refl, rules, arith}
 use Rattle.std.proofs.lemmas.Bool.{cases_eq}
 use Rattle.std.proofs.lemmas.Grind.{common_steps}
@@ -18,7 +19,8 @@ use Rattle.sparse_factor.proofs.MergedSteps.{taken_more, taken_within}
 use Rattle.sparse_factor.proofs.Taken.{none_taken, taken_later}
 use Rattle.sparse_factor.proofs.factorization.columns.merged_columns.Goals as goal
 use Rattle.sparse_factor.proofs.factorization.columns.merged_columns.Answers.ColumnReads.{base_within}
-use Rattle.sparse_factor.proofs.factorization.columns.merged_columns.Answers.ColumnReads.{own_base, taken_before}
+use Rattle.sparse_factor.proofs.factorization.columns.merged_columns.Answers.ColumnReads.{own_base}
+use Rattle.sparse_factor.proofs.factorization.columns.merged_columns.Answers.ColumnReads.{taken_before}
 use Rattle.sparse_factor.proofs.factorization.columns.merged_columns.Answers.ColumnReads.{first_read}
 use Rattle.sparse_factor.proofs.factorization.columns.merged_columns.Answers.ColumnReads.{column_gained}
 use Rattle.sparse_factor.proofs.factorization.columns.merged_columns.Answers.ColumnReads.{offsets_grown}

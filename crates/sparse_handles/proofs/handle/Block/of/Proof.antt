@@ -10,7 +10,8 @@ use contract.BorrowLft.{◌⊑◌}
 use contract.Monad.{fact, fact_i}
 use contract.Running.{tables}
 use prog.Wp.{WpFn}
-use types.Kit.{‵, raw, ◌⊛◌, some, later, prop, ◌$◌, ◌∵◌, !, qed, by, await, drop, feq_l, fjoin, fsplit, join, keep, move, pick, regoal, split, split3, use0, use1, use2}
+use types.Kit.{‵, raw, ◌⊛◌, some, later, prop, ◌$◌, ◌∵◌, !, qed, by, await, drop}
+use types.Kit.{feq_l, fjoin, fsplit, join, keep, move, pick, regoal, split, split3, use0, use1, use2}
 use types.Run.{and_then, enter, no_more, of_opd, returns}
 use types.ByLocal.{alloc_all, free_all, get, lands_as, look_at, pass_all, sets}
 use types.Part.{agg}
@@ -34,7 +35,8 @@ use Rattle.std_heap.proofs.GlobalAllocator.TheImpl.Met.{passed}
 use Rattle.std_heap.specs.contracts.GlobalAllocator.TheImpl.{ghosts, dict}
 use Rattle.sparse_handles.specs.Owned.{in_block}
 use Rattle.sparse_handles.proofs.HandleSteps.{word, block_good, block_in, pointer_good}
-use Rattle.sparse_handles.proofs.HeapBox.{drop_goes, heap_laws, heap_row, no_drop, static, Boxed, boxed}
+use Rattle.sparse_handles.proofs.HeapBox.{drop_goes, heap_laws, heap_row, no_drop}
+use Rattle.sparse_handles.proofs.HeapBox.{static, Boxed, boxed}
 use Rattle.sparse_handles.specs.contracts.handle.Block.of as f
 use Rattle.sparse_handles.specs.contracts.handle.Block.of.Key.{name as #self}
 use Rattle.sparse_handles.proofs.handle.Block.of.Statement.{statement}

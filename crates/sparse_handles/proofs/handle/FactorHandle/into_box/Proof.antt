@@ -15,8 +15,10 @@ use prog.Wp.{WpFn}
 use types.Logic.{Logic, sem}
 use types.Match.{live}
 use types.Tokens.{lft_new}
-use types.Kit.{‵, raw, ◌⊛◌, some, later, at_ret, ◌$◌, ◌∵◌, !, qed, await, by, drop, feq_i, feq_l, fjoin, fsplit, join, keep, move, pick, rewrite, split, use0, use1}
-use types.Run.{bin, lit, stop, fld, of_opd, no_more, and_then, first, blocks, skips, branches, exec, returns, returns_within, enter}
+use types.Kit.{‵, raw, ◌⊛◌, some, later, at_ret, ◌$◌, ◌∵◌, !, qed, await, by, drop}
+use types.Kit.{feq_i, feq_l, fjoin, fsplit, join, keep, move, pick, rewrite, split, use0, use1}
+use types.Run.{bin, lit, stop, fld, of_opd, no_more, and_then, first}
+use types.Run.{blocks, skips, branches, exec, returns, returns_within, enter}
 use types.ByLocal.{alloc_all, pass_all, free_all, look_at, get, get_in, lands_last, sets, env}
 use types.Part.{agg, sub, whole}
 use contract.BorrowLft.{◌⊑◌}
@@ -61,7 +63,8 @@ use Rattle.sparse_handles.proofs.handle.SharedFactors.TheLaws.{the_row_laws as s
 use Rattle.sparse_handles.specs.contracts.handle.SharedFactors.{the_row as shared_row}
 use Rattle.sparse_handles.proofs.FactorSteps.{word_good, handle_out}
 use Rattle.sparse_handles.proofs.HandleSteps.{word}
-use Rattle.sparse_handles.proofs.HeapBox.{drop_goes, heap_laws, heap_row, no_drop, passed_as, static, Boxed, boxed}
+use Rattle.sparse_handles.proofs.HeapBox.{drop_goes, heap_laws, heap_row, no_drop}
+use Rattle.sparse_handles.proofs.HeapBox.{passed_as, static, Boxed, boxed}
 use Rattle.sparse_handles.specs.contracts.handle.FactorHandle.{the_row as handle_row}
 use Rattle.sparse_handles.specs.contracts.handle.FactorHandle.into_box as f
 use Rattle.sparse_handles.proofs.handle.FactorHandle.into_box.Statement.{statement}

@@ -12,7 +12,7 @@ use Rattle.std.specs.Prelude.{Option, None, Some}
 use Rattle.std_alloc.proofs.SendSync.{quiet, lies}
 use Rattle.std_heap.proofs.GlobalAllocator.TheSendSync.{the_frees}
 use Rattle.sparse_algebra.specs.declared.scalar.wrapping.W64.{W64}
-use Rattle.sparse_cs.specs.Compressed.{Compressed}
+use Rattle.sparse_compressed.specs.Compressed.{Compressed}
 use Rattle.sparse_handles.proofs.handle.SharedMatrix.TheSendSync.{the_send as shared_send}
 use Rattle.sparse_handles.specs.Owned.{heap, owns_at}
 use Rattle.sparse_handles.specs.contracts.handle.MatrixHandle.{the_row, the_type}

@@ -4,7 +4,8 @@ use mir.Val.{Val}
 use base.Logic.{emp}
 use base.Fml.{ftrue}
 use prog.Wp.{WpFn}
-use types.Kit.{‵, raw, ◌⊛◌, prop, ◌$◌, ◌∵◌, !, qed, by, fjoin, fsplit, keep, move, regoal, split, use0}
+use types.Kit.{‵, raw, ◌⊛◌, prop, ◌$◌, ◌∵◌, !, qed}
+use types.Kit.{by, fjoin, fsplit, keep, move, regoal, split, use0}
 use types.Run.{stop, fld, of_opd, no_more, and_then, returns, enter}
 use types.ByLocal.{alloc_all, pass_all, free_all, look_at, get, get_in, sets}
 use types.Part.{agg, sub, whole}
@@ -18,7 +19,8 @@ use denote.Triple.Walked.{Stays, stay_dropped, walk_of, Goes-dropped}
 use Rattle.std.specs.declared.option.Option.TheVariants.{Some}
 use Rattle.std.proofs.raw_atomic.Walks.{proved_at, leaves}
 use Rattle.sparse_handles.specs.contracts.handle.SharedMatrix.{the_row as shared_row}
-use Rattle.sparse_handles.proofs.HandleSteps.{word, word_good, block_good, block_out, handle_in, pointer_good}
+use Rattle.sparse_handles.proofs.HandleSteps.{word, word_good, block_good}
+use Rattle.sparse_handles.proofs.HandleSteps.{block_out, handle_in, pointer_good}
 use Rattle.sparse_handles.specs.contracts.handle.Block as block
 use Rattle.sparse_handles.specs.contracts.handle.MatrixHandle.{the_row as handle_row}
 use Rattle.sparse_handles.specs.contracts.handle.MatrixHandle.of as f

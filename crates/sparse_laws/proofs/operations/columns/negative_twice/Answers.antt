@@ -1,6 +1,6 @@
 use Rattle.std.proofs.Common.{ap, ◌∙◌}
 use Rattle.sparse_algebra.specs.Plain.{plain_negation}
-use Rattle.sparse_cs.specs.PlainOfLanes.{plain_of_cols}
+use Rattle.sparse_compressed.specs.PlainOfLanes.{plain_of_cols}
 use Rattle.sparse_laws.proofs.OkEquations.{ok_further, negation_twice}
 use Rattle.sparse_laws.proofs.operations.columns.negative_twice.Goals as goal
 

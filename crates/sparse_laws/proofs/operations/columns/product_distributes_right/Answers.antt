@@ -1,6 +1,6 @@
 use Rattle.std.proofs.Common.{sym, ◌∙◌}
 use Rattle.sparse_algebra.proofs.PlainLaws.{sum-product}
-use Rattle.sparse_cs.specs.PlainOfLanes.{plain_of_cols}
+use Rattle.sparse_compressed.specs.PlainOfLanes.{plain_of_cols}
 use Rattle.sparse_laws.proofs.operations.columns.product_distributes_right.Goals as goal
 
 pub returns : goal.returns

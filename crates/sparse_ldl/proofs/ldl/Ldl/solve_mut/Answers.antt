@@ -1,5 +1,5 @@
 use Rattle.std.proofs.Common.{◌≡◌, ap, sym, subst, ◌∙◌, arith}
-use Rattle.sparse_base.specs.DensePlain.{plain_of_dense}
+use Rattle.sparse_coo_dense.specs.DensePlain.{plain_of_dense}
 use Rattle.sparse_kernels.specs.SparseVectors.{elements}
 use Rattle.sparse_solve.specs.Solutions.{IsSolution}
 use Rattle.sparse_ldl.specs.Factors.{plain_of_factors}

@@ -1,5 +1,5 @@
 use Rattle.std.proofs.Common.{get_or, ap, ◌∙◌}
-use Rattle.sparse_cs.specs.PlainOfLanes.{plain_of_cols}
+use Rattle.sparse_compressed.specs.PlainOfLanes.{plain_of_cols}
 use Rattle.sparse_ldl.proofs.RingFacts.{one_mul}
 use Rattle.sparse_ldl.proofs.ldl.columns.add_lane.Goals as goal
 

@@ -1,7 +1,8 @@
-use Rattle.std.proofs.Common.{◌≡◌, ◌+◌, ◌<◌, length, get_or, set, length-set, ap, sym, subst, ◌∙◌, arith}
+use Rattle.std.proofs.Common.{◌≡◌, ◌+◌, ◌<◌, length, get_or, set}
+use Rattle.std.proofs.Common.{length-set, ap, sym, subst, ◌∙◌, arith}
 use Rattle.std.proofs.lemmas.List.{get_or_default}
-use Rattle.sparse_cs.specs.Compressed.{compressed_of}
-use Rattle.sparse_cs.specs.PlainOfLanes.{plain_of_cols}
+use Rattle.sparse_compressed.specs.Compressed.{compressed_of}
+use Rattle.sparse_compressed.specs.PlainOfLanes.{plain_of_cols}
 use Rattle.sparse_pattern.specs.Raw.{IsPlace}
 use Rattle.sparse_kernels.specs.SparseVectors.{elements}
 use Rattle.sparse_algebra.specs.Inverses.{HasInverse}

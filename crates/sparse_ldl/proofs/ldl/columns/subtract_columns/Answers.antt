@@ -2,13 +2,14 @@ use Rattle.std.proofs.Common.{◌≡◌, ◌<◌, ◌+◌, length, get_or, slice
 use Rattle.std.proofs.Common.{subst}
 use Rattle.std.proofs.Common.{◌∙◌, refl, arith, length-set}
 use Rattle.std.proofs.lemmas.List.{get_or_default}
-use Rattle.sparse_cs.specs.PlainOfLanes.{plain_of_cols}
+use Rattle.sparse_compressed.specs.PlainOfLanes.{plain_of_cols}
 use Rattle.sparse_kernels.specs.SparseVectors.{AddsMultiple, sparse_elements}
 use Rattle.sparse_pattern.specs.Raw.{end_of}
 use Rattle.sparse_kernels.specs.SparseVectors.{elements}
 use Rattle.sparse_ldl.proofs.Cursors.{cursors_start, cursors_more}
 use Rattle.sparse_ldl.proofs.Left.{IsLeftAt, left_start, left_diagonal, left_end}
-use Rattle.sparse_ldl.proofs.RowEntries.{others_zero, entry_within, row_within, cut_rows, entry_above}
+use Rattle.sparse_ldl.proofs.RowEntries.{others_zero, entry_within, row_within}
+use Rattle.sparse_ldl.proofs.RowEntries.{cut_rows, entry_above}
 use Rattle.sparse_ldl.proofs.RowEntries.{entry_left}
 use Rattle.sparse_ldl.proofs.ldl.columns.subtract_columns.Goals.{then-k-j, else-k-j}
 use Rattle.sparse_ldl.proofs.ldl.columns.subtract_columns.Goals as goal

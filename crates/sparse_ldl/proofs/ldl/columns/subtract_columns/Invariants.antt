@@ -1,5 +1,5 @@
 use Rattle.std.proofs.Common.{◌≡◌, ◌<◌, ℕ, get_or, length}
-use Rattle.sparse_cs.specs.PlainOfLanes.{plain_of_cols}
+use Rattle.sparse_compressed.specs.PlainOfLanes.{plain_of_cols}
 use Rattle.sparse_kernels.specs.SparseVectors.{elements}
 use Rattle.sparse_ldl.proofs.Cursors.{AreCursorsAt}
 use Rattle.sparse_ldl.proofs.Left.{IsLeftAt}

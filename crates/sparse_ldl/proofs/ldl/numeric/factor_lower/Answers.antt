@@ -1,6 +1,6 @@
 use Rattle.std.proofs.Common.{◌≡◌, ◌<◌, ℕ, length, get_or, replicate, ap, subst, sym, ◌∙◌, arith}
 use Rattle.std.proofs.lemmas.List.{get_or-replicate, length-replicate}
-use Rattle.sparse_cs.specs.PlainOfLanes.{plain_of_cols}
+use Rattle.sparse_compressed.specs.PlainOfLanes.{plain_of_cols}
 use Rattle.sparse_ldl.specs.InnerColumns.{ArePartFactors}
 use Rattle.sparse_algebra.specs.declared.error.OperationErrorKind.TheVariants.{Singular}
 use Rattle.sparse_ldl.proofs.Results.{err_any}

@@ -1,5 +1,5 @@
 use Rattle.std.proofs.Common.{◌≡◌, ℕ, ap, sym, subst, ◌∙◌}
-use Rattle.sparse_cs.specs.PlainOfLanes.{plain_of_cols}
+use Rattle.sparse_compressed.specs.PlainOfLanes.{plain_of_cols}
 use Rattle.sparse_algebra.specs.declared.error.OperationErrorKind.TheVariants.{Singular}
 use Rattle.sparse_pattern.specs.TransposedPattern.{IsTransposedPattern}
 use Rattle.sparse_kernels.specs.SparseVectors.{elements}

@@ -1,10 +1,10 @@
 use Rattle.std.proofs.Common.{◌≡◌, ℕ, ap, ◌∙◌}
 use Rattle.std.specs.Prelude.{nat_le}
 use Rattle.sparse_algebra.specs.Plain.{plain_transpose}
-use Rattle.sparse_cs.specs.Compressed.{IsSound}
-use Rattle.sparse_cs.specs.PlainOfLanes.{plain_of_cols}
-use Rattle.sparse_cs.specs.TransposedMatrix.{IsTranspose}
-use Rattle.sparse_cs.proofs.MatrixTransposes.{plain_transposed}
+use Rattle.sparse_compressed.specs.Compressed.{IsSound}
+use Rattle.sparse_compressed.specs.PlainOfLanes.{plain_of_cols}
+use Rattle.sparse_compressed.specs.TransposedMatrix.{IsTranspose}
+use Rattle.sparse_compressed.proofs.MatrixTransposes.{plain_transposed}
 use Rattle.sparse_pattern.specs.Raw.{IsPlace}
 use Rattle.sparse_factor.specs.Fill.{UpperBase}
 use Rattle.sparse_ldl.specs.Factorisations.{plain_upper}

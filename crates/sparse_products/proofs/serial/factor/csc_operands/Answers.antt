@@ -2,7 +2,7 @@ use Rattle.std.proofs.Common.{ap, sym, ◌∙◌}
 use Rattle.sparse_algebra.specs.Plain.{Plain, plain_transpose}
 use Rattle.sparse_algebra.proofs.PlainLemmas.{transpose_product}
 use Rattle.sparse_algebra.proofs.PlainLaws.{transpose_twice}
-use Rattle.sparse_cs.specs.PlainOfLanes.{plain_of_rows}
+use Rattle.sparse_compressed.specs.PlainOfLanes.{plain_of_rows}
 use Rattle.sparse_products.specs.InnerFactors.{matrix_of}
 use Rattle.sparse_products.proofs.Updating.{product_same}
 use Rattle.sparse_products.proofs.serial.factor.csc_operands.Goals as goal

@@ -1,6 +1,6 @@
 use Rattle.std.proofs.Common.{ap, ◌∙◌}
 use Rattle.sparse_algebra.specs.Plain.{plain_transpose}
-use Rattle.sparse_cs.specs.PlainOfLanes.{plain_of_cols}
+use Rattle.sparse_compressed.specs.PlainOfLanes.{plain_of_cols}
 use Rattle.sparse_products.proofs.serial.factor.transposed_csc.Goals as goal
 
 pub returns : goal.returns

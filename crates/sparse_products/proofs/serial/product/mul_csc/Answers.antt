@@ -1,7 +1,7 @@
 use Rattle.std.proofs.Common.{ap, ◌∙◌, sym}
 use Rattle.sparse_algebra.specs.Plain.{plain_transpose}
 use Rattle.sparse_algebra.proofs.PlainLemmas.{transpose_product}
-use Rattle.sparse_cs.specs.PlainOfLanes.{plain_of_rows, plain_of_cols}
+use Rattle.sparse_compressed.specs.PlainOfLanes.{plain_of_rows, plain_of_cols}
 use Rattle.sparse_products.proofs.serial.product.mul_csc.Goals as goal
 
 pub returns : goal.returns

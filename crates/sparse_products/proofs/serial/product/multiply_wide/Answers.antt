@@ -2,8 +2,8 @@ use Rattle.std.proofs.lemmas.Grind.{common_steps}
 use Rattle.std.proofs.Common.{◌≡◌, length, ap, sym, ◌∙◌, arith}
 use Rattle.std.proofs.lemmas.List.{take_at}
 use Rattle.sparse_pattern.specs.Raw.{Raw}
-use Rattle.sparse_cs.specs.Compressed.{IsSound, compressed_of}
-use Rattle.sparse_cs.specs.PlainOfLanes.{plain_of_rows}
+use Rattle.sparse_compressed.specs.Compressed.{IsSound, compressed_of}
+use Rattle.sparse_compressed.specs.PlainOfLanes.{plain_of_rows}
 use Rattle.sparse_products.specs.InnerUpdates.{CanUpdate}
 use Rattle.sparse_products.specs.Products.{IsProductOf}
 use Rattle.sparse_products.proofs.MadeProducts.{has_places, product_made}

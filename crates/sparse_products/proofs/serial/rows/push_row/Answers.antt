@@ -1,5 +1,6 @@
 use Rattle.std.proofs.lemmas.Grind.{common_steps}
-use Rattle.std.proofs.Common.{◌≡◌, ◌<◌, ℕ, ◌∷◌, [], ◌++◌, length, get_or, drop, ap, ◌∙◌, refl, arith}
+use Rattle.std.proofs.Common.{◌≡◌, ◌<◌, ℕ, ◌∷◌, [], ◌++◌, length}
+use Rattle.std.proofs.Common.{get_or, drop, ap, ◌∙◌, refl, arith}
 use Rattle.std.proofs.lemmas.List.{drop_at}
 use Rattle.std.proofs.lemmas.List.Elements.{Contains-get_or}
 use Rattle.sparse_pattern.specs.InnerGainedLanes.{GainsLane}

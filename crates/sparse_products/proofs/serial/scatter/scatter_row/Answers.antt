@@ -9,7 +9,7 @@ use Rattle.sparse_pattern.specs.Raw.{start_of, end_of, lane_of}
 use Rattle.sparse_pattern.proofs.BuiltLanes.{place_within}
 use Rattle.sparse_pattern.proofs.LaneLists.{lane_has}
 use Rattle.sparse_pattern.proofs.PatternLanes.{length-lane, get_or-lane}
-use Rattle.sparse_cs.proofs.LaneSearch.{rising_lane}
+use Rattle.sparse_compressed.proofs.LaneSearch.{rising_lane}
 use Rattle.sparse_products.specs.InnerFactors.{product_of}
 use Rattle.sparse_products.proofs.LaneParts.{in_part, off_part}
 use Rattle.sparse_products.proofs.ProductLanes.{lane_below}

@@ -1,5 +1,5 @@
 use Rattle.std.proofs.Common.{◌≡◌, ◌<◌, length, ◌∙◌, ap, arith}
-use Rattle.sparse_cs.proofs.Arrays.{position_within}
+use Rattle.sparse_compressed.proofs.Arrays.{position_within}
 use Rattle.sparse_products.specs.InnerFactors.{product_of}
 use Rattle.sparse_products.proofs.CoveredLanes.{places_of_product}
 use Rattle.sparse_products.proofs.ProductSums.{all_steps, no_steps}

@@ -6,12 +6,13 @@ use Rattle.std.proofs.lemmas.Slice.Zip.{zip_turn, zip_end}
 use Rattle.sparse_algebra.specs.Sums.{where_true}
 use Rattle.sparse_pattern.specs.Raw.{lane_of, IsPlace}
 use Rattle.sparse_pattern.proofs.LaneLists.{lane_has}
-use Rattle.sparse_cs.specs.InnerRows.{lane_value}
-use Rattle.sparse_cs.specs.PlainOfLanes.{plain_of_rows}
-use Rattle.sparse_cs.proofs.LaneValues.{values_of, length-values, lane_value_is}
-use Rattle.sparse_cs.proofs.RowSums.{sum_zip_more}
+use Rattle.sparse_compressed.specs.InnerRows.{lane_value}
+use Rattle.sparse_compressed.specs.PlainOfLanes.{plain_of_rows}
+use Rattle.sparse_compressed.proofs.LaneValues.{values_of, length-values, lane_value_is}
+use Rattle.sparse_compressed.proofs.RowSums.{sum_zip_more}
 use Rattle.sparse_sums.proofs.Merging.{more}
-use Rattle.sparse_products.proofs.Walks.{added_none, added_then, added_same, entry_added, noted_none}
+use Rattle.sparse_products.proofs.Walks.{added_none, added_then, added_same}
+use Rattle.sparse_products.proofs.Walks.{entry_added, noted_none}
 use Rattle.sparse_products.proofs.Walks.{noted_then, noted_same}
 use Rattle.sparse_products.proofs.serial.walk.add_matrix_row.Goals as goal
 

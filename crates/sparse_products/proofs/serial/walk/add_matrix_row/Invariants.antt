@@ -1,7 +1,7 @@
 use Rattle.std.proofs.Common.{◌≡◌, ◌+◌, length, take, Contains}
 use Rattle.sparse_pattern.specs.Raw.{lane_of}
-use Rattle.sparse_cs.specs.InnerRows.{lane_value}
-use Rattle.sparse_cs.proofs.LaneValues.{values_of}
+use Rattle.sparse_compressed.specs.InnerRows.{lane_value}
+use Rattle.sparse_compressed.proofs.LaneValues.{values_of}
 use Rattle.sparse_products.specs.InnerWalks.{AreAdded, AreNoted}
 use Rattle.sparse_products.proofs.serial.walk.add_matrix_row.Given as goal
 

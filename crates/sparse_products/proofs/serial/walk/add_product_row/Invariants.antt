@@ -2,8 +2,8 @@ use Rattle.std.proofs.Common.{◌≡◌, ◌+◌, length, take}
 use Rattle.std.specs.Prelude.{zip}
 use Rattle.sparse_pattern.specs.Raw.{start_of, lane_of}
 use Rattle.sparse_algebra.specs.Sums.{sum_by}
-use Rattle.sparse_cs.specs.PlainOfLanes.{plain_of_rows}
-use Rattle.sparse_cs.proofs.LaneValues.{values_of}
+use Rattle.sparse_compressed.specs.PlainOfLanes.{plain_of_rows}
+use Rattle.sparse_compressed.proofs.LaneValues.{values_of}
 use Rattle.sparse_products.specs.InnerProducts.{IsInLanes}
 use Rattle.sparse_products.specs.InnerUpdates.{triples_below}
 use Rattle.sparse_products.specs.InnerWalks.{AreAdded, AreNoted}

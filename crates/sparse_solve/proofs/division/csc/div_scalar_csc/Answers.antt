@@ -1,6 +1,6 @@
 use Rattle.std.proofs.Common.{◌∙◌, ap}
 use Rattle.sparse_algebra.specs.Plain.{plain_scaled}
-use Rattle.sparse_cs.specs.PlainOfLanes.{plain_of_cols}
+use Rattle.sparse_compressed.specs.PlainOfLanes.{plain_of_cols}
 use Rattle.sparse_solve.proofs.division.csc.div_scalar_csc.Goals as goal
 
 pub returns-clause-quotient : goal.returns-clause-quotient

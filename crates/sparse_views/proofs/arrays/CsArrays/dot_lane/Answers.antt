@@ -1,5 +1,5 @@
 use Rattle.std.proofs.Common.{◌∙◌}
-use Rattle.sparse_cs.proofs.LaneValues.{row_sum}
+use Rattle.sparse_compressed.proofs.LaneValues.{row_sum}
 use Rattle.sparse_kernels.specs.SparseVectors.{elements}
 use Rattle.sparse_views.proofs.arrays.CsArrays.dot_lane.Goals as goal
 

@@ -6,9 +6,9 @@ use Rattle.sparse_pattern.specs.Raw.{start_of, end_of, lane_of}
 use Rattle.sparse_pattern.specs.declared.entry.SparseEntry.{SparseEntry}
 use Rattle.sparse_pattern.specs.declared.entry.SparseEntry.TheVariants.{NonZero, Zero}
 use Rattle.sparse_pattern.proofs.PatternLanes.{length-lane}
-use Rattle.sparse_cs.specs.Compressed.{Compressed, IsSound}
-use Rattle.sparse_cs.specs.Lanes.{lane_at, IsLaneEntryAt}
-use Rattle.sparse_cs.specs.StoredEntries.{IsEntryAt}
+use Rattle.sparse_compressed.specs.Compressed.{Compressed, IsSound}
+use Rattle.sparse_compressed.specs.Lanes.{lane_at, IsLaneEntryAt}
+use Rattle.sparse_compressed.specs.StoredEntries.{IsEntryAt}
 use Rattle.sparse_views.proofs.arrays.CsArrays.index_entry.Goals as goal
 
 -- the entry of lane i at j is the matrix's at (i, j)

@@ -1,4 +1,4 @@
-use Rattle.sparse_base.proofs.TripletLists.{cols_back, parts_inside}
+use Rattle.sparse_coo_dense.proofs.TripletLists.{cols_back, parts_inside}
 use Rattle.sparse_views.proofs.coo.CooView.col_indices.Goals as goal
 
 pub returns-clause-cols : goal.returns-clause-cols

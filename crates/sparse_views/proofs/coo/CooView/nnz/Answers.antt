@@ -1,5 +1,5 @@
 use Rattle.std.proofs.Common.{sym}
-use Rattle.sparse_base.proofs.TripletLists.{length-triplets}
+use Rattle.sparse_coo_dense.proofs.TripletLists.{length-triplets}
 use Rattle.sparse_views.proofs.coo.CooView.nnz.Goals as goal
 
 pub returns : goal.returns

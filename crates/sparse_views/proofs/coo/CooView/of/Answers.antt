@@ -1,4 +1,4 @@
-use Rattle.sparse_base.proofs.CooParts.{coo-split, parts-split}
+use Rattle.sparse_coo_dense.proofs.CooParts.{coo-split, parts-split}
 use Rattle.sparse_views.proofs.coo.CooView.of.Goals as goal
 
 pub invariant_of-result : goal.invariant_of-result

@@ -1,4 +1,4 @@
-use Rattle.sparse_base.proofs.TripletLists.{rows_back, parts_inside}
+use Rattle.sparse_coo_dense.proofs.TripletLists.{rows_back, parts_inside}
 use Rattle.sparse_views.proofs.coo.CooView.row_indices.Goals as goal
 
 pub returns-clause-rows : goal.returns-clause-rows

@@ -1,4 +1,4 @@
-use Rattle.sparse_base.proofs.TripletLists.{values_back}
+use Rattle.sparse_coo_dense.proofs.TripletLists.{values_back}
 use Rattle.sparse_views.proofs.coo.CooView.values.Goals as goal
 
 pub returns : goal.returns

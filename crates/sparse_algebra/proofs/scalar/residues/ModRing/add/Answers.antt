@@ -1,7 +1,8 @@
 use Rattle.std.proofs.Common.{◌-◌, ◌≤◌, ap, ◌∙◌, arith}
 use Rattle.sparse_algebra.specs.Moduli.{modulus, mod_class}
 use Rattle.sparse_algebra.proofs.ModClasses.{mod_class_add, mod_class_over}
-use Rattle.sparse_algebra.proofs.scalar.residues.ModRing.add.Goals.{then-other-room, else-other-room}
+use Rattle.sparse_algebra.proofs.scalar.residues.ModRing.add.Goals.{then-other-room}
+use Rattle.sparse_algebra.proofs.scalar.residues.ModRing.add.Goals.{else-other-room}
 use Rattle.sparse_algebra.proofs.scalar.residues.ModRing.add.Goals as goal
 
 pub returns : goal.returns

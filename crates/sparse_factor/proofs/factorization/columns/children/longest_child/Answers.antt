@@ -4,7 +4,8 @@ use Rattle.sparse_factor.proofs.Children.{link_at, column_run}
 use Rattle.sparse_factor.proofs.factorization.columns.children.longest_child.Given.{Over}
 use Rattle.sparse_factor.proofs.factorization.columns.children.longest_child.Goals as goal
 use Rattle.sparse_factor.proofs.factorization.columns.children.longest_child.Goals.{After-get-head}
-use Rattle.sparse_factor.proofs.factorization.columns.children.longest_child.Goals.{then-most-places, else-most-places}
+use Rattle.sparse_factor.proofs.factorization.columns.children.longest_child.Goals.{then-most-places}
+use Rattle.sparse_factor.proofs.factorization.columns.children.longest_child.Goals.{else-most-places}
 
 pub loop-head-init : goal.loop-head-init
 loop-head-init g c = record {

@@ -3,7 +3,8 @@ use Rattle.sparse_factor.proofs.Children.{number_at, reach_none}
 use Rattle.sparse_factor.proofs.Gathered.{none_gathered, longest_past, tail_taken, tail_gathered}
 use Rattle.sparse_factor.proofs.Taken.{taken_into}
 use Rattle.sparse_factor.proofs.factorization.columns.children.take_tails.Goals as goal
-use Rattle.sparse_factor.proofs.factorization.columns.children.take_tails.Goals.{then-head-longest+in_ok-take_tail_of, else-head-longest}
+use Rattle.sparse_factor.proofs.factorization.columns.children.take_tails.Goals.{then-head-longest+in_ok-take_tail_of}
+use Rattle.sparse_factor.proofs.factorization.columns.children.take_tails.Goals.{else-head-longest}
 
 pub loop-head-init : goal.loop-head-init
 loop-head-init g c = record {

@@ -1,5 +1,5 @@
 use Rattle.std.proofs.Common.{sym, ◌∙◌}
-use Rattle.sparse_cs.proofs.LaneSearch.{place_of_is_position}
+use Rattle.sparse_compressed.proofs.LaneSearch.{place_of_is_position}
 use Rattle.sparse_sums.proofs.Placing.{missed}
 use Rattle.sparse_products.proofs.serial.search.LaneSlotsSlots.slot_of.Goals as goal
 

@@ -1,0 +1,59 @@
+-- Values that are changed where they stand, in plain matrices.
+use Rattle.std.proofs.Common.{◌≡◌, ℕ, ◌<◌, List, length, get_or, ap, sym, ◌∙◌, refl, arith}
+use Rattle.std.proofs.lemmas.List.{get_or_default}
+use Rattle.sparse_algebra.specs.Algebra.{CommRing}
+use Rattle.sparse_algebra.specs.Plain.{plain_negation, plain_scaled}
+use Rattle.sparse_algebra.proofs.RingLemmas.{mul_zero, neg_unique}
+use Rattle.sparse_compressed.specs.ChangedValues.{AreChanged}
+use Rattle.sparse_compressed.specs.Compressed.{Compressed, compressed_of, IsPosition, IsSound}
+use Rattle.sparse_compressed.specs.PlainOfLanes.{plain_of_rows}
+use Rattle.sparse_compressed.proofs.Arrays.{position_within}
+use Rattle.sparse_compressed.proofs.Standing.{rows_have, rows_are}
+
+module _ (R : CommRing) {T : Type 0} (f : T → R.Carrier) where
+  neg_zero : R.neg R.zero ≡ R.zero
+  neg_zero = sym (neg_unique R R.zero R.zero (R.laws.add_zero R.zero))
+
+  module _ (z : T) (m : Compressed T) (ws : List T) (sound : IsSound m) where
+    abbrev now : Compressed T
+    now = compressed_of m.pattern ws
+
+    pub changed_sound : (g : R.Carrier → R.Carrier) → AreChanged f g z m.values ws → IsSound now
+    changed_sound g h = record { valid = sound.valid; count = h.count ∙ sound.count }
+
+    -- the value of a position
+    changed_at : (g : R.Carrier → R.Carrier) → AreChanged f g z m.values ws → (i j p : ℕ) (y : T)
+        → IsPosition m.pattern i j p → f (get_or ws p y) ≡ g ((plain_of_rows R f m).value i j)
+    changed_at g h i j p y at =
+        let within : p < length m.values = omega
+        (arith, position_within m.pattern sound.valid i j p at, sound.count) in
+        ap f (get_or_default ws p y z (omega (arith, h.count))) ∙ h.each p within
+        ∙ ap g ((rows_have R f m sound).values i j p z at)
+
+    pub negated : AreChanged f R.neg z m.values ws
+        → plain_of_rows R f now ≡ plain_negation R (plain_of_rows R f m)
+    negated h =
+        let was = rows_have R f m sound in
+        rows_are R f now (changed_sound R.neg h) z (plain_negation R (plain_of_rows R f m))
+        (record {
+          rows = refl;
+          cols = refl;
+          places = was.places;
+          values = changed_at R.neg h;
+          within = was.within;
+          proper = λ i j no. ap R.neg (was.proper i j no) ∙ neg_zero;
+        })
+
+    pub scaled : (s : R.Carrier) → AreChanged f (R.mul s) z m.values ws
+        → plain_of_rows R f now ≡ plain_scaled R s (plain_of_rows R f m)
+    scaled s h =
+        let was = rows_have R f m sound in
+        rows_are R f now (changed_sound (R.mul s) h) z (plain_scaled R s (plain_of_rows R f m))
+        (record {
+          rows = refl;
+          cols = refl;
+          places = was.places;
+          values = changed_at (R.mul s) h;
+          within = was.within;
+          proper = λ i j no. ap (R.mul s) (was.proper i j no) ∙ mul_zero R s;
+        })

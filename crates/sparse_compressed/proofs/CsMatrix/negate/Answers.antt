@@ -1,0 +1,36 @@
+use Rattle.std.proofs.Common.{length, drop, ap, ◌∙◌, subst}
+use Rattle.std.proofs.lemmas.List.{take_at}
+use Rattle.sparse_algebra.specs.Plain.{plain_negation}
+use Rattle.sparse_compressed.specs.ChangedValues.{AreChanged}
+use Rattle.sparse_compressed.specs.Compressed.{compressed_of}
+use Rattle.sparse_compressed.specs.PlainOfLanes.{plain_of_rows}
+use Rattle.sparse_compressed.proofs.ChangedPlain.{negated}
+use Rattle.sparse_compressed.proofs.CsMatrix.negate.Goals as goal
+
+pub returns-clause-values : goal.returns-clause-values
+returns-clause-values g c =
+    let R = g.T.Ring.ring in
+    let f = g.T.Ring.value in
+    let z = g.T.Zero.zero_value in
+    let new = c.negate_values.new.values in
+    let old = compressed_of c.self.inside.sparsity_pattern c.self.inside.values.items in
+    let changed = subst (λ vs. AreChanged f R.neg z vs new) c.deref_mut.ensures.value
+    c.negate_values.ensures in
+    let whole = take_at new _ _ (c.negate_values.auto.values ∙ c.deref_mut.ensures.len) in
+    ap (λ vs. plain_of_rows R f (compressed_of c.self.inside.sparsity_pattern vs)) whole
+    ∙ negated R f z old new c.self.invariant changed
+    ∙ ap (λ m. plain_negation R (plain_of_rows R f m)) c.self.view_is
+
+pub invariant_of-self : goal.invariant_of-self
+invariant_of-self g c =
+    let new = c.negate_values.new.values in
+    let whole = take_at new (drop (length new) c.self.inside.values.items) _
+    (c.negate_values.auto.values ∙ c.deref_mut.ensures.len) in
+    rw whole record {
+      valid = c.self.invariant.valid;
+      count = c.negate_values.auto.values ∙ ap length c.deref_mut.ensures.value
+          ∙ c.self.invariant.count;
+    }
+
+pub returns-clause-sound : goal.returns-clause-sound
+returns-clause-sound g c = invariant_of-self g c

@@ -1,0 +1,99 @@
+-- The faults of arrays whose lanes need not be sorted, and their order.
+use Rattle.std.specs.Prelude.{◌≡◌, ◌≢◌, ℕ, ◌+◌, ◌<◌, ◌≤◌, ◌⊎◌, List, Any, length, slice_index}
+use Rattle.std.specs.List.Sorted.{IsPermutation}
+use Rattle.sparse_pattern.specs.Raw.{start_of, end_of, lane_of}
+use Rattle.sparse_pattern.specs.FirstFault.{IsFirst}
+use Rattle.sparse_pattern.specs.declared.error.SparseFormatErrorKind.{SparseFormatErrorKind}
+use Rattle.sparse_pattern.specs.declared.error.SparseFormatErrorKind.TheVariants.{IndexOutOfBounds}
+use Rattle.sparse_pattern.specs.declared.error.SparseFormatErrorKind.TheVariants.{DuplicateEntry}
+use Rattle.sparse_pattern.specs.declared.error.SparseFormatErrorKind.TheVariants.{InvalidStructure}
+use Rattle.sparse_compressed.specs.Compressed.{Compressed, IsSound, lane_triplets}
+
+-- where a fault can occur: the number of values, no offset, the number of offsets, the first and
+-- the last offset, and for each lane its
+-- end before its start, its end past the indices, the bounds of its indices, and an index that
+-- occurs twice
+pub data UnsortedSpot : Type 0 where
+  ValueCount : UnsortedSpot
+  NoOffsets : UnsortedSpot
+  OffsetCount : UnsortedSpot
+  FirstLast : UnsortedSpot
+  LaneFall : ℕ → UnsortedSpot
+  LaneEnd : ℕ → UnsortedSpot
+  LaneBounds : ℕ → UnsortedSpot
+  LaneRepeat : ℕ → UnsortedSpot
+
+-- two positions of the list have the same number
+pub record HasRepeat (xs : List ℕ) : Type 0 where
+  pub one : ℕ
+  pub other : ℕ
+  pub apart : one < other
+  pub within : other < length xs
+  pub same : slice_index xs one ≡ slice_index xs other
+
+-- the order of faults: lane by lane, and within a lane in the order of the list above
+abbrev pub unsorted_rank : UnsortedSpot → ℕ × ℕ × ℕ
+unsorted_rank ValueCount = (0, 0, 0)
+unsorted_rank NoOffsets = (1, 0, 0)
+unsorted_rank OffsetCount = (2, 0, 0)
+unsorted_rank FirstLast = (3, 0, 0)
+unsorted_rank (LaneFall i) = (i + 4, 0, 0)
+unsorted_rank (LaneEnd i) = (i + 4, 1, 0)
+unsorted_rank (LaneBounds i) = (i + 4, 2, 0)
+unsorted_rank (LaneRepeat i) = (i + 4, 3, 0)
+
+-- the kind of the error for a fault here
+abbrev pub unsorted_kind : UnsortedSpot → SparseFormatErrorKind
+unsorted_kind ValueCount = InvalidStructure
+unsorted_kind NoOffsets = InvalidStructure
+unsorted_kind OffsetCount = InvalidStructure
+unsorted_kind FirstLast = InvalidStructure
+unsorted_kind (LaneFall i) = InvalidStructure
+unsorted_kind (LaneEnd i) = IndexOutOfBounds
+unsorted_kind (LaneBounds i) = IndexOutOfBounds
+unsorted_kind (LaneRepeat i) = DuplicateEntry
+
+module _ {T : Type 0} where
+  -- the arrays have a fault here
+  abbrev pub HasUnsortedFault : Compressed T → UnsortedSpot → Type 0
+  HasUnsortedFault m ValueCount = length m.values ≢ length m.pattern.indices
+  HasUnsortedFault m NoOffsets = length m.pattern.offsets ≡ 0
+  HasUnsortedFault m OffsetCount = length m.pattern.offsets ≢ m.pattern.major_dim + 1
+  HasUnsortedFault m FirstLast = (slice_index m.pattern.offsets 0 ≢ 0)
+      ⊎ (slice_index m.pattern.offsets m.pattern.major_dim ≢ length m.pattern.indices)
+  HasUnsortedFault m (LaneFall i) = (i < m.pattern.major_dim)
+      × (end_of m.pattern i < start_of m.pattern i)
+  HasUnsortedFault m (LaneEnd i) = (i < m.pattern.major_dim)
+      × (length m.pattern.indices < end_of m.pattern i)
+  HasUnsortedFault m (LaneBounds i) = (i < m.pattern.major_dim)
+      × Any (λ j. m.pattern.minor_dim ≤ j) (lane_of m.pattern i)
+  HasUnsortedFault m (LaneRepeat i) = (i < m.pattern.major_dim) × HasRepeat (lane_of m.pattern i)
+
+  abbrev pub IsFaultless : Compressed T → Type 0
+  IsFaultless m = (s : UnsortedSpot) → HasUnsortedFault m s → ⊥
+
+  -- the number of values and the offsets as a whole have no fault
+  pub record HasFineCounts (m : Compressed T) : Type 0 where
+    pub values : length m.values ≡ length m.pattern.indices
+    pub offsets : length m.pattern.offsets ≡ m.pattern.major_dim + 1
+    pub first : slice_index m.pattern.offsets 0 ≡ 0
+    pub last : slice_index m.pattern.offsets m.pattern.major_dim ≡ length m.pattern.indices
+
+  -- some lane of the arrays must be sorted
+  abbrev pub NeedsSorting : Compressed T → Type 0
+  NeedsSorting m = HasFineCounts m × ¬ IsSound m
+
+  -- the first fault of the arrays gives an error of this kind
+  pub record IsUnsortedRefusal (m : Compressed T) (kind : SparseFormatErrorKind) : Type 0 where
+    pub spot : UnsortedSpot
+    pub first : IsFirst unsorted_rank (HasUnsortedFault m) spot
+    pub is : kind ≡ unsorted_kind spot
+
+  -- sound, with the shape and the offsets of the given arrays and their triplets, those of each
+  -- lane in increasing order
+  pub record IsSortedForm (given m : Compressed T) : Type 0 where
+    pub sound : IsSound m
+    pub major_dim : m.pattern.major_dim ≡ given.pattern.major_dim
+    pub minor_dim : m.pattern.minor_dim ≡ given.pattern.minor_dim
+    pub offsets : m.pattern.offsets ≡ given.pattern.offsets
+    pub triplets : IsPermutation (lane_triplets given) (lane_triplets m)

@@ -1,0 +1,10 @@
+-- written by tools/answer-goals
+use Rattle.std.proofs.Common.{arith}
+use Rattle.std.proofs.lemmas.Grind.{common_steps}
+use Rattle.sparse_coo_dense.proofs.dense.DMatrix.column_mut.Goals as goal
+
+pub returns : goal.returns
+returns g c = grind (arith, common_steps)
+
+pub invariant_of-self-lent : goal.invariant_of-self-lent
+invariant_of-self-lent g c = grind (arith, common_steps)

@@ -1,4 +1,0 @@
-use Rattle.sparse_cs.proofs.CsMatrix.try_from_pattern_and_values.Goals as goal
-
-pub from_pattern_and_values-requires : goal.from_pattern_and_values-requires
-from_pattern_and_values-requires g c = search

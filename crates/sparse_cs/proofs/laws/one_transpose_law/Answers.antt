@@ -1,5 +1,0 @@
-use Rattle.sparse_cs.proofs.MatrixTransposes.{one_transpose}
-use Rattle.sparse_cs.proofs.laws.one_transpose_law.Goals as goal
-
-pub returns : goal.returns
-returns g c = one_transpose

@@ -1,0 +1,223 @@
+//! CSR matrices made of arrays, of a pattern with values, and the identity.
+
+ghost use Rattle.std.specs.Prelude.{◌≡◌, ◌≢◌, ◌⊎◌, length, IfOk, IfErr, IsOk, OnOk, IsOkUnless};
+ghost use Rattle.sparse_algebra.specs.Plain.{plain_identity};
+ghost use Rattle.sparse_compressed.specs.Compressed.{compressed_of, arrays_of, IsSound};
+ghost use Rattle.sparse_compressed.specs.PlainOfLanes.{plain_of_rows};
+ghost use Rattle.sparse_compressed.specs.SortedFaults.{IsSortedRefusal, sorted_kind};
+ghost use Rattle.sparse_compressed.specs.UnsortedFaults.{NeedsSorting, IsFaultless, IsSortedForm};
+ghost use Rattle.sparse_compressed.specs.UnsortedFaults.{IsUnsortedRefusal};
+
+use super::CsrMatrix;
+use sparse_algebra::scalar::Ring;
+use sparse_compressed::{CsMatrix, SortedFault};
+use sparse_pattern::error::{SparseFormatError, SparseFormatErrorKind};
+use sparse_pattern::pattern::{SparsityPattern, SparsityPatternFormatError};
+use std::alloc::{AllocError, Global};
+
+impl<T> CsrMatrix<T> {
+    /// Returns the matrix of a pattern, whose lanes are the rows, and its values. Nothing is tested.
+    ///
+    /// There must be one value for each place of the pattern. Constant time. Allocates nothing.
+    ///
+    /// # Examples
+    ///
+    /// ```rust
+    /// fn a_pattern_by_rows_takes_its_values_back(alloc: Global) -> Result<bool, Fail> {
+    ///     let (pattern, values) = CsrMatrix::<W64>::identity(alloc, 2)?.into_pattern_and_values();
+    ///     let matrix = CsrMatrix::from_pattern_and_values_unchecked(pattern, values);
+    ///     Ok(matrix.col_indices() == [0, 1].as_slice())
+    /// }
+    /// ```
+    pub fn from_pattern_and_values_unchecked(pattern: SparsityPattern, values: Vec<T>) -> Self
+        requires { length values.items ≡ length pattern.indices }
+        ensures is { result ≡ compressed_of pattern values.items }
+        ensures sound { IsSound result }
+    {
+        CsrMatrix {
+            cs: CsMatrix::from_pattern_and_values(pattern, values),
+        }
+    }
+}
+
+impl<T: Drop> CsrMatrix<T> {
+    /// Returns the matrix of arrays whose rows are sorted by column.
+    ///
+    /// Linear in the number of rows and stored places. Allocates nothing.
+    ///
+    /// # Errors
+    ///
+    /// Returns the first fault: that of the offsets and indices, in the order of
+    /// [`SparsityPattern::try_from_offsets_and_indices`](sparse_pattern::pattern::SparsityPattern::try_from_offsets_and_indices),
+    /// and then the number of values. The arrays are dropped.
+    ///
+    /// # Examples
+    ///
+    /// ```rust
+    /// fn a_repeated_column_is_an_error(alloc: Global) -> Result<bool, Fail> {
+    ///     let offsets = Vec::from_slice(alloc, &[0, 2])?;
+    ///     let columns = Vec::from_slice(alloc, &[1, 1])?;
+    ///     let values = Vec::from_slice(alloc, &[4, 5])?;
+    ///     match CsrMatrix::try_from_csr_data(1, 3, offsets, columns, values) {
+    ///         Ok(_) => Ok(false),
+    ///         Err(error) => Ok(*error.kind() == SparseFormatErrorKind::DuplicateEntry),
+    ///     }
+    /// }
+    /// ```
+    pub fn try_from_csr_data(
+        nrows: usize,
+        ncols: usize,
+        row_offsets: Vec<usize>,
+        col_indices: Vec<usize>,
+        values: Vec<T>,
+    ) -> Result<Self, SparseFormatError>
+        ensures ok { IfOk result
+            (λ m. m ≡ arrays_of nrows ncols row_offsets.items col_indices.items values.items) }
+        ensures sound { IfOk result IsSound }
+        ensures fault { IfErr result
+            (IsSortedRefusal (arrays_of nrows ncols row_offsets.items col_indices.items
+            values.items)) }
+        ensures taken { IsSound
+            (arrays_of nrows ncols row_offsets.items col_indices.items values.items)
+            → IsOk result }
+    {
+        match CsMatrix::try_from_sorted_arrays(nrows, ncols, row_offsets, col_indices, values) {
+            Ok(cs) => Ok(CsrMatrix { cs }),
+            Err(fault) => Err(error_of(fault)),
+        }
+    }
+
+    /// Returns the matrix of a pattern, whose lanes are the rows, and its values.
+    ///
+    /// Returns `InvalidStructure` if the number of values is not the number of places; pattern and values are then
+    /// dropped. Allocates nothing.
+    pub fn try_from_pattern_and_values(
+        pattern: SparsityPattern,
+        values: Vec<T>,
+    ) -> Result<Self, SparseFormatError>
+        ensures ok { IfOk result (λ m. m ≡ compressed_of pattern values.items) }
+        ensures sound { IfOk result IsSound }
+        ensures fault { IfErr result (λ kind. (kind ≡ SparseFormatErrorKind.InvalidStructure)
+            × (length values.items ≢ length pattern.indices)) }
+        ensures taken { length values.items ≡ length pattern.indices → IsOk result }
+    {
+        match CsMatrix::try_from_pattern_and_values(pattern, values) {
+            Ok(cs) => Ok(CsrMatrix { cs }),
+            Err(fault) => Err(error_of(fault)),
+        }
+    }
+}
+
+// A fault as an error, with its text in the words of rows.
+fn error_of(fault: SortedFault) -> SparseFormatError
+    ensures { result ≡ sorted_kind fault }
+{
+    let message = match fault {
+        SortedFault::Pattern(SparsityPatternFormatError::InvalidOffsetArrayLength) => {
+            "Length of row offset array is not equal to nrows + 1."
+        }
+        SortedFault::Pattern(SparsityPatternFormatError::InvalidOffsetFirstLast) => {
+            "First or last row offset is inconsistent with format specification."
+        }
+        SortedFault::Pattern(SparsityPatternFormatError::NonmonotonicOffsets) => {
+            "Row offsets are not monotonically increasing."
+        }
+        SortedFault::Pattern(SparsityPatternFormatError::NonmonotonicMinorIndices) => {
+            "Column indices are not monotonically increasing (sorted) within each row."
+        }
+        SortedFault::Pattern(SparsityPatternFormatError::MinorIndexOutOfBounds) => {
+            "Column indices are out of bounds."
+        }
+        SortedFault::Pattern(SparsityPatternFormatError::DuplicateEntry) => {
+            "Matrix data contains duplicate entries."
+        }
+        SortedFault::ValueCount => "Number of values and column indices must be the same",
+    };
+    SparseFormatError::new(fault.kind(), message)
+}
+
+impl<T: Ring> CsrMatrix<T> {
+    /// Returns the identity matrix of order `n`, with `n` stored ones, even in a ring where one equals zero. Fails only
+    /// if an allocation fails.
+    ///
+    /// # Examples
+    ///
+    /// ```rust
+    /// fn the_identity_stores_its_diagonal(alloc: Global) -> Result<bool, Fail> {
+    ///     let identity = CsrMatrix::<W64>::identity(alloc, 3)?;
+    ///     Ok(identity.col_indices() == [0, 1, 2].as_slice())
+    /// }
+    /// ```
+    pub fn identity(alloc: Global, n: usize) -> Result<Self, AllocError>
+        ensures plain { IfOk result
+            (λ m. plain_of_rows T.ring T.value m ≡ plain_identity T.ring n) }
+        ensures sound { IfOk result IsSound }
+    {
+        Ok(CsrMatrix {
+            cs: CsMatrix::identity(alloc, n)?,
+        })
+    }
+}
+
+impl<T: Copy> CsrMatrix<T> {
+    /// Returns the matrix of arrays whose rows need not be sorted. Each value moves with its column index.
+    ///
+    /// Rows that are already sorted take one pass and no memory. Other rows are sorted.
+    ///
+    /// # Errors
+    ///
+    /// Returns the first fault in this order: the number of values is not the number of column indices; there is no
+    /// offset; the number of offsets; the first and the last offset; then for each row an end before its start, an end
+    /// past the column indices, a column out of bounds, a column that occurs twice. The arrays are dropped.
+    /// `OutOfMemory` is returned if an allocation fails, possibly before a later fault is found.
+    ///
+    /// # Examples
+    ///
+    /// ```rust
+    /// fn unsorted_arrays_are_sorted(alloc: Global) -> Result<bool, Fail> {
+    ///     let offsets = Vec::from_slice(alloc, &[0, 2])?;
+    ///     let columns = Vec::from_slice(alloc, &[2, 0])?;
+    ///     let values = Vec::from_slice(alloc, &[5, 4])?;
+    ///     let matrix = CsrMatrix::try_from_unsorted_csr_data(alloc, 1, 3, offsets, columns, values)?;
+    ///     Ok(matrix.values() == [4, 5].as_slice())
+    /// }
+    /// ```
+    pub fn try_from_unsorted_csr_data(
+        alloc: Global,
+        nrows: usize,
+        ncols: usize,
+        row_offsets: Vec<usize>,
+        col_indices: Vec<usize>,
+        values: Vec<T>,
+    ) -> Result<Self, SparseFormatError>
+        ensures sorted { IfOk result
+            (IsSortedForm (arrays_of nrows ncols row_offsets.items col_indices.items
+            values.items)) }
+        ensures faultless { OnOk result
+            (IsFaultless (arrays_of nrows ncols row_offsets.items col_indices.items values.items)) }
+        ensures fault { IfErr result (λ kind. (kind ≡ SparseFormatErrorKind.OutOfMemory)
+            ⊎ IsUnsortedRefusal (arrays_of nrows ncols row_offsets.items col_indices.items
+            values.items) kind) }
+        ensures memory { IfErr result (λ kind. kind ≡ SparseFormatErrorKind.OutOfMemory
+            → NeedsSorting (arrays_of nrows ncols row_offsets.items col_indices.items
+            values.items)) }
+        ensures sound { IsSound
+            (arrays_of nrows ncols row_offsets.items col_indices.items values.items)
+            → IsOk result }
+        ensures taken { IsFaultless
+            (arrays_of nrows ncols row_offsets.items col_indices.items values.items)
+            → IsOkUnless result SparseFormatErrorKind.OutOfMemory }
+    {
+        match CsMatrix::try_from_unsorted_arrays(
+            alloc,
+            nrows,
+            ncols,
+            row_offsets,
+            col_indices,
+            values,
+        ) {
+            Ok(cs) => Ok(CsrMatrix { cs }),
+            Err(error) => Err(error),
+        }
+    }
+}

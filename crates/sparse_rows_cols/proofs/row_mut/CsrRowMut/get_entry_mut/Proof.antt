@@ -1,0 +1,125 @@
+-- `get_entry_mut` passes on what `find_mut` lends, as an entry: a walk over the two calls.
+use Rattle.sparse_rows_cols.proofs.Walking.{◌≡◌, refl, sym, ap, ◌∙◌, subst, List, [], ◌∷◌, Val, w64}
+use Rattle.sparse_rows_cols.proofs.Walking.{named, a_type, inst_fn, emp, id⊢}
+use Rattle.sparse_rows_cols.proofs.Walking.{GName, flft, ‵, raw, ◌⊛◌}
+use Rattle.sparse_rows_cols.proofs.Walking.{some, later, ◌$◌, ◌∵◌, !, qed, done, move, drop, use1}
+use Rattle.sparse_rows_cols.proofs.Walking.{split, join, fjoin, pick}
+use Rattle.sparse_rows_cols.proofs.Walking.{await, rewrite, suffices, frame}
+use Rattle.sparse_rows_cols.proofs.Walking.{enter, addr, stop, no_more}
+use Rattle.sparse_rows_cols.proofs.Walking.{and_then, returns, alloc_all}
+use Rattle.sparse_rows_cols.proofs.Walking.{pass_all, free_all, look_at, get}
+use Rattle.sparse_rows_cols.proofs.Walking.{through, sets, lands_as}
+use Rattle.sparse_rows_cols.proofs.Walking.{fact, ◌⊑◌, Lfts, Shares, tables}
+use Rattle.sparse_rows_cols.proofs.Walking.{RattleType, usize, yes, no}
+use Rattle.sparse_rows_cols.proofs.Walking.{Is, shows, param, layouts, param_laws, uint_vals}
+use Rattle.sparse_rows_cols.proofs.Walking.{uint_Tells, mut_vals, mut_Tells, follows_if, plain}
+use Rattle.sparse_rows_cols.proofs.Walking.{named_lft, nothing, heard, peeks}
+use Rattle.sparse_rows_cols.proofs.Walking.{calls_at, Lasts, lasts}
+use Rattle.sparse_rows_cols.proofs.Walking.{on_entry, triple_of, framed, Stays, walk_of, says}
+use Rattle.sparse_rows_cols.proofs.Walking.{stay_dropped, Goes-dropped, Goes-spent_ref}
+use Rattle.sparse_rows_cols.proofs.Walking.{ends_at, proved}
+use Rattle.sparse_rows_cols.proofs.Walking.{option_laws, option_row}
+use mathlib.Core.Option as maybe
+use Rattle.sparse_pattern.proofs.entry.Found.TheLaws.{the_row_laws as found_laws}
+use Rattle.sparse_pattern.proofs.entry.SparseEntryMut.TheLaws.{the_row_laws as entry_laws}
+use Rattle.sparse_pattern.specs.contracts.entry.Found.{the_row as found_row}
+use Rattle.sparse_pattern.specs.contracts.entry.SparseEntryMut.{the_row as entry_row}
+use Rattle.sparse_rows_cols.specs.contracts.row_mut.CsrRowMut.{the_row as row_row}
+use Rattle.sparse_pattern.specs.SparseEntries.{entry_of_found, entry_name, found_name}
+use Rattle.sparse_compressed.specs.Writing.{IsLaneFoundAt, IsLaneEntryMutOf}
+use Rattle.sparse_compressed.proofs.FoundEntries.{name_is, lane_entry_is, with_fact}
+use Rattle.sparse_rows_cols.specs.RowWriting.{lent_row, row_with_value}
+use Rattle.sparse_rows_cols.specs.contracts.row_mut.CsrRowMut.get_entry_mut as f
+use Rattle.sparse_rows_cols.proofs.row_mut.CsrRowMut.get_entry_mut.Statement.{statement}
+use Rattle.sparse_rows_cols.proofs.row_mut.CsrRowMut.get_entry_mut.Code as code
+use Rattle.sparse_rows_cols.specs.contracts.row_mut.CsrRowMut.find_mut as g
+use Rattle.sparse_rows_cols.proofs.row_mut.CsrRowMut.find_mut.Met.{met as find_met}
+use Rattle.sparse_pattern.specs.contracts.entry.into_entry as h
+use Rattle.sparse_pattern.proofs.entry.into_entry.Met.{met as entry_met}
+
+abbrev stayed : (T : RattleType) → Stays (f.ended T).signature.params (f.ended T).kept
+stayed T = (stay_dropped _ no, (stay_dropped _ yes, tt))
+
+pub get_entry_mut_spec : {M : Type 1} → statement M
+get_entry_mut_spec 𝓤 𝓛 𝓜 𝓡 wired T L =
+    let c = f.clauses T 𝓛 𝓜.mem 𝓡.returns in let W = walk_of 𝓛 (f.ended T) (stayed T) c in let 𝓣 =
+    tables 𝓤 𝓛.H 𝓜 𝓡 𝓡.env in
+    proved 𝓛 (f.ended T) (stayed T) c 𝓜 𝓡 (
+      Goes-spent_ref 𝓛 3 (0 ∷ []) tt
+          (plain (λ κs. row_row (named_lft 3 1 tt κs) (param 0 T))),
+      (Goes-dropped 𝓛 3 (plain (λ _. usize)) yes (λ κs x f. refl), tt),
+    )
+    (f.Key.name (layouts (a_type ∷ []) (T, tt)))
+    (inst_fn (layouts (a_type ∷ []) (T, tt)) code.function)
+    (code.unfolded 𝓤 𝓛.H 𝓜 𝓡 wired (T, tt))
+    (λ κs. (mut_vals, (uint_vals w64, tt)))
+    (λ κs. (
+      mut_Tells (named 0) κs.0 (row_row (named_lft 3 1 tt κs) (param 0 T)),
+      (uint_Tells w64, tt),
+    )) (λ κs qs bounds a _ are.
+    let j = a.1.0 in let d = a.0.now in
+    let vss : List Val × (List Val × Unit {0}) = (mut_vals a.0, (uint_vals w64 j, tt)) in
+    let y : W.Ghost = ((κs, qs, bounds, a, vss), tt) in
+    let within = κs.1.1.0 ⊑ T.lives in
+    let tok-self = ‵ (flft κs.0 qs.0) in let tok-a = ‵ (flft κs.1.0 qs.1.0) in let tok-T =
+    ‵ (flft κs.1.1.0 qs.1.1.0) ⊛ raw (emp 𝓤) in
+    let R = row_row (record { mir = named 1; lft = [] }) (param 0 T) in
+    let Got = found_row (named_lft 3 0 tt κs) (param 0 T) in
+    let Entry = entry_row (named_lft 3 0 tt κs) (param 0 T) in
+    let Out = option_row Entry in
+    let G = triple_of 𝓛 (g.signature T) (g.spec T 𝓛 𝓜.mem 𝓡.returns) in
+    let z : G.Ghost = ((κs, qs, bounds, a, vss), tt) in
+    let Lent = λ (m : maybe.Option GName). follows_if R (param 0 T) a.0.ghost_name m
+    (row_with_value d j) a.0.now in
+    qed 𝓛 (raw (on_entry 𝓛 (f.signature T) κs qs a vss) ∷ (raw (fact 𝓤 within) ⊛ raw (emp 𝓤)) ∷ [])
+    ∵ move ! (1 ∷ []) $ split ! $ heard ! _ (λ le. drop ! $
+    use1 𝓛 (raw (G.pre z)) (with_fact 𝓤 within (on_entry 𝓛 (f.signature T) κs qs a vss) le) $
+    enter ! _ _ _ _ _ $ alloc_all ! (λ l. pass_all ! refl
+    ((tt, tt), ((tt, record { fits = are.1.0.1 }), tt)) $
+    sets ! (addr ! (through ! refl (stop !))) refl (tt, tt) $
+    calls_at ! (framed 𝓤 𝓛.H 𝓜 𝓣) G (find_met 𝓤 𝓛 𝓜 𝓡
+    (code.calls-sparse_rows_cols::row_mut::CsrRowMut::find_mut 𝓡.env wired) T L) z
+    (and_then ! (get ! refl) (and_then ! (get ! refl) (no_more !))) (λ v.
+    use1 𝓛 (later
+    (some (λ (r : Got.Denot). ((tok-self ⊛ (tok-a ⊛ tok-T)) ⊛ ‵ (Got.own_val r (v ∷ []))) ⊛ some
+    (λ (ws : Unit {0} × (Unit {0} × Unit {0})). ‵ (lasts (g.ended T) κs a ws) ⊛
+    (‵ (Lent (found_name r)) ⊛ raw (fact 𝓤 (IsLaneFoundAt (lent_row d) j r))))))) (id⊢ 𝓤 _) $
+    await ! tt $ pick ! (λ r. split ! $ split ! $ move ! (1 ∷ []) $ peeks ! Got (Is Got)
+    (shows 𝓛 Got) r (v ∷ []) (λ is-got.
+    move ! (2 ∷ []) $ pick ! (λ ws. split ! $ drop ! $ split ! $ move ! (1 ∷ []) $ heard ! _
+    (λ found.
+    -- [what the row follows; what was found; the tokens]
+    lands_as ! refl refl
+    (((found_laws (named_lft 3 0 tt κs) (param 0 T) (param_laws 0 T L)).lawful 𝓛).typed r (v ∷ [])
+    is-got).0 $
+    move ! (2 ∷ []) $ split ! $ move ! (1 ∷ []) $ split ! $ move ! (2 ∷ 1 ∷ []) $ join ! $
+    -- [two tokens; that of the row's own lifetime; what the row follows; what was found]
+    move ! (3 ∷ []) $ nothing ! $ move ! (1 ∷ 0 ∷ []) $ fjoin ! $ move ! (1 ∷ 0 ∷ []) $ join ! $
+    let E = triple_of 𝓛 (h.signature T) (h.spec T 𝓛 𝓜.mem 𝓡.returns) in
+    let κs' : Lfts 2 = (κs.0, (κs.1.1.0, tt)) in let qs' : Shares 2 = (qs.0, (qs.1.1.0, tt)) in
+    let x : E.Ghost = ((κs', qs', (bounds.1.0, tt), (r, tt), (v ∷ [], tt)), tt) in
+    use1 𝓛 (raw (E.pre x)) (with_fact 𝓤 within
+    (on_entry 𝓛 (h.signature T) κs' qs' (r, tt) (v ∷ [], tt)) le) $
+    calls_at ! (framed 𝓤 𝓛.H 𝓜 𝓣) E (entry_met 𝓤 𝓛 𝓜 𝓡
+    (code.calls-sparse_pattern::entry::into_entry 𝓡.env wired) T L) x
+    (and_then ! (get ! refl) (no_more !)) (λ u.
+    use1 𝓛 (later
+    (some (λ (e : Out.Denot). ((tok-self ⊛ tok-T) ⊛ ‵ (Out.own_val e (u ∷ []))) ⊛ some
+    (λ (ws : Lasts (h.ended T) κs' (r, tt)). ‵ (lasts (h.ended T) κs' (r, tt) ws) ⊛ raw
+    (fact 𝓤 (e ≡ entry_of_found r)))))) (id⊢ 𝓤 _) $
+    await ! tt $ pick ! (λ e. split ! $ split ! $ move ! (1 ∷ []) $ peeks ! Out (Is Out)
+    (shows 𝓛 Out) e (u ∷ []) (λ is-out.
+    move ! (2 ∷ []) $ pick ! (λ ws'. split ! $ drop ! $ heard ! _ (λ same.
+    -- [the entry; two tokens; that of the row's own lifetime; what the row follows]
+    lands_as ! refl refl
+    (((option_laws Entry (entry_laws (named_lft 3 0 tt κs) (param 0 T) (param_laws 0 T L))).lawful
+    𝓛).typed e (u ∷ []) is-out).0 $
+    returns ! (look_at ! 0 refl) $ free_all ! refl $
+    suffices ! _ (ends_at 𝓛 (f.ended T) (stayed T) c y u e (tt, (tt, tt)) (tt, (tt, tt))) $
+    nothing ! $ nothing ! $ fjoin ! $ nothing ! $ fjoin ! $ join ! $
+    move ! (1 ∷ []) $ split ! $ move ! (3 ∷ 1 ∷ []) $ join ! $ move ! (1 ∷ 0 ∷ []) $ join ! $ join !
+    $ frame ! $
+    says ! (subst (λ o. IsLaneEntryMutOf (lent_row d) j o) (sym same)
+    (lane_entry_is (lent_row d) j r found)) $
+    rewrite ! 0 (λ (m : maybe.Option GName). ‵ (Lent m)) (name_is r ∙ ap entry_name (sym same)) refl
+    $ done !)))))))))))))

@@ -1,0 +1,167 @@
+//! Columns of a CSC matrix, and the iterator over them.
+
+ghost use Rattle.std.specs.Prelude.{◌≡◌, ⊤, length};
+ghost use Rattle.std.specs.Iterator.{YieldsFirst, item_count};
+ghost use Rattle.sparse_compressed.specs.Lanes.{IsLaneEntryOf, IsSoundLane};
+
+use sparse_algebra::learn;
+use sparse_compressed::{CsLane, CsLaneIter};
+use sparse_pattern::entry::SparseEntry;
+use std::alloc::AllocError;
+use std::marker::Model;
+
+/// A column of a CSC matrix.
+#[derive(Debug, Drop)]
+pub struct CscCol<'a, T> {
+    lane: CsLane<'a, T>,
+}
+
+impl<'a, T> Model for CscCol<'a, T> {
+    ghost use Rattle.sparse_compressed.specs.Lanes.{Lane, lane_code};
+
+    ghost Value = { Lane T };
+
+    ghost coded = { lane_code T.code };
+
+    ghost view = { λ col. col.lane };
+}
+
+impl<'a, T> CscCol<'a, T> {
+    /// Returns a lane as a column.
+    ///
+    /// For the crates of this library.
+    #[doc(hidden)]
+    pub fn from_lane(lane: CsLane<'a, T>) -> Self
+        ensures { result ≡ lane.entry }
+    {
+        CscCol { lane }
+    }
+
+    /// Returns the number of rows.
+    pub fn nrows(&self) -> usize
+        ensures { result ≡ self.now.minor_dim }
+    {
+        self.lane.minor_dim()
+    }
+
+    /// Returns the number of stored places in the column, including those whose value is zero.
+    pub fn nnz(&self) -> usize
+        ensures { result ≡ length self.now.indices }
+    {
+        self.lane.nnz()
+    }
+
+    /// Returns the rows of the stored places, strictly increasing.
+    pub fn row_indices(&self) -> &'a [usize]
+        ensures indices { result.now ≡ self.now.indices }
+        ensures sound { IsSoundLane self.now }
+    {
+        self.lane.minor_indices()
+    }
+
+    /// Returns the values of the stored places, in the order of their rows.
+    pub fn values(&self) -> &'a [T]
+        ensures values { result.now ≡ self.now.values }
+        ensures sound { IsSoundLane self.now }
+    {
+        self.lane.values()
+    }
+
+    /// Returns the entry at a row, or `None` if `row_index` is out of bounds. Binary search.
+    pub fn get_entry(&self, row_index: usize) -> Option<SparseEntry<'a, T>>
+        ensures entry { IsLaneEntryOf self.now row_index result }
+        ensures sound { IsSoundLane self.now }
+    {
+        // Shows that the column is sound.
+        learn(self.lane.values());
+        self.lane.get_entry(row_index)
+    }
+}
+
+impl<'a, T> Clone for CscCol<'a, T> {
+    ghost is_clone = { λ s t. t ≡ s };
+
+    ghost is_infallible = { λ _. ⊤ };
+
+    fn clone(&self) -> Result<CscCol<'a, T>, AllocError> {
+        Ok(CscCol {
+            lane: self.lane.clone()?,
+        })
+    }
+}
+
+impl<'a, T: PartialEq> PartialEq for CscCol<'a, T> {
+    ghost use Rattle.sparse_compressed.specs.Lanes.{lane_eq};
+    ghost use Rattle.sparse_compressed.specs.LaneEquality.{lane_eq-laws};
+
+    ghost eq = { lane_eq T.eq };
+
+    ghost laws = { lane_eq-laws T.laws };
+
+    fn eq(&self, other: &Self) -> bool {
+        self.lane == other.lane
+    }
+}
+
+impl<'a, T: Eq> Eq for CscCol<'a, T> {
+    ghost use Rattle.sparse_compressed.specs.LaneEquality.{lane_eq-equiv};
+
+    ghost laws = { lane_eq-equiv T.Eq.laws };
+}
+
+/// An iterator over the columns of a CSC matrix, including those without stored places.
+#[derive(Drop)]
+pub struct CscColIter<'a, T> {
+    lanes: CsLaneIter<'a, T>,
+}
+
+impl<'a, T> Model for CscColIter<'a, T> {
+    ghost use Rattle.std.specs.Prelude.{List};
+    ghost use Rattle.std.specs.Coded.{coded_list};
+    ghost use Rattle.sparse_compressed.specs.Lanes.{Lane, lane_code};
+
+    ghost Value = { List (Lane T) };
+
+    ghost coded = { coded_list (lane_code T.code) };
+
+    ghost view = { λ it. it.lanes };
+}
+
+impl<'a, T> CscColIter<'a, T> {
+    /// Returns an iterator over the remaining lanes as columns.
+    ///
+    /// For the crates of this library.
+    #[doc(hidden)]
+    pub fn from_lanes(lanes: CsLaneIter<'a, T>) -> Self
+        ensures { result ≡ lanes.entry }
+    {
+        CscColIter { lanes }
+    }
+}
+
+impl<'a, T> Iterator for CscColIter<'a, T> {
+    type Item = CscCol<'a, T>;
+
+    ghost next_gives = { YieldsFirst (λ rest. rest) };
+
+    ghost remaining = { item_count (λ rest. rest) };
+
+    fn next(&mut self) -> Option<CscCol<'a, T>> {
+        match self.lanes.next() {
+            Some(lane) => Some(CscCol::from_lane(lane)),
+            None => None,
+        }
+    }
+}
+
+impl<'a, T> Clone for CscColIter<'a, T> {
+    ghost is_clone = { λ s t. t ≡ s };
+
+    ghost is_infallible = { λ _. ⊤ };
+
+    fn clone(&self) -> Result<CscColIter<'a, T>, AllocError> {
+        Ok(CscColIter {
+            lanes: self.lanes.clone()?,
+        })
+    }
+}
