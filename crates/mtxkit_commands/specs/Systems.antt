@@ -10,7 +10,7 @@ use Rattle.sparse_coo_dense.specs.CooPlain.{plain_of_coo}
 use Rattle.sparse_algebra.specs.Integers.{element_of}
 use Rattle.sparse_io.specs.Written.{text_of}
 use Rattle.sparse_market_scalar.specs.ScalarTypes.{signed_scalar}
-use Rattle.sparse_solve.specs.Solutions.{HasSameValues}
+use Rattle.sparse_with_dense.specs.Solutions.{HasSameValues}
 use Rattle.mtxkit_matrices.specs.Values.{IsSymmetricMatrix}
 use Rattle.mtxkit_systems.specs.Orders.{IsByColumns, places_of}
 use Rattle.mtxkit_systems.specs.Systems.{HasNoFactorisation, IsEquation, IsSystem}

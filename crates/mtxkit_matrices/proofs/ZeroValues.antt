@@ -10,7 +10,7 @@ use Rattle.sparse_algebra.specs.Algebra.{CommRing}
 use Rattle.sparse_compressed.specs.Compressed.{Compressed, IsSound, IsPosition}
 use Rattle.sparse_algebra.specs.Plain.{Plain, plain_difference}
 use Rattle.sparse_compressed.specs.PlainOfLanes.{plain_of_rows}
-use Rattle.sparse_solve.specs.Solutions.{HasSameValues}
+use Rattle.sparse_with_dense.specs.Solutions.{HasSameValues}
 use Rattle.mtxkit_matrices.specs.Values.{AllZero}
 
 module _ (R : CommRing) {T : Type 0} (f : T → R.Carrier) (z : T) (m : Compressed T)

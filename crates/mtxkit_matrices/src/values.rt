@@ -4,7 +4,7 @@ ghost use Rattle.std.specs.Prelude.{◌≡◌, ℕ, ◌<◌, ◌↔◌, IfOk, Is
 ghost use Rattle.std.specs.Prelude.{slice_index_or};
 ghost use Rattle.sparse_compressed.specs.Compressed.{IsSound};
 ghost use Rattle.sparse_compressed.specs.PlainOfLanes.{plain_of_rows};
-ghost use Rattle.sparse_solve.specs.Solutions.{HasSameValues};
+ghost use Rattle.sparse_with_dense.specs.Solutions.{HasSameValues};
 ghost use Rattle.mtxkit_matrices.specs.Values.{AllZero, IsSymmetricMatrix};
 
 use sparse_algebra::learn;

@@ -6,8 +6,8 @@ use Rattle.sparse_algebra.specs.Algebra.{CommRing}
 use Rattle.sparse_algebra.specs.Plain.{Plain, plain_product}
 use Rattle.sparse_algebra.specs.Sums.{sum_below}
 use Rattle.sparse_coo_dense.specs.DensePlain.{plain_full}
-use Rattle.sparse_ldl.specs.Factorisations.{IsFactorisation, plain_symmetric}
-use Rattle.sparse_solve.specs.Solutions.{HasSameValues}
+use Rattle.sparse_factor.specs.Factorisations.{IsFactorisation, plain_symmetric}
+use Rattle.sparse_with_dense.specs.Solutions.{HasSameValues}
 use Rattle.mtxkit_systems.specs.Systems.{HasNoFactorisation}
 
 order : (i j : ℕ) → (i ≤ j) ⊎ (j ≤ i)

@@ -2,7 +2,7 @@
 use Rattle.std.specs.Prelude.{◌≡◌, ℕ}
 use Rattle.sparse_algebra.specs.Algebra.{CommRing}
 use Rattle.sparse_coo_dense.specs.Coo.{Coo}
-use Rattle.sparse_ldl.specs.Factorisations.{IsFactorisation}
+use Rattle.sparse_factor.specs.Factorisations.{IsFactorisation}
 use Rattle.sparse_algebra.specs.Plain.{Plain}
 
 -- no L and D are a factorisation L D Lᵀ of the matrix

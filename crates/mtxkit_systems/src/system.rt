@@ -5,7 +5,7 @@ ghost use Rattle.sparse_coo_dense.specs.CooPlain.{plain_of_coo};
 ghost use Rattle.sparse_coo_dense.specs.DensePlain.{plain_of_dense};
 ghost use Rattle.sparse_compressed.specs.PlainOfLanes.{plain_of_rows};
 ghost use Rattle.sparse_algebra.specs.Plain.{plain_product};
-ghost use Rattle.sparse_solve.specs.Solutions.{HasSameValues};
+ghost use Rattle.sparse_with_dense.specs.Solutions.{HasSameValues};
 ghost use Rattle.sparse_algebra.specs.declared.error.OperationErrorKind.TheVariants.{Singular};
 ghost use Rattle.mtxkit_systems.specs.Orders.{IsByColumns, places_of};
 ghost use Rattle.mtxkit_systems.specs.Systems.{HasNoFactorisation, IsEquation, IsSystem};
@@ -24,7 +24,7 @@ use sparse_convert::serial::{
 use sparse_coo_dense::coo::CooMatrix;
 use sparse_coo_dense::dense::DMatrix;
 use sparse_csr_csc::csr::CsrMatrix;
-use sparse_ldl::ldl::Ldl;
+use sparse_factor::ldl::Ldl;
 use sparse_products::serial::mul_csr;
 use std::alloc::{AllocError, Global};
 

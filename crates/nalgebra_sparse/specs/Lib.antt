@@ -78,7 +78,7 @@ pub use Rattle.sparse_csr_csc.specs.CscWriting
 pub use Rattle.sparse_csr_csc.specs.CsrData
 pub use Rattle.sparse_csr_csc.specs.CsrWriting
 -- sparse vectors and dense ones
-pub use Rattle.sparse_kernels.specs.SparseVectors
+pub use Rattle.sparse_with_dense.specs.SparseVectors
 -- conversions
 pub use Rattle.sparse_convert.specs.FromDense
 pub use Rattle.sparse_convert.specs.OneMatrix
@@ -89,17 +89,17 @@ pub use Rattle.sparse_sums.specs.PatternSums
 pub use Rattle.sparse_products.specs.Products
 pub use Rattle.sparse_products.specs.ScalarProducts
 -- products with dense matrices
-pub use Rattle.sparse_dense_products.specs.DenseOperands
+pub use Rattle.sparse_with_dense.specs.DenseOperands
 -- triangular systems and division
-pub use Rattle.sparse_solve.specs.Quotients
-pub use Rattle.sparse_solve.specs.Solutions
+pub use Rattle.sparse_with_dense.specs.Quotients
+pub use Rattle.sparse_with_dense.specs.Solutions
 -- the symbolic factor
 pub use Rattle.sparse_factor.specs.Fill
 pub use Rattle.sparse_factor.specs.Symbolic
 pub use Rattle.sparse_factor.specs.Walks
 -- exact factorisations
-pub use Rattle.sparse_ldl.specs.Factorisations
-pub use Rattle.sparse_ldl.specs.Factors
+pub use Rattle.sparse_factor.specs.Factorisations
+pub use Rattle.sparse_factor.specs.Factors
 -- Matrix Market texts: grammar and meaning
 pub use Rattle.sparse_parser.specs.ArrayPlaces
 pub use Rattle.sparse_parser.specs.Bytes

@@ -50,6 +50,6 @@ pub use sparse_laws::operations;
 /// Rings made of rings: the product rule, norms, the Chinese remainder theorem.
 pub use sparse_rings::laws as rings;
 /// Triangular systems: a solution is unique.
-pub use sparse_solve::laws as systems;
+pub use sparse_with_dense::laws as systems;
 /// Views: the view of a matrix, copied, is the matrix.
 pub use sparse_views::laws as views;

@@ -4,8 +4,6 @@ pub use sparse_products::{Op, Steps};
 
 /// Operations in one thread.
 pub mod serial {
-    pub use sparse_dense_products::{mul_csc_dense, mul_csr_dense, spmm_csc_dense, spmm_csr_dense};
-    pub use sparse_kernels::{axpy_csc_col, axpy_csr_row, dot_csc_col, dot_csr_row, usaxpy, usdot};
     pub use sparse_products::serial::{
         OperationError, OperationErrorKind, add_csc, add_csr, add_scaled_csc, add_scaled_csr,
         mul_csc, mul_csr, neg_csc, neg_csr, scale_csc, scale_csr, spadd_csc_prealloc,
@@ -13,8 +11,9 @@ pub mod serial {
         spmm_csc_prealloc_unchecked, spmm_csr_pattern, spmm_csr_prealloc,
         spmm_csr_prealloc_unchecked, spmm_csr_prealloc_unchecked_counted, sub_csc, sub_csr,
     };
-    pub use sparse_solve::{
-        div_scalar_csc, div_scalar_csr, div_scalar_mut_csc, div_scalar_mut_csr,
-        spsolve_csc_lower_triangular,
+    pub use sparse_with_dense::{
+        axpy_csc_col, axpy_csr_row, div_scalar_csc, div_scalar_csr, div_scalar_mut_csc,
+        div_scalar_mut_csr, dot_csc_col, dot_csr_row, mul_csc_dense, mul_csr_dense, spmm_csc_dense,
+        spmm_csr_dense, spsolve_csc_lower_triangular, usaxpy, usdot,
     };
 }

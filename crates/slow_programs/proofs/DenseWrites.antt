@@ -12,7 +12,7 @@ use Rattle.sparse_algebra.specs.Sums.{where_true}
 use Rattle.sparse_coo_dense.specs.Dense.{Dense, HasValues, with_value_at}
 use Rattle.sparse_coo_dense.specs.DensePlain.{is_inside, plain_of_dense}
 use Rattle.sparse_coo_dense.proofs.DenseLemmas.{position_row, position_col}
-use Rattle.sparse_solve.proofs.PlainSolutions.{dense_inside}
+use Rattle.sparse_with_dense.proofs.PlainSolutions.{dense_inside}
 
 module _ (R : CommRing) {T : Type 0} (f : T → R.Carrier) (z : T) (zero : f z ≡ R.zero) where
   where_same : (b : Bool) (x y : R.Carrier) → (b ≡ true → x ≡ y)

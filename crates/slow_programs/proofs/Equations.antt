@@ -11,15 +11,15 @@ use Rattle.sparse_coo_dense.specs.Dense.{Dense, HasValues, value_at, with_value_
 use Rattle.sparse_coo_dense.specs.DensePlain.{plain_of_dense}
 use Rattle.sparse_coo_dense.proofs.DenseLemmas.{set_values}
 use Rattle.sparse_algebra.specs.Inverses.{HasInverse}
-use Rattle.sparse_kernels.specs.SparseVectors.{elements}
-use Rattle.sparse_solve.proofs.RingSteps.{back, moved_over}
-use Rattle.sparse_solve.proofs.PlainSolutions.{dense_inside}
-use Rattle.sparse_ldl.specs.Factors.{diagonal}
-use Rattle.sparse_ldl.specs.InnerColumns.{ArePartFactors, term}
-use Rattle.sparse_ldl.proofs.Columns.{no_factorisation}
-use Rattle.sparse_ldl.proofs.NextColumn.{part_step}
-use Rattle.sparse_ldl.proofs.PlainProducts.{columns_of, factorisation_of, symmetric-transposed}
-use Rattle.sparse_ldl.proofs.RingFacts.{cancel_left}
+use Rattle.sparse_with_dense.specs.SparseVectors.{elements}
+use Rattle.sparse_with_dense.proofs.RingSteps.{back, moved_over}
+use Rattle.sparse_with_dense.proofs.PlainSolutions.{dense_inside}
+use Rattle.sparse_factor.specs.Factors.{diagonal}
+use Rattle.sparse_factor.specs.InnerFactors.{ArePartFactors, term}
+use Rattle.sparse_factor.proofs.Columns.{no_factorisation}
+use Rattle.sparse_factor.proofs.NextColumn.{part_step}
+use Rattle.sparse_factor.proofs.PlainProducts.{columns_of, factorisation_of, symmetric-transposed}
+use Rattle.sparse_factor.proofs.RingFacts.{cancel_left}
 use Rattle.slow_programs.specs.DenseFactors.{AreDenseFactorsOf, HasNoDenseFactors, dense_symmetric}
 use Rattle.slow_programs.specs.InnerEquations.{AreFirstFactors, HasNoColumns, HaveOneSize}
 use Rattle.slow_programs.specs.InnerEquations.{IsColumnDivided, left_at, left_of}

@@ -4,8 +4,8 @@ use Rattle.sparse_algebra.specs.Algebra.{CommRing}
 use Rattle.sparse_algebra.specs.Plain.{Plain}
 use Rattle.sparse_coo_dense.specs.Dense.{Dense}
 use Rattle.sparse_coo_dense.specs.DensePlain.{plain_of_dense}
-use Rattle.sparse_ldl.specs.Factorisations.{IsFactorisation, plain_symmetric}
-use Rattle.sparse_ldl.specs.Factors.{diagonal}
+use Rattle.sparse_factor.specs.Factorisations.{IsFactorisation, plain_symmetric}
+use Rattle.sparse_factor.specs.Factors.{diagonal}
 
 module _ (R : CommRing) {T : Type 0} (f : T → R.Carrier) where
   -- the symmetric matrix with the entries of a on and above the diagonal

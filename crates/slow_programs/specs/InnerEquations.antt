@@ -4,8 +4,8 @@ use Rattle.sparse_algebra.specs.Algebra.{CommRing}
 use Rattle.sparse_algebra.specs.Sums.{sum_below}
 use Rattle.sparse_coo_dense.specs.Dense.{Dense}
 use Rattle.sparse_coo_dense.specs.DensePlain.{plain_of_dense}
-use Rattle.sparse_ldl.specs.InnerColumns.{ArePartFactors, term}
-use Rattle.sparse_kernels.specs.SparseVectors.{elements}
+use Rattle.sparse_factor.specs.InnerFactors.{ArePartFactors, term}
+use Rattle.sparse_with_dense.specs.SparseVectors.{elements}
 use Rattle.slow_programs.specs.DenseFactors.{dense_symmetric}
 
 -- the matrices a and L and the diagonal d have one size

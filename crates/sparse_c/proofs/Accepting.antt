@@ -11,13 +11,13 @@ use Rattle.sparse_c.specs.Symmetric.{IsFaultOfSymmetric}
 use Rattle.sparse_c.specs.Systems.{IsFaultOfEquation}
 use Rattle.sparse_c.specs.declared.systems.Equation.{Equation}
 use Rattle.sparse_c.specs.declared.systems.Equation.TheVariants.{Lower, Symmetric}
-use Rattle.sparse_c_views.proofs.Faultless.{matrix_told, other, pattern_told, system_told}
-use Rattle.sparse_c_views.specs.Refused.{IsSystemSound}
-use Rattle.sparse_c_views.specs.Statuses.{number_of, FindsNoFault}
-use Rattle.sparse_c_views.specs.declared.refusal.Refusal.{Refusal}
-use Rattle.sparse_c_views.specs.declared.refusal.Refusal.TheVariants.{Singular as RefusedSingular}
-use Rattle.sparse_c_views.specs.declared.refusal.Refusal.TheVariants.{TooSmall}
-use Rattle.sparse_c_views.specs.declared.refusal.Refusal.TheVariants.{UnknownChoice}
+use Rattle.sparse_c_arrays.proofs.Faultless.{matrix_told, other, pattern_told, system_told}
+use Rattle.sparse_c_arrays.specs.Refused.{IsSystemSound}
+use Rattle.sparse_c_arrays.specs.Statuses.{number_of, FindsNoFault}
+use Rattle.sparse_c_arrays.specs.declared.refusal.Refusal.{Refusal}
+use Rattle.sparse_c_arrays.specs.declared.refusal.Refusal.TheVariants.{Singular as RefusedSingular}
+use Rattle.sparse_c_arrays.specs.declared.refusal.Refusal.TheVariants.{TooSmall}
+use Rattle.sparse_c_arrays.specs.declared.refusal.Refusal.TheVariants.{UnknownChoice}
 
 -- the status of an unknown choice is that of a fault
 pub choice_told : (status : ℤ) → status ≡ number_of UnknownChoice → FindsNoFault status → ⊥

@@ -6,14 +6,14 @@ use Rattle.sparse_algebra.proofs.Products.{mul_neg}
 use Rattle.sparse_algebra.specs.Algebra.{CommRing}
 use Rattle.sparse_algebra.specs.Plain.{Plain, plain_negation, plain_scaled, plain_sum}
 use Rattle.sparse_compressed.specs.Compressed.{Compressed, IsSound}
-use Rattle.sparse_c_views.proofs.Answering.{small_not_zero}
-use Rattle.sparse_c_views.proofs.Faultless.{pair_told}
-use Rattle.sparse_c_views.specs.Arrays.{room_of, Room, HoldsRows}
-use Rattle.sparse_c_views.specs.Refused.{IsFaultOfPair}
-use Rattle.sparse_c_views.specs.Rests.{KeepsRest}
-use Rattle.sparse_c_views.specs.Statuses.{number_of, FindsNoFault}
-use Rattle.sparse_c_views.specs.Written.{WritesRows}
-use Rattle.sparse_c_views.specs.declared.refusal.Refusal.{Refusal}
+use Rattle.sparse_c_arrays.proofs.Answering.{small_not_zero}
+use Rattle.sparse_c_arrays.proofs.Faultless.{pair_told}
+use Rattle.sparse_c_arrays.specs.Arrays.{room_of, Room, HoldsRows}
+use Rattle.sparse_c_arrays.specs.Refused.{IsFaultOfPair}
+use Rattle.sparse_c_arrays.specs.Rests.{KeepsRest}
+use Rattle.sparse_c_arrays.specs.Statuses.{number_of, FindsNoFault}
+use Rattle.sparse_c_arrays.specs.Written.{WritesRows}
+use Rattle.sparse_c_arrays.specs.declared.refusal.Refusal.{Refusal}
 use Rattle.sparse_c.specs.Combinations.{combined_by, IsSumOf}
 use Rattle.sparse_c.specs.declared.arguments.Combination.{Combination}
 use Rattle.sparse_c.specs.declared.arguments.Combination.TheVariants.{Sum, Difference}

@@ -10,26 +10,27 @@ use Rattle.sparse_algebra.specs.Plain.{Plain}
 use Rattle.sparse_compressed.specs.Compressed.{Compressed, IsSound}
 use Rattle.sparse_compressed.specs.PlainOfLanes.{plain_of_cols, plain_of_rows}
 use Rattle.sparse_factor.specs.Fill.{InFill, UpperBase, StoresByColumns}
-use Rattle.sparse_ldl.specs.Factorisations.{plain_symmetric, IsUnitLower}
-use Rattle.sparse_ldl.specs.Factors.{Factors, diagonal, plain_of_factors, symmetric_of, HavePivots}
-use Rattle.sparse_ldl.proofs.FilledSets.{has_place, place_has}
+use Rattle.sparse_factor.specs.Factorisations.{plain_symmetric, IsUnitLower}
+use Rattle.sparse_factor.specs.Factors.{Factors, diagonal, plain_of_factors}
+use Rattle.sparse_factor.specs.Factors.{symmetric_of, HavePivots}
+use Rattle.sparse_factor.proofs.FilledSets.{has_place, place_has}
 use Rattle.sparse_pattern.specs.Raw.{Raw}
-use Rattle.sparse_solve.specs.Solutions.{HasSameValues}
+use Rattle.sparse_with_dense.specs.Solutions.{HasSameValues}
 use Rattle.sparse_c.specs.Moduli.{IsFaultModulo}
 use Rattle.sparse_c.proofs.Accepting.{factors_large, factors_told}
 use Rattle.sparse_c.proofs.Listed.{widened}
 use Rattle.sparse_c.specs.Factors.{first_elements, AreFactors, AreFactorsTooLong, Factorises}
 use Rattle.sparse_c.specs.Factors.{HoldsFactors, IsFaultOfFactors, WritesFactors}
-use Rattle.sparse_c_views.proofs.Answering.{size_kept, size_told}
-use Rattle.sparse_c_views.proofs.Faultless.{accepted}
-use Rattle.sparse_c_views.specs.Arrays.{places_of, plain_by_cols, room_of, Room}
-use Rattle.sparse_c_views.specs.Reduced.{FirstAre}
-use Rattle.sparse_c_views.specs.Refused.{IsMemoryOr, IsRefusedFor, IsTooSmall}
-use Rattle.sparse_c_views.specs.Rests.{KeepsBehind, KeepsRest}
-use Rattle.sparse_c_views.specs.Statuses.{number_of}
-use Rattle.sparse_c_views.specs.declared.refusal.Refusal.{Refusal}
-use Rattle.sparse_c_views.specs.declared.refusal.Refusal.TheVariants.{TooSmall}
-use Rattle.sparse_c_views.proofs.Joining.{both, found, refused}
+use Rattle.sparse_c_arrays.proofs.Answering.{size_kept, size_told}
+use Rattle.sparse_c_arrays.proofs.Faultless.{accepted}
+use Rattle.sparse_c_arrays.specs.Arrays.{places_of, plain_by_cols, room_of, Room}
+use Rattle.sparse_c_arrays.specs.Reduced.{FirstAre}
+use Rattle.sparse_c_arrays.specs.Refused.{IsMemoryOr, IsRefusedFor, IsTooSmall}
+use Rattle.sparse_c_arrays.specs.Rests.{KeepsBehind, KeepsRest}
+use Rattle.sparse_c_arrays.specs.Statuses.{number_of}
+use Rattle.sparse_c_arrays.specs.declared.refusal.Refusal.{Refusal}
+use Rattle.sparse_c_arrays.specs.declared.refusal.Refusal.TheVariants.{TooSmall}
+use Rattle.sparse_c_arrays.proofs.Joining.{both, found, refused}
 use Rattle.sparse_algebra.specs.Integers.{times_one, element_of}
 
 -- the factors of a matrix are those of the arrays that it was made of

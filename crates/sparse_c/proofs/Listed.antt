@@ -6,13 +6,13 @@ use Rattle.sparse_algebra.specs.Moduli.{mod_ring}
 use Rattle.sparse_algebra.specs.Plain.{Plain}
 use Rattle.sparse_c.proofs.Accepting.{choice_told}
 use Rattle.sparse_c.specs.Moduli.{moduli, IsFaultModulo, IsNoneOf}
-use Rattle.sparse_c_views.specs.Arrays.{Room}
-use Rattle.sparse_c_views.specs.Reduced.{AreReduced, FirstAre, IsReduced}
-use Rattle.sparse_c_views.specs.Refused.{IsRefusedFor}
-use Rattle.sparse_c_views.specs.Statuses.{number_of}
-use Rattle.sparse_c_views.specs.Written.{WritesRows}
-use Rattle.sparse_c_views.specs.declared.refusal.Refusal.{Refusal}
-use Rattle.sparse_c_views.specs.declared.refusal.Refusal.TheVariants.{UnknownChoice}
+use Rattle.sparse_c_arrays.specs.Arrays.{Room}
+use Rattle.sparse_c_arrays.specs.Reduced.{AreReduced, FirstAre, IsReduced}
+use Rattle.sparse_c_arrays.specs.Refused.{IsRefusedFor}
+use Rattle.sparse_c_arrays.specs.Statuses.{number_of}
+use Rattle.sparse_c_arrays.specs.Written.{WritesRows}
+use Rattle.sparse_c_arrays.specs.declared.refusal.Refusal.{Refusal}
+use Rattle.sparse_c_arrays.specs.declared.refusal.Refusal.TheVariants.{UnknownChoice}
 
 -- the numbers that show residues modulo M are from 0 to M - 1
 pub reduced_modulo : (m M n : ℕ) (numbers : List ℤ) → m ≡ M → M ≤ 9223372036854775808

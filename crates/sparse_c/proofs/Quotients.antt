@@ -12,15 +12,15 @@ use Rattle.sparse_c.specs.Solved.{Divides, IsFaultOfQuotient, IsQuotientBy, Writ
 use Rattle.sparse_c.specs.Moduli.{IsFaultModulo}
 use Rattle.sparse_c.proofs.Accepting.{quotient_large, quotient_told}
 use Rattle.sparse_c.proofs.Listed.{widened}
-use Rattle.sparse_c_views.specs.Arrays.{places_of, plain_by_rows, room_of, Room, HoldsRows}
-use Rattle.sparse_c_views.specs.Refused.{IsMemoryOr, IsTooSmall}
-use Rattle.sparse_c_views.specs.Rests.{KeepsRest}
-use Rattle.sparse_c_views.specs.Statuses.{number_of}
-use Rattle.sparse_c_views.specs.declared.refusal.Refusal.{Refusal}
-use Rattle.sparse_c_views.specs.declared.refusal.Refusal.TheVariants.{TooSmall}
-use Rattle.sparse_c_views.proofs.Answering.{size_kept, size_told}
-use Rattle.sparse_c_views.proofs.Faultless.{accepted}
-use Rattle.sparse_c_views.proofs.Joining.{found, refused as refused_for}
+use Rattle.sparse_c_arrays.specs.Arrays.{places_of, plain_by_rows, room_of, Room, HoldsRows}
+use Rattle.sparse_c_arrays.specs.Refused.{IsMemoryOr, IsTooSmall}
+use Rattle.sparse_c_arrays.specs.Rests.{KeepsRest}
+use Rattle.sparse_c_arrays.specs.Statuses.{number_of}
+use Rattle.sparse_c_arrays.specs.declared.refusal.Refusal.{Refusal}
+use Rattle.sparse_c_arrays.specs.declared.refusal.Refusal.TheVariants.{TooSmall}
+use Rattle.sparse_c_arrays.proofs.Answering.{size_kept, size_told}
+use Rattle.sparse_c_arrays.proofs.Faultless.{accepted}
+use Rattle.sparse_c_arrays.proofs.Joining.{found, refused as refused_for}
 
 module _ (R : CommRing) {T : Type 0} (f : T → R.Carrier) (a : Compressed ℤ) (divisor : ℤ)
     (before after : Room) (status : ℤ) where

@@ -7,16 +7,16 @@ use Rattle.sparse_algebra.specs.Plain.{Plain, plain_product}
 use Rattle.sparse_algebra.specs.Sums.{sum_below}
 use Rattle.sparse_coo_dense.specs.Dense.{Dense}
 use Rattle.sparse_coo_dense.specs.DensePlain.{plain_of_dense}
-use Rattle.sparse_solve.specs.Solutions.{HasSameValues, IsSolution}
+use Rattle.sparse_with_dense.specs.Solutions.{HasSameValues, IsSolution}
 use Rattle.sparse_c.specs.Solved.{HoldsMatrix, IsMatrixTooLong}
-use Rattle.sparse_c_views.specs.Arrays.{plain_by_values, HoldsDense}
-use Rattle.sparse_c_views.specs.Reduced.{FirstAre}
-use Rattle.sparse_c_views.specs.Refused.{IsMemoryOr, IsRefusedFor}
-use Rattle.sparse_c_views.specs.Rests.{KeepsBehind}
-use Rattle.sparse_c_views.specs.Statuses.{number_of}
-use Rattle.sparse_c_views.specs.declared.refusal.Refusal.{Refusal}
-use Rattle.sparse_c_views.specs.declared.refusal.Refusal.TheVariants.{TooSmall}
-use Rattle.sparse_c_views.proofs.Joining.{both, found, refused}
+use Rattle.sparse_c_arrays.specs.Arrays.{plain_by_values, HoldsDense}
+use Rattle.sparse_c_arrays.specs.Reduced.{FirstAre}
+use Rattle.sparse_c_arrays.specs.Refused.{IsMemoryOr, IsRefusedFor}
+use Rattle.sparse_c_arrays.specs.Rests.{KeepsBehind}
+use Rattle.sparse_c_arrays.specs.Statuses.{number_of}
+use Rattle.sparse_c_arrays.specs.declared.refusal.Refusal.{Refusal}
+use Rattle.sparse_c_arrays.specs.declared.refusal.Refusal.TheVariants.{TooSmall}
+use Rattle.sparse_c_arrays.proofs.Joining.{both, found, refused}
 
 -- ---- a dense answer of a known shape, as it was written
 

@@ -4,10 +4,10 @@ use Rattle.std.specs.Prelude.{nat_abs}
 use Rattle.sparse_parser.specs.declared.error.MatrixMarketErrorKind.{MatrixMarketErrorKind}
 use Rattle.sparse_parser.specs.declared.error.MatrixMarketErrorKind.TheVariants as texts
 use Rattle.sparse_c.specs.Texts.{IsFaultOfText}
-use Rattle.sparse_c_views.proofs.Faultless.{kind_told}
-use Rattle.sparse_c_views.specs.Statuses.{number_of, refusal_of_text}
-use Rattle.sparse_c_views.specs.declared.refusal.Refusal.{Refusal}
-use Rattle.sparse_c_views.specs.declared.refusal.Refusal.TheVariants.{TooSmall}
+use Rattle.sparse_c_arrays.proofs.Faultless.{kind_told}
+use Rattle.sparse_c_arrays.specs.Statuses.{number_of, refusal_of_text}
+use Rattle.sparse_c_arrays.specs.declared.refusal.Refusal.{Refusal}
+use Rattle.sparse_c_arrays.specs.declared.refusal.Refusal.TheVariants.{TooSmall}
 
 apart : (n : ℕ) → n ≢ 5 → pos n ≢ number_of TooSmall
 apart n not_five small = not_five (ap nat_abs small)

@@ -9,7 +9,7 @@ use Rattle.sparse_c.specs.declared.arguments.Combination.{Combination}
 use Rattle.sparse_c.specs.declared.arguments.Combination.TheVariants.{Sum, Difference}
 use Rattle.sparse_c.specs.declared.arguments.Combination.TheVariants.{Multiples, Product}
 use Rattle.sparse_c.specs.declared.arguments.Pair.{Pair}
-use Rattle.sparse_c_views.specs.Arrays.{plain_by_rows}
+use Rattle.sparse_c_arrays.specs.Arrays.{plain_by_rows}
 
 -- the matrices have one shape
 abbrev pub HaveOneShape : Compressed ℤ → Compressed ℤ → Type 0

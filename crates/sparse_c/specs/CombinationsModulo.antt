@@ -5,10 +5,10 @@ use Rattle.sparse_compressed.specs.Compressed.{IsSound}
 use Rattle.sparse_c.specs.Combinations.{combination_of}
 use Rattle.sparse_c.specs.Moduli.{IsFaultModulo}
 use Rattle.sparse_c.specs.declared.arguments.Pair.{Pair}
-use Rattle.sparse_c_views.specs.Arrays.{Room}
-use Rattle.sparse_c_views.specs.Reduced.{AreReduced}
-use Rattle.sparse_c_views.specs.Refused.{IsFaultOfPair}
-use Rattle.sparse_c_views.specs.Written.{WritesRows}
+use Rattle.sparse_c_arrays.specs.Arrays.{Room}
+use Rattle.sparse_c_arrays.specs.Reduced.{AreReduced}
+use Rattle.sparse_c_arrays.specs.Refused.{IsFaultOfPair}
+use Rattle.sparse_c_arrays.specs.Written.{WritesRows}
 
 -- the status of a call that combines a pair modulo m, and the arrays before it and after it
 pub record CombinesModulo (m : ℕ) (p : Pair) (before after : Room) (status : ℤ) : Type 0 where

@@ -6,11 +6,11 @@ use Rattle.sparse_algebra.specs.Plain.{Plain, plain_product}
 use Rattle.sparse_coo_dense.specs.DensePlain.{plain_full}
 use Rattle.sparse_c.specs.Moduli.{IsFaultModulo}
 use Rattle.sparse_c.specs.declared.dense.Factors.{Factors}
-use Rattle.sparse_c_views.specs.Arrays.{plain_by_rows, plain_by_values, HoldsDense}
-use Rattle.sparse_c_views.specs.Reduced.{AreReduced}
-use Rattle.sparse_c_views.specs.Refused.{IsDenseRefused, IsFaultOfSystem, IsSystemSound}
-use Rattle.sparse_c_views.specs.Rests.{KeepsBehind}
-use Rattle.sparse_c_views.specs.Statuses.{FindsNoFault}
+use Rattle.sparse_c_arrays.specs.Arrays.{plain_by_rows, plain_by_values, HoldsDense}
+use Rattle.sparse_c_arrays.specs.Reduced.{AreReduced}
+use Rattle.sparse_c_arrays.specs.Refused.{IsDenseRefused, IsFaultOfSystem, IsSystemSound}
+use Rattle.sparse_c_arrays.specs.Rests.{KeepsBehind}
+use Rattle.sparse_c_arrays.specs.Statuses.{FindsNoFault}
 
 -- the product, which stores all of its entries
 abbrev pub product_of : (R : CommRing) → Factors → Plain R

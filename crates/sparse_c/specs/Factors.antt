@@ -8,18 +8,18 @@ use Rattle.sparse_algebra.specs.Plain.{Plain, plain_transpose}
 use Rattle.sparse_compressed.specs.Compressed.{Compressed, IsSound}
 use Rattle.sparse_compressed.specs.PlainOfLanes.{plain_of_rows}
 use Rattle.sparse_factor.specs.Fill.{InFill, UpperBase}
-use Rattle.sparse_ldl.specs.Factorisations.{IsFactorisation}
+use Rattle.sparse_factor.specs.Factorisations.{IsFactorisation}
 use Rattle.sparse_c.specs.Moduli.{IsFaultModulo}
 use Rattle.sparse_c.specs.Symmetric.{symmetric_by_cols, HasNoFactors}
-use Rattle.sparse_c_views.specs.Arrays.{places_of, Room, HoldsCols, HoldsRows}
+use Rattle.sparse_c_arrays.specs.Arrays.{places_of, Room, HoldsCols, HoldsRows}
 use Rattle.sparse_algebra.specs.Integers.{element_of}
-use Rattle.sparse_c_views.specs.Reduced.{AreReduced}
-use Rattle.sparse_c_views.specs.Refused.{IsFaultOf, IsRefusedFor, IsTooSmall}
-use Rattle.sparse_c_views.specs.Rests.{KeepsBehind, KeepsRest}
-use Rattle.sparse_c_views.specs.Statuses.{number_of, FindsNoFault}
-use Rattle.sparse_c_views.specs.Untouched.{IsUntouched}
-use Rattle.sparse_c_views.specs.declared.refusal.Refusal.{Refusal}
-use Rattle.sparse_c_views.specs.declared.refusal.Refusal.TheVariants.{Singular, TooSmall}
+use Rattle.sparse_c_arrays.specs.Reduced.{AreReduced}
+use Rattle.sparse_c_arrays.specs.Refused.{IsFaultOf, IsRefusedFor, IsTooSmall}
+use Rattle.sparse_c_arrays.specs.Rests.{KeepsBehind, KeepsRest}
+use Rattle.sparse_c_arrays.specs.Statuses.{number_of, FindsNoFault}
+use Rattle.sparse_c_arrays.specs.Untouched.{IsUntouched}
+use Rattle.sparse_c_arrays.specs.declared.refusal.Refusal.{Refusal}
+use Rattle.sparse_c_arrays.specs.declared.refusal.Refusal.TheVariants.{Singular, TooSmall}
 
 -- the first n numbers, as ring elements, and then zeros
 abbrev pub first_elements : (R : CommRing) → ℕ → List ℤ → ℕ → R.Carrier

@@ -4,10 +4,10 @@ use Rattle.sparse_factor.specs.Fill.{InFill, StoresByColumns, TriangleBase}
 use Rattle.sparse_factor.specs.declared.factorization.Triangle.{Triangle}
 use Rattle.sparse_factor.specs.declared.factorization.Triangle.TheVariants.{Upper, Lower, Both}
 use Rattle.sparse_pattern.specs.Raw.{Raw, IsValid, nnz_of}
-use Rattle.sparse_c_views.specs.Arrays.{PatternRoom, HoldsPattern}
-use Rattle.sparse_c_views.specs.Refused.{IsFaultOfPattern, IsPatternTooSmall}
-use Rattle.sparse_c_views.specs.declared.refusal.Refusal.{Refusal}
-use Rattle.sparse_c_views.specs.declared.refusal.Refusal.TheVariants.{UnknownChoice}
+use Rattle.sparse_c_arrays.specs.Arrays.{PatternRoom, HoldsPattern}
+use Rattle.sparse_c_arrays.specs.Refused.{IsFaultOfPattern, IsPatternTooSmall}
+use Rattle.sparse_c_arrays.specs.declared.refusal.Refusal.{Refusal}
+use Rattle.sparse_c_arrays.specs.declared.refusal.Refusal.TheVariants.{UnknownChoice}
 
 abbrev pub triangle_number : Triangle → ℤ
 triangle_number Upper = pos 0

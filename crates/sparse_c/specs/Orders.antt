@@ -8,10 +8,10 @@ use Rattle.sparse_c.specs.Moduli.{IsFaultModulo}
 use Rattle.sparse_c.specs.declared.arguments.Order.{Order}
 use Rattle.sparse_c.specs.declared.arguments.Order.TheVariants.{Rows, Columns}
 use Rattle.sparse_c.specs.declared.arguments.Triplets.{Triplets}
-use Rattle.sparse_c_views.specs.Arrays.{plain_of_lists, Room}
-use Rattle.sparse_c_views.specs.Reduced.{AreReduced}
-use Rattle.sparse_c_views.specs.Refused.{IsFaultOfList}
-use Rattle.sparse_c_views.specs.Written.{WritesRows}
+use Rattle.sparse_c_arrays.specs.Arrays.{plain_of_lists, Room}
+use Rattle.sparse_c_arrays.specs.Reduced.{AreReduced}
+use Rattle.sparse_c_arrays.specs.Refused.{IsFaultOfList}
+use Rattle.sparse_c_arrays.specs.Written.{WritesRows}
 
 module _ (R : CommRing) where
   -- the plain matrix of the rows that have the arrays of the matrix in this order

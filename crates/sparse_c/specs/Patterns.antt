@@ -2,9 +2,9 @@
 use Rattle.std.specs.Prelude.{◌≡◌, ◌⊎◌, ℕ, ℤ}
 use Rattle.sparse_products.specs.Products.{IsProductOf}
 use Rattle.sparse_pattern.specs.Raw.{Raw, IsValid, nnz_of}
-use Rattle.sparse_c_views.specs.Refused.{IsFaultOfPattern, IsMemoryOr}
-use Rattle.sparse_c_views.specs.Statuses.{number_of}
-use Rattle.sparse_c_views.specs.declared.refusal.Refusal.{Refusal}
+use Rattle.sparse_c_arrays.specs.Refused.{IsFaultOfPattern, IsMemoryOr}
+use Rattle.sparse_c_arrays.specs.Statuses.{number_of}
+use Rattle.sparse_c_arrays.specs.declared.refusal.Refusal.{Refusal}
 
 -- n is the number of places of a pattern, which are those of the product
 pub record CountsProduct (a b : Raw) (n : ℕ) : Type 0 where

@@ -2,7 +2,7 @@
 use Rattle.std.specs.Prelude.{ℕ, ℤ, List}
 use Rattle.std.specs.Borrow.{MutBor}
 use Rattle.sparse_c.specs.declared.arguments.Room as lent
-use Rattle.sparse_c_views.specs.Arrays.{Room, room_of}
+use Rattle.sparse_c_arrays.specs.Arrays.{Room, room_of}
 
 abbrev pub room_before : lent.Room → Room
 room_before r = room_of r.offsets.now r.indices.now r.values.now r.places.now

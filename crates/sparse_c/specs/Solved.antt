@@ -7,19 +7,19 @@ use Rattle.sparse_algebra.specs.ModNumbers.{mod_value}
 use Rattle.sparse_algebra.specs.Moduli.{mod_ring}
 use Rattle.sparse_algebra.specs.Plain.{Plain, plain_scaled, plain_transpose}
 use Rattle.sparse_compressed.specs.Compressed.{Compressed, IsSound}
-use Rattle.sparse_solve.specs.Solutions.{plain_lower, IsSingular, IsSolution}
+use Rattle.sparse_with_dense.specs.Solutions.{plain_lower, IsSingular, IsSolution}
 use Rattle.sparse_c.specs.Moduli.{IsFaultModulo}
-use Rattle.sparse_c_views.specs.Arrays.{plain_by_cols, plain_by_rows, plain_by_values}
-use Rattle.sparse_c_views.specs.Arrays.{places_of, Room, HoldsRows}
+use Rattle.sparse_c_arrays.specs.Arrays.{plain_by_cols, plain_by_rows, plain_by_values}
+use Rattle.sparse_c_arrays.specs.Arrays.{places_of, Room, HoldsRows}
 use Rattle.sparse_algebra.specs.Integers.{element_of}
-use Rattle.sparse_c_views.specs.Reduced.{AreReduced}
-use Rattle.sparse_c_views.specs.Refused.{IsFaultOf, IsFaultOfSystem, IsRefusedFor, IsSystemSound}
-use Rattle.sparse_c_views.specs.Refused.{IsTooSmall}
-use Rattle.sparse_c_views.specs.Rests.{KeepsRest}
-use Rattle.sparse_c_views.specs.Statuses.{number_of, FindsNoFault}
-use Rattle.sparse_c_views.specs.Untouched.{IsUntouched}
-use Rattle.sparse_c_views.specs.declared.refusal.Refusal.{Refusal}
-use Rattle.sparse_c_views.specs.declared.refusal.Refusal.TheVariants.{Singular, TooSmall}
+use Rattle.sparse_c_arrays.specs.Reduced.{AreReduced}
+use Rattle.sparse_c_arrays.specs.Refused.{IsFaultOf, IsFaultOfSystem, IsRefusedFor, IsSystemSound}
+use Rattle.sparse_c_arrays.specs.Refused.{IsTooSmall}
+use Rattle.sparse_c_arrays.specs.Rests.{KeepsRest}
+use Rattle.sparse_c_arrays.specs.Statuses.{number_of, FindsNoFault}
+use Rattle.sparse_c_arrays.specs.Untouched.{IsUntouched}
+use Rattle.sparse_c_arrays.specs.declared.refusal.Refusal.{Refusal}
+use Rattle.sparse_c_arrays.specs.declared.refusal.Refusal.TheVariants.{Singular, TooSmall}
 
 module _ (R : CommRing) where
   -- the matrix, or its transpose

@@ -3,13 +3,13 @@ use Rattle.std.specs.Prelude.{◌≡◌, ◌⊎◌, ℕ, ℤ, List}
 use Rattle.sparse_algebra.specs.Algebra.{CommRing}
 use Rattle.sparse_algebra.specs.Plain.{Plain, plain_product}
 use Rattle.sparse_compressed.specs.Compressed.{Compressed}
-use Rattle.sparse_ldl.specs.Factorisations.{plain_symmetric, IsFactorisation}
-use Rattle.sparse_solve.specs.Solutions.{HasSameValues}
+use Rattle.sparse_factor.specs.Factorisations.{plain_symmetric, IsFactorisation}
+use Rattle.sparse_with_dense.specs.Solutions.{HasSameValues}
 use Rattle.sparse_c.specs.Solved.{HoldsMatrix, IsMatrixTooLong}
-use Rattle.sparse_c_views.specs.Arrays.{plain_by_cols}
-use Rattle.sparse_c_views.specs.Refused.{IsFaultOfSystem, IsSystemSound}
-use Rattle.sparse_c_views.specs.declared.refusal.Refusal.{Refusal}
-use Rattle.sparse_c_views.specs.declared.refusal.Refusal.TheVariants.{Singular}
+use Rattle.sparse_c_arrays.specs.Arrays.{plain_by_cols}
+use Rattle.sparse_c_arrays.specs.Refused.{IsFaultOfSystem, IsSystemSound}
+use Rattle.sparse_c_arrays.specs.declared.refusal.Refusal.{Refusal}
+use Rattle.sparse_c_arrays.specs.declared.refusal.Refusal.TheVariants.{Singular}
 
 module _ (R : CommRing) where
   -- the symmetric matrix with the entries of the matrix by columns on and above the diagonal

@@ -5,19 +5,19 @@ use Rattle.sparse_algebra.specs.ModNumbers.{mod_value}
 use Rattle.sparse_algebra.specs.Moduli.{mod_ring}
 use Rattle.sparse_algebra.specs.Plain.{Plain}
 use Rattle.sparse_compressed.specs.Compressed.{Compressed}
-use Rattle.sparse_solve.specs.Solutions.{IsSolution}
+use Rattle.sparse_with_dense.specs.Solutions.{IsSolution}
 use Rattle.sparse_c.specs.Moduli.{IsFaultModulo}
 use Rattle.sparse_c.specs.Solved.{lower_of, HoldsMatrix, IsFaultOfLower, IsMatrixTooLong}
 use Rattle.sparse_c.specs.Symmetric.{IsFaultOfSymmetric, SolvesSymmetric}
 use Rattle.sparse_c.specs.declared.systems.Equation.{Equation}
 use Rattle.sparse_c.specs.declared.systems.Equation.TheVariants.{Lower, Symmetric}
 use Rattle.sparse_c.specs.declared.systems.System.{System}
-use Rattle.sparse_c_views.specs.Arrays.{plain_by_values}
-use Rattle.sparse_c_views.specs.Reduced.{AreReduced}
-use Rattle.sparse_c_views.specs.Refused.{IsRefusedFor, IsSystemSound}
-use Rattle.sparse_c_views.specs.Rests.{KeepsBehind}
-use Rattle.sparse_c_views.specs.Statuses.{FindsNoFault}
-use Rattle.sparse_c_views.specs.declared.refusal.Refusal.{Refusal}
+use Rattle.sparse_c_arrays.specs.Arrays.{plain_by_values}
+use Rattle.sparse_c_arrays.specs.Reduced.{AreReduced}
+use Rattle.sparse_c_arrays.specs.Refused.{IsRefusedFor, IsSystemSound}
+use Rattle.sparse_c_arrays.specs.Rests.{KeepsBehind}
+use Rattle.sparse_c_arrays.specs.Statuses.{FindsNoFault}
+use Rattle.sparse_c_arrays.specs.declared.refusal.Refusal.{Refusal}
 
 -- x solves the equation with the matrix by columns and b, which has n rows and m columns
 abbrev pub Solves : (R : CommRing) → Equation → Compressed ℤ → Plain R → Plain R → ℕ → ℕ → Type 0

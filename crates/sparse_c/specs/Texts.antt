@@ -7,10 +7,10 @@ use Rattle.sparse_io.specs.Written.{text_of}
 use Rattle.sparse_market_scalar.specs.ScalarTypes.{wrapping_scalar}
 use Rattle.sparse_parser.specs.Meaning.{Means}
 use Rattle.sparse_parser.specs.declared.error.MatrixMarketErrorKind.{MatrixMarketErrorKind}
-use Rattle.sparse_c_views.specs.Lists.{ListRoom, HoldsList, IsListTooSmall}
-use Rattle.sparse_c_views.specs.Statuses.{refusal_of_text}
-use Rattle.sparse_c_views.specs.declared.refusal.Refusal.{Refusal}
-use Rattle.sparse_c_views.specs.declared.refusal.Refusal.TheVariants.{Unreadable}
+use Rattle.sparse_c_arrays.specs.Lists.{ListRoom, HoldsList, IsListTooSmall}
+use Rattle.sparse_c_arrays.specs.Statuses.{refusal_of_text}
+use Rattle.sparse_c_arrays.specs.declared.refusal.Refusal.{Refusal}
+use Rattle.sparse_c_arrays.specs.declared.refusal.Refusal.TheVariants.{Unreadable}
 
 -- the text means this list of integer triplets
 abbrev pub IsTextOf : List ℕ → Coo ℤ → Type 0

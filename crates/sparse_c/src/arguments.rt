@@ -5,7 +5,7 @@
 ghost use Rattle.std.specs.Int.{w64};
 ghost use Rattle.std.specs.Int.RustNames.{FitsSigned};
 
-use sparse_c_views::lanes::Lanes;
+use sparse_c_arrays::lanes::Lanes;
 
 /// The arrays that C lends for a matrix by rows, and the variable for its number of places.
 #[derive(Drop)]
@@ -71,7 +71,7 @@ macro_rules! room {
 // The arrays of a matrix by rows or by columns.
 macro_rules! lanes {
     ($major_dim:expr, $minor_dim:expr, $offsets:expr, $indices:expr, $values:expr) => {
-        sparse_c_views::lanes::Lanes {
+        sparse_c_arrays::lanes::Lanes {
             major_dim: $major_dim,
             minor_dim: $minor_dim,
             offsets: $offsets,

@@ -1,9 +1,9 @@
 //! Assembly of matrices from triplets.
 
 ghost use Rattle.sparse_coo_dense.specs.Coo.{AreParts};
-ghost use Rattle.sparse_c_views.specs.Arrays.{plain_of_lists, ring64, room_of};
-ghost use Rattle.sparse_c_views.specs.Refused.{IsFaultOfList};
-ghost use Rattle.sparse_c_views.specs.Written.{WritesCols, WritesRows};
+ghost use Rattle.sparse_c_arrays.specs.Arrays.{plain_of_lists, ring64, room_of};
+ghost use Rattle.sparse_c_arrays.specs.Refused.{IsFaultOfList};
+ghost use Rattle.sparse_c_arrays.specs.Written.{WritesCols, WritesRows};
 
 use crate::arguments::triplets;
 use crate::assembling::write_assembly;

@@ -4,12 +4,12 @@ ghost use Rattle.std.specs.Prelude.{◌≡◌, pos};
 ghost use Rattle.sparse_algebra.specs.Moduli.{mod_ring};
 ghost use Rattle.sparse_coo_dense.specs.Coo.{AreParts};
 ghost use Rattle.sparse_c.specs.Moduli.{moduli, IsFaultModulo, IsNoneOf};
-ghost use Rattle.sparse_c_views.specs.Arrays.{plain_of_lists, room_of};
-ghost use Rattle.sparse_c_views.specs.Reduced.{AreReduced};
-ghost use Rattle.sparse_c_views.specs.Refused.{IsFaultOfList};
-ghost use Rattle.sparse_c_views.specs.Statuses.{number_of};
-ghost use Rattle.sparse_c_views.specs.Written.{WritesCols, WritesRows};
-ghost use Rattle.sparse_c_views.specs.declared.refusal.Refusal.TheVariants.{UnknownChoice};
+ghost use Rattle.sparse_c_arrays.specs.Arrays.{plain_of_lists, room_of};
+ghost use Rattle.sparse_c_arrays.specs.Reduced.{AreReduced};
+ghost use Rattle.sparse_c_arrays.specs.Refused.{IsFaultOfList};
+ghost use Rattle.sparse_c_arrays.specs.Statuses.{number_of};
+ghost use Rattle.sparse_c_arrays.specs.Written.{WritesCols, WritesRows};
+ghost use Rattle.sparse_c_arrays.specs.declared.refusal.Refusal.TheVariants.{UnknownChoice};
 
 use crate::arguments::triplets;
 use crate::assembling::write_assembly_by_modulus;

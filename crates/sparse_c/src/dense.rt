@@ -7,24 +7,24 @@ ghost use Rattle.sparse_coo_dense.specs.DensePlain.{plain_full, plain_of_dense};
 ghost use Rattle.sparse_compressed.specs.Compressed.{arrays_of};
 ghost use Rattle.sparse_c.specs.Dense.{MultipliesModulo};
 ghost use Rattle.sparse_c.specs.Moduli.{moduli, IsFaultModulo, IsNoneOf};
-ghost use Rattle.sparse_c_views.specs.Arrays.{plain_by_rows, plain_by_values, ring64, HoldsDense};
-ghost use Rattle.sparse_c_views.specs.Reduced.{AreReduced, FirstAre};
-ghost use Rattle.sparse_c_views.specs.Refused.{IsDenseRefused, IsFaultOfSystem, IsMemoryOr};
-ghost use Rattle.sparse_c_views.specs.Refused.{IsSystemSound};
-ghost use Rattle.sparse_c_views.specs.Rests.{KeepsBehind};
-ghost use Rattle.sparse_c_views.specs.Statuses.{number_of, FindsNoFault};
-ghost use Rattle.sparse_c_views.specs.declared.refusal.Refusal.TheVariants.{UnknownChoice};
+ghost use Rattle.sparse_c_arrays.specs.Arrays.{plain_by_rows, plain_by_values, ring64, HoldsDense};
+ghost use Rattle.sparse_c_arrays.specs.Reduced.{AreReduced, FirstAre};
+ghost use Rattle.sparse_c_arrays.specs.Refused.{IsDenseRefused, IsFaultOfSystem, IsMemoryOr};
+ghost use Rattle.sparse_c_arrays.specs.Refused.{IsSystemSound};
+ghost use Rattle.sparse_c_arrays.specs.Rests.{KeepsBehind};
+ghost use Rattle.sparse_c_arrays.specs.Statuses.{number_of, FindsNoFault};
+ghost use Rattle.sparse_c_arrays.specs.declared.refusal.Refusal.TheVariants.{UnknownChoice};
 
 use crate::arguments::lanes;
 use crate::moduli::by_modulus;
 use sparse_algebra::scalar::{Mod, W64};
-use sparse_c_views::dense::dense_matrix_of;
-use sparse_c_views::lanes::Lanes;
-use sparse_c_views::number::Number;
-use sparse_c_views::refusal::Refusal;
-use sparse_c_views::writing::finish_dense;
+use sparse_c_arrays::dense::dense_matrix_of;
+use sparse_c_arrays::lanes::Lanes;
+use sparse_c_arrays::number::Number;
+use sparse_c_arrays::refusal::Refusal;
+use sparse_c_arrays::writing::finish_dense;
 use sparse_coo_dense::dense::DMatrix;
-use sparse_dense_products::mul_csr_dense;
+use sparse_with_dense::mul_csr_dense;
 use std::alloc::Global;
 
 /// Writes the product of a matrix by rows and a dense matrix: `a` with `rows` rows and `inner` columns, `b` with `inner`

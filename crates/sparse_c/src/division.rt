@@ -11,22 +11,22 @@ ghost use Rattle.sparse_compressed.specs.PlainOfLanes.{plain_of_rows};
 ghost use Rattle.sparse_c.specs.Moduli.{moduli, IsFaultModulo, IsNoneOf};
 ghost use Rattle.sparse_c.specs.Rooms.{room_after, room_before};
 ghost use Rattle.sparse_c.specs.Solved.{Divides, DividesModulo, IsFaultOfQuotient, IsQuotientBy};
-ghost use Rattle.sparse_c_views.specs.Arrays.{plain_by_rows, ring64, room_of};
+ghost use Rattle.sparse_c_arrays.specs.Arrays.{plain_by_rows, ring64, room_of};
 ghost use Rattle.sparse_algebra.specs.Integers.{element_of};
-ghost use Rattle.sparse_c_views.specs.Reduced.{AreReduced, FirstAre};
-ghost use Rattle.sparse_c_views.specs.Refused.{IsMemoryOr};
-ghost use Rattle.sparse_c_views.specs.Statuses.{number_of};
-ghost use Rattle.sparse_c_views.specs.declared.refusal.Refusal.TheVariants.{UnknownChoice};
+ghost use Rattle.sparse_c_arrays.specs.Reduced.{AreReduced, FirstAre};
+ghost use Rattle.sparse_c_arrays.specs.Refused.{IsMemoryOr};
+ghost use Rattle.sparse_c_arrays.specs.Statuses.{number_of};
+ghost use Rattle.sparse_c_arrays.specs.declared.refusal.Refusal.TheVariants.{UnknownChoice};
 
 use crate::arguments::{Room, lanes, room};
 use crate::moduli::by_modulus;
 use sparse_algebra::scalar::{Mod, W64};
-use sparse_c_views::lanes::Lanes;
-use sparse_c_views::number::Number;
-use sparse_c_views::refusal::Refusal;
-use sparse_c_views::writing::finish_rows;
+use sparse_c_arrays::lanes::Lanes;
+use sparse_c_arrays::number::Number;
+use sparse_c_arrays::refusal::Refusal;
+use sparse_c_arrays::writing::finish_rows;
 use sparse_csr_csc::csr::CsrMatrix;
-use sparse_solve::div_scalar_csr;
+use sparse_with_dense::div_scalar_csr;
 use std::alloc::Global;
 
 /// Writes the quotient of a matrix by rows and an integer: each value times the inverse of the integer, at the same

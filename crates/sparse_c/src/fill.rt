@@ -4,17 +4,17 @@ ghost use Rattle.std.specs.Prelude.{◌≡◌, ◌≢◌, pos, Err, IfOk, IfErr,
 ghost use Rattle.sparse_pattern.specs.Raw.{raw_of, IsValid};
 ghost use Rattle.sparse_c.specs.Fills.{triangle_number, CountsFill, IsFaultOfFill, IsFillOf};
 ghost use Rattle.sparse_c.specs.Fills.{IsFillTooSmall, IsNoTriangle, NamesNoTriangle, WritesFill};
-ghost use Rattle.sparse_c_views.specs.Arrays.{pattern_room_of};
-ghost use Rattle.sparse_c_views.specs.Refused.{IsMemoryOr, IsRefusedFor};
-ghost use Rattle.sparse_c_views.specs.Rests.{KeepsPatternRest};
-ghost use Rattle.sparse_c_views.specs.Statuses.{number_of, FindsNoFault};
-ghost use Rattle.sparse_c_views.specs.Untouched.{IsPatternUntouched};
-ghost use Rattle.sparse_c_views.specs.declared.refusal.Refusal.TheVariants.{TooSmall};
-ghost use Rattle.sparse_c_views.specs.declared.refusal.Refusal.TheVariants.{UnknownChoice};
+ghost use Rattle.sparse_c_arrays.specs.Arrays.{pattern_room_of};
+ghost use Rattle.sparse_c_arrays.specs.Refused.{IsMemoryOr, IsRefusedFor};
+ghost use Rattle.sparse_c_arrays.specs.Rests.{KeepsPatternRest};
+ghost use Rattle.sparse_c_arrays.specs.Statuses.{number_of, FindsNoFault};
+ghost use Rattle.sparse_c_arrays.specs.Untouched.{IsPatternUntouched};
+ghost use Rattle.sparse_c_arrays.specs.declared.refusal.Refusal.TheVariants.{TooSmall};
+ghost use Rattle.sparse_c_arrays.specs.declared.refusal.Refusal.TheVariants.{UnknownChoice};
 
-use sparse_c_views::lanes::pattern_of;
-use sparse_c_views::patterns::finish_pattern;
-use sparse_c_views::refusal::Refusal;
+use sparse_c_arrays::lanes::pattern_of;
+use sparse_c_arrays::patterns::finish_pattern;
+use sparse_c_arrays::refusal::Refusal;
 use sparse_factor::factorization::{CscSymbolicCholesky, Triangle};
 use sparse_pattern::pattern::SparsityPattern;
 use std::alloc::Global;

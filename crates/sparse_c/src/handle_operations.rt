@@ -5,7 +5,7 @@ ghost use Rattle.sparse_algebra.specs.Integers.{element_of};
 ghost use Rattle.sparse_algebra.specs.Plain.{plain_difference, plain_product};
 ghost use Rattle.sparse_algebra.specs.Plain.{plain_scaled, plain_sum};
 ghost use Rattle.sparse_algebra.specs.Plain.{plain_transpose};
-ghost use Rattle.sparse_c_views.specs.Arrays.{ring64};
+ghost use Rattle.sparse_c_arrays.specs.Arrays.{ring64};
 ghost use Rattle.sparse_handles.specs.Behind.{plain_behind, Answers, IsEmpty};
 ghost use Rattle.sparse_handles.specs.Behind.{IsUnlike, IsUnmatched};
 ghost use Rattle.sparse_handles.specs.Behind.{Holds};

@@ -2,14 +2,14 @@
 
 ghost use Rattle.std.specs.Prelude.{◌≡◌, None};
 ghost use Rattle.sparse_compressed.specs.Compressed.{arrays_of};
-ghost use Rattle.sparse_c_views.specs.Arrays.{places_of, plain_by_rows, plain_of_lists};
-ghost use Rattle.sparse_c_views.specs.Arrays.{ring64, room_of, HoldsRows};
-ghost use Rattle.sparse_c_views.specs.Refused.{IsFaultOf, IsFaultOfList};
-ghost use Rattle.sparse_c_views.specs.Rests.{KeepsRest};
+ghost use Rattle.sparse_c_arrays.specs.Arrays.{places_of, plain_by_rows, plain_of_lists};
+ghost use Rattle.sparse_c_arrays.specs.Arrays.{ring64, room_of, HoldsRows};
+ghost use Rattle.sparse_c_arrays.specs.Refused.{IsFaultOf, IsFaultOfList};
+ghost use Rattle.sparse_c_arrays.specs.Rests.{KeepsRest};
 ghost use Rattle.sparse_handles.specs.Behind.{plain_behind, Answers, Holds, IsEmpty, IsUnwritten};
 
 use crate::arguments::lanes;
-use sparse_c_views::lanes::Lanes;
+use sparse_c_arrays::lanes::Lanes;
 use sparse_handles::handle::MatrixHandle;
 use sparse_handles::making::{put_rows, put_triplets};
 use sparse_handles::operations::share;

@@ -17,7 +17,7 @@ macro_rules! by_modulus {
             998244353 => $call::<998244353>($($argument),*),
             1000000007 => $call::<1000000007>($($argument),*),
             2305843009213693951 => $call::<2305843009213693951>($($argument),*),
-            _ => sparse_c_views::refusal::Refusal::UnknownChoice.status(),
+            _ => sparse_c_arrays::refusal::Refusal::UnknownChoice.status(),
         }
     };
 }

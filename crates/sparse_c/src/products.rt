@@ -7,18 +7,18 @@ ghost use Rattle.sparse_algebra.specs.Plain.{plain_product};
 ghost use Rattle.sparse_pattern.specs.Raw.{raw_of, IsValid};
 ghost use Rattle.sparse_c.specs.Moduli.{moduli, IsFaultModulo, IsNoneOf};
 ghost use Rattle.sparse_c.specs.Patterns.{CountsProduct, IsPatternPairRefused};
-ghost use Rattle.sparse_c_views.specs.Arrays.{plain_by_rows, ring64, room_of};
-ghost use Rattle.sparse_c_views.specs.Reduced.{AreReduced};
-ghost use Rattle.sparse_c_views.specs.Refused.{IsFaultOfPair};
-ghost use Rattle.sparse_c_views.specs.Statuses.{number_of, FindsNoFault};
-ghost use Rattle.sparse_c_views.specs.Written.{WritesRows};
-ghost use Rattle.sparse_c_views.specs.declared.refusal.Refusal.TheVariants.{UnknownChoice};
+ghost use Rattle.sparse_c_arrays.specs.Arrays.{plain_by_rows, ring64, room_of};
+ghost use Rattle.sparse_c_arrays.specs.Reduced.{AreReduced};
+ghost use Rattle.sparse_c_arrays.specs.Refused.{IsFaultOfPair};
+ghost use Rattle.sparse_c_arrays.specs.Statuses.{number_of, FindsNoFault};
+ghost use Rattle.sparse_c_arrays.specs.Written.{WritesRows};
+ghost use Rattle.sparse_c_arrays.specs.declared.refusal.Refusal.TheVariants.{UnknownChoice};
 
 use crate::arguments::{lanes, pair};
 use crate::combining::{write_combination, write_combination_by_modulus};
 use sparse_algebra::scalar::W64;
-use sparse_c_views::lanes::pattern_of;
-use sparse_c_views::refusal::Refusal;
+use sparse_c_arrays::lanes::pattern_of;
+use sparse_c_arrays::refusal::Refusal;
 use sparse_products::serial::spmm_csr_pattern;
 use std::alloc::Global;
 

@@ -7,12 +7,12 @@ ghost use Rattle.sparse_algebra.specs.WrappingValues.{w64_value};
 ghost use Rattle.sparse_compressed.specs.Compressed.{arrays_of};
 ghost use Rattle.sparse_c.specs.Moduli.{moduli, IsFaultModulo, IsNoneOf};
 ghost use Rattle.sparse_c.specs.Solved.{lower_of, HoldsSolution, IsFaultOfLower, IsSolutionTooLong};
-ghost use Rattle.sparse_c_views.specs.Arrays.{plain_by_values, ring64};
-ghost use Rattle.sparse_c_views.specs.Reduced.{AreReduced};
-ghost use Rattle.sparse_c_views.specs.Refused.{IsRefusedFor, IsSystemSound};
-ghost use Rattle.sparse_c_views.specs.Rests.{KeepsBehind};
-ghost use Rattle.sparse_c_views.specs.Statuses.{number_of, FindsNoFault};
-ghost use Rattle.sparse_c_views.specs.declared.refusal.Refusal.TheVariants.{UnknownChoice};
+ghost use Rattle.sparse_c_arrays.specs.Arrays.{plain_by_values, ring64};
+ghost use Rattle.sparse_c_arrays.specs.Reduced.{AreReduced};
+ghost use Rattle.sparse_c_arrays.specs.Refused.{IsRefusedFor, IsSystemSound};
+ghost use Rattle.sparse_c_arrays.specs.Rests.{KeepsBehind};
+ghost use Rattle.sparse_c_arrays.specs.Statuses.{number_of, FindsNoFault};
+ghost use Rattle.sparse_c_arrays.specs.declared.refusal.Refusal.TheVariants.{UnknownChoice};
 
 use crate::arguments::lanes;
 use crate::systems::{Equation, System, write_solution, write_solution_by_modulus};

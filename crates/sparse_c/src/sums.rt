@@ -3,9 +3,9 @@
 ghost use Rattle.sparse_algebra.specs.Integers.{element_of};
 ghost use Rattle.sparse_algebra.specs.Plain.{plain_sum, plain_difference, plain_scaled};
 ghost use Rattle.sparse_compressed.specs.Compressed.{arrays_of, IsSound};
-ghost use Rattle.sparse_c_views.specs.Arrays.{plain_by_rows, ring64, room_of};
-ghost use Rattle.sparse_c_views.specs.Refused.{IsFaultOfPair};
-ghost use Rattle.sparse_c_views.specs.Written.{WritesRows};
+ghost use Rattle.sparse_c_arrays.specs.Arrays.{plain_by_rows, ring64, room_of};
+ghost use Rattle.sparse_c_arrays.specs.Refused.{IsFaultOfPair};
+ghost use Rattle.sparse_c_arrays.specs.Written.{WritesRows};
 
 use crate::arguments::{lanes, pair};
 use crate::combining::write_combination;

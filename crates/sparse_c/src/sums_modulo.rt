@@ -6,12 +6,12 @@ ghost use Rattle.sparse_algebra.specs.Moduli.{mod_ring};
 ghost use Rattle.sparse_algebra.specs.Plain.{plain_sum, plain_difference, plain_scaled};
 ghost use Rattle.sparse_compressed.specs.Compressed.{arrays_of, IsSound};
 ghost use Rattle.sparse_c.specs.Moduli.{moduli, IsFaultModulo, IsNoneOf};
-ghost use Rattle.sparse_c_views.specs.Arrays.{plain_by_rows, room_of};
-ghost use Rattle.sparse_c_views.specs.Reduced.{AreReduced};
-ghost use Rattle.sparse_c_views.specs.Refused.{IsFaultOfPair};
-ghost use Rattle.sparse_c_views.specs.Statuses.{number_of};
-ghost use Rattle.sparse_c_views.specs.Written.{WritesRows};
-ghost use Rattle.sparse_c_views.specs.declared.refusal.Refusal.TheVariants.{UnknownChoice};
+ghost use Rattle.sparse_c_arrays.specs.Arrays.{plain_by_rows, room_of};
+ghost use Rattle.sparse_c_arrays.specs.Reduced.{AreReduced};
+ghost use Rattle.sparse_c_arrays.specs.Refused.{IsFaultOfPair};
+ghost use Rattle.sparse_c_arrays.specs.Statuses.{number_of};
+ghost use Rattle.sparse_c_arrays.specs.Written.{WritesRows};
+ghost use Rattle.sparse_c_arrays.specs.declared.refusal.Refusal.TheVariants.{UnknownChoice};
 
 use crate::arguments::{lanes, pair};
 use crate::combining::write_combination_by_modulus;

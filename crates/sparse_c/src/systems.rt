@@ -4,32 +4,32 @@ ghost use Rattle.std.specs.Prelude.{◌≡◌, ◌≢◌, ◌<◌, ◌≤◌, �
 ghost use Rattle.sparse_algebra.specs.declared.error.OperationErrorKind.TheVariants.{Singular};
 ghost use Rattle.sparse_coo_dense.specs.DensePlain.{plain_of_dense};
 ghost use Rattle.sparse_compressed.specs.PlainOfLanes.{plain_of_cols};
-ghost use Rattle.sparse_solve.specs.Solutions.{plain_lower, IsSingular, IsSolution};
+ghost use Rattle.sparse_with_dense.specs.Solutions.{plain_lower, IsSingular, IsSolution};
 ghost use Rattle.sparse_c.specs.Moduli.{moduli, IsNoneOf};
 ghost use Rattle.sparse_c.specs.Solved.{lower_of, transposed_if, HoldsMatrix, IsFaultOfLower};
 ghost use Rattle.sparse_c.specs.Solved.{IsMatrixTooLong};
 ghost use Rattle.sparse_c.specs.Symmetric.{IsFaultOfSymmetric, SolvesSymmetric};
 ghost use Rattle.sparse_c.specs.Systems.{IsFaultOfEquation, Solves, SolvesModulo};
-ghost use Rattle.sparse_c_views.specs.Arrays.{plain_by_values};
-ghost use Rattle.sparse_c_views.specs.Reduced.{FirstAre};
-ghost use Rattle.sparse_c_views.specs.Refused.{IsMemoryOr, IsRefusedFor, IsSystemSound};
-ghost use Rattle.sparse_c_views.specs.Rests.{KeepsBehind};
-ghost use Rattle.sparse_c_views.specs.Statuses.{number_of, FindsNoFault};
-ghost use Rattle.sparse_c_views.specs.declared.refusal.Refusal.TheVariants.{UnknownChoice};
+ghost use Rattle.sparse_c_arrays.specs.Arrays.{plain_by_values};
+ghost use Rattle.sparse_c_arrays.specs.Reduced.{FirstAre};
+ghost use Rattle.sparse_c_arrays.specs.Refused.{IsMemoryOr, IsRefusedFor, IsSystemSound};
+ghost use Rattle.sparse_c_arrays.specs.Rests.{KeepsBehind};
+ghost use Rattle.sparse_c_arrays.specs.Statuses.{number_of, FindsNoFault};
+ghost use Rattle.sparse_c_arrays.specs.declared.refusal.Refusal.TheVariants.{UnknownChoice};
 
 use crate::moduli::by_modulus;
 use sparse_algebra::error::OperationError;
 use sparse_algebra::operand::Op;
 use sparse_algebra::scalar::Mod;
-use sparse_c_views::dense::dense_matrix_of;
-use sparse_c_views::lanes::Lanes;
-use sparse_c_views::number::Number;
-use sparse_c_views::refusal::Refusal;
-use sparse_c_views::writing::finish_dense;
+use sparse_c_arrays::dense::dense_matrix_of;
+use sparse_c_arrays::lanes::Lanes;
+use sparse_c_arrays::number::Number;
+use sparse_c_arrays::refusal::Refusal;
+use sparse_c_arrays::writing::finish_dense;
 use sparse_coo_dense::dense::DMatrix;
 use sparse_csr_csc::csc::CscMatrix;
-use sparse_ldl::ldl::Ldl;
-use sparse_solve::spsolve_csc_lower_triangular;
+use sparse_factor::ldl::Ldl;
+use sparse_with_dense::spsolve_csc_lower_triangular;
 use std::alloc::Global;
 
 /// The equation that is solved.

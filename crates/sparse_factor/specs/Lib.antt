@@ -5,3 +5,6 @@ pub mod InnerColumns
 pub mod InnerChildren
 pub mod InnerMarks
 pub mod InnerTaken
+pub mod Factorisations
+pub mod Factors
+pub mod InnerFactors

@@ -1,5 +1,7 @@
-//! The symbolic Cholesky factorisation: the pattern of the factor of a sparse matrix.
+//! Factorisations: the pattern of the Cholesky factor of a sparse matrix, and the exact factors L D Lᵀ of a symmetric
+//! matrix over a commutative ring.
 #![tactic(auto)]
 
 pub mod factorization;
 pub mod laws;
+pub mod ldl;

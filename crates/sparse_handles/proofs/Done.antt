@@ -10,8 +10,8 @@ use Rattle.sparse_algebra.specs.WrappingValues.{w64_value}
 use Rattle.sparse_algebra.specs.declared.scalar.wrapping.W64.{W64}
 use Rattle.sparse_compressed.specs.Compressed.{Compressed}
 use Rattle.sparse_compressed.specs.PlainOfLanes.{plain_of_rows}
-use Rattle.sparse_c_views.specs.Arrays.{ring64}
-use Rattle.sparse_c_views.specs.declared.refusal.Refusal.{Refusal}
+use Rattle.sparse_c_arrays.specs.Arrays.{ring64}
+use Rattle.sparse_c_arrays.specs.declared.refusal.Refusal.{Refusal}
 use Rattle.sparse_handles.specs.Behind.{plain_behind, Holds}
 
 pub put_done : (answer : Result (Unit {0}) Refusal) (handle : Option (Compressed W64))

@@ -10,8 +10,8 @@ use Rattle.sparse_algebra.specs.WrappingValues.{w64_value}
 use Rattle.sparse_algebra.specs.declared.scalar.wrapping.W64.{W64}
 use Rattle.sparse_coo_dense.specs.Dense.{Dense}
 use Rattle.sparse_coo_dense.specs.DensePlain.{plain_of_dense}
-use Rattle.sparse_c_views.specs.Arrays.{plain_by_values, ring64}
-use Rattle.sparse_c_views.specs.declared.refusal.Refusal.{Refusal}
+use Rattle.sparse_c_arrays.specs.Arrays.{plain_by_values, ring64}
+use Rattle.sparse_c_arrays.specs.declared.refusal.Refusal.{Refusal}
 use Rattle.sparse_compressed.specs.Compressed.{Compressed}
 use Rattle.sparse_compressed.specs.PlainOfLanes.{plain_of_cols, plain_of_rows}
 use Rattle.sparse_handles.proofs.Done.{behind, held}
@@ -19,9 +19,10 @@ use Rattle.sparse_handles.proofs.Triangles.{solved_over}
 use Rattle.sparse_handles.specs.Behind.{plain_behind}
 use Rattle.sparse_handles.specs.Factored.{product_behind, zero64, HoldsFactors}
 use Rattle.sparse_handles.specs.Solved.{SolvesInPlace}
-use Rattle.sparse_ldl.specs.Factorisations.{plain_symmetric, IsFactorisation, IsUnitLower}
-use Rattle.sparse_ldl.specs.Factors.{diagonal, plain_of_factors, symmetric_of, Factors, HavePivots}
-use Rattle.sparse_solve.specs.Solutions.{HasSameValues, IsSolution}
+use Rattle.sparse_factor.specs.Factorisations.{plain_symmetric, IsFactorisation, IsUnitLower}
+use Rattle.sparse_factor.specs.Factors.{diagonal, plain_of_factors, symmetric_of}
+use Rattle.sparse_factor.specs.Factors.{Factors, HavePivots}
+use Rattle.sparse_with_dense.specs.Solutions.{HasSameValues, IsSolution}
 
 pub factorisation : (a : Plain ring64) (m : Compressed W64) (s : Factors W64)
     → plain_of_cols ring64 w64_value m ≡ a → s.l.pattern.minor_dim ≡ m.pattern.minor_dim

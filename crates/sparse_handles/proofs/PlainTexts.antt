@@ -19,8 +19,8 @@ use Rattle.sparse_algebra.specs.declared.scalar.wrapping.W64.{W64}
 use Rattle.sparse_algebra.proofs.WholeNumbers.{number_of-class}
 use Rattle.sparse_coo_dense.specs.Coo.{Coo, coo_of}
 use Rattle.sparse_coo_dense.specs.CooPlain.{plain_of_coo}
-use Rattle.sparse_c_views.specs.Arrays.{ring64}
-use Rattle.sparse_c_views.specs.declared.refusal.Refusal.{Refusal}
+use Rattle.sparse_c_arrays.specs.Arrays.{ring64}
+use Rattle.sparse_c_arrays.specs.declared.refusal.Refusal.{Refusal}
 use Rattle.sparse_compressed.specs.Compressed.{Compressed, IsSound, lane_triplets}
 use Rattle.sparse_compressed.specs.PlainOfLanes.{plain_of_rows}
 use Rattle.sparse_compressed.proofs.RowOrder.{row_order-rows}

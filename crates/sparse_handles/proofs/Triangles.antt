@@ -15,7 +15,7 @@ use Rattle.sparse_algebra.specs.declared.scalar.wrapping.W64.{W64}
 use Rattle.sparse_coo_dense.specs.Dense.{Dense}
 use Rattle.sparse_coo_dense.specs.DensePlain.{plain_of_dense}
 use Rattle.sparse_coo_dense.proofs.Meanings.{dense-meant}
-use Rattle.sparse_c_views.specs.Arrays.{plain_by_values, ring64}
+use Rattle.sparse_c_arrays.specs.Arrays.{plain_by_values, ring64}
 use Rattle.sparse_compressed.specs.Compressed.{Compressed}
 use Rattle.sparse_compressed.specs.PlainOfLanes.{plain_of_rows}
 use Rattle.sparse_handles.specs.Behind.{plain_behind}
@@ -23,7 +23,7 @@ use Rattle.sparse_handles.proofs.Done.{held}
 use Rattle.sparse_handles.specs.declared.solving.Triangle.{Triangle}
 use Rattle.sparse_handles.specs.Solved.{part_of, triangle_of, SolvesInPlace}
 use Rattle.sparse_handles.specs.declared.solving.Triangle.TheVariants.{Lower, Upper}
-use Rattle.sparse_solve.specs.Solutions.{IsSingular, IsSolution}
+use Rattle.sparse_with_dense.specs.Solutions.{IsSingular, IsSolution}
 
 pub dense_over : (x : Dense W64) (numbers : List ℤ) → length x.values ≡ length numbers
     → map (element_of ring64) (take (length x.values) numbers) ≡ map w64_value x.values

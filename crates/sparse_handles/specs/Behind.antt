@@ -5,12 +5,12 @@ use Rattle.sparse_algebra.specs.WrappingValues.{w64_value}
 use Rattle.sparse_algebra.specs.declared.scalar.wrapping.W64.{W64}
 use Rattle.sparse_compressed.specs.Compressed.{Compressed}
 use Rattle.sparse_compressed.specs.PlainOfLanes.{plain_of_rows}
-use Rattle.sparse_c_views.specs.Arrays.{ring64, Room}
-use Rattle.sparse_c_views.specs.Refused.{IsMemoryOr, IsTooSmall}
-use Rattle.sparse_c_views.specs.Statuses.{number_of}
-use Rattle.sparse_c_views.specs.declared.refusal.Refusal.{Refusal}
-use Rattle.sparse_c_views.specs.declared.refusal.Refusal.TheVariants.{EmptyHandle, ShapeMismatch}
-use Rattle.sparse_c_views.specs.declared.refusal.Refusal.TheVariants.{TooSmall}
+use Rattle.sparse_c_arrays.specs.Arrays.{ring64, Room}
+use Rattle.sparse_c_arrays.specs.Refused.{IsMemoryOr, IsTooSmall}
+use Rattle.sparse_c_arrays.specs.Statuses.{number_of}
+use Rattle.sparse_c_arrays.specs.declared.refusal.Refusal.{Refusal}
+use Rattle.sparse_c_arrays.specs.declared.refusal.Refusal.TheVariants.{EmptyHandle, ShapeMismatch}
+use Rattle.sparse_c_arrays.specs.declared.refusal.Refusal.TheVariants.{TooSmall}
 
 -- the plain matrix behind a handle; with no matrix, the one with no rows and no columns
 abbrev pub plain_behind : Option (Compressed W64) → Plain ring64

@@ -5,16 +5,16 @@ use Rattle.sparse_algebra.specs.Plain.{Plain, plain_of_triplets}
 use Rattle.sparse_algebra.specs.Wrapping.{fits_zero}
 use Rattle.sparse_algebra.specs.WrappingValues.{w64_value}
 use Rattle.sparse_algebra.specs.declared.scalar.wrapping.W64.{W64}
-use Rattle.sparse_c_views.specs.Arrays.{ring64}
-use Rattle.sparse_c_views.specs.Refused.{IsMissized}
-use Rattle.sparse_c_views.specs.declared.refusal.Refusal.{Refusal}
-use Rattle.sparse_c_views.specs.declared.refusal.Refusal.TheVariants.{EmptyHandle, Singular}
+use Rattle.sparse_c_arrays.specs.Arrays.{ring64}
+use Rattle.sparse_c_arrays.specs.Refused.{IsMissized}
+use Rattle.sparse_c_arrays.specs.declared.refusal.Refusal.{Refusal}
+use Rattle.sparse_c_arrays.specs.declared.refusal.Refusal.TheVariants.{EmptyHandle, Singular}
 use Rattle.sparse_compressed.specs.Compressed.{Compressed}
 use Rattle.sparse_compressed.specs.PlainOfLanes.{plain_of_cols}
 use Rattle.sparse_handles.specs.Behind.{plain_behind}
 use Rattle.sparse_handles.specs.Solved.{IsNoSquare}
-use Rattle.sparse_ldl.specs.Factorisations.{plain_symmetric, IsFactorisation}
-use Rattle.sparse_ldl.specs.Factors.{diagonal, plain_of_factors, Factors}
+use Rattle.sparse_factor.specs.Factorisations.{plain_symmetric, IsFactorisation}
+use Rattle.sparse_factor.specs.Factors.{diagonal, plain_of_factors, Factors}
 
 abbrev pub zero64 : W64
 zero64 = record { number = pos 0; in_range = fits_zero w64 }

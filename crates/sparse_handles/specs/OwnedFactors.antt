@@ -9,7 +9,7 @@ use Rattle.std_heap.specs.declared.Global.{Global}
 use Rattle.sparse_algebra.specs.declared.scalar.wrapping.W64.{W64}
 use Rattle.sparse_handles.specs.Owned.{in_block}
 use Rattle.sparse_handles.specs.contracts.handle.SharedFactors.{the_row as shared_row}
-use Rattle.sparse_ldl.specs.Factors.{Factors}
+use Rattle.sparse_factor.specs.Factors.{Factors}
 
 -- there are no factors and p is null, or p points to a block of the heap with the factors
 abbrev pub owns_factors_at : Ptr → Option (Factors W64) → Fml

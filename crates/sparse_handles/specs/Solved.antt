@@ -4,16 +4,16 @@ use Rattle.std.specs.Prelude.{Bool, true, false, List, Option, length}
 use Rattle.sparse_algebra.specs.Plain.{Plain, plain_transpose}
 use Rattle.sparse_algebra.specs.WrappingValues.{w64_value}
 use Rattle.sparse_algebra.specs.declared.scalar.wrapping.W64.{W64}
-use Rattle.sparse_c_views.specs.Arrays.{plain_by_values, ring64}
-use Rattle.sparse_c_views.specs.Refused.{IsMissized}
-use Rattle.sparse_c_views.specs.declared.refusal.Refusal.{Refusal}
-use Rattle.sparse_c_views.specs.declared.refusal.Refusal.TheVariants.{ShapeMismatch, Singular}
+use Rattle.sparse_c_arrays.specs.Arrays.{plain_by_values, ring64}
+use Rattle.sparse_c_arrays.specs.Refused.{IsMissized}
+use Rattle.sparse_c_arrays.specs.declared.refusal.Refusal.{Refusal}
+use Rattle.sparse_c_arrays.specs.declared.refusal.Refusal.TheVariants.{ShapeMismatch, Singular}
 use Rattle.sparse_compressed.specs.Compressed.{Compressed}
 use Rattle.sparse_handles.specs.Behind.{plain_behind, IsEmpty}
 use Rattle.sparse_handles.specs.declared.solving.Triangle.{Triangle}
 use Rattle.sparse_handles.specs.declared.solving.Triangle.TheVariants.{Lower, Upper}
-use Rattle.sparse_ldl.specs.Factorisations.{plain_upper}
-use Rattle.sparse_solve.specs.Solutions.{plain_lower, IsSingular, IsSolution}
+use Rattle.sparse_factor.specs.Factorisations.{plain_upper}
+use Rattle.sparse_with_dense.specs.Solutions.{plain_lower, IsSingular, IsSolution}
 
 -- the part of the matrix on and below its diagonal, or on and above it
 abbrev pub part_of : Triangle → Plain ring64 → Plain ring64

@@ -9,13 +9,13 @@ use Rattle.sparse_algebra.specs.Wrapping.{class_of}
 use Rattle.sparse_algebra.specs.declared.scalar.wrapping.W64.{W64}
 use Rattle.sparse_coo_dense.specs.Coo.{Coo}
 use Rattle.sparse_coo_dense.specs.CooPlain.{plain_of_coo}
-use Rattle.sparse_c_views.specs.Arrays.{ring64}
-use Rattle.sparse_c_views.specs.Lists.{HoldsText}
-use Rattle.sparse_c_views.specs.Refused.{IsMemoryOr}
-use Rattle.sparse_c_views.specs.Rests.{KeepsBehind}
-use Rattle.sparse_c_views.specs.Statuses.{number_of as status_of, refusal_of_text}
-use Rattle.sparse_c_views.specs.declared.refusal.Refusal.{Refusal}
-use Rattle.sparse_c_views.specs.declared.refusal.Refusal.TheVariants.{TooSmall, Unreadable}
+use Rattle.sparse_c_arrays.specs.Arrays.{ring64}
+use Rattle.sparse_c_arrays.specs.Lists.{HoldsText}
+use Rattle.sparse_c_arrays.specs.Refused.{IsMemoryOr}
+use Rattle.sparse_c_arrays.specs.Rests.{KeepsBehind}
+use Rattle.sparse_c_arrays.specs.Statuses.{number_of as status_of, refusal_of_text}
+use Rattle.sparse_c_arrays.specs.declared.refusal.Refusal.{Refusal}
+use Rattle.sparse_c_arrays.specs.declared.refusal.Refusal.TheVariants.{TooSmall, Unreadable}
 use Rattle.sparse_compressed.specs.Compressed.{Compressed}
 use Rattle.sparse_handles.specs.Behind.{plain_behind, Holds, IsEmpty}
 use Rattle.sparse_io.specs.Written.{written_text}

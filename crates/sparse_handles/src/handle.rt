@@ -6,11 +6,11 @@ ghost use Rattle.sparse_compressed.specs.Compressed.{Compressed};
 ghost use Rattle.sparse_handles.specs.Owned.{held_code, in_block, owns_at, value_of};
 ghost use Rattle.sparse_handles.specs.OwnedFactors.{factors_of, held_factors_code};
 ghost use Rattle.sparse_handles.specs.OwnedFactors.{owns_factors_at};
-ghost use Rattle.sparse_ldl.specs.Factors.{Factors};
+ghost use Rattle.sparse_factor.specs.Factors.{Factors};
 
 use sparse_algebra::scalar::W64;
 use sparse_csr_csc::csr::CsrMatrix;
-use sparse_ldl::ldl::Ldl;
+use sparse_factor::ldl::Ldl;
 use std::alloc::Global;
 use std::marker::{Model, Send};
 use std::ptr;
@@ -109,7 +109,7 @@ pub struct SharedFactors {
 impl Model for SharedFactors {
     ghost use Rattle.sparse_algebra.specs.contracts.scalar.wrapping.W64.{the_row as w64_row};
     ghost use Rattle.sparse_algebra.specs.declared.scalar.wrapping.W64.{W64 as W64Value};
-    ghost use Rattle.sparse_ldl.specs.Factors.{Factors, factors_code};
+    ghost use Rattle.sparse_factor.specs.Factors.{Factors, factors_code};
     ghost use Rattle.std.specs.Arc.{arc_value};
 
     ghost Value = { Factors W64Value };

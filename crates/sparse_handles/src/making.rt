@@ -3,15 +3,15 @@
 ghost use Rattle.std.specs.Prelude.{◌≡◌, IfErr, OnOk, OnErr};
 ghost use Rattle.sparse_coo_dense.specs.Coo.{AreParts};
 ghost use Rattle.sparse_compressed.specs.Compressed.{arrays_of, IsSound};
-ghost use Rattle.sparse_c_views.specs.Arrays.{plain_by_rows, plain_of_lists, ring64};
-ghost use Rattle.sparse_c_views.specs.Refused.{IsFaultOf, IsFaultOfList, IsMemoryOr};
+ghost use Rattle.sparse_c_arrays.specs.Arrays.{plain_by_rows, plain_of_lists, ring64};
+ghost use Rattle.sparse_c_arrays.specs.Refused.{IsFaultOf, IsFaultOfList, IsMemoryOr};
 ghost use Rattle.sparse_handles.specs.Behind.{Holds};
 
 use crate::handle::MatrixHandle;
 use crate::sharing::put;
-use sparse_c_views::lanes::Lanes;
-use sparse_c_views::refusal::Refusal;
-use sparse_c_views::triplets::list_of;
+use sparse_c_arrays::lanes::Lanes;
+use sparse_c_arrays::refusal::Refusal;
+use sparse_c_arrays::triplets::list_of;
 use sparse_convert::serial::convert_coo_csr;
 use std::alloc::Global;
 

@@ -1,15 +1,15 @@
 //! The sizes and the arrays of matrices behind handles.
 
 ghost use Rattle.std.specs.Prelude.{◌≡◌, IfOk, IfErr, OnOk, OnErr};
-ghost use Rattle.sparse_c_views.specs.Arrays.{places_of, room_of, HoldsRows};
-ghost use Rattle.sparse_c_views.specs.Refused.{IsMemoryOr};
-ghost use Rattle.sparse_c_views.specs.Rests.{KeepsRest};
+ghost use Rattle.sparse_c_arrays.specs.Arrays.{places_of, room_of, HoldsRows};
+ghost use Rattle.sparse_c_arrays.specs.Refused.{IsMemoryOr};
+ghost use Rattle.sparse_c_arrays.specs.Rests.{KeepsRest};
 ghost use Rattle.sparse_handles.specs.Behind.{plain_behind, IsEmpty, IsUnwritten};
 
 use crate::handle::MatrixHandle;
 use crate::sharing::shared;
-use sparse_c_views::refusal::Refusal;
-use sparse_c_views::writing::write_rows;
+use sparse_c_arrays::refusal::Refusal;
+use sparse_c_arrays::writing::write_rows;
 use std::alloc::Global;
 
 /// Returns the numbers of rows, columns and places of the matrix behind `a`.

@@ -2,13 +2,13 @@
 
 ghost use Rattle.std.specs.Prelude.{◌≡◌, None, Some, IfOk, IfErr, OnOk, OnErr};
 ghost use Rattle.std.specs.Arc.{arc_value};
-ghost use Rattle.sparse_c_views.specs.Refused.{IsMemoryOr};
-ghost use Rattle.sparse_c_views.specs.declared.refusal.Refusal.TheVariants.{OutOfMemory};
+ghost use Rattle.sparse_c_arrays.specs.Refused.{IsMemoryOr};
+ghost use Rattle.sparse_c_arrays.specs.declared.refusal.Refusal.TheVariants.{OutOfMemory};
 ghost use Rattle.sparse_handles.specs.Behind.{IsEmpty};
 
 use crate::handle::{Block, MatrixHandle, SharedMatrix};
 use sparse_algebra::scalar::W64;
-use sparse_c_views::refusal::Refusal;
+use sparse_c_arrays::refusal::Refusal;
 use sparse_csr_csc::csr::CsrMatrix;
 use std::alloc::Global;
 use std::mem;

@@ -4,29 +4,29 @@ ghost use Rattle.std.specs.Prelude.{◌≡◌, ◌≢◌, ◌<◌, ◌*◌, leng
 ghost use Rattle.sparse_algebra.specs.WrappingValues.{w64_value};
 ghost use Rattle.sparse_algebra.specs.declared.error.OperationErrorKind.TheVariants.{Singular};
 ghost use Rattle.sparse_coo_dense.specs.DensePlain.{plain_of_dense};
-ghost use Rattle.sparse_c_views.specs.Arrays.{plain_by_values, ring64};
-ghost use Rattle.sparse_c_views.specs.Refused.{IsMemoryOr};
-ghost use Rattle.sparse_c_views.specs.declared.refusal.Refusal.TheVariants.{ShapeMismatch};
+ghost use Rattle.sparse_c_arrays.specs.Arrays.{plain_by_values, ring64};
+ghost use Rattle.sparse_c_arrays.specs.Refused.{IsMemoryOr};
+ghost use Rattle.sparse_c_arrays.specs.declared.refusal.Refusal.TheVariants.{ShapeMismatch};
 ghost use Rattle.sparse_compressed.specs.PlainOfLanes.{plain_of_cols, plain_of_rows};
 ghost use Rattle.sparse_handles.specs.Behind.{plain_behind};
 ghost use Rattle.sparse_handles.specs.Solved.{triangle_of, IsSingularPart};
 ghost use Rattle.sparse_handles.specs.Solved.{IsUnsolved, SolvesInPlace};
 ghost use Rattle.sparse_handles.specs.declared.solving.Triangle.TheVariants.{Lower, Upper};
-ghost use Rattle.sparse_solve.specs.Solutions.{plain_lower, IsSingular, IsSolution};
+ghost use Rattle.sparse_with_dense.specs.Solutions.{plain_lower, IsSingular, IsSolution};
 
 use crate::handle::MatrixHandle;
 use crate::sharing::shared;
 use sparse_algebra::error::OperationError;
 use sparse_algebra::operand::Op;
 use sparse_algebra::scalar::W64;
-use sparse_c_views::dense::dense_matrix_of;
-use sparse_c_views::refusal::Refusal;
-use sparse_c_views::scalars::put_scalars;
+use sparse_c_arrays::dense::dense_matrix_of;
+use sparse_c_arrays::refusal::Refusal;
+use sparse_c_arrays::scalars::put_scalars;
 use sparse_coo_dense::dense::DMatrix;
 use sparse_csr_csc::csc::CscMatrix;
 use sparse_csr_csc::csr::CsrMatrix;
 use sparse_products::transposes::transposed_csr;
-use sparse_solve::spsolve_csc_lower_triangular;
+use sparse_with_dense::spsolve_csc_lower_triangular;
 use std::alloc::Global;
 
 /// The part of a matrix that a system of equations has.

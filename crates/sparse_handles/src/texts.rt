@@ -2,10 +2,10 @@
 
 ghost use Rattle.std.specs.Prelude.{◌≡◌, IfErr, IfOk, OnOk, OnErr, length, string_bytes};
 ghost use Rattle.sparse_algebra.specs.WrappingValues.{w64_value};
-ghost use Rattle.sparse_c_views.specs.Arrays.{ring64};
-ghost use Rattle.sparse_c_views.specs.Lists.{HoldsText};
-ghost use Rattle.sparse_c_views.specs.Refused.{IsMemoryOr};
-ghost use Rattle.sparse_c_views.specs.Rests.{KeepsBehind};
+ghost use Rattle.sparse_c_arrays.specs.Arrays.{ring64};
+ghost use Rattle.sparse_c_arrays.specs.Lists.{HoldsText};
+ghost use Rattle.sparse_c_arrays.specs.Refused.{IsMemoryOr};
+ghost use Rattle.sparse_c_arrays.specs.Rests.{KeepsBehind};
 ghost use Rattle.sparse_compressed.specs.PlainOfLanes.{plain_of_rows};
 ghost use Rattle.sparse_handles.specs.Behind.{plain_behind, IsEmpty};
 ghost use Rattle.sparse_handles.specs.Texts.{text_of_plain, HoldsMeaning, IsTextError, IsTextFault};
@@ -15,8 +15,8 @@ use crate::handle::MatrixHandle;
 use crate::sharing::{put, shared};
 use sparse_algebra::learn;
 use sparse_algebra::scalar::W64;
-use sparse_c_views::refusal::Refusal;
-use sparse_c_views::scalars::put_items;
+use sparse_c_arrays::refusal::Refusal;
+use sparse_c_arrays::scalars::put_items;
 use sparse_convert::serial::convert_coo_csr;
 use sparse_coo_dense::coo::CooMatrix;
 use sparse_csr_csc::csr::CsrMatrix;

@@ -7,13 +7,13 @@ ghost use Rattle.sparse_compressed.specs.Lanes.{lane_at};
 ghost use Rattle.sparse_compressed.specs.PlainOfLanes.{plain_of_rows};
 ghost use Rattle.sparse_compressed.specs.SortedFaults.{IsFirstSortedFault};
 ghost use Rattle.sparse_compressed.specs.StoredEntries.{IsEntryAt, IsEntryOf, IsInBounds};
-ghost use Rattle.sparse_kernels.specs.SparseVectors.{elements};
+ghost use Rattle.sparse_with_dense.specs.SparseVectors.{elements};
 
 use sparse_algebra::scalar::Ring;
 use sparse_compressed::{CsLane, CsMatrix, CsView, LaneIndices, SortedFault};
-use sparse_kernels::usdot;
 use sparse_pattern::entry::SparseEntry;
 use sparse_pattern::pattern::SparsityPattern;
+use sparse_with_dense::usdot;
 use std::alloc::{AllocError, Global};
 use std::marker::Model;
 

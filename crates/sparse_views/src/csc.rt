@@ -7,7 +7,7 @@ ghost use Rattle.sparse_compressed.specs.Lanes.{lane_at};
 ghost use Rattle.sparse_compressed.specs.PlainOfLanes.{plain_of_cols};
 ghost use Rattle.sparse_compressed.specs.SortedFaults.{IsSortedRefusal, sorted_kind};
 ghost use Rattle.sparse_compressed.specs.StoredEntries.{IsEntryAt, IsEntryOf, IsInBounds};
-ghost use Rattle.sparse_kernels.specs.SparseVectors.{elements};
+ghost use Rattle.sparse_with_dense.specs.SparseVectors.{elements};
 
 use crate::arrays::CsArrays;
 use sparse_algebra::scalar::Ring;

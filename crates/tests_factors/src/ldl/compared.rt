@@ -6,7 +6,7 @@ use sparse_algebra::scalar::Units;
 use sparse_convert::serial::{convert_csc_dense, convert_dense_csc};
 use sparse_coo_dense::dense::DMatrix;
 use sparse_csr_csc::csc::CscMatrix;
-use sparse_ldl::ldl::Ldl;
+use sparse_factor::ldl::Ldl;
 use std::alloc::{AllocError, Global};
 
 // The library's answer, if the matrix is square.

@@ -3,7 +3,7 @@
 use crate::ldl::matrices::{Arrays, Scalar, are, csc, dense};
 use sparse_algebra::error::OperationErrorKind;
 use sparse_algebra::scalar::{Mod, W32, W64, W128};
-use sparse_ldl::ldl::Ldl;
+use sparse_factor::ldl::Ldl;
 use std::alloc::Global;
 
 // The column offsets, the rows and the values of L, and the diagonal of D.

@@ -4,7 +4,7 @@ use crate::ldl::compared::factored;
 use crate::ldl::matrices::{Arrays, Scalar, csc, dense};
 use sparse_algebra::scalar::{Mod, W64};
 use sparse_coo_dense::dense::DMatrix;
-use sparse_ldl::ldl::Ldl;
+use sparse_factor::ldl::Ldl;
 use std::alloc::Global;
 
 // Rows `1 2` and `2 7`.

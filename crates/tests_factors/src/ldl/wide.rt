@@ -4,7 +4,7 @@ use crate::ldl::compared::factored;
 use crate::ldl::matrices::{Arrays, csc};
 use sparse_algebra::scalar::W128;
 use sparse_coo_dense::dense::DMatrix;
-use sparse_ldl::ldl::Ldl;
+use sparse_factor::ldl::Ldl;
 use std::alloc::Global;
 
 // Rows `3 2` and `2 5`.

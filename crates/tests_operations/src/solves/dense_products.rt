@@ -7,7 +7,7 @@ use sparse_algebra::scalar::{Mod, W32, W64};
 use sparse_coo_dense::dense::DMatrix;
 use sparse_csr_csc::csc::CscMatrix;
 use sparse_csr_csc::csr::CsrMatrix;
-use sparse_dense_products::{mul_csc_dense, mul_csr_dense};
+use sparse_with_dense::{mul_csc_dense, mul_csr_dense};
 use std::alloc::{AllocError, Global};
 
 // Whether a product was made, with these values.

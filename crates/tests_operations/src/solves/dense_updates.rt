@@ -1,7 +1,7 @@
 //! Dense matrices updated by a product of a sparse and a dense matrix.
 
 ghost use Rattle.std.specs.Prelude.{◌≡◌};
-ghost use Rattle.sparse_dense_products.specs.DenseOperands.{op_dense};
+ghost use Rattle.sparse_with_dense.specs.DenseOperands.{op_dense};
 
 use crate::matrices::{Arrays, csr, dense};
 use crate::operand_sizes::{op_of, sizes_of_columns, sizes_of_rows};
@@ -11,7 +11,7 @@ use sparse_algebra::scalar::{Ring, W64};
 use sparse_coo_dense::dense::DMatrix;
 use sparse_csr_csc::csc::CscMatrix;
 use sparse_csr_csc::csr::CsrMatrix;
-use sparse_dense_products::{spmm_csc_dense, spmm_csr_dense};
+use sparse_with_dense::{spmm_csc_dense, spmm_csr_dense};
 use std::alloc::Global;
 
 /// The rows `1 0 2` and `0 3 0`; the last zero is stored.

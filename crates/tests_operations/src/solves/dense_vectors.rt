@@ -4,7 +4,7 @@ use crate::matrices::{csc, csr};
 use sparse_algebra::scalar::W64;
 use sparse_csr_csc::csc::CscMatrix;
 use sparse_csr_csc::csr::CsrMatrix;
-use sparse_kernels::{axpy_csc_col, axpy_csr_row, dot_csc_col, dot_csr_row};
+use sparse_with_dense::{axpy_csc_col, axpy_csr_row, dot_csc_col, dot_csr_row};
 use std::alloc::Global;
 
 // Whether the row's product with `1 2 3` is 19, and ten times the row is added to it.

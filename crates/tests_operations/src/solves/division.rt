@@ -6,7 +6,7 @@ use sparse_algebra::error::{OperationError, OperationErrorKind};
 use sparse_algebra::scalar::{Mod, Units, W32};
 use sparse_csr_csc::csc::CscMatrix;
 use sparse_csr_csc::csr::CsrMatrix;
-use sparse_solve::{div_scalar_csc, div_scalar_csr, div_scalar_mut_csc, div_scalar_mut_csr};
+use sparse_with_dense::{div_scalar_csc, div_scalar_csr, div_scalar_mut_csc, div_scalar_mut_csr};
 use std::alloc::Global;
 
 // The rows `1 2` and `0 3`.

@@ -8,7 +8,7 @@ use sparse_algebra::operand::Op;
 use sparse_algebra::scalar::{Mod, Units, W32};
 use sparse_coo_dense::dense::DMatrix;
 use sparse_csr_csc::csc::CscMatrix;
-use sparse_solve::spsolve_csc_lower_triangular;
+use sparse_with_dense::spsolve_csc_lower_triangular;
 use std::alloc::Global;
 
 // What a system shows, its matrix, whether that is transposed, and the number of columns.

@@ -3,9 +3,9 @@ use Rattle.sparse_algebra.specs.Plain.{Plain}
 use Rattle.sparse_coo_dense.specs.CooPlain.{plain_of_coo}
 use Rattle.sparse_coo_dense.specs.DensePlain.{plain_of_dense}
 use Rattle.sparse_compressed.specs.PlainOfLanes.{plain_of_cols}
-use Rattle.sparse_ldl.specs.Factorisations.{IsFactorisation, plain_symmetric}
-use Rattle.sparse_ldl.specs.Factors.{plain_of_factors}
-use Rattle.sparse_solve.specs.Solutions.{HasSameValues}
+use Rattle.sparse_factor.specs.Factorisations.{IsFactorisation, plain_symmetric}
+use Rattle.sparse_factor.specs.Factors.{plain_of_factors}
+use Rattle.sparse_with_dense.specs.Solutions.{HasSameValues}
 use Rattle.mtxkit_systems.proofs.SymmetricSystems.{solved_is, no_factors}
 use Rattle.mtxkit_systems.proofs.system.solve_fitting.Goals as goal
 

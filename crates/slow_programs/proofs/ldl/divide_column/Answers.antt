@@ -1,7 +1,7 @@
 use Rattle.std.proofs.Common.{◌≡◌, ◌<◌, ℕ, inl, inr, ap, sym, ◌∙◌, arith}
 use Rattle.sparse_algebra.proofs.Cases.{lt_add_one_cases}
 use Rattle.sparse_coo_dense.specs.DensePlain.{plain_of_dense}
-use Rattle.sparse_kernels.specs.SparseVectors.{elements}
+use Rattle.sparse_with_dense.specs.SparseVectors.{elements}
 use Rattle.slow_programs.specs.DenseFactors.{dense_symmetric}
 use Rattle.slow_programs.specs.InnerEquations.{left_at}
 use Rattle.slow_programs.proofs.Equations.{entry_unwritten, entry_written, left_of-same}

@@ -1,8 +1,8 @@
 use Rattle.std.proofs.Common.{◌≡◌}
 use Rattle.sparse_algebra.specs.Sums.{sum_below}
 use Rattle.sparse_coo_dense.specs.DensePlain.{plain_of_dense}
-use Rattle.sparse_ldl.specs.InnerColumns.{term}
-use Rattle.sparse_kernels.specs.SparseVectors.{elements}
+use Rattle.sparse_factor.specs.InnerFactors.{term}
+use Rattle.sparse_with_dense.specs.SparseVectors.{elements}
 use Rattle.slow_programs.specs.DenseFactors.{dense_symmetric}
 use Rattle.slow_programs.proofs.ldl.find_left.Given as goal
 

@@ -1,9 +1,9 @@
 use Rattle.std.proofs.Common.{◌≡◌, rules, to_z, of_z}
 use Rattle.std.specs.Int.{w32}
 use Rattle.sparse_c.specs.Orders.{assembly_of}
-use Rattle.sparse_c_views.proofs.Answering.{rows_answered, seen_rows}
-use Rattle.sparse_c_views.proofs.Faultless.{list_told}
-use Rattle.sparse_c_views.specs.Arrays.{room_of}
+use Rattle.sparse_c_arrays.proofs.Answering.{rows_answered, seen_rows}
+use Rattle.sparse_c_arrays.proofs.Faultless.{list_told}
+use Rattle.sparse_c_arrays.specs.Arrays.{room_of}
 use Rattle.sparse_c.proofs.assembling.write_assembly.Goals as goal
 
 pub returns-clause-answered : goal.returns-clause-answered

@@ -3,10 +3,10 @@ use Rattle.std.specs.Int.{w32}
 use Rattle.sparse_algebra.specs.Integers.{element_of}
 use Rattle.sparse_c.proofs.Combined.{rows-combined, sum_answered}
 use Rattle.sparse_c.specs.Combinations.{combination_of}
-use Rattle.sparse_c_views.proofs.Answering.{rows_answered, seen_rows}
-use Rattle.sparse_c_views.proofs.Faultless.{pair_told}
-use Rattle.sparse_c_views.specs.Arrays.{plain_by_rows, room_of, HoldsRows}
-use Rattle.sparse_c_views.specs.Rests.{KeepsRest}
+use Rattle.sparse_c_arrays.proofs.Answering.{rows_answered, seen_rows}
+use Rattle.sparse_c_arrays.proofs.Faultless.{pair_told}
+use Rattle.sparse_c_arrays.specs.Arrays.{plain_by_rows, room_of, HoldsRows}
+use Rattle.sparse_c_arrays.specs.Rests.{KeepsRest}
 use Rattle.sparse_c.proofs.combining.write_combination.Goals as goal
 
 pub returns-clause-answered : goal.returns-clause-answered

@@ -5,7 +5,7 @@ use Rattle.sparse_c.specs.Combinations.{combination_of}
 use Rattle.sparse_c.specs.Moduli.{moduli, IsNoneOf}
 use Rattle.sparse_c.proofs.Accepting.{choice_told}
 use Rattle.sparse_c.proofs.Listed.{unlisted_rows}
-use Rattle.sparse_c_views.specs.Arrays.{room_of}
+use Rattle.sparse_c_arrays.specs.Arrays.{room_of}
 use Rattle.sparse_c.proofs.combining.write_combination_by_modulus.Goals as goal
 
 pub returns-in_default-clause-answered : goal.returns-in_default-clause-answered

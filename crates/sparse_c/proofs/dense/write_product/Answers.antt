@@ -1,11 +1,11 @@
 use Rattle.std.proofs.Common.{◌≡◌, ◌<◌, ◌*◌, length, sym, subst, ◌∙◌, rules, to_z, of_z}
 use Rattle.std.specs.Int.{w32}
 use Rattle.sparse_algebra.specs.Plain.{Plain}
-use Rattle.sparse_c_views.specs.Arrays.{HoldsDense}
-use Rattle.sparse_c_views.specs.Reduced.{FirstAre}
-use Rattle.sparse_c_views.specs.Rests.{KeepsBehind}
-use Rattle.sparse_c_views.proofs.Faultless.{accepted, system_told}
-use Rattle.sparse_c_views.proofs.Joining.{found, refused}
+use Rattle.sparse_c_arrays.specs.Arrays.{HoldsDense}
+use Rattle.sparse_c_arrays.specs.Reduced.{FirstAre}
+use Rattle.sparse_c_arrays.specs.Rests.{KeepsBehind}
+use Rattle.sparse_c_arrays.proofs.Faultless.{accepted, system_told}
+use Rattle.sparse_c_arrays.proofs.Joining.{found, refused}
 use Rattle.sparse_c.proofs.dense.write_product.Goals as goal
 
 pub returns-clause-written : goal.returns-clause-written

@@ -2,9 +2,9 @@ use Rattle.std.proofs.Common.{◌≡◌, ℕ, inr, sym, subst, ◌∙◌, rules,
 use Rattle.std.specs.Int.{w32}
 use Rattle.sparse_algebra.specs.Moduli.{mod_ring}
 use Rattle.sparse_c.specs.Dense.{product_of}
-use Rattle.sparse_c_views.specs.Arrays.{HoldsDense}
+use Rattle.sparse_c_arrays.specs.Arrays.{HoldsDense}
 use Rattle.sparse_c.proofs.Listed.{reduced_modulo, widened}
-use Rattle.sparse_c_views.specs.Statuses.{FindsNoFault}
+use Rattle.sparse_c_arrays.specs.Statuses.{FindsNoFault}
 use Rattle.sparse_c.proofs.dense.write_product_mod.Goals as goal
 
 pub returns : goal.returns

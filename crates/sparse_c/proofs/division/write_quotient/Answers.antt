@@ -2,7 +2,7 @@ use Rattle.std.proofs.Common.{◌≡◌, sym, rules, to_z, of_z}
 use Rattle.std.proofs.lemmas.Int.{to_z-of_z}
 use Rattle.std.specs.Int.{w32, w64}
 use Rattle.sparse_c.proofs.Quotients.{quotient_answered, seen_quotient}
-use Rattle.sparse_c_views.specs.Arrays.{room_of}
+use Rattle.sparse_c_arrays.specs.Arrays.{room_of}
 use Rattle.sparse_c.proofs.division.write_quotient.Goals as goal
 
 pub returns-clause-answered : goal.returns-clause-answered

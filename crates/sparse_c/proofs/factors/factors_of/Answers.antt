@@ -3,11 +3,11 @@ use Rattle.std.proofs.lemmas.Result.{err_from_is_err_and}
 use Rattle.sparse_algebra.specs.Plain.{Plain}
 use Rattle.sparse_compressed.specs.Compressed.{Compressed, IsSound}
 use Rattle.sparse_compressed.specs.PlainOfLanes.{plain_of_cols}
-use Rattle.sparse_ldl.specs.Factorisations.{plain_symmetric, IsFactorisation}
-use Rattle.sparse_ldl.specs.Factors.{diagonal}
+use Rattle.sparse_factor.specs.Factorisations.{plain_symmetric, IsFactorisation}
+use Rattle.sparse_factor.specs.Factors.{diagonal}
 use Rattle.sparse_c.specs.Factors.{AreFactors}
 use Rattle.sparse_c.proofs.Factoring.{factors_of_arrays}
-use Rattle.sparse_c_views.specs.Statuses.{refusal_of_operation}
+use Rattle.sparse_c_arrays.specs.Statuses.{refusal_of_operation}
 use Rattle.sparse_c.proofs.factors.factors_of.Goals as goal
 
 pub returns-clause-factors : goal.returns-clause-factors

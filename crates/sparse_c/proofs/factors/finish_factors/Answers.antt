@@ -1,5 +1,5 @@
 use Rattle.std.proofs.Common.{sym, ◌∙◌}
-use Rattle.sparse_c_views.proofs.Meanings.{places_of-rows}
+use Rattle.sparse_c_arrays.proofs.Meanings.{places_of-rows}
 use Rattle.sparse_c.proofs.factors.finish_factors.Goals as goal
 
 pub returns-then-pivots-len-clause-needed : goal.returns-then-pivots-len-clause-needed

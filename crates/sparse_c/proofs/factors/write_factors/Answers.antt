@@ -2,7 +2,7 @@ use Rattle.std.proofs.Common.{◌≡◌, ℤ, sym, subst, ◌∙◌, rules, to_z
 use Rattle.std.specs.Int.{w32}
 use Rattle.sparse_c.proofs.Factoring.{factors_answered, factors_shown}
 use Rattle.sparse_c.specs.Factors.{Factorises, IsFaultOfFactors}
-use Rattle.sparse_c_views.specs.Arrays.{room_of}
+use Rattle.sparse_c_arrays.specs.Arrays.{room_of}
 use Rattle.sparse_c.proofs.factors.write_factors.Goals as goal
 
 pub returns-clause-answered : goal.returns-clause-answered

@@ -4,11 +4,11 @@ use Rattle.std.specs.Int.{w32}
 use Rattle.sparse_pattern.specs.Raw.{raw_of}
 use Rattle.sparse_c.specs.Fills.{IsFaultOfFill, IsFillOf}
 use Rattle.sparse_c.proofs.Accepting.{fill_told}
-use Rattle.sparse_c_views.proofs.Answering.{size_kept, size_told}
-use Rattle.sparse_c_views.proofs.Faultless.{accepted}
-use Rattle.sparse_c_views.proofs.Joining.{found, refused}
-use Rattle.sparse_c_views.specs.Arrays.{pattern_room_of}
-use Rattle.sparse_c_views.specs.Rests.{KeepsPatternRest}
+use Rattle.sparse_c_arrays.proofs.Answering.{size_kept, size_told}
+use Rattle.sparse_c_arrays.proofs.Faultless.{accepted}
+use Rattle.sparse_c_arrays.proofs.Joining.{found, refused}
+use Rattle.sparse_c_arrays.specs.Arrays.{pattern_room_of}
+use Rattle.sparse_c_arrays.specs.Rests.{KeepsPatternRest}
 use Rattle.sparse_c.proofs.fill.nalgebra_sparse_fill.Goals as goal
 
 pub returns-clause-written : goal.returns-clause-written

@@ -3,7 +3,7 @@ use Rattle.std.proofs.lemmas.Int.{to_z-of_z}
 use Rattle.std.specs.Int.{w32}
 use Rattle.sparse_pattern.specs.Raw.{raw_of}
 use Rattle.sparse_c.specs.Fills.{IsFaultOfFill}
-use Rattle.sparse_c_views.specs.Refused.{IsMemoryOr}
+use Rattle.sparse_c_arrays.specs.Refused.{IsMemoryOr}
 use Rattle.sparse_c.proofs.fill.nalgebra_sparse_fill_places.Goals as goal
 
 pub returns-in-Err-clause-refused : goal.returns-in-Err-clause-refused

@@ -2,8 +2,8 @@ use Rattle.std.proofs.Common.{ℕ, List, inl, inr, subst}
 use Rattle.std.proofs.lemmas.Result.{IfErr-weaker}
 use Rattle.std.specs.Prelude.{IfErr}
 use Rattle.sparse_c.specs.Texts.{IsErrorOfText, IsFaultOfText}
-use Rattle.sparse_c_views.specs.Refused.{IsMemoryOr}
-use Rattle.sparse_c_views.specs.declared.refusal.Refusal.{Refusal}
+use Rattle.sparse_c_arrays.specs.Refused.{IsMemoryOr}
+use Rattle.sparse_c_arrays.specs.declared.refusal.Refusal.{Refusal}
 use Rattle.sparse_c.proofs.reading.list_of_text.Goals as goal
 
 widen : (text : List ℕ) (e : Refusal) → IsMemoryOr (IsErrorOfText text) e

@@ -3,8 +3,8 @@ use Rattle.std.specs.Int.{w32}
 use Rattle.sparse_algebra.specs.Numbers.{w64_number}
 use Rattle.sparse_parser.specs.Meaning.{values_of}
 use Rattle.sparse_c.proofs.Unreadable.{text_large}
-use Rattle.sparse_c_views.proofs.Answering.{size_kept, size_told}
-use Rattle.sparse_c_views.proofs.Joining.{found, refused}
+use Rattle.sparse_c_arrays.proofs.Answering.{size_kept, size_told}
+use Rattle.sparse_c_arrays.proofs.Joining.{found, refused}
 use Rattle.sparse_c.proofs.reading.nalgebra_sparse_read.Goals as goal
 
 pub returns-clause-written : goal.returns-clause-written

@@ -5,8 +5,8 @@ use Rattle.sparse_algebra.specs.Integers.{element_of}
 use Rattle.sparse_algebra.specs.Moduli.{mod_ring}
 use Rattle.sparse_algebra.specs.Plain.{plain_scaled, plain_sum}
 use Rattle.sparse_compressed.specs.Compressed.{arrays_of}
-use Rattle.sparse_c_views.proofs.Answering.{same_rows, seen_rows}
-use Rattle.sparse_c_views.specs.Arrays.{plain_by_rows}
+use Rattle.sparse_c_arrays.proofs.Answering.{same_rows, seen_rows}
+use Rattle.sparse_c_arrays.specs.Arrays.{plain_by_rows}
 use Rattle.sparse_c.proofs.sums_modulo.nalgebra_sparse_add_scaled_mod.Goals as goal
 
 pub returns-clause-answered : goal.returns-clause-answered

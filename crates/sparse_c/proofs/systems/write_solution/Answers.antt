@@ -5,8 +5,8 @@ use Rattle.sparse_c.specs.Systems.{Solves}
 use Rattle.sparse_c.proofs.Accepting.{equation_told}
 use Rattle.sparse_c.proofs.Solving.{solution_written, solution_shown}
 use Rattle.sparse_c.proofs.Solving.{solution_refused, solution_rest}
-use Rattle.sparse_c_views.proofs.Faultless.{accepted}
-use Rattle.sparse_c_views.specs.Arrays.{plain_by_values}
+use Rattle.sparse_c_arrays.proofs.Faultless.{accepted}
+use Rattle.sparse_c_arrays.specs.Arrays.{plain_by_values}
 use Rattle.sparse_c.proofs.systems.write_solution.Goals as goal
 
 pub returns-clause-written : goal.returns-clause-written

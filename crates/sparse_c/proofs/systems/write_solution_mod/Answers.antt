@@ -5,7 +5,7 @@ use Rattle.sparse_algebra.specs.Moduli.{mod_ring}
 use Rattle.sparse_c.specs.Solved.{HoldsMatrix, IsMatrixTooLong}
 use Rattle.sparse_c.specs.Systems.{IsFaultOfEquation, IsSolved}
 use Rattle.sparse_c.proofs.Listed.{reduced_modulo, widened}
-use Rattle.sparse_c_views.specs.Statuses.{FindsNoFault}
+use Rattle.sparse_c_arrays.specs.Statuses.{FindsNoFault}
 use Rattle.sparse_c.proofs.systems.write_solution_mod.Goals as goal
 
 pub returns : goal.returns

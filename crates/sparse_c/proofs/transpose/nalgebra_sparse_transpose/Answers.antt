@@ -3,9 +3,9 @@ use Rattle.std.specs.Int.{w32}
 use Rattle.sparse_algebra.specs.Plain.{plain_transpose}
 use Rattle.sparse_algebra.specs.WrappingValues.{w64_value}
 use Rattle.sparse_compressed.specs.Compressed.{arrays_of}
-use Rattle.sparse_c_views.proofs.Answering.{rows_answered, seen_rows}
-use Rattle.sparse_c_views.proofs.Faultless.{matrix_told}
-use Rattle.sparse_c_views.specs.Arrays.{plain_by_rows, ring64, room_of}
+use Rattle.sparse_c_arrays.proofs.Answering.{rows_answered, seen_rows}
+use Rattle.sparse_c_arrays.proofs.Faultless.{matrix_told}
+use Rattle.sparse_c_arrays.specs.Arrays.{plain_by_rows, ring64, room_of}
 use Rattle.sparse_c.proofs.transpose.nalgebra_sparse_transpose.Goals as goal
 
 pub returns : goal.returns

@@ -1,10 +1,10 @@
 use Rattle.std.proofs.Common.{◌≡◌, ℕ, ◌<◌, List, length, inl, inr}
 use Rattle.std.proofs.Common.{ap, sym, subst, ◌∙◌, rules, to_z, of_z}
 use Rattle.std.specs.Int.{w32}
-use Rattle.sparse_c_views.specs.Lists.{HoldsText}
-use Rattle.sparse_c_views.proofs.Answering.{size_kept, size_told}
-use Rattle.sparse_c_views.proofs.Faultless.{accepted, list_told}
-use Rattle.sparse_c_views.proofs.Joining.{found, refused}
+use Rattle.sparse_c_arrays.specs.Lists.{HoldsText}
+use Rattle.sparse_c_arrays.proofs.Answering.{size_kept, size_told}
+use Rattle.sparse_c_arrays.proofs.Faultless.{accepted, list_told}
+use Rattle.sparse_c_arrays.proofs.Joining.{found, refused}
 use Rattle.sparse_c.proofs.writing.nalgebra_sparse_write.Goals as goal
 
 pub returns-clause-written : goal.returns-clause-written

@@ -2,10 +2,10 @@ use Rattle.std.proofs.Common.{ℕ, inl, inr, ap, subst, ◌∙◌}
 use Rattle.std.proofs.lemmas.Result.{err_from_is_err_and}
 use Rattle.sparse_algebra.specs.Plain.{Plain, plain_transpose}
 use Rattle.sparse_algebra.specs.WrappingValues.{w64_value}
-use Rattle.sparse_c_views.specs.Arrays.{ring64}
-use Rattle.sparse_c_views.specs.Statuses.{refusal_of_operation}
+use Rattle.sparse_c_arrays.specs.Arrays.{ring64}
+use Rattle.sparse_c_arrays.specs.Statuses.{refusal_of_operation}
 use Rattle.sparse_compressed.specs.PlainOfLanes.{plain_of_cols, plain_of_rows}
-use Rattle.sparse_ldl.specs.Factorisations.{plain_symmetric, IsFactorisation}
+use Rattle.sparse_factor.specs.Factorisations.{plain_symmetric, IsFactorisation}
 use Rattle.sparse_handles.proofs.HeldFactors.{factorisation}
 use Rattle.sparse_handles.proofs.factoring.factors_of.Goals as goal
 

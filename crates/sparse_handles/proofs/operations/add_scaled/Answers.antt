@@ -2,7 +2,7 @@ use Rattle.std.proofs.Common.{◌≡◌, ap, ◌∙◌, rules, to_z, of_z}
 use Rattle.std.specs.Int.{w64}
 use Rattle.sparse_algebra.specs.Integers.{element_of}
 use Rattle.sparse_algebra.specs.Plain.{plain_scaled, plain_sum}
-use Rattle.sparse_c_views.specs.Arrays.{ring64}
+use Rattle.sparse_c_arrays.specs.Arrays.{ring64}
 use Rattle.sparse_handles.proofs.Done.{put_done, behind}
 use Rattle.sparse_handles.proofs.operations.add_scaled.Goals as goal
 

@@ -1,6 +1,6 @@
 use Rattle.std.proofs.Common.{◌∙◌}
 use Rattle.sparse_algebra.specs.Plain.{plain_transpose}
-use Rattle.sparse_c_views.specs.Arrays.{ring64}
+use Rattle.sparse_c_arrays.specs.Arrays.{ring64}
 use Rattle.sparse_handles.proofs.Done.{put_done, behind}
 use Rattle.sparse_handles.proofs.operations.transpose.Goals as goal
 

@@ -1,7 +1,7 @@
 use Rattle.std.proofs.Common.{◌≡◌, ap, sym, subst, ◌∙◌, refl, inr, rules, to_z, of_z}
 use Rattle.std.specs.Int.{w32}
-use Rattle.sparse_c_views.specs.Arrays.{room_of, HoldsRows}
-use Rattle.sparse_c_views.specs.Refused.{IsTooSmall}
+use Rattle.sparse_c_arrays.specs.Arrays.{room_of, HoldsRows}
+use Rattle.sparse_c_arrays.specs.Refused.{IsTooSmall}
 use Rattle.sparse_handles.proofs.Done.{behind}
 use Rattle.sparse_handles.proofs.reading.read.Goals as goal
 

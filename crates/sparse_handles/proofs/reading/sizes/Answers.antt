@@ -1,7 +1,7 @@
 use Rattle.std.proofs.Common.{ap, sym, ◌∙◌}
 use Rattle.sparse_algebra.specs.WrappingValues.{w64_value}
-use Rattle.sparse_c_views.proofs.Meanings.{places_of-rows}
-use Rattle.sparse_c_views.specs.Arrays.{places_of, ring64}
+use Rattle.sparse_c_arrays.proofs.Meanings.{places_of-rows}
+use Rattle.sparse_c_arrays.specs.Arrays.{places_of, ring64}
 use Rattle.sparse_handles.proofs.Done.{behind}
 use Rattle.sparse_handles.proofs.reading.sizes.Goals as goal
 

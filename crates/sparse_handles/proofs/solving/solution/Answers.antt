@@ -1,5 +1,5 @@
 use Rattle.std.proofs.Common.{◌∙◌}
-use Rattle.sparse_c_views.specs.Arrays.{plain_by_values, ring64}
+use Rattle.sparse_c_arrays.specs.Arrays.{plain_by_values, ring64}
 use Rattle.sparse_handles.proofs.solving.solution.Goals as goal
 
 pub returns-clause-solved : goal.returns-clause-solved

@@ -3,12 +3,12 @@ use Rattle.std.proofs.lemmas.Result.{err_from_is_err_and}
 use Rattle.sparse_algebra.specs.Plain.{Plain, plain_transpose}
 use Rattle.sparse_algebra.specs.WrappingValues.{w64_value}
 use Rattle.sparse_coo_dense.specs.DensePlain.{plain_of_dense}
-use Rattle.sparse_c_views.specs.Arrays.{ring64}
-use Rattle.sparse_c_views.specs.Statuses.{refusal_of_operation}
+use Rattle.sparse_c_arrays.specs.Arrays.{ring64}
+use Rattle.sparse_c_arrays.specs.Statuses.{refusal_of_operation}
 use Rattle.sparse_compressed.specs.PlainOfLanes.{plain_of_cols}
 use Rattle.sparse_handles.specs.Solved.{part_of, triangle_of}
 use Rattle.sparse_handles.specs.declared.solving.Triangle.TheVariants.{Lower}
-use Rattle.sparse_solve.specs.Solutions.{IsSingular, IsSolution}
+use Rattle.sparse_with_dense.specs.Solutions.{IsSingular, IsSolution}
 use Rattle.sparse_handles.proofs.solving.solve_lower.Goals as goal
 
 pub returns-clause-solved : goal.returns-clause-solved

@@ -4,12 +4,12 @@ use Rattle.std.specs.Prelude.{not}
 use Rattle.sparse_algebra.specs.Plain.{Plain}
 use Rattle.sparse_algebra.specs.WrappingValues.{w64_value}
 use Rattle.sparse_coo_dense.specs.DensePlain.{plain_of_dense}
-use Rattle.sparse_c_views.specs.Arrays.{ring64}
-use Rattle.sparse_c_views.specs.Statuses.{refusal_of_operation}
+use Rattle.sparse_c_arrays.specs.Arrays.{ring64}
+use Rattle.sparse_c_arrays.specs.Statuses.{refusal_of_operation}
 use Rattle.sparse_compressed.specs.PlainOfLanes.{plain_of_cols, plain_of_rows}
 use Rattle.sparse_handles.specs.Solved.{part_of, triangle_of}
 use Rattle.sparse_handles.specs.declared.solving.Triangle.TheVariants.{Lower}
-use Rattle.sparse_solve.specs.Solutions.{IsSingular, IsSolution}
+use Rattle.sparse_with_dense.specs.Solutions.{IsSingular, IsSolution}
 use Rattle.sparse_handles.proofs.Triangles.{singular_upper, upper_is_lower}
 use Rattle.sparse_handles.proofs.solving.solve_upper.Goals as goal
 

@@ -2,7 +2,7 @@ use Rattle.std.proofs.Common.{◌∙◌}
 use Rattle.std.specs.Int.{w64}
 use Rattle.sparse_algebra.specs.Numbers.{w64_number}
 use Rattle.sparse_algebra.specs.Wrapping.{class_of}
-use Rattle.sparse_c_views.specs.Arrays.{ring64}
+use Rattle.sparse_c_arrays.specs.Arrays.{ring64}
 use Rattle.sparse_handles.proofs.PlainTexts.{plain-numbers, put_meant}
 use Rattle.sparse_handles.proofs.texts.put_lines.Goals as goal
 

@@ -1,8 +1,8 @@
 use Rattle.std.proofs.Common.{ℕ, List, inl, inr, subst}
 use Rattle.std.proofs.lemmas.Result.{IfErr-weaker}
 use Rattle.std.specs.Prelude.{IfErr}
-use Rattle.sparse_c_views.specs.Refused.{IsMemoryOr}
-use Rattle.sparse_c_views.specs.declared.refusal.Refusal.{Refusal}
+use Rattle.sparse_c_arrays.specs.Refused.{IsMemoryOr}
+use Rattle.sparse_c_arrays.specs.declared.refusal.Refusal.{Refusal}
 use Rattle.sparse_handles.specs.Texts.{IsTextError, IsTextFault}
 use Rattle.sparse_handles.proofs.texts.put_text.Goals as goal
 

@@ -11,7 +11,8 @@ use contract.Monad.{fact, fact_i}
 use contract.Running.{tables}
 use prog.Wp.{WpFn}
 use types.Kit.{‵, raw, ◌⊛◌, some, later, prop, ◌$◌, ◌∵◌, !, qed, by, await, drop}
-use types.Kit.{feq_l, fjoin, fsplit, join, keep, move, pick, regoal, split, split3, use0, use1, use2}
+use types.Kit.{feq_l, fjoin, fsplit, join, keep, move, pick}
+use types.Kit.{regoal, split, split3, use0, use1, use2}
 use types.Run.{and_then, enter, no_more, of_opd, returns}
 use types.ByLocal.{alloc_all, free_all, get, lands_as, look_at, pass_all, sets}
 use types.Part.{agg}

@@ -12,7 +12,7 @@ use Rattle.std.specs.Prelude.{Option, None, Some}
 use Rattle.std_alloc.proofs.SendSync.{quiet, lies}
 use Rattle.std_heap.proofs.GlobalAllocator.TheSendSync.{the_frees}
 use Rattle.sparse_algebra.specs.declared.scalar.wrapping.W64.{W64}
-use Rattle.sparse_ldl.specs.Factors.{Factors}
+use Rattle.sparse_factor.specs.Factors.{Factors}
 use Rattle.sparse_handles.proofs.handle.SharedFactors.TheSendSync.{the_send as shared_send}
 use Rattle.sparse_handles.specs.Owned.{heap}
 use Rattle.sparse_handles.specs.OwnedFactors.{owns_factors_at}

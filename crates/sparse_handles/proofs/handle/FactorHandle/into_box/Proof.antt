@@ -57,7 +57,7 @@ use Rattle.std_heap.specs.contracts.GlobalAllocator.TheImpl.{ghosts, dict}
 use Rattle.std_heap.specs.declared.Global.{Global}
 use Rattle.sparse_handles.specs.Owned.{heap, in_block}
 use Rattle.sparse_handles.specs.OwnedFactors.{owns_factors_at}
-use Rattle.sparse_ldl.specs.Factors.{Factors}
+use Rattle.sparse_factor.specs.Factors.{Factors}
 use Rattle.sparse_algebra.specs.declared.scalar.wrapping.W64.{W64}
 use Rattle.sparse_handles.proofs.handle.SharedFactors.TheLaws.{the_row_laws as shared_laws}
 use Rattle.sparse_handles.specs.contracts.handle.SharedFactors.{the_row as shared_row}

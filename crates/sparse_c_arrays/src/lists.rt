@@ -1,0 +1,82 @@
+//! Coordinate lists written into arrays that C lends.
+
+ghost use Rattle.std.specs.Prelude.{◌≡◌, ◌≢◌, length, pos, IfOk, MatchResult, OnErr};
+ghost use Rattle.sparse_algebra.specs.Numbers.{w64_number};
+ghost use Rattle.sparse_parser.specs.Meaning.{values_of};
+ghost use Rattle.sparse_c_arrays.specs.Lists.{list_room_of, HoldsList, IsListTooSmall};
+ghost use Rattle.sparse_c_arrays.specs.Rests.{KeepsListRest};
+ghost use Rattle.sparse_c_arrays.specs.Statuses.{number_of};
+ghost use Rattle.sparse_c_arrays.specs.declared.refusal.Refusal.TheVariants.{TooSmall};
+
+use crate::refusal::Refusal;
+use crate::scalars::{put_items, put_numbers};
+use sparse_algebra::scalar::W64;
+use sparse_coo_dense::coo::CooMatrix;
+
+/// Writes the triplets of an answer into arrays, and their number. Returns the status of the call: 0, or that of the
+/// refusal; the arrays are then unchanged. Where they are too small, the number of triplets is written alone.
+///
+/// An array may be longer than the list needs.
+pub fn finish_list(
+    answer: Result<CooMatrix<W64>, Refusal>,
+    rows: &mut [usize],
+    cols: &mut [usize],
+    values: &mut [i64],
+    count: &mut usize,
+) -> i32
+    ensures written { result ≡ pos 0 → MatchResult answer (λ m. HoldsList (values_of w64_number m)
+        (list_room_of rows.new cols.new values.new count.new)) (λ _. ⊥) }
+    ensures rest { result ≡ pos 0 → KeepsListRest
+        (list_room_of rows.old cols.old values.old count.old)
+        (list_room_of rows.new cols.new values.new count.new) }
+    ensures untouched { result ≢ pos 0 → list_room_of rows.new cols.new values.new count.old
+        ≡ list_room_of rows.old cols.old values.old count.old }
+    ensures needed { result ≢ pos 0 → IfOk answer (λ m. count.new ≡ length (values_of w64_number m).triplets) }
+    ensures kept { OnErr answer (count.new ≡ count.old) }
+    ensures refused { result ≢ pos 0 → MatchResult answer
+        (λ m. (result ≡ number_of TooSmall) × IsListTooSmall (values_of w64_number m)
+        (list_room_of rows.old cols.old values.old count.old))
+        (λ refusal. result ≡ number_of refusal) }
+{
+    match answer {
+        Ok(list) => write_list(&list, rows, cols, values, count),
+        Err(refusal) => refusal.status(),
+    }
+}
+
+// Writes triplets into arrays that have room for them, and their number in any case.
+fn write_list(
+    list: &CooMatrix<W64>,
+    rows: &mut [usize],
+    cols: &mut [usize],
+    values: &mut [i64],
+    count: &mut usize,
+) -> i32
+    ensures written { result ≡ pos 0 → HoldsList (values_of w64_number list.now)
+        (list_room_of rows.new cols.new values.new count.new) }
+    ensures rest { result ≡ pos 0 → KeepsListRest
+        (list_room_of rows.old cols.old values.old count.old)
+        (list_room_of rows.new cols.new values.new count.new) }
+    ensures untouched { result ≢ pos 0 → list_room_of rows.new cols.new values.new count.old
+        ≡ list_room_of rows.old cols.old values.old count.old }
+    ensures counted { count.new ≡ length (values_of w64_number list.now).triplets }
+    ensures small { result ≢ pos 0 → IsListTooSmall (values_of w64_number list.now)
+        (list_room_of rows.old cols.old values.old count.old) }
+    ensures status { result ≢ pos 0 → result ≡ number_of TooSmall }
+{
+    let triplets = list.nnz();
+    *count = triplets;
+    if rows.len() < triplets {
+        return Refusal::TooSmall.status();
+    }
+    if cols.len() < triplets {
+        return Refusal::TooSmall.status();
+    }
+    if values.len() < triplets {
+        return Refusal::TooSmall.status();
+    }
+    put_items(rows, list.row_indices());
+    put_items(cols, list.col_indices());
+    put_numbers(values, list.values());
+    0
+}

@@ -1,0 +1,96 @@
+//! Two lanes, merged at a position of the arrays of the result.
+
+ghost use Rattle.std.specs.Prelude.{◌≡◌, ◌+◌, ◌≤◌, ◌⊎◌, length, take, Contains};
+ghost use Rattle.sparse_compressed.specs.InnerRows.{lane_value};
+ghost use Rattle.sparse_sums.specs.InnerAdding.{GainsEntries, IsAdding};
+ghost use Rattle.sparse_c_arrays.specs.InnerFilling.{front_meant, times_meant, IsFilled, IsLane};
+
+use crate::number::Number;
+use crate::sums::parts::{Part, put_entry, put_part, times};
+use sparse_sums::front_value;
+
+// Writes the entries of both lanes from a position on, in increasing order of index, and returns
+// the position behind them. Two of one index are added.
+#[inline(always)]
+pub(crate) fn merge_parts<T: Number>(
+    a: &Part<'_, T>,
+    b: &Part<'_, T>,
+    indices: &mut [usize],
+    values: &mut [i64],
+    from: usize,
+) -> usize
+    requires a_lane { IsLane a.now.indices.now a.now.values.now }
+    requires b_lane { IsLane b.now.indices.now b.now.values.now }
+    requires room { from + (length a.now.indices.now + length b.now.indices.now)
+        ≤ length indices.old }
+    requires values_room { from + (length a.now.indices.now + length b.now.indices.now)
+        ≤ length values.old }
+    ensures most { result ≤ from + (length a.now.indices.now + length b.now.indices.now) }
+    ensures gained { GainsEntries T.ring (λ x. x) (take from indices.old) (take result indices.new)
+        (front_meant T.ring from values.old) (front_meant T.ring result values.new)
+        (λ j. Contains a.now.indices.now j ⊎ Contains b.now.indices.now j)
+        (λ j. T.ring.add
+        (lane_value T.ring (λ x. x) a.now.indices.now
+        (times_meant T.ring (T.value a.now.factor) a.now.values.now) j)
+        (lane_value T.ring (λ x. x) b.now.indices.now
+        (times_meant T.ring (T.value b.now.factor) b.now.values.now) j)) }
+    ensures filled { IsFilled T.is_shown from result indices.old indices.new values.old
+        values.new }
+{
+    let (p, q, at) = merge_fronts(a, b, indices, values, from);
+    let at = put_part(&a.rest(p), indices, values, at);
+    put_part(&b.rest(q), indices, values, at)
+}
+
+// Merges until one of the lanes is traversed. Returns the positions that were reached, in the lanes
+// and in the arrays. No branch within the lanes depends on an index.
+#[inline(always)]
+fn merge_fronts<T: Number>(
+    a: &Part<'_, T>,
+    b: &Part<'_, T>,
+    indices: &mut [usize],
+    values: &mut [i64],
+    from: usize,
+) -> (usize, usize, usize)
+    requires a_lane { IsLane a.now.indices.now a.now.values.now }
+    requires b_lane { IsLane b.now.indices.now b.now.values.now }
+    requires room { from + (length a.now.indices.now + length b.now.indices.now)
+        ≤ length indices.old }
+    requires values_room { from + (length a.now.indices.now + length b.now.indices.now)
+        ≤ length values.old }
+    ensures first { result.0 ≤ length a.now.indices.now }
+    ensures second { result.1 ≤ length b.now.indices.now }
+    ensures most { result.2 ≤ from + (result.0 + result.1) }
+    ensures end { (result.0 ≡ length a.now.indices.now) ⊎ (result.1 ≡ length b.now.indices.now) }
+    ensures added { IsAdding T.ring (λ x. x) (λ x. x) (take from indices.old)
+        (take result.2 indices.new) (front_meant T.ring from values.old)
+        (front_meant T.ring result.2 values.new)
+        a.now.indices.now (times_meant T.ring (T.value a.now.factor) a.now.values.now)
+        b.now.indices.now (times_meant T.ring (T.value b.now.factor) b.now.values.now)
+        result.0 result.1 }
+    ensures filled { IsFilled T.is_shown from result.2 indices.old indices.new values.old
+        values.new }
+{
+    let (alpha, a_lane, a_numbers) = (a.factor, a.indices, a.values);
+    let (beta, b_lane, b_numbers) = (b.factor, b.indices, b.values);
+    let (mut p, mut q, mut at) = (0, 0, from);
+    while p < a_lane.len() && q < b_lane.len() {
+        let (j, k) = (a_lane[p], b_lane[q]);
+        let (first, second) = (times(alpha, a_numbers[p]), times(beta, b_numbers[q]));
+        put_entry(
+            indices,
+            values,
+            at,
+            j.min(k),
+            front_value(j, first, k, second),
+        );
+        at += 1;
+        if j <= k {
+            p += 1;
+        }
+        if k <= j {
+            q += 1;
+        }
+    }
+    (p, q, at)
+}

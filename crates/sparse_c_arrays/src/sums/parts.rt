@@ -1,0 +1,95 @@
+//! Lanes whose values are taken times a factor, and the entries that are written.
+
+ghost use Rattle.std.specs.Prelude.{◌≡◌, ◌+◌, ◌<◌, ◌≤◌, [], ◌∷◌, ◌++◌, length, take, drop};
+ghost use Rattle.sparse_algebra.specs.Integers.{element_of};
+ghost use Rattle.sparse_c_arrays.specs.InnerFilling.{front_meant, times_meant, IsFilled};
+
+use crate::number::Number;
+
+// A lane of numbers, or the end of one. Its values are taken times the factor.
+#[derive(Drop)]
+pub(crate) struct Part<'a, T> {
+    pub(crate) factor: T,
+    pub(crate) indices: &'a [usize],
+    pub(crate) values: &'a [i64],
+}
+
+impl<'a, T: Number> Part<'a, T> {
+    // Returns what is left from a position on.
+    #[inline(always)]
+    pub(crate) fn rest(&self, from: usize) -> Part<'a, T>
+        requires within { from ≤ length self.now.indices.now }
+        requires count { length self.now.values.now ≡ length self.now.indices.now }
+        ensures factor { result.factor ≡ self.now.factor }
+        ensures indices { result.indices.now ≡ drop from self.now.indices.now }
+        ensures values { result.values.now ≡ drop from self.now.values.now }
+    {
+        let (indices, values) = (self.indices, self.values);
+        Part {
+            factor: self.factor,
+            indices: &indices[from..],
+            values: &values[from..],
+        }
+    }
+}
+
+// Returns the multiple of what a number means.
+#[inline(always)]
+pub(crate) fn times<T: Number>(factor: T, number: i64) -> T
+    ensures { T.value result ≡ T.ring.mul (T.value factor) (element_of T.ring number) }
+{
+    factor.mul(T::from_number(number))
+}
+
+// Writes an entry at a position of both arrays.
+#[inline(always)]
+pub(crate) fn put_entry<T: Number>(
+    indices: &mut [usize],
+    values: &mut [i64],
+    at: usize,
+    index: usize,
+    value: T,
+)
+    requires room { at < length indices.old }
+    requires values_room { at < length values.old }
+    ensures indices { take (at + 1) indices.new ≡ take at indices.old ++ index ∷ [] }
+    ensures values { front_meant T.ring (at + 1) values.new
+        ≡ front_meant T.ring at values.old ++ T.value value ∷ [] }
+    ensures filled { IsFilled T.is_shown at (at + 1) indices.old indices.new values.old
+        values.new }
+{
+    indices[at] = index;
+    values[at] = value.number();
+}
+
+// Writes the entries of a lane from a position on, and returns the position behind them.
+#[inline(always)]
+pub(crate) fn put_part<T: Number>(
+    part: &Part<'_, T>,
+    indices: &mut [usize],
+    values: &mut [i64],
+    from: usize,
+) -> usize
+    requires count { length part.now.values.now ≡ length part.now.indices.now }
+    requires room { from + length part.now.indices.now ≤ length indices.old }
+    requires values_room { from + length part.now.indices.now ≤ length values.old }
+    ensures end { result ≡ from + length part.now.indices.now }
+    ensures indices { take result indices.new
+        ≡ take from indices.old ++ part.now.indices.now }
+    ensures values { front_meant T.ring result values.new ≡ front_meant T.ring from values.old
+        ++ times_meant T.ring (T.value part.now.factor) part.now.values.now }
+    ensures filled { IsFilled T.is_shown from result indices.old indices.new values.old
+        values.new }
+{
+    let (factor, lane, numbers) = (part.factor, part.indices, part.values);
+    for k in 0..lane.len() {
+        put_entry(
+            indices,
+            values,
+            from + k,
+            lane[k],
+            times(factor, numbers[k]),
+        );
+    }
+    from + lane.len()
+}

@@ -1,0 +1,98 @@
+//! The sum of multiples of two matrices from outside.
+
+ghost use Rattle.std.specs.Prelude.{◌≡◌, ◌≢◌, ◌+◌, ◌<◌, ◌≤◌, length, pos, IfOk, IfErr, OnOk};
+ghost use Rattle.sparse_algebra.specs.Plain.{plain_sum, plain_scaled};
+ghost use Rattle.sparse_compressed.specs.Compressed.{IsSound};
+ghost use Rattle.sparse_c_arrays.specs.Arrays.{plain_by_rows, room_of, HoldsRows};
+ghost use Rattle.sparse_c_arrays.specs.Reduced.{FirstAre};
+ghost use Rattle.sparse_c_arrays.specs.Refused.{IsFaultOf, IsFaultOfPair};
+ghost use Rattle.sparse_c_arrays.specs.Rests.{KeepsRest};
+ghost use Rattle.sparse_c_arrays.specs.Statuses.{number_of};
+ghost use Rattle.sparse_c_arrays.specs.declared.refusal.Refusal.{Refusal};
+
+use crate::lanes::Lanes;
+use crate::number::Number;
+use crate::refusal::Refusal;
+use crate::sums::rows::{Term, write_rows};
+use sparse_compressed::CsView;
+
+/// Two matrices by rows, and the factors of their values.
+#[derive(Drop)]
+pub struct Multiples<'a, T> {
+    /// The factor of the first matrix.
+    pub alpha: T,
+    /// The arrays of the first matrix.
+    pub a: Lanes<'a>,
+    /// The factor of the second matrix.
+    pub beta: T,
+    /// The arrays of the second matrix.
+    pub b: Lanes<'a>,
+}
+
+/// Writes the sum of two multiples into arrays by rows, on the union of their places, and its number of places. Returns
+/// the status of the call: 0, or that of the first fault of the operands; the arrays are then unchanged.
+///
+/// Both matrices must have the same shape, and the arrays room for the places of both. One pass over each operand tests
+/// it, and one merge of two sorted rows for each row writes the sum. Allocates nothing.
+pub fn write_sum<T: Number>(
+    multiples: Multiples<'_, T>,
+    offsets: &mut [usize],
+    indices: &mut [usize],
+    values: &mut [i64],
+    places: &mut usize,
+) -> i32
+    requires rows { multiples.a.pattern.major_dim ≡ multiples.b.pattern.major_dim }
+    requires cols { multiples.a.pattern.minor_dim ≡ multiples.b.pattern.minor_dim }
+    requires offsets_room { multiples.a.pattern.major_dim < length offsets.old }
+    requires room { length multiples.a.pattern.indices + length multiples.b.pattern.indices
+        ≤ length indices.old }
+    requires values_room { length multiples.a.pattern.indices
+        + length multiples.b.pattern.indices ≤ length values.old }
+    ensures written { result ≡ pos 0 → HoldsRows (plain_sum T.ring
+        (plain_scaled T.ring (T.value multiples.entry.alpha)
+        (plain_by_rows T.ring multiples.entry.a))
+        (plain_scaled T.ring (T.value multiples.entry.beta)
+        (plain_by_rows T.ring multiples.entry.b)))
+        (room_of offsets.new indices.new values.new places.new) }
+    ensures rest { result ≡ pos 0 → KeepsRest multiples.entry.a.pattern.major_dim
+        (room_of offsets.old indices.old values.old places.old)
+        (room_of offsets.new indices.new values.new places.new) }
+    ensures shown { result ≡ pos 0 → FirstAre T.is_shown places.new values.new }
+    ensures sound { result ≡ pos 0 → IsSound multiples.entry.a × IsSound multiples.entry.b }
+    ensures untouched { result ≢ pos 0 → room_of offsets.new indices.new values.new places.new
+        ≡ room_of offsets.old indices.old values.old places.old }
+    ensures fault { result ≢ pos 0 → (e : Refusal) × (result ≡ number_of e)
+        × IsFaultOfPair multiples.entry.a multiples.entry.b e }
+{
+    let Multiples { alpha, a, beta, b } = multiples;
+    let first = match term(alpha, a) {
+        Ok(first) => first,
+        Err(refusal) => return refusal.status(),
+    };
+    let second = match term(beta, b) {
+        Ok(second) => second,
+        Err(refusal) => return refusal.status(),
+    };
+    *places = write_rows(&first, &second, offsets, indices, values);
+    0
+}
+
+// Returns the term with these arrays, which are tested where they are, or their first fault.
+fn term<'a, T: Number>(factor: T, lanes: Lanes<'a>) -> Result<Term<'a, T>, Refusal>
+    ensures factor { IfOk result (λ t. t.factor ≡ factor) }
+    ensures matrix { IfOk result (λ t. t.matrix ≡ lanes.entry) }
+    ensures sound { OnOk result (IsSound lanes.entry) }
+    ensures fault { IfErr result (IsFaultOf lanes.entry) }
+{
+    let Lanes {
+        major_dim,
+        minor_dim,
+        offsets,
+        indices,
+        values,
+    } = lanes;
+    match CsView::try_from_slices(major_dim, minor_dim, offsets, indices, values) {
+        Ok(matrix) => Ok(Term { factor, matrix }),
+        Err(fault) => Err(Refusal::of_format(fault.kind())),
+    }
+}

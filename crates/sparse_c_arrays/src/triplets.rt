@@ -1,0 +1,39 @@
+//! Coordinate lists out of arrays from outside.
+
+ghost use Rattle.std.specs.Prelude.{◌≡◌, IfOk, IfErr, OnOk};
+ghost use Rattle.sparse_coo_dense.specs.Coo.{AreParts};
+ghost use Rattle.sparse_coo_dense.specs.CooPlain.{plain_of_coo};
+ghost use Rattle.sparse_c_arrays.specs.Arrays.{plain_of_lists};
+ghost use Rattle.sparse_c_arrays.specs.Refused.{IsFaultOfList, IsMemoryOr};
+
+use crate::number::Number;
+use crate::refusal::Refusal;
+use crate::scalars::scalars_of;
+use sparse_coo_dense::coo::CooMatrix;
+use std::alloc::Global;
+
+/// Returns the coordinate list of rows, columns and values.
+///
+/// # Errors
+///
+/// Returns the first fault of the lists. Otherwise fails only if an allocation fails.
+pub fn list_of<T: Number>(
+    alloc: Global,
+    rows: usize,
+    cols: usize,
+    row_indices: &[usize],
+    col_indices: &[usize],
+    values: &[i64],
+) -> Result<CooMatrix<T>, Refusal>
+    ensures plain { IfOk result (λ list. plain_of_coo T.ring T.value list ≡ plain_of_lists
+        T.ring rows cols row_indices.now col_indices.now values.now) }
+    ensures sound { OnOk result
+        (AreParts rows cols row_indices.now col_indices.now values.now) }
+    ensures fault { IfErr result (IsMemoryOr
+        (IsFaultOfList rows cols row_indices.now col_indices.now values.now)) }
+{
+    let row_indices = row_indices.to_vec(alloc)?;
+    let col_indices = col_indices.to_vec(alloc)?;
+    let values = scalars_of(alloc, values)?;
+    Ok(CooMatrix::try_from_triplets(rows, cols, row_indices, col_indices, values)?)
+}

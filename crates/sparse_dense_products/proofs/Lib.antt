@@ -1,5 +1,0 @@
-mod Operands
-mod DotSteps
-mod ColumnUpdates
-mod BlockUpdates
-mod PlainUpdates

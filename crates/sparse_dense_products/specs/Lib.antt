@@ -1,2 +1,0 @@
-pub mod DenseOperands
-pub mod InnerUpdates

@@ -1,0 +1,99 @@
+-- A column more of a factorisation, on the places of a set that is closed under fill.
+use Rattle.std.proofs.Common.{◌≡◌, ◌≢◌, ℕ, suc, ◌<◌, ◌≤◌, inl, inr, Bool, true, false, ap, sym}
+use Rattle.std.proofs.Common.{subst, ◌∙◌, arith}
+use Rattle.sparse_algebra.proofs.Cases.{three, true_or_false}
+use Rattle.sparse_algebra.specs.Algebra.{CommRing}
+use Rattle.sparse_algebra.specs.Sums.{sum_below}
+use Rattle.sparse_algebra.proofs.SumLemmas.{sum_below-same}
+use Rattle.sparse_algebra.specs.Inverses.{HasInverse}
+use Rattle.sparse_with_dense.proofs.RingSteps.{mul_off, divided}
+use Rattle.sparse_factor.specs.InnerFactors.{term, ArePartFactors, IsLeft}
+use Rattle.sparse_factor.proofs.RingFacts.{one_mul}
+use Rattle.sparse_factor.proofs.ClosedSets.{IsClosed, IsZeroOutside, left-outside, part-outside}
+
+module _ (R : CommRing) {X : Type 0} (f : X → R.Carrier) (n j : ℕ) (m l l' : ℕ → ℕ → R.Carrier)
+    (d d' w : ℕ → R.Carrier) (e : X) (lt : j < n) (p : ArePartFactors R f n j m l d)
+    (left : IsLeft R n j l d j w (λ i. m i j)) (inv : R.mul (w j) (f e) ≡ R.one)
+    (kept : (i c : ℕ) → c ≢ j → l' i c ≡ l i c) (kept_d : (c : ℕ) → c ≢ j → d' c ≡ d c)
+    (pivot : d' j ≡ w j) where
+  old_terms : (i c : ℕ) → c ≤ j
+      → sum_below R c (term R l' d' i c) ≡ sum_below R c (term R l d i c)
+  old_terms i c le = sum_below-same R c (term R l' d' i c) (term R l d i c) (λ k less.
+      let other : k ≢ j = λ same. absurd (omega (arith, same, less)) in
+      ap (λ x. R.mul (R.mul x (d' k)) (l' c k)) (kept i k other)
+      ∙ ap (λ x. R.mul (R.mul (l i k) x) (l' c k)) (kept_d k other)
+      ∙ ap (R.mul (R.mul (l i k) (d k))) (kept c k other))
+
+  module _ (unit : l' j j ≡ R.one) (upper : (i : ℕ) → i < j → l' i j ≡ R.zero)
+      (below : (i : ℕ) → j < i → i < n → l' i j ≡ R.mul (w i) (f e)) where
+    last : (i : ℕ) → j ≤ i → i < n → R.mul (l' i j) (d' j) ≡ w i
+    last i le within = elim (three i j) [
+      | inl less ↦ absurd (omega arith)
+      | inr (inl more) ↦ ap (R.mul (l' i j)) pivot ∙ R.laws.mul_comm (l' i j) (w j)
+          ∙ ap (R.mul (w j)) (below i more within) ∙ divided R (w j) (f e) (w i) inv
+      | inr (inr is) ↦ one_mul R (l' i j) (d' j) (ap (λ i. l' i j) is ∙ unit) ∙ pivot
+          ∙ ap w (sym is)
+    ]
+
+    last_column : (i c : ℕ) → c ≡ j → c ≤ i → i < n
+        → R.add (sum_below R c (term R l' d' i c)) (R.mul (l' i c) (d' c)) ≡ m i c
+    last_column i c is le within =
+        ap (λ c. R.add (sum_below R c (term R l' d' i c)) (R.mul (l' i c) (d' c))) is
+        ∙ ap (λ s. R.add s (R.mul (l' i j) (d' j))) (old_terms i j (omega arith))
+        ∙ ap (R.add (sum_below R j (term R l d i j))) (last i (omega (arith, is, le)) within)
+        ∙ left i (omega (arith, is, le)) within ∙ ap (m i) (sym is)
+
+    old_column : (i c : ℕ) → c < j → c ≤ i → i < n
+        → R.add (sum_below R c (term R l' d' i c)) (R.mul (l' i c) (d' c)) ≡ m i c
+    old_column i c before le within =
+        let other : c ≢ j = λ same. absurd (omega (arith, same, before)) in
+        ap (λ s. R.add s (R.mul (l' i c) (d' c))) (old_terms i c (omega arith))
+        ∙ ap (λ x. R.add (sum_below R c (term R l d i c)) (R.mul x (d' c))) (kept i c other)
+        ∙ ap (λ x. R.add (sum_below R c (term R l d i c)) (R.mul (l i c) x)) (kept_d c other)
+        ∙ p.columns i c before le within
+
+    pub part_step : ArePartFactors R f n (suc j) m l' d'
+    part_step = record {
+      unit = λ c less. elim (three c j) [
+        | inl before ↦ kept c c (λ same. absurd (omega (arith, same, before))) ∙ p.unit c before
+        | inr (inl more) ↦ absurd (omega arith)
+        | inr (inr is) ↦ ap (λ c. l' c c) is ∙ unit
+      ];
+      upper = λ i c less under. elim (three c j) [
+        | inl before ↦ kept i c (λ same. absurd (omega (arith, same, before)))
+            ∙ p.upper i c before under
+        | inr (inl more) ↦ absurd (omega arith)
+        | inr (inr is) ↦ ap (l' i) is ∙ upper i (omega (arith, is, under))
+      ];
+      pivots = λ c less. elim (three c j) [
+        | inl before ↦ subst (HasInverse R f)
+            (sym (kept_d c (λ same. absurd (omega (arith, same, before))))) (p.pivots c before)
+        | inr (inl more) ↦ absurd (omega arith)
+        | inr (inr is) ↦ (e, ap (λ x. R.mul x (f e)) (ap d' is ∙ pivot) ∙ inv)
+      ];
+      columns = λ i c less le within. elim (three c j) [
+        | inl before ↦ old_column i c before le within
+        | inr (inl more) ↦ absurd (omega arith)
+        | inr (inr is) ↦ last_column i c is le within
+      ];
+    }
+
+  module _ (set : ℕ → ℕ → Bool) (closed : IsClosed set) (holds : IsZeroOutside R n m set)
+      (low : (i : ℕ) → i < j → set i j ≡ false)
+      (stored : (i : ℕ) → set i j ≡ true → l' i j ≡ R.mul (w i) (f e))
+      (out : (i : ℕ) → set i j ≡ false → l' i j ≡ R.zero) where
+    -- what is left outside the set is zero
+    pub left_nothing : (i : ℕ) → j ≤ i → i < n → set i j ≡ false → w i ≡ R.zero
+    left_nothing i le within miss = left-outside R f n m set closed holds j l d
+        (part-outside R f n m set closed holds j l d (omega arith) p) w i le within miss
+        (left i le within)
+
+    under : (i : ℕ) → j ≤ i → i < n → l' i j ≡ R.mul (w i) (f e)
+    under i le within = elim (true_or_false (set i j)) [
+      | inl hit ↦ stored i hit
+      | inr miss ↦ out i miss ∙ sym (mul_off R (w i) (f e) (left_nothing i le within miss))
+    ]
+
+    pub part_next : ArePartFactors R f n (suc j) m l' d'
+    part_next = part_step (under j (omega arith) lt ∙ inv) (λ i less. out i (low i less))
+        (λ i more within. under i (omega arith) within)

@@ -1,0 +1,51 @@
+-- What the ring laws give of products with zero, of factors with an inverse, and of sums.
+use Rattle.std.proofs.Common.{◌≡◌, ℕ, zero, suc, ◌<◌, inl, inr, ap, sym, ◌∙◌, arith}
+use Rattle.sparse_algebra.proofs.Cases.{three}
+use Rattle.sparse_algebra.specs.Algebra.{CommRing}
+use Rattle.sparse_algebra.specs.Sums.{sum_below}
+use Rattle.sparse_algebra.proofs.RingLemmas.{mul_zero, cancel}
+use Rattle.sparse_algebra.proofs.SumLemmas.{sum_below-same, sum_below-zero}
+use Rattle.sparse_algebra.specs.Inverses.{HasInverse}
+use Rattle.sparse_with_dense.proofs.RingSteps.{add_off}
+
+module _ (R : CommRing) where
+  -- a product with zero on the right
+  pub mul_off_right : (a b : R.Carrier) → b ≡ R.zero → R.mul a b ≡ R.zero
+  mul_off_right a b e = ap (R.mul a) e ∙ mul_zero R a
+
+  -- a product with one on the left
+  pub one_mul : (a b : R.Carrier) → a ≡ R.one → R.mul a b ≡ b
+  one_mul a b e = ap (λ x. R.mul x b) e ∙ R.laws.mul_comm R.one b ∙ R.laws.mul_one b
+
+  -- a factor with an inverse cancels
+  pub cancel_mul : {X : Type 0} (f : X → R.Carrier) (a b c : R.Carrier) → HasInverse R f c
+      → R.mul a c ≡ R.mul b c → a ≡ b
+  cancel_mul f a b c inv h =
+      let whole : (x : R.Carrier) → R.mul (R.mul x c) (f inv.0) ≡ x =
+      λ x. R.laws.mul_assoc x c (f inv.0) ∙ ap (R.mul x) inv.1 ∙ R.laws.mul_one x in
+      sym (whole a) ∙ ap (λ x. R.mul x (f inv.0)) h ∙ whole b
+
+  pub cancel_left : (a b c : R.Carrier) → R.add c a ≡ R.add c b → a ≡ b
+  cancel_left a b c h = cancel R a b c (R.laws.add_comm a c ∙ h ∙ R.laws.add_comm c b)
+
+  -- if one is zero, all elements are equal
+  pub trivial : R.one ≡ R.zero → (a b : R.Carrier) → a ≡ b
+  trivial h a b =
+      let none : (x : R.Carrier) → x ≡ R.zero =
+      λ x. sym (R.laws.mul_one x) ∙ ap (R.mul x) h ∙ mul_zero R x in
+      none a ∙ sym (none b)
+
+  pub sum_below-none : (n : ℕ) (f : ℕ → R.Carrier) → ((k : ℕ) → k < n → f k ≡ R.zero)
+      → sum_below R n f ≡ R.zero
+  sum_below-none n f none = sum_below-same R n f (λ _. R.zero) none ∙ sum_below-zero R n
+
+  -- the terms past c are zero
+  pub sum_below-cut : (n c : ℕ) (f : ℕ → R.Carrier) → c < n
+      → ((k : ℕ) → c < k → k < n → f k ≡ R.zero) → sum_below R n f ≡ sum_below R (suc c) f
+  sum_below-cut zero c f lt none = absurd (omega arith)
+  sum_below-cut (suc n) c f lt none = elim (three c n) [
+    | inl below ↦ add_off R (sum_below R n f) (f n) (none n below (omega arith))
+        ∙ sum_below-cut n c f below (λ k a b. none k a (omega arith))
+    | inr (inl past) ↦ absurd (omega arith)
+    | inr (inr at) ↦ ap (λ x. sum_below R (suc x) f) (sym at)
+  ]

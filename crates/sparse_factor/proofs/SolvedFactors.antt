@@ -1,0 +1,107 @@
+-- The solves with L and its transpose and the division between them solve the system of L D Lᵀ.
+use Rattle.std.proofs.Common.{◌≡◌, ℕ, ◌<◌, inl, inr, true, ◌&&◌, ap, sym, ◌∙◌, refl}
+use Rattle.std.proofs.Common.{arith, get_or}
+use Rattle.std.specs.Prelude.{nat_le, nat_lt, Result, Ok, Err, OnOk, IsErr}
+use Rattle.std.proofs.lemmas.Bool.Decides.{nat_tests}
+use Rattle.sparse_algebra.proofs.Cases.{lt_or_ge, true_or_false, and_both}
+use Rattle.sparse_algebra.specs.Algebra.{CommRing}
+use Rattle.sparse_algebra.specs.Sums.{sum_below}
+use Rattle.sparse_algebra.specs.Plain.{Plain, plain_product, plain_transpose}
+use Rattle.sparse_algebra.proofs.SumLemmas.{sum_below-same, product_assoc}
+use Rattle.sparse_algebra.proofs.PlainLemmas.{same_plain}
+use Rattle.sparse_coo_dense.specs.Dense.{Dense}
+use Rattle.sparse_coo_dense.specs.DensePlain.{plain_of_dense}
+use Rattle.sparse_compressed.specs.Compressed.{Compressed, IsSound}
+use Rattle.sparse_compressed.specs.PlainOfLanes.{plain_of_cols}
+use Rattle.sparse_compressed.proofs.Arrays.{proper_rows, value_at_position}
+use Rattle.sparse_with_dense.specs.Solutions.{IsSolution, IsSingular, plain_lower}
+use Rattle.sparse_with_dense.proofs.ColumnSteps.{lower_is, lower_zero}
+use Rattle.sparse_factor.specs.Factorisations.{IsUnitLower, plain_ldl}
+use Rattle.sparse_factor.proofs.FilledSets.{has_place}
+use Rattle.sparse_factor.proofs.PlainProducts.{ldl-value}
+use Rattle.sparse_factor.proofs.RingFacts.{trivial}
+
+module _ (R : CommRing) {T : Type 0} (f : T → R.Carrier) (z : T) (m : Compressed T)
+    (unit : IsUnitLower R (plain_of_cols R f m)) where
+  abbrev l : Plain R
+  l = plain_of_cols R f m
+
+  abbrev t : Plain R
+  t = plain_lower R l
+
+  -- the solves read all of L
+  lower_same : (i c : ℕ) → c < l.cols → t.value i c ≡ l.value i c
+  lower_same i c lt = elim (lt_or_ge i c) [
+    | inl less ↦ lower_zero R l i c less
+        ∙ sym (unit.upper i c less (omega (arith, lt, unit.square)))
+    | inr le ↦ lower_is R l (λ i j. proper_rows R f m j i) i c le
+  ]
+
+  -- a diagonal entry without an inverse is one that is not stored, so one is zero
+  pub singular_trivial : IsSound m → IsSingular R f t → R.one ≡ R.zero
+  singular_trivial sound h =
+      let k = h.0 in
+      let one : l.value k k ≡ R.one = unit.unit k h.1 in
+      let same : t.value k k ≡ l.value k k =
+      lower_is R l (λ i j. proper_rows R f m j i) k k (omega arith) in
+      elim (true_or_false (l.has k k)) [
+        | inl hit ↦
+            let place = has_place R f m sound k k hit in
+            let v = get_or m.values place.at z in
+            let value : l.value k k ≡ f v = value_at_position R f m.pattern sound.valid m.values
+            sound.count z k k place.at (place.in_lane, place.index) in
+            let test : nat_le k k ≡ true = grind (arith, nat_tests) in
+            let inverts : R.mul (t.value k k) (f v) ≡ R.one =
+            ap (λ c. R.mul c (f v)) (same ∙ one) ∙ ap (R.mul R.one) (sym value ∙ one)
+            ∙ R.laws.mul_one R.one in
+            absurd (h.2 (and_both (l.has k k) (nat_le k k) hit test, (v, inverts)))
+        | inr miss ↦ sym one ∙ proper_rows R f m k k miss
+      ]
+
+  module _ (d : ℕ → R.Carrier) (x b y w : Plain R)
+      (divided : (c j : ℕ) → c < l.cols → R.mul (d c) (w.value c j) ≡ y.value c j)
+      (first : IsSolution R t y b) (second : IsSolution R (plain_transpose R t) x w) where
+    inner : (c j : ℕ) → c < l.cols
+        → sum_below R l.rows (λ k. R.mul (l.value k c) (x.value k j)) ≡ w.value c j
+    inner c j lt = sum_below-same R l.rows _ (λ k. R.mul (t.value k c) (x.value k j))
+        (λ k _. ap (λ a. R.mul a (x.value k j)) (sym (lower_same k c lt)))
+        ∙ ap (λ (a : Plain R). a.value c j) second
+
+    pub solved_value : (i j : ℕ)
+        → (plain_product R (plain_ldl R l d) x).value i j ≡ b.value i j
+    solved_value i j =
+        sum_below-same R l.rows _
+        (λ k. R.mul (sum_below R l.cols (λ c. R.mul (R.mul (l.value i c) (d c)) (l.value k c)))
+        (x.value k j)) (λ k _. ap (λ a. R.mul a (x.value k j)) (ldl-value R l d i k))
+        ∙ product_assoc R l.cols l.rows (λ c. R.mul (l.value i c) (d c)) (λ c k. l.value k c)
+        (λ k. x.value k j)
+        ∙ sum_below-same R l.cols _ (λ c. R.mul (t.value i c) (y.value c j))
+        (λ c lt. ap (R.mul (R.mul (l.value i c) (d c))) (inner c j lt)
+        ∙ R.laws.mul_assoc (l.value i c) (d c) (w.value c j)
+        ∙ ap (R.mul (l.value i c)) (divided c j lt)
+        ∙ ap (λ a. R.mul a (y.value c j)) (sym (lower_same i c lt)))
+        ∙ ap (λ (a : Plain R). a.value i j) first
+
+  -- where a solve refuses, all values are equal
+  pub solved_or_trivial : IsSound m → {E : Type 0} (r s : Result (Unit {0}) E)
+      (d : ℕ → R.Carrier) (x b y w : Plain R)
+      → ((c j : ℕ) → c < l.cols → R.mul (d c) (w.value c j) ≡ y.value c j)
+      → OnOk r (IsSolution R t y b) → OnOk s (IsSolution R (plain_transpose R t) x w)
+      → (IsErr r → IsSingular R f t) → (IsErr s → IsSingular R f t) → (i j : ℕ)
+      → (plain_product R (plain_ldl R l d) x).value i j ≡ b.value i j
+  solved_or_trivial sound (Ok _) (Ok _) d x b y w divided first second e1 e2 i j =
+      solved_value d x b y w divided first second i j
+  solved_or_trivial sound (Ok _) (Err e) d x b y w divided first second e1 e2 i j =
+      trivial R (singular_trivial sound (e2 refl)) _ _
+  solved_or_trivial sound (Err e) s d x b y w divided first second e1 e2 i j =
+      trivial R (singular_trivial sound (e1 refl)) _ _
+
+  -- the solution as plain matrices
+  pub plain_solved : (d : ℕ → R.Carrier) (x b : Dense T) → b.nrows ≡ m.pattern.minor_dim
+      → x.ncols ≡ b.ncols
+      → ((i j : ℕ) → (plain_product R (plain_ldl R l d) (plain_of_dense R f x)).value i j
+      ≡ (plain_of_dense R f b).value i j)
+      → IsSolution R (plain_ldl R l d) (plain_of_dense R f x) (plain_of_dense R f b)
+  plain_solved d x b rows cols values = same_plain _ (plain_of_dense R f b) (sym rows) cols
+      (λ i j. ap (λ n. nat_lt i n && nat_lt j x.ncols) (sym rows)
+      ∙ ap (λ n. nat_lt i b.nrows && nat_lt j n) cols) values

@@ -1,0 +1,108 @@
+-- The first columns of a factorisation, and what they leave of the next one.
+use Rattle.std.specs.Prelude.{◌≡◌, ℕ, ◌<◌, ◌≤◌, List, length, slice_index, slice_index_or}
+use Rattle.sparse_algebra.specs.Algebra.{CommRing}
+use Rattle.sparse_algebra.specs.Sums.{sum_below}
+use Rattle.sparse_pattern.specs.Raw.{Raw, start_of, end_of, IsInLane, IsPlace}
+use Rattle.sparse_compressed.specs.Compressed.{Compressed, IsSound}
+use Rattle.sparse_compressed.specs.PlainOfLanes.{plain_of_cols}
+use Rattle.sparse_algebra.specs.Inverses.{HasInverse}
+use Rattle.sparse_coo_dense.specs.Dense.{Dense, value_at}
+use Rattle.sparse_with_dense.specs.SparseVectors.{elements}
+
+module _ (R : CommRing) where
+  -- column k's part of L D Lᵀ at (i, j)
+  abbrev pub term : (ℕ → ℕ → R.Carrier) → (ℕ → R.Carrier) → ℕ → ℕ → ℕ → R.Carrier
+  term l d i j k = R.mul (R.mul (l i k) (d k)) (l j k)
+
+  -- the first j columns of l and entries of d are those of a factorisation of m
+  pub record ArePartFactors {X : Type 0} (f : X → R.Carrier) (n j : ℕ) (m l : ℕ → ℕ → R.Carrier)
+      (d : ℕ → R.Carrier) : Type 0 where
+    pub unit : (c : ℕ) → c < j → l c c ≡ R.one
+    pub upper : (i c : ℕ) → c < j → i < c → l i c ≡ R.zero
+    pub pivots : (c : ℕ) → c < j → HasInverse R f (d c)
+    pub columns : (i c : ℕ) → c < j → c ≤ i → i < n
+        → R.add (sum_below R c (term l d i c)) (R.mul (l i c) (d c)) ≡ m i c
+
+  -- from row j on, w is what the first k columns leave of b
+  abbrev pub IsLeft : ℕ → ℕ → (ℕ → ℕ → R.Carrier) → (ℕ → R.Carrier) → ℕ → (ℕ → R.Carrier)
+      → (ℕ → R.Carrier) → Type 0
+  IsLeft n j l d k w b = (i : ℕ) → j ≤ i → i < n
+      → R.add (sum_below R k (term l d i j)) (w i) ≡ b i
+
+-- c is where column k has its first row from j on
+pub record IsCursor (p : Raw) (j k c : ℕ) : Type 0 where
+  pub from : start_of p k ≤ c
+  pub to : c ≤ end_of p k
+  pub before : (q : ℕ) → start_of p k ≤ q → q < c → slice_index p.indices q < j
+  pub behind : (q : ℕ) → c ≤ q → q < end_of p k → j ≤ slice_index p.indices q
+
+-- the cursor of each column
+abbrev pub AreCursors : Raw → ℕ → List ℕ → Type 0
+AreCursors p j cursors = (k : ℕ) → k < p.major_dim → IsCursor p j k (slice_index cursors k)
+
+-- no row is above its column
+abbrev pub IsLowerPattern : Raw → Type 0
+IsLowerPattern p = (k i : ℕ) → IsPlace p k i → k ≤ i
+
+-- the columns that have row j, increasing
+pub record IsRowOf (p : Raw) (j : ℕ) (row : List ℕ) : Type 0 where
+  pub rising : (q r : ℕ) → q < r → r < length row → slice_index row q < slice_index row r
+  pub stored : (q : ℕ) → q < length row → IsPlace p (slice_index row q) j
+  pub all : (k : ℕ) → IsPlace p k j → (q : ℕ) × (q < length row) × (slice_index row q ≡ k)
+
+module _ (R : CommRing) {T : Type 0} (f : T → R.Carrier) (z : T) where
+  -- e has the inverse of each entry of d
+  pub record AreInverses (d e : List T) : Type 0 where
+    pub count : length e ≡ length d
+    pub inverts : (j : ℕ) → j < length d → R.mul (elements R f z d j) (elements R f z e j) ≡ R.one
+
+  -- the places of column j are moved out of a scratch column, times e
+  pub record IsColumnMoved (p : Raw) (j : ℕ) (e : R.Carrier) (old new x y : List T) : Type 0 where
+    pub count : length new ≡ length old
+    pub same : length y ≡ length x
+    pub moved : (q : ℕ) → IsInLane p j q
+        → f (slice_index_or new q z)
+        ≡ R.mul (f (slice_index_or x (slice_index p.indices q) z)) e
+    pub others : (q : ℕ) → (IsInLane p j q → ⊥)
+        → slice_index_or new q z ≡ slice_index_or old q z
+    pub cleared : (q : ℕ) → IsInLane p j q
+        → slice_index_or y (slice_index p.indices q) z ≡ z
+    pub kept : (i : ℕ) → (IsPlace p j i → ⊥) → slice_index_or y i z ≡ slice_index_or x i z
+
+  -- the columns of L and the pivots before j are those of a factorisation of the matrix whose lower
+  -- triangle `lower` stores by columns; the cursors are at row j, and the scratch column is zero from
+  -- there on and has the inverses of the pivots before
+  pub record AreColumnsDone (lower l : Compressed T) (d : List T) (cursors : List ℕ)
+      (column : List T) (j : ℕ) : Type 0 where
+    pub sound : IsSound l
+    pub factors : ArePartFactors R f l.pattern.major_dim j (plain_of_cols R f lower).value
+        (plain_of_cols R f l).value (elements R f z d)
+    pub placed : AreCursors l.pattern j cursors
+    pub empty : (i : ℕ) → j ≤ i → i < length column → elements R f z column i ≡ R.zero
+    pub inverses : (i : ℕ) → i < j → R.mul (elements R f z d i) (elements R f z column i) ≡ R.one
+
+-- the pattern of L: no row is above its column, and it is closed under fill
+pub record IsFilledPattern (p : Raw) : Type 0 where
+  pub square : p.minor_dim ≡ p.major_dim
+  pub lower : IsLowerPattern p
+  pub closed : (i j k : ℕ) → IsPlace p k i → IsPlace p k j → k < j → j ≤ i → IsPlace p j i
+
+-- p has each place of q, in the same shape
+pub record IsIncluded (q p : Raw) : Type 0 where
+  pub rows : q.minor_dim ≡ p.minor_dim
+  pub columns : q.major_dim ≡ p.major_dim
+  pub places : (i j : ℕ) → IsPlace q j i → IsPlace p j i
+
+module _ (R : CommRing) {T : Type 0} (f : T → R.Carrier) (z : T) where
+  -- each entry of y is that of x, times its factor
+  abbrev pub IsScaled : List T → List T → List T → Type 0
+  IsScaled factors x y = (i : ℕ) → i < length x
+      → elements R f z y i ≡ R.mul (elements R f z x i) (elements R f z factors i)
+
+  -- each row of the first n columns is multiplied by its factor, and the other columns are the same
+  pub record AreScaledBelow (n : ℕ) (factors : List T) (old new : Dense T) : Type 0 where
+    pub rows : new.nrows ≡ old.nrows
+    pub cols : new.ncols ≡ old.ncols
+    pub scaled : (i j : ℕ) → i < old.nrows → j < n → f (value_at new i j z)
+        ≡ R.mul (f (value_at old i j z)) (elements R f z factors i)
+    pub behind : (i j : ℕ) → i < old.nrows → n ≤ j → value_at new i j z ≡ value_at old i j z

@@ -1,2 +1,0 @@
-pub mod SparseVectors
-pub mod InnerKernels

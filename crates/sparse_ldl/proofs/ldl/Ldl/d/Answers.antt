@@ -1,8 +1,0 @@
-use Rattle.std.proofs.Common.{subst}
-use Rattle.sparse_ldl.specs.Factors.{HavePivots}
-use Rattle.sparse_ldl.proofs.ldl.Ldl.d.Goals as goal
-
-pub returns-clause-pivots : goal.returns-clause-pivots
-returns-clause-pivots g c =
-    subst (λ s. HavePivots g.T.Ring.ring g.T.Ring.value g.T.Zero.zero_value s.d) c.self.view_is
-    c.self.invariant.0.pivots

@@ -1,5 +1,0 @@
-use Rattle.std.proofs.Common.{◌≡◌, replicate}
-use Rattle.sparse_ldl.proofs.ldl.numeric.zeros.Given as goal
-
-abbrev pub invariant-loop : goal.invariant-loop
-invariant-loop g l = l.zeros.items ≡ replicate l.counter g.T.Zero.zero_value

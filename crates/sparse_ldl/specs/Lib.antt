@@ -1,3 +1,0 @@
-pub mod Factorisations
-pub mod Factors
-pub mod InnerColumns

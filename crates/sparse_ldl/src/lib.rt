@@ -1,4 +1,0 @@
-//! Exact factorisations of symmetric matrices over commutative rings.
-#![tactic(auto)]
-
-pub mod ldl;

@@ -1,3 +1,0 @@
-pub mod Solutions
-pub mod Quotients
-pub mod InnerColumns

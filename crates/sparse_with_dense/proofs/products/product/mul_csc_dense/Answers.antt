@@ -1,0 +1,18 @@
+use Rattle.std.proofs.Common.{ap, ◌∙◌}
+use Rattle.sparse_algebra.specs.Plain.{plain_product}
+use Rattle.sparse_coo_dense.specs.DensePlain.{plain_of_dense}
+use Rattle.sparse_compressed.specs.PlainOfLanes.{plain_of_cols}
+use Rattle.sparse_with_dense.proofs.PlainUpdates.{fresh_product}
+use Rattle.sparse_with_dense.proofs.products.product.mul_csc_dense.Goals as goal
+
+pub returns : goal.returns
+returns g c =
+    let R = g.T.Ring.ring in
+    let f = g.T.Ring.value in
+    let z = g.T.Zero.zero_value in
+    let zero_law = g.met.T.Ring.zero_law in
+    c.spmm_csc_dense.ensures.updated
+    ∙ fresh_product R f z zero_law (f c.zero.result) (f c.one.result) c.in_ok-product.product
+    (plain_product R (plain_of_cols R f c.args.a.now) (plain_of_dense R f c.args.b.now))
+    (ap f c.zero.ensures ∙ zero_law) c.one.ensures (c.in_ok-product.ensures.rows ∙ c.nrows.ensures)
+    (c.in_ok-product.ensures.cols ∙ c.ncols.ensures)

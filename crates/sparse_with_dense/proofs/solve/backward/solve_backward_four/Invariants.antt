@@ -1,0 +1,22 @@
+use Rattle.std.proofs.Common.{◌-◌, length}
+use Rattle.sparse_with_dense.specs.SparseVectors.{elements}
+use Rattle.sparse_with_dense.specs.InnerColumns.{lower}
+use Rattle.sparse_with_dense.proofs.Substitutions.{IsBackward}
+use Rattle.sparse_with_dense.proofs.solve.backward.solve_backward_four.Given as goal
+
+abbrev pub invariant-loop-step : goal.invariant-loop-step
+invariant-loop-step g l =
+    let R = g.T.Ring.ring in
+    let f = g.T.Ring.value in
+    let z = g.T.Zero.zero_value in
+    let t = lower R f l.l in
+    record {
+      first : IsBackward R (length l.initial.first) (length l.initial.first - l.step) t
+          (elements R f z l.first) (elements R f z l.initial.first);
+      second : IsBackward R (length l.initial.second) (length l.initial.second - l.step) t
+          (elements R f z l.second) (elements R f z l.initial.second);
+      third : IsBackward R (length l.initial.third) (length l.initial.third - l.step) t
+          (elements R f z l.third) (elements R f z l.initial.third);
+      fourth : IsBackward R (length l.initial.fourth) (length l.initial.fourth - l.step) t
+          (elements R f z l.fourth) (elements R f z l.initial.fourth);
+    }

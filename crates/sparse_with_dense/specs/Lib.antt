@@ -1,0 +1,7 @@
+pub mod SparseVectors
+pub mod InnerKernels
+pub mod DenseOperands
+pub mod InnerUpdates
+pub mod Solutions
+pub mod Quotients
+pub mod InnerColumns
