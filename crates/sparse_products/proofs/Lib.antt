@@ -12,5 +12,5 @@ mod UpdatedRows
 mod TakenRows
 mod Updating
 mod MadeProducts
-mod Refusals
+pub mod Refusals
 mod Transposing
