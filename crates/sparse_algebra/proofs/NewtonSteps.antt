@@ -2,7 +2,7 @@
 use Rattle.std.proofs.Common.{◌≡◌, ℕ, zero, suc, ◌≤◌, inl, inr, arith, sym, ap, ◌∙◌, refl}
 use Rattle.sparse_algebra.proofs.Cases.{le_cases}
 use Rattle.sparse_algebra.specs.Algebra.{CommRing}
-use Rattle.sparse_algebra.proofs.RingLemmas.{zero_add, mul_zero}
+use Rattle.sparse_algebra.proofs.RingLemmas.{zero_add, mul_zero, zero_mul}
 use Rattle.sparse_algebra.specs.InnerNewton.{squared, one_minus}
 use Rattle.sparse_algebra.proofs.Products.{mul_cross}
 
@@ -62,6 +62,6 @@ module _ (R : CommRing) where
   squared-zero k zero c le h = let none : zero ≡ k = omega arith in ap (λ j. squared R j c) none ∙ h
   squared-zero k (suc n) c le h = elim (le_cases k (suc n) le) [
     | inl lt ↦ ap (λ z. R.mul z (squared R n c)) (squared-zero k n c (omega arith) h)
-        ∙ R.laws.mul_comm R.zero (squared R n c) ∙ mul_zero R (squared R n c)
+        ∙ zero_mul R (squared R n c)
     | inr same ↦ ap (λ j. squared R j c) (sym same) ∙ h
   ]

@@ -11,7 +11,7 @@ use Rattle.std.proofs.lemmas.Int.{to_z-of_z}
 use mir.Val.{bits, to_z}
 use Rattle.sparse_algebra.specs.Residues.{Residue, residue, same_class, mul-mod_left, mul-mod_right}
 use Rattle.sparse_algebra.specs.Wrapping.{wrapping_ring, class_of}
-use Rattle.sparse_algebra.proofs.RingLemmas.{mul_zero}
+use Rattle.sparse_algebra.proofs.RingLemmas.{zero_mul}
 use Rattle.sparse_algebra.specs.Inverses.{HasInverse}
 use Rattle.sparse_algebra.specs.InnerNewton.{squared, one_minus}
 use Rattle.sparse_algebra.proofs.NewtonSteps.{odd_rest, squared-mul, from_no_rest}
@@ -60,7 +60,7 @@ no_rest w n u e h =
     ∙ squared-mul R n (bits_class w 2) (R.neg q)
     ∙ ap (λ z. R.mul z (squared R n (R.neg q))) (squared-two w n ∙ ap (λ z. bits_class w (2 ^ z)) e
     ∙ same_class m (pow_pos (bits w)) _ _ (mod_self m ∙ sym (zero-mod m)))
-    ∙ R.laws.mul_comm R.zero (squared R n (R.neg q)) ∙ mul_zero R (squared R n (R.neg q))
+    ∙ zero_mul R (squared R n (R.neg q))
 
 -- an even number has no inverse
 even_none : (w : Width) (u v : ℕ) → u % 2 ≡ 0

@@ -3,6 +3,8 @@ use Rattle.std.proofs.Common.{◌≡◌, ◌≢◌, ℕ, zero, suc, ◌<◌, inl
 use Rattle.std.proofs.Common.{ap, sym, ◌∙◌, refl, arith}
 use Rattle.std.specs.Prelude.{◌||◌, nat_eq, nat_lt, List, [], ◌∷◌, All}
 use Rattle.std.specs.List.{list_any}
+use Rattle.std.proofs.Math.Bool.{and_assoc, and-or_distrib_left, and-or_distrib_right}
+use Rattle.std.proofs.lemmas.Bool.{and_right}
 use Rattle.std.proofs.lemmas.Bool.Decides.{Decides-eqb, Decides-ltb, nat_tests}
 use Rattle.sparse_algebra.proofs.Cases.{and_both, and_parts, neither, or_cases, true_or_false}
 use Rattle.sparse_algebra.specs.Algebra.{CommRing}
@@ -11,27 +13,13 @@ use Rattle.sparse_algebra.specs.Plain.{Plain, IsProper, IsWithin, any_below, is_
 use Rattle.sparse_algebra.specs.Plain.{plain_of_triplets, plain_sum, plain_negation}
 use Rattle.sparse_algebra.specs.Plain.{plain_difference, plain_scaled, plain_product}
 use Rattle.sparse_algebra.specs.Plain.{plain_transpose, plain_identity, plain_kept}
-use Rattle.sparse_algebra.proofs.RingLemmas.{zero_add, mul_zero, neg_unique}
-use Rattle.sparse_algebra.proofs.SumLemmas.{sum_below-same, sum_below-zero, sum_below-add}
-use Rattle.sparse_algebra.proofs.SumLemmas.{product_assoc}
+use Rattle.sparse_algebra.proofs.RingLemmas.{zero_add, mul_zero, zero_mul, neg_zero}
+use Rattle.sparse_algebra.proofs.SumLemmas.{sum_below-same, sum_below-none, sum_below-add}
+use Rattle.sparse_algebra.proofs.SumLemmas.{product_assoc, where_yes, where_no}
 use Rattle.sparse_algebra.proofs.PlainLemmas.{same_plain, same_bool, any_below-same, any_is}
 use Rattle.sparse_algebra.proofs.PlainLemmas.{transpose_product}
 
 -- ---- tests
-
-and_assoc : (b c d : Bool) → ((b && c) && d) ≡ (b && (c && d))
-and_assoc true c d = refl
-and_assoc false c d = refl
-
-and-or : (b c d : Bool) → (b && (c || d)) ≡ ((b && c) || (b && d))
-and-or true c d = refl
-and-or false c d = refl
-
-or-and : (b c d : Bool) → ((b || c) && d) ≡ ((b && d) || (c && d))
-or-and true c true = refl
-or-and true true false = refl
-or-and true false false = refl
-or-and false c d = refl
 
 or_cross : (a b c d : Bool) → ((a || b) || (c || d)) ≡ ((a || c) || (b || d))
 or_cross true b c d = refl
@@ -58,9 +46,9 @@ any_below-and_right : (n : ℕ) (t : ℕ → Bool) (b : Bool)
     → any_below n (λ k. t k && b) ≡ (any_below n t && b)
 any_below-and_right zero t b = refl
 any_below-and_right (suc n) t b = ap (λ c. c || (t n && b)) (any_below-and_right n t b)
-    ∙ sym (or-and (any_below n t) (t n) b)
+    ∙ sym (and-or_distrib_right (any_below n t) (t n) b)
 
--- whether some pair passes, in true_or_false order
+-- whether some pair passes, in either order
 any_below-exchange : (m n : ℕ) (t : ℕ → ℕ → Bool)
     → any_below m (λ i. any_below n (λ j. t i j)) ≡ any_below n (λ j. any_below m (λ i. t i j))
 any_below-exchange zero n t = sym (any_below-none n)
@@ -81,37 +69,19 @@ any_below-assoc m n a b c =
 -- ---- sums with one term
 
 module _ (R : CommRing) where
-  where_yes : (b : Bool) (c : R.Carrier) → b ≡ true → where_true R b c ≡ c
-  where_yes true c e = refl
-  where_yes false c e = cc
-
-  where_no : (b : Bool) (c : R.Carrier) → b ≡ false → where_true R b c ≡ R.zero
-  where_no true c e = cc
-  where_no false c e = refl
-
-  zero_mul : (c : R.Carrier) → R.mul R.zero c ≡ R.zero
-  zero_mul c = R.laws.mul_comm R.zero c ∙ mul_zero R c
-
-  sum_below-none : (n : ℕ) (f : ℕ → R.Carrier) → ((k : ℕ) → k < n → f k ≡ R.zero)
-      → sum_below R n f ≡ R.zero
-  sum_below-none n f h = sum_below-same R n f (λ k. R.zero) h ∙ sum_below-zero R n
-
   sum_below-one : (n i : ℕ) (f : ℕ → R.Carrier) → i < n → ((k : ℕ) → k ≢ i → f k ≡ R.zero)
       → sum_below R n f ≡ f i
   sum_below-one zero i f lt h = absurd (omega arith)
   sum_below-one (suc n) i f lt h = elim (true_or_false (nat_eq n i)) [
     | inl same ↦
         let at : n ≡ i = (Decides-eqb n i).0 same in
-        ap (λ c. R.add c (f n)) (sum_below-none n f (λ k less. h k (omega arith)))
+        ap (λ c. R.add c (f n)) (sum_below-none R n f (λ k less. h k (omega arith)))
         ∙ zero_add R (f n) ∙ ap f at
     | inr other ↦
         let apart : n ≢ i = λ e. grind (arith, nat_tests) in
         ap (R.add (sum_below R n f)) (h n apart) ∙ R.laws.add_zero _
         ∙ sum_below-one n i f (omega arith) h
   ]
-
-  neg_zero : R.neg R.zero ≡ R.zero
-  neg_zero = sym (neg_unique R R.zero R.zero (R.laws.add_zero R.zero))
 
   -- ---- products
 
@@ -127,7 +97,7 @@ module _ (R : CommRing) where
       (plain_product R a c)
   product-sum a b c = same_plain (plain_product R a (plain_sum R b c))
       (plain_sum R (plain_product R a b) (plain_product R a c)) refl refl
-      (λ i j. any_below-same a.cols _ _ (λ k. and-or (a.has i k) (b.has k j) (c.has k j))
+      (λ i j. any_below-same a.cols _ _ (λ k. and-or_distrib_left (a.has i k) (b.has k j) (c.has k j))
       ∙ any_below-or a.cols _ _)
       (λ i j. sum_below-same R a.cols _ _ (λ k _. R.laws.distrib (a.value i k) (b.value k j)
       (c.value k j)) ∙ sum_below-add R a.cols _ _)
@@ -137,7 +107,7 @@ module _ (R : CommRing) where
       (plain_product R b c)
   sum-product a b c e = same_plain (plain_product R (plain_sum R a b) c)
       (plain_sum R (plain_product R a c) (plain_product R b c)) refl refl
-      (λ i j. any_below-same a.cols _ _ (λ k. or-and (a.has i k) (b.has i k) (c.has k j))
+      (λ i j. any_below-same a.cols _ _ (λ k. and-or_distrib_right (a.has i k) (b.has i k) (c.has k j))
       ∙ any_below-or a.cols _ _ ∙ ap (λ n. any_below a.cols (λ k. a.has i k && c.has k j)
       || any_below n (λ k. b.has i k && c.has k j)) e)
       (λ i j.
@@ -163,7 +133,7 @@ module _ (R : CommRing) where
       ∙ R.laws.add_zero R.zero
 
   pub proper_negation : (a : Plain R) → IsProper a → IsProper (plain_negation R a)
-  proper_negation a p i j h = ap R.neg (p i j h) ∙ neg_zero
+  proper_negation a p i j h = ap R.neg (p i j h) ∙ neg_zero R
 
   pub proper_difference : (a b : Plain R) → IsProper a → IsProper b
       → IsProper (plain_difference R a b)
@@ -176,10 +146,10 @@ module _ (R : CommRing) where
   proper_transpose a p i j h = p j i h
 
   pub proper_identity : (n : ℕ) → IsProper (plain_identity R n)
-  proper_identity n i j h = where_no _ R.one h
+  proper_identity n i j h = where_no R _ R.one h
 
   pub proper_kept : (test : ℕ → ℕ → Bool) (a : Plain R) → IsProper (plain_kept R test a)
-  proper_kept test a i j h = where_no _ (a.value i j) h
+  proper_kept test a i j h = where_no R _ (a.value i j) h
 
   pub proper_plain_of_triplets : {T : Type 0} (f : T → R.Carrier) (rows cols : ℕ)
       (ts : List (ℕ × ℕ × T))
@@ -188,7 +158,7 @@ module _ (R : CommRing) where
   proper_plain_of_triplets f rows cols (t ∷ ts) i j h =
       let parts = neither (is_at i j t) (list_any (is_at i j) ts) h in
       ap (λ c. R.add c (sum_by R (λ t. where_true R (is_at i j t) (f t.2)) ts))
-      (where_no (is_at i j t) (f t.2) parts.0) ∙ zero_add R _
+      (where_no R (is_at i j t) (f t.2) parts.0) ∙ zero_add R _
       ∙ proper_plain_of_triplets f rows cols ts i j parts.1
 
   -- ---- places within the shape
@@ -255,22 +225,18 @@ module _ (R : CommRing) where
         | inl inside ↦
             let lt : i < n = (Decides-ltb i n).0 inside in
             sum_below-one n i _ lt (λ k apart. ap (λ c. R.mul c (a.value k j))
-            (where_no _ R.one (off_diagonal i k apart)) ∙ zero_mul (a.value k j))
-            ∙ ap (λ c. R.mul c (a.value i j)) (where_yes _ R.one (on_diagonal i lt))
+            (where_no R _ R.one (off_diagonal i k apart)) ∙ zero_mul R (a.value k j))
+            ∙ ap (λ c. R.mul c (a.value i j)) (where_yes R _ R.one (on_diagonal i lt))
             ∙ R.laws.mul_comm R.one (a.value i j) ∙ R.laws.mul_one (a.value i j)
         | inr outside ↦
             let none : a.has i j ≡ false = elim (true_or_false (a.has i j)) [
               | inl hit ↦ absurd (grind (arith, nat_tests, (within i j hit).0))
               | inr miss ↦ miss
             ] in
-            sum_below-none n _ (λ k lt. ap (λ c. R.mul c (a.value k j))
-            (where_no _ R.one (off (nat_eq i k) outside)) ∙ zero_mul (a.value k j))
+            sum_below-none R n _ (λ k lt. ap (λ c. R.mul c (a.value k j))
+            (where_no R _ R.one (and_right (nat_eq i k) _ outside)) ∙ zero_mul R (a.value k j))
             ∙ sym (proper i j none)
       ]
-        where
-          off : (b : Bool) {c : Bool} → c ≡ false → (b && c) ≡ false
-          off true e = e
-          off false e = refl
 
   pub transpose_identity : (n : ℕ) → plain_transpose R (plain_identity R n) ≡ plain_identity R n
   transpose_identity n = same_plain (plain_transpose R (plain_identity R n)) (plain_identity R n)

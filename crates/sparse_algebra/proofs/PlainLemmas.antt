@@ -4,12 +4,13 @@ use Rattle.std.proofs.Common.{List, ap, sym, ◌∙◌, refl, arith}
 use Rattle.std.specs.Prelude.{◌||◌}
 use Rattle.std.specs.List.Sorted.{IsPermutation}
 use Rattle.std.proofs.lemmas.List.Sorted.{list_any-IsPermutation}
+pub use Rattle.std.proofs.Math.Bool.{and_comm}
 use Rattle.sparse_algebra.proofs.Cases.{and_fails, lt_suc_cases, neither, or_cases, or_left}
 use Rattle.sparse_algebra.proofs.Cases.{or_right}
 use Rattle.sparse_algebra.specs.Algebra.{CommRing}
 use Rattle.sparse_algebra.specs.Sums.{sum_below, where_true}
-use Rattle.sparse_algebra.proofs.RingLemmas.{mul_zero}
-use Rattle.sparse_algebra.proofs.SumLemmas.{sum_by-permutation, sum_below-same, sum_below-zero}
+use Rattle.sparse_algebra.proofs.RingLemmas.{mul_zero, zero_mul}
+use Rattle.sparse_algebra.proofs.SumLemmas.{sum_by-permutation, sum_below-same, sum_below-none}
 use Rattle.sparse_algebra.specs.Plain.{Plain, IsProper, any_below, is_at, plain_of_triplets}
 use Rattle.sparse_algebra.specs.Plain.{plain_product, plain_transpose}
 
@@ -23,12 +24,6 @@ pub same_bool : (b c : Bool) → (b ≡ true → c ≡ true) → (c ≡ true →
 same_bool true c h g = sym (h refl)
 same_bool false true h g = g refl
 same_bool false false h g = refl
-
-pub and_comm : (b c : Bool) → (b && c) ≡ (c && b)
-and_comm true true = refl
-and_comm true false = refl
-and_comm false true = refl
-and_comm false false = refl
 
 pub any_below-same : (n : ℕ) (s t : ℕ → Bool) → ((k : ℕ) → s k ≡ t k)
     → any_below n s ≡ any_below n t
@@ -84,10 +79,9 @@ none_at (suc n) k t h lt =
 pub proper_product : (R : CommRing) (a b : Plain R) → IsProper a → IsProper b
     → IsProper (plain_product R a b)
 proper_product R a b pa pb i j h =
-    sum_below-same R a.cols _ (λ _. R.zero)
+    sum_below-none R a.cols _
     (λ k lt. elim (and_fails (a.has i k) (b.has k j)
     (none_at a.cols k (λ k. a.has i k && b.has k j) h lt)) [
-      | inl no_a ↦ ap (λ x. R.mul x (b.value k j)) (pa i k no_a)
-          ∙ R.laws.mul_comm R.zero (b.value k j) ∙ mul_zero R (b.value k j)
+      | inl no_a ↦ ap (λ x. R.mul x (b.value k j)) (pa i k no_a) ∙ zero_mul R (b.value k j)
       | inr no_b ↦ ap (R.mul (a.value i k)) (pb k j no_b) ∙ mul_zero R (a.value i k)
-    ]) ∙ sum_below-zero R a.cols
+    ])

@@ -33,6 +33,12 @@ module _ (R : CommRing) where
       ∙ sym (R.laws.add_assoc t t (R.neg t)) ∙ ap (λ x. R.add x (R.neg t)) twice
       ∙ R.laws.add_neg t
 
+  pub zero_mul : (a : R.Carrier) → R.mul R.zero a ≡ R.zero
+  zero_mul a = R.laws.mul_comm R.zero a ∙ mul_zero a
+
+  pub neg_zero : R.neg R.zero ≡ R.zero
+  neg_zero = sym (neg_unique R.zero R.zero (R.laws.add_zero R.zero))
+
   -- what is added on both sides cancels
   pub cancel : (a b c : R.Carrier) → R.add a c ≡ R.add b c → a ≡ b
   cancel a b c e =

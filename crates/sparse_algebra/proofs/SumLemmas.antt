@@ -1,16 +1,29 @@
 -- Laws of finite sums in a commutative ring.
 use Rattle.std.proofs.Common.{◌≡◌, ℕ, zero, suc, ◌<◌, List, [], ◌∷◌, ◌++◌, length, set, get_or, sym}
-use Rattle.std.proofs.Common.{ap, ◌∙◌, refl, arith, subst, inl, inr, get_or-set_same}
+use Rattle.std.proofs.Common.{ap, ◌∙◌, refl, arith, subst, inl, inr, Bool, true, false}
+use Rattle.std.proofs.Common.{get_or-set_same}
 use Rattle.std.proofs.Common.{get_or-set_other, length-set}
 use Rattle.std.specs.List.{swap}
 use Rattle.std.proofs.lemmas.Bool.{cases_eq}
 use Rattle.std.specs.List.Sorted.{IsPermutation}
 use Rattle.std.proofs.lemmas.List.Sorted.{IsPermutation-keeps}
 use Rattle.sparse_algebra.specs.Algebra.{CommRing}
-use Rattle.sparse_algebra.specs.Sums.{sum_below, sum_by}
+use Rattle.sparse_algebra.specs.Sums.{sum_below, sum_by, where_true}
 use Rattle.sparse_algebra.proofs.RingLemmas.{zero_add, add_cross, mul_zero, cancel}
 
 module _ (R : CommRing) where
+  -- ---- one term
+
+  pub where_yes : (b : Bool) (c : R.Carrier) → b ≡ true → where_true R b c ≡ c
+  where_yes true c e = refl
+  where_yes false c e = cc
+
+  pub where_no : (b : Bool) (c : R.Carrier) → b ≡ false → where_true R b c ≡ R.zero
+  where_no true c e = cc
+  where_no false c e = refl
+
+  -- ---- over a list
+
   module _ {X : Type 0} where
     pub sum_by-append : (f : X → R.Carrier) (xs ys : List X)
         → sum_by R f (xs ++ ys) ≡ R.add (sum_by R f xs) (sum_by R f ys)
@@ -40,6 +53,10 @@ module _ (R : CommRing) where
   pub sum_below-zero : (n : ℕ) → sum_below R n (λ k. R.zero) ≡ R.zero
   sum_below-zero zero = refl
   sum_below-zero (suc n) = R.laws.add_zero _ ∙ sum_below-zero n
+
+  pub sum_below-none : (n : ℕ) (f : ℕ → R.Carrier) → ((k : ℕ) → k < n → f k ≡ R.zero)
+      → sum_below R n f ≡ R.zero
+  sum_below-none n f h = sum_below-same n f (λ k. R.zero) h ∙ sum_below-zero n
 
   pub sum_below-add : (n : ℕ) (f g : ℕ → R.Carrier)
       → sum_below R n (λ k. R.add (f k) (g k)) ≡ R.add (sum_below R n f) (sum_below R n g)
