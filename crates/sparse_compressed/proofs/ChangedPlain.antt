@@ -3,7 +3,7 @@ use Rattle.std.proofs.Common.{◌≡◌, ℕ, ◌<◌, List, length, get_or, ap,
 use Rattle.std.proofs.lemmas.List.{get_or_default}
 use Rattle.sparse_algebra.specs.Algebra.{CommRing}
 use Rattle.sparse_algebra.specs.Plain.{plain_negation, plain_scaled}
-use Rattle.sparse_algebra.proofs.RingLemmas.{mul_zero, neg_unique}
+use Rattle.sparse_algebra.proofs.RingLemmas.{mul_zero, neg_zero}
 use Rattle.sparse_compressed.specs.ChangedValues.{AreChanged}
 use Rattle.sparse_compressed.specs.Compressed.{Compressed, compressed_of, IsPosition, IsSound}
 use Rattle.sparse_compressed.specs.PlainOfLanes.{plain_of_rows}
@@ -11,9 +11,6 @@ use Rattle.sparse_compressed.proofs.Arrays.{position_within}
 use Rattle.sparse_compressed.proofs.Standing.{rows_have, rows_are}
 
 module _ (R : CommRing) {T : Type 0} (f : T → R.Carrier) where
-  neg_zero : R.neg R.zero ≡ R.zero
-  neg_zero = sym (neg_unique R R.zero R.zero (R.laws.add_zero R.zero))
-
   module _ (z : T) (m : Compressed T) (ws : List T) (sound : IsSound m) where
     abbrev now : Compressed T
     now = compressed_of m.pattern ws
@@ -41,7 +38,7 @@ module _ (R : CommRing) {T : Type 0} (f : T → R.Carrier) where
           places = was.places;
           values = changed_at R.neg h;
           within = was.within;
-          proper = λ i j no. ap R.neg (was.proper i j no) ∙ neg_zero;
+          proper = λ i j no. ap R.neg (was.proper i j no) ∙ neg_zero R;
         })
 
     pub scaled : (s : R.Carrier) → AreChanged f (R.mul s) z m.values ws

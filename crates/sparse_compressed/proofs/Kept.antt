@@ -90,10 +90,6 @@ module _ {T : Type 0} (R : ℕ × T → Bool → Type 0) where
       (e : length values ≡ length indices) (lt : k < length indices) (is_x : x ≡ get_or indices k 0)
       (is_v : v ≡ get_or values k v) (xs ys : List ℕ) (vs ws : List T)
       (grown : IsGrown R (zip (take k indices) (take k values)) xs vs ys ws) where
-    more : zip (take k indices) (take k values) ++ (x, v) ∷ [] ≡ zip (take (k + 1) indices)
-        (take (k + 1) values)
-    more = pairs_more indices values k x v e lt is_x is_v
-
     pub keep_more : R (x, v) true
         → IsGrown R (zip (take (k + 1) indices) (take (k + 1) values)) xs vs (ys ++ x ∷ [])
         (ws ++ v ∷ [])
@@ -108,7 +104,8 @@ module _ {T : Type 0} (R : ℕ × T → Bool → Type 0) where
         length-append grown.values (v ∷ []),
         length-append grown.indices (x ∷ []),
       );
-      kept = subst (λ ps. IsKept R ps (zip (grown.indices ++ x ∷ []) (grown.values ++ v ∷ []))) more
+      kept = subst (λ ps. IsKept R ps (zip (grown.indices ++ x ∷ []) (grown.values ++ v ∷ [])))
+          (pairs_more indices values k x v e lt is_x is_v)
           (subst (IsKept R (zip (take k indices) (take k values) ++ (x, v) ∷ []))
           (sym (zip-push grown.indices grown.values x v grown.count))
           (IsKept-push R _ _ (x, v) true grown.kept answer));
@@ -122,7 +119,8 @@ module _ {T : Type 0} (R : ℕ × T → Bool → Type 0) where
       index_end = grown.index_end;
       value_end = grown.value_end;
       count = grown.count;
-      kept = subst (λ ps. IsKept R ps (zip grown.indices grown.values)) more
+      kept = subst (λ ps. IsKept R ps (zip grown.indices grown.values))
+          (pairs_more indices values k x v e lt is_x is_v)
           (subst (IsKept R _) (append-nil _) (IsKept-push R _ _ (x, v) false grown.kept answer));
     }
 

@@ -4,6 +4,7 @@ use Rattle.std.proofs.Common.{◌++◌, length, take, drop, map, get_or, slice_r
 use Rattle.std.proofs.Common.{sym, subst, ◌∙◌, arith, length-append}
 use Rattle.std.specs.Prelude.{⊤}
 use Rattle.std.specs.List.{zip, AllPairs}
+use Rattle.std.proofs.Math.Seq.{drop-append_seam}
 use Rattle.std.proofs.lemmas.Grind.{common_steps, get_or_default_zero}
 use Rattle.std.proofs.lemmas.List.{take-append-le, drop-append-le, length-drop}
 use Rattle.std.proofs.lemmas.List.Edits.{length-between, get_or-between}
@@ -18,7 +19,7 @@ use Rattle.sparse_compressed.specs.Filter.{IsKept}
 use Rattle.sparse_compressed.specs.InnerFilter.{AreKeptLanes, IsGrown, IsKeptLane}
 use Rattle.sparse_compressed.proofs.Kept.{IsKept-append, IsKept-map, All-kept, AllPairs-kept}
 use Rattle.sparse_compressed.proofs.SortedForm.{in_lane, split_lane}
-use Rattle.sparse_compressed.proofs.UnsortedLanes.{lane_values}
+use Rattle.sparse_compressed.proofs.LaneValues.{values_of}
 
 module _ {X : Type 0} where
   -- a part of the prefix
@@ -28,16 +29,12 @@ module _ {X : Type 0} where
       ap (take (b - a)) (drop-append-le a xs ys (omega arith))
       ∙ take-append-le (b - a) (drop a xs) ys (omega (arith, length-drop a xs))
 
-  drop_front : (xs ys : List X) → drop (length xs) (xs ++ ys) ≡ ys
-  drop_front [] ys = refl
-  drop_front (x ∷ xs) ys = drop_front xs ys
-
   -- the part that was appended
   pub between_end : (xs ys : List X) → slice_range (xs ++ ys) (length xs) (length xs + length ys)
       ≡ ys
   between_end xs ys =
       let long : length xs + length ys - length xs ≡ length ys = omega arith in
-      ap (take (length xs + length ys - length xs)) (drop_front xs ys)
+      ap (take (length xs + length ys - length xs)) (drop-append_seam xs ys)
       ∙ rw long (grind (arith, common_steps))
 
 module _ {T : Type 0} (R : ℕ × ℕ × T → Bool → Type 0) (m : Compressed T) where
@@ -72,7 +69,7 @@ module _ {T : Type 0} (R : ℕ × ℕ × T → Bool → Type 0) (m : Compressed 
           ) l.kept;
         }
 
-    new_lane : IsKept (λ p b. R (i, p.0, p.1) b) (zip (lane_of m.pattern i) (lane_values m i))
+    new_lane : IsKept (λ p b. R (i, p.0, p.1) b) (zip (lane_of m.pattern i) (values_of m i))
         (zip more more_values)
         → IsKeptLane R m (offsets ++ end ∷ []) (indices ++ more) (values ++ more_values) i
     new_lane kept =
@@ -87,7 +84,7 @@ module _ {T : Type 0} (R : ℕ × ℕ × T → Bool → Type 0) (m : Compressed 
               kept;
         }
 
-    one_more : IsKept (λ p b. R (i, p.0, p.1) b) (zip (lane_of m.pattern i) (lane_values m i))
+    one_more : IsKept (λ p b. R (i, p.0, p.1) b) (zip (lane_of m.pattern i) (values_of m i))
         (zip more more_values)
         → AreKeptLanes R m (offsets ++ end ∷ []) (indices ++ more) (values ++ more_values) (i + 1)
     one_more kept = record {
@@ -122,7 +119,7 @@ module _ {T : Type 0} (R : ℕ × ℕ × T → Bool → Type 0) (m : Compressed 
   -- one more lane is traversed
   pub kept_step : (offsets indices indices' : List ℕ) (values values' : List T) (i e : ℕ)
       (js : List ℕ) (us : List T)
-      → AreKeptLanes R m offsets indices values i → js ≡ lane_of m.pattern i → us ≡ lane_values m i
+      → AreKeptLanes R m offsets indices values i → js ≡ lane_of m.pattern i → us ≡ values_of m i
       → IsGrown (λ p b. R (i, p.0, p.1) b) (zip js us) indices values indices' values'
       → e ≡ length indices' → AreKeptLanes R m (offsets ++ e ∷ []) indices' values' (i + 1)
   kept_step offsets indices indices' values values' i e js us h here here_values grown is =
@@ -153,12 +150,12 @@ module _ {T : Type 0} (R : ℕ × ℕ × T → Bool → Type 0) (m : Compressed 
         let new_indices = length-between indices (start_of now.pattern i) (end_of now.pattern i)
         l.inside in
         let firsts : IsKept {X = ℕ} (λ _ _. ⊤) (map (λ p. p.0)
-        (zip (lane_of m.pattern i) (lane_values m i)))
-        (map (λ p. p.0) (zip (lane_of now.pattern i) (lane_values now i))) =
+        (zip (lane_of m.pattern i) (values_of m i)))
+        (map (λ p. p.0) (zip (lane_of now.pattern i) (values_of now i))) =
         IsKept-map _ _ (λ p. p.0) (λ _ _ _. tt) _ _ l.kept in
         rw (
-          firsts-zip (lane_of m.pattern i) (lane_values m i) (old_values ∙ sym old_indices),
-          firsts-zip (lane_of now.pattern i) (lane_values now i) (new_values ∙ sym new_indices),
+          firsts-zip (lane_of m.pattern i) (values_of m i) (old_values ∙ sym old_indices),
+          firsts-zip (lane_of now.pattern i) (values_of now i) (new_values ∙ sym new_indices),
         ) at
         firsts
 

@@ -2,6 +2,7 @@
 use Rattle.std.proofs.Common.{◌≡◌, ℕ, inl, inr, Bool, true, false, ◌&&◌, cond, List, [], ◌∷◌, map}
 use Rattle.std.proofs.Common.{ap, sym, ◌∙◌, refl}
 use Rattle.std.specs.List.{filter, list_any}
+use Rattle.std.proofs.lemmas.Bool.{and_left, and_right}
 use Rattle.std.proofs.lemmas.Map.Views.{any-filter_same}
 use Rattle.sparse_algebra.proofs.Cases.{and_both, true_or_false}
 use Rattle.sparse_algebra.specs.Algebra.{CommRing}
@@ -14,15 +15,7 @@ use Rattle.sparse_compressed.specs.Filter.{HasSizesOf}
 use Rattle.sparse_compressed.specs.PlainOfLanes.{plain_of_rows, plain_of_cols}
 use Rattle.sparse_compressed.proofs.Arrays.{pair_is, value_at, where_no, where_yes, unnamed}
 
-and_no : (b c : Bool) → c ≡ false → (b && c) ≡ false
-and_no true c e = e
-and_no false c e = refl
-
-no_and : (b c : Bool) → b ≡ false → (b && c) ≡ false
-no_and true c e = cc
-no_and false c e = refl
-
--- a filter of triplets whose first true_or_false parts have changed places
+-- a filter of triplets whose first two parts have changed places
 filter-transposed : {T : Type 0} (test : ℕ × ℕ × T → Bool) (ts : List (ℕ × ℕ × T))
     → map transposed (filter test (map transposed ts)) ≡ filter (λ t. test (transposed t)) ts
 filter-transposed test [] = refl
@@ -78,10 +71,10 @@ module _ (R : CommRing) {T : Type 0} (f : T → R.Carrier) (test : ℕ → ℕ �
       | inl some ↦ sum_kept i j ts pass
           ∙ sym (where_yes R f _ _ (and_both (list_any (is_at i j) ts) (test i j) some pass))
       | inr none ↦ sum_kept i j ts pass ∙ unnamed R f i j ts none
-          ∙ sym (where_no R f _ _ (no_and (list_any (is_at i j) ts) (test i j) none))
+          ∙ sym (where_no R f _ _ (and_left (list_any (is_at i j) ts) (test i j) none))
     ]
     | inr fails ↦
-        let outside = and_no (list_any (is_at i j) ts) (test i j) fails in
+        let outside = and_right (list_any (is_at i j) ts) (test i j) fails in
         unnamed R f i j (filter passes ts) (has_kept i j ts ∙ outside)
         ∙ sym (where_no R f _ _ outside)
   ]

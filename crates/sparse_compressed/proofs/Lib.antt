@@ -1,3 +1,5 @@
+mod EntryPositions
+mod TripletSums
 pub mod Arrays
 pub mod Inside
 pub mod Standing

@@ -12,7 +12,7 @@ use Rattle.sparse_algebra.specs.Algebra.{CommRing}
 use Rattle.sparse_algebra.specs.Plain.{below, row_order}
 use Rattle.sparse_pattern.specs.Raw.{Raw, lane_of, IsValid, IsPlace, entries_from, entries_of}
 use Rattle.sparse_pattern.specs.Raw.{paired}
-use Rattle.sparse_pattern.proofs.SamePlaces.{Has, rising_same, has_from_place, place_from_has}
+use Rattle.sparse_pattern.proofs.SamePlaces.{Has, Rises, rising_same, has_from_place, place_from_has}
 use Rattle.sparse_pattern.proofs.PatternLanes.{lane_rises}
 use Rattle.sparse_pattern.proofs.LaneOrder.{length-entries}
 use Rattle.sparse_compressed.specs.Compressed.{Compressed, IsSound, zip_values, lane_triplets}
@@ -39,9 +39,6 @@ passing_is (suc n) test f =
     last : (b : Bool) → (if b then f n ∷ [] else []) ++ [] ≡ map f (if b then n ∷ [] else [])
     last true = refl
     last false = refl
-
-abbrev Rises : List ℕ → Type 0
-Rises xs = (a b : ℕ) → a < b → b < length xs → get_or xs a 0 < get_or xs b 0
 
 has_left : (xs ys : List ℕ) (x : ℕ) → Has xs x → Has (xs ++ ys) x
 has_left xs ys x h = record {

@@ -107,7 +107,7 @@ impl<T> CooMatrix<T> {
     ///     let cols = Vec::from_slice(alloc, &[0])?;
     ///     let values = Vec::from_slice(alloc, &[5])?;
     ///     match CooMatrix::try_from_triplets(2, 3, rows, cols, values) {
-    ///         Ok(_) => Ok(false),
+    ///         Ok(_matrix) => Ok(false),
     ///         Err(error) => Ok(*error.kind() == SparseFormatErrorKind::IndexOutOfBounds),
     ///     }
     /// }

@@ -4,9 +4,8 @@
 mod coo;
 mod csc;
 mod csr;
-mod pattern;
 
 pub use coo::CooData;
 pub use csc::CscData;
 pub use csr::CsrData;
-pub use pattern::PatternData;
+pub use sparse_pattern_data::PatternData;

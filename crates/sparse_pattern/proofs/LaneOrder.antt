@@ -5,6 +5,7 @@ use Rattle.std.proofs.Common.{length-append}
 use Rattle.std.proofs.lemmas.List.{length-map}
 use Rattle.std.proofs.lemmas.List.Elements.{Contains-append_left, Contains-append_right}
 use Rattle.std.proofs.lemmas.List.Elements.{Contains-append_cases}
+use Rattle.sparse_algebra.proofs.Cases.{le_cases}
 use Rattle.sparse_pattern.specs.Raw.{Raw, start_of, lane_of, IsValid, IsPlace, entries_from}
 use Rattle.sparse_pattern.specs.Raw.{entries_of, paired}
 use Rattle.sparse_pattern.proofs.PatternLanes.{length-lane}
@@ -38,24 +39,21 @@ module _ (d : Raw) (valid : IsValid d) where
   pub length-entries : length (entries_of d) ≡ length d.indices
   length-entries = omega (arith, length-entries_from 0 d.major_dim (omega arith), valid.first)
 
-contains_cons : (x y : ℕ × ℕ) (xs : List (ℕ × ℕ)) → Contains xs y → Contains (x ∷ xs) y
-contains_cons x y xs h = (suc h.0, omega (arith, h.1), h.2)
-
 contains_map : (i j : ℕ) (xs : List ℕ) → Has xs j → Contains (paired i xs) (i, j)
 contains_map i j [] h = absurd (omega (arith, h.within))
 contains_map i j (x ∷ xs) h = elim (has_cases x j xs h) [
   | inl same ↦ (0, omega arith, ap (λ j. (i, j)) same)
-  | inr later ↦ contains_cons (i, x) (i, j) (paired i xs) (contains_map i j xs later)
+  | inr later ↦ Contains-append_right ((i, x) ∷ []) (paired i xs) (i, j) (contains_map i j xs later)
 ]
 
-contains_cases : (x y : ℕ × ℕ) (xs : List (ℕ × ℕ)) (k : ℕ) → k < length (x ∷ xs)
-    → get_or (x ∷ xs) k y ≡ y → (x ≡ y) ⊎ Contains xs y
-contains_cases x y xs zero lt is = inl is
-contains_cases x y xs (suc k) lt is = inr (k, omega arith, is)
+pub contains_cases : {X : Type 0} (x y : X) (xs : List X) → Contains (x ∷ xs) y
+    → (x ≡ y) ⊎ Contains xs y
+contains_cases x y xs (zero, lt, is) = inl is
+contains_cases x y xs (suc k, lt, is) = inr (k, omega arith, is)
 
 has_from_map : (i j i' : ℕ) (xs : List ℕ) → Contains (paired i' xs) (i, j) → (i' ≡ i) × Has xs j
 has_from_map i j i' [] h = absurd (omega (arith, h.1))
-has_from_map i j i' (x ∷ xs) h = elim (contains_cases (i', x) (i, j) (paired i' xs) h.0 h.1 h.2) [
+has_from_map i j i' (x ∷ xs) h = elim (contains_cases (i', x) (i, j) (paired i' xs) h) [
   | inl same ↦ (
     ap (λ p. p.0) same,
     subst (λ y. Has (x ∷ xs) y) (ap (λ p. p.1) same)
@@ -63,9 +61,6 @@ has_from_map i j i' (x ∷ xs) h = elim (contains_cases (i', x) (i, j) (paired i
   )
   | inr later ↦ let r = has_from_map i j i' xs later in (r.0, has_later x j xs r.1)
 ]
-
-eq_or_lt : (a b : ℕ) → a ≤ b → (a ≡ b) ⊎ (a < b)
-eq_or_lt a b h = grind arith
 
 module _ (d : Raw) (valid : IsValid d) (i j : ℕ) where
   place_from_entry : (k n : ℕ) → k + n ≡ d.major_dim
@@ -83,14 +78,14 @@ module _ (d : Raw) (valid : IsValid d) (i j : ℕ) where
   entry_from_place : IsPlace d i j → (k n : ℕ) → k ≤ i → k + n ≡ d.major_dim
       → Contains (entries_from d.offsets d.indices k n) (i, j)
   entry_from_place place k zero le e = absurd (omega (arith, place.in_lane.lane))
-  entry_from_place place k (suc n) le e = elim (eq_or_lt k i le) [
-    | inl same ↦
+  entry_from_place place k (suc n) le e = elim (le_cases k i le) [
+    | inl lt ↦ Contains-append_right (paired k (lane_of d k))
+        (entries_from d.offsets d.indices (k + 1) n) (i, j)
+        (entry_from_place place (k + 1) n (omega arith) (omega arith))
+    | inr same ↦
         let has = has_from_place d i j (valid.lanes i place.in_lane.lane) place in
         Contains-append_left (paired k (lane_of d k)) (entries_from d.offsets d.indices (k + 1) n)
         (i, j) (rw same (contains_map i j (lane_of d i) has))
-    | inr lt ↦ Contains-append_right (paired k (lane_of d k))
-        (entries_from d.offsets d.indices (k + 1) n) (i, j)
-        (entry_from_place place (k + 1) n (omega arith) (omega arith))
   ]
 
   pub entries_are_places : Contains (entries_of d) (i, j) ↔ IsPlace d i j

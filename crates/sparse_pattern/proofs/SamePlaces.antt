@@ -1,13 +1,13 @@
 -- Valid data is the same where its sizes and places are.
 use Rattle.std.proofs.Common.{◌≡◌, ℕ, zero, suc, ◌+◌, ◌-◌, ◌<◌, ◌≤◌, ◌⊎◌, inl, inr, ◌↔◌, List, []}
 use Rattle.std.proofs.Common.{◌∷◌, length, get_or, ap, subst, sym, ◌∙◌, refl, arith, Bool, true}
-use Rattle.std.proofs.Common.{false, ◌&&◌, IsTrue, rules}
+use Rattle.std.proofs.Common.{IsTrue, rules}
 use Rattle.std.specs.Cmp.{IsEquivalence}
 use Rattle.std.specs.Cmp.Rules.{comparing}
 use Rattle.std.proofs.lemmas.Slice.Eq.{bytes_eq-Decides}
 use Rattle.std.proofs.lemmas.Grind.{same_number_lists}
 use Rattle.std.proofs.lemmas.Bool.Decides.{Decides-eqb}
-use Rattle.sparse_algebra.proofs.Cases.{lt_or_ge}
+use Rattle.sparse_algebra.proofs.Cases.{lt_or_ge, and_parts}
 use Rattle.sparse_pattern.specs.Raw.{Raw, raw_of, raw_eq, start_of, end_of, lane_of, IsValidLane}
 use Rattle.sparse_pattern.specs.Raw.{IsValid, IsPlace, HasSamePlaces}
 use Rattle.sparse_pattern.proofs.PatternLanes.{length-lane, get_or-lane, lane_rises}
@@ -18,7 +18,7 @@ pub record Has (xs : List ℕ) (x : ℕ) : Type 0 where
   pub within : at < length xs
   pub is : get_or xs at 0 ≡ x
 
-abbrev Rises : List ℕ → Type 0
+abbrev pub Rises : List ℕ → Type 0
 Rises xs = (a b : ℕ) → a < b → b < length xs → get_or xs a 0 < get_or xs b 0
 
 pub has_head : (x : ℕ) (xs : List ℕ) → Has (x ∷ xs) x
@@ -98,14 +98,6 @@ raw_parts a b major minor offsets indices = ap (λ m. raw_of m a.minor_dim a.off
     ∙ ap (λ o. raw_of b.major_dim b.minor_dim o a.indices) offsets
     ∙ ap (raw_of b.major_dim b.minor_dim b.offsets) indices
 
-and_left : (s t : Bool) → (s && t) ≡ true → s ≡ true
-and_left true t h = refl
-and_left false t h = h
-
-and_right : (s t : Bool) → (s && t) ≡ true → t ≡ true
-and_right true t h = h
-and_right false t h = cc
-
 raw_equiv : IsEquivalence raw_eq
 raw_equiv = search (comparing, rules)
 
@@ -175,17 +167,19 @@ raw_eq-from_same a b same = subst (λ d. raw_eq a d ≡ true) same (raw_equiv.re
 
 same_from_raw_eq : (a b : Raw) → a.major_dim ≡ b.major_dim → raw_eq a b ≡ true → a ≡ b
 same_from_raw_eq a b major is =
-    let minors = (Decides-eqb a.minor_dim b.minor_dim).0 (and_left _ _ (and_left _ _ is)) in
-    let offsets = (bytes_eq-Decides a.offsets b.offsets).0 (and_right _ _ (and_left _ _ is)) in
-    let indices = (bytes_eq-Decides a.indices b.indices).0 (and_right _ _ is) in
+    let lists = and_parts _ _ is in
+    let front = and_parts _ _ lists.0 in
+    let minors = (Decides-eqb a.minor_dim b.minor_dim).0 front.0 in
+    let offsets = (bytes_eq-Decides a.offsets b.offsets).0 front.1 in
+    let indices = (bytes_eq-Decides a.indices b.indices).0 lists.1 in
     raw_parts a b major minors offsets indices
 
 pub places_decide : (a b : Raw) → IsValid a → IsValid b → (r : Bool) → r ≡ raw_eq a b
     → IsTrue r ↔ HasSamePlaces a b
 places_decide a b va vb r is = (
   λ yes.
-      let offsets = (bytes_eq-Decides a.offsets b.offsets).0
-      (and_right _ _ (and_left _ _ (sym is ∙ yes))) in
+      let front = and_parts _ _ (and_parts _ _ (sym is ∙ yes)).0 in
+      let offsets = (bytes_eq-Decides a.offsets b.offsets).0 front.1 in
       let major : a.major_dim ≡ b.major_dim = omega
       (arith, va.count, vb.count, ap length offsets) in
       let same = same_from_raw_eq a b major (sym is ∙ yes) in

@@ -1,6 +1,6 @@
 -- What the data struct of a pattern describes.
 use Rattle.sparse_pattern.specs.Raw.{Raw, raw_of}
-use Rattle.sparse_data_structs.specs.declared.pattern.PatternData.{PatternData}
+use Rattle.sparse_pattern_data.specs.declared.PatternData.{PatternData}
 
 -- the raw data of a pattern
 abbrev pub pattern_in : PatternData → Raw

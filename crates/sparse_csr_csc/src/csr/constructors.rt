@@ -59,7 +59,7 @@ impl<T: Drop> CsrMatrix<T> {
     ///     let columns = Vec::from_slice(alloc, &[1, 1])?;
     ///     let values = Vec::from_slice(alloc, &[4, 5])?;
     ///     match CsrMatrix::try_from_csr_data(1, 3, offsets, columns, values) {
-    ///         Ok(_) => Ok(false),
+    ///         Ok(_matrix) => Ok(false),
     ///         Err(error) => Ok(*error.kind() == SparseFormatErrorKind::DuplicateEntry),
     ///     }
     /// }

@@ -6,7 +6,7 @@ ghost use Rattle.sparse_pattern.specs.PatternFaults.{IsFirstFault};
 ghost use Rattle.sparse_pattern.specs.PatternData.{pattern_in};
 
 use crate::pattern::{SparsityPattern, SparsityPatternFormatError};
-use sparse_data_structs::PatternData;
+use sparse_pattern_data::PatternData;
 use std::alloc::{AllocError, Global};
 
 impl SparsityPattern {

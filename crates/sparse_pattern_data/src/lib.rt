@@ -1,4 +1,5 @@
-//! A pattern as data.
+//! A pattern as data. It has a crate of its own, below the data structs of matrices, since patterns stand on it alone.
+#![tactic(auto)]
 
 use serde::{Deserialize, Serialize};
 
