@@ -1,7 +1,7 @@
 -- A pattern each of whose places has its mirrored one is its own transpose, and values move to the mirrored places.
 use Rattle.std.proofs.Common.{◌≡◌, ℕ, ◌+◌, ◌<◌, ◌≤◌, ◌++◌, inl, inr, List, [], ◌∷◌, length, set}
 use Rattle.std.proofs.Common.{length-append, get_or, slice_get, slice_index, arith}
-use Rattle.std.proofs.Common.{sym, subst, ap, ◌∙◌, length-set}
+use Rattle.std.proofs.Common.{sym, subst, ap, ◌∙◌}
 use Rattle.std.specs.Prelude.{Some}
 use Rattle.std.proofs.Math.Seq.{get_or-append_seam}
 use Rattle.std.proofs.lemmas.Grind.{get_or-set_at}

@@ -165,29 +165,26 @@ module _ (a b : Raw) (va : IsValid a) (vb : IsValid b) (same : HasSamePlaces a b
 raw_eq-from_same : (a b : Raw) → a ≡ b → raw_eq a b ≡ true
 raw_eq-from_same a b same = subst (λ d. raw_eq a d ≡ true) same (raw_equiv.refl a)
 
-same_from_raw_eq : (a b : Raw) → a.major_dim ≡ b.major_dim → raw_eq a b ≡ true → a ≡ b
-same_from_raw_eq a b major is =
+same_major : (a b : Raw) → IsValid a → IsValid b → a.offsets ≡ b.offsets
+    → a.major_dim ≡ b.major_dim
+same_major a b va vb offsets = omega (arith, va.count, vb.count, ap length offsets)
+
+same_from_raw_eq : (a b : Raw) → IsValid a → IsValid b → raw_eq a b ≡ true → a ≡ b
+same_from_raw_eq a b va vb is =
     let lists = and_parts _ _ is in
     let front = and_parts _ _ lists.0 in
     let minors = (Decides-eqb a.minor_dim b.minor_dim).0 front.0 in
     let offsets = (bytes_eq-Decides a.offsets b.offsets).0 front.1 in
     let indices = (bytes_eq-Decides a.indices b.indices).0 lists.1 in
-    raw_parts a b major minors offsets indices
+    raw_parts a b (same_major a b va vb offsets) minors offsets indices
 
 pub places_decide : (a b : Raw) → IsValid a → IsValid b → (r : Bool) → r ≡ raw_eq a b
     → IsTrue r ↔ HasSamePlaces a b
 places_decide a b va vb r is = (
-  λ yes.
-      let front = and_parts _ _ (and_parts _ _ (sym is ∙ yes)).0 in
-      let offsets = (bytes_eq-Decides a.offsets b.offsets).0 front.1 in
-      let major : a.major_dim ≡ b.major_dim = omega
-      (arith, va.count, vb.count, ap length offsets) in
-      let same = same_from_raw_eq a b major (sym is ∙ yes) in
-      subst (HasSamePlaces a) same record {
-        major_dim = refl;
-        minor_dim = refl;
-        places =
-            λ i j. (λ h. h, λ h. h);
-      },
+  λ yes. subst (HasSamePlaces a) (same_from_raw_eq a b va vb (sym is ∙ yes)) record {
+    major_dim = refl;
+    minor_dim = refl;
+    places = λ i j. (λ h. h, λ h. h);
+  },
   λ same. is ∙ raw_eq-from_same a b (same_from_places a b va vb same),
 )

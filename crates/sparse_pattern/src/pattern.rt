@@ -228,17 +228,6 @@ impl SparsityPattern {
         let offsets = self.major_offsets();
         (offsets[lane], offsets[lane + 1])
     }
-
-    // Whether the fields are equal.
-    fn has_same_data(&self, other: &Self) -> bool
-        ensures value { result ≡ raw_eq self.now other.now }
-        ensures valid { IsValid self.now }
-        ensures other_valid { IsValid other.now }
-    {
-        self.minor_dim == other.minor_dim
-            && self.major_offsets == other.major_offsets
-            && self.minor_indices == other.minor_indices
-    }
 }
 
 impl PartialEq for SparsityPattern {
@@ -254,7 +243,9 @@ impl PartialEq for SparsityPattern {
         ensures value { result ≡ raw_eq self.now other.now }
         ensures places { IsTrue result ↔ HasSamePlaces self.now other.now }
     {
-        self.has_same_data(other)
+        self.minor_dim == other.minor_dim
+            && self.major_offsets == other.major_offsets
+            && self.minor_indices == other.minor_indices
     }
 }
 

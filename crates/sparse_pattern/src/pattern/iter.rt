@@ -2,7 +2,7 @@
 
 ghost use Rattle.std.specs.Prelude.{◌≡◌, ℕ, ◌↔◌, ⊤, length, Contains, AllPairs};
 ghost use Rattle.std.specs.Iterator.{YieldsFirst, item_count};
-ghost use Rattle.sparse_pattern.specs.Raw.{IsValid, IsPlace, Precedes, entries_of};
+ghost use Rattle.sparse_pattern.specs.Raw.{IsPlace, Precedes, entries_of};
 
 use super::SparsityPattern;
 use std::alloc::AllocError;
@@ -15,13 +15,6 @@ impl SparsityPattern {
         ensures count { length result ≡ length self.now.indices }
         ensures places { (i j : ℕ) → Contains result (i, j) ↔ IsPlace self.now i j }
         ensures rising { AllPairs Precedes result }
-    {
-        self.all_entries()
-    }
-
-    fn all_entries(&self) -> SparsityPatternIter<'_>
-        ensures all { result ≡ entries_of self.now }
-        ensures valid { IsValid self.now }
     {
         let remaining: &[usize] = if self.major_offsets.len() > 1 {
             &self.minor_indices[self.major_offsets[0]..self.major_offsets[1]]

@@ -1,7 +1,20 @@
+use Rattle.std.proofs.Common.{rules, subst}
+use Rattle.sparse_pattern.specs.Raw.{IsValid}
 use Rattle.sparse_pattern.proofs.SamePlaces.{places_decide}
 use Rattle.sparse_pattern.proofs.pattern.SparsityPatternPartialEq.eq.Goals as goal
 
-pub returns-clause-places : goal.returns-clause-places
-returns-clause-places c =
-    let facts = c.has_same_data.ensures in
-    places_decide _ _ facts.valid facts.other_valid _ facts.value
+pub returns-then-eq-clause-value : goal.returns-then-eq-clause-value
+returns-then-eq-clause-value c = search rules
+
+pub returns-then-eq-clause-places : goal.returns-then-eq-clause-places
+returns-then-eq-clause-places c =
+    places_decide _ _ (subst IsValid c.self.view_is c.self.invariant)
+    (subst IsValid c.other.view_is c.other.invariant) _ (returns-then-eq-clause-value c)
+
+pub returns-else-eq-clause-value : goal.returns-else-eq-clause-value
+returns-else-eq-clause-value c = search rules
+
+pub returns-else-eq-clause-places : goal.returns-else-eq-clause-places
+returns-else-eq-clause-places c =
+    places_decide _ _ (subst IsValid c.self.view_is c.self.invariant)
+    (subst IsValid c.other.view_is c.other.invariant) _ (returns-else-eq-clause-value c)

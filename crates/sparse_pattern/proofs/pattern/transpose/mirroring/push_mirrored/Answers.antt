@@ -1,4 +1,4 @@
-use Rattle.std.proofs.Common.{◌≡◌, ◌+◌, ◌<◌, ◌≤◌, ◌++◌, []}
+use Rattle.std.proofs.Common.{◌≡◌, ◌+◌, ◌<◌, ◌≤◌, []}
 use Rattle.std.proofs.Common.{◌∷◌, length, length-append, length-set, set}
 use Rattle.std.proofs.Common.{slice_get, slice_index, slice_index_or, ap, arith, sym, ◌∙◌, subst}
 use Rattle.std.specs.Prelude.{Some}
