@@ -86,9 +86,9 @@ module _ {X : Type 0} (R : X → Bool → Type 0) (S : X → X → Type 0) where
 
 module _ {T : Type 0} (R : ℕ × T → Bool → Type 0) where
   -- one more pair is kept, or left
-  module _ (indices : List ℕ) (values : List T) (k x : ℕ) (v : T)
+  module _ (indices : List ℕ) (values : List T) (k : ℕ) {x : ℕ} {v : T}
       (e : length values ≡ length indices) (lt : k < length indices) (is_x : x ≡ get_or indices k 0)
-      (is_v : v ≡ get_or values k v) (xs ys : List ℕ) (vs ws : List T)
+      (is_v : v ≡ get_or values k v) {xs ys : List ℕ} {vs ws : List T}
       (grown : IsGrown R (zip (take k indices) (take k values)) xs vs ys ws) where
     pub keep_more : R (x, v) true
         → IsGrown R (zip (take (k + 1) indices) (take (k + 1) values)) xs vs (ys ++ x ∷ [])

@@ -117,12 +117,12 @@ module _ {T : Type 0} (R : ℕ × ℕ × T → Bool → Type 0) (m : Compressed 
   }
 
   -- one more lane is traversed
-  pub kept_step : (offsets indices indices' : List ℕ) (values values' : List T) (i e : ℕ)
-      (js : List ℕ) (us : List T)
+  pub kept_step : {offsets indices indices' : List ℕ} {values values' : List T} {i e : ℕ}
+      {js : List ℕ} {us : List T}
       → AreKeptLanes R m offsets indices values i → js ≡ lane_of m.pattern i → us ≡ values_of m i
       → IsGrown (λ p b. R (i, p.0, p.1) b) (zip js us) indices values indices' values'
       → e ≡ length indices' → AreKeptLanes R m (offsets ++ e ∷ []) indices' values' (i + 1)
-  kept_step offsets indices indices' values values' i e js us h here here_values grown is =
+  kept_step {offsets} {indices} {indices'} {values} {values'} {i} {e} h here here_values grown is =
       let kept = rw (here, here_values) at grown.kept in
       let long : e ≡ length indices + length grown.indices = is ∙ ap length grown.index_end
       ∙ length-append indices grown.indices in

@@ -1,6 +1,6 @@
 -- Sums over the triplets that name a pair: zero where none does, and its value where one alone does.
 use Rattle.std.proofs.Common.{◌≡◌, ℕ, zero, suc, ◌<◌, inl, inr, ◌↔◌, Bool, true, false, ◌&&◌, List}
-use Rattle.std.proofs.Common.{[], ◌∷◌, length, get_or, map, Contains, ap, sym, subst, ◌∙◌, refl}
+use Rattle.std.proofs.Common.{[], ◌∷◌, length, get_or, map, Contains, ap, subst, ◌∙◌, refl}
 use Rattle.std.proofs.Common.{arith}
 use Rattle.std.specs.Prelude.{nat_eq}
 use Rattle.std.specs.List.{list_any}

@@ -1,5 +1,4 @@
 use Rattle.std.proofs.Common.{◌≡◌, take, arith, refl}
-use Rattle.std.proofs.Math.ListN.{get_or}
 use Rattle.std.proofs.lemmas.Grind.{common_steps}
 use Rattle.sparse_compressed.proofs.Kept.{answered, keep_more, leave_more}
 use Rattle.sparse_compressed.proofs.filter.keep_lane.Goals.{then-predicate+in_ok-push+in_ok-push-2}
@@ -15,15 +14,13 @@ loop-at-preserved g c = elim c.if-predicate.branch [
         w.in_ok-push.ensures.items,
         w.in_ok-push-2.ensures.items,
       )
-      (keep_more _ c.args.indices.now c.args.values.now c.loop-at.at
-      (get_or c.args.indices.now c.loop-at.at 0) c.index-values-at.result c.requires.count
-      (omega arith) refl c.index-values-at.is _ _ _ _ c.loop-at.invariant
+      (keep_more _ c.args.indices.now c.args.values.now c.loop-at.at c.requires.count (omega arith)
+      refl c.index-values-at.is c.loop-at.invariant
       (answered g.P.Fn c.predicate.ensures w.if-predicate.true))
   | else-predicate w ↦
       rw (w.kept_indices-is, w.kept_values-is)
-      (leave_more _ c.args.indices.now c.args.values.now c.loop-at.at
-      (get_or c.args.indices.now c.loop-at.at 0) c.index-values-at.result c.requires.count
-      (omega arith) refl c.index-values-at.is _ _ _ _ c.loop-at.invariant
+      (leave_more _ c.args.indices.now c.args.values.now c.loop-at.at c.requires.count (omega arith)
+      refl c.index-values-at.is c.loop-at.invariant
       (answered g.P.Fn c.predicate.ensures w.if-predicate.false))
 ]
 

@@ -71,7 +71,7 @@ loop-lane-preserved g c =
     record {
       room = omega arith;
       kept = rw c.push_reserved-in-loop-lane.ensures.items
-          (kept_step _ _ _ _ _ _ _ _ _ _ _ c.loop-lane.invariant.kept indices values
+          (kept_step _ _ c.loop-lane.invariant.kept indices values
           c.in_ok-keep_lane.ensures end);
     }
 
