@@ -13,7 +13,7 @@ use Rattle.sparse_algebra.specs.Plain.{Plain, IsProper, IsWithin, any_below, is_
 use Rattle.sparse_algebra.specs.Plain.{plain_of_triplets, plain_sum, plain_negation}
 use Rattle.sparse_algebra.specs.Plain.{plain_difference, plain_scaled, plain_product}
 use Rattle.sparse_algebra.specs.Plain.{plain_transpose, plain_identity, plain_kept}
-use Rattle.sparse_algebra.proofs.RingLemmas.{zero_add, mul_zero, zero_mul, neg_zero}
+use Rattle.sparse_algebra.proofs.RingLemmas.{zero_add, mul_zero, zero_mul, neg_zero, distrib_right}
 use Rattle.sparse_algebra.proofs.SumLemmas.{sum_below-same, sum_below-none, sum_below-add}
 use Rattle.sparse_algebra.proofs.SumLemmas.{product_assoc, where_yes, where_no}
 use Rattle.sparse_algebra.proofs.PlainLemmas.{same_plain, same_bool, any_below-same, any_is}
@@ -97,8 +97,8 @@ module _ (R : CommRing) where
       (plain_product R a c)
   product-sum a b c = same_plain (plain_product R a (plain_sum R b c))
       (plain_sum R (plain_product R a b) (plain_product R a c)) refl refl
-      (λ i j. any_below-same a.cols _ _ (λ k. and-or_distrib_left (a.has i k) (b.has k j) (c.has k j))
-      ∙ any_below-or a.cols _ _)
+      (λ i j. any_below-same a.cols _ _
+      (λ k. and-or_distrib_left (a.has i k) (b.has k j) (c.has k j)) ∙ any_below-or a.cols _ _)
       (λ i j. sum_below-same R a.cols _ _ (λ k _. R.laws.distrib (a.value i k) (b.value k j)
       (c.value k j)) ∙ sum_below-add R a.cols _ _)
 
@@ -107,16 +107,12 @@ module _ (R : CommRing) where
       (plain_product R b c)
   sum-product a b c e = same_plain (plain_product R (plain_sum R a b) c)
       (plain_sum R (plain_product R a c) (plain_product R b c)) refl refl
-      (λ i j. any_below-same a.cols _ _ (λ k. and-or_distrib_right (a.has i k) (b.has i k) (c.has k j))
-      ∙ any_below-or a.cols _ _ ∙ ap (λ n. any_below a.cols (λ k. a.has i k && c.has k j)
+      (λ i j. any_below-same a.cols _ _
+      (λ k. and-or_distrib_right (a.has i k) (b.has i k) (c.has k j)) ∙ any_below-or a.cols _ _ ∙ ap (λ n. any_below a.cols (λ k. a.has i k && c.has k j)
       || any_below n (λ k. b.has i k && c.has k j)) e)
       (λ i j.
-      sum_below-same R a.cols _ _ (λ k _. R.laws.mul_comm _ (c.value k j)
-      ∙ R.laws.distrib (c.value k j) (a.value i k) (b.value i k)
-      ∙ ap (λ x. R.add x (R.mul (c.value k j) (b.value i k)))
-      (R.laws.mul_comm (c.value k j) (a.value i k))
-      ∙ ap (R.add (R.mul (a.value i k) (c.value k j)))
-      (R.laws.mul_comm (c.value k j) (b.value i k)))
+      sum_below-same R a.cols _ _
+      (λ k _. distrib_right R (a.value i k) (b.value i k) (c.value k j))
       ∙ sum_below-add R a.cols _ _
       ∙ ap (λ n. R.add (sum_below R a.cols (λ k. R.mul (a.value i k) (c.value k j)))
       (sum_below R n (λ k. R.mul (b.value i k) (c.value k j)))) e)

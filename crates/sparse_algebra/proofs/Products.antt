@@ -19,3 +19,11 @@ module _ (R : CommRing) where
       → R.mul (R.mul a b) (R.mul c d) ≡ R.mul (R.mul a c) (R.mul b d)
   mul_cross a b c d = R.laws.mul_assoc a b (R.mul c d) ∙ ap (R.mul a) (mul_swap b c d)
       ∙ sym (R.laws.mul_assoc a c (R.mul b d))
+
+  -- where m has an inverse, it cancels from a product
+  pub unit_cancels : (m t a b : R.Carrier) → R.mul m t ≡ R.one → R.mul m a ≡ R.mul m b → a ≡ b
+  unit_cancels m t a b e same =
+      let back : (c : R.Carrier) → R.mul t (R.mul m c) ≡ c = λ c.
+      sym (R.laws.mul_assoc t m c) ∙ ap (λ x. R.mul x c) (R.laws.mul_comm t m ∙ e)
+      ∙ R.laws.mul_comm R.one c ∙ R.laws.mul_one c in
+      sym (back a) ∙ ap (R.mul t) same ∙ back b

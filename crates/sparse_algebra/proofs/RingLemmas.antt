@@ -36,8 +36,20 @@ module _ (R : CommRing) where
   pub zero_mul : (a : R.Carrier) → R.mul R.zero a ≡ R.zero
   zero_mul a = R.laws.mul_comm R.zero a ∙ mul_zero a
 
+  -- (a + b) * c is a * c + b * c
+  pub distrib_right : (a b c : R.Carrier) → R.mul (R.add a b) c ≡ R.add (R.mul a c) (R.mul b c)
+  distrib_right a b c = R.laws.mul_comm (R.add a b) c ∙ R.laws.distrib c a b
+      ∙ ap (λ x. R.add x (R.mul c b)) (R.laws.mul_comm c a)
+      ∙ ap (R.add (R.mul a c)) (R.laws.mul_comm c b)
+
   pub neg_zero : R.neg R.zero ≡ R.zero
   neg_zero = sym (neg_unique R.zero R.zero (R.laws.add_zero R.zero))
+
+  pub neg_add : (a b : R.Carrier) → R.neg (R.add a b) ≡ R.add (R.neg a) (R.neg b)
+  neg_add a b = sym (neg_unique (R.add a b) (R.add (R.neg a) (R.neg b))
+      (add_cross a b (R.neg a) (R.neg b)
+      ∙ ap (λ x. R.add x (R.add b (R.neg b))) (R.laws.add_neg a)
+      ∙ ap (R.add R.zero) (R.laws.add_neg b) ∙ R.laws.add_zero R.zero))
 
   -- what is added on both sides cancels
   pub cancel : (a b c : R.Carrier) → R.add a c ≡ R.add b c → a ≡ b

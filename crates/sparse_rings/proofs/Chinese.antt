@@ -15,7 +15,7 @@ use Rattle.sparse_algebra.specs.Moduli.{modulus, modulus_pos, mod_ring, mod_clas
 use Rattle.sparse_algebra.proofs.Cases.{lt_or_ge}
 use Rattle.sparse_algebra.proofs.ModClasses.{mod_same, mod_class_of, mod_class_add, mod_class_mul}
 use Rattle.sparse_algebra.proofs.RingLemmas.{neg_unique, add_swap, cancel}
-use Rattle.sparse_algebra.proofs.Products.{mul_neg, mul_swap}
+use Rattle.sparse_algebra.proofs.Products.{mul_neg, mul_swap, unit_cancels}
 use Rattle.sparse_rings.specs.ChineseRemainders.{AreCoprime, both_ring, residue_pair}
 use Rattle.sparse_rings.specs.InnerPairs.{neg_neg, same_pair}
 
@@ -36,14 +36,6 @@ module _ (R : CommRing) where
       let d = R.add b (R.neg a) in
       ap (R.add a) (mul_swap R m d t ∙ ap (R.mul d) e ∙ R.laws.mul_one d)
       ∙ add_swap R a b (R.neg a) ∙ ap (R.add b) (R.laws.add_neg a) ∙ R.laws.add_zero b
-
-  -- where m has an inverse, it cancels from a product
-  pub unit_cancels : (m t a b : R.Carrier) → R.mul m t ≡ R.one → R.mul m a ≡ R.mul m b → a ≡ b
-  unit_cancels m t a b e same =
-      let back : (c : R.Carrier) → R.mul t (R.mul m c) ≡ c = λ c.
-      sym (R.laws.mul_assoc t m c) ∙ ap (λ x. R.mul x c) (R.laws.mul_comm t m ∙ e)
-      ∙ R.laws.mul_comm R.one c ∙ R.laws.mul_one c in
-      sym (back a) ∙ ap (R.mul t) same ∙ back b
 
 module _ (n : ℕ) (some : 0 < n) where
   residue-add : (x y : ℕ)

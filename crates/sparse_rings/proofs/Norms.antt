@@ -2,13 +2,13 @@
 use Rattle.std.proofs.Common.{◌≡◌, sym, ap, ◌∙◌}
 use Rattle.sparse_algebra.specs.Algebra.{CommRing}
 use Rattle.sparse_algebra.specs.Inverses.{HasInverse}
-use Rattle.sparse_algebra.proofs.RingLemmas.{mul_zero}
+use Rattle.sparse_algebra.proofs.RingLemmas.{mul_zero, neg_add, neg_zero}
 use Rattle.sparse_algebra.proofs.Products.{mul_neg, mul_cross}
 use Rattle.sparse_rings.specs.Closed.{IsValue}
 use Rattle.sparse_rings.specs.RingValues.{gaussian_value}
 use Rattle.sparse_rings.specs.GaussianRing.{GaussianElement, gaussian_mul, gaussian_ring}
 use Rattle.sparse_rings.specs.GaussianRing.{gaussian_conjugate, gaussian_norm}
-use Rattle.sparse_rings.specs.InnerPairs.{same_pair, same_sum, neg_zero, neg_add, neg_neg}
+use Rattle.sparse_rings.specs.InnerPairs.{same_pair, same_sum, neg_neg}
 use Rattle.sparse_rings.specs.InnerPairs.{neg_mul, neg_mul_neg}
 
 module _ (R : CommRing) where

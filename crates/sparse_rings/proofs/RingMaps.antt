@@ -11,13 +11,14 @@ use Rattle.sparse_algebra.specs.Plain.{Plain, any_below, plain_sum, plain_produc
 use Rattle.sparse_algebra.specs.RingMaps.{IsRingMap, plain_map}
 use Rattle.sparse_algebra.proofs.ModClasses.{mod_same, mod_class_add, mod_class_mul}
 use Rattle.sparse_algebra.proofs.PlainLemmas.{same_plain}
-use Rattle.sparse_algebra.proofs.RingLemmas.{mul_zero, zero_add, neg_unique}
+use Rattle.sparse_algebra.proofs.RingLemmas.{mul_zero, zero_mul, zero_add, neg_zero, neg_add}
+use Rattle.sparse_algebra.proofs.RingLemmas.{neg_unique}
 use Rattle.sparse_algebra.proofs.SumLemmas.{sum_below-add}
 use Rattle.sparse_algebra.specs.Sums.{sum_below}
 use Rattle.sparse_rings.specs.ChineseRemainders.{both_ring, residue_pair}
 use Rattle.sparse_rings.specs.DualRing.{dual_ring, DualElement}
 use Rattle.sparse_rings.specs.GaussianRing.{gaussian_ring, gaussian_conjugate}
-use Rattle.sparse_rings.specs.InnerPairs.{same_pair, same_sum, neg_zero, neg_add}
+use Rattle.sparse_rings.specs.InnerPairs.{same_pair, same_sum}
 use Rattle.sparse_rings.specs.PairRing.{pair_ring}
 use Rattle.sparse_rings.proofs.Norms.{conjugate-mul}
 
@@ -27,8 +28,8 @@ twice false = refl
 
 module _ (R : CommRing) where
   crossed_zero : (a b : R.Carrier) → R.zero ≡ R.add (R.mul a R.zero) (R.mul R.zero b)
-  crossed_zero a b = sym (same_sum R _ _ _ _ (mul_zero R a)
-      (R.laws.mul_comm R.zero b ∙ mul_zero R b) ∙ R.laws.add_zero R.zero)
+  crossed_zero a b = sym (same_sum R _ _ _ _ (mul_zero R a) (zero_mul R b)
+      ∙ R.laws.add_zero R.zero)
 
   pub constant-map : IsRingMap R (dual_ring R) (λ a. (a, R.zero))
   constant-map = record {

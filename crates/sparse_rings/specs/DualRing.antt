@@ -2,8 +2,8 @@
 use Rattle.std.specs.Prelude.{◌≡◌}
 use Rattle.std.proofs.Common.{sym, ap, ◌∙◌}
 use Rattle.sparse_algebra.specs.Algebra.{RingLaws, CommRing}
-use Rattle.sparse_rings.specs.InnerPairs.{same_pair}
-use Rattle.sparse_rings.specs.InnerPairs.{same_sum, distrib_right, crossed}
+use Rattle.sparse_algebra.proofs.RingLemmas.{distrib_right}
+use Rattle.sparse_rings.specs.InnerPairs.{same_pair, same_sum, crossed}
 use Rattle.sparse_rings.specs.InnerPairs.{crossed_one, crossed_sum}
 
 module _ (R : CommRing) where

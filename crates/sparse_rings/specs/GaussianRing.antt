@@ -2,10 +2,9 @@
 use Rattle.std.specs.Prelude.{◌≡◌}
 use Rattle.std.proofs.Common.{sym, ap, ◌∙◌}
 use Rattle.sparse_algebra.specs.Algebra.{RingLaws, CommRing}
-use Rattle.sparse_algebra.proofs.RingLemmas.{add_cross, mul_zero}
+use Rattle.sparse_algebra.proofs.RingLemmas.{add_cross, distrib_right, mul_zero, neg_add, neg_zero}
 use Rattle.sparse_algebra.proofs.Products.{mul_neg}
-use Rattle.sparse_rings.specs.InnerPairs.{same_pair}
-use Rattle.sparse_rings.specs.InnerPairs.{same_sum, distrib_right, neg_zero, neg_add}
+use Rattle.sparse_rings.specs.InnerPairs.{same_pair, same_sum}
 use Rattle.sparse_rings.specs.InnerPairs.{neg_mul, crossed, crossed_one, crossed_sum}
 
 module _ (R : CommRing) where

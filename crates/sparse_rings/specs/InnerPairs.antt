@@ -12,19 +12,7 @@ module _ (R : CommRing) where
   pub same_sum : (a b c d : R.Carrier) → a ≡ b → c ≡ d → R.add a c ≡ R.add b d
   same_sum a b c d p q = λ i. R.add (p i) (q i)
 
-  pub distrib_right : (a b c : R.Carrier) → R.mul (R.add a b) c ≡ R.add (R.mul a c) (R.mul b c)
-  distrib_right a b c = R.laws.mul_comm (R.add a b) c ∙ R.laws.distrib c a b
-      ∙ same_sum _ _ _ _ (R.laws.mul_comm c a) (R.laws.mul_comm c b)
-
   -- ---- negation
-
-  pub neg_zero : R.neg R.zero ≡ R.zero
-  neg_zero = sym (neg_unique R R.zero R.zero (R.laws.add_zero R.zero))
-
-  pub neg_add : (a b : R.Carrier) → R.neg (R.add a b) ≡ R.add (R.neg a) (R.neg b)
-  neg_add a b = sym (neg_unique R (R.add a b) (R.add (R.neg a) (R.neg b))
-      (add_cross R a b (R.neg a) (R.neg b)
-      ∙ same_sum _ _ _ _ (R.laws.add_neg a) (R.laws.add_neg b) ∙ R.laws.add_zero R.zero))
 
   pub neg_neg : (a : R.Carrier) → R.neg (R.neg a) ≡ a
   neg_neg a = sym (neg_unique R (R.neg a) a (R.laws.add_comm (R.neg a) a ∙ R.laws.add_neg a))
