@@ -1,6 +1,7 @@
 -- Compressed matrices as plain matrices, and when two are the same.
 use Rattle.std.proofs.Common.{◌≡◌, ℕ, suc, zero, ◌<◌, inl, inr, ◌↔◌, Bool, true, List, [], ◌∷◌}
-use Rattle.std.proofs.Common.{length, get_or, Contains, slice_index, ap, sym, subst, ◌∙◌, refl, arith}
+use Rattle.std.proofs.Common.{length, get_or, Contains, slice_index, ap, sym, subst, ◌∙◌, refl}
+use Rattle.std.proofs.Common.{arith}
 use Rattle.std.specs.List.{list_any}
 use Rattle.std.specs.Cmp.Lexicographic.{pointwise}
 use Rattle.sparse_algebra.proofs.Cases.{and_both, and_parts, true_or_false}
@@ -18,8 +19,8 @@ use Rattle.sparse_compressed.specs.PlainOfLanes.{plain_of_rows}
 pub use Rattle.sparse_compressed.proofs.EntryPositions.{position_within, entry_at}
 pub use Rattle.sparse_compressed.proofs.EntryPositions.{position_of_entry}
 pub use Rattle.sparse_compressed.proofs.TripletSums.{pair_is, test_yes, pairs_of, named}
-pub use Rattle.sparse_compressed.proofs.TripletSums.{pairs_of-triplets, value_at, where_no, where_yes}
-pub use Rattle.sparse_compressed.proofs.TripletSums.{unnamed, one_named}
+pub use Rattle.sparse_compressed.proofs.TripletSums.{pairs_of-triplets, value_at, where_no}
+pub use Rattle.sparse_compressed.proofs.TripletSums.{where_yes, unnamed, one_named}
 
 module _ (R : CommRing) {T : Type 0} (f : T → R.Carrier) (d : Raw) (valid : IsValid d) (vs : List T)
     (count : length vs ≡ length d.indices) where

@@ -9,7 +9,8 @@ use Rattle.sparse_algebra.specs.Plain.{plain_identity}
 use Rattle.sparse_algebra.proofs.PlainLaws.{proper_identity}
 use Rattle.sparse_compressed.specs.Compressed.{arrays_of, IsSound}
 use Rattle.sparse_compressed.specs.PlainOfLanes.{plain_of_rows}
-use Rattle.sparse_compressed.proofs.Arrays.{stands, where_yes}
+use Rattle.sparse_algebra.proofs.SumLemmas.{where_yes}
+use Rattle.sparse_compressed.proofs.Arrays.{stands}
 
 on_diagonal : (i j n : ℕ) → ((nat_eq i j && nat_lt i n) ≡ true) ↔ ((i ≡ j) × (i < n))
 on_diagonal i j n = (
@@ -60,4 +61,4 @@ module _ (n : ℕ) (offsets indices : List ℕ) (starts : (k : ℕ) → k < n + 
       let same = position_is i p at.0 in
       let place = (diagonal_places i j).0 (record { at = p; in_lane = at.0; index = at.1 }) in
       ap (λ q. f (get_or values q z)) same ∙ ones i at.0.lane
-      ∙ sym (where_yes R f (nat_eq i j && nat_lt i n) R.one place))
+      ∙ sym (where_yes R (nat_eq i j && nat_lt i n) R.one place))

@@ -9,11 +9,12 @@ use Rattle.sparse_algebra.specs.Algebra.{CommRing}
 use Rattle.sparse_algebra.specs.Sums.{where_true}
 use Rattle.sparse_algebra.specs.Plain.{is_at, plain_kept, plain_transpose}
 use Rattle.sparse_algebra.proofs.RingLemmas.{zero_add}
+use Rattle.sparse_algebra.proofs.SumLemmas.{where_no, where_yes}
 use Rattle.sparse_algebra.proofs.PlainLemmas.{same_plain, and_comm}
 use Rattle.sparse_compressed.specs.Compressed.{Compressed, lane_triplets, transposed}
 use Rattle.sparse_compressed.specs.Filter.{HasSizesOf}
 use Rattle.sparse_compressed.specs.PlainOfLanes.{plain_of_rows, plain_of_cols}
-use Rattle.sparse_compressed.proofs.Arrays.{pair_is, value_at, where_no, where_yes, unnamed}
+use Rattle.sparse_compressed.proofs.Arrays.{pair_is, value_at, unnamed}
 
 -- a filter of triplets whose first two parts have changed places
 filter-transposed : {T : Type 0} (test : ℕ × ℕ × T → Bool) (ts : List (ℕ × ℕ × T))
@@ -61,7 +62,7 @@ module _ (R : CommRing) {T : Type 0} (f : T → R.Carrier) (test : ℕ → ℕ �
       chosen rest true e = ap (R.add (where_true R (is_at i j t) (f t.2))) rest
       chosen rest false e = rest ∙ sym (zero_add R (value_at R f ts i j))
           ∙ sym (ap (λ c. R.add c (value_at R f ts i j))
-          (where_no R f (is_at i j t) (f t.2) (missed e)))
+          (where_no R (is_at i j t) (f t.2) (missed e)))
 
   value_kept : (i j : ℕ) (ts : List (ℕ × ℕ × T))
       → value_at R f (filter passes ts) i j ≡ where_true R (list_any (is_at i j) ts && test i j)
@@ -69,14 +70,14 @@ module _ (R : CommRing) {T : Type 0} (f : T → R.Carrier) (test : ℕ → ℕ �
   value_kept i j ts = elim (true_or_false (test i j)) [
     | inl pass ↦ elim (true_or_false (list_any (is_at i j) ts)) [
       | inl some ↦ sum_kept i j ts pass
-          ∙ sym (where_yes R f _ _ (and_both (list_any (is_at i j) ts) (test i j) some pass))
+          ∙ sym (where_yes R _ _ (and_both (list_any (is_at i j) ts) (test i j) some pass))
       | inr none ↦ sum_kept i j ts pass ∙ unnamed R f i j ts none
-          ∙ sym (where_no R f _ _ (and_left (list_any (is_at i j) ts) (test i j) none))
+          ∙ sym (where_no R _ _ (and_left (list_any (is_at i j) ts) (test i j) none))
     ]
     | inr fails ↦
         let outside = and_right (list_any (is_at i j) ts) (test i j) fails in
         unnamed R f i j (filter passes ts) (has_kept i j ts ∙ outside)
-        ∙ sym (where_no R f _ _ outside)
+        ∙ sym (where_no R _ _ outside)
   ]
 
   -- the rows that are kept

@@ -13,23 +13,23 @@ use Rattle.sparse_algebra.specs.Algebra.{CommRing}
 use Rattle.sparse_algebra.specs.Sums.{sum_by, sum_below, where_true}
 use Rattle.sparse_algebra.specs.Plain.{is_at}
 use Rattle.sparse_pattern.specs.Raw.{Raw, start_of, end_of, lane_of, entries_of}
-use Rattle.sparse_algebra.proofs.RingLemmas.{zero_add, mul_zero}
-use Rattle.sparse_algebra.proofs.SumLemmas.{sum_below-same, sum_below-zero, sum_below-add}
+use Rattle.sparse_algebra.proofs.RingLemmas.{zero_add, zero_mul, distrib_right}
+use Rattle.sparse_algebra.proofs.SumLemmas.{sum_below-same, sum_below-none, sum_below-add}
+use Rattle.sparse_algebra.proofs.SumLemmas.{where_yes, where_no}
 use Rattle.sparse_pattern.proofs.PatternLanes.{length-lane, get_or-lane, lane_rises}
 use Rattle.sparse_compressed.specs.Compressed.{Compressed, IsSound, zip_values}
 use Rattle.sparse_compressed.specs.PlainOfLanes.{plain_of_rows}
-use Rattle.sparse_compressed.proofs.Arrays.{where_yes, where_no, unnamed}
-use Rattle.sparse_compressed.proofs.Arrays.{value_at_position, has_is_place}
+use Rattle.sparse_compressed.proofs.Arrays.{unnamed, value_at_position, has_is_place}
 use Rattle.sparse_compressed.specs.InnerRows.{lane_value}
 use Rattle.sparse_pattern.proofs.LaneLists.{lane_has}
 use Rattle.sparse_compressed.proofs.RowSums.{eq_refl}
 
 module _ (R : CommRing) {T : Type 0} (f : T → R.Carrier) where
   yes : (k j : ℕ) (c : R.Carrier) → k ≡ j → where_true R (nat_eq k j) c ≡ c
-  yes k j c e = where_yes R (λ (c : R.Carrier). c) (nat_eq k j) c (rw e (eq_refl j))
+  yes k j c e = where_yes R (nat_eq k j) c (rw e (eq_refl j))
 
   no : (k j : ℕ) (c : R.Carrier) → k ≢ j → where_true R (nat_eq k j) c ≡ R.zero
-  no k j c ne = where_no R (λ (c : R.Carrier). c) (nat_eq k j) c (nat_eq_no k j ne)
+  no k j c ne = where_no R (nat_eq k j) c (nat_eq_no k j ne)
 
   -- where the index is not in the lane
   pub lane_value_none : (j : ℕ) (ks : List ℕ) (vs : List T)
@@ -112,36 +112,25 @@ module _ (R : CommRing) {T : Type 0} (f : T → R.Carrier) where
   pick (suc n) k h lt = elim (cases_eq k n) [
     | inl same ↦
         ap (λ c. R.add c (where_true R (nat_eq k n) (h n)))
-        (sum_below-same R n _ (λ _. R.zero) (λ l l_lt. no R f k l (h l) (omega arith))
-        ∙ sum_below-zero R n) ∙ zero_add R _ ∙ yes R f k n (h n) same ∙ ap h (sym same)
+        (sum_below-none R n _ (λ l l_lt. no R f k l (h l) (omega arith))) ∙ zero_add R _ ∙ yes R f k n (h n) same ∙ ap h (sym same)
     | inr differs ↦ ap (R.add (sum_below R n (λ l. where_true R (nat_eq k l) (h l))))
         (no R f k n (h n) differs) ∙ R.laws.add_zero _ ∙ pick n k h (omega arith)
   ]
 
-  spread : (a b c : R.Carrier) → R.mul (R.add a b) c ≡ R.add (R.mul a c) (R.mul b c)
-  spread a b c = R.laws.mul_comm (R.add a b) c ∙ R.laws.distrib c a b
-      ∙ ap (λ x. R.add x (R.mul c b)) (R.laws.mul_comm c a)
-      ∙ ap (R.add (R.mul a c)) (R.laws.mul_comm c b)
-
   scaled : (b : Bool) (c x : R.Carrier) → R.mul (where_true R b c) x ≡ where_true R b (R.mul c x)
   scaled true c x = refl
-  scaled false c x = R.laws.mul_comm R.zero x ∙ mul_zero R x
+  scaled false c x = zero_mul R x
 
   -- the sum over all k below n is the sum over the lane
   pub product_by_lane : (n : ℕ) (g : ℕ → R.Carrier) (ks : List ℕ) (vs : List T)
       → All (λ k. k < n) ks
       → sum_below R n (λ k. R.mul (lane_value R f ks vs k) (g k)) ≡ sum_by R
       (λ t. R.mul (f t.1) (g t.0)) (zip ks vs)
-  product_by_lane n g [] vs within = zeros n g
-    where
-      zeros : (n : ℕ) (g : ℕ → R.Carrier) → sum_below R n (λ k. R.mul R.zero (g k)) ≡ R.zero
-      zeros n g = sum_below-same R n _ (λ _. R.zero)
-          (λ k _. R.laws.mul_comm R.zero (g k) ∙ mul_zero R (g k)) ∙ sum_below-zero R n
-  product_by_lane n g (k ∷ ks) [] within = sum_below-same R n _ (λ _. R.zero)
-      (λ k _. R.laws.mul_comm R.zero (g k) ∙ mul_zero R (g k)) ∙ sum_below-zero R n
+  product_by_lane n g [] vs within = sum_below-none R n _ (λ k _. zero_mul R (g k))
+  product_by_lane n g (k ∷ ks) [] within = sum_below-none R n _ (λ k _. zero_mul R (g k))
   product_by_lane n g (k ∷ ks) (v ∷ vs) within =
       sum_below-same R n _ (λ l. R.add (where_true R (nat_eq k l) (R.mul (f v) (g l)))
-      (R.mul (lane_value R f ks vs l) (g l))) (λ l _. spread (where_true R (nat_eq k l) (f v))
+      (R.mul (lane_value R f ks vs l) (g l))) (λ l _. distrib_right R (where_true R (nat_eq k l) (f v))
       (lane_value R f ks vs l) (g l) ∙ ap (λ c. R.add c (R.mul (lane_value R f ks vs l) (g l)))
       (scaled (nat_eq k l) (f v) (g l)))
       ∙ sum_below-add R n (λ l. where_true R (nat_eq k l) (R.mul (f v) (g l)))

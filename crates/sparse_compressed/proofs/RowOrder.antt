@@ -12,7 +12,8 @@ use Rattle.sparse_algebra.specs.Algebra.{CommRing}
 use Rattle.sparse_algebra.specs.Plain.{below, row_order}
 use Rattle.sparse_pattern.specs.Raw.{Raw, lane_of, IsValid, IsPlace, entries_from, entries_of}
 use Rattle.sparse_pattern.specs.Raw.{paired}
-use Rattle.sparse_pattern.proofs.SamePlaces.{Has, Rises, rising_same, has_from_place, place_from_has}
+use Rattle.sparse_pattern.proofs.SamePlaces.{Has, Rises, rising_same, has_from_place}
+use Rattle.sparse_pattern.proofs.SamePlaces.{place_from_has}
 use Rattle.sparse_pattern.proofs.PatternLanes.{lane_rises}
 use Rattle.sparse_pattern.proofs.LaneOrder.{length-entries}
 use Rattle.sparse_compressed.specs.Compressed.{Compressed, IsSound, zip_values, lane_triplets}

@@ -8,7 +8,7 @@ use Rattle.std.proofs.lemmas.List.{get_or-set_same, get_or-set_other, get_or_def
 use Rattle.sparse_algebra.proofs.Cases.{nat_eq_no}
 use Rattle.sparse_algebra.specs.Algebra.{CommRing}
 use Rattle.sparse_algebra.specs.Sums.{sum_by, where_true}
-use Rattle.sparse_compressed.proofs.Arrays.{where_yes, where_no}
+use Rattle.sparse_algebra.proofs.SumLemmas.{where_yes, where_no}
 use Rattle.sparse_compressed.specs.InnerRows.{lane_value}
 
 pub offset_fits : (j n size : ℕ) → j < n → n * size < 9223372036854775808 → Fits w64 (j * size)
@@ -59,8 +59,7 @@ module _ (R : CommRing) {T : Type 0} (f : T → R.Carrier) where
       (λ t. where_true R (nat_eq t.0 j) (f t.1)) columns values n k v lt lt' is is' in
       elim (cases_eq j k) [
         | inl same ↦
-            let hit : where_true R (nat_eq k j) (f v) ≡ f v = where_yes R (λ (c : R.Carrier). c)
-            (nat_eq k j) (f v) (rw same (eq_refl k)) in
+            let hit : where_true R (nat_eq k j) (f v) ≡ f v = where_yes R (nat_eq k j) (f v) (rw same (eq_refl k)) in
             let old_is : old ≡ get_or row j z = read ∙ get_or_default row k old z within
             ∙ ap (λ m. get_or row m z) (sym same) in
             let written : get_or (set row k new) j z ≡ new = ap (λ m. get_or (set row k new) m z)
@@ -71,7 +70,7 @@ module _ (R : CommRing) {T : Type 0} (f : T → R.Carrier) where
             ∙ ap (R.mul scale) (ap (R.add s) (sym hit) ∙ sym more))
         | inr differs ↦
             let miss : where_true R (nat_eq k j) (f v) ≡ R.zero =
-            where_no R (λ (c : R.Carrier). c) (nat_eq k j) (f v)
+            where_no R (nat_eq k j) (f v)
             (nat_eq_no k j (λ e. differs (sym e))) in
             ap f (get_or-set_other row k j new z differs) ∙ so_far j j_lt
             ∙ ap (λ x. R.add base (R.mul scale x))

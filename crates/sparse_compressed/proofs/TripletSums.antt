@@ -1,4 +1,4 @@
--- Sums over the triplets that name a pair: zero where none does, and its value where one alone does.
+-- Sums over the triplets that name a pair: none gives zero, and one alone its value.
 use Rattle.std.proofs.Common.{◌≡◌, ℕ, zero, suc, ◌<◌, inl, inr, ◌↔◌, Bool, true, false, ◌&&◌, List}
 use Rattle.std.proofs.Common.{[], ◌∷◌, length, get_or, map, Contains, ap, subst, ◌∙◌, refl}
 use Rattle.std.proofs.Common.{arith}
@@ -37,7 +37,8 @@ module _ {T : Type 0} (i j : ℕ) where
   named_forth [] h = cc
   named_forth (t ∷ ts) h = elim (or_cases (is_at i j t) (list_any (is_at i j) ts) h) [
     | inl hit ↦ (0, omega arith, pair_is (t.0, t.1) i j hit)
-    | inr later ↦ Contains-append_right ((t.0, t.1) ∷ []) (pairs_of ts) (i, j) (named_forth ts later)
+    | inr later ↦ Contains-append_right ((t.0, t.1) ∷ []) (pairs_of ts) (i, j)
+        (named_forth ts later)
   ]
 
   named_back : (ts : List (ℕ × ℕ × T)) → Contains (pairs_of ts) (i, j)
