@@ -54,13 +54,13 @@ module _ {T : Type 0} where
       ∙ ap (λ l. rows ++ l) (at_place r c d j i v within is))
       ∙ sym (append_assoc columns rows ((r + i, c + j, v) ∷ []))
 
-  pub one_pushed : (r c : ℕ) (d : Dense T) (is0 js0 : List ℕ) (vs0 : List T) (j i : ℕ)
-      (is js : List ℕ) (vs : List T) (v : T)
+  pub one_pushed : {r c : ℕ} {d : Dense T} {is0 js0 : List ℕ} {vs0 : List T} {j i : ℕ}
+      {is js : List ℕ} {vs : List T} {v : T}
       → length d.values ≡ d.nrows * d.ncols → i < d.nrows → j < d.ncols → v ≡ value_at d i j v
       → IsPushed r c d is0 js0 vs0 j i is js vs
       → IsPushed r c d is0 js0 vs0 j (i + 1) (is ++ (r + i) ∷ []) (js ++ (c + j) ∷ [])
       (vs ++ v ∷ [])
-  one_pushed r c d is0 js0 vs0 j i is js vs v full row col value pushed =
+  one_pushed {r} {c} {d} {is0} {js0} {vs0} {j} {i} {is} {js} {vs} {v} full row col value pushed =
       let within : j * d.nrows + i < length d.values =
       rw full (mul-add-lt j d.nrows i d.ncols col row) in
       record {
@@ -75,11 +75,11 @@ module _ {T : Type 0} where
             (pushed.parts n m parts rows cols) (omega arith) (omega arith);
       }
 
-  pub column_pushed : (r c : ℕ) (d : Dense T) (is0 js0 : List ℕ) (vs0 : List T) (j : ℕ)
-      (is js : List ℕ) (vs : List T)
+  pub column_pushed : {r c : ℕ} {d : Dense T} {is0 js0 : List ℕ} {vs0 : List T} {j : ℕ}
+      {is js : List ℕ} {vs : List T}
       → IsPushed r c d is0 js0 vs0 j d.nrows is js vs → IsPushed r c d is0 js0 vs0 (j + 1) 0 is js
       vs
-  column_pushed r c d is0 js0 vs0 j is js vs pushed = record {
+  column_pushed {r} {c} {d} {is0} {js0} {vs0} {j} pushed = record {
     row_count = pushed.row_count;
     col_count = pushed.col_count;
     triplets = pushed.triplets ∙ ap (λ l. zip_triplets is0 js0 vs0 ++ l)
@@ -87,19 +87,19 @@ module _ {T : Type 0} where
     parts = pushed.parts;
   }
 
-  pub none_pushed : (r c : ℕ) (d : Dense T) (is js : List ℕ) (vs : List T)
+  pub none_pushed : {r c : ℕ} {d : Dense T} {is js : List ℕ} {vs : List T}
       → length is ≡ length vs → length js ≡ length vs → IsPushed r c d is js vs 0 0 is js vs
-  none_pushed r c d is js vs rows cols = record {
+  none_pushed {r} {c} {d} {is} {js} {vs} rows cols = record {
     row_count = rows;
     col_count = cols;
     triplets = sym (append-nil (zip_triplets is js vs));
     parts = λ _ _ parts _ _. parts;
   }
 
-  pub all_pushed : (r c : ℕ) (d : Dense T) (is0 js0 : List ℕ) (vs0 : List T)
-      (is js : List ℕ) (vs : List T) → IsPushed r c d is0 js0 vs0 d.ncols 0 is js vs
+  pub all_pushed : {r c : ℕ} {d : Dense T} {is0 js0 : List ℕ} {vs0 : List T}
+      {is js : List ℕ} {vs : List T} → IsPushed r c d is0 js0 vs0 d.ncols 0 is js vs
       → zip_triplets is js vs ≡ zip_triplets is0 js0 vs0 ++ block_triplets r c d
-  all_pushed r c d is0 js0 vs0 is js vs pushed = pushed.triplets
+  all_pushed {r} {c} {d} {is0} {js0} {vs0} pushed = pushed.triplets
       ∙ ap (λ l. zip_triplets is0 js0 vs0 ++ l) (append-nil (block_triplets r c d))
 
   pub empty_block : (r c : ℕ) (d : Dense T) → length d.values ≡ 0 → block_triplets r c d ≡ []

@@ -71,14 +71,14 @@ module _ {T : Type 0} where
     pub placed : (k l : ℕ) (z : T) → k < n → l * n + k < j * n + i
         → get_or columns (l * n + k) z ≡ get_or rows (k * m + l) z
 
-  pub none_filled : (n m : ℕ) (rows : List T) → IsFilled n m rows [] 0 0
-  none_filled n m rows =
+  pub none_filled : {n m : ℕ} {rows : List T} → IsFilled n m rows [] 0 0
+  none_filled =
       record { count = omega arith; placed = λ k l z _ below. absurd (omega arith) }
 
-  pub filled_more : (n m : ℕ) (rows columns : List T) (j i : ℕ) (v : T)
+  pub filled_more : {n m : ℕ} {rows columns : List T} {j i : ℕ} {v : T}
       → IsFilled n m rows columns j i → i < n → v ≡ get_or rows (i * m + j) v
       → i * m + j < length rows → IsFilled n m rows (columns ++ v ∷ []) j (i + 1)
-  filled_more n m rows columns j i v filled row is within = record {
+  filled_more {n} {m} {rows} {columns} {j} {i} {v} filled row is within = record {
     count = omega (arith, length-append columns (v ∷ []), filled.count);
     placed = λ k l z inside below. by_place k l z inside (eq-or-lt_of_le (omega arith));
   }
@@ -95,15 +95,15 @@ module _ {T : Type 0} where
       by_place k l z inside (inr before) = get_or_append_left columns (v ∷ []) z (l * n + k)
           (omega (arith, filled.count)) ∙ filled.placed k l z inside before
 
-  pub column_filled : (n m : ℕ) (rows columns : List T) (j : ℕ)
+  pub column_filled : {n m : ℕ} {rows columns : List T} {j : ℕ}
       → IsFilled n m rows columns j n → IsFilled n m rows columns (j + 1) 0
-  column_filled n m rows columns j filled =
+  column_filled {n} {m} {rows} {columns} {j} filled =
       let next : (j + 1) * n + 0 ≡ j * n + n = omega (arith, add-mul j 1 n) in
       record { count = filled.count ∙ sym next; placed = rw next filled.placed }
 
-  pub all_filled : (n m : ℕ) (rows columns : List T) → IsFilled n m rows columns m 0
+  pub all_filled : {n m : ℕ} {rows columns : List T} → IsFilled n m rows columns m 0
       → HasValues n m (λ i j z. get_or rows (i * m + j) z) (dense_of n m columns)
-  all_filled n m rows columns filled = record {
+  all_filled {n} {m} filled = record {
     rows = refl;
     cols = refl;
     count = omega (arith, filled.count, mul_comm n m);

@@ -1,6 +1,9 @@
 use Rattle.std.proofs.Common.{refl, ◌∙◌, ◌*◌, ◌≡◌, ◌≢◌, ap, arith, sym, length}
 use Rattle.std.proofs.lemmas.List.{append-nil}
+use Rattle.sparse_coo_dense.specs.Blocks.{IsBlockInside}
 use Rattle.sparse_coo_dense.proofs.BlockLemmas.{empty_block, block_inside}
+use Rattle.sparse_coo_dense.proofs.coo.CooMatrix.push_matrix.Given.{Over}
+use Rattle.sparse_coo_dense.proofs.coo.CooMatrix.push_matrix.Goals.{Else-count-eq0}
 use Rattle.sparse_coo_dense.proofs.coo.CooMatrix.push_matrix.Goals as goal
 
 pub returns-then-count-eq0-clause-ok : goal.returns-then-count-eq0-clause-ok
@@ -17,9 +20,21 @@ invariant_of-self g c = rw (
   c.in_err-reserve_each.ensures.values,
 ) c.self.invariant
 
+full : (g : Over) (c : Else-count-eq0 g)
+    → length c.args.matrix.now.values ≡ c.args.matrix.now.nrows * c.args.matrix.now.ncols
+full g c = sym (ap length c.as_slice-count.ensures.values) ∙ c.as_slice-count.ensures.count
+
+-- a block with places lies within the matrix
+inside : (g : Over) (c : Else-count-eq0 g)
+    → IsBlockInside c.args.self.now c.args.r c.args.c c.args.matrix.now
+inside g c =
+    let some : length c.args.matrix.now.values ≢ 0 =
+    λ e. c.if-count-eq0.false (ap length c.as_slice-count.ensures.values ∙ e) in
+    block_inside c.args.self.now c.args.r c.args.c c.args.matrix.now (full g c) some c.requires
+
 pub push_block-requires-clause-full : goal.push_block-requires-clause-full
-push_block-requires-clause-full g c = sym (ap length c.as_slice-count.ensures.values)
-    ∙ c.as_slice-count.ensures.count
+push_block-requires-clause-full g c =
+    full g (goal.at.push_block-requires-clause-full g c).Else-count-eq0
 
 pub push_block-requires-clause-row_room : goal.push_block-requires-clause-row_room
 push_block-requires-clause-row_room g c =
@@ -35,21 +50,15 @@ push_block-requires-clause-room g c =
 
 pub push_block-requires-clause-row_fits : goal.push_block-requires-clause-row_fits
 push_block-requires-clause-row_fits g c =
-    let full = sym (ap length c.as_slice-count.ensures.values) ∙ c.as_slice-count.ensures.count in
-    let some : length c.args.matrix.now.values ≢ 0 =
-    λ e. c.if-count-eq0.false (ap length c.as_slice-count.ensures.values ∙ e) in
-    let inside = rw (← c.self.view_is) at (block_inside c.args.self.now c.args.r c.args.c
-    c.args.matrix.now full some c.requires) in
-    omega (arith, inside.0)
+    let fits = rw (← c.self.view_is) at
+    (inside g (goal.at.push_block-requires-clause-row_fits g c).Else-count-eq0) in
+    omega (arith, fits.0)
 
 pub push_block-requires-clause-col_fits : goal.push_block-requires-clause-col_fits
 push_block-requires-clause-col_fits g c =
-    let full = sym (ap length c.as_slice-count.ensures.values) ∙ c.as_slice-count.ensures.count in
-    let some : length c.args.matrix.now.values ≢ 0 =
-    λ e. c.if-count-eq0.false (ap length c.as_slice-count.ensures.values ∙ e) in
-    let inside = rw (← c.self.view_is) at (block_inside c.args.self.now c.args.r c.args.c
-    c.args.matrix.now full some c.requires) in
-    omega (arith, inside.1)
+    let fits = rw (← c.self.view_is) at
+    (inside g (goal.at.push_block-requires-clause-col_fits g c).Else-count-eq0) in
+    omega (arith, fits.1)
 
 pub push_block-requires-clause-row_count : goal.push_block-requires-clause-row_count
 push_block-requires-clause-row_count g c = rw (
@@ -66,18 +75,14 @@ push_block-requires-clause-col_count g c = rw (
 pub invariant_of-self-2 : goal.invariant_of-self-2
 invariant_of-self-2 g c =
     let m = c.self.inside in
-    let full : length c.args.matrix.now.values ≡ c.args.matrix.now.nrows * c.args.matrix.now.ncols =
-    sym (ap length c.as_slice-count.ensures.values) ∙ c.as_slice-count.ensures.count in
-    let some : length c.args.matrix.now.values ≢ 0 =
-    λ e. c.if-count-eq0.false (ap length c.as_slice-count.ensures.values ∙ e) in
-    let inside = rw (← c.self.view_is) at (block_inside c.args.self.now c.args.r c.args.c
-    c.args.matrix.now full some c.requires) in
+    let fits = rw (← c.self.view_is) at
+    (inside g (goal.at.invariant_of-self-2 g c).Else-count-eq0) in
     c.push_block.ensures.parts m.nrows m.ncols
     (rw (
       c.in_ok-reserve_each.ensures.rows,
       c.in_ok-reserve_each.ensures.cols,
       c.in_ok-reserve_each.ensures.values,
-    ) c.self.invariant) inside.0 inside.1
+    ) c.self.invariant) fits.0 fits.1
 
 pub returns-clause-ok : goal.returns-clause-ok
 returns-clause-ok g c = rw (

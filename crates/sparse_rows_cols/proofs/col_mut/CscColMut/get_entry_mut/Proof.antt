@@ -1,23 +1,17 @@
 -- `get_entry_mut` passes on what `find_mut` lends, as an entry: a walk over the two calls.
 use Rattle.sparse_rows_cols.proofs.Walking.{◌≡◌, refl, sym, ap, ◌∙◌, subst, List, [], ◌∷◌, Val, w64}
-use Rattle.sparse_rows_cols.proofs.Walking.{named, a_type, inst_fn, emp, id⊢}
-use Rattle.sparse_rows_cols.proofs.Walking.{GName, flft, ‵, raw, ◌⊛◌}
-use Rattle.sparse_rows_cols.proofs.Walking.{some, later, ◌$◌, ◌∵◌, !, qed, done, move, drop, use1}
-use Rattle.sparse_rows_cols.proofs.Walking.{split, join, fjoin, pick}
-use Rattle.sparse_rows_cols.proofs.Walking.{await, rewrite, suffices, frame}
-use Rattle.sparse_rows_cols.proofs.Walking.{enter, addr, stop, no_more}
-use Rattle.sparse_rows_cols.proofs.Walking.{and_then, returns, alloc_all}
-use Rattle.sparse_rows_cols.proofs.Walking.{pass_all, free_all, look_at, get}
-use Rattle.sparse_rows_cols.proofs.Walking.{through, sets, lands_as}
-use Rattle.sparse_rows_cols.proofs.Walking.{fact, ◌⊑◌, Lfts, Shares, tables}
-use Rattle.sparse_rows_cols.proofs.Walking.{RattleType, usize, yes, no}
-use Rattle.sparse_rows_cols.proofs.Walking.{Is, shows, param, layouts, param_laws, uint_vals}
-use Rattle.sparse_rows_cols.proofs.Walking.{uint_Tells, mut_vals, mut_Tells, follows_if, plain}
-use Rattle.sparse_rows_cols.proofs.Walking.{named_lft, nothing, heard, peeks}
-use Rattle.sparse_rows_cols.proofs.Walking.{calls_at, Lasts, lasts}
-use Rattle.sparse_rows_cols.proofs.Walking.{on_entry, triple_of, framed, Stays, walk_of, says}
-use Rattle.sparse_rows_cols.proofs.Walking.{stay_dropped, Goes-dropped, Goes-spent_ref}
-use Rattle.sparse_rows_cols.proofs.Walking.{ends_at, proved}
+use Rattle.sparse_rows_cols.proofs.Walking.{named, a_type, inst_fn, emp, id⊢, GName, flft, ‵, raw}
+use Rattle.sparse_rows_cols.proofs.Walking.{◌⊛◌, some, later, ◌$◌, ◌∵◌, !, qed, done, move, drop}
+use Rattle.sparse_rows_cols.proofs.Walking.{use1, split, join, fjoin, pick, await, rewrite}
+use Rattle.sparse_rows_cols.proofs.Walking.{suffices, frame, enter, addr, stop, no_more, and_then}
+use Rattle.sparse_rows_cols.proofs.Walking.{returns, alloc_all, pass_all, free_all, look_at, get}
+use Rattle.sparse_rows_cols.proofs.Walking.{through, sets, lands_as, fact, ◌⊑◌, Lfts, Shares}
+use Rattle.sparse_rows_cols.proofs.Walking.{tables, RattleType, usize, yes, no, Is, shows, param}
+use Rattle.sparse_rows_cols.proofs.Walking.{layouts, param_laws, uint_vals, uint_Tells, mut_vals}
+use Rattle.sparse_rows_cols.proofs.Walking.{mut_Tells, follows_if, plain, named_lft, nothing, heard}
+use Rattle.sparse_rows_cols.proofs.Walking.{peeks, calls_at, Lasts, lasts, on_entry, triple_of}
+use Rattle.sparse_rows_cols.proofs.Walking.{framed, Stays, walk_of, says, stay_dropped}
+use Rattle.sparse_rows_cols.proofs.Walking.{Goes-dropped, Goes-spent_ref, ends_at, proved}
 use Rattle.sparse_rows_cols.proofs.Walking.{option_laws, option_row}
 use mathlib.Core.Option as maybe
 use Rattle.sparse_pattern.proofs.entry.Found.TheLaws.{the_row_laws as found_laws}

@@ -1,30 +1,19 @@
 -- `at_mut` lends one value of what `values_mut` lends.
-use Rattle.sparse_rows_cols.proofs.Walking.{◌≡◌, refl, sym, subst, List, []}
-use Rattle.sparse_rows_cols.proofs.Walking.{◌∷◌, length, Val, ◌<◌, w64}
-use Rattle.sparse_rows_cols.proofs.Walking.{named, a_type, inst_fn, emp, id⊢}
-use Rattle.sparse_rows_cols.proofs.Walking.{flft, ftrue, ‵, raw, ◌⊛◌}
-use Rattle.sparse_rows_cols.proofs.Walking.{some, later, ◌$◌, ◌∵◌, !, qed}
-use Rattle.sparse_rows_cols.proofs.Walking.{done, move, drop, use1, use2}
-use Rattle.sparse_rows_cols.proofs.Walking.{split, join, fjoin, pick}
-use Rattle.sparse_rows_cols.proofs.Walking.{await, rewrite, suffices, frame}
-use Rattle.sparse_rows_cols.proofs.Walking.{enter, addr, stop, no_more}
-use Rattle.sparse_rows_cols.proofs.Walking.{and_then, returns, alloc_all}
-use Rattle.sparse_rows_cols.proofs.Walking.{pass_all, free_all, look_at, get}
-use Rattle.sparse_rows_cols.proofs.Walking.{through, sets, lands_as}
-use Rattle.sparse_rows_cols.proofs.Walking.{fact, ◌⊑◌, Lfts, Shares}
-use Rattle.sparse_rows_cols.proofs.Walking.{tables, RattleType, Array, usize}
-use Rattle.sparse_rows_cols.proofs.Walking.{yes, no, Is, shows}
-use Rattle.sparse_rows_cols.proofs.Walking.{param, layouts, uint_vals, uint_Tells}
-use Rattle.sparse_rows_cols.proofs.Walking.{uint_Makes, MutBor, MutRef}
-use Rattle.sparse_rows_cols.proofs.Walking.{mut_vals, mut_Tells, mut_Lawful}
-use Rattle.sparse_rows_cols.proofs.Walking.{MutSlice, mut_slice_Lawful, follows}
-use Rattle.sparse_rows_cols.proofs.Walking.{follows_then, plain}
-use Rattle.sparse_rows_cols.proofs.Walking.{named_lft, nothing, heard, owned}
-use Rattle.sparse_rows_cols.proofs.Walking.{peeks, calls_at, Lasts}
-use Rattle.sparse_rows_cols.proofs.Walking.{lasts, on_entry, triple_of, framed}
-use Rattle.sparse_rows_cols.proofs.Walking.{Stays, walk_of, says}
-use Rattle.sparse_rows_cols.proofs.Walking.{stay_dropped, Goes-dropped, Goes-spent_ref}
-use Rattle.sparse_rows_cols.proofs.Walking.{ends_at, proved}
+use Rattle.sparse_rows_cols.proofs.Walking.{◌≡◌, refl, sym, subst, List, [], ◌∷◌, length, Val, ◌<◌}
+use Rattle.sparse_rows_cols.proofs.Walking.{w64, named, a_type, inst_fn, emp, id⊢, flft, ftrue, ‵}
+use Rattle.sparse_rows_cols.proofs.Walking.{raw, ◌⊛◌, some, later, ◌$◌, ◌∵◌, !, qed, done, move}
+use Rattle.sparse_rows_cols.proofs.Walking.{drop, use1, use2, split, join, fjoin, pick, await}
+use Rattle.sparse_rows_cols.proofs.Walking.{rewrite, suffices, frame, enter, addr, stop, no_more}
+use Rattle.sparse_rows_cols.proofs.Walking.{and_then, returns, alloc_all, pass_all, free_all}
+use Rattle.sparse_rows_cols.proofs.Walking.{look_at, get, through, sets, lands_as, fact, ◌⊑◌, Lfts}
+use Rattle.sparse_rows_cols.proofs.Walking.{Shares, tables, RattleType, Array, usize, yes, no, Is}
+use Rattle.sparse_rows_cols.proofs.Walking.{shows, param, layouts, uint_vals, uint_Tells}
+use Rattle.sparse_rows_cols.proofs.Walking.{uint_Makes, MutBor, MutRef, mut_vals, mut_Tells}
+use Rattle.sparse_rows_cols.proofs.Walking.{mut_Lawful, MutSlice, mut_slice_Lawful, follows}
+use Rattle.sparse_rows_cols.proofs.Walking.{follows_then, plain, named_lft, nothing, heard, owned}
+use Rattle.sparse_rows_cols.proofs.Walking.{peeks, calls_at, Lasts, lasts, on_entry, triple_of}
+use Rattle.sparse_rows_cols.proofs.Walking.{framed, Stays, walk_of, says, stay_dropped}
+use Rattle.sparse_rows_cols.proofs.Walking.{Goes-dropped, Goes-spent_ref, ends_at, proved}
 use Rattle.sparse_rows_cols.proofs.Walking.{slice_set, slice_index_or}
 use Rattle.sparse_compressed.proofs.FoundEntries.{with_fact, with_facts}
 use Rattle.sparse_rows_cols.specs.contracts.row_mut.CsrRowMut.{the_row}
