@@ -3,23 +3,17 @@
 -- It is walked over once here, whatever the lane's type is.
 use Rattle.sparse_rows_cols.proofs.Walking.{◌≡◌, refl, sym, subst, List, [], ◌∷◌, ◌↔◌, lit<, w64}
 use Rattle.sparse_rows_cols.proofs.Walking.{named, Fn, Body, Val, emp, GName, Env, Wp, after_seq}
-use Rattle.sparse_rows_cols.proofs.Walking.{at_return, Post, any_q, at_ret, prop}
-use Rattle.sparse_rows_cols.proofs.Walking.{Sq, ‵, raw, ◌⊛◌, some}
-use Rattle.sparse_rows_cols.proofs.Walking.{later, ◌$◌, ◌∵◌, !, qed, move}
-use Rattle.sparse_rows_cols.proofs.Walking.{drop, use0, use1, use2, split}
-use Rattle.sparse_rows_cols.proofs.Walking.{join, fjoin, pick, await}
-use Rattle.sparse_rows_cols.proofs.Walking.{rewrite, vrt, in_variant, whole}
-use Rattle.sparse_rows_cols.proofs.Walking.{agg, enter, addr, of_opd, lit, stop, fld, first, exec}
-use Rattle.sparse_rows_cols.proofs.Walking.{switches_on, no_more, and_then, returns, alloc_all}
-use Rattle.sparse_rows_cols.proofs.Walking.{pass_all, free_all, look_at, get}
-use Rattle.sparse_rows_cols.proofs.Walking.{get_in, get_tag, through}
-use Rattle.sparse_rows_cols.proofs.Walking.{sets, sets_last, lands_as, env}
-use Rattle.sparse_rows_cols.proofs.Walking.{fact, tables, RattleType}
-use Rattle.sparse_rows_cols.proofs.Walking.{Array, usize, Is, shows, uint_vals, uint_Makes, MutBor}
-use Rattle.sparse_rows_cols.proofs.Walking.{MutRef, mut_vals, follows, follows_if}
-use Rattle.sparse_rows_cols.proofs.Walking.{nothing, heard, owned}
-use Rattle.sparse_rows_cols.proofs.Walking.{peeks, framed, after, head}
-use Rattle.sparse_rows_cols.proofs.Walking.{arm_body, Option, Some, None}
+use Rattle.sparse_rows_cols.proofs.Walking.{at_return, Post, any_q, at_ret, prop, Sq, ‵, raw, ◌⊛◌}
+use Rattle.sparse_rows_cols.proofs.Walking.{some, later, ◌$◌, ◌∵◌, !, qed, move, drop, use0, use1}
+use Rattle.sparse_rows_cols.proofs.Walking.{use2, split, join, fjoin, pick, await, rewrite, vrt}
+use Rattle.sparse_rows_cols.proofs.Walking.{in_variant, whole, agg, enter, addr, of_opd, lit, stop}
+use Rattle.sparse_rows_cols.proofs.Walking.{fld, first, exec, switches_on, no_more, and_then}
+use Rattle.sparse_rows_cols.proofs.Walking.{returns, alloc_all, pass_all, free_all, look_at, get}
+use Rattle.sparse_rows_cols.proofs.Walking.{get_in, get_tag, through, sets, sets_last, lands_as}
+use Rattle.sparse_rows_cols.proofs.Walking.{env, fact, tables, RattleType, Array, usize, Is, shows}
+use Rattle.sparse_rows_cols.proofs.Walking.{uint_vals, uint_Makes, MutBor, MutRef, mut_vals}
+use Rattle.sparse_rows_cols.proofs.Walking.{follows, follows_if, nothing, heard, owned, peeks}
+use Rattle.sparse_rows_cols.proofs.Walking.{framed, after, head, arm_body, Option, Some, None}
 use Rattle.sparse_rows_cols.proofs.Walking.{IsSome, IfSome, ghost_name_of, option_row}
 use mathlib.Core.Option as maybe
 use seplogic.Ra.Ura.{Ura}
@@ -28,10 +22,9 @@ use base.Logic.{SProp, ent, sep, id⊢}
 use contract.Running.{Running, MachineTables}
 use Prim.Native.Nat.{ℕ}
 use denote.Triple.Call.{calls_from}
-use mir.Syntax.{Callee, Sym, Ty, ty_int, ty_ref, ty_enum, tnil, tcons, ttnil, ttcons, mut}
-use mir.Syntax.{erased, value_local, local, seq, assign, call}
-use mir.Syntax.{switch, return, arm, no_default, place}
-use mir.Syntax.{copy, deref, variant, field, addr_of, rv_opd, aggregate, int, w8}
+use mir.Syntax.{Callee, Sym, Ty, ty_int, ty_ref, ty_enum, tnil, tcons, ttnil, ttcons, mut, erased}
+use mir.Syntax.{value_local, local, seq, assign, call, switch, return, arm, no_default, place, copy}
+use mir.Syntax.{deref, variant, field, addr_of, rv_opd, aggregate, int, w8}
 use mir.Val.{vptr, vint, has_ty, WT}
 use lib.Dec.{T}
 use prog.Model.{Model}

@@ -1,22 +1,17 @@
 -- `get_entry_mut` passes on what `find_mut` lends, as an entry.
 use Rattle.sparse_rows_cols.proofs.Walking.{◌≡◌, refl, sym, ap, ◌∙◌, subst, List, [], ◌∷◌, Val, w64}
-use Rattle.sparse_rows_cols.proofs.Walking.{named, a_type, inst_fn, emp, id⊢}
-use Rattle.sparse_rows_cols.proofs.Walking.{GName, ‵, raw, ◌⊛◌, some}
-use Rattle.sparse_rows_cols.proofs.Walking.{later, ◌$◌, ◌∵◌, !, qed, done, move, drop, use1, split}
-use Rattle.sparse_rows_cols.proofs.Walking.{join, fjoin, pick, await}
-use Rattle.sparse_rows_cols.proofs.Walking.{rewrite, suffices, frame, enter}
-use Rattle.sparse_rows_cols.proofs.Walking.{addr, stop, no_more, and_then}
-use Rattle.sparse_rows_cols.proofs.Walking.{returns, alloc_all, pass_all}
-use Rattle.sparse_rows_cols.proofs.Walking.{free_all, look_at, get, through}
-use Rattle.sparse_rows_cols.proofs.Walking.{sets, lands_as, fact, ◌⊑◌}
-use Rattle.sparse_rows_cols.proofs.Walking.{tables, RattleType, usize, yes, no, Is, shows, param}
-use Rattle.sparse_rows_cols.proofs.Walking.{layouts, param_laws, uint_vals, uint_Tells, mut_vals}
-use Rattle.sparse_rows_cols.proofs.Walking.{mut_Tells, follows_if, plain, named_lft, nothing, heard}
-use Rattle.sparse_rows_cols.proofs.Walking.{peeks, calls_at, Lasts, lasts}
-use Rattle.sparse_rows_cols.proofs.Walking.{alive, on_entry, triple_of}
-use Rattle.sparse_rows_cols.proofs.Walking.{framed, Stays, walk_of, stay_dropped, Goes-dropped}
-use Rattle.sparse_rows_cols.proofs.Walking.{Goes-spent_ref, ends_at, proved, says_two, option_laws}
-use Rattle.sparse_rows_cols.proofs.Walking.{option_row}
+use Rattle.sparse_rows_cols.proofs.Walking.{named, a_type, inst_fn, emp, id⊢, GName, ‵, raw, ◌⊛◌}
+use Rattle.sparse_rows_cols.proofs.Walking.{some, later, ◌$◌, ◌∵◌, !, qed, done, move, drop, use1}
+use Rattle.sparse_rows_cols.proofs.Walking.{split, join, fjoin, pick, await, rewrite, suffices}
+use Rattle.sparse_rows_cols.proofs.Walking.{frame, enter, addr, stop, no_more, and_then, returns}
+use Rattle.sparse_rows_cols.proofs.Walking.{alloc_all, pass_all, free_all, look_at, get, through}
+use Rattle.sparse_rows_cols.proofs.Walking.{sets, lands_as, fact, ◌⊑◌, tables, RattleType, usize}
+use Rattle.sparse_rows_cols.proofs.Walking.{yes, no, Is, shows, param, layouts, param_laws}
+use Rattle.sparse_rows_cols.proofs.Walking.{uint_vals, uint_Tells, mut_vals, mut_Tells, follows_if}
+use Rattle.sparse_rows_cols.proofs.Walking.{plain, named_lft, nothing, heard, peeks, calls_at}
+use Rattle.sparse_rows_cols.proofs.Walking.{Lasts, lasts, alive, on_entry, triple_of, framed, Stays}
+use Rattle.sparse_rows_cols.proofs.Walking.{walk_of, stay_dropped, Goes-dropped, Goes-spent_ref}
+use Rattle.sparse_rows_cols.proofs.Walking.{ends_at, proved, says_two, option_laws, option_row}
 use mathlib.Core.Option as maybe
 use Rattle.sparse_pattern.proofs.entry.Found.TheLaws.{the_row_laws as found_laws}
 use Rattle.sparse_pattern.proofs.entry.SparseEntryMut.TheLaws.{the_row_laws as entry_laws}

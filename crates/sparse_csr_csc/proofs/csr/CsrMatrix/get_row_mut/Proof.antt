@@ -1,14 +1,12 @@
 -- `get_row_mut` lends a row of the core that `cs_with_row` lends, where it lends it.
 use Rattle.sparse_rows_cols.proofs.Walking.{refl, List, [], ◌∷◌, w64, named, a_type, Val, inst_fn}
-use Rattle.sparse_rows_cols.proofs.Walking.{◌$◌, !, done, move, join, fjoin}
-use Rattle.sparse_rows_cols.proofs.Walking.{suffices, frame, usize, yes, no, param, layouts}
-use Rattle.sparse_rows_cols.proofs.Walking.{param_laws, uint_vals, uint_Tells, mut_vals, mut_Tells}
-use Rattle.sparse_rows_cols.proofs.Walking.{plain, named_lft, nothing, alive}
-use Rattle.sparse_rows_cols.proofs.Walking.{on_entry, triple_of, Lasts}
-use Rattle.sparse_rows_cols.proofs.Walking.{Stays, walk_of, stay_dropped}
-use Rattle.sparse_rows_cols.proofs.Walking.{Goes-dropped, Goes-spent_ref}
-use Rattle.sparse_rows_cols.proofs.Walking.{ends_at, proved, says_three, option_laws}
-use Rattle.sparse_rows_cols.proofs.Walking.{RattleType, ◌≡◌, ◌<◌, ◌⊑◌, lasts}
+use Rattle.sparse_rows_cols.proofs.Walking.{◌$◌, !, done, move, join, fjoin, suffices, frame, usize}
+use Rattle.sparse_rows_cols.proofs.Walking.{yes, no, param, layouts, param_laws, uint_vals}
+use Rattle.sparse_rows_cols.proofs.Walking.{uint_Tells, mut_vals, mut_Tells, plain, named_lft}
+use Rattle.sparse_rows_cols.proofs.Walking.{nothing, alive, on_entry, triple_of, Lasts, Stays}
+use Rattle.sparse_rows_cols.proofs.Walking.{walk_of, stay_dropped, Goes-dropped, Goes-spent_ref}
+use Rattle.sparse_rows_cols.proofs.Walking.{ends_at, proved, says_three, option_laws, RattleType}
+use Rattle.sparse_rows_cols.proofs.Walking.{◌≡◌, ◌<◌, ◌⊑◌, lasts}
 use base.Logic.{via}
 use Rattle.sparse_compressed.specs.Compressed.{IsSound}
 use Rattle.sparse_compressed.specs.Lanes.{lane_at}
