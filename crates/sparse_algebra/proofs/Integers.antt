@@ -24,7 +24,8 @@ module _ (m : ℕ) (some : 0 < m) where
       (sym (add-mod n 1 m) ∙ ap (λ k. k % m) (omega arith))
 
 -- a number of 64 bits, as one of the wrapping integers
-pub element_of-class : (z : ℤ) → FitsSigned w64 z → class_of w64 z ≡ element_of (wrapping_ring w64) z
+pub element_of-class : (z : ℤ) → FitsSigned w64 z
+    → class_of w64 z ≡ element_of (wrapping_ring w64) z
 unfolding element_of
 element_of-class (pos n) fits = sym (times_one-residue (2 ^ 64) (pow_pos 64) n)
 element_of-class (negsuc n) fits =
@@ -40,7 +41,8 @@ element_of-class (negsuc n) fits =
 
 module _ (m : ℕ) where
   -- the residue of the absolute value
-  pub element_of-from_zero : (z : ℤ) (n : ℕ) → lt_z z (pos 0) ≡ false → n ≡ unsigned_abs z % modulus m
+  pub element_of-from_zero : (z : ℤ) (n : ℕ) → lt_z z (pos 0) ≡ false
+      → n ≡ unsigned_abs z % modulus m
       → mod_class m n ≡ element_of (mod_ring m) z
   unfolding element_of
   element_of-from_zero (pos k) n sign size = mod_class_of m k n size
@@ -48,7 +50,8 @@ module _ (m : ℕ) where
   element_of-from_zero (negsuc k) n sign size = absurd (grind (arith, ints))
 
   -- its opposite
-  pub element_of-below_zero : (z : ℤ) (n : ℕ) → lt_z z (pos 0) ≡ true → n ≡ unsigned_abs z % modulus m
+  pub element_of-below_zero : (z : ℤ) (n : ℕ) → lt_z z (pos 0) ≡ true
+      → n ≡ unsigned_abs z % modulus m
       → (mod_ring m).neg (mod_class m n) ≡ element_of (mod_ring m) z
   unfolding element_of
   element_of-below_zero (pos k) n sign size = absurd (grind (arith, ints))

@@ -108,7 +108,8 @@ module _ (R : CommRing) where
   sum-product a b c e = same_plain (plain_product R (plain_sum R a b) c)
       (plain_sum R (plain_product R a c) (plain_product R b c)) refl refl
       (λ i j. any_below-same a.cols _ _
-      (λ k. and-or_distrib_right (a.has i k) (b.has i k) (c.has k j)) ∙ any_below-or a.cols _ _ ∙ ap (λ n. any_below a.cols (λ k. a.has i k && c.has k j)
+      (λ k. and-or_distrib_right (a.has i k) (b.has i k) (c.has k j)) ∙ any_below-or a.cols _ _
+      ∙ ap (λ n. any_below a.cols (λ k. a.has i k && c.has k j)
       || any_below n (λ k. b.has i k && c.has k j)) e)
       (λ i j.
       sum_below-same R a.cols _ _

@@ -11,6 +11,14 @@ use Rattle.sparse_compressed.specs.Compressed.{Compressed, IsSound, lane_triplet
 use Rattle.sparse_compressed.specs.PlainOfLanes.{meant, plain_of_rows, plain_of_cols}
 use Rattle.sparse_compressed.proofs.RowOrder.{row_order-rows}
 
+-- the images of lists that are joined end to end
+map-flat_map : {X A B : Type 0} (h : A → B) (f : X → List A) (g : X → List B)
+    → ((x : X) → map h (f x) ≡ g x) → (xs : List X) → map h (flat_map f xs) ≡ flat_map g xs
+map-flat_map h f g same [] = refl
+map-flat_map h f g same (x ∷ xs) =
+    map-append h (f x) (flat_map f xs) ∙ ap (λ l. l ++ map h (flat_map f xs)) (same x)
+    ∙ ap (λ l. g x ++ l) (map-flat_map h f g same xs)
+
 module _ (R : CommRing) (a : Plain R) where
   abbrev Triplet : Type 0
   Triplet = ℕ × ℕ × R.Carrier
@@ -21,40 +29,12 @@ module _ (R : CommRing) (a : Plain R) where
   transposed-one i j true = refl
   transposed-one i j false = refl
 
-  transposed-row : (i : ℕ) (js : List ℕ)
-      → map {B = Triplet} transposed (flat_map (λ j. if a.has i j then (i, j, a.value i j) ∷ [] else [])
-      js)
-      ≡ flat_map (λ j. if a.has i j then (j, i, a.value i j) ∷ [] else []) js
-  transposed-row i [] = refl
-  transposed-row i (j ∷ js) =
-      map-append transposed (if a.has i j then (i, j, a.value i j) ∷ [] else [])
-      (flat_map (λ j. if a.has i j then (i, j, a.value i j) ∷ [] else []) js)
-      ∙ ap (λ l. l ++ map {B = Triplet} transposed
-      (flat_map (λ j. if a.has i j then (i, j, a.value i j) ∷ [] else []) js))
-      (transposed-one i j (a.has i j))
-      ∙ ap (λ l. (if a.has i j then (j, i, a.value i j) ∷ [] else []) ++ l) (transposed-row i js)
-
-  transposed-rows : (is : List ℕ)
-      → map {B = Triplet} transposed
-      (flat_map (λ i. flat_map (λ j. if a.has i j then (i, j, a.value i j) ∷ [] else [])
-      (below a.cols)) is)
-      ≡ flat_map (λ i. flat_map (λ j. if a.has i j then (j, i, a.value i j) ∷ [] else [])
-      (below a.cols)) is
-  transposed-rows [] = refl
-  transposed-rows (i ∷ is) =
-      map-append transposed (flat_map (λ j. if a.has i j then (i, j, a.value i j) ∷ [] else [])
-      (below a.cols))
-      (flat_map (λ i. flat_map (λ j. if a.has i j then (i, j, a.value i j) ∷ [] else [])
-      (below a.cols)) is)
-      ∙ ap (λ l. l ++ map {B = Triplet} transposed
-      (flat_map (λ i. flat_map (λ j. if a.has i j then (i, j, a.value i j) ∷ [] else [])
-      (below a.cols)) is)) (transposed-row i (below a.cols))
-      ∙ ap (λ l. flat_map (λ j. if a.has i j then (j, i, a.value i j) ∷ [] else []) (below a.cols)
-      ++ l) (transposed-rows is)
-
   -- the places of the transpose by columns are those of the matrix by rows, transposed
-  col_order-transpose : col_order R (plain_transpose R a) ≡ map {B = Triplet} transposed (row_order R a)
-  col_order-transpose = sym (transposed-rows (below a.rows))
+  col_order-transpose : col_order R (plain_transpose R a)
+      ≡ map {B = Triplet} transposed (row_order R a)
+  col_order-transpose = sym (map-flat_map transposed _ _
+      (λ i. map-flat_map transposed _ _ (λ j. transposed-one i j (a.has i j)) (below a.cols))
+      (below a.rows))
 
 module _ (R : CommRing) {T : Type 0} (f : T → R.Carrier) where
   meant-transposed : (ts : List (ℕ × ℕ × T))

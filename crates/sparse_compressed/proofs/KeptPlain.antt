@@ -24,7 +24,8 @@ filter-transposed test (t ∷ ts) = chosen (test (transposed t))
     ∙ ap (λ us. cond (test (transposed t)) (t ∷ us) us) (filter-transposed test ts)
   where
     chosen : (b : Bool)
-        → map transposed (cond b (transposed t ∷ filter test (map transposed ts)) (filter test (map transposed ts)))
+        → map transposed (cond b (transposed t ∷ filter test (map transposed ts))
+        (filter test (map transposed ts)))
         ≡ cond b (t ∷ map transposed (filter test (map transposed ts)))
         (map transposed (filter test (map transposed ts)))
     chosen true = refl
@@ -93,7 +94,8 @@ module _ (R : CommRing) {T : Type 0} (f : T → R.Carrier) (test : ℕ → ℕ �
 pub kept_cols : (R : CommRing) {T : Type 0} (f : T → R.Carrier) (test : ℕ → ℕ → Bool)
     (m n : Compressed T)
     → HasSizesOf m n
-    → map transposed (lane_triplets n) ≡ filter (λ t. test t.0 t.1) (map transposed (lane_triplets m))
+    → map transposed (lane_triplets n) ≡ filter (λ t. test t.0 t.1)
+    (map transposed (lane_triplets m))
     → plain_of_cols R f n ≡ plain_kept R test (plain_of_cols R f m)
 kept_cols R f test m n sizes kept =
     let lanes : lane_triplets n ≡ filter (λ t. test t.1 t.0) (lane_triplets m) =

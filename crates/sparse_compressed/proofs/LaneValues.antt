@@ -112,7 +112,8 @@ module _ (R : CommRing) {T : Type 0} (f : T → R.Carrier) where
   pick (suc n) k h lt = elim (cases_eq k n) [
     | inl same ↦
         ap (λ c. R.add c (where_true R (nat_eq k n) (h n)))
-        (sum_below-none R n _ (λ l l_lt. no R f k l (h l) (omega arith))) ∙ zero_add R _ ∙ yes R f k n (h n) same ∙ ap h (sym same)
+        (sum_below-none R n _ (λ l l_lt. no R f k l (h l) (omega arith))) ∙ zero_add R _
+        ∙ yes R f k n (h n) same ∙ ap h (sym same)
     | inr differs ↦ ap (R.add (sum_below R n (λ l. where_true R (nat_eq k l) (h l))))
         (no R f k n (h n) differs) ∙ R.laws.add_zero _ ∙ pick n k h (omega arith)
   ]
@@ -130,8 +131,9 @@ module _ (R : CommRing) {T : Type 0} (f : T → R.Carrier) where
   product_by_lane n g (k ∷ ks) [] within = sum_below-none R n _ (λ k _. zero_mul R (g k))
   product_by_lane n g (k ∷ ks) (v ∷ vs) within =
       sum_below-same R n _ (λ l. R.add (where_true R (nat_eq k l) (R.mul (f v) (g l)))
-      (R.mul (lane_value R f ks vs l) (g l))) (λ l _. distrib_right R (where_true R (nat_eq k l) (f v))
-      (lane_value R f ks vs l) (g l) ∙ ap (λ c. R.add c (R.mul (lane_value R f ks vs l) (g l)))
+      (R.mul (lane_value R f ks vs l) (g l)))
+      (λ l _. distrib_right R (where_true R (nat_eq k l) (f v)) (lane_value R f ks vs l) (g l)
+      ∙ ap (λ c. R.add c (R.mul (lane_value R f ks vs l) (g l)))
       (scaled (nat_eq k l) (f v) (g l)))
       ∙ sum_below-add R n (λ l. where_true R (nat_eq k l) (R.mul (f v) (g l)))
       (λ l. R.mul (lane_value R f ks vs l) (g l))

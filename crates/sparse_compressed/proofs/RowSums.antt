@@ -59,7 +59,8 @@ module _ (R : CommRing) {T : Type 0} (f : T → R.Carrier) where
       (λ t. where_true R (nat_eq t.0 j) (f t.1)) columns values n k v lt lt' is is' in
       elim (cases_eq j k) [
         | inl same ↦
-            let hit : where_true R (nat_eq k j) (f v) ≡ f v = where_yes R (nat_eq k j) (f v) (rw same (eq_refl k)) in
+            let hit : where_true R (nat_eq k j) (f v) ≡ f v = where_yes R (nat_eq k j) (f v)
+            (rw same (eq_refl k)) in
             let old_is : old ≡ get_or row j z = read ∙ get_or_default row k old z within
             ∙ ap (λ m. get_or row m z) (sym same) in
             let written : get_or (set row k new) j z ≡ new = ap (λ m. get_or (set row k new) m z)

@@ -1,4 +1,5 @@
--- Lists of triplets and dense matrices of values that mean the same ring elements have one plain matrix.
+-- Lists of triplets, and dense matrices, whose values mean the same ring elements have one plain
+-- matrix.
 use Rattle.std.proofs.Common.{◌≡◌, ℕ, ◌+◌, ◌*◌, List, [], ◌∷◌, length, map, ap, sym}
 use Rattle.std.proofs.Common.{◌∙◌, refl}
 use Rattle.std.specs.Prelude.{◌||◌, ◌&&◌, nat_lt, slice_index_or}

@@ -1,4 +1,5 @@
--- A pattern each of whose places has its mirrored one is its own transpose, and values move to the mirrored places.
+-- A pattern each of whose places has its mirrored one is its own transpose, and values move to the
+-- mirrored places.
 use Rattle.std.proofs.Common.{◌≡◌, ℕ, ◌+◌, ◌<◌, ◌≤◌, ◌++◌, inl, inr, List, [], ◌∷◌, length, set}
 use Rattle.std.proofs.Common.{length-append, get_or, slice_get, slice_index, arith}
 use Rattle.std.proofs.Common.{sym, subst, ap, ◌∙◌}
@@ -60,16 +61,18 @@ module _ (d : Raw) (valid : IsValid d) where
             | inr e ↦
                 let same : q ≡ p = e ∙ count in
                 let lane : i ≡ j = one_lane d valid i j p here (subst (IsInLane d j) same at) in
-                subst (λ x. HasMirrored d vs (ws ++ v ∷ []) (slice_index d.indices x) j x) (sym same)
-                (subst (λ y. HasMirrored d vs (ws ++ v ∷ []) (slice_index d.indices p) y p) lane base)
+                let longer = ws ++ v ∷ [] in
+                subst (λ x. HasMirrored d vs longer (slice_index d.indices x) j x) (sym same)
+                (subst (λ y. HasMirrored d vs longer (slice_index d.indices p) y p) lane base)
           ]
         ]
 
     module _ (ws : List T) (all : AreMirrored d vs ws) (count : length ws ≡ length d.indices) where
       swapped : (i j : ℕ) → IsPlace d i j → IsPlace d j i
       swapped i j place =
-          let m = all i place.at place.in_lane (omega (arith, count, inside i place.at place.in_lane))
-          in record {
+          let m = all i place.at place.in_lane
+          (omega (arith, count, inside i place.at place.in_lane)) in
+          record {
             at = m.at;
             in_lane = subst (λ x. IsInLane d x m.at) place.index m.in_lane;
             index = m.index;
@@ -86,4 +89,5 @@ module _ (d : Raw) (valid : IsValid d) where
       moved_values i j p q in_i index_p in_j index_q =
           let m = all j q in_j (omega (arith, count, inside j q in_j)) in
           let here = subst (λ x. IsInLane d x m.at) index_q m.in_lane in
-          m.value ∙ ap (slice_get vs) (one_position d valid i m.at p here in_i (m.index ∙ sym index_p))
+          m.value
+          ∙ ap (slice_get vs) (one_position d valid i m.at p here in_i (m.index ∙ sym index_p))

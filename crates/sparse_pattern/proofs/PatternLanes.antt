@@ -1,12 +1,8 @@
 -- A lane of valid data, as a list and by its positions.
-use Rattle.std.proofs.Common.{◌≡◌, ℕ, zero, suc, ◌+◌, ◌-◌, ◌<◌, ◌≤◌, length, get_or, Result, Ok}
-use Rattle.std.proofs.Common.{Err, MatchResult, subst, sym, arith, ◌∙◌}
+use Rattle.std.proofs.Common.{◌≡◌, ℕ, zero, suc, ◌+◌, ◌-◌, ◌<◌, ◌≤◌, length, get_or, subst, arith}
 use Rattle.std.proofs.lemmas.Grind.{common_steps}
 use Rattle.std.proofs.lemmas.List.Edits.{length-between}
-use Rattle.std.proofs.lemmas.List.Sorted.{searched}
-use Rattle.std.specs.List.Sorted.{IsBinarySearchResult}
-use Rattle.std.specs.Ordering.{nat_cmp}
-use Rattle.sparse_pattern.specs.Raw.{Raw, start_of, end_of, lane_of, IsInLane, IsValidLane, IsPlace}
+use Rattle.sparse_pattern.specs.Raw.{Raw, start_of, end_of, lane_of, IsValidLane}
 
 module _ (d : Raw) (i : ℕ) (valid : IsValidLane d i) where
   pub length-lane : length (lane_of d i) ≡ end_of d i - start_of d i
@@ -45,28 +41,3 @@ module _ (d : Raw) (i : ℕ) (valid : IsValidLane d i) where
       rw (get_or-lane a (omega arith), get_or-lane b in_lane)
       (rises_at (start_of d i + a) (start_of d i + b) (omega arith) (omega arith)
       (omega (arith, length-lane)))
-
-  not_falling : (a b : ℕ) → a ≤ b → b < length (lane_of d i)
-      → get_or (lane_of d i) a 0 ≤ get_or (lane_of d i) b 0
-  not_falling a b le in_lane = grind (arith, lane_rises a b)
-
-  -- what a binary search in a lane finds
-  pub found : (j : ℕ) (r : Result ℕ ℕ) → i < d.major_dim
-      → IsBinarySearchResult (λ y. nat_cmp y j) (lane_of d i) r
-      → MatchResult r (λ k. IsInLane d i (start_of d i + k)
-      × (get_or d.indices (start_of d i + k) 0 ≡ j)) (λ _. IsPlace d i j → ⊥)
-  found j (Ok k) lane is =
-      let at = searched (lane_of d i) j (Ok k) is not_falling in (
-        record { lane = lane; from = omega arith; to = omega (arith, length-lane, at.0) },
-        sym (get_or-lane k at.0) ∙ at.1,
-      )
-  found j (Err k) lane is =
-      let gap = searched (lane_of d i) j (Err k) is not_falling in
-      λ place.
-      let s = start_of d i in
-      let n = place.at - s in
-      let inside : n < length (lane_of d i) = omega
-      (arith, length-lane, place.in_lane.from, place.in_lane.to) in
-      let back : s + n ≡ place.at = omega (arith, place.in_lane.from) in
-      let there : get_or (lane_of d i) n 0 ≡ j = get_or-lane n inside ∙ rw back place.index in
-      grind (arith, gap.1 n, gap.2 n)

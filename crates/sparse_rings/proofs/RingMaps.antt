@@ -60,7 +60,8 @@ module _ (R : CommRing) where
     neg = λ x. refl;
   }
 
-  pub imaginary-square : (gaussian_ring R).mul (R.zero, R.one) (R.zero, R.one) ≡ (R.neg R.one, R.zero)
+  pub imaginary-square : (gaussian_ring R).mul (R.zero, R.one) (R.zero, R.one)
+      ≡ (R.neg R.one, R.zero)
   imaginary-square = same_pair _ _
       (same_sum R _ _ _ _ (mul_zero R R.zero) (ap R.neg (R.laws.mul_one R.one))
       ∙ zero_add R (R.neg R.one))
