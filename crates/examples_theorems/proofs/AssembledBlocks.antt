@@ -1,6 +1,7 @@
 -- The triplets of a block, and the block in a matrix of zeros.
 use Rattle.std.proofs.Common.{◌≡◌, ℕ, ◌+◌, ◌*◌, ◌-◌, ◌<◌, ◌≤◌, inl, inr, Bool, true, false, ◌&&◌}
 use Rattle.std.proofs.Common.{List, [], ◌∷◌, length, get_or, map, ap, sym, ◌∙◌, refl, arith}
+use Rattle.std.proofs.Math.Bool.{or_assoc, or-false}
 use Rattle.std.specs.Prelude.{◌||◌, nat_le}
 use Rattle.std.specs.List.{list_any}
 use Rattle.std.proofs.lemmas.Bool.{cases_Bool}
@@ -15,7 +16,6 @@ use Rattle.nalgebra_sparse.specs.RingLemmas.{zero_add}
 use Rattle.nalgebra_sparse.specs.Sums.{sum_by, where_true}
 use Rattle.examples_theorems.specs.declared.assembly.Block.{Block}
 use Rattle.examples_theorems.specs.Assembly.{placed_block}
-use Rattle.examples_theorems.proofs.PlainTotals.{or_assoc, or_false}
 use Rattle.examples_theorems.proofs.FoldedBlocks.{fold_by, fold_block-within, fold_block-outside}
 
 -- ---- tests
@@ -61,11 +61,11 @@ module _ {T : Type 0} (r c : ℕ) (d : Dense T) (z : T)
       ∙ elim (cases_Bool (covers r c d i j)) [
         | inl hit ↦
             let at = covered r c d i j hit in
-            fold_block-within false (λ a b. a || b) (λ _. refl) or_false or_assoc i j (is_at i j)
+            fold_block-within false (λ a b. a || b) (λ _. refl) or-false or_assoc i j (is_at i j)
             (λ _. true) (is_at_own i j) (λ _ miss. miss) r c d z (j - c) (i - r) full at.row_end
             at.col_end (omega (arith, at.row)) (omega (arith, at.col)) ∙ sym hit
         | inr miss ↦
-            fold_block-outside false (λ a b. a || b) (λ _. refl) or_false or_assoc i j (is_at i j)
+            fold_block-outside false (λ a b. a || b) (λ _. refl) or-false or_assoc i j (is_at i j)
             (λ _. true) (is_at_own i j) (λ _ miss. miss) r c d (not_covered r c d i j miss) ∙ sym miss
       ]
 

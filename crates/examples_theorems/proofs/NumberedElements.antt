@@ -4,6 +4,7 @@ use Rattle.std.proofs.Common.{◌∷◌, ◌++◌, length, get_or, map, append_a
 use Rattle.std.proofs.Common.{add-one, ap, sym, ◌∙◌, refl, arith}
 use Rattle.std.specs.Prelude.{◌||◌, slice_index}
 use Rattle.std.specs.List.{list_any, flat_map}
+use Rattle.std.proofs.Math.Bool.{or-false}
 use Rattle.std.proofs.lemmas.Bool.Decides.{nat_tests}
 use Rattle.std.proofs.lemmas.Grind.{flat_map-append}
 use Rattle.std.proofs.lemmas.List.{append-nil, get_or_default}
@@ -20,7 +21,6 @@ use Rattle.nalgebra_sparse.specs.Sums.{sum_below, sum_by, where_true}
 use Rattle.examples_theorems.specs.declared.elements.Element.{Element}
 use Rattle.examples_theorems.specs.Elements.{IsNumbered, is_numbered_at, numbered_element}
 use Rattle.examples_theorems.specs.InnerElements.{element_triplet, row_triplets, element_triplets}
-use Rattle.examples_theorems.proofs.PlainTotals.{or_false}
 
 -- one number more
 flat_map-next : {X : Type 0} (h : ℕ → List X) (n : ℕ)
@@ -94,7 +94,7 @@ module _ (R : CommRing) {T : Type 0} (f : T → R.Carrier) (z : T) (zero_law : f
         ≡ (numbered_element R f nrows ncols e).has i j
     element-has i j = any-flat (is_at i j) (λ k. row_triplets z e k e.matrix.ncols) _
         (λ k. any-flat (is_at i j) (λ l. element_triplet z e k l ∷ []) _
-        (λ l. or_false (is_numbered_at e k l i j)) e.matrix.ncols) e.matrix.nrows
+        (λ l. or-false (is_numbered_at e k l i j)) e.matrix.ncols) e.matrix.nrows
 
     element-value : (i j : ℕ)
         → sum_by R (λ t. where_true R (is_at i j t) (f t.2)) (element_triplets z e e.matrix.nrows)

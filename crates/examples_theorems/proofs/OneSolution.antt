@@ -11,7 +11,7 @@ use Rattle.nalgebra_sparse.specs.Factors.{Factors, HavePivots, diagonal, plain_o
 use Rattle.nalgebra_sparse.specs.Factors.{symmetric_of}
 use Rattle.nalgebra_sparse.specs.Plain.{Plain, plain_product, plain_transpose}
 use Rattle.nalgebra_sparse.specs.PlainOfLanes.{plain_of_cols}
-use Rattle.nalgebra_sparse.specs.RingLemmas.{mul_zero, cancel}
+use Rattle.nalgebra_sparse.specs.RingLemmas.{zero_mul, cancel}
 use Rattle.nalgebra_sparse.specs.Solutions.{HasSameValues, IsSolution}
 use Rattle.nalgebra_sparse.specs.SumLemmas.{sum_below-same}
 use Rattle.nalgebra_sparse.specs.Sums.{sum_below, where_true}
@@ -51,11 +51,8 @@ module _ (R : CommRing) where
       ∙ R.laws.mul_comm R.one z ∙ R.laws.mul_one z in
       sym (back x) ∙ ap (R.mul unit.0) same ∙ back y
 
-  zero_mul : (c : R.Carrier) → R.mul R.zero c ≡ R.zero
-  zero_mul c = R.laws.mul_comm R.zero c ∙ mul_zero R c
-
   both_zero : (t x y : R.Carrier) → t ≡ R.zero → R.mul t x ≡ R.mul t y
-  both_zero t x y is = ap (λ c. R.mul c x) is ∙ zero_mul x ∙ sym (ap (λ c. R.mul c y) is ∙ zero_mul y)
+  both_zero t x y is = ap (λ c. R.mul c x) is ∙ zero_mul R x ∙ sym (ap (λ c. R.mul c y) is ∙ zero_mul R y)
 
   -- the rows of t give x and y the same values
   abbrev pub AreSolutions : ℕ → (ℕ → ℕ → R.Carrier) → (ℕ → R.Carrier) → (ℕ → R.Carrier) → Type 0

@@ -3,6 +3,7 @@ use Rattle.std.proofs.Common.{◌≡◌, ℕ, zero, suc, ◌+◌, ◌-◌, ◌<�
 use Rattle.std.proofs.Common.{◌≤◌, inl, inr, Bool, true, false, ◌&&◌}
 use Rattle.std.proofs.Common.{List, [], ◌∷◌, if◌then◌else◌, ap, sym, ◌∙◌, refl, arith}
 use Rattle.std.specs.Prelude.{◌||◌, nat_lt}
+use Rattle.std.proofs.Math.Bool.{and-false, and-or_distrib_left}
 use Rattle.std.proofs.lemmas.Bool.{cases_Bool}
 use Rattle.std.proofs.lemmas.Bool.Decides.{nat_tests}
 use Rattle.nalgebra_sparse.specs.Algebra.{CommRing}
@@ -21,14 +22,6 @@ pub same_bool : (b c : Bool) → (b ≡ true → c ≡ true) → (c ≡ true →
 same_bool true c h g = sym (h refl)
 same_bool false true h g = g refl
 same_bool false false h g = refl
-
-pub and-false : (b : Bool) → (b && false) ≡ false
-and-false true = refl
-and-false false = refl
-
-pub and-or : (b c d : Bool) → (b && (c || d)) ≡ ((b && c) || (b && d))
-and-or true c d = refl
-and-or false c d = refl
 
 any_below-none : (n : ℕ) → any_below n (λ k. false) ≡ false
 any_below-none zero = refl
@@ -101,7 +94,7 @@ module _ (R : CommRing) where
   block-sum a b start count = λ k. record {
     rows = count;
     cols = a.cols;
-    has = λ i j. sym (and-or (nat_lt i count) (a.has (start + i) j) (b.has (start + i) j)) k;
+    has = λ i j. sym (and-or_distrib_left (nat_lt i count) (a.has (start + i) j) (b.has (start + i) j)) k;
     value = λ i j. where_true-add (nat_lt i count) (a.value (start + i) j) (b.value (start + i) j) k;
   }
 

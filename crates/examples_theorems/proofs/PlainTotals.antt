@@ -4,6 +4,7 @@ use Rattle.std.proofs.Common.{List, [], ◌∷◌, ◌++◌, length, take}
 use Rattle.std.proofs.Common.{get_or, ap, sym, ◌∙◌, refl}
 use Rattle.std.specs.Prelude.{◌||◌}
 use Rattle.std.specs.List.{list_any}
+use Rattle.std.proofs.Math.Bool.{or-false}
 use Rattle.std.proofs.lemmas.List.{take_more}
 use Rattle.std.proofs.lemmas.List.Folds.{list_any-append}
 use Rattle.nalgebra_sparse.specs.Algebra.{CommRing}
@@ -14,14 +15,6 @@ use Rattle.nalgebra_sparse.specs.SumLemmas.{sum_by-append}
 use Rattle.nalgebra_sparse.specs.Sums.{sum_by, where_true}
 use Rattle.examples_theorems.specs.Assembly.{plain_total}
 
-pub or_assoc : (a b c : Bool) → ((a || b) || c) ≡ (a || (b || c))
-or_assoc true b c = refl
-or_assoc false b c = refl
-
-pub or_false : (b : Bool) → (b || false) ≡ b
-or_false true = refl
-or_false false = refl
-
 module _ (R : CommRing) where
   sum_by-push : {X : Type 0} (g : X → R.Carrier) (xs : List X) (x : X)
       → sum_by R g (xs ++ x ∷ []) ≡ R.add (sum_by R g xs) (g x)
@@ -31,7 +24,7 @@ module _ (R : CommRing) where
   list_any-push : {X : Type 0} (t : X → Bool) (xs : List X) (x : X)
       → list_any t (xs ++ x ∷ []) ≡ (list_any t xs || t x)
   list_any-push t xs x = list_any-append t xs (x ∷ [])
-      ∙ ap (λ b. list_any t xs || b) (or_false (t x))
+      ∙ ap (λ b. list_any t xs || b) (or-false (t x))
 
   module _ {T X : Type 0} (f : T → R.Carrier) (nrows ncols : ℕ) (g : X → Plain R) (m : Coo T)
       (xs : List X) (x : X) (ts : List (ℕ × ℕ × T)) where

@@ -3,6 +3,7 @@ use Rattle.std.proofs.Common.{◌≡◌, ℕ, ◌+◌, ◌-◌, inl, inr, Bool, 
 use Rattle.std.proofs.Common.{List, [], ◌∷◌, ap, sym, ◌∙◌, refl, arith}
 use Rattle.std.specs.Prelude.{◌||◌, nat_eq, nat_lt}
 use Rattle.std.specs.List.{flat_map, list_any}
+use Rattle.std.proofs.Math.Bool.{and-false, and-or_distrib_left, or-false}
 use Rattle.std.proofs.lemmas.Bool.{cases_Bool}
 use Rattle.std.proofs.lemmas.Bool.Decides.{nat_tests}
 use Rattle.std.proofs.lemmas.List.Folds.{list_any-append}
@@ -12,11 +13,7 @@ use Rattle.nalgebra_sparse.specs.SumLemmas.{sum_by-append}
 use Rattle.nalgebra_sparse.specs.Sums.{sum_by, where_true}
 use Rattle.examples_theorems.specs.RowBlocks.{row_block}
 use Rattle.examples_theorems.specs.InnerRowBlocks.{is_in_block, one_in_block}
-use Rattle.examples_theorems.proofs.PlainBlocks.{same_bool, and-false, and-or, where_true-add}
-
-or-false : (b : Bool) → (b || false) ≡ b
-or-false true = refl
-or-false false = refl
+use Rattle.examples_theorems.proofs.PlainBlocks.{same_bool, where_true-add}
 
 module _ (nrows ncols : ℕ) where
   -- whether (i, j) lies in the block
@@ -50,7 +47,7 @@ module _ {T : Type 0} (start nrows ncols : ℕ) where
       list_any-append (is_at i j) (one_in_block start nrows ncols t) rest
       ∙ ap (λ b. b || list_any (is_at i j) rest) (one-has i j t)
       ∙ ap (λ b. (covers nrows ncols i j && is_at (start + i) j t) || b) (all-has i j ts)
-      ∙ sym (and-or (covers nrows ncols i j) (is_at (start + i) j t) (list_any (is_at (start + i) j) ts))
+      ∙ sym (and-or_distrib_left (covers nrows ncols i j) (is_at (start + i) j t) (list_any (is_at (start + i) j) ts))
 
 module _ (R : CommRing) where
   where_both : (a b : Bool) (x : R.Carrier)

@@ -1,5 +1,5 @@
 -- Products with the solution of a symmetric system.
-use Rattle.std.proofs.Common.{◌≡◌, ℕ, zero, suc, ◌<◌, ◌≤◌, ◌⊎◌, inl, inr, length, max, ap, sym}
+use Rattle.std.proofs.Common.{◌≡◌, ℕ, ◌<◌, ◌≤◌, ◌⊎◌, inl, inr, length, max, ap, sym}
 use Rattle.std.proofs.Common.{subst, ◌∙◌, refl, arith}
 use Rattle.std.proofs.Math.Nat.{min-eq_left, min-eq_right, max-eq_left, max-eq_right}
 use Rattle.nalgebra_sparse.specs.Algebra.{CommRing}
@@ -11,19 +11,13 @@ use Rattle.nalgebra_sparse.specs.Factors.{symmetric_of}
 use Rattle.nalgebra_sparse.specs.Plain.{Plain, plain_product, plain_transpose}
 use Rattle.nalgebra_sparse.specs.PlainOfLanes.{plain_of_cols}
 use Rattle.nalgebra_sparse.specs.Solutions.{HasSameValues}
+use Rattle.nalgebra_sparse.specs.SumLemmas.{sum_below-same}
 use Rattle.nalgebra_sparse.specs.Sums.{sum_below}
 
 order : (i j : ℕ) → (i ≤ j) ⊎ (j ≤ i)
 order i j = grind arith
 
 module _ (R : CommRing) where
-  same_sum : (n : ℕ) (f g : ℕ → R.Carrier) → ((k : ℕ) → k < n → f k ≡ g k)
-      → sum_below R n f ≡ sum_below R n g
-  same_sum zero f g same = refl
-  same_sum (suc n) f g same =
-      ap (λ s. R.add s (f n)) (same_sum n f g (λ k lt. same k (omega arith)))
-      ∙ ap (R.add (sum_below R n g)) (same n (omega arith))
-
   -- a matrix that is its own transpose is its symmetric matrix
   symmetric_is : (a : Plain R) → plain_transpose R a ≡ a → (i j : ℕ)
       → (plain_symmetric R a).value i j ≡ a.value i j
@@ -42,7 +36,7 @@ module _ (R : CommRing) where
   product_is a f x b c n m cols same h equation solved times i j row _ =
       ap (λ (p : Plain R). p.value i j) times
       ∙ ap (λ s. sum_below R s (λ k. R.mul (a.value i k) (x.value k j))) cols
-      ∙ same_sum n (λ k. R.mul (a.value i k) (x.value k j))
+      ∙ sum_below-same R n (λ k. R.mul (a.value i k) (x.value k j))
       (λ k. R.mul (f.value i k) (x.value k j))
       (λ k lt. ap (λ v. R.mul v (x.value k j))
       (sym (equation i k row lt ∙ symmetric_is a h i k)))
