@@ -1,27 +1,30 @@
--- Steps of adding two lanes of entries.
-use Rattle.std.proofs.Common.{◌≡◌, ℕ, ◌+◌, ◌-◌, ◌<◌, ◌≤◌, ◌⊎◌, ◌↔◌, Bool, true, false, List, []}
+-- Two lanes of entries that are added while their indices are merged.
+use Rattle.std.proofs.Common.{◌≡◌, ℕ, ◌+◌, ◌<◌, ◌≤◌, ◌⊎◌, Bool, true, false, List, []}
 use Rattle.std.proofs.Common.{◌∷◌, ◌++◌, length, get_or, map, take, drop, Contains, length-append}
-use Rattle.std.proofs.Common.{append_assoc, ap, sym, subst, ◌∙◌, refl, arith}
+use Rattle.std.proofs.Common.{append_assoc, ap, sym, ◌∙◌, refl, arith}
 use Rattle.std.specs.Prelude.{nat_eq, zip}
 use Rattle.std.specs.List.Sorted.{IsStrictlyIncreasing}
 use Rattle.std.proofs.lemmas.List.{append-nil, get_or_default, length_push, length-map}
-use Rattle.std.proofs.lemmas.List.{append_cancel_left, length-take-le, length-drop}
-use Rattle.std.proofs.lemmas.List.{take-append-drop}
+use Rattle.std.proofs.lemmas.List.{length-take-le, length-drop, take-append-drop}
 use Rattle.sparse_algebra.specs.Algebra.{CommRing}
 use Rattle.sparse_algebra.specs.Sums.{sum_by, where_true}
 use Rattle.sparse_algebra.proofs.RingLemmas.{zero_add, add_cross}
 use Rattle.sparse_compressed.specs.InnerRows.{lane_value}
 use Rattle.sparse_compressed.proofs.RowSums.{sum_zip_more}
-use Rattle.sparse_pattern.specs.InnerGainedLanes.{GainsLane}
+use Rattle.sparse_sums.specs.InnerMerging.{IsMerged}
 use Rattle.sparse_sums.specs.InnerAdding.{GainsValues, GainsEntries, IsAdding}
 use Rattle.sparse_sums.proofs.Merging.{merging_first, merging_second, merging_both, none_merged}
-use Rattle.sparse_sums.proofs.Merging.{rest_merged}
+use Rattle.sparse_sums.proofs.Merging.{rest_merged, with_index}
 
 -- a sum where a test holds
 where_add : (R : CommRing) (b : Bool) (x y : R.Carrier)
     → where_true R b (R.add x y) ≡ R.add (where_true R b x) (where_true R b y)
 where_add R true x y = refl
 where_add R false x y = sym (R.laws.add_zero R.zero)
+
+where_zero : (R : CommRing) (b : Bool) → where_true R b R.zero ≡ R.zero
+where_zero R true = refl
+where_zero R false = refl
 
 module _ (R : CommRing) {T : Type 0} where
   -- the sum over pairs of two parts
@@ -81,111 +84,95 @@ module _ (R : CommRing) {T : Type 0} where
       ap (λ c. R.add (where_true R (nat_eq k j) c) (lane_value R f ks us j)) head
       ∙ ap (R.add (where_true R (nat_eq k j) (g v))) (lane_value-same f g ks us vs j tail)
 
-  module _ (f g : T → R.Carrier) (old : List ℕ) (us : List T) (a : List ℕ) (av : List T)
-      (b : List ℕ) (bv : List T) where
-    pub none_added : IsAdding R f g old old us us a av b bv 0 0
-    none_added = record {
-      indices = none_merged old a b;
-      values = [];
-      values_pushed = sym (append-nil us);
-      count = refl;
-      sums = λ j. sym (R.laws.add_zero R.zero);
+module _ (R : CommRing) {T : Type 0} (f g : T → R.Carrier) (old : List ℕ) (us : List T)
+    (a : List ℕ) (av : List T) (b : List ℕ) (bv : List T) where
+  pub none_added : IsAdding R f g old old us us a av b bv 0 0
+  none_added = record {
+    indices = none_merged old a b;
+    values = [];
+    values_pushed = sym (append-nil us);
+    count = refl;
+    sums = λ j. sym (R.laws.add_zero R.zero);
+  }
+
+  module _ (now : List ℕ) (ws : List T) (p q : ℕ) (ra : IsStrictlyIncreasing a)
+      (rb : IsStrictlyIncreasing b) (ca : length av ≡ length a) (cb : length bv ≡ length b)
+      (m : IsAdding R f g old now us ws a av b bv p q) (x : ℕ) (v : T) where
+    -- what the entry (x, c) adds to the value at j
+    abbrev at : ℕ → R.Carrier → R.Carrier
+    at j c = where_true R (nat_eq x j) c
+
+    abbrev A : ℕ → ℕ → R.Carrier
+    A p j = lane_value R f (take p a) (take p av) j
+
+    abbrev B : ℕ → ℕ → R.Carrier
+    B q j = lane_value R g (take q b) (take q bv) j
+
+    -- the entry (x, v), where v means c of the first lane and d of the second
+    adding_more : {p' q' : ℕ} → IsMerged a b p' q' (m.indices.lane ++ x ∷ [])
+        → {c d : R.Carrier} → f v ≡ R.add c d → ((j : ℕ) → A p' j ≡ R.add (A p j) (at j c))
+        → ((j : ℕ) → B q' j ≡ R.add (B q j) (at j d))
+        → IsAdding R f g old (now ++ x ∷ []) us (ws ++ v ∷ []) a av b bv p' q'
+    adding_more {p'} merged {c} {d} is more_a more_b = record {
+      indices = with_index m.indices x merged;
+      values = m.values ++ v ∷ [];
+      values_pushed = ap (λ l. l ++ v ∷ []) m.values_pushed ∙ append_assoc us m.values (v ∷ []);
+      count = length_push m.values v ∙ ap (λ n. n + 1) m.count
+          ∙ sym (length_push m.indices.lane x);
+      sums = λ j. lane_value-append R f m.indices.lane (x ∷ []) m.values (v ∷ []) j m.count
+          ∙ ap (R.add (lane_value R f m.indices.lane m.values j)) (lane_value_one R f x j v
+          ∙ ap (at j) is ∙ where_add R (nat_eq x j) c d)
+          ∙ ap (λ s. R.add s (R.add (at j c) (at j d))) (m.sums j)
+          ∙ add_cross R (A p j) (B q j) (at j c) (at j d)
+          ∙ ap (λ s. R.add s (R.add (B q j) (at j d))) (sym (more_a j))
+          ∙ ap (R.add (A p' j)) (sym (more_b j));
     }
 
-    module _ (now : List ℕ) (ws : List T) (p q : ℕ) (ra : IsStrictlyIncreasing a)
-        (rb : IsStrictlyIncreasing b) (ca : length av ≡ length a) (cb : length bv ≡ length b)
-        (m : IsAdding R f g old now us ws a av b bv p q) (x : ℕ) (v : T) where
-      A : ℕ → R.Carrier
-      A j = lane_value R f (take p a) (take p av) j
+    -- no entry of a lane
+    none_more : (j : ℕ) (s : R.Carrier) → s ≡ R.add s (at j R.zero)
+    none_more j s = sym (ap (R.add s) (where_zero R (nat_eq x j)) ∙ R.laws.add_zero s)
 
-      B : ℕ → R.Carrier
-      B j = lane_value R g (take q b) (take q bv) j
+    pub adding_first : (lt : p < length a) → (is : x ≡ get_or a p 0)
+        → (q < length b → x < get_or b q 0) → v ≡ get_or av p v
+        → IsAdding R f g old (now ++ x ∷ []) us (ws ++ v ∷ []) a av b bv (p + 1) q
+    adding_first lt is before read = adding_more
+        (merging_first m.indices x ra rb lt is before).merged (sym (R.laws.add_zero (f v)))
+        (λ j. lane_value_more R f a av p x j v lt ca is read) (λ j. none_more j (B q j))
 
-      w : ℕ → R.Carrier → R.Carrier
-      w j c = where_true R (nat_eq x j) c
+    pub adding_second : (lt : q < length b) → (is : x ≡ get_or b q 0)
+        → (p < length a → x < get_or a p 0) → (t : T) → t ≡ get_or bv q t → f v ≡ g t
+        → IsAdding R f g old (now ++ x ∷ []) us (ws ++ v ∷ []) a av b bv p (q + 1)
+    adding_second lt is before t read same = adding_more
+        (merging_second m.indices x ra rb lt is before).merged (same ∙ sym (zero_add R (g t)))
+        (λ j. none_more j (A p j)) (λ j. lane_value_more R g b bv q x j t lt cb is read)
 
-      -- the lane and its values with one entry more
-      one_more : (j : ℕ) → lane_value R f (m.indices.lane ++ x ∷ []) (m.values ++ v ∷ []) j
-          ≡ R.add (R.add (A j) (B j)) (w j (f v))
-      unfolding A B w
-      one_more j = lane_value-append f m.indices.lane (x ∷ []) m.values (v ∷ []) j m.count
-          ∙ ap (R.add (lane_value R f m.indices.lane m.values j)) (lane_value_one f x j v)
-          ∙ ap (λ c. R.add c (where_true R (nat_eq x j) (f v))) (m.sums j)
+    pub adding_both : (lt : p < length a) → (lt' : q < length b) → (is : x ≡ get_or a p 0)
+        → (is' : x ≡ get_or b q 0)
+        → (s t : T) → s ≡ get_or av p s → t ≡ get_or bv q t → f v ≡ R.add (f s) (g t)
+        → IsAdding R f g old (now ++ x ∷ []) us (ws ++ v ∷ []) a av b bv (p + 1) (q + 1)
+    adding_both lt lt' is is' s t read read' sum = adding_more
+        (merging_both m.indices x ra rb lt lt' is is').merged sum
+        (λ j. lane_value_more R f a av p x j s lt ca is read)
+        (λ j. lane_value_more R g b bv q x j t lt' cb is' read')
 
-      pushed_more : ws ++ v ∷ [] ≡ us ++ (m.values ++ v ∷ [])
-      pushed_more = ap (λ l. l ++ v ∷ []) m.values_pushed ∙ append_assoc us m.values (v ∷ [])
+-- ---- what is left of both lanes, one of which is traversed
 
-      count_more : length (m.values ++ v ∷ []) ≡ length (m.indices.lane ++ x ∷ [])
-      count_more = length_push m.values v ∙ ap (λ n. n + 1) m.count
-          ∙ sym (length_push m.indices.lane x)
-
-      pub adding_first : (lt : p < length a) → (is : x ≡ get_or a p 0)
-          → (q < length b → x < get_or b q 0)
-          → v ≡ get_or av p v
-          → IsAdding R f g old (now ++ x ∷ []) us (ws ++ v ∷ []) a av b bv (p + 1) q
-      unfolding A B w
-      adding_first lt is before read = record {
-        indices = merging_first old now a b p q ra rb m.indices x lt is before;
-        values = m.values ++ v ∷ [];
-        values_pushed = pushed_more;
-        count = count_more;
-        sums = λ j. one_more j ∙ swap_last (A j) (B j) (w j (f v))
-            ∙ ap (λ c. R.add c (B j)) (sym (lane_value_more f a av p x j v lt ca is read));
-      }
-        where
-          swap_last : (a b c : R.Carrier) → R.add (R.add a b) c ≡ R.add (R.add a c) b
-          swap_last a b c = R.laws.add_assoc a b c ∙ ap (R.add a) (R.laws.add_comm b c)
-              ∙ sym (R.laws.add_assoc a c b)
-
-      pub adding_second : (lt : q < length b) → (is : x ≡ get_or b q 0)
-          → (p < length a → x < get_or a p 0)
-          → (t : T) → t ≡ get_or bv q t → f v ≡ g t
-          → IsAdding R f g old (now ++ x ∷ []) us (ws ++ v ∷ []) a av b bv p (q + 1)
-      unfolding A B w
-      adding_second lt is before t read same = record {
-        indices = merging_second old now a b p q ra rb m.indices x lt is before;
-        values = m.values ++ v ∷ [];
-        values_pushed = pushed_more;
-        count = count_more;
-        sums = λ j. one_more j ∙ R.laws.add_assoc (A j) (B j) (w j (f v))
-            ∙ ap (λ c. R.add (A j) (R.add (B j) (w j c))) same
-            ∙ ap (R.add (A j)) (sym (lane_value_more g b bv q x j t lt cb is read));
-      }
-
-      pub adding_both : (lt : p < length a) → (lt' : q < length b) → (is : x ≡ get_or a p 0)
-          → (is' : x ≡ get_or b q 0)
-          → (s t : T) → s ≡ get_or av p s → t ≡ get_or bv q t → f v ≡ R.add (f s) (g t)
-          → IsAdding R f g old (now ++ x ∷ []) us (ws ++ v ∷ []) a av b bv (p + 1) (q + 1)
-      unfolding A B w
-      adding_both lt lt' is is' s t read read' sum = record {
-        indices = merging_both old now a b p q ra rb m.indices x lt lt' is is';
-        values = m.values ++ v ∷ [];
-        values_pushed = pushed_more;
-        count = count_more;
-        sums = λ j.
-            one_more j ∙ ap (λ c. R.add (R.add (A j) (B j)) (w j c)) sum
-            ∙ ap (R.add (R.add (A j) (B j))) (where_add R (nat_eq x j) (f s) (g t))
-            ∙ add_cross R (A j) (B j) (w j (f s)) (w j (g t))
-            ∙ ap (λ c. R.add c (R.add (B j) (w j (g t))))
-            (sym (lane_value_more f a av p x j s lt ca is read))
-            ∙ ap (R.add (lane_value R f (take (p + 1) a) (take (p + 1) av) j))
-            (sym (lane_value_more g b bv q x j t lt' cb is' read'));
-      }
-
--- the lane that was appended
-pub gained_lane : (old lane : List ℕ) (P : ℕ → Type 0) → GainsLane old (old ++ lane) P
-    → IsStrictlyIncreasing lane × ((j : ℕ) → Contains lane j ↔ P j)
-gained_lane old lane P gains =
-    let same : gains.lane ≡ lane = append_cancel_left old gains.lane lane (sym gains.pushed) in (
-      subst IsStrictlyIncreasing same gains.rising,
-      λ j. subst (λ l. Contains l j ↔ P j) same
-          (gains.holds j),
-    )
+rest_count : {R : CommRing} {T : Type 0} {f g : T → R.Carrier} {old new : List T} (ks : List ℕ)
+    (vs : List T) (n : ℕ) (gains : GainsValues R f g old new (drop n vs))
+    → length vs ≡ length ks → length gains.values ≡ length (drop n ks)
+rest_count {f = f} {g} ks vs n gains long = omega (
+  arith,
+  length-map gains.values f,
+  ap length gains.meaning,
+  length-map (drop n vs) g,
+  length-drop n vs,
+  length-drop n ks,
+  long,
+)
 
 module _ (R : CommRing) {T : Type 0} (f g : T → R.Carrier) (old : List ℕ) (us : List T) (a : List ℕ)
     (av : List T) (b : List ℕ) (bv : List T) (ra : IsStrictlyIncreasing a)
     (rb : IsStrictlyIncreasing b) (ca : length av ≡ length a) (cb : length bv ≡ length b) where
-  -- what is left of both lanes, one of which is traversed, is appended
   pub rest_added : (now : List ℕ) (ws mid new : List T) (p q : ℕ) → p ≤ length a → q ≤ length b
       → (p ≡ length a) ⊎ (q ≡ length b) → IsAdding R f g old now us ws a av b bv p q
       → GainsValues R f f ws mid (drop p av) → GainsValues R f g mid new (drop q bv)
@@ -193,22 +180,10 @@ module _ (R : CommRing) {T : Type 0} (f g : T → R.Carrier) (old : List ℕ) (u
       (λ j. Contains a j ⊎ Contains b j) (λ j. R.add (lane_value R f a av j)
       (lane_value R g b bv j))
   rest_added now ws mid new p q p_le q_le end m front more =
+      let gains = rest_merged ra rb end m.indices in
       let lane = m.indices.lane in
-      let whole = (lane ++ drop p a) ++ drop q b in
-      let values = (m.values ++ front.values) ++ more.values in
-      let is_whole : (now ++ drop p a) ++ drop q b ≡ old ++ whole =
-      ap (λ l. (l ++ drop p a) ++ drop q b) m.indices.pushed
-      ∙ ap (λ l. l ++ drop q b) (append_assoc old lane (drop p a))
-      ∙ append_assoc old (lane ++ drop p a) (drop q b) in
-      let gains = rest_merged old a b ra rb now p q p_le q_le end m.indices in
-      let is = gained_lane old whole (λ j. Contains a j ⊎ Contains b j)
-      (subst (λ l. GainsLane old l (λ j. Contains a j ⊎ Contains b j)) is_whole gains) in
-      let long_front : length front.values ≡ length (drop p a) = sym (length-map front.values f)
-      ∙ ap length front.meaning ∙ length-map (drop p av) f ∙ length-drop p av
-      ∙ ap (λ n. n - p) ca ∙ sym (length-drop p a) in
-      let long_rest : length more.values ≡ length (drop q b) = sym (length-map more.values f)
-      ∙ ap length more.meaning ∙ length-map (drop q bv) g ∙ length-drop q bv
-      ∙ ap (λ n. n - q) cb ∙ sym (length-drop q b) in
+      let long_front = rest_count a av p front ca in
+      let long_rest = rest_count b bv q more cb in
       let count_front : length (m.values ++ front.values) ≡ length (lane ++ drop p a) =
       omega (
         arith,
@@ -217,13 +192,12 @@ module _ (R : CommRing) {T : Type 0} (f g : T → R.Carrier) (old : List ℕ) (u
         m.count,
         long_front,
       ) in
-      let front_pushed : mid ≡ us ++ (m.values ++ front.values) = front.pushed
-      ∙ ap (λ l. l ++ front.values) m.values_pushed ∙ append_assoc us m.values front.values in
       record {
-        lane = whole;
-        values = values;
-        pushed = is_whole;
-        values_pushed = more.pushed ∙ ap (λ l. l ++ more.values) front_pushed
+        lane = (lane ++ drop p a) ++ drop q b;
+        values = (m.values ++ front.values) ++ more.values;
+        pushed = gains.pushed;
+        values_pushed = more.pushed ∙ ap (λ l. l ++ more.values) (front.pushed
+            ∙ ap (λ l. l ++ front.values) m.values_pushed ∙ append_assoc us m.values front.values)
             ∙ append_assoc us (m.values ++ front.values) more.values;
         count = omega (
           arith,
@@ -232,16 +206,17 @@ module _ (R : CommRing) {T : Type 0} (f g : T → R.Carrier) (old : List ℕ) (u
           count_front,
           long_rest,
         );
-        rising = is.0;
-        holds = is.1;
+        rising = gains.rising;
+        holds = gains.holds;
         sums = λ j.
             let A = lane_value R f (take p a) (take p av) j in
             let A' = lane_value R f (drop p a) (drop p av) j in
             let B = lane_value R g (take q b) (take q bv) j in
             let B' = lane_value R g (drop q b) (drop q bv) j in
-            let fronts : lane_value R f (lane ++ drop p a) (m.values ++ front.values) j ≡ R.add
-            (R.add A B) A' = lane_value-append R f lane (drop p a) m.values front.values j
-            m.count ∙ ap (R.add (lane_value R f lane m.values j))
+            let fronts : lane_value R f (lane ++ drop p a) (m.values ++ front.values) j
+            ≡ R.add (R.add A B) A' =
+            lane_value-append R f lane (drop p a) m.values front.values j m.count
+            ∙ ap (R.add (lane_value R f lane m.values j))
             (lane_value-same R f f (drop p a) front.values (drop p av) j front.meaning)
             ∙ ap (λ c. R.add c A') (m.sums j) in
             lane_value-append R f (lane ++ drop p a) (drop q b) (m.values ++ front.values)

@@ -1,62 +1,18 @@
--- Steps of merging two rising lists of indices.
-use Rattle.std.proofs.Common.{◌≡◌, ℕ, zero, suc, ◌+◌, ◌-◌, ◌<◌, ◌≤◌, ◌⊎◌, inl, inr, ◌↔◌, List, []}
-use Rattle.std.proofs.Common.{◌∷◌, ◌++◌, length, get_or, take, drop, Contains, append_assoc, cond}
-use Rattle.std.proofs.Common.{Result, Ok, Err, is_ok, OnOk, ap, sym, subst, ◌∙◌, refl, arith}
+-- Two rising lists of indices that are merged: each step appends the least index that is left.
+use Rattle.std.proofs.Common.{◌≡◌, ℕ, ◌+◌, ◌<◌, ◌≤◌, ◌⊎◌, inl, inr, ◌↔◌, List, []}
+use Rattle.std.proofs.Common.{◌∷◌, ◌++◌, length, get_or, take, drop, Contains, append_assoc}
+use Rattle.std.proofs.Common.{ap, sym, subst, ◌∙◌, refl, arith, length-drop}
 use Rattle.std.specs.List.Sorted.{IsStrictlyIncreasing}
-use Rattle.std.proofs.lemmas.List.{append-nil, take_more, take_all, drop_all, drop_more}
-use Rattle.std.proofs.lemmas.List.{get_or_append_left, get_or_push, length_push}
+use Rattle.std.proofs.lemmas.List.{append-nil, take_more, get_or-drop, length_push}
+use Rattle.std.proofs.lemmas.List.{take-append-drop, get_or_default, get_or-take, length-take-le}
+use Rattle.std.proofs.lemmas.List.Kept.{AllPairs-from_increasing}
+use Rattle.std.proofs.lemmas.List.Elements.{Contains-append_cases, Contains-append_left}
+use Rattle.std.proofs.lemmas.List.Elements.{Contains-append_right}
 use Rattle.std.proofs.lemmas.List.Elements.{Contains-push, Contains-push_cases}
-use Rattle.std.proofs.lemmas.List.Elements.{Contains-append_left, Contains-get_or}
-use Rattle.sparse_algebra.proofs.Cases.{lt_add_one_cases}
+use Rattle.sparse_algebra.proofs.Cases.{lt_or_ge}
 use Rattle.sparse_pattern.specs.InnerGainedLanes.{GainsLane}
 use Rattle.sparse_sums.specs.InnerMerging.{IsMerged, IsMerging}
-
--- a rising list stays so with a greater element at its end
-pub rising_push : (xs : List ℕ) (x : ℕ) → IsStrictlyIncreasing xs
-    → ((j : ℕ) → Contains xs j → j < x) → IsStrictlyIncreasing (xs ++ x ∷ [])
-rising_push xs x rising below k lt =
-    elim (lt_add_one_cases (k + 1) (length xs) (omega (arith, length_push xs x))) [
-      | inl inside ↦ omega (
-        arith,
-        get_or_append_left xs (x ∷ []) 0 k (omega arith),
-        get_or_append_left xs (x ∷ []) 0 (k + 1) inside,
-        rising k inside,
-      )
-      | inr last ↦ omega (
-        arith,
-        get_or_append_left xs (x ∷ []) 0 k (omega arith),
-        get_or_push xs x 0 (k + 1) (sym last),
-        below (get_or xs k 0)
-            (Contains-get_or xs k 0 (omega arith)),
-      )
-    ]
-
-pub swapped : (a b : List ℕ) (p q : ℕ) (lane : List ℕ) → IsMerged a b p q lane
-    → IsMerged b a q p lane
-swapped a b p q lane m = record {
-  rising = m.rising;
-  holds = λ j. (
-    λ h. elim ((m.holds j).0 h) [ inl x ↦ inr x | inr y ↦ inl y ],
-    λ h. (m.holds j).1 (elim h [ inl y ↦ inr y | inr x ↦ inl x ]),
-  );
-  below_a = m.below_b;
-  below_b = m.below_a;
-  long = omega (arith, m.long);
-}
-
--- one element more of a prefix
-pub more : (xs : List ℕ) (p x j : ℕ) → p < length xs → x ≡ get_or xs p 0
-    → Contains (take (p + 1) xs) j ↔ (Contains (take p xs) j ⊎ (x ≡ j))
-more xs p x j lt is =
-    let e : take (p + 1) xs ≡ take p xs ++ x ∷ [] = take_more xs p 0 lt
-    ∙ ap (λ y. take p xs ++ y ∷ []) (sym is) in (
-      λ h. Contains-push_cases (take p xs) x j (subst (λ l. Contains l j) e h),
-      λ h. subst (λ l. Contains l j) (sym e) (elim h [
-        | inl old ↦ Contains-append_left (take p xs) (x ∷ []) j old
-        | inr same ↦ subst (λ k. Contains (take p xs ++ x ∷ []) k) same
-            (Contains-push (take p xs) x)
-      ]),
-    )
+use Rattle.sparse_sums.proofs.GainedLanes.{gains_lane, gains_next, rising_append}
 
 pushed_has : (xs : List ℕ) (x j : ℕ) → Contains (xs ++ x ∷ []) j ↔ (Contains xs j ⊎ (x ≡ j))
 pushed_has xs x j = (
@@ -67,83 +23,66 @@ pushed_has xs x j = (
   ],
 )
 
-module _ (a b : List ℕ) (p q : ℕ) (lane : List ℕ) (ra : IsStrictlyIncreasing a)
-    (rb : IsStrictlyIncreasing b) (m : IsMerged a b p q lane) (x : ℕ) where
-  -- the next index of a comes before those left of b
-  pub first_taken : p < length a → x ≡ get_or a p 0 → (q < length b → x < get_or b q 0)
-      → IsMerged a b (p + 1) q (lane ++ x ∷ [])
-  first_taken lt is before = record {
-    rising = rising_push lane x m.rising (λ j h. omega (arith, m.below_a lt j h));
-    holds = λ j.
-        let new = pushed_has lane x j in
-        let front = more a p x j lt is in (
-          λ h. elim (new.0 h) [
-            | inl old ↦ elim ((m.holds j).0 old) [
-              | inl in_a ↦ inl (front.1 (inl in_a))
-              | inr in_b ↦
-                  inr in_b
-            ]
-            | inr same ↦ inl (front.1 (inr same))
-          ],
-          λ h. new.1 (elim h [
-            | inl in_a ↦ elim (front.0 in_a) [
-              | inl old ↦ inl ((m.holds j).1 (inl old))
-              | inr same ↦
-                  inr same
-            ]
-            | inr in_b ↦ inl ((m.holds j).1 (inr in_b))
-          ]),
-        );
-    below_a = λ left j h. elim ((pushed_has lane x j).0 h) [
-      | inl old ↦ omega (arith, m.below_a lt j old, ra p left)
-      | inr same ↦ omega (arith, ra p left)
-    ];
-    below_b = λ left j h. elim ((pushed_has lane x j).0 h) [
-      | inl old ↦ m.below_b left j old
-      | inr same ↦ omega (arith, before left)
-    ];
-    long = omega (arith, length_push lane x, m.long);
-  }
+-- one element more of a prefix
+pub more : (xs : List ℕ) (p x j : ℕ) → p < length xs → x ≡ get_or xs p 0
+    → Contains (take (p + 1) xs) j ↔ (Contains (take p xs) j ⊎ (x ≡ j))
+more xs p x j lt is =
+    let e : take (p + 1) xs ≡ take p xs ++ x ∷ [] = take_more xs p 0 lt
+    ∙ ap (λ y. take p xs ++ y ∷ []) (sym is) in
+    rw e (pushed_has (take p xs) x j)
 
-  -- the next index of a is the next one of b
-  pub both_taken : p < length a → q < length b → x ≡ get_or a p 0 → x ≡ get_or b q 0
-      → IsMerged a b (p + 1) (q + 1) (lane ++ x ∷ [])
-  both_taken lt lt' is is' = record {
-    rising = rising_push lane x m.rising (λ j h. omega (arith, m.below_a lt j h));
-    holds = λ j.
-        let new = pushed_has lane x j in
-        let front = more a p x j lt is in
-        let other = more b q x j lt' is' in (
-          λ h. elim (new.0 h) [
-            | inl old ↦ elim ((m.holds j).0 old) [
-              | inl in_a ↦ inl (front.1 (inl in_a))
-              | inr in_b ↦
-                  inr (other.1 (inl in_b))
-            ]
-            | inr same ↦ inl (front.1 (inr same))
-          ],
-          λ h. new.1 (elim h [
-            | inl in_a ↦ elim (front.0 in_a) [
-              | inl old ↦ inl ((m.holds j).1 (inl old))
-              | inr same ↦
-                  inr same
-            ]
-            | inr in_b ↦ elim (other.0 in_b) [
-              | inl old ↦ inl ((m.holds j).1 (inr old))
-              | inr same ↦
-                  inr same
-            ]
-          ]),
-        );
-    below_a = λ left j h. elim ((pushed_has lane x j).0 h) [
-      | inl old ↦ omega (arith, m.below_a lt j old, ra p left)
-      | inr same ↦ omega (arith, ra p left)
-    ];
-    below_b = λ left j h. elim ((pushed_has lane x j).0 h) [
-      | inl old ↦ omega (arith, m.below_b lt' j old, rb q left)
-      | inr same ↦ omega (arith, rb q left)
-    ];
-    long = omega (arith, length_push lane x, m.long);
+-- an element of a rising list is greater than those before it
+pub front_less : (xs : List ℕ) (p j : ℕ) → IsStrictlyIncreasing xs → p < length xs
+    → Contains (take p xs) j → j < get_or xs p 0
+front_less xs p j rising lt h =
+    let before : h.0 < p = omega (arith, h.1, length-take-le p xs (omega arith)) in
+    let is : get_or xs h.0 0 ≡ j = get_or_default xs h.0 0 j (omega arith)
+    ∙ sym (get_or-take p xs h.0 j before) ∙ h.2 in
+    omega (arith, AllPairs-from_increasing xs rising h.0 p 0 before lt, is)
+
+-- ---- a step
+
+-- the index x is passed in a list, from position p to p': it is the one at p, or comes before it
+pub record IsPassing (xs : List ℕ) (x p p' : ℕ) : Type 0 where
+  pub has : (j : ℕ) → Contains (take p' xs) j → Contains (take p xs) j ⊎ (x ≡ j)
+  pub kept : (j : ℕ) → Contains (take p xs) j → Contains (take p' xs) j
+  pub later : p' < length xs → x < get_or xs p' 0
+
+pub passing_at : (xs : List ℕ) (x p : ℕ) → IsStrictlyIncreasing xs → p < length xs
+    → x ≡ get_or xs p 0 → IsPassing xs x p (p + 1)
+passing_at xs x p rising lt is = record {
+  has = λ j. (more xs p x j lt is).0;
+  kept = λ j h. (more xs p x j lt is).1 (inl h);
+  later = λ left. omega (arith, rising p left, is);
+}
+
+pub passing_before : (xs : List ℕ) (x p : ℕ) → (p < length xs → x < get_or xs p 0)
+    → IsPassing xs x p p
+passing_before xs x p before = record {
+  has = λ j h. inl h;
+  kept = λ j h. h;
+  later = before;
+}
+
+module _ {a b : List ℕ} {p q p' q' : ℕ} {lane : List ℕ} {x : ℕ} (m : IsMerged a b p q lane)
+    (in_a : IsPassing a x p p') (in_b : IsPassing b x q q') where
+  -- x is the next of a list, and comes before what is left of both
+  pub merged_more : ((j : ℕ) → Contains lane j → j < x)
+      → Contains (take p' a) x ⊎ Contains (take q' b) x → p + q < p' + q'
+      → IsMerged a b p' q' (lane ++ x ∷ [])
+  merged_more below taken longer = record {
+    rising = rising_append lane (x ∷ []) m.rising (λ k lt. absurd (omega (arith, lt)))
+        (λ i j here there. grind (arith, below i here, pushed_has [] x j, there));
+    holds = λ j. (
+      λ h. elim ((pushed_has lane x j).0 h) [
+        | inl old ↦ grind (arith, m.holds j, in_a.kept j, in_b.kept j, old)
+        | inr same ↦ subst (λ j. Contains (take p' a) j ⊎ Contains (take q' b) j) same taken
+      ],
+      λ h. grind (arith, pushed_has lane x j, m.holds j, in_a.has j, in_b.has j, h),
+    );
+    below_a = λ left j h. grind (arith, pushed_has lane x j, below j, in_a.later);
+    below_b = λ left j h. grind (arith, pushed_has lane x j, below j, in_b.later);
+    long = omega (arith, length_push lane x, m.long, longer);
   }
 
 abbrev pub none_merged : (old a b : List ℕ) → IsMerging old old a b 0 0
@@ -159,100 +98,112 @@ none_merged old a b = record {
   };
 }
 
-module _ (old now a b : List ℕ) (p q : ℕ) (ra : IsStrictlyIncreasing a)
-    (rb : IsStrictlyIncreasing b) (m : IsMerging old now a b p q) (x : ℕ) where
-  abbrev longer : (p' q' : ℕ) → IsMerged a b p' q' (m.lane ++ x ∷ [])
+module _ {old now a b : List ℕ} {p q : ℕ} (m : IsMerging old now a b p q) (x : ℕ) where
+  abbrev pub with_index : {p' q' : ℕ} → IsMerged a b p' q' (m.lane ++ x ∷ [])
       → IsMerging old (now ++ x ∷ []) a b p' q'
-  longer p' q' merged = record {
+  with_index merged = record {
     lane = m.lane ++ x ∷ [];
     pushed = ap (λ l. l ++ x ∷ []) m.pushed ∙ append_assoc old m.lane (x ∷ []);
     merged = merged;
   }
 
-  abbrev pub merging_first : p < length a → x ≡ get_or a p 0 → (q < length b → x < get_or b q 0)
-      → IsMerging old (now ++ x ∷ []) a b (p + 1) q
-  merging_first lt is before = longer (p + 1) q
-      (first_taken a b p q m.lane ra rb m.merged x lt is before)
+  module _ (ra : IsStrictlyIncreasing a) (rb : IsStrictlyIncreasing b) where
+    abbrev pub merging_first : p < length a → x ≡ get_or a p 0 → (q < length b → x < get_or b q 0)
+        → IsMerging old (now ++ x ∷ []) a b (p + 1) q
+    merging_first lt is before = with_index
+        (merged_more m.merged (passing_at a x p ra lt is) (passing_before b x q before)
+        (λ j h. omega (arith, m.merged.below_a lt j h)) (inl ((more a p x x lt is).1 (inr refl)))
+        (omega arith))
 
-  abbrev pub merging_second : q < length b → x ≡ get_or b q 0 → (p < length a → x < get_or a p 0)
-      → IsMerging old (now ++ x ∷ []) a b p (q + 1)
-  merging_second lt is before = longer p (q + 1)
-      (swapped b a (q + 1) p (m.lane ++ x ∷ [])
-      (first_taken b a q p m.lane rb ra (swapped a b p q m.lane m.merged) x lt is before))
+    abbrev pub merging_second : q < length b → x ≡ get_or b q 0 → (p < length a → x < get_or a p 0)
+        → IsMerging old (now ++ x ∷ []) a b p (q + 1)
+    merging_second lt is before = with_index
+        (merged_more m.merged (passing_before a x p before) (passing_at b x q rb lt is)
+        (λ j h. omega (arith, m.merged.below_b lt j h)) (inr ((more b q x x lt is).1 (inr refl)))
+        (omega arith))
 
-  abbrev pub merging_both : p < length a → q < length b → x ≡ get_or a p 0 → x ≡ get_or b q 0
-      → IsMerging old (now ++ x ∷ []) a b (p + 1) (q + 1)
-  merging_both lt lt' is is' = longer (p + 1) (q + 1)
-      (both_taken a b p q m.lane ra rb m.merged x lt lt' is is')
+    abbrev pub merging_both : p < length a → q < length b → x ≡ get_or a p 0 → x ≡ get_or b q 0
+        → IsMerging old (now ++ x ∷ []) a b (p + 1) (q + 1)
+    merging_both lt lt' is is' = with_index
+        (merged_more m.merged (passing_at a x p ra lt is) (passing_at b x q rb lt' is')
+        (λ j h. omega (arith, m.merged.below_a lt j h)) (inl ((more a p x x lt is).1 (inr refl)))
+        (omega arith))
 
--- what is left of a list is its next element and what is left after it
-next_left : (xs : List ℕ) (p : ℕ) → p < length xs → drop p xs ≡ get_or xs p 0 ∷ drop (p + 1) xs
-next_left xs p lt = drop_more xs p 0 lt
+-- ---- what is left of both lists, one of which is traversed
 
-module _ (old a b : List ℕ) (q : ℕ) (ra : IsStrictlyIncreasing a) (rb : IsStrictlyIncreasing b)
-    (none : length b ≤ q) where
-  -- what is left of a is appended where nothing is left of b
-  pub rest_first : (n p : ℕ) (now : List ℕ) → p + n ≡ length a → IsMerging old now a b p q
-      → IsMerging old (now ++ drop p a) a b (length a) q
-  rest_first zero p now e m =
-      let end : p ≡ length a = omega arith in
-      rw (end, drop_all (length a) a (omega arith), append-nil now)
-      (subst (λ k. IsMerging old now a b k q) end m)
-  rest_first (suc n) p now e m =
-      let x = get_or a p 0 in
-      let lt : p < length a = omega arith in
-      rw (next_left a p lt, ← append_assoc now (x ∷ []) (drop (p + 1) a))
-      (rest_first n (p + 1) (now ++ x ∷ []) (omega arith)
-      (merging_first old now a b p q ra rb m x lt refl (λ left. absurd (omega arith))))
+-- a list has what its two parts have
+parts_have : (xs : List ℕ) (p j : ℕ)
+    → Contains xs j ↔ (Contains (take p xs) j ⊎ Contains (drop p xs) j)
+parts_have xs p j = (
+  λ h. Contains-append_cases (take p xs) (drop p xs) j
+      (subst (λ l. Contains l j) (sym (take-append-drop p xs)) h),
+  λ h. subst (λ l. Contains l j) (take-append-drop p xs) (elim h [
+    | inl front ↦ Contains-append_left (take p xs) (drop p xs) j front
+    | inr rest ↦ Contains-append_right (take p xs) (drop p xs) j rest
+  ]),
+)
 
-module _ (old a b : List ℕ) (ra : IsStrictlyIncreasing a) (rb : IsStrictlyIncreasing b) where
-  transposed : (now : List ℕ) (p q : ℕ) → IsMerging old now a b p q → IsMerging old now b a q p
-  transposed now p q m = record {
-    lane = m.lane;
-    pushed = m.pushed;
-    merged =
-        swapped a b p q m.lane m.merged;
-  }
+module _ (xs : List ℕ) (p : ℕ) (rising : IsStrictlyIncreasing xs) where
+  pub rising_rest : IsStrictlyIncreasing (drop p xs)
+  rising_rest k lt =
+      let e : p + (k + 1) ≡ p + k + 1 = omega arith in
+      omega (
+        arith,
+        get_or-drop p xs k 0,
+        get_or-drop p xs (k + 1) 0,
+        ap (λ i. get_or xs i 0) e,
+        rising (p + k) (omega (arith, lt, length-drop p xs)),
+      )
 
-  -- what is left of both, one of which is traversed
-  pub rest_merged : (now : List ℕ) (p q : ℕ) → p ≤ length a → q ≤ length b
-      → (p ≡ length a) ⊎ (q ≡ length b) → IsMerging old now a b p q
-      → GainsLane old ((now ++ drop p a) ++ drop q b) (λ j. Contains a j ⊎ Contains b j)
-  rest_merged now p q p_le q_le end m = gains ((now ++ drop p a) ++ drop q b) (elim end [
-    | inl all_a ↦
-        let none : drop p a ≡ [] = drop_all p a (omega arith) in
-        let same : now ++ drop p a ≡ now = ap (λ l. now ++ l) none ∙ append-nil now in
-        let b_rest = rest_first old b a p rb ra (omega arith) (length b - q) q now (omega arith)
-        (transposed now p q m) in
-        let all : IsMerging old (now ++ drop q b) a b p (length b) =
-        record {
-          lane = b_rest.lane;
-          pushed = b_rest.pushed;
-          merged =
-              swapped b a (length b) p b_rest.lane b_rest.merged;
-        } in
-        rw same (subst (λ k. IsMerging old (now ++ drop q b) a b k (length b)) all_a all)
-    | inr all_b ↦
-        let none : drop q b ≡ [] = drop_all q b (omega arith) in
-        let a_rest = rest_first old a b q ra rb (omega arith) (length a - p) p now (omega arith)
-        m in
-        rw (none, append-nil (now ++ drop p a))
-        (subst (λ k. IsMerging old (now ++ drop p a) a b (length a) k) all_b a_rest)
-  ])
-    where
-      gains : (now : List ℕ) → IsMerging old now a b (length a) (length b)
-          → GainsLane old now (λ j. Contains a j ⊎ Contains b j)
-      gains now m = record {
-        lane = m.lane;
-        pushed = m.pushed;
-        rising = m.merged.rising;
-        holds = λ j. rw (take_all (length a) a (omega arith), take_all (length b) b (omega arith))
-            at (m.merged.holds j);
-      }
+  -- what is left is not less than the next one
+  pub rest_from : (j : ℕ) → Contains (drop p xs) j → (p < length xs) × (get_or xs p 0 ≤ j)
+  rest_from j h =
+      let within : p + h.0 < length xs = omega (arith, h.1, length-drop p xs) in
+      let is : get_or xs (p + h.0) 0 ≡ j = sym (get_or-drop p xs h.0 0)
+      ∙ get_or_default (drop p xs) h.0 0 j h.1 ∙ h.2 in (
+        omega arith,
+        elim (lt_or_ge 0 h.0) [
+          | inl later ↦ omega (
+            arith,
+            AllPairs-from_increasing xs rising p (p + h.0) 0 (omega arith) within,
+            is,
+          )
+          | inr here ↦
+              let e : p + h.0 ≡ p = omega arith in
+              omega (arith, is, ap (λ k. get_or xs k 0) e)
+        ],
+      )
 
--- what a push that succeeds leaves
-pub gained_at_ok : {T E : Type 0} (r : Result T E) (old mid rest new : List ℕ) (P : ℕ → Type 0)
-    → new ≡ cond (is_ok r) (mid ++ rest) mid → GainsLane old (mid ++ rest) P
-    → OnOk r (GainsLane old new P)
-gained_at_ok (Ok x) old mid rest new P is gains = subst (λ l. GainsLane old l P) (sym is) gains
-gained_at_ok (Err e) old mid rest new P is gains = tt
+pub both_have : (a b : List ℕ) (p q j : ℕ) → (Contains a j ⊎ Contains b j)
+    ↔ (((Contains (take p a) j ⊎ Contains (take q b) j) ⊎ Contains (drop p a) j)
+    ⊎ Contains (drop q b) j)
+both_have a b p q j = (
+  λ h. grind (arith, parts_have a p j, parts_have b q j, h),
+  λ h. grind (arith, parts_have a p j, parts_have b q j, h),
+)
+
+abbrev pub rest_merged : {old now a b : List ℕ} {p q : ℕ} → IsStrictlyIncreasing a
+    → IsStrictlyIncreasing b → (p ≡ length a) ⊎ (q ≡ length b) → IsMerging old now a b p q
+    → GainsLane old ((now ++ drop p a) ++ drop q b) (λ j. Contains a j ⊎ Contains b j)
+rest_merged {old} {now} {a} {b} {p} {q} ra rb end m =
+    let fronts : GainsLane old now (λ j. Contains (take p a) j ⊎ Contains (take q b) j) = record {
+      lane = m.lane;
+      pushed = m.pushed;
+      rising = m.merged.rising;
+      holds = m.merged.holds;
+    } in
+    gains_next
+    (gains_next {S = λ j. (Contains (take p a) j ⊎ Contains (take q b) j) ⊎ Contains (drop p a) j}
+    fronts (gains_lane now (drop p a) (rising_rest a p ra) (λ j. (λ h. h, λ h. h)))
+    (λ i j h rest.
+    let from = rest_from a p ra j rest in
+    omega (arith, m.merged.below_a from.0 i ((m.merged.holds i).1 h), from.1))
+    (λ j. (λ h. h, λ h. h)))
+    (gains_lane (now ++ drop p a) (drop q b) (rising_rest b q rb) (λ j. (λ h. h, λ h. h)))
+    (λ i j h rest.
+    let from = rest_from b q rb j rest in
+    elim h [
+      | inl h ↦ omega (arith, m.merged.below_b from.0 i ((m.merged.holds i).1 h), from.1)
+      | inr h ↦ absurd (omega (arith, end, (rest_from a p ra i h).0, from.0))
+    ])
+    (both_have a b p q)

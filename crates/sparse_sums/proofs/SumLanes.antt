@@ -1,7 +1,6 @@
 -- A sum or a difference of matrices, lane after lane.
 use Rattle.std.proofs.Common.{◌≡◌, ℕ, ◌+◌, ◌<◌, ◌⊎◌, inl, inr, ◌↔◌, Bool, true, false, List, []}
 use Rattle.std.proofs.Common.{◌∷◌, ◌++◌, length, Contains, ap, sym, subst, ◌∙◌, refl, arith}
-use Rattle.std.proofs.Common.{length-append}
 use Rattle.std.specs.Prelude.{nat_eq}
 use Rattle.sparse_algebra.proofs.Cases.{or_cases, or_left, or_right}
 use Rattle.sparse_algebra.specs.Algebra.{CommRing}
@@ -15,9 +14,10 @@ use Rattle.sparse_compressed.specs.PlainOfLanes.{plain_of_rows}
 use Rattle.sparse_compressed.specs.InnerRows.{lane_value}
 use Rattle.sparse_compressed.proofs.Arrays.{proper_rows, has_is_place}
 use Rattle.sparse_compressed.proofs.LaneValues.{values_of, lane_value_is}
-use Rattle.sparse_compressed.proofs.BuiltMatrices.{IsBuiltMatrix, matrix_lane_built, built_is}
+use Rattle.sparse_compressed.proofs.BuiltMatrices.{IsBuiltMatrix, built_is}
 use Rattle.sparse_sums.specs.InnerSigns.{signed, plain_signed}
 use Rattle.sparse_sums.specs.InnerAdding.{GainsEntries}
+use Rattle.sparse_sums.proofs.BuiltSums.{none_built, entries_built}
 use Rattle.sparse_sums.proofs.UnionLanes.{IsEither, lanes_have, either_within}
 
 module _ (R : CommRing) where
@@ -58,9 +58,6 @@ module _ (R : CommRing) where
       (lane_value_signed f negate ks vs j)
       ∙ sym (signed_add negate (where_true R (nat_eq k j) (f v)) (lane_value R f ks vs j))
 
-  proper_signed : (negate : Bool) (a : Plain R) → IsProper a → IsProper (plain_signed R negate a)
-  proper_signed negate a p i j none = ap (signed R negate) (p i j none) ∙ signed_zero negate
-
 module _ (R : CommRing) {T : Type 0} (f : T → R.Carrier) (negate : Bool) (a b : Compressed T) where
   abbrev pub signed_sum : Plain R
   signed_sum = plain_sum R (plain_of_rows R f a) (plain_signed R negate (plain_of_rows R f b))
@@ -70,43 +67,22 @@ module _ (R : CommRing) {T : Type 0} (f : T → R.Carrier) (negate : Bool) (a b 
   IsSumBelow n offsets indices values = IsBuiltMatrix R f a.pattern.minor_dim
       (IsEither a.pattern b.pattern) signed_sum.value n offsets indices values
 
-  -- no lanes have no places
   pub none_summed : IsSumBelow 0 (0 ∷ []) [] []
-  none_summed = record {
-    built = record {
-      valid = record {
-        count = refl;
-        first = refl;
-        last = refl;
-        lanes = λ i lt. absurd (omega arith);
-      };
-      places = λ i j lt. absurd (omega arith);
-    };
-    count = refl;
-    values_are = λ i j lt. absurd (omega arith);
-  }
+  none_summed = none_built
 
 module _ (R : CommRing) {T : Type 0} (f : T → R.Carrier) (z : T) (negate : Bool)
     (a b : Compressed T) (sa : IsSound a) (sb : IsSound b)
     (lanes : a.pattern.major_dim ≡ b.pattern.major_dim)
     (width : a.pattern.minor_dim ≡ b.pattern.minor_dim) where
-  -- as many values as indices are gained
-  pub gained_count : (old new : List ℕ) (us ws : List T) (P : ℕ → Type 0) (V : ℕ → R.Carrier)
-      → length us ≡ length old → GainsEntries R f old new us ws P V → length ws ≡ length new
-  gained_count old new us ws P V count gains = omega (
-    arith,
-    ap length gains.pushed,
-    ap length gains.values_pushed,
-    length-append old gains.lane,
-    length-append us gains.values,
-    gains.count,
-  )
-
   abbrev sum : Plain R
   sum = signed_sum R f negate a b
 
   abbrev Below : ℕ → List ℕ → List ℕ → List T → Type 0
   Below n offsets indices values = IsSumBelow R f negate a b n offsets indices values
+
+  within : (i j : ℕ) → IsEither a.pattern b.pattern i j
+      → (i < a.pattern.major_dim) × (j < a.pattern.minor_dim)
+  within = either_within a.pattern b.pattern sa.valid sb.valid lanes width
 
   pub sum_more : (n : ℕ) (offsets offsets' indices indices' : List ℕ) (values values' : List T)
       → n < a.pattern.major_dim → Below n offsets indices values
@@ -116,23 +92,14 @@ module _ (R : CommRing) {T : Type 0} (f : T → R.Carrier) (z : T) (negate : Boo
       (lane_value R (λ x. signed R negate (f x)) (lane_of b.pattern n) (values_of b n) j))
       → offsets' ≡ offsets ++ length indices' ∷ [] → Below (n + 1) offsets' indices' values'
   sum_more n offsets offsets' indices indices' values values' lt built gains is =
-      let have = λ (j : ℕ). lanes_have a.pattern b.pattern sa.valid sb.valid lanes width n j lt in
-      let holds : (j : ℕ) → Contains gains.lane j ↔ IsEither a.pattern b.pattern n j =
-      λ j. (λ h. (have j).0 ((gains.holds j).0 h), λ h. (gains.holds j).1 ((have j).1 h)) in
-      let bounded : (j : ℕ) → Contains gains.lane j → j < a.pattern.minor_dim =
-      λ j h. (either_within a.pattern b.pattern sa.valid sb.valid lanes width n j
-      ((holds j).0 h)).1 in
-      let value : (j : ℕ) → lane_value R f gains.lane gains.values j ≡ sum.value n j = λ j.
-      gains.sums j
-      ∙ ap (λ c. R.add c (lane_value R (λ x. signed R negate (f x)) (lane_of b.pattern n)
+      entries_built built gains
+      (λ j. lanes_have a.pattern b.pattern sa.valid sb.valid lanes width n j lt)
+      (λ j. ap (λ c. R.add c (lane_value R (λ x. signed R negate (f x)) (lane_of b.pattern n)
       (values_of b n) j)) (lane_value_is R f z a sa n lt j)
       ∙ ap (R.add ((plain_of_rows R f a).value n j))
       (lane_value_signed R f negate (lane_of b.pattern n) (values_of b n) j
-      ∙ ap (signed R negate) (lane_value_is R f z b sb n (omega arith) j)) in
-      rw (is, gains.pushed, gains.values_pushed)
-      (matrix_lane_built R f a.pattern.minor_dim (IsEither a.pattern b.pattern) sum.value n
-      offsets indices gains.lane values gains.values built gains.rising bounded holds gains.count
-      value)
+      ∙ ap (signed R negate) (lane_value_is R f z b sb n (omega arith) j)))
+      (λ j h. (within n j h).1) is
 
   places : (i j : ℕ) → IsEither a.pattern b.pattern i j ↔ (sum.has i j ≡ true)
   places i j =
@@ -144,7 +111,8 @@ module _ (R : CommRing) {T : Type 0} (f : T → R.Carrier) (z : T) (negate : Boo
 
   proper : IsProper sum
   proper = proper_sum R (plain_of_rows R f a) (plain_signed R negate (plain_of_rows R f b))
-      (proper_rows R f a) (proper_signed R negate (plain_of_rows R f b) (proper_rows R f b))
+      (proper_rows R f a)
+      (λ i j none. ap (signed R negate) (proper_rows R f b i j none) ∙ signed_zero R negate)
 
   module _ (n : ℕ) (offsets indices : List ℕ) (values : List T) (whole : n ≡ a.pattern.major_dim)
       (built : Below n offsets indices values) where
@@ -158,4 +126,4 @@ module _ (R : CommRing) {T : Type 0} (f : T → R.Carrier) (z : T) (negate : Boo
     pub sum_is : plain_of_rows R f (arrays_of a.pattern.major_dim a.pattern.minor_dim offsets
         indices values) ≡ sum
     sum_is = built_is R f z sum proper (IsEither a.pattern b.pattern) places offsets indices values
-        done (λ i j h. (either_within a.pattern b.pattern sa.valid sb.valid lanes width i j h).0)
+        done (λ i j h. (within i j h).0)

@@ -6,6 +6,7 @@ use Rattle.sparse_pattern.specs.InnerGainedLanes.{GainsLane}
 use Rattle.sparse_pattern.proofs.BuiltLanes.{IsBuilt, lane_gained, all_built, place_within}
 use Rattle.sparse_pattern.proofs.LaneLists.{lane_has}
 use Rattle.sparse_sums.specs.PatternSums.{IsUnionOf}
+use Rattle.sparse_sums.proofs.GainedLanes.{gains_same}
 
 -- (i, j) is a place of the union
 abbrev pub IsEither : Raw → Raw → ℕ → ℕ → Type 0
@@ -16,12 +17,7 @@ module _ (a b : Raw) (va : IsValid a) (vb : IsValid b) (lanes : a.major_dim ≡ 
   -- the indices of both lanes
   pub lanes_have : (n j : ℕ) → n < a.major_dim
       → (Contains (lane_of a n) j ⊎ Contains (lane_of b n) j) ↔ IsEither a b n j
-  lanes_have n j lt =
-      let left = lane_has a va n j lt in
-      let right = lane_has b vb n j (omega arith) in (
-        λ h. elim h [ inl x ↦ inl (left.0 x) | inr y ↦ inr (right.0 y) ],
-        λ h. elim h [ inl x ↦ inl (left.1 x) | inr y ↦ inr (right.1 y) ],
-      )
+  lanes_have n j lt = grind (arith, lane_has a va n j lt, lane_has b vb n j (omega arith))
 
   pub either_within : (i j : ℕ) → IsEither a b i j → (i < a.major_dim) × (j < a.minor_dim)
   either_within i j h = elim h [
@@ -29,26 +25,17 @@ module _ (a b : Raw) (va : IsValid a) (vb : IsValid b) (lanes : a.major_dim ≡ 
     | inr y ↦ (omega (arith, y.in_lane.lane), omega (arith, place_within b vb i j y))
   ]
 
-  pub union_more : (n : ℕ) (offsets offsets' indices indices' : List ℕ) → n < a.major_dim
-      → IsBuilt a.minor_dim (IsEither a b) n offsets indices
+  pub union_more : {n : ℕ} {offsets indices indices' : List ℕ} (offsets' : List ℕ)
+      → n < a.major_dim → IsBuilt a.minor_dim (IsEither a b) n offsets indices
       → GainsLane indices indices' (λ j. Contains (lane_of a n) j ⊎ Contains (lane_of b n) j)
       → offsets' ≡ offsets ++ length indices' ∷ []
       → IsBuilt a.minor_dim (IsEither a b) (n + 1) offsets' indices'
-  union_more n offsets offsets' indices indices' lt built gains is =
-      let gained : GainsLane indices indices' (IsEither a b n) = record {
-        lane = gains.lane;
-        pushed = gains.pushed;
-        rising = gains.rising;
-        holds = λ j. let l = lanes_have n j lt in (
-          λ h. l.0 ((gains.holds j).0 h),
-          λ h. (gains.holds j).1 (l.1 h),
-        );
-      } in
+  union_more {n} {offsets} {indices} {indices'} offsets' lt built gains is =
       lane_gained a.minor_dim (IsEither a b) n offsets offsets' indices indices' built
-      (λ j h. (either_within n j h).1) gained is
+      (λ j h. (either_within n j h).1) (gains_same (λ j. lanes_have n j lt) gains) is
 
-  pub union_all : (n : ℕ) (d : Raw) (offsets indices : List ℕ) → n ≡ a.major_dim
+  pub union_all : {n : ℕ} {offsets indices : List ℕ} (d : Raw) → n ≡ a.major_dim
       → d ≡ raw_of a.major_dim a.minor_dim offsets indices
       → IsBuilt a.minor_dim (IsEither a b) n offsets indices → IsUnionOf d a b
-  union_all n d offsets indices whole is built = all_built a.minor_dim (IsEither a b) n a.major_dim
-      d offsets indices whole is (λ i j h. (either_within i j h).0) built
+  union_all {n} {offsets} {indices} d whole is built = all_built a.minor_dim (IsEither a b) n
+      a.major_dim d offsets indices whole is (λ i j h. (either_within i j h).0) built

@@ -1,5 +1,5 @@
 -- A sum into a given matrix, in plain matrices.
-use Rattle.std.proofs.Common.{◌≡◌, ℕ, ◌↔◌, Bool, true, false, inl, inr, List, length, ap, sym, ◌∙◌}
+use Rattle.std.proofs.Common.{◌≡◌, ℕ, ◌↔◌, Bool, true, false, inl, inr, List, length, ap, ◌∙◌}
 use Rattle.std.proofs.Common.{refl, subst}
 use Rattle.std.specs.Prelude.{Result, Ok, Err, IsOk, OnOk, OnErr}
 use Rattle.std.proofs.lemmas.List.{take_at}
@@ -13,58 +13,63 @@ use Rattle.sparse_algebra.specs.Prealloc.{plain_update, IsCovered}
 use Rattle.sparse_compressed.specs.Compressed.{Compressed, compressed_of, IsSound}
 use Rattle.sparse_compressed.specs.PlainOfLanes.{plain_of_rows, plain_of_cols}
 use Rattle.sparse_compressed.specs.Writing.{with_values}
-use Rattle.sparse_compressed.proofs.Arrays.{has_is_place, proper_rows, value_at_position}
+use Rattle.sparse_compressed.proofs.Arrays.{proper_rows}
+use Rattle.sparse_compressed.proofs.Standing.{rows_have}
 use Rattle.sparse_compressed.proofs.Updates.{updated}
 use Rattle.sparse_sums.specs.InnerPlacing.{HasPlacesOf}
 use Rattle.sparse_compressed.specs.InnerUpdates.{AreUpdated}
 use Rattle.sparse_algebra.specs.Prealloc.{plain_transpose_if}
 
-module _ (R : CommRing) {T : Type 0} (f : T → R.Carrier) (m a : Compressed T) (sm : IsSound m)
-    (sa : IsSound a) where
-  here : (i j : ℕ) → ((plain_of_rows R f m).has i j ≡ true) ↔ IsPlace m.pattern i j
-  here i j = has_is_place R f m.pattern sm.valid m.values sm.count i j
+-- the values at the places of m, updated by a matrix that has no other places
+pub update_is : (R : CommRing) {T : Type 0} (f : T → R.Carrier) (z : T) {m : Compressed T}
+    (x : Plain R) (beta alpha : R.Carrier) (ws : List T) → IsSound m
+    → length ws ≡ length m.values → IsProper x → IsCovered x (plain_of_rows R f m)
+    → AreUpdated R f z m.pattern beta alpha x.value m.values ws
+    → plain_of_rows R f (compressed_of m.pattern ws)
+    ≡ plain_update R beta (plain_of_rows R f m) alpha x
+update_is R f z {m} x beta alpha ws sound long proper covered values =
+    let was = rows_have R f m sound in
+    updated R f z m ws (plain_update R beta (plain_of_rows R f m) alpha x).value sound long
+    (λ i j none.
+    let off : x.has i j ≡ false = elim (true_or_false (x.has i j)) [
+      | inl hit ↦ let there = covered i j hit in cc
+      | inr miss ↦ miss
+    ] in
+    ap (λ c. R.add (R.mul beta c) (R.mul alpha (x.value i j))) (was.proper i j none)
+    ∙ ap (λ c. R.add c (R.mul alpha (x.value i j))) (mul_zero R beta)
+    ∙ ap (λ c. R.add R.zero (R.mul alpha c)) (proper i j off)
+    ∙ ap (R.add R.zero) (mul_zero R alpha) ∙ R.laws.add_zero R.zero)
+    (λ i j p at. values i j p at
+    ∙ ap (λ c. R.add (R.mul beta c) (R.mul alpha (x.value i j))) (was.values i j p z at))
 
-  there : (i j : ℕ) → ((plain_of_rows R f a).has i j ≡ true) ↔ IsPlace a.pattern i j
-  there i j = has_is_place R f a.pattern sa.valid a.values sa.count i j
+-- the target has the places of the operand
+covered_is : (R : CommRing) {T : Type 0} (f : T → R.Carrier) {m a : Compressed T} → IsSound m
+    → IsSound a → (transposed : Bool)
+    → HasPlacesOf m.pattern transposed a.pattern
+    ↔ IsCovered (plain_transpose_if R transposed (plain_of_rows R f a)) (plain_of_rows R f m)
+covered_is R f {m} {a} sm sa transposed = both transposed
+  where
+    here : (i j : ℕ) → IsPlace m.pattern i j ↔ ((plain_of_rows R f m).has i j ≡ true)
+    here = (rows_have R f m sm).places
 
-  -- the target has the places of the operand
-  pub covered_is : (transposed : Bool)
-      → HasPlacesOf m.pattern transposed a.pattern
-      ↔ IsCovered (plain_transpose_if R transposed (plain_of_rows R f a)) (plain_of_rows R f m)
-  covered_is true = (
-    λ h i j x. (here i j).1 (h j i ((there j i).0 x)),
-    λ h i j x. (here j i).0 (h j i ((there i j).1 x)),
-  )
-  covered_is false = (
-    λ h i j x. (here i j).1 (h i j ((there i j).0 x)),
-    λ h i j x. (here i j).0 (h i j ((there i j).1 x)),
-  )
+    there : (i j : ℕ) → IsPlace a.pattern i j ↔ ((plain_of_rows R f a).has i j ≡ true)
+    there = (rows_have R f a sa).places
 
-  transposed_proper : (transposed : Bool) → IsProper (plain_transpose_if R transposed (plain_of_rows R f a))
-  transposed_proper true = proper_transpose R (plain_of_rows R f a) (proper_rows R f a)
-  transposed_proper false = proper_rows R f a
+    both : (t : Bool) → HasPlacesOf m.pattern t a.pattern
+        ↔ IsCovered (plain_transpose_if R t (plain_of_rows R f a)) (plain_of_rows R f m)
+    both true = (
+      λ h i j x. (here i j).0 (h j i ((there j i).1 x)),
+      λ h i j x. (here j i).1 (h j i ((there i j).0 x)),
+    )
+    both false = (
+      λ h i j x. (here i j).0 (h i j ((there i j).1 x)),
+      λ h i j x. (here i j).1 (h i j ((there i j).0 x)),
+    )
 
-  pub updated_is : (z : T) (transposed : Bool) (beta alpha : R.Carrier) (ws : List T)
-      → length ws ≡ length m.values
-      → HasPlacesOf m.pattern transposed a.pattern
-      → AreUpdated R f z m.pattern beta alpha (plain_transpose_if R transposed (plain_of_rows R f a)).value
-      m.values ws
-      → plain_of_rows R f (compressed_of m.pattern ws) ≡ plain_update R beta (plain_of_rows R f m)
-      alpha (plain_transpose_if R transposed (plain_of_rows R f a))
-  updated_is z transposed beta alpha ws long places added =
-      let x = plain_transpose_if R transposed (plain_of_rows R f a) in
-      updated R f z m ws (plain_update R beta (plain_of_rows R f m) alpha x).value sm long
-      (λ i j none.
-      let off : x.has i j ≡ false = elim (true_or_false (x.has i j)) [
-        | inl hit ↦ let there = (covered_is transposed).0 places i j hit in cc
-        | inr miss ↦ miss
-      ] in
-      ap (λ c. R.add (R.mul beta c) (R.mul alpha (x.value i j))) (proper_rows R f m i j none)
-      ∙ ap (λ c. R.add c (R.mul alpha (x.value i j))) (mul_zero R beta)
-      ∙ ap (λ c. R.add R.zero (R.mul alpha c)) (transposed_proper transposed i j off)
-      ∙ ap (R.add R.zero) (mul_zero R alpha) ∙ R.laws.add_zero R.zero)
-      (λ i j p at. added i j p at ∙ ap (λ c. R.add (R.mul beta c) (R.mul alpha (x.value i j)))
-      (sym (value_at_position R f m.pattern sm.valid m.values sm.count z i j p at)))
+transposed_proper : (R : CommRing) {T : Type 0} (f : T → R.Carrier) (a : Compressed T)
+    (transposed : Bool) → IsProper (plain_transpose_if R transposed (plain_of_rows R f a))
+transposed_proper R f a true = proper_transpose R (plain_of_rows R f a) (proper_rows R f a)
+transposed_proper R f a false = proper_rows R f a
 
 -- what holds at Ok, from what is known there
 pub on_ok_also : {X E : Type 0} (r : Result X E) {P Q : Type 0} → (IsOk r → P → Q) → OnOk r P → OnOk r Q
@@ -92,11 +97,11 @@ pub record IsSummed (R : CommRing) {M E : Type 0} (see : M → Plain R) (old new
   pub updated : OnOk r (see new ≡ plain_update R beta (see old) alpha x)
 
 -- a sum into m, whose pattern and values are borrowed as d and vs
-module _ (R : CommRing) {T : Type 0} (f : T → R.Carrier) (z : T) (m a x : Compressed T)
-    (sm : IsSound m) (sx : IsSound x) (x_is : x ≡ a) (d : Raw) (d_is : d ≡ m.pattern)
-    (vs : List T) (vs_is : vs ≡ m.values) (transposed : Bool) {E : Type 0}
-    (r : Result (Unit {0}) E) (places : IsOk r ↔ HasPlacesOf d transposed x.pattern)
-    (beta alpha : R.Carrier) (ws : List T) (count : length ws ≡ length vs)
+module _ (R : CommRing) {T : Type 0} (f : T → R.Carrier) (z : T) {m a x : Compressed T}
+    (sm : IsSound m) (sx : IsSound x) (x_is : x ≡ a) {d : Raw} (d_is : d ≡ m.pattern)
+    {vs : List T} (vs_is : vs ≡ m.values) (transposed : Bool) {E : Type 0}
+    (r : Result (Unit {0}) E) (beta alpha : R.Carrier) (ws : List T)
+    (places : IsOk r ↔ HasPlacesOf d transposed x.pattern) (count : length ws ≡ length vs)
     (refused : OnErr r (ws ≡ vs))
     (added : OnOk r (AreUpdated R f z d beta alpha
     (plain_transpose_if R transposed (plain_of_rows R f x)).value vs ws)) where
@@ -106,12 +111,13 @@ module _ (R : CommRing) {T : Type 0} (f : T → R.Carrier) (z : T) (m a x : Comp
       let sa = subst IsSound x_is sx in
       let long = count ∙ ap length vs_is in
       let ok = rw (x_is, d_is) at places in
-      let same = covered_is R f m a sm sa transposed in
+      let same = covered_is R f sm sa transposed in
       record {
         covered = (λ h. same.0 (ok.0 h), λ h. ok.1 (same.1 h));
         unchanged = unchanged_at_err r m ws vs vs_is long refused;
         updated = on_ok_also r (λ is values. ap (plain_of_rows R f) (written_back m ws long)
-            ∙ updated_is R f m a sm sa z transposed beta alpha ws long (ok.0 is) values)
+            ∙ update_is R f z (plain_transpose_if R transposed (plain_of_rows R f a)) beta alpha
+            ws sm long (transposed_proper R f a transposed) (same.0 (ok.0 is)) values)
             (rw (x_is, d_is, vs_is) at added);
       }
 

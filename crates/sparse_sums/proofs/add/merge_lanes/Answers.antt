@@ -1,6 +1,7 @@
 use Rattle.std.proofs.Common.{◌≡◌, ◌<◌, not, eqb, ◌++◌, ◌∷◌, [], length, sym, ap, ◌∙◌, arith}
 use Rattle.sparse_pattern.specs.Raw.{Raw}
-use Rattle.sparse_sums.proofs.SumLanes.{none_summed, sum_more, sum_is, sum_sound, gained_count}
+use Rattle.sparse_sums.proofs.BuiltSums.{none_built, gained_count}
+use Rattle.sparse_sums.proofs.SumLanes.{sum_more, sum_is, sum_sound}
 use Rattle.sparse_sums.proofs.add.merge_lanes.Goals as goal
 
 pub loop-i-init : goal.loop-i-init
@@ -13,8 +14,7 @@ loop-i-init g c =
     record {
       values_count = values.ok.0 ∙ ap length r.no_values
           ∙ sym (indices.ok.0 ∙ ap length r.no_indices);
-      built = rw (offsets_is, r.no_indices, r.no_values) (none_summed g.T.Ring.ring
-          g.T.Ring.value (not (eqb g.row.NEGATE 0)) c.args.a.now c.args.b.now);
+      built = rw (offsets_is, r.no_indices, r.no_values) none_built;
     }
 
 pub merge_lane-requires : goal.merge_lane-requires
@@ -30,16 +30,8 @@ merge_lane-requires g c =
 
 pub loop-i-preserved : goal.loop-i-preserved
 loop-i-preserved g c =
-    let R = g.T.Ring.ring in
-    let f = g.T.Ring.value in
-    let z = g.T.Zero.zero_value in
-    let negate = not (eqb g.row.NEGATE 0) in
-    let a = c.args.a.now in
-    let b = c.args.b.now in
-    let i = c.loop-i.i in
-    let sa = c.pattern.ensures.sound in
-    let sb = c.requires.sound in
-    let lt : i < a.pattern.major_dim = omega (
+    let r = c.requires in
+    let lt : c.loop-i.i < c.args.a.now.pattern.major_dim = omega (
       arith,
       c.loop-i-test.true,
       c.major_dim-i-end.ensures,
@@ -48,15 +40,13 @@ loop-i-preserved g c =
     let gained = c.in_ok-merge_lane.ensures.gained in
     let was = c.loop-i in
     let now = c.merge_lane.new in
-    let inv = c.loop-i.invariant in
     record {
-      values_count = now.values.ok.0 ∙ gained_count R f z negate a b sa sb c.requires.lanes
-          c.requires.width was.indices.items now.indices.items was.values.items now.values.items
-          _ _ (sym was.values.ok.0 ∙ inv.values_count ∙ was.indices.ok.0) gained
-          ∙ sym now.indices.ok.0;
-      built = sum_more R f z negate a b sa sb c.requires.lanes c.requires.width i
+      values_count = now.values.ok.0 ∙ gained_count (sym was.values.ok.0
+          ∙ was.invariant.values_count ∙ was.indices.ok.0) gained ∙ sym now.indices.ok.0;
+      built = sum_more g.T.Ring.ring g.T.Ring.value g.T.Zero.zero_value (not (eqb g.row.NEGATE 0))
+          c.args.a.now c.args.b.now c.pattern.ensures.sound r.sound r.lanes r.width was.i
           was.offsets.items _ was.indices.items now.indices.items was.values.items
-          now.values.items lt inv.built gained
+          now.values.items lt was.invariant.built gained
           (c.in_ok-push-2.ensures.items ∙ ap (λ n. was.offsets.items ++ n ∷ [])
           (c.len.ensures ∙ now.indices.ok.0));
     }

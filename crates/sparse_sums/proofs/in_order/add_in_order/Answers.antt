@@ -43,7 +43,7 @@ add_lane-requires g c =
             valid.ordered,
             valid.inside,
             c.requires.count,
-            c.loop-i.invariant.count,
+            c.loop-i.auto.values,
           ));
       count = rw (c.values.ensures.values, c.minor_indices.ensures.indices)
           c.values.ensures.sound.count;
@@ -69,7 +69,5 @@ loop-i-preserved g c =
       c.lane-lane.ensures,
     ) at c.add_lane.ensures.added in
     let kept = rw (c.lane.ensures, c.major_offsets.ensures.offsets) at c.add_lane.ensures.kept in
-    added_more g.T.Ring.ring g.T.Ring.value g.T.Zero.zero_value c.args.target.now c.args.a.now
-    (g.T.Ring.value c.args.alpha) c.major_offsets.ensures.valid c.pattern.ensures.sound
-    c.requires.lanes c.args.values.now c.loop-i.values c.add_lane.new.values c.loop-i.i lt
-    c.loop-i.invariant c.add_lane.ensures.count added kept
+    added_more c.args.a.now c.loop-i.invariant c.major_offsets.ensures.valid
+    c.pattern.ensures.sound c.requires.lanes lt c.add_lane.new.values added kept

@@ -1,6 +1,10 @@
-use Rattle.sparse_sums.proofs.InOrder.{AreAddedBelow}
+use Rattle.sparse_compressed.specs.PlainOfLanes.{plain_of_rows}
+use Rattle.sparse_sums.proofs.UpdatedLanes.{HasUpdatedLanes}
 use Rattle.sparse_sums.proofs.in_order.add_in_order.Given as goal
 
 abbrev pub invariant-loop-i : goal.invariant-loop-i
-invariant-loop-i g l = AreAddedBelow g.T.Ring.ring g.T.Ring.value g.T.Zero.zero_value l.target l.a
-    (g.T.Ring.value l.alpha) l.initial.values l.values l.i
+invariant-loop-i g l =
+    let R = g.T.Ring.ring in
+    let f = g.T.Ring.value in
+    HasUpdatedLanes R f g.T.Zero.zero_value l.target f (f l.alpha) (plain_of_rows R f l.a).value
+    l.initial.values l.values l.i

@@ -9,38 +9,28 @@ use Rattle.sparse_sums.proofs.in_order.add_lane.Goals.{else-k-lane-via-then-k-la
 use Rattle.sparse_sums.proofs.in_order.add_lane.Goals.{else-k-lane-via-else-k-lane}
 
 pub loop-p-init : goal.loop-p-init
-loop-p-init g c = none_added g.T.Ring.ring g.T.Ring.value g.T.Zero.zero_value
-    (g.T.Ring.value c.args.alpha) c.args.target.now c.args.lane.now c.args.lane_values.now
-    c.args.start c.args.values.now
+loop-p-init g c = none_added
 
 pub loop-p-preserved : goal.loop-p-preserved
 loop-p-preserved g c =
     let R = g.T.Ring.ring in
     let f = g.T.Ring.value in
     let z = g.T.Zero.zero_value in
-    let target = c.args.target.now in
-    let lane = c.args.lane.now in
-    let us = c.args.lane_values.now in
     let now = c.loop-p.values in
-    let p = c.loop-p.p in
-    let k = c.loop-p.k in
+    let at = c.args.start + c.loop-p.p in
     let r = c.requires in
     let inv = c.loop-p.invariant in
     elim c.if-k-lane.branch [
       | then-k-lane+then-target-p w ↦
           let old = w.index-values-start in
-          let v = w.index-lane_values-k in
-          let read = old.is ∙ get_or_default now (c.args.start + p) old.result z
+          let read = old.is ∙ get_or_default now at old.result z
           (omega (arith, inv.count, r.inside)) in
           let sum = w.add.ensures ∙ ap (λ x. R.add x (f w.mul.result)) (ap f read)
-          ∙ ap (R.add (f (get_or now (c.args.start + p) z))) w.mul.ensures in
-          rw (w.values-is, w.k-is) (adding_hit R f z (f c.args.alpha) target lane us c.args.start
-          r.target_rising r.rising r.count c.args.values.now now p k (omega arith) r.inside inv
-          (omega arith) (omega arith) v.result w.add.result v.is sum)
+          ∙ ap (R.add (f (get_or now at z))) w.mul.ensures in
+          rw (w.values-is, w.k-is) (adding_hit inv (omega arith) r.target_rising r.rising r.count
+          r.inside (omega arith) (omega arith) w.index-lane_values-k.is sum)
       | else-k-lane w ↦ rw (w.values-is, w.k-is)
-          (adding_miss R f z (f c.args.alpha) target lane us c.args.start r.target_rising r.rising
-          r.count c.args.values.now now p k (omega arith) r.inside inv
-          (λ lt same. elim w.else-k-lane.branch [
+          (adding_miss inv (omega arith) (λ lt same. elim w.else-k-lane.branch [
             | else-k-lane-via-then-k-lane+else-target-p u ↦ absurd (omega arith)
             | else-k-lane-via-else-k-lane u ↦ absurd (omega arith)
           ]))
@@ -53,10 +43,8 @@ returns-clause-added g c = λ m lt.
     let lane = c.args.lane.now in
     let us = c.args.lane_values.now in
     let k = c.loop-p.k in
-    let end : c.loop-p.p ≡ length c.args.target.now = omega arith in
     let all : k ≡ length lane =
-    (all_passed c.args.target.now lane k (rw end at c.loop-p.invariant.passed)).1
-    c.requires.covered in
+    (all_passed c.loop-p.invariant.passed (omega arith)).1 c.requires.covered in
     let at = get_or c.args.target.now m 0 in
     let start = f (get_or c.args.values.now (c.args.start + m) g.T.Zero.zero_value) in
     c.loop-p.invariant.sums m lt

@@ -1,4 +1,4 @@
-use Rattle.std.proofs.Common.{◌≡◌, length, arith}
+use Rattle.std.proofs.Common.{arith}
 use Rattle.std.proofs.lemmas.Bool.Decides.{nat_tests}
 use Rattle.sparse_sums.proofs.InOrder.{passed_hit, passed_miss, all_passed}
 use Rattle.sparse_sums.proofs.in_order.covers_lane.Goals as goal
@@ -8,18 +8,13 @@ use Rattle.sparse_sums.proofs.in_order.covers_lane.Goals.{else-k-lane-via-else-k
 
 pub loop-p-preserved : goal.loop-p-preserved
 loop-p-preserved c =
-    let target = c.args.target.now in
-    let lane = c.args.lane.now in
-    let p = c.loop-p.p in
-    let k = c.loop-p.k in
-    let rt = c.requires.target_rising in
-    let rl = c.requires.rising in
+    let inv = c.loop-p.invariant in
     elim c.if-k-lane.branch [
       | then-k-lane+then-target-p w ↦ rw w.k-is
-          (passed_hit target lane rt rl p k (omega arith) c.loop-p.invariant (omega arith)
+          (passed_hit inv (omega arith) c.requires.target_rising c.requires.rising (omega arith)
           (omega arith))
-      | else-k-lane w ↦ rw w.k-is (passed_miss target lane rt rl p k (omega arith)
-          c.loop-p.invariant (λ lt same. elim w.else-k-lane.branch [
+      | else-k-lane w ↦ rw w.k-is (passed_miss inv (omega arith) (λ lt same.
+          elim w.else-k-lane.branch [
             | else-k-lane-via-then-k-lane+else-target-p v ↦ absurd (omega arith)
             | else-k-lane-via-else-k-lane v ↦ absurd (omega arith)
           ]))
@@ -27,7 +22,5 @@ loop-p-preserved c =
 
 pub returns : goal.returns
 returns c =
-    let end : c.loop-p.p ≡ length c.args.target.now = omega arith in
-    let all = all_passed c.args.target.now c.args.lane.now c.loop-p.k
-    (rw end at c.loop-p.invariant) in
+    let all = all_passed c.loop-p.invariant (omega arith) in
     (λ h. all.0 (grind (arith, nat_tests, h)), λ h. grind (arith, nat_tests, all.1 h))

@@ -14,9 +14,8 @@ loop-p-preserved-then-j-k c =
       capacity = c.push_reserved.ensures.capacity ∙ c.loop-p.invariant.capacity;
       count = omega (arith, c.push_reserved.ensures.len, c.loop-p.invariant.count);
       merged = rw c.push_reserved.ensures.items
-          (merging_first c.args.indices.now.items c.loop-p.indices.items a b p q c.requires.a_rising
-          c.requires.b_rising c.loop-p.invariant.merged (get_or a p 0) (omega arith) refl
-          (λ _. omega arith));
+          (merging_first c.loop-p.invariant.merged (get_or a p 0) c.requires.a_rising
+          c.requires.b_rising (omega arith) refl (λ _. omega arith));
     }
 
 pub loop-p-preserved-then-k-j : goal.loop-p-preserved-then-k-j
@@ -31,10 +30,8 @@ loop-p-preserved-then-k-j c =
       capacity = c.push_reserved-then-k-j.ensures.capacity ∙ c.loop-p.invariant.capacity;
       count = omega (arith, c.push_reserved-then-k-j.ensures.len, c.loop-p.invariant.count);
       merged = rw c.push_reserved-then-k-j.ensures.items
-          (merging_second c.args.indices.now.items c.loop-p.indices.items a b p q
-          c.requires.a_rising
-          c.requires.b_rising c.loop-p.invariant.merged (get_or b q 0) (omega arith) refl
-          (λ _. omega arith));
+          (merging_second c.loop-p.invariant.merged (get_or b q 0) c.requires.a_rising
+          c.requires.b_rising (omega arith) refl (λ _. omega arith));
     }
 
 pub loop-p-preserved : goal.loop-p-preserved
@@ -50,7 +47,6 @@ loop-p-preserved c =
       capacity = c.push_reserved-else-k-j.ensures.capacity ∙ c.loop-p.invariant.capacity;
       count = omega (arith, c.push_reserved-else-k-j.ensures.len, c.loop-p.invariant.count);
       merged = rw c.push_reserved-else-k-j.ensures.items
-          (merging_both c.args.indices.now.items c.loop-p.indices.items a b p q c.requires.a_rising
-          c.requires.b_rising c.loop-p.invariant.merged (get_or a p 0) (omega arith) (omega arith)
-          refl same);
+          (merging_both c.loop-p.invariant.merged (get_or a p 0) c.requires.a_rising
+          c.requires.b_rising (omega arith) (omega arith) refl same);
     }

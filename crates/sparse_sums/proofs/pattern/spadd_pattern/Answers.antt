@@ -56,8 +56,8 @@ loop-i-preserved c =
     record {
       room = omega (arith, c.merge_lanes.ensures.capacity, c.loop-i.invariant.room);
       count = omega (arith, count, la.ordered, lb.ordered, c.loop-i.invariant.count);
-      built = union_more a b va vb c.requires.lanes c.requires.width i c.loop-i.offsets.items _
-          c.loop-i.indices.items _ (omega arith) c.loop-i.invariant.built gained
+      built = union_more a b va vb c.requires.lanes c.requires.width _ (omega arith)
+          c.loop-i.invariant.built gained
           (c.in_ok-push-2.ensures.items ∙ ap (λ n. c.loop-i.offsets.items ++ n ∷ [])
           (c.len.ensures ∙ c.merge_lanes.new.indices.ok.0));
     }
@@ -92,5 +92,4 @@ returns-clause-places c =
     c.major_dim.ensures ∙ ap (λ m. raw_of a.major_dim m c.loop-i.offsets.items
     c.loop-i.indices.items) c.minor_dim.ensures in
     union_all a c.args.b.now c.minor_indices.ensures.valid c.minor_indices-2.ensures.valid
-    c.requires.lanes c.requires.width c.loop-i.i _ c.loop-i.offsets.items c.loop-i.indices.items
-    whole is c.loop-i.invariant.built
+    c.requires.lanes c.requires.width _ whole is c.loop-i.invariant.built

@@ -1,9 +1,8 @@
 use Rattle.std.proofs.lemmas.Grind.{common_steps}
-use Rattle.std.proofs.Common.{◌≡◌, ◌<◌, length, get_or, true, ap, refl, sym, ◌∙◌, None, Some, rules}
+use Rattle.std.proofs.Common.{◌≡◌, ◌<◌, length, get_or, ap, refl, sym, ◌∙◌, rules}
 use Rattle.std.proofs.Common.{arith}
 use Rattle.std.proofs.lemmas.List.{get_or_default}
 use Rattle.sparse_compressed.specs.Compressed.{lane_triplets}
-use Rattle.sparse_compressed.specs.StoredEntries.{place_of}
 use Rattle.sparse_compressed.proofs.Inside.{lane_triplets-places}
 use Rattle.sparse_sums.proofs.Placing.{missed, next_place, adding_more, all_added}
 use Rattle.sparse_sums.proofs.prealloc.add_transposed.Goals as goal
@@ -21,13 +20,8 @@ loop-i-init g c =
     })
 
 pub position_of-requires : goal.position_of-requires
-position_of-requires g c =
-    let place = next_place g.T.Ring.ring g.T.Ring.value g.T.Zero.zero_value c.args.target.now
-    c.major_offsets.ensures.valid true (g.T.Ring.value c.args.alpha)
-    (lane_triplets c.args.a.now) c.loop-i.i-iterator c.next.new.self
-    (c.in-Some.i, c.in-Some.j, c.in-Some.value.now) c.in-Some.ensures.steps c.args.values.now
-    c.loop-i.values c.requires.count c.loop-i.invariant in
-    place.in_lane.lane
+position_of-requires g c = (next_place c.major_offsets.ensures.valid c.loop-i.invariant
+    c.in-Some.ensures.steps).in_lane.lane
 
 pub loop-i-preserved-in-Some-position_of : goal.loop-i-preserved-in-Some-position_of
 loop-i-preserved-in-Some-position_of g c =
@@ -35,9 +29,6 @@ loop-i-preserved-in-Some-position_of g c =
     let f = g.T.Ring.value in
     let z = g.T.Zero.zero_value in
     let q = c.in-Some-position_of.at in
-    let d = c.args.target.now in
-    let found : place_of d c.in-Some.j c.in-Some.i ≡ Some q = sym c.position_of.ensures.position
-    ∙ c.in-Some-position_of.is in
     let within : q < length c.loop-i.values =
     omega (
       arith,
@@ -47,31 +38,22 @@ loop-i-preserved-in-Some-position_of g c =
     ) in
     let read = c.index-values-at.is ∙ get_or_default c.loop-i.values q c.index-values-at.result z
     within in
-    let sum = c.add.ensures ∙ ap (λ x. R.add x (f c.mul.result)) (ap f read)
-    ∙ ap (R.add (f (get_or c.loop-i.values q z))) c.mul.ensures in
-    adding_more R f z d c.major_offsets.ensures.valid true (f c.args.alpha)
-    (lane_triplets c.args.a.now) c.loop-i.i-iterator c.next.new.self
-    (c.in-Some.i, c.in-Some.j, c.in-Some.value.now) c.in-Some.ensures.steps c.args.values.now
-    c.loop-i.values c.requires.count c.loop-i.invariant q found c.add.result sum
+    adding_more c.major_offsets.ensures.valid c.loop-i.invariant c.in-Some.ensures.steps
+    c.requires.count q (sym c.position_of.ensures.position ∙ c.in-Some-position_of.is)
+    c.add.result
+    (c.add.ensures ∙ ap (λ x. R.add x (f c.mul.result)) (ap f read)
+    ∙ ap (R.add (f (get_or c.loop-i.values q z))) c.mul.ensures)
 
 pub loop-i-preserved : goal.loop-i-preserved
 loop-i-preserved g c =
-    let d = c.args.target.now in
-    let none : place_of d c.in-Some.j c.in-Some.i ≡ None = sym c.position_of.ensures.position
-    ∙ c.in-None-position_of.is in
-    let place = next_place g.T.Ring.ring g.T.Ring.value g.T.Zero.zero_value d
-    c.major_offsets.ensures.valid true (g.T.Ring.value c.args.alpha)
-    (lane_triplets c.args.a.now) c.loop-i.i-iterator c.next.new.self
-    (c.in-Some.i, c.in-Some.j, c.in-Some.value.now) c.in-Some.ensures.steps c.args.values.now
-    c.loop-i.values c.requires.count c.loop-i.invariant in
-    absurd (missed d c.major_offsets.ensures.valid _ _ none place)
+    let valid = c.major_offsets.ensures.valid in
+    absurd (missed c.args.target.now valid _ _
+    (sym c.position_of.ensures.position ∙ c.in-None-position_of.is)
+    (next_place valid c.loop-i.invariant c.in-Some.ensures.steps))
 
 pub returns-clause-added : goal.returns-clause-added
 returns-clause-added g c =
-    all_added g.T.Ring.ring g.T.Ring.value g.T.Zero.zero_value c.args.target.now
-    c.major_offsets.ensures.valid true (g.T.Ring.value c.args.alpha) c.args.a.now
-    c.loop-i.i-iterator c.args.values.now c.loop-i.values c.in-None.ensures.steps.0
-    c.loop-i.invariant
+    all_added c.args.a.now c.loop-i.invariant c.in-None.ensures.steps.0
 
 pub bounds-values-at : goal.bounds-values-at
 bounds-values-at g c = omega (
