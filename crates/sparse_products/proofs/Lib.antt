@@ -1,4 +1,3 @@
-mod GainedLanes
 mod BitSets
 mod BitReads
 mod ProductLanes
@@ -8,7 +7,6 @@ mod ProductSums
 mod CoveredLanes
 mod Walks
 mod LaneParts
-mod UpdatedRows
 mod TakenRows
 mod Updating
 mod MadeProducts

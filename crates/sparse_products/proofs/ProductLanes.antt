@@ -9,7 +9,7 @@ use Rattle.sparse_pattern.proofs.LaneLists.{lane_has}
 use Rattle.sparse_sums.proofs.Merging.{more}
 use Rattle.sparse_products.specs.Products.{IsProductOf}
 use Rattle.sparse_products.specs.InnerProducts.{IsInLanes}
-use Rattle.sparse_products.proofs.GainedLanes.{gains_same}
+use Rattle.sparse_sums.proofs.GainedLanes.{gains_same}
 
 -- (i, j) is a place of the product
 abbrev pub IsJoined : Raw → Raw → ℕ → ℕ → Type 0
@@ -27,21 +27,19 @@ in_lanes_is a b valid i j lt = (
   λ h. (h.0, (lane_has a valid i h.0 lt).1 h.1, h.2),
 )
 
-pub lane_more : (n : ℕ) (a b : Raw) (offsets offsets' indices indices' : List ℕ) → IsValid a
-    → IsValid b → n < a.major_dim → IsProductBelow n a b offsets indices
+pub lane_more : {n : ℕ} {offsets indices indices' : List ℕ} (a b : Raw) (offsets' : List ℕ)
+    → IsValid a → IsValid b → n < a.major_dim → IsProductBelow n a b offsets indices
     → GainsLane indices indices' (IsInLanes b (lane_of a n))
     → offsets' ≡ offsets ++ length indices' ∷ [] → IsProductBelow (n + 1) a b offsets' indices'
-lane_more n a b offsets offsets' indices indices' va vb lt below gains is =
+lane_more {n} {offsets} {indices} {indices'} a b offsets' va vb lt below gains is =
     lane_gained b.minor_dim (IsJoined a b) n offsets offsets' indices indices' below
-    (λ j h. place_within b vb h.0 j h.2)
-    (gains_same indices indices' (IsInLanes b (lane_of a n)) (IsJoined a b n)
-    (λ j. in_lanes_is a b va n j lt) gains) is
+    (λ j h. place_within b vb h.0 j h.2) (gains_same (λ j. in_lanes_is a b va n j lt) gains) is
 
 -- all lanes make the product
-pub all_lanes : (n : ℕ) (a b d : Raw) (offsets indices : List ℕ) → n ≡ a.major_dim
+pub all_lanes : {n : ℕ} {offsets indices : List ℕ} (a b d : Raw) → n ≡ a.major_dim
     → d ≡ raw_of a.major_dim b.minor_dim offsets indices → IsProductBelow n a b offsets indices
     → IsProductOf d a b
-all_lanes n a b d offsets indices whole is below =
+all_lanes {n} {offsets} {indices} a b d whole is below =
     all_built b.minor_dim (IsJoined a b) n a.major_dim d offsets indices whole is
     (λ i j h. h.1.in_lane.lane) below
 
@@ -68,12 +66,12 @@ in_lanes_then d lanes p k lt is j =
     )
 
 -- what holds of the indices of the first p lanes, and then of those of one lane more
-pub in_lanes_more : (d : Raw) → IsValid d → (Old New : ℕ → Type 0) (lanes : List ℕ) (p k : ℕ)
+pub in_lanes_more : (d : Raw) → IsValid d → {Old New : ℕ → Type 0} (lanes : List ℕ) (p k : ℕ)
     → p < length lanes → k ≡ get_or lanes p 0 → k < d.major_dim
     → ((j : ℕ) → New j ↔ (Old j ⊎ Contains (lane_of d k) j))
     → ((j : ℕ) → Old j ↔ IsInLanes d (take p lanes) j) → (j : ℕ)
     → New j ↔ IsInLanes d (take (p + 1) lanes) j
-in_lanes_more d valid Old New lanes p k lt is within adds before j =
+in_lanes_more d valid lanes p k lt is within adds before j =
     let lane = lane_has d valid k j within in
     let both = in_lanes_then d lanes p k lt is j in (
       λ h. both.1 (elim ((adds j).0 h)

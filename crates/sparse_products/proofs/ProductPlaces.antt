@@ -36,11 +36,3 @@ module _ (R : CommRing) {T : Type 0} (f : T → R.Carrier) {a b : Compressed T} 
   pub product_is_proper : IsProper product
   product_is_proper = proper_product R (plain_of_rows R f a) (plain_of_rows R f b)
       (proper_rows R f a) (proper_rows R f b)
-
-  -- where a pattern has the places of the product, the product is zero elsewhere
-  pub zero_elsewhere : (d : Raw) → HasProductPlaces d a.pattern b.pattern → (i j : ℕ)
-      → (IsPlace d i j → ⊥) → product.value i j ≡ R.zero
-  zero_elsewhere d places i j none = product_is_proper i j (elim (true_or_false (product.has i j)) [
-    | inl hit ↦ let s = (joined_places i j).1 hit in absurd (none (places i j s.0 s.1 s.2))
-    | inr miss ↦ miss
-  ])

@@ -15,7 +15,9 @@ use Rattle.sparse_compressed.specs.Compressed.{Compressed, arrays_of, IsSound}
 use Rattle.sparse_compressed.specs.PlainOfLanes.{plain_of_rows}
 use Rattle.sparse_compressed.specs.InnerRows.{lane_value}
 use Rattle.sparse_compressed.proofs.LaneValues.{lane_value_none, lane_value_at}
-use Rattle.sparse_compressed.proofs.BuiltMatrices.{IsBuiltMatrix, matrix_lane_built, built_is}
+use Rattle.sparse_compressed.proofs.BuiltMatrices.{IsBuiltMatrix, built_is}
+use Rattle.sparse_sums.specs.InnerAdding.{GainsEntries}
+use Rattle.sparse_sums.proofs.BuiltSums.{entries_built}
 use Rattle.sparse_products.specs.InnerProducts.{IsInLanes, GainsTaken}
 use Rattle.sparse_products.proofs.ProductLanes.{IsJoined, in_lanes_is}
 use Rattle.sparse_products.proofs.ProductPlaces.{product, joined_places, product_is_proper}
@@ -35,22 +37,6 @@ module _ (R : CommRing) {T : Type 0} (f : T → R.Carrier) {a b : Compressed T} 
   abbrev Below : ℕ → List ℕ → List ℕ → List T → Type 0
   Below n offsets indices values = IsMultipliedBelow R f a b n offsets indices values
 
-  -- no row yet
-  pub product_none : Below 0 (0 ∷ []) [] []
-  product_none = record {
-    built = record {
-      valid = record {
-        count = refl;
-        first = refl;
-        last = refl;
-        lanes = λ i lt. absurd (omega arith);
-      };
-      places = λ i j lt. absurd (omega arith);
-    };
-    count = refl;
-    values_are = λ i j lt. absurd (omega arith);
-  }
-
   -- zero where no lane has the index
   pub zero_off : (n : ℕ) → n < a.pattern.major_dim → (lane : List ℕ)
       → ((j : ℕ) → IsInLanes b.pattern (lane_of a.pattern n) j → Contains lane j) → (j : ℕ)
@@ -63,41 +49,6 @@ module _ (R : CommRing) {T : Type 0} (f : T → R.Carrier) {a b : Compressed T} 
       ])
 
   -- one row more
-  product_more : (z : T) {n : ℕ} {offsets offsets' indices indices' : List ℕ}
-      {values values' : List T} (part : List T) → n < a.pattern.major_dim
-      → Below n offsets indices values
-      → (gains : GainsLane indices indices' (IsInLanes b.pattern (lane_of a.pattern n)))
-      → offsets' ≡ offsets ++ length indices' ∷ [] → values' ≡ values ++ part
-      → length part ≡ length gains.lane
-      → ((q : ℕ) → q < length gains.lane → f (get_or part q z) ≡ P.value n (get_or gains.lane q 0))
-      → Below (n + 1) offsets' indices' values'
-  product_more z {n} {offsets} {indices = indices} {values = values} part lt built gains is
-      values_is count read =
-      let in_lanes = λ (j : ℕ). in_lanes_is a.pattern b.pattern sa.valid n j lt in
-      let holds : (j : ℕ) → Contains gains.lane j ↔ IsJoined a.pattern b.pattern n j = λ j. (
-        λ h. (in_lanes j).0 ((gains.holds j).0 h),
-        λ h. (gains.holds j).1 ((in_lanes j).1 h),
-      ) in
-      let bounded : (j : ℕ) → Contains gains.lane j → j < b.pattern.minor_dim =
-      λ j h. let s = (holds j).0 h in place_within b.pattern sb.valid s.0 j s.2 in
-      let joined = λ (j : ℕ). joined_places R f sa sb fits n j in
-      let value : (j : ℕ) → lane_value R f gains.lane part j ≡ P.value n j = λ j.
-      elim (true_or_false (P.has n j)) [
-        | inl hit ↦
-            let h = (holds j).1 ((joined j).1 hit) in
-            let index : get_or gains.lane h.0 0 ≡ j = get_or_default gains.lane h.0 0 j h.1 ∙ h.2 in
-            lane_value_at R f z j h.0 gains.lane part count (λ r s less within.
-            AllPairs-from_increasing gains.lane gains.rising r s 0 less within) h.1 index
-            ∙ read h.0 h.1 ∙ ap (P.value n) index
-        | inr miss ↦ lane_value_none R f j gains.lane part (λ q lt e.
-            let hit = (joined j).0 ((holds j).0 (subst (Contains gains.lane) e
-            (Contains-get_or gains.lane q 0 lt))) in
-            cc) ∙ sym (product_is_proper R f sa sb fits n j miss)
-      ] in
-      rw (is, gains.pushed, values_is)
-      (matrix_lane_built R f b.pattern.minor_dim (IsJoined a.pattern b.pattern) P.value n offsets
-      indices gains.lane values part built gains.rising bounded holds count value)
-
   pub row_more : (z : T) {n : ℕ} {offsets offsets' indices indices' : List ℕ}
       {values values' : List T} → n < a.pattern.major_dim → Below n offsets indices values
       → GainsLane indices indices' (IsInLanes b.pattern (lane_of a.pattern n))
@@ -105,11 +56,39 @@ module _ (R : CommRing) {T : Type 0} (f : T → R.Carrier) {a b : Compressed T} 
       → GainsTaken R f z values values' (drop (length indices) indices') (P.value n)
       → Below (n + 1) offsets' indices' values'
   row_more z {n} {indices = indices} {indices'} {values} {values'} lt built gains is more =
-      let lane : drop (length indices) indices' ≡ gains.lane =
+      let lane_is : drop (length indices) indices' ≡ gains.lane =
       ap (λ l. drop (length indices) l) gains.pushed
       ∙ drop_at indices gains.lane (length indices) refl in
-      let own = subst (λ l. GainsTaken R f z values values' l (P.value n)) lane more in
-      product_more z own.part lt built gains is own.pushed own.count own.values
+      let own = subst (λ l. GainsTaken R f z values values' l (P.value n)) lane_is more in
+      let joined = λ (j : ℕ). joined_places R f sa sb fits n j in
+      let in_lanes = λ (j : ℕ). in_lanes_is a.pattern b.pattern sa.valid n j lt in
+      let value : (j : ℕ) → lane_value R f gains.lane own.part j ≡ P.value n j = λ j.
+      elim (true_or_false (P.has n j)) [
+        | inl hit ↦
+            let h = (gains.holds j).1 ((in_lanes j).1 ((joined j).1 hit)) in
+            let index : get_or gains.lane h.0 0 ≡ j = get_or_default gains.lane h.0 0 j h.1 ∙ h.2 in
+            lane_value_at R f z j h.0 gains.lane own.part own.count (λ r s less within.
+            AllPairs-from_increasing gains.lane gains.rising r s 0 less within) h.1 index
+            ∙ own.values h.0 h.1 ∙ ap (P.value n) index
+        | inr miss ↦ lane_value_none R f j gains.lane own.part (λ q lt e.
+            let hit = (joined j).0 ((in_lanes j).0 ((gains.holds j).0
+            (subst (Contains gains.lane) e (Contains-get_or gains.lane q 0 lt)))) in
+            cc) ∙ sym (product_is_proper R f sa sb fits n j miss)
+      ] in
+      let entries : GainsEntries R f indices indices' values values'
+      (IsInLanes b.pattern (lane_of a.pattern n)) (P.value n) =
+      record {
+        lane = gains.lane;
+        values = own.part;
+        pushed = gains.pushed;
+        values_pushed = own.pushed;
+        count = own.count;
+        rising = gains.rising;
+        holds = gains.holds;
+        sums = value;
+      } in
+      entries_built built entries in_lanes (λ j. refl)
+      (λ j h. place_within b.pattern sb.valid h.0 j h.2) is
 
   module _ {n : ℕ} {offsets indices : List ℕ} {values : List T} (whole : n ≡ a.pattern.major_dim)
       (built : Below n offsets indices values) where

@@ -9,56 +9,43 @@ use Rattle.std.proofs.lemmas.List.{length-take-le, get_or_default, get_or-map, l
 use Rattle.std.proofs.lemmas.List.Kept.{AllPairs-from_increasing}
 use Rattle.sparse_algebra.proofs.Cases.{lt_or_ge}
 use Rattle.sparse_algebra.specs.Algebra.{CommRing}
-use Rattle.sparse_sums.proofs.Merging.{more}
+use Rattle.sparse_sums.proofs.Merging.{more, front_less}
 use Rattle.sparse_products.specs.InnerProducts.{GainsTaken, IsTaken}
 
 -- an index of a rising lane is not one of those before it
 pub not_before : (js : List ℕ) (p : ℕ) → IsStrictlyIncreasing js → p < length js
     → Contains (take p js) (get_or js p 0) → ⊥
-not_before js p rising lt h =
-    let long = length-take-le p js (omega arith) in
-    let q_lt : h.0 < p = omega (arith, h.1, long) in
+not_before js p rising lt h = omega (arith, front_less js p (get_or js p 0) rising lt h)
+
+-- one index more is taken
+pub taken_more : {T : Type 0} {z : T} {start row : List T} (js : List ℕ) (p : ℕ) → p < length js
+    → get_or js p 0 < length row → IsTaken z (take p js) start row
+    → IsTaken z (take (p + 1) js) start (set row (get_or js p 0) z)
+taken_more {z = z} {row = row} js p lt within was =
     let j = get_or js p 0 in
-    let same : get_or js h.0 0 ≡ j = get_or_default js h.0 0 j (omega (arith, q_lt, lt))
-    ∙ sym (get_or-take p js h.0 j q_lt) ∙ h.2 in
-    grind (arith, AllPairs-from_increasing js rising h.0 p 0, same)
-
-module _ {T : Type 0} (z : T) (start row : List T) (js : List ℕ) where
-  pub taken_none : IsTaken z (take 0 js) row row
-  taken_none = record {
-    cleared = λ k. inr (λ h. omega (arith, h.1));
-    kept = λ k none. refl;
-  }
-
-  -- one index more
-  pub taken_more : (p : ℕ) → p < length js → get_or js p 0 < length row
-      → IsTaken z (take p js) start row
-      → IsTaken z (take (p + 1) js) start (set row (get_or js p 0) z)
-  taken_more p lt within was =
-      let j = get_or js p 0 in
-      let front = λ (k : ℕ). more js p j k lt refl in
-      record {
-        cleared = λ k. elim (cases_eq k j) [
-          | inl same ↦ inl
-              (ap (λ k. get_or (set row j z) k z) same ∙ get_or-set_same row j z z within)
-          | inr differ ↦ elim (was.cleared k) [
-            | inl zero ↦ inl (get_or-set_other row j k z z differ ∙ zero)
-            | inr none ↦ inr (λ h. elim ((front k).0 h) [
-              | inl before ↦ none before
-              | inr same ↦ differ (sym same)
-            ])
-          ]
-        ];
-        kept = λ k none. get_or-set_other row j k z z (λ e. none ((front k).1 (inr (sym e))))
-            ∙ was.kept k (λ h. none ((front k).1 (inl h)));
-      }
+    let front = λ (k : ℕ). more js p j k lt refl in
+    record {
+      cleared = λ k. elim (cases_eq k j) [
+        | inl same ↦ inl
+            (ap (λ k. get_or (set row j z) k z) same ∙ get_or-set_same row j z z within)
+        | inr differ ↦ elim (was.cleared k) [
+          | inl zero ↦ inl (get_or-set_other row j k z z differ ∙ zero)
+          | inr none ↦ inr (λ h. elim ((front k).0 h) [
+            | inl before ↦ none before
+            | inr same ↦ differ (sym same)
+          ])
+        ]
+      ];
+      kept = λ k none. get_or-set_other row j k z z (λ e. none ((front k).1 (inr (sym e))))
+          ∙ was.kept k (λ h. none ((front k).1 (inl h)));
+    }
 
 -- the values of a row at the indices of a lane are those of x
-pub values_taken : (R : CommRing) {T : Type 0} (f : T → R.Carrier) (z : T) (x : ℕ → R.Carrier)
-    (row old new : List T) (js : List ℕ) → new ≡ old ++ map (λ j. get_or row j z) js
+pub values_taken : {R : CommRing} {T : Type 0} {f : T → R.Carrier} {z : T} {x : ℕ → R.Carrier}
+    (row : List T) {old new : List T} {js : List ℕ} → new ≡ old ++ map (λ j. get_or row j z) js
     → ((q : ℕ) → q < length js → f (get_or row (get_or js q 0) z) ≡ x (get_or js q 0))
     → GainsTaken R f z old new js x
-values_taken R f z x row old new js is same = record {
+values_taken {f = f} {z} row {js = js} is same = record {
   part = map (λ j. get_or row j z) js;
   pushed = is;
   count = length-map js (λ j. get_or row j z);
@@ -66,12 +53,12 @@ values_taken R f z x row old new js is same = record {
 }
 
 -- what is left in the scratch row, which is zero but for the indices of a lane
-pub left_zero : (R : CommRing) {T : Type 0} (f : T → R.Carrier) (z : T) (lane : List ℕ)
-    (x : ℕ → R.Carrier) (row left : List T) → f z ≡ R.zero
+pub left_zero : (R : CommRing) {T : Type 0} (f : T → R.Carrier) {z : T} {lane : List ℕ}
+    (x : ℕ → R.Carrier) {row left : List T} → f z ≡ R.zero
     → ((j : ℕ) → (Contains lane j → ⊥) → x j ≡ R.zero)
     → ((j : ℕ) → j < length row → f (get_or row j z) ≡ x j) → IsTaken z lane row left → (j : ℕ)
     → f (get_or left j z) ≡ R.zero
-left_zero R f z lane x row left zero elsewhere is_row taken j = elim (taken.cleared j) [
+left_zero R f {z} x {row} zero elsewhere is_row taken j = elim (taken.cleared j) [
   | inl is ↦ ap f is ∙ zero
   | inr none ↦ ap f (taken.kept j none) ∙ elim (lt_or_ge j (length row)) [
     | inl lt ↦ is_row j lt ∙ elsewhere j none

@@ -17,13 +17,13 @@ use Rattle.sparse_compressed.specs.Writing.{with_values}
 use Rattle.sparse_compressed.specs.InnerUpdates.{AreUpdated}
 use Rattle.sparse_compressed.proofs.Standing.{rows_have}
 use Rattle.sparse_compressed.proofs.Updates.{updated}
-use Rattle.sparse_sums.proofs.Updating.{written_back}
+use Rattle.sparse_sums.proofs.Updating.{update_is, written_back}
 use Rattle.sparse_products.specs.declared.serial.factor.Factors.{Factors}
 use Rattle.sparse_products.specs.declared.serial.factor.Operands.{Operands}
 use Rattle.sparse_products.specs.InnerFactors.{AreFactors, AreMatricesOf, matrix_of, product_of}
 use Rattle.sparse_products.specs.InnerUpdates.{CanUpdate, HasProductPlaces, steps_of}
 use Rattle.sparse_products.specs.ScalarProducts.{IfNotTransposed, triples_of}
-use Rattle.sparse_products.proofs.ProductPlaces.{product, joined_places, zero_elsewhere}
+use Rattle.sparse_products.proofs.ProductPlaces.{product, joined_places, product_is_proper}
 
 -- a refusal of one kind, which comes exactly where the places lack
 pub refused_is : {X E : Type 0} (r : Result X E) (kind memory : E) {P : Type 0}
@@ -81,19 +81,8 @@ module _ (R : CommRing) {T : Type 0} (f : T → R.Carrier) {x : Factors T} {d : 
         → AreUpdated R f z d beta alpha P.value vs ws
         → plain_of_rows R f (compressed_of d ws) ≡ plain_update R beta
         (plain_of_rows R f (compressed_of d vs)) alpha P
-    updated_is z beta alpha ws long places values =
-        let was = rows_have R f (compressed_of d vs) sound in
-        let new = plain_update R beta (plain_of_rows R f (compressed_of d vs)) alpha P in
-        updated R f z (compressed_of d vs) ws new.value sound long
-        (λ i j none.
-        let off = zero_elsewhere R f sa sb sizes.inner d places i j
-        (λ place. let hit = (was.places i j).0 place in cc) in
-        ap (λ c. R.add (R.mul beta c) (R.mul alpha (P.value i j))) (was.proper i j none)
-        ∙ ap (λ c. R.add c (R.mul alpha (P.value i j))) (mul_zero R beta)
-        ∙ ap (λ c. R.add R.zero (R.mul alpha c)) off ∙ ap (R.add R.zero) (mul_zero R alpha)
-        ∙ R.laws.add_zero R.zero)
-        (λ i j p at. values i j p at
-        ∙ ap (λ c. R.add (R.mul beta c) (R.mul alpha (P.value i j))) (was.values i j p z at))
+    updated_is z beta alpha ws long places values = update_is R f z P beta alpha ws sound long
+        (product_is_proper R f sa sb sizes.inner) (covered_is.0 places) values
 
 module _ (R : CommRing) where
   covered_through : (t : Bool) (p c : Plain R)
@@ -121,12 +110,12 @@ pub record IsUpdateOf (R : CommRing) {T : Type 0} (f : T → R.Carrier) (t : Boo
       → plain_transpose_if R t (plain_of_rows R f (with_values m ws)) ≡ plain_update R beta
       (plain_transpose_if R t (plain_of_rows R f m)) alpha p
 
-pub update_of : (R : CommRing) {T : Type 0} (f : T → R.Carrier) (t : Bool) (o : Operands T)
+pub update_of : {R : CommRing} {T : Type 0} {f : T → R.Carrier} {t : Bool} {o : Operands T}
     (x : Factors T) {m : Compressed T} {p : Plain R} {d : Raw} {vs : List T} → AreMatricesOf o x
     → AreFactors R f t p o → d ≡ m.pattern → vs ≡ m.values → IsSound m
     → (plain_transpose_if R t p).rows ≡ m.pattern.major_dim
     → (plain_transpose_if R t p).cols ≡ m.pattern.minor_dim → IsUpdateOf R f t m p x d vs
-update_of R f t o x {m} {p} {d} {vs} same are d_is vs_is sound lanes width =
+update_of {R} {f = f} {t} x {m} {p} {d} {vs} same are d_is vs_is sound lanes width =
     let q = product_of R f x in
     let is : q ≡ plain_transpose_if R t p = rw (same.0, same.1) are.product in
     let old = plain_of_rows R f m in

@@ -13,10 +13,10 @@ use Rattle.sparse_compressed.proofs.RowSums.{eq_refl}
 use Rattle.sparse_sums.proofs.Merging.{more}
 use Rattle.sparse_products.specs.InnerWalks.{AreAdded, AreNoted}
 
-module _ (R : CommRing) {T : Type 0} (f : T → R.Carrier) (z : T) (slot : ℕ → ℕ → Type 0)
-    (scale : R.Carrier) where
-  pub added_none : (old : List T) → AreAdded R f z slot scale (λ j. R.zero) old old
-  added_none old = record {
+module _ {R : CommRing} {T : Type 0} {f : T → R.Carrier} {z : T} {slot : ℕ → ℕ → Type 0}
+    {scale : R.Carrier} where
+  pub added_none : {old : List T} → AreAdded R f z slot scale (λ j. R.zero) old old
+  added_none {old} = record {
     added = λ j p at lt.
         let c = f (get_or old p z) in
         sym (ap (R.add c) (mul_zero R scale) ∙ R.laws.add_zero c);
@@ -24,13 +24,13 @@ module _ (R : CommRing) {T : Type 0} (f : T → R.Carrier) (z : T) (slot : ℕ �
   }
 
   -- one sum after another
-  pub added_then : (slot' : ℕ → ℕ → Type 0) (scale' : R.Carrier) (x x' sum : ℕ → R.Carrier)
-      (start now new : List T) → ((j p : ℕ) → slot' j p ↔ slot j p)
-      → length now ≡ length start
+  pub added_then : {slot' : ℕ → ℕ → Type 0} {scale' : R.Carrier} {x x' sum : ℕ → R.Carrier}
+      {start now new : List T} → AreAdded R f z slot scale x start now
+      → AreAdded R f z slot' scale' x' now new → length now ≡ length start
+      → ((j p : ℕ) → slot' j p ↔ slot j p)
       → ((j : ℕ) → R.mul scale (sum j) ≡ R.add (R.mul scale (x j)) (R.mul scale' (x' j)))
-      → AreAdded R f z slot scale x start now → AreAdded R f z slot' scale' x' now new
       → AreAdded R f z slot scale sum start new
-  added_then slot' scale' x x' sum start now new same long more before after = record {
+  added_then {scale' = scale'} {x} {x'} {start = start} before after long same more = record {
     added = λ j p at lt.
         let c = f (get_or start p z) in
         after.added j p ((same j p).1 at) (omega (arith, lt, long))
@@ -40,9 +40,9 @@ module _ (R : CommRing) {T : Type 0} (f : T → R.Carrier) (z : T) (slot : ℕ �
     others = λ p none. after.others p (λ j at. none j ((same j p).0 at)) ∙ before.others p none;
   }
 
-  pub added_same : (x y : ℕ → R.Carrier) (old new : List T) → ((j : ℕ) → x j ≡ y j)
+  pub added_same : {x y : ℕ → R.Carrier} {old new : List T} → ((j : ℕ) → x j ≡ y j)
       → AreAdded R f z slot scale x old new → AreAdded R f z slot scale y old new
-  added_same x y old new same was = record {
+  added_same {old = old} same was = record {
     added = λ j p at lt. was.added j p at lt
         ∙ ap (λ c. R.add (f (get_or old p z)) (R.mul scale c)) (same j);
     others = was.others;
@@ -78,46 +78,25 @@ module _ (R : CommRing) {T : Type 0} (f : T → R.Carrier) (z : T) (slot : ℕ �
         (λ e. none k (subst (λ p. slot k p) (sym e) here));
   }
 
-pub noted_none : (slot : ℕ → ℕ → Type 0) (before P : ℕ → Type 0) → ((j : ℕ) → P j → ⊥)
+pub noted_none : {slot : ℕ → ℕ → Type 0} {before P : ℕ → Type 0} → ((j : ℕ) → P j → ⊥)
     → AreNoted slot slot before before P
-noted_none slot before P none = record {
+noted_none none = record {
   kept = λ j p. (λ h. h, λ h. h);
   noted = λ j. (λ h. inl h, λ h. elim h [ inl was ↦ was | inr p ↦ absurd (none j p) ]);
 }
 
-pub noted_then : (slot slot' slot'' : ℕ → ℕ → Type 0) (before mid after P Q S : ℕ → Type 0)
-    → ((j : ℕ) → S j ↔ (P j ⊎ Q j)) → AreNoted slot slot' before mid P
-    → AreNoted slot' slot'' mid after Q → AreNoted slot slot'' before after S
-noted_then slot slot' slot'' before mid after P Q S both first second = record {
-  kept = λ j p. (
-    λ h. (first.kept j p).0 ((second.kept j p).0 h),
-    λ h. (second.kept j p).1 ((first.kept j p).1 h),
-  );
-  noted = λ j. (
-    λ h. elim ((second.noted j).0 h) [
-      | inl m ↦ elim ((first.noted j).0 m) [
-        | inl b ↦ inl b
-        | inr p ↦ inr ((both j).1 (inl p))
-      ]
-      | inr q ↦ inr ((both j).1 (inr q))
-    ],
-    λ h. (second.noted j).1 (elim h [
-      | inl b ↦ inl ((first.noted j).1 (inl b))
-      | inr s ↦ elim ((both j).0 s) [
-        | inl p ↦ inl ((first.noted j).1 (inr p))
-        | inr q ↦ inr q
-      ]
-    ]),
-  );
+pub noted_then : {slot slot' slot'' : ℕ → ℕ → Type 0} {before mid after P Q S : ℕ → Type 0}
+    → AreNoted slot slot' before mid P → AreNoted slot' slot'' mid after Q
+    → ((j : ℕ) → S j ↔ (P j ⊎ Q j)) → AreNoted slot slot'' before after S
+noted_then first second both = record {
+  kept = λ j p. grind (arith, first.kept j p, second.kept j p);
+  noted = λ j. grind (arith, first.noted j, second.noted j, both j);
 }
 
-pub noted_same : (slot slot' : ℕ → ℕ → Type 0) (before after P Q : ℕ → Type 0)
+pub noted_same : {slot slot' : ℕ → ℕ → Type 0} {before after P Q : ℕ → Type 0}
     → ((j : ℕ) → P j ↔ Q j) → AreNoted slot slot' before after P
     → AreNoted slot slot' before after Q
-noted_same slot slot' before after P Q same was = record {
+noted_same same was = record {
   kept = was.kept;
-  noted = λ j. (
-    λ h. elim ((was.noted j).0 h) [ inl b ↦ inl b | inr p ↦ inr ((same j).0 p) ],
-    λ h. (was.noted j).1 (elim h [ inl b ↦ inl b | inr q ↦ inr ((same j).1 q) ]),
-  );
+  noted = λ j. grind (arith, was.noted j, same j);
 }

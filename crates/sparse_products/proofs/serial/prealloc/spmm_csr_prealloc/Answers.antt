@@ -1,5 +1,5 @@
 use Rattle.std.proofs.lemmas.Grind.{common_steps}
-use Rattle.std.proofs.Common.{refl, false, arith}
+use Rattle.std.proofs.Common.{refl, arith}
 use Rattle.sparse_algebra.specs.declared.error.OperationErrorKind.TheVariants.{InvalidPattern}
 use Rattle.sparse_algebra.specs.declared.error.OperationErrorKind.TheVariants.{OutOfMemory}
 use Rattle.sparse_sums.proofs.Updating.{on_ok_also}
@@ -9,18 +9,16 @@ use Rattle.sparse_products.proofs.serial.prealloc.spmm_csr_prealloc.Goals as goa
 pub update_checked-requires : goal.update_checked-requires
 update_checked-requires g c =
     let target = c.pattern_and_values_mut-values.ensures in
-    let update = update_of g.T.Ring.ring g.T.Ring.value false c.in_ok-operands.operands c.factors.result
-    c.factors.ensures c.in_ok-operands.ensures.product target.pattern target.values
-    c.values.ensures.sound c.requires.rows c.requires.cols in
+    let update = update_of c.factors.result c.factors.ensures c.in_ok-operands.ensures.product
+    target.pattern target.values c.values.ensures.sound c.requires.rows c.requires.cols in
     update.sizes
 
 pub returns : goal.returns
 returns g c =
     let f = g.T.Ring.value in
     let target = c.pattern_and_values_mut-values.ensures in
-    let update = update_of g.T.Ring.ring f false c.in_ok-operands.operands c.factors.result
-    c.factors.ensures c.in_ok-operands.ensures.product target.pattern target.values
-    c.values.ensures.sound c.requires.rows c.requires.cols in
+    let update = update_of c.factors.result c.factors.ensures c.in_ok-operands.ensures.product
+    target.pattern target.values c.values.ensures.sound c.requires.rows c.requires.cols in
     let is = c.update_checked.ensures in
     record {
       covered = λ ok. update.covered.0 (is.covered.0 ok);

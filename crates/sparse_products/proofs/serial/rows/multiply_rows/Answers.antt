@@ -2,7 +2,8 @@ use Rattle.std.proofs.Common.{◌≡◌, ◌<◌, length, get_or, ap, subst, ◌
 use Rattle.std.proofs.lemmas.List.{take_at}
 use Rattle.sparse_pattern.specs.Raw.{Raw}
 use Rattle.sparse_products.specs.InnerLaneSets.{IsEmptyLaneSet}
-use Rattle.sparse_products.proofs.ProductRows.{product_none, row_more, product_sound, product_is}
+use Rattle.sparse_sums.proofs.BuiltSums.{none_built}
+use Rattle.sparse_products.proofs.ProductRows.{row_more, product_sound, product_is}
 use Rattle.sparse_products.proofs.serial.rows.multiply_rows.Goals as goal
 
 pub loop-i-init : goal.loop-i-init
@@ -17,9 +18,7 @@ loop-i-init g c =
         c.in_ok-rows.ensures.offsets,
         c.in_ok-rows.ensures.indices,
         c.in_ok-rows.ensures.values,
-      )
-          (product_none g.T.Ring.ring g.T.Ring.value c.pattern-first.ensures.sound
-          c.pattern-second.ensures.sound c.requires);
+      ) none_built;
     }
 
 pub push_row-requires-clause-lane : goal.push_row-requires-clause-lane

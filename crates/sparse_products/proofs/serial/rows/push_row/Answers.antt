@@ -6,7 +6,7 @@ use Rattle.std.proofs.lemmas.List.Elements.{Contains-get_or}
 use Rattle.sparse_pattern.specs.InnerGainedLanes.{GainsLane}
 use Rattle.sparse_products.specs.InnerBits.{HasBit}
 use Rattle.sparse_products.specs.InnerProducts.{IsInRow}
-use Rattle.sparse_products.proofs.GainedLanes.{gains_same}
+use Rattle.sparse_sums.proofs.GainedLanes.{gains_same}
 use Rattle.sparse_products.proofs.LaneParts.{tail_is}
 use Rattle.sparse_products.specs.InnerFactors.{product_of}
 use Rattle.sparse_products.proofs.ProductRows.{zero_off}
@@ -20,8 +20,7 @@ pub push_taken-requires : goal.push_taken-requires
 push_taken-requires g c =
     let old = c.args.rows.now.indices.items in
     let gains : GainsLane old c.drain_into.new.indices.items (IsInRow c.args.factors c.args.i) =
-    gains_same _ _ (HasBit c.add_row.new.set.words.items) (IsInRow c.args.factors c.args.i)
-    c.add_row.ensures.met c.in_ok-drain_into.ensures.pushed in
+    gains_same c.add_row.ensures.met c.in_ok-drain_into.ensures.pushed in
     let begin : length old ≡ c.len-begin.result =
     omega (arith, c.len-begin.ensures, c.args.rows.now.indices.ok.0) in
     let tail = tail_is c.deref.result.now old gains.lane c.len-begin.result begin
@@ -51,8 +50,7 @@ returns g c =
     c.add_row.ensures.added j (omega (arith, lt, c.add_row.auto.row)) in
     let old = c.args.rows.now.indices.items in
     let gains : GainsLane old c.drain_into.new.indices.items (IsInRow c.args.factors i) =
-    gains_same _ _ (HasBit c.add_row.new.set.words.items) (IsInRow c.args.factors i)
-    c.add_row.ensures.met c.in_ok-drain_into.ensures.pushed in
+    gains_same c.add_row.ensures.met c.in_ok-drain_into.ensures.pushed in
     let begin : length old ≡ c.len-begin.result =
     omega (arith, c.len-begin.ensures, c.args.rows.now.indices.ok.0) in
     let tail = tail_is c.deref.result.now old gains.lane c.len-begin.result begin
@@ -67,14 +65,12 @@ returns g c =
             (c.add_row.ensures.room j (c.requires.empty.room j lt));
         empty = c.in_ok-drain_into.ensures.empty;
       };
-      zero = left_zero R f z gains.lane x row c.push_taken.new.row g.met.T.Ring.zero_law
-          (zero_off R f sa sb c.requires.inner i c.requires.lane gains.lane
-          (λ j. (gains.holds j).1)) is_row taken;
+      zero = left_zero R f x g.met.T.Ring.zero_law (zero_off R f sa sb c.requires.inner i
+          c.requires.lane gains.lane (λ j. (gains.holds j).1)) is_row taken;
       lane = gains;
       offset = c.in_ok-push.ensures.items ∙ ap (λ n. c.args.rows.now.offsets.items ++ n ∷ [])
           (c.len.ensures ∙ c.drain_into.new.indices.ok.0);
-      values = rw lane (values_taken R f z x row c.args.rows.now.values.items
-          c.push_taken.new.values.items gains.lane pushed (λ q lt. is_row (get_or gains.lane q 0)
+      values = rw lane (values_taken row pushed (λ q lt. is_row (get_or gains.lane q 0)
           (omega (
             arith,
             c.add_row.ensures.bounded (get_or gains.lane q 0)

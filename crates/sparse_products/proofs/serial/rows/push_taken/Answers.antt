@@ -27,7 +27,7 @@ loop-j-preserved g c =
         c.push_reserved.ensures.len,
         c.push_reserved.ensures.capacity,
       );
-      taken = taken_more z start row js p lt within inv.taken;
+      taken = taken_more js p lt within inv.taken;
       pushed = c.push_reserved.ensures.items ∙ ap (λ xs. xs ++ v ∷ []) inv.pushed
           ∙ append_assoc c.args.values.now.items (map own (take p js)) (v ∷ [])
           ∙ ap (λ xs. c.args.values.now.items ++ xs)

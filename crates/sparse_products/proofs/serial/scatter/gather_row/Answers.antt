@@ -41,7 +41,7 @@ loop-at-preserved g c =
             (f (get_or start (get_or js p 0) z))) (sym here)
       ];
       others = λ p le. get_or-set_other values at p w z (omega arith) ∙ inv.others p (omega arith);
-      taken = taken_more z start row js at inside j_lt inv.taken;
+      taken = taken_more js at inside j_lt inv.taken;
       counted = omega (arith, inv.counted, c.tick.ensures);
     }
 

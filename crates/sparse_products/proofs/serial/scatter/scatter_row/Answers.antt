@@ -11,6 +11,7 @@ use Rattle.sparse_pattern.proofs.LaneLists.{lane_has}
 use Rattle.sparse_pattern.proofs.PatternLanes.{length-lane, get_or-lane}
 use Rattle.sparse_compressed.proofs.LaneSearch.{rising_lane}
 use Rattle.sparse_products.specs.InnerFactors.{product_of}
+use Rattle.sparse_sums.proofs.UpdatedLanes.{at_position, off_lane}
 use Rattle.sparse_products.proofs.LaneParts.{in_part, off_part}
 use Rattle.sparse_products.proofs.ProductLanes.{lane_below}
 use Rattle.sparse_products.proofs.ProductRows.{zero_off}
@@ -88,39 +89,32 @@ returns g c =
     let taken = rw c.lane.ensures at c.gather_row.ensures.taken in
     let counted = rw c.lane.ensures at c.gather_row.ensures.counted in
     rw offsets_are record {
-      zero = left_zero R f z (lane_of d i) (λ j. R.mul alpha (x i j)) row c.gather_row.new.row
-          g.met.T.Ring.zero_law
+      zero = left_zero R f (λ j. R.mul alpha (x i j)) g.met.T.Ring.zero_law
           (λ j none. ap (R.mul alpha) (zero_off R f sa sb c.requires.sizes.inner i a_lane
           (lane_of d i) (λ j h. (lane_has d valid i j c.requires.lane).1 (c.requires.places j h))
           j none)
           ∙ mul_zero R alpha) is_row taken;
       updated = λ j p at.
-          let k = p - s in
-          let k_lt : k < length (lane_of d i) = omega (arith, lane_long, at.0.from, at.0.to) in
-          let back : s + k ≡ p = omega (arith, at.0.from) in
-          let index : get_or (lane_of d i) k 0 ≡ j = get_or-lane d i in_lane k k_lt
-          ∙ ap (λ p. get_or d.indices p 0) back ∙ at.1 in
-          let was : get_or (slice_range old s (end_of d i)) k z ≡ get_or old p z =
-          get_or-between old s (end_of d i) k z (omega (arith, back, at.0.to))
-          ∙ ap (λ p. get_or old p z) back in
+          let q = at_position d i j p in_lane at in
+          let was : get_or (slice_range old s (end_of d i)) (p - s) z ≡ get_or old p z =
+          get_or-between old s (end_of d i) (p - s) z (omega (arith, q.back, at.0.to))
+          ∙ ap (λ p. get_or old p z) q.back in
           let col : j < length row = omega (
             arith,
-            lane_below d valid i c.requires.lane k 0 k_lt,
-            index,
+            lane_below d valid i c.requires.lane (p - s) 0 q.within,
+            q.index,
             c.requires.width,
             c.add_product_row.auto.target,
           ) in
           ap f (in_part s n old part z within part_long p at.0.from
-          (omega (arith, at.0.to, in_lane.ordered))) ∙ rw (was, index) at (gathered k k_lt)
+          (omega (arith, at.0.to, in_lane.ordered)))
+          ∙ rw (was, q.index) at (gathered (p - s) q.within)
           ∙ ap (R.add (R.mul (f c.args.update.now.beta) (f (get_or old p z)))) (is_row j col);
-      others = λ p none. off_part s n old part z within part_long p (elim (lt_or_ge p s) [
-        | inl below ↦ inl below
-        | inr from ↦ elim (lt_or_ge p (end_of d i)) [
-          | inl to ↦ absurd (none
-              (record { lane = c.requires.lane; from = from; to = to }))
-          | inr past ↦ inr (omega (arith, past, in_lane.ordered))
-        ]
-      ]);
+      others = λ p none. off_part s n old part z within part_long p
+          (elim (off_lane d i p c.requires.lane none) [
+            | inl below ↦ inl below
+            | inr past ↦ inr (omega (arith, past, in_lane.ordered))
+          ]);
       counted = omega (
         arith,
         c.add_product_row.ensures.counted,

@@ -3,7 +3,7 @@ use Rattle.std.proofs.lemmas.List.{take_at}
 use Rattle.sparse_pattern.specs.Raw.{start_of}
 use Rattle.sparse_pattern.proofs.LaneLists.{lane_has}
 use Rattle.sparse_products.proofs.ProductSums.{all_steps, no_steps}
-use Rattle.sparse_products.proofs.UpdatedRows.{rows_more, rows_none}
+use Rattle.sparse_sums.proofs.UpdatedLanes.{lanes_more, lanes_none}
 use Rattle.sparse_products.proofs.Updating.{updated_is}
 use Rattle.sparse_products.proofs.serial.scatter.scatter_rows.Goals as goal
 
@@ -24,7 +24,7 @@ loop-i-init g c =
     record {
       width = omega (arith, c.in_ok-row.ensures.width, c.minor_dim.ensures);
       zero = c.in_ok-row.ensures.zero;
-      rows = rows_none;
+      rows = lanes_none;
       counted = omega (
         arith,
         no_steps x.a.now.pattern x.b.now.pattern c.values.ensures.sound.valid,
@@ -43,7 +43,7 @@ loop-i-preserved g c =
       width = inv.width;
       zero = λ j. ap (λ xs. g.T.Ring.value (get_or xs j g.T.Zero.zero_value))
           (take_at left _ _ long) ∙ row.zero j;
-      rows = rows_more inv.rows c.major_offsets.ensures.valid lane c.scatter_row.new.values
+      rows = lanes_more inv.rows c.major_offsets.ensures.valid lane c.scatter_row.new.values
           row.others row.updated;
       counted = omega (arith, inv.counted, row.counted);
     }

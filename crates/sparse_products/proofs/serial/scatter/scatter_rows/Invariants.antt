@@ -3,7 +3,7 @@ use Rattle.sparse_pattern.specs.Raw.{start_of}
 use Rattle.sparse_products.specs.InnerFactors.{product_of}
 use Rattle.sparse_products.specs.InnerProducts.{IsZeroRow}
 use Rattle.sparse_products.specs.InnerUpdates.{steps_below}
-use Rattle.sparse_products.proofs.UpdatedRows.{HasUpdatedRows}
+use Rattle.sparse_sums.proofs.UpdatedLanes.{HasUpdatedLanes}
 use Rattle.sparse_products.proofs.serial.scatter.scatter_rows.Given as goal
 
 abbrev pub invariant-loop-i : goal.invariant-loop-i
@@ -15,7 +15,7 @@ invariant-loop-i g l =
     record {
       width : vec_len l.row ≡ l.pattern.minor_dim;
       zero : IsZeroRow R f z l.row.items;
-      rows : HasUpdatedRows R f z l.pattern (λ c. R.mul (f u.beta) (f c)) (f u.alpha)
+      rows : HasUpdatedLanes R f z l.pattern (λ c. R.mul (f u.beta) (f c)) (f u.alpha)
           (product_of R f u.factors).value l.initial.values l.values l.i;
       counted : l.steps ≡ l.initial.steps + steps_below l.i u.factors.a.now.pattern
           u.factors.b.now.pattern

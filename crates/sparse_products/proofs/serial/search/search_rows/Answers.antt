@@ -3,7 +3,7 @@ use Rattle.sparse_compressed.proofs.Arrays.{position_within}
 use Rattle.sparse_products.specs.InnerFactors.{product_of}
 use Rattle.sparse_products.proofs.CoveredLanes.{places_of_product}
 use Rattle.sparse_products.proofs.ProductSums.{all_steps, no_steps}
-use Rattle.sparse_products.proofs.UpdatedRows.{rows_more, rows_none}
+use Rattle.sparse_sums.proofs.UpdatedLanes.{lanes_more, lanes_none}
 use Rattle.sparse_products.proofs.Updating.{updated_is}
 use Rattle.sparse_products.proofs.serial.search.search_rows.Goals as goal
 
@@ -30,7 +30,7 @@ pub loop-i-init : goal.loop-i-init
 loop-i-init g c =
     let x = c.args.update.factors in
     record {
-      rows = rows_none;
+      rows = lanes_none;
       counted = omega (
         arith,
         no_steps x.a.now.pattern x.b.now.pattern c.values.ensures.sound.valid,
@@ -45,7 +45,7 @@ loop-i-preserved g c =
     let lane : i < d.major_dim = omega arith in
     let row = c.add_product_row.ensures in
     record {
-      rows = rows_more c.loop-i.invariant.rows valid lane c.add_product_row.new.target
+      rows = lanes_more c.loop-i.invariant.rows valid lane c.add_product_row.new.target
           (λ p none. row.added.others p (λ j at. none at.1.0))
           (λ j p at. row.added.added j p (valid, at) (omega (
             arith,

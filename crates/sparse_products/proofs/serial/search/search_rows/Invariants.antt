@@ -1,7 +1,7 @@
 use Rattle.std.proofs.Common.{◌≡◌, ◌+◌}
 use Rattle.sparse_products.specs.InnerFactors.{product_of}
 use Rattle.sparse_products.specs.InnerUpdates.{steps_below}
-use Rattle.sparse_products.proofs.UpdatedRows.{HasUpdatedRows}
+use Rattle.sparse_sums.proofs.UpdatedLanes.{HasUpdatedLanes}
 use Rattle.sparse_products.proofs.serial.search.search_rows.Given as goal
 
 abbrev pub invariant-loop-i : goal.invariant-loop-i
@@ -10,7 +10,7 @@ invariant-loop-i g l =
     let f = g.T.Ring.value in
     let u = l.fn.update in
     record {
-      rows : HasUpdatedRows R f g.T.Zero.zero_value l.pattern f (f u.alpha)
+      rows : HasUpdatedLanes R f g.T.Zero.zero_value l.pattern f (f u.alpha)
           (product_of R f u.factors).value l.initial.values l.values l.i;
       counted : l.steps ≡ l.initial.steps + steps_below l.i u.factors.a.now.pattern
           u.factors.b.now.pattern;

@@ -1,4 +1,4 @@
-use Rattle.std.proofs.Common.{true, arith}
+use Rattle.std.proofs.Common.{arith}
 use Rattle.std.proofs.lemmas.Grind.{common_steps}
 use Rattle.sparse_products.proofs.Updating.{update_of}
 use Rattle.sparse_products.proofs.serial.unchecked.spmm_csc_prealloc_unchecked.Goals as goal
@@ -6,9 +6,8 @@ use Rattle.sparse_products.proofs.serial.unchecked.spmm_csc_prealloc_unchecked.G
 pub update_covered-requires : goal.update_covered-requires
 update_covered-requires g c =
     let target = c.pattern_and_values_mut-values.ensures in
-    let update = update_of g.T.Ring.ring g.T.Ring.value true c.in_ok-operands.operands c.factors.result
-    c.factors.ensures c.in_ok-operands.ensures.product target.pattern target.values
-    c.values.ensures.sound c.requires.cols c.requires.rows in
+    let update = update_of c.factors.result c.factors.ensures c.in_ok-operands.ensures.product
+    target.pattern target.values c.values.ensures.sound c.requires.cols c.requires.rows in
     record {
       sizes = update.sizes;
       width = update.width;
@@ -19,9 +18,8 @@ pub returns-clause-updated : goal.returns-clause-updated
 returns-clause-updated g c =
     let f = g.T.Ring.value in
     let target = c.pattern_and_values_mut-values.ensures in
-    let update = update_of g.T.Ring.ring f true c.in_ok-operands.operands c.factors.result
-    c.factors.ensures c.in_ok-operands.ensures.product target.pattern target.values
-    c.values.ensures.sound c.requires.cols c.requires.rows in
+    let update = update_of c.factors.result c.factors.ensures c.in_ok-operands.ensures.product
+    target.pattern target.values c.values.ensures.sound c.requires.cols c.requires.rows in
     update.updated (f c.args.beta) (f c.args.alpha) _ c.update_covered.auto.values
     c.in_ok-update_covered.ensures.updated
 

@@ -1,4 +1,4 @@
-use Rattle.std.proofs.Common.{false, arith}
+use Rattle.std.proofs.Common.{arith}
 use Rattle.std.proofs.lemmas.Grind.{common_steps}
 use Rattle.sparse_products.proofs.Updating.{if_also, if_of_all, no_more_as, update_of}
 use Rattle.sparse_products.proofs.serial.unchecked.spmm_csr_prealloc_unchecked_counted.Goals as goal
@@ -6,9 +6,8 @@ use Rattle.sparse_products.proofs.serial.unchecked.spmm_csr_prealloc_unchecked_c
 pub update_covered-requires : goal.update_covered-requires
 update_covered-requires g c =
     let target = c.pattern_and_values_mut-values.ensures in
-    let update = update_of g.T.Ring.ring g.T.Ring.value false c.in_ok-operands.operands c.factors.result
-    c.factors.ensures c.in_ok-operands.ensures.product target.pattern target.values
-    c.values.ensures.sound c.requires.rows c.requires.cols in
+    let update = update_of c.factors.result c.factors.ensures c.in_ok-operands.ensures.product
+    target.pattern target.values c.values.ensures.sound c.requires.rows c.requires.cols in
     record {
       sizes = update.sizes;
       width = update.width;
@@ -19,9 +18,8 @@ pub returns-clause-updated : goal.returns-clause-updated
 returns-clause-updated g c =
     let f = g.T.Ring.value in
     let target = c.pattern_and_values_mut-values.ensures in
-    let update = update_of g.T.Ring.ring f false c.in_ok-operands.operands c.factors.result
-    c.factors.ensures c.in_ok-operands.ensures.product target.pattern target.values
-    c.values.ensures.sound c.requires.rows c.requires.cols in
+    let update = update_of c.factors.result c.factors.ensures c.in_ok-operands.ensures.product
+    target.pattern target.values c.values.ensures.sound c.requires.rows c.requires.cols in
     update.updated (f c.args.beta) (f c.args.alpha) _ c.update_covered.auto.values
     c.in_ok-update_covered.ensures.updated
 

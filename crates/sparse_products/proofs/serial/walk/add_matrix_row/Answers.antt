@@ -18,10 +18,8 @@ use Rattle.sparse_products.proofs.serial.walk.add_matrix_row.Goals as goal
 
 pub loop-j-init : goal.loop-j-init
 loop-j-init g c = record {
-  added = added_none g.T.Ring.ring g.T.Ring.value g.T.Zero.zero_value
-      (g.S.Slots.slot c.args.slots.now) (g.T.Ring.value c.args.scale) c.args.target.now;
-  noted = noted_none (g.S.Slots.slot c.args.slots.now) (g.S.Slots.noted c.args.slots.now)
-      (Contains []) (λ j h. omega (arith, h.1));
+  added = added_none;
+  noted = noted_none (λ j h. omega (arith, h.1));
   counted = omega arith;
 }
 
@@ -77,11 +75,7 @@ loop-j-preserved g c =
     let i = c.in-Some.j.now in
     let v = c.in-Some.entry.now in
     let q = c.slot_of-at.result in
-    let slot = g.S.Slots.slot in
-    let noted = g.S.Slots.noted in
-    let start = c.args.slots.now in
     let now = c.loop-j.slots in
-    let next = c.slot_of-at.new.self in
     let old = c.loop-j.target in
     let inv = c.loop-j.invariant in
     let found = c.slot_of-at.ensures.found in
@@ -104,17 +98,13 @@ loop-j-preserved g c =
     (sum_zip_more R (λ t. where_true R (nat_eq t.0 j) (f t.1)) js vs n i v turn.0 turn.1
     (turn.2 i) (turn.3 v)) ∙ R.laws.distrib scale (x n j) (hit j) in
     rw (length_push c.loop-j.yielded (c.in-Some.j, c.in-Some.entry)) record {
-      added = added_then R f z (slot start) scale (slot now) scale (x n) hit (x (n + 1))
-          c.args.target.now old _ inv.noted.kept c.loop-j.auto.target sum inv.added
-          (entry_added R f z (slot now) scale (g.met.S.Slots.one_slot now)
-          (g.met.S.Slots.one_column now) old i q v c.add.result found is);
-      noted = noted_then (slot start) (slot now) (slot next) (noted start) (noted now)
-          (noted next) (Contains (take n js)) (λ j. i ≡ j) (Contains (take (n + 1) js))
-          (λ j. more js n i j turn.0 (turn.2 0)) inv.noted
-          (record {
-            kept = c.slot_of-at.ensures.kept;
-            noted = c.slot_of-at.ensures.noted;
-          });
+      added = added_then inv.added (entry_added (g.met.S.Slots.one_slot now)
+          (g.met.S.Slots.one_column now) old i q v c.add.result found is) c.loop-j.auto.target
+          inv.noted.kept sum;
+      noted = noted_then inv.noted (record {
+        kept = c.slot_of-at.ensures.kept;
+        noted = c.slot_of-at.ensures.noted;
+      }) (λ j. more js n i j turn.0 (turn.2 0));
       counted = omega (arith, inv.counted, c.tick.ensures);
     }
 
@@ -136,17 +126,9 @@ returns g c =
     let long = length-values R f z b sound k c.requires.lane in
     let all : take n js ≡ js = take_all n js (omega arith) in
     let all' : take n vs ≡ vs = take_all n vs (omega arith) in
-    let slot = g.S.Slots.slot in
-    let noted = g.S.Slots.noted in
-    let start = c.args.slots.now in
-    let now = c.loop-j.slots in
     let inv = rw (all, all') at c.loop-j.invariant in
     record {
-      added = added_same R f z (slot start) (f c.args.scale) (lane_value R f js vs)
-          ((plain_of_rows R f b).value k) c.args.target.now c.loop-j.target
-          (lane_value_is R f z b sound k c.requires.lane) inv.added;
-      noted = noted_same (slot start) (slot now) (noted start) (noted now) (Contains js)
-          (IsPlace b.pattern k) (λ j. lane_has b.pattern sound.valid k j c.requires.lane)
-          inv.noted;
+      added = added_same (lane_value_is R f z b sound k c.requires.lane) inv.added;
+      noted = noted_same (λ j. lane_has b.pattern sound.valid k j c.requires.lane) inv.noted;
       counted = omega (arith, inv.counted, count, long);
     }

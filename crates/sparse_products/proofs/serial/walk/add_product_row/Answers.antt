@@ -23,10 +23,8 @@ loop-k-init g c =
     let s = start_of p c.args.i in
     let e : s + 0 ≡ s = omega arith in
     record {
-      added = added_none g.T.Ring.ring g.T.Ring.value g.T.Zero.zero_value
-          (g.S.Slots.slot c.args.slots.now) (g.T.Ring.value c.args.alpha) c.args.target.now;
-      noted = noted_none (g.S.Slots.slot c.args.slots.now) (g.S.Slots.noted c.args.slots.now)
-          (IsInLanes c.args.factors.b.now.pattern []) (λ j h. omega (arith, h.1.1));
+      added = added_none;
+      noted = noted_none (λ j h. omega (arith, h.1.1));
       counted = omega (arith, ap (λ n. triples_below n p c.args.factors.b.now.pattern) e);
     }
 
@@ -78,11 +76,6 @@ loop-k-preserved g c =
     let in_lane : s + n < length a.pattern.indices =
     omega (arith, turn.0, length-lane a.pattern i lane, lane.inside) in
     let e : s + (n + 1) ≡ s + n + 1 = omega arith in
-    let slot = g.S.Slots.slot in
-    let noted = g.S.Slots.noted in
-    let start = c.args.slots.now in
-    let now = c.loop-k.slots in
-    let next = c.add_matrix_row.new.slots in
     let inv = c.loop-k.invariant in
     let row = (plain_of_rows R f b).value k in
     let x = λ (m j : ℕ). sum_by R (λ t. R.mul (f t.1) ((plain_of_rows R f b).value t.0 j))
@@ -95,14 +88,10 @@ loop-k-preserved g c =
     ∙ ap (R.add (R.mul alpha (x n j))) (sym (R.laws.mul_assoc alpha (f v) (row j))
     ∙ ap (λ y. R.mul y (row j)) (sym scale)) in
     rw (length_push c.loop-k.yielded (c.in-Some.k, c.in-Some.entry)) record {
-      added = added_then R f z (slot start) alpha (slot now) (f c.mul.result) (x n) row (x (n + 1))
-          c.args.target.now c.loop-k.target c.add_matrix_row.new.target inv.noted.kept
-          c.loop-k.auto.target sum inv.added c.add_matrix_row.ensures.added;
-      noted = noted_then (slot start) (slot now) (slot next) (noted start) (noted now)
-          (noted next) (IsInLanes b.pattern (take n ks)) (IsPlace b.pattern k)
-          (IsInLanes b.pattern (take (n + 1) ks))
-          (in_lanes_then b.pattern ks n k turn.0 (turn.2 0)) inv.noted
-          c.add_matrix_row.ensures.noted;
+      added = added_then inv.added c.add_matrix_row.ensures.added c.loop-k.auto.target
+          inv.noted.kept sum;
+      noted = noted_then inv.noted c.add_matrix_row.ensures.noted
+          (in_lanes_then b.pattern ks n k turn.0 (turn.2 0));
       counted = omega (
         arith,
         inv.counted,
@@ -138,10 +127,7 @@ returns g c =
     omega (arith, count, long, length-lane a.pattern i lane, lane.ordered) in
     let inv = rw (all, all') at c.loop-k.invariant in
     record {
-      added = added_same R f z (g.S.Slots.slot c.args.slots.now) (f c.args.alpha)
-          (λ j. sum_by R (λ t. R.mul (f t.1) ((plain_of_rows R f b).value t.0 j)) (zip ks vs))
-          ((plain_product R (plain_of_rows R f a) (plain_of_rows R f b)).value i)
-          c.args.target.now c.loop-k.target (λ j. row_sum R f z a sound i c.requires.lane
+      added = added_same (λ j. row_sum R f z a sound i c.requires.lane
           (λ k. (plain_of_rows R f b).value k j)) inv.added;
       noted = inv.noted;
       counted = omega (
