@@ -16,8 +16,8 @@ loop-p-init g c =
       values_capacity = refl;
       count = omega arith;
       values_count = c.requires.count;
-      added = none_added R f h c.args.indices.now.items c.args.values.now.items c.args.a.now
-          c.args.a_values.now c.args.b.now c.args.b_values.now;
+      added = none_added R f h _ _ c.args.a.now c.args.a_values.now c.args.b.now
+          c.args.b_values.now;
     }
 
 pub loop-p-preserved-then-k-j : goal.loop-p-preserved-then-k-j
@@ -29,6 +29,7 @@ loop-p-preserved-then-k-j g c =
     let b = c.args.b.now in
     let p = c.loop-p.p in
     let q = c.loop-p.q in
+    let r = c.requires in
     let inv = c.loop-p.invariant in
     let index = c.push_reserved.ensures in
     let value = c.push_reserved-in-loop-p.ensures in
@@ -37,10 +38,8 @@ loop-p-preserved-then-k-j g c =
       | then-j-k w ↦
           let same : get_or a p 0 ≡ get_or b q 0 = omega arith in
           let least : c.min.result ≡ get_or a p 0 = omega (arith, c.min.ensures) in
-          let next = adding_both R f h c.args.indices.now.items c.args.values.now.items a
-          c.args.a_values.now b c.args.b_values.now c.loop-p.indices.items c.loop-p.values.items p q
-          c.requires.a_rising c.requires.b_rising c.requires.a_count c.requires.b_count inv.added
-          c.min.result c.front_value.result
+          let next = adding_both R f h _ _ a _ b _ _ _ p q r.a_rising r.b_rising r.a_count
+          r.b_count inv.added c.min.result c.front_value.result
           (omega arith) (omega arith) least (least ∙ same)
           c.index-a_values-p.result c.index-b_values-q.result c.index-a_values-p.is
           c.index-b_values-q.is
@@ -57,10 +56,8 @@ loop-p-preserved-then-k-j g c =
       | else-j-k w ↦
           let later : get_or b q 0 < get_or a p 0 = omega arith in
           let least : c.min.result ≡ get_or b q 0 = omega (arith, c.min.ensures) in
-          let next = adding_second R f h c.args.indices.now.items c.args.values.now.items a
-          c.args.a_values.now b c.args.b_values.now c.loop-p.indices.items c.loop-p.values.items p q
-          c.requires.a_rising c.requires.b_rising c.requires.a_count c.requires.b_count inv.added
-          c.min.result c.front_value.result
+          let next = adding_second R f h _ _ a _ b _ _ _ p q r.a_rising r.b_rising r.a_count
+          r.b_count inv.added c.min.result c.front_value.result
           (omega arith) least (λ _. omega (arith, least))
           c.index-b_values-q.result c.index-b_values-q.is
           (ap f (front.second later) ∙ c.with_sign-value.ensures) in
@@ -84,6 +81,7 @@ loop-p-preserved g c =
     let b = c.args.b.now in
     let p = c.loop-p.p in
     let q = c.loop-p.q in
+    let r = c.requires in
     let inv = c.loop-p.invariant in
     let index = c.push_reserved.ensures in
     let value = c.push_reserved-in-loop-p.ensures in
@@ -92,10 +90,8 @@ loop-p-preserved g c =
       | then-j-k w ↦
           let later : get_or a p 0 < get_or b q 0 = omega arith in
           let least : c.min.result ≡ get_or a p 0 = omega (arith, c.min.ensures) in
-          let next = adding_first R f h c.args.indices.now.items c.args.values.now.items a
-          c.args.a_values.now b c.args.b_values.now c.loop-p.indices.items c.loop-p.values.items p q
-          c.requires.a_rising c.requires.b_rising c.requires.a_count c.requires.b_count inv.added
-          c.min.result c.front_value.result
+          let next = adding_first R f h _ _ a _ b _ _ _ p q r.a_rising r.b_rising r.a_count
+          r.b_count inv.added c.min.result c.front_value.result
           (omega arith) least (λ _. omega (arith, least))
           (rw (front.first later) c.index-a_values-p.is) in
           record {

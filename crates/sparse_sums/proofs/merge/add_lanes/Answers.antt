@@ -19,42 +19,6 @@ add_fronts-p-requires g c = record {
   values_room = omega (arith, c.in_ok-reserve-2.ensures.ok, c.reserve-2.ensures.len);
 }
 
-pub offset_bounds-a-p : goal.offset_bounds-a-p
-offset_bounds-a-p g c = scaled_fits≤ _ _ _ c.add_fronts-p.ensures.first c.well_formed.0.1
-
-pub offset_bounds-a_values-p : goal.offset_bounds-a_values-p
-offset_bounds-a_values-p g c = rw c.requires.a_count c.add_fronts-p.ensures.first
-
-pub offset_bounds-b-q : goal.offset_bounds-b-q
-offset_bounds-b-q g c = scaled_fits≤ _ _ _ c.add_fronts-p.ensures.second c.well_formed.1.1.0.1
-
-pub offset_bounds-b_values-q : goal.offset_bounds-b_values-q
-offset_bounds-b_values-q g c = rw c.requires.b_count c.add_fronts-p.ensures.second
-
-pub slice_bounds-push_rest-count : goal.slice_bounds-push_rest-count
-slice_bounds-push_rest-count g c = c.add_fronts-p.ensures.first
-
-pub slice_bounds-push_rest-start : goal.slice_bounds-push_rest-start
-slice_bounds-push_rest-start g c = c.add_fronts-p.ensures.first
-
-pub slice_bounds-push_rest-count-2 : goal.slice_bounds-push_rest-count-2
-slice_bounds-push_rest-count-2 g c = rw c.requires.a_count c.add_fronts-p.ensures.first
-
-pub slice_bounds-push_rest-start-2 : goal.slice_bounds-push_rest-start-2
-slice_bounds-push_rest-start-2 g c = rw c.requires.a_count c.add_fronts-p.ensures.first
-
-pub slice_bounds-push_rest-count-3 : goal.slice_bounds-push_rest-count-3
-slice_bounds-push_rest-count-3 g c = c.add_fronts-p.ensures.second
-
-pub slice_bounds-push_rest-start-3 : goal.slice_bounds-push_rest-start-3
-slice_bounds-push_rest-start-3 g c = c.add_fronts-p.ensures.second
-
-pub slice_bounds-push_rest-count-4 : goal.slice_bounds-push_rest-count-4
-slice_bounds-push_rest-count-4 g c = rw c.requires.b_count c.add_fronts-p.ensures.second
-
-pub slice_bounds-push_rest-start-4 : goal.slice_bounds-push_rest-start-4
-slice_bounds-push_rest-start-4 g c = rw c.requires.b_count c.add_fronts-p.ensures.second
-
 pub push_rest-requires : goal.push_rest-requires
 push_rest-requires g c =
     let fronts = c.add_fronts-p.ensures in
@@ -156,3 +120,4 @@ returns g c =
       gained = subst (λ l. GainsEntries R f old l us new (λ j. Contains a j ⊎ Contains b j)
           (λ j. R.add (lane_value R f a av j) (lane_value R h b bv j))) (sym second) all;
     }
+

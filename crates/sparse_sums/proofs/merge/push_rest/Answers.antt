@@ -22,40 +22,6 @@ gains_more R f h old now vs k v w lt read same gained =
           ∙ ap (map h) (sym next);
     }
 
-pub loop-k-init : goal.loop-k-init
-loop-k-init g c = record {
-  capacity = refl;
-  values_capacity = refl;
-  count = omega arith;
-  values_count = omega arith;
-  indices = sym (append-nil _);
-  values = record { values = []; pushed = sym (append-nil _); meaning = refl };
-}
-
-pub bounds-rest-k : goal.bounds-rest-k
-bounds-rest-k g c = c.loop-k-test.true
-
-pub bounds-rest_values-k : goal.bounds-rest_values-k
-bounds-rest_values-k g c = omega (arith, c.loop-k-test.true, c.requires.count)
-
-pub push_reserved-requires : goal.push_reserved-requires
-push_reserved-requires g c = omega (
-  arith,
-  c.loop-k-test.true,
-  c.loop-k.invariant.count,
-  c.loop-k.invariant.capacity,
-  c.requires.room,
-)
-
-pub push_reserved-requires-in-loop-k : goal.push_reserved-requires-in-loop-k
-push_reserved-requires-in-loop-k g c = omega (
-  arith,
-  c.loop-k-test.true,
-  c.loop-k.invariant.values_count,
-  c.loop-k.invariant.values_capacity,
-  c.requires.values_room,
-)
-
 pub loop-k-preserved : goal.loop-k-preserved
 loop-k-preserved g c =
     let R = g.T.Ring.ring in
@@ -81,9 +47,6 @@ loop-k-preserved g c =
           c.with_sign.ensures inv.values);
     }
 
-pub loop-k-smaller : goal.loop-k-smaller
-loop-k-smaller g c = omega (arith, c.loop-k-test.true)
-
 pub returns-clause-indices : goal.returns-clause-indices
 returns-clause-indices g c = c.loop-k.invariant.indices
     ∙ ap (λ l. c.args.indices.now.items ++ l)
@@ -99,8 +62,3 @@ returns-clause-values g c =
     subst (λ l. GainsValues R f h c.args.values.now.items c.loop-k.values.items l) all
     c.loop-k.invariant.values
 
-pub returns-clause-capacity : goal.returns-clause-capacity
-returns-clause-capacity g c = c.loop-k.invariant.capacity
-
-pub returns-clause-values_capacity : goal.returns-clause-values_capacity
-returns-clause-values_capacity g c = c.loop-k.invariant.values_capacity
