@@ -5,23 +5,6 @@ use Rattle.sparse_compressed.proofs.LaneSearch.{rising_lane}
 use Rattle.sparse_sums.proofs.InOrder.{added_more, lane_covered}
 use Rattle.sparse_sums.proofs.in_order.add_in_order.Goals as goal
 
-pub lane-lane-requires : goal.lane-lane-requires
-lane-lane-requires g c = omega (
-  arith,
-  c.loop-i-test.true,
-  c.major_dim-i-end.ensures,
-  ap (λ (d : Raw). d.major_dim) c.pattern.ensures.pattern,
-)
-
-pub lane-requires : goal.lane-requires
-lane-requires g c = omega (
-  arith,
-  c.loop-i-test.true,
-  c.major_dim-i-end.ensures,
-  ap (λ (d : Raw). d.major_dim) c.pattern.ensures.pattern,
-  c.requires.lanes,
-)
-
 pub add_lane-requires : goal.add_lane-requires
 add_lane-requires g c =
     let d = c.args.target.now in

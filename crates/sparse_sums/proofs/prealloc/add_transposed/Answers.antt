@@ -55,19 +55,6 @@ pub returns-clause-added : goal.returns-clause-added
 returns-clause-added g c =
     all_added c.args.a.now c.loop-i.invariant c.in-None.ensures.steps.0
 
-pub bounds-values-at : goal.bounds-values-at
-bounds-values-at g c = omega (
-  arith,
-  c.in-Some-position_of.ensures.within,
-  c.requires.count,
-  c.loop-i.invariant.count,
-)
-
-pub returns-clause-count : goal.returns-clause-count
-returns-clause-count g c = c.loop-i.invariant.count
-
--- ---- written by tools/answer-goals
-
 pub offset_bounds-values-at : goal.offset_bounds-values-at
 offset_bounds-values-at g c = grind (arith, common_steps)
 

@@ -21,17 +21,6 @@ loop-i-init g c =
       ) none_built;
     }
 
-pub push_row-requires-clause-lane : goal.push_row-requires-clause-lane
-push_row-requires-clause-lane g c = omega (
-  arith,
-  c.loop-i-test.true,
-  c.major_dim-i-end.ensures,
-  ap (λ (d : Raw). d.major_dim) c.pattern-first.ensures.pattern,
-)
-
-pub push_row-requires-clause-width : goal.push_row-requires-clause-width
-push_row-requires-clause-width g c = c.deref_mut.ensures.len ∙ c.loop-i.invariant.width
-
 pub push_row-requires-clause-zero : goal.push_row-requires-clause-zero
 push_row-requires-clause-zero g c = λ j.
     ap (λ xs. g.T.Ring.value (get_or xs j g.T.Zero.zero_value)) c.deref_mut.ensures.value

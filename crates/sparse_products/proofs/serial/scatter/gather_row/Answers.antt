@@ -56,10 +56,3 @@ returns g c =
           (take_all c.loop-at.at js (omega (arith, whole))) inv.taken;
       counted = omega (arith, inv.counted, whole);
     }
-
-pub prove-unreachable-requires-in-loop-at : goal.prove-unreachable-requires-in-loop-at
-prove-unreachable-requires-in-loop-at g c =
-    omega (arith, c.requires.inside c.loop-at.at 0 (omega arith), c.loop-at.auto.row)
-
-pub prove-unreachable-requires : goal.prove-unreachable-requires
-prove-unreachable-requires g c = omega (arith, c.requires.count, c.loop-at.auto.values)

@@ -2,13 +2,6 @@ use Rattle.std.proofs.Common.{refl}
 use Rattle.sparse_products.proofs.Updating.{covered_is}
 use Rattle.sparse_products.proofs.serial.update.update_checked.Goals as goal
 
-pub covers_product-requires-clause-inner : goal.covers_product-requires-clause-inner
-covers_product-requires-clause-inner g c =
-    rw (c.pattern.ensures.pattern, c.pattern-2.ensures.pattern) c.requires.inner
-
-pub covers_product-requires-clause-lanes : goal.covers_product-requires-clause-lanes
-covers_product-requires-clause-lanes g c = rw c.pattern.ensures.pattern c.requires.lanes
-
 pub returns-then-not-covers_product-clause-covered :
     goal.returns-then-not-covers_product-clause-covered
 returns-then-not-covers_product-clause-covered g c =
