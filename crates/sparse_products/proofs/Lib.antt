@@ -1,5 +1,6 @@
 mod BitSets
 mod BitReads
+mod BitLevels
 mod ProductLanes
 mod ProductPlaces
 mod ProductRows

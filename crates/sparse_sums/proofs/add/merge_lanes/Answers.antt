@@ -17,26 +17,13 @@ loop-i-init g c =
       built = rw (offsets_is, r.no_indices, r.no_values) none_built;
     }
 
-pub merge_lane-requires : goal.merge_lane-requires
-merge_lane-requires g c =
-    let lanes = ap (λ (d : Raw). d.major_dim) c.pattern.ensures.pattern in
-    let below : c.loop-i.i < c.args.a.now.pattern.major_dim =
-    omega (arith, c.loop-i-test.true, c.major_dim-i-end.ensures, lanes) in
-    record {
-      first = below;
-      second = omega (arith, below, c.requires.lanes);
-      count = c.loop-i.invariant.values_count;
-    }
-
 pub loop-i-preserved : goal.loop-i-preserved
 loop-i-preserved g c =
     let r = c.requires in
-    let lt : c.loop-i.i < c.args.a.now.pattern.major_dim = omega (
-      arith,
-      c.loop-i-test.true,
-      c.major_dim-i-end.ensures,
-      ap (λ (d : Raw). d.major_dim) c.pattern.ensures.pattern,
-    ) in
+    let lanes = c.major_dim-i-end.ensures ∙ ap (λ (d : Raw). d.major_dim) c.pattern.ensures.pattern
+    in
+    let lt : c.loop-i.i < c.args.a.now.pattern.major_dim =
+    omega (arith, c.loop-i-test.true, lanes) in
     let gained = c.in_ok-merge_lane.ensures.gained in
     let was = c.loop-i in
     let now = c.merge_lane.new in
@@ -62,13 +49,10 @@ returns g c =
     let sa = c.pattern.ensures.sound in
     let r = c.requires in
     let done = c.loop-i in
-    let whole : done.i ≡ a.pattern.major_dim = omega (
-      arith,
-      c.loop-i-test.false,
-      done.auto.i-end,
-      c.major_dim-i-end.ensures,
-      ap (λ (d : Raw). d.major_dim) c.pattern.ensures.pattern,
-    ) in
+    let lanes = c.major_dim-i-end.ensures ∙ ap (λ (d : Raw). d.major_dim) c.pattern.ensures.pattern
+    in
+    let whole : done.i ≡ a.pattern.major_dim =
+    omega (arith, c.loop-i-test.false, done.auto.i-end, lanes) in
     record {
       sound = sum_sound R f z negate a b sa r.sound r.lanes r.width done.i done.offsets.items
           done.indices.items done.values.items whole done.invariant.built;

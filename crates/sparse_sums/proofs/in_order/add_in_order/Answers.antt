@@ -1,4 +1,4 @@
-use Rattle.std.proofs.Common.{◌<◌, ap, arith}
+use Rattle.std.proofs.Common.{◌<◌, ap, ◌∙◌, arith}
 use Rattle.sparse_pattern.specs.Raw.{Raw}
 use Rattle.sparse_pattern.proofs.PatternLanes.{length-lane}
 use Rattle.sparse_compressed.proofs.LaneSearch.{rising_lane}
@@ -9,12 +9,9 @@ pub add_lane-requires : goal.add_lane-requires
 add_lane-requires g c =
     let d = c.args.target.now in
     let i = c.loop-i.i in
-    let lt : i < c.args.a.now.pattern.major_dim = omega (
-      arith,
-      c.loop-i-test.true,
-      c.major_dim-i-end.ensures,
-      ap (λ (d : Raw). d.major_dim) c.pattern.ensures.pattern,
-    ) in
+    let lanes = c.major_dim-i-end.ensures ∙ ap (λ (d : Raw). d.major_dim) c.pattern.ensures.pattern
+    in
+    let lt : i < c.args.a.now.pattern.major_dim = omega (arith, c.loop-i-test.true, lanes) in
     let valid = c.major_offsets.ensures.valid.lanes i (omega (arith, lt, c.requires.lanes)) in
     let covered = (lane_covered d c.args.a.now.pattern c.major_offsets.ensures.valid
     c.pattern.ensures.sound.valid c.requires.lanes i lt).1
@@ -37,13 +34,10 @@ add_lane-requires g c =
 
 pub loop-i-preserved : goal.loop-i-preserved
 loop-i-preserved g c =
-    let lt : c.loop-i.i < c.args.target.now.major_dim = omega (
-      arith,
-      c.loop-i-test.true,
-      c.major_dim-i-end.ensures,
-      ap (λ (d : Raw). d.major_dim) c.pattern.ensures.pattern,
-      c.requires.lanes,
-    ) in
+    let lanes = c.major_dim-i-end.ensures ∙ ap (λ (d : Raw). d.major_dim) c.pattern.ensures.pattern
+    in
+    let lt : c.loop-i.i < c.args.target.now.major_dim =
+    omega (arith, c.loop-i-test.true, lanes, c.requires.lanes) in
     let added = rw (
       c.lane.ensures,
       c.major_offsets.ensures.offsets,

@@ -46,19 +46,3 @@ loop-k-preserved g c =
           (omega (arith, c.loop-k-test.true, c.requires.count)) c.index-rest_values-k.is
           c.with_sign.ensures inv.values);
     }
-
-pub returns-clause-indices : goal.returns-clause-indices
-returns-clause-indices g c = c.loop-k.invariant.indices
-    ∙ ap (λ l. c.args.indices.now.items ++ l)
-    (take_all c.loop-k.k c.args.rest.now c.loop-k-test.false)
-
-pub returns-clause-values : goal.returns-clause-values
-returns-clause-values g c =
-    let R = g.T.Ring.ring in
-    let f = g.T.Ring.value in
-    let h = λ (x : g.row.T.Denot). signed R (not (eqb g.row.NEGATE 0)) (f x) in
-    let all = take_all c.loop-k.k c.args.rest_values.now
-    (omega (arith, c.loop-k-test.false, c.requires.count)) in
-    subst (λ l. GainsValues R f h c.args.values.now.items c.loop-k.values.items l) all
-    c.loop-k.invariant.values
-

@@ -1,4 +1,4 @@
-use Rattle.std.proofs.Common.{◌≡◌, ◌++◌, ◌∷◌, [], ◌∙◌, ap, arith}
+use Rattle.std.proofs.Common.{◌≡◌, ◌++◌, ◌∷◌, [], ◌∙◌, ap, refl, arith}
 use Rattle.sparse_pattern.specs.Raw.{raw_of}
 use Rattle.sparse_pattern.proofs.PatternLanes.{length-lane}
 use Rattle.sparse_compressed.proofs.LaneSearch.{rising_lane}
@@ -62,34 +62,10 @@ loop-i-preserved c =
           (c.len.ensures ∙ c.merge_lanes.new.indices.ok.0));
     }
 
-pub from_offset_and_indices_unchecked-requires : goal.from_offset_and_indices_unchecked-requires
-from_offset_and_indices_unchecked-requires c =
-    let whole : c.loop-i.i ≡ c.args.a.now.major_dim = omega arith in
-    rw (c.major_dim.ensures, c.minor_dim.ensures, ← whole) c.loop-i.invariant.built.valid
-
-pub returns-clause-valid : goal.returns-clause-valid
-returns-clause-valid c =
-    let whole : c.loop-i.i ≡ c.args.a.now.major_dim = omega arith in
-    rw (
-      c.from_offset_and_indices_unchecked.ensures,
-      c.major_dim.ensures,
-      c.minor_dim.ensures,
-      ← whole,
-    ) c.loop-i.invariant.built.valid
-
-pub returns-clause-major : goal.returns-clause-major
-returns-clause-major c = rw c.from_offset_and_indices_unchecked.ensures c.major_dim.ensures
-
-pub returns-clause-minor : goal.returns-clause-minor
-returns-clause-minor c = rw c.from_offset_and_indices_unchecked.ensures c.minor_dim.ensures
-
 pub returns-clause-places : goal.returns-clause-places
 returns-clause-places c =
-    let a = c.args.a.now in
-    let whole : c.loop-i.i ≡ a.major_dim = omega arith in
-    let is = c.from_offset_and_indices_unchecked.ensures
-    ∙ ap (λ n. raw_of n c.minor_dim.result c.loop-i.offsets.items c.loop-i.indices.items)
-    c.major_dim.ensures ∙ ap (λ m. raw_of a.major_dim m c.loop-i.offsets.items
-    c.loop-i.indices.items) c.minor_dim.ensures in
-    union_all a c.args.b.now c.minor_indices.ensures.valid c.minor_indices-2.ensures.valid
-    c.requires.lanes c.requires.width _ whole is c.loop-i.invariant.built
+    let whole : c.loop-i.i ≡ c.args.a.now.major_dim = omega arith in
+    rw (c.from_offset_and_indices_unchecked.ensures, c.major_dim.ensures, c.minor_dim.ensures)
+    (union_all c.args.a.now c.args.b.now c.minor_indices.ensures.valid
+    c.minor_indices-2.ensures.valid c.requires.lanes c.requires.width _ whole refl
+    c.loop-i.invariant.built)

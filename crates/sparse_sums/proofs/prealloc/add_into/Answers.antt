@@ -4,9 +4,6 @@ use Rattle.sparse_compressed.specs.PlainOfLanes.{plain_of_rows}
 use Rattle.sparse_algebra.specs.Prealloc.{plain_transpose_if}
 use Rattle.sparse_sums.proofs.prealloc.add_into.Goals as goal
 
-pub covers-requires : goal.covers-requires
-covers-requires g c = rw c.pattern.ensures.pattern c.requires.lanes
-
 pub returns-then-not-covers : goal.returns-then-not-covers
 returns-then-not-covers g c =
     let covered = rw c.pattern.ensures.pattern at c.covers.ensures in
@@ -18,11 +15,6 @@ returns-then-not-covers g c =
       sound = c.pattern.ensures.sound;
       added = tt;
     }
-
-pub add_entries-requires-clause-covered : goal.add_entries-requires-clause-covered
-add_entries-requires-clause-covered g c =
-    let places = rw c.pattern.ensures.pattern at c.covers.ensures.0 in
-    places c.if-not-covers.false
 
 pub returns : goal.returns
 returns g c =

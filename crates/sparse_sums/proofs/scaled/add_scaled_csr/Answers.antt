@@ -4,15 +4,6 @@ use Rattle.sparse_algebra.specs.Plain.{Plain, plain_sum}
 use Rattle.sparse_compressed.specs.PlainOfLanes.{plain_of_rows}
 use Rattle.sparse_sums.proofs.scaled.add_scaled_csr.Goals as goal
 
-pub add_csr-requires : goal.add_csr-requires
-add_csr-requires g c =
-    let first = c.in_ok-first.ensures in
-    let second = c.in_ok-second.ensures in
-    record {
-      rows = ap (λ p. p.rows) first ∙ c.requires.rows ∙ sym (ap (λ p. p.rows) second);
-      cols = ap (λ p. p.cols) first ∙ c.requires.cols ∙ sym (ap (λ p. p.cols) second);
-    }
-
 pub returns : goal.returns
 returns g c =
     let R = g.T.Ring.ring in

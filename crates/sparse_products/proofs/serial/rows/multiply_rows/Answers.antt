@@ -21,11 +21,6 @@ loop-i-init g c =
       ) none_built;
     }
 
-pub push_row-requires-clause-zero : goal.push_row-requires-clause-zero
-push_row-requires-clause-zero g c = λ j.
-    ap (λ xs. g.T.Ring.value (get_or xs j g.T.Zero.zero_value)) c.deref_mut.ensures.value
-    ∙ c.loop-i.invariant.zero j
-
 pub loop-i-preserved : goal.loop-i-preserved
 loop-i-preserved g c =
     let f = g.T.Ring.value in

@@ -13,9 +13,6 @@ use Rattle.sparse_products.proofs.ProductRows.{zero_off}
 use Rattle.sparse_products.proofs.TakenRows.{left_zero, values_taken}
 use Rattle.sparse_products.proofs.serial.rows.push_row.Goals as goal
 
-pub drain_into-requires : goal.drain_into-requires
-drain_into-requires g c = c.add_row.ensures.room 0 (c.requires.empty.room 0 (omega arith))
-
 pub push_taken-requires : goal.push_taken-requires
 push_taken-requires g c =
     let old = c.args.rows.now.indices.items in

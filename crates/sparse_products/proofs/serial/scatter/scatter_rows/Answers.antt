@@ -13,11 +13,6 @@ scatter_row-requires-clause-places g c = λ j h.
     c.requires.places i j h.0 ((lane_has c.args.update.factors.a.now.pattern
     c.values.ensures.sound.valid i h.0 (omega (arith, c.requires.sizes.lanes))).0 h.1) h.2
 
-pub scatter_row-requires-clause-zero : goal.scatter_row-requires-clause-zero
-scatter_row-requires-clause-zero g c = λ j.
-    ap (λ xs. g.T.Ring.value (get_or xs j g.T.Zero.zero_value)) c.deref_mut.ensures.value
-    ∙ c.loop-i.invariant.zero j
-
 pub loop-i-init : goal.loop-i-init
 loop-i-init g c =
     let x = c.args.update.factors in

@@ -23,9 +23,6 @@ returns-clause-updated g c =
     update.updated (f c.args.beta) (f c.args.alpha) _ c.update_covered.auto.values
     c.in_ok-update_covered.ensures.updated
 
-pub returns-in_err-operands-clause-no_more : goal.returns-in_err-operands-clause-no_more
-returns-in_err-operands-clause-no_more g c = if_of_all c.args.a c.args.b (λ m n. omega arith)
-
 pub returns-in_err-update_covered-clause-no_more : goal.returns-in_err-update_covered-clause-no_more
 returns-in_err-update_covered-clause-no_more g c =
     no_more_as c.args.a c.args.b c.in_ok-operands.operands c.factors.result _ c.factors.ensures
