@@ -1,15 +1,13 @@
 -- The places of a product, in plain matrices.
-use Rattle.std.proofs.Common.{◌≡◌, ℕ, ◌↔◌, inl, inr, true, ◌&&◌, arith}
-use Rattle.sparse_algebra.proofs.Cases.{and_both, and_parts, true_or_false}
+use Rattle.std.proofs.Common.{◌≡◌, ℕ, ◌↔◌, true, ◌&&◌, arith}
+use Rattle.sparse_algebra.proofs.Cases.{and_both, and_parts}
 use Rattle.sparse_algebra.specs.Algebra.{CommRing}
 use Rattle.sparse_algebra.specs.Plain.{Plain, IsProper, plain_product}
 use Rattle.sparse_algebra.proofs.PlainLemmas.{any_is, proper_product}
-use Rattle.sparse_pattern.specs.Raw.{Raw, IsPlace}
 use Rattle.sparse_compressed.specs.Compressed.{Compressed, IsSound}
 use Rattle.sparse_compressed.specs.PlainOfLanes.{plain_of_rows}
 use Rattle.sparse_compressed.proofs.Arrays.{proper_rows}
 use Rattle.sparse_compressed.proofs.Standing.{rows_have}
-use Rattle.sparse_products.specs.InnerUpdates.{HasProductPlaces}
 use Rattle.sparse_products.proofs.ProductLanes.{IsJoined}
 
 module _ (R : CommRing) {T : Type 0} (f : T → R.Carrier) {a b : Compressed T} (sa : IsSound a)

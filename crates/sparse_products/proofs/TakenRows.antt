@@ -4,9 +4,8 @@ use Rattle.std.proofs.Common.{◌++◌, length, take, get_or, map, set}
 use Rattle.std.proofs.Common.{Contains, ap, sym, ◌∙◌, refl, arith}
 use Rattle.std.specs.List.Sorted.{IsStrictlyIncreasing}
 use Rattle.std.proofs.lemmas.Bool.{cases_eq}
-use Rattle.std.proofs.lemmas.List.{get_or-set_same, get_or-set_other, get_or_past, get_or-take}
-use Rattle.std.proofs.lemmas.List.{length-take-le, get_or_default, get_or-map, length-map}
-use Rattle.std.proofs.lemmas.List.Kept.{AllPairs-from_increasing}
+use Rattle.std.proofs.lemmas.List.{get_or-set_same, get_or-set_other, get_or_past}
+use Rattle.std.proofs.lemmas.List.{get_or-map, length-map}
 use Rattle.sparse_algebra.proofs.Cases.{lt_or_ge}
 use Rattle.sparse_algebra.specs.Algebra.{CommRing}
 use Rattle.sparse_sums.proofs.Merging.{more, front_less}

@@ -5,7 +5,6 @@ use Rattle.std.proofs.Common.{ap, sym, subst, ◌∙◌, refl, arith}
 use Rattle.std.specs.Prelude.{⊤, Result, Ok, Err, IsOk, IfErr}
 use Rattle.sparse_algebra.specs.Algebra.{CommRing}
 use Rattle.sparse_algebra.specs.Plain.{Plain, plain_product}
-use Rattle.sparse_algebra.proofs.RingLemmas.{mul_zero}
 use Rattle.sparse_algebra.specs.declared.operand.Op.{Op}
 use Rattle.sparse_algebra.specs.declared.operand.Op.TheVariants.{NoOp, Transpose}
 use Rattle.sparse_algebra.specs.Operands.{MatchOp}
@@ -16,7 +15,6 @@ use Rattle.sparse_compressed.specs.PlainOfLanes.{plain_of_rows}
 use Rattle.sparse_compressed.specs.Writing.{with_values}
 use Rattle.sparse_compressed.specs.InnerUpdates.{AreUpdated}
 use Rattle.sparse_compressed.proofs.Standing.{rows_have}
-use Rattle.sparse_compressed.proofs.Updates.{updated}
 use Rattle.sparse_sums.proofs.Updating.{update_is, written_back}
 use Rattle.sparse_products.specs.declared.serial.factor.Factors.{Factors}
 use Rattle.sparse_products.specs.declared.serial.factor.Operands.{Operands}

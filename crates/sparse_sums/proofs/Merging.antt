@@ -99,6 +99,7 @@ none_merged old a b = record {
 }
 
 module _ {old now a b : List ℕ} {p q : ℕ} (m : IsMerging old now a b p q) (x : ℕ) where
+  -- the index x is pushed
   abbrev pub with_index : {p' q' : ℕ} → IsMerged a b p' q' (m.lane ++ x ∷ [])
       → IsMerging old (now ++ x ∷ []) a b p' q'
   with_index merged = record {

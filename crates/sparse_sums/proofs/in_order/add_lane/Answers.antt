@@ -52,4 +52,3 @@ returns-clause-added g c = λ m lt.
     (take_all k lane (omega (arith, all)))
     ∙ ap (λ l. R.add start (R.mul (f c.args.alpha) (lane_value R f lane l at)))
     (take_all k us (omega (arith, all, c.requires.count)))
-

@@ -25,12 +25,10 @@ pub loop-i-preserved : goal.loop-i-preserved
 loop-i-preserved g c =
     let f = g.T.Ring.value in
     let z = g.T.Zero.zero_value in
-    let lt : c.loop-i.i < c.args.factors.a.now.pattern.major_dim = omega (
-      arith,
-      c.loop-i-test.true,
-      c.major_dim-i-end.ensures,
-      ap (λ (d : Raw). d.major_dim) c.pattern-first.ensures.pattern,
-    ) in
+    let lanes = c.major_dim-i-end.ensures
+    ∙ ap (λ (d : Raw). d.major_dim) c.pattern-first.ensures.pattern in
+    let lt : c.loop-i.i < c.args.factors.a.now.pattern.major_dim =
+    omega (arith, c.loop-i-test.true, lanes) in
     let left = c.push_row.new.row in
     let long : length left ≡ c.loop-i.row.len = c.push_row.auto.row ∙ c.deref_mut.ensures.len in
     let gained = c.in_ok-push_row.ensures in
@@ -46,34 +44,26 @@ loop-i-preserved g c =
 pub into_matrix-requires : goal.into_matrix-requires
 into_matrix-requires g c =
     let first_is = c.pattern-first.ensures.pattern in
-    let lanes = c.major_dim-2.ensures ∙ ap (λ (d : Raw). d.major_dim) first_is in
-    let cols = c.minor_dim-3.ensures
-    ∙ ap (λ (d : Raw). d.minor_dim) c.pattern-second.ensures.pattern in
-    let whole : c.loop-i.i ≡ c.args.factors.a.now.pattern.major_dim = omega (
-      arith,
-      c.loop-i-test.false,
-      c.loop-i.auto.i-end,
-      c.major_dim-i-end.ensures,
-      ap (λ (d : Raw). d.major_dim) first_is,
-    ) in
-    rw (lanes, cols) (product_sound g.T.Ring.ring g.T.Ring.value c.pattern-first.ensures.sound
+    let lanes = c.major_dim-i-end.ensures ∙ ap (λ (d : Raw). d.major_dim) first_is in
+    let whole : c.loop-i.i ≡ c.args.factors.a.now.pattern.major_dim =
+    omega (arith, c.loop-i-test.false, c.loop-i.auto.i-end, lanes) in
+    rw (c.major_dim-2.ensures, c.minor_dim-3.ensures, first_is, c.pattern-second.ensures.pattern)
+    (product_sound g.T.Ring.ring g.T.Ring.value c.pattern-first.ensures.sound
     c.pattern-second.ensures.sound c.requires whole c.loop-i.invariant.built)
 
 pub returns : goal.returns
 returns g c =
-    let R = g.T.Ring.ring in
-    let f = g.T.Ring.value in
     let first_is = c.pattern-first.ensures.pattern in
-    let lanes = c.major_dim-2.ensures ∙ ap (λ (d : Raw). d.major_dim) first_is in
-    let cols = c.minor_dim-3.ensures
-    ∙ ap (λ (d : Raw). d.minor_dim) c.pattern-second.ensures.pattern in
-    let whole : c.loop-i.i ≡ c.args.factors.a.now.pattern.major_dim = omega (
-      arith,
-      c.loop-i-test.false,
-      c.loop-i.auto.i-end,
-      c.major_dim-i-end.ensures,
-      ap (λ (d : Raw). d.major_dim) first_is,
-    ) in
-    rw (c.into_matrix.ensures, lanes, cols) (product_is R f c.pattern-first.ensures.sound
+    let lanes = c.major_dim-i-end.ensures ∙ ap (λ (d : Raw). d.major_dim) first_is in
+    let whole : c.loop-i.i ≡ c.args.factors.a.now.pattern.major_dim =
+    omega (arith, c.loop-i-test.false, c.loop-i.auto.i-end, lanes) in
+    rw (
+      c.into_matrix.ensures,
+      c.major_dim-2.ensures,
+      c.minor_dim-3.ensures,
+      first_is,
+      c.pattern-second.ensures.pattern,
+    )
+    (product_is g.T.Ring.ring g.T.Ring.value c.pattern-first.ensures.sound
     c.pattern-second.ensures.sound c.requires whole c.loop-i.invariant.built
     g.T.Zero.zero_value)

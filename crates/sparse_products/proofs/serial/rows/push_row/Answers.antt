@@ -4,7 +4,6 @@ use Rattle.std.proofs.Common.{get_or, drop, ap, ◌∙◌, refl, arith}
 use Rattle.std.proofs.lemmas.List.{drop_at}
 use Rattle.std.proofs.lemmas.List.Elements.{Contains-get_or}
 use Rattle.sparse_pattern.specs.InnerGainedLanes.{GainsLane}
-use Rattle.sparse_products.specs.InnerBits.{HasBit}
 use Rattle.sparse_products.specs.InnerProducts.{IsInRow}
 use Rattle.sparse_sums.proofs.GainedLanes.{gains_same}
 use Rattle.sparse_products.proofs.LaneParts.{tail_is}

@@ -1,7 +1,6 @@
 use Rattle.std.proofs.Common.{◌≡◌, ◌<◌, ℕ, ◌∷◌, [], ◌++◌, length, map, get_or, ap, sym, ◌∙◌, arith}
-use Rattle.std.proofs.Common.{append_assoc, subst, take}
-use Rattle.std.proofs.lemmas.List.{get_or_default, map-append, take_all, take_more}
-use Rattle.sparse_products.specs.InnerProducts.{IsTaken}
+use Rattle.std.proofs.Common.{append_assoc, take}
+use Rattle.std.proofs.lemmas.List.{get_or_default, map-append, take_more}
 use Rattle.sparse_products.proofs.TakenRows.{taken_more, not_before}
 use Rattle.sparse_products.proofs.serial.rows.push_taken.Goals as goal
 
@@ -34,12 +33,3 @@ loop-j-preserved g c =
           (ap (λ x. map own (take p js) ++ x ∷ []) read
           ∙ sym (map-append own (take p js) (j ∷ [])) ∙ ap (map own) (sym (take_more js p 0 lt)));
     }
-
-pub returns-clause-taken : goal.returns-clause-taken
-returns-clause-taken g c = subst (λ l. IsTaken g.T.Zero.zero_value l c.args.row.now c.loop-j.row)
-    (take_all c.loop-j.j-index c.args.indices.now c.loop-j-test.false) c.loop-j.invariant.taken
-
-pub returns-clause-pushed : goal.returns-clause-pushed
-returns-clause-pushed g c = c.loop-j.invariant.pushed ∙ ap (λ l. c.args.values.now.items
-    ++ map (λ j. get_or c.args.row.now j g.T.Zero.zero_value) l)
-    (take_all c.loop-j.j-index c.args.indices.now c.loop-j-test.false)

@@ -3,12 +3,11 @@ use Rattle.std.proofs.Common.{◌≡◌, ◌+◌, ◌-◌, ◌<◌, ◌≤◌, �
 use Rattle.std.proofs.Common.{slice_range, ap, refl, arith}
 use borrow.Rule.Slice.PartMut.{mid_len}
 use Rattle.std.proofs.lemmas.List.Edits.{get_or-between}
-use Rattle.sparse_algebra.proofs.Cases.{lt_or_ge}
 use Rattle.sparse_algebra.proofs.RingLemmas.{zero_add, mul_zero}
 use Rattle.sparse_pattern.specs.Raw.{start_of, end_of, lane_of}
 use Rattle.sparse_pattern.proofs.BuiltLanes.{place_within}
 use Rattle.sparse_pattern.proofs.LaneLists.{lane_has}
-use Rattle.sparse_pattern.proofs.PatternLanes.{length-lane, get_or-lane}
+use Rattle.sparse_pattern.proofs.PatternLanes.{length-lane}
 use Rattle.sparse_compressed.proofs.LaneSearch.{rising_lane}
 use Rattle.sparse_products.specs.InnerFactors.{product_of}
 use Rattle.sparse_sums.proofs.UpdatedLanes.{at_position, off_lane}

@@ -1,6 +1,6 @@
 use Rattle.std.proofs.Common.{arith}
 use Rattle.std.proofs.lemmas.Grind.{common_steps}
-use Rattle.sparse_products.proofs.Updating.{if_also, if_of_all, no_more_as, update_of}
+use Rattle.sparse_products.proofs.Updating.{if_also, no_more_as, update_of}
 use Rattle.sparse_products.proofs.serial.unchecked.spmm_csr_prealloc_unchecked_counted.Goals as goal
 
 pub update_covered-requires : goal.update_covered-requires

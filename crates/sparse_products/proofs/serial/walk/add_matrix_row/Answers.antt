@@ -1,13 +1,11 @@
 use Rattle.std.proofs.Common.{◌≡◌, ◌+◌, ◌<◌, ℕ, length, get_or, take, sym, ◌∙◌, ap, rules, arith}
-use Rattle.std.proofs.Common.{Contains, []}
 use Rattle.std.specs.Prelude.{nat_eq}
 use Rattle.std.proofs.lemmas.List.{get_or_default, length_push, take_all}
 use Rattle.std.proofs.lemmas.Slice.Zip.{zip_turn, zip_end}
 use Rattle.sparse_algebra.specs.Sums.{where_true}
-use Rattle.sparse_pattern.specs.Raw.{lane_of, IsPlace}
+use Rattle.sparse_pattern.specs.Raw.{lane_of}
 use Rattle.sparse_pattern.proofs.LaneLists.{lane_has}
 use Rattle.sparse_compressed.specs.InnerRows.{lane_value}
-use Rattle.sparse_compressed.specs.PlainOfLanes.{plain_of_rows}
 use Rattle.sparse_compressed.proofs.LaneValues.{values_of, length-values, lane_value_is}
 use Rattle.sparse_compressed.proofs.RowSums.{sum_zip_more}
 use Rattle.sparse_sums.proofs.Merging.{more}

@@ -1,16 +1,14 @@
-use Rattle.std.proofs.Common.{◌≡◌, ◌+◌, ◌<◌, ℕ, [], length, get_or}
+use Rattle.std.proofs.Common.{◌≡◌, ◌+◌, ◌<◌, ℕ, length, get_or}
 use Rattle.std.proofs.Common.{take, sym, ◌∙◌, ap, rules, arith}
 use Rattle.std.specs.Prelude.{zip}
 use Rattle.std.proofs.lemmas.List.{length_push, take_all}
 use Rattle.std.proofs.lemmas.Slice.Zip.{zip_turn, zip_end}
-use Rattle.sparse_algebra.specs.Plain.{plain_product}
 use Rattle.sparse_algebra.specs.Sums.{sum_by}
-use Rattle.sparse_pattern.specs.Raw.{start_of, end_of, lane_of, IsPlace}
+use Rattle.sparse_pattern.specs.Raw.{start_of, end_of, lane_of}
 use Rattle.sparse_pattern.proofs.PatternLanes.{length-lane, get_or-lane}
 use Rattle.sparse_compressed.specs.PlainOfLanes.{plain_of_rows}
 use Rattle.sparse_compressed.proofs.LaneValues.{values_of, length-values, row_sum}
 use Rattle.sparse_compressed.proofs.RowSums.{sum_zip_more}
-use Rattle.sparse_products.specs.InnerProducts.{IsInLanes}
 use Rattle.sparse_products.specs.InnerUpdates.{triples_below}
 use Rattle.sparse_products.proofs.ProductSums.{triples_more}
 use Rattle.sparse_products.proofs.Walks.{added_none, added_then, added_same, noted_none, noted_then}
