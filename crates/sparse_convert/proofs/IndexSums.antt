@@ -1,11 +1,12 @@
 -- Sums over the entries with one index.
-use Rattle.std.proofs.Common.{◌≡◌, ◌≢◌, ℕ, ◌+◌, ◌<◌, Bool, true, false, eqb, List, [], ◌∷◌, ◌++◌}
-use Rattle.std.proofs.Common.{length, take, get_or, refl, ap, sym, ◌∙◌, arith}
+use Rattle.std.proofs.Common.{◌≡◌, ◌≢◌, ℕ, Bool, true, false, eqb, List, [], ◌∷◌, ◌++◌, inl, inr}
+use Rattle.std.proofs.Common.{All, refl, ap, ◌∙◌, subst, arith}
 use Rattle.std.specs.Prelude.{◌||◌}
 use Rattle.std.specs.List.{list_any}
-use Rattle.std.proofs.lemmas.Bool.Decides.{nat_tests}
-use Rattle.std.proofs.lemmas.List.{take_more}
-use Rattle.std.proofs.lemmas.List.Folds.{list_any_more}
+use Rattle.std.proofs.lemmas.Bool.Decides.{Decides-eqb}
+use Rattle.std.proofs.lemmas.List.Elements.{All-tail}
+use Rattle.std.proofs.lemmas.List.Folds.{list_any-append}
+use Rattle.sparse_algebra.proofs.Cases.{nat_eq_no, neither, or_cases, or_false, or_right}
 use Rattle.sparse_algebra.specs.Algebra.{CommRing}
 use Rattle.sparse_algebra.specs.Sums.{where_true}
 use Rattle.sparse_algebra.proofs.RingLemmas.{zero_add}
@@ -18,33 +19,30 @@ module _ {T : Type 0} where
   abbrev pub has_index : ℕ → List (ℕ × T) → Bool
   has_index j es = list_any (λ e. eqb e.0 j) es
 
-  pub has_index-here : (es : List (ℕ × T)) (k j : ℕ) (e : ℕ × T) → k < length es → e ≡ get_or es k e
-      → e.0 ≡ j → has_index j (take (k + 1) es) ≡ true
-  has_index-here es k j e lt is same =
-      let yes : eqb (get_or es k e).0 j ≡ true = ap (λ x. eqb x.0 j) (sym is)
-      ∙ test_yes e.0 j same in
-      list_any_more (λ e. eqb e.0 j) es k e lt ∙ or_right (has_index j (take k es)) _ yes
-    where
-      test_yes : (a b : ℕ) → a ≡ b → eqb a b ≡ true
-      test_yes a b h = grind (arith, nat_tests)
+  -- with one more entry
+  has_index-more : (es : List (ℕ × T)) (e : ℕ × T) (j : ℕ)
+      → has_index j (es ++ e ∷ []) ≡ (has_index j es || eqb e.0 j)
+  has_index-more es e j = list_any-append (λ e. eqb e.0 j) es (e ∷ [])
+      ∙ ap (λ b. has_index j es || b) (or_false (eqb e.0 j))
 
-      or_right : (b c : Bool) → c ≡ true → (b || c) ≡ true
-      or_right true c h = refl
-      or_right false c h = h
+  pub has_index-here : (es : List (ℕ × T)) (e : ℕ × T) (j : ℕ) → e.0 ≡ j
+      → has_index j (es ++ e ∷ []) ≡ true
+  has_index-here es e j same = has_index-more es e j
+      ∙ or_right (has_index j es) (eqb e.0 j) ((Decides-eqb e.0 j).1 same)
 
-  pub has_index-other : (es : List (ℕ × T)) (k j : ℕ) (e : ℕ × T) → k < length es
-      → e ≡ get_or es k e → e.0 ≢ j → has_index j (take (k + 1) es) ≡ has_index j (take k es)
-  has_index-other es k j e lt is ne =
-      let no : eqb (get_or es k e).0 j ≡ false = ap (λ x. eqb x.0 j) (sym is) ∙ test_no e.0 j ne in
-      list_any_more (λ e. eqb e.0 j) es k e lt ∙ ap (λ b. has_index j (take k es) || b) no
-      ∙ or_false (has_index j (take k es))
-    where
-      test_no : (a b : ℕ) → a ≢ b → eqb a b ≡ false
-      test_no a b h = grind (arith, nat_tests)
+  pub has_index-other : (es : List (ℕ × T)) (e : ℕ × T) (j : ℕ) → e.0 ≢ j
+      → has_index j (es ++ e ∷ []) ≡ has_index j es
+  has_index-other es e j ne = has_index-more es e j
+      ∙ ap (λ b. has_index j es || b) (nat_eq_no e.0 j ne) ∙ or_false (has_index j es)
 
-      or_false : (b : Bool) → (b || false) ≡ b
-      or_false true = refl
-      or_false false = refl
+  -- what holds of the indices of all entries holds of one that is found
+  pub all_has : (P : ℕ → Type 0) (es : List (ℕ × T)) (j : ℕ) → All (λ e. P e.0) es
+      → has_index j es ≡ true → P j
+  all_has P [] j all has = cc
+  all_has P (e ∷ es) j all has = elim (or_cases (eqb e.0 j) (has_index j es) has) [
+    | inl hit ↦ subst P ((Decides-eqb e.0 j).0 hit) (all 0 e (omega arith))
+    | inr later ↦ all_has P es j (All-tail (λ e. P e.0) e es all) later
+  ]
 
 module _ (R : CommRing) {T : Type 0} (f : T → R.Carrier) where
   -- nothing is added where no entry has the index
@@ -55,36 +53,19 @@ module _ (R : CommRing) {T : Type 0} (f : T → R.Carrier) where
       let parts = neither (eqb e.0 j) (has_index j es) h in
       ap (λ c. R.add c (index_sum R f es j)) (where_no R f (eqb e.0 j) (f e.1) parts.0)
       ∙ zero_add R _ ∙ index_sum-none es j parts.1
-    where
-      neither : (b c : Bool) → (b || c) ≡ false → (b ≡ false) × (c ≡ false)
-      neither true c h = cc
-      neither false c h = (refl, h)
 
-  index_sum-more : (es : List (ℕ × T)) (k j : ℕ) (e : ℕ × T) → k < length es → e ≡ get_or es k e
-      → index_sum R f (take (k + 1) es) j ≡ R.add (index_sum R f (take k es) j)
+  index_sum-more : (es : List (ℕ × T)) (e : ℕ × T) (j : ℕ)
+      → index_sum R f (es ++ e ∷ []) j ≡ R.add (index_sum R f es j)
       (where_true R (eqb e.0 j) (f e.1))
-  index_sum-more es k j e lt is =
-      ap (λ l. index_sum R f l j) (take_more es k e lt ∙ ap (λ x. take k es ++ x ∷ []) (sym is))
-      ∙ sum_by-append R (λ e. where_true R (eqb e.0 j) (f e.1)) (take k es) (e ∷ [])
-      ∙ ap (R.add (index_sum R f (take k es) j))
-      (R.laws.add_zero (where_true R (eqb e.0 j) (f e.1)))
+  index_sum-more es e j = sum_by-append R (λ e. where_true R (eqb e.0 j) (f e.1)) es (e ∷ [])
+      ∙ ap (R.add (index_sum R f es j)) (R.laws.add_zero _)
 
-  pub index_sum-here : (es : List (ℕ × T)) (k j : ℕ) (e : ℕ × T) → k < length es → e ≡ get_or es k e
-      → e.0 ≡ j → index_sum R f (take (k + 1) es) j ≡ R.add (index_sum R f (take k es) j) (f e.1)
-  index_sum-here es k j e lt is same = index_sum-more es k j e lt is
-      ∙ ap (R.add (index_sum R f (take k es) j))
-      (where_yes R f (eqb e.0 j) (f e.1) (test_yes e.0 j same))
-    where
-      test_yes : (a b : ℕ) → a ≡ b → eqb a b ≡ true
-      test_yes a b h = grind (arith, nat_tests)
+  pub index_sum-here : (es : List (ℕ × T)) (e : ℕ × T) (j : ℕ) → e.0 ≡ j
+      → index_sum R f (es ++ e ∷ []) j ≡ R.add (index_sum R f es j) (f e.1)
+  index_sum-here es e j same = index_sum-more es e j ∙ ap (R.add (index_sum R f es j))
+      (where_yes R f (eqb e.0 j) (f e.1) ((Decides-eqb e.0 j).1 same))
 
-  pub index_sum-other : (es : List (ℕ × T)) (k j : ℕ) (e : ℕ × T) → k < length es
-      → e ≡ get_or es k e → e.0 ≢ j
-      → index_sum R f (take (k + 1) es) j ≡ index_sum R f (take k es) j
-  index_sum-other es k j e lt is ne = index_sum-more es k j e lt is
-      ∙ ap (R.add (index_sum R f (take k es) j))
-      (where_no R f (eqb e.0 j) (f e.1) (test_no e.0 j ne))
-      ∙ R.laws.add_zero _
-    where
-      test_no : (a b : ℕ) → a ≢ b → eqb a b ≡ false
-      test_no a b h = grind (arith, nat_tests)
+  pub index_sum-other : (es : List (ℕ × T)) (e : ℕ × T) (j : ℕ) → e.0 ≢ j
+      → index_sum R f (es ++ e ∷ []) j ≡ index_sum R f es j
+  index_sum-other es e j ne = index_sum-more es e j ∙ ap (R.add (index_sum R f es j))
+      (where_no R f (eqb e.0 j) (f e.1) (nat_eq_no e.0 j ne)) ∙ R.laws.add_zero _

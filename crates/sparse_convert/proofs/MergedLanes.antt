@@ -1,166 +1,155 @@
 -- The merging pass over all lanes, and the plain matrix that it leaves.
-use Rattle.std.proofs.Common.{◌≡◌, ℕ, ◌+◌, ◌<◌, ◌≤◌, inl, inr, ◌↔◌, Bool, true, false, eqb}
-use Rattle.std.proofs.Common.{List, [], ◌∷◌, ◌++◌, length, All, slice_index, refl, ap, ◌∙◌, subst}
-use Rattle.std.proofs.Common.{arith, length-append}
-use Rattle.std.specs.Prelude.{◌||◌}
-use Rattle.std.proofs.lemmas.Bool.Decides.{Decides-eqb}
-use Rattle.std.proofs.lemmas.List.{get_or_append_left, get_or_push}
-use Rattle.std.proofs.lemmas.List.Elements.{All-tail}
-use Rattle.sparse_algebra.proofs.Cases.{lt_or_ge, true_or_false}
+use Rattle.std.proofs.Common.{◌≡◌, ℕ, ◌+◌, ◌<◌, ◌≤◌, inl, inr, ◌↔◌, true, List, [], ◌∷◌, ◌++◌}
+use Rattle.std.proofs.Common.{length, All, slice_index, refl, ap, sym, ◌∙◌, subst, arith}
+use Rattle.sparse_algebra.proofs.Cases.{lt_add_one_cases, lt_or_ge}
 use Rattle.sparse_algebra.specs.Algebra.{CommRing}
 use Rattle.sparse_pattern.specs.Raw.{raw_of, IsValid, IsPlace}
-use Rattle.sparse_algebra.specs.Plain.{Plain, IsProper}
-use Rattle.sparse_compressed.specs.Compressed.{compressed_of, IsSound}
+use Rattle.sparse_algebra.specs.Plain.{Plain, IsProper, plain_of_triplets}
+use Rattle.sparse_algebra.proofs.PlainLemmas.{same_plain}
+use Rattle.sparse_coo_dense.specs.Coo.{zip_triplets}
+use Rattle.sparse_compressed.specs.Compressed.{Compressed, compressed_of, IsSound}
 use Rattle.sparse_compressed.specs.PlainOfLanes.{plain_of_rows}
 use Rattle.sparse_compressed.proofs.Arrays.{stands}
-use Rattle.sparse_convert.specs.InnerTripletLanes.{index_sum}
-use Rattle.sparse_convert.specs.InnerMerged.{AreMerged, KeepsFirst}
-use Rattle.sparse_convert.proofs.IndexSums.{has_index, index_sum-none}
+use Rattle.sparse_convert.specs.InnerTripletLanes.{AreTriplets, StandsFor, index_sum}
+use Rattle.sparse_convert.specs.InnerTripletLanes.{triplets_of_lane}
+use Rattle.sparse_convert.specs.InnerMerged.{AreMerged, AreLanesMerged, KeepsFirst}
+use Rattle.sparse_convert.proofs.IndexSums.{has_index, index_sum-none, all_has}
 use Rattle.sparse_convert.proofs.Merging.{merged_kept}
+use Rattle.sparse_convert.proofs.Offsets.{offset_front, offset_end, offsets_more, offsets_ordered}
+use Rattle.sparse_convert.proofs.Offsets.{offsets_within}
+use Rattle.sparse_convert.proofs.Triplets.{lane_below, lane_has, lane_past, lane_sum}
 
-module _ (R : CommRing) {T : Type 0} (f : T → R.Carrier) (z : T) (entries : ℕ → List (ℕ × T)) where
-  -- lane i is merged between its starts
-  pub record IsLaneMerged (i : ℕ) (starts indices : List ℕ) (values : List T) : Type 0 where
-    pub ordered : slice_index starts i ≤ slice_index starts (i + 1)
-    pub inside : slice_index starts (i + 1) ≤ length indices
-    pub merged : AreMerged R f z (entries i) indices values
-        (slice_index starts i) (slice_index starts (i + 1))
-
-  -- the arrays after the first n lanes
-  pub record AreLanesMerged (n : ℕ) (starts indices : List ℕ) (values : List T) : Type 0 where
-    pub count : length starts ≡ n + 1
-    pub first : slice_index starts 0 ≡ 0
-    pub last : slice_index starts n ≡ length indices
-    pub sizes : length values ≡ length indices
-    pub lanes : (i : ℕ) → i < n → IsLaneMerged i starts indices values
-
-  pub no_lanes_merged : AreLanesMerged 0 (0 ∷ []) [] []
+module _ {R : CommRing} {T : Type 0} {f : T → R.Carrier} {z : T} {lane : ℕ → List (ℕ × T)} where
+  pub no_lanes_merged : AreLanesMerged R f z lane 0 (0 ∷ []) [] []
   no_lanes_merged = record {
-    count = omega arith;
-    first = refl;
-    last = refl;
+    offsets = record {
+      count = omega arith;
+      first = refl;
+      last = refl;
+      ordered = λ i lt. absurd (omega arith);
+    };
     sizes = refl;
-    lanes = λ i lt. absurd (omega arith);
+    merged = λ i lt. absurd (omega arith);
   }
+
+  -- lanes before an offset stay, and one more is merged behind it
+  pub merged_with : (n : ℕ) (starts : List ℕ) {is js : List ℕ} {vs ws : List T} → length starts ≡ n + 1
+      → ((i : ℕ) → i < n → slice_index starts (i + 1) ≤ slice_index starts n)
+      → ((i : ℕ) → i < n → AreMerged R f z (lane i) is vs (slice_index starts i)
+      (slice_index starts (i + 1)))
+      → KeepsFirst 0 (slice_index starts n) is js → KeepsFirst z (slice_index starts n) vs ws
+      → AreMerged R f z (lane n) js ws (slice_index starts n) (length js)
+      → (i : ℕ) → i < n + 1 → AreMerged R f z (lane i) js ws
+      (slice_index (starts ++ length js ∷ []) i) (slice_index (starts ++ length js ∷ []) (i + 1))
+  merged_with n starts {js = js} {ws = ws} count up lanes keeps_is keeps_vs merged i lt =
+      let all = starts ++ length js ∷ [] in
+      let front = offset_front n starts (length js) count in
+      elim (lt_add_one_cases i n lt) [
+        | inl before ↦ rw (front i (omega arith), front (i + 1) (omega arith))
+            (merged_kept (lanes i before) (λ p to. keeps_is p (omega (arith, up i before)))
+            (λ p to. keeps_vs p (omega (arith, up i before))))
+        | inr here ↦ subst (λ k. AreMerged R f z (lane k) js ws (slice_index all k)
+            (slice_index all (k + 1))) (sym here)
+            (rw (front n (omega arith), offset_end n starts (length js) count) merged)
+      ]
 
   -- one more lane
-  pub lanes_merged_more : (n : ℕ) (starts is js : List ℕ) (vs ws : List T)
-      → AreLanesMerged n starts is vs → length is ≤ length js
-      → length ws ≡ length js → KeepsFirst 0 (length is) is js → KeepsFirst z (length vs) vs ws
-      → AreMerged R f z (entries n) js ws (length is) (length js)
-      → AreLanesMerged (n + 1) (starts ++ length js ∷ []) js ws
-  lanes_merged_more n starts is js vs ws h longer sizes keeps_is keeps_vs merged =
-      let all = starts ++ length js ∷ [] in
-      let front : (p : ℕ) → p ≤ n → slice_index all p ≡ slice_index starts p =
-      λ p le. get_or_append_left starts (length js ∷ []) 0 p (omega (arith, h.count)) in
-      let end : slice_index all (n + 1) ≡ length js = get_or_push starts (length js) 0 (n + 1)
-      h.count in
-      record {
-        count = omega (arith, length-append starts (length js ∷ []), h.count);
-        first = front 0 (omega arith) ∙ h.first;
-        last = end;
-        sizes = sizes;
-        lanes = λ i le. elim (lt_or_ge i n) [
-          | inl before ↦
-              let lane = h.lanes i before in
-              let a = front i (omega arith) in
-              let b = front (i + 1) (omega arith) in
-              let kept = merged_kept R f z (entries i) is js vs ws
-              (slice_index starts i) (slice_index starts (i + 1))
-              (λ p lt. keeps_is p (omega (arith, lane.inside)))
-              (λ p lt. keeps_vs p (omega (arith, lane.inside, h.sizes))) lane.merged in
-              record {
-                ordered = omega (arith, lane.ordered);
-                inside = omega (arith, lane.inside);
-                merged = rw (a, b) kept;
-              }
-          | inr after ↦
-              let here : n ≡ i = omega arith in
-              let a = front n (omega arith) ∙ h.last in
-              subst (λ k. IsLaneMerged k all js ws) here record {
-                ordered = omega (arith, h.last);
-                inside = omega arith;
-                merged = rw (a, end) merged;
-              }
-        ];
-      }
-
-  -- an index that a lane has is that of one of its entries
-  bounded_from_any : (m : ℕ) (es : List (ℕ × T)) (j : ℕ) → All (λ e. e.0 < m) es
-      → has_index j es ≡ true → j < m
-  bounded_from_any m [] j all has = cc
-  bounded_from_any m (e ∷ es) j all has = elim (true_or_false (eqb e.0 j)) [
-    | inl hit ↦
-        let same : e.0 ≡ j = (Decides-eqb e.0 j).0 hit in
-        subst (λ k. k < m) same (all 0 e (omega arith))
-    | inr miss ↦ bounded_from_any m es j (All-tail (λ e. e.0 < m) e es all)
-        (later (eqb e.0 j) (has_index j es) miss has)
-  ]
-    where
-      later : (b c : Bool) → b ≡ false → (b || c) ≡ true → c ≡ true
-      later true c e h = cc
-      later false c e h = h
-
-  -- the plain matrix of the lanes' entries
-  abbrev pub plain_of_entries : ℕ → ℕ → Plain R
-  plain_of_entries rows cols = record {
-    rows = rows;
-    cols = cols;
-    has = λ i j. has_index j (entries i);
-    value = λ i j. index_sum R f (entries i) j;
+  pub lanes_merged_more : {n : ℕ} {starts is js : List ℕ} {vs ws : List T}
+      → AreLanesMerged R f z lane n starts is vs → length is ≤ length js → length ws ≡ length js
+      → KeepsFirst 0 (length is) is js → KeepsFirst z (length vs) vs ws
+      → AreMerged R f z (lane n) js ws (length is) (length js)
+      → AreLanesMerged R f z lane (n + 1) (starts ++ length js ∷ []) js ws
+  lanes_merged_more {n} {starts} {js = js} {ws = ws} h longer sizes keeps_is keeps_vs merged = record {
+    offsets = offsets_more (length js) h.offsets longer;
+    sizes = sizes;
+    merged = merged_with n starts h.offsets.count
+        (λ i lt. offsets_ordered h.offsets (i + 1) n (omega arith) (omega arith)) h.merged
+        (λ p to. keeps_is p (omega (arith, h.offsets.last)))
+        (λ p to. keeps_vs p (omega (arith, h.offsets.last, h.sizes)))
+        (subst (λ a. AreMerged R f z (lane n) js ws a (length js)) (sym h.offsets.last) merged);
   }
 
-  module _ (minor : ℕ) (below : (i : ℕ) → All (λ e. e.0 < minor) (entries i)) (n : ℕ)
-      (none : (i : ℕ) → n ≤ i → entries i ≡ []) (starts indices : List ℕ) (values : List T)
-      (h : AreLanesMerged n starts indices values) where
-    pub merged_valid : IsValid (raw_of n minor starts indices)
-    merged_valid = record {
-      count = h.count;
-      first = h.first;
-      last = h.last;
-      lanes = λ i lt.
-          let lane = h.lanes i lt in
-          record {
-            ordered = lane.ordered;
-            inside = lane.inside;
-            bounded = λ p from to. bounded_from_any minor (entries i)
-                (slice_index indices p) (below i) (lane.merged.named p from to);
-            rising = λ p from to. lane.merged.rising p from to;
-          };
-    }
+-- the plain matrix of the lanes' entries
+abbrev pub plain_of_entries : (R : CommRing) {T : Type 0} → (T → R.Carrier) → (ℕ → List (ℕ × T)) → ℕ
+    → ℕ → Plain R
+plain_of_entries R f lane rows cols = record {
+  rows = rows;
+  cols = cols;
+  has = λ i j. has_index j (lane i);
+  value = λ i j. index_sum R f (lane i) j;
+}
 
-    lane_exists : (i j : ℕ) → has_index j (entries i) ≡ true → i < n
-    lane_exists i j has = elim (lt_or_ge i n) [
-      | inl lt ↦ lt
-      | inr past ↦
-          let has' : has_index {T = T} j [] ≡ true =
-          subst (λ es. has_index j es ≡ true) (none i past) has in
-          cc
-    ]
+-- after the last lane
+module _ {R : CommRing} {T : Type 0} {f : T → R.Carrier} {z : T} {lane : ℕ → List (ℕ × T)}
+    {n minor : ℕ} {starts is : List ℕ} {vs : List T}
+    (below : (i : ℕ) → All (λ e. e.0 < minor) (lane i)) (none : (i : ℕ) → n ≤ i → lane i ≡ [])
+    (h : AreLanesMerged R f z lane n starts is vs) where
+  pub merged_valid : IsValid (raw_of n minor starts is)
+  merged_valid = record {
+    count = h.offsets.count;
+    first = h.offsets.first;
+    last = h.offsets.last;
+    lanes = λ i lt. record {
+      ordered = h.offsets.ordered i lt;
+      inside = offsets_within h.offsets (i + 1) (omega arith);
+      bounded = λ p from to. all_has (λ j. j < minor) (lane i) (slice_index is p) (below i)
+          ((h.merged i lt).named p from to);
+      rising = (h.merged i lt).rising;
+    };
+  }
 
-    merged_places : (i j : ℕ)
-        → IsPlace (raw_of n minor starts indices) i j
-        ↔ (has_index j (entries i) ≡ true)
-    merged_places i j = (
-      λ place.
-          let lane = h.lanes i place.in_lane.lane in
-          subst (λ k. has_index k (entries i) ≡ true) place.index
-          (lane.merged.named place.at place.in_lane.from place.in_lane.to),
-      λ has.
-          let lt = lane_exists i j has in
-          let p = (h.lanes i lt).merged.found j has in
-          record { at = p.0; in_lane = record { lane = lt; from = p.1; to = p.2 }; index = p.3 },
-    )
+  lane_exists : (i j : ℕ) → has_index j (lane i) ≡ true → i < n
+  lane_exists i j has = elim (lt_or_ge i n) [
+    | inl lt ↦ lt
+    | inr past ↦
+        let nowhere : has_index {T = T} j [] ≡ true =
+        subst (λ es. has_index j es ≡ true) (none i past) has in
+        cc
+  ]
 
-    proper_lanes : IsProper (plain_of_entries n minor)
-    proper_lanes i j miss = index_sum-none R f (entries i) j miss
+  merged_places : (i j : ℕ) → IsPlace (raw_of n minor starts is) i j ↔ (has_index j (lane i) ≡ true)
+  merged_places i j = (
+    λ place. subst (λ k. has_index k (lane i) ≡ true) place.index
+        ((h.merged i place.in_lane.lane).named place.at place.in_lane.from place.in_lane.to),
+    λ has.
+        let lt = lane_exists i j has in
+        let p = (h.merged i lt).found j has in
+        record { at = p.0; in_lane = record { lane = lt; from = p.1; to = p.2 }; index = p.3 },
+  )
 
-    pub merged_stand : IsSound (compressed_of (raw_of n minor starts indices) values)
-        → plain_of_rows R f (compressed_of (raw_of n minor starts indices) values)
-        ≡ plain_of_entries n minor
-    merged_stand sound =
-        stands R f z (compressed_of (raw_of n minor starts indices) values)
-        (plain_of_entries n minor) sound proper_lanes refl refl merged_places
-        (λ i j p at.
-        let lane = h.lanes i at.0.lane in
-        lane.merged.sums p at.0.from at.0.to ∙ ap (index_sum R f (entries i)) at.1)
+  proper_lanes : IsProper (plain_of_entries R f lane n minor)
+  proper_lanes i j miss = index_sum-none R f (lane i) j miss
+
+  -- a matrix that is made of the arrays stands for the entries
+  pub merged_stand : {m : Compressed T} → IsSound m
+      → m ≡ compressed_of (raw_of n minor starts is) vs
+      → StandsFor R f (plain_of_entries R f lane n minor) m
+  merged_stand sound made = record {
+    plain = ap (plain_of_rows R f) made ∙ stands R f z (compressed_of (raw_of n minor starts is) vs)
+        (plain_of_entries R f lane n minor) (subst IsSound made sound) proper_lanes refl refl
+        merged_places (λ i j p at. (h.merged i at.0.lane).sums p at.0.from at.0.to
+        ∙ ap (index_sum R f (lane i)) at.1);
+    sound = sound;
+  }
+
+-- merged lanes of triplets are a sound matrix, which stands for the triplets
+module _ {R : CommRing} {T : Type 0} {f : T → R.Carrier} {z : T} {rows cols : ℕ}
+    {majors minors starts is : List ℕ} {values vs : List T}
+    (lists : AreTriplets rows majors minors values) (minors_below : All (λ j. j < cols) minors)
+    (h : AreLanesMerged R f z (triplets_of_lane (zip_triplets majors minors values)) rows starts is
+    vs) where
+  pub triplets_valid : IsValid (raw_of rows cols starts is)
+  triplets_valid = merged_valid (lane_below lists minors_below) (lane_past lists) h
+
+  pub triplets_stand : {m : Compressed T} → IsSound m
+      → m ≡ compressed_of (raw_of rows cols starts is) vs
+      → StandsFor R f (plain_of_triplets R f rows cols (zip_triplets majors minors values)) m
+  triplets_stand sound made =
+      let ts = zip_triplets majors minors values in
+      record {
+        plain = (merged_stand (lane_below lists minors_below) (lane_past lists) h sound made).plain
+            ∙ same_plain (plain_of_entries R f (triplets_of_lane ts) rows cols)
+            (plain_of_triplets R f rows cols ts) refl refl (λ i j. lane_has i j ts)
+            (λ i j. lane_sum R f i j ts);
+        sound = sound;
+      }

@@ -1,20 +1,23 @@
 -- The triplets of a compressed matrix, as three lists and transposed.
-use Rattle.std.proofs.Common.{◌≡◌, ℕ, zero, suc, ◌<◌, List, [], ◌∷◌, length, map, get_or, All, ap}
+use Rattle.std.proofs.Common.{◌≡◌, ℕ, zero, suc, ◌<◌, List, [], ◌∷◌, length, map, nat_eq, get_or, ap}
 use Rattle.std.proofs.Common.{sym, ◌∙◌, refl, arith}
 use Rattle.std.proofs.lemmas.List.{length-map, same_lists, get_or-map}
-use Rattle.std.proofs.lemmas.List.Elements.{All-map}
+use Rattle.std.proofs.lemmas.Simd.{map-map}
 use Rattle.sparse_algebra.specs.Algebra.{CommRing}
-use Rattle.sparse_coo_dense.specs.Coo.{zip_triplets, AreParts}
-use Rattle.sparse_algebra.specs.Plain.{plain_of_triplets, plain_transpose}
+use Rattle.sparse_algebra.specs.Sums.{where_true}
+use Rattle.sparse_algebra.specs.Plain.{is_at, plain_of_triplets, plain_transpose}
+use Rattle.sparse_algebra.proofs.PlainLemmas.{and_comm, same_plain}
+use Rattle.sparse_algebra.proofs.SumLemmas.{sum_by-same}
+use Rattle.sparse_coo_dense.specs.Coo.{coo_of, zip_triplets, AreParts}
+use Rattle.sparse_coo_dense.proofs.CooParts.{parts-split}
 use Rattle.sparse_pattern.specs.Raw.{Raw, IsValid, entries_of}
 use Rattle.sparse_pattern.proofs.LaneOrder.{length-entries}
 use Rattle.sparse_compressed.specs.Compressed.{Compressed, IsSound, zip_values}
 use Rattle.sparse_compressed.specs.Compressed.{lane_triplets, transposed}
 use Rattle.sparse_pattern.proofs.Positions.{lane_of_position}
-use Rattle.sparse_compressed.proofs.Arrays.{entry_at}
+use Rattle.sparse_compressed.proofs.Arrays.{entry_at, pairs_of-triplets}
 use Rattle.sparse_compressed.proofs.Inside.{lane_triplets-inside}
-use Rattle.sparse_convert.proofs.Compressing.{zip_of_parts}
-use Rattle.sparse_convert.proofs.TransposedTriplets.{plain_of_transposed}
+use Rattle.sparse_convert.proofs.Folds.{any-map, any-same, sum_by-map}
 
 -- the indices of the places are the pattern's
 indices-entries : (d : Raw) → IsValid d → map (λ (p : ℕ × ℕ). p.1) (entries_of d) ≡ d.indices
@@ -34,18 +37,6 @@ indices-entries d valid =
     same_read (x ∷ xs) (suc p) z lt = same_read xs p z (omega arith)
 
 module _ {T : Type 0} where
-  lanes-zip : (ps : List (ℕ × ℕ)) (vs : List T) → length ps ≡ length vs
-      → map (λ (t : ℕ × ℕ × T). t.0) (zip_values ps vs) ≡ map (λ (p : ℕ × ℕ). p.0) ps
-  lanes-zip [] vs e = refl
-  lanes-zip (p ∷ ps) [] e = absurd (omega arith)
-  lanes-zip (p ∷ ps) (v ∷ vs) e = ap (λ l. p.0 ∷ l) (lanes-zip ps vs (omega arith))
-
-  indices-zip : (ps : List (ℕ × ℕ)) (vs : List T) → length ps ≡ length vs
-      → map (λ (t : ℕ × ℕ × T). t.1) (zip_values ps vs) ≡ map (λ (p : ℕ × ℕ). p.1) ps
-  indices-zip [] vs e = refl
-  indices-zip (p ∷ ps) [] e = absurd (omega arith)
-  indices-zip (p ∷ ps) (v ∷ vs) e = ap (λ l. p.1 ∷ l) (indices-zip ps vs (omega arith))
-
   values-zip : (ps : List (ℕ × ℕ)) (vs : List T) → length ps ≡ length vs
       → map (λ (t : ℕ × ℕ × T). t.2) (zip_values ps vs) ≡ vs
   values-zip [] [] e = refl
@@ -63,55 +54,41 @@ module _ {T : Type 0} where
     long : length (entries_of m.pattern) ≡ length m.values
     long = length-entries m.pattern sound.valid ∙ sym sound.count
 
+    -- the parts of the stored pairs
+    parts_stored : (part : ℕ × ℕ → ℕ) → map (λ (t : ℕ × ℕ × T). part (t.0, t.1)) (lane_triplets m)
+        ≡ map part (entries_of m.pattern)
+    parts_stored part = sym (map-map part (λ (t : ℕ × ℕ × T). (t.0, t.1)) (lane_triplets m))
+        ∙ ap (map part) (pairs_of-triplets (entries_of m.pattern) m.values long)
+
     -- the three lists of the stored triplets
     pub lanes_stored : map (λ (t : ℕ × ℕ × T). t.0) (lane_triplets m) ≡ map (λ (p : ℕ × ℕ). p.0)
         (entries_of m.pattern)
-    lanes_stored = lanes-zip (entries_of m.pattern) m.values long
+    lanes_stored = parts_stored (λ p. p.0)
 
     pub indices_stored : map (λ (t : ℕ × ℕ × T). t.1) (lane_triplets m) ≡ m.pattern.indices
-    indices_stored = indices-zip (entries_of m.pattern) m.values long
-        ∙ indices-entries m.pattern sound.valid
+    indices_stored = parts_stored (λ p. p.1) ∙ indices-entries m.pattern sound.valid
 
     pub values_stored : map (λ (t : ℕ × ℕ × T). t.2) (lane_triplets m) ≡ m.values
     values_stored = values-zip (entries_of m.pattern) m.values long
-
-    lanes_below : All (λ i. i < m.pattern.major_dim)
-        (map (λ (t : ℕ × ℕ × T). t.0) (lane_triplets m))
-    lanes_below = All-map (λ i. i < m.pattern.major_dim) (λ (t : ℕ × ℕ × T). t.0) (lane_triplets m)
-        (λ k d lt. (lane_triplets-inside m sound k d lt).0)
-
-    indices_below : All (λ j. j < m.pattern.minor_dim)
-        (map (λ (t : ℕ × ℕ × T). t.1) (lane_triplets m))
-    indices_below = All-map (λ j. j < m.pattern.minor_dim) (λ (t : ℕ × ℕ × T). t.1)
-        (lane_triplets m) (λ k d lt. (lane_triplets-inside m sound k d lt).1)
-
-    same_long : {A B : Type 0} (f : ℕ × ℕ × T → A) (g : ℕ × ℕ × T → B)
-        → length (map f (lane_triplets m)) ≡ length (map g (lane_triplets m))
-    same_long f g = length-map (lane_triplets m) f ∙ sym (length-map (lane_triplets m) g)
 
     -- they fit each other and the sizes, as rows and columns and the other way round
     pub parts_by_rows : AreParts m.pattern.major_dim m.pattern.minor_dim
         (map (λ (t : ℕ × ℕ × T). t.0) (lane_triplets m))
         (map (λ (t : ℕ × ℕ × T). t.1) (lane_triplets m))
         (map (λ (t : ℕ × ℕ × T). t.2) (lane_triplets m))
-    parts_by_rows = record {
-      row_count = same_long _ _;
-      col_count = same_long _ _;
-      rows_bounded =
-          lanes_below;
-      cols_bounded = indices_below;
-    }
+    parts_by_rows = parts-split
+        (coo_of m.pattern.major_dim m.pattern.minor_dim (lane_triplets m)) _ _ _ refl refl refl
+        (lane_triplets-inside m sound)
 
     pub parts_by_cols : AreParts m.pattern.minor_dim m.pattern.major_dim
         (map (λ (t : ℕ × ℕ × T). t.1) (lane_triplets m))
         (map (λ (t : ℕ × ℕ × T). t.0) (lane_triplets m))
         (map (λ (t : ℕ × ℕ × T). t.2) (lane_triplets m))
     parts_by_cols = record {
-      row_count = same_long _ _;
-      col_count = same_long _ _;
-      rows_bounded =
-          indices_below;
-      cols_bounded = lanes_below;
+      row_count = parts_by_rows.col_count;
+      col_count = parts_by_rows.row_count;
+      rows_bounded = parts_by_rows.cols_bounded;
+      cols_bounded = parts_by_rows.rows_bounded;
     }
 
 -- transposed triplets stand for the transpose
@@ -119,10 +96,9 @@ pub plain_of_transposed_list : (R : CommRing) {T : Type 0} (f : T → R.Carrier)
     (ts : List (ℕ × ℕ × T))
     → plain_of_triplets R f cols rows (map transposed ts) ≡ plain_transpose R
     (plain_of_triplets R f rows cols ts)
-plain_of_transposed_list R {T} f rows cols ts =
-    let majors = map (λ (t : ℕ × ℕ × T). t.0) ts in
-    let minors = map (λ (t : ℕ × ℕ × T). t.1) ts in
-    let values = map (λ (t : ℕ × ℕ × T). t.2) ts in
-    ap (plain_of_triplets R f cols rows) (sym (zip_of_transposed ts))
-    ∙ sym (plain_of_transposed R f cols rows minors majors values)
-    ∙ ap (λ l. plain_transpose R (plain_of_triplets R f rows cols l)) (zip_of_parts ts)
+plain_of_transposed_list R {T} f rows cols ts = same_plain _ _ refl refl
+    (λ i j. any-map (is_at i j) transposed ts
+    ∙ any-same _ _ (λ t. and_comm (nat_eq t.1 i) (nat_eq t.0 j)) ts)
+    (λ i j. sum_by-map R (λ t. where_true R (is_at i j t) (f t.2)) transposed ts
+    ∙ sum_by-same R _ _ (λ t. ap (λ b. where_true R b (f t.2))
+    (and_comm (nat_eq t.1 i) (nat_eq t.0 j))) ts)

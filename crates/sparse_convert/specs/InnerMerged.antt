@@ -1,9 +1,9 @@
 -- Lanes with each index once.
-use Rattle.std.specs.Prelude.{◌≡◌, ℕ, ◌-◌, ◌<◌, ◌≤◌, true, List, nat_eq, slice_index}
+use Rattle.std.specs.Prelude.{◌≡◌, ℕ, ◌+◌, ◌-◌, ◌<◌, ◌≤◌, true, List, length, nat_eq, slice_index}
 use Rattle.std.specs.Prelude.{slice_index_or}
 use Rattle.std.specs.List.{list_any}
 use Rattle.sparse_algebra.specs.Algebra.{CommRing}
-use Rattle.sparse_convert.specs.InnerTripletLanes.{index_sum}
+use Rattle.sparse_convert.specs.InnerTripletLanes.{AreOffsets, index_sum}
 
 -- from start to end stand the indices of the lane's entries, each once and rising, and the sums of
 -- their values
@@ -20,3 +20,11 @@ pub record AreMerged (R : CommRing) {T : Type 0} (f : T → R.Carrier) (zero : T
 -- the first n elements stay
 abbrev pub KeepsFirst : {X : Type 0} → X → ℕ → List X → List X → Type 0
 KeepsFirst zero n xs ys = (p : ℕ) → p < n → slice_index_or ys p zero ≡ slice_index_or xs p zero
+
+-- the arrays hold n lanes, of which lane i has the entries `lane i`, merged
+pub record AreLanesMerged (R : CommRing) {T : Type 0} (f : T → R.Carrier) (zero : T)
+    (lane : ℕ → List (ℕ × T)) (n : ℕ) (starts indices : List ℕ) (values : List T) : Type 0 where
+  pub offsets : AreOffsets n (length indices) starts
+  pub sizes : length values ≡ length indices
+  pub merged : (i : ℕ) → i < n → AreMerged R f zero (lane i) indices values
+      (slice_index starts i) (slice_index starts (i + 1))

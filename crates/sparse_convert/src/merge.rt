@@ -1,18 +1,53 @@
 //! Compressed matrices of sorted lanes; entries with the same index are added.
 
-ghost use Rattle.std.specs.Prelude.{◌≡◌, ℕ, ◌+◌, ◌-◌, ◌<◌, ◌≤◌, All, IfOk, length, vec_len};
-ghost use Rattle.std.specs.Prelude.{vec_capacity};
+ghost use Rattle.std.specs.Prelude.{◌≡◌, ℕ, ◌+◌, ◌-◌, ◌<◌, ◌≤◌, List, [], ◌∷◌, ◌++◌, All, IfOk};
+ghost use Rattle.std.specs.Prelude.{length, slice_index, vec_len, vec_capacity};
 ghost use Rattle.std.specs.List.Sorted.{IsNonDecreasingBy};
-ghost use Rattle.sparse_compressed.specs.Compressed.{IsSound};
-ghost use Rattle.sparse_compressed.specs.PlainOfLanes.{plain_of_rows};
 ghost use Rattle.sparse_convert.specs.InnerTripletLanes.{AreOffsets, entries_of_lane};
-ghost use Rattle.sparse_convert.specs.InnerTripletLanes.{plain_of_lanes};
+ghost use Rattle.sparse_convert.specs.InnerTripletLanes.{plain_of_lanes, StandsFor};
 ghost use Rattle.sparse_convert.specs.InnerMerged.{AreMerged, KeepsFirst};
 
 use sparse_algebra::scalar::Ring;
 use sparse_compressed::CsMatrix;
 use sparse_pattern::pattern::SparsityPattern;
 use std::alloc::{AllocError, Global};
+
+/// Appends an entry to the lane that begins at `start`, or adds its value where the last entry has its index.
+#[inline]
+pub(crate) fn push_entry<T: Ring>(
+    start: usize,
+    index: usize,
+    value: T,
+    indices: &mut Vec<usize>,
+    values: &mut Vec<T>,
+)
+    requires start { start ≤ vec_len indices.old }
+    requires sizes { vec_len values.old ≡ vec_len indices.old }
+    requires follows { start < vec_len indices.old
+        → slice_index indices.old.items (vec_len indices.old - 1) ≤ index }
+    requires index_room { vec_len indices.old < vec_capacity indices.old }
+    requires value_room { vec_len values.old < vec_capacity values.old }
+    ensures merged { (lane : List (ℕ × T))
+        → AreMerged T.ring T.value T.zero_value lane indices.old.items values.old.items start
+        (length indices.old.items)
+        → AreMerged T.ring T.value T.zero_value (lane ++ (index, value) ∷ []) indices.new.items
+        values.new.items start (length indices.new.items) }
+    ensures longer { vec_len indices.old ≤ vec_len indices.new }
+    ensures grown { vec_len indices.new ≤ vec_len indices.old + 1 }
+    ensures sizes { vec_len values.new ≡ vec_len indices.new }
+    ensures kept_indices { KeepsFirst 0 start indices.old.items indices.new.items }
+    ensures kept_values { KeepsFirst T.zero_value start values.old.items values.new.items }
+    ensures index_room { vec_capacity indices.new ≡ vec_capacity indices.old }
+    ensures value_room { vec_capacity values.new ≡ vec_capacity values.old }
+{
+    if indices.len() > start && indices[indices.len() - 1] == index {
+        let last = values.len() - 1;
+        values[last] = values[last].add(value);
+    } else {
+        indices.push_reserved(index);
+        values.push_reserved(value);
+    }
+}
 
 // Appends a lane to the arrays, whose capacity suffices. Entries with the same index are added.
 fn merge_lane<T: Ring>(lane: &[(usize, T)], indices: &mut Vec<usize>, values: &mut Vec<T>)
@@ -21,26 +56,19 @@ fn merge_lane<T: Ring>(lane: &[(usize, T)], indices: &mut Vec<usize>, values: &m
     requires index_room { vec_len indices.old + length lane.now ≤ vec_capacity indices.old }
     requires value_room { vec_len values.old + length lane.now ≤ vec_capacity values.old }
     ensures merged { AreMerged T.ring T.value T.zero_value lane.now indices.new.items
-        values.new.items
-        (vec_len indices.old) (vec_len indices.new) }
+        values.new.items (length indices.old.items) (length indices.new.items) }
     ensures grown { (vec_len indices.old ≤ vec_len indices.new)
         × (vec_len indices.new ≤ vec_len indices.old + length lane.now) }
     ensures sizes { vec_len values.new ≡ vec_len indices.new }
     ensures kept_indices { KeepsFirst 0 (vec_len indices.old) indices.old.items indices.new.items }
-    ensures kept_values { KeepsFirst T.zero_value (vec_len values.old) values.old.items
+    ensures kept_values { KeepsFirst T.zero_value (vec_len indices.old) values.old.items
         values.new.items }
     ensures capacities { (vec_capacity indices.new ≡ vec_capacity indices.old)
         × (vec_capacity values.new ≡ vec_capacity values.old) }
 {
     let start = indices.len();
     for &(index, value) in lane {
-        if indices.len() > start && indices[indices.len() - 1] == index {
-            let last = values.len() - 1;
-            values[last] = values[last].add(value);
-        } else {
-            indices.push_reserved(index);
-            values.push_reserved(value);
-        }
+        push_entry(start, index, value, indices, values);
     }
 }
 
@@ -57,10 +85,8 @@ pub(crate) fn merge_lanes<T: Ring>(
         → IsNonDecreasingBy (λ e. e.0) (entries_of_lane offsets.now entries.now i) }
     requires below { (i : ℕ)
         → All (λ e. e.0 < minor_dim) (entries_of_lane offsets.now entries.now i) }
-    ensures plain { IfOk result (λ m. plain_of_rows T.ring T.value m
-        ≡ plain_of_lanes T.ring T.value (length offsets.now - 1) minor_dim offsets.now
-        entries.now) }
-    ensures sound { IfOk result (λ m. IsSound m) }
+    ensures { IfOk result (StandsFor T.ring T.value (plain_of_lanes T.ring T.value
+        (length offsets.now - 1) minor_dim offsets.now entries.now)) }
 {
     let major_dim = offsets.len() - 1;
     let mut starts = Vec::with_capacity(alloc, offsets.len())?;

@@ -1,6 +1,6 @@
 use Rattle.std.proofs.Common.{◌≡◌, ◌≤◌, length, slice_index, vec_capacity}
 use Rattle.sparse_convert.specs.InnerTripletLanes.{entries_of_lane}
-use Rattle.sparse_convert.proofs.MergedLanes.{AreLanesMerged}
+use Rattle.sparse_convert.specs.InnerMerged.{AreLanesMerged}
 use Rattle.sparse_convert.proofs.merge.merge_lanes.Given as goal
 
 abbrev pub invariant-loop-lane : goal.invariant-loop-lane

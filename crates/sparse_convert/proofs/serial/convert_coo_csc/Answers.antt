@@ -1,36 +1,32 @@
-use Rattle.std.proofs.lemmas.Grind.{common_steps}
-use Rattle.std.proofs.Common.{ap, ◌∙◌, arith}
-use Rattle.sparse_algebra.specs.Plain.{plain_transpose}
+use Rattle.std.proofs.Common.{ap, ◌∙◌}
+use Rattle.sparse_algebra.specs.Plain.{plain_of_triplets, plain_transpose}
+use Rattle.sparse_coo_dense.proofs.CooParts.{parts-split}
 use Rattle.sparse_compressed.specs.PlainOfLanes.{plain_of_cols}
-use Rattle.sparse_convert.proofs.Compressing.{rows_below, cols_below, plain_of_lists}
-use Rattle.sparse_convert.proofs.TransposedTriplets.{plain_of_transposed}
+use Rattle.sparse_convert.proofs.Triplets.{by_cols}
+use Rattle.sparse_convert.proofs.StoredTriplets.{plain_of_transposed_list, zip_of_transposed}
 use Rattle.sparse_convert.proofs.serial.convert_coo_csc.Goals as goal
 
-pub compress-requires-clause-majors_below : goal.compress-requires-clause-majors_below
-compress-requires-clause-majors_below g c = cols_below c.args.coo.now c.nrows.result c.ncols.result c.row_indices.result.now
-    c.col_indices.result.now c.values.result.now c.nrows.ensures c.ncols.ensures
-    c.row_indices.ensures.inside c.row_indices.ensures.rows c.col_indices.ensures.cols
+pub compress-requires-clause-lists : goal.compress-requires-clause-lists
+compress-requires-clause-lists g c = rw c.ncols.ensures (by_cols (parts-split c.args.coo.now _ _ _
+    c.row_indices.ensures.rows c.col_indices.ensures.cols c.values.ensures
+    c.row_indices.ensures.inside))
 
 pub compress-requires-clause-minors_below : goal.compress-requires-clause-minors_below
-compress-requires-clause-minors_below g c = rows_below c.args.coo.now c.nrows.result c.ncols.result c.row_indices.result.now
-    c.col_indices.result.now c.values.result.now c.nrows.ensures c.ncols.ensures
-    c.row_indices.ensures.inside c.row_indices.ensures.rows c.col_indices.ensures.cols
+compress-requires-clause-minors_below g c = rw c.nrows.ensures (parts-split c.args.coo.now _ _ _
+    c.row_indices.ensures.rows c.col_indices.ensures.cols c.values.ensures
+    c.row_indices.ensures.inside).rows_bounded
 
 pub returns-clause-plain : goal.returns-clause-plain
 returns-clause-plain g c =
     let R = g.T.Ring.ring in
     let f = g.T.Ring.value in
-    let lists = plain_of_lists c.args.coo.now c.nrows.result c.ncols.result c.row_indices.result.now
-    c.col_indices.result.now c.values.result.now c.nrows.ensures c.ncols.ensures
-    c.row_indices.ensures.inside c.row_indices.ensures.rows c.col_indices.ensures.cols R f c.values.ensures in
+    let m = c.args.coo.now in
     ap (plain_of_cols R f) c.from_cs.ensures ∙ ap (plain_transpose R) c.in_ok-cs.ensures.plain
-    ∙ plain_of_transposed R f c.nrows.result c.ncols.result c.row_indices.result.now
-    c.col_indices.result.now c.values.result.now ∙ lists
-
--- ---- written by tools/answer-goals
-
-pub compress-requires-clause-minors : goal.compress-requires-clause-minors
-compress-requires-clause-minors g c = grind (arith, common_steps)
-
-pub compress-requires-clause-values : goal.compress-requires-clause-values
-compress-requires-clause-values g c = grind (arith, common_steps)
+    ∙ rw (
+      c.nrows.ensures,
+      c.ncols.ensures,
+      c.row_indices.ensures.rows,
+      c.col_indices.ensures.cols,
+      c.values.ensures,
+    ) (ap (plain_transpose R) (ap (plain_of_triplets R f m.ncols m.nrows)
+    (zip_of_transposed m.triplets) ∙ plain_of_transposed_list R f m.nrows m.ncols m.triplets))

@@ -1,32 +1,22 @@
-use Rattle.std.proofs.lemmas.Grind.{common_steps}
-use Rattle.std.proofs.Common.{ap, ◌∙◌, arith}
+use Rattle.std.proofs.Common.{ap, ◌∙◌}
+use Rattle.sparse_coo_dense.specs.CooPlain.{plain_of_coo}
+use Rattle.sparse_coo_dense.proofs.CooParts.{coo-split, parts-split}
 use Rattle.sparse_compressed.specs.PlainOfLanes.{plain_of_rows}
-use Rattle.sparse_convert.proofs.Compressing.{rows_below, cols_below, plain_of_lists}
+use Rattle.sparse_convert.proofs.Triplets.{by_rows}
 use Rattle.sparse_convert.proofs.serial.convert_coo_csr.Goals as goal
 
-pub compress-requires-clause-majors_below : goal.compress-requires-clause-majors_below
-compress-requires-clause-majors_below g c = rows_below c.args.coo.now c.nrows.result c.ncols.result c.row_indices.result.now
-    c.col_indices.result.now c.values.result.now c.nrows.ensures c.ncols.ensures
-    c.row_indices.ensures.inside c.row_indices.ensures.rows c.col_indices.ensures.cols
+pub compress-requires-clause-lists : goal.compress-requires-clause-lists
+compress-requires-clause-lists g c = rw c.nrows.ensures (by_rows (parts-split c.args.coo.now _ _ _
+    c.row_indices.ensures.rows c.col_indices.ensures.cols c.values.ensures
+    c.row_indices.ensures.inside))
 
 pub compress-requires-clause-minors_below : goal.compress-requires-clause-minors_below
-compress-requires-clause-minors_below g c = cols_below c.args.coo.now c.nrows.result c.ncols.result c.row_indices.result.now
-    c.col_indices.result.now c.values.result.now c.nrows.ensures c.ncols.ensures
-    c.row_indices.ensures.inside c.row_indices.ensures.rows c.col_indices.ensures.cols
+compress-requires-clause-minors_below g c = rw c.ncols.ensures (parts-split c.args.coo.now _ _ _
+    c.row_indices.ensures.rows c.col_indices.ensures.cols c.values.ensures
+    c.row_indices.ensures.inside).cols_bounded
 
 pub returns-clause-plain : goal.returns-clause-plain
-returns-clause-plain g c =
-    let R = g.T.Ring.ring in
-    let f = g.T.Ring.value in
-    let lists = plain_of_lists c.args.coo.now c.nrows.result c.ncols.result c.row_indices.result.now
-    c.col_indices.result.now c.values.result.now c.nrows.ensures c.ncols.ensures
-    c.row_indices.ensures.inside c.row_indices.ensures.rows c.col_indices.ensures.cols R f c.values.ensures in
-    ap (plain_of_rows R f) c.from_cs.ensures ∙ c.in_ok-cs.ensures.plain ∙ lists
-
--- ---- written by tools/answer-goals
-
-pub compress-requires-clause-minors : goal.compress-requires-clause-minors
-compress-requires-clause-minors g c = grind (arith, common_steps)
-
-pub compress-requires-clause-values : goal.compress-requires-clause-values
-compress-requires-clause-values g c = grind (arith, common_steps)
+returns-clause-plain g c = ap (plain_of_rows g.T.Ring.ring g.T.Ring.value) c.from_cs.ensures
+    ∙ c.in_ok-cs.ensures.plain ∙ rw (c.nrows.ensures, c.ncols.ensures)
+    (ap (plain_of_coo g.T.Ring.ring g.T.Ring.value) (coo-split c.args.coo.now _ _ _
+    c.row_indices.ensures.rows c.col_indices.ensures.cols c.values.ensures))

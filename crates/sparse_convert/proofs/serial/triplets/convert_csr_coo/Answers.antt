@@ -1,6 +1,6 @@
-use Rattle.std.proofs.Common.{ap}
+use Rattle.std.proofs.Common.{ap, refl}
 use Rattle.sparse_coo_dense.specs.Coo.{coo_of}
-use Rattle.sparse_convert.proofs.Compressing.{zip_of_parts}
+use Rattle.sparse_coo_dense.proofs.TripletRuns.{zip-split}
 use Rattle.sparse_convert.proofs.StoredTriplets.{parts_by_rows}
 use Rattle.sparse_compressed.specs.Compressed.{lane_triplets}
 use Rattle.sparse_convert.proofs.serial.triplets.convert_csr_coo.Goals as goal
@@ -31,4 +31,4 @@ returns g c =
       lists.values,
       c.cs.ensures.core,
     ) (ap (coo_of m.pattern.major_dim m.pattern.minor_dim)
-    (zip_of_parts (lane_triplets m)))
+    (zip-split _ _ _ (lane_triplets m) refl refl refl))

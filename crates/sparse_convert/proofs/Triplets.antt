@@ -1,0 +1,167 @@
+-- Lists of one length, read as triplets, and their lanes.
+use Rattle.std.proofs.Common.{◌≡◌, ℕ, ◌+◌, ◌<◌, ◌≤◌, inl, inr, Bool, eqb, List, [], ◌∷◌, ◌++◌}
+use Rattle.std.proofs.Common.{length, take, map, filter, get_or, slice_index, All, IsPermutation}
+use Rattle.std.proofs.Common.{refl, ap, sym, ◌∙◌, arith}
+use Rattle.std.specs.List.{AllPairs, list_any}
+use Rattle.std.specs.List.Sorted.{IsNonDecreasing, IsNonDecreasingBy}
+use Rattle.std.proofs.lemmas.List.{get_or-map, get_or_default, length-map}
+use Rattle.std.proofs.lemmas.List.Elements.{All-filter, All-map, filter_passes}
+use Rattle.std.proofs.lemmas.List.Kept.{AllPairs-filter}
+use Rattle.std.proofs.lemmas.List.Sorted.{list_any-IsPermutation}
+use Rattle.sparse_algebra.proofs.Cases.{lt_or_ge}
+use Rattle.sparse_algebra.specs.Algebra.{CommRing}
+use Rattle.sparse_algebra.specs.Sums.{where_true}
+use Rattle.sparse_algebra.specs.Plain.{is_at, plain_of_triplets}
+use Rattle.sparse_algebra.proofs.SumLemmas.{sum_by-permutation, sum_by-same}
+use Rattle.sparse_algebra.proofs.PlainLemmas.{same_plain}
+use Rattle.sparse_coo_dense.specs.Coo.{AreParts, zip_triplets}
+use Rattle.sparse_coo_dense.proofs.TripletLists.{bounded, length-triplets, row_at, rows-zip, triplet_at}
+use Rattle.sparse_compressed.proofs.Arrays.{value_at}
+use Rattle.sparse_convert.specs.InnerTripletLanes.{AreTriplets, LanesClimb, entries_of_lane}
+use Rattle.sparse_convert.specs.InnerTripletLanes.{triplets_of_lane, index_sum, plain_of_lanes}
+use Rattle.sparse_convert.proofs.ByKey.{no_element, same_key, sorted-map}
+use Rattle.sparse_convert.proofs.Folds.{any-filter, any-map, sum_by-filter, sum_by-map, where_and}
+use Rattle.sparse_convert.proofs.IndexSums.{has_index}
+
+-- the parts of a coordinate list, by rows and by columns
+module _ {T : Type 0} {n m : ℕ} {rows cols : List ℕ} {values : List T}
+    (parts : AreParts n m rows cols values) where
+  pub by_rows : AreTriplets n rows cols values
+  by_rows = record {
+    minor_count = parts.col_count ∙ sym parts.row_count;
+    value_count = sym parts.row_count;
+    below = parts.rows_bounded;
+  }
+
+  pub by_cols : AreTriplets m cols rows values
+  by_cols = record {
+    minor_count = parts.row_count ∙ sym parts.col_count;
+    value_count = sym parts.col_count;
+    below = parts.cols_bounded;
+  }
+
+module _ {T : Type 0} {n : ℕ} {majors minors : List ℕ} {values : List T}
+    (lists : AreTriplets n majors minors values) where
+  abbrev ts : List (ℕ × ℕ × T)
+  ts = zip_triplets majors minors values
+
+  row_count : length majors ≡ length values
+  row_count = sym lists.value_count
+
+  col_count : length minors ≡ length values
+  col_count = lists.minor_count ∙ sym lists.value_count
+
+  pub triplet_count : length ts ≡ length majors
+  triplet_count = length-triplets majors minors values row_count col_count ∙ lists.value_count
+
+  pub majors_back : map (λ (t : ℕ × ℕ × T). t.0) ts ≡ majors
+  majors_back = rows-zip majors minors values row_count col_count
+
+  -- one triplet more
+  pub next_triplet : (p : ℕ) (v : T) → p < length majors → v ≡ get_or values p v
+      → take (p + 1) ts ≡ take p ts ++ (slice_index majors p, slice_index minors p, v) ∷ []
+  next_triplet p v lt is = triplet_at majors minors values p (slice_index majors p)
+      (slice_index minors p) v row_count col_count (omega (arith, row_count))
+      (get_or_default majors p 0 (slice_index majors p) lt)
+      (get_or_default minors p 0 (slice_index minors p) (omega (arith, lists.minor_count))) is
+
+  -- the indices of a triplet
+  indices_at : (k : ℕ) (t : ℕ × ℕ × T) → k < length ts
+      → ((get_or ts k t).0 ≡ slice_index majors k) × ((get_or ts k t).1 ≡ slice_index minors k)
+  indices_at k t lt = row_at majors minors values k t row_count col_count
+      (omega (arith, triplet_count, row_count))
+
+  pub all_inside : {m : ℕ} → All (λ j. j < m) minors → All (λ t. (t.0 < n) × (t.1 < m)) ts
+  all_inside {m} minors_below = bounded n m majors minors values record {
+    row_count = row_count;
+    col_count = col_count;
+    rows_bounded = lists.below;
+    cols_bounded = minors_below;
+  }
+
+  -- no triplet is in a lane past the bound
+  pub lane_past : (i : ℕ) → n ≤ i → triplets_of_lane ts i ≡ []
+  lane_past i le = ap (map (λ (t : ℕ × ℕ × T). (t.1, t.2)))
+      (no_element (λ t. t.0) n i ts le (λ k t lt.
+      omega (arith, indices_at k t lt, lists.below k 0 (omega (arith, triplet_count)))))
+
+  pub lane_below : {m : ℕ} → All (λ j. j < m) minors → (i : ℕ)
+      → All (λ e. e.0 < m) (triplets_of_lane ts i)
+  lane_below {m} minors_below i = All-map (λ e. e.0 < m) (λ t. (t.1, t.2))
+      (filter (λ t. eqb t.0 i) ts) (All-filter (λ t. eqb t.0 i) (λ t. t.1 < m) ts
+      (λ k d lt. (all_inside minors_below k d lt).1))
+
+  -- what relates the minor indices of any two triplets of a lane relates those of its entries
+  lane_pairs : (P : ℕ → ℕ → Type 0)
+      → ((p q : ℕ) → p < q → q < length majors → slice_index majors p ≡ slice_index majors q
+      → P (slice_index minors p) (slice_index minors q))
+      → (i : ℕ) → AllPairs (λ t u. P t.1 u.1) (filter (λ t. eqb t.0 i) ts)
+  lane_pairs P related i p q d lt within =
+      let test : ℕ × ℕ × T → Bool = λ t. eqb t.0 i in
+      let lane = filter test ts in
+      let S : ℕ × ℕ × T → ℕ × ℕ × T → Type 0 = λ t u. t.0 ≡ u.0 → P t.1 u.1 in
+      let pairs : AllPairs S ts = λ p q d lt within same.
+      let a = indices_at p d (omega arith) in
+      let b = indices_at q d within in
+      rw (a.1, b.1) (related p q lt (omega (arith, triplet_count)) (sym a.0 ∙ same ∙ b.0)) in
+      let passes = λ (k : ℕ) (lt : k < length lane).
+      same_key (get_or lane k d).0 i (filter_passes test ts k d lt) in
+      AllPairs-filter S test ts pairs p q d lt within
+      (passes p (omega arith) ∙ sym (passes q within))
+
+  -- where minor indices never fall each lane is sorted
+  pub lane_sorted : IsNonDecreasing minors → (i : ℕ)
+      → IsNonDecreasingBy (λ e. e.0) (triplets_of_lane ts i)
+  lane_sorted up i = sorted-map (λ e. e.0) (λ t. (t.1, t.2)) (filter (λ t. eqb t.0 i) ts)
+      (λ p q d le within. elim (lt_or_ge p q) [
+        | inl lt ↦ lane_pairs (λ a b. a ≤ b)
+            (λ p q lt within same. up p q 0 (omega arith) (omega (arith, lists.minor_count)))
+            i p q d lt within
+        | inr ge ↦
+            let e : p ≡ q = omega arith in
+            omega (arith, ap (λ k. (get_or (filter (λ t. eqb t.0 i) ts) k d).1) e)
+      ])
+
+  -- where the minor indices of a lane's triplets rise those of its entries do
+  pub lane_climbs : LanesClimb majors minors → (i : ℕ)
+      → AllPairs (λ e o. e.0 < o.0) (triplets_of_lane ts i)
+  lane_climbs climb i p q d lt within =
+      let lane = filter (λ t. eqb t.0 i) ts in
+      let pair : ℕ × ℕ × T → ℕ × T = λ t. (t.1, t.2) in
+      let size = length-map lane pair in
+      let u : ℕ × ℕ × T = (i, d.0, d.1) in
+      omega (
+        arith,
+        ap (λ e. e.0) (get_or-map pair lane p u d (omega arith)),
+        ap (λ e. e.0) (get_or-map pair lane q u d (omega arith)),
+        lane_pairs (λ a b. a < b) climb i p q u lt (omega arith),
+      )
+
+-- the indices of a lane are the places of its row
+pub lane_has : {T : Type 0} (i j : ℕ) (ts : List (ℕ × ℕ × T))
+    → has_index j (triplets_of_lane ts i) ≡ list_any (is_at i j) ts
+lane_has i j ts = any-map (λ e. eqb e.0 j) (λ t. (t.1, t.2)) (filter (λ t. eqb t.0 i) ts)
+    ∙ any-filter (λ t. eqb t.1 j) (λ t. eqb t.0 i) ts
+
+module _ (R : CommRing) {T : Type 0} (f : T → R.Carrier) where
+  -- the values of a lane are summed as those of its row
+  pub lane_sum : (i j : ℕ) (ts : List (ℕ × ℕ × T))
+      → index_sum R f (triplets_of_lane ts i) j ≡ value_at R f ts i j
+  lane_sum i j ts =
+      sum_by-map R (λ e. where_true R (eqb e.0 j) (f e.1)) (λ t. (t.1, t.2))
+      (filter (λ t. eqb t.0 i) ts)
+      ∙ sum_by-filter R (λ t. where_true R (eqb t.1 j) (f t.2)) (λ t. eqb t.0 i) ts
+      ∙ sum_by-same R _ _ (λ t. sym (where_and R (eqb t.0 i) (eqb t.1 j) (f t.2))) ts
+
+  -- lanes that hold the triplets of their rows, in any order, stand for the triplets
+  pub lanes_stand : (rows cols : ℕ) (offsets : List ℕ) (entries : List (ℕ × T))
+      (ts : List (ℕ × ℕ × T))
+      → ((i : ℕ) → IsPermutation (triplets_of_lane ts i) (entries_of_lane offsets entries i))
+      → plain_of_lanes R f rows cols offsets entries ≡ plain_of_triplets R f rows cols ts
+  lanes_stand rows cols offsets entries ts moved =
+      same_plain (plain_of_lanes R f rows cols offsets entries) (plain_of_triplets R f rows cols ts)
+      refl refl
+      (λ i j. sym (list_any-IsPermutation (λ e. eqb e.0 j) (triplets_of_lane ts i)
+      (entries_of_lane offsets entries i) (moved i)) ∙ lane_has i j ts)
+      (λ i j. sym (sum_by-permutation R (λ e. where_true R (eqb e.0 j) (f e.1))
+      (triplets_of_lane ts i) (entries_of_lane offsets entries i) (moved i)) ∙ lane_sum i j ts)
