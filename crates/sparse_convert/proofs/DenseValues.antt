@@ -14,7 +14,7 @@ use Rattle.sparse_algebra.specs.Algebra.{CommRing}
 use Rattle.sparse_algebra.specs.Sums.{where_true}
 use Rattle.sparse_pattern.specs.Raw.{entries_of}
 use Rattle.sparse_algebra.specs.Plain.{Plain, IsProper, IsWithin, is_at}
-use Rattle.sparse_coo_dense.specs.Coo.{Coo}
+use Rattle.sparse_coo_dense.specs.Coo.{Coo, IsInside}
 use Rattle.sparse_coo_dense.specs.Dense.{Dense, value_at}
 use Rattle.sparse_coo_dense.specs.DensePlain.{is_inside, plain_of_dense, plain_full}
 use Rattle.sparse_pattern.proofs.LaneOrder.{length-entries, entries_are_places}
@@ -36,7 +36,7 @@ use Rattle.sparse_compressed.proofs.Arrays.{value_at as sum_at}
 use Rattle.sparse_compressed.proofs.Inside.{lane_triplets-inside}
 use Rattle.sparse_compressed.proofs.LaneSearch.{place_of_is_position}
 use Rattle.sparse_convert.specs.ToDense.{stored_or_zero, IsDenseOfRows, IsDenseOfCols}
-use Rattle.sparse_convert.proofs.DenseWriting.{written, written-nowhere}
+use Rattle.sparse_convert.proofs.DenseWriting.{all_written, written, written-nowhere}
 use Rattle.sparse_convert.proofs.DenseWriting.{written-transposed, IsWritten}
 
 -- the step that replaces a value
@@ -79,7 +79,7 @@ module _ {T : Type 0} where
       ∙ written_once i j p c z ps vs (omega arith) (omega arith) is
       (λ q l h. omega (arith, only (suc q) (omega arith) h))
 
-  module _ (zero_value : T) (m : Compressed T) (sound : IsSound m) where
+  module _ {m : Compressed T} (sound : IsSound m) where
     unstored : (i j : ℕ) → place_of m.pattern i j ≡ None
         → list_any (is_at i j) (lane_triplets m) ≡ false
     unstored i j none = elim (true_or_false (list_any (is_at i j) (lane_triplets m))) [
@@ -95,54 +95,49 @@ module _ {T : Type 0} where
     ]
 
     -- what is written at a pair is what is stored there
-    pub written_stored : (i j : ℕ)
-        → written replaced zero_value (lane_triplets m) i j ≡ stored_or_zero zero_value m i j
-    written_stored i j = elim (none_or_some (place_of m.pattern i j)) [
-      | inl none ↦ rw none (written-nowhere replaced zero_value (lane_triplets m) i j
-          (unstored i j none))
+    written_stored : (z : T) (i j : ℕ)
+        → written replaced z (lane_triplets m) i j ≡ stored_or_zero z m i j
+    written_stored z i j = elim (none_or_some (place_of m.pattern i j)) [
+      | inl none ↦ rw none (written-nowhere replaced z (lane_triplets m) i j (unstored i j none))
       | inr some ↦
           let d = m.pattern in
           let p = some.0 in
           let at = (place_of_is_position d sound.valid i j p).0 some.1 in
           let long = length-entries d sound.valid in
-          rw some.1 (written_once i j p zero_value zero_value (entries_of d) m.values
+          rw some.1 (written_once i j p z z (entries_of d) m.values
           (long ∙ sym sound.count) (omega (arith, long, position_within d sound.valid i j p at))
           (entry_at d sound.valid i p at.0 ∙ ap (λ x. (i, x)) at.1)
           (λ q lt is. let there = position_of_entry d sound.valid i j q (omega (arith, long, lt))
           is in sym (one_position d sound.valid i p q at.0 there.0 (at.1 ∙ sym there.1))))
     ]
 
-    pub rows_written : (rest : List (ℕ × ℕ × T)) (d : Dense T) → rest ≡ []
-        → IsWritten replaced (λ v. v) zero_value m.pattern.major_dim m.pattern.minor_dim
-        (lane_triplets m) rest d
-        → IsDenseOfRows zero_value m d
-    rows_written rest d end done = record {
+    pub rows_written : {z : T} {rest : List (ℕ × ℕ × T)} {d : Dense T} → rest ≡ []
+        → IsWritten replaced (λ v. v) z m.pattern.major_dim m.pattern.minor_dim (lane_triplets m)
+        rest d → IsDenseOfRows z m d
+    rows_written {z} end done = record {
       rows = done.rows;
       cols = done.cols;
       count = done.count;
-      values = λ i j z row col. ap (λ l. written replaced (value_at d i j z) l i j) (sym end)
-          ∙ done.values i j z row col ∙ written_stored i j;
+      values = λ i j y row col. all_written end done i j y row col ∙ written_stored z i j;
     }
 
-    pub cols_written : (rest : List (ℕ × ℕ × T)) (d : Dense T) → rest ≡ []
-        → IsWritten replaced (λ v. v) zero_value m.pattern.minor_dim m.pattern.major_dim
-        (map transposed (lane_triplets m)) rest d
-        → IsDenseOfCols zero_value m d
-    cols_written rest d end done = record {
+    pub cols_written : {z : T} {rest : List (ℕ × ℕ × T)} {d : Dense T} → rest ≡ []
+        → IsWritten replaced (λ v. v) z m.pattern.minor_dim m.pattern.major_dim
+        (map transposed (lane_triplets m)) rest d → IsDenseOfCols z m d
+    cols_written {z} end done = record {
       rows = done.rows;
       cols = done.cols;
       count = done.count;
-      values = λ i j z row col. ap (λ l. written replaced (value_at d i j z) l i j) (sym end)
-          ∙ done.values i j z row col ∙ written-transposed replaced zero_value (lane_triplets m) i j
-          ∙ written_stored j i;
+      values = λ i j y row col. all_written end done i j y row col
+          ∙ written-transposed replaced z (lane_triplets m) i j ∙ written_stored z j i;
     }
 
     -- the columns' triplets are within the shape
     pub transposed_inside : All (λ t. (t.0 < m.pattern.minor_dim) × (t.1 < m.pattern.major_dim))
         (map transposed (lane_triplets m))
-    transposed_inside = All-map (λ t. (t.0 < m.pattern.minor_dim) × (t.1 < m.pattern.major_dim)) transposed
-        (lane_triplets m) (λ k t lt. let here = lane_triplets-inside m sound k t
-        lt in (here.1, here.0))
+    transposed_inside = All-map (λ t. (t.0 < m.pattern.minor_dim) × (t.1 < m.pattern.major_dim))
+        transposed (lane_triplets m)
+        (λ k t lt. let here = lane_triplets-inside m sound k t lt in (here.1, here.0))
 
 module _ (R : CommRing) {T : Type 0} (f : T → R.Carrier) where
   -- the step that adds a value
@@ -201,15 +196,13 @@ module _ (R : CommRing) {T : Type 0} (f : T → R.Carrier) where
               where_no R f (is_inside d i j) _ (has_same i j ∙ miss) ∙ sym (proper i j off)
         ]
 
-    pub coo_stands : (m : Coo T) (d : Dense T)
-        → All (λ t. (t.0 < m.nrows) × (t.1 < m.ncols)) m.triplets → (rest : List (ℕ × ℕ × T))
-        → rest ≡ [] → IsWritten added f (f z) m.nrows m.ncols m.triplets rest d
+    pub coo_stands : (m : Coo T) {d : Dense T} {rest : List (ℕ × ℕ × T)} → IsInside m → rest ≡ []
+        → IsWritten added f (f z) m.nrows m.ncols m.triplets rest d
         → plain_of_dense R f d ≡ plain_full R (plain_of_coo R f m)
-    coo_stands m d inside rest end done = dense_stands d (plain_of_coo R f m)
+    coo_stands m {d} inside end done = dense_stands d (plain_of_coo R f m)
         (proper_triplets R f m.nrows m.ncols m.triplets)
         (within_plain_of_triplets R f m.nrows m.ncols m.triplets inside) done.rows done.cols
-        (λ i j row col. ap (λ l. written added (f (value_at d i j z)) l i j) (sym end)
-        ∙ done.values i j z row col ∙ written_sum (f z) m.triplets i j
+        (λ i j row col. all_written end done i j z row col ∙ written_sum (f z) m.triplets i j
         ∙ ap (λ c. R.add c (sum_at R f m.triplets i j)) zero_law
         ∙ zero_add R (sum_at R f m.triplets i j))
 
@@ -217,7 +210,7 @@ module _ (R : CommRing) {T : Type 0} (f : T → R.Carrier) where
       stored_means : (i j : ℕ) → f (stored_or_zero z m i j) ≡ (plain_of_rows R f m).value i j
       stored_means i j = elim (none_or_some (place_of m.pattern i j)) [
         | inl none ↦ rw none
-            (zero_law ∙ sym (unnamed R f i j (lane_triplets m) (unstored z m sound i j none)))
+            (zero_law ∙ sym (unnamed R f i j (lane_triplets m) (unstored sound i j none)))
         | inr some ↦ rw some.1
             (sym (value_at_position R f m.pattern sound.valid m.values sound.count z i j some.0
             ((place_of_is_position m.pattern sound.valid i j some.0).0 some.1)))

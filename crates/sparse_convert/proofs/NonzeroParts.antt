@@ -15,50 +15,22 @@ use Rattle.sparse_coo_dense.specs.Dense.{Dense, value_at}
 use Rattle.sparse_coo_dense.specs.DensePlain.{plain_of_dense}
 use Rattle.sparse_algebra.proofs.RingLemmas.{zero_add}
 use Rattle.sparse_algebra.proofs.SumLemmas.{sum_by-append, sum_by-same, sum_by-zero}
-use Rattle.sparse_algebra.proofs.PlainLemmas.{any_is, any_below-same, and_comm, same_plain}
+use Rattle.sparse_algebra.proofs.PlainLemmas.{any_is, any_below-same, and_comm}
 use Rattle.sparse_compressed.specs.Compressed.{transposed}
 use Rattle.sparse_convert.specs.FromDense.{full_lanes, row_triplets, column_triplets, differs_from}
 use Rattle.sparse_convert.specs.FromDense.{IsNonzeroPart}
+use Rattle.sparse_convert.proofs.Folds.{any-filter, any-flat_map, any-map, sum_by-filter}
+use Rattle.sparse_convert.proofs.Folds.{sum_by-flat_map, sum_by-map, sum_where, where_and}
+use Rattle.sparse_convert.proofs.StoredTriplets.{plain_of_transposed_list}
 use Rattle.sparse_convert.proofs.FullLanes.{column_lanes, kept_columns}
 
--- ---- tests over lists
-
-any-filter : {X : Type 0} (p q : X → Bool) (xs : List X)
-    → list_any p (filter q xs) ≡ list_any (λ x. p x && q x) xs
-any-filter p q [] = refl
-any-filter p q (x ∷ xs) = chosen (q x) ∙ swapped (p x) (q x) (list_any p (filter q xs))
-    ∙ ap (λ b. (p x && q x) || b) (any-filter p q xs)
-  where
-    chosen : (c : Bool)
-        → list_any p (cond c (x ∷ filter q xs) (filter q xs)) ≡ cond c
-        (p x || list_any p (filter q xs)) (list_any p (filter q xs))
-    chosen true = refl
-    chosen false = refl
-
-    swapped : (b c d : Bool) → cond c (b || d) d ≡ ((b && c) || d)
-    swapped true true d = refl
-    swapped true false d = refl
-    swapped false true d = refl
-    swapped false false d = refl
-
-any-map : {X Y : Type 0} (p : Y → Bool) (f : X → Y) (xs : List X)
-    → list_any p (map f xs) ≡ list_any (λ x. p (f x)) xs
-any-map p f [] = refl
-any-map p f (x ∷ xs) = ap (λ b. p (f x) || b) (any-map p f xs)
-
-any-flat_map : {X Y : Type 0} (p : Y → Bool) (f : X → List Y) (xs : List X)
-    → list_any p (flat_map f xs) ≡ list_any (λ x. list_any p (f x)) xs
-any-flat_map p f [] = refl
-any-flat_map p f (x ∷ xs) = list_any-append p (f x) (flat_map f xs)
-    ∙ ap (λ b. list_any p (f x) || b) (any-flat_map p f xs)
+-- ---- tests of numbers
 
 any-below : (n : ℕ) (test : ℕ → Bool) → list_any test (below n) ≡ any_below n test
 any-below zero test = refl
 any-below (suc n) test = list_any-append test (below n) (n ∷ [])
     ∙ ap (λ b. b || (test n || false)) (any-below n test)
     ∙ ap (λ b. any_below n test || b) (or_false (test n))
-
--- ---- tests of numbers
 
 lt_yes : (k n : ℕ) → k < n → nat_lt k n ≡ true
 lt_yes k n lt = (Decides-ltb k n).1 lt
@@ -72,27 +44,6 @@ eq_yes k n e = (Decides-eqb k n).1 e
 -- ---- sums over lists
 
 module _ (R : CommRing) where
-  sum_by-map : {X Y : Type 0} (g : Y → R.Carrier) (f : X → Y) (xs : List X)
-      → sum_by R g (map f xs) ≡ sum_by R (λ x. g (f x)) xs
-  sum_by-map g f [] = refl
-  sum_by-map g f (x ∷ xs) = ap (R.add (g (f x))) (sum_by-map g f xs)
-
-  sum_by-flat_map : {X Y : Type 0} (g : Y → R.Carrier) (f : X → List Y) (xs : List X)
-      → sum_by R g (flat_map f xs) ≡ sum_by R (λ x. sum_by R g (f x)) xs
-  sum_by-flat_map g f [] = refl
-  sum_by-flat_map g f (x ∷ xs) = sum_by-append R g (f x) (flat_map f xs)
-      ∙ ap (R.add (sum_by R g (f x))) (sum_by-flat_map g f xs)
-
-  where_and : (b c : Bool) (x : R.Carrier)
-      → where_true R (b && c) x ≡ where_true R b (where_true R c x)
-  where_and true c x = refl
-  where_and false c x = refl
-
-  sum_where : {X : Type 0} (b : Bool) (g : X → R.Carrier) (xs : List X)
-      → sum_by R (λ x. where_true R b (g x)) xs ≡ where_true R b (sum_by R g xs)
-  sum_where true g xs = refl
-  sum_where false g xs = sum_by-zero R xs
-
   nothing : (b : Bool) (x : R.Carrier) → x ≡ R.zero → where_true R b x ≡ R.zero
   nothing true x e = e
   nothing false x e = refl
@@ -136,16 +87,16 @@ module _ (R : CommRing) where
         (below m) in
         let at : (a : ℕ) → sum_by R g (lane a) ≡ where_true R (nat_eq a i)
         (where_true R (nat_lt j m) (f (value a j))) = λ a.
-        sum_by-map g (λ k. (a, k, value a k)) (below m)
+        sum_by-map R g (λ k. (a, k, value a k)) (below m)
         ∙ sum_by-same R _ (λ k. where_true R (nat_eq a i)
         (where_true R (nat_eq k j) (f (value a k))))
-        (λ k. where_and (nat_eq a i) (nat_eq k j) (f (value a k))) (below m)
-        ∙ sum_where (nat_eq a i) (λ k. where_true R (nat_eq k j) (f (value a k))) (below m)
+        (λ k. where_and R (nat_eq a i) (nat_eq k j) (f (value a k))) (below m)
+        ∙ sum_where R (nat_eq a i) (λ k. where_true R (nat_eq k j) (f (value a k))) (below m)
         ∙ ap (where_true R (nat_eq a i)) (pick m j (λ k. f (value a k))) in
-        sum_by-flat_map g lane (below n)
+        sum_by-flat_map R g lane (below n)
         ∙ sum_by-same R _ _ at (below n)
         ∙ pick n i (λ a. where_true R (nat_lt j m) (f (value a j)))
-        ∙ sym (where_and (nat_lt i n) (nat_lt j m) (f (value i j)))
+        ∙ sym (where_and R (nat_lt i n) (nat_lt j m) (f (value i j)))
 
     module _ (E : T → T → Bool) (z : T) (zero_is : f z ≡ R.zero)
         (decides : (x y : T) → (E x y ≡ true) ↔ (f x ≡ f y)) where
@@ -153,27 +104,23 @@ module _ (R : CommRing) where
       sum_differs : (i j : ℕ) (ts : List (ℕ × ℕ × T))
           → sum_by R (λ t. where_true R (is_at i j t) (f t.2)) (filter (differs_from E z) ts)
           ≡ sum_by R (λ t. where_true R (is_at i j t) (f t.2)) ts
-      sum_differs i j [] = refl
-      sum_differs i j (t ∷ ts) = chosen (E t.2 z) refl (sum_differs i j ts)
+      sum_differs i j ts =
+          sum_by-filter R (λ t. where_true R (is_at i j t) (f t.2)) (differs_from E z) ts
+          ∙ sum_by-same R _ _ (λ t. dropped (E t.2 z) (is_at i j t) (f t.2)
+          (λ e. (decides t.2 z).0 e ∙ zero_is)) ts
         where
-          chosen : (b : Bool) → E t.2 z ≡ b
-              → sum_by R (λ t. where_true R (is_at i j t) (f t.2)) (filter (differs_from E z) ts)
-              ≡ sum_by R (λ t. where_true R (is_at i j t) (f t.2)) ts
-              → sum_by R (λ t. where_true R (is_at i j t) (f t.2))
-              (cond (not b) (t ∷ filter (differs_from E z) ts) (filter (differs_from E z) ts))
-              ≡ sum_by R (λ t. where_true R (is_at i j t) (f t.2)) (t ∷ ts)
-          chosen true e rest = rest ∙ sym (zero_add R _)
-              ∙ ap (λ c. R.add c (sum_by R (λ t. where_true R (is_at i j t) (f t.2)) ts))
-              (sym (nothing (is_at i j t) (f t.2) ((decides t.2 z).0 e ∙ zero_is)))
-          chosen false e rest = ap (R.add (where_true R (is_at i j t) (f t.2))) rest
+          dropped : (c b : Bool) (x : R.Carrier) → (c ≡ true → x ≡ R.zero)
+              → where_true R (not c) (where_true R b x) ≡ where_true R b x
+          dropped true b x none = sym (nothing b x (none refl))
+          dropped false b x none = refl
 
       -- the pairs that are kept
       module _ (n m : ℕ) (value : ℕ → ℕ → T) (i j : ℕ) where
         any_full : list_any (is_at i j) (filter (differs_from E z) (full_lanes n m value))
             ≡ any_below n
-            (λ a. any_below m (λ k. (nat_eq a i && nat_eq k j) && not (E (value a k) z)))
+            (λ a. any_below m (λ k. not (E (value a k) z) && (nat_eq a i && nat_eq k j)))
         any_full =
-            let test : ℕ × ℕ × T → Bool = λ t. is_at i j t && differs_from E z t in
+            let test : ℕ × ℕ × T → Bool = λ t. differs_from E z t && is_at i j t in
             any-filter (is_at i j) (differs_from E z) (full_lanes n m value)
             ∙ any-flat_map test (λ a. map {B = ℕ × ℕ × T} (λ k. (a, k, value a k)) (below m))
             (below n)
@@ -185,24 +132,24 @@ module _ (R : CommRing) where
             → (i < n) × (j < m) × (not (E (value i j) z) ≡ true)
         has_forth h =
             let outer = (any_is n
-            (λ a. any_below m (λ k. (nat_eq a i && nat_eq k j) && not (E (value a k) z)))).0
+            (λ a. any_below m (λ k. not (E (value a k) z) && (nat_eq a i && nat_eq k j)))).0
             (sym any_full ∙ h) in
-            let inner = (any_is m (λ k. (nat_eq outer.0 i && nat_eq k j) && not
-            (E (value outer.0 k) z))).0 outer.2 in
+            let inner = (any_is m (λ k. not (E (value outer.0 k) z)
+            && (nat_eq outer.0 i && nat_eq k j))).0 outer.2 in
             let both = and_parts _ _ inner.2 in
-            let at = and_parts _ _ both.0 in
+            let at = and_parts _ _ both.1 in
             let row : outer.0 ≡ i = (Decides-eqb outer.0 i).0 at.0 in
             let col : inner.0 ≡ j = (Decides-eqb inner.0 j).0 at.1 in (
               subst (λ a. a < n) row outer.1,
               subst (λ k. k < m) col inner.1,
               subst (λ a. not (E (value a j) z) ≡ true) row
-                  (subst (λ k. not (E (value outer.0 k) z) ≡ true) col both.1),
+                  (subst (λ k. not (E (value outer.0 k) z) ≡ true) col both.0),
             )
 
         has_back : (i < n) × (j < m) × (not (E (value i j) z) ≡ true)
             → list_any (is_at i j) (filter (differs_from E z) (full_lanes n m value)) ≡ true
         has_back h =
-            let here = and_both _ _ (and_both _ _ (eq_yes i i refl) (eq_yes j j refl)) h.2 in
+            let here = and_both _ _ h.2 (and_both _ _ (eq_yes i i refl) (eq_yes j j refl)) in
             any_full ∙ (any_is n _).1 (i, h.0, (any_is m _).1 (j, h.1, here))
 
       -- the kept triplets of a plain matrix whose places are all pairs inside
@@ -285,33 +232,14 @@ module _ (R : CommRing) where
                 λ i j. h.value j i;
           }
 
-      any_transposed : (i j : ℕ) (ts : List (ℕ × ℕ × T))
-          → list_any (is_at i j) (map transposed ts) ≡ list_any (is_at j i) ts
-      any_transposed i j [] = refl
-      any_transposed i j (t ∷ ts) = ap (λ b. b || list_any (is_at i j) (map transposed ts))
-          (and_comm (nat_eq t.1 i) (nat_eq t.0 j)) ∙ ap (λ b. (nat_eq t.0 j && nat_eq t.1 i) || b)
-          (any_transposed i j ts)
-
-      sum_transposed : (i j : ℕ) (ts : List (ℕ × ℕ × T))
-          → sum_by R (λ t. where_true R (is_at i j t) (f t.2)) (map transposed ts) ≡ sum_by R
-          (λ t. where_true R (is_at j i t) (f t.2)) ts
-      sum_transposed i j [] = refl
-      sum_transposed i j (t ∷ ts) =
-          ap (λ b. R.add (where_true R b (f t.2))
-          (sum_by R (λ t. where_true R (is_at i j t) (f t.2))
-          (map transposed ts))) (and_comm (nat_eq t.1 i) (nat_eq t.0 j))
-          ∙ ap (R.add (where_true R (nat_eq t.0 j && nat_eq t.1 i) (f t.2))) (sum_transposed i j ts)
-
       pub triplets_part : (d : Dense T)
           → IsNonzeroPart (plain_of_dense R f d) (plain_of_triplets R f d.nrows d.ncols
           (filter (differs_from E z) (column_triplets z d)))
       triplets_part d =
           let kept = filter (differs_from E z) (column_lanes z d) in
-          let same : plain_of_triplets R f d.nrows d.ncols (map transposed kept) ≡ plain_transpose R
-          (plain_of_triplets R f d.ncols d.nrows kept) =
-          same_plain _ _ refl refl (λ i j. any_transposed i j kept) (λ i j. sum_transposed i j kept) in
           subst (IsNonzeroPart (plain_of_dense R f d))
-          (sym (ap (plain_of_triplets R f d.nrows d.ncols) (kept_columns E z d) ∙ same))
+          (sym (ap (plain_of_triplets R f d.nrows d.ncols) (kept_columns E z d)
+          ∙ plain_of_transposed_list R f d.ncols d.nrows kept))
           (columns_part d)
 
       transposed_twice : (ts : List (ℕ × ℕ × T)) → map transposed (map transposed ts) ≡ ts

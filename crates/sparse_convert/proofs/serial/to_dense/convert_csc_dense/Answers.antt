@@ -1,34 +1,27 @@
 use Rattle.std.proofs.Common.{◌≡◌, map, refl, rules}
 use Rattle.sparse_compressed.specs.Compressed.{lane_triplets, transposed}
 use Rattle.sparse_convert.proofs.DenseWriting.{none_written, next_inside, one_written}
-use Rattle.sparse_convert.proofs.DenseValues.{replaced, cols_written, transposed_inside}
+use Rattle.sparse_convert.proofs.DenseValues.{cols_written, transposed_inside}
 use Rattle.sparse_convert.proofs.serial.to_dense.convert_csc_dense.Goals as goal
 
 pub loop-i-init : goal.loop-i-init
 loop-i-init g c =
     let m = c.args.csc.now in
     let all : c.into_iter-i-iterator.result ≡ map transposed (lane_triplets m) = search rules in
-    rw all (none_written replaced (λ v. v) m.pattern.minor_dim m.pattern.major_dim
-    (map transposed (lane_triplets m)) g.T.Zero.zero_value c.in_ok-dense.dense
+    rw all (none_written g.T.Zero.zero_value
     (rw (c.nrows.ensures, c.ncols.ensures) at c.in_ok-dense.ensures)
-    (transposed_inside g.T.Zero.zero_value m c.triplet_iter-i-items.ensures.sound))
+    (transposed_inside c.triplet_iter-i-items.ensures.sound))
 
 pub set-requires-clause-row : goal.set-requires-clause-row
-set-requires-clause-row g c =
-    (next_inside replaced (λ v. v) _ _ _ _ _ _ (c.in-Some.i, c.in-Some.j, c.in-Some.value.now)
-    c.in-Some.ensures.steps c.loop-i.dense c.loop-i.invariant).0
+set-requires-clause-row g c = (next_inside c.in-Some.ensures.steps c.loop-i.invariant).0
 
 pub set-requires-clause-col : goal.set-requires-clause-col
-set-requires-clause-col g c =
-    (next_inside replaced (λ v. v) _ _ _ _ _ _ (c.in-Some.i, c.in-Some.j, c.in-Some.value.now)
-    c.in-Some.ensures.steps c.loop-i.dense c.loop-i.invariant).1
+set-requires-clause-col g c = (next_inside c.in-Some.ensures.steps c.loop-i.invariant).1
 
 pub loop-i-preserved : goal.loop-i-preserved
-loop-i-preserved g c =
-    one_written replaced (λ v. v) _ _ _ _ _ _ (c.in-Some.i, c.in-Some.j, c.in-Some.value.now)
-    c.in-Some.ensures.steps c.loop-i.dense c.loop-i.invariant c.set.new.self c.in-Some.value.now
+loop-i-preserved g c = one_written c.in-Some.ensures.steps c.loop-i.invariant c.in-Some.value.now
     c.set.ensures.values (λ z. refl)
 
 pub returns : goal.returns
-returns g c = cols_written g.T.Zero.zero_value c.args.csc.now c.triplet_iter-i-items.ensures.sound
-    c.loop-i.i-iterator c.loop-i.dense c.in-None.ensures.steps.0 c.loop-i.invariant
+returns g c = cols_written c.triplet_iter-i-items.ensures.sound c.in-None.ensures.steps.0
+    c.loop-i.invariant
