@@ -1,4 +1,4 @@
--- Tests and sums over lists that are mapped, filtered or joined.
+-- Tests and sums over lists that are mapped, filtered or joined, and filters of what is mapped.
 use Rattle.std.proofs.Common.{◌≡◌, Bool, true, false, ◌&&◌, cond, List, [], ◌∷◌, map, refl, ap, sym}
 use Rattle.std.proofs.Common.{◌∙◌}
 use Rattle.std.specs.Prelude.{◌||◌}
@@ -34,6 +34,17 @@ pub any-flat_map : {X Y : Type 0} (p : Y → Bool) (f : X → List Y) (xs : List
 any-flat_map p f [] = refl
 any-flat_map p f (x ∷ xs) = list_any-append p (f x) (flat_map f xs)
     ∙ ap (λ b. list_any p (f x) || b) (any-flat_map p f xs)
+
+pub filter-map : {X Y : Type 0} (test : Y → Bool) (f : X → Y) (xs : List X)
+    → filter test (map f xs) ≡ map f (filter (λ x. test (f x)) xs)
+filter-map test f [] = refl
+filter-map test f (x ∷ xs) = chosen (test (f x)) (filter-map test f xs)
+  where
+    chosen : (b : Bool) → filter test (map f xs) ≡ map f (filter (λ x. test (f x)) xs)
+        → cond b (f x ∷ filter test (map f xs)) (filter test (map f xs)) ≡ map f
+        (cond b (x ∷ filter (λ x. test (f x)) xs) (filter (λ x. test (f x)) xs))
+    chosen true rest = ap (λ l. f x ∷ l) rest
+    chosen false rest = rest
 
 module _ (R : CommRing) where
   pub sum_by-map : {X Y : Type 0} (g : Y → R.Carrier) (f : X → Y) (xs : List X)

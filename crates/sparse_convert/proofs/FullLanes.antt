@@ -13,6 +13,7 @@ use Rattle.sparse_algebra.proofs.Cases.{lt_suc_cases}
 use Rattle.sparse_algebra.specs.Plain.{below}
 use Rattle.sparse_coo_dense.specs.Dense.{Dense, value_at}
 use Rattle.sparse_compressed.specs.Compressed.{transposed}
+use Rattle.sparse_convert.proofs.Folds.{filter-map}
 use Rattle.sparse_convert.specs.FromDense.{full_lanes, row_triplets, column_triplets}
 use Rattle.sparse_convert.specs.FromDense.{differs_from}
 
@@ -77,17 +78,6 @@ module _ (test : ℕ → Bool) (n : ℕ) where
       ∙ ap (map value) (sym (chosen_next true e)))
 
 -- ---- lists
-
-pub filter-map : {X Y : Type 0} (test : Y → Bool) (f : X → Y) (xs : List X)
-    → filter test (map f xs) ≡ map f (filter (λ x. test (f x)) xs)
-filter-map test f [] = refl
-filter-map test f (x ∷ xs) = chosen (test (f x)) (filter-map test f xs)
-  where
-    chosen : (b : Bool) → filter test (map f xs) ≡ map f (filter (λ x. test (f x)) xs)
-        → cond b (f x ∷ filter test (map f xs)) (filter test (map f xs)) ≡ map f
-        (cond b (x ∷ filter (λ x. test (f x)) xs) (filter (λ x. test (f x)) xs))
-    chosen true rest = ap (λ l. f x ∷ l) rest
-    chosen false rest = rest
 
 pub filter_map_next : {X : Type 0} (test : X → Bool) (f : ℕ → X) (n : ℕ) (b : Bool) → test (f n) ≡ b
     → filter test (map f (below (n + 1))) ≡ filter test (map f (below n)) ++ cond b (f n ∷ []) []

@@ -15,26 +15,16 @@ use Rattle.sparse_convert.proofs.Merging.{empty_merged}
 use Rattle.sparse_convert.proofs.MergedLanes.{no_lanes_merged, lanes_merged_more, merged_with}
 use Rattle.sparse_convert.proofs.Offsets.{offset_front, offset_end, offsets_less, offsets_more}
 use Rattle.sparse_convert.proofs.Offsets.{offsets_ordered}
+use Rattle.sparse_convert.proofs.PlacedByKey.{pushed_here, pushed_other}
 use Rattle.sparse_convert.proofs.Triplets.{lane_past, triplet_count}
 
+-- a triplet is the last entry of its lane, and other lanes stay
 module _ {T : Type 0} (ts : List (ℕ × ℕ × T)) (t : ℕ × ℕ × T) where
-  lane_with : (i : ℕ) (b : Bool) → eqb t.0 i ≡ b
-      → triplets_of_lane (ts ++ t ∷ []) i ≡ triplets_of_lane ts i
-      ++ map (λ (t : ℕ × ℕ × T). (t.1, t.2)) (cond b (t ∷ []) [])
-  lane_with i b test =
-      ap (map (λ (t : ℕ × ℕ × T). (t.1, t.2))) (filter-append (λ t. eqb t.0 i) ts (t ∷ []))
-      ∙ map-append (λ t. (t.1, t.2)) (filter (λ t. eqb t.0 i) ts) (cond (eqb t.0 i) (t ∷ []) [])
-      ∙ ap (λ c. triplets_of_lane ts i ++ map (λ (t : ℕ × ℕ × T). (t.1, t.2))
-      (cond c (t ∷ []) [])) test
+  lane_pushed : triplets_of_lane (ts ++ t ∷ []) t.0 ≡ triplets_of_lane ts t.0 ++ (t.1, t.2) ∷ []
+  lane_pushed = pushed_here (λ t. t.0) (λ t. (t.1, t.2)) t.0 ts t refl
 
-  -- a triplet is the last entry of its lane
-  pub lane_pushed : triplets_of_lane (ts ++ t ∷ []) t.0
-      ≡ triplets_of_lane ts t.0 ++ (t.1, t.2) ∷ []
-  lane_pushed = lane_with t.0 true ((Decides-eqb t.0 t.0).1 refl)
-
-  -- other lanes stay
-  pub lane_other : (i : ℕ) → t.0 ≢ i → triplets_of_lane (ts ++ t ∷ []) i ≡ triplets_of_lane ts i
-  lane_other i ne = lane_with i false (nat_eq_no t.0 i ne) ∙ append-nil (triplets_of_lane ts i)
+  lane_other : (i : ℕ) → t.0 ≢ i → triplets_of_lane (ts ++ t ∷ []) i ≡ triplets_of_lane ts i
+  lane_other i ne = pushed_other (λ t. t.0) (λ t. (t.1, t.2)) i ts t ne
 
 module _ {R : CommRing} {T : Type 0} {f : T → R.Carrier} {z : T} where
   -- before the first triplet

@@ -205,11 +205,10 @@ module _ (R : CommRing) where
               value_at (record { nrows = d.nrows; ncols = d.ncols; values = map f d.values }) i j x
 
       -- row after row
-      pub rows_part : (d : Dense T) (ts : List (ℕ × ℕ × T))
+      pub rows_part : (d : Dense T) (n m : ℕ) (ts : List (ℕ × ℕ × T)) → n ≡ d.nrows → m ≡ d.ncols
           → ts ≡ filter (differs_from E z) (row_triplets z d)
-          → IsNonzeroPart (plain_of_dense R f d) (plain_of_triplets R f d.nrows d.ncols ts)
-      rows_part d ts is = subst (λ l. IsNonzeroPart (plain_of_dense R f d)
-          (plain_of_triplets R f d.nrows d.ncols l)) (sym is)
+          → IsNonzeroPart (plain_of_dense R f d) (plain_of_triplets R f n m ts)
+      rows_part d n m ts rows cols is = rw (rows, cols, is)
           (full_part d.nrows d.ncols (λ i j. value_at d i j z) (plain_of_dense R f d) refl refl
           (λ i j. refl) (dense_value d))
 
@@ -246,14 +245,10 @@ module _ (R : CommRing) where
       transposed_twice [] = refl
       transposed_twice (t ∷ ts) = ap (λ us. t ∷ us) (transposed_twice ts)
 
-      pub cols_part : (d : Dense T) (ts : List (ℕ × ℕ × T))
+      pub cols_part : (d : Dense T) (n m : ℕ) (ts : List (ℕ × ℕ × T)) → n ≡ d.nrows → m ≡ d.ncols
           → map transposed ts ≡ filter (differs_from E z) (column_triplets z d)
-          → IsNonzeroPart (plain_of_dense R f d) (plain_transpose R
-          (plain_of_triplets R f d.ncols d.nrows ts))
-      cols_part d ts is =
-          let kept = filter (differs_from E z) (column_lanes z d) in
-          let same : ts ≡ kept = sym (transposed_twice ts) ∙ ap (map transposed) (is ∙ kept_columns E z d)
-          ∙ transposed_twice kept in
-          subst (λ l. IsNonzeroPart (plain_of_dense R f d)
-          (plain_transpose R (plain_of_triplets R f d.ncols d.nrows l))) (sym same)
-          (columns_part d)
+          → IsNonzeroPart (plain_of_dense R f d) (plain_transpose R (plain_of_triplets R f m n ts))
+      cols_part d n m ts rows cols is =
+          let same : ts ≡ filter (differs_from E z) (column_lanes z d) = sym (transposed_twice ts)
+          ∙ ap (map transposed) (is ∙ kept_columns E z d) ∙ transposed_twice _ in
+          rw (rows, cols, same) (columns_part d)

@@ -41,41 +41,12 @@ loop-lane-preserved g c =
           ∙ sym (kept_lane E z m value n));
     }
 
-pub push_lane-requires : goal.push_lane-requires
-push_lane-requires g c = λ k lt. c.requires.inside c.loop-lane.lane k c.loop-lane-test.true lt
-
-pub loop-lane-smaller : goal.loop-lane-smaller
-loop-lane-smaller g c = omega (arith, c.loop-lane-test.true)
-
-pub overflow_mul-start : goal.overflow_mul-start
-overflow_mul-start g c =
-    omega (arith, c.requires.starts c.loop-lane.lane c.loop-lane-test.true)
-
 pub from_offset_and_indices_unchecked-pattern-requires :
     goal.from_offset_and_indices_unchecked-pattern-requires
 from_offset_and_indices_unchecked-pattern-requires g c =
     let end : c.loop-lane.lane ≡ c.args.major_dim = omega arith in
     subst (λ n. IsValid (raw_of n c.args.minor_dim c.loop-lane.offsets.items
     c.loop-lane.indices.items)) end c.loop-lane.invariant.sound.valid
-
-pub from_pattern_and_values-requires : goal.from_pattern_and_values-requires
-from_pattern_and_values-requires g c =
-    rw c.from_offset_and_indices_unchecked-pattern.ensures c.loop-lane.invariant.sound.count
-
-pub returns-clause-major_dim : goal.returns-clause-major_dim
-returns-clause-major_dim g c = rw (
-  c.from_pattern_and_values.ensures.is,
-  c.from_offset_and_indices_unchecked-pattern.ensures,
-) refl
-
-pub returns-clause-minor_dim : goal.returns-clause-minor_dim
-returns-clause-minor_dim g c = rw (
-  c.from_pattern_and_values.ensures.is,
-  c.from_offset_and_indices_unchecked-pattern.ensures,
-) refl
-
-pub returns-clause-sound : goal.returns-clause-sound
-returns-clause-sound g c = c.from_pattern_and_values.ensures.sound
 
 pub returns-clause-kept : goal.returns-clause-kept
 returns-clause-kept g c =

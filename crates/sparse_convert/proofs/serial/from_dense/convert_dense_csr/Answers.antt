@@ -4,14 +4,6 @@ use Rattle.sparse_convert.specs.FromDense.{differs_from}
 use Rattle.sparse_convert.proofs.FullLanes.{lanes_by_rows}
 use Rattle.sparse_convert.proofs.serial.from_dense.convert_dense_csr.Goals as goal
 
-pub returns-clause-rows : goal.returns-clause-rows
-returns-clause-rows g c = rw c.from_cs.ensures
-    (c.in_ok-cs.ensures.major_dim ∙ c.nrows-nrows.ensures)
-
-pub returns-clause-cols : goal.returns-clause-cols
-returns-clause-cols g c = rw c.from_cs.ensures
-    (c.in_ok-cs.ensures.minor_dim ∙ c.ncols-ncols.ensures)
-
 pub returns-clause-kept : goal.returns-clause-kept
 returns-clause-kept g c =
     let E = g.T.PartialEq.eq in
@@ -20,6 +12,3 @@ returns-clause-kept g c =
     let kept = rw (c.nrows-nrows.ensures, c.ncols-ncols.ensures, c.as_slice.ensures.values) at
     c.in_ok-cs.ensures.kept in
     rw c.from_cs.ensures (kept ∙ ap (filter (differs_from E z)) (lanes_by_rows z d))
-
-pub returns-clause-sound : goal.returns-clause-sound
-returns-clause-sound g c = rw c.from_cs.ensures c.in_ok-cs.ensures.sound
