@@ -118,26 +118,27 @@ map_below-same (suc n) f g h =
     ∙ ap (λ x. map g (below n) ++ x ∷ []) (h n (omega arith))
     ∙ sym (map-append g (below n) (n ∷ []))
 
+-- the triplets of the first n columns of a dense matrix
+abbrev pub first_columns : {T : Type 0} → T → Dense T → ℕ → List (ℕ × ℕ × T)
+first_columns {T} z d n =
+    flat_map (λ j. map {B = ℕ × ℕ × T} (λ i. (i, j, value_at d i j z)) (below d.nrows)) (below n)
+
 -- one column more
 pub column_more : {T : Type 0} (E : T → T → Bool) (z : T) (d : Dense T) (j : ℕ) (column : List T)
     → length column ≡ d.nrows
     → ((i : ℕ) (y : T) → i < d.nrows → get_or column i y ≡ value_at d i j y)
-    → filter (differs_from E z)
-    (flat_map (λ j. map {B = ℕ × ℕ × T} (λ i. (i, j, value_at d i j z)) (below d.nrows))
-    (below j)) ++ filter (differs_from E z) (map {B = ℕ × ℕ × T}
-    (λ i. (i, j, get_or column i z)) (below (length column))) ≡ filter (differs_from E z)
-    (flat_map (λ j. map {B = ℕ × ℕ × T} (λ i. (i, j, value_at d i j z)) (below d.nrows))
-    (below (j + 1)))
+    → filter (differs_from E z) (first_columns z d j) ++ filter (differs_from E z)
+    (map {B = ℕ × ℕ × T} (λ i. (i, j, get_or column i z)) (below (length column)))
+    ≡ filter (differs_from E z) (first_columns z d (j + 1))
 column_more {T} E z d j column rows values =
     let columns : ℕ → List (ℕ × ℕ × T) = λ j. map {B = ℕ × ℕ × T} (λ i. (i, j, value_at d i j z))
     (below d.nrows) in
-    let before = flat_map columns (below j) in
     let line : ℕ → ℕ × ℕ × T = λ i. (i, j, get_or column i z) in
     let here : map line (below (length column)) ≡ columns j = ap (λ n. map line (below n)) rows
     ∙ map_below-same d.nrows line (λ i. (i, j, value_at d i j z))
     (λ i lt. ap {B = ℕ × ℕ × T} (λ v. (i, j, v)) (values i z lt)) in
-    ap (λ l. filter (differs_from E z) before ++ filter (differs_from E z) l) here
-    ∙ sym (filter-append (differs_from E z) before (columns j))
+    ap (λ l. filter (differs_from E z) (first_columns z d j) ++ filter (differs_from E z) l) here
+    ∙ sym (filter-append (differs_from E z) (first_columns z d j) (columns j))
     ∙ ap (filter (differs_from E z)) (sym (flat_map_next columns j))
 
 full_lanes_same : {T : Type 0} (n m : ℕ) (v w : ℕ → ℕ → T) → ((i k : ℕ) → v i k ≡ w i k)

@@ -6,7 +6,7 @@ use Rattle.std.proofs.Common.{get_or-set_same, get_or-set_other}
 use Rattle.std.specs.List.Sorted.{IsNonDecreasingBy}
 use Rattle.std.proofs.lemmas.List.{get_or_append_left, get_or_default, get_or_push, get_or-take}
 use Rattle.std.proofs.lemmas.List.{length-take-le}
-use Rattle.sparse_algebra.proofs.Cases.{lt_or_ge, same_or_not, true_or_false}
+use Rattle.sparse_algebra.proofs.Cases.{lt_or_ge, lt_suc_cases, same_or_not, true_or_false}
 use Rattle.sparse_algebra.specs.Algebra.{CommRing}
 use Rattle.sparse_algebra.proofs.RingLemmas.{zero_add}
 use Rattle.sparse_convert.specs.InnerTripletLanes.{index_sum}
@@ -27,23 +27,21 @@ module _ {R : CommRing} {T : Type 0} {f : T → R.Carrier} {z : T} where
   module _ {lane : List (ℕ × T)} {is : List ℕ} {vs : List T} {start end : ℕ}
       (m : AreMerged R f z lane is vs start end) where
     -- positions of a merged lane rise
-    merged_rise : (p n : ℕ) → start ≤ p → p + suc n < end
-        → slice_index is p < slice_index is (p + suc n)
-    merged_rise p zero from to =
-        let e : p + 1 - 1 ≡ p = omega arith in
-        subst (λ q. slice_index is q < slice_index is (p + 1)) e
-        (m.rising (p + 1) (omega arith) to)
-    merged_rise p (suc n) from to =
-        let e : p + suc (suc n) - 1 ≡ p + suc n = omega arith in
-        let step = subst (λ q. slice_index is q < slice_index is (p + suc (suc n))) e
-        (m.rising (p + suc (suc n)) (omega arith) to) in
-        omega (arith, merged_rise p n from (omega arith))
+    merged_step : (p : ℕ) → start ≤ p → suc p < end → slice_index is p < slice_index is (suc p)
+    merged_step p from to =
+        let e : suc p - 1 ≡ p = omega arith in
+        omega (arith, m.rising (suc p) (omega arith) to, ap (slice_index is) e)
 
     pub merged_rises : (p q : ℕ) → start ≤ p → p < q → q < end → slice_index is p < slice_index is q
-    merged_rises p q from lt to =
-        let e : p + suc (q - p - 1) ≡ q = omega arith in
-        subst (λ r. slice_index is p < slice_index is r) e
-        (merged_rise p (q - p - 1) from (omega arith))
+    merged_rises p zero from lt to = absurd (omega arith)
+    merged_rises p (suc q) from lt to = elim (lt_suc_cases p q lt) [
+      | inl before ↦ omega (
+        arith,
+        merged_rises p q from before (omega arith),
+        merged_step q (omega arith) to,
+      )
+      | inr here ↦ omega (arith, ap (slice_index is) here, merged_step q (omega arith) to)
+    ]
 
     -- arrays that keep what stands before the end keep the lane
     pub merged_kept : {js : List ℕ} {ws : List T} → KeepsFirst 0 end is js → KeepsFirst z end vs ws

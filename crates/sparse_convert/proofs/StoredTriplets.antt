@@ -1,7 +1,7 @@
 -- The triplets of a compressed matrix, as three lists and transposed.
 use Rattle.std.proofs.Common.{◌≡◌, ℕ, zero, suc, ◌<◌, List, [], ◌∷◌, length, map, nat_eq, get_or, ap}
 use Rattle.std.proofs.Common.{sym, ◌∙◌, refl, arith}
-use Rattle.std.proofs.lemmas.List.{length-map, same_lists, get_or-map}
+use Rattle.std.proofs.lemmas.List.{length-map, same_lists, get_or_default, get_or-map}
 use Rattle.std.proofs.lemmas.Simd.{map-map}
 use Rattle.sparse_algebra.specs.Algebra.{CommRing}
 use Rattle.sparse_algebra.specs.Sums.{where_true}
@@ -29,12 +29,7 @@ indices-entries d valid =
     let inside : p < length (entries_of d) = omega (arith, length-entries d valid) in
     let lane = lane_of_position d valid p lt in
     get_or-map (λ (p : ℕ × ℕ). p.1) (entries_of d) p (0, 0) z inside
-    ∙ ap (λ e. e.1) (entry_at d valid lane.0 p lane.1) ∙ same_read d.indices p z lt)
-  where
-    same_read : (xs : List ℕ) (p z : ℕ) → p < length xs → get_or xs p 0 ≡ get_or xs p z
-    same_read [] p z lt = absurd (omega arith)
-    same_read (x ∷ xs) zero z lt = refl
-    same_read (x ∷ xs) (suc p) z lt = same_read xs p z (omega arith)
+    ∙ ap (λ e. e.1) (entry_at d valid lane.0 p lane.1) ∙ get_or_default d.indices p 0 z lt)
 
 module _ {T : Type 0} where
   values-zip : (ps : List (ℕ × ℕ)) (vs : List T) → length ps ≡ length vs
