@@ -77,8 +77,11 @@ module _ {T C : Type 0} {step : C → T → C} {f : T → C} where
       within : (t.0 < nrows) × (t.1 < ncols)
       within = subst (All (λ t. (t.0 < nrows) × (t.1 < ncols))) next kept.inside 0 t (omega arith)
 
-      pub next_inside : (t.0 < d.nrows) × (t.1 < d.ncols)
-      next_inside = (omega (arith, within.0, kept.rows), omega (arith, within.1, kept.cols))
+      pub next_inside : record { row : t.0 < d.nrows; col : t.1 < d.ncols }
+      next_inside = record {
+        row = omega (arith, within.0, kept.rows);
+        col = omega (arith, within.1, kept.cols);
+      }
 
       -- a value that was read there is read whatever stands for what is past the end
       pub read_there : {x : T} → x ≡ value_at d t.0 t.1 x → (z : T) → x ≡ value_at d t.0 t.1 z

@@ -1,7 +1,8 @@
 -- Compressed arrays that gain a lane at their end, with its values.
-use Rattle.std.proofs.Common.{◌≡◌, ℕ, zero, suc, ◌+◌, ◌-◌, ◌<◌, ◌≤◌, List, [], ◌∷◌, ◌++◌, length}
+use Rattle.std.proofs.Common.{◌≡◌, ℕ, Bool, zero, suc, ◌+◌, ◌-◌, ◌<◌, ◌≤◌, List, [], ◌∷◌, ◌++◌, length}
 use Rattle.std.proofs.Common.{take, drop, map, slice_index, slice_range, Contains, length-append}
 use Rattle.std.proofs.Common.{append_assoc, add-one, refl, ap, sym, ◌∙◌, arith}
+use Rattle.std.specs.List.{filter}
 use Rattle.std.specs.List.Sorted.{IsStrictlyIncreasing}
 use Rattle.std.proofs.lemmas.List.{append-nil, take-append-le, drop-append-le, length-drop}
 use Rattle.std.proofs.lemmas.List.{length-map}
@@ -9,6 +10,8 @@ use Rattle.sparse_pattern.specs.Raw.{raw_of, paired, entries_from, entries_of}
 use Rattle.sparse_pattern.proofs.LaneOrder.{length-entries}
 use Rattle.sparse_compressed.specs.Compressed.{Compressed, arrays_of, IsSound}
 use Rattle.sparse_compressed.specs.Compressed.{zip_values, lane_triplets}
+use Rattle.sparse_convert.specs.FromDense.{full_lanes, differs_from}
+use Rattle.sparse_convert.proofs.FullLanes.{kept_indices, kept_lane, rising_kept, bounded_kept}
 use Rattle.sparse_pattern.proofs.PushedLanes.{valid_pushed, offset_kept, lane_is}
 
 -- a part of the prefix
@@ -97,3 +100,28 @@ module _ {T : Type 0} where
         ∙ zip_more before (paired n js) values (map value js)
         (length-entries (raw_of n m offsets indices) sound.valid ∙ sym sound.count)
         ∙ ap (λ l. zip_values before values ++ l) (zip_lane n js value)
+
+-- the values of lanes that differ from z, in compressed arrays
+module _ {T : Type 0} (E : T → T → Bool) (z : T) (m : ℕ) (value : ℕ → ℕ → T) where
+  -- the arrays hold those of the first n lanes
+  pub record HoldKept (n : ℕ) (offsets indices : List ℕ) (values : List T) : Type 0 where
+    pub sound : IsSound (arrays_of n m offsets indices values)
+    pub triplets : lane_triplets (arrays_of n m offsets indices values)
+        ≡ filter (differs_from E z) (full_lanes n m value)
+
+  -- one lane more
+  pub kept_more : {n : ℕ} {offsets indices : List ℕ} {values : List T}
+      → HoldKept n offsets indices values → HoldKept (n + 1)
+      (offsets ++ length (indices ++ kept_indices E z m value n) ∷ [])
+      (indices ++ kept_indices E z m value n)
+      (values ++ map (value n) (kept_indices E z m value n))
+  kept_more {n} {offsets} {indices} {values} h =
+      let js = kept_indices E z m value n in
+      let rising = rising_kept _ m in
+      let bounded = bounded_kept _ m in
+      record {
+        sound = sound_grown n m offsets indices js values (value n) h.sound rising bounded;
+        triplets = triplets_grown n m offsets indices js values (value n) h.sound rising bounded
+            ∙ ap (λ l. l ++ map (λ k. (n, k, value n k)) js) h.triplets
+            ∙ sym (kept_lane E z m value n);
+      }

@@ -15,8 +15,8 @@ mod Apart
 mod Refusals
 mod StoredTriplets
 mod Reaching
-mod LaneGrowth
 mod FullLanes
+mod LaneGrowth
 mod NonzeroParts
 mod DenseWriting
 mod DenseValues

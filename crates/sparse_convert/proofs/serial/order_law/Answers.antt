@@ -17,16 +17,14 @@ same_plain R f a b rows cols moved =
     ∙ ap (λ k. plain_of_triplets R f b.nrows k a.triplets) cols
     ∙ order_free R f b.nrows b.ncols a.triplets b.triplets moved
 
-pub returns-clause-rows : goal.returns-clause-rows
-returns-clause-rows g c = λ a b m n rows cols moved sm is_a sn is_b.
+pub returns : goal.returns
+returns g c =
     let R = g.T.Ring.ring in
     let f = g.T.Ring.value in
-    (equal_decides R f g.T.PartialEq.eq g.met.T.Ring.eq_law g.T.Zero.zero_value m n sm sn).1
-    (is_a ∙ same_plain R f a b rows cols moved ∙ sym is_b)
-
-pub returns-clause-cols : goal.returns-clause-cols
-returns-clause-cols g c = λ a b m n rows cols moved sm is_a sn is_b.
-    let R = g.T.Ring.ring in
-    let f = g.T.Ring.value in
-    (equal_decides R f g.T.PartialEq.eq g.met.T.Ring.eq_law g.T.Zero.zero_value m n sm sn).1
-    (ap (λ p. plain_transpose R p) (is_a ∙ same_plain R f a b rows cols moved ∙ sym is_b))
+    let equal = equal_decides R f g.T.PartialEq.eq g.met.T.Ring.eq_law g.T.Zero.zero_value in
+    record {
+      rows = λ a b m n rows cols moved sm is_a sn is_b. (equal m n sm sn).1
+          (is_a ∙ same_plain R f a b rows cols moved ∙ sym is_b);
+      cols = λ a b m n rows cols moved sm is_a sn is_b. (equal m n sm sn).1
+          (ap (plain_transpose R) (is_a ∙ same_plain R f a b rows cols moved ∙ sym is_b));
+    }

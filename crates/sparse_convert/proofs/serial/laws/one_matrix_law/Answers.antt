@@ -7,58 +7,30 @@ use Rattle.sparse_convert.proofs.Reaching.{reached_same, reached_sound}
 use Rattle.sparse_convert.proofs.StoredTriplets.{plain_of_transposed_list}
 use Rattle.sparse_convert.proofs.serial.laws.one_matrix_law.Goals as goal
 
-pub returns-clause-three_representations : goal.returns-clause-three_representations
-returns-clause-three_representations g c = λ x a m n sound list rows cols.
+pub returns : goal.returns
+returns g c =
     let R = g.T.Ring.ring in
     let f = g.T.Ring.value in
     let z = g.T.Zero.zero_value in
-    let back = sym (reached_same R f z x (Triplets a) sound list) in
+    let same = reached_same R f z in
+    let sound = reached_sound R f z in
+    let equal = equal_decides R f g.T.PartialEq.eq g.met.T.Ring.eq_law z in
     record {
-      rows = reached_same R f z x (Rows m) sound rows ∙ back;
-      cols =
-          reached_same R f z x (Cols n) sound cols ∙ back;
+      three_representations = λ x a m n s list rows cols.
+          let back = sym (same x (Triplets a) s list) in
+          record { rows = same x (Rows m) s rows ∙ back; cols = same x (Cols n) s cols ∙ back };
+      rows_equal = λ x m n s left right.
+          (equal m n (sound x (Rows m) s left) (sound x (Rows n) s right)).1
+          (same x (Rows m) s left ∙ sym (same x (Rows n) s right));
+      cols_equal = λ x m n s left right.
+          (equal m n (sound x (Cols m) s left) (sound x (Cols n) s right)).1
+          (ap (plain_transpose R) (same x (Cols m) s left ∙ sym (same x (Cols n) s right)));
+      rows_and_back = λ m n sm sn back. (equal m n sm sn).1 (sym back);
+      cols_and_back = λ m n sm sn back. (equal m n sm sn).1 (ap (plain_transpose R) (sym (back
+          ∙ plain_of_transposed_list R f m.pattern.major_dim m.pattern.minor_dim
+          (lane_triplets m))));
+      same_lists = λ a b m n k l sm sn sk sl lists left right. (
+        (equal m k sm sk).1 (left.rows ∙ lists ∙ sym right.rows),
+        (equal n l sn sl).1 (ap (plain_transpose R) (left.cols ∙ lists ∙ sym right.cols)),
+      );
     }
-
-pub returns-clause-rows_equal : goal.returns-clause-rows_equal
-returns-clause-rows_equal g c = λ x m n sound left right.
-    let R = g.T.Ring.ring in
-    let f = g.T.Ring.value in
-    let z = g.T.Zero.zero_value in
-    (equal_decides R f g.T.PartialEq.eq g.met.T.Ring.eq_law z m n
-    (reached_sound R f z x (Rows m) sound left) (reached_sound R f z x (Rows n) sound right)).1
-    (reached_same R f z x (Rows m) sound left ∙ sym (reached_same R f z x (Rows n) sound right))
-
-pub returns-clause-cols_equal : goal.returns-clause-cols_equal
-returns-clause-cols_equal g c = λ x m n sound left right.
-    let R = g.T.Ring.ring in
-    let f = g.T.Ring.value in
-    let z = g.T.Zero.zero_value in
-    (equal_decides R f g.T.PartialEq.eq g.met.T.Ring.eq_law z m n
-    (reached_sound R f z x (Cols m) sound left) (reached_sound R f z x (Cols n) sound right)).1
-    (ap (plain_transpose R) (reached_same R f z x (Cols m) sound left
-    ∙ sym (reached_same R f z x (Cols n) sound right)))
-
-pub returns-clause-rows_and_back : goal.returns-clause-rows_and_back
-returns-clause-rows_and_back g c = λ m n sm sn back.
-    (equal_decides g.T.Ring.ring g.T.Ring.value g.T.PartialEq.eq g.met.T.Ring.eq_law
-    g.T.Zero.zero_value m n sm sn).1 (sym back)
-
-pub returns-clause-cols_and_back : goal.returns-clause-cols_and_back
-returns-clause-cols_and_back g c = λ m n sm sn back.
-    let R = g.T.Ring.ring in
-    let f = g.T.Ring.value in
-    let list = plain_of_transposed_list R f m.pattern.major_dim m.pattern.minor_dim (lane_triplets m) in
-    (equal_decides R f g.T.PartialEq.eq g.met.T.Ring.eq_law g.T.Zero.zero_value m n sm sn).1
-    (ap (plain_transpose R) (sym (back ∙ list)))
-
-pub returns-clause-same_lists : goal.returns-clause-same_lists
-returns-clause-same_lists g c = λ a b m n k l sm sn sk sl same left right.
-    let R = g.T.Ring.ring in
-    let f = g.T.Ring.value in
-    let z = g.T.Zero.zero_value in
-    let eq = g.T.PartialEq.eq in
-    let law = g.met.T.Ring.eq_law in (
-      (equal_decides R f eq law z m k sm sk).1 (left.rows ∙ same ∙ sym right.rows),
-      (equal_decides R f eq law z n l sn sl).1
-          (ap (plain_transpose R) (left.cols ∙ same ∙ sym right.cols)),
-    )

@@ -10,17 +10,11 @@ loop-i-init g c =
     (rw (c.nrows.ensures, c.ncols.ensures) at c.in_ok-dense.ensures)
     c.triplet_iter-i-items.ensures.inside)
 
-pub get-requires-clause-row : goal.get-requires-clause-row
-get-requires-clause-row g c = (next_inside c.in-Some.ensures.steps c.loop-i.invariant).0
+pub get-requires : goal.get-requires
+get-requires g c = next_inside c.in-Some.ensures.steps c.loop-i.invariant
 
-pub get-requires-clause-col : goal.get-requires-clause-col
-get-requires-clause-col g c = (next_inside c.in-Some.ensures.steps c.loop-i.invariant).1
-
-pub set-requires-clause-row : goal.set-requires-clause-row
-set-requires-clause-row g c = (next_inside c.in-Some.ensures.steps c.loop-i.invariant).0
-
-pub set-requires-clause-col : goal.set-requires-clause-col
-set-requires-clause-col g c = (next_inside c.in-Some.ensures.steps c.loop-i.invariant).1
+pub set-requires : goal.set-requires
+set-requires g c = next_inside c.in-Some.ensures.steps c.loop-i.invariant
 
 pub loop-i-preserved : goal.loop-i-preserved
 loop-i-preserved g c =

@@ -13,11 +13,8 @@ loop-i-init g c =
     (rw (c.nrows.ensures, c.ncols.ensures) at c.in_ok-dense.ensures)
     (lane_triplets-inside m c.triplet_iter-i-items.ensures.sound))
 
-pub set-requires-clause-row : goal.set-requires-clause-row
-set-requires-clause-row g c = (next_inside c.in-Some.ensures.steps c.loop-i.invariant).0
-
-pub set-requires-clause-col : goal.set-requires-clause-col
-set-requires-clause-col g c = (next_inside c.in-Some.ensures.steps c.loop-i.invariant).1
+pub set-requires : goal.set-requires
+set-requires g c = next_inside c.in-Some.ensures.steps c.loop-i.invariant
 
 pub loop-i-preserved : goal.loop-i-preserved
 loop-i-preserved g c = one_written c.in-Some.ensures.steps c.loop-i.invariant c.in-Some.value.now
