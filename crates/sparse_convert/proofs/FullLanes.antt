@@ -59,23 +59,11 @@ module _ (test : ℕ → Bool) (n : ℕ) where
       (λ c. filter test (below n) ++ cond c (n ∷ []) [])
       e
 
+  pub taken : test n ≡ true → filter test (below (n + 1)) ≡ filter test (below n) ++ n ∷ []
+  taken = chosen_next true
+
   pub left_out : test n ≡ false → filter test (below (n + 1)) ≡ filter test (below n)
   left_out e = chosen_next false e ∙ append-nil (filter test (below n))
-
-  -- the number and its value are pushed
-  pub indices_more : (xs ys : List ℕ) → test n ≡ true → xs ≡ ys ++ filter test (below n)
-      → xs ++ n ∷ [] ≡ ys ++ filter test (below (n + 1))
-  indices_more xs ys e h = ap (λ l. l ++ n ∷ []) h ∙ append_assoc ys (filter test (below n))
-      (n ∷ []) ∙ ap (λ l. ys ++ l) (sym (chosen_next true e))
-
-  pub values_more : {T : Type 0} (value : ℕ → T) (v : T) (us ws : List T) → test n ≡ true
-      → v ≡ value n → us ≡ ws ++ map value (filter test (below n))
-      → us ++ v ∷ [] ≡ ws ++ map value (filter test (below (n + 1)))
-  values_more value v us ws e is h =
-      ap (λ l. l ++ v ∷ []) h ∙ append_assoc ws (map value (filter test (below n))) (v ∷ [])
-      ∙ ap (λ l. ws ++ l) (ap (λ x. map value (filter test (below n)) ++ x ∷ []) is
-      ∙ sym (map-append value (filter test (below n)) (n ∷ []))
-      ∙ ap (map value) (sym (chosen_next true e)))
 
 -- ---- lists
 

@@ -59,21 +59,21 @@ module _ (R : CommRing) where
       (R.laws.add_zero (where_true R (nat_eq n k) (h n)))
       ∙ elim (three k n) as (λ _. R.add (where_true R (nat_lt k n) (h k))
       (where_true R (nat_eq n k) (h n)) ≡ where_true R (nat_lt k (suc n)) (h k)) [
-        | inl lt ↦
-            let a = lt_yes k n lt in
-            let b = nat_eq_no n k (λ e. absurd (omega arith)) in
-            let c = lt_yes k (suc n) (omega arith) in
-            rw (a, b, c) (R.laws.add_zero (h k))
-        | inr (inl gt) ↦
-            let a = lt_no k n (omega arith) in
-            let b = nat_eq_no n k (λ e. absurd (omega arith)) in
-            let c = lt_no k (suc n) (omega arith) in
-            rw (a, b, c) (R.laws.add_zero R.zero)
-        | inr (inr same) ↦
-            let a = lt_no k n (omega arith) in
-            let b = eq_yes n k (sym same) in
-            let c = lt_yes k (suc n) (omega arith) in
-            rw (a, b, c) (zero_add R (h n) ∙ ap h (sym same))
+        | inl lt ↦ rw (
+          lt_yes k n lt,
+          nat_eq_no n k (λ e. omega arith),
+          lt_yes k (suc n) (omega arith),
+        ) (R.laws.add_zero (h k))
+        | inr (inl gt) ↦ rw (
+          lt_no k n (omega arith),
+          nat_eq_no n k (λ e. omega arith),
+          lt_no k (suc n) (omega arith),
+        ) (R.laws.add_zero R.zero)
+        | inr (inr same) ↦ rw (
+          lt_no k n (omega arith),
+          eq_yes n k (sym same),
+          lt_yes k (suc n) (omega arith),
+        ) (zero_add R (h n) ∙ ap h (sym same))
       ]
 
   module _ {T : Type 0} (f : T → R.Carrier) where
