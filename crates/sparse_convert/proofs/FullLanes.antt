@@ -1,7 +1,7 @@
 -- Lanes of values, and those of them that a test keeps.
 use Rattle.std.proofs.Common.{◌≡◌, ℕ, zero, suc, ◌+◌, ◌*◌, ◌<◌, inl, inr, Bool, true, false, not}
 use Rattle.std.proofs.Common.{cond, List, [], ◌∷◌, ◌++◌, length, map, get_or, All, Contains}
-use Rattle.std.proofs.Common.{length-append, append_assoc, add-one, refl, ap, sym, subst, ◌∙◌}
+use Rattle.std.proofs.Common.{length-append, add-one, refl, ap, sym, subst, ◌∙◌}
 use Rattle.std.proofs.Common.{arith}
 use Rattle.std.specs.List.{filter, flat_map}
 use Rattle.std.specs.List.Sorted.{IsStrictlyIncreasing}
@@ -9,6 +9,7 @@ use Rattle.std.proofs.lemmas.Grind.{flat_map-append}
 use Rattle.std.proofs.lemmas.List.{append-nil, get_or_append_left, get_or_push, map-append}
 use Rattle.std.proofs.lemmas.List.Elements.{filter-append, All-filter}
 use Rattle.std.proofs.lemmas.List.Kept.{IsStrictlyIncreasing-filter}
+use Rattle.std.proofs.lemmas.Simd.{map-map}
 use Rattle.sparse_algebra.proofs.Cases.{lt_suc_cases}
 use Rattle.sparse_algebra.specs.Plain.{below}
 use Rattle.sparse_coo_dense.specs.Dense.{Dense, value_at}
@@ -136,19 +137,13 @@ full_lanes_same n m v w h = λ t. full_lanes n m (λ i k. h i k t)
 -- ---- columns and rows
 
 module _ {T : Type 0} where
-  transposed_lane : (value : ℕ → T) (j : ℕ) (is : List ℕ)
-      → map {B = ℕ × ℕ × T} (λ i. (i, j, value i)) is ≡ map transposed
-      (map {B = ℕ × ℕ × T} (λ i. (j, i, value i)) is)
-  transposed_lane value j [] = refl
-  transposed_lane value j (i ∷ is) = ap (λ l. (i, j, value i) ∷ l) (transposed_lane value j is)
-
   transposed_lanes : (value : ℕ → ℕ → T) (is js : List ℕ)
       → flat_map (λ j. map {B = ℕ × ℕ × T} (λ i. (i, j, value j i)) is) js ≡ map transposed
       (flat_map (λ j. map {B = ℕ × ℕ × T} (λ i. (j, i, value j i)) is) js)
   transposed_lanes value is [] = refl
   transposed_lanes value is (j ∷ js) =
       ap (λ l. l ++ flat_map (λ j. map {B = ℕ × ℕ × T} (λ i. (i, j, value j i)) is) js)
-      (transposed_lane (value j) j is)
+      (sym (map-map transposed (λ i. (j, i, value j i)) is))
       ∙ ap (λ l. map transposed (map {B = ℕ × ℕ × T} (λ i. (j, i, value j i)) is) ++ l)
       (transposed_lanes value is js)
       ∙ sym (map-append transposed (map {B = ℕ × ℕ × T} (λ i. (j, i, value j i)) is)

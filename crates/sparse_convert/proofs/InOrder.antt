@@ -1,11 +1,8 @@
 -- A list in order is compressed as it is read: each triplet goes to the end of the open lane.
-use Rattle.std.proofs.Common.{◌≡◌, ◌≢◌, ℕ, zero, suc, ◌+◌, ◌-◌, ◌<◌, ◌≤◌, inl, inr, Bool, true, false}
-use Rattle.std.proofs.Common.{cond, eqb, List, [], ◌∷◌, ◌++◌, length, map, take, filter, replicate}
-use Rattle.std.proofs.Common.{slice_index, append_assoc, append-nil, take_all, refl, ap, sym, ◌∙◌, subst, arith}
-use Rattle.std.proofs.lemmas.Bool.Decides.{Decides-eqb}
-use Rattle.std.proofs.lemmas.List.Elements.{filter-append}
-use mathlib.Core.List.{map-append}
-use Rattle.sparse_algebra.proofs.Cases.{lt_or_ge, nat_eq_no}
+use Rattle.std.proofs.Common.{◌≡◌, ◌≢◌, ℕ, zero, suc, ◌+◌, ◌-◌, ◌<◌, ◌≤◌, inl, inr}
+use Rattle.std.proofs.Common.{List, [], ◌∷◌, ◌++◌, length, take, replicate}
+use Rattle.std.proofs.Common.{slice_index, append_assoc, append-nil, take_all, refl, sym, ◌∙◌, subst, arith}
+use Rattle.sparse_algebra.proofs.Cases.{lt_or_ge}
 use Rattle.sparse_algebra.specs.Algebra.{CommRing}
 use Rattle.sparse_coo_dense.specs.Coo.{zip_triplets}
 use Rattle.sparse_convert.specs.InnerTripletLanes.{AreTriplets, triplets_of_lane}

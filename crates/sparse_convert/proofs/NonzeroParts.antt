@@ -1,8 +1,8 @@
 -- The values of a dense matrix that are not zero, as a plain matrix.
 use Rattle.std.proofs.Common.{◌≡◌, ◌≢◌, ℕ, zero, suc, ◌+◌, ◌*◌, ◌<◌, ◌≤◌, inl, inr, ◌↔◌, Bool, true}
-use Rattle.std.proofs.Common.{false, not, ◌&&◌, ◌||◌, cond, nat_eq, nat_lt, List, [], ◌∷◌, map}
+use Rattle.std.proofs.Common.{false, not, ◌&&◌, ◌||◌, nat_eq, nat_lt, List, [], ◌∷◌, map}
 use Rattle.std.proofs.Common.{refl, ap, sym, subst, ◌∙◌, arith}
-use Rattle.std.specs.List.{filter, flat_map, list_any}
+use Rattle.std.specs.List.{filter, list_any}
 use Rattle.std.proofs.Math.ListN.{get_or-map}
 use Rattle.std.proofs.lemmas.Bool.Decides.{Decides-eqb, Decides-ltb, nat_tests}
 use Rattle.std.proofs.lemmas.List.Folds.{list_any-append}
@@ -14,7 +14,7 @@ use Rattle.sparse_algebra.specs.Plain.{plain_transpose}
 use Rattle.sparse_coo_dense.specs.Dense.{Dense, value_at}
 use Rattle.sparse_coo_dense.specs.DensePlain.{plain_of_dense}
 use Rattle.sparse_algebra.proofs.RingLemmas.{zero_add}
-use Rattle.sparse_algebra.proofs.SumLemmas.{sum_by-append, sum_by-same, sum_by-zero}
+use Rattle.sparse_algebra.proofs.SumLemmas.{sum_by-append, sum_by-same}
 use Rattle.sparse_algebra.proofs.PlainLemmas.{any_is, any_below-same, and_comm}
 use Rattle.sparse_compressed.specs.Compressed.{transposed}
 use Rattle.sparse_convert.specs.FromDense.{full_lanes, row_triplets, column_triplets, differs_from}

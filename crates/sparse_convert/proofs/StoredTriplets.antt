@@ -1,5 +1,5 @@
 -- The triplets of a compressed matrix, as three lists and transposed.
-use Rattle.std.proofs.Common.{◌≡◌, ℕ, zero, suc, ◌<◌, List, [], ◌∷◌, length, map, nat_eq, get_or, ap}
+use Rattle.std.proofs.Common.{◌≡◌, ℕ, ◌<◌, List, [], ◌∷◌, length, map, nat_eq, ap}
 use Rattle.std.proofs.Common.{sym, ◌∙◌, refl, arith}
 use Rattle.std.proofs.lemmas.List.{length-map, same_lists, get_or_default, get_or-map}
 use Rattle.std.proofs.lemmas.Simd.{map-map}
