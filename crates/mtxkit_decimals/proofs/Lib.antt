@@ -1,8 +1,10 @@
+mod CopiedLines
 mod Counted
 mod Heads
 mod LineEnds
 mod Lists
 mod Magnitudes
+mod Refusals
 mod Rewriting
 mod Trimmed
 mod Values

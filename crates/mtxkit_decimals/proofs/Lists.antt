@@ -1,9 +1,10 @@
 -- Lists of lines, as they grow by one.
-use Rattle.std.proofs.Common.{◌≡◌, ℕ, Bool, true, false, List, [], ◌∷◌, ◌++◌}
-use Rattle.std.proofs.Common.{Some, refl, ap, inl, inr}
+use Rattle.std.proofs.Common.{◌≡◌, ℕ, Bool, true, List, [], ◌∷◌, ◌++◌, Some, refl, ◌∙◌, inl, inr}
+use Rattle.std.proofs.Common.{append-nil}
 use Rattle.std.specs.Prelude.{filter}
 use Rattle.std.specs.List.{list_all}
-use Rattle.sparse_algebra.proofs.Cases.{and_parts}
+use Rattle.std.proofs.lemmas.List.Elements.{filter-append}
+use Rattle.std.proofs.lemmas.List.Folds.{list_all-append}
 use Rattle.sparse_parser.specs.declared.header.Header.{Header}
 use Rattle.sparse_parser.specs.declared.header.Format.{Format}
 use Rattle.sparse_parser.specs.Header.{header_of}
@@ -31,32 +32,25 @@ pub ones-some : (words : List (List ℕ)) → ¬ (words ≡ []) → ones words �
 ones-some [] n = absurd (n refl)
 ones-some (word ∷ words) n = refl
 
-pub contents-more : (xs ys : List (List (List ℕ)))
-    → filter is_content (xs ++ ys) ≡ filter is_content xs ++ filter is_content ys
-contents-more [] ys = refl
-contents-more (x ∷ xs) ys = by (is_content x) refl (contents-more xs ys)
+-- a line that is blank or a comment adds no contents
+pub nothing-more : (xs : List (List (List ℕ))) (words : List (List ℕ)) → IsSkipped words
+    → filter is_content (xs ++ ones words) ≡ filter is_content xs
+nothing-more xs words s = rw (filter-append is_content xs (ones words), none words s)
+    (append-nil (filter is_content xs))
   where
-    by : (t : Bool) → is_content x ≡ t
-        → filter is_content (xs ++ ys) ≡ filter is_content xs ++ filter is_content ys
-        → filter is_content (x ∷ (xs ++ ys)) ≡ filter is_content (x ∷ xs) ++ filter is_content ys
-    by true e h = rw e (ap (λ (l : List (List (List ℕ))). x ∷ l) h)
-    by false e h = rw e h
+    none : (words : List (List ℕ)) → IsSkipped words → filter is_content (ones words) ≡ []
+    none [] h = refl
+    none (word ∷ words) (inl e) = absurd cc
+    none (word ∷ words) (inr e) = rw e refl
 
-pub skipped-none : (words : List (List ℕ)) → IsSkipped words → filter is_content (ones words) ≡ []
-skipped-none [] h = refl
-skipped-none (word ∷ words) (inl e) = absurd cc
-skipped-none (word ∷ words) (inr e) = rw e refl
-
-pub content-one : (words : List (List ℕ)) → ¬ (words ≡ []) → is_content words ≡ true
-    → filter is_content (ones words) ≡ words ∷ []
-content-one [] n e = absurd (n refl)
-content-one (word ∷ words) n e = rw e refl
+pub one-more : (xs : List (List (List ℕ))) (words : List (List ℕ)) → ¬ (words ≡ [])
+    → is_content words ≡ true
+    → filter is_content (xs ++ ones words) ≡ filter is_content xs ++ (words ∷ [])
+one-more xs words n c = rw (ones-some words n, filter-append is_content xs (words ∷ []), c) refl
 
 pub all_more : (p : List (List ℕ) → Bool) (xs : List (List (List ℕ))) (x : List (List ℕ))
     → list_all p xs ≡ true → p x ≡ true → list_all p (xs ++ (x ∷ [])) ≡ true
-all_more p [] x h e = rw e refl
-all_more p (y ∷ xs) x h e = let b = and_parts (p y) (list_all p xs) h in
-    rw (b.0, all_more p xs x b.1 e) refl
+all_more p xs x h e = rw (list_all-append p xs (x ∷ []), h, e) refl
 
 pub scaled_more : (scale : ℕ) (format : Format) (xs ys : List (List (List ℕ))) (x y : List (List ℕ))
     → AreScaled scale format xs ys → IsScaledEntry scale format x y

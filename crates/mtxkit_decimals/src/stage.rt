@@ -45,18 +45,9 @@ pub(crate) fn push_line(
     };
     match stage {
         Stage::Head => push_header(written, number, line),
-        Stage::Sizes(header) => {
-            if is_comment(word) {
-                return push_bytes(written, stage, line);
-            }
-            push_sizes(written, header, number, line)
-        }
-        Stage::Entries(header) => {
-            if is_comment(word) {
-                return push_bytes(written, stage, line);
-            }
-            push_entry(written, scale, header, number, line)
-        }
+        _ if is_comment(word) => push_bytes(written, stage, line),
+        Stage::Sizes(header) => push_sizes(written, header, number, line),
+        Stage::Entries(header) => push_entry(written, scale, header, number, line),
     }
 }
 

@@ -1,5 +1,5 @@
 use Rattle.std.proofs.Common.{◌∷◌, []}
-use Rattle.mtxkit_decimals.proofs.Counted.{value_failed, memory_failed}
+use Rattle.mtxkit_decimals.proofs.Refusals.{value_failed, memory_failed}
 use Rattle.mtxkit_decimals.proofs.entry.push_coordinate.Goals as goal
 
 pub returns-in-Ok-clause-refused : goal.returns-in-Ok-clause-refused

@@ -1,5 +1,5 @@
 use Rattle.std.proofs.Common.{[]}
-use Rattle.mtxkit_decimals.proofs.Counted.{value_failed}
+use Rattle.mtxkit_decimals.proofs.Refusals.{value_failed}
 use Rattle.mtxkit_decimals.proofs.entry.push_value.Goals as goal
 
 pub returns-in-Err-clause-refused : goal.returns-in-Err-clause-refused

@@ -1,11 +1,7 @@
-use Rattle.std.proofs.Common.{◌<◌, ◌^◌, ℕ, Option, refl, subst}
-use Rattle.std.specs.Option.{SomeIff}
+use Rattle.std.proofs.Common.{refl}
 use Rattle.mtxkit_decimals.proofs.Magnitudes.{is_wide_part}
 use Rattle.mtxkit_decimals.proofs.magnitude.raised_part.Goals as goal
 
 pub returns-in_default : goal.returns-in_default
-returns-in_default c = λ value h. (
-  refl,
-  is_wide_part value c.args.zeros
-      (subst (λ (p : Option ℕ). SomeIff p (value < 2 ^ 128) value) c.in_default.is h),
-)
+returns-in_default c = λ value h.
+    (refl, is_wide_part value c.args.zeros (rw c.in_default.is at h))

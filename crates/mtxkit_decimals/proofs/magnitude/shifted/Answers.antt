@@ -4,15 +4,14 @@ use Rattle.mtxkit_decimals.proofs.magnitude.shifted.Goals as goal
 
 pub returns-then-gain-loss-clause-refused : goal.returns-then-gain-loss-clause-refused
 returns-then-gain-loss-clause-refused c = λ total t some.
-    no_fraction total _ _ t c.args.behind c.args.scale c.args.is_negative c.args.size some
-    (omega arith)
+    no_fraction t c.args.behind c.args.scale c.args.is_negative c.args.size some (omega arith)
 
 pub returns-clause-value : goal.returns-clause-value
 returns-clause-value c = λ total t.
-    raised_magnitude total _ _ t c.args.behind c.args.scale c.args.is_negative c.args.size _
+    raised_magnitude t c.args.behind c.args.scale c.args.is_negative c.args.size _
     (omega arith) c.raised_part.result (c.raised_part.ensures t.value t.known)
 
 pub returns-clause-refused : goal.returns-clause-refused
 returns-clause-refused c = λ total t some.
-    no_raised total _ _ t c.args.behind c.args.scale c.args.is_negative c.args.size _
-    (omega arith) c.raised_part.result (c.raised_part.ensures t.value t.known)
+    no_raised t c.args.behind c.args.scale c.args.is_negative c.args.size _ (omega arith)
+    c.raised_part.result (c.raised_part.ensures t.value t.known)

@@ -1,4 +1,4 @@
-use Rattle.std.proofs.Common.{◌≡◌, ◌*◌, ◌^◌, ◌<◌, ℕ, ap, subst, ◌∙◌, arith}
+use Rattle.std.proofs.Common.{◌≡◌, ap, ◌∙◌, arith}
 use Rattle.mtxkit_decimals.proofs.Trimmed.{is_none, raised_more, raised_next}
 use Rattle.mtxkit_decimals.proofs.mantissa.raised.Goals as goal
 
@@ -9,7 +9,7 @@ returns-in_err-raised c = is_none _ _ _ c.from_residual.ensures
 
 pub loop-preserved : goal.loop-preserved
 loop-preserved c = record {
-  value = (c.in_ok-raised.ensures).1
+  value = c.in_ok-raised.ensures.1
       ∙ raised_next c.args.number c.loop.counter c.loop.raised c.loop.invariant.value;
   fits = omega (arith, c.in_ok-raised.ensures);
 }
@@ -17,5 +17,5 @@ loop-preserved c = record {
 pub returns : goal.returns
 returns c =
     let same : c.loop.counter ≡ c.args.zeros = omega arith in
-    let v = c.loop.invariant.value ∙ ap (λ (k : ℕ). c.args.number * 10 ^ k) same in
-    (subst (λ (n : ℕ). n < 2 ^ 128) v c.loop.invariant.fits, v)
+    let v = rw same at c.loop.invariant.value in
+    (rw v at c.loop.invariant.fits, v)

@@ -1,8 +1,9 @@
 use Rattle.std.proofs.Common.{◌∙◌, ap, arith}
 use Rattle.sparse_parser.specs.Grammar.{is_exponent}
-use Rattle.mtxkit_decimals.proofs.Values.{number_exponent, places_few, found, ok_value}
+use Rattle.mtxkit_decimals.proofs.Values.{number_exponent, places_few, IsFound, ok_value}
 use Rattle.mtxkit_decimals.proofs.Values.{ok_refused, err_refused}
 use Rattle.mtxkit_decimals.proofs.number.scaled.Goals as goal
+use Rattle.mtxkit_decimals.proofs.number.scaled.Goals.{After-magnitude}
 
 pub power-requires : goal.power-requires
 power-requires c = ap is_exponent c.split_exponent.ensures.exponent
@@ -14,25 +15,30 @@ magnitude-requires-clause-behind c =
     let p = c.places_behind-behind.ensures in
     omega arith
 
+found : (c : After-magnitude)
+    → IsFound c.args.scale c.args.word.now c.split_exponent.result.0.now
+    c.split_exponent.result.1.now c.places_behind-behind.result c.power.result.is_negative
+    c.power.result.size c.read_digits.result.part c.read_digits.result.zeros c.magnitude.result
+found c = record {
+  mantissa_is = c.split_exponent.ensures.mantissa;
+  exponent_is = c.split_exponent.ensures.exponent;
+  behind_is = c.places_behind-behind.ensures;
+  power = c.power.ensures;
+  digits = c.read_digits.ensures.number;
+  value = c.magnitude.ensures.value;
+  refused = c.magnitude.ensures.refused;
+}
+
 pub returns-in-Ok-clause-value : goal.returns-in-Ok-clause-value
 returns-in-Ok-clause-value c =
-    ok_value _ _ _ _ _ _ _ _ _ (found c.args.scale c.args.word.now
-    c.split_exponent.ensures.mantissa c.split_exponent.ensures.exponent
-    c.places_behind-behind.ensures c.power.ensures c.read_digits.ensures.number) c.magnitude.result c.magnitude.ensures.value
-    c.magnitude.ensures.refused _ c.in-Ok.is _ c.starts_with_minus.ensures c.with_sign.result
-    c.with_sign.ensures
+    ok_value (found (goal.at.returns-in-Ok-clause-value c).After-magnitude) c.in-Ok.is
+    c.starts_with_minus.ensures c.with_sign.result c.with_sign.ensures
 
 pub returns-in-Ok-clause-refused : goal.returns-in-Ok-clause-refused
 returns-in-Ok-clause-refused c =
-    ok_refused _ _ _ _ _ _ _ _ _ (found c.args.scale c.args.word.now
-    c.split_exponent.ensures.mantissa c.split_exponent.ensures.exponent
-    c.places_behind-behind.ensures c.power.ensures c.read_digits.ensures.number) c.magnitude.result c.magnitude.ensures.value
-    c.magnitude.ensures.refused _ c.in-Ok.is _ c.starts_with_minus.ensures c.with_sign.result
-    c.with_sign.ensures
+    ok_refused (found (goal.at.returns-in-Ok-clause-refused c).After-magnitude) c.in-Ok.is
+    c.starts_with_minus.ensures c.with_sign.result c.with_sign.ensures
 
 pub returns-in-Err-clause-refused : goal.returns-in-Err-clause-refused
 returns-in-Err-clause-refused c =
-    err_refused _ _ _ _ _ _ _ _ _ (found c.args.scale c.args.word.now
-    c.split_exponent.ensures.mantissa c.split_exponent.ensures.exponent
-    c.places_behind-behind.ensures c.power.ensures c.read_digits.ensures.number) c.magnitude.result c.magnitude.ensures.value
-    c.magnitude.ensures.refused _ c.in-Err.is
+    err_refused (found (goal.at.returns-in-Err-clause-refused c).After-magnitude) c.in-Err.is
