@@ -1,11 +1,12 @@
 -- The lines of a text, counted as they are read.
-use Rattle.std.proofs.Common.{◌≡◌, ℕ, ◌+◌, List, [], ◌∷◌, ◌++◌, length, refl, sym, ap, subst, ◌∙◌}
+use Rattle.std.proofs.Common.{◌≡◌, ℕ, ◌+◌, List, [], ◌∷◌, ◌++◌, length, refl, sym, ap, ◌∙◌}
 use Rattle.std.proofs.Common.{arith, inl, inr, append_assoc, append-nil, length-append}
 use Rattle.sparse_parser.specs.Grammar.{AreLines}
 use Rattle.sparse_parser.proofs.LineLaws.{some_lines}
 use Rattle.mtxkit_decimals.specs.Failures.{IsLineOf}
 use Rattle.mtxkit_decimals.specs.InnerFailures.{IsEnded, IsCounted}
-use Rattle.mtxkit_decimals.proofs.LineEnds.{IsCut, cut_whole, cut_plain, cut_ends, some_end, some_next}
+use Rattle.mtxkit_decimals.proofs.LineEnds.{IsCut, cut_whole, cut_plain, cut_ends}
+use Rattle.mtxkit_decimals.proofs.LineEnds.{some_end, some_next}
 
 no_lines : (lines : List (List ℕ)) → AreLines [] lines → lines ≡ []
 no_lines [] h = refl

@@ -168,9 +168,9 @@ text_ends scale text rest written h t empty =
     let below = t.are.2 in
     let es = t.are.3 in
     let r : written_of text ≡ below.head ∷ others = t.read_is
-        ∙ rw (nil_from_length rest empty, written_of-nil) (append-nil t.read ∙ below.read_is) in
+    ∙ rw (nil_from_length rest empty, written_of-nil) (append-nil t.read ∙ below.read_is) in
     let w : written_of written ≡ below.head' ∷ more = ap written_of (sym (append-nil written))
-        ∙ t.wrote_is [] ∙ rw written_of-nil (append-nil t.wrote ∙ below.wrote_is) in
+    ∙ t.wrote_is [] ∙ rw written_of-nil (append-nil t.wrote ∙ below.wrote_is) in
     record {
       header = h;
       size = es.size;

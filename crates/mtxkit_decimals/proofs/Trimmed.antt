@@ -85,7 +85,7 @@ module _ {text : List ℕ} {i : ℕ} {part : Option ℕ} {zeros : ℕ} (h : AreR
   read_other e =
       let f = h.few in
       let same : filter is_ascii_digit (drop (i + 1) text) ≡ filter is_ascii_digit (drop i text) =
-          rw (drop_more text i 0 lt, e) refl in
+      rw (drop_more text i 0 lt, e) refl in
       record {
         total = h.total;
         rest = ap (digits_value_after 10 h.total) same ∙ h.rest;
@@ -102,7 +102,7 @@ pub raised_more : (n k most total : ℕ) → k + 1 ≤ most → total ≡ n * 10
     → ¬ (total * 10 < 2 ^ 128) → ¬ (n * 10 ^ most < 2 ^ 128)
 raised_more n k most total le e large small =
     let more = mul-le-mul_left n
-        (pow-le-pow_right {n = 10} (omega arith) {i = k + 1} {j = most} le) in
+    (pow-le-pow_right {n = 10} (omega arith) {i = k + 1} {j = most} le) in
     let same = raised_next n k total e in
     large (omega arith)
 
@@ -110,7 +110,7 @@ pub none_more : (value k digit : ℕ) → ¬ (value < 2 ^ 128)
     → ¬ (value * 10 ^ k + digit < 2 ^ 128)
 none_more value k digit large small =
     let m = mul-le-mul_left value
-        (pow-le-pow_right {n = 10} (omega arith) {i = 0} {j = k} (omega arith)) in
+    (pow-le-pow_right {n = 10} (omega arith) {i = 0} {j = k} (omega arith)) in
     large (omega arith)
 
 pub is_none : {T : Type 0} (o : Option T) (P : Type 0) (v : T) → o ≡ None → ¬ P → SomeIff o P v

@@ -120,11 +120,12 @@ fn coordinate_words(line: &[u8]) -> Option<CoordinateWords<'_>>
 {
     let (row, rest) = next_word(line)?;
     let (col, rest) = next_word(rest)?;
-    let (value, rest) = next_word(rest)?;
-    if !is_index(row) || !is_index(col) || !is_number(value) || next_word(rest).is_some() {
-        return None;
+    let value = value_word(rest)?;
+    if is_index(row) && is_index(col) {
+        Some(CoordinateWords { row, col, value })
+    } else {
+        None
     }
-    Some(CoordinateWords { row, col, value })
 }
 
 // Returns the number that a line is.

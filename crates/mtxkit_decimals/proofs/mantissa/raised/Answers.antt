@@ -1,4 +1,4 @@
-use Rattle.std.proofs.Common.{◌≡◌, ap, ◌∙◌, arith}
+use Rattle.std.proofs.Common.{◌≡◌, ◌∙◌, arith}
 use Rattle.mtxkit_decimals.proofs.Trimmed.{is_none, raised_more, raised_next}
 use Rattle.mtxkit_decimals.proofs.mantissa.raised.Goals as goal
 

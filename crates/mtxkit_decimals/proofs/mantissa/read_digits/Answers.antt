@@ -1,4 +1,4 @@
-use Rattle.std.proofs.Common.{Option, ℕ, sym, ◌∙◌}
+use Rattle.std.proofs.Common.{sym, ◌∙◌}
 use Rattle.mtxkit_decimals.proofs.Trimmed.{read_zero, read_digit, read_other}
 use Rattle.mtxkit_decimals.proofs.mantissa.read_digits.Goals as goal
 use Rattle.mtxkit_decimals.proofs.mantissa.read_digits.Goals.{then-byte-eq48}

@@ -9,7 +9,7 @@ returns-in-Head-clause-refused c = c.push_header.ensures.refused c.args.scale
 pub returns-in_default-stage-clause-written : goal.returns-in_default-stage-clause-written
 returns-in_default-stage-clause-written c =
     let comment = is_commented c.args.line.now c.in-Some.ensures c.is_comment.ensures
-        c.if-is_comment.true in
+    c.if-is_comment.true in
     IfOk-weaker c.push_bytes-in_default-stage.result _ _ (λ next h. h c.args.scale)
     (copied c.args.line.now _ _ c.args.stage c.args.stage c.requires
     (λ scale. comment_step scale c.args.stage _ c.in_default-stage.not-Head comment)
