@@ -52,37 +52,10 @@ fn unscaled_line(alloc: Global, file: &str, error: ScaleError) -> Result<String,
     let mut line = String::new(alloc);
     line.push_str("mtxkit: ")?;
     line.push_str(file)?;
-    let why = reason(error);
-    let rest = match number_of(error) {
-        Some(number) => format!(in alloc; ":{number}: {why}\n")?,
-        None => format!(in alloc; ": {why}\n")?,
+    let rest = match error.line() {
+        Some(number) => format!(in alloc; ":{number}: {error}\n")?,
+        None => format!(in alloc; ": {error}\n")?,
     };
     line.push_str(rest.as_str())?;
     Ok(line)
-}
-
-// The number of the line that is at fault.
-fn number_of(error: ScaleError) -> Option<usize> {
-    match error {
-        ScaleError::Header(number)
-        | ScaleError::Field(number)
-        | ScaleError::Sizes(number)
-        | ScaleError::Entry(number)
-        | ScaleError::Fraction(number)
-        | ScaleError::Range(number) => Some(number),
-        ScaleError::Ended | ScaleError::OutOfMemory => None,
-    }
-}
-
-fn reason(error: ScaleError) -> &'static str {
-    match error {
-        ScaleError::Header(_) => "no Matrix Market header",
-        ScaleError::Field(_) => "the values are not decimal numbers but complex ones or a pattern",
-        ScaleError::Sizes(_) => "no size line that fits the header",
-        ScaleError::Entry(_) => "no data line that fits the header",
-        ScaleError::Fraction(_) => "the value times 10^K is not an integer; K may be too small",
-        ScaleError::Range(_) => "the value times 10^K does not fit in 128 bits",
-        ScaleError::Ended => "the text ends before its size line",
-        ScaleError::OutOfMemory => "out of memory",
-    }
 }
