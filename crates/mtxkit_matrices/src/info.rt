@@ -1,11 +1,7 @@
 //! What `mtxkit info` says of a matrix.
 
-ghost use Rattle.std.specs.Prelude.{◌≡◌, ◌↔◌, IfOk, IsTrue, count_by, length};
-ghost use Rattle.sparse_compressed.specs.PlainOfLanes.{plain_of_rows};
-ghost use Rattle.mtxkit_matrices.specs.Lanes.{count_below, has_size_in, HasEmptyColumns};
-ghost use Rattle.mtxkit_matrices.specs.Lanes.{IsHistogram};
-ghost use Rattle.mtxkit_matrices.specs.Shapes.{IsBandwidth, IsSymmetricPattern};
-ghost use Rattle.mtxkit_matrices.specs.Values.{IsSymmetricMatrix};
+ghost use Rattle.std.specs.Prelude.{IfOk};
+ghost use Rattle.mtxkit_matrices.specs.Facts.{AreFacts};
 
 use crate::lanes::{Histogram, count_lanes, counted_lanes};
 use crate::shape::{bandwidth, is_symmetric};
@@ -39,19 +35,7 @@ pub struct Info {
 ///
 /// Linear in places, rows and columns. Fails only if an allocation fails.
 pub fn info_of<T: Ring>(alloc: Global, matrix: &CsrMatrix<T>) -> Result<Info, AllocError>
-    ensures places { IfOk result (λ s. s.places ≡ length matrix.now.pattern.indices) }
-    ensures stored_zeros { IfOk result (λ s.
-        s.stored_zeros ≡ count_by (λ v. T.eq v T.zero_value) matrix.now.values) }
-    ensures empty_rows { IfOk result (λ s. s.empty_rows
-        ≡ count_below matrix.now.pattern.major_dim (has_size_in matrix.now.pattern 0 1)) }
-    ensures empty_cols { IfOk result (λ s. HasEmptyColumns matrix.now.pattern s.empty_cols) }
-    ensures bandwidth { IfOk result (λ s. IsBandwidth matrix.now.pattern s.bandwidth) }
-    ensures pattern { IfOk result (λ s. IsTrue s.has_symmetric_pattern
-        ↔ IsSymmetricPattern matrix.now.pattern) }
-    ensures values { IfOk result (λ s. IsTrue s.has_symmetric_values
-        ↔ IsSymmetricMatrix T.ring (plain_of_rows T.ring T.value matrix.now)) }
-    ensures rows { IfOk result (λ s.
-        IsHistogram matrix.now.pattern s.rows.width s.rows.counts.items) }
+    ensures { IfOk result (AreFacts T.ring T.value (λ v. T.eq v T.zero_value) matrix.now) }
 {
     let pattern = matrix.pattern();
     let transposed = pattern.transpose(alloc)?;

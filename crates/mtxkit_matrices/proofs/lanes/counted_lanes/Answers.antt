@@ -1,3 +1,4 @@
+use Rattle.std.proofs.lemmas.Grind.{common_steps}
 use Rattle.std.proofs.Common.{◌≡◌, ℕ, ◌+◌, ◌*◌, ◌/◌, ◌≤◌, length, slice_index, sum}
 use Rattle.std.proofs.Common.{ap, sym, ◌∙◌, arith}
 use Rattle.std.proofs.lemmas.List.{length_push}
@@ -52,3 +53,8 @@ returns-clause-total c =
     c.loop-line.invariant.total
     ∙ ap (λ k. count_below n (has_size_in p 0 (k * w))) last
     ∙ lines_all p n c.longest_lane.result c.longest_lane.ensures.bound
+
+-- ---- written by tools/answer-goals
+
+pub overflow_mul-line-in-loop-line : goal.overflow_mul-line-in-loop-line
+overflow_mul-line-in-loop-line c = grind (arith, common_steps)
