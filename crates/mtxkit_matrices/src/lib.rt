@@ -1,6 +1,7 @@
 //! Facts about matrices and pictures of their patterns, for the program `mtxkit`.
 #![tactic(auto)]
 
+mod fact_lines;
 mod info;
 mod lanes;
 mod picture;
@@ -10,6 +11,7 @@ mod shape;
 mod triangle;
 mod values;
 
+pub use fact_lines::{push_count, push_facts, push_line};
 pub use info::{Info, info_of};
 pub use lanes::{Histogram, count_lanes, counted_lanes, longest_lane};
 pub use picture::{Picture, draw};

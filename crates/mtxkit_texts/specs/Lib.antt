@@ -1,4 +1,4 @@
-pub mod FactLines
+pub mod HeaderLines
 pub mod Facts
 pub mod Faults
 pub mod Headers

@@ -4,7 +4,8 @@ use Rattle.std.specs.List.{list_all}
 use Rattle.sparse_parser.specs.Grammar.{is_size, is_entry, IsDocument}
 use Rattle.sparse_parser.specs.Meaning.{sizes_of, is_count}
 use Rattle.sparse_parser.specs.declared.header.Header.{Header}
-use Rattle.mtxkit_texts.specs.FactLines.{count_line, header_lines}
+use Rattle.mtxkit_matrices.specs.FactLines.{count_line}
+use Rattle.mtxkit_texts.specs.HeaderLines.{header_lines}
 use Rattle.mtxkit_texts.specs.Headers.{is_carried_field}
 use Rattle.mtxkit_texts.specs.declared.shapes.Shape.{Shape}
 

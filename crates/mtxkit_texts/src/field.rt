@@ -1,18 +1,15 @@
 //! Texts written again with another field.
 
 ghost use Rattle.std.specs.Prelude.{IfErr, IfOk, string_bytes};
-ghost use Rattle.mtxkit_texts.specs.Rewritten.{IsIntegerText, WritesIntegers};
-ghost use Rattle.mtxkit_texts.specs.Rewritten.{WritesPattern};
+ghost use Rattle.mtxkit_texts.specs.Rewritten.{WritesIntegers, WritesPattern};
 ghost use Rattle.mtxkit_texts.specs.Loaded.{IsLoadFailure, IsValuesFailure};
 
 use crate::failure::Failure;
 use crate::loaded::load;
 use crate::pattern_texts::write_pattern;
 use crate::values::load_values;
-use sparse_algebra::scalar::W64;
-use sparse_csr_csc::csr::CsrMatrix;
 use sparse_io::save_to_matrix_market_str;
-use std::alloc::{AllocError, Global};
+use std::alloc::Global;
 
 /// Returns the text of the pattern of a text's matrix, row by row. A place whose value is zero is kept.
 ///
@@ -33,12 +30,5 @@ pub fn integer_text(alloc: Global, text: &str) -> Result<String, Failure>
     ensures refused { IfErr result (IsValuesFailure 1 text.now) }
 {
     let matrix = load_values(alloc, 1, text)?;
-    Ok(write_integers(alloc, &matrix)?)
-}
-
-/// Returns the text of a matrix with its values, row by row.
-pub fn write_integers(alloc: Global, matrix: &CsrMatrix<W64>) -> Result<String, AllocError>
-    ensures { IfOk result (λ written. IsIntegerText matrix.now (string_bytes written)) }
-{
-    save_to_matrix_market_str(alloc, matrix)
+    Ok(save_to_matrix_market_str(alloc, &matrix)?)
 }

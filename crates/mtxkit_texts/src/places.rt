@@ -8,7 +8,7 @@ ghost use Rattle.sparse_pattern.specs.Raw.{IsPlace};
 ghost use Rattle.mtxkit_texts.specs.Places.{HasPlacesOf};
 
 use crate::lists::with_values;
-use sparse_algebra::scalar::Ring;
+use sparse_algebra::scalar::{Ring, W64};
 use sparse_convert::serial::convert_coo_csr;
 use sparse_coo_dense::coo::CooMatrix;
 use sparse_csr_csc::csr::CsrMatrix;
@@ -23,26 +23,18 @@ pub fn ones_of<T: Ring>(alloc: Global, places: &CooMatrix<()>) -> Result<CsrMatr
     ensures ones { IfOk result (λ m. All (λ v. T.value v ≡ T.ring.one) m.values) }
     ensures sound { IfOk result IsSound }
 {
-    let listed: CooMatrix<T> = listed_ones(alloc, places)?;
-    let summed = convert_coo_csr(alloc, &listed)?;
-    let pattern = summed.pattern().clone(alloc)?;
-    let matrix = filled(alloc, pattern, T::one())?;
-    Ok(matrix)
+    let pattern = pattern_of(alloc, places)?;
+    let ones = vec![in alloc; T::one(); pattern.nnz()]?;
+    Ok(joined(pattern, ones))
 }
 
-// The matrix with this value at each place of a pattern.
-fn filled<T: Copy>(
-    alloc: Global,
-    pattern: SparsityPattern,
-    value: T,
-) -> Result<CsrMatrix<T>, AllocError>
-    ensures pattern { IfOk result (λ m. m.pattern ≡ pattern) }
-    ensures values { IfOk result
-        (λ m. m.values ≡ replicate (length pattern.indices) value) }
-    ensures sound { IfOk result IsSound }
+// The pattern by rows of the places of a list.
+fn pattern_of(alloc: Global, places: &CooMatrix<()>) -> Result<SparsityPattern, AllocError>
+    ensures { IfOk result (HasPlacesOf places.now) }
 {
-    let values = copies_of(alloc, value, pattern.nnz())?;
-    Ok(joined(pattern, values))
+    let listed = listed_ones(alloc, places)?;
+    let (pattern, _ones) = convert_coo_csr(alloc, &listed)?.into_pattern_and_values();
+    Ok(pattern)
 }
 
 // The matrix with these values at the places of a pattern, of which there are as many.
@@ -59,23 +51,12 @@ pub(crate) fn joined<T: Copy>(pattern: SparsityPattern, values: Vec<T>) -> CsrMa
 }
 
 // The list with one at each place of a list, as often as that has the place.
-fn listed_ones<T: Ring>(alloc: Global, places: &CooMatrix<()>) -> Result<CooMatrix<T>, AllocError>
+fn listed_ones(alloc: Global, places: &CooMatrix<()>) -> Result<CooMatrix<W64>, AllocError>
     ensures rows { IfOk result (λ m. m.nrows ≡ places.now.nrows) }
     ensures cols { IfOk result (λ m. m.ncols ≡ places.now.ncols) }
     ensures places { IfOk result (λ m. (i j : ℕ) → list_any (is_at i j) m.triplets
         ≡ list_any (is_at i j) places.now.triplets) }
 {
-    let ones = copies_of(alloc, T::one(), places.nnz())?;
+    let ones = vec![in alloc; W64::new(1); places.nnz()]?;
     with_values(alloc, places, ones)
-}
-
-// Returns `count` copies of a value.
-fn copies_of<T: Copy>(alloc: Global, value: T, count: usize) -> Result<Vec<T>, AllocError>
-    ensures { IfOk result (λ copies. copies.items ≡ replicate count value) }
-{
-    let mut copies = Vec::with_capacity(alloc, count)?;
-    for _ in 0..count {
-        copies.push(value)?;
-    }
-    Ok(copies)
 }

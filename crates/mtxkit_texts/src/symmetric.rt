@@ -1,23 +1,26 @@
 //! Symmetric texts expanded, and symmetric matrices written by their lower triangles.
 
 ghost use Rattle.std.specs.Prelude.{◌≡◌, ◌⊎◌, ◌++◌, ℕ, List, IfOk, IfErr, string_bytes};
+ghost use Rattle.mtxkit_matrices.specs.Values.{IsSymmetricMatrix};
+ghost use Rattle.sparse_compressed.specs.PlainOfLanes.{plain_of_rows};
 ghost use Rattle.mtxkit_texts.specs.Headers.{header_in, is_mirrored};
 ghost use Rattle.mtxkit_texts.specs.Lower.{IsSymmetricIntegers, IsSymmetricPattern};
 ghost use Rattle.mtxkit_texts.specs.Loaded.{IsLoadFailure, IsValuesFailure};
 ghost use Rattle.mtxkit_texts.specs.Lower.{MeansUnsymmetricPattern, MeansUnsymmetricIntegers};
-ghost use Rattle.mtxkit_texts.specs.Lower.{WritesField, WritesLower, WritesLowerPattern};
-ghost use Rattle.mtxkit_texts.specs.Lower.{WritesLowerIntegers, Symmetrised, SymmetrisedUnder};
+ghost use Rattle.mtxkit_texts.specs.Lower.{WritesLowerPattern, WritesLowerIntegers, IsLowerOf};
+ghost use Rattle.mtxkit_texts.specs.Lower.{Symmetrised, SymmetrisedUnder};
 ghost use Rattle.mtxkit_texts.specs.Lower.{IsSymmetricFailure, IsFieldFailure};
-ghost use Rattle.mtxkit_texts.specs.declared.failure.Failure.TheVariants.{NotSymmetric};
+ghost use Rattle.mtxkit_texts.specs.declared.failure.Failure.TheVariants.{OutOfMemory, NotSymmetric};
 
 use crate::failure::Failure;
-use crate::field::{integer_text, pattern_text, write_integers};
+use crate::field::{integer_text, pattern_text};
 use crate::loaded::{header_of, load};
 use crate::pattern_texts::write_pattern;
 use crate::values::load_values;
 use mtxkit_matrices::lower_of;
-use sparse_algebra::scalar::W64;
+use sparse_algebra::scalar::{Ring, W64};
 use sparse_csr_csc::csr::CsrMatrix;
+use sparse_io::save_to_matrix_market_str;
 use sparse_parser::header::{Field, Header, Symmetry};
 use sparse_pattern::pattern::SparsityPattern;
 use std::alloc::{AllocError, Global};
@@ -44,21 +47,11 @@ fn symmetrised(alloc: Global, text: &str, header: Header) -> Result<String, Fail
         (λ written. SymmetrisedUnder header text.now (string_bytes written)) }
     ensures refused { IfErr result (IsFieldFailure header.field text.now) }
 {
-    if is_mirrored(header.symmetry) {
-        field_text(alloc, text, header.field)
-    } else {
-        lower_text(alloc, text, header.field)
-    }
-}
-
-// Returns the text of all entries, with the values of this field.
-fn field_text(alloc: Global, text: &str, field: Field) -> Result<String, Failure>
-    ensures written { IfOk result (λ written. WritesField field text.now (string_bytes written)) }
-    ensures refused { IfErr result (IsFieldFailure field text.now) }
-{
-    match field {
-        Field::Pattern => pattern_text(alloc, text),
-        Field::Integer | Field::Real | Field::Complex => integer_text(alloc, text),
+    match (is_mirrored(header.symmetry), header.field) {
+        (true, Field::Pattern) => pattern_text(alloc, text),
+        (true, _) => integer_text(alloc, text),
+        (false, Field::Pattern) => lower_pattern(alloc, text),
+        (false, _) => lower_integers(alloc, text),
     }
 }
 
@@ -72,17 +65,6 @@ fn is_mirrored(symmetry: Symmetry) -> bool
     }
 }
 
-// Returns the text of the lower triangle of a symmetric matrix, with the values of this field.
-fn lower_text(alloc: Global, text: &str, field: Field) -> Result<String, Failure>
-    ensures written { IfOk result (λ written. WritesLower field text.now (string_bytes written)) }
-    ensures refused { IfErr result (IsFieldFailure field text.now) }
-{
-    match field {
-        Field::Pattern => lower_pattern(alloc, text),
-        Field::Integer | Field::Real | Field::Complex => lower_integers(alloc, text),
-    }
-}
-
 // Returns the text of the lower triangle of a symmetric pattern.
 fn lower_pattern(alloc: Global, text: &str) -> Result<String, Failure>
     ensures written { IfOk result (λ written. WritesLowerPattern text.now (string_bytes written)) }
@@ -90,10 +72,8 @@ fn lower_pattern(alloc: Global, text: &str) -> Result<String, Failure>
         ⊎ ((e ≡ NotSymmetric) × MeansUnsymmetricPattern text.now)) }
 {
     let loaded = load(alloc, 1, text)?;
-    match lower_of(alloc, &loaded.matrix)? {
-        Some(lower) => Ok(symmetric_pattern(alloc, lower.pattern())?),
-        None => Err(Failure::NotSymmetric),
-    }
+    let lower = triangle_of(alloc, &loaded.matrix)?;
+    Ok(symmetric_pattern(alloc, lower.pattern())?)
 }
 
 // Returns the text of the lower triangle of a symmetric matrix of integers.
@@ -104,8 +84,18 @@ fn lower_integers(alloc: Global, text: &str) -> Result<String, Failure>
         ⊎ ((e ≡ NotSymmetric) × MeansUnsymmetricIntegers text.now)) }
 {
     let matrix = load_values(alloc, 1, text)?;
-    match lower_of(alloc, &matrix)? {
-        Some(lower) => Ok(symmetric_integers(alloc, &lower)?),
+    let lower = triangle_of(alloc, &matrix)?;
+    Ok(symmetric_integers(alloc, &lower)?)
+}
+
+// Returns the lower triangle of a symmetric matrix.
+fn triangle_of<T: Ring>(alloc: Global, matrix: &CsrMatrix<T>) -> Result<CsrMatrix<T>, Failure>
+    ensures lower { IfOk result (IsLowerOf T.ring T.value matrix.now) }
+    ensures refused { IfErr result (λ e. (e ≡ OutOfMemory) ⊎ ((e ≡ NotSymmetric)
+        × (¬ IsSymmetricMatrix T.ring (plain_of_rows T.ring T.value matrix.now)))) }
+{
+    match lower_of(alloc, matrix)? {
+        Some(lower) => Ok(lower),
         None => Err(Failure::NotSymmetric),
     }
 }
@@ -127,7 +117,7 @@ fn symmetric_pattern(alloc: Global, lower: &SparsityPattern) -> Result<String, A
 fn symmetric_integers(alloc: Global, lower: &CsrMatrix<W64>) -> Result<String, AllocError>
     ensures { IfOk result (λ written. IsSymmetricIntegers lower.now (string_bytes written)) }
 {
-    let general = write_integers(alloc, lower)?;
+    let general = save_to_matrix_market_str(alloc, lower)?;
     with_head(
         alloc,
         general.as_str(),

@@ -70,9 +70,8 @@ fn narrowed(alloc: Global, number: usize, list: &CooMatrix<i128>) -> Result<CsrM
     ensures refused { IfErr result
         (λ e. (e ≡ OutOfMemory) ⊎ ((e ≡ Wide number) × (IsNarrow list.now → ⊥))) }
 {
-    let sums = wide_sums(alloc, list)?;
-    let values = narrow_values(alloc, number, sums.values())?;
-    let pattern = sums.pattern().clone(alloc)?;
+    let (pattern, sums) = wide_sums(alloc, list)?.into_pattern_and_values();
+    let values = narrow_values(alloc, number, &sums)?;
     Ok(joined(pattern, values))
 }
 

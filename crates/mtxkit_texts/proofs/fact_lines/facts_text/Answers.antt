@@ -1,6 +1,6 @@
 use Rattle.std.proofs.Common.{◌≡◌, List, [], ◌++◌, ℕ, string_bytes, append_assoc, ap, ◌∙◌}
-use Rattle.mtxkit_texts.specs.FactLines.{header_lines, count_lines, symmetry_lines}
-use Rattle.mtxkit_texts.specs.FactLines.{histogram_lines}
+use Rattle.mtxkit_matrices.specs.FactLines.{count_lines, symmetry_lines, histogram_lines}
+use Rattle.mtxkit_texts.specs.HeaderLines.{header_lines}
 use Rattle.mtxkit_texts.proofs.fact_lines.facts_text.Goals as goal
 
 -- three texts, one below the other

@@ -1,18 +1,9 @@
--- The lines of facts about the matrix of a text.
+-- The lines of facts about a matrix.
 use Rattle.std.specs.Prelude.{ℕ, ◌+◌, ◌-◌, ◌*◌, ◌/◌, ◌==◌, Bool, true, false, if◌then◌else◌, max}
 use Rattle.std.specs.Prelude.{List, [], ◌∷◌, ◌++◌, codes, length, replicate, slice_index}
-use Rattle.std.specs.Prelude.{Option, Some, None}
 use Rattle.std.specs.Fmt.{decimal}
 use Rattle.std.specs.List.{flat_map}
 use Rattle.sparse_algebra.specs.Plain.{below}
-use Rattle.sparse_parser.specs.declared.header.Field.{Field}
-use Rattle.sparse_parser.specs.declared.header.Field.TheVariants.{Real, Complex, Integer, Pattern}
-use Rattle.sparse_parser.specs.declared.header.Format.{Format}
-use Rattle.sparse_parser.specs.declared.header.Format.TheVariants.{Coordinate, Array}
-use Rattle.sparse_parser.specs.declared.header.Header.{Header}
-use Rattle.sparse_parser.specs.declared.header.Symmetry.{Symmetry}
-use Rattle.sparse_parser.specs.declared.header.Symmetry.TheVariants.{General, Symmetric}
-use Rattle.sparse_parser.specs.declared.header.Symmetry.TheVariants.{SkewSymmetric, Hermitian}
 use Rattle.mtxkit_matrices.specs.declared.info.Info.{Info}
 
 -- ---- a line
@@ -28,35 +19,7 @@ abbrev pub answer : Bool → List ℕ
 answer true = codes "yes"
 answer false = codes "no"
 
--- ---- what the header says
-
-abbrev pub format_name : Format → List ℕ
-format_name Coordinate = codes "coordinate"
-format_name Array = codes "array"
-
-abbrev pub field_name : Field → List ℕ
-field_name Real = codes "real"
-field_name Complex = codes "complex"
-field_name Integer = codes "integer"
-field_name Pattern = codes "pattern"
-
-abbrev pub symmetry_name : Symmetry → List ℕ
-symmetry_name General = codes "general"
-symmetry_name Symmetric = codes "symmetric"
-symmetry_name SkewSymmetric = codes "skew-symmetric"
-symmetry_name Hermitian = codes "hermitian"
-
-abbrev pub header_lines : Option Header → List ℕ
-header_lines None = []
-header_lines (Some h) = line (codes "format") (format_name h.format)
-    ++ (line (codes "field") (field_name h.field)
-    ++ line (codes "symmetry") (symmetry_name h.symmetry))
-
--- ---- the matrix
-
-abbrev pub size_lines : ℕ → ℕ → ℕ → List ℕ
-size_lines nrows ncols entries = count_line (codes "rows") nrows
-    ++ (count_line (codes "columns") ncols ++ count_line (codes "entries") entries)
+-- ---- the facts
 
 abbrev pub count_lines : Info → List ℕ
 count_lines s = count_line (codes "places") s.places
