@@ -3,7 +3,7 @@
 ghost use Rattle.std.specs.Prelude.{◌≡◌, ◌++◌, ◌*◌, OnOk, string_bytes, replicate};
 ghost use Rattle.mtxkit_matrices.specs.FactLines.{line, count_line, answer, count_lines};
 ghost use Rattle.mtxkit_matrices.specs.FactLines.{symmetry_lines, histogram_lines};
-ghost use Rattle.mtxkit_matrices.specs.FactLines.{bar, bar_line, bar_lines};
+ghost use Rattle.mtxkit_matrices.specs.FactLines.{bar, bar_line, bar_lines, bar_title};
 
 use crate::info::Info;
 use crate::lanes::Histogram;
@@ -54,7 +54,6 @@ fn push_symmetries(lines: &mut String, facts: &Info) -> Result<(), AllocError>
 }
 
 // Appends the numbers of rows by their numbers of places.
-#[tactic(auto, unfolding(crate::specs::FactLines::bar_title))]
 fn push_histogram(
     alloc: Global,
     lines: &mut String,
@@ -64,8 +63,16 @@ fn push_histogram(
     ensures { OnOk result (string_bytes lines.new ≡ string_bytes lines.old
         ++ histogram_lines rows.now.width rows.now.counts.items nrows) }
 {
-    lines.push_str("rows by their places:\n")?;
+    push_title(lines)?;
     push_bars(alloc, lines, rows, nrows)
+}
+
+// Appends what stands above the lines of a histogram.
+#[tactic(auto, unfolding(crate::specs::FactLines::bar_title))]
+fn push_title(lines: &mut String) -> Result<(), AllocError>
+    ensures { OnOk result (string_bytes lines.new ≡ string_bytes lines.old ++ bar_title) }
+{
+    lines.push_str("rows by their places:\n")
 }
 
 // Appends a line for each count.
