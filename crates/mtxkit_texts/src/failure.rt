@@ -57,7 +57,8 @@ impl Failure {
         match self {
             Failure::Unread(_, _) => "the file cannot be read",
             Failure::Input(_, _, _) => "the text is at fault",
-            Failure::NotCarried(_) => "real and complex values are not carried, nor is their pattern",
+            Failure::NotCarried(_) =>
+                "real and complex values are not carried, nor is their pattern",
             Failure::Wide(_) => "a value or a sum of repeated entries does not fit in 64 bits",
             Failure::NotSymmetric => "not symmetric",
             Failure::Shapes => "shapes do not fit",

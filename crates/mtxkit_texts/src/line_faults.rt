@@ -63,11 +63,14 @@ impl LineFault {
     // What is wrong, without its numbers.
     fn words(self) -> &'static str {
         match self {
-            LineFault::Header => "no header; expected %%MatrixMarket matrix and a format, a field and a symmetry",
+            LineFault::Header =>
+                "no header; expected %%MatrixMarket matrix and a format, a field and a symmetry",
             LineFault::Hermitian => "only complex matrices are hermitian",
             LineFault::Pattern => "a pattern has the format coordinate and is general or symmetric",
-            LineFault::Size => "no size line; expected rows, columns and, in the format coordinate, entries",
-            LineFault::SizeCount => "expected rows, columns and entries; rows and columns in the format array",
+            LineFault::Size =>
+                "no size line; expected rows, columns and, in the format coordinate, entries",
+            LineFault::SizeCount =>
+                "expected rows, columns and entries; rows and columns in the format array",
             LineFault::SizeTooLarge => "a size does not fit in 64 bits",
             LineFault::NotSquare => "a matrix with a symmetry is square",
             LineFault::TooMany => "the number of entries does not fit in 64 bits",
@@ -84,7 +87,8 @@ impl LineFault {
             LineFault::Value => "the value is no integer of 128 bits",
             LineFault::NoValue => "a pattern has no values; mtxkit field integer gives it ones",
             LineFault::Negative => "the negative of the value does not fit in 128 bits",
-            LineFault::Above(_, _) => "an entry above the diagonal; a symmetry takes the lower triangle",
+            LineFault::Above(_, _) =>
+                "an entry above the diagonal; a symmetry takes the lower triangle",
             LineFault::OnDiagonal => "a skew-symmetric matrix has no entries on the diagonal",
         }
     }
@@ -93,7 +97,10 @@ impl LineFault {
 impl Display for LineFault {
     fn fmt<W: Write>(&self, f: &mut Formatter<W>) -> fmt::Result {
         match *self {
-            LineFault::Count(wanted, found) => write!(f, "{wanted} entries expected, {found} found"),
+            LineFault::Count(wanted, found) => write!(
+                f,
+                "{wanted} entries expected, {found} found"
+            ),
             LineFault::Row(row, rows) => write!(f, "row index {row}; the matrix has {rows} rows"),
             LineFault::Column(col, cols) => {
                 write!(f, "column index {col}; the matrix has {cols} columns")

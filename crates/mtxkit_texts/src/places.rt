@@ -24,7 +24,7 @@ pub fn ones_of<T: Ring>(alloc: Global, places: &CooMatrix<()>) -> Result<CsrMatr
     ensures sound { IfOk result IsSound }
 {
     let pattern = pattern_of(alloc, places)?;
-    let ones = vec![in alloc; T::one(); pattern.nnz()]?;
+    let ones = copies_of(alloc, T::one(), pattern.nnz())?;
     Ok(joined(pattern, ones))
 }
 
@@ -57,6 +57,17 @@ fn listed_ones(alloc: Global, places: &CooMatrix<()>) -> Result<CooMatrix<W64>, 
     ensures places { IfOk result (λ m. (i j : ℕ) → list_any (is_at i j) m.triplets
         ≡ list_any (is_at i j) places.now.triplets) }
 {
-    let ones = vec![in alloc; W64::new(1); places.nnz()]?;
+    let ones = copies_of(alloc, W64::new(1), places.nnz())?;
     with_values(alloc, places, ones)
+}
+
+// Returns `count` copies of a value.
+fn copies_of<T: Copy>(alloc: Global, value: T, count: usize) -> Result<Vec<T>, AllocError>
+    ensures { IfOk result (λ copies. copies.items ≡ replicate count value) }
+{
+    let mut copies = Vec::with_capacity(alloc, count)?;
+    for _ in 0..count {
+        copies.push(value)?;
+    }
+    Ok(copies)
 }
