@@ -4,7 +4,7 @@ ghost use Rattle.std.specs.Prelude.{◌≡◌, true};
 ghost use Rattle.sparse_parser.specs.InnerLines.{AreNumbers, IsNumber, is_plain};
 
 use sparse_parser::data_lines::{Line, Number};
-use sparse_parser::header::{Field, Format, Header, Symmetry};
+use sparse_parser::header::{Field, Header, Symmetry};
 use sparse_parser::size::Size;
 use std::fmt::{self, Debug, Display, Formatter, Write};
 
@@ -120,17 +120,12 @@ impl Debug for LineFault {
     }
 }
 
-/// What is wrong with an entry below a header, read as an integer if the flag is set.
-pub(crate) fn entry_fault(header: Header, as_integers: bool, line: Line<'_>) -> Option<LineFault>
-    requires { AreNumbers line }
-{
-    match header.format {
-        Format::Coordinate => coordinate_fault(header, as_integers, line),
-        Format::Array => array_fault(header, line),
-    }
-}
-
-fn coordinate_fault(header: Header, as_integers: bool, line: Line<'_>) -> Option<LineFault>
+/// What is wrong with an entry of coordinates below a header, read as an integer if the flag is set.
+pub(crate) fn coordinate_fault(
+    header: Header,
+    as_integers: bool,
+    line: Line<'_>,
+) -> Option<LineFault>
     requires { AreNumbers line }
 {
     match (header.field, line) {
@@ -154,7 +149,8 @@ fn coordinate_fault(header: Header, as_integers: bool, line: Line<'_>) -> Option
     }
 }
 
-fn array_fault(header: Header, line: Line<'_>) -> Option<LineFault>
+/// What is wrong with an entry of an array below a header.
+pub(crate) fn array_fault(header: Header, line: Line<'_>) -> Option<LineFault>
     requires { AreNumbers line }
 {
     match (header.field, line) {

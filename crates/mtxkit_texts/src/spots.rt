@@ -4,11 +4,11 @@ ghost use Rattle.std.specs.Prelude.{◌<◌, IfSome, length};
 ghost use Rattle.sparse_parser.specs.InnerBytes.{BeginsLine};
 ghost use Rattle.sparse_parser.specs.InnerLines.{AreNumbers};
 
-use crate::line_faults::{LineFault, bounds_fault, entry_fault};
+use crate::line_faults::{LineFault, array_fault, bounds_fault, coordinate_fault};
 use crate::shapes::count_entries;
 use sparse_parser::data_lines::{Line, data_line};
 use sparse_parser::error::Cause;
-use sparse_parser::header::Header;
+use sparse_parser::header::{Format, Header};
 use sparse_parser::lines::{after_space, next_line, split_line};
 use sparse_parser::size::Size;
 
@@ -131,7 +131,10 @@ fn fault_in(search: Search, line: Line<'_>) -> Option<LineFault>
 {
     match search {
         Search::Grammar => None,
-        Search::Entries(header, as_integers) => entry_fault(header, as_integers, line),
+        Search::Entries(header, as_integers) => match header.format {
+            Format::Coordinate => coordinate_fault(header, as_integers, line),
+            Format::Array => array_fault(header, line),
+        },
         Search::Bounds(size) => bounds_fault(size, line),
     }
 }
