@@ -4,8 +4,9 @@ use Rattle.std.proofs.Common.{slice_index}
 use Rattle.std.proofs.Common.{◌↔◌, length, map, get_or, refl, sym, ap, ◌∙◌, subst, arith}
 use Rattle.std.proofs.lemmas.List.{get_or-map, get_or_default}
 use Rattle.sparse_algebra.proofs.Cases.{lt_or_ge}
-use Rattle.sparse_factor.specs.InnerColumns.{IsRun, IsInRun, IsInTail, AreColumns}
-use Rattle.sparse_factor.specs.InnerChildren.{Reaches, here, next, AreFalling, IsInTailOf}
+use Rattle.sparse_factor.specs.InnerColumns.{IsRun, IsInTail, AreColumns}
+use Rattle.sparse_factor.specs.InnerChildren.{Reaches, here, next, AreFalling, IsTailRun}
+use Rattle.sparse_factor.proofs.Runs.{run_part}
 
 -- the first column of a list is that of its head, and the others follow its link
 pub reach_cases : {nexts : List ℕ} {head m : ℕ} → Reaches nexts head m → (k : ℕ) → head ≡ suc k
@@ -35,94 +36,99 @@ reach_kept {nexts} new j same falling (next {k} {m} r) le =
     (reach_kept new j same falling r (omega (arith, falling k (omega arith)))))
 
 -- the number at a position
-pub number_at : {C : Type 0} (f : C → ℕ) (xs : List C) (t n : ℕ) (x : C) → t < length xs
+pub number_at : {C : Type 0} (f : C → ℕ) (xs : List C) (t : ℕ) {n : ℕ} {x : C} → t < length xs
     → x ≡ get_or xs t x → n ≡ f x → n ≡ slice_index (map f xs) t
-number_at f xs t n x lt read is = is ∙ (ap f read ∙ sym (get_or-map f xs t x 0 lt))
+number_at f xs t {x = x} lt read is = is ∙ (ap f read ∙ sym (get_or-map f xs t x 0 lt))
 
--- the tail of a column is its run behind a row on the diagonal
-module _ (offsets rows : List ℕ) (k start : ℕ)
-    (after : slice_index offsets k ≤ start)
-    (same : (p : ℕ) → slice_index offsets k ≤ p → p < start → slice_index rows p ≡ k)
-    (above : (p : ℕ) → start ≤ p → p < slice_index offsets (k + 1) → k < slice_index rows p) where
-  pub tail_is : (i : ℕ) → IsInRun rows start (slice_index offsets (k + 1)) i
-      ↔ IsInTailOf offsets rows (suc k) i
-  tail_is i = (
-    λ h. (
-      k,
-      refl,
-      (
-        record { at = h.at; from = omega (arith, h.from); to = h.to; is = h.is },
-        omega (arith, above h.at h.from h.to, h.is),
-      ),
-    ),
-    λ h.
-        let e : h.0 ≡ k = omega (arith, h.1) in
-        let tail : IsInTail offsets rows k i = subst (λ x. IsInTail offsets rows x i) e h.2 in
-        record {
-          at = tail.0.at;
-          from = elim (lt_or_ge tail.0.at start) [
-            | inl before ↦ absurd (omega (
-              arith,
-              same tail.0.at tail.0.from before,
-              tail.0.is,
-              tail.1,
-            ))
-            | inr behind ↦ behind
-          ];
-          to = tail.0.to;
-          is = tail.0.is;
-        },
-  )
+-- the link of the column of a head, as it is read
+pub link_at : {C : Type 0} (f : C → ℕ) (links : List C) (count head : ℕ) {link : ℕ} {x : C}
+    → head ≢ 0 → head < count → count ≤ length links + 1 → x ≡ get_or links (head - 1) x
+    → link ≡ f x → link ≡ slice_index (map f links) (head - 1)
+link_at f links count head some within linked read is =
+    number_at f links (head - 1) (omega (arith, some, within, linked)) read is
 
-pub no_tail : (offsets rows : List ℕ) (i : ℕ) → IsInRun rows 0 0 i ↔ IsInTailOf offsets rows 0 i
-no_tail offsets rows i = (
-  λ h. absurd (omega (arith, h.from, h.to)),
-  λ h. absurd (omega (arith, h.1)),
-)
+-- ---- the column of a head
 
--- the tail of the column of a head, read by positions
-module _ (offsets rows : List ℕ) (are : AreColumns offsets rows) (head from to : ℕ) (some : head ≢ 0)
-    (within : head < length offsets) (low : from ≡ get_or offsets (head - 1) from)
-    (high : to ≡ get_or offsets head to) where
-  head_is : head ≡ suc (head - 1)
-  head_is = omega (arith, some)
+-- the positions from `from` to `to` are those of the column of the head
+pub record IsColumnAt (offsets rows : List ℕ) (head from to : ℕ) : Type 0 where
+  pub head_is : head ≡ suc (head - 1)
+  pub from_is : from ≡ slice_index offsets (head - 1)
+  pub to_is : to ≡ slice_index offsets (head - 1 + 1)
+  pub run : IsRun rows from to
+  pub low : (p : ℕ) → from ≤ p → p < to → head - 1 ≤ slice_index rows p
 
-  from_is : from ≡ slice_index offsets (head - 1)
-  from_is = low ∙ get_or_default offsets (head - 1) from 0 (omega (arith, within))
-
-  to_is : to ≡ slice_index offsets (head - 1 + 1)
-  to_is =
-      let e : head ≡ head - 1 + 1 = omega (arith, some) in
-      high ∙ get_or_default offsets head to 0 within ∙ ap (slice_index offsets) e
-
-  pub column_run : IsRun rows from to
-  column_run = subst (λ x. IsRun rows x to) (sym from_is)
-      (subst (IsRun rows (slice_index offsets (head - 1))) (sym to_is)
-      (are.runs (head - 1) (omega (arith, some, within))))
-
-  pub column_low : (p : ℕ) → from ≤ p → p < to → head - 1 ≤ slice_index rows p
-  column_low p after before = are.low (head - 1) (slice_index rows p) (omega (arith, some, within))
-      record {
+-- they are read from the offsets
+pub column_at : {offsets rows : List ℕ} {head from to : ℕ} → AreColumns offsets rows → head ≢ 0
+    → head < length offsets → from ≡ get_or offsets (head - 1) from → to ≡ get_or offsets head to
+    → IsColumnAt offsets rows head from to
+column_at {offsets} {rows} {head} {from} {to} are some within low high =
+    let inside : head - 1 + 1 < length offsets = omega (arith, some, within) in
+    let next : head ≡ head - 1 + 1 = omega (arith, some) in
+    let from_is : from ≡ slice_index offsets (head - 1) =
+    low ∙ get_or_default offsets (head - 1) from 0 (omega (arith, within)) in
+    let to_is : to ≡ slice_index offsets (head - 1 + 1) =
+    high ∙ get_or_default offsets head to 0 within ∙ ap (slice_index offsets) next in
+    record {
+      head_is = omega (arith, some);
+      from_is = from_is;
+      to_is = to_is;
+      run = rw (from_is, to_is) (are.runs (head - 1) inside);
+      low = λ p after before. are.low (head - 1) (slice_index rows p) inside record {
         at = p;
         from = omega (arith, after, from_is);
         to = omega (arith, before, to_is);
         is = refl;
-      }
+      };
+    }
 
-  module _ (start : ℕ) (after : from ≤ start)
-      (same : (p : ℕ) → from ≤ p → p < start → slice_index rows p ≡ head - 1)
-      (above : (p : ℕ) → start ≤ p → p < to → head - 1 < slice_index rows p) where
-    pub tail_has : (i : ℕ) → IsInRun rows start to i ↔ IsInTailOf offsets rows head i
-    tail_has i =
-        subst (λ h. IsInRun rows start to i ↔ IsInTailOf offsets rows h i) (sym head_is)
-        (subst (λ x. IsInRun rows start x i ↔ IsInTailOf offsets rows (suc (head - 1)) i)
-        (sym to_is) (tail_is offsets rows (head - 1) start (omega (arith, after, from_is))
-        (λ p a b. same p (omega (arith, a, from_is)) b)
-        (λ p a b. above p a (omega (arith, b, to_is))) i))
+-- the tail of a column is its run behind a row on the diagonal
+pub tail_at : {offsets rows : List ℕ} {head from to : ℕ} → IsColumnAt offsets rows head from to
+    → (start : ℕ) → from ≤ start → start ≤ to
+    → ((p : ℕ) → from ≤ p → p < start → slice_index rows p ≡ head - 1)
+    → ((p : ℕ) → start ≤ p → p < to → head - 1 < slice_index rows p)
+    → IsTailRun offsets rows head start to
+tail_at {offsets} {rows} {head} {to = to} column start after within same above = record {
+  run = run_part column.run start to after within (omega arith);
+  has = λ i. (
+    λ h. (
+      head - 1,
+      column.head_is,
+      (
+        record {
+          at = h.at;
+          from = omega (arith, after, h.from, column.from_is);
+          to = omega (arith, h.to, column.to_is);
+          is = h.is;
+        },
+        omega (arith, above h.at h.from h.to, h.is),
+      ),
+    ),
+    λ h.
+        let e : h.0 ≡ head - 1 = omega (arith, h.1) in
+        let (row, below) = subst (λ k. IsInTail offsets rows k i) e h.2 in
+        record {
+          at = row.at;
+          from = elim (lt_or_ge row.at start) [
+            | inl before ↦ absurd (omega (
+              arith,
+              same row.at (omega (arith, row.from, column.from_is)) before,
+              row.is,
+              below,
+            ))
+            | inr behind ↦ behind
+          ];
+          to = omega (arith, row.to, column.to_is);
+          is = row.is;
+        },
+  );
+}
 
--- the link of the column of a head, as it is read
-pub link_at : {C : Type 0} (f : C → ℕ) (links : List C) (count head link : ℕ) (x : C) → head ≢ 0
-    → head < count → count ≤ length links + 1 → x ≡ get_or links (head - 1) x → link ≡ f x
-    → link ≡ slice_index (map f links) (head - 1)
-link_at f links count head link x some within linked read is =
-    number_at f links (head - 1) link x (omega (arith, some, within, linked)) read is
+pub no_tail : (offsets rows : List ℕ) → IsTailRun offsets rows 0 0 0
+no_tail offsets rows = record {
+  run = record {
+    ordered = omega arith;
+    inside = omega arith;
+    rising = λ p q from lt to. absurd (omega arith);
+  };
+  has = λ i. (λ h. absurd (omega (arith, h.from, h.to)), λ h. absurd (omega (arith, h.1)));
+}

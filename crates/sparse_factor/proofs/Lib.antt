@@ -3,6 +3,7 @@ mod LeastFill
 mod WalkLaws
 mod DistinctLists
 mod FactorLaws
+mod Sums
 mod Runs
 mod JoinedRuns
 pub mod Pairs

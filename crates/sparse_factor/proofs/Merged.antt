@@ -1,24 +1,26 @@
 -- The columns of a factor that are finished, each on the list of its parent.
 use Rattle.std.proofs.Common.{◌≡◌, ℕ, ◌<◌, ◌≤◌, ◌⊎◌, inl, inr, ◌↔◌}
 use Rattle.std.proofs.Common.{List, [], ◌∷◌, length, slice_index, Contains, replicate}
-use Rattle.std.proofs.Common.{refl, ap, ◌∙◌, arith}
-use Rattle.std.proofs.lemmas.List.{get_or_past, get_or-replicate, length-replicate}
+use Rattle.std.proofs.Common.{map, get_or, refl, ap, ◌∙◌, arith}
+use Rattle.std.proofs.lemmas.List.{get_or_past, get_or-replicate, length-map, length-replicate}
 use Rattle.sparse_algebra.proofs.Cases.{lt_or_ge}
-use Rattle.sparse_pattern.specs.Raw.{Raw, raw_of}
+use Rattle.sparse_pattern.specs.Raw.{raw_of}
 use Rattle.sparse_pattern.proofs.BuiltLanes.{IsBuilt}
 use Rattle.sparse_pattern.proofs.PatternLanes.{rises_at}
+use Rattle.sparse_pattern.proofs.Positions.{indices_below}
 use Rattle.sparse_factor.specs.Fill.{Filled, given}
 use Rattle.sparse_factor.specs.InnerColumns.{IsInColumn, AreColumns, AreRowsBelow}
 use Rattle.sparse_factor.specs.InnerChildren.{Reaches, AreFalling, IsInTails}
 use Rattle.sparse_factor.proofs.FillLaws.{IsParent, HaveParents, column_fill, child_filled}
-use Rattle.sparse_factor.proofs.FillLaws.{low_filled}
-use Rattle.sparse_factor.proofs.Children.{reach_none}
+use Rattle.sparse_factor.proofs.FillLaws.{low_filled, row_base}
+use Rattle.sparse_factor.proofs.Children.{reach_none, number_at}
 
--- the columns before j of the fill of a base, of n columns
+-- the columns before j of the fill of a base, which has n columns and no row above the diagonal
 pub record AreMerged (base : ℕ → ℕ → Type 0) (n : ℕ) (offsets rows firsts nexts : List ℕ) (j : ℕ) :
     Type 0 where
+  pub low : (i k : ℕ) → base i k → k ≤ i
+  pub within : (i k : ℕ) → base i k → i < n
   pub built : IsBuilt n (λ k i. Filled base i k) j offsets rows
-  pub inside : AreRowsBelow n rows
   pub first_count : length firsts ≡ n
   pub next_count : length nexts ≡ n
   pub falling : AreFalling nexts
@@ -32,14 +34,16 @@ zero_at n k = elim (lt_or_ge k n) [
   | inr past ↦ get_or_past (replicate n 0) k 0 (omega (arith, length-replicate {A = ℕ} n 0))
 ]
 
-pub none_merged : (base : ℕ → ℕ → Type 0) (n : ℕ) (firsts nexts : List ℕ) → firsts ≡ replicate n 0
-    → nexts ≡ replicate n 0 → AreMerged base n (0 ∷ []) [] firsts nexts 0
-none_merged base n firsts nexts f l =
-    let first : (k : ℕ) → slice_index firsts k ≡ 0 =
-    λ k. ap (λ xs. slice_index xs k) f ∙ zero_at n k in
-    let link : (k : ℕ) → slice_index nexts k ≡ 0 =
-    λ k. ap (λ xs. slice_index xs k) l ∙ zero_at n k in
+pub none_merged : {base : ℕ → ℕ → Type 0} {n : ℕ} {firsts nexts : List ℕ}
+    → ((i k : ℕ) → base i k → k ≤ i) → ((i k : ℕ) → base i k → i < n)
+    → firsts ≡ replicate n 0 → nexts ≡ replicate n 0
+    → AreMerged base n (0 ∷ []) [] firsts nexts 0
+none_merged {n = n} low within f l =
+    let first = λ (k : ℕ). ap (λ xs. slice_index xs k) f ∙ zero_at n k in
+    let link = λ (k : ℕ). ap (λ xs. slice_index xs k) l ∙ zero_at n k in
     record {
+      low = low;
+      within = within;
       built = record {
         valid = record {
           count = refl;
@@ -49,7 +53,6 @@ none_merged base n firsts nexts f l =
         };
         places = λ i j lt. absurd (omega arith);
       };
-      inside = λ p lt. absurd (omega arith);
       first_count = ap length f ∙ length-replicate {A = ℕ} n 0;
       next_count = ap length l ∙ length-replicate {A = ℕ} n 0;
       falling = λ k. omega (arith, link k);
@@ -61,11 +64,10 @@ none_merged base n firsts nexts f l =
       );
     }
 
-module _ (base : ℕ → ℕ → Type 0) (low : (i j : ℕ) → base i j → j ≤ i) (n : ℕ)
-    (offsets rows firsts nexts : List ℕ) (j : ℕ)
+module _ {base : ℕ → ℕ → Type 0} {n : ℕ} {offsets rows firsts nexts : List ℕ} {j : ℕ}
     (are : AreMerged base n offsets rows firsts nexts j) where
-  abbrev so_far : Raw
-  so_far = raw_of j n offsets rows
+  pub filled_within : (i k : ℕ) → Filled base i k → i < n
+  filled_within i k f = let (r, b) = row_base f in are.within i r b
 
   pub column_has : (k i : ℕ) → k < j → IsInColumn offsets rows k i ↔ Filled base i k
   column_has k i lt =
@@ -92,11 +94,21 @@ module _ (base : ℕ → ℕ → Type 0) (low : (i j : ℕ) → base i j → j �
         record {
           ordered = lane.ordered;
           inside = lane.inside;
-          rising = λ p q from lt to. rises_at so_far k lane p q from lt to;
+          rising = rises_at (raw_of j n offsets rows) k lane;
         };
-    low = λ k i lt h. low_filled base low
+    low = λ k i lt h. low_filled base are.low
         ((column_has k i (omega (arith, are.built.valid.count))).0 h);
   }
+
+  pub rows_below : AreRowsBelow n rows
+  rows_below p lt = indices_below (raw_of j n offsets rows) are.built.valid p 0 lt
+
+  -- the head of the list of column j, as it is read
+  pub head_at : {C : Type 0} (f : C → ℕ) (heads : List C) → firsts ≡ map f heads → j < n
+      → {head : ℕ} {x : C} → x ≡ get_or heads j x → head ≡ f x → head ≡ slice_index firsts j
+  head_at f heads same lt read is =
+      let long = length-map heads f in
+      rw same (number_at f heads j (omega (arith, are.first_count, ap length same, long)) read is)
 
   -- the rows that are merged into column j are those of the fill
   pub merged_has : (own : List ℕ) → ((i : ℕ) → Contains own i ↔ base i j) → (i : ℕ)
@@ -116,7 +128,7 @@ module _ (base : ℕ → ℕ → Type 0) (low : (i j : ℕ) → base i j → j �
           inl (
             c,
             (are.listed c j).1 (early, is),
-            ((column_has c i early).1 g, omega (arith, early, low_filled base low f)),
+            ((column_has c i early).1 g, omega (arith, early, low_filled base are.low f)),
           )
     ],
   )

@@ -7,12 +7,15 @@ use Rattle.std.proofs.Common.{arith}
 use Rattle.std.specs.List.Sorted.{IsStrictlyIncreasing}
 use Rattle.std.proofs.lemmas.Grind.{common_steps}
 use Rattle.std.proofs.lemmas.List.{get_or_append_left, get_or-append_right, take-append-le}
-use Rattle.std.proofs.lemmas.List.{drop-append-le, length-drop}
+use Rattle.std.proofs.lemmas.List.{drop-append-le, length-drop, get_or_default}
 use Rattle.std.proofs.lemmas.List.Edits.{length-between, between_more}
-use Rattle.std.proofs.lemmas.List.Elements.{Contains-get_or}
+use Rattle.std.proofs.lemmas.List.Elements.{Contains-get_or, Contains-push_cases}
 use Rattle.sparse_algebra.proofs.Cases.{lt_or_ge}
 use Rattle.sparse_pattern.proofs.LaneLists.{has_from_contains, contains_from_has}
 use Rattle.sparse_factor.specs.InnerColumns.{IsRun, IsInRun}
+
+pub none_in : (x : ℕ) → Contains [] x → ⊥
+none_in x h = omega (arith, h.1)
 
 -- a strictly increasing list stays so with one of greater numbers after it
 pub rising_append : (xs ys : List ℕ) → IsStrictlyIncreasing xs → IsStrictlyIncreasing ys
@@ -47,7 +50,16 @@ rising_append xs ys rx ry below k lt =
       ]
     ]
 
-module _ (xs : List ℕ) (low high : ℕ) (run : IsRun xs low high) where
+-- a strictly increasing list stays so with a greater number at its end
+pub rising_push : (xs : List ℕ) (y : ℕ) → IsStrictlyIncreasing xs
+    → ((x : ℕ) → Contains xs x → x < y) → IsStrictlyIncreasing (xs ++ y ∷ [])
+rising_push xs y rx below = rising_append xs (y ∷ []) rx (λ k lt. absurd (omega arith))
+    (λ x z x_in z_in. elim (Contains-push_cases [] y z z_in) [
+      | inl none ↦ absurd (none_in z none)
+      | inr same ↦ omega (arith, same, below x x_in)
+    ])
+
+module _ {xs : List ℕ} {low high : ℕ} (run : IsRun xs low high) where
   pub length-run : length (slice_range xs low high) ≡ high - low
   length-run = length-between xs low high run.inside
 
@@ -85,18 +97,12 @@ module _ (xs : List ℕ) (low high : ℕ) (run : IsRun xs low high) where
             },
       )
 
-  pub run_front : (mid : ℕ) → low ≤ mid → mid ≤ high → IsRun xs low mid
-  run_front mid from to = record {
-    ordered = from;
+  -- a part of a run
+  pub run_part : (first last : ℕ) → low ≤ first → first ≤ last → last ≤ high → IsRun xs first last
+  run_part first last from ordered to = record {
+    ordered = ordered;
     inside = omega (arith, run.inside);
-    rising = λ p q p_from lt q_to. run.rising p q p_from lt (omega arith);
-  }
-
-  pub run_back : (mid : ℕ) → low ≤ mid → mid ≤ high → IsRun xs mid high
-  run_back mid from to = record {
-    ordered = to;
-    inside = run.inside;
-    rising = λ p q p_from lt q_to. run.rising p q (omega arith) lt q_to;
+    rising = λ p q p_from lt q_to. run.rising p q (omega arith) lt (omega arith);
   }
 
   -- a run is kept where the list grows
@@ -149,21 +155,20 @@ run_whole xs rising = record {
 
 -- ---- a run that is copied behind its list
 
-module _ (xs now : List ℕ) (from at : ℕ) (inside : at < length xs)
+module _ (xs : List ℕ) (from at : ℕ) {now : List ℕ} (inside : at < length xs)
     (is : now ≡ xs ++ slice_range xs from at) where
-  pub copied_within : at < length now
+  copied_within : at < length now
   copied_within = omega (arith, ap length is, length-append xs (slice_range xs from at), inside)
 
-  pub copied_number : get_or now at 0 ≡ get_or xs at 0
-  copied_number = ap (λ l. get_or l at 0) is
-      ∙ get_or_append_left xs (slice_range xs from at) 0 at inside
+  -- the next number, as it is read
+  pub copied_number : {row : ℕ} → row ≡ get_or now at row → row ≡ get_or xs at 0
+  copied_number {row} read = read ∙ get_or_default now at row 0 copied_within
+      ∙ ap (λ l. get_or l at 0) is ∙ get_or_append_left xs (slice_range xs from at) 0 at inside
 
-  pub copied_more : (row : ℕ) → from ≤ at → row ≡ get_or now at 0
+  pub copied_more : {row : ℕ} → from ≤ at → row ≡ get_or now at row
       → now ++ row ∷ [] ≡ xs ++ slice_range xs from (at + 1)
-  copied_more row after read =
-      let more = between_more xs from at 0 after inside in
-      let same : row ≡ get_or xs at 0 = read ∙ copied_number in
+  copied_more {row} after read =
       ap (λ l. l ++ row ∷ []) is
       ∙ append_assoc xs (slice_range xs from at) (row ∷ [])
-      ∙ ap (λ r. xs ++ (slice_range xs from at ++ r ∷ [])) same
-      ∙ ap (λ l. xs ++ l) (sym more)
+      ∙ ap (λ r. xs ++ (slice_range xs from at ++ r ∷ [])) (copied_number read)
+      ∙ ap (λ l. xs ++ l) (sym (between_more xs from at 0 after inside))

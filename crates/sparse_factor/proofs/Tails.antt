@@ -1,17 +1,19 @@
 -- A column from the tails of its children, the longest by its run and the others taken up.
 use Rattle.std.proofs.Common.{◌≡◌, ◌≢◌, ℕ, suc, ◌+◌, ◌-◌, ◌⊎◌, inl, inr, ◌↔◌, List, Contains}
-use Rattle.std.proofs.Common.{subst, arith}
+use Rattle.std.proofs.Common.{slice_range, subst, arith}
 use Rattle.std.proofs.lemmas.Bool.{cases_eq}
 use Rattle.sparse_pattern.specs.InnerGainedLanes.{GainsLane}
-use Rattle.sparse_factor.specs.InnerColumns.{IsRun, IsInRun, IsInColumn}
-use Rattle.sparse_factor.specs.InnerChildren.{Reaches, IsInTailOf, IsInTails, HasOthers}
+use Rattle.sparse_factor.specs.InnerColumns.{IsInRun, IsInColumn}
+use Rattle.sparse_factor.specs.InnerChildren.{Reaches, IsTailRun, IsInTailOf, IsInTails, HasOthers}
 use Rattle.sparse_factor.specs.InnerTaken.{HasTaken}
+use Rattle.sparse_factor.proofs.Runs.{run_has}
+use Rattle.sparse_factor.proofs.Sums.{both_ways}
 use Rattle.sparse_factor.proofs.Taken.{taken_into, taken_both, run_taken}
 
 -- the same lane, where two conditions hold for the same rows
-pub gains_same : (old new : List ℕ) {P Q : ℕ → Type 0} → ((i : ℕ) → P i ↔ Q i)
+pub gains_same : {old new : List ℕ} {P Q : ℕ → Type 0} → ((i : ℕ) → P i ↔ Q i)
     → GainsLane old new P → GainsLane old new Q
-gains_same old new same gains = record {
+gains_same same gains = record {
   lane = gains.lane;
   pushed = gains.pushed;
   rising = gains.rising;
@@ -21,77 +23,80 @@ gains_same old new same gains = record {
   );
 }
 
+-- the rows of the tail of a column, as a list
+pub tail_list : {offsets rows : List ℕ} {head from to : ℕ} → IsTailRun offsets rows head from to
+    → (i : ℕ) → Contains (slice_range rows from to) i ↔ IsInTailOf offsets rows head i
+tail_list tail i = both_ways (run_has tail.run i) (tail.has i)
+
 -- the steps for the tail of a column
-pub tail_steps : (offsets rows : List ℕ) (head from to : ℕ) → IsRun rows from to
-    → ((i : ℕ) → IsInRun rows from to i ↔ IsInTailOf offsets rows head i) → (old new : ℕ)
-    → new + from ≡ old + to
+pub tail_steps : {offsets rows : List ℕ} {head from to : ℕ} → IsTailRun offsets rows head from to
+    → {old new : ℕ} → new + from ≡ old + to
     → HasTaken (λ i k. (head ≡ suc k) × IsInColumn offsets rows k i) old new
-tail_steps offsets rows head from to run is old new size =
+tail_steps {offsets} {rows} {head} tail size =
     taken_into (λ i k h.
-    let (l, e, tail) = (is i).0 h.1 in
+    let (l, e, is_in) = (tail.has i).0 h.1 in
     let same : l ≡ k = omega (arith, h.0, e) in
-    (omega (arith, e, same), subst (λ x. IsInColumn offsets rows x i) same tail.0))
-    (run_taken rows from to run (head - 1) old new (omega (arith, size, run.ordered)))
+    (omega (arith, e, same), subst (λ x. IsInColumn offsets rows x i) same is_in.0))
+    (run_taken tail.run (head - 1) (omega (arith, size, tail.run.ordered)))
 
-module _ (offsets rows nexts : List ℕ) (first longest : ℕ) where
-  -- no other child
-  pub single_others : (first ≢ 0 → longest ≢ 0)
-      → ((k : ℕ) → longest ≡ suc k → Reaches nexts first k)
-      → ((k : ℕ) → Reaches nexts first k → first ≡ suc k) → (old : List ℕ)
-      → HasOthers offsets rows nexts first longest old old
-  single_others some reached single old = record {
-    kept = λ i h. h;
-    sound = λ i h. inl h;
-    whole = λ i k r ne tail.
-        let here : first ≡ suc k = single k r in
-        let none : longest ≢ 0 = some (λ e. omega (arith, e, here)) in
-        let e : longest ≡ suc (longest - 1) = omega (arith, none) in
-        absurd (ne (omega (arith, e, here, single (longest - 1) (reached (longest - 1) e))));
-  }
+-- no other child
+pub single_others : {offsets rows nexts : List ℕ} {first longest : ℕ} → (first ≢ 0 → longest ≢ 0)
+    → ((k : ℕ) → longest ≡ suc k → Reaches nexts first k)
+    → ((k : ℕ) → Reaches nexts first k → first ≡ suc k) → {old : List ℕ}
+    → HasOthers offsets rows nexts first longest old old
+single_others {longest = longest} some reached single = record {
+  kept = λ i h. h;
+  sound = λ i h. inl h;
+  whole = λ i k r ne tail.
+      let here = single k r in
+      let none : longest ≢ 0 = some (λ e. omega (arith, e, here)) in
+      let e : longest ≡ suc (longest - 1) = omega (arith, none) in
+      absurd (ne (omega (arith, e, here, single (longest - 1) (reached (longest - 1) e))));
+}
 
-  -- the same rows in another order
-  pub others_sorted : (old new sorted : List ℕ)
-      → HasOthers offsets rows nexts first longest old new
-      → ((i : ℕ) → Contains sorted i ↔ Contains new i)
-      → HasOthers offsets rows nexts first longest old sorted
-  others_sorted old new sorted others same = record {
-    kept = λ i h. (same i).1 (others.kept i h);
-    sound = λ i h. others.sound i ((same i).0 h);
-    whole = λ i k r ne tail. (same i).1 (others.whole i k r ne tail);
-  }
+-- the same rows in another order
+pub others_sorted : {offsets rows nexts : List ℕ} {first longest : ℕ} {old new : List ℕ}
+    → HasOthers offsets rows nexts first longest old new → {sorted : List ℕ}
+    → ((i : ℕ) → Contains sorted i ↔ Contains new i)
+    → HasOthers offsets rows nexts first longest old sorted
+others_sorted others same = record {
+  kept = λ i h. (same i).1 (others.kept i h);
+  sound = λ i h. others.sound i ((same i).0 h);
+  whole = λ i k r ne tail. (same i).1 (others.whole i k r ne tail);
+}
 
-  -- the run is the tail of the longest
-  module _ (from to : ℕ) (is : (i : ℕ) → IsInRun rows from to i ↔ IsInTailOf offsets rows longest i)
-      (reached : (k : ℕ) → longest ≡ suc k → Reaches nexts first k) where
-    pub others_has : (own taken : List ℕ) → HasOthers offsets rows nexts first longest own taken
-        → (i : ℕ) → (IsInRun rows from to i ⊎ Contains taken i)
-        ↔ (IsInTails offsets rows nexts first i ⊎ Contains own i)
-    others_has own taken others i = (
-      λ h. elim h [
-        | inl in_run ↦
-            let (k, e, tail) = (is i).0 in_run in
-            inl (k, reached k e, tail)
-        | inr in_list ↦ elim (others.sound i in_list) [ inl mine ↦ inr mine | inr tail ↦ inl tail ]
-      ],
-      λ h. elim h [
-        | inl tail ↦
-            let (k, r, is_in) = tail in
-            elim (cases_eq longest (suc k)) [
-              | inl e ↦ inl ((is i).1 (k, e, is_in))
-              | inr ne ↦ inr (others.whole i k r ne is_in)
-            ]
-        | inr mine ↦ inr (others.kept i mine)
-      ],
-    )
+-- the run is the tail of the longest
+module _ {offsets rows nexts : List ℕ} {first longest from to : ℕ}
+    (tail : IsTailRun offsets rows longest from to)
+    (reached : (k : ℕ) → longest ≡ suc k → Reaches nexts first k) where
+  pub others_has : {own taken : List ℕ} → HasOthers offsets rows nexts first longest own taken
+      → (i : ℕ) → (IsInRun rows from to i ⊎ Contains taken i)
+      ↔ (IsInTails offsets rows nexts first i ⊎ Contains own i)
+  others_has others i = (
+    λ h. elim h [
+      | inl in_run ↦
+          let (k, e, is_in) = (tail.has i).0 in_run in
+          inl (k, reached k e, is_in)
+      | inr in_list ↦ elim (others.sound i in_list) [ inl mine ↦ inr mine | inr other ↦ inl other ]
+    ],
+    λ h. elim h [
+      | inl is ↦
+          let (k, r, is_in) = is in
+          elim (cases_eq longest (suc k)) [
+            | inl e ↦ inl ((tail.has i).1 (k, e, is_in))
+            | inr ne ↦ inr (others.whole i k r ne is_in)
+          ]
+      | inr mine ↦ inr (others.kept i mine)
+    ],
+  )
 
-    -- the steps for all tails
-    pub all_taken : IsRun rows from to → (old mid new : ℕ)
-        → HasTaken (λ i k. Reaches nexts first k × (longest ≢ suc k) × IsInColumn offsets rows k i)
-        old mid → new + from ≡ mid + to
-        → HasTaken (λ i k. Reaches nexts first k × IsInColumn offsets rows k i) old new
-    all_taken run old mid new others size =
-        taken_into (λ i k h. elim h [
-          | inl more ↦ (more.0, more.2)
-          | inr one ↦ (reached k one.0, one.1)
-        ]) (taken_both others (tail_steps offsets rows longest from to run is mid new size)
-        (λ i k more one. more.1 one.0))
+  -- the steps for all tails
+  pub all_taken : {old mid new : ℕ}
+      → HasTaken (λ i k. Reaches nexts first k × (longest ≢ suc k) × IsInColumn offsets rows k i)
+      old mid → new + from ≡ mid + to
+      → HasTaken (λ i k. Reaches nexts first k × IsInColumn offsets rows k i) old new
+  all_taken others size =
+      taken_into (λ i k h. elim h [
+        | inl more ↦ (more.0, more.2)
+        | inr one ↦ (reached k one.0, one.1)
+      ]) (taken_both others (tail_steps tail size) (λ i k more one. more.1 one.0))

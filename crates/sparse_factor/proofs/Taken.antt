@@ -22,9 +22,9 @@ none_taken In n = record {
 }
 
 -- the same steps, counted after k others
-pub taken_later : {In : ℕ → ℕ → Type 0} {old new : ℕ} (k first last : ℕ) → HasTaken In old new
+pub taken_later : {In : ℕ → ℕ → Type 0} {old new first last : ℕ} (k : ℕ) → HasTaken In old new
     → first ≡ old + k → last ≡ new + k → HasTaken In first last
-taken_later k first last taken begin end = record {
+taken_later k taken begin end = record {
   pairs = taken.pairs;
   size = omega (arith, taken.size);
   once = taken.once;
@@ -79,7 +79,7 @@ in_column_has k rows p h =
     ∙ get_or-map (λ i. pair i k) rows h.0 p.0 p within in
     (ap (λ p. p.1) e, (h.0, within, sym (ap (λ p. p.0) e)))
 
-module _ (xs : List ℕ) (low high : ℕ) (run : IsRun xs low high) (k : ℕ) where
+module _ {xs : List ℕ} {low high : ℕ} (run : IsRun xs low high) (k : ℕ) where
   abbrev rows : List ℕ
   rows = slice_range xs low high
 
@@ -92,19 +92,19 @@ module _ (xs : List ℕ) (low high : ℕ) (run : IsRun xs low high) (k : ℕ) wh
       omega (
         arith,
         e,
-        get_or-run xs low high run a (omega arith),
-        get_or-run xs low high run b inside,
+        get_or-run run a (omega arith),
+        get_or-run run b inside,
         run.rising (low + a) (low + b) (omega arith) (omega arith)
-            (omega (arith, length-run xs low high run)),
+            (omega (arith, length-run run)),
       )
 
-  pub run_taken : (old new : ℕ) → new ≡ old + (high - low)
+  pub run_taken : {old new : ℕ} → new ≡ old + (high - low)
       → HasTaken (λ i j. (j ≡ k) × IsInRun xs low high i) old new
-  run_taken old new size = record {
+  run_taken size = record {
     pairs = in_column k rows;
-    size = omega (arith, size, length-map rows (λ i. pair i k), length-run xs low high run);
+    size = omega (arith, size, length-map rows (λ i. pair i k), length-run run);
     once = rows_once;
     inside = λ p h.
         let at = in_column_has k rows p h in
-        (at.0, (run_has xs low high run p.0).0 at.1);
+        (at.0, (run_has run p.0).0 at.1);
   }

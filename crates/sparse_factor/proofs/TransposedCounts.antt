@@ -41,8 +41,7 @@ module _ (d : Raw) (valid : IsValid d) where
               },
             )
       ]) (taken_both (lanes_taken n (omega arith))
-      (run_taken d.indices (start_of d n) (end_of d n) run n (start_of d n) (end_of d n)
-      (omega (arith, run.ordered)))
+      (run_taken run n (omega (arith, run.ordered)))
       (λ j k old new. omega (arith, old.0, new.0))))
 
 -- a pattern has no more places than one that has each of its places with the indices exchanged

@@ -1,6 +1,6 @@
 -- Lists of columns that are linked by their numbers. A head is one more than a column, or 0.
-use Rattle.std.specs.Prelude.{◌≡◌, ◌≢◌, ℕ, suc, ◌≤◌, ◌⊎◌, List, slice_index, Contains}
-use Rattle.sparse_factor.specs.InnerColumns.{IsInTail}
+use Rattle.std.specs.Prelude.{◌≡◌, ◌≢◌, ℕ, suc, ◌≤◌, ◌⊎◌, ◌↔◌, List, slice_index, Contains}
+use Rattle.sparse_factor.specs.InnerColumns.{IsRun, IsInRun, IsInTail}
 
 -- the list that begins at a head reaches a column
 pub data Reaches (nexts : List ℕ) : ℕ → ℕ → Type 0 where
@@ -14,6 +14,11 @@ AreFalling nexts = (k : ℕ) → slice_index nexts k ≤ k
 -- row i is in the tail of the column of the head
 abbrev pub IsInTailOf : List ℕ → List ℕ → ℕ → ℕ → Type 0
 IsInTailOf offsets rows head i = (k : ℕ) × (head ≡ suc k) × IsInTail offsets rows k i
+
+-- the positions from low to high are a run, of the rows in the tail of the column of the head
+pub record IsTailRun (offsets rows : List ℕ) (head low high : ℕ) : Type 0 where
+  pub run : IsRun rows low high
+  pub has : (i : ℕ) → IsInRun rows low high i ↔ IsInTailOf offsets rows head i
 
 -- row i is in the tail of a column of the list
 abbrev pub IsInTails : List ℕ → List ℕ → List ℕ → ℕ → ℕ → Type 0

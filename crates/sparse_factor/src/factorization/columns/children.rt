@@ -4,9 +4,9 @@
 ghost use Rattle.std.specs.Prelude.{◌≡◌, ◌≢◌, ℕ, suc, ◌+◌, ◌<◌, ◌≤◌, ◌↔◌, ◌⊎◌, length, map};
 ghost use Rattle.std.specs.Prelude.{slice_index, slice_set, Contains, OnOk, IsTrue};
 ghost use Rattle.std.specs.List.Sorted.{IsStrictlyIncreasing};
-ghost use Rattle.sparse_factor.specs.InnerColumns.{IsRun, IsInRun, IsInColumn};
+ghost use Rattle.sparse_factor.specs.InnerColumns.{IsInColumn};
 ghost use Rattle.sparse_factor.specs.InnerColumns.{AreColumns, AreRowsBelow};
-ghost use Rattle.sparse_factor.specs.InnerChildren.{Reaches, AreFalling, IsInTailOf, HasOthers};
+ghost use Rattle.sparse_factor.specs.InnerChildren.{Reaches, AreFalling, IsInTailOf, IsTailRun, HasOthers};
 ghost use Rattle.sparse_factor.specs.InnerMarks.{AreMarked, AreAtMost};
 ghost use Rattle.sparse_factor.specs.InnerTaken.{HasTaken};
 
@@ -21,9 +21,7 @@ use std::alloc::AllocError;
 pub(super) fn tail_of(columns: &Columns, head: usize) -> (usize, usize)
     requires columns { AreColumns columns.now.offsets.items columns.now.rows.items }
     requires head { head < length columns.now.offsets.items }
-    ensures run { IsRun columns.now.rows.items result.0 result.1 }
-    ensures rows { (i : ℕ) → IsInRun columns.now.rows.items result.0 result.1 i
-        ↔ IsInTailOf columns.now.offsets.items columns.now.rows.items head i }
+    ensures { IsTailRun columns.now.offsets.items columns.now.rows.items head result.0 result.1 }
 {
     if head == 0 {
         return (0, 0);

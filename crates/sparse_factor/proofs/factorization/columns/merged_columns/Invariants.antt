@@ -13,7 +13,7 @@ invariant-loop-column g l =
     let f = g.C.Count.number in
     record {
       merged : AreMerged base l.size l.columns.offsets.items l.columns.rows.items
-          (map f l.firsts.items) (map f l.nexts.items) l.column;
+          (map f l.firsts) (map f l.nexts) l.column;
       count : length l.taken.marks.items ≡ l.size;
       marks : AreAtMost l.column (map f l.taken.marks.items);
       taken : HasTaken (IsTakenBefore base l.column)

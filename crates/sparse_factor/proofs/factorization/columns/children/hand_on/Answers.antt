@@ -15,5 +15,4 @@ returns-then-parent-ne0-clause-nexts g c = λ some.
     let first = c.index-firsts-parent in
     map-set f c.args.nexts.now c.args.column first.result
     ∙ ap (set (map f c.args.nexts.now) c.args.column)
-    (number_at f c.args.firsts.now c.args.parent (f first.result) first.result c.requires.parent
-    first.is refl)
+    (number_at f c.args.firsts.now c.args.parent c.requires.parent first.is refl)

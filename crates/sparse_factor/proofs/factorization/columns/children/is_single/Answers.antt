@@ -6,12 +6,11 @@ use Rattle.sparse_factor.proofs.factorization.columns.children.is_single.Goals a
 pub returns-else-first-eq0 : goal.returns-else-first-eq0
 returns-else-first-eq0 g c = λ yes k r.
     let first = c.args.first in
-    let zero : c.get.result ≡ 0 = eqb-true c.get.result 0 yes in
-    let first_is : first ≡ suc (first - 1) = omega (arith, c.if-first-eq0.false) in
-    let read = link_at g.C.Count.number c.args.nexts.now (first + 1) first c.get.result
-    c.index-nexts-first.result c.if-first-eq0.false (omega arith) (omega (arith, c.requires))
-    c.index-nexts-first.is c.get.ensures in
+    let some = c.if-first-eq0.false in
+    let first_is : first ≡ suc (first - 1) = omega (arith, some) in
+    let read = link_at g.C.Count.number c.args.nexts.now (first + 1) first some (omega arith)
+    (omega (arith, c.requires)) c.index-nexts-first.is c.get.ensures in
     elim (reach_cases r (first - 1) first_is) [
       | inl e ↦ omega (arith, e, first_is)
-      | inr more ↦ absurd (reach_none more (sym read ∙ zero))
+      | inr more ↦ absurd (reach_none more (sym read ∙ eqb-true c.get.result 0 yes))
     ]

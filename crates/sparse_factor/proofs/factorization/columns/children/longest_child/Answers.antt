@@ -1,6 +1,6 @@
 use Rattle.std.proofs.Common.{◌≡◌, suc, ◌-◌, length, map, slice_index, sym, ◌∙◌, subst, arith}
 use Rattle.sparse_factor.specs.InnerChildren.{Reaches, here, next}
-use Rattle.sparse_factor.proofs.Children.{link_at, column_run}
+use Rattle.sparse_factor.proofs.Children.{link_at, column_at}
 use Rattle.sparse_factor.proofs.factorization.columns.children.longest_child.Given.{Over}
 use Rattle.sparse_factor.proofs.factorization.columns.children.longest_child.Goals as goal
 use Rattle.sparse_factor.proofs.factorization.columns.children.longest_child.Goals.{After-get-head}
@@ -19,8 +19,8 @@ link : (g : Over) (c : After-get-head g) → c.get-head.result
     ≡ slice_index (map g.C.Count.number c.args.nexts.now) (c.loop-head.head - 1)
 link g c =
     link_at g.C.Count.number c.args.nexts.now (length c.args.columns.now.offsets.items)
-    c.loop-head.head c.get-head.result c.index-nexts-head.result c.loop-head-test.true
-    c.loop-head.invariant.within c.requires.linked c.index-nexts-head.is c.get-head.ensures
+    c.loop-head.head c.loop-head-test.true c.loop-head.invariant.within c.requires.linked
+    c.index-nexts-head.is c.get-head.ensures
 
 pub loop-head-smaller : goal.loop-head-smaller
 loop-head-smaller g c = omega (
@@ -32,9 +32,8 @@ loop-head-smaller g c = omega (
 
 pub overflow_sub-places : goal.overflow_sub-places
 overflow_sub-places g c =
-    (column_run c.args.columns.now.offsets.items c.args.columns.now.rows.items c.requires.columns
-    c.loop-head.head c.index-in-loop-head.result.now c.index.result.now c.loop-head-test.true
-    c.loop-head.invariant.within c.index-in-loop-head.ensures c.index.ensures).ordered
+    (column_at c.requires.columns c.loop-head-test.true c.loop-head.invariant.within
+    c.index-in-loop-head.ensures c.index.ensures).run.ordered
 
 pub loop-head-preserved : goal.loop-head-preserved
 loop-head-preserved g c =

@@ -1,8 +1,10 @@
-use Rattle.std.proofs.Common.{◌≡◌, ◌-◌, ◌<◌, length, map, slice_index, refl, ◌∙◌, inl, inr, arith}
-use Rattle.sparse_factor.proofs.Children.{number_at, reach_none}
+use Rattle.std.proofs.Common.{◌≡◌, ◌-◌, length, map, slice_index, refl, ◌∙◌, inl, inr, arith}
+use Rattle.sparse_factor.proofs.Children.{link_at, reach_none}
 use Rattle.sparse_factor.proofs.Gathered.{none_gathered, longest_past, tail_taken, tail_gathered}
 use Rattle.sparse_factor.proofs.Taken.{taken_into}
+use Rattle.sparse_factor.proofs.factorization.columns.children.take_tails.Given.{Over}
 use Rattle.sparse_factor.proofs.factorization.columns.children.take_tails.Goals as goal
+use Rattle.sparse_factor.proofs.factorization.columns.children.take_tails.Goals.{After-get-head}
 use Rattle.sparse_factor.proofs.factorization.columns.children.take_tails.Goals.{then-head-longest+in_ok-take_tail_of}
 use Rattle.sparse_factor.proofs.factorization.columns.children.take_tails.Goals.{else-head-longest}
 
@@ -15,33 +17,30 @@ loop-head-init g c = record {
   marked = c.requires.marked;
 }
 
+link : (g : Over) (c : After-get-head g) → c.get-head.result
+    ≡ slice_index (map g.C.Count.number c.args.nexts.now) (c.loop-head.head - 1)
+link g c =
+    link_at g.C.Count.number c.args.nexts.now (length c.args.columns.now.offsets.items)
+    c.loop-head.head c.loop-head-test.true c.loop-head.invariant.gathered.within c.requires.linked
+    c.index-nexts-head.is c.get-head.ensures
+
 pub loop-head-preserved : goal.loop-head-preserved
 loop-head-preserved g c =
-    let f = g.C.Count.number in
     let offsets = c.args.columns.now.offsets.items in
     let rows = c.args.columns.now.rows.items in
-    let nexts = map f c.args.nexts.now in
-    let first = c.args.children.0 in
-    let longest = c.args.children.1 in
+    let nexts = map g.C.Count.number c.args.nexts.now in
+    let (first, longest) = c.args.children in
     let old = c.args.taken.now.rows.items in
     let l = c.loop-head in
     let inv = l.invariant in
-    let inside : l.head - 1 < length c.args.nexts.now = omega (
-      arith,
-      inv.gathered.within,
-      c.requires.linked,
-      c.loop-head-test.true,
-    ) in
-    let link : c.get-head.result ≡ slice_index nexts (l.head - 1) =
-    number_at f c.args.nexts.now (l.head - 1) c.get-head.result c.index-nexts-head.result inside
-    c.index-nexts-head.is c.get-head.ensures in
+    let read = link g (goal.at.loop-head-preserved g c).After-get-head in
     elim c.if-head-longest.branch [
       | then-head-longest+in_ok-take_tail_of w ↦
           let took = w.take_tail_of.ensures in
           rw (w.taken-is, w.steps-is) record {
             gathered = tail_gathered offsets rows nexts first longest old c.args.steps.now
                 l.taken.rows.items l.steps l.head c.get-head.result inv.gathered
-                c.requires.falling c.loop-head-test.true link w.if-head-longest.true
+                c.requires.falling c.loop-head-test.true read w.if-head-longest.true
                 w.take_tail_of.new.steps took.counted w.take_tail_of.new.taken.rows.items
                 w.in_ok-take_tail_of.ensures.rows;
             count = took.count ∙ inv.count;
@@ -50,29 +49,19 @@ loop-head-preserved g c =
       | else-head-longest w ↦ rw (w.taken-is, w.steps-is) record {
         gathered = longest_past offsets rows nexts first longest old c.args.steps.now
             l.taken.rows.items l.steps l.head c.get-head.result inv.gathered
-            c.requires.falling c.loop-head-test.true link w.if-head-longest.false;
+            c.requires.falling c.loop-head-test.true read w.if-head-longest.false;
         count = inv.count;
         marked = inv.marked;
       }
     ]
 
 pub loop-head-smaller : goal.loop-head-smaller
-loop-head-smaller g c =
-    let f = g.C.Count.number in
-    let l = c.loop-head in
-    let inside : l.head - 1 < length c.args.nexts.now = omega (
-      arith,
-      l.invariant.gathered.within,
-      c.requires.linked,
-      c.loop-head-test.true,
-    ) in
-    omega (
-      arith,
-      number_at f c.args.nexts.now (l.head - 1) c.get-head.result c.index-nexts-head.result inside
-          c.index-nexts-head.is c.get-head.ensures,
-      c.requires.falling (l.head - 1),
-      c.loop-head-test.true,
-    )
+loop-head-smaller g c = omega (
+  arith,
+  link g (goal.at.loop-head-smaller g c).After-get-head,
+  c.requires.falling (c.loop-head.head - 1),
+  c.loop-head-test.true,
+)
 
 pub returns-in_err-take_tail_of-clause-taken : goal.returns-in_err-take_tail_of-clause-taken
 returns-in_err-take_tail_of-clause-taken g c =
