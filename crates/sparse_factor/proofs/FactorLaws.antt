@@ -17,33 +17,24 @@ use Rattle.sparse_factor.specs.Walks.{StoresWalks, StoresDiagonal}
 use Rattle.sparse_factor.specs.Fill.{Filled}
 use Rattle.sparse_factor.proofs.FillLaws.{in_fill, filled_in, filled_diagonal, filled_into}
 use Rattle.sparse_factor.proofs.LeastFill.{place_test, place_is}
+use Rattle.sparse_factor.proofs.Sums.{both_ways}
 use Rattle.sparse_factor.proofs.WalkLaws.{filled_walk}
 
-module _ (base : ℕ → ℕ → Type 0) (low : (i j : ℕ) → base i j → j ≤ i) (t : Raw)
-    (filled : (i j : ℕ) → IsPlace t j i ↔ Filled base i j) (valid : IsValid t) where
-  stored_is : (i j : ℕ) → IsTrue (place_test t j i) ↔ Filled base i j
-  stored_is i j =
-      let is = place_is t valid j i in
-      let has = filled i j in
-      (λ yes. has.0 (is.0 yes), λ f. is.1 (has.1 f))
+pub stores_fill : {base : ℕ → ℕ → Type 0} {t : Raw} → ((i j : ℕ) → IsPlace t j i ↔ Filled base i j)
+    → IsValid t → StoresByColumns (InFill base) t
+stores_fill {base} {t} filled valid i j = (
+  λ h. in_fill ((filled i j).0 h),
+  λ f. (filled i j).1 (filled_in base (λ i j. place_test t j i)
+      (λ i j. both_ways (place_is t valid j i) (filled i j)) i j f),
+)
 
-  pub stores_fill : StoresByColumns (InFill base) t
-  stores_fill i j = (
-    λ h. in_fill ((filled i j).0 h),
-    λ f. (filled i j).1 (filled_in base (λ i j. place_test t j i) stored_is i j f),
-  )
-
+module _ {base : ℕ → ℕ → Type 0} {t : Raw} (low : (i j : ℕ) → base i j → j ≤ i)
+    (filled : (i j : ℕ) → IsPlace t j i ↔ Filled base i j) where
   pub stores_walks : StoresWalks base t
-  stores_walks i j le =
-      let same = filled i j in
-      let walk = filled_walk base low i j le in
-      (λ h. walk.0 (same.0 h), λ w. same.1 (walk.1 w))
+  stores_walks i j le = both_ways (filled i j) (filled_walk base low i j le)
 
   pub stores_diagonal : StoresDiagonal base t
-  stores_diagonal j =
-      let same = filled j j in
-      let at = filled_diagonal base low j in
-      (λ h. at.0 (same.0 h), λ b. same.1 (at.1 b))
+  stores_diagonal j = both_ways (filled j j) (filled_diagonal base low j)
 
 -- ---- the bases of the triangles
 
@@ -53,9 +44,9 @@ triangle_low Lower p i j b = b.1
 triangle_low Both p i j (inl b) = b.1
 triangle_low Both p i j (inr b) = b.1
 
-pub upper_is : (p t : Raw) → IsTransposedPattern p t → (i j : ℕ)
+pub upper_is : {p t : Raw} → IsTransposedPattern p t → (i j : ℕ)
     → LowerBase t i j ↔ TriangleBase Upper p i j
-upper_is p t is i j = (
+upper_is is i j = (
   λ b. ((is.places i j).0 b.0, b.1),
   λ b. ((is.places i j).1 b.0, b.1),
 )
@@ -63,9 +54,9 @@ upper_is p t is i j = (
 pub lower_is : (p : Raw) (i j : ℕ) → LowerBase p i j ↔ TriangleBase Lower p i j
 lower_is p i j = (λ b. b, λ b. b)
 
-pub both_is : (p t u : Raw) → IsTransposedPattern p t → IsUnionOf u p t → (i j : ℕ)
+pub both_is : {p t : Raw} (u : Raw) → IsTransposedPattern p t → IsUnionOf u p t → (i j : ℕ)
     → LowerBase u i j ↔ TriangleBase Both p i j
-both_is p t u is union i j = (
+both_is u is union i j = (
   λ b. elim ((union j i).0 b.0) [
     | inl lower ↦ inr (lower, b.1)
     | inr upper ↦ inl ((is.places i j).0 upper, b.1)

@@ -6,7 +6,6 @@ use Rattle.std.proofs.lemmas.List.{get_or_past, get_or-replicate, length-map, le
 use Rattle.sparse_algebra.proofs.Cases.{lt_or_ge}
 use Rattle.sparse_pattern.specs.Raw.{raw_of}
 use Rattle.sparse_pattern.proofs.BuiltLanes.{IsBuilt}
-use Rattle.sparse_pattern.proofs.PatternLanes.{rises_at}
 use Rattle.sparse_pattern.proofs.Positions.{indices_below}
 use Rattle.sparse_factor.specs.Fill.{Filled, given}
 use Rattle.sparse_factor.specs.InnerColumns.{IsInColumn, AreColumns, AreRowsBelow}
@@ -14,6 +13,8 @@ use Rattle.sparse_factor.specs.InnerChildren.{Reaches, AreFalling, IsInTails}
 use Rattle.sparse_factor.proofs.FillLaws.{IsParent, HaveParents, column_fill, child_filled}
 use Rattle.sparse_factor.proofs.FillLaws.{low_filled, row_base}
 use Rattle.sparse_factor.proofs.Children.{reach_none, number_at}
+use Rattle.sparse_factor.proofs.Runs.{lane_run, lane_place}
+use Rattle.sparse_factor.proofs.Sums.{both_ways}
 
 -- the columns before j of the fill of a base, which has n columns and no row above the diagonal
 pub record AreMerged (base : ℕ → ℕ → Type 0) (n : ℕ) (offsets rows firsts nexts : List ℕ) (j : ℕ) :
@@ -71,34 +72,17 @@ module _ {base : ℕ → ℕ → Type 0} {n : ℕ} {offsets rows firsts nexts : 
 
   pub column_has : (k i : ℕ) → k < j → IsInColumn offsets rows k i ↔ Filled base i k
   column_has k i lt =
-      let is = are.built.places k i lt in (
-        λ h. is.0 record {
-          at = h.at;
-          in_lane = record { lane = lt; from = h.from; to = h.to };
-          index = h.is;
-        },
-        λ f.
-            let place = is.1 f in
-            record {
-              at = place.at;
-              from = place.in_lane.from;
-              to = place.in_lane.to;
-              is = place.index;
-            },
-      )
+      both_ways (lane_place (raw_of j n offsets rows) k i lt) (are.built.places k i lt)
 
   pub are_columns : AreColumns offsets rows
-  are_columns = record {
-    runs = λ k lt.
-        let lane = are.built.valid.lanes k (omega (arith, are.built.valid.count)) in
-        record {
-          ordered = lane.ordered;
-          inside = lane.inside;
-          rising = rises_at (raw_of j n offsets rows) k lane;
-        };
-    low = λ k i lt h. low_filled base are.low
-        ((column_has k i (omega (arith, are.built.valid.count))).0 h);
-  }
+  are_columns =
+      let valid = are.built.valid in
+      record {
+        runs = λ k lt. lane_run (raw_of j n offsets rows) k
+            (valid.lanes k (omega (arith, valid.count)));
+        low = λ k i lt h. low_filled base are.low
+            ((column_has k i (omega (arith, valid.count))).0 h);
+      }
 
   pub rows_below : AreRowsBelow n rows
   rows_below p lt = indices_below (raw_of j n offsets rows) are.built.valid p 0 lt

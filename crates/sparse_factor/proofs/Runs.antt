@@ -11,7 +11,9 @@ use Rattle.std.proofs.lemmas.List.{drop-append-le, length-drop, get_or_default}
 use Rattle.std.proofs.lemmas.List.Edits.{length-between, between_more}
 use Rattle.std.proofs.lemmas.List.Elements.{Contains-get_or, Contains-push_cases}
 use Rattle.sparse_algebra.proofs.Cases.{lt_or_ge}
+use Rattle.sparse_pattern.specs.Raw.{Raw, start_of, end_of, IsPlace, IsValidLane}
 use Rattle.sparse_pattern.proofs.LaneLists.{has_from_contains, contains_from_has}
+use Rattle.sparse_pattern.proofs.PatternLanes.{rises_at}
 use Rattle.sparse_factor.specs.InnerColumns.{IsRun, IsInRun}
 
 pub none_in : (x : ℕ) → Contains [] x → ⊥
@@ -152,6 +154,25 @@ run_whole xs rising = record {
       let e : p + suc (q - p - 1) ≡ q = omega arith in
       omega (arith, rising_at xs rising p (q - p - 1) (omega arith), ap (λ r. get_or xs r 0) e);
 }
+
+-- a lane is a run, of the indices of its places
+pub lane_run : (d : Raw) (k : ℕ) → IsValidLane d k → IsRun d.indices (start_of d k) (end_of d k)
+lane_run d k lane = record {
+  ordered = lane.ordered;
+  inside = lane.inside;
+  rising = rises_at d k lane;
+}
+
+pub lane_place : (d : Raw) (k i : ℕ) → k < d.major_dim
+    → IsInRun d.indices (start_of d k) (end_of d k) i ↔ IsPlace d k i
+lane_place d k i lt = (
+  λ h. record {
+    at = h.at;
+    in_lane = record { lane = lt; from = h.from; to = h.to };
+    index = h.is;
+  },
+  λ h. record { at = h.at; from = h.in_lane.from; to = h.in_lane.to; is = h.index },
+)
 
 -- ---- a run that is copied behind its list
 

@@ -1,22 +1,18 @@
 use Rattle.sparse_factor.proofs.FactorLaws.{lower_is, both_is, places_at_ok}
 use Rattle.sparse_factor.proofs.factorization.fill_of.Goals as goal
 
-pub returns-in-Upper-clause-places :
-    goal.returns-in-Upper-clause-places
+pub returns-in-Upper-clause-places : goal.returns-in-Upper-clause-places
 returns-in-Upper-clause-places c = rw c.in-Upper.is c.fill_of_upper.ensures.places
 
-pub returns-in-Lower-clause-places :
-    goal.returns-in-Lower-clause-places
+pub returns-in-Lower-clause-places : goal.returns-in-Lower-clause-places
 returns-in-Lower-clause-places c =
     let below = c.fill_below in
     rw c.in-Lower.is
     (places_at_ok (lower_is c.args.pattern.now) below.result below.ensures.places)
 
-pub returns-in_ok-both-in-Both-clause-places :
-    goal.returns-in_ok-both-in-Both-clause-places
+pub returns-in_ok-both-in-Both-clause-places : goal.returns-in_ok-both-in-Both-clause-places
 returns-in_ok-both-in-Both-clause-places c =
-    let p = c.args.pattern.now in
     let below = c.fill_below-in-Both in
-    let same = both_is p c.in_ok-transpose-in-Both.field-0 c.in_ok-both-in-Both.both
-    c.in_ok-transpose-in-Both.ensures.transposed c.in_ok-both-in-Both.ensures.places in
+    let both = c.in_ok-both-in-Both in
+    let same = both_is both.both c.in_ok-transpose-in-Both.ensures.transposed both.ensures.places in
     rw c.in-Both.is (places_at_ok same below.result below.ensures.places)

@@ -1,30 +1,21 @@
 use Rattle.std.proofs.Common.{rules}
 use Rattle.sparse_factor.specs.declared.factorization.Triangle.TheVariants.{Upper}
-use Rattle.sparse_factor.specs.Fill.{TriangleBase}
 use Rattle.sparse_factor.proofs.FactorLaws.{stores_fill, stores_walks, stores_diagonal}
 use Rattle.sparse_factor.proofs.FactorLaws.{triangle_low}
 use Rattle.sparse_factor.proofs.factorization.CscSymbolicCholesky.factor_counted.Goals as goal
 
 pub returns-clause-fill : goal.returns-clause-fill
 returns-clause-fill c =
-    let p = c.args.pattern in
-    let l = c.in_ok-l_pattern in
-    stores_fill (TriangleBase Upper p) (triangle_low Upper p) l.l_pattern
-    l.ensures.places l.ensures.valid
+    let l = c.in_ok-l_pattern.ensures in
+    stores_fill l.places l.valid
 
 pub returns-clause-walks : goal.returns-clause-walks
 returns-clause-walks c =
-    let p = c.args.pattern in
-    let l = c.in_ok-l_pattern in
-    stores_walks (TriangleBase Upper p) (triangle_low Upper p) l.l_pattern
-    l.ensures.places l.ensures.valid
+    stores_walks (triangle_low Upper c.args.pattern) c.in_ok-l_pattern.ensures.places
 
 pub returns-clause-diagonal : goal.returns-clause-diagonal
 returns-clause-diagonal c =
-    let p = c.args.pattern in
-    let l = c.in_ok-l_pattern in
-    stores_diagonal (TriangleBase Upper p) (triangle_low Upper p) l.l_pattern
-    l.ensures.places l.ensures.valid
+    stores_diagonal (triangle_low Upper c.args.pattern) c.in_ok-l_pattern.ensures.places
 
 -- ---- written by tools/answer-goals
 

@@ -1,32 +1,20 @@
 use Rattle.std.proofs.Common.{rules}
-use Rattle.sparse_factor.specs.Fill.{TriangleBase}
 use Rattle.sparse_factor.proofs.FactorLaws.{stores_fill, stores_walks, stores_diagonal}
 use Rattle.sparse_factor.proofs.FactorLaws.{triangle_low}
 use Rattle.sparse_factor.proofs.factorization.CscSymbolicCholesky.factor_triangle.Goals as goal
 
 pub returns-clause-fill : goal.returns-clause-fill
 returns-clause-fill c =
-    let p = c.args.pattern in
-    let side = c.args.triangle in
-    let l = c.in_ok-l_pattern in
-    stores_fill (TriangleBase side p) (triangle_low side p) l.l_pattern
-    l.ensures.places l.ensures.valid
+    let l = c.in_ok-l_pattern.ensures in
+    stores_fill l.places l.valid
 
 pub returns-clause-walks : goal.returns-clause-walks
 returns-clause-walks c =
-    let p = c.args.pattern in
-    let side = c.args.triangle in
-    let l = c.in_ok-l_pattern in
-    stores_walks (TriangleBase side p) (triangle_low side p) l.l_pattern
-    l.ensures.places l.ensures.valid
+    stores_walks (triangle_low c.args.triangle c.args.pattern) c.in_ok-l_pattern.ensures.places
 
 pub returns-clause-diagonal : goal.returns-clause-diagonal
 returns-clause-diagonal c =
-    let p = c.args.pattern in
-    let side = c.args.triangle in
-    let l = c.in_ok-l_pattern in
-    stores_diagonal (TriangleBase side p) (triangle_low side p) l.l_pattern
-    l.ensures.places l.ensures.valid
+    stores_diagonal (triangle_low c.args.triangle c.args.pattern) c.in_ok-l_pattern.ensures.places
 
 -- ---- written by tools/answer-goals
 

@@ -52,10 +52,12 @@ loop-column-init g c =
 pub from_offset_and_indices_unchecked-requires : goal.from_offset_and_indices_unchecked-requires
 from_offset_and_indices_unchecked-requires g c =
     let l = c.loop-column in
-    let n = c.major_dim-size.result in
-    let whole : l.column ≡ n = omega (arith, c.loop-column-test.false, l.auto.column-end) in
-    subst (λ k. IsValid (raw_of k n l.columns.offsets.items l.columns.rows.items)) whole
-    l.invariant.merged.built.valid
+    let whole : l.column ≡ c.major_dim-size.result = omega (
+      arith,
+      c.loop-column-test.false,
+      l.auto.column-end,
+    ) in
+    rw whole at l.invariant.merged.built.valid
 
 pub append_column-requires-clause-columns : goal.append_column-requires-clause-columns
 append_column-requires-clause-columns g c = are_columns c.loop-column.invariant.merged
@@ -132,27 +134,30 @@ pub returns-in_err-push-clause-no_more : goal.returns-in_err-push-clause-no_more
 returns-in_err-push-clause-no_more g c =
     steps_within g (goal.at.returns-in_err-push-clause-no_more g c).After-append_column
 
-pub returns : goal.returns
-returns g c =
-    let base = LowerBase c.args.base.now in
+pub returns-clause-places : goal.returns-clause-places
+returns-clause-places g c = λ i j.
     let l = c.loop-column in
     let n = c.major_dim-size.result in
     let are = l.invariant.merged in
     let whole : l.column ≡ n = omega (arith, c.loop-column-test.false, l.auto.column-end) in
-    let is = c.from_offset_and_indices_unchecked.ensures in
-    let all : l.column ≡ c.args.base.now.major_dim = whole ∙ c.major_dim-size.ensures in
-    let last = ap (start_of c.args.base.now) all ∙ c.major_offsets.ensures.valid.last in
-    record {
-      rows = ap (λ (p : Raw). p.minor_dim) is ∙ c.major_dim-size.ensures ∙ c.requires.square;
-      columns = ap (λ (p : Raw). p.major_dim) is ∙ c.major_dim-size.ensures;
-      places = λ i j. all_built n (λ k i. Filled base i k) l.column n
-          c.from_offset_and_indices_unchecked.result l.columns.offsets.items l.columns.rows.items
-          whole is (λ k i f. omega (arith, low_filled base are.low f, filled_within are i k f))
-          are.built j i;
-      valid = subst IsValid (sym is)
-          (subst (λ k. IsValid (raw_of k n l.columns.offsets.items l.columns.rows.items)) whole
-          are.built.valid);
-      all_read = omega (arith, l.invariant.taken.size, last);
-      no_more = λ fill all.
-          omega (arith, taken_within l.column l.invariant.taken fill all, last);
-    }
+    all_built n (λ k i. Filled (LowerBase c.args.base.now) i k) l.column n
+    c.from_offset_and_indices_unchecked.result l.columns.offsets.items l.columns.rows.items
+    whole c.from_offset_and_indices_unchecked.ensures
+    (λ k i f. omega (arith, low_filled _ are.low f, filled_within are i k f)) are.built j i
+
+pub returns-clause-no_more : goal.returns-clause-no_more
+returns-clause-no_more g c = λ fill all.
+    let d = c.args.base.now in
+    let l = c.loop-column in
+    let whole : l.column ≡ d.major_dim = omega (
+      arith,
+      c.loop-column-test.false,
+      l.auto.column-end,
+      c.major_dim-size.ensures,
+    ) in
+    omega (
+      arith,
+      taken_within l.column l.invariant.taken fill all,
+      ap (start_of d) whole,
+      c.major_offsets.ensures.valid.last,
+    )
