@@ -20,6 +20,16 @@ pub reach_none : {nexts : List ℕ} {head m : ℕ} → Reaches nexts head m → 
 reach_none here e = omega arith
 reach_none (next r) e = omega arith
 
+pub reach_first : {nexts : List ℕ} {head k : ℕ} → head ≡ suc k → Reaches nexts head k
+reach_first {nexts} {k = k} e = subst (λ h. Reaches nexts h k) (sym e) here
+
+-- what the link of its head reaches
+pub reach_more : {nexts : List ℕ} {head link k : ℕ} → head ≢ 0
+    → link ≡ slice_index nexts (head - 1) → Reaches nexts link k → Reaches nexts head k
+reach_more {nexts} {head} {k = k} some is r =
+    let e : head ≡ suc (head - 1) = omega (arith, some) in
+    subst (λ h. Reaches nexts h k) (sym e) (next (subst (λ h. Reaches nexts h k) is r))
+
 -- what a list reaches comes before its head
 pub reach_below : {nexts : List ℕ} {head m : ℕ} → AreFalling nexts → Reaches nexts head m → m < head
 reach_below falling here = omega arith

@@ -5,6 +5,7 @@ use Rattle.std.proofs.Common.{length, get_or, append_assoc}
 use Rattle.std.proofs.Common.{take, drop, slice_range, Contains, length-append, ap, sym, ◌∙◌, refl}
 use Rattle.std.proofs.Common.{arith}
 use Rattle.std.specs.List.Sorted.{IsStrictlyIncreasing}
+use Rattle.std.proofs.Math.Nat.{eq-or-lt_of_le}
 use Rattle.std.proofs.lemmas.Grind.{common_steps}
 use Rattle.std.proofs.lemmas.List.{get_or_append_left, get_or-append_right, take-append-le}
 use Rattle.std.proofs.lemmas.List.{drop-append-le, length-drop, get_or_default}
@@ -98,6 +99,12 @@ module _ {xs : List ℕ} {low high : ℕ} (run : IsRun xs low high) where
               is = get_or-run k within ∙ ap (λ p. get_or xs p 0) back ∙ h.is;
             },
       )
+
+  pub run_ordered : (p q : ℕ) → low ≤ p → p ≤ q → q < high → get_or xs p 0 ≤ get_or xs q 0
+  run_ordered p q from le to = elim (eq-or-lt_of_le le) [
+    | inl e ↦ omega (arith, ap (λ r. get_or xs r 0) e)
+    | inr lt ↦ omega (arith, run.rising p q from lt to)
+  ]
 
   -- a part of a run
   pub run_part : (first last : ℕ) → low ≤ first → first ≤ last → last ≤ high → IsRun xs first last

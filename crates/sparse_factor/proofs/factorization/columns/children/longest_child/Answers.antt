@@ -1,6 +1,5 @@
-use Rattle.std.proofs.Common.{◌≡◌, suc, ◌-◌, length, map, slice_index, sym, ◌∙◌, subst, arith}
-use Rattle.sparse_factor.specs.InnerChildren.{Reaches, here, next}
-use Rattle.sparse_factor.proofs.Children.{link_at, column_at}
+use Rattle.std.proofs.Common.{◌≡◌, ◌-◌, length, map, slice_index, sym, ◌∙◌, arith}
+use Rattle.sparse_factor.proofs.Children.{reach_first, reach_more, link_at, column_at}
 use Rattle.sparse_factor.proofs.factorization.columns.children.longest_child.Given.{Over}
 use Rattle.sparse_factor.proofs.factorization.columns.children.longest_child.Goals as goal
 use Rattle.sparse_factor.proofs.factorization.columns.children.longest_child.Goals.{After-get-head}
@@ -11,7 +10,7 @@ pub loop-head-init : goal.loop-head-init
 loop-head-init g c = record {
   within = c.requires.first;
   some = λ ne. ne;
-  reached = λ k e. subst (λ h. Reaches (map g.C.Count.number c.args.nexts.now) h k) (sym e) here;
+  reached = λ k e. reach_first e;
   rest = λ k r. r;
 }
 
@@ -37,28 +36,19 @@ overflow_sub-places g c =
 
 pub loop-head-preserved : goal.loop-head-preserved
 loop-head-preserved g c =
-    let nexts = map g.C.Count.number c.args.nexts.now in
     let l = c.loop-head in
     let inv = l.invariant in
+    let some = c.loop-head-test.true in
     let read = link g (goal.at.loop-head-preserved g c).After-get-head in
-    let head_is : l.head ≡ suc (l.head - 1) = omega (arith, c.loop-head-test.true) in
     record {
-      within = omega (
-        arith,
-        read,
-        c.requires.falling (l.head - 1),
-        inv.within,
-      );
+      within = omega (arith, read, c.requires.falling (l.head - 1), inv.within);
       some = λ ne. elim c.if-most-places.branch [
-        | then-most-places w ↦ λ e. c.loop-head-test.true (sym w.longest-is ∙ e)
+        | then-most-places w ↦ λ e. some (sym w.longest-is ∙ e)
         | else-most-places w ↦ λ e. inv.some ne (sym w.longest-is ∙ e)
       ];
       reached = λ k e. elim c.if-most-places.branch [
-        | then-most-places w ↦
-            let at : l.head ≡ suc k = sym w.longest-is ∙ e in
-            inv.rest k (subst (λ h. Reaches nexts h k) (sym at) here)
+        | then-most-places w ↦ inv.rest k (reach_first (sym w.longest-is ∙ e))
         | else-most-places w ↦ inv.reached k (sym w.longest-is ∙ e)
       ];
-      rest = λ k r. inv.rest k (subst (λ h. Reaches nexts h k) (sym head_is)
-          (next (subst (λ h. Reaches nexts h k) read r)));
+      rest = λ k r. inv.rest k (reach_more some read r);
     }
