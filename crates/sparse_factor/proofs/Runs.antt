@@ -22,45 +22,18 @@ none_in x h = omega (arith, h.1)
 
 -- a strictly increasing list stays so with one of greater numbers after it
 pub rising_append : (xs ys : List ℕ) → IsStrictlyIncreasing xs → IsStrictlyIncreasing ys
-    → ((i j : ℕ) → Contains xs i → Contains ys j → i < j) → IsStrictlyIncreasing (xs ++ ys)
+    → ((x y : ℕ) → Contains xs x → Contains ys y → x < y) → IsStrictlyIncreasing (xs ++ ys)
 rising_append xs ys rx ry below k lt =
-    let n = length xs in
-    let long = length-append xs ys in
-    elim (lt_or_ge (k + 1) n) [
-      | inl inside ↦ omega (
-        arith,
-        get_or_append_left xs ys 0 k (omega arith),
-        get_or_append_left xs ys 0 (k + 1) inside,
-        rx k inside,
-      )
-      | inr past ↦ elim (lt_or_ge k n) [
-        | inl last ↦ omega (
-          arith,
-          get_or_append_left xs ys 0 k last,
-          get_or-append_right xs ys n (k + 1) 0 refl past,
-          below (get_or xs k 0) (get_or ys (k + 1 - n) 0) (Contains-get_or xs k 0 last)
-              (Contains-get_or ys (k + 1 - n) 0 (omega (arith, long))),
-        )
-        | inr behind ↦
-            let e : k + 1 - n ≡ k - n + 1 = omega arith in
-            omega (
-              arith,
-              get_or-append_right xs ys n k 0 refl behind,
-              get_or-append_right xs ys n (k + 1) 0 refl past,
-              ap (λ q. get_or ys q 0) e,
-              ry (k - n) (omega (arith, long)),
-            )
-      ]
-    ]
+    let across = λ (a : k < length xs) (b : 0 < length ys). below (get_or xs k 0) (get_or ys 0 0)
+    (Contains-get_or xs k 0 a) (Contains-get_or ys 0 0 b) in
+    grind (arith, common_steps, length-append xs ys, across, rx k, ry (k - length xs))
 
--- a strictly increasing list stays so with a greater number at its end
+-- or with a greater number
 pub rising_push : (xs : List ℕ) (y : ℕ) → IsStrictlyIncreasing xs
     → ((x : ℕ) → Contains xs x → x < y) → IsStrictlyIncreasing (xs ++ y ∷ [])
-rising_push xs y rx below = rising_append xs (y ∷ []) rx (λ k lt. absurd (omega arith))
-    (λ x z x_in z_in. elim (Contains-push_cases [] y z z_in) [
-      | inl none ↦ absurd (none_in z none)
-      | inr same ↦ omega (arith, same, below x x_in)
-    ])
+rising_push xs y rx below k lt =
+    let last = λ (inside : k < length xs). below (get_or xs k 0) (Contains-get_or xs k 0 inside) in
+    grind (arith, common_steps, last, rx k)
 
 module _ {xs : List ℕ} {low high : ℕ} (run : IsRun xs low high) where
   pub length-run : length (slice_range xs low high) ≡ high - low
@@ -92,19 +65,15 @@ module _ {xs : List ℕ} {low high : ℕ} (run : IsRun xs low high) where
         λ h.
             let k = h.at - low in
             let within : k < length list = omega (arith, h.from, h.to, length-run) in
-            let back : low + k ≡ h.at = omega (arith, h.from) in
             contains_from_has list x record {
               at = k;
               within = within;
-              is = get_or-run k within ∙ ap (λ p. get_or xs p 0) back ∙ h.is;
+              is = grind (arith, get_or-run k within, h.is, h.from);
             },
       )
 
   pub run_ordered : (p q : ℕ) → low ≤ p → p ≤ q → q < high → get_or xs p 0 ≤ get_or xs q 0
-  run_ordered p q from le to = elim (eq-or-lt_of_le le) [
-    | inl e ↦ omega (arith, ap (λ r. get_or xs r 0) e)
-    | inr lt ↦ omega (arith, run.rising p q from lt to)
-  ]
+  run_ordered p q from le to = grind (arith, run.rising p q)
 
   -- a part of a run
   pub run_part : (first last : ℕ) → low ≤ first → first ≤ last → last ≤ high → IsRun xs first last
@@ -122,44 +91,30 @@ module _ {xs : List ℕ} {low high : ℕ} (run : IsRun xs low high) where
   run_kept ys = record {
     ordered = run.ordered;
     inside = omega (arith, run.inside, length-append xs ys);
-    rising = λ p q from lt to. omega (
-      arith,
-      number_kept ys p (omega arith),
-      number_kept ys q to,
-      run.rising p q from lt to,
-    );
+    rising = λ p q from lt to.
+        rw (number_kept ys p (omega arith), number_kept ys q to) (run.rising p q from lt to);
   }
 
   pub slice_kept : (ys : List ℕ) → slice_range (xs ++ ys) low high ≡ slice_range xs low high
   slice_kept ys =
       let inside = run.inside in
       let ordered = run.ordered in
-      ap (take (high - low)) (drop-append-le low xs ys (omega arith))
-      ∙ take-append-le (high - low) (drop low xs) ys (omega (arith, length-drop low xs))
-
--- numbers of a strictly increasing list
-rising_at : (xs : List ℕ) → IsStrictlyIncreasing xs → (p n : ℕ) → p + suc n < length xs
-    → get_or xs p 0 < get_or xs (p + suc n) 0
-rising_at xs rising p zero lt =
-    let e : p + 1 ≡ p + suc zero = omega arith in
-    omega (arith, rising p (omega arith), ap (λ q. get_or xs q 0) e)
-rising_at xs rising p (suc n) lt =
-    let e : p + suc n + 1 ≡ p + suc (suc n) = omega arith in
-    omega (
-      arith,
-      rising_at xs rising p n (omega arith),
-      rising (p + suc n) (omega arith),
-      ap (λ q. get_or xs q 0) e,
-    )
+      grind (arith, common_steps)
 
 -- a strictly increasing list is one run
+rising_at : (xs : List ℕ) → IsStrictlyIncreasing xs → (p q : ℕ) → p < q → q < length xs
+    → get_or xs p 0 < get_or xs q 0
+rising_at xs rising p zero lt to = absurd (omega arith)
+rising_at xs rising p (suc q) lt to = elim (eq-or-lt_of_le {n = p} {m = q} (omega arith)) [
+  | inl e ↦ grind (arith, rising q)
+  | inr before ↦ grind (arith, rising q, rising_at xs rising p q before (omega arith))
+]
+
 pub run_whole : (xs : List ℕ) → IsStrictlyIncreasing xs → IsRun xs 0 (length xs)
 run_whole xs rising = record {
   ordered = omega arith;
   inside = omega arith;
-  rising = λ p q from lt to.
-      let e : p + suc (q - p - 1) ≡ q = omega arith in
-      omega (arith, rising_at xs rising p (q - p - 1) (omega arith), ap (λ r. get_or xs r 0) e);
+  rising = λ p q from. rising_at xs rising p q;
 }
 
 -- a lane is a run, of the indices of its places
