@@ -118,15 +118,7 @@ tail_at {offsets} {rows} {head} {to = to} column start after within same above =
         let (row, below) = subst (λ k. IsInTail offsets rows k i) e h.2 in
         record {
           at = row.at;
-          from = elim (lt_or_ge row.at start) [
-            | inl before ↦ absurd (omega (
-              arith,
-              same row.at (omega (arith, row.from, column.from_is)) before,
-              row.is,
-              below,
-            ))
-            | inr behind ↦ behind
-          ];
+          from = grind (arith, same row.at, row.from, row.is, below, column.from_is);
           to = omega (arith, row.to, column.to_is);
           is = row.is;
         },

@@ -17,7 +17,7 @@ use Rattle.sparse_factor.specs.Walks.{StoresWalks, StoresDiagonal}
 use Rattle.sparse_factor.specs.Fill.{Filled}
 use Rattle.sparse_factor.proofs.FillLaws.{in_fill, filled_in, filled_diagonal, filled_into}
 use Rattle.sparse_factor.proofs.LeastFill.{place_test, place_is}
-use Rattle.sparse_factor.proofs.Sums.{both_ways}
+use Rattle.sparse_factor.proofs.Sums.{both_ways, other_way}
 use Rattle.sparse_factor.proofs.WalkLaws.{filled_walk}
 
 pub stores_fill : {base : ℕ → ℕ → Type 0} {t : Raw} → ((i j : ℕ) → IsPlace t j i ↔ Filled base i j)
@@ -46,26 +46,14 @@ triangle_low Both p i j (inr b) = b.1
 
 pub upper_is : {p t : Raw} → IsTransposedPattern p t → (i j : ℕ)
     → LowerBase t i j ↔ TriangleBase Upper p i j
-upper_is is i j = (
-  λ b. ((is.places i j).0 b.0, b.1),
-  λ b. ((is.places i j).1 b.0, b.1),
-)
+upper_is is i j = let same = is.places i j in search rules
 
 pub lower_is : (p : Raw) (i j : ℕ) → LowerBase p i j ↔ TriangleBase Lower p i j
 lower_is p i j = (λ b. b, λ b. b)
 
 pub both_is : {p t : Raw} (u : Raw) → IsTransposedPattern p t → IsUnionOf u p t → (i j : ℕ)
     → LowerBase u i j ↔ TriangleBase Both p i j
-both_is u is union i j = (
-  λ b. elim ((union j i).0 b.0) [
-    | inl lower ↦ inr (lower, b.1)
-    | inr upper ↦ inl ((is.places i j).0 upper, b.1)
-  ],
-  λ b. elim b [
-    | inl upper ↦ ((union j i).1 (inr ((is.places i j).1 upper.0)), upper.1)
-    | inr lower ↦ ((union j i).1 (inl lower.0), lower.1)
-  ],
-)
+both_is u is union i j = let same = is.places i j in let has = union j i in search rules
 
 -- bases with the same pairs have the same fill
 module _ {a b : ℕ → ℕ → Type 0} (same : (i j : ℕ) → a i j ↔ b i j) where
@@ -100,10 +88,7 @@ module _ (triangle : Triangle) (s t : Symbolic) (input : s.input ≡ t.input)
       record {
         major_dim = a.columns ∙ ap (λ d. d.major_dim) input ∙ sym b.columns;
         minor_dim = a.rows ∙ ap (λ d. d.minor_dim) input ∙ sym b.rows;
-        places = λ j i. (
-          λ h. (b.fill i j).1 ((fill i j).0 h),
-          λ h. (fill i j).1 ((b.fill i j).0 h),
-        );
+        places = λ j i. both_ways (fill i j) (other_way (b.fill i j));
       }
 
   pub factors_equal : IsTrue (symbolic_eq s t)

@@ -11,6 +11,17 @@ use Rattle.sparse_factor.proofs.FillLaws.{IsParent}
 use Rattle.sparse_factor.proofs.Children.{reach_cases, reach_kept}
 use Rattle.sparse_factor.proofs.AppendedColumns.{IsAppended}
 use Rattle.sparse_factor.proofs.Merged.{AreMerged}
+use Rattle.sparse_factor.proofs.Sums.{both_ways}
+
+-- a condition that fails at the number j
+not_at : {P : Type 0} (j k : ℕ) → (k ≡ j → P → ⊥) → ((k < j) × P) ↔ ((k < j + 1) × P)
+not_at j k fails = (
+  λ h. (omega (arith, h.0), h.1),
+  λ h. elim (lt_add_one_cases k j h.0) [
+    | inl before ↦ (before, h.1)
+    | inr e ↦ absurd (fails e h.1)
+  ],
+)
 
 module _ {base : ℕ → ℕ → Type 0} {n : ℕ} {offsets rows firsts nexts : List ℕ} {j : ℕ}
     {offsets' rows' lane : List ℕ} (are : AreMerged base n offsets rows firsts nexts j) (lt : j < n)
@@ -32,18 +43,12 @@ module _ {base : ℕ → ℕ → Type 0} {n : ℕ} {offsets rows firsts nexts : 
           | inl before ↦ are.parents k q before below f
           | inr e ↦ absurd (omega (arith, e, last q (subst (Filled base q) e f)))
         ];
-        listed = λ k p. (
-          λ r. let is = (are.listed k p).0 r in (omega (arith, is.0), is.1),
-          λ h. elim (lt_add_one_cases k j h.0) [
-            | inl before ↦ (are.listed k p).1 (before, h.1)
-            | inr e ↦ absurd (omega (
-              arith,
-              e,
-              h.1.above,
-              last p (subst (Filled base p) e h.1.filled),
-            ))
-          ],
-        );
+        listed = λ k p. both_ways (are.listed k p) (not_at j k (λ e is. omega (
+          arith,
+          e,
+          is.above,
+          last p (subst (Filled base p) e is.filled),
+        )));
       }
 
   -- p is its first row below the diagonal
@@ -86,10 +91,7 @@ module _ {base : ℕ → ℕ → Type 0} {n : ℕ} {offsets rows firsts nexts : 
     next_other k ne = get_or-set_other nexts j k head 0 ne
 
     falling' : AreFalling nexts'
-    falling' k = elim (cases_eq k j) [
-      | inl e ↦ omega (arith, e, ap (slice_index nexts') e, next_at, are.heads p)
-      | inr ne ↦ omega (arith, next_other k ne, are.falling k)
-    ]
+    falling' k = grind (arith, next_at, next_other k, are.heads p, are.falling k)
 
     -- the lists of columns before j are kept
     kept : (h k : ℕ) → h ≤ j → Reaches nexts' h k ↔ Reaches nexts h k
@@ -121,13 +123,8 @@ module _ {base : ℕ → ℕ → Type 0} {n : ℕ} {offsets rows firsts nexts : 
     listed_there : (k q : ℕ) → q ≢ p
         → Reaches nexts' (slice_index firsts q) k ↔ ((k < j + 1) × IsParent base k q)
     listed_there k q ne =
-        let same = kept (slice_index firsts q) k (are.heads q) in (
-          λ r. let was = (are.listed k q).0 (same.0 r) in (omega (arith, was.0), was.1),
-          λ h. elim (lt_add_one_cases k j h.0) [
-            | inl before ↦ same.1 ((are.listed k q).1 (before, h.1))
-            | inr e ↦ absurd (ne (one_parent q (rw e at h.1)))
-          ],
-        )
+        both_ways (kept (slice_index firsts q) k (are.heads q)) (both_ways (are.listed k q)
+        (not_at j k (λ e is. ne (one_parent q (rw e at is)))))
 
     merged_more : AreMerged base n offsets' rows' firsts' nexts' (j + 1)
     merged_more = record {
@@ -137,10 +134,7 @@ module _ {base : ℕ → ℕ → Type 0} {n : ℕ} {offsets rows firsts nexts : 
       first_count = length-set firsts p (j + 1) ∙ are.first_count;
       next_count = length-set nexts j head ∙ are.next_count;
       falling = falling';
-      heads = λ q. elim (cases_eq q p) [
-        | inl e ↦ omega (arith, ap (slice_index firsts') e, first_at)
-        | inr ne ↦ omega (arith, first_other q ne, are.heads q)
-      ];
+      heads = λ q. grind (arith, first_at, first_other q, are.heads q);
       parents = λ k q early below f. elim (lt_add_one_cases k j early) [
         | inl before ↦ are.parents k q before below f
         | inr e ↦ (p, rw e is_parent)

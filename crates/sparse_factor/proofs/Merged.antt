@@ -2,7 +2,8 @@
 use Rattle.std.proofs.Common.{◌≡◌, ℕ, ◌<◌, ◌≤◌, ◌⊎◌, inl, inr, ◌↔◌}
 use Rattle.std.proofs.Common.{List, [], ◌∷◌, length, slice_index, Contains, replicate}
 use Rattle.std.proofs.Common.{map, get_or, refl, ap, ◌∙◌, arith}
-use Rattle.std.proofs.lemmas.List.{get_or_past, get_or-replicate, length-map, length-replicate}
+use Rattle.std.proofs.lemmas.Grind.{common_steps}
+use Rattle.std.proofs.lemmas.List.{length-map, length-replicate}
 use Rattle.sparse_algebra.proofs.Cases.{lt_or_ge}
 use Rattle.sparse_pattern.specs.Raw.{raw_of}
 use Rattle.sparse_pattern.proofs.BuiltLanes.{IsBuilt}
@@ -30,10 +31,7 @@ pub record AreMerged (base : ℕ → ℕ → Type 0) (n : ℕ) (offsets rows fir
   pub listed : (k p : ℕ) → Reaches nexts (slice_index firsts p) k ↔ ((k < j) × IsParent base k p)
 
 pub zero_at : (n k : ℕ) → slice_index (replicate n 0) k ≡ 0
-zero_at n k = elim (lt_or_ge k n) [
-  | inl inside ↦ get_or-replicate n k 0 0 inside
-  | inr past ↦ get_or_past (replicate n 0) k 0 (omega (arith, length-replicate {A = ℕ} n 0))
-]
+zero_at n k = grind (arith, common_steps, length-replicate {A = ℕ} n 0)
 
 pub none_merged : {base : ℕ → ℕ → Type 0} {n : ℕ} {firsts nexts : List ℕ}
     → ((i k : ℕ) → base i k → k ≤ i) → ((i k : ℕ) → base i k → i < n)

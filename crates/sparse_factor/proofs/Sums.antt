@@ -7,6 +7,14 @@ both_ways a b = search rules
 pub other_way : {A B : Type 0} → A ↔ B → B ↔ A
 other_way a = (a.1, a.0)
 
+-- a part of the whole grows by what does not have the property, or has it
+pub part_passed : {A B E M P : Type 0} → A ↔ (B × P) → M ↔ (B ⊎ E) → (E → P → ⊥) → A ↔ (M × P)
+part_passed before part fails = search rules
+
+pub part_taken : {W A B E M P : Type 0} → W ↔ (A ⊎ E) → A ↔ (B × P) → M ↔ (B ⊎ E) → (E → P)
+    → W ↔ (M × P)
+part_taken whole before part holds = search rules
+
 -- the same condition in the second place
 pub in_second : {A B C D : Type 0} → A ↔ (B ⊎ C) → C ↔ D → A ↔ (B ⊎ D)
 in_second a c = search rules

@@ -1,6 +1,6 @@
 -- A column from the tails of its children, the longest by its run and the others taken up.
 use Rattle.std.proofs.Common.{◌≡◌, ◌≢◌, ℕ, suc, ◌+◌, ◌-◌, ◌⊎◌, inl, inr, ◌↔◌, List, Contains}
-use Rattle.std.proofs.Common.{slice_range, subst, arith}
+use Rattle.std.proofs.Common.{slice_range, subst, rules, arith}
 use Rattle.std.proofs.lemmas.Bool.{cases_eq}
 use Rattle.sparse_pattern.specs.InnerGainedLanes.{GainsLane}
 use Rattle.sparse_factor.specs.InnerColumns.{IsInRun, IsInColumn}
@@ -17,10 +17,7 @@ gains_same same gains = record {
   lane = gains.lane;
   pushed = gains.pushed;
   rising = gains.rising;
-  holds = λ i. (
-    λ h. (same i).0 ((gains.holds i).0 h),
-    λ h. (gains.holds i).1 ((same i).1 h),
-  );
+  holds = λ i. both_ways (gains.holds i) (same i);
 }
 
 -- the rows of the tail of a column, as a list
@@ -77,7 +74,7 @@ module _ {offsets rows nexts : List ℕ} {first longest from to : ℕ}
       | inl in_run ↦
           let (k, e, is_in) = (tail.has i).0 in_run in
           inl (k, reached k e, is_in)
-      | inr in_list ↦ elim (others.sound i in_list) [ inl mine ↦ inr mine | inr other ↦ inl other ]
+      | inr in_list ↦ let was = others.sound i in_list in search rules
     ],
     λ h. elim h [
       | inl is ↦
