@@ -59,9 +59,9 @@ both_is u is union i j = let same = is.places i j in let has = union j i in sear
 module _ {a b : ℕ → ℕ → Type 0} (same : (i j : ℕ) → a i j ↔ b i j) where
   places_same : (l : Raw) → ((i j : ℕ) → IsPlace l j i ↔ Filled a i j) → (i j : ℕ)
       → IsPlace l j i ↔ Filled b i j
-  places_same l is i j = (
-    λ h. filled_into (λ i j x. (same i j).0 x) ((is i j).0 h),
-    λ f. (is i j).1 (filled_into (λ i j x. (same i j).1 x) f),
+  places_same l is i j = both_ways (is i j) (
+    filled_into (λ i j. (same i j).0),
+    filled_into (λ i j. (same i j).1),
   )
 
   pub places_at_ok : {E : Type 0} (r : Result Raw E)

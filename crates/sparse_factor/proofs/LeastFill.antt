@@ -1,6 +1,6 @@
 -- The fill of a base that a test decides: it is decided by a test too, and so is the least set.
 use Rattle.std.proofs.Common.{ℕ, zero, suc, ◌+◌, ◌<◌, ◌≤◌, ◌↔◌, inl, inr, Bool, false}
-use Rattle.std.proofs.Common.{IsTrue, ◌&&◌, ◌||◌, ltb, arith}
+use Rattle.std.proofs.Common.{IsTrue, ◌&&◌, ◌||◌, ltb, rules, arith}
 use Rattle.std.proofs.Math.Dec.{eqb}
 use Rattle.std.specs.Set.{is_member}
 use Rattle.std.proofs.lemmas.Bool.{ltb-true, lt-ltb}
@@ -15,6 +15,16 @@ use Rattle.sparse_factor.specs.declared.factorization.Triangle.{Triangle}
 use Rattle.sparse_factor.specs.declared.factorization.Triangle.TheVariants.{Upper, Lower, Both}
 use Rattle.sparse_factor.specs.Fill.{Filled, given, fill, InFill, TriangleBase}
 use Rattle.sparse_factor.proofs.FillLaws.{in_fill, filled_in}
+use Rattle.sparse_factor.proofs.Sums.{both_ways}
+
+and_is : (b c : Bool) → IsTrue (b && c) ↔ (IsTrue b × IsTrue c)
+and_is b c = (and_parts b c, λ both. and_both b c both.0 both.1)
+
+le_is : (j i : ℕ) → IsTrue (ltb j (i + 1)) ↔ (j ≤ i)
+le_is j i = (
+  λ yes. omega (arith, ltb-true j (i + 1) yes),
+  λ le. lt-ltb j (i + 1) (omega arith),
+)
 
 module _ (base : ℕ → ℕ → Type 0) (has : ℕ → ℕ → Bool)
     (tied : (i j : ℕ) → IsTrue (has i j) ↔ base i j) where
@@ -70,14 +80,14 @@ place_test p i j = ltb i p.major_dim && is_member eqb (lane_of p i) j
 pub place_is : (p : Raw) → IsValid p → (i j : ℕ) → IsTrue (place_test p i j) ↔ IsPlace p i j
 unfolding place_test
 place_is p valid i j =
-    let d = is_member-Decides Decides-eqb (lane_of p i) j in (
-      λ yes.
-          let (lane, has) = and_parts (ltb i p.major_dim) (is_member eqb (lane_of p i) j) yes in
-          (lane_has p valid i j (ltb-true i p.major_dim lane)).0 (d.0 has),
+    both_ways (and_is (ltb i p.major_dim) (is_member eqb (lane_of p i) j)) (
+      λ yes. (lane_has p valid i j (ltb-true i p.major_dim yes.0)).0
+          ((is_member-Decides Decides-eqb (lane_of p i) j).0 yes.1),
       λ place.
-          let lane = place.in_lane.lane in
-          and_both (ltb i p.major_dim) (is_member eqb (lane_of p i) j)
-          (lt-ltb i p.major_dim lane) (d.1 ((lane_has p valid i j lane).1 place)),
+          let lane = place.in_lane.lane in (
+            lt-ltb i p.major_dim lane,
+            (is_member-Decides Decides-eqb (lane_of p i) j).1 ((lane_has p valid i j lane).1 place),
+          ),
     )
 
 -- and for a place and a number that is not greater than another
@@ -88,13 +98,10 @@ low_is : (p : Raw) → IsValid p → (a b i j : ℕ)
     → IsTrue (low_test p a b i j) ↔ (IsPlace p a b × (j ≤ i))
 unfolding low_test
 low_is p valid a b i j =
-    let is = place_is p valid a b in (
-      λ yes.
-          let (place, low) = and_parts (place_test p a b) (ltb j (i + 1)) yes in
-          (is.0 place, omega (arith, ltb-true j (i + 1) low)),
-      λ h. and_both (place_test p a b) (ltb j (i + 1)) (is.1 h.0)
-          (lt-ltb j (i + 1) (omega (arith, h.1))),
-    )
+    let both = and_is (place_test p a b) (ltb j (i + 1)) in
+    let place = place_is p valid a b in
+    let low = le_is j i in
+    search rules
 
 abbrev triangle_test : Triangle → Raw → ℕ → ℕ → Bool
 triangle_test Upper p i j = low_test p i j i j
@@ -106,17 +113,14 @@ triangle_is : (triangle : Triangle) (p : Raw) → IsValid p → (i j : ℕ)
 triangle_is Upper p valid i j = low_is p valid i j i j
 triangle_is Lower p valid i j = low_is p valid j i i j
 triangle_is Both p valid i j =
-    let upper = low_test p i j i j in
-    let lower = low_test p j i i j in (
-      λ yes. elim (or_cases upper lower yes) [
-        | inl u ↦ inl ((low_is p valid i j i j).0 u)
-        | inr l ↦ inr ((low_is p valid j i i j).0 l)
-      ],
-      λ b. elim b [
-        | inl u ↦ or_left upper lower ((low_is p valid i j i j).1 u)
-        | inr l ↦ or_right upper lower ((low_is p valid j i i j).1 l)
-      ],
-    )
+    let up = low_test p i j i j in
+    let down = low_test p j i i j in
+    let cases = or_cases up down in
+    let left = or_left up down in
+    let right = or_right up down in
+    let upper = low_is p valid i j i j in
+    let lower = low_is p valid j i i j in
+    search rules
 
 pub triangle_same : (triangle : Triangle) (p : Raw) → IsValid p → (i j : ℕ)
     → Filled (TriangleBase triangle p) i j ↔ InFill (TriangleBase triangle p) i j

@@ -39,7 +39,7 @@ module _ {xs : List ℕ} {low high : ℕ} (run : IsRun xs low high) where
   pub length-run : length (slice_range xs low high) ≡ high - low
   length-run = length-between xs low high run.inside
 
-  pub get_or-run : (k : ℕ) → k < length (slice_range xs low high)
+  get_or-run : (k : ℕ) → k < length (slice_range xs low high)
       → get_or (slice_range xs low high) k 0 ≡ get_or xs (low + k) 0
   get_or-run k lt =
       let room : k < high - low = omega (arith, length-run) in
@@ -102,7 +102,7 @@ module _ {xs : List ℕ} {low high : ℕ} (run : IsRun xs low high) where
       grind (arith, common_steps)
 
 -- a strictly increasing list is one run
-rising_at : (xs : List ℕ) → IsStrictlyIncreasing xs → (p q : ℕ) → p < q → q < length xs
+pub rising_at : (xs : List ℕ) → IsStrictlyIncreasing xs → (p q : ℕ) → p < q → q < length xs
     → get_or xs p 0 < get_or xs q 0
 rising_at xs rising p zero lt to = absurd (omega arith)
 rising_at xs rising p (suc q) lt to = elim (eq-or-lt_of_le {n = p} {m = q} (omega arith)) [

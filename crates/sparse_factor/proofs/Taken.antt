@@ -11,7 +11,7 @@ use Rattle.sparse_factor.specs.InnerColumns.{IsRun, IsInRun}
 use Rattle.sparse_factor.specs.InnerTaken.{HasTaken}
 use Rattle.sparse_factor.proofs.DistinctLists.{all_pairs_append}
 use Rattle.sparse_factor.proofs.Pairs.{pair, same_pair, pair_laws}
-use Rattle.sparse_factor.proofs.Runs.{length-run, get_or-run, run_has}
+use Rattle.sparse_factor.proofs.Runs.{length-run, rising_at, rising_run, run_has}
 
 pub none_taken : (In : ℕ → ℕ → Type 0) (n : ℕ) → HasTaken In n n
 none_taken In n = record {
@@ -86,17 +86,11 @@ module _ {xs : List ℕ} {low high : ℕ} (run : IsRun xs low high) (k : ℕ) wh
   rows_once : AllPairs (λ x y. x ≢ y) (in_column k rows)
   rows_once a b d lt within same =
       let inside : b < length rows = omega (arith, within, length-map rows (λ i. pair i k)) in
-      let left = get_or-map (λ i. pair i k) rows a 0 d (omega arith) in
-      let right = get_or-map (λ i. pair i k) rows b 0 d inside in
-      let e : get_or rows a 0 ≡ get_or rows b 0 = ap (λ p. p.0) (sym left ∙ same ∙ right) in
-      omega (
-        arith,
-        e,
-        get_or-run run a (omega arith),
-        get_or-run run b inside,
-        run.rising (low + a) (low + b) (omega arith) (omega arith)
-            (omega (arith, length-run run)),
-      )
+      let read = λ (c : ℕ) (near : c < length rows). get_or-map (λ i. pair i k) rows c 0 d near in
+      let e : get_or rows a 0 ≡ get_or rows b 0 =
+      ap (λ p. p.0) (sym (read a (omega arith)) ∙ same ∙ read b inside) in
+      let rise = rising_at rows (rising_run run) a b lt inside in
+      omega (arith, e, rise)
 
   pub run_taken : {old new : ℕ} → new ≡ old + (high - low)
       → HasTaken (λ i j. (j ≡ k) × IsInRun xs low high i) old new

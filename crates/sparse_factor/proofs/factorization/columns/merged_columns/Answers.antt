@@ -40,11 +40,7 @@ loop-column-init g c =
         ap length c.in_ok-zeros.ensures,
         length-replicate {A = ℕ} n 0,
       );
-      marks = λ i. omega (
-        arith,
-        ap (λ xs. slice_index xs i) c.in_ok-zeros.ensures,
-        zero_at n i,
-      );
+      marks = rw c.in_ok-zeros.ensures (λ i. omega (arith, zero_at n i));
       taken = taken_later 0 (none_taken _ c.args.steps.now)
           (omega (arith, c.major_offsets.ensures.valid.first)) (omega arith);
     }

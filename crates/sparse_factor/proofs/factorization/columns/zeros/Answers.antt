@@ -1,4 +1,4 @@
-use Rattle.std.proofs.Common.{◌≡◌, ◌<◌, length, map, replicate, ℕ, refl, ap, arith}
+use Rattle.std.proofs.Common.{◌≡◌, ◌<◌, length, map, replicate, ℕ, refl, sym, arith}
 use Rattle.std.proofs.lemmas.Grind.{same_number_lists}
 use Rattle.std.proofs.lemmas.List.{length-map, length-replicate, get_or-map, get_or-replicate}
 use Rattle.sparse_factor.proofs.factorization.columns.zeros.Goals as goal
@@ -16,12 +16,7 @@ returns g c =
     same_number_lists (map f xs) (replicate c.args.size 0)
     (omega (arith, length-map xs f, size, length-replicate {A = ℕ} c.args.size 0)) (λ k lt.
     let inside : k < length xs = omega (arith, length-map xs f) in
-    let zero = zeros k c.of.result refl (omega (arith, c.in_ok-zeros.ensures.len))
-    (omega (arith, size)) in
-    omega (
-      arith,
-      get_or-map f xs k c.of.result 0 inside,
-      ap f zero,
-      c.of.ensures,
-      get_or-replicate {A = ℕ} c.args.size k 0 0 (omega (arith, size)),
-    ))
+    let room = c.in_ok-zeros.ensures.len in
+    let zero = zeros k c.of.result refl (omega (arith, room)) (omega (arith, size)) in
+    rw (get_or-map f xs k c.of.result 0 inside, zero, c.of.ensures)
+    (sym (get_or-replicate {A = ℕ} c.args.size k 0 0 (omega (arith, size)))))
