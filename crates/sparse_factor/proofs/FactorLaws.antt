@@ -15,7 +15,7 @@ use Rattle.sparse_factor.specs.Fill.{InFill, LowerBase, TriangleBase, StoresByCo
 use Rattle.sparse_factor.specs.Symbolic.{Symbolic, symbolic_eq, IsFactorOf}
 use Rattle.sparse_factor.specs.Walks.{StoresWalks, StoresDiagonal}
 use Rattle.sparse_factor.specs.Fill.{Filled}
-use Rattle.sparse_factor.proofs.FillLaws.{in_fill, filled_in, filled_diagonal, filled_into}
+use Rattle.sparse_factor.proofs.FillLaws.{in_fill, filled_in, filled_diagonal, filled_into, in_fill_into}
 use Rattle.sparse_factor.proofs.LeastFill.{place_test, place_is}
 use Rattle.sparse_factor.proofs.Sums.{both_ways, other_way}
 use Rattle.sparse_factor.proofs.WalkLaws.{filled_walk}
@@ -71,8 +71,7 @@ module _ {a b : ℕ → ℕ → Type 0} (same : (i j : ℕ) → a i j ↔ b i j)
   places_at_ok (Err e) is = tt
 
   pub lists_same : (fill : List (ℕ × ℕ)) → ListsFill b fill → ListsFill a fill
-  lists_same fill all i j h =
-      all i j (λ set closed holds. h set closed (λ i j x. holds i j ((same i j).0 x)))
+  lists_same fill all i j h = all i j (in_fill_into (λ i j. (same i j).0) i j h)
 
 -- ---- one factor
 

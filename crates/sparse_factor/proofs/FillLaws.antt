@@ -30,6 +30,10 @@ pub filled_into : {a b : ℕ → ℕ → Type 0} → ((i j : ℕ) → a i j → 
 filled_into into (given {i} {j} x) = given (into i j x)
 filled_into into (fill p q lt le) = fill (filled_into into p) (filled_into into q) lt le
 
+pub in_fill_into : {a b : ℕ → ℕ → Type 0} → ((i j : ℕ) → a i j → b i j) → (i j : ℕ) → InFill a i j
+    → InFill b i j
+in_fill_into into i j h set closed holds = h set closed (λ i j x. holds i j (into i j x))
+
 module _ (base : ℕ → ℕ → Type 0) (low : (i j : ℕ) → base i j → j ≤ i) where
   pub low_filled : {i j : ℕ} → Filled base i j → j ≤ i
   low_filled (given {i} {j} b) = low i j b
@@ -42,7 +46,7 @@ module _ (base : ℕ → ℕ → Type 0) (low : (i j : ℕ) → base i j → j �
   ]
 
   pub filled_diagonal : (j : ℕ) → Filled base j j ↔ ((r : ℕ) × base j r)
-  filled_diagonal j = ((λ f. row_base f), (λ b. diagonal j b.0 b.1))
+  filled_diagonal j = (row_base, λ b. diagonal j b.0 b.1)
 
 -- p is the least row of column k below the diagonal
 pub record IsParent (base : ℕ → ℕ → Type 0) (k p : ℕ) : Type 0 where

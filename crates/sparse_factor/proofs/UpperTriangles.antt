@@ -15,8 +15,10 @@ use Rattle.sparse_factor.specs.Fill.{InFill, UpperBase, StoresByColumns}
 use Rattle.sparse_factor.specs.Factorisations.{IsFactorisation, plain_symmetric, plain_upper}
 use Rattle.sparse_factor.specs.Factors.{symmetric_of}
 use Rattle.sparse_factor.specs.InnerFactors.{ArePartFactors}
+use Rattle.sparse_factor.proofs.FillLaws.{in_fill_into}
 use Rattle.sparse_factor.proofs.FilledSets.{has_place, place_has}
 use Rattle.sparse_factor.proofs.FillPatterns.{is_le, le_is}
+use Rattle.sparse_factor.proofs.Sums.{both_ways}
 
 by_test : (R : CommRing) (b c : Bool) (v : R.Carrier) → c ≡ true → (b ≡ false → v ≡ R.zero)
     → where_true R (b && c) v ≡ v
@@ -107,9 +109,5 @@ module _ (R : CommRing) {T : Type 0} (f : T → R.Carrier) (a b : Compressed T) 
 
   pub same_fill : (p : Raw) → StoresByColumns (InFill (UpperBase a.pattern)) p
       → StoresByColumns (InFill (UpperBase b.pattern)) p
-  same_fill p stores i j = (
-    λ place set closed holds. (stores i j).0 place set closed
-        (λ c r base. holds c r (to_b c r base)),
-    λ fill. (stores i j).1 (λ set closed holds. fill set closed
-        (λ c r base. holds c r (to_a c r base))),
-  )
+  same_fill p stores i j =
+      both_ways (stores i j) (in_fill_into to_b i j, in_fill_into to_a i j)

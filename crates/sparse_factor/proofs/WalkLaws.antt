@@ -1,13 +1,12 @@
 -- The fill of a base, by walks.
 use Rattle.std.proofs.Common.{◌≡◌, ℕ, zero, suc, ◌<◌, ◌≤◌, ◌⊎◌, ◌↔◌, inl, inr, refl, sym, subst}
-use Rattle.std.proofs.Common.{arith}
+use Rattle.std.proofs.Common.{rules, arith}
 use Rattle.std.proofs.Math.Nat.{eq-or-lt_of_le}
 use Rattle.sparse_factor.specs.Walks.{Joined, Walk, edge, step}
 use Rattle.sparse_factor.specs.Fill.{Filled, given, fill}
 
 joined_back : (base : ℕ → ℕ → Type 0) (i j : ℕ) → Joined base i j → Joined base j i
-joined_back base i j (inl b) = inr b
-joined_back base i j (inr b) = inl b
+joined_back base i j joined = search rules
 
 pub walk_wider : {base : ℕ → ℕ → Type 0} {m i j : ℕ} → (n : ℕ) → m ≤ n → Walk base m i j
     → Walk base n i j
@@ -48,17 +47,13 @@ module _ (base : ℕ → ℕ → Type 0) (low : (i j : ℕ) → base i j → j �
       walk_join (walk_wider j (omega arith) (walk_of p)) j lt
       (walk_back (walk_wider j (omega arith) (walk_of q)))
 
-  transposed : (i j : ℕ) → i ≡ j → base i j → base j i
-  transposed i j e b = subst (λ x. base x i) e (subst (λ x. base i x) (sym e) b)
+  turned : (i j : ℕ) → base i j → i ≤ j → Filled base j i
+  turned i j b le = let e : i ≡ j = omega (arith, low i j b) in rw e (given (rw e at b))
 
   joined_filled : (i j : ℕ) → Joined base i j → (j ≤ i → Filled base i j)
       × (i ≤ j → Filled base j i)
-  joined_filled i j (inl b) =
-      let l : j ≤ i = low i j b in
-      ((λ h. given b), (λ h. let e : i ≡ j = omega arith in given (transposed i j e b)))
-  joined_filled i j (inr b) =
-      let l : i ≤ j = low j i b in
-      ((λ h. let e : j ≡ i = omega arith in given (transposed j i e b)), (λ h. given b))
+  joined_filled i j (inl b) = (λ h. given b, turned i j b)
+  joined_filled i j (inr b) = (turned j i b, λ h. given b)
 
   -- the ends of a walk whose inner nodes are below both are a place of the fill
   pub walk_any : (m i j : ℕ) → m ≤ i → m ≤ j → Walk base m i j → (j ≤ i → Filled base i j)
@@ -78,4 +73,4 @@ module _ (base : ℕ → ℕ → Type 0) (low : (i j : ℕ) → base i j → j �
   -- a place of the fill is a walk from its row to its column with the inner nodes below the column,
   -- and conversely
   pub filled_walk : (i j : ℕ) → j ≤ i → Filled base i j ↔ Walk base j i j
-  filled_walk i j le = ((λ f. walk_of f), (λ w. (walk_any j i j le (omega arith) w).0 le))
+  filled_walk i j le = (walk_of, λ w. (walk_any j i j le (omega arith) w).0 le)

@@ -1,7 +1,6 @@
 mod ColumnReads
 use Rattle.std.proofs.Common.{◌≡◌, ℕ, ◌+◌, ◌<◌, ◌≤◌, length, map, slice_index}
-use Rattle.std.proofs.Common.{inl, inr, refl, subst, sym, ap, ◌∙◌, arith}
-use Rattle.std.proofs.lemmas.Bool.{cases_eq}
+use Rattle.std.proofs.Common.{◌≢◌, refl, ap, ◌∙◌, arith}
 use Rattle.std.proofs.lemmas.List.{length-map, length-replicate}
 use Rattle.sparse_pattern.specs.Raw.{Raw, raw_of, start_of, IsValid}
 use Rattle.sparse_pattern.proofs.BuiltLanes.{all_built, place_within}
@@ -81,16 +80,9 @@ hand_on-requires-clause-parent g c =
     let l = c.loop-column in
     let p = c.first_below-parent.result in
     let column = appended g (goal.at.hand_on-requires-clause-parent g c).After-deref in
-    let parent : p < c.major_dim-size.result = elim (cases_eq p 0) [
-      | inl e ↦ omega (arith, e, c.loop-column-test.true)
-      | inr ne ↦ column.within p (c.first_below-parent.ensures.some ne).stored
-    ] in
-    omega (
-      arith,
-      length-map l.firsts g.C.Count.number,
-      l.invariant.merged.first_count,
-      parent,
-    )
+    let inside = λ (some : p ≢ 0). column.within p (c.first_below-parent.ensures.some some).stored in
+    let long = length-map l.firsts g.C.Count.number in
+    grind (arith, long, l.invariant.merged.first_count, inside, c.loop-column-test.true)
 
 pub loop-column-preserved : goal.loop-column-preserved
 loop-column-preserved g c =
