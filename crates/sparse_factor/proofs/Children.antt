@@ -1,9 +1,8 @@
 -- Lists of columns whose links fall.
 use Rattle.std.proofs.Common.{◌≡◌, ◌≢◌, ℕ, suc, ◌+◌, ◌-◌, ◌<◌, ◌≤◌, inl, inr, ◌⊎◌, List}
 use Rattle.std.proofs.Common.{slice_index}
-use Rattle.std.proofs.Common.{◌↔◌, length, map, get_or, refl, sym, ap, ◌∙◌, subst, arith}
+use Rattle.std.proofs.Common.{length, map, get_or, refl, sym, ap, ◌∙◌, subst, arith}
 use Rattle.std.proofs.lemmas.List.{get_or-map, get_or_default}
-use Rattle.sparse_algebra.proofs.Cases.{lt_or_ge}
 use Rattle.sparse_factor.specs.InnerColumns.{IsRun, IsInTail, AreColumns}
 use Rattle.sparse_factor.specs.InnerChildren.{Reaches, here, next, AreFalling, IsTailRun}
 use Rattle.sparse_factor.proofs.Runs.{run_part}

@@ -4,7 +4,6 @@ use Rattle.std.proofs.Common.{List, [], ◌∷◌, length, slice_index, Contains
 use Rattle.std.proofs.Common.{map, get_or, refl, ap, ◌∙◌, arith}
 use Rattle.std.proofs.lemmas.Grind.{common_steps}
 use Rattle.std.proofs.lemmas.List.{length-map, length-replicate}
-use Rattle.sparse_algebra.proofs.Cases.{lt_or_ge}
 use Rattle.sparse_pattern.specs.Raw.{raw_of}
 use Rattle.sparse_pattern.proofs.BuiltLanes.{IsBuilt}
 use Rattle.sparse_pattern.proofs.Positions.{indices_below}

@@ -2,16 +2,15 @@
 use Rattle.std.proofs.Common.{◌≡◌, ℕ, zero, suc, ◌+◌, ◌-◌, ◌<◌, ◌≤◌}
 use Rattle.std.proofs.Common.{inl, inr, ◌↔◌, List, [], ◌∷◌, ◌++◌}
 use Rattle.std.proofs.Common.{length, get_or, append_assoc}
-use Rattle.std.proofs.Common.{take, drop, slice_range, Contains, length-append, ap, sym, ◌∙◌, refl}
+use Rattle.std.proofs.Common.{slice_range, Contains, length-append, ap, sym, ◌∙◌}
 use Rattle.std.proofs.Common.{arith}
 use Rattle.std.specs.List.Sorted.{IsStrictlyIncreasing}
 use Rattle.std.proofs.Math.Nat.{eq-or-lt_of_le}
 use Rattle.std.proofs.lemmas.Grind.{common_steps}
-use Rattle.std.proofs.lemmas.List.{get_or_append_left, get_or-append_right, take-append-le}
-use Rattle.std.proofs.lemmas.List.{drop-append-le, length-drop, get_or_default}
+use Rattle.std.proofs.lemmas.List.{get_or_append_left}
+use Rattle.std.proofs.lemmas.List.{get_or_default}
 use Rattle.std.proofs.lemmas.List.Edits.{length-between, between_more}
-use Rattle.std.proofs.lemmas.List.Elements.{Contains-get_or, Contains-push_cases}
-use Rattle.sparse_algebra.proofs.Cases.{lt_or_ge}
+use Rattle.std.proofs.lemmas.List.Elements.{Contains-get_or}
 use Rattle.sparse_pattern.specs.Raw.{Raw, start_of, end_of, IsPlace, IsValidLane}
 use Rattle.sparse_pattern.proofs.LaneLists.{has_from_contains, contains_from_has}
 use Rattle.sparse_pattern.proofs.PatternLanes.{rises_at}

@@ -1,5 +1,4 @@
-use Rattle.std.proofs.Common.{◌+◌, ◌≤◌, subst, arith}
-use Rattle.std.specs.Result.{OnOk}
+use Rattle.std.proofs.Common.{arith}
 use Rattle.sparse_factor.proofs.FactorLaws.{upper_is, places_at_ok, lists_same}
 use Rattle.sparse_factor.proofs.TransposedCounts.{transposed_count}
 use Rattle.sparse_factor.proofs.factorization.fill_of_upper.Goals as goal
