@@ -17,7 +17,7 @@ use Rattle.sparse_factor.specs.Walks.{StoresWalks, StoresDiagonal}
 use Rattle.sparse_factor.specs.Fill.{Filled}
 use Rattle.sparse_factor.proofs.FillLaws.{in_fill, filled_in, filled_diagonal, filled_into, in_fill_into}
 use Rattle.sparse_factor.proofs.LeastFill.{place_test, place_is}
-use Rattle.sparse_factor.proofs.Sums.{both_ways, other_way}
+use Rattle.sparse_factor.proofs.Alternatives.{both_ways, other_way}
 use Rattle.sparse_factor.proofs.WalkLaws.{filled_walk}
 
 pub stores_fill : {base : ℕ → ℕ → Type 0} {t : Raw} → ((i j : ℕ) → IsPlace t j i ↔ Filled base i j)

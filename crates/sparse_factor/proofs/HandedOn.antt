@@ -11,7 +11,7 @@ use Rattle.sparse_factor.proofs.FillLaws.{IsParent}
 use Rattle.sparse_factor.proofs.Children.{reach_cases, reach_kept}
 use Rattle.sparse_factor.proofs.AppendedColumns.{IsAppended}
 use Rattle.sparse_factor.proofs.Merged.{AreMerged}
-use Rattle.sparse_factor.proofs.Sums.{both_ways}
+use Rattle.sparse_factor.proofs.Alternatives.{both_ways}
 
 -- a condition that fails at the number j
 not_at : {P : Type 0} (j k : ℕ) → (k ≡ j → P → ⊥) → ((k < j) × P) ↔ ((k < j + 1) × P)

@@ -15,7 +15,7 @@ use Rattle.sparse_factor.specs.declared.factorization.Triangle.{Triangle}
 use Rattle.sparse_factor.specs.declared.factorization.Triangle.TheVariants.{Upper, Lower, Both}
 use Rattle.sparse_factor.specs.Fill.{Filled, given, fill, InFill, TriangleBase}
 use Rattle.sparse_factor.proofs.FillLaws.{in_fill, filled_in}
-use Rattle.sparse_factor.proofs.Sums.{both_ways}
+use Rattle.sparse_factor.proofs.Alternatives.{both_ways}
 
 and_is : (b c : Bool) → IsTrue (b && c) ↔ (IsTrue b × IsTrue c)
 and_is b c = (and_parts b c, λ both. and_both b c both.0 both.1)

@@ -3,7 +3,7 @@ mod LeastFill
 mod WalkLaws
 mod DistinctLists
 mod FactorLaws
-mod Sums
+mod Alternatives
 mod Runs
 mod JoinedRuns
 pub mod Pairs

@@ -14,7 +14,7 @@ use Rattle.sparse_factor.proofs.FillLaws.{IsParent, HaveParents, column_fill, ch
 use Rattle.sparse_factor.proofs.FillLaws.{low_filled, row_base}
 use Rattle.sparse_factor.proofs.Children.{reach_none, number_at}
 use Rattle.sparse_factor.proofs.Runs.{lane_run, lane_place}
-use Rattle.sparse_factor.proofs.Sums.{both_ways}
+use Rattle.sparse_factor.proofs.Alternatives.{both_ways}
 
 -- the columns before j of the fill of a base, which has n columns and no row above the diagonal
 pub record AreMerged (base : ℕ → ℕ → Type 0) (n : ℕ) (offsets rows firsts nexts : List ℕ) (j : ℕ) :

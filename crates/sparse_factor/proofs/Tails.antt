@@ -7,7 +7,7 @@ use Rattle.sparse_factor.specs.InnerColumns.{IsInRun, IsInColumn}
 use Rattle.sparse_factor.specs.InnerChildren.{Reaches, IsTailRun, IsInTailOf, IsInTails, HasOthers}
 use Rattle.sparse_factor.specs.InnerTaken.{HasTaken}
 use Rattle.sparse_factor.proofs.Runs.{run_has}
-use Rattle.sparse_factor.proofs.Sums.{both_ways}
+use Rattle.sparse_factor.proofs.Alternatives.{both_ways}
 use Rattle.sparse_factor.proofs.Taken.{taken_into, taken_both, run_taken}
 
 -- the same lane, where two conditions hold for the same rows

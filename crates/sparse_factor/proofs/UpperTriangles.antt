@@ -18,7 +18,7 @@ use Rattle.sparse_factor.specs.InnerFactors.{ArePartFactors}
 use Rattle.sparse_factor.proofs.FillLaws.{in_fill_into}
 use Rattle.sparse_factor.proofs.FilledSets.{has_place, place_has}
 use Rattle.sparse_factor.proofs.FillPatterns.{is_le, le_is}
-use Rattle.sparse_factor.proofs.Sums.{both_ways}
+use Rattle.sparse_factor.proofs.Alternatives.{both_ways}
 
 by_test : (R : CommRing) (b c : Bool) (v : R.Carrier) → c ≡ true → (b ≡ false → v ≡ R.zero)
     → where_true R (b && c) v ≡ v

@@ -1,6 +1,6 @@
 use Rattle.std.proofs.Common.{slice_range, length, ap, arith}
 use Rattle.sparse_factor.proofs.Runs.{length-run}
-use Rattle.sparse_factor.proofs.Sums.{in_second}
+use Rattle.sparse_factor.proofs.Alternatives.{in_second}
 use Rattle.sparse_factor.proofs.Tails.{tail_list, tail_steps}
 use Rattle.sparse_factor.proofs.factorization.columns.children.take_tail_of.Goals as goal
 
