@@ -1,30 +1,32 @@
--- One step of the factorisation over arrays.
-use Rattle.std.proofs.Common.{◌≡◌, ◌≢◌, ℕ, ◌+◌, ◌<◌, ◌≤◌, inl, inr, true, false, List, length}
-use Rattle.std.proofs.Common.{get_or, set, ap, sym, ◌∙◌, arith, add-one}
+-- One step of the factorisation over arrays: what the columns before j leave of column j is divided
+-- by the pivot, which is its entry on the diagonal.
+use Rattle.std.proofs.Common.{◌≡◌, ◌≢◌, ℕ, ◌+◌, ◌<◌, ◌≤◌, inl, inr, false, List, length}
+use Rattle.std.proofs.Common.{get_or, set, ap, sym, subst, ◌∙◌, arith, add-one}
 use Rattle.std.proofs.Common.{get_or-set_same, get_or-set_other, length-set}
-use Rattle.sparse_algebra.proofs.Cases.{lt_add_one_cases, true_or_false}
+use Rattle.std.proofs.lemmas.List.{get_or_default, get_or_past}
+use Rattle.sparse_algebra.proofs.Cases.{lt_add_one_cases, lt_or_ge, three, true_or_false}
 use Rattle.sparse_algebra.specs.Algebra.{CommRing}
 use Rattle.sparse_algebra.proofs.RingLemmas.{zero_add}
-use Rattle.sparse_pattern.specs.Raw.{Raw, IsPlace, IsValid}
+use Rattle.sparse_algebra.proofs.SumLemmas.{sum_below-same}
+use Rattle.sparse_pattern.specs.Raw.{Raw, IsPlace}
 use Rattle.sparse_pattern.proofs.Positions.{one_lane}
 use Rattle.sparse_compressed.specs.Compressed.{Compressed, compressed_of, IsSound, IsPosition}
 use Rattle.sparse_compressed.specs.PlainOfLanes.{plain_of_cols}
 use Rattle.sparse_compressed.proofs.Arrays.{value_at_position}
-use Rattle.sparse_with_dense.specs.SparseVectors.{elements}
-use Rattle.sparse_with_dense.proofs.RingSteps.{add_off}
+use Rattle.sparse_with_dense.specs.SparseVectors.{AddsMultiple, elements}
+use Rattle.sparse_with_dense.proofs.RingSteps.{add_off, mul_off}
 use Rattle.sparse_algebra.specs.Inverses.{HasInverse}
-use Rattle.sparse_factor.specs.InnerFactors.{AreColumnsDone, AreCursors, ArePartFactors}
-use Rattle.sparse_factor.specs.InnerFactors.{IsColumnMoved, IsFilledPattern, IsIncluded, IsLeft}
-use Rattle.sparse_factor.specs.InnerFactors.{IsLowerPattern}
-use Rattle.sparse_factor.proofs.ClosedSets.{IsClosed, IsZeroOutside, clash}
+use Rattle.sparse_factor.specs.InnerFactors.{term, AreCursors, ArePartFactors, IsColumnMoved}
+use Rattle.sparse_factor.specs.InnerFactors.{IsFilledPattern, IsIncluded, IsLeft}
+use Rattle.sparse_factor.proofs.ClosedSets.{clash, left-outside, part-outside}
 use Rattle.sparse_factor.proofs.Columns.{no_factorisation}
 use Rattle.sparse_factor.proofs.FilledSets.{has_place, no_place_zero, place_has, set-closed}
-use Rattle.sparse_factor.proofs.FilledSets.{set-low, zero_outside}
-use Rattle.sparse_factor.proofs.NextColumn.{left_nothing, part_next}
+use Rattle.sparse_factor.proofs.FilledSets.{zero_outside}
+use Rattle.sparse_factor.proofs.NextColumn.{part_step}
+use Rattle.sparse_factor.proofs.RingFacts.{one_mul}
 
-module _ (R : CommRing) {T : Type 0} (f : T → R.Carrier) (z : T) (p : Raw) (valid : IsValid p)
-    (j : ℕ) (e : R.Carrier) (old new x y : List T)
-    (count : length old ≡ length p.indices)
+module _ {R : CommRing} {T : Type 0} {f : T → R.Carrier} {z : T} {p : Raw} {j : ℕ} {e : R.Carrier}
+    {old new x y : List T} (sound : IsSound (compressed_of p old))
     (moved : IsColumnMoved R f z p j e old new x y) where
   abbrev l : ℕ → ℕ → R.Carrier
   l = (plain_of_cols R f (compressed_of p old)).value
@@ -32,174 +34,235 @@ module _ (R : CommRing) {T : Type 0} (f : T → R.Carrier) (z : T) (p : Raw) (va
   abbrev l' : ℕ → ℕ → R.Carrier
   l' = (plain_of_cols R f (compressed_of p new)).value
 
-  pub moved-sound : IsSound (compressed_of p new)
-  moved-sound = record { valid = valid; count = moved.count ∙ count }
+  count : length new ≡ length p.indices
+  count = moved.count ∙ sound.count
 
-  old_sound : IsSound (compressed_of p old)
-  old_sound = record { valid = valid; count = count }
+  moved-sound : IsSound (compressed_of p new)
+  moved-sound = record { valid = sound.valid; count = count }
 
   -- the other columns are the same
-  pub moved-others : (i c : ℕ) → c ≢ j → l' i c ≡ l i c
+  moved-others : (i c : ℕ) → c ≢ j → l' i c ≡ l i c
   moved-others i c ne = elim (true_or_false ((plain_of_cols R f (compressed_of p old)).has i c)) [
     | inl hit ↦
-        let place = has_place R f (compressed_of p old) old_sound i c hit in
+        let place = has_place R f (compressed_of p old) sound i c hit in
         let at : IsPosition p c i place.at = (place.in_lane, place.index) in
-        value_at_position R f p valid new (moved.count ∙ count) z c i place.at at
-        ∙ ap f (moved.others place.at (λ inside. ne (one_lane p valid c j place.at place.in_lane
-        inside)))
-        ∙ sym (value_at_position R f p valid old count z c i place.at at)
+        value_at_position R f p sound.valid new count z c i place.at at
+        ∙ ap f (moved.others place.at (λ inside.
+        ne (one_lane p sound.valid c j place.at place.in_lane inside)))
+        ∙ sym (value_at_position R f p sound.valid old sound.count z c i place.at at)
     | inr miss ↦
         let none : IsPlace p c i → ⊥ =
-        λ place. clash _ (place_has R f (compressed_of p old) old_sound i c place) miss in
+        λ place. clash _ (place_has R f (compressed_of p old) sound i c place) miss in
         no_place_zero R f (compressed_of p new) moved-sound i c none
-        ∙ sym (no_place_zero R f (compressed_of p old) old_sound i c none)
+        ∙ sym (no_place_zero R f (compressed_of p old) sound i c none)
   ]
 
   -- column j is the scratch column, times e
-  pub moved-here : (i : ℕ) → IsPlace p j i → l' i j ≡ R.mul (f (get_or x i z)) e
+  moved-here : (i : ℕ) → IsPlace p j i → l' i j ≡ R.mul (f (get_or x i z)) e
   moved-here i place =
-      value_at_position R f p valid new (moved.count ∙ count) z j i place.at
-      (place.in_lane, place.index) ∙ moved.moved place.at place.in_lane
-      ∙ ap (λ i. R.mul (f (get_or x i z)) e) place.index
+      value_at_position R f p sound.valid new count z j i place.at (place.in_lane, place.index)
+      ∙ moved.moved place.at place.in_lane ∙ ap (λ i. R.mul (f (get_or x i z)) e) place.index
 
-module _ (R : CommRing) {T : Type 0} (f : T → R.Carrier) (z : T) (zero : f z ≡ R.zero)
-    (lower l : Compressed T) (d : List T) (cursors : List ℕ) (column : List T) (j : ℕ)
-    (filled : IsFilledPattern l.pattern) (included : IsIncluded lower.pattern l.pattern)
-    (lower_sound : IsSound lower) (lt : j < l.pattern.major_dim)
-    (rows : length column ≡ l.pattern.major_dim)
-    (done : AreColumnsDone R f z lower l d cursors column j) (added left : List T)
-    (adds : (i : ℕ) → i < length column → f (get_or added i z)
-    ≡ R.add (f (get_or column i z)) ((plain_of_cols R f lower).value i j))
-    (leaves : IsLeft R l.pattern.major_dim j (plain_of_cols R f l).value (elements R f z d) j
-    (elements R f z left) (elements R f z added)) where
-  abbrev n : ℕ
-  n = l.pattern.major_dim
+module _ (R : CommRing) {T : Type 0} (f : T → R.Carrier) (z : T) where
+  -- the columns of L and the pivots before j are those of a factorisation of the matrix whose lower
+  -- triangle `lower` stores by columns; the cursors are at row j, and the scratch column has the
+  -- pivots before j and is zero from there on
+  pub record AreColumnsDone (lower : Compressed T) (p : Raw) (values inverses : List T)
+      (cursors : List ℕ) (column : List T) (j : ℕ) : Type 0 where
+    pub zero : f z ≡ R.zero
+    pub filled : IsFilledPattern p
+    pub included : IsIncluded lower.pattern p
+    pub sound : IsSound (compressed_of p values)
+    pub count : length inverses ≡ p.major_dim
+    pub rows : length column ≡ p.major_dim
+    pub room : p.major_dim ≤ length cursors
+    pub factors : ArePartFactors R f p.major_dim j (plain_of_cols R f lower).value
+        (plain_of_cols R f (compressed_of p values)).value (elements R f z column)
+    pub placed : AreCursors p j cursors
+    pub empty : (i : ℕ) → j ≤ i → i < length column → elements R f z column i ≡ R.zero
+    pub inverts : (i : ℕ) → i < j
+        → R.mul (elements R f z column i) (elements R f z inverses i) ≡ R.one
 
-  abbrev a : ℕ → ℕ → R.Carrier
-  a = (plain_of_cols R f lower).value
+  -- and from row j on `left` is what they leave of column j
+  pub record IsColumnLeft (lower : Compressed T) (p : Raw) (values inverses : List T)
+      (cursors : List ℕ) (column : List T) (j : ℕ) (left : List T) : Type 0 where
+    pub done : AreColumnsDone lower p values inverses cursors column j
+    pub sound : IsSound lower
+    pub within : j < p.major_dim
+    pub long : length left ≡ p.major_dim
+    pub leaves : IsLeft R p.major_dim j (plain_of_cols R f (compressed_of p values)).value
+        (elements R f z column) j (elements R f z left) (λ i. (plain_of_cols R f lower).value i j)
+    pub above : (i : ℕ) → i < j → f (get_or left i z) ≡ f (get_or column i z)
 
-  is_added : (i : ℕ) → j ≤ i → i < n → f (get_or added i z) ≡ a i j
-  is_added i le within = adds i (omega (arith, within, rows))
-      ∙ ap (λ c. R.add c (a i j)) (done.empty i le (omega (arith, within, rows)))
-      ∙ zero_add R (a i j)
+module _ {R : CommRing} {T : Type 0} {f : T → R.Carrier} {z : T} {lower : Compressed T} {p : Raw}
+    {values inverses : List T} {cursors : List ℕ} {column : List T} {j : ℕ} where
+  -- column j of the matrix is added, and the columns before are taken off
+  pub column_left : AreColumnsDone R f z lower p values inverses cursors column j → IsSound lower
+      → j < p.major_dim → {one : T} (added left : List T) → f one ≡ R.one
+      → AddsMultiple R f z (f one) (λ i. (plain_of_cols R f lower).value i j) column added
+      → length added ≡ length column → length left ≡ length added
+      → IsLeft R (length added) j (plain_of_cols R f (compressed_of p values)).value
+      (elements R f z added) j (elements R f z left) (elements R f z added)
+      → ((i : ℕ) → i < j → f (get_or left i z) ≡ f (get_or added i z))
+      → IsColumnLeft R f z lower p values inverses cursors column j left
+  column_left done sound lt {one} added left unit adds same_added same_left leaves above =
+      let l = (plain_of_cols R f (compressed_of p values)).value in
+      let a : ℕ → R.Carrier = λ i. (plain_of_cols R f lower).value i j in
+      let is : (i : ℕ) → i < p.major_dim
+      → f (get_or added i z) ≡ R.add (f (get_or column i z)) (a i) =
+      λ i within. adds i (omega (arith, within, done.rows))
+      ∙ ap (R.add (f (get_or column i z))) (one_mul R (f one) (a i) unit) in
+      let same : (i : ℕ) → i < j → f (get_or added i z) ≡ f (get_or column i z) =
+      λ i less. is i (omega (arith, less, lt))
+      ∙ add_off R _ (a i) (no_place_zero R f lower sound i j (λ place.
+      let low = done.filled.lower j i (done.included.places i j place) in
+      omega (arith, low, less))) in
+      record {
+        done = done;
+        sound = sound;
+        within = lt;
+        long = same_left ∙ same_added ∙ done.rows;
+        leaves = λ i le within.
+            ap (λ s. R.add s (f (get_or left i z))) (sum_below-same R j
+            (term R l (elements R f z column) i j) (term R l (elements R f z added) i j)
+            (λ k less. ap (λ c. R.mul (R.mul (l i k) c) (l j k)) (sym (same k less))))
+            ∙ leaves i le (omega (arith, within, same_added, done.rows)) ∙ is i within
+            ∙ ap (λ c. R.add c (a i)) (done.empty i le (omega (arith, within, done.rows)))
+            ∙ zero_add R (a i);
+        above = λ i less. above i less ∙ same i less;
+      }
 
-  is_left : IsLeft R n j (plain_of_cols R f l).value (elements R f z d) j (elements R f z left)
-      (λ i. a i j)
-  is_left i le within = leaves i le within ∙ is_added i le within
+  module _ {left : List T} (s : IsColumnLeft R f z lower p values inverses cursors column j left)
+      {u : T} (is : u ≡ get_or left j u) where
+    abbrev n : ℕ
+    n = p.major_dim
 
-  -- without an inverse of the pivot there is no factorisation
-  pub step_singular : (HasInverse R f (f (get_or left j z)) → ⊥) → (l' : ℕ → ℕ → R.Carrier)
-      (d' : ℕ → R.Carrier) → ArePartFactors R f n n a l' d' → ⊥
-  step_singular none l' d' = no_factorisation R f n j a (plain_of_cols R f l).value l'
-      (elements R f z d) d' (f (get_or left j z)) lt done.factors (is_left j (omega arith) lt) none
+    abbrev a : ℕ → ℕ → R.Carrier
+    a = (plain_of_cols R f lower).value
 
-  module _ (e : T) (inverts : R.mul (f (get_or left j z)) (f e) ≡ R.one) (d_in : j < length d)
-      (above : (i : ℕ) → i < j → f (get_or left i z) ≡ f (get_or added i z))
-      (values last : List T)
-      (moved : IsColumnMoved R f z l.pattern j (f e) l.values values left last) where
-    abbrev next_l : Compressed T
-    next_l = compressed_of l.pattern values
+    abbrev m : Compressed T
+    m = compressed_of p values
 
-    next_sound : IsSound next_l
-    next_sound = moved-sound R f z l.pattern done.sound.valid j (f e) l.values values left last
-        done.sound.count moved
+    -- u is the pivot
+    pivot : u ≡ get_or left j z
+    pivot = is ∙ get_or_default left j u z (omega (arith, s.within, s.long))
 
-    closed_set : IsClosed (plain_of_cols R f next_l).has
-    closed_set = set-closed R f next_l next_sound filled
-
-    zeros : IsZeroOutside R n a (plain_of_cols R f next_l).has
-    zeros = zero_outside R f next_l next_sound lower lower_sound included n
-
-    stored : (i : ℕ) → (plain_of_cols R f next_l).has i j ≡ true
-        → (plain_of_cols R f next_l).value i j ≡ R.mul (f (get_or left i z)) (f e)
-    stored i hit = moved-here R f z l.pattern done.sound.valid j (f e) l.values values left last
-        done.sound.count moved i (has_place R f next_l next_sound i j hit)
-
-    none_stored : (i : ℕ) → (plain_of_cols R f next_l).has i j ≡ false → IsPlace l.pattern j i → ⊥
-    none_stored i miss place = clash _ (place_has R f next_l next_sound i j place) miss
-
-    out : (i : ℕ) → (plain_of_cols R f next_l).has i j ≡ false
-        → (plain_of_cols R f next_l).value i j ≡ R.zero
-    out i miss = no_place_zero R f next_l next_sound i j (none_stored i miss)
-
-    kept : (i c : ℕ) → c ≢ j → (plain_of_cols R f next_l).value i c ≡ (plain_of_cols R f l).value i c
-    kept = moved-others R f z l.pattern done.sound.valid j (f e) l.values values left last
-        done.sound.count moved
-
-    kept_pivots : (c : ℕ) → c ≢ j
-        → elements R f z (set d j (get_or left j z)) c ≡ elements R f z d c
-    kept_pivots c ne = ap f (get_or-set_other d j c (get_or left j z) z ne)
-
-    new_pivot : elements R f z (set d j (get_or left j z)) j ≡ f (get_or left j z)
-    new_pivot = ap f (get_or-set_same d j (get_or left j z) z d_in)
-
-    next : ArePartFactors R f n (j + 1) a (plain_of_cols R f next_l).value
-        (elements R f z (set d j (get_or left j z)))
-    next = rw add-one (part_next R f n j a (plain_of_cols R f l).value (plain_of_cols R f next_l).value
-        (elements R f z d) (elements R f z (set d j (get_or left j z))) (elements R f z left) e lt
-        done.factors is_left inverts kept kept_pivots new_pivot (plain_of_cols R f next_l).has
-        closed_set zeros (λ i less. set-low R f next_l next_sound filled i j less) stored out)
+    -- without an inverse of the pivot there is no factorisation
+    pub step_singular : (HasInverse R f (f u) → ⊥) → (l' : ℕ → ℕ → R.Carrier)
+        (d' : ℕ → R.Carrier) → ArePartFactors R f n n a l' d' → ⊥
+    step_singular none l' d' = no_factorisation R f n j a (plain_of_cols R f m).value l'
+        (elements R f z column) d' (f (get_or left j z)) s.within s.done.factors
+        (s.leaves j (omega arith) s.within)
+        (λ h. none (subst (λ v. HasInverse R f (f v)) (sym pivot) h))
 
     -- no row above the diagonal is a place of the column
-    none_above : (p : Raw) → IsLowerPattern p → (i : ℕ) → i < j → IsPlace p j i → ⊥
-    none_above p low i less place = let le = low j i place in omega (arith, le, less)
+    none_above : (i : ℕ) → i < j → IsPlace p j i → ⊥
+    none_above i less place = let le = s.done.filled.lower j i place in omega (arith, le, less)
 
-    -- what is left in the scratch column from row j on is zero
-    emptied : (i : ℕ) → j ≤ i → i < n → f (get_or last i z) ≡ R.zero
-    emptied i le within = elim (true_or_false ((plain_of_cols R f next_l).has i j)) [
-      | inl hit ↦
-          let place = has_place R f next_l next_sound i j hit in
-          ap (λ i. f (get_or last i z)) (sym place.index)
-          ∙ ap f (moved.cleared place.at place.in_lane) ∙ zero
-      | inr miss ↦ ap f (moved.kept i (none_stored i miss))
-          ∙ left_nothing R f n j a (plain_of_cols R f l).value
-          (plain_of_cols R f next_l).value (elements R f z d)
-          (elements R f z (set d j (get_or left j z))) (elements R f z left) e lt done.factors
-          is_left inverts kept kept_pivots new_pivot (plain_of_cols R f next_l).has closed_set
-          zeros (λ i less. set-low R f next_l next_sound filled i j less) stored out i le within
-          miss
-    ]
+    unplaced : (i : ℕ) → (plain_of_cols R f m).has i j ≡ false → IsPlace p j i → ⊥
+    unplaced i miss place = clash _ (place_has R f m s.done.sound i j place) miss
 
-    -- above row j the scratch column is as it was
-    untouched : (i : ℕ) → i < j → f (get_or last i z) ≡ f (get_or column i z)
-    untouched i less =
-        ap f (moved.kept i (none_above l.pattern filled.lower i less)) ∙ above i less
-        ∙ adds i (omega (arith, less, lt, rows))
-        ∙ add_off R _ (a i j) (no_place_zero R f lower lower_sound i j
-        (λ place. none_above l.pattern filled.lower i less (included.places i j place)))
+    -- what is left outside the places of L is zero
+    left_nothing : (i : ℕ) → j ≤ i → i < n → (plain_of_cols R f m).has i j ≡ false
+        → f (get_or left i z) ≡ R.zero
+    left_nothing i le within miss =
+        let l = plain_of_cols R f m in
+        let closed = set-closed R f m s.done.sound s.done.filled in
+        let none = zero_outside R f m s.done.sound lower s.sound s.done.included n in
+        let zeros = part-outside R f n a l.has closed none j l.value (elements R f z column)
+        (omega (arith, s.within)) s.done.factors in
+        left-outside R f n a l.has closed none j l.value (elements R f z column) zeros
+        (elements R f z left) i le within miss (s.leaves i le within)
 
-    module _ (same : length left ≡ length column) where
-      j_in : j < length last
-      j_in = omega (arith, lt, moved.same, same, rows)
+    module _ {e : T} {new last : List T} (inverts : R.mul (f u) (f e) ≡ R.one)
+        (moved : IsColumnMoved R f z p j (f e) values new left last) where
+      abbrev next : Compressed T
+      next = compressed_of p new
+
+      abbrev pivots : List T
+      pivots = set last j u
+
+      next_sound : IsSound next
+      next_sound = moved-sound s.done.sound moved
+
+      column_is : (i : ℕ) → j ≤ i → i < n
+          → (plain_of_cols R f next).value i j ≡ R.mul (f (get_or left i z)) (f e)
+      column_is i le within = elim (true_or_false ((plain_of_cols R f m).has i j)) [
+        | inl hit ↦ moved-here s.done.sound moved i (has_place R f m s.done.sound i j hit)
+        | inr miss ↦ no_place_zero R f next next_sound i j (unplaced i miss)
+            ∙ sym (mul_off R _ (f e) (left_nothing i le within miss))
+      ]
+
+      in_pivots : j < length last
+      in_pivots = omega (arith, s.within, moved.same, s.long)
+
+      -- what is left in the scratch column from row j on is zero
+      emptied : (i : ℕ) → j ≤ i → i < n → f (get_or last i z) ≡ R.zero
+      emptied i le within = elim (true_or_false ((plain_of_cols R f m).has i j)) [
+        | inl hit ↦
+            let place = has_place R f m s.done.sound i j hit in
+            ap (λ i. f (get_or last i z)) (sym place.index)
+            ∙ ap f (moved.cleared place.at place.in_lane) ∙ s.done.zero
+        | inr miss ↦ ap f (moved.kept i (unplaced i miss)) ∙ left_nothing i le within miss
+      ]
+
+      kept_pivots : (c : ℕ) → c ≢ j → elements R f z pivots c ≡ elements R f z column c
+      kept_pivots c ne = ap f (get_or-set_other last j c u z ne) ∙ elim (three c j) [
+        | inl less ↦ ap f (moved.kept c (none_above c less)) ∙ s.above c less
+        | inr (inl more) ↦ elim (lt_or_ge c n) [
+          | inl within ↦ emptied c (omega arith) within
+              ∙ sym (s.done.empty c (omega arith) (omega (arith, within, s.done.rows)))
+          | inr past ↦ ap f (get_or_past last c z (omega (arith, past, moved.same, s.long))
+              ∙ sym (get_or_past column c z (omega (arith, past, s.done.rows))))
+        ]
+        | inr (inr same) ↦ absurd (ne same)
+      ]
+
+      new_pivot : elements R f z pivots j ≡ f u
+      new_pivot = ap f (get_or-set_same last j u z in_pivots)
+
+      next_factors : ArePartFactors R f n (j + 1) a (plain_of_cols R f next).value
+          (elements R f z pivots)
+      next_factors =
+          let unit = ap (λ v. R.mul (f v) (f e)) (sym pivot) ∙ inverts in
+          rw add-one (part_step R f n j a (plain_of_cols R f m).value (plain_of_cols R f next).value
+          (elements R f z column) (elements R f z pivots) (elements R f z left) e s.within
+          s.done.factors s.leaves unit (moved-others s.done.sound moved) kept_pivots
+          (new_pivot ∙ ap f pivot) (column_is j (omega arith) s.within ∙ unit)
+          (λ i less. no_place_zero R f next next_sound i j (none_above i less))
+          (λ i more within. column_is i (omega arith) within))
 
       inverted : (i : ℕ) → i < j + 1
-          → R.mul (elements R f z (set d j (get_or left j z)) i) (elements R f z (set last j e) i)
-          ≡ R.one
+          → R.mul (elements R f z pivots i) (elements R f z (set inverses j e) i) ≡ R.one
       inverted i less = elim (lt_add_one_cases i j less) [
         | inl under ↦
             let ne : i ≢ j = λ same. omega (arith, same, under) in
-            ap (λ c. R.mul c (elements R f z (set last j e) i)) (kept_pivots i ne)
-            ∙ ap (R.mul (elements R f z d i)) (ap f (get_or-set_other last j i e z ne)
-            ∙ untouched i under) ∙ done.inverses i under
+            ap (λ c. R.mul c (elements R f z (set inverses j e) i)) (kept_pivots i ne)
+            ∙ ap (λ v. R.mul (elements R f z column i) (f v))
+            (get_or-set_other inverses j i e z ne) ∙ s.done.inverts i under
         | inr at ↦
-            ap (λ i. R.mul (elements R f z (set d j (get_or left j z)) i)
-            (elements R f z (set last j e) i)) at
-            ∙ ap (λ c. R.mul c (elements R f z (set last j e) j)) new_pivot
-            ∙ ap (λ v. R.mul (f (get_or left j z)) (f v)) (get_or-set_same last j e z j_in)
-            ∙ inverts
+            ap (λ i. R.mul (elements R f z pivots i) (elements R f z (set inverses j e) i)) at
+            ∙ ap (λ c. R.mul c (elements R f z (set inverses j e) j)) new_pivot
+            ∙ ap (λ v. R.mul (f u) (f v)) (get_or-set_same inverses j e z
+            (omega (arith, s.within, s.done.count))) ∙ inverts
       ]
 
-      pub step_done : (cursors' : List ℕ) → AreCursors l.pattern (j + 1) cursors'
-          → AreColumnsDone R f z lower next_l (set d j (get_or left j z)) cursors' (set last j e)
-          (j + 1)
-      step_done cursors' cursors_are = record {
+      pub step_done : {cursors' : List ℕ} → AreCursors p (j + 1) cursors'
+          → length cursors' ≡ length cursors
+          → AreColumnsDone R f z lower p new (set inverses j e) cursors' pivots (j + 1)
+      step_done placed count = record {
+        zero = s.done.zero;
+        filled = s.done.filled;
+        included = s.done.included;
         sound = next_sound;
-        factors = next;
-        placed = cursors_are;
+        count = length-set inverses j e ∙ s.done.count;
+        rows = length-set last j u ∙ moved.same ∙ s.long;
+        room = omega (arith, count, s.done.room);
+        factors = next_factors;
+        placed = placed;
         empty = λ i le within.
-            let ne : i ≢ j = λ same. omega (arith, same, le) in
-            let long = length-set last j e in
-            ap f (get_or-set_other last j i e z ne)
-            ∙ emptied i (omega arith) (omega (arith, within, long, moved.same, same, rows));
-        inverses = inverted;
+            ap f (get_or-set_other last j i u z (λ same. omega (arith, same, le)))
+            ∙ emptied i (omega arith)
+            (omega (arith, within, length-set last j u, moved.same, s.long));
+        inverts = inverted;
       }

@@ -7,7 +7,7 @@ use Rattle.sparse_pattern.specs.Raw.{Raw, end_of, IsPlace, IsValid}
 use Rattle.sparse_pattern.proofs.PatternLanes.{rises_at}
 use Rattle.sparse_factor.specs.InnerFactors.{AreCursors, IsCursor, IsRowOf}
 
-module _ (p : Raw) (valid : IsValid p) (j k : ℕ) (lane : k < p.major_dim) (c : ℕ)
+module _ {p : Raw} {j k c : ℕ} (valid : IsValid p) (lane : k < p.major_dim)
     (cursor : IsCursor p j k c) where
   -- row j of the column is where its cursor is
   pub at_cursor : IsPlace p k j → (c < end_of p k) × (slice_index p.indices c ≡ j)
@@ -76,47 +76,41 @@ pub record AreCursorsAt (p : Raw) (j : ℕ) (row : List ℕ) (q : ℕ) (cursors 
       → ((r : ℕ) → q ≤ r → r < length row → slice_index row r ≢ k)
       → IsCursor p (j + 1) k (slice_index cursors k)
 
-module _ (p : Raw) (valid : IsValid p) (j : ℕ) (row : List ℕ) (is : IsRowOf p j row) where
+module _ {p : Raw} {j : ℕ} {row : List ℕ} (valid : IsValid p) (is : IsRowOf p j row) where
   pub cursors_start : (cursors : List ℕ) → AreCursors p j cursors → AreCursorsAt p j row 0 cursors
   cursors_start cursors h = record {
     waiting = λ r _ lt. h (slice_index row r) (is.stored r lt).in_lane.lane;
-    passed = λ k lane none. cursor_stays p valid j k lane (slice_index cursors k) (h k lane)
+    passed = λ k lane none. cursor_stays valid lane (h k lane)
         (λ place. let at = is.all k place in none at.0 (omega arith) at.1 at.2);
   }
 
-  module _ (q : ℕ) (lt : q < length row) (cursors : List ℕ) (h : AreCursorsAt p j row q cursors)
-    where
-      abbrev k : ℕ
-      k = slice_index row q
-
-      abbrev c : ℕ
-      c = slice_index cursors (slice_index row q)
-
-      pub here : IsCursor p j (slice_index row q) (slice_index cursors (slice_index row q))
-      here = h.waiting q (omega arith) lt
-
-      pub cursors_more : slice_index row q < length cursors
-          → AreCursorsAt p j row (q + 1) (set cursors (slice_index row q)
-          (slice_index cursors (slice_index row q) + 1))
-      cursors_more inside =
-          let lane = (is.stored q lt).in_lane.lane in
-          let found = at_cursor p valid j k lane c here (is.stored q lt) in
-          record {
-            waiting = λ r from to.
-                let up = is.rising q r (omega arith) to in
-                subst (IsCursor p j (slice_index row r)) (sym (get_or-set_other cursors k
-                (slice_index row r) (c + 1) 0 (λ e. omega (arith, e, up))))
-                (h.waiting r (omega arith) to);
-            passed = λ l l_lane none. elim (same_or_not l k) [
-              | inl same ↦ subst (λ l. IsCursor p (j + 1) l (get_or (set cursors k (c + 1)) l 0))
-                  (sym same) (subst (IsCursor p (j + 1) k)
-                  (sym (get_or-set_same cursors k (c + 1) 0 inside))
-                  (cursor_past p valid j k lane c here found.0 found.1))
-              | inr differs ↦ subst (IsCursor p (j + 1) l)
-                  (sym (get_or-set_other cursors k l (c + 1) 0 differs))
-                  (h.passed l l_lane (λ r from to. elim (le_cases q r from) [
-                    | inl less ↦ none r (omega arith) to
-                    | inr e ↦ λ found. differs (sym found ∙ ap (slice_index row) (sym e))
-                  ]))
-            ];
-          }
+  -- the cursor of entry q is moved on
+  pub cursors_more : {q : ℕ} {cursors : List ℕ} → q < length row
+      → AreCursorsAt p j row q cursors → slice_index row q < length cursors
+      → AreCursorsAt p j row (q + 1) (set cursors (slice_index row q)
+      (slice_index cursors (slice_index row q) + 1))
+  cursors_more {q} {cursors} lt h inside =
+      let k = slice_index row q in
+      let c = slice_index cursors k in
+      let here = h.waiting q (omega arith) lt in
+      let lane = (is.stored q lt).in_lane.lane in
+      let found = at_cursor valid lane here (is.stored q lt) in
+      record {
+        waiting = λ r from to.
+            let up = is.rising q r (omega arith) to in
+            subst (IsCursor p j (slice_index row r)) (sym (get_or-set_other cursors k
+            (slice_index row r) (c + 1) 0 (λ e. omega (arith, e, up))))
+            (h.waiting r (omega arith) to);
+        passed = λ l l_lane none. elim (same_or_not l k) [
+          | inl same ↦ subst (λ l. IsCursor p (j + 1) l (get_or (set cursors k (c + 1)) l 0))
+              (sym same) (subst (IsCursor p (j + 1) k)
+              (sym (get_or-set_same cursors k (c + 1) 0 inside))
+              (cursor_past valid lane here found.0 found.1))
+          | inr differs ↦ subst (IsCursor p (j + 1) l)
+              (sym (get_or-set_other cursors k l (c + 1) 0 differs))
+              (h.passed l l_lane (λ r from to. elim (le_cases q r from) [
+                | inl less ↦ none r (omega arith) to
+                | inr e ↦ λ found. differs (sym found ∙ ap (slice_index row) (sym e))
+              ]))
+        ];
+      }

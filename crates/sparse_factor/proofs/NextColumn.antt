@@ -1,15 +1,14 @@
--- A column more of a factorisation, on the places of a set that is closed under fill.
-use Rattle.std.proofs.Common.{◌≡◌, ◌≢◌, ℕ, suc, ◌<◌, ◌≤◌, inl, inr, Bool, true, false, ap, sym}
+-- A column more of a factorisation: what is left of column j, times the inverse of its pivot.
+use Rattle.std.proofs.Common.{◌≡◌, ◌≢◌, ℕ, suc, ◌<◌, ◌≤◌, inl, inr, ap, sym}
 use Rattle.std.proofs.Common.{subst, ◌∙◌, arith}
-use Rattle.sparse_algebra.proofs.Cases.{three, true_or_false}
+use Rattle.sparse_algebra.proofs.Cases.{three}
 use Rattle.sparse_algebra.specs.Algebra.{CommRing}
 use Rattle.sparse_algebra.specs.Sums.{sum_below}
 use Rattle.sparse_algebra.proofs.SumLemmas.{sum_below-same}
 use Rattle.sparse_algebra.specs.Inverses.{HasInverse}
-use Rattle.sparse_with_dense.proofs.RingSteps.{mul_off, divided}
+use Rattle.sparse_with_dense.proofs.RingSteps.{divided}
 use Rattle.sparse_factor.specs.InnerFactors.{term, ArePartFactors, IsLeft}
 use Rattle.sparse_factor.proofs.RingFacts.{one_mul}
-use Rattle.sparse_factor.proofs.ClosedSets.{IsClosed, IsZeroOutside, left-outside, part-outside}
 
 module _ (R : CommRing) {X : Type 0} (f : X → R.Carrier) (n j : ℕ) (m l l' : ℕ → ℕ → R.Carrier)
     (d d' w : ℕ → R.Carrier) (e : X) (lt : j < n) (p : ArePartFactors R f n j m l d)
@@ -77,23 +76,3 @@ module _ (R : CommRing) {X : Type 0} (f : X → R.Carrier) (n j : ℕ) (m l l' :
         | inr (inr is) ↦ last_column i c is le within
       ];
     }
-
-  module _ (set : ℕ → ℕ → Bool) (closed : IsClosed set) (holds : IsZeroOutside R n m set)
-      (low : (i : ℕ) → i < j → set i j ≡ false)
-      (stored : (i : ℕ) → set i j ≡ true → l' i j ≡ R.mul (w i) (f e))
-      (out : (i : ℕ) → set i j ≡ false → l' i j ≡ R.zero) where
-    -- what is left outside the set is zero
-    pub left_nothing : (i : ℕ) → j ≤ i → i < n → set i j ≡ false → w i ≡ R.zero
-    left_nothing i le within miss = left-outside R f n m set closed holds j l d
-        (part-outside R f n m set closed holds j l d (omega arith) p) w i le within miss
-        (left i le within)
-
-    under : (i : ℕ) → j ≤ i → i < n → l' i j ≡ R.mul (w i) (f e)
-    under i le within = elim (true_or_false (set i j)) [
-      | inl hit ↦ stored i hit
-      | inr miss ↦ out i miss ∙ sym (mul_off R (w i) (f e) (left_nothing i le within miss))
-    ]
-
-    pub part_next : ArePartFactors R f n (suc j) m l' d'
-    part_next = part_step (under j (omega arith) lt ∙ inv) (λ i less. out i (low i less))
-        (λ i more within. under i (omega arith) within)

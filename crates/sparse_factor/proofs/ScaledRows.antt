@@ -12,9 +12,9 @@ use Rattle.sparse_with_dense.proofs.RingSteps.{divided}
 use Rattle.sparse_with_dense.proofs.SolvedColumns.{with_column-here, with_column-other}
 use Rattle.sparse_factor.specs.InnerFactors.{AreInverses, AreScaledBelow, IsScaled}
 
-module _ (R : CommRing) {T : Type 0} (f : T → R.Carrier) (z : T) (factors : List T) where
-  pub scaled_none : (d : Dense T) → AreScaledBelow R f z 0 factors d d
-  scaled_none d = record {
+module _ {R : CommRing} {T : Type 0} {f : T → R.Carrier} {z : T} {factors : List T} where
+  pub scaled_none : {d : Dense T} → AreScaledBelow R f z 0 factors d d
+  scaled_none = record {
     rows = refl;
     cols = refl;
     scaled = λ i j _ lt. absurd (omega arith);
@@ -22,12 +22,12 @@ module _ (R : CommRing) {T : Type 0} (f : T → R.Carrier) (z : T) (factors : Li
   }
 
   -- one column more
-  pub scaled_more : (j : ℕ) (b x : Dense T) (old ws : List T) → old ≡ column_of x j
-      → length old ≡ x.nrows → length ws ≡ length old
+  pub scaled_more : {j : ℕ} {b x : Dense T} {old : List T} (ws : List T)
+      → AreScaledBelow R f z j factors b x → old ≡ column_of x j → length old ≡ x.nrows
+      → length ws ≡ length old
       → ((i : ℕ) (z : T) → i < x.nrows → get_or old i z ≡ value_at x i j z)
-      → IsScaled R f z factors old ws → AreScaledBelow R f z j factors b x
-      → AreScaledBelow R f z (j + 1) factors b (with_column x j ws)
-  scaled_more j b x old ws is long same read scales h =
+      → IsScaled R f z factors old ws → AreScaledBelow R f z (j + 1) factors b (with_column x j ws)
+  scaled_more {j} {b} {x} ws h is long same read scales =
       let full : length (column_of x j) ≡ x.nrows = ap length (sym is) ∙ long in
       let count : length ws ≡ x.nrows = same ∙ long in
       record {
@@ -50,21 +50,20 @@ module _ (R : CommRing) {T : Type 0} (f : T → R.Carrier) (z : T) (factors : Li
             ∙ h.behind i l lt (omega arith);
       }
 
-  module _ (d : List T) (inverses : AreInverses R f z d factors) (zero : f z ≡ R.zero)
-      (y w : Dense T) (h : AreScaledBelow R f z y.ncols factors y w) where
-    -- rows multiplied by inverses, as plain matrices
-    pub plain_divided : (c j : ℕ) → c < y.nrows → c < length d
-        → R.mul (elements R f z d c) ((plain_of_dense R f w).value c j)
-        ≡ (plain_of_dense R f y).value c j
-    plain_divided c j lt in_d = elim (lt_or_ge j y.ncols) [
-      | inl inside ↦
-          ap (R.mul (elements R f z d c)) (dense_inside R f z zero w c j
-          (omega (arith, lt, h.rows)) (omega (arith, inside, h.cols)) ∙ h.scaled c j lt inside)
-          ∙ divided R (elements R f z d c) (elements R f z factors c) (f (value_at y c j z))
-          (inverses.inverts c in_d)
-          ∙ sym (dense_inside R f z zero y c j lt inside)
-      | inr past ↦
-          ap (R.mul (elements R f z d c))
-          (dense_past_cols R f z zero w c j (omega (arith, past, h.cols)))
-          ∙ mul_zero R (elements R f z d c) ∙ sym (dense_past_cols R f z zero y c j past)
-    ]
+  -- rows multiplied by inverses, as plain matrices
+  pub plain_divided : {d : List T} {y w : Dense T} → f z ≡ R.zero → AreInverses R f z d factors
+      → AreScaledBelow R f z y.ncols factors y w → (c j : ℕ) → c < y.nrows → c < length d
+      → R.mul (elements R f z d c) ((plain_of_dense R f w).value c j)
+      ≡ (plain_of_dense R f y).value c j
+  plain_divided {d} {y} {w} zero inverses h c j lt in_d = elim (lt_or_ge j y.ncols) [
+    | inl inside ↦
+        ap (R.mul (elements R f z d c)) (dense_inside R f z zero w c j
+        (omega (arith, lt, h.rows)) (omega (arith, inside, h.cols)) ∙ h.scaled c j lt inside)
+        ∙ divided R (elements R f z d c) (elements R f z factors c) (f (value_at y c j z))
+        (inverses.inverts c in_d)
+        ∙ sym (dense_inside R f z zero y c j lt inside)
+    | inr past ↦
+        ap (R.mul (elements R f z d c))
+        (dense_past_cols R f z zero w c j (omega (arith, past, h.cols)))
+        ∙ mul_zero R (elements R f z d c) ∙ sym (dense_past_cols R f z zero y c j past)
+  ]

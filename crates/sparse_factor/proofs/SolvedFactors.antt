@@ -1,6 +1,6 @@
 -- The solves with L and its transpose and the division between them solve the system of L D Lᵀ.
 use Rattle.std.proofs.Common.{◌≡◌, ℕ, ◌<◌, inl, inr, true, ◌&&◌, ap, sym, ◌∙◌, refl}
-use Rattle.std.proofs.Common.{arith, get_or}
+use Rattle.std.proofs.Common.{List, arith, get_or}
 use Rattle.std.specs.Prelude.{nat_le, nat_lt, Result, Ok, Err, OnOk, IsErr}
 use Rattle.std.proofs.lemmas.Bool.Decides.{nat_tests}
 use Rattle.sparse_algebra.proofs.Cases.{lt_or_ge, true_or_false, and_both}
@@ -16,15 +16,25 @@ use Rattle.sparse_compressed.specs.PlainOfLanes.{plain_of_cols}
 use Rattle.sparse_compressed.proofs.Arrays.{proper_rows, value_at_position}
 use Rattle.sparse_with_dense.specs.Solutions.{IsSolution, IsSingular, plain_lower}
 use Rattle.sparse_with_dense.proofs.ColumnSteps.{lower_is, lower_zero}
-use Rattle.sparse_factor.specs.Factorisations.{IsUnitLower, plain_ldl}
+use Rattle.sparse_with_dense.specs.SparseVectors.{elements}
+use Rattle.sparse_factor.specs.Factorisations.{plain_ldl}
+use Rattle.sparse_factor.specs.Factors.{AreFactors, Factors, plain_of_factors}
+use Rattle.sparse_factor.specs.InnerFactors.{AreInverses, AreScaledBelow}
 use Rattle.sparse_factor.proofs.FilledSets.{has_place}
 use Rattle.sparse_factor.proofs.PlainProducts.{ldl-value}
 use Rattle.sparse_factor.proofs.RingFacts.{trivial}
+use Rattle.sparse_factor.proofs.ScaledRows.{plain_divided}
 
-module _ (R : CommRing) {T : Type 0} (f : T → R.Carrier) (z : T) (m : Compressed T)
-    (unit : IsUnitLower R (plain_of_cols R f m)) where
+module _ {R : CommRing} {T : Type 0} {f : T → R.Carrier} {z : T} {s : Factors T}
+    (factors : AreFactors R f z s) (sound : IsSound s.l) where
+  abbrev m : Compressed T
+  m = s.l
+
   abbrev l : Plain R
   l = plain_of_cols R f m
+
+  abbrev d : ℕ → R.Carrier
+  d = elements R f z s.d
 
   abbrev t : Plain R
   t = plain_lower R l
@@ -33,15 +43,15 @@ module _ (R : CommRing) {T : Type 0} (f : T → R.Carrier) (z : T) (m : Compress
   lower_same : (i c : ℕ) → c < l.cols → t.value i c ≡ l.value i c
   lower_same i c lt = elim (lt_or_ge i c) [
     | inl less ↦ lower_zero R l i c less
-        ∙ sym (unit.upper i c less (omega (arith, lt, unit.square)))
+        ∙ sym (factors.lower.upper i c less (omega (arith, lt, factors.lower.square)))
     | inr le ↦ lower_is R l (λ i j. proper_rows R f m j i) i c le
   ]
 
   -- a diagonal entry without an inverse is one that is not stored, so one is zero
-  pub singular_trivial : IsSound m → IsSingular R f t → R.one ≡ R.zero
-  singular_trivial sound h =
+  singular_trivial : IsSingular R f t → R.one ≡ R.zero
+  singular_trivial h =
       let k = h.0 in
-      let one : l.value k k ≡ R.one = unit.unit k h.1 in
+      let one : l.value k k ≡ R.one = factors.lower.unit k h.1 in
       let same : t.value k k ≡ l.value k k =
       lower_is R l (λ i j. proper_rows R f m j i) k k (omega arith) in
       elim (true_or_false (l.has k k)) [
@@ -58,7 +68,7 @@ module _ (R : CommRing) {T : Type 0} (f : T → R.Carrier) (z : T) (m : Compress
         | inr miss ↦ sym one ∙ proper_rows R f m k k miss
       ]
 
-  module _ (d : ℕ → R.Carrier) (x b y w : Plain R)
+  module _ (x b y w : Plain R)
       (divided : (c j : ℕ) → c < l.cols → R.mul (d c) (w.value c j) ≡ y.value c j)
       (first : IsSolution R t y b) (second : IsSolution R (plain_transpose R t) x w) where
     inner : (c j : ℕ) → c < l.cols
@@ -67,7 +77,7 @@ module _ (R : CommRing) {T : Type 0} (f : T → R.Carrier) (z : T) (m : Compress
         (λ k _. ap (λ a. R.mul a (x.value k j)) (sym (lower_same k c lt)))
         ∙ ap (λ (a : Plain R). a.value c j) second
 
-    pub solved_value : (i j : ℕ)
+    solved_value : (i j : ℕ)
         → (plain_product R (plain_ldl R l d) x).value i j ≡ b.value i j
     solved_value i j =
         sum_below-same R l.rows _
@@ -83,25 +93,31 @@ module _ (R : CommRing) {T : Type 0} (f : T → R.Carrier) (z : T) (m : Compress
         ∙ ap (λ (a : Plain R). a.value i j) first
 
   -- where a solve refuses, all values are equal
-  pub solved_or_trivial : IsSound m → {E : Type 0} (r s : Result (Unit {0}) E)
-      (d : ℕ → R.Carrier) (x b y w : Plain R)
+  solved_or_trivial : {E : Type 0} (r u : Result (Unit {0}) E) (x b y w : Plain R)
       → ((c j : ℕ) → c < l.cols → R.mul (d c) (w.value c j) ≡ y.value c j)
-      → OnOk r (IsSolution R t y b) → OnOk s (IsSolution R (plain_transpose R t) x w)
-      → (IsErr r → IsSingular R f t) → (IsErr s → IsSingular R f t) → (i j : ℕ)
+      → OnOk r (IsSolution R t y b) → OnOk u (IsSolution R (plain_transpose R t) x w)
+      → (IsErr r → IsSingular R f t) → (IsErr u → IsSingular R f t) → (i j : ℕ)
       → (plain_product R (plain_ldl R l d) x).value i j ≡ b.value i j
-  solved_or_trivial sound (Ok _) (Ok _) d x b y w divided first second e1 e2 i j =
-      solved_value d x b y w divided first second i j
-  solved_or_trivial sound (Ok _) (Err e) d x b y w divided first second e1 e2 i j =
-      trivial R (singular_trivial sound (e2 refl)) _ _
-  solved_or_trivial sound (Err e) s d x b y w divided first second e1 e2 i j =
-      trivial R (singular_trivial sound (e1 refl)) _ _
+  solved_or_trivial (Ok _) (Ok _) x b y w divided first second e1 e2 i j =
+      solved_value x b y w divided first second i j
+  solved_or_trivial (Ok _) (Err e) x b y w divided first second e1 e2 i j =
+      trivial R (singular_trivial (e2 refl)) _ _
+  solved_or_trivial (Err e) u x b y w divided first second e1 e2 i j =
+      trivial R (singular_trivial (e1 refl)) _ _
 
-  -- the solution as plain matrices
-  pub plain_solved : (d : ℕ → R.Carrier) (x b : Dense T) → b.nrows ≡ m.pattern.minor_dim
-      → x.ncols ≡ b.ncols
-      → ((i j : ℕ) → (plain_product R (plain_ldl R l d) (plain_of_dense R f x)).value i j
-      ≡ (plain_of_dense R f b).value i j)
-      → IsSolution R (plain_ldl R l d) (plain_of_dense R f x) (plain_of_dense R f b)
-  plain_solved d x b rows cols values = same_plain _ (plain_of_dense R f b) (sym rows) cols
+  -- the solves with L and its transpose, and the multiplication by the inverses between them
+  pub solved : {E : Type 0} (r u : Result (Unit {0}) E) {es : List T} (x b : Dense T)
+      {y w : Dense T} → f z ≡ R.zero → AreInverses R f z s.d es → b.nrows ≡ m.pattern.minor_dim
+      → y.nrows ≡ b.nrows → x.ncols ≡ b.ncols → AreScaledBelow R f z y.ncols es y w
+      → OnOk r (IsSolution R t (plain_of_dense R f y) (plain_of_dense R f b))
+      → OnOk u (IsSolution R (plain_transpose R t) (plain_of_dense R f x) (plain_of_dense R f w))
+      → (IsErr r → IsSingular R f t) → (IsErr u → IsSingular R f t)
+      → IsSolution R (plain_of_factors R f z s) (plain_of_dense R f x) (plain_of_dense R f b)
+  solved r u x b {y} {w} zero inverses rows kept cols scaled first second e1 e2 =
+      same_plain _ (plain_of_dense R f b) (sym rows) cols
       (λ i j. ap (λ n. nat_lt i n && nat_lt j x.ncols) (sym rows)
-      ∙ ap (λ n. nat_lt i b.nrows && nat_lt j n) cols) values
+      ∙ ap (λ n. nat_lt i b.nrows && nat_lt j n) cols)
+      (solved_or_trivial r u (plain_of_dense R f x) (plain_of_dense R f b) (plain_of_dense R f y)
+      (plain_of_dense R f w) (λ c j lt. plain_divided zero inverses scaled c j
+      (omega (arith, lt, kept, rows, factors.lower.square))
+      (omega (arith, lt, factors.lower.square, factors.count))) first second e1 e2)

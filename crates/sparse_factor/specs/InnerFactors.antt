@@ -3,8 +3,6 @@ use Rattle.std.specs.Prelude.{◌≡◌, ℕ, ◌<◌, ◌≤◌, List, length, 
 use Rattle.sparse_algebra.specs.Algebra.{CommRing}
 use Rattle.sparse_algebra.specs.Sums.{sum_below}
 use Rattle.sparse_pattern.specs.Raw.{Raw, start_of, end_of, IsInLane, IsPlace}
-use Rattle.sparse_compressed.specs.Compressed.{Compressed, IsSound}
-use Rattle.sparse_compressed.specs.PlainOfLanes.{plain_of_cols}
 use Rattle.sparse_algebra.specs.Inverses.{HasInverse}
 use Rattle.sparse_coo_dense.specs.Dense.{Dense, value_at}
 use Rattle.sparse_with_dense.specs.SparseVectors.{elements}
@@ -68,18 +66,6 @@ module _ (R : CommRing) {T : Type 0} (f : T → R.Carrier) (z : T) where
     pub cleared : (q : ℕ) → IsInLane p j q
         → slice_index_or y (slice_index p.indices q) z ≡ z
     pub kept : (i : ℕ) → (IsPlace p j i → ⊥) → slice_index_or y i z ≡ slice_index_or x i z
-
-  -- the columns of L and the pivots before j are those of a factorisation of the matrix whose lower
-  -- triangle `lower` stores by columns; the cursors are at row j, and the scratch column is zero from
-  -- there on and has the inverses of the pivots before
-  pub record AreColumnsDone (lower l : Compressed T) (d : List T) (cursors : List ℕ)
-      (column : List T) (j : ℕ) : Type 0 where
-    pub sound : IsSound l
-    pub factors : ArePartFactors R f l.pattern.major_dim j (plain_of_cols R f lower).value
-        (plain_of_cols R f l).value (elements R f z d)
-    pub placed : AreCursors l.pattern j cursors
-    pub empty : (i : ℕ) → j ≤ i → i < length column → elements R f z column i ≡ R.zero
-    pub inverses : (i : ℕ) → i < j → R.mul (elements R f z d i) (elements R f z column i) ≡ R.one
 
 -- the pattern of L: no row is above its column, and it is closed under fill
 pub record IsFilledPattern (p : Raw) : Type 0 where

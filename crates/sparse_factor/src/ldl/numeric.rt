@@ -110,9 +110,9 @@ fn factor_lower<T: Units>(
     ensures kinds { IfErr result (λ e. (e ≡ Singular) ⊎ (e ≡ OutOfMemory)) }
 {
     let n = l.ncols();
+    let mut inverses = zeros(alloc, n)?;
     let mut d = zeros(alloc, n)?;
-    let mut column = zeros(alloc, n)?;
     let mut cursors = Vec::from_slice(alloc, l.col_offsets())?;
-    factor_columns(lower, rows, &mut l, &mut d, &mut cursors, &mut column)?;
-    Ok((l, d, column))
+    factor_columns(lower, rows, &mut l, &mut inverses, &mut cursors, &mut d)?;
+    Ok((l, d, inverses))
 }

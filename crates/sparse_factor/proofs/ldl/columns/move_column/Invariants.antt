@@ -1,5 +1,5 @@
 use Rattle.sparse_factor.proofs.ColumnMoves.{AreMoved}
-use Rattle.sparse_factor.proofs.ldl.columns.move_lane.Given as goal
+use Rattle.sparse_factor.proofs.ldl.columns.move_column.Given as goal
 
 abbrev pub invariant-loop-at : goal.invariant-loop-at
 invariant-loop-at g l =
