@@ -18,22 +18,20 @@ module _ (R : CommRing) {T : Type 0} (f : T → R.Carrier) (a t : Compressed T)
   below_same = lower_symmetric R (plain_of_cols R f a) (plain_of_cols R f t)
       (λ i j. proper_rows R f a j i) plain
 
-  pub factors_of_part : (n : ℕ) (l : Plain R) (d : ℕ → R.Carrier) → n ≡ a.pattern.minor_dim
+  pub factors_of_part : {n : ℕ} (l : Plain R) (d : ℕ → R.Carrier) → n ≡ a.pattern.minor_dim
       → l.rows ≡ a.pattern.minor_dim → l.cols ≡ l.rows
       → ArePartFactors R f n n (plain_of_cols R f t).value l.value d
       → IsFactorisation R f (symmetric_of R f a) l d
-  factors_of_part n l d size rows square part =
+  factors_of_part {n} l d size rows square part =
       factorisation_of R f (symmetric_of R f a) l d rows square
       (symmetric-transposed R (plain_of_cols R f a))
-      (subst (λ n. ArePartFactors R f n n (symmetric_of R f a).value l.value d) size
-      (part_same R f n n (plain_of_cols R f t).value (symmetric_of R f a).value l.value d below_same
-      part))
+      (rw size at (part_same R f n n (plain_of_cols R f t).value (symmetric_of R f a).value l.value
+      d below_same part))
 
-  pub part_of_factors : (n : ℕ) (l : Plain R) (d : ℕ → R.Carrier) → n ≡ a.pattern.minor_dim
+  pub part_of_factors : {n : ℕ} (l : Plain R) (d : ℕ → R.Carrier) → n ≡ a.pattern.minor_dim
       → IsFactorisation R f (symmetric_of R f a) l d
       → ArePartFactors R f n n (plain_of_cols R f t).value l.value d
-  part_of_factors n l d size h =
-      subst (λ n. ArePartFactors R f n n (plain_of_cols R f t).value l.value d) (sym size)
-      (part_same R f a.pattern.minor_dim a.pattern.minor_dim (symmetric_of R f a).value
+  part_of_factors l d size h =
+      rw size (part_same R f a.pattern.minor_dim a.pattern.minor_dim (symmetric_of R f a).value
       (plain_of_cols R f t).value l.value d (λ i c le. sym (below_same i c le))
       (columns_of R f (symmetric_of R f a) l d h))

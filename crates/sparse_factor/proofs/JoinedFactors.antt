@@ -15,19 +15,10 @@ use Rattle.sparse_factor.proofs.UpperTriangles.{factorisation_same, same_fill, s
 use Rattle.sparse_factor.proofs.UpperTriangles.{same_symmetric}
 
 module _ (R : CommRing) {T : Type 0} (f : T → R.Carrier) (z : T) (a l : Compressed T) (d : List T)
-    (size : length d ≡ a.pattern.minor_dim)
     (factors : IsFactorisation R f (symmetric_of R f a) (plain_of_cols R f l) (elements R f z d))
   where
-    pub kept_pivots : HavePivots R f z d
-    kept_pivots j lt = factors.pivots j (omega (arith, lt, size))
-
-    pub kept_equation : HasSameValues R (length d) (length d)
-        (plain_of_factors R f z (factors_of l d)) (symmetric_of R f a)
-    kept_equation i j row col =
-        factors.equation i j (omega (arith, row, size)) (omega (arith, col, size))
-
-    pub only_factors : AreOnlyFactorsOf R f z a (factors_of l d)
-    only_factors k c h =
+    pub only_factors : length d ≡ a.pattern.minor_dim → AreOnlyFactorsOf R f z a (factors_of l d)
+    only_factors size k c h =
         let n = a.pattern.minor_dim in
         let agree = part_unique R f n n (symmetric_of R f a).value k.value
         (plain_of_cols R f l).value c (elements R f z d) (omega arith)

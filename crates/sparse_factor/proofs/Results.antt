@@ -2,10 +2,6 @@
 use Rattle.std.specs.Prelude.{Result, Ok, Err, IfOk, IfErr}
 
 module _ {X E : Type 0} where
-  pub ok_map : (P Q : X → Type 0) (r : Result X E) → ((x : X) → P x → Q x) → IfOk r P → IfOk r Q
-  ok_map P Q (Ok x) h p = h x p
-  ok_map P Q (Err e) h p = tt
-
   pub ok_both : (P Q S : X → Type 0) (r : Result X E) → ((x : X) → P x → Q x → S x) → IfOk r P
       → IfOk r Q → IfOk r S
   ok_both P Q S (Ok x) h p q = h x p q
