@@ -12,56 +12,42 @@ use Rattle.sparse_pattern.specs.Raw.{Raw, IsPlace}
 use Rattle.sparse_pattern.proofs.Positions.{one_lane}
 use Rattle.sparse_compressed.specs.Compressed.{Compressed, compressed_of, IsSound, IsPosition}
 use Rattle.sparse_compressed.specs.PlainOfLanes.{plain_of_cols}
-use Rattle.sparse_compressed.proofs.Arrays.{value_at_position}
 use Rattle.sparse_with_dense.specs.SparseVectors.{AddsMultiple, elements}
 use Rattle.sparse_with_dense.proofs.RingSteps.{add_off, mul_off}
 use Rattle.sparse_algebra.specs.Inverses.{HasInverse}
 use Rattle.sparse_factor.specs.InnerFactors.{term, AreCursors, ArePartFactors, IsColumnMoved}
 use Rattle.sparse_factor.specs.InnerFactors.{IsFilledPattern, IsIncluded, IsLeft}
-use Rattle.sparse_factor.proofs.ClosedSets.{clash, left-outside, part-outside}
+use Rattle.sparse_factor.proofs.ClosedSets.{left-outside, part-outside}
 use Rattle.sparse_factor.proofs.Columns.{no_factorisation}
-use Rattle.sparse_factor.proofs.FilledSets.{has_place, no_place_zero, place_has, set-closed}
+use Rattle.sparse_factor.proofs.FilledSets.{no_place_has, no_place_zero, set-closed}
 use Rattle.sparse_factor.proofs.FilledSets.{zero_outside}
 use Rattle.sparse_factor.proofs.NextColumn.{part_step}
+use Rattle.sparse_factor.proofs.PlaceValues.{place_or_not, place_value}
 use Rattle.sparse_factor.proofs.RingFacts.{one_mul}
 
 module _ {R : CommRing} {T : Type 0} {f : T → R.Carrier} {z : T} {p : Raw} {j : ℕ} {e : R.Carrier}
     {old new x y : List T} (sound : IsSound (compressed_of p old))
     (moved : IsColumnMoved R f z p j e old new x y) where
-  abbrev l : ℕ → ℕ → R.Carrier
-  l = (plain_of_cols R f (compressed_of p old)).value
-
-  abbrev l' : ℕ → ℕ → R.Carrier
-  l' = (plain_of_cols R f (compressed_of p new)).value
-
-  count : length new ≡ length p.indices
-  count = moved.count ∙ sound.count
-
   moved-sound : IsSound (compressed_of p new)
-  moved-sound = record { valid = sound.valid; count = count }
+  moved-sound = record { valid = sound.valid; count = moved.count ∙ sound.count }
 
   -- the other columns are the same
-  moved-others : (i c : ℕ) → c ≢ j → l' i c ≡ l i c
-  moved-others i c ne = elim (true_or_false ((plain_of_cols R f (compressed_of p old)).has i c)) [
-    | inl hit ↦
-        let place = has_place R f (compressed_of p old) sound i c hit in
-        let at : IsPosition p c i place.at = (place.in_lane, place.index) in
-        value_at_position R f p sound.valid new count z c i place.at at
+  moved-others : (i c : ℕ) → c ≢ j → (plain_of_cols R f (compressed_of p new)).value i c
+      ≡ (plain_of_cols R f (compressed_of p old)).value i c
+  moved-others i c ne = elim (place_or_not R f sound i c) [
+    | inl place ↦ place_value R f moved-sound z place
         ∙ ap f (moved.others place.at (λ inside.
         ne (one_lane p sound.valid c j place.at place.in_lane inside)))
-        ∙ sym (value_at_position R f p sound.valid old sound.count z c i place.at at)
-    | inr miss ↦
-        let none : IsPlace p c i → ⊥ =
-        λ place. clash _ (place_has R f (compressed_of p old) sound i c place) miss in
-        no_place_zero R f (compressed_of p new) moved-sound i c none
+        ∙ sym (place_value R f sound z place)
+    | inr none ↦ no_place_zero R f (compressed_of p new) moved-sound i c none
         ∙ sym (no_place_zero R f (compressed_of p old) sound i c none)
   ]
 
   -- column j is the scratch column, times e
-  moved-here : (i : ℕ) → IsPlace p j i → l' i j ≡ R.mul (f (get_or x i z)) e
-  moved-here i place =
-      value_at_position R f p sound.valid new count z j i place.at (place.in_lane, place.index)
-      ∙ moved.moved place.at place.in_lane ∙ ap (λ i. R.mul (f (get_or x i z)) e) place.index
+  moved-here : {i : ℕ} → IsPlace p j i
+      → (plain_of_cols R f (compressed_of p new)).value i j ≡ R.mul (f (get_or x i z)) e
+  moved-here place = place_value R f moved-sound z place ∙ moved.moved place.at place.in_lane
+      ∙ ap (λ i. R.mul (f (get_or x i z)) e) place.index
 
 module _ (R : CommRing) {T : Type 0} (f : T → R.Carrier) (z : T) where
   -- the columns of L and the pivots before j are those of a factorisation of the matrix whose lower
@@ -159,20 +145,17 @@ module _ {R : CommRing} {T : Type 0} {f : T → R.Carrier} {z : T} {lower : Comp
     none_above : (i : ℕ) → i < j → IsPlace p j i → ⊥
     none_above i less place = let le = s.done.filled.lower j i place in omega (arith, le, less)
 
-    unplaced : (i : ℕ) → (plain_of_cols R f m).has i j ≡ false → IsPlace p j i → ⊥
-    unplaced i miss place = clash _ (place_has R f m s.done.sound i j place) miss
-
     -- what is left outside the places of L is zero
-    left_nothing : (i : ℕ) → j ≤ i → i < n → (plain_of_cols R f m).has i j ≡ false
-        → f (get_or left i z) ≡ R.zero
-    left_nothing i le within miss =
+    left_nothing : (i : ℕ) → j ≤ i → i < n → (IsPlace p j i → ⊥) → f (get_or left i z) ≡ R.zero
+    left_nothing i le within none =
         let l = plain_of_cols R f m in
         let closed = set-closed R f m s.done.sound s.done.filled in
-        let none = zero_outside R f m s.done.sound lower s.sound s.done.included n in
-        let zeros = part-outside R f n a l.has closed none j l.value (elements R f z column)
+        let out = zero_outside R f m s.done.sound lower s.sound s.done.included n in
+        let zeros = part-outside R f n a l.has closed out j l.value (elements R f z column)
         (omega (arith, s.within)) s.done.factors in
-        left-outside R f n a l.has closed none j l.value (elements R f z column) zeros
-        (elements R f z left) i le within miss (s.leaves i le within)
+        left-outside R f n a l.has closed out j l.value (elements R f z column) zeros
+        (elements R f z left) i le within (no_place_has R f m s.done.sound i j none)
+        (s.leaves i le within)
 
     module _ {e : T} {new last : List T} (inverts : R.mul (f u) (f e) ≡ R.one)
         (moved : IsColumnMoved R f z p j (f e) values new left last) where
@@ -187,10 +170,10 @@ module _ {R : CommRing} {T : Type 0} {f : T → R.Carrier} {z : T} {lower : Comp
 
       column_is : (i : ℕ) → j ≤ i → i < n
           → (plain_of_cols R f next).value i j ≡ R.mul (f (get_or left i z)) (f e)
-      column_is i le within = elim (true_or_false ((plain_of_cols R f m).has i j)) [
-        | inl hit ↦ moved-here s.done.sound moved i (has_place R f m s.done.sound i j hit)
-        | inr miss ↦ no_place_zero R f next next_sound i j (unplaced i miss)
-            ∙ sym (mul_off R _ (f e) (left_nothing i le within miss))
+      column_is i le within = elim (place_or_not R f s.done.sound i j) [
+        | inl place ↦ moved-here s.done.sound moved place
+        | inr none ↦ no_place_zero R f next next_sound i j none
+            ∙ sym (mul_off R _ (f e) (left_nothing i le within none))
       ]
 
       in_pivots : j < length last
@@ -198,12 +181,10 @@ module _ {R : CommRing} {T : Type 0} {f : T → R.Carrier} {z : T} {lower : Comp
 
       -- what is left in the scratch column from row j on is zero
       emptied : (i : ℕ) → j ≤ i → i < n → f (get_or last i z) ≡ R.zero
-      emptied i le within = elim (true_or_false ((plain_of_cols R f m).has i j)) [
-        | inl hit ↦
-            let place = has_place R f m s.done.sound i j hit in
-            ap (λ i. f (get_or last i z)) (sym place.index)
+      emptied i le within = elim (place_or_not R f s.done.sound i j) [
+        | inl place ↦ ap (λ i. f (get_or last i z)) (sym place.index)
             ∙ ap f (moved.cleared place.at place.in_lane) ∙ s.done.zero
-        | inr miss ↦ ap f (moved.kept i (unplaced i miss)) ∙ left_nothing i le within miss
+        | inr none ↦ ap f (moved.kept i none) ∙ left_nothing i le within none
       ]
 
       kept_pivots : (c : ℕ) → c ≢ j → elements R f z pivots c ≡ elements R f z column c

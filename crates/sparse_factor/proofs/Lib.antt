@@ -36,4 +36,5 @@ mod FactorsOfFill
 mod Results
 mod JoinedFactors
 mod ColumnMoves
+mod PlaceValues
 mod ColumnSteps

@@ -7,15 +7,20 @@ use Rattle.sparse_algebra.specs.Algebra.{CommRing}
 use Rattle.sparse_pattern.specs.Raw.{end_of}
 use Rattle.sparse_compressed.specs.Compressed.{Compressed, IsSound}
 use Rattle.sparse_compressed.specs.PlainOfLanes.{plain_of_cols}
-use Rattle.sparse_compressed.proofs.Arrays.{value_at_position}
 use Rattle.sparse_with_dense.specs.SparseVectors.{AddsMultiple, elements}
 use Rattle.sparse_factor.specs.InnerFactors.{AreCursors, IsCursor, IsLeft, IsLowerPattern, IsRowOf}
 use Rattle.sparse_factor.proofs.Cursors.{AreCursorsAt, at_cursor, cursors_start, cursors_more}
 use Rattle.sparse_factor.proofs.FilledSets.{no_place_zero}
 use Rattle.sparse_factor.proofs.LaneCuts.{cut, cut_inside, taken-above, taken-below}
 use Rattle.sparse_factor.proofs.Left.{left_start, left_more}
+use Rattle.sparse_factor.proofs.PlaceValues.{place_value}
 
 module _ (R : CommRing) {T : Type 0} (f : T → R.Carrier) (z : T) where
+  -- w is what the first k columns of m leave of b, which has the pivots above row j
+  abbrev pub Leaves : Compressed T → ℕ → List T → ℕ → List T → Type 0
+  Leaves m j b k w = IsLeft R (length b) j (plain_of_cols R f m).value (elements R f z b) k
+      (elements R f z w) (elements R f z b)
+
   -- the columns of the first q entries of row j of m are taken off b, which leaves w from row j on;
   -- above row j both have the pivots
   pub record IsRowRead (m : Compressed T) (j : ℕ) (row : List ℕ) (b : List T) (q : ℕ)
@@ -29,8 +34,7 @@ module _ (R : CommRing) {T : Type 0} (f : T → R.Carrier) (z : T) where
     pub room : m.pattern.major_dim ≤ length cursors
     pub placed : AreCursorsAt m.pattern j row q cursors
     pub above : (i : ℕ) → i < j → f (get_or w i z) ≡ f (get_or b i z)
-    pub left : IsLeft R (length b) j (plain_of_cols R f m).value (elements R f z b)
-        (get_or row q j) (elements R f z w) (elements R f z b)
+    pub left : Leaves m j b (get_or row q j) w
 
   -- the other columns are zero in row j
   others_zero : {m : Compressed T} {j : ℕ} {row : List ℕ} → IsSound m → IsRowOf m.pattern j row
@@ -62,10 +66,8 @@ module _ {R : CommRing} {T : Type 0} {f : T → R.Carrier} {z : T} {m : Compress
     {row : List ℕ} {b : List T} {q : ℕ} {cursors : List ℕ} {w : List T}
     (s : IsRowRead R f z m j row b q cursors w) where
   -- the whole row is read
-  pub all_read : length row ≤ q → IsLeft R (length b) j (plain_of_cols R f m).value
-      (elements R f z b) j (elements R f z w) (elements R f z b)
-  all_read end = subst (λ k. IsLeft R (length b) j (plain_of_cols R f m).value
-      (elements R f z b) k (elements R f z w) (elements R f z b)) (get_or_past row q j end) s.left
+  pub all_read : length row ≤ q → Leaves R f z m j b j w
+  all_read end = subst (λ k. Leaves R f z m j b k w) (get_or_past row q j end) s.left
 
   module _ (lt : q < length row) where
     abbrev k : ℕ
@@ -92,16 +94,16 @@ module _ {R : CommRing} {T : Type 0} {f : T → R.Carrier} {z : T} {m : Compress
         (end_of m.pattern k))) (sym (s.long ∙ s.rows ∙ sym s.square)) (cut_inside R f z s.sound lane cursor)
 
     entry_value : (plain_of_cols R f m).value j k ≡ f (get_or m.values c z)
-    entry_value = value_at_position R f m.pattern s.sound.valid m.values s.sound.count z k j c (
-      record { lane = lane; from = cursor.from; to = entry_found.0 },
-      entry_found.1,
-    )
+    entry_value = place_value R f s.sound z (record {
+      at = c;
+      in_lane = record { lane = lane; from = cursor.from; to = entry_found.0 };
+      index = entry_found.1;
+    })
 
     -- the entry is passed, and x is left
     passed : {x : List T} → length x ≡ length w
         → ((i : ℕ) → i < j → f (get_or x i z) ≡ f (get_or w i z))
-        → IsLeft R (length b) j (plain_of_cols R f m).value (elements R f z b)
-        (get_or row (q + 1) j) (elements R f z x) (elements R f z b)
+        → Leaves R f z m j b (get_or row (q + 1) j) x
         → IsRowRead R f z m j row b (q + 1) (set cursors k (c + 1)) x
     passed same above left = record {
       sound = s.sound;
@@ -151,6 +153,5 @@ module _ {R : CommRing} {T : Type 0} {f : T → R.Carrier} {z : T} {m : Compress
     diagonal_passed over =
         let most = s.low k j (s.is.stored q lt) in
         let here : get_or row q j ≡ j = get_or_default row q j 0 lt ∙ omega arith in
-        passed refl (λ i _. refl) (subst (λ c. IsLeft R (length b) j (plain_of_cols R f m).value
-        (elements R f z b) c (elements R f z w) (elements R f z b))
+        passed refl (λ i _. refl) (subst (λ k. Leaves R f z m j b k w)
         (here ∙ sym (get_or_past row (q + 1) j (none_behind over))) s.left)

@@ -13,7 +13,7 @@ use Rattle.sparse_coo_dense.specs.Dense.{Dense}
 use Rattle.sparse_coo_dense.specs.DensePlain.{plain_of_dense}
 use Rattle.sparse_compressed.specs.Compressed.{Compressed, IsSound}
 use Rattle.sparse_compressed.specs.PlainOfLanes.{plain_of_cols}
-use Rattle.sparse_compressed.proofs.Arrays.{proper_rows, value_at_position}
+use Rattle.sparse_compressed.proofs.Arrays.{proper_rows}
 use Rattle.sparse_with_dense.specs.Solutions.{IsSolution, IsSingular, plain_lower}
 use Rattle.sparse_with_dense.proofs.ColumnSteps.{lower_is, lower_zero}
 use Rattle.sparse_with_dense.specs.SparseVectors.{elements}
@@ -22,6 +22,7 @@ use Rattle.sparse_factor.specs.Factors.{AreFactors, Factors, plain_of_factors}
 use Rattle.sparse_factor.specs.InnerFactors.{AreInverses, AreScaledBelow}
 use Rattle.sparse_factor.proofs.FilledSets.{has_place}
 use Rattle.sparse_factor.proofs.PlainProducts.{ldl-value}
+use Rattle.sparse_factor.proofs.PlaceValues.{place_value}
 use Rattle.sparse_factor.proofs.RingFacts.{trivial}
 use Rattle.sparse_factor.proofs.ScaledRows.{plain_divided}
 
@@ -58,8 +59,7 @@ module _ {R : CommRing} {T : Type 0} {f : T → R.Carrier} {z : T} {s : Factors 
         | inl hit ↦
             let place = has_place R f m sound k k hit in
             let v = get_or m.values place.at z in
-            let value : l.value k k ≡ f v = value_at_position R f m.pattern sound.valid m.values
-            sound.count z k k place.at (place.in_lane, place.index) in
+            let value = place_value R f sound z place in
             let test : nat_le k k ≡ true = grind (arith, nat_tests) in
             let inverts : R.mul (t.value k k) (f v) ≡ R.one =
             ap (λ c. R.mul c (f v)) (same ∙ one) ∙ ap (R.mul R.one) (sym value ∙ one)

@@ -1,0 +1,23 @@
+-- An entry of a matrix is that of a place, or zero.
+use Rattle.std.proofs.Common.{◌≡◌, ℕ, ◌⊎◌, inl, inr, get_or}
+use Rattle.sparse_algebra.proofs.Cases.{true_or_false}
+use Rattle.sparse_algebra.specs.Algebra.{CommRing}
+use Rattle.sparse_pattern.specs.Raw.{IsPlace}
+use Rattle.sparse_compressed.specs.Compressed.{Compressed, IsSound}
+use Rattle.sparse_compressed.specs.PlainOfLanes.{plain_of_cols}
+use Rattle.sparse_compressed.proofs.Arrays.{value_at_position}
+use Rattle.sparse_factor.proofs.ClosedSets.{clash}
+use Rattle.sparse_factor.proofs.FilledSets.{has_place, place_has}
+
+module _ (R : CommRing) {T : Type 0} (f : T → R.Carrier) {m : Compressed T} (sound : IsSound m)
+  where
+    pub place_value : (z : T) {i j : ℕ} (place : IsPlace m.pattern j i)
+        → (plain_of_cols R f m).value i j ≡ f (get_or m.values place.at z)
+    place_value z {i} {j} place = value_at_position R f m.pattern sound.valid m.values sound.count z
+        j i place.at (place.in_lane, place.index)
+
+    pub place_or_not : (i j : ℕ) → IsPlace m.pattern j i ⊎ (IsPlace m.pattern j i → ⊥)
+    place_or_not i j = elim (true_or_false ((plain_of_cols R f m).has i j)) [
+      | inl hit ↦ inl (has_place R f m sound i j hit)
+      | inr miss ↦ inr (λ place. clash _ (place_has R f m sound i j place) miss)
+    ]
