@@ -1,7 +1,7 @@
 -- The law by columns: the equation at (j, j) fixes the pivot j, and those below it fix column j of
 -- the triangle, since the pivot has an inverse. Nothing else is cancelled.
 use Rattle.std.proofs.Common.{◌≡◌, ℕ, zero, suc, ◌<◌, ◌≤◌, inl, inr, ap, sym, subst, ◌∙◌, arith}
-use Rattle.sparse_algebra.proofs.Cases.{three}
+use Rattle.sparse_algebra.proofs.Cases.{lt_or_ge, three}
 use Rattle.sparse_algebra.specs.Algebra.{CommRing}
 use Rattle.sparse_algebra.specs.Sums.{sum_below}
 use Rattle.sparse_algebra.proofs.SumLemmas.{sum_below-same}
@@ -57,69 +57,63 @@ module _ (R : CommRing) {X : Type 0} (f : X → R.Carrier) where
           ∙ h.columns i j b le a
 
   -- the equation at (c, c)
-  at_pivot : (s lcc dc m : R.Carrier) → lcc ≡ R.one → R.add s (R.mul lcc dc) ≡ m
-      → R.add s dc ≡ m
-  at_pivot s lcc dc m unit h = sym (ap (R.add s) (one_mul R lcc dc unit)) ∙ h
+  at_pivot : {s lcc dc m : R.Carrier} → lcc ≡ R.one → R.add s (R.mul lcc dc) ≡ m → R.add s dc ≡ m
+  at_pivot {s} {lcc} {dc} unit h = sym (ap (R.add s) (one_mul R lcc dc unit)) ∙ h
 
   -- the same pivot and the same column c
   abbrev pub Agree : (n c : ℕ) (l l' : ℕ → ℕ → R.Carrier) (d d' : ℕ → R.Carrier) → Type 0
   Agree n c l l' d d' = (d c ≡ d' c) × ((i : ℕ) → i < n → l i c ≡ l' i c)
 
-  same_terms : (n c i : ℕ) (l l' : ℕ → ℕ → R.Carrier) (d d' : ℕ → R.Carrier) → c < n → i < n
-      → ((k : ℕ) → k < c → Agree n k l l' d d')
-      → sum_below R c (term R l d i c) ≡ sum_below R c (term R l' d' i c)
-  same_terms n c i l l' d d' lt within agree =
-      sum_below-same R c (term R l d i c) (term R l' d' i c) (λ k le.
-      let a = agree k le in
-      ap (λ x. R.mul (R.mul x (d k)) (l c k)) (a.1 i within)
-      ∙ ap (λ x. R.mul (R.mul (l' i k) x) (l c k)) a.0
-      ∙ ap (R.mul (R.mul (l' i k) (d' k))) (a.1 c lt))
+  module _ (n : ℕ) (l l' : ℕ → ℕ → R.Carrier) (d d' : ℕ → R.Carrier) where
+    same_terms : (c i : ℕ) → c < n → i < n → ((k : ℕ) → k < c → Agree n k l l' d d')
+        → sum_below R c (term R l d i c) ≡ sum_below R c (term R l' d' i c)
+    same_terms c i lt within agree =
+        sum_below-same R c (term R l d i c) (term R l' d' i c) (λ k le.
+        let a = agree k le in
+        ap (λ x. R.mul (R.mul x (d k)) (l c k)) (a.1 i within)
+        ∙ ap (λ x. R.mul (R.mul (l' i k) x) (l c k)) a.0
+        ∙ ap (R.mul (R.mul (l' i k) (d' k))) (a.1 c lt))
 
-  module _ (n j : ℕ) (m l l' : ℕ → ℕ → R.Carrier) (d d' : ℕ → R.Carrier) (within : j ≤ n)
-      (p : ArePartFactors R f n j m l d) (q : ArePartFactors R f n j m l' d') where
-    -- columns that agree before c agree at c
-    agree_next : (c : ℕ) → c < j → ((k : ℕ) → k < c → Agree n k l l' d d') → Agree n c l l' d d'
-    agree_next c below ih =
-        let inside : c < n = omega arith in
-        let old : ℕ → R.Carrier = λ i. sum_below R c (term R l d i c) in
-        let new : ℕ → R.Carrier = λ i. sum_below R c (term R l' d' i c) in
-        let sums : (i : ℕ) → i < n → old i ≡ new i =
-        λ i w. same_terms n c i l l' d d' inside w ih in
-        let first : R.add (old c) (d c) ≡ m c c =
-        at_pivot (old c) (l c c) (d c) (m c c) (p.unit c below)
-        (p.columns c c below (omega arith) inside) in
-        let second : R.add (new c) (d' c) ≡ m c c =
-        at_pivot (new c) (l' c c) (d' c) (m c c) (q.unit c below)
-        (q.columns c c below (omega arith) inside) in
-        let pivot : d c ≡ d' c = cancel_left R (d c) (d' c) (old c)
-        (first ∙ sym (ap (λ s. R.add s (d' c)) (sums c inside) ∙ second)) in (
-          pivot,
-          λ i w. elim (three i c) [
-            | inl less ↦ p.upper i c below less ∙ sym (q.upper i c below less)
-            | inr rest ↦
-                let le : c ≤ i = grind (arith, rest) in
-                let a : R.add (old i) (R.mul (l i c) (d c)) ≡ m i c = p.columns i c below le w in
-                let b : R.add (old i) (R.mul (l' i c) (d c)) ≡ m i c =
-                ap (λ x. R.add (old i) (R.mul (l' i c) x)) pivot
-                ∙ ap (λ s. R.add s (R.mul (l' i c) (d' c))) (sums i w)
-                ∙ q.columns i c below le w in
-                cancel_mul R f (l i c) (l' i c) (d c) (p.pivots c below)
-                (cancel_left R (R.mul (l i c) (d c)) (R.mul (l' i c) (d c)) (old i) (a ∙ sym b))
-          ],
-        )
+    module _ {j : ℕ} {m : ℕ → ℕ → R.Carrier} (within : j ≤ n) (p : ArePartFactors R f n j m l d)
+        (q : ArePartFactors R f n j m l' d') where
+      -- columns that agree before c agree at c
+      agree_next : (c : ℕ) → c < j → ((k : ℕ) → k < c → Agree n k l l' d d')
+          → Agree n c l l' d d'
+      agree_next c below ih =
+          let inside : c < n = omega arith in
+          let old : ℕ → R.Carrier = λ i. sum_below R c (term R l d i c) in
+          let sums : (i : ℕ) → i < n → old i ≡ sum_below R c (term R l' d' i c) =
+          λ i w. same_terms c i inside w ih in
+          let first = at_pivot (p.unit c below) (p.columns c c below (omega arith) inside) in
+          let second = at_pivot (q.unit c below) (q.columns c c below (omega arith) inside) in
+          let pivot : d c ≡ d' c = cancel_left R (d c) (d' c) (old c)
+          (first ∙ sym (ap (λ s. R.add s (d' c)) (sums c inside) ∙ second)) in (
+            pivot,
+            λ i w. elim (lt_or_ge i c) [
+              | inl less ↦ p.upper i c below less ∙ sym (q.upper i c below less)
+              | inr le ↦
+                  let same : R.add (old i) (R.mul (l' i c) (d c)) ≡ m i c =
+                  ap (λ x. R.add (old i) (R.mul (l' i c) x)) pivot
+                  ∙ ap (λ s. R.add s (R.mul (l' i c) (d' c))) (sums i w)
+                  ∙ q.columns i c below le w in
+                  cancel_mul R f (l i c) (l' i c) (d c) (p.pivots c below)
+                  (cancel_left R (R.mul (l i c) (d c)) (R.mul (l' i c) (d c)) (old i)
+                  (p.columns i c below le w ∙ sym same))
+            ],
+          )
 
-    agree_before : (b c : ℕ) → c < b → c < j → Agree n c l l' d d'
-    agree_before zero c lt below = absurd (omega arith)
-    agree_before (suc b) c lt below =
-        agree_next c below (λ k less. agree_before b k (omega arith) (omega arith))
+      agree_before : (b c : ℕ) → c < b → c < j → Agree n c l l' d d'
+      agree_before zero c lt below = absurd (omega arith)
+      agree_before (suc b) c lt below =
+          agree_next c below (λ k less. agree_before b k (omega arith) (omega arith))
 
-    -- two factorisations have the same values
-    pub part_unique : (c : ℕ) → c < j → Agree n c l l' d d'
-    part_unique c lt = agree_before j c lt lt
+      -- two factorisations have the same values
+      pub part_unique : (c : ℕ) → c < j → Agree n c l l' d d'
+      part_unique c lt = agree_before j c lt lt
 
-  pub part_less : (n j k : ℕ) (m l : ℕ → ℕ → R.Carrier) (d : ℕ → R.Carrier) → k ≤ j
+  part_less : {n j k : ℕ} {m l : ℕ → ℕ → R.Carrier} {d : ℕ → R.Carrier} → k ≤ j
       → ArePartFactors R f n j m l d → ArePartFactors R f n k m l d
-  part_less n j k m l d le p = record {
+  part_less le p = record {
     unit = λ c lt. p.unit c (omega arith);
     upper = λ i c lt. p.upper i c (omega arith);
     pivots = λ c lt. p.pivots c (omega arith);
@@ -132,11 +126,8 @@ module _ (R : CommRing) {X : Type 0} (f : X → R.Carrier) where
       → j < n → ArePartFactors R f n j m l d → R.add (sum_below R j (term R l d j j)) w ≡ m j j
       → (HasInverse R f w → ⊥) → ArePartFactors R f n n m l' d' → ⊥
   no_factorisation n j m l l' d d' w lt p at none q =
-      let agree : (k : ℕ) → k < j → Agree n k l l' d d' =
-      part_unique n j m l l' d d' (omega arith) p (part_less n n j m l' d' (omega arith) q) in
-      let second : R.add (sum_below R j (term R l' d' j j)) (d' j) ≡ m j j =
-      at_pivot (sum_below R j (term R l' d' j j)) (l' j j) (d' j) (m j j) (q.unit j lt)
-      (q.columns j j lt (omega arith) lt) in
+      let agree = part_unique n l l' d d' (omega arith) p (part_less (omega arith) q) in
+      let second = at_pivot (q.unit j lt) (q.columns j j lt (omega arith) lt) in
       let is : d' j ≡ w = cancel_left R (d' j) w (sum_below R j (term R l' d' j j))
-      (second ∙ sym (ap (λ s. R.add s w) (sym (same_terms n j j l l' d d' lt lt agree)) ∙ at)) in
+      (second ∙ sym (ap (λ s. R.add s w) (sym (same_terms n l l' d d' j j lt lt agree)) ∙ at)) in
       none (subst (HasInverse R f) is (q.pivots j lt))

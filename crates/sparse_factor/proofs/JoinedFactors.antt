@@ -19,9 +19,8 @@ module _ (R : CommRing) {T : Type 0} (f : T → R.Carrier) (z : T) (a l : Compre
   where
     pub only_factors : length d ≡ a.pattern.minor_dim → AreOnlyFactorsOf R f z a (factors_of l d)
     only_factors size k c h =
-        let n = a.pattern.minor_dim in
-        let agree = part_unique R f n n (symmetric_of R f a).value k.value
-        (plain_of_cols R f l).value c (elements R f z d) (omega arith)
+        let agree = part_unique R f a.pattern.minor_dim k.value (plain_of_cols R f l).value c
+        (elements R f z d) (omega arith)
         (columns_of R f (symmetric_of R f a) k c h)
         (columns_of R f (symmetric_of R f a) (plain_of_cols R f l) (elements R f z d) factors) in (
           λ i j row col. (agree j (omega (arith, col, size))).1 i (omega (arith, row, size)),

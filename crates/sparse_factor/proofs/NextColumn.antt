@@ -1,7 +1,7 @@
 -- A column more of a factorisation: what is left of column j, times the inverse of its pivot.
 use Rattle.std.proofs.Common.{◌≡◌, ◌≢◌, ℕ, suc, ◌<◌, ◌≤◌, inl, inr, ap, sym}
 use Rattle.std.proofs.Common.{subst, ◌∙◌, arith}
-use Rattle.sparse_algebra.proofs.Cases.{three}
+use Rattle.sparse_algebra.proofs.Cases.{le_cases, lt_suc_cases}
 use Rattle.sparse_algebra.specs.Algebra.{CommRing}
 use Rattle.sparse_algebra.specs.Sums.{sum_below}
 use Rattle.sparse_algebra.proofs.SumLemmas.{sum_below-same}
@@ -15,23 +15,24 @@ module _ (R : CommRing) {X : Type 0} (f : X → R.Carrier) (n j : ℕ) (m l l' :
     (left : IsLeft R n j l d j w (λ i. m i j)) (inv : R.mul (w j) (f e) ≡ R.one)
     (kept : (i c : ℕ) → c ≢ j → l' i c ≡ l i c) (kept_d : (c : ℕ) → c ≢ j → d' c ≡ d c)
     (pivot : d' j ≡ w j) where
+  other : {c : ℕ} → c < j → c ≢ j
+  other less same = absurd (omega (arith, same, less))
+
   old_terms : (i c : ℕ) → c ≤ j
       → sum_below R c (term R l' d' i c) ≡ sum_below R c (term R l d i c)
   old_terms i c le = sum_below-same R c (term R l' d' i c) (term R l d i c) (λ k less.
-      let other : k ≢ j = λ same. absurd (omega (arith, same, less)) in
-      ap (λ x. R.mul (R.mul x (d' k)) (l' c k)) (kept i k other)
-      ∙ ap (λ x. R.mul (R.mul (l i k) x) (l' c k)) (kept_d k other)
-      ∙ ap (R.mul (R.mul (l i k) (d k))) (kept c k other))
+      let ne : k ≢ j = other (omega arith) in
+      ap (λ x. R.mul (R.mul x (d' k)) (l' c k)) (kept i k ne)
+      ∙ ap (λ x. R.mul (R.mul (l i k) x) (l' c k)) (kept_d k ne)
+      ∙ ap (R.mul (R.mul (l i k) (d k))) (kept c k ne))
 
   module _ (unit : l' j j ≡ R.one) (upper : (i : ℕ) → i < j → l' i j ≡ R.zero)
       (below : (i : ℕ) → j < i → i < n → l' i j ≡ R.mul (w i) (f e)) where
     last : (i : ℕ) → j ≤ i → i < n → R.mul (l' i j) (d' j) ≡ w i
-    last i le within = elim (three i j) [
-      | inl less ↦ absurd (omega arith)
-      | inr (inl more) ↦ ap (R.mul (l' i j)) pivot ∙ R.laws.mul_comm (l' i j) (w j)
+    last i le within = elim (le_cases j i le) [
+      | inl more ↦ ap (R.mul (l' i j)) pivot ∙ R.laws.mul_comm (l' i j) (w j)
           ∙ ap (R.mul (w j)) (below i more within) ∙ divided R (w j) (f e) (w i) inv
-      | inr (inr is) ↦ one_mul R (l' i j) (d' j) (ap (λ i. l' i j) is ∙ unit) ∙ pivot
-          ∙ ap w (sym is)
+      | inr is ↦ one_mul R (l' i j) (d' j) (ap (λ i. l' i j) (sym is) ∙ unit) ∙ pivot ∙ ap w is
     ]
 
     last_column : (i c : ℕ) → c ≡ j → c ≤ i → i < n
@@ -45,34 +46,29 @@ module _ (R : CommRing) {X : Type 0} (f : X → R.Carrier) (n j : ℕ) (m l l' :
     old_column : (i c : ℕ) → c < j → c ≤ i → i < n
         → R.add (sum_below R c (term R l' d' i c)) (R.mul (l' i c) (d' c)) ≡ m i c
     old_column i c before le within =
-        let other : c ≢ j = λ same. absurd (omega (arith, same, before)) in
         ap (λ s. R.add s (R.mul (l' i c) (d' c))) (old_terms i c (omega arith))
-        ∙ ap (λ x. R.add (sum_below R c (term R l d i c)) (R.mul x (d' c))) (kept i c other)
-        ∙ ap (λ x. R.add (sum_below R c (term R l d i c)) (R.mul (l i c) x)) (kept_d c other)
+        ∙ ap (λ x. R.add (sum_below R c (term R l d i c)) (R.mul x (d' c)))
+        (kept i c (other before))
+        ∙ ap (λ x. R.add (sum_below R c (term R l d i c)) (R.mul (l i c) x))
+        (kept_d c (other before))
         ∙ p.columns i c before le within
 
     pub part_step : ArePartFactors R f n (suc j) m l' d'
     part_step = record {
-      unit = λ c less. elim (three c j) [
-        | inl before ↦ kept c c (λ same. absurd (omega (arith, same, before))) ∙ p.unit c before
-        | inr (inl more) ↦ absurd (omega arith)
-        | inr (inr is) ↦ ap (λ c. l' c c) is ∙ unit
+      unit = λ c less. elim (lt_suc_cases c j less) [
+        | inl before ↦ kept c c (other before) ∙ p.unit c before
+        | inr is ↦ ap (λ c. l' c c) is ∙ unit
       ];
-      upper = λ i c less under. elim (three c j) [
-        | inl before ↦ kept i c (λ same. absurd (omega (arith, same, before)))
-            ∙ p.upper i c before under
-        | inr (inl more) ↦ absurd (omega arith)
-        | inr (inr is) ↦ ap (l' i) is ∙ upper i (omega (arith, is, under))
+      upper = λ i c less under. elim (lt_suc_cases c j less) [
+        | inl before ↦ kept i c (other before) ∙ p.upper i c before under
+        | inr is ↦ ap (l' i) is ∙ upper i (omega (arith, is, under))
       ];
-      pivots = λ c less. elim (three c j) [
-        | inl before ↦ subst (HasInverse R f)
-            (sym (kept_d c (λ same. absurd (omega (arith, same, before))))) (p.pivots c before)
-        | inr (inl more) ↦ absurd (omega arith)
-        | inr (inr is) ↦ (e, ap (λ x. R.mul x (f e)) (ap d' is ∙ pivot) ∙ inv)
+      pivots = λ c less. elim (lt_suc_cases c j less) [
+        | inl before ↦ subst (HasInverse R f) (sym (kept_d c (other before))) (p.pivots c before)
+        | inr is ↦ (e, ap (λ x. R.mul x (f e)) (ap d' is ∙ pivot) ∙ inv)
       ];
-      columns = λ i c less le within. elim (three c j) [
+      columns = λ i c less le within. elim (lt_suc_cases c j less) [
         | inl before ↦ old_column i c before le within
-        | inr (inl more) ↦ absurd (omega arith)
-        | inr (inr is) ↦ last_column i c is le within
+        | inr is ↦ last_column i c is le within
       ];
     }
