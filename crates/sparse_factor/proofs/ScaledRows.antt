@@ -1,6 +1,7 @@
 -- Rows of a dense matrix that are multiplied by factors.
 use Rattle.std.proofs.Common.{◌≡◌, ℕ, ◌+◌, ◌<◌, inl, inr, List, length, get_or, ap, sym, subst, ◌∙◌}
-use Rattle.std.proofs.Common.{refl, arith}
+use Rattle.std.proofs.Common.{◌≤◌, set, get_or-set_same, get_or-set_other, refl, arith}
+use Rattle.std.proofs.lemmas.List.{get_or_default}
 use Rattle.sparse_algebra.proofs.Cases.{lt_add_one_cases, lt_or_ge}
 use Rattle.sparse_algebra.proofs.RingLemmas.{mul_zero}
 use Rattle.sparse_algebra.specs.Algebra.{CommRing}
@@ -12,7 +13,34 @@ use Rattle.sparse_with_dense.proofs.RingSteps.{divided}
 use Rattle.sparse_with_dense.proofs.SolvedColumns.{with_column-here, with_column-other}
 use Rattle.sparse_factor.specs.InnerFactors.{AreInverses, AreScaledBelow, IsScaled}
 
+-- the first i entries of y are those of x, times their factors, and the others are the same
+pub record AreScaledTo (R : CommRing) {T : Type 0} (f : T → R.Carrier) (z : T) (i : ℕ)
+    (factors x y : List T) : Type 0 where
+  pub scaled : (k : ℕ) → k < i
+      → elements R f z y k ≡ R.mul (elements R f z x k) (elements R f z factors k)
+  pub waiting : (k : ℕ) → i ≤ k → elements R f z y k ≡ elements R f z x k
+
 module _ {R : CommRing} {T : Type 0} {f : T → R.Carrier} {z : T} {factors : List T} where
+  -- one entry more
+  pub scaled_entry : {i : ℕ} {x y : List T} {u v w : T} → AreScaledTo R f z i factors x y
+      → i < length y → i < length factors → u ≡ get_or y i u → v ≡ get_or factors i v
+      → f w ≡ R.mul (f u) (f v) → AreScaledTo R f z (i + 1) factors x (set y i w)
+  scaled_entry {i} {x} {y} {u} {v} {w} h in_y in_factors read factor is = record {
+    scaled = λ k lt. elim (lt_add_one_cases k i lt) [
+      | inl less ↦ ap f (get_or-set_other y i k w z (λ same. omega (arith, same, less)))
+          ∙ h.scaled k less
+      | inr same ↦ subst (λ k. elements R f z (set y i w) k
+          ≡ R.mul (elements R f z x k) (elements R f z factors k)) (sym same)
+          (ap f (get_or-set_same y i w z in_y) ∙ is
+          ∙ ap (λ c. R.mul c (f v)) (ap f (read ∙ get_or_default y i u z in_y)
+          ∙ h.waiting i (omega arith))
+          ∙ ap (λ t. R.mul (elements R f z x i) (f t))
+          (factor ∙ get_or_default factors i v z in_factors))
+    ];
+    waiting = λ k le. ap f (get_or-set_other y i k w z (λ same. omega (arith, same, le)))
+        ∙ h.waiting k (omega arith);
+  }
+
   pub scaled_none : {d : Dense T} → AreScaledBelow R f z 0 factors d d
   scaled_none = record {
     rows = refl;

@@ -56,11 +56,12 @@ pub fn factor_columns<T: Units>(
     ensures kind { IfErr result (λ e. e ≡ Singular) }
 {
     learn(l.values());
-    learn(rows.major_offsets());
+    let (starts, columns) = (rows.major_offsets(), rows.minor_indices());
     let (pattern, values) = l.pattern_and_values_mut();
     for j in 0..inverses.len() {
         axpy_csc_col(T::one(), lower, j, column);
-        subtract_columns(pattern, values, rows.lane(j), j, cursors, column);
+        let row = &columns[starts[j]..starts[j + 1]];
+        subtract_columns(pattern, values, row, j, cursors, column);
         let pivot = column[j];
         let Some(inverse) = pivot.recip() else {
             return Err(OperationError::of_singular_diagonal());

@@ -8,9 +8,12 @@ use Rattle.sparse_factor.proofs.ldl.columns.factor_columns.Goals as goal
 
 pub subtract_columns-requires-clause-row : goal.subtract_columns-requires-clause-row
 subtract_columns-requires-clause-row g c =
-    rw (c.pattern_and_values_mut-values.ensures.pattern, c.lane.ensures)
-    (lane_is_row c.args.l.now.pattern c.args.rows.now c.requires.transposed
-    c.major_offsets.ensures.valid c.loop-j.j (omega (
+    rw (
+      c.pattern_and_values_mut-values.ensures.pattern,
+      c.major_offsets-starts.ensures.offsets,
+      c.minor_indices-columns.ensures.indices,
+    ) (lane_is_row c.args.l.now.pattern c.args.rows.now c.requires.transposed
+    c.major_offsets-starts.ensures.valid c.loop-j.j (omega (
       arith,
       c.loop-j-test.true,
       c.requires.transposed.major_dim,
