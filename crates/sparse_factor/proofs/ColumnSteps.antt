@@ -1,16 +1,16 @@
 -- One step of the factorisation over arrays: what the columns before j leave of column j is divided
 -- by the pivot, which is its entry on the diagonal.
-use Rattle.std.proofs.Common.{◌≡◌, ◌≢◌, ℕ, ◌+◌, ◌<◌, ◌≤◌, inl, inr, false, List, length}
+use Rattle.std.proofs.Common.{◌≡◌, ◌≢◌, ℕ, ◌+◌, ◌<◌, ◌≤◌, inl, inr, List, length}
 use Rattle.std.proofs.Common.{get_or, set, ap, sym, subst, ◌∙◌, arith, add-one}
 use Rattle.std.proofs.Common.{get_or-set_same, get_or-set_other, length-set}
 use Rattle.std.proofs.lemmas.List.{get_or_default, get_or_past}
-use Rattle.sparse_algebra.proofs.Cases.{lt_add_one_cases, lt_or_ge, three, true_or_false}
+use Rattle.sparse_algebra.proofs.Cases.{lt_add_one_cases, lt_or_ge, three}
 use Rattle.sparse_algebra.specs.Algebra.{CommRing}
 use Rattle.sparse_algebra.proofs.RingLemmas.{zero_add}
 use Rattle.sparse_algebra.proofs.SumLemmas.{sum_below-same}
 use Rattle.sparse_pattern.specs.Raw.{Raw, IsPlace}
 use Rattle.sparse_pattern.proofs.Positions.{one_lane}
-use Rattle.sparse_compressed.specs.Compressed.{Compressed, compressed_of, IsSound, IsPosition}
+use Rattle.sparse_compressed.specs.Compressed.{Compressed, compressed_of, IsSound}
 use Rattle.sparse_compressed.specs.PlainOfLanes.{plain_of_cols}
 use Rattle.sparse_with_dense.specs.SparseVectors.{AddsMultiple, elements}
 use Rattle.sparse_with_dense.proofs.RingSteps.{add_off, mul_off}

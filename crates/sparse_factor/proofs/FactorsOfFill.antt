@@ -1,5 +1,5 @@
 -- Factorisations of a symmetric matrix, from the columns of its lower triangle.
-use Rattle.std.proofs.Common.{◌≡◌, ℕ, ◌≤◌, sym, subst}
+use Rattle.std.proofs.Common.{◌≡◌, ℕ, ◌≤◌, sym}
 use Rattle.sparse_algebra.specs.Algebra.{CommRing}
 use Rattle.sparse_algebra.specs.Plain.{Plain, plain_transpose}
 use Rattle.sparse_compressed.specs.Compressed.{Compressed}

@@ -5,10 +5,9 @@ use Rattle.sparse_compressed.specs.Compressed.{Compressed, IsSound}
 use Rattle.sparse_compressed.specs.PlainOfLanes.{plain_of_cols}
 use Rattle.sparse_factor.specs.Fill.{InFill, UpperBase, StoresByColumns}
 use Rattle.sparse_with_dense.specs.SparseVectors.{elements}
-use Rattle.sparse_with_dense.specs.Solutions.{HasSameValues}
 use Rattle.sparse_factor.specs.Factorisations.{IsFactorisation, plain_upper}
 use Rattle.sparse_factor.specs.Factors.{AreFactorsOf, AreOnlyFactorsOf, HasNoFactors}
-use Rattle.sparse_factor.specs.Factors.{HavePivots, factors_of, plain_of_factors, symmetric_of}
+use Rattle.sparse_factor.specs.Factors.{factors_of, symmetric_of}
 use Rattle.sparse_factor.proofs.Columns.{part_unique}
 use Rattle.sparse_factor.proofs.PlainProducts.{columns_of}
 use Rattle.sparse_factor.proofs.UpperTriangles.{factorisation_same, same_fill, same_rows}

@@ -1,12 +1,12 @@
 -- The plain product L D Lᵀ as sums, and factorisations of plain matrices by their columns.
-use Rattle.std.proofs.Common.{◌≡◌, ℕ, ◌<◌, Bool, true, false, ◌&&◌, min, max, ap, sym}
+use Rattle.std.proofs.Common.{◌≡◌, ℕ, ◌<◌, true, min, max, ap, sym}
 use Rattle.std.proofs.Common.{◌∙◌, refl, arith}
 use Rattle.std.specs.Prelude.{nat_eq, nat_lt}
 use Rattle.std.proofs.Math.Nat.{min_comm, max_comm}
 use Rattle.std.proofs.lemmas.Bool.Decides.{nat_tests}
 use Rattle.sparse_algebra.proofs.Cases.{nat_eq_no}
 use Rattle.sparse_algebra.specs.Algebra.{CommRing}
-use Rattle.sparse_algebra.specs.Sums.{sum_below, where_true}
+use Rattle.sparse_algebra.specs.Sums.{sum_below}
 use Rattle.sparse_algebra.specs.Plain.{Plain}
 use Rattle.sparse_algebra.proofs.SumLemmas.{sum_below-same, sum_below-zero}
 use Rattle.sparse_with_dense.proofs.RingSteps.{add_off, sum_below-split}
@@ -17,21 +17,12 @@ use Rattle.sparse_factor.proofs.RingFacts.{mul_off_right}
 use Rattle.sparse_factor.proofs.Columns.{part_of_equations, equations_of_part}
 
 module _ (R : CommRing) where
-  where_both : (b c : Bool) (v : R.Carrier) → b ≡ true → c ≡ true → where_true R (b && c) v ≡ v
-  where_both true true v h k = refl
-  where_both true false v h k = cc
-  where_both false c v h k = cc
-
-  where_not : (b c : Bool) (v : R.Carrier) → b ≡ false → where_true R (b && c) v ≡ R.zero
-  where_not true c v h = cc
-  where_not false c v h = refl
-
   module _ (l : Plain R) (d : ℕ → R.Carrier) where
     on_diagonal : (n c : ℕ) → c < n → (plain_diagonal R n d).value c c ≡ d c
     on_diagonal n c lt =
         let same : nat_eq c c ≡ true = grind (arith, nat_tests) in
         let inside : nat_lt c n ≡ true = grind (arith, nat_tests) in
-        where_both (nat_eq c c) (nat_lt c n) (d c) same inside
+        rw (same, inside) refl
 
     -- each column of L is multiplied by its entry of D
     scaled : (i c : ℕ) → c < l.cols → sum_below R l.cols
@@ -41,7 +32,7 @@ module _ (R : CommRing) where
         sum_below-split R l.cols c
         (λ k. R.mul (l.value i k) ((plain_diagonal R l.cols d).value k c)) (λ _. R.zero) lt refl
         (λ k k_lt ne. mul_off_right R (l.value i k) ((plain_diagonal R l.cols d).value k c)
-        (where_not (nat_eq k c) (nat_lt k l.cols) (d k) (nat_eq_no k c ne)))
+        (rw (nat_eq_no k c ne) refl))
         ∙ add_off R _ (sum_below R l.cols (λ _. R.zero)) (sum_below-zero R l.cols)
         ∙ ap (R.mul (l.value i c)) (on_diagonal l.cols c lt)
 

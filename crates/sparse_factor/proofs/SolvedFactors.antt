@@ -1,7 +1,7 @@
 -- The solves with L and its transpose and the division between them solve the system of L D Lᵀ.
-use Rattle.std.proofs.Common.{◌≡◌, ℕ, ◌<◌, inl, inr, true, ◌&&◌, ap, sym, ◌∙◌, refl}
+use Rattle.std.proofs.Common.{◌≡◌, ℕ, ◌<◌, inl, inr, true, ◌&&◌, ap, sym, ◌∙◌}
 use Rattle.std.proofs.Common.{List, arith, get_or}
-use Rattle.std.specs.Prelude.{nat_le, nat_lt, Result, Ok, Err, OnOk, IsErr}
+use Rattle.std.specs.Prelude.{nat_le, nat_lt, Result, OnOk, IsErr}
 use Rattle.std.proofs.lemmas.Bool.Decides.{nat_tests}
 use Rattle.sparse_algebra.proofs.Cases.{lt_or_ge, true_or_false, and_both}
 use Rattle.sparse_algebra.specs.Algebra.{CommRing}
@@ -23,6 +23,7 @@ use Rattle.sparse_factor.specs.InnerFactors.{AreInverses, AreScaledBelow}
 use Rattle.sparse_factor.proofs.FilledSets.{has_place}
 use Rattle.sparse_factor.proofs.PlainProducts.{ldl-value}
 use Rattle.sparse_factor.proofs.PlaceValues.{place_value}
+use Rattle.sparse_factor.proofs.Results.{ok_or}
 use Rattle.sparse_factor.proofs.RingFacts.{trivial}
 use Rattle.sparse_factor.proofs.ScaledRows.{plain_divided}
 
@@ -92,20 +93,8 @@ module _ {R : CommRing} {T : Type 0} {f : T → R.Carrier} {z : T} {s : Factors 
         ∙ ap (λ a. R.mul a (y.value c j)) (sym (lower_same i c lt)))
         ∙ ap (λ (a : Plain R). a.value i j) first
 
-  -- where a solve refuses, all values are equal
-  solved_or_trivial : {E : Type 0} (r u : Result (Unit {0}) E) (x b y w : Plain R)
-      → ((c j : ℕ) → c < l.cols → R.mul (d c) (w.value c j) ≡ y.value c j)
-      → OnOk r (IsSolution R t y b) → OnOk u (IsSolution R (plain_transpose R t) x w)
-      → (IsErr r → IsSingular R f t) → (IsErr u → IsSingular R f t) → (i j : ℕ)
-      → (plain_product R (plain_ldl R l d) x).value i j ≡ b.value i j
-  solved_or_trivial (Ok _) (Ok _) x b y w divided first second e1 e2 i j =
-      solved_value x b y w divided first second i j
-  solved_or_trivial (Ok _) (Err e) x b y w divided first second e1 e2 i j =
-      trivial R (singular_trivial (e2 refl)) _ _
-  solved_or_trivial (Err e) u x b y w divided first second e1 e2 i j =
-      trivial R (singular_trivial (e1 refl)) _ _
-
-  -- the solves with L and its transpose, and the multiplication by the inverses between them
+  -- the solves with L and its transpose, and the multiplication by the inverses between them; where
+  -- a solve refuses, all values are equal
   pub solved : {E : Type 0} (r u : Result (Unit {0}) E) {es : List T} (x b : Dense T)
       {y w : Dense T} → f z ≡ R.zero → AreInverses R f z s.d es → b.nrows ≡ m.pattern.minor_dim
       → y.nrows ≡ b.nrows → x.ncols ≡ b.ncols → AreScaledBelow R f z y.ncols es y w
@@ -114,10 +103,17 @@ module _ {R : CommRing} {T : Type 0} {f : T → R.Carrier} {z : T} {s : Factors 
       → (IsErr r → IsSingular R f t) → (IsErr u → IsSingular R f t)
       → IsSolution R (plain_of_factors R f z s) (plain_of_dense R f x) (plain_of_dense R f b)
   solved r u x b {y} {w} zero inverses rows kept cols scaled first second e1 e2 =
+      let divided = λ (c j : ℕ) (lt : c < l.cols). plain_divided zero inverses scaled c j
+      (omega (arith, lt, kept, rows, factors.lower.square))
+      (omega (arith, lt, factors.lower.square, factors.count)) in
       same_plain _ (plain_of_dense R f b) (sym rows) cols
       (λ i j. ap (λ n. nat_lt i n && nat_lt j x.ncols) (sym rows)
       ∙ ap (λ n. nat_lt i b.nrows && nat_lt j n) cols)
-      (solved_or_trivial r u (plain_of_dense R f x) (plain_of_dense R f b) (plain_of_dense R f y)
-      (plain_of_dense R f w) (λ c j lt. plain_divided zero inverses scaled c j
-      (omega (arith, lt, kept, rows, factors.lower.square))
-      (omega (arith, lt, factors.lower.square, factors.count))) first second e1 e2)
+      (λ i j. elim (ok_or r first e1) [
+        | inl forward ↦ elim (ok_or u second e2) [
+          | inl backward ↦ solved_value (plain_of_dense R f x) (plain_of_dense R f b)
+              (plain_of_dense R f y) (plain_of_dense R f w) divided forward backward i j
+          | inr none ↦ trivial R (singular_trivial none) _ _
+        ]
+        | inr none ↦ trivial R (singular_trivial none) _ _
+      ])

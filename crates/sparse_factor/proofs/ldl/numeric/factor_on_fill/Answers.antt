@@ -1,9 +1,10 @@
 use Rattle.std.proofs.Common.{ap, sym, ◌∙◌}
+use Rattle.std.proofs.lemmas.Result.{IfErr-weaker}
 use Rattle.sparse_compressed.specs.PlainOfLanes.{plain_of_cols}
 use Rattle.sparse_with_dense.specs.SparseVectors.{elements}
 use Rattle.sparse_factor.proofs.FactorsOfFill.{factors_of_part, part_of_factors}
 use Rattle.sparse_factor.proofs.FillPatterns.{fill_pattern, lower_included}
-use Rattle.sparse_factor.proofs.Results.{ok_both, err_map}
+use Rattle.sparse_factor.proofs.Results.{ok_both}
 use Rattle.sparse_factor.proofs.ldl.numeric.factor_on_fill.Goals as goal
 
 pub factor_lower-requires-clause-filled : goal.factor_lower-requires-clause-filled
@@ -42,7 +43,7 @@ returns-clause-factors g c =
 pub returns-clause-singular : goal.returns-clause-singular
 returns-clause-singular g c =
     let need = c.requires in
-    err_map _ _ c.factor_lower.result
+    IfErr-weaker c.factor_lower.result _ _
     (λ e none is l d h. none is l.value d (part_of_factors g.T.Ring.ring g.T.Ring.value
     c.args.a.now c.in_ok-lower.lower c.in_ok-lower.ensures.plain l d
     (ap (λ p. p.major_dim) c.in_ok-l.ensures.pattern ∙ need.columns ∙ sym need.square) h))
