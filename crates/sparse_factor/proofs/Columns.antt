@@ -12,7 +12,7 @@ use Rattle.sparse_factor.proofs.RingFacts.{sum_below-cut}
 
 module _ (R : CommRing) {X : Type 0} (f : X → R.Carrier) where
   -- the product at (i, c) is what the columns before c make, and column c's part
-  whole : (n i c : ℕ) (l : ℕ → ℕ → R.Carrier) (d : ℕ → R.Carrier) → c < n → l c c ≡ R.one
+  pub whole : (n i c : ℕ) (l : ℕ → ℕ → R.Carrier) (d : ℕ → R.Carrier) → c < n → l c c ≡ R.one
       → ((k : ℕ) → c < k → k < n → l c k ≡ R.zero)
       → sum_below R n (term R l d i c)
       ≡ R.add (sum_below R c (term R l d i c)) (R.mul (l i c) (d c))
@@ -22,22 +22,7 @@ module _ (R : CommRing) {X : Type 0} (f : X → R.Carrier) where
       ∙ ap (R.add (sum_below R c (term R l d i c)))
       (ap (R.mul (R.mul (l i c) (d c))) unit ∙ R.laws.mul_one _)
 
-  -- all equations give those of the columns
-  pub part_of_equations : (n : ℕ) (m l : ℕ → ℕ → R.Carrier) (d : ℕ → R.Carrier)
-      → ((j : ℕ) → j < n → l j j ≡ R.one)
-      → ((i j : ℕ) → i < j → j < n → l i j ≡ R.zero)
-      → ((j : ℕ) → j < n → HasInverse R f (d j))
-      → ((i j : ℕ) → i < n → j < n → sum_below R n (term R l d i j) ≡ m i j)
-      → ArePartFactors R f n n m l d
-  part_of_equations n m l d unit upper pivots equation = record {
-    unit = unit;
-    upper = λ i c lt less. upper i c less lt;
-    pivots = pivots;
-    columns = λ i c lt le within. sym (whole n i c l d lt (unit c lt)
-        (λ k a b. upper c k a b)) ∙ equation i c within lt;
-  }
-
-  -- and those of the columns give all equations of a symmetric matrix
+  -- the equations of the columns give all equations of a symmetric matrix
   pub equations_of_part : (n : ℕ) (m l : ℕ → ℕ → R.Carrier) (d : ℕ → R.Carrier)
       → ((i j : ℕ) → m i j ≡ m j i) → ArePartFactors R f n n m l d
       → (i j : ℕ) → i < n → j < n → sum_below R n (term R l d i j) ≡ m i j

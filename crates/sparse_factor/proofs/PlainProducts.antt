@@ -14,7 +14,7 @@ use Rattle.sparse_factor.specs.Factorisations.{IsFactorisation, plain_diagonal, 
 use Rattle.sparse_factor.specs.Factorisations.{plain_symmetric}
 use Rattle.sparse_factor.specs.InnerFactors.{term, ArePartFactors}
 use Rattle.sparse_factor.proofs.RingFacts.{mul_off_right}
-use Rattle.sparse_factor.proofs.Columns.{part_of_equations, equations_of_part}
+use Rattle.sparse_factor.proofs.Columns.{whole, equations_of_part}
 
 module _ (R : CommRing) where
   module _ (l : Plain R) (d : ℕ → R.Carrier) where
@@ -53,12 +53,18 @@ module _ (R : CommRing) where
         → ArePartFactors R f m.rows m.rows m.value l.value d
     columns_of h =
         let cols : l.cols ≡ m.rows = h.lower.square ∙ h.rows in
-        part_of_equations R f m.rows m.value l.value d
-        (λ j lt. h.lower.unit j (omega (arith, lt, h.rows)))
-        (λ i j less lt. h.lower.upper i j less (omega (arith, lt, h.rows)))
-        h.pivots
-        (λ i j a b. ap (λ n. sum_below R n (term R l.value d i j)) (sym cols)
-        ∙ sym (ldl-value l d i j) ∙ h.equation i j a b)
+        let unit = λ (c : ℕ) (lt : c < m.rows). h.lower.unit c (omega (arith, lt, h.rows)) in
+        let upper = λ (i c : ℕ) (lt : c < m.rows) (less : i < c).
+        h.lower.upper i c less (omega (arith, lt, h.rows)) in
+        record {
+          unit = unit;
+          upper = upper;
+          pivots = h.pivots;
+          columns = λ i c lt le within.
+              sym (whole R f m.rows i c l.value d lt (unit c lt) (λ k more in_m. upper c k in_m more))
+              ∙ ap (λ n. sum_below R n (term R l.value d i c)) (sym cols)
+              ∙ sym (ldl-value l d i c) ∙ h.equation i c within lt;
+        }
 
     pub factorisation_of : l.rows ≡ m.rows → l.cols ≡ l.rows
         → ((i j : ℕ) → m.value i j ≡ m.value j i)
