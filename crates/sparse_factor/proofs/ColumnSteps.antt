@@ -53,48 +53,48 @@ module _ (R : CommRing) {T : Type 0} (f : T → R.Carrier) (z : T) where
   -- the columns of L and the pivots before j are those of a factorisation of the matrix whose lower
   -- triangle `lower` stores by columns; the cursors are at row j, and the scratch column has the
   -- pivots before j and is zero from there on
-  pub record AreColumnsDone (lower : Compressed T) (p : Raw) (values inverses : List T)
-      (cursors : List ℕ) (column : List T) (j : ℕ) : Type 0 where
+  pub record AreColumnsDone (lower l : Compressed T) (inverses : List T) (cursors : List ℕ)
+      (column : List T) (j : ℕ) : Type 0 where
     pub zero : f z ≡ R.zero
-    pub filled : IsFilledPattern p
-    pub included : IsIncluded lower.pattern p
-    pub sound : IsSound (compressed_of p values)
-    pub count : length inverses ≡ p.major_dim
-    pub rows : length column ≡ p.major_dim
-    pub room : p.major_dim ≤ length cursors
-    pub factors : ArePartFactors R f p.major_dim j (plain_of_cols R f lower).value
-        (plain_of_cols R f (compressed_of p values)).value (elements R f z column)
-    pub placed : AreCursors p j cursors
+    pub filled : IsFilledPattern l.pattern
+    pub included : IsIncluded lower.pattern l.pattern
+    pub sound : IsSound l
+    pub count : length inverses ≡ l.pattern.major_dim
+    pub rows : length column ≡ l.pattern.major_dim
+    pub room : l.pattern.major_dim ≤ length cursors
+    pub factors : ArePartFactors R f l.pattern.major_dim j (plain_of_cols R f lower).value
+        (plain_of_cols R f l).value (elements R f z column)
+    pub placed : AreCursors l.pattern j cursors
     pub empty : (i : ℕ) → j ≤ i → i < length column → elements R f z column i ≡ R.zero
     pub inverts : (i : ℕ) → i < j
         → R.mul (elements R f z column i) (elements R f z inverses i) ≡ R.one
 
   -- and from row j on `left` is what they leave of column j
-  pub record IsColumnLeft (lower : Compressed T) (p : Raw) (values inverses : List T)
-      (cursors : List ℕ) (column : List T) (j : ℕ) (left : List T) : Type 0 where
-    pub done : AreColumnsDone lower p values inverses cursors column j
+  pub record IsColumnLeft (lower l : Compressed T) (inverses : List T) (cursors : List ℕ)
+      (column : List T) (j : ℕ) (left : List T) : Type 0 where
+    pub done : AreColumnsDone lower l inverses cursors column j
     pub sound : IsSound lower
-    pub within : j < p.major_dim
-    pub long : length left ≡ p.major_dim
-    pub leaves : IsLeft R p.major_dim j (plain_of_cols R f (compressed_of p values)).value
+    pub within : j < l.pattern.major_dim
+    pub long : length left ≡ l.pattern.major_dim
+    pub leaves : IsLeft R l.pattern.major_dim j (plain_of_cols R f l).value
         (elements R f z column) j (elements R f z left) (λ i. (plain_of_cols R f lower).value i j)
     pub above : (i : ℕ) → i < j → f (get_or left i z) ≡ f (get_or column i z)
 
-module _ {R : CommRing} {T : Type 0} {f : T → R.Carrier} {z : T} {lower : Compressed T} {p : Raw}
-    {values inverses : List T} {cursors : List ℕ} {column : List T} {j : ℕ} where
+module _ {R : CommRing} {T : Type 0} {f : T → R.Carrier} {z : T} {lower l : Compressed T}
+    {inverses : List T} {cursors : List ℕ} {column : List T} {j : ℕ} where
   -- column j of the matrix is added, and the columns before are taken off
-  pub column_left : AreColumnsDone R f z lower p values inverses cursors column j → IsSound lower
-      → j < p.major_dim → {one : T} (added left : List T) → f one ≡ R.one
+  pub column_left : AreColumnsDone R f z lower l inverses cursors column j → IsSound lower
+      → j < l.pattern.major_dim → {one : T} (added left : List T) → f one ≡ R.one
       → AddsMultiple R f z (f one) (λ i. (plain_of_cols R f lower).value i j) column added
       → length added ≡ length column → length left ≡ length added
-      → IsLeft R (length added) j (plain_of_cols R f (compressed_of p values)).value
+      → IsLeft R (length added) j (plain_of_cols R f l).value
       (elements R f z added) j (elements R f z left) (elements R f z added)
       → ((i : ℕ) → i < j → f (get_or left i z) ≡ f (get_or added i z))
-      → IsColumnLeft R f z lower p values inverses cursors column j left
+      → IsColumnLeft R f z lower l inverses cursors column j left
   column_left done sound lt {one} added left unit adds same_added same_left leaves above =
-      let l = (plain_of_cols R f (compressed_of p values)).value in
+      let v = (plain_of_cols R f l).value in
       let a : ℕ → R.Carrier = λ i. (plain_of_cols R f lower).value i j in
-      let is : (i : ℕ) → i < p.major_dim
+      let is : (i : ℕ) → i < l.pattern.major_dim
       → f (get_or added i z) ≡ R.add (f (get_or column i z)) (a i) =
       λ i within. adds i (omega (arith, within, done.rows))
       ∙ ap (R.add (f (get_or column i z))) (one_mul R (f one) (a i) unit) in
@@ -110,24 +110,21 @@ module _ {R : CommRing} {T : Type 0} {f : T → R.Carrier} {z : T} {lower : Comp
         long = same_left ∙ same_added ∙ done.rows;
         leaves = λ i le within.
             ap (λ s. R.add s (f (get_or left i z))) (sum_below-same R j
-            (term R l (elements R f z column) i j) (term R l (elements R f z added) i j)
-            (λ k less. ap (λ c. R.mul (R.mul (l i k) c) (l j k)) (sym (same k less))))
+            (term R v (elements R f z column) i j) (term R v (elements R f z added) i j)
+            (λ k less. ap (λ c. R.mul (R.mul (v i k) c) (v j k)) (sym (same k less))))
             ∙ leaves i le (omega (arith, within, same_added, done.rows)) ∙ is i within
             ∙ ap (λ c. R.add c (a i)) (done.empty i le (omega (arith, within, done.rows)))
             ∙ zero_add R (a i);
         above = λ i less. above i less ∙ same i less;
       }
 
-  module _ {left : List T} (s : IsColumnLeft R f z lower p values inverses cursors column j left)
+  module _ {left : List T} (s : IsColumnLeft R f z lower l inverses cursors column j left)
       {u : T} (is : u ≡ get_or left j u) where
     abbrev n : ℕ
-    n = p.major_dim
+    n = l.pattern.major_dim
 
     abbrev a : ℕ → ℕ → R.Carrier
     a = (plain_of_cols R f lower).value
-
-    abbrev m : Compressed T
-    m = compressed_of p values
 
     -- u is the pivot
     pivot : u ≡ get_or left j z
@@ -136,31 +133,31 @@ module _ {R : CommRing} {T : Type 0} {f : T → R.Carrier} {z : T} {lower : Comp
     -- without an inverse of the pivot there is no factorisation
     pub step_singular : (HasInverse R f (f u) → ⊥) → (l' : ℕ → ℕ → R.Carrier)
         (d' : ℕ → R.Carrier) → ArePartFactors R f n n a l' d' → ⊥
-    step_singular none l' d' = no_factorisation R f n j a (plain_of_cols R f m).value l'
+    step_singular none l' d' = no_factorisation R f n j a (plain_of_cols R f l).value l'
         (elements R f z column) d' (f (get_or left j z)) s.within s.done.factors
         (s.leaves j (omega arith) s.within)
         (λ h. none (subst (λ v. HasInverse R f (f v)) (sym pivot) h))
 
     -- no row above the diagonal is a place of the column
-    none_above : (i : ℕ) → i < j → IsPlace p j i → ⊥
+    none_above : (i : ℕ) → i < j → IsPlace l.pattern j i → ⊥
     none_above i less place = let le = s.done.filled.lower j i place in omega (arith, le, less)
 
     -- what is left outside the places of L is zero
-    left_nothing : (i : ℕ) → j ≤ i → i < n → (IsPlace p j i → ⊥) → f (get_or left i z) ≡ R.zero
+    left_nothing : (i : ℕ) → j ≤ i → i < n → (IsPlace l.pattern j i → ⊥) → f (get_or left i z) ≡ R.zero
     left_nothing i le within none =
-        let l = plain_of_cols R f m in
-        let closed = set-closed R f m s.done.sound s.done.filled in
-        let out = zero_outside R f m s.done.sound lower s.sound s.done.included n in
-        let zeros = part-outside R f n a l.has closed out j l.value (elements R f z column)
+        let v = plain_of_cols R f l in
+        let closed = set-closed R f l s.done.sound s.done.filled in
+        let out = zero_outside R f l s.done.sound lower s.sound s.done.included n in
+        let zeros = part-outside R f n a v.has closed out j v.value (elements R f z column)
         (omega (arith, s.within)) s.done.factors in
-        left-outside R f n a l.has closed out j l.value (elements R f z column) zeros
-        (elements R f z left) i le within (no_place_has R f m s.done.sound i j none)
+        left-outside R f n a v.has closed out j v.value (elements R f z column) zeros
+        (elements R f z left) i le within (no_place_has R f l s.done.sound i j none)
         (s.leaves i le within)
 
     module _ {e : T} {new last : List T} (inverts : R.mul (f u) (f e) ≡ R.one)
-        (moved : IsColumnMoved R f z p j (f e) values new left last) where
+        (moved : IsColumnMoved R f z l.pattern j (f e) l.values new left last) where
       abbrev next : Compressed T
-      next = compressed_of p new
+      next = compressed_of l.pattern new
 
       abbrev pivots : List T
       pivots = set last j u
@@ -206,7 +203,7 @@ module _ {R : CommRing} {T : Type 0} {f : T → R.Carrier} {z : T} {lower : Comp
           (elements R f z pivots)
       next_factors =
           let unit = ap (λ v. R.mul (f v) (f e)) (sym pivot) ∙ inverts in
-          rw add-one (part_step R f n j a (plain_of_cols R f m).value (plain_of_cols R f next).value
+          rw add-one (part_step R f n j a (plain_of_cols R f l).value (plain_of_cols R f next).value
           (elements R f z column) (elements R f z pivots) (elements R f z left) e s.within
           s.done.factors s.leaves unit (moved-others s.done.sound moved) kept_pivots
           (new_pivot ∙ ap f pivot) (column_is j (omega arith) s.within ∙ unit)
@@ -228,9 +225,9 @@ module _ {R : CommRing} {T : Type 0} {f : T → R.Carrier} {z : T} {lower : Comp
             (omega (arith, s.within, s.done.count))) ∙ inverts
       ]
 
-      pub step_done : {cursors' : List ℕ} → AreCursors p (j + 1) cursors'
+      pub step_done : {cursors' : List ℕ} → AreCursors l.pattern (j + 1) cursors'
           → length cursors' ≡ length cursors
-          → AreColumnsDone R f z lower p new (set inverses j e) cursors' pivots (j + 1)
+          → AreColumnsDone R f z lower next (set inverses j e) cursors' pivots (j + 1)
       step_done placed count = record {
         zero = s.done.zero;
         filled = s.done.filled;
