@@ -8,7 +8,7 @@ use Rattle.sparse_algebra.proofs.SumLemmas.{sum_below-same}
 use Rattle.sparse_algebra.specs.Inverses.{HasInverse}
 use Rattle.sparse_factor.specs.InnerFactors.{term, ArePartFactors}
 use Rattle.sparse_factor.proofs.RingFacts.{mul_off_right, one_mul, cancel_mul, cancel_left}
-use Rattle.sparse_factor.proofs.RingFacts.{sum_below-cut}
+use Rattle.sparse_factor.proofs.RingFacts.{sum_below-past}
 
 module _ (R : CommRing) {X : Type 0} (f : X → R.Carrier) where
   -- the product at (i, c) is what the columns before c make, and column c's part
@@ -17,7 +17,7 @@ module _ (R : CommRing) {X : Type 0} (f : X → R.Carrier) where
       → sum_below R n (term R l d i c)
       ≡ R.add (sum_below R c (term R l d i c)) (R.mul (l i c) (d c))
   whole n i c l d lt unit upper =
-      sum_below-cut R n c (term R l d i c) lt
+      sum_below-past R n (suc c) (term R l d i c) lt
       (λ k a b. mul_off_right R (R.mul (l i k) (d k)) (l c k) (upper k a b))
       ∙ ap (R.add (sum_below R c (term R l d i c)))
       (ap (R.mul (R.mul (l i c) (d c))) unit ∙ R.laws.mul_one _)

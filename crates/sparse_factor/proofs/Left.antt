@@ -1,15 +1,15 @@
 -- What the first columns leave of column j. Columns without an entry in row j leave it as it is, so
 -- the columns of the row's entries are taken off one after the other.
-use Rattle.std.proofs.Common.{◌≡◌, ◌≢◌, ℕ, zero, suc, ◌+◌, ◌<◌, ◌≤◌, inl, inr, List, length}
+use Rattle.std.proofs.Common.{◌≡◌, ◌≢◌, ℕ, suc, ◌+◌, ◌<◌, ◌≤◌, inl, inr, List, length}
 use Rattle.std.proofs.Common.{get_or, slice_index, ap, subst, ◌∙◌, arith}
 use Rattle.std.proofs.lemmas.List.{get_or_default, get_or_past}
 use Rattle.sparse_algebra.proofs.Cases.{three, le_cases, lt_or_ge}
 use Rattle.sparse_algebra.specs.Algebra.{CommRing}
 use Rattle.sparse_algebra.specs.Sums.{sum_below}
 use Rattle.sparse_algebra.proofs.RingLemmas.{zero_add}
-use Rattle.sparse_with_dense.proofs.RingSteps.{add_off, moved_over}
+use Rattle.sparse_with_dense.proofs.RingSteps.{moved_over}
 use Rattle.sparse_factor.specs.InnerFactors.{term, IsLeft}
-use Rattle.sparse_factor.proofs.RingFacts.{mul_off_right}
+use Rattle.sparse_factor.proofs.RingFacts.{mul_off_right, sum_below-past}
 
 module _ (R : CommRing) (n j : ℕ) (l : ℕ → ℕ → R.Carrier) (d : ℕ → R.Carrier) where
   -- column k is taken off
@@ -21,23 +21,13 @@ module _ (R : CommRing) (n j : ℕ) (l : ℕ → ℕ → R.Carrier) (d : ℕ →
       let s = sum_below R k (term R l d i j) in
       ap (R.add (R.add s t)) (is i le lt) ∙ moved_over R s t (w i) ∙ h i le lt
 
-  one_more : (k : ℕ) (w b : ℕ → R.Carrier) → l j k ≡ R.zero → IsLeft R n j l d k w b
-      → IsLeft R n j l d (suc k) w b
-  one_more k w b off h i le lt =
-      ap (λ s. R.add s (w i)) (add_off R (sum_below R k (term R l d i j)) (term R l d i j k)
-      (mul_off_right R (R.mul (l i k) (d k)) (l j k) off)) ∙ h i le lt
-
   -- columns without an entry in row j make nothing
   left_skip : (k m : ℕ) (w b : ℕ → R.Carrier) → k ≤ m
       → ((c : ℕ) → k ≤ c → c < m → l j c ≡ R.zero) → IsLeft R n j l d k w b
       → IsLeft R n j l d m w b
-  left_skip k zero w b le off h =
-      let e : k ≡ zero = omega arith in subst (λ c. IsLeft R n j l d c w b) e h
-  left_skip k (suc m) w b le off h = elim (le_cases k (suc m) le) [
-    | inl less ↦ one_more m w b (off m (omega arith) (omega arith))
-        (left_skip k m w b (omega arith) (λ c from to. off c from (omega arith)) h)
-    | inr same ↦ subst (λ c. IsLeft R n j l d c w b) same h
-  ]
+  left_skip k m w b le off h i low lt =
+      ap (λ s. R.add s (w i)) (sum_below-past R m k (term R l d i j) le (λ c from to.
+      mul_off_right R (R.mul (l i c) (d c)) (l j c) (off c from to))) ∙ h i low lt
 
   -- the entries of row j are in the columns `row`; get_or row q j is the column of entry q, and j past
   -- the last entry

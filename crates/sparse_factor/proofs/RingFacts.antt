@@ -1,6 +1,6 @@
 -- What the ring laws give of products with zero, of factors with an inverse, and of sums.
-use Rattle.std.proofs.Common.{◌≡◌, ℕ, zero, suc, ◌<◌, inl, inr, ap, sym, ◌∙◌, arith}
-use Rattle.sparse_algebra.proofs.Cases.{three}
+use Rattle.std.proofs.Common.{◌≡◌, ℕ, zero, suc, ◌<◌, ◌≤◌, inl, inr, ap, sym, ◌∙◌, arith}
+use Rattle.sparse_algebra.proofs.Cases.{le_cases}
 use Rattle.sparse_algebra.specs.Algebra.{CommRing}
 use Rattle.sparse_algebra.specs.Sums.{sum_below}
 use Rattle.sparse_algebra.proofs.RingLemmas.{mul_zero, cancel}
@@ -39,13 +39,12 @@ module _ (R : CommRing) where
       → sum_below R n f ≡ R.zero
   sum_below-none n f none = sum_below-same R n f (λ _. R.zero) none ∙ sum_below-zero R n
 
-  -- the terms past c are zero
-  pub sum_below-cut : (n c : ℕ) (f : ℕ → R.Carrier) → c < n
-      → ((k : ℕ) → c < k → k < n → f k ≡ R.zero) → sum_below R n f ≡ sum_below R (suc c) f
-  sum_below-cut zero c f lt none = absurd (omega arith)
-  sum_below-cut (suc n) c f lt none = elim (three c n) [
-    | inl below ↦ add_off R (sum_below R n f) (f n) (none n below (omega arith))
-        ∙ sum_below-cut n c f below (λ k a b. none k a (omega arith))
-    | inr (inl past) ↦ absurd (omega arith)
-    | inr (inr at) ↦ ap (λ x. sum_below R (suc x) f) (sym at)
+  -- the terms from c on are zero
+  pub sum_below-past : (n c : ℕ) (f : ℕ → R.Carrier) → c ≤ n
+      → ((k : ℕ) → c ≤ k → k < n → f k ≡ R.zero) → sum_below R n f ≡ sum_below R c f
+  sum_below-past zero c f le none = let e : zero ≡ c = omega arith in ap (λ m. sum_below R m f) e
+  sum_below-past (suc n) c f le none = elim (le_cases c (suc n) le) [
+    | inl less ↦ add_off R (sum_below R n f) (f n) (none n (omega arith) (omega arith))
+        ∙ sum_below-past n c f (omega arith) (λ k a b. none k a (omega arith))
+    | inr same ↦ ap (λ m. sum_below R m f) (sym same)
   ]
