@@ -3,11 +3,7 @@ use Rattle.std.proofs.Common.{◌≡◌, ℕ, zero, suc, ◌⊎◌, inl, inr, Li
 use Rattle.std.proofs.Common.{ap, length, refl, arith}
 use Rattle.std.specs.List.{Contains}
 use Rattle.sparse_pattern.specs.Raw.{Raw, IsPlace}
-
-cons_cases : {X : Type 0} (x : X) (xs : List X) (y : X) → Contains (x ∷ xs) y
-    → (x ≡ y) ⊎ Contains xs y
-cons_cases x xs y (zero, lt, e) = inl e
-cons_cases x xs y (suc k, lt, e) = inr (k, omega (arith, lt), e)
+use Rattle.sparse_pattern.proofs.LaneOrder.{contains_cases}
 
 Contains-tail : {X : Type 0} (x : X) (xs : List X) (y : X) → Contains xs y → Contains (x ∷ xs) y
 Contains-tail x xs y (k, lt, e) = (suc k, omega (arith, lt), e)
@@ -40,7 +36,7 @@ module _ (p : Raw) where
     places = λ a b c. h.places a b
         (subst (λ l. Contains l (a, b)) (sym is) (Contains-tail (i, j) tail (a, b) c));
     done = λ a b place. elim (h.done a b place) [
-      | inl c ↦ elim (cons_cases (i, j) tail (a, b) (subst (λ l. Contains l (a, b)) is c)) [
+      | inl c ↦ elim (contains_cases (i, j) (a, b) tail (subst (λ l. Contains l (a, b)) is c)) [
         | inl e ↦ inr (subst (λ (x : ℕ × ℕ). Now x.0 x.1) e now)
         | inr c ↦ inl c
       ]

@@ -1,10 +1,11 @@
 -- Symmetric systems: what solves the system of the factors solves that of the matrix.
-use Rattle.std.proofs.Common.{◌≡◌, ℕ, zero, suc, ◌<◌, ◌≤◌, ◌⊎◌, inl, inr, max, ap, sym}
+use Rattle.std.proofs.Common.{◌≡◌, ℕ, ◌<◌, ◌≤◌, ◌⊎◌, inl, inr, max, ap, sym}
 use Rattle.std.proofs.Common.{◌∙◌, refl, arith}
 use Rattle.std.proofs.Math.Nat.{min-eq_left, min-eq_right, max-eq_left, max-eq_right}
 use Rattle.sparse_algebra.specs.Algebra.{CommRing}
 use Rattle.sparse_algebra.specs.Plain.{Plain, plain_product}
 use Rattle.sparse_algebra.specs.Sums.{sum_below}
+use Rattle.sparse_algebra.proofs.SumLemmas.{sum_below-same}
 use Rattle.sparse_coo_dense.specs.DensePlain.{plain_full}
 use Rattle.sparse_factor.specs.Factorisations.{IsFactorisation, plain_symmetric}
 use Rattle.sparse_with_dense.specs.Solutions.{HasSameValues}
@@ -17,13 +18,6 @@ module _ (R : CommRing) where
   -- the values are symmetric at the pairs below n
   abbrev pub IsSymmetricBelow : ℕ → Plain R → Type 0
   IsSymmetricBelow n a = (i j : ℕ) → i < n → j < n → a.value i j ≡ a.value j i
-
-  same_sum : (n : ℕ) (f g : ℕ → R.Carrier) → ((k : ℕ) → k < n → f k ≡ g k)
-      → sum_below R n f ≡ sum_below R n g
-  same_sum zero f g same = refl
-  same_sum (suc n) f g same =
-      ap (λ s. R.add s (f n)) (same_sum n f g (λ k lt. same k (omega arith)))
-      ∙ ap (R.add (sum_below R n g)) (same n (omega arith))
 
   symmetric_is : (n : ℕ) (a : Plain R) → IsSymmetricBelow n a → (i j : ℕ) → i < n → j < n
       → (plain_symmetric R a).value i j ≡ a.value i j
@@ -40,7 +34,7 @@ module _ (R : CommRing) where
       → HasSameValues R n m (plain_product R a x) b
   solved_is a f x b n m cols same h equation solved i j row _ =
       ap (λ s. sum_below R s (λ k. R.mul (a.value i k) (x.value k j))) cols
-      ∙ same_sum n (λ k. R.mul (a.value i k) (x.value k j))
+      ∙ sum_below-same R n (λ k. R.mul (a.value i k) (x.value k j))
       (λ k. R.mul (f.value i k) (x.value k j))
       (λ k lt. ap (λ v. R.mul v (x.value k j))
       (sym (equation i k row lt ∙ symmetric_is n a h i k row lt)))
@@ -51,7 +45,7 @@ module _ (R : CommRing) where
   pub solution_same : (a x y b : Plain R) (n m : ℕ) → ((i j : ℕ) → y.value i j ≡ x.value i j)
       → HasSameValues R n m (plain_product R a x) b → HasSameValues R n m (plain_product R a y) b
   solution_same a x y b n m same solved i j row col =
-      same_sum a.cols (λ k. R.mul (a.value i k) (y.value k j))
+      sum_below-same R a.cols (λ k. R.mul (a.value i k) (y.value k j))
       (λ k. R.mul (a.value i k) (x.value k j)) (λ k lt. ap (R.mul (a.value i k)) (same k j))
       ∙ solved i j row col
 

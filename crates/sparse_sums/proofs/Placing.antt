@@ -12,7 +12,7 @@ use Rattle.sparse_algebra.specs.Sums.{where_true}
 use Rattle.sparse_algebra.specs.Plain.{is_at}
 use Rattle.sparse_algebra.proofs.RingLemmas.{zero_add, mul_zero}
 use Rattle.sparse_pattern.specs.Raw.{Raw, IsValid, IsPlace, entries_of}
-use Rattle.sparse_pattern.proofs.LaneOrder.{entries_are_places}
+use Rattle.sparse_pattern.proofs.LaneOrder.{contains_cases, entries_are_places}
 use Rattle.sparse_pattern.proofs.Positions.{one_lane, one_position}
 use Rattle.sparse_compressed.specs.Compressed.{Compressed, IsPosition, lane_triplets}
 use Rattle.sparse_compressed.specs.PlainOfLanes.{plain_of_rows}
@@ -45,10 +45,6 @@ none_covered d a valid = record {
   covered = λ i j place. inl ((entries_are_places a valid i j).1 place);
 }
 
-tail_or_head : (x y : ℕ × ℕ) (xs : List (ℕ × ℕ)) → Contains (x ∷ xs) y → (x ≡ y) ⊎ Contains xs y
-tail_or_head x y xs (zero, lt, is) = inl is
-tail_or_head x y xs (suc k, lt, is) = inr (k, omega arith, is)
-
 module _ {d a : Raw} {rest more : List (ℕ × ℕ)} {i j : ℕ} (next : rest ≡ (i, j) ∷ more)
     (so_far : AreCovered d a rest) where
   pub next_is_place : IsPlace a i j
@@ -61,7 +57,7 @@ module _ {d a : Raw} {rest more : List (ℕ × ℕ)} {i j : ℕ} (next : rest �
         (subst (λ xs. Contains xs (k, l)) (sym next) (suc h.0, omega (arith, h.1), h.2));
     covered = λ k l here. elim (so_far.covered k l here) [
       | inl left ↦
-          elim (tail_or_head (i, j) (k, l) more (subst (λ xs. Contains xs (k, l)) next left)) [
+          elim (contains_cases (i, j) (k, l) more (subst (λ xs. Contains xs (k, l)) next left)) [
             | inl same ↦ inr (rw (sym (ap (λ x. x.0) same), sym (ap (λ x. x.1) same)) place)
             | inr later ↦ inl later
           ]

@@ -6,7 +6,7 @@ use Rattle.sparse_algebra.proofs.Cases.{or_cases, or_left, or_right}
 use Rattle.sparse_algebra.specs.Algebra.{CommRing}
 use Rattle.sparse_algebra.specs.Sums.{where_true}
 use Rattle.sparse_algebra.specs.Plain.{Plain, IsProper, plain_sum}
-use Rattle.sparse_algebra.proofs.RingLemmas.{add_cross, neg_unique}
+use Rattle.sparse_algebra.proofs.RingLemmas.{neg_add, neg_zero}
 use Rattle.sparse_algebra.proofs.PlainLaws.{proper_sum}
 use Rattle.sparse_pattern.specs.Raw.{lane_of}
 use Rattle.sparse_compressed.specs.Compressed.{Compressed, arrays_of, IsSound}
@@ -21,18 +21,8 @@ use Rattle.sparse_sums.proofs.BuiltSums.{none_built, entries_built}
 use Rattle.sparse_sums.proofs.UnionLanes.{IsEither, lanes_have, either_within}
 
 module _ (R : CommRing) where
-  neg_zero : R.neg R.zero ≡ R.zero
-  neg_zero = sym (neg_unique R R.zero R.zero (R.laws.add_zero R.zero))
-
-  neg_add : (a b : R.Carrier) → R.neg (R.add a b) ≡ R.add (R.neg a) (R.neg b)
-  neg_add a b =
-      let none : R.add (R.add a b) (R.add (R.neg a) (R.neg b)) ≡ R.zero =
-      add_cross R a b (R.neg a) (R.neg b) ∙ ap (λ c. R.add c (R.add b (R.neg b)))
-      (R.laws.add_neg a) ∙ ap (R.add R.zero) (R.laws.add_neg b) ∙ R.laws.add_zero R.zero in
-      sym (neg_unique R (R.add a b) (R.add (R.neg a) (R.neg b)) none)
-
   signed_zero : (negate : Bool) → signed R negate R.zero ≡ R.zero
-  signed_zero true = neg_zero
+  signed_zero true = neg_zero R
   signed_zero false = refl
 
   signed_where : (negate b : Bool) (c : R.Carrier)
@@ -42,7 +32,7 @@ module _ (R : CommRing) where
 
   signed_add : (negate : Bool) (a b : R.Carrier)
       → signed R negate (R.add a b) ≡ R.add (signed R negate a) (signed R negate b)
-  signed_add true a b = neg_add a b
+  signed_add true a b = neg_add R a b
   signed_add false a b = refl
 
   -- the value in a lane of signed values
