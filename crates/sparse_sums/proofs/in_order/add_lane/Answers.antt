@@ -1,7 +1,6 @@
-use Rattle.std.proofs.Common.{◌≡◌, ◌<◌, ◌+◌, length, get_or, take, ap, ◌∙◌, arith}
+use Rattle.std.proofs.Common.{◌≡◌, ◌+◌, length, get_or, take, ap, ◌∙◌, arith}
 use Rattle.std.proofs.lemmas.List.{get_or_default, take_all}
 use Rattle.sparse_compressed.specs.InnerRows.{lane_value}
-use Rattle.sparse_compressed.proofs.RowSums.{offset_fits}
 use Rattle.sparse_sums.proofs.InOrder.{none_added, adding_hit, adding_miss, all_passed}
 use Rattle.sparse_sums.proofs.in_order.add_lane.Goals as goal
 use Rattle.sparse_sums.proofs.in_order.add_lane.Goals.{then-k-lane+then-target-p, else-k-lane}

@@ -1,10 +1,6 @@
-use Rattle.std.proofs.Common.{not, eqb, ◌++◌, length, drop, Contains, ◌⊎◌, subst, sym, ap, ◌∙◌}
-use Rattle.std.proofs.Common.{arith}
-use borrow.Author.Rules.{scaled_fits≤}
-use Rattle.std.proofs.lemmas.List.{take_rest, length-drop}
-use Rattle.sparse_compressed.specs.InnerRows.{lane_value}
+use Rattle.std.proofs.Common.{not, eqb, ◌++◌, drop, ap, ◌∙◌}
+use Rattle.std.proofs.lemmas.List.{take_rest}
 use Rattle.sparse_sums.specs.InnerSigns.{signed}
-use Rattle.sparse_sums.specs.InnerAdding.{GainsValues, GainsEntries}
 use Rattle.sparse_sums.proofs.Adding.{rest_added}
 use Rattle.sparse_sums.proofs.merge.add_lanes.Goals as goal
 

@@ -1,6 +1,6 @@
 use Rattle.std.proofs.Common.{◌≡◌, ℕ, ◌+◌, ◌<◌, List, [], ◌∷◌, ◌++◌, length, map, take, get_or, not}
-use Rattle.std.proofs.Common.{eqb, append_assoc, ap, sym, subst, ◌∙◌, refl, arith}
-use Rattle.std.proofs.lemmas.List.{append-nil, map_push, take_all, take_more}
+use Rattle.std.proofs.Common.{eqb, append_assoc, ap, sym, ◌∙◌, arith}
+use Rattle.std.proofs.lemmas.List.{map_push, take_more}
 use Rattle.sparse_algebra.specs.Algebra.{CommRing}
 use Rattle.sparse_sums.specs.InnerSigns.{signed}
 use Rattle.sparse_sums.specs.InnerAdding.{GainsValues}

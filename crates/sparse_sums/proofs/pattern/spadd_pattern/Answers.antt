@@ -1,5 +1,4 @@
 use Rattle.std.proofs.Common.{◌≡◌, ◌++◌, ◌∷◌, [], ◌∙◌, ap, refl, arith}
-use Rattle.sparse_pattern.specs.Raw.{raw_of}
 use Rattle.sparse_pattern.proofs.PatternLanes.{length-lane}
 use Rattle.sparse_compressed.proofs.LaneSearch.{rising_lane}
 use Rattle.sparse_sums.proofs.UnionLanes.{union_more, union_all}
