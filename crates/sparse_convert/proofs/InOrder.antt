@@ -1,7 +1,8 @@
 -- A list in order is compressed as it is read: each triplet goes to the end of the open lane.
 use Rattle.std.proofs.Common.{◌≡◌, ◌≢◌, ℕ, zero, suc, ◌+◌, ◌-◌, ◌<◌, ◌≤◌, inl, inr}
 use Rattle.std.proofs.Common.{List, [], ◌∷◌, ◌++◌, length, take, replicate}
-use Rattle.std.proofs.Common.{slice_index, append_assoc, append-nil, take_all, refl, sym, ◌∙◌, subst, arith}
+use Rattle.std.proofs.Common.{slice_index, append_assoc, append-nil, take_all, refl, sym, ◌∙◌}
+use Rattle.std.proofs.Common.{subst, arith}
 use Rattle.sparse_algebra.proofs.Cases.{lt_or_ge}
 use Rattle.sparse_algebra.specs.Algebra.{CommRing}
 use Rattle.sparse_coo_dense.specs.Coo.{zip_triplets}
@@ -71,8 +72,8 @@ module _ {R : CommRing} {T : Type 0} {f : T → R.Carrier} {z : T} where
 
     module _ {n : ℕ} {starts : List ℕ} (h : AreInOrder R f z n ts starts is vs) where
       -- the lanes up to the open one
-      before : (i : ℕ) → i < n → AreMerged R f z (triplets_of_lane ts i) is vs (slice_index starts i)
-          (slice_index starts (i + 1))
+      before : (i : ℕ) → i < n → AreMerged R f z (triplets_of_lane ts i) is vs
+          (slice_index starts i) (slice_index starts (i + 1))
       before i lt =
           let front = offset_front n starts (length is) (offsets_less h.lanes.offsets).count in
           rw (front i (omega arith), front (i + 1) (omega arith)) at
@@ -83,8 +84,8 @@ module _ {R : CommRing} {T : Type 0} {f : T → R.Carrier} {z : T} where
           (length is)
       open_lane =
           let count = (offsets_less h.lanes.offsets).count in
-          rw (offset_front n starts (length is) count n (omega arith), offset_end n starts (length is) count) at
-          (h.lanes.merged n (omega arith))
+          let front = offset_front n starts (length is) count n (omega arith) in
+          rw (front, offset_end n starts (length is) count) at (h.lanes.merged n (omega arith))
 
       pub open_start : slice_index starts n ≤ length is
       open_start =
@@ -123,14 +124,20 @@ module _ {R : CommRing} {T : Type 0} {f : T → R.Carrier} {z : T} where
           → AreLanesMerged R f z (triplets_of_lane ts) n starts is vs
       closed empty =
           let less = offsets_less h.lanes.offsets in
-          let last : slice_index starts n ≡ length is = elim (lt_or_ge (slice_index starts n) (length is)) [
+          let last : slice_index starts n ≡ length is =
+          elim (lt_or_ge (slice_index starts n) (length is)) [
             | inl lt ↦
                 let named = (rw empty at open_lane).named (slice_index starts n) (omega arith) lt in
                 cc
             | inr ge ↦ omega (arith, open_start)
           ] in
           record {
-            offsets = record { count = less.count; first = less.first; last = last; ordered = less.ordered };
+            offsets = record {
+              count = less.count;
+              first = less.first;
+              last = last;
+              ordered = less.ordered;
+            };
             sizes = h.lanes.sizes;
             merged = before;
           }

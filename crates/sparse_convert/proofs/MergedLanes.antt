@@ -33,7 +33,8 @@ module _ {R : CommRing} {T : Type 0} {f : T → R.Carrier} {z : T} {lane : ℕ �
   }
 
   -- lanes before an offset stay, and one more is merged behind it
-  pub merged_with : (n : ℕ) (starts : List ℕ) {is js : List ℕ} {vs ws : List T} → length starts ≡ n + 1
+  pub merged_with : (n : ℕ) (starts : List ℕ) {is js : List ℕ} {vs ws : List T}
+      → length starts ≡ n + 1
       → ((i : ℕ) → i < n → slice_index starts (i + 1) ≤ slice_index starts n)
       → ((i : ℕ) → i < n → AreMerged R f z (lane i) is vs (slice_index starts i)
       (slice_index starts (i + 1)))
@@ -59,8 +60,8 @@ module _ {R : CommRing} {T : Type 0} {f : T → R.Carrier} {z : T} {lane : ℕ �
       → KeepsFirst 0 (length is) is js → KeepsFirst z (length vs) vs ws
       → AreMerged R f z (lane n) js ws (length is) (length js)
       → AreLanesMerged R f z lane (n + 1) (starts ++ length js ∷ []) js ws
-  lanes_merged_more {n} {starts} {js = js} {ws = ws} h longer sizes keeps_is keeps_vs merged = record {
-    offsets = offsets_more (length js) h.offsets longer;
+  lanes_merged_more {n} {starts} {js = js} {ws = ws} h up sizes keeps_is keeps_vs merged = record {
+    offsets = offsets_more (length js) h.offsets up;
     sizes = sizes;
     merged = merged_with n starts h.offsets.count
         (λ i lt. offsets_ordered h.offsets (i + 1) n (omega arith) (omega arith)) h.merged

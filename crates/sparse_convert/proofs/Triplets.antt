@@ -15,7 +15,8 @@ use Rattle.sparse_algebra.specs.Plain.{is_at, plain_of_triplets}
 use Rattle.sparse_algebra.proofs.SumLemmas.{sum_by-permutation, sum_by-same}
 use Rattle.sparse_algebra.proofs.PlainLemmas.{same_plain}
 use Rattle.sparse_coo_dense.specs.Coo.{AreParts, zip_triplets}
-use Rattle.sparse_coo_dense.proofs.TripletLists.{bounded, length-triplets, row_at, rows-zip, triplet_at}
+use Rattle.sparse_coo_dense.proofs.TripletLists.{bounded, length-triplets, row_at, rows-zip}
+use Rattle.sparse_coo_dense.proofs.TripletLists.{triplet_at}
 use Rattle.sparse_compressed.proofs.Arrays.{value_at}
 use Rattle.sparse_convert.specs.InnerTripletLanes.{AreTriplets, LanesClimb, entries_of_lane}
 use Rattle.sparse_convert.specs.InnerTripletLanes.{triplets_of_lane, index_sum, plain_of_lanes}

@@ -7,7 +7,8 @@ use Rattle.sparse_convert.proofs.merge.merge_lane.Goals as goal
 
 pub push_entry-requires-clause-follows : goal.push_entry-requires-clause-follows
 push_entry-requires-clause-follows g c = λ some. merged_below c.args.lane.now
-    c.loop-index.index-index c.loop-index.invariant.merged c.requires.sorted c.loop-index-item.result c.loop-index-test.true c.loop-index-item.is
+    c.loop-index.index-index c.loop-index.invariant.merged c.requires.sorted
+    c.loop-index-item.result c.loop-index-test.true c.loop-index-item.is
     (vec_len c.loop-index.indices - 1) (omega arith) (omega arith)
 
 pub loop-index-preserved : goal.loop-index-preserved

@@ -19,4 +19,5 @@ returns g c =
     let m = c.args.csr.now in
     c.coo_from_lists.ensures
     ∙ rw (c.nrows.ensures, c.ncols.ensures, lists.lanes, lists.indices, lists.values, core)
-    (ap (coo_of m.pattern.major_dim m.pattern.minor_dim) (zip-split _ _ _ (lane_triplets m) refl refl refl))
+    (ap (coo_of m.pattern.major_dim m.pattern.minor_dim)
+    (zip-split _ _ _ (lane_triplets m) refl refl refl))
