@@ -1,6 +1,6 @@
 -- Rows of a dense matrix that are multiplied by factors.
 use Rattle.std.proofs.Common.{◌≡◌, ℕ, ◌+◌, ◌<◌, inl, inr, List, length, get_or, ap, sym, subst, ◌∙◌}
-use Rattle.std.proofs.Common.{◌≤◌, set, get_or-set_same, get_or-set_other, refl, arith}
+use Rattle.std.proofs.Common.{◌≤◌, set, get_or-set_same, get_or-set_other, arith}
 use Rattle.std.proofs.lemmas.List.{get_or_default}
 use Rattle.sparse_algebra.proofs.Cases.{lt_add_one_cases, lt_or_ge}
 use Rattle.sparse_algebra.proofs.RingLemmas.{mul_zero}
@@ -39,14 +39,6 @@ module _ {R : CommRing} {T : Type 0} {f : T → R.Carrier} {z : T} {factors : Li
     ];
     waiting = λ k le. ap f (get_or-set_other y i k w z (λ same. omega (arith, same, le)))
         ∙ h.waiting k (omega arith);
-  }
-
-  pub scaled_none : {d : Dense T} → AreScaledBelow R f z 0 factors d d
-  scaled_none = record {
-    rows = refl;
-    cols = refl;
-    scaled = λ i j _ lt. absurd (omega arith);
-    behind = λ i j _ _. refl;
   }
 
   -- one column more

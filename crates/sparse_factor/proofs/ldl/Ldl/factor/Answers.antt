@@ -21,9 +21,6 @@ returns-clause-places g c = rw (
   ← c.in_ok-clone.ensures,
 ) c.in_ok-symbolic.ensures.fill
 
-pub returns-clause-unit_diagonal : goal.returns-clause-unit_diagonal
-returns-clause-unit_diagonal g c = c.in_ok-l.ensures.factors.lower
-
 pub returns-clause-pivots : goal.returns-clause-pivots
 returns-clause-pivots g c = λ j lt.
     c.in_ok-l.ensures.factors.pivots j (omega (arith, lt, returns-clause-count g c))

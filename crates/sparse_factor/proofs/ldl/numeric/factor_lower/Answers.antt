@@ -4,12 +4,6 @@ use Rattle.sparse_factor.proofs.Results.{err_any}
 use Rattle.sparse_factor.proofs.Cursors.{first_cursors}
 use Rattle.sparse_factor.proofs.ldl.numeric.factor_lower.Goals as goal
 
-pub factor_columns-requires-clause-count : goal.factor_columns-requires-clause-count
-factor_columns-requires-clause-count g c =
-    let offsets = c.deref_mut-2.ensures.value ∙ c.in_ok-cursors.ensures.items
-    ∙ c.col_offsets.ensures.offsets in
-    omega (arith, ap length offsets, c.col_offsets.ensures.sound.valid.count)
-
 pub factor_columns-requires-clause-cursors : goal.factor_columns-requires-clause-cursors
 factor_columns-requires-clause-cursors g c =
     rw (

@@ -21,10 +21,6 @@ factor_lower-requires-clause-included g c =
     c.in_ok-lower.lower.pattern need.fill (lower.rows ∙ sym need.square ∙ sym need.rows)
     (lower.columns ∙ need.square ∙ sym need.columns) lower.places)
 
-pub factor_lower-requires-clause-transposed : goal.factor_lower-requires-clause-transposed
-factor_lower-requires-clause-transposed g c =
-    rw c.in_ok-l.ensures.pattern c.in_ok-rows.ensures.transposed
-
 pub returns-clause-factors : goal.returns-clause-factors
 returns-clause-factors g c =
     let R = g.T.Ring.ring in

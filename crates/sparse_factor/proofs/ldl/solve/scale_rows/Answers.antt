@@ -1,8 +1,5 @@
-use Rattle.sparse_factor.proofs.ScaledRows.{scaled_none, scaled_more}
+use Rattle.sparse_factor.proofs.ScaledRows.{scaled_more}
 use Rattle.sparse_factor.proofs.ldl.solve.scale_rows.Goals as goal
-
-pub loop-j-init : goal.loop-j-init
-loop-j-init g c = scaled_none
 
 pub loop-j-preserved : goal.loop-j-preserved
 loop-j-preserved g c =
