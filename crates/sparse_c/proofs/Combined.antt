@@ -4,11 +4,12 @@ use Rattle.std.specs.Prelude.{nat_abs}
 use Rattle.sparse_algebra.proofs.PlainLemmas.{same_plain}
 use Rattle.sparse_algebra.proofs.Products.{mul_neg}
 use Rattle.sparse_algebra.specs.Algebra.{CommRing}
+use Rattle.sparse_algebra.specs.Integers.{element_of}
 use Rattle.sparse_algebra.specs.Plain.{Plain, plain_negation, plain_scaled, plain_sum}
 use Rattle.sparse_compressed.specs.Compressed.{Compressed, IsSound}
-use Rattle.sparse_c_arrays.proofs.Answering.{small_not_zero}
+use Rattle.sparse_c_arrays.proofs.Answering.{same_rows, seen_rows, small_not_zero}
 use Rattle.sparse_c_arrays.proofs.Faultless.{pair_told}
-use Rattle.sparse_c_arrays.specs.Arrays.{room_of, Room, HoldsRows}
+use Rattle.sparse_c_arrays.specs.Arrays.{plain_by_rows, room_of, Room, HoldsRows}
 use Rattle.sparse_c_arrays.specs.Refused.{IsFaultOfPair}
 use Rattle.sparse_c_arrays.specs.Rests.{KeepsRest}
 use Rattle.sparse_c_arrays.specs.Statuses.{number_of, FindsNoFault}
@@ -78,3 +79,15 @@ sum_answered p a b before after status written rest sound untouched fault = reco
       let found = fault h in
       (found.0, found.1, inl (inr found.2));
 }
+
+-- the status as the caller sees it, and the factors as they were passed
+pub seen_multiples : (R : CommRing) (a b : Compressed ℤ) {Sound : Type 0} {Fault : Refusal → Type 0}
+    {s t alpha beta : ℤ} {before after : Room} {status seen : ℤ} → s ≡ alpha → t ≡ beta
+    → seen ≡ status
+    → WritesRows Sound Fault (plain_sum R (plain_scaled R (element_of R s) (plain_by_rows R a))
+    (plain_scaled R (element_of R t) (plain_by_rows R b))) before after status
+    → WritesRows Sound Fault (plain_sum R (plain_scaled R (element_of R alpha) (plain_by_rows R a))
+    (plain_scaled R (element_of R beta) (plain_by_rows R b))) before after seen
+seen_multiples R a b first second same made = seen_rows same (same_rows (λ k. plain_sum R
+    (plain_scaled R (element_of R (first k)) (plain_by_rows R a))
+    (plain_scaled R (element_of R (second k)) (plain_by_rows R b))) made)

@@ -4,8 +4,6 @@ use Rattle.std.proofs.Common.{Result, inl, inr, subst, ◌∙◌, refl}
 use Rattle.std.specs.Prelude.{slice_index_or, IfOk, IfErr, MatchResult, OnErr, OnOk}
 use Rattle.std.proofs.Math.ListN.{get_or, get_or-map}
 use Rattle.sparse_algebra.specs.Algebra.{CommRing}
-use Rattle.sparse_algebra.specs.ModNumbers.{mod_value}
-use Rattle.sparse_algebra.specs.Moduli.{mod_ring}
 use Rattle.sparse_algebra.specs.Plain.{Plain}
 use Rattle.sparse_compressed.specs.Compressed.{Compressed, IsSound}
 use Rattle.sparse_compressed.specs.PlainOfLanes.{plain_of_cols, plain_of_rows}
@@ -16,9 +14,7 @@ use Rattle.sparse_factor.specs.Factors.{symmetric_of, HavePivots}
 use Rattle.sparse_factor.proofs.FilledSets.{has_place, place_has}
 use Rattle.sparse_pattern.specs.Raw.{Raw}
 use Rattle.sparse_with_dense.specs.Solutions.{HasSameValues}
-use Rattle.sparse_c.specs.Moduli.{IsFaultModulo}
-use Rattle.sparse_c.proofs.Accepting.{factors_large, factors_told}
-use Rattle.sparse_c.proofs.Listed.{widened}
+use Rattle.sparse_c.proofs.Accepting.{matrix_large, matrix_sound}
 use Rattle.sparse_c.specs.Factors.{first_elements, AreFactors, AreFactorsTooLong, Factorises}
 use Rattle.sparse_c.specs.Factors.{HoldsFactors, IsFaultOfFactors, WritesFactors}
 use Rattle.sparse_c_arrays.proofs.Answering.{size_kept, size_told}
@@ -162,7 +158,7 @@ module _ (R : CommRing) {T : Type 0} (f : T → R.Carrier) (z : T) (zero_is : f 
           written = λ h. factors_written after new (written h);
           rest = λ h. factors_rest before after (rest h);
           rest_diagonal = λ h. pivots_rest old new (rest_pivots h);
-          sound = accepted _ _ answer status status refl sound fault (factors_told R f a) written
+          sound = accepted _ _ answer status status refl sound fault (matrix_sound a) written
               why;
           untouched = λ h. (
             untouched h,
@@ -170,31 +166,8 @@ module _ (R : CommRing) {T : Type 0} (f : T → R.Carrier) (z : T) (zero_is : f 
           );
           untouched_diagonal = untouched_pivots;
           needed = λ small.
-              let p = size_told _ status answer (factors_large R f a) known fault needed why small
+              let p = size_told _ status answer (matrix_large a) known fault needed why small
               in
               (plain_of_cols R f p.0.0, diagonal R f z (items p.0.1), p.1.0.0.0, p.1.1);
           refused = λ h. factors_refused before old status fault (why h);
         }
-
--- a modulus m that is listed as M
-pub listed_factors : (m M : ℕ) {a : Compressed ℤ} {before after : Room} {old new : List ℤ}
-    {status seen : ℤ} → m ≡ M → seen ≡ status
-    → Factorises (mod_ring M) (mod_value {m = M})
-    (IsFaultOfFactors (mod_ring M) (mod_value {m = M}) a) a before after old new status
-    → Factorises (mod_ring m) (mod_value {m = m})
-    (IsFaultModulo m (IsFaultOfFactors (mod_ring m) (mod_value {m = m}) a)) a before after old new
-    seen
-listed_factors m M {a} {before} {after} {old} {new} {status} {seen} is same made = subst
-    (λ (s : ℕ × ℤ). Factorises (mod_ring s.0) (mod_value {m = s.0}) (IsFaultModulo m
-    (IsFaultOfFactors (mod_ring s.0) (mod_value {m = s.0}) a)) a before after old new s.1)
-    (λ k. (sym is k, sym same k)) (record {
-      written = made.written;
-      rest = made.rest;
-      rest_diagonal = made.rest_diagonal;
-      sound = made.sound;
-      untouched = made.untouched;
-      untouched_diagonal = made.untouched_diagonal;
-      needed = made.needed;
-      refused = λ h. widened status status refl (λ e fault. inr fault) (λ small. small)
-          (made.refused h);
-    })

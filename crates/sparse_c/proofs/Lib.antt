@@ -1,7 +1,6 @@
 mod Accepting
 mod Combined
 mod Factoring
-mod Listed
 mod Quotients
 mod Solving
 mod Unreadable

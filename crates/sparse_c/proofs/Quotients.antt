@@ -3,15 +3,12 @@ use Rattle.std.proofs.Common.{◌≡◌, ◌≢◌, ℕ, ℤ, pos, Result, inr, 
 use Rattle.std.specs.Prelude.{IfOk, IfErr, MatchResult, OnErr, OnOk}
 use Rattle.sparse_algebra.specs.Algebra.{CommRing}
 use Rattle.sparse_algebra.specs.Integers.{element_of}
-use Rattle.sparse_algebra.specs.ModNumbers.{mod_value}
-use Rattle.sparse_algebra.specs.Moduli.{mod_ring}
 use Rattle.sparse_algebra.specs.Plain.{Plain}
 use Rattle.sparse_compressed.specs.Compressed.{Compressed, IsSound}
 use Rattle.sparse_compressed.specs.PlainOfLanes.{plain_of_rows}
+use Rattle.sparse_c.specs.Scalars.{Scalars}
 use Rattle.sparse_c.specs.Solved.{Divides, IsFaultOfQuotient, IsQuotientBy, WritesQuotient}
-use Rattle.sparse_c.specs.Moduli.{IsFaultModulo}
-use Rattle.sparse_c.proofs.Accepting.{quotient_large, quotient_told}
-use Rattle.sparse_c.proofs.Listed.{widened}
+use Rattle.sparse_c.proofs.Accepting.{matrix_large, matrix_sound}
 use Rattle.sparse_c_arrays.specs.Arrays.{places_of, plain_by_rows, room_of, Room, HoldsRows}
 use Rattle.sparse_c_arrays.specs.Refused.{IsMemoryOr, IsTooSmall}
 use Rattle.sparse_c_arrays.specs.Rests.{KeepsRest}
@@ -48,14 +45,14 @@ module _ (R : CommRing) {T : Type 0} (f : T → R.Carrier) (a : Compressed ℤ) 
     rest = λ h.
         let p = found answer quotient (rest h) in
         subst (λ (n : ℕ). KeepsRest n before after) (ap (λ (x : Plain R). x.rows) p.1.0.2) p.1.1;
-    sound = accepted _ _ answer status status refl sound fault (quotient_told R f a divisor) written
+    sound = accepted _ _ answer status status refl sound fault (matrix_sound a) written
         why;
     untouched = λ h. (
       untouched h,
       size_kept _ status answer before.places after.places kept why h,
     );
     needed = λ small.
-        let p = size_told _ status answer (quotient_large R f a divisor) quotient fault needed why
+        let p = size_told _ status answer (matrix_large a) quotient fault needed why
         small in
         (plain_of_rows R f p.0, p.1.0, p.1.1);
     refused = λ h. refused_for answer quotient status status refl fault (λ e given. given)
@@ -63,44 +60,12 @@ module _ (R : CommRing) {T : Type 0} (f : T → R.Carrier) (a : Compressed ℤ) 
   }
 
 -- the status as the caller sees it, and the divisor as it was passed
-pub seen_quotient : {R : CommRing} {T : Type 0} {f : T → R.Carrier} {a : Compressed ℤ}
-    {divisor passed : ℤ} {before after : Room} {status seen : ℤ} → divisor ≡ passed → seen ≡ status
-    → Divides R (IsFaultOfQuotient R f a passed) a passed before after status
-    → Divides R (IsFaultOfQuotient R f a divisor) a divisor before after seen
-seen_quotient {R} {T} {f} {a} {divisor} {passed} {before} {after} is same made = subst
-    (λ (s : ℤ × ℤ). Divides R (IsFaultOfQuotient R f a s.0) a s.0 before after s.1)
-    (λ k. (sym is k, sym same k)) made
-
--- a modulus m that is listed as M
-pub listed_quotient : (m M : ℕ) {a : Compressed ℤ} {divisor passed : ℤ} {before after : Room}
-    {status seen : ℤ} → m ≡ M → divisor ≡ passed → seen ≡ status
-    → Divides (mod_ring M) (IsFaultOfQuotient (mod_ring M) (mod_value {m = M}) a passed) a passed
-    before after status
-    → Divides (mod_ring m)
-    (IsFaultModulo m (IsFaultOfQuotient (mod_ring m) (mod_value {m = m}) a divisor)) a divisor
-    before after seen
-listed_quotient m M {a} {divisor} {passed} {before} {after} {status} {seen} listed is same made =
-    subst (λ (s : ℕ × (ℤ × ℤ)). Divides (mod_ring s.0) (IsFaultModulo m
-    (IsFaultOfQuotient (mod_ring s.0) (mod_value {m = s.0}) a s.1.0)) a s.1.0 before after s.1.1)
-    (λ k. (sym listed k, (sym is k, sym same k))) (record {
-      written = made.written;
-      rest = made.rest;
-      sound = made.sound;
-      untouched = made.untouched;
-      needed = made.needed;
-      refused = λ h. widened status status refl (λ e fault. inr fault) (λ small. small)
-          (made.refused h);
-    })
-
-pub same_quotient : (m : ℕ) {a : Compressed ℤ} {divisor passed : ℤ} {before after : Room}
+pub seen_quotient : (S : Scalars) {a : Compressed ℤ} {divisor passed : ℤ} {before after : Room}
     {status seen : ℤ} → divisor ≡ passed → seen ≡ status
-    → Divides (mod_ring m)
-    (IsFaultModulo m (IsFaultOfQuotient (mod_ring m) (mod_value {m = m}) a passed)) a passed before
-    after status
-    → Divides (mod_ring m)
-    (IsFaultModulo m (IsFaultOfQuotient (mod_ring m) (mod_value {m = m}) a divisor)) a divisor
-    before after seen
-same_quotient m {a} {divisor} {passed} {before} {after} is same made =
-    subst (λ (s : ℤ × ℤ). Divides (mod_ring m) (IsFaultModulo m
-    (IsFaultOfQuotient (mod_ring m) (mod_value {m = m}) a s.0)) a s.0 before after s.1)
-    (λ k. (sym is k, sym same k)) made
+    → Divides S.ring (S.IsFault (IsFaultOfQuotient S.ring S.value a passed)) a passed before after
+    status
+    → Divides S.ring (S.IsFault (IsFaultOfQuotient S.ring S.value a divisor)) a divisor before after
+    seen
+seen_quotient S {a} {divisor} {passed} {before} {after} is same made = subst
+    (λ (s : ℤ × ℤ). Divides S.ring (S.IsFault (IsFaultOfQuotient S.ring S.value a s.0)) a s.0 before
+    after s.1) (λ k. (sym is k, sym same k)) made

@@ -4,12 +4,16 @@ use Rattle.sparse_algebra.specs.Algebra.{CommRing}
 use Rattle.sparse_algebra.specs.Integers.{element_of}
 use Rattle.sparse_algebra.specs.Plain.{Plain, plain_sum, plain_difference}
 use Rattle.sparse_algebra.specs.Plain.{plain_product, plain_scaled}
-use Rattle.sparse_compressed.specs.Compressed.{Compressed}
+use Rattle.sparse_compressed.specs.Compressed.{Compressed, IsSound}
+use Rattle.sparse_c.specs.Rooms.{WritesIn}
+use Rattle.sparse_c.specs.Scalars.{Scalars}
 use Rattle.sparse_c.specs.declared.arguments.Combination.{Combination}
 use Rattle.sparse_c.specs.declared.arguments.Combination.TheVariants.{Sum, Difference}
 use Rattle.sparse_c.specs.declared.arguments.Combination.TheVariants.{Multiples, Product}
 use Rattle.sparse_c.specs.declared.arguments.Pair.{Pair}
+use Rattle.sparse_c.specs.declared.arguments.Room.{Room}
 use Rattle.sparse_c_arrays.specs.Arrays.{plain_by_rows}
+use Rattle.sparse_c_arrays.specs.Refused.{IsFaultOfPair}
 
 -- the matrices have one shape
 abbrev pub HaveOneShape : Compressed ℤ → Compressed ℤ → Type 0
@@ -46,3 +50,8 @@ module _ (R : CommRing) where
   abbrev pub IsSumOf : Combination → R.Carrier → R.Carrier → R.Carrier → R.Carrier → Type 0
   IsSumOf how s t alpha beta = (a b : Plain R)
       → combined_by how s a t b ≡ plain_sum R (plain_scaled R alpha a) (plain_scaled R beta b)
+
+-- a call that combines a pair, with the arrays before it and after it, and its status
+abbrev pub Combines : Scalars → Pair → Room → Room → ℤ → Type 0
+Combines S p =
+    WritesIn S (IsSound p.a × IsSound p.b) (IsFaultOfPair p.a p.b) (combination_of S.ring p)

@@ -2,18 +2,18 @@
 use Rattle.std.specs.Prelude.{◌≡◌, ◌≢◌, ◌≤◌, ◌<◌, ◌↔◌, ◌⊎◌, ℕ, ℤ, pos, true, List, length, map}
 use Rattle.std.specs.Prelude.{slice_index_or, take}
 use Rattle.sparse_algebra.specs.Algebra.{CommRing}
-use Rattle.sparse_algebra.specs.ModNumbers.{mod_value}
-use Rattle.sparse_algebra.specs.Moduli.{mod_ring}
 use Rattle.sparse_algebra.specs.Plain.{Plain, plain_transpose}
 use Rattle.sparse_compressed.specs.Compressed.{Compressed, IsSound}
 use Rattle.sparse_compressed.specs.PlainOfLanes.{plain_of_rows}
 use Rattle.sparse_factor.specs.Fill.{InFill, UpperBase}
 use Rattle.sparse_factor.specs.Factorisations.{IsFactorisation}
-use Rattle.sparse_c.specs.Moduli.{IsFaultModulo}
+use Rattle.sparse_c.specs.Rooms.{Shows}
+use Rattle.sparse_c.specs.Scalars.{Scalars}
 use Rattle.sparse_c.specs.Symmetric.{symmetric_by_cols, HasNoFactors}
-use Rattle.sparse_c_arrays.specs.Arrays.{places_of, Room, HoldsCols, HoldsRows}
+use Rattle.sparse_c.specs.declared.arguments.FactorRoom.{FactorRoom}
+use Rattle.sparse_c.specs.declared.arguments.Factored.{Factored}
+use Rattle.sparse_c_arrays.specs.Arrays.{places_of, room_of, Room, HoldsCols, HoldsRows}
 use Rattle.sparse_algebra.specs.Integers.{element_of}
-use Rattle.sparse_c_arrays.specs.Reduced.{AreReduced}
 use Rattle.sparse_c_arrays.specs.Refused.{IsFaultOf, IsRefusedFor, IsTooSmall}
 use Rattle.sparse_c_arrays.specs.Rests.{KeepsBehind, KeepsRest}
 use Rattle.sparse_c_arrays.specs.Statuses.{number_of, FindsNoFault}
@@ -69,11 +69,18 @@ pub record Factorises (R : CommRing) {T : Type 0} (f : T → R.Carrier) (Fault :
   pub needed : status ≡ number_of TooSmall → CountsFactors R f a after.places
   pub refused : status ≢ pos 0 → IsRefusedFor Fault (AreFactorsTooLong R f a before old) status
 
--- the same of a call that factors a modulo m
-pub record FactorsModulo (m : ℕ) (a : Compressed ℤ) (before after : Room) (old new : List ℤ)
-    (status : ℤ) : Type 0 where
-  pub answer : Factorises (mod_ring m) (mod_value {m = m})
-      (IsFaultModulo m (IsFaultOfFactors (mod_ring m) (mod_value {m = m}) a)) a before after old new
-      status
-  pub reduced : status ≡ pos 0 → AreReduced m after.places after.values
-  pub reduced_diagonal : status ≡ pos 0 → AreReduced m a.pattern.minor_dim new
+-- what the arrays for L hold
+abbrev pub l_in : FactorRoom → Room
+l_in r = room_of r.offsets.now r.indices.now r.values.now r.places.now
+
+-- the same of a call over a ring, and what it shows in the arrays
+pub record FactorisesIn (S : Scalars) (s : Factored) (before after : FactorRoom) (status : ℤ) : Type 0 where
+  pub answer : Factorises S.ring S.value (S.IsFault (IsFaultOfFactors S.ring S.value s.a)) s.a
+      (l_in before) (l_in after) before.diagonal.now after.diagonal.now status
+  pub shown : Shows S.IsShown after.places.now after.values.now status
+  pub shown_diagonal : Shows S.IsShown s.a.pattern.minor_dim after.diagonal.now status
+  pub offsets : after.offsets.ghost_name ≡ before.offsets.ghost_name
+  pub indices : after.indices.ghost_name ≡ before.indices.ghost_name
+  pub values : after.values.ghost_name ≡ before.values.ghost_name
+  pub diagonal : after.diagonal.ghost_name ≡ before.diagonal.ghost_name
+  pub places : after.places.ghost_name ≡ before.places.ghost_name

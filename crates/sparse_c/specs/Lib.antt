@@ -1,12 +1,13 @@
 pub mod Combinations
-pub mod CombinationsModulo
 pub mod Dense
 pub mod Factors
 pub mod Fills
+pub mod InnerListed
 pub mod Moduli
 pub mod Orders
 pub mod Patterns
 pub mod Rooms
+pub mod Scalars
 pub mod Solved
 pub mod Symmetric
 pub mod Systems

@@ -3,16 +3,16 @@ use Rattle.std.specs.Prelude.{◌≡◌, ◌≢◌, ◌≤◌, ◌⊎◌, ℕ, �
 use Rattle.std.specs.Prelude.{pos, take}
 use Rattle.sparse_algebra.specs.Algebra.{CommRing}
 use Rattle.sparse_algebra.specs.Inverses.{HasInverse}
-use Rattle.sparse_algebra.specs.ModNumbers.{mod_value}
-use Rattle.sparse_algebra.specs.Moduli.{mod_ring}
 use Rattle.sparse_algebra.specs.Plain.{Plain, plain_scaled, plain_transpose}
 use Rattle.sparse_compressed.specs.Compressed.{Compressed, IsSound}
 use Rattle.sparse_with_dense.specs.Solutions.{plain_lower, IsSingular, IsSolution}
-use Rattle.sparse_c.specs.Moduli.{IsFaultModulo}
+use Rattle.sparse_c.specs.Rooms.{AnswersIn}
+use Rattle.sparse_c.specs.Scalars.{Scalars}
+use Rattle.sparse_c.specs.declared.arguments.Quotient.{Quotient}
+use Rattle.sparse_c.specs.declared.arguments.Room as lent
 use Rattle.sparse_c_arrays.specs.Arrays.{plain_by_cols, plain_by_rows, plain_by_values}
 use Rattle.sparse_c_arrays.specs.Arrays.{places_of, Room, HoldsRows}
 use Rattle.sparse_algebra.specs.Integers.{element_of}
-use Rattle.sparse_c_arrays.specs.Reduced.{AreReduced}
 use Rattle.sparse_c_arrays.specs.Refused.{IsFaultOf, IsFaultOfSystem, IsRefusedFor, IsSystemSound}
 use Rattle.sparse_c_arrays.specs.Refused.{IsTooSmall}
 use Rattle.sparse_c_arrays.specs.Rests.{KeepsRest}
@@ -91,10 +91,7 @@ pub record Divides (R : CommRing) (Fault : Refusal → Type 0) (a : Compressed �
   pub needed : status ≡ number_of TooSmall → CountsQuotient R a divisor after.places
   pub refused : status ≢ pos 0 → IsRefusedFor Fault (IsQuotientTooSmall R a divisor before) status
 
--- the same of a call that divides modulo m
-pub record DividesModulo (m : ℕ) (a : Compressed ℤ) (divisor : ℤ) (before after : Room) (status : ℤ)
-    : Type 0 where
-  pub answer : Divides (mod_ring m)
-      (IsFaultModulo m (IsFaultOfQuotient (mod_ring m) (mod_value {m = m}) a divisor)) a divisor
-      before after status
-  pub reduced : status ≡ pos 0 → AreReduced m after.places after.values
+-- the same of a call over a ring, and what it shows
+abbrev pub DividesIn : Scalars → Quotient → lent.Room → lent.Room → ℤ → Type 0
+DividesIn S q = AnswersIn S (Divides S.ring
+    (S.IsFault (IsFaultOfQuotient S.ring S.value q.a q.divisor)) q.a q.divisor)

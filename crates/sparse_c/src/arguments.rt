@@ -16,6 +16,22 @@ pub(crate) struct Room<'a> {
     pub(crate) places: &'a mut usize,
 }
 
+/// The arrays that C lends for the factors of a symmetric matrix.
+#[derive(Drop)]
+pub(crate) struct FactorRoom<'a> {
+    pub(crate) offsets: &'a mut [usize],
+    pub(crate) indices: &'a mut [usize],
+    pub(crate) values: &'a mut [i64],
+    pub(crate) diagonal: &'a mut [i64],
+    pub(crate) places: &'a mut usize,
+}
+
+/// The array that C lends for a dense matrix.
+#[derive(Drop)]
+pub(crate) struct Numbers<'a> {
+    pub(crate) values: &'a mut [i64],
+}
+
 /// How two matrices are combined.
 #[derive(Clone, Copy)]
 pub(crate) enum Combination {
@@ -54,6 +70,48 @@ pub(crate) struct Triplets<'a> {
     pub(crate) row_indices: &'a [usize],
     pub(crate) col_indices: &'a [usize],
     pub(crate) values: &'a [i64],
+}
+
+/// A matrix by rows, and the integer that it is divided by.
+#[derive(Drop)]
+pub(crate) struct Quotient<'a> {
+    pub(crate) a: Lanes<'a>,
+    pub(crate) divisor: i64,
+    ghost in_range: { FitsSigned w64 divisor },
+}
+
+/// A square matrix by columns. The symmetric matrix with its entries on and above the diagonal is factored.
+#[derive(Drop)]
+pub(crate) struct Factored<'a> {
+    pub(crate) a: Lanes<'a>,
+}
+
+/// A matrix by rows, and the values of a dense matrix with `inner` rows and `cols` columns.
+#[derive(Drop)]
+pub(crate) struct Factors<'a> {
+    pub(crate) a: Lanes<'a>,
+    pub(crate) inner: usize,
+    pub(crate) cols: usize,
+    pub(crate) b: &'a [i64],
+}
+
+/// The equation that is solved.
+#[derive(Clone, Copy)]
+pub(crate) enum Equation {
+    /// `L X = B`, or `Lᵀ X = B` where the flag is set: L is the part of the matrix on and below its diagonal.
+    Lower(bool),
+    /// `A X = B`: A is the symmetric matrix with the entries of the matrix on and above its diagonal.
+    Symmetric,
+}
+
+/// A square matrix by columns, and the columns of the right side of the equation, one after the other.
+#[derive(Drop)]
+pub(crate) struct System<'a> {
+    pub(crate) equation: Equation,
+    pub(crate) matrix: Lanes<'a>,
+    pub(crate) size: usize,
+    pub(crate) cols: usize,
+    pub(crate) b: &'a [i64],
 }
 
 // The room for a matrix by rows.

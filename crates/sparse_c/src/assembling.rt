@@ -1,21 +1,15 @@
 //! Triplets from outside, assembled to a matrix by rows or by columns.
 
-ghost use Rattle.std.specs.Prelude.{◌≡◌, ◌≤◌, pos, IfOk, IfErr, OnOk};
+ghost use Rattle.std.specs.Prelude.{◌≡◌, IfOk, IfErr, OnOk};
+ghost use Rattle.sparse_algebra.specs.Moduli.{mod_ring};
 ghost use Rattle.sparse_coo_dense.specs.Coo.{AreParts};
 ghost use Rattle.sparse_compressed.specs.PlainOfLanes.{plain_of_rows};
-ghost use Rattle.sparse_c.specs.Moduli.{moduli, IsNoneOf};
-ghost use Rattle.sparse_c.specs.Orders.{assembly_of, AssemblesModulo};
-ghost use Rattle.sparse_c.specs.Rooms.{room_after, room_before};
-ghost use Rattle.sparse_c_arrays.specs.Arrays.{room_of};
-ghost use Rattle.sparse_c_arrays.specs.Reduced.{FirstAre};
+ghost use Rattle.sparse_c.specs.InnerListed.{rows_listed, rows_unlisted};
+ghost use Rattle.sparse_c.specs.Orders.{assembly_of, Assembles};
 ghost use Rattle.sparse_c_arrays.specs.Refused.{IsFaultOfList, IsMemoryOr};
-ghost use Rattle.sparse_c_arrays.specs.Statuses.{number_of};
-ghost use Rattle.sparse_c_arrays.specs.Written.{WritesRows};
-ghost use Rattle.sparse_c_arrays.specs.declared.refusal.Refusal.TheVariants.{UnknownChoice};
 
-use crate::arguments::{Order, Room, Triplets, room};
-use crate::moduli::by_modulus;
-use sparse_algebra::scalar::Mod;
+use crate::arguments::{Order, Room, Triplets};
+use crate::moduli::Call;
 use sparse_c_arrays::number::Number;
 use sparse_c_arrays::refusal::Refusal;
 use sparse_c_arrays::triplets::list_of;
@@ -24,65 +18,18 @@ use sparse_convert::serial::{convert_coo_csc, convert_coo_csr};
 use sparse_csr_csc::csr::CsrMatrix;
 use std::alloc::Global;
 
-/// Writes the matrix of triplets over the residues modulo a listed number.
-pub(crate) fn write_assembly_by_modulus(
-    alloc: Global,
-    modulus: u64,
-    triplets: Triplets<'_>,
-    offsets: &mut [usize],
-    indices: &mut [usize],
-    values: &mut [i64],
-    places: &mut usize,
-) -> i32
-    ensures answered { AssemblesModulo modulus triplets.entry
-        (room_of offsets.old indices.old values.old places.old)
-        (room_of offsets.new indices.new values.new places.new) result }
-    ensures unlisted { IsNoneOf moduli modulus → result ≡ number_of UnknownChoice }
-{
-    let room = room!(offsets, indices, values, places);
-    by_modulus!(modulus, write_assembly_mod(alloc, modulus, triplets, room))
-}
+impl<'a> Call<Room<'a>> for Triplets<'_> {
+    ghost does = { Assembles };
 
-// Writes the matrix over the residues modulo `M`, which is the modulus.
-fn write_assembly_mod<const M: u64>(
-    alloc: Global,
-    modulus: u64,
-    triplets: Triplets<'_>,
-    room: Room<'_>,
-) -> i32
-    requires is { modulus ≡ M }
-    requires short { M ≤ 9223372036854775808 }
-    ensures { AssemblesModulo modulus triplets.entry (room_before room.entry)
-        (room_after room.exit) result }
-{
-    let Room {
-        offsets,
-        indices,
-        values,
-        places,
-    } = room;
-    write_assembly::<Mod<M>>(alloc, triplets, offsets, indices, values, places)
-}
+    /// Writes the matrix of triplets. Values of triplets at the same place are added.
+    fn run<T: Number>(self, alloc: Global, out: &mut Room<'a>) -> i32 {
+        let answer = assembled::<T>(alloc, self);
+        finish_rows(answer, out.offsets, out.indices, out.values, out.places)
+    }
 
-/// Writes the matrix of triplets over the ring of a scalar. Values of triplets at the same place are added.
-pub(crate) fn write_assembly<T: Number>(
-    alloc: Global,
-    triplets: Triplets<'_>,
-    offsets: &mut [usize],
-    indices: &mut [usize],
-    values: &mut [i64],
-    places: &mut usize,
-) -> i32
-    ensures answered { let t = triplets.entry in WritesRows
-        (AreParts t.rows t.cols t.row_indices.now t.col_indices.now t.values.now)
-        (IsFaultOfList t.rows t.cols t.row_indices.now t.col_indices.now t.values.now)
-        (assembly_of T.ring t)
-        (room_of offsets.old indices.old values.old places.old)
-        (room_of offsets.new indices.new values.new places.new) result }
-    ensures shown { result ≡ pos 0 → FirstAre T.is_shown places.new values.new }
-{
-    let answer = assembled::<T>(alloc, triplets);
-    finish_rows(answer, offsets, indices, values, places)
+    ghost listed = { λ m t. rows_listed m (assembly_of (mod_ring m) t) };
+
+    ghost unlisted = { λ m t. rows_unlisted m (assembly_of (mod_ring m) t) };
 }
 
 // The matrix of triplets by rows, or its transpose by rows, whose arrays are those of the matrix by columns.

@@ -1,12 +1,19 @@
-//! Assembly of matrices from triplets.
+//! Assembly of matrices from triplets, modulo 2^64 and modulo a listed number.
 
+ghost use Rattle.std.specs.Prelude.{◌≡◌, pos};
+ghost use Rattle.sparse_algebra.specs.Moduli.{mod_ring};
 ghost use Rattle.sparse_coo_dense.specs.Coo.{AreParts};
+ghost use Rattle.sparse_c.specs.Moduli.{moduli, IsFaultModulo, IsNoneOf};
+ghost use Rattle.sparse_c.specs.Rooms.{Shows};
 ghost use Rattle.sparse_c_arrays.specs.Arrays.{plain_of_lists, ring64, room_of};
 ghost use Rattle.sparse_c_arrays.specs.Refused.{IsFaultOfList};
 ghost use Rattle.sparse_c_arrays.specs.Written.{WritesCols, WritesRows};
+ghost use Rattle.sparse_c_arrays.specs.Reduced.{IsReduced};
+ghost use Rattle.sparse_c_arrays.specs.Statuses.{number_of};
+ghost use Rattle.sparse_c_arrays.specs.declared.refusal.Refusal.TheVariants.{UnknownChoice};
 
-use crate::arguments::triplets;
-use crate::assembling::write_assembly;
+use crate::arguments::{room, triplets};
+use crate::moduli::{Call, by_modulus};
 use sparse_algebra::scalar::W64;
 use std::alloc::Global;
 
@@ -31,14 +38,8 @@ pub extern "C" fn nalgebra_sparse_assemble_csr(
         (room_of out_offsets.new out_indices.new out_values.new out_places.new) result }
 {
     let triplets = triplets!(Rows, rows, cols, row_indices, col_indices, values);
-    write_assembly::<W64>(
-        alloc,
-        triplets,
-        out_offsets,
-        out_indices,
-        out_values,
-        out_places,
-    )
+    let mut room = room!(out_offsets, out_indices, out_values, out_places);
+    triplets.run::<W64>(alloc, &mut room)
 }
 
 /// Writes the matrix of triplets by columns. Values of triplets at the same place are added.
@@ -62,12 +63,64 @@ pub extern "C" fn nalgebra_sparse_assemble_csc(
         (room_of out_offsets.new out_indices.new out_values.new out_places.new) result }
 {
     let triplets = triplets!(Columns, rows, cols, row_indices, col_indices, values);
-    write_assembly::<W64>(
-        alloc,
-        triplets,
-        out_offsets,
-        out_indices,
-        out_values,
-        out_places,
-    )
+    let mut room = room!(out_offsets, out_indices, out_values, out_places);
+    triplets.run::<W64>(alloc, &mut room)
+}
+
+/// Writes the matrix of triplets by rows over the ring of residues modulo a listed number.
+#[unsafe(no_mangle)]
+pub extern "C" fn nalgebra_sparse_assemble_csr_mod(
+    alloc: Global,
+    modulus: u64,
+    rows: usize,
+    cols: usize,
+    row_indices: &[usize],
+    col_indices: &[usize],
+    values: &[i64],
+    out_offsets: &mut [usize],
+    out_indices: &mut [usize],
+    out_values: &mut [i64],
+    out_places: &mut usize,
+) -> i32
+    ensures answered { WritesRows (AreParts rows cols row_indices.now col_indices.now values.now)
+        (IsFaultModulo modulus
+        (IsFaultOfList rows cols row_indices.now col_indices.now values.now))
+        (plain_of_lists (mod_ring modulus) rows cols row_indices.now col_indices.now values.now)
+        (room_of out_offsets.old out_indices.old out_values.old out_places.old)
+        (room_of out_offsets.new out_indices.new out_values.new out_places.new) result }
+    ensures reduced { Shows (IsReduced modulus) out_places.new out_values.new result }
+    ensures unlisted { IsNoneOf moduli modulus → result ≡ number_of UnknownChoice }
+{
+    let triplets = triplets!(Rows, rows, cols, row_indices, col_indices, values);
+    let mut room = room!(out_offsets, out_indices, out_values, out_places);
+    by_modulus(alloc, modulus, triplets, &mut room)
+}
+
+/// Writes the matrix of triplets by columns over the ring of residues modulo a listed number.
+#[unsafe(no_mangle)]
+pub extern "C" fn nalgebra_sparse_assemble_csc_mod(
+    alloc: Global,
+    modulus: u64,
+    rows: usize,
+    cols: usize,
+    row_indices: &[usize],
+    col_indices: &[usize],
+    values: &[i64],
+    out_offsets: &mut [usize],
+    out_indices: &mut [usize],
+    out_values: &mut [i64],
+    out_places: &mut usize,
+) -> i32
+    ensures answered { WritesCols (AreParts rows cols row_indices.now col_indices.now values.now)
+        (IsFaultModulo modulus
+        (IsFaultOfList rows cols row_indices.now col_indices.now values.now))
+        (plain_of_lists (mod_ring modulus) rows cols row_indices.now col_indices.now values.now)
+        (room_of out_offsets.old out_indices.old out_values.old out_places.old)
+        (room_of out_offsets.new out_indices.new out_values.new out_places.new) result }
+    ensures reduced { Shows (IsReduced modulus) out_places.new out_values.new result }
+    ensures unlisted { IsNoneOf moduli modulus → result ≡ number_of UnknownChoice }
+{
+    let triplets = triplets!(Columns, rows, cols, row_indices, col_indices, values);
+    let mut room = room!(out_offsets, out_indices, out_values, out_places);
+    by_modulus(alloc, modulus, triplets, &mut room)
 }

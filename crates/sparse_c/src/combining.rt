@@ -1,23 +1,17 @@
 //! Sums, differences and products of matrices from outside.
 
-ghost use Rattle.std.specs.Prelude.{◌≡◌, ◌≤◌, pos, IfOk, IfErr, IfSome, OnOk};
+ghost use Rattle.std.specs.Prelude.{◌≡◌, IfOk, IfErr, IfSome, OnOk};
 ghost use Rattle.sparse_algebra.specs.Integers.{element_of};
+ghost use Rattle.sparse_algebra.specs.Moduli.{mod_ring};
 ghost use Rattle.sparse_compressed.specs.Compressed.{IsSound};
 ghost use Rattle.sparse_compressed.specs.PlainOfLanes.{plain_of_rows};
-ghost use Rattle.sparse_c.specs.Combinations.{combination_of, CanCombine, IsOfOneShape, IsSumOf};
-ghost use Rattle.sparse_c.specs.CombinationsModulo.{CombinesModulo};
-ghost use Rattle.sparse_c.specs.Moduli.{moduli, IsNoneOf};
-ghost use Rattle.sparse_c.specs.Rooms.{room_after, room_before};
-ghost use Rattle.sparse_c_arrays.specs.Arrays.{room_of};
-ghost use Rattle.sparse_c_arrays.specs.Reduced.{FirstAre};
+ghost use Rattle.sparse_c.specs.Combinations.{combination_of, CanCombine, Combines};
+ghost use Rattle.sparse_c.specs.Combinations.{IsOfOneShape, IsSumOf};
+ghost use Rattle.sparse_c.specs.InnerListed.{rows_listed, rows_unlisted};
 ghost use Rattle.sparse_c_arrays.specs.Refused.{IsFaultOfPair, IsMemoryOr};
-ghost use Rattle.sparse_c_arrays.specs.Statuses.{number_of};
-ghost use Rattle.sparse_c_arrays.specs.Written.{WritesRows};
-ghost use Rattle.sparse_c_arrays.specs.declared.refusal.Refusal.TheVariants.{UnknownChoice};
 
-use crate::arguments::{Combination, Pair, Room, room};
-use crate::moduli::by_modulus;
-use sparse_algebra::scalar::Mod;
+use crate::arguments::{Combination, Pair, Room};
+use crate::moduli::Call;
 use sparse_c_arrays::number::Number;
 use sparse_c_arrays::refusal::Refusal;
 use sparse_c_arrays::sums::{Multiples, write_sum};
@@ -27,76 +21,30 @@ use sparse_products::serial::mul_csr;
 use sparse_sums::{add_csr, add_scaled_csr, sub_csr};
 use std::alloc::Global;
 
-/// Writes the combination of two matrices by rows over the residues modulo a listed number.
-pub(crate) fn write_combination_by_modulus(
-    alloc: Global,
-    modulus: u64,
-    pair: Pair<'_>,
-    offsets: &mut [usize],
-    indices: &mut [usize],
-    values: &mut [i64],
-    places: &mut usize,
-) -> i32
-    requires { CanCombine pair }
-    ensures answered { CombinesModulo modulus pair.entry
-        (room_of offsets.old indices.old values.old places.old)
-        (room_of offsets.new indices.new values.new places.new) result }
-    ensures unlisted { IsNoneOf moduli modulus → result ≡ number_of UnknownChoice }
-{
-    let room = room!(offsets, indices, values, places);
-    by_modulus!(modulus, write_combination_mod(alloc, modulus, pair, room))
-}
+impl<'a> Call<Room<'a>> for Pair<'_> {
+    ghost fits = { CanCombine };
 
-// Writes the combination over the residues modulo `M`, which is the modulus.
-fn write_combination_mod<const M: u64>(
-    alloc: Global,
-    modulus: u64,
-    pair: Pair<'_>,
-    room: Room<'_>,
-) -> i32
-    requires is { modulus ≡ M }
-    requires short { M ≤ 9223372036854775808 }
-    requires fit { CanCombine pair }
-    ensures { CombinesModulo modulus pair.entry (room_before room.entry)
-        (room_after room.exit) result }
-{
-    let Room {
-        offsets,
-        indices,
-        values,
-        places,
-    } = room;
-    write_combination::<Mod<M>>(alloc, pair, offsets, indices, values, places)
-}
+    ghost does = { Combines };
 
-/// Writes the combination of two matrices by rows over the ring of a scalar. A sum is merged in the arrays if they have
-/// room for the places of both matrices, which takes no memory.
-pub(crate) fn write_combination<T: Number>(
-    alloc: Global,
-    pair: Pair<'_>,
-    offsets: &mut [usize],
-    indices: &mut [usize],
-    values: &mut [i64],
-    places: &mut usize,
-) -> i32
-    requires { CanCombine pair }
-    ensures answered { let p = pair.entry in WritesRows (IsSound p.a × IsSound p.b)
-        (IsFaultOfPair p.a p.b) (combination_of T.ring p)
-        (room_of offsets.old indices.old values.old places.old)
-        (room_of offsets.new indices.new values.new places.new) result }
-    ensures shown { result ≡ pos 0 → FirstAre T.is_shown places.new values.new }
-{
-    let lanes = pair.a.major_dim;
-    let most = pair.a.indices.len() + pair.b.indices.len();
-    if let Some((alpha, beta)) = factors::<T>(pair.how, pair.alpha, pair.beta) {
-        if lanes < offsets.len() && most <= indices.len() && most <= values.len() {
-            let Pair { a, b, .. } = pair;
-            let multiples = Multiples { alpha, a, beta, b };
-            return write_sum(multiples, offsets, indices, values, places);
+    /// Writes the combination of two matrices by rows. A sum is merged in the arrays if they have room for the places of
+    /// both matrices, which takes no memory.
+    fn run<T: Number>(self, alloc: Global, out: &mut Room<'a>) -> i32 {
+        let lanes = self.a.major_dim;
+        let most = self.a.indices.len() + self.b.indices.len();
+        if let Some((alpha, beta)) = factors::<T>(self.how, self.alpha, self.beta) {
+            if lanes < out.offsets.len() && most <= out.indices.len() && most <= out.values.len() {
+                let Pair { a, b, .. } = self;
+                let multiples = Multiples { alpha, a, beta, b };
+                return write_sum(multiples, out.offsets, out.indices, out.values, out.places);
+            }
         }
+        let answer = combined::<T>(alloc, self);
+        finish_rows(answer, out.offsets, out.indices, out.values, out.places)
     }
-    let answer = combined::<T>(alloc, pair);
-    finish_rows(answer, offsets, indices, values, places)
+
+    ghost listed = { λ m p. rows_listed m (combination_of (mod_ring m) p) };
+
+    ghost unlisted = { λ m p. rows_unlisted m (combination_of (mod_ring m) p) };
 }
 
 // Returns the factors of a sum of two matrices, or `None` of a product.

@@ -1,25 +1,25 @@
 //! Products with a dense matrix.
 
-ghost use Rattle.std.specs.Prelude.{◌≡◌, ◌≢◌, ◌≤◌, ◌*◌, pos, IfOk, IfErr, OnOk};
+ghost use Rattle.std.specs.Prelude.{◌≡◌, ◌*◌, pos, IfOk, IfErr, OnOk};
 ghost use Rattle.sparse_algebra.specs.Moduli.{mod_ring};
 ghost use Rattle.sparse_algebra.specs.Plain.{plain_product};
 ghost use Rattle.sparse_coo_dense.specs.DensePlain.{plain_full, plain_of_dense};
 ghost use Rattle.sparse_compressed.specs.Compressed.{arrays_of};
-ghost use Rattle.sparse_c.specs.Dense.{MultipliesModulo};
+ghost use Rattle.sparse_c.specs.Dense.{IsDenseTooLong, MultipliesDense, WritesValues};
+ghost use Rattle.sparse_c.specs.InnerListed.{numbers_listed, numbers_unlisted};
 ghost use Rattle.sparse_c.specs.Moduli.{moduli, IsFaultModulo, IsNoneOf};
+ghost use Rattle.sparse_c.specs.Rooms.{Shows};
 ghost use Rattle.sparse_c_arrays.specs.Arrays.{plain_by_rows, plain_by_values, ring64, HoldsDense};
-ghost use Rattle.sparse_c_arrays.specs.Reduced.{AreReduced, FirstAre};
-ghost use Rattle.sparse_c_arrays.specs.Refused.{IsDenseRefused, IsFaultOfSystem, IsMemoryOr};
+ghost use Rattle.sparse_c_arrays.specs.Reduced.{IsReduced};
+ghost use Rattle.sparse_c_arrays.specs.Refused.{IsFaultOfSystem, IsMemoryOr};
 ghost use Rattle.sparse_c_arrays.specs.Refused.{IsSystemSound};
-ghost use Rattle.sparse_c_arrays.specs.Rests.{KeepsBehind};
-ghost use Rattle.sparse_c_arrays.specs.Statuses.{number_of, FindsNoFault};
+ghost use Rattle.sparse_c_arrays.specs.Statuses.{number_of};
 ghost use Rattle.sparse_c_arrays.specs.declared.refusal.Refusal.TheVariants.{UnknownChoice};
 
-use crate::arguments::lanes;
-use crate::moduli::by_modulus;
-use sparse_algebra::scalar::{Mod, W64};
+use crate::arguments::{Factors, Numbers, lanes};
+use crate::moduli::{Call, by_modulus};
+use sparse_algebra::scalar::W64;
 use sparse_c_arrays::dense::dense_matrix_of;
-use sparse_c_arrays::lanes::Lanes;
 use sparse_c_arrays::number::Number;
 use sparse_c_arrays::refusal::Refusal;
 use sparse_c_arrays::writing::finish_dense;
@@ -41,17 +41,12 @@ pub extern "C" fn nalgebra_sparse_multiply_dense(
     b_values: &[i64],
     out_values: &mut [i64],
 ) -> i32
-    ensures written { let a = arrays_of rows inner a_offsets.now a_indices.now a_values.now in
-        result ≡ pos 0 → HoldsDense (plain_full ring64 (plain_product ring64
-        (plain_by_rows ring64 a) (plain_by_values ring64 inner cols b_values.now)))
-        out_values.new }
-    ensures rest { result ≡ pos 0 → KeepsBehind (rows * cols) out_values.old out_values.new }
-    ensures sound { let a = arrays_of rows inner a_offsets.now a_indices.now a_values.now in
-        FindsNoFault result → IsSystemSound a inner cols b_values.now }
-    ensures untouched { result ≢ pos 0 → out_values.new ≡ out_values.old }
-    ensures refused { let a = arrays_of rows inner a_offsets.now a_indices.now a_values.now in
-        result ≢ pos 0 → IsDenseRefused (IsFaultOfSystem a inner cols b_values.now)
-        rows cols out_values.old result }
+    ensures answered { let a = arrays_of rows inner a_offsets.now a_indices.now a_values.now in
+        WritesValues (IsSystemSound a inner cols b_values.now)
+        (IsFaultOfSystem a inner cols b_values.now)
+        (HoldsDense (plain_full ring64 (plain_product ring64 (plain_by_rows ring64 a)
+        (plain_by_values ring64 inner cols b_values.now)))) (IsDenseTooLong rows cols)
+        (rows * cols) out_values.old out_values.new result }
 {
     let factors = Factors {
         a: lanes!(rows, inner, a_offsets, a_indices, a_values),
@@ -59,7 +54,8 @@ pub extern "C" fn nalgebra_sparse_multiply_dense(
         cols,
         b: b_values,
     };
-    write_product::<W64>(alloc, factors, out_values)
+    let mut out = Numbers { values: out_values };
+    factors.run::<W64>(alloc, &mut out)
 }
 
 /// Writes that product over the ring of residues modulo a listed number.
@@ -76,19 +72,15 @@ pub extern "C" fn nalgebra_sparse_multiply_dense_mod(
     b_values: &[i64],
     out_values: &mut [i64],
 ) -> i32
-    ensures written { let a = arrays_of rows inner a_offsets.now a_indices.now a_values.now in
+    ensures answered { let a = arrays_of rows inner a_offsets.now a_indices.now a_values.now in
         let ring = mod_ring modulus in
-        result ≡ pos 0 → HoldsDense (plain_full ring (plain_product ring
-        (plain_by_rows ring a) (plain_by_values ring inner cols b_values.now))) out_values.new }
-    ensures reduced { result ≡ pos 0 → AreReduced modulus (rows * cols) out_values.new }
+        WritesValues (IsSystemSound a inner cols b_values.now)
+        (IsFaultModulo modulus (IsFaultOfSystem a inner cols b_values.now))
+        (HoldsDense (plain_full ring (plain_product ring (plain_by_rows ring a)
+        (plain_by_values ring inner cols b_values.now)))) (IsDenseTooLong rows cols)
+        (rows * cols) out_values.old out_values.new result }
+    ensures reduced { Shows (IsReduced modulus) (rows * cols) out_values.new result }
     ensures unlisted { IsNoneOf moduli modulus → result ≡ number_of UnknownChoice }
-    ensures rest { result ≡ pos 0 → KeepsBehind (rows * cols) out_values.old out_values.new }
-    ensures sound { let a = arrays_of rows inner a_offsets.now a_indices.now a_values.now in
-        FindsNoFault result → IsSystemSound a inner cols b_values.now }
-    ensures untouched { result ≢ pos 0 → out_values.new ≡ out_values.old }
-    ensures refused { let a = arrays_of rows inner a_offsets.now a_indices.now a_values.now in
-        result ≢ pos 0 → IsDenseRefused (IsFaultModulo modulus
-        (IsFaultOfSystem a inner cols b_values.now)) rows cols out_values.old result }
 {
     let factors = Factors {
         a: lanes!(rows, inner, a_offsets, a_indices, a_values),
@@ -96,65 +88,23 @@ pub extern "C" fn nalgebra_sparse_multiply_dense_mod(
         cols,
         b: b_values,
     };
-    write_product_by_modulus(alloc, modulus, factors, out_values)
+    let mut out = Numbers { values: out_values };
+    by_modulus(alloc, modulus, factors, &mut out)
 }
 
-/// A matrix by rows, and the values of a dense matrix with `inner` rows and `cols` columns.
-#[derive(Drop)]
-struct Factors<'a> {
-    a: Lanes<'a>,
-    inner: usize,
-    cols: usize,
-    b: &'a [i64],
-}
+impl<'a> Call<Numbers<'a>> for Factors<'_> {
+    ghost fits = { λ f. f.a.pattern.minor_dim ≡ f.inner };
 
-// Writes the product over the residues modulo a listed number.
-fn write_product_by_modulus(
-    alloc: Global,
-    modulus: u64,
-    factors: Factors<'_>,
-    out: &mut [i64],
-) -> i32
-    requires { factors.a.pattern.minor_dim ≡ factors.inner }
-    ensures answered { MultipliesModulo modulus factors.entry out.old out.new result }
-    ensures unlisted { IsNoneOf moduli modulus → result ≡ number_of UnknownChoice }
-{
-    by_modulus!(modulus, write_product_mod(alloc, modulus, factors, out))
-}
+    ghost does = { MultipliesDense };
 
-// Writes the product over the residues modulo `M`, which is the modulus.
-fn write_product_mod<const M: u64>(
-    alloc: Global,
-    modulus: u64,
-    factors: Factors<'_>,
-    out: &mut [i64],
-) -> i32
-    requires is { modulus ≡ M }
-    requires short { M ≤ 9223372036854775808 }
-    requires inner { factors.a.pattern.minor_dim ≡ factors.inner }
-    ensures { MultipliesModulo modulus factors.entry out.old out.new result }
-{
-    write_product::<Mod<M>>(alloc, factors, out)
-}
+    /// Writes the product.
+    fn run<T: Number>(self, alloc: Global, out: &mut Numbers<'a>) -> i32 {
+        finish_dense(dense_product::<T>(alloc, self), out.values)
+    }
 
-// Writes the product over the ring of a scalar.
-fn write_product<T: Number>(alloc: Global, factors: Factors<'_>, out: &mut [i64]) -> i32
-    requires { factors.a.pattern.minor_dim ≡ factors.inner }
-    ensures written { let f = factors.entry in
-        result ≡ pos 0 → HoldsDense (plain_full T.ring (plain_product T.ring
-        (plain_by_rows T.ring f.a) (plain_by_values T.ring f.inner f.cols f.b.now))) out.new }
-    ensures shown { let f = factors.entry in
-        result ≡ pos 0 → FirstAre T.is_shown (f.a.pattern.major_dim * f.cols) out.new }
-    ensures rest { let f = factors.entry in
-        result ≡ pos 0 → KeepsBehind (f.a.pattern.major_dim * f.cols) out.old out.new }
-    ensures sound { let f = factors.entry in
-        FindsNoFault result → IsSystemSound f.a f.inner f.cols f.b.now }
-    ensures untouched { result ≢ pos 0 → out.new ≡ out.old }
-    ensures refused { let f = factors.entry in
-        result ≢ pos 0 → IsDenseRefused (IsFaultOfSystem f.a f.inner f.cols f.b.now)
-        f.a.pattern.major_dim f.cols out.old result }
-{
-    finish_dense(dense_product::<T>(alloc, factors), out)
+    ghost listed = { λ m _. numbers_listed m };
+
+    ghost unlisted = { λ m _. numbers_unlisted m };
 }
 
 // The product of a matrix by rows and a dense matrix.

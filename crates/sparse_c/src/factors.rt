@@ -1,6 +1,6 @@
 //! The exact factors L D Lᵀ of symmetric matrices.
 
-ghost use Rattle.std.specs.Prelude.{◌≡◌, ◌≢◌, ◌≤◌, ◌⊎◌, ◌<◌, pos, length, IfOk, IfErr, MatchResult};
+ghost use Rattle.std.specs.Prelude.{◌≡◌, ◌≢◌, ◌⊎◌, ◌<◌, pos, length, IfOk, IfErr, MatchResult};
 ghost use Rattle.std.specs.Prelude.{OnErr, OnOk};
 ghost use Rattle.sparse_algebra.specs.ModNumbers.{mod_value};
 ghost use Rattle.sparse_algebra.specs.Moduli.{mod_ring};
@@ -8,22 +8,23 @@ ghost use Rattle.sparse_algebra.specs.WrappingValues.{w64_value};
 ghost use Rattle.sparse_compressed.specs.Compressed.{arrays_of, IsSound};
 ghost use Rattle.sparse_compressed.specs.PlainOfLanes.{plain_of_cols, plain_of_rows};
 ghost use Rattle.sparse_factor.specs.Factors.{diagonal};
-ghost use Rattle.sparse_c.specs.Factors.{AreFactors, Factorises, FactorsModulo, HoldsFactors};
+ghost use Rattle.sparse_c.specs.Factors.{AreFactors, Factorises, FactorisesIn, HoldsFactors};
 ghost use Rattle.sparse_c.specs.Factors.{IsFaultOfFactors};
+ghost use Rattle.sparse_c.specs.InnerListed.{factors_listed, factors_unlisted};
 ghost use Rattle.sparse_c.specs.Moduli.{moduli, IsFaultModulo, IsNoneOf};
-ghost use Rattle.sparse_c.specs.Rooms.{room_after, room_before};
+ghost use Rattle.sparse_c.specs.Rooms.{Shows};
 ghost use Rattle.sparse_c_arrays.specs.Arrays.{places_of, ring64, room_of};
-ghost use Rattle.sparse_c_arrays.specs.Reduced.{AreReduced, FirstAre};
+ghost use Rattle.sparse_c_arrays.specs.Reduced.{FirstAre, IsReduced};
 ghost use Rattle.sparse_c_arrays.specs.Refused.{IsMemoryOr, IsTooSmall};
 ghost use Rattle.sparse_c_arrays.specs.Rests.{KeepsBehind, KeepsRest};
 ghost use Rattle.sparse_c_arrays.specs.Statuses.{number_of};
 ghost use Rattle.sparse_c_arrays.specs.declared.refusal.Refusal.TheVariants.{TooSmall};
 ghost use Rattle.sparse_c_arrays.specs.declared.refusal.Refusal.TheVariants.{UnknownChoice};
 
-use crate::arguments::{Room, lanes, room};
-use crate::moduli::by_modulus;
+use crate::arguments::{FactorRoom, Factored, lanes};
+use crate::moduli::{Call, by_modulus};
 use sparse_algebra::learn;
-use sparse_algebra::scalar::{Mod, W64};
+use sparse_algebra::scalar::W64;
 use sparse_c_arrays::lanes::Lanes;
 use sparse_c_arrays::number::Number;
 use sparse_c_arrays::refusal::Refusal;
@@ -56,16 +57,17 @@ pub extern "C" fn nalgebra_sparse_factor_symmetric(
         (room_of out_offsets.new out_indices.new out_values.new out_places.new)
         out_diagonal.old out_diagonal.new result }
 {
-    let a = lanes!(size, size, offsets, indices, values);
-    write_factors::<W64>(
-        alloc,
-        a,
-        out_offsets,
-        out_indices,
-        out_values,
-        out_diagonal,
-        out_places,
-    )
+    let factored = Factored {
+        a: lanes!(size, size, offsets, indices, values),
+    };
+    let mut room = FactorRoom {
+        offsets: out_offsets,
+        indices: out_indices,
+        values: out_values,
+        diagonal: out_diagonal,
+        places: out_places,
+    };
+    factored.run::<W64>(alloc, &mut room)
 }
 
 /// Writes these factors over the ring of residues modulo a listed number.
@@ -90,91 +92,45 @@ pub extern "C" fn nalgebra_sparse_factor_symmetric_mod(
         (room_of out_offsets.old out_indices.old out_values.old out_places.old)
         (room_of out_offsets.new out_indices.new out_values.new out_places.new)
         out_diagonal.old out_diagonal.new result }
-    ensures reduced { result ≡ pos 0 → AreReduced modulus out_places.new out_values.new }
-    ensures reduced_diagonal { result ≡ pos 0 → AreReduced modulus size out_diagonal.new }
+    ensures reduced { Shows (IsReduced modulus) out_places.new out_values.new result }
+    ensures reduced_diagonal { Shows (IsReduced modulus) size out_diagonal.new result }
     ensures unlisted { IsNoneOf moduli modulus → result ≡ number_of UnknownChoice }
 {
-    let a = lanes!(size, size, offsets, indices, values);
-    factor_by_modulus(
-        alloc,
-        modulus,
-        a,
-        out_offsets,
-        out_indices,
-        out_values,
-        out_diagonal,
-        out_places,
-    )
+    let factored = Factored {
+        a: lanes!(size, size, offsets, indices, values),
+    };
+    let mut room = FactorRoom {
+        offsets: out_offsets,
+        indices: out_indices,
+        values: out_values,
+        diagonal: out_diagonal,
+        places: out_places,
+    };
+    by_modulus(alloc, modulus, factored, &mut room)
 }
 
-// Writes these factors over the residues modulo a listed number.
-fn factor_by_modulus(
-    alloc: Global,
-    modulus: u64,
-    a: Lanes<'_>,
-    offsets: &mut [usize],
-    indices: &mut [usize],
-    values: &mut [i64],
-    pivots: &mut [i64],
-    places: &mut usize,
-) -> i32
-    requires { a.pattern.minor_dim ≡ a.pattern.major_dim }
-    ensures answered { FactorsModulo modulus a.entry
-        (room_of offsets.old indices.old values.old places.old)
-        (room_of offsets.new indices.new values.new places.new) pivots.old pivots.new result }
-    ensures unlisted { IsNoneOf moduli modulus → result ≡ number_of UnknownChoice }
-{
-    let room = room!(offsets, indices, values, places);
-    by_modulus!(
-        modulus,
-        factor_symmetric_mod(alloc, modulus, a, room, pivots)
-    )
-}
+impl<'a> Call<FactorRoom<'a>> for Factored<'_> {
+    ghost fits = { λ s. s.a.pattern.minor_dim ≡ s.a.pattern.major_dim };
 
-// Writes these factors over the residues modulo `M`, which is the modulus.
-fn factor_symmetric_mod<const M: u64>(
-    alloc: Global,
-    modulus: u64,
-    a: Lanes<'_>,
-    room: Room<'_>,
-    pivots: &mut [i64],
-) -> i32
-    requires is { modulus ≡ M }
-    requires short { M ≤ 9223372036854775808 }
-    requires square { a.pattern.minor_dim ≡ a.pattern.major_dim }
-    ensures { FactorsModulo modulus a.entry (room_before room.entry) (room_after room.exit)
-        pivots.old pivots.new result }
-{
-    let Room {
-        offsets,
-        indices,
-        values,
-        places,
-    } = room;
-    write_factors::<Mod<M>>(alloc, a, offsets, indices, values, pivots, places)
-}
+    ghost does = { FactorisesIn };
 
-// Writes these factors over the ring of a scalar.
-fn write_factors<T: Number>(
-    alloc: Global,
-    a: Lanes<'_>,
-    offsets: &mut [usize],
-    indices: &mut [usize],
-    values: &mut [i64],
-    pivots: &mut [i64],
-    places: &mut usize,
-) -> i32
-    requires square { a.pattern.minor_dim ≡ a.pattern.major_dim }
-    ensures answered { Factorises T.ring T.value (IsFaultOfFactors T.ring T.value a.entry) a.entry
-        (room_of offsets.old indices.old values.old places.old)
-        (room_of offsets.new indices.new values.new places.new)
-        pivots.old pivots.new result }
-    ensures shown { result ≡ pos 0 → FirstAre T.is_shown places.new values.new }
-    ensures shown_pivots { result ≡ pos 0
-        → FirstAre T.is_shown a.entry.pattern.minor_dim pivots.new }
-{
-    let answer = factors_of::<T>(alloc, a);
-    finish_factors(answer, offsets, indices, values, pivots, places)
+    /// Writes the factors.
+    fn run<T: Number>(self, alloc: Global, out: &mut FactorRoom<'a>) -> i32 {
+        let Factored { a } = self;
+        let answer = factors_of::<T>(alloc, a);
+        finish_factors(
+            answer,
+            out.offsets,
+            out.indices,
+            out.values,
+            out.diagonal,
+            out.places,
+        )
+    }
+
+    ghost listed = { factors_listed };
+
+    ghost unlisted = { factors_unlisted };
 }
 
 // The columns of L as rows, and the diagonal of D.

@@ -10,6 +10,7 @@ ghost use Rattle.sparse_handles.specs.Behind.{plain_behind, Answers, IsEmpty};
 ghost use Rattle.sparse_handles.specs.Behind.{IsUnlike, IsUnmatched};
 ghost use Rattle.sparse_handles.specs.Behind.{Holds};
 
+use crate::status::status;
 use sparse_handles::handle::MatrixHandle;
 use sparse_handles::operations;
 use std::alloc::Global;
@@ -25,10 +26,7 @@ pub extern "C" fn nalgebra_sparse_matrix_transpose(
     ensures answer { Answers result (IsEmpty a.old.value) (out.new.value ≡ out.old.value)
         (Holds out.new.value (plain_transpose ring64 (plain_behind a.old.value))) }
 {
-    match operations::transpose(alloc, a, out) {
-        Ok(()) => 0,
-        Err(refusal) => refusal.status(),
-    }
+    status!(operations::transpose(alloc, a, out))
 }
 
 /// Puts the product of a number and a matrix behind a handle.
@@ -44,10 +42,7 @@ pub extern "C" fn nalgebra_sparse_matrix_scale(
         (Holds out.new.value
         (plain_scaled ring64 (element_of ring64 factor) (plain_behind a.old.value))) }
 {
-    match operations::scale(alloc, factor, a, out) {
-        Ok(()) => 0,
-        Err(refusal) => refusal.status(),
-    }
+    status!(operations::scale(alloc, factor, a, out))
 }
 
 /// Puts the sum of two matrices behind a handle.
@@ -63,10 +58,7 @@ pub extern "C" fn nalgebra_sparse_matrix_add(
         (out.new.value ≡ out.old.value) (Holds out.new.value
         (plain_sum ring64 (plain_behind a.old.value) (plain_behind b.old.value))) }
 {
-    match operations::add(alloc, a, b, out) {
-        Ok(()) => 0,
-        Err(refusal) => refusal.status(),
-    }
+    status!(operations::add(alloc, a, b, out))
 }
 
 /// Puts the difference of two matrices behind a handle.
@@ -82,10 +74,7 @@ pub extern "C" fn nalgebra_sparse_matrix_subtract(
         (out.new.value ≡ out.old.value) (Holds out.new.value
         (plain_difference ring64 (plain_behind a.old.value) (plain_behind b.old.value))) }
 {
-    match operations::subtract(alloc, a, b, out) {
-        Ok(()) => 0,
-        Err(refusal) => refusal.status(),
-    }
+    status!(operations::subtract(alloc, a, b, out))
 }
 
 /// Puts the sum of multiples of two matrices behind a handle.
@@ -104,10 +93,7 @@ pub extern "C" fn nalgebra_sparse_matrix_add_scaled(
         (plain_sum ring64 (plain_scaled ring64 (element_of ring64 alpha) (plain_behind a.old.value))
         (plain_scaled ring64 (element_of ring64 beta) (plain_behind b.old.value)))) }
 {
-    match operations::add_scaled(alloc, alpha, a, beta, b, out) {
-        Ok(()) => 0,
-        Err(refusal) => refusal.status(),
-    }
+    status!(operations::add_scaled(alloc, alpha, a, beta, b, out))
 }
 
 /// Puts the product of two matrices behind a handle.
@@ -123,8 +109,5 @@ pub extern "C" fn nalgebra_sparse_matrix_multiply(
         (out.new.value ≡ out.old.value) (Holds out.new.value
         (plain_product ring64 (plain_behind a.old.value) (plain_behind b.old.value))) }
 {
-    match operations::multiply(alloc, a, b, out) {
-        Ok(()) => 0,
-        Err(refusal) => refusal.status(),
-    }
+    status!(operations::multiply(alloc, a, b, out))
 }

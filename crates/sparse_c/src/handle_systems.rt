@@ -7,6 +7,7 @@ ghost use Rattle.sparse_handles.specs.Factored.{HoldsFactors, IsUnfactored};
 ghost use Rattle.sparse_handles.specs.Solved.{triangle_of, IsUnsolved, SolvesInPlace};
 ghost use Rattle.sparse_handles.specs.declared.solving.Triangle.TheVariants.{Lower, Upper};
 
+use crate::status::status;
 use sparse_handles::factoring::{clear_factors, factor, share_factors, solve_factored};
 use sparse_handles::handle::{FactorHandle, MatrixHandle};
 use sparse_handles::solving::{Triangle, solve_triangle};
@@ -29,10 +30,7 @@ pub extern "C" fn nalgebra_sparse_matrix_solve_lower(
         Answers result (IsUnsolved Lower a.old.value cols values.old) (values.new ≡ values.old)
         (SolvesInPlace (triangle_of Lower transposed m) m.rows cols values.old values.new) }
 {
-    match solve_triangle(alloc, a, Triangle::Lower, transposed, cols, values) {
-        Ok(()) => 0,
-        Err(refusal) => refusal.status(),
-    }
+    status!(solve_triangle(alloc, a, Triangle::Lower, transposed, cols, values))
 }
 
 /// Replaces B by the X for which `U X = B`, or `Uᵀ X = B` where `transposed` is set.
@@ -52,10 +50,7 @@ pub extern "C" fn nalgebra_sparse_matrix_solve_upper(
         Answers result (IsUnsolved Upper a.old.value cols values.old) (values.new ≡ values.old)
         (SolvesInPlace (triangle_of Upper transposed m) m.rows cols values.old values.new) }
 {
-    match solve_triangle(alloc, a, Triangle::Upper, transposed, cols, values) {
-        Ok(()) => 0,
-        Err(refusal) => refusal.status(),
-    }
+    status!(solve_triangle(alloc, a, Triangle::Upper, transposed, cols, values))
 }
 
 /// Puts the exact factors L D Lᵀ of a symmetric matrix behind a handle of factors.
@@ -71,10 +66,7 @@ pub extern "C" fn nalgebra_sparse_matrix_factor(
     ensures answer { Answers result (IsUnfactored a.old.value) (out.new.value ≡ out.old.value)
         (HoldsFactors out.new.value (plain_behind a.old.value)) }
 {
-    match factor(alloc, a, out) {
-        Ok(()) => 0,
-        Err(refusal) => refusal.status(),
-    }
+    status!(factor(alloc, a, out))
 }
 
 /// Replaces B by the X for which `L D Lᵀ X = B`, with the factors behind a handle. B and X have `cols` columns, one
@@ -91,10 +83,7 @@ pub extern "C" fn nalgebra_sparse_factors_solve(
         Answers result (HasNoSystem factors.old.value cols values.old) (values.new ≡ values.old)
         (SolvesInPlace m m.rows cols values.old values.new) }
 {
-    match solve_factored(alloc, factors, cols, values) {
-        Ok(()) => 0,
-        Err(refusal) => refusal.status(),
-    }
+    status!(solve_factored(alloc, factors, cols, values))
 }
 
 /// Makes a second handle of factors, which both share.
@@ -108,10 +97,7 @@ pub extern "C" fn nalgebra_sparse_factors_clone(
     ensures answer { Answers result (HasNoFactors factors.old.value)
         (out.new.value ≡ out.old.value) (out.new.value ≡ factors.old.value) }
 {
-    match share_factors(alloc, factors, out) {
-        Ok(()) => 0,
-        Err(refusal) => refusal.status(),
-    }
+    status!(share_factors(alloc, factors, out))
 }
 
 /// Drops the factors behind a handle, which has none from then on.

@@ -4,6 +4,7 @@ ghost use Rattle.std.specs.Prelude.{◌≡◌};
 ghost use Rattle.sparse_handles.specs.Behind.{Answers};
 ghost use Rattle.sparse_handles.specs.Texts.{HoldsMeaning, IsTextFault, WritesText};
 
+use crate::status::status;
 use sparse_handles::handle::MatrixHandle;
 use sparse_handles::texts::{put_text, write_text};
 use std::alloc::Global;
@@ -18,10 +19,7 @@ pub extern "C" fn nalgebra_sparse_matrix_from_text(
     ensures { Answers result (IsTextFault text.now) (out.new.value ≡ out.old.value)
         (HoldsMeaning out.new.value text.now) }
 {
-    match put_text(alloc, text, out) {
-        Ok(()) => 0,
-        Err(refusal) => refusal.status(),
-    }
+    status!(put_text(alloc, text, out))
 }
 
 /// Writes the text of the matrix behind a handle in Matrix Market format, and its length.
@@ -36,8 +34,5 @@ pub extern "C" fn nalgebra_sparse_matrix_to_text(
     ensures answer { WritesText result a.old.value out_text.old out_text.new
         out_length.old out_length.new }
 {
-    match write_text(alloc, a, out_text, out_length) {
-        Ok(()) => 0,
-        Err(refusal) => refusal.status(),
-    }
+    status!(write_text(alloc, a, out_text, out_length))
 }

@@ -9,6 +9,7 @@ ghost use Rattle.sparse_c_arrays.specs.Rests.{KeepsRest};
 ghost use Rattle.sparse_handles.specs.Behind.{plain_behind, Answers, Holds, IsEmpty, IsUnwritten};
 
 use crate::arguments::lanes;
+use crate::status::status;
 use sparse_c_arrays::lanes::Lanes;
 use sparse_handles::handle::MatrixHandle;
 use sparse_handles::making::{put_rows, put_triplets};
@@ -32,10 +33,7 @@ pub extern "C" fn nalgebra_sparse_matrix_from_rows(
         Answers result (IsFaultOf a) (out.new.value ≡ out.old.value)
         (Holds out.new.value (plain_by_rows ring64 a)) }
 {
-    match put_rows(alloc, lanes!(rows, cols, offsets, indices, values), out) {
-        Ok(()) => 0,
-        Err(refusal) => refusal.status(),
-    }
+    status!(put_rows(alloc, lanes!(rows, cols, offsets, indices, values), out))
 }
 
 /// Puts the matrix of triplets behind a handle.
@@ -54,10 +52,7 @@ pub extern "C" fn nalgebra_sparse_matrix_from_triplets(
         (out.new.value ≡ out.old.value) (Holds out.new.value
         (plain_of_lists ring64 rows cols row_indices.now col_indices.now values.now)) }
 {
-    match put_triplets(alloc, (rows, cols), row_indices, col_indices, values, out) {
-        Ok(()) => 0,
-        Err(refusal) => refusal.status(),
-    }
+    status!(put_triplets(alloc, (rows, cols), row_indices, col_indices, values, out))
 }
 
 /// Writes the numbers of rows, columns and places of a matrix behind a handle.
@@ -105,10 +100,7 @@ pub extern "C" fn nalgebra_sparse_matrix_read(
         (HoldsRows (plain_behind a.old.value) after
         × KeepsRest (plain_behind a.old.value).rows before after) }
 {
-    match read(alloc, a, out_offsets, out_indices, out_values, out_places) {
-        Ok(()) => 0,
-        Err(refusal) => refusal.status(),
-    }
+    status!(read(alloc, a, out_offsets, out_indices, out_values, out_places))
 }
 
 /// Makes a second handle of a matrix, which both share.
@@ -122,10 +114,7 @@ pub extern "C" fn nalgebra_sparse_matrix_clone(
     ensures answer { Answers result (IsEmpty a.old.value) (out.new.value ≡ out.old.value)
         (Holds out.new.value (plain_behind a.old.value)) }
 {
-    match share(alloc, a, out) {
-        Ok(()) => 0,
-        Err(refusal) => refusal.status(),
-    }
+    status!(share(alloc, a, out))
 }
 
 /// Drops the matrix behind a handle, which has none from then on.

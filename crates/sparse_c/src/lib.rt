@@ -4,7 +4,6 @@
 mod arguments;
 mod assembling;
 mod assembly;
-mod assembly_modulo;
 mod combining;
 mod dense;
 mod division;
@@ -18,8 +17,8 @@ mod moduli;
 mod products;
 mod reading;
 mod solve;
+mod status;
 mod sums;
-mod sums_modulo;
 mod symmetric;
 mod systems;
 mod transpose;

@@ -1,25 +1,68 @@
-//! The moduli that calls choose among.
+//! Calls over a ring that is chosen when they run.
 
-// Calls a function that returns a status with the modulus as its constant, or returns the status of an unknown choice.
-//
-// The ring of a scalar is fixed when the library is built, so the function is built once for each modulus of the list.
-macro_rules! by_modulus {
-    ($modulus:expr, $call:ident($($argument:expr),* $(,)?)) => {
-        match $modulus {
-            2 => $call::<2>($($argument),*),
-            3 => $call::<3>($($argument),*),
-            5 => $call::<5>($($argument),*),
-            7 => $call::<7>($($argument),*),
-            11 => $call::<11>($($argument),*),
-            13 => $call::<13>($($argument),*),
-            101 => $call::<101>($($argument),*),
-            65537 => $call::<65537>($($argument),*),
-            998244353 => $call::<998244353>($($argument),*),
-            1000000007 => $call::<1000000007>($($argument),*),
-            2305843009213693951 => $call::<2305843009213693951>($($argument),*),
-            _ => sparse_c_arrays::refusal::Refusal::UnknownChoice.status(),
-        }
-    };
+ghost use Rattle.std.specs.Prelude.{◌≡◌, ◌≤◌, ℕ, ℤ};
+ghost use Rattle.sparse_c.specs.Moduli.{moduli, IsNoneOf};
+ghost use Rattle.sparse_c.specs.Scalars.{modulo, residues_of, scalars, Scalars};
+ghost use Rattle.sparse_c_arrays.specs.Statuses.{number_of};
+ghost use Rattle.sparse_c_arrays.specs.declared.refusal.Refusal.TheVariants.{UnknownChoice};
+
+use sparse_algebra::scalar::Mod;
+use sparse_c_arrays::number::Number;
+use sparse_c_arrays::refusal::Refusal;
+use std::alloc::Global;
+
+/// The operands of a call that writes into `O`, the arrays that C lends.
+pub(crate) trait Call<O>: Drop {
+    // What the operands must satisfy.
+    ghost fits: { Self → Type 0 } = { λ _. Unit {0} };
+
+    // What the call does: its operands, the arrays before it and after it, and its status.
+    ghost does: { Scalars → Self → O → O → ℤ → Type 0 };
+
+    /// Makes the call over the ring of a scalar, and returns its status.
+    fn run<T: Number>(self, alloc: Global, out: &mut O) -> i32
+        requires { fits self }
+        ensures { does (scalars T.ring T.value T.is_shown) self out.old out.new result };
+
+    // What it does over the residues modulo m it does modulo m.
+    ghost listed: { (m : ℕ) (call : Self) (old new : O) (status : ℤ) → m ≤ 9223372036854775808
+        → does (residues_of m) call old new status → does (modulo m) call old new status };
+
+    // Where m is not listed, it leaves the arrays.
+    ghost unlisted: { (m : ℕ) (call : Self) (old : O) → IsNoneOf moduli m
+        → does (modulo m) call old old (number_of UnknownChoice) };
 }
 
-pub(crate) use by_modulus;
+/// Makes a call over the residues modulo a listed number, and returns its status.
+///
+/// The ring of a scalar is fixed when the library is built, so the call is built once for each modulus of the list.
+pub(crate) fn by_modulus<O, C: Call<O>>(alloc: Global, modulus: u64, call: C, out: &mut O) -> i32
+    requires { C.fits call }
+    ensures does { C.does (modulo modulus) call out.old out.new result }
+    ensures unlisted { IsNoneOf moduli modulus → result ≡ number_of UnknownChoice }
+{
+    match modulus {
+        2 => run_modulo::<2, O, C>(alloc, modulus, call, out),
+        3 => run_modulo::<3, O, C>(alloc, modulus, call, out),
+        5 => run_modulo::<5, O, C>(alloc, modulus, call, out),
+        7 => run_modulo::<7, O, C>(alloc, modulus, call, out),
+        11 => run_modulo::<11, O, C>(alloc, modulus, call, out),
+        13 => run_modulo::<13, O, C>(alloc, modulus, call, out),
+        101 => run_modulo::<101, O, C>(alloc, modulus, call, out),
+        65537 => run_modulo::<65537, O, C>(alloc, modulus, call, out),
+        998244353 => run_modulo::<998244353, O, C>(alloc, modulus, call, out),
+        1000000007 => run_modulo::<1000000007, O, C>(alloc, modulus, call, out),
+        2305843009213693951 => run_modulo::<2305843009213693951, O, C>(alloc, modulus, call, out),
+        _ => Refusal::UnknownChoice.status(),
+    }
+}
+
+// Makes a call over the residues modulo `M`, which is the modulus.
+fn run_modulo<const M: u64, O, C: Call<O>>(alloc: Global, modulus: u64, call: C, out: &mut O) -> i32
+    requires is { modulus ≡ M }
+    requires short { M ≤ 9223372036854775808 }
+    requires fits { C.fits call }
+    ensures { C.does (modulo modulus) call out.old out.new result }
+{
+    call.run::<Mod<M>>(alloc, out)
+}

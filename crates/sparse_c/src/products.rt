@@ -6,16 +6,17 @@ ghost use Rattle.sparse_algebra.specs.Moduli.{mod_ring};
 ghost use Rattle.sparse_algebra.specs.Plain.{plain_product};
 ghost use Rattle.sparse_pattern.specs.Raw.{raw_of, IsValid};
 ghost use Rattle.sparse_c.specs.Moduli.{moduli, IsFaultModulo, IsNoneOf};
+ghost use Rattle.sparse_c.specs.Rooms.{Shows};
 ghost use Rattle.sparse_c.specs.Patterns.{CountsProduct, IsPatternPairRefused};
 ghost use Rattle.sparse_c_arrays.specs.Arrays.{plain_by_rows, ring64, room_of};
-ghost use Rattle.sparse_c_arrays.specs.Reduced.{AreReduced};
+ghost use Rattle.sparse_c_arrays.specs.Reduced.{IsReduced};
 ghost use Rattle.sparse_c_arrays.specs.Refused.{IsFaultOfPair};
 ghost use Rattle.sparse_c_arrays.specs.Statuses.{number_of, FindsNoFault};
 ghost use Rattle.sparse_c_arrays.specs.Written.{WritesRows};
 ghost use Rattle.sparse_c_arrays.specs.declared.refusal.Refusal.TheVariants.{UnknownChoice};
 
-use crate::arguments::{lanes, pair};
-use crate::combining::{write_combination, write_combination_by_modulus};
+use crate::arguments::{lanes, pair, room};
+use crate::moduli::{Call, by_modulus};
 use sparse_algebra::scalar::W64;
 use sparse_c_arrays::lanes::pattern_of;
 use sparse_c_arrays::refusal::Refusal;
@@ -89,14 +90,8 @@ pub extern "C" fn nalgebra_sparse_multiply(
 {
     let a = lanes!(rows, inner, a_offsets, a_indices, a_values);
     let b = lanes!(inner, cols, b_offsets, b_indices, b_values);
-    write_combination::<W64>(
-        alloc,
-        pair!(Product, a, b),
-        out_offsets,
-        out_indices,
-        out_values,
-        out_places,
-    )
+    let mut room = room!(out_offsets, out_indices, out_values, out_places);
+    pair!(Product, a, b).run::<W64>(alloc, &mut room)
 }
 
 /// Writes the product over the ring of residues modulo a listed number.
@@ -125,18 +120,11 @@ pub extern "C" fn nalgebra_sparse_multiply_mod(
         (plain_product ring (plain_by_rows ring a) (plain_by_rows ring b))
         (room_of out_offsets.old out_indices.old out_values.old out_places.old)
         (room_of out_offsets.new out_indices.new out_values.new out_places.new) result }
-    ensures reduced { result ≡ pos 0 → AreReduced modulus out_places.new out_values.new }
+    ensures reduced { Shows (IsReduced modulus) out_places.new out_values.new result }
     ensures unlisted { IsNoneOf moduli modulus → result ≡ number_of UnknownChoice }
 {
     let a = lanes!(rows, inner, a_offsets, a_indices, a_values);
     let b = lanes!(inner, cols, b_offsets, b_indices, b_values);
-    write_combination_by_modulus(
-        alloc,
-        modulus,
-        pair!(Product, a, b),
-        out_offsets,
-        out_indices,
-        out_values,
-        out_places,
-    )
+    let mut room = room!(out_offsets, out_indices, out_values, out_places);
+    by_modulus(alloc, modulus, pair!(Product, a, b), &mut room)
 }

@@ -1,21 +1,22 @@
 //! Solves of triangular systems.
 
-ghost use Rattle.std.specs.Prelude.{◌≡◌, ◌≢◌, ◌*◌, pos};
+ghost use Rattle.std.specs.Prelude.{◌≡◌, ◌*◌, pos};
 ghost use Rattle.sparse_algebra.specs.ModNumbers.{mod_value};
 ghost use Rattle.sparse_algebra.specs.Moduli.{mod_ring};
 ghost use Rattle.sparse_algebra.specs.WrappingValues.{w64_value};
 ghost use Rattle.sparse_compressed.specs.Compressed.{arrays_of};
+ghost use Rattle.sparse_c.specs.Dense.{WritesValues};
 ghost use Rattle.sparse_c.specs.Moduli.{moduli, IsFaultModulo, IsNoneOf};
+ghost use Rattle.sparse_c.specs.Rooms.{Shows};
 ghost use Rattle.sparse_c.specs.Solved.{lower_of, HoldsSolution, IsFaultOfLower, IsSolutionTooLong};
 ghost use Rattle.sparse_c_arrays.specs.Arrays.{plain_by_values, ring64};
-ghost use Rattle.sparse_c_arrays.specs.Reduced.{AreReduced};
-ghost use Rattle.sparse_c_arrays.specs.Refused.{IsRefusedFor, IsSystemSound};
-ghost use Rattle.sparse_c_arrays.specs.Rests.{KeepsBehind};
-ghost use Rattle.sparse_c_arrays.specs.Statuses.{number_of, FindsNoFault};
+ghost use Rattle.sparse_c_arrays.specs.Reduced.{IsReduced};
+ghost use Rattle.sparse_c_arrays.specs.Refused.{IsSystemSound};
+ghost use Rattle.sparse_c_arrays.specs.Statuses.{number_of};
 ghost use Rattle.sparse_c_arrays.specs.declared.refusal.Refusal.TheVariants.{UnknownChoice};
 
-use crate::arguments::lanes;
-use crate::systems::{Equation, System, write_solution, write_solution_by_modulus};
+use crate::arguments::{Equation, Numbers, System, lanes};
+use crate::moduli::{Call, by_modulus};
 use sparse_algebra::scalar::W64;
 use std::alloc::Global;
 
@@ -35,17 +36,13 @@ pub extern "C" fn nalgebra_sparse_solve_lower(
     b_values: &[i64],
     out_values: &mut [i64],
 ) -> i32
-    ensures written { let l = arrays_of size size offsets.now indices.now values.now in
-        result ≡ pos 0 → HoldsSolution ring64 (lower_of ring64 transposed l)
-        (plain_by_values ring64 size cols b_values.now) size cols out_values.new }
-    ensures rest { result ≡ pos 0 → KeepsBehind (size * cols) out_values.old out_values.new }
-    ensures sound { let l = arrays_of size size offsets.now indices.now values.now in
-        FindsNoFault result → IsSystemSound l size cols b_values.now }
-    ensures untouched { result ≢ pos 0 → out_values.new ≡ out_values.old }
-    ensures refused { let l = arrays_of size size offsets.now indices.now values.now in
-        result ≢ pos 0 → IsRefusedFor (IsFaultOfLower ring64 w64_value l size cols b_values.now)
-        (IsSolutionTooLong ring64 (lower_of ring64 transposed l)
-        (plain_by_values ring64 size cols b_values.now) size cols out_values.old) result }
+    ensures answered { let l = arrays_of size size offsets.now indices.now values.now in
+        let t = lower_of ring64 transposed l in
+        let b = plain_by_values ring64 size cols b_values.now in
+        WritesValues (IsSystemSound l size cols b_values.now)
+        (IsFaultOfLower ring64 w64_value l size cols b_values.now)
+        (HoldsSolution ring64 t b size cols) (IsSolutionTooLong ring64 t b size cols)
+        (size * cols) out_values.old out_values.new result }
 {
     let system = System {
         equation: Equation::Lower(transposed),
@@ -54,7 +51,8 @@ pub extern "C" fn nalgebra_sparse_solve_lower(
         cols,
         b: b_values,
     };
-    write_solution::<W64>(alloc, system, out_values)
+    let mut out = Numbers { values: out_values };
+    system.run::<W64>(alloc, &mut out)
 }
 
 /// Writes that X over the ring of residues modulo a listed number.
@@ -71,22 +69,16 @@ pub extern "C" fn nalgebra_sparse_solve_lower_mod(
     b_values: &[i64],
     out_values: &mut [i64],
 ) -> i32
-    ensures written { let l = arrays_of size size offsets.now indices.now values.now in
+    ensures answered { let l = arrays_of size size offsets.now indices.now values.now in
         let ring = mod_ring modulus in
-        result ≡ pos 0 → HoldsSolution ring (lower_of ring transposed l)
-        (plain_by_values ring size cols b_values.now) size cols out_values.new }
-    ensures reduced { result ≡ pos 0 → AreReduced modulus (size * cols) out_values.new }
-    ensures unlisted { IsNoneOf moduli modulus → result ≡ number_of UnknownChoice }
-    ensures rest { result ≡ pos 0 → KeepsBehind (size * cols) out_values.old out_values.new }
-    ensures sound { let l = arrays_of size size offsets.now indices.now values.now in
-        FindsNoFault result → IsSystemSound l size cols b_values.now }
-    ensures untouched { result ≢ pos 0 → out_values.new ≡ out_values.old }
-    ensures refused { let l = arrays_of size size offsets.now indices.now values.now in
-        let ring = mod_ring modulus in
-        result ≢ pos 0 → IsRefusedFor (IsFaultModulo modulus
+        let t = lower_of ring transposed l in
+        let b = plain_by_values ring size cols b_values.now in
+        WritesValues (IsSystemSound l size cols b_values.now) (IsFaultModulo modulus
         (IsFaultOfLower ring (mod_value {m = modulus}) l size cols b_values.now))
-        (IsSolutionTooLong ring (lower_of ring transposed l)
-        (plain_by_values ring size cols b_values.now) size cols out_values.old) result }
+        (HoldsSolution ring t b size cols) (IsSolutionTooLong ring t b size cols)
+        (size * cols) out_values.old out_values.new result }
+    ensures reduced { Shows (IsReduced modulus) (size * cols) out_values.new result }
+    ensures unlisted { IsNoneOf moduli modulus → result ≡ number_of UnknownChoice }
 {
     let system = System {
         equation: Equation::Lower(transposed),
@@ -95,5 +87,6 @@ pub extern "C" fn nalgebra_sparse_solve_lower_mod(
         cols,
         b: b_values,
     };
-    write_solution_by_modulus(alloc, modulus, system, out_values)
+    let mut out = Numbers { values: out_values };
+    by_modulus(alloc, modulus, system, &mut out)
 }

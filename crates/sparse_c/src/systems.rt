@@ -1,26 +1,21 @@
 //! Systems of equations from outside.
 
-ghost use Rattle.std.specs.Prelude.{◌≡◌, ◌≢◌, ◌<◌, ◌≤◌, ◌*◌, pos, IfOk, IfErr, OnOk, OnErr};
+ghost use Rattle.std.specs.Prelude.{◌≡◌, ◌<◌, IfOk, IfErr, OnOk, OnErr};
 ghost use Rattle.sparse_algebra.specs.declared.error.OperationErrorKind.TheVariants.{Singular};
 ghost use Rattle.sparse_coo_dense.specs.DensePlain.{plain_of_dense};
 ghost use Rattle.sparse_compressed.specs.PlainOfLanes.{plain_of_cols};
 ghost use Rattle.sparse_with_dense.specs.Solutions.{plain_lower, IsSingular, IsSolution};
-ghost use Rattle.sparse_c.specs.Moduli.{moduli, IsNoneOf};
-ghost use Rattle.sparse_c.specs.Solved.{lower_of, transposed_if, HoldsMatrix, IsFaultOfLower};
-ghost use Rattle.sparse_c.specs.Solved.{IsMatrixTooLong};
+ghost use Rattle.sparse_c.specs.InnerListed.{numbers_listed, numbers_unlisted};
+ghost use Rattle.sparse_c.specs.Solved.{lower_of, transposed_if, IsFaultOfLower};
 ghost use Rattle.sparse_c.specs.Symmetric.{IsFaultOfSymmetric, SolvesSymmetric};
-ghost use Rattle.sparse_c.specs.Systems.{IsFaultOfEquation, Solves, SolvesModulo};
+ghost use Rattle.sparse_c.specs.Systems.{IsFaultOfEquation, Solves, SolvesSystem};
 ghost use Rattle.sparse_c_arrays.specs.Arrays.{plain_by_values};
-ghost use Rattle.sparse_c_arrays.specs.Reduced.{FirstAre};
-ghost use Rattle.sparse_c_arrays.specs.Refused.{IsMemoryOr, IsRefusedFor, IsSystemSound};
-ghost use Rattle.sparse_c_arrays.specs.Rests.{KeepsBehind};
-ghost use Rattle.sparse_c_arrays.specs.Statuses.{number_of, FindsNoFault};
-ghost use Rattle.sparse_c_arrays.specs.declared.refusal.Refusal.TheVariants.{UnknownChoice};
+ghost use Rattle.sparse_c_arrays.specs.Refused.{IsMemoryOr, IsSystemSound};
 
-use crate::moduli::by_modulus;
+use crate::arguments::{Equation, Numbers, System};
+use crate::moduli::Call;
 use sparse_algebra::error::OperationError;
 use sparse_algebra::operand::Op;
-use sparse_algebra::scalar::Mod;
 use sparse_c_arrays::dense::dense_matrix_of;
 use sparse_c_arrays::lanes::Lanes;
 use sparse_c_arrays::number::Number;
@@ -32,76 +27,20 @@ use sparse_factor::ldl::Ldl;
 use sparse_with_dense::spsolve_csc_lower_triangular;
 use std::alloc::Global;
 
-/// The equation that is solved.
-#[derive(Clone, Copy)]
-pub(crate) enum Equation {
-    /// `L X = B`, or `Lᵀ X = B` where the flag is set: L is the part of the matrix on and below its diagonal.
-    Lower(bool),
-    /// `A X = B`: A is the symmetric matrix with the entries of the matrix on and above its diagonal.
-    Symmetric,
-}
+impl<'a> Call<Numbers<'a>> for System<'_> {
+    ghost fits = { λ s. (s.matrix.pattern.minor_dim ≡ s.size)
+        × (s.matrix.pattern.major_dim ≡ s.size) };
 
-/// A square matrix by columns, and the columns of the right side of the equation, one after the other.
-#[derive(Drop)]
-pub(crate) struct System<'a> {
-    pub(crate) equation: Equation,
-    pub(crate) matrix: Lanes<'a>,
-    pub(crate) size: usize,
-    pub(crate) cols: usize,
-    pub(crate) b: &'a [i64],
-}
+    ghost does = { SolvesSystem };
 
-/// Writes the solution over the residues modulo a listed number.
-pub(crate) fn write_solution_by_modulus(
-    alloc: Global,
-    modulus: u64,
-    system: System<'_>,
-    out: &mut [i64],
-) -> i32
-    requires rows { system.matrix.pattern.minor_dim ≡ system.size }
-    requires cols { system.matrix.pattern.major_dim ≡ system.size }
-    ensures answered { SolvesModulo modulus system.entry out.old out.new result }
-    ensures unlisted { IsNoneOf moduli modulus → result ≡ number_of UnknownChoice }
-{
-    by_modulus!(modulus, write_solution_mod(alloc, modulus, system, out))
-}
+    /// Writes the solution.
+    fn run<T: Number>(self, alloc: Global, out: &mut Numbers<'a>) -> i32 {
+        finish_dense(solution::<T>(alloc, self), out.values)
+    }
 
-// Writes the solution over the residues modulo `M`, which is the modulus.
-fn write_solution_mod<const M: u64>(
-    alloc: Global,
-    modulus: u64,
-    system: System<'_>,
-    out: &mut [i64],
-) -> i32
-    requires is { modulus ≡ M }
-    requires short { M ≤ 9223372036854775808 }
-    requires rows { system.matrix.pattern.minor_dim ≡ system.size }
-    requires cols { system.matrix.pattern.major_dim ≡ system.size }
-    ensures { SolvesModulo modulus system.entry out.old out.new result }
-{
-    write_solution::<Mod<M>>(alloc, system, out)
-}
+    ghost listed = { λ m _. numbers_listed m };
 
-/// Writes the solution over the ring of a scalar.
-pub(crate) fn write_solution<T: Number>(alloc: Global, system: System<'_>, out: &mut [i64]) -> i32
-    requires rows { system.matrix.pattern.minor_dim ≡ system.size }
-    requires cols { system.matrix.pattern.major_dim ≡ system.size }
-    ensures written { let s = system.entry in
-        result ≡ pos 0 → HoldsMatrix T.ring (λ x. Solves T.ring s.equation s.matrix x
-        (plain_by_values T.ring s.size s.cols s.b.now) s.size s.cols) s.size s.cols out.new }
-    ensures shown { let s = system.entry in
-        result ≡ pos 0 → FirstAre T.is_shown (s.size * s.cols) out.new }
-    ensures rest { let s = system.entry in
-        result ≡ pos 0 → KeepsBehind (s.size * s.cols) out.old out.new }
-    ensures sound { let s = system.entry in
-        FindsNoFault result → IsSystemSound s.matrix s.size s.cols s.b.now }
-    ensures untouched { result ≢ pos 0 → out.new ≡ out.old }
-    ensures refused { let s = system.entry in
-        result ≢ pos 0 → IsRefusedFor (IsFaultOfEquation T.ring T.value s.equation s.matrix
-        s.size s.cols s.b.now) (IsMatrixTooLong T.ring (λ x. Solves T.ring s.equation s.matrix x
-        (plain_by_values T.ring s.size s.cols s.b.now) s.size s.cols) s.size s.cols out.old) result }
-{
-    finish_dense(solution::<T>(alloc, system), out)
+    ghost unlisted = { λ m _. numbers_unlisted m };
 }
 
 // The solution of a system.

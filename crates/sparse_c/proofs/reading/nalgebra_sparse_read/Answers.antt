@@ -7,36 +7,27 @@ use Rattle.sparse_c_arrays.proofs.Answering.{size_kept, size_told}
 use Rattle.sparse_c_arrays.proofs.Joining.{found, refused}
 use Rattle.sparse_c.proofs.reading.nalgebra_sparse_read.Goals as goal
 
-pub returns-clause-written : goal.returns-clause-written
-returns-clause-written c = λ h.
-    let same : to_z w32 (of_z w32 c.finish_list.result) ≡ c.finish_list.result = search rules in
-    let p = found c.list_of_text-answer.result c.list_of_text-answer.ensures.means
-    (c.finish_list.ensures.written (sym same ∙ h)) in
-    (values_of w64_number p.0, p.1.0, p.1.1)
-
-pub returns-clause-refused : goal.returns-clause-refused
-returns-clause-refused c = λ h.
-    let same : to_z w32 (of_z w32 c.finish_list.result) ≡ c.finish_list.result = search rules in
-    refused c.list_of_text-answer.result c.list_of_text-answer.ensures.means c.finish_list.result _
-    same c.list_of_text-answer.ensures.fault (λ e given. given)
-    (λ m p small. (values_of w64_number m, p, small))
-    (c.finish_list.ensures.refused (λ e. h (same ∙ e)))
-
-pub returns-clause-untouched : goal.returns-clause-untouched
-returns-clause-untouched c = λ h.
-    let same : to_z w32 (of_z w32 c.finish_list.result) ≡ c.finish_list.result = search rules in
-    let ended = c.finish_list.ensures in (
-      ended.untouched (λ e. h (same ∙ e)),
-      λ other. size_kept _ c.finish_list.result c.list_of_text-answer.result c.args.out_triplets.now
-          c.finish_list.new.count ended.kept ended.refused (λ e. h (same ∙ e))
-          (λ small. other (same ∙ small)),
-    )
-
-pub returns-clause-needed : goal.returns-clause-needed
-returns-clause-needed c = λ small.
-    let same : to_z w32 (of_z w32 c.finish_list.result) ≡ c.finish_list.result = search rules in
-    let ended = c.finish_list.ensures in
+pub returns : goal.returns
+returns c =
+    let status = c.finish_list.result in
+    let same : to_z w32 (of_z w32 status) ≡ status = search rules in
+    let answer = c.list_of_text-answer.result in
     let made = c.list_of_text-answer.ensures in
-    let p = size_told _ c.finish_list.result c.list_of_text-answer.result
-    (text_large c.args.text.now) made.means made.fault ended.needed ended.refused (sym same ∙ small) in
-    (values_of w64_number p.0, p.1.0, p.1.1)
+    let ended = c.finish_list.ensures in
+    record {
+      written = λ h.
+          let p = found answer made.means (ended.written (sym same ∙ h)) in
+          (values_of w64_number p.0, p.1.0, p.1.1);
+      rest = search rules;
+      untouched = λ h. (
+        ended.untouched (λ e. h (same ∙ e)),
+        λ other. size_kept _ status answer c.args.out_triplets.now c.finish_list.new.count ended.kept
+            ended.refused (λ e. h (same ∙ e)) (λ small. other (same ∙ small)),
+      );
+      needed = λ small.
+          let p = size_told _ status answer (text_large c.args.text.now) made.means made.fault
+          ended.needed ended.refused (sym same ∙ small) in
+          (values_of w64_number p.0, p.1.0, p.1.1);
+      refused = λ h. refused answer made.means status _ same made.fault (λ e given. given)
+          (λ m p small. (values_of w64_number m, p, small)) (ended.refused (λ e. h (same ∙ e)));
+    }

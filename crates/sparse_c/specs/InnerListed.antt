@@ -1,0 +1,212 @@
+-- What a call does over the residues modulo m it does modulo m, and where m is not listed it leaves the arrays.
+use Rattle.std.specs.Prelude.{◌≡◌, ◌≤◌, ◌⊎◌, ℕ, ℤ, pos, List, refl}
+use Rattle.std.proofs.Common.{inl, inr, arith}
+use Rattle.sparse_algebra.specs.ModNumbers.{mod_value}
+use Rattle.sparse_algebra.specs.Moduli.{mod_ring}
+use Rattle.sparse_algebra.specs.Plain.{Plain}
+use Rattle.sparse_c.specs.Dense.{WritesNumbers}
+use Rattle.sparse_c.specs.Factors.{Factorises, FactorisesIn, IsFaultOfFactors}
+use Rattle.sparse_c.specs.Moduli.{moduli, IsFaultModulo, IsNoneOf}
+use Rattle.sparse_c.specs.Rooms.{held_in, AnswersIn, AreSameArrays, Shows, WritesIn}
+use Rattle.sparse_c.specs.Scalars.{modulo, residues_of}
+use Rattle.sparse_c.specs.Solved.{Divides, DividesIn, IsFaultOfQuotient}
+use Rattle.sparse_c.specs.declared.arguments.FactorRoom.{FactorRoom}
+use Rattle.sparse_c.specs.declared.arguments.Numbers.{Numbers}
+use Rattle.sparse_c.specs.declared.arguments.Quotient.{Quotient}
+use Rattle.sparse_c.specs.declared.arguments.Room as lent
+use Rattle.sparse_c.specs.declared.arguments.Factored.{Factored}
+use Rattle.sparse_c_arrays.proofs.Faultless.{other}
+use Rattle.sparse_c_arrays.specs.Arrays.{Room}
+use Rattle.sparse_c_arrays.specs.Refused.{IsRefusedFor}
+use Rattle.sparse_c_arrays.specs.Statuses.{number_of, FindsNoFault}
+use Rattle.sparse_c_arrays.specs.Written.{WritesRows}
+use Rattle.sparse_c_arrays.specs.declared.refusal.Refusal.{Refusal}
+use Rattle.sparse_c_arrays.specs.declared.refusal.Refusal.TheVariants.{UnknownChoice}
+
+-- the status of an unknown choice is that of a fault
+never : {X : Type 0} → FindsNoFault (number_of UnknownChoice) → X
+never told = absurd (other 7 (omega arith) (omega arith) (omega arith) told)
+
+not_done : {X : Type 0} → number_of UnknownChoice ≡ pos 0 → X
+not_done done = never (inl done)
+
+unlisted_refused : {Fault : Refusal → Type 0} {Small : Type 0} (m : ℕ) → IsNoneOf moduli m
+    → IsRefusedFor (IsFaultModulo m Fault) Small (number_of UnknownChoice)
+unlisted_refused m none = (UnknownChoice, refl, inl (inr (inl (refl, none))))
+
+-- the faults of the operands are among those of a call with a modulus
+refused_modulo : {Fault : Refusal → Type 0} {Small : Type 0} (m : ℕ) {status : ℤ}
+    → IsRefusedFor Fault Small status → IsRefusedFor (IsFaultModulo m Fault) Small status
+refused_modulo m refused = (
+  refused.0,
+  refused.1,
+  elim refused.2 [
+    | inl memory_or ↦ inl (elim memory_or [
+      | inl memory ↦ inl memory
+      | inr fault ↦ inr (inr fault)
+    ])
+    | inr small ↦ inr small
+  ],
+)
+
+shown_modulo : (m : ℕ) {n : ℕ} {numbers : List ℤ} {status : ℤ} → m ≤ 9223372036854775808
+    → Shows (residues_of m).IsShown n numbers status → Shows (modulo m).IsShown n numbers status
+shown_modulo m short made = record { each = λ h k lt. made.each h k lt short }
+
+same_arrays : (r : lent.Room) → AreSameArrays r r
+same_arrays r = record { offsets = refl; indices = refl; values = refl; places = refl }
+
+-- ---- answers that are written in arrays
+
+answers_listed : {Answer Wide : Room → Room → ℤ → Type 0} (m : ℕ) {before after : lent.Room}
+    {status : ℤ} → m ≤ 9223372036854775808
+    → (Answer (held_in before) (held_in after) status → Wide (held_in before) (held_in after) status)
+    → AnswersIn (residues_of m) Answer before after status
+    → AnswersIn (modulo m) Wide before after status
+answers_listed m short wide made = record {
+  answer = wide made.answer;
+  shown = shown_modulo m short made.shown;
+  arrays = made.arrays;
+}
+
+answers_unlisted : {Answer : Room → Room → ℤ → Type 0} (m : ℕ) (r : lent.Room)
+    → Answer (held_in r) (held_in r) (number_of UnknownChoice)
+    → AnswersIn (modulo m) Answer r r (number_of UnknownChoice)
+answers_unlisted m r answer = record {
+  answer = answer;
+  shown = record { each = not_done };
+  arrays = same_arrays r;
+}
+
+-- ---- matrices by rows
+
+module _ {Sound : Type 0} {Fault : Refusal → Type 0} where
+  pub rows_listed : (m : ℕ) (a : Plain (mod_ring m)) (before after : lent.Room) (status : ℤ)
+      → m ≤ 9223372036854775808 → WritesIn (residues_of m) Sound Fault a before after status
+      → WritesIn (modulo m) Sound Fault a before after status
+  rows_listed m a before after status short = answers_listed m short
+      (λ (made : WritesRows Sound Fault a (held_in before) (held_in after) status). record {
+        written = made.written;
+        rest = made.rest;
+        sound = made.sound;
+        untouched = made.untouched;
+        needed = made.needed;
+        refused = λ h. refused_modulo m (made.refused h);
+      })
+
+  pub rows_unlisted : (m : ℕ) (a : Plain (mod_ring m)) (r : lent.Room) → IsNoneOf moduli m
+      → WritesIn (modulo m) Sound Fault a r r (number_of UnknownChoice)
+  rows_unlisted m a r none = answers_unlisted m r (record {
+    written = not_done;
+    rest = not_done;
+    sound = never;
+    untouched = λ _. (refl, λ _. refl);
+    needed = λ small. never (inr (inl small));
+    refused = λ _. unlisted_refused m none;
+  })
+
+-- ---- quotients
+
+pub quotient_listed : (m : ℕ) (q : Quotient) (before after : lent.Room) (status : ℤ)
+    → m ≤ 9223372036854775808 → DividesIn (residues_of m) q before after status
+    → DividesIn (modulo m) q before after status
+quotient_listed m q before after status short = answers_listed m short (λ (made : Divides (mod_ring m)
+    (IsFaultOfQuotient (mod_ring m) (mod_value {m = m}) q.a q.divisor) q.a q.divisor (held_in before)
+    (held_in after) status). record {
+      written = made.written;
+      rest = made.rest;
+      sound = made.sound;
+      untouched = made.untouched;
+      needed = made.needed;
+      refused = λ h. refused_modulo m (made.refused h);
+    })
+
+pub quotient_unlisted : (m : ℕ) (q : Quotient) (r : lent.Room) → IsNoneOf moduli m
+    → DividesIn (modulo m) q r r (number_of UnknownChoice)
+quotient_unlisted m q r none = answers_unlisted m r (record {
+  written = not_done;
+  rest = not_done;
+  sound = never;
+  untouched = λ _. (refl, λ _. refl);
+  needed = λ small. never (inr (inl small));
+  refused = λ _. unlisted_refused m none;
+})
+
+-- ---- factors
+
+pub factors_listed : (m : ℕ) (s : Factored) (before after : FactorRoom) (status : ℤ)
+    → m ≤ 9223372036854775808 → FactorisesIn (residues_of m) s before after status
+    → FactorisesIn (modulo m) s before after status
+factors_listed m s before after status short made = record {
+  answer = record {
+    written = made.answer.written;
+    rest = made.answer.rest;
+    rest_diagonal = made.answer.rest_diagonal;
+    sound = made.answer.sound;
+    untouched = made.answer.untouched;
+    untouched_diagonal = made.answer.untouched_diagonal;
+    needed = made.answer.needed;
+    refused = λ h. refused_modulo m (made.answer.refused h);
+  };
+  shown = shown_modulo m short made.shown;
+  shown_diagonal = shown_modulo m short made.shown_diagonal;
+  offsets = made.offsets;
+  indices = made.indices;
+  values = made.values;
+  diagonal = made.diagonal;
+  places = made.places;
+}
+
+pub factors_unlisted : (m : ℕ) (s : Factored) (r : FactorRoom) → IsNoneOf moduli m
+    → FactorisesIn (modulo m) s r r (number_of UnknownChoice)
+factors_unlisted m s r none = record {
+  answer = record {
+    written = not_done;
+    rest = not_done;
+    rest_diagonal = not_done;
+    sound = never;
+    untouched = λ _. (refl, λ _. refl);
+    untouched_diagonal = λ _. refl;
+    needed = λ small. never (inr (inl small));
+    refused = λ _. unlisted_refused m none;
+  };
+  shown = record { each = not_done };
+  shown_diagonal = record { each = not_done };
+  offsets = refl;
+  indices = refl;
+  values = refl;
+  diagonal = refl;
+  places = refl;
+}
+
+-- ---- dense matrices
+
+module _ {Sound : Type 0} {Fault : Refusal → Type 0} {Holds Small : List ℤ → Type 0} {n : ℕ} (m : ℕ) where
+  pub numbers_listed : (before after : Numbers) (status : ℤ) → m ≤ 9223372036854775808
+      → WritesNumbers (residues_of m) Sound Fault Holds Small n before after status
+      → WritesNumbers (modulo m) Sound Fault Holds Small n before after status
+  numbers_listed before after status short made = record {
+    answer = record {
+      written = made.answer.written;
+      rest = made.answer.rest;
+      sound = made.answer.sound;
+      untouched = made.answer.untouched;
+      refused = λ h. refused_modulo m (made.answer.refused h);
+    };
+    shown = shown_modulo m short made.shown;
+    array = made.array;
+  }
+
+  pub numbers_unlisted : (r : Numbers) → IsNoneOf moduli m
+      → WritesNumbers (modulo m) Sound Fault Holds Small n r r (number_of UnknownChoice)
+  numbers_unlisted r none = record {
+    answer = record {
+      written = not_done;
+      rest = not_done;
+      sound = never;
+      untouched = λ _. refl;
+      refused = λ _. unlisted_refused m none;
+    };
+    shown = record { each = not_done };
+    array = refl;
+  }
