@@ -3,7 +3,8 @@ pub mod SparseVectors
 mod Operands
 mod DotSteps
 mod ColumnUpdates
-mod BlockUpdates
+mod ColumnBlocks
+mod DenseValues
 mod PlainUpdates
 pub mod RingSteps
 mod Substitutions
@@ -13,7 +14,6 @@ pub mod ColumnSteps
 mod Refills
 pub mod SolvedColumns
 mod Taking
-mod FourColumns
 pub mod PlainSolutions
 mod Uniqueness
 mod UniqueSolutions

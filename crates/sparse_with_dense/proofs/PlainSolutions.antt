@@ -1,21 +1,18 @@
 -- Dense matrices whose columns solve a system, as plain matrices.
-use Rattle.std.proofs.Common.{◌≡◌, ℕ, ◌+◌, ◌*◌, ◌<◌, ◌≤◌, inl, inr, Bool, true, false, ◌&&◌, get_or}
-use Rattle.std.proofs.Common.{ap, sym, ◌∙◌, refl, arith}
+use Rattle.std.proofs.Common.{◌≡◌, ℕ, ◌<◌, ◌≤◌, inl, inr, ◌&&◌}
+use Rattle.std.proofs.Common.{ap, sym, ◌∙◌, arith}
 use Rattle.std.specs.Prelude.{nat_lt, nat_le}
-use Rattle.std.proofs.Math.ListN.{get_or-map}
-use Rattle.std.proofs.lemmas.Bool.Decides.{nat_tests}
 use Rattle.sparse_algebra.proofs.Cases.{lt_or_ge}
 use Rattle.sparse_algebra.specs.Algebra.{CommRing}
-use Rattle.sparse_algebra.specs.Sums.{sum_below, where_true}
+use Rattle.sparse_algebra.specs.Sums.{sum_below}
 use Rattle.sparse_algebra.specs.Plain.{Plain, IsProper, IsWithin, plain_product, plain_transpose}
 use Rattle.sparse_algebra.proofs.RingLemmas.{mul_zero}
 use Rattle.sparse_algebra.proofs.SumLemmas.{sum_below-same, sum_below-zero}
 use Rattle.sparse_algebra.proofs.PlainLemmas.{same_plain}
 use Rattle.sparse_algebra.proofs.PlainLaws.{proper_kept, proper_transpose, within_kept}
-use Rattle.sparse_algebra.proofs.PlainLaws.{within_transpose, within_plain_of_triplets}
-use Rattle.sparse_compressed.specs.Compressed.{Compressed, IsSound, lane_triplets}
+use Rattle.sparse_algebra.proofs.PlainLaws.{within_transpose}
+use Rattle.sparse_compressed.specs.Compressed.{Compressed, IsSound}
 use Rattle.sparse_compressed.specs.PlainOfLanes.{plain_of_rows, plain_of_cols}
-use Rattle.sparse_compressed.proofs.Inside.{lane_triplets-inside}
 use Rattle.sparse_algebra.specs.declared.operand.Op.{Op}
 use Rattle.sparse_algebra.specs.declared.operand.Op.TheVariants.{NoOp, Transpose}
 use Rattle.sparse_algebra.specs.Operands.{inner_of, plain_op}
@@ -23,58 +20,18 @@ use Rattle.sparse_coo_dense.specs.Dense.{Dense, value_at}
 use Rattle.sparse_coo_dense.specs.DensePlain.{plain_of_dense}
 use Rattle.sparse_with_dense.specs.Solutions.{IsSolution, plain_lower}
 use Rattle.sparse_with_dense.specs.InnerColumns.{SolvesColumns, op_lower}
+pub use Rattle.sparse_with_dense.proofs.DenseValues.{dense_inside, dense_past_cols}
+use Rattle.sparse_with_dense.proofs.DenseValues.{dense_past_rows, miss, rows_within}
 use Rattle.sparse_with_dense.proofs.RingSteps.{mul_off}
 
 module _ (R : CommRing) {T : Type 0} (f : T → R.Carrier) (z : T) (zero : f z ≡ R.zero) where
-  inside_both : (c v : R.Carrier) (a b : Bool) → a ≡ true → b ≡ true → c ≡ v
-      → where_true R (a && b) c ≡ v
-  inside_both c v true true h k e = e
-  inside_both c v true false h k e = cc
-  inside_both c v false b h k e = cc
-
-  outside_row : (c : R.Carrier) (a b : Bool) → a ≡ false → where_true R (a && b) c ≡ R.zero
-  outside_row c true b h = cc
-  outside_row c false b h = refl
-
-  outside_col : (c : R.Carrier) (a b : Bool) → b ≡ false → where_true R (a && b) c ≡ R.zero
-  outside_col c true true h = cc
-  outside_col c true false h = refl
-  outside_col c false b h = refl
-
-  is_lt : (i n : ℕ) → i < n → nat_lt i n ≡ true
-  is_lt i n lt = grind (arith, nat_tests)
-
-  not_lt : (i n : ℕ) → n ≤ i → nat_lt i n ≡ false
-  not_lt i n le = grind (arith, nat_tests)
-
-  -- the value of a dense matrix inside its sizes
-  pub dense_inside : (d : Dense T) (i j : ℕ) → i < d.nrows → j < d.ncols
-      → (plain_of_dense R f d).value i j ≡ f (value_at d i j z)
-  dense_inside d i j row col = inside_both _ _ (nat_lt i d.nrows) (nat_lt j d.ncols)
-      (is_lt i d.nrows row) (is_lt j d.ncols col)
-      (ap (get_or _ (j * d.nrows + i)) (sym zero) ∙ get_or-map f d.values (j * d.nrows + i) z)
-
-  dense_past_rows : (d : Dense T) (i j : ℕ) → d.nrows ≤ i
-      → (plain_of_dense R f d).value i j ≡ R.zero
-  dense_past_rows d i j le = outside_row _ (nat_lt i d.nrows) (nat_lt j d.ncols)
-      (not_lt i d.nrows le)
-
-  pub dense_past_cols : (d : Dense T) (i j : ℕ) → d.ncols ≤ j
-      → (plain_of_dense R f d).value i j ≡ R.zero
-  dense_past_cols d i j le = outside_col _ (nat_lt i d.nrows) (nat_lt j d.ncols)
-      (not_lt j d.ncols le)
-
   module _ (t : Plain R) (x b : Dense T) (rows : t.rows ≡ b.nrows) (cols : t.cols ≡ b.nrows)
       (proper : IsProper t) (within : 0 < b.ncols → IsWithin t)
       (solves : SolvesColumns R f z t.value x b) where
     -- rows past the size are zero
     row_off : (i k : ℕ) → b.nrows ≤ i → 0 < b.ncols → t.value i k ≡ R.zero
     row_off i k le some =
-        proper i k (none (t.has i k) (λ hit. absurd (omega (arith, (within some i k hit).0, rows))))
-      where
-        none : (c : Bool) → (c ≡ true → ⊥) → c ≡ false
-        none true h = absurd (h refl)
-        none false h = refl
+        proper i k (miss (t.has i k) (λ hit. omega (arith, (within some i k hit).0, rows, le)))
 
     nothing : (g : ℕ → R.Carrier) → ((k : ℕ) → g k ≡ R.zero) → sum_below R t.cols g ≡ R.zero
     nothing g h = sum_below-same R t.cols g (λ _. R.zero) (λ k _. h k) ∙ sum_below-zero R t.cols
@@ -84,17 +41,17 @@ module _ (R : CommRing) {T : Type 0} (f : T → R.Carrier) (z : T) (zero : f z �
     value_is i j = elim (lt_or_ge j b.ncols) [
       | inr past ↦
           nothing _ (λ k. ap (R.mul (t.value i k))
-          (dense_past_cols x k j (omega (arith, solves.cols, past))) ∙ mul_zero R (t.value i k))
-          ∙ sym (dense_past_cols b i j past)
+          (dense_past_cols R f z zero x k j (omega (arith, solves.cols, past))) ∙ mul_zero R (t.value i k))
+          ∙ sym (dense_past_cols R f z zero b i j past)
       | inl col ↦ elim (lt_or_ge i b.nrows) [
         | inl row ↦
             sum_below-same R t.cols _ _ (λ k lt. ap (R.mul (t.value i k))
-            (dense_inside x k j (omega (arith, lt, cols, solves.rows))
+            (dense_inside R f z zero x k j (omega (arith, lt, cols, solves.rows))
             (omega (arith, col, solves.cols))))
             ∙ ap (λ n. sum_below R n (λ k. R.mul (t.value i k) (f (value_at x k j z)))) cols
-            ∙ solves.solved j col i row ∙ sym (dense_inside b i j row col)
+            ∙ solves.solved j col i row ∙ sym (dense_inside R f z zero b i j row col)
         | inr past ↦ nothing _ (λ k. mul_off R (t.value i k) _
-            (row_off i k past (omega (arith, col)))) ∙ sym (dense_past_rows b i j past)
+            (row_off i k past (omega (arith, col)))) ∙ sym (dense_past_rows R f z zero b i j past)
       ]
     ]
 
@@ -109,9 +66,7 @@ module _ (R : CommRing) {T : Type 0} (f : T → R.Carrier) (m : Compressed T) wh
 
   pub lower_within : IsSound m → IsWithin (plain_lower R (plain_of_cols R f m))
   lower_within sound = within_kept R (λ i j. nat_le j i) (plain_of_cols R f m)
-      (within_transpose R (plain_of_rows R f m)
-      (within_plain_of_triplets R f m.pattern.major_dim m.pattern.minor_dim (lane_triplets m)
-      (lane_triplets-inside m sound)))
+      (within_transpose R (plain_of_rows R f m) (rows_within R f m sound))
 
 -- the solution of an operand, as plain matrices
 pub op_solution : (R : CommRing) {T X : Type 0} (f : T → R.Carrier) (z : T) (zero : f z ≡ R.zero)

@@ -1,73 +1,39 @@
 -- An updated dense matrix, as a plain matrix.
 use denote.Ref.{Bor}
-use Rattle.std.proofs.Common.{◌≡◌, ℕ, ◌+◌, ◌*◌, ◌<◌, inl, inr, Bool, true, false, ◌&&◌, List}
-use Rattle.std.proofs.Common.{◌++◌, length, get_or, take, drop, map, ap, sym, ◌∙◌, refl}
+use Rattle.std.proofs.Common.{◌≡◌, ℕ, ◌+◌, ◌*◌, inl, inr, Bool, true, false, ◌&&◌, List}
+use Rattle.std.proofs.Common.{length, get_or, ap, sym, ◌∙◌, refl}
 use Rattle.std.proofs.Common.{arith}
 use Rattle.std.specs.Prelude.{nat_lt}
-use Rattle.std.proofs.Math.ListN.{get_or-map}
-use Rattle.std.proofs.Math.Seq.{take-append_seam}
-use Rattle.std.proofs.lemmas.Bool.Decides.{Decides-and, Decides-ltb}
 use Rattle.sparse_algebra.proofs.Cases.{true_or_false}
 use Rattle.sparse_algebra.specs.Algebra.{CommRing}
 use Rattle.sparse_algebra.specs.Plain.{Plain, IsProper, IsWithin}
 use Rattle.sparse_algebra.proofs.RingLemmas.{mul_zero, zero_add}
 use Rattle.sparse_algebra.proofs.PlainLemmas.{same_plain}
 use Rattle.sparse_algebra.proofs.PlainLaws.{proper_transpose, within_transpose}
-use Rattle.sparse_algebra.proofs.PlainLaws.{within_plain_of_triplets}
-use Rattle.sparse_pattern.specs.Refill.{refill}
 use Rattle.sparse_algebra.specs.declared.operand.Op.{Op}
 use Rattle.sparse_algebra.specs.declared.operand.Op.TheVariants.{NoOp, Transpose}
 use Rattle.sparse_algebra.specs.Prealloc.{plain_update}
-use Rattle.sparse_coo_dense.specs.Dense.{Dense, value_at, with_values}
+use Rattle.sparse_coo_dense.specs.Dense.{Dense, with_values}
 use Rattle.sparse_coo_dense.specs.DensePlain.{is_inside, plain_full, plain_of_dense}
-use Rattle.sparse_compressed.specs.Compressed.{Compressed, IsSound, lane_triplets}
+use Rattle.sparse_compressed.specs.Compressed.{Compressed, IsSound}
 use Rattle.sparse_compressed.specs.PlainOfLanes.{plain_of_rows}
-use Rattle.sparse_compressed.proofs.Arrays.{where_yes, where_no, proper_rows}
-use Rattle.sparse_compressed.proofs.Inside.{lane_triplets-inside}
+use Rattle.sparse_compressed.proofs.Arrays.{proper_rows}
 use Rattle.sparse_with_dense.specs.DenseOperands.{op_dense}
-use Rattle.sparse_with_dense.specs.InnerUpdates.{AreUpdated}
+use Rattle.sparse_with_dense.proofs.DenseValues.{dense_inside, dense_proper, dense_within}
+use Rattle.sparse_with_dense.proofs.DenseValues.{inside_both, inside_parts, miss, rows_within}
+use Rattle.sparse_with_dense.proofs.Refills.{refill_whole}
+use Rattle.sparse_with_dense.specs.InnerUpdates.{AreUpdated, updated}
+use Rattle.sparse_with_dense.proofs.ColumnBlocks.{column_at-entry, length-column_at}
 use Rattle.sparse_algebra.specs.Prealloc.{plain_transpose_if}
 
--- a list written over whole
-pub refill_whole : {X : Type 0} (xs ws : List X) → length ws ≡ length xs → refill xs ws ≡ ws
-refill_whole xs ws e = ap (λ n. take n (ws ++ drop (length ws) xs)) (sym e)
-    ∙ take-append_seam ws (drop (length ws) xs)
-
 module _ (R : CommRing) {T : Type 0} (f : T → R.Carrier) (z : T) (zero_law : f z ≡ R.zero) where
-  meaning : (vs : List T) (p : ℕ) → get_or (map f vs) p R.zero ≡ f (get_or vs p z)
-  meaning vs p = ap (get_or (map f vs) p) (sym zero_law) ∙ get_or-map f vs p z
-
-  inside_parts : (d : Dense T) (i j : ℕ) → is_inside d i j ≡ true → (i < d.nrows) × (j < d.ncols)
-  inside_parts d i j h = (Decides-and (nat_lt i d.nrows) (nat_lt j d.ncols) (Decides-ltb i d.nrows)
-      (Decides-ltb j d.ncols)).0 h
-
-  inside_both : (d : Dense T) (i j : ℕ) → i < d.nrows → j < d.ncols → is_inside d i j ≡ true
-  inside_both d i j row col = (Decides-and (nat_lt i d.nrows) (nat_lt j d.ncols)
-      (Decides-ltb i d.nrows) (Decides-ltb j d.ncols)).1 (row, col)
-
-  -- the value of a dense matrix inside its sizes
-  pub value_inside : (d : Dense T) (i j : ℕ) → i < d.nrows → j < d.ncols
-      → (plain_of_dense R f d).value i j ≡ f (value_at d i j z)
-  value_inside d i j row col = where_yes R f (is_inside d i j) _ (inside_both d i j row col)
-      ∙ meaning d.values (j * d.nrows + i)
-
-  pub dense_proper : (d : Dense T) → IsProper (plain_of_dense R f d)
-  dense_proper d i j miss = where_no R f (is_inside d i j) _ miss
-
-  pub dense_within : (d : Dense T) → IsWithin (plain_of_dense R f d)
-  dense_within d i j hit = inside_parts d i j hit
-
   pub op_proper : (b : Op (Bor (Dense T))) → IsProper (op_dense R f b)
-  op_proper (NoOp d) = dense_proper d.now
-  op_proper (Transpose d) = proper_transpose R (plain_of_dense R f d.now) (dense_proper d.now)
+  op_proper (NoOp d) = dense_proper R f d.now
+  op_proper (Transpose d) = proper_transpose R (plain_of_dense R f d.now) (dense_proper R f d.now)
 
   pub op_within : (b : Op (Bor (Dense T))) → IsWithin (op_dense R f b)
-  op_within (NoOp d) = dense_within d.now
-  op_within (Transpose d) = within_transpose R (plain_of_dense R f d.now) (dense_within d.now)
-
-  rows_within : (m : Compressed T) → IsSound m → IsWithin (plain_of_rows R f m)
-  rows_within m sound = within_plain_of_triplets R f m.pattern.major_dim m.pattern.minor_dim
-      (lane_triplets m) (lane_triplets-inside m sound)
+  op_within (NoOp d) = dense_within R f d.now
+  op_within (Transpose d) = within_transpose R (plain_of_dense R f d.now) (dense_within R f d.now)
 
   pub transposed_proper : (transposed : Bool) (m : Compressed T)
       → IsProper (plain_transpose_if R transposed (plain_of_rows R f m))
@@ -76,32 +42,29 @@ module _ (R : CommRing) {T : Type 0} (f : T → R.Carrier) (z : T) (zero_law : f
 
   pub transposed_within : (transposed : Bool) (m : Compressed T) → IsSound m
       → IsWithin (plain_transpose_if R transposed (plain_of_rows R f m))
-  transposed_within true m sound = within_transpose R (plain_of_rows R f m) (rows_within m sound)
-  transposed_within false m sound = rows_within m sound
+  transposed_within true m sound = within_transpose R (plain_of_rows R f m) (rows_within R f m sound)
+  transposed_within false m sound = rows_within R f m sound
 
   module _ (beta alpha : R.Carrier) (d : Dense T) (x : Plain R) (rows : x.rows ≡ d.nrows)
       (cols : x.cols ≡ d.ncols) (proper : IsProper x) (within : IsWithin x) where
     -- nothing is added outside the shape
     off : (i j : ℕ) → is_inside d i j ≡ false → x.value i j ≡ R.zero
-    off i j miss = proper i j (elim (true_or_false (x.has i j)) [
-      | inl hit ↦
-          let at = within i j hit in
-          let yes = inside_both d i j (omega (arith, at.0, rows)) (omega (arith, at.1, cols)) in
-          cc
-      | inr none ↦ none
-    ])
+    off i j out = proper i j (miss (x.has i j) (λ hit.
+        let at = within i j hit in
+        let yes = inside_both d i j (omega (arith, at.0, rows)) (omega (arith, at.1, cols)) in
+        cc))
 
     outside : (i j : ℕ) → is_inside d i j ≡ false
         → R.zero ≡ R.add (R.mul beta ((plain_of_dense R f d).value i j)) (R.mul alpha (x.value i j))
     outside i j miss =
-        sym (ap (λ c. R.add (R.mul beta c) (R.mul alpha (x.value i j))) (dense_proper d i j miss)
+        sym (ap (λ c. R.add (R.mul beta c) (R.mul alpha (x.value i j))) (dense_proper R f d i j miss)
         ∙ ap (λ c. R.add c (R.mul alpha (x.value i j))) (mul_zero R beta) ∙ zero_add R _
         ∙ ap (R.mul alpha) (off i j miss) ∙ mul_zero R alpha)
 
-    pub updated_plain : (ws : List T) → AreUpdated R f z beta alpha d.nrows d.ncols x.value d.values
-        ws
+    pub updated_plain : (ws : List T) → length d.values ≡ d.ncols * d.nrows
+        → AreUpdated R f z beta alpha d.nrows d.ncols x.value d.values ws
         → plain_of_dense R f (with_values d ws) ≡ plain_update R beta (plain_of_dense R f d) alpha x
-    updated_plain ws h = same_plain _ _ refl refl (λ i j. refl) value_same
+    updated_plain ws full h = same_plain _ _ refl refl (λ i j. refl) value_same
       where
         e : Dense T
         e = with_values d ws
@@ -111,12 +74,16 @@ module _ (R : CommRing) {T : Type 0} (f : T → R.Carrier) (z : T) (zero_law : f
         value_same i j = elim (true_or_false (is_inside d i j)) [
           | inl hit ↦
               let at = inside_parts d i j hit in
-              value_inside e i j at.0 at.1
+              dense_inside R f z zero_law e i j at.0 at.1
               ∙ ap (λ vs. f (get_or vs (j * d.nrows + i) z)) (refill_whole d.values ws h.count)
-              ∙ h.each i j at.0 at.1
+              ∙ ap f (sym (column_at-entry d.nrows ws i j z at.0))
+              ∙ (h.each j at.1).each i
+              (omega (arith, at.0, length-column_at d.nrows d.values d.ncols j full at.1))
+              ∙ ap (λ v. updated R f beta alpha v (x.value i j))
+              (column_at-entry d.nrows d.values i j z at.0)
               ∙ ap (λ c. R.add (R.mul beta c) (R.mul alpha (x.value i j)))
-              (sym (value_inside d i j at.0 at.1))
-          | inr miss ↦ dense_proper e i j miss ∙ outside i j miss
+              (sym (dense_inside R f z zero_law d i j at.0 at.1))
+          | inr miss ↦ dense_proper R f e i j miss ∙ outside i j miss
         ]
 
     -- where there is no row, nothing changes
@@ -125,7 +92,7 @@ module _ (R : CommRing) {T : Type 0} (f : T → R.Carrier) (z : T) (zero_law : f
     no_rows none = same_plain _ _ refl refl (λ i j. refl)
         (λ i j. elim (true_or_false (is_inside d i j)) [
           | inl hit ↦ absurd (omega (arith, none, (inside_parts d i j hit).0))
-          | inr miss ↦ dense_proper d i j miss ∙ outside i j miss
+          | inr miss ↦ dense_proper R f d i j miss ∙ outside i j miss
         ])
 
   -- zero times a matrix and one times another with its sizes

@@ -1,19 +1,20 @@
--- Reading a list of which a part was written over.
+-- Reading a list that was written over, whole or in a part.
 use Rattle.std.proofs.Common.{◌≡◌, ℕ, ◌+◌, ◌<◌, ◌≤◌, List, ◌++◌, length, get_or, take, drop, ap}
 use Rattle.std.proofs.Common.{sym, ◌∙◌, arith}
 use Rattle.std.proofs.lemmas.Grind.{common_steps}
 use Rattle.std.proofs.Math.Seq.{take-append_seam}
-use Rattle.sparse_pattern.specs.Refill.{refill_from}
+use Rattle.sparse_pattern.specs.Refill.{refill, refill_from}
+
+pub refill_whole : {X : Type 0} (xs ws : List X) → length ws ≡ length xs → refill xs ws ≡ ws
+refill_whole xs ws e = ap (λ n. take n (ws ++ drop (length ws) xs)) (sym e)
+    ∙ take-append_seam ws (drop (length ws) xs)
 
 module _ {X : Type 0} (xs ws : List X) (i : ℕ) (room : i + length ws ≤ length xs) where
   length-parts : length (take i xs ++ (ws ++ drop (length ws) (drop i xs))) ≡ length xs
   length-parts = grind (arith, common_steps, room)
 
   refill_from-is : refill_from xs i ws ≡ take i xs ++ (ws ++ drop (length ws) (drop i xs))
-  refill_from-is =
-      let written = take i xs ++ (ws ++ drop (length ws) (drop i xs)) in
-      ap (λ n. take n (written ++ drop (length written) xs)) (sym length-parts)
-      ∙ take-append_seam written (drop (length written) xs)
+  refill_from-is = refill_whole xs (take i xs ++ (ws ++ drop (length ws) (drop i xs))) length-parts
 
   -- inside the part that was written
   pub refill_from-inside : (q : ℕ) (z : X) → q < length ws

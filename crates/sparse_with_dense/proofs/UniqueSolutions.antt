@@ -1,8 +1,8 @@
 -- A plain triangular system has one solution.
-use Rattle.std.proofs.Common.{◌≡◌, ℕ, ◌<◌, true, ap, sym, subst, ◌∙◌, refl, arith}
+use Rattle.std.proofs.Common.{◌≡◌, ℕ, ◌-◌, ◌<◌, inl, inr, true, ap, sym, subst, ◌∙◌, refl, arith}
 use Rattle.std.specs.Prelude.{nat_le}
 use Rattle.std.proofs.lemmas.Bool.Decides.{nat_tests}
-use Rattle.sparse_algebra.proofs.Cases.{and_both, and_parts}
+use Rattle.sparse_algebra.proofs.Cases.{and_both, and_parts, lt_or_gt}
 use Rattle.sparse_algebra.specs.Algebra.{CommRing}
 use Rattle.sparse_algebra.specs.Sums.{sum_below}
 use Rattle.sparse_algebra.specs.Plain.{Plain, IsProper, plain_transpose}
@@ -12,7 +12,7 @@ use Rattle.sparse_algebra.specs.Operands.{inner_of, plain_op}
 use Rattle.sparse_with_dense.specs.Solutions.{plain_lower, IsSolution, HasPivot, HasSameValues}
 use Rattle.sparse_with_dense.specs.InnerColumns.{SolvesColumn}
 use Rattle.sparse_with_dense.proofs.ColumnSteps.{lower_is, lower_zero}
-use Rattle.sparse_with_dense.proofs.Uniqueness.{forward_unique, backward_unique}
+use Rattle.sparse_with_dense.proofs.Uniqueness.{one_column_solution}
 
 module _ (R : CommRing) where
   -- the columns of a plain solution solve the equations
@@ -34,17 +34,24 @@ module _ (R : CommRing) where
 
     pub one_solution : IsSolution R (plain_lower R a) x b → IsSolution R (plain_lower R a) y b
         → HasSameValues R a.rows m x y
-    one_solution hx hy i j row col = forward_unique R a.rows (plain_lower R a).value
-        (lower_zero R a) inverse_lower (λ k. x.value k j) (λ k. y.value k j) (λ i. b.value i j)
+    one_solution hx hy i j row col = one_column_solution R a.rows (plain_lower R a).value (λ i. i)
+        (λ i k _ ne. elim (lt_or_gt k i ne) [
+          | inl before ↦ inl before
+          | inr behind ↦ inr (lower_zero R a i k behind)
+        ]) inverse_lower (λ k. x.value k j) (λ k. y.value k j) (λ i. b.value i j)
         (column_solves (plain_lower R a) x b a.rows j square hx)
         (column_solves (plain_lower R a) y b a.rows j square hy) i row
 
     pub one_transposed_solution : IsSolution R (plain_transpose R (plain_lower R a)) x b
         → IsSolution R (plain_transpose R (plain_lower R a)) y b → HasSameValues R a.rows m x y
-    one_transposed_solution hx hy i j row col = backward_unique R a.rows (plain_lower R a).value
-        (lower_zero R a) inverse_lower (λ k. x.value k j) (λ k. y.value k j) (λ i. b.value i j)
-        (column_solves (plain_transpose R (plain_lower R a)) x b a.rows j refl hx)
-        (column_solves (plain_transpose R (plain_lower R a)) y b a.rows j refl hy) i row
+    one_transposed_solution hx hy i j row col =
+        let t = plain_transpose R (plain_lower R a) in
+        one_column_solution R a.rows t.value (λ i. a.rows - i)
+        (λ i k lt ne. elim (lt_or_gt k i ne) [
+          | inl before ↦ inr (lower_zero R a k i before)
+          | inr behind ↦ inl (omega (arith, behind, lt))
+        ]) inverse_lower (λ k. x.value k j) (λ k. y.value k j) (λ i. b.value i j)
+        (column_solves t x b a.rows j refl hx) (column_solves t y b a.rows j refl hy) i row
 
   -- the diagonal of the lower triangle is that of the matrix
   module _ {T : Type 0} (f : T → R.Carrier) (a : Plain R) (proper : IsProper a) (k : ℕ) where

@@ -44,6 +44,10 @@ module _ (R : CommRing) {T : Type 0} (f : T → R.Carrier) where
   abbrev pub SolvesList : T → (ℕ → ℕ → R.Carrier) → List T → List T → Type 0
   SolvesList z t x b = SolvesColumn R (length b) t (elements R f z x) (elements R f z b)
 
+  -- the same of the scalars before and after a solve, whatever the column's number
+  abbrev pub SolvesAt : T → (ℕ → ℕ → R.Carrier) → ℕ → List T → List T → Type 0
+  SolvesAt z t _ b x = SolvesList z t x b
+
 -- each column of x solves the equations whose right sides are that column of b
 pub record SolvesColumns (R : CommRing) {T : Type 0} (f : T → R.Carrier) (z : T)
     (t : ℕ → ℕ → R.Carrier) (x b : Dense T) : Type 0 where
@@ -52,30 +56,16 @@ pub record SolvesColumns (R : CommRing) {T : Type 0} (f : T → R.Carrier) (z : 
   pub solved : (j : ℕ) → j < b.ncols → SolvesColumn R b.nrows t (λ i. f (value_at x i j z))
       (λ i. f (value_at b i j z))
 
-module _ (R : CommRing) where
-  -- y is x with the answer of row k, which is x k times e, and its multiple of the values taken off
-  -- in their rows
-  pub record IsTaken {T : Type 0} (f : T → R.Carrier) (n k : ℕ) (rows : List ℕ) (values : List T)
-      (e : R.Carrier) (x y : ℕ → R.Carrier) : Type 0 where
-    pub answer : y k ≡ R.mul (x k) e
-    pub others : (i : ℕ) → i < n → i ≢ k → y i ≡ R.add (x i)
-        (R.mul (R.neg (y k)) (sparse_elements R f rows values i))
+-- y is x with the answer of row k, which is x k times e, and its multiple of the values taken off
+-- in their rows
+pub record IsTaken (R : CommRing) {T : Type 0} (f : T → R.Carrier) (n k : ℕ) (rows : List ℕ)
+    (values : List T) (e : R.Carrier) (x y : ℕ → R.Carrier) : Type 0 where
+  pub answer : y k ≡ R.mul (x k) e
+  pub others : (i : ℕ) → i < n → i ≢ k → y i ≡ R.add (x i)
+      (R.mul (R.neg (y k)) (sparse_elements R f rows values i))
 
-module _ (R : CommRing) {T : Type 0} (f : T → R.Carrier) (z : T) where
-  -- the answer of row k is taken in a list
-  abbrev pub TakesAnswer : ℕ → List ℕ → List T → T → List T → List T → Type 0
-  TakesAnswer k rows values e old new = IsTaken R f (length old) k rows values (f e)
-      (elements R f z old) (elements R f z new)
-
-  -- column j of a dense matrix
-  abbrev pub column_elements : Dense T → ℕ → ℕ → R.Carrier
-  column_elements d j i = f (value_at d i j z)
-
-  -- P of each column from first to last, and the others are the same
-  pub record ChangesBlock (first last : ℕ) (P : (ℕ → R.Carrier) → (ℕ → R.Carrier) → Type 0)
-      (old new : Dense T) : Type 0 where
-    pub rows : new.nrows ≡ old.nrows
-    pub cols : new.ncols ≡ old.ncols
-    pub inside : (j : ℕ) → first ≤ j → j < last → P (column_elements old j) (column_elements new j)
-    pub before : (i j : ℕ) → i < old.nrows → j < first → value_at new i j z ≡ value_at old i j z
-    pub behind : (i j : ℕ) → i < old.nrows → last ≤ j → value_at new i j z ≡ value_at old i j z
+-- the answer of row k is taken in a list
+abbrev pub TakesAnswer : (R : CommRing) {T : Type 0} → (T → R.Carrier) → T → ℕ → List ℕ → List T → T
+    → List T → List T → Type 0
+TakesAnswer R f z k rows values e old new = IsTaken R f (length old) k rows values (f e)
+    (elements R f z old) (elements R f z new)

@@ -2,6 +2,7 @@
 //! solves. Division by a scalar stands here too, since it takes an inverse as the solves do.
 #![tactic(auto)]
 
+mod blocks;
 mod division;
 mod kernels;
 pub mod laws;

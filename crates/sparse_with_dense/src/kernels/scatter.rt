@@ -1,6 +1,7 @@
 //! Multiples of a sparse vector, added to dense ones.
 
-ghost use Rattle.std.specs.Prelude.{◌≡◌, ◌<◌, All, length, slice_index_or, slice_set};
+ghost use Rattle.std.specs.Prelude.{◌≡◌, ◌<◌, All, length, slice_index_or};
+ghost use Rattle.sparse_with_dense.specs.InnerKernels.{IsWrittenAt};
 ghost use Rattle.sparse_with_dense.specs.SparseVectors.{AddsMultiple, sparse_elements};
 
 use sparse_algebra::scalar::Ring;
@@ -82,10 +83,9 @@ pub fn add_multiple_four<T: Ring>(
 #[inline(always)]
 fn add_product<T: Ring>(row: &mut [T], index: usize, scale: T, value: T)
     requires { index < length row.old }
-    ensures written { row.new ≡ slice_set row.old index (slice_index_or row.new index T.zero_value) }
-    ensures value { T.value (slice_index_or row.new index T.zero_value)
-        ≡ T.ring.add (T.value (slice_index_or row.old index T.zero_value))
-        (T.ring.mul (T.value scale) (T.value value)) }
+    ensures { IsWrittenAt T.ring T.value T.zero_value index
+        (T.ring.add (T.value (slice_index_or row.old index T.zero_value))
+        (T.ring.mul (T.value scale) (T.value value))) row.old row.new }
 {
     let entry = &mut row[index];
     *entry = entry.add(scale.mul(value));

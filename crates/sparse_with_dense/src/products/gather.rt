@@ -1,19 +1,16 @@
 //! Products by rows of the sparse factor: an entry is the dot product of a row with a column.
 
-ghost use Rattle.std.specs.Prelude.{◌≡◌, ◌+◌, ◌<◌, ◌≤◌, ◌^◌, length};
+ghost use Rattle.std.specs.Prelude.{◌≡◌, ◌+◌, ◌<◌, ◌≤◌, ◌^◌, length, slice_index_or};
 ghost use Rattle.sparse_algebra.specs.Plain.{plain_product};
 ghost use Rattle.sparse_compressed.specs.PlainOfLanes.{plain_of_rows};
 ghost use Rattle.sparse_with_dense.specs.DenseOperands.{op_dense};
-ghost use Rattle.sparse_with_dense.specs.InnerUpdates.{HasStrided, IsUpdatedAt};
-ghost use Rattle.sparse_with_dense.specs.InnerUpdates.{IsUpdatedColumn};
-ghost use Rattle.sparse_with_dense.specs.InnerUpdates.{times_vector};
-ghost use Rattle.sparse_with_dense.specs.InnerKernels.{strided};
+ghost use Rattle.sparse_with_dense.specs.InnerKernels.{IsWrittenAt};
+ghost use Rattle.sparse_with_dense.specs.InnerUpdates.{IsUpdatedColumn, updated};
 
 use crate::kernels::{dot, dot_four, lane_slices};
 use crate::products::operand::{column_of, step_of};
 use crate::products::update::Change;
 use sparse_algebra::scalar::Ring;
-use sparse_compressed::CsMatrix;
 
 // Updates column j of C by A times column j of op(B).
 pub fn gather_column<T: Ring>(change: &Change<'_, T>, j: usize, c: &mut [T])
@@ -72,7 +69,8 @@ pub fn gather_four<T: Ring>(
     let (x0, x1) = (column_of(b, j), column_of(b, j + 1));
     let (x2, x3) = (column_of(b, j + 2), column_of(b, j + 3));
     for i in 0..first.len() {
-        let (s0, s1, s2, s3) = row_times_four(a, i, (x0, x1, x2, x3), step);
+        let (indices, values) = lane_slices(a, i);
+        let (s0, s1, s2, s3) = dot_four(indices, values, (x0, x1, x2, x3), step);
         update_entry(beta, first, i, alpha, s0);
         update_entry(beta, second, i, alpha, s1);
         update_entry(beta, third, i, alpha, s2);
@@ -83,33 +81,8 @@ pub fn gather_four<T: Ring>(
 // Replaces entry i of a column by beta times it plus alpha times a sum.
 fn update_entry<T: Ring>(beta: T, c: &mut [T], i: usize, alpha: T, sum: T)
     requires { i < length c.old }
-    ensures { IsUpdatedAt T.ring T.value T.zero_value (T.value beta) (T.value alpha) i (T.value sum)
-        c.old c.new }
+    ensures { IsWrittenAt T.ring T.value T.zero_value i (updated T.ring T.value (T.value beta)
+        (T.value alpha) (slice_index_or c.old i T.zero_value) (T.value sum)) c.old c.new }
 {
     c[i] = beta.mul(c[i]).add(alpha.mul(sum));
-}
-
-// Returns row i of A times each of four columns.
-fn row_times_four<T: Ring>(
-    a: &CsMatrix<T>,
-    i: usize,
-    x: (&[T], &[T], &[T], &[T]),
-    step: usize,
-) -> (T, T, T, T)
-    requires row { i < a.now.pattern.major_dim }
-    requires first { HasStrided x.0.now step a.now.pattern.minor_dim }
-    requires second { HasStrided x.1.now step a.now.pattern.minor_dim }
-    requires third { HasStrided x.2.now step a.now.pattern.minor_dim }
-    requires fourth { HasStrided x.3.now step a.now.pattern.minor_dim }
-    ensures first { T.value result.0 ≡ times_vector T.ring (plain_of_rows T.ring T.value a.now)
-        (strided T.ring T.value T.zero_value x.entry.0.now step) i }
-    ensures second { T.value result.1 ≡ times_vector T.ring (plain_of_rows T.ring T.value a.now)
-        (strided T.ring T.value T.zero_value x.entry.1.now step) i }
-    ensures third { T.value result.2 ≡ times_vector T.ring (plain_of_rows T.ring T.value a.now)
-        (strided T.ring T.value T.zero_value x.entry.2.now step) i }
-    ensures fourth { T.value result.3 ≡ times_vector T.ring (plain_of_rows T.ring T.value a.now)
-        (strided T.ring T.value T.zero_value x.entry.3.now step) i }
-{
-    let (indices, values) = lane_slices(a, i);
-    dot_four(indices, values, x, step)
 }

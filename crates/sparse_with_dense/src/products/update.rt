@@ -9,6 +9,7 @@ ghost use Rattle.sparse_with_dense.specs.DenseOperands.{op_dense};
 ghost use Rattle.sparse_with_dense.specs.InnerUpdates.{AreUpdated};
 ghost use Rattle.sparse_algebra.specs.Prealloc.{plain_transpose_if};
 
+use crate::blocks::{BLOCK, width_of_block};
 use crate::products::gather::{gather_column, gather_four};
 use crate::products::scatter::scatter_column;
 use sparse_algebra::learn;
@@ -16,9 +17,6 @@ use sparse_algebra::operand::Op;
 use sparse_algebra::scalar::Ring;
 use sparse_compressed::CsMatrix;
 use sparse_coo_dense::dense::DMatrix;
-
-// How many columns are updated at once.
-const BLOCK: usize = 4;
 
 // What replaces C: beta C + alpha A op(B), where A is transposed or not, and its lanes are rows.
 #[derive(Clone, Copy)]
@@ -89,15 +87,6 @@ fn update_columns<T: Ring>(change: &Change<'_, T>, size: (usize, usize), c: &mut
         update_block(change, size, j, width, columns);
         j += width;
     }
-}
-
-// Returns how many of the columns that are left are updated at once.
-fn width_of_block(transposed: bool, left: usize) -> usize
-    requires { 0 < left }
-    ensures within { result ≤ left }
-    ensures widths { (result ≡ 1) ⊎ ((result ≡ 4) × (transposed ≡ false)) }
-{
-    if transposed || left < BLOCK { 1 } else { BLOCK }
 }
 
 // Updates one column of C, or four, from column j on.

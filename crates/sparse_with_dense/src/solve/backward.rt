@@ -1,11 +1,12 @@
 //! Backward substitution with the transpose of a lower triangle: the column below the diagonal is the row of the
 //! transpose after it.
 
-ghost use Rattle.std.specs.Prelude.{◌≡◌, ◌<◌, length, slice_index_or, slice_set};
+ghost use Rattle.std.specs.Prelude.{◌≡◌, ◌<◌, length, slice_index_or};
 ghost use Rattle.sparse_compressed.specs.PlainOfLanes.{plain_of_cols};
+ghost use Rattle.sparse_with_dense.specs.InnerKernels.{IsWrittenAt};
 ghost use Rattle.sparse_with_dense.specs.InnerColumns.{HasPivots, SolvesList, lower};
 
-use crate::kernels::{dot_four, usdot};
+use crate::kernels::{dot, dot_four};
 use crate::solve::column::column_below;
 use sparse_algebra::scalar::{Ring, Units};
 use sparse_csr_csc::csc::CscMatrix;
@@ -24,7 +25,7 @@ pub fn solve_backward<T: Units>(l: &CscMatrix<T>, x: &mut [T])
         let Some(column) = column_below(l, k) else {
             return;
         };
-        let known = usdot(column.values, column.rows, x);
+        let known = dot(column.rows, column.values, x, 1);
         solve_row(x, k, known, column.inverse);
     }
 }
@@ -72,10 +73,9 @@ pub fn solve_backward_four<T: Units>(
 #[inline(always)]
 fn solve_row<T: Ring>(x: &mut [T], k: usize, known: T, inverse: T)
     requires { k < length x.old }
-    ensures written { x.new ≡ slice_set x.old k (slice_index_or x.new k T.zero_value) }
-    ensures value { T.value (slice_index_or x.new k T.zero_value)
-        ≡ T.ring.mul (T.ring.add (T.value (slice_index_or x.old k T.zero_value))
-        (T.ring.neg (T.value known))) (T.value inverse) }
+    ensures { IsWrittenAt T.ring T.value T.zero_value k
+        (T.ring.mul (T.ring.add (T.value (slice_index_or x.old k T.zero_value))
+        (T.ring.neg (T.value known))) (T.value inverse)) x.old x.new }
 {
     x[k] = x[k].add(known.neg()).mul(inverse);
 }

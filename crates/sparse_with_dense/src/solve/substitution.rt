@@ -1,11 +1,13 @@
 //! Substitution over the columns of B, four side by side.
 
-ghost use Rattle.std.specs.Prelude.{◌≡◌, ℕ, ◌+◌, ◌*◌, ◌<◌, ◌≤◌, length, slice_index_or};
+ghost use Rattle.std.specs.Prelude.{◌≡◌, ◌*◌, ◌<◌, ◌⊎◌, length};
 ghost use Rattle.sparse_algebra.specs.Operands.{inner_of};
 ghost use Rattle.sparse_compressed.specs.PlainOfLanes.{plain_of_cols};
-ghost use Rattle.sparse_with_dense.specs.InnerColumns.{ChangesBlock, HasPivots, SolvesColumn};
+ghost use Rattle.sparse_with_dense.specs.InnerBlocks.{AreChanged};
+ghost use Rattle.sparse_with_dense.specs.InnerColumns.{HasPivots, SolvesAt};
 ghost use Rattle.sparse_with_dense.specs.InnerColumns.{SolvesColumns, SolvesList, op_lower};
 
+use crate::blocks::{BLOCK, width_of_block};
 use crate::solve::backward::{solve_backward, solve_backward_four};
 use crate::solve::forward::{solve_forward, solve_forward_four};
 use sparse_algebra::operand::Op;
@@ -13,7 +15,7 @@ use sparse_algebra::scalar::Units;
 use sparse_coo_dense::dense::DMatrix;
 use sparse_csr_csc::csc::CscMatrix;
 
-// Solves `op(T) X = B` over B, some columns at a time.
+// Solves `op(T) X = B` over B.
 pub fn solve_columns<T: Units>(l: Op<&CscMatrix<T>>, b: &mut DMatrix<T>)
     requires square { (inner_of l).now.pattern.minor_dim ≡ (inner_of l).now.pattern.major_dim }
     requires rows { b.old.nrows ≡ (inner_of l).now.pattern.major_dim }
@@ -23,36 +25,47 @@ pub fn solve_columns<T: Units>(l: Op<&CscMatrix<T>>, b: &mut DMatrix<T>)
         (op_lower T.ring T.value (λ m. m.now) l.entry) b.new b.old }
 {
     // Columns without values take no time.
-    if b.nrows() == 0 {
-        return;
-    }
-    let ncols = b.ncols();
-    let mut from = 0;
-    while from < ncols {
-        from = solve_next(l, from, b);
+    if b.nrows() > 0 {
+        let size = (b.nrows(), b.ncols());
+        solve_blocks(l, size, b.as_mut_slice());
     }
 }
 
-// Solves `op(T) X = B` over four columns of B, or over one where fewer are left. Returns the number of the column after
-// them.
-fn solve_next<T: Units>(l: Op<&CscMatrix<T>>, from: usize, b: &mut DMatrix<T>) -> usize
+// Solves `op(T) x = b` over each column, four at a time.
+fn solve_blocks<T: Units>(l: Op<&CscMatrix<T>>, size: (usize, usize), x: &mut [T])
     requires square { (inner_of l).now.pattern.minor_dim ≡ (inner_of l).now.pattern.major_dim }
-    requires rows { b.old.nrows ≡ (inner_of l).now.pattern.major_dim }
-    requires column { from < b.old.ncols }
-    requires pivots { HasPivots T.ring T.value (plain_of_cols T.ring T.value (inner_of l).now) }
-    ensures order { from < result }
-    ensures bounds { result ≤ b.old.ncols }
-    ensures solved { ChangesBlock T.ring T.value T.zero_value from result
-        (λ y x. SolvesColumn T.ring b.old.nrows (op_lower T.ring T.value (λ m. m.now) l.entry) x y)
-        b.old b.new }
+    requires rows { size.0 ≡ (inner_of l).now.pattern.major_dim }
+    requires count { length x.old ≡ size.1 * size.0 }
+    requires pivots { 0 < size.1
+        → HasPivots T.ring T.value (plain_of_cols T.ring T.value (inner_of l).now) }
+    ensures { AreChanged size.0 size.1 (SolvesAt T.ring T.value T.zero_value
+        (op_lower T.ring T.value (λ m. m.now) l.entry)) x.old x.new }
 {
-    if b.ncols() - from < 4 {
-        solve_one(l, b.column_mut(from));
-        return from + 1;
+    let (nrows, ncols) = size;
+    let mut j = 0;
+    while j < ncols {
+        let width = width_of_block(false, ncols - j);
+        let columns = &mut x[j * nrows..(j + width) * nrows];
+        solve_block(l, nrows, width, columns);
+        j += width;
     }
-    let nrows = b.nrows();
-    solve_four(l, nrows, b.columns_mut(from, 4));
-    from + 4
+}
+
+// Solves `op(T) x = b` over one column, or four.
+fn solve_block<T: Units>(l: Op<&CscMatrix<T>>, nrows: usize, width: usize, x: &mut [T])
+    requires square { (inner_of l).now.pattern.minor_dim ≡ (inner_of l).now.pattern.major_dim }
+    requires rows { nrows ≡ (inner_of l).now.pattern.major_dim }
+    requires count { length x.old ≡ width * nrows }
+    requires widths { (width ≡ 1) ⊎ (width ≡ 4) }
+    requires pivots { HasPivots T.ring T.value (plain_of_cols T.ring T.value (inner_of l).now) }
+    ensures { AreChanged nrows width (SolvesAt T.ring T.value T.zero_value
+        (op_lower T.ring T.value (λ m. m.now) l.entry)) x.old x.new }
+{
+    if width == BLOCK {
+        solve_four(l, nrows, x);
+    } else {
+        solve_one(l, x);
+    }
 }
 
 // Solves `op(T) x = b` over b.
@@ -73,42 +86,14 @@ fn solve_one<T: Units>(l: Op<&CscMatrix<T>>, x: &mut [T])
 fn solve_four<T: Units>(l: Op<&CscMatrix<T>>, nrows: usize, x: &mut [T])
     requires square { (inner_of l).now.pattern.minor_dim ≡ (inner_of l).now.pattern.major_dim }
     requires rows { nrows ≡ (inner_of l).now.pattern.major_dim }
-    requires columns { length x.old ≡ 4 * nrows }
+    requires count { length x.old ≡ 4 * nrows }
     requires pivots { HasPivots T.ring T.value (plain_of_cols T.ring T.value (inner_of l).now) }
-    ensures { (j : ℕ) → j < 4 → SolvesColumn T.ring nrows
-        (op_lower T.ring T.value (λ m. m.now) l.entry)
-        (λ i. T.value (slice_index_or x.new (j * nrows + i) T.zero_value))
-        (λ i. T.value (slice_index_or x.old (j * nrows + i) T.zero_value)) }
+    ensures { AreChanged nrows 4 (SolvesAt T.ring T.value T.zero_value
+        (op_lower T.ring T.value (λ m. m.now) l.entry)) x.old x.new }
 {
     let (first, behind) = x.split_at_mut(nrows);
     let (second, behind) = behind.split_at_mut(nrows);
     let (third, fourth) = behind.split_at_mut(nrows);
-    solve_side_by_side(l, first, second, third, fourth);
-}
-
-// Solves `op(T) x = b` over each of four columns.
-fn solve_side_by_side<T: Units>(
-    l: Op<&CscMatrix<T>>,
-    first: &mut [T],
-    second: &mut [T],
-    third: &mut [T],
-    fourth: &mut [T],
-)
-    requires square { (inner_of l).now.pattern.minor_dim ≡ (inner_of l).now.pattern.major_dim }
-    requires rows { length first.old ≡ (inner_of l).now.pattern.major_dim }
-    requires rows_2 { length second.old ≡ length first.old }
-    requires rows_3 { length third.old ≡ length first.old }
-    requires rows_4 { length fourth.old ≡ length first.old }
-    requires pivots { HasPivots T.ring T.value (plain_of_cols T.ring T.value (inner_of l).now) }
-    ensures first { SolvesList T.ring T.value T.zero_value
-        (op_lower T.ring T.value (λ m. m.now) l.entry) first.new first.old }
-    ensures second { SolvesList T.ring T.value T.zero_value
-        (op_lower T.ring T.value (λ m. m.now) l.entry) second.new second.old }
-    ensures third { SolvesList T.ring T.value T.zero_value
-        (op_lower T.ring T.value (λ m. m.now) l.entry) third.new third.old }
-    ensures fourth { SolvesList T.ring T.value T.zero_value
-        (op_lower T.ring T.value (λ m. m.now) l.entry) fourth.new fourth.old }
-{
     match l {
         Op::NoOp(l) => solve_forward_four(l, first, second, third, fourth),
         Op::Transpose(l) => solve_backward_four(l, first, second, third, fourth),

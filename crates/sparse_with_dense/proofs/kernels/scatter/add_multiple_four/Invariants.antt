@@ -1,5 +1,5 @@
-use Rattle.std.proofs.Common.{length, take}
-use Rattle.sparse_with_dense.specs.SparseVectors.{AddsMultiple, sparse_elements}
+use Rattle.std.proofs.Common.{length}
+use Rattle.sparse_with_dense.proofs.Terms.{HasAdded}
 use Rattle.sparse_with_dense.proofs.kernels.scatter.add_multiple_four.Given as goal
 
 abbrev pub invariant-loop-index : goal.invariant-loop-index
@@ -7,12 +7,12 @@ invariant-loop-index g l =
     let R = g.T.Ring.ring in
     let f = g.T.Ring.value in
     let z = g.T.Zero.zero_value in
-    let ks = take (length l.yielded) l.lane.0.now in
-    let vs = take (length l.yielded) l.lane.1.now in
-    let v = sparse_elements R f ks vs in
+    let ks = l.lane.0.now in
+    let vs = l.lane.1.now in
+    let n = length l.yielded in
     record {
-      first : AddsMultiple R f z (f l.a) v l.initial.first l.first;
-      second : AddsMultiple R f z (f l.b) v l.initial.second l.second;
-      third : AddsMultiple R f z (f l.c) v l.initial.third l.third;
-      fourth : AddsMultiple R f z (f l.d) v l.initial.fourth l.fourth;
+      first : HasAdded R f z (f l.a) ks vs n l.initial.first l.first;
+      second : HasAdded R f z (f l.b) ks vs n l.initial.second l.second;
+      third : HasAdded R f z (f l.c) ks vs n l.initial.third l.third;
+      fourth : HasAdded R f z (f l.d) ks vs n l.initial.fourth l.fourth;
     }

@@ -1,7 +1,7 @@
 use Rattle.std.proofs.Common.{◌≡◌, ◌+◌, ◌*◌, get_or, ap, sym, ◌∙◌, arith}
 use Rattle.std.proofs.lemmas.Nat.{mul-add-lt}
 use Rattle.sparse_with_dense.proofs.Operands.{from_start}
-use Rattle.sparse_with_dense.proofs.PlainUpdates.{value_inside}
+use Rattle.sparse_with_dense.proofs.DenseValues.{dense_inside}
 use Rattle.sparse_with_dense.proofs.products.operand.column_of.Goals as goal
 
 pub returns-in-NoOp-clause-entries : goal.returns-in-NoOp-clause-entries
@@ -12,7 +12,7 @@ returns-in-NoOp-clause-entries g c =
     rw c.in-NoOp.is (λ k lt.
     let one : k * 1 ≡ k = omega arith in
     ap (λ p. f (get_or c.column.result.now p z)) one ∙ ap f (c.column.ensures.values k z lt)
-    ∙ sym (value_inside g.T.Ring.ring f z g.met.T.Ring.zero_law c.in-NoOp.b.now k c.args.j lt col))
+    ∙ sym (dense_inside g.T.Ring.ring f z g.met.T.Ring.zero_law c.in-NoOp.b.now k c.args.j lt col))
 
 pub returns-in-Transpose-clause-entries : goal.returns-in-Transpose-clause-entries
 returns-in-Transpose-clause-entries g c =
@@ -29,4 +29,4 @@ returns-in-Transpose-clause-entries g c =
     ) in
     ap f (from_start c.as_slice-values.result.now d.nrows c.args.j k c.min.result z start
     ∙ ap (λ vs. get_or vs (k * d.nrows + c.args.j) z) c.as_slice-values.ensures.values)
-    ∙ sym (value_inside g.T.Ring.ring f z g.met.T.Ring.zero_law d c.args.j k row lt))
+    ∙ sym (dense_inside g.T.Ring.ring f z g.met.T.Ring.zero_law d c.args.j k row lt))

@@ -1,4 +1,5 @@
-use Rattle.std.proofs.Common.{arith}
+use Rattle.std.proofs.Common.{length, ap, arith}
+use Rattle.std.proofs.Math.Nat.{mul_comm}
 use Rattle.sparse_algebra.specs.Plain.{plain_product}
 use Rattle.sparse_algebra.proofs.PlainLaws.{within_product}
 use Rattle.sparse_algebra.proofs.PlainLemmas.{proper_product}
@@ -24,6 +25,12 @@ returns-then-nrows-gt0-clause-updated g c =
     c.values.ensures.sound) (op_within R f z zero c.args.b) in
     updated_plain R f z zero (f c.args.beta) (f c.args.alpha) c.args.c.now (plain_product R a b)
     c.requires.rows c.requires.cols proper within c.update_columns.new.c
+    (omega (
+      arith,
+      ap length c.as_mut_slice.ensures.values,
+      c.as_mut_slice.ensures.count,
+      mul_comm c.args.c.now.nrows c.args.c.now.ncols,
+    ))
     (rw (c.nrows-then-nrows-gt0.ensures, c.ncols.ensures, c.as_mut_slice.ensures.values) at
     c.update_columns.ensures)
 

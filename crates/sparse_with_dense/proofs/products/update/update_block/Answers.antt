@@ -3,7 +3,7 @@ use Rattle.std.proofs.Common.{arith}
 use Rattle.sparse_algebra.specs.Plain.{Plain, plain_product, plain_transpose}
 use Rattle.sparse_compressed.specs.PlainOfLanes.{plain_of_rows}
 use Rattle.sparse_with_dense.specs.DenseOperands.{op_dense}
-use Rattle.sparse_with_dense.proofs.BlockUpdates.{one_column}
+use Rattle.sparse_with_dense.proofs.ColumnBlocks.{one_column}
 use Rattle.sparse_with_dense.proofs.Operands.{not_transposed, transposed_is}
 use Rattle.sparse_with_dense.proofs.products.update.update_block.Goals as goal
 
@@ -79,9 +79,7 @@ returns-then-change g c =
     let value = (plain_product R (plain_transpose R rows) (op_dense R f change.b)).value in
     let long : length c.args.c.now ≡ c.args.size.0 = omega (arith, rw one at c.requires.count) in
     let start : j ≡ j + 0 = omega arith in
-    rw (one, on) (one_column R f g.T.Zero.zero_value (f change.beta) (f change.alpha) c.args.size.0
-    (λ i k. value i (j + k)) (λ i. value i j) c.args.c.now c.scatter_column.new.c long
-    (λ i _. ap (value i) start) c.scatter_column.ensures)
+    rw (one, on) (one_column long c.scatter_column.ensures.count (rw start at c.scatter_column.ensures))
 
 pub gather_column-requires : goal.gather_column-requires
 gather_column-requires g c =
@@ -115,6 +113,4 @@ returns-else-change g c =
     let value = (plain_product R rows (op_dense R f change.b)).value in
     let long : length c.args.c.now ≡ c.args.size.0 = omega (arith, rw one at c.requires.count) in
     let start : j ≡ j + 0 = omega arith in
-    rw (one, off) (one_column R f g.T.Zero.zero_value (f change.beta) (f change.alpha) c.args.size.0
-    (λ i k. value i (j + k)) (λ i. value i j) c.args.c.now c.gather_column.new.c long
-    (λ i _. ap (value i) start) c.gather_column.ensures)
+    rw (one, off) (one_column long c.gather_column.ensures.count (rw start at c.gather_column.ensures))

@@ -2,7 +2,8 @@ use Rattle.std.proofs.Common.{◌-◌, ◌≤◌}
 use Rattle.sparse_algebra.specs.Plain.{plain_product}
 use Rattle.sparse_compressed.specs.PlainOfLanes.{plain_of_rows}
 use Rattle.sparse_with_dense.specs.DenseOperands.{op_dense}
-use Rattle.sparse_with_dense.specs.InnerUpdates.{AreUpdatedBelow}
+use Rattle.sparse_with_dense.specs.InnerBlocks.{AreChangedBelow}
+use Rattle.sparse_with_dense.specs.InnerUpdates.{UpdatesColumn}
 use Rattle.sparse_algebra.specs.Prealloc.{plain_transpose_if}
 use Rattle.sparse_with_dense.proofs.products.update.update_columns.Given as goal
 
@@ -12,10 +13,10 @@ invariant-loop-j g l =
     let f = g.T.Ring.value in
     record {
       within : l.j ≤ l.ncols;
-      done : AreUpdatedBelow R f g.T.Zero.zero_value (f l.change.beta) (f l.change.alpha) l.nrows
-          l.j (plain_product R
+      done : AreChangedBelow l.nrows l.j (UpdatesColumn R f g.T.Zero.zero_value (f l.change.beta)
+          (f l.change.alpha) (plain_product R
           (plain_transpose_if R l.change.transposed (plain_of_rows R f l.change.a.now))
-          (op_dense R f l.change.b)).value l.initial.c l.c;
+          (op_dense R f l.change.b)).value) l.initial.c l.c;
     }
 
 abbrev pub decreases-loop-j : goal.decreases-loop-j

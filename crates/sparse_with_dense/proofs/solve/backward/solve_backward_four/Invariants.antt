@@ -10,13 +10,11 @@ invariant-loop-step g l =
     let f = g.T.Ring.value in
     let z = g.T.Zero.zero_value in
     let t = lower R f l.l in
+    let n = length l.initial.first in
+    let k = n - l.step in
     record {
-      first : IsBackward R (length l.initial.first) (length l.initial.first - l.step) t
-          (elements R f z l.first) (elements R f z l.initial.first);
-      second : IsBackward R (length l.initial.second) (length l.initial.second - l.step) t
-          (elements R f z l.second) (elements R f z l.initial.second);
-      third : IsBackward R (length l.initial.third) (length l.initial.third - l.step) t
-          (elements R f z l.third) (elements R f z l.initial.third);
-      fourth : IsBackward R (length l.initial.fourth) (length l.initial.fourth - l.step) t
-          (elements R f z l.fourth) (elements R f z l.initial.fourth);
+      first : IsBackward R n k t (elements R f z l.first) (elements R f z l.initial.first);
+      second : IsBackward R n k t (elements R f z l.second) (elements R f z l.initial.second);
+      third : IsBackward R n k t (elements R f z l.third) (elements R f z l.initial.third);
+      fourth : IsBackward R n k t (elements R f z l.fourth) (elements R f z l.initial.fourth);
     }

@@ -10,13 +10,10 @@ invariant-loop-k g l =
     let f = g.T.Ring.value in
     let z = g.T.Zero.zero_value in
     let t = lower R f l.l in
+    let n = length l.initial.first in
     record {
-      first : IsForward R (length l.initial.first) l.k t (elements R f z l.first)
-          (elements R f z l.initial.first);
-      second : IsForward R (length l.initial.second) l.k t (elements R f z l.second)
-          (elements R f z l.initial.second);
-      third : IsForward R (length l.initial.third) l.k t (elements R f z l.third)
-          (elements R f z l.initial.third);
-      fourth : IsForward R (length l.initial.fourth) l.k t (elements R f z l.fourth)
-          (elements R f z l.initial.fourth);
+      first : IsForward R n l.k t (elements R f z l.first) (elements R f z l.initial.first);
+      second : IsForward R n l.k t (elements R f z l.second) (elements R f z l.initial.second);
+      third : IsForward R n l.k t (elements R f z l.third) (elements R f z l.initial.third);
+      fourth : IsForward R n l.k t (elements R f z l.fourth) (elements R f z l.initial.fourth);
     }

@@ -2,8 +2,6 @@ use Rattle.sparse_with_dense.proofs.Taking.{taken}
 use Rattle.sparse_with_dense.proofs.solve.forward.take_answer.Goals as goal
 
 pub returns : goal.returns
-returns g c = taken g.T.Ring.ring g.T.Ring.value g.T.Zero.zero_value c.args.k c.args.column.rows.now
-    c.args.column.values.now c.args.x.now c.usaxpy.new.y c.divide_entry.result
-    c.args.column.inverse (g.T.Ring.value c.neg-scale.result) c.requires.row c.requires.above
-    c.divide_entry.ensures.value c.neg-scale.ensures
+returns g c = taken g.T.Zero.zero_value c.args.x.now c.usaxpy.new.y c.divide_entry.result
+    c.requires.row c.requires.above c.divide_entry.ensures.value c.neg-scale.ensures
     (rw c.divide_entry.ensures.written at c.usaxpy.ensures)

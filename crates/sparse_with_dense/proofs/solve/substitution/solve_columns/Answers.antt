@@ -1,26 +1,21 @@
-use Rattle.std.proofs.Common.{arith}
-use Rattle.sparse_with_dense.specs.InnerColumns.{op_lower}
-use Rattle.sparse_with_dense.proofs.SolvedColumns.{solved_none, solved_all}
-use Rattle.sparse_with_dense.proofs.Taking.{solved_block}
+use Rattle.std.proofs.Common.{length, ap, arith}
+use Rattle.std.proofs.Math.Nat.{mul_comm}
+use Rattle.sparse_with_dense.proofs.SolvedColumns.{solved_columns, solved_empty}
 use Rattle.sparse_with_dense.proofs.solve.substitution.solve_columns.Goals as goal
 
-pub loop-from-init : goal.loop-from-init
-loop-from-init g c = solved_none g.T.Ring.ring g.T.Ring.value g.T.Zero.zero_value
-    (op_lower g.T.Ring.ring g.T.Ring.value (λ m. m.now) c.args.l) c.args.b.now
+pub solve_blocks-requires-clause-pivots : goal.solve_blocks-requires-clause-pivots
+solve_blocks-requires-clause-pivots g c = rw c.ncols.ensures c.requires.pivots
 
-pub solve_next-from-requires-clause-pivots : goal.solve_next-from-requires-clause-pivots
-solve_next-from-requires-clause-pivots g c =
-    c.requires.pivots (omega (arith, c.loop-from-test.true, c.ncols-ncols.ensures))
+pub returns-then-nrows-gt0 : goal.returns-then-nrows-gt0
+returns-then-nrows-gt0 g c = solved_columns
+    (omega (
+      arith,
+      ap length c.as_mut_slice.ensures.values,
+      c.as_mut_slice.ensures.count,
+      mul_comm c.args.b.now.nrows c.args.b.now.ncols,
+    ))
+    (rw (c.nrows-then-nrows-gt0.ensures, c.ncols.ensures, c.as_mut_slice.ensures.values) at
+    c.solve_blocks.ensures)
 
-pub loop-from-preserved : goal.loop-from-preserved
-loop-from-preserved g c = solved_block g.T.Ring.ring g.T.Ring.value g.T.Zero.zero_value
-    (op_lower g.T.Ring.ring g.T.Ring.value (λ m. m.now) c.args.l) c.loop-from.from
-    c.solve_next-from.result c.args.b.now c.loop-from.b c.solve_next-from.new.b
-    (omega (arith, c.solve_next-from.ensures.order)) c.loop-from.invariant
-    c.solve_next-from.ensures.solved
-
-pub returns : goal.returns
-returns g c = solved_all g.T.Ring.ring g.T.Ring.value g.T.Zero.zero_value
-    (op_lower g.T.Ring.ring g.T.Ring.value (λ m. m.now) c.args.l) c.loop-from.b c.args.b.now
-    c.loop-from.from (omega (arith, c.loop-from-test.false, c.ncols-ncols.ensures))
-    c.loop-from.invariant
+pub returns-else-nrows-gt0 : goal.returns-else-nrows-gt0
+returns-else-nrows-gt0 g c = solved_empty (omega (arith, c.nrows.ensures, c.if-nrows-gt0.false))
