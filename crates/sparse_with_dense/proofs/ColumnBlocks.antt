@@ -96,7 +96,8 @@ module _ {T : Type 0} {n : ℕ} {P : ℕ → List T → List T → Type 0} where
     count = same_len_mid s (e - s) now new (long ∙ sym (mid_len s e now inside)) ∙ h.count;
     before = λ l lt. elim (lt_or_ge l j) [
       | inl less ↦
-          let kept : column_at n all l ≡ column_at n now l = sym (column_at-take n all j l s refl less)
+          let kept : column_at n all l ≡ column_at n now l =
+          sym (column_at-take n all j l s refl less)
           ∙ ap (λ xs. column_at n xs l) (take-put_mid_below s (e - s) now new s (omega arith) start)
           ∙ column_at-take n now j l s refl less in
           rw kept (h.before l less)

@@ -1,4 +1,4 @@
--- Where dense matrices and matrices by lanes have values, as plain matrices, and those of the dense.
+-- Where dense matrices and matrices by lanes have values, as plain matrices.
 use Rattle.std.proofs.Common.{◌≡◌, ℕ, ◌+◌, ◌*◌, ◌<◌, ◌≤◌, Bool, true, false, get_or, map, ap, sym}
 use Rattle.std.proofs.Common.{◌∙◌, refl, arith}
 use Rattle.std.specs.Prelude.{nat_lt}

@@ -9,7 +9,6 @@ mod PlainUpdates
 pub mod RingSteps
 mod Substitutions
 mod BelowDiagonal
-mod Pivots
 pub mod ColumnSteps
 mod Refills
 pub mod SolvedColumns

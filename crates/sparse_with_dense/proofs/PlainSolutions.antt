@@ -41,7 +41,8 @@ module _ (R : CommRing) {T : Type 0} (f : T → R.Carrier) (z : T) (zero : f z �
     value_is i j = elim (lt_or_ge j b.ncols) [
       | inr past ↦
           nothing _ (λ k. ap (R.mul (t.value i k))
-          (dense_past_cols R f z zero x k j (omega (arith, solves.cols, past))) ∙ mul_zero R (t.value i k))
+          (dense_past_cols R f z zero x k j (omega (arith, solves.cols, past)))
+          ∙ mul_zero R (t.value i k))
           ∙ sym (dense_past_cols R f z zero b i j past)
       | inl col ↦ elim (lt_or_ge i b.nrows) [
         | inl row ↦

@@ -6,10 +6,10 @@ use Rattle.std.proofs.Common.{arith}
 use Rattle.std.specs.Prelude.{nat_lt}
 use Rattle.sparse_algebra.proofs.Cases.{true_or_false}
 use Rattle.sparse_algebra.specs.Algebra.{CommRing}
-use Rattle.sparse_algebra.specs.Plain.{Plain, IsProper, IsWithin}
+use Rattle.sparse_algebra.specs.Plain.{Plain, IsProper, IsWithin, plain_product}
 use Rattle.sparse_algebra.proofs.RingLemmas.{mul_zero, zero_add}
-use Rattle.sparse_algebra.proofs.PlainLemmas.{same_plain}
-use Rattle.sparse_algebra.proofs.PlainLaws.{proper_transpose, within_transpose}
+use Rattle.sparse_algebra.proofs.PlainLemmas.{proper_product, same_plain}
+use Rattle.sparse_algebra.proofs.PlainLaws.{proper_transpose, within_product, within_transpose}
 use Rattle.sparse_algebra.specs.declared.operand.Op.{Op}
 use Rattle.sparse_algebra.specs.declared.operand.Op.TheVariants.{NoOp, Transpose}
 use Rattle.sparse_algebra.specs.Prealloc.{plain_update}
@@ -26,25 +26,41 @@ use Rattle.sparse_with_dense.specs.InnerUpdates.{AreUpdated, updated}
 use Rattle.sparse_with_dense.proofs.ColumnBlocks.{column_at-entry, length-column_at}
 use Rattle.sparse_algebra.specs.Prealloc.{plain_transpose_if}
 
-module _ (R : CommRing) {T : Type 0} (f : T → R.Carrier) (z : T) (zero_law : f z ≡ R.zero) where
-  pub op_proper : (b : Op (Bor (Dense T))) → IsProper (op_dense R f b)
+module _ (R : CommRing) {T : Type 0} (f : T → R.Carrier) where
+  op_proper : (b : Op (Bor (Dense T))) → IsProper (op_dense R f b)
   op_proper (NoOp d) = dense_proper R f d.now
   op_proper (Transpose d) = proper_transpose R (plain_of_dense R f d.now) (dense_proper R f d.now)
 
-  pub op_within : (b : Op (Bor (Dense T))) → IsWithin (op_dense R f b)
+  op_within : (b : Op (Bor (Dense T))) → IsWithin (op_dense R f b)
   op_within (NoOp d) = dense_within R f d.now
   op_within (Transpose d) = within_transpose R (plain_of_dense R f d.now) (dense_within R f d.now)
 
-  pub transposed_proper : (transposed : Bool) (m : Compressed T)
+  transposed_proper : (transposed : Bool) (m : Compressed T)
       → IsProper (plain_transpose_if R transposed (plain_of_rows R f m))
   transposed_proper true m = proper_transpose R (plain_of_rows R f m) (proper_rows R f m)
   transposed_proper false m = proper_rows R f m
 
-  pub transposed_within : (transposed : Bool) (m : Compressed T) → IsSound m
+  transposed_within : (transposed : Bool) (m : Compressed T) → IsSound m
       → IsWithin (plain_transpose_if R transposed (plain_of_rows R f m))
-  transposed_within true m sound = within_transpose R (plain_of_rows R f m) (rows_within R f m sound)
+  transposed_within true m sound =
+      within_transpose R (plain_of_rows R f m) (rows_within R f m sound)
   transposed_within false m sound = rows_within R f m sound
 
+  -- the product of an operand that is transposed or not, and op(B)
+  module _ (transposed : Bool) (m : Compressed T) (b : Op (Bor (Dense T))) where
+    pub operands_proper : IsProper (plain_product R (plain_transpose_if R transposed
+        (plain_of_rows R f m)) (op_dense R f b))
+    operands_proper =
+        proper_product R (plain_transpose_if R transposed (plain_of_rows R f m)) (op_dense R f b)
+        (transposed_proper transposed m) (op_proper b)
+
+    pub operands_within : IsSound m → IsWithin (plain_product R (plain_transpose_if R transposed
+        (plain_of_rows R f m)) (op_dense R f b))
+    operands_within sound =
+        within_product R (plain_transpose_if R transposed (plain_of_rows R f m)) (op_dense R f b)
+        (transposed_within transposed m sound) (op_within b)
+
+module _ (R : CommRing) {T : Type 0} (f : T → R.Carrier) (z : T) (zero_law : f z ≡ R.zero) where
   module _ (beta alpha : R.Carrier) (d : Dense T) (x : Plain R) (rows : x.rows ≡ d.nrows)
       (cols : x.cols ≡ d.ncols) (proper : IsProper x) (within : IsWithin x) where
     -- nothing is added outside the shape
@@ -57,7 +73,8 @@ module _ (R : CommRing) {T : Type 0} (f : T → R.Carrier) (z : T) (zero_law : f
     outside : (i j : ℕ) → is_inside d i j ≡ false
         → R.zero ≡ R.add (R.mul beta ((plain_of_dense R f d).value i j)) (R.mul alpha (x.value i j))
     outside i j miss =
-        sym (ap (λ c. R.add (R.mul beta c) (R.mul alpha (x.value i j))) (dense_proper R f d i j miss)
+        sym (ap (λ c. R.add (R.mul beta c) (R.mul alpha (x.value i j)))
+        (dense_proper R f d i j miss)
         ∙ ap (λ c. R.add c (R.mul alpha (x.value i j))) (mul_zero R beta) ∙ zero_add R _
         ∙ ap (R.mul alpha) (off i j miss) ∙ mul_zero R alpha)
 
@@ -95,22 +112,22 @@ module _ (R : CommRing) {T : Type 0} (f : T → R.Carrier) (z : T) (zero_law : f
           | inr miss ↦ dense_proper R f d i j miss ∙ outside i j miss
         ])
 
-  -- zero times a matrix and one times another with its sizes
-  pub fresh_product : (beta alpha : R.Carrier) (d : Dense T) (x : Plain R) → beta ≡ R.zero
-      → alpha ≡ R.one → d.nrows ≡ x.rows → d.ncols ≡ x.cols
-      → plain_update R beta (plain_of_dense R f d) alpha x ≡ plain_full R x
-  fresh_product beta alpha d x none unit rows cols = same_plain _ _ rows cols has_same value_same
-    where
-      has_same : (i j : ℕ) → is_inside d i j ≡ (nat_lt i x.rows && nat_lt j x.cols)
-      has_same i j = ap (λ n. nat_lt i n && nat_lt j d.ncols) rows
-          ∙ ap (λ n. nat_lt i x.rows && nat_lt j n) cols
+-- zero times a matrix and one times another with its sizes
+pub fresh_product : (R : CommRing) {T : Type 0} (f : T → R.Carrier) {beta alpha : R.Carrier}
+    (d : Dense T) (x : Plain R) → beta ≡ R.zero → alpha ≡ R.one → d.nrows ≡ x.rows
+    → d.ncols ≡ x.cols → plain_update R beta (plain_of_dense R f d) alpha x ≡ plain_full R x
+fresh_product R f {beta} {alpha} d x none unit rows cols = same_plain _ _ rows cols has_same value_same
+  where
+    has_same : (i j : ℕ) → is_inside d i j ≡ (nat_lt i x.rows && nat_lt j x.cols)
+    has_same i j = ap (λ n. nat_lt i n && nat_lt j d.ncols) rows
+        ∙ ap (λ n. nat_lt i x.rows && nat_lt j n) cols
 
-      value_same : (i j : ℕ)
-          → R.add (R.mul beta ((plain_of_dense R f d).value i j)) (R.mul alpha (x.value i j))
-          ≡ x.value i j
-      value_same i j =
-          let c = (plain_of_dense R f d).value i j in
-          ap (λ b. R.add (R.mul b c) (R.mul alpha (x.value i j))) none
-          ∙ ap (λ v. R.add v (R.mul alpha (x.value i j))) (R.laws.mul_comm R.zero c ∙ mul_zero R c)
-          ∙ zero_add R _ ∙ ap (λ a. R.mul a (x.value i j)) unit
-          ∙ R.laws.mul_comm R.one (x.value i j) ∙ R.laws.mul_one (x.value i j)
+    value_same : (i j : ℕ)
+        → R.add (R.mul beta ((plain_of_dense R f d).value i j)) (R.mul alpha (x.value i j))
+        ≡ x.value i j
+    value_same i j =
+        let c = (plain_of_dense R f d).value i j in
+        ap (λ b. R.add (R.mul b c) (R.mul alpha (x.value i j))) none
+        ∙ ap (λ v. R.add v (R.mul alpha (x.value i j))) (R.laws.mul_comm R.zero c ∙ mul_zero R c)
+        ∙ zero_add R _ ∙ ap (λ a. R.mul a (x.value i j)) unit
+        ∙ R.laws.mul_comm R.one (x.value i j) ∙ R.laws.mul_one (x.value i j)

@@ -2,11 +2,12 @@
 use Rattle.std.proofs.Common.{◌≡◌, ◌≢◌, ℕ, zero, suc, ◌+◌, ◌-◌, ◌<◌, ◌≤◌, List, [], ◌∷◌, length}
 use Rattle.std.proofs.Common.{get_or, take, drop, slice_range, ap, sym, ◌∙◌, refl, arith}
 use Rattle.std.specs.Prelude.{nat_eq}
-use Rattle.std.proofs.lemmas.List.{drop_all, drop-take, drop-drop}
+use Rattle.std.proofs.lemmas.List.{drop-take, drop-drop}
 use Rattle.sparse_algebra.proofs.Cases.{nat_eq_no}
 use Rattle.sparse_algebra.specs.Algebra.{CommRing}
 use Rattle.sparse_algebra.proofs.RingLemmas.{zero_add}
 use Rattle.sparse_compressed.proofs.Arrays.{where_no}
+use Rattle.sparse_compressed.proofs.LaneValues.{lane_value_none}
 use Rattle.sparse_with_dense.specs.SparseVectors.{sparse_elements}
 
 module _ (R : CommRing) {T : Type 0} (f : T → R.Carrier) (i : ℕ) where
@@ -30,10 +31,7 @@ module _ (R : CommRing) {T : Type 0} (f : T → R.Carrier) (i : ℕ) where
   -- where no entry has the index
   pub sparse_elements-none : (ks : List ℕ) (vs : List T)
       → ((q : ℕ) → q < length ks → get_or ks q 0 ≢ i) → sparse_elements R f ks vs i ≡ R.zero
-  sparse_elements-none ks vs none =
-      sym (sparse_elements-drop (length ks) ks vs (λ q _ lt. none q lt))
-      ∙ ap (λ l. sparse_elements R f l (drop (length ks) vs) i)
-      (drop_all (length ks) ks (omega arith))
+  sparse_elements-none ks vs none = lane_value_none R f i ks vs none
 
 -- the rest of a range
 pub drop_range : {X : Type 0} (xs : List X) (begin end n : ℕ) → begin + n ≤ end

@@ -7,7 +7,7 @@ abbrev pub strided : (R : CommRing) {T : Type 0} → (T → R.Carrier) → T →
 strided R f z xs step k = f (slice_index_or xs (k * step) z)
 
 -- the n-th entry is written, and means v
-pub record IsWrittenAt (R : CommRing) {T : Type 0} (f : T → R.Carrier) (z : T) (n : ℕ) (v : R.Carrier)
-    (old new : List T) : Type 0 where
+pub record IsWrittenAt (R : CommRing) {T : Type 0} (f : T → R.Carrier) (z : T) (n : ℕ)
+    (v : R.Carrier) (old new : List T) : Type 0 where
   pub written : new ≡ slice_set old n (slice_index_or new n z)
   pub value : f (slice_index_or new n z) ≡ v

@@ -98,9 +98,9 @@ fn has_pivots<T: Units>(l: &CscMatrix<T>) -> bool
 {
     let count = l.pattern().major_dim();
     for k in 0..count {
-        if column_below(l, k).is_none() {
+        let Some(_column) = column_below(l, k) else {
             return false;
-        }
+        };
     }
     true
 }

@@ -9,10 +9,8 @@ pub returns : goal.returns
 returns g c =
     let R = g.T.Ring.ring in
     let f = g.T.Ring.value in
-    let z = g.T.Zero.zero_value in
-    let zero_law = g.met.T.Ring.zero_law in
     c.spmm_csc_dense.ensures.updated
-    ∙ fresh_product R f z zero_law (f c.zero.result) (f c.one.result) c.in_ok-product.product
+    ∙ fresh_product R f c.in_ok-product.product
     (plain_product R (plain_of_cols R f c.args.a.now) (plain_of_dense R f c.args.b.now))
-    (ap f c.zero.ensures ∙ zero_law) c.one.ensures (c.in_ok-product.ensures.rows ∙ c.nrows.ensures)
+    (ap f c.zero.ensures ∙ g.met.T.Ring.zero_law) c.one.ensures (c.in_ok-product.ensures.rows ∙ c.nrows.ensures)
     (c.in_ok-product.ensures.cols ∙ c.ncols.ensures)
