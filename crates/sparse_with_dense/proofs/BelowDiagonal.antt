@@ -79,8 +79,8 @@ module _ (R : CommRing) {T : Type 0} (f : T → R.Carrier) (z : T) (m : Compress
         below = λ i more. sparse_elements-drop R f i (q + 1) rows (values_of m k)
             (λ r before within e. omega (arith, not_past r before, e))
             ∙ lane_value_is R f z m sound k lane i;
-        above = λ i le. sparse_elements-none R f i (drop (q + 1) rows) (drop (q + 1) (values_of m k))
-            (λ r within e.
+        above = λ i le. sparse_elements-none R f i (drop (q + 1) rows)
+            (drop (q + 1) (values_of m k)) (λ r within e.
             let inside : q + 1 + r < length rows = omega
             (arith, within, length-drop (q + 1) rows) in
             let later = lane_rises m.pattern k (sound.valid.lanes k lane) q (q + 1 + r)

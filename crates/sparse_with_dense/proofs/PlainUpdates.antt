@@ -116,7 +116,8 @@ module _ (R : CommRing) {T : Type 0} (f : T → R.Carrier) (z : T) (zero_law : f
 pub fresh_product : (R : CommRing) {T : Type 0} (f : T → R.Carrier) {beta alpha : R.Carrier}
     (d : Dense T) (x : Plain R) → beta ≡ R.zero → alpha ≡ R.one → d.nrows ≡ x.rows
     → d.ncols ≡ x.cols → plain_update R beta (plain_of_dense R f d) alpha x ≡ plain_full R x
-fresh_product R f {beta} {alpha} d x none unit rows cols = same_plain _ _ rows cols has_same value_same
+fresh_product R f {beta} {alpha} d x none unit rows cols =
+    same_plain _ _ rows cols has_same value_same
   where
     has_same : (i j : ℕ) → is_inside d i j ≡ (nat_lt i x.rows && nat_lt j x.cols)
     has_same i j = ap (λ n. nat_lt i n && nat_lt j d.ncols) rows

@@ -12,5 +12,6 @@ returns g c =
     c.spmm_csc_dense.ensures.updated
     ∙ fresh_product R f c.in_ok-product.product
     (plain_product R (plain_of_cols R f c.args.a.now) (plain_of_dense R f c.args.b.now))
-    (ap f c.zero.ensures ∙ g.met.T.Ring.zero_law) c.one.ensures (c.in_ok-product.ensures.rows ∙ c.nrows.ensures)
+    (ap f c.zero.ensures ∙ g.met.T.Ring.zero_law) c.one.ensures
+    (c.in_ok-product.ensures.rows ∙ c.nrows.ensures)
     (c.in_ok-product.ensures.cols ∙ c.ncols.ensures)
