@@ -1,80 +1,57 @@
--- The machine values of a `MatrixHandle` and of a `Block`, which are one. Assumes `Logic`.
+-- The machine values of the handles and of a `Block`, each of which is one pointer. Assumes `Logic`.
 --     pointer_good              a pointer has its type
 --     word p                    the machine value at the pointer p
---     word_good, block_good     it has the type of a handle, and that of a block
---     handle_out, handle_in     a handle by value is what it owns at its pointer
---     block_out, block_in       the same of a block
+--     word_good                 it has the type of a handle and of a block
+--     pointer_out, pointer_in   a handle or a block by value is what it owns at its pointer
 use Rattle.std.proofs.Common.{◌≡◌, List, [], ◌∷◌, ◌++◌, refl, subst}
 use lib.Dec.{lit<}
 use seplogic.Ra.Ura.{Ura}
+use base.Fml.{Fml, fsep}
 use mir.Syntax.{ty_ptr}
 use mir.Val.{Val, vstruct, vcons, vnil, of_list}
 use types.Logic.{Logic}
 use types.Kit.{Item, Goal, Seq, Step, step, ‵, ◌$◌, drop, fsplit, fjoin, fpick, fpack, feq_i, feq_l}
-use denote.RattleType.{RattleType, Valss}
+use denote.RattleType.{Valss}
 use denote.Builtin.{RawPtr}
 use denote.RawPtr.{Ptr, block_ptr, null_ptr, ptr_val}
 use denote.Steps.{nothing}
 use denote.Param.{layout}
-use denote.Struct.Struct.{within}
+use denote.Struct.Struct.{Shape, Struct, within}
 use denote.Struct.Owning.{shape}
 use Rattle.core.proofs.cell.Inside.{Good}
-use Rattle.sparse_handles.specs.Owned.{in_block, owns_at}
-use Rattle.sparse_handles.specs.contracts.handle.Block as block
 use Rattle.sparse_handles.specs.contracts.handle.MatrixHandle as handle
 
 abbrev pub word : Ptr → Val
 word p = vstruct (vcons (ptr_val p) vnil)
 
-pub word_good : (p : Ptr) → Good (layout handle.the_row) (word p)
-word_good (block_ptr b o) = (tt, (tt, tt))
-word_good null_ptr = (tt, (record { fits = lit< tt }, tt))
-
 pub pointer_good : (p : Ptr) → Good ty_ptr (ptr_val p)
 pointer_good (block_ptr b o) = (tt, tt)
 pointer_good null_ptr = (tt, record { fits = lit< tt })
 
-pub block_good : (R : RattleType) (p : Ptr) → Good (layout (block.the_row R)) (word p)
-block_good R (block_ptr b o) = (tt, (tt, tt))
-block_good R null_ptr = (tt, (record { fits = lit< tt }, tt))
+pub word_good : (p : Ptr) → Good (layout handle.the_row) (word p)
+word_good (block_ptr b o) = (tt, (tt, tt))
+word_good null_ptr = (tt, (record { fits = lit< tt }, tt))
+
+-- a struct of one pointer; what owns a value by it is independent of its name
+abbrev pointer_shape : Shape
+pointer_shape = shape handle.the_type
+
+-- the machine values of a struct that has the pointer p, and owns F by it
+abbrev pub owned_by : Ptr → Fml → List Val → Fml
+owned_by p F vs = fsep ((Struct pointer_shape).own_val (p, tt) vs) F
 
 module _ {M : Type 1} {𝓤 : Ura M} {𝓛 : Logic 𝓤} {K : Type 0} {Γ : List (Item 𝓤)} {G : Goal 𝓤 𝓛.H}
   where
-    pub handle_out : K → (d : handle.the_row.Denot) (vs : List Val)
-        → (vs ≡ word d.at ∷ [] → Seq K 𝓛 (‵ (owns_at d.at d.value) ∷ Γ) G)
-        → Seq K 𝓛 (‵ (handle.the_row.own_val d vs) ∷ Γ) G
-    handle_out t d vs k =
+    pub pointer_out : K → (p : Ptr) (F : Fml) (vs : List Val)
+        → (vs ≡ word p ∷ [] → Seq K 𝓛 (‵ F ∷ Γ) G) → Seq K 𝓛 (‵ (owned_by p F vs) ∷ Γ) G
+    pointer_out t p F vs k =
         fsplit t $ fpick t (λ vss. fsplit t $ feq_l t (λ ev. fsplit t $ feq_l t (λ ep. drop t $
         k (subst (λ (ps : List Val). vs ≡ vstruct (of_list (ps ++ [])) ∷ []) ep ev))))
 
-    pub handle_in : K → (d : handle.the_row.Denot)
-        → Step K 𝓛 (‵ (handle.the_row.own_val d (word d.at ∷ [])) ∷ Γ) G (‵ (owns_at d.at d.value) ∷
-        Γ) G
-    handle_in t d = step (λ s. let v : Val = word d.at in
-        nothing t $ feq_i t (List Val) (ptr_val d.at ∷ []) (ptr_val d.at ∷ []) refl $ fjoin t $
+    pub pointer_in : K → (p : Ptr) (F : Fml)
+        → Step K 𝓛 (‵ (owned_by p F (word p ∷ [])) ∷ Γ) G (‵ F ∷ Γ) G
+    pointer_in t p F = step (λ s. let v : Val = word p in
+        nothing t $ feq_i t (List Val) (ptr_val p ∷ []) (ptr_val p ∷ []) refl $ fjoin t $
         feq_i t (List Val) (v ∷ []) (v ∷ []) refl $ fjoin t $
-        fpack t (Valss (RawPtr ∷ [])) (within (shape handle.the_type) (d.at, tt) (v ∷ [])) (
-          ptr_val
-              d.at ∷ [],
-          tt,
-        ) $ fjoin t $ s)
-
-    module _ (R : RattleType) where
-      pub block_out : K → (d : (block.the_row R).Denot) (vs : List Val)
-          → (vs ≡ word d.at ∷ [] → Seq K 𝓛 (‵ (in_block R d.at d.value) ∷ Γ) G)
-          → Seq K 𝓛 (‵ ((block.the_row R).own_val d vs) ∷ Γ) G
-      block_out t d vs k =
-          fsplit t $ fpick t (λ vss. fsplit t $ feq_l t (λ ev. fsplit t $ feq_l t (λ ep. drop t $
-          k (subst (λ (ps : List Val). vs ≡ vstruct (of_list (ps ++ [])) ∷ []) ep ev))))
-
-      pub block_in : K → (d : (block.the_row R).Denot)
-          → Step K 𝓛 (‵ ((block.the_row R).own_val d (word d.at ∷ [])) ∷ Γ) G
-          (‵ (in_block R d.at d.value) ∷ Γ) G
-      block_in t d = step (λ s. let v : Val = word d.at in
-          nothing t $ feq_i t (List Val) (ptr_val d.at ∷ []) (ptr_val d.at ∷ []) refl $ fjoin t $
-          feq_i t (List Val) (v ∷ []) (v ∷ []) refl $ fjoin t $
-          fpack t (Valss (RawPtr ∷ [])) (within (shape (block.the_type R)) (d.at, tt) (v ∷ [])) (
-            ptr_val
-                d.at ∷ [],
-            tt,
-          ) $ fjoin t $ s)
+        fpack t (Valss (RawPtr ∷ [])) (within pointer_shape (p, tt) (v ∷ [])) (ptr_val p ∷ [], tt) $
+        fjoin t $ s)

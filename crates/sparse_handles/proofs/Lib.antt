@@ -1,7 +1,7 @@
 mod Done
-mod FactorSteps
 mod HandleSteps
 mod HeapBox
+mod HeldPointers
 mod HeldFactors
 mod PlainTexts
 mod Triangles

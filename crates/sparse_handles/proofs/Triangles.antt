@@ -3,7 +3,8 @@
 --     solved_over         a dense solution that is written over the array of its right side
 --     solved_behind       the same of a triangle of the matrix behind a handle
 --     upper_is_lower      a solve with the upper triangle is one with the lower triangle of the transpose
---     singular_upper      an upper triangle is singular where the lower one of the transpose is
+--     turned_rows, turned_cols     a square matrix that is turned has its size
+--     singular_turned     a triangle is singular where the lower one of the turned matrix is
 use Rattle.std.proofs.Common.{◌≡◌, ℕ, ℤ, ◌<◌, ◌*◌, List, length, map, take, ap, sym}
 use Rattle.std.proofs.Common.{Bool, true, false, subst, ◌∙◌, refl, arith}
 use Rattle.std.specs.Prelude.{not, Option, Some}
@@ -21,7 +22,7 @@ use Rattle.sparse_compressed.specs.PlainOfLanes.{plain_of_rows}
 use Rattle.sparse_handles.specs.Behind.{plain_behind}
 use Rattle.sparse_handles.proofs.Done.{held}
 use Rattle.sparse_handles.specs.declared.solving.Triangle.{Triangle}
-use Rattle.sparse_handles.specs.Solved.{part_of, triangle_of, SolvesInPlace}
+use Rattle.sparse_handles.specs.Solved.{part_of, triangle_of, turned, SolvesInPlace}
 use Rattle.sparse_handles.specs.declared.solving.Triangle.TheVariants.{Lower, Upper}
 use Rattle.sparse_with_dense.specs.Solutions.{IsSingular, IsSolution}
 
@@ -66,7 +67,18 @@ pub upper_is_lower : (transposed : Bool) (a : Plain ring64)
 upper_is_lower false a = refl
 upper_is_lower true a = refl
 
-pub singular_upper : (a : Plain ring64) → a.cols ≡ a.rows
-    → IsSingular ring64 w64_value (part_of Lower (plain_transpose ring64 a))
-    → IsSingular ring64 w64_value (part_of Upper a)
-singular_upper a square h = (h.0, subst (λ n. h.0 < n) square h.1, h.2)
+pub turned_rows : (triangle : Triangle) (a : Plain ring64) → a.cols ≡ a.rows
+    → (turned triangle a).rows ≡ a.rows
+turned_rows Lower a square = refl
+turned_rows Upper a square = square
+
+pub turned_cols : (triangle : Triangle) (a : Plain ring64) → a.cols ≡ a.rows
+    → (turned triangle a).cols ≡ a.rows
+turned_cols Lower a square = square
+turned_cols Upper a square = refl
+
+pub singular_turned : (triangle : Triangle) (a : Plain ring64) → a.cols ≡ a.rows
+    → IsSingular ring64 w64_value (part_of Lower (turned triangle a))
+    → IsSingular ring64 w64_value (part_of triangle a)
+singular_turned Lower a square h = h
+singular_turned Upper a square h = (h.0, subst (λ n. h.0 < n) square h.1, h.2)

@@ -1,6 +1,5 @@
 pub mod Behind
 pub mod Factored
 pub mod Owned
-pub mod OwnedFactors
 pub mod Solved
 pub mod Texts

@@ -25,6 +25,11 @@ abbrev pub triangle_of : Triangle → Bool → Plain ring64 → Plain ring64
 triangle_of triangle false a = part_of triangle a
 triangle_of triangle true a = plain_transpose ring64 (part_of triangle a)
 
+-- the matrix whose lower triangle is this part, or its transpose
+abbrev pub turned : Triangle → Plain ring64 → Plain ring64
+turned Lower a = a
+turned Upper a = plain_transpose ring64 a
+
 -- before, the array has the values of B, with n rows and m columns, and then those of X, where t X = B
 pub record SolvesInPlace (t : Plain ring64) (n m : ℕ) (before after : List ℤ) : Type 0 where
   pub sized : length before ≡ n * m

@@ -16,13 +16,12 @@ ghost use Rattle.sparse_factor.specs.Factors.{diagonal};
 
 use crate::handle::{Block, FactorHandle, MatrixHandle, SharedFactors};
 use crate::sharing::shared;
-use crate::solving::{put_dense, size_of};
+use crate::solving::{Triangle, columns_of, put_dense, size_of};
 use sparse_algebra::scalar::W64;
 use sparse_c_arrays::dense::dense_matrix_of;
 use sparse_c_arrays::refusal::Refusal;
 use sparse_csr_csc::csr::CsrMatrix;
 use sparse_factor::ldl::Ldl;
-use sparse_products::transposes::transposed_csr;
 use std::alloc::Global;
 use std::mem;
 use std::sync::Arc;
@@ -106,8 +105,7 @@ fn factors_of(alloc: Global, a: &CsrMatrix<W64>) -> Result<Ldl<W64>, Refusal>
     ensures fault { IfErr result (IsMemoryOr (IsUnfactored (Some a.now))) }
 {
     size_of(a)?;
-    let transposed = transposed_csr(alloc, a)?;
-    let columns = transposed.transpose_as_csc();
+    let columns = columns_of(alloc, a, Triangle::Lower)?;
     let factors = Ldl::factor(alloc, &columns)?;
     Ok(factors)
 }

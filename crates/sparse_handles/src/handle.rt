@@ -4,8 +4,8 @@ ghost use Rattle.std.specs.Prelude.{◌≡◌, Option, None, Some};
 ghost use Rattle.sparse_algebra.specs.declared.scalar.wrapping.W64.{W64 as W64Value};
 ghost use Rattle.sparse_compressed.specs.Compressed.{Compressed};
 ghost use Rattle.sparse_handles.specs.Owned.{held_code, in_block, owns_at, value_of};
-ghost use Rattle.sparse_handles.specs.OwnedFactors.{factors_of, held_factors_code};
-ghost use Rattle.sparse_handles.specs.OwnedFactors.{owns_factors_at};
+ghost use Rattle.sparse_handles.specs.contracts.handle.SharedFactors.{the_row as factors_row};
+ghost use Rattle.sparse_handles.specs.contracts.handle.SharedMatrix.{the_row as matrix_row};
 ghost use Rattle.sparse_factor.specs.Factors.{Factors};
 
 use sparse_algebra::scalar::W64;
@@ -59,11 +59,11 @@ impl<T: Drop> Block<T> {
 #[repr(C)]
 pub struct MatrixHandle {
     at: *mut (),
-    pub ghost value: { Option (Compressed W64Value) } by { held_code },
+    pub ghost value: { Option (Compressed W64Value) } by { held_code matrix_row },
 }
 
 impl Model for MatrixHandle {
-    ghost also_owns = { λ h. owns_at h.at h.value };
+    ghost also_owns = { λ h. owns_at matrix_row h.at h.value };
 }
 
 // A shared matrix may go to another thread, and so may its block.
@@ -123,11 +123,11 @@ impl Model for SharedFactors {
 #[repr(C)]
 pub struct FactorHandle {
     at: *mut (),
-    pub ghost value: { Option (Factors W64Value) } by { held_factors_code },
+    pub ghost value: { Option (Factors W64Value) } by { held_code factors_row },
 }
 
 impl Model for FactorHandle {
-    ghost also_owns = { λ h. owns_factors_at h.at h.value };
+    ghost also_owns = { λ h. owns_at factors_row h.at h.value };
 }
 
 // Shared factors may go to another thread, and so may their block.
@@ -153,7 +153,7 @@ impl FactorHandle {
 
     /// Returns the box of the factors, if there are any.
     pub(crate) fn into_box(self, alloc: Global) -> Option<Box<SharedFactors>>
-        ensures { factors_of result ≡ self.value }
+        ensures { value_of result ≡ self.value }
     {
         let FactorHandle { at } = self;
         if at.is_null() {

@@ -1,6 +1,7 @@
 //! Transposes, sums and products of matrices behind handles.
 
-ghost use Rattle.std.specs.Prelude.{◌≡◌, IfErr, OnOk, OnErr};
+ghost use Rattle.std.specs.Prelude.{◌≡◌, Some, IfErr, IfOk, OnOk, OnErr};
+ghost use Rattle.std.specs.Arc.{arc_value};
 ghost use Rattle.sparse_algebra.specs.Integers.{element_of};
 ghost use Rattle.sparse_algebra.specs.Plain.{plain_difference, plain_product, plain_scaled};
 ghost use Rattle.sparse_algebra.specs.Plain.{plain_sum, plain_transpose};
@@ -13,10 +14,12 @@ use crate::sharing::{put, put_shared, shared};
 use sparse_algebra::scalar::W64;
 use sparse_c_arrays::number::Number;
 use sparse_c_arrays::refusal::Refusal;
+use sparse_csr_csc::csr::CsrMatrix;
 use sparse_products::serial::mul_csr;
 use sparse_products::transposes::transposed_csr;
 use sparse_sums::{add_csr, add_scaled_csr, scale_csr, sub_csr};
 use std::alloc::Global;
+use std::sync::Arc;
 
 /// Puts the matrix behind `a` behind `out` too: both share it.
 ///
@@ -90,14 +93,7 @@ pub fn add(
     ensures unchanged { OnErr result (out.new.value ≡ out.old.value) }
     ensures fault { IfErr result (IsMemoryOr (IsUnlike a.old.value b.old.value)) }
 {
-    let a = shared(alloc, a)?;
-    let b = shared(alloc, b)?;
-    if a.nrows() != b.nrows() {
-        return Err(Refusal::ShapeMismatch);
-    }
-    if a.ncols() != b.ncols() {
-        return Err(Refusal::ShapeMismatch);
-    }
+    let (a, b) = shared_alike(alloc, a, b)?;
     let sum = add_csr(alloc, &a, &b)?;
     put(alloc, sum, out)
 }
@@ -120,14 +116,7 @@ pub fn subtract(
     ensures unchanged { OnErr result (out.new.value ≡ out.old.value) }
     ensures fault { IfErr result (IsMemoryOr (IsUnlike a.old.value b.old.value)) }
 {
-    let a = shared(alloc, a)?;
-    let b = shared(alloc, b)?;
-    if a.nrows() != b.nrows() {
-        return Err(Refusal::ShapeMismatch);
-    }
-    if a.ncols() != b.ncols() {
-        return Err(Refusal::ShapeMismatch);
-    }
+    let (a, b) = shared_alike(alloc, a, b)?;
     let difference = sub_csr(alloc, &a, &b)?;
     put(alloc, difference, out)
 }
@@ -153,14 +142,7 @@ pub fn add_scaled(
     ensures unchanged { OnErr result (out.new.value ≡ out.old.value) }
     ensures fault { IfErr result (IsMemoryOr (IsUnlike a.old.value b.old.value)) }
 {
-    let a = shared(alloc, a)?;
-    let b = shared(alloc, b)?;
-    if a.nrows() != b.nrows() {
-        return Err(Refusal::ShapeMismatch);
-    }
-    if a.ncols() != b.ncols() {
-        return Err(Refusal::ShapeMismatch);
-    }
+    let (a, b) = shared_alike(alloc, a, b)?;
     let (alpha, beta) = (W64::from_number(alpha), W64::from_number(beta));
     let sum = add_scaled_csr(alloc, alpha, &a, beta, &b)?;
     put(alloc, sum, out)
@@ -191,4 +173,27 @@ pub fn multiply(
     }
     let product = mul_csr(alloc, &a, &b)?;
     put(alloc, product, out)
+}
+
+// Returns the matrices behind two handles, which share them and have one shape.
+fn shared_alike(
+    alloc: Global,
+    a: &mut MatrixHandle,
+    b: &mut MatrixHandle,
+) -> Result<(Arc<CsrMatrix<W64>>, Arc<CsrMatrix<W64>>), Refusal>
+    ensures kept { (a.new.value ≡ a.old.value) × (b.new.value ≡ b.old.value) }
+    ensures first { IfOk result (λ p. a.old.value ≡ Some (arc_value p.0)) }
+    ensures second { IfOk result (λ p. b.old.value ≡ Some (arc_value p.1)) }
+    ensures rows { IfOk result (λ p.
+        (arc_value p.0).pattern.major_dim ≡ (arc_value p.1).pattern.major_dim) }
+    ensures cols { IfOk result (λ p.
+        (arc_value p.0).pattern.minor_dim ≡ (arc_value p.1).pattern.minor_dim) }
+    ensures fault { IfErr result (IsMemoryOr (IsUnlike a.old.value b.old.value)) }
+{
+    let a = shared(alloc, a)?;
+    let b = shared(alloc, b)?;
+    if a.nrows() != b.nrows() || a.ncols() != b.ncols() {
+        return Err(Refusal::ShapeMismatch);
+    }
+    Ok((a, b))
 }

@@ -1,6 +1,7 @@
 //! Solves with triangles of matrices behind handles, in the array of the right side.
 
 ghost use Rattle.std.specs.Prelude.{◌≡◌, ◌≢◌, ◌<◌, ◌*◌, length, Some, IfOk, IfErr, OnOk, OnErr};
+ghost use Rattle.sparse_algebra.specs.Plain.{Plain};
 ghost use Rattle.sparse_algebra.specs.WrappingValues.{w64_value};
 ghost use Rattle.sparse_algebra.specs.declared.error.OperationErrorKind.TheVariants.{Singular};
 ghost use Rattle.sparse_coo_dense.specs.DensePlain.{plain_of_dense};
@@ -10,8 +11,8 @@ ghost use Rattle.sparse_c_arrays.specs.declared.refusal.Refusal.TheVariants.{Sha
 ghost use Rattle.sparse_compressed.specs.PlainOfLanes.{plain_of_cols, plain_of_rows};
 ghost use Rattle.sparse_handles.specs.Behind.{plain_behind};
 ghost use Rattle.sparse_handles.specs.Solved.{triangle_of, IsSingularPart};
-ghost use Rattle.sparse_handles.specs.Solved.{IsUnsolved, SolvesInPlace};
-ghost use Rattle.sparse_handles.specs.declared.solving.Triangle.TheVariants.{Lower, Upper};
+ghost use Rattle.sparse_handles.specs.Solved.{IsUnsolved, SolvesInPlace, turned};
+ghost use Rattle.sparse_handles.specs.declared.solving.Triangle.TheVariants.{Lower};
 ghost use Rattle.sparse_with_dense.specs.Solutions.{plain_lower, IsSingular, IsSolution};
 
 use crate::handle::MatrixHandle;
@@ -27,7 +28,7 @@ use sparse_csr_csc::csc::CscMatrix;
 use sparse_csr_csc::csr::CsrMatrix;
 use sparse_products::transposes::transposed_csr;
 use sparse_with_dense::spsolve_csc_lower_triangular;
-use std::alloc::Global;
+use std::alloc::{AllocError, Global};
 
 /// The part of a matrix that a system of equations has.
 #[derive(Clone, Copy)]
@@ -117,7 +118,7 @@ fn solution(
     Ok(x)
 }
 
-// Replaces B by the solution with a triangle of a matrix, or with its transpose.
+// Replaces B by the solution with a triangle of a matrix, which is copied, or with its transpose.
 fn solve_part(
     alloc: Global,
     a: &CsrMatrix<W64>,
@@ -135,57 +136,38 @@ fn solve_part(
     ensures fault { IfErr result (IsMemoryOr
         (IsSingularPart triangle (plain_of_rows ring64 w64_value a.now) b.old.ncols)) }
 {
+    let columns = columns_of(alloc, a, triangle)?;
+    substitute(&columns, is_turned(triangle, transposed), b)?;
+    Ok(())
+}
+
+/// Returns the columns of a matrix, or of its transpose where its upper triangle is asked for: that is the lower one of
+/// the transpose, whose columns are the rows of the matrix.
+///
+/// Fails only if an allocation fails.
+pub(crate) fn columns_of(
+    alloc: Global,
+    a: &CsrMatrix<W64>,
+    triangle: Triangle,
+) -> Result<CscMatrix<W64>, AllocError>
+    ensures { IfOk result (λ m. plain_of_cols ring64 w64_value m
+        ≡ turned triangle (plain_of_rows ring64 w64_value a.now)) }
+{
     match triangle {
-        Triangle::Lower => solve_lower(alloc, a, transposed, b),
-        Triangle::Upper => solve_upper(alloc, a, transposed, b),
+        Triangle::Lower => Ok(transposed_csr(alloc, a)?.transpose_as_csc()),
+        Triangle::Upper => Ok(a.clone(alloc)?.transpose_as_csc()),
     }
 }
 
-// Replaces B by the solution with the lower triangle of a matrix, which is copied by columns, or with its transpose.
-fn solve_lower(
-    alloc: Global,
-    a: &CsrMatrix<W64>,
-    transposed: bool,
-    b: &mut DMatrix<W64>,
-) -> Result<(), Refusal>
-    requires square { a.now.pattern.minor_dim ≡ a.now.pattern.major_dim }
-    requires fits { b.old.nrows ≡ a.now.pattern.major_dim }
-    ensures rows { b.new.nrows ≡ b.old.nrows }
-    ensures cols { b.new.ncols ≡ b.old.ncols }
-    ensures solved { OnOk result (IsSolution ring64
-        (triangle_of Lower transposed (plain_of_rows ring64 w64_value a.now))
-        (plain_of_dense ring64 w64_value b.new) (plain_of_dense ring64 w64_value b.old)) }
-    ensures fault { IfErr result (IsMemoryOr
-        (IsSingularPart Lower (plain_of_rows ring64 w64_value a.now) b.old.ncols)) }
+// Whether the lower triangle of these columns is solved with as the transpose.
+fn is_turned(triangle: Triangle, transposed: bool) -> bool
+    ensures { (a : Plain ring64) → triangle_of Lower result (turned triangle a)
+        ≡ triangle_of triangle transposed a }
 {
-    let copy = transposed_csr(alloc, a)?;
-    let columns = copy.transpose_as_csc();
-    substitute(&columns, transposed, b)?;
-    Ok(())
-}
-
-// Replaces B by the solution with the upper triangle of a matrix, or with its transpose, which is the lower triangle of
-// the transpose: its columns are the rows of the matrix.
-fn solve_upper(
-    alloc: Global,
-    a: &CsrMatrix<W64>,
-    transposed: bool,
-    b: &mut DMatrix<W64>,
-) -> Result<(), Refusal>
-    requires square { a.now.pattern.minor_dim ≡ a.now.pattern.major_dim }
-    requires fits { b.old.nrows ≡ a.now.pattern.major_dim }
-    ensures rows { b.new.nrows ≡ b.old.nrows }
-    ensures cols { b.new.ncols ≡ b.old.ncols }
-    ensures solved { OnOk result (IsSolution ring64
-        (triangle_of Upper transposed (plain_of_rows ring64 w64_value a.now))
-        (plain_of_dense ring64 w64_value b.new) (plain_of_dense ring64 w64_value b.old)) }
-    ensures fault { IfErr result (IsMemoryOr
-        (IsSingularPart Upper (plain_of_rows ring64 w64_value a.now) b.old.ncols)) }
-{
-    let copy = a.clone(alloc)?;
-    let columns = copy.transpose_as_csc();
-    substitute(&columns, !transposed, b)?;
-    Ok(())
+    match triangle {
+        Triangle::Lower => transposed,
+        Triangle::Upper => !transposed,
+    }
 }
 
 // Replaces B by the solution with the lower triangle of a matrix, or with its transpose.

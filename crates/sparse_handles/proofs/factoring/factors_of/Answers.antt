@@ -1,26 +1,22 @@
 use Rattle.std.proofs.Common.{ℕ, inl, inr, ap, subst, ◌∙◌}
 use Rattle.std.proofs.lemmas.Result.{err_from_is_err_and}
-use Rattle.sparse_algebra.specs.Plain.{Plain, plain_transpose}
+use Rattle.sparse_algebra.specs.Plain.{Plain}
 use Rattle.sparse_algebra.specs.WrappingValues.{w64_value}
 use Rattle.sparse_c_arrays.specs.Arrays.{ring64}
 use Rattle.sparse_c_arrays.specs.Statuses.{refusal_of_operation}
-use Rattle.sparse_compressed.specs.PlainOfLanes.{plain_of_cols, plain_of_rows}
+use Rattle.sparse_compressed.specs.PlainOfLanes.{plain_of_rows}
 use Rattle.sparse_factor.specs.Factorisations.{plain_symmetric, IsFactorisation}
 use Rattle.sparse_handles.proofs.HeldFactors.{factorisation}
 use Rattle.sparse_handles.proofs.factoring.factors_of.Goals as goal
 
 pub returns-clause-factors : goal.returns-clause-factors
 returns-clause-factors c =
-    let plain = ap (plain_of_cols ring64 w64_value) c.transpose_as_csc-columns.ensures
-    ∙ ap (plain_transpose ring64) c.in_ok-transposed.ensures in
     let s = c.in_ok-factors.ensures in
-    factorisation (plain_of_rows ring64 w64_value c.args.a.now) _ _ plain s.rows s.count
+    factorisation (plain_of_rows ring64 w64_value c.args.a.now) _ _ c.in_ok-columns.ensures s.rows s.count
     s.unit_diagonal s.pivots s.equation
 
 pub returns-in_err-factors-clause-fault : goal.returns-in_err-factors-clause-fault
 returns-in_err-factors-clause-fault c =
-    let plain = ap (plain_of_cols ring64 w64_value) c.transpose_as_csc-columns.ensures
-    ∙ ap (plain_transpose ring64) c.in_ok-transposed.ensures in
     let p = err_from_is_err_and c.from_residual-in_err-factors.result
     c.from_residual-in_err-factors.ensures.1 in
     let e = c.in_err-factors.ensures in
@@ -29,7 +25,7 @@ returns-in_err-factors-clause-fault c =
     rw p.1 (elim e.kinds [
       | inl singular ↦ inr (inr (
         p.2 ∙ ap refusal_of_operation singular,
-        subst none plain (e.singular singular),
+        subst none c.in_ok-columns.ensures (e.singular singular),
       ))
       | inr memory ↦ inl (p.2 ∙ ap refusal_of_operation memory)
     ])

@@ -8,8 +8,8 @@ use Rattle.sparse_handles.proofs.operations.add_scaled.Goals as goal
 
 pub returns-clause-done : goal.returns-clause-done
 returns-clause-done c =
-    let a = behind c.args.a.now.value _ _ c.in_ok-a.ensures.matrix c.deref-5.ensures in
-    let b = behind c.args.b.now.value _ _ c.in_ok-b.ensures.matrix c.deref-6.ensures in
+    let a = behind c.args.a.now.value _ _ c.in_ok-a.ensures.first c.deref.ensures in
+    let b = behind c.args.b.now.value _ _ c.in_ok-a.ensures.second c.deref-2.ensures in
     let first : to_z w64 (of_z w64 c.args.alpha) ≡ c.args.alpha = search rules in
     let second : to_z w64 (of_z w64 c.args.beta) ≡ c.args.beta = search rules in
     let alpha = c.from_number-alpha.ensures ∙ ap (element_of ring64) first in

@@ -6,7 +6,7 @@ use Rattle.sparse_handles.proofs.operations.subtract.Goals as goal
 
 pub returns-clause-done : goal.returns-clause-done
 returns-clause-done c =
-    let a = behind c.args.a.now.value _ _ c.in_ok-a.ensures.matrix c.deref-5.ensures in
-    let b = behind c.args.b.now.value _ _ c.in_ok-b.ensures.matrix c.deref-6.ensures in
+    let a = behind c.args.a.now.value _ _ c.in_ok-a.ensures.first c.deref.ensures in
+    let b = behind c.args.b.now.value _ _ c.in_ok-a.ensures.second c.deref-2.ensures in
     put_done c.put.result c.put.new.handle.value _ _ c.put.ensures.put
     (c.in_ok-difference.ensures ∙ (λ i. plain_difference ring64 (a i) (b i)))

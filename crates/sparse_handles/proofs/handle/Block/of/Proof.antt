@@ -35,7 +35,7 @@ use Rattle.std_alloc.specs.contracts.boxed.Box.into_raw as into_raw
 use Rattle.std_heap.proofs.GlobalAllocator.TheImpl.Met.{passed}
 use Rattle.std_heap.specs.contracts.GlobalAllocator.TheImpl.{ghosts, dict}
 use Rattle.sparse_handles.specs.Owned.{in_block}
-use Rattle.sparse_handles.proofs.HandleSteps.{word, block_good, block_in, pointer_good}
+use Rattle.sparse_handles.proofs.HandleSteps.{pointer_good, pointer_in, word, word_good}
 use Rattle.sparse_handles.proofs.HeapBox.{drop_goes, heap_laws, heap_row, no_drop}
 use Rattle.sparse_handles.proofs.HeapBox.{static, Boxed, boxed}
 use Rattle.sparse_handles.specs.contracts.handle.Block.of as f
@@ -99,9 +99,9 @@ of_spec {M} 𝓤 𝓛 𝓜 𝓡 wired T L dx glue =
     -- [the token; the pointer; what the call ensures]
     move ! (1 ∷ []) $ feq_l ! (λ eu. move ! (1 ∷ []) $ pick ! (λ ls. split ! $ drop ! $
     lands_as ! (ap only eu) refl (pointer_good p) $
-    sets ! (agg ! (and_then ! (get ! refl) (no_more !))) refl (block_good R p) $
+    sets ! (agg ! (and_then ! (get ! refl) (no_more !))) refl (word_good p) $
     returns ! (look_at ! 0 refl) $ free_all ! refl $
-    block_in R ! (record { at = p; value = v.value }) $
+    pointer_in ! p (in_block R p v.value) $
     use0 𝓛 (raw (fact 𝓤 (v.value ≡ v.value))) (fact_i 𝓤 (v.value ≡ v.value) (emp 𝓤) refl) $
     nothing ! $ nothing ! $ fjoin ! $ keep ! (3 ∷ 0 ∷ 2 ∷ 1 ∷ []) $
     by ! (leaves 𝓛 En hs c z (word p) (record { at = p; value = v.value })

@@ -14,12 +14,11 @@ use Rattle.std_heap.proofs.GlobalAllocator.TheSendSync.{the_frees}
 use Rattle.sparse_algebra.specs.declared.scalar.wrapping.W64.{W64}
 use Rattle.sparse_factor.specs.Factors.{Factors}
 use Rattle.sparse_handles.proofs.handle.SharedFactors.TheSendSync.{the_send as shared_send}
-use Rattle.sparse_handles.specs.Owned.{heap}
-use Rattle.sparse_handles.specs.OwnedFactors.{owns_factors_at}
+use Rattle.sparse_handles.specs.Owned.{heap, owns_at}
 use Rattle.sparse_handles.specs.contracts.handle.FactorHandle.{the_row, the_type}
 use Rattle.sparse_handles.specs.contracts.handle.SharedFactors.{the_row as shared_row}
 
-owned : (p : Ptr) (x : Option (Factors W64)) → Keyless (owns_factors_at p x)
+owned : (p : Ptr) (x : Option (Factors W64)) → Keyless (owns_at shared_row p x)
 owned p None = tt
 owned p (Some m) =
     (lies shared_row shared_send p m, the_frees.frees heap (raw (lone shared_row.mir)) p)

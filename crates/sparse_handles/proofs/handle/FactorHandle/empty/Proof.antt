@@ -12,8 +12,9 @@ use denote.Triple.Entry.{on_entry}
 use denote.Triple.Walked.{Stays, walk_of, says, ends_at}
 use Rattle.std.specs.declared.option.Option.TheVariants.{None}
 use Rattle.std.proofs.raw_atomic.Walks.{proved}
-use Rattle.sparse_handles.proofs.FactorSteps.{handle_in}
-use Rattle.sparse_handles.proofs.HandleSteps.{word}
+use Rattle.sparse_handles.proofs.HandleSteps.{pointer_in, word}
+use Rattle.sparse_handles.specs.Owned.{owns_at}
+use Rattle.sparse_handles.specs.contracts.handle.SharedFactors.{the_row as shared_row}
 use Rattle.sparse_handles.specs.contracts.handle.FactorHandle.empty as f
 use Rattle.sparse_handles.proofs.handle.FactorHandle.empty.Statement.{statement}
 use Rattle.sparse_handles.proofs.handle.FactorHandle.empty.Code as code
@@ -36,5 +37,5 @@ empty_spec 𝓤 𝓛 𝓜 𝓡 wired =
       value =
           None;
     }) tt tt) $ says ! refl $
-    feq_i ! Ptr null_ptr null_ptr refl $ handle_in ! (record { at = null_ptr; value = None }) $
+    feq_i ! Ptr null_ptr null_ptr refl $ pointer_in ! null_ptr (owns_at shared_row null_ptr None) $
     nothing ! $ nothing ! $ done !))

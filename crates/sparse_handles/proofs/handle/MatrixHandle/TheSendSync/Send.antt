@@ -18,7 +18,7 @@ use Rattle.sparse_handles.specs.Owned.{heap, owns_at}
 use Rattle.sparse_handles.specs.contracts.handle.MatrixHandle.{the_row, the_type}
 use Rattle.sparse_handles.specs.contracts.handle.SharedMatrix.{the_row as shared_row}
 
-owned : (p : Ptr) (x : Option (Compressed W64)) → Keyless (owns_at p x)
+owned : (p : Ptr) (x : Option (Compressed W64)) → Keyless (owns_at shared_row p x)
 owned p None = tt
 owned p (Some m) =
     (lies shared_row shared_send p m, the_frees.frees heap (raw (lone shared_row.mir)) p)

@@ -6,7 +6,7 @@ use seplogic.Ra.Ura.{Ura}
 use mathlib.Core.List.{not-mem-nil}
 use mir.Raw.{raw as bare}
 use mir.Val.{Val, of_list, has_ty}
-use base.Logic.{SProp, ent, sep, emp, via, fst∗, snd∗, never, never_e, id⊢}
+use base.Logic.{SProp, ent, sep, emp, id⊢}
 use base.Fml.{Lft, ftrue, flft}
 use base.Fraction.{full_share}
 use prog.Model.{Model}
@@ -16,21 +16,20 @@ use types.Logic.{Logic, sem}
 use types.Match.{live}
 use types.Tokens.{lft_new}
 use types.Kit.{‵, raw, ◌⊛◌, some, later, at_ret, ◌$◌, ◌∵◌, !, qed, await, by, drop}
-use types.Kit.{feq_i, feq_l, fjoin, fsplit, join, keep, move, pick, rewrite, split, use0, use1}
+use types.Kit.{feq_i, fjoin, fsplit, join, keep, move, pick, rewrite, split, use0, use1}
 use types.Run.{bin, lit, stop, fld, of_opd, no_more, and_then, first}
 use types.Run.{blocks, skips, branches, exec, returns, returns_within, enter}
 use types.ByLocal.{alloc_all, pass_all, free_all, look_at, get, get_in, lands_last, sets, env}
 use types.Part.{agg, sub, whole}
 use contract.BorrowLft.{◌⊑◌}
-use contract.Monad.{fact, fact_i, fact_use}
+use contract.Monad.{fact, fact_i}
 use contract.Running.{Running, tables}
 use denote.Exit.{no, yes}
 use denote.RattleType.{RattleType, owns}
-use denote.Memory.{lone}
 use denote.Param.{layout}
 use denote.Param.Laws.{arg_laws}
 use denote.Signature.{types_at, plain}
-use denote.RawPtr.{Ptr, block_ptr, null_ptr, ptr_val, Testable, tests_null, lies_at}
+use denote.RawPtr.{Ptr, block_ptr, null_ptr, ptr_val, Testable, tests_null}
 use denote.Steps.{heard, nothing, only}
 use denote.Triple.Call.{calls_at_last}
 use denote.Triple.Clauses.{Lasts, lasts}
@@ -49,18 +48,18 @@ use Rattle.std.proofs.raw_atomic.Walks.{proved_at, leaves}
 use Rattle.std_alloc.proofs.ResultValues.{and_tt}
 use Rattle.std_alloc.proofs.boxed.Box.from_raw.Met.{met}
 use Rattle.std_alloc.specs.contracts.boxed.Box.from_raw as from_raw
-use Rattle.std_heap.proofs.GlobalToken.{dealloc_token-Testable}
 use Rattle.std_heap.proofs.GlobalAllocator.TheImpl.Met.{passed}
 use Rattle.std_heap.proofs.Global.TheLaws.{the_row_laws as global_laws}
 use Rattle.std_heap.specs.contracts.Global.{the_row as global_row}
 use Rattle.std_heap.specs.contracts.GlobalAllocator.TheImpl.{ghosts, dict}
 use Rattle.std_heap.specs.declared.Global.{Global}
-use Rattle.sparse_handles.specs.Owned.{heap, in_block, owns_at}
+use Rattle.sparse_handles.specs.Owned.{in_block, owns_at}
 use Rattle.sparse_compressed.specs.Compressed.{Compressed}
 use Rattle.sparse_algebra.specs.declared.scalar.wrapping.W64.{W64}
 use Rattle.sparse_handles.proofs.handle.SharedMatrix.TheLaws.{the_row_laws as shared_laws}
 use Rattle.sparse_handles.specs.contracts.handle.SharedMatrix.{the_row as shared_row}
-use Rattle.sparse_handles.proofs.HandleSteps.{word, word_good, handle_out}
+use Rattle.sparse_handles.proofs.HandleSteps.{pointer_out, word, word_good}
+use Rattle.sparse_handles.proofs.HeldPointers.{at_pointer}
 use Rattle.sparse_handles.proofs.HeapBox.{drop_goes, heap_laws, heap_row, no_drop}
 use Rattle.sparse_handles.proofs.HeapBox.{passed_as, static, Boxed, boxed}
 use Rattle.sparse_handles.specs.contracts.handle.MatrixHandle.{the_row as handle_row}
@@ -188,33 +187,6 @@ module _ {M : Type 1} {𝓤 : Ura M} (𝓛 : Logic 𝓤) (𝓜 : Model 𝓤 𝓛
       by ! (leaves 𝓛 f.ended stayed (f.clauses 𝓛 𝓜.mem 𝓡.returns) (bound (Some x))
       (live 1 (of_list (u ∷ []))) (Some d) (tt, (tt, tt)) (tt, (tt, tt)))))))))))
 
-  module _ (h : Val) (fits : Good (layout global_row) h) where
-    abbrev Had : Option (Compressed W64) → Ptr → SProp 𝓤
-    Had x q = sep 𝓤 (sem 𝓛 (owns_at q x)) (sem 𝓛 (global_row.own_val a (h ∷ [])))
-
-    abbrev token : Ptr → SProp 𝓤
-    token q = sem 𝓛 (ghosts.dealloc_token heap (bare (lone shared_row.mir)) q)
-
-    -- nothing lies at null
-    at_block : (x : Compressed W64) (q : Ptr) → Testable q
-        → ent 𝓤 (Had (Some x) q) (Runs (Some x) q h)
-    at_block x (block_ptr b o) may = some_at x b o h fits may
-    at_block x null_ptr may =
-        via 𝓤 (never 𝓤) (via 𝓤 (sem 𝓛 (in_block shared_row null_ptr x))
-        (fst∗ 𝓤 (sem 𝓛 (in_block shared_row null_ptr x)) (sem 𝓛 (global_row.own_val a (h ∷ []))))
-        (fst∗ 𝓤 (never 𝓤) (token null_ptr))) (never_e 𝓤 (Runs (Some x) null_ptr h))
-
-    each : (x : Option (Compressed W64)) → ent 𝓤 (Had x p) (Runs x p h)
-    each None =
-        qed 𝓛 (‵ (owns_at p None) ∷ ‵ (global_row.own_val a (h ∷ [])) ∷ []) ∵ feq_l ! (λ e.
-        by ! (subst (λ (q : Ptr). ent 𝓤 (sem 𝓛 (global_row.own_val a (h ∷ []))) (Runs None q h))
-        (sym e) (none h fits)))
-    each (Some x) =
-        fact_use 𝓤 (Testable p) (via 𝓤 (token p) (via 𝓤 (sem 𝓛 (in_block shared_row p x))
-        (fst∗ 𝓤 (sem 𝓛 (in_block shared_row p x)) (sem 𝓛 (global_row.own_val a (h ∷ []))))
-        (snd∗ 𝓤 (sem 𝓛 (lies_at shared_row full_share p x)) (token p)))
-        (dealloc_token-Testable 𝓛 heap (bare (lone shared_row.mir)) p)) (λ may. at_block x p may)
-
 pub into_box_spec : {M : Type 1} → statement M
 into_box_spec 𝓤 𝓛 𝓜 𝓡 wired =
     let H = 𝓛.H in let 𝓣 = tables 𝓤 H 𝓜 𝓡 𝓡.env in let c = f.clauses 𝓛 𝓜.mem 𝓡.returns in
@@ -226,11 +198,11 @@ into_box_spec 𝓤 𝓛 𝓜 𝓡 wired =
     let d : handle_row.Denot = z.0.3.0 in let a : Global = z.0.3.1.0 in
     let us : List Val = z.0.4.0 in let vs : List Val = z.0.4.1.0 in
     let Post = (walk_of 𝓛 f.ended stayed c).post z in
-    let Had = sep 𝓤 (sem 𝓛 (owns_at d.at d.value)) in
+    let Had = sep 𝓤 (sem 𝓛 (owns_at shared_row d.at d.value)) in
     let Run = λ (ws : List Val). WpFn 𝓤 H 𝓣.C 𝓣.Λ code.function ws Post in
     qed 𝓛 ((‵ ftrue ⊛ ‵ (owns (types_at f.signature.params z.0.0) z.0.3 z.0.4))
     ∷ raw ((c z.0.0 z.0.3).requires z.1) ∷ []) ∵
-    split ! $ move ! (1 ∷ []) $ fsplit ! $ handle_out ! d us (λ eu.
+    split ! $ move ! (1 ∷ []) $ fsplit ! $ pointer_out ! d.at (owns_at shared_row d.at d.value) us (λ eu.
     move ! (1 ∷ []) $ fsplit ! $
     handle_tells (record {
       row = global_row;
@@ -246,4 +218,7 @@ into_box_spec 𝓤 𝓛 𝓜 𝓡 wired =
     (Run (ws ++ (vs ++ [])))) (sym eu)
     (subst (λ (ws : List Val). ent 𝓤 (Had (sem 𝓛 (global_row.own_val a (h ∷ []))))
     (Run (word d.at ∷ (ws ++ [])))) (sym eh)
-    (each 𝓛 𝓜 𝓡 wired d.at a us vs h fits d.value))))))
+    (at_pointer 𝓛 shared_row (global_row.own_val a (h ∷ []))
+    (λ x q. Runs 𝓛 𝓜 𝓡 wired d.at a us vs x q h)
+    (none 𝓛 𝓜 𝓡 wired d.at a us vs h fits)
+    (λ x b o. some_at 𝓛 𝓜 𝓡 wired d.at a us vs x b o h fits) d.at d.value))))))
