@@ -1,6 +1,6 @@
 //! The handles, and the matrix or the factors behind them.
 
-ghost use Rattle.std.specs.Prelude.{◌≡◌, Option, None, Some};
+ghost use Rattle.std.specs.Prelude.{◌≡◌, MatchOption, Option, None, Some};
 ghost use Rattle.sparse_algebra.specs.declared.scalar.wrapping.W64.{W64 as W64Value};
 ghost use Rattle.sparse_compressed.specs.Compressed.{Compressed};
 ghost use Rattle.sparse_handles.specs.Owned.{held_code, in_block, owns_at, value_of};
@@ -53,6 +53,14 @@ impl<T: Drop> Block<T> {
         let at = Box::into_raw(boxed);
         Block { at }
     }
+
+    /// Returns the box of the value.
+    fn into_box(self, alloc: Global) -> Box<T>
+        ensures { result.value ≡ self.value }
+    {
+        let Block { at } = self;
+        unsafe { Box::from_raw(alloc, at) }
+    }
 }
 
 /// A matrix that the library owns, or none: what C holds as one pointer, which is null if there is none.
@@ -91,12 +99,23 @@ impl MatrixHandle {
     pub(crate) fn into_box(self, alloc: Global) -> Option<Box<SharedMatrix>>
         ensures { value_of result ≡ self.value }
     {
+        match self.into_block() {
+            None => None,
+            Some(block) => Some(block.into_box(alloc)),
+        }
+    }
+
+    // Returns the block of the matrix, if there is one.
+    fn into_block(self) -> Option<Block<SharedMatrix>>
+        ensures { MatchOption result (self.value ≡ None) (λ b. self.value ≡ Some b.value) }
+    {
         let MatrixHandle { at } = self;
         if at.is_null() {
             return None;
         }
-        let boxed = unsafe { Box::from_raw(alloc, at as *mut SharedMatrix) };
-        Some(boxed)
+        Some(Block {
+            at: at as *mut SharedMatrix,
+        })
     }
 }
 
@@ -155,11 +174,22 @@ impl FactorHandle {
     pub(crate) fn into_box(self, alloc: Global) -> Option<Box<SharedFactors>>
         ensures { value_of result ≡ self.value }
     {
+        match self.into_block() {
+            None => None,
+            Some(block) => Some(block.into_box(alloc)),
+        }
+    }
+
+    // Returns the block of the factors, if there are any.
+    fn into_block(self) -> Option<Block<SharedFactors>>
+        ensures { MatchOption result (self.value ≡ None) (λ b. self.value ≡ Some b.value) }
+    {
         let FactorHandle { at } = self;
         if at.is_null() {
             return None;
         }
-        let boxed = unsafe { Box::from_raw(alloc, at as *mut SharedFactors) };
-        Some(boxed)
+        Some(Block {
+            at: at as *mut SharedFactors,
+        })
     }
 }
