@@ -1,4 +1,4 @@
--- The machine values of the handles and of a `Block`, each of which is one pointer. Assumes `Logic`.
+-- The machine values of the handles and of a `Block`, which are one pointer. Assumes `Logic`.
 --     pointer_good              a pointer has its type
 --     word p                    the machine value at the pointer p
 --     word_good                 it has the type of a handle and of a block

@@ -1,4 +1,4 @@
--- What holds where a handle is null and where it points to a block holds of each handle. Assumes `Logic`.
+-- What holds at null and at a pointer to a block holds of each handle. Assumes `Logic`.
 use Rattle.std.proofs.Common.{ℕ, [], ◌∷◌, sym, subst}
 use seplogic.Ra.Ura.{Ura}
 use mir.Raw.{raw as bare}

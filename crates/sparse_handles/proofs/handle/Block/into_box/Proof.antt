@@ -94,7 +94,8 @@ into_box_spec {M} 𝓤 𝓛 𝓜 𝓡 wired T L dx glue =
     })
     ! a z.0.4.1.0 (λ h eh fits.
     -- [the allocator; nothing; the block; the token; nothing; the bound of κ]
-    regoal ! (λ (ws : List Val). prop (WpFn 𝓤 H 𝓣.C 𝓣.Λ fn (ws ++ (z.0.4.1.0 ++ [])) Post)) eu refl $
+    regoal ! (λ (ws : List Val). prop (WpFn 𝓤 H 𝓣.C 𝓣.Λ fn (ws ++ (z.0.4.1.0 ++ [])) Post)) eu
+    refl $
     regoal ! (λ (ws : List Val). prop (WpFn 𝓤 H 𝓣.C 𝓣.Λ fn (word at ∷ (ws ++ [])) Post)) eh refl $
     keep ! (3 ∷ 2 ∷ 0 ∷ 5 ∷ []) $
     let y : k.Ghost = (

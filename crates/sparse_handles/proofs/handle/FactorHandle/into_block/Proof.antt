@@ -35,7 +35,8 @@ use Rattle.sparse_handles.specs.Owned.{in_block, owns_at}
 use Rattle.sparse_factor.specs.Factors.{Factors}
 use Rattle.sparse_algebra.specs.declared.scalar.wrapping.W64.{W64}
 use Rattle.sparse_handles.specs.contracts.handle.SharedFactors.{the_row as shared_row}
-use Rattle.sparse_handles.proofs.HandleSteps.{pointer_good, pointer_in, pointer_out, word, word_good}
+use Rattle.sparse_handles.proofs.HandleSteps.{pointer_good, pointer_in, pointer_out, word}
+use Rattle.sparse_handles.proofs.HandleSteps.{word_good}
 use Rattle.sparse_handles.proofs.HeldPointers.{at_pointer}
 use Rattle.sparse_handles.specs.contracts.handle.Block as block
 use Rattle.sparse_handles.specs.contracts.handle.FactorHandle.{the_row as handle_row}

@@ -43,14 +43,16 @@ of_spec 𝓤 𝓛 𝓜 𝓡 wired =
     let made : handle_row.Denot = record { at = v.at; value = Some v.value } in
     qed 𝓛 ((‵ ftrue ⊛ ‵ (owns (types_at f.signature.params z.0.0) z.0.3 z.0.4))
     ∷ raw ((c z.0.0 z.0.3).requires z.1) ∷ []) ∵
-    split ! $ move ! (1 ∷ []) $ fsplit ! $ pointer_out ! v.at (in_block shared_row v.at v.value) z.0.4.0 (λ is.
+    split ! $ move ! (1 ∷ []) $ fsplit ! $
+    pointer_out ! v.at (in_block shared_row v.at v.value) z.0.4.0 (λ is.
     regoal ! (λ (vs : List Val). prop (WpFn 𝓤 H 𝓣.C 𝓣.Λ code.function (vs ++ []) Post)) is refl $
     enter ! _ _ _ _ _ $
     alloc_all ! (λ l. pass_all ! refl (word_good v.at, tt) $
     sets ! (of_opd ! (get_in ! (fld ! refl (stop !)) (sub ! 0 refl (whole !)))) refl
     (pointer_good v.at) $ sets ! (of_opd ! (get ! refl)) refl (pointer_good v.at) $
     sets ! (agg ! (and_then ! (get ! refl) (no_more !))) refl (word_good v.at) $
-    pointer_in ! v.at (owns_at shared_row v.at (Some v.value)) $ use0 𝓛 (raw (fact 𝓤 (Some v.value ≡ Some v.value)))
+    pointer_in ! v.at (owns_at shared_row v.at (Some v.value)) $
+    use0 𝓛 (raw (fact 𝓤 (Some v.value ≡ Some v.value)))
     (fact_i 𝓤 (Some v.value ≡ Some v.value) (emp 𝓤) refl) $ nothing ! $ nothing ! $ fjoin ! $
     nothing ! $ returns ! (look_at ! 0 refl) $ free_all ! refl $ keep ! (0 ∷ 1 ∷ 3 ∷ 2 ∷ []) $
     by ! (leaves 𝓛 f.ended stayed c z (word v.at) made (tt, tt) (tt, tt)))))
