@@ -143,7 +143,8 @@ module _ {R : CommRing} {T : Type 0} {f : T → R.Carrier} {z : T} {lower l : Co
     none_above i less place = let le = s.done.filled.lower j i place in omega (arith, le, less)
 
     -- what is left outside the places of L is zero
-    left_nothing : (i : ℕ) → j ≤ i → i < n → (IsPlace l.pattern j i → ⊥) → f (get_or left i z) ≡ R.zero
+    left_nothing : (i : ℕ) → j ≤ i → i < n → (IsPlace l.pattern j i → ⊥)
+        → f (get_or left i z) ≡ R.zero
     left_nothing i le within none =
         let v = plain_of_cols R f l in
         let closed = set-closed R f l s.done.sound s.done.filled in

@@ -67,8 +67,8 @@ first_cursors p valid k lane = record {
   behind = λ q from to. omega arith;
 }
 
--- the columns of the entries of row j from position q on have their cursors at row j, and all others
--- past it
+-- the columns of the entries of row j from position q on have their cursors at row j, and all
+-- others past it
 pub record AreCursorsAt (p : Raw) (j : ℕ) (row : List ℕ) (q : ℕ) (cursors : List ℕ) : Type 0 where
   pub waiting : (r : ℕ) → q ≤ r → r < length row
       → IsCursor p j (slice_index row r) (slice_index cursors (slice_index row r))

@@ -29,8 +29,8 @@ module _ (R : CommRing) (n j : ℕ) (l : ℕ → ℕ → R.Carrier) (d : ℕ →
       ap (λ s. R.add s (w i)) (sum_below-past R m k (term R l d i j) le (λ c from to.
       mul_off_right R (R.mul (l i c) (d c)) (l j c) (off c from to))) ∙ h i low lt
 
-  -- the entries of row j are in the columns `row`; get_or row q j is the column of entry q, and j past
-  -- the last entry
+  -- the entries of row j are in the columns `row`; get_or row q j is the column of entry q, and j
+  -- past the last entry
   module _ (row : List ℕ)
       (rising : (p q : ℕ) → p < q → q < length row → slice_index row p < slice_index row q)
       (off : (c : ℕ) → ((p : ℕ) → p < length row → slice_index row p ≢ c) → l j c ≡ R.zero) where

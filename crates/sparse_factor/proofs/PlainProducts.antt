@@ -61,7 +61,8 @@ module _ (R : CommRing) where
           upper = upper;
           pivots = h.pivots;
           columns = λ i c lt le within.
-              sym (whole R f m.rows i c l.value d lt (unit c lt) (λ k more in_m. upper c k in_m more))
+              sym (whole R f m.rows i c l.value d lt (unit c lt)
+              (λ k more in_m. upper c k in_m more))
               ∙ ap (λ n. sum_below R n (term R l.value d i c)) (sym cols)
               ∙ sym (ldl-value l d i c) ∙ h.equation i c within lt;
         }

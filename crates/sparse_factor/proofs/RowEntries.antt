@@ -1,6 +1,7 @@
 -- Row j of L while it is read: column after column is taken off, from its entry in row j on.
 use Rattle.std.proofs.Common.{◌≡◌, ℕ, ◌+◌, ◌<◌, ◌≤◌, inl, inr, List, length, get_or, set}
-use Rattle.std.proofs.Common.{length-set, slice_index, slice_range, ap, sym, ◌∙◌, refl, arith, All, subst}
+use Rattle.std.proofs.Common.{length-set, slice_index, slice_range, ap, sym, ◌∙◌, refl, arith, All}
+use Rattle.std.proofs.Common.{subst}
 use Rattle.std.proofs.lemmas.List.{get_or_default, get_or_past}
 use Rattle.sparse_algebra.proofs.Cases.{lt_or_ge}
 use Rattle.sparse_algebra.specs.Algebra.{CommRing}
@@ -91,7 +92,8 @@ module _ {R : CommRing} {T : Type 0} {f : T → R.Carrier} {z : T} {m : Compress
     pub entry_rows : All (λ i. i < length w)
         (slice_range m.pattern.indices c (end_of m.pattern k))
     entry_rows = subst (λ n. All (λ i. i < n) (slice_range m.pattern.indices c
-        (end_of m.pattern k))) (sym (s.long ∙ s.rows ∙ sym s.square)) (cut_inside R f z s.sound lane cursor)
+        (end_of m.pattern k))) (sym (s.long ∙ s.rows ∙ sym s.square))
+        (cut_inside R f z s.sound lane cursor)
 
     entry_value : (plain_of_cols R f m).value j k ≡ f (get_or m.values c z)
     entry_value = place_value R f s.sound z (record {
