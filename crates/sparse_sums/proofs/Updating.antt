@@ -72,7 +72,8 @@ transposed_proper R f a true = proper_transpose R (plain_of_rows R f a) (proper_
 transposed_proper R f a false = proper_rows R f a
 
 -- what holds at Ok, from what is known there
-pub on_ok_also : {X E : Type 0} (r : Result X E) {P Q : Type 0} → (IsOk r → P → Q) → OnOk r P → OnOk r Q
+pub on_ok_also : {X E : Type 0} (r : Result X E) {P Q : Type 0} → (IsOk r → P → Q) → OnOk r P
+    → OnOk r Q
 on_ok_also (Ok x) h p = h refl p
 on_ok_also (Err e) h p = tt
 

@@ -25,9 +25,9 @@ returns-in-Transpose g c =
     let lent = c.pattern_and_values_mut-values.ensures in
     let done = c.add_into-in-Transpose.ensures in
     let summed = cols_summed g.T.Ring.ring f g.T.Zero.zero_value c.values.ensures.sound
-    done.sound c.cs-in-Transpose.ensures.core lent.pattern lent.values true c.add_into-in-Transpose.result
-    (f c.args.beta) (f c.args.alpha) c.add_into-in-Transpose.new.values done.covered done.count
-    done.unchanged done.added in
+    done.sound c.cs-in-Transpose.ensures.core lent.pattern lent.values true
+    c.add_into-in-Transpose.result (f c.args.beta) (f c.args.alpha)
+    c.add_into-in-Transpose.new.values done.covered done.count done.unchanged done.added in
     rw c.in-Transpose.is (record {
       covered = summed.covered;
       kind = done.kind;

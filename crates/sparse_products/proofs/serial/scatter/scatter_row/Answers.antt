@@ -81,7 +81,8 @@ returns g c =
     let alpha = f c.args.update.now.alpha in
     let row = c.add_product_row.new.target in
     let is_row : (j : ℕ) → j < length row → f (get_or row j z) ≡ R.mul alpha (x i j) = λ j lt.
-    c.add_product_row.ensures.added.added j j refl (omega (arith, lt, c.add_product_row.auto.target))
+    c.add_product_row.ensures.added.added j j refl
+    (omega (arith, lt, c.add_product_row.auto.target))
     ∙ ap (λ y. R.add y (R.mul alpha (x i j))) (c.requires.zero j)
     ∙ zero_add R (R.mul alpha (x i j)) in
     let gathered = rw (offsets_are, c.lane.ensures) at c.gather_row.ensures.gathered in
