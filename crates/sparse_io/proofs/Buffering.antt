@@ -16,91 +16,92 @@ middle : (a b c d e f : List ℕ) → a ≡ b ++ c → c ++ d ≡ e ++ f → a +
 middle a b c d e f p q = ap (λ l. l ++ d) p ∙ append_assoc b c d ∙ ap (λ l. b ++ l) q
     ∙ sym (append_assoc b e f)
 
+abbrev Triplets : Type 0 → Type 0
+Triplets V = List (ℕ × ℕ × V)
+
+abbrev lines : {V : Type 0} → (V → List ℕ) → Triplets V → List ℕ
+lines text ts = flat_map (triplet_line text) ts
+
 module _ {V : Type 0} (name : List ℕ) (text : V → List ℕ) (m : Coo V) where
-  abbrev Triplets : Type 0
-  Triplets = List (ℕ × ℕ × V)
-
-  abbrev lines : Triplets → List ℕ
-  lines ts = flat_map (triplet_line text) ts
-
-  abbrev begun : Triplets → List ℕ
-  begun ts = head_of name m ++ lines ts
+  abbrev begun : Triplets V → List ℕ
+  begun ts = head_of name m ++ lines text ts
 
   -- the head, and the lines of the triplets before those that are left
-  pub record IsBegun (bytes : List ℕ) (left : Triplets) : Type 0 where
-    pub front : Triplets
+  pub record IsBegun (bytes : List ℕ) (left : Triplets V) : Type 0 where
+    pub front : Triplets V
     pub order : m.triplets ≡ front ++ left
     pub is : bytes ≡ begun front
 
-  pub IsBegun-none : (bytes : List ℕ) (left : Triplets) → bytes ≡ head_of name m → left ≡ m.triplets
-      → IsBegun bytes left
-  IsBegun-none bytes left b l = record {
+  -- the head, and the lines of the triplets before those that are left, went to the sink, but for
+  -- what the buffer holds
+  pub record IsWriting (old new : Option (List ℕ)) (buffer : List ℕ) (left : Triplets V) : Type
+      0 where
+    pub bytes : List ℕ
+    pub begun : IsBegun bytes left
+    pub buffered : IsBuffered old new buffer bytes
+
+module _ {V : Type 0} {name : List ℕ} {text : V → List ℕ} {m : Coo V} where
+  pub IsBegun-none : {bytes : List ℕ} {left : Triplets V} → bytes ≡ head_of name m → left ≡ m.triplets
+      → IsBegun name text m bytes left
+  IsBegun-none b l = record {
     front = [];
     order = sym l;
     is = b
         ∙ sym (append-nil (head_of name m));
   }
 
-  pub IsBegun-more : (bytes : List ℕ) (t : ℕ × ℕ × V) (left left' : Triplets) → IsBegun bytes left
+  pub IsBegun-more : {bytes : List ℕ} {t : ℕ × ℕ × V} {left left' : Triplets V} → IsBegun name text m bytes left
       → left ≡ t ∷ left'
-      → IsBegun (bytes ++ triplet_line text t) left'
-  IsBegun-more bytes t left left' b e =
+      → IsBegun name text m (bytes ++ triplet_line text t) left'
+  IsBegun-more {bytes} {t} {left} {left'} b e =
       record {
         front = b.front ++ t ∷ [];
         order = b.order ∙ ap (λ ts. b.front ++ ts) e ∙ sym (append_assoc b.front (t ∷ []) left');
-        is = ap (λ l. l ++ triplet_line text t) b.is ∙ append_assoc (head_of name m) (lines b.front)
+        is = ap (λ l. l ++ triplet_line text t) b.is ∙ append_assoc (head_of name m) (lines text b.front)
             (triplet_line text t)
-            ∙ ap (λ l. head_of name m ++ (lines b.front ++ l))
+            ∙ ap (λ l. head_of name m ++ (lines text b.front ++ l))
             (sym (append-nil (triplet_line text t)))
             ∙ ap (λ l. head_of name m ++ l)
             (sym (flat_map-append (triplet_line text) b.front (t ∷ [])));
       }
 
   -- the lines of the triplets that are left come next
-  pub text_of-begun : (bytes : List ℕ) (left : Triplets) → IsBegun bytes left
-      → text_of name text m ≡ bytes ++ lines left
+  pub text_of-begun : {bytes : List ℕ} {left : Triplets V} → IsBegun name text m bytes left
+      → text_of name text m ≡ bytes ++ lines text left
   unfolding written_text
-  text_of-begun bytes left b =
+  text_of-begun {bytes} {left} b =
       sym (append_assoc (heading name) (size_line m.nrows m.ncols (length m.triplets))
-      (lines m.triplets))
-      ∙ ap begun b.order ∙ ap (λ l. head_of name m ++ l)
+      (lines text m.triplets))
+      ∙ ap (begun name text m) b.order ∙ ap (λ l. head_of name m ++ l)
       (flat_map-append (triplet_line text) b.front left)
-      ∙ sym (append_assoc (head_of name m) (lines b.front) (lines left))
-      ∙ ap (λ l. l ++ lines left) (sym b.is)
+      ∙ sym (append_assoc (head_of name m) (lines text b.front) (lines text left))
+      ∙ ap (λ l. l ++ lines text left) (sym b.is)
 
-  pub IsBegun-all : (bytes : List ℕ) (left : Triplets) → IsBegun bytes left → left ≡ []
+  pub IsBegun-all : {bytes : List ℕ} {left : Triplets V} → IsBegun name text m bytes left → left ≡ []
       → bytes ≡ text_of name text m
-  IsBegun-all bytes left b none = sym (text_of-begun bytes left b
-      ∙ ap (λ ts. bytes ++ lines ts) none ∙ append-nil bytes)
+  IsBegun-all {bytes} b none = sym (text_of-begun b
+      ∙ ap (λ ts. bytes ++ lines text ts) none ∙ append-nil bytes)
 
-  -- what the text has before the triplets that are left went to the sink, but for what the buffer
-  -- holds
-  pub record IsWriting (old new : Option (List ℕ)) (buffer : List ℕ) (left : Triplets) : Type
-      0 where
-    pub bytes : List ℕ
-    pub begun : IsBegun bytes left
-    pub buffered : IsBuffered old new buffer bytes
-
-  pub IsWriting-none : (old : Option (List ℕ)) (buffer : List ℕ) (left : Triplets)
-      → buffer ≡ head_of name m → left ≡ m.triplets → IsWriting old old buffer left
-  IsWriting-none old buffer left b l =
+  pub IsWriting-none : {old : Option (List ℕ)} {buffer : List ℕ} {left : Triplets V}
+      → buffer ≡ head_of name m → left ≡ m.triplets → IsWriting name text m old old buffer left
+  IsWriting-none {old} {buffer} b l =
       record {
         bytes = buffer;
-        begun = IsBegun-none buffer left b l;
+        begun = IsBegun-none b l;
         buffered =
             record { done = []; parts = refl; appended = Appends-nil old };
       }
 
-  pub IsWriting-more : (old mid new : Option (List ℕ)) (buffer buffer' : List ℕ) (t : ℕ × ℕ × V)
-      (left left' : Triplets)
-      → IsWriting old mid buffer left
+  pub IsWriting-more : {old mid new : Option (List ℕ)} {buffer buffer' : List ℕ} {t : ℕ × ℕ × V}
+      {left left' : Triplets V}
+      → IsWriting name text m old mid buffer left
       → left ≡ t ∷ left' → IsBuffered mid new buffer' (buffer ++ triplet_line text t)
-      → IsWriting old new buffer' left'
-  IsWriting-more old mid new buffer buffer' t left left' w e b =
+      → IsWriting name text m old new buffer' left'
+  IsWriting-more {old} {mid} {new} {buffer} {buffer'} {t} w e b =
       let d = w.buffered in
       record {
         bytes = w.bytes ++ triplet_line text t;
-        begun = IsBegun-more w.bytes t left left' w.begun e;
+        begun = IsBegun-more w.begun e;
         buffered = record {
           done = d.done ++ b.done;
           parts = middle w.bytes d.done buffer (triplet_line text t) b.done buffer' d.parts b.parts;
@@ -109,25 +110,25 @@ module _ {V : Type 0} (name : List ℕ) (text : V → List ℕ) (m : Coo V) wher
       }
 
   -- the sink takes the buffer, and no triplet is left
-  pub IsWriting-all : (old mid new : Option (List ℕ)) (buffer : List ℕ) (left : Triplets)
-      → IsWriting old mid buffer left
+  pub IsWriting-all : (new : Option (List ℕ)) {old mid : Option (List ℕ)} {buffer : List ℕ} {left : Triplets V}
+      → IsWriting name text m old mid buffer left
       → left ≡ [] → Appends mid new buffer → Appends old new (text_of name text m)
-  IsWriting-all old mid new buffer left w none h =
+  IsWriting-all new {old} {mid} {buffer} w none h =
       let d = w.buffered in
-      subst (Appends old new) (sym d.parts ∙ IsBegun-all w.bytes left w.begun none)
+      subst (Appends old new) (sym d.parts ∙ IsBegun-all w.begun none)
       (Appends-trans old mid new d.done buffer d.appended h)
 
   -- the sink refuses a part of the buffer
-  pub IsWriting-refused : (old mid new : Option (List ℕ)) (buffer : List ℕ) (left : Triplets)
-      → IsWriting old mid buffer left
+  pub IsWriting-refused : {old mid new : Option (List ℕ)} {buffer : List ℕ} {left : Triplets V}
+      → IsWriting name text m old mid buffer left
       → AppendsSome mid new buffer → AppendsSome old new (text_of name text m)
-  IsWriting-refused old mid new buffer left w h =
+  IsWriting-refused {old} {mid} {new} {buffer} {left} w h =
       let d = w.buffered in
-      let more = lines left in
+      let more = lines text left in
       record {
         done = d.done ++ h.done;
         rest = h.rest ++ more;
-        parts = text_of-begun w.bytes left w.begun
+        parts = text_of-begun w.begun
             ∙ middle w.bytes d.done buffer more h.done (h.rest ++ more) d.parts
             (ap (λ l. l ++ more) h.parts ∙ append_assoc h.done h.rest more);
         appended = Appends-trans old mid new d.done h.done d.appended h.appended;

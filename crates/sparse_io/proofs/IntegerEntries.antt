@@ -12,39 +12,39 @@ use Rattle.sparse_parser.proofs.NumberLaws.{index-number, integer-number}
 use Rattle.sparse_parser.proofs.LineShapes.{entry_1, entry_2, entry_3}
 use Rattle.sparse_io.specs.InnerEntries.{IsMeant, triplets_at}
 
-module _ (S : Scalar) (h : Header) (at : Option (ℕ × ℕ)) where
-  pub integer_meant : (text rest : List ℕ) (row col : ℕ) (value : ℤ)
-      (given : Read (List (Triplet S.Value)))
+module _ (S : Scalar) (h : Header) {at : Option (ℕ × ℕ)} where
+  pub integer_meant : {text rest : List ℕ} {row col : ℕ} {value : ℤ}
+      {given : Read (List (Triplet S.Value))}
       → h.format ≡ Coordinate → h.field ≡ Integer → IsIntegerLine text row col value rest
       → given ≡ triplets_at S h.symmetry (place_of (Ok row) (Ok col)) (S.from_number value)
       → IsMeant S h at text given rest
   unfolding triplets_of entry_of field_value
-  integer_meant text rest row col value given f g l e = record {
+  integer_meant f g l e = record {
     is = ap is_entry l.words ∙ entry_3 _ _ _ l.row_index l.col_index (integer-number _ l.integer);
     means = e ∙ sym (rw (l.words, f, g, l.row_index, l.col_index, l.row_is, l.col_is, l.value_is)
         refl);
     after_line = l.after_line;
   }
 
-  pub place_meant : (text rest : List ℕ) (row col : ℕ) (given : Read (List (Triplet S.Value)))
+  pub place_meant : {text rest : List ℕ} {row col : ℕ} {given : Read (List (Triplet S.Value))}
       → h.format ≡ Coordinate → h.field ≡ Pattern → IsPlaceLine text row col rest
       → given ≡ triplets_at S h.symmetry (place_of (Ok row) (Ok col)) S.from_pattern
       → IsMeant S h at text given rest
   unfolding triplets_of entry_of field_value
-  place_meant text rest row col given f g l e = record {
+  place_meant f g l e = record {
     is = ap is_entry l.words ∙ entry_2 _ _ (index-number _ l.row_index)
         (index-number _ l.col_index);
     means = e ∙ sym (rw (l.words, f, g, l.row_index, l.col_index, l.row_is, l.col_is) refl);
     after_line = l.after_line;
   }
 
-  pub value_meant : (text rest : List ℕ) (value : ℤ) (place : ℕ × ℕ)
-      (given : Read (List (Triplet S.Value)))
+  pub value_meant : {text rest : List ℕ} {value : ℤ} {place : ℕ × ℕ}
+      {given : Read (List (Triplet S.Value))}
       → h.format ≡ Array → h.field ≡ Integer → at ≡ Some place → IsValueLine text value rest
       → given ≡ triplets_at S h.symmetry (Ok place) (S.from_number value)
       → IsMeant S h at text given rest
   unfolding triplets_of entry_of field_value
-  value_meant text rest value place given f g p l e = record {
+  value_meant f g p l e = record {
     is = ap is_entry l.words ∙ entry_1 _ (integer-number _ l.integer);
     means = e ∙ sym (rw (l.words, f, g, p, l.value_is) refl);
     after_line = l.after_line;

@@ -13,7 +13,7 @@ pub use export::{ExportIter, MatrixMarketExport};
 pub use files::{load_coo_from_matrix_market_file, save_to_matrix_market_file};
 pub use laws::{each_text_means, one_document, one_meaning, round_trip};
 pub use out::Out;
-pub use reader::load_coo_from_matrix_market_str;
+pub use reader::{count_entries, load_coo_from_matrix_market_str};
 pub use sinks::{Sink, write_all_to};
 pub use sparse_market_scalar::MatrixMarketScalar;
 pub use sparse_parser::error::{MatrixMarketError, MatrixMarketErrorKind};

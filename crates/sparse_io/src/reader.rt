@@ -127,8 +127,10 @@ fn settled(
     }
 }
 
-// Counts the data lines of a text. Returns `None` if one of its lines is not a data line.
-fn count_entries(text: &[u8]) -> Option<usize>
+/// Returns the number of data lines of the text below a size line, or `None` if one of its lines is not a data line.
+///
+/// Lines that are blank or comments are skipped.
+pub fn count_entries(text: &[u8]) -> Option<usize>
     ensures { result ≡ count_of (contents_of text.now) }
 {
     let mut rest = next_line(text);

@@ -1,11 +1,11 @@
 use Rattle.std.proofs.Common.{inr}
-use Rattle.sparse_io.proofs.EntryLoop.{fault_is}
+use Rattle.sparse_io.proofs.LineRuns.{fault_is}
 use Rattle.sparse_io.proofs.Parts.{read_no_header, read_header, Gives-along}
 use Rattle.sparse_io.proofs.reader.document.Goals as goal
 
 pub returns-in-None : goal.returns-in-None
 returns-in-None g c =
-    inr (fault_is _ _ _ (read_no_header g.T.MatrixMarketScalar.scalar c.args.text.now _ _ _
+    inr (fault_is (read_no_header g.T.MatrixMarketScalar.scalar c.args.text.now _ _ _
     c.after_space.ensures c.split_line.ensures.line c.split_line.ensures.rest c.in-None.ensures)
     c.new.ensures)
 

@@ -8,31 +8,29 @@ use Rattle.sparse_io.proofs.writer.save_to_matrix_market.Goals as goal
 pub loop-row-init : goal.loop-row-init
 loop-row-init g c = record {
   unfailed = refl;
-  writing = IsWriting-none _ _ _ _ _ _ (search rules)
-      (search rules);
+  writing = IsWriting-none (search rules) (search rules);
 }
 
 pub loop-row-preserved : goal.loop-row-preserved
 loop-row-preserved g c = record {
   unfailed = c.in_ok-put_triplet.ensures.unfailed ∙ c.loop-row.invariant.unfailed;
-  writing = IsWriting-more _ _ _ _ _ _ _ _ _ _ _ c.loop-row.invariant.writing
-      c.in-Some.ensures.steps c.in_ok-put_triplet.ensures.buffered;
+  writing = IsWriting-more c.loop-row.invariant.writing c.in-Some.ensures.steps
+      c.in_ok-put_triplet.ensures.buffered;
 }
 
 pub returns-in_err-put_triplet-clause-prefix : goal.returns-in_err-put_triplet-clause-prefix
 returns-in_err-put_triplet-clause-prefix g c =
     let p = err_from_is_err_and c.from_residual-in_err-put_triplet.result
     c.from_residual-in_err-put_triplet.ensures.1 in
-    rw (p.1) (IsWriting-refused _ _ _ _ _ _ _ _ c.loop-row.invariant.writing
-    c.in_err-put_triplet.ensures.prefix)
+    rw (p.1) (IsWriting-refused c.loop-row.invariant.writing c.in_err-put_triplet.ensures.prefix)
 
 pub returns-clause-ok : goal.returns-clause-ok
-returns-clause-ok g c = on_ok-map c.flush.result (IsWriting-all _ _ _ _ _ _ _ _
-    c.loop-row.invariant.writing c.in-None.ensures.steps.0) c.flush.ensures.all
+returns-clause-ok g c = on_ok-map c.flush.result
+    (IsWriting-all _ c.loop-row.invariant.writing c.in-None.ensures.steps.0) c.flush.ensures.all
 
 pub returns-clause-prefix : goal.returns-clause-prefix
-returns-clause-prefix g c = on_err-map c.flush.result (IsWriting-refused _ _ _ _ _ _ _ _
-    c.loop-row.invariant.writing) c.flush.ensures.prefix
+returns-clause-prefix g c = on_err-map c.flush.result
+    (IsWriting-refused c.loop-row.invariant.writing) c.flush.ensures.prefix
 
 pub returns-in_err-put_triplet-clause-refused : goal.returns-in_err-put_triplet-clause-refused
 returns-in_err-put_triplet-clause-refused g c =

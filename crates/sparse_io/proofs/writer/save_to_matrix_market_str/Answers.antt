@@ -4,14 +4,14 @@ use Rattle.sparse_io.proofs.Buffering.{IsBegun-none, IsBegun-more, IsBegun-all}
 use Rattle.sparse_io.proofs.writer.save_to_matrix_market_str.Goals as goal
 
 pub loop-row-init : goal.loop-row-init
-loop-row-init g c = IsBegun-none _ _ _ _ _ (search rules) (search rules)
+loop-row-init g c = IsBegun-none (search rules) (search rules)
 
 pub loop-row-preserved : goal.loop-row-preserved
 loop-row-preserved g c = rw c.in_ok-push_triplet.ensures
-    (IsBegun-more _ _ _ _ _ _ _ c.loop-row.invariant c.in-Some.ensures.steps)
+    (IsBegun-more c.loop-row.invariant c.in-Some.ensures.steps)
 
 pub returns : goal.returns
-returns g c = IsBegun-all _ _ _ _ _ c.loop-row.invariant c.in-None.ensures.steps.0
+returns g c = IsBegun-all c.loop-row.invariant c.in-None.ensures.steps.0
 
 -- ---- written by tools/answer-goals
 
