@@ -1,5 +1,5 @@
 -- Quotients by an integer, and the arrays that hold them.
-use Rattle.std.proofs.Common.{◌≡◌, ◌≢◌, ℕ, ℤ, pos, Result, inr, ap, sym, subst, refl}
+use Rattle.std.proofs.Common.{◌≡◌, ◌≢◌, ℕ, ℤ, pos, Result, ap, sym, subst, refl}
 use Rattle.std.specs.Prelude.{IfOk, IfErr, MatchResult, OnErr, OnOk}
 use Rattle.sparse_algebra.specs.Algebra.{CommRing}
 use Rattle.sparse_algebra.specs.Integers.{element_of}

@@ -1,11 +1,11 @@
 -- What a call does over the residues modulo m it does modulo m, and where m is not listed it leaves the arrays.
-use Rattle.std.specs.Prelude.{◌≡◌, ◌≤◌, ◌⊎◌, ℕ, ℤ, pos, List, refl}
+use Rattle.std.specs.Prelude.{◌≡◌, ◌≤◌, ℕ, ℤ, pos, List, refl}
 use Rattle.std.proofs.Common.{inl, inr, arith}
 use Rattle.sparse_algebra.specs.ModNumbers.{mod_value}
 use Rattle.sparse_algebra.specs.Moduli.{mod_ring}
 use Rattle.sparse_algebra.specs.Plain.{Plain}
 use Rattle.sparse_c.specs.Dense.{WritesNumbers}
-use Rattle.sparse_c.specs.Factors.{Factorises, FactorisesIn, IsFaultOfFactors}
+use Rattle.sparse_c.specs.Factors.{FactorisesIn}
 use Rattle.sparse_c.specs.Moduli.{moduli, IsFaultModulo, IsNoneOf}
 use Rattle.sparse_c.specs.Rooms.{held_in, AnswersIn, AreSameArrays, Shows, WritesIn}
 use Rattle.sparse_c.specs.Scalars.{modulo, residues_of}

@@ -21,8 +21,8 @@ returns c =
       rest = search rules;
       untouched = λ h. (
         ended.untouched (λ e. h (same ∙ e)),
-        λ other. size_kept _ status answer c.args.out_triplets.now c.finish_list.new.count ended.kept
-            ended.refused (λ e. h (same ∙ e)) (λ small. other (same ∙ small)),
+        λ other. size_kept _ status answer c.args.out_triplets.now c.finish_list.new.count
+            ended.kept ended.refused (λ e. h (same ∙ e)) (λ small. other (same ∙ small)),
       );
       needed = λ small.
           let p = size_told _ status answer (text_large c.args.text.now) made.means made.fault

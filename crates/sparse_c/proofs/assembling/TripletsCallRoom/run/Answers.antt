@@ -21,7 +21,8 @@ returns g c =
           (assembly_of g.T.Ring.ring t)
           (list_told t.rows t.cols t.row_indices.now t.col_indices.now t.values.now)
           (held_in c.args.out.now) left status c.assembled-answer.result made.plain made.sound
-          made.fault ended.written ended.rest ended.untouched ended.needed ended.kept ended.refused);
+          made.fault ended.written ended.rest ended.untouched ended.needed ended.kept
+          ended.refused);
       shown = record { each = λ h. ended.shown (sym same ∙ h) };
       arrays = record { offsets = refl; indices = refl; values = refl; places = refl };
     }

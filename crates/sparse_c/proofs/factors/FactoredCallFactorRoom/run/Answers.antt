@@ -21,11 +21,11 @@ returns g c =
     let after = room_of new.offsets new.indices new.values new.places in
     let old = c.args.out.now.diagonal.now in
     record {
-      answer = subst (λ (s : ℤ). Factorises R f (IsFaultOfFactors R f a) a before after old new.pivots
-          s) (sym same) (factors_answered R f _ zero (λ d. d.items) a answer made.factors made.rows
-          made.count before after old new.pivots status made.sound made.fault ended.written
-          ended.rest ended.rest_pivots ended.untouched ended.untouched_pivots ended.needed ended.kept
-          ended.refused);
+      answer = subst (λ (s : ℤ). Factorises R f (IsFaultOfFactors R f a) a before after old
+          new.pivots s) (sym same) (factors_answered R f _ zero (λ d. d.items) a answer
+          made.factors made.rows made.count before after old new.pivots status made.sound
+          made.fault ended.written ended.rest ended.rest_pivots ended.untouched
+          ended.untouched_pivots ended.needed ended.kept ended.refused);
       shown = record { each = λ h. ended.shown (sym same ∙ h) };
       shown_diagonal = record {
         each = λ h. factors_shown R f _ zero (λ d. d.items) a answer made.factors made.rows

@@ -16,5 +16,5 @@ returns g c =
     let ended = c.finish_dense.ensures in
     numbers_answered c.solution.result s.size s.cols made.rows made.cols R f (IsSolved R s)
     made.solved _ _ status _ same refl made.sound made.fault
-    (equation_sound R f s.equation s.matrix s.size s.cols s.b.now) ended.written ended.shown ended.rest
-    ended.untouched ended.refused
+    (equation_sound R f s.equation s.matrix s.size s.cols s.b.now) ended.written ended.shown
+    ended.rest ended.untouched ended.refused
