@@ -21,8 +21,9 @@ returns g c =
     record {
       answer = seen_quotient (scalars R f g.T.Number.is_shown)
           (sym (to_z-of_z w64 q.divisor q.in_range)) same (quotient_answered R f q.a _
-          (held_in c.args.out.now) left status c.quotient_of-answer.result made.quotient made.sound made.fault ended.written ended.rest
-          ended.untouched ended.needed ended.kept ended.refused);
+          (held_in c.args.out.now) left status c.quotient_of-answer.result made.quotient made.sound
+          made.fault ended.written ended.rest ended.untouched ended.needed ended.kept
+          ended.refused);
       shown = record { each = λ h. ended.shown (sym same ∙ h) };
       arrays = record { offsets = refl; indices = refl; values = refl; places = refl };
     }
