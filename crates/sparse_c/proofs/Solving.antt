@@ -1,10 +1,11 @@
 -- Solutions in arrays.
-use Rattle.std.proofs.Common.{◌≡◌, ◌≢◌, ◌≤◌, ℕ, zero, suc, ℤ, pos, ◌<◌, ◌*◌, length, take, ap, sym}
+use Rattle.std.proofs.Common.{◌≡◌, ◌≢◌, ◌≤◌, ℕ, ℤ, pos, ◌<◌, ◌*◌, length, take, ap, sym}
 use Rattle.std.proofs.Common.{Result, subst, ◌∙◌, refl, arith}
 use Rattle.std.specs.Prelude.{IfOk, IfErr, MatchResult, OnOk}
 use Rattle.sparse_algebra.specs.Algebra.{CommRing}
 use Rattle.sparse_algebra.specs.Plain.{Plain, plain_product}
 use Rattle.sparse_algebra.specs.Sums.{sum_below}
+use Rattle.sparse_algebra.proofs.SumLemmas.{sum_below-same}
 use Rattle.sparse_coo_dense.specs.Dense.{Dense}
 use Rattle.sparse_coo_dense.specs.DensePlain.{plain_of_dense}
 use Rattle.sparse_with_dense.specs.Solutions.{HasSameValues, IsSolution}
@@ -84,19 +85,12 @@ module _ {T : Type 0} (answer : Result (Dense T) Refusal) (n m : ℕ)
       }
 
 module _ (R : CommRing) where
-  same_sum : (n : ℕ) (f g : ℕ → R.Carrier) → ((k : ℕ) → k < n → f k ≡ g k)
-      → sum_below R n f ≡ sum_below R n g
-  same_sum zero f g same = refl
-  same_sum (suc n) f g same =
-      ap (λ s. R.add s (f n)) (same_sum n f g (λ k lt. same k (omega arith)))
-      ∙ ap (R.add (sum_below R n g)) (same n (omega arith))
-
   -- what solves the system of a matrix with the same values solves that of the matrix
   pub solved_as : (a s x b : Plain R) (n m : ℕ) → a.cols ≡ n → s.cols ≡ n
       → HasSameValues R n n s a → IsSolution R s x b → HasSameValues R n m (plain_product R a x) b
   solved_as a s x b n m cols same equation solved i j row _ =
       ap (λ k. sum_below R k (λ k. R.mul (a.value i k) (x.value k j))) cols
-      ∙ same_sum n (λ k. R.mul (a.value i k) (x.value k j))
+      ∙ sum_below-same R n (λ k. R.mul (a.value i k) (x.value k j))
       (λ k. R.mul (s.value i k) (x.value k j))
       (λ k lt. ap (λ v. R.mul v (x.value k j)) (sym (equation i k row lt)))
       ∙ ap (λ k. sum_below R k (λ k. R.mul (s.value i k) (x.value k j))) (sym same)
