@@ -1,6 +1,6 @@
 //! What a text of decimal numbers becomes, times a power of ten.
 
-use mtxkit_decimals::scaled_text;
+use mtxkit_decimals::{ScaleError, scaled_text};
 use std::alloc::{AllocError, Global};
 use std::test::Fail;
 
@@ -12,14 +12,22 @@ const NUMBERS: &[(&str, u32, &str)] = &[
     ("12", 2, "1200"),
     ("1.5", 1, "15"),
     ("-1.5", 1, "-15"),
-    ("1.5", 0, "line 3: the scaled value is not an integer"),
+    (
+        "1.5",
+        0,
+        "line 3: the value times 10^K is not an integer; K may be too small",
+    ),
     (".5", 1, "5"),
     ("5.", 0, "5"),
     ("-.25", 2, "-25"),
     ("1e3", 0, "1000"),
     ("1E+3", 0, "1000"),
     ("1e-3", 3, "1"),
-    ("1e-3", 2, "line 3: the scaled value is not an integer"),
+    (
+        "1e-3",
+        2,
+        "line 3: the value times 10^K is not an integer; K may be too small",
+    ),
     ("1200e-2", 0, "12"),
     ("0012.3400", 2, "1234"),
     ("1.0000000000000000000000000000000000000000", 0, "1"),
@@ -33,7 +41,7 @@ const NUMBERS: &[(&str, u32, &str)] = &[
     (
         "170141183460469231731687303715884105728",
         0,
-        "line 3: the scaled value does not fit in 128 bits",
+        "line 3: the value times 10^K does not fit in 128 bits",
     ),
     (
         "-170141183460469231731687303715884105728",
@@ -43,7 +51,7 @@ const NUMBERS: &[(&str, u32, &str)] = &[
     (
         "-170141183460469231731687303715884105729",
         0,
-        "line 3: the scaled value does not fit in 128 bits",
+        "line 3: the value times 10^K does not fit in 128 bits",
     ),
     (
         "1701411834604692317316873037158841057.27",
@@ -55,30 +63,30 @@ const NUMBERS: &[(&str, u32, &str)] = &[
     (
         "1e99999999999999999999",
         0,
-        "line 3: the scaled value does not fit in 128 bits",
+        "line 3: the value times 10^K does not fit in 128 bits",
     ),
     (
         "1e-99999999999999999999",
         0,
-        "line 3: the scaled value is not an integer",
+        "line 3: the value times 10^K is not an integer; K may be too small",
     ),
     ("1e38", 0, "100000000000000000000000000000000000000"),
     (
         "1e39",
         0,
-        "line 3: the scaled value does not fit in 128 bits",
+        "line 3: the value times 10^K does not fit in 128 bits",
     ),
     ("2.5e-38", 39, "25"),
     ("4000000000000000000000000000000000000000000e-42", 0, "4"),
     (
         "400000000000000000000000000000000000000000.5",
         0,
-        "line 3: the scaled value is not an integer",
+        "line 3: the value times 10^K is not an integer; K may be too small",
     ),
     (
         "3.0e0",
         4294967295,
-        "line 3: the scaled value does not fit in 128 bits",
+        "line 3: the value times 10^K does not fit in 128 bits",
     ),
 ];
 
@@ -154,12 +162,12 @@ const TEXTS: &[(&str, u32, &str)] = &[
     (
         "%%MatrixMarket matrix coordinate real general\n2 2 2\n%\n1 1 0.5\n2 2 0.25\n",
         1,
-        "line 5: the scaled value is not an integer",
+        "line 5: the value times 10^K is not an integer; K may be too small",
     ),
     (
         "%%MatrixMarket matrix coordinate real general\n2 2 2\n1 1 1e37\n2 2 -1e38\n",
         1,
-        "line 4: the scaled value does not fit in 128 bits",
+        "line 4: the value times 10^K does not fit in 128 bits",
     ),
 ];
 
@@ -173,7 +181,15 @@ fn outcome(alloc: Global, text: &str, scale: u32) -> Result<String, AllocError> 
             }
             Ok(shown)
         }
-        Err(error) => format!(in alloc; "{error}"),
+        Err(error) => message(alloc, error),
+    }
+}
+
+// The message of an error, behind the line at fault.
+fn message(alloc: Global, error: ScaleError) -> Result<String, AllocError> {
+    match error.line() {
+        Some(line) => format!(in alloc; "line {line}: {error}"),
+        None => format!(in alloc; "{error}"),
     }
 }
 
