@@ -5,7 +5,6 @@ use Rattle.std.proofs.Common.{length-append, add-one, refl, ap, sym, subst, ◌�
 use Rattle.std.proofs.Common.{arith}
 use Rattle.std.specs.List.{filter, flat_map}
 use Rattle.std.specs.List.Sorted.{IsStrictlyIncreasing}
-use Rattle.std.proofs.lemmas.Grind.{flat_map-append}
 use Rattle.std.proofs.lemmas.List.{append-nil, get_or_append_left, get_or_push, map-append}
 use Rattle.std.proofs.lemmas.List.Elements.{filter-append, All-filter}
 use Rattle.std.proofs.lemmas.List.Kept.{IsStrictlyIncreasing-filter}
@@ -13,6 +12,7 @@ use Rattle.std.proofs.lemmas.Simd.{map-map}
 use Rattle.sparse_algebra.proofs.Cases.{lt_suc_cases}
 use Rattle.sparse_algebra.specs.Plain.{below}
 use Rattle.sparse_coo_dense.specs.Dense.{Dense, value_at}
+use Rattle.sparse_coo_dense.proofs.BlockLemmas.{flat_map-next}
 use Rattle.sparse_compressed.specs.Compressed.{transposed}
 use Rattle.sparse_convert.proofs.Folds.{filter-map}
 use Rattle.sparse_convert.specs.FromDense.{full_lanes, row_triplets, column_triplets}
@@ -76,11 +76,6 @@ filter_map_next test f n b e =
     ∙ filter-append test (map f (below n)) (f n ∷ [])
     ∙ ap (λ c. filter test (map f (below n)) ++ cond c (f n ∷ []) []) e
 
-pub flat_map_next : {X : Type 0} (f : ℕ → List X) (n : ℕ)
-    → flat_map f (below (n + 1)) ≡ flat_map f (below n) ++ f n
-flat_map_next f n = ap (λ k. flat_map f (below k)) (add-one n)
-    ∙ flat_map-append f (below n) (n ∷ []) ∙ ap (λ l. flat_map f (below n) ++ l) (append-nil (f n))
-
 -- one lane more
 module _ {T : Type 0} (E : T → T → Bool) (z : T) (m : ℕ) (value : ℕ → ℕ → T) where
   -- the indices at which lane i is not z
@@ -93,7 +88,7 @@ module _ {T : Type 0} (E : T → T → Bool) (z : T) (m : ℕ) (value : ℕ → 
   kept_lane n =
       let lane : ℕ → List (ℕ × ℕ × T) = λ i. map {B = ℕ × ℕ × T} (λ k. (i, k, value i k))
       (below m) in
-      ap (filter (differs_from E z)) (flat_map_next lane n)
+      ap (filter (differs_from E z)) (flat_map-next lane n)
       ∙ filter-append (differs_from E z) (full_lanes n m value) (lane n)
       ∙ ap (λ l. filter (differs_from E z) (full_lanes n m value) ++ l)
       (filter-map (differs_from E z) (λ k. (n, k, value n k)) (below m))
@@ -128,7 +123,7 @@ column_more {T} E z d j column rows values =
     (λ i lt. ap {B = ℕ × ℕ × T} (λ v. (i, j, v)) (values i z lt)) in
     ap (λ l. filter (differs_from E z) (first_columns z d j) ++ filter (differs_from E z) l) here
     ∙ sym (filter-append (differs_from E z) (first_columns z d j) (columns j))
-    ∙ ap (filter (differs_from E z)) (sym (flat_map_next columns j))
+    ∙ ap (filter (differs_from E z)) (sym (flat_map-next columns j))
 
 full_lanes_same : {T : Type 0} (n m : ℕ) (v w : ℕ → ℕ → T) → ((i k : ℕ) → v i k ≡ w i k)
     → full_lanes n m v ≡ full_lanes n m w

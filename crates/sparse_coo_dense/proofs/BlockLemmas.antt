@@ -14,7 +14,7 @@ use Rattle.sparse_coo_dense.specs.Blocks.{triplet_at, block_triplets, IsEmptyBlo
 use Rattle.sparse_coo_dense.proofs.TripletLists.{triplets-push, sound_push}
 
 -- one number more
-flat_map-next : {X : Type 0} (f : ℕ → List X) (n : ℕ)
+pub flat_map-next : {X : Type 0} (f : ℕ → List X) (n : ℕ)
     → flat_map f (below (n + 1)) ≡ flat_map f (below n) ++ f n
 flat_map-next f n = ap (λ k. flat_map f (below k)) (add-one n)
     ∙ flat_map-append f (below n) (n ∷ []) ∙ ap (λ l. flat_map f (below n) ++ l) (append-nil (f n))
