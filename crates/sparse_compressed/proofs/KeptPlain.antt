@@ -31,7 +31,8 @@ filter-transposed test (t ∷ ts) = chosen (test (transposed t))
     chosen true = refl
     chosen false = refl
 
-transposed_twice : {T : Type 0} (ts : List (ℕ × ℕ × T)) → map transposed (map transposed ts) ≡ ts
+pub transposed_twice : {T : Type 0} (ts : List (ℕ × ℕ × T))
+    → map transposed (map transposed ts) ≡ ts
 transposed_twice [] = refl
 transposed_twice (t ∷ ts) = ap (λ us. t ∷ us) (transposed_twice ts)
 

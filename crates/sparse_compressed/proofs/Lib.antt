@@ -24,5 +24,5 @@ mod ReportedFaults
 mod SortedForm
 pub mod Kept
 mod KeptLanes
-mod KeptPlain
+pub mod KeptPlain
 pub mod MatrixTransposes

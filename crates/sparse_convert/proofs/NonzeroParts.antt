@@ -17,6 +17,7 @@ use Rattle.sparse_algebra.proofs.RingLemmas.{zero_add}
 use Rattle.sparse_algebra.proofs.SumLemmas.{sum_by-append, sum_by-same}
 use Rattle.sparse_algebra.proofs.PlainLemmas.{any_is, any_below-same, and_comm}
 use Rattle.sparse_compressed.specs.Compressed.{transposed}
+use Rattle.sparse_compressed.proofs.KeptPlain.{transposed_twice}
 use Rattle.sparse_convert.specs.FromDense.{full_lanes, row_triplets, column_triplets, differs_from}
 use Rattle.sparse_convert.specs.FromDense.{IsNonzeroPart}
 use Rattle.sparse_convert.proofs.Folds.{any-filter, any-flat_map, any-map, sum_by-filter}
@@ -241,14 +242,11 @@ module _ (R : CommRing) where
           ∙ plain_of_transposed_list R f d.ncols d.nrows kept))
           (columns_part d)
 
-      transposed_twice : (ts : List (ℕ × ℕ × T)) → map transposed (map transposed ts) ≡ ts
-      transposed_twice [] = refl
-      transposed_twice (t ∷ ts) = ap (λ us. t ∷ us) (transposed_twice ts)
-
       pub cols_part : (d : Dense T) (n m : ℕ) (ts : List (ℕ × ℕ × T)) → n ≡ d.nrows → m ≡ d.ncols
           → map transposed ts ≡ filter (differs_from E z) (column_triplets z d)
           → IsNonzeroPart (plain_of_dense R f d) (plain_transpose R (plain_of_triplets R f m n ts))
       cols_part d n m ts rows cols is =
           let same : ts ≡ filter (differs_from E z) (column_lanes z d) = sym (transposed_twice ts)
-          ∙ ap (map transposed) (is ∙ kept_columns E z d) ∙ transposed_twice _ in
+          ∙ ap (map transposed) (is ∙ kept_columns E z d)
+          ∙ transposed_twice (filter (differs_from E z) (column_lanes z d)) in
           rw (rows, cols, same) (columns_part d)
