@@ -6,9 +6,8 @@ use Rattle.std.specs.List.{list_any}
 use Rattle.std.specs.Cmp.Lexicographic.{pointwise}
 use Rattle.sparse_algebra.proofs.Cases.{and_both, and_parts, true_or_false}
 use Rattle.sparse_algebra.specs.Algebra.{CommRing}
-use Rattle.sparse_algebra.specs.Plain.{Plain, IsProper, is_at, plain_of_triplets}
+use Rattle.sparse_algebra.specs.Plain.{Plain, IsProper, is_at}
 use Rattle.sparse_algebra.proofs.PlainLemmas.{same_plain, same_bool}
-use Rattle.sparse_algebra.proofs.PlainLaws.{proper_plain_of_triplets}
 use Rattle.sparse_pattern.specs.Raw.{Raw, IsValid, IsPlace, HasSamePlaces, entries_of, raw_eq}
 use Rattle.sparse_pattern.proofs.Positions.{one_position, lane_of_position}
 use Rattle.sparse_pattern.proofs.LaneOrder.{length-entries, entries_are_places}
@@ -77,11 +76,6 @@ stands R {T} f z m a sound proper rows cols places values = same_plain (plain_of
 pub proper_rows : (R : CommRing) {T : Type 0} (f : T → R.Carrier) (m : Compressed T)
     → IsProper (plain_of_rows R f m)
 proper_rows R f m i j = unnamed R f i j (zip_values (entries_of m.pattern) m.values)
-
-pub proper_triplets : (R : CommRing) {T : Type 0} (f : T → R.Carrier) (rows cols : ℕ)
-    (ts : List (ℕ × ℕ × T))
-    → IsProper (plain_of_triplets R f rows cols ts)
-proper_triplets = proper_plain_of_triplets
 
 -- ---- `==` decides whether the plain matrices are the same
 

@@ -19,7 +19,7 @@ use Rattle.sparse_coo_dense.specs.Dense.{Dense, value_at}
 use Rattle.sparse_coo_dense.specs.DensePlain.{is_inside, plain_of_dense, plain_full}
 use Rattle.sparse_pattern.proofs.LaneOrder.{length-entries, entries_are_places}
 use Rattle.sparse_algebra.proofs.PlainLaws.{proper_transpose, within_plain_of_triplets}
-use Rattle.sparse_algebra.proofs.PlainLaws.{within_transpose}
+use Rattle.sparse_algebra.proofs.PlainLaws.{within_transpose, proper_plain_of_triplets}
 use Rattle.sparse_algebra.proofs.PlainLemmas.{same_plain}
 use Rattle.sparse_algebra.proofs.RingLemmas.{zero_add}
 use Rattle.sparse_compressed.specs.Compressed.{Compressed, IsSound, zip_values}
@@ -31,7 +31,7 @@ use Rattle.sparse_pattern.proofs.Positions.{one_position}
 use Rattle.sparse_compressed.proofs.Arrays.{where_yes, where_no, unnamed}
 use Rattle.sparse_compressed.proofs.Arrays.{named, pairs_of-triplets, pair_is}
 use Rattle.sparse_compressed.proofs.Arrays.{test_yes, position_within, entry_at, position_of_entry}
-use Rattle.sparse_compressed.proofs.Arrays.{value_at_position, proper_rows, proper_triplets}
+use Rattle.sparse_compressed.proofs.Arrays.{value_at_position, proper_rows}
 use Rattle.sparse_compressed.proofs.Arrays.{value_at as sum_at}
 use Rattle.sparse_compressed.proofs.Inside.{lane_triplets-inside}
 use Rattle.sparse_compressed.proofs.LaneSearch.{place_of_is_position}
@@ -200,7 +200,7 @@ module _ (R : CommRing) {T : Type 0} (f : T → R.Carrier) where
         → IsWritten added f (f z) m.nrows m.ncols m.triplets rest d
         → plain_of_dense R f d ≡ plain_full R (plain_of_coo R f m)
     coo_stands m {d} inside end done = dense_stands d (plain_of_coo R f m)
-        (proper_triplets R f m.nrows m.ncols m.triplets)
+        (proper_plain_of_triplets R f m.nrows m.ncols m.triplets)
         (within_plain_of_triplets R f m.nrows m.ncols m.triplets inside) done.rows done.cols
         (λ i j row col. all_written end done i j z row col ∙ written_sum (f z) m.triplets i j
         ∙ ap (λ c. R.add c (sum_at R f m.triplets i j)) zero_law
