@@ -1,6 +1,5 @@
 mod TriangleBases
 mod Closures
-mod Reaching
 mod TextLines
 mod TextEntries
 mod TextPlaces

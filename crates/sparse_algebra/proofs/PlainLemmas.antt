@@ -56,15 +56,15 @@ any_forth (suc n) t h = elim (or_cases (any_below n t) (t n) h) [
   | inr here ↦ (n, omega arith, here)
 ]
 
-any_back : (n k : ℕ) (t : ℕ → Bool) → k < n → t k ≡ true → any_below n t ≡ true
-any_back zero k t lt h = absurd (omega arith)
-any_back (suc n) k t lt h = elim (lt_suc_cases k n lt) [
-  | inl before ↦ or_left (any_below n t) (t n) (any_back n k t before h)
+pub any_below-at : (n k : ℕ) (t : ℕ → Bool) → k < n → t k ≡ true → any_below n t ≡ true
+any_below-at zero k t lt h = absurd (omega arith)
+any_below-at (suc n) k t lt h = elim (lt_suc_cases k n lt) [
+  | inl before ↦ or_left (any_below n t) (t n) (any_below-at n k t before h)
   | inr here ↦ or_right (any_below n t) (t n) (ap t (sym here) ∙ h)
 ]
 
 pub any_is : (n : ℕ) (t : ℕ → Bool) → (any_below n t ≡ true) ↔ ((k : ℕ) × (k < n) × (t k ≡ true))
-any_is n t = (any_forth n t, λ h. any_back n h.0 t h.1 h.2)
+any_is n t = (any_forth n t, λ h. any_below-at n h.0 t h.1 h.2)
 
 none_at : (n k : ℕ) (t : ℕ → Bool) → any_below n t ≡ false → k < n → t k ≡ false
 none_at zero k t h lt = absurd (omega arith)

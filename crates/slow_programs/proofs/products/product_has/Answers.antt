@@ -2,7 +2,7 @@ use Rattle.std.proofs.Common.{◌≡◌, ◌<◌, sym, true, rules}
 use Rattle.std.specs.Prelude.{◌&&◌}
 use Rattle.sparse_coo_dense.specs.CooPlain.{plain_of_coo}
 use Rattle.sparse_algebra.proofs.Cases.{and_both}
-use Rattle.slow_programs.proofs.Reaching.{any_below-at}
+use Rattle.sparse_algebra.proofs.PlainLemmas.{any_below-at}
 use Rattle.slow_programs.proofs.products.product_has.Goals as goal
 
 pub returns-then-has_triplet-2 : goal.returns-then-has_triplet-2
