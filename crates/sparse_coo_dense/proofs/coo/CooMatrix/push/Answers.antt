@@ -1,5 +1,4 @@
-use Rattle.std.proofs.lemmas.Grind.{common_steps}
-use Rattle.std.proofs.Common.{ap, rules, arith}
+use Rattle.std.proofs.Common.{ap}
 use Rattle.sparse_coo_dense.specs.Coo.{coo_of}
 use Rattle.sparse_coo_dense.proofs.TripletLists.{triplets-push}
 use Rattle.sparse_coo_dense.proofs.coo.CooMatrix.push.Goals as goal
@@ -19,14 +18,3 @@ returns-clause-ok g c =
       c.in_ok-reserve_each.ensures.values,
     )
     (ap (coo_of m.nrows m.ncols) more)
-
--- ---- written by tools/answer-goals
-
-pub invariant_of-self : goal.invariant_of-self
-invariant_of-self g c = search rules
-
-pub returns-in_err-reserve_each-clause-err : goal.returns-in_err-reserve_each-clause-err
-returns-in_err-reserve_each-clause-err g c = search rules
-
-pub invariant_of-self-2 : goal.invariant_of-self-2
-invariant_of-self-2 g c = grind (arith, common_steps)

@@ -1,5 +1,5 @@
 use Rattle.std.proofs.lemmas.Grind.{common_steps}
-use Rattle.std.proofs.Common.{ap, rules, arith}
+use Rattle.std.proofs.Common.{ap, arith}
 use Rattle.sparse_coo_dense.specs.Coo.{coo_of}
 use Rattle.sparse_coo_dense.proofs.TripletLists.{triplets-push}
 use Rattle.sparse_coo_dense.proofs.coo.append.CooAppender.push.Goals as goal
@@ -19,9 +19,6 @@ returns-clause-pushed g c =
     (ap (coo_of m.nrows m.ncols) more)
 
 -- ---- written by tools/answer-goals
-
-pub returns-clause-room : goal.returns-clause-room
-returns-clause-room g c = search rules
 
 pub invariant_of-self : goal.invariant_of-self
 invariant_of-self g c = grind (arith, common_steps)
