@@ -18,8 +18,8 @@ use Rattle.sparse_compressed.specs.PlainOfLanes.{plain_of_rows}
 pub use Rattle.sparse_compressed.proofs.EntryPositions.{position_within, entry_at}
 pub use Rattle.sparse_compressed.proofs.EntryPositions.{position_of_entry}
 pub use Rattle.sparse_compressed.proofs.TripletSums.{pair_is, test_yes, pairs_of, named}
-pub use Rattle.sparse_compressed.proofs.TripletSums.{pairs_of-triplets, value_at, where_no}
-pub use Rattle.sparse_compressed.proofs.TripletSums.{where_yes, unnamed, one_named}
+pub use Rattle.sparse_compressed.proofs.TripletSums.{pairs_of-triplets, value_at, unnamed}
+pub use Rattle.sparse_compressed.proofs.TripletSums.{one_named}
 
 module _ (R : CommRing) {T : Type 0} (f : T → R.Carrier) (d : Raw) (valid : IsValid d) (vs : List T)
     (count : length vs ≡ length d.indices) where

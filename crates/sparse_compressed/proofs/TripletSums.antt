@@ -1,5 +1,5 @@
 -- Sums over the triplets that name a pair: none gives zero, and one alone its value.
-use Rattle.std.proofs.Common.{◌≡◌, ℕ, zero, suc, ◌<◌, inl, inr, ◌↔◌, Bool, true, false, ◌&&◌, List}
+use Rattle.std.proofs.Common.{◌≡◌, ℕ, zero, suc, ◌<◌, inl, inr, ◌↔◌, true, false, ◌&&◌, List}
 use Rattle.std.proofs.Common.{[], ◌∷◌, length, get_or, map, Contains, ap, subst, ◌∙◌, refl}
 use Rattle.std.proofs.Common.{arith}
 use Rattle.std.specs.Prelude.{nat_eq}
@@ -12,7 +12,7 @@ use Rattle.sparse_algebra.specs.Algebra.{CommRing}
 use Rattle.sparse_algebra.specs.Sums.{sum_by, where_true}
 use Rattle.sparse_algebra.specs.Plain.{is_at}
 use Rattle.sparse_algebra.proofs.RingLemmas.{zero_add}
-use Rattle.sparse_algebra.proofs.SumLemmas as sums
+use Rattle.sparse_algebra.proofs.SumLemmas.{where_yes, where_no}
 use Rattle.sparse_algebra.proofs.PlainLaws.{proper_plain_of_triplets}
 use Rattle.sparse_pattern.proofs.LaneOrder.{contains_cases}
 use Rattle.sparse_compressed.specs.Compressed.{zip_values}
@@ -65,12 +65,6 @@ module _ (R : CommRing) {T : Type 0} (f : T → R.Carrier) where
   abbrev pub value_at : List (ℕ × ℕ × T) → ℕ → ℕ → R.Carrier
   value_at ts i j = sum_by R (λ t. where_true R (is_at i j t) (f t.2)) ts
 
-  pub where_no : (b : Bool) (c : R.Carrier) → b ≡ false → where_true R b c ≡ R.zero
-  where_no = sums.where_no R
-
-  pub where_yes : (b : Bool) (c : R.Carrier) → b ≡ true → where_true R b c ≡ c
-  where_yes = sums.where_yes R
-
   -- nothing is added where no triplet names the pair
   pub unnamed : (i j : ℕ) (ts : List (ℕ × ℕ × T)) → list_any (is_at i j) ts ≡ false
       → value_at ts i j ≡ R.zero
@@ -97,7 +91,7 @@ module _ (R : CommRing) {T : Type 0} (f : T → R.Carrier) where
         | inr miss ↦ miss
       ] in
       ap (λ c. R.add c (value_at (zip_values ps vs) i j))
-      (where_yes (is_at i j (x.0, x.1, v)) (f v) hit)
+      (where_yes R (is_at i j (x.0, x.1, v)) (f v) hit)
       ∙ ap (R.add (f v)) (unnamed i j (zip_values ps vs) none) ∙ R.laws.add_zero (f v)
   one_named i j (suc p) z (x ∷ ps) (v ∷ vs) e lt is only =
       let miss : is_at i j (x.0, x.1, v) ≡ false = elim (true_or_false (is_at i j (x.0, x.1, v))) [
@@ -105,6 +99,6 @@ module _ (R : CommRing) {T : Type 0} (f : T → R.Carrier) where
         | inr miss ↦ miss
       ] in
       ap (λ c. R.add c (value_at (zip_values ps vs) i j))
-      (where_no (is_at i j (x.0, x.1, v)) (f v) miss) ∙ zero_add R _
+      (where_no R (is_at i j (x.0, x.1, v)) (f v) miss) ∙ zero_add R _
       ∙ one_named i j p z ps vs (omega arith) (omega arith) is
       (λ q l h. omega (arith, only (suc q) (omega arith) h))

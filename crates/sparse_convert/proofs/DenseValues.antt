@@ -22,13 +22,14 @@ use Rattle.sparse_algebra.proofs.PlainLaws.{proper_transpose, within_plain_of_tr
 use Rattle.sparse_algebra.proofs.PlainLaws.{within_transpose, proper_plain_of_triplets}
 use Rattle.sparse_algebra.proofs.PlainLemmas.{same_plain}
 use Rattle.sparse_algebra.proofs.RingLemmas.{zero_add}
+use Rattle.sparse_algebra.proofs.SumLemmas.{where_yes, where_no}
 use Rattle.sparse_compressed.specs.Compressed.{Compressed, IsSound, zip_values}
 use Rattle.sparse_compressed.specs.Compressed.{lane_triplets, transposed}
 use Rattle.sparse_compressed.specs.StoredEntries.{place_of}
 use Rattle.sparse_coo_dense.specs.CooPlain.{plain_of_coo}
 use Rattle.sparse_compressed.specs.PlainOfLanes.{plain_of_rows, plain_of_cols}
 use Rattle.sparse_pattern.proofs.Positions.{one_position}
-use Rattle.sparse_compressed.proofs.Arrays.{where_yes, where_no, unnamed}
+use Rattle.sparse_compressed.proofs.Arrays.{unnamed}
 use Rattle.sparse_compressed.proofs.Arrays.{named, pairs_of-triplets, pair_is}
 use Rattle.sparse_compressed.proofs.Arrays.{test_yes, position_within, entry_at, position_of_entry}
 use Rattle.sparse_compressed.proofs.Arrays.{value_at_position, proper_rows}
@@ -183,7 +184,7 @@ module _ (R : CommRing) {T : Type 0} (f : T → R.Carrier) where
           | inl hit ↦
               let at = (Decides-and (nat_lt i a.rows) (nat_lt j a.cols) (Decides-ltb i a.rows)
               (Decides-ltb j a.cols)).0 hit in
-              where_yes R f (is_inside d i j) _ (has_same i j ∙ hit) ∙ meaning _
+              where_yes R (is_inside d i j) _ (has_same i j ∙ hit) ∙ meaning _
               ∙ values i j at.0 at.1
           | inr miss ↦
               let off : a.has i j ≡ false = elim (true_or_false (a.has i j)) [
@@ -193,7 +194,7 @@ module _ (R : CommRing) {T : Type 0} (f : T → R.Carrier) where
                     cc
                 | inr off ↦ off
               ] in
-              where_no R f (is_inside d i j) _ (has_same i j ∙ miss) ∙ sym (proper i j off)
+              where_no R (is_inside d i j) _ (has_same i j ∙ miss) ∙ sym (proper i j off)
         ]
 
     pub coo_stands : (m : Coo T) {d : Dense T} {rest : List (ℕ × ℕ × T)} → IsInside m → rest ≡ []

@@ -10,8 +10,7 @@ use Rattle.sparse_algebra.proofs.Cases.{nat_eq_no, neither, or_cases, or_false, 
 use Rattle.sparse_algebra.specs.Algebra.{CommRing}
 use Rattle.sparse_algebra.specs.Sums.{where_true}
 use Rattle.sparse_algebra.proofs.RingLemmas.{zero_add}
-use Rattle.sparse_algebra.proofs.SumLemmas.{sum_by-append}
-use Rattle.sparse_compressed.proofs.Arrays.{where_no, where_yes}
+use Rattle.sparse_algebra.proofs.SumLemmas.{sum_by-append, where_no, where_yes}
 use Rattle.sparse_convert.specs.InnerTripletLanes.{index_sum}
 
 module _ {T : Type 0} where
@@ -51,7 +50,7 @@ module _ (R : CommRing) {T : Type 0} (f : T → R.Carrier) where
   index_sum-none [] j h = refl
   index_sum-none (e ∷ es) j h =
       let parts = neither (eqb e.0 j) (has_index j es) h in
-      ap (λ c. R.add c (index_sum R f es j)) (where_no R f (eqb e.0 j) (f e.1) parts.0)
+      ap (λ c. R.add c (index_sum R f es j)) (where_no R (eqb e.0 j) (f e.1) parts.0)
       ∙ zero_add R _ ∙ index_sum-none es j parts.1
 
   index_sum-more : (es : List (ℕ × T)) (e : ℕ × T) (j : ℕ)
@@ -63,9 +62,9 @@ module _ (R : CommRing) {T : Type 0} (f : T → R.Carrier) where
   pub index_sum-here : (es : List (ℕ × T)) (e : ℕ × T) (j : ℕ) → e.0 ≡ j
       → index_sum R f (es ++ e ∷ []) j ≡ R.add (index_sum R f es j) (f e.1)
   index_sum-here es e j same = index_sum-more es e j ∙ ap (R.add (index_sum R f es j))
-      (where_yes R f (eqb e.0 j) (f e.1) ((Decides-eqb e.0 j).1 same))
+      (where_yes R (eqb e.0 j) (f e.1) ((Decides-eqb e.0 j).1 same))
 
   pub index_sum-other : (es : List (ℕ × T)) (e : ℕ × T) (j : ℕ) → e.0 ≢ j
       → index_sum R f (es ++ e ∷ []) j ≡ index_sum R f es j
   index_sum-other es e j ne = index_sum-more es e j ∙ ap (R.add (index_sum R f es j))
-      (where_no R f (eqb e.0 j) (f e.1) (nat_eq_no e.0 j ne)) ∙ R.laws.add_zero _
+      (where_no R (eqb e.0 j) (f e.1) (nat_eq_no e.0 j ne)) ∙ R.laws.add_zero _

@@ -8,7 +8,7 @@ use Rattle.sparse_algebra.proofs.Cases.{nat_eq_no}
 use Rattle.sparse_algebra.specs.Algebra.{CommRing}
 use Rattle.sparse_algebra.specs.Sums.{where_true}
 use Rattle.sparse_algebra.proofs.RingLemmas.{mul_zero}
-use Rattle.sparse_compressed.proofs.Arrays.{where_yes, where_no}
+use Rattle.sparse_algebra.proofs.SumLemmas.{where_yes, where_no}
 use Rattle.sparse_compressed.proofs.RowSums.{eq_refl}
 use Rattle.sparse_sums.proofs.Merging.{more}
 use Rattle.sparse_products.specs.InnerWalks.{AreAdded, AreNoted}
@@ -59,8 +59,8 @@ module _ {R : CommRing} {T : Type 0} {f : T → R.Carrier} {z : T} {slot : ℕ �
         elim (cases_eq p q) [
           | inl same ↦
               let index : k ≡ j = one_column k j q here (subst (λ p. slot j p) same at) in
-              let hit : where_true R (nat_eq k j) (f v) ≡ f v = where_yes R
-              (λ (c : R.Carrier). c) (nat_eq k j) (f v) (rw index (eq_refl j)) in
+              let hit : where_true R (nat_eq k j) (f v) ≡ f v = where_yes R (nat_eq k j)
+              (f v) (rw index (eq_refl j)) in
               ap (λ p. f (get_or (set old q w) p z)) same
               ∙ ap f (get_or-set_same old q w z (omega (arith, lt, same))) ∙ is
               ∙ ap (λ p. R.add (f (get_or old p z)) (R.mul scale (f v))) (sym same)
@@ -68,8 +68,8 @@ module _ {R : CommRing} {T : Type 0} {f : T → R.Carrier} {z : T} {slot : ℕ �
           | inr differs ↦
               let other : k ≢ j =
               λ e. differs (one_slot j p q at (subst (λ i. slot i q) e here)) in
-              let miss : where_true R (nat_eq k j) (f v) ≡ R.zero = where_no R
-              (λ (c : R.Carrier). c) (nat_eq k j) (f v) (nat_eq_no k j other) in
+              let miss : where_true R (nat_eq k j) (f v) ≡ R.zero = where_no R (nat_eq k j)
+              (f v) (nat_eq_no k j other) in
               ap f (get_or-set_other old q p w z differs)
               ∙ sym (ap (λ x. R.add c (R.mul scale x)) miss ∙ ap (R.add c) (mul_zero R scale)
               ∙ R.laws.add_zero c)

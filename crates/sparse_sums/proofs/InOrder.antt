@@ -17,7 +17,7 @@ use Rattle.sparse_pattern.proofs.PatternLanes.{length-lane}
 use Rattle.sparse_compressed.specs.Compressed.{Compressed, IsSound}
 use Rattle.sparse_compressed.specs.InnerRows.{lane_value}
 use Rattle.sparse_compressed.specs.PlainOfLanes.{plain_of_rows}
-use Rattle.sparse_compressed.proofs.Arrays.{where_no}
+use Rattle.sparse_algebra.proofs.SumLemmas.{where_no}
 use Rattle.sparse_compressed.proofs.LaneValues.{values_of, lane_value_is}
 use Rattle.sparse_compressed.proofs.RowSums.{eq_refl}
 use Rattle.sparse_sums.specs.InnerPlacing.{HasIndicesOf}
@@ -146,7 +146,7 @@ module _ {R : CommRing} {T : Type 0} {f : T → R.Carrier} {z : T} {alpha : R.Ca
             e,
             differs,
           ) in
-          longer m ∙ ap (R.add (V k m)) (where_no R (λ (c : R.Carrier). c) _ (f v)
+          longer m ∙ ap (R.add (V k m)) (where_no R _ (f v)
           (nat_eq_no (get_or target p 0) (get_or target m 0) apart)) ∙ R.laws.add_zero (V k m)
 
       pub adding_hit : IsAddingLane R f z alpha target lane us start old (set now (start + p) w)

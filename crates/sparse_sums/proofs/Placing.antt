@@ -17,7 +17,7 @@ use Rattle.sparse_pattern.proofs.Positions.{one_lane, one_position}
 use Rattle.sparse_compressed.specs.Compressed.{Compressed, IsPosition, lane_triplets}
 use Rattle.sparse_compressed.specs.PlainOfLanes.{plain_of_rows}
 use Rattle.sparse_compressed.specs.StoredEntries.{place_of}
-use Rattle.sparse_compressed.proofs.Arrays.{value_at, where_yes, where_no, pair_is, test_yes}
+use Rattle.sparse_compressed.proofs.Arrays.{value_at, pair_is, test_yes}
 use Rattle.sparse_compressed.proofs.Arrays.{position_within}
 use Rattle.sparse_compressed.proofs.LaneSearch.{place_of_is_position}
 use Rattle.sparse_sums.specs.InnerPlacing.{HasPlacesOf}
@@ -126,7 +126,7 @@ module _ {R : CommRing} {T : Type 0} {f : T → R.Carrier} {z : T} {d : Raw} {al
               | inl same ↦
                   let old = f (get_or now q z) in
                   let whole : value_at R f rest j i ≡ R.add v m = rest_is i j
-                  ∙ ap (λ c. R.add c m) (where_yes R f (is_at j i t) v
+                  ∙ ap (λ c. R.add c m) (where_yes R (is_at j i t) v
                   (same_place i j (subst (IsPosition d i j) same here))) in
                   ap (λ k. R.add (f (get_or (set now q w) k z)) (R.mul alpha m)) same
                   ∙ ap (λ x. R.add (f x) (R.mul alpha m)) (get_or-set_same now q w z
@@ -138,7 +138,7 @@ module _ {R : CommRing} {T : Type 0} {f : T → R.Carrier} {z : T} {d : Raw} {al
                   (sym same) ∙ so_far.sums i j p here
               | inr differs ↦
                   let whole : value_at R f rest j i ≡ m = rest_is i j ∙ ap (λ c. R.add c m)
-                  (where_no R f (is_at j i t) v (other_place i j p here differs)) ∙ zero_add R m in
+                  (where_no R (is_at j i t) v (other_place i j p here differs)) ∙ zero_add R m in
                   ap (λ x. R.add (f x) (R.mul alpha m)) (get_or-set_other now q p w z differs)
                   ∙ ap (λ c. R.add (f (get_or now p z)) (R.mul alpha c)) (sym whole)
                   ∙ so_far.sums i j p here

@@ -11,7 +11,7 @@ use Rattle.sparse_coo_dense.specs.Dense.{Dense, value_at}
 use Rattle.sparse_coo_dense.specs.DensePlain.{is_inside, plain_of_dense}
 use Rattle.sparse_compressed.specs.Compressed.{Compressed, IsSound, lane_triplets}
 use Rattle.sparse_compressed.specs.PlainOfLanes.{plain_of_rows}
-use Rattle.sparse_compressed.proofs.Arrays.{where_yes, where_no}
+use Rattle.sparse_algebra.proofs.SumLemmas.{where_yes, where_no}
 use Rattle.sparse_compressed.proofs.Inside.{lane_triplets-inside}
 
 pub miss : (b : Bool) → (b ≡ true → ⊥) → b ≡ false
@@ -29,7 +29,7 @@ module _ {T : Type 0} (d : Dense T) (i j : ℕ) where
 
 module _ (R : CommRing) {T : Type 0} (f : T → R.Carrier) where
   pub dense_proper : (d : Dense T) → IsProper (plain_of_dense R f d)
-  dense_proper d i j miss = where_no R f (is_inside d i j) _ miss
+  dense_proper d i j miss = where_no R (is_inside d i j) _ miss
 
   pub dense_within : (d : Dense T) → IsWithin (plain_of_dense R f d)
   dense_within d i j hit = inside_parts d i j hit
@@ -42,7 +42,7 @@ module _ (R : CommRing) {T : Type 0} (f : T → R.Carrier) (z : T) (zero : f z �
   -- the value of a dense matrix inside its sizes, and outside
   pub dense_inside : (d : Dense T) (i j : ℕ) → i < d.nrows → j < d.ncols
       → (plain_of_dense R f d).value i j ≡ f (value_at d i j z)
-  dense_inside d i j row col = where_yes R f (is_inside d i j) _ (inside_both d i j row col)
+  dense_inside d i j row col = where_yes R (is_inside d i j) _ (inside_both d i j row col)
       ∙ ap (get_or (map f d.values) (j * d.nrows + i)) (sym zero)
       ∙ get_or-map f d.values (j * d.nrows + i) z
 

@@ -6,7 +6,7 @@ use Rattle.std.proofs.lemmas.List.{drop-take, drop-drop}
 use Rattle.sparse_algebra.proofs.Cases.{nat_eq_no}
 use Rattle.sparse_algebra.specs.Algebra.{CommRing}
 use Rattle.sparse_algebra.proofs.RingLemmas.{zero_add}
-use Rattle.sparse_compressed.proofs.Arrays.{where_no}
+use Rattle.sparse_algebra.proofs.SumLemmas.{where_no}
 use Rattle.sparse_compressed.proofs.LaneValues.{lane_value_none}
 use Rattle.sparse_with_dense.specs.SparseVectors.{sparse_elements}
 
@@ -25,7 +25,7 @@ module _ (R : CommRing) {T : Type 0} (f : T → R.Carrier) (i : ℕ) where
   sparse_elements-drop (suc p) (k ∷ ks) (v ∷ vs) others =
       sparse_elements-drop p ks vs (λ q lt within. others (suc q) (omega arith) (omega arith))
       ∙ sym (ap (λ c. R.add c (sparse_elements R f ks vs i))
-      (where_no R (λ (c : R.Carrier). c) (nat_eq k i) (f v)
+      (where_no R (nat_eq k i) (f v)
       (nat_eq_no k i (others 0 (omega arith) (omega arith)))) ∙ zero_add R _)
 
   -- where no entry has the index
