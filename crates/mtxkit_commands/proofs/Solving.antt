@@ -8,9 +8,9 @@ use Rattle.sparse_coo_dense.specs.Coo.{Coo}
 use Rattle.sparse_coo_dense.specs.CooPlain.{plain_of_coo}
 use Rattle.sparse_with_dense.specs.Solutions.{HasSameValues}
 use Rattle.mtxkit_matrices.specs.Values.{IsSymmetricMatrix}
-use Rattle.mtxkit_systems.specs.Systems.{HasNoFactorisation, IsEquation, IsSystem}
-use Rattle.mtxkit_systems.specs.declared.system.SystemError.{SystemError}
-use Rattle.mtxkit_systems.specs.declared.system.SystemError.TheVariants as system
+use Rattle.mtxkit_matrices.specs.Systems.{HasNoFactorisation, IsEquation, IsSystem}
+use Rattle.mtxkit_matrices.specs.declared.systems.SystemError.{SystemError}
+use Rattle.mtxkit_matrices.specs.declared.systems.SystemError.TheVariants as system
 use Rattle.mtxkit_commands.specs.SystemErrors.{system_fault}
 use Rattle.mtxkit_commands.specs.Systems.{plain_of_integers, IsSolved, IsTested}
 

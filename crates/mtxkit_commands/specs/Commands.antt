@@ -13,9 +13,9 @@ use Rattle.mtxkit_texts.specs.Shown.{ShowsBitmap, ShowsBlocks}
 use Rattle.mtxkit_texts.specs.declared.failure.Failure.{Failure}
 use Rattle.mtxkit_texts.specs.declared.failure.Failure.TheVariants.{Unsaved, Write, OutOfMemory}
 use Rattle.mtxkit_texts.specs.Statuses.{status_of}
-use Rattle.mtxkit_decimals.specs.Failures.{IsScaleFailure}
-use Rattle.mtxkit_decimals.specs.Rewritten.{IsScaledText}
-use Rattle.mtxkit_decimals.specs.declared.error.ScaleError.{ScaleError}
+use Rattle.mtxkit_matrices.specs.ScaleFailures.{IsScaleFailure}
+use Rattle.mtxkit_matrices.specs.ScaledTexts.{IsScaledText}
+use Rattle.mtxkit_matrices.specs.declared.decimals.error.ScaleError.{ScaleError}
 use Rattle.mtxkit_commands.specs.Inputs.{Reading, IsUnread}
 use Rattle.mtxkit_commands.specs.Systems.{WritesSolution, SaysProduct}
 use Rattle.mtxkit_commands.specs.Systems.{IsSolveFailure, IsCheckFailure}

@@ -1,6 +1,6 @@
 -- The failures of commands whose systems have errors.
-use Rattle.mtxkit_systems.specs.declared.system.SystemError.{SystemError}
-use Rattle.mtxkit_systems.specs.declared.system.SystemError.TheVariants as system
+use Rattle.mtxkit_matrices.specs.declared.systems.SystemError.{SystemError}
+use Rattle.mtxkit_matrices.specs.declared.systems.SystemError.TheVariants as system
 use Rattle.mtxkit_texts.specs.declared.failure.Failure.{Failure}
 use Rattle.mtxkit_texts.specs.declared.failure.Failure.TheVariants as failure
 

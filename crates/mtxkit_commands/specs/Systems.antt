@@ -12,8 +12,8 @@ use Rattle.sparse_io.specs.Written.{text_of}
 use Rattle.sparse_market_scalar.specs.ScalarTypes.{signed_scalar}
 use Rattle.sparse_with_dense.specs.Solutions.{HasSameValues}
 use Rattle.mtxkit_matrices.specs.Values.{IsSymmetricMatrix}
-use Rattle.mtxkit_systems.specs.Orders.{IsByColumns, places_of}
-use Rattle.mtxkit_systems.specs.Systems.{HasNoFactorisation, IsEquation, IsSystem}
+use Rattle.mtxkit_matrices.specs.Orders.{IsByColumns, places_of}
+use Rattle.mtxkit_matrices.specs.Systems.{HasNoFactorisation, IsEquation, IsSystem}
 use Rattle.mtxkit_texts.specs.Loaded.{IsRefused, MeansIntegers}
 use Rattle.mtxkit_texts.specs.declared.failure.Failure.{Failure}
 use Rattle.mtxkit_texts.specs.declared.failure.Failure.TheVariants.{Shapes, NotSymmetric, NoFactors}

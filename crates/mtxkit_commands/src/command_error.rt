@@ -1,6 +1,6 @@
 //! The errors of commands.
 
-use mtxkit_decimals::ScaleError;
+use mtxkit_matrices::ScaleError;
 use mtxkit_texts::Failure;
 
 /// Why a command fails.

@@ -4,7 +4,7 @@ ghost use Rattle.std.specs.Prelude.{◌≡◌, pos, All, IfOk, map};
 ghost use Rattle.sparse_coo_dense.specs.CooPlain.{plain_of_coo};
 ghost use Rattle.sparse_algebra.specs.Integers.{element_of};
 ghost use Rattle.mtxkit_commands.specs.Systems.{plain_of_integers};
-ghost use Rattle.mtxkit_systems.specs.Orders.{places_of};
+ghost use Rattle.mtxkit_matrices.specs.Orders.{places_of};
 
 use crate::residues::Residues;
 use mtxkit_texts::with_values;

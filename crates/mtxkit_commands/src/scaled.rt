@@ -7,7 +7,7 @@ ghost use Rattle.mtxkit_commands.specs.Names.{IsErrorLine};
 use crate::command_error::CommandError;
 use crate::failure_lines::write_line;
 use crate::inputs::{Texts, read_text};
-use mtxkit_decimals::{ScaleError, scaled_text};
+use mtxkit_matrices::{ScaleError, scaled_text};
 use mtxkit_texts::Failure;
 use sparse_io::Sink;
 use std::alloc::{AllocError, Global};

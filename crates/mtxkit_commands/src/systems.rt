@@ -10,7 +10,7 @@ ghost use Rattle.mtxkit_commands.specs.SystemErrors.{system_fault};
 
 use crate::lists::{elements_of, integers_of};
 use crate::residues::Residues;
-use mtxkit_systems::{SystemError, is_solution, solve_listed};
+use mtxkit_matrices::{SystemError, is_solution, solve_listed};
 use mtxkit_texts::{Failure, read_integers};
 use sparse_algebra::scalar::{Mod, W64};
 use sparse_coo_dense::coo::CooMatrix;

@@ -1,5 +1,23 @@
+-- facts
 mod LaneCounts
 mod LongestLanes
-mod Marks
 mod PlacesLeft
+-- pictures
+mod Marks
+-- systems, and the values of matrices
+mod ColumnOrders
+mod SymmetricSystems
 mod ZeroValues
+-- decimals: numbers
+mod DecimalValues
+mod Magnitudes
+mod TrimmedDigits
+-- decimals: lines and texts
+mod CopiedLines
+mod CountedLines
+mod HeaderLines
+mod LineEnds
+mod LineLists
+mod Rewriting
+mod ScaleRefusals
+mod WrittenLines

@@ -4,7 +4,7 @@ use Rattle.std.specs.Prelude.{List, [], ◌∷◌, ◌++◌, codes, length, repl
 use Rattle.std.specs.Fmt.{decimal}
 use Rattle.std.specs.List.{flat_map}
 use Rattle.sparse_algebra.specs.Plain.{below}
-use Rattle.mtxkit_matrices.specs.declared.info.Info.{Info}
+use Rattle.mtxkit_matrices.specs.declared.facts.info.Info.{Info}
 
 -- ---- a line
 

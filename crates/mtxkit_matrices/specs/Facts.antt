@@ -6,7 +6,7 @@ use Rattle.sparse_compressed.specs.PlainOfLanes.{plain_of_rows}
 use Rattle.mtxkit_matrices.specs.Lanes.{count_below, has_size_in, HasEmptyColumns, IsHistogram}
 use Rattle.mtxkit_matrices.specs.Shapes.{IsBandwidth, IsSymmetricPattern}
 use Rattle.mtxkit_matrices.specs.Values.{IsSymmetricMatrix}
-use Rattle.mtxkit_matrices.specs.declared.info.Info.{Info}
+use Rattle.mtxkit_matrices.specs.declared.facts.info.Info.{Info}
 
 -- the facts are those of the matrix by rows, some of whose values are zero
 pub record AreFacts {T : Type 0} (R : CommRing) (f : T → R.Carrier) (is_zero : T → Bool)

@@ -1,22 +1,20 @@
-//! Facts about matrices and pictures of their patterns, for the program `mtxkit`.
+//! Matrices for the program `mtxkit`: facts about them and pictures of their patterns, symmetric systems, and texts of
+//! decimal numbers that become texts of integers.
 #![tactic(auto)]
 
-mod fact_lines;
-mod info;
-mod lanes;
-mod picture;
-mod picture_text;
-mod scale;
-mod shape;
+mod decimals;
+mod facts;
+mod pictures;
+mod systems;
 mod triangle;
 mod values;
 
-pub use fact_lines::{push_count, push_facts, push_line};
-pub use info::{Info, info_of};
-pub use lanes::{Histogram, count_lanes, counted_lanes, longest_lane};
-pub use picture::{Picture, draw};
-pub use picture_text::{bitmap_text, block_text};
-pub use scale::scaled_sizes;
-pub use shape::{bandwidth, is_symmetric};
+pub use decimals::{ScaleError, scaled_text};
+pub use facts::{
+    Histogram, Info, bandwidth, count_lanes, counted_lanes, info_of, is_symmetric, longest_lane,
+    push_count, push_facts, push_line,
+};
+pub use pictures::{Picture, bitmap_text, block_text, draw, scaled_sizes};
+pub use systems::{SystemError, is_solution, solve, solve_listed};
 pub use triangle::lower_of;
 pub use values::{count_zeros, has_same_values, has_symmetric_values};

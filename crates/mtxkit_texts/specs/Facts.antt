@@ -6,7 +6,7 @@ use Rattle.sparse_algebra.specs.declared.scalar.wide.W128.{W128}
 use Rattle.sparse_compressed.specs.Compressed.{Compressed}
 use Rattle.mtxkit_matrices.specs.FactLines.{count_lines, symmetry_lines, histogram_lines}
 use Rattle.mtxkit_matrices.specs.Facts.{AreFacts}
-use Rattle.mtxkit_matrices.specs.declared.info.Info.{Info}
+use Rattle.mtxkit_matrices.specs.declared.facts.info.Info.{Info}
 use Rattle.mtxkit_texts.specs.HeaderLines.{header_lines, size_lines}
 use Rattle.mtxkit_texts.specs.Headers.{header_in}
 use Rattle.mtxkit_texts.specs.Loaded.{MeansWhole, ring128, value128}

@@ -4,7 +4,7 @@ use Rattle.sparse_algebra.specs.declared.scalar.wide.W128.{W128}
 use Rattle.sparse_compressed.specs.Compressed.{Compressed}
 use Rattle.mtxkit_matrices.specs.Pictures.{Bitmap, HasPlaceIn, is_black}
 use Rattle.mtxkit_matrices.specs.PictureTexts.{bitmap_text, block_text}
-use Rattle.mtxkit_matrices.specs.Sizes.{picture_sizes}
+use Rattle.mtxkit_matrices.specs.PictureSizes.{picture_sizes}
 use Rattle.mtxkit_texts.specs.Loaded.{MeansMatrix}
 
 -- the picture has the sizes of one of the text's matrix whose sides have at most `size` cells; a cell

@@ -1,6 +1,6 @@
 //! What a text of decimal numbers becomes, times a power of ten.
 
-use mtxkit_decimals::{ScaleError, scaled_text};
+use mtxkit_matrices::{ScaleError, scaled_text};
 use std::alloc::{AllocError, Global};
 use std::test::Fail;
 

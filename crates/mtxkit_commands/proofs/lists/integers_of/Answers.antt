@@ -4,7 +4,7 @@ use Rattle.sparse_coo_dense.specs.Coo.{Coo}
 use Rattle.sparse_coo_dense.specs.CooPlain.{plain_of_coo}
 use Rattle.sparse_algebra.specs.Integers.{element_of}
 use Rattle.mtxkit_texts.proofs.Revalued.{length-revalued, plain-revalued}
-use Rattle.mtxkit_systems.specs.Orders.{places_of}
+use Rattle.mtxkit_matrices.specs.Orders.{places_of}
 use Rattle.mtxkit_commands.proofs.Listed.{integers-nonzero, places-zipped}
 use Rattle.mtxkit_commands.proofs.lists.integers_of.Goals as goal
 

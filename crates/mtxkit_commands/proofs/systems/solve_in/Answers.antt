@@ -1,7 +1,7 @@
 use Rattle.std.proofs.Common.{Err, ap, sym, subst, ◌∙◌}
 use Rattle.sparse_algebra.specs.Plain.{Plain}
 use Rattle.sparse_coo_dense.specs.CooPlain.{plain_of_coo}
-use Rattle.mtxkit_systems.specs.Orders.{IsByColumns}
+use Rattle.mtxkit_matrices.specs.Orders.{IsByColumns}
 use Rattle.mtxkit_commands.specs.Systems.{plain_of_integers, IsSolved}
 use Rattle.mtxkit_commands.proofs.Solving.{product-same, refused, system-same, system_at_ok}
 use Rattle.mtxkit_commands.proofs.systems.solve_in.Goals as goal

@@ -1,0 +1,75 @@
+-- Lists of lines, as they grow by one.
+use Rattle.std.proofs.Common.{◌≡◌, ℕ, Bool, true, List, [], ◌∷◌, ◌++◌, Some, refl, inl, inr}
+use Rattle.std.proofs.Common.{append-nil}
+use Rattle.std.specs.Prelude.{filter}
+use Rattle.std.specs.List.{list_all}
+use Rattle.std.proofs.lemmas.List.Elements.{filter-append}
+use Rattle.std.proofs.lemmas.List.Folds.{list_all-append}
+use Rattle.sparse_parser.specs.declared.header.Header.{Header}
+use Rattle.sparse_parser.specs.declared.header.Format.{Format}
+use Rattle.sparse_parser.specs.Header.{header_of}
+use Rattle.sparse_parser.specs.Grammar.{is_size, is_entry}
+use Rattle.sparse_parser.specs.InnerReading.{is_content, words_of}
+use Rattle.sparse_parser.proofs.LineLaws.{add}
+use Rattle.sparse_parser.proofs.LineShapes.{entry_nil}
+use Rattle.mtxkit_matrices.specs.ScaledTexts.{IsScaledEntry, AreScaled}
+use Rattle.mtxkit_matrices.specs.InnerRewriting.{IsSkipped}
+
+-- the words of a line, unless it is blank
+abbrev pub ones : List (List ℕ) → List (List (List ℕ))
+ones [] = []
+ones (word ∷ words) = (word ∷ words) ∷ []
+
+pub add-ones : (line : List ℕ) (lines : List (List (List ℕ)))
+    → add line lines ≡ ones (words_of line) ++ lines
+add-ones line lines = by (words_of line) refl
+  where
+    by : (ws : List (List ℕ)) → words_of line ≡ ws → add line lines ≡ ones (words_of line) ++ lines
+    by [] e = rw e refl
+    by (word ∷ words) e = rw e refl
+
+pub ones-some : (words : List (List ℕ)) → ¬ (words ≡ []) → ones words ≡ words ∷ []
+ones-some [] n = absurd (n refl)
+ones-some (word ∷ words) n = refl
+
+-- a line that is blank or a comment adds no contents
+pub nothing-more : (xs : List (List (List ℕ))) (words : List (List ℕ)) → IsSkipped words
+    → filter is_content (xs ++ ones words) ≡ filter is_content xs
+nothing-more xs words s = rw (filter-append is_content xs (ones words), none words s)
+    (append-nil (filter is_content xs))
+  where
+    none : (words : List (List ℕ)) → IsSkipped words → filter is_content (ones words) ≡ []
+    none [] h = refl
+    none (word ∷ words) (inl e) = absurd cc
+    none (word ∷ words) (inr e) = rw e refl
+
+pub one-more : (xs : List (List (List ℕ))) (words : List (List ℕ)) → ¬ (words ≡ [])
+    → is_content words ≡ true
+    → filter is_content (xs ++ ones words) ≡ filter is_content xs ++ (words ∷ [])
+one-more xs words n c = rw (ones-some words n, filter-append is_content xs (words ∷ []), c) refl
+
+pub all_more : (p : List (List ℕ) → Bool) (xs : List (List (List ℕ))) (x : List (List ℕ))
+    → list_all p xs ≡ true → p x ≡ true → list_all p (xs ++ (x ∷ [])) ≡ true
+all_more p xs x h e = rw (list_all-append p xs (x ∷ []), h, e) refl
+
+pub scaled_more : (scale : ℕ) (format : Format) (xs ys : List (List (List ℕ))) (x y : List (List ℕ))
+    → AreScaled scale format xs ys → IsScaledEntry scale format x y
+    → AreScaled scale format (xs ++ (x ∷ [])) (ys ++ (y ∷ []))
+scaled_more scale format [] [] x y h e = (e, tt)
+scaled_more scale format [] (b ∷ ys) x y h e = absurd h
+scaled_more scale format (a ∷ xs) [] x y h e = absurd h
+scaled_more scale format (a ∷ xs) (b ∷ ys) x y h e =
+    (h.0, scaled_more scale format xs ys x y h.1 e)
+
+pub some_header : (words : List (List ℕ)) (h : Header) → header_of words ≡ Some h → ¬ (words ≡ [])
+unfolding header_of
+some_header [] h e n = absurd cc
+some_header (word ∷ words) h e n = absurd cc
+
+pub some_size : (words : List (List ℕ)) → is_size words ≡ true → ¬ (words ≡ [])
+unfolding is_size
+some_size [] e n = absurd cc
+some_size (word ∷ words) e n = absurd cc
+
+pub some_entry : (words : List (List ℕ)) → is_entry words ≡ true → ¬ (words ≡ [])
+some_entry words e n = let f = entry_nil words n in absurd cc

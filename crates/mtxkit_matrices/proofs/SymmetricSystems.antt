@@ -1,0 +1,62 @@
+-- Symmetric systems: what solves the system of the factors solves that of the matrix.
+use Rattle.std.proofs.Common.{◌≡◌, ℕ, ◌<◌, ◌≤◌, ◌⊎◌, inl, inr, max, ap, sym}
+use Rattle.std.proofs.Common.{◌∙◌, refl, arith}
+use Rattle.std.proofs.Math.Nat.{min-eq_left, min-eq_right, max-eq_left, max-eq_right}
+use Rattle.sparse_algebra.specs.Algebra.{CommRing}
+use Rattle.sparse_algebra.specs.Plain.{Plain, plain_product}
+use Rattle.sparse_algebra.specs.Sums.{sum_below}
+use Rattle.sparse_algebra.proofs.SumLemmas.{sum_below-same}
+use Rattle.sparse_coo_dense.specs.DensePlain.{plain_full}
+use Rattle.sparse_factor.specs.Factorisations.{IsFactorisation, plain_symmetric}
+use Rattle.sparse_with_dense.specs.Solutions.{HasSameValues}
+use Rattle.mtxkit_matrices.specs.Systems.{HasNoFactorisation}
+
+order : (i j : ℕ) → (i ≤ j) ⊎ (j ≤ i)
+order i j = grind arith
+
+module _ (R : CommRing) where
+  -- the values are symmetric at the pairs below n
+  abbrev pub IsSymmetricBelow : ℕ → Plain R → Type 0
+  IsSymmetricBelow n a = (i j : ℕ) → i < n → j < n → a.value i j ≡ a.value j i
+
+  symmetric_is : (n : ℕ) (a : Plain R) → IsSymmetricBelow n a → (i j : ℕ) → i < n → j < n
+      → (plain_symmetric R a).value i j ≡ a.value i j
+  symmetric_is n a h i j row col = elim (order i j) [
+    | inl le ↦ ap (λ k. a.value k (max i j)) (min-eq_left le)
+        ∙ ap (a.value i) (max-eq_right le)
+    | inr le ↦ ap (λ k. a.value k (max i j)) (min-eq_right le)
+        ∙ ap (a.value j) (max-eq_left le) ∙ h j i col row
+  ]
+
+  pub solved_is : (a f x b : Plain R) (n m : ℕ) → a.cols ≡ n → f.cols ≡ n → IsSymmetricBelow n a
+      → HasSameValues R n n f (plain_symmetric R a)
+      → plain_full R (plain_product R f x) ≡ plain_full R b
+      → HasSameValues R n m (plain_product R a x) b
+  solved_is a f x b n m cols same h equation solved i j row _ =
+      ap (λ s. sum_below R s (λ k. R.mul (a.value i k) (x.value k j))) cols
+      ∙ sum_below-same R n (λ k. R.mul (a.value i k) (x.value k j))
+      (λ k. R.mul (f.value i k) (x.value k j))
+      (λ k lt. ap (λ v. R.mul v (x.value k j))
+      (sym (equation i k row lt ∙ symmetric_is n a h i k row lt)))
+      ∙ ap (λ s. sum_below R s (λ k. R.mul (f.value i k) (x.value k j))) (sym same)
+      ∙ ap (λ (p : Plain R). p.value i j) solved
+
+  -- a product depends on the values of its right factor alone
+  pub solution_same : (a x y b : Plain R) (n m : ℕ) → ((i j : ℕ) → y.value i j ≡ x.value i j)
+      → HasSameValues R n m (plain_product R a x) b → HasSameValues R n m (plain_product R a y) b
+  solution_same a x y b n m same solved i j row col =
+      sum_below-same R a.cols (λ k. R.mul (a.value i k) (y.value k j))
+      (λ k. R.mul (a.value i k) (x.value k j)) (λ k lt. ap (R.mul (a.value i k)) (same k j))
+      ∙ solved i j row col
+
+  pub no_factors : {T : Type 0} (f : T → R.Carrier) (a : Plain R) → IsSymmetricBelow a.rows a
+      → ((l : Plain R) (d : ℕ → R.Carrier) → IsFactorisation R f (plain_symmetric R a) l d → ⊥)
+      → HasNoFactorisation R f a
+  no_factors f a h none l d is =
+      none l d (record {
+        rows = is.rows;
+        lower = is.lower;
+        pivots = is.pivots;
+        equation = λ i j row col. is.equation i j row col
+            ∙ sym (symmetric_is a.rows a h i j row col);
+      })

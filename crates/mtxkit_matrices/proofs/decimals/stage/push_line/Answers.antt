@@ -1,0 +1,33 @@
+use Rattle.std.proofs.lemmas.Result.{IfOk-weaker}
+use Rattle.mtxkit_matrices.proofs.CopiedLines.{is_commented, is_contained, comment_step, copied}
+use Rattle.mtxkit_matrices.proofs.ScaleRefusals.{memory_failed}
+use Rattle.mtxkit_matrices.proofs.decimals.stage.push_line.Goals as goal
+
+pub returns-in-Head-clause-refused : goal.returns-in-Head-clause-refused
+returns-in-Head-clause-refused c = c.push_header.ensures.refused c.args.scale
+
+pub returns-in_default-stage-clause-written : goal.returns-in_default-stage-clause-written
+returns-in_default-stage-clause-written c =
+    let comment = is_commented c.args.line.now c.in-Some.ensures c.is_comment.ensures
+    c.if-is_comment.true in
+    IfOk-weaker c.push_bytes-in_default-stage.result _ _ (λ next h. h c.args.scale)
+    (copied c.args.line.now _ _ c.args.stage c.args.stage c.requires
+    (λ scale. comment_step scale c.args.stage _ c.in_default-stage.not-Head comment)
+    c.push_bytes-in_default-stage.result c.push_bytes-in_default-stage.ensures.next
+    c.push_bytes-in_default-stage.ensures.appended)
+
+pub returns-in_default-stage-clause-refused : goal.returns-in_default-stage-clause-refused
+returns-in_default-stage-clause-refused c =
+    memory_failed c.args.scale c.args.number _ c.push_bytes-in_default-stage.result
+    c.push_bytes-in_default-stage.ensures.refused
+
+pub push_sizes-requires-clause-content : goal.push_sizes-requires-clause-content
+push_sizes-requires-clause-content c =
+    is_contained c.args.line.now c.in-Some.ensures c.is_comment.ensures c.if-is_comment.false
+
+pub returns-in-Sizes-clause-refused : goal.returns-in-Sizes-clause-refused
+returns-in-Sizes-clause-refused c = c.push_sizes.ensures.refused c.args.scale
+
+pub push_entry-requires : goal.push_entry-requires
+push_entry-requires c =
+    is_contained c.args.line.now c.in-Some.ensures c.is_comment.ensures c.if-is_comment.false

@@ -1,0 +1,130 @@
+-- How far a text is written again, line by line.
+use Rattle.std.specs.Prelude.{◌≡◌, ◌⊎◌, ℕ, ℤ, true, false, List, [], ◌∷◌, ◌++◌, Some, filter}
+use Rattle.std.specs.Fmt.{signed_decimal}
+use Rattle.std.specs.Int.{w128}
+use Rattle.std.specs.Int.RustNames.{FitsSigned}
+use Rattle.std.specs.List.{list_all, AllByRecursion}
+use Rattle.sparse_parser.specs.declared.header.Field.TheVariants.{Integer}
+use Rattle.sparse_parser.specs.declared.header.Format.{Format}
+use Rattle.sparse_parser.specs.declared.header.Symmetry.{Symmetry}
+use Rattle.sparse_parser.specs.declared.header.Header.{Header}
+use Rattle.sparse_parser.specs.Bytes.{is_line_end}
+use Rattle.sparse_parser.specs.Header.{header_of}
+use Rattle.sparse_parser.specs.Grammar.{is_index, is_number, is_size, is_entry}
+use Rattle.sparse_parser.specs.InnerReading.{is_content, words_of, written_of}
+use Rattle.mtxkit_matrices.specs.Decimals.{IsScaled}
+use Rattle.mtxkit_matrices.specs.ScaledTexts.{IsScaledEntry, AreScaled, is_decimal, with_integers}
+use Rattle.mtxkit_matrices.specs.declared.decimals.stage.Stage.{Stage}
+use Rattle.mtxkit_matrices.specs.declared.decimals.stage.Stage.TheVariants.{Head, Sizes, Entries}
+
+-- the line is blank or a comment
+abbrev pub IsSkipped : List (List ℕ) → Type 0
+IsSkipped words = (words ≡ []) ⊎ (is_content words ≡ false)
+
+-- a line with these words is written as one with those, and the next is at this stage
+abbrev pub IsStep : ℕ → Stage → List (List ℕ) → Stage → List (List ℕ) → Type 0
+IsStep scale Head words next written =
+    ((words ≡ []) × (written ≡ []) × (next ≡ Head))
+    ⊎ ((h : Header) × (next ≡ Sizes h) × (header_of words ≡ Some h)
+    × (header_of written ≡ Some (with_integers h)) × (is_decimal h.field ≡ true))
+IsStep scale (Sizes h) words next written =
+    (IsSkipped words × (written ≡ words) × (next ≡ Sizes h))
+    ⊎ ((is_content words ≡ true) × (written ≡ words) × (next ≡ Entries h)
+    × (is_size words ≡ true))
+IsStep scale (Entries h) words next written =
+    (IsSkipped words × (written ≡ words) × (next ≡ Entries h))
+    ⊎ ((is_content words ≡ true) × (is_content written ≡ true) × (next ≡ Entries h)
+    × (is_entry words ≡ true) × (is_entry written ≡ true)
+    × IsScaledEntry scale h.format words written)
+
+-- the first line and the others below it, in the text and as they are written
+pub record AreBelow (h : Header) (read wrote others more : List (List (List ℕ))) : Type 0 where
+  pub head : List (List ℕ)
+  pub head' : List (List ℕ)
+  pub read_is : read ≡ head ∷ others
+  pub wrote_is : wrote ≡ head' ∷ more
+  pub says : header_of head ≡ Some h
+  pub says' : header_of head' ≡ Some (with_integers h)
+  pub field : is_decimal h.field ≡ true
+
+-- the sizes and the data lines so far
+pub record AreEntries (scale : ℕ) (h : Header) (contents contents' : List (List (List ℕ))) : Type
+    0 where
+  pub size : List (List ℕ)
+  pub lines : List (List (List ℕ))
+  pub entries : List (List (List ℕ))
+  pub contents_are : contents ≡ size ∷ lines
+  pub contents'_are : contents' ≡ size ∷ entries
+  pub sized : is_size size ≡ true
+  pub listed : list_all is_entry lines ≡ true
+  pub listed' : list_all is_entry entries ≡ true
+  pub values : AreScaled scale h.format lines entries
+
+-- these lines that are not blank were read, and those were written
+abbrev pub AreRewritten : ℕ → Stage → List (List (List ℕ)) → List (List (List ℕ)) → Type 0
+AreRewritten scale Head read wrote = (read ≡ []) × (wrote ≡ [])
+AreRewritten scale (Sizes h) read wrote =
+    (others : List (List (List ℕ))) × AreBelow h read wrote others others
+    × (filter is_content others ≡ [])
+AreRewritten scale (Entries h) read wrote =
+    (others : List (List (List ℕ))) × (more : List (List (List ℕ)))
+    × AreBelow h read wrote others more
+    × AreEntries scale h (filter is_content others) (filter is_content more)
+
+-- ---- one line
+
+abbrev pub IsPlain : List ℕ → Type 0
+IsPlain line = AllByRecursion (λ b. is_line_end b ≡ false) line
+
+-- the header line of integers with this format and this symmetry
+pub record IsHead (format : Format) (symmetry : Symmetry) (line : List ℕ) : Type 0 where
+  pub plain : IsPlain line
+  pub says : header_of (words_of line)
+      ≡ Some (record { format = format; field = Integer; symmetry = symmetry })
+
+-- for this line one was appended, and the next is at this stage
+pub record IsLineWritten (scale : ℕ) (stage : Stage) (line : List ℕ) (next : Stage)
+    (old new : List ℕ) : Type 0 where
+  pub written : List ℕ
+  pub appended : new ≡ old ++ written
+  pub plain : IsPlain written
+  pub step : IsStep scale stage (words_of line) next (words_of written)
+
+-- two indices and an integer
+abbrev pub coordinate_text : List ℕ → List ℕ → ℤ → List ℕ
+coordinate_text row col number = row ++ (32 ∷ (col ++ (32 ∷ signed_decimal number)))
+
+-- for these words of a data line two indices and a scaled value were appended
+pub record IsCoordinateLine (scale : ℕ) (words : List (List ℕ)) (old new : List ℕ) : Type 0 where
+  pub row : List ℕ
+  pub col : List ℕ
+  pub value : List ℕ
+  pub number : ℤ
+  pub words_are : words ≡ row ∷ col ∷ value ∷ []
+  pub row_is : is_index row ≡ true
+  pub col_is : is_index col ≡ true
+  pub value_is : is_number value ≡ true
+  pub scaled : IsScaled scale value number
+  pub fits : FitsSigned w128 number
+  pub appended : new ≡ old ++ coordinate_text row col number
+
+-- the same of a line of a value
+pub record IsArrayLine (scale : ℕ) (words : List (List ℕ)) (old new : List ℕ) : Type 0 where
+  pub value : List ℕ
+  pub number : ℤ
+  pub words_are : words ≡ value ∷ []
+  pub value_is : is_number value ≡ true
+  pub scaled : IsScaled scale value number
+  pub fits : FitsSigned w128 number
+  pub appended : new ≡ old ++ signed_decimal number
+
+-- ---- the text
+
+-- the text up to this rest was read, and this is written
+pub record IsTextWritten (scale : ℕ) (text : List ℕ) (stage : Stage) (rest written : List ℕ) : Type
+    0 where
+  pub read : List (List (List ℕ))
+  pub wrote : List (List (List ℕ))
+  pub read_is : written_of text ≡ read ++ written_of rest
+  pub wrote_is : (more : List ℕ) → written_of (written ++ more) ≡ wrote ++ written_of more
+  pub are : AreRewritten scale stage read wrote

@@ -1,0 +1,53 @@
+-- Texts written again with integers.
+use Rattle.std.specs.Prelude.{◌≡◌, ℕ, ℤ, Bool, true, false, List, [], ◌∷◌, Ok}
+use Rattle.sparse_parser.specs.declared.header.Format.{Format}
+use Rattle.sparse_parser.specs.declared.header.Format.TheVariants.{Coordinate, Array}
+use Rattle.sparse_parser.specs.declared.header.Field.{Field}
+use Rattle.sparse_parser.specs.declared.header.Field.TheVariants.{Real, Complex, Integer, Pattern}
+use Rattle.sparse_parser.specs.declared.header.Header.{Header}
+use Rattle.sparse_parser.specs.Grammar.{IsDocument}
+use Rattle.sparse_parser.specs.Meaning.{integer_of}
+use Rattle.mtxkit_matrices.specs.Decimals.{IsScaled}
+
+-- a word, and the word of the integer that is its number times 10 ^ scale
+pub record IsScaledWord (scale : ℕ) (word written : List ℕ) : Type 0 where
+  pub number : ℤ
+  pub scaled : IsScaled scale word number
+  pub means : integer_of written ≡ Ok number
+
+-- a data line, and the line of the same place with that value
+abbrev pub IsScaledEntry : ℕ → Format → List (List ℕ) → List (List ℕ) → Type 0
+IsScaledEntry scale Coordinate (row ∷ col ∷ value ∷ []) (row' ∷ col' ∷ written ∷ []) =
+    (row' ≡ row) × (col' ≡ col) × IsScaledWord scale value written
+IsScaledEntry scale Array (value ∷ []) (written ∷ []) = IsScaledWord scale value written
+IsScaledEntry scale format line written = ⊥
+
+-- the same of data lines in order
+abbrev pub AreScaled : ℕ → Format → List (List (List ℕ)) → List (List (List ℕ)) → Type 0
+AreScaled scale format [] [] = Unit {0}
+AreScaled scale format (line ∷ lines) (entry ∷ entries) =
+    IsScaledEntry scale format line entry × AreScaled scale format lines entries
+AreScaled scale format lines entries = ⊥
+
+-- the field is that of decimal numbers
+abbrev pub is_decimal : Field → Bool
+is_decimal Real = true
+is_decimal Complex = false
+is_decimal Integer = true
+is_decimal Pattern = false
+
+-- the header with the field of integers
+abbrev pub with_integers : Header → Header
+with_integers h = record { format = h.format; field = Integer; symmetry = h.symmetry }
+
+-- a text of decimal numbers, and the text with the same sizes and places whose values are these
+-- numbers times 10 ^ scale
+pub record IsScaledText (scale : ℕ) (text written : List ℕ) : Type 0 where
+  pub header : Header
+  pub size : List (List ℕ)
+  pub lines : List (List (List ℕ))
+  pub entries : List (List (List ℕ))
+  pub read : IsDocument text header size lines
+  pub field : is_decimal header.field ≡ true
+  pub wrote : IsDocument written (with_integers header) size entries
+  pub values : AreScaled scale header.format lines entries

@@ -1,0 +1,85 @@
+//! Why a text is not scaled.
+
+use std::alloc::{AllocError, AllocFailed};
+use std::error::Error;
+use std::fmt::{self, Display, Formatter, Write};
+
+/// Why the numbers of a text are not scaled by `10^K`. Lines are counted from 1; what is displayed does not name them.
+#[derive(Clone, Copy, Debug)]
+pub enum ScaleError {
+    /// This line, the first that is not blank, is not a header.
+    Header(usize),
+    /// The header in this line names complex values or none.
+    Field(usize),
+    /// This line is not the size line that the header needs.
+    Sizes(usize),
+    /// This line is not a data line that the header needs.
+    Entry(usize),
+    /// The value in this line, scaled, is not an integer.
+    Fraction(usize),
+    /// The value in this line, scaled, does not fit in 128 bits.
+    Range(usize),
+    /// The text ends before its size line.
+    Ended,
+    /// An allocation failed.
+    OutOfMemory,
+}
+
+impl ScaleError {
+    /// Returns the number of the line at fault, if one is.
+    pub fn line(self) -> Option<usize> {
+        match self {
+            ScaleError::Header(number)
+            | ScaleError::Field(number)
+            | ScaleError::Sizes(number)
+            | ScaleError::Entry(number)
+            | ScaleError::Fraction(number)
+            | ScaleError::Range(number) => Some(number),
+            ScaleError::Ended | ScaleError::OutOfMemory => None,
+        }
+    }
+
+    fn reason(self) -> &'static str {
+        match self {
+            ScaleError::Header(_) => "no Matrix Market header",
+            ScaleError::Field(_) =>
+                "the values are not decimal numbers but complex ones or a pattern",
+            ScaleError::Sizes(_) => "no size line that fits the header",
+            ScaleError::Entry(_) => "no data line that fits the header",
+            ScaleError::Fraction(_) => "the value times 10^K is not an integer; K may be too small",
+            ScaleError::Range(_) => "the value times 10^K does not fit in 128 bits",
+            ScaleError::Ended => "the text ends before its size line",
+            ScaleError::OutOfMemory => "out of memory",
+        }
+    }
+}
+
+impl Display for ScaleError {
+    fn fmt<W: Write>(&self, f: &mut Formatter<W>) -> fmt::Result {
+        f.write_str(self.reason())
+    }
+}
+
+impl Error for ScaleError {}
+
+impl From<AllocError> for ScaleError {
+    ghost use Rattle.std.specs.Prelude.{◌≡◌};
+    ghost use Rattle.mtxkit_matrices.specs.declared.decimals.error.ScaleError.TheVariants.{OutOfMemory};
+
+    ghost from_gives = { λ _ e. e ≡ OutOfMemory };
+
+    fn from(_refused: AllocError) -> ScaleError {
+        ScaleError::OutOfMemory
+    }
+}
+
+impl<T: Drop> From<AllocFailed<T>> for ScaleError {
+    ghost use Rattle.std.specs.Prelude.{◌≡◌};
+    ghost use Rattle.mtxkit_matrices.specs.declared.decimals.error.ScaleError.TheVariants.{OutOfMemory};
+
+    ghost from_gives = { λ _ e. e ≡ OutOfMemory };
+
+    fn from(_refused: AllocFailed<T>) -> ScaleError {
+        ScaleError::OutOfMemory
+    }
+}

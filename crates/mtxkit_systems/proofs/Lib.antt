@@ -1,2 +1,0 @@
-mod ColumnOrders
-mod SymmetricSystems
