@@ -6,7 +6,7 @@ ghost use Rattle.sparse_parser.specs.Meaning.{is_count};
 ghost use Rattle.mtxkit_texts.specs.Shapes.{IsShapeOf};
 ghost use Rattle.mtxkit_texts.specs.InnerShapes.{IsShapeBelow};
 
-use sparse_parser::data_lines::data_line;
+use sparse_io::count_entries;
 use sparse_parser::header::Header;
 use sparse_parser::lines::{after_space, next_line, split_line};
 use sparse_parser::size::Size;
@@ -74,18 +74,4 @@ fn is_count(count: Option<usize>, lines: usize) -> bool
         Some(count) => lines == count,
         None => false,
     }
-}
-
-// Counts the data lines of a text. Returns `None` if one of its lines is not a data line.
-pub(crate) fn count_entries(text: &[u8]) -> Option<usize>
-    ensures { result ≡ count_of (contents_of text.now) }
-{
-    let mut rest = next_line(text);
-    let mut count = 0;
-    while !rest.is_empty() {
-        let (_, after) = data_line(rest)?;
-        rest = next_line(after);
-        count += 1;
-    }
-    Some(count)
 }

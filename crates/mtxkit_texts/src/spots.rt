@@ -5,7 +5,7 @@ ghost use Rattle.sparse_parser.specs.InnerBytes.{BeginsLine};
 ghost use Rattle.sparse_parser.specs.InnerLines.{AreNumbers};
 
 use crate::line_faults::{LineFault, array_fault, bounds_fault, coordinate_fault};
-use crate::shapes::count_entries;
+use sparse_io::count_entries;
 use sparse_parser::data_lines::{Line, data_line};
 use sparse_parser::error::Cause;
 use sparse_parser::header::{Format, Header};
