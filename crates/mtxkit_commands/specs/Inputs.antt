@@ -1,5 +1,5 @@
 -- The files that a command reads, and the failures of those that cannot be read.
-use Rattle.std.specs.Prelude.{◌≡◌, ℕ, List, ◌∷◌, Result, Ok, Err}
+use Rattle.std.specs.Prelude.{◌≡◌, ℕ, List, ◌∷◌, Result, Ok, Err, String, string_bytes}
 use Rattle.std.specs.IoError.{error_kind}
 use Rattle.std.specs.declared.io.Error.{Error}
 use Rattle.std.specs.declared.io.ErrorKind.{ErrorKind}
@@ -10,6 +10,11 @@ use Rattle.mtxkit_texts.specs.declared.failure.Failure.TheVariants.{Unread, OutO
 -- the path of a file, and its text, or the error of opening or reading it
 abbrev pub Reading : Type 0
 Reading = List ℕ × Result (List ℕ) Error
+
+-- the path of a file, and what reading it gave
+abbrev pub reading_of : {A : Type 0} → List ℕ → Result (String A) Error → Reading
+reading_of path (Ok text) = (path, Ok (string_bytes text))
+reading_of path (Err error) = (path, Err error)
 
 -- the failure of the file with this number for an error of this kind
 abbrev pub unread_fault : ErrorKind → ℕ → Error → Failure

@@ -56,10 +56,7 @@ where
     /// Returns `InvalidData` if the file is not UTF-8.
     fn read(&mut self, path: &str) -> io::Result<String> {
         let read = content_of(self.rt, self.stdin, self.screen, path);
-        match &read {
-            Ok(text) => self.log = self.log.with_text(path.as_bytes(), text.as_bytes()),
-            Err(error) => self.log = self.log.with_error(path.as_bytes(), error),
-        }
+        self.log = self.log.with(path.as_bytes(), &read);
         read
     }
 }

@@ -1,8 +1,8 @@
 //! A list of readings that exists only in contracts.
 
-ghost use Rattle.std.specs.Prelude.{◌≡◌, List, [], ◌∷◌, Ok, Err};
+ghost use Rattle.std.specs.Prelude.{◌≡◌, List, [], ◌∷◌};
 ghost use base.Fml.{ftrue};
-ghost use Rattle.mtxkit_commands.specs.Inputs.{Reading};
+ghost use Rattle.mtxkit_commands.specs.Inputs.{Reading, reading_of};
 
 use std::io;
 use std::marker::Model;
@@ -25,16 +25,9 @@ impl Record {
         Record {}
     }
 
-    /// Returns this record and the text of the file with this path.
-    pub fn with_text(&self, _path: &[u8], _text: &[u8]) -> Record
-        ensures { result.readings ≡ (_path.now, Ok _text.now) ∷ self.now.readings }
-    {
-        Record {}
-    }
-
-    /// Returns this record and why the file with this path was not read.
-    pub fn with_error(&self, _path: &[u8], _error: &io::Error) -> Record
-        ensures { result.readings ≡ (_path.now, Err _error.now) ∷ self.now.readings }
+    /// Returns this record and what reading the file with this path gave.
+    pub fn with(&self, _path: &[u8], _read: &io::Result<String>) -> Record
+        ensures { result.readings ≡ reading_of _path.now _read.now ∷ self.now.readings }
     {
         Record {}
     }
