@@ -11,6 +11,7 @@ use Rattle.sparse_algebra.specs.Algebra.{CommRing}
 use Rattle.sparse_algebra.specs.Sums.{where_true}
 use Rattle.sparse_algebra.specs.Plain.{is_at}
 use Rattle.sparse_algebra.proofs.RingLemmas.{zero_add, mul_zero}
+use Rattle.sparse_algebra.proofs.SumLemmas.{where_yes, where_no}
 use Rattle.sparse_pattern.specs.Raw.{Raw, IsValid, IsPlace, entries_of}
 use Rattle.sparse_pattern.proofs.LaneOrder.{contains_cases, entries_are_places}
 use Rattle.sparse_pattern.proofs.Positions.{one_lane, one_position}
