@@ -5,6 +5,7 @@ mod answers;
 mod arguments;
 mod cli;
 mod command_error;
+mod command_line;
 mod commands;
 mod failure_lines;
 mod inputs;

@@ -1,0 +1,187 @@
+//! The command line of the program: its commands with their words, and the help of each.
+
+use clap::{Arg, ArgAction, value_parser};
+use std::alloc::{AllocError, Global};
+
+// The text of the file VERSION, as .ci/check_copies tests.
+const VERSION: &str = "0.1.0";
+
+// The moduli that a system is solved for.
+const MODULI: [&str; 11] = [
+    "2",
+    "3",
+    "5",
+    "7",
+    "11",
+    "13",
+    "101",
+    "65537",
+    "998244353",
+    "1000000007",
+    "2305843009213693951",
+];
+
+const FIELDS: [&str; 2] = ["integer", "pattern"];
+
+const MATRIX_FILE: &str = "A Matrix Market file, or - for standard input";
+
+const DECIMAL_FILE: &str = "A real or integer Matrix Market file, or - for standard input";
+
+// A command, with its words in the order of its usage.
+struct Usage {
+    name: &'static str,
+    about: &'static str,
+    words: &'static [Word],
+}
+
+// A word of a command.
+#[derive(Clone, Copy)]
+enum Word {
+    // A file that has to be named, and what it holds.
+    File(&'static str, &'static str),
+    Field,
+    Modulus,
+    Output,
+    Scale,
+    Size,
+    Text,
+}
+
+const USAGES: [Usage; 7] = [
+    Usage {
+        name: "info",
+        about: "Writes facts about a matrix",
+        words: &[Word::File("FILE", MATRIX_FILE)],
+    },
+    Usage {
+        name: "spy",
+        about: "Writes a picture of a pattern: a cell is black where a place lies in it",
+        words: &[
+            Word::File("FILE", MATRIX_FILE),
+            Word::Size,
+            Word::Output,
+            Word::Text,
+        ],
+    },
+    Usage {
+        name: "field",
+        about: "Writes a matrix with integers, ones at the places of a pattern, or as a pattern",
+        words: &[Word::Field, Word::File("FILE", MATRIX_FILE)],
+    },
+    Usage {
+        name: "integer",
+        about: "Writes a file of decimal numbers with integers: each number times 10^K, exactly",
+        words: &[Word::Scale, Word::File("FILE", DECIMAL_FILE)],
+    },
+    Usage {
+        name: "symmetric",
+        about: "Expands a symmetric file, or writes the lower triangle of a symmetric matrix",
+        words: &[Word::File("FILE", MATRIX_FILE)],
+    },
+    Usage {
+        name: "solve",
+        about: "Writes the matrix X with A X = B for a symmetric matrix A, exactly, by L D L^T",
+        words: &[
+            Word::Modulus,
+            Word::File("A", "The symmetric matrix"),
+            Word::File("B", "The right-hand sides"),
+        ],
+    },
+    Usage {
+        name: "check",
+        about: "Multiplies back: says whether A X = B",
+        words: &[
+            Word::Modulus,
+            Word::File("A", "The matrix"),
+            Word::File("X", "The solutions"),
+            Word::File("B", "The right-hand sides"),
+        ],
+    },
+];
+
+/// Returns the command line of the program.
+pub(crate) fn command_line<'a>(alloc: Global) -> Result<clap::Command<'a>, AllocError> {
+    let mut line = clap::Command::new(alloc, "mtxkit")
+        .about("Describes, shows and rewrites Matrix Market files, and solves symmetric systems")
+        .version(VERSION)
+        .subcommand_required(true)
+        .arg_required_else_help(true)
+        .disable_help_subcommand(true);
+    for usage in USAGES.as_slice() {
+        line = line.subcommand(command_used(alloc, usage)?)?;
+    }
+    Ok(line)
+}
+
+// Returns the command line of a command.
+fn command_used<'a>(alloc: Global, usage: &Usage) -> Result<clap::Command<'a>, AllocError> {
+    let mut command = clap::Command::new(alloc, usage.name).about(usage.about);
+    for word in usage.words {
+        command = command.arg(argument(alloc, *word)?)?;
+    }
+    Ok(command)
+}
+
+// Returns a word as `clap` takes it.
+fn argument<'a>(alloc: Global, word: Word) -> Result<Arg<'a>, AllocError> {
+    match word {
+        Word::File(name, help) => Ok(file_word(alloc, name, help)),
+        Word::Field => Ok(field_word(alloc)),
+        Word::Modulus => Ok(modulus_word(alloc)),
+        Word::Output => output_word(alloc),
+        Word::Scale => Ok(scale_word(alloc)),
+        Word::Size => Ok(size_word(alloc)),
+        Word::Text => Ok(text_word(alloc)),
+    }
+}
+
+// A word that has to be there.
+fn file_word<'a>(alloc: Global, name: &'a str, help: &'a str) -> Arg<'a> {
+    Arg::new(alloc, name)
+        .required(true)
+        .action(ArgAction::Set)
+        .help(help)
+}
+
+fn field_word<'a>(alloc: Global) -> Arg<'a> {
+    file_word(alloc, "FIELD", "The field to write").value_parser(FIELDS.as_slice())
+}
+
+fn size_word<'a>(alloc: Global) -> Arg<'a> {
+    Arg::new(alloc, "size")
+        .long("size")
+        .value_name("N")
+        .value_parser(value_parser!(usize).range(1..))
+        .help("The most cells of a side; 512, and 64 with --text")
+}
+
+fn scale_word<'a>(alloc: Global) -> Arg<'a> {
+    Arg::new(alloc, "scale")
+        .long("scale")
+        .value_name("K")
+        .value_parser(value_parser!(u32))
+        .help("The power of ten; 0 unless given")
+}
+
+fn output_word<'a>(alloc: Global) -> Result<Arg<'a>, AllocError> {
+    Arg::new(alloc, "output")
+        .short('o')
+        .value_name("OUT.pbm")
+        .help("Write the portable bitmap to this file")
+        .conflicts_with("text")
+}
+
+fn text_word<'a>(alloc: Global) -> Arg<'a> {
+    Arg::new(alloc, "text")
+        .long("text")
+        .action(ArgAction::SetTrue)
+        .help("Write block characters for a terminal")
+}
+
+fn modulus_word<'a>(alloc: Global) -> Arg<'a> {
+    Arg::new(alloc, "mod")
+        .long("mod")
+        .value_name("P")
+        .value_parser(MODULI.as_slice())
+        .help("Take the integers modulo P, in place of 2^64")
+}
