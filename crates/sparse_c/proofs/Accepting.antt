@@ -1,4 +1,5 @@
--- The operands have no fault where a call is refused as singular, which is not the status of small arrays.
+-- The operands have no fault where a call is refused as singular, which is not the status of small
+-- arrays.
 use Rattle.std.proofs.Common.{◌≡◌, ◌≢◌, ◌⊎◌, ℕ, ℤ, List, inl, inr, ap, sym, subst, ◌∙◌, arith}
 use Rattle.std.specs.Prelude.{nat_abs}
 use Rattle.sparse_algebra.specs.Algebra.{CommRing}

@@ -1,4 +1,5 @@
--- The number of lanes of a combination; a difference as a sum of multiples; a sum that is merged in the arrays.
+-- The number of lanes of a combination; a difference as a sum of multiples; a sum that is merged in
+-- the arrays.
 use Rattle.std.proofs.Common.{◌≡◌, ◌≢◌, ℤ, pos, inl, inr, ap, sym, subst, ◌∙◌, refl, arith}
 use Rattle.std.specs.Prelude.{nat_abs}
 use Rattle.sparse_algebra.proofs.PlainLemmas.{same_plain}

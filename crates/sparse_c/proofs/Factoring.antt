@@ -30,7 +30,8 @@ use Rattle.sparse_c_arrays.proofs.Joining.{both, found, refused}
 use Rattle.sparse_algebra.specs.Integers.{times_one, element_of}
 
 -- the factors of a matrix are those of the arrays that it was made of
-module _ (R : CommRing) {T : Type 0} (f : T → R.Carrier) (z : T) (a : Compressed ℤ) (m : Compressed T)
+module _ (R : CommRing) {T : Type 0} (f : T → R.Carrier) (z : T) (a : Compressed ℤ)
+    (m : Compressed T)
     (s : Factors T) (pattern : m.pattern ≡ a.pattern)
     (plain : plain_of_cols R f m ≡ plain_by_cols R a)
     (rows : s.l.pattern.minor_dim ≡ m.pattern.minor_dim)

@@ -34,7 +34,8 @@ module _ {T : Type 0} (answer : Result (Dense T) Refusal) (n m : ℕ)
       (λ (x : Dense T). P (plain_of_dense R f x)) answer
       (both (λ (x : Dense T). x.nrows ≡ n) (λ (x : Dense T). x.ncols ≡ m) answer rows cols) is
 
-  -- what holds of the answer holds of the numbers that were written; the caller sees the status as `seen`
+  -- what holds of the answer holds of the numbers that were written; the caller sees the status as
+  -- `seen`
   pub numbers_answered : {Shown : ℤ → Type 0} {Sound : Type 0} {Fault : Refusal → Type 0}
       (before after : Numbers) (status seen : ℤ) → seen ≡ status
       → after.values.ghost_name ≡ before.values.ghost_name
@@ -49,7 +50,8 @@ module _ {T : Type 0} (answer : Result (Dense T) Refusal) (n m : ℕ)
       → (status ≢ pos 0 → after.values.now ≡ before.values.now)
       → (status ≢ pos 0 → MatchResult answer (λ x. (status ≡ number_of TooSmall)
       × (length before.values.now < x.nrows * x.ncols)) (λ e. status ≡ number_of e))
-      → WritesNumbers (scalars R f Shown) Sound Fault (HoldsMatrix R P n m) (IsMatrixTooLong R P n m)
+      → WritesNumbers (scalars R f Shown) Sound Fault (HoldsMatrix R P n m)
+      (IsMatrixTooLong R P n m)
       (n * m) before after seen
   numbers_answered {Shown} before after status seen same array sound fault told written shown rest
       untouched why = record {

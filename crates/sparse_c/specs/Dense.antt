@@ -13,9 +13,9 @@ use Rattle.sparse_c_arrays.specs.Rests.{KeepsBehind}
 use Rattle.sparse_c_arrays.specs.Statuses.{FindsNoFault}
 use Rattle.sparse_c_arrays.specs.declared.refusal.Refusal.{Refusal}
 
--- the status of a call that writes n numbers, of which Holds, where Sound says that the operands have no
--- fault and Fault is their first one, and Small that the array is too small, with the array before it and
--- after it
+-- the status of a call that writes n numbers, of which Holds, where Sound says that the operands
+-- have no fault and Fault is their first one, and Small that the array is too small, with the array
+-- before it and after it
 pub record WritesValues (Sound : Type 0) (Fault : Refusal → Type 0) (Holds Small : List ℤ → Type 0)
     (n : ℕ) (before after : List ℤ) (status : ℤ) : Type 0 where
   pub written : status ≡ pos 0 → Holds after

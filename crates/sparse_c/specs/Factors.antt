@@ -56,8 +56,8 @@ module _ (R : CommRing) {T : Type 0} (f : T → R.Carrier) where
   IsFaultOfFactors a refusal =
       IsFaultOf a refusal ⊎ (IsSound a × (refusal ≡ Singular) × HasNoFactors R f a)
 
--- the status of a call that factors a, where Fault is its first fault, with its room and its diagonal
--- before and after it
+-- the status of a call that factors a, where Fault is its first fault, with its room and its
+-- diagonal before and after it
 pub record Factorises (R : CommRing) {T : Type 0} (f : T → R.Carrier) (Fault : Refusal → Type 0)
     (a : Compressed ℤ) (before after : Room) (old new : List ℤ) (status : ℤ) : Type 0 where
   pub written : status ≡ pos 0 → WritesFactors R f a after new
@@ -74,7 +74,8 @@ abbrev pub l_in : FactorRoom → Room
 l_in r = room_of r.offsets.now r.indices.now r.values.now r.places.now
 
 -- the same of a call over a ring, and what it shows in the arrays
-pub record FactorisesIn (S : Scalars) (s : Factored) (before after : FactorRoom) (status : ℤ) : Type 0 where
+pub record FactorisesIn (S : Scalars) (s : Factored) (before after : FactorRoom) (status : ℤ)
+    : Type 0 where
   pub answer : Factorises S.ring S.value (S.IsFault (IsFaultOfFactors S.ring S.value s.a)) s.a
       (l_in before) (l_in after) before.diagonal.now after.diagonal.now status
   pub shown : Shows S.IsShown after.places.now after.values.now status

@@ -1,4 +1,5 @@
--- What a call does over the residues modulo m it does modulo m, and where m is not listed it leaves the arrays.
+-- What a call does over the residues modulo m it does modulo m, and where m is not listed it leaves
+-- the arrays.
 use Rattle.std.specs.Prelude.{◌≡◌, ◌≤◌, ℕ, ℤ, pos, List, refl}
 use Rattle.std.proofs.Common.{inl, inr, arith}
 use Rattle.sparse_algebra.specs.ModNumbers.{mod_value}
@@ -13,7 +14,7 @@ use Rattle.sparse_c.specs.Solved.{Divides, DividesIn, IsFaultOfQuotient}
 use Rattle.sparse_c.specs.declared.arguments.FactorRoom.{FactorRoom}
 use Rattle.sparse_c.specs.declared.arguments.Numbers.{Numbers}
 use Rattle.sparse_c.specs.declared.arguments.Quotient.{Quotient}
-use Rattle.sparse_c.specs.declared.arguments.Room as lent
+use Rattle.sparse_c.specs.declared.arguments.Room as borrowed
 use Rattle.sparse_c.specs.declared.arguments.Factored.{Factored}
 use Rattle.sparse_c_arrays.proofs.Faultless.{other}
 use Rattle.sparse_c_arrays.specs.Arrays.{Room}
@@ -53,14 +54,15 @@ shown_modulo : (m : ℕ) {n : ℕ} {numbers : List ℤ} {status : ℤ} → m ≤
     → Shows (residues_of m).IsShown n numbers status → Shows (modulo m).IsShown n numbers status
 shown_modulo m short made = record { each = λ h k lt. made.each h k lt short }
 
-same_arrays : (r : lent.Room) → AreSameArrays r r
+same_arrays : (r : borrowed.Room) → AreSameArrays r r
 same_arrays r = record { offsets = refl; indices = refl; values = refl; places = refl }
 
 -- ---- answers that are written in arrays
 
-answers_listed : {Answer Wide : Room → Room → ℤ → Type 0} (m : ℕ) {before after : lent.Room}
+answers_listed : {Answer Wide : Room → Room → ℤ → Type 0} (m : ℕ) {before after : borrowed.Room}
     {status : ℤ} → m ≤ 9223372036854775808
-    → (Answer (held_in before) (held_in after) status → Wide (held_in before) (held_in after) status)
+    → (Answer (held_in before) (held_in after) status
+    → Wide (held_in before) (held_in after) status)
     → AnswersIn (residues_of m) Answer before after status
     → AnswersIn (modulo m) Wide before after status
 answers_listed m short wide made = record {
@@ -69,7 +71,7 @@ answers_listed m short wide made = record {
   arrays = made.arrays;
 }
 
-answers_unlisted : {Answer : Room → Room → ℤ → Type 0} (m : ℕ) (r : lent.Room)
+answers_unlisted : {Answer : Room → Room → ℤ → Type 0} (m : ℕ) (r : borrowed.Room)
     → Answer (held_in r) (held_in r) (number_of UnknownChoice)
     → AnswersIn (modulo m) Answer r r (number_of UnknownChoice)
 answers_unlisted m r answer = record {
@@ -81,7 +83,7 @@ answers_unlisted m r answer = record {
 -- ---- matrices by rows
 
 module _ {Sound : Type 0} {Fault : Refusal → Type 0} where
-  pub rows_listed : (m : ℕ) (a : Plain (mod_ring m)) (before after : lent.Room) (status : ℤ)
+  pub rows_listed : (m : ℕ) (a : Plain (mod_ring m)) (before after : borrowed.Room) (status : ℤ)
       → m ≤ 9223372036854775808 → WritesIn (residues_of m) Sound Fault a before after status
       → WritesIn (modulo m) Sound Fault a before after status
   rows_listed m a before after status short = answers_listed m short
@@ -94,7 +96,7 @@ module _ {Sound : Type 0} {Fault : Refusal → Type 0} where
         refused = λ h. refused_modulo m (made.refused h);
       })
 
-  pub rows_unlisted : (m : ℕ) (a : Plain (mod_ring m)) (r : lent.Room) → IsNoneOf moduli m
+  pub rows_unlisted : (m : ℕ) (a : Plain (mod_ring m)) (r : borrowed.Room) → IsNoneOf moduli m
       → WritesIn (modulo m) Sound Fault a r r (number_of UnknownChoice)
   rows_unlisted m a r none = answers_unlisted m r (record {
     written = not_done;
@@ -107,12 +109,13 @@ module _ {Sound : Type 0} {Fault : Refusal → Type 0} where
 
 -- ---- quotients
 
-pub quotient_listed : (m : ℕ) (q : Quotient) (before after : lent.Room) (status : ℤ)
+pub quotient_listed : (m : ℕ) (q : Quotient) (before after : borrowed.Room) (status : ℤ)
     → m ≤ 9223372036854775808 → DividesIn (residues_of m) q before after status
     → DividesIn (modulo m) q before after status
-quotient_listed m q before after status short = answers_listed m short (λ (made : Divides (mod_ring m)
-    (IsFaultOfQuotient (mod_ring m) (mod_value {m = m}) q.a q.divisor) q.a q.divisor (held_in before)
-    (held_in after) status). record {
+quotient_listed m q before after status short =
+    answers_listed m short (λ (made : Divides (mod_ring m)
+    (IsFaultOfQuotient (mod_ring m) (mod_value {m = m}) q.a q.divisor) q.a q.divisor
+    (held_in before) (held_in after) status). record {
       written = made.written;
       rest = made.rest;
       sound = made.sound;
@@ -121,7 +124,7 @@ quotient_listed m q before after status short = answers_listed m short (λ (made
       refused = λ h. refused_modulo m (made.refused h);
     })
 
-pub quotient_unlisted : (m : ℕ) (q : Quotient) (r : lent.Room) → IsNoneOf moduli m
+pub quotient_unlisted : (m : ℕ) (q : Quotient) (r : borrowed.Room) → IsNoneOf moduli m
     → DividesIn (modulo m) q r r (number_of UnknownChoice)
 quotient_unlisted m q r none = answers_unlisted m r (record {
   written = not_done;
@@ -181,7 +184,8 @@ factors_unlisted m s r none = record {
 
 -- ---- dense matrices
 
-module _ {Sound : Type 0} {Fault : Refusal → Type 0} {Holds Small : List ℤ → Type 0} {n : ℕ} (m : ℕ) where
+module _ {Sound : Type 0} {Fault : Refusal → Type 0} {Holds Small : List ℤ → Type 0} {n : ℕ}
+    (m : ℕ) where
   pub numbers_listed : (before after : Numbers) (status : ℤ) → m ≤ 9223372036854775808
       → WritesNumbers (residues_of m) Sound Fault Holds Small n before after status
       → WritesNumbers (modulo m) Sound Fault Holds Small n before after status

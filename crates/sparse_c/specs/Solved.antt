@@ -9,7 +9,7 @@ use Rattle.sparse_with_dense.specs.Solutions.{plain_lower, IsSingular, IsSolutio
 use Rattle.sparse_c.specs.Rooms.{AnswersIn}
 use Rattle.sparse_c.specs.Scalars.{Scalars}
 use Rattle.sparse_c.specs.declared.arguments.Quotient.{Quotient}
-use Rattle.sparse_c.specs.declared.arguments.Room as lent
+use Rattle.sparse_c.specs.declared.arguments.Room as borrowed
 use Rattle.sparse_c_arrays.specs.Arrays.{plain_by_cols, plain_by_rows, plain_by_values}
 use Rattle.sparse_c_arrays.specs.Arrays.{places_of, Room, HoldsRows}
 use Rattle.sparse_algebra.specs.Integers.{element_of}
@@ -80,8 +80,8 @@ module _ (R : CommRing) {T : Type 0} (f : T → R.Carrier) where
   IsFaultOfQuotient m divisor refusal = IsFaultOf m refusal
       ⊎ (IsSound m × (refusal ≡ Singular) × (HasInverse R f (element_of R divisor) → ⊥))
 
--- the status of a call that divides the matrix by rows by the integer, where Fault is the first fault, and
--- the arrays before it and after it
+-- the status of a call that divides the matrix by rows by the integer, where Fault is the first
+-- fault, and the arrays before it and after it
 pub record Divides (R : CommRing) (Fault : Refusal → Type 0) (a : Compressed ℤ) (divisor : ℤ)
     (before after : Room) (status : ℤ) : Type 0 where
   pub written : status ≡ pos 0 → WritesQuotient R a divisor after
@@ -92,6 +92,6 @@ pub record Divides (R : CommRing) (Fault : Refusal → Type 0) (a : Compressed �
   pub refused : status ≢ pos 0 → IsRefusedFor Fault (IsQuotientTooSmall R a divisor before) status
 
 -- the same of a call over a ring, and what it shows
-abbrev pub DividesIn : Scalars → Quotient → lent.Room → lent.Room → ℤ → Type 0
+abbrev pub DividesIn : Scalars → Quotient → borrowed.Room → borrowed.Room → ℤ → Type 0
 DividesIn S q = AnswersIn S (Divides S.ring
     (S.IsFault (IsFaultOfQuotient S.ring S.value q.a q.divisor)) q.a q.divisor)

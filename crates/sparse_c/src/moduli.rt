@@ -11,7 +11,7 @@ use sparse_c_arrays::number::Number;
 use sparse_c_arrays::refusal::Refusal;
 use std::alloc::Global;
 
-/// The operands of a call that writes into `O`, the arrays that C lends.
+/// The operands of a call that writes into `O`, the arrays that it borrows from C.
 pub(crate) trait Call<O>: Drop {
     // What the operands must satisfy.
     ghost fits: { Self → Type 0 } = { λ _. Unit {0} };

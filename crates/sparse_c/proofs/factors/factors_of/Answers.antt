@@ -22,7 +22,8 @@ returns-clause-factors g c =
     let pivots = c.in_ok-d.ensures.items ∙ c.d.ensures.d in
     subst (λ (p : Compressed g.row.T.Denot × List g.row.T.Denot). AreFactors R f c.args.a
     (plain_of_cols R f p.0) (diagonal R f z p.1)) (λ k. (sym columns k, sym pivots k))
-    (factors_of_arrays R f z c.args.a c.in_ok-a.a s c.in_ok-a.ensures.pattern c.in_ok-a.ensures.plain
+    (factors_of_arrays R f z c.args.a c.in_ok-a.a s c.in_ok-a.ensures.pattern
+    c.in_ok-a.ensures.plain
     facts.rows facts.count (subst IsSound copied c.values.ensures.sound) facts.places
     facts.unit_diagonal facts.pivots facts.equation)
 
