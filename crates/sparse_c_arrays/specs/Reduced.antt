@@ -9,7 +9,3 @@ FirstAre P n numbers = (k : ℕ) → k < n → P (slice_index_or numbers k (pos 
 -- the number is from 0 to m - 1
 abbrev pub IsReduced : ℕ → ℤ → Type 0
 IsReduced m z = (n : ℕ) × (z ≡ pos n) × (n < modulus m)
-
--- the first n numbers are from 0 to m - 1
-abbrev pub AreReduced : ℕ → ℕ → List ℤ → Type 0
-AreReduced m n numbers = FirstAre (IsReduced m) n numbers

@@ -75,8 +75,3 @@ IsRefusedFor Fault Small status = (refusal : Refusal) × (status ≡ number_of r
 -- the same of a call that writes a matrix by rows
 abbrev pub IsRefused : {R : CommRing} → (Refusal → Type 0) → Plain R → Room → ℤ → Type 0
 IsRefused Fault a r status = IsRefusedFor Fault (IsTooSmall a r) status
-
--- the same of a call that writes a dense matrix of this shape
-abbrev pub IsDenseRefused : (Refusal → Type 0) → ℕ → ℕ → List ℤ → ℤ → Type 0
-IsDenseRefused Fault rows cols values status =
-    IsRefusedFor Fault (length values < rows * cols) status
