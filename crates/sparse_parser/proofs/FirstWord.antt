@@ -1,38 +1,20 @@
--- The first word of a line, and what it is.
-use Rattle.std.proofs.Common.{◌≡◌, ◌≢◌, ℕ, ◌+◌, ◌^◌, ◌<◌, ◌&&◌, ◌||◌, not, Bool, true, false}
-use Rattle.std.proofs.Common.{eqb, List, [], ◌∷◌, ◌++◌, length, Option, None, refl, sym}
-use Rattle.std.proofs.Common.{ap, subst, ◌∙◌, arith, inl, inr, length-append}
-use Rattle.std.specs.Prelude.{◌⊎◌, IsTrue}
-use Rattle.std.specs.Option.{SomeIff}
+-- The first word of a line, and what follows it.
+use Rattle.std.proofs.Common.{◌≡◌, ℕ, ◌<◌, not, Bool, true, false, List, [], ◌∷◌, ◌++◌, length}
+use Rattle.std.proofs.Common.{refl, sym, ap, subst, ◌∙◌, arith}
 use Rattle.std.specs.List.{AllByRecursion}
-use Rattle.std.specs.Char.{is_ascii_digit}
-use Rattle.std.specs.Str.Parse.{digits_value, without_leading_sign}
-use Rattle.std.proofs.lemmas.List.{nil_from_length}
-use Rattle.std.proofs.lemmas.Bool.Decides.{nat_tests}
-use Rattle.sparse_parser.specs.declared.data_lines.NumberKind.{NumberKind}
-use Rattle.sparse_parser.specs.declared.data_lines.NumberKind.TheVariants.{Index, Signed, Other}
 use Rattle.sparse_parser.specs.declared.data_lines.Found.{Found}
 use Rattle.sparse_parser.specs.declared.data_lines.Found.TheVariants as found
 use Rattle.sparse_parser.specs.Bytes.{is_blank, is_line_end, front, after}
 use Rattle.sparse_parser.specs.InnerBytes.{is_space, is_within_line, is_solid}
-use Rattle.sparse_parser.specs.Grammar.{IsApart, is_index, is_integer, is_number}
+use Rattle.sparse_parser.specs.Grammar.{IsApart}
 use Rattle.sparse_parser.specs.InnerReading.{words_of, line_words, ends_line}
-use Rattle.sparse_parser.specs.InnerLines.{IsNumberOf, IsWord, IsFound, StartsWord, ends_word}
-use Rattle.sparse_parser.specs.InnerLines.{is_plain, is_whole}
+use Rattle.sparse_parser.specs.InnerLines.{IsWord, IsFound, StartsWord, ends_word}
 use Rattle.sparse_parser.proofs.Fronts.{Passes, IsStopped, Passes-front, IsStopped-after}
 use Rattle.sparse_parser.proofs.Fronts.{front-append-after, front-yes, front-no, after-no}
-use Rattle.sparse_parser.proofs.Fronts.{after-append, front-append_passes}
-use Rattle.sparse_parser.proofs.Fronts.{after-append_passes}
-use Rattle.sparse_parser.proofs.ByteClasses.{digit_solid, sign_solid, sign_no_digit, solid_no_blank}
-use Rattle.sparse_parser.proofs.ByteClasses.{solid_within_line, unsolid_no_digit, unsolid_space}
+use Rattle.sparse_parser.proofs.Fronts.{front-append_passes, after-append_passes}
+use Rattle.sparse_parser.proofs.ByteClasses.{solid_no_blank, solid_within_line, unsolid_space}
 use Rattle.sparse_parser.proofs.ByteClasses.{space_unsolid, blank_within_line, Passes-weaker}
-use Rattle.sparse_parser.proofs.ByteClasses.{Passes-append}
 use Rattle.sparse_parser.proofs.WordLaws.{words_of-nil, words_of-blanks, words_of-word}
-use Rattle.sparse_parser.proofs.EntryLaws.{sign_of, sign_of-append, value_word, value_word-append}
-use Rattle.sparse_parser.proofs.EntryLaws.{value_word-is_integer, value_word-number}
-use Rattle.sparse_parser.proofs.EntryLaws.{some_value}
-use Rattle.sparse_parser.proofs.NumberLaws.{digits-of, integer-number, index-integer}
-use Rattle.sparse_parser.proofs.NumberLaws.{index-unsigned, false-before}
 
 -- ---- blanks before a line
 
@@ -84,6 +66,19 @@ starts_word text start s e =
     by [] stop e = absurd cc
     by (b ∷ start) stop e = rw (stop, e) refl
 
+-- what is found after blanks is found before them
+pub found_after_blanks : (text start : List ℕ) (f : Found) → start ≡ after is_blank text
+    → IsFound start f → IsFound text f
+found_after_blanks text start (found.Number n rest) e h =
+    (h.0, word-after_blanks text start n.word.now rest.now e h.1)
+found_after_blanks text start (found.End rest) e h = (
+  sym (ap line_words e ∙ words-after_blanks text) ∙ h.0,
+  h.1 ∙ ap (after is_within_line) e
+      ∙ line-after_blanks text,
+)
+found_after_blanks text start found.Fault e h =
+    (h.0, h.1, sym (ap line_words e ∙ words-after_blanks text) ∙ h.2, h.3)
+
 -- ---- a word and what follows it
 
 apart : (rest : List ℕ) → ends_word rest ≡ true → IsApart (front is_within_line rest)
@@ -111,152 +106,11 @@ word_first word rest lt solid e =
       line = sym (after-append_passes is_within_line word rest inside);
     }
 
--- ---- an integer
-
-sign_passes : (text : List ℕ) → Passes is_solid (sign_of text)
-sign_passes [] = tt
-sign_passes (b ∷ text) = by (eqb b 43 || eqb b 45) refl
-  where
-    by : (t : Bool) → (eqb b 43 || eqb b 45) ≡ t → Passes is_solid (sign_of (b ∷ text))
-    by true e = rw e (sign_solid b e, tt)
-    by false e = rw e tt
-
-value-passes : (text : List ℕ) → Passes is_solid (value_word text)
-value-passes text = Passes-append is_solid (sign_of text) _ (sign_passes text)
-    (Passes-weaker is_ascii_digit is_solid _ digit_solid
-    (Passes-front is_ascii_digit (without_leading_sign text)))
-
-length-second : (s t : List ℕ) → 0 < length t → 0 < length (s ++ t)
-length-second s t lt = let e = length-append s t in omega arith
-
--- the digits that stand after a sign, and what stands after them
-pub record AreDigits (text unsigned rest word : List ℕ) (digits : Option ℕ) : Type 0 where
-  pub unsigned_is : unsigned ≡ without_leading_sign text
-  pub rest_is : rest ≡ after is_ascii_digit unsigned
-  pub some : length rest ≢ length unsigned
-  pub ends : ends_word rest ≡ true
-  pub word_is : word ≡ value_word text
-  pub number : SomeIff digits (digits_value 10 (front is_ascii_digit unsigned) < 2 ^ 64)
-      (digits_value 10 (front is_ascii_digit unsigned))
-
-pub integer_word : (text unsigned rest word : List ℕ) (digits : Option ℕ)
-    → AreDigits text unsigned rest word digits → IsWord text word rest
-integer_word text unsigned rest word digits h =
-    let i = some_value text unsigned rest h.unsigned_is h.rest_is h.some in
-    let lt = length-second (sign_of text) _ (digits-of _ i).0 in
-    let w = word_first (value_word text) rest lt (value-passes text) h.ends in
-    let same : value_word text ++ rest ≡ text = ap (λ (t : List ℕ). value_word text ++ t)
-    (h.rest_is ∙ ap (after is_ascii_digit) h.unsigned_is) ∙ value_word-append text in
-    subst (λ (t : List ℕ). IsWord t word rest) same
-    (subst (λ (v : List ℕ). IsWord (value_word text ++ rest) v rest) (sym h.word_is) w)
-
-no_sign : (text : List ℕ) → length (without_leading_sign text) ≡ length text → sign_of text ≡ []
-no_sign text e = nil_from_length (sign_of text)
-    (let l : length (sign_of text) + length (without_leading_sign text) ≡ length text =
-    sym (length-append (sign_of text) (without_leading_sign text))
-    ∙ ap length (sign_of-append text) in omega arith)
-
-pub plain_number : (text unsigned rest word : List ℕ) (digits : Option ℕ)
-    → AreDigits text unsigned rest word digits → length unsigned ≡ length text
-    → IsNumberOf word digits Index
-plain_number text unsigned rest word digits h e =
-    let i = value_word-is_integer text unsigned rest word h.unsigned_is h.rest_is h.some
-    h.word_is in
-    let s = no_sign text (ap length (sym h.unsigned_is) ∙ e) in
-    let w : word ≡ front is_ascii_digit (without_leading_sign text) = h.word_is
-    ∙ ap (λ (x : List ℕ). x ++ front is_ascii_digit (without_leading_sign text)) s in
-    record {
-      number = integer-number word i;
-      index = ap is_index w ∙ some_value text unsigned rest h.unsigned_is h.rest_is h.some;
-      integer = i;
-      digits_are = λ _. value_word-number text unsigned word digits h.unsigned_is h.number
-          h.word_is;
-    }
-
-no_index_first : (b : ℕ) (word : List ℕ) → is_ascii_digit b ≡ false → is_index (b ∷ word) ≡ false
-no_index_first b word e = rw e (by _)
-  where
-    by : (t : Bool) → (t && false) ≡ false
-    by true = refl
-    by false = refl
-
-signed_no_index : (text : List ℕ) → length (without_leading_sign text) ≢ length text
-    → is_index (value_word text) ≡ false
-signed_no_index [] n = absurd (n refl)
-signed_no_index (b ∷ text) n = by (eqb b 43 || eqb b 45) refl
-  where
-    none_is : (eqb b 43 || eqb b 45) ≡ false → without_leading_sign (b ∷ text) ≡ b ∷ text
-    none_is e = grind (arith, nat_tests)
-
-    by : (t : Bool) → (eqb b 43 || eqb b 45) ≡ t → is_index (value_word (b ∷ text)) ≡ false
-    by true e =
-        let w : value_word (b ∷ text) ≡ b ∷ front is_ascii_digit (without_leading_sign (b ∷ text)) =
-        rw e refl in
-        ap is_index w ∙ no_index_first b _ (sign_no_digit b e)
-    by false e = absurd (n (ap length (none_is e)))
-
-pub signed_number : (text unsigned rest word : List ℕ) (digits : Option ℕ)
-    → AreDigits text unsigned rest word digits → length unsigned ≢ length text
-    → IsNumberOf word digits Signed
-signed_number text unsigned rest word digits h n =
-    let i = value_word-is_integer text unsigned rest word h.unsigned_is h.rest_is h.some
-    h.word_is in
-    record {
-      number = integer-number word i;
-      index = ap is_index h.word_is ∙ signed_no_index text (λ e. n (ap length h.unsigned_is ∙ e));
-      integer = i;
-      digits_are = λ _. value_word-number text unsigned word digits h.unsigned_is h.number
-          h.word_is;
-    }
-
 -- ---- another word
 
--- a sign and what stands after it, before more
-sign-split : (word next : List ℕ) → is_integer word ≡ true
-    → without_leading_sign (word ++ next) ≡ without_leading_sign word ++ next
-sign-split [] next i = absurd cc
-sign-split (b ∷ word) next i = by (eqb b 45) (eqb b 43) refl refl
-  where
-    by : (minus plus : Bool) → eqb b 45 ≡ minus → eqb b 43 ≡ plus
-        → without_leading_sign (b ∷ (word ++ next)) ≡ without_leading_sign (b ∷ word) ++ next
-    by true plus m p = rw m refl
-    by false true m p = rw (m, p) refl
-    by false false m p = rw (m, p) refl
-
-stops_digits : (next : List ℕ) → IsStopped is_solid next → IsStopped is_ascii_digit next
-stops_digits [] stop = tt
-stops_digits (b ∷ next) stop = unsolid_no_digit b stop
-
-stops_word : (next : List ℕ) → IsStopped is_solid next → ends_word next ≡ true
+pub stops_word : (next : List ℕ) → IsStopped is_solid next → ends_word next ≡ true
 stops_word [] stop = refl
 stops_word (b ∷ next) stop = unsolid_space b stop
-
-pub no_integer : (text unsigned rest : List ℕ) → unsigned ≡ without_leading_sign text
-    → rest ≡ after is_ascii_digit unsigned
-    → (length rest ≡ length unsigned) ⊎ (ends_word rest ≡ false)
-    → is_integer (front is_solid text) ≡ false
-no_integer text unsigned rest u r wrong = by (is_integer (front is_solid text)) refl
-  where
-    by : (t : Bool) → is_integer (front is_solid text) ≡ t
-        → is_integer (front is_solid text) ≡ false
-    by false i = i
-    by true i =
-        let word = front is_solid text in
-        let next = after is_solid text in
-        let d = digits-of (without_leading_sign word) i in
-        let stop = IsStopped-after is_solid text in
-        let s : unsigned ≡ without_leading_sign word ++ next = u
-        ∙ ap without_leading_sign (sym (front-append-after is_solid text))
-        ∙ sign-split word next i in
-        let a : rest ≡ next = r ∙ ap (after is_ascii_digit) s
-        ∙ after-append is_ascii_digit (without_leading_sign word) next d.1
-        (stops_digits next stop) in
-        absurd (elim wrong [
-          | inl e ↦ let l : length unsigned ≡ length (without_leading_sign word) + length next =
-              ap length s ∙ length-append (without_leading_sign word) next in let m : length rest
-              ≡ length next = ap length a in let lt = d.0 in omega arith
-          | inr e ↦ let f : ends_word rest ≡ true = ap ends_word a ∙ stops_word next stop in cc
-        ])
 
 some_solid : (text : List ℕ) → StartsWord text → 0 < length (front is_solid text)
 some_solid [] h = absurd h
@@ -271,37 +125,3 @@ other_word text word rest start w r =
     (front-append-after is_solid text) h in
     subst (λ (x : List ℕ). IsWord text x rest) (sym w)
     (subst (λ (x : List ℕ). IsWord text (front is_solid text) x) (sym r) k)
-
-pub other_is : (word : List ℕ) → is_number word ≡ true → is_integer word ≡ false
-    → IsNumberOf word None Other
-other_is word n i = record {
-  number = n;
-  index = false-before (is_index word) (is_integer word) (index-integer word) i;
-  integer = i;
-  digits_are = λ e. absurd cc;
-}
-
--- the number of an index, which has no sign
-pub index_digits : (word : List ℕ) (digits : Option ℕ) (kind : NumberKind) → IsNumberOf word digits kind
-    → is_plain kind ≡ true → SomeIff digits (digits_value 10 word < 2 ^ 64) (digits_value 10 word)
-index_digits word digits kind h p =
-    subst (λ (w : List ℕ). SomeIff digits (digits_value 10 w < 2 ^ 64) (digits_value 10 w))
-    (index-unsigned word (h.index ∙ p)) (h.digits_are (whole kind p))
-  where
-    whole : (kind : NumberKind) → is_plain kind ≡ true → IsTrue (is_whole kind)
-    whole Index p = refl
-    whole Signed p = refl
-    whole Other p = absurd cc
-
--- what is found after blanks is found before them
-pub found_after_blanks : (text start : List ℕ) (f : Found) → start ≡ after is_blank text
-    → IsFound start f → IsFound text f
-found_after_blanks text start (found.Number n rest) e h =
-    (h.0, word-after_blanks text start n.word.now rest.now e h.1)
-found_after_blanks text start (found.End rest) e h = (
-  sym (ap line_words e ∙ words-after_blanks text) ∙ h.0,
-  h.1 ∙ ap (after is_within_line) e
-      ∙ line-after_blanks text,
-)
-found_after_blanks text start found.Fault e h =
-    (h.0, h.1, sym (ap line_words e ∙ words-after_blanks text) ∙ h.2, h.3)

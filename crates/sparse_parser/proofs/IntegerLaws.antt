@@ -29,7 +29,8 @@ use Rattle.sparse_parser.proofs.Fronts.{Passes-front, front-append-after, front-
 use Rattle.sparse_parser.proofs.ByteClasses.{digit_solid, space_no_digit, Passes-weaker}
 use Rattle.sparse_parser.proofs.EntryLaws.{some_front, is_index-front, found-number, value_word}
 use Rattle.sparse_parser.proofs.EntryLaws.{value_word-is_integer, value_word-number}
-use Rattle.sparse_parser.proofs.FirstWord.{AreDigits, word_first, word-after_blanks, integer_word}
+use Rattle.sparse_parser.proofs.FirstWord.{word_first, word-after_blanks}
+use Rattle.sparse_parser.proofs.IntegerWords.{AreDigits, integer_word}
 use Rattle.sparse_parser.proofs.FirstWord.{words-after_blanks, line-after_blanks, line_ends}
 use Rattle.sparse_parser.proofs.Digits.{digit_small}
 use Rattle.sparse_parser.proofs.Positions.{after_passed, digit_read}

@@ -4,6 +4,7 @@ mod Positions
 mod Runs
 mod EntryLaws
 mod FirstWord
+mod IntegerWords
 mod IntegerLaws
 pub mod Fronts
 pub mod ContentLaws

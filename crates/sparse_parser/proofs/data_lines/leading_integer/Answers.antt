@@ -4,8 +4,9 @@ use Rattle.sparse_parser.specs.InnerBytes.{is_solid}
 use Rattle.sparse_parser.specs.Grammar.{is_integer}
 use Rattle.sparse_parser.specs.InnerLines.{IsNumberOf}
 use Rattle.sparse_parser.proofs.EntryLaws.{value_word-is}
-use Rattle.sparse_parser.proofs.FirstWord.{AreDigits, no_integer, word-after_blanks, integer_word}
-use Rattle.sparse_parser.proofs.FirstWord.{plain_number, signed_number}
+use Rattle.sparse_parser.proofs.FirstWord.{word-after_blanks}
+use Rattle.sparse_parser.proofs.IntegerWords.{AreDigits, no_integer, integer_word, plain_number}
+use Rattle.sparse_parser.proofs.IntegerWords.{signed_number}
 use Rattle.sparse_parser.proofs.data_lines.leading_integer.Goals as goal
 use Rattle.sparse_parser.proofs.data_lines.leading_integer.Goals.{then-rest-unsigned-via-then-rest-unsigned}
 use Rattle.sparse_parser.proofs.data_lines.leading_integer.Goals.{then-rest-unsigned-via-else-rest-unsigned+then-not-ends_word}

@@ -3,7 +3,8 @@ use Rattle.sparse_parser.specs.Bytes.{front}
 use Rattle.sparse_parser.specs.InnerBytes.{is_solid}
 use Rattle.sparse_parser.specs.Grammar.{is_integer}
 use Rattle.sparse_parser.specs.InnerReading.{line_words}
-use Rattle.sparse_parser.proofs.FirstWord.{other_word, other_is}
+use Rattle.sparse_parser.proofs.FirstWord.{other_word}
+use Rattle.sparse_parser.proofs.IntegerWords.{other_is}
 use Rattle.sparse_parser.proofs.data_lines.other_number.Goals as goal
 
 pub returns-then-not-is_number : goal.returns-then-not-is_number

@@ -1,6 +1,6 @@
 use Rattle.std.proofs.Common.{refl}
 use Rattle.sparse_parser.specs.declared.error.Cause.TheVariants.{IndexTooLarge}
-use Rattle.sparse_parser.proofs.FirstWord.{index_digits}
+use Rattle.sparse_parser.proofs.IntegerWords.{index_digits}
 use Rattle.sparse_parser.proofs.EntryLaws.{number_found}
 use Rattle.sparse_parser.proofs.data_lines.Number.index.Goals as goal
 
