@@ -1,4 +1,3 @@
-use Rattle.std.proofs.lemmas.Grind.{common_steps}
 use Rattle.std.proofs.Common.{arith}
 use Rattle.sparse_parser.proofs.Runs.{window_read}
 use Rattle.sparse_parser.proofs.digit_runs.few_digits_at.Goals as goal
@@ -9,8 +8,3 @@ returns-then-end-lt12-clause-read c =
     _ (omega arith) (omega arith) c.text_from-before.ensures
     c.split_at.ensures.front c.read_digits-end.ensures.end c.if-end-lt12.true
     c.read_digits-end.ensures.value
-
--- ---- written by tools/answer-goals
-
-pub split_at-requires : goal.split_at-requires
-split_at-requires c = grind (arith, common_steps)

@@ -1,4 +1,3 @@
-use Rattle.std.proofs.lemmas.Grind.{common_steps}
 use Rattle.std.proofs.Common.{◌≡◌, ◌<◌, ◌≤◌, ◌+◌, ◌-◌, ◌*◌, ◌^◌, get_or, length, sym, subst, ◌∙◌}
 use Rattle.std.proofs.Common.{arith, rules, ℕ, true, inl}
 use Rattle.std.specs.Char.{is_ascii_digit}
@@ -49,11 +48,3 @@ pub returns-else-is_ascii_digit-clause-stopped : goal.returns-else-is_ascii_digi
 returns-else-is_ascii_digit-clause-stopped c =
     inl (front-drop_stop is_ascii_digit c.args.text.now c.loop-at.at (omega arith)
     (sym c.is_ascii_digit.ensures.value ∙ c.if-is_ascii_digit.false))
-
--- ---- written by tools/answer-goals
-
-pub returns-after-loop-at-clause-read : goal.returns-after-loop-at-clause-read
-returns-after-loop-at-clause-read c = grind (arith, common_steps)
-
-pub returns-else-is_ascii_digit-clause-read : goal.returns-else-is_ascii_digit-clause-read
-returns-else-is_ascii_digit-clause-read c = grind (arith, common_steps)

@@ -1,5 +1,4 @@
-use Rattle.std.proofs.lemmas.Grind.{common_steps}
-use Rattle.std.proofs.Common.{◌≡◌, [], drop, sym, ◌∙◌, arith}
+use Rattle.std.proofs.Common.{◌≡◌, [], drop, sym, ◌∙◌}
 use Rattle.std.specs.Char.{is_ascii_digit}
 use Rattle.sparse_parser.specs.Bytes.{front}
 use Rattle.sparse_parser.proofs.Fronts.{front-drop_all, front-drop_stop}
@@ -27,14 +26,3 @@ returns-clause-number c = fits_all c.loop-at.number c.args.text.now c.loop-at.at
           | else-loop-at-test w ↦ front-drop_all is_ascii_digit c.args.text.now c.loop-at.at
               w.loop-at-test.false
         ]
-
--- ---- written by tools/answer-goals
-
-pub loop-at-preserved : goal.loop-at-preserved
-loop-at-preserved c = grind (arith, common_steps)
-
-pub returns-clause-rest : goal.returns-clause-rest
-returns-clause-rest c = grind (arith, common_steps)
-
-pub returns-in-None-clause-rest : goal.returns-in-None-clause-rest
-returns-in-None-clause-rest c = grind (arith, common_steps)
