@@ -1,6 +1,0 @@
--- written by tools/answer-goals
-use Rattle.std.proofs.Common.{rules}
-use Rattle.sparse_market_scalar.proofs.scalar.wrapping.W64MatrixMarketScalar.negative.Goals as goal
-
-pub returns : goal.returns
-returns c = search rules
