@@ -1,6 +1,6 @@
 -- The lines that are copied: blank lines, comments and the size line.
 use Rattle.std.proofs.Common.{◌≡◌, ◌≢◌, ℕ, Bool, true, false, eqb, List, ◌∷◌, ◌++◌, get_or, Option}
-use Rattle.std.proofs.Common.{Some, None, Result, Ok, Err, refl, sym, ◌∙◌, inl, inr}
+use Rattle.std.proofs.Common.{Some, Result, Ok, Err, refl, sym, ap, ◌∙◌, inl, inr}
 use Rattle.std.specs.Prelude.{IfOk}
 use Rattle.std.specs.Option.{option_map}
 use Rattle.std.proofs.lemmas.Bool.{eqb-true, eqb-false}
@@ -10,6 +10,7 @@ use Rattle.sparse_parser.specs.declared.header.Header.{Header}
 use Rattle.sparse_parser.specs.Grammar.{is_size}
 use Rattle.sparse_parser.specs.InnerReading.{is_content, words_of, size_numbers, size_at}
 use Rattle.sparse_parser.proofs.ContentLaws.{content_line, is_content-comment}
+use Rattle.sparse_parser.proofs.LineShapes.{size_some}
 use Rattle.mtxkit_matrices.specs.declared.decimals.error.ScaleError.{ScaleError}
 use Rattle.mtxkit_matrices.specs.declared.decimals.stage.Stage.{Stage}
 use Rattle.mtxkit_matrices.specs.declared.decimals.stage.Stage.TheVariants.{Head, Sizes, Entries}
@@ -32,15 +33,8 @@ is_contained line {word} {words} e f g =
 pub sized_from : (h : Header) (words : List (List ℕ)) (o : Option (Result Size Cause))
     (r : Result Size Cause) → o ≡ Some r → option_map (λ x. size_numbers x) o ≡ size_at h words
     → is_size words ≡ true
-unfolding size_at
-sized_from h words o r e s = by (is_size words) refl
-  where
-    by : (t : Bool) → is_size words ≡ t → is_size words ≡ true
-    by true z = z
-    by false z =
-        let none : size_at h words ≡ None = rw z refl in
-        let some : option_map (λ x. size_numbers x) o ≡ Some (size_numbers r) = rw e refl in
-        absurd cc
+sized_from h words o r e s =
+    (size_some h words (size_numbers r) (sym (ap (option_map (λ x. size_numbers x)) e) ∙ s)).0
 
 pub comment_step : (scale : ℕ) (stage : Stage) (words : List (List ℕ)) → stage ≢ Head
     → is_content words ≡ false → IsStep scale stage words stage words

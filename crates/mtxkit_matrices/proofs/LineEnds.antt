@@ -1,17 +1,17 @@
 -- A text is cut behind its front line, and read on behind the line's end.
-use Rattle.std.proofs.Common.{◌≡◌, ℕ, ◌+◌, ◌<◌, Bool, true, false, eqb, not, List, [], ◌∷◌}
+use Rattle.std.proofs.Common.{◌≡◌, ℕ, ◌+◌, ◌<◌, Bool, true, false, eqb, List, [], ◌∷◌}
 use Rattle.std.proofs.Common.{◌++◌, length, get_or, drop, refl, ap, ◌∙◌, arith, inl, inr}
 use Rattle.std.proofs.Common.{length-append}
-use Rattle.std.proofs.lemmas.Bool.{eqb-true, eqb-false}
+use Rattle.std.proofs.lemmas.Bool.{eqb-true, eqb-false, not-false}
 use Rattle.std.proofs.lemmas.Bool.Decides.{nat_tests}
 use Rattle.sparse_parser.specs.Bytes.{is_line_end, front, after}
 use Rattle.sparse_parser.specs.InnerBytes.{is_within_line}
 use Rattle.sparse_parser.specs.Grammar.{IsLineEnd}
 use Rattle.sparse_parser.specs.InnerReading.{ends_line, written_of}
-use Rattle.sparse_parser.proofs.Fronts.{Passes, IsStopped, Passes-front, IsStopped-after}
+use Rattle.sparse_parser.proofs.Fronts.{IsStopped, Passes-front, IsStopped-after}
 use Rattle.sparse_parser.proofs.Fronts.{front-append-after, length-after}
-use Rattle.sparse_parser.proofs.FrontLines.{end-from}
-use Rattle.sparse_parser.proofs.LineLaws.{written_of-end}
+use Rattle.sparse_parser.proofs.FrontLines.{plain-from}
+use Rattle.sparse_parser.proofs.LineLaws.{some_byte, written_of-end}
 use Rattle.mtxkit_matrices.specs.InnerScaleFailures.{IsEnded}
 use Rattle.mtxkit_matrices.specs.InnerRewriting.{IsPlain}
 
@@ -43,13 +43,9 @@ pub ended_two : (text rest next : List ℕ) → get_or text 0 0 ≡ 13 → rest 
 ended_two text rest next cr r lf n = inr (
   13 ∷ 10 ∷ [],
   inr (inl refl),
-  begins 13 text (omega arith) cr
-      ∙ rw (← r, n) (ap (λ (x : List ℕ). 13 ∷ x) (begins 10 rest (omega arith) lf)),
+  some_byte 13 text (omega arith) cr
+      ∙ rw (← r, n) (ap (λ (x : List ℕ). 13 ∷ x) (some_byte 10 rest (omega arith) lf)),
 )
-  where
-    begins : (b : ℕ) (text : List ℕ) → 0 < b → get_or text 0 0 ≡ b → text ≡ b ∷ drop 1 text
-    begins b [] lt e = absurd (omega arith)
-    begins b (c ∷ text) lt e = rw e refl
 
 -- some text after a line end
 pub some_next : (others : List ℕ) → ends_line others ≡ true → (next : List ℕ) × IsEnded others next
@@ -81,17 +77,9 @@ pub record IsCut (rest line others : List ℕ) : Type 0 where
   pub line_is : line ≡ front is_within_line rest
   pub others_are : others ≡ after is_within_line rest
 
-plain-from : (line : List ℕ) → Passes is_within_line line → IsPlain line
-plain-from [] h = tt
-plain-from (b ∷ line) h = (is_not (is_line_end b) h.0, plain-from line h.1)
-  where
-    is_not : (x : Bool) → not x ≡ true → x ≡ false
-    is_not true f = absurd cc
-    is_not false f = refl
-
 stopped_end : (text : List ℕ) → IsStopped is_within_line text → ends_line text ≡ true
 stopped_end [] h = refl
-stopped_end (b ∷ text) h = end-from b h
+stopped_end (b ∷ text) h = not-false (is_line_end b) h
 
 module _ {rest line others : List ℕ} (c : IsCut rest line others) where
   pub cut_whole : line ++ others ≡ rest

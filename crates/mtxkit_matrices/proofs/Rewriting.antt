@@ -1,15 +1,13 @@
 -- How a text is written again, line by line.
-use Rattle.std.proofs.Common.{◌≡◌, ℕ, List, [], ◌∷◌, ◌++◌, length, Some, refl, sym, ap, ◌∙◌, inl, inr}
+use Rattle.std.proofs.Common.{◌≡◌, ℕ, List, [], ◌∷◌, ◌++◌, length, refl, sym, ap, ◌∙◌, inl, inr}
 use Rattle.std.proofs.Common.{append_assoc, append-nil}
-use Rattle.std.specs.Prelude.{filter}
 use Rattle.std.proofs.lemmas.List.{nil_from_length}
 use Rattle.sparse_parser.specs.declared.header.Header.{Header}
-use Rattle.sparse_parser.specs.Header.{header_of}
-use Rattle.sparse_parser.specs.Grammar.{IsHeaded, is_entry}
-use Rattle.sparse_parser.specs.InnerReading.{is_content, words_of, written_of}
-use Rattle.sparse_parser.proofs.LineLaws.{ended, lines_only, some_lines}
+use Rattle.sparse_parser.specs.Grammar.{is_entry}
+use Rattle.sparse_parser.specs.InnerReading.{words_of, written_of}
+use Rattle.sparse_parser.proofs.LineLaws.{ended}
 use Rattle.sparse_parser.proofs.FrontLines.{written_of-line, written_of-nil}
-use Rattle.sparse_parser.proofs.ContentLaws.{headed_are}
+use Rattle.sparse_parser.proofs.ContentLaws.{lines_headed}
 use Rattle.mtxkit_matrices.specs.declared.decimals.stage.Stage.{Stage}
 use Rattle.mtxkit_matrices.specs.declared.decimals.stage.Stage.TheVariants.{Head, Sizes, Entries}
 use Rattle.mtxkit_matrices.specs.ScaledTexts.{IsScaledText, with_integers}
@@ -143,20 +141,6 @@ module _ (scale : ℕ) (text : List ℕ) where
 
       regroup : (a b c : List ℕ) → ((a ++ b) ++ (10 ∷ [])) ++ c ≡ a ++ (b ++ (10 ∷ c))
       regroup a b c = simp append_assoc
-
-lines_headed : (text : List ℕ) (words : List (List ℕ)) (others : List (List (List ℕ)))
-    (header : Header)
-    → written_of text ≡ words ∷ others → header_of words ≡ Some header
-    → IsHeaded text header (filter is_content others)
-lines_headed text words others header e h =
-    let l = some_lines text in
-    record {
-      lines = l.0;
-      words = words;
-      cut = l.1;
-      headed = headed_are l.0 words others (lines_only text l.0 l.1 ∙ e);
-      says = h;
-    }
 
 -- where the whole text was read
 pub text_ends : (scale : ℕ) (text rest written : List ℕ) (h : Header)

@@ -1,76 +1,32 @@
 -- The words of the data lines that are written.
-use Rattle.std.proofs.Common.{◌≡◌, ◌≢◌, ℕ, ℤ, pos, negsuc, suc, ◌<◌, List, [], ◌∷◌, ◌++◌, length}
-use Rattle.std.proofs.Common.{get_or, true, false, Ok, refl, sym, ap, ◌∙◌, arith, inr}
+use Rattle.std.proofs.Common.{◌≡◌, ℕ, ℤ, List, [], ◌∷◌, ◌++◌, true, Ok, refl, sym, ap, ◌∙◌, inr}
 use Rattle.std.specs.Prelude.{FitsSigned}
 use Rattle.std.specs.Int.{w128}
-use Rattle.std.specs.List.{AllByRecursion}
-use Rattle.std.specs.Char.{is_ascii_digit}
-use Rattle.std.specs.Fmt.{decimal, signed_decimal}
+use Rattle.std.specs.Fmt.{signed_decimal}
 use Rattle.std.specs.Str.Parse.{signed_digits_value}
-use Rattle.std.proofs.lemmas.Bool.Decides.{nat_tests}
 use Rattle.std.proofs.lemmas.List.{append-nil}
 use Rattle.sparse_parser.specs.declared.header.Header.{Header}
 use Rattle.sparse_parser.specs.declared.header.Format.TheVariants.{Coordinate, Array}
-use Rattle.sparse_parser.specs.Bytes.{is_blank, is_line_end}
-use Rattle.sparse_parser.specs.Grammar.{is_index, is_number}
+use Rattle.sparse_parser.specs.Grammar.{is_number}
 use Rattle.sparse_parser.specs.InnerReading.{is_content, words_of}
 use Rattle.sparse_parser.specs.Meaning.{integer_of}
-use Rattle.sparse_parser.proofs.Fronts.{Passes}
-use Rattle.sparse_parser.proofs.ByteClasses.{Solid-digits}
-use Rattle.sparse_parser.proofs.NumberLaws.{digits-of, integer-number}
+use Rattle.sparse_parser.proofs.NumberLaws.{integer-number}
 use Rattle.sparse_parser.proofs.ContentLaws.{content_line}
 use Rattle.sparse_parser.proofs.LineShapes.{entry_1, entry_3}
 use Rattle.sparse_parser.proofs.WordLaws.{words_of-nil, words_of-blank, words_of-word}
-use Rattle.sparse_market_scalar.specs.IntegerTexts.{decimal-index, number_text}
+use Rattle.sparse_parser.proofs.WrittenWords.{IsText, index_text, integer_text, unblank, unended}
+use Rattle.sparse_parser.proofs.WrittenWords.{plain_text, not_comment}
+use Rattle.sparse_market_scalar.specs.IntegerTexts.{number_text}
 use Rattle.mtxkit_matrices.specs.declared.decimals.stage.Stage.TheVariants.{Entries}
 use Rattle.mtxkit_matrices.specs.Decimals.{IsScaled}
 use Rattle.mtxkit_matrices.specs.ScaledTexts.{IsScaledWord}
-use Rattle.mtxkit_matrices.specs.InnerRewriting.{IsPlain, IsLineWritten, coordinate_text}
+use Rattle.mtxkit_matrices.specs.InnerRewriting.{IsLineWritten, coordinate_text}
 use Rattle.mtxkit_matrices.specs.InnerRewriting.{IsCoordinateLine, IsArrayLine}
 
 -- ---- words
 
-pub record IsText (word : List ℕ) : Type 0 where
-  pub some : 0 < length word
-  pub solid : AllByRecursion (λ b. is_blank b ≡ false) word
-  pub plain : IsPlain word
-  pub first : get_or word 0 0 ≢ 37
-
-digit_plain : (b : ℕ) → is_ascii_digit b ≡ true → is_line_end b ≡ false
-digit_plain b e = grind (arith, nat_tests)
-
-plain_digits : (word : List ℕ) → Passes is_ascii_digit word → IsPlain word
-plain_digits [] h = tt
-plain_digits (b ∷ word) h = (digit_plain b h.0, plain_digits word h.1)
-
-digit_first : (word : List ℕ) → 0 < length word → Passes is_ascii_digit word → get_or word 0 0 ≢ 37
-digit_first [] lt h = absurd (omega arith)
-digit_first (b ∷ word) lt h = no_percent b h.0
-  where
-    no_percent : (b : ℕ) → is_ascii_digit b ≡ true → b ≢ 37
-    no_percent b e = grind (arith, nat_tests)
-
-pub index_text : (word : List ℕ) → is_index word ≡ true → IsText word
-index_text word e =
-    let d = digits-of word e in
-    record {
-      some = d.0;
-      solid = Solid-digits word d.1;
-      plain = plain_digits word d.1;
-      first = digit_first word d.0 d.1;
-    }
-
-pub integer_text : (z : ℤ) → FitsSigned w128 z → IsText (signed_decimal z)
-integer_text (pos n) f = let s = f.sfits in index_text (decimal n) (decimal-index n (omega arith))
-integer_text (negsuc n) f =
-    let s = f.sfits in
-    let d = index_text (decimal (suc n)) (decimal-index (suc n) (omega arith)) in
-    record {
-      some = omega arith;
-      solid = (refl, d.solid);
-      plain = (refl, d.plain);
-      first = omega arith;
-    }
+number_is_text : (z : ℤ) → FitsSigned w128 z → IsText (signed_decimal z)
+number_is_text z f = integer_text (signed_decimal z) (number_text w128 z f).spelled
 
 -- the text of an integer of 128 bits means it
 pub integer-means : (z : ℤ) → FitsSigned w128 z → integer_of (signed_decimal z) ≡ Ok z
@@ -86,17 +42,14 @@ integer_is_number z f = integer-number (signed_decimal z) (number_text w128 z f)
 
 -- ---- lines
 
-plain-append : (s t : List ℕ) → IsPlain s → IsPlain t → IsPlain (s ++ t)
-plain-append [] t h k = k
-plain-append (b ∷ s) t h k = (h.0, plain-append s t h.1 k)
-
 one_word : (word : List ℕ) → IsText word → words_of word ≡ word ∷ []
-one_word word h = ap words_of (sym (append-nil word)) ∙ words_of-word word [] h.some h.solid tt
+one_word word h = ap words_of (sym (append-nil word))
+    ∙ words_of-word word [] h.some (unblank word h.solid) tt
     ∙ ap (λ (ws : List (List ℕ)). word ∷ ws) words_of-nil
 
 next_word : (word rest : List ℕ) → IsText word
     → words_of (word ++ (32 ∷ rest)) ≡ word ∷ words_of rest
-next_word word rest h = words_of-word word (32 ∷ rest) h.some h.solid refl
+next_word word rest h = words_of-word word (32 ∷ rest) h.some (unblank word h.solid) refl
     ∙ ap (λ (ws : List (List ℕ)). word ∷ ws) (words_of-blank 32 rest refl)
 
 three_words : (a b d : List ℕ) → IsText a → IsText b → IsText d
@@ -117,16 +70,17 @@ pub coordinate_line : {scale : ℕ} (h : Header) (line : List ℕ) {old new : Li
 coordinate_line h line f content l =
     let r = index_text l.row l.row_is in
     let c = index_text l.col l.col_is in
-    let v = integer_text l.number l.fits in
     let text = signed_decimal l.number in
+    let v = number_is_text l.number l.fits in
     let ws = three_words l.row l.col text r c v in
     record {
       written = coordinate_text l.row l.col l.number;
       appended = l.appended;
-      plain = plain-append l.row _ r.plain (refl, plain-append l.col _ c.plain (refl, v.plain));
+      plain = unended l.row _ r.solid
+          (refl, unended l.col _ c.solid (refl, plain_text text v.solid));
       step = inr (
         content,
-        rw ws (content_line l.row _ r.first),
+        rw ws (content_line l.row _ (not_comment l.row r)),
         refl,
         rw l.words_are (entry_3 l.row l.col l.value l.row_is l.col_is l.value_is),
         rw ws (entry_3 l.row l.col text l.row_is l.col_is (integer_is_number l.number l.fits)),
@@ -141,16 +95,16 @@ pub array_line : {scale : ℕ} (h : Header) (line : List ℕ) {old new : List �
     → IsArrayLine scale (words_of line) old new
     → IsLineWritten scale (Entries h) line (Entries h) old new
 array_line h line f content l =
-    let v = integer_text l.number l.fits in
     let text = signed_decimal l.number in
+    let v = number_is_text l.number l.fits in
     let ws = one_word text v in
     record {
       written = text;
       appended = l.appended;
-      plain = v.plain;
+      plain = plain_text text v.solid;
       step = inr (
         content,
-        rw ws (content_line text [] v.first),
+        rw ws (content_line text [] (not_comment text v)),
         refl,
         rw l.words_are (entry_1 l.value l.value_is),
         rw ws (entry_1 text (integer_is_number l.number l.fits)),

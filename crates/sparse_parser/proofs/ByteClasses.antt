@@ -1,14 +1,10 @@
 -- Bytes of one kind are not of another.
 use Rattle.std.proofs.Common.{◌≡◌, ℕ, Bool, true, false, eqb, ◌||◌, List, [], ◌∷◌, ◌++◌, arith}
-use Rattle.std.specs.List.{AllByRecursion}
 use Rattle.std.specs.Char.{is_ascii_digit}
 use Rattle.std.proofs.lemmas.Bool.Decides.{nat_tests}
 use Rattle.sparse_parser.specs.Bytes.{is_blank, is_point}
 use Rattle.sparse_parser.specs.InnerBytes.{is_within_line, is_space, is_solid, is_unscaled}
 use Rattle.sparse_parser.proofs.Fronts.{Passes}
-
-pub digit_no_blank : (b : ℕ) → is_ascii_digit b ≡ true → is_blank b ≡ false
-digit_no_blank b e = grind (arith, nat_tests)
 
 pub blank_within_line : (b : ℕ) → is_blank b ≡ true → is_within_line b ≡ true
 blank_within_line b e = grind (arith, nat_tests)
@@ -57,9 +53,3 @@ Passes-weaker p q (b ∷ text) f h = (f b h.0, Passes-weaker p q text f h.1)
 pub Passes-append : (p : ℕ → Bool) (s t : List ℕ) → Passes p s → Passes p t → Passes p (s ++ t)
 Passes-append p [] t h k = k
 Passes-append p (b ∷ s) t h k = (h.0, Passes-append p s t h.1 k)
-
--- digits are a part of a word
-pub Solid-digits : (text : List ℕ) → Passes is_ascii_digit text
-    → AllByRecursion (λ b. is_blank b ≡ false) text
-Solid-digits [] h = tt
-Solid-digits (b ∷ text) h = (digit_no_blank b h.0, Solid-digits text h.1)

@@ -1,16 +1,17 @@
 -- The comments and contents among the written lines of a text.
-use Rattle.std.proofs.Common.{◌≡◌, ◌≢◌, ℕ, ◌<◌, Bool, true, false, eqb, List}
-use Rattle.std.proofs.Common.{[], ◌∷◌, ◌++◌, length, get_or, drop, refl, sym, ap, subst, ◌∙◌, arith}
-use Rattle.std.proofs.Common.{inl, inr}
+use Rattle.std.proofs.Common.{◌≡◌, ◌≢◌, ℕ, ◌<◌, true, false, eqb, List}
+use Rattle.std.proofs.Common.{[], ◌∷◌, ◌++◌, length, get_or, drop, Some, refl, sym, ap, subst, ◌∙◌}
+use Rattle.std.proofs.Common.{arith, inl, inr}
 use Rattle.std.specs.Prelude.{filter, ◌⊎◌}
 use Rattle.std.proofs.lemmas.Bool.Decides.{eqb_tells}
+use Rattle.sparse_parser.specs.declared.header.Header.{Header}
 use Rattle.sparse_parser.specs.Bytes.{is_blank, after}
-use Rattle.sparse_parser.specs.Grammar.{AreBlanks, AreWords, AreContents}
-use Rattle.sparse_parser.specs.Grammar.{AreHeaded}
-use Rattle.sparse_parser.specs.InnerReading.{is_content, words_of, written_lines}
+use Rattle.sparse_parser.specs.Header.{header_of}
+use Rattle.sparse_parser.specs.Grammar.{AreBlanks, AreWords, AreContents, AreHeaded, IsHeaded}
+use Rattle.sparse_parser.specs.InnerReading.{is_content, words_of, written_lines, written_of}
 use Rattle.sparse_parser.proofs.WordLaws.{words_of-blanks, words_only}
-use Rattle.sparse_parser.proofs.WordLaws.{words_are}
-use Rattle.sparse_parser.proofs.LineLaws.{blank_line}
+use Rattle.sparse_parser.proofs.WordLaws.{words_are, false-true}
+use Rattle.sparse_parser.proofs.LineLaws.{blank_line, head_byte, lines_only, some_lines}
 
 -- ---- comments and contents
 
@@ -19,15 +20,12 @@ heads : (c : ℕ) (rest word after : List ℕ) → 0 < length word → c ∷ res
 heads c rest [] after lt e = absurd (omega arith)
 heads c rest (d ∷ word) after lt e = cc
 
-not_both : {P : Type 0} {b : Bool} → b ≡ false → b ≡ true → P
-not_both e f = absurd cc
-
 starts : (c : ℕ) (rest word : List ℕ) (words : List (List ℕ)) → is_blank c ≡ false
     → AreWords (c ∷ rest) (word ∷ words) → get_or word 0 0 ≡ c
 starts c rest word words e ([], after, blanks, lt, solid, same, apart, others) =
     heads c rest word after lt same
 starts c rest word words e (b ∷ before, after, blanks, lt, solid, same, apart, others) =
-    not_both e (let h : c ≡ b = cc in rw h blanks.0)
+    false-true e (let h : c ≡ b = cc in rw h blanks.0)
 
 -- the words of what begins with c
 pub first_word_of : (c : ℕ) (rest : List ℕ) → is_blank c ≡ false
@@ -38,7 +36,7 @@ first_word_of c rest e = by (words_of (c ∷ rest)) refl (words_are (c ∷ rest)
     by : (ws : List (List ℕ)) → words_of (c ∷ rest) ≡ ws → AreWords (c ∷ rest) ws
         → (word : List ℕ) × (words : List (List ℕ)) × (words_of (c ∷ rest) ≡ word ∷ words)
         × (get_or word 0 0 ≡ c)
-    by [] same h = not_both e h.0
+    by [] same h = false-true e h.0
     by (word ∷ words) same h = (word, words, same, starts c rest word words e h)
 
 abbrev content_lines : List (List ℕ) → List (List (List ℕ))
@@ -106,11 +104,6 @@ headed_only (line ∷ lines) header contents (inr (word, words, are, e, others))
 
 -- ---- and back
 
-head_is : (c : ℕ) (word after : List ℕ) → 0 < length word → get_or word 0 0 ≡ c
-    → word ++ after ≡ c ∷ (drop 1 word ++ after)
-head_is c [] after lt e = absurd (omega arith)
-head_is c (d ∷ word) after lt e = ap (λ (x : ℕ). x ∷ (word ++ after)) e
-
 commented : (line word : List ℕ) (words : List (List ℕ)) → AreWords line (word ∷ words)
     → get_or word 0 0 ≡ 37
     → (before : List ℕ) × (rest : List ℕ) × AreBlanks before × (line ≡ before ++ (37 ∷ rest))
@@ -119,7 +112,7 @@ commented line word words (before, rest, blanks, lt, solid, same, apart, others)
   drop 1 word ++ rest,
   blanks,
   same
-      ∙ ap (λ (l : List ℕ). before ++ l) (head_is 37 word rest lt p),
+      ∙ ap (λ (w : List ℕ). before ++ (w ++ rest)) (head_byte 37 word lt p),
 )
 
 pub is_content-comment : (word : List ℕ) (words : List (List ℕ)) → get_or word 0 0 ≡ 37
@@ -188,3 +181,25 @@ pub headed_are : (lines : List (List ℕ)) (header : List (List ℕ)) (others : 
 headed_are [] header others e = absurd cc
 headed_are (line ∷ lines) header others e = more_headed line lines header others (words_of line)
     refl (words_are line) e (headed_are lines header others)
+
+-- ---- the header and the contents of a text
+
+pub headed_lines : (text : List ℕ) (header : Header) (contents : List (List (List ℕ)))
+    (h : IsHeaded text header contents)
+    → Begins (written_of text) h.words contents
+headed_lines text header contents h = let b = headed_only h.lines h.words contents
+    h.headed in (b.0, sym (lines_only text h.lines h.cut) ∙ b.1, b.2)
+
+pub lines_headed : (text : List ℕ) (words : List (List ℕ)) (others : List (List (List ℕ)))
+    (header : Header)
+    → written_of text ≡ words ∷ others → header_of words ≡ Some header
+    → IsHeaded text header (filter is_content others)
+lines_headed text words others header e h =
+    let l = some_lines text in
+    record {
+      lines = l.0;
+      words = words;
+      cut = l.1;
+      headed = headed_are l.0 words others (lines_only text l.0 l.1 ∙ e);
+      says = h;
+    }

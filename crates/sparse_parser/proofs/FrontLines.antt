@@ -1,8 +1,8 @@
 -- The lines of a text as they are read from its front, and the search for the next one.
-use Rattle.std.proofs.Common.{◌≡◌, ◌≢◌, ℕ, ◌-◌, ◌<◌, ◌≤◌, Bool, true, false, eqb, not, List}
-use Rattle.std.proofs.Common.{[], ◌∷◌, ◌++◌, length, get_or, drop, refl, sym, ap, subst, ◌∙◌, arith}
+use Rattle.std.proofs.Common.{◌≡◌, ◌≢◌, ℕ, ◌-◌, ◌<◌, ◌≤◌, Bool, true, false, List}
+use Rattle.std.proofs.Common.{[], ◌∷◌, ◌++◌, length, drop, refl, sym, ap, subst, ◌∙◌, arith}
 use Rattle.std.specs.Prelude.{filter}
-use Rattle.std.proofs.lemmas.Bool.{eqb-true}
+use Rattle.std.proofs.lemmas.Bool.{not-true, not-false}
 use Rattle.std.proofs.lemmas.List.{append-nil}
 use Rattle.sparse_parser.specs.Bytes.{is_blank, is_line_end, front, after}
 use Rattle.sparse_parser.specs.InnerBytes.{is_space, is_within_line}
@@ -11,34 +11,24 @@ use Rattle.sparse_parser.specs.InnerReading.{written_of, contents_of}
 use Rattle.sparse_parser.proofs.Fronts.{Passes, IsStopped, front-yes, after-yes, after-no}
 use Rattle.sparse_parser.proofs.Fronts.{Passes-front, IsStopped-after, front-append-after}
 use Rattle.sparse_parser.proofs.Fronts.{length-after, length-after-lt, after_is_end, end_of_end}
+use Rattle.sparse_parser.proofs.ByteClasses.{blank_within_line}
 use Rattle.sparse_parser.proofs.WordLaws.{words_of-nil, words_of-blank}
 use Rattle.sparse_parser.proofs.LineLaws.{add, IsPlain, add-blank, ended, last, written_of-end}
 use Rattle.sparse_parser.proofs.ContentLaws.{first_word_of, content_line, is_content-comment}
 
 -- ---- the lines of a text, as they are read from its front
 
-plain-from : (line : List ℕ) → Passes is_within_line line → IsPlain line
+pub plain-from : (line : List ℕ) → Passes is_within_line line → IsPlain line
 plain-from [] h = tt
-plain-from (b ∷ line) h = (by (is_line_end b) refl, plain-from line h.1)
-  where
-    by : (t : Bool) → is_line_end b ≡ t → is_line_end b ≡ false
-    by true e = absurd (let f : not (is_line_end b) ≡ false = rw e refl in let g = h.0 in cc)
-    by false e = e
-
-pub end-from : (b : ℕ) → not (is_line_end b) ≡ false → is_line_end b ≡ true
-end-from b h = by (is_line_end b) refl
-  where
-    by : (t : Bool) → is_line_end b ≡ t → is_line_end b ≡ true
-    by true e = e
-    by false e = absurd (let f : not (is_line_end b) ≡ true = rw e refl in cc)
+plain-from (b ∷ line) h = (not-true (is_line_end b) h.0, plain-from line h.1)
 
 -- the front line, and the lines after it
 written_of-parts : (line rest : List ℕ) → IsPlain line → IsStopped is_within_line rest
     → written_of (line ++ rest) ≡ add line (written_of rest)
 written_of-parts line [] plain stop = ap written_of (append-nil line) ∙ last line plain
     ∙ ap (add line) (sym (last [] tt ∙ add-blank [] [] words_of-nil))
-written_of-parts line (b ∷ rest) plain stop = ended line b rest plain (end-from b stop)
-    ∙ ap (add line) (sym (written_of-end b rest (end-from b stop)))
+written_of-parts line (b ∷ rest) plain stop = ended line b rest plain (not-false _ stop)
+    ∙ ap (add line) (sym (written_of-end b rest (not-false _ stop)))
 
 pub written_of-line : (text : List ℕ)
     → written_of text ≡ add (front is_within_line text) (written_of (after is_within_line text))
@@ -56,22 +46,12 @@ outside b e = by (is_blank b) (is_line_end b) refl refl
     by false true f g = absurd (let h : is_space b ≡ true = rw (f, g) refl in cc)
     by false false f g = (f, rw g refl)
 
-blank-within : (b : ℕ) → is_blank b ≡ true → is_within_line b ≡ true
-blank-within b e = by (eqb b 10) (eqb b 13) refl refl
-  where
-    by : (lf cr : Bool) → eqb b 10 ≡ lf → eqb b 13 ≡ cr → is_within_line b ≡ true
-    by true cr f g = absurd (let h : is_blank 10 ≡ true = subst (λ (x : ℕ). is_blank x ≡ true)
-        (eqb-true b 10 f) e in cc)
-    by false true f g = absurd (let h : is_blank 13 ≡ true = subst (λ (x : ℕ). is_blank x ≡ true)
-        (eqb-true b 13 g) e in cc)
-    by false false f g = rw (f, g) refl
-
 written_of-blank : (b : ℕ) (text : List ℕ) → is_blank b ≡ true
     → written_of (b ∷ text) ≡ written_of text
 written_of-blank b text e =
     written_of-line (b ∷ text) ∙ rw (
-      front-yes is_within_line b text (blank-within b e),
-      after-yes is_within_line b text (blank-within b e),
+      front-yes is_within_line b text (blank_within_line b e),
+      after-yes is_within_line b text (blank_within_line b e),
       words_of-blank b (front is_within_line text) e,
     ) refl ∙ sym (written_of-line text)
 
@@ -155,11 +135,6 @@ sought_first text rest e = record {
       (after_is_end is_space text);
   stop = subst (IsStopped is_space) (sym e) (IsStopped-after is_space text);
 }
-
-pub head_byte : (b : ℕ) (text : List ℕ) → 0 < length text → get_or text 0 0 ≡ b
-    → text ≡ b ∷ drop 1 text
-head_byte b [] lt e = absurd (omega arith)
-head_byte b (c ∷ text) lt e = ap (λ (x : ℕ). x ∷ text) e
 
 pub sought_more : (text comment others rest : List ℕ) → IsSought text comment
     → comment ≡ 37 ∷ drop 1 comment → others ≡ after is_within_line comment

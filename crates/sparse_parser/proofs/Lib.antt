@@ -13,3 +13,4 @@ pub mod LineLaws
 pub mod LineShapes
 pub mod NumberLaws
 pub mod WordLaws
+pub mod WrittenWords

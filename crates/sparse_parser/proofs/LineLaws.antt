@@ -1,6 +1,6 @@
 -- The written lines of a text are one list, however its lines end.
 use Rattle.std.proofs.Common.{◌≡◌, ℕ, Bool, true, false, cond, eqb, List}
-use Rattle.std.proofs.Common.{[], ◌∷◌, ◌++◌, get_or, drop, refl, sym, ap, ◌∙◌, arith}
+use Rattle.std.proofs.Common.{[], ◌∷◌, ◌++◌, ◌<◌, length, get_or, drop, refl, sym, ap, ◌∙◌, arith}
 use Rattle.std.proofs.Common.{inl, inr}
 use Rattle.std.specs.List.{AllByRecursion}
 use Rattle.std.proofs.lemmas.Bool.{eqb-true, eqb-false}
@@ -62,6 +62,18 @@ lines_only text (line ∷ lines) (plain, inr (end, rest, is_end, e, others)) =
     ap (add line) (lines_only rest lines others)
     ∙ sym (ap written_of e ∙ after_end line end rest plain is_end)
 
+-- ---- a text from its first byte on
+
+pub head_byte : (b : ℕ) (text : List ℕ) → 0 < length text → get_or text 0 0 ≡ b
+    → text ≡ b ∷ drop 1 text
+head_byte b [] lt e = absurd (omega arith)
+head_byte b (c ∷ text) lt e = ap (λ (x : ℕ). x ∷ text) e
+
+-- a byte that is not the zero beyond the end
+pub some_byte : (b : ℕ) (text : List ℕ) → 0 < b → get_or text 0 0 ≡ b → text ≡ b ∷ drop 1 text
+some_byte b [] lt e = absurd (omega arith)
+some_byte b (c ∷ text) lt e = ap (λ (x : ℕ). x ∷ text) e
+
 -- ---- each text has lines
 
 abbrev Some_lines : List ℕ → Type 0
@@ -82,10 +94,6 @@ plain_one c text e (line ∷ lines, (plain, inr (end, rest, is_end, same, others
 
 not_end : (c : ℕ) → eqb c 10 ≡ false → eqb c 13 ≡ false → is_line_end c ≡ false
 not_end c a b = rw (a, b) refl
-
-first_is : (text : List ℕ) → get_or text 0 0 ≡ 10 → text ≡ 10 ∷ drop 1 text
-first_is [] e = absurd (omega arith)
-first_is (c ∷ text) e = ap (λ (x : ℕ). x ∷ text) e
 
 one_line : (c : ℕ) (text : List ℕ) → Some_lines text → Some_lines (drop 1 text)
     → Some_lines (c ∷ text)
@@ -114,7 +122,7 @@ one_line c text whole less = by (eqb c 10) (eqb c 13) refl refl
           drop 1 text,
           inr (inl refl),
           ap (λ (x : ℕ). x ∷ text) e
-              ∙ ap (λ (t : List ℕ). 13 ∷ t) (first_is text (eqb-true _ _ f)),
+              ∙ ap (λ (t : List ℕ). 13 ∷ t) (some_byte 10 text (omega arith) (eqb-true _ _ f)),
           less.1,
         ),
       ),

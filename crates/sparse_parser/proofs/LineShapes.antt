@@ -1,18 +1,37 @@
--- Which lists of words are data lines.
-use Rattle.std.proofs.Common.{◌≡◌, ℕ, Bool, true, false, ◌&&◌, List, [], ◌∷◌, refl, ap, ◌∙◌}
-use Rattle.sparse_parser.specs.Grammar.{is_index, is_number, is_entry}
+-- Which lists of words are size lines or data lines.
+use Rattle.std.proofs.Common.{◌≡◌, ℕ, Bool, true, false, List, [], ◌∷◌, Some, None, refl, ap, ◌∙◌}
+use Rattle.std.proofs.lemmas.Bool.{and_left, and_right}
+use Rattle.sparse_parser.specs.declared.header.Header.{Header}
+use Rattle.sparse_parser.specs.Grammar.{is_index, is_number, is_size, is_entry}
+use Rattle.sparse_parser.specs.Reads.{Read}
+use Rattle.sparse_parser.specs.Meaning.{Sizes, sizes_of}
+use Rattle.sparse_parser.specs.InnerReading.{size_at}
 use Rattle.sparse_parser.proofs.NumberLaws.{index-number, false-before}
+
+-- ---- size lines
+
+pub size_none : (h : Header) (words : List (List ℕ)) → None ≡ size_at h words
+    → is_size words ≡ false
+unfolding size_at
+size_none h words e = by (is_size words) refl
+  where
+    by : (t : Bool) → is_size words ≡ t → is_size words ≡ false
+    by true f = absurd (let g : size_at h words ≡ Some (sizes_of h words) = rw f refl in cc)
+    by false f = f
+
+pub size_some : (h : Header) (words : List (List ℕ)) (s : Read Sizes) → Some s ≡ size_at h words
+    → (is_size words ≡ true) × (s ≡ sizes_of h words)
+unfolding size_at
+size_some h words s e = by (is_size words) refl
+  where
+    by : (t : Bool) → is_size words ≡ t → (is_size words ≡ true) × (s ≡ sizes_of h words)
+    by true f = (f, let g : size_at h words ≡ Some (sizes_of h words) = rw f refl in cc)
+    by false f = absurd (let g : size_at h words ≡ None = rw f refl in cc)
+
+-- ---- data lines
 
 no_index : (w : List ℕ) → is_number w ≡ false → is_index w ≡ false
 no_index w e = false-before (is_index w) (is_number w) (index-number w) e
-
-and-second : (p q : Bool) → q ≡ false → (p && q) ≡ false
-and-second true q e = e
-and-second false q e = refl
-
-and-first : (p q : Bool) → p ≡ false → (p && q) ≡ false
-and-first true q e = absurd cc
-and-first false q e = refl
 
 pub entry_nil : (words : List (List ℕ)) → words ≡ [] → is_entry words ≡ false
 unfolding is_entry
@@ -30,11 +49,11 @@ entry_fault_1 words w (b ∷ c ∷ d ∷ f ∷ ws) e n = ap is_entry e
 pub entry_fault_2 : (words : List (List ℕ)) (a w : List ℕ) (ws : List (List ℕ)) → words ≡ a ∷ w ∷ ws
     → is_number w ≡ false → is_entry words ≡ false
 unfolding is_entry
-entry_fault_2 words a w [] e n = ap is_entry e ∙ and-second _ _ n
+entry_fault_2 words a w [] e n = ap is_entry e ∙ and_right _ _ n
 entry_fault_2 words a w (c ∷ []) e n = ap is_entry e
-    ∙ and-first _ _ (and-second (is_index a) _ (no_index w n))
+    ∙ and_left _ _ (and_right (is_index a) _ (no_index w n))
 entry_fault_2 words a w (c ∷ d ∷ []) e n = ap is_entry e
-    ∙ and-first _ _ (and-first _ _ (and-second (is_index a) _ (no_index w n)))
+    ∙ and_left _ _ (and_left _ _ (and_right (is_index a) _ (no_index w n)))
 entry_fault_2 words a w (c ∷ d ∷ f ∷ ws) e n = ap is_entry e
 
 pub entry_more : (words : List (List ℕ)) (a b c d f : List ℕ) (ws : List (List ℕ))

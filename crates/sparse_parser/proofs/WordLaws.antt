@@ -1,9 +1,9 @@
 -- The words of a line are one list.
-use Rattle.std.proofs.Common.{◌≡◌, ℕ, ◌<◌, Bool, true, false, not, List, [], ◌∷◌, ◌++◌, length}
+use Rattle.std.proofs.Common.{◌≡◌, ℕ, ◌<◌, Bool, true, false, List, [], ◌∷◌, ◌++◌, length}
 use Rattle.std.proofs.Common.{refl, sym, ap, subst, ◌∙◌, arith}
 use Rattle.std.specs.Prelude.{filter}
 use Rattle.std.specs.List.{AllByRecursion, slice_split}
-use Rattle.std.proofs.lemmas.Bool.{lt-ltb}
+use Rattle.std.proofs.lemmas.Bool.{lt-ltb, not-true, not-false}
 use Rattle.std.proofs.lemmas.List.Splits.{slice_split_none, slice_split_at, slice_split-cons_yes}
 use Rattle.std.proofs.lemmas.List.Elements.{All-from_recursion}
 use Rattle.std.proofs.lemmas.List.{append-nil, nil_from_length}
@@ -63,7 +63,7 @@ words_only line (word ∷ words) (before, rest, blanks, lt, solid, e, apart, oth
 abbrev Some_words : List ℕ → Type 0
 Some_words line = (words : List (List ℕ)) × AreWords line words
 
-false-true : {P : Type 0} {b : Bool} → b ≡ false → b ≡ true → P
+pub false-true : {P : Type 0} {b : Bool} → b ≡ false → b ≡ true → P
 false-true e f = absurd cc
 
 one_more : (c : ℕ) (line : List ℕ) (b : Bool) → is_blank c ≡ b → Some_words line
@@ -113,19 +113,11 @@ words_of-after_blanks line = sym (words_of-blanks (front is_blank line) (after i
 solid-from : (word : List ℕ) → Passes is_within_word word
     → AllByRecursion (λ b. is_blank b ≡ false) word
 solid-from [] h = tt
-solid-from (b ∷ word) h = (by (is_blank b) refl, solid-from word h.1)
-  where
-    by : (t : Bool) → is_blank b ≡ t → is_blank b ≡ false
-    by true e = absurd (let f : not (is_blank b) ≡ false = rw e refl in let g = h.0 in cc)
-    by false e = e
+solid-from (b ∷ word) h = (not-true (is_blank b) h.0, solid-from word h.1)
 
-pub apart-from : (rest : List ℕ) → IsStopped is_within_word rest → IsApart rest
+apart-from : (rest : List ℕ) → IsStopped is_within_word rest → IsApart rest
 apart-from [] h = tt
-apart-from (b ∷ rest) h = by (is_blank b) refl
-  where
-    by : (t : Bool) → is_blank b ≡ t → is_blank b ≡ true
-    by true e = e
-    by false e = absurd (let f : not (is_blank b) ≡ true = rw e refl in cc)
+apart-from (b ∷ rest) h = not-false (is_blank b) h
 
 some_front : (b : ℕ) (line : List ℕ) → is_blank b ≡ false
     → 0 < length (front is_within_word (b ∷ line))
