@@ -9,15 +9,13 @@ use Rattle.sparse_parser.specs.Bytes.{front, after}
 use Rattle.sparse_parser.specs.InnerBytes.{is_space, is_within_line, BeginsLine}
 use Rattle.sparse_parser.specs.Header.{header_of}
 use Rattle.sparse_parser.specs.Grammar.{is_size, is_entry, IsHeaded}
-use Rattle.sparse_parser.specs.Reads.{Read}
-use Rattle.sparse_parser.specs.Meaning.{Sizes, sizes_of, is_count}
+use Rattle.sparse_parser.specs.Meaning.{sizes_of, is_count}
 use Rattle.sparse_parser.specs.InnerReading.{words_of, written_of, contents_of, count_of}
-use Rattle.sparse_parser.specs.InnerReading.{size_at}
 use Rattle.sparse_parser.proofs.Fronts.{IsStopped, IsStopped-after}
+use Rattle.sparse_parser.proofs.ContentLaws.{lines_headed}
 use Rattle.sparse_parser.proofs.WordLaws.{words_of-nil}
 use Rattle.sparse_parser.proofs.FrontLines.{contents_of-line, written_of-first}
 use Rattle.sparse_parser.proofs.FrontLines.{written_of-after_space}
-use Rattle.sparse_io.proofs.OneMeaning.{lines_headed}
 use Rattle.mtxkit_texts.specs.Shapes.{IsShapeOf}
 use Rattle.mtxkit_texts.specs.InnerShapes.{IsShapeBelow}
 use Rattle.mtxkit_texts.specs.declared.shapes.Shape.{Shape}
@@ -58,15 +56,6 @@ headed_text text start line rest header s l r h =
     (h ∙ ap (λ (x : List ℕ). header_of (words_of x)) l))
 
 -- ---- the size line
-
-pub size_some : (h : Header) (words : List (List ℕ)) (s : Read Sizes) → Some s ≡ size_at h words
-    → (is_size words ≡ true) × (s ≡ sizes_of h words)
-unfolding size_at
-size_some h words s e = by (is_size words) refl
-  where
-    by : (t : Bool) → is_size words ≡ t → (is_size words ≡ true) × (s ≡ sizes_of h words)
-    by true f = (f, let g : size_at h words ≡ Some (sizes_of h words) = rw f refl in cc)
-    by false f = absurd (let g : size_at h words ≡ None = rw f refl in cc)
 
 no_size : is_size (words_of []) ≡ true → ⊥
 unfolding is_size

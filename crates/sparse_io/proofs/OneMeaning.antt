@@ -13,29 +13,7 @@ use Rattle.sparse_parser.specs.Scalars.{Scalar}
 use Rattle.sparse_parser.specs.Meaning.{matrix_of, Means}
 use Rattle.sparse_parser.specs.InnerReading.{is_content, written_of, among_entries, body_of}
 use Rattle.sparse_parser.specs.InnerReading.{document_of, read, judged}
-use Rattle.sparse_parser.proofs.LineLaws.{lines_only, some_lines}
-use Rattle.sparse_parser.proofs.ContentLaws.{Begins, headed_only, headed_are}
-
-pub headed_lines : (text : List ℕ) (header : Header) (contents : List (List (List ℕ)))
-    (h : IsHeaded text header contents)
-    → Begins (written_of text) h.words contents
-headed_lines text header contents h = let b = headed_only h.lines h.words contents
-    h.headed in (b.0, sym (lines_only text h.lines h.cut) ∙ b.1, b.2)
-
-pub lines_headed : (text : List ℕ) (words : List (List ℕ)) (others : List (List (List ℕ)))
-    (header : Header)
-    → written_of text ≡ words ∷ others → header_of words ≡ Some header
-    → IsHeaded text header (filter is_content others)
-lines_headed text words others header e h =
-    let l = some_lines text in
-    record {
-      lines = l.0;
-      words = words;
-      cut = l.1;
-      headed =
-          headed_are l.0 words others (lines_only text l.0 l.1 ∙ e);
-      says = h;
-    }
+use Rattle.sparse_parser.proofs.ContentLaws.{headed_lines, lines_headed}
 
 -- what a document says of the lines that are written
 pub record IsWritten (text : List ℕ) (header : Header) (contents : List (List (List ℕ))) : Type

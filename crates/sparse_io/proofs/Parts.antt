@@ -17,32 +17,16 @@ use Rattle.sparse_parser.specs.Header.{header_of}
 use Rattle.sparse_parser.specs.Grammar.{is_size, is_entry}
 use Rattle.sparse_parser.specs.Reads.{Read}
 use Rattle.sparse_parser.specs.Scalars.{Scalar}
-use Rattle.sparse_parser.specs.Meaning.{Sizes, sizes_of, listed_of, matrix_of, Means, values_of}
+use Rattle.sparse_parser.specs.Meaning.{listed_of, matrix_of, Means, values_of}
 use Rattle.sparse_parser.specs.InnerReading.{Gives, words_of, written_of, contents_of}
 use Rattle.sparse_parser.specs.InnerReading.{among_entries, body_of, judged, document_of, read}
 use Rattle.sparse_parser.specs.InnerReading.{size_at, size_numbers, grammar_kind_of}
 use Rattle.sparse_io.proofs.OneMeaning.{read_means}
 use Rattle.sparse_parser.proofs.Fronts.{IsStopped, IsStopped-after}
+use Rattle.sparse_parser.proofs.LineShapes.{size_none, size_some}
 use Rattle.sparse_parser.proofs.WordLaws.{words_of-nil}
 use Rattle.sparse_parser.proofs.FrontLines.{contents_of-nil, contents_of-line, written_of-nil}
 use Rattle.sparse_parser.proofs.FrontLines.{written_of-first, written_of-after_space}
-
-size_none : (h : Header) (words : List (List ℕ)) → None ≡ size_at h words → is_size words ≡ false
-unfolding size_at
-size_none h words e = by (is_size words) refl
-  where
-    by : (t : Bool) → is_size words ≡ t → is_size words ≡ false
-    by true f = absurd (let g : size_at h words ≡ Some (sizes_of h words) = rw f refl in cc)
-    by false f = f
-
-size_some : (h : Header) (words : List (List ℕ)) (s : Read Sizes) → Some s ≡ size_at h words
-    → (is_size words ≡ true) × (s ≡ sizes_of h words)
-unfolding size_at
-size_some h words s e = by (is_size words) refl
-  where
-    by : (t : Bool) → is_size words ≡ t → (is_size words ≡ true) × (s ≡ sizes_of h words)
-    by true f = (f, let g : size_at h words ≡ Some (sizes_of h words) = rw f refl in cc)
-    by false f = absurd (let g : size_at h words ≡ None = rw f refl in cc)
 
 module _ (S : Scalar) where
   -- ---- the size line

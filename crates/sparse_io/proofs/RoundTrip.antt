@@ -21,13 +21,12 @@ use Rattle.sparse_parser.specs.Scalars.{Scalar}
 use Rattle.sparse_parser.specs.Meaning.{numbers_of_size, sizes_of}
 use Rattle.sparse_parser.specs.Meaning.{mirrored, triplets_of, triplets_of_lines}
 use Rattle.sparse_parser.specs.Meaning.{is_inside, listed_of, matrix_of, Means, Triplet}
+use Rattle.sparse_parser.proofs.WrittenWords.{not_comment, test_plain}
 use Rattle.sparse_io.specs.Written.{heading, size_line, triplet_line, written_text, text_of}
 use Rattle.sparse_io.proofs.WrittenLines.{index-decimal, decimal_text, number-decimal, line_of}
-use Rattle.sparse_io.proofs.WrittenLines.{IsLast, line_words, line_plain, line_before, not_comment}
-use Rattle.sparse_io.proofs.WrittenLines.{before_lf}
+use Rattle.sparse_io.proofs.WrittenLines.{IsLast, line_words, line_plain, line_before, before_lf}
 use Rattle.sparse_io.proofs.WrittenFields.{IsOfField, integer_of_field, pattern_of_field, remark}
-use Rattle.sparse_io.proofs.WrittenFields.{plain_header, IsNamed, test_plain, integer_named}
-use Rattle.sparse_io.proofs.WrittenFields.{pattern_named}
+use Rattle.sparse_io.proofs.WrittenFields.{plain_header, IsNamed, integer_named, pattern_named}
 
 -- the sizes and the number of triplets are usizes, and the triplets lie inside with values of the
 -- type

@@ -1,18 +1,13 @@
 -- Triplets and type names that are written, read again in their field.
-use Rattle.std.proofs.Common.{◌≡◌, ℕ, ◌+◌, ◌-◌, not}
-use Rattle.std.proofs.Common.{Bool, true, false, eqb, List, [], ◌∷◌, ◌++◌}
-use Rattle.std.proofs.Common.{Ok, Err, Option, Some, refl}
-use Rattle.std.proofs.Common.{arith, inl, inr}
+use Rattle.std.proofs.Common.{◌≡◌, ℕ, ◌+◌, ◌-◌, true, false, eqb, List, [], ◌∷◌, ◌++◌, Ok, Err}
+use Rattle.std.proofs.Common.{Option, Some, refl, arith, inl, inr}
 use Rattle.std.specs.Prelude.{codes}
-use Rattle.std.specs.List.{list_all, AllByRecursion}
 use Rattle.std.proofs.lemmas.Bool.Decides.{eqb_tells}
-use Rattle.sparse_algebra.proofs.Cases.{and_parts}
 use Rattle.sparse_parser.specs.declared.header.Format.TheVariants.{Coordinate}
 use Rattle.sparse_parser.specs.declared.header.Field.{Field}
 use Rattle.sparse_parser.specs.declared.header.Field.TheVariants.{Integer, Pattern}
 use Rattle.sparse_parser.specs.declared.header.Symmetry.TheVariants.{General}
 use Rattle.sparse_parser.specs.declared.header.Header.{Header}
-use Rattle.sparse_parser.specs.Bytes.{is_line_end}
 use Rattle.sparse_parser.specs.Header.{says, format_of, field_of, symmetry_of, fields_of, header_of}
 use Rattle.sparse_parser.specs.Grammar.{AreWords}
 use Rattle.sparse_parser.specs.Grammar.{is_index}
@@ -22,10 +17,12 @@ use Rattle.sparse_parser.specs.Scalars.{Scalar, IsNumberText}
 use Rattle.sparse_parser.specs.Meaning.{number_of, integer_of, place_of, numbers_of_size, sizes_of}
 use Rattle.sparse_parser.specs.Meaning.{field_value, entry_of}
 use Rattle.sparse_parser.specs.InnerReading.{words_of}
+use Rattle.sparse_parser.proofs.LineLaws.{IsPlain}
 use Rattle.sparse_parser.proofs.WordLaws.{words_are}
+use Rattle.sparse_parser.proofs.WrittenWords.{integer_text, test_plain}
 use Rattle.sparse_parser.proofs.NumberLaws.{integer-number, index-number}
 use Rattle.sparse_io.specs.Written.{heading}
-use Rattle.sparse_io.proofs.WrittenLines.{integer_text, IsLast}
+use Rattle.sparse_io.proofs.WrittenLines.{IsLast}
 
 -- ---- the triplets of a scalar type, written in a field
 
@@ -87,20 +84,10 @@ pub record IsNamed (name : List ℕ) (field : Field) : Type 0 where
   pub words : List (List ℕ)
   pub are : AreWords banner (word ∷ words)
   pub says : header_of (word ∷ words) ≡ Some (plain_header field)
-  pub plain : AllByRecursion (λ b. is_line_end b ≡ false) banner
+  pub plain : IsPlain banner
   pub heading_is : (rest : List ℕ) → heading name ++ rest ≡ banner ++ (10 ∷ (remark ++ (10 ∷ rest)))
   pub allowed : (size : List (List ℕ)) → sizes_of (plain_header field) size ≡ numbers_of_size Coordinate
       General size
-
-pub test_plain : (line : List ℕ) → list_all (λ b. not (is_line_end b)) line ≡ true
-    → AllByRecursion (λ b. is_line_end b ≡ false) line
-test_plain [] e = tt
-test_plain (b ∷ line) e = let p = and_parts _ _
-    e in (is_not (is_line_end b) p.0, test_plain line p.1)
-  where
-    is_not : (x : Bool) → not x ≡ true → x ≡ false
-    is_not true e = absurd cc
-    is_not false e = refl
 
 same_read : {A : Type 0} (r : Read A) → (r >>= λ x. Ok x) ≡ r
 same_read (Ok x) = refl

@@ -2,7 +2,8 @@ use Rattle.std.proofs.Common.{ap, sym, ◌∙◌, Some, Ok, Result}
 use Rattle.sparse_parser.specs.declared.error.Cause.{Cause}
 use Rattle.sparse_parser.specs.declared.size.Size.{Size}
 use Rattle.sparse_parser.specs.InnerReading.{size_numbers}
-use Rattle.mtxkit_texts.proofs.ShapeParts.{size_some, sized_text, shape_parts}
+use Rattle.sparse_parser.proofs.LineShapes.{size_some}
+use Rattle.mtxkit_texts.proofs.ShapeParts.{sized_text, shape_parts}
 use Rattle.mtxkit_texts.proofs.shapes.shape_below.Goals as goal
 
 pub returns-in-Some-Ok-clause-below : goal.returns-in-Some-Ok-clause-below
