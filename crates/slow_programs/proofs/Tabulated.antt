@@ -3,6 +3,7 @@ use Rattle.std.proofs.Common.{◌≡◌, ℕ, ◌<◌, ◌≤◌, ◌+◌, Bool,
 use Rattle.std.proofs.Common.{sym, ◌∙◌, refl, arith, inl, inr}
 use Rattle.std.specs.Prelude.{nat_eq, ◌&&◌, ◌||◌}
 use Rattle.std.specs.List.{list_any}
+use Rattle.std.proofs.lemmas.Bool.{and_right}
 use Rattle.std.proofs.lemmas.Bool.Decides.{nat_tests, Decides-eqb}
 use Rattle.std.proofs.lemmas.List.Folds.{list_any-append}
 use Rattle.sparse_algebra.specs.Algebra.{CommRing}
@@ -38,10 +39,6 @@ before_all rows i j lt = grind (arith, nat_tests)
 and_same : (b s t : Bool) → (b ≡ true → s ≡ t) → (b && s) ≡ (b && t)
 and_same true s t h = h refl
 and_same false s t h = refl
-
-and_false : (b s : Bool) → s ≡ false → (b && s) ≡ false
-and_false true s h = h
-and_false false s h = refl
 
 differ : {X : Type 0} (b : Bool) → b ≡ true → b ≡ false → X
 differ b is isnt = absurd cc
@@ -118,7 +115,7 @@ module _ (R : CommRing) where
                 ap (λ b. R.add (where_true R (p.has i j && s i j) (p.value i j))
                 (R.add (where_true R b (f v)) R.zero)) here
                 ∙ ap (λ b. R.add (where_true R b (p.value i j)) (R.add (f v) R.zero))
-                (and_false (p.has i j) (s i j) (at_pair s row col i j here ∙ new))
+                (and_right (p.has i j) (s i j) (at_pair s row col i j here ∙ new))
                 ∙ zero_add R (R.add (f v) R.zero) ∙ R.laws.add_zero (f v) ∙ value
                 ∙ sym (at_pair p.value row col i j here)
                 ∙ sym (ap (λ b. where_true R b (p.value i j)) (kept_here i j here))

@@ -4,7 +4,7 @@ use Rattle.std.proofs.Common.{drop, get_or, slice_get, Ok, Err, refl, sym, ap, �
 use Rattle.std.proofs.Common.{add-one, drop-cons, arith}
 use Rattle.std.proofs.Math.Seq.{drop-nil}
 use Rattle.std.proofs.Math.ListN.{drop_of_length-le}
-use Rattle.std.proofs.lemmas.List.{append-nil, get_or-map, length-map}
+use Rattle.std.proofs.lemmas.List.{append-nil, length-map}
 use Rattle.sparse_parser.specs.declared.error.MatrixMarketErrorKind.{MatrixMarketErrorKind}
 use Rattle.sparse_parser.specs.declared.header.Header.{Header}
 use Rattle.sparse_parser.specs.Reads.{Read, ◌>>=◌}
@@ -85,14 +85,6 @@ pub no_lines : (S : Scalar) (h : Header) (places : List (ℕ × ℕ)) (lines : L
 unfolding triplets_of_lines
 no_lines S h places [] e = refl
 no_lines S h places (l ∷ ls) e = absurd (omega arith)
-
-pub words_at : (lines : List Line) (i : ℕ) (line : Line) → i < length lines
-    → line ≡ get_or lines i line
-    → get_or (lines_in lines) i [] ≡ words_in line
-words_at lines i line lt at = get_or-map words_in lines i line [] lt ∙ ap words_in (sym at)
-
-pub lines_long : (lines : List Line) (i : ℕ) → i < length lines → i < length (lines_in lines)
-lines_long lines i lt = omega (arith, length-map lines words_in)
 
 pub none_left : (S : Scalar) (h : Header) (places : List (ℕ × ℕ)) (lines : List Line) (i : ℕ)
     (before : List (Triplet S.Value)) → length lines ≤ i

@@ -104,28 +104,27 @@ all_left {X} p xs i x lt at passes =
     ∙ ap (λ (b : Bool). b && list_all p (drop (suc i) xs)) passes
     ∙ ap (λ (k : ℕ). list_all p (drop k xs)) (sym (add-one i)))
 
-at_line : (lines : List Line) (i : ℕ) (line : Line) → i < length lines → line ≡ get_or lines i line
-    → get_or (lines_in lines) i (words_in line) ≡ words_in line
-at_line lines i line lt at =
-    get_or-map words_in lines i line (words_in line) lt ∙ ap words_in (sym at)
+pub words_at : (lines : List Line) (i : ℕ) (line : Line) (d : List (List ℕ)) → i < length lines
+    → line ≡ get_or lines i line → get_or (lines_in lines) i d ≡ words_in line
+words_at lines i line d lt at = get_or-map words_in lines i line d lt ∙ ap words_in (sym at)
 
-as_many : (lines : List Line) (i : ℕ) → i < length lines → i < length (lines_in lines)
-as_many lines i lt = omega (arith, length-map lines words_in)
+pub lines_long : (lines : List Line) (i : ℕ) → i < length lines → i < length (lines_in lines)
+lines_long lines i lt = omega (arith, length-map lines words_in)
 
 pub all_more : (lines : List Line) (i : ℕ) (line : Line) → i < length lines
     → line ≡ get_or lines i line → is_entry (words_in line) ≡ true
     → list_all is_entry (drop (i + 1) (lines_in lines)) ≡ list_all is_entry
     (drop i (lines_in lines))
 all_more lines i line lt at passes =
-    all_left is_entry (lines_in lines) i (words_in line) (as_many lines i lt)
-    (at_line lines i line lt at) passes
+    all_left is_entry (lines_in lines) i (words_in line) (lines_long lines i lt)
+    (words_at lines i line _ lt at) passes
 
 pub all_refused : (lines : List Line) (i : ℕ) (line : Line) → i < length lines
     → line ≡ get_or lines i line → is_entry (words_in line) ≡ false
     → false ≡ list_all is_entry (lines_in lines)
 all_refused lines i line lt at fails =
-    sym (list_all_at is_entry (lines_in lines) i (words_in line) (as_many lines i lt)
-    (ap is_entry (at_line lines i line lt at) ∙ fails))
+    sym (list_all_at is_entry (lines_in lines) i (words_in line) (lines_long lines i lt)
+    (ap is_entry (words_at lines i line _ lt at) ∙ fails))
 
 -- one more line that is no comment
 pub content_some : (lines : List Line) (i : ℕ) (line : Line) → i < length lines
@@ -133,9 +132,9 @@ pub content_some : (lines : List Line) (i : ℕ) (line : Line) → i < length li
     → filter is_content (take (i + 1) (lines_in lines)) ≡ filter is_content
     (take i (lines_in lines)) ++ words_in line ∷ []
 content_some lines i line lt at is =
-    filter_more is_content (lines_in lines) i (words_in line) (as_many lines i lt)
+    filter_more is_content (lines_in lines) i (words_in line) (lines_long lines i lt)
     ∙ ap (λ (ws : List (List ℕ)). filter is_content (take i (lines_in lines)) ++ cond
-    (is_content ws) (ws ∷ []) []) (at_line lines i line lt at)
+    (is_content ws) (ws ∷ []) []) (words_at lines i line _ lt at)
     ∙ ap (λ (b : Bool). filter is_content (take i (lines_in lines)) ++ cond b (words_in line ∷ [])
     []) is
 
@@ -145,9 +144,9 @@ pub content_none : (lines : List Line) (i : ℕ) (line : Line) → i < length li
     → filter is_content (take (i + 1) (lines_in lines)) ≡ filter is_content
     (take i (lines_in lines))
 content_none lines i line lt at is =
-    filter_more is_content (lines_in lines) i (words_in line) (as_many lines i lt)
+    filter_more is_content (lines_in lines) i (words_in line) (lines_long lines i lt)
     ∙ ap (λ (ws : List (List ℕ)). filter is_content (take i (lines_in lines)) ++ cond
-    (is_content ws) (ws ∷ []) []) (at_line lines i line lt at)
+    (is_content ws) (ws ∷ []) []) (words_at lines i line _ lt at)
     ∙ ap (λ (b : Bool). filter is_content (take i (lines_in lines)) ++ cond b (words_in line ∷ [])
     []) is
     ∙ append-nil (filter is_content (take i (lines_in lines)))

@@ -4,8 +4,8 @@ use Rattle.std.proofs.lemmas.List.{map-append}
 use Rattle.sparse_parser.specs.Meaning.{value_triplet, triplets_of}
 use Rattle.slow_programs.specs.InnerTexts.{texts, lines_in, both_of}
 use Rattle.slow_programs.proofs.TextEntries.{prefixed, line_read, line_refused}
-use Rattle.slow_programs.proofs.TextEntries.{words_at, lines_long}
 use Rattle.slow_programs.proofs.TextEntries.{none_left, left_from}
+use Rattle.slow_programs.proofs.TextLines.{words_at, lines_long}
 use Rattle.slow_programs.proofs.texts.entries.read_entries.Goals as goal
 
 pub returns-in-Err : goal.returns-in-Err
@@ -19,7 +19,7 @@ returns-in-Err g c =
     let is = ap (λ (p : Option (ℕ × ℕ)). triplets_of S h p (get_or (lines_in lines) i []))
     (sym c.place_at.ensures)
     ∙ ap (triplets_of S h c.place_at.result)
-    (words_at lines i line c.loop-at-test.true c.index-lines-at.is
+    (words_at lines i line [] c.loop-at-test.true c.index-lines-at.is
     ∙ sym (ap texts c.deref.ensures.value))
     ∙ sym c.in-Err.ensures in
     line_refused S h places (lines_in lines) i
@@ -39,7 +39,7 @@ loop-at-preserved g c =
     let is = ap (λ (p : Option (ℕ × ℕ)). triplets_of S h p (get_or (lines_in lines) i []))
     (sym c.place_at.ensures)
     ∙ ap (triplets_of S h c.place_at.result)
-    (words_at lines i line c.loop-at-test.true c.index-lines-at.is
+    (words_at lines i line [] c.loop-at-test.true c.index-lines-at.is
     ∙ sym (ap texts c.deref.ensures.value))
     ∙ sym c.in-Ok.ensures in
     ap (λ ts. prefixed ts (left_from S h places (lines_in lines) (i + 1)))
