@@ -2,8 +2,7 @@
 use Rattle.std.proofs.Common.{◌≡◌, ℕ, ℤ, ◌+◌, ◌<◌, ◌≤◌, List, [], ◌∷◌, ◌++◌, length, take, drop}
 use Rattle.std.proofs.Common.{get_or, Ok, Err, Option, refl, sym, ap, subst, ◌∙◌, append_assoc}
 use Rattle.std.proofs.Common.{take-append-drop, append-nil, suc, arith}
-use Rattle.std.proofs.lemmas.List.{take_more, take_all, length-map, length-take-le}
-use Rattle.std.proofs.Math.ListN.{get_or-map}
+use Rattle.std.proofs.lemmas.List.{take_all, length-map, length-take-le}
 use denote.Ref.{Bor}
 use Rattle.std.specs.declared.io.ErrorKind.{ErrorKind}
 use Rattle.sparse_coo_dense.specs.Coo.{Coo}
@@ -12,6 +11,7 @@ use Rattle.sparse_io.specs.Written.{IsRefusedWrite}
 use Rattle.sparse_parser.specs.declared.error.MatrixMarketErrorKind.{MatrixMarketErrorKind}
 use Rattle.sparse_parser.specs.declared.error.MatrixMarketErrorKind.TheVariants as kinds
 use Rattle.sparse_expr.specs.PostfixWords.{texts}
+use Rattle.sparse_expr.proofs.Postfix.{texts-more}
 use Rattle.sparse_expr.specs.InnerRun.{IsLoadedBefore}
 use Rattle.sparse_expr.specs.Run.{AllMean, IsFirstRefused, scalar64}
 
@@ -24,14 +24,9 @@ AllMean-push (x ∷ ts) (y ∷ ms) t m all here = (all.0, AllMean-push ts ms t m
 
 module _ (items : List (Bor (List ℕ))) (k : ℕ) (w : Bor (List ℕ)) (inside : k < length items)
     (ms : List (Coo ℤ)) (taken : AllMean (take k (texts items)) ms) where
-  more : take (k + 1) (texts items) ≡ take k (texts items) ++ (get_or items k w).now ∷ []
-  more = take_more (texts items) k w.now (rw length-map inside)
-      ∙ ap (λ t. take k (texts items) ++ t ∷ [])
-      (get_or-map (λ (b : Bor (List ℕ)). b.now) items k w)
-
   pub AllMean-more : (m : Coo ℤ) (ms' : List (Coo ℤ)) → Means scalar64 (get_or items k w).now (Ok m)
       → ms' ≡ ms ++ m ∷ [] → AllMean (take (k + 1) (texts items)) ms'
-  AllMean-more m ms' here e = rw (more, e)
+  AllMean-more m ms' here e = rw (texts-more items k w inside, e)
       (AllMean-push (take k (texts items)) ms (get_or items k w).now m taken here)
 
   pub refused-at : (kind : MatrixMarketErrorKind) → Means scalar64 (get_or items k w).now (Err kind)
@@ -42,8 +37,8 @@ module _ (items : List (Bor (List ℕ))) (k : ℕ) (w : Bor (List ℕ)) (inside 
     after = drop (k + 1) (texts items);
     ms = ms;
     split = sym (take-append-drop (k + 1) (texts items)) ∙ ap (λ l. l ++ drop (k + 1) (texts items))
-        more ∙ append_assoc (take k (texts items)) ((get_or items k w).now ∷ [])
-        (drop (k + 1) (texts items));
+        (texts-more items k w inside) ∙ append_assoc (take k (texts items))
+        ((get_or items k w).now ∷ []) (drop (k + 1) (texts items));
     counted = sym (ap (λ n. n + 1) (length-take-le k (texts items) (rw length-map (omega arith))));
     taken = taken;
     refused = refused;

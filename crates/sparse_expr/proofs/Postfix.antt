@@ -114,7 +114,7 @@ fine-push words ts word t fine is enough = record {
 }
 
 -- the words before a position, and with the word there
-texts-more : (items : List (Bor (List ℕ))) (k : ℕ) (w : Bor (List ℕ)) → k < length items
+pub texts-more : (items : List (Bor (List ℕ))) (k : ℕ) (w : Bor (List ℕ)) → k < length items
     → take (k + 1) (texts items) ≡ take k (texts items) ++ (get_or items k w).now ∷ []
 texts-more items k w lt =
     take_more (texts items) k w.now (rw length-map lt) ∙ ap (λ t. take k (texts items) ++ t ∷ [])

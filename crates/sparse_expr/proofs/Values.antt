@@ -2,7 +2,8 @@
 use Rattle.std.proofs.Common.{◌≡◌, ◌<◌, ◌≤◌, ◌-◌, ◌≢◌, ℕ, zero, suc, Bool, true, false, List, []}
 use Rattle.std.proofs.Common.{◌∷◌, length, map, get_or, Result, Ok, Err, inl, inr, Some, ap, sym}
 use Rattle.std.proofs.Common.{◌∙◌, refl, arith}
-use Rattle.std.specs.Prelude.{nat_eq, ◌&&◌, if◌then◌else◌, slice_get}
+use Rattle.std.specs.Prelude.{nat_eq, slice_get}
+use Rattle.std.proofs.lemmas.Bool.{cond-true, cond-false, true≢false}
 use Rattle.std.proofs.lemmas.Bool.Decides.{Decides-eqb}
 use Rattle.sparse_algebra.specs.Algebra.{CommRing}
 use Rattle.sparse_algebra.specs.Plain.{Plain, plain_sum, plain_difference, plain_negation}
@@ -15,28 +16,13 @@ use Rattle.sparse_expr.specs.Value.{both, one, Meets, same_sizes, sum_of, differ
 use Rattle.sparse_expr.specs.Value.{input_at, found}
 use Rattle.sparse_expr.specs.declared.error.ExprError.{ExprError}
 use Rattle.sparse_expr.specs.declared.error.ExprError.TheVariants.{Shape}
-use Rattle.sparse_algebra.proofs.Cases.{nat_eq_no}
-
-if_true : {X : Type 0} (b : Bool) (u v : X) → b ≡ true → (if b then u else v) ≡ u
-if_true true u v h = refl
-if_true false u v h = cc
-
-if_false : {X : Type 0} (b : Bool) (u v : X) → b ≡ false → (if b then u else v) ≡ v
-if_false true u v h = cc
-if_false false u v h = refl
-
-differ : {b : Bool} → b ≡ false → b ≡ true → ⊥
-differ {b} isnt is = absurd cc
-
-and_true : (a b : Bool) → a ≡ true → b ≡ true → (a && b) ≡ true
-and_true true b ea eb = eb
-and_true false b ea eb = ea
+use Rattle.sparse_algebra.proofs.Cases.{nat_eq_no, and_both}
 
 module _ (R : CommRing) where
   pub product_met : (x y z : Plain R) → x.cols ≡ y.rows → z ≡ plain_product R x y
       → product_of R x y ≡ Ok z
   product_met x y z fits is =
-      if_true (nat_eq x.cols y.rows) (Ok (plain_product R x y)) _
+      cond-true (nat_eq x.cols y.rows) (Ok (plain_product R x y)) _
       ((Decides-eqb x.cols y.rows).1 fits)
       ∙ ap Ok (sym is)
 
@@ -48,7 +34,7 @@ module _ (R : CommRing) where
 
   sizes_met : (x y : Plain R) → x.rows ≡ y.rows → x.cols ≡ y.cols → same_sizes R x y ≡ true
   sizes_met x y er ec =
-      and_true (nat_eq x.rows y.rows) (nat_eq x.cols y.cols) ((Decides-eqb x.rows y.rows).1 er)
+      and_both (nat_eq x.rows y.rows) (nat_eq x.cols y.cols) ((Decides-eqb x.rows y.rows).1 er)
       ((Decides-eqb x.cols y.cols).1 ec)
 
   transposed_product : (a b : Plain R)
@@ -61,17 +47,17 @@ module _ (R : CommRing) where
           (product_of R a b)
       by_test true h =
           let e = (Decides-eqb a.cols b.rows).0 h in
-          if_true (nat_eq b.rows a.cols)
+          cond-true (nat_eq b.rows a.cols)
           (Ok (plain_product R (plain_transpose R b) (plain_transpose R a))) _
           ((Decides-eqb b.rows a.cols).1 (sym e))
           ∙ ap Ok (sym (transpose_product R a b e))
-          ∙ sym (ap (one R (plain_transpose R)) (if_true (nat_eq a.cols b.rows)
+          ∙ sym (ap (one R (plain_transpose R)) (cond-true (nat_eq a.cols b.rows)
           (Ok (plain_product R a b)) _ h))
       by_test false h =
-          if_false (nat_eq b.rows a.cols) _ (Err Shape)
+          cond-false (nat_eq b.rows a.cols) _ (Err Shape)
           (nat_eq_no b.rows a.cols
-          (λ e. absurd (differ h ((Decides-eqb a.cols b.rows).1 (sym e)))))
-          ∙ sym (ap (one R (plain_transpose R)) (if_false (nat_eq a.cols b.rows) _ (Err Shape) h))
+          (λ e. true≢false (sym ((Decides-eqb a.cols b.rows).1 (sym e)) ∙ h)))
+          ∙ sym (ap (one R (plain_transpose R)) (cond-false (nat_eq a.cols b.rows) _ (Err Shape) h))
 
   module _ {T : Type 0} (f : T → R.Carrier) where
     pub sum_met : (transposed : Bool) (x y z : Compressed T)
@@ -80,13 +66,13 @@ module _ (R : CommRing) where
         → sum_of R (rows_or_transposed R f transposed x) (rows_or_transposed R f transposed y)
         ≡ Ok (rows_or_transposed R f transposed z)
     sum_met true x y z er ec is =
-        if_true _ (Ok (plain_sum R (plain_transpose R (plain_of_rows R f x))
+        cond-true _ (Ok (plain_sum R (plain_transpose R (plain_of_rows R f x))
         (plain_transpose R (plain_of_rows R f y)))) _
         (sizes_met (plain_transpose R (plain_of_rows R f x))
         (plain_transpose R (plain_of_rows R f y)) ec er)
         ∙ ap (λ a. Ok (plain_transpose R a)) (sym is)
     sum_met false x y z er ec is =
-        if_true _ (Ok (plain_sum R (plain_of_rows R f x) (plain_of_rows R f y))) _
+        cond-true _ (Ok (plain_sum R (plain_of_rows R f x) (plain_of_rows R f y))) _
         (sizes_met (plain_of_rows R f x) (plain_of_rows R f y) er ec) ∙ ap Ok (sym is)
 
     pub difference_met : (transposed : Bool) (x y z : Compressed T)
@@ -95,13 +81,13 @@ module _ (R : CommRing) where
         → difference_of R (rows_or_transposed R f transposed x) (rows_or_transposed R f transposed y)
         ≡ Ok (rows_or_transposed R f transposed z)
     difference_met true x y z er ec is =
-        if_true _ (Ok (plain_difference R (plain_transpose R (plain_of_rows R f x))
+        cond-true _ (Ok (plain_difference R (plain_transpose R (plain_of_rows R f x))
         (plain_transpose R (plain_of_rows R f y)))) _
         (sizes_met (plain_transpose R (plain_of_rows R f x))
         (plain_transpose R (plain_of_rows R f y)) ec er)
         ∙ ap (λ a. Ok (plain_transpose R a)) (sym is)
     difference_met false x y z er ec is =
-        if_true _ (Ok (plain_difference R (plain_of_rows R f x) (plain_of_rows R f y))) _
+        cond-true _ (Ok (plain_difference R (plain_of_rows R f x) (plain_of_rows R f y))) _
         (sizes_met (plain_of_rows R f x) (plain_of_rows R f y) er ec) ∙ ap Ok (sym is)
 
     pub negation_met : (transposed : Bool) (x z : Compressed T)
