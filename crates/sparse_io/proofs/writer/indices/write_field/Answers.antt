@@ -1,4 +1,3 @@
-use Rattle.std.proofs.lemmas.Grind.{common_steps}
 use Rattle.std.proofs.Common.{◌≤◌, length, rules, arith}
 use Rattle.std.specs.Fmt.{decimal}
 use Rattle.std.proofs.lemmas.Fmt.{length-decimal-le}
@@ -13,8 +12,3 @@ pub returns-clause-short : goal.returns-clause-short
 returns-clause-short c =
     let short : length (decimal c.args.number) ≤ 20 = search (rules, length-decimal-le 20) in
     omega (arith, c.write_digits.ensures.start)
-
--- ---- written by tools/answer-goals
-
-pub returns-clause-written : goal.returns-clause-written
-returns-clause-written c = grind (arith, common_steps)
