@@ -12,9 +12,9 @@ use Rattle.std.proofs.lemmas.List.Elements.{Contains-push, Contains-push_cases}
 use Rattle.sparse_algebra.proofs.Cases.{lt_or_ge}
 use Rattle.sparse_pattern.specs.InnerGainedLanes.{GainsLane}
 use Rattle.sparse_sums.specs.InnerMerging.{IsMerged, IsMerging}
-use Rattle.sparse_sums.proofs.GainedLanes.{gains_lane, gains_next, rising_append}
+use Rattle.sparse_sums.proofs.GainedLanes.{gains_lane, gains_next, rising_push}
 
-pushed_has : (xs : List ℕ) (x j : ℕ) → Contains (xs ++ x ∷ []) j ↔ (Contains xs j ⊎ (x ≡ j))
+pub pushed_has : (xs : List ℕ) (x j : ℕ) → Contains (xs ++ x ∷ []) j ↔ (Contains xs j ⊎ (x ≡ j))
 pushed_has xs x j = (
   λ h. Contains-push_cases xs x j h,
   λ h. elim h [
@@ -71,8 +71,7 @@ module _ {a b : List ℕ} {p q p' q' : ℕ} {lane : List ℕ} {x : ℕ} (m : IsM
       → Contains (take p' a) x ⊎ Contains (take q' b) x → p + q < p' + q'
       → IsMerged a b p' q' (lane ++ x ∷ [])
   merged_more below taken longer = record {
-    rising = rising_append lane (x ∷ []) m.rising (λ k lt. absurd (omega (arith, lt)))
-        (λ i j here there. grind (arith, below i here, pushed_has [] x j, there));
+    rising = rising_push lane x m.rising below;
     holds = λ j. (
       λ h. elim ((pushed_has lane x j).0 h) [
         | inl old ↦ grind (arith, m.holds j, in_a.kept j, in_b.kept j, old)
