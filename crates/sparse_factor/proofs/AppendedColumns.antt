@@ -6,11 +6,11 @@ use Rattle.std.specs.List.Sorted.{IsStrictlyIncreasing}
 use Rattle.std.proofs.lemmas.Grind.{common_steps}
 use Rattle.sparse_pattern.specs.InnerGainedLanes.{GainsLane}
 use Rattle.sparse_pattern.proofs.BuiltLanes.{IsBuilt, lane_gained}
+use Rattle.sparse_sums.proofs.GainedLanes.{gains_same}
 use Rattle.sparse_factor.specs.Fill.{Filled}
 use Rattle.sparse_factor.specs.InnerChildren.{IsInTails}
 use Rattle.sparse_factor.proofs.FillLaws.{low_filled}
 use Rattle.sparse_factor.proofs.Merged.{AreMerged, merged_has, filled_within}
-use Rattle.sparse_factor.proofs.Tails.{gains_same}
 
 -- column j of the fill of a base stands behind the columns before it, as a lane
 pub record IsAppended (base : ℕ → ℕ → Type 0) (n j : ℕ) (offsets rows lane : List ℕ) : Type 0 where

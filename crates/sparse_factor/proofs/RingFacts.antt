@@ -3,6 +3,7 @@ use Rattle.std.proofs.Common.{◌≡◌, ℕ, zero, suc, ◌<◌, ◌≤◌, inl
 use Rattle.sparse_algebra.proofs.Cases.{le_cases}
 use Rattle.sparse_algebra.specs.Algebra.{CommRing}
 use Rattle.sparse_algebra.specs.Sums.{sum_below}
+use Rattle.sparse_algebra.proofs.Products.{unit_cancels}
 use Rattle.sparse_algebra.proofs.RingLemmas.{mul_zero, cancel}
 use Rattle.sparse_algebra.proofs.SumLemmas.{sum_below-same, sum_below-zero}
 use Rattle.sparse_algebra.specs.Inverses.{HasInverse}
@@ -20,10 +21,8 @@ module _ (R : CommRing) where
   -- a factor with an inverse cancels
   pub cancel_mul : {X : Type 0} (f : X → R.Carrier) (a b c : R.Carrier) → HasInverse R f c
       → R.mul a c ≡ R.mul b c → a ≡ b
-  cancel_mul f a b c inv h =
-      let whole : (x : R.Carrier) → R.mul (R.mul x c) (f inv.0) ≡ x =
-      λ x. R.laws.mul_assoc x c (f inv.0) ∙ ap (R.mul x) inv.1 ∙ R.laws.mul_one x in
-      sym (whole a) ∙ ap (λ x. R.mul x (f inv.0)) h ∙ whole b
+  cancel_mul f a b c inv h = unit_cancels R c (f inv.0) a b inv.1
+      (R.laws.mul_comm c a ∙ h ∙ R.laws.mul_comm b c)
 
   pub cancel_left : (a b c : R.Carrier) → R.add c a ≡ R.add c b → a ≡ b
   cancel_left a b c h = cancel R a b c (R.laws.add_comm a c ∙ h ∙ R.laws.add_comm c b)

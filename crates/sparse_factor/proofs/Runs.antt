@@ -10,7 +10,6 @@ use Rattle.std.proofs.lemmas.Grind.{common_steps}
 use Rattle.std.proofs.lemmas.List.{get_or_append_left}
 use Rattle.std.proofs.lemmas.List.{get_or_default}
 use Rattle.std.proofs.lemmas.List.Edits.{length-between, between_more}
-use Rattle.std.proofs.lemmas.List.Elements.{Contains-get_or}
 use Rattle.sparse_pattern.specs.Raw.{Raw, start_of, end_of, IsPlace, IsValidLane}
 use Rattle.sparse_pattern.proofs.LaneLists.{has_from_contains, contains_from_has}
 use Rattle.sparse_pattern.proofs.PatternLanes.{rises_at}
@@ -18,21 +17,6 @@ use Rattle.sparse_factor.specs.InnerColumns.{IsRun, IsInRun}
 
 pub none_in : (x : ℕ) → Contains [] x → ⊥
 none_in x h = omega (arith, h.1)
-
--- a strictly increasing list stays so with one of greater numbers after it
-pub rising_append : (xs ys : List ℕ) → IsStrictlyIncreasing xs → IsStrictlyIncreasing ys
-    → ((x y : ℕ) → Contains xs x → Contains ys y → x < y) → IsStrictlyIncreasing (xs ++ ys)
-rising_append xs ys rx ry below k lt =
-    let across = λ (a : k < length xs) (b : 0 < length ys). below (get_or xs k 0) (get_or ys 0 0)
-    (Contains-get_or xs k 0 a) (Contains-get_or ys 0 0 b) in
-    grind (arith, common_steps, length-append xs ys, across, rx k, ry (k - length xs))
-
--- or with a greater number
-pub rising_push : (xs : List ℕ) (y : ℕ) → IsStrictlyIncreasing xs
-    → ((x : ℕ) → Contains xs x → x < y) → IsStrictlyIncreasing (xs ++ y ∷ [])
-rising_push xs y rx below k lt =
-    let last = λ (inside : k < length xs). below (get_or xs k 0) (Contains-get_or xs k 0 inside) in
-    grind (arith, common_steps, last, rx k)
 
 module _ {xs : List ℕ} {low high : ℕ} (run : IsRun xs low high) where
   pub length-run : length (slice_range xs low high) ≡ high - low

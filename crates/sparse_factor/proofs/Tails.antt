@@ -2,23 +2,12 @@
 use Rattle.std.proofs.Common.{◌≡◌, ◌≢◌, ℕ, suc, ◌+◌, ◌-◌, ◌⊎◌, inl, inr, ◌↔◌, List, Contains}
 use Rattle.std.proofs.Common.{slice_range, subst, rules, arith}
 use Rattle.std.proofs.lemmas.Bool.{cases_eq}
-use Rattle.sparse_pattern.specs.InnerGainedLanes.{GainsLane}
 use Rattle.sparse_factor.specs.InnerColumns.{IsInRun, IsInColumn}
 use Rattle.sparse_factor.specs.InnerChildren.{Reaches, IsTailRun, IsInTailOf, IsInTails, HasOthers}
 use Rattle.sparse_factor.specs.InnerTaken.{HasTaken}
 use Rattle.sparse_factor.proofs.Runs.{run_has}
 use Rattle.sparse_factor.proofs.Alternatives.{both_ways}
 use Rattle.sparse_factor.proofs.Taken.{taken_into, taken_both, run_taken}
-
--- the same lane, where two conditions hold for the same rows
-pub gains_same : {old new : List ℕ} {P Q : ℕ → Type 0} → ((i : ℕ) → P i ↔ Q i)
-    → GainsLane old new P → GainsLane old new Q
-gains_same same gains = record {
-  lane = gains.lane;
-  pushed = gains.pushed;
-  rising = gains.rising;
-  holds = λ i. both_ways (gains.holds i) (same i);
-}
 
 -- the rows of the tail of a column, as a list
 pub tail_list : {offsets rows : List ℕ} {head from to : ℕ} → IsTailRun offsets rows head from to

@@ -53,9 +53,9 @@ loop-j-preserved g c =
 
 pub returns-clause-factors : goal.returns-clause-factors
 returns-clause-factors g c =
-    let lent = c.pattern_and_values_mut-values in
+    let borrowed = c.pattern_and_values_mut-values in
     let done = c.loop-j.invariant in
-    let all : c.loop-j.j ≡ lent.result.0.now.major_dim = omega (
+    let all : c.loop-j.j ≡ borrowed.result.0.now.major_dim = omega (
       arith,
       c.loop-j-test.false,
       c.loop-j.auto.j-end,
@@ -63,11 +63,11 @@ returns-clause-factors g c =
       done.count,
     ) in
     let long : length c.args.l.now.values ≡ length c.loop-j.values =
-    omega (arith, c.loop-j.auto.values, ap length lent.ensures.values) in
+    omega (arith, c.loop-j.auto.values, ap length borrowed.ensures.values) in
     let rest = drop (length c.loop-j.values) c.args.l.now.values in
     rw (
       long,
       take-append_seam c.loop-j.values rest,
       c.requires.rows,
-      ← lent.ensures.pattern,
+      ← borrowed.ensures.pattern,
     ) (rw all at done.factors)
