@@ -1,16 +1,15 @@
 -- The symmetric matrix of an upper triangle depends on that triangle alone.
-use Rattle.std.proofs.Common.{◌≡◌, ℕ, ◌≤◌, Bool, true, false, ◌&&◌, min, max, ap}
-use Rattle.std.proofs.Common.{sym, ◌∙◌, refl, arith}
+use Rattle.std.proofs.Common.{◌≡◌, ℕ, ◌≤◌, true, min, max, ap, sym, ◌∙◌, arith}
 use Rattle.std.specs.Prelude.{nat_le}
 use Rattle.std.proofs.Math.Nat.{min-le_left, min-eq_right, max-eq_left, le-max_left}
 use Rattle.sparse_algebra.proofs.Cases.{and_both, and_parts}
 use Rattle.sparse_algebra.specs.Algebra.{CommRing}
-use Rattle.sparse_algebra.specs.Sums.{where_true}
 use Rattle.sparse_algebra.specs.Plain.{Plain, IsProper, plain_transpose}
 use Rattle.sparse_pattern.specs.Raw.{Raw}
 use Rattle.sparse_compressed.specs.Compressed.{Compressed, IsSound}
 use Rattle.sparse_compressed.specs.PlainOfLanes.{plain_of_cols}
 use Rattle.sparse_compressed.proofs.Arrays.{proper_rows}
+use Rattle.sparse_with_dense.proofs.ColumnSteps.{by_test}
 use Rattle.sparse_factor.specs.Fill.{InFill, UpperBase, StoresByColumns}
 use Rattle.sparse_factor.specs.Factorisations.{IsFactorisation, plain_symmetric, plain_upper}
 use Rattle.sparse_factor.specs.Factors.{symmetric_of}
@@ -19,12 +18,6 @@ use Rattle.sparse_factor.proofs.FillLaws.{in_fill_into}
 use Rattle.sparse_factor.proofs.FilledSets.{has_place, place_has}
 use Rattle.sparse_factor.proofs.FillPatterns.{is_le, le_is}
 use Rattle.sparse_factor.proofs.Alternatives.{both_ways}
-
-by_test : (R : CommRing) (b c : Bool) (v : R.Carrier) → c ≡ true → (b ≡ false → v ≡ R.zero)
-    → where_true R (b && c) v ≡ v
-by_test R true true v h off = refl
-by_test R true false v h off = cc
-by_test R false c v h off = sym (off refl)
 
 module _ (R : CommRing) where
   pub upper_is : (a : Plain R) → IsProper a → (i j : ℕ) → i ≤ j

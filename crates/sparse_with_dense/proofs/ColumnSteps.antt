@@ -13,8 +13,9 @@ use Rattle.sparse_with_dense.specs.Solutions.{plain_lower}
 use Rattle.sparse_with_dense.specs.InnerColumns.{IsColumnBelow, lower}
 use Rattle.sparse_with_dense.proofs.Substitutions.{IsLower, IsPivotColumn}
 
-module _ (R : CommRing) (a : Plain R) where
-  by_test : (b c : Bool) (v : R.Carrier) → c ≡ true → (b ≡ false → v ≡ R.zero)
+module _ (R : CommRing) where
+  -- a value that is zero where the first test fails, kept where the second one holds
+  pub by_test : (b c : Bool) (v : R.Carrier) → c ≡ true → (b ≡ false → v ≡ R.zero)
       → where_true R (b && c) v ≡ v
   by_test true true v h off = refl
   by_test true false v h off = cc
@@ -25,15 +26,16 @@ module _ (R : CommRing) (a : Plain R) where
   off_test true false v h = refl
   off_test false c v h = refl
 
+module _ (R : CommRing) (a : Plain R) where
   pub lower_is : IsProper a → (i j : ℕ) → j ≤ i → (plain_lower R a).value i j ≡ a.value i j
   lower_is proper i j le =
       let test : nat_le j i ≡ true = grind (arith, nat_tests) in
-      by_test (a.has i j) (nat_le j i) (a.value i j) test (proper i j)
+      by_test R (a.has i j) (nat_le j i) (a.value i j) test (proper i j)
 
   pub lower_zero : IsLower R (plain_lower R a).value
   lower_zero i j lt =
       let test : nat_le j i ≡ false = grind (arith, nat_tests) in
-      off_test (a.has i j) (nat_le j i) (a.value i j) test
+      off_test R (a.has i j) (nat_le j i) (a.value i j) test
 
 -- what stands below the diagonal in a matrix does so in its triangle
 pub pivot_column : {R : CommRing} {T : Type 0} {f : T → R.Carrier} (m : Compressed T) {n k : ℕ}

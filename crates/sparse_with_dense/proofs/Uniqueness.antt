@@ -5,20 +5,13 @@ use Rattle.std.specs.Prelude.{nat_eq, not}
 use Rattle.sparse_algebra.proofs.Cases.{nat_eq_no}
 use Rattle.sparse_algebra.specs.Algebra.{CommRing}
 use Rattle.sparse_algebra.specs.Sums.{sum_below, where_true}
+use Rattle.sparse_algebra.proofs.Products.{unit_cancels}
 use Rattle.sparse_algebra.proofs.RingLemmas.{cancel}
 use Rattle.sparse_compressed.proofs.RowSums.{eq_refl}
 use Rattle.sparse_with_dense.specs.InnerColumns.{SolvesColumn}
 use Rattle.sparse_with_dense.proofs.RingSteps.{mul_off, sum_below-split}
 
 module _ (R : CommRing) where
-  -- a factor with an inverse cancels
-  cancel_mul : (t e x y : R.Carrier) → R.mul t e ≡ R.one → R.mul t x ≡ R.mul t y → x ≡ y
-  cancel_mul t e x y inv h =
-      let whole : (v : R.Carrier) → R.mul e (R.mul t v) ≡ v = λ v. sym (R.laws.mul_assoc e t v)
-      ∙ ap (λ c. R.mul c v) (R.laws.mul_comm e t ∙ inv) ∙ R.laws.mul_comm R.one v
-      ∙ R.laws.mul_one v in
-      sym (whole x) ∙ ap (R.mul e) h ∙ whole y
-
   -- equal sums whose other terms are equal: the entries are equal where the coefficient has an
   -- inverse
   one_entry : (n i : ℕ) (t x y : ℕ → R.Carrier) (e : R.Carrier) → i < n → R.mul (t i) e ≡ R.one
@@ -29,7 +22,7 @@ module _ (R : CommRing) where
       let rest : ℕ → R.Carrier = λ k. where_true R (not (nat_eq k i)) (R.mul (t k) (x k)) in
       let none : rest i ≡ R.zero = rw (eq_refl i) in
       let other : (k : ℕ) → k ≢ i → R.mul (t k) (x k) ≡ rest k = λ k ne. rw (nat_eq_no k i ne) in
-      cancel_mul (t i) e (x i) (y i) inv
+      unit_cancels R (t i) e (x i) (y i) inv
       (cancel R (R.mul (t i) (x i)) (R.mul (t i) (y i)) (sum_below R n rest)
       (sym (sum_below-split R n i _ rest lt none (λ k _ ne. other k ne)) ∙ sums
       ∙ sum_below-split R n i _ rest lt none (λ k l ne. sym (same k l ne) ∙ other k ne)))
