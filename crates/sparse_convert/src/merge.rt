@@ -1,7 +1,8 @@
 //! Compressed matrices of sorted lanes; entries with the same index are added.
 
 ghost use Rattle.std.specs.Prelude.{◌≡◌, ℕ, ◌+◌, ◌-◌, ◌<◌, ◌≤◌, List, [], ◌∷◌, ◌++◌, All, IfOk};
-ghost use Rattle.std.specs.Prelude.{length, slice_index, vec_len, vec_capacity};
+ghost use Rattle.std.specs.Prelude.{true, length, slice_index, vec_len, vec_capacity};
+ghost use Rattle.std.specs.Bool.{OnTrue};
 ghost use Rattle.std.specs.List.Sorted.{IsNonDecreasingBy};
 ghost use Rattle.sparse_convert.specs.InnerTripletLanes.{AreOffsets, entries_of_lane};
 ghost use Rattle.sparse_convert.specs.InnerTripletLanes.{plain_of_lanes, StandsFor};
@@ -12,7 +13,8 @@ use sparse_compressed::CsMatrix;
 use sparse_pattern::pattern::SparsityPattern;
 use std::alloc::{AllocError, Global};
 
-/// Appends an entry to the lane that begins at `start`, or adds its value where the last entry has its index.
+/// Appends an entry to the lane that begins at `start`, or adds its value where the last entry has its index. Returns
+/// false if its index is smaller than that of the last entry.
 #[inline]
 pub(crate) fn push_entry<T: Ring>(
     start: usize,
@@ -20,18 +22,18 @@ pub(crate) fn push_entry<T: Ring>(
     value: T,
     indices: &mut Vec<usize>,
     values: &mut Vec<T>,
-)
+) -> bool
     requires start { start ≤ vec_len indices.old }
     requires sizes { vec_len values.old ≡ vec_len indices.old }
-    requires follows { start < vec_len indices.old
-        → slice_index indices.old.items (vec_len indices.old - 1) ≤ index }
     requires index_room { vec_len indices.old < vec_capacity indices.old }
     requires value_room { vec_len values.old < vec_capacity values.old }
-    ensures merged { (lane : List (ℕ × T))
+    ensures taken { (start < vec_len indices.old
+        → slice_index indices.old.items (vec_len indices.old - 1) ≤ index) → result ≡ true }
+    ensures merged { OnTrue result ((lane : List (ℕ × T))
         → AreMerged T.ring T.value T.zero_value lane indices.old.items values.old.items start
         (length indices.old.items)
         → AreMerged T.ring T.value T.zero_value (lane ++ (index, value) ∷ []) indices.new.items
-        values.new.items start (length indices.new.items) }
+        values.new.items start (length indices.new.items)) }
     ensures longer { vec_len indices.old ≤ vec_len indices.new }
     ensures grown { vec_len indices.new ≤ vec_len indices.old + 1 }
     ensures sizes { vec_len values.new ≡ vec_len indices.new }
@@ -40,13 +42,20 @@ pub(crate) fn push_entry<T: Ring>(
     ensures index_room { vec_capacity indices.new ≡ vec_capacity indices.old }
     ensures value_room { vec_capacity values.new ≡ vec_capacity values.old }
 {
-    if indices.len() > start && indices[indices.len() - 1] == index {
-        let last = values.len() - 1;
-        values[last] = values[last].add(value);
-    } else {
-        indices.push_reserved(index);
-        values.push_reserved(value);
+    let end = indices.len();
+    if start < end {
+        let last = indices[end - 1];
+        if index < last {
+            return false;
+        }
+        if index == last {
+            values[end - 1] = values[end - 1].add(value);
+            return true;
+        }
     }
+    indices.push_reserved(index);
+    values.push_reserved(value);
+    true
 }
 
 // Appends a lane to the arrays, whose capacity suffices. Entries with the same index are added.
@@ -68,6 +77,7 @@ fn merge_lane<T: Ring>(lane: &[(usize, T)], indices: &mut Vec<usize>, values: &m
 {
     let start = indices.len();
     for &(index, value) in lane {
+        // It is taken: the lane is sorted.
         push_entry(start, index, value, indices, values);
     }
 }

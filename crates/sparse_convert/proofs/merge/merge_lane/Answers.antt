@@ -1,15 +1,10 @@
 use Rattle.std.proofs.Common.{◌≡◌, ◌+◌, ◌-◌, ◌++◌, [], ◌∷◌, length, take, sym, ap, ◌∙◌, subst}
 use Rattle.std.proofs.Common.{vec_len, arith}
+use Rattle.std.proofs.lemmas.Bool.{OnTrue_at}
 use Rattle.std.proofs.lemmas.List.{take_more}
 use Rattle.sparse_convert.specs.InnerMerged.{AreMerged}
 use Rattle.sparse_convert.proofs.Merging.{merged_below}
 use Rattle.sparse_convert.proofs.merge.merge_lane.Goals as goal
-
-pub push_entry-requires-clause-follows : goal.push_entry-requires-clause-follows
-push_entry-requires-clause-follows g c = λ some. merged_below c.args.lane.now
-    c.loop-index.index-index c.loop-index.invariant.merged c.requires.sorted
-    c.loop-index-item.result c.loop-index-test.true c.loop-index-item.is
-    (vec_len c.loop-index.indices - 1) (omega arith) (omega arith)
 
 pub loop-index-preserved : goal.loop-index-preserved
 loop-index-preserved g c =
@@ -18,6 +13,9 @@ loop-index-preserved g c =
     let e = c.loop-index-item.result in
     let inv = c.loop-index.invariant in
     let put = c.push_entry.ensures in
+    let taken = put.taken (λ some. merged_below lane k inv.merged c.requires.sorted
+    e c.loop-index-test.true c.loop-index-item.is (vec_len c.loop-index.indices - 1)
+    (omega arith) (omega arith)) in
     let js = c.push_entry.new.indices.items in
     let more : take k lane ++ e ∷ [] ≡ take (k + 1) lane =
     ap (λ x. take k lane ++ x ∷ []) c.loop-index-item.is
@@ -25,7 +23,7 @@ loop-index-preserved g c =
     record {
       merged = subst (λ l. AreMerged g.T.Ring.ring g.T.Ring.value g.T.Zero.zero_value l js
           c.push_entry.new.values.items c.len-start.result (length js)) more
-          (put.merged (take k lane) inv.merged);
+          (OnTrue_at taken put.merged (take k lane) inv.merged);
       from = omega (arith, put.longer, inv.from);
       to = omega (arith, put.grown, inv.to);
       sizes = put.sizes;
