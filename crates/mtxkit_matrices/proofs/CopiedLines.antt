@@ -7,14 +7,14 @@ use Rattle.std.proofs.lemmas.Bool.{eqb-true, eqb-false}
 use Rattle.sparse_parser.specs.declared.error.Cause.{Cause}
 use Rattle.sparse_parser.specs.declared.size.Size.{Size}
 use Rattle.sparse_parser.specs.declared.header.Header.{Header}
-use Rattle.sparse_parser.specs.Grammar.{is_size}
+use Rattle.sparse_parser.specs.Grammar.{IsOneLine, is_size}
 use Rattle.sparse_parser.specs.InnerReading.{is_content, words_of, size_numbers, size_at}
 use Rattle.sparse_parser.proofs.ContentLaws.{content_line, is_content-comment}
 use Rattle.sparse_parser.proofs.LineShapes.{size_some}
 use Rattle.mtxkit_matrices.specs.declared.decimals.error.ScaleError.{ScaleError}
 use Rattle.mtxkit_matrices.specs.declared.decimals.stage.Stage.{Stage}
 use Rattle.mtxkit_matrices.specs.declared.decimals.stage.Stage.TheVariants.{Head, Sizes, Entries}
-use Rattle.mtxkit_matrices.specs.InnerRewriting.{IsPlain, IsStep, IsLineWritten}
+use Rattle.mtxkit_matrices.specs.InnerRewriting.{IsStep, IsLineWritten}
 
 -- whether the first word begins a comment
 pub is_commented : (line : List ℕ) {word : List ℕ} {words : List (List ℕ)} {t : Bool}
@@ -43,7 +43,7 @@ comment_step scale (Sizes h) words n c = inl (inr c, refl, refl)
 comment_step scale (Entries h) words n c = inl (inr c, refl, refl)
 
 -- what is known where a copy of the line was appended
-pub copied : (line old new : List ℕ) (stage at : Stage) → IsPlain line
+pub copied : (line old new : List ℕ) (stage at : Stage) → IsOneLine line
     → ((scale : ℕ) → IsStep scale stage (words_of line) at (words_of line))
     → (r : Result Stage ScaleError) → IfOk r (λ s. s ≡ at) → IfOk r (λ s. new ≡ old ++ line)
     → IfOk r (λ next. (scale : ℕ) → IsLineWritten scale stage line next old new)

@@ -6,14 +6,13 @@ use Rattle.std.proofs.lemmas.Bool.{eqb-true, eqb-false, not-false}
 use Rattle.std.proofs.lemmas.Bool.Decides.{nat_tests}
 use Rattle.sparse_parser.specs.Bytes.{is_line_end, front, after}
 use Rattle.sparse_parser.specs.InnerBytes.{is_within_line}
-use Rattle.sparse_parser.specs.Grammar.{IsLineEnd}
+use Rattle.sparse_parser.specs.Grammar.{IsOneLine, IsLineEnd}
 use Rattle.sparse_parser.specs.InnerReading.{ends_line, written_of}
 use Rattle.sparse_parser.proofs.Fronts.{IsStopped, Passes-front, IsStopped-after}
 use Rattle.sparse_parser.proofs.Fronts.{front-append-after, length-after}
 use Rattle.sparse_parser.proofs.FrontLines.{plain-from}
 use Rattle.sparse_parser.proofs.LineLaws.{some_byte, written_of-end}
 use Rattle.mtxkit_matrices.specs.InnerScaleFailures.{IsEnded}
-use Rattle.mtxkit_matrices.specs.InnerRewriting.{IsPlain}
 
 -- ---- line ends
 
@@ -85,7 +84,7 @@ module _ {rest line others : List ℕ} (c : IsCut rest line others) where
   pub cut_whole : line ++ others ≡ rest
   cut_whole = rw (c.line_is, c.others_are) (front-append-after is_within_line rest)
 
-  pub cut_plain : IsPlain line
+  pub cut_plain : IsOneLine line
   cut_plain = rw c.line_is (plain-from _ (Passes-front is_within_line rest))
 
   pub cut_ends : ends_line others ≡ true

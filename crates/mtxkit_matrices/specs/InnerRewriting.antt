@@ -3,14 +3,13 @@ use Rattle.std.specs.Prelude.{◌≡◌, ◌⊎◌, ℕ, ℤ, true, false, List,
 use Rattle.std.specs.Fmt.{signed_decimal}
 use Rattle.std.specs.Int.{w128}
 use Rattle.std.specs.Int.RustNames.{FitsSigned}
-use Rattle.std.specs.List.{list_all, AllByRecursion}
+use Rattle.std.specs.List.{list_all}
 use Rattle.sparse_parser.specs.declared.header.Field.TheVariants.{Integer}
 use Rattle.sparse_parser.specs.declared.header.Format.{Format}
 use Rattle.sparse_parser.specs.declared.header.Symmetry.{Symmetry}
 use Rattle.sparse_parser.specs.declared.header.Header.{Header}
-use Rattle.sparse_parser.specs.Bytes.{is_line_end}
 use Rattle.sparse_parser.specs.Header.{header_of}
-use Rattle.sparse_parser.specs.Grammar.{is_index, is_number, is_size, is_entry}
+use Rattle.sparse_parser.specs.Grammar.{IsOneLine, is_index, is_number, is_size, is_entry}
 use Rattle.sparse_parser.specs.InnerReading.{is_content, words_of, written_of}
 use Rattle.mtxkit_matrices.specs.Decimals.{IsScaled}
 use Rattle.mtxkit_matrices.specs.ScaledTexts.{IsScaledEntry, AreScaled, is_decimal, with_integers}
@@ -73,12 +72,9 @@ AreRewritten scale (Entries h) read wrote =
 
 -- ---- one line
 
-abbrev pub IsPlain : List ℕ → Type 0
-IsPlain line = AllByRecursion (λ b. is_line_end b ≡ false) line
-
 -- the header line of integers with this format and this symmetry
 pub record IsHead (format : Format) (symmetry : Symmetry) (line : List ℕ) : Type 0 where
-  pub plain : IsPlain line
+  pub plain : IsOneLine line
   pub says : header_of (words_of line)
       ≡ Some (record { format = format; field = Integer; symmetry = symmetry })
 
@@ -87,7 +83,7 @@ pub record IsLineWritten (scale : ℕ) (stage : Stage) (line : List ℕ) (next :
     (old new : List ℕ) : Type 0 where
   pub written : List ℕ
   pub appended : new ≡ old ++ written
-  pub plain : IsPlain written
+  pub plain : IsOneLine written
   pub step : IsStep scale stage (words_of line) next (words_of written)
 
 -- two indices and an integer

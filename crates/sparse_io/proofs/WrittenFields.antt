@@ -9,7 +9,7 @@ use Rattle.sparse_parser.specs.declared.header.Field.TheVariants.{Integer, Patte
 use Rattle.sparse_parser.specs.declared.header.Symmetry.TheVariants.{General}
 use Rattle.sparse_parser.specs.declared.header.Header.{Header}
 use Rattle.sparse_parser.specs.Header.{says, format_of, field_of, symmetry_of, fields_of, header_of}
-use Rattle.sparse_parser.specs.Grammar.{AreWords}
+use Rattle.sparse_parser.specs.Grammar.{IsOneLine, AreWords}
 use Rattle.sparse_parser.specs.Grammar.{is_index}
 use Rattle.sparse_parser.specs.Grammar.{is_entry}
 use Rattle.sparse_parser.specs.Reads.{Read, ◌>>=◌}
@@ -17,7 +17,6 @@ use Rattle.sparse_parser.specs.Scalars.{Scalar, IsNumberText}
 use Rattle.sparse_parser.specs.Meaning.{number_of, integer_of, place_of, numbers_of_size, sizes_of}
 use Rattle.sparse_parser.specs.Meaning.{field_value, entry_of}
 use Rattle.sparse_parser.specs.InnerReading.{words_of}
-use Rattle.sparse_parser.proofs.LineLaws.{IsPlain}
 use Rattle.sparse_parser.proofs.WordLaws.{words_are}
 use Rattle.sparse_parser.proofs.WrittenWords.{integer_text, test_plain}
 use Rattle.sparse_parser.proofs.NumberLaws.{integer-number, index-number}
@@ -84,7 +83,7 @@ pub record IsNamed (name : List ℕ) (field : Field) : Type 0 where
   pub words : List (List ℕ)
   pub are : AreWords banner (word ∷ words)
   pub says : header_of (word ∷ words) ≡ Some (plain_header field)
-  pub plain : IsPlain banner
+  pub plain : IsOneLine banner
   pub heading_is : (rest : List ℕ) → heading name ++ rest ≡ banner ++ (10 ∷ (remark ++ (10 ∷ rest)))
   pub allowed : (size : List (List ℕ)) → sizes_of (plain_header field) size ≡ numbers_of_size Coordinate
       General size

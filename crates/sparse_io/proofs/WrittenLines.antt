@@ -4,9 +4,8 @@ use Rattle.std.proofs.Common.{subst, append_assoc, append-nil, arith, inl, inr}
 use Rattle.std.specs.Prelude.{◌⊎◌}
 use Rattle.std.specs.Fmt.{decimal}
 use Rattle.std.proofs.lemmas.Bool.{lt-ltb}
-use Rattle.sparse_parser.specs.Grammar.{AreLines, AreWords, AreBlanks, is_index}
+use Rattle.sparse_parser.specs.Grammar.{IsOneLine, AreLines, AreWords, AreBlanks, is_index}
 use Rattle.sparse_parser.specs.Meaning.{number_of}
-use Rattle.sparse_parser.proofs.LineLaws.{IsPlain}
 use Rattle.sparse_parser.proofs.WrittenWords.{IsText, index_text, unblank, unended, plain_text}
 use Rattle.sparse_market_scalar.specs.IntegerTexts.{decimal-index, decimal-value}
 
@@ -65,12 +64,12 @@ line_words a b c ws s t l = (
   (32 ∷ [], 32 ∷ c, (refl, tt), t.some, unblank b t.solid, refl, refl, last_words c ws l),
 )
 
-last_plain : (c : List ℕ) (ws : List (List ℕ)) → IsLast c ws → IsPlain c
+last_plain : (c : List ℕ) (ws : List (List ℕ)) → IsLast c ws → IsOneLine c
 last_plain c ws (inl (t, e)) = plain_text c t.solid
-last_plain c ws (inr (n, e)) = subst IsPlain (sym n) tt
+last_plain c ws (inr (n, e)) = subst IsOneLine (sym n) tt
 
 pub line_plain : (a b c : List ℕ) (ws : List (List ℕ)) → IsText a → IsText b → IsLast c ws
-    → IsPlain (line_of a b c)
+    → IsOneLine (line_of a b c)
 line_plain a b c ws s t l = unended a (32 ∷ (b ++ (32 ∷ c))) s.solid
     (refl, unended b (32 ∷ c) t.solid (refl, last_plain c ws l))
 
@@ -79,6 +78,6 @@ pub line_before : (a b c rest : List ℕ) → (a ++ (32 ∷ (b ++ (32 ∷ (c ++ 
 line_before a b c rest = simp append_assoc
 
 -- a line that LF ends, and the lines after it
-pub before_lf : (line text rest : List ℕ) (lines : List (List ℕ)) → IsPlain line
+pub before_lf : (line text rest : List ℕ) (lines : List (List ℕ)) → IsOneLine line
     → text ≡ line ++ (10 ∷ rest) → AreLines rest lines → AreLines text (line ∷ lines)
 before_lf line text rest lines plain e h = (plain, inr (10 ∷ [], rest, inl refl, e, h))

@@ -6,6 +6,7 @@ use Rattle.std.proofs.lemmas.Bool.{not-true, not-false}
 use Rattle.std.proofs.lemmas.List.{append-nil}
 use Rattle.sparse_parser.specs.Bytes.{is_blank, is_line_end, front, after}
 use Rattle.sparse_parser.specs.InnerBytes.{is_space, is_within_line}
+use Rattle.sparse_parser.specs.Grammar.{IsOneLine}
 use Rattle.sparse_parser.specs.InnerReading.{is_content, words_of}
 use Rattle.sparse_parser.specs.InnerReading.{written_of, contents_of}
 use Rattle.sparse_parser.proofs.Fronts.{Passes, IsStopped, front-yes, after-yes, after-no}
@@ -13,17 +14,17 @@ use Rattle.sparse_parser.proofs.Fronts.{Passes-front, IsStopped-after, front-app
 use Rattle.sparse_parser.proofs.Fronts.{length-after, length-after-lt, after_is_end, end_of_end}
 use Rattle.sparse_parser.proofs.ByteClasses.{blank_within_line}
 use Rattle.sparse_parser.proofs.WordLaws.{words_of-nil, words_of-blank}
-use Rattle.sparse_parser.proofs.LineLaws.{add, IsPlain, add-blank, ended, last, written_of-end}
+use Rattle.sparse_parser.proofs.LineLaws.{add, add-blank, ended, last, written_of-end}
 use Rattle.sparse_parser.proofs.ContentLaws.{first_word_of, content_line, is_content-comment}
 
 -- ---- the lines of a text, as they are read from its front
 
-pub plain-from : (line : List ℕ) → Passes is_within_line line → IsPlain line
+pub plain-from : (line : List ℕ) → Passes is_within_line line → IsOneLine line
 plain-from [] h = tt
 plain-from (b ∷ line) h = (not-true (is_line_end b) h.0, plain-from line h.1)
 
 -- the front line, and the lines after it
-written_of-parts : (line rest : List ℕ) → IsPlain line → IsStopped is_within_line rest
+written_of-parts : (line rest : List ℕ) → IsOneLine line → IsStopped is_within_line rest
     → written_of (line ++ rest) ≡ add line (written_of rest)
 written_of-parts line [] plain stop = ap written_of (append-nil line) ∙ last line plain
     ∙ ap (add line) (sym (last [] tt ∙ add-blank [] [] words_of-nil))

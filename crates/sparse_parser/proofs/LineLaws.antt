@@ -2,13 +2,12 @@
 use Rattle.std.proofs.Common.{◌≡◌, ℕ, Bool, true, false, cond, eqb, List}
 use Rattle.std.proofs.Common.{[], ◌∷◌, ◌++◌, ◌<◌, length, get_or, drop, refl, sym, ap, ◌∙◌, arith}
 use Rattle.std.proofs.Common.{inl, inr}
-use Rattle.std.specs.List.{AllByRecursion}
 use Rattle.std.proofs.lemmas.Bool.{eqb-true, eqb-false}
 use Rattle.std.proofs.lemmas.List.Splits.{slice_split_none, slice_split_at}
 use Rattle.std.proofs.lemmas.List.Elements.{All-from_recursion}
 use Rattle.std.proofs.lemmas.List.{append-nil}
 use Rattle.sparse_parser.specs.Bytes.{is_line_end}
-use Rattle.sparse_parser.specs.Grammar.{IsLineEnd, AreLines, AreBlanks}
+use Rattle.sparse_parser.specs.Grammar.{IsOneLine, IsLineEnd, AreLines, AreBlanks}
 use Rattle.sparse_parser.specs.InnerReading.{is_some_line, words_of, written_lines}
 use Rattle.sparse_parser.specs.InnerReading.{written_of}
 use Rattle.sparse_parser.proofs.WordLaws.{words_of-nil, words_of-blanks}
@@ -17,9 +16,6 @@ use Rattle.sparse_parser.proofs.WordLaws.{words_of-nil, words_of-blanks}
 abbrev pub add : List ℕ → List (List (List ℕ)) → List (List (List ℕ))
 add line lines = cond (is_some_line (words_of line)) (words_of line ∷ lines) lines
 
-abbrev pub IsPlain : List ℕ → Type 0
-IsPlain line = AllByRecursion (λ b. is_line_end b ≡ false) line
-
 pub blank_line : (line : List ℕ) → AreBlanks line → words_of line ≡ []
 blank_line line h = ap words_of (sym (append-nil line)) ∙ words_of-blanks line [] h ∙ words_of-nil
 
@@ -27,14 +23,14 @@ pub add-blank : (line : List ℕ) (lines : List (List (List ℕ))) → words_of 
     → add line lines ≡ lines
 add-blank line lines e = rw e refl
 
-pub ended : (line : List ℕ) (b : ℕ) (rest : List ℕ) → IsPlain line → is_line_end b ≡ true
+pub ended : (line : List ℕ) (b : ℕ) (rest : List ℕ) → IsOneLine line → is_line_end b ≡ true
     → written_of (line ++ (b ∷ rest)) ≡ add line (written_of rest)
 unfolding written_of
 ended line b rest plain e = ap written_lines
     (slice_split_at is_line_end line b rest (All-from_recursion (λ b. is_line_end b ≡ false) line
     plain) e)
 
-pub last : (line : List ℕ) → IsPlain line → written_of line ≡ add line []
+pub last : (line : List ℕ) → IsOneLine line → written_of line ≡ add line []
 unfolding written_of
 last line plain = ap written_lines (slice_split_none is_line_end line
     (All-from_recursion (λ b. is_line_end b ≡ false) line plain))
@@ -43,7 +39,7 @@ pub written_of-end : (b : ℕ) (rest : List ℕ) → is_line_end b ≡ true
     → written_of (b ∷ rest) ≡ written_of rest
 written_of-end b rest e = ended [] b rest tt e ∙ add-blank [] (written_of rest) words_of-nil
 
-after_end : (line end rest : List ℕ) → IsPlain line → IsLineEnd end rest
+after_end : (line end rest : List ℕ) → IsOneLine line → IsLineEnd end rest
     → written_of (line ++ (end ++ rest)) ≡ add line (written_of rest)
 after_end line end rest plain (inl e) = ap (λ (x : List ℕ). written_of (line ++ (x ++ rest))) e
     ∙ ended line 10 rest plain refl

@@ -8,9 +8,8 @@ use Rattle.std.proofs.lemmas.Bool.{not-true}
 use Rattle.std.proofs.lemmas.Bool.Decides.{nat_tests}
 use Rattle.sparse_algebra.proofs.Cases.{and_parts}
 use Rattle.sparse_parser.specs.Bytes.{is_blank, is_line_end}
-use Rattle.sparse_parser.specs.Grammar.{is_index, is_integer}
+use Rattle.sparse_parser.specs.Grammar.{IsOneLine, is_index, is_integer}
 use Rattle.sparse_parser.proofs.Fronts.{Passes}
-use Rattle.sparse_parser.proofs.LineLaws.{IsPlain}
 use Rattle.sparse_parser.proofs.NumberLaws.{digits-of}
 
 -- bytes past the percent sign
@@ -57,12 +56,12 @@ pub unblank : (word : List ℕ) → Solid word → AllByRecursion (λ b. is_blan
 unblank [] h = tt
 unblank (b ∷ word) h = (not_blank b h.0, unblank word h.1)
 
-pub unended : (word rest : List ℕ) → Solid word → IsPlain rest → IsPlain (word ++ rest)
+pub unended : (word rest : List ℕ) → Solid word → IsOneLine rest → IsOneLine (word ++ rest)
 unended [] rest h k = k
 unended (b ∷ word) rest h k = (not_end b h.0, unended word rest h.1 k)
 
-pub plain_text : (word : List ℕ) → Solid word → IsPlain word
-plain_text word h = subst IsPlain (append-nil word) (unended word [] h tt)
+pub plain_text : (word : List ℕ) → Solid word → IsOneLine word
+plain_text word h = subst IsOneLine (append-nil word) (unended word [] h tt)
 
 pub not_comment : (word : List ℕ) → IsText word → get_or word 0 0 ≢ 37
 not_comment [] t e = absurd (omega (arith, t.some))
@@ -70,7 +69,7 @@ not_comment (b ∷ word) t e = absurd (let lt = t.solid.0 in omega arith)
 
 -- ---- a line without a line end, as a test tells it
 
-pub test_plain : (line : List ℕ) → list_all (λ b. not (is_line_end b)) line ≡ true → IsPlain line
+pub test_plain : (line : List ℕ) → list_all (λ b. not (is_line_end b)) line ≡ true → IsOneLine line
 test_plain [] e = tt
 test_plain (b ∷ line) e = let p = and_parts _ _ e in
     (not-true (is_line_end b) p.0, test_plain line p.1)

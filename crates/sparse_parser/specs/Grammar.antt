@@ -14,11 +14,14 @@ abbrev pub IsLineEnd : List ℕ → List ℕ → Type 0
 IsLineEnd end rest =
     (end ≡ 10 ∷ []) ⊎ ((end ≡ 13 ∷ 10 ∷ []) ⊎ ((end ≡ 13 ∷ []) × (slice_index rest 0 ≢ 10)))
 
+-- no byte of the line ends it
+abbrev pub IsOneLine : List ℕ → Type 0
+IsOneLine line = AllByRecursion (λ b. is_line_end b ≡ false) line
+
 -- the text is these lines, each with its end; the last may lack one, if it isn't empty
 abbrev pub AreLines : List ℕ → List (List ℕ) → Type 0
 AreLines text [] = text ≡ []
-AreLines text (line ∷ lines) = AllByRecursion (λ b. is_line_end b ≡ false) line
-    × (((0 < length line) × (text ≡ line) × (lines ≡ []))
+AreLines text (line ∷ lines) = IsOneLine line × (((0 < length line) × (text ≡ line) × (lines ≡ []))
     ⊎ ((end : List ℕ) × (rest : List ℕ) × IsLineEnd end rest × (text ≡ line ++ (end ++ rest))
     × AreLines rest lines))
 

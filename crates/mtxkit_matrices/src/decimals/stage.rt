@@ -3,11 +3,12 @@
 ghost use Rattle.std.specs.Prelude.{◌≡◌, ◌++◌, ℕ, true, nat_eq, slice_index};
 ghost use Rattle.std.specs.Prelude.{MatchOption, IfOk, IfErr};
 ghost use Rattle.sparse_parser.specs.declared.header.Symmetry.TheVariants.{Hermitian};
+ghost use Rattle.sparse_parser.specs.Grammar.{IsOneLine};
 ghost use Rattle.sparse_parser.specs.InnerReading.{is_content, words_of};
 ghost use Rattle.mtxkit_matrices.specs.declared.decimals.error.ScaleError.TheVariants.{OutOfMemory};
 ghost use Rattle.mtxkit_matrices.specs.declared.decimals.stage.Stage.TheVariants.{Head, Sizes};
 ghost use Rattle.mtxkit_matrices.specs.ScaledTexts.{is_decimal};
-ghost use Rattle.mtxkit_matrices.specs.InnerRewriting.{IsPlain, IsHead, IsLineWritten};
+ghost use Rattle.mtxkit_matrices.specs.InnerRewriting.{IsHead, IsLineWritten};
 ghost use Rattle.mtxkit_matrices.specs.InnerScaleFailures.{IsLineFailure};
 
 use crate::decimals::entry::push_entry;
@@ -35,7 +36,7 @@ pub(crate) fn push_line(
     number: usize,
     line: &[u8],
 ) -> Result<Stage, ScaleError>
-    requires { IsPlain line.now }
+    requires { IsOneLine line.now }
     ensures written { IfOk result
         (λ next. IsLineWritten scale stage line.now next written.old.items written.new.items) }
     ensures refused { IfErr result (IsLineFailure scale number (words_of line.now)) }
@@ -140,7 +141,7 @@ fn push_sizes(
     number: usize,
     line: &[u8],
 ) -> Result<Stage, ScaleError>
-    requires plain { IsPlain line.now }
+    requires plain { IsOneLine line.now }
     requires content { is_content (words_of line.now) ≡ true }
     ensures written { IfOk result
         (λ next. (scale : ℕ) → IsLineWritten scale (Sizes header) line.now next

@@ -1,4 +1,3 @@
-use Rattle.std.proofs.lemmas.Grind.{common_steps}
 use Rattle.std.proofs.Common.{arith}
 use Rattle.sparse_parser.proofs.Runs.{first_read}
 use Rattle.sparse_parser.proofs.digit_runs.long_digits_at.Goals as goal
@@ -9,8 +8,3 @@ returns-then-count-le-SHORT-clause-read c =
     _ _
     c.requires c.text_from-rest.ensures c.split_at.ensures.front c.read_digits-count.ensures.end
     (omega arith) (omega arith) c.read_digits-count.ensures.value
-
--- ---- written by tools/answer-goals
-
-pub returns-then-count-le-SHORT-clause-inside : goal.returns-then-count-le-SHORT-clause-inside
-returns-then-count-le-SHORT-clause-inside c = grind (arith, common_steps)
