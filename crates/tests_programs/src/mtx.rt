@@ -3,15 +3,17 @@
 mod cases;
 mod fill_cases;
 mod refusals;
+mod short;
 
 use crate::files::{file, files, matrices, matrix, remove_all};
 use crate::mtx::cases::{CASES, COLUMN_CASES, Case};
 use crate::mtx::fill_cases::{FILL_CASES, FillCase};
 use crate::mtx::refusals::{REFUSALS, Refusal, USAGE};
+use crate::mtx::short::with_room;
 use mtx_commands::{answer, command, finish};
 use sparse_io::Out;
 use std::alloc::{AllocError, Global};
-use std::io::{self, ErrorKind, Write};
+use std::io::{self, ErrorKind};
 use std::process::ExitCode;
 use std::test::Fail;
 
@@ -29,36 +31,6 @@ struct Answer {
     status: u8,
     out: Vec<u8>,
     err: Vec<u8>,
-}
-
-/// A writer that takes some bytes and then fails, and whose flush fails.
-#[derive(Drop)]
-struct Short {
-    bytes: Vec<u8>,
-    room: usize,
-}
-
-impl Write for Short {
-    fn write(&mut self, buf: &[u8]) -> io::Result<usize> {
-        if self.room == 0 {
-            return Err(io::Error::from(ErrorKind::BrokenPipe));
-        }
-        let count = self.room.min(buf.len());
-        self.bytes.extend_from_slice(&buf[..count])?;
-        self.room -= count;
-        Ok(count)
-    }
-
-    fn flush(&mut self) -> io::Result<()> {
-        Err(io::Error::from(ErrorKind::BrokenPipe))
-    }
-}
-
-fn with_room(alloc: Global, room: usize) -> Short {
-    Short {
-        bytes: Vec::new(alloc),
-        room,
-    }
 }
 
 // What a command answers over an output that takes this many bytes and then fails.
