@@ -1,6 +1,7 @@
 -- Products with the solution of a symmetric system.
-use Rattle.std.proofs.Common.{◌≡◌, ℕ, ◌<◌, ◌≤◌, ◌⊎◌, inl, inr, length, max, ap, sym}
-use Rattle.std.proofs.Common.{subst, ◌∙◌, refl, arith}
+use Rattle.std.proofs.Common.{◌≡◌, ℕ, inl, inr, length, max, ap, sym}
+use Rattle.std.proofs.Common.{subst, ◌∙◌, arith}
+use Rattle.std.proofs.lemmas.Bool.{cases_lt}
 use Rattle.std.proofs.Math.Nat.{min-eq_left, min-eq_right, max-eq_left, max-eq_right}
 use Rattle.nalgebra_sparse.specs.Algebra.{CommRing}
 use Rattle.nalgebra_sparse.specs.DensePlain.{plain_full}
@@ -14,16 +15,13 @@ use Rattle.nalgebra_sparse.specs.Solutions.{HasSameValues}
 use Rattle.nalgebra_sparse.specs.SumLemmas.{sum_below-same}
 use Rattle.nalgebra_sparse.specs.Sums.{sum_below}
 
-order : (i j : ℕ) → (i ≤ j) ⊎ (j ≤ i)
-order i j = grind arith
-
 module _ (R : CommRing) where
   -- a matrix that is its own transpose is its symmetric matrix
   symmetric_is : (a : Plain R) → plain_transpose R a ≡ a → (i j : ℕ)
       → (plain_symmetric R a).value i j ≡ a.value i j
-  symmetric_is a h i j = elim (order i j) [
-    | inl le ↦ ap (λ k. a.value k (max i j)) (min-eq_left le)
-        ∙ ap (a.value i) (max-eq_right le)
+  symmetric_is a h i j = elim (cases_lt i j) [
+    | inl lt ↦ ap (λ k. a.value k (max i j)) (min-eq_left (omega (arith, lt)))
+        ∙ ap (a.value i) (max-eq_right (omega (arith, lt)))
     | inr le ↦ ap (λ k. a.value k (max i j)) (min-eq_right le)
         ∙ ap (a.value j) (max-eq_left le) ∙ ap (λ (b : Plain R). b.value i j) h
   ]

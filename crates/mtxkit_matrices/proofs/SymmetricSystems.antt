@@ -1,6 +1,7 @@
 -- Symmetric systems: what solves the system of the factors solves that of the matrix.
-use Rattle.std.proofs.Common.{◌≡◌, ℕ, ◌<◌, ◌≤◌, ◌⊎◌, inl, inr, max, ap, sym}
-use Rattle.std.proofs.Common.{◌∙◌, refl, arith}
+use Rattle.std.proofs.Common.{◌≡◌, ℕ, ◌<◌, inl, inr, max, ap, sym}
+use Rattle.std.proofs.Common.{◌∙◌, arith}
+use Rattle.std.proofs.lemmas.Bool.{cases_lt}
 use Rattle.std.proofs.Math.Nat.{min-eq_left, min-eq_right, max-eq_left, max-eq_right}
 use Rattle.sparse_algebra.specs.Algebra.{CommRing}
 use Rattle.sparse_algebra.specs.Plain.{Plain, plain_product}
@@ -11,9 +12,6 @@ use Rattle.sparse_factor.specs.Factorisations.{IsFactorisation, plain_symmetric}
 use Rattle.sparse_with_dense.specs.Solutions.{HasSameValues}
 use Rattle.mtxkit_matrices.specs.Systems.{HasNoFactorisation}
 
-order : (i j : ℕ) → (i ≤ j) ⊎ (j ≤ i)
-order i j = grind arith
-
 module _ (R : CommRing) where
   -- the values are symmetric at the pairs below n
   abbrev pub IsSymmetricBelow : ℕ → Plain R → Type 0
@@ -21,9 +19,9 @@ module _ (R : CommRing) where
 
   symmetric_is : (n : ℕ) (a : Plain R) → IsSymmetricBelow n a → (i j : ℕ) → i < n → j < n
       → (plain_symmetric R a).value i j ≡ a.value i j
-  symmetric_is n a h i j row col = elim (order i j) [
-    | inl le ↦ ap (λ k. a.value k (max i j)) (min-eq_left le)
-        ∙ ap (a.value i) (max-eq_right le)
+  symmetric_is n a h i j row col = elim (cases_lt i j) [
+    | inl lt ↦ ap (λ k. a.value k (max i j)) (min-eq_left (omega (arith, lt)))
+        ∙ ap (a.value i) (max-eq_right (omega (arith, lt)))
     | inr le ↦ ap (λ k. a.value k (max i j)) (min-eq_right le)
         ∙ ap (a.value j) (max-eq_left le) ∙ h j i col row
   ]
