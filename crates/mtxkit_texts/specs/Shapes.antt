@@ -1,9 +1,7 @@
 -- The shapes of texts whose values are not carried.
 use Rattle.std.specs.Prelude.{◌≡◌, ℕ, List, ◌++◌, codes, length, Option, Some, Ok, true, false}
-use Rattle.std.specs.List.{list_all}
-use Rattle.sparse_parser.specs.Grammar.{is_size, is_entry, IsDocument}
+use Rattle.sparse_parser.specs.Grammar.{IsDocument}
 use Rattle.sparse_parser.specs.Meaning.{sizes_of, is_count}
-use Rattle.sparse_parser.specs.declared.header.Header.{Header}
 use Rattle.mtxkit_matrices.specs.FactLines.{count_line}
 use Rattle.mtxkit_texts.specs.HeaderLines.{header_lines}
 use Rattle.mtxkit_texts.specs.Headers.{is_carried_field}

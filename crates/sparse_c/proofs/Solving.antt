@@ -1,6 +1,6 @@
 -- Solutions in arrays.
 use Rattle.std.proofs.Common.{◌≡◌, ◌≢◌, ◌≤◌, ℕ, ℤ, pos, ◌<◌, ◌*◌, length, take, ap, sym}
-use Rattle.std.proofs.Common.{Result, subst, ◌∙◌, refl, arith}
+use Rattle.std.proofs.Common.{Result, subst, ◌∙◌}
 use Rattle.std.specs.Prelude.{IfOk, IfErr, MatchResult, OnOk}
 use Rattle.sparse_algebra.specs.Algebra.{CommRing}
 use Rattle.sparse_algebra.specs.Plain.{Plain, plain_product}

@@ -1,5 +1,5 @@
 -- Entries of an operand that go to their places in a target.
-use Rattle.std.proofs.Common.{◌≡◌, ◌≢◌, ℕ, zero, ◌⊎◌, inl, inr, true, false, List, []}
+use Rattle.std.proofs.Common.{◌≡◌, ◌≢◌, ℕ, ◌⊎◌, inl, inr, true, false, List, []}
 use Rattle.std.proofs.Common.{◌∷◌, Some, None, length, get_or, set, suc, All, Contains, ap, sym}
 use Rattle.std.proofs.Common.{subst, ◌∙◌, refl, arith}
 use Rattle.std.proofs.lemmas.Bool.{cases_eq}

@@ -1,5 +1,5 @@
 -- The texts 0 and 1 of the field of two elements.
-use Rattle.std.specs.Prelude.{◌≡◌, zero, suc, ℤ, pos, negsuc, Bool, true, false, List, ℕ, Ok, Err}
+use Rattle.std.specs.Prelude.{zero, suc, ℤ, pos, negsuc, Bool, true, false, List, ℕ, Ok, Err}
 use Rattle.std.specs.Prelude.{codes, refl}
 use Rattle.std.proofs.Common.{inl}
 use Rattle.nalgebra_sparse.specs.MatrixMarketErrorKind.TheVariants.{TypeMismatch}

@@ -1,5 +1,5 @@
 -- A scalar type of integers without negatives.
-use Rattle.std.specs.Prelude.{ℤ, Ok, Err, FitsSigned, codes, refl}
+use Rattle.std.specs.Prelude.{ℤ, Err, FitsSigned, codes, refl}
 use Rattle.std.specs.Int.{w16}
 use Rattle.std.specs.Fmt.{signed_decimal}
 use Rattle.std.proofs.Common.{inl}

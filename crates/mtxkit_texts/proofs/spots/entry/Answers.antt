@@ -1,4 +1,3 @@
-use Rattle.std.proofs.Common.{rules}
 use Rattle.sparse_io.proofs.EntryLoop.{line_read}
 use Rattle.mtxkit_texts.proofs.spots.entry.Goals as goal
 
