@@ -1,4 +1,3 @@
-use Rattle.std.proofs.lemmas.Grind.{common_steps}
 use Rattle.std.proofs.Common.{◌≡◌, ◌+◌, ◌*◌, ◌<◌, inl, inr, false, replicate, slice_index_or}
 use Rattle.std.proofs.Common.{◌↔◌, IsTrue, length, refl, sym, subst, ◌∙◌, arith, rules}
 use Rattle.std.specs.Vec.{with_items}
@@ -42,8 +41,3 @@ returns-clause-black c = λ r col down across.
     with_items_is c.in_ok-cells.cells c.mark.new.cells (search rules) in
     subst (λ xs. IsTrue (slice_index_or xs q false) ↔ HasPlaceIn p c.args.height w r col)
     (sym same) iff
-
--- ---- written by tools/answer-goals
-
-pub invariant_of-result : goal.invariant_of-result
-invariant_of-result c = grind (arith, common_steps)

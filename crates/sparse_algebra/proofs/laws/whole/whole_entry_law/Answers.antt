@@ -1,5 +1,3 @@
-use Rattle.std.proofs.lemmas.Grind.{common_steps}
-use Rattle.std.proofs.Common.{arith}
 use Rattle.std.specs.Int.{w32, w64}
 use Rattle.sparse_algebra.specs.Numbers.{w32_number, w64_number}
 use Rattle.sparse_algebra.proofs.WholeNumbers.{triplets_show, sum_shows, difference_shows}
@@ -25,8 +23,3 @@ returns-clause-scaled c = λ w s a. scaled_shows w a s
 
 pub returns-clause-product : goal.returns-clause-product
 returns-clause-product c = product_shows
-
--- ---- written by tools/answer-goals
-
-pub returns-clause-from_whole : goal.returns-clause-from_whole
-returns-clause-from_whole c = grind (arith, common_steps)

@@ -1,5 +1,3 @@
-use Rattle.std.proofs.lemmas.Grind.{common_steps}
-use Rattle.std.proofs.Common.{arith}
 use Rattle.std.specs.Int.{w32, w64}
 use Rattle.sparse_algebra.specs.Numbers.{w32_number, w64_number}
 use Rattle.sparse_algebra.proofs.WholeNumbers.{wrapped-sum, wrapped-negation, wrapped-difference}
@@ -28,11 +26,3 @@ returns-clause-scaled c = wrapped-scaled
 
 pub returns-clause-product : goal.returns-clause-product
 returns-clause-product c = wrapped-product
-
--- ---- written by tools/answer-goals
-
-pub returns-clause-identity : goal.returns-clause-identity
-returns-clause-identity c = grind (arith, common_steps)
-
-pub returns-clause-kept : goal.returns-clause-kept
-returns-clause-kept c = grind (arith, common_steps)

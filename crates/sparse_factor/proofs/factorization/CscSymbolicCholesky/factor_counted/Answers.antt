@@ -1,4 +1,3 @@
-use Rattle.std.proofs.Common.{rules}
 use Rattle.sparse_factor.specs.declared.factorization.Triangle.TheVariants.{Upper}
 use Rattle.sparse_factor.proofs.FactorLaws.{stores_fill, stores_walks, stores_diagonal}
 use Rattle.sparse_factor.proofs.FactorLaws.{triangle_low}
@@ -16,8 +15,3 @@ returns-clause-walks c =
 pub returns-clause-diagonal : goal.returns-clause-diagonal
 returns-clause-diagonal c =
     stores_diagonal (triangle_low Upper c.args.pattern) c.in_ok-l_pattern.ensures.places
-
--- ---- written by tools/answer-goals
-
-pub returns-clause-input : goal.returns-clause-input
-returns-clause-input c = search rules

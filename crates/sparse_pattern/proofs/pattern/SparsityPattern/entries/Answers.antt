@@ -19,17 +19,3 @@ returns-clause-places c i j = rw (returns-clause-all c)
 pub returns-clause-rising : goal.returns-clause-rising
 returns-clause-rising c = rw (returns-clause-all c)
     (entries_rise c.args.self.now (subst IsValid c.self.view_is c.self.invariant))
-
--- ---- written by tools/answer-goals
-
-pub offset_bounds-deref-index : goal.offset_bounds-deref-index
-offset_bounds-deref-index c = grind (arith, common_steps)
-
-pub slice_bounds-remaining-count : goal.slice_bounds-remaining-count
-slice_bounds-remaining-count c = grind (arith, common_steps)
-
-pub slice_bounds-remaining-end : goal.slice_bounds-remaining-end
-slice_bounds-remaining-end c = grind (arith, common_steps)
-
-pub slice_bounds-remaining-start : goal.slice_bounds-remaining-start
-slice_bounds-remaining-start c = grind (arith, common_steps)

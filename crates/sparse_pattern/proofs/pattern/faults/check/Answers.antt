@@ -1,4 +1,4 @@
-use Rattle.std.proofs.Common.{arith, inl, inr, rules}
+use Rattle.std.proofs.Common.{arith, inl, inr}
 use Rattle.std.proofs.lemmas.Result.{IfOk-from_err, err_from_is_err_and}
 use Rattle.sparse_pattern.proofs.FirstFaults.{first_at_end, first_among}
 use Rattle.sparse_pattern.proofs.pattern.faults.check.Goals as goal
@@ -51,8 +51,3 @@ check_lane-requires c = omega arith
 
 pub returns-in_err-check_lane-clause-ok : goal.returns-in_err-check_lane-clause-ok
 returns-in_err-check_lane-clause-ok c = IfOk-from_err _ _ c.from_residual.ensures.0
-
--- ---- written by tools/answer-goals
-
-pub loop-lane-init : goal.loop-lane-init
-loop-lane-init c = search rules

@@ -1,4 +1,3 @@
-use Rattle.std.proofs.lemmas.Grind.{elements}
 use Rattle.std.proofs.Common.{arith}
 use Rattle.sparse_with_dense.proofs.ColumnSteps.{pivot_column}
 use Rattle.sparse_with_dense.proofs.Substitutions.{forward_end, forward_step}
@@ -25,8 +24,3 @@ loop-k-preserved g c = forward_step
 
 pub returns : goal.returns
 returns g c = forward_end c.loop-k.invariant (omega arith)
-
--- ---- written by tools/answer-goals
-
-pub loop-k-init : goal.loop-k-init
-loop-k-init g c = grind (arith, elements)

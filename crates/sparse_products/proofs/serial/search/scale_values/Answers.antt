@@ -1,7 +1,0 @@
--- written by tools/answer-goals
-use Rattle.std.proofs.Common.{arith}
-use Rattle.std.proofs.lemmas.Grind.{common_steps}
-use Rattle.sparse_products.proofs.serial.search.scale_values.Goals as goal
-
-pub loop-value-preserved : goal.loop-value-preserved
-loop-value-preserved g c = grind (arith, common_steps)

@@ -1,6 +1,0 @@
--- written by tools/answer-goals
-use Rattle.std.proofs.Common.{rules}
-use Rattle.sparse_sums.proofs.scale.scale_csr.Goals as goal
-
-pub returns : goal.returns
-returns g c = search rules
