@@ -6,8 +6,9 @@ use Rattle.std.specs.List.{filter, flat_map}
 use Rattle.std.proofs.lemmas.Grind.{flat_map-append}
 use Rattle.std.proofs.lemmas.List.{append-nil}
 use Rattle.std.proofs.lemmas.List.Elements.{All-nil, All-cons, All-head, All-tail, All-append}
-use Rattle.std.proofs.lemmas.List.Elements.{All-push, All-map, All-weaker, filter_passes}
+use Rattle.std.proofs.lemmas.List.Elements.{All-map, All-weaker, filter_passes}
 use Rattle.sparse_algebra.specs.Plain.{below}
+use Rattle.sparse_convert.proofs.FullLanes.{all_below}
 use Rattle.mtxkit_matrices.specs.Orders.{places_of, IsBefore, IsByColumns}
 
 -- ---- triplets that are kept
@@ -49,12 +50,6 @@ places-append : {T : Type 0} (ts us : List (ℕ × ℕ × T))
 places-append [] us = refl
 places-append (t ∷ ts) us = ap (λ ps. (t.0, t.1) ∷ ps) (places-append ts us)
 
-below-all : (n : ℕ) → All (λ k. k < n) (below n)
-below-all zero = All-nil (λ k. k < 0)
-below-all (suc n) = All-push (λ k. k < suc n) (below n) n
-    (All-weaker (λ k. k < n) (λ k. k < suc n) (λ k lt. omega (arith, lt)) (below n) (below-all n))
-    (omega arith)
-
 -- the places (i, j) of some rows, which increase
 abbrev in_column : ℕ → List ℕ → List (ℕ × ℕ)
 in_column j is = map {B = ℕ × ℕ} (λ i. (i, j)) is
@@ -79,7 +74,7 @@ rows-by_columns j (suc n) =
     (All-nil (IsBefore (n, j)), tt)
     (in_column-all (λ (p : ℕ × ℕ). All (IsBefore p) ((n, j) ∷ [])) j (below n)
     (All-weaker (λ i. i < n) (λ i. All (IsBefore (i, j)) ((n, j) ∷ []))
-    (λ i lt. one-after (IsBefore (i, j)) (n, j) (inr (refl, lt))) (below n) (below-all n))))
+    (λ i lt. one-after (IsBefore (i, j)) (n, j) (inr (refl, lt))) (below n) (all_below n))))
 
 module _ {T : Type 0} (value : ℕ → ℕ → T) where
   -- the triplets of a column of n rows, and those of m columns
@@ -111,7 +106,7 @@ module _ {T : Type 0} (value : ℕ → ℕ → T) where
       (All-weaker (λ (p : ℕ × ℕ). p.1 < m) P (λ (p : ℕ × ℕ) (lt : p.1 < m). omega (arith, lt))
       (places_of (columns n (below m))) (columns-below n m))
       (in_column-all P m (below n) (All-weaker (λ i. i < n) (λ i. m < suc m) (λ i lt. omega arith)
-      (below n) (below-all n))))
+      (below n) (all_below n))))
 
   pub columns-by_columns : (n m : ℕ) → IsByColumns (places_of (columns n (below m)))
   columns-by_columns n zero = tt
@@ -122,7 +117,7 @@ module _ {T : Type 0} (value : ℕ → ℕ → T) where
       (rows-by_columns m n)
       (All-weaker (λ (p : ℕ × ℕ). p.1 < m) before
       (λ (p : ℕ × ℕ) (lt : p.1 < m). in_column-all (IsBefore p) m (below n)
-      (All-weaker (λ i. i < n) (λ i. IsBefore p (i, m)) (λ i row. inl lt) (below n) (below-all n)))
+      (All-weaker (λ i. i < n) (λ i. IsBefore p (i, m)) (λ i row. inl lt) (below n) (all_below n)))
       (places_of (columns n (below m))) (columns-below n m)))
 
 -- ---- values that are not zero

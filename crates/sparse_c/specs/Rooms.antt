@@ -1,4 +1,4 @@
--- The arrays that C lends for a matrix by rows, and what a call over a ring leaves in them.
+-- The borrowed arrays of a matrix by rows, and what a call over a ring leaves in them.
 use Rattle.std.specs.Prelude.{◌≡◌, ℕ, ℤ, pos, List}
 use Rattle.sparse_algebra.specs.Plain.{Plain}
 use Rattle.sparse_c.specs.Scalars.{Scalars}

@@ -7,7 +7,7 @@ ghost use Rattle.std.specs.Int.RustNames.{FitsSigned};
 
 use sparse_c_arrays::lanes::Lanes;
 
-/// The arrays that C lends for a matrix by rows, and the variable for its number of places.
+/// The borrowed arrays of a matrix by rows, and the variable for its number of places.
 #[derive(Drop)]
 pub(crate) struct Room<'a> {
     pub(crate) offsets: &'a mut [usize],
@@ -16,7 +16,7 @@ pub(crate) struct Room<'a> {
     pub(crate) places: &'a mut usize,
 }
 
-/// The arrays that C lends for the factors of a symmetric matrix.
+/// The borrowed arrays of the factors of a symmetric matrix.
 #[derive(Drop)]
 pub(crate) struct FactorRoom<'a> {
     pub(crate) offsets: &'a mut [usize],
@@ -26,7 +26,7 @@ pub(crate) struct FactorRoom<'a> {
     pub(crate) places: &'a mut usize,
 }
 
-/// The array that C lends for a dense matrix.
+/// The borrowed array of a dense matrix.
 #[derive(Drop)]
 pub(crate) struct Numbers<'a> {
     pub(crate) values: &'a mut [i64],

@@ -39,7 +39,7 @@ rising_below n = λ k lt. omega (
   below_at n (k + 1) 0 (omega (arith, length_below n)),
 )
 
-all_below : (n : ℕ) → All (λ k. k < n) (below n)
+pub all_below : (n : ℕ) → All (λ k. k < n) (below n)
 all_below n = λ k d lt. let within : k < n = omega (arith, length_below n) in subst (λ x. x < n)
     (sym (below_at n k d within)) within
 

@@ -15,7 +15,7 @@ mod Apart
 mod Refusals
 mod StoredTriplets
 mod Reaching
-mod FullLanes
+pub mod FullLanes
 mod LaneGrowth
 mod NonzeroParts
 mod DenseWriting

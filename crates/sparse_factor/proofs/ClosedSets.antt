@@ -6,9 +6,10 @@ use Rattle.sparse_algebra.proofs.Cases.{true_or_false}
 use Rattle.sparse_algebra.specs.Algebra.{CommRing}
 use Rattle.sparse_algebra.specs.Sums.{sum_below}
 use Rattle.sparse_algebra.proofs.RingLemmas.{zero_add}
+use Rattle.sparse_algebra.proofs.SumLemmas.{sum_below-none}
 use Rattle.sparse_with_dense.proofs.RingSteps.{mul_off}
 use Rattle.sparse_factor.specs.InnerFactors.{term, ArePartFactors}
-use Rattle.sparse_factor.proofs.RingFacts.{mul_off_right, cancel_mul, sum_below-none}
+use Rattle.sparse_factor.proofs.RingFacts.{mul_off_right, cancel_mul}
 
 -- closed under fill, as a test
 abbrev pub IsClosed : (ℕ → ℕ → Bool) → Type 0

@@ -5,7 +5,6 @@ use Rattle.sparse_algebra.specs.Algebra.{CommRing}
 use Rattle.sparse_algebra.specs.Sums.{sum_below}
 use Rattle.sparse_algebra.proofs.Products.{unit_cancels}
 use Rattle.sparse_algebra.proofs.RingLemmas.{mul_zero, cancel}
-use Rattle.sparse_algebra.proofs.SumLemmas.{sum_below-same, sum_below-zero}
 use Rattle.sparse_algebra.specs.Inverses.{HasInverse}
 use Rattle.sparse_with_dense.proofs.RingSteps.{add_off}
 
@@ -33,10 +32,6 @@ module _ (R : CommRing) where
       let none : (x : R.Carrier) → x ≡ R.zero =
       λ x. sym (R.laws.mul_one x) ∙ ap (R.mul x) h ∙ mul_zero R x in
       none a ∙ sym (none b)
-
-  pub sum_below-none : (n : ℕ) (f : ℕ → R.Carrier) → ((k : ℕ) → k < n → f k ≡ R.zero)
-      → sum_below R n f ≡ R.zero
-  sum_below-none n f none = sum_below-same R n f (λ _. R.zero) none ∙ sum_below-zero R n
 
   -- the terms from c on are zero
   pub sum_below-past : (n c : ℕ) (f : ℕ → R.Carrier) → c ≤ n
