@@ -4,13 +4,10 @@ use nalgebra_sparse::dense::DMatrix;
 use nalgebra_sparse::ops::serial::{mul_csc, mul_csc_dense, mul_csr, mul_csr_dense};
 use nalgebra_sparse::scalar::W64;
 use nalgebra_sparse::{CscMatrix, CsrMatrix};
-use refused_calls::operands::{COLUMN, ONE, OTHER, SMALL, WIDE, full_row, matrix};
+use refused_calls::operands::{COLUMN, ONE, OTHER, SMALL, WIDE, full_row, many_rows, matrix};
 use refused_calls::outcome::{Outcome, outcome_of};
 use refused_calls::turn::Turn;
 use std::alloc::Global;
-
-// From this number of places in the second factor on, a product is made row by row.
-const MANY_PLACES: usize = 1_000_000;
 
 pub fn run(turn: &mut Turn, call: &str, case: &str) -> Outcome {
     match call {
@@ -22,12 +19,17 @@ pub fn run(turn: &mut Turn, call: &str, case: &str) -> Outcome {
 /// Two factors whose inner dimensions are equal.
 pub fn factors(alloc: Global, case: &str) -> Option<(CsrMatrix<W64>, CsrMatrix<W64>)> {
     match case {
-        "long rows" => Some((matrix(alloc, ONE)?, full_row(alloc, 64)?)),
-        "wide rows" => Some((matrix(alloc, ONE)?, matrix(alloc, WIDE)?)),
-        "many places" => Some((matrix(alloc, ONE)?, full_row(alloc, MANY_PLACES)?)),
-        "a column" => Some((matrix(alloc, SMALL)?, matrix(alloc, COLUMN)?)),
-        _ => Some((matrix(alloc, SMALL)?, matrix(alloc, OTHER)?)),
+        "long rows" => matrix(alloc, ONE).zip(full_row(alloc, 64)),
+        "wide rows" => matrix(alloc, ONE).zip(matrix(alloc, WIDE)),
+        "many rows" => with_transpose(alloc, many_rows(alloc, 0)?),
+        "a column" => matrix(alloc, SMALL).zip(matrix(alloc, COLUMN)),
+        _ => matrix(alloc, SMALL).zip(matrix(alloc, OTHER)),
     }
+}
+
+fn with_transpose(alloc: Global, a: CsrMatrix<W64>) -> Option<(CsrMatrix<W64>, CsrMatrix<W64>)> {
+    let transpose = a.transpose(alloc).ok()?;
+    Some((a, transpose))
 }
 
 fn of_pair(turn: &mut Turn, call: &str, case: &str) -> Outcome {

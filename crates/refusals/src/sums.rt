@@ -21,8 +21,8 @@ pub fn run(turn: &mut Turn, call: &str, case: &str) -> Outcome {
 // In the lanes that are looked at all columns are common, in others none are.
 fn operands(alloc: Global, case: &str) -> Option<(CsrMatrix<W64>, CsrMatrix<W64>)> {
     match case {
-        "more room than expected" => Some((many_rows(alloc, 0)?, many_rows(alloc, 4)?)),
-        _ => Some((matrix(alloc, SMALL)?, matrix(alloc, OTHER)?)),
+        "more room than expected" => many_rows(alloc, 0).zip(many_rows(alloc, 4)),
+        _ => matrix(alloc, SMALL).zip(matrix(alloc, OTHER)),
     }
 }
 
