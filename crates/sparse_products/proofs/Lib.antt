@@ -11,5 +11,5 @@ mod LaneParts
 mod TakenRows
 mod Updating
 mod MadeProducts
-pub mod Refusals
+mod Refusals
 mod Transposing

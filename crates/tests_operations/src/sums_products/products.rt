@@ -176,8 +176,7 @@ fn left_factor(alloc: Global) -> Option<CsrMatrix<W64>> {
     ones(alloc, (2, 2000), &[0, 2000, 3000], &columns)
 }
 
-// 2000 rows: ones in the even columns of the even rows, and in the odd ones of the odd rows. A product of this size
-// goes row by row.
+// 2000 rows: ones in the even columns of the even rows, and in the odd ones of the odd rows.
 fn right_factor(alloc: Global) -> Option<CsrMatrix<W64>> {
     let offsets = first_multiples(alloc, 2001, 500).ok()?;
     let columns = even_and_odd_columns(alloc).ok()?;
