@@ -4,3 +4,4 @@ mod Postfix
 mod Trees
 mod Loading
 mod Outcome
+mod Refusals
