@@ -4,4 +4,3 @@ mod Postfix
 mod Trees
 mod Loading
 mod Outcome
-mod Refusals

@@ -83,7 +83,7 @@ fn owned<T: Ring>(alloc: Global, matrix: Rc<CsrMatrix<T>>) -> Result<CsrMatrix<T
 
 // The value of an expression by rows, or its transpose by rows if `transposed`. The functions that it calls are not
 // inlined, so that its frame stays small: it recurses once a level.
-#[tactic(auto, using(crate::proofs::Refusals::refused))]
+#[tactic(auto, using(sparse_products::proofs::Refusals::refused))]
 fn evaluate<T: Ring>(
     alloc: Global,
     expr: &Expr,

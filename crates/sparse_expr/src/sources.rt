@@ -128,7 +128,7 @@ fn matrix_of<T: Ring>(
 }
 
 // Returns the matrix of a slot, made if the slot has none, and leaves it there if it will be needed again.
-#[tactic(auto, using(crate::proofs::Refusals::refused))]
+#[tactic(auto, using(sparse_products::proofs::Refusals::refused))]
 fn shared<T: Ring>(
     alloc: Global,
     list: &CooMatrix<T>,

@@ -11,5 +11,5 @@ mod LaneParts
 mod TakenRows
 mod Updating
 mod MadeProducts
-mod Refusals
+pub mod Refusals
 mod Transposing
