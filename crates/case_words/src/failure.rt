@@ -1,0 +1,96 @@
+//! Why a call has no answer.
+
+use nalgebra_sparse::SparseFormatError;
+use nalgebra_sparse::expr::ExprError;
+use nalgebra_sparse::io::MatrixMarketError;
+use nalgebra_sparse::ops::serial::OperationError;
+use nalgebra_sparse::pattern::SparsityPatternFormatError;
+use std::alloc::{AllocError, AllocFailed, Global};
+
+/// Why a call has no answer.
+#[derive(Drop)]
+pub enum Failure {
+    /// The row is not written by the rules, or the program found a fault that no row may expect.
+    Unreadable(&'static str),
+    /// The operands have sizes that the call does not take.
+    Misfit,
+    /// An allocation failed.
+    Memory,
+    /// The error of a pattern's arrays.
+    Pattern(SparsityPatternFormatError),
+    /// The error of a matrix's arrays.
+    Format(SparseFormatError),
+    /// The error of an operation.
+    Operation(OperationError),
+    /// The error of a Matrix Market text.
+    Reading(MatrixMarketError),
+    /// The error of an expression.
+    Expression(ExprError),
+}
+
+impl Failure {
+    /// Returns the kind of the error, and behind a colon its message.
+    pub fn text(&self, alloc: Global) -> Result<String, AllocError> {
+        match self {
+            Failure::Unreadable(why) => format!(in alloc; "unreadable: {why}"),
+            Failure::Misfit => String::from_str(alloc, "the sizes do not fit"),
+            Failure::Memory => String::from_str(alloc, "out of memory"),
+            Failure::Pattern(error) => format!(in alloc; "{error:?}: {error}"),
+            Failure::Format(error) => {
+                let kind = error.kind();
+                format!(in alloc; "{kind:?}: {error}")
+            }
+            Failure::Operation(error) => {
+                let (kind, message) = (error.kind(), error.message());
+                format!(in alloc; "{kind:?}: {message}")
+            }
+            Failure::Reading(error) => {
+                let (kind, message) = (error.kind(), error.message());
+                format!(in alloc; "{kind:?}: {message}")
+            }
+            Failure::Expression(error) => format!(in alloc; "{error:?}: {error}"),
+        }
+    }
+}
+
+impl From<AllocError> for Failure {
+    fn from(_refused: AllocError) -> Failure {
+        Failure::Memory
+    }
+}
+
+impl<T: Drop> From<AllocFailed<T>> for Failure {
+    fn from(_refused: AllocFailed<T>) -> Failure {
+        Failure::Memory
+    }
+}
+
+impl From<SparsityPatternFormatError> for Failure {
+    fn from(error: SparsityPatternFormatError) -> Failure {
+        Failure::Pattern(error)
+    }
+}
+
+impl From<SparseFormatError> for Failure {
+    fn from(error: SparseFormatError) -> Failure {
+        Failure::Format(error)
+    }
+}
+
+impl From<OperationError> for Failure {
+    fn from(error: OperationError) -> Failure {
+        Failure::Operation(error)
+    }
+}
+
+impl From<MatrixMarketError> for Failure {
+    fn from(error: MatrixMarketError) -> Failure {
+        Failure::Reading(error)
+    }
+}
+
+impl From<ExprError> for Failure {
+    fn from(error: ExprError) -> Failure {
+        Failure::Expression(error)
+    }
+}

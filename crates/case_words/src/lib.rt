@@ -1,0 +1,9 @@
+//! What rows of the tables of `cases` are written with: words, pictures of matrices, scalars, and why a call fails.
+#![tactic(auto)]
+
+pub mod drawing;
+pub mod failure;
+pub mod picture;
+pub mod scalar;
+pub mod turn;
+pub mod words;

@@ -1,0 +1,108 @@
+//! Compressed matrices, by rows and by columns, and those that pictures show.
+
+use case_words::drawing::{Drawn, is_large, picture, triplets};
+use case_words::failure::Failure;
+use case_words::picture::list_of;
+use case_words::scalar::Scalar;
+use nalgebra_sparse::convert::serial::{
+    convert_coo_csc, convert_coo_csr, convert_coo_dense, convert_csc_coo, convert_csr_coo,
+};
+use nalgebra_sparse::dense::DMatrix;
+use nalgebra_sparse::ops::Op;
+use nalgebra_sparse::{CooMatrix, CscMatrix, CsrMatrix};
+use std::alloc::Global;
+
+/// A compressed matrix.
+pub trait Compressed<T: Scalar>: Drawn + Drop {
+    /// Returns the matrix of a list.
+    fn from_list(alloc: Global, list: &CooMatrix<T>) -> Result<Self, Failure>;
+
+    /// Returns the list of the matrix.
+    fn to_list(&self, alloc: Global) -> Result<CooMatrix<T>, Failure>;
+
+    /// Returns the transpose.
+    fn transposed(&self, alloc: Global) -> Result<Self, Failure>;
+}
+
+/// By rows.
+impl<T: Scalar> Compressed<T> for CsrMatrix<T> {
+    fn from_list(alloc: Global, list: &CooMatrix<T>) -> Result<Self, Failure> {
+        Ok(convert_coo_csr(alloc, list)?)
+    }
+
+    fn to_list(&self, alloc: Global) -> Result<CooMatrix<T>, Failure> {
+        Ok(convert_csr_coo(alloc, self)?)
+    }
+
+    fn transposed(&self, alloc: Global) -> Result<Self, Failure> {
+        Ok(self.transpose(alloc)?)
+    }
+}
+
+/// By columns.
+impl<T: Scalar> Compressed<T> for CscMatrix<T> {
+    fn from_list(alloc: Global, list: &CooMatrix<T>) -> Result<Self, Failure> {
+        Ok(convert_coo_csc(alloc, list)?)
+    }
+
+    fn to_list(&self, alloc: Global) -> Result<CooMatrix<T>, Failure> {
+        Ok(convert_csc_coo(alloc, self)?)
+    }
+
+    fn transposed(&self, alloc: Global) -> Result<Self, Failure> {
+        Ok(self.transpose(alloc)?)
+    }
+}
+
+/// Returns the compressed matrix of a picture, transposed where the picture is.
+pub fn matrix_of<T: Scalar, F: Compressed<T>>(
+    alloc: Global,
+    picture: Op<&str>,
+) -> Result<F, Failure> {
+    match picture {
+        Op::NoOp(picture) => F::from_list(alloc, &list_of(alloc, picture)?),
+        Op::Transpose(picture) => F::from_list(alloc, &list_of(alloc, picture)?)?.transposed(alloc),
+    }
+}
+
+/// Returns the compressed matrix of a picture that an operation takes as it is or transposed.
+pub fn inner_of<T: Scalar, F: Compressed<T>>(
+    alloc: Global,
+    picture: Op<&str>,
+) -> Result<F, Failure> {
+    F::from_list(alloc, &list_of(alloc, picture.into_inner())?)
+}
+
+/// Returns the dense matrix of a picture that an operation takes as it is or transposed.
+pub fn dense_of<T: Scalar>(alloc: Global, picture: Op<&str>) -> Result<DMatrix<T>, Failure> {
+    Ok(convert_coo_dense(alloc, &list_of(alloc, picture.into_inner())?)?)
+}
+
+/// Returns a matrix as the operand that its picture is.
+pub fn operand<'a, M>(picture: Op<&str>, matrix: &'a M) -> Op<&'a M> {
+    match picture {
+        Op::NoOp(_) => Op::NoOp(matrix),
+        Op::Transpose(_) => Op::Transpose(matrix),
+    }
+}
+
+/// Returns the picture of a matrix, or the triplets of a large one.
+pub fn shown<T: Scalar, F: Compressed<T>>(alloc: Global, matrix: &F) -> Result<String, Failure> {
+    if is_large(matrix.size()) {
+        return Ok(triplets(alloc, &matrix.to_list(alloc)?)?);
+    }
+    Ok(picture(alloc, matrix)?)
+}
+
+/// Returns the answer of an update, given how its target was shown before and after: an error must leave it as it was.
+pub fn updated(
+    answer: Result<(), Failure>,
+    before: String,
+    after: String,
+) -> Result<String, Failure> {
+    match answer {
+        Ok(()) => Ok(after),
+        Err(failure) if before.as_str() == after.as_str() => Err(failure),
+        Err(_) => Err(Failure::Unreadable("an error changed the target")),
+    }
+}
