@@ -72,8 +72,8 @@ pub fn place_of(word: &str) -> Result<(usize, usize), Failure> {
     }
 }
 
-// What stands in the parentheses of a word.
-fn inside(word: &str) -> Option<&str> {
+/// Returns what stands in the parentheses of a word.
+pub fn inside(word: &str) -> Option<&str> {
     word.strip_prefix("(")?.strip_suffix(")")
 }
 

@@ -1,12 +1,13 @@
 //! Calls, and what they answer.
 
-use crate::compressed::{Compressed, matrix_of, shown};
+use crate::compressed::{Compressed, inner_of, shown};
 use crate::conversions::{Conversions, converted};
 use crate::products::{Products, product, product_into};
 use crate::shapes::{Shapes, shaped};
 use crate::sums::{Sums, joined, multiple, quotient, sum_into};
 use crate::systems::{factored, solution};
 use case_words::failure::Failure;
+use case_words::picture::list_of;
 use case_words::scalar::{Scalar, scalar_from};
 use case_words::turn::Turn;
 use case_words::words::{Word, words_of};
@@ -14,10 +15,7 @@ use nalgebra_sparse::ops::Op;
 use nalgebra_sparse::{CscMatrix, CsrMatrix};
 
 /// A form of a matrix, with all calls on it.
-pub trait Form<T: Scalar>:
-    Compressed<T> + Conversions<T> + Shapes<T> + Sums<T> + Products<T>
-{
-}
+pub trait Form<T: Scalar>: Compressed<T> + Conversions<T> + Shapes<T> + Sums<T> + Products<T> {}
 
 impl<T: Scalar> Form<T> for CsrMatrix<T> {}
 
@@ -30,10 +28,7 @@ pub fn answer<T: Scalar, F: Form<T>>(turn: &mut Turn, call: &str) -> Result<Stri
 }
 
 // The answer of a call in the signs of mathematics.
-fn of_words<T: Scalar, F: Form<T>>(
-    turn: &mut Turn,
-    words: &[Word<'_>],
-) -> Result<String, Failure> {
+fn of_words<T: Scalar, F: Form<T>>(turn: &mut Turn, words: &[Word<'_>]) -> Result<String, Failure> {
     match *words {
         [Word::Matrix(a)] => read::<T, F>(turn, a),
         [Word::Name(name), Word::Matrix(a)] => named::<T, F>(turn, name, a),
@@ -53,10 +48,22 @@ fn of_words<T: Scalar, F: Form<T>>(
     }
 }
 
-// A list of triplets, compressed.
+// A list of triplets, compressed, or the transpose of that.
 fn read<T: Scalar, F: Form<T>>(turn: &mut Turn, a: Op<&str>) -> Result<String, Failure> {
-    let matrix: F = matrix_of(turn.alloc(), a)?;
-    shown(turn.alloc(), &matrix)
+    let alloc = turn.alloc();
+    let matrix: F = match a {
+        Op::NoOp(picture) => {
+            let list = list_of(alloc, picture)?;
+            turn.begin();
+            turn.end(F::from_list(alloc, &list))?
+        }
+        Op::Transpose(_) => {
+            let matrix: F = inner_of(alloc, a)?;
+            turn.begin();
+            turn.end(matrix.transposed(alloc))?
+        }
+    };
+    shown(alloc, &matrix)
 }
 
 // The answer of a name before a matrix.
@@ -66,8 +73,10 @@ fn named<T: Scalar, F: Form<T>>(
     a: Op<&str>,
 ) -> Result<String, Failure> {
     match name {
-        "list" | "dense" | "sparse" | "arrays" | "copy" | "turn" => converted::<T, F>(turn, name, a),
-        "-" | "transpose" | "upper" | "lower" | "diagonal" => shaped::<T, F>(turn, name, a),
+        "list" | "dense" | "sparse" | "arrays" | "copy" | "turn" => converted::<T, F>(
+            turn, name, a,
+        ),
+        "-" | "upper" | "lower" | "diagonal" => shaped::<T, F>(turn, name, a),
         "fill" | "fill-lower" | "fill-both" | "ldl" => factored::<T>(turn, name, a),
         _ => Err(Failure::Unreadable("no call has this name")),
     }

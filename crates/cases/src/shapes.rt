@@ -58,7 +58,7 @@ impl<T: Scalar> Shapes<T> for CscMatrix<T> {
     }
 }
 
-/// Returns the answer of `- A`, `transpose A`, `upper A`, `lower A` or `diagonal A`.
+/// Returns the answer of `- A`, `upper A`, `lower A` or `diagonal A`.
 pub fn shaped<T: Scalar, F: Shapes<T>>(
     turn: &mut Turn,
     name: &str,
@@ -76,7 +76,6 @@ fn part_of<T: Scalar, F: Shapes<T>>(alloc: Global, name: &str, matrix: &F) -> Re
         "upper" => matrix.upper(alloc),
         "lower" => matrix.lower(alloc),
         "diagonal" => matrix.diagonal(alloc),
-        "transpose" => matrix.transposed(alloc),
         _ => matrix.negative(alloc),
     }
 }

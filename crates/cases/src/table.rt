@@ -2,8 +2,9 @@
 //!
 //! A line is empty, a comment behind `#`, names behind `over`, or a row `CALL -> ANSWER`, behind which ` #` begins a
 //! comment. A row holds if the call gives that answer over each scalar and in each form that the last line `over` names.
+//! A line `calls` names the public calls that the rows below it make, for the script that refuses their requests.
 
-use crate::over::{answer_over, is_over};
+use crate::over::{Answer, answer_over, is_over};
 use case_words::turn::Turn;
 use std::alloc::{AllocError, Global};
 use std::io;
@@ -42,7 +43,7 @@ pub fn run_table(rt: &HostRuntime, name: &str, text: &str, count: &mut Count) ->
         let row = without_comment(line).trim();
         match row.strip_prefix("over ") {
             Some(words) => over = String::from_str(rt.alloc(), words)?,
-            None if row.is_empty() => {}
+            None if row.is_empty() || row.starts_with("calls ") => {}
             None => {
                 let number = index.saturating_add(1);
                 let passes = passes(rt, (name, number), over.as_str(), row)?;
@@ -104,24 +105,17 @@ fn fault_in(
     wanted: &str,
 ) -> Result<Option<String>, AllocError> {
     for scalar in over.split_whitespace() {
-        match answer_over(&mut Turn::new(alloc, 0, 0), scalar, form, call)? {
-            Some(got) if !fits(got.as_str(), wanted) => {
+        let mut turn = Turn::new(alloc, 0, 0);
+        match answer_over(&mut turn, (scalar, form), call, wanted)? {
+            Some(Answer { text, fits: false }) => {
                 return Ok(Some(format!(in alloc;
-                    "expected {wanted}\n  got      {got} ({scalar} by {form})"
+                    "expected {wanted}\n  got      {text} ({scalar} by {form})"
                 )?));
             }
             _ => {}
         }
     }
     Ok(None)
-}
-
-// Whether an answer is the wanted one, or an error of the wanted kind. No row may expect to be unreadable.
-fn fits(got: &str, wanted: &str) -> bool {
-    match got.split_once(": ") {
-        Some((kind, _)) => kind != "unreadable" && (got == wanted || kind == wanted),
-        None => got == wanted,
-    }
 }
 
 /// Runs the rows of a table with these numbers of idle requests. Prints whether the answer is that of the row, or it,
@@ -134,8 +128,8 @@ pub fn refuse_table(rt: &HostRuntime, text: &str, before: usize, after: usize) -
             (Some(words), _) => over = String::from_str(rt.alloc(), words)?,
             (None, Some((call, wanted))) => {
                 let mut turn = Turn::new(rt.alloc(), before, after);
-                let answer = first_answer(&mut turn, over.as_str(), call)?;
-                print_refused(rt, answer, wanted.trim(), turn.refused())?;
+                let answer = first_answer(&mut turn, over.as_str(), call, wanted)?;
+                print_refused(rt, answer, turn.refused())?;
             }
             (None, None) => {}
         }
@@ -144,22 +138,26 @@ pub fn refuse_table(rt: &HostRuntime, text: &str, before: usize, after: usize) -
 }
 
 // The answer over the first scalar and in the first form: `over rows W64` or `over columns W64`.
-fn first_answer(turn: &mut Turn, over: &str, call: &str) -> Result<Option<String>, AllocError> {
+fn first_answer(
+    turn: &mut Turn,
+    over: &str,
+    call: &str,
+    wanted: &str,
+) -> Result<Option<Answer>, AllocError> {
     match over.split_once(' ') {
-        Some((form, scalar)) => answer_over(turn, scalar.trim(), form, call),
+        Some((form, scalar)) => answer_over(turn, (scalar.trim(), form), call, wanted),
         None => Ok(None),
     }
 }
 
 fn print_refused(
     rt: &HostRuntime,
-    answer: Option<String>,
-    wanted: &str,
+    answer: Option<Answer>,
     refused: Option<usize>,
 ) -> io::Result<()> {
     match answer {
-        Some(got) if fits(got.as_str(), wanted) => println!(rt; "passed")?,
-        Some(got) => println!(rt; "{got}")?,
+        Some(Answer { fits: true, .. }) => println!(rt; "passed")?,
+        Some(Answer { text, .. }) => println!(rt; "{text}")?,
         None => println!(rt; "is over something unknown")?,
     }
     match refused {
