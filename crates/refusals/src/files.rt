@@ -1,16 +1,15 @@
 //! Files, and the commands of `mtx` over them.
 
-use crate::sink::Page;
+use crate::outcome::{Outcome, checksum_of, checksum_of_bytes, of_error};
+use crate::page::Page;
+use case_words::turn::Turn;
 use mtx_commands::command;
 use nalgebra_sparse::CooMatrix;
 use nalgebra_sparse::io::{
-    MatrixMarketError, Out, load_coo_from_matrix_market_file, save_to_matrix_market_file,
+    MatrixMarketError, Out, load_coo_from_matrix_market_file, load_coo_from_matrix_market_str,
+    save_to_matrix_market_file,
 };
 use nalgebra_sparse::scalar::W64;
-use refused_calls::answer::of_bytes;
-use refused_calls::operands::list;
-use refused_calls::outcome::{Outcome, outcome_of};
-use refused_calls::turn::Turn;
 use std::fs;
 
 const INTEGERS: &str = "%%MatrixMarket matrix coordinate integer general\n2 2 2\n1 2 3\n2 2 4\n";
@@ -20,6 +19,7 @@ const PLACES: &str = "%%MatrixMarket matrix coordinate pattern symmetric\n3 3 2\
 // The file that a scenario writes and reads.
 const PATH: &str = "refusals.mtx";
 
+/// Returns the outcome of a call on a file.
 pub fn run(rt: &HostRuntime, turn: &mut Turn, call: &str, case: &str) -> Outcome {
     match call {
         "load_coo_from_matrix_market_file" => load(rt, turn),
@@ -37,16 +37,32 @@ fn load(rt: &HostRuntime, turn: &mut Turn) -> Outcome {
     let read: Result<CooMatrix<W64>, MatrixMarketError> = load_coo_from_matrix_market_file(
         rt, PATH,
     );
-    outcome_of(read)
+    match turn.end(read) {
+        Ok(list) => Outcome::Answered(checksum_of(&[list.nnz() as i64, sum_of(&list)])),
+        Err(error) => of_error(&error),
+    }
+}
+
+fn sum_of(list: &CooMatrix<W64>) -> i64 {
+    let mut sum: i64 = 0;
+    for value in list.values() {
+        sum = sum.wrapping_add(value.get());
+    }
+    sum
 }
 
 fn save(rt: &HostRuntime, turn: &mut Turn) -> Outcome {
-    match list(turn.alloc(), (3, 3), &[(2, 1), (0, 1)]) {
-        Some(list) => {
-            turn.begin();
-            outcome_of(save_to_matrix_market_file(rt, &list, PATH))
-        }
-        None => Outcome::Unready,
+    match load_coo_from_matrix_market_str(turn.alloc(), INTEGERS) {
+        Ok(list) => save_list(rt, turn, &list),
+        Err(_) => Outcome::Unready,
+    }
+}
+
+fn save_list(rt: &HostRuntime, turn: &mut Turn, list: &CooMatrix<W64>) -> Outcome {
+    turn.begin();
+    match turn.end(save_to_matrix_market_file(rt, list, PATH)) {
+        Ok(()) => Outcome::Answered(0),
+        Err(error) => of_error(&error),
     }
 }
 
@@ -71,7 +87,7 @@ fn obey(rt: &HostRuntime, turn: &mut Turn, words: &[&str], text: &str) -> Outcom
     }
     let (mut out, mut err) = (Out::new(Page::new()), Out::new(Page::new()));
     turn.begin();
-    let status = command(rt, words, &mut out, &mut err);
+    let status = turn.end(command(rt, words, &mut out, &mut err));
     answered(
         status,
         &out.into_inner(),
@@ -83,7 +99,7 @@ fn obey(rt: &HostRuntime, turn: &mut Turn, words: &[&str], text: &str) -> Outcom
 // The outcome of a command: a text and status 0, or the line of an allocation failure and status 1.
 fn answered(status: u8, out: &Page, err: &Page, whole: &Page) -> Outcome {
     match (status, err.taken()) {
-        (0, b"") => Outcome::Answered(of_bytes(out.taken())),
+        (0, b"") => Outcome::Answered(checksum_of_bytes(out.taken())),
         (1, b"mtx: out of memory\n") => {
             Outcome::Refused.leaving(whole.taken().starts_with(out.taken()))
         }

@@ -1,24 +1,21 @@
-//! The program `refusals`: calls whose requests for memory are refused in turn by `.ci/refusals`.
+//! The program `refusals`: calls whose requests for memory are refused in turn by `.ci/refusals`, and that are no rows of
+//! `cases`: calls on files and sinks, the commands of both programs, and lists whose values or memory are counted.
 //!
 //! Each line of standard input names a scenario: its group, its call and perhaps a case after a comma. Before the name
 //! there may be two numbers of idle requests for memory, made before the call and after it: with these a fixed request
 //! of the program is any one of the call. The program prints what came of each scenario.
 #![tactic(auto)]
 
-mod data;
-mod expressions;
 mod files;
-mod products;
-mod sink;
-mod sums;
-mod systems;
-mod texts;
+mod lists;
+mod outcome;
+mod page;
+mod runs;
+mod sinks;
 mod toolkit;
-mod updates;
 
-use refused_calls::outcome::Outcome;
-use refused_calls::turn::Turn;
-use refused_calls::{columns, conversions, dense, lists, patterns, rows};
+use crate::outcome::Outcome;
+use case_words::turn::Turn;
 use std::io::{self, Read};
 use std::str;
 
@@ -64,7 +61,6 @@ fn run_line(rt: &HostRuntime, line: &str) -> io::Result<()> {
     };
     let mut turn = Turn::new(rt.alloc(), before, after);
     let outcome = scenario(rt, &mut turn, name);
-    turn.end();
     print_numbered(rt, outcome, turn.refused())
 }
 
@@ -99,26 +95,9 @@ fn scenario(rt: &HostRuntime, turn: &mut Turn, name: &str) -> Outcome {
     match group {
         "files" => files::run(rt, turn, call, case),
         "toolkit" => toolkit::run(rt, turn, case),
-        _ => of_memory(turn, group, call, case),
-    }
-}
-
-// Runs a scenario that needs no file.
-fn of_memory(turn: &mut Turn, group: &str, call: &str, case: &str) -> Outcome {
-    match group {
-        "patterns" => patterns::run(turn, call, case),
-        "lists" => lists::run(turn, call, case),
-        "dense" => dense::run(turn, call),
-        "rows" => rows::run(turn, call, case),
-        "columns" => columns::run(turn, call, case),
-        "conversions" => conversions::run(turn, call, case),
-        "sums" => sums::run(turn, call, case),
-        "products" => products::run(turn, call, case),
-        "systems" => systems::run(turn, call),
-        "updates" => updates::run(turn, call, case),
-        "texts" => texts::run(turn, call, case),
-        "data" => data::run(turn, call),
-        "expressions" => expressions::run(turn, call, case),
+        "sinks" => sinks::run(turn, case),
+        "expressions" => runs::run(turn, call, case),
+        "lists" => lists::run(turn, call),
         _ => Outcome::Unknown,
     }
 }

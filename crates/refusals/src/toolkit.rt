@@ -2,13 +2,12 @@
 
 ghost use Rattle.mtxkit_commands.specs.Commands.{IsSized};
 
-use crate::sink::Page;
+use crate::outcome::{Outcome, checksum_of_bytes};
+use crate::page::Page;
+use case_words::turn::Turn;
 use mtxkit_commands::{Command, Inputs, Target, Values, run as execute};
 use mtxkit_texts::Screen;
 use nalgebra_sparse::io::Out;
-use refused_calls::answer::of_bytes;
-use refused_calls::outcome::Outcome;
-use refused_calls::turn::Turn;
 use std::fs;
 
 // The files of A, X and B, where A X = B.
@@ -33,6 +32,7 @@ const FILES: &[(&str, &str)] = &[
     ),
 ];
 
+/// Returns the outcome of a command.
 pub fn run(rt: &HostRuntime, turn: &mut Turn, case: &str) -> Outcome {
     let modulus = Some(7);
     match case {
@@ -107,7 +107,7 @@ fn obey(rt: &HostRuntime, turn: &mut Turn, command: Command<'static>) -> Outcome
     }
     let (mut out, mut err) = (Out::new(Page::new()), Out::new(Page::new()));
     turn.begin();
-    let status = execute(rt, command, &mut inputs, &mut out, &mut err);
+    let status = turn.end(execute(rt, command, &mut inputs, &mut out, &mut err));
     answered(status, &out.into_inner(), &err.into_inner())
 }
 
@@ -115,7 +115,7 @@ fn obey(rt: &HostRuntime, turn: &mut Turn, command: Command<'static>) -> Outcome
 // answer whole.
 fn answered(status: u8, out: &Page, err: &Page) -> Outcome {
     match (status, err.taken()) {
-        (0, b"") => Outcome::Answered(of_bytes(out.taken())),
+        (0, b"") => Outcome::Answered(checksum_of_bytes(out.taken())),
         (1, b"mtxkit: out of memory\n") => Outcome::Refused.leaving(out.taken().is_empty()),
         _ => Outcome::Failed,
     }

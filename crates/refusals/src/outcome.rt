@@ -1,10 +1,7 @@
 //! What comes of a call.
 
-use crate::answer::Answer;
 use nalgebra_sparse::expr::ExprError;
 use nalgebra_sparse::io::{MatrixMarketError, MatrixMarketErrorKind};
-use nalgebra_sparse::ops::serial::{OperationError, OperationErrorKind};
-use nalgebra_sparse::{SparseFormatError, SparseFormatErrorKind};
 use std::alloc::AllocError;
 
 /// What came of a scenario.
@@ -12,9 +9,9 @@ use std::alloc::AllocError;
 pub enum Outcome {
     /// An answer with this checksum.
     Answered(u64),
-    /// An allocation failure. Targets, lists and sinks are as they must be.
+    /// An allocation failure. Lists and sinks are as they must be.
     Refused,
-    /// An allocation failure, and a target, a list or a sink is not as it must be.
+    /// An allocation failure, and a list or a sink is not as it must be.
     Changed,
     /// Another error.
     Failed,
@@ -25,7 +22,7 @@ pub enum Outcome {
 }
 
 impl Outcome {
-    /// The words for an outcome that is no answer.
+    /// Returns the words for an outcome, without a checksum.
     pub fn text(self) -> &'static str {
         match self {
             Outcome::Answered(_) => "answered",
@@ -37,7 +34,7 @@ impl Outcome {
         }
     }
 
-    /// The outcome, given whether what a refusal must leave was left.
+    /// Returns the outcome, given whether what a refusal must leave was left.
     pub fn leaving(self, is_left: bool) -> Outcome {
         match self {
             Outcome::Refused if !is_left => Outcome::Changed,
@@ -58,18 +55,6 @@ impl Failure for AllocError {
     }
 }
 
-impl Failure for SparseFormatError {
-    fn is_memory(&self) -> bool {
-        *self.kind() == SparseFormatErrorKind::OutOfMemory
-    }
-}
-
-impl Failure for OperationError {
-    fn is_memory(&self) -> bool {
-        *self.kind() == OperationErrorKind::OutOfMemory
-    }
-}
-
 impl Failure for MatrixMarketError {
     fn is_memory(&self) -> bool {
         self.kind() == MatrixMarketErrorKind::OutOfMemory
@@ -82,25 +67,37 @@ impl Failure for ExprError {
     }
 }
 
-impl Failure for serde_json::Error {
-    fn is_memory(&self) -> bool {
-        serde_json::Error::is_memory(self)
-    }
-}
-
-/// The outcome of a call without a target.
-pub fn outcome_of<T: Answer + Drop, E: Failure + Drop>(made: Result<T, E>) -> Outcome {
-    match made {
-        Ok(answer) => Outcome::Answered(answer.checksum()),
-        Err(error) => of_error(&error),
-    }
-}
-
-/// The outcome of an error.
+/// Returns the outcome of an error.
 pub fn of_error<E: Failure>(error: &E) -> Outcome {
     if error.is_memory() {
         Outcome::Refused
     } else {
         Outcome::Failed
     }
+}
+
+/// Returns the checksum of numbers.
+pub fn checksum_of(numbers: &[i64]) -> u64 {
+    let mut sum = 0;
+    for number in numbers {
+        sum = mixed(sum, number.cast_unsigned());
+    }
+    sum
+}
+
+/// Returns the checksum of bytes.
+pub fn checksum_of_bytes(bytes: &[u8]) -> u64 {
+    let mut sum = 0;
+    for byte in bytes {
+        sum = mixed(sum, u64::from(*byte));
+    }
+    sum
+}
+
+// The checksum of what `sum` is of, followed by a number.
+fn mixed(sum: u64, number: u64) -> u64 {
+    let spread = (sum ^ number)
+        .wrapping_add(1)
+        .wrapping_mul(0x9E37_79B9_7F4A_7C15);
+    spread ^ (spread >> 29)
 }

@@ -1,8 +1,7 @@
 //! A writer that asks for no memory.
 
+use crate::outcome::{Failure, Outcome, checksum_of_bytes, of_error};
 use nalgebra_sparse::io::Out;
-use refused_calls::answer::of_bytes;
-use refused_calls::outcome::{Failure, Outcome, of_error};
 use std::io::{self, Write};
 
 // The most bytes that a writer takes.
@@ -16,6 +15,7 @@ pub struct Page {
 }
 
 impl Page {
+    /// Returns an empty page.
     pub fn new() -> Page {
         Page {
             bytes: [0; ROOM],
@@ -23,7 +23,7 @@ impl Page {
         }
     }
 
-    /// The bytes that were taken.
+    /// Returns the bytes that were taken.
     pub fn taken(&self) -> &[u8] {
         &self.bytes[..self.count.min(ROOM)]
     }
@@ -43,12 +43,12 @@ impl Write for Page {
     }
 }
 
-/// The outcome of a call that writes, given what the page took in a call before. After a refusal a prefix of it was
-/// written.
+/// Returns the outcome of a call that writes, given what the page took in a call before. After a refusal a prefix of it
+/// was written.
 pub fn written<E: Failure + Drop>(answer: Result<(), E>, out: Out<Page>, whole: &Page) -> Outcome {
     let page = out.into_inner();
     match answer {
-        Ok(()) => Outcome::Answered(of_bytes(page.taken())),
+        Ok(()) => Outcome::Answered(checksum_of_bytes(page.taken())),
         Err(error) => of_error(&error).leaving(whole.taken().starts_with(page.taken())),
     }
 }
