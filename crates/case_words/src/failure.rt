@@ -26,6 +26,8 @@ pub enum Failure {
     Reading(MatrixMarketError),
     /// The error of an expression.
     Expression(ExprError),
+    /// The JSON reading refused a text.
+    Json,
 }
 
 impl Failure {
@@ -49,6 +51,7 @@ impl Failure {
                 format!(in alloc; "{kind:?}: {message}")
             }
             Failure::Expression(error) => format!(in alloc; "{error:?}: {error}"),
+            Failure::Json => String::from_str(alloc, "Json"),
         }
     }
 }
