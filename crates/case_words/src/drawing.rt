@@ -3,6 +3,7 @@
 use crate::scalar::Scalar;
 use nalgebra_sparse::dense::DMatrix;
 use nalgebra_sparse::pattern::SparsityPattern;
+use nalgebra_sparse::views::{CscView, CsrView};
 use nalgebra_sparse::{CooMatrix, CscMatrix, CsrMatrix, SparseEntry};
 use std::alloc::{AllocError, Global};
 
@@ -69,6 +70,26 @@ impl<T: Scalar> Drawn for CsrMatrix<T> {
 }
 
 impl<T: Scalar> Drawn for CscMatrix<T> {
+    fn size(&self) -> (usize, usize) {
+        (self.nrows(), self.ncols())
+    }
+
+    fn draw_cell(&self, row: usize, col: usize, out: &mut String) -> Result<(), AllocError> {
+        draw_entry(self.get_entry(row, col), out)
+    }
+}
+
+impl<'a, T: Scalar> Drawn for CsrView<'a, T> {
+    fn size(&self) -> (usize, usize) {
+        (self.nrows(), self.ncols())
+    }
+
+    fn draw_cell(&self, row: usize, col: usize, out: &mut String) -> Result<(), AllocError> {
+        draw_entry(self.get_entry(row, col), out)
+    }
+}
+
+impl<'a, T: Scalar> Drawn for CscView<'a, T> {
     fn size(&self) -> (usize, usize) {
         (self.nrows(), self.ncols())
     }

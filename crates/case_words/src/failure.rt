@@ -1,10 +1,10 @@
 //! Why a call has no answer.
 
-use nalgebra_sparse::SparseFormatError;
 use nalgebra_sparse::expr::ExprError;
 use nalgebra_sparse::io::MatrixMarketError;
 use nalgebra_sparse::ops::serial::OperationError;
 use nalgebra_sparse::pattern::SparsityPatternFormatError;
+use nalgebra_sparse::{SparseFormatError, SparseFormatErrorKind};
 use std::alloc::{AllocError, AllocFailed, Global};
 
 /// Why a call has no answer.
@@ -26,6 +26,8 @@ pub enum Failure {
     Reading(MatrixMarketError),
     /// The error of an expression.
     Expression(ExprError),
+    /// The JSON reading refused a text.
+    Json,
 }
 
 impl Failure {
@@ -49,6 +51,7 @@ impl Failure {
                 format!(in alloc; "{kind:?}: {message}")
             }
             Failure::Expression(error) => format!(in alloc; "{error:?}: {error}"),
+            Failure::Json => String::from_str(alloc, "Json"),
         }
     }
 }
@@ -73,7 +76,10 @@ impl From<SparsityPatternFormatError> for Failure {
 
 impl From<SparseFormatError> for Failure {
     fn from(error: SparseFormatError) -> Failure {
-        Failure::Format(error)
+        match error.kind() {
+            SparseFormatErrorKind::OutOfMemory => Failure::Memory,
+            _ => Failure::Format(error),
+        }
     }
 }
 

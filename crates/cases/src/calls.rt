@@ -1,6 +1,7 @@
 //! Calls, and what they answer.
 
 use crate::compressed::{Compressed, inner_of, shown};
+use crate::constructors::{Constructors, constructed, is_constructor};
 use crate::conversions::{Conversions, converted};
 use crate::products::{Products, product, product_into};
 use crate::shapes::{Shapes, shaped};
@@ -15,7 +16,12 @@ use nalgebra_sparse::ops::Op;
 use nalgebra_sparse::{CscMatrix, CsrMatrix};
 
 /// A form of a matrix, with all calls on it.
-pub trait Form<T: Scalar>: Compressed<T> + Conversions<T> + Shapes<T> + Sums<T> + Products<T> {}
+pub trait Form<T: Scalar>: Compressed<T>
+    + Constructors<T>
+    + Conversions<T>
+    + Shapes<T>
+    + Sums<T>
+    + Products<T> {}
 
 impl<T: Scalar> Form<T> for CsrMatrix<T> {}
 
@@ -23,8 +29,12 @@ impl<T: Scalar> Form<T> for CscMatrix<T> {}
 
 /// Returns what a call answers over the scalars `T` in the form `F`.
 pub fn answer<T: Scalar, F: Form<T>>(turn: &mut Turn, call: &str) -> Result<String, Failure> {
-    let words = words_of(turn.alloc(), call)?;
-    of_words::<T, F>(turn, &words)
+    match call.split_once(' ') {
+        Some((keyword, operands)) if is_constructor(keyword) => {
+            constructed::<T, F>(turn, keyword, operands)
+        }
+        _ => of_words::<T, F>(turn, &words_of(turn.alloc(), call)?),
+    }
 }
 
 // The answer of a call in the signs of mathematics.

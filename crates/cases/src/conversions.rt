@@ -128,8 +128,8 @@ fn compressed_anew<T: Scalar, F: Conversions<T>>(
     shown(alloc, &made)
 }
 
-// The text of offsets, indices and values.
-fn arrays_text<T: Scalar>(
+/// Returns the text of offsets, indices and values.
+pub fn arrays_text<T: Scalar>(
     alloc: Global,
     (offsets, indices, values): (&[usize], &[usize], &[T]),
 ) -> Result<String, AllocError> {

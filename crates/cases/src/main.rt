@@ -5,15 +5,21 @@
 //! refused: where a fixed request of the program is refused, these numbers decide which request of a call that is.
 #![tactic(auto)]
 
+mod arrays;
 mod calls;
 mod compressed;
+mod constructors;
 mod conversions;
+mod filters;
+mod json;
+mod made;
 mod over;
 mod products;
 mod shapes;
 mod sums;
 mod systems;
 mod table;
+mod views;
 
 use crate::table::{Count, refuse_table, run_table};
 use std::process::ExitCode;

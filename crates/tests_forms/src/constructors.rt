@@ -1,13 +1,6 @@
-//! Tests of how CSR and CSC matrices are made: from arrays, from data structs, by filters and by transposes, and of
-//! views of borrowed arrays.
+//! Tests of how CSR and CSC matrices are made, beside the rows of `cases`: values that are dropped, predicates that count,
+//! and generated JSON texts.
 
-mod borrowed;
-mod data_by_rows;
 mod drops;
 mod filter;
-mod hostile_data;
-mod made;
-mod outcome;
-mod refusals;
-mod transpose;
-mod views;
+mod texts;

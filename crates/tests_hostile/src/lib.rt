@@ -4,8 +4,6 @@
 #[cfg(test)]
 mod arithmetic;
 #[cfg(test)]
-mod columns;
-#[cfg(test)]
 mod dense;
 #[cfg(test)]
 mod lists;
@@ -15,8 +13,6 @@ mod made;
 mod patterns;
 #[cfg(test)]
 mod residues;
-#[cfg(test)]
-mod rows;
 #[cfg(test)]
 mod sinks;
 #[cfg(test)]

@@ -5,8 +5,6 @@
 #[cfg(test)]
 mod conversions;
 #[cfg(test)]
-mod data_writing;
-#[cfg(test)]
 mod matrices;
 #[cfg(test)]
 mod operand_sizes;
