@@ -8,12 +8,18 @@
 mod calls;
 mod compressed;
 mod conversions;
+mod dense;
+mod entries;
+mod lanes;
+mod lists;
 mod over;
+mod pattern_calls;
 mod products;
 mod shapes;
 mod sums;
 mod systems;
 mod table;
+mod triplets;
 
 use crate::table::{Count, refuse_table, run_table};
 use std::process::ExitCode;
