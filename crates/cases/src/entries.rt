@@ -36,8 +36,8 @@ pub trait Entries<T: Scalar>: Conversions<T> {
     /// Returns an entry.
     fn entry(&self, way: Way, place: (usize, usize)) -> Entry<T>;
 
-    /// Returns an entry by way of one for writing.
-    fn entry_mut(&mut self, place: (usize, usize)) -> Entry<T>;
+    /// Returns an entry that could be written, or one of a lane that could.
+    fn entry_mut(&mut self, way: Way, place: (usize, usize)) -> Entry<T>;
 
     /// Returns an entry, and replaces its value if it is stored.
     fn replace(&mut self, way: Way, place: (usize, usize), value: T) -> Entry<T>;
@@ -56,11 +56,14 @@ impl<T: Scalar> Entries<T> for CsrMatrix<T> {
         }
     }
 
-    fn entry_mut(&mut self, (row, col): (usize, usize)) -> Entry<T> {
-        if row < self.nrows() && col < self.ncols() {
-            return read_mut(self.index_entry_mut(row, col));
+    fn entry_mut(&mut self, way: Way, (row, col): (usize, usize)) -> Entry<T> {
+        match way {
+            Way::Index if row < self.nrows() && col < self.ncols() => {
+                read_mut(self.index_entry_mut(row, col))
+            }
+            Way::Lane if row < self.nrows() => read(self.row_mut(row).get_entry(col)),
+            _ => read_mut(self.get_entry_mut(row, col)?),
         }
-        None
     }
 
     fn replace(&mut self, way: Way, (row, col): (usize, usize), value: T) -> Entry<T> {
@@ -95,11 +98,14 @@ impl<T: Scalar> Entries<T> for CscMatrix<T> {
         }
     }
 
-    fn entry_mut(&mut self, (row, col): (usize, usize)) -> Entry<T> {
-        if row < self.nrows() && col < self.ncols() {
-            return read_mut(self.index_entry_mut(row, col));
+    fn entry_mut(&mut self, way: Way, (row, col): (usize, usize)) -> Entry<T> {
+        match way {
+            Way::Index if row < self.nrows() && col < self.ncols() => {
+                read_mut(self.index_entry_mut(row, col))
+            }
+            Way::Lane if col < self.ncols() => read(self.col_mut(col).get_entry(row)),
+            _ => read_mut(self.get_entry_mut(row, col)?),
         }
-        None
     }
 
     fn replace(&mut self, way: Way, (row, col): (usize, usize), value: T) -> Entry<T> {
@@ -180,10 +186,11 @@ fn entry_text<T: Scalar, F: Entries<T>>(
     a: Op<&str>,
 ) -> Result<String, Failure> {
     let mut matrix: F = matrix_of(alloc, a)?;
-    let text = text_of(alloc, matrix.entry_mut(place))?;
+    let text = text_of(alloc, matrix.entry(Way::Get, place))?;
     for way in WAYS {
-        let other = text_of(alloc, matrix.entry(*way, place))?;
-        if other.as_str() != text.as_str() {
+        let read = text_of(alloc, matrix.entry(*way, place))?;
+        let written = text_of(alloc, matrix.entry_mut(*way, place))?;
+        if read.as_str() != text.as_str() || written.as_str() != text.as_str() {
             return Err(Failure::Unreadable("two ways find different entries"));
         }
     }

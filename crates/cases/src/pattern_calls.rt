@@ -9,7 +9,7 @@ use case_words::scalar::{Scalar, scalars_from};
 use case_words::turn::Turn;
 use case_words::words::{Word, index_from, size_of};
 use nalgebra_sparse::ops::Op;
-use nalgebra_sparse::pattern::{SparsityPattern, check};
+use nalgebra_sparse::pattern::{SparsityPattern, SparsityPatternFormatError, check};
 use nalgebra_sparse::scalar::{Ring, W64};
 use nalgebra_sparse::{CsrMatrix, SparseFormatError};
 use std::alloc::{AllocError, Global};
@@ -19,7 +19,9 @@ pub fn pattern_call(turn: &mut Turn, name: &str, words: &[Word<'_>]) -> Result<S
     let alloc = turn.alloc();
     match *words {
         [Word::Name(size)] if name == "zeros" => zeros(turn, size_of(size)?),
-        [Word::Name(size), ref arrays @ ..] => made(alloc, name, size_of(size)?, arrays),
+        [Word::Name(size), ref arrays @ ..] if name == "of" || name == "kind" => {
+            made(alloc, name, size_of(size)?, arrays)
+        }
         [Word::Number(index), Word::Matrix(a)] if name == "lane" => {
             lane(alloc, &pattern_of(alloc, a)?, index_from(index)?)
         }
@@ -80,18 +82,22 @@ fn made(
 ) -> Result<String, Failure> {
     let (offsets, indices) = arrays_of(alloc, words)?;
     let checked = check(lanes, length, &offsets, &indices);
-    match (
-        name,
-        SparsityPattern::try_from_offsets_and_indices(lanes, length, offsets, indices),
-    ) {
-        (_, Ok(pattern)) if checked.is_ok() => Ok(text_of(alloc, pattern)?),
-        (_, Err(fault)) if checked != Err(fault) => {
-            Err(Failure::Unreadable("a borrowed pattern has another fault"))
-        }
-        ("kind", Err(fault)) => Err(Failure::from(SparseFormatError::from(fault))),
-        ("of", Err(fault)) => Err(Failure::from(fault)),
-        _ => Err(Failure::Unreadable("no pattern is made so")),
+    match SparsityPattern::try_from_offsets_and_indices(lanes, length, offsets, indices) {
+        Ok(pattern) if checked.is_ok() => Ok(text_of(alloc, pattern)?),
+        Err(fault) if checked == Err(fault) && name == "kind" => Err(as_of_matrix(alloc, fault)?),
+        Err(fault) if checked == Err(fault) => Err(Failure::from(fault)),
+        _ => Err(Failure::Unreadable("borrowed arrays have another fault")),
     }
+}
+
+// The fault as the error of a matrix, whose message must be its text.
+fn as_of_matrix(alloc: Global, fault: SparsityPatternFormatError) -> Result<Failure, AllocError> {
+    let error = SparseFormatError::from(fault);
+    let text = format!(in alloc; "{error}")?;
+    if text.as_str() != error.message() {
+        return Ok(Failure::Unreadable("an error has another message"));
+    }
+    Ok(Failure::from(error))
 }
 
 // The offsets and the indices that words write.

@@ -6,13 +6,7 @@ mod arithmetic;
 #[cfg(test)]
 mod columns;
 #[cfg(test)]
-mod dense;
-#[cfg(test)]
-mod lists;
-#[cfg(test)]
 mod made;
-#[cfg(test)]
-mod patterns;
 #[cfg(test)]
 mod residues;
 #[cfg(test)]
