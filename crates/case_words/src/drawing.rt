@@ -208,3 +208,11 @@ pub fn draw_indices(indices: &[usize], out: &mut String) -> Result<(), AllocErro
     }
     Ok(())
 }
+
+/// Returns a text without the space before it, or `none` for an empty text.
+pub fn or_none(alloc: Global, text: &str) -> Result<String, AllocError> {
+    match text.trim() {
+        "" => String::from_str(alloc, "none"),
+        text => String::from_str(alloc, text),
+    }
+}

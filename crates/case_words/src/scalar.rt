@@ -1,6 +1,7 @@
 //! Scalars that rows write as integers.
 
 use crate::failure::Failure;
+use crate::words::Word;
 use nalgebra_sparse::scalar::{Mod, Units, W32, W64, W128};
 use std::alloc::Global;
 
@@ -74,6 +75,18 @@ pub fn scalars_of<T: Scalar>(alloc: Global, words: &str) -> Result<Vec<T>, Failu
     let mut scalars = Vec::new(alloc);
     for word in words.split_whitespace() {
         scalars.push(scalar_of(word)?)?;
+    }
+    Ok(scalars)
+}
+
+/// Returns the scalars of words that are numbers.
+pub fn scalars_from<T: Scalar>(alloc: Global, words: &[Word<'_>]) -> Result<Vec<T>, Failure> {
+    let mut scalars = Vec::new(alloc);
+    for word in words {
+        match *word {
+            Word::Number(number) => scalars.push(scalar_from(number)?)?,
+            _ => return Err(Failure::Unreadable("a word is not a number")),
+        }
     }
     Ok(scalars)
 }

@@ -56,6 +56,14 @@ pub fn index_of(word: &str) -> Result<usize, Failure> {
     }
 }
 
+/// Returns the index of a number.
+pub fn index_from(number: i128) -> Result<usize, Failure> {
+    match usize::try_from(number) {
+        Ok(index) => Ok(index),
+        Err(_) => Err(Failure::Unreadable("a number is not an index")),
+    }
+}
+
 /// Returns the sizes that a word `2x3` writes.
 pub fn size_of(word: &str) -> Result<(usize, usize), Failure> {
     match word.split_once('x') {

@@ -3,10 +3,16 @@
 use crate::compressed::{Compressed, inner_of, shown};
 use crate::constructors::{Constructors, constructed, is_constructor};
 use crate::conversions::{Conversions, converted};
+use crate::dense::dense_call;
+use crate::entries::{Entries, entry_call};
+use crate::lanes::{Lanes, lane_call, lanes_call};
+use crate::lists::list_call;
+use crate::pattern_calls::pattern_call;
 use crate::products::{Products, product, product_into};
 use crate::shapes::{Shapes, shaped};
 use crate::sums::{Sums, joined, multiple, quotient, sum_into};
 use crate::systems::{factored, solution};
+use crate::triplets::{Triplets, triplets_call};
 use case_words::failure::Failure;
 use case_words::picture::list_of;
 use case_words::scalar::{Scalar, scalar_from};
@@ -19,9 +25,12 @@ use nalgebra_sparse::{CscMatrix, CsrMatrix};
 pub trait Form<T: Scalar>: Compressed<T>
     + Constructors<T>
     + Conversions<T>
+    + Entries<T>
+    + Lanes<T>
     + Shapes<T>
     + Sums<T>
-    + Products<T> {}
+    + Products<T>
+    + Triplets<T> {}
 
 impl<T: Scalar> Form<T> for CsrMatrix<T> {}
 
@@ -54,6 +63,7 @@ fn of_words<T: Scalar, F: Form<T>>(turn: &mut Turn, words: &[Word<'_>]) -> Resul
             Word::Number(alpha),
             ref operands @ ..,
         ] => into::<T, F>(turn, (scalar_from(beta)?, scalar_from(alpha)?), c, operands),
+        [Word::Name(name), ref rest @ ..] => of_keyword::<T, F>(turn, name, rest),
         _ => Err(Failure::Unreadable("no call has these words")),
     }
 }
@@ -88,6 +98,8 @@ fn named<T: Scalar, F: Form<T>>(
         ),
         "-" | "upper" | "lower" | "diagonal" => shaped::<T, F>(turn, name, a),
         "fill" | "fill-lower" | "fill-both" | "ldl" => factored::<T>(turn, name, a),
+        "rows" | "columns" => lanes_call::<T, F>(turn, name, a),
+        "triplets" | "double" => triplets_call::<T, F>(turn, name, a),
         _ => Err(Failure::Unreadable("no call has this name")),
     }
 }
@@ -103,5 +115,36 @@ fn into<T: Scalar, F: Form<T>>(
         [Word::Matrix(a)] => sum_into::<T, F>(turn, scalars, target, a),
         [Word::Matrix(a), Word::Matrix(b)] => product_into::<T, F>(turn, scalars, target, (a, b)),
         _ => Err(Failure::Unreadable("no update has these words")),
+    }
+}
+
+// The answer of a call that begins with a keyword.
+fn of_keyword<T: Scalar, F: Form<T>>(
+    turn: &mut Turn,
+    keyword: &str,
+    words: &[Word<'_>],
+) -> Result<String, Failure> {
+    match keyword {
+        "entry" | "set" => entry_call::<T, F>(turn, keyword, words),
+        "row" | "column" => lane_call::<T, F>(turn, keyword, words),
+        _ => of_object::<T>(turn, keyword, words),
+    }
+}
+
+// The answer of a call of a list, of a dense matrix or of a pattern.
+fn of_object<T: Scalar>(
+    turn: &mut Turn,
+    keyword: &str,
+    words: &[Word<'_>],
+) -> Result<String, Failure> {
+    match *words {
+        [Word::Name(name), ref rest @ ..] if keyword == "triplets" => {
+            list_call::<T>(turn, name, rest)
+        }
+        [Word::Name(name), ref rest @ ..] if keyword == "dense" => {
+            dense_call::<T>(turn, name, rest)
+        }
+        [Word::Name(name), ref rest @ ..] if keyword == "pattern" => pattern_call(turn, name, rest),
+        _ => Err(Failure::Unreadable("no call has this keyword")),
     }
 }

@@ -4,13 +4,7 @@
 #[cfg(test)]
 mod arithmetic;
 #[cfg(test)]
-mod dense;
-#[cfg(test)]
-mod lists;
-#[cfg(test)]
 mod made;
-#[cfg(test)]
-mod patterns;
 #[cfg(test)]
 mod residues;
 #[cfg(test)]

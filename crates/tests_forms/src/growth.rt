@@ -1,42 +1,9 @@
-//! Triplet lists: pushing, equality, and copies.
+//! Lists of triplets that grow: within reserved memory, by an appender, and to thousands of triplets.
 
-use crate::fixtures::{are_equal, made_differs, made_equals};
+use crate::fixtures::are_equal;
 use sparse_coo_dense::CooAppender;
 use sparse_coo_dense::coo::CooMatrix;
-use sparse_pattern::error::SparseFormatError;
 use std::alloc::{AllocError, Global};
-
-const MAX: usize = usize::MAX;
-
-pub fn coo_of(
-    alloc: Global,
-    nrows: usize,
-    ncols: usize,
-    rows: &[usize],
-    cols: &[usize],
-    values: &[i32],
-) -> Result<CooMatrix<i32>, SparseFormatError> {
-    CooMatrix::try_from_triplets(
-        nrows,
-        ncols,
-        rows.to_vec(alloc)?,
-        cols.to_vec(alloc)?,
-        values.to_vec(alloc)?,
-    )
-}
-
-/// Pushes these triplets, without those out of bounds.
-pub fn push_all<T: Copy>(
-    matrix: &mut CooMatrix<T>,
-    triplets: &[(usize, usize, T)],
-) -> Result<(), AllocError> {
-    for (row, col, value) in triplets {
-        if *row < matrix.nrows() && *col < matrix.ncols() {
-            matrix.push(*row, *col, *value)?;
-        }
-    }
-    Ok(())
-}
 
 // The capacities of the rows, the columns and the values of a list.
 type Capacities = (usize, usize, usize);
@@ -157,39 +124,4 @@ fn long_list(alloc: Global) -> Result<CooMatrix<i32>, AllocError> {
         list.push(0, 0, number)?;
     }
     Ok(list)
-}
-
-const ROWS: [usize; 3] = [1, 1, 0];
-
-const COLS: [usize; 3] = [2, 2, MAX - 1];
-
-// The list with these values.
-fn with_values(alloc: Global, values: &[i32]) -> Result<CooMatrix<i32>, SparseFormatError> {
-    coo_of(alloc, 3, MAX, &ROWS, &COLS, values)
-}
-
-fn has_the_triplets(copy: CooMatrix<i32>) -> bool {
-    let (rows, cols, values) = copy.disassemble();
-    are_equal(&rows, &ROWS) && are_equal(&cols, &COLS) && are_equal(&values, &[5, -5, 7])
-}
-
-fn others_differ(alloc: Global, matrix: &CooMatrix<i32>) -> bool {
-    made_differs(with_values(alloc, &[-5, 5, 7]), matrix)
-        && made_differs(CooMatrix::zeros(alloc, 3, MAX).clone(alloc), matrix)
-}
-
-fn others_differ_and_a_copy_is_equal(alloc: Global) -> bool {
-    match with_values(alloc, &[5, -5, 7]) {
-        Ok(matrix) => {
-            others_differ(alloc, &matrix)
-                && made_equals(matrix.clone(alloc), &matrix)
-                && matrix.clone(alloc).is_ok_and(has_the_triplets)
-        }
-        Err(_error) => false,
-    }
-}
-
-#[test]
-fn lists_are_equal_in_sizes_order_and_values(rt: HostRuntime) {
-    assert!(rt; others_differ_and_a_copy_is_equal(rt.alloc()));
 }
