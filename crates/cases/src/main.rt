@@ -8,12 +8,17 @@
 mod calls;
 mod compressed;
 mod conversions;
+mod expressions;
 mod over;
 mod products;
 mod shapes;
 mod sums;
 mod systems;
 mod table;
+mod text_scalars;
+mod text_values;
+mod texts;
+mod written;
 
 use crate::table::{Count, refuse_table, run_table};
 use std::process::ExitCode;
