@@ -6,10 +6,13 @@ use case_words::scalar::scalar_of;
 use case_words::turn::Turn;
 use nalgebra_sparse::SparseFormatError;
 use nalgebra_sparse::SparseFormatErrorKind::DuplicateEntry;
+use nalgebra_sparse::expr::ExprError;
 use nalgebra_sparse::io::MatrixMarketError;
+use nalgebra_sparse::io::MatrixMarketErrorKind::IOError;
 use nalgebra_sparse::scalar::W128;
 use std::alloc::{AllocError, Global};
 use std::io;
+use std::io::ErrorKind::{BrokenPipe, NotFound, WriteZero};
 
 /// Returns the answer of `from-integer N`, `from-pattern`, `negative-of V`, `conjugate-of V` or `text-of V`, where V is an
 /// integer, or `x` for the value of a place.
@@ -51,21 +54,38 @@ fn text_of_value<T: TextScalar>(turn: &mut Turn, value: T) -> Result<String, Fai
     Ok(out)
 }
 
-/// Returns the error of a text that the error of this name becomes: one of the standard library, or one of a matrix's
-/// arrays.
-pub fn error_from(name: &str) -> Result<MatrixMarketError, Failure> {
-    let error = match name {
+/// Returns the failure by which an error of this name is reported.
+pub fn failure_of(name: &str) -> Failure {
+    match error_from(name) {
+        Some(error) => Failure::Reading(error),
+        None => failure_of_a_run(name),
+    }
+}
+
+// The error of a text that another error becomes.
+fn error_from(name: &str) -> Option<MatrixMarketError> {
+    match name {
         "AllocError" => Some(MatrixMarketError::from(AllocError)),
-        "io::Error" => Some(MatrixMarketError::from(io::Error::from(io::ErrorKind::NotFound))),
-        "io::ErrorKind" => Some(MatrixMarketError::from(io::ErrorKind::WriteZero)),
+        "io::Error" => Some(MatrixMarketError::from(io::Error::from(NotFound))),
+        "io::ErrorKind" => Some(MatrixMarketError::from(WriteZero)),
         "ParseIntError" => parsing_error(),
         "TryFromIntError" => range_error(),
         "SparseFormatError" => {
-            Some(MatrixMarketError::from(SparseFormatError::new(DuplicateEntry, "Twice.")))
+            let twice = SparseFormatError::new(DuplicateEntry, "Twice.");
+            Some(MatrixMarketError::from(twice))
         }
         _ => None,
-    };
-    error.ok_or(Failure::Unreadable("no error has this name"))
+    }
+}
+
+// An error of a run that no text and no expression leads to.
+fn failure_of_a_run(name: &str) -> Failure {
+    match name {
+        "Input" => Failure::Expression(ExprError::Input(usize::MAX, IOError(NotFound))),
+        "Write" => Failure::Expression(ExprError::Write(BrokenPipe)),
+        "OutOfMemory" => Failure::Expression(ExprError::OutOfMemory),
+        _ => Failure::Unreadable("no error has this name"),
+    }
 }
 
 // The error of a word that is not a number.

@@ -1,7 +1,7 @@
 //! Matrix Market texts: what they mean, and the errors of reading.
 
 use crate::text_scalars::{TextScalar, draw_value};
-use crate::text_values::{error_from, valued};
+use crate::text_values::{failure_of, valued};
 use crate::written::{Written, written};
 use case_words::failure::Failure;
 use case_words::lines::text_of;
@@ -59,7 +59,7 @@ fn answer<T: TextScalar>(turn: &mut Turn, form: &str, call: &str) -> Result<Stri
         "write-list" => written::<T>(turn, Written::Below, "list", rest),
         "display" => shown_error::<T>(turn.alloc(), false, rest),
         "debug" => shown_error::<T>(turn.alloc(), true, rest),
-        "error" => Err(Failure::Reading(error_from(rest)?)),
+        "error" => Err(failure_of(rest)),
         _ => valued::<T>(turn, name, rest),
     }
 }
