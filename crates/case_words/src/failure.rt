@@ -1,7 +1,7 @@
 //! Why a call has no answer.
 
 use nalgebra_sparse::expr::ExprError;
-use nalgebra_sparse::io::MatrixMarketError;
+use nalgebra_sparse::io::{MatrixMarketError, MatrixMarketErrorKind};
 use nalgebra_sparse::ops::serial::OperationError;
 use nalgebra_sparse::pattern::SparsityPatternFormatError;
 use nalgebra_sparse::{SparseFormatError, SparseFormatErrorKind};
@@ -91,12 +91,18 @@ impl From<OperationError> for Failure {
 
 impl From<MatrixMarketError> for Failure {
     fn from(error: MatrixMarketError) -> Failure {
-        Failure::Reading(error)
+        match error.kind() {
+            MatrixMarketErrorKind::OutOfMemory => Failure::Memory,
+            _ => Failure::Reading(error),
+        }
     }
 }
 
 impl From<ExprError> for Failure {
     fn from(error: ExprError) -> Failure {
-        Failure::Expression(error)
+        match error {
+            ExprError::OutOfMemory => Failure::Memory,
+            error => Failure::Expression(error),
+        }
     }
 }

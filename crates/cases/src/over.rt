@@ -2,6 +2,8 @@
 
 use crate::calls::{Form, answer};
 use crate::compressed::{matrix_of, shown};
+use crate::expressions::{answer_on_expressions, is_on_expressions};
+use crate::texts::{answer_on_texts, is_on_texts, name_of};
 use case_words::failure::Failure;
 use case_words::scalar::Scalar;
 use case_words::turn::Turn;
@@ -15,13 +17,28 @@ pub fn is_over(words: &str) -> bool {
     let mut forms = false;
     let mut scalars = false;
     for word in words.split_whitespace() {
-        match word {
-            "rows" | "columns" => forms = true,
-            "W32" | "W64" | "W128" | "Mod7" | "Mod6" | "Mod1" | "Mod0" => scalars = true,
-            _ => return false,
+        if is_form(word) {
+            forms = true;
+        } else if is_scalar(word) {
+            scalars = true;
+        } else {
+            return false;
         }
     }
     forms && scalars
+}
+
+fn is_form(name: &str) -> bool {
+    name == "rows" || name == "columns"
+}
+
+// Whether this is the name of a scalar. Plain integers and places are scalars of texts alone.
+fn is_scalar(name: &str) -> bool {
+    match name {
+        "W32" | "W64" | "W128" | "Mod7" | "Mod6" | "Mod1" | "Mod0" => true,
+        "i8" | "i16" | "i32" | "i64" | "i128" | "Places" => true,
+        _ => false,
+    }
 }
 
 /// What a call answered, and whether it is what its row expects.
@@ -39,10 +56,21 @@ pub fn answer_over(
     call: &str,
     wanted: &str,
 ) -> Result<Option<Answer>, AllocError> {
+    if !is_form(form) || !is_scalar(scalar) {
+        return Ok(None);
+    }
+    let (name, _) = name_of(call.trim());
+    if is_on_texts(name) {
+        let answer = answer_on_texts(turn, (scalar, form), call.trim());
+        return text_compared(turn.alloc(), answer, wanted.trim());
+    }
+    if is_on_expressions(name) {
+        let answer = answer_on_expressions(turn, (scalar, form), call.trim());
+        return text_compared(turn.alloc(), answer, wanted.trim());
+    }
     match form {
         "rows" => by_rows(turn, scalar, call, wanted),
-        "columns" => by_columns(turn, scalar, call, wanted),
-        _ => Ok(None),
+        _ => by_columns(turn, scalar, call, wanted),
     }
 }
 
@@ -60,7 +88,7 @@ fn by_rows(
         "Mod6" => compared::<Mod<6>, CsrMatrix<Mod<6>>>(turn, call, wanted),
         "Mod1" => compared::<Mod<1>, CsrMatrix<Mod<1>>>(turn, call, wanted),
         "Mod0" => compared::<Mod<0>, CsrMatrix<Mod<0>>>(turn, call, wanted),
-        _ => Ok(None),
+        _ => no_ring(turn.alloc(), wanted),
     }
 }
 
@@ -78,7 +106,7 @@ fn by_columns(
         "Mod6" => compared::<Mod<6>, CscMatrix<Mod<6>>>(turn, call, wanted),
         "Mod1" => compared::<Mod<1>, CscMatrix<Mod<1>>>(turn, call, wanted),
         "Mod0" => compared::<Mod<0>, CscMatrix<Mod<0>>>(turn, call, wanted),
-        _ => Ok(None),
+        _ => no_ring(turn.alloc(), wanted),
     }
 }
 
@@ -91,6 +119,23 @@ fn compared<T: Scalar, F: Form<T>>(
     let answer: Result<String, Failure> = answer::<T, F>(turn, call);
     let text = text_of(turn.alloc(), answer)?;
     let fits = fits(text.as_str(), wanted) || shows::<T, F>(turn.alloc(), wanted, text.as_str());
+    Ok(Some(Answer { text, fits }))
+}
+
+// A call over a type of texts that is not one on texts.
+fn no_ring(alloc: Global, wanted: &str) -> Result<Option<Answer>, AllocError> {
+    let why = "only calls on texts are over this type";
+    text_compared(alloc, Err(Failure::Unreadable(why)), wanted)
+}
+
+// The text of an answer, and whether it is the wanted one.
+fn text_compared(
+    alloc: Global,
+    answer: Result<String, Failure>,
+    wanted: &str,
+) -> Result<Option<Answer>, AllocError> {
+    let text = text_of(alloc, answer)?;
+    let fits = fits(text.as_str(), wanted);
     Ok(Some(Answer { text, fits }))
 }
 

@@ -1,4 +1,4 @@
-//! Tests of sizes at their ends, of hostile texts, and of failing writers.
+//! Tests of sizes at their ends, and of failing writers.
 #![tactic(auto)]
 
 #[cfg(test)]
@@ -9,5 +9,3 @@ mod made;
 mod residues;
 #[cfg(test)]
 mod sinks;
-#[cfg(test)]
-mod texts;

@@ -2,7 +2,6 @@
 
 use crate::files;
 use crate::matrices::is_listed;
-use crate::reading::refusal;
 use slow_programs::texts::entries::Listed;
 use slow_programs::texts::meaning;
 use sparse_coo_dense::coo::CooMatrix;
@@ -15,7 +14,7 @@ use std::io::ErrorKind;
 use std::test::Fail;
 
 /// Texts with each format, field and symmetry, each line end and comments.
-const TEXTS: [&str; 7] = [
+const TEXTS: [&str; 13] = [
     "%%MatrixMarket matrix coordinate integer general\n% two\n2 3 4\n2 1 4\n1 3 +5\n\n1 3 -5\n1 1 007\n",
     "%%MatrixMarket matrix coordinate integer symmetric\r\n2 2 2\r\n1 1 7\r\n%\r\n2 1 3",
     " %%matrixmarket\tMATRIX array integer skew-symmetric \r3 3\r1\r2\r\r3\r",
@@ -23,6 +22,12 @@ const TEXTS: [&str; 7] = [
     "%%MatrixMarket matrix coordinate real general\n1 1 1\n1 1 -2.5e+1\n",
     "%%MatrixMarket matrix coordinate complex hermitian\n2 2 1\n2 1 .5 1\n",
     "%%MatrixMarket matrix coordinate pattern symmetric\n2 2 2\n1 1\n2 1\n",
+    "%%MatrixMarket matrix coordinate integer general\n2 2 3\n1 1 1\n1 2 2\n2 2 3\n",
+    "%%MatrixMarket matrix coordinate integer symmetric\n2 2 2\n1 1 7\n2 1 -3\n",
+    "%%MatrixMarket matrix coordinate integer skew-symmetric\n3 3 1\n3 1 4",
+    "%%MatrixMarket matrix array integer general\r\n1 2\r\n9\n+0\n",
+    "%%MatrixMarket matrix array integer symmetric\n% x\n2 2\n1\n2\n3\n",
+    "%%MatrixMarket matrix coordinate pattern symmetric\n2 2 1\n2 1\n",
 ];
 
 // Whether both readers give the same shape and triplets, or the same kind of refusal.
@@ -93,6 +98,18 @@ fn a_character_replaced_by_each_of_256(rt: HostRuntime) {
     for text in &[TEXTS[0], TEXTS[2]] {
         for at in 0..text.len() {
             for value in 0..=255_u8 {
+                let agreed = agree_on_replaced(rt.alloc(), text, at, char::from(value));
+                assert!(rt; agreed, "{value} at {at} in {text}");
+            }
+        }
+    }
+}
+
+#[test]
+fn a_character_replaced_by_each_of_ascii(rt: HostRuntime) {
+    for text in &TEXTS[8..] {
+        for at in 0..text.len() {
+            for value in 0..128_u8 {
                 let agreed = agree_on_replaced(rt.alloc(), text, at, char::from(value));
                 assert!(rt; agreed, "{value} at {at} in {text}");
             }
@@ -215,10 +232,19 @@ const PROMISES: &[&str] = &[
     "9 9 18446744073709551615\n2 1 5\n",
 ];
 
+// The kind of the error of a text of two parts, read as i32.
+fn refusal(alloc: Global, head: &str, below: &str) -> Option<MatrixMarketErrorKind> {
+    let text = format!(in alloc; "{head}{below}").ok()?;
+    match load_coo_from_matrix_market_str::<i32>(alloc, text.as_str()) {
+        Ok(_) => None,
+        Err(error) => Some(error.kind()),
+    }
+}
+
 // Whether a text with these lines is refused, with each header.
 fn are_refused(alloc: Global, below: &str) -> bool {
     for head in HEADS {
-        if refusal::<i32>(alloc, head, below) != Some(MatrixMarketErrorKind::EntryMismatch) {
+        if refusal(alloc, head, below) != Some(MatrixMarketErrorKind::EntryMismatch) {
             return false;
         }
     }

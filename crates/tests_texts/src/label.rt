@@ -2,8 +2,11 @@
 
 ghost use Rattle.tests_texts.specs.Label.{label_scalar};
 
-use sparse_io::{MatrixMarketError, MatrixMarketScalar};
-use std::alloc::AllocError;
+use sparse_io::MatrixMarketErrorKind::{DiagonalError, TypeMismatch};
+use sparse_io::{
+    MatrixMarketError, MatrixMarketErrorKind, MatrixMarketScalar, load_coo_from_matrix_market_str,
+};
+use std::alloc::{AllocError, Global};
 
 /// A label, which is written as its number.
 #[derive(Clone, Copy, PartialEq, Eq)]
@@ -46,4 +49,21 @@ impl MatrixMarketScalar for Label {
     fn in_range(self) {
         self.number.in_range()
     }
+}
+
+// The kind of the error of a text, read as labels.
+fn refusal(alloc: Global, text: &str) -> Option<MatrixMarketErrorKind> {
+    match load_coo_from_matrix_market_str::<Label>(alloc, text) {
+        Ok(_) => None,
+        Err(error) => Some(error.kind()),
+    }
+}
+
+// The diagonal is looked at before the negative.
+#[test]
+fn refuses_skew_entries_without_a_negative(rt: HostRuntime) {
+    let diagonal = "%%MatrixMarket matrix coordinate integer skew-symmetric\n1 1 1\n1 1 5";
+    let below = "%%MatrixMarket matrix coordinate integer skew-symmetric\n2 2 1\n2 1 5";
+    assert!(rt; refusal(rt.alloc(), diagonal) == Some(DiagonalError));
+    assert!(rt; refusal(rt.alloc(), below) == Some(TypeMismatch));
 }

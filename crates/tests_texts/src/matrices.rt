@@ -21,11 +21,6 @@ pub fn is_listed<T: MatrixMarketScalar + PartialEq>(
         && matrix.triplet_iter().eq(triplets.iter().map(parts))
 }
 
-/// Whether the values are these numbers.
-pub fn are(values: &[W64], wanted: &[i64]) -> bool {
-    values.len() == wanted.len() && values.iter().zip(wanted).all(|(a, b)| a.get() == *b)
-}
-
 /// The list of these triplets; those outside the shape are left out.
 pub fn list(
     alloc: Global,

@@ -1,63 +1,16 @@
-//! Values of expressions, short and of many words.
+//! Values of expressions of many words.
 
-use crate::expressions::matrices::{are, list};
 use sparse_algebra::scalar::W64;
 use sparse_coo_dense::coo::CooMatrix;
-use sparse_expr::{Expr, ExprError, evaluate_cols, evaluate_rows};
+use sparse_expr::{Expr, ExprError, evaluate_rows};
 use std::alloc::{AllocError, Global};
 use std::slice::from_ref;
 
-// Whether the value of the expression over the inputs has these values, row after row.
-fn has_rows(alloc: Global, expr: &Expr, inputs: &[CooMatrix<W64>], wanted: &[i64]) -> bool {
-    match evaluate_rows(alloc, expr, inputs) {
-        Ok(value) => are(value.values(), wanted),
+// Whether the value of the expression over the list is one stored entry, of this value.
+fn is_entry(alloc: Global, expr: &Expr, list: &CooMatrix<W64>, wanted: i64) -> bool {
+    match evaluate_rows(alloc, expr, from_ref(list)) {
+        Ok(value) => value.values() == [W64::new(wanted)].as_slice(),
         Err(_) => false,
-    }
-}
-
-// The same column after column.
-fn has_cols(alloc: Global, expr: &Expr, inputs: &[CooMatrix<W64>], wanted: &[i64]) -> bool {
-    match evaluate_cols(alloc, expr, inputs) {
-        Ok(value) => are(value.values(), wanted),
-        Err(_) => false,
-    }
-}
-
-// Words, and the values by rows and by columns.
-const SHORT: &[(&str, &[i64], &[i64])] = &[
-    ("1 t 1 -", &[0, -2, 2, 0], &[0, 2, -2, 0]),
-    ("1 1 t * t", &[5, 6, 6, 9], &[5, 6, 6, 9]),
-    ("1 1 *", &[1, 8, 9], &[1, 8, 9]),
-    ("1 t t", &[1, 2, 3], &[1, 2, 3]),
-    // Named three times, twice as it is and once transposed: the operands are not changed in place.
-    ("1 1 n 1 t - +", &[-1, 0, -2, -3], &[-1, -2, 0, -3]),
-    ("1 n 1 +", &[0, 0, 0], &[0, 0, 0]),
-];
-
-// Whether the words over the inputs have these values, by rows and by columns.
-fn has_both(
-    alloc: Global,
-    inputs: &[CooMatrix<W64>],
-    &(words, rows, cols): &(&str, &[i64], &[i64]),
-) -> bool {
-    match Expr::from_words(alloc, words) {
-        Ok(expr) => has_rows(alloc, &expr, inputs, rows) && has_cols(alloc, &expr, inputs, cols),
-        Err(_) => false,
-    }
-}
-
-// Whether a case holds over the matrix with the rows `1 2` and `0 3`.
-fn holds(alloc: Global, case: &(&str, &[i64], &[i64])) -> bool {
-    match list(alloc, 2, 2, &[(0, 0, 1), (0, 1, 2), (1, 1, 3)]) {
-        Ok(upper) => has_both(alloc, from_ref(&upper), case),
-        Err(AllocError) => false,
-    }
-}
-
-#[test]
-fn short_expressions(rt: HostRuntime) {
-    for case in SHORT {
-        assert!(rt; holds(rt.alloc(), case), "{}", case.0);
     }
 }
 
@@ -93,7 +46,7 @@ fn has_value(
     &(parts, wanted): &(&[(&str, usize)], i64),
 ) -> bool {
     match expression(alloc, parts) {
-        Ok(expr) => has_rows(alloc, &expr, from_ref(list), &[wanted]),
+        Ok(expr) => is_entry(alloc, &expr, list, wanted),
         Err(_) => false,
     }
 }

@@ -1,6 +1,6 @@
 //! Values of expressions beside those of the slow evaluator.
 
-use crate::expressions::matrices::list;
+use crate::matrices::list;
 use slow_programs::expressions::expression_value;
 use sparse_algebra::scalar::W64;
 use sparse_coo_dense::coo::CooMatrix;
