@@ -1,7 +1,7 @@
 //! Calls, and what they answer.
 
 use crate::compressed::{Compressed, inner_of, shown};
-use crate::conversions::{Conversions, converted};
+use crate::conversions::{Conversions, are_equal, are_equal_lists, converted, made_of, sparse};
 use crate::products::{Products, product, product_into};
 use crate::shapes::{Shapes, shaped};
 use crate::sums::{Sums, joined, multiple, quotient, sum_into};
@@ -34,6 +34,16 @@ fn of_words<T: Scalar, F: Form<T>>(turn: &mut Turn, words: &[Word<'_>]) -> Resul
         [Word::Name(name), Word::Matrix(a)] => named::<T, F>(turn, name, a),
         [Word::Number(k), Word::Matrix(a)] => multiple::<T, F>(turn, k, a),
         [Word::Matrix(a), Word::Name("/"), Word::Number(k)] => quotient::<T, F>(turn, a, k),
+        [Word::Name(made), Word::Name(given), Word::Matrix(a)] => made_of::<T>(
+            turn, made, given, a,
+        ),
+        [
+            Word::Name("triplets"),
+            Word::Matrix(a),
+            Word::Name("=="),
+            Word::Matrix(b),
+        ] => are_equal_lists::<T>(turn, a, b),
+        [Word::Matrix(a), Word::Name("=="), Word::Matrix(b)] => are_equal::<T, F>(turn, a, b),
         [Word::Matrix(a), Word::Name("\\"), Word::Matrix(b)] => solution::<T>(turn, a, b),
         [Word::Matrix(a), Word::Matrix(b)] => product::<T, F>(turn, a, b),
         [Word::Matrix(a), Word::Name(sign), Word::Matrix(b)] => joined::<T, F>(turn, a, sign, b),
@@ -73,9 +83,8 @@ fn named<T: Scalar, F: Form<T>>(
     a: Op<&str>,
 ) -> Result<String, Failure> {
     match name {
-        "list" | "dense" | "sparse" | "arrays" | "copy" | "turn" => converted::<T, F>(
-            turn, name, a,
-        ),
+        "list" | "dense" | "arrays" | "copy" | "turn" => converted::<T, F>(turn, name, a),
+        "sparse" => sparse::<T, F>(turn, a),
         "-" | "upper" | "lower" | "diagonal" => shaped::<T, F>(turn, name, a),
         "fill" | "fill-lower" | "fill-both" | "ldl" => factored::<T>(turn, name, a),
         _ => Err(Failure::Unreadable("no call has this name")),

@@ -1,9 +1,7 @@
-//! Tests of conversions, sums, products and laws, of dense products, the triangular solve, division and inverses, and of
-//! sizes at which a call could take too much memory or time.
+//! Tests of sums, products and laws, of dense products, the triangular solve, division and inverses, and of sizes at which
+//! a call could take too much memory or time.
 #![tactic(auto)]
 
-#[cfg(test)]
-mod conversions;
 #[cfg(test)]
 mod data_writing;
 #[cfg(test)]
@@ -14,6 +12,8 @@ mod operand_sizes;
 mod pairs;
 #[cfg(test)]
 mod scalars;
+#[cfg(test)]
+mod sizes;
 #[cfg(test)]
 mod solves;
 #[cfg(test)]
