@@ -1,7 +1,9 @@
 //! Calls, and what they answer.
 
 use crate::compressed::{Compressed, inner_of, shown};
-use crate::conversions::{Conversions, are_equal, are_equal_lists, converted, made_of, sparse};
+use crate::conversions::{
+    Conversions, are_equal, are_equal_lists, converted, dense_of_list, list_of_dense, sparse,
+};
 use crate::products::{Products, product, product_into};
 use crate::shapes::{Shapes, shaped};
 use crate::sums::{Sums, joined, multiple, quotient, sum_into};
@@ -34,8 +36,9 @@ fn of_words<T: Scalar, F: Form<T>>(turn: &mut Turn, words: &[Word<'_>]) -> Resul
         [Word::Name(name), Word::Matrix(a)] => named::<T, F>(turn, name, a),
         [Word::Number(k), Word::Matrix(a)] => multiple::<T, F>(turn, k, a),
         [Word::Matrix(a), Word::Name("/"), Word::Number(k)] => quotient::<T, F>(turn, a, k),
-        [Word::Name(made), Word::Name(given), Word::Matrix(a)] => made_of::<T>(
-            turn, made, given, a,
+        [Word::Name("list"), Word::Name("dense"), Word::Matrix(a)] => list_of_dense::<T>(turn, a),
+        [Word::Name("dense"), Word::Name("triplets"), Word::Matrix(a)] => dense_of_list::<T>(
+            turn, a,
         ),
         [
             Word::Name("triplets"),

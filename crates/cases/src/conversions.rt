@@ -145,21 +145,8 @@ pub fn sparse<T: Scalar, F: Conversions<T>>(
     shown(alloc, &matrix)
 }
 
-/// Returns the answer of `list dense A`, the list of a dense matrix, or `dense triplets A`, the dense matrix of a list.
-pub fn made_of<T: Scalar>(
-    turn: &mut Turn,
-    made: &str,
-    given: &str,
-    a: Op<&str>,
-) -> Result<String, Failure> {
-    match (made, given) {
-        ("list", "dense") => list_of_dense::<T>(turn, a),
-        ("dense", "triplets") => dense_of_triplets::<T>(turn, a),
-        _ => Err(Failure::Unreadable("no call has these names")),
-    }
-}
-
-fn list_of_dense<T: Scalar>(turn: &mut Turn, a: Op<&str>) -> Result<String, Failure> {
+/// Returns the answer of `list dense A`: the list of the dense matrix.
+pub fn list_of_dense<T: Scalar>(turn: &mut Turn, a: Op<&str>) -> Result<String, Failure> {
     let alloc = turn.alloc();
     let dense: DMatrix<T> = dense_of(alloc, plain(a)?)?;
     turn.begin();
@@ -167,7 +154,8 @@ fn list_of_dense<T: Scalar>(turn: &mut Turn, a: Op<&str>) -> Result<String, Fail
     Ok(triplets(alloc, &list)?)
 }
 
-fn dense_of_triplets<T: Scalar>(turn: &mut Turn, a: Op<&str>) -> Result<String, Failure> {
+/// Returns the answer of `dense triplets A`: the dense matrix of the list.
+pub fn dense_of_list<T: Scalar>(turn: &mut Turn, a: Op<&str>) -> Result<String, Failure> {
     let alloc = turn.alloc();
     let list: CooMatrix<T> = list_of(alloc, plain(a)?.into_inner())?;
     turn.begin();

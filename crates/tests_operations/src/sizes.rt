@@ -1,4 +1,4 @@
-//! Sizes at which a call could take too much memory or time, or answer an allocation failure that there was none.
+//! Sizes at which a call could take too much time.
 
 use crate::matrices::{Arrays, are_equal, csr};
 use crate::pairs::{holds, holds_by_columns};
@@ -8,7 +8,6 @@ use sparse_algebra::scalar::W64;
 use sparse_convert::serial::{convert_coo_csc, convert_coo_csr};
 use sparse_coo_dense::coo::CooMatrix;
 use sparse_coo_dense::steps::Steps;
-use sparse_csr_csc::csc::CscMatrix;
 use sparse_csr_csc::csr::CsrMatrix;
 use sparse_pattern::counting::{key_offsets, next_slot};
 use sparse_products::serial::{mul_csr, spmm_csr_prealloc_unchecked_counted};
@@ -79,21 +78,6 @@ fn wide_rows_are_updated_in_steps(alloc: Global) -> bool {
 #[test]
 fn wide_rows_are_searched_in_steps(rt: HostRuntime) {
     assert!(rt; wide_rows_are_updated_in_steps(rt.alloc()));
-}
-
-// An identity of an order whose arrays no memory can hold is refused.
-#[test]
-fn identities_past_any_memory_are_refused(rt: HostRuntime) {
-    for order in [1 << 63, usize::MAX] {
-        assert!(rt;
-            CsrMatrix::<W64>::identity(rt.alloc(), order).is_err(),
-            "{order}"
-        );
-        assert!(rt;
-            CscMatrix::<W64>::identity(rt.alloc(), order).is_err(),
-            "{order}"
-        );
-    }
 }
 
 // A list of triplets that go round the places of a 3 by 5 matrix.
