@@ -1,13 +1,14 @@
 //! The answer of a task.
 
 use crate::checksum::{
-    checksum_of_columns, checksum_of_factors, checksum_of_pattern, checksum_of_rows,
+    checksum_of_columns, checksum_of_factors, checksum_of_list, checksum_of_pattern,
+    checksum_of_places, checksum_of_rows,
 };
-use nalgebra_sparse::CsrMatrix;
 use nalgebra_sparse::dense::DMatrix;
 use nalgebra_sparse::factorization::CscSymbolicCholesky;
 use nalgebra_sparse::ldl::Ldl;
 use nalgebra_sparse::scalar::W64;
+use nalgebra_sparse::{CooMatrix, CsrMatrix};
 
 /// The answer of a task.
 #[derive(Drop)]
@@ -16,6 +17,8 @@ pub enum Answer {
     Dense(DMatrix<W64>),
     Factor(CscSymbolicCholesky),
     Exact(Ldl<W64>),
+    List(CooMatrix<W64>),
+    Places(CooMatrix<()>),
 }
 
 impl Answer {
@@ -26,6 +29,8 @@ impl Answer {
             Answer::Dense(matrix) => checksum_of_columns(matrix),
             Answer::Factor(factor) => checksum_of_pattern(factor.l_pattern()),
             Answer::Exact(ldl) => checksum_of_factors(ldl.l(), ldl.d()),
+            Answer::List(list) => checksum_of_list(list),
+            Answer::Places(list) => checksum_of_places(list),
         }
     }
 
@@ -36,6 +41,8 @@ impl Answer {
             Answer::Dense(matrix) => matrix.as_slice().len(),
             Answer::Factor(factor) => factor.l_pattern().nnz(),
             Answer::Exact(ldl) => ldl.l().nnz(),
+            Answer::List(list) => list.nnz(),
+            Answer::Places(list) => list.nnz(),
         }
     }
 }

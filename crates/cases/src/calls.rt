@@ -2,7 +2,9 @@
 
 use crate::compressed::{Compressed, inner_of, shown};
 use crate::constructors::{Constructors, constructed, is_constructor};
-use crate::conversions::{Conversions, converted};
+use crate::conversions::{
+    Conversions, are_equal, are_equal_lists, converted, dense_of_list, list_of_dense, sparse,
+};
 use crate::dense::dense_call;
 use crate::entries::{Entries, entry_call};
 use crate::lanes::{Lanes, lane_call, lanes_call};
@@ -53,6 +55,17 @@ fn of_words<T: Scalar, F: Form<T>>(turn: &mut Turn, words: &[Word<'_>]) -> Resul
         [Word::Name(name), Word::Matrix(a)] => named::<T, F>(turn, name, a),
         [Word::Number(k), Word::Matrix(a)] => multiple::<T, F>(turn, k, a),
         [Word::Matrix(a), Word::Name("/"), Word::Number(k)] => quotient::<T, F>(turn, a, k),
+        [Word::Name("list"), Word::Name("dense"), Word::Matrix(a)] => list_of_dense::<T>(turn, a),
+        [Word::Name("dense"), Word::Name("triplets"), Word::Matrix(a)] => dense_of_list::<T>(
+            turn, a,
+        ),
+        [
+            Word::Name("triplets"),
+            Word::Matrix(a),
+            Word::Name("=="),
+            Word::Matrix(b),
+        ] => are_equal_lists::<T>(turn, a, b),
+        [Word::Matrix(a), Word::Name("=="), Word::Matrix(b)] => are_equal::<T, F>(turn, a, b),
         [Word::Matrix(a), Word::Name("\\"), Word::Matrix(b)] => solution::<T>(turn, a, b),
         [Word::Matrix(a), Word::Matrix(b)] => product::<T, F>(turn, a, b),
         [Word::Matrix(a), Word::Name(sign), Word::Matrix(b)] => joined::<T, F>(turn, a, sign, b),
@@ -93,9 +106,8 @@ fn named<T: Scalar, F: Form<T>>(
     a: Op<&str>,
 ) -> Result<String, Failure> {
     match name {
-        "list" | "dense" | "sparse" | "arrays" | "copy" | "turn" => converted::<T, F>(
-            turn, name, a,
-        ),
+        "list" | "dense" | "arrays" | "copy" | "turn" => converted::<T, F>(turn, name, a),
+        "sparse" => sparse::<T, F>(turn, a),
         "-" | "upper" | "lower" | "diagonal" => shaped::<T, F>(turn, name, a),
         "fill" | "fill-lower" | "fill-both" | "ldl" => factored::<T>(turn, name, a),
         "rows" | "columns" => lanes_call::<T, F>(turn, name, a),

@@ -73,6 +73,14 @@ pub fn inner_of<T: Scalar, F: Compressed<T>>(
     F::from_list(alloc, &list_of(alloc, picture.into_inner())?)
 }
 
+/// Returns the picture of an operand that a call takes as it is alone.
+pub fn plain<'a>(picture: Op<&'a str>) -> Result<Op<&'a str>, Failure> {
+    match picture {
+        Op::NoOp(_) => Ok(picture),
+        Op::Transpose(_) => Err(Failure::Unreadable("the call takes no transpose")),
+    }
+}
+
 /// Returns the dense matrix of a picture that an operation takes as it is or transposed.
 pub fn dense_of<T: Scalar>(alloc: Global, picture: Op<&str>) -> Result<DMatrix<T>, Failure> {
     Ok(convert_coo_dense(alloc, &list_of(alloc, picture.into_inner())?)?)

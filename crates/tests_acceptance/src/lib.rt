@@ -8,9 +8,7 @@ mod bits;
 mod counting;
 #[cfg(test)]
 mod label;
-#[cfg(test)]
-mod matrices;
-#[cfg(test)]
-mod numbers;
 pub mod residue7;
+#[cfg(test)]
+mod residues;
 pub mod solving;

@@ -1,9 +1,7 @@
-//! Tests of conversions, sums, products and laws, of dense products, the triangular solve, division and inverses, and of
-//! sizes at which a call could take too much memory or time.
+//! Tests of sums, products and laws, of dense products, the triangular solve, division and inverses, and of sizes at which
+//! a call could take too much memory or time.
 #![tactic(auto)]
 
-#[cfg(test)]
-mod conversions;
 #[cfg(test)]
 mod matrices;
 #[cfg(test)]
@@ -12,6 +10,8 @@ mod operand_sizes;
 mod pairs;
 #[cfg(test)]
 mod scalars;
+#[cfg(test)]
+mod sizes;
 #[cfg(test)]
 mod solves;
 #[cfg(test)]

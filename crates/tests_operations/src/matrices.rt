@@ -1,27 +1,10 @@
 //! Lists and matrices that the tests begin with, and their arrays.
 
 use crate::scalars::{Scalar, scalars};
-use sparse_coo_dense::coo::CooMatrix;
 use sparse_coo_dense::dense::DMatrix;
 use sparse_csr_csc::csc::CscMatrix;
 use sparse_csr_csc::csr::CsrMatrix;
 use std::alloc::{AllocError, Global};
-
-/// The list of these triplets, in this order.
-pub fn list<T: Scalar>(
-    alloc: Global,
-    (nrows, ncols): (usize, usize),
-    triplets: &[(usize, usize, i32)],
-) -> Option<CooMatrix<T>> {
-    let mut coo = CooMatrix::new(alloc, nrows, ncols);
-    for (row, col, number) in triplets {
-        if coo.nrows() <= *row || coo.ncols() <= *col {
-            return None;
-        }
-        coo.push(*row, *col, T::of(*number)).ok()?;
-    }
-    Some(coo)
-}
 
 /// The first `count` multiples of `step`.
 pub fn first_multiples(alloc: Global, count: usize, step: usize) -> Result<Vec<usize>, AllocError> {
@@ -114,14 +97,6 @@ pub fn equals<M: PartialEq + Drop>(made: Option<M>, other: &M) -> bool {
     match made {
         Some(made) => made == *other,
         None => false,
-    }
-}
-
-/// Whether the list was made of a matrix of this size without places.
-pub fn is_empty_list(made: Result<CooMatrix<i32>, AllocError>, size: (usize, usize)) -> bool {
-    match made {
-        Ok(coo) => coo.nrows() == size.0 && coo.ncols() == size.1 && coo.nnz() == 0,
-        Err(_) => false,
     }
 }
 

@@ -1,5 +1,5 @@
 use Rattle.std.proofs.Common.{ap, ◌∙◌}
-use Rattle.tests_operations.proofs.conversions.sizes.is_updated_in_steps.Goals as goal
+use Rattle.tests_operations.proofs.sizes.is_updated_in_steps.Goals as goal
 
 -- the product has its own places
 pub spmm_csr_prealloc_unchecked_counted-computed-requires-clause-covered :

@@ -1,70 +1,17 @@
-//! Sizes at which a call could take too much memory or time, or answer an allocation failure that there was none.
+//! Sizes at which a call could take too much time.
 
-use crate::matrices::{Arrays, csr, is_empty_list, list};
+use crate::matrices::{Arrays, are_equal, csr};
 use crate::pairs::{holds, holds_by_columns};
 use crate::scalars::are;
 use sparse_algebra::operand::Op;
 use sparse_algebra::scalar::W64;
-use sparse_convert::serial::{
-    convert_coo_csc, convert_coo_csr, convert_dense_coo, convert_dense_csc, convert_dense_csr,
-};
+use sparse_convert::serial::{convert_coo_csc, convert_coo_csr};
 use sparse_coo_dense::coo::CooMatrix;
-use sparse_coo_dense::dense::DMatrix;
 use sparse_coo_dense::steps::Steps;
-use sparse_csr_csc::csc::CscMatrix;
 use sparse_csr_csc::csr::CsrMatrix;
+use sparse_pattern::counting::{key_offsets, next_slot};
 use sparse_products::serial::{mul_csr, spmm_csr_prealloc_unchecked_counted};
 use std::alloc::{AllocError, Global};
-
-// Whether the product of matrices whose shapes fit has this shape and no places.
-fn has_empty_product(
-    alloc: Global,
-    a: &CsrMatrix<W64>,
-    b: &CsrMatrix<W64>,
-    size: (usize, usize),
-) -> bool {
-    if a.ncols() != b.nrows() {
-        return false;
-    }
-    match mul_csr(alloc, a, b) {
-        Ok(product) => {
-            product.nrows() == size.0 && product.ncols() == size.1 && product.nnz() == 0
-        }
-        Err(_) => false,
-    }
-}
-
-// Whether the product of matrices without places, of these shapes, has its shape and no places.
-fn is_empty_product(alloc: Global, (nrows, inner, ncols): (usize, usize, usize)) -> bool {
-    let Ok(a) = CsrMatrix::zeros(alloc, nrows, inner) else {
-        return false;
-    };
-    match CsrMatrix::zeros(alloc, inner, ncols) {
-        Ok(b) => has_empty_product(alloc, &a, &b, (nrows, ncols)),
-        Err(_) => false,
-    }
-}
-
-#[test]
-fn products_without_places(rt: HostRuntime) {
-    let most = usize::MAX;
-    for sizes in [
-        (2, 2, 0),
-        (0, 2, 2),
-        (2, 0, 2),
-        (0, 0, 0),
-        (0, 1, most),
-        (1, 1, most),
-    ] {
-        assert!(rt;
-            is_empty_product(rt.alloc(), sizes),
-            "{} {} {}",
-            sizes.0,
-            sizes.1,
-            sizes.2
-        );
-    }
-}
 
 // Whether the square of an identity, computed again in counted steps, is the identity.
 fn is_squared_in_steps(alloc: Global, size: usize) -> Result<bool, AllocError> {
@@ -133,21 +80,6 @@ fn wide_rows_are_searched_in_steps(rt: HostRuntime) {
     assert!(rt; wide_rows_are_updated_in_steps(rt.alloc()));
 }
 
-// An identity of an order whose arrays no memory can hold is refused.
-#[test]
-fn identities_past_any_memory_are_refused(rt: HostRuntime) {
-    for order in [1 << 63, usize::MAX] {
-        assert!(rt;
-            CsrMatrix::<W64>::identity(rt.alloc(), order).is_err(),
-            "{order}"
-        );
-        assert!(rt;
-            CscMatrix::<W64>::identity(rt.alloc(), order).is_err(),
-            "{order}"
-        );
-    }
-}
-
 // A list of triplets that go round the places of a 3 by 5 matrix.
 fn long_list(alloc: Global, count: usize) -> Result<CooMatrix<W64>, AllocError> {
     let mut coo = CooMatrix::new(alloc, 3, 5);
@@ -179,36 +111,21 @@ fn a_long_list_is_converted(rt: HostRuntime) {
     assert!(rt; long_list_is_converted(rt.alloc()));
 }
 
-// Whether a dense matrix of this size, without values, is converted to a list, and to rows and columns just where
-// their offsets can be had.
-fn converts_at_once(alloc: Global, nrows: usize, ncols: usize) -> bool {
-    match DMatrix::<i32>::zeros(alloc, nrows, ncols) {
-        Ok(dense) => {
-            is_empty_list(convert_dense_coo(alloc, &dense), (nrows, ncols))
-                && convert_dense_csr(alloc, &dense).is_ok() == (nrows < 1000)
-                && convert_dense_csc(alloc, &dense).is_ok() == (ncols < 1000)
-        }
-        Err(_) => false,
-    }
-}
-
-// Whether a list of as many rows as there can be, without columns, is refused by rows and not by columns.
-fn is_converted_by_columns_alone(alloc: Global) -> bool {
-    match list::<W64>(alloc, (usize::MAX, 0), &[]) {
-        Some(tall) => {
-            convert_coo_csr(alloc, &tall).is_err() && convert_coo_csc(alloc, &tall).is_ok()
-        }
-        None => false,
-    }
+// Only a list of 2^32 triplets is counted by `usize`, which is too long for a test. This takes three triplets of two rows
+// through the same two calls by wide counters.
+fn are_placed_by_wide_counts(alloc: Global) -> bool {
+    let rows = [1, 0, 1];
+    let Ok((offsets, mut cursors)) = key_offsets::<usize>(alloc, &rows, 2) else {
+        return false;
+    };
+    let mut entries = [(0, 0); 3];
+    entries[next_slot(&rows, 0, &mut cursors)] = (0, 5);
+    entries[next_slot(&rows, 1, &mut cursors)] = (1, 6);
+    entries[next_slot(&rows, 2, &mut cursors)] = (2, 7);
+    are_equal(&offsets, &[0, 1, 3]) && are_equal(&entries, &[(1, 6), (0, 5), (2, 7)])
 }
 
 #[test]
-fn dense_matrices_without_values_end_at_once(rt: HostRuntime) {
-    for (nrows, ncols) in [(0, usize::MAX), (usize::MAX, 0), (0, 5), (5, 0)] {
-        assert!(rt;
-            converts_at_once(rt.alloc(), nrows, ncols),
-            "{nrows} by {ncols}"
-        );
-    }
-    assert!(rt; is_converted_by_columns_alone(rt.alloc()));
+fn wide_counts_place_triplets_in_rows(rt: HostRuntime) {
+    assert!(rt; are_placed_by_wide_counts(rt.alloc()));
 }
