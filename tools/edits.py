@@ -63,26 +63,38 @@ class Edit:
         crate, texts = os.path.basename(self.folder), self.applied(self.folder)[0] or {}
         for path, text in texts.items():
             lines = read(f"{self.folder}/{path}").split("\n")
-            changed = [at for at, line in enumerate(text.split("\n")) if line != lines[at]]
-            self.functions |= {function_at(crate, path, lines, at, names) for at in changed}
+            for at, line in enumerate(text.split("\n")):
+                if line != lines[at]:
+                    start = max((it for it in range(at + 1) if FUNCTION.match(lines[it])), default=-1)
+                    self.functions |= {function_at(crate, path, lines, start, names)}
+                    same = "\n".join([*lines[start:at], os.path.commonprefix([line, lines[at]])])
+                    self.is_alone |= not is_in_body(same)
         if None in self.functions:
             # one in a macro, say
             self.functions, self.is_alone = set(), True
 
 
-def function_at(crate, path, lines, at, names):
-    """Returns the name of the function that has a line of a source, or None if that cannot be told."""
-    while at >= 0 and not FUNCTION.match(lines[at]):
-        at -= 1
-    indent, function = FUNCTION.match(lines[at]).groups() if at >= 0 else (None, None)
+def is_in_body(text):
+    """Returns whether a text from the head of a function on ends in its body, and not in its head or a clause."""
+    while text != (less := re.sub(r"\{[^{}]*\}", ";", text)):
+        text = less
+    head, opened, _ = text.partition("{")
+    return bool(opened) and not re.search(r"\b(requires|ensures|ghost)\b[^;]*$", head)
+
+
+def function_at(crate, path, lines, start, names):
+    """Returns the name of the function that begins in a line of a source, or None if that cannot be told."""
+    if start < 0:
+        return None
+    indent, function = FUNCTION.match(lines[start]).groups()
     words = [crate, *path[len("src/") : -len(".rt")].split("/")]
     module = [it for it in words if it not in ("lib", "main", "mod")]
-    if indent == "":
+    if not indent:
         return "::".join([*module, function])
-    while at >= 0 and not BLOCK.match(lines[at]):
-        at -= 1
-    header = GENERICS.sub("", re.split(r"\{| where ", " ".join(lines[at : at + 6]))[0]) if at >= 0 else ""
-    words = {it[0].upper() + it[1:] for it in re.findall(r"\w+(?!\w*::)", header) if it not in ("for", "mut")}
+    block = max((it for it in range(start) if BLOCK.match(lines[it])), default=None)
+    header = re.split(r"\{| where ", " ".join(lines[block : start + 1]))[0] if block is not None else ""
+    words = re.findall(r"\w+(?!\w*::)", GENERICS.sub("", header))
+    words = {it[0].upper() + it[1:] for it in words if it not in ("for", "mut")}
 
     def distance(name):
         # `impl From<A> for B` is BFromA; a type's own functions stand below the module of the type
