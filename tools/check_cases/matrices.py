@@ -11,7 +11,7 @@ from .words import Refused, Unreadable, index_of, size_of
 
 # No machine has so many bytes: a request for more fails.
 MOST_BYTES = 2**40
-OFFSET_BYTES = 8
+INDEX_BYTES = 8
 # The most cells of a picture in an answer.
 MOST_CELLS = 256
 
@@ -84,7 +84,7 @@ def places(nrows, ncols):
 
 def with_lanes(matrix, over):
     """Returns a matrix, if its offsets have room in memory."""
-    allocate(over.lane(matrix.size)[0], OFFSET_BYTES)
+    allocate(over.lane(matrix.size)[0], INDEX_BYTES)
     return matrix
 
 
@@ -98,8 +98,8 @@ def list_of(picture, scalars):
     rows = [row.split() for row in picture.text.split("/")]
     if len({len(row) for row in rows}) != 1 or not rows[0]:
         raise Unreadable("the rows differ in length, or are empty")
-    triplets = [(i, j, scalar_of(word, scalars)) for i, row in enumerate(rows) for j, word in enumerate(row) if word != "."]
-    return Triplets(len(rows), len(rows[0]), triplets)
+    words = [(i, j, word) for i, row in enumerate(rows) for j, word in enumerate(row) if word != "."]
+    return Triplets(len(rows), len(rows[0]), [(i, j, scalar_of(word, scalars)) for i, j, word in words])
 
 
 def triplets_of(word, size, scalars):
@@ -178,21 +178,17 @@ def is_large(matrix):
     return MOST_CELLS < matrix.nrows * matrix.ncols
 
 
-def shown(matrix, over):
+def shown(matrix, over, cell=str):
     """Returns the answer that is a compressed matrix: its picture, or the triplets of a large one."""
     with_lanes(matrix, over)
     if is_large(matrix):
         return drawn_list(Triplets(*matrix.size, matrix.in_order(over)))
-    return drawn(matrix)
+    return drawn(matrix, cell)
 
 
 def shown_pattern(matrix, over):
-    """Returns the answer that is a pattern: its picture, or the places of a large one."""
-    with_lanes(matrix, over)
-    if is_large(matrix):
-        words = ["{}x{}".format(*matrix.size)] + [f"({row},{col})" for row, col, _ in matrix.in_order(over)]
-        return "[" + " ".join(words) + "]"
-    return drawn(matrix, lambda _: "x")
+    """Returns the answer that is a pattern: its picture, or the places of a large one as triplets of ones."""
+    return shown(matrix.with_entries(dict.fromkeys(matrix.entries, 1)), over, lambda _: "x")
 
 
 def arrays_of(matrix, over):
@@ -212,3 +208,8 @@ def words_after(name, numbers):
 def drawn_arrays(matrix, over):
     """Returns the answer that is the arrays of a compressed matrix."""
     return " ".join(map(words_after, ("offsets", "indices", "values"), arrays_of(matrix, over)))
+
+
+def truth(holds):
+    """Returns `true` or `false`."""
+    return "true" if holds else "false"

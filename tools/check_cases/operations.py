@@ -1,6 +1,6 @@
 """Sums, products, multiples and quotients, as matrices of their own and into a given one."""
-from .matrices import Matrix, allocate, dense_of, drawn, inner_of, matrix_of, operand_of, places, shown
-from .words import Picture, Refused, Unreadable, misfit, words_of
+from .matrices import Matrix, allocate, dense_of, drawn, inner_of, matrix_of, operand_of, places, shown, shown_pattern
+from .words import Picture, Refused, misfit
 
 NO_INVERSE = Refused("Singular", "Scalar has no inverse.")
 NOT_IN_SUM = Refused("InvalidPattern", "Found entry in `op(a)` that is not present in `c`.")
@@ -70,7 +70,7 @@ def dense_update(scalars, beta, c, alpha, a, b):
 
 
 def answer(words, over):
-    """Returns what a call in the signs of mathematics answers."""
+    """Returns what a call in the signs of mathematics answers, or `None` if the call is none."""
     scalars = over.scalars
     match words:
         case [Picture() as a]:
@@ -88,12 +88,18 @@ def answer(words, over):
             return drawn(dense_product(scalars, matrix_of(a, over), dense_of(b, over)))
         case [Picture() as a, Picture() as b]:
             return shown(product(scalars, matrix_of(a, over), matrix_of(b, over)), over)
-        case [int(beta), Picture() as c, "+" | "+=" as sign, int(alpha), *operands]:
-            return into(over, sign, (scalars.of(beta), scalars.of(alpha)), c, operands)
-    raise Unreadable("no call has these words")
+        case ["unchecked" | "counted", int(beta), Picture() as c, "+=", int(alpha), Picture() as a, Picture() as b]:
+            return into(over, (scalars.of(beta), scalars.of(alpha)), c, [a, b])
+        case [int(beta), Picture() as c, "+" | "+=", int(alpha), *operands]:
+            return into(over, (scalars.of(beta), scalars.of(alpha)), c, operands)
+        case ["pattern", Picture() as a, "+", Picture() as b]:
+            return shown_pattern(combined(scalars, 1, matrix_of(a, over), 1, matrix_of(b, over)), over)
+        case ["pattern", Picture() as a, Picture() as b]:
+            return shown_pattern(product(scalars, matrix_of(a, over), matrix_of(b, over)), over)
+    return None
 
 
-def into(over, sign, factors, c, operands):
+def into(over, factors, c, operands):
     """Returns the answer of `2 C += 3 A`, `2 C += 3 A B` or, where B and C are dense, `2 C += 3 A * B`."""
     scalars, (beta, alpha) = over.scalars, factors
     match operands:
@@ -106,7 +112,7 @@ def into(over, sign, factors, c, operands):
             return shown(updated(scalars, beta, target, alpha, product(scalars, a, b), NOT_IN_PRODUCT), over)
         case [Picture() as a, "*", Picture() as b]:
             return drawn(dense_update(scalars, beta, dense_of(c, over), alpha, operand_of(a, over), dense_of(b, over)))
-    raise Unreadable("no update has these words")
+    return None
 
 
 def transposed_anew(picture, over):

@@ -1,7 +1,11 @@
 """Triangular systems, the fill of a Cholesky factor, and exact factors L D L'."""
-from .matrices import Matrix, dense_of, drawn, inner_of, matrix_of
-from .words import Picture, Refused, Unreadable, misfit, words_of
+from typing import NamedTuple
 
+from .matrices import Matrix, Over, arrays_of, dense_of, drawn, inner_of, matrix_of, places, truth
+from .words import Picture, Refused, misfit
+
+# The calls that make factors.
+NAMES = {"fill", "fill-upper", "fill-lower", "fill-both", "fill-counted", "ldl"}
 NOT_DIAGONAL = Refused("Singular", "Matrix contains at least one diagonal entry that is zero.")
 
 
@@ -69,7 +73,7 @@ def fill(name, matrix):
 def ldl(scalars, matrix):
     """Returns L and the diagonal of D, where L D L' is the symmetric matrix of an upper triangle."""
     size, l, d = square(matrix).nrows, {}, []
-    m = {(row, col): matrix.entries.get((min(row, col), max(row, col)), 0) for row in range(size) for col in range(size)}
+    m = {place: matrix.entries.get((min(place), max(place)), 0) for place in places(size, size)}
     for col in range(size):
         for row in range(col, size):
             m[row, col] -= sum(l[row, k] * d[k] * l[col, k] for k in range(col))
@@ -82,19 +86,56 @@ def ldl(scalars, matrix):
     return matrix.with_entries({place: l[place] for place in fill("fill", matrix)}), d
 
 
+class Factors(NamedTuple):
+    """What a call such as `fill A` or `ldl A` makes: what `==` compares, and what is shown."""
+
+    compared: tuple
+    text: str
+
+
+def factors_of(name, picture, over):
+    """Returns the symbolic factor, or the exact factors, of a matrix."""
+    a = matrix_of(picture, over._replace(form="columns"))
+    if name == "ldl":
+        l, d = ldl(over.scalars, a)
+        return Factors((l, d), " ".join([drawn(l), *map(str, d)]))
+    factor = fill(name, a)
+    return Factors((a.size, a.entries.keys(), factor), drawn(Matrix(*a.size, dict.fromkeys(factor)), lambda _: "x"))
+
+
 def answer(words, over):
-    """Returns what a call of a system or a factor answers."""
+    """Returns what a call of a system or of factors answers, or `None` if the call is none."""
+    scalars, columns = over.scalars, over._replace(form="columns")
     match words:
         case [Picture() as l, "\\", Picture() as b]:
-            inner = inner_of(l, over._replace(form="columns"))
-            return drawn(solution(over.scalars, inner, l.is_transposed, dense_of(b, over)))
-        case ["fill" | "fill-lower" | "fill-both" as name, Picture() as a]:
-            a = matrix_of(a, over._replace(form="columns"))
-            return drawn(Matrix(*a.size, dict.fromkeys(fill(name, a))), lambda _: "x")
-        case ["ldl", Picture() as a]:
-            l, d = ldl(over.scalars, matrix_of(a, over._replace(form="columns")))
-            return " ".join([drawn(l), *map(str, d)])
-    raise Unreadable("no call has these words")
+            return drawn(solution(scalars, inner_of(l, columns), l.is_transposed, dense_of(b, over)))
+        case [name, Picture() as a] | ["copy", name, Picture() as a] if name in NAMES:
+            return factors_of(name, a, over).text
+        case [first, Picture() as a, "==", second, Picture() as b] if {first, second} <= NAMES:
+            return truth(factors_of(first, a, over).compared == factors_of(second, b, over).compared)
+        case ["ldl", Picture() as a, "\\", Picture() as b]:
+            return drawn(ldl_solution(scalars, *ldl(scalars, matrix_of(a, columns)), dense_of(b, over)))
+        case ["debug", "ldl", Picture() as a]:
+            return debug_ldl(scalars, *ldl(scalars, matrix_of(a, columns)))
+    return None
 
 
-CALLS = {name: answer for name in ("fill", "fill-lower", "fill-both", "ldl")}
+def ldl_solution(scalars, l, d, b):
+    """Returns the X of L D L' X = B: a system of L, the inverses of D, and a system of L'."""
+    if l.nrows != b.nrows:
+        raise misfit()
+    whole = l.with_entries({**l.entries, **{(row, row): scalars.one for row in range(l.nrows)}})
+    y = solution(scalars, whole, False, b)
+    z = y.with_entries({(i, j): scalars.reduced(scalars.inverse(d[i]) * value) for (i, j), value in y.entries.items()})
+    return solution(scalars, whole, True, z)
+
+
+def debug_ldl(scalars, l, d):
+    """Returns the text of exact factors for debugging, as it is derived from the fields of the types."""
+    offsets, indices, values = arrays_of(l, Over("columns", scalars))
+    values, diagonal, inverses = (
+        "[" + ", ".join(map(scalars.debug, numbers)) + "]" for numbers in (values, d, map(scalars.inverse, d))
+    )
+    pattern = f"SparsityPattern {{ major_offsets: {offsets}, minor_indices: {indices}, minor_dim: {l.nrows} }}"
+    matrix = f"CscMatrix {{ cs: CsMatrix {{ sparsity_pattern: {pattern}, values: {values} }} }}"
+    return f"Ldl {{ l: {matrix}, d: {diagonal}, inverses: {inverses} }}"
