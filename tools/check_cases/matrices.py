@@ -12,6 +12,8 @@ from .words import Refused, Unreadable, index_of, size_of
 # No machine has so many bytes: a request for more fails.
 MOST_BYTES = 2**40
 INDEX_BYTES = 8
+# The most elements that are made here.
+MOST_ELEMENTS = 2**22
 # The most cells of a picture in an answer.
 MOST_CELLS = 256
 
@@ -75,6 +77,8 @@ def allocate(count, size):
     """Fails where so many elements of so many bytes have no room in memory."""
     if MOST_BYTES < count * size:
         raise Refused("out of memory")
+    if MOST_ELEMENTS < count:
+        raise Unreadable(f"{count} elements are too many to be made here")
 
 
 def places(nrows, ncols):
@@ -115,6 +119,7 @@ def indices_of(word, count):
     """Returns the indices below a number that a word writes."""
     spans = {"*": range(count), "even": range(0, count, 2), "odd": range(1, count, 2)}
     if word in spans:
+        allocate(count, INDEX_BYTES)
         return spans[word]
     if count <= index_of(word):
         raise Unreadable(f"{word} is not below {count}")
@@ -173,15 +178,10 @@ def drawn_list(triplets):
     return "[" + " ".join(words) + "]"
 
 
-def is_large(matrix):
-    """Returns whether a matrix has more cells than a picture."""
-    return MOST_CELLS < matrix.nrows * matrix.ncols
-
-
 def shown(matrix, over, cell=str):
     """Returns the answer that is a compressed matrix: its picture, or the triplets of a large one."""
     with_lanes(matrix, over)
-    if is_large(matrix):
+    if MOST_CELLS < matrix.nrows * matrix.ncols:
         return drawn_list(Triplets(*matrix.size, matrix.in_order(over)))
     return drawn(matrix, cell)
 

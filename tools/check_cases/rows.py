@@ -43,31 +43,33 @@ def overs_of(text):
     return [Over(form, scalar) for form in forms for scalar in scalars]
 
 
-def differences(row):
-    """Returns what a row says and what is computed, for each form and scalar where these differ."""
+def difference(row):
+    """Returns what a row says and what is computed where these first differ, or `None` if they agree over all."""
     call, arrow, wanted = (part.strip() for part in row.text.partition(" -> "))
     if not arrow:
-        return ["has no arrow"]
+        return "has no arrow"
     try:
         overs = overs_of(row.over)
     except Unreadable as error:
-        return [str(error)]
-    return [found for found in (difference(call, wanted, over) for over in overs) if found]
+        return str(error)
+    for over in overs:
+        computed = computed_for(call, wanted, over)
+        if computed != wanted:
+            return f"says      {wanted}\n  computed  {computed} ({over.scalars.name} by {over.form})"
+    return None
 
 
-def difference(call, wanted, over):
-    """Returns what a row says and what is computed over one form and one scalar, or `None` if these agree."""
+def computed_for(call, wanted, over):
+    """Returns the computed answer of a call, written as the row does if it may be written so."""
     try:
         computed = answer(call, over)
-        if computed == wanted or redrawn(wanted, over) == computed:
-            return None
+        return wanted if redrawn(wanted, over) == computed else computed
     except Refused as error:
-        computed = str(error)
-        if wanted in (computed, error.kind):
-            return None
+        return wanted if wanted == error.kind else str(error)
     except Unreadable as error:
-        computed = f"can't be computed: {error}"
-    return f"says      {wanted}\n  computed  {computed} ({over.scalars.name} by {over.form})"
+        return f"can't be computed: {error}"
+    except Exception as error:  # A fault of this program: the row differs, and the others are computed.
+        return f"can't be computed: {error!r}"
 
 
 def redrawn(wanted, over):
