@@ -4,7 +4,7 @@ from typing import NamedTuple
 from .calls import answer
 from .matrices import Over, list_of, shown, summed
 from .scalars import BY_NAME
-from .words import Picture, Refused, Unreadable
+from .words import Picture, Refused, Unreadable, words_of
 
 # The forms and scalars of the rows before the first line `over`.
 FIRST_OVER = "rows columns W32 W64 W128"
@@ -73,7 +73,9 @@ def computed_for(call, wanted, over):
 
 
 def redrawn(wanted, over):
-    """Returns the answer that a picture shows in which one word stands for several triplets."""
-    if not any(span in wanted for span in SPANS):
-        return wanted
-    return shown(summed(list_of(Picture(wanted.strip("[]")), over.scalars), over.scalars), over)
+    """Returns the answer that a row means: in a picture of a matrix one word may stand for several triplets."""
+    if any(span in wanted for span in SPANS):
+        match words_of(wanted):
+            case [Picture(_, False) as picture]:
+                return shown(summed(list_of(picture, over.scalars), over.scalars), over)
+    return wanted
