@@ -1,0 +1,1 @@
+"""The answers of the rows of crates/cases, computed without the library."""
