@@ -1,69 +1,52 @@
 //! Calls, and what they answer.
 
-use crate::compressed::{Compressed, inner_of, shown};
+use crate::compressed::Compressed;
 use crate::conversions::{Conversions, converted};
-use crate::products::{Products, product, product_into};
+use crate::operations::{Operations, operation};
 use crate::shapes::{Shapes, shaped};
-use crate::sums::{Sums, joined, multiple, quotient, sum_into};
-use crate::systems::{factored, solution};
 use case_words::failure::Failure;
-use case_words::picture::list_of;
-use case_words::scalar::{Scalar, scalar_from};
+use case_words::scalar::Scalar;
 use case_words::turn::Turn;
 use case_words::words::{Word, words_of};
 use nalgebra_sparse::ops::Op;
 use nalgebra_sparse::{CscMatrix, CsrMatrix};
+use std::alloc::Global;
 
 /// A form of a matrix, with all calls on it.
-pub trait Form<T: Scalar>: Compressed<T> + Conversions<T> + Shapes<T> + Sums<T> + Products<T> {}
+pub trait Form<T: Scalar>: Compressed<T> + Conversions<T> + Shapes<T> + Operations<T> {}
 
 impl<T: Scalar> Form<T> for CsrMatrix<T> {}
 
 impl<T: Scalar> Form<T> for CscMatrix<T> {}
 
-/// Returns what a call answers over the scalars `T` in the form `F`.
+/// Returns what a call answers over the scalars `T` in the form `F`. Behind `display` an error of an operation is
+/// displayed.
 pub fn answer<T: Scalar, F: Form<T>>(turn: &mut Turn, call: &str) -> Result<String, Failure> {
+    match call.strip_prefix("display ") {
+        Some(call) => displayed(turn.alloc(), answer_plain::<T, F>(turn, call)),
+        None => answer_plain::<T, F>(turn, call),
+    }
+}
+
+// The text of an operation's error.
+fn displayed(alloc: Global, answer: Result<String, Failure>) -> Result<String, Failure> {
+    match answer {
+        Err(Failure::Operation(error)) => Ok(format!(in alloc; "{error}")?),
+        other => other,
+    }
+}
+
+fn answer_plain<T: Scalar, F: Form<T>>(turn: &mut Turn, call: &str) -> Result<String, Failure> {
     let words = words_of(turn.alloc(), call)?;
     of_words::<T, F>(turn, &words)
 }
 
-// The answer of a call in the signs of mathematics.
+// The answer of a call with these words.
 fn of_words<T: Scalar, F: Form<T>>(turn: &mut Turn, words: &[Word<'_>]) -> Result<String, Failure> {
     match *words {
-        [Word::Matrix(a)] => read::<T, F>(turn, a),
-        [Word::Name(name), Word::Matrix(a)] => named::<T, F>(turn, name, a),
-        [Word::Number(k), Word::Matrix(a)] => multiple::<T, F>(turn, k, a),
-        [Word::Matrix(a), Word::Name("/"), Word::Number(k)] => quotient::<T, F>(turn, a, k),
-        [Word::Matrix(a), Word::Name("\\"), Word::Matrix(b)] => solution::<T>(turn, a, b),
-        [Word::Matrix(a), Word::Matrix(b)] => product::<T, F>(turn, a, b),
-        [Word::Matrix(a), Word::Name(sign), Word::Matrix(b)] => joined::<T, F>(turn, a, sign, b),
-        [
-            Word::Number(beta),
-            Word::Matrix(c),
-            Word::Name("+"),
-            Word::Number(alpha),
-            ref operands @ ..,
-        ] => into::<T, F>(turn, (scalar_from(beta)?, scalar_from(alpha)?), c, operands),
-        _ => Err(Failure::Unreadable("no call has these words")),
+        [Word::Name(name), Word::Matrix(a)] => named::<T, F>(turn, name, a, words),
+        _ => operation::<T, F>(turn, words),
     }
-}
-
-// A list of triplets, compressed, or the transpose of that.
-fn read<T: Scalar, F: Form<T>>(turn: &mut Turn, a: Op<&str>) -> Result<String, Failure> {
-    let alloc = turn.alloc();
-    let matrix: F = match a {
-        Op::NoOp(picture) => {
-            let list = list_of(alloc, picture)?;
-            turn.begin();
-            turn.end(F::from_list(alloc, &list))?
-        }
-        Op::Transpose(_) => {
-            let matrix: F = inner_of(alloc, a)?;
-            turn.begin();
-            turn.end(matrix.transposed(alloc))?
-        }
-    };
-    shown(alloc, &matrix)
 }
 
 // The answer of a name before a matrix.
@@ -71,27 +54,13 @@ fn named<T: Scalar, F: Form<T>>(
     turn: &mut Turn,
     name: &str,
     a: Op<&str>,
+    words: &[Word<'_>],
 ) -> Result<String, Failure> {
     match name {
         "list" | "dense" | "sparse" | "arrays" | "copy" | "turn" => converted::<T, F>(
             turn, name, a,
         ),
         "-" | "upper" | "lower" | "diagonal" => shaped::<T, F>(turn, name, a),
-        "fill" | "fill-lower" | "fill-both" | "ldl" => factored::<T>(turn, name, a),
-        _ => Err(Failure::Unreadable("no call has this name")),
-    }
-}
-
-// The target after `beta C + alpha A` or `beta C + alpha A B`.
-fn into<T: Scalar, F: Form<T>>(
-    turn: &mut Turn,
-    scalars: (T, T),
-    target: Op<&str>,
-    operands: &[Word<'_>],
-) -> Result<String, Failure> {
-    match *operands {
-        [Word::Matrix(a)] => sum_into::<T, F>(turn, scalars, target, a),
-        [Word::Matrix(a), Word::Matrix(b)] => product_into::<T, F>(turn, scalars, target, (a, b)),
-        _ => Err(Failure::Unreadable("no update has these words")),
+        _ => operation::<T, F>(turn, words),
     }
 }

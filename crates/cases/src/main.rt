@@ -8,12 +8,20 @@
 mod calls;
 mod compressed;
 mod conversions;
+mod dense_products;
+mod factors;
+mod in_place;
+mod lanes;
+mod numbers;
+mod operations;
 mod over;
+mod patterns;
 mod products;
 mod shapes;
 mod sums;
 mod systems;
 mod table;
+mod unchecked;
 
 use crate::table::{Count, refuse_table, run_table};
 use std::process::ExitCode;
