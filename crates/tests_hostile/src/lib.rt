@@ -2,8 +2,6 @@
 #![tactic(auto)]
 
 #[cfg(test)]
-mod arithmetic;
-#[cfg(test)]
 mod columns;
 #[cfg(test)]
 mod dense;
@@ -13,8 +11,6 @@ mod lists;
 mod made;
 #[cfg(test)]
 mod patterns;
-#[cfg(test)]
-mod residues;
 #[cfg(test)]
 mod rows;
 #[cfg(test)]

@@ -1,7 +1,8 @@
-//! Tests of conversions, sums, products and laws, of dense products, the triangular solve, division and inverses, and of
-//! sizes at which a call could take too much memory or time.
+//! Tests of conversions, of sizes at which a call could take too much memory or time, and of the inverses of residues.
 #![tactic(auto)]
 
+#[cfg(test)]
+mod callers;
 #[cfg(test)]
 mod conversions;
 #[cfg(test)]
@@ -9,12 +10,8 @@ mod data_writing;
 #[cfg(test)]
 mod matrices;
 #[cfg(test)]
-mod operand_sizes;
-#[cfg(test)]
 mod pairs;
 #[cfg(test)]
 mod scalars;
 #[cfg(test)]
-mod solves;
-#[cfg(test)]
-mod sums_products;
+mod units;
