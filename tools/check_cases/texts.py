@@ -53,7 +53,7 @@ def of_error(name, call, scalars):
     try:
         meaning(FIRST + unescaped(call), scalars)
     except Refused as error:
-        if name == "debug":
+        if name == "debug-read":
             return f'MatrixMarketError {{ error_kind: {error.kind}, message: "{error.message}" }}'
         return f"Matrix Market error: {error.kind.split('(')[0]}, message: {error.message}"
     raise Unreadable("there is no error to show")
@@ -73,7 +73,7 @@ def answer(name, call, over):
             return lines_of(written(in_order(call, over), scalars))
         case "write-list":
             return lines_of(below_heading(written(list_of(words_of(call)[0], scalars), scalars)))
-        case "display" | "debug" if call.split()[:1] in (["coordinate"], ["array"]):
+        case "display-read" | "debug-read":
             return of_error(name, call, scalars)
         case "error" if call in ERRORS:
             raise Refused(*ERRORS[call])

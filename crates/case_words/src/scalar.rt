@@ -4,9 +4,10 @@ use crate::failure::Failure;
 use crate::words::Word;
 use nalgebra_sparse::scalar::{Mod, Units, W32, W64, W128};
 use std::alloc::Global;
+use std::fmt::Debug;
 
 /// A scalar that rows write as an integer.
-pub trait Scalar: Units + Drop {
+pub trait Scalar: Units + Debug + Drop {
     /// Returns the scalar of a number, if the type has one.
     fn of(number: i128) -> Option<Self>;
 

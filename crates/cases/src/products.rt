@@ -85,7 +85,7 @@ pub fn product<T: Scalar, F: Products<T>>(
     shown(alloc, &made)
 }
 
-/// Returns the target after `beta C + alpha A B`.
+/// Returns the target after `beta C += alpha A B`, which is `beta C + alpha A B` on the places of C.
 pub fn product_into<T: Scalar, F: Products<T>>(
     turn: &mut Turn,
     scalars: (T, T),

@@ -5,14 +5,13 @@ ghost use Rattle.nalgebra_sparse.specs.Operands.{plain_op};
 ghost use Rattle.nalgebra_sparse.specs.PlainOfLanes.{plain_of_rows, plain_of_cols};
 
 use crate::compressed::{Compressed, inner_of, matrix_of, operand, shown, updated};
-use crate::products::Products;
 use case_words::failure::Failure;
 use case_words::scalar::{Scalar, scalar_from};
 use case_words::turn::Turn;
 use nalgebra_sparse::ops::Op;
 use nalgebra_sparse::ops::serial::{
-    add_csc, add_csr, div_scalar_csc, div_scalar_csr, scale_csc, scale_csr, spadd_csc_prealloc,
-    spadd_csr_prealloc, sub_csc, sub_csr,
+    add_csc, add_csr, add_scaled_csc, add_scaled_csr, div_scalar_csc, div_scalar_csr, scale_csc,
+    scale_csr, spadd_csc_prealloc, spadd_csr_prealloc, sub_csc, sub_csr,
 };
 use nalgebra_sparse::{CscMatrix, CsrMatrix};
 use std::alloc::Global;
@@ -22,6 +21,9 @@ pub trait Sums<T: Scalar>: Compressed<T> {
     fn sum(&self, alloc: Global, other: &Self) -> Result<Self, Failure>;
 
     fn difference(&self, alloc: Global, other: &Self) -> Result<Self, Failure>;
+
+    /// Returns `alpha A + beta B`.
+    fn scaled_sum(&self, alloc: Global, scalars: (T, T), other: &Self) -> Result<Self, Failure>;
 
     fn multiple(&self, alloc: Global, k: T) -> Result<Self, Failure>;
 
@@ -45,6 +47,18 @@ impl<T: Scalar> Sums<T> for CsrMatrix<T> {
             return Err(Failure::Misfit);
         }
         Ok(sub_csr(alloc, self, other)?)
+    }
+
+    fn scaled_sum(
+        &self,
+        alloc: Global,
+        (alpha, beta): (T, T),
+        other: &Self,
+    ) -> Result<Self, Failure> {
+        if self.nrows() != other.nrows() || self.ncols() != other.ncols() {
+            return Err(Failure::Misfit);
+        }
+        Ok(add_scaled_csr(alloc, alpha, self, beta, other)?)
     }
 
     fn multiple(&self, alloc: Global, k: T) -> Result<Self, Failure> {
@@ -77,6 +91,18 @@ impl<T: Scalar> Sums<T> for CscMatrix<T> {
             return Err(Failure::Misfit);
         }
         Ok(sub_csc(alloc, self, other)?)
+    }
+
+    fn scaled_sum(
+        &self,
+        alloc: Global,
+        (alpha, beta): (T, T),
+        other: &Self,
+    ) -> Result<Self, Failure> {
+        if self.nrows() != other.nrows() || self.ncols() != other.ncols() {
+            return Err(Failure::Misfit);
+        }
+        Ok(add_scaled_csc(alloc, alpha, self, beta, other)?)
     }
 
     fn multiple(&self, alloc: Global, k: T) -> Result<Self, Failure> {
@@ -121,8 +147,8 @@ pub fn size_by_columns<T: Scalar>(a: Op<&CscMatrix<T>>) -> (usize, usize)
     }
 }
 
-/// Returns the answer of `A + B`, `A - B` or, where B is dense, `A * B`.
-pub fn joined<T: Scalar, F: Sums<T> + Products<T>>(
+/// Returns the answer of `A + B` or `A - B`.
+pub fn joined<T: Scalar, F: Sums<T>>(
     turn: &mut Turn,
     a: Op<&str>,
     sign: &str,
@@ -136,6 +162,19 @@ pub fn joined<T: Scalar, F: Sums<T> + Products<T>>(
         "-" => turn.end(left.difference(alloc, &right))?,
         _ => return Err(Failure::Unreadable("no call has this sign")),
     };
+    shown(alloc, &made)
+}
+
+/// Returns the answer of `alpha A + beta B`.
+pub fn scaled_sum<T: Scalar, F: Sums<T>>(
+    turn: &mut Turn,
+    (alpha, a): (T, Op<&str>),
+    (beta, b): (T, Op<&str>),
+) -> Result<String, Failure> {
+    let alloc = turn.alloc();
+    let (left, right): (F, F) = (matrix_of(alloc, a)?, matrix_of(alloc, b)?);
+    turn.begin();
+    let made = turn.end(left.scaled_sum(alloc, (alpha, beta), &right))?;
     shown(alloc, &made)
 }
 
@@ -165,7 +204,7 @@ pub fn quotient<T: Scalar, F: Sums<T>>(
     shown(alloc, &made)
 }
 
-/// Returns the target after `beta C + alpha A`.
+/// Returns the target after `beta C += alpha A`, which is `beta C + alpha A` on the places of C.
 pub fn sum_into<T: Scalar, F: Sums<T>>(
     turn: &mut Turn,
     scalars: (T, T),

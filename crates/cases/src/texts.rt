@@ -23,7 +23,7 @@ pub fn name_of(call: &str) -> (&str, &str) {
 pub fn is_on_texts(name: &str) -> bool {
     match name {
         "read" | "text" | "write" | "write-list" | "write-whole" => true,
-        "display" | "debug" | "error" => true,
+        "display-read" | "debug-read" | "error" => true,
         "from-integer" | "from-pattern" | "negative-of" | "conjugate-of" | "text-of" => true,
         _ => false,
     }
@@ -57,8 +57,8 @@ fn answer<T: TextScalar>(turn: &mut Turn, form: &str, call: &str) -> Result<Stri
         "write" => written::<T>(turn, Written::Below, form, rest),
         "write-whole" => written::<T>(turn, Written::Whole, form, rest),
         "write-list" => written::<T>(turn, Written::Below, "list", rest),
-        "display" => shown_error::<T>(turn.alloc(), false, rest),
-        "debug" => shown_error::<T>(turn.alloc(), true, rest),
+        "display-read" => shown_error::<T>(turn.alloc(), false, rest),
+        "debug-read" => shown_error::<T>(turn.alloc(), true, rest),
         "error" => Err(failure_of(rest)),
         _ => valued::<T>(turn, name, rest),
     }

@@ -17,10 +17,6 @@ mod ldl;
 #[cfg(test)]
 mod patterns;
 #[cfg(test)]
-mod small_factors;
-#[cfg(test)]
-mod small_triangles;
-#[cfg(test)]
 mod square_patterns;
 #[cfg(test)]
 mod sums_and_products;

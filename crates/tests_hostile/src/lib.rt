@@ -2,10 +2,6 @@
 #![tactic(auto)]
 
 #[cfg(test)]
-mod arithmetic;
-#[cfg(test)]
 mod made;
-#[cfg(test)]
-mod residues;
 #[cfg(test)]
 mod sinks;

@@ -1,11 +1,10 @@
-//! Tests of sums, products and laws, of dense products, the triangular solve, division and inverses, and of sizes at which
-//! a call could take too much memory or time.
+//! Tests of sizes at which a call could take too much memory or time, and of the inverses of residues.
 #![tactic(auto)]
 
 #[cfg(test)]
-mod matrices;
+mod callers;
 #[cfg(test)]
-mod operand_sizes;
+mod matrices;
 #[cfg(test)]
 mod pairs;
 #[cfg(test)]
@@ -13,6 +12,4 @@ mod scalars;
 #[cfg(test)]
 mod sizes;
 #[cfg(test)]
-mod solves;
-#[cfg(test)]
-mod sums_products;
+mod units;

@@ -1,8 +1,26 @@
 //! Matrices from a linear congruential generator (Knuth's MMIX).
 
-use crate::ldl::matrices::Scalar;
+use sparse_algebra::scalar::{Mod, Ring, Units, W64};
 use sparse_coo_dense::dense::DMatrix;
 use std::alloc::{AllocError, Global};
+
+/// A scalar of a small number.
+pub trait Scalar: Units + Drop {
+    fn of(number: i32) -> Self;
+}
+
+impl Scalar for W64 {
+    fn of(number: i32) -> W64 {
+        W64::new(i64::from(number))
+    }
+}
+
+/// No number below zero is generated.
+impl<const M: u64> Scalar for Mod<M> {
+    fn of(number: i32) -> Mod<M> {
+        Mod::new(u64::from(number.unsigned_abs()))
+    }
+}
 
 /// A generator of numbers.
 #[derive(Drop)]

@@ -1,8 +1,7 @@
 //! Generated matrices up to 12 by 12: beside the slow program, and made from factors that are known.
 
 use crate::ldl::compared::{agree, factored, has_factors};
-use crate::ldl::generated::{Generator, entries, of_values, unit_lower, units};
-use crate::ldl::matrices::Scalar;
+use crate::ldl::generated::{Generator, Scalar, entries, of_values, unit_lower, units};
 use sparse_algebra::scalar::{Mod, W64};
 use sparse_convert::serial::convert_dense_csc;
 use sparse_coo_dense::dense::DMatrix;
