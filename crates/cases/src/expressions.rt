@@ -21,7 +21,7 @@ trait Evaluated: Compressed<W64> + MatrixMarketExport<W64> {
     fn form() -> Form;
 
     /// Returns the value of an expression.
-    fn evaluated(alloc: Global, expr: &Expr, inputs: &[CooMatrix<W64>]) -> Result<Self, ExprError>;
+    fn value_of(alloc: Global, expr: &Expr, inputs: &[CooMatrix<W64>]) -> Result<Self, ExprError>;
 }
 
 /// By rows.
@@ -30,7 +30,7 @@ impl Evaluated for CsrMatrix<W64> {
         Form::Rows
     }
 
-    fn evaluated(alloc: Global, expr: &Expr, inputs: &[CooMatrix<W64>]) -> Result<Self, ExprError> {
+    fn value_of(alloc: Global, expr: &Expr, inputs: &[CooMatrix<W64>]) -> Result<Self, ExprError> {
         evaluate_rows(alloc, expr, inputs)
     }
 }
@@ -41,7 +41,7 @@ impl Evaluated for CscMatrix<W64> {
         Form::Cols
     }
 
-    fn evaluated(alloc: Global, expr: &Expr, inputs: &[CooMatrix<W64>]) -> Result<Self, ExprError> {
+    fn value_of(alloc: Global, expr: &Expr, inputs: &[CooMatrix<W64>]) -> Result<Self, ExprError> {
         evaluate_cols(alloc, expr, inputs)
     }
 }
@@ -76,7 +76,7 @@ fn value<F: Evaluated>(turn: &mut Turn, words: &str, inputs: &str) -> Result<Str
     let alloc = turn.alloc();
     let lists = lists_of(alloc, inputs)?;
     turn.begin();
-    let value: Result<F, ExprError> = turn.end(value_of(alloc, words, &lists));
+    let value: Result<F, ExprError> = turn.end(value_of_words(alloc, words, &lists));
     let (texts, copies) = (
         texts_of_lists(alloc, &lists)?,
         texts_of_lists(alloc, &lists)?,
@@ -91,13 +91,13 @@ fn value<F: Evaluated>(turn: &mut Turn, words: &str, inputs: &str) -> Result<Str
     shown(alloc, &value?)
 }
 
-fn value_of<F: Evaluated>(
+fn value_of_words<F: Evaluated>(
     alloc: Global,
     words: &str,
     lists: &[CooMatrix<W64>],
 ) -> Result<F, ExprError> {
     let expr = Expr::from_words(alloc, words)?;
-    F::evaluated(alloc, &expr, lists)
+    F::value_of(alloc, &expr, lists)
 }
 
 // The lists of pictures.

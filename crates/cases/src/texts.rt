@@ -2,7 +2,7 @@
 
 use crate::text_scalars::{TextScalar, draw_value};
 use crate::text_values::{failure_of, valued};
-use crate::written::{Written, written};
+use crate::written::{Part, written};
 use case_words::failure::Failure;
 use case_words::lines::text_of;
 use case_words::turn::Turn;
@@ -54,9 +54,9 @@ fn answer<T: TextScalar>(turn: &mut Turn, form: &str, call: &str) -> Result<Stri
     match name {
         "read" => read::<T>(turn, FIRST, rest),
         "text" => read::<T>(turn, "", rest),
-        "write" => written::<T>(turn, Written::Below, form, rest),
-        "write-whole" => written::<T>(turn, Written::Whole, form, rest),
-        "write-list" => written::<T>(turn, Written::Below, "list", rest),
+        "write" => written::<T>(turn, Part::Below, form, rest),
+        "write-whole" => written::<T>(turn, Part::Whole, form, rest),
+        "write-list" => written::<T>(turn, Part::Below, "list", rest),
         "display-read" => shown_error::<T>(turn.alloc(), false, rest),
         "debug-read" => shown_error::<T>(turn.alloc(), true, rest),
         "error" => Err(failure_of(rest)),

@@ -17,7 +17,7 @@ use std::alloc::Global;
 
 /// What of a written text is shown.
 #[derive(Clone, Copy)]
-pub enum Written {
+pub enum Part {
     /// All lines.
     Whole,
     /// Those that `read` reads: without the first words, and without the comment line.
@@ -35,7 +35,7 @@ pub const ROOM: usize = 4096;
 /// Returns the text of the matrix of a picture, written as a list, by rows or by columns.
 pub fn written<T: TextScalar>(
     turn: &mut Turn,
-    part: Written,
+    part: Part,
     form: &str,
     picture: &str,
 ) -> Result<String, Failure> {
@@ -46,8 +46,8 @@ pub fn written<T: TextScalar>(
         _ => text_of_matrix::<T, CscMatrix<T>>(turn, &by_columns(alloc, picture)?)?,
     };
     match part {
-        Written::Whole => Ok(lines_of(alloc, text.as_str())?),
-        Written::Below => below(alloc, text.as_str()),
+        Part::Whole => Ok(lines_of(alloc, text.as_str())?),
+        Part::Below => below(alloc, text.as_str()),
     }
 }
 
