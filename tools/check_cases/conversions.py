@@ -1,7 +1,7 @@
 """Matrices as they are, transposed, in parts, in the other form, as lists and as dense matrices."""
 from .matrices import (
     INDEX_BYTES, Matrix, Triplets, allocate, dense, dense_of, drawn, drawn_arrays, drawn_list, list_of, matrix_of,
-    places, shown, shown_pattern, summed, truth, with_lanes, words_after,
+    places, shown, shown_pattern, summed, truth, words_after,
 )
 from .words import Picture, place_of, size_of
 
@@ -58,7 +58,7 @@ def converted(name, picture, over):
         case "upper" | "lower" | "diagonal":
             return shown(matrix.kept(KEPT[name]), over)
         case "turn":
-            return shown(with_lanes(matrix, over.other()), over)
+            return shown(matrix, over.other())
         case "transpose-as":
             return shown(matrix.transposed(), over.other())
         case "list":

@@ -167,9 +167,9 @@ def drawn(matrix, cell=str):
     """Returns the picture of a matrix, or its size where it has no rows or columns."""
     if 0 in matrix.size:
         return "[{}x{}]".format(*matrix.size)
-    rows = [[(row, col) for col in range(matrix.ncols)] for row in range(matrix.nrows)]
-    cells = [" ".join(cell(matrix.entries[place]) if place in matrix.entries else "." for place in row) for row in rows]
-    return "[" + " / ".join(cells) + "]"
+    cells = {place: cell(value) for place, value in matrix.entries.items()}
+    rows = [" ".join(cells.get((row, col), ".") for col in range(matrix.ncols)) for row in range(matrix.nrows)]
+    return "[" + " / ".join(rows) + "]"
 
 
 def drawn_list(triplets):

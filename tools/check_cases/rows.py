@@ -6,8 +6,6 @@ from .matrices import Over, list_of, shown, summed
 from .scalars import BY_NAME
 from .words import Picture, Refused, Unreadable, words_of
 
-# The forms and scalars of the rows before the first line `over`.
-FIRST_OVER = "rows columns W32 W64 W128"
 # What a picture of an answer has where one word stands for several triplets.
 SPANS = ("(*,", ",*)", "(even,", ",even)", "(odd,", ",odd)")
 
@@ -22,7 +20,7 @@ class Row(NamedTuple):
 
 def rows_of(path):
     """Returns the rows of a table."""
-    rows, over = [], FIRST_OVER
+    rows, over = [], ""
     with open(path, encoding="utf-8") as file:
         for number, line in enumerate(file, 1):
             text = "" if line.startswith("#") else line.split(" #")[0].strip()
@@ -39,7 +37,7 @@ def overs_of(text):
     forms = [name for name in names if name in ("rows", "columns")]
     scalars = [BY_NAME[name] for name in names if name in BY_NAME]
     if not forms or not scalars or len(forms) + len(scalars) != len(names):
-        raise Unreadable(f"is over something unknown: {text}")
+        raise Unreadable(f"is over nothing, or over something unknown: {text}")
     return [Over(form, scalar) for form in forms for scalar in scalars]
 
 

@@ -1,4 +1,4 @@
-"""Calls on Matrix Market texts. In a row `|` ends a line, and backslashes stand for characters that can't be seen."""
+"""Calls on Matrix Market texts. In a row `|` ends a line, and `\\s` and the like stand for blank characters."""
 import re
 
 from .market import meaning, written
@@ -7,7 +7,7 @@ from .scalars import TOO_SMALL, scalar_of
 from .words import Picture, Refused, Unreadable, words_of
 
 FIRST = "%%MatrixMarket matrix "
-ESCAPES = {"|": "\n", "\\r": "\r", "\\t": "\t", "\\f": "\f", "\\s": " "}
+ESCAPES = {"\\r": "\r", "\\n": "\n", "\\t": "\t", "\\f": "\f", "\\s": " "}
 # The errors that become errors of a text: a missing file's, the kind of a failed write, a word that is no number, a
 # number that a type does not have, and a place that is given twice.
 ERRORS = {
@@ -22,9 +22,8 @@ ERRORS = {
 
 def unescaped(text):
     """Returns the text that a row writes."""
-    for escape, character in ESCAPES.items():
-        text = text.replace(escape, character)
-    return text
+    text = re.sub(r" *\| *", "\n", text)
+    return re.sub(r"\\.", lambda found: ESCAPES.get(found[0], found[0]), text)
 
 
 def lines_of(text):
