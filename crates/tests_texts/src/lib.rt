@@ -5,6 +5,8 @@
 #[cfg(test)]
 mod expressions;
 #[cfg(test)]
+mod failing_writers;
+#[cfg(test)]
 mod files;
 #[cfg(test)]
 mod hostile;

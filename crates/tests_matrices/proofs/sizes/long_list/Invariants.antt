@@ -1,5 +1,5 @@
 use Rattle.std.proofs.Common.{◌≡◌}
-use Rattle.tests_operations.proofs.sizes.long_list.Given as goal
+use Rattle.tests_matrices.proofs.sizes.long_list.Given as goal
 
 abbrev pub invariant-loop-number : goal.invariant-loop-number
 invariant-loop-number l = (l.coo.nrows ≡ 3) × (l.coo.ncols ≡ 5)

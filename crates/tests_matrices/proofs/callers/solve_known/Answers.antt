@@ -1,6 +1,6 @@
 use Rattle.std.proofs.Common.{refl}
 use Rattle.sparse_coo_dense.specs.DensePlain.{plain_of_dense}
-use Rattle.tests_operations.proofs.solves.callers.solve_known.Goals as goal
+use Rattle.tests_matrices.proofs.callers.solve_known.Goals as goal
 
 pub returns : goal.returns
 returns g c = c.spsolve_csc_lower_triangular.ensures.above c.args.l.now

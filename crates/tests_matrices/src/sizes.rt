@@ -1,8 +1,6 @@
 //! Sizes at which a call could take too much time.
 
-use crate::matrices::{Arrays, are_equal, csr};
-use crate::pairs::{holds, holds_by_columns};
-use crate::scalars::are;
+use crate::fixtures::{Arrays, are, are_equal, holds, holds_by_columns, wrapping_csr};
 use sparse_algebra::operand::Op;
 use sparse_algebra::scalar::W64;
 use sparse_convert::serial::{convert_coo_csc, convert_coo_csr};
@@ -36,10 +34,10 @@ fn a_large_identity_is_squared_in_steps(rt: HostRuntime) {
 }
 
 // The rows `1 2` and `0 3`.
-const TRIANGLE: Arrays<'static> = (2, 2, &[0, 2, 3], &[0, 1, 1], &[1, 2, 3]);
+const TRIANGLE: Arrays<'static, i64> = (2, 2, &[0, 2, 3], &[0, 1, 1], &[1, 2, 3]);
 
 // Two long rows: 4 and 5 in columns 7 and 999, and 6 in column 7.
-const WIDE: Arrays<'static> = (2, 1000, &[0, 2, 3], &[7, 999, 7], &[4, 5, 6]);
+const WIDE: Arrays<'static, i64> = (2, 1000, &[0, 2, 3], &[7, 999, 7], &[4, 5, 6]);
 
 // Whether C = A B, computed by 2 C + 3 A B in counted steps, has the values of 5 A B.
 //
@@ -66,10 +64,10 @@ fn is_updated_in_steps(
 }
 
 fn wide_rows_are_updated_in_steps(alloc: Global) -> bool {
-    let Some(a) = csr(alloc, TRIANGLE) else {
+    let Some(a) = wrapping_csr(alloc, TRIANGLE) else {
         return false;
     };
-    match csr(alloc, WIDE) {
+    match wrapping_csr(alloc, WIDE) {
         Some(b) => matches!(is_updated_in_steps(alloc, &a, &b), Ok(true)),
         None => false,
     }

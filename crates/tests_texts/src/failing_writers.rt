@@ -1,4 +1,4 @@
-//! Failing writers: through `save_to_matrix_market`, and through `run`.
+//! Writers that fail after each number of bytes: through `save_to_matrix_market`, and through `run`.
 
 use nalgebra_sparse::CooMatrix;
 use nalgebra_sparse::expr::{Expr, ExprError, Form, run};
