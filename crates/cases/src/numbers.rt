@@ -1,6 +1,6 @@
 //! Arithmetic of scalars.
 
-use crate::lanes::number_text;
+use crate::vectors::number_text;
 use case_words::failure::Failure;
 use case_words::scalar::{Scalar, scalar_from};
 use case_words::turn::Turn;

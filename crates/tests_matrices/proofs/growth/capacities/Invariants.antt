@@ -1,5 +1,5 @@
 use Rattle.std.proofs.Common.{◌≡◌}
-use Rattle.tests_matrices.proofs.base.triplets.capacities.Given as goal
+use Rattle.tests_matrices.proofs.growth.capacities.Given as goal
 
 abbrev pub invariant-loop : goal.invariant-loop
 invariant-loop l = (l.matrix.nrows ≡ 1) × (l.matrix.ncols ≡ 1)

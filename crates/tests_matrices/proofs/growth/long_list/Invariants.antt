@@ -1,5 +1,5 @@
 use Rattle.std.proofs.Common.{◌≡◌}
-use Rattle.tests_matrices.proofs.base.triplets.long_list.Given as goal
+use Rattle.tests_matrices.proofs.growth.long_list.Given as goal
 
 abbrev pub invariant-loop-number : goal.invariant-loop-number
 invariant-loop-number l = (l.list.nrows ≡ 1) × (l.list.ncols ≡ 1)
