@@ -33,5 +33,6 @@ def displayed(call, over):
     try:
         answer(call, over)
     except Refused as error:
-        return f"Sparse matrix operation error: {error.kind} Message: {error.message}"
+        if error.message:
+            return f"Sparse matrix operation error: {error.kind} Message: {error.message}"
     raise Unreadable("there is no error to display")

@@ -1,16 +1,11 @@
 """Entries, rows, columns and triplets of compressed matrices, read and written."""
-from .matrices import matrix_of, shown, truth
+from .matrices import drawn_triplet, matrix_of, shown, truth
 from .words import Picture, Unreadable, index_of, place_of
 
 
 def or_none(words):
     """Returns words separated by spaces, or `none` if there is none."""
     return " ".join(words) or "none"
-
-
-def triplet(row, col, value):
-    """Returns a triplet as rows write it."""
-    return f"({row},{col})={value}"
 
 
 def entry(matrix, row, col):
@@ -73,7 +68,7 @@ def answer(words, over):
             doubled = {place: scalars.reduced(2 * value) for place, value in matrix.entries.items()}
             return shown(matrix.with_entries(doubled), over)
         case ["triplets", Picture() as a]:
-            return or_none(triplet(*found) for found in matrix_of(a, over).in_order(over))
+            return or_none(drawn_triplet(*found) for found in matrix_of(a, over).in_order(over))
         case ["row" | "column" | "rows" | "columns" as name, *rest]:
             return of_lanes(name, rest, over)
     return None

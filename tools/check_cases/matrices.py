@@ -172,10 +172,15 @@ def drawn(matrix, cell=str):
     return "[" + " / ".join(rows) + "]"
 
 
+def drawn_triplet(row, col, value):
+    """Returns a triplet as rows write it."""
+    return f"({row},{col})={value}"
+
+
 def drawn_list(triplets):
     """Returns a list as its size and its triplets."""
-    words = ["{}x{}".format(*triplets.size)] + [f"({row},{col})={value}" for row, col, value in triplets.triplets]
-    return "[" + " ".join(words) + "]"
+    words = [drawn_triplet(*triplet) for triplet in triplets.triplets]
+    return "[" + " ".join(["{}x{}".format(*triplets.size), *words]) + "]"
 
 
 def shown(matrix, over, cell=str):

@@ -88,9 +88,12 @@ def answer(words, over):
             return drawn(dense_product(scalars, matrix_of(a, over), dense_of(b, over)))
         case [Picture() as a, Picture() as b]:
             return shown(product(scalars, matrix_of(a, over), matrix_of(b, over)), over)
+        case [int(alpha), Picture() as a, "+", int(beta), Picture() as b]:
+            a, b = matrix_of(a, over), matrix_of(b, over)
+            return shown(combined(scalars, scalars.of(alpha), a, scalars.of(beta), b), over)
         case ["unchecked" | "counted", int(beta), Picture() as c, "+=", int(alpha), Picture() as a, Picture() as b]:
             return into(over, (scalars.of(beta), scalars.of(alpha)), c, [a, b])
-        case [int(beta), Picture() as c, "+" | "+=", int(alpha), *operands]:
+        case [int(beta), Picture() as c, "+=", int(alpha), *operands]:
             return into(over, (scalars.of(beta), scalars.of(alpha)), c, operands)
         case ["pattern", Picture() as a, "+", Picture() as b]:
             return shown_pattern(combined(scalars, 1, matrix_of(a, over), 1, matrix_of(b, over)), over)

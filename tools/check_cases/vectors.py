@@ -1,15 +1,15 @@
 """Products of a lane and a dense vector: of a row by rows, and of a column by columns. A sparse vector is a list."""
+from .entries import lane
 from .matrices import dense_of, drawn, list_of, matrix_of
 from .words import Picture, index_of, misfit
 
 
 def lane_of(index, matrix, over):
     """Returns the indices and values of a lane, and its length."""
-    count, length = over.lane(matrix.size)
-    if count <= index:
+    found = lane(matrix, index, over)
+    if found is None:
         raise misfit()
-    lanes = [(*over.lane(place), value) for place, value in matrix.entries.items()]
-    return [(at, value) for lane, at, value in lanes if lane == index], length
+    return list(found[0].items()), found[1]
 
 
 def sparse_vector(picture, over):
@@ -19,22 +19,22 @@ def sparse_vector(picture, over):
 
 
 def vector_of(picture, over):
-    """Returns the values of a dense matrix, column after column."""
+    """Returns a dense matrix, and its places column after column."""
     matrix = dense_of(picture, over)
     return matrix, sorted(matrix.entries, key=lambda place: place[::-1])
 
 
-def dot(lane, picture, over):
+def dot(sparse, picture, over):
     """Returns the dot product of a sparse and a dense vector."""
-    (entries, length), (vector, order) = lane, vector_of(picture, over)
+    (entries, length), (vector, order) = sparse, vector_of(picture, over)
     if length != len(order):
         raise misfit()
     return str(over.scalars.reduced(sum(value * vector.entries[order[index]] for index, value in entries)))
 
 
-def axpy(factor, lane, picture, over):
+def axpy(factor, sparse, picture, over):
     """Returns a dense vector after a multiple of a sparse one is added."""
-    (entries, length), (vector, order) = lane, vector_of(picture, over)
+    (entries, length), (vector, order) = sparse, vector_of(picture, over)
     if length != len(order):
         raise misfit()
     after = dict(vector.entries)
