@@ -93,17 +93,17 @@ def function_at(crate, path, lines, start, names):
         return "::".join([*module, function])
     block = max((it for it in range(start) if BLOCK.match(lines[it])), default=None)
     header = re.split(r"\{| where ", " ".join(lines[block : start + 1]))[0] if block is not None else ""
-    words = re.findall(r"\w+(?!\w*::)", GENERICS.sub("", header))
-    words = {it[0].upper() + it[1:] for it in words if it not in ("for", "mut")}
+    header = GENERICS.sub("", header).replace("()", "Unit").replace("&", "Ref ")
+    words = {it[0].upper() + it[1:] for it in re.findall(r"\w+", header) if it not in ("for", "mut")}
 
     def distance(name):
         # `impl From<A> for B` is BFromA; a type's own functions stand below the module of the type
         *above, owner, _ = name.split("::")
-        for word in sorted(words, key=len, reverse=True):
-            owner = owner.replace(word, "", 1)
-        return len(owner), -len(os.path.commonprefix([above, module]))
+        rest = re.sub("|".join([r"Tuple\d+|\+", *sorted(words, key=len, reverse=True)]), "", owner)
+        return rest, sum(it not in owner for it in words), -len(os.path.commonprefix([above, module]))
 
-    fits = sorted((distance(it), it) for it in names if it.endswith(f"::{function}") and it.count("::") > 1)
+    fits = [(distance(it), it) for it in names if it.endswith(f"::{function}") and it.count("::") > 1]
+    fits = sorted(it for it in fits if not it[0][0])
     is_one = len(fits) == 1 or len(fits) > 1 and fits[0][0] < fits[1][0]
     return fits[0][1] if is_one else None
 
