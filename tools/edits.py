@@ -171,6 +171,8 @@ class Workshop:
         rt.Crate.allowed, rt.Crate.cuts_libraries = rt.handles_of(room), True
         self.crates, self.ready = {it.name: it for it in rt.crates_of(room)}, set()
         needed = set().union(*(self.needed(it) for it in names))
+        # (kit 13b keeps no libraries but these)
+        libs = libs or ("." if not hasattr(rt, "Kept") else None)
         kept = None if libs else rt.Kept([*self.crates.values()])
         for crate in (it for name, it in self.crates.items() if name in needed):
             if libs and os.path.isdir(f"{libs}/crates/{crate.name}/out"):
