@@ -93,17 +93,17 @@ def function_at(crate, path, lines, start, names):
         return "::".join([*module, function])
     block = max((it for it in range(start) if BLOCK.match(lines[it])), default=None)
     header = re.split(r"\{| where ", " ".join(lines[block : start + 1]))[0] if block is not None else ""
-    words = re.findall(r"\w+(?!\w*::)", GENERICS.sub("", header))
-    words = {it[0].upper() + it[1:] for it in words if it not in ("for", "mut")}
+    header = GENERICS.sub("", header).replace("()", "Unit").replace("&", "Ref ")
+    words = {it[0].upper() + it[1:] for it in re.findall(r"\w+", header) if it not in ("for", "mut")}
 
     def distance(name):
         # `impl From<A> for B` is BFromA; a type's own functions stand below the module of the type
         *above, owner, _ = name.split("::")
-        for word in sorted(words, key=len, reverse=True):
-            owner = owner.replace(word, "", 1)
-        return len(owner), -len(os.path.commonprefix([above, module]))
+        rest = re.sub("|".join([r"Tuple\d+|\+", *sorted(words, key=len, reverse=True)]), "", owner)
+        return rest, sum(it not in owner for it in words), -len(os.path.commonprefix([above, module]))
 
-    fits = sorted((distance(it), it) for it in names if it.endswith(f"::{function}") and it.count("::") > 1)
+    fits = [(distance(it), it) for it in names if it.endswith(f"::{function}") and it.count("::") > 1]
+    fits = sorted(it for it in fits if not it[0][0])
     is_one = len(fits) == 1 or len(fits) > 1 and fits[0][0] < fits[1][0]
     return fits[0][1] if is_one else None
 
@@ -157,10 +157,10 @@ def recorded(crate):
 
 
 class Workshop:
-    """A copy of the crates in a folder, each with its library: as `rt ci` keeps it of the same sources, or as it stands
-    in libs/crates/NAME/out."""
+    """A copy of the crates in a folder. Those that a trial of some crates needs have their libraries: as `rt ci` keeps
+    them of the same sources, or as they stand in libs/crates/NAME/out."""
 
-    def __init__(self, room, libs=None):
+    def __init__(self, room, names, libs=None):
         for path in glob.glob("crates.txt") + glob.glob("HANDLES"):
             shutil.copyfile(path, f"{room}/{path}")
         for path in glob.glob("crates/*/*"):
@@ -170,18 +170,21 @@ class Workshop:
         os.mkdir(f"{room}/.git")
         rt.Crate.allowed, rt.Crate.cuts_libraries = rt.handles_of(room), True
         self.crates, self.ready = {it.name: it for it in rt.crates_of(room)}, set()
+        needed = set().union(*(self.needed(it) for it in names))
+        # (kit 13b keeps no libraries but these)
+        libs = libs or ("." if not hasattr(rt, "Kept") else None)
         kept = None if libs else rt.Kept([*self.crates.values()])
-        for name, crate in self.crates.items():
-            if libs and os.path.isdir(f"{libs}/crates/{name}/out"):
-                os.symlink(os.path.abspath(f"{libs}/crates/{name}/out"), f"{crate.folder}/out")
-                self.ready.add(name)
+        for crate in (it for name, it in self.crates.items() if name in needed):
+            if libs and os.path.isdir(f"{libs}/crates/{crate.name}/out"):
+                os.symlink(os.path.abspath(f"{libs}/crates/{crate.name}/out"), f"{crate.folder}/out")
+                self.ready.add(crate.name)
             elif kept and kept.give(crate, False, kept.key(crate)):
                 kept.is_built(crate)
-                self.ready.add(name)
+                self.ready.add(crate.name)
 
-    def lacking(self, name):
-        """Returns the crates that a trial of a crate needs, and that are not proved as they stand."""
-        return {it.name for it in [*self.crates[name].below(), self.crates[name]]} - self.ready
+    def needed(self, name):
+        """Returns the names of the crates that a trial of a crate needs proved: those below it, and itself."""
+        return {it.name for it in [*self.crates[name].below(), self.crates[name]]}
 
     def names(self, name):
         """Returns the names of a crate's functions in a check, or none for a static library."""
