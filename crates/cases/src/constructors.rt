@@ -1,7 +1,7 @@
 //! Calls that make matrices of arrays and of parts, view them, filter them, and read and write JSON.
 
 use crate::arrays::{coo, csc, csr, unsorted};
-use crate::filters::{Filters, kept};
+use crate::filters::{Filters, keep};
 use crate::json::{from_json, to_json};
 use crate::made::{Made, identity, joined_parts, taken_apart, zeros};
 use crate::views::{Views, view};
@@ -53,7 +53,7 @@ fn of_words<T: Scalar, F: Constructors<T>>(
     match *words {
         [Word::Name(size)] if keyword == "zeros" => zeros::<T, F>(turn, size),
         [Word::Number(order)] if keyword == "identity" => identity::<T, F>(turn, order),
-        [Word::Name(which), Word::Matrix(a)] if keyword == "keep" => kept::<T, F>(turn, which, a),
+        [Word::Name(which), Word::Matrix(a)] if keyword == "keep" => keep::<T, F>(turn, which, a),
         [Word::Name(kind), Word::Matrix(a)] if keyword == "to-json" => to_json(turn, kind, a),
         [Word::Matrix(a), Word::Name("values"), ref values @ ..] if keyword == "join" => {
             joined_parts::<T, F>(turn, a, values)

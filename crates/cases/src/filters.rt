@@ -66,7 +66,7 @@ impl<T: Scalar> Filters<T> for CscMatrix<T> {
 }
 
 /// Returns the answer of `keep WHICH A`.
-pub fn kept<T: Scalar, F: Filters<T>>(
+pub fn keep<T: Scalar, F: Filters<T>>(
     turn: &mut Turn,
     which: &str,
     a: Op<&str>,
