@@ -2,8 +2,8 @@
 #![tactic(auto)]
 
 mod answer;
-mod checksum;
 mod dense;
+mod input;
 mod measure;
 mod symmetric;
 mod task;
@@ -20,10 +20,14 @@ fn main(rt: HostRuntime) -> Result<(), Fail> {
     for word in env::args(&rt)?.skip(1) {
         words.push(word)?;
     }
-    match words.as_slice() {
-        [] => Ok(println!(rt; "{USAGE}")?),
-        [task, path, reps] => print_best(&rt, task.as_str(), path.as_str(), reps.as_str()),
-        _ => Err(Fail::from(USAGE)),
+    obey(&rt, &words)
+}
+
+// Does what the words after the program's name say.
+fn obey(rt: &HostRuntime, words: &[String]) -> Result<(), Fail> {
+    match words {
+        [task, path, reps] => print_best(rt, task.as_str(), path.as_str(), reps.as_str()),
+        _ => Ok(println!(rt; "{USAGE}")?),
     }
 }
 

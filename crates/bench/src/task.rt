@@ -2,6 +2,8 @@
 
 use crate::answer::Answer;
 use crate::dense::dense_matrix;
+use crate::input::{columns_of, rows_of};
+use crate::symmetric::with_odd_pivots;
 use nalgebra_sparse::convert::serial::convert_coo_csr;
 use nalgebra_sparse::dense::DMatrix;
 use nalgebra_sparse::factorization::CscSymbolicCholesky;
@@ -11,11 +13,11 @@ use nalgebra_sparse::ops::Op;
 use nalgebra_sparse::ops::serial::{
     add_csc, add_csr, mul_csr, spmm_csr_dense, spsolve_csc_lower_triangular,
 };
+use nalgebra_sparse::pattern::SparsityPattern;
 use nalgebra_sparse::scalar::W64;
 use nalgebra_sparse::{CooMatrix, CscMatrix, CsrMatrix};
 use std::alloc::Global;
 use std::test::Fail;
-use std::time::Instant;
 
 // How many columns are solved for at once.
 const SOLVED_COLUMNS: usize = 4;
@@ -27,44 +29,96 @@ const MISFIT: &str = "the matrix is not square";
 
 /// A kernel of the library, with what it works on.
 pub trait Task: Drop {
-    /// Runs the kernel once. Returns when it began, which is after what it uses up was copied, and its answer.
-    fn run(&self, rt: &HostRuntime) -> Result<(Instant, Answer), Fail>;
+    /// What a run uses up.
+    type Copy: Drop;
+
+    type Answer: Answer;
+
+    /// Returns a copy of what a run uses up.
+    fn copy(&self, alloc: Global) -> Result<Self::Copy, Fail>;
+
+    /// Runs the kernel once.
+    fn run(&self, alloc: Global, copy: Self::Copy) -> Result<Self::Answer, Fail>;
+}
+
+/// A task on a matrix.
+pub trait FromList: Task {
+    fn from_list(alloc: Global, list: CooMatrix<W64>) -> Result<Self, Fail>;
 }
 
 /// A list of triplets to rows.
 #[derive(Drop)]
-pub struct Compress(pub CooMatrix<W64>);
+pub struct Compress(CooMatrix<W64>);
+
+impl FromList for Compress {
+    fn from_list(_alloc: Global, list: CooMatrix<W64>) -> Result<Compress, Fail> {
+        Ok(Compress(list))
+    }
+}
 
 impl Task for Compress {
-    fn run(&self, rt: &HostRuntime) -> Result<(Instant, Answer), Fail> {
-        let start = Instant::now(rt)?;
-        Ok((start, Answer::Rows(convert_coo_csr(rt.alloc(), &self.0)?)))
+    type Copy = ();
+
+    type Answer = CsrMatrix<W64>;
+
+    fn copy(&self, _alloc: Global) -> Result<(), Fail> {
+        Ok(())
+    }
+
+    fn run(&self, alloc: Global, _copy: ()) -> Result<CsrMatrix<W64>, Fail> {
+        Ok(convert_coo_csr(alloc, &self.0)?)
     }
 }
 
 /// The transpose of rows.
 #[derive(Drop)]
-pub struct Transpose(pub CsrMatrix<W64>);
+pub struct Transpose(CsrMatrix<W64>);
+
+impl FromList for Transpose {
+    fn from_list(alloc: Global, list: CooMatrix<W64>) -> Result<Transpose, Fail> {
+        Ok(Transpose(rows_of(alloc, list)?))
+    }
+}
 
 impl Task for Transpose {
-    fn run(&self, rt: &HostRuntime) -> Result<(Instant, Answer), Fail> {
-        let start = Instant::now(rt)?;
-        Ok((start, Answer::Rows(self.0.transpose(rt.alloc())?)))
+    type Copy = ();
+
+    type Answer = CsrMatrix<W64>;
+
+    fn copy(&self, _alloc: Global) -> Result<(), Fail> {
+        Ok(())
+    }
+
+    fn run(&self, alloc: Global, _copy: ()) -> Result<CsrMatrix<W64>, Fail> {
+        Ok(self.0.transpose(alloc)?)
     }
 }
 
 /// The product of a square matrix with itself.
 #[derive(Drop)]
-pub struct Square(pub CsrMatrix<W64>);
+pub struct Square(CsrMatrix<W64>);
+
+impl FromList for Square {
+    fn from_list(alloc: Global, list: CooMatrix<W64>) -> Result<Square, Fail> {
+        Ok(Square(rows_of(alloc, list)?))
+    }
+}
 
 impl Task for Square {
-    fn run(&self, rt: &HostRuntime) -> Result<(Instant, Answer), Fail> {
+    type Copy = ();
+
+    type Answer = CsrMatrix<W64>;
+
+    fn copy(&self, _alloc: Global) -> Result<(), Fail> {
+        Ok(())
+    }
+
+    fn run(&self, alloc: Global, _copy: ()) -> Result<CsrMatrix<W64>, Fail> {
         let matrix = &self.0;
         if matrix.nrows() != matrix.ncols() {
             return Err(Fail::from(MISFIT));
         }
-        let start = Instant::now(rt)?;
-        Ok((start, Answer::Rows(mul_csr(rt.alloc(), matrix, matrix)?)))
+        Ok(mul_csr(alloc, matrix, matrix)?)
     }
 }
 
@@ -72,21 +126,29 @@ impl Task for Square {
 #[derive(Drop)]
 pub struct Add(CsrMatrix<W64>, CsrMatrix<W64>);
 
-impl Add {
-    pub fn new(alloc: Global, matrix: CsrMatrix<W64>) -> Result<Add, Fail> {
+impl FromList for Add {
+    fn from_list(alloc: Global, list: CooMatrix<W64>) -> Result<Add, Fail> {
+        let matrix = rows_of(alloc, list)?;
         let transposed = matrix.transpose(alloc)?;
         Ok(Add(matrix, transposed))
     }
 }
 
 impl Task for Add {
-    fn run(&self, rt: &HostRuntime) -> Result<(Instant, Answer), Fail> {
+    type Copy = ();
+
+    type Answer = CsrMatrix<W64>;
+
+    fn copy(&self, _alloc: Global) -> Result<(), Fail> {
+        Ok(())
+    }
+
+    fn run(&self, alloc: Global, _copy: ()) -> Result<CsrMatrix<W64>, Fail> {
         let (a, b) = (&self.0, &self.1);
         if a.nrows() != b.nrows() || a.ncols() != b.ncols() {
             return Err(Fail::from(MISFIT));
         }
-        let start = Instant::now(rt)?;
-        Ok((start, Answer::Rows(add_csr(rt.alloc(), a, b)?)))
+        Ok(add_csr(alloc, a, b)?)
     }
 }
 
@@ -94,24 +156,30 @@ impl Task for Add {
 #[derive(Drop)]
 pub struct Multiply(CsrMatrix<W64>, DMatrix<W64>);
 
-impl Multiply {
-    pub fn new(alloc: Global, matrix: CsrMatrix<W64>) -> Result<Multiply, Fail> {
-        let factor = dense_matrix(alloc, matrix.ncols(), FACTOR_COLUMNS)?;
-        Ok(Multiply(matrix, factor))
+impl FromList for Multiply {
+    fn from_list(alloc: Global, list: CooMatrix<W64>) -> Result<Multiply, Fail> {
+        let factor = dense_matrix(alloc, list.ncols(), FACTOR_COLUMNS)?;
+        Ok(Multiply(rows_of(alloc, list)?, factor))
     }
 }
 
 impl Task for Multiply {
-    fn run(&self, rt: &HostRuntime) -> Result<(Instant, Answer), Fail> {
-        let (matrix, factor) = (&self.0, &self.1);
-        if matrix.ncols() != factor.nrows() {
+    type Copy = DMatrix<W64>;
+
+    type Answer = DMatrix<W64>;
+
+    fn copy(&self, alloc: Global) -> Result<DMatrix<W64>, Fail> {
+        Ok(DMatrix::repeat(alloc, self.0.nrows(), self.1.ncols(), W64::new(1))?)
+    }
+
+    fn run(&self, _alloc: Global, mut product: DMatrix<W64>) -> Result<DMatrix<W64>, Fail> {
+        let (a, b) = (&self.0, &self.1);
+        let (zero, one) = (W64::new(0), W64::new(1));
+        if a.ncols() != b.nrows() || product.nrows() != a.nrows() || product.ncols() != b.ncols() {
             return Err(Fail::from(MISFIT));
         }
-        let (zero, one) = (W64::new(0), W64::new(1));
-        let mut product = DMatrix::repeat(rt.alloc(), matrix.nrows(), factor.ncols(), one)?;
-        let start = Instant::now(rt)?;
-        spmm_csr_dense(zero, &mut product, one, Op::NoOp(matrix), Op::NoOp(factor));
-        Ok((start, Answer::Dense(product)))
+        spmm_csr_dense(zero, &mut product, one, Op::NoOp(a), Op::NoOp(b));
+        Ok(product)
     }
 }
 
@@ -119,65 +187,98 @@ impl Task for Multiply {
 #[derive(Drop)]
 pub struct Solve(CscMatrix<W64>, DMatrix<W64>);
 
-impl Solve {
-    pub fn new(alloc: Global, matrix: &CscMatrix<W64>) -> Result<Solve, Fail> {
-        let lower = unit_lower(alloc, matrix)?;
-        let right_sides = dense_matrix(alloc, matrix.nrows(), SOLVED_COLUMNS)?;
-        Ok(Solve(lower, right_sides))
+impl FromList for Solve {
+    fn from_list(alloc: Global, list: CooMatrix<W64>) -> Result<Solve, Fail> {
+        let right_sides = dense_matrix(alloc, list.nrows(), SOLVED_COLUMNS)?;
+        Ok(Solve(unit_lower(alloc, columns_of(alloc, list)?)?, right_sides))
     }
 }
 
 // The places of a square matrix below the diagonal, and ones on it.
-fn unit_lower(alloc: Global, matrix: &CscMatrix<W64>) -> Result<CscMatrix<W64>, Fail> {
+fn unit_lower(alloc: Global, matrix: CscMatrix<W64>) -> Result<CscMatrix<W64>, Fail> {
     let below = matrix.filter(alloc, |i, j, _value| i > j)?;
-    let ones: CscMatrix<W64> = CscMatrix::identity(alloc, matrix.nrows())?;
-    if below.nrows() != ones.nrows() || below.ncols() != ones.ncols() {
+    let ones: CscMatrix<W64> = CscMatrix::identity(alloc, below.nrows())?;
+    sum(alloc, &below, &ones)
+}
+
+fn sum(alloc: Global, a: &CscMatrix<W64>, b: &CscMatrix<W64>) -> Result<CscMatrix<W64>, Fail> {
+    if a.nrows() != b.nrows() || a.ncols() != b.ncols() {
         return Err(Fail::from(MISFIT));
     }
-    Ok(add_csc(alloc, &below, &ones)?)
+    Ok(add_csc(alloc, a, b)?)
 }
 
 impl Task for Solve {
-    fn run(&self, rt: &HostRuntime) -> Result<(Instant, Answer), Fail> {
+    type Copy = DMatrix<W64>;
+
+    type Answer = DMatrix<W64>;
+
+    fn copy(&self, alloc: Global) -> Result<DMatrix<W64>, Fail> {
+        Ok(self.1.clone(alloc)?)
+    }
+
+    fn run(&self, _alloc: Global, mut x: DMatrix<W64>) -> Result<DMatrix<W64>, Fail> {
         let lower = &self.0;
-        let mut x = self.1.clone(rt.alloc())?;
         if lower.nrows() != lower.ncols() || x.nrows() != lower.ncols() {
             return Err(Fail::from(MISFIT));
         }
-        let start = Instant::now(rt)?;
         spsolve_csc_lower_triangular(Op::NoOp(lower), &mut x)?;
-        Ok((start, Answer::Dense(x)))
+        Ok(x)
     }
 }
 
 /// The pattern of the Cholesky factor.
 #[derive(Drop)]
-pub struct Fill(pub CscMatrix<W64>);
+pub struct Fill(CscMatrix<W64>);
+
+impl FromList for Fill {
+    fn from_list(alloc: Global, list: CooMatrix<W64>) -> Result<Fill, Fail> {
+        Ok(Fill(columns_of(alloc, list)?))
+    }
+}
 
 impl Task for Fill {
-    fn run(&self, rt: &HostRuntime) -> Result<(Instant, Answer), Fail> {
-        let pattern = self.0.pattern().clone(rt.alloc())?;
+    type Copy = SparsityPattern;
+
+    type Answer = CscSymbolicCholesky;
+
+    fn copy(&self, alloc: Global) -> Result<SparsityPattern, Fail> {
+        Ok(self.0.pattern().clone(alloc)?)
+    }
+
+    fn run(&self, alloc: Global, pattern: SparsityPattern) -> Result<CscSymbolicCholesky, Fail> {
         if pattern.major_dim() != pattern.minor_dim() {
             return Err(Fail::from(MISFIT));
         }
-        let start = Instant::now(rt)?;
-        let factor = CscSymbolicCholesky::factor(rt.alloc(), pattern)?;
-        Ok((start, Answer::Factor(factor)))
+        Ok(CscSymbolicCholesky::factor(alloc, pattern)?)
     }
 }
 
 /// The exact factors of a symmetric matrix, with their pattern.
 #[derive(Drop)]
-pub struct Factor(pub CscMatrix<W64>);
+pub struct Factor(CscMatrix<W64>);
+
+impl FromList for Factor {
+    fn from_list(alloc: Global, list: CooMatrix<W64>) -> Result<Factor, Fail> {
+        Ok(Factor(with_odd_pivots(columns_of(alloc, list)?)))
+    }
+}
 
 impl Task for Factor {
-    fn run(&self, rt: &HostRuntime) -> Result<(Instant, Answer), Fail> {
+    type Copy = ();
+
+    type Answer = Ldl<W64>;
+
+    fn copy(&self, _alloc: Global) -> Result<(), Fail> {
+        Ok(())
+    }
+
+    fn run(&self, alloc: Global, _copy: ()) -> Result<Ldl<W64>, Fail> {
         let matrix = &self.0;
         if matrix.nrows() != matrix.ncols() {
             return Err(Fail::from(MISFIT));
         }
-        let start = Instant::now(rt)?;
-        Ok((start, Answer::Exact(Ldl::factor(rt.alloc(), matrix)?)))
+        Ok(Ldl::factor(alloc, matrix)?)
     }
 }
 
@@ -186,12 +287,16 @@ impl Task for Factor {
 pub struct Places<'a>(pub &'a str);
 
 impl<'a> Task for Places<'a> {
-    fn run(&self, rt: &HostRuntime) -> Result<(Instant, Answer), Fail> {
-        let start = Instant::now(rt)?;
-        Ok((
-            start,
-            Answer::Places(load_coo_from_matrix_market_str(rt.alloc(), self.0)?),
-        ))
+    type Copy = ();
+
+    type Answer = CooMatrix<()>;
+
+    fn copy(&self, _alloc: Global) -> Result<(), Fail> {
+        Ok(())
+    }
+
+    fn run(&self, alloc: Global, _copy: ()) -> Result<CooMatrix<()>, Fail> {
+        Ok(load_coo_from_matrix_market_str(alloc, self.0)?)
     }
 }
 
@@ -200,11 +305,15 @@ impl<'a> Task for Places<'a> {
 pub struct Integers<'a>(pub &'a str);
 
 impl<'a> Task for Integers<'a> {
-    fn run(&self, rt: &HostRuntime) -> Result<(Instant, Answer), Fail> {
-        let start = Instant::now(rt)?;
-        Ok((
-            start,
-            Answer::List(load_coo_from_matrix_market_str(rt.alloc(), self.0)?),
-        ))
+    type Copy = ();
+
+    type Answer = CooMatrix<W64>;
+
+    fn copy(&self, _alloc: Global) -> Result<(), Fail> {
+        Ok(())
+    }
+
+    fn run(&self, alloc: Global, _copy: ()) -> Result<CooMatrix<W64>, Fail> {
+        Ok(load_coo_from_matrix_market_str(alloc, self.0)?)
     }
 }
