@@ -105,17 +105,22 @@ fn fault_in(
     wanted: &str,
 ) -> Result<Option<String>, AllocError> {
     for scalar in over.split_whitespace() {
-        let mut turn = Turn::new(alloc, 0, 0);
-        match answer_over(&mut turn, (scalar, form), call, wanted)? {
-            Some(Answer { text, fits: false }) => {
-                return Ok(Some(format!(in alloc;
-                    "expected {wanted}\n  got      {text} ({scalar} by {form})"
-                )?));
-            }
-            _ => {}
+        let answer = answer_over(&mut Turn::new(alloc, 0, 0), (scalar, form), call, wanted)?;
+        if let Some(got) = unfit(&answer) {
+            return Ok(Some(format!(in alloc;
+                "expected {wanted}\n  got      {got} ({scalar} by {form})"
+            )?));
         }
     }
     Ok(None)
+}
+
+// The text of an answer that is not the wanted one.
+fn unfit(answer: &Option<Answer>) -> Option<&str> {
+    match answer {
+        Some(answer) if !answer.fits => Some(answer.text.as_str()),
+        _ => None,
+    }
 }
 
 /// Runs the rows of a table with these numbers of idle requests. Prints whether the answer is that of the row, or it,
@@ -155,11 +160,12 @@ fn print_refused(
     answer: Option<Answer>,
     refused: Option<usize>,
 ) -> io::Result<()> {
-    match answer {
-        Some(Answer { fits: true, .. }) => println!(rt; "passed")?,
-        Some(Answer { text, .. }) => println!(rt; "{text}")?,
-        None => println!(rt; "is over something unknown")?,
-    }
+    let shown = match &answer {
+        Some(answer) if answer.fits => "passed",
+        Some(answer) => answer.text.as_str(),
+        None => "is over something unknown",
+    };
+    println!(rt; "{shown}")?;
     match refused {
         Some(number) => println!(rt; "idle {number}"),
         None => Ok(()),
