@@ -10,7 +10,7 @@ use nalgebra_sparse::ops::Op;
 use nalgebra_sparse::pattern::SparsityPattern;
 use nalgebra_sparse::scalar::W32;
 use nalgebra_sparse::{CooMatrix, CscMatrix, CsrMatrix};
-use serde::{Deserialize, Serialize};
+use serde::Serialize;
 use std::alloc::{AllocError, Global};
 
 /// Returns the answer of `from-json coo TEXT`, `from-json csr TEXT`, `from-json csc TEXT` or `from-json pattern TEXT`.
@@ -69,24 +69,29 @@ fn pattern_from(turn: &mut Turn, text: &str) -> Result<String, Failure> {
 }
 
 fn read_list(alloc: Global, text: &str) -> Result<CooMatrix<i32>, Failure> {
-    Ok(CooMatrix::try_from_data(read::<CooData<i32>>(alloc, text)?)?)
+    match serde_json::from_str::<CooData<i32>>(alloc, text) {
+        Ok(data) => Ok(CooMatrix::try_from_data(data)?),
+        Err(error) => Err(failure_of(&error)),
+    }
 }
 
 fn read_rows(alloc: Global, text: &str) -> Result<CsrMatrix<i32>, Failure> {
-    Ok(CsrMatrix::try_from_data(read::<CsrData<i32>>(alloc, text)?)?)
+    match serde_json::from_str::<CsrData<i32>>(alloc, text) {
+        Ok(data) => Ok(CsrMatrix::try_from_data(data)?),
+        Err(error) => Err(failure_of(&error)),
+    }
 }
 
 fn read_columns(alloc: Global, text: &str) -> Result<CscMatrix<i32>, Failure> {
-    Ok(CscMatrix::try_from_data(read::<CscData<i32>>(alloc, text)?)?)
+    match serde_json::from_str::<CscData<i32>>(alloc, text) {
+        Ok(data) => Ok(CscMatrix::try_from_data(data)?),
+        Err(error) => Err(failure_of(&error)),
+    }
 }
 
 fn read_pattern(alloc: Global, text: &str) -> Result<SparsityPattern, Failure> {
-    Ok(SparsityPattern::try_from_data(read::<PatternData>(alloc, text)?)?)
-}
-
-fn read<'de, D: Deserialize<'de>>(alloc: Global, text: &'de str) -> Result<D, Failure> {
-    match serde_json::from_str(alloc, text) {
-        Ok(data) => Ok(data),
+    match serde_json::from_str::<PatternData>(alloc, text) {
+        Ok(data) => Ok(SparsityPattern::try_from_data(data)?),
         Err(error) => Err(failure_of(&error)),
     }
 }
