@@ -139,13 +139,14 @@ fn read_mut<T: Scalar>(entry: SparseEntryMut<'_, T>) -> Entry<T> {
 }
 
 fn replaced<T: Scalar>(entry: Option<SparseEntryMut<'_, T>>, value: T) -> Entry<T> {
-    match entry? {
-        SparseEntryMut::NonZero(borrowed) => {
+    match entry {
+        Some(SparseEntryMut::NonZero(borrowed)) => {
             let old = *borrowed;
             *borrowed = value;
             Some((old, true))
         }
-        SparseEntryMut::Zero => Some((T::zero(), false)),
+        Some(SparseEntryMut::Zero) => Some((T::zero(), false)),
+        None => None,
     }
 }
 
