@@ -69,18 +69,18 @@ impl<T: Scalar> Entries<T> for CsrMatrix<T> {
     fn replace(&mut self, way: Way, (row, col): (usize, usize), value: T) -> Entry<T> {
         match way {
             Way::Index if row < self.nrows() && col < self.ncols() => {
-                replaced(Some(self.index_entry_mut(row, col)), value)
+                replaced(self.index_entry_mut(row, col), value)
             }
             Way::Lane if row < self.nrows() => {
-                replaced(self.row_mut(row).get_entry_mut(col), value)
+                replaced(self.row_mut(row).get_entry_mut(col)?, value)
             }
-            Way::GetLane => replaced(self.get_row_mut(row)?.get_entry_mut(col), value),
+            Way::GetLane => replaced(self.get_row_mut(row)?.get_entry_mut(col)?, value),
             Way::Slices if row < self.nrows() && col < self.ncols() => {
                 let mut lane = self.row_mut(row);
                 let (indices, values) = lane.cols_and_values_mut();
                 replaced_at(indices, values, col, value)
             }
-            _ => replaced(self.get_entry_mut(row, col), value),
+            _ => replaced(self.get_entry_mut(row, col)?, value),
         }
     }
 }
@@ -111,18 +111,18 @@ impl<T: Scalar> Entries<T> for CscMatrix<T> {
     fn replace(&mut self, way: Way, (row, col): (usize, usize), value: T) -> Entry<T> {
         match way {
             Way::Index if row < self.nrows() && col < self.ncols() => {
-                replaced(Some(self.index_entry_mut(row, col)), value)
+                replaced(self.index_entry_mut(row, col), value)
             }
             Way::Lane if col < self.ncols() => {
-                replaced(self.col_mut(col).get_entry_mut(row), value)
+                replaced(self.col_mut(col).get_entry_mut(row)?, value)
             }
-            Way::GetLane => replaced(self.get_col_mut(col)?.get_entry_mut(row), value),
+            Way::GetLane => replaced(self.get_col_mut(col)?.get_entry_mut(row)?, value),
             Way::Slices if row < self.nrows() && col < self.ncols() => {
                 let mut lane = self.col_mut(col);
                 let (indices, values) = lane.rows_and_values_mut();
                 replaced_at(indices, values, row, value)
             }
-            _ => replaced(self.get_entry_mut(row, col), value),
+            _ => replaced(self.get_entry_mut(row, col)?, value),
         }
     }
 }
@@ -138,15 +138,14 @@ fn read_mut<T: Scalar>(entry: SparseEntryMut<'_, T>) -> Entry<T> {
     Some((entry.into_value(), stored))
 }
 
-fn replaced<T: Scalar>(entry: Option<SparseEntryMut<'_, T>>, value: T) -> Entry<T> {
+fn replaced<T: Scalar>(entry: SparseEntryMut<'_, T>, value: T) -> Entry<T> {
     match entry {
-        Some(SparseEntryMut::NonZero(borrowed)) => {
+        SparseEntryMut::NonZero(borrowed) => {
             let old = *borrowed;
             *borrowed = value;
             Some((old, true))
         }
-        Some(SparseEntryMut::Zero) => Some((T::zero(), false)),
-        None => None,
+        SparseEntryMut::Zero => Some((T::zero(), false)),
     }
 }
 

@@ -1,5 +1,5 @@
 use Rattle.std.proofs.Common.{refl}
-use Rattle.refusals.proofs.updates.covers_columns.Goals as goal
+use Rattle.cases.proofs.unchecked.covers_columns.Goals as goal
 
 -- a copy has the places of the matrix
 pub returns-in-Ok-spmm_csc_prealloc : goal.returns-in-Ok-spmm_csc_prealloc
