@@ -13,7 +13,7 @@ use nalgebra_sparse::ops::Op;
 use nalgebra_sparse::ops::serial::{
     axpy_csc_col, axpy_csr_row, dot_csc_col, dot_csr_row, usaxpy, usdot,
 };
-use nalgebra_sparse::{CscMatrix, CsrMatrix};
+use nalgebra_sparse::{CooMatrix, CscMatrix, CsrMatrix};
 use std::alloc::Global;
 
 /// The lanes of a form with dense vectors: its rows, or its columns.
@@ -94,11 +94,14 @@ pub fn sparse_dot<T: Scalar>(turn: &mut Turn, x: Op<&str>, y: Op<&str>) -> Resul
     let alloc = turn.alloc();
     let x = list_of::<T>(alloc, x.into_inner())?;
     let y = plain_dense_of::<T>(alloc, y)?;
-    let y = y.as_slice();
+    number_text(alloc, dot_of_list(&x, y.as_slice())?)
+}
+
+fn dot_of_list<T: Scalar>(x: &CooMatrix<T>, y: &[T]) -> Result<T, Failure> {
     if x.ncols() != y.len() {
         return Err(Failure::Misfit);
     }
-    number_text(alloc, usdot(x.values(), x.col_indices(), y))
+    Ok(usdot(x.values(), x.col_indices(), y))
 }
 
 /// Returns the answer of `usaxpy alpha x y`: the dense vector after alpha times the sparse one is added.
@@ -111,11 +114,16 @@ pub fn sparse_axpy<T: Scalar>(
     let alloc = turn.alloc();
     let x = list_of::<T>(alloc, x.into_inner())?;
     let mut y = plain_dense_of::<T>(alloc, y)?;
-    if x.ncols() != y.as_slice().len() {
+    add_list(alpha, &x, y.as_mut_slice())?;
+    Ok(picture(alloc, &y)?)
+}
+
+fn add_list<T: Scalar>(alpha: T, x: &CooMatrix<T>, y: &mut [T]) -> Result<(), Failure> {
+    if x.ncols() != y.len() {
         return Err(Failure::Misfit);
     }
-    usaxpy(alpha, x.values(), x.col_indices(), y.as_mut_slice());
-    Ok(picture(alloc, &y)?)
+    usaxpy(alpha, x.values(), x.col_indices(), y);
+    Ok(())
 }
 
 /// Returns the text of a scalar.
