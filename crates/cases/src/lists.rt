@@ -162,13 +162,22 @@ fn of_one<T: Scalar>(
         "lists" => lists(alloc, list),
         "clear" => {
             list.clear_triplets();
-            Ok(triplets(alloc, &list)?)
+            cleared(alloc, &list)
         }
         "double" => {
             double(&mut list);
             Ok(triplets(alloc, &list)?)
         }
         _ => Err(Failure::Unreadable("no call of a list has this name")),
+    }
+}
+
+// A cleared list, all of whose parts must be empty.
+fn cleared<T: Scalar>(alloc: Global, list: &CooMatrix<T>) -> Result<String, Failure> {
+    if list.row_indices().is_empty() && list.col_indices().is_empty() {
+        Ok(triplets(alloc, list)?)
+    } else {
+        Err(Failure::Unreadable("a cleared list has indices"))
     }
 }
 

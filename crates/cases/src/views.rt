@@ -2,7 +2,7 @@
 
 use crate::arrays::{list_arrays, matrix_arrays};
 use crate::compressed::{Compressed, matrix_of, shown};
-use case_words::drawing::{Drawn, draw_triplet, is_large, picture, triplets};
+use case_words::drawing::{Drawn, draw_entry, draw_triplet, is_large, picture, triplets};
 use case_words::failure::Failure;
 use case_words::picture::list_of;
 use case_words::scalar::Scalar;
@@ -74,10 +74,51 @@ fn view_of_words<T: Scalar, F: Views<T>>(turn: &mut Turn, text: &str) -> Result<
     }
 }
 
+// A view by rows whose cells are drawn row by row.
+#[derive(Drop)]
+struct ByRows<'b, 'a, T> {
+    view: &'b CsrView<'a, T>,
+}
+
+impl<'b, 'a, T: Scalar> Drawn for ByRows<'b, 'a, T> {
+    fn size(&self) -> (usize, usize) {
+        self.view.size()
+    }
+
+    fn draw_cell(&self, row: usize, col: usize, out: &mut String) -> Result<(), AllocError> {
+        match self.view.get_row(row) {
+            Some(lane) => draw_entry(lane.get_entry(col), out),
+            None => out.push_str("none"),
+        }
+    }
+}
+
+// A view by columns whose cells are drawn column by column.
+#[derive(Drop)]
+struct ByColumns<'b, 'a, T> {
+    view: &'b CscView<'a, T>,
+}
+
+impl<'b, 'a, T: Scalar> Drawn for ByColumns<'b, 'a, T> {
+    fn size(&self) -> (usize, usize) {
+        self.view.size()
+    }
+
+    fn draw_cell(&self, row: usize, col: usize, out: &mut String) -> Result<(), AllocError> {
+        match self.view.get_col(col) {
+            Some(lane) => draw_entry(lane.get_entry(row), out),
+            None => out.push_str("none"),
+        }
+    }
+}
+
 // What a view by rows shows, and its copy.
 fn rows_seen<T: Scalar>(turn: &mut Turn, view: &CsrView<'_, T>) -> Result<String, Failure> {
     let alloc = turn.alloc();
-    let seen = entries_seen(alloc, view)?;
+    let seen = as_copied(
+        entries_seen(alloc, view)?,
+        picture(alloc, &ByRows { view })?,
+    )?;
     turn.begin();
     let copy = turn.end(view.to_csr(alloc))?;
     as_copied(seen, shown(alloc, &copy)?)
@@ -86,7 +127,10 @@ fn rows_seen<T: Scalar>(turn: &mut Turn, view: &CsrView<'_, T>) -> Result<String
 // What a view by columns shows, and its copy.
 fn columns_seen<T: Scalar>(turn: &mut Turn, view: &CscView<'_, T>) -> Result<String, Failure> {
     let alloc = turn.alloc();
-    let seen = entries_seen(alloc, view)?;
+    let seen = as_copied(
+        entries_seen(alloc, view)?,
+        picture(alloc, &ByColumns { view })?,
+    )?;
     turn.begin();
     let copy = turn.end(view.to_csc(alloc))?;
     as_copied(seen, shown(alloc, &copy)?)
@@ -118,10 +162,10 @@ fn triplets_seen<T: Scalar>(alloc: Global, view: &CooView<'_, T>) -> Result<Stri
     Ok(out)
 }
 
-// What a view showed, if its copy shows the same.
+// What a view showed, if its rows or columns, or its copy, show the same.
 fn as_copied(seen: String, copied: String) -> Result<String, Failure> {
     if seen.as_str() == copied.as_str() {
         return Ok(seen);
     }
-    Err(Failure::Unreadable("a copy differs from its view"))
+    Err(Failure::Unreadable("a copy or a lane differs from its view"))
 }
