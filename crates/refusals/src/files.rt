@@ -38,17 +38,17 @@ fn load(rt: &HostRuntime, turn: &mut Turn) -> Outcome {
         rt, PATH,
     );
     match turn.end(read) {
-        Ok(list) => Outcome::Answered(checksum_of(&[list.nnz() as i64, sum_of(&list)])),
+        Ok(list) => Outcome::Answered(checksum_of(&[list.nnz() as u64, sum_of(&list)])),
         Err(error) => of_error(&error),
     }
 }
 
-fn sum_of(list: &CooMatrix<W64>) -> i64 {
+fn sum_of(list: &CooMatrix<W64>) -> u64 {
     let mut sum: i64 = 0;
     for value in list.values() {
         sum = sum.wrapping_add(value.get());
     }
-    sum
+    sum.cast_unsigned()
 }
 
 fn save(rt: &HostRuntime, turn: &mut Turn) -> Outcome {

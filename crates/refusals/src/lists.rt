@@ -1,6 +1,6 @@
 //! Lists of triplets whose values are counted, and lists with reserved memory.
 
-use crate::outcome::{Outcome, checksum_of, of_error};
+use crate::outcome::{Outcome, of_error};
 use case_words::turn::Turn;
 use nalgebra_sparse::CooMatrix;
 use nalgebra_sparse::scalar::W64;
@@ -70,7 +70,7 @@ fn push_five(mut list: CooMatrix<W64>) -> Outcome {
             _ => return Outcome::Failed,
         }
     }
-    Outcome::Answered(checksum_of(&[list.nnz() as i64]))
+    Outcome::Answered(list.nnz() as u64)
 }
 
 fn push(list: &mut CooMatrix<W64>) -> Option<Result<(), AllocError>> {

@@ -77,10 +77,10 @@ pub fn of_error<E: Failure>(error: &E) -> Outcome {
 }
 
 /// Returns the checksum of numbers.
-pub fn checksum_of(numbers: &[i64]) -> u64 {
+pub fn checksum_of(numbers: &[u64]) -> u64 {
     let mut sum = 0;
     for number in numbers {
-        sum = mixed(sum, number.cast_unsigned());
+        sum = mixed(sum, *number);
     }
     sum
 }
