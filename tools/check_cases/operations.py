@@ -1,5 +1,5 @@
 """Sums, products, multiples and quotients, as matrices of their own and into a given one."""
-from .matrices import Matrix, allocate, dense_of, drawn, inner_of, matrix_of, operand_of, places, shown, shown_pattern
+from .matrices import Matrix, allocate, dense_of, drawn, inner_of, matrix_of, operand_of, places, shown
 from .words import Picture, Refused, misfit
 
 NO_INVERSE = Refused("Singular", "Scalar has no inverse.")
@@ -96,9 +96,9 @@ def answer(words, over):
         case [int(beta), Picture() as c, "+=", int(alpha), *operands]:
             return into(over, (scalars.of(beta), scalars.of(alpha)), c, operands)
         case ["pattern", Picture() as a, "+", Picture() as b]:
-            return shown_pattern(combined(scalars, 1, matrix_of(a, over), 1, matrix_of(b, over)), over)
+            return drawn(combined(scalars, 1, matrix_of(a, over), 1, matrix_of(b, over)), lambda _: "x")
         case ["pattern", Picture() as a, Picture() as b]:
-            return shown_pattern(product(scalars, matrix_of(a, over), matrix_of(b, over)), over)
+            return drawn(product(scalars, matrix_of(a, over), matrix_of(b, over)), lambda _: "x")
     return None
 
 
