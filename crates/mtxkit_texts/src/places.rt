@@ -9,6 +9,7 @@ ghost use Rattle.mtxkit_texts.specs.Places.{HasPlacesOf};
 
 use crate::lists::with_values;
 use sparse_algebra::scalar::{Ring, W64};
+use sparse_compressed::laws::stands_law;
 use sparse_convert::serial::convert_coo_csr;
 use sparse_coo_dense::coo::CooMatrix;
 use sparse_csr_csc::csr::CsrMatrix;
@@ -33,6 +34,7 @@ fn pattern_of(alloc: Global, places: &CooMatrix<()>) -> Result<SparsityPattern, 
     ensures { IfOk result (HasPlacesOf places.now) }
 {
     let listed = listed_ones(alloc, places)?;
+    stands_law::<W64>();
     let (pattern, _ones) = convert_coo_csr(alloc, &listed)?.into_pattern_and_values();
     Ok(pattern)
 }

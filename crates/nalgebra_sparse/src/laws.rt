@@ -38,6 +38,8 @@ pub mod wrapping {
     pub use sparse_algebra::laws::wide::{wide_read_back_law, wide_triplets_law};
 }
 
+/// What a caller may use to learn a fact: it takes what a call returns that is made for its contract alone.
+pub use sparse_algebra::learn;
 /// Compressed matrices: `==`, places, transposes, kept places, row order.
 pub use sparse_compressed::laws as compressed;
 /// Expressions: words say one tree.

@@ -7,6 +7,7 @@ ghost use Rattle.sparse_expr.specs.Value.{value_of, input_at, Meets, sum_of, dif
 ghost use Rattle.sparse_expr.specs.Value.{product_of};
 
 use crate::expressions::operation::{Operation, tabulated};
+use sparse_algebra::laws::within_law;
 use sparse_algebra::learn;
 use sparse_algebra::scalar::Ring;
 use sparse_coo_dense::coo::CooMatrix;
@@ -123,6 +124,7 @@ fn product<T: Ring>(
     if a_size.1 != b_size.0 {
         return Err(ExprError::Shape);
     }
+    within_law::<T>();
     Ok(tabulated(alloc, &Operation::Product(a, b))?)
 }
 
@@ -149,5 +151,6 @@ fn size<T: Ring>(list: &CooMatrix<T>) -> (usize, usize)
     ensures within { IsWithin (plain_of_coo T.ring T.value list.now) }
 {
     learn(list.col_indices());
+    within_law::<T>();
     (list.nrows(), list.ncols())
 }

@@ -75,7 +75,7 @@ impl CscSymbolicCholesky {
     /// (left-looking; Rose, Tarjan and Lueker 1976, George and Liu 1981, Davis 2006). Time is linear in the number of
     /// columns and of the places of pattern and factor, but for a sort of the rows of a column that come from its base
     /// and all children but the longest, each once. Scratch memory is one transpose of the pattern, three counters for
-    /// each column, and one column. Fails only if an allocation fails.
+    /// each column, and room for at most two columns. Fails only if an allocation fails.
     pub fn factor(alloc: Global, pattern: SparsityPattern) -> Result<Self, AllocError>
         requires square { pattern.major_dim ≡ pattern.minor_dim }
         ensures input { IfOk result (λ s. s.input ≡ pattern) }

@@ -14,6 +14,9 @@ ghost use Rattle.sparse_products.specs.Products.{IsProductOf};
 
 pub mod columns;
 
+use sparse_algebra::laws::{
+    identity_product_law, product_distributes_law, transpose_product_law,
+};
 use sparse_algebra::learn;
 use sparse_algebra::scalar::Ring;
 use sparse_compressed::laws::stands_law;
@@ -35,6 +38,7 @@ pub fn product_distributes<T: Ring>(
     ensures { IfOk result
         (λ m. plain_of_rows T.ring T.value m.0 ≡ plain_of_rows T.ring T.value m.1) }
 {
+    product_distributes_law::<T>();
     let product = product_with_sum(alloc, a, b, c)?;
     let products = sum_of_products(alloc, a, b, a, c)?;
     Ok((product, products))
@@ -53,6 +57,7 @@ pub fn product_distributes_right<T: Ring>(
     ensures { IfOk result
         (λ m. plain_of_rows T.ring T.value m.0 ≡ plain_of_rows T.ring T.value m.1) }
 {
+    product_distributes_law::<T>();
     let product = sum_with_factor(alloc, a, b, c)?;
     let products = sum_of_products(alloc, a, c, b, c)?;
     Ok((product, products))
@@ -90,6 +95,7 @@ pub fn identity_times<T: Ring>(alloc: Global, a: &CsrMatrix<T>) -> Result<CsrMat
         (λ m. plain_of_rows T.ring T.value m ≡ plain_of_rows T.ring T.value a.now) }
 {
     stands_law::<T>();
+    identity_product_law::<T>();
     learn(a.values());
     let identity = CsrMatrix::identity(alloc, a.nrows())?;
     mul_csr(alloc, &identity, a)
@@ -101,6 +107,7 @@ pub fn times_identity<T: Ring>(alloc: Global, a: &CsrMatrix<T>) -> Result<CsrMat
         (λ m. plain_of_rows T.ring T.value m ≡ plain_of_rows T.ring T.value a.now) }
 {
     stands_law::<T>();
+    identity_product_law::<T>();
     learn(a.values());
     let identity = CsrMatrix::identity(alloc, a.ncols())?;
     mul_csr(alloc, a, &identity)
@@ -117,6 +124,7 @@ pub fn transpose_of_product<T: Ring>(
     ensures { IfOk result
         (λ m. plain_of_rows T.ring T.value m.0 ≡ plain_of_rows T.ring T.value m.1) }
 {
+    transpose_product_law::<T>();
     let transposed = transposed_product(alloc, a, b)?;
     let reversed = product_of_transposes(alloc, a, b)?;
     Ok((transposed, reversed))

@@ -10,6 +10,7 @@ ghost use Rattle.sparse_convert.specs.OneMatrix.{coo_of_cols, IsSoundRepresentat
 ghost use Rattle.sparse_convert.specs.OneMatrix.{MeanOneMatrix};
 
 use sparse_algebra::scalar::Ring;
+use sparse_compressed::laws::equal_law;
 
 /// A list of triplets, a CSR matrix and a CSC matrix that are converted from one another represent the same matrix.
 ///
@@ -40,4 +41,6 @@ pub fn one_matrix_law<T: Ring>()
         → plain_of_coo T.ring T.value a ≡ plain_of_coo T.ring T.value b
         → MeanOneMatrix T.ring T.value a m n → MeanOneMatrix T.ring T.value b k l
         → (compressed_eq T.eq m k ≡ true) × (compressed_eq T.eq n l ≡ true) }
-{}
+{
+    equal_law::<T>();
+}

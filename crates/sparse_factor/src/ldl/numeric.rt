@@ -18,7 +18,7 @@ use super::columns::factor_columns;
 use sparse_algebra::error::OperationError;
 use sparse_algebra::learn;
 use sparse_algebra::scalar::{Ring, Units, Zero};
-use sparse_compressed::laws::kept_cols_law;
+use sparse_compressed::laws::{kept_cols_law, transpose_law};
 use sparse_csr_csc::csc::CscMatrix;
 use sparse_pattern::pattern::SparsityPattern;
 use std::alloc::{AllocError, Global};
@@ -60,6 +60,7 @@ fn lower_triangle<T: Ring>(alloc: Global, a: &CscMatrix<T>) -> Result<CscMatrix<
 {
     learn(a.values());
     kept_cols_law::<T>();
+    transpose_law::<T>();
     a.upper_triangle(alloc)?.transpose(alloc)
 }
 

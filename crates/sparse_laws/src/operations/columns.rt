@@ -4,6 +4,9 @@ ghost use Rattle.std.specs.Prelude.{◌≡◌, IfOk};
 ghost use Rattle.sparse_algebra.specs.Plain.{plain_product, plain_sum, plain_transpose};
 ghost use Rattle.sparse_compressed.specs.PlainOfLanes.{plain_of_cols};
 
+use sparse_algebra::laws::{
+    identity_product_law, product_distributes_law, transpose_product_law,
+};
 use sparse_algebra::learn;
 use sparse_algebra::scalar::Ring;
 use sparse_compressed::laws::stands_law;
@@ -25,6 +28,7 @@ pub fn product_distributes<T: Ring>(
     ensures { IfOk result (λ m. plain_of_cols T.ring T.value m.0
         ≡ plain_of_cols T.ring T.value m.1) }
 {
+    product_distributes_law::<T>();
     let product = product_with_sum(alloc, a, b, c)?;
     let products = sum_of_products(alloc, a, b, a, c)?;
     Ok((product, products))
@@ -43,6 +47,7 @@ pub fn product_distributes_right<T: Ring>(
     ensures { IfOk result (λ m. plain_of_cols T.ring T.value m.0
         ≡ plain_of_cols T.ring T.value m.1) }
 {
+    product_distributes_law::<T>();
     let product = sum_with_factor(alloc, a, b, c)?;
     let products = sum_of_products(alloc, a, c, b, c)?;
     Ok((product, products))
@@ -81,6 +86,7 @@ pub fn identity_times<T: Ring>(alloc: Global, a: &CscMatrix<T>) -> Result<CscMat
         ≡ plain_of_cols T.ring T.value a.now) }
 {
     stands_law::<T>();
+    identity_product_law::<T>();
     learn(a.values());
     let identity = CscMatrix::identity(alloc, a.nrows())?;
     mul_csc(alloc, &identity, a)
@@ -93,6 +99,7 @@ pub fn times_identity<T: Ring>(alloc: Global, a: &CscMatrix<T>) -> Result<CscMat
         ≡ plain_of_cols T.ring T.value a.now) }
 {
     stands_law::<T>();
+    identity_product_law::<T>();
     learn(a.values());
     let identity = CscMatrix::identity(alloc, a.ncols())?;
     mul_csc(alloc, a, &identity)
@@ -109,6 +116,7 @@ pub fn transpose_of_product<T: Ring>(
     ensures { IfOk result (λ m. plain_of_cols T.ring T.value m.0
         ≡ plain_of_cols T.ring T.value m.1) }
 {
+    transpose_product_law::<T>();
     let transposed = transposed_product(alloc, a, b)?;
     let reversed = product_of_transposes(alloc, a, b)?;
     Ok((transposed, reversed))

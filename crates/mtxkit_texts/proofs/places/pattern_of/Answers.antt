@@ -1,6 +1,5 @@
 use Rattle.std.proofs.Common.{ap, sym, ◌∙◌}
 use Rattle.sparse_algebra.specs.Plain.{Plain}
-use Rattle.sparse_compressed.proofs.Standing.{rows_have}
 use Rattle.mtxkit_texts.specs.Loaded.{ring64, value64}
 use Rattle.mtxkit_texts.proofs.places.pattern_of.Goals as goal
 
@@ -8,7 +7,7 @@ pub returns : goal.returns
 returns c =
     let summed = c.in_ok-convert_coo_csr in
     let plain = summed.ensures.plain in
-    let have = rows_have ring64 value64 summed.field-0 summed.ensures.sound in
+    let have = c.stands_law.ensures.rows summed.field-0 summed.ensures.sound in
     rw c.into_pattern_and_values-pattern.ensures.pattern (record {
       rows = ap (λ (p : Plain ring64). p.rows) plain ∙ c.in_ok-listed.ensures.rows;
       cols = ap (λ (p : Plain ring64). p.cols) plain ∙ c.in_ok-listed.ensures.cols;

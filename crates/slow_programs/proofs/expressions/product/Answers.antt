@@ -1,4 +1,3 @@
-use Rattle.sparse_algebra.proofs.PlainLaws.{within_product}
 use Rattle.sparse_coo_dense.specs.CooPlain.{plain_of_coo}
 use Rattle.slow_programs.proofs.expressions.product.Goals as goal
 
@@ -7,6 +6,6 @@ tabulated-requires g c =
     let R = g.T.Ring.ring in
     let f = g.T.Ring.value in
     record {
-      within = within_product R (plain_of_coo R f c.args.a.now) (plain_of_coo R f c.args.b.now)
-          c.size-a_size.ensures.within c.size-b_size.ensures.within;
+      within = c.within_law.ensures.product (plain_of_coo R f c.args.a.now)
+          (plain_of_coo R f c.args.b.now) c.size-a_size.ensures.within c.size-b_size.ensures.within;
     }

@@ -1,10 +1,9 @@
 use Rattle.std.proofs.Common.{◌≡◌, ap, sym, ◌∙◌}
 use Rattle.sparse_algebra.specs.Algebra.{CommRing}
-use Rattle.sparse_algebra.specs.Plain.{plain_of_triplets, plain_transpose}
+use Rattle.sparse_algebra.specs.Plain.{plain_of_triplets}
 use Rattle.sparse_algebra.proofs.PlainLemmas.{order_free}
 use Rattle.sparse_coo_dense.specs.Coo.{Coo}
 use Rattle.sparse_coo_dense.specs.CooPlain.{plain_of_coo}
-use Rattle.sparse_compressed.proofs.Arrays.{equal_decides}
 use Rattle.std.specs.List.Sorted.{IsPermutation}
 use Rattle.sparse_convert.proofs.serial.order_law.Goals as goal
 
@@ -21,10 +20,10 @@ pub returns : goal.returns
 returns g c =
     let R = g.T.Ring.ring in
     let f = g.T.Ring.value in
-    let equal = equal_decides R f g.T.PartialEq.eq g.met.T.Ring.eq_law g.T.Zero.zero_value in
+    let equal = c.equal_law.ensures in
     record {
-      rows = λ a b m n rows cols moved sm is_a sn is_b. (equal m n sm sn).1
+      rows = λ a b m n rows cols moved sm is_a sn is_b. (equal.rows m n sm sn).1
           (is_a ∙ same_plain R f a b rows cols moved ∙ sym is_b);
-      cols = λ a b m n rows cols moved sm is_a sn is_b. (equal m n sm sn).1
-          (ap (plain_transpose R) (is_a ∙ same_plain R f a b rows cols moved ∙ sym is_b));
+      cols = λ a b m n rows cols moved sm is_a sn is_b. (equal.cols m n sm sn).1
+          (is_a ∙ same_plain R f a b rows cols moved ∙ sym is_b);
     }

@@ -1,6 +1,5 @@
 use Rattle.std.proofs.Common.{ap, ◌∙◌}
-use Rattle.sparse_algebra.specs.Plain.{Plain, plain_product}
-use Rattle.sparse_algebra.proofs.PlainLaws.{identity-product}
+use Rattle.sparse_algebra.specs.Plain.{Plain, plain_identity, plain_product}
 use Rattle.sparse_compressed.specs.PlainOfLanes.{plain_of_rows}
 use Rattle.sparse_laws.proofs.OkEquations.{ok_further}
 use Rattle.sparse_laws.proofs.operations.identity_times.Goals as goal
@@ -13,4 +12,5 @@ returns g c =
     let has = c.stands_law.ensures.rows c.args.a.now c.values.ensures.sound in
     ok_further plain c.mul_csr.result
     (ap (λ (x : Plain R). plain_product R x a) c.in_ok-identity.ensures.plain
-    ∙ identity-product R c.nrows.result a c.nrows.ensures has.proper has.within) c.mul_csr.ensures
+    ∙ ap (λ n. plain_product R (plain_identity R n) a) c.nrows.ensures
+    ∙ c.identity_product_law.ensures.left a has.proper has.within) c.mul_csr.ensures

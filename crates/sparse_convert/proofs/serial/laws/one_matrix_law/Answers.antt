@@ -1,6 +1,4 @@
-use Rattle.std.proofs.Common.{ap, sym, ◌∙◌}
-use Rattle.sparse_algebra.specs.Plain.{plain_transpose}
-use Rattle.sparse_compressed.proofs.Arrays.{equal_decides}
+use Rattle.std.proofs.Common.{sym, ◌∙◌}
 use Rattle.sparse_compressed.specs.Compressed.{lane_triplets}
 use Rattle.sparse_convert.specs.OneMatrix.{Triplets, Rows, Cols}
 use Rattle.sparse_convert.proofs.Reaching.{reached_same, reached_sound}
@@ -14,23 +12,23 @@ returns g c =
     let z = g.T.Zero.zero_value in
     let same = reached_same R f z in
     let sound = reached_sound R f z in
-    let equal = equal_decides R f g.T.PartialEq.eq g.met.T.Ring.eq_law z in
+    let equal = c.equal_law.ensures in
     record {
       three_representations = λ x a m n s list rows cols.
           let back = sym (same x (Triplets a) s list) in
           record { rows = same x (Rows m) s rows ∙ back; cols = same x (Cols n) s cols ∙ back };
       rows_equal = λ x m n s left right.
-          (equal m n (sound x (Rows m) s left) (sound x (Rows n) s right)).1
+          (equal.rows m n (sound x (Rows m) s left) (sound x (Rows n) s right)).1
           (same x (Rows m) s left ∙ sym (same x (Rows n) s right));
       cols_equal = λ x m n s left right.
-          (equal m n (sound x (Cols m) s left) (sound x (Cols n) s right)).1
-          (ap (plain_transpose R) (same x (Cols m) s left ∙ sym (same x (Cols n) s right)));
-      rows_and_back = λ m n sm sn back. (equal m n sm sn).1 (sym back);
-      cols_and_back = λ m n sm sn back. (equal m n sm sn).1 (ap (plain_transpose R) (sym (back
+          (equal.cols m n (sound x (Cols m) s left) (sound x (Cols n) s right)).1
+          (same x (Cols m) s left ∙ sym (same x (Cols n) s right));
+      rows_and_back = λ m n sm sn back. (equal.rows m n sm sn).1 (sym back);
+      cols_and_back = λ m n sm sn back. (equal.cols m n sm sn).1 (sym (back
           ∙ plain_of_transposed_list R f m.pattern.major_dim m.pattern.minor_dim
-          (lane_triplets m))));
+          (lane_triplets m)));
       same_lists = λ a b m n k l sm sn sk sl lists left right. (
-        (equal m k sm sk).1 (left.rows ∙ lists ∙ sym right.rows),
-        (equal n l sn sl).1 (ap (plain_transpose R) (left.cols ∙ lists ∙ sym right.cols)),
+        (equal.rows m k sm sk).1 (left.rows ∙ lists ∙ sym right.rows),
+        (equal.cols n l sn sl).1 (left.cols ∙ lists ∙ sym right.cols),
       );
     }

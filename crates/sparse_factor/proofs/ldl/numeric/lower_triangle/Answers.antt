@@ -1,7 +1,6 @@
 use Rattle.std.proofs.Common.{ap, ◌∙◌}
 use Rattle.std.specs.Prelude.{nat_le}
 use Rattle.sparse_algebra.specs.Plain.{plain_transpose}
-use Rattle.sparse_compressed.proofs.MatrixTransposes.{plain_transposed}
 use Rattle.sparse_factor.proofs.FillPatterns.{lower_places}
 use Rattle.sparse_factor.proofs.Results.{ok_both}
 use Rattle.sparse_factor.proofs.ldl.numeric.lower_triangle.Goals as goal
@@ -13,9 +12,8 @@ returns-clause-plain g c =
     let upper = c.in_ok-upper_triangle.ensures in
     let kept = c.kept_cols_law.ensures (λ i j. nat_le i j) c.args.a.now u upper.sizes upper.kept in
     ok_both _ _ _ _
-    (λ t transposed sound. ap (plain_transpose R) (plain_transposed R g.T.Ring.value
-    g.T.Zero.zero_value u t upper.sound sound transposed ∙ kept)) c.transpose-2.ensures.transposed
-    c.transpose-2.ensures.sound
+    (λ t transposed sound. c.transpose_law.ensures.cols u t upper.sound sound transposed
+    ∙ ap (plain_transpose R) kept) c.transpose-2.ensures.transposed c.transpose-2.ensures.sound
 
 pub returns-clause-places : goal.returns-clause-places
 returns-clause-places g c =

@@ -1,5 +1,4 @@
 use Rattle.std.proofs.Common.{sym, ◌∙◌}
-use Rattle.sparse_algebra.proofs.PlainLaws.{sum-product}
 use Rattle.sparse_compressed.specs.PlainOfLanes.{plain_of_cols}
 use Rattle.sparse_laws.proofs.operations.columns.product_distributes_right.Goals as goal
 
@@ -9,4 +8,5 @@ returns g c =
     let a = plain_of_cols R g.T.Ring.value c.args.a.now in
     let b = plain_of_cols R g.T.Ring.value c.args.b.now in
     let d = plain_of_cols R g.T.Ring.value c.args.c.now in
-    c.in_ok-product.ensures ∙ sum-product R a b d c.requires.cols ∙ sym c.in_ok-products.ensures
+    c.in_ok-product.ensures ∙ c.product_distributes_law.ensures.left a b d c.requires.cols
+    ∙ sym c.in_ok-products.ensures

@@ -1,6 +1,5 @@
 use Rattle.std.proofs.Common.{ap, ◌∙◌}
-use Rattle.sparse_algebra.specs.Plain.{plain_product}
-use Rattle.sparse_algebra.proofs.PlainLaws.{product-identity}
+use Rattle.sparse_algebra.specs.Plain.{plain_identity, plain_product}
 use Rattle.sparse_compressed.specs.PlainOfLanes.{plain_of_cols}
 use Rattle.sparse_laws.proofs.OkEquations.{ok_further}
 use Rattle.sparse_laws.proofs.operations.columns.times_identity.Goals as goal
@@ -13,4 +12,5 @@ returns g c =
     let has = c.stands_law.ensures.cols c.args.a.now c.values.ensures.sound in
     ok_further plain c.mul_csc.result
     (ap (plain_product R a) c.in_ok-identity.ensures.plain
-    ∙ product-identity R c.ncols.result a c.ncols.ensures has.proper has.within) c.mul_csc.ensures
+    ∙ ap (λ n. plain_product R a (plain_identity R n)) c.ncols.ensures
+    ∙ c.identity_product_law.ensures.right a has.proper has.within) c.mul_csc.ensures
