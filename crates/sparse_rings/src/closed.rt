@@ -12,7 +12,8 @@ use sparse_algebra::scalar::{Mod, Ring, W32, W64, W128};
 /// A ring in which sums and products of values are values.
 ///
 /// A contract that says "no scalar is an inverse" speaks of all scalars, also of those that no code has computed. This
-/// trait, which has no functions, says that they are closed under sums and products; the scalars of this library are.
+/// trait, which has no functions, says that they are closed under sums and products. `W32`, `W64`, `W128` and `Mod<M>`
+/// are, and so are dual numbers and pairs of scalars that are; `Gaussian<T>` asks it of `T` for its inverses.
 pub trait Closed: Ring {
     ghost sum_law: { (x y : Self)
         → IsValue Self.ring Self.value (Self.ring.add (Self.value x) (Self.value y)) };

@@ -9,6 +9,8 @@ use sparse_algebra::scalar::{Ring, Units, Zero};
 
 /// A real and an imaginary part: `real + imaginary * i`, where `i * i` is minus one.
 ///
+/// Implements [`Units`] over scalars that implement it and [`Closed`].
+///
 /// # Examples
 ///
 /// ```rust
