@@ -47,9 +47,9 @@
  * Each call takes time and memory as the call of the library does, and copies of the operands' arrays beside it. Sums
  * read the operands where they are, if the arrays for the result have room for the places of both.
  *
- * Threads. The library keeps nothing from one call to the next, so any number of threads may call at once. They may share
- * the arrays of operands. While a call runs, no other thread may write an array that it reads, or read or write an array
- * for its result.
+ * Threads. The library has no variables of its own: what lasts from one call to the next is what handles own. So any
+ * number of threads may call at once. They may share the arrays of operands, and each handle is used by one call at a
+ * time. While a call runs, no other thread may write an array that it reads, or read or write an array for its result.
  *
  * The functions at the end (nalgebra_sparse_inline.h) take matrices as structs and null pointers as empty arrays, and
  * nalgebra_sparse_status_text says what a status means.
@@ -482,8 +482,9 @@ int32_t nalgebra_sparse_fill(
 
 /* Writes the X for which A X = B, where A is the symmetric matrix whose entries on and above the diagonal are those of
  * a matrix by columns with `size` rows and columns, by the exact factorisation of A into L D L^T. What is below the
- * diagonal has no effect. B and X have `cols` columns: b_values_len is size * cols, and out_values needs as many
- * numbers.
+ * diagonal has no effect, and no call tests it: for a matrix that is not symmetric, X solves another system. (A matrix
+ * is symmetric where all values of nalgebra_sparse_subtract of it and its nalgebra_sparse_transpose are 0.) B and X have
+ * `cols` columns: b_values_len is size * cols, and out_values needs as many numbers.
  *
  * Statuses: OUT_OF_MEMORY; the first fault of the arrays, as for nalgebra_sparse_transpose; INVALID_STRUCTURE if B has
  * another number of values; SINGULAR if no factorisation exists; TOO_SMALL.
@@ -510,9 +511,9 @@ int32_t nalgebra_sparse_solve_symmetric_mod(
     int64_t *out_values, size_t out_values_len);
 
 /* Writes the exact factors of a symmetric matrix, A = L D L^T, where A has the entries on and above the diagonal of a
- * matrix by columns with `size` rows and columns. L has ones on the diagonal and zeros above it, and is written by
- * columns; D is diagonal, each of its values has an inverse, and they are written to out_diagonal. No other L and D
- * satisfy the equation.
+ * matrix by columns with `size` rows and columns. What is below the diagonal has no effect, and no call tests it. L has
+ * ones on the diagonal and zeros above it, and is written by columns; D is diagonal, each of its values has an inverse,
+ * and they are written to out_diagonal. No other L and D satisfy the equation.
  *
  * L has exactly the places that nalgebra_sparse_fill gives for NALGEBRA_SPARSE_UPPER, also where a value is 0: so
  * out_indices and out_values need as many numbers as nalgebra_sparse_fill_places says for that triangle, out_offsets
@@ -553,8 +554,10 @@ int32_t nalgebra_sparse_factor_symmetric_mod(
  *
  * Statuses: OUT_OF_MEMORY; UNREADABLE; and the first error of the text, in this order: INVALID_TEXT if it does not match
  * the grammar; INVALID_HEADER; INVALID_TEXT if the size line does not fit the header or a size is 2^64 or more;
- * NON_SQUARE; ENTRY_MISMATCH; then, entry by entry, INVALID_TEXT for its shape or its numbers, ZERO_INDEX,
- * TYPE_MISMATCH, NOT_LOWER_TRIANGLE, DIAGONAL_ENTRY; last INDEX_OUT_OF_BOUNDS.
+ * NON_SQUARE; ENTRY_MISMATCH; then, entry by entry, INVALID_TEXT if it has not the numbers that the header asks for or
+ * an index is 2^64 or more; ZERO_INDEX; INVALID_TEXT if its value is no integer from -2^127 to 2^127 - 1; TYPE_MISMATCH
+ * if the value is no integer of 64 bits; NOT_LOWER_TRIANGLE; DIAGONAL_ENTRY; last INDEX_OUT_OF_BOUNDS. So the line
+ * `0 1 x` is INVALID_TEXT, and `0 1 1.0` is ZERO_INDEX, although 1.0 is no integer.
  */
 int32_t nalgebra_sparse_read_sizes(
     const uint8_t *text, size_t text_len,
@@ -600,10 +603,11 @@ int32_t nalgebra_sparse_write(
 /* Handles.
  *
  * A handle stands for a matrix that the library owns, over the integers modulo 2^64, or for none: it is then
- * {NULL}, as NALGEBRA_SPARSE_NO_MATRIX. The calls below take handles in place of arrays, so a chain of them copies no
- * operand and tests no array twice. Their contracts are equations between the plain matrices behind handles
- * (crates/sparse_c/src/handles.rt, handle_operations.rt, handle_systems.rt and handle_texts.rt). No call over handles
- * computes modulo another number.
+ * {NULL}, as NALGEBRA_SPARSE_NO_MATRIX. The calls below take handles in place of arrays, so a chain of them tests no
+ * array twice. Transposes, multiples, sums and products copy no operand; a solve with a triangle and a factorisation copy
+ * the matrix, and each solve copies its right side. Their contracts are equations between the plain matrices behind
+ * handles (crates/sparse_c/src/handles.rt, handle_operations.rt, handle_systems.rt and handle_texts.rt). No call over
+ * handles computes modulo another number.
  *
  *     nalgebra_sparse_matrix a = NALGEBRA_SPARSE_NO_MATRIX, square = NALGEBRA_SPARSE_NO_MATRIX, copy = NALGEBRA_SPARSE_NO_MATRIX;
  *     status = nalgebra_sparse_matrix_from_rows(2, 2, offsets, 3, indices, 2, values, 2, &a);
@@ -623,8 +627,8 @@ int32_t nalgebra_sparse_write(
  *   - each handle is used by one call at a time. Between calls a handle may go to another thread, and handles that share a
  *     matrix may be used by several threads at once.
  *
- * Statuses: OUT_OF_MEMORY; EMPTY_HANDLE if an operand has no matrix; SHAPE_MISMATCH if the shapes of two operands do not
- * fit; and those that a call names.
+ * Statuses: OUT_OF_MEMORY; EMPTY_HANDLE exactly if an operand has no matrix, before each status but OUT_OF_MEMORY;
+ * SHAPE_MISMATCH if the shapes of two operands do not fit; and those that a call names.
  */
 typedef struct {
     void *matrix;
@@ -742,8 +746,10 @@ typedef struct {
 #define NALGEBRA_SPARSE_NO_FACTORS {NULL}
 
 /* Puts the factors of the symmetric matrix behind `out` whose entries on and above the diagonal are those of the matrix
- * behind `a`. What is below the diagonal has no effect. Statuses: SHAPE_MISMATCH if the matrix is not square; SINGULAR if
- * no factorisation exists.
+ * behind `a`. What is below the diagonal has no effect, and no call tests it: where nalgebra_sparse_matrix_subtract of the
+ * matrix and its transpose has a value other than 0, the factors are those of another matrix. Beside them the call takes
+ * memory for a copy of the matrix. Statuses: SHAPE_MISMATCH if the matrix is not square; SINGULAR if no factorisation
+ * exists.
  */
 int32_t nalgebra_sparse_matrix_factor(nalgebra_sparse_matrix *a, nalgebra_sparse_factors *out);
 

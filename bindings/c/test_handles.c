@@ -197,6 +197,8 @@ static void refuse(void) {
     nalgebra_sparse_matrix_free(&a);
     nalgebra_sparse_matrix_free(&a);
     CHECK(a.matrix == NULL && nalgebra_sparse_matrix_sizes(&a, &rows, &cols, &places) == NALGEBRA_SPARSE_EMPTY_HANDLE);
+    /* An empty handle is found before arrays that are too small. */
+    CHECK(nalgebra_sparse_matrix_read(&a, offsets, 0, indices, 0, values, 0, &places) == NALGEBRA_SPARSE_EMPTY_HANDLE && places == 2);
 }
 
 int main(void) {

@@ -1,6 +1,7 @@
 """Tries arguments that no call may get, the forms and dtypes of operands, and the examples of the package. Run by bindings/test."""
 import array
 import ctypes
+import ctypes.util
 import doctest
 import os
 import re
@@ -47,7 +48,8 @@ def check_shapes():
         for call in (ns.assemble_csr, ns.assemble_csc):
             refused(ns.Error, call, shape, NONE, NONE, NONE)
         refused(ns.Error, ns.write, with_shape(shape))
-    for shape in (2, None, "ab", (2.0, 2), (True, 2), ((2, 2), 2)):
+    # The bytes are those of the shape (2, 3), and a set has no order.
+    for shape in (2, None, "ab", (2.0, 2), (True, 2), ((2, 2), 2), b"\x02\x03", bytearray(b"\x02\x03"), {2, 3}):
         for call in (ns.assemble_csr, ns.assemble_csc):
             refused(TypeError, call, shape, NONE, NONE, NONE)
     for call in (ns.transpose, ns.add, ns.multiply):
@@ -88,6 +90,33 @@ def check_kinds():
     refused(TypeError, ns.read, "a text")
     refused(TypeError, ns.write, sp.csr_matrix(PLAIN))
     refused(TypeError, ns.reuse_memory, 0.5)
+
+
+def check_flags():
+    """What only counts as true is no flag: NaN, a text and a number are refused, with the name of the argument."""
+    square, b = sp.csc_matrix(np.array([[5, 0], [0, 7]])), np.array([1, 2])
+    owned = ns.Exact.from_scipy(square)
+    for wrong in (float("nan"), "no", 0, None, np.array([False])):
+        for solve in (owned.solve_lower, owned.solve_upper, lambda b, wrong: ns.solve_lower(square, b, wrong)):
+            assert "transposed must be" in str(refused(TypeError, solve, b, wrong))
+        calls = (owned.solve, lambda b, wrong: owned.factor(wrong), lambda b, wrong: ns.solve_symmetric(square, b, None, wrong))
+        for call in (*calls, lambda b, wrong: ns.factor_symmetric(square, None, wrong), lambda b, wrong: ns.solve_rational(square, b, 7, wrong)):
+            assert "assume_symmetric must be" in str(refused(TypeError, call, b, wrong))
+    assert np.array_equal(owned.solve_lower(b, np.bool_(True)), ns.solve_lower(square, b, transposed=np.bool_(True)))
+
+
+def check_masks():
+    """A mask would be dropped, so a masked array is refused, also one that masks nothing."""
+    for mask in (True, False):
+        masked = np.ma.array(ONE, mask=[mask])
+        for arguments in ((masked, ONE, ONE), (ONE, masked, ONE), (ONE, ONE, masked)):
+            assert "masked" in str(refused(TypeError, ns.assemble_csr, (1, 1), *arguments))
+            assert "masked" in str(refused(TypeError, ns.Exact.from_triplets, (1, 1), *arguments))
+        one = sp.csc_matrix(np.array([[1]]))
+        for solve in (lambda b: ns.solve_lower(one, b), lambda b: ns.solve_rational(one, b), ns.Exact.from_scipy(one).solve):
+            assert "masked" in str(refused(TypeError, solve, masked))
+        one.data = np.ma.array(one.data, mask=[mask])
+        assert "masked" in str(refused(TypeError, ns.transpose, one))
 
 
 def check_table():
@@ -162,7 +191,7 @@ def check_forms():
         ]:
             assert type(result) is kind and result.dtype == np.int64 and np.array_equal(result.toarray(), want)
     for kind in CLASSES[1::2]:
-        factor, diagonal = ns.factor_symmetric(kind(np.array([[1, 2], [0, 7]])))
+        factor, diagonal = ns.factor_symmetric(kind(np.array([[1, 2], [2, 7]])))
         assert type(factor) is kind and diagonal.tolist() == [1, 3]
     triplets = (ONE + 4, (ONE, ONE))
     assert ns.write(sp.coo_array(triplets, (1, 1))) == ns.write(sp.coo_matrix(triplets, (1, 1)))
@@ -175,11 +204,14 @@ def check_forms():
 
 
 def check_import():
-    """A library that is not there is an error that says how to make it."""
-    settings = {**os.environ, "NALGEBRA_SPARSE_LIBRARY": os.path.join(here, "none.so")}
-    words = [sys.executable, "-B", "-c", "import nalgebra_sparse"]
-    ran = subprocess.run(words, cwd=here, env=settings, stderr=subprocess.PIPE, text=True, check=False)
-    assert ran.returncode and "ImportError" in ran.stderr and "run bindings/python/build" in ran.stderr
+    """A library that is not there, a file that is none and another library are errors that say how to make it."""
+    other = ctypes.util.find_library("c")
+    for path, said in ((os.path.join(here, "none.so"), "none.so"), (__file__, "test_arguments.py"), (other, f"{other} has no call nalgebra_sparse_")):
+        settings = {**os.environ, "NALGEBRA_SPARSE_LIBRARY": path}
+        words = [sys.executable, "-B", "-c", "import nalgebra_sparse"]
+        ran = subprocess.run(words, cwd=here, env=settings, stderr=subprocess.PIPE, text=True, check=False)
+        last = ran.stderr.strip().split("\n")[-1]
+        assert ran.returncode and last.startswith("ImportError") and said in last and "run bindings/python/build" in last, ran.stderr
 
 
 def check_package():
@@ -200,6 +232,8 @@ def check_package():
 
 check_shapes()
 check_kinds()
+check_flags()
+check_masks()
 check_table()
 check_exceptions()
 check_dtypes()

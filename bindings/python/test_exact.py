@@ -1,7 +1,11 @@
 """Compares chains of operations over `Exact` with plain matrices, and tries its refusals. Run by bindings/test."""
+import copy
+import faulthandler
 import gc
 import os
+import pickle
 import random
+import signal
 import sys
 import threading
 import weakref
@@ -145,6 +149,74 @@ def check_systems():
         assert np.array_equal(times(times(unit, unit.T), factors.solve(b)), b)
 
 
+def check_symmetry():
+    """A matrix that is not symmetric is refused, unless its upper triangle is asked for."""
+    b = np.array([5, 12])
+    upper = Exact.from_scipy(sp.csr_array(np.array([[1, 2], [0, 5]])))
+    for call in (upper.factor, lambda: upper.solve(b)):
+        message = refused(ns.Error, call)
+        assert "not symmetric" in message and "(0, 1)" in message, message
+    assert upper.solve(b, assume_symmetric=True).tolist() == [1, 2]
+    assert upper.factor(assume_symmetric=True).solve(b).tolist() == [1, 2]
+    # A place with the value 0 need not be mirrored.
+    zero = Exact.from_triplets((2, 2), np.array([0, 0, 1]), np.array([0, 1, 1]), np.array([1, 0, 1]))
+    assert zero.solve(b).tolist() == [5, 12]
+    wide = Exact.from_scipy(sp.csr_array(np.array([[1, 2]])))
+    for assumed in (False, True):
+        assert "square" in refused(ns.Error, lambda: wide.factor(assumed))
+
+
+def check_scipy_operands():
+    """A SciPy matrix may be either operand of `+`, `-` and `@`, and neither of `*`."""
+    p, q = np.array([[1, 2], [0, 3]]), np.array([[0, 5], [7, 0]])
+    a = Exact.from_scipy(sp.csr_array(p))
+    for kind in (sp.csr_matrix, sp.csc_matrix, sp.csr_array, sp.csc_array):
+        b = kind(q)
+        for found, want in ((a + b, p + q), (b + a, q + p), (a - b, p - q), (b - a, q - p), (a @ b, p @ q), (b @ a, q @ p)):
+            assert isinstance(found, Exact) and found.to_scipy().toarray().tolist() == want.tolist()
+        for call in (lambda: a * b, lambda: b * a, lambda: a + b.astype(float), lambda: b.tocoo() @ a, lambda: a / b, lambda: b / a):
+            refused(TypeError, call)
+        refused(ns.Error, lambda: a + kind(q[:1]))
+        refused(ns.Error, lambda: kind(q[:, :1]) @ a)
+    for call in (lambda: a * a, lambda: q + a, lambda: a @ q, lambda: q @ a, lambda: np.float64(2) * a, lambda: a + 1):
+        refused(TypeError, call)
+
+
+def check_copies():
+    """A copy and a pickle outlive the matrix. Copies of factors outlive the factors, which have no pickle."""
+    plain, b = [[1, 2], [2, 5]], np.array([5, 12])
+    for copied in (copy.copy, copy.deepcopy, lambda of: pickle.loads(pickle.dumps(of))):
+        matrix = Exact.from_scipy(sp.csr_array(np.array(plain)))
+        second = copied(matrix)
+        del matrix
+        gc.collect()
+        assert second.shape == (2, 2) and second.nnz == 4 and (second @ second).to_scipy().toarray().tolist() == [[5, 12], [12, 29]]
+        assert copied(second).T.to_scipy().toarray().tolist() == plain
+    for copied in (copy.copy, copy.deepcopy):
+        second = copied(Exact.from_scipy(sp.csr_array(np.array(plain))).factor())
+        gc.collect()
+        assert second.shape == (2, 2) and second.solve(b).tolist() == [1, 2]
+    for protocol in range(pickle.HIGHEST_PROTOCOL + 1):
+        assert "factor it again" in refused(TypeError, lambda: pickle.dumps(second, protocol))
+
+
+def check_signals():
+    """A signal handler may use the matrix and the factors of the code that it interrupts."""
+    matrix, b = Exact.from_scipy(sp.csr_array(np.array([[1, 2], [2, 5]]))), np.array([5, 12])
+    factors, seen = matrix.factor(), []
+    before = signal.signal(signal.SIGUSR1, lambda *_: seen.append((matrix.T.nnz, factors.solve(b).tolist())))
+    # Without a re-entrant lock the handler would wait for the code below it.
+    faulthandler.dump_traceback_later(60, exit=True)
+    with matrix._lock, factors._lock:
+        os.kill(os.getpid(), signal.SIGUSR1)
+        for _ in range(1000):
+            if seen:
+                break
+    faulthandler.cancel_dump_traceback_later()
+    signal.signal(signal.SIGUSR1, before)
+    assert seen == [(4, [1, 2])]
+
+
 def check_texts():
     for _ in range(200):
         matrix, plain = a_pair(chance.randrange(6))
@@ -157,10 +229,11 @@ def check_texts():
 
 
 def refused(error, call):
+    """Returns what the error says."""
     try:
         call()
-    except error:
-        return
+    except error as found:
+        return str(found)
     raise AssertionError(f"no {error.__name__}")
 
 
@@ -232,6 +305,10 @@ def check_threads():
 check_chains()
 check_solve()
 check_systems()
+check_symmetry()
+check_scipy_operands()
+check_copies()
+check_signals()
 check_texts()
 check_refusals()
 check_memory()

@@ -1,5 +1,6 @@
 """Compares the module with SciPy in random cases, and tries each error of the library. Run by bindings/test."""
 import ctypes
+import functools
 import io
 import math
 import os
@@ -139,6 +140,25 @@ def check_dense_case():
     assert np.array_equal(back, a.toarray())
 
 
+# The entries below the diagonal are random here.
+solve_upper_triangle = functools.partial(ns.solve_symmetric, assume_symmetric=True)
+
+
+def check_symmetry(a, b, modulus=None):
+    """A matrix that is not symmetric in the ring is refused, and no other one."""
+    dense = whole(a.toarray())
+    is_symmetric = bool(np.all((dense - dense.T) % (modulus or 2**64) == 0))
+    for call, more in ((ns.solve_symmetric, (b,)), (ns.factor_symmetric, ())):
+        try:
+            call(a, *more, modulus=modulus)
+        except ns.Singular:
+            assert is_symmetric
+        except ns.Error as error:
+            assert "not symmetric" in str(error) and not is_symmetric
+        else:
+            assert is_symmetric
+
+
 def check_solves():
     n, cols = (int(size) for size in random.integers(1, 6, 2))
     a, b = square(n), np.asfortranarray(below(n * cols).reshape(n, cols))
@@ -147,11 +167,13 @@ def check_solves():
     symmetric = np.triu(dense) + np.triu(dense, 1).T
     odd = bool(np.all(np.diag(dense) % 2 != 0))
     systems = [(ns.solve_lower, (), lower, odd), (ns.solve_lower, (True,), lower.T, odd)]
-    for call, flags, plain, solvable in [*systems, (ns.solve_symmetric, (), symmetric, has_factors(symmetric))]:
+    for call, flags, plain, solvable in [*systems, (solve_upper_triangle, (), symmetric, has_factors(symmetric))]:
         try:
             assert np.array_equal(product(plain, call(a, b, *flags)), b)
         except ns.Singular:
             assert not solvable
+    check_symmetry(a, b)
+    check_symmetry(sp.csc_matrix(symmetric), b)
     places = np.zeros((n, n), bool)
     places[a.tocoo().row, a.tocoo().col] = True
     bases = {"upper": places.T & np.tri(n, dtype=bool), "lower": places & np.tri(n, dtype=bool)}
@@ -209,13 +231,15 @@ def check_modulus():
     lower, symmetric = np.tril(dense), np.triu(dense) + np.triu(dense, 1).T
     pivots = all(x % modulus for x in np.diag(dense))
     systems = [(ns.solve_lower, (False,), lower, pivots), (ns.solve_lower, (True,), lower.T, pivots)]
-    for call, flags, plain, solvable in [*systems, (ns.solve_symmetric, (), symmetric, has_factors(symmetric, modulus))]:
+    for call, flags, plain, solvable in [*systems, (solve_upper_triangle, (), symmetric, has_factors(symmetric, modulus))]:
         try:
             found = call(a, b, *flags, modulus=modulus)
             assert found.min() >= 0 and found.max() < modulus
             assert np.all((plain.dot(whole(found)) - whole(b)) % modulus == 0)
         except ns.Singular:
             assert not solvable
+    check_symmetry(a, b, modulus)
+    check_symmetry(ns.assemble_csc((2, 2), np.array([0, 1]), np.array([1, 0]), np.array([5, 5 - modulus])), np.array([1, 2]), modulus)
     divisor = int(random.integers(-(2**62), 2**62))
     try:
         quotient = ns.divide(a.tocsr(), divisor, modulus=modulus).toarray()
@@ -225,7 +249,7 @@ def check_modulus():
         assert divisor % modulus == 0
     for given, ring in [(None, 2**64), (modulus, modulus)]:
         try:
-            l, d = ns.factor_symmetric(a, modulus=given)
+            l, d = ns.factor_symmetric(a, modulus=given, assume_symmetric=True)
             plain = whole(l.toarray())
             assert np.all(np.diag(plain) == 1) and np.all(np.triu(plain, 1) == 0)
             assert np.all(((plain * whole(d)).dot(plain.T) - symmetric) % ring == 0)

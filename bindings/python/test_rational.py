@@ -47,13 +47,15 @@ def check_random_systems():
         b = values((n, cols))
         want = eliminated(plain, b)
         try:
-            # What is stored below the diagonal has no effect.
-            found = ns.solve_rational(sp.csc_matrix(upper + below), b)
+            # What is stored below the diagonal is refused, or has no effect.
+            found = ns.solve_rational(sp.csc_matrix(upper + below), b, assume_symmetric=True)
         except ns.Singular as error:
             assert want is None and str(PRIME) in str(error)
             continue
         assert want is not None and found.shape == b.shape and found.tolist() == want
         assert ns.solve_rational(sp.csc_array(plain), b[:, 0]).tolist() == [row[0] for row in want]
+        if not np.array_equal(upper + below, plain):
+            assert "not symmetric" in refused(ns.Error, sp.csc_matrix(upper + below), b)
         solved += 1
 
 
@@ -88,6 +90,8 @@ def refused(error, *arguments):
 
 def check_refusals():
     one, b = sp.csc_matrix(np.array([[1]])), np.array([1])
+    # They are symmetric modulo 7, and not as integers.
+    assert "not symmetric" in refused(ns.Error, sp.csc_matrix(np.array([[1, 3], [10, 1]])), np.array([1, 1]), 7)
     for plain, modulus in [([[0, 1], [1, 0]], PRIME), ([[7, 1], [1, 1]], 7), ([[1, 1], [1, 1]], 11), ([[0]], 101)]:
         message = refused(ns.Singular, sp.csc_matrix(np.array(plain)), np.ones(len(plain), np.int64), modulus)
         assert message == f"the matrix has no factorisation L D L^T modulo {modulus}", message
@@ -107,16 +111,40 @@ def check_refusals():
     assert ns.solve_rational(one, np.empty((1, 0), np.int64)).shape == (1, 0)
 
 
-def check_wrong_digits():
-    """Where a call answered wrongly, nothing is returned."""
-    right = _rational.solve_lower
-    system = sp.csc_matrix(np.array([[2, 1], [1, 3]])), np.array([8, 19])
-    try:
-        _rational.solve_lower = lambda *arguments, **words: right(*arguments, **words) ^ 1
-        assert "at fault" in refused(ns.Error, *system)
-    finally:
-        _rational.solve_lower = right
-    assert ns.solve_rational(*system).tolist() == [1, 6]
+def check_mistakes():
+    """Where a call or a step in Python answers wrongly, there is an error, and nothing is returned."""
+    system = sp.csc_matrix(np.array([[2, 1], [1, 3]])), np.array([8, 20])
+    want = [Fraction(4, 5), Fraction(32, 5)]
+
+    def changed(matrix):
+        matrix.data[0] += 1
+        return matrix
+
+    mistakes = {
+        "factor_symmetric": lambda found: (found[0], 2 * found[1]),
+        "solve_lower": lambda found: found ^ 1,
+        "multiply_dense": lambda found: found + 1,
+        "_symmetric": changed,
+        "_fractions": lambda found: found and ([value + 1 for value in found[0]], found[1]),
+        "_shaped": lambda found: found[::-1],
+        "_length": lambda found: 1,
+        "_over_one_denominator": lambda found: ([value + 1 for value in found[0]], found[1]),
+    }
+    for name, mistaken in mistakes.items():
+        for assumed in (False, True):
+            right = getattr(_rational, name)
+            setattr(_rational, name, lambda *arguments, **words: mistaken(right(*arguments, **words)))
+            try:
+                # Modulo 3, a solution takes several steps.
+                found = ns.solve_rational(*system, 3, assumed)
+            except ns.Error as error:
+                assert "at fault" in str(error), error
+            else:
+                # With a smaller bound there are fewer attempts, and one of them may be enough.
+                assert found.tolist() == want and name == "_length", name
+            finally:
+                setattr(_rational, name, right)
+        assert ns.solve_rational(*system).tolist() == want
 
 
 def check_examples():
@@ -131,5 +159,5 @@ check_examples()
 check_random_systems()
 check_large_systems()
 check_refusals()
-check_wrong_digits()
+check_mistakes()
 print("python: 500 rational systems are solved as fractions solve them, and a grid of 400 unknowns")

@@ -10,8 +10,11 @@ may change an operand during a call. Otherwise several threads may call at once,
 Assembly, sums, products, division, solves and factors are also computed modulo a prime: `modulus` is one of `MODULI`. An
 integer then means its residue, also where it is negative, and the values of a result are from 0 to modulus - 1.
 
-`Exact` is a matrix that the library owns, with operators and solves: a chain of them copies no operand and tests no array
-twice. Its values are integers modulo 2^64.
+`Exact` is a matrix that the library owns, with operators and solves: a chain of them tests no array twice, and the operators
+copy no operand. Its values are integers modulo 2^64.
+
+Calls on symmetric matrices test that they are, unless `assume_symmetric=True` is given: then they read the entries on and
+above the diagonal alone.
 
 A refusal is an `Error` or a `MemoryError`, and an argument of the wrong type is a `TypeError`.
 

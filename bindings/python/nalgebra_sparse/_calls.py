@@ -17,6 +17,15 @@ except OSError as error:
 if ctypes.sizeof(ctypes.c_size_t) != 8:
     raise ImportError("nalgebra_sparse needs 64 bits")
 
+
+def _symbol(name: str) -> Any:
+    try:
+        return getattr(_library, f"nalgebra_sparse_{name}")
+    except AttributeError as error:
+        message = f"{_PATH} has no call nalgebra_sparse_{name}, so it is another library, or one of another version"
+        raise ImportError(f"{message}: run bindings/python/build, or name the shared library in NALGEBRA_SPARSE_LIBRARY") from error
+
+
 # What is passed for an empty array, whose own pointer may be null or not aligned.
 _NOWHERE = ctypes.c_uint64()
 
@@ -150,7 +159,7 @@ _TABLE = {
 
 
 def _declared(name: str, kinds: list[Kind]) -> Any:
-    function = getattr(_library, f"nalgebra_sparse_{name}")
+    function = _symbol(name)
     function.argtypes = [kind for parameter in kinds for kind in parameter.types]
     function.restype = ctypes.c_int32
     return function
@@ -175,7 +184,7 @@ def call(name: str, *arguments: Any) -> None:
 
 
 def _freeing(name: str, kind: Any) -> Any:
-    function = getattr(_library, f"nalgebra_sparse_{name}")
+    function = _symbol(name)
     function.argtypes = [ctypes.POINTER(kind)]
     function.restype = None
     return function

@@ -4,7 +4,7 @@ from __future__ import annotations
 import ctypes
 import threading
 import weakref
-from typing import Any
+from typing import Any, Optional
 
 import numpy as np
 import scipy.sparse as sp
@@ -13,16 +13,25 @@ from ._calls import Handle, call, free
 from ._errors import Error
 from ._factorisation import Factorisation, own, solved
 from ._matrices import _value
-from ._operands import Integers, Matrix, lanes_of, shape_of, triplets_of
+from ._operands import Integers, Matrix, check_symmetric, flag, lanes_of, shape_of, triplets_of
 from ._results import empty, matrix_of
+
+
+def _operand(other: Any) -> Optional[Exact]:
+    """Returns the operand of an operator: an `Exact`, that of a SciPy matrix, or None for what is no matrix."""
+    if sp.issparse(other):
+        return Exact.from_scipy(other)
+    return other if isinstance(other, Exact) else None
 
 
 class Exact:
     """A matrix of integers modulo 2^64 that the library owns. It does not change.
 
     Its arrays are tested once, when it is made of a SciPy matrix or of triplets. The operators `+`, `-`, `*` by an integer
-    and `@`, and `T`, return new matrices and copy no operand. It is freed with the object, and several threads may use it at
-    once.
+    and `@`, and `T`, return new matrices and copy no operand. One operand of `+`, `-` and `@` may be a SciPy matrix by rows
+    or by columns, whose arrays are tested and copied. `solve_lower`, `solve_upper` and `factor` copy the matrix.
+
+    It is freed with the object, and several threads may use it at once. Copies share the matrix, and a pickle has its arrays.
 
     >>> import numpy as np, scipy.sparse as sp
     >>> a = Exact.from_scipy(sp.csr_matrix(np.array([[1, 2], [0, 3]])))
@@ -35,8 +44,9 @@ class Exact:
 
     __slots__ = ("_handle", "_lock", "_shape", "_nnz", "__weakref__")
 
-    # The operators of NumPy leave `integer * matrix` to this class.
+    # The operators of NumPy and of SciPy leave an `Exact` on their right to this class.
     __array_ufunc__ = None
+    __array_priority__ = 1000.0
 
     _handle: Handle
     _lock: Any
@@ -50,7 +60,7 @@ class Exact:
     def _made(cls, name: str, *arguments: Any) -> Exact:
         """Returns the matrix that a call makes, whose last argument is the handle for it."""
         self = object.__new__(cls)
-        self._handle, self._lock = Handle(), threading.Lock()
+        self._handle, self._lock = Handle(), threading.RLock()
         call(name, *arguments, self._handle)
         weakref.finalize(self, free, self._handle)
         rows, cols, places = ctypes.c_size_t(), ctypes.c_size_t(), ctypes.c_size_t()
@@ -146,6 +156,15 @@ class Exact:
         """The transpose."""
         return self._with("matrix_transpose")
 
+    def __copy__(self) -> Exact:
+        return self._with("matrix_clone")
+
+    def __deepcopy__(self, memo: Any) -> Exact:
+        return self.__copy__()
+
+    def __reduce__(self) -> Any:
+        return Exact.from_scipy, (self.to_scipy(),)
+
     def __repr__(self) -> str:
         return f"<Exact: {self._shape[0]} by {self._shape[1]} with {self._nnz} places>"
 
@@ -153,34 +172,55 @@ class Exact:
         if self._shape != other._shape:
             raise Error(f"the shapes {self._shape} and {other._shape} differ")
 
-    def __add__(self, other: Any) -> Exact:
-        if not isinstance(other, Exact):
-            return NotImplemented
+    def _plus(self, other: Exact) -> Exact:
         self._fits(other)
         return self._and("matrix_add", other)
 
-    def __sub__(self, other: Any) -> Exact:
-        if not isinstance(other, Exact):
-            return NotImplemented
+    def _minus(self, other: Exact) -> Exact:
         self._fits(other)
         return self._and("matrix_subtract", other)
+
+    def _times(self, other: Exact) -> Exact:
+        if self._shape[1] != other._shape[0]:
+            raise Error(f"the shapes {self._shape} and {other._shape} do not fit: the inner sizes differ")
+        return self._and("matrix_multiply", other)
+
+    def __add__(self, other: Any) -> Exact:
+        operand = _operand(other)
+        return NotImplemented if operand is None else self._plus(operand)
+
+    def __radd__(self, other: Any) -> Exact:
+        operand = _operand(other)
+        return NotImplemented if operand is None else operand._plus(self)
+
+    def __sub__(self, other: Any) -> Exact:
+        operand = _operand(other)
+        return NotImplemented if operand is None else self._minus(operand)
+
+    def __rsub__(self, other: Any) -> Exact:
+        operand = _operand(other)
+        return NotImplemented if operand is None else operand._minus(self)
+
+    def __matmul__(self, other: Any) -> Exact:
+        operand = _operand(other)
+        return NotImplemented if operand is None else self._times(operand)
+
+    def __rmatmul__(self, other: Any) -> Exact:
+        operand = _operand(other)
+        return NotImplemented if operand is None else operand._times(self)
 
     def __neg__(self) -> Exact:
         return self._with("matrix_scale", -1)
 
     def __mul__(self, factor: Any) -> Exact:
+        if sp.issparse(factor) or isinstance(factor, Exact):
+            # SciPy would take this object for a number.
+            raise TypeError("`*` takes an integer: the product of two matrices is `@`")
         if isinstance(factor, (bool, np.bool_)) or not isinstance(factor, (int, np.integer)):
             return NotImplemented
         return self._with("matrix_scale", _value("factor", factor))
 
     __rmul__ = __mul__
-
-    def __matmul__(self, other: Any) -> Exact:
-        if not isinstance(other, Exact):
-            return NotImplemented
-        if self._shape[1] != other._shape[0]:
-            raise Error(f"the shapes {self._shape} and {other._shape} do not fit: the inner sizes differ")
-        return self._and("matrix_multiply", other)
 
     def add_scaled(self, alpha: int, other: Exact, beta: int) -> Exact:
         """Returns the sum `alpha * self + beta * other`, on the union of the places.
@@ -212,7 +252,7 @@ class Exact:
         [5, 2]
         """
         with self._own() as a:
-            return solved("matrix_solve_lower", b, self._square(), a, bool(transposed))
+            return solved("matrix_solve_lower", b, self._square(), a, flag("transposed", transposed))
 
     def solve_upper(self, b: Integers, transposed: bool = False) -> Integers:
         """Returns the X for which U X = b, or U^T X = b, where U is the part of the matrix on and above its diagonal.
@@ -223,27 +263,37 @@ class Exact:
         [5, 2]
         """
         with self._own() as a:
-            return solved("matrix_solve_upper", b, self._square(), a, bool(transposed))
+            return solved("matrix_solve_upper", b, self._square(), a, flag("transposed", transposed))
 
-    def factor(self) -> Factorisation:
-        """Returns the exact factors L D L^T of the symmetric matrix with the entries of this one on and above the diagonal.
+    def factor(self, assume_symmetric: bool = False) -> Factorisation:
+        """Returns the exact factors L D L^T of the matrix, which must be symmetric.
+
+        A matrix that is not symmetric is an `Error`; the test makes its transpose and a difference. With
+        `assume_symmetric=True` there is no test, and the factors are those of the symmetric matrix with the entries of
+        this one on and above the diagonal.
 
         >>> import numpy as np, scipy.sparse as sp
-        >>> factors = Exact.from_scipy(sp.csr_array(np.array([[1, 2], [0, 7]]))).factor()
+        >>> factors = Exact.from_scipy(sp.csr_array(np.array([[1, 2], [2, 7]]))).factor()
         >>> factors.solve(np.array([3, 9])).tolist()
         [1, 1]
+        >>> upper = Exact.from_scipy(sp.csr_array(np.array([[1, 2], [0, 7]])))
+        >>> upper.factor(assume_symmetric=True).solve(np.array([3, 9])).tolist()
+        [1, 1]
         """
+        size = self._square()
+        if not flag("assume_symmetric", assume_symmetric):
+            check_symmetric((self - self.T).to_scipy())
         with self._own() as a:
-            return Factorisation._made(a, self._square())
+            return Factorisation._made("matrix_factor", a, size)
 
-    def solve(self, b: Integers) -> Integers:
-        """Returns the X for which A X = b, where A is symmetric and has the entries of this matrix on and above its diagonal.
+    def solve(self, b: Integers, assume_symmetric: bool = False) -> Integers:
+        """Returns the X for which A X = b, where A is this matrix, which must be symmetric.
 
-        It is `factor().solve(b)`.
+        It is `factor(assume_symmetric).solve(b)`.
 
         >>> import numpy as np, scipy.sparse as sp
         >>> a = Exact.from_scipy(sp.csr_array(np.array([[1, 2], [2, 5]])))
         >>> a.solve(np.array([5, 12])).tolist()
         [1, 2]
         """
-        return self.factor().solve(b)
+        return self.factor(assume_symmetric).solve(b)

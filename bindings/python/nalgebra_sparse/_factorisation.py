@@ -8,13 +8,17 @@ from typing import Any, Iterator
 
 import numpy as np
 
-from ._calls import FactorHandle, Handle, call, free
+from ._calls import FactorHandle, call, free
 from ._operands import Integers, dense_of
 
 
 @contextlib.contextmanager
 def own(name: str, handle: Any, lock: Any) -> Iterator[Any]:
-    """Lends a second handle. A call takes different handles, and each handle is used by one call at a time."""
+    """Lends a second handle. A call takes different handles, and each handle is used by one call at a time.
+
+    The lock is re-entrant: a signal handler may use the matrix of the code that it interrupts. It runs before a call or
+    behind it, and never during one.
+    """
     second = type(handle)()
     with lock:
         call(name, handle, second)
@@ -35,7 +39,8 @@ def solved(name: str, b: Any, rows: int, *arguments: Any) -> Integers:
 class Factorisation:
     """The exact factors L D L^T of a symmetric matrix of integers modulo 2^64, which the library owns: `Exact.factor` makes it.
 
-    It is freed with the object, and several threads may use it at once.
+    It is freed with the object, and several threads may use it at once. Copies share the factors. They are not pickled:
+    pickle the matrix, and factor it again.
 
     >>> import numpy as np, scipy.sparse as sp
     >>> from nalgebra_sparse import Exact
@@ -56,12 +61,26 @@ class Factorisation:
         raise TypeError("call Exact.factor")
 
     @classmethod
-    def _made(cls, matrix: Handle, size: int) -> Factorisation:
+    def _made(cls, name: str, operand: Any, size: int) -> Factorisation:
+        """Returns the factors that a call makes of a handle."""
         self = object.__new__(cls)
-        self._handle, self._lock, self._size = FactorHandle(), threading.Lock(), size
-        call("matrix_factor", matrix, self._handle)
+        self._handle, self._lock, self._size = FactorHandle(), threading.RLock(), size
+        call(name, operand, self._handle)
         weakref.finalize(self, free, self._handle)
         return self
+
+    def _own(self) -> Any:
+        return own("factors_clone", self._handle, self._lock)
+
+    def __copy__(self) -> Factorisation:
+        with self._own() as factors:
+            return Factorisation._made("factors_clone", factors, self._size)
+
+    def __deepcopy__(self, memo: Any) -> Factorisation:
+        return self.__copy__()
+
+    def __reduce__(self) -> Any:
+        raise TypeError("a Factorisation cannot be pickled: pickle the matrix, and factor it again")
 
     @property
     def shape(self) -> tuple[int, int]:
@@ -80,5 +99,5 @@ class Factorisation:
         >>> factors.solve(np.array([5, 12])).tolist()
         [1, 2]
         """
-        with own("factors_clone", self._handle, self._lock) as factors:
+        with self._own() as factors:
             return solved("factors_solve", b, self._size, factors)

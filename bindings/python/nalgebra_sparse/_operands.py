@@ -43,8 +43,18 @@ def integer(name: str, number: Any) -> int:
     return int(number)
 
 
+def flag(name: str, value: Any) -> bool:
+    """Returns a truth value of Python. What only counts as true or false, such as a text or NaN, is refused."""
+    if not isinstance(value, (bool, np.bool_)):
+        raise TypeError(f"{name} must be True or False, not {value!r}")
+    return bool(value)
+
+
 def shape_of(name: str, shape: Any) -> tuple[int, int]:
     """Returns the two sizes of a shape. Indices of SciPy have 64 bits with a sign, so a size is below 2^63."""
+    # Bytes would be read as the numbers of their characters.
+    if not isinstance(shape, (tuple, list, np.ndarray)):
+        raise TypeError(f"{name} must be a tuple of two integers, not {shape!r}")
     try:
         sizes = [integer(name, size) for size in shape]
     except TypeError as error:
@@ -56,9 +66,15 @@ def shape_of(name: str, shape: Any) -> tuple[int, int]:
     return sizes[0], sizes[1]
 
 
-def _vector(name: str, array: Any) -> Integers:
+def _check_array(name: str, array: Any) -> None:
     if not isinstance(array, np.ndarray):
         raise TypeError(f"{name} must be a NumPy array, not {type(array).__name__}")
+    if isinstance(array, np.ma.MaskedArray):
+        raise TypeError(f"{name} must not be a masked array, whose mask would be ignored: call filled()")
+
+
+def _vector(name: str, array: Any) -> Integers:
+    _check_array(name, array)
     if array.ndim != 1:
         raise TypeError(f"{name} must have one dimension, not {array.ndim}")
     return np.asarray(array)
@@ -131,13 +147,26 @@ def dense_of(name: str, matrix: Any, rows: int) -> tuple[Integers, int]:
 
     The values of a matrix of `int64` that is stored column by column (NumPy's order "F") are not copied.
     """
-    if not isinstance(matrix, np.ndarray) or matrix.ndim not in (1, 2):
-        raise TypeError(f"{name} must be a NumPy array with one or two dimensions")
+    _check_array(name, matrix)
+    if matrix.ndim not in (1, 2):
+        raise TypeError(f"{name} must have one or two dimensions, not {matrix.ndim}")
     if matrix.shape[0] != rows:
         raise Error(f"{name} must have {rows} rows, not {matrix.shape[0]}")
     _check_values(name, matrix.dtype)
     values = np.require(np.asarray(matrix), np.int64, ["F", "A"]).reshape(-1, order="F")
     return values, 1 if matrix.ndim == 1 else matrix.shape[1]
+
+
+def check_symmetric(difference: Any) -> None:
+    """Raises an `Error` unless the difference of a matrix and its transpose is 0."""
+    (places,) = np.nonzero(difference.data)
+    if places.size:
+        lane = int(np.searchsorted(difference.indptr, places[0], "right")) - 1
+        i, j = sorted((lane, int(difference.indices[places[0]])))
+        raise Error(
+            f"the matrix is not symmetric: its entries at ({i}, {j}) and ({j}, {i}) differ; assume_symmetric=True takes "
+            "the entries on and above the diagonal, without a test"
+        )
 
 
 def modular(name: str, modulus: Any) -> tuple[Any, ...]:

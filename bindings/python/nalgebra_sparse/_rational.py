@@ -1,7 +1,8 @@
 """Exact rational solutions of symmetric systems of integers.
 
 This is Python over the calls of the library: `factor_symmetric` and `solve_lower` modulo a prime, and `multiply_dense`
-modulo 2^64, are proved; what joins them is tested. A solution is returned only after A x = b was tested in whole numbers.
+modulo 2^64, are proved; what joins them is tested. A solution is returned only after A x = b was tested in whole numbers, of
+A, x and b as they are given and returned. So a mistake before that test ends in an error, and not in a wrong solution.
 """
 from __future__ import annotations
 
@@ -15,19 +16,21 @@ import scipy.sparse as sp
 from ._errors import Error, Singular
 from ._matrices import assemble_csr, multiply_dense
 from ._operands import Integers, Matrix, dense_of, integer, square_of
-from ._systems import factor_symmetric, solve_lower
+from ._systems import factor_symmetric, require_symmetric, solve_lower
 
 # The greatest sum of absolute values in a row. A residual then fits in 64 bits.
 _MOST_IN_A_ROW = 2**62
 
 
-def solve_rational(matrix: Matrix, b: Integers, modulus: int = 2305843009213693951) -> Any:
+def solve_rational(matrix: Matrix, b: Integers, modulus: int = 2305843009213693951, assume_symmetric: bool = False) -> Any:
     """Returns the rational X for which A X = b, as an array of `fractions.Fraction` in the shape of b.
 
-    A is symmetric and has the integers of a square matrix by columns on and above its diagonal; they don't wrap here. The
-    absolute values in a row of A must add up to less than 2^62. A is factored once modulo a prime, an odd one of `MODULI`;
-    each further step adds a digit in base `modulus` to the solution (J. D. Dixon 1982), until fractions with these digits
-    solve the system. A solution was tested in whole numbers, and it is the only one. `Singular` says that A has no
+    A is a symmetric matrix of integers by columns; they don't wrap here. A matrix that is not symmetric is an `Error`. With
+    `assume_symmetric=True` there is no test, and A has the entries of the matrix on and above the diagonal.
+
+    The absolute values in a row of A must add up to less than 2^62. A is factored once modulo a prime, an odd one of
+    `MODULI`; each further step adds a digit in base `modulus` to the solution (J. D. Dixon 1982), until fractions with these
+    digits solve the system. A solution was tested in whole numbers, and it is the only one. `Singular` says that A has no
     factorisation L D L^T modulo this prime; it may have one modulo another.
 
     Each step costs three solves and one product. As many steps are needed as numerators and denominators have digits, and
@@ -38,13 +41,16 @@ def solve_rational(matrix: Matrix, b: Integers, modulus: int = 23058430092136939
     >>> [str(x) for x in solve_rational(a, np.array([1, 1]))]
     ['2/5', '1/5']
     """
+    require_symmetric(matrix, None, assume_symmetric)
     system = _System(matrix, b, modulus)
     most = system.most_steps()
     for steps in _doubled(most):
         digits = system.lifted(steps)
         found = _fractions(digits, system.modulus**steps)
-        if found is not None and system.is_solved_by(*found):
-            return _shaped(*found, b.shape)
+        if found is not None:
+            solution = _shaped(*found, b.shape)
+            if _solves(matrix, solution, b, assume_symmetric):
+                return solution
     raise Error(f"no fraction with {most} digits in base {modulus} solves the system: the library is at fault")
 
 
@@ -67,7 +73,8 @@ class _System:
         self.size, _ = square_of("matrix", matrix)
         self.right, self.cols = dense_of("b", b, self.size)
         try:
-            self.lower, diagonal = factor_symmetric(matrix, self.modulus)
+            # Whether the matrix is symmetric was tested without a modulus.
+            self.lower, diagonal = factor_symmetric(matrix, self.modulus, assume_symmetric=True)
         except Singular as error:
             raise Singular(f"the matrix has no factorisation L D L^T modulo {self.modulus}") from error
         # A diagonal matrix is a lower triangle, so a solve divides by D.
@@ -109,15 +116,37 @@ class _System:
         self.residual = (self.residual - multiply_dense(self.rows, digit)) * inverse
         self.digits.append(digit)
 
-    def is_solved_by(self, numerators: list[int], denominator: int) -> bool:
-        """Says whether the numerators, divided by the denominator, solve the system, in whole numbers."""
-        right = self.right.tolist()
-        for column in range(self.cols):
-            start = column * self.size
-            for i, row in enumerate(_entries_of(self.rows)):
-                if sum(value * numerators[start + j] for j, value in row) != right[start + i] * denominator:
-                    return False
-        return True
+
+def _solves(matrix: Matrix, solution: Any, b: Integers, assume_symmetric: bool) -> bool:
+    """Says whether A x = b for each column, in whole numbers. A and b are read here as they were given."""
+    if solution.shape != b.shape:
+        return False
+    entries = list(_entries_of(matrix))
+    columns, rights = ([solution], [b]) if b.ndim == 1 else (solution.T, b.T)
+    for column, right in zip(columns, rights):
+        numerators, denominator = _over_one_denominator(column.tolist())
+        if _times(entries, numerators, assume_symmetric) != [value * denominator for value in right.tolist()]:
+            return False
+    return True
+
+
+def _over_one_denominator(numbers: list[Fraction]) -> tuple[list[int], int]:
+    denominator = 1
+    for number in numbers:
+        denominator *= number.denominator // math.gcd(denominator, number.denominator)
+    return [number.numerator * (denominator // number.denominator) for number in numbers], denominator
+
+
+def _times(entries: list[list[tuple[int, int]]], x: list[int], mirror: bool) -> list[int]:
+    """Returns the product of a matrix, given by its columns, and x; or of its part on and above the diagonal, mirrored."""
+    sums = [0] * len(entries)
+    for j, column in enumerate(entries):
+        for i, value in column:
+            if not mirror or i <= j:
+                sums[i] += value * x[j]
+            if mirror and i < j:
+                sums[j] += value * x[i]
+    return sums
 
 
 def _symmetric(matrix: Matrix, size: int) -> sp.csr_matrix:
@@ -137,8 +166,8 @@ def _rows_of(matrix: sp.csr_matrix) -> Iterator[list[int]]:
         yield values[start:end]
 
 
-def _entries_of(matrix: sp.csr_matrix) -> Iterator[list[tuple[int, int]]]:
-    """Yields the columns and the values of each row."""
+def _entries_of(matrix: Matrix) -> Iterator[list[tuple[int, int]]]:
+    """Yields the rows and the values of each column."""
     entries = list(zip(matrix.indices.tolist(), matrix.data.tolist()))
     for start, end in zip(matrix.indptr.tolist(), matrix.indptr[1:].tolist()):
         yield entries[start:end]

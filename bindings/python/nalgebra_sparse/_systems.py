@@ -8,7 +8,8 @@ import numpy as np
 
 from ._calls import call
 from ._errors import Error
-from ._operands import Integers, Lanes, Matrix, dense_of, modular, square_of
+from ._matrices import subtract, transpose
+from ._operands import Integers, Lanes, Matrix, check_symmetric, dense_of, flag, modular, square_of
 from ._results import empty, matrix_of, with_room
 
 
@@ -31,17 +32,29 @@ def solve_lower(matrix: Matrix, b: Integers, transposed: bool = False, modulus: 
     >>> solve_lower(l, np.array([9, 6]), transposed=True).tolist()
     [5, 2]
     """
-    return _solved("solve_lower", modulus, matrix, b, bool(transposed))
+    return _solved("solve_lower", modulus, matrix, b, flag("transposed", transposed))
 
 
-def solve_symmetric(matrix: Matrix, b: Integers, modulus: Optional[int] = None) -> Integers:
-    """Returns the X for which A X = b, where A is symmetric and has the entries of a square matrix by columns on and above its diagonal.
+def require_symmetric(matrix: Matrix, modulus: Optional[int], assume_symmetric: Any) -> None:
+    """Raises an `Error` unless a square matrix by columns is its transpose, modulo 2^64 or modulo a prime, or is to be taken for it."""
+    assumed = flag("assume_symmetric", assume_symmetric)
+    square_of("matrix", matrix)
+    if not assumed:
+        check_symmetric(subtract(matrix, transpose(matrix), modulus))
+
+
+def solve_symmetric(matrix: Matrix, b: Integers, modulus: Optional[int] = None, assume_symmetric: bool = False) -> Integers:
+    """Returns the X for which A X = b, where A is a symmetric matrix by columns.
+
+    A matrix that is not symmetric, modulo 2^64 or modulo `modulus`, is an `Error`; the test makes its transpose and a
+    difference. With `assume_symmetric=True` there is no test, and A has the entries of the matrix on and above the diagonal.
 
     >>> import numpy as np, scipy.sparse as sp
     >>> a = sp.csc_array(np.array([[2, 1], [1, 3]]))
     >>> solve_symmetric(a, np.array([8, 19]), modulus=7).tolist()
     [1, 6]
     """
+    require_symmetric(matrix, modulus, assume_symmetric)
     return _solved("solve_symmetric", modulus, matrix, b)
 
 
@@ -76,17 +89,21 @@ def _fill_places(size: int, triangle: str, lanes: Lanes) -> int:
     return places.value
 
 
-def factor_symmetric(matrix: Matrix, modulus: Optional[int] = None) -> tuple[Matrix, Integers]:
+def factor_symmetric(matrix: Matrix, modulus: Optional[int] = None, assume_symmetric: bool = False) -> tuple[Matrix, Integers]:
     """Returns the factors L and D of a symmetric matrix A = L D L^T: L by columns, and the diagonal of D as an array.
 
-    A has the entries of a square matrix by columns on and above its diagonal. L has ones on its diagonal and exactly the
-    places of `fill` with "upper", also where a value is 0. Each entry of D has an inverse.
+    A matrix that is not symmetric, modulo 2^64 or modulo `modulus`, is an `Error`; the test makes its transpose and a
+    difference. With `assume_symmetric=True` there is no test, and A has the entries of the matrix on and above the diagonal.
+
+    L has ones on its diagonal and exactly the places of `fill` with "upper", also where a value is 0. Each entry of D has
+    an inverse.
 
     >>> import numpy as np, scipy.sparse as sp
-    >>> l, d = factor_symmetric(sp.csc_matrix(np.array([[1, 2], [0, 7]])))
+    >>> l, d = factor_symmetric(sp.csc_matrix(np.array([[1, 2], [2, 7]])))
     >>> l.toarray().tolist(), d.tolist()
     ([[1, 0], [2, 1]], [1, 3])
     """
+    require_symmetric(matrix, modulus, assume_symmetric)
     name, *start = modular("factor_symmetric", modulus)
     size, lanes = square_of("matrix", matrix)
     room = _fill_places(size, "upper", lanes)

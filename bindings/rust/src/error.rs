@@ -38,6 +38,8 @@ pub enum Error {
     Unreadable,
     /// The shapes of the operands do not fit.
     ShapeMismatch,
+    /// The matrix is not symmetric. Only the checked calls test this.
+    NotSymmetric,
     /// The library answers with a status that this version of the crate does not know.
     UnknownStatus(i32),
 }
@@ -62,6 +64,7 @@ impl fmt::Display for Error {
             Error::NonSquare => "a symmetric or skew-symmetric matrix is not square",
             Error::Unreadable => "the bytes of a text are not UTF-8",
             Error::ShapeMismatch => "the shapes of the operands do not fit",
+            Error::NotSymmetric => "the matrix is not symmetric",
         })
     }
 }

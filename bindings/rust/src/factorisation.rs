@@ -10,7 +10,7 @@ use crate::{calls, Error, Matrix, System};
 
 impl Matrix {
     /// Replaces B by the X for which `L X = B` or `L^T X = B`, where L is the part of the matrix on and below its diagonal.
-    /// B and X have `cols` columns, one after the other.
+    /// B and X have `cols` columns, one after the other. The call copies B and the matrix.
     ///
     /// # Errors
     ///
@@ -51,7 +51,8 @@ impl Matrix {
     }
 
     /// Returns the exact factors `L D L^T` of the symmetric matrix whose entries on and above the diagonal are those of this
-    /// matrix.
+    /// matrix, which is copied. What is below the diagonal has no effect: [`Matrix::factor_checked`] tests that the matrix
+    /// is symmetric.
     ///
     /// # Errors
     ///

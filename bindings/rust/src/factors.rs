@@ -15,7 +15,8 @@ pub struct Factors {
 }
 
 /// Returns the factors of the symmetric matrix whose entries on and above the diagonal are those of a square matrix. L has
-/// exactly the places of [`fill`](crate::fill) with the upper triangle.
+/// exactly the places of [`fill`](crate::fill) with the upper triangle. What is below the diagonal has no effect:
+/// [`factor_symmetric_checked`](crate::factor_symmetric_checked) tests that the matrix is symmetric.
 ///
 /// # Errors
 ///

@@ -10,8 +10,9 @@ use crate::{calls, Arrays, Error, Rows};
 
 /// A matrix over the integers modulo 2^64 that the library owns.
 ///
-/// Its arrays are tested once, when it is made, and no operation copies its operands. Clones share the arrays. It may go to
-/// another thread; threads that use a matrix at once have a clone each.
+/// Its arrays are tested once, when it is made. Transposes, multiples, sums and products copy no operand; solves with a
+/// triangle and factorisations copy the matrix. Clones share the arrays. It may go to another thread; threads that use a
+/// matrix at once have a clone each.
 ///
 /// ```
 /// use nalgebra_sparse_exact::Matrix;

@@ -35,7 +35,8 @@ pub fn solve_lower(a: Columns<'_>, system: System, cols: usize, b: &[i64]) -> Re
 }
 
 /// Returns the X for which `A X = B`, where A is the symmetric matrix whose entries on and above the diagonal are those of a
-/// square matrix. B and X have `cols` columns, one after the other.
+/// square matrix. B and X have `cols` columns, one after the other. What is below the diagonal has no effect:
+/// [`solve_symmetric_checked`](crate::solve_symmetric_checked) tests that the matrix is symmetric.
 ///
 /// # Errors
 ///

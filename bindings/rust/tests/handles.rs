@@ -142,6 +142,14 @@ fn systems_are_refused() {
     assert_eq!(even.solve_lower_mut(System::Lower, 1, &mut x), Err(Error::Singular));
     assert_eq!(even.solve_upper_mut(System::Transposed, 1, &mut x), Err(Error::Singular));
     assert_eq!(even.factor().unwrap_err(), Error::Singular);
+    let upper = Matrix::from_triplets((2, 2), &[0, 0, 1], &[0, 1, 1], &[1, 2, 7]).unwrap();
+    assert_eq!(upper.factor_checked().unwrap_err(), Error::NotSymmetric);
+    assert_eq!(wide.factor_checked().unwrap_err(), Error::ShapeMismatch);
+    let mirrored = upper.add(&Matrix::from_triplets((2, 2), &[1, 0], &[0, 0], &[2, 0]).unwrap()).unwrap();
+    let (mut y, mut z) = ([3, 9], [3, 9]);
+    mirrored.factor_checked().unwrap().solve_mut(1, &mut y).unwrap();
+    upper.factor().unwrap().solve_mut(1, &mut z).unwrap();
+    assert_eq!((y, z), ([1, 1], [1, 1]));
     let factors = even.add(&Matrix::from_triplets((1, 1), &[0], &[0], &[1]).unwrap()).unwrap().factor().unwrap();
     assert_eq!(factors.solve_mut(2, &mut x), Err(Error::InvalidStructure));
     assert_eq!(x, [7]);

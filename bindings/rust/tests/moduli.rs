@@ -6,7 +6,8 @@
 #![allow(clippy::cast_possible_truncation, clippy::cast_possible_wrap, clippy::cast_sign_loss)]
 
 use nalgebra_sparse_exact::{
-    divide_mod, factor_symmetric, factor_symmetric_mod, fill, solve_lower_mod, solve_symmetric_mod, ColumnArrays, Columns, Error, System,
+    divide_mod, factor_symmetric, factor_symmetric_checked, factor_symmetric_mod, factor_symmetric_mod_checked, fill, solve_lower_mod,
+    solve_symmetric, solve_symmetric_checked, solve_symmetric_mod, solve_symmetric_mod_checked, ColumnArrays, Columns, Error, System,
     Triangle, MODULI,
 };
 
@@ -143,6 +144,37 @@ fn quotients_and_solves_satisfy_their_equations() {
             Err(error) => assert!(error == Error::Singular && !has_inverse(m, divisor.into())),
         }
     }
+}
+
+/// The checked calls answer as the plain ones where the matrix is symmetric in the ring, and are refused elsewhere.
+#[test]
+fn checked_calls_take_symmetric_matrices_alone() {
+    let mut random = Random(0x1234_5678_9abc_def1);
+    let mut counts = [0, 0];
+    for case in 0..1000 {
+        let m = if case % 4 == 0 { 0 } else { MODULI[random.below(3)] };
+        let (matrix, dense) = square(&mut random, m);
+        let (a, n) = (matrix.as_columns(), dense.len());
+        let differ = |i: usize, k: usize| residue(m, i128::from(dense[i][k])) != residue(m, i128::from(dense[k][i]));
+        let is_symmetric = (0..n).all(|i| (0..n).all(|k| !differ(i, k)));
+        counts[usize::from(is_symmetric)] += 1;
+        let b: Vec<i64> = (0..n).map(|_| random.value()).collect();
+        let (factors, solution) = if m == 0 {
+            (factor_symmetric_checked(a), solve_symmetric_checked(a, 1, &b))
+        } else {
+            (factor_symmetric_mod_checked(m, a), solve_symmetric_mod_checked(m, a, 1, &b))
+        };
+        if is_symmetric {
+            assert_eq!(factors, if m == 0 { factor_symmetric(a) } else { factor_symmetric_mod(m, a) });
+            assert_eq!(solution, if m == 0 { solve_symmetric(a, 1, &b) } else { solve_symmetric_mod(m, a, 1, &b) });
+        } else {
+            assert_eq!((factors.err(), solution.err()), (Some(Error::NotSymmetric), Some(Error::NotSymmetric)));
+        }
+    }
+    assert!(counts[0] > 100 && counts[1] > 100, "{counts:?}");
+    let wide = Columns::new((1, 2), (&[0, 0, 0], &[], &[]));
+    assert_eq!(solve_symmetric_checked(wide, 1, &[1]), Err(Error::ShapeMismatch));
+    assert_eq!(factor_symmetric_mod_checked(4, Columns::new((0, 0), (&[0], &[], &[]))), Err(Error::UnknownModulus));
 }
 
 #[test]

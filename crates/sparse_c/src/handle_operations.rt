@@ -1,11 +1,13 @@
 //! Transposes, sums and products of matrices behind handles.
 
-ghost use Rattle.std.specs.Prelude.{◌≡◌};
+ghost use Rattle.std.specs.Prelude.{◌≡◌, ◌⊎◌, None};
 ghost use Rattle.sparse_algebra.specs.Integers.{element_of};
 ghost use Rattle.sparse_algebra.specs.Plain.{plain_difference, plain_product};
 ghost use Rattle.sparse_algebra.specs.Plain.{plain_scaled, plain_sum};
 ghost use Rattle.sparse_algebra.specs.Plain.{plain_transpose};
 ghost use Rattle.sparse_c_arrays.specs.Arrays.{ring64};
+ghost use Rattle.sparse_c_arrays.specs.Statuses.{number_of};
+ghost use Rattle.sparse_c_arrays.specs.declared.refusal.Refusal.TheVariants.{EmptyHandle, OutOfMemory};
 ghost use Rattle.sparse_handles.specs.Behind.{plain_behind, Answers, IsEmpty};
 ghost use Rattle.sparse_handles.specs.Behind.{IsUnlike, IsUnmatched};
 ghost use Rattle.sparse_handles.specs.Behind.{Holds};
@@ -23,6 +25,7 @@ pub extern "C" fn nalgebra_sparse_matrix_transpose(
     out: &mut MatrixHandle,
 ) -> i32
     ensures kept { a.new.value ≡ a.old.value }
+    ensures missing { a.old.value ≡ None → result ≡ number_of EmptyHandle }
     ensures answer { Answers result (IsEmpty a.old.value) (out.new.value ≡ out.old.value)
         (Holds out.new.value (plain_transpose ring64 (plain_behind a.old.value))) }
 {
@@ -38,6 +41,7 @@ pub extern "C" fn nalgebra_sparse_matrix_scale(
     out: &mut MatrixHandle,
 ) -> i32
     ensures kept { a.new.value ≡ a.old.value }
+    ensures missing { a.old.value ≡ None → result ≡ number_of EmptyHandle }
     ensures answer { Answers result (IsEmpty a.old.value) (out.new.value ≡ out.old.value)
         (Holds out.new.value
         (plain_scaled ring64 (element_of ring64 factor) (plain_behind a.old.value))) }
@@ -54,6 +58,9 @@ pub extern "C" fn nalgebra_sparse_matrix_add(
     out: &mut MatrixHandle,
 ) -> i32
     ensures kept { (a.new.value ≡ a.old.value) × (b.new.value ≡ b.old.value) }
+    ensures first_missing { a.old.value ≡ None → result ≡ number_of EmptyHandle }
+    ensures second_missing { b.old.value ≡ None
+        → (result ≡ number_of EmptyHandle) ⊎ (result ≡ number_of OutOfMemory) }
     ensures answer { Answers result (IsUnlike a.old.value b.old.value)
         (out.new.value ≡ out.old.value) (Holds out.new.value
         (plain_sum ring64 (plain_behind a.old.value) (plain_behind b.old.value))) }
@@ -70,6 +77,9 @@ pub extern "C" fn nalgebra_sparse_matrix_subtract(
     out: &mut MatrixHandle,
 ) -> i32
     ensures kept { (a.new.value ≡ a.old.value) × (b.new.value ≡ b.old.value) }
+    ensures first_missing { a.old.value ≡ None → result ≡ number_of EmptyHandle }
+    ensures second_missing { b.old.value ≡ None
+        → (result ≡ number_of EmptyHandle) ⊎ (result ≡ number_of OutOfMemory) }
     ensures answer { Answers result (IsUnlike a.old.value b.old.value)
         (out.new.value ≡ out.old.value) (Holds out.new.value
         (plain_difference ring64 (plain_behind a.old.value) (plain_behind b.old.value))) }
@@ -88,6 +98,9 @@ pub extern "C" fn nalgebra_sparse_matrix_add_scaled(
     out: &mut MatrixHandle,
 ) -> i32
     ensures kept { (a.new.value ≡ a.old.value) × (b.new.value ≡ b.old.value) }
+    ensures first_missing { a.old.value ≡ None → result ≡ number_of EmptyHandle }
+    ensures second_missing { b.old.value ≡ None
+        → (result ≡ number_of EmptyHandle) ⊎ (result ≡ number_of OutOfMemory) }
     ensures answer { Answers result (IsUnlike a.old.value b.old.value)
         (out.new.value ≡ out.old.value) (Holds out.new.value
         (plain_sum ring64 (plain_scaled ring64 (element_of ring64 alpha) (plain_behind a.old.value))
@@ -105,6 +118,9 @@ pub extern "C" fn nalgebra_sparse_matrix_multiply(
     out: &mut MatrixHandle,
 ) -> i32
     ensures kept { (a.new.value ≡ a.old.value) × (b.new.value ≡ b.old.value) }
+    ensures first_missing { a.old.value ≡ None → result ≡ number_of EmptyHandle }
+    ensures second_missing { b.old.value ≡ None
+        → (result ≡ number_of EmptyHandle) ⊎ (result ≡ number_of OutOfMemory) }
     ensures answer { Answers result (IsUnmatched a.old.value b.old.value)
         (out.new.value ≡ out.old.value) (Holds out.new.value
         (plain_product ring64 (plain_behind a.old.value) (plain_behind b.old.value))) }

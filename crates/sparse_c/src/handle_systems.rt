@@ -1,6 +1,8 @@
 //! Systems of equations with matrices and with factors behind handles.
 
 ghost use Rattle.std.specs.Prelude.{◌≡◌, None};
+ghost use Rattle.sparse_c_arrays.specs.Statuses.{number_of};
+ghost use Rattle.sparse_c_arrays.specs.declared.refusal.Refusal.TheVariants.{EmptyHandle};
 ghost use Rattle.sparse_handles.specs.Behind.{plain_behind, Answers};
 ghost use Rattle.sparse_handles.specs.Factored.{product_behind, HasNoFactors, HasNoSystem};
 ghost use Rattle.sparse_handles.specs.Factored.{HoldsFactors, IsUnfactored};
@@ -26,6 +28,7 @@ pub extern "C" fn nalgebra_sparse_matrix_solve_lower(
     values: &mut [i64],
 ) -> i32
     ensures kept { a.new.value ≡ a.old.value }
+    ensures missing { a.old.value ≡ None → result ≡ number_of EmptyHandle }
     ensures answer { let m = plain_behind a.old.value in
         Answers result (IsUnsolved Lower a.old.value cols values.old) (values.new ≡ values.old)
         (SolvesInPlace (triangle_of Lower transposed m) m.rows cols values.old values.new) }
@@ -46,6 +49,7 @@ pub extern "C" fn nalgebra_sparse_matrix_solve_upper(
     values: &mut [i64],
 ) -> i32
     ensures kept { a.new.value ≡ a.old.value }
+    ensures missing { a.old.value ≡ None → result ≡ number_of EmptyHandle }
     ensures answer { let m = plain_behind a.old.value in
         Answers result (IsUnsolved Upper a.old.value cols values.old) (values.new ≡ values.old)
         (SolvesInPlace (triangle_of Upper transposed m) m.rows cols values.old values.new) }
@@ -63,6 +67,7 @@ pub extern "C" fn nalgebra_sparse_matrix_factor(
     out: &mut FactorHandle,
 ) -> i32
     ensures kept { a.new.value ≡ a.old.value }
+    ensures missing { a.old.value ≡ None → result ≡ number_of EmptyHandle }
     ensures answer { Answers result (IsUnfactored a.old.value) (out.new.value ≡ out.old.value)
         (HoldsFactors out.new.value (plain_behind a.old.value)) }
 {
@@ -79,6 +84,7 @@ pub extern "C" fn nalgebra_sparse_factors_solve(
     values: &mut [i64],
 ) -> i32
     ensures kept { factors.new.value ≡ factors.old.value }
+    ensures missing { factors.old.value ≡ None → result ≡ number_of EmptyHandle }
     ensures answer { let m = product_behind factors.old.value in
         Answers result (HasNoSystem factors.old.value cols values.old) (values.new ≡ values.old)
         (SolvesInPlace m m.rows cols values.old values.new) }
@@ -94,6 +100,7 @@ pub extern "C" fn nalgebra_sparse_factors_clone(
     out: &mut FactorHandle,
 ) -> i32
     ensures kept { factors.new.value ≡ factors.old.value }
+    ensures missing { factors.old.value ≡ None → result ≡ number_of EmptyHandle }
     ensures answer { Answers result (HasNoFactors factors.old.value)
         (out.new.value ≡ out.old.value) (out.new.value ≡ factors.old.value) }
 {

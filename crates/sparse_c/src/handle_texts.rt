@@ -1,6 +1,8 @@
 //! Matrices behind handles out of Matrix Market texts, and their texts.
 
-ghost use Rattle.std.specs.Prelude.{◌≡◌};
+ghost use Rattle.std.specs.Prelude.{◌≡◌, None};
+ghost use Rattle.sparse_c_arrays.specs.Statuses.{number_of};
+ghost use Rattle.sparse_c_arrays.specs.declared.refusal.Refusal.TheVariants.{EmptyHandle};
 ghost use Rattle.sparse_handles.specs.Behind.{Answers};
 ghost use Rattle.sparse_handles.specs.Texts.{HoldsMeaning, IsTextFault, WritesText};
 
@@ -31,6 +33,7 @@ pub extern "C" fn nalgebra_sparse_matrix_to_text(
     out_length: &mut usize,
 ) -> i32
     ensures kept { a.new.value ≡ a.old.value }
+    ensures missing { a.old.value ≡ None → result ≡ number_of EmptyHandle }
     ensures answer { WritesText result a.old.value out_text.old out_text.new
         out_length.old out_length.new }
 {

@@ -1,11 +1,14 @@
 //! Matrices behind handles: made, read, copied and freed.
 
-ghost use Rattle.std.specs.Prelude.{◌≡◌, None};
-ghost use Rattle.sparse_compressed.specs.Compressed.{arrays_of};
+ghost use Rattle.std.specs.Prelude.{◌≡◌, None, pos};
+ghost use Rattle.sparse_compressed.specs.Compressed.{arrays_of, IsSound};
+ghost use Rattle.sparse_coo_dense.specs.Coo.{AreParts};
 ghost use Rattle.sparse_c_arrays.specs.Arrays.{places_of, plain_by_rows, plain_of_lists};
 ghost use Rattle.sparse_c_arrays.specs.Arrays.{ring64, room_of, HoldsRows};
 ghost use Rattle.sparse_c_arrays.specs.Refused.{IsFaultOf, IsFaultOfList};
 ghost use Rattle.sparse_c_arrays.specs.Rests.{KeepsRest};
+ghost use Rattle.sparse_c_arrays.specs.Statuses.{number_of};
+ghost use Rattle.sparse_c_arrays.specs.declared.refusal.Refusal.TheVariants.{EmptyHandle};
 ghost use Rattle.sparse_handles.specs.Behind.{plain_behind, Answers, Holds, IsEmpty, IsUnwritten};
 
 use crate::arguments::lanes;
@@ -29,7 +32,9 @@ pub extern "C" fn nalgebra_sparse_matrix_from_rows(
     values: &[i64],
     out: &mut MatrixHandle,
 ) -> i32
-    ensures { let a = arrays_of rows cols offsets.now indices.now values.now in
+    ensures sound { result ≡ pos 0
+        → IsSound (arrays_of rows cols offsets.now indices.now values.now) }
+    ensures answer { let a = arrays_of rows cols offsets.now indices.now values.now in
         Answers result (IsFaultOf a) (out.new.value ≡ out.old.value)
         (Holds out.new.value (plain_by_rows ring64 a)) }
 {
@@ -47,7 +52,9 @@ pub extern "C" fn nalgebra_sparse_matrix_from_triplets(
     values: &[i64],
     out: &mut MatrixHandle,
 ) -> i32
-    ensures { Answers result
+    ensures sound { result ≡ pos 0
+        → AreParts rows cols row_indices.now col_indices.now values.now }
+    ensures answer { Answers result
         (IsFaultOfList rows cols row_indices.now col_indices.now values.now)
         (out.new.value ≡ out.old.value) (Holds out.new.value
         (plain_of_lists ring64 rows cols row_indices.now col_indices.now values.now)) }
@@ -65,6 +72,7 @@ pub extern "C" fn nalgebra_sparse_matrix_sizes(
     out_places: &mut usize,
 ) -> i32
     ensures kept { a.new.value ≡ a.old.value }
+    ensures missing { a.old.value ≡ None → result ≡ number_of EmptyHandle }
     ensures answer { let m = plain_behind a.old.value in
         Answers result (IsEmpty a.old.value)
         ((out_rows.new ≡ out_rows.old) × (out_cols.new ≡ out_cols.old)
@@ -93,6 +101,7 @@ pub extern "C" fn nalgebra_sparse_matrix_read(
     out_places: &mut usize,
 ) -> i32
     ensures kept { a.new.value ≡ a.old.value }
+    ensures missing { a.old.value ≡ None → result ≡ number_of EmptyHandle }
     ensures answer { let before =
         room_of out_offsets.old out_indices.old out_values.old out_places.old in
         let after = room_of out_offsets.new out_indices.new out_values.new out_places.new in
@@ -111,6 +120,7 @@ pub extern "C" fn nalgebra_sparse_matrix_clone(
     out: &mut MatrixHandle,
 ) -> i32
     ensures kept { a.new.value ≡ a.old.value }
+    ensures missing { a.old.value ≡ None → result ≡ number_of EmptyHandle }
     ensures answer { Answers result (IsEmpty a.old.value) (out.new.value ≡ out.old.value)
         (Holds out.new.value (plain_behind a.old.value)) }
 {

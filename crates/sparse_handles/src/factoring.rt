@@ -1,11 +1,11 @@
 //! Exact factors behind handles: made, shared, dropped, and systems solved with them.
 
-ghost use Rattle.std.specs.Prelude.{◌≡◌, None, Some, IfErr, IfOk, OnOk, OnErr};
+ghost use Rattle.std.specs.Prelude.{◌≡◌, Err, None, Some, IfErr, IfOk, OnOk, OnErr};
 ghost use Rattle.std.specs.Arc.{arc_value};
 ghost use Rattle.sparse_algebra.specs.WrappingValues.{w64_value};
 ghost use Rattle.sparse_c_arrays.specs.Arrays.{ring64};
 ghost use Rattle.sparse_c_arrays.specs.Refused.{IsMemoryOr};
-ghost use Rattle.sparse_c_arrays.specs.declared.refusal.Refusal.TheVariants.{OutOfMemory};
+ghost use Rattle.sparse_c_arrays.specs.declared.refusal.Refusal.TheVariants.{EmptyHandle, OutOfMemory};
 ghost use Rattle.sparse_compressed.specs.PlainOfLanes.{plain_of_cols, plain_of_rows};
 ghost use Rattle.sparse_handles.specs.Behind.{plain_behind};
 ghost use Rattle.sparse_handles.specs.Factored.{product_behind, HasNoFactors, HasNoSystem};
@@ -35,6 +35,7 @@ use std::sync::Arc;
 /// Otherwise fails only if an allocation fails. `out` is then unchanged.
 pub fn factor(alloc: Global, a: &mut MatrixHandle, out: &mut FactorHandle) -> Result<(), Refusal>
     ensures kept { a.new.value ≡ a.old.value }
+    ensures missing { a.old.value ≡ None → result ≡ Err EmptyHandle }
     ensures done { OnOk result (HoldsFactors out.new.value (plain_behind a.old.value)) }
     ensures unchanged { OnErr result (out.new.value ≡ out.old.value) }
     ensures fault { IfErr result (IsMemoryOr (IsUnfactored a.old.value)) }
@@ -58,6 +59,7 @@ pub fn solve_factored(
     values: &mut [i64],
 ) -> Result<(), Refusal>
     ensures kept { handle.new.value ≡ handle.old.value }
+    ensures missing { handle.old.value ≡ None → result ≡ Err EmptyHandle }
     ensures solved { OnOk result (SolvesInPlace (product_behind handle.old.value)
         (product_behind handle.old.value).rows cols values.old values.new) }
     ensures unchanged { OnErr result (values.new ≡ values.old) }
@@ -81,6 +83,7 @@ pub fn share_factors(
     out: &mut FactorHandle,
 ) -> Result<(), Refusal>
     ensures kept { a.new.value ≡ a.old.value }
+    ensures missing { a.old.value ≡ None → result ≡ Err EmptyHandle }
     ensures done { OnOk result (out.new.value ≡ a.old.value) }
     ensures unchanged { OnErr result (out.new.value ≡ out.old.value) }
     ensures fault { IfErr result (IsMemoryOr (HasNoFactors a.old.value)) }
@@ -113,6 +116,7 @@ fn factors_of(alloc: Global, a: &CsrMatrix<W64>) -> Result<Ldl<W64>, Refusal>
 // The factors behind a handle, which shares them.
 fn shared_factors(alloc: Global, handle: &mut FactorHandle) -> Result<Arc<Ldl<W64>>, Refusal>
     ensures kept { handle.new.value ≡ handle.old.value }
+    ensures missing { handle.old.value ≡ None → result ≡ Err EmptyHandle }
     ensures factors { IfOk result (λ f. handle.old.value ≡ Some (arc_value f)) }
     ensures fault { IfErr result (IsMemoryOr (HasNoFactors handle.old.value)) }
 {

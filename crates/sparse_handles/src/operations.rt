@@ -1,12 +1,14 @@
 //! Transposes, sums and products of matrices behind handles.
 
-ghost use Rattle.std.specs.Prelude.{◌≡◌, Some, IfErr, IfOk, OnOk, OnErr};
+ghost use Rattle.std.specs.Prelude.{◌≡◌, Err, None, Some, IfErr, IfOk, IsErrAnd};
+ghost use Rattle.std.specs.Prelude.{OnOk, OnErr};
 ghost use Rattle.std.specs.Arc.{arc_value};
 ghost use Rattle.sparse_algebra.specs.Integers.{element_of};
 ghost use Rattle.sparse_algebra.specs.Plain.{plain_difference, plain_product, plain_scaled};
 ghost use Rattle.sparse_algebra.specs.Plain.{plain_sum, plain_transpose};
 ghost use Rattle.sparse_c_arrays.specs.Arrays.{ring64};
 ghost use Rattle.sparse_c_arrays.specs.Refused.{IsMemoryOr};
+ghost use Rattle.sparse_c_arrays.specs.declared.refusal.Refusal.TheVariants.{EmptyHandle};
 ghost use Rattle.sparse_handles.specs.Behind.{plain_behind, Holds, IsEmpty, IsUnlike, IsUnmatched};
 
 use crate::handle::MatrixHandle;
@@ -28,6 +30,7 @@ use std::sync::Arc;
 /// Returns `EmptyHandle` if there is none. Otherwise fails only if an allocation fails. `out` is then unchanged.
 pub fn share(alloc: Global, a: &mut MatrixHandle, out: &mut MatrixHandle) -> Result<(), Refusal>
     ensures kept { a.new.value ≡ a.old.value }
+    ensures missing { a.old.value ≡ None → result ≡ Err EmptyHandle }
     ensures done { OnOk result (Holds out.new.value (plain_behind a.old.value)) }
     ensures unchanged { OnErr result (out.new.value ≡ out.old.value) }
     ensures fault { IfErr result (IsMemoryOr (IsEmpty a.old.value)) }
@@ -43,6 +46,7 @@ pub fn share(alloc: Global, a: &mut MatrixHandle, out: &mut MatrixHandle) -> Res
 /// Returns `EmptyHandle` if there is none. Otherwise fails only if an allocation fails. `out` is then unchanged.
 pub fn transpose(alloc: Global, a: &mut MatrixHandle, out: &mut MatrixHandle) -> Result<(), Refusal>
     ensures kept { a.new.value ≡ a.old.value }
+    ensures missing { a.old.value ≡ None → result ≡ Err EmptyHandle }
     ensures done { OnOk result
         (Holds out.new.value (plain_transpose ring64 (plain_behind a.old.value))) }
     ensures unchanged { OnErr result (out.new.value ≡ out.old.value) }
@@ -65,6 +69,7 @@ pub fn scale(
     out: &mut MatrixHandle,
 ) -> Result<(), Refusal>
     ensures kept { a.new.value ≡ a.old.value }
+    ensures missing { a.old.value ≡ None → result ≡ Err EmptyHandle }
     ensures done { OnOk result (Holds out.new.value
         (plain_scaled ring64 (element_of ring64 factor) (plain_behind a.old.value))) }
     ensures unchanged { OnErr result (out.new.value ≡ out.old.value) }
@@ -88,6 +93,9 @@ pub fn add(
     out: &mut MatrixHandle,
 ) -> Result<(), Refusal>
     ensures kept { (a.new.value ≡ a.old.value) × (b.new.value ≡ b.old.value) }
+    ensures first_missing { a.old.value ≡ None → result ≡ Err EmptyHandle }
+    ensures second_missing { b.old.value ≡ None
+        → IsErrAnd result (IsMemoryOr (IsEmpty b.old.value)) }
     ensures done { OnOk result (Holds out.new.value
         (plain_sum ring64 (plain_behind a.old.value) (plain_behind b.old.value))) }
     ensures unchanged { OnErr result (out.new.value ≡ out.old.value) }
@@ -111,6 +119,9 @@ pub fn subtract(
     out: &mut MatrixHandle,
 ) -> Result<(), Refusal>
     ensures kept { (a.new.value ≡ a.old.value) × (b.new.value ≡ b.old.value) }
+    ensures first_missing { a.old.value ≡ None → result ≡ Err EmptyHandle }
+    ensures second_missing { b.old.value ≡ None
+        → IsErrAnd result (IsMemoryOr (IsEmpty b.old.value)) }
     ensures done { OnOk result (Holds out.new.value
         (plain_difference ring64 (plain_behind a.old.value) (plain_behind b.old.value))) }
     ensures unchanged { OnErr result (out.new.value ≡ out.old.value) }
@@ -136,6 +147,9 @@ pub fn add_scaled(
     out: &mut MatrixHandle,
 ) -> Result<(), Refusal>
     ensures kept { (a.new.value ≡ a.old.value) × (b.new.value ≡ b.old.value) }
+    ensures first_missing { a.old.value ≡ None → result ≡ Err EmptyHandle }
+    ensures second_missing { b.old.value ≡ None
+        → IsErrAnd result (IsMemoryOr (IsEmpty b.old.value)) }
     ensures done { OnOk result (Holds out.new.value
         (plain_sum ring64 (plain_scaled ring64 (element_of ring64 alpha) (plain_behind a.old.value))
         (plain_scaled ring64 (element_of ring64 beta) (plain_behind b.old.value)))) }
@@ -161,6 +175,9 @@ pub fn multiply(
     out: &mut MatrixHandle,
 ) -> Result<(), Refusal>
     ensures kept { (a.new.value ≡ a.old.value) × (b.new.value ≡ b.old.value) }
+    ensures first_missing { a.old.value ≡ None → result ≡ Err EmptyHandle }
+    ensures second_missing { b.old.value ≡ None
+        → IsErrAnd result (IsMemoryOr (IsEmpty b.old.value)) }
     ensures done { OnOk result (Holds out.new.value
         (plain_product ring64 (plain_behind a.old.value) (plain_behind b.old.value))) }
     ensures unchanged { OnErr result (out.new.value ≡ out.old.value) }
@@ -182,6 +199,9 @@ fn shared_alike(
     b: &mut MatrixHandle,
 ) -> Result<(Arc<CsrMatrix<W64>>, Arc<CsrMatrix<W64>>), Refusal>
     ensures kept { (a.new.value ≡ a.old.value) × (b.new.value ≡ b.old.value) }
+    ensures first_missing { a.old.value ≡ None → result ≡ Err EmptyHandle }
+    ensures second_missing { b.old.value ≡ None
+        → IsErrAnd result (IsMemoryOr (IsEmpty b.old.value)) }
     ensures first { IfOk result (λ p. a.old.value ≡ Some (arc_value p.0)) }
     ensures second { IfOk result (λ p. b.old.value ≡ Some (arc_value p.1)) }
     ensures rows { IfOk result (λ p.

@@ -1,9 +1,10 @@
 //! The sizes and the arrays of matrices behind handles.
 
-ghost use Rattle.std.specs.Prelude.{◌≡◌, IfOk, IfErr, OnOk, OnErr};
+ghost use Rattle.std.specs.Prelude.{◌≡◌, Err, None, IfOk, IfErr, OnOk, OnErr};
 ghost use Rattle.sparse_c_arrays.specs.Arrays.{places_of, room_of, HoldsRows};
 ghost use Rattle.sparse_c_arrays.specs.Refused.{IsMemoryOr};
 ghost use Rattle.sparse_c_arrays.specs.Rests.{KeepsRest};
+ghost use Rattle.sparse_c_arrays.specs.declared.refusal.Refusal.TheVariants.{EmptyHandle};
 ghost use Rattle.sparse_handles.specs.Behind.{plain_behind, IsEmpty, IsUnwritten};
 
 use crate::handle::MatrixHandle;
@@ -19,6 +20,7 @@ use std::alloc::Global;
 /// Returns `EmptyHandle` if there is none.
 pub fn sizes(alloc: Global, a: &mut MatrixHandle) -> Result<(usize, usize, usize), Refusal>
     ensures kept { a.new.value ≡ a.old.value }
+    ensures missing { a.old.value ≡ None → result ≡ Err EmptyHandle }
     ensures rows { IfOk result (λ sizes. sizes.0 ≡ (plain_behind a.old.value).rows) }
     ensures cols { IfOk result (λ sizes. sizes.1 ≡ (plain_behind a.old.value).cols) }
     ensures places { IfOk result (λ sizes. sizes.2 ≡ places_of (plain_behind a.old.value)) }
@@ -42,6 +44,7 @@ pub fn read(
     places: &mut usize,
 ) -> Result<(), Refusal>
     ensures kept { a.new.value ≡ a.old.value }
+    ensures missing { a.old.value ≡ None → result ≡ Err EmptyHandle }
     ensures written { OnOk result (HoldsRows (plain_behind a.old.value)
         (room_of offsets.new indices.new values.new places.new)) }
     ensures rest { OnOk result (KeepsRest (plain_behind a.old.value).rows

@@ -1,9 +1,9 @@
 //! The matrix behind a handle, shared and replaced.
 
-ghost use Rattle.std.specs.Prelude.{◌≡◌, None, Some, IfOk, IfErr, OnOk, OnErr};
+ghost use Rattle.std.specs.Prelude.{◌≡◌, Err, None, Some, IfOk, IfErr, OnOk, OnErr};
 ghost use Rattle.std.specs.Arc.{arc_value};
 ghost use Rattle.sparse_c_arrays.specs.Refused.{IsMemoryOr};
-ghost use Rattle.sparse_c_arrays.specs.declared.refusal.Refusal.TheVariants.{OutOfMemory};
+ghost use Rattle.sparse_c_arrays.specs.declared.refusal.Refusal.TheVariants.{EmptyHandle, OutOfMemory};
 ghost use Rattle.sparse_handles.specs.Behind.{IsEmpty};
 
 use crate::handle::{Block, MatrixHandle, SharedMatrix};
@@ -21,6 +21,7 @@ use std::sync::Arc;
 /// Returns `EmptyHandle` if the handle has no matrix. Otherwise fails only where the matrix has too many owners.
 pub fn shared(alloc: Global, handle: &mut MatrixHandle) -> Result<Arc<CsrMatrix<W64>>, Refusal>
     ensures kept { handle.new.value ≡ handle.old.value }
+    ensures missing { handle.old.value ≡ None → result ≡ Err EmptyHandle }
     ensures matrix { IfOk result (λ a. handle.old.value ≡ Some (arc_value a)) }
     ensures fault { IfErr result (IsMemoryOr (IsEmpty handle.old.value)) }
 {

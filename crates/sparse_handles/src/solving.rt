@@ -1,12 +1,14 @@
 //! Solves with triangles of matrices behind handles, in the array of the right side.
 
-ghost use Rattle.std.specs.Prelude.{◌≡◌, ◌≢◌, ◌<◌, ◌*◌, length, Some, IfOk, IfErr, OnOk, OnErr};
+ghost use Rattle.std.specs.Prelude.{◌≡◌, ◌≢◌, ◌<◌, ◌*◌, length, None, Some};
+ghost use Rattle.std.specs.Prelude.{Err, IfOk, IfErr, OnOk, OnErr};
 ghost use Rattle.sparse_algebra.specs.Plain.{Plain};
 ghost use Rattle.sparse_algebra.specs.WrappingValues.{w64_value};
 ghost use Rattle.sparse_algebra.specs.declared.error.OperationErrorKind.TheVariants.{Singular};
 ghost use Rattle.sparse_coo_dense.specs.DensePlain.{plain_of_dense};
 ghost use Rattle.sparse_c_arrays.specs.Arrays.{plain_by_values, ring64};
 ghost use Rattle.sparse_c_arrays.specs.Refused.{IsMemoryOr};
+ghost use Rattle.sparse_c_arrays.specs.declared.refusal.Refusal.TheVariants.{EmptyHandle};
 ghost use Rattle.sparse_c_arrays.specs.declared.refusal.Refusal.TheVariants.{ShapeMismatch};
 ghost use Rattle.sparse_compressed.specs.PlainOfLanes.{plain_of_cols, plain_of_rows};
 ghost use Rattle.sparse_handles.specs.Behind.{plain_behind};
@@ -56,6 +58,7 @@ pub fn solve_triangle(
     values: &mut [i64],
 ) -> Result<(), Refusal>
     ensures kept { a.new.value ≡ a.old.value }
+    ensures missing { a.old.value ≡ None → result ≡ Err EmptyHandle }
     ensures solved { OnOk result (SolvesInPlace
         (triangle_of triangle transposed (plain_behind a.old.value)) (plain_behind a.old.value).rows
         cols values.old values.new) }

@@ -1,11 +1,13 @@
 //! Handles of matrices out of Matrix Market texts, and texts of matrices behind handles.
 
-ghost use Rattle.std.specs.Prelude.{◌≡◌, IfErr, IfOk, OnOk, OnErr, length, string_bytes};
+ghost use Rattle.std.specs.Prelude.{◌≡◌, Err, None, IfErr, IfOk, OnOk, OnErr};
+ghost use Rattle.std.specs.Prelude.{length, string_bytes};
 ghost use Rattle.sparse_algebra.specs.WrappingValues.{w64_value};
 ghost use Rattle.sparse_c_arrays.specs.Arrays.{ring64};
 ghost use Rattle.sparse_c_arrays.specs.Lists.{HoldsText};
 ghost use Rattle.sparse_c_arrays.specs.Refused.{IsMemoryOr};
 ghost use Rattle.sparse_c_arrays.specs.Rests.{KeepsBehind};
+ghost use Rattle.sparse_c_arrays.specs.declared.refusal.Refusal.TheVariants.{EmptyHandle};
 ghost use Rattle.sparse_compressed.specs.PlainOfLanes.{plain_of_rows};
 ghost use Rattle.sparse_handles.specs.Behind.{plain_behind, IsEmpty};
 ghost use Rattle.sparse_handles.specs.Texts.{text_of_plain, HoldsMeaning, IsTextError, IsTextFault};
@@ -66,6 +68,7 @@ pub fn write_text(
     size: &mut usize,
 ) -> Result<(), Refusal>
     ensures kept { a.new.value ≡ a.old.value }
+    ensures missing { a.old.value ≡ None → result ≡ Err EmptyHandle }
     ensures written { OnOk result
         (HoldsText (text_of_plain (plain_behind a.old.value)) buffer.new size.new) }
     ensures rest { OnOk result (KeepsBehind size.new buffer.old buffer.new) }
@@ -87,6 +90,7 @@ pub fn write_text(
 // The text of the matrix behind `a`.
 fn text_of(alloc: Global, a: &mut MatrixHandle) -> Result<String, Refusal>
     ensures kept { a.new.value ≡ a.old.value }
+    ensures missing { a.old.value ≡ None → result ≡ Err EmptyHandle }
     ensures text { IfOk result
         (λ text. string_bytes text ≡ text_of_plain (plain_behind a.old.value)) }
     ensures empty { IfErr result (IsMemoryOr (IsEmpty a.old.value)) }
