@@ -14,9 +14,7 @@ ghost use Rattle.sparse_products.specs.Products.{IsProductOf};
 
 pub mod columns;
 
-use sparse_algebra::laws::{
-    identity_product_law, product_distributes_law, transpose_product_law,
-};
+use sparse_algebra::laws::{identity_product_law, product_distributes_law, transpose_product_law};
 use sparse_algebra::learn;
 use sparse_algebra::scalar::Ring;
 use sparse_compressed::laws::stands_law;

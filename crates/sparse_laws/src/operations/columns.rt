@@ -4,9 +4,7 @@ ghost use Rattle.std.specs.Prelude.{◌≡◌, IfOk};
 ghost use Rattle.sparse_algebra.specs.Plain.{plain_product, plain_sum, plain_transpose};
 ghost use Rattle.sparse_compressed.specs.PlainOfLanes.{plain_of_cols};
 
-use sparse_algebra::laws::{
-    identity_product_law, product_distributes_law, transpose_product_law,
-};
+use sparse_algebra::laws::{identity_product_law, product_distributes_law, transpose_product_law};
 use sparse_algebra::learn;
 use sparse_algebra::scalar::Ring;
 use sparse_compressed::laws::stands_law;
